@@ -81,13 +81,15 @@ def gets():
 
 
 def cycles():
-    """Two million cycles of all kinds, a register write, a port read, a write and a read of memory in turn."""
+    """Two million cycles of all kinds, a register write, a port read, a write and a read of memory
+    in turn."""
     turn = out(0x3CF, 0xF0) + inp(0x3CC) + put(0xA1234, 0x5A) + get(0xA1234)
     return "run", HEADER + MEMORY + turn * 500_000, 2_000_007, "steps"
 
 
 def dots():
-    """Advances by the most dots that one may have, from power-on: lines of 45 dots, of which nine of every other are displayed."""
+    """Advances by the most dots that one may have, from power-on: lines of 45 dots, of which nine
+    of every other are displayed."""
     return "run", HEADER + advance(MOST_DOTS) * 16, 16 * MOST_DOTS, "dots"
 
 
@@ -95,7 +97,7 @@ def frames(example):
     """Frames of what an example sets up before its first frame."""
     with open(os.path.join(EXAMPLES, example)) as file:
         lines = [line.partition(";")[0].strip() for line in file]
-    text = lines[:lines.index("frame")] + ["frame"] * FRAMES
+    text = lines[: lines.index("frame")] + ["frame"] * FRAMES
     return "go", "\n".join(text).encode(), FRAMES, "frames"
 
 
@@ -149,14 +151,16 @@ def byte_scrolls():
 
 
 def line_feeds():
-    """The longest string of line feeds, on the last row of 640 by 480 dots of 16 colours: each scrolls the page."""
+    """The longest string of line feeds, on the last row of 640 by 480 dots of 16 colours: each
+    scrolls the page."""
     feeds = 65_535
     string = service(0x1300, bx=0x0007, cx=feeds, dx=0x1D00, memory=b"\n" * feeds)
     return "run", HEADER + service(0x0012) + string, feeds, "line feeds"
 
 
 def short_advances(mode):
-    """Dots as a core hands them over that advances after each instruction, 25 at a time: 18 frames or so."""
+    """Dots as a core hands them over that advances after each instruction, 25 at a time: 18 frames
+    or so."""
     return "run", BLOCKS + service(mode) + block(60_000, advance(25)) * 5, 300_000, "advances"
 
 
@@ -176,7 +180,8 @@ def byte_advances():
 
 
 def teletype():
-    """A page of text typed to its last cell but one, again and again: it wraps, and never scrolls."""
+    """A page of text typed to its last cell but one, again and again: it wraps, and never
+    scrolls."""
     page = b"".join(service(0x0E20 + i % 95) for i in range(1_999))
     turn = service(0x0200) + page
     return "run", HEADER + service(0x0003) + turn * 500, 1_999 * 500, "characters"
@@ -190,7 +195,8 @@ def teletype_scrolling():
 
 
 def repeated():
-    """A block of 200 steps, register writes, port reads, memory writes and reads in turn, 65,535 times."""
+    """A block of 200 steps, register writes, port reads, memory writes and reads in turn, 65,535
+    times."""
     turn = out(0x3CF, 0xF0) + inp(0x3CC) + put(0xA1234, 0x5A) + get(0xA1234)
     return "run", BLOCKS + MEMORY + block(65_535, turn * 50), 200 * 65_535, "steps"
 
@@ -213,9 +219,29 @@ def printing():
 
 
 SCRIPTS = (
-    puts, gets, cycles, dots, text_frames, planar_frames, byte_frames, text_advances, planar_advances, byte_advances,
-    text_mode_sets, graphics_mode_sets, scrolls, planar_scrolls, byte_scrolls, line_feeds, teletype, teletype_scrolling,
-    repeated, repeated_frames, assembling, printing)
+    puts,
+    gets,
+    cycles,
+    dots,
+    text_frames,
+    planar_frames,
+    byte_frames,
+    text_advances,
+    planar_advances,
+    byte_advances,
+    text_mode_sets,
+    graphics_mode_sets,
+    scrolls,
+    planar_scrolls,
+    byte_scrolls,
+    line_feeds,
+    teletype,
+    teletype_scrolling,
+    repeated,
+    repeated_frames,
+    assembling,
+    printing,
+)
 
 
 def words(program, job, path):
@@ -229,7 +255,9 @@ def words(program, job, path):
 def rate(count, took):
     """How many in a second."""
     a_second = count / took
-    return f"{a_second / 1e6:.1f} million a second" if a_second >= 1e6 else f"{a_second:,.0f} a second"
+    return (
+        f"{a_second / 1e6:.1f} million a second" if a_second >= 1e6 else f"{a_second:,.0f} a second"
+    )
 
 
 def seconds(command):
@@ -246,7 +274,11 @@ def system_calls(command):
     if shutil.which("strace") is None:
         return ""
     traced = subprocess.run(
-        ["strace", "-c", "-f"] + command, stdout=subprocess.DEVNULL, stderr=subprocess.PIPE, text=True)
+        ["strace", "-c", "-f"] + command,
+        stdout=subprocess.DEVNULL,
+        stderr=subprocess.PIPE,
+        text=True,
+    )
     lines = [line.split() for line in traced.stderr.splitlines() if line.rstrip().endswith("total")]
     numbers = [word for word in lines[-1] if word.isdigit()] if lines else []
     return f", {numbers[1]} calls of the system" if len(numbers) > 1 else ""
@@ -256,14 +288,25 @@ def memory(command):
     if shutil.which("/usr/bin/time") is None:
         return ""
     timed = subprocess.run(
-        ["/usr/bin/time", "-f", "%M"] + command, stdout=subprocess.DEVNULL, stderr=subprocess.PIPE, text=True)
+        ["/usr/bin/time", "-f", "%M"] + command,
+        stdout=subprocess.DEVNULL,
+        stderr=subprocess.PIPE,
+        text=True,
+    )
     return f", {int(timed.stderr.split()[-1]) / 1024:.0f} MiB"
 
 
 def main():
-    program = sys.argv[1] if len(sys.argv) > 1 else os.path.join(HERE, "..", "crates", "vga", "out", "vga")
+    program = (
+        sys.argv[1]
+        if len(sys.argv) > 1
+        else os.path.join(HERE, "..", "crates", "vga", "out", "vga")
+    )
     if not shutil.which(program):
-        print(f"bench.py: {program}: there is no such program; README.md tells how to build it", file=sys.stderr)
+        print(
+            f"bench.py: {program}: there is no such program; README.md tells how to build it",
+            file=sys.stderr,
+        )
         sys.exit(2)
     with tempfile.TemporaryDirectory() as folder:
         for script in SCRIPTS:

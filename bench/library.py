@@ -1,7 +1,9 @@
-"""Counts the instructions and the time of each call of the library: python3 bench/library.py FOLDER [CALL ..]
+"""Counts the instructions and the time of each call of the library: python3 bench/library.py FOLDER
+[CALL ..]
 
-FOLDER is one that `tools/vga-library make` has made, or `portable`, the repository's folder of the one C file. CALL is
-a name in the table; without one, all are counted. Debian's packages gcc and valgrind are needed.
+FOLDER is one that `tools/vga-library make` has made, or `portable`, the repository's folder of the
+one C file. CALL is a name in the table; without one, all are counted. Debian's packages gcc and
+valgrind are needed.
 """
 
 from __future__ import annotations
@@ -32,32 +34,69 @@ class Call(NamedTuple):
 
 
 CALLS = (
-    Call("put", "13"), Call("put", "12"), Call("put_word", "13"), Call("get", "13"), Call("get", "12"),
-    Call("get_word", "13"), Call("out", "13"), Call("out_word", "13"), Call("in", "13"),
-    Call("advance_0", "13"), Call("advance_1", "13"), Call("advance_25", "13", timed=1_000_000),
+    Call("put", "13"),
+    Call("put", "12"),
+    Call("put_word", "13"),
+    Call("get", "13"),
+    Call("get", "12"),
+    Call("get_word", "13"),
+    Call("out", "13"),
+    Call("out_word", "13"),
+    Call("in", "13"),
+    Call("advance_0", "13"),
+    Call("advance_1", "13"),
+    Call("advance_25", "13", timed=1_000_000),
     Call("advance_line", "13", 1000, 100_000),
     # A cycle after an advance.
-    *(Call(f"advance_{cycle}", mode, timed=1_000_000) for cycle in ("put", "get", "in", "out_word") for mode in ("13", "12", "3")),
+    *(
+        Call(f"advance_{cycle}", mode, timed=1_000_000)
+        for cycle in ("put", "get", "in", "out_word")
+        for mode in ("13", "12", "3")
+    ),
     # Many bytes by one call, and by as many calls.
-    Call("put_bytes", "13", 10, 2000), Call("put_each", "13", 10, 500), Call("fill_bytes", "13", 10, 5000),
-    Call("get_bytes", "13", 10, 1000), Call("get_each", "13", 10, 500),
-    Call("put_page", "3", 100, 20_000), Call("put_page_each", "3", 100, 5000),
-    Call("copy", "12", 100, 10_000), Call("copy_each", "12", 100, 2000), Call("clock", "13", 1000, 1_000_000),
-    Call("frame", "13", 10, 500), Call("frame", "3", 10, 500), Call("frame", "12", 10, 500),
-    Call("frame_xrgb", "13", 10, 500), Call("frame_xrgb", "3", 10, 500), Call("frame_xrgb", "12", 10, 500),
-    Call("frame_once", "13", 10, 500), Call("frame_once", "3", 10, 500), Call("frame_once", "12", 10, 500),
-    Call("frame_lines", "12", 10, 500), Call("lines", "12", 10, 500), Call("lines", "13", 10, 500),
+    Call("put_bytes", "13", 10, 2000),
+    Call("put_each", "13", 10, 500),
+    Call("fill_bytes", "13", 10, 5000),
+    Call("get_bytes", "13", 10, 1000),
+    Call("get_each", "13", 10, 500),
+    Call("put_page", "3", 100, 20_000),
+    Call("put_page_each", "3", 100, 5000),
+    Call("copy", "12", 100, 10_000),
+    Call("copy_each", "12", 100, 2000),
+    Call("clock", "13", 1000, 1_000_000),
+    Call("frame", "13", 10, 500),
+    Call("frame", "3", 10, 500),
+    Call("frame", "12", 10, 500),
+    Call("frame_xrgb", "13", 10, 500),
+    Call("frame_xrgb", "3", 10, 500),
+    Call("frame_xrgb", "12", 10, 500),
+    Call("frame_once", "13", 10, 500),
+    Call("frame_once", "3", 10, 500),
+    Call("frame_once", "12", 10, 500),
+    Call("frame_lines", "12", 10, 500),
+    Call("lines", "12", 10, 500),
+    Call("lines", "13", 10, 500),
     Call("block", "13", 1000, 1_000_000),
-    Call("cycles", "3", 100, 1000), Call("cycles_of_mode", "3", 3, 30),
-    Call("teletype", "3", 1000, 100_000), Call("read_registers", "13", 1000, 1_000_000),
-    Call("read_beam", "13", 1000, 1_000_000), Call("show_regs", "13", 1000, 100_000),
-    Call("save", "13", 10, 2000), Call("restore", "13", 10, 2000),
-    Call("save_fixed", "13", 5, 200), Call("restore_fixed", "13", 5, 200),
-    # A step of a script that has no other, the first and the last one of 10,000, and all of these, against as many calls.
-    Call("run_on_one", "13", 1000, 100_000), Call("run_on_first", "13", 100, 10_000),
-    Call("run_on_last", "13", 100, 10_000), Call("run_on_all", "13", 10, 1000), Call("puts", "13", 10, 1000),
+    Call("cycles", "3", 100, 1000),
+    Call("cycles_of_mode", "3", 3, 30),
+    Call("teletype", "3", 1000, 100_000),
+    Call("read_registers", "13", 1000, 1_000_000),
+    Call("read_beam", "13", 1000, 1_000_000),
+    Call("show_regs", "13", 1000, 100_000),
+    Call("save", "13", 10, 2000),
+    Call("restore", "13", 10, 2000),
+    Call("save_fixed", "13", 5, 200),
+    Call("restore_fixed", "13", 5, 200),
+    # A step of a script that has no other, the first and the last one of 10,000, and all of these,
+    # against as many calls.
+    Call("run_on_one", "13", 1000, 100_000),
+    Call("run_on_first", "13", 100, 10_000),
+    Call("run_on_last", "13", 100, 10_000),
+    Call("run_on_all", "13", 10, 1000),
+    Call("puts", "13", 10, 1000),
     # A text of a million bytes, and the script that it spells.
-    Call("assemble", "13", 5, 100), Call("print", "13", 5, 100),
+    Call("assemble", "13", 5, 100),
+    Call("print", "13", 5, 100),
 )
 
 
@@ -91,7 +130,10 @@ def main() -> int:
     parts = [library / "zaklimot.c", library / "lib" / "libzaklimot.a"]
     part = next(filter(Path.is_file, parts), None)
     if part is None:
-        print(f"library.py: {library} has no library: tools/vga-library make {library}", file=sys.stderr)
+        print(
+            f"library.py: {library} has no library: tools/vga-library make {library}",
+            file=sys.stderr,
+        )
         return 2
     print("| Call | Mode | Instructions | ns |\n|---|---|---|---|")
     with tempfile.TemporaryDirectory(prefix="bench-library-") as name:
@@ -103,7 +145,10 @@ def main() -> int:
             counts = [instructions(program, call, times, folder) for times in (0, call.counted)]
             took = seconds(program, call, call.timed) - seconds(program, call, 0)
             each = round((counts[1] - counts[0]) / call.counted)
-            print(f"| `zak_{call.name}` | {call.mode} | {each:,} | {took * 1e9 / call.timed:,.0f} |", flush=True)
+            print(
+                f"| `zak_{call.name}` | {call.mode} | {each:,} | {took * 1e9 / call.timed:,.0f} |",
+                flush=True,
+            )
     return 0
 
 

@@ -3,9 +3,10 @@
 
     python3 examples/test_card.py WIDTHxHEIGHT FILE
 
-It has bars of colour, a row of greys, a word in the font of this repository, a gradient, and a circle that is to look
-round: a monitor of 4 by 3 shows dots of 640 by 480 as squares, and those of 320 by 200 a fifth higher than wide. At 640x480
-the card has fifteen colours, and the gradient is a pattern of two of them; at 320x200 it has each of its own.
+It has bars of colour, a row of greys, a word in the font of this repository, a gradient, and a
+circle that is to look round: a monitor of 4 by 3 shows dots of 640 by 480 as squares, and those of
+320 by 200 a fifth higher than wide. At 640x480 the card has fifteen colours, and the gradient is a
+pattern of two of them; at 320x200 it has each of its own.
 """
 
 from __future__ import annotations
@@ -23,7 +24,16 @@ from zaklimot.format import Picture  # noqa: E402
 
 Colour = tuple[int, int, int]
 BLACK, SLATE, GREY, WHITE = (0, 0, 0), (10, 12, 18), (34, 36, 42), (63, 63, 63)
-BARS = [(63, 63, 63), (60, 60, 8), (8, 56, 58), (10, 54, 12), (56, 10, 54), (58, 10, 10), (8, 10, 56), (4, 4, 4)]
+BARS = [
+    (63, 63, 63),
+    (60, 60, 8),
+    (8, 56, 58),
+    (10, 54, 12),
+    (56, 10, 54),
+    (58, 10, 10),
+    (8, 10, 56),
+    (4, 4, 4),
+]
 GREYS = [(level, level, level) for level in (12, 22, 44, 54)]
 ORDERED = ((0, 8, 2, 10), (12, 4, 14, 6), (3, 11, 1, 9), (15, 7, 13, 5))
 FONT = TOP / "fonts" / "zaklimot.fnt"
@@ -66,7 +76,8 @@ class Card:
             self.box((at + 2) * step, top, (at + 3) * step, bottom, colour)
 
     def gradient(self, top: int, bottom: int) -> None:
-        """Blue to white: by its own colours where there may be many, and else a mix of two by an ordered pattern."""
+        """Blue to white: by its own colours where there may be many, and else a mix of two by an
+        ordered pattern."""
         left, right = 3 * self.width // 10, 7 * self.width // 10
         for y in range(top, bottom):
             for x in range(left, right):
@@ -86,10 +97,17 @@ class Card:
                     row[x] = WHITE
 
     def text(self, words: str, top: int, scale: int, colour: Colour) -> None:
-        """A line of text in the font of 8 lines, in the middle, each dot so many times as wide and high, on black."""
+        """A line of text in the font of 8 lines, in the middle, each dot so many times as wide and
+        high, on black."""
         font = FONT.read_bytes()
         left = (self.width - FONT_8 * scale * len(words)) // 2 // 8 * 8
-        self.box(left - 8, top - 8, left + FONT_8 * scale * len(words) + 8, top + FONT_8 * scale + 8, BLACK)
+        self.box(
+            left - 8,
+            top - 8,
+            left + FONT_8 * scale * len(words) + 8,
+            top + FONT_8 * scale + 8,
+            BLACK,
+        )
         for at, letter in enumerate(words.encode("ascii")):
             for y in range(FONT_8):
                 for x in range(8):
@@ -99,7 +117,9 @@ class Card:
 
     def picture(self) -> Picture:
         """The card as a picture."""
-        return Picture.of_dots(self.width, self.height, bytes(part for row in self.rows for dot in row for part in dot))
+        return Picture.of_dots(
+            self.width, self.height, bytes(part for row in self.rows for dot in row for part in dot)
+        )
 
 
 def drawn(width: int, height: int) -> Card:

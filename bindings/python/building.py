@@ -74,8 +74,11 @@ def metadata() -> str:
     """What a wheel tells of the package."""
     fields = project()
     head = {
-        "Metadata-Version": "2.1", "Name": fields["name"], "Version": fields["version"],
-        "Summary": fields["description"], "License": "MIT",
+        "Metadata-Version": "2.1",
+        "Name": fields["name"],
+        "Version": fields["version"],
+        "Summary": fields["description"],
+        "License": "MIT",
         "Requires-Python": fields["requires-python"],
         "Description-Content-Type": "text/markdown",
     }
@@ -91,7 +94,8 @@ def part(name: str) -> Path:
             return path
     raise Lacking(
         f"there is no {PARTS[name]}/{name} of the repository two folders above {HERE}. A pip before"
-        " 21.3 builds a copy that lies elsewhere: type `pip install --upgrade pip` first")
+        " 21.3 builds a copy that lies elsewhere: type `pip install --upgrade pip` first"
+    )
 
 
 def machines() -> str:
@@ -163,7 +167,8 @@ def given(folder: str) -> dict[str, bytes]:
         if not file.is_file():
             raise Lacking(
                 f"ZAKLIMOT_DIR is {folder}, and there is no {file}: type tools/vga-library make"
-                f" {folder}, or unset the variable, and zaklimot.c is compiled")
+                f" {folder}, or unset the variable, and zaklimot.c is compiled"
+            )
     kind = FILES["kind_of"](str(library))
     return {LIBRARY: library.read_bytes(), FONTS: fonts.read_bytes(), NOTE: note(kind)}
 
@@ -189,8 +194,10 @@ def carried() -> dict[str, bytes]:
 def sources() -> dict[str, bytes]:
     """The modules of the package, by their places in a wheel."""
     paths = sorted(
-        path for path in (SOURCES / PACKAGE).rglob("*")
-        if path.suffix == ".py" or path.name == "py.typed")
+        path
+        for path in (SOURCES / PACKAGE).rglob("*")
+        if path.suffix == ".py" or path.name == "py.typed"
+    )
     return {path.relative_to(SOURCES).as_posix(): path.read_bytes() for path in paths}
 
 
@@ -213,7 +220,8 @@ def _write_wheel(folder: str, files: Mapping[str, bytes], kind: str) -> str:
     pure = "true" if kind.endswith("-any") else "false"
     told = f"Wheel-Version: 1.0\nGenerator: zaklimot\nRoot-Is-Purelib: {pure}\nTag: {kind}\n"
     whole = {
-        **files, f"{_information()}/METADATA": metadata().encode("utf-8"),
+        **files,
+        f"{_information()}/METADATA": metadata().encode("utf-8"),
         f"{_information()}/WHEEL": told.encode("ascii"),
     }
     record = f"{_information()}/RECORD"

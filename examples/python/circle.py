@@ -18,9 +18,9 @@ def circle() -> dict[int, int]:
 
 
 script = Script()
-script.int10(ax=0x12)               # mode 12, all black
-script.out(SEQ.MAP_MASK, YELLOW)    # planes 1, 2 and 3: their pixels are yellow
+script.int10(ax=0x12)  # mode 12, all black
+script.out(SEQ.MAP_MASK, YELLOW)  # planes 1, 2 and 3: their pixels are yellow
 for address, bits in circle().items():
-    script.put(address, bits)       # eight pixels at once
+    script.put(address, bits)  # eight pixels at once
 script.frame()
 print(script.text(), end="")

@@ -1,4 +1,5 @@
-"""Draws the DAC of a mode as a PNG of 16 by 16 squares: palette.py MODE PALETTE.png (the mode in hexadecimal)
+"""Draws the DAC of a mode as a PNG of 16 by 16 squares: palette.py MODE PALETTE.png (the mode in
+hexadecimal)
 
 It needs the standard library and zaklimot alone.
 """
@@ -17,7 +18,7 @@ def plot(palette: list[zaklimot.Colour]) -> zaklimot.Picture:
     """A picture with a square for each colour, sixteen in a row."""
     rows = []
     for first in range(0, 256, 16):
-        row = b"".join(SQUARE * bytes(colour) for colour in palette[first:first + 16])
+        row = b"".join(SQUARE * bytes(colour) for colour in palette[first : first + 16])
         rows += SQUARE * [row]
     return zaklimot.Picture(16 * SQUARE, 16 * SQUARE, memoryview(b"".join(rows)))
 

@@ -1,4 +1,5 @@
-"""Sets mode 13, draws its 256 colours, and writes a picture: picture.py PICTURE.ppm (or PICTURE.png)"""
+"""Sets mode 13, draws its 256 colours, and writes a picture: picture.py PICTURE.ppm (or
+PICTURE.png)"""
 
 from __future__ import annotations
 
@@ -10,7 +11,9 @@ import zaklimot
 
 def draw(card: zaklimot.Card) -> zaklimot.Picture:
     card.int10(ax=0x0013)
-    card.put_bytes(0xA0000, bytes(x // 20 + 16 * (2 * y // 25) for y in range(200) for x in range(320)))
+    card.put_bytes(
+        0xA0000, bytes(x // 20 + 16 * (2 * y // 25) for y in range(200) for x in range(320))
+    )
     return card.frame()
 
 

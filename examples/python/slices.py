@@ -1,7 +1,7 @@
 """Takes the steps of a script slice by slice: slices.py SCRIPT STEPS
 
-Writes the printed text, and then the report of each slice of so many steps. After every slice it goes
-back and takes it once more, as a debugger does.
+Writes the printed text, and then the report of each slice of so many steps. After every slice it
+goes back and takes it once more, as a debugger does.
 """
 
 from __future__ import annotations

@@ -1,7 +1,7 @@
 """The tests of a small driver, by pytest's conventions: pytest examples/python/test_driver.py
 
-The driver draws into the planes of mode 12 and types text in mode 3. Each test has a card of its own,
-and looks at registers, planes, screen or picture.
+The driver draws into the planes of mode 12 and types text in mode 3. Each test has a card of its
+own, and looks at registers, planes, screen or picture.
 """
 
 from __future__ import annotations
@@ -57,7 +57,12 @@ def mode(number: int) -> zaklimot.Card:
 def test_fill_draws_all_planes_of_its_colour() -> None:
     with mode(0x12) as card:
         fill(card, left=16, top=2, width=8, height=1, colour=0x05)
-        assert [card.plane(plane, 160 + 2, 1) for plane in range(4)] == [b"\xff", b"\0", b"\xff", b"\0"]
+        assert [card.plane(plane, 160 + 2, 1) for plane in range(4)] == [
+            b"\xff",
+            b"\0",
+            b"\xff",
+            b"\0",
+        ]
         assert [card.pixel(x, 2) for x in (15, 16, 23, 24)] == [0, 5, 5, 0]
 
 

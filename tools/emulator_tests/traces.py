@@ -3,11 +3,13 @@
 
     python3 tools/emulator_tests/traces.py FOLDER [NAME...]
 
-Without names it takes all the software that `--help` lists. Traces, screens, scripts and reports stay in FOLDER, and what
-was recorded there before is replayed alone. It prints a row of a table for each, and ends with status 1 where anything is
-otherwise than known. It needs the built program and, of Debian 12, qemu-system-x86, seabios, vgabios, grub-common,
-grub-pc-bin, xorriso, mtools, and gcc for mode 13. Software of packages that are unpacked with `dpkg -x` is taken from
-the folder of `--unpacked`: the newest linux-image, busybox-static, console-setup-linux, memtest86+; Linux needs cpio.
+Without names it takes all the software that `--help` lists. Traces, screens, scripts and reports
+stay in FOLDER, and what was recorded there before is replayed alone. It prints a row of a table for
+each, and ends with status 1 where anything is otherwise than known. It needs the built program and,
+of Debian 12, qemu-system-x86, seabios, vgabios, grub-common, grub-pc-bin, xorriso, mtools, and gcc
+for mode 13. Software of packages that are unpacked with `dpkg -x` is taken from the folder of
+`--unpacked`: the newest linux-image, busybox-static, console-setup-linux, memtest86+; Linux needs
+cpio.
 """
 
 import argparse
@@ -35,8 +37,8 @@ from vga_trace.replaying import Replay, replay
 from zaklimot.format import FORMS, HEADERS
 
 HEADER = (
-    "| Software | Cycles | Steps | Bytes | without repeats | Reads | differing | Refused | Picture |\n"
-    "|---|---|---|---|---|---|---|---|---|"
+    "| Software | Cycles | Steps | Bytes | without repeats | Reads | differing | Refused | Picture"
+    " |\n|---|---|---|---|---|---|---|---|---|"
 )
 GRUB_GRAPHICS = """insmod vga
 insmod font
@@ -62,7 +64,8 @@ exec >/dev/tty1 2>&1 </dev/tty1
 /bin/busybox printf '\\033%%G'
 i=0
 while [ $i -lt 40 ]; do
- /bin/busybox printf "\\033[3$((i%8));4$((7-i%8))m colour $i \\033[0m \\033[1;3$((i%8))m bright \\033[0m\\n"
+ /bin/busybox printf "\\033[3$((i%8));4$((7-i%8))m colour $i \\033[0m \
+\\033[1;3$((i%8))m bright \\033[0m\\n"
  i=$((i+1))
 done
 /bin/busybox ls -l /
@@ -73,7 +76,8 @@ while true; do /bin/busybox sleep 1000; done
 
 @dataclass(frozen=True)
 class Software:
-    """Software: what makes its machine, of a folder for its discs and of one with unpacked packages if it is of these.
+    """Software: what makes its machine, of a folder for its discs and of one with unpacked packages
+    if it is of these.
 
     So many cycles are known to be refused, and so many dots of its picture to differ from qemu's.
     """
@@ -89,9 +93,11 @@ def _card(rom: str) -> list[str]:
 
 
 def _disc(mode: int, folder: Path) -> list[str]:
-    """A disc that lets the video BIOS draw in a mode: an image of vga-floppy with a script of the suite."""
+    """A disc that lets the video BIOS draw in a mode: an image of vga-floppy with a script of the
+    suite."""
     disc, name = folder / "calls.img", f"mode-{mode:02x}-cut-by-cell.vga"
-    # Where mode 7 is set, the CRT controller isn't at 3B4 yet, and keeps what it had: that is to be what text has.
+    # Where mode 7 is set, the CRT controller isn't at 3B4 yet, and keeps what it had: that is to be
+    # what text has.
     text = (b"int ax=3\n" if mode == 7 else b"") + (SUITE.parent / "screens" / name).read_bytes()
     disc.write_bytes(image_for({"": script_of(text, name)}, disc.name, is_disk=True))
     return ["-drive", f"file={disc},format=raw,if=ide", "-boot", "c"]
@@ -109,7 +115,8 @@ def _grub(is_graphics: bool, keys: Sequence[str], folder: Path, _: Optional[Path
 
 
 def _calls(mode: int, rom: str, folder: Path, _: Optional[Path]) -> Machine:
-    """A video BIOS that draws in a mode. Of mode 13, which is chain 4, qemu tells by a plugin alone."""
+    """A video BIOS that draws in a mode. Of mode 13, which is chain 4, qemu tells by a plugin
+    alone."""
     words = [*_card(rom), *_disc(mode, folder)]
     if mode == 0x13:
         words += chain_4(folder)
@@ -117,7 +124,8 @@ def _calls(mode: int, rom: str, folder: Path, _: Optional[Path]) -> Machine:
 
 
 def _cirrus(folder: Path, _: Optional[Path]) -> Machine:
-    """Mode 13 on a card that tells of chain 4, with a VGA's video BIOS by the name that it looks for."""
+    """Mode 13 on a card that tells of chain 4, with a VGA's video BIOS by the name that it looks
+    for."""
     roms = folder / "roms"
     roms.mkdir(exist_ok=True)
     shutil.copy(LGPL, roms / "vgabios-cirrus.bin")
@@ -144,21 +152,34 @@ def _linux(has_font: bool, folder: Path, unpacked: Optional[Path]) -> Machine:
         (root / "font").write_bytes(gzip.decompress(font))
     names = "".join(f"{path.relative_to(root)}\n" for path in sorted(root.rglob("*")))
     archive = root.with_suffix(".initrd")
-    archive.write_bytes(ended_well(["cpio", "--create", "--format=newc"], root, given=names.encode()).output)
+    archive.write_bytes(
+        ended_well(["cpio", "--create", "--format=newc"], root, given=names.encode()).output
+    )
     kernel = _file(unpacked, "boot/vmlinuz-*")
-    # Without its own drivers of the card the kernel's text console stays. While it unpacks itself, no cycle comes.
-    words = ["-kernel", str(kernel), "-initrd", str(archive), "-append", "nomodeset vga=normal consoleblank=0"]
+    # Without its own drivers of the card the kernel's text console stays. While it unpacks itself,
+    # no cycle comes.
+    words = [
+        "-kernel",
+        str(kernel),
+        "-initrd",
+        str(archive),
+        "-append",
+        "nomodeset vga=normal consoleblank=0",
+    ]
     return Machine([*_card(SEA), *words], quiet=45, most=240)
 
 
 def _memtest(_: Path, unpacked: Optional[Path]) -> Machine:
-    return Machine([*_card(SEA), "-kernel", str(_file(unpacked, "boot/memtest86+x64.bin"))], quiet=3, most=20)
+    return Machine(
+        [*_card(SEA), "-kernel", str(_file(unpacked, "boot/memtest86+x64.bin"))], quiet=3, most=20
+    )
 
 
 # The dots of the cells of character B1, whose ninth dot qemu repeats.
 B1 = 8 * 75
 KEYS = ("down", "c", "h", "e", "l", "p", "ret")
-# In mode 7 both video BIOSes write the CRT controller at 3B4 before they put it there: these cycles are refused.
+# In mode 7 both video BIOSes write the CRT controller at 3B4 before they put it there: these cycles
+# are refused.
 SOFTWARE = {
     "grub-text": Software(partial(_grub, False, ())),
     "grub-planar": Software(partial(_grub, True, ())),
@@ -167,7 +188,12 @@ SOFTWARE = {
         f"calls-{mode:02x}-{name}": Software(partial(_calls, mode, rom), refused=refused, dots=dots)
         for name, rom, early in (("sea", SEA, 27), ("lgpl", LGPL, 52))
         for mode, refused, dots in (
-            (0x03, 0, B1), (0x07, early, B1), (0x0D, 0, 0), (0x10, 0, 0), (0x12, 0, 0), (0x13, 0, 0),
+            (0x03, 0, B1),
+            (0x07, early, B1),
+            (0x0D, 0, 0),
+            (0x10, 0, 0),
+            (0x12, 0, 0),
+            (0x13, 0, 0),
         )
     },
     "calls-13-cirrus": Software(_cirrus),
@@ -179,24 +205,39 @@ SOFTWARE = {
 
 
 def row(name: str, replayed: Replay, refused: int, dots: Optional[int]) -> tuple[str, bool]:
-    """The row of a recording, and whether it is as known: so many cycles refused, so many dots unlike qemu's."""
+    """The row of a recording, and whether it is as known: so many cycles refused, so many dots
+    unlike qemu's."""
     written, checked, differing = replayed.written, replayed.checked, replayed.screens[0].held.count
     plain = len(HEADERS[1]) + sum(FORMS[kind].size * count for kind, count in written.kinds.items())
     counts = [sum(kinds.values()) for kinds in (checked.reads, checked.differing, checked.refused)]
-    picture = "another size" if differing is None else f"{differing:,} dots differ" if differing else "the same"
+    picture = (
+        "another size"
+        if differing is None
+        else f"{differing:,} dots differ"
+        if differing
+        else "the same"
+    )
     figures = (replayed.listing.trace.count, written.steps, written.script_bytes, plain, *counts)
     is_as_known = (counts[1], counts[2], differing) == (0, refused, dots)
-    return f"| {name} | {' | '.join(f'{figure:,}' for figure in figures)} | {picture} |", is_as_known
+    return (
+        f"| {name} | {' | '.join(f'{figure:,}' for figure in figures)} | {picture} |",
+        is_as_known,
+    )
 
 
 def _parser() -> argparse.ArgumentParser:
     parser = cli.tool_parser(
-        "traces.py", "Records software on qemu, and replays it: " + ", ".join(SOFTWARE),
-        "python3 tools/emulator_tests/traces.py recordings grub-text", "docs/TRACES.md", cli.JUDGES,
+        "traces.py",
+        "Records software on qemu, and replays it: " + ", ".join(SOFTWARE),
+        "python3 tools/emulator_tests/traces.py recordings grub-text",
+        "docs/TRACES.md",
+        cli.JUDGES,
     )
     parser.add_argument("folder", type=Path, metavar="FOLDER")
     parser.add_argument("names", nargs="*", metavar="NAME")
-    parser.add_argument("--unpacked", type=Path, metavar="FOLDER", help="packages of Debian, unpacked")
+    parser.add_argument(
+        "--unpacked", type=Path, metavar="FOLDER", help="packages of Debian, unpacked"
+    )
     parser.set_defaults(job=_replay_all)
     return parser
 
@@ -210,12 +251,19 @@ def _replay_all(words: argparse.Namespace, progress: Progress) -> int:
     for name in words.names or SOFTWARE:
         software, folder = SOFTWARE[name], words.folder / name
         if software.is_unpacked and words.unpacked is None:
-            print(f"{name}: left out, since --unpacked names no folder", file=sys.stderr, flush=True)
+            print(
+                f"{name}: left out, since --unpacked names no folder", file=sys.stderr, flush=True
+            )
             continue
         folder.mkdir(parents=True, exist_ok=True)
         if not (folder / TRACE).exists():
             machine = software.make(folder, words.unpacked)
-            record(machine, folder, lambda text: print(f"{name}: {text}", file=sys.stderr, flush=True), progress)
+            record(
+                machine,
+                folder,
+                lambda text: print(f"{name}: {text}", file=sys.stderr, flush=True),
+                progress,
+            )
         replayed = replay(folder, program, str(FONTS), progress)
         for line in replayed.listing.warnings():
             print(f"{name}: {line}", file=sys.stderr)

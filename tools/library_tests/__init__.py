@@ -1,1 +1,2 @@
-"""Tests of the library for C: its header, its names, its answers to misuse and to an allocation failure, and the suite."""
+"""Tests of the library for C: its header, its names, its answers to misuse and to an allocation
+failure, and the suite."""

@@ -51,13 +51,21 @@ TELLING_IN_RUST = """fn main() {
     println!("{:?}", zaklimot::library());
 }
 """
-# Runs of the examples: the text of {script}, the words, the status, and what is written, or said of what can't be done.
-# Slices of one step, some that leave a rest, and all.
+# Runs of the examples: the text of {script}, the words, the status, and what is written, or said of
+# what can't be done. Slices of one step, some that leave a rest, and all.
 RUNS = (
-    *((TEXT, f"slices {{script}} {steps}", 0, "\n".join((*PRINTED, *REPORT, ""))) for steps in (1, 4, 6, 1000)),
+    *(
+        (TEXT, f"slices {{script}} {steps}", 0, "\n".join((*PRINTED, *REPORT, "")))
+        for steps in (1, 4, 6, 1000)
+    ),
     (b"frame\n\nmove 3C4 02\n", "slices {script} 1", 1, "line 3 of the script is bad"),
     (TEXT, "slices {script} 0", 2, "0: a slice has one step or more"),
-    (TEXT, "picture no-such-folder/picture.ppm", 1, "picture: no-such-folder/picture.ppm can't be written: "),
+    (
+        TEXT,
+        "picture no-such-folder/picture.ppm",
+        1,
+        "picture: no-such-folder/picture.ppm can't be written: ",
+    ),
 )
 # Within so many seconds such a run ends.
 SOON = 60
@@ -68,7 +76,9 @@ PROGRAMS = ("python3", "cargo", "rustc", "rustdoc", "cargo-clippy", "ld", "objco
 def check_python(library: Path, _: Path) -> str:
     """Each test passes, none is skipped but for want of numpy, and the library is told."""
     environment = {
-        "ZAKLIMOT_DIR": str(library), "ZAKLIMOT_LIBRARY": "", "PYTHONPATH": str(PACKAGE / "src"),
+        "ZAKLIMOT_DIR": str(library),
+        "ZAKLIMOT_LIBRARY": "",
+        "PYTHONPATH": str(PACKAGE / "src"),
     }
     check_kind(library, run([sys.executable, "-B", "-c", TELLING], environment=environment))
     words = [sys.executable, "-B", "-m", "unittest", "discover", "--verbose"]
@@ -108,12 +118,17 @@ def _cargo(library: Path, folder: Path, *words: str, project: str = CRATES) -> s
     The portable library it compiles itself, and a proved one it takes from its folder.
     """
     is_portable = _kind(library) == PORTABLE
-    return run(["cargo", *words], folder=_tree(folder) / project, environment={
-        "ZAKLIMOT_DIR": "" if is_portable else str(library),
-        "ZAKLIMOT_PORTABLE": str(int(is_portable)),
-        "CARGO_TARGET_DIR": str(folder / "target"), "RUSTFLAGS": "-D warnings",
-        "RUSTDOCFLAGS": "-D warnings",
-    })
+    return run(
+        ["cargo", *words],
+        folder=_tree(folder) / project,
+        environment={
+            "ZAKLIMOT_DIR": "" if is_portable else str(library),
+            "ZAKLIMOT_PORTABLE": str(int(is_portable)),
+            "CARGO_TARGET_DIR": str(folder / "target"),
+            "RUSTFLAGS": "-D warnings",
+            "RUSTDOCFLAGS": "-D warnings",
+        },
+    )
 
 
 def _project(folder: Path, name: str) -> Path:
@@ -136,7 +151,8 @@ def check_rust(library: Path, folder: Path) -> str:
 
 
 def check_rust_examples(library: Path, folder: Path) -> str:
-    """The first program draws what Python's draws, slices write the report of the whole, and mistakes are told."""
+    """The first program draws what Python's draws, slices write the report of the whole, and
+    mistakes are told."""
     _cargo(library, folder, "build", "--offline", "--examples")
     made, script, pictures = folder / "target" / "debug" / "examples", folder / "few.vga", []
     environment = {"ZAKLIMOT_DIR": str(library), "PYTHONPATH": str(PACKAGE / "src")}
@@ -168,7 +184,9 @@ def _check_page(library: Path, folder: Path) -> None:
     programs = _project(folder, "first")
     for name, program in programs_of_page().items():
         (programs / f"{name}.rs").write_text(program, "utf-8")
-        told = _cargo(library, folder, "run", "--offline", "--quiet", "--bin", name, project="first").splitlines()
+        told = _cargo(
+            library, folder, "run", "--offline", "--quiet", "--bin", name, project="first"
+        ).splitlines()
         wanted = re.findall(r"println!\(.*\); // (.*)", program)
         if not wanted or told != wanted:
             raise Wrong(f"a program of docs/RUST.md writes {told}, and not {wanted}")
@@ -187,21 +205,35 @@ def _check_crate(_: Path, folder: Path) -> str:
 # each library.
 EACH: dict[str, Callable[[Path, Path], str]] = {"python": check_python, "rust": check_rust}
 CHECKS: dict[str, Callable[[Path, Path], str]] = {
-    **EACH, "rust-examples": check_rust_examples,
-    "lints": partial(_check_cargo, "clippy --offline --all-targets -- -D warnings", "clippy finds nothing"),
-    "pages": partial(_check_cargo, "doc --offline --no-deps", "the pages are made without a warning"),
-    "crate": _check_crate, "cmake": check_cmake,
+    **EACH,
+    "rust-examples": check_rust_examples,
+    "lints": partial(
+        _check_cargo, "clippy --offline --all-targets -- -D warnings", "clippy finds nothing"
+    ),
+    "pages": partial(
+        _check_cargo, "doc --offline --no-deps", "the pages are made without a warning"
+    ),
+    "crate": _check_crate,
+    "cmake": check_cmake,
 }
 
 
 def _parser() -> argparse.ArgumentParser:
     parser = cli.tool_parser(
-        "vga-bindings-tests", "Tests the packages for Python and Rust.",
-        "tools/vga-bindings-tests --library kit --only python", "docs/LIBRARY-TESTS.md", cli.JUDGES,
+        "vga-bindings-tests",
+        "Tests the packages for Python and Rust.",
+        "tools/vga-bindings-tests --library kit --only python",
+        "docs/LIBRARY-TESTS.md",
+        cli.JUDGES,
     )
     parser.set_defaults(job=_run, archive=None)
     given = parser.add_mutually_exclusive_group()
-    cli.add(given, "--library FOLDER", "takes a folder of `vga-library make` (default: makes one)", type=Path)
+    cli.add(
+        given,
+        "--library FOLDER",
+        "takes a folder of `vga-library make` (default: makes one)",
+        type=Path,
+    )
     cli.add_checks(parser, CHECKS, given)
     cli.add(parser, "--ready", "tests nothing, and tells what this machine lacks")
     return parser
@@ -210,7 +242,11 @@ def _parser() -> argparse.ArgumentParser:
 def lacking() -> list[str]:
     """What this machine lacks, each with the package to install."""
     # What makes an environment of Python's has this in it.
-    venv = [] if importlib.util.find_spec("ensurepip") else ["Python's venv: install the package python3-venv"]
+    venv = (
+        []
+        if importlib.util.find_spec("ensurepip")
+        else ["Python's venv: install the package python3-venv"]
+    )
     return not_there(PROGRAMS) + venv
 
 
@@ -243,7 +279,7 @@ def _run(words: argparse.Namespace, progress: Progress) -> None:
     with tempfile.TemporaryDirectory(prefix="vga-bindings-tests-") as name:
         libraries = _libraries(words, Path(name), progress)
         for check in words.only or CHECKS:
-            for kind, library in list(libraries.items())[:None if check in EACH else 1]:
+            for kind, library in list(libraries.items())[: None if check in EACH else 1]:
                 # What one of Rust's checks has built, the next takes.
                 told = f"{check}, {kind}" if check in EACH else check
                 make_check(told, partial(CHECKS[check], library, Path(name)))

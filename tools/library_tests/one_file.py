@@ -1,4 +1,5 @@
-"""Checks of the library as one C file: that it is the one that is made, and what it answers as compilers build it."""
+"""Checks of the library as one C file: that it is the one that is made, and what it answers as
+compilers build it."""
 
 from __future__ import annotations
 
@@ -22,10 +23,28 @@ from vga_report.version import HEADER, calls_of
 from vga_report.words import SUITE
 
 from .checks import (
-    COUNTED, SOURCES, WRAPPED, check_cases, check_counted, check_examples, check_misuse, check_threads, expect, names_in,
+    COUNTED,
+    SOURCES,
+    WRAPPED,
+    check_cases,
+    check_counted,
+    check_examples,
+    check_misuse,
+    check_threads,
+    expect,
+    names_in,
 )
 from .compilers import (
-    COMPILERS, RUNNERS, SANITIZED, X86_64, Built, Compiler, Target, build, not_there, run,
+    COMPILERS,
+    RUNNERS,
+    SANITIZED,
+    X86_64,
+    Built,
+    Compiler,
+    Target,
+    build,
+    not_there,
+    run,
 )
 
 # All that a compiler may find in the file, but for conversions in what was generated, is an error.
@@ -35,7 +54,8 @@ USUAL, LEVELS = "-O2", ("-O0", "-O1", "-O3")
 OUTSIDE = frozenset(("calloc", "realloc", "free", "memcpy", "memmove", "memset", "memcmp"))
 # Names that compilers may ask for on some processors.
 HELPERS = ("__", "_GLOBAL_OFFSET_TABLE_")
-# With these words the file ends the program at an access beside its memory, and a card has no memory to spare.
+# With these words the file ends the program at an access beside its memory, and a card has no
+# memory to spare.
 CHECKED, TIGHT = "-DZAKLIMOT_CHECKED", "-DZAKLIMOT_TIGHT"
 LEAST_REFUSED = 10
 
@@ -75,7 +95,8 @@ class Maker(NamedTuple):
         return self.library(self.compilers[0], "-O1", *(flag for flag in SANITIZED if flag != "-g"))
 
     def program(self, *flags: str) -> list[str | Path]:
-        """Builds the program over the library with these flags, and answers the words that run it."""
+        """Builds the program over the library with these flags, and answers the words that run
+        it."""
         built = self.library(self.compilers[0], *(flags or (USUAL,)))
         return build(self.compilers[0].c, built, [PROGRAM], built.folder / "vga.exe", USUAL)
 
@@ -90,12 +111,15 @@ def check_file(module: bytes) -> str:
 
 
 def _misuse(built: Built, *flags: str) -> None:
-    words = build(built.own[0].c, built, [SOURCES / "misuse.c"], built.folder / "misuse.exe", *flags)
+    words = build(
+        built.own[0].c, built, [SOURCES / "misuse.c"], built.folder / "misuse.exe", *flags
+    )
     expect("misuse", run([*words, FONTS]))
 
 
 def check_compilers(maker: Maker) -> str:
-    """The file is taken without a warning by each compiler at each level, and misuse is answered alike."""
+    """The file is taken without a warning by each compiler at each level, and misuse is answered
+    alike."""
     ways = [(compiler, level) for compiler in maker.compilers for level in (*LEVELS, USUAL)]
     for compiler, level in ways:
         _misuse(maker.library(compiler, level))
@@ -109,9 +133,13 @@ def check_one(maker: Maker) -> str:
 
 
 def check_names(maker: Maker) -> str:
-    """The names that are seen of the file are the header's calls, and it wants few of the C library."""
+    """The names that are seen of the file are the header's calls, and it wants few of the C
+    library."""
     calls, built = set(calls_of(HEADER.read_text("ascii"))), maker.usual()
-    defined, wanted = (names_in(built, built.static, "-g", which) for which in ("--defined-only", "--undefined-only"))
+    defined, wanted = (
+        names_in(built, built.static, "-g", which)
+        for which in ("--defined-only", "--undefined-only")
+    )
     if defined != calls:
         raise Wrong(f"seen and not in the header, or not seen: {sorted(defined ^ calls)}")
     others = {name for name in wanted - OUTSIDE if not name.startswith(HELPERS)}
@@ -124,22 +152,31 @@ def check_suite(maker: Maker, *flags: str) -> str:
     """Each case of the suite agrees, by the program over the file; bytes and faults too."""
     program = shlex.join(map(str, maker.program(*flags)))
     cases = read_cases(str(SUITE))
-    texts, scripts = (f"{program} {job} {{script}} --fonts {{fonts}} {{until}}" for job in ("go", "run"))
+    texts, scripts = (
+        f"{program} {job} {{script}} --fonts {{fonts}} {{until}}" for job in ("go", "run")
+    )
     words = [texts, "--bytes", scripts, "--jobs", str(os.cpu_count() or 1)]
     done = captured([sys.executable, TOP / "tools" / "vga-report", "suite", *words])
     wanted = f"{counted(len(cases), 'case')}: {len(cases)} agree"
     table = done.output.decode("utf-8", "replace").splitlines()
     if done.status or table[-1:] != [wanted]:
         others = [line for line in table if not line.startswith("  agrees")][:20]
-        raise Wrong("\n".join([f"not `{wanted}`:", *others, done.errors.decode("utf-8", "replace")[-2000:]]))
+        raise Wrong(
+            "\n".join([f"not `{wanted}`:", *others, done.errors.decode("utf-8", "replace")[-2000:]])
+        )
     return f"{wanted}, by the program"
 
 
 def check_memory(maker: Maker) -> str:
     """Each allocation is refused in turn, where a card has no memory to spare."""
     built = maker.library(maker.compilers[0], "-O1", TIGHT)
-    words = build(built.own[0].c, built, [SOURCES / "memory.c"], built.folder / "memory.exe", "-g", WRAPPED)
-    counts = {name: int(count) for name, count in map(str.split, run([*words, FONTS, "kept"]).splitlines())}
+    words = build(
+        built.own[0].c, built, [SOURCES / "memory.c"], built.folder / "memory.exe", "-g", WRAPPED
+    )
+    counts = {
+        name: int(count)
+        for name, count in map(str.split, run([*words, FONTS, "kept"]).splitlines())
+    }
     if sum(counts.values()) < LEAST_REFUSED:
         raise Wrong(f"only {sum(counts.values())} allocations were refused")
     return f"{sum(counts.values())} allocations refused, in {sum(map(bool, counts.values()))} calls"
@@ -167,13 +204,20 @@ Check = Callable[[Maker], str]
 # Those of every processor, and those of the machine's own alone.
 EVERY: dict[str, Check] = {"one": check_one, "suite": check_suite, "threads": _by(check_threads)}
 HOST: dict[str, Check] = {
-    "compilers": check_compilers, "names": check_names, "suite": check_suite,
+    "compilers": check_compilers,
+    "names": check_names,
+    "suite": check_suite,
     # Each access to memory is looked at.
     "checked": lambda maker: check_suite(maker, USUAL, CHECKED),
     **{way: _by(partial(check_cases, way)) for way in ("restored", "sliced", "joined")},
     "misuse": _by(check_misuse, True),
-    **{name: _by(partial(check_counted, name), flags == SANITIZED) for name, (flags, _, _) in COUNTED.items()},
-    "memory": check_memory, "threads": _by(check_threads), "examples": _by(check_examples),
+    **{
+        name: _by(partial(check_counted, name), flags == SANITIZED)
+        for name, (flags, _, _) in COUNTED.items()
+    },
+    "memory": check_memory,
+    "threads": _by(check_threads),
+    "examples": _by(check_examples),
 }
 
 
@@ -184,6 +228,9 @@ def checks_for(target: Target) -> dict[str, Check]:
 
 def lacking_for(target: Target) -> list[str]:
     """What this machine lacks for them, each with the package to install."""
-    programs = [compiler.c for compiler in COMPILERS[target]] + [target.tool("ar"), target.tool("nm")]
+    programs = [compiler.c for compiler in COMPILERS[target]] + [
+        target.tool("ar"),
+        target.tool("nm"),
+    ]
     runners = [word for word in RUNNERS[target] if word in PACKAGES]
     return not_there([*programs, *runners])

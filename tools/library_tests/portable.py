@@ -63,7 +63,9 @@ def number() -> int:
 def check_crate(tree: Path, folder: Path) -> str:
     """What `cargo package` packs of the low crate is compiled and called outside the repository."""
     quick = {
-        "ZAKLIMOT_DIR": "", "ZAKLIMOT_PORTABLE": "1", "CFLAGS": QUICK,
+        "ZAKLIMOT_DIR": "",
+        "ZAKLIMOT_PORTABLE": "1",
+        "CFLAGS": QUICK,
         "CARGO_TARGET_DIR": str(folder / "packing"),
     }
     words = ["--offline", "--allow-dirty", "--no-verify", "--package", SYS]
@@ -118,7 +120,8 @@ def _configure(source: Path, made: Path, *words: str) -> None:
 def _check_options(folder: Path) -> None:
     """Without a build type the C file is optimised, and with one it is what that says."""
     for words, told in (
-        ((), ["-O2"]), (("-DCMAKE_BUILD_TYPE=Debug",), []),
+        ((), ["-O2"]),
+        (("-DCMAKE_BUILD_TYPE=Debug",), []),
         (("-DCMAKE_BUILD_TYPE=Release",), ["-O3"]),
         (("-DCMAKE_C_FLAGS=-O1",), ["-O1"]),
     ):

@@ -1,8 +1,8 @@
 """Random instructions as Unicorn does them, for `processor.c`: cases.py COUNT SEED > CASES
 
-Unicorn, whose processor is QEMU's, is Debian's package python3-unicorn. A case is a processor's registers with the
-bytes of one instruction, and what the instruction leaves: registers, flags, segments, bytes of memory, ports. Each
-third case is of protected mode with segments of 32 bits.
+Unicorn, whose processor is QEMU's, is Debian's package python3-unicorn. A case is a processor's
+registers with the bytes of one instruction, and what the instruction leaves: registers, flags,
+segments, bytes of memory, ports. Each third case is of protected mode with segments of 32 bits.
 """
 
 from __future__ import annotations
@@ -13,7 +13,15 @@ import sys
 from typing import Any, Iterator, NamedTuple
 
 try:
-    from unicorn import UC_ARCH_X86, UC_HOOK_INSN, UC_MODE_16, UC_MODE_32, Uc, UcError, x86_const as x86
+    from unicorn import (
+        UC_ARCH_X86,
+        UC_HOOK_INSN,
+        UC_MODE_16,
+        UC_MODE_32,
+        Uc,
+        UcError,
+        x86_const as x86,
+    )
 except ImportError:
     # The cases of manual.py need none of it.
     x86 = None
@@ -28,12 +36,34 @@ PREFIXES = (0x26, 0x2E, 0x36, 0x3E, 0x64, 0x65, 0x66, 0x67, 0xF0, 0xF2, 0xF3)
 REPEATS, STRINGS = (0xF2, 0xF3), (0x6C, 0x6D, 0x6E, 0x6F, *range(0xA4, 0xA8), *range(0xAA, 0xB0))
 COMPARING = (0xA6, 0xA7, 0xAE, 0xAF)
 # What is left to a table by hand: halts, interrupts, and what no 386 has. x87 is lacking.
-LEFT_OUT = {0x0F, 0xF4, 0xCC, 0xCD, 0xCE, 0xCF, 0x62, 0x63, 0x82, 0xD6, 0xF1, 0x9B, *PREFIXES, *range(0xD8, 0xE0)}
+LEFT_OUT = {
+    0x0F,
+    0xF4,
+    0xCC,
+    0xCD,
+    0xCE,
+    0xCF,
+    0x62,
+    0x63,
+    0x82,
+    0xD6,
+    0xF1,
+    0x9B,
+    *PREFIXES,
+    *range(0xD8, 0xE0),
+}
 # In protected mode no segment is loaded: there are no descriptors.
 LOADING = {0x8E, 0x07, 0x17, 0x1F, 0xC4, 0xC5, 0x9A, 0xEA, 0xCA, 0xCB}
 LOADING_TWO = {0xA1, 0xA9, 0xB2, 0xB4, 0xB5}
-TWO = (*range(0x80, 0xA2), *range(0xA3, 0xA6), *range(0xA8, 0xAA), *range(0xAB, 0xAE), *range(0xAF, 0xB8),
-       *range(0xBA, 0xC2), *range(0xC8, 0xD0))
+TWO = (
+    *range(0x80, 0xA2),
+    *range(0xA3, 0xA6),
+    *range(0xA8, 0xAA),
+    *range(0xAB, 0xAE),
+    *range(0xAF, 0xB8),
+    *range(0xBA, 0xC2),
+    *range(0xC8, 0xD0),
+)
 CPUID = 0xA2
 REGISTERS, SEGMENTS = (
     tuple(getattr(x86, f"UC_X86_REG_{name}", 0) for name in names.split())
@@ -72,35 +102,43 @@ def read_port(port: int, size: int) -> int:
 
 def instruction(rnd: random.Random, is_protected: bool) -> Instruction:
     """An instruction, each opcode as likely as another."""
-    prefixes = {prefix for prefix, share in ((0x66, .3), (0x67, .12)) if rnd.random() < share}
-    if rnd.random() < .15:
+    prefixes = {prefix for prefix, share in ((0x66, 0.3), (0x67, 0.12)) if rnd.random() < share}
+    if rnd.random() < 0.15:
         prefixes.add(rnd.choice((0x26, 0x2E, 0x36, 0x3E, 0x64, 0x65)))
     while True:
-        is_two = rnd.random() < .3
+        is_two = rnd.random() < 0.3
         opcode = rnd.choice(TWO) if is_two else rnd.randrange(256)
         if is_two and opcode == CPUID or not is_two and opcode in LEFT_OUT:
             continue
         if is_protected and opcode in (LOADING_TWO if is_two else LOADING):
             continue
         break
-    if not is_two and opcode in STRINGS and rnd.random() < .5:
+    if not is_two and opcode in STRINGS and rnd.random() < 0.5:
         prefixes.add(rnd.choice(REPEATS))
     tail = bytearray(rnd.randrange(256) for _ in range(12))
     _leave_to_the_manual(tail, opcode, is_two, prefixes, is_protected)
     if is_protected:
         _keep_inside(tail, 0x67 in prefixes)
     _keep_unicorn_alive(opcode, tail)
-    code = bytes([*rnd.sample(sorted(prefixes), len(prefixes)), *([0x0F] if is_two else []), opcode]) + bytes(tail)
+    code = bytes(
+        [*rnd.sample(sorted(prefixes), len(prefixes)), *([0x0F] if is_two else []), opcode]
+    ) + bytes(tail)
     return Instruction(code[:CODE_BYTES], opcode, tail[0], is_two, frozenset(prefixes))
 
 
 def _leave_to_the_manual(
-    tail: bytearray, opcode: int, is_two: bool, prefixes: set[int], is_protected: bool,
+    tail: bytearray,
+    opcode: int,
+    is_two: bool,
+    prefixes: set[int],
+    is_protected: bool,
 ) -> None:
-    """Turns what Unicorn does otherwise than Intel's manual says into what both do; `manual.h` has the rest.
+    """Turns what Unicorn does otherwise than Intel's manual says into what both do; `manual.h` has
+    the rest.
 
-    ENTER by operands of another size than the stack's, where it leaves half of EBP; RET by more than 32,767 bytes,
-    which it takes for fewer. Of `pop`, and of `mov` with a constant, there is one form.
+    ENTER by operands of another size than the stack's, where it leaves half of EBP; RET by more
+    than 32,767 bytes, which it takes for fewer. Of `pop`, and of `mov` with a constant, there is
+    one form.
     """
     if is_two:
         if 0xC8 <= opcode < 0xD0 and is_protected == (0x66 in prefixes):
@@ -124,7 +162,8 @@ def _keep_inside(tail: bytearray, is_narrow: bool) -> None:
 
 
 def _keep_unicorn_alive(opcode: int, tail: bytearray) -> None:
-    """Takes out what ends Unicorn's whole process, also where it only looks ahead: far jumps to a register."""
+    """Takes out what ends Unicorn's whole process, also where it only looks ahead: far jumps to a
+    register."""
     before = opcode
     for place, byte in enumerate(tail):
         if before == 0xFF and byte >= 0xD8 and byte & 0x38 in (0x18, 0x28):
@@ -141,7 +180,14 @@ def undefined_flags(one: Instruction, count: int) -> int:
         by = 1 if opcode in (0xD0, 0xD1) else count if opcode in (0xD2, 0xD3) else None
         return _undefined_of_shift(which, by)
     if opcode in (0xF6, 0xF7):
-        return {0: ADJUST, 1: ADJUST, 4: SIGN | ZERO | ADJUST | PARITY, 5: SIGN | ZERO | ADJUST | PARITY, 6: ALL, 7: ALL}.get(which, 0)
+        return {
+            0: ADJUST,
+            1: ADJUST,
+            4: SIGN | ZERO | ADJUST | PARITY,
+            5: SIGN | ZERO | ADJUST | PARITY,
+            6: ALL,
+            7: ALL,
+        }.get(which, 0)
     if opcode in (0x80, 0x81, 0x83):
         return ADJUST if which in (1, 4, 6) else 0
     if opcode in (0x69, 0x6B):
@@ -149,14 +195,22 @@ def undefined_flags(one: Instruction, count: int) -> int:
     if opcode < 0x40 and opcode & 7 < 6:
         return ADJUST if opcode >> 3 in (1, 4, 6) else 0
     return {
-        0x84: ADJUST, 0x85: ADJUST, 0xA8: ADJUST, 0xA9: ADJUST, 0x27: OVERFLOW, 0x2F: OVERFLOW,
-        0x37: OVERFLOW | SIGN | ZERO | PARITY, 0x3F: OVERFLOW | SIGN | ZERO | PARITY,
-        0xD4: OVERFLOW | ADJUST | CARRY, 0xD5: OVERFLOW | ADJUST | CARRY,
+        0x84: ADJUST,
+        0x85: ADJUST,
+        0xA8: ADJUST,
+        0xA9: ADJUST,
+        0x27: OVERFLOW,
+        0x2F: OVERFLOW,
+        0x37: OVERFLOW | SIGN | ZERO | PARITY,
+        0x3F: OVERFLOW | SIGN | ZERO | PARITY,
+        0xD4: OVERFLOW | ADJUST | CARRY,
+        0xD5: OVERFLOW | ADJUST | CARRY,
     }.get(opcode, 0)
 
 
 def _undefined_of_shift(which: int, by: int | None) -> int:
-    """The same of a shift or rotation by a count; None is a byte of the instruction, as large as any."""
+    """The same of a shift or rotation by a count; None is a byte of the instruction, as large as
+    any."""
     many = by is None or by & 31 != 1
     if which < 4:
         return OVERFLOW if many else 0
@@ -176,9 +230,9 @@ def _undefined_of_two(one: Instruction, count: int) -> int:
 class Case(NamedTuple):
     """The processor before an instruction, and what is left of it.
 
-    The kind is 0 in real mode, 1 in protected mode whose segments are all of memory, and 2 by tables of descriptors: first
-    those of segments, then those of interrupts. Bytes of memory may be given, and several instructions be done. Of a fault
-    only the number counts.
+    The kind is 0 in real mode, 1 in protected mode whose segments are all of memory, and 2 by
+    tables of descriptors: first those of segments, then those of interrupts. Bytes of memory may be
+    given, and several instructions be done. Of a fault only the number counts.
     """
 
     kind: int
@@ -206,10 +260,24 @@ class Case(NamedTuple):
         front = struct.pack("<I8II16s4I", self.kind, *self.registers, self.flags, code, *sizes)
         front += self.tables + self.interrupts + b"".join(struct.pack("<IB", *one) for one in given)
         fault = NO_FAULT if self.fault is None else self.fault
-        left = struct.pack("<8IIIII6H", *self.after, self.flags_after, self.compared, self.place, fault, *self.segments)
+        left = struct.pack(
+            "<8IIIII6H",
+            *self.after,
+            self.flags_after,
+            self.compared,
+            self.place,
+            fault,
+            *self.segments,
+        )
         counts = struct.pack("<HH", len(self.written), len(self.ports))
         written = b"".join(struct.pack("<IB", *one) for one in self.written)
-        return front + left + counts + written + b"".join(struct.pack("<HBI", *one) for one in self.ports)
+        return (
+            front
+            + left
+            + counts
+            + written
+            + b"".join(struct.pack("<HBI", *one) for one in self.ports)
+        )
 
 
 class Processor:
@@ -222,7 +290,8 @@ class Processor:
         self.uc.mem_map(0, MEMORY)
         self.uc.mem_write(0, self.pattern)
         self.ports: list[tuple[int, int, int]] = []
-        # A hook of memory's writes would spoil the processor: it loses what a register of its own has.
+        # A hook of memory's writes would spoil the processor: it loses what a register of its own
+        # has.
         self.uc.hook_add(UC_HOOK_INSN, self._read, None, 1, 0, x86.UC_X86_INS_IN)
         self.uc.hook_add(UC_HOOK_INSN, self._write, None, 1, 0, x86.UC_X86_INS_OUT)
 
@@ -265,9 +334,11 @@ class Processor:
 
     def _registers(self, rnd: random.Random, one: Instruction) -> tuple[int, ...]:
         def value() -> int:
-            if self.is_protected and rnd.random() < .6:
+            if self.is_protected and rnd.random() < 0.6:
                 return rnd.randrange(0x20000, 0xE0000)
-            return rnd.choice((rnd.getrandbits(32), rnd.getrandbits(16), rnd.getrandbits(8), rnd.choice(VALUES)))
+            return rnd.choice(
+                (rnd.getrandbits(32), rnd.getrandbits(16), rnd.getrandbits(8), rnd.choice(VALUES))
+            )
 
         found = [value() for _ in REGISTERS]
         found[4] = (0x90000 if self.is_protected else 0x8000) + 4 * rnd.randrange(0x100)
@@ -290,18 +361,26 @@ class Processor:
         # In real mode the place is told as one of all memory.
         place -= 16 * segments[1]
         return Case(
-            self.is_protected, registers, flags, one.code,
+            self.is_protected,
+            registers,
+            flags,
+            one.code,
             tuple(uc.reg_read(name) & 0xFFFFFFFF for name in REGISTERS),
-            uc.reg_read(x86.UC_X86_REG_EFLAGS) & 0xFFFF, compared, place & 0xFFFFFFFF, segments,
-            changed, tuple(self.ports),
+            uc.reg_read(x86.UC_X86_REG_EFLAGS) & 0xFFFF,
+            compared,
+            place & 0xFFFFFFFF,
+            segments,
+            changed,
+            tuple(self.ports),
         )
 
     def _changed(self) -> tuple[tuple[int, int], ...]:
-        """The bytes of memory that aren't those of the pattern any longer, but for the instruction's own."""
+        """The bytes of memory that aren't those of the pattern any longer, but for the
+        instruction's own."""
         memory, found = bytearray(self.uc.mem_read(0, MEMORY)), []
-        memory[CODE:CODE + CODE_BYTES] = self.pattern[CODE:CODE + CODE_BYTES]
+        memory[CODE : CODE + CODE_BYTES] = self.pattern[CODE : CODE + CODE_BYTES]
         for part in range(0, MEMORY, PART):
-            now, old = memory[part:part + PART], self.pattern[part:part + PART]
+            now, old = memory[part : part + PART], self.pattern[part : part + PART]
             if now != old:
                 found += [(part + i, byte) for i, byte in enumerate(now) if byte != old[i]]
         return tuple(found)

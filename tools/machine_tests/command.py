@@ -1,4 +1,5 @@
-"""Whether the page's processor does what a 386 does: by Intel's manual, and by another processor's emulator."""
+"""Whether the page's processor does what a 386 does: by Intel's manual, and by another processor's
+emulator."""
 
 from __future__ import annotations
 
@@ -26,10 +27,13 @@ HERE = Path(__file__).resolve().parent
 COMPILER = "cc"
 OF_MANUAL, OF_UNICORN, OF_DESCRIPTORS = "manual", "unicorn", "descriptors"
 CHECKS = OF_MANUAL, OF_UNICORN, OF_DESCRIPTORS
-# What is compared once makes so many cases, of which one process makes so many: a process may end amid them.
+# What is compared once makes so many cases, of which one process makes so many: a process may end
+# amid them.
 USUAL, CHUNK, MOST_CASES, DESCRIBED = 20_000, 2000, 10_000_000, 2000
 SECONDS = 600
-COUNT = re.compile(r"^([0-9]+) cases: ([0-9]+) differ, ([0-9]+) lacking, ([0-9]+) beyond a segment's end$", re.M)
+COUNT = re.compile(
+    r"^([0-9]+) cases: ([0-9]+) differ, ([0-9]+) lacking, ([0-9]+) beyond a segment's end$", re.M
+)
 UNICORN = "python3-unicorn"
 
 
@@ -37,7 +41,11 @@ def built_processor(folder: Path) -> Path:
     """The program that takes cases, built of libx86emu as the page has it, but for its memory."""
     check_program(COMPILER)
     top, program = patched(folder), folder / "processor"
-    own = [flag for flag in DEFINED if not flag.startswith(("-DX86EMU_MEMORY", "-DX86EMU_TELLS", "-DX86EMU_LOGS"))]
+    own = [
+        flag
+        for flag in DEFINED
+        if not flag.startswith(("-DX86EMU_MEMORY", "-DX86EMU_TELLS", "-DX86EMU_LOGS"))
+    ]
     sources = [HERE / "processor.c", MACHINE / "cpu" / "shifts.c"]
     sources += [top / f"{name}.c" for name in (*PROCESSOR, "api", "mem")]
     words = [COMPILER, "-O2", "-w", *own, "-I", top / "include", "-I", top, "-o", program, *sources]
@@ -46,7 +54,8 @@ def built_processor(folder: Path) -> Path:
 
 
 def judged(output: str) -> list[int]:
-    """How many cases were compared, differ, are lacking and lie beyond a segment; a Wrong tells those that differ."""
+    """How many cases were compared, differ, are lacking and lie beyond a segment; a Wrong tells
+    those that differ."""
     found = COUNT.search(output)
     if found is None:
         raise Wrong(f"the processor's program told no count: {output[-400:]}")
@@ -59,7 +68,9 @@ def judged(output: str) -> list[int]:
 def check_manual(program: Path) -> str:
     """The cases of Intel's manual, faults with them."""
     made = manual_cases()
-    done = captured([program, "faults"], given=b"".join(one.packed() for one in made), seconds=SECONDS)
+    done = captured(
+        [program, "faults"], given=b"".join(one.packed() for one in made), seconds=SECONDS
+    )
     compared = judged(done.output.decode("ascii", "replace"))[0]
     if compared != len(made):
         raise Wrong(f"{compared} of {len(made)} cases of the manual were compared")
@@ -76,7 +87,13 @@ def python_with_unicorn() -> Optional[str]:
 
 
 def _compared(
-    program: Path, python: str, folder: Path, is_ended: Event, seed: int, module: str = "cases", chunk: int = CHUNK,
+    program: Path,
+    python: str,
+    folder: Path,
+    is_ended: Event,
+    seed: int,
+    module: str = "cases",
+    chunk: int = CHUNK,
 ) -> list[int]:
     """A chunk of cases of a module. Unicorn may end the process amid them: those before count."""
     made = folder / f"{seed}.cases"
@@ -90,17 +107,26 @@ def _compared(
 
 def check_unicorn(program: Path, python: str, folder: Path, count: int, seed: int) -> str:
     """So many random instructions, one at a time."""
-    total, is_ended, chunks = [0, 0, 0, 0], Event(), iter(range(seed, seed + 1 + 4 * count // CHUNK))
+    total, is_ended, chunks = (
+        [0, 0, 0, 0],
+        Event(),
+        iter(range(seed, seed + 1 + 4 * count // CHUNK)),
+    )
     jobs = os.cpu_count() or 1
     work = partial(_compared, program, python, folder, is_ended)
     while total[0] < count:
         seeds = [number for number, _ in zip(chunks, range(jobs))]
         if not seeds:
-            raise Wrong(f"only {total[0]:,} cases came of Unicorn, which ends its process too often")
+            raise Wrong(
+                f"only {total[0]:,} cases came of Unicorn, which ends its process too often"
+            )
         with in_parallel(work, seeds, jobs, is_ended) as found:
             for counts in found:
                 total = [one + other for one, other in zip(total, counts)]
-    return f"{total[0]:,} instructions as Unicorn does them; {total[3]:,} beyond a segment's end are left out"
+    return (
+        f"{total[0]:,} instructions as Unicorn does them; {total[3]:,} beyond a segment's end are"
+        " left out"
+    )
 
 
 def check_descriptors(program: Path, python: str, folder: Path, seed: int) -> str:
@@ -113,14 +139,30 @@ def check_descriptors(program: Path, python: str, folder: Path, seed: int) -> st
 
 def _parser() -> argparse.ArgumentParser:
     parser = cli.tool_parser(
-        "vga-machine-tests", "Tests the processor of the page's machine, an instruction at a time.",
-        "tools/vga-machine-tests --cases 200000", "tools/README.md", cli.JUDGES,
+        "vga-machine-tests",
+        "Tests the processor of the page's machine, an instruction at a time.",
+        "tools/vga-machine-tests --cases 200000",
+        "tools/README.md",
+        cli.JUDGES,
     )
     parser.set_defaults(job=_run)
-    cli.add(parser, "--only", "this check alone; again and again", action="append", default=[], choices=CHECKS)
+    cli.add(
+        parser,
+        "--only",
+        "this check alone; again and again",
+        action="append",
+        default=[],
+        choices=CHECKS,
+    )
     told = f"compares so many instructions with Unicorn's (default: {USUAL:,})"
     cli.add(parser, "--cases N", told, type=number_to(MOST_CASES), default=USUAL)
-    cli.add(parser, "--seed N", "makes other instructions (default: 1)", type=number_to(MOST_CASES), default=1)
+    cli.add(
+        parser,
+        "--seed N",
+        "makes other instructions (default: 1)",
+        type=number_to(MOST_CASES),
+        default=1,
+    )
     return parser
 
 
@@ -139,7 +181,9 @@ def _run(words: argparse.Namespace, _: Progress) -> None:
             if python is None:
                 print(f"{name}: not tried: install the package {UNICORN}", flush=True)
             elif name == OF_UNICORN:
-                make_check(name, partial(check_unicorn, program, python, folder, words.cases, words.seed))
+                make_check(
+                    name, partial(check_unicorn, program, python, folder, words.cases, words.seed)
+                )
             else:
                 make_check(name, partial(check_descriptors, program, python, folder, words.seed))
 

@@ -1,4 +1,5 @@
-"""Whether the page is what its sources make; and what node does with its module: suite, heap, tests, examples."""
+"""Whether the page is what its sources make; and what node does with its module: suite, heap,
+tests, examples."""
 
 from __future__ import annotations
 
@@ -31,7 +32,14 @@ from vga_report.suite import said_lines
 from vga_report.trouble import Trouble, Wrong
 from vga_report.words import SUITE
 
-CHECKS = OF_MODULE, OF_PAGE, OF_SUITE, OF_HEAP, OF_SCRIPTS, OF_OWN = "module", "page", "suite", "heap", "scripts", "own"
+CHECKS = OF_MODULE, OF_PAGE, OF_SUITE, OF_HEAP, OF_SCRIPTS, OF_OWN = (
+    "module",
+    "page",
+    "suite",
+    "heap",
+    "scripts",
+    "own",
+)
 NAME = f"page/{PAGE.name}"
 PACKED = ("examples", "tutorial", "sections", "module")
 ANEW = f"`tools/vga-page make {NAME}` makes it anew"
@@ -54,7 +62,9 @@ ENGINES: dict[str, dict[str, Sequence[str]]] = {
     FIREFOX: {"firefox-esr": ("firefox", "firefox-esr")},
     WEBKIT: {"webkit2gtk-driver": ("WebKitWebDriver",), "xvfb": ("Xvfb",)},
 }
-HEAP, OWN, DRIVER = (Path(__file__).resolve().parent / f"{name}.mjs" for name in ("heap", "own", "suite"))
+HEAP, OWN, DRIVER = (
+    Path(__file__).resolve().parent / f"{name}.mjs" for name in ("heap", "own", "suite")
+)
 # How a file tells that it has tests.
 IS_TEST = 'from "node:test"'
 SCRIPT = re.compile(r'<script type="module">\n(.*?)</script>', re.S)
@@ -99,7 +109,10 @@ def check_machine(page: bytes) -> str:
     kept = machine_in(page)
     try:
         if not is_of_this_compiler(kept):
-            return f"the machine in {NAME} was made by another compiler, {kit_of(kept.cpu)}: its tests judge it"
+            return (
+                f"the machine in {NAME} was made by another compiler, {kit_of(kept.cpu)}: its tests"
+                " judge it"
+            )
         made = made_machine()
     except Trouble as trouble:
         return f"the machine in {NAME} is taken as it is: {trouble}"
@@ -111,26 +124,34 @@ def check_machine(page: bytes) -> str:
 def check_built(module: bytes, page: bytes) -> str:
     """Holds the page as built to its sources, and to the module that this kit makes.
 
-    Where another kit has made the page's module, the suite judges it. An editor that other versions of its packages
-    have made stays as it is.
+    Where another kit has made the page's module, the suite judges it. An editor that other versions
+    of its packages have made stays as it is.
     """
     own, data = module_in(page), page_data(page.decode("utf-8"))
     if len(page) > MOST_BYTES:
         raise Wrong(f"{NAME} has {len(page):,} bytes, and {MOST_BYTES:,} are the most")
     sources, editor = read_sources(), editor_in(page.decode("utf-8"))
     is_other = editor.made != sources.editor.made
-    wanted = page_text(sources._replace(editor=editor) if is_other else sources, data).encode("utf-8")
+    wanted = page_text(sources._replace(editor=editor) if is_other else sources, data).encode(
+        "utf-8"
+    )
     if page != wanted:
         line = page.count(b"\n", 0, len(os.path.commonprefix([page, wanted]))) + 1
         raise Wrong(f"{NAME} is not the page that its sources make, from line {line} on; {ANEW}")
     # Other versions of zlib pack otherwise.
     parts, wanted_parts = (
-        {**one, **{name: unzipped(one[name]) for name in PACKED}, "machine": _machine_parts(one["machine"])}
+        {
+            **one,
+            **{name: unzipped(one[name]) for name in PACKED},
+            "machine": _machine_parts(one["machine"]),
+        }
         for one in (data, data_of(own, machine_in(page)))
     )
     others = [name for name in wanted_parts if parts.get(name) != wanted_parts[name]]
     if others or list(parts) != list(wanted_parts):
-        raise Wrong(f"{NAME} has other data than the repository: {', '.join(others or parts)}; {ANEW}")
+        raise Wrong(
+            f"{NAME} has other data than the repository: {', '.join(others or parts)}; {ANEW}"
+        )
     told = f"{NAME} is the page that its sources make, {len(page):,} bytes"
     if is_other:
         told += f", around the editor {editor.made}"
@@ -168,15 +189,18 @@ def node_words() -> list[str]:
 
 
 def run_node(
-    words: Sequence[str | Path], environment: Optional[Mapping[str, str]] = None,
+    words: Sequence[str | Path],
+    environment: Optional[Mapping[str, str]] = None,
     seconds: int = MOST_SECONDS,
 ) -> str:
-    """What a script writes that ends well within so many seconds; else a Wrong tells what it said."""
+    """What a script writes that ends well within so many seconds; else a Wrong tells what it
+    said."""
     return run([*node_words(), *words], seconds=seconds, environment=environment)
 
 
 def check_syntax(page: bytes, folder: Path) -> str:
-    """The joined script of the page is one that an engine takes, in which no name is declared twice."""
+    """The joined script of the page is one that an engine takes, in which no name is declared
+    twice."""
     found = SCRIPT.findall(page.decode("utf-8"))
     if len(found) != 1:
         raise Wrong(f"the page has {len(found)} scripts, and one is right")
@@ -187,13 +211,20 @@ def check_syntax(page: bytes, folder: Path) -> str:
 
 
 def check_scripts(module: Path, small: Optional[Path], folder: Path = TESTS) -> str:
-    """The tests of a folder in node, of which each passes, and none is left out; the small module has fixed memory."""
+    """The tests of a folder in node, of which each passes, and none is left out; the small module
+    has fixed memory."""
     files = sorted(path for path in folder.glob("*.mjs") if path.name != BROWSER.name)
     files = [path for path in files if IS_TEST in path.read_text("utf-8")]
     if not files:
         raise Wrong(f"there are no tests in {folder}")
-    environment = {MODULE: str(module), BUILT: str(PAGE), **({} if small is None else {SMALL: str(small)})}
-    counts = dict(COUNT.findall(run_node(["--test", "--test-reporter", REPORTER, *files], environment)))
+    environment = {
+        MODULE: str(module),
+        BUILT: str(PAGE),
+        **({} if small is None else {SMALL: str(small)}),
+    }
+    counts = dict(
+        COUNT.findall(run_node(["--test", "--test-reporter", REPORTER, *files], environment))
+    )
     passed = counts.pop("pass", "0")
     if passed == "0" or set(counts.values()) != {"0"}:
         raise Wrong(f"the page's tests in node: {passed} pass, {counts}")
@@ -201,7 +232,8 @@ def check_scripts(module: Path, small: Optional[Path], folder: Path = TESTS) -> 
 
 
 def check_own(module: Path, _: Optional[Path] = None) -> str:
-    """The page's check of its examples, over its module: each answers as by `zak_run`, and as expected."""
+    """The page's check of its examples, over its module: each answers as by `zak_run`, and as
+    expected."""
     told = json.loads(run_node([OWN, module, PAGE]))
     if told["differ"] or not (told["agree"] and told["expected"]):
         lines = [f"  {line}" for line in told["lines"]]
@@ -210,7 +242,8 @@ def check_own(module: Path, _: Optional[Path] = None) -> str:
 
 
 def check_heap(module: Path, small: Optional[Path]) -> str:
-    """The module's heap: blocks at random don't overlap, and calls say where memory is spent, and go on."""
+    """The module's heap: blocks at random don't overlap, and calls say where memory is spent, and
+    go on."""
     if small is None:
         return "left out: --module has none of fixed memory"
     told = json.loads(run_node([HEAP, module, small]))
@@ -251,13 +284,20 @@ def _browser_checks() -> Iterator[tuple[str, Callable[[], str]]]:
 
 
 def _native(top: Path, is_ended: Event, numbered: tuple[int, Case]) -> dict[str, Any]:
-    """A case as the module is to run it: its files, and the sum of the report that the program writes."""
+    """A case as the module is to run it: its files, and the sum of the report that the program
+    writes."""
     number, case = numbered
     folder = top / str(number)
     folder.mkdir()
     script, report, messages = (folder / name for name in ("script", "report", "said"))
     script.write_bytes(case.script() if case.is_bytes else case.stopped_script())
-    words = [str(PROGRAM), "run" if case.is_bytes else "go", str(script), "--fonts", str(case.fonts)]
+    words = [
+        str(PROGRAM),
+        "run" if case.is_bytes else "go",
+        str(script),
+        "--fonts",
+        str(case.fonts),
+    ]
     outcome = run_command(words, report, messages, LIMITS, is_ended)
     if outcome.status is None:
         raise Trouble(f"{case.name}: {outcome.reason}", str(PROGRAM))
@@ -265,8 +305,12 @@ def _native(top: Path, is_ended: Event, numbered: tuple[int, Case]) -> dict[str,
         report.write_text(said_lines(messages)[-1].removeprefix(SAID) + "\n", "ascii")
     length = report.stat().st_size
     told = {
-        "name": case.name, "isBytes": case.is_bytes, "script": str(script), "fonts": str(case.fonts),
-        "length": length, "sha256": hashlib.sha256(report.read_bytes()).hexdigest(),
+        "name": case.name,
+        "isBytes": case.is_bytes,
+        "script": str(script),
+        "fonts": str(case.fonts),
+        "length": length,
+        "sha256": hashlib.sha256(report.read_bytes()).hexdigest(),
         **({} if case.is_bytes else _assembled(script)),
     }
     if length <= MOST_KEPT:
@@ -277,7 +321,8 @@ def _native(top: Path, is_ended: Event, numbered: tuple[int, Case]) -> dict[str,
 
 
 def _assembled(text: Path) -> dict[str, str]:
-    """The files of a text's bytes, and of the text that the program prints of these; none of a bad text."""
+    """The files of a text's bytes, and of the text that the program prints of these; none of a bad
+    text."""
     made, printed = text.with_suffix(".bin"), text.with_suffix(".dis")
     if captured([PROGRAM, "asm", text, made]).status:
         return {}
@@ -288,10 +333,14 @@ def _assembled(text: Path) -> dict[str, str]:
 def check_suite(module: Path, folder: Path) -> str:
     """Each case answers in each way what the program writes; what was run is told."""
     if not os.access(PROGRAM, os.X_OK):
-        raise Trouble("the program isn't built: (cd crates/vga && rt run -- --help) builds it", str(PROGRAM))
+        raise Trouble(
+            "the program isn't built: (cd crates/vga && rt run -- --help) builds it", str(PROGRAM)
+        )
     cases, is_ended = read_cases(str(SUITE)), Event()
     folder.mkdir()
-    with in_parallel(partial(_native, folder, is_ended), enumerate(cases), os.cpu_count() or 1, is_ended) as found:
+    with in_parallel(
+        partial(_native, folder, is_ended), enumerate(cases), os.cpu_count() or 1, is_ended
+    ) as found:
         told = list(found)
     listed = folder / "cases.json"
     listed.write_text(json.dumps(told), "utf-8")
@@ -305,15 +354,22 @@ def judged(answer: dict[str, Any], count: int) -> str:
         lines = [f"  {one['name']}, by {one['way']}: {one['reason']}" for one in wrong[:MOST_TOLD]]
         raise Wrong("\n".join([f"{len(wrong)} reports differ from the program's", *lines]))
     ways: dict[str, int] = answer["ways"]
-    if not (ways.get("bytes") and ways.get(STEPS)) or min(ways.values()) == 0 or ways["bytes"] > count:
+    if (
+        not (ways.get("bytes") and ways.get(STEPS))
+        or min(ways.values()) == 0
+        or ways["bytes"] > count
+    ):
         raise Wrong(f"too few cases were run: {ways}")
     return "; ".join(f"by {way} {number}" for way, number in ways.items()) + f"; of {count} cases"
 
 
 def _parser() -> argparse.ArgumentParser:
     parser = cli.tool_parser(
-        "vga-page-tests", "Tests the page that runs scripts in a browser, and its module.",
-        "tools/vga-page-tests --only page", "tools/README.md", cli.JUDGES,
+        "vga-page-tests",
+        "Tests the page that runs scripts in a browser, and its module.",
+        "tools/vga-page-tests --only page",
+        "tools/README.md",
+        cli.JUDGES,
     )
     parser.set_defaults(job=_run)
     cli.add(parser, "--module FILE", "takes this module (default: makes one)")
@@ -323,7 +379,9 @@ def _parser() -> argparse.ArgumentParser:
     return parser
 
 
-def _checks(words: argparse.Namespace, progress: Progress, folder: Path) -> Iterator[tuple[str, Callable[[], str]]]:
+def _checks(
+    words: argparse.Namespace, progress: Progress, folder: Path
+) -> Iterator[tuple[str, Callable[[], str]]]:
     wanted = words.only or CHECKS
     page = built_page() if {OF_PAGE, OF_SCRIPTS, OF_OWN} & set(wanted) else None
     if words.module is not None:
@@ -335,14 +393,20 @@ def _checks(words: argparse.Namespace, progress: Progress, folder: Path) -> Iter
         same, small = [module for module, _ in made], made[0][1]
     yield OF_MODULE, partial(check_modules, same)
     # What runs in the page is the module in it, even where that is another kit's.
-    parts = {"module": same[0], "page": same[0] if page is None else module_in(page), "small": small}
+    parts = {
+        "module": same[0],
+        "page": same[0] if page is None else module_in(page),
+        "small": small,
+    }
     files = {name: folder / f"{name}.wasm" for name, data in parts.items() if data is not None}
     for name, path in files.items():
         path.write_bytes(parts[name] or b"")
     if OF_PAGE in wanted and page is not None:
-        yield OF_PAGE, lambda: f"{check_built(same[0], page)}; {check_syntax(page, folder)}; {check_machine(page)}"
+        yield OF_PAGE, lambda: "; ".join(
+            (check_built(same[0], page), check_syntax(page, folder), check_machine(page))
+        )
     if OF_SUITE in wanted:
-        for name in ("module", "page")[:1 + (OF_PAGE in wanted and parts["page"] != same[0])]:
+        for name in ("module", "page")[: 1 + (OF_PAGE in wanted and parts["page"] != same[0])]:
             yield OF_SUITE, partial(check_suite, files[name], folder / f"cases of {name}")
     for name, check in ((OF_HEAP, check_heap), (OF_SCRIPTS, check_scripts), (OF_OWN, check_own)):
         if name in wanted:

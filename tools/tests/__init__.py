@@ -1,1 +1,2 @@
-"""Tests of the tool: `python3 -m unittest discover --start-directory tools/tests --top-level-directory tools`."""
+"""Tests of the tool: `python3 -m unittest discover --start-directory tools/tests
+--top-level-directory tools`."""

@@ -1,4 +1,5 @@
-"""The test command for a machine without Rattle: the suite and the tools' tests, over the portable program."""
+"""The test command for a machine without Rattle: the suite and the tools' tests, over the portable
+program."""
 
 from __future__ import annotations
 
@@ -32,12 +33,17 @@ class Checked(NamedTuple):
 
     def text(self) -> str:
         """The counts as the last line tells them."""
-        return f"{self.passed} passed, {self.failed} failed" + (f", {self.skipped} skipped" if self.skipped else "")
+        return f"{self.passed} passed, {self.failed} failed" + (
+            f", {self.skipped} skipped" if self.skipped else ""
+        )
 
 
 def check_suite(program: str, *chosen: str) -> Checked:
-    """Holds a program to the suite, or to the cases that `--only` chooses. Those that don't agree are printed."""
-    ways = [shlex.join([program, way]) + " {script} --fonts {fonts} {until}" for way in ("go", "run")]
+    """Holds a program to the suite, or to the cases that `--only` chooses. Those that don't agree
+    are printed."""
+    ways = [
+        shlex.join([program, way]) + " {script} --fonts {fonts} {until}" for way in ("go", "run")
+    ]
     words = [ways[0], "--bytes", ways[1], "--jobs", str(os.cpu_count() or 1), "--json", *chosen]
     done = captured([sys.executable, TOOLS / "vga-report", "suite", *words], seconds=MOST_SECONDS)
     if done.status == TROUBLE:
@@ -55,16 +61,27 @@ def _check(words: argparse.Namespace, progress: Progress) -> int:
     suite = check_suite(program)
     print(f"the suite over the portable program: {suite.text()}", flush=True)
     tests = run_modules(words.modules, program)
-    both = Checked(suite.passed + tests.passed, suite.failed + tests.failed, suite.skipped + tests.skipped)
-    print(f"that took {time.monotonic() - begun:.0f} seconds; the program is tested by this, and not proved\n")
+    both = Checked(
+        suite.passed + tests.passed, suite.failed + tests.failed, suite.skipped + tests.skipped
+    )
+    print(
+        f"that took {time.monotonic() - begun:.0f} seconds; the program is tested by this, and not"
+        " proved\n"
+    )
     print(both.text())
     return FAILED if both.failed or not both.passed else PASSED
 
 
 def _parser() -> argparse.ArgumentParser:
     parser = cli.tool_parser(
-        "vga-check", "Runs the suite and the tests of the tools over the portable program, which it compiles once.",
-        "tools/vga-check", "CONTRIBUTING.md", cli.JUDGES,
+        "vga-check",
+        (
+            "Runs the suite and the tests of the tools over the portable program, which it compiles"
+            " once."
+        ),
+        "tools/vga-check",
+        "CONTRIBUTING.md",
+        cli.JUDGES,
     )
     told = "of the tests these modules alone, such as tests.test_trace (default: all)"
     parser.add_argument("modules", nargs="*", metavar="MODULE", help=told)

@@ -1,4 +1,5 @@
-"""Finds the portable program as each tool does, and prints its path: tests have two of these run at once."""
+"""Finds the portable program as each tool does, and prints its path: tests have two of these run at
+once."""
 
 import sys
 from pathlib import Path

@@ -1,11 +1,24 @@
-"""A machine for tests: boots an image of vga-floppy as boot.asm does, on an adapter that only remembers."""
+"""A machine for tests: boots an image of vga-floppy as boot.asm does, on an adapter that only
+remembers."""
 
 from __future__ import annotations
 
 from typing import Iterator, Optional
 
 from vga_floppy.image import image_for
-from vga_floppy.table import BEHIND, END, END_OF_RESET, FILL, FORMS, GETW, INT, LOOK_AWAY, PUT, REPEAT, SCRIPT
+from vga_floppy.table import (
+    BEHIND,
+    END,
+    END_OF_RESET,
+    FILL,
+    FORMS,
+    GETW,
+    INT,
+    LOOK_AWAY,
+    PUT,
+    REPEAT,
+    SCRIPT,
+)
 from vga_report.faults import script_of
 
 SECTOR, TABLE, MARK, ANSWERS = 512, 5 * 512, 1023 * 512, 1024 * 512
@@ -19,34 +32,44 @@ def line(letter: str, number: int, data: bytes = b"") -> bytes:
 
 
 class Machine:
-    """The machine with an image, which runs at once: its cycles and calls, the answers, the record, the image then.
+    """The machine with an image, which runs at once: its cycles and calls, the answers, the record,
+    the image then.
 
-    A port reads its number's low byte, memory what was written, and else FF. A call destroys AX, answers 1234 in the
-    other registers, and counts from 0 in its table.
+    A port reads its number's low byte, memory what was written, and else FF. A call destroys AX,
+    answers 1234 in the other registers, and counts from 0 in its table.
     """
 
     def __init__(self, image: bytes) -> None:
-        assert image[510:512] == b"\x55\xaa" and image[3:11] == b"VGAFLOPY" and len(image) == 2880 * SECTOR
+        assert (
+            image[510:512] == b"\x55\xaa"
+            and image[3:11] == b"VGAFLOPY"
+            and len(image) == 2880 * SECTOR
+        )
         self.cycles: list[tuple[object, ...]] = []
         self.answers = bytearray()
         self._memory: dict[int, int] = {}
         # Nothing but what was loaded is there to be read.
-        self._steps = image[TABLE + 16:SECTOR * (1 + int.from_bytes(image[62:64], "little"))]
+        self._steps = image[TABLE + 16 : SECTOR * (1 + int.from_bytes(image[62:64], "little"))]
         self._block = 0, 0
         # The state that a script finds, and where its steps are, while the adapter is reset.
         self._waiting: Optional[tuple[int, int]] = None
-        at = int.from_bytes(image[TABLE + 6:TABLE + 8], "little")
+        at = int.from_bytes(image[TABLE + 6 : TABLE + 8], "little")
         while self._steps[at]:
             at = self._take(at)
-        total, length = ((number & 0xFFFF).to_bytes(2, "little") for number in (sum(self.answers), len(self.answers)))
-        table = image[TABLE:TABLE + 16 + int.from_bytes(image[TABLE + 8:TABLE + 12], "little")]
+        total, length = (
+            (number & 0xFFFF).to_bytes(2, "little")
+            for number in (sum(self.answers), len(self.answers))
+        )
+        table = image[TABLE : TABLE + 16 + int.from_bytes(image[TABLE + 8 : TABLE + 12], "little")]
         self.record = [
-            b"\r\nVGA-FLOPPY 1\r\n", *_lines("T", table), *_lines("A", self.answers),
+            b"\r\nVGA-FLOPPY 1\r\n",
+            *_lines("T", table),
+            *_lines("A", self.answers),
             line("E", len(self.answers), total),
         ]
         left = bytearray(image)
-        left[ANSWERS:ANSWERS + len(self.answers)] = self.answers
-        left[MARK:MARK + 16] = b"VGAFDONE" + length + total + image[TABLE + 12:TABLE + 16]
+        left[ANSWERS : ANSWERS + len(self.answers)] = self.answers
+        left[MARK : MARK + 16] = b"VGAFDONE" + length + total + image[TABLE + 12 : TABLE + 16]
         self.image = bytes(left)
 
     def _take(self, at: int) -> int:
@@ -56,8 +79,8 @@ class Machine:
         if opcode <= GETW:
             self._cycle(opcode, *fields)
         elif opcode == INT:
-            self.cycles.append(("int", *fields[:5], self._steps[at - fields[-1]:at]))
-            self._keep(bytes.fromhex("ADDE341234123412") + bytes(range(256))[:fields[5]])
+            self.cycles.append(("int", *fields[:5], self._steps[at - fields[-1] : at]))
+            self._keep(bytes.fromhex("ADDE341234123412") + bytes(range(256))[: fields[5]])
         elif opcode == LOOK_AWAY:
             self.cycles += [("in", fields[0] + at) for at in range(1 + fields[1])]
         elif opcode == FILL:
@@ -90,7 +113,11 @@ class Machine:
                 self._memory.update({place + at: value} if name == "put" else {})
             else:
                 self.cycles.append((name, place + at))
-                self._keep(bytes([place + at & 0xFF if name == "in" else self._memory.get(place + at, 0xFF)]))
+                self._keep(
+                    bytes(
+                        [place + at & 0xFF if name == "in" else self._memory.get(place + at, 0xFF)]
+                    )
+                )
 
     def _keep(self, data: bytes) -> None:
         if self._waiting is None:
@@ -98,7 +125,7 @@ class Machine:
 
 
 def _lines(letter: str, data: bytes) -> Iterator[bytes]:
-    return (line(letter, at, data[at:at + 16]) for at in range(0, len(data), 16))
+    return (line(letter, at, data[at : at + 16]) for at in range(0, len(data), 16))
 
 
 def machine(script: bytes) -> Machine:
@@ -109,4 +136,4 @@ def machine(script: bytes) -> Machine:
 def cycles(script: bytes) -> list[tuple[object, ...]]:
     """The cycles of a script's own steps."""
     found = machine(script).cycles
-    return found[found.index(("begin",)) + 1:]
+    return found[found.index(("begin",)) + 1 :]

@@ -12,7 +12,21 @@ import unittest
 from functools import partial
 from pathlib import Path
 
-from .tools import BLACK, RED, TOOLS, WHITE, Folder, begin, ended, hold, hold_undone, png_rows, ppm, report, run_tool
+from .tools import (
+    BLACK,
+    RED,
+    TOOLS,
+    WHITE,
+    Folder,
+    begin,
+    ended,
+    hold,
+    hold_undone,
+    png_rows,
+    ppm,
+    report,
+    run_tool,
+)
 
 PROGRAM = TOOLS / "vga-report"
 ADAPTER = shlex.join([sys.executable, str(TOOLS / "tests" / "adapter.py")]) + " {script}"
@@ -24,10 +38,16 @@ class Reports(Folder):
     """Reports that are shown, cut into pictures and compared, in a folder that has some."""
 
     REPORTS = {
-        "black": ("ok", ppm(9, 1, BLACK * 9)), "red": ("ok", PICTURE), "two": (PICTURE, "ok", ppm(1, 1, WHITE)),
-        "high": (ppm(100, 101, BLACK * 10100),), "wide": (ppm(5000, 1, BLACK * 5000),), "read": ("ok", "E1", "00"),
-        "refused": ("ok", "E1 NotDecoded", "01"), "three": ("ok", "ok", "55"),
-        "a": ("00", PICTURE), "b": ("01", ppm(9, 1, RED * 3 + BLACK * 6)),
+        "black": ("ok", ppm(9, 1, BLACK * 9)),
+        "red": ("ok", PICTURE),
+        "two": (PICTURE, "ok", ppm(1, 1, WHITE)),
+        "high": (ppm(100, 101, BLACK * 10100),),
+        "wide": (ppm(5000, 1, BLACK * 5000),),
+        "read": ("ok", "E1", "00"),
+        "refused": ("ok", "E1 NotDecoded", "01"),
+        "three": ("ok", "ok", "55"),
+        "a": ("00", PICTURE),
+        "b": ("01", ppm(9, 1, RED * 3 + BLACK * 6)),
     }
 
     def setUp(self) -> None:
@@ -45,66 +65,125 @@ class Reports(Folder):
 
     def test_as_text(self) -> None:
         # The frame at power-on; the sum is that of `md5sum` over its 37 bytes.
-        text, red = b"1 ok\n2 picture 37 9x1 8f4a7758d19428aa7b8da8bb8fc0c974\n", hashlib.md5(PICTURE).hexdigest()
+        text, red = (
+            b"1 ok\n2 picture 37 9x1 8f4a7758d19428aa7b8da8bb8fc0c974\n",
+            hashlib.md5(PICTURE).hexdigest(),
+        )
         front = "vga-report: standard input:2: "
         lacking = f"{front}the picture is shown by its digest, and its dots are not in the file\n"
-        differs = f"step 2 differs\n  standard input:2: {text[7:-1].decode()}\n  red:2: picture 37 9x1 {red}\n".encode()
-        hold(self, self.done, (
-            ("text black", (0, text, "")), ("text -", report(*self.REPORTS["black"]), (0, text, "")),
-            # A text is as good as its report, but for the dots.
-            ("text -", text, (0, text, "")),
-            ("compare - black", text, (0, b"standard input and black agree: 2 steps, 1 picture\n", "")),
-            ("compare - red", text, (1, differs, "")), ("pictures - p", text, (2, b"", lacking)),
-            # A damaged report is shown up to the damage.
-            ("text -", b"1 ok\n3 ok\n", (2, b"1 ok\n", f"{front}step 2 is to come, and not '3 ok'\n")),
-        ))
+        differs = (
+            f"step 2 differs\n  standard input:2: {text[7:-1].decode()}\n  red:2: picture 37 9x1"
+            f" {red}\n".encode()
+        )
+        hold(
+            self,
+            self.done,
+            (
+                ("text black", (0, text, "")),
+                ("text -", report(*self.REPORTS["black"]), (0, text, "")),
+                # A text is as good as its report, but for the dots.
+                ("text -", text, (0, text, "")),
+                (
+                    "compare - black",
+                    text,
+                    (0, b"standard input and black agree: 2 steps, 1 picture\n", ""),
+                ),
+                ("compare - red", text, (1, differs, "")),
+                ("pictures - p", text, (2, b"", lacking)),
+                # A damaged report is shown up to the damage.
+                (
+                    "text -",
+                    b"1 ok\n3 ok\n",
+                    (2, b"1 ok\n", f"{front}step 2 is to come, and not '3 ok'\n"),
+                ),
+            ),
+        )
 
     def test_pictures(self) -> None:
-        cut = "vga-report: standard input:2: the picture of step 2 is cut off: of 37 bytes there are 35\n"
-        large = "vga-report: a picture of {} dots would get {}, and 100,000,000 dots are the most\n".format
-        hold(self, self.done, (
-            ("pictures two n/n", (0, b"n/n/0001.png\nn/n/0003.png\n", "")),
-            ("pictures two s --scale 2 --aspect", (0, b"s/0001.png\ns/0003.png\n", "")),
-            # The bytes as they are.
-            ("pictures two p --ppm", (0, b"p/0001.ppm\np/0003.ppm\n", "")),
-            ("pictures two - --ppm", (0, PICTURE + ppm(1, 1, WHITE), "")),
-            # Those before the damage are written.
-            ("pictures - d", report(PICTURE, PICTURE)[:-3], (2, b"d/0001.png\n", cut)),
-            ("pictures high h --scale 100", (2, b"", large("100x101", "10000x10100"))),
-            ("pictures wide h --scale 200 --aspect", (2, b"", large("5000x1", "1000000x750000"))),
-        ))
+        cut = (
+            "vga-report: standard input:2: the picture of step 2 is cut off: of 37 bytes there are"
+            " 35\n"
+        )
+        large = (
+            "vga-report: a picture of {} dots would get {}, and 100,000,000 dots are the most\n"
+        ).format
+        hold(
+            self,
+            self.done,
+            (
+                ("pictures two n/n", (0, b"n/n/0001.png\nn/n/0003.png\n", "")),
+                ("pictures two s --scale 2 --aspect", (0, b"s/0001.png\ns/0003.png\n", "")),
+                # The bytes as they are.
+                ("pictures two p --ppm", (0, b"p/0001.ppm\np/0003.ppm\n", "")),
+                ("pictures two - --ppm", (0, PICTURE + ppm(1, 1, WHITE), "")),
+                # Those before the damage are written.
+                ("pictures - d", report(PICTURE, PICTURE)[:-3], (2, b"d/0001.png\n", cut)),
+                ("pictures high h --scale 100", (2, b"", large("100x101", "10000x10100"))),
+                (
+                    "pictures wide h --scale 200 --aspect",
+                    (2, b"", large("5000x1", "1000000x750000")),
+                ),
+            ),
+        )
         white = (1, 1, [b"\xff\xff\xff"])
         self.assertEqual((self.rows("n/n/0003.png"), self.rows("s/0003.png")[:2]), (white, (3, 2)))
         self.assertEqual(png_rows(self.done("pictures two - --step 3")[1]), white)
         self.assertEqual((self.folder / "p/0001.ppm").read_bytes(), PICTURE)
-        self.assertEqual((self.rows("d/0001.png")[:2], list((self.folder / "h").iterdir())), ((9, 1), []))
+        self.assertEqual(
+            (self.rows("d/0001.png")[:2], list((self.folder / "h").iterdir())), ((9, 1), [])
+        )
 
     def test_compared(self) -> None:
         first = b"step 2 differs\n  read:2: E1 (read)\n  refused:2: E1 NotDecoded (refused)\n"
-        both, agree = first + b"step 3 differs\n  read:3: 00\n  refused:3: 01\n", b"red and standard input agree: "
+        both, agree = (
+            first + b"step 3 differs\n  read:3: 00\n  refused:3: 01\n",
+            b"red and standard input agree: ",
+        )
         none = "vga-report: no pictures differ, so m.png isn't written\n"
-        hold(self, self.done, (
-            ("compare red -", report("ok", PICTURE), (0, agree + b"2 steps, 1 picture\n", "")),
-            ("compare read refused", (1, first, "")),
-            ("compare read refused --all", (1, both, "")), ("compare read refused --picture m.png", (1, first, none)),
-            ("check three -", b"1-2 ok\n3 55\n", (0, b"three is as expected: 3 steps, 0 pictures\n", "")),
-            ("check three -", b"1-2 ok\n3 54\n", (1, b"three:3: step 3: 55, not 54 (standard input:2)\n", "")),
-            ("check three -", b"1-2 ok\n", (1, b"three:3: step 3: 55, not the end (standard input)\n", "")),
-        ))
+        hold(
+            self,
+            self.done,
+            (
+                ("compare red -", report("ok", PICTURE), (0, agree + b"2 steps, 1 picture\n", "")),
+                ("compare read refused", (1, first, "")),
+                ("compare read refused --all", (1, both, "")),
+                ("compare read refused --picture m.png", (1, first, none)),
+                (
+                    "check three -",
+                    b"1-2 ok\n3 55\n",
+                    (0, b"three is as expected: 3 steps, 0 pictures\n", ""),
+                ),
+                (
+                    "check three -",
+                    b"1-2 ok\n3 54\n",
+                    (1, b"three:3: step 3: 55, not 54 (standard input:2)\n", ""),
+                ),
+                (
+                    "check three -",
+                    b"1-2 ok\n",
+                    (1, b"three:3: step 3: 55, not the end (standard input)\n", ""),
+                ),
+            ),
+        )
         self.assertFalse((self.folder / "m.png").exists())
 
     def test_a_picture_with_its_differing_dots_marked(self) -> None:
         status, text, said = self.done("compare a b --all --picture marked.png")
         self.assertEqual((status, said), (1, ""))
-        self.assertIn(b"\n  1 of 9 dots differ, the first is dot 3 of row 0: 3F0000, not 000000\n", text)
+        self.assertIn(
+            b"\n  1 of 9 dots differ, the first is dot 3 of row 0: 3F0000, not 000000\n", text
+        )
         red, mark = b"\x55\x00\x00", b"\xff\x20\x20"
         self.assertEqual(self.rows("marked.png"), (9, 1, [red * 3 + mark + BLACK * 5]))
         status, picture, said = self.done("compare a b --picture - --scale 2")
-        self.assertEqual((status, png_rows(picture)[:2], said.partition("\n")[0]), (1, (18, 2), "step 1 differs"))
+        self.assertEqual(
+            (status, png_rows(picture)[:2], said.partition("\n")[0]), (1, (18, 2), "step 1 differs")
+        )
 
 
 class Streams(Folder):
-    """Standard streams that are closed, or full, or the file that is read; and names of any bytes."""
+    """Standard streams that are closed, or full, or the file that is read; and names of any
+    bytes."""
 
     def test_the_writer_of_standard_input_is_not_cut_off(self) -> None:
         data = report(PICTURE, *("ok" for _ in range(50000)))
@@ -125,26 +204,45 @@ class Streams(Folder):
         status, output, said = run("compare", folder + b"/r", folder + b"/r")
         self.assertEqual((status, said), (0, b""))
         self.assertIn(folder + b"/r agree", output.replace(b"\n", b" "))
-        hold_undone(self, run("text", folder + b"/none"), rb"\\udcff\\udcfe /none: No such file or directory\n")
+        hold_undone(
+            self,
+            run("text", folder + b"/none"),
+            rb"\\udcff\\udcfe /none: No such file or directory\n",
+        )
 
     def test_each_is_told_or_not_wanted(self) -> None:
         path, long = self.report("r", "ok"), self.report("long", *("ok" for _ in range(50000)))
         told = "vga-report: standard {}put: {}\n".format
         shell = partial(ended, "sh", "-c")
-        hold(self, lambda word, streams: shell(f'"$@" {streams}', "sh", sys.executable, PROGRAM, "text", word), (
-            (path, ">&-", (2, "", told("out", "it is closed"))),
-            ("-", "<&-", (2, "", told("in", "it is closed"))), (path, "<&-", (0, "1 ok\n", "")),
-            # Nothing is said on standard output in the place of a closed error.
-            (self.folder / "none", "2>&-", (2, "", "")),
-            (long, ">/dev/full", (2, "", told("out", "No space left on device"))),
-            (path, f">>{path}", (2, "", told("out", f"it is read as {path}, so it isn't written"))),
-            ("-", f"<{path} >>{path}", (2, "", told("out", "it is read as standard input, so it isn't written"))),
-        ))
+        hold(
+            self,
+            lambda word, streams: shell(
+                f'"$@" {streams}', "sh", sys.executable, PROGRAM, "text", word
+            ),
+            (
+                (path, ">&-", (2, "", told("out", "it is closed"))),
+                ("-", "<&-", (2, "", told("in", "it is closed"))),
+                (path, "<&-", (0, "1 ok\n", "")),
+                # Nothing is said on standard output in the place of a closed error.
+                (self.folder / "none", "2>&-", (2, "", "")),
+                (long, ">/dev/full", (2, "", told("out", "No space left on device"))),
+                (
+                    path,
+                    f">>{path}",
+                    (2, "", told("out", f"it is read as {path}, so it isn't written")),
+                ),
+                (
+                    "-",
+                    f"<{path} >>{path}",
+                    (2, "", told("out", "it is read as standard input, so it isn't written")),
+                ),
+            ),
+        )
         self.assertEqual(Path(path).read_bytes(), b"1 ok\n")
 
 
-# Cases of a suite: scripts with the reports that are expected of them, and lines of the list; the command's words;
-# and what is told.
+# Cases of a suite: scripts with the reports that are expected of them, and lines of the list; the
+# command's words; and what is told.
 NOTHING_ASKED = "all that it asks is a picture, a dump, a refusal or a fault of the script"
 ENDED = "the command ended with status 3, and said\n             first\n             no such part?"
 REFUSING = (
@@ -153,96 +251,257 @@ REFUSING = (
 )
 SUITES: list[tuple[tuple[tuple[str, ...], ...], str, list[str]]] = [
     # A skipped step, and damage behind a difference, hide none.
-    ((("frame\nget A0000\n", "1 ragged\n2 55\n"),), "", ["c/0: step 2: FF, not 55 (`get A0000`, c/0.vga:2)\n"]),
-    ((("get A0000\ncut\n", "1 55\n2 ok\n"),), "", ["c/0: step 1: FF, not 55 (`get A0000`, c/0.vga:1)\n"]),
+    (
+        (("frame\nget A0000\n", "1 ragged\n2 55\n"),),
+        "",
+        ["c/0: step 2: FF, not 55 (`get A0000`, c/0.vga:2)\n"],
+    ),
+    (
+        (("get A0000\ncut\n", "1 55\n2 ok\n"),),
+        "",
+        ["c/0: step 1: FF, not 55 (`get A0000`, c/0.vga:1)\n"],
+    ),
     # A bus may refuse nothing.
     (REFUSING, "", ["\n2 cases: 2 differ\n"]),
-    (REFUSING, "--no-refusals", [
-        "c/0: 1 of 2 steps are skipped, the others agree\n",
-        "c/1: step 2: FF, not 55 (`get A0000`, c/1.vga:2)\n",
-    ]),
+    (
+        REFUSING,
+        "--no-refusals",
+        [
+            "c/0: 1 of 2 steps are skipped, the others agree\n",
+            "c/1: step 2: FF, not 55 (`get A0000`, c/1.vga:2)\n",
+        ],
+    ),
     # A machine is compared up to a refusal.
-    ((("get A0000\nget A0000\nget A0000\n", "1 FF\n2 E1 NotDecoded\n3 55\n"),
-      ("get A0000\nget A0000\n", "1 55\n2 E1 NotDecoded\n"),
-      ("crash\n", "F7 BadLine(1)\n"), ("crash\nget A0000\n", "1 E1 NotDecoded\n2 55\n")), "--machine", [
-        "c/0: 2 of 3 steps are skipped, the others agree\n",
-        "c/1: step 1: FF, not 55 (`get A0000`, c/1.vga:1)\n",
-        f"c/2: {NOTHING_ASKED}\n", f"c/3: {NOTHING_ASKED}\n", "\n4 cases: 3 skipped, 1 differ\n",
-    ]),
+    (
+        (
+            ("get A0000\nget A0000\nget A0000\n", "1 FF\n2 E1 NotDecoded\n3 55\n"),
+            ("get A0000\nget A0000\n", "1 55\n2 E1 NotDecoded\n"),
+            ("crash\n", "F7 BadLine(1)\n"),
+            ("crash\nget A0000\n", "1 E1 NotDecoded\n2 55\n"),
+        ),
+        "--machine",
+        [
+            "c/0: 2 of 3 steps are skipped, the others agree\n",
+            "c/1: step 1: FF, not 55 (`get A0000`, c/1.vga:1)\n",
+            f"c/2: {NOTHING_ASKED}\n",
+            f"c/3: {NOTHING_ASKED}\n",
+            "\n4 cases: 3 skipped, 1 differ\n",
+        ],
+    ),
     # A fault is the report.
-    ((("fault\n", "F7 BadLine(2)\n"), ("fault\n", "F7 BadLine(1)\n"), ("fault\n", "1 ok\n")), "", [
-        "  agrees   c/0\n", "c/1: the run: F7 BadLine(2), not F7 BadLine(1)\n",
-        "c/2: step 1: F7 BadLine(2) (fault), not ok (`fault`, c/2.vga:1)\n",
-        "\n3 cases: 1 agree, 2 differ\n",
-    ]),
+    (
+        (("fault\n", "F7 BadLine(2)\n"), ("fault\n", "F7 BadLine(1)\n"), ("fault\n", "1 ok\n")),
+        "",
+        [
+            "  agrees   c/0\n",
+            "c/1: the run: F7 BadLine(2), not F7 BadLine(1)\n",
+            "c/2: step 1: F7 BadLine(2) (fault), not ok (`fault`, c/2.vga:1)\n",
+            "\n3 cases: 1 agree, 2 differ\n",
+        ],
+    ),
     # A command may fail.
-    ((("crash\n", "1 FF\n"), ("get 0\ncrash\n", "1 FF\n"), ("cut\n", "1 FF\n"), ("get 0\ncrash\n", "1 5\n")),
-     "--timeout 40", [
-        f"  failed   c/0\n           c/0: {ENDED}\n", f"  failed   c/1\n           c/1: {ENDED}\n",
-        "  failed   c/2\n           c/2: its report:1: the report ends within a line\n", "  differs  c/3\n           c/3: step 1: FF ",
-    ]),
-    ((("wait\n", "1 FF\n"),), "--timeout 1", ["  failed   c/0\n           c/0: the command took too long\n"]),
+    (
+        (
+            ("crash\n", "1 FF\n"),
+            ("get 0\ncrash\n", "1 FF\n"),
+            ("cut\n", "1 FF\n"),
+            ("get 0\ncrash\n", "1 5\n"),
+        ),
+        "--timeout 40",
+        [
+            f"  failed   c/0\n           c/0: {ENDED}\n",
+            f"  failed   c/1\n           c/1: {ENDED}\n",
+            "  failed   c/2\n           c/2: its report:1: the report ends within a line\n",
+            "  differs  c/3\n           c/3: step 1: FF ",
+        ],
+    ),
+    (
+        (("wait\n", "1 FF\n"),),
+        "--timeout 1",
+        ["  failed   c/0\n           c/0: the command took too long\n"],
+    ),
     # A step of a front is named where it stands.
-    ((("\nget 1\n", "1 FF\n2 55\n", "front front\nc/0"), ("get 1\n", "1 55\n2 FF\n")), "", [
-        "c/0: step 2: FF, not 55 (`get 1`, c/0.vga:2)\n", "c/1: step 1: FF, not 55 (`get 0`, front:2)\n",
-    ]),
+    (
+        (("\nget 1\n", "1 FF\n2 55\n", "front front\nc/0"), ("get 1\n", "1 55\n2 FF\n")),
+        "",
+        [
+            "c/0: step 2: FF, not 55 (`get 1`, c/0.vga:2)\n",
+            "c/1: step 1: FF, not 55 (`get 0`, front:2)\n",
+        ],
+    ),
     # Bytes want a command of their own, and one that stops where a case does.
-    ((("69 6E 20 33 43 43 ; in 3CC\n", "1 02\n", "bytes c/0"),), "", [
-        "c/0: the script is bytes, and --bytes has no command\n", "\n1 case: 1 skipped\n",
-    ]),
-    ((("66 72 61 6D 65 0A 66 0A ; frame, f", "1 ragged\n", "bytes c/0 until 1"),), f"--bytes '{ADAPTER}'", [
-        "c/0: the command of --bytes has no {until}\n",
-    ]),
-    ((("66 72 61 6D 65 0A 66 0A ; frame, f", "1 ragged\n", "bytes c/0 until 1"),
-      ("69 6E 20 33 43 43 ; in 3CC\n", "1 02\n", "bytes c/1"), ("get 0\n", "1 55\n")),
-     f"--bytes '{ADAPTER} {{fonts}} {{until}}'", [
-        "c/0: 1 of 1 steps are skipped, the others agree\n", "  agrees   in 3CC\n",
-    ]),
+    (
+        (("69 6E 20 33 43 43 ; in 3CC\n", "1 02\n", "bytes c/0"),),
+        "",
+        [
+            "c/0: the script is bytes, and --bytes has no command\n",
+            "\n1 case: 1 skipped\n",
+        ],
+    ),
+    (
+        (("66 72 61 6D 65 0A 66 0A ; frame, f", "1 ragged\n", "bytes c/0 until 1"),),
+        f"--bytes '{ADAPTER}'",
+        [
+            "c/0: the command of --bytes has no {until}\n",
+        ],
+    ),
+    (
+        (
+            ("66 72 61 6D 65 0A 66 0A ; frame, f", "1 ragged\n", "bytes c/0 until 1"),
+            ("69 6E 20 33 43 43 ; in 3CC\n", "1 02\n", "bytes c/1"),
+            ("get 0\n", "1 55\n"),
+        ),
+        f"--bytes '{ADAPTER} {{fonts}} {{until}}'",
+        [
+            "c/0: 1 of 1 steps are skipped, the others agree\n",
+            "  agrees   in 3CC\n",
+        ],
+    ),
     # What can't stop a run gets a script that ends with the dumps.
-    ((("get 0\nget 0\nget 0\n", "1 FF\n2 FF\n3 regs\n4 beam\n5 latches\n6 bda\n", "c/0 until 2"),
-      ("get 0\n", "1 55\n")), "", ["  agrees   c/0\n"]),
+    (
+        (
+            (
+                "get 0\nget 0\nget 0\n",
+                "1 FF\n2 FF\n3 regs\n4 beam\n5 latches\n6 bda\n",
+                "c/0 until 2",
+            ),
+            ("get 0\n", "1 55\n"),
+        ),
+        "",
+        ["  agrees   c/0\n"],
+    ),
 ]
 # Lists of cases with their files, the words of `scripts`, and what is written: files, or a reason.
-DUMPS, EDGES = "show regs\nshow beam\nshow latches\nshow bda\n", "; Comment\n\nout 3C2 01 ; more\n\t\r\n  frame\nframe"
-BLOCK, BIG, LISTED = "version 2 ; a block\nrepeat 2\nget A0000\nend\n", "\0" * 16_777_217, "{folder}/list:2: "
+DUMPS, EDGES = (
+    "show regs\nshow beam\nshow latches\nshow bda\n",
+    "; Comment\n\nout 3C2 01 ; more\n\t\r\n  frame\nframe",
+)
+BLOCK, BIG, LISTED = (
+    "version 2 ; a block\nrepeat 2\nget A0000\nend\n",
+    "\0" * 16_777_217,
+    "{folder}/list:2: ",
+)
 HANDED: list[tuple[str, dict[str, str], str, dict[str, str] | str]] = [
-    ("# Heading\n\nfonts two.fnt\nfront f\na/one until 2\nfront none\nwrong a/one\nwrong a/one until 2\nbytes b/two\n",
-     {"f": "out 3C2 01\n", "a/one.vga": "frame\nframe\n", "a/one.txt": "1 ok\n", "b/two.txt": "F2 BadMagic\n",
-      "b/two.hex": "; x\n56 47\t4a*3\n00*2 ; 11\n"}, "",
-     {"a/one.vga": f"out 3C2 01\nframe\n{DUMPS}", "b/two.bin": "VGJJJ\0\0", "fonts/two.fnt": "12",
-      "list.txt": "a/one.vga fonts/two.fnt\nb/two.bin fonts/two.fnt\n"}),
+    (
+        (
+            "# Heading\n\nfonts two.fnt\nfront f\na/one until 2\nfront none\nwrong a/one\nwrong"
+            " a/one until 2\nbytes b/two\n"
+        ),
+        {
+            "f": "out 3C2 01\n",
+            "a/one.vga": "frame\nframe\n",
+            "a/one.txt": "1 ok\n",
+            "b/two.txt": "F2 BadMagic\n",
+            "b/two.hex": "; x\n56 47\t4a*3\n00*2 ; 11\n",
+        },
+        "",
+        {
+            "a/one.vga": f"out 3C2 01\nframe\n{DUMPS}",
+            "b/two.bin": "VGJJJ\0\0",
+            "fonts/two.fnt": "12",
+            "list.txt": "a/one.vga fonts/two.fnt\nb/two.bin fonts/two.fnt\n",
+        },
+    ),
     # Fonts of one name in two folders.
-    ("fonts two.fnt\none\nfonts x/two.fnt\ntwo\n", {"one.vga": "", "two.vga": "", "x/two.fnt": "3"}, "",
-     {"one.vga": "", "two.vga": "", "fonts/two.fnt": "12", "fonts/1-two.fnt": "3",
-      "list.txt": "one.vga fonts/two.fnt\ntwo.vga fonts/1-two.fnt\n"}),
-    *((line, {"one.txt": "1 ok\n", **files}, "", {"one.vga": made, "list.txt": "one.vga -\n"}) for line, files, made in (
-        ("one\n", {"one.vga": "; \u00e9\nframe\n"}, "; \u00e9\nframe\n"),
-        # A script with a mistake stays whole.
-        ("one until 0\n", {"one.vga": "fram\n", "one.txt": "F7 BadLine(1)\n" + 999 * "x"}, "fram\n"),
-        # A run that is stopped shows the state, and a front counts among its steps.
-        *((f"one until {steps}\n", {"one.vga": EDGES}, front + DUMPS) for steps, front in (
-            (0, "; Comment\n\n"), (1, "; Comment\n\nout 3C2 01 ; more\n\t\r\n"), (2, EDGES[:-5]),
-            (3, EDGES + "\n"), (9, EDGES + "\n"),
-        )),
-        ("front f\none until 2\n", {"f": "frame\n", "one.vga": "in 3CC\nin 3CD\n"}, f"frame\nin 3CC\n{DUMPS}"),
-    )),
-    # A machine gets what stands before a refusal. A block of which each step is taken is its to repeat.
-    ("one\ntwo\nthree\nfour\n", {
-        "one.vga": "get A0000\nout 3C2 01\ncrash\n", "one.txt": "1 FF\n2 ok\n3 E1 NotDecoded\n",
-        "two.vga": BLOCK + "crash\n", "two.txt": "1 FF\n2 FF\n3 E4 BadFunction\n",
-        "three.vga": "frame\n", "three.txt": "1 ragged\n", "four.vga": BLOCK, "four.txt": "1 FF\n2 FF\n"}, "--machine",
-     {"one.vga": "get A0000\nout 3C2 01\n", "two.vga": "get A0000\nget A0000\n", "four.vga": BLOCK,
-      "list.txt": "one.vga -\ntwo.vga -\nfour.vga -\n"}),
+    (
+        "fonts two.fnt\none\nfonts x/two.fnt\ntwo\n",
+        {"one.vga": "", "two.vga": "", "x/two.fnt": "3"},
+        "",
+        {
+            "one.vga": "",
+            "two.vga": "",
+            "fonts/two.fnt": "12",
+            "fonts/1-two.fnt": "3",
+            "list.txt": "one.vga fonts/two.fnt\ntwo.vga fonts/1-two.fnt\n",
+        },
+    ),
+    *(
+        (line, {"one.txt": "1 ok\n", **files}, "", {"one.vga": made, "list.txt": "one.vga -\n"})
+        for line, files, made in (
+            ("one\n", {"one.vga": "; \u00e9\nframe\n"}, "; \u00e9\nframe\n"),
+            # A script with a mistake stays whole.
+            (
+                "one until 0\n",
+                {"one.vga": "fram\n", "one.txt": "F7 BadLine(1)\n" + 999 * "x"},
+                "fram\n",
+            ),
+            # A run that is stopped shows the state, and a front counts among its steps.
+            *(
+                (f"one until {steps}\n", {"one.vga": EDGES}, front + DUMPS)
+                for steps, front in (
+                    (0, "; Comment\n\n"),
+                    (1, "; Comment\n\nout 3C2 01 ; more\n\t\r\n"),
+                    (2, EDGES[:-5]),
+                    (3, EDGES + "\n"),
+                    (9, EDGES + "\n"),
+                )
+            ),
+            (
+                "front f\none until 2\n",
+                {"f": "frame\n", "one.vga": "in 3CC\nin 3CD\n"},
+                f"frame\nin 3CC\n{DUMPS}",
+            ),
+        )
+    ),
+    # A machine gets what stands before a refusal. A block of which each step is taken is its to
+    # repeat.
+    (
+        "one\ntwo\nthree\nfour\n",
+        {
+            "one.vga": "get A0000\nout 3C2 01\ncrash\n",
+            "one.txt": "1 FF\n2 ok\n3 E1 NotDecoded\n",
+            "two.vga": BLOCK + "crash\n",
+            "two.txt": "1 FF\n2 FF\n3 E4 BadFunction\n",
+            "three.vga": "frame\n",
+            "three.txt": "1 ragged\n",
+            "four.vga": BLOCK,
+            "four.txt": "1 FF\n2 FF\n",
+        },
+        "--machine",
+        {
+            "one.vga": "get A0000\nout 3C2 01\n",
+            "two.vga": "get A0000\nget A0000\n",
+            "four.vga": BLOCK,
+            "list.txt": "one.vga -\ntwo.vga -\nfour.vga -\n",
+        },
+    ),
     # What can't be meant.
-    *((f"fonts zero.fnt\n{line}\n", {}, "", f"{LISTED}no case: '{line}'")
-      for line in ("a b", "a until", "a until x", "bytes a b")),
-    *((f"fonts zero.fnt\n{name}\n", {}, "", f"{LISTED}a case outside the list's folder: '{name}'")
-      for name in ("../one", "/one", "a/../../one")),
-    *(("bytes one\n", {"one.hex": f"56\n{word}\n"}, "", "{folder}/one.hex:2: " + f"'{word}' is no byte")
-      for word in ("5", "567", "GG", "56*", "56*0", "56*x")),
-    ("one\n", {"one.vga": ""}, "--only x", "{folder}/list: no case has a name as --only and --except want it"),
-    *((line, {"one.vga": "", name: BIG}, "", f"{{folder}}/{name}: it has more than 16,777,216 bytes")
-      for line, name in (("fonts big\none\n", "big"), ("front big\none\n", "big"), ("one\n", "one.vga"))),
+    *(
+        (f"fonts zero.fnt\n{line}\n", {}, "", f"{LISTED}no case: '{line}'")
+        for line in ("a b", "a until", "a until x", "bytes a b")
+    ),
+    *(
+        (f"fonts zero.fnt\n{name}\n", {}, "", f"{LISTED}a case outside the list's folder: '{name}'")
+        for name in ("../one", "/one", "a/../../one")
+    ),
+    *(
+        (
+            "bytes one\n",
+            {"one.hex": f"56\n{word}\n"},
+            "",
+            "{folder}/one.hex:2: " + f"'{word}' is no byte",
+        )
+        for word in ("5", "567", "GG", "56*", "56*0", "56*x")
+    ),
+    (
+        "one\n",
+        {"one.vga": ""},
+        "--only x",
+        "{folder}/list: no case has a name as --only and --except want it",
+    ),
+    *(
+        (
+            line,
+            {"one.vga": "", name: BIG},
+            "",
+            f"{{folder}}/{name}: it has more than 16,777,216 bytes",
+        )
+        for line, name in (
+            ("fonts big\none\n", "big"),
+            ("front big\none\n", "big"),
+            ("one\n", "one.vga"),
+        )
+    ),
 ]
 
 
@@ -253,12 +512,15 @@ class Suite(Folder):
         self.lines = ["fonts two.fnt"]
 
     def case(self, name: str, script: str, expected: str, line: str = "") -> None:
-        """Puts a case into the suite: a script as text, or where its line says so as the digits of bytes."""
+        """Puts a case into the suite: a script as text, or where its line says so as the digits of
+        bytes."""
         self.write(name + (".hex" if line.startswith("bytes ") else ".vga"), script)
         self.write(name + ".txt", expected)
         self.lines.append(line or name)
 
-    def run_suite(self, *words: str | Path, command: str = ADAPTER + " {fonts}") -> tuple[int, str, str]:
+    def run_suite(
+        self, *words: str | Path, command: str = ADAPTER + " {fonts}"
+    ) -> tuple[int, str, str]:
         path = self.write("list.txt", "\n".join(self.lines) + "\n")
         status, output, message = run("suite", command, "--list", path, *words)
         return status, output.decode(), message
@@ -291,14 +553,35 @@ class Suite(Folder):
         # A case is a line, with its rule.
         (line,) = [line for line in output.splitlines() if '"name": "a/one"' in line]
         self.assertEqual((status, json.loads(line.rstrip("]},") + "}")["rule"]), (1, "Memory."))
-        self.assertEqual(json.loads(output), {
-            "command": ADAPTER + " {fonts}", "cases": {"agrees": 0, "skipped": 0, "differs": 1, "failed": 0},
-            "rules": [{"rule": "Memory.", "folder": "a", "answer": "differs", "cases": [{
-                "name": "a/one", "rule": "Memory.", "answer": "differs", "steps": 5, "skipped": 1, "answers": 3,
-                "differing": 2, "step": 2, "answered": "FF", "expected": "55",
-                "reason": "step 2: FF, not 55 (`get A0000`, a/one.vga:3)",
-            }]}],
-        })
+        self.assertEqual(
+            json.loads(output),
+            {
+                "command": ADAPTER + " {fonts}",
+                "cases": {"agrees": 0, "skipped": 0, "differs": 1, "failed": 0},
+                "rules": [
+                    {
+                        "rule": "Memory.",
+                        "folder": "a",
+                        "answer": "differs",
+                        "cases": [
+                            {
+                                "name": "a/one",
+                                "rule": "Memory.",
+                                "answer": "differs",
+                                "steps": 5,
+                                "skipped": 1,
+                                "answers": 3,
+                                "differing": 2,
+                                "step": 2,
+                                "answered": "FF",
+                                "expected": "55",
+                                "reason": "step 2: FF, not 55 (`get A0000`, a/one.vga:3)",
+                            }
+                        ],
+                    }
+                ],
+            },
+        )
 
     def test_what_is_told_of_cases(self) -> None:
         self.write("front", "; A front.\nget 0\n")
@@ -322,9 +605,13 @@ class Suite(Folder):
                 for name, text in {"list": listed, **files}.items():
                     self.write(name, text)
                 folder = self.folder / str(number)
-                status, output, said = run("scripts", folder, "--list", self.folder / "list", *words.split())
+                status, output, said = run(
+                    "scripts", folder, "--list", self.folder / "list", *words.split()
+                )
                 if isinstance(wanted, str):
-                    self.assertEqual((status, said), (2, f"vga-report: {wanted.format(folder=self.folder)}\n"))
+                    self.assertEqual(
+                        (status, said), (2, f"vga-report: {wanted.format(folder=self.folder)}\n")
+                    )
                     continue
                 paths = [path for path in folder.rglob("*") if path.is_file()]
                 made = {str(path.relative_to(folder)): path.read_bytes().decode() for path in paths}
@@ -334,8 +621,11 @@ class Suite(Folder):
 
     def test_the_rule_is_the_first_line_of_the_first_comment(self) -> None:
         for text, rule in (
-            ("; The rule.\n; More.\nframe\n", "The rule."), ("frame ; Behind.\n", "Behind."), ("frame\n", "a"),
-            (";\n;  Zw\u00f6lf. \n", "Zw\u00f6lf."), ("; \x1b[2Jbad\n", "?[2Jbad"),
+            ("; The rule.\n; More.\nframe\n", "The rule."),
+            ("frame ; Behind.\n", "Behind."),
+            ("frame\n", "a"),
+            (";\n;  Zw\u00f6lf. \n", "Zw\u00f6lf."),
+            ("; \x1b[2Jbad\n", "?[2Jbad"),
         ):
             self.lines = []
             self.case("a", text, "1 ok\n")
@@ -344,17 +634,35 @@ class Suite(Folder):
     def test_reports_that_lie_ready(self) -> None:
         self.case("a/one", "get A0000\n", "1 55\n")
         self.write("a/one.report", "1 55\n")
-        program = f"{shlex.quote(sys.executable)} -c 'print(open(\"{self.folder}/{{name}}.report\").read(), end=\"\")'"
+        program = (
+            f"{shlex.quote(sys.executable)} -c"
+            f' \'print(open("{self.folder}/{{name}}.report").read(), end="")\''
+        )
         self.assertEqual(self.run_suite(command=program)[0], 0)
 
     def test_commands_that_can_not_be_meant(self) -> None:
         self.case("a/one", "frame\n", "1 ragged\n")
         empty = (2, "", "vga-report: the command is empty\n")
-        hold(self, lambda command: self.run_suite(command=command), [
-            ("true", (2, "", "vga-report: the command 'true' has neither {script} nor {name}\n")), ("", empty), (" ", empty),
-            ("'{script}", (2, "", "vga-report: the command ''{script}': No closing quotation\n")),
-            ("/none/there {script}", (2, "", "vga-report: /none/there: No such file or directory\n")),
-        ])
+        hold(
+            self,
+            lambda command: self.run_suite(command=command),
+            [
+                (
+                    "true",
+                    (2, "", "vga-report: the command 'true' has neither {script} nor {name}\n"),
+                ),
+                ("", empty),
+                (" ", empty),
+                (
+                    "'{script}",
+                    (2, "", "vga-report: the command ''{script}': No closing quotation\n"),
+                ),
+                (
+                    "/none/there {script}",
+                    (2, "", "vga-report: /none/there: No such file or directory\n"),
+                ),
+            ],
+        )
         self.lines = ["a/one"]
         message = "vga-report: no line `fonts FILE` stands before a/one in the list\n"
         self.assertEqual(self.run_suite(), (2, "", message))
@@ -363,7 +671,10 @@ class Suite(Folder):
 
     def test_all_that_a_harness_says_is_shown(self) -> None:
         self.case("a/one", "frame\n", "1 ok\n")
-        program = f"{shlex.quote(sys.executable)} -c 'import sys; [print(at, file=sys.stderr) for at in range(50)]; sys.exit(3)' {{script}}"
+        program = (
+            f"{shlex.quote(sys.executable)} -c 'import sys; [print(at, file=sys.stderr) for at in"
+            " range(50)]; sys.exit(3)' {script}"
+        )
         shown = [line.strip() for line in self.run_suite(command=program)[1].splitlines()[3:-1]]
         self.assertEqual(shown, [*map(str, range(10)), ".. 30 lines ..", *map(str, range(40, 50))])
 
@@ -372,37 +683,73 @@ class Suite(Folder):
         self.case("a/two", "frame\n", f"1 picture 37 9x1 {hashlib.md5(PICTURE).hexdigest()}\n")
         self.case("a/three", "frame\n", "1 ok\n")
         self.case("a/four", "frame\n", "1 picture 37 9x1\n3F0000*4 000000*5\n2 ok\n")
-        harness = self.write("harness.py", f"import sys; sys.stdout.buffer.write({report(PICTURE)!r}); print('said', file=sys.stderr)")
+        harness = self.write(
+            "harness.py",
+            (
+                f"import sys; sys.stdout.buffer.write({report(PICTURE)!r}); print('said',"
+                " file=sys.stderr)"
+            ),
+        )
         kept = self.folder / "kept"
         command = f"{shlex.quote(sys.executable)} {harness} {{script}}"
         self.assertEqual(self.run_suite("--keep", kept, command=command)[0], 1)
-        self.assertEqual(sorted(str(file.relative_to(kept)) for file in kept.rglob("*.*")), [
-            # Of a picture that is as expected nothing differs.
-            "a/four-0001-expected.png", "a/four-0001.png", "a/four.report", "a/four.said", "a/four.vga",
-            "a/one-0001-differing.png", "a/one-0001-expected.png", "a/one-0001.png", "a/one.report", "a/one.said",
-            "a/one.vga", "a/three-0001.png", "a/three.report", "a/three.said", "a/three.vga",
-        ])
+        self.assertEqual(
+            sorted(str(file.relative_to(kept)) for file in kept.rglob("*.*")),
+            [
+                # Of a picture that is as expected nothing differs.
+                "a/four-0001-expected.png",
+                "a/four-0001.png",
+                "a/four.report",
+                "a/four.said",
+                "a/four.vga",
+                "a/one-0001-differing.png",
+                "a/one-0001-expected.png",
+                "a/one-0001.png",
+                "a/one.report",
+                "a/one.said",
+                "a/one.vga",
+                "a/three-0001.png",
+                "a/three.report",
+                "a/three.said",
+                "a/three.vga",
+            ],
+        )
         self.assertEqual((kept / "a/one.report").read_bytes(), report(PICTURE))
-        self.assertEqual(png_rows((kept / "a/one-0001-expected.png").read_bytes()), (9, 1, [b"\xff\0\0" * 9]))
+        self.assertEqual(
+            png_rows((kept / "a/one-0001-expected.png").read_bytes()), (9, 1, [b"\xff\0\0" * 9])
+        )
         self.assertEqual(self.run_suite("--keep", kept, command=command)[0], 2)
         # Messages have a limit.
         more = self.folder / "more"
-        self.run_suite("--only", "a/one", "--timeout", "1", "--keep", more, command="sh -c 'yes >&2' {script}")
+        self.run_suite(
+            "--only", "a/one", "--timeout", "1", "--keep", more, command="sh -c 'yes >&2' {script}"
+        )
         self.assertEqual((more / "a/one.said").stat().st_size, 1 << 20)
 
     def test_expected_pictures_without_a_program(self) -> None:
-        self.case("a/one", "frame\nframe\n", f"1 picture 37 9x1\n3F0000*9\n2 picture 37 9x1 {hashlib.md5(PICTURE).hexdigest()}\n")
+        self.case(
+            "a/one",
+            "frame\nframe\n",
+            f"1 picture 37 9x1\n3F0000*9\n2 picture 37 9x1 {hashlib.md5(PICTURE).hexdigest()}\n",
+        )
         path, folder = self.write("list.txt", "\n".join(self.lines) + "\n"), self.folder / "p"
         written = (0, f"{folder}/a/one-0001.png\n".encode(), "")
         self.assertEqual(run("suite", "pictures", folder, "--list", path), written)
-        self.assertEqual(png_rows((folder / "a/one-0001.png").read_bytes()), (9, 1, [b"\xff\0\0" * 9]))
+        self.assertEqual(
+            png_rows((folder / "a/one-0001.png").read_bytes()), (9, 1, [b"\xff\0\0" * 9])
+        )
         message = "vga-report: the command is one word of the shell: 'x {script}'\n"
         self.assertEqual(run("suite", "x", "{script}", "--list", path), (2, b"", message))
 
     def test_several_fronts_of_names_and_some_that_are_left_out(self) -> None:
         for name in ("a/one", "a/two", "b/one", "c/one"):
             self.case(name, "get A0000\n", "1 FF\n")
-        hold(self, lambda words: self.run_suite(*words.split())[1].splitlines()[-1].partition(":")[0], (
-            ("--only a/ --only c/", "3 cases"), ("--except a/", "2 cases"),
-            ("--only a/ --except a/t --except b/", "1 case"),
-        ))
+        hold(
+            self,
+            lambda words: self.run_suite(*words.split())[1].splitlines()[-1].partition(":")[0],
+            (
+                ("--only a/ --only c/", "3 cases"),
+                ("--except a/", "2 cases"),
+                ("--only a/ --except a/t --except b/", "1 case"),
+            ),
+        )

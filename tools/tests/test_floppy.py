@@ -1,4 +1,5 @@
-"""Floppies: scripts that are read whole, the table and its interpreter, images, records, reports, and runs."""
+"""Floppies: scripts that are read whole, the table and its interpreter, images, records, reports,
+and runs."""
 
 from __future__ import annotations
 
@@ -83,20 +84,33 @@ class Interpreting(unittest.TestCase):
         steps = table_for({"ab": script_of(SCRIPT, "script")})[16:].partition(reset_steps())[2]
         self.assertEqual(
             steps.hex(" "),
-            "0f 03 02 61 62 02 c4 03 02 0f 03 cc 03 05 00 a0 00 00 5a 08 ff af 0f 00 0d 03 00 04 ce 03 0a 01 00 0e 0b da 03 00 "
-            "09 00 03 02 01 00 00 00 00 00 00 00 00 00 09 17 10 fe 00 02 00 77 00 04 06 00 00 00 "
-            "09 02 13 0f 00 03 00 01 01 02 00 00 03 00 41 42 43 0a 01 00 0a 01 00 07 00 a0 00 00 00",
+            (
+                "0f 03 02 61 62 02 c4 03 02 0f 03 cc 03 05 00 a0 00 00 5a 08 ff af 0f 00 0d 03 00"
+                " 04 ce 03 0a 01 00 0e 0b da 03 00 09 00 03 02 01 00 00 00 00 00 00 00 00 00 09 17"
+                " 10 fe 00 02 00 77 00 04 06 00 00 00 09 02 13 0f 00 03 00 01 01 02 00 00 03 00 41"
+                " 42 43 0a 01 00 0a 01 00 07 00 a0 00 00 00"
+            ),
         )
 
     def test_nothing_but_the_adapter_is_touched(self) -> None:
-        harmful = b"out 3BF 1\nout 3BC 1\noutw 3BB 1\noutw 3C2 1\noutw 3DF 1\nin 3BC\nout 3F2 0\nout CF9 6\noutw FFFF 1\n" \
-            b"putw 9FFFF 1\nputw BFFFF 1\nput C0000 1\nput 7C00 1\nget FFFFFFFF\nint ax=1017 bx=1 cx=100\nint ax=1017 cx=FFFF\n"
+        harmful = (
+            b"out 3BF 1\nout 3BC 1\noutw 3BB 1\noutw 3C2 1\noutw 3DF 1\nin 3BC\nout 3F2 0\nout CF9"
+            b" 6\noutw FFFF 1\nputw 9FFFF 1\nputw BFFFF 1\nput C0000 1\nput 7C00 1\nget"
+            b" FFFFFFFF\nint ax=1017 bx=1 cx=100\nint ax=1017 cx=FFFF\n"
+        )
         self.assertEqual(cycles(harmful), [])
-        self.assertEqual(cycles(b"out 3B0 1\nout 3BB 1\nout 3C0 1\nout 3DF 1\nput BFFFF 1\nget A0000\n")[-1], ("get", 0xA0000))
+        self.assertEqual(
+            cycles(b"out 3B0 1\nout 3BB 1\nout 3C0 1\nout 3DF 1\nput BFFFF 1\nget A0000\n")[-1],
+            ("get", 0xA0000),
+        )
 
     def test_before_the_first_step_the_adapter_is_as_at_power_on(self) -> None:
         opcodes = {"out": OUT, "in": IN, "put": PUT, "get": GET}
-        for script, last in ((b"frame\n", 0x00), (b"int ax=3\n", 0x03), (b"version 2\nrepeat 2\nint ax=3\nend\n", 0x03)):
+        for script, last in (
+            (b"frame\n", 0x00),
+            (b"int ax=3\n", 0x03),
+            (b"version 2\nrepeat 2\nint ax=3\nend\n", 0x03),
+        ):
             found, wanted, state = machine(script).cycles, State(), State()
             self.assertEqual(found[0], ("int", 3, 0, 0, 0, 0, b""))
             # Two registers are left otherwise; and before, all have another value.
@@ -104,15 +118,19 @@ class Interpreting(unittest.TestCase):
             state.memory.words[:], state.dac.components[:] = [0x12345678] * 0x10000, [0x15] * 768
             state.misc = state.dac.mask = state.memory.latches = state.is_data = 0x54
             banks = [part for part in vars(state).values() if isinstance(part, Bank)]
-            for bank, index in ((bank, index) for bank in banks for index in range(len(bank.registers))):
+            for bank, index in (
+                (bank, index) for bank in banks for index in range(len(bank.registers))
+            ):
                 bank.index = index
                 bank.write(0x55)
-            for kind, *numbers in found[1:found.index(("begin",))]:
+            for kind, *numbers in found[1 : found.index(("begin",))]:
                 state.take(Step(opcodes[kind], *numbers))  # type: ignore[index, arg-type]
             for name, part in vars(wanted).items():
                 # What differs isn't shown: the planes are long.
                 left = vars(state)[name]
-                self.assertTrue(getattr(left, "__dict__", left) == getattr(part, "__dict__", part), name)
+                self.assertTrue(
+                    getattr(left, "__dict__", left) == getattr(part, "__dict__", part), name
+                )
 
     @unittest.skipUnless(shutil.which("nasm"), "nasm isn't installed")
     def test_the_bytes_kept_are_those_of_the_source(self) -> None:
@@ -122,22 +140,38 @@ class Interpreting(unittest.TestCase):
     def test_the_layout_is_that_of_the_source(self) -> None:
         source = CODE.with_suffix(".asm").read_text("ascii")
         for name, value in (
-            ("MARK_SECTOR", images.MARK_AT // 512), ("ANSWER_SECTOR", images.ANSWERS_AT // 512), ("WAIT_FOR_KEY", 0),
-            ("LEAVE_EMULATOR", 1), ("STAND_STILL", 2), ("INTERPRETER_SIZE", 2048), ("HEADER_SIZE", 16),
+            ("MARK_SECTOR", images.MARK_AT // 512),
+            ("ANSWER_SECTOR", images.ANSWERS_AT // 512),
+            ("WAIT_FOR_KEY", 0),
+            ("LEAVE_EMULATOR", 1),
+            ("STAND_STILL", 2),
+            ("INTERPRETER_SIZE", 2048),
+            ("HEADER_SIZE", 16),
             ("PARTITIONS", images.PARTITIONS_AT),
         ):
             self.assertRegex(source, rf"(?m)^{name} +equ {value}\b")
         self.assertEqual(len(CODE.read_bytes()), images.CODE_SIZE)
 
     def test_a_disk_has_a_table_of_partitions(self) -> None:
-        floppy, disk = (image_for({"": script_of(SCRIPT, "script")}, "script", is_disk=is_disk) for is_disk in (False, True))
+        floppy, disk = (
+            image_for({"": script_of(SCRIPT, "script")}, "script", is_disk=is_disk)
+            for is_disk in (False, True)
+        )
         # A floppy tells its form, and a disk none; the code before and behind it is the same.
         self.assertEqual((floppy[11:13], disk[11:62]), (b"\0\2", bytes(51)))
-        self.assertEqual((disk[:11], disk[62:440], disk[512:]), (floppy[:11], floppy[62:440], floppy[512:]))
-        # The signature; a partition from sector 1, that of head 0 and number 2, to sector 2879; and three empty ones.
+        self.assertEqual(
+            (disk[:11], disk[62:440], disk[512:]), (floppy[:11], floppy[62:440], floppy[512:])
+        )
+        # The signature; a partition from sector 1, that of head 0 and number 2, to sector 2879; and
+        # three empty ones.
         one = bytes.fromhex("56474146 0000  80 000200 DA 2D2D00 01000000 3F0B0000")
-        self.assertEqual((floppy[440:512], disk[440:512]), (bytes(70) + b"\x55\xAA", one + bytes(48) + b"\x55\xAA"))
-        self.assertEqual(b"".join(report_lines(read_image(Machine(disk).image, "disk"), "disk")), REPORT)
+        self.assertEqual(
+            (floppy[440:512], disk[440:512]),
+            (bytes(70) + b"\x55\xaa", one + bytes(48) + b"\x55\xaa"),
+        )
+        self.assertEqual(
+            b"".join(report_lines(read_image(Machine(disk).image, "disk"), "disk")), REPORT
+        )
 
 
 class Images(Folder):
@@ -148,39 +182,68 @@ class Images(Folder):
         return self.folder / "scripts"
 
     def test_each_has_a_report(self) -> None:
-        folder, image = self.folder_of_scripts(one="in 3CC\nframe\n", two="int ax=300\n", three="put A0000 1\n"), self.folder / "image"
+        folder, image = (
+            self.folder_of_scripts(
+                one="in 3CC\nframe\n", two="int ax=300\n", three="put A0000 1\n"
+            ),
+            self.folder / "image",
+        )
         self.assertEqual(run("make", folder, image), (0, b"", ""))
         booted = Machine(image.read_bytes())
         image.write_bytes(booted.image)
-        outputs = [cycle[2] for cycle, after in zip(booted.cycles, booted.cycles[1:]) if after == ("begin",)]
+        outputs = [
+            cycle[2]
+            for cycle, after in zip(booted.cycles, booted.cycles[1:])
+            if after == ("begin",)
+        ]
         self.assertEqual(outputs, [0, 3, 0])
         reports, texts = self.folder / "reports", {
-            "one.report": b"1 CC\n2 skipped\n", "two.report": b"1 ax=0300 bx=0000 cx=1234 dx=1234\n", "three.report": b"1 ok\n",
+            "one.report": b"1 CC\n2 skipped\n",
+            "two.report": b"1 ax=0300 bx=0000 cx=1234 dx=1234\n",
+            "three.report": b"1 ok\n",
         }
         self.assertEqual(run("read", image, reports), (0, b"", ""))
         self.assertEqual({path.name: path.read_bytes() for path in reports.iterdir()}, texts)
-        message = f"vga-floppy: {image}: it has the answers of 3 scripts: name a folder for their reports\n"
+        message = (
+            f"vga-floppy: {image}: it has the answers of 3 scripts: name a folder for their"
+            " reports\n"
+        )
         self.assertEqual(run("read", image), (2, b"", message))
-        message = f"vga-floppy: {reports}: the folder has files, and none of them is to be lost: give one that is new or empty\n"
+        message = (
+            f"vga-floppy: {reports}: the folder has files, and none of them is to be lost: give one"
+            " that is new or empty\n"
+        )
         self.assertEqual(run("read", image, reports), (2, b"", message))
         record = self.write("record", b"".join(booted.record[:-2]))
-        self.assertEqual(run("read", "--serial", "--part", record, self.folder / "part"), (0, b"", ""))
+        self.assertEqual(
+            run("read", "--serial", "--part", record, self.folder / "part"), (0, b"", "")
+        )
         left = [(path.name, path.read_bytes()) for path in (self.folder / "part").iterdir()]
         self.assertEqual(left, [("one.report", b"")])
         # One alone has a folder too.
         image.write_bytes(Machine(image_for({"one": script_of(b"in 3CC\n", "one")}, "one")).image)
-        self.assertEqual((run("read", image), run("read", image, self.folder / "alone")), ((0, b"1 CC\n", ""), (0, b"", "")))
+        self.assertEqual(
+            (run("read", image), run("read", image, self.folder / "alone")),
+            ((0, b"1 CC\n", ""), (0, b"", "")),
+        )
         self.assertEqual((self.folder / "alone" / "one.report").read_bytes(), b"1 CC\n")
 
     def test_a_bad_one_is_named(self) -> None:
         folder = self.folder_of_scripts(one="frame\n", two="move\n")
-        hold_undone(self, run("make", folder, self.folder / "image"), rf"^vga-floppy: {folder}/two.vga:1: F7 BadLine\(1\): ")
+        hold_undone(
+            self,
+            run("make", folder, self.folder / "image"),
+            rf"^vga-floppy: {folder}/two.vga:1: F7 BadLine\(1\): ",
+        )
 
     def test_a_name_of_a_file_elsewhere(self) -> None:
         for name in ("../one", str(self.folder / "one")):
             image = image_for({name: Script(), "two": Script()}, "it")
             path = self.write("image", Machine(image).image)
-            said = f"vga-floppy: {path}: a script has the name of a file outside of a folder: '{name[:40]}'\n"
+            said = (
+                f"vga-floppy: {path}: a script has the name of a file outside of a folder:"
+                f" '{name[:40]}'\n"
+            )
             self.assertEqual(run("read", path, self.folder / "reports"), (2, b"", said))
             self.assertEqual(list((self.folder / "reports").iterdir()), [])
 
@@ -189,18 +252,37 @@ class Images(Folder):
         self.assertEqual(run("make", script, image), (0, b"", ""))
         for options, byte in ((), 0x00), (("--disk",), 0x80):
             made = run("make", *options, "-", "-", given=SCRIPT)[1]
-            self.assertEqual((made[64], made[446], made == image.read_bytes()), (0, byte, not options))
+            self.assertEqual(
+                (made[64], made[446], made == image.read_bytes()), (0, byte, not options)
+            )
         image.write_bytes(Machine(image.read_bytes()).image)
         self.assertEqual(run("read", image), (0, REPORT, ""))
-        self.assertEqual(run("read", "-", self.folder / "report", given=image.read_bytes()), (0, b"", ""))
+        self.assertEqual(
+            run("read", "-", self.folder / "report", given=image.read_bytes()), (0, b"", "")
+        )
         self.assertEqual((self.folder / "report").read_bytes(), REPORT)
 
     def test_a_script_that_is_too_long_for_a_machine(self) -> None:
         for script, message in (
-            (b"out 3C4 02\n" * 110_000, f"standard input: its steps take {440_004 + len(reset_steps()):,} bytes, and a machine has room for 423,920\n"),
-            (b"version 2\nrepeat 65535\nin 3CC\nend\nin 3CC\n", "standard input: its answers take 65,536 bytes, and a machine has room for 65,535\n"),
+            (
+                b"out 3C4 02\n" * 110_000,
+                (
+                    f"standard input: its steps take {440_004 + len(reset_steps()):,} bytes, and a"
+                    " machine has room for 423,920\n"
+                ),
+            ),
+            (
+                b"version 2\nrepeat 65535\nin 3CC\nend\nin 3CC\n",
+                (
+                    "standard input: its answers take 65,536 bytes, and a machine has room for"
+                    " 65,535\n"
+                ),
+            ),
         ):
-            self.assertEqual(run("make", "-", self.folder / "image", given=script), (2, b"", "vga-floppy: " + message))
+            self.assertEqual(
+                run("make", "-", self.folder / "image", given=script),
+                (2, b"", "vga-floppy: " + message),
+            )
         self.assertEqual(list(self.folder.iterdir()), [])
 
 
@@ -213,44 +295,89 @@ class Left(Folder):
         return refused(lambda: list(report_lines(read(data, "it"), "it")))
 
     def changed(self, at: int, byte: int) -> bytes:
-        return self.image[:at] + bytes([byte]) + self.image[at + 1:]
+        return self.image[:at] + bytes([byte]) + self.image[at + 1 :]
 
     def test_images_that_are_damaged(self) -> None:
-        hold(self, partial(self.trouble, read_image), (
-            (b"", "it: it is no image of vga-floppy"),
-            (bytes(len(self.image)), "it: it is no image of vga-floppy"),
-            (self.image[:ANSWERS], "it: its answers are damaged"),
-            (self.image[:ANSWERS - 1], f"it: the image is cut off: it has {ANSWERS - 1:,} bytes of 1,474,560"),
-            (image_for({"": script_of(SCRIPT, "script")}, "script"), "it: no run has ended: the machine has not written its mark"),
-            (self.changed(MARK, 0), "it: no run has ended: the machine has not written its mark"),
-            (self.changed(MARK + 12, self.image[MARK + 12] ^ 1), "it: its answers are those of another script"),
-            (self.changed(ANSWERS + 3, self.image[ANSWERS + 3] ^ 1), "it: its answers are damaged"),
-            (self.changed(MARK + 8, 39), "it: its answers are damaged"),
-            (self.changed(MARK + 9, 0x80), "it: it has 32,808 bytes of answers, and its steps have 40"),
-            (self.changed(512 * 5, 0), "it: it holds no table of steps of vga-floppy"),
-            (self.changed(512 * 5 + 4, 2), "it: its table is of version 2, and this tool reads version 1"),
-            (self.changed(512 * 5 + 20, 0x77), "it: its table of steps is damaged"),
-            (self.changed(512 * 5 + 11, 0x77), "it: its table of steps is damaged"),
-        ))
+        hold(
+            self,
+            partial(self.trouble, read_image),
+            (
+                (b"", "it: it is no image of vga-floppy"),
+                (bytes(len(self.image)), "it: it is no image of vga-floppy"),
+                (self.image[:ANSWERS], "it: its answers are damaged"),
+                (
+                    self.image[: ANSWERS - 1],
+                    f"it: the image is cut off: it has {ANSWERS - 1:,} bytes of 1,474,560",
+                ),
+                (
+                    image_for({"": script_of(SCRIPT, "script")}, "script"),
+                    "it: no run has ended: the machine has not written its mark",
+                ),
+                (
+                    self.changed(MARK, 0),
+                    "it: no run has ended: the machine has not written its mark",
+                ),
+                (
+                    self.changed(MARK + 12, self.image[MARK + 12] ^ 1),
+                    "it: its answers are those of another script",
+                ),
+                (
+                    self.changed(ANSWERS + 3, self.image[ANSWERS + 3] ^ 1),
+                    "it: its answers are damaged",
+                ),
+                (self.changed(MARK + 8, 39), "it: its answers are damaged"),
+                (
+                    self.changed(MARK + 9, 0x80),
+                    "it: it has 32,808 bytes of answers, and its steps have 40",
+                ),
+                (self.changed(512 * 5, 0), "it: it holds no table of steps of vga-floppy"),
+                (
+                    self.changed(512 * 5 + 4, 2),
+                    "it: its table is of version 2, and this tool reads version 1",
+                ),
+                (self.changed(512 * 5 + 20, 0x77), "it: its table of steps is damaged"),
+                (self.changed(512 * 5 + 11, 0x77), "it: its table of steps is damaged"),
+            ),
+        )
 
     def test_fewer_answers_than_steps(self) -> None:
         run = Run(read_image(self.image, "it").table, b"\1")
-        self.assertEqual(refused(lambda: list(report_lines(run, "it"))), "it: it has no answer for step 4")
+        self.assertEqual(
+            refused(lambda: list(report_lines(run, "it"))), "it: it has no answer for step 4"
+        )
 
     def test_records_that_are_damaged(self) -> None:
         lines = machine(SCRIPT).record
         at = next(at for at, line in enumerate(lines) if line.startswith(b"A"))
         # The first of the lines is an empty one too.
-        hold(self, lambda lines: self.trouble(read_record, b"".join(lines)), (
-            ([b"nothing\n"], "it: it holds no record of vga-floppy"),
-            ([*lines[:at], lines[at].replace(b"CC", b"CD"), *lines[at + 1:]],
-             f"it:{at + 2}: the line's sum is wrong: bytes were lost on their way"),
-            (lines[:at] + lines[at + 1:], f"it:{at + 2}: bytes from 0 on are to come, and not from 16 on"),
-            ([*lines[:at], b"A 0000\r\n", *lines[at + 1:]], f"it:{at + 2}: no line of a record: 'A 0000'"),
-            (lines[:5], "it: its table of steps is damaged"),
-            (lines[:at + 2] + lines[at + 3:], "it: the end of the record tells of other answers"),
-            ([*lines[:-1], line("E", 40, bytes(2))], "it: the end of the record tells of other answers"),
-        ))
+        hold(
+            self,
+            lambda lines: self.trouble(read_record, b"".join(lines)),
+            (
+                ([b"nothing\n"], "it: it holds no record of vga-floppy"),
+                (
+                    [*lines[:at], lines[at].replace(b"CC", b"CD"), *lines[at + 1 :]],
+                    f"it:{at + 2}: the line's sum is wrong: bytes were lost on their way",
+                ),
+                (
+                    lines[:at] + lines[at + 1 :],
+                    f"it:{at + 2}: bytes from 0 on are to come, and not from 16 on",
+                ),
+                (
+                    [*lines[:at], b"A 0000\r\n", *lines[at + 1 :]],
+                    f"it:{at + 2}: no line of a record: 'A 0000'",
+                ),
+                (lines[:5], "it: its table of steps is damaged"),
+                (
+                    lines[: at + 2] + lines[at + 3 :],
+                    "it: the end of the record tells of other answers",
+                ),
+                (
+                    [*lines[:-1], line("E", 40, bytes(2))],
+                    "it: the end of the record tells of other answers",
+                ),
+            ),
+        )
 
     def test_the_last_of_two_records_counts(self) -> None:
         record = b"".join(machine(b"in 3CC\n").record)[:-40] + b"".join(machine(SCRIPT).record)
@@ -259,7 +386,10 @@ class Left(Folder):
     def test_a_record_that_ends_too_early(self) -> None:
         # Of three lines of answers the first came.
         path = self.write("record", b"".join(machine(b"in 3CC\n" * 40).record[:-3]))
-        message = f"vga-floppy: {path}: the record ends before the run did: 16 of 40 bytes of answers came; --part gives the report so far\n"
+        message = (
+            f"vga-floppy: {path}: the record ends before the run did: 16 of 40 bytes of answers"
+            " came; --part gives the report so far\n"
+        )
         self.assertEqual(run("read", "--serial", path), (2, b"", message))
         report = b"".join(b"%d CC\n" % number for number in range(1, 17))
         self.assertEqual(run("read", "--serial", "--part", path), (0, report, ""))
@@ -270,20 +400,25 @@ class Left(Folder):
         self.assertEqual(with_all[12], b"13 ax=DEAD bx=1234 cx=1234 dx=1234 block 000102030405")
 
 
-@unittest.skipUnless(Path("/proc/self/stat").exists(), "processes are looked at as Linux shows them")
+@unittest.skipUnless(
+    Path("/proc/self/stat").exists(), "processes are looked at as Linux shows them"
+)
 class Runs(Folder):
     def setUp(self) -> None:
         super().setUp()
         self.scratch = self.temporary()
 
     def path_with(self, *lines: str) -> str:
-        """A path of programs in which dosbox does this, or what a machine with the script does; and goes on."""
+        """A path of programs in which dosbox does this, or what a machine with the script does; and
+        goes on."""
         after = self.write("after", machine(SCRIPT).image)
         text = "\n".join(["#!/bin/sh", *(lines or [f"cat {after} > script.img"]), "sleep 600"])
         program = self.program("bin/dosbox", text)
         return f"{Path(program).parent}:{os.environ['PATH']}"
 
-    def run_on(self, *words: str, path: str, script: str = SCRIPT.decode()) -> tuple[int, bytes, str]:
+    def run_on(
+        self, *words: str, path: str, script: str = SCRIPT.decode()
+    ) -> tuple[int, bytes, str]:
         with mock.patch.dict(os.environ, PATH=path, TMPDIR=self.scratch):
             return run("run", "--on", "dosbox", self.write("script.vga", script), *words)
 
@@ -292,23 +427,48 @@ class Runs(Folder):
 
     def test_a_full_disk_beneath_the_run(self) -> None:
         environment = {**os.environ, "PATH": self.path_with(), "TMPDIR": self.scratch}
-        words = ("sh", "-c", 'ulimit -f 100 && exec "$@"', "sh", sys.executable, TOOLS / "vga-floppy")
+        words = (
+            "sh",
+            "-c",
+            'ulimit -f 100 && exec "$@"',
+            "sh",
+            sys.executable,
+            TOOLS / "vga-floppy",
+        )
         done = ended(*words, "run", "--on", "dosbox", "-", input="frame\n", env=environment)
         hold_undone(self, done, r"^vga-floppy: .*/script.img: File too large\n$")
 
     def test_emulators_that_do_not_do_it(self) -> None:
-        hold(self, lambda what, *words: self.run_on(*words, path=str(self.folder) if what is None else self.path_with(what)), (
-            (r"printf 'no such\007 part\n'; exit 3",
-             (2, b"", "vga-floppy: dosbox: it ended before the script did: no such part\n")),
-            (None, (2, b"", "vga-floppy: there is no dosbox: Debian's package dosbox has it\n")),
-            ("exit", "--bios", "lgpl", (2, b"", "vga-floppy: dosbox has a video BIOS of its own\n")),
-        ))
+        hold(
+            self,
+            lambda what, *words: self.run_on(
+                *words, path=str(self.folder) if what is None else self.path_with(what)
+            ),
+            (
+                (
+                    r"printf 'no such\007 part\n'; exit 3",
+                    (2, b"", "vga-floppy: dosbox: it ended before the script did: no such part\n"),
+                ),
+                (
+                    None,
+                    (2, b"", "vga-floppy: there is no dosbox: Debian's package dosbox has it\n"),
+                ),
+                (
+                    "exit",
+                    "--bios",
+                    "lgpl",
+                    (2, b"", "vga-floppy: dosbox has a video BIOS of its own\n"),
+                ),
+            ),
+        )
 
     def test_the_limit_ends_all_that_was_started(self) -> None:
         told = self.folder / "child"
         path = self.path_with(f"sleep 600 & echo $! > {told}")
         done = self.within(lambda seconds: self.run_on("--seconds", str(seconds), path=path), told)
-        hold_undone(self, done, r"^vga-floppy: dosbox: the script has not ended within \d+ seconds\n$")
+        hold_undone(
+            self, done, r"^vga-floppy: dosbox: the script has not ended within \d+ seconds\n$"
+        )
         self.assert_ended(int(told.read_text()))
 
     def test_the_limit_leaves_out_what_an_emulator_waits(self) -> None:
@@ -321,7 +481,9 @@ class Runs(Folder):
             self.assertEqual(told, "dosbox: the script has not ended within 0.3 seconds")
             self.assertGreaterEqual(time.monotonic() - began, least)
 
-    @unittest.skipUnless(Path("/proc/self/schedstat").exists(), "the system doesn't tell how long a process waits")
+    @unittest.skipUnless(
+        Path("/proc/self/schedstat").exists(), "the system doesn't tell how long a process waits"
+    )
     def test_how_long_a_process_waits(self) -> None:
         code = "import os, time; os.sched_setaffinity(0, {min(os.sched_getaffinity(0))})\n"
         # Of three that want one processor all the time two wait, and one that sleeps doesn't.
@@ -337,7 +499,9 @@ class Runs(Folder):
             self.assertLess(running.waited(asleep), 1)
         self.assertEqual(running.waited(asleep), 0)
 
-    @unittest.skipUnless(sys.platform.startswith("linux"), "Linux alone ends a process with its parent")
+    @unittest.skipUnless(
+        sys.platform.startswith("linux"), "Linux alone ends a process with its parent"
+    )
     def test_an_emulator_ends_with_a_command_that_is_killed(self) -> None:
         told = self.folder / "child"
         path = self.path_with(f"sleep 600 & echo $! > {told}")
@@ -356,10 +520,18 @@ class Runs(Folder):
 class Pages(Folder):
     def test_cases_that_a_machine_is_asked_have_answers_of_one_and_fit_an_image(self) -> None:
         page = (TOP / "docs" / "REAL-MACHINES.md").read_text("utf-8")
-        named = set(re.findall(r"`((?:host|words|ports|crtc|attribute|dac|services|heights|graphics)/[a-z0-9-]+)`", page))
+        named = set(
+            re.findall(
+                r"`((?:host|words|ports|crtc|attribute|dac|services|heights|graphics)/[a-z0-9-]+)`",
+                page,
+            )
+        )
         self.assertGreater(len(named), 30)
         cases = [case for case in read_cases(str(SUITE)) if case.has_answers_of_machine()]
-        scripts = {case.name: script_of(case.handed(is_for_machine=True, can_stop=False), case.name) for case in cases}
+        scripts = {
+            case.name: script_of(case.handed(is_for_machine=True, can_stop=False), case.name)
+            for case in cases
+        }
         self.assertEqual(named - scripts.keys(), set())
         self.assertIn(f" {len(cases)} of them", page)
         self.assertEqual(len(image_for(scripts, "all")), images.IMAGE_SIZE)
@@ -370,30 +542,75 @@ class Pages(Folder):
         return status, page.read_text(), said
 
     def test_tables_between_the_marks(self) -> None:
-        self.patch(mock.patch.dict(MACHINES, {DOSBOX: replace(MACHINES[DOSBOX], version=lambda: "0.1")}))
-        one = {"name": "host/one", "answer": "differs", "answers": 5, "differing": 2,
-               "answered": f"ax=0001 block {'02' * 13}", "expected": "ax=0001 block 03"}
+        self.patch(
+            mock.patch.dict(MACHINES, {DOSBOX: replace(MACHINES[DOSBOX], version=lambda: "0.1")})
+        )
+        one = {
+            "name": "host/one",
+            "answer": "differs",
+            "answers": 5,
+            "differing": 2,
+            "answered": f"ax=0001 block {'02' * 13}",
+            "expected": "ax=0001 block 03",
+        }
         two = {"name": "host/two", "answer": "agrees", "answers": 2000, "differing": 0}
-        rules = [{"rule": f"The {case['name']} | rule.", "folder": "host", "cases": [case]} for case in (one, two)]
+        rules = [
+            {"rule": f"The {case['name']} | rule.", "folder": "host", "cases": [case]}
+            for case in (one, two)
+        ]
         results = {"command": "tools/vga-floppy run --on dosbox {script}", "rules": rules}
         status, page, said = self.write_page(self.write("results", json.dumps(results)))
         self.assertEqual((status, said), (0, ""))
-        self.assertEqual(page, "\n".join((
-            "Before.", FIRST_MARK, "", "Compared were dosbox 0.1.", "", "|  | dosbox |", "|---|---|", "| cases that agree | 1 |",
-            "| cases of which a part or all was skipped, and the rest agrees | 0 |", "| cases that differ | 1 |",
-            "| cases whose run failed | 0 |", "| bytes, words and registers compared | 2,005 |", "| of these as expected | 2,003 |",
-            "", "| Folder: cases that agree, are skipped, differ | dosbox |", "|---|---|", "| `host/` | 1, 0, 1 |", "",
-            "| Rule of the suite | Case | dosbox |", "|---|---|---|",
-            "| The host/one \\| rule. | `host/one` | 020202020202020202020202.., not 03 |", "", LAST_MARK, "After.", "",
-        )))
+        self.assertEqual(
+            page,
+            "\n".join(
+                (
+                    "Before.",
+                    FIRST_MARK,
+                    "",
+                    "Compared were dosbox 0.1.",
+                    "",
+                    "|  | dosbox |",
+                    "|---|---|",
+                    "| cases that agree | 1 |",
+                    "| cases of which a part or all was skipped, and the rest agrees | 0 |",
+                    "| cases that differ | 1 |",
+                    "| cases whose run failed | 0 |",
+                    "| bytes, words and registers compared | 2,005 |",
+                    "| of these as expected | 2,003 |",
+                    "",
+                    "| Folder: cases that agree, are skipped, differ | dosbox |",
+                    "|---|---|",
+                    "| `host/` | 1, 0, 1 |",
+                    "",
+                    "| Rule of the suite | Case | dosbox |",
+                    "|---|---|---|",
+                    "| The host/one \\| rule. | `host/one` | 020202020202020202020202.., not 03 |",
+                    "",
+                    LAST_MARK,
+                    "After.",
+                    "",
+                )
+            ),
+        )
 
     def test_files_that_are_wrong(self) -> None:
-        for name, text in (("none", "{"), ("list", "[]"), ("lacking", '{"command": "x", "rules": [{"cases": [{}]}]}')):
+        for name, text in (
+            ("none", "{"),
+            ("list", "[]"),
+            ("lacking", '{"command": "x", "rules": [{"cases": [{}]}]}'),
+        ):
             path = self.write(name, text)
             status, page, said = self.write_page(path)
-            self.assertEqual((status, said), (2, f"vga-floppy: {path}: it isn't what `vga-report suite --json` prints\n"))
+            self.assertEqual(
+                (status, said),
+                (2, f"vga-floppy: {path}: it isn't what `vga-report suite --json` prints\n"),
+            )
             self.assertIn("\nold\n", page)
         path = self.write("other", '{"command": "my-harness {script}", "rules": []}')
-        self.assertEqual(self.write_page(path)[2], f"vga-floppy: {path}: its command is no `vga-floppy run --on` of an emulator\n")
+        self.assertEqual(
+            self.write_page(path)[2],
+            f"vga-floppy: {path}: its command is no `vga-floppy run --on` of an emulator\n",
+        )
         page = self.write("unmarked.md", "Text.\n")
         hold_undone(self, run("table", page, path), f"^vga-floppy: {page}: it lacks the marks: ")

@@ -13,12 +13,24 @@ from vga_fuzz import command
 from vga_fuzz.feeding import Limits, Outcome, Program, Wrong, check, meant_by
 from vga_fuzz.making import Input, block, make, spelled, step
 from zaklimot.format import (
-    FORMS, HEADERS, MAGIC, MOST_COUNT, Block, Script, Step, decode, encode, encoded, parse_text, print_text,
+    FORMS,
+    HEADERS,
+    MAGIC,
+    MOST_COUNT,
+    Block,
+    Script,
+    Step,
+    decode,
+    encode,
+    encoded,
+    parse_text,
+    print_text,
 )
 
 from .tools import Folder, begin, call, hold, hold_undone
 
-# A program that takes each text as the same script, prints bytes as they are, and answers each script alike.
+# A program that takes each text as the same script, prints bytes as they are, and answers each
+# script alike.
 GOOD = """import os, signal, sys, time
 command, file = sys.argv[1:3]
 data = open(file, "rb").read()
@@ -40,15 +52,29 @@ WRONGS = {
     "sys.exit('vga: F4 BadStep')": "status 1, and it says 'vga: F4 BadStep\\n'",
     "sys.exit('vga: F2 BadMagic(4)')": "status 1, and it says 'vga: F2 BadMagic(4)\\n'",
     "sys.exit('vga: F9 WriteFault')": "F9 WriteFault, and each write was taken",
-    "print('1 55'); sys.stdout.flush(); sys.exit('vga: F3 BadVersion')": "5 bytes are written before F3 BadVersion",
-    "sys.stdout.write('1 55\\n2 o'); sys.stdout.flush(); sys.exit('vga: F10 OutOfMemory')":
-        "report:2: the report ends within a line",
+    "print('1 55'); sys.stdout.flush(); sys.exit('vga: F3 BadVersion')": (
+        "5 bytes are written before F3 BadVersion"
+    ),
+    "sys.stdout.write('1 55\\n2 o'); sys.stdout.flush(); sys.exit('vga: F10 OutOfMemory')": (
+        "report:2: the report ends within a line"
+    ),
     "print('1 55'); print('3 ok')": "report:2: step 2 is to come, and not '3 ok'",
     "print('1 55'); print('2 ok')": "step 2 is answered, and the script has none",
     "pass": "the report ends before the script",
     **{
         f"print('1 {answer}')": f"step 1, in, answers '{answer}'"
-        for answer in ("ok", "5", "5g", "0055", "zz", "E1 NotDegoded", "G3 NoMode", "E3 NoMode", "E14 NotDecoded", "ragged")
+        for answer in (
+            "ok",
+            "5",
+            "5g",
+            "0055",
+            "zz",
+            "E1 NotDegoded",
+            "G3 NoMode",
+            "E3 NoMode",
+            "E14 NotDecoded",
+            "ragged",
+        )
     },
     "print('F2 BadMagic')": "a fault stands on standard output",
     "print('1 55'); print('oh', file=sys.stderr)": "status 0, and it says 'oh\\n'",
@@ -63,7 +89,11 @@ SCRIPT, TEXT = Input(False, b"VGAS\x01\x03\xda\x03", "script"), Input(True, b"in
 class Fuzzing(Folder):
     def setUp(self) -> None:
         super().setUp()
-        self.patch(mock.patch.object(command, "TEXTS", (Path(self.write("texts/one.vga", TEXT.data)).parent,)))
+        self.patch(
+            mock.patch.object(
+                command, "TEXTS", (Path(self.write("texts/one.vga", TEXT.data)).parent,)
+            )
+        )
 
     def program_that(self, wrong: str = "") -> str:
         """A program that is good, or does something wrong when it runs a script or a text."""
@@ -89,35 +119,67 @@ class Fuzzing(Folder):
         for wrong, said in WRONGS.items():
             for given, name in ((SCRIPT, "run"), (TEXT, "go")):
                 with self.subTest(wrong, command=name):
-                    fed = self.fed(given, self.program_that(wrong), SHORT if "sleep" in wrong else LIMITS)
+                    fed = self.fed(
+                        given, self.program_that(wrong), SHORT if "sleep" in wrong else LIMITS
+                    )
                     self.assertIn(fed, (f"vga {name}: {said}", f"vga {name} {said}"))
 
     def test_commands_that_do_not_agree(self) -> None:
         bad = Input(True, b"move 1\n", "text")
-        hold(self, lambda given, wrong: self.fed(given, self.program_that(wrong)), (
-            (SCRIPT, "sys.exit('vga: F7 BadLine(1)') if command == 'run' else None",
-             "vga run answers F7 BadLine(1), and not done"),
-            (bad, "", "vga go: step 1 is answered, and the script has none"),
-            (bad, "pass", "vga go answers done, and not F7 BadLine(1)"),
-            (TEXT, "print('1 55' if command == 'go' else '1 FF')", "vga go and vga run have reports that differ"),
-            (Input(True, b"in 3C0\n", "text"), "", "vga asm: the script has other steps than the text"),
-            # A printed text may answer otherwise.
-            (SCRIPT, "print('1 54' if command == 'go' else '1 55')",
-             "vga run and vga go of what vga dis prints have reports that differ"),
-        ))
+        hold(
+            self,
+            lambda given, wrong: self.fed(given, self.program_that(wrong)),
+            (
+                (
+                    SCRIPT,
+                    "sys.exit('vga: F7 BadLine(1)') if command == 'run' else None",
+                    "vga run answers F7 BadLine(1), and not done",
+                ),
+                (bad, "", "vga go: step 1 is answered, and the script has none"),
+                (bad, "pass", "vga go answers done, and not F7 BadLine(1)"),
+                (
+                    TEXT,
+                    "print('1 55' if command == 'go' else '1 FF')",
+                    "vga go and vga run have reports that differ",
+                ),
+                (
+                    Input(True, b"in 3C0\n", "text"),
+                    "",
+                    "vga asm: the script has other steps than the text",
+                ),
+                # A printed text may answer otherwise.
+                (
+                    SCRIPT,
+                    "print('1 54' if command == 'go' else '1 55')",
+                    "vga run and vga go of what vga dis prints have reports that differ",
+                ),
+            ),
+        )
 
     def test_a_text_that_spells_another_script(self) -> None:
-        path = self.program("program", GOOD.replace("buffer.write(data)", "buffer.write(data + b'x')"))
-        self.assertEqual(self.fed(SCRIPT, path), "vga asm: what vga dis prints spells another script")
+        path = self.program(
+            "program", GOOD.replace("buffer.write(data)", "buffer.write(data + b'x')")
+        )
+        self.assertEqual(
+            self.fed(SCRIPT, path), "vga asm: what vga dis prints spells another script"
+        )
         # What can't be assembled or printed has no run either.
         for given, first, name in ((TEXT, "go", "asm"), (SCRIPT, "run", "dis")):
             ends = f"if command == '{name}': sys.exit('vga: F7 BadLine(1)')\ndata ="
             path = self.program("program", GOOD.replace("data =", ends, 1))
-            self.assertEqual(self.fed(given, path), f"vga {first} answers done, vga {name} F7 BadLine(1)")
+            self.assertEqual(
+                self.fed(given, path), f"vga {first} answers done, vga {name} F7 BadLine(1)"
+            )
 
     def test_a_report_that_fills_its_room(self) -> None:
-        full = "\n    try:\n        for n in range(1, 100000): sys.stdout.buffer.write(b'%d 55\\n' % n)\n"
-        full += "        sys.stdout.flush()\n    except OSError: os.dup2(os.open('/dev/null', os.O_WRONLY), 1);"
+        full = (
+            "\n    try:\n        for n in range(1, 100000): sys.stdout.buffer.write(b'%d 55\\n' %"
+            " n)\n"
+        )
+        full += (
+            "        sys.stdout.flush()\n    except OSError: os.dup2(os.open('/dev/null',"
+            " os.O_WRONLY), 1);"
+        )
         long = Input(False, b"VGAS\x02\x0d\xff\xff\x03\xda\x03\x0e", "script")
         path = self.program_that(full + " sys.exit('vga: F9 WriteFault')")
         self.assertEqual(self.fed(long, path), "F9 WriteFault")
@@ -151,14 +213,19 @@ class Fuzzing(Folder):
 
     def test_one_input(self) -> None:
         made, answers = Counter({TEXT.made: 1}), Counter({"done": 1})
-        figures = f"seed 1: 1 input in 2 seconds\n        1 {TEXT.made}\n        1 done\n0 with something wrong"
+        figures = (
+            f"seed 1: 1 input in 2 seconds\n        1 {TEXT.made}\n        1 done\n0 with something"
+            " wrong"
+        )
         self.assertEqual(command._figures(made, answers, 1, 2), figures)
 
     def test_inputs_are_kept_with_which_something_is_wrong(self) -> None:
         keep = self.folder / "kept"
         status, lines, _ = self.run_command(self.program_that("sys.exit(3)"), "--keep", str(keep))
         self.assertEqual((status, lines[-2]), (1, "4 with something wrong"))
-        self.assertRegex(lines[0], r"^input 1 \([a-z, ]+\): vga (run|go): status 3, and it says ''$")
+        self.assertRegex(
+            lines[0], r"^input 1 \([a-z, ]+\): vga (run|go): status 3, and it says ''$"
+        )
         self.assertEqual(sorted(file.stem for file in keep.iterdir()), ["1", "2", "3", "4"])
         before = {file: file.read_bytes() for file in keep.iterdir()}
         done = call(command.main, self.program_that("sys.exit(3)"), "--seed", "2", "--keep", keep)
@@ -166,7 +233,9 @@ class Fuzzing(Folder):
         self.assertEqual({file: file.read_bytes() for file in keep.iterdir()}, before)
 
     def test_a_user_who_ends_it_gets_the_figures(self) -> None:
-        process = begin("vga-fuzz", self.program_that("sys.exit(3)"), "--keep", self.folder / "kept", text=True)
+        process = begin(
+            "vga-fuzz", self.program_that("sys.exit(3)"), "--keep", self.folder / "kept", text=True
+        )
         assert process.stdout is not None
         self.assertTrue(process.stdout.readline().startswith("input 1 "))
         output = said = ""
@@ -177,14 +246,18 @@ class Fuzzing(Folder):
                 output, said = process.communicate(timeout=10)
                 break
         self.assertEqual((process.returncode, said), (130, ""))
-        self.assertRegex(output, r"(?s)^(?:input .*)?seed 1: [0-9,]+ inputs? in .*[0-9]+ with something wrong\n$")
+        self.assertRegex(
+            output, r"(?s)^(?:input .*)?seed 1: [0-9,]+ inputs? in .*[0-9]+ with something wrong\n$"
+        )
 
 
 class Making(unittest.TestCase):
     def test_an_input_is_made_again_from_its_seed(self) -> None:
         texts, scripts = [b"in 3DA ; status\nframe\n"], [MAGIC + b"\x01\x0b"]
         made = [make(Random(f"7:{number}"), texts, scripts) for number in range(300)]
-        self.assertEqual(made, [make(Random(f"7:{number}"), texts, scripts) for number in range(300)])
+        self.assertEqual(
+            made, [make(Random(f"7:{number}"), texts, scripts) for number in range(300)]
+        )
         self.assertEqual(len({given.made for given in made}), 8)
         self.assertGreater(len({given.data for given in made}), 250)
 
@@ -195,7 +268,10 @@ class Making(unittest.TestCase):
             self.assertEqual(parse_text(spelled(one, Random(1))).items, (one,))
         blocks = [HEADERS[2] + encoded(block(Random(number))) for number in range(300)]
         self.assertIn("F11 TooMany(5)", {meant_by(decode, data)[0] for data in blocks})
-        texts = {make(Random(f"5:{number}"), [b"frame\n"], [HEADERS[1]]).data[:9] for number in range(100)}
+        texts = {
+            make(Random(f"5:{number}"), [b"frame\n"], [HEADERS[1]]).data[:9]
+            for number in range(100)
+        }
         self.assertIn(b"version 2", texts)
 
     def test_what_a_text_and_bytes_are_to_answer(self) -> None:

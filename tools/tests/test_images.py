@@ -1,4 +1,5 @@
-"""Images and pictures: PNG and PPM, pictures that move, an image held to a picture, and the specimens of a font."""
+"""Images and pictures: PNG and PPM, pictures that move, an image held to a picture, and the
+specimens of a font."""
 
 from __future__ import annotations
 
@@ -32,10 +33,22 @@ for number, step in enumerate(steps, 1):
 """
 
 
-def png(width: int, height: int, lines: bytes, depth: int = 8, colour: int = 2, palette: bytes = b"", interlace: int = 0) -> bytes:
+def png(
+    width: int,
+    height: int,
+    lines: bytes,
+    depth: int = 8,
+    colour: int = 2,
+    palette: bytes = b"",
+    interlace: int = 0,
+) -> bytes:
     """A PNG of lines that have their filters."""
     head = struct.pack(">IIBBBBB", width, height, depth, colour, 0, 0, interlace)
-    parts = [chunk(b"IHDR", head), chunk(b"PLTE", palette) if palette else b"", chunk(b"IDAT", zlib.compress(lines))]
+    parts = [
+        chunk(b"IHDR", head),
+        chunk(b"PLTE", palette) if palette else b"",
+        chunk(b"IDAT", zlib.compress(lines)),
+    ]
     return b"\x89PNG\r\n\x1a\n" + b"".join(parts) + chunk(b"IEND", b"")
 
 
@@ -51,24 +64,45 @@ class ComparePicture(Folder):
         line, wide = b"\0" + b"\x3f\0\0" * 4 + bytes(15), b"\0" + b"\xff\0\0" * 8 + bytes(30)
         six, eight = "six bits a component\n", "eight bits a component, of which six count\n"
         larger = "the image has each dot twice, the image has each line three times"
-        smaller = "the picture has each dot of the image twice, the picture has each line of the image twice"
-        hold(self, lambda image, picture: self.compared(image, picture=picture), (
-            (PICTURE, PICTURE, (0, f"agree: 9x1, {six}")), (png(9, 1, line), PICTURE, (0, f"agree: 9x1, {six}")),
-            (png(9, 1, line.replace(b"\x3f", b"\xff")), PICTURE, (0, f"agree: 9x1, {eight}")),
-            (png(9, 1, line.replace(b"\x3f", b"\xfc")), PICTURE, (0, f"agree: 9x1, {eight}")),
-            (png(18, 3, wide * 3), PICTURE, (0, f"agree: 9x1, {larger}, {eight}")),
-            (ppm(2, 1, RED + WHITE), ppm(4, 2, (RED * 2 + WHITE * 2) * 2), (0, f"agree: 4x2, {smaller}, {six}")),
-        ))
+        smaller = (
+            "the picture has each dot of the image twice, the picture has each line of the image"
+            " twice"
+        )
+        hold(
+            self,
+            lambda image, picture: self.compared(image, picture=picture),
+            (
+                (PICTURE, PICTURE, (0, f"agree: 9x1, {six}")),
+                (png(9, 1, line), PICTURE, (0, f"agree: 9x1, {six}")),
+                (png(9, 1, line.replace(b"\x3f", b"\xff")), PICTURE, (0, f"agree: 9x1, {eight}")),
+                (png(9, 1, line.replace(b"\x3f", b"\xfc")), PICTURE, (0, f"agree: 9x1, {eight}")),
+                (png(18, 3, wide * 3), PICTURE, (0, f"agree: 9x1, {larger}, {eight}")),
+                (
+                    ppm(2, 1, RED + WHITE),
+                    ppm(4, 2, (RED * 2 + WHITE * 2) * 2),
+                    (0, f"agree: 4x2, {smaller}, {six}"),
+                ),
+            ),
+        )
 
     def test_differing(self) -> None:
-        marked, fewer = self.folder / "marked.png", png(18, 1, b"\0" + b"\xff\0\0" * 7 + b"\x80\0\0" + bytes(30))
-        sizes = "differ: they have {} and {} dots, and neither is the other with dots repeated\n".format
+        marked, fewer = self.folder / "marked.png", png(
+            18, 1, b"\0" + b"\xff\0\0" * 7 + b"\x80\0\0" + bytes(30)
+        )
+        sizes = (
+            "differ: they have {} and {} dots, and neither is the other with dots repeated\n".format
+        )
         dots = "differ: 9x1, six bits a component\n"
         dots += "  1 of 9 dots differ, the first is dot 3 of row 0: 3F0000, not 000000\n"
-        hold(self, self.compared, (
-            (ppm(10, 1, BLACK * 10), (1, sizes("9x1", "10x1"))), (fewer, (1, sizes("9x1", "18x1"))),
-            (ppm(9, 1, RED * 3 + BLACK * 6), "--picture", str(marked), (1, dots)),
-        ))
+        hold(
+            self,
+            self.compared,
+            (
+                (ppm(10, 1, BLACK * 10), (1, sizes("9x1", "10x1"))),
+                (fewer, (1, sizes("9x1", "18x1"))),
+                (ppm(9, 1, RED * 3 + BLACK * 6), "--picture", str(marked), (1, dots)),
+            ),
+        )
         self.assertTrue(marked.exists())
         # A component of six bits is not read as one of eight, though it would agree then.
         self.assertEqual(self.compared(ppm(1, 1, RED), picture=ppm(1, 1, b"\x0f\0\0"))[0], 1)
@@ -76,14 +110,23 @@ class ComparePicture(Folder):
 
 class Animations(Folder):
     def test_frames_with_their_times(self) -> None:
-        path, moving = self.report("r", "ok", PICTURE, "ok", ppm(9, 1, BLACK * 9)), self.folder / "m.png"
+        path, moving = (
+            self.report("r", "ok", PICTURE, "ok", ppm(9, 1, BLACK * 9)),
+            self.folder / "m.png",
+        )
         calls = [b"\x09" + bytes([mode]) + bytes(9) for mode in (3, 0x12)]
         # A script of bytes has the times of its text.
-        for script in (b"int ax=3\nframe\nint ax=12\nframe\n", b"VGAS\x01" + calls[0] + b"\x0b" + calls[1] + b"\x0b"):
+        for script in (
+            b"int ax=3\nframe\nint ax=12\nframe\n",
+            b"VGAS\x01" + calls[0] + b"\x0b" + calls[1] + b"\x0b",
+        ):
             done = run("pictures", path, "--apng", moving, "--script", self.write("s", script))
             self.assertEqual(done, (0, f"{moving}: 2 frames, 0.031 seconds\n".encode(), ""))
         chunks = png_chunks(moving.read_bytes())
-        self.assertEqual([kind for kind, _ in chunks], [b"IHDR", b"sBIT", b"acTL", b"fcTL", b"IDAT", b"fcTL", b"fdAT", b"IEND"])
+        self.assertEqual(
+            [kind for kind, _ in chunks],
+            [b"IHDR", b"sBIT", b"acTL", b"fcTL", b"IDAT", b"fcTL", b"fdAT", b"IEND"],
+        )
         # The dots have six bits.
         self.assertEqual(chunks[1][1], b"\6\6\6")
         times = [struct.unpack(">IIIIIHHBB", body) for kind, body in chunks if kind == b"fcTL"]
@@ -94,7 +137,13 @@ class Animations(Folder):
 
     def test_advances_pass_between_frames(self) -> None:
         path, moving = self.report("r", "ok", PICTURE, "ok", PICTURE), str(self.folder / "m.png")
-        for dots, seconds in ((0, 0.029), (404_099, 0.029), (404_100, 0.043), (4_041_000, 0.171), (99_999_999, 0.029)):
+        for dots, seconds in (
+            (0, 0.029),
+            (404_099, 0.029),
+            (404_100, 0.043),
+            (4_041_000, 0.171),
+            (99_999_999, 0.029),
+        ):
             script = self.write("s.vga", f"int ax=3\nframe\nadvance {dots}\nframe\n")
             done = run("pictures", path, "--apng", moving, "--script", script)
             self.assertEqual(done, (0, f"{moving}: 2 frames, {seconds:.3f} seconds\n".encode(), ""))
@@ -113,17 +162,39 @@ class Animations(Folder):
             self.assertAlmostEqual(registers.frame(), found[0] / found[1] if found else USUAL)
             return found
 
-        hold(self, speed, [
-            ("", None), ("out 3C2 67", None), ("int ax=83", text), ("int ax=13", wide), ("int ax=13;int ax=d", narrow),
-            ("out 3C2 63;outw 3C4 0101;outw 3D4 5F00;outw 3D4 BF06;outw 3D4 1F07", wide),
-            ("out 3C2 67;out 3D4 0;out 3D5 5F;outw 3D4 BF06;outw 3D4 1F07;outw 3D4 8E11;outw 3D4 0000", text),
-            ("int ax=3;out 3C2 6F", None),
-            # Registers 0 to 7 alone are protected.
-            ("out 3C2 67;outw 3D4 BF06;outw 3D4 1F07;outw 3D4 8E11;outw 3D4 0E11;outw 3D4 0000", (20_205, 28_322_000)),
-        ])
+        hold(
+            self,
+            speed,
+            [
+                ("", None),
+                ("out 3C2 67", None),
+                ("int ax=83", text),
+                ("int ax=13", wide),
+                ("int ax=13;int ax=d", narrow),
+                ("out 3C2 63;outw 3C4 0101;outw 3D4 5F00;outw 3D4 BF06;outw 3D4 1F07", wide),
+                (
+                    (
+                        "out 3C2 67;out 3D4 0;out 3D5 5F;outw 3D4 BF06;outw 3D4 1F07;outw 3D4"
+                        " 8E11;outw 3D4 0000"
+                    ),
+                    text,
+                ),
+                ("int ax=3;out 3C2 6F", None),
+                # Registers 0 to 7 alone are protected.
+                (
+                    (
+                        "out 3C2 67;outw 3D4 BF06;outw 3D4 1F07;outw 3D4 8E11;outw 3D4 0E11;outw"
+                        " 3D4 0000"
+                    ),
+                    (20_205, 28_322_000),
+                ),
+            ],
+        )
 
 
-def shown(picture: Picture, shape: Shape = Shape(), other: Optional[Picture] = None) -> tuple[int, int, list[bytes]]:
+def shown(
+    picture: Picture, shape: Shape = Shape(), other: Optional[Picture] = None
+) -> tuple[int, int, list[bytes]]:
     stream = io.BytesIO()
     write_png(stream, picture, shape, other)
     return png_rows(stream.getvalue())
@@ -132,54 +203,125 @@ def shown(picture: Picture, shape: Shape = Shape(), other: Optional[Picture] = N
 class Images(unittest.TestCase):
     def test_dots_that_are_repeated_stretched_and_marked(self) -> None:
         full, red, dark = b"\xff\xff\xff", b"\xff\0\0", b"\x55\0\0"
-        four, wide, high = (Picture.of_dots(*given) for given in (
-            (2, 2, RED + BLACK + BLACK + WHITE), (2, 1, BLACK * 2), (1, 2, BLACK * 2),
-        ))
+        four, wide, high = (
+            Picture.of_dots(*given)
+            for given in (
+                (2, 2, RED + BLACK + BLACK + WHITE),
+                (2, 1, BLACK * 2),
+                (1, 2, BLACK * 2),
+            )
+        )
         picture = Picture.of_dots(3, 2, WHITE + BLACK + GREY + RED + RED + RED)
         other = Picture.of_dots(3, 2, WHITE + RED + GREY + RED + RED + BLACK)
         # Stretching to the shape of a monitor loses no row and no column.
         rows = [bytes([y, 0, 0]) * 16 for y in range(9)]
         row = bytes(value for x in range(6) for value in (x, 0, 0))
-        hold(self, shown, (
-            # Six bits become eight.
-            (Picture.of_dots(4, 1, bytes(range(10)) + b"\x3f\x20"), Shape(), None,
-             (4, 1, [bytes(4 * value for value in range(10)) + b"\xff\x82"])),
-            (four, Shape(scale=3), None, (6, 6, [red * 3 + BLACK * 3] * 3 + [BLACK * 3 + full * 3] * 3)),
-            (Picture.of_dots(16, 9, b"".join(rows)), Shape(is_monitor=True), None,
-             (16, 12, [bytes([4 * y, 0, 0]) * 16 for y in (0, 0, 1, 2, 3, 3, 4, 5, 6, 6, 7, 8)])),
-            (Picture.of_dots(6, 6, row * 6), Shape(is_monitor=True), None,
-             (8, 6, [bytes(value for x in (0, 0, 1, 2, 3, 3, 4, 5) for value in (4 * x, 0, 0))] * 6)),
-            # Dots that differ are marked, also those that one picture lacks, and others are darkened.
-            (picture, Shape(), other, (3, 2, [b"\x55\x55\x55" + MARK + b"\x1c\x1c\x1c", dark + dark + MARK])),
-            *((*pair, (2, 2, [BLACK + MARK, MARK * 2])) for pair in ((wide, Shape(), high), (high, Shape(), wide))),
-        ))
+        hold(
+            self,
+            shown,
+            (
+                # Six bits become eight.
+                (
+                    Picture.of_dots(4, 1, bytes(range(10)) + b"\x3f\x20"),
+                    Shape(),
+                    None,
+                    (4, 1, [bytes(4 * value for value in range(10)) + b"\xff\x82"]),
+                ),
+                (
+                    four,
+                    Shape(scale=3),
+                    None,
+                    (6, 6, [red * 3 + BLACK * 3] * 3 + [BLACK * 3 + full * 3] * 3),
+                ),
+                (
+                    Picture.of_dots(16, 9, b"".join(rows)),
+                    Shape(is_monitor=True),
+                    None,
+                    (
+                        16,
+                        12,
+                        [bytes([4 * y, 0, 0]) * 16 for y in (0, 0, 1, 2, 3, 3, 4, 5, 6, 6, 7, 8)],
+                    ),
+                ),
+                (
+                    Picture.of_dots(6, 6, row * 6),
+                    Shape(is_monitor=True),
+                    None,
+                    (
+                        8,
+                        6,
+                        [bytes(value for x in (0, 0, 1, 2, 3, 3, 4, 5) for value in (4 * x, 0, 0))]
+                        * 6,
+                    ),
+                ),
+                # Dots that differ are marked, also those that one picture lacks, and others are
+                # darkened.
+                (
+                    picture,
+                    Shape(),
+                    other,
+                    (3, 2, [b"\x55\x55\x55" + MARK + b"\x1c\x1c\x1c", dark + dark + MARK]),
+                ),
+                *(
+                    (*pair, (2, 2, [BLACK + MARK, MARK * 2]))
+                    for pair in ((wide, Shape(), high), (high, Shape(), wide))
+                ),
+            ),
+        )
 
     def test_the_shape_of_a_monitor(self) -> None:
-        hold(self, lambda scale, *size: Shape(scale, True).size(*size), [
-            (1, 720, 400, (720, 540)), (1, 640, 480, (640, 480)), (1, 640, 350, (640, 480)), (1, 320, 400, (533, 400)),
-            (1, 320, 200, (320, 240)), (1, 9, 1, (9, 7)), (3, 720, 400, (2160, 1620)),
-        ])
+        hold(
+            self,
+            lambda scale, *size: Shape(scale, True).size(*size),
+            [
+                (1, 720, 400, (720, 540)),
+                (1, 640, 480, (640, 480)),
+                (1, 640, 350, (640, 480)),
+                (1, 320, 400, (533, 400)),
+                (1, 320, 200, (320, 240)),
+                (1, 9, 1, (9, 7)),
+                (3, 720, 400, (2160, 1620)),
+            ],
+        )
 
     def test_forms_of_png(self) -> None:
         red, white = b"\xff\x00\x00", b"\xff\xff\xff"
-        hold(self, lambda data: list(image_of(data, "i").rows), [
-            (png(2, 1, b"\0" + red + white), [red + white]),
-            (png(2, 1, b"\0" + red + b"\x01" + white + b"\x80", colour=6), [red + white]),
-            (png(2, 1, b"\0\xff\0\xff\0\0\0" + b"\xff\0" * 3, depth=16), [b"\xff\xff\0" + white]),
-            (png(2, 1, b"\0\x80\xff", colour=0), [b"\x80" * 3 + white]),
-            (png(2, 1, b"\0\x80\0\xff\0", colour=4), [b"\x80" * 3 + white]),
-            (png(3, 1, b"\0\xa0", depth=1, colour=0), [white + b"\0\0\0" + white]),
-            (png(3, 1, b"\0\x10\x10", depth=4, colour=3, palette=red + white), [white + red + white]),
-            (png(2, 2, b"\x01" + red + b"\0\xff\xff" + b"\x02" + b"\0" * 6), [red + white] * 2),
-            (png(2, 2, b"\0" + red + white + b"\x03" + b"\x80\x00\x00\x00\x80\x80"), [red + white] * 2),
-            (png(2, 2, b"\0" + red + white + b"\x04" + b"\0" * 3 + b"\0" * 3), [red + white] * 2),
-            (b"P6 # a\n1\t1\n255\n\x01\x02\x03", [b"\x01\x02\x03"]),
-        ])
+        hold(
+            self,
+            lambda data: list(image_of(data, "i").rows),
+            [
+                (png(2, 1, b"\0" + red + white), [red + white]),
+                (png(2, 1, b"\0" + red + b"\x01" + white + b"\x80", colour=6), [red + white]),
+                (
+                    png(2, 1, b"\0\xff\0\xff\0\0\0" + b"\xff\0" * 3, depth=16),
+                    [b"\xff\xff\0" + white],
+                ),
+                (png(2, 1, b"\0\x80\xff", colour=0), [b"\x80" * 3 + white]),
+                (png(2, 1, b"\0\x80\0\xff\0", colour=4), [b"\x80" * 3 + white]),
+                (png(3, 1, b"\0\xa0", depth=1, colour=0), [white + b"\0\0\0" + white]),
+                (
+                    png(3, 1, b"\0\x10\x10", depth=4, colour=3, palette=red + white),
+                    [white + red + white],
+                ),
+                (png(2, 2, b"\x01" + red + b"\0\xff\xff" + b"\x02" + b"\0" * 6), [red + white] * 2),
+                (
+                    png(2, 2, b"\0" + red + white + b"\x03" + b"\x80\x00\x00\x00\x80\x80"),
+                    [red + white] * 2,
+                ),
+                (
+                    png(2, 2, b"\0" + red + white + b"\x04" + b"\0" * 3 + b"\0" * 3),
+                    [red + white] * 2,
+                ),
+                (b"P6 # a\n1\t1\n255\n\x01\x02\x03", [b"\x01\x02\x03"]),
+            ],
+        )
 
 
 @unittest.skipIf(os.name != "posix", "a script is a program on POSIX")
 class Specimens(Folder):
-    def run_preview(self, wrong: str = "False", more: str = "", frame: str = 'step == "frame"') -> tuple[int, str, str]:
+    def run_preview(
+        self, wrong: str = "False", more: str = "", frame: str = 'step == "frame"'
+    ) -> tuple[int, str, str]:
         """How it ends with a program of which something is wrong, more, or otherwise a frame."""
         program = self.program("program", GOOD.format(wrong=wrong, frame=frame) + more)
         out = self.folder / "out"
@@ -195,7 +337,10 @@ class Specimens(Folder):
         self.run_preview()
         old = (self.folder / "out" / "specimen-8.png").stat()
         said = "preview.py: specimen-8.png is not written: step 2: 2 E4 BadFunction\n"
-        self.assertEqual(self.run_preview("step == 'int ax=1112'"), (1, "specimen-14.png\nspecimen-16.png\n", said))
+        self.assertEqual(
+            self.run_preview("step == 'int ax=1112'"),
+            (1, "specimen-14.png\nspecimen-16.png\n", said),
+        )
         self.assertEqual((self.folder / "out" / "specimen-8.png").stat(), old)
 
     def test_a_program_that_fails_or_gives_no_picture(self) -> None:
@@ -219,7 +364,9 @@ class Specimens(Folder):
         shutil.copytree(PREVIEW.parent, fonts)
         art = (fonts / "glyphs-8.txt").read_bytes()
         told = f"make_font.py: {fonts}/glyphs-8.txt: it is read, so it isn't written\n"
-        self.assertEqual(ended(sys.executable, fonts / "make_font.py", fonts / "glyphs-8.txt"), (1, "", told))
+        self.assertEqual(
+            ended(sys.executable, fonts / "make_font.py", fonts / "glyphs-8.txt"), (1, "", told)
+        )
         self.assertEqual((fonts / "glyphs-8.txt").read_bytes(), art)
 
     def test_the_font_is_made_again(self) -> None:

@@ -1,4 +1,5 @@
-"""Recordings of the page's own machine: the same bytes each time, its keys, its files, and what can't be recorded."""
+"""Recordings of the page's own machine: the same bytes each time, its keys, its files, and what
+can't be recorded."""
 
 from __future__ import annotations
 
@@ -18,12 +19,21 @@ from vga_report.debugging import PAGE
 from vga_trace import inpage
 from vga_trace.recording import Deed
 
-from .tools import PROGRAM as TESTED, TOP, Folder, begin, hold_undone, is_running, run_tool, want_program
+from .tools import (
+    PROGRAM as TESTED,
+    TOP,
+    Folder,
+    begin,
+    hold_undone,
+    is_running,
+    run_tool,
+    want_program,
+)
 
 run = partial(run_tool, "vga-trace")
 HAS_NODE = shutil.which("node") is not None
-# Mode 13; four bytes of it; a read of memory, of a port, and of input status 1; a cycle that is refused; then letters of
-# keys go into the memory that is shown, again and again.
+# Mode 13; four bytes of it; a read of memory, of a port, and of input status 1; a cycle that is
+# refused; then letters of keys go into the memory that is shown, again and again.
 PROGRAM = bytes.fromhex(
     "B81300CD10 B800A08EC0 31FFB80201ABAB 26A00000 BACC03EC BADA03ECECEC"
     "BAB403EC 30E4CD16 26A20000 EBF6"
@@ -41,7 +51,9 @@ class Recorded(Folder):
 
     def record(self, file: str, *options: str, into: str = "into") -> tuple[int, list[str], str]:
         """Exit status, lines and what is said of a recording in a folder."""
-        status, output, said = run("record", self.folder / into, "--in-page", file, "--vga", TESTED, *options)
+        status, output, said = run(
+            "record", self.folder / into, "--in-page", file, "--vga", TESTED, *options
+        )
         return status, output.decode().splitlines(), said
 
     def trace(self, into: str = "into") -> str:
@@ -54,23 +66,51 @@ class Recorded(Folder):
         self.assertEqual(done[0], done[1])
         status, lines, said = done[0]
         self.assertEqual((status, said), (0, ""))
-        self.assertEqual(lines[1], f"{lines[0].split(' cycles, ')[1].split(' steps')[0]} steps, 1 refused, 5 reads answered, 0 differ")
+        self.assertEqual(
+            lines[1],
+            (
+                f"{lines[0].split(' cycles, ')[1].split(' steps')[0]} steps, 1 refused, 5 reads"
+                " answered, 0 differ"
+            ),
+        )
         size = "640x400, eight bits a component, of which six count"
         told = [line.partition(": ")[2] for line in lines if line.startswith("screen")]
         self.assertEqual(told, [f"equal, {size}"] * 2)
-        names = ["picture-1.png", "picture-2.png", "report.txt", "screen-1.ppm", "screen-2.ppm", "script.bin", "trace.gz"]
+        names = [
+            "picture-1.png",
+            "picture-2.png",
+            "report.txt",
+            "screen-1.ppm",
+            "screen-2.ppm",
+            "script.bin",
+            "trace.gz",
+        ]
         for folder in (self.folder / "one", self.folder / "two"):
             self.assertEqual(sorted(path.name for path in folder.iterdir()), names)
         for name in names:
-            self.assertEqual(*((self.folder / into / name).read_bytes() for into in ("one", "two")), name)
+            self.assertEqual(
+                *((self.folder / into / name).read_bytes() for into in ("one", "two")), name
+            )
         trace = self.trace("one")
-        self.assertEqual(re.findall(r"^\d+\+\d+ w m A0000 (..) 1$", trace, re.M), ["61", "42", "20"])
+        self.assertEqual(
+            re.findall(r"^\d+\+\d+ w m A0000 (..) 1$", trace, re.M), ["61", "42", "20"]
+        )
         self.assertEqual(len(re.findall(r"^\d+\+\d+ frame$", trace, re.M)), 2)
         # The command reads its own trace, and the beam is where it was.
         script, report = self.folder / "script", self.folder / "one" / "report.txt"
-        self.assertEqual(run("convert", self.folder / "one" / "trace.gz", script, "--time", "--frames", "screens")[0], 0)
+        self.assertEqual(
+            run(
+                "convert", self.folder / "one" / "trace.gz", script, "--time", "--frames", "screens"
+            )[0],
+            0,
+        )
         self.assertEqual(script.read_bytes(), (self.folder / "one" / "script.bin").read_bytes())
-        self.assertEqual(run("check", self.folder / "one" / "trace.gz", report, "--time", "--frames", "screens")[0], 1)
+        self.assertEqual(
+            run("check", self.folder / "one" / "trace.gz", report, "--time", "--frames", "screens")[
+                0
+            ],
+            1,
+        )
         first = re.search(r"(?<=r p 3DA )..", trace)
         assert first is not None
         moved = f"{trace[:first.start()]}{int(first[0], 16) ^ 1:02X}{trace[first.end():]}"
@@ -84,13 +124,24 @@ class Recorded(Folder):
         other[places[-1] + 1] ^= 1
         program = self.program("vga", f"#!/bin/sh\ncat {self.write('other', bytes(other))}\n")
         status, lines, _ = self.record(file, *options, "--vga", program, into="three")
-        self.assertEqual((status, [line for line in lines if " differ " in line and "port" in line]), (1, [
-            line for line in lines if line.startswith("  differ          1 in port 3DA (first at step")]))
+        self.assertEqual(
+            (status, [line for line in lines if " differ " in line and "port" in line]),
+            (
+                1,
+                [
+                    line
+                    for line in lines
+                    if line.startswith("  differ          1 in port 3DA (first at step")
+                ],
+            ),
+        )
         self.assertEqual(sum("1 in port 3DA" in line for line in lines), 1)
 
     def test_what_ends_by_itself_has_a_screen_too(self) -> None:
         status, lines, said = self.record(self.write("a.com", ENDING))
-        self.assertEqual((status, said), (0, "vga-trace: the machine stopped after 0.0 seconds: it ended\n"))
+        self.assertEqual(
+            (status, said), (0, "vga-trace: the machine stopped after 0.0 seconds: it ended\n")
+        )
         self.assertRegex(lines[-1], r"^screen 1 at 0\.0 s, after cycle 2: equal, 720x400")
         # The frame that was under way is drawn to its end.
         dots = sum(map(int, re.findall(r"^\d+\+(\d+) ", self.trace(), re.M)))
@@ -103,18 +154,30 @@ class Recorded(Folder):
             archive.writestr("a.com", PROGRAM)
             archive.writestr("b.com", ENDING)
         both = str(self.folder / "two.zip")
-        told = rf"^vga-trace: {re.escape(both)}: --start names what runs of two\.zip: a\.com, b\.com\n$"
+        told = (
+            rf"^vga-trace: {re.escape(both)}: --start names what runs of two\.zip: a\.com,"
+            r" b\.com\n$"
+        )
         hold_undone(self, run("record", self.folder / "into", "--in-page", both), told)
-        hold_undone(self, run("record", self.folder / "into", "--in-page", both, "--start", "c.com"), told)
+        hold_undone(
+            self, run("record", self.folder / "into", "--in-page", both, "--start", "c.com"), told
+        )
         self.assertEqual(self.record(both, "--start", "b.com")[0], 0)
         self.assertIn(" int 0E41 ", self.trace())
         packed = "q5dhkGBgYGBgYGBgYPh/gQEA"
-        run_text = {"is": "zaklimot run", "version": 1, "name": "x.com", "software": {"program": packed},
-                    "inputs": [[1000, "key", 0x1E, 0x1E61]]}
+        run_text = {
+            "is": "zaklimot run",
+            "version": 1,
+            "name": "x.com",
+            "software": {"program": packed},
+            "inputs": [[1000, "key", 0x1E, 0x1E61]],
+        }
         saved = self.write("x.run.json", json.dumps(run_text, separators=(",", ":")))
         for options in (("--key", "a"), ("--speed", "286")):
             done = run("record", self.folder / "into2", "--in-page", saved, *options)
-            hold_undone(self, done, r"x\.run\.json is a saved run, which has its keys, speed and ROM")
+            hold_undone(
+                self, done, r"x\.run\.json is a saved run, which has its keys, speed and ROM"
+            )
 
     def test_speeds(self) -> None:
         file, cycles = self.write("a.com", bytes.fromhex("B800B88EC0 26A20000 FEC0 EBF8")), []
@@ -131,19 +194,39 @@ class Recorded(Folder):
     def test_wrong_files(self) -> None:
         for name, data, told in (
             ("a.txt", b"hello", r"a\.txt is no program for DOS, and no disk that starts"),
-            ("a.img", bytes(1474560), r"a\.img does not start: a boot sector ends with 55 AA, and this one does not"),
-            ("a.com", bytes(70000), r"a\.com has 70,000 bytes, and a program without a head may have 65,280"),
-            ("a.rom", b"\x55\xAA\x01" + bytes(509), r"a\.rom is no program for DOS"),
+            (
+                "a.img",
+                bytes(1474560),
+                r"a\.img does not start: a boot sector ends with 55 AA, and this one does not",
+            ),
+            (
+                "a.com",
+                bytes(70000),
+                r"a\.com has 70,000 bytes, and a program without a head may have 65,280",
+            ),
+            ("a.rom", b"\x55\xaa\x01" + bytes(509), r"a\.rom is no program for DOS"),
             ("a.zip", b"PK\3\4" + bytes(100), r"This ZIP is damaged, or cut off"),
             ("a.run.json", b'{"is":"zaklimot run",', r"This run is damaged: it is no JSON"),
             ("empty", b"", r"empty is no program for DOS"),
         ):
             with self.subTest(name):
-                hold_undone(self, run("record", self.folder / "into", "--in-page", self.write(name, data)), told)
+                hold_undone(
+                    self,
+                    run("record", self.folder / "into", "--in-page", self.write(name, data)),
+                    told,
+                )
                 self.assertFalse((self.folder / "into").exists())
-        hold_undone(self, run("record", self.folder / "into", "--in-page", self.folder / "none"), "No such file")
+        hold_undone(
+            self,
+            run("record", self.folder / "into", "--in-page", self.folder / "none"),
+            "No such file",
+        )
         with mock.patch.object(inpage, "MOST_FILE", 4):
-            hold_undone(self, run("record", self.folder / "into", "--in-page", self.write("a.com", PROGRAM)), "more than 4 bytes")
+            hold_undone(
+                self,
+                run("record", self.folder / "into", "--in-page", self.write("a.com", PROGRAM)),
+                "more than 4 bytes",
+            )
 
     def test_words_that_do_not_go_together(self) -> None:
         file, into = self.write("a.com", PROGRAM), self.folder / "into"
@@ -169,7 +252,9 @@ class Recorded(Folder):
             process = begin("vga-trace", "record", into, "--in-page", file, "--seconds", "3600")
             nodes: set[int] = set()
             with process:
-                self.wait_until(lambda: bool(nodes.update(recorders_of(process.pid)) or nodes), process)
+                self.wait_until(
+                    lambda: bool(nodes.update(recorders_of(process.pid)) or nodes), process
+                )
                 process.send_signal(number)
                 output, said = process.communicate()
             self.assertEqual((process.returncode, output), (128 + number, b""), said)
@@ -178,7 +263,8 @@ class Recorded(Folder):
 
 
 def recorders_of(parent: int) -> list[int]:
-    """The numbers of the processes by which a process records; the node that tells its version is none of them."""
+    """The numbers of the processes by which a process records; the node that tells its version is
+    none of them."""
     found = []
     for path in Path("/proc").glob("[0-9]*/stat"):
         try:
@@ -195,18 +281,27 @@ class WithoutNode(Folder):
     def test_node_is_lacking_or_too_old(self) -> None:
         file, into = self.write("a.com", ENDING), self.folder / "into"
         program = self.answering("ok")
-        for version, told in (("", "node: it is not in the path: install the package nodejs"),
-                              ("v16.20.2", "node: it is older than version 18"), ("x", "node: it is older than version 18")):
+        for version, told in (
+            ("", "node: it is not in the path: install the package nodejs"),
+            ("v16.20.2", "node: it is older than version 18"),
+            ("x", "node: it is older than version 18"),
+        ):
             with self.subTest(version):
                 folder = self.folder / f"bin{version}"
                 folder.mkdir()
                 if version:
                     self.program(f"bin{version}/node", f"#!/bin/sh\necho {version}\n")
                 with mock.patch.dict(os.environ, PATH=str(folder)):
-                    hold_undone(self, run("record", into, "--in-page", file, "--vga", program), told)
+                    hold_undone(
+                        self, run("record", into, "--in-page", file, "--vga", program), told
+                    )
                 self.assertFalse(into.exists())
         with mock.patch.object(inpage, "SOURCES", self.folder / "none"):
-            hold_undone(self, run("record", into, "--in-page", file, "--vga", program), "they lie in the repository")
+            hold_undone(
+                self,
+                run("record", into, "--in-page", file, "--vga", program),
+                "they lie in the repository",
+            )
 
     def test_keys(self) -> None:
         """Each key that is named has a place that the page's machine knows."""
@@ -215,7 +310,17 @@ class WithoutNode(Folder):
         for name in (*inpage.PLACES, *inpage.LETTERS):
             place = inpage._part(name)["code"]
             self.assertTrue(re.fullmatch(rules, place) or re.search(rf"\b{place}\b", source), name)
-        self.assertEqual(inpage._deed(Deed(2.5, ("ctrl-c",)))["keys"], [[
-            {"code": "ControlLeft", "key": "ControlLeft", "shifted": "ControlLeft", "modifier": "ctrlKey"},
-            {"code": "KeyC", "key": "c", "shifted": "C", "modifier": ""},
-        ]])
+        self.assertEqual(
+            inpage._deed(Deed(2.5, ("ctrl-c",)))["keys"],
+            [
+                [
+                    {
+                        "code": "ControlLeft",
+                        "key": "ControlLeft",
+                        "shifted": "ControlLeft",
+                        "modifier": "ctrlKey",
+                    },
+                    {"code": "KeyC", "key": "c", "shifted": "C", "modifier": ""},
+                ]
+            ],
+        )

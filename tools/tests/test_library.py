@@ -1,4 +1,5 @@
-"""The library for C: its header, its files, also for another processor; the packages; releases; that tests can fail.
+"""The library for C: its header, its files, also for another processor; the packages; releases;
+that tests can fail.
 
 A release has the same bytes whatever the order and the time, from a commit alone.
 """
@@ -22,7 +23,16 @@ from unittest import mock
 from library_tests import bindings, checks, compilers, portable
 from library_tests.compilers import run
 from vga_library import command, making
-from vga_library.making import AARCH64, HEAP, HEAP_OPTIONS, MOVING, TARGETS, X86_64, Place, described
+from vga_library.making import (
+    AARCH64,
+    HEAP,
+    HEAP_OPTIONS,
+    MOVING,
+    TARGETS,
+    X86_64,
+    Place,
+    described,
+)
 from vga_release import command as release
 from vga_release.command import FRONT, INSTALL, LINKS, MADE_OF, PATHS, Commit, Entry, File, settled
 from vga_report import TOP, crates
@@ -42,7 +52,10 @@ STATUS = re.compile(r"^ +(ZAK_\w+) = (\d+)", re.M)
 STRUCT = re.compile(r"^typedef struct (zak_\w+) \{", re.M)
 REFUSAL = re.compile(r"^\| `E(\d+) \w+` \|", re.M)
 ENTRIES: dict[str, Entry] = {
-    "z/lib/b.so.1": File(b"library"), "z/lib/b.so": "b.so.1", "z/bin/vga": File(b"program", True), "z/a": File(b""),
+    "z/lib/b.so.1": File(b"library"),
+    "z/lib/b.so": "b.so.1",
+    "z/bin/vga": File(b"program", True),
+    "z/a": File(b""),
 }
 COMMIT = Commit("0123abcd", 1_700_000_000)
 # A program that notes its words; and one that takes blocks of memory in each way.
@@ -52,15 +65,26 @@ TAKING = Path(__file__).with_name("taking.c")
 
 class Header(unittest.TestCase):
     def test_its_version_and_its_calls(self) -> None:
-        self.assertEqual(version_of("#define ZAK_API_MAJOR 3 /* x */\n#define ZAK_API_MINOR 14\n"), Version(3, 14))
+        self.assertEqual(
+            version_of("#define ZAK_API_MAJOR 3 /* x */\n#define ZAK_API_MINOR 14\n"),
+            Version(3, 14),
+        )
         self.assertRaises(Trouble, version_of, "#define ZAK_API_MAJOR 3\n")
-        text = "/* zak_status zak_old(int); */\nzak_status zak_open(int a,\n    int b);\nuint32_t zak_version(void);\n"
+        text = (
+            "/* zak_status zak_old(int); */\nzak_status zak_open(int a,\n    int b);\nuint32_t"
+            " zak_version(void);\n"
+        )
         self.assertEqual(calls_of(text), ["zak_open", "zak_version"])
         # Each name of a call stands once in a line that was read as one.
-        self.assertEqual(sorted(calls_of(TEXT)), sorted(set(re.findall(r"\b(zak_\w+)\(", without_comments(TEXT)))))
+        self.assertEqual(
+            sorted(calls_of(TEXT)),
+            sorted(set(re.findall(r"\b(zak_\w+)\(", without_comments(TEXT)))),
+        )
 
     def test_refusals_are_their_numbers(self) -> None:
-        numbers = {int(number) for number in REFUSAL.findall((TOP / "docs" / "REPORT.md").read_text())}
+        numbers = {
+            int(number) for number in REFUSAL.findall((TOP / "docs" / "REPORT.md").read_text())
+        }
         statuses = {int(number) for _, number in STATUS.findall(TEXT)}
         self.assertEqual(numbers, {status for status in statuses if 0 < status < 20})
 
@@ -73,11 +97,23 @@ class Making(unittest.TestCase):
     def test_what_packages_and_cmake_read(self) -> None:
         package, cmake, told = described("/usr", "lib/x", Version(1, 2)).values()
         for text, part in (
-            (package, "prefix=/usr\nlibdir=${prefix}/lib/x\n"), (package, "Version: 1.2\n"),
-            (package, "\nkind=proved\n"), (package, "video BIOS, proved\n"),
-            (next(iter(described(MOVING, "lib/x", version()).values())), "prefix=${pcfiledir}/../../..\n"),
-            (cmake, '"${CMAKE_CURRENT_LIST_DIR}/../../../.." ABSOLUTE'), (told, 'set(PACKAGE_VERSION "1.2")'),
-            (cmake, '"${_zaklimot_prefix}/lib/x/libzaklimot.so.1.2"\n    IMPORTED_SONAME "libzaklimot.so.1"'),
+            (package, "prefix=/usr\nlibdir=${prefix}/lib/x\n"),
+            (package, "Version: 1.2\n"),
+            (package, "\nkind=proved\n"),
+            (package, "video BIOS, proved\n"),
+            (
+                next(iter(described(MOVING, "lib/x", version()).values())),
+                "prefix=${pcfiledir}/../../..\n",
+            ),
+            (cmake, '"${CMAKE_CURRENT_LIST_DIR}/../../../.." ABSOLUTE'),
+            (told, 'set(PACKAGE_VERSION "1.2")'),
+            (
+                cmake,
+                (
+                    '"${_zaklimot_prefix}/lib/x/libzaklimot.so.1.2"\n    IMPORTED_SONAME'
+                    ' "libzaklimot.so.1"'
+                ),
+            ),
         ):
             self.assertIn(part, text)
 
@@ -87,8 +123,13 @@ class Making(unittest.TestCase):
             self.assertLessEqual(set(crates.below(name)), set(below[:place]), name)
 
     def test_what_the_gate_has_not_left(self) -> None:
-        told = r"^nowhere/crates/vga_bits/out/rlib/vga_bits\.rlib: it is not there: run rt ci first.* crates/\*/out"
-        with mock.patch.object(making, "TOP", Path("nowhere")), self.assertRaisesRegex(Trouble, told):
+        told = (
+            r"^nowhere/crates/vga_bits/out/rlib/vga_bits\.rlib: it is not there: run rt ci first.*"
+            r" crates/\*/out"
+        )
+        with mock.patch.object(making, "TOP", Path("nowhere")), self.assertRaisesRegex(
+            Trouble, told
+        ):
             making.rlib("vga_bits")
         with mock.patch.object(making, "run") as ran:
             making.built_archive("llvm", X86_64, print)
@@ -105,13 +146,20 @@ class Made(Folder):
         self.write("crates.txt", "vga_c: low\n")
         self.parts = [Path(self.write(name, name)) for name in ("one.a", "two.a")]
         folder = self.folder / "crates" / "vga_c" / "out" / "made"
-        self.patch(mock.patch.multiple(making, TOP=self.folder, FOLDER=folder, below=lambda _: ["low"]))
+        self.patch(
+            mock.patch.multiple(making, TOP=self.folder, FOLDER=folder, below=lambda _: ["low"])
+        )
 
     def test_no_source_is_laid_over_itself(self) -> None:
         header = Path(self.write("include/zaklimot.h", TEXT))
         with mock.patch.multiple(making, HEADER=header, run=lambda *_: ""):
-            told = refused(making.make_library, Path("a"), Path("b"), Place(str(self.folder)), making.MOVING)
-        self.assertEqual((told, header.exists()), (f"{header}: it is read as {header}, so it isn't written", True))
+            told = refused(
+                making.make_library, Path("a"), Path("b"), Place(str(self.folder)), making.MOVING
+            )
+        self.assertEqual(
+            (told, header.exists()),
+            (f"{header}: it is read as {header}, so it isn't written", True),
+        )
 
     def test_the_same_sources_and_others(self) -> None:
         self.assertIsNone(making.kept("llvm", X86_64))
@@ -133,19 +181,28 @@ class Page(unittest.TestCase):
     def test_its_programs_are_those_that_are_tried(self) -> None:
         text = PAGE.read_text("utf-8")
         for name, begins, end in (
-            ("picture.c", "", ""), ("core.c", "static void take_frame(void)\n{", "\n}\n"),
-            ("core.c", "static void settle(void)\n{", "\n}\n"), ("debugger.c", "/* Takes the next steps,", "\n}\n"),
-            ("debugger.c", "static void back(", "\n}\n"), ("script.c", "zak_status script_assemble(", "\n}\n"),
+            ("picture.c", "", ""),
+            ("core.c", "static void take_frame(void)\n{", "\n}\n"),
+            ("core.c", "static void settle(void)\n{", "\n}\n"),
+            ("debugger.c", "/* Takes the next steps,", "\n}\n"),
+            ("debugger.c", "static void back(", "\n}\n"),
+            ("script.c", "zak_status script_assemble(", "\n}\n"),
         ):
             source = (TOP / "examples" / "c" / name).read_text("ascii")
-            function = source[source.index(begins):]
-            self.assertIn(function[:function.index(end) + len(end)] if end else function, text, begins)
+            function = source[source.index(begins) :]
+            self.assertIn(
+                function[: function.index(end) + len(end)] if end else function, text, begins
+            )
         lines = "".join(re.findall(r"^  ```cpp\n(.*?)^  ```$", text, re.M | re.S)).splitlines()
         tried = [line.strip() for line in checks.OBJECTS.read_text("ascii").splitlines()]
-        self.assertEqual((len(lines), [line for line in lines if line.strip() not in tried]), (5, []))
+        self.assertEqual(
+            (len(lines), [line for line in lines if line.strip() not in tried]), (5, [])
+        )
 
     def test_its_version_is_the_header_s(self) -> None:
-        self.assertIn(f"this is version {version()}.", " ".join(RELEASES.read_text("utf-8").split()))
+        self.assertIn(
+            f"this is version {version()}.", " ".join(RELEASES.read_text("utf-8").split())
+        )
         for page in (PAGE, RELEASES, TOP / release.PAGE):
             told = set(re.findall(r"zaklimot-(\d+\.\d+)-", page.read_text("utf-8")))
             self.assertEqual(told, {str(version())}, page.name)
@@ -155,9 +212,16 @@ class Page(unittest.TestCase):
         self.assertEqual([name for name in calls_of(TEXT) if name not in page], [])
         # Dumps, slices, lines and the print of a script are the C header's alone.
         lacking = {name for name in calls_of(TEXT) if not re.search(rf"\b{name}\b", functions)}
-        self.assertEqual({name.partition("_show_")[0] for name in lacking}, {
-            "zak", "zak_version", "zak_frame_lines", "zak_run_on", "zak_print",
-        })
+        self.assertEqual(
+            {name.partition("_show_")[0] for name in lacking},
+            {
+                "zak",
+                "zak_version",
+                "zak_frame_lines",
+                "zak_run_on",
+                "zak_print",
+            },
+        )
 
 
 class Checks(Folder):
@@ -165,39 +229,57 @@ class Checks(Folder):
 
     def test_names_and_texts_that_differ(self) -> None:
         told = f"soname: [libzaklimot.so.{version().major}] Flags: NOW GNU_RELRO"
-        with mock.patch.object(checks, "run", lambda words: told if words[0] == "readelf" else "zak_open\n"):
+        with mock.patch.object(
+            checks, "run", lambda words: told if words[0] == "readelf" else "zak_open\n"
+        ):
             built = compilers.Built("given", self.folder, self.folder / "crates.a")
-            self.assertRaisesRegex(Wrong, "^libzaklimot.a: seen and not in", checks.check_names, built, self.folder)
+            self.assertRaisesRegex(
+                Wrong, "^libzaklimot.a: seen and not in", checks.check_names, built, self.folder
+            )
         wanted = checks.LAYOUT.with_name("threads.txt").read_text("ascii")
         checks.expect("threads", wanted)
         self.assertRaises(Wrong, checks.expect, "threads", wanted.replace("alike", "differ", 1))
 
     def test_cases_that_do_not_agree(self) -> None:
-        count, built = len(read_cases(str(SUITE))), compilers.Built("given", Path("kit"), Path("crates.a"), AARCH64)
+        count, built = len(read_cases(str(SUITE))), compilers.Built(
+            "given", Path("kit"), Path("crates.a"), AARCH64
+        )
         captured, running = mock.Mock(), mock.Mock()
-        self.patch(mock.patch.object(checks, "captured", captured), mock.patch.object(compilers, "run", running))
+        self.patch(
+            mock.patch.object(checks, "captured", captured),
+            mock.patch.object(compilers, "run", running),
+        )
         for way, skipped in (("suite", 1), ("sliced", 0)):
             wanted = f"{count} cases: {count - skipped} agree{', 1 skipped' * skipped}"
             captured.return_value = Done(0, f"a\n{wanted}\n".encode(), b"")
             self.assertEqual(checks.check_cases(way, built, Path("made")), wanted)
-            captured.return_value = Done(0, f"           n1: step 3\n{count} cases: 1 differ\n".encode(), b"")
+            captured.return_value = Done(
+                0, f"           n1: step 3\n{count} cases: 1 differ\n".encode(), b""
+            )
             with self.assertRaisesRegex(Wrong, rf"^not `{wanted}`:\n +n1: step 3\n"):
                 checks.check_cases(way, built, Path("made"))
         # The programs of another processor are built by its compiler, and run in the emulator.
         self.assertEqual(running.call_args[0][0][0], "aarch64-linux-gnu-gcc")
-        front = "env ASAN_OPTIONS=detect_leaks=0 qemu-aarch64 -L /usr/aarch64-linux-gnu made/harness-given "
+        front = (
+            "env ASAN_OPTIONS=detect_leaks=0 qemu-aarch64 -L /usr/aarch64-linux-gnu"
+            " made/harness-given "
+        )
         self.assertIn(f"{front}{{script}} {{fonts}} {{until}}", captured.call_args_list[0][0][0])
 
     def test_what_is_lacking_is_told_with_its_package(self) -> None:
         self.patch(mock.patch.object(compilers, "_has_sanitizers", return_value=False))
         with mock.patch("shutil.which", lambda name: None if name[-2:] in ("nm", "64") else name):
             told = [line for target in TARGETS.values() for line in compilers.lacking(target)]
-        self.assertEqual(told, [
-            "nm: install the package binutils", "the sanitizers of gcc: install the package libgcc-12-dev",
-            "the sanitizers of clang: install the package libclang-rt-dev",
-            "aarch64-linux-gnu-nm: install the package binutils-aarch64-linux-gnu",
-            "qemu-aarch64: install the package qemu-user",
-        ])
+        self.assertEqual(
+            told,
+            [
+                "nm: install the package binutils",
+                "the sanitizers of gcc: install the package libgcc-12-dev",
+                "the sanitizers of clang: install the package libclang-rt-dev",
+                "aarch64-linux-gnu-nm: install the package binutils-aarch64-linux-gnu",
+                "qemu-aarch64: install the package qemu-user",
+            ],
+        )
 
 
 class Parts(Folder):
@@ -207,8 +289,10 @@ class Parts(Folder):
         """The archive of a release of these, and what is told of its sum."""
         given = self.write("given", "built")
         made = {
-            "clean_commit": lambda: COMMIT, "release_entries": lambda *_: entries,
-            "check_program": lambda _: None, "portable_entries": lambda _: {"zaklimot.c": File(b"code")},
+            "clean_commit": lambda: COMMIT,
+            "release_entries": lambda *_: entries,
+            "check_program": lambda _: None,
+            "portable_entries": lambda _: {"zaklimot.c": File(b"code")},
         }
         with mock.patch.multiple(release, **made):
             words = ["--program", given, "--archive", given, "--archive-aarch64", given]
@@ -227,12 +311,23 @@ class Parts(Folder):
         files.update({place: File((TOP / place).read_bytes()) for place in there})
         # The program lies beside the C file.
         self.assertLessEqual(set(files) - set(there), {"portable/vga.c"})
-        with mock.patch.object(release, "files_of", lambda _, paths: {path: files[path] for path in paths}):
+        with mock.patch.object(
+            release, "files_of", lambda _, paths: {path: files[path] for path in paths}
+        ):
             entries = release.portable_entries(COMMIT)
-        self.assertEqual(sorted(entries), [
-            "CMakeLists.txt", "LICENSE", "README.md", "vga.c", "zaklimot.c", "zaklimot.fnt",
-            "zaklimot.h", "zaklimot.hpp",
-        ])
+        self.assertEqual(
+            sorted(entries),
+            [
+                "CMakeLists.txt",
+                "LICENSE",
+                "README.md",
+                "vga.c",
+                "zaklimot.c",
+                "zaklimot.fnt",
+                "zaklimot.h",
+                "zaklimot.hpp",
+            ],
+        )
         page, source = entries["README.md"], entries["zaklimot.c"]
         assert isinstance(page, File) and isinstance(source, File)
         self.assertEqual(source.content, (TOP / "portable" / "zaklimot.c").read_bytes())
@@ -248,7 +343,8 @@ class Parts(Folder):
     def test_the_archive_of_the_c_file_alone(self) -> None:
         ran = mock.Mock(side_effect=AssertionError)
         made = {
-            "clean_commit": lambda: COMMIT, "portable_entries": lambda _: ENTRIES,
+            "clean_commit": lambda: COMMIT,
+            "portable_entries": lambda _: ENTRIES,
             "release_entries": ran,
         }
         with mock.patch.multiple(release, **made):
@@ -277,7 +373,9 @@ class Parts(Folder):
     def test_what_the_archive_and_its_checksum_tell(self) -> None:
         front = f"zaklimot-{version()}-x86_64-linux"
         archive, told = self.packed(ENTRIES)
-        self.assertEqual(told, f"{hashlib.sha256(archive.read_bytes()).hexdigest()}  {front}.tar.gz\n")
+        self.assertEqual(
+            told, f"{hashlib.sha256(archive.read_bytes()).hexdigest()}  {front}.tar.gz\n"
+        )
         self.assertEqual(self.packed(dict(reversed(ENTRIES.items()))), (archive, told))
         with tarfile.open(archive) as opened:
             members, content = opened.getmembers(), opened.extractfile(f"{front}/z/bin/vga")
@@ -285,9 +383,13 @@ class Parts(Folder):
             self.assertEqual(content.read(), b"program")
         names = ["", "/z", "/z/a", "/z/bin", "/z/bin/vga", "/z/lib", "/z/lib/b.so", "/z/lib/b.so.1"]
         self.assertEqual([member.name for member in members], [f"{front}{name}" for name in names])
-        owners = {(member.uid, member.gid, member.uname, member.gname, member.mtime) for member in members}
+        owners = {
+            (member.uid, member.gid, member.uname, member.gname, member.mtime) for member in members
+        }
         self.assertEqual(owners, {(0, 0, "", "", COMMIT.time)})
-        self.assertEqual([oct(member.mode) for member in members if member.isfile()], ["0o644", "0o755", "0o644"])
+        self.assertEqual(
+            [oct(member.mode) for member in members if member.isfile()], ["0o644", "0o755", "0o644"]
+        )
         self.assertEqual([member.linkname for member in members if member.issym()], ["b.so.1"])
 
     def test_its_page_and_the_news_tell_of_it(self) -> None:
@@ -300,28 +402,54 @@ class Parts(Folder):
 
     def test_the_links_of_pages(self) -> None:
         front, others = release.PAGE, {"docs/A.md": File(b""), "src/low/x.rs": File(b"")}
-        hold(self, lambda page, text: settled({**others, page: File(text)})[release.MOVED.get(page, page)].content, (
-            ("docs/C.md", b"[a](A.md#c) ![b](../src/low)", b"[a](A.md#c) ![b](../src/low)"),
-            # Links to what is not there are words.
-            ("docs/C.md", b"[of\ntwo](../src/high/) and `x`", b"of\ntwo and `x`"),
-            # Pages may lie elsewhere.
-            (FRONT, b"[a](docs/A.md) [b](README.md#d)", b"[a](A.md) [b](README.md#d)"),
-            (front, b"[a](../../docs/A.md) [c](#e) [f](https://g.h/)", b"[a](docs/A.md) [c](#e) [f](https://g.h/)"),
-            # What stands between fences stays.
-            ("docs/C.md", b"```\n[a](Z.md)\n```\n[b](Z.md)\n```\n[c](Z.md)\n```\n",
-             b"```\n[a](Z.md)\n```\nb\n```\n[c](Z.md)\n```\n"),
-        ))
+        hold(
+            self,
+            lambda page, text: settled({**others, page: File(text)})[
+                release.MOVED.get(page, page)
+            ].content,
+            (
+                ("docs/C.md", b"[a](A.md#c) ![b](../src/low)", b"[a](A.md#c) ![b](../src/low)"),
+                # Links to what is not there are words.
+                ("docs/C.md", b"[of\ntwo](../src/high/) and `x`", b"of\ntwo and `x`"),
+                # Pages may lie elsewhere.
+                (FRONT, b"[a](docs/A.md) [b](README.md#d)", b"[a](A.md) [b](README.md#d)"),
+                (
+                    front,
+                    b"[a](../../docs/A.md) [c](#e) [f](https://g.h/)",
+                    b"[a](docs/A.md) [c](#e) [f](https://g.h/)",
+                ),
+                # What stands between fences stays.
+                (
+                    "docs/C.md",
+                    b"```\n[a](Z.md)\n```\n[b](Z.md)\n```\n[c](Z.md)\n```\n",
+                    b"```\n[a](Z.md)\n```\nb\n```\n[c](Z.md)\n```\n",
+                ),
+            ),
+        )
 
     def test_what_is_changed_is_no_release(self) -> None:
-        with mock.patch("vga_report.processes.captured", return_value=Done(0, b" M README.md\n", b"")):
-            told = "^vga-release: a release is made from a commit, and this is changed: M README.md\n$"
+        with mock.patch(
+            "vga_report.processes.captured", return_value=Done(0, b" M README.md\n", b"")
+        ):
+            told = (
+                "^vga-release: a release is made from a commit, and this is changed: M README.md\n$"
+            )
             hold_undone(self, call(release.main, "release"), told)
 
 
 def sources() -> dict[str, Entry]:
-    """What goes into a release of the files as they lie here, with nothing in the place of what is built."""
+    """What goes into a release of the files as they lie here, with nothing in the place of what is
+    built."""
     entries: dict[str, Entry] = {
-        name: File(b"") for name in ("bin/vga", INSTALL, MADE_OF, "lib/libzaklimot.a", "share/zaklimot/zaklimot.fnt", "scripts/list.txt")
+        name: File(b"")
+        for name in (
+            "bin/vga",
+            INSTALL,
+            MADE_OF,
+            "lib/libzaklimot.a",
+            "share/zaklimot/zaklimot.fnt",
+            "scripts/list.txt",
+        )
     }
     for name in PATHS:
         below = [TOP / name] if (TOP / name).is_file() else sorted((TOP / name).rglob("*"))
@@ -352,20 +480,35 @@ class Whole(Folder):
         self.assertTrue(self.pages[f"docs/{FRONT}"].startswith("# Zaklimot\n"))
         self.assertIn("(docs/RELEASES.md)", self.pages[FRONT])
         self.assertTrue(len(self.pages) > 30 and (self.folder / "share/man/man1/vga.1").exists())
-        hold(self, lambda page: broken(self.folder / page, self.pages[page]), ((page, []) for page in self.pages))
+        hold(
+            self,
+            lambda page: broken(self.folder / page, self.pages[page]),
+            ((page, []) for page in self.pages),
+        )
 
     def test_what_is_compiled_on_other_machines_is_there(self) -> None:
         """The C file, what CMake reads of it, and what the packages make of it."""
-        self.assertIn("add_subdirectory(portable)", (self.folder / "CMakeLists.txt").read_text("ascii"))
-        crate, source = "bindings/rust/zaklimot-sys/portable", self.folder / "portable" / "zaklimot.c"
-        for copy, file in (("zaklimot.c", source), ("zaklimot.h", self.folder / "include/zaklimot.h")):
+        self.assertIn(
+            "add_subdirectory(portable)", (self.folder / "CMakeLists.txt").read_text("ascii")
+        )
+        crate, source = (
+            "bindings/rust/zaklimot-sys/portable",
+            self.folder / "portable" / "zaklimot.c",
+        )
+        for copy, file in (
+            ("zaklimot.c", source),
+            ("zaklimot.h", self.folder / "include/zaklimot.h"),
+        ):
             self.assertTrue((self.folder / crate / copy).read_bytes() == file.read_bytes(), copy)
         backend = self.folder / "bindings" / "python" / "building.py"
         asking = f"import runpy; print(runpy.run_path({str(backend)!r})['part']('zaklimot.c'))"
         self.assertEqual(ended(sys.executable, "-c", asking), (0, f"{source}\n", ""))
 
     def test_each_command_is_there_or_told_to_be_elsewhere(self) -> None:
-        elsewhere = re.findall(r"`([^`]+)`", self.pages[FRONT].partition("These prove, build or test")[2].partition("\n\n")[0])
+        elsewhere = re.findall(
+            r"`([^`]+)`",
+            self.pages[FRONT].partition("These prove, build or test")[2].partition("\n\n")[0],
+        )
         self.assertIn("tools/vga-library", elsewhere)
         for page, text in self.pages.items():
             # What a page's own commands make is there then.
@@ -376,17 +519,26 @@ class Whole(Folder):
                     self.assertTrue(is_there or any(name.startswith(told) for told in elsewhere))
         # What is told to be elsewhere is not here.
         others = [name for name in elsewhere if name.startswith("tools/")]
-        self.assertEqual({((self.folder / name).exists(), (TOP / name).exists()) for name in others}, {(False, True)})
+        self.assertEqual(
+            {((self.folder / name).exists(), (TOP / name).exists()) for name in others},
+            {(False, True)},
+        )
 
 
 # What may stand before a program of the repository, or before the folder of its tests.
-STARTING = r"(?:(?:\S*/)?python3? |python3 -m unittest discover --start-directory |node (?:--\S+ )*)?"
+STARTING = (
+    r"(?:(?:\S*/)?python3? |python3 -m unittest discover --start-directory |node (?:--\S+ )*)?"
+)
 
 
 def commands_of(text: str) -> Iterator[str]:
     """The programs of the repository that a page's commands name, by their place."""
     for line in re.findall(r"^(?: {4,}|\s*\$ )(?:\$ )?(.+)$", text, re.M):
-        found = re.match(STARTING + r"((?:tools|crates|bin|bench|\.ci|examples|fonts|page|bindings)/[\w./-]+)( |$)", line)
+        found = re.match(
+            STARTING
+            + r"((?:tools|crates|bin|bench|\.ci|examples|fonts|page|bindings)/[\w./-]+)( |$)",
+            line,
+        )
         if found:
             yield found[1]
         elif re.match(r"\(cd crates/|rt ", line):
@@ -400,7 +552,11 @@ class Installing(Folder):
         super().setUp()
         self.release = self.folder / "a release"
         self.program("a release/bin/vga", "#!program")
-        for place, text in (("include/z.h", "header"), ("lib/z.so.1", "library"), ("share/z/f.fnt", "font")):
+        for place, text in (
+            ("include/z.h", "header"),
+            ("lib/z.so.1", "library"),
+            ("share/z/f.fnt", "font"),
+        ):
             self.write(f"a release/{place}", text)
         (self.release / "lib/z.so").symlink_to("z.so.1")
         shutil.copy(TOP / "tools" / "vga_release" / INSTALL, self.release / INSTALL)
@@ -410,7 +566,10 @@ class Installing(Folder):
 
     def test_all_is_laid_and_told(self) -> None:
         prefix = self.folder / "in here"
-        laid = [f"{prefix}/{place}\n" for place in ("bin/vga", "include/z.h", "lib/z.so", "lib/z.so.1", "share/z/f.fnt")]
+        laid = [
+            f"{prefix}/{place}\n"
+            for place in ("bin/vga", "include/z.h", "lib/z.so", "lib/z.so.1", "share/z/f.fnt")
+        ]
         for _ in "12":
             self.assertEqual(self.install("--prefix", str(prefix)), (0, "".join(laid), ""))
         self.assertTrue(os.access(prefix / "bin/vga", os.X_OK))
@@ -424,9 +583,13 @@ class Installing(Folder):
         (self.release / "kit").mkdir()
         (self.release / "kit" / "bin").symlink_to("../bin")
         wanted = {
-            ("--prefix", "here"): "begins with a slash", ("--prefix",): "wants a folder", ("--other",): "there is no option",
-            ("--prefix", str(self.release)): "the release's own", ("--prefix", str(self.release / "kit")): "the release's own",
-            ("--prefix", str(self.folder / "full")): "is a folder", ("--prefix", "/proc/none"): "there can be no folder",
+            ("--prefix", "here"): "begins with a slash",
+            ("--prefix",): "wants a folder",
+            ("--other",): "there is no option",
+            ("--prefix", str(self.release)): "the release's own",
+            ("--prefix", str(self.release / "kit")): "the release's own",
+            ("--prefix", str(self.folder / "full")): "is a folder",
+            ("--prefix", "/proc/none"): "there can be no folder",
         }
         for words, told in wanted.items():
             with self.subTest(words=words):
@@ -435,7 +598,8 @@ class Installing(Folder):
 
 
 class OtherProcessors(Folder):
-    """The library is made by programs of the cross compiler and of the toolchain that note how they are called."""
+    """The library is made by programs of the cross compiler and of the toolchain that note how they
+    are called."""
 
     def setUp(self) -> None:
         super().setUp()
@@ -449,7 +613,9 @@ class OtherProcessors(Folder):
         self.patch(
             mock.patch.dict(os.environ, {"PATH": path, "NOTES": str(self.notes), "KIT": str(kit)}),
             mock.patch.multiple(
-                making, CRATE=self.crate, KEPT=self.crate / "out" / "incremental",
+                making,
+                CRATE=self.crate,
+                KEPT=self.crate / "out" / "incremental",
                 rlib=lambda name: Path(f"{name}.rlib"),
             ),
             mock.patch.object(making, "FOLDER", self.crate / "out" / "made"),
@@ -467,24 +633,49 @@ class OtherProcessors(Folder):
         progress = mock.create_autospec(Progress, instance=True)
         with mock.patch("vga_report.cli.Progress", return_value=progress):
             status, told, said = self.make("kit-for-arm")
-        self.assertIn(" proving and building the library: vga_bits, crate 1 of ", progress.tell.call_args[0][0])
+        self.assertIn(
+            " proving and building the library: vga_bits, crate 1 of ",
+            progress.tell.call_args[0][0],
+        )
         self.assertEqual((status, said), (0, ""))
         self.assertIn(f"{self.folder}/kit-for-arm/lib/libzaklimot.so.{version()}\n", told)
-        calls, front = [words for words in self.noted() if words != ["rt", "doc"]], "aarch64-linux-gnu-"
-        self.assertEqual([words[0] for words in calls], [
-            "rt", "rattle", f"{front}gcc", f"{front}ld", f"{front}objcopy", f"{front}ar", f"{front}gcc",
-        ])
+        calls, front = [
+            words for words in self.noted() if words != ["rt", "doc"]
+        ], "aarch64-linux-gnu-"
+        self.assertEqual(
+            [words[0] for words in calls],
+            [
+                "rt",
+                "rattle",
+                f"{front}gcc",
+                f"{front}ld",
+                f"{front}objcopy",
+                f"{front}ar",
+                f"{front}gcc",
+            ],
+        )
         self.assertEqual(calls[0], ["rt", "check"])
-        self.assertEqual((calls[1][1], Path(calls[1][-1])), ("build", self.crate / "out" / "libvga_c-aarch64.a"))
+        self.assertEqual(
+            (calls[1][1], Path(calls[1][-1])), ("build", self.crate / "out" / "libvga_c-aarch64.a")
+        )
         building = dict(zip(calls[1], calls[1][1:]))
         options = [building.get(f"--{name}") for name in ("target", "backend", "crate-type")]
         self.assertEqual(options, ["aarch64-unknown-linux-gnu", "llvm", "staticlib"])
         # Both the crate's archive and the memory's functions are joined.
         self.assertEqual([Path(word).name for word in calls[3][-2:]], ["crates.a", "memory.a"])
         self.assertIn(str(HEAP), calls[2])
-        # What was made is installed without the toolchain, but not where the memory's functions are others.
+        # What was made is installed without the toolchain, but not where the memory's functions are
+        # others.
         self.notes.unlink()
-        words = ["install", "--prefix", "/usr", "--destdir", str(self.folder / "stage"), "--target", "aarch64"]
+        words = [
+            "install",
+            "--prefix",
+            "/usr",
+            "--destdir",
+            str(self.folder / "stage"),
+            "--target",
+            "aarch64",
+        ]
         self.assertEqual(call(command.main, *words)[0], 0)
         self.assertEqual({words[0] for words in self.noted()}, set(AARCH64.programs()))
         self.assertIsNotNone(making.kept("llvm", AARCH64))
@@ -493,11 +684,22 @@ class OtherProcessors(Folder):
 
     def test_what_cannot_be_made_is_told_before_the_long_work(self) -> None:
         self.write("file", "")
-        hold_undone(self, self.make("none", "--backend", "rattle"), "aarch64: the toolchain has no compiler rattle for")
-        hold_undone(self, self.make("file"), f"^vga-library: {self.folder}/file: it is not a folder\n$")
+        hold_undone(
+            self,
+            self.make("none", "--backend", "rattle"),
+            "aarch64: the toolchain has no compiler rattle for",
+        )
+        hold_undone(
+            self, self.make("file"), f"^vga-library: {self.folder}/file: it is not a folder\n$"
+        )
         for program in AARCH64.programs():
-            with self.subTest(program), mock.patch("shutil.which", lambda name: None if name == program else name):
-                told = f"^vga-library: {program}: it is not in the path: install the package {PACKAGES[program]}\n$"
+            with self.subTest(program), mock.patch(
+                "shutil.which", lambda name: None if name == program else name
+            ):
+                told = (
+                    f"^vga-library: {program}: it is not in the path: install the package"
+                    f" {PACKAGES[program]}\n$"
+                )
                 hold_undone(self, self.make("none"), told)
         self.assertFalse(self.notes.exists())
         # What fails leaves no folder.
@@ -508,7 +710,9 @@ class OtherProcessors(Folder):
             self.assertEqual(X86_64.programs(), ["some-cc", "ld", "objcopy", "ar"])
 
     def test_what_a_release_has_of_it(self) -> None:
-        files = {place: entry for place, entry in sources().items() if isinstance(entry, release.File)}
+        files = {
+            place: entry for place, entry in sources().items() if isinstance(entry, release.File)
+        }
         archive = self.folder / "crates.a"
         archive.touch()
         entries = release.library_files(files, AARCH64, archive)
@@ -529,7 +733,9 @@ class OtherProcessors(Folder):
     def test_what_the_heap_answers(self) -> None:
         program = self.folder / "taking"
         # A compiler that knows malloc would warn of so large a request.
-        self.assertEqual(ended("cc", *HEAP_OPTIONS, "-fno-builtin", TAKING, HEAP, "-o", program), (0, "", ""))
+        self.assertEqual(
+            ended("cc", *HEAP_OPTIONS, "-fno-builtin", TAKING, HEAP, "-o", program), (0, "", "")
+        )
         self.assertEqual(ended(program)[0], 0)
 
 
@@ -542,19 +748,28 @@ class Bindings(Folder):
             run([sys.executable, "-c", "raise SystemExit('no such test')"])
         line = "test result: ok. {} passed; 0 failed; 0 ignored\n"
         for check, right, wrong in (
-            (bindings.check_python, "skipped 'numpy is not here'\nRan 9 tests in 1s\n", "skipped 'x'\nRan 9 tests in 1s"),
+            (
+                bindings.check_python,
+                "skipped 'numpy is not here'\nRan 9 tests in 1s\n",
+                "skipped 'x'\nRan 9 tests in 1s",
+            ),
             (bindings.check_rust, 5 * line.format(4), 5 * line.format(0)),
         ):
             said = mock.Mock(side_effect=[right, "", wrong, ""])
             tested = mock.Mock(side_effect=[Done(0, b"", text.encode()) for text in (right, wrong)])
             faked = {
-                "tested": tested, "run": lambda *_, **given: "", "_cargo": said,
-                "check_kind": mock.Mock(), "_project": lambda *_: self.folder,
+                "tested": tested,
+                "run": lambda *_, **given: "",
+                "_cargo": said,
+                "check_kind": mock.Mock(),
+                "_project": lambda *_: self.folder,
             }
             with self.subTest(right), mock.patch.multiple(bindings, **faked):
                 self.assertRegex(check(TOP, self.folder), "^(9|20) tests")
                 self.assertRaises(Wrong, check, TOP, self.folder)
-        self.assertEqual(list(bindings.programs_of_page()), [f"program_{number}" for number in range(3)])
+        self.assertEqual(
+            list(bindings.programs_of_page()), [f"program_{number}" for number in range(3)]
+        )
 
     def test_libraries_and_their_kinds(self) -> None:
         library = Path(self.write("kit/lib/libzaklimot.so", ""))
@@ -578,8 +793,15 @@ class Bindings(Folder):
                 hold_undone(self, call(bindings.main, *words), "^vga-bindings-tests: ")
             self.assertEqual(call(bindings.main, "--ready"), (0, "", ""))
         with mock.patch("shutil.which", lambda name: None if "cargo" in name else name):
-            told = "  cargo: install the package cargo\n  cargo-clippy: install the package rust-clippy\n"
-            hold_undone(self, call(bindings.main, "--ready"), f"^vga-bindings-tests: this machine lacks\n{told}")
+            told = (
+                "  cargo: install the package cargo\n  cargo-clippy: install the package"
+                " rust-clippy\n"
+            )
+            hold_undone(
+                self,
+                call(bindings.main, "--ready"),
+                f"^vga-bindings-tests: this machine lacks\n{told}",
+            )
 
 
 class OneFile(Folder):
@@ -604,10 +826,16 @@ class OneFile(Folder):
                 self.assertRaisesRegex(Wrong, told, portable._check_options, self.folder)
 
     def test_a_crate_without_a_file_and_another_library(self) -> None:
-        names = ["portable/zaklimot.c", "portable/zaklimot.h", "portable/zaklimot.fnt", "src/lib.rs"]
+        names = [
+            "portable/zaklimot.c",
+            "portable/zaklimot.h",
+            "portable/zaklimot.fnt",
+            "src/lib.rs",
+        ]
         told = f"portable {portable.number()}\n"
         for packed, said, wrong in (
-            (names, told, None), (names[1:], told, "has no file portable/zaklimot.c$"),
+            (names, told, None),
+            (names[1:], told, "has no file portable/zaklimot.c$"),
             (names, "proved 65541\n", "writes proved 65541$"),
             (names, "portable 65540\n", "writes portable 65540$"),
         ):
@@ -646,25 +874,35 @@ class Finding(unittest.TestCase):
     def built(self, **names: str) -> tuple[int, str, str]:
         """How the build ends, what it tells cargo, and what it says."""
         cargo = {
-            "CARGO_MANIFEST_DIR": str(self.folder / "crate"), "OUT_DIR": str(self.folder / "out"),
-            "TARGET": "x86_64-unknown-linux-gnu", "HOST": "x86_64-unknown-linux-gnu",
+            "CARGO_MANIFEST_DIR": str(self.folder / "crate"),
+            "OUT_DIR": str(self.folder / "out"),
+            "TARGET": "x86_64-unknown-linux-gnu",
+            "HOST": "x86_64-unknown-linux-gnu",
         }
         return ended(self.folder / "build", env={"PATH": os.environ["PATH"], **cargo, **names})
 
     def test_what_is_found(self) -> None:
         full = self.folder / "full"
-        for names in ({"ZAKLIMOT_DIR": str(full)}, {"PKG_CONFIG_PATH": f"/no-such-folder:{full}/lib/pkgconfig"}):
+        for names in (
+            {"ZAKLIMOT_DIR": str(full)},
+            {"PKG_CONFIG_PATH": f"/no-such-folder:{full}/lib/pkgconfig"},
+        ):
             with self.subTest(names):
                 status, told, said = self.built(**names)
                 self.assertEqual((status, said), (0, ""))
                 self.assertIn("cargo:rustc-link-lib=static=zaklimot\n", told)
                 self.assertIn("cargo:rustc-env=ZAKLIMOT_KIND=proved\n", told)
                 folders = dict(line.partition("=")[::2] for line in told.splitlines())
-                self.assertTrue(os.path.samefile(folders["cargo:rustc-link-search"].partition("=")[2], full / "lib"))
+                self.assertTrue(
+                    os.path.samefile(
+                        folders["cargo:rustc-link-search"].partition("=")[2], full / "lib"
+                    )
+                )
 
     def test_what_a_folder_tells_of_its_kind(self) -> None:
         for name, text, kind in (
-            ("some", "kind=portable\n", "portable"), ("other", "kind=provedly\n", "unknown"),
+            ("some", "kind=portable\n", "portable"),
+            ("other", "kind=provedly\n", "unknown"),
             ("none", "", "unknown"),
         ):
             library = self.folder / name / "lib"
@@ -707,12 +945,19 @@ class Finding(unittest.TestCase):
     def test_what_is_compiled(self) -> None:
         self.crate()
         told, lines = self.compiled(ZAKLIMOT_DIR=str(self.folder / "full"), ZAKLIMOT_SHARED="1")
-        self.assertEqual(lines, [
-            "bin/cc -std=c99 -O2 -I crate/portable -fPIC -c crate/portable/zaklimot.c -o out/zaklimot.o",
-            "bin/ar crs out/libzaklimot.a out/zaklimot.o",
-        ])
+        self.assertEqual(
+            lines,
+            [
+                (
+                    "bin/cc -std=c99 -O2 -I crate/portable -fPIC -c crate/portable/zaklimot.c -o"
+                    " out/zaklimot.o"
+                ),
+                "bin/ar crs out/libzaklimot.a out/zaklimot.o",
+            ],
+        )
         wanted = {
-            "cargo:rustc-link-lib": "static=zaklimot", "cargo:rustc-env": "ZAKLIMOT_KIND=portable",
+            "cargo:rustc-link-lib": "static=zaklimot",
+            "cargo:rustc-env": "ZAKLIMOT_KIND=portable",
             "cargo:rustc-link-search": f"native={self.folder}/out",
             "cargo:fonts": f"{self.folder}/crate/portable/zaklimot.fnt",
         }
@@ -733,7 +978,7 @@ class Finding(unittest.TestCase):
         ):
             with self.subTest(names):
                 _, lines = self.compiled(**names)
-                begun = [line[:len(begins)] for line, begins in zip(lines, wanted)]
+                begun = [line[: len(begins)] for line, begins in zip(lines, wanted)]
                 self.assertEqual(begun, wanted)
         _, lines = self.compiled(CFLAGS="-O3 -g")
         self.assertIn(" -fPIC -O3 -g -c ", lines[0])
@@ -741,19 +986,36 @@ class Finding(unittest.TestCase):
         self.assertNotIn("-fPIC", lines[0])
 
     def test_without_a_library_each_way_to_one_is_told(self) -> None:
-        empty, ways = str(self.folder / "empty"), ("a release", "./install.sh", "tools/vga-library install", "PKG_CONFIG_PATH")
+        empty, ways = str(self.folder / "empty"), (
+            "a release",
+            "./install.sh",
+            "tools/vga-library install",
+            "PKG_CONFIG_PATH",
+        )
         folder, packages = self.crate(), {"PKG_CONFIG_PATH": f"{empty}/lib/pkgconfig"}
         for names, begins in (
             ({**packages, "ZAKLIMOT_PORTABLE": "0"}, "there is no library libzaklimot.\n"),
-            ({**packages, "CC": "no-cc"}, "there is no library libzaklimot, and no-cc can't be run: "),
-            ({**packages, "CC": "false"}, "false ended with exit status: 1, and compiles no library."),
+            (
+                {**packages, "CC": "no-cc"},
+                "there is no library libzaklimot, and no-cc can't be run: ",
+            ),
+            (
+                {**packages, "CC": "false"},
+                "false ended with exit status: 1, and compiles no library.",
+            ),
             ({"ZAKLIMOT_PORTABLE": "yes"}, "ZAKLIMOT_PORTABLE is yes, and it is to be 0 or 1.\n"),
-            ({"ZAKLIMOT_DIR": empty}, f"ZAKLIMOT_DIR is {empty}, and there is no lib/libzaklimot.a or .so.\n"),
-            ({"ZAKLIMOT_DIR": "kit"}, "ZAKLIMOT_DIR is kit, and a path is to begin with a slash.\n"),
+            (
+                {"ZAKLIMOT_DIR": empty},
+                f"ZAKLIMOT_DIR is {empty}, and there is no lib/libzaklimot.a or .so.\n",
+            ),
+            (
+                {"ZAKLIMOT_DIR": "kit"},
+                "ZAKLIMOT_DIR is kit, and a path is to begin with a slash.\n",
+            ),
         ):
             with self.subTest(names):
                 status, told, said = self.built(**names)
-                self.assertEqual((status, said[:len(begins)]), (1, begins))
+                self.assertEqual((status, said[: len(begins)]), (1, begins))
                 self.assertNotIn("rustc-link", told)
                 kit, compiler = "tools/vga-library make kit", "Debian's packages gcc and libc6-dev"
                 for way in (*ways, kit, "set ZAKLIMOT_DIR", compiler):
@@ -761,4 +1023,4 @@ class Finding(unittest.TestCase):
         (folder / "zaklimot.c").unlink()
         status, _, said = self.built(ZAKLIMOT_PORTABLE="1")
         told = f"there is no library libzaklimot, and no {folder}/zaklimot.c to compile.\n"
-        self.assertEqual((status, said[:len(told)]), (1, told))
+        self.assertEqual((status, said[: len(told)]), (1, told))

@@ -1,4 +1,5 @@
-"""The manual page and the completions in `share/` tell what the program's helps tell, and shells complete by them."""
+"""The manual page and the completions in `share/` tell what the program's helps tell, and shells
+complete by them."""
 
 import os
 import re
@@ -11,11 +12,17 @@ from vga_report.version import version
 from .test_edges import HELP
 from .tools import TOP, Folder, ended, hold
 
-PAGE, BASH, ZSH, FISH = (TOP / "share" / place for place in (
-    "man/man1/vga.1", "bash-completion/completions/vga", "zsh/site-functions/_vga",
-    "fish/vendor_completions.d/vga.fish",
-))
-# The helps that the program prints, by the names of its commands; and its own, with what each command does.
+PAGE, BASH, ZSH, FISH = (
+    TOP / "share" / place
+    for place in (
+        "man/man1/vga.1",
+        "bash-completion/completions/vga",
+        "zsh/site-functions/_vga",
+        "fish/vendor_completions.d/vga.fish",
+    )
+)
+# The helps that the program prints, by the names of its commands; and its own, with what each
+# command does.
 HELPS = {path.stem: path.read_text("utf-8") for path in HELP.glob("*.txt")}
 WHOLE = HELPS.pop("vga")
 COMMANDS = dict(re.findall(r"^  (\w+) +(\S.*)$", WHOLE.partition("\n\nOptions:")[0], re.M))
@@ -24,7 +31,11 @@ FILES = [*BARS, "fonts", "one two.vga", FONT]
 # An option as a help lists it: its names, what its value is, if it has one, and what it does.
 Option = tuple[tuple[str, ...], str, str]
 # How zsh and fish offer a value, by its name in the help.
-OFFERS = {"": ("", ""), "N": (":N: ", " -x"), "FILE": (':FILE:_files -g "*.fnt"', " -x -k -a '(__vga_files .fnt)'")}
+OFFERS = {
+    "": ("", ""),
+    "N": (":N: ", " -x"),
+    "FILE": (':FILE:_files -g "*.fnt"', " -x -k -a '(__vga_files .fnt)'"),
+}
 
 
 def options_of(text: str) -> set[Option]:
@@ -42,10 +53,13 @@ OPTIONS = {option for text in HELPS.values() for option in options_of(text)}
 
 
 class Files(unittest.TestCase):
-    """Each command and option stands in each file with what the help tells of it, and no other option does."""
+    """Each command and option stands in each file with what the help tells of it, and no other
+    option does."""
 
     def test_the_helps_are_read_whole(self) -> None:
-        self.assertEqual((set(COMMANDS), names_of(OPTIONS)), (set(HELPS), ["--fonts", "--help", "--until", "-h"]))
+        self.assertEqual(
+            (set(COMMANDS), names_of(OPTIONS)), (set(HELPS), ["--fonts", "--help", "--until", "-h"])
+        )
 
     def test_the_manual_page(self) -> None:
         text = PAGE.read_text("ascii")
@@ -93,23 +107,40 @@ class Shells(Folder):
         self.program("bin/vga", "#!/bin/sh\n")
 
     def assert_offered(self, words: tuple[str, ...], completion: Path, **more: list[str]) -> None:
-        """What a shell that is started by these words offers, in any order; more than one offer for some."""
+        """What a shell that is started by these words offers, in any order; more than one offer for
+        some."""
         offered = {
-            "vga ": [*COMMANDS], "vga help ": [*COMMANDS], "vga play ": [], "vga g": ["go"], "vga asm ": FILES,
-            "vga asm x b": BARS, "vga asm o": ["one two.vga"], "vga dis -- ": FILES, "vga dis -- -": [],
+            "vga ": [*COMMANDS],
+            "vga help ": [*COMMANDS],
+            "vga play ": [],
+            "vga g": ["go"],
+            "vga asm ": FILES,
+            "vga asm x b": BARS,
+            "vga asm o": ["one two.vga"],
+            "vga dis -- ": FILES,
+            "vga dis -- -": [],
             "vga -": names_of(options_of(WHOLE)),
             **{f"vga {name} -": names_of(options_of(HELPS[name])) for name in HELPS},
-            "vga run --until 5 b": BARS, "vga run --fonts ": FONTS, "vga go x --fonts ": FONTS,
-            "vga run x --fonts b": BARS, "vga go --until ": [],
+            "vga run --until 5 b": BARS,
+            "vga run --fonts ": FONTS,
+            "vga go x --fonts ": FONTS,
+            "vga run x --fonts b": BARS,
+            "vga go --until ": [],
         }
         path = f"{self.folder / 'bin'}:{os.environ['PATH']}"
         environment = {"HOME": str(self.folder), "PATH": path, "LANG": "C.UTF-8"}
         script = Path(__file__).with_name("manual") / f"completing.{words[0]}"
-        status, output, said = ended(*words, script, completion, *offered, cwd=self.folder / "files", env=environment)
+        status, output, said = ended(
+            *words, script, completion, *offered, cwd=self.folder / "files", env=environment
+        )
         self.assertEqual((status, said), (0, ""))
         lines = output.replace("\\", "").replace("/", "").splitlines()
         found = [sorted(filter(None, line.split("|"))) for line in lines]
-        hold(self, dict(zip(offered, found)).get, ((line, sorted(more.get(line, offered[line]))) for line in offered))
+        hold(
+            self,
+            dict(zip(offered, found)).get,
+            ((line, sorted(more.get(line, offered[line]))) for line in offered),
+        )
 
     def test_bash(self) -> None:
         self.assert_offered(("bash", "--norc", "--noprofile"), BASH)
@@ -121,4 +152,6 @@ class Shells(Folder):
     @unittest.skipUnless(shutil.which("fish"), "fish isn't installed")
     def test_fish(self) -> None:
         # Files without the ending come behind those with it.
-        self.assert_offered(("fish",), FISH, **{line: FILES for line in ("vga run --fonts ", "vga go x --fonts ")})
+        self.assert_offered(
+            ("fish",), FISH, **{line: FILES for line in ("vga run --fonts ", "vga go x --fonts ")}
+        )

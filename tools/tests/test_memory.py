@@ -6,8 +6,22 @@ import unittest
 from itertools import chain, repeat
 
 from vga_memory.command import (
-    CALLS, CRATES, ENDING, ENDINGS, FAULT, FILES, RIGHT, Answer, Job, Wrong, answers_of, calls_ending, growing,
-    job_ending, jobs, judge,
+    CALLS,
+    CRATES,
+    ENDING,
+    ENDINGS,
+    FAULT,
+    FILES,
+    RIGHT,
+    Answer,
+    Job,
+    Wrong,
+    answers_of,
+    calls_ending,
+    growing,
+    job_ending,
+    jobs,
+    judge,
 )
 
 from .tools import hold, hold_refused
@@ -24,9 +38,10 @@ class Trying(unittest.TestCase):
     def test_answers_are_read(self) -> None:
         output = b"== 000\na: b\n== 001\n== 002\n"
         errors = (
-            "allocations: at least 1\ncase=000 run=ended status=0 runners=1 proved=no\n"
-            "allocations: at least 1\nError: no\ncase=001 run=ended status=1 runners=1 proved=no\n"
-            "checked: fault kind=x\ncase=002 run=fault proved=no\ncases=3 ended=2 fault=1 differs=0 proved=no\n"
+            "allocations: at least 1\ncase=000 run=ended status=0 runners=1 proved=no\nallocations:"
+            " at least 1\nError: no\ncase=001 run=ended status=1 runners=1 proved=no\nchecked:"
+            " fault kind=x\ncase=002 run=fault proved=no\ncases=3 ended=2 fault=1 differs=0"
+            " proved=no\n"
         )
         self.assertEqual(
             answers_of(output, errors),
@@ -34,16 +49,24 @@ class Trying(unittest.TestCase):
         )
 
     def test_the_main_of_the_program_grows_first(self) -> None:
-        source, main = (CRATES / "vga" / "src" / "main.rt").read_text(), "    ExitCode::from(status_of_job(&rt))\n"
+        source, main = (
+            CRATES / "vga" / "src" / "main.rt"
+        ).read_text(), "    ExitCode::from(status_of_job(&rt))\n"
         changed = growing(source)
         self.assertIn("    let _ = grow(&rt);\n" + main, changed)
-        self.assertTrue(changed.startswith(source[:source.index("    ExitCode::from(")]))
-        hold_refused(self, growing, (("fn main() {}\n", "^main.rt has 0 lines "), (2 * main, "^main.rt has 2 lines ")))
+        self.assertTrue(changed.startswith(source[: source.index("    ExitCode::from(")]))
+        hold_refused(
+            self,
+            growing,
+            (("fn main() {}\n", "^main.rt has 0 lines "), (2 * main, "^main.rt has 2 lines ")),
+        )
 
     def test_what_each_job_answers(self) -> None:
         go, asm, refused = jobs().values()
         self.assertIn(b"\n6 ax=1015 bx=0000 cx=0203 dx=0100\n7 ", go.whole.written)
-        self.assertEqual((asm.whole.written[:4], len(asm.whole.written)), (b"VGAS", 44 + len(ENDING)))
+        self.assertEqual(
+            (asm.whole.written[:4], len(asm.whole.written)), (b"VGAS", 44 + len(ENDING))
+        )
         self.assertEqual(refused.whole.status, 2)
         for job in jobs().values():
             self.assertTrue(set(job.words) & set(FILES), "a job of files that are there")
@@ -52,22 +75,42 @@ class Trying(unittest.TestCase):
 class Endings(unittest.TestCase):
     def test_how_the_calls_end(self) -> None:
         cut = Answer(0, told().written.rpartition(b"print")[0], "")
-        hold(self, calls_ending, (
-            (told(), "each as in its example"), (told(print=": out of memory"), "print: out of memory"),
-            (told(run=": otherwise", decode=": out of memory"), "decode: out of memory, run: otherwise"),
-            (Answer(1, b"", "Error: memory allocation failed\n"), "before the calls"),
-            *((one, repr(one)) for one in (cut, told()._replace(status=3), Answer(-1, b"", ""))),
-        ))
+        hold(
+            self,
+            calls_ending,
+            (
+                (told(), "each as in its example"),
+                (told(print=": out of memory"), "print: out of memory"),
+                (
+                    told(run=": otherwise", decode=": out of memory"),
+                    "decode: out of memory, run: otherwise",
+                ),
+                (Answer(1, b"", "Error: memory allocation failed\n"), "before the calls"),
+                *(
+                    (one, repr(one))
+                    for one in (cut, told()._replace(status=3), Answer(-1, b"", ""))
+                ),
+            ),
+        )
 
     def test_how_a_job_ends(self) -> None:
         wrong = (
-            Answer(1, b"1 o", FAULT), Answer(1, b"2 ok\n", FAULT), Answer(0, b"1 ok\n", FAULT), Answer(0, b"1 ok\n", ""),
+            Answer(1, b"1 o", FAULT),
+            Answer(1, b"2 ok\n", FAULT),
+            Answer(0, b"1 ok\n", FAULT),
+            Answer(0, b"1 ok\n", ""),
             Answer(1, b"", "vga: F9 WriteFault\n"),
         )
-        hold(self, lambda answer: job_ending(JOB, answer), (
-            (JOB.whole, "done"), (Answer(1, b"", FAULT), "refused behind 0 lines"),
-            (Answer(1, b"1 ok\n", FAULT), "refused behind 1 lines"), *((answer, repr(answer)) for answer in wrong),
-        ))
+        hold(
+            self,
+            lambda answer: job_ending(JOB, answer),
+            (
+                (JOB.whole, "done"),
+                (Answer(1, b"", FAULT), "refused behind 0 lines"),
+                (Answer(1, b"1 ok\n", FAULT), "refused behind 1 lines"),
+                *((answer, repr(answer)) for answer in wrong),
+            ),
+        )
 
     def test_endings_that_are_others_are_told(self) -> None:
         for name, known in ENDINGS.items():
@@ -75,5 +118,11 @@ class Endings(unittest.TestCase):
             with contextlib.redirect_stdout(io.StringIO()) as output:
                 judge(name, endings)
             self.assertTrue(output.getvalue().startswith(f"{name}: {known[0][1]} {known[0][0]}, "))
-            for other in (endings[1:], endings[:-1], [*endings, "done"], ["done", *endings], [*endings[:-1], "else"]):
+            for other in (
+                endings[1:],
+                endings[:-1],
+                [*endings, "done"],
+                ["done", *endings],
+                [*endings[:-1], "else"],
+            ):
                 self.assertRaises(Wrong, judge, name, other)

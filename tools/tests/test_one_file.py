@@ -81,7 +81,8 @@ static void init_memories({INSTANCE}* instance) {{
 
 
 def setUpModule() -> None:
-    """Where the translators are lacking, the file is made all the same: only its head names them."""
+    """Where the translators are lacking, the file is made all the same: only its head names
+    them."""
     made = mock.patch.object(portable, "number_of", return_value="1")
     made.start()
     unittest.addModuleCleanup(made.stop)
@@ -92,38 +93,78 @@ class Made(unittest.TestCase):
         made = one_file(WRITTEN)
         for part in (
             # Where memory may have moved, it is found anew, and so it is where it was made larger.
-            "  i1 = f0(self, i1); m = self->memory;\n", "  i0 = memory_grow(self, i0);\n",
+            "  i1 = f0(self, i1); m = self->memory;\n",
+            "  i0 = memory_grow(self, i0);\n",
             # A place is the whole address.
             "  i32_store(j0 + 4, i1);\n",
             # A trap ends the function, and the one that has called it.
             "  if (i1 == 0) { self->is_broken = true; return; } i0 = i0 / i1;\n",
             "  f1(self, i1); if (NEVER(self->is_broken)) return ZAK_BROKEN;\n",
             "static u32 module_zak_one(module *self, u64 p0) {\n  u8 *m = self->memory;\n",
-            "static u32 f0(module *, u32);\n", "#define FIRST_PAGES 17u\n", "#define HEAP_BASE 1049840u\n",
+            "static u32 f0(module *, u32);\n",
+            "#define FIRST_PAGES 17u\n",
+            "#define HEAP_BASE 1049840u\n",
             "    memcpy(self->memory + 1048598u, d0, 2);\n    self->g0 = 1048576ull;\n",
         ):
             self.assertIn(part, made)
 
     def test_what_is_not_known_is_refused(self) -> None:
-        hold_refused(self, lambda old, new: one_file(WRITTEN.replace(old, new, 1)), (
-            ("DIV_U(w2c_i0, w2c_i1)", "CALL_INDIRECT(w2c_i0)", "words that are not known: CALL_INDIRECT"),
-            ("FUNC_EPILOGUE;\n}", "FUNC_EPILOGUE;\n  x\n}", "words that are not known: x"),
-            ("static void w2c_f1", "static int f1;\nstatic void w2c_f1", "no function that is known: static int f1"),
-            ("w2c_i0 = (u32)(w2c_j0);", "w2c_i0 = 8u;", "w2c_i0 is not the low half of an address"),
-            ("w2c_i1 = 7u;", "w2c_j0 = 7ull;", "w2c_i0 is not the low half of an address"),
-            ("65536);", "65536); w2c_g9", "its memory, globals or data are not as they are known"),
-            ("data_segment_data_w2c_d0, 2", "data_segment_data_w2c_d1, 2", "not as they are known"),
-            (FUNCTIONS, "", "it has no functions"),
-        ))
+        hold_refused(
+            self,
+            lambda old, new: one_file(WRITTEN.replace(old, new, 1)),
+            (
+                (
+                    "DIV_U(w2c_i0, w2c_i1)",
+                    "CALL_INDIRECT(w2c_i0)",
+                    "words that are not known: CALL_INDIRECT",
+                ),
+                ("FUNC_EPILOGUE;\n}", "FUNC_EPILOGUE;\n  x\n}", "words that are not known: x"),
+                (
+                    "static void w2c_f1",
+                    "static int f1;\nstatic void w2c_f1",
+                    "no function that is known: static int f1",
+                ),
+                (
+                    "w2c_i0 = (u32)(w2c_j0);",
+                    "w2c_i0 = 8u;",
+                    "w2c_i0 is not the low half of an address",
+                ),
+                ("w2c_i1 = 7u;", "w2c_j0 = 7ull;", "w2c_i0 is not the low half of an address"),
+                (
+                    "65536);",
+                    "65536); w2c_g9",
+                    "its memory, globals or data are not as they are known",
+                ),
+                (
+                    "data_segment_data_w2c_d0, 2",
+                    "data_segment_data_w2c_d1, 2",
+                    "not as they are known",
+                ),
+                (FUNCTIONS, "", "it has no functions"),
+            ),
+        )
 
     def test_places_are_followed(self) -> None:
         places = Places()
-        lines = [places.line(line) for line in (
-            "  w2c_i0 = (u32)(w2c_j0);", "  w2c_i1 = (u32)(w2c_j1);", "  w2c_i2 = (u32)(w2c_j2);",
-            "  memory_copy(w2c_i0, w2c_i1, w2c_i2);", "  w2c_i0 = i32_load8_u((u64)(w2c_i0) + 2u);",
-        )]
-        self.assertEqual(lines[3:], ["  memory_copy(w2c_j0, w2c_j1, w2c_j2);", "  w2c_i0 = i32_load8_u(w2c_j0 + 2u);"])
-        hold_refused(self, places.line, [("  memory_fill(w2c_i0, w2c_i1, w2c_i2);", "w2c_i0 is not the low half")])
+        lines = [
+            places.line(line)
+            for line in (
+                "  w2c_i0 = (u32)(w2c_j0);",
+                "  w2c_i1 = (u32)(w2c_j1);",
+                "  w2c_i2 = (u32)(w2c_j2);",
+                "  memory_copy(w2c_i0, w2c_i1, w2c_i2);",
+                "  w2c_i0 = i32_load8_u((u64)(w2c_i0) + 2u);",
+            )
+        ]
+        self.assertEqual(
+            lines[3:],
+            ["  memory_copy(w2c_j0, w2c_j1, w2c_j2);", "  w2c_i0 = i32_load8_u(w2c_j0 + 2u);"],
+        )
+        hold_refused(
+            self,
+            places.line,
+            [("  memory_fill(w2c_i0, w2c_i1, w2c_i2);", "w2c_i0 is not the low half")],
+        )
 
     def test_a_file_that_is_too_long(self) -> None:
         more = "  w2c_i0 = 65541u;\n"
@@ -133,7 +174,9 @@ class Made(unittest.TestCase):
     def test_another_file_is_told(self) -> None:
         self.addCleanup(setattr, checks, "written_by_wasm2c", checks.written_by_wasm2c)
         checks.written_by_wasm2c = lambda module: WRITTEN
-        self.assertRaisesRegex(Wrong, "is not the file that the crate makes", checks.check_file, b"")
+        self.assertRaisesRegex(
+            Wrong, "is not the file that the crate makes", checks.check_file, b""
+        )
 
 
 class Copies(unittest.TestCase):
@@ -142,7 +185,9 @@ class Copies(unittest.TestCase):
     def test_they_are_the_files(self) -> None:
         copies = TOP / "bindings" / "rust" / "zaklimot-sys" / "portable"
         files = (C_FILE, HEADER, TOP / "fonts" / "zaklimot.fnt")
-        self.assertEqual(sorted(path.name for path in copies.iterdir()), sorted(path.name for path in files))
+        self.assertEqual(
+            sorted(path.name for path in copies.iterdir()), sorted(path.name for path in files)
+        )
         for path in files:
             is_same = (copies / path.name).read_bytes() == path.read_bytes()
             self.assertTrue(is_same, f"cp {path.relative_to(TOP)} {copies.relative_to(TOP)}/")
@@ -156,13 +201,24 @@ class Kept(unittest.TestCase):
     def test_it_has_the_parts_by_hand_and_each_call(self) -> None:
         for path in (portable.MEMORY, *portable.CALLS):
             self.assertTrue(path.read_text("ascii") in self.text, path.name)
-        self.assertEqual(sorted(path.name for path in HAND.iterdir()),
-                         sorted(path.name for path in (portable.HEAD, portable.MEMORY, *portable.CALLS)))
+        self.assertEqual(
+            sorted(path.name for path in HAND.iterdir()),
+            sorted(path.name for path in (portable.HEAD, portable.MEMORY, *portable.CALLS)),
+        )
         for name in calls_of(HEADER.read_text("ascii")):
             self.assertTrue(f"static u32 module_{name}(module *self" in self.text, name)
-            self.assertTrue(re.search(rf"^(?:zak_status|uint32_t) {name}\(|^SHOW\({name},", self.text, re.M), name)
+            self.assertTrue(
+                re.search(rf"^(?:zak_status|uint32_t) {name}\(|^SHOW\({name},", self.text, re.M),
+                name,
+            )
 
     def test_its_head_tells_what_made_it(self) -> None:
         head = self.text.partition("*/")[0]
-        for word in ("SPDX-License-Identifier: MIT", "wasm-opt", "wasm2c", "Apache License", "No proof covers"):
+        for word in (
+            "SPDX-License-Identifier: MIT",
+            "wasm-opt",
+            "wasm2c",
+            "Apache License",
+            "No proof covers",
+        ):
             self.assertIn(word, head)

@@ -1,4 +1,5 @@
-"""Pages: listings with their pictures, and the page that runs scripts, as it is made and as `run --debug` opens it."""
+"""Pages: listings with their pictures, and the page that runs scripts, as it is made and as `run
+--debug` opens it."""
 
 from __future__ import annotations
 
@@ -19,7 +20,17 @@ from page_tests import command as tests_command
 from vga_page import command, editor, machine, making, page, sections
 from vga_page.making import LAYOUTS, OF_C, OF_PAGE, TRIPLES, check_module, retargeted, with_kit
 from vga_page.page import (
-    DATA, MADE, SCRIPT, STYLE, Sources, about, editor_in, joined, make_page, packed, page_text,
+    DATA,
+    MADE,
+    SCRIPT,
+    STYLE,
+    Sources,
+    about,
+    editor_in,
+    joined,
+    make_page,
+    packed,
+    page_text,
 )
 from vga_report import debugging
 from vga_report.debugging import DOCS, PAGE, data_element, page_data
@@ -39,7 +50,10 @@ OTHER_FONTS = bytes(9728)
 # Elements that have no end.
 VOID = {"meta", "input", "img", "br"}
 # What would load something, in a script or a style.
-LOADING = re.compile(r"https?:|//[a-z]|\burl\(|@import|\bimport\b|\bfetch\(|XMLHttpRequest|WebSocket|EventSource|\bsrc\s*=")
+LOADING = re.compile(
+    r"https?:|//[a-z]|\burl\(|@import|\bimport\b|\bfetch\("
+    r"|XMLHttpRequest|WebSocket|EventSource|\bsrc\s*="
+)
 
 
 MACHINE = machine.Machine(b"cpu", b"reads")
@@ -67,11 +81,14 @@ class Joining(Folder):
             return joined(Path(name))
 
     def test_one_script_of_all_modules(self) -> None:
-        script = self.joined({
-            "main.js": 'import { é } from "./one/a.js";\nconsole.log(é);\n',
-            "one/a.js": 'import { b } from "../b.js";\nexport const é = b() + "</script>é";\n',
-            "b.js": "export const b = () => [1, 2].at(-1);\n", "tests/one.js": "",
-        })
+        script = self.joined(
+            {
+                "main.js": 'import { é } from "./one/a.js";\nconsole.log(é);\n',
+                "one/a.js": 'import { b } from "../b.js";\nexport const é = b() + "</script>é";\n',
+                "b.js": "export const b = () => [1, 2].at(-1);\n",
+                "tests/one.js": "",
+            }
+        )
         # No character is spelt in ASCII, and nothing ends the page's script.
         self.assertIn("é", script)
         self.assertNotIn("</script", script)
@@ -81,14 +98,27 @@ class Joining(Folder):
 
     def test_what_does_not_fit_together(self) -> None:
         one = 'import { a } from "./a.js";\na();\n'
-        hold_refused(self, self.joined, (
-            ({"main.js": one}, '(?s)Could not resolve "./a.js".*main.js:1:18'),
-            ({"main.js": one, "a.js": "const a = 1;\n"}, 'Import "a" will always be undefined'),
-            ({"main.js": one, "a.js": "export const b = 1;\n"}, 'No matching export in "a.js" for import "a"'),
-            ({"main.js": "const a = 1;\nconst a = 2;\n"}, 'The symbol "a" has already been declared'),
-            ({"main.js": "", "one/a.js": ""}, "^one/a.js: no module that main.js leads to imports it"),
-            ({"a.js": ""}, 'Could not resolve "main.js"'),
-        ))
+        hold_refused(
+            self,
+            self.joined,
+            (
+                ({"main.js": one}, '(?s)Could not resolve "./a.js".*main.js:1:18'),
+                ({"main.js": one, "a.js": "const a = 1;\n"}, 'Import "a" will always be undefined'),
+                (
+                    {"main.js": one, "a.js": "export const b = 1;\n"},
+                    'No matching export in "a.js" for import "a"',
+                ),
+                (
+                    {"main.js": "const a = 1;\nconst a = 2;\n"},
+                    'The symbol "a" has already been declared',
+                ),
+                (
+                    {"main.js": "", "one/a.js": ""},
+                    "^one/a.js: no module that main.js leads to imports it",
+                ),
+                ({"a.js": ""}, 'Could not resolve "main.js"'),
+            ),
+        )
 
 
 @needs_esbuild
@@ -99,7 +129,10 @@ class Editors(Folder):
         made = editor.joined_editor(page.TARGETS)
         self.assertRegex(made.made, r"^CodeMirror 5\.[0-9.]+, joined by esbuild [0-9.]+$")
         self.assertTrue(made.script.startswith("/*! CodeMirror 5."))
-        for words in ("Copyright 2017 Marijn Haverbeke", "Permission is hereby granted, free of charge"):
+        for words in (
+            "Copyright 2017 Marijn Haverbeke",
+            "Permission is hereby granted, free of charge",
+        ):
             self.assertIn(words, made.script)
         # No path shows, so that the bytes are the same wherever this clone lies.
         self.assertNotRegex(made.script + made.style, r"/usr/|/tmp/|node_modules")
@@ -111,15 +144,26 @@ class Editors(Folder):
         text = built.decode("utf-8")
         self.assertEqual(editor_in(text), editor.joined_editor(page.TARGETS))
         module = tests_command.module_in(built)
-        other = text.replace(editor_in(text).made, "CodeMirror 5.1, joined by esbuild 0.1").replace("/*! CodeMirror", "/*! Other")
-        self.assertRegex(tests_command.check_built(module, other.encode("utf-8")), "around the editor CodeMirror 5.1, joined")
-        told = refused(tests_command.check_built, module, text.replace("/*! CodeMirror", "/*! Other").encode("utf-8"))
+        other = text.replace(editor_in(text).made, "CodeMirror 5.1, joined by esbuild 0.1").replace(
+            "/*! CodeMirror", "/*! Other"
+        )
+        self.assertRegex(
+            tests_command.check_built(module, other.encode("utf-8")),
+            "around the editor CodeMirror 5.1, joined",
+        )
+        told = refused(
+            tests_command.check_built,
+            module,
+            text.replace("/*! CodeMirror", "/*! Other").encode("utf-8"),
+        )
         self.assertRegex(told, "is not the page that its sources make, from line")
 
     def test_a_package_that_is_lacking(self) -> None:
         with mock.patch.object(editor, "FOLDER", self.folder):
             self.assertFalse(editor.is_there())
-            self.assertRegex(refused(editor.joined_editor, page.TARGETS), "install the package libjs-codemirror")
+            self.assertRegex(
+                refused(editor.joined_editor, page.TARGETS), "install the package libjs-codemirror"
+            )
 
 
 class Pages(Folder):
@@ -130,21 +174,40 @@ class Pages(Folder):
         # It holds the order of modules, the place of each part, and what the page is given.
         built = tests_command.built_page()
         module = tests_command.module_in(built)
-        self.assertRegex(tests_command.check_built(module, built), "its module is the one that the crate makes$")
+        self.assertRegex(
+            tests_command.check_built(module, built), "its module is the one that the crate makes$"
+        )
         self.assertRegex(check_module(module), r"^[\d,]+ bytes, \d+ calls, no imports, no table$")
         # No time is in what is packed.
         self.assertEqual(packed(b"module")[4:8], bytes(4))
 
     def test_a_frame_that_lacks_a_place(self) -> None:
-        frames = (FRAME.replace(STYLE, ""), FRAME + DATA, FRAME.replace(SCRIPT, ""), FRAME.replace(MADE, ""))
-        hold_refused(self, lambda sources: page_text(sources, {}), (
-            *((Sources(frame, "", ""), "index.html: <!-- zaklimot:") for frame in frames),
-            (small_sources(style="a::after { content: '</Style>' }"), "style.css: "),
-            (small_sources(script="a = '<!--';\n"), "main.js: a page would take <!-- for the end of a script"),
-        ))
+        frames = (
+            FRAME.replace(STYLE, ""),
+            FRAME + DATA,
+            FRAME.replace(SCRIPT, ""),
+            FRAME.replace(MADE, ""),
+        )
+        hold_refused(
+            self,
+            lambda sources: page_text(sources, {}),
+            (
+                *((Sources(frame, "", ""), "index.html: <!-- zaklimot:") for frame in frames),
+                (small_sources(style="a::after { content: '</Style>' }"), "style.css: "),
+                (
+                    small_sources(script="a = '<!--';\n"),
+                    "main.js: a page would take <!-- for the end of a script",
+                ),
+            ),
+        )
 
     def test_style_sheets_one_after_the_other(self) -> None:
-        places = {"style.css": "a {}\n", "view/b.css": "b {}\n", "a/c.css": "c {}\n", "tests/d.css": "d {}\n"}
+        places = {
+            "style.css": "a {}\n",
+            "view/b.css": "b {}\n",
+            "a/c.css": "c {}\n",
+            "tests/d.css": "d {}\n",
+        }
         for place, text in places.items():
             path = self.folder / place
             path.parent.mkdir(exist_ok=True)
@@ -156,7 +219,9 @@ class Pages(Folder):
         fits = "x" * (page.MOST_BYTES - length)
         self.assertEqual(len(small_page(b"", small_sources(fits))), page.MOST_BYTES)
         told = refused(small_page, b"", small_sources(f"{fits}x"))
-        self.assertEqual(told, "zaklimot.html: it would have 800,001 bytes, and 800,000 are the most")
+        self.assertEqual(
+            told, "zaklimot.html: it would have 800,001 bytes, and 800,000 are the most"
+        )
 
     def test_the_words_that_the_page_shares_with_the_tools(self) -> None:
         made = self.folder / "wordings.js"
@@ -165,16 +230,26 @@ class Pages(Folder):
         self.assertEqual(made.read_bytes(), (page.SOURCES / "script" / "wordings.js").read_bytes())
 
     def test_the_styles_of_the_page(self) -> None:
-        for place, text in {"style.css": "a {}\n", "one/b.css": "b {}\n", "one/a.css": "i {}\n", "tests/c.css": "u {}\n"}.items():
+        for place, text in {
+            "style.css": "a {}\n",
+            "one/b.css": "b {}\n",
+            "one/a.css": "i {}\n",
+            "tests/c.css": "u {}\n",
+        }.items():
             path = self.folder / place
             path.parent.mkdir(exist_ok=True)
             path.write_text(text, "utf-8")
         self.assertEqual(page.styles(self.folder), "a {}\ni {}\nb {}\n")
 
     def test_the_scripts_of_a_tutorial(self) -> None:
-        part = "## 1. One\n\n```\nframe\n```\n\nIn a terminal: `tools/vga-report run examples/tutorial/one.vga`.\n"
-        self.assertEqual(page.tutorial(f"# T\n\n{part}\n## 2. None\n\n```python\nx\n```\n"),
-                         [{"name": "one", "title": "1. One", "about": "", "text": "frame\n"}])
+        part = (
+            "## 1. One\n\n```\nframe\n```\n\nIn a terminal: `tools/vga-report run"
+            " examples/tutorial/one.vga`.\n"
+        )
+        self.assertEqual(
+            page.tutorial(f"# T\n\n{part}\n## 2. None\n\n```python\nx\n```\n"),
+            [{"name": "one", "title": "1. One", "about": "", "text": "frame\n"}],
+        )
         told = refused(page.tutorial, part.split("In a")[0])
         self.assertEqual(told, "TUTORIAL.md: a script of part 1. One has no file")
 
@@ -183,16 +258,27 @@ class Pages(Folder):
         found = sections.sections_of(text)
         self.assertEqual(list(found), ["a", "b-c-d", "e", "f"])
         self.assertEqual(found["a"]["blocks"], [["p", ["One."]]])
-        self.assertEqual(found["b-c-d"]["blocks"], [["p", ["Two."]], ["h", ["E"]], ["p", ["Three."]]])
+        self.assertEqual(
+            found["b-c-d"]["blocks"], [["p", ["Two."]], ["h", ["E"]], ["p", ["Three."]]]
+        )
         self.assertEqual(found["f"]["blocks"], [])
         (self.folder / "SCRIPT.md").write_text("# x\n", "utf-8")
-        self.assertEqual(refused(sections.quoted_sections, self.folder), "SCRIPT.md: it has no section the-text")
+        self.assertEqual(
+            refused(sections.quoted_sections, self.folder), "SCRIPT.md: it has no section the-text"
+        )
 
     def test_what_an_example_is_about(self) -> None:
-        hold(self, about, (
-            ("; A screen. Numbers are\n; hexadecimal.\n\nframe\n", "A screen."), ("\n; one\n\n; two\n", "one"),
-            ("; A screen\n; of text.\nframe ; a picture\n", "A screen of text."), ("frame\n; more.\n", ""), ("", ""),
-        ))
+        hold(
+            self,
+            about,
+            (
+                ("; A screen. Numbers are\n; hexadecimal.\n\nframe\n", "A screen."),
+                ("\n; one\n\n; two\n", "one"),
+                ("; A screen\n; of text.\nframe ; a picture\n", "A screen of text."),
+                ("frame\n; more.\n", ""),
+                ("", ""),
+            ),
+        )
 
 
 NATIVE = f"""target datalayout = "{LAYOUTS[0]}"
@@ -211,7 +297,8 @@ define internal void @inside() #8 {{
 
 declare void @llvm.trap() #9
 declare {{ i64, i64 }} @rattle_alloc(i64, i64)
-attributes #7 = {{ nounwind "probe-stack"="inline-asm" "stack-probe-size"="4096" "target-cpu"="x86-64-v2" }}
+attributes #7 = {{ nounwind "probe-stack"="inline-asm" "stack-probe-size"="4096" \
+"target-cpu"="x86-64-v2" }}
 """
 
 
@@ -219,14 +306,28 @@ class Retargeting(unittest.TestCase):
     def test_the_page_takes_numbers_of_32_bits_and_is_guarded(self) -> None:
         text = retargeted(NATIVE, OF_PAGE)
         for part in (
-            f'target triple = "{TRIPLES[1]}"', 'attributes #7 = { nounwind "no-builtin-bcmp"',
-            'define internal noundef i32 @"rattle::export zak_open"(ptr noundef %card, ptr noundef %0, i64',
-            "define noundef i32 @zak_open(i32 noundef %card, i32 noundef %0, i32 noundef %length) #9000 {",
-            "%was_inside = call i1 @__rattle_enter()", "call void @__rattle_leave()",
-            "%card.wide = zext i32 %card to i64", "%0.place = inttoptr i64 %0.wide to ptr",
-            '%answer = call i32 @"rattle::export zak_open"(ptr %card.place, ptr %0.place, i64 %length.wide)',
-            "define noundef i32 @page_take(i32 noundef %bytes)", "%low = trunc i64 %answer to i32",
-            '"wasm-export-name"="zak_open"', '"wasm-export-name"="page_take"',
+            f'target triple = "{TRIPLES[1]}"',
+            'attributes #7 = { nounwind "no-builtin-bcmp"',
+            (
+                'define internal noundef i32 @"rattle::export zak_open"(ptr noundef %card, ptr'
+                " noundef %0, i64"
+            ),
+            (
+                "define noundef i32 @zak_open(i32 noundef %card, i32 noundef %0, i32 noundef"
+                " %length) #9000 {"
+            ),
+            "%was_inside = call i1 @__rattle_enter()",
+            "call void @__rattle_leave()",
+            "%card.wide = zext i32 %card to i64",
+            "%0.place = inttoptr i64 %0.wide to ptr",
+            (
+                '%answer = call i32 @"rattle::export zak_open"(ptr %card.place, ptr %0.place, i64'
+                " %length.wide)"
+            ),
+            "define noundef i32 @page_take(i32 noundef %bytes)",
+            "%low = trunc i64 %answer to i32",
+            '"wasm-export-name"="zak_open"',
+            '"wasm-export-name"="page_take"',
         ):
             self.assertIn(part, text)
         self.assertNotIn("x86", text)
@@ -235,7 +336,10 @@ class Retargeting(unittest.TestCase):
     def test_the_c_file_takes_them_as_they_are_and_guards_itself(self) -> None:
         text = retargeted(NATIVE, OF_C)
         for part in (
-            "define noundef i32 @zak_open(ptr noundef %card, ptr noundef %0, i64 noundef %length) #9000 {",
+            (
+                "define noundef i32 @zak_open(ptr noundef %card, ptr noundef %0, i64 noundef"
+                " %length) #9000 {"
+            ),
             '%answer = call i32 @"rattle::export zak_open"(ptr %card, ptr %0, i64 %length)',
             "define noundef i64 @page_take(i64 noundef %bytes)",
         ):
@@ -244,20 +348,36 @@ class Retargeting(unittest.TestCase):
 
     def test_what_is_not_known_is_refused(self) -> None:
         front = "^the module for x86-64"
-        hold_refused(self, lambda line: retargeted(f"{NATIVE}{line}\n", OF_PAGE), ((line, f"{front}.*{told}") for line, told in (
-            ("declare i32 @puts(ptr)", "it calls puts, and"),
-            ("declare double @llvm.sqrt.f64(double)", "it calls llvm.sqrt.f64, and"),
-            ('declare void @"a b"()', "it calls a b, and"),
-            ('  call void asm sideeffect "nop", ""()', "it has inline assembly, and"),
-            ("  %v = load <4 x i32>, ptr %p", "it has a vector, and"),
-            ("  %p = load ptr addrspace(10), ptr %q", "it has an address space, and"),
-            ("  %r = call i32 %f(i32 1)", "it has a call by a pointer, and"),
-            ('attributes #8 = { "x86" }', "x86 is still named"),
-        )))
-        hold_refused(self, lambda old, new: retargeted(NATIVE.replace(old, new, 1), OF_PAGE), ((*row, f"{front}: ") for row in (
-            (LAYOUTS[0], "e"), (TRIPLES[0], "aarch64"),
-            ("define noundef i32 @zak", "define i32 @zak"), ("%card,", "%card zz,"),
-        )))
+        hold_refused(
+            self,
+            lambda line: retargeted(f"{NATIVE}{line}\n", OF_PAGE),
+            (
+                (line, f"{front}.*{told}")
+                for line, told in (
+                    ("declare i32 @puts(ptr)", "it calls puts, and"),
+                    ("declare double @llvm.sqrt.f64(double)", "it calls llvm.sqrt.f64, and"),
+                    ('declare void @"a b"()', "it calls a b, and"),
+                    ('  call void asm sideeffect "nop", ""()', "it has inline assembly, and"),
+                    ("  %v = load <4 x i32>, ptr %p", "it has a vector, and"),
+                    ("  %p = load ptr addrspace(10), ptr %q", "it has an address space, and"),
+                    ("  %r = call i32 %f(i32 1)", "it has a call by a pointer, and"),
+                    ('attributes #8 = { "x86" }', "x86 is still named"),
+                )
+            ),
+        )
+        hold_refused(
+            self,
+            lambda old, new: retargeted(NATIVE.replace(old, new, 1), OF_PAGE),
+            (
+                (*row, f"{front}: ")
+                for row in (
+                    (LAYOUTS[0], "e"),
+                    (TRIPLES[0], "aarch64"),
+                    ("define noundef i32 @zak", "define i32 @zak"),
+                    ("%card,", "%card zz,"),
+                )
+            ),
+        )
 
 
 def leb(value: int) -> bytes:
@@ -269,7 +389,9 @@ def module_of(names: list[str], *more: tuple[int, bytes], memory: int = 0) -> by
     exported = [*((name, 0) for name in names), ("memory", 2), ("__heap_base", 3)]
     listed = b"".join(leb(len(name)) + name.encode() + bytes([kind, 0]) for name, kind in exported)
     parts = [*more, (5, bytes([1, memory, 1])), (7, leb(len(exported)) + listed)]
-    return making.MAGIC + b"".join(bytes([number]) + leb(len(data)) + data for number, data in parts)
+    return making.MAGIC + b"".join(
+        bytes([number]) + leb(len(data)) + data for number, data in parts
+    )
 
 
 class Modules(unittest.TestCase):
@@ -277,16 +399,24 @@ class Modules(unittest.TestCase):
     right = [*calls, "page_take", "page_give"]
 
     def test_what_is_otherwise(self) -> None:
-        hold_refused(self, check_module, (
-            (module_of(self.right, (2, b"\0")), "it has imports"),
-            (module_of(self.right, (4, b"\0")), "it has a table"),
-            (module_of(self.right, (9, b"\0")), "it has elements of a table"),
-            (module_of(self.right, memory=4), "32-bit addresses"),
-            (module_of(self.right[1:]), f"it lacks {self.right[0]}"),
-            (module_of(self.calls), "it lacks page_give, page_take"),
-            (module_of([*self.right, "zak_more"]), "it exports what is not in zaklimot.h: zak_more"),
-            (module_of(self.right)[:-1], "it is cut off"), (b"\x7fELF", "it is no WebAssembly module"),
-        ))
+        hold_refused(
+            self,
+            check_module,
+            (
+                (module_of(self.right, (2, b"\0")), "it has imports"),
+                (module_of(self.right, (4, b"\0")), "it has a table"),
+                (module_of(self.right, (9, b"\0")), "it has elements of a table"),
+                (module_of(self.right, memory=4), "32-bit addresses"),
+                (module_of(self.right[1:]), f"it lacks {self.right[0]}"),
+                (module_of(self.calls), "it lacks page_give, page_take"),
+                (
+                    module_of([*self.right, "zak_more"]),
+                    "it exports what is not in zaklimot.h: zak_more",
+                ),
+                (module_of(self.right)[:-1], "it is cut off"),
+                (b"\x7fELF", "it is no WebAssembly module"),
+            ),
+        )
 
 
 class Tests(Folder):
@@ -296,9 +426,14 @@ class Tests(Folder):
         self.patch(mock.patch.object(command, "read_sources", small_sources))
         self.patch(mock.patch.object(page, "programs", list))
         self.patch(mock.patch.object(command, "made_or_kept", lambda *_: MACHINE))
-        module, made = Path(self.write("module", with_kit(module_of(Modules.right), "kit 1"))), self.folder / "page"
+        module, made = (
+            Path(self.write("module", with_kit(module_of(Modules.right), "kit 1"))),
+            self.folder / "page",
+        )
         status, output, _ = call(command.main, "make", made, "--module", module)
-        self.assertEqual((status, tests_command.module_in(made.read_bytes())), (0, module.read_bytes()))
+        self.assertEqual(
+            (status, tests_command.module_in(made.read_bytes())), (0, module.read_bytes())
+        )
         self.assertIn(f"{made}: {made.stat().st_size:,} bytes; its module has", output)
 
     def test_a_page_of_other_sources(self) -> None:
@@ -306,25 +441,61 @@ class Tests(Folder):
         self.patch(mock.patch.object(tests_command, "read_sources", small_sources))
         self.patch(mock.patch.object(page, "programs", list))
         made = small_page(module, small_sources())
-        self.assertRegex(tests_command.check_built(other, made), "of another kit, one: the suite judges that$")
-        data, empty = page_data(made.decode("utf-8")), base64.b64encode(packed(b"[]")).decode("ascii")
-        hold_refused(self, tests_command.check_built, (
-            (with_kit(module_of(Modules.right, (1, b"\0")), "one"), made, "is not the one that the crate makes"),
-            (module, small_page(module, small_sources("end();\n")), "is not the page that its sources make, from line 37 on"),
-            *((module, page_text(small_sources(), {**data, "examples": examples}).encode("utf-8"), told)
-              for examples, told in ((empty, "other data .* examples;"), ("AAAA", "is not packed as it"))),
-        ))
+        self.assertRegex(
+            tests_command.check_built(other, made), "of another kit, one: the suite judges that$"
+        )
+        data, empty = page_data(made.decode("utf-8")), base64.b64encode(packed(b"[]")).decode(
+            "ascii"
+        )
+        hold_refused(
+            self,
+            tests_command.check_built,
+            (
+                (
+                    with_kit(module_of(Modules.right, (1, b"\0")), "one"),
+                    made,
+                    "is not the one that the crate makes",
+                ),
+                (
+                    module,
+                    small_page(module, small_sources("end();\n")),
+                    "is not the page that its sources make, from line 37 on",
+                ),
+                *(
+                    (
+                        module,
+                        page_text(small_sources(), {**data, "examples": examples}).encode("utf-8"),
+                        told,
+                    )
+                    for examples, told in (
+                        (empty, "other data .* examples;"),
+                        ("AAAA", "is not packed as it"),
+                    )
+                ),
+            ),
+        )
 
     def test_the_machine(self) -> None:
-        # A compiler that is another one's makes other bytes, which the tests judge; and sources may not be had.
+        # A compiler that is another one's makes other bytes, which the tests judge; and sources may
+        # not be had.
         made = small_page(module_of(Modules.right), small_sources())
-        self.assertRegex(tests_command.check_machine(made), "was made by another compiler|is taken as it is")
-        with mock.patch.multiple(tests_command, is_of_this_compiler=lambda _: True, made_machine=lambda: MACHINE):
-            self.assertRegex(tests_command.check_machine(made), "is the one that its sources make, 3 bytes$")
+        self.assertRegex(
+            tests_command.check_machine(made), "was made by another compiler|is taken as it is"
+        )
         with mock.patch.multiple(
-            tests_command, is_of_this_compiler=lambda _: True, made_machine=lambda: MACHINE._replace(cpu=b"other"),
+            tests_command, is_of_this_compiler=lambda _: True, made_machine=lambda: MACHINE
         ):
-            self.assertRegex(refused(tests_command.check_machine, made), "is not the one that its sources make")
+            self.assertRegex(
+                tests_command.check_machine(made), "is the one that its sources make, 3 bytes$"
+            )
+        with mock.patch.multiple(
+            tests_command,
+            is_of_this_compiler=lambda _: True,
+            made_machine=lambda: MACHINE._replace(cpu=b"other"),
+        ):
+            self.assertRegex(
+                refused(tests_command.check_machine, made), "is not the one that its sources make"
+            )
         told: list[str] = []
         path = Path(self.write("page.html", ""))
         path.write_bytes(made)
@@ -333,15 +504,24 @@ class Tests(Folder):
         self.assertEqual(told, ["the machine stays as it was built before: no network"])
 
     def test_what_is_wrong(self) -> None:
-        ways, wrong = {"bytes": 2, tests_command.STEPS: 2}, [{"name": "n", "way": "w", "reason": "r"}]
+        ways, wrong = {"bytes": 2, tests_command.STEPS: 2}, [
+            {"name": "n", "way": "w", "reason": "r"}
+        ]
         told = f"by bytes 2; by {tests_command.STEPS} 2; of 2 cases"
         self.assertEqual(tests_command.judged({"ways": ways, "wrong": []}, 2), told)
-        hold_refused(self, lambda *answer: tests_command.judged(dict(zip(("ways", "wrong"), answer)), 2), (
-            (ways, wrong, "\n  n, by w: r$"), ({**ways, "text": 0}, [], "^too few cases were run"),
-        ))
+        hold_refused(
+            self,
+            lambda *answer: tests_command.judged(dict(zip(("ways", "wrong"), answer)), 2),
+            (
+                (ways, wrong, "\n  n, by w: r$"),
+                ({**ways, "text": 0}, [], "^too few cases were run"),
+            ),
+        )
         module = module_of(Modules.right)
         self.assertIn("the same twice", tests_command.check_modules([module, module]))
-        hold_refused(self, tests_command.check_modules, [([module, with_kit(module, "kit")], "two modules")])
+        hold_refused(
+            self, tests_command.check_modules, [([module, with_kit(module, "kit")], "two modules")]
+        )
         told = '{"agree": 2, "differ": 1, "expected": 3, "lines": ["a: r"]}'
         with mock.patch.object(tests_command, "run_node", return_value=told):
             self.assertRaisesRegex(Wrong, "\n  a: r$", tests_command.check_own, Path("module"))
@@ -359,7 +539,9 @@ class Tests(Folder):
             (f'{front}test.skip("left out", () => {{}});\n{others}', "100 pass, .*'skipped': '1'"),
         ):
             self.write("one.mjs", text)
-            self.assertRaisesRegex(Wrong, told, tests_command.check_scripts, Path("module"), None, self.folder)
+            self.assertRaisesRegex(
+                Wrong, told, tests_command.check_scripts, Path("module"), None, self.folder
+            )
         self.write("one.mjs", front + others)
         told = tests_command.check_scripts(Path("module"), None, self.folder)
         self.assertEqual(told, "100 tests of the page's scripts pass")
@@ -397,21 +579,30 @@ class Opened(Fake):
             (("-",), TEXT.encode(), {"text": TEXT, "fonts": None}),
             # Bytes of a text that are no text.
             (("-",), b"frame ; \xff\n\0\n", {"text": "frame ; \ufffd\n\0\n", "fonts": None}),
-            (("-", *own), given, {"bytes": coded(given).decode(), "fonts": coded(OTHER_FONTS).decode()}),
+            (
+                ("-", *own),
+                given,
+                {"bytes": coded(given).decode(), "fonts": coded(OTHER_FONTS).decode()},
+            ),
         ):
             status, page, said = self.debugged(*words, given=data)
             self.assertEqual((status, said), (0, ""))
             self.assertEqual(self.opened(page), {"name": "standard input", **wanted})
 
-    def debugged(self, path: str, *words: str, given: bytes = b"", made: str = "-") -> tuple[int, str, str]:
-        """Exit status, standard output and standard error of a run that writes a page, and nothing else."""
+    def debugged(
+        self, path: str, *words: str, given: bytes = b"", made: str = "-"
+    ) -> tuple[int, str, str]:
+        """Exit status, standard output and standard error of a run that writes a page, and nothing
+        else."""
         return self.run_tool("run", path, "--debug", made, *words, given=given)
 
     def test_how_it_is_opened_at_a_step(self) -> None:
         made = str(self.made)
         told = f"{made}: open it in a browser, for instance as {self.made.as_uri()}"
         self.assertEqual(self.debugged(self.script, made=made), (0, f"{told}\n", ""))
-        self.assertEqual(self.debugged(self.script, "--until", "2", made=made), (0, f"{told}#step=2\n", ""))
+        self.assertEqual(
+            self.debugged(self.script, "--until", "2", made=made), (0, f"{told}#step=2\n", "")
+        )
         pages = unquote(page_data(self.made.read_text("utf-8"))["pages"])
         self.assertEqual((self.folder / pages).resolve(), DOCS)
 
@@ -424,7 +615,11 @@ class Opened(Fake):
             told = "^vga-report: built.html: it is not the page that runs scripts\n$"
             hold_undone(self, self.debugged(self.script, made=str(self.made)), told)
             built.write_bytes(PAGE.read_bytes())
-            hold_undone(self, self.debugged(self.script, made=str(built)), f"^vga-report: {built}: it is read as ")
+            hold_undone(
+                self,
+                self.debugged(self.script, made=str(built)),
+                f"^vga-report: {built}: it is read as ",
+            )
         self.assertFalse(self.made.exists())
 
     def test_the_listing_links_to_it(self) -> None:
@@ -433,14 +628,24 @@ class Opened(Fake):
         for path in (self.path, "-"):
             with self.subTest(path):
                 words = ("--html", str(html), "--debug", str(made))
-                status, output, said = self.run_script(*words, path=path, given=Path(self.path).read_bytes())
+                status, output, said = self.run_script(
+                    *words, path=path, given=Path(self.path).read_bytes()
+                )
                 self.assertEqual((status, said), (0, ""))
-                self.assertTrue(output.endswith("\n6 steps, 1 refused, 1 picture, 4 of 4 answers as expected\n"))
-                self.assertIn('<a href="x%20y/debug.html">Run it step by step</a>', html.read_text("utf-8"))
-                self.assertEqual(self.opened(made.read_text("utf-8"))["text"], Path(self.path).read_text())
+                self.assertTrue(
+                    output.endswith("\n6 steps, 1 refused, 1 picture, 4 of 4 answers as expected\n")
+                )
+                self.assertIn(
+                    '<a href="x%20y/debug.html">Run it step by step</a>', html.read_text("utf-8")
+                )
+                self.assertEqual(
+                    self.opened(made.read_text("utf-8"))["text"], Path(self.path).read_text()
+                )
 
     def test_the_page_of_a_script_with_a_mistake(self) -> None:
-        status, _, said = self.run_text("frame\nmove 1\n", "--debug", str(self.made), "--html", "page.html")
+        status, _, said = self.run_text(
+            "frame\nmove 1\n", "--debug", str(self.made), "--html", "page.html"
+        )
         self.assertEqual((status, "F7 BadLine(2)" in said), (2, True), said)
         self.assertEqual(self.opened(self.made.read_text("utf-8"))["text"], "frame\nmove 1\n")
 
@@ -480,18 +685,24 @@ class Listings(Fake):
         reader.feed(page)
         reader.close()
         self.assertEqual((reader.wrong, reader.open), ([], []))
-        self.assertTrue(page.startswith("<!DOCTYPE html>\n<html lang=\"en\">\n"))
+        self.assertTrue(page.startswith('<!DOCTYPE html>\n<html lang="en">\n'))
         names = [attributes["id"] for _, attributes in reader.elements if "id" in attributes]
         self.assertEqual(len(names), len(set(names)))
         for tag, attributes in reader.elements:
             self.assertNotIn(tag, ("link", "iframe", "object", "embed", "base", "form", "a"))
             for name in ("src", "href", "srcset", "action", "data", "poster"):
-                self.assertTrue((attributes.get(name) or "data:").startswith("data:"), (tag, attributes))
+                self.assertTrue(
+                    (attributes.get(name) or "data:").startswith("data:"), (tag, attributes)
+                )
             self.assertFalse([name for name in attributes if name.startswith("on")])
         for part in ("style", "script"):
             self.assertIsNone(LOADING.search(reader.texts[part]), part)
-        metas = [attributes.get("content") or "" for tag, attributes in reader.elements if tag == "meta"]
-        self.assertTrue(any(content.startswith("default-src 'none'; img-src data:;") for content in metas))
+        metas = [
+            attributes.get("content") or "" for tag, attributes in reader.elements if tag == "meta"
+        ]
+        self.assertTrue(
+            any(content.startswith("default-src 'none'; img-src data:;") for content in metas)
+        )
         return reader
 
     def frames(self, page: str) -> list[dict[str, object]]:
@@ -499,19 +710,29 @@ class Listings(Fake):
         return json.loads(found)
 
     def test_a_run(self) -> None:
-        page, told = self.folder / "page.html", "6 steps, 1 refused, 1 picture, 4 of 4 answers as expected\n"
+        page, told = (
+            self.folder / "page.html",
+            "6 steps, 1 refused, 1 picture, 4 of 4 answers as expected\n",
+        )
         self.assertEqual(self.run_script("--html", str(page)), (0, told, ""))
         text = page.read_text(encoding="utf-8")
         self.assertEqual(self.run_script("--html", "-"), (0, text, told))
         self.assertEqual(self.frames(text), [{"step": 4, "title": "step 4, 9x1", "images": ["p1"]}])
-        images = [attributes for tag, attributes in self.assert_stands_alone(text).elements if tag == "img"]
+        images = [
+            attributes
+            for tag, attributes in self.assert_stands_alone(text).elements
+            if tag == "img"
+        ]
         self.assertEqual([image["id"] for image in images], ["p1"])
         data = base64.b64decode((images[0]["src"] or "").partition(",")[2])
         self.assertEqual(png_rows(data), (9, 1, [b"\xff\0\0" * 4 + bytes(15)]))
-        self.assertIn('<tr class="refused"><td class="number">5</td><td class="number">3</td><td>IN 3DA</td>', text)
+        self.assertIn(
+            '<tr class="refused"><td class="number">5</td><td class="number">3</td><td>IN 3DA</td>',
+            text,
+        )
 
     def test_what_a_script_says_is_no_part_of_the_page(self) -> None:
-        path = self.write("<b>&.vga", "get <script>alert(1)</script> ; = <i>\"&\n")
+        path = self.write("<b>&.vga", 'get <script>alert(1)</script> ; = <i>"&\n')
         status, text, _ = self.run_script("--html", "-", path=path)
         self.assertEqual(status, 1)
         self.assert_stands_alone(text)
@@ -519,7 +740,9 @@ class Listings(Fake):
         self.assertIn('<tr class="differs">', text)
 
     def test_two_reports(self) -> None:
-        path, other = self.report("a", "00", PICTURE), self.report("b", "01", ppm(9, 1, RED * 3 + BLACK * 6))
+        path, other = self.report("a", "00", PICTURE), self.report(
+            "b", "01", ppm(9, 1, RED * 3 + BLACK * 6)
+        )
         page = self.folder / "page.html"
         status, output, said = run("compare", path, other, "--html", str(page))
         self.assertEqual((status, said), (1, ""))
@@ -528,7 +751,9 @@ class Listings(Fake):
         reader = self.assert_stands_alone(text)
         self.assertEqual(len([tag for tag, _ in reader.elements if tag == "canvas"]), 3)
         title = "step 2: 1 of 9 dots differ, the first is dot 3 of row 0: 3F0000, not 000000"
-        self.assertEqual(self.frames(text), [{"step": 2, "title": title, "images": ["p1", "p2", "p3"]}])
+        self.assertEqual(
+            self.frames(text), [{"step": 2, "title": title, "images": ["p1", "p2", "p3"]}]
+        )
         sources = [attributes["src"] or "" for tag, attributes in reader.elements if tag == "img"]
         marked = png_rows(base64.b64decode(sources[2].partition(",")[2]))
         self.assertEqual(marked, (9, 1, [b"\x55\0\0" * 3 + b"\xff\x20\x20" + bytes(15)]))

@@ -1,4 +1,5 @@
-"""The pages: their links and commands, the tutorial as its files, and what they say of the sources."""
+"""The pages: their links and commands, the tutorial as its files, and what they say of the
+sources."""
 
 from __future__ import annotations
 
@@ -21,7 +22,16 @@ from vga_report.words import SUITE
 from zaklimot import Script, format
 
 from .tools import (
-    EXAMPLES, TOOLS, TOP, Folder, call, ended, hold_undone, png_chunks, run_program, run_tool,
+    EXAMPLES,
+    TOOLS,
+    TOP,
+    Folder,
+    call,
+    ended,
+    hold_undone,
+    png_chunks,
+    run_program,
+    run_tool,
     want_program,
 )
 
@@ -38,28 +48,38 @@ SCRIPTS = EXAMPLES / "tutorial"
 CIRCLE = EXAMPLES / "python" / "circle.py"
 # What the page has whole, in its order. The circle's script is too long for it.
 WHOLE = [
-    SCRIPTS / "hello.vga", SCRIPTS / "eight-pixels.vga", CIRCLE, SCRIPTS / "going-round.vga",
-    SCRIPTS / "three-bands.vga", SCRIPTS / "lost-pixels.vga",
+    SCRIPTS / "hello.vga",
+    SCRIPTS / "eight-pixels.vga",
+    CIRCLE,
+    SCRIPTS / "going-round.vga",
+    SCRIPTS / "three-bands.vga",
+    SCRIPTS / "lost-pixels.vga",
 ]
 BLOCK = re.compile(r"^```\w*\n(.*?)^```$", re.M | re.S)
 # The commands of examples/README.md that make pictures: script, stop, words of `pictures`, file.
 MAKING = re.compile(
     r"vga go (examples/tutorial/\S+)( --until \d+)? --fonts fonts/zaklimot\.fnt \|\n"
-    r" +tools/vga-report pictures (.*?) ?>? (docs/pictures/\S+)$", re.M,
+    r" +tools/vga-report pictures (.*?) ?>? (docs/pictures/\S+)$",
+    re.M,
 )
 # The tutorial's pictures stay small.
 MOST_BYTES, MOST_MOVING_BYTES = 40_000, 100_000
 # A number of wrong bodies in a page's words.
 COUNTED = re.compile(r"([\d,]+) wrong bodies|[Ww]rong bodies, ([\d,]+) of them")
-# A wrong body: a file of its crate, and in it texts that stand there once, each with what it becomes.
+# A wrong body: a file of its crate, and in it texts that stand there once, each with what it
+# becomes.
 PLACE = re.compile(r"\nold: (.*)\nnew: (.*)")
 WRONG_BODY = re.compile(rf"file: (src/[\w/]+\.rt)((?:{PLACE.pattern})+)\n?")
 # The definitions of the plain screen, of its dots and of its report.
-SCREENS = [f"bios_screen/specs/{name}.antt" for name in (
-    "Screen", "Step", "Colours", "Loaded", "Called", "Fresh", "Picture", "Drawing")] + [
-    f"vga_run/specs/{name}.antt" for name in ("ScreenReport", "DotReport")]
-# What such a file has from the definitions of services. Their plans are compared with, and not shared.
-SHARED = re.compile(r"(?m)^use Rattle\.bios_services\.specs\.(?!declared|Service\b|Plan\b)\w+\.\{([^}]*)\}")
+SCREENS = [
+    f"bios_screen/specs/{name}.antt"
+    for name in ("Screen", "Step", "Colours", "Loaded", "Called", "Fresh", "Picture", "Drawing")
+] + [f"vga_run/specs/{name}.antt" for name in ("ScreenReport", "DotReport")]
+# What such a file has from the definitions of services. Their plans are compared with, and not
+# shared.
+SHARED = re.compile(
+    r"(?m)^use Rattle\.bios_services\.specs\.(?!declared|Service\b|Plan\b)\w+\.\{([^}]*)\}"
+)
 # What the model has from the adapter: the four registers, and the names of refusals.
 NAMES = {"bios_services::Regs", "vga_bits::Refusal"}
 
@@ -71,18 +91,23 @@ def prose(text: str) -> Iterator[str]:
         if FENCE.match(line):
             inside = not inside
         elif not inside and not line.startswith("    "):
-            yield re.sub(r"`[^`]*`", lambda code: "`" + re.sub(r"[\[\]()]", "", code.group()) + "`", line)
+            yield re.sub(
+                r"`[^`]*`", lambda code: "`" + re.sub(r"[\[\]()]", "", code.group()) + "`", line
+            )
 
 
 def anchors(text: str) -> set[str]:
-    """All anchors of a page: those of its headings, the second of a name with -1, and those that it names itself."""
+    """All anchors of a page: those of its headings, the second of a name with -1, and those that it
+    names itself."""
     found: set[str] = set()
     for line in prose(text):
         found.update(ANCHOR.findall(line))
         heading = HEADING.match(line)
         if heading:
             # The letters of the heading in lower case, blanks as hyphens, and no other marks.
-            plain = re.sub(r"\[([^\]]*)\]\([^)]*\)", r"\1", heading.group(1)).replace("`", "").lower()
+            plain = (
+                re.sub(r"\[([^\]]*)\]\([^)]*\)", r"\1", heading.group(1)).replace("`", "").lower()
+            )
             name, more = re.sub(r"[^\w\- ]", "", plain).replace(" ", "-"), 0
             while name + (f"-{more}" if more else "") in found:
                 more += 1
@@ -100,7 +125,11 @@ def broken(page: Path, text: str) -> list[str]:
         file = (page.parent / path).resolve() if path else page
         if file != page and not file.exists():
             wrong.append(target)
-        elif anchor and file.suffix == ".md" and anchor not in anchors(text if file == page else file.read_text("utf-8")):
+        elif (
+            anchor
+            and file.suffix == ".md"
+            and anchor not in anchors(text if file == page else file.read_text("utf-8"))
+        ):
             wrong.append(target)
     return wrong
 
@@ -114,7 +143,9 @@ def files(*patterns: str) -> list[str]:
     """The files of the repository whose paths fit a pattern, or all of them."""
     words = ["git", "ls-files", "-z", "--cached", "--others", "--exclude-standard", "--", *patterns]
     listed = subprocess.run(words, cwd=TOP, capture_output=True, check=True).stdout
-    return [name for name in sorted(set(listed.decode().split("\0"))) if name and (TOP / name).exists()]
+    return [
+        name for name in sorted(set(listed.decode().split("\0"))) if name and (TOP / name).exists()
+    ]
 
 
 def pages() -> list[Path]:
@@ -123,7 +154,8 @@ def pages() -> list[Path]:
 
 
 def named_files(text: str) -> Iterator[tuple[str, str]]:
-    """The folder and the name of each file that rows of a table name, as `vga_host`: `src/host.rt`, `specs/Ports.antt`."""
+    """The folder and the name of each file that rows of a table name, as `vga_host`: `src/host.rt`,
+    `specs/Ports.antt`."""
     for line in text.splitlines():
         folder = ""
         for name, colon in re.findall(r"`([^` ]+)`(:?)", line):
@@ -144,18 +176,28 @@ class Links(unittest.TestCase):
                 self.assertEqual(broken(page, page.read_text("utf-8")), [])
 
     def test_a_broken_link_is_found(self) -> None:
-        text = "# One\n\n## Two `and` more\n\n[a](#two-and-more) [b](#none) [c](none.md) [d](README.md#none)\n\n    [e](none.md)\n"
+        text = (
+            "# One\n\n## Two `and` more\n\n[a](#two-and-more) [b](#none) [c](none.md)"
+            " [d](README.md#none)\n\n    [e](none.md)\n"
+        )
         self.assertEqual(broken(TOP / "page.md", text), ["#none", "none.md", "README.md#none"])
 
     def test_headings_of_one_name(self) -> None:
-        self.assertEqual(anchors('# A b\n\n# A b\n\n<a id="x.y"></a>\n```\n# no\n```\n'), {"a-b", "a-b-1", "x.y"})
+        self.assertEqual(
+            anchors('# A b\n\n# A b\n\n<a id="x.y"></a>\n```\n# no\n```\n'), {"a-b", "a-b-1", "x.y"}
+        )
 
 
 class Touched(unittest.TestCase):
     """Each file that a change goes through, as CONTRIBUTING tells them, is there."""
 
     def test_each_is_there(self) -> None:
-        text = (TOP / "CONTRIBUTING.md").read_text("utf-8").partition("\n## What a change touches\n")[2].partition("\n## ")[0]
+        text = (
+            (TOP / "CONTRIBUTING.md")
+            .read_text("utf-8")
+            .partition("\n## What a change touches\n")[2]
+            .partition("\n## ")[0]
+        )
         named, listed = set(named_files(text)), files()
         self.assertGreater(len(named), 100)
         for folder, name in sorted(named):
@@ -175,7 +217,10 @@ class Commands(unittest.TestCase):
 
     def test_one_that_lost_its_indentation_is_found(self) -> None:
         lost = "tools/vga-report text report.txt"
-        text = f"# One\n\n{lost}\n\n    {lost}\n\n```\n{lost}\n```\n`{lost}` is a\ntools-of-tests/one\n"
+        text = (
+            f"# One\n\n{lost}\n\n    {lost}\n\n```\n{lost}\n```\n`{lost}` is"
+            " a\ntools-of-tests/one\n"
+        )
         self.assertEqual(commands_in_prose(text), [lost])
 
 
@@ -186,16 +231,23 @@ class Front(unittest.TestCase):
         for page in (TOP / "README.md", TUTORIAL):
             lines = page.read_text("utf-8").splitlines()
             # A row of a table and a picture are one line each, however long.
-            self.assertEqual([line for line in lines if len(line) > 100 and not line.startswith(("|", "!["))], [])
+            self.assertEqual(
+                [line for line in lines if len(line) > 100 and not line.startswith(("|", "!["))], []
+            )
 
     def test_the_page_that_runs_scripts_has_the_size_that_is_told(self) -> None:
         size = (TOP / "page" / "zaklimot.html").stat().st_size
-        self.assertIn(f"The page has {size:,} bytes.", (TOP / "docs" / "PAGE.md").read_text("utf-8"))
+        self.assertIn(
+            f"The page has {size:,} bytes.", (TOP / "docs" / "PAGE.md").read_text("utf-8")
+        )
 
 
 # The reference pages, and their sections that are examples and no rules.
 REFERENCE = {
-    "REGISTERS": set(), "HOST-PATH": {"Worked example"}, "RASTER": {"Two examples"}, "MODES": set(),
+    "REGISTERS": set(),
+    "HOST-PATH": {"Worked example"},
+    "RASTER": {"Two examples"},
+    "MODES": set(),
     "SERVICES": {"A screen in ten steps"},
 }
 DEFINED = re.compile(r"\[`(\w+)`\]\(\.\./(crates/[^)]*\.antt)\)")
@@ -264,8 +316,14 @@ class Tutorial(unittest.TestCase):
     def test_the_check_in_a_browser_does_what_it_says(self) -> None:
         first = ("opening", "tutorial")
         by_hand = ("keeping", "writing", "typing", "panes", "sidebyside", "asking", "running")
-        told = {engine: "; ".join(f"{name}.mjs {engine}" for name in names)
-                for engine, names in (("chromium", first + by_hand), ("firefox", first + by_hand), ("webkit", first))}
+        told = {
+            engine: "; ".join(f"{name}.mjs {engine}" for name in names)
+            for engine, names in (
+                ("chromium", first + by_hand),
+                ("firefox", first + by_hand),
+                ("webkit", first),
+            )
+        }
         told["chromium"] += "; browser.mjs"
         fake = mock.Mock(side_effect=lambda words, *_: " ".join([words[0].name, *words[1:]]) + "\n")
         with mock.patch.object(command, "run_node", fake):
@@ -295,7 +353,9 @@ class Tutorial(unittest.TestCase):
         environment = {**os.environ, "PYTHONPATH": str(TOP / "bindings" / "python" / "src")}
         status, output, said = ended(sys.executable, "-B", CIRCLE, env=environment)
         self.assertEqual((status, said), (0, ""))
-        self.assertTrue(output == steps_of((SCRIPTS / "circle.vga").read_text("ascii")), "another script")
+        self.assertTrue(
+            output == steps_of((SCRIPTS / "circle.vga").read_text("ascii")), "another script"
+        )
 
     def test_what_the_page_counts(self) -> None:
         steps = steps_of((SCRIPTS / "circle.vga").read_text("ascii")).splitlines()
@@ -371,7 +431,9 @@ class WrongBodies(unittest.TestCase):
                 text = (path.parents[1] / found[1]).read_text()
                 for old, new in PLACE.findall(found[2]):
                     self.assertEqual(text.count(old), 1, old)
-                    self.assertNotRegex(f"{old}\n{new}", r"\b(ensures|requires|ghost|tactic|specs|proofs)\b")
+                    self.assertNotRegex(
+                        f"{old}\n{new}", r"\b(ensures|requires|ghost|tactic|specs|proofs)\b"
+                    )
                     self.assertNotEqual(old, new)
                     text = text.replace(old, new)
 
@@ -388,7 +450,13 @@ class Cases(unittest.TestCase):
     """The suite has as many cases as the pages say."""
 
     # The pages that tell the number of all cases, and how often each does.
-    TOLD = {"README.md": 1, "docs/PROOFS.md": 3, "docs/PAGE.md": 1, "docs/RELEASES.md": 3, "docs/LIBRARY-TESTS.md": 1}
+    TOLD = {
+        "README.md": 1,
+        "docs/PROOFS.md": 3,
+        "docs/PAGE.md": 1,
+        "docs/RELEASES.md": 3,
+        "docs/LIBRARY-TESTS.md": 1,
+    }
 
     def test_pages_count_them(self) -> None:
         count = len(read_cases(str(SUITE)))
@@ -398,19 +466,29 @@ class Cases(unittest.TestCase):
                 self.assertEqual(told, [str(count)] * times)
 
     def test_a_page_tells_of_each_folder(self) -> None:
-        page = (TOP / "docs" / "SUITE.md").read_text("utf-8").partition("## What the folders hold")[2]
+        page = (
+            (TOP / "docs" / "SUITE.md").read_text("utf-8").partition("## What the folders hold")[2]
+        )
         folders = {case.name.partition("/")[0] for case in read_cases(str(SUITE))}
-        self.assertEqual(sorted(folder for folder in folders if f"`{folder}/`" not in page.partition("\n## ")[0]), [])
+        self.assertEqual(
+            sorted(
+                folder for folder in folders if f"`{folder}/`" not in page.partition("\n## ")[0]
+            ),
+            [],
+        )
         self.assertIn("not UTF-8", page)
         self.assertIn("vga asm s.vga s.vga", (TOOLS / "README.md").read_text("utf-8"))
 
 
 class Model(unittest.TestCase):
-    """The slow model of the plain screen has definitions of its own, and the page names what laws share."""
+    """The slow model of the plain screen has definitions of its own, and the page names what laws
+    share."""
 
     def test_it_shares_no_definition(self) -> None:
         lines = [line for line in (TOP / "crates.txt").read_text().splitlines() if ":" in line]
-        crates = "|".join(line.partition(":")[0].split()[0] for line in lines if not line.startswith("#"))
+        crates = "|".join(
+            line.partition(":")[0].split()[0] for line in lines if not line.startswith("#")
+        )
         paths = sorted((TOP / "crates" / "vga_models" / "src").glob("plain_*.rt"))
         self.assertGreater(len(paths), 10)
         for path in paths:
@@ -430,7 +508,8 @@ class Model(unittest.TestCase):
 
 
 class Modules(unittest.TestCase):
-    """Each module of a tool stands in a table, and no page, script or test names one that is not there."""
+    """Each module of a tool stands in a table, and no page, script or test names one that is not
+    there."""
 
     NAMED = re.compile(
         r"from ((?:vga|page|library|bindings|emulator)_\w+)\.(\w+) import"
@@ -440,10 +519,18 @@ class Modules(unittest.TestCase):
     def test_tables_have_them_all(self) -> None:
         form = r"(?m)^\| Module of `(\w+)` \|.*\n\|---\|---\|\n((?:\|.*\n)+)"
         tables = dict(re.findall(form, (TOOLS / "README.md").read_text("utf-8")))
-        self.assertEqual(set(tables), {path.parent.name for path in TOOLS.glob("[!t]*/__init__.py")})
+        self.assertEqual(
+            set(tables), {path.parent.name for path in TOOLS.glob("[!t]*/__init__.py")}
+        )
         for name, rows in tables.items():
-            named = re.findall(r"`(\w+)`", "".join(row.split(" | ")[0] for row in rows.splitlines()))
-            there = [path.stem for path in (TOOLS / name).glob("[!_]*") if path.is_file() and path.suffix in (".py", "")]
+            named = re.findall(
+                r"`(\w+)`", "".join(row.split(" | ")[0] for row in rows.splitlines())
+            )
+            there = [
+                path.stem
+                for path in (TOOLS / name).glob("[!_]*")
+                if path.is_file() and path.suffix in (".py", "")
+            ]
             self.assertEqual(sorted(named), sorted(there), name)
 
     def test_each_is_there(self) -> None:

@@ -1,4 +1,5 @@
-"""Images into scripts: what scripts draw, in how few cycles, in which colours, and what is refused."""
+"""Images into scripts: what scripts draw, in how few cycles, in which colours, and what is
+refused."""
 
 from __future__ import annotations
 
@@ -14,7 +15,15 @@ from pathlib import Path
 from typing import Iterator, NamedTuple, Sequence
 
 from vga_picture.cells import FONTS_AT, Chooser, Chosen
-from vga_picture.colours import Colour, Fewer, Nearest, distance, indexed, middle_colours, outer_colours
+from vga_picture.colours import (
+    Colour,
+    Fewer,
+    Nearest,
+    distance,
+    indexed,
+    middle_colours,
+    outer_colours,
+)
 from vga_picture.command import main
 from vga_picture.mode import MODES
 from vga_picture.screen import MASKS, least_writes
@@ -70,24 +79,30 @@ def some_dots(width: int, height: int, colours: int) -> Dots:
 
 
 def glyph_lines(font: bytes, height: int, character: int) -> list[list[int]]:
-    """The lines of nine bits of a character: the ninth is the eighth where lines are drawn, and else blank."""
-    lines = ([byte >> 7 - x & 1 for x in range(8)] for byte in font[height * character:][:height])
+    """The lines of nine bits of a character: the ninth is the eighth where lines are drawn, and
+    else blank."""
+    lines = ([byte >> 7 - x & 1 for x in range(8)] for byte in font[height * character :][:height])
     return [[*line, line[7] if 0xC0 <= character < 0xE0 else 0] for line in lines]
 
 
 def text_dots(height: int = 16, own: int = 0) -> list[list[Colour]]:
-    """A page of cells at random, in sixteen colours, a third of it blank; as the font of so many lines shows them.
+    """A page of cells at random, in sixteen colours, a third of it blank; as the font of so many
+    lines shows them.
 
     So many glyphs are not the font's, but made at random.
     """
     chance = random.Random(3 if height == 16 else 5)
     colours = [(at * 4, 63 - at * 4, at * 9 & 63) for at in range(16)]
     rows, start = 400 // height, FONTS_AT[height]
-    font = bytearray(FONT[start:start + 256 * height])
-    font[height * 0x80:height * (0x80 + own)] = chance.randbytes(height * own)
+    font = bytearray(FONT[start : start + 256 * height])
+    font[height * 0x80 : height * (0x80 + own)] = chance.randbytes(height * own)
     dots: list[list[Colour]] = [[] for _ in range(rows * height)]
     for row, column in product(range(rows), range(80)):
-        character, front, back = chance.choice([0x20, 0x41, chance.randrange(256)]), chance.randrange(16), chance.randrange(16)
+        character, front, back = (
+            chance.choice([0x20, 0x41, chance.randrange(256)]),
+            chance.randrange(16),
+            chance.randrange(16),
+        )
         if chance.random() < 0.3:
             character, back = 0x20, 5
         if (row, column) == (rows - 1, 79):
@@ -110,7 +125,8 @@ def made_of(image: bytes, *words: str) -> tuple[str, bytes]:
 
 
 class Case(NamedTuple):
-    """An image, the words by which a script is made of it, what is told of that, and the picture that it is to show.
+    """An image, the words by which a script is made of it, what is told of that, and the picture
+    that it is to show.
 
     Without a picture it is to show what it says of itself.
     """
@@ -122,21 +138,34 @@ class Case(NamedTuple):
 
 
 def of_pixels() -> Iterator[Case]:
-    """Each mode, long and short; all colours that it has, and one; and rows of cells that are alike."""
+    """Each mode, long and short; all colours that it has, and one; and rows of cells that are
+    alike."""
     for mode, long, short in (
-        ("0D", "1,838 steps, 68,316", "1,589 steps, 72,082"), ("10", "2,466 steps, 68,944", "2,125 steps, 71,277"),
-        ("12", "1,967 steps, 68,445", "1,783 steps, 69,451"), ("13", "30,850 steps, 97,880", "19,680 steps, 112,663"),
+        ("0D", "1,838 steps, 68,316", "1,589 steps, 72,082"),
+        ("10", "2,466 steps, 68,944", "2,125 steps, 71,277"),
+        ("12", "1,967 steps, 68,445", "1,783 steps, 69,451"),
+        ("13", "30,850 steps, 97,880", "19,680 steps, 112,663"),
     ):
         dots = some_dots(MODES[mode].width, MODES[mode].height, min(200, len(MODES[mode].entries)))
         yield Case(ppm_of(dots), f"--mode {mode}", f" colours; {long} cycles, ", shown(dots, mode))
-        yield Case(ppm_of(dots), f"--mode {mode} --short", f" colours; {short} cycles, ", shown(dots, mode))
+        yield Case(
+            ppm_of(dots), f"--mode {mode} --short", f" colours; {short} cycles, ", shown(dots, mode)
+        )
     dots = [[(x % 16, y % 16, 7) for x in range(320)] for y in range(200)]
     yield Case(png_of(dots), "--mode 13", ", 256 colours; ", shown(dots, "13"))
     dots = [[(7, 8, 9)] * 320] * 200
-    yield Case(png_of(dots), "--mode 0D", ", 1 colour; 3 steps, .*: 2 int, 1 frame$", shown(dots, "0D"))
-    # Of thirty rows of cells one is written, each line the same: nine of its bytes are blank, and 71 are not.
+    yield Case(
+        png_of(dots), "--mode 0D", ", 1 colour; 3 steps, .*: 2 int, 1 frame$", shown(dots, "0D")
+    )
+    # Of thirty rows of cells one is written, each line the same: nine of its bytes are blank, and
+    # 71 are not.
     dots = [[RED if x % 9 == 4 else BLACK for x in range(640)]] * 480
-    yield Case(png_of(dots), "--mode 12 --short", ": 16,800 putw, 480 put, .*, 1 repeat$", shown(dots, "12"))
+    yield Case(
+        png_of(dots),
+        "--mode 12 --short",
+        ": 16,800 putw, 480 put, .*, 1 repeat$",
+        shown(dots, "12"),
+    )
     # Of eight bits six count.
     row = bytes(range(255)) * 3 + bytes(195)
     dots = [[(row[at] >> 2, row[at + 1] >> 2, row[at + 2] >> 2) for at in range(0, 960, 3)]] * 200
@@ -146,43 +175,101 @@ def of_pixels() -> Iterator[Case]:
 def of_other_sizes() -> Iterator[Case]:
     """Images that are stretched, or get bars.
 
-    A screen is four wide and three high: eight by three take half its height, one by one three quarters of its width.
+    A screen is four wide and three high: eight by three take half its height, one by one three
+    quarters of its width.
     """
     few, bar = [[(at // 60, 0, 0) for at in range(960)]] * 2, (32, 0, 63)
     for mode, words, dots, told, rows in (
-        ("0D", "--scale", [[RED, BLUE]], "2x1 stretched to 320x200, 2", [[RED] * 160 + [BLUE] * 160] * 200),
+        (
+            "0D",
+            "--scale",
+            [[RED, BLUE]],
+            "2x1 stretched to 320x200, 2",
+            [[RED] * 160 + [BLUE] * 160] * 200,
+        ),
         # A dot is the one under its middle.
         ("13", "--scale", few, "960x2 stretched to 320x200, 16", [few[0][1::3]] * 200),
-        ("13", "--fit", [[RED, BLUE] * 4] * 3, "8x3 stretched to 320x100, with bars of 000000 to 320x200, 3",
-         [[BLACK] * 320] * 50 + [[*[RED] * 40, *[BLUE] * 40] * 4] * 100 + [[BLACK] * 320] * 50),
-        ("13", "--fit", [[RED, RED, BLUE]] * 2, "3x2 stretched to 320x177, with bars of 000000 to 320x200, 3",
-         [[BLACK] * 320] * 11 + [[RED] * 213 + [BLUE] * 107] * 177 + [[BLACK] * 320] * 12),
-        ("13", "--fit --bars #8000fF", [[RED], [BLUE]], "1x2 stretched to 120x200, with bars of 8000FF to 320x200, 3",
-         [[bar] * 100 + [dot] * 120 + [bar] * 100 for dot in (RED, BLUE) for _ in range(100)]),
+        (
+            "13",
+            "--fit",
+            [[RED, BLUE] * 4] * 3,
+            "8x3 stretched to 320x100, with bars of 000000 to 320x200, 3",
+            [[BLACK] * 320] * 50 + [[*[RED] * 40, *[BLUE] * 40] * 4] * 100 + [[BLACK] * 320] * 50,
+        ),
+        (
+            "13",
+            "--fit",
+            [[RED, RED, BLUE]] * 2,
+            "3x2 stretched to 320x177, with bars of 000000 to 320x200, 3",
+            [[BLACK] * 320] * 11 + [[RED] * 213 + [BLUE] * 107] * 177 + [[BLACK] * 320] * 12,
+        ),
+        (
+            "13",
+            "--fit --bars #8000fF",
+            [[RED], [BLUE]],
+            "1x2 stretched to 120x200, with bars of 8000FF to 320x200, 3",
+            [[bar] * 100 + [dot] * 120 + [bar] * 100 for dot in (RED, BLUE) for _ in range(100)],
+        ),
     ):
         for image in (png_of(dots), ppm_of(dots)):
-            yield Case(image, f"--mode {mode} {words}", f"mode {mode}: {told} colours; ", shown(rows, mode))
+            yield Case(
+                image, f"--mode {mode} {words}", f"mode {mode}: {told} colours; ", shown(rows, mode)
+            )
 
 
 def of_text() -> Iterator[Case]:
     """Text of each number of rows, with and without glyphs of its own."""
     whole, cells = ppm_of(text_dots()), "2,000 of 2,000 cells fit"
-    yield Case(whole, "--mode 3", f"mode 3: 720x400, 16 colours, {cells}; 1,398 steps, 39,228 cycles, ", whole)
-    yield Case(whole, "--mode 3 --short", f" {cells}; 21 steps, .*: 15 int, 5 putw, 1 frame$", whole)
+    yield Case(
+        whole,
+        "--mode 3",
+        f"mode 3: 720x400, 16 colours, {cells}; 1,398 steps, 39,228 cycles, ",
+        whole,
+    )
+    yield Case(
+        whole, "--mode 3 --short", f" {cells}; 21 steps, .*: 15 int, 5 putw, 1 frame$", whole
+    )
     # Not each of the forty stands on the page.
-    for rows, height, told in ((28, 14, "2,240 of 2,240 cells fit, 33"), (50, 8, "4,000 of 4,000 cells fit, 39")):
+    for rows, height, told in (
+        (28, 14, "2,240 of 2,240 cells fit, 33"),
+        (50, 8, "4,000 of 4,000 cells fit, 39"),
+    ):
         image = ppm_of(text_dots(height, 40))
         for option in ("", " --short"):
-            yield Case(image, f"--mode 3 --rows {rows} --own-glyphs{option}", f", {told} glyphs of its own; ", image)
-    # Red, nearly red and blue in each line: two colours show it, and the background has that of the ninth dot.
-    line = [(60, 0, 0), (60, 0, 0), (60, 0, 0), (56, 0, 0), (0, 0, 60), (0, 0, 60), (60, 0, 0), (60, 0, 0), (0, 0, 60)]
+            yield Case(
+                image,
+                f"--mode 3 --rows {rows} --own-glyphs{option}",
+                f", {told} glyphs of its own; ",
+                image,
+            )
+    # Red, nearly red and blue in each line: two colours show it, and the background has that of the
+    # ninth dot.
+    line = [
+        (60, 0, 0),
+        (60, 0, 0),
+        (60, 0, 0),
+        (56, 0, 0),
+        (0, 0, 60),
+        (0, 0, 60),
+        (60, 0, 0),
+        (60, 0, 0),
+        (0, 0, 60),
+    ]
     image, line[3] = ppm_of([line * 80] * 400), (60, 0, 0)
     told = " 3 colours, 0 of 2,000 cells fit, 1 glyphs of its own; "
     yield Case(image, "--mode 3 --own-glyphs", told, ppm_of([line * 80] * 400))
-    # In C0 to DF the ninth dot is the eighth, so these characters keep their glyphs, and so does the blank.
+    # In C0 to DF the ninth dot is the eighth, so these characters keep their glyphs, and so does
+    # the blank.
     chance, ink = random.Random(6), [BLACK, (63, 63, 0)]
-    dots = [[ink[x % 9 < 8 and chance.randrange(2)] if y < 48 else BLACK for x in range(720)] for y in range(400)]
-    yield Case(ppm_of(dots), "--mode 3 --own-glyphs", " 2 colours, 1,983 of 2,000 cells fit, 223 glyphs of its own; ")
+    dots = [
+        [ink[x % 9 < 8 and chance.randrange(2)] if y < 48 else BLACK for x in range(720)]
+        for y in range(400)
+    ]
+    yield Case(
+        ppm_of(dots),
+        "--mode 3 --own-glyphs",
+        " 2 colours, 1,983 of 2,000 cells fit, 223 glyphs of its own; ",
+    )
     # Two dots of other colours in a cell.
     dots = text_dots()
     dots[0][:2] = list(dict.fromkeys(colour for colour in dots[5] if colour != dots[0][0]))[:2]
@@ -192,7 +279,8 @@ def of_text() -> Iterator[Case]:
 def of_many_colours() -> Iterator[Case]:
     """More colours than the mode has, made fewer in each way."""
     for words, way in (
-        ("--nearest", "the nearest"), ("--dither ordered", "an ordered dither"),
+        ("--nearest", "the nearest"),
+        ("--dither ordered", "an ordered dither"),
         ("--dither floyd", "the dither of Floyd and Steinberg"),
     ):
         told = f"mode 0D: 320x200, 16 colours for {len(set(chain(*MANY))):,}, by {way}; "
@@ -204,7 +292,10 @@ class Drawing(Folder):
 
     def test_what_is_told_and_what_the_program_draws(self) -> None:
         cases = [*of_pixels(), *of_other_sizes(), *of_text(), *of_many_colours()]
-        made = {str(number): made_of(case.image, *case.words.split()) for number, case in enumerate(cases)}
+        made = {
+            str(number): made_of(case.image, *case.words.split())
+            for number, case in enumerate(cases)
+        }
         runs = run_texts({number: text for number, (_, text) in made.items()})
         for case, (told, text), ran in zip(cases, made.values(), runs.values()):
             with self.subTest(case.words):
@@ -214,7 +305,10 @@ class Drawing(Folder):
                 self.assertNotIn(b" E", answers)
                 self.assertTrue(case.picture in (b"", size + dots), "another picture")
                 picture = Picture.of_ppm(size + dots)
-                self.assertEqual(text.splitlines()[-1].decode(), f"frame ; = picture {picture.size} {picture.sum}")
+                self.assertEqual(
+                    text.splitlines()[-1].decode(),
+                    f"frame ; = picture {picture.size} {picture.sum}",
+                )
 
     def test_bytes_are_the_same_script(self) -> None:
         image = png_of(some_dots(320, 200, 16))
@@ -231,60 +325,100 @@ class Drawing(Folder):
     def test_many_colours_are_refused(self) -> None:
         told = f"it has {len(set(chain(*MANY))):,} colours of six bits a component, and the mode 16"
         ways = "--nearest takes the nearest of 16, --dither mixes them"
-        self.assertEqual(refused(indexed, MANY, 16, Fewer.REFUSED, "image"), f"image: {told}: {ways}")
+        self.assertEqual(
+            refused(indexed, MANY, 16, Fewer.REFUSED, "image"), f"image: {told}: {ways}"
+        )
 
 
 class Writes(unittest.TestCase):
     def writes(self, *words: str) -> int:
-        """How many writes make one word another: a letter a plane, of the low bytes and then of the high ones."""
+        """How many writes make one word another: a letter a plane, of the low bytes and then of the
+        high ones."""
         have, want = (tuple(map(bytes, zip(*map(str.encode, word.split())))) for word in words)
         made, planes = least_writes(have, want), list(map(bytearray, have))
-        self.assertEqual([mask for mask, *_ in made], sorted({mask for mask, *_ in made}, key=MASKS.index))
+        self.assertEqual(
+            [mask for mask, *_ in made], sorted({mask for mask, *_ in made}, key=MASKS.index)
+        )
         for (mask, first, data), plane in product(made, range(4)):
             if mask >> plane & 1:
-                planes[plane][first:first + len(data)] = data
+                planes[plane][first : first + len(data)] = data
         self.assertEqual(tuple(map(bytes, planes)), want)
         return len(made)
 
     def test_a_word_takes_as_few_as_can_be(self) -> None:
-        hold(self, self.writes, (
-            ("---- ----", "aaaa xxxx", 1), ("---- ----", "-aa- -xx-", 1), ("a-b- xx--", "a-bc xxxx", 2),
-            ("---- ----", "aabb xxyy", 2), ("---- ----", "aabb xxxy", 3), ("---- ----", "abcd xxyy", 4),
-            # All get a and x, then two of them b, and two y: fewer than the words, and than the bytes.
-            ("---- ----", "aabb xyxy", 3), ("---- ----", "aabb xyxz", 3),
-        ))
+        hold(
+            self,
+            self.writes,
+            (
+                ("---- ----", "aaaa xxxx", 1),
+                ("---- ----", "-aa- -xx-", 1),
+                ("a-b- xx--", "a-bc xxxx", 2),
+                ("---- ----", "aabb xxyy", 2),
+                ("---- ----", "aabb xxxy", 3),
+                ("---- ----", "abcd xxyy", 4),
+                # All get a and x, then two of them b, and two y: fewer than the words, and than the
+                # bytes.
+                ("---- ----", "aabb xyxy", 3),
+                ("---- ----", "aabb xyxz", 3),
+            ),
+        )
 
 
 class Colours(unittest.TestCase):
     def test_colours_that_stand_for_more(self) -> None:
-        hold(self, lambda counts, most: middle_colours(Counter(counts), most), (
-            ({BLACK: 90, (1, 1, 1): 10, (60, 60, 60): 5, WHITE: 40, RED: 1, (62, 0, 0): 1}, 2, [BLACK, WHITE]),
-            ({BLACK: 90, (10, 10, 10): 10, (40, 40, 40): 60, (50, 50, 50): 40}, 2, [BLACK, (44, 44, 44)]),
-        ))
+        hold(
+            self,
+            lambda counts, most: middle_colours(Counter(counts), most),
+            (
+                (
+                    {BLACK: 90, (1, 1, 1): 10, (60, 60, 60): 5, WHITE: 40, RED: 1, (62, 0, 0): 1},
+                    2,
+                    [BLACK, WHITE],
+                ),
+                (
+                    {BLACK: 90, (10, 10, 10): 10, (40, 40, 40): 60, (50, 50, 50): 40},
+                    2,
+                    [BLACK, (44, 44, 44)],
+                ),
+            ),
+        )
         counts = Counter({(at, at, 9): 1 for at in range(6)})
         for chosen in (middle_colours, outer_colours):
             self.assertEqual((chosen(counts, 6), len(chosen(counts, 4))), (sorted(counts), 4))
 
     def test_no_colour_of_those_chosen_would_be_better_elsewhere(self) -> None:
-        # Twenty heaps of dots, and as many colours: each heap has one, whatever a cut at the median gives it.
+        # Twenty heaps of dots, and as many colours: each heap has one, whatever a cut at the median
+        # gives it.
         chance = random.Random(7)
-        middles = [(chance.randrange(4, 60), chance.randrange(4, 60), chance.randrange(4, 60)) for _ in range(20)]
+        middles = [
+            (chance.randrange(4, 60), chance.randrange(4, 60), chance.randrange(4, 60))
+            for _ in range(20)
+        ]
         counts: Counter[Colour] = Counter()
         for number, (red, green, blue) in enumerate(middles):
             for _ in range(40 * (number + 1)):
-                counts[red + chance.randint(-1, 1), green + chance.randint(-1, 1), blue + chance.randint(-1, 1)] += 1
+                counts[
+                    red + chance.randint(-1, 1),
+                    green + chance.randint(-1, 1),
+                    blue + chance.randint(-1, 1),
+                ] += 1
         chosen = middle_colours(counts, 20)
         for middle in middles:
             self.assertLess(min(distance(middle, colour) for colour in chosen), 8)
         lost, least = (
-            sum(count * min(distance(colour, other) for other in colours) for colour, count in counts.items())
+            sum(
+                count * min(distance(colour, other) for other in colours)
+                for colour, count in counts.items()
+            )
             for colours in (chosen, middles)
         )
         self.assertLess(lost, 1.1 * least)
 
     def test_the_nearest_is_found_whatever_was_found_before(self) -> None:
         chance = random.Random(3)
-        colours = [(chance.randrange(64), chance.randrange(64), chance.randrange(64)) for _ in range(60)]
+        colours = [
+            (chance.randrange(64), chance.randrange(64), chance.randrange(64)) for _ in range(60)
+        ]
         nearest = Nearest(colours)
         for _ in range(3000):
             dot = chance.randrange(-9, 73), chance.randrange(-9, 73), chance.randrange(-9, 73)
@@ -292,12 +426,18 @@ class Colours(unittest.TestCase):
             self.assertEqual(nearest(dot), far.index(min(far)))
 
     def test_a_dither_has_the_outermost_colours_where_it_needs_them(self) -> None:
-        # Four greys in the middle of others leave none for the ends; of twelve the outermost ones are near enough.
+        # Four greys in the middle of others leave none for the ends; of twelve the outermost ones
+        # are near enough.
         dots = [[(x // 2, x // 2, x // 2) for x in range(128)] for _ in range(64)]
         for most, has_ends in ((4, True), (12, False)):
-            floyd, nearest = (set(indexed(dots, most, way, "i")[0].colours) for way in (Fewer.FLOYD, Fewer.NEAREST))
+            floyd, nearest = (
+                set(indexed(dots, most, way, "i")[0].colours)
+                for way in (Fewer.FLOYD, Fewer.NEAREST)
+            )
             ends = {BLACK, WHITE}
-            self.assertEqual((ends <= floyd, ends & nearest, floyd == nearest), (has_ends, set(), not has_ends))
+            self.assertEqual(
+                (ends <= floyd, ends & nearest, floyd == nearest), (has_ends, set(), not has_ends)
+            )
 
     def test_dithers_keep_how_bright_an_area_is(self) -> None:
         dots = [[(x // 2, x // 2, x // 2) for x in range(128)] for _ in range(16)]
@@ -305,25 +445,37 @@ class Colours(unittest.TestCase):
         for fewer in (Fewer.NEAREST, Fewer.FLOYD, Fewer.ORDERED):
             image, _ = indexed(dots, 4, fewer, "i")
             reds = [bytes(image.colours[number][0] for number in row) for row in image.rows]
-            # How far the mean red of each column of blocks of eight by eight dots is from the image's.
-            means = [sum(sum(row[x:x + 8]) for row in reds) / 128 for x in range(0, 128, 8)]
-            errors[fewer] = sum(abs(mean - at * 4 - 1.5) for at, mean in enumerate(means)) / len(means)
+            # How far the mean red of each column of blocks of eight by eight dots is from the
+            # image's.
+            means = [sum(sum(row[x : x + 8]) for row in reds) / 128 for x in range(0, 128, 8)]
+            errors[fewer] = sum(abs(mean - at * 4 - 1.5) for at, mean in enumerate(means)) / len(
+                means
+            )
         self.assertGreater(errors[Fewer.NEAREST], 3)
         self.assertLess(max(errors[Fewer.FLOYD], errors[Fewer.ORDERED]), 1.5)
 
 
 class Text(unittest.TestCase):
     def test_no_other_cell_is_nearer(self) -> None:
-        chance, colours, font = random.Random(4), [BLACK, (20, 5, 30), (50, 60, 10), (63, 63, 63)], FONT[FONTS_AT[16]:]
+        chance, colours, font = (
+            random.Random(4),
+            [BLACK, (20, 5, 30), (50, 60, 10), (63, 63, 63)],
+            FONT[FONTS_AT[16] :],
+        )
         cell = bytes(chance.randrange(4) for _ in range(144))
         chooser = Chooser(font, MODES["3"], colours)
 
         def error(character: int, front: int, back: int) -> int:
             bits = chain.from_iterable(glyph_lines(font, 16, character))
-            return sum(distance(colours[front if bit else back], colours[dot]) for bit, dot in zip(bits, cell))
+            return sum(
+                distance(colours[front if bit else back], colours[dot])
+                for bit, dot in zip(bits, cell)
+            )
 
         found, every = chooser.chosen(cell), product(range(256), range(4), range(4))
-        self.assertEqual(found.error, error(found.character, found.attribute & 15, found.attribute >> 4))
+        self.assertEqual(
+            found.error, error(found.character, found.attribute & 15, found.attribute >> 4)
+        )
         self.assertEqual(found.error, min(error(*one) for one in every))
         # A cell of one colour is a blank, of colour 0 as a mode set leaves it.
         plain = [chooser.chosen(bytes([at] * 144)) for at in (0, 2)]
@@ -343,18 +495,25 @@ class Examples(unittest.TestCase):
         table = self.PAGE.partition("| Bytes as text |")[2]
         rows = re.findall(r"^\|.*\| ([\d,]+ \| [\d,]+ \| [\d,]+) \|$", table, re.M)
         for at, (size, mode) in enumerate((("640x480", "12"), ("320x200", "13"))):
-            for option, row in zip(("", " --short"), rows[2 * at:]):
+            for option, row in zip(("", " --short"), rows[2 * at :]):
                 told, text = self.made(size, f"--mode {mode}{option}")
-                self.assertEqual(" | ".join(re.findall(r"([\d,]+) (?:steps|cycles|bytes)", told)), row)
+                self.assertEqual(
+                    " | ".join(re.findall(r"([\d,]+) (?:steps|cycles|bytes)", told)), row
+                )
             example = EXAMPLES / f"test-card-{size.replace('x', '-by-')}.vga"
             self.assertTrue(text == example.read_bytes(), f"{example.name} is another script")
 
     def test_a_card_that_can_not_be_written(self) -> None:
         words = (sys.executable, EXAMPLES / "test_card.py", "320x200", "/no-such-folder/card.png")
-        self.assertEqual(ended(*words), (2, "", "test_card.py: /no-such-folder/card.png: No such file or directory\n"))
+        self.assertEqual(
+            ended(*words),
+            (2, "", "test_card.py: /no-such-folder/card.png: No such file or directory\n"),
+        )
 
     def test_what_the_page_shows(self) -> None:
         for size, words in (
-            ("640x480", "--mode 12 --short"), ("640x480", "--mode 3 --scale --short"), ("320x200", "--mode 12 --fit --nearest"),
+            ("640x480", "--mode 12 --short"),
+            ("640x480", "--mode 3 --scale --short"),
+            ("320x200", "--mode 12 --fit --nearest"),
         ):
             self.assertIn(f"card.png card.vga {words}\n    {self.made(size, words)[0]}", self.PAGE)

@@ -1,4 +1,5 @@
-"""The portable program answers what the proved one answers; it is found last, compiled once, and nothing is left behind."""
+"""The portable program answers what the proved one answers; it is found last, compiled once, and
+nothing is left behind."""
 
 from __future__ import annotations
 
@@ -24,7 +25,8 @@ from . import commands
 from .tools import BUILT, BUILT_PROGRAM, SIGNALS, TOP, Folder, begin, hold_refused, refused
 
 SOURCE = (TOP / "portable" / "vga.c").read_text("ascii")
-# What stands in the place of a compiler: it notes its words, does this, and makes a program that does that.
+# What stands in the place of a compiler: it notes its words, does this, and makes a program that
+# does that.
 COMPILER = """#!/bin/sh
 echo "$*" >> {notes}
 while [ "$1" != -o ]; do shift; done
@@ -46,7 +48,8 @@ def the_portable() -> str:
 
 @unittest.skipIf(sys.platform == "win32", "names and pipes are those of POSIX")
 class Answers(Folder):
-    """Each command line of a large table is answered as it was written down from the proved program."""
+    """Each command line of a large table is answered as it was written down from the proved
+    program."""
 
     RECORDED = json.loads(commands.RECORDED.read_text("utf-8"))
 
@@ -54,7 +57,10 @@ class Answers(Folder):
         commands.lay(self.folder)
         for name, words in commands.all_lines():
             with self.subTest([name, *words]):
-                self.assertEqual(commands.answer(path, words, self.folder, name), self.RECORDED[commands.key(words, name)])
+                self.assertEqual(
+                    commands.answer(path, words, self.folder, name),
+                    self.RECORDED[commands.key(words, name)],
+                )
 
     def test_all_lines_are_recorded(self) -> None:
         keys = [commands.key(words, name) for name, words in commands.all_lines()]
@@ -65,7 +71,9 @@ class Answers(Folder):
 
     def test_the_proved_program(self) -> None:
         if not os.access(BUILT_PROGRAM, os.X_OK):
-            raise (AssertionError if os.environ.get(BUILT) else unittest.SkipTest)("the proved program isn't built")
+            raise (AssertionError if os.environ.get(BUILT) else unittest.SkipTest)(
+                "the proved program isn't built"
+            )
         self.hold_to_record(str(BUILT_PROGRAM))
 
 
@@ -74,7 +82,10 @@ class Steps(unittest.TestCase):
 
     def test_bytes(self) -> None:
         steps, shown = (
-            [int(number) for number in re.findall(rf"\b{name}\[\] = \{{(.*)\}};", SOURCE)[0].split(", ")]
+            [
+                int(number)
+                for number in re.findall(rf"\b{name}\[\] = \{{(.*)\}};", SOURCE)[0].split(", ")
+            ]
             for name in ("STEP_BYTES", "SHOW_BYTES")
         )
         wanted, kinds = {0: 0, REPEAT_CODE: 3, END_CODE: 1}, {}
@@ -114,7 +125,11 @@ class Cache(Folder):
 
     def left(self) -> list[str]:
         """What the cache has, but for the lock."""
-        return sorted(str(path.relative_to(self.cache)) for path in self.cache.rglob("*") if path.name != portable.LOCK)
+        return sorted(
+            str(path.relative_to(self.cache))
+            for path in self.cache.rglob("*")
+            if path.name != portable.LOCK
+        )
 
 
 @unittest.skipIf(sys.platform == "win32", "a script is a program on POSIX")
@@ -122,10 +137,17 @@ class Compiled(Cache):
     def test_once_and_it_is_told(self) -> None:
         path, said = self.found()
         self.assertEqual(said, portable.COMPILES.format(self.environment["CC"]))
-        self.assertRegex(said, r"^\S+ compiles .* in about 20 seconds, and once: .* is tested, not proved\n$")
+        self.assertRegex(
+            said, r"^\S+ compiles .* in about 20 seconds, and once: .* is tested, not proved\n$"
+        )
         self.assertEqual(self.found(), (path, ""))
-        self.assertEqual((self.noted(), self.left()), (1, [path.parent.name, f"{path.parent.name}/vga"]))
-        self.assertRegex(self.notes.read_text(), r"^-std=c99 -O2 -I \S+/include -o \S+/vga( \S+/portable/(vga|zaklimot)\.c){2}\n$")
+        self.assertEqual(
+            (self.noted(), self.left()), (1, [path.parent.name, f"{path.parent.name}/vga"])
+        )
+        self.assertRegex(
+            self.notes.read_text(),
+            r"^-std=c99 -O2 -I \S+/include -o \S+/vga( \S+/portable/(vga|zaklimot)\.c){2}\n$",
+        )
 
     def test_anew_for_other_sources_and_compilers_and_older_ones_are_removed(self) -> None:
         paths = [self.found()[0]]
@@ -134,7 +156,9 @@ class Compiled(Cache):
         # This process has found the first: it may still run it.
         self.assertEqual(len(self.left()), 4)
         self.release()
-        with mock.patch.object(portable, "SOURCES", (Path(self.write("vga.c", "1")), *portable.SOURCES[1:])):
+        with mock.patch.object(
+            portable, "SOURCES", (Path(self.write("vga.c", "1")), *portable.SOURCES[1:])
+        ):
             paths.append(self.found()[0])
         self.assertEqual((len(set(paths)), self.noted()), (3, 3))
         self.assertEqual(self.left(), [paths[2].parent.name, f"{paths[2].parent.name}/vga"])
@@ -164,7 +188,9 @@ class Compiled(Cache):
             with self.subTest(number):
                 child.unlink(missing_ok=True)
                 # What a killed run leaves of its temporary files goes with this test's.
-                run = begin("tests/finding.py", env={**os.environ, "CC": slow, "TMPDIR": str(self.folder)})
+                run = begin(
+                    "tests/finding.py", env={**os.environ, "CC": slow, "TMPDIR": str(self.folder)}
+                )
                 self.wait_until(lambda: child.exists() and child.read_text().count("\n") == 2, run)
                 run.send_signal(number)
                 run.communicate(timeout=60)
@@ -193,14 +219,34 @@ class Lacking(Cache):
     def test_what_is_lacking_is_told(self) -> None:
         file = self.write("file", "")
         for variables, told in (
-            ({"CC": self.compiler("bad", "echo oh >&2; exit 1")}, r"^\S+/bad: it can't compile .*; CC may name another .*\noh$"),
-            ({"CC": self.compiler("cross", made="exit 3")}, r"^\S+/cross: what it makes doesn't run here$"),
-            ({"CC": "no-such-compiler"}, r"^no-such-compiler: CC names it .*; page/zaklimot\.html "),
+            (
+                {"CC": self.compiler("bad", "echo oh >&2; exit 1")},
+                r"^\S+/bad: it can't compile .*; CC may name another .*\noh$",
+            ),
+            (
+                {"CC": self.compiler("cross", made="exit 3")},
+                r"^\S+/cross: what it makes doesn't run here$",
+            ),
+            (
+                {"CC": "no-such-compiler"},
+                r"^no-such-compiler: CC names it .*; page/zaklimot\.html ",
+            ),
             ({"CC": "'"}, "^CC names no compiler: "),
-            ({"CC": "", "PATH": str(self.folder / "none")},
-             r"^there is no C compiler .* package gcc or clang, on macOS Xcode's .*; page/zaklimot\.html runs scripts "),
-            ({"XDG_CACHE_HOME": file}, rf"^{file}\S*: Not a directory; .* can be written by XDG_CACHE_HOME$"),
-            ({"XDG_CACHE_HOME": "", "HOME": file}, rf"^{file}\S*: Not a directory; .* can be written by XDG_CACHE_HOME$"),
+            (
+                {"CC": "", "PATH": str(self.folder / "none")},
+                (
+                    r"^there is no C compiler .* package gcc or clang, on macOS Xcode's .*;"
+                    r" page/zaklimot\.html runs scripts "
+                ),
+            ),
+            (
+                {"XDG_CACHE_HOME": file},
+                rf"^{file}\S*: Not a directory; .* can be written by XDG_CACHE_HOME$",
+            ),
+            (
+                {"XDG_CACHE_HOME": "", "HOME": file},
+                rf"^{file}\S*: Not a directory; .* can be written by XDG_CACHE_HOME$",
+            ),
         ):
             with self.subTest(variables), mock.patch.dict(os.environ, variables):
                 with contextlib.redirect_stderr(io.StringIO()):
@@ -210,13 +256,17 @@ class Lacking(Cache):
 
     def test_a_cache_that_is_no_whole_path_is_none(self) -> None:
         with mock.patch.dict(os.environ, XDG_CACHE_HOME="cache", HOME=str(self.folder / "home")):
-            self.assertEqual(self.found()[0].parents[1], self.folder / "home" / ".cache" / "zaklimot")
+            self.assertEqual(
+                self.found()[0].parents[1], self.folder / "home" / ".cache" / "zaklimot"
+            )
 
 
 @unittest.skipIf(sys.platform == "win32", "a script is a program on POSIX")
 class Found(Cache):
     def test_the_order(self) -> None:
-        built, released, in_path = (self.program(f"{name}/vga", "#!/bin/sh\n") for name in ("built", "released", "path"))
+        built, released, in_path = (
+            self.program(f"{name}/vga", "#!/bin/sh\n") for name in ("built", "released", "path")
+        )
         named, none = self.program("named", "#!/bin/sh\n"), self.folder / "none"
         places = {"PROGRAM": Path(built), "RELEASED": Path(released)}
         # The command `tools/vga` in the path is no program: it looks for one.
@@ -227,8 +277,13 @@ class Found(Cache):
                 self.assertEqual(found_program(), released)
                 with mock.patch.object(program, "RELEASED", none):
                     self.assertEqual(found_program(), in_path)
-        with mock.patch.multiple(program, PROGRAM=none, RELEASED=none), mock.patch.dict(os.environ, PATH="/usr/bin:/bin"):
+        with mock.patch.multiple(program, PROGRAM=none, RELEASED=none), mock.patch.dict(
+            os.environ, PATH="/usr/bin:/bin"
+        ):
             with contextlib.redirect_stderr(io.StringIO()):
                 self.assertEqual(Path(found_program()).parents[1], self.cache)
             with mock.patch.object(portable, "SOURCES", (none,)):
-                self.assertIn("there is no program vga, and portable/ has no sources of it", refused(found_program))
+                self.assertIn(
+                    "there is no program vga, and portable/ has no sources of it",
+                    refused(found_program),
+                )

@@ -1,4 +1,5 @@
-"""Recordings: a machine's keys and screens, the verdicts on them, pictures in real time, and the table of software."""
+"""Recordings: a machine's keys and screens, the verdicts on them, pictures in real time, and the
+table of software."""
 
 from __future__ import annotations
 
@@ -33,7 +34,8 @@ from .tools import BLACK, RED, TOP, WHITE, Folder, ended, hold, hold_undone, png
 
 run = partial(run_tool, "vga-trace")
 PICTURE = ppm(3, 2, RED * 3 + WHITE * 3)
-# A fake of qemu: it writes what its environment says into its log, serves a monitor, and keeps what it is asked.
+# A fake of qemu: it writes what its environment says into its log, serves a monitor, and keeps what
+# it is asked.
 QEMU = """import json, os, re, socket, sys, threading
 words = " ".join(sys.argv)
 folder = os.environ["FAKE"]
@@ -72,7 +74,8 @@ with connection, connection.makefile("rw") as monitor:
             log.flush()
         if name == "send-key" and "-dies" in sys.argv:
             sys.exit()
-        answer = '{"error": {"desc": "there is none"}}' if "-refuses" in sys.argv else '{"return": {}}'
+        refusal = '{"error": {"desc": "there is none"}}'
+        answer = refusal if "-refuses" in sys.argv else '{"return": {}}'
         monitor.write('{"event": "STOP"}\\n' + answer + "\\n")
         monitor.flush()
         if name == "quit" and "-stays" in sys.argv:
@@ -92,15 +95,24 @@ class Recorded(Folder):
         super().setUp()
         self.program("bin/qemu-system-x86_64", QEMU)
         path = f"{self.folder / 'bin'}:{os.environ['PATH']}"
-        self.patch(mock.patch.dict(os.environ, PATH=path, FAKE=str(self.folder), TMPDIR=self.temporary()))
+        self.patch(
+            mock.patch.dict(os.environ, PATH=path, FAKE=str(self.folder), TMPDIR=self.temporary())
+        )
 
     def record(
-        self, *options: str, words: tuple[str, ...] = ("-cdrom", "disc"), lines: bytes = b"", screen: bytes = PICTURE,
-        picture: bytes = PICTURE, steps: tuple[int, ...] = (1,), program: str = "",
+        self,
+        *options: str,
+        words: tuple[str, ...] = ("-cdrom", "disc"),
+        lines: bytes = b"",
+        screen: bytes = PICTURE,
+        picture: bytes = PICTURE,
+        steps: tuple[int, ...] = (1,),
+        program: str = "",
     ) -> tuple[int, list[str], str]:
         """Exit status, lines and what is said of a recording in a new folder.
 
-        The log of the machine has more lines. The program answers so many steps before each of its screens.
+        The log of the machine has more lines. The program answers so many steps before each of its
+        screens.
         """
         self.write("lines", LINES + lines)
         self.write("screen", screen)
@@ -108,7 +120,15 @@ class Recorded(Folder):
         self.write("other", ppm(7, 5, bytes(105)))
         self.into = Path(tempfile.mkdtemp(dir=self.folder), "into")
         answers = [answer for count in steps for answer in ["ok"] * count + [picture] * PHASES]
-        options = ("--vga", program or self.answering(*answers, picture), "--quiet", "0.2", "--seconds", "20", *options)
+        options = (
+            "--vga",
+            program or self.answering(*answers, picture),
+            "--quiet",
+            "0.2",
+            "--seconds",
+            "20",
+            *options,
+        )
         status, output, said = run("record", self.into, *options, "--", *words)
         return status, output.decode().splitlines(), said
 
@@ -120,42 +140,94 @@ class Recorded(Folder):
     def test_a_screen_that_is_equal(self) -> None:
         status, lines, said = self.record()
         self.assertEqual((status, said), (0, ""))
-        self.assertRegex(lines[-1], r"^screen 1 at \d+\.\d s, after cycle 1: equal, 3x2, six bits a component$")
+        self.assertRegex(
+            lines[-1], r"^screen 1 at \d+\.\d s, after cycle 1: equal, 3x2, six bits a component$"
+        )
         self.assertEqual(lines[0], "1 cycles, 8 steps, 16 bytes: 7 frame, 1 out")
         self.assertEqual(lines[1], "8 steps, 0 refused, 0 reads answered, 0 differ")
         names = sorted(path.name for path in self.into.iterdir())
-        self.assertEqual(names, ["picture-1.png", "report.txt", "screen-1.ppm", "script.bin", "trace.gz"])
+        self.assertEqual(
+            names, ["picture-1.png", "report.txt", "screen-1.ppm", "script.bin", "trace.gz"]
+        )
         kept = gzip.decompress((self.into / "trace.gz").read_bytes())
         self.assertEqual(kept, qemu("write 3c2 67 1") + PHASES * (SCREEN + b"\n"))
         self.assertEqual(self.asked(), ["qmp_capabilities", "screen", "quit"])
 
     def test_screens_that_differ_are_told_with_what_is_known(self) -> None:
-        split = b"".join(qemu(f"write {cycle} 2") for cycle in ("3ce 106", "3d4 107", "3d4 109", "3d4 218"))
+        split = b"".join(
+            qemu(f"write {cycle} 2") for cycle in ("3ce 106", "3d4 107", "3d4 109", "3d4 218")
+        )
         vbe = qemu("write 1ce 4 2", "vbe") + qemu("write 1cf 41 2", "vbe")
-        chained, memory = qemu("write 3c4 f02 2") + qemu("write 3c4 e04 2"), qemu("write a0000 1 1", "vga-chain4")
-        rows, whole = qemu("write 3d4 209 2") + qemu("write 3c0 20 1"), RED * 3 + WHITE * 3 + RED * 3
+        chained, memory = qemu("write 3c4 f02 2") + qemu("write 3c4 e04 2"), qemu(
+            "write a0000 1 1", "vga-chain4"
+        )
+        rows, whole = (
+            qemu("write 3d4 209 2") + qemu("write 3c0 20 1"),
+            RED * 3 + WHITE * 3 + RED * 3,
+        )
         black, small, four = ppm(3, 2, BLACK * 6), ppm(5, 1, RED * 5), ppm(3, 4, whole + BLACK * 3)
         known_of_qemu = "  {} what is known of qemu: {}; docs/EMULATORS.md tells of it".format
-        usual, line = (known_of_qemu("may be", f"{front}underline") for front in ("palette address source, ", ""))
+        usual, line = (
+            known_of_qemu("may be", f"{front}underline")
+            for front in ("palette address source, ", "")
+        )
         last = known_of_qemu("is", "last row of text that isn't whole")
-        all_dots, lacks = "6 of 6 dots differ, in columns 0 to 2 and rows 0 to 1", "it lacks the last 1 of 4 lines; "
+        all_dots, lacks = (
+            "6 of 6 dots differ, in columns 0 to 2 and rows 0 to 1",
+            "it lacks the last 1 of 4 lines; ",
+        )
         size = "another size: they have {} dots, and neither is the other with dots repeated".format
         for count, lines, picture, screen, *told in (
-            (1, b"", ppm(3, 2, RED * 3 + WHITE + BLACK * 2), PICTURE,
-             "2 of 6 dots differ, in columns 1 to 2 and rows 1 to 1", usual),
-            (5, split, picture_of("aab aabbc").ppm, picture_of("aab abbcc").ppm,
-             "4 of 16 dots differ, in columns 0 to 1 and rows 4 to 6", known_of_qemu("is", "split within a row")),
+            (
+                1,
+                b"",
+                ppm(3, 2, RED * 3 + WHITE + BLACK * 2),
+                PICTURE,
+                "2 of 6 dots differ, in columns 1 to 2 and rows 1 to 1",
+                usual,
+            ),
+            (
+                5,
+                split,
+                picture_of("aab aabbc").ppm,
+                picture_of("aab abbcc").ppm,
+                "4 of 16 dots differ, in columns 0 to 1 and rows 4 to 6",
+                known_of_qemu("is", "split within a row"),
+            ),
             (1, vbe, black, PICTURE, all_dots, "  VBE is on: what qemu shows is no VGA's"),
-            (3, chained, black, PICTURE,
-             all_dots, "  chain 4 is on, and no memory was recorded since: --chain-4 does so"),
+            (
+                3,
+                chained,
+                black,
+                PICTURE,
+                all_dots,
+                "  chain 4 is on, and no memory was recorded since: --chain-4 does so",
+            ),
             (4, chained + memory, black, PICTURE, all_dots, usual),
-            (1, b"", small, PICTURE, size("5x1 and 7x5"), usual), (3, rows, four, small, size("3x4 and 7x5"), line),
-            (3, rows, four, ppm(3, 3, whole), lacks + "the others are equal, 3x3, six bits a component", last),
-            (3, rows, four, ppm(3, 3, whole[:-3] + WHITE),
-             lacks + "1 of 9 dots differ, in columns 2 to 2 and rows 2 to 2", last, line),
+            (1, b"", small, PICTURE, size("5x1 and 7x5"), usual),
+            (3, rows, four, small, size("3x4 and 7x5"), line),
+            (
+                3,
+                rows,
+                four,
+                ppm(3, 3, whole),
+                lacks + "the others are equal, 3x3, six bits a component",
+                last,
+            ),
+            (
+                3,
+                rows,
+                four,
+                ppm(3, 3, whole[:-3] + WHITE),
+                lacks + "1 of 9 dots differ, in columns 2 to 2 and rows 2 to 2",
+                last,
+                line,
+            ),
         ):
             with self.subTest(told):
-                status, shown, said = self.record(lines=lines, screen=screen, picture=picture, steps=(count,))
+                status, shown, said = self.record(
+                    lines=lines, screen=screen, picture=picture, steps=(count,)
+                )
                 self.assertEqual((status, [shown[2].partition(": ")[2], *shown[3:]]), (1, told))
                 self.assertEqual("cycle 3 turns VBE on" in said, lines == vbe)
                 self.assertEqual((self.into / "differing-1.png").exists(), "dots differ" in told[0])
@@ -163,25 +235,41 @@ class Recorded(Folder):
 
     def test_a_frame_without_a_picture(self) -> None:
         status, lines, _ = self.record(program=self.answering("ok", *["ragged"] * (PHASES + 1)))
-        self.assertEqual((status, lines[-1].rpartition(": ")[2]), (1, "here no frame has the shape of a picture"))
+        self.assertEqual(
+            (status, lines[-1].rpartition(": ")[2]), (1, "here no frame has the shape of a picture")
+        )
 
     def test_keys_and_screens_in_their_order_and_time(self) -> None:
         words = ("--screen", "quiet", "--key", "0.1:c,ctrl-l", "--screen", "0.2", "--key", "ret")
         status, lines, _ = self.record(*words, steps=(1, 2, 1))
         self.assertEqual(status, 0)
-        expected = ["qmp_capabilities", "screen", "send-key c", "send-key ctrl-l", "screen", "send-key ret", "screen", "quit"]
+        expected = [
+            "qmp_capabilities",
+            "screen",
+            "send-key c",
+            "send-key ctrl-l",
+            "screen",
+            "send-key ret",
+            "screen",
+            "quit",
+        ]
         self.assertEqual(self.asked(), expected)
         places = [line.partition("after ")[2].partition(":")[0] for line in lines[-3:]]
         self.assertEqual(places, ["cycle 1", "cycle 3", "cycle 4"])
 
     def test_a_machine_that_is_never_quiet_ends(self) -> None:
         status, _, said = self.record("--quiet", "50", "--seconds", "1")
-        self.assertEqual((status, said), (0, "vga-trace: the software was still busy when its screen was taken\n"))
+        self.assertEqual(
+            (status, said),
+            (0, "vga-trace: the software was still busy when its screen was taken\n"),
+        )
         said = self.record("--quiet", "50", "--seconds", "1", "--key", "ret")[2]
         self.assertIn("seconds were over before it was time for the keys ret", said)
 
     def test_a_machine_that_ends_by_itself(self) -> None:
-        status, lines, said = self.record("--screen", "10", words=("-leaves",), program=self.answering("ok", PICTURE))
+        status, lines, said = self.record(
+            "--screen", "10", words=("-leaves",), program=self.answering("ok", PICTURE)
+        )
         self.assertRegex(said, r"^vga-trace: the machine ended by itself after \d\.\d seconds\n$")
         self.assertEqual((status, lines[1]), (1, "2 steps, 0 refused, 0 reads answered, 0 differ"))
 
@@ -189,8 +277,14 @@ class Recorded(Folder):
         front, usual = "qemu-system-x86_64: ", ("MOST_LINES", 1 << 20)
         begins, first = f"{front}it doesn't begin: there is no such disc\n", "qmp_capabilities"
         for words, limit, told, last in (
-            (("-ends",), usual, begins, ""), (("-ends", "-late"), usual, begins, ""),
-            (("-cdrom",), ("MOST_LINES", 100), f"{front}its trace has more than 100 bytes: end it sooner\n", first),
+            (("-ends",), usual, begins, ""),
+            (("-ends", "-late"), usual, begins, ""),
+            (
+                ("-cdrom",),
+                ("MOST_LINES", 100),
+                f"{front}its trace has more than 100 bytes: end it sooner\n",
+                first,
+            ),
             (("-dies",), usual, "qemu: its monitor doesn't do send-key", "send-key ret"),
             (("-refuses",), usual, f"qemu: its monitor doesn't do {first}: there is none\n", first),
             (("-stays",), ("ANSWERING", 2), f"{front}it doesn't end within 2 seconds\n", "quit"),
@@ -207,11 +301,15 @@ class Recorded(Folder):
         program = self.program("vga", "#!/bin/sh\necho oh >&2\nexit 3\n")
         status, _, said = self.record(program=program)
         self.assertEqual((status, said), (2, f"vga-trace: {program}: it ended with status 3: oh\n"))
-        self.assertEqual(sorted(path.name for path in self.into.iterdir()), ["script.bin", "trace.gz"])
+        self.assertEqual(
+            sorted(path.name for path in self.into.iterdir()), ["script.bin", "trace.gz"]
+        )
 
     def test_a_key_is_given_time_before_it_is_quiet(self) -> None:
         keeper = mock.Mock(size=5, last=0.0)
-        session = Session(Machine((), quiet=0.2), mock.Mock(), keeper, Path("folder"), mock.Mock(), acted=0.0)
+        session = Session(
+            Machine((), quiet=0.2), mock.Mock(), keeper, Path("folder"), mock.Mock(), acted=0.0
+        )
         self.assertTrue(session.is_due(Deed()))
         session.press(mock.Mock(), ["ret"])
         self.assertFalse(session.is_due(Deed()))
@@ -222,9 +320,26 @@ class Recorded(Folder):
 
     def test_a_frame_at_each_screen(self) -> None:
         mark = SCREEN + b"\n"
-        text = mark + qemu("write 3c2 67 1") + mark + mark + qemu("write b8000 41 1", "vga-lowmem") + mark
+        text = (
+            mark
+            + qemu("write 3c2 67 1")
+            + mark
+            + mark
+            + qemu("write b8000 41 1", "vga-lowmem")
+            + mark
+        )
         text += qemu("write b8001 1f 1", "vga-lowmem") + mark
-        steps = ["frame", "out 3C2 67", "frame", "frame", "put B8000 41", "frame", "put B8001 1F", "frame", "frame"]
+        steps = [
+            "frame",
+            "out 3C2 67",
+            "frame",
+            "frame",
+            "put B8000 41",
+            "frame",
+            "put B8001 1F",
+            "frame",
+            "frame",
+        ]
         self.assertEqual(listed(text, frames="screens"), steps)
 
 
@@ -234,56 +349,101 @@ class Knowledge(unittest.TestCase):
         for name in (*SEEN, *ALLOWED):
             self.assertIn(name, page)
 
-    def state(self, index: int = 0x20, mask: int = 0xFF, word: int = 0, **banks: dict[int, int]) -> State:
-        """A state of text whose palette is shown, but for the attributes' index, the DAC mask, a word, registers."""
+    def state(
+        self, index: int = 0x20, mask: int = 0xFF, word: int = 0, **banks: dict[int, int]
+    ) -> State:
+        """A state of text whose palette is shown, but for the attributes' index, the DAC mask, a
+        word, registers."""
         state = State()
         state.attr.index, state.dac.mask, state.memory.words[1] = index, mask, word
-        usual = {"crtc": {0x07: 0x1F, 0x09: 0x4F, 0x12: 0x8F, 0x14: 0x1F, 0x18: 0xFF}, "gfx": {6: 0x0E}}
+        usual = {
+            "crtc": {0x07: 0x1F, 0x09: 0x4F, 0x12: 0x8F, 0x14: 0x1F, 0x18: 0xFF},
+            "gfx": {6: 0x0E},
+        }
         for name, values in (*usual.items(), *banks.items()):
             for number, value in values.items():
                 vars(state)[name].registers[number] = value
         return state
 
     def test_what_may_show_in_a_state(self) -> None:
-        black, ninth, others = (Picture.of_dots(9, 1, bytes(27 - count) + count * b"\1") for count in (0, 3, 6))
-        hold(self, lambda given: names(self.state(**given), black, ninth).get("may be", []), (
-            ({}, []), ({"index": 0}, ["palette address source"]), ({"seq": {1: 0x20}}, ["screen off"]),
-            ({"mask": 0x0F}, ["DAC mask"]), ({"seq": {3: 0x04}}, ["colour plane enable"]),
-            ({"seq": {3: 0x04}, "attr": {0x12: 8}}, []), ({"crtc": {8: 3}}, ["preset row scan"]),
-            ({"attr": {0x13: 4}}, ["panning"]), ({"attr": {0x13: 8}}, []), ({"crtc": {8: 0x20}}, ["panning"]),
-            ({"crtc": {0x18: 0x80, 7: 0x0F, 9: 0x0F}}, ["line compare"]), ({"crtc": {0x18: 0x80, 7: 0x0F}}, []),
-            ({"crtc": {0x14: 0x0D}}, ["underline"]), ({"attr": {0x10: 8}, "word": 0x8700}, ["blinking"]),
-            ({"attr": {0x10: 8}, "word": 0x0700}, []), ({"attr": {0x10: 4}}, ["ninth dot"]),
-        ))
+        black, ninth, others = (
+            Picture.of_dots(9, 1, bytes(27 - count) + count * b"\1") for count in (0, 3, 6)
+        )
+        hold(
+            self,
+            lambda given: names(self.state(**given), black, ninth).get("may be", []),
+            (
+                ({}, []),
+                ({"index": 0}, ["palette address source"]),
+                ({"seq": {1: 0x20}}, ["screen off"]),
+                ({"mask": 0x0F}, ["DAC mask"]),
+                ({"seq": {3: 0x04}}, ["colour plane enable"]),
+                ({"seq": {3: 0x04}, "attr": {0x12: 8}}, []),
+                ({"crtc": {8: 3}}, ["preset row scan"]),
+                ({"attr": {0x13: 4}}, ["panning"]),
+                ({"attr": {0x13: 8}}, []),
+                ({"crtc": {8: 0x20}}, ["panning"]),
+                ({"crtc": {0x18: 0x80, 7: 0x0F, 9: 0x0F}}, ["line compare"]),
+                ({"crtc": {0x18: 0x80, 7: 0x0F}}, []),
+                ({"crtc": {0x14: 0x0D}}, ["underline"]),
+                ({"attr": {0x10: 8}, "word": 0x8700}, ["blinking"]),
+                ({"attr": {0x10: 8}, "word": 0x0700}, []),
+                ({"attr": {0x10: 4}}, ["ninth dot"]),
+            ),
+        )
         self.assertEqual(names(self.state(attr={0x10: 4}), black, others), {})
 
     def test_a_split_within_a_row(self) -> None:
-        def split(here: str, there: str, changed: dict[int, int] = {}, text: int = 1) -> dict[str, list[str]]:
-            """What is known of two pictures in graphics, whose line compare is 2 and whose rows have two lines."""
+        def split(
+            here: str, there: str, changed: dict[int, int] = {}, text: int = 1
+        ) -> dict[str, list[str]]:
+            """What is known of two pictures in graphics, whose line compare is 2 and whose rows
+            have two lines."""
             state = self.state(gfx={6: text}, crtc={7: 0x0F, 8: 1, 9: 1, 0x18: 2, **changed})
             return names(state, picture_of(here), picture_of(there))
 
         found, none = {"is": ["split within a row"]}, {"may be": ["preset row scan"]}
-        hold(self, split, (
-            # The second line of a row is under way, of two lines and of four; and three of four have been.
-            ("aab aabbc", "aab abbcc", found), ("aab aabb", "aab abbx", found),
-            ("aaa aaaabb", "aaa abbbbc", {9: 3}, found), ("aaa aaaabb", "aaa abbbbc", {9: 0x81}, found),
-            ("aa aaaabb", "aa aabbbb", {9: 3, 0x18: 1}, found),
-            # Bits 8 and 9 of line compare put it below the picture.
-            ("aab aabbc", "aab abbcc", {7: 0x1F}, none), ("aab aabbc", "aab abbcc", {9: 0x41}, none),
-            # No split, or none within a row, or something else differs.
-            ("aabb aabbc", "aabb abbcc", {0x18: 3}, none), ("aab aabbc", "aab abbcx", none),
-            ("aab aabbc", "axb abbcc", none), ("aab aabbc", "aab aabbx", none),
-            ("aab aabbc", "aab abbcc", {0x18: 8}, none), ("aab aabbc", "aab abbcc", {9: 0}, none),
-        ))
+        hold(
+            self,
+            split,
+            (
+                # The second line of a row is under way, of two lines and of four; and three of four
+                # have been.
+                ("aab aabbc", "aab abbcc", found),
+                ("aab aabb", "aab abbx", found),
+                ("aaa aaaabb", "aaa abbbbc", {9: 3}, found),
+                ("aaa aaaabb", "aaa abbbbc", {9: 0x81}, found),
+                ("aa aaaabb", "aa aabbbb", {9: 3, 0x18: 1}, found),
+                # Bits 8 and 9 of line compare put it below the picture.
+                ("aab aabbc", "aab abbcc", {7: 0x1F}, none),
+                ("aab aabbc", "aab abbcc", {9: 0x41}, none),
+                # No split, or none within a row, or something else differs.
+                ("aabb aabbc", "aabb abbcc", {0x18: 3}, none),
+                ("aab aabbc", "aab abbcx", none),
+                ("aab aabbc", "axb abbcc", none),
+                ("aab aabbc", "aab aabbx", none),
+                ("aab aabbc", "aab abbcc", {0x18: 8}, none),
+                ("aab aabbc", "aab abbcc", {9: 0}, none),
+            ),
+        )
         self.assertNotIn("is", split("aab aabbc", "aab abbcc", {}, 0))
 
     def test_a_last_row_that_is_not_whole(self) -> None:
         picture = picture_of("aaabbbcc")
-        for row, mode, height in ((2, 0, 6), (3, 0, 8), (7, 0, 8), (8, 0, 8), (0x82, 0, 8), (2, 1, 8), (0x42, 0, 6)):
+        for row, mode, height in (
+            (2, 0, 6),
+            (3, 0, 8),
+            (7, 0, 8),
+            (8, 0, 8),
+            (0x82, 0, 8),
+            (2, 1, 8),
+            (0x42, 0, 6),
+        ):
             part = whole_rows(self.state(crtc={9: row}, gfx={6: mode}), picture)
             self.assertEqual((part.height, part is picture), (height, height == 8))
-            self.assertEqual([part.row(y) for y in range(height)], [picture.row(y) for y in range(height)])
+            self.assertEqual(
+                [part.row(y) for y in range(height)], [picture.row(y) for y in range(height)]
+            )
 
 
 def names(state: State, picture: Picture, image: Picture) -> dict[str, list[str]]:
@@ -294,32 +454,52 @@ def names(state: State, picture: Picture, image: Picture) -> dict[str, list[str]
 def picture_of(rows: str) -> Picture:
     """A picture of two dots a row. A letter is a row's colour, and blanks don't count."""
     letters = rows.replace(" ", "")
-    return Picture.of_dots(2, len(letters), b"".join(bytes([ord(letter) - ord("a")]) * 6 for letter in letters))
+    return Picture.of_dots(
+        2, len(letters), b"".join(bytes([ord(letter) - ord("a")]) * 6 for letter in letters)
+    )
 
 
 class RealTime(Folder):
     # Dots of a frame, and its microseconds.
     DOTS, FRAME = 900 * 449, 900 * 449 / 28.322
 
-    def frames(self, longest: float, reads: Sequence[float], *writes: float) -> tuple[list[tuple[int, int]], Clocked]:
-        """The frames and dots that pass where something is read, and then written, at so many frames' times."""
+    def frames(
+        self, longest: float, reads: Sequence[float], *writes: float
+    ) -> tuple[list[tuple[int, int]], Clocked]:
+        """The frames and dots that pass where something is read, and then written, at so many
+        frames' times."""
         steps = [step._replace(time=0) for step in registers(0x67, 0)]
         steps += [Step(IN, 0x3DA, 0, round(at * self.FRAME)) for at in reads]
         steps += [Step(PUT, 0xA0000, 1, round(at * self.FRAME)) for at in writes]
         clocked = Clocked(longest)
-        return [step[:2] for step in clocked.steps(steps) if step.opcode in (ADVANCE, FRAME)], clocked
+        return [
+            step[:2] for step in clocked.steps(steps) if step.opcode in (ADVANCE, FRAME)
+        ], clocked
 
     def test_a_frame_where_something_is_written(self) -> None:
         frame = (FRAME, 0)
-        hold(self, lambda *times: self.frames(*times)[0], (
-            (1, (), 0.2, 0.4, []), (1, (), 1.2, 1.4, [frame]),
-            # The first ends at one frame of the usual rate, the second and the third one frame later each.
-            (1, (), 1.2, 1.4, 2.2, 5.7, [frame, frame, frame, (ADVANCE, 2 * self.DOTS)]),
-            # Reads make none.
-            (1, (1.2, 2.5, 3.5), 4.5, [frame, (ADVANCE, 3 * self.DOTS)]),
-            # The time that passes is that of the trace.
-            (10, (), 1.2, 41.5, 60.5, [frame, frame, (ADVANCE, 39 * self.DOTS), frame, (ADVANCE, 18 * self.DOTS)]),
-        ))
+        hold(
+            self,
+            lambda *times: self.frames(*times)[0],
+            (
+                (1, (), 0.2, 0.4, []),
+                (1, (), 1.2, 1.4, [frame]),
+                # The first ends at one frame of the usual rate, the second and the third one frame
+                # later each.
+                (1, (), 1.2, 1.4, 2.2, 5.7, [frame, frame, frame, (ADVANCE, 2 * self.DOTS)]),
+                # Reads make none.
+                (1, (1.2, 2.5, 3.5), 4.5, [frame, (ADVANCE, 3 * self.DOTS)]),
+                # The time that passes is that of the trace.
+                (
+                    10,
+                    (),
+                    1.2,
+                    41.5,
+                    60.5,
+                    [frame, frame, (ADVANCE, 39 * self.DOTS), frame, (ADVANCE, 18 * self.DOTS)],
+                ),
+            ),
+        )
 
     def test_long_silences_are_cut_and_told(self) -> None:
         frames, clocked = self.frames(1, (), 1.2, 701.2, 702.5)
@@ -330,7 +510,9 @@ class RealTime(Folder):
         self.assertEqual(advances, {16_777_216, 69 * self.DOTS % 16_777_216})
 
     def test_pictures_and_moving_pictures(self) -> None:
-        trace = self.write("trace", BEGIN + b"20000 w m A0000 1 1\n40000 w m A0000 2 1\n5040000 w m A0000 3 1\n")
+        trace = self.write(
+            "trace", BEGIN + b"20000 w m A0000 1 1\n40000 w m A0000 2 1\n5040000 w m A0000 3 1\n"
+        )
         small, large = ppm(2, 1, RED + WHITE), ppm(4, 3, BLACK * 12)
         program = self.answering("ok", small, "ok", small, "ok", large, "ok", large)
         moving, folder = self.folder / "moving.png", self.folder / "pictures"
@@ -339,13 +521,18 @@ class RealTime(Folder):
         self.assertEqual((status, said), (0, f"vga-trace: warning: {trace}: {told}\n"))
         lines = out.decode().splitlines()
         self.assertEqual(lines[-1].rpartition(": ")[2], "2 pictures, 1.057 seconds")
-        self.assertEqual([Path(line).name for line in lines[:-1]], ["00000.000.png", "00000.029.png"])
+        self.assertEqual(
+            [Path(line).name for line in lines[:-1]], ["00000.000.png", "00000.029.png"]
+        )
         data = moving.read_bytes()
         self.assertEqual(struct.unpack_from(">II", data, 16), (4, 3))
-        delays = [struct.unpack_from(">HH", data, found.end() + 20) for found in re.finditer(b"fcTL", data)]
+        delays = [
+            struct.unpack_from(">HH", data, found.end() + 20)
+            for found in re.finditer(b"fcTL", data)
+        ]
         self.assertEqual([part for _, part in delays], [50_000, 100])
         (length,) = struct.unpack_from(">I", data, data.index(b"IDAT") - 4)
-        rows = zlib.decompress(data[data.index(b"IDAT") + 4:][:length])
+        rows = zlib.decompress(data[data.index(b"IDAT") + 4 :][:length])
         self.assertEqual(rows, 3 * (b"\0" + 2 * b"\xff\0\0" + 6 * b"\xff"))
 
     def test_a_program_that_fails(self) -> None:
@@ -369,4 +556,6 @@ class Traces(unittest.TestCase):
     def test_the_command_tells_its_software(self) -> None:
         status, told, _ = ended(sys.executable, PROGRAM, "--help")
         self.assertEqual((status, "grub-planar" in told), (0, True))
-        hold_undone(self, ended(sys.executable, PROGRAM, "folder", "none"), "there is no software none")
+        hold_undone(
+            self, ended(sys.executable, PROGRAM, "folder", "none"), "there is no software none"
+        )

@@ -1,4 +1,5 @@
-"""Why steps are refused, why lines are no steps and texts no scripts: in the page's words, for the same cases."""
+"""Why steps are refused, why lines are no steps and texts no scripts: in the page's words, for the
+same cases."""
 
 import json
 import re
@@ -18,13 +19,15 @@ from .tools import Folder, hold, run_texts
 HERE = Path(__file__).parent
 # Scripts whose last step is refused, the answer, and why; the page's tests read them too.
 CASES = json.loads((HERE / "refusals.json").read_text("utf-8"))
-# The bad lines and texts with their reasons, which the page's tests read too: so both tell the same.
+# The bad lines and texts with their reasons, which the page's tests read too: so both tell the
+# same.
 TABLE = json.loads((HERE / "mistakes.json").read_text("utf-8"))
 # A word of the table that stands for this many digits.
 LONG, DIGITS = "LONG", "0" * 131_072
 # A bad line, the part of it that is marked (nothing: the place behind it), and what is said.
 LINES = [
-    (row["line"].replace(LONG, DIGITS), row["part"].replace(LONG, DIGITS), row["reason"]) for row in TABLE["lines"]
+    (row["line"].replace(LONG, DIGITS), row["part"].replace(LONG, DIGITS), row["reason"])
+    for row in TABLE["lines"]
 ]
 # Whole texts whose first line shows what is wrong with all of it, and what is said.
 TEXTS = [(bytes.fromhex(row["hex"]), row["reason"]) for row in TABLE["texts"]]
@@ -50,7 +53,10 @@ class Refusals(unittest.TestCase):
                 self.assertEqual(why_refused(last, number, state_behind(before)), case["told"])
 
     def test_there_is_one_of_each(self) -> None:
-        self.assertEqual({case["answer"] for case in CASES}, {f"E{number} {name}" for number, name in REFUSALS.items()})
+        self.assertEqual(
+            {case["answer"] for case in CASES},
+            {f"E{number} {name}" for number, name in REFUSALS.items()},
+        )
         self.assertEqual({1, 2, 12} | set(OF_CALLS), set(REFUSALS))
 
     def test_the_modes_are_named(self) -> None:
@@ -59,13 +65,26 @@ class Refusals(unittest.TestCase):
 
     def test_what_the_adapter_does_not_refuse_so(self) -> None:
         behind = state_behind(["int ax=3", "out 3C0 1F", "in 3DA", "in 3DA", "out 3C0 5"])
-        hold(self, lambda words, number: why_refused(words, number, behind), [
-            *((words, at, "") for words in ("frame", "show regs", "advance 5", "int ax=3", "move 1") for at in (1, 2)),
-            ("out 3C0 1F", 1, ""), ("in 3C1", 2, ""),
-        ])
+        hold(
+            self,
+            lambda words, number: why_refused(words, number, behind),
+            [
+                *(
+                    (words, at, "")
+                    for words in ("frame", "show regs", "advance 5", "int ax=3", "move 1")
+                    for at in (1, 2)
+                ),
+                ("out 3C0 1F", 1, ""),
+                ("in 3C1", 2, ""),
+            ],
+        )
         # The same step is refused for another reason once the state is another.
         words, answer = "in 3B4", Answer(1, 1, "E1 NotDecoded")
-        told = [behind.why_of(words, answer), behind.why_of("out 3C2 66", DONE), behind.why_of(words, answer)]
+        told = [
+            behind.why_of(words, answer),
+            behind.why_of("out 3C2 66", DONE),
+            behind.why_of(words, answer),
+        ]
         self.assertEqual([bool(one) for one in told], [True, False, False])
 
     def test_the_program_refuses_each(self) -> None:
@@ -83,7 +102,7 @@ class Mistakes(unittest.TestCase):
                 assert mistake is not None
                 self.assertEqual(mistake.reason, said)
                 if part:
-                    self.assertEqual(line[mistake.at:mistake.at + mistake.width], part)
+                    self.assertEqual(line[mistake.at : mistake.at + mistake.width], part)
                 else:
                     self.assertEqual(mistake.at, len(line.partition(";")[0].rstrip()))
         self.assertGreaterEqual(len(LINES), 60)
@@ -92,7 +111,9 @@ class Mistakes(unittest.TestCase):
     def test_the_program_refuses_each(self) -> None:
         texts = {f"line-{at}": line.encode() + b"\n" for at, (line, _, _) in enumerate(LINES)}
         texts.update({f"text-{at}": text for at, (text, _) in enumerate(TEXTS)})
-        hold(self, run_texts(texts).get, ((name, (1, b"", "vga: F7 BadLine(1)\n")) for name in texts))
+        hold(
+            self, run_texts(texts).get, ((name, (1, b"", "vga: F7 BadLine(1)\n")) for name in texts)
+        )
 
 
 class Faults(Folder):
@@ -102,28 +123,75 @@ class Faults(Folder):
 
     def test_what_is_told(self) -> None:
         length, most = "bytes, and 9,728 are right", "16,777,216 bytes are the most"
-        hold(self, self.told, ((fault, *files, f"{self.folder / name}: {fault}: {reason}") for fault, name, reason, *files in (
-            *(("F7 BadLine(1)", "s:1", reason, text) for text, reason in TEXTS),
-            ("F7 BadLine(1)", "s:1", "this is not a script, but a font file", (TOP / "fonts" / "zaklimot.fnt").read_bytes()),
-            # A mark stands below a line.
-            ("F7 BadLine(2)", "s:2", "numbers are hexadecimal digits alone: write 3C4\n  out 0x3C4 02\n      ^^^^^",
-             b"frame\nout 0x3C4 02\n"),
-            *((f"F7 BadLine({row['number']})", f"s:{row['number']}",
-               f"{row['reason']}\n  {row['text'].splitlines()[row['number'] - 1]}", row["text"].encode())
-              for row in TABLE["blocks"]),
-            *((row["fault"], "s", row["reason"], bytes.fromhex(row["hex"])) for row in TABLE["scripts"]),
-            # What is not known.
-            ("F7 BadLine(1)", "s:1", "refused, and I can't say why\n  frame", b"frame\n"),
-            ("F14 Strange(3)", "s", "refused, and I can't say why", b""),
-            # Fonts of another length.
-            ("F1 FontSize", "f", f"the font file has 3 {length}", b"", b"123"),
-            ("F1 FontSize", "f", f"the font file has 5 {length}; it is a script of bytes", b"", b"VGAS\x01"),
-            ("F1 FontSize", "f", f"the font file has 4,096 {length}; a font of 16 rows alone has so many, and a font "
-             "file has those of 8, 14 and 16 rows", b"", bytes(4096)),
-            # What is too long.
-            ("F6 TooLong", "s", f"the file has more bytes, and {most}", bytes(16_777_217)),
-            ("F6 TooLong", "s", f"the steps of the text have more bytes, and {most}", b"int\n"),
-        )))
+        hold(
+            self,
+            self.told,
+            (
+                (fault, *files, f"{self.folder / name}: {fault}: {reason}")
+                for fault, name, reason, *files in (
+                    *(("F7 BadLine(1)", "s:1", reason, text) for text, reason in TEXTS),
+                    (
+                        "F7 BadLine(1)",
+                        "s:1",
+                        "this is not a script, but a font file",
+                        (TOP / "fonts" / "zaklimot.fnt").read_bytes(),
+                    ),
+                    # A mark stands below a line.
+                    (
+                        "F7 BadLine(2)",
+                        "s:2",
+                        (
+                            "numbers are hexadecimal digits alone: write 3C4\n  out 0x3C4 02\n     "
+                            " ^^^^^"
+                        ),
+                        b"frame\nout 0x3C4 02\n",
+                    ),
+                    *(
+                        (
+                            f"F7 BadLine({row['number']})",
+                            f"s:{row['number']}",
+                            f"{row['reason']}\n  {row['text'].splitlines()[row['number'] - 1]}",
+                            row["text"].encode(),
+                        )
+                        for row in TABLE["blocks"]
+                    ),
+                    *(
+                        (row["fault"], "s", row["reason"], bytes.fromhex(row["hex"]))
+                        for row in TABLE["scripts"]
+                    ),
+                    # What is not known.
+                    ("F7 BadLine(1)", "s:1", "refused, and I can't say why\n  frame", b"frame\n"),
+                    ("F14 Strange(3)", "s", "refused, and I can't say why", b""),
+                    # Fonts of another length.
+                    ("F1 FontSize", "f", f"the font file has 3 {length}", b"", b"123"),
+                    (
+                        "F1 FontSize",
+                        "f",
+                        f"the font file has 5 {length}; it is a script of bytes",
+                        b"",
+                        b"VGAS\x01",
+                    ),
+                    (
+                        "F1 FontSize",
+                        "f",
+                        (
+                            f"the font file has 4,096 {length}; a font of 16 rows alone has so"
+                            " many, and a font file has those of 8, 14 and 16 rows"
+                        ),
+                        b"",
+                        bytes(4096),
+                    ),
+                    # What is too long.
+                    ("F6 TooLong", "s", f"the file has more bytes, and {most}", bytes(16_777_217)),
+                    (
+                        "F6 TooLong",
+                        "s",
+                        f"the steps of the text have more bytes, and {most}",
+                        b"int\n",
+                    ),
+                )
+            ),
+        )
 
     def test_files_that_cannot_be_read(self) -> None:
         script, fonts = self.folder / "s", Path(self.write("f", bytes(9728)))

@@ -19,57 +19,90 @@ PICTURE, OTHER = ppm(9, 1, BLACK * 9), ppm(9, 1, b"\x3f\0\0" * 9)
 # A floppy's image with what a run has left.
 IMAGE = machine(b"frame\n").image
 # What stands in the place of a program: it answers each script with the picture of the report `r`.
-PROGRAM = "#!/bin/sh\n[ \"$1\" = go ] && exec cat \"${0%/*}/r\"\nexit 0\n"
-# A program that writes so many pictures of three megabytes, and the memory that their run may take; and that of all else.
+PROGRAM = '#!/bin/sh\n[ "$1" = go ] && exec cat "${0%/*}/r"\nexit 0\n'
+# A program that writes so many pictures of three megabytes, and the memory that their run may take;
+# and that of all else.
 PICTURES, ROOM, MEMORY = 100, 1 << 27, 1 << 28
 MANY = f"""import sys
 for number in range(1, {PICTURES + 1} if sys.argv[1] == "go" else 1):
-    sys.stdout.buffer.write(b"%d picture 3000016\\nP6\\n1000 1000\\n63\\n" % number + bytes(3_000_000) + b"\\n")
+    sys.stdout.buffer.write(b"%d picture 3000016\\nP6\\n1000 1000\\n63\\n" % number)
+    sys.stdout.buffer.write(bytes(3_000_000) + b"\\n")
 """
 FILES: dict[str, str | bytes] = {
-    "r": report(PICTURE), "r2": report(OTHER), "i": PICTURE, "s.vga": "frame\n", "m": IMAGE,
-    "t": "- w p 3C4 02 1\n", "empty/notes": "",
-    "ok": report("ok", PICTURE), "none": report("ok"), "move.vga": "frame\nmove\n", "font": bytes(9727),
-    "sizes": report(PICTURE, ppm(1, 1, BLACK)), "end.vga": "version 2\nend\n", "cut": b"VGAS\1\1", "zero.vga": "frame\n", "list": "zero\n",
-    "endless": "endless\n", "marks": f"{FIRST_MARK}\n{LAST_MARK}\n",
+    "r": report(PICTURE),
+    "r2": report(OTHER),
+    "i": PICTURE,
+    "s.vga": "frame\n",
+    "m": IMAGE,
+    "t": "- w p 3C4 02 1\n",
+    "empty/notes": "",
+    "ok": report("ok", PICTURE),
+    "none": report("ok"),
+    "move.vga": "frame\nmove\n",
+    "font": bytes(9727),
+    "sizes": report(PICTURE, ppm(1, 1, BLACK)),
+    "end.vga": "version 2\nend\n",
+    "cut": b"VGAS\1\1",
+    "zero.vga": "frame\n",
+    "list": "zero\n",
+    "endless": "endless\n",
+    "marks": f"{FIRST_MARK}\n{LAST_MARK}\n",
 }
 NAMES = "out, outw, in, inw, put, putw, get, getw, advance, frame, int, show, version, repeat, end"
-MOVE = f"vga-floppy: {{move}}:2: F7 BadLine(2): there is no step 'move'; the steps are {NAMES}\n  move\n  ^^^^\n"
+MOVE = (
+    f"vga-floppy: {{move}}:2: F7 BadLine(2): there is no step 'move'; the steps are {NAMES}\n "
+    " move\n  ^^^^\n"
+)
 # The words of tools, and what is said of them. {o} is a file that is not there, {d} the folder.
 REFUSED = {
     # Files without an end.
-    "report run /dev/zero --vga /bin/true": "/dev/zero: F6 TooLong: a script has at most 16,777,216 bytes\n",
+    "report run /dev/zero --vga /bin/true": (
+        "/dev/zero: F6 TooLong: a script has at most 16,777,216 bytes\n"
+    ),
     "report run {s} --fonts /dev/zero --debug {o}": "/dev/zero: it has more than 16,777,216 bytes",
     "report text /dev/zero": "/dev/zero:1: the line is longer than any answer",
-    "report run /dev/zero --debug {o}": "/dev/zero: F6 TooLong: a script has at most 16,777,216 bytes\n",
+    "report run /dev/zero --debug {o}": (
+        "/dev/zero: F6 TooLong: a script has at most 16,777,216 bytes\n"
+    ),
     "report pictures {r} --apng {o} --script /dev/zero": "F6 TooLong: ",
     "report compare-picture {r} 1 /dev/zero": "/dev/zero: it has more than 67,108,864 bytes",
     "report check {r} /dev/zero": "/dev/zero:1: ",
     "report suite true{{script}} --list /dev/zero": "/dev/zero: it has more than 16,777,216 bytes",
     "picture script /dev/zero {o} --mode 13": "/dev/zero: it has more than 67,108,864 bytes",
-    "picture script {i} {o} --mode 3 --scale --fonts /dev/zero": "/dev/zero: it has more than 16,777,216 bytes",
+    "picture script {i} {o} --mode 3 --scale --fonts /dev/zero": (
+        "/dev/zero: it has more than 16,777,216 bytes"
+    ),
     "trace convert /dev/zero {o}": "/dev/zero:1: the line is longer than any of a trace",
     "floppy make /dev/zero {o}": "F6 TooLong: ",
     "floppy make {d}/empty {o}": "empty/list.txt: it has more than 16,777,216 bytes",
-    "report suite true{{script}} --list {endless}": "endless.vga: it has more than 16,777,216 bytes",
+    "report suite true{{script}} --list {endless}": (
+        "endless.vga: it has more than 16,777,216 bytes"
+    ),
     "floppy table /dev/full {r}": "/dev/full: it has more than 16,777,216 bytes",
     "floppy table {s} /dev/zero": "it lacks the marks",
     "page make {o} --module /dev/zero": "/dev/zero: it has more than 16,777,216 bytes",
     "floppy table {marks} /dev/zero": "/dev/zero: it has more than 16,777,216 bytes",
-    "report suite true{{script}} --machine --list {list}": "zero.txt:1: the line is longer than any answer",
-    f"page make {TOP}/examples/byte-screen.vga --module {{s}}": f"{TOP}/examples/byte-screen.vga: it is read as {TOP}",
+    "report suite true{{script}} --machine --list {list}": (
+        "zero.txt:1: the line is longer than any answer"
+    ),
+    f"page make {TOP}/examples/byte-screen.vga --module {{s}}": (
+        f"{TOP}/examples/byte-screen.vga: it is read as {TOP}"
+    ),
     # What is wrong with folders and files is said before any work.
     "library make {s}": "s.vga: it is not a folder",
     "library make {s}/kit": "s.vga: it is not a folder",
     "library make {o} --archive /dev/zero": "/dev/zero: there is no such file",
     "library make {o} --archive no-such-file": "vga-library: no-such-file: there is no such file\n",
     "library install --prefix usr": "vga-library: usr: a prefix begins with a slash\n",
-    "library install --prefix /usr --libdir /lib":
-        "vga-library: /lib: the folder of libraries is named from the prefix",
+    "library install --prefix /usr --libdir /lib": (
+        "vga-library: /lib: the folder of libraries is named from the prefix"
+    ),
     "release {s}": "s.vga: it is not a folder",
     "release {o} --program /dev/zero": "/dev/zero: there is no such file",
     "page make {s}/page": "there is no such folder",
-    f"page make {TOP}/page/index.html --module {{s}}": f"vga-page: {TOP}/page/index.html: it is read as {TOP}",
+    f"page make {TOP}/page/index.html --module {{s}}": (
+        f"vga-page: {TOP}/page/index.html: it is read as {TOP}"
+    ),
     "report run {s} --pictures {r} --try": "r: it is not a folder",
     "report run {s} --pictures {s}": "it is not a folder",
     "report run {s} --html {s}/page --try": "there is no such folder",
@@ -88,18 +121,26 @@ REFUSED = {
     "picture script {o} - --mode 13": "vga-picture: {o}: No such file or directory\n",
     "floppy make {o} {d}/image": "vga-floppy: {o}: No such file or directory\n",
     "floppy make {d} {o}": "vga-floppy: {d}: Is a directory\n",
-    "floppy make {move} {o}": MOVE, "floppy make {move} {o}/image": MOVE, "floppy run --on dosbox {move}": MOVE,
+    "floppy make {move} {o}": MOVE,
+    "floppy make {move} {o}/image": MOVE,
+    "floppy run --on dosbox {move}": MOVE,
     "floppy make {end} {o}": "vga-floppy: {end}:2: F7 BadLine(2): no repeat is open here",
-    "floppy make {cut} {o}":
-        "vga-floppy: {cut}: F5 Truncated(5): the step out at offset 5 is cut off: the file ends after 1 of its bytes\n",
+    "floppy make {cut} {o}": (
+        "vga-floppy: {cut}: F5 Truncated(5): the step out at offset 5 is cut off: the file ends"
+        " after 1 of its bytes\n"
+    ),
     "floppy read {t}": "vga-floppy: {t}: it is no image of vga-floppy\n",
     "floppy read --serial {t}": "vga-floppy: {t}: it holds no record of vga-floppy\n",
     "fuzz {o}": "it is no program",
     "fuzz {d}": "it is no program",
     "fuzz /bin/true": "vga asm: status 0, and it has written no script",
     # Disks that are full.
-    "picture script {i} {o} --mode 13 --scale --picture /dev/full": "/dev/full: No space left on device",
-    "picture script {i} /dev/full --mode 13 --scale": "vga-picture: /dev/full: No space left on device\n",
+    "picture script {i} {o} --mode 13 --scale --picture /dev/full": (
+        "/dev/full: No space left on device"
+    ),
+    "picture script {i} /dev/full --mode 13 --scale": (
+        "vga-picture: /dev/full: No space left on device\n"
+    ),
     "trace convert {t} /dev/full": "vga-trace: /dev/full: No space left on device\n",
     "floppy make {s} /dev/full": "vga-floppy: /dev/full: No space left on device\n",
     "floppy read {m} /dev/full": "vga-floppy: /dev/full: No space left on device\n",
@@ -114,26 +155,39 @@ REFUSED = {
     "report run - --vga {p} --watch": "--watch wants a file that changes",
     "report run - --vga {p} --junit {o}": "--junit wants a file or a folder",
     "report run {s} --html - --show": "--html writes a page that has the pictures",
-    **{f"report run {{s}} --debug {{o}} {words}": f"vga-report: --debug {told}: " for told, options in (
-        ("runs nothing here", ("--only 1", "--try", "--vga x")),
-        ("writes a page that runs the script", ("--bless", "--show", "--pictures p")),
-    ) for words in options},
+    **{
+        f"report run {{s}} --debug {{o}} {words}": f"vga-report: --debug {told}: "
+        for told, options in (
+            ("runs nothing here", ("--only 1", "--try", "--vga x")),
+            ("writes a page that runs the script", ("--bless", "--show", "--pictures p")),
+        )
+        for words in options
+    },
     "report run {s} --debug {o} --html -": "both want files",
     "report run {s} --debug {o} --html {o}": "want two files",
-    "report run {s} --fonts {font} --debug {o}":
-        "vga-report: {font}: the font file has 9,727 bytes, and 9,728 are right\n",
-    "report pictures {sizes} --apng {o}":
-        "vga-report: step 2 has a picture of another size than step 1: --step picks those of one size\n",
+    "report run {s} --fonts {font} --debug {o}": (
+        "vga-report: {font}: the font file has 9,727 bytes, and 9,728 are right\n"
+    ),
+    "report pictures {sizes} --apng {o}": (
+        "vga-report: step 2 has a picture of another size than step 1: --step picks those of one"
+        " size\n"
+    ),
     "report pictures {ok} --apng {o} --script {i}": "vga-report: {i}:1: F7 BadLine(1): ",
     "report pictures {ok} --apng {o} --script {move}": "vga-report: {move}:2: F7 BadLine(2): ",
-    "report pictures {ok} --apng {o} --script /dev/null": "vga-report: /dev/null: it is not the report's script: "
-        "step 2 has a picture, and is no frame of it\n",
+    "report pictures {ok} --apng {o} --script /dev/null": (
+        "vga-report: /dev/null: it is not the report's script: "
+        "step 2 has a picture, and is no frame of it\n"
+    ),
     "report pictures {r}": "the pictures want a folder, or --apng a file",
     "report pictures {r} {o} --apng {o}": "--apng writes one file, with neither a folder nor --ppm",
     "report pictures {r} {o} --ppm --aspect": "--ppm gives the bytes as they are",
-    "report pictures {ok} - --step 1": "vga-report: {ok}: step 1 has no picture; there are 2 steps\n",
+    "report pictures {ok} - --step 1": (
+        "vga-report: {ok}: step 1 has no picture; there are 2 steps\n"
+    ),
     "report pictures {none} -": "vga-report: {none}: no step has a picture\n",
-    "report compare-picture {ok} 1 {i}": "vga-report: {ok}: step 1 has no picture; there are 2 steps\n",
+    "report compare-picture {ok} 1 {i}": (
+        "vga-report: {ok}: step 1 has no picture; there are 2 steps\n"
+    ),
     "report scripts -": "vga-report: the files want a folder\n",
     "report scripts {s}": "vga-report: {s}: it is not a folder\n",
     "trace": "usage: vga-trace",
@@ -149,39 +203,55 @@ REFUSED = {
     "picture script - - --mode 13 --nearest --dither floyd": "usage: vga-picture",
     "picture script - - --mode 13 --dither none": "usage: vga-picture",
     "picture script - - --mode 13 --dither refused": "usage: vga-picture",
-    "picture script {i} - --mode 12 --rows 28":
-        "vga-picture: --rows and --own-glyphs are of text, which is mode 3\n",
-    "picture script {i} - --mode 12 --own-glyphs":
-        "vga-picture: --rows and --own-glyphs are of text, which is mode 3\n",
-    "picture script {i} - --mode 12 --scale --bars ff0000":
-        "vga-picture: --bars is the colour of the bars that --fit makes\n",
-    "picture script {i} - --mode 12 --fit --bars ff000":
-        "'ff000' is no colour of six hexadecimal digits, as FFFFFF for white\n",
-    "picture script {i} - --mode 12":
+    "picture script {i} - --mode 12 --rows 28": (
+        "vga-picture: --rows and --own-glyphs are of text, which is mode 3\n"
+    ),
+    "picture script {i} - --mode 12 --own-glyphs": (
+        "vga-picture: --rows and --own-glyphs are of text, which is mode 3\n"
+    ),
+    "picture script {i} - --mode 12 --scale --bars ff0000": (
+        "vga-picture: --bars is the colour of the bars that --fit makes\n"
+    ),
+    "picture script {i} - --mode 12 --fit --bars ff000": (
+        "'ff000' is no colour of six hexadecimal digits, as FFFFFF for white\n"
+    ),
+    "picture script {i} - --mode 12": (
         "vga-picture: {i}: the image has 9x1 dots, and mode 12 has 640x480: "
-        "--scale stretches it, --fit keeps its shape\n",
-    "picture script {i} - --mode 3 --fonts {t}": "vga-picture: {t}: a font file has 9,728 bytes, and this has 15\n",
+        "--scale stretches it, --fit keeps its shape\n"
+    ),
+    "picture script {i} - --mode 3 --fonts {t}": (
+        "vga-picture: {t}: a font file has 9,728 bytes, and this has 15\n"
+    ),
     "trace record {d}/empty --vga {p} -- -cdrom x": "it has files: name a new folder",
     "trace record {o} --vga {p}": "qemu needs words after `--`",
     "trace record {o} --key 2:": "'2:' is no key of qemu's",
     "trace record {o} --key x:ret": "'x' is no number of seconds",
     "trace record {o} --screen soon": "'soon' is no number of seconds",
-    "trace convert - - --time --frames clock":
-        "vga-trace: frames by the clock have the time already: without --time\n",
+    "trace convert - - --time --frames clock": (
+        "vga-trace: frames by the clock have the time already: without --time\n"
+    ),
     "page make x --proof p": "vga-page: --proof keeps a proof of --gated",
     "page module x --proof p": "vga-page: --proof keeps a proof of --gated",
     "page make x --module m --gated": "vga-page: --module takes a module as it is",
     "page make {o} --module {t}": "it is no WebAssembly module",
-    "library-tests --target aarch64 --only pc": "vga-library-tests: pc: there is no such check for aarch64\n",
+    "library-tests --target aarch64 --only pc": (
+        "vga-library-tests: pc: there is no such check for aarch64\n"
+    ),
     # Numbers have ranges.
     "report run {s} --until -1 --vga {p}": "'-1' is no number from 0 to 4294967295\n",
     **{
         f"{words} {option} {number}": f"argument {option}: '{number}' is no number"
         for words, option, numbers in (
-            ("report suite x{{script}}", "--timeout", "-1 0 nan inf"), ("report suite x{{script}}", "--jobs", "0 1000"),
-            ("report suite x{{script}}", "--output", "-1"), ("report pictures r f", "--scale", "0 1001 +1"),
-            ("report pictures r f", "--step", "-1"), ("report run {s}", "--until", "-1"), ("fuzz", "--timeout", "0"),
-            ("fuzz", "--memory", "0 -1"), ("fuzz", "--output", "0"), ("fuzz", "--seconds", "0 nan"),
+            ("report suite x{{script}}", "--timeout", "-1 0 nan inf"),
+            ("report suite x{{script}}", "--jobs", "0 1000"),
+            ("report suite x{{script}}", "--output", "-1"),
+            ("report pictures r f", "--scale", "0 1001 +1"),
+            ("report pictures r f", "--step", "-1"),
+            ("report run {s}", "--until", "-1"),
+            ("fuzz", "--timeout", "0"),
+            ("fuzz", "--memory", "0 -1"),
+            ("fuzz", "--output", "0"),
+            ("fuzz", "--seconds", "0 nan"),
         )
         for number in numbers.split()
     },
@@ -197,11 +267,17 @@ for told, *images in (
     ("the PPM of 1x1 dots is damaged", b"P6\n1 1\n255\n\0"),
     ("the components go to 1000; 63 and 255 can be read", b"P6\n1 1\n1000\n123456"),
     ("the components go to 65535; 63 and 255 can be read", b"P6\n1 1\n65535\n123456"),
-    ("a row of the PNG has filter 5, and the filters are 0 to 4", png(1, 2, bytes(4) + b"\5" + bytes(3))),
+    (
+        "a row of the PNG has filter 5, and the filters are 0 to 4",
+        png(1, 2, bytes(4) + b"\5" + bytes(3)),
+    ),
     ("a row of the PNG has filter 255, and the filters are 0 to 4", png(1, 1, b"\xff" + bytes(3))),
     ("the PNG names a colour that it does not have", png(1, 1, b"\0\0", colour=3)),
     ("a PNG of this form can't be read: 1x1, depth 8, colour type 5", png(1, 1, b"\0", colour=5)),
-    ("an interlaced PNG can't be read: save it without interlace", png(1, 1, bytes(4), interlace=1)),
+    (
+        "an interlaced PNG can't be read: save it without interlace",
+        png(1, 1, bytes(4), interlace=1),
+    ),
     ("the image has 5000x5000 dots, and 16,777,216 are the most", png(5000, 5000, b"")),
     ("the image has 9999999x2 dots, and 16,777,216 are the most", b"P6 9999999 2 255\n"),
 ):
@@ -209,8 +285,8 @@ for told, *images in (
         name = f"image{len(FILES)}"
         FILES[name] = image
         REFUSED[f"picture script {{{name}}} {{o}} --mode 13"] = f"vga-picture: {{{name}}}: {told}\n"
-# Words of the tools, in which the file {in} is read, what it has, and the other name of it in the folder, which would
-# be written.
+# Words of the tools, in which the file {in} is read, what it has, and the other name of it in the
+# folder, which would be written.
 READ_AND_WRITTEN = [
     ("report run {s} --vga {p} --fonts {in} --html {out}", "font", "out"),
     ("report run {in} --vga {p} --json {out}", "frame\n", "out"),
@@ -252,7 +328,9 @@ class Refused(Folder):
             self.write(name, content)
         for name in ("zero.txt", "endless.vga", "empty/list.txt"):
             (self.folder / name).symlink_to("/dev/zero")
-        self.places = {name.removesuffix(".vga"): str(self.folder / name) for name in (*FILES, "o", "in")}
+        self.places = {
+            name.removesuffix(".vga"): str(self.folder / name) for name in (*FILES, "o", "in")
+        }
         self.places.update(p=self.program("p", PROGRAM), d=str(self.folder))
 
     def files(self) -> dict[Path, int]:
@@ -263,7 +341,8 @@ class Refused(Folder):
         """What a tool writes and says that is to do nothing, with little memory and no input."""
         tool, *rest = words.split(" ")
         status, output, said = run_tool(
-            f"vga-{tool}", *(word.format(**self.places) for word in rest),
+            f"vga-{tool}",
+            *(word.format(**self.places) for word in rest),
             prepare=partial(limit_memory, MEMORY),
         )
         self.assertEqual(status, 2, said)
@@ -301,5 +380,13 @@ class Refused(Folder):
 
     def test_memory_holds_one_picture(self) -> None:
         path, program = self.write("many.vga", "frame\n" * PICTURES), self.program("many", MANY)
-        done = run_tool("vga-report", "run", path, "--vga", program, "--quiet", prepare=partial(limit_memory, ROOM))
+        done = run_tool(
+            "vga-report",
+            "run",
+            path,
+            "--vga",
+            program,
+            "--quiet",
+            prepare=partial(limit_memory, ROOM),
+        )
         self.assertEqual(done, (0, f"{path}: {PICTURES} steps, {PICTURES} pictures\n".encode(), ""))

@@ -29,9 +29,25 @@ from vga_report.words import parser
 from zaklimot.format import Answer, count_in, lines_in, places_in, steps_in, words_in
 
 from .test_command import run
-from .tools import BLACK, EXAMPLES, PROGRAM, RED, TOP, Folder, begin, ended, hold, hold_refused, hold_undone, ppm, refused, want_program
+from .tools import (
+    BLACK,
+    EXAMPLES,
+    PROGRAM,
+    RED,
+    TOP,
+    Folder,
+    begin,
+    ended,
+    hold,
+    hold_refused,
+    hold_undone,
+    ppm,
+    refused,
+    want_program,
+)
 
-# A program that understands texts of a few steps: `asm` copies, `dis` prints in upper case, `go` answers by the name.
+# A program that understands texts of a few steps: `asm` copies, `dis` prints in upper case, `go`
+# answers by the name.
 FAKE = """import sys
 words = sys.argv[1:]
 data = open(words[1], "rb").read()
@@ -49,67 +65,144 @@ elif words[0] in ("go", "run"):
     out = sys.stdout.buffer
     stop = min(int(words[5]) if words[4:] else len(numbered), len(numbered))
     for number, (_, step) in enumerate(numbered[:stop], 1):
-        answer = {{b"get": b"E6", b"frame": b"picture 37\\n" + {picture!r}, b"show": b"a\\nb" if b"regs" in step else b"misc 67",
-                  b"in": b"E1 NotDecoded", b"int": b"ax=0003 bx=0000 cx=0000 dx=0000"}}.get(step[0], b"ok")
+        answer = {{b"get": b"E6", b"frame": b"picture 37\\n" + {picture!r},
+                  b"show": b"a\\nb" if b"regs" in step else b"misc 67", b"in": b"E1 NotDecoded",
+                  b"int": b"ax=0003 bx=0000 cx=0000 dx=0000"}}.get(step[0], b"ok")
         out.write(b"%d %s\\n" % (number, answer))
     if words[4:]:
         out.write(b"".join(b"%d look\\n" % (stop + at) for at in (1, 2, 3, 4)))
 """
-TEXT = "; A script.\n\nout 3c2 1\nget a0000 ; = E6\nin 3da\nframe ; = picture 9x1\nint ax=3 ; = ax=0003\nshow regs ; = 2 lines...\n"
+TEXT = (
+    "; A script.\n\nout 3c2 1\nget a0000 ; = E6\nin 3da\nframe ; = picture 9x1\nint ax=3 ; ="
+    " ax=0003\nshow regs ; = 2 lines...\n"
+)
 # What the program does first where two runs of it are to be under way at a time.
 TOGETHER = """import glob, os, time
 open(f"{sys.argv[0]}.{os.getppid()}", "w").close()
 while len(glob.glob(sys.argv[0] + ".*")) < 2: time.sleep(0.01)
 """
 # What it does first where no two are to be: it fails while another runs.
-ALONE = "import fcntl, time; own = open(sys.argv[0]); fcntl.flock(own, fcntl.LOCK_EX | fcntl.LOCK_NB); time.sleep(0.1)\n"
+ALONE = (
+    "import fcntl, time; own = open(sys.argv[0]); fcntl.flock(own, fcntl.LOCK_EX | fcntl.LOCK_NB);"
+    " time.sleep(0.1)\n"
+)
 # Texts, the words of a run, its status, and what is told.
 DECODED = "               No part of the adapter decodes port 0{}.\n".format
 NAMES = "out, outw, in, inw, put, putw, get, getw, advance, frame, int, show, version, repeat, end"
 RUNS: list[tuple[str, str, int, list[str]]] = [
     ("show dac 0 ; = misc 63\n", "", 1, [" answers misc 67, not misc 63: misc: 67, not 63\n"]),
-    ("get 0 ; = 55\nget 1 ; = *\nframe ; = picture 9x2\n", "--only differs", 1, [
-        "     1      1  GET 0               E6   not 55\n", "\n3 steps, 1 picture, 1 of 3 answers as expected\n",
-        "t.vga:1: step 1: GET 0 answers E6, not 55\nt.vga:3: step 3: FRAME answers picture 9x1 ",
-    ]),
-    ("out 3C2 1 ; = ok\nout 3C2 1 ; = E1\nout 3C2 1\n", "", 1, [
-        "   ok\n     2", "   ok   not E1\n     3",
-        "OUT 3C2 1 answers ok, not E1\n3 steps, 0 pictures, 1 of 2 answers as expected\n",
-    ]),
+    (
+        "get 0 ; = 55\nget 1 ; = *\nframe ; = picture 9x2\n",
+        "--only differs",
+        1,
+        [
+            "     1      1  GET 0               E6   not 55\n",
+            "\n3 steps, 1 picture, 1 of 3 answers as expected\n",
+            (
+                "t.vga:1: step 1: GET 0 answers E6, not 55\nt.vga:3: step 3: FRAME answers picture"
+                " 9x1 "
+            ),
+        ],
+    ),
+    (
+        "out 3C2 1 ; = ok\nout 3C2 1 ; = E1\nout 3C2 1\n",
+        "",
+        1,
+        [
+            "   ok\n     2",
+            "   ok   not E1\n     3",
+            "OUT 3C2 1 answers ok, not E1\n3 steps, 0 pictures, 1 of 2 answers as expected\n",
+        ],
+    ),
     # Refusals are told once each, counted, and expected by their names.
-    ("in 60\nin 60\nin 61 ; = E1\n", "", 1, [
-        f"     1      1  IN 60               E1 NotDecoded\n{DECODED(60)}",
-        "     2      2  IN 60               E1 NotDecoded\n     3      3  IN 61 ",
-        f"   not E1\n{DECODED(61)}", " not E1: E1 is a byte that is read here; the refusal is written E1 NotDecoded\n",
-        "\n3 steps, 3 refused, 0 pictures, 0 of 1 answers as expected\n",
-    ]),
+    (
+        "in 60\nin 60\nin 61 ; = E1\n",
+        "",
+        1,
+        [
+            f"     1      1  IN 60               E1 NotDecoded\n{DECODED(60)}",
+            "     2      2  IN 60               E1 NotDecoded\n     3      3  IN 61 ",
+            f"   not E1\n{DECODED(61)}",
+            " not E1: E1 is a byte that is read here; the refusal is written E1 NotDecoded\n",
+            "\n3 steps, 3 refused, 0 pictures, 0 of 1 answers as expected\n",
+        ],
+    ),
     ("in 60\nin 60\n", "--html -", 0, [f"{DECODED(60).strip()}</td></tr>\n<tr"]),
     ("in 60\nin 61 ; = E1 NotDecoded\n", "--quiet", 0, []),
-    ("in 60\n", "--quiet --strict", 1, ["t.vga:1: step 1: IN 60 answers E1 NotDecoded, and no refusal is expected\n"]),
+    (
+        "in 60\n",
+        "--quiet --strict",
+        1,
+        ["t.vga:1: step 1: IN 60 answers E1 NotDecoded, and no refusal is expected\n"],
+    ),
     # Answers that are expected of no step.
-    *((text, "", 2, [f"t.vga:{line}: no step stands on this line, so nothing answers "])
-      for text, line in (("frame\n; = 55\n", 2), ("version 2 ; = 1\n", 1), ("frame ; = *\n\t; =ok\n", 2))),
+    *(
+        (text, "", 2, [f"t.vga:{line}: no step stands on this line, so nothing answers "])
+        for text, line in (
+            ("frame\n; = 55\n", 2),
+            ("version 2 ; = 1\n", 1),
+            ("frame ; = *\n\t; =ok\n", 2),
+        )
+    ),
     ("; ======\n; = =\nout 3C2 1\n", "", 0, []),
     # What differs as a diff.
-    ("get 0 ; = 55 ; more\nin 3DA\n", "--diff", 1, [
-        "--- t.vga\n+++ t.vga as answered\n@@ -1,3 +1,3 @@\n-get 0 ; = 55 ; more\n+get 0 ; = E6 ; more\n in 3DA\n \n",
-    ]),
+    (
+        "get 0 ; = 55 ; more\nin 3DA\n",
+        "--diff",
+        1,
+        [
+            (
+                "--- t.vga\n+++ t.vga as answered\n@@ -1,3 +1,3 @@\n-get 0 ; = 55 ; more\n+get 0 ;"
+                " = E6 ; more\n in 3DA\n \n"
+            ),
+        ],
+    ),
     ("in 3DA\n", "--diff --strict", 1, ["\n+in 3DA ; = E1 NotDecoded\n"]),
     # A stopped run shows the state.
-    *((text, "--until 2", 0, [
-        f"            {1 + steps}  show regs           look\n",
-        f"            {4 + steps}  show bda            look\n{4 + steps} steps",
-    ]) for text, steps in ((TEXT, 2), ("; no step\n", 0))),
+    *(
+        (
+            text,
+            "--until 2",
+            0,
+            [
+                f"            {1 + steps}  show regs           look\n",
+                f"            {4 + steps}  show bda            look\n{4 + steps} steps",
+            ],
+        )
+        for text, steps in ((TEXT, 2), ("; no step\n", 0))
+    ),
     # The text is lost where its file has the bytes.
-    ("VGAS\1\x0b", "", 0, [
-        "vga-report: t.vga: the file contains bytes, but has the name of a text. "
-        "If you named it twice, `vga asm` has written over the text\n",
-    ]),
-    *(("VGAS\1\x0b", words, 2, ["vga-report: t.vga: a script of bytes has no comments for answers\n"])
-      for words in ("--diff", "--bless")),
-    ("frame\nmove 1\n", "", 2, [
-        f"vga-report: t.vga:2: F7 BadLine(2): there is no step 'move'; the steps are {NAMES}\n  move 1\n  ^^^^\n",
-    ]),
+    (
+        "VGAS\1\x0b",
+        "",
+        0,
+        [
+            (
+                "vga-report: t.vga: the file contains bytes, but has the name of a text. "
+                "If you named it twice, `vga asm` has written over the text\n"
+            ),
+        ],
+    ),
+    *(
+        (
+            "VGAS\1\x0b",
+            words,
+            2,
+            ["vga-report: t.vga: a script of bytes has no comments for answers\n"],
+        )
+        for words in ("--diff", "--bless")
+    ),
+    (
+        "frame\nmove 1\n",
+        "",
+        2,
+        [
+            (
+                "vga-report: t.vga:2: F7 BadLine(2): there is no step 'move'; the steps are"
+                f" {NAMES}\n  move 1\n  ^^^^\n"
+            ),
+        ],
+    ),
 ]
 
 
@@ -128,7 +221,9 @@ class Fake(Folder):
         status, output, said = run(*words, given=given, prepare=lambda: os.chdir(self.folder))
         return status, output.decode(), said
 
-    def run_script(self, *words: str | bytes, path: str | bytes = "", given: bytes = b"") -> tuple[int, str, str]:
+    def run_script(
+        self, *words: str | bytes, path: str | bytes = "", given: bytes = b""
+    ) -> tuple[int, str, str]:
         """The same of a run of the script above or of another one."""
         return self.run_tool("run", path or self.path, "--vga", str(self.vga), *words, given=given)
 
@@ -142,17 +237,24 @@ class Fake(Folder):
 class Listings(Fake):
     def test_lines_steps_and_answers_in_columns(self) -> None:
         digest = "picture 9x1 " + "cc3cef99328e895f73a6088030faaab2"
-        self.assertEqual(self.run_script(), (0, (
-            "  line   step  step as understood  answer\n"
-            "     3      1  OUT 3C2 1           ok\n"
-            "     4      2  GET A0000           E6\n"
-            "     5      3  IN 3DA              E1 NotDecoded\n"
-            f"     6      4  FRAME               {digest}\n"
-            "     7      5  INT AX=3            ax=0003 bx=0000 cx=0000 dx=0000\n"
-            "     8      6  SHOW REGS           a\n"
-            "                                   b\n"
-            "6 steps, 1 refused, 1 picture, 4 of 4 answers as expected\n"
-        ), ""))
+        self.assertEqual(
+            self.run_script(),
+            (
+                0,
+                (
+                    "  line   step  step as understood  answer\n"
+                    "     3      1  OUT 3C2 1           ok\n"
+                    "     4      2  GET A0000           E6\n"
+                    "     5      3  IN 3DA              E1 NotDecoded\n"
+                    f"     6      4  FRAME               {digest}\n"
+                    "     7      5  INT AX=3            ax=0003 bx=0000 cx=0000 dx=0000\n"
+                    "     8      6  SHOW REGS           a\n"
+                    "                                   b\n"
+                    "6 steps, 1 refused, 1 picture, 4 of 4 answers as expected\n"
+                ),
+                "",
+            ),
+        )
 
     def test_scripts_and_fonts_of_any_name(self) -> None:
         listed, pipe = self.run_script(), self.folder / "pipe"
@@ -164,22 +266,44 @@ class Listings(Fake):
             Path(os.fsdecode(bytes(self.folder) + b"/" + name)).write_text(data)
         # As the program does, which wants words of UTF-8.
         self.begin_program("' '.join(sys.argv).encode()\n")
-        hold(self, lambda path, *words: self.run_script(*words, path=path, given=TEXT.encode()), (
-            ("-", listed), ("/dev/stdin", listed), (b"s\xff", "--fonts", b"f\xff", listed),
-        ))
+        hold(
+            self,
+            lambda path, *words: self.run_script(*words, path=path, given=TEXT.encode()),
+            (
+                ("-", listed),
+                ("/dev/stdin", listed),
+                (b"s\xff", "--fonts", b"f\xff", listed),
+            ),
+        )
 
     def shown(self, *words: str) -> list[str]:
         """The numbers of the steps that are shown."""
         return re.findall(r"(?m)^ +\d+ +(\d+)  ", self.run_script(*words)[1])
 
     def test_some_steps_alone(self) -> None:
-        hold(self, partial(self.shown, "--only"), [
-            ("1-2,5", ["1", "2", "5"]), ("refused", ["3"]), ("read", ["2"]), ("pictures", ["4"]), ("differs", []),
-            ("dumps", ["6"]), ("refused,1", ["1", "3"]),
-        ])
-        message = "vga-report: --only has numbers of steps, as 10-20, and refused, read, pictures, dumps, differs, and not 'x'\n"
+        hold(
+            self,
+            partial(self.shown, "--only"),
+            [
+                ("1-2,5", ["1", "2", "5"]),
+                ("refused", ["3"]),
+                ("read", ["2"]),
+                ("pictures", ["4"]),
+                ("differs", []),
+                ("dumps", ["6"]),
+                ("refused,1", ["1", "3"]),
+            ],
+        )
+        message = (
+            "vga-report: --only has numbers of steps, as 10-20, and refused, read, pictures, dumps,"
+            " differs, and not 'x'\n"
+        )
         self.assertEqual(self.run_script("--only", "x"), (2, "", message))
-        hold_refused(self, chosen, ((text, "^--only ") for text in ("", "1-", "a-b", "1,,2", "0", "5-2", "0-3")))
+        hold_refused(
+            self,
+            chosen,
+            ((text, "^--only ") for text in ("", "1-", "a-b", "1,,2", "0", "5-2", "0-3")),
+        )
 
     def test_pictures_as_files_and_as_blocks(self) -> None:
         shown = self.run_script("--pictures", "p", "--show")[1]
@@ -197,63 +321,103 @@ class Listings(Fake):
                 for part in parts:
                     self.assertIn(part, output + said)
         status, _, said = self.run_script(path="-", given=b"move\n")
-        self.assertEqual((status, said.partition(": there")[0]), (2, "vga-report: standard input:1: F7 BadLine(1)"))
+        self.assertEqual(
+            (status, said.partition(": there")[0]),
+            (2, "vga-report: standard input:1: F7 BadLine(1)"),
+        )
         self.assertEqual(self.run_script(path=self.write("s.bin", b"VGAS\1\x0b"))[2], "")
 
     def test_what_is_lacking_for_a_build(self) -> None:
         self.assertIn("## Build it\n", (TOP / "README.md").read_text("utf-8"))
         none = self.folder / "none"
         told = '^vga-report: rt: it is not in the path: .* "Build it"\\. Without it --vga runs a '
-        self.patch(mock.patch.dict(os.environ, PATH=str(self.folder)), mock.patch.object(program, "PROGRAM", none))
+        self.patch(
+            mock.patch.dict(os.environ, PATH=str(self.folder)),
+            mock.patch.object(program, "PROGRAM", none),
+        )
         for words in ("--try", "--build"):
             hold_undone(self, run("run", self.path, words), told)
             # A release has no sources.
             with mock.patch.object(program, "CRATE", none):
-                hold_undone(self, run("run", self.path, words), "the program's sources in Rattle are not here")
+                hold_undone(
+                    self,
+                    run("run", self.path, words),
+                    "the program's sources in Rattle are not here",
+                )
 
     def test_programs_that_do_not_do_it(self) -> None:
         good, fault = self.vga.read_text(), "t.vga:2: F7 BadLine(2): refused"
         for text, script, told in (
-            (good + "sys.exit('the script can\\'t be read')\n", TEXT, "t.vga: the script can't be read\n"),
-            (good + "if words[0] == 'go': out.write(b'7 ok\\n')\n", TEXT,
-             "t.vga: the report goes on after the last step, 6\n"),
+            (
+                good + "sys.exit('the script can\\'t be read')\n",
+                TEXT,
+                "t.vga: the script can't be read\n",
+            ),
+            (
+                good + "if words[0] == 'go': out.write(b'7 ok\\n')\n",
+                TEXT,
+                "t.vga: the report goes on after the last step, 6\n",
+            ),
             ("#!/bin/true", TEXT, "t.vga: the report ends after 0 of 6 steps\n"),
             # A fault may stand in the place of a report.
-            *(("import sys\nif sys.argv[1] == 'go': print('F7 BadLine(2)')\n", script, fault)
-              for script in ("frame\nint", "; a\n; b\n")),
-            (good.replace("[:stop], 1)", "[:2], 1)"), TEXT, "t.vga: the report ends after 2 of 6 steps\n"),
+            *(
+                ("import sys\nif sys.argv[1] == 'go': print('F7 BadLine(2)')\n", script, fault)
+                for script in ("frame\nint", "; a\n; b\n")
+            ),
+            (
+                good.replace("[:stop], 1)", "[:2], 1)"),
+                TEXT,
+                "t.vga: the report ends after 2 of 6 steps\n",
+            ),
         ):
             self.program("vga", text)
             status, output, said = self.run_text(script)
-            self.assertEqual((status, said[:len(told) + 12]), (2, f"vga-report: {told}"))
+            self.assertEqual((status, said[: len(told) + 12]), (2, f"vga-report: {told}"))
         self.assertIn("     4      2  GET A0000 ", output)
-        self.assertEqual((self.run_script("--until", "2")[0], self.run_text("; no step\n")[0]), (0, 0))
+        self.assertEqual(
+            (self.run_script("--until", "2")[0], self.run_text("; no step\n")[0]), (0, 0)
+        )
 
     def test_long_scripts_take_no_longer_a_step(self) -> None:
         path = self.write("long.vga", "out 3c4 02\n" * 50_000)
         little = partial(resource.setrlimit, resource.RLIMIT_CPU, (30, 30))
         output = run("run", path, "--vga", self.vga, "--only", "50000", prepare=little)[1].decode()
-        self.assertEqual(output.splitlines()[1:], [" 50000  50000  OUT 3C4 02          ok", "50000 steps, 0 pictures"])
+        self.assertEqual(
+            output.splitlines()[1:],
+            [" 50000  50000  OUT 3C4 02          ok", "50000 steps, 0 pictures"],
+        )
 
     def blessed(self, text: str, *words: str) -> tuple[int, str, str]:
-        """Exit status and output of a run that writes answers into a script, and the script then."""
+        """Exit status and output of a run that writes answers into a script, and the script
+        then."""
         status, output, _ = self.run_text(text, "--bless", *words)
         return status, output, (self.folder / "t.vga").read_bytes().decode()
 
     def test_answers_are_written_in(self) -> None:
-        text = "out 3C2 1\nget 0\r\nget 1 ; = 55 ; the byte\nget 2 ; = *\nint ax=3\nin 3DA  ; \u00e9\nint\n"
+        text = (
+            "out 3C2 1\nget 0\r\nget 1 ; = 55 ; the byte\nget 2 ; = *\nint ax=3\nin 3DA  ;"
+            " \u00e9\nint\n"
+        )
         whole = (
             "out 3C2 1\nget 0 ; = E6\r\nget 1 ; = E6 ; the byte\nget 2 ; = *\nint ax=3\n"
             "in 3DA  ; = E1 NotDecoded ; \u00e9\nint ; = ax=0003 bx=0000 cx=0000 dx=0000\n"
         )
         # What is met stays as it is.
-        met = "frame ; = picture 9x1\nin 3DA ; = e1 notdecoded\nshow regs ; = 2 lines...\nint ; = ax=0003\n"
+        met = (
+            "frame ; = picture 9x1\nin 3DA ; = e1 notdecoded\nshow regs ; = 2 lines...\nint ; ="
+            " ax=0003\n"
+        )
         told = "t.vga:2: nothing -> E6\nt.vga:3: 55 -> E6\nt.vga:6: nothing -> E1 NotDecoded\n"
         told += "t.vga:7: nothing -> ax=0003 bx=0000 cx=0000 dx=0000\nt.vga: 4 answers "
-        hold(self, self.blessed, (
-            (text, "--dry-run", (0, f"{told}would be written\n", text)), (text, (0, f"{told}written\n", whole)),
-            *((good, (0, "t.vga: 0 answers written\n", good)) for good in (whole, met)),
-        ))
+        hold(
+            self,
+            self.blessed,
+            (
+                (text, "--dry-run", (0, f"{told}would be written\n", text)),
+                (text, (0, f"{told}written\n", whole)),
+                *((good, (0, "t.vga: 0 answers written\n", good)) for good in (whole, met)),
+            ),
+        )
 
     def test_a_step_that_answers_otherwise_when_it_is_repeated(self) -> None:
         blessing = Blessing(b"version 2\nrepeat 2\nget 0\nend\n", True)
@@ -262,52 +426,99 @@ class Listings(Fake):
         self.assertEqual(blessing.text(), "version 2\nrepeat 2\nget 0 ; = *\nend\n")
 
     def test_a_dump_that_stands_whole(self) -> None:
-        whole = "show regs ; = 2 lines dd8c6a395b5dd36c56d23275028f526c ; more\n;| a\n;| b\nget 0 ; = E6\n"
+        whole = (
+            "show regs ; = 2 lines dd8c6a395b5dd36c56d23275028f526c ; more\n;| a\n;| b\nget 0 ; ="
+            " E6\n"
+        )
         self.assertEqual(self.blessed("show regs ; more\n;| old\nget 0 ; = E6\n")[::2], (0, whole))
         good = (0, "t.vga: 2 steps, 0 pictures, 2 of 2 answers as expected\n", "")
         self.assertEqual(self.run_text(whole, "--quiet"), good)
         other = whole.replace(";| b", ";| c")
         status, output, _ = self.run_text(other, "--quiet")
         self.assertEqual((status, output.split("6c: ")[1].splitlines()[0]), (1, "'b', not 'c'"))
-        counts = [self.run_text(other, word)[1].count("\n-;| c\n+;| b\n") for word in ("--diff", "--bless")]
+        counts = [
+            self.run_text(other, word)[1].count("\n-;| c\n+;| b\n")
+            for word in ("--diff", "--bless")
+        ]
         self.assertEqual((counts, (self.folder / "t.vga").read_text()), ([1, 0], whole))
 
     def test_as_json(self) -> None:
-        status, output, said = self.run_text("get 0 ; = 55\nframe\nin 60\nshow regs\n", "--json", "-")
+        status, output, said = self.run_text(
+            "get 0 ; = 55\nframe\nin 60\nshow regs\n", "--json", "-"
+        )
         told = json.loads(output)
-        self.assertEqual((status, told["script"], told["steps"], told["refused"], told["wrong"]), (1, "t.vga", 4, 1, 1))
+        self.assertEqual(
+            (status, told["script"], told["steps"], told["refused"], told["wrong"]),
+            (1, "t.vga", 4, 1, 1),
+        )
         get, frame, read, dump = told["answers"]
         self.assertEqual((get["answer"], get["expected"], get["met"]), ("E6", "55", False))
-        self.assertEqual(frame["picture"], {"size": "9x1", "md5": "cc3cef99328e895f73a6088030faaab2"})
-        self.assertEqual((read["refused"], read["why"]), ("E1 NotDecoded", "No part of the adapter decodes port 060."))
+        self.assertEqual(
+            frame["picture"], {"size": "9x1", "md5": "cc3cef99328e895f73a6088030faaab2"}
+        )
+        self.assertEqual(
+            (read["refused"], read["why"]),
+            ("E1 NotDecoded", "No part of the adapter decodes port 060."),
+        )
         self.assertEqual(dump["lines"], ["a", "b"])
-        self.assertTrue(said.endswith("4 steps, 1 refused, 1 picture, 0 of 1 answers as expected\n"))
+        self.assertTrue(
+            said.endswith("4 steps, 1 refused, 1 picture, 0 of 1 answers as expected\n")
+        )
         status, output, _ = self.run_text("move\n", "--json", "-")
         told = json.loads(output)
-        self.assertEqual((status, told["answers"], "F7 BadLine(1)" in told["trouble"]), (2, [], True))
+        self.assertEqual(
+            (status, told["answers"], "F7 BadLine(1)" in told["trouble"]), (2, [], True)
+        )
 
 
 class Expectations(unittest.TestCase):
     """What a text expects of its steps. page/tests/expecting.mjs holds which answers meet it."""
 
     def test_comments(self) -> None:
-        hold(self, lambda comment: expected_in(comment.encode()), [
-            ("= 55", "55"), (" =55 ; more", "55"), ("55", None), ("= E6  WrongKind", "E6 WrongKind"), ("=", ""),
-        ])
+        hold(
+            self,
+            lambda comment: expected_in(comment.encode()),
+            [
+                ("= 55", "55"),
+                (" =55 ; more", "55"),
+                ("55", None),
+                ("= E6  WrongKind", "E6 WrongKind"),
+                ("=", ""),
+            ],
+        )
 
     def test_dumps(self) -> None:
-        hold(self, lambda text: dumps_in(text.encode(), "t"), [
-            ("frame\n;| a\n ;| b \nframe\n;| c\n", {1: ("a", "b"), 4: ("c",)}), ("; x\n;| a\nframe\n\n;| b\n", {}),
-            ("version 2\nREPEAT 2\n;| a\nframe ; x\n;| b\nend\n;| c\n", {4: ("b",)}),
-            ("frame\n frame ;| a\n", {}), ("ret\v2 ; = 5\n\t\r\n", {}), ("\xe9 ; = 5\n;| 1", {1: ("1",)}),
-        ])
+        hold(
+            self,
+            lambda text: dumps_in(text.encode(), "t"),
+            [
+                ("frame\n;| a\n ;| b \nframe\n;| c\n", {1: ("a", "b"), 4: ("c",)}),
+                ("; x\n;| a\nframe\n\n;| b\n", {}),
+                ("version 2\nREPEAT 2\n;| a\nframe ; x\n;| b\nend\n;| c\n", {4: ("b",)}),
+                ("frame\n frame ;| a\n", {}),
+                ("ret\v2 ; = 5\n\t\r\n", {}),
+                ("\xe9 ; = 5\n;| 1", {1: ("1",)}),
+            ],
+        )
 
     def test_lines_of_any_bytes(self) -> None:
-        pieces = b"out 3C4 02", b"  in\t3da", b"\xff", b"\v", b"\f", b" ", b"\r", b";", b"; = 5", b"\n"
+        pieces = (
+            b"out 3C4 02",
+            b"  in\t3da",
+            b"\xff",
+            b"\v",
+            b"\f",
+            b" ",
+            b"\r",
+            b";",
+            b"; = 5",
+            b"\n",
+        )
         for text in map(b"".join, product(pieces, repeat=4)):
             fronts = [(at, line.partition(b";")) for at, line in enumerate(text.split(b"\n"), 1)]
             wanted = [
-                (at, " ".join(map(text_of, words)), comment) for at, (front, _, comment) in fronts
+                (at, " ".join(map(text_of, words)), comment)
+                for at, (front, _, comment) in fronts
                 if (words := re.findall(rb"[^ \t\r]+", front))
             ]
             lines = [(*line[:2], line[2].rstrip(b"\n")) for line in lines_in(io.BytesIO(text))]
@@ -320,20 +531,34 @@ class Expectations(unittest.TestCase):
         def steps(text: str) -> list[tuple[int, str]]:
             return [(line.number, line.words) for line in steps_in(io.BytesIO(text.encode()))]
 
-        text = "; x\nVersion  2\nint\nrepeat 2 ; twice\nframe ; = *\nin 3DA\nEND\nrepeat 3\nend\nframe\n"
-        self.assertEqual(steps(text), [(3, "int"), *[(5, "frame"), (6, "in 3DA")] * 2, (10, "frame")])
+        text = (
+            "; x\nVersion  2\nint\nrepeat 2 ; twice\nframe ; = *\nin 3DA\nEND\nrepeat"
+            " 3\nend\nframe\n"
+        )
+        self.assertEqual(
+            steps(text), [(3, "int"), *[(5, "frame"), (6, "in 3DA")] * 2, (10, "frame")]
+        )
         self.assertEqual(steps("version 2\nrepeat 65535\nframe\n"), [(3, "frame")])
         with mock.patch("zaklimot.format.lines.MOST_STEPS", 1000):
             self.assertEqual(len(steps("version 2\nrepeat 65535\n" + "frame\n" * 300 + "end")), 900)
         self.assertEqual(steps("frame\nrepeat 2\nend"), [(1, "frame"), (2, "repeat 2"), (3, "end")])
-        long = "version 2\nrepeat 3\n" + "".join(f"in {at:X}\n" for at in range(5000)) + "end\nframe\n"
+        long = (
+            "version 2\nrepeat 3\n" + "".join(f"in {at:X}\n" for at in range(5000)) + "end\nframe\n"
+        )
         once = [(at + 3, f"in {at:X}") for at in range(5000)]
         self.assertEqual(steps(long), [*once, *once, *once, (5004, "frame")])
-        others = "frame\nin 3DA ; repeat 2\n", "", "version 2\nrepeat 7\nend\n", "; a\n \t\r\n ; b\nframe"
+        others = (
+            "frame\nin 3DA ; repeat 2\n",
+            "",
+            "version 2\nrepeat 7\nend\n",
+            "; a\n \t\r\n ; b\nframe",
+        )
         for some in (text, long, *others):
             self.assertEqual(count_in(io.BytesIO(some.encode())), len(steps(some)))
         printed = "version 2\nIN 3DA\nrepeat 2\nFRAME\nend\n"
-        self.assertEqual(list(words_in(io.BytesIO(printed.encode()))), [words for _, words in steps(printed)])
+        self.assertEqual(
+            list(words_in(io.BytesIO(printed.encode()))), [words for _, words in steps(printed)]
+        )
 
 
 class Examples(unittest.TestCase):
@@ -349,16 +574,22 @@ class Examples(unittest.TestCase):
 
 
 class Calls(Fake):
-    """What a step takes doesn't grow unseen: its calls are counted, since seconds are never alike."""
+    """What a step takes doesn't grow unseen: its calls are counted, since seconds are never
+    alike."""
 
-    # The Python functions that a plain step, and one that is refused, call at most, and what they call of Python's own.
+    # The Python functions that a plain step, and one that is refused, call at most, and what they
+    # call of Python's own.
     MOST = 30
 
     def calls(self, text: str) -> int:
         """How many calls a run makes with its listing."""
         words = parser().parse_args(["run", self.write("long.vga", text), "--vga", str(self.vga)])
         profile = cProfile.Profile()
-        with open(self.folder / "out", "w") as output, contextlib.redirect_stdout(output), warnings.catch_warnings():
+        with (
+            open(self.folder / "out", "w") as output,
+            contextlib.redirect_stdout(output),
+            warnings.catch_warnings(),
+        ):
             # A tool's process ends at once, and closes its files so.
             warnings.simplefilter("ignore", ResourceWarning)
             profile.runcall(words.job, words, Progress(False))
@@ -377,17 +608,42 @@ class Calls(Fake):
 class Benchmarks(unittest.TestCase):
     def test_what_is_missing_is_told_before_they_begin(self) -> None:
         nothing = "/dev/null/none"
-        hold(self, lambda name: ended(sys.executable, TOP / "bench" / name, nothing), (
-            ("bench.py", (2, "", f"bench.py: {nothing}: there is no such program; README.md tells how to build it\n")),
-            ("library.py", (2, "", f"library.py: {nothing} has no library: tools/vga-library make {nothing}\n")),
-        ))
+        hold(
+            self,
+            lambda name: ended(sys.executable, TOP / "bench" / name, nothing),
+            (
+                (
+                    "bench.py",
+                    (
+                        2,
+                        "",
+                        (
+                            f"bench.py: {nothing}: there is no such program; README.md tells how to"
+                            " build it\n"
+                        ),
+                    ),
+                ),
+                (
+                    "library.py",
+                    (
+                        2,
+                        "",
+                        f"library.py: {nothing} has no library: tools/vga-library make {nothing}\n",
+                    ),
+                ),
+            ),
+        )
 
 
 class Several(Fake):
     def setUp(self) -> None:
         super().setUp()
         self.tests = self.folder / "tests"
-        for name, text in (("a.vga", "get 0 ; = E6\n"), ("more/b.vga", "get 0 ; = 55\nin 60\n"), ("notes.txt", "")):
+        for name, text in (
+            ("a.vga", "get 0 ; = E6\n"),
+            ("more/b.vga", "get 0 ; = 55\nin 60\n"),
+            ("notes.txt", ""),
+        ):
             self.write(f"tests/{name}", text)
 
     def test_each_script_of_a_folder(self) -> None:
@@ -395,25 +651,39 @@ class Several(Fake):
         status, output, said = self.run_script("--jobs", "2", path=str(self.tests))
         a, b = self.tests / "a.vga", self.tests / "more" / "b.vga"
         self.assertEqual((status, said), (1, ""))
-        self.assertEqual(output, (
-            f"{a}: 1 step, 0 pictures, 1 of 1 answers as expected\n{b}:1: step 1: GET 0 answers E6, not 55\n"
-            f"{b}: 2 steps, 1 refused, 0 pictures, 0 of 1 answers as expected\n2 scripts, 1 differs\n"
-        ))
+        self.assertEqual(
+            output,
+            (
+                f"{a}: 1 step, 0 pictures, 1 of 1 answers as expected\n{b}:1: step 1: GET 0 answers"
+                f" E6, not 55\n{b}: 2 steps, 1 refused, 0 pictures, 0 of 1 answers as expected\n2"
+                " scripts, 1 differs\n"
+            ),
+        )
         # One at a time, if no more are asked for; and each gets the options.
         self.begin_program(ALONE)
         output = self.run_script("--strict", "--diff", path=str(self.tests))[1]
         self.assertIn("\n-get 0 ; = 55\n-in 60\n+get 0 ; = E6\n+in 60 ; = E1 NotDecoded\n", output)
-        self.begin_program("if sys.argv[1] == 'go' and sys.argv[3:] != ['--fonts', 'f', '--until', '1']: sys.exit(9)\n")
+        self.begin_program(
+            "if sys.argv[1] == 'go' and sys.argv[3:] != ['--fonts', 'f', '--until', '1']:"
+            " sys.exit(9)\n"
+        )
         output = self.run_script("--until", "1", "--fonts", "f", path=str(self.tests))[1]
         self.assertEqual(output.count(": 5 steps, "), 2)
 
     def test_no_script_is_written_over(self) -> None:
         script = str(self.tests / "a.vga")
-        for words in ((self.tests, "--json", script), (self.tests, "--junit", script), (self.tests,), (script,)):
+        for words in (
+            (self.tests, "--json", script),
+            (self.tests, "--junit", script),
+            (self.tests,),
+            (script,),
+        ):
             onto = partial(os.dup2, os.open(script, os.O_WRONLY | os.O_APPEND), 1)
             name, prepare = ("standard output", onto) if len(words) == 1 else (script, bool)
             done = run("run", *words, "--vga", self.vga, prepare=prepare)
-            self.assertEqual(done, (2, b"", f"vga-report: {name}: it is read as {script}, so it isn't written\n"))
+            self.assertEqual(
+                done, (2, b"", f"vga-report: {name}: it is read as {script}, so it isn't written\n")
+            )
         self.assertEqual(Path(script).read_text(), "get 0 ; = E6\n")
 
     def test_a_name_that_looks_like_an_option(self) -> None:
@@ -424,29 +694,56 @@ class Several(Fake):
     def test_for_machines(self) -> None:
         (self.tests / "c.vga").write_text("move <&>\n")
         junit, told = self.folder / "junit.xml", self.folder / "told.json"
-        status, output, said = self.run_script("--junit", str(junit), "--json", str(told), path=str(self.tests))
-        self.assertEqual((status, output.splitlines()[-1]), (2, "3 scripts, 1 differs, 1 can't be run"))
+        status, output, said = self.run_script(
+            "--junit", str(junit), "--json", str(told), path=str(self.tests)
+        )
+        self.assertEqual(
+            (status, output.splitlines()[-1]), (2, "3 scripts, 1 differs, 1 can't be run")
+        )
         self.assertIn("c.vga:1: F7 BadLine(1): there is no step 'move'", said)
         suite = ElementTree.parse(junit).getroot()
-        self.assertEqual([suite.get(name) for name in ("tests", "failures", "errors")], ["3", "1", "1"])
-        self.assertEqual([[part.tag for part in case] for case in suite], [[], ["error"], ["failure"]])
+        self.assertEqual(
+            [suite.get(name) for name in ("tests", "failures", "errors")], ["3", "1", "1"]
+        )
+        self.assertEqual(
+            [[part.tag for part in case] for case in suite], [[], ["error"], ["failure"]]
+        )
         told_first, _, others = (suite[2][0].text or "").partition("\n")
         self.assertIn("GET 0 answers E6, not 55", told_first)
         self.assertEqual((suite[2][0].get("message"), bool(others)), (told_first, True))
         scripts = json.loads(told.read_text())
-        self.assertEqual([(one["steps"], one["wrong"], bool(one["trouble"])) for one in scripts], [(1, 0, False), (0, 0, True), (2, 1, False)])
+        self.assertEqual(
+            [(one["steps"], one["wrong"], bool(one["trouble"])) for one in scripts],
+            [(1, 0, False), (0, 0, True), (2, 1, False)],
+        )
 
     def test_the_program_is_built_or_tried_where_it_is_lacking(self) -> None:
-        # A toolchain that notes what it is asked for, builds the program once that is there, and tries none to its end.
+        # A toolchain that notes what it is asked for, builds the program once that is there, and
+        # tries none to its end.
         build = f"mkdir -p out; cp {self.folder}/ready out/vga || {{ echo crate vga >&2; exit 3; }}"
-        rt = self.program("bin/rt", f"#!/bin/sh\nwords=$*; echo \"${{words%% --data*}}\" >> asked; {build}\n")
-        crate, told = Path(self.write("crate/src/main.rt", "")).parents[1], self.run_script()[1].encode()
+        rt = self.program(
+            "bin/rt", f'#!/bin/sh\nwords=$*; echo "${{words%% --data*}}" >> asked; {build}\n'
+        )
+        crate, told = (
+            Path(self.write("crate/src/main.rt", "")).parents[1],
+            self.run_script()[1].encode(),
+        )
         path = {"PATH": f"{Path(rt).parent}{os.pathsep}{os.environ['PATH']}"}
         limits = "60 seconds and 1 MiB of output, which two pictures of text fill"
-        with mock.patch.dict(os.environ, path), mock.patch.multiple(program, CRATE=crate, PROGRAM=crate / "out/vga"):
-            self.assertIn("rt: it ended with status 3\n", refused(program.build_program, progress := mock.Mock()))
-            self.assertRegex(progress.tell.call_args[0][0], r" building the program: vga, crate (\d+) of \1$")
-            self.assertIn(f" not run it to its end, within {limits}: crate vga\n", run("run", self.path, "--try")[2])
+        with mock.patch.dict(os.environ, path), mock.patch.multiple(
+            program, CRATE=crate, PROGRAM=crate / "out/vga"
+        ):
+            self.assertIn(
+                "rt: it ended with status 3\n",
+                refused(program.build_program, progress := mock.Mock()),
+            )
+            self.assertRegex(
+                progress.tell.call_args[0][0], r" building the program: vga, crate (\d+) of \1$"
+            )
+            self.assertIn(
+                f" not run it to its end, within {limits}: crate vga\n",
+                run("run", self.path, "--try")[2],
+            )
             self.vga.rename(self.folder / "ready")
             for _ in "12":
                 self.assertEqual(run("run", self.path, "--build"), (0, told, ""))
@@ -454,24 +751,51 @@ class Several(Fake):
 
     def test_what_stands_before_the_limit_of_a_try(self) -> None:
         # A toolchain that runs no script past its first picture.
-        two, crate = self.write("two.vga", "frame\nget 0\nframe\nframe\n"), Path(self.write("crate/src/main.rt", "")).parents[1]
+        two, crate = (
+            self.write("two.vga", "frame\nget 0\nframe\nframe\n"),
+            Path(self.write("crate/src/main.rt", "")).parents[1],
+        )
         tries = f"{self.vga} go {two} --fonts - --until 2; echo run=ended status=0 >&2"
         ends = "(head -c 99999 /dev/zero; echo; echo checked: too much; echo run=no-answer) >&2"
-        rt = self.program("bin/rt", f'#!/bin/sh\ncase "$*" in *"--until 2") {tries};; *) {ends};; esac\n')
+        rt = self.program(
+            "bin/rt", f'#!/bin/sh\ncase "$*" in *"--until 2") {tries};; *) {ends};; esac\n'
+        )
         told, path = self.folder / "told", f"{Path(rt).parent}{os.pathsep}{os.environ['PATH']}"
-        with mock.patch.dict(os.environ, {"PATH": path}), mock.patch.object(program, "CRATE", crate):
+        with mock.patch.dict(os.environ, {"PATH": path}), mock.patch.object(
+            program, "CRATE", crate
+        ):
             status, output, said = run("run", two, "--try", "--json", str(told))
-            self.assertEqual((status, [line.split()[1] for line in output.splitlines()]), (2, [b"step", b"1", b"2"]))
+            self.assertEqual(
+                (status, [line.split()[1] for line in output.splitlines()]),
+                (2, [b"step", b"1", b"2"]),
+            )
             self.assertIn("fill; --until 2 ends before the second: too much\n", said)
-            self.assertEqual((run("run", two, "--try", "--until", "2")[0], len(json.loads(told.read_text())["answers"])), (0, 2))
+            self.assertEqual(
+                (
+                    run("run", two, "--try", "--until", "2")[0],
+                    len(json.loads(told.read_text())["answers"]),
+                ),
+                (0, 2),
+            )
             self.assertNotIn("the second", run("run", two, "--try", "--until", "1")[2])
             # What can't be built isn't asked for again.
             Path(rt).write_text("#!/bin/sh\necho >> asked\necho no crate >&2\n")
-            self.assertTrue(run("run", two, "--try")[2].endswith("two pictures of text fill: no crate\n"))
+            self.assertTrue(
+                run("run", two, "--try")[2].endswith("two pictures of text fill: no crate\n")
+            )
             self.assertEqual((crate / "asked").read_text(), "\n")
 
     def test_it_runs_again_when_the_script_changes(self) -> None:
-        words = ["run", self.path, "--vga", self.vga, "--quiet", "--watch", "--html", page := self.folder / "page"]
+        words = [
+            "run",
+            self.path,
+            "--vga",
+            self.vga,
+            "--quiet",
+            "--watch",
+            "--html",
+            page := self.folder / "page",
+        ]
         words += ["--fonts", fonts := self.write("fonts", "1")]
         process = begin("vga-report", *words, text=True)
         assert process.stdout is not None and process.stderr is not None
@@ -482,10 +806,15 @@ class Several(Fake):
             self.assertIn("6 steps", process.stdout.readline())
             self.write("s.vga", "frame\n")
             told = process.stdout.readline(), process.stdout.readline()
-            self.assertEqual(told, (f"{self.path} has changed\n", f"{self.path}: 1 step, 1 picture\n"))
+            self.assertEqual(
+                told, (f"{self.path} has changed\n", f"{self.path}: 1 step, 1 picture\n")
+            )
             self.assertIn("1 step, 1 picture", page.read_text("utf-8"))
             self.write("fonts", "2")
-            self.assertEqual(process.stdout.readline() + process.stdout.readline(), "".join(told).replace(self.path, fonts, 1))
+            self.assertEqual(
+                process.stdout.readline() + process.stdout.readline(),
+                "".join(told).replace(self.path, fonts, 1),
+            )
             self.write("s.vga", "move\n")
             self.assertEqual(process.stdout.readline(), f"{self.path} has changed\n")
             self.assertIn("F7 BadLine(1)", process.stderr.readline())

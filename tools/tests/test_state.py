@@ -1,4 +1,5 @@
-"""The state that cycles leave is the program's; and scripts that begin with one end as the whole does."""
+"""The state that cycles leave is the program's; and scripts that begin with one end as the whole
+does."""
 
 import unittest
 from functools import partial
@@ -14,19 +15,49 @@ from .test_trace import steps_listed
 from .tools import refused, run_texts, stream
 
 # Steps that enable memory, in planar order with all planes open and no bits masked.
-PLANAR = [Step(OUT, 0x3C2, 0x03), Step(OUTW, 0x3C4, 0x0604), Step(OUTW, 0x3C4, 0x0F02), Step(OUTW, 0x3CE, 0xFF08)]
+PLANAR = [
+    Step(OUT, 0x3C2, 0x03),
+    Step(OUTW, 0x3C4, 0x0604),
+    Step(OUTW, 0x3C4, 0x0F02),
+    Step(OUTW, 0x3CE, 0xFF08),
+]
 # What a script shows of its whole state.
-MEMORY = tuple(f"show plane {plane} {offset:04X} 256" for plane in range(4) for offset in range(0, 1 << 16, 256))
-REGISTERS = ("show regs", "show latches", "show beam", *(f"show dac {entry:02X}" for entry in range(256)))
+MEMORY = tuple(
+    f"show plane {plane} {offset:04X} 256"
+    for plane in range(4)
+    for offset in range(0, 1 << 16, 256)
+)
+REGISTERS = (
+    "show regs",
+    "show latches",
+    "show beam",
+    *(f"show dac {entry:02X}" for entry in range(256)),
+)
 SHOWN = "".join(f"{line}\n" for line in (*MEMORY, *REGISTERS, "frame", "frame")).encode()
 # Traces at random, and the cycles with which scripts of them begin.
 SEEDS, FIRSTS = range(12), (1, 2, 400, 1000)
-# Ports that cycles at random go to, such as software uses and such as none would, and how many indexes some have.
+# Ports that cycles at random go to, such as software uses and such as none would, and how many
+# indexes some have.
 INDEXES = {0x3C4: 8, 0x3CE: 12, 0x3D4: 0x1C, 0x3B4: 0x1C}
 PORTS = (
     *(6 * (0x3C4, 0x3C4, 0x3CE, 0x3CE, 0x3D4, 0x3B4)),
     *(2 * (0x3C0, 0x3C0, 0x3C8, 0x3C7, 0x3C9, 0x3C9, 0x3C9, 0x3DA, 0x3BA)),
-    0x3C0, 0x3C1, 0x3C2, 0x3C2, 0x3C3, 0x3C5, 0x3C6, 0x3C7, 0x3C8, 0x3C9, 0x3CA, 0x3CC, 0x3CF, 0x3B5, 0x3D5, 0x3D3,
+    0x3C0,
+    0x3C1,
+    0x3C2,
+    0x3C2,
+    0x3C3,
+    0x3C5,
+    0x3C6,
+    0x3C7,
+    0x3C8,
+    0x3C9,
+    0x3CA,
+    0x3CC,
+    0x3CF,
+    0x3B5,
+    0x3D5,
+    0x3D3,
     0x3FF,
 )
 # Places near which cycles of memory go: the first and last addresses of the windows.
@@ -92,9 +123,13 @@ class Program(unittest.TestCase):
             with self.subTest(name):
                 answers, count = list(Report(stream(run.report), name).steps()), len(scripts[name])
                 state = self.followed(scripts[name], [answer.answer for answer in answers])
-                # The frame under way is another, and so is what the beam takes from it; the frame after it is the same.
+                # The frame under way is another, and so is what the beam takes from it; the frame
+                # after it is the same.
                 shown = [
-                    (answer.picture and answer.picture.sum, *(line.partition(" base ")[0] for line in answer.lines))
+                    (
+                        answer.picture and answer.picture.sum,
+                        *(line.partition(" base ")[0] for line in answer.lines),
+                    )
                     for answer in (*answers[count:-2], answers[-1])
                 ]
                 for line, (_, *lines) in zip(self.dumps(state), shown):
@@ -103,7 +138,8 @@ class Program(unittest.TestCase):
                     self.assertEqual(one, other)
 
     def followed(self, steps: list[Step], answers: list[str]) -> State:
-        """The state that steps leave, each read of which is what the program answered; as those that rebuild tell."""
+        """The state that steps leave, each read of which is what the program answered; as those
+        that rebuild tell."""
         state = State()
         for step, answer in zip(steps, answers):
             read = state.take(step)
@@ -116,11 +152,14 @@ class Program(unittest.TestCase):
     def dumps(self, state: State) -> Iterator[str]:
         """What the program shows of a state."""
         for plane, offset in product(range(4), range(0, 1 << 16, 256)):
-            words = state.memory.words[offset:offset + 256]
+            words = state.memory.words[offset : offset + 256]
             yield f"plane {plane} {offset:04X}:" + hexed(word >> 8 * plane & 0xFF for word in words)
         named = ((name, vars(state)[name]) for name in ("seq", "crtc", "gfx"))
         banks = [f"{name} {bank.index:02X}:{hexed(bank.registers)}" for name, bank in named]
-        dac, attributes = state.dac, f"attr {state.attr.index:02X} {'id'[state.is_data]}:{hexed(state.attr.registers)}"
+        dac, attributes = (
+            state.dac,
+            f"attr {state.attr.index:02X} {'id'[state.is_data]}:{hexed(state.attr.registers)}",
+        )
         next_one = f"dac {dac.index:02X} {'rgb'[dac.next]} {dac.mask:02X}{hexed(dac.waiting)}"
         yield "\n".join([f"misc {state.misc:02X}", *banks, attributes, next_one])
         yield f"latches{hexed(state.memory.latches.to_bytes(4, 'little'))}"
@@ -146,10 +185,19 @@ class Cuts(unittest.TestCase):
         self.assertEqual((state.beam.taken[0x0C], state.crtc.registers[0x0C]), (0x12, 0x34))
         self.assertEqual(vars(state_of(rebuilt(state)).beam), vars(state.beam))
         self.assertEqual(state.beam.place, (0, 0, 1))
-        state = state_of([Step(OUTW, 0x3B4, 0x120C), Step(ADVANCE, 90), Step(OUTW, 0x3B4, 0x340C), Step(ADVANCE, 91)])
+        state = state_of(
+            [
+                Step(OUTW, 0x3B4, 0x120C),
+                Step(ADVANCE, 90),
+                Step(OUTW, 0x3B4, 0x340C),
+                Step(ADVANCE, 91),
+            ]
+        )
         self.assertEqual((state.beam.frame, state.beam.taken[0x0C]), (2, 0x34))
 
     def test_empty_memory_takes_no_steps(self) -> None:
         self.assertEqual(sum(step.opcode == PUTW for step in rebuilt(state_of(PLANAR))), 0)
         filled = [Step(PUTW, 0xA0000 + at, 0x5555) for at in range(0, 1024, 2)]
-        self.assertEqual([step for step in rebuilt(state_of([*PLANAR, *filled])) if step.opcode == PUTW], filled)
+        self.assertEqual(
+            [step for step in rebuilt(state_of([*PLANAR, *filled])) if step.opcode == PUTW], filled
+        )

@@ -1,4 +1,5 @@
-"""What all tools have in common: how they begin, end, write and run others, of which nothing is left; and the gate."""
+"""What all tools have in common: how they begin, end, write and run others, of which nothing is
+left; and the gate."""
 
 from __future__ import annotations
 
@@ -28,7 +29,20 @@ from vga_report.version import version
 
 from . import checking, discovering
 from .tools import (
-    PYTHON, SIGNALS, TESTED, TOOLS, TOP, Folder, begin, call, ended, hold, hold_undone, main_of, refused, run_tool,
+    PYTHON,
+    SIGNALS,
+    TESTED,
+    TOOLS,
+    TOP,
+    Folder,
+    begin,
+    call,
+    ended,
+    hold,
+    hold_undone,
+    main_of,
+    refused,
+    run_tool,
 )
 
 NOTING = Path(__file__).with_name("noting.sh").read_text("ascii")
@@ -63,13 +77,17 @@ open(os.environ['CHILD'], 'w').write(f'{child.pid} {os.getpid()}\\n')
 time.sleep(600)
 """
 # What it says of a wrong body, as a line after `noting.sh`; and of one that a contract refuses.
-SAYING, REFUSED = "echo 'rt: must-fail vga_host/{}.edit: {}'\n", "refused, as it must be: src/host.rt:1:1: error"
+SAYING, REFUSED = (
+    "echo 'rt: must-fail vga_host/{}.edit: {}'\n",
+    "refused, as it must be: src/host.rt:1:1: error",
+)
 # What stands in the place of `vga`, for the fuzzer.
 SLEEPING = """import os, time
 open(os.environ['CHILD'], 'w').write(f'{os.getpid()}\\n')
 time.sleep(600)
 """
-# Tests, of which one does the same of a process in a group of its own, and leaves a temporary file too.
+# Tests, of which one does the same of a process in a group of its own, and leaves a temporary file
+# too.
 TESTS = """
 import os, subprocess, tempfile, unittest
 from vga_report.processes import started
@@ -82,9 +100,15 @@ class Sleeping(unittest.TestCase):
 """
 # The words of tools that start programs.
 STARTING = (
-    "vga-report suite {harness} --list {list}", "vga-report run {script} --try", "vga-memory",
-    "vga-library make {made}", "vga-release {made}", "vga-page module {made}", "vga-fuzz {vga}",
-    "vga-floppy run --on dosbox {script} {made}", "tests-of-tools test_one",
+    "vga-report suite {harness} --list {list}",
+    "vga-report run {script} --try",
+    "vga-memory",
+    "vga-library make {made}",
+    "vga-release {made}",
+    "vga-page module {made}",
+    "vga-fuzz {vga}",
+    "vga-floppy run --on dosbox {script} {made}",
+    "tests-of-tools test_one",
     "vga-trace record {made} --vga {vga} --quiet 50 -- -cdrom disc",
 )
 # What the only test of a module does, and what is told of it.
@@ -96,7 +120,8 @@ class One(unittest.TestCase):
         {}
 """
 BAD = {
-    "fails": ("self.fail('oh')", "AssertionError: oh"), "raises": ("no_such_name", "NameError: name 'no_such_name'"),
+    "fails": ("self.fail('oh')", "AssertionError: oh"),
+    "raises": ("no_such_name", "NameError: name 'no_such_name'"),
     "ends": ("os._exit(0)", "its process ended with status 0"),
     "is_killed": ("os.kill(os.getpid(), 9)", "its process ended with status -9"),
     "is_asked_to_end": ("os.kill(os.getpid(), 15)", "its process ended with status 143"),
@@ -107,7 +132,8 @@ BAD = {
 class Words(unittest.TestCase):
     # All but the one that is the program itself.
     NAMES = sorted(
-        path.name for path in TOOLS.glob("*")
+        path.name
+        for path in TOOLS.glob("*")
         if path.is_file() and b"python3" in path.read_bytes()[:30] and path.name != "vga"
     )
 
@@ -119,7 +145,13 @@ class Words(unittest.TestCase):
             with self.subTest(name):
                 status, output, _ = call(main_of(name), "--help")
                 self.assertEqual(status, 0)
-                self.assertRegex(output, rf"Example:\n  tools/{name}\b(?s:.*)\nExit status: 0 .*; 2 the work can't be done\.\n")
+                self.assertRegex(
+                    output,
+                    (
+                        rf"Example:\n  tools/{name}\b(?s:.*)\nExit status: 0 .*; 2 the work can't"
+                        r" be done\.\n"
+                    ),
+                )
                 page = re.search(r"^(\S+\.md) tells more\.$", output, re.M)
                 assert page is not None
                 self.assertTrue((TOP / page[1]).exists(), page[1])
@@ -135,15 +167,24 @@ class Endings(unittest.TestCase):
     """What it writes may find no room, no reader, and no open stream."""
 
     def told(self, name: str, rest: str) -> tuple[int, str]:
-        """Exit status and standard error of a tool's help, with its streams as a shell sets them."""
-        status, _, said = ended("/bin/sh", "-c", f'"$@" {rest}', "sh", *PYTHON, TOOLS / name, "--help")
+        """Exit status and standard error of a tool's help, with its streams as a shell sets
+        them."""
+        status, _, said = ended(
+            "/bin/sh", "-c", f'"$@" {rest}', "sh", *PYTHON, TOOLS / name, "--help"
+        )
         return status, said
 
     def test_an_output_that_takes_nothing_or_is_closed(self) -> None:
         ways = ((">/dev/full", "No space left on device"), (">&-", "it is closed"))
-        hold(self, self.told, (
-            (name, rest, (TROUBLE, f"{name}: standard output: {told}\n")) for name in Words.NAMES for rest, told in ways
-        ))
+        hold(
+            self,
+            self.told,
+            (
+                (name, rest, (TROUBLE, f"{name}: standard output: {told}\n"))
+                for name in Words.NAMES
+                for rest, told in ways
+            ),
+        )
 
     def test_want_of_memory(self) -> None:
         done = call(lambda _: cli.run("tool", mock.Mock(side_effect=MemoryError)))
@@ -155,13 +196,21 @@ class Endings(unittest.TestCase):
                 reader, writer = os.pipe()
                 os.close(reader)
                 with open(writer, "wb"):
-                    self.assertEqual(ended(*PYTHON, TOOLS / name, "--help", stdout=writer), (141, None, ""))
+                    self.assertEqual(
+                        ended(*PYTHON, TOOLS / name, "--help", stdout=writer), (141, None, "")
+                    )
 
 
 class Programs(unittest.TestCase):
     def test_one_module_starts_them(self) -> None:
-        starting = re.compile(r"\bsubprocess\.(?:Popen\(|run\(|call\(|check_)|\bos\.(?:system|popen|spawn)")
-        found = {path.name for path in TOOLS.glob("*/*.py") if path.parent.name != "tests" and starting.search(path.read_text("utf-8"))}
+        starting = re.compile(
+            r"\bsubprocess\.(?:Popen\(|run\(|call\(|check_)|\bos\.(?:system|popen|spawn)"
+        )
+        found = {
+            path.name
+            for path in TOOLS.glob("*/*.py")
+            if path.parent.name != "tests" and starting.search(path.read_text("utf-8"))
+        }
         self.assertEqual(found, {"processes.py"})
 
     def test_one_that_is_not_there(self) -> None:
@@ -179,16 +228,32 @@ class Programs(unittest.TestCase):
             nodes = list(ast.walk(ast.parse(path.read_text("utf-8"))))
             told = [node.annotation for node in nodes if isinstance(node, (ast.arg, ast.AnnAssign))]
             told += [node.returns for node in nodes if isinstance(node, ast.FunctionDef)]
-            unions = [part.lineno for one in told if one for part in ast.walk(one) if isinstance(part, ast.BinOp)]
+            unions = [
+                part.lineno
+                for one in told
+                if one
+                for part in ast.walk(one)
+                if isinstance(part, ast.BinOp)
+            ]
             with self.subTest(path.relative_to(TOOLS)):
-                is_late = any(isinstance(node, ast.ImportFrom) and node.module == "__future__" for node in nodes)
+                is_late = any(
+                    isinstance(node, ast.ImportFrom) and node.module == "__future__"
+                    for node in nodes
+                )
                 self.assertEqual([] if is_late else unions, [])
 
     def test_what_ends_badly_is_told(self) -> None:
-        hold(self, partial(refused, run), (
-            (["sh", "-c", "echo a >&2; exit 3"], "sh: it ended with status 3\n  sh -c echo a >&2; exit 3\na\n"),
-            (["no-such-program"], "no-such-program: it is not in the path"),
-        ))
+        hold(
+            self,
+            partial(refused, run),
+            (
+                (
+                    ["sh", "-c", "echo a >&2; exit 3"],
+                    "sh: it ended with status 3\n  sh -c echo a >&2; exit 3\na\n",
+                ),
+                (["no-such-program"], "no-such-program: it is not in the path"),
+            ),
+        )
         with self.assertRaises(Failed) as raised:
             run(["sleep", "60"], seconds=0.1)
         self.assertEqual(str(raised.exception), "sleep: it had not ended after 0 seconds")
@@ -201,16 +266,27 @@ class Programs(unittest.TestCase):
         self.assertEqual(run(["sh", "-c", 'printf "$ONE"'], environment={"ONE": "1"}), "1")
 
 
-@unittest.skipUnless(Path("/proc/self/stat").exists(), "processes are looked at as Linux shows them")
+@unittest.skipUnless(
+    Path("/proc/self/stat").exists(), "processes are looked at as Linux shows them"
+)
 class Commands(Folder):
-    def run_python(self, program: str, limits: Limits = Limits(), is_ended: Event | None = None) -> Outcome:
+    def run_python(
+        self, program: str, limits: Limits = Limits(), is_ended: Event | None = None
+    ) -> Outcome:
         words = [sys.executable, "-c", program, str(self.folder / "child")]
-        return run_command(words, self.folder / "out", self.folder / "said", limits, is_ended or Event())
+        return run_command(
+            words, self.folder / "out", self.folder / "said", limits, is_ended or Event()
+        )
 
     def test_what_is_written_and_said(self) -> None:
-        outcome = self.run_python("import sys; print('written'); print('said', file=sys.stderr); sys.exit(3)")
+        outcome = self.run_python(
+            "import sys; print('written'); print('said', file=sys.stderr); sys.exit(3)"
+        )
         self.assertEqual(outcome, Outcome(3))
-        self.assertEqual(((self.folder / "out").read_text(), (self.folder / "said").read_text()), ("written\n", "said\n"))
+        self.assertEqual(
+            ((self.folder / "out").read_text(), (self.folder / "said").read_text()),
+            ("written\n", "said\n"),
+        )
 
     def test_children_end_with_their_command(self) -> None:
         too_much = Outcome(None, "the command wrote more than 1 MiB")
@@ -222,7 +298,9 @@ class Commands(Folder):
             with self.subTest(behind):
                 child, text = self.folder / "child", PARENT + behind
                 child.unlink(missing_ok=True)
-                made = self.within(lambda seconds: self.run_python(text, limits or Limits(seconds)), child)
+                made = self.within(
+                    lambda seconds: self.run_python(text, limits or Limits(seconds)), child
+                )
                 self.assertEqual(made, outcome)
                 self.assert_ended(int(self.wait_for(child)))
         self.assertEqual((self.folder / "out").stat().st_size, MEBIBYTE)
@@ -232,7 +310,9 @@ class Commands(Folder):
     def test_a_user_who_ends_it(self) -> None:
         is_ended = Event()
         is_ended.set()
-        self.assertEqual(self.run_python("import time; time.sleep(600)", Limits(), is_ended).status, None)
+        self.assertEqual(
+            self.run_python("import time; time.sleep(600)", Limits(), is_ended).status, None
+        )
 
     def test_signals_end_all_that_was_begun(self) -> None:
         self.write("two.fnt", "12")
@@ -249,8 +329,10 @@ class Commands(Folder):
         self.program("bin/dosbox", "#!/bin/sh\nsleep 600 &\necho $! > $CHILD\nwait\n")
         places = {
             "harness": f"{sys.executable} {harness} {self.folder}/child {{script}}",
-            "list": self.write("list.txt", "fonts two.fnt\none\n"), "script": str(self.folder / "one.vga"),
-            "vga": self.program("bin/vga", SLEEPING), "made": str(self.folder / "made"),
+            "list": self.write("list.txt", "fonts two.fnt\none\n"),
+            "script": str(self.folder / "one.vga"),
+            "vga": self.program("bin/vga", SLEEPING),
+            "made": str(self.folder / "made"),
         }
         for line in STARTING:
             tool, *words = (word.format(**places) for word in line.split())
@@ -263,8 +345,13 @@ class Commands(Folder):
         child, temporary = self.folder / "child", self.folder / "tmp"
         temporary.mkdir(exist_ok=True)
         child.unlink(missing_ok=True)
-        given = {"PATH": f"{self.folder / 'bin'}:{os.environ['PATH']}", "PYTHONPATH": str(self.folder)}
-        with begin(*words, env={**os.environ, **given, "TMPDIR": str(temporary), "CHILD": str(child)}) as process:
+        given = {
+            "PATH": f"{self.folder / 'bin'}:{os.environ['PATH']}",
+            "PYTHONPATH": str(self.folder),
+        }
+        with begin(
+            *words, env={**os.environ, **given, "TMPDIR": str(temporary), "CHILD": str(child)}
+        ) as process:
             numbers = [int(word) for word in self.wait_for(child, process).split()]
             self.assertNotEqual(list(temporary.iterdir()), [])
             process.send_signal(number)
@@ -294,7 +381,9 @@ class Writing(Folder):
         os.chmod(path, 0o640)
         with open(path, encoding="ascii") as stream:
             write_file(str(link), b"new")
-            self.assertEqual((stream.read(), Path(path).read_text(), link.is_symlink()), ("old", "new", True))
+            self.assertEqual(
+                (stream.read(), Path(path).read_text(), link.is_symlink()), ("old", "new", True)
+            )
         self.assertEqual(stat.S_IMODE(os.stat(path).st_mode), 0o640)
         write_file(path + "b", b"new")
         (self.folder / "c").touch()
@@ -311,7 +400,8 @@ class Lines(Folder):
         # A terminal that keeps what is written on it.
         self.terminal, self.now = io.StringIO(), 100.0
         self.patch(
-            mock.patch.object(self.terminal, "isatty", return_value=True), mock.patch("sys.stderr", self.terminal),
+            mock.patch.object(self.terminal, "isatty", return_value=True),
+            mock.patch("sys.stderr", self.terminal),
             mock.patch("time.monotonic", lambda: self.now),
         )
 
@@ -348,16 +438,25 @@ class Lines(Folder):
         with mock.patch("vga_report.crates.below", return_value=["low"]):
             hear = phases(progress, "high")("proving")
         for line in (
-            "", "so far", "rt: low: begins with what is kept",
-            "crate high: modules loaded=1 checked=2", "linked",
+            "",
+            "so far",
+            "rt: low: begins with what is kept",
+            "crate high: modules loaded=1 checked=2",
+            "linked",
         ):
             self.now += 61
             hear(line)
-        self.assertEqual(told, [
-            "0:00 proving", "1:01 proving", "2:02 proving: so far",
-            "3:03 proving: low, crate 1 of 2", "4:04 proving: high, crate 2 of 2, is done",
-            "5:05 proving: high, crate 2 of 2, is done",
-        ])
+        self.assertEqual(
+            told,
+            [
+                "0:00 proving",
+                "1:01 proving",
+                "2:02 proving: so far",
+                "3:03 proving: low, crate 1 of 2",
+                "4:04 proving: high, crate 2 of 2, is done",
+                "5:05 proving: high, crate 2 of 2, is done",
+            ],
+        )
 
     def test_how_long_the_first_answer_takes_is_told(self) -> None:
         reader, writer = os.pipe()
@@ -369,7 +468,8 @@ class Lines(Folder):
 
 class Running(Folder):
     def run_tests(self, *words: str, **lines: str) -> tuple[int, str]:
-        """Exit status and output of tests, of which each module has one that does what a line says."""
+        """Exit status and output of tests, of which each module has one that does what a line
+        says."""
         for name, line in lines.items():
             self.write(f"{name}.py", TEST.format(line))
         # No program is compiled for them.
@@ -380,7 +480,9 @@ class Running(Folder):
         return status, output.decode()
 
     def test_what_is_bad_is_told_beside_what_is_good(self) -> None:
-        status, said = self.run_tests(good="print('seen')", **{name: line for name, (line, _) in BAD.items()})
+        status, said = self.run_tests(
+            good="print('seen')", **{name: line for name, (line, _) in BAD.items()}
+        )
         self.assertEqual((status, said.splitlines()[-1]), (1, f"FAILED (failed={len(BAD)})"))
         self.assertIn("passed  good\nseen\n", said)
         for name, (_, told) in BAD.items():
@@ -389,13 +491,21 @@ class Running(Folder):
     def test_one_that_is_skipped_is_told_with_the_reason(self) -> None:
         status, said = self.run_tests(skips="self.skipTest('it is Sunday')", good="pass")
         self.assertEqual((status, said.splitlines()[-1]), (0, "OK (skipped=1)"))
-        self.assertIn("passed  skips\nskipped  skips.One.test_one: it is Sunday\npassed  good\n", said)
+        self.assertIn(
+            "passed  skips\nskipped  skips.One.test_one: it is Sunday\npassed  good\n", said
+        )
 
     def test_the_program_that_is_tested(self) -> None:
         line = f"Path('{self.folder}/seen').write_text(str(tools.PROGRAM))"
-        for variables, built, wanted in (({}, True, "built"), ({TESTED: "given"}, True, "built"), ({TESTED: "given"}, False, "given")):
+        for variables, built, wanted in (
+            ({}, True, "built"),
+            ({TESTED: "given"}, True, "built"),
+            ({TESTED: "given"}, False, "given"),
+        ):
             path = Path(self.program("built", "")) if built else self.folder / "none"
-            with mock.patch.object(discovering, "PROGRAM", path), mock.patch.dict(os.environ, variables):
+            with mock.patch.object(discovering, "PROGRAM", path), mock.patch.dict(
+                os.environ, variables
+            ):
                 self.assertEqual(self.run_tests(sees=line)[0], 0)
             self.assertEqual(Path((self.folder / "seen").read_text()).name, wanted)
 
@@ -412,11 +522,17 @@ class Checking(Folder):
     """The test command for a machine without Rattle."""
 
     def checked(self, suite: checking.Checked, **lines: str) -> tuple[int, list[str]]:
-        """Exit status and the lines that it prints where the suite comes to these counts, and modules have these tests."""
+        """Exit status and the lines that it prints where the suite comes to these counts, and
+        modules have these tests."""
         for name, line in lines.items():
             self.write(f"{name}.py", TEST.format(line))
-        found = {"portable_program": lambda: "portable", "check_suite": mock.Mock(return_value=suite)}
-        with mock.patch.multiple(checking, **found), mock.patch.dict(os.environ, PYTHONPATH=str(self.folder)):
+        found = {
+            "portable_program": lambda: "portable",
+            "check_suite": mock.Mock(return_value=suite),
+        }
+        with mock.patch.multiple(checking, **found), mock.patch.dict(
+            os.environ, PYTHONPATH=str(self.folder)
+        ):
             status, output, said = call(checking.main, *lines)
             found["check_suite"].assert_called_once_with("portable")
         self.assertEqual(said, "")
@@ -426,7 +542,11 @@ class Checking(Folder):
         good = "assert str(tools.PROGRAM) == 'portable'"
         for suite, lines, told in (
             ((963, 0, 0), {"good": good, "other": good}, (0, "965 passed, 0 failed")),
-            ((963, 0, 0), {"good": good, "skips": "self.skipTest('why')"}, (0, "964 passed, 0 failed, 1 skipped")),
+            (
+                (963, 0, 0),
+                {"good": good, "skips": "self.skipTest('why')"},
+                (0, "964 passed, 0 failed, 1 skipped"),
+            ),
             ((963, 0, 0), {"good": good, "fails": "self.fail('oh')"}, (1, "964 passed, 1 failed")),
             ((963, 0, 0), {"ends": "os._exit(0)"}, (1, "963 passed, 1 failed")),
             ((960, 2, 1), {"good": good}, (1, "961 passed, 2 failed, 1 skipped")),
@@ -444,7 +564,14 @@ class Checking(Folder):
             checked = checking.check_suite(bad, "--only", "examples/cut-script-0")
         self.assertEqual((checked.passed + checked.failed, checked.skipped), (10, 0))
         self.assertTrue(0 < checked.passed < checked.failed)
-        self.assertEqual(len(re.findall("^(?:differs|failed)  examples/cut-script-0\\d: .", output.getvalue(), re.M)), checked.failed)
+        self.assertEqual(
+            len(
+                re.findall(
+                    "^(?:differs|failed)  examples/cut-script-0\\d: .", output.getvalue(), re.M
+                )
+            ),
+            checked.failed,
+        )
 
     def test_what_ends_it_at_once(self) -> None:
         with mock.patch.dict(os.environ, CC="no-such-compiler"):
@@ -454,22 +581,32 @@ class Checking(Folder):
 @unittest.skipIf(sys.platform == "win32", "a script is a program on POSIX")
 class Gate(Folder):
     def run_gate(self, tests: str, memory: str = "", prover: str = NOTING) -> tuple[int, str, str]:
-        """Status of the gate over these programs and others that note their words; the notes; its standard error."""
+        """Status of the gate over these programs and others that note their words; the notes; its
+        standard error."""
         gate, notes = self.folder / "gate", Path(self.write("notes", ""))
         shutil.copytree(TOP / ".ci", gate / ".ci")
-        fakes = dict.fromkeys(("vga-page-tests", "vga-bindings-tests", "vga-library-tests", "tests-of-tools"), NOTING)
+        fakes = dict.fromkeys(
+            ("vga-page-tests", "vga-bindings-tests", "vga-library-tests", "tests-of-tools"), NOTING
+        )
         for name, text in {**fakes, "vga-memory": memory, "vga-check": tests, "rt": prover}.items():
             self.program(f"gate/tools/{name}", text)
         # The gate fetches these where they are lacking.
         for name in ("wasm-opt", "wasm2c"):
             self.program(f"gate/tools/{name}", NOTING)
-        given = {"NOTES": str(notes), "PATH": f"{gate / 'tools'}:{os.environ['PATH']}", "TMPDIR": self.temporary()}
+        given = {
+            "NOTES": str(notes),
+            "PATH": f"{gate / 'tools'}:{os.environ['PATH']}",
+            "TMPDIR": self.temporary(),
+        }
         status, _, error = ended(gate / ".ci" / "run", env={**os.environ, **given})
         return status, notes.read_text("utf-8"), error
 
     def test_nothing_runs_on_where_a_test_fails(self) -> None:
         number = self.folder / "number"
-        memory = f"import os, time\nopen({str(number)!r}, 'w').write(str(os.getpid()))\ntime.sleep(600)\n"
+        memory = (
+            f"import os, time\nopen({str(number)!r},"
+            " 'w').write(str(os.getpid()))\ntime.sleep(600)\n"
+        )
         failing = f"#!/bin/sh\nwhile ! [ -s {number} ]; do sleep 0.05; done\nexit 1\n"
         self.assertEqual(self.run_gate(failing, memory)[0], 1)
         self.assert_ended(int(number.read_text()))
@@ -488,7 +625,9 @@ class Gate(Folder):
             "renamed": (f"refused, as it must be ({names} what the edit took away)", names),
         }
         said = "".join(SAYING.format(edit, text) for edit, (text, _) in told.items())
-        status, notes, error = self.run_gate(NOTING, prover=NOTING + SAYING.format("turned", REFUSED) + said)
+        status, notes, error = self.run_gate(
+            NOTING, prover=NOTING + SAYING.format("turned", REFUSED) + said
+        )
         self.assertEqual(status, 1)
         shown = "".join(f"vga_host/{edit}.edit: {reason}\n" for edit, (_, reason) in told.items())
         self.assertEqual(error.partition("\n")[2], shown)

@@ -21,7 +21,19 @@ from vga_trace.converting import Listing, Pauses, Written, count, folded, with_f
 from vga_trace.step import ADVANCE, FRAME, IN, NAMES, OUT, OUTW, PUT, Step, steps_of, without_polls
 from vga_trace.trace import MEMORY, PORT, SCREEN, VBE, Cycle, Trace
 
-from .tools import EXAMPLES, Folder, begin, call, hold, hold_undone, ppm, refused, report, run_texts, run_tool
+from .tools import (
+    EXAMPLES,
+    Folder,
+    begin,
+    call,
+    hold,
+    hold_undone,
+    ppm,
+    refused,
+    report,
+    run_texts,
+    run_tool,
+)
 
 run = partial(run_tool, "vga-trace")
 # What a trace from power-on begins with.
@@ -41,7 +53,10 @@ def cycles(data: bytes) -> list[Cycle]:
 def qemu(words: str, name: str = "vga", front: str = "") -> bytes:
     """A line of qemu's log: `write 3c2 67 1`."""
     kind, address, value, size = words.split()
-    return f"{front}memory_region_ops_{kind} cpu 0 mr 0x55d0 addr 0x{address} value 0x{value} size {size} name '{name}'\n".encode()
+    return (
+        f"{front}memory_region_ops_{kind} cpu 0 mr 0x55d0 addr 0x{address} value 0x{value} size"
+        f" {size} name '{name}'\n".encode()
+    )
 
 
 def texts(*steps: Step) -> list[str]:
@@ -67,90 +82,230 @@ def warned(data: bytes, **wanted: object) -> list[str]:
 
 class Lines(unittest.TestCase):
     def test_cycles_of_both_forms(self) -> None:
-        plain = b"; a comment\n\n12 w p 3c4 302 2 ; map mask\r\n- r m A0000 5 1\n \t13\tw  m b8000 0123456789ABCDEF 8"
-        hold(self, cycles, (
-            *((qemu("write 3c4 302 2", name) + qemu("read 3c4 2 1", name),
-               [Cycle(True, space, 0x3C4, 0x302, 2, None), Cycle(False, space, 0x3C4, 2, 1, None)])
-              for name, space in (
-                ("vga", PORT), ("cirrus-io", PORT), ("vbe", VBE),
-                ("vga-lowmem", MEMORY), ("cirrus-low-memory", MEMORY), ("vga-chain4", MEMORY))),
-            # A time stamp of qemu; its other lines and regions are passed over.
-            (qemu("read 3da 5 1", front="4711@1700000000.000042:"), [Cycle(False, PORT, 0x3DA, 5, 1, 1_700_000_000_000_042)]),
-            (b"qemu: some message\n" + qemu("write 70 f 1", "rtc") + b"\n" + qemu("write 3c2 67 1"),
-             [Cycle(True, PORT, 0x3C2, 0x67, 1, None)]),
-            (plain, [Cycle(True, PORT, 0x3C4, 0x302, 2, 12), Cycle(False, MEMORY, 0xA0000, 5, 1, None),
-                     Cycle(True, MEMORY, 0xB8000, 0x123456789ABCDEF, 8, 13)]),
-        ))
+        plain = (
+            b"; a comment\n\n12 w p 3c4 302 2 ; map mask\r\n- r m A0000 5 1\n \t13\tw  m b8000"
+            b" 0123456789ABCDEF 8"
+        )
+        hold(
+            self,
+            cycles,
+            (
+                *(
+                    (
+                        qemu("write 3c4 302 2", name) + qemu("read 3c4 2 1", name),
+                        [
+                            Cycle(True, space, 0x3C4, 0x302, 2, None),
+                            Cycle(False, space, 0x3C4, 2, 1, None),
+                        ],
+                    )
+                    for name, space in (
+                        ("vga", PORT),
+                        ("cirrus-io", PORT),
+                        ("vbe", VBE),
+                        ("vga-lowmem", MEMORY),
+                        ("cirrus-low-memory", MEMORY),
+                        ("vga-chain4", MEMORY),
+                    )
+                ),
+                # A time stamp of qemu; its other lines and regions are passed over.
+                (
+                    qemu("read 3da 5 1", front="4711@1700000000.000042:"),
+                    [Cycle(False, PORT, 0x3DA, 5, 1, 1_700_000_000_000_042)],
+                ),
+                (
+                    b"qemu: some message\n"
+                    + qemu("write 70 f 1", "rtc")
+                    + b"\n"
+                    + qemu("write 3c2 67 1"),
+                    [Cycle(True, PORT, 0x3C2, 0x67, 1, None)],
+                ),
+                (
+                    plain,
+                    [
+                        Cycle(True, PORT, 0x3C4, 0x302, 2, 12),
+                        Cycle(False, MEMORY, 0xA0000, 5, 1, None),
+                        Cycle(True, MEMORY, 0xB8000, 0x123456789ABCDEF, 8, 13),
+                    ],
+                ),
+            ),
+        )
 
     def test_faults(self) -> None:
         none = "it has no cycle, neither of qemu's log nor of the plain form"
-        bad = "0 w p 3C4 302/0 x p 3C4 2 1/0 w q 3C4 2 1/0.5 w p 3C4 2 1/0 w p 0x3C4 2 1/0 w p 3C4 2 1 2".split("/")
+        bad = (
+            "0 w p 3C4 302/0 x p 3C4 2 1/0 w q 3C4 2 1/0.5 w p 3C4 2 1/0 w p 0x3C4 2 1/0 w p 3C4"
+            " 2 1 2".split("/")
+        )
         no_cycle = "2: it is no cycle: `TIME r|w p|m ADDRESS VALUE SIZE` is one"
-        hold(self, partial(refused, cycles), ((data, f"trace:{told}") for data, told in (
-            *((BEGIN + f"{line}\n".encode(), no_cycle) for line in bad),
-            (BEGIN + b"0 w p 3C4 2 3\n", "2: a cycle has 1, 2, 4 or 8 bytes, and not 3"),
-            (BEGIN + b"0 w p 3C4 302 1\n", "2: the value 302 has more than 1 bytes"),
-            (BEGIN + b"0 w p FFFF 302 2\n", "2: there is no port of address FFFF"),
-            (BEGIN + b"0 w m FFFFFFFF 302 2\n", "2: there is no memory of address FFFFFFFF"),
-            (BEGIN + SCREEN + b"\n", no_cycle), (BEGIN + bytes(1 << 18), "2: the line is longer than any of a trace"),
-            (b";\n0 w p 3C2 67\n" + BEGIN, "2: a line before the first cycle is neither a cycle nor a comment"),
-            (b"", f" {none}"), (b"; nothing\n", f" {none}"),
-            # The line of a mistake, where no line has a cycle.
-            (b"0 w p 3C2 67\n", f"1: {none}; this line is the first that is no comment"),
-            (b"0 x p 3C2 67 1", f"1: {none}; this line is the first that is no comment"),
-            (b"; good\n\nhello\noh\n", f"3: {none}; this line is the first that is no comment"),
-        )))
+        hold(
+            self,
+            partial(refused, cycles),
+            (
+                (data, f"trace:{told}")
+                for data, told in (
+                    *((BEGIN + f"{line}\n".encode(), no_cycle) for line in bad),
+                    (BEGIN + b"0 w p 3C4 2 3\n", "2: a cycle has 1, 2, 4 or 8 bytes, and not 3"),
+                    (BEGIN + b"0 w p 3C4 302 1\n", "2: the value 302 has more than 1 bytes"),
+                    (BEGIN + b"0 w p FFFF 302 2\n", "2: there is no port of address FFFF"),
+                    (
+                        BEGIN + b"0 w m FFFFFFFF 302 2\n",
+                        "2: there is no memory of address FFFFFFFF",
+                    ),
+                    (BEGIN + SCREEN + b"\n", no_cycle),
+                    (BEGIN + bytes(1 << 18), "2: the line is longer than any of a trace"),
+                    (
+                        b";\n0 w p 3C2 67\n" + BEGIN,
+                        "2: a line before the first cycle is neither a cycle nor a comment",
+                    ),
+                    (b"", f" {none}"),
+                    (b"; nothing\n", f" {none}"),
+                    # The line of a mistake, where no line has a cycle.
+                    (b"0 w p 3C2 67\n", f"1: {none}; this line is the first that is no comment"),
+                    (b"0 x p 3C2 67 1", f"1: {none}; this line is the first that is no comment"),
+                    (
+                        b"; good\n\nhello\noh\n",
+                        f"3: {none}; this line is the first that is no comment",
+                    ),
+                )
+            ),
+        )
 
     def test_calls_dots_and_frames_that_were_kept(self) -> None:
-        data = b"0+5 int 0003 0 0 0 ; mode 3\n1+7 w m B8000 41 1\n1+0 w m B8001 7 1\n" \
-            b"9+30 frame\n9+20 frame\n12+4 r p 3DA 1 1\n13+6 r p 3DA 1 1\n14+20000000 int 1301 7 2 0 4142\n15+2 frame\n"
-        call, other = "int ax=0003 bx=0000 cx=0000 dx=0000", "int ax=1301 bx=0007 cx=0002 dx=0000 block 4142"
+        data = (
+            b"0+5 int 0003 0 0 0 ; mode 3\n1+7 w m B8000 41 1\n1+0 w m B8001 7 1\n9+30 frame\n9+20"
+            b" frame\n12+4 r p 3DA 1 1\n13+6 r p 3DA 1 1\n14+20000000 int 1301 7 2 0 4142\n15+2"
+            b" frame\n"
+        )
+        call, other = (
+            "int ax=0003 bx=0000 cx=0000 dx=0000",
+            "int ax=1301 bx=0007 cx=0002 dx=0000 block 4142",
+        )
         # The last dot of a frame is its own.
-        timed = ["advance 5", call, "advance 7", "put B8000 41", "put B8001 07", "advance 29", "frame", "advance 19", "frame",
-                 "advance 4", "in 3DA", "advance 6", "in 3DA", "advance 16777216", "advance 3222784", other]
+        timed = [
+            "advance 5",
+            call,
+            "advance 7",
+            "put B8000 41",
+            "put B8001 07",
+            "advance 29",
+            "frame",
+            "advance 19",
+            "frame",
+            "advance 4",
+            "in 3DA",
+            "advance 6",
+            "in 3DA",
+            "advance 16777216",
+            "advance 3222784",
+            other,
+        ]
         plain = [call, "put B8000 41", "put B8001 07", "in 3DA", "in 3DA", other, "frame"]
-        hold(self, lambda wanted: listed(data, **wanted), (
-            ({"has_time": True, "frames": "screens"}, [*timed, "advance 1", "frame", "frame", "frame"]),
-            ({"has_time": True}, [*timed[:5], "advance 54", *timed[10:], "frame", "frame"]),
-            ({"has_time": True, "keeps_polls": False},
-             [*timed[:5], "advance 54", "in 3DA", "advance 16777216", "advance 3222790", other, "frame", "frame"]),
-            ({}, plain), ({"frames": "screens"}, [*plain[:3], "frame", "frame", *plain[3:], "frame"]),
-        ))
+        hold(
+            self,
+            lambda wanted: listed(data, **wanted),
+            (
+                (
+                    {"has_time": True, "frames": "screens"},
+                    [*timed, "advance 1", "frame", "frame", "frame"],
+                ),
+                ({"has_time": True}, [*timed[:5], "advance 54", *timed[10:], "frame", "frame"]),
+                (
+                    {"has_time": True, "keeps_polls": False},
+                    [
+                        *timed[:5],
+                        "advance 54",
+                        "in 3DA",
+                        "advance 16777216",
+                        "advance 3222790",
+                        other,
+                        "frame",
+                        "frame",
+                    ],
+                ),
+                ({}, plain),
+                ({"frames": "screens"}, [*plain[:3], "frame", "frame", *plain[3:], "frame"]),
+            ),
+        )
         self.assertEqual(warned(data), [])
-        self.assertEqual(count(cycles(data)), {
-            "call of interrupt 10, AH 00": 1, "call of interrupt 10, AH 13": 1, "write memory B8000 size 1": 2,
-            "read port 3DA size 1": 2,
-        })
-        told = "trace: cycle 1 is a call of interrupt 10, and --from follows cycles alone: what comes after it begins at power-on"
+        self.assertEqual(
+            count(cycles(data)),
+            {
+                "call of interrupt 10, AH 00": 1,
+                "call of interrupt 10, AH 13": 1,
+                "write memory B8000 size 1": 2,
+                "read port 3DA size 1": 2,
+            },
+        )
+        told = (
+            "trace: cycle 1 is a call of interrupt 10, and --from follows cycles alone: what comes"
+            " after it begins at power-on"
+        )
         self.assertEqual(refused(partial(listed, data, first=3)), told)
-        hold(self, partial(refused, cycles), (
-            (BEGIN + b"0 int 0003 0 0\n", "trace:2: it is no cycle: `TIME r|w p|m ADDRESS VALUE SIZE` is one"),
-            (BEGIN + b"0 int 10003 0 0 0\n", "trace:2: it is no cycle: `TIME r|w p|m ADDRESS VALUE SIZE` is one"),
-            (BEGIN + b"0 int 0003 0 0 0 123\n", "trace:2: it is no cycle: `TIME r|w p|m ADDRESS VALUE SIZE` is one"),
-            (BEGIN + b"0 int 0003 0 0 0 " + b"00" * 65536 + b"\n", "trace:2: a call's block has 65,535 bytes at most"),
-        ))
+        hold(
+            self,
+            partial(refused, cycles),
+            (
+                (
+                    BEGIN + b"0 int 0003 0 0\n",
+                    "trace:2: it is no cycle: `TIME r|w p|m ADDRESS VALUE SIZE` is one",
+                ),
+                (
+                    BEGIN + b"0 int 10003 0 0 0\n",
+                    "trace:2: it is no cycle: `TIME r|w p|m ADDRESS VALUE SIZE` is one",
+                ),
+                (
+                    BEGIN + b"0 int 0003 0 0 0 123\n",
+                    "trace:2: it is no cycle: `TIME r|w p|m ADDRESS VALUE SIZE` is one",
+                ),
+                (
+                    BEGIN + b"0 int 0003 0 0 0 " + b"00" * 65536 + b"\n",
+                    "trace:2: a call's block has 65,535 bytes at most",
+                ),
+            ),
+        )
 
     def test_what_a_trace_lacks(self) -> None:
         def vbe(index: str, value: str) -> bytes:
-            return qemu("write 3c2 67 1") + qemu(f"write 1ce {index} 2", "vbe") + qemu(f"write 1cf {value} 2", "vbe")
+            return (
+                qemu("write 3c2 67 1")
+                + qemu(f"write 1ce {index} 2", "vbe")
+                + qemu(f"write 1cf {value} 2", "vbe")
+            )
 
         begin = "cycle 2 writes first, and not port 3C2: the trace doesn't begin at power-on"
         enabled = "cycle 3 turns VBE on: what follows is no VGA's, and its memory isn't traced"
-        silent = "chain 4 with map mask 0F has no cycle of memory, first from cycle 3 on: " \
+        silent = (
+            "chain 4 with map mask 0F has no cycle of memory, first from cycle 3 on: "
             "qemu traces none there without the plugin"
+        )
         chained = BEGIN + b"- w p 3C4 0F02 2\n- w p 3C4 0E04 2\n"
-        hold(self, warned, (
-            (b"- r p 3CC 0 1\n" + BEGIN + b"- w m A0000 1 1\n", []),
-            (b"- r p 3CC 0 1\n- w m B8000 1 1\n" + BEGIN, [begin]),
-            (b"- r p 3CC 0 1\n- w p 3C4 1 1\n" + BEGIN, [begin]),
-            (vbe("4", "41"), [enabled]), (vbe("4", "40"), []), (vbe("3", "1"), []),
-            (chained, [silent]), (chained + b"- w p 3C4 0604 2\n- w m A0000 1 1\n", [silent]),
-            (BEGIN + b"- w p 3C4 4 1\n- w p 3C5 E 1\n- w p 3C4 0F02 2\n", [silent.replace("3 on", "4 on")]),
-            (chained + b"- w p 3C4 0E04 2\n- w m A0000 1 1\n- w p 3C4 0604 2\n", []),
-            (BEGIN + b"- w p 3C4 0702 2\n- w p 3C4 0E04 2\n", []),
-            (qemu("write 3c2 67 1") + b"x\n" + 2 * b"memory_region_ops_wri\n" + qemu("write 3c4 2 1")[:-9],
-             ["3 lines of cycles are damaged and left out, line 3 first"]),
-        ))
+        hold(
+            self,
+            warned,
+            (
+                (b"- r p 3CC 0 1\n" + BEGIN + b"- w m A0000 1 1\n", []),
+                (b"- r p 3CC 0 1\n- w m B8000 1 1\n" + BEGIN, [begin]),
+                (b"- r p 3CC 0 1\n- w p 3C4 1 1\n" + BEGIN, [begin]),
+                (vbe("4", "41"), [enabled]),
+                (vbe("4", "40"), []),
+                (vbe("3", "1"), []),
+                (chained, [silent]),
+                (chained + b"- w p 3C4 0604 2\n- w m A0000 1 1\n", [silent]),
+                (
+                    BEGIN + b"- w p 3C4 4 1\n- w p 3C5 E 1\n- w p 3C4 0F02 2\n",
+                    [silent.replace("3 on", "4 on")],
+                ),
+                (chained + b"- w p 3C4 0E04 2\n- w m A0000 1 1\n- w p 3C4 0604 2\n", []),
+                (BEGIN + b"- w p 3C4 0702 2\n- w p 3C4 0E04 2\n", []),
+                (
+                    qemu("write 3c2 67 1")
+                    + b"x\n"
+                    + 2 * b"memory_region_ops_wri\n"
+                    + qemu("write 3c4 2 1")[:-9],
+                    ["3 lines of cycles are damaged and left out, line 3 first"],
+                ),
+            ),
+        )
         told = "the time runs back 1 times, which is no pause"
         self.assertEqual(warned(b"2 w p 3C2 67 1\n1 r p 3DA 0 1\n", has_time=True), [told])
 
@@ -160,89 +315,179 @@ class Steps(unittest.TestCase):
         return list(steps_of(cycles("".join(f"- {line}\n" for line in lines).encode())))
 
     def test_which_bytes_become_words(self) -> None:
-        hold(self, lambda lines: texts(*self.steps(*lines)), (
-            (("w m B8000 41 1", "w m B8001 1F 1"), ["putw B8000 1F41"]),
-            (("r m B8000 41 1", "r m B8001 1F 1"), ["getw B8000 ; = 1F41"]),
-            ((f"w m B800{at} 0{at} 1" for at in range(4)), ["putw B8000 0100", "putw B8002 0302"]),
-            # Those that are no word stay.
-            (("w m B8001 41 1", "w m B8002 1F 1"), ["put B8001 41", "put B8002 1F"]),
-            (("w m B8001 41 1", "w m B8000 1F 1"), ["put B8001 41", "put B8000 1F"]),
-            (("w m B8000 41 1", "w m B8003 1F 1"), ["put B8000 41", "put B8003 1F"]),
-            (("w m B8000 41 1", "r m B8001 1F 1"), ["put B8000 41", "get B8001 ; = 1F"]),
-            (("w m B8000 41 1", "w p 3C4 2 1", "w m B8001 1F 1"), ["put B8000 41", "out 3C4 02", "put B8001 1F"]),
-            (("w m B8000 41 1", "w m B8001 1F00 2"), ["put B8000 41", "putw B8001 1F00"]),
-            (("w m B8000 41 1", "w m B8000 42 1", "w m B8001 43 1"), ["put B8000 41", "putw B8000 4342"]),
-            (("w p 3C4 2 1", "w p 3C5 F 1"), ["out 3C4 02", "out 3C5 0F"]),
-            (("w m B8000 41 1",), ["put B8000 41"]), (("r m B8000 55 2",), ["getw B8000 ; = 0055"]),
-            # Wider cycles are words from the first.
-            (("w m A0000 44332211 4",), ["putw A0000 2211", "putw A0002 4433"]),
-            (("r p 3C4 44332211 4",), ["inw 3C4 ; = 2211", "inw 3C6 ; = 4433"]),
-            (("w m A0001 8877665544332211 8",),
-             ["putw A0001 2211", "putw A0003 4433", "putw A0005 6655", "putw A0007 8877"]),
-        ))
+        hold(
+            self,
+            lambda lines: texts(*self.steps(*lines)),
+            (
+                (("w m B8000 41 1", "w m B8001 1F 1"), ["putw B8000 1F41"]),
+                (("r m B8000 41 1", "r m B8001 1F 1"), ["getw B8000 ; = 1F41"]),
+                (
+                    (f"w m B800{at} 0{at} 1" for at in range(4)),
+                    ["putw B8000 0100", "putw B8002 0302"],
+                ),
+                # Those that are no word stay.
+                (("w m B8001 41 1", "w m B8002 1F 1"), ["put B8001 41", "put B8002 1F"]),
+                (("w m B8001 41 1", "w m B8000 1F 1"), ["put B8001 41", "put B8000 1F"]),
+                (("w m B8000 41 1", "w m B8003 1F 1"), ["put B8000 41", "put B8003 1F"]),
+                (("w m B8000 41 1", "r m B8001 1F 1"), ["put B8000 41", "get B8001 ; = 1F"]),
+                (
+                    ("w m B8000 41 1", "w p 3C4 2 1", "w m B8001 1F 1"),
+                    ["put B8000 41", "out 3C4 02", "put B8001 1F"],
+                ),
+                (("w m B8000 41 1", "w m B8001 1F00 2"), ["put B8000 41", "putw B8001 1F00"]),
+                (
+                    ("w m B8000 41 1", "w m B8000 42 1", "w m B8001 43 1"),
+                    ["put B8000 41", "putw B8000 4342"],
+                ),
+                (("w p 3C4 2 1", "w p 3C5 F 1"), ["out 3C4 02", "out 3C5 0F"]),
+                (("w m B8000 41 1",), ["put B8000 41"]),
+                (("r m B8000 55 2",), ["getw B8000 ; = 0055"]),
+                # Wider cycles are words from the first.
+                (("w m A0000 44332211 4",), ["putw A0000 2211", "putw A0002 4433"]),
+                (("r p 3C4 44332211 4",), ["inw 3C4 ; = 2211", "inw 3C6 ; = 4433"]),
+                (
+                    ("w m A0001 8877665544332211 8",),
+                    ["putw A0001 2211", "putw A0003 4433", "putw A0005 6655", "putw A0007 8877"],
+                ),
+            ),
+        )
 
     def test_vbe_is_left_out_and_separates_nothing(self) -> None:
-        lines = qemu("write b8000 41 1", "vga-lowmem") + qemu("write 1ce 4 2", "vbe") + qemu("write b8001 1f 1", "vga-lowmem")
+        lines = (
+            qemu("write b8000 41 1", "vga-lowmem")
+            + qemu("write 1ce 4 2", "vbe")
+            + qemu("write b8001 1f 1", "vga-lowmem")
+        )
         self.assertEqual(texts(*steps_of(cycles(lines))), ["putw B8000 1F41"])
 
     def test_rows_of_polls(self) -> None:
         poll, mono, other = Step(IN, 0x3DA, 5), Step(IN, 0x3BA, 5), Step(IN, 0x3C9, 5)
-        steps = [poll, poll._replace(value=4), poll, mono, mono, poll, other, other, poll, Step(OUT, 0x3C0, 1), poll, poll]
-        self.assertEqual(list(without_polls(steps)), [poll, mono, poll, other, other, poll, Step(OUT, 0x3C0, 1), poll])
-        self.assertEqual(listed(BEGIN + 3 * b"- r p 3DA 0 1\n"), ["out 3C2 67", *3 * ["in 3DA"], "frame"])
-        self.assertEqual(listed(BEGIN + 3 * b"- r p 3DA 0 1\n", keeps_polls=False), ["out 3C2 67", "in 3DA", "frame"])
+        steps = [
+            poll,
+            poll._replace(value=4),
+            poll,
+            mono,
+            mono,
+            poll,
+            other,
+            other,
+            poll,
+            Step(OUT, 0x3C0, 1),
+            poll,
+            poll,
+        ]
+        self.assertEqual(
+            list(without_polls(steps)),
+            [poll, mono, poll, other, other, poll, Step(OUT, 0x3C0, 1), poll],
+        )
+        self.assertEqual(
+            listed(BEGIN + 3 * b"- r p 3DA 0 1\n"), ["out 3C2 67", *3 * ["in 3DA"], "frame"]
+        )
+        self.assertEqual(
+            listed(BEGIN + 3 * b"- r p 3DA 0 1\n", keeps_polls=False),
+            ["out 3C2 67", "in 3DA", "frame"],
+        )
 
 
 def registers(misc: int, clocking: int) -> list[Step]:
     """The steps that choose a clock and the shape of text of 720 by 400 dots."""
     return [
-        Step(OUT, 0x3C2, misc), Step(OUTW, 0x3C4, clocking << 8 | 1),
-        Step(OUTW, 0x3D4, 0x5F00), Step(OUTW, 0x3D4, 0xBF06), Step(OUTW, 0x3D4, 0x1F07),
+        Step(OUT, 0x3C2, misc),
+        Step(OUTW, 0x3C4, clocking << 8 | 1),
+        Step(OUTW, 0x3D4, 0x5F00),
+        Step(OUTW, 0x3D4, 0xBF06),
+        Step(OUTW, 0x3D4, 0x1F07),
     ]
 
 
 class Passing(unittest.TestCase):
     def test_the_dots_of_pauses(self) -> None:
         """Those of `advance` before steps at some times, behind registers that choose the clock."""
+
         def at(*times: int) -> list[Step]:
             return [Step(IN, 0x3DA, time=time) for time in times]
 
-        hold(self, lambda _, *steps: [step.address for step in Pauses().steps(steps) if step.opcode == ADVANCE], (
-            ("two pauses, and half a clock", *registers(0x67, 8), *at(0, 1000, 3000), [14_161, 28_322]),
-            ("a frame is the most", *registers(0x67, 0), *at(0, 60_000_000), [900 * 449]),
-            ("short times are put together", *registers(0x67, 0), *at(0, 10, 20, 29, 30, 59, 60), [849, 849]),
-            ("no clock that is known", *registers(0x6B, 0), *at(0, 1000), []),
-            ("time that runs back", *registers(0x67, 0), *at(2000, 1000, 2000), [28_322]),
-            ("the clock before the pause", *registers(0x67, 0), *at(0), Step(OUT, 0x3C2, 0x63, 1000), *at(2000),
-             [28_322, 25_175]),
-        ))
+        hold(
+            self,
+            lambda _, *steps: [
+                step.address for step in Pauses().steps(steps) if step.opcode == ADVANCE
+            ],
+            (
+                (
+                    "two pauses, and half a clock",
+                    *registers(0x67, 8),
+                    *at(0, 1000, 3000),
+                    [14_161, 28_322],
+                ),
+                ("a frame is the most", *registers(0x67, 0), *at(0, 60_000_000), [900 * 449]),
+                (
+                    "short times are put together",
+                    *registers(0x67, 0),
+                    *at(0, 10, 20, 29, 30, 59, 60),
+                    [849, 849],
+                ),
+                ("no clock that is known", *registers(0x6B, 0), *at(0, 1000), []),
+                ("time that runs back", *registers(0x67, 0), *at(2000, 1000, 2000), [28_322]),
+                (
+                    "the clock before the pause",
+                    *registers(0x67, 0),
+                    *at(0),
+                    Step(OUT, 0x3C2, 0x63, 1000),
+                    *at(2000),
+                    [28_322, 25_175],
+                ),
+            ),
+        )
         steps = [Step(OUT, 0x3C2, 0x67), *at(0, 1000)]
         self.assertEqual(list(Pauses().steps(steps)), steps)
 
     def test_time_that_is_asked_for_and_not_there(self) -> None:
         for wanted in ({"has_time": True}, {"frames": 0.5}):
-            with self.subTest(wanted), self.assertRaisesRegex(Trouble, "^trace:1: the first cycle has no time, and time"):
+            with self.subTest(wanted), self.assertRaisesRegex(
+                Trouble, "^trace:1: the first cycle has no time, and time"
+            ):
                 listed(b"- w p 3C2 67 1\n", **wanted)
             told = ["1 cycles have no time, and come without a pause"]
             self.assertEqual(warned(BEGIN + b"- r p 3DA 0 1\n", **wanted), told)
 
     def test_a_frame_before_each_change_of_the_start_address(self) -> None:
-        high, low, draw = Step(OUTW, 0x3D4, 0x400C), Step(OUTW, 0x3D4, 0x200D), Step(PUT, 0xA0000, 1)
+        high, low, draw = (
+            Step(OUTW, 0x3D4, 0x400C),
+            Step(OUTW, 0x3D4, 0x200D),
+            Step(PUT, 0xA0000, 1),
+        )
         zero, other = Step(OUTW, 0x3D4, 0x000C), Step(OUTW, 0x3D4, 0x400E)
-        hold(self, lambda steps: " ".join(NAMES[step.opcode] for step in with_flips(steps)), (
-            ([draw, high, low, draw], "put frame outw outw put"),
-            ([draw, low, draw, high], "put frame outw put frame outw"), ([high, other, low], "frame outw outw frame outw"),
-            # Bytes, and the other place of the controller.
-            *(([Step(OUT, port, 0x0C), Step(OUT, port + 1, 0x40), Step(OUT, port, 0x0D), Step(OUT, port + 1, 0x20)],
-               "out frame out out out") for port in (0x3D4, 0x3B4)),
-            # No frame where the address stays.
-            ([zero, other, zero], "outw outw outw"),
-        ))
+        hold(
+            self,
+            lambda steps: " ".join(NAMES[step.opcode] for step in with_flips(steps)),
+            (
+                ([draw, high, low, draw], "put frame outw outw put"),
+                ([draw, low, draw, high], "put frame outw put frame outw"),
+                ([high, other, low], "frame outw outw frame outw"),
+                # Bytes, and the other place of the controller.
+                *(
+                    (
+                        [
+                            Step(OUT, port, 0x0C),
+                            Step(OUT, port + 1, 0x40),
+                            Step(OUT, port, 0x0D),
+                            Step(OUT, port + 1, 0x20),
+                        ],
+                        "out frame out out out",
+                    )
+                    for port in (0x3D4, 0x3B4)
+                ),
+                # No frame where the address stays.
+                ([zero, other, zero], "outw outw outw"),
+            ),
+        )
         flipped = ["out 3C2 67", "frame", "outw 3D4 400C", "frame"]
         self.assertEqual(listed(BEGIN + b"- w p 3D4 400C 2\n", frames="flip"), flipped)
 
     def test_frames_by_time(self) -> None:
-        puts = b"".join(b"%d w m A0001 1 1\n" % time for time in (400_000, 500_000, 600_000, 5_000_000))
+        puts = b"".join(
+            b"%d w m A0001 1 1\n" % time for time in (400_000, 500_000, 600_000, 5_000_000)
+        )
         names = [NAMES[step.opcode] for step in steps_listed(BEGIN + puts, frames=0.5)]
         self.assertEqual(names, ["out", "put", "frame", "put", "put", "frame", "put", "frame"])
 
@@ -250,29 +495,59 @@ class Passing(unittest.TestCase):
 class Converting(Folder):
     def test_traces_of_each_form(self) -> None:
         data, lacking = BEGIN + b"5 r p 3CC 67 1\n", b"- w p 3C4 1 1\n"
-        script, text = b"VGAS\x01" + bytes.fromhex("01 C2 03 67 03 CC 03 0B"), b"out 3C2 67\nin 3CC ; = 67\nframe\n"
+        script, text = (
+            b"VGAS\x01" + bytes.fromhex("01 C2 03 67 03 CC 03 0B"),
+            b"out 3C2 67\nin 3CC ; = 67\nframe\n",
+        )
         figures = "2 cycles, 3 steps, {} bytes: 1 out, 1 in, 1 frame\n".format
         begins = "cycle 1 writes first, and not port 3C2: the trace doesn't begin at power-on\n"
         kind = b"           1 %s port %s size 1\n"
         kinds = kind % (b"write", b"3C2") + kind % (b"read", b"3CC")
-        hold(self, lambda given, *words: run(*words, given=given), (
-            *((form, "convert", "-", "-", (0, script, figures(13))) for form in (data, gzip.compress(data))),
-            *((form, "kinds", "-", (0, kinds, "")) for form in (data, gzip.compress(data))),
-            (data, "convert", "-", "-", "--text", (0, text, figures(31))),
-            (lacking, "kinds", "-", (0, kind % (b"write", b"3C4"), f"vga-trace: warning: standard input: {begins}")),
-        ))
+        hold(
+            self,
+            lambda given, *words: run(*words, given=given),
+            (
+                *(
+                    (form, "convert", "-", "-", (0, script, figures(13)))
+                    for form in (data, gzip.compress(data))
+                ),
+                *((form, "kinds", "-", (0, kinds, "")) for form in (data, gzip.compress(data))),
+                (data, "convert", "-", "-", "--text", (0, text, figures(31))),
+                (
+                    lacking,
+                    "kinds",
+                    "-",
+                    (0, kind % (b"write", b"3C4"), f"vga-trace: warning: standard input: {begins}"),
+                ),
+            ),
+        )
         path = self.folder / "script"
         done = run("convert", self.write("trace", gzip.compress(data)), path)
         self.assertEqual((done, path.read_bytes()), ((0, figures(13).encode(), ""), script))
 
     def test_too_long_is_told_with_a_number_of_cycles_that_fit(self) -> None:
         long = BEGIN + b"".join(b"- w p 3C4 %X 1\n" % at for at in range(50))
-        many, script = BEGIN + 300 * b"- r p 3DA 0 1\n" + b"- w p 3C4 0 1\n", str(self.folder / "script")
+        many, script = BEGIN + 300 * b"- r p 3DA 0 1\n" + b"- w p 3C4 0 1\n", str(
+            self.folder / "script"
+        )
         for data, limits, most, last in (
-            (long, {"MOST_BYTES": 200, "FOR_THE_END": 64}, "200 bytes, or means more than 16,777,216 steps", 32),
-            (many, {"MOST_STEPS": 200, "FOR_THE_END": 10}, "16,777,216 bytes, or means more than 200 steps", 1),
+            (
+                long,
+                {"MOST_BYTES": 200, "FOR_THE_END": 64},
+                "200 bytes, or means more than 16,777,216 steps",
+                32,
+            ),
+            (
+                many,
+                {"MOST_STEPS": 200, "FOR_THE_END": 10},
+                "16,777,216 bytes, or means more than 200 steps",
+                1,
+            ),
         ):
-            path, ways = self.write("trace", data), f"`--to {last}` ends before that, and `--from {last + 1}` goes on after it"
+            path, ways = (
+                self.write("trace", data),
+                f"`--to {last}` ends before that, and `--from {last + 1}` goes on after it",
+            )
             with self.subTest(most), mock.patch.multiple(converting, **limits):
                 told = f"vga-trace: {path}: the script has more than {most}; {ways}\n"
                 self.assertEqual(call(main, "convert", path, script), (2, "", told))
@@ -295,10 +570,18 @@ class Converting(Folder):
         lines = qemu("write 3c4 2 1") + 2 * qemu("read 3c4 2 2") + qemu("write 1ce 4 2", "vbe")
         for address in ("a0000", "affff", "b0000", "b8000", "c0000"):
             lines += qemu(f"write {address} 1 1", "vga-lowmem")
-        self.assertEqual(count(cycles(lines)), {
-            "write port 3C4 size 1": 1, "read port 3C4 size 2": 2, "write vbe 1CE size 2": 1, "write memory A0000 size 1": 2,
-            "write memory B0000 size 1": 1, "write memory B8000 size 1": 1, "write memory elsewhere size 1": 1,
-        })
+        self.assertEqual(
+            count(cycles(lines)),
+            {
+                "write port 3C4 size 1": 1,
+                "read port 3C4 size 2": 2,
+                "write vbe 1CE size 2": 1,
+                "write memory A0000 size 1": 2,
+                "write memory B0000 size 1": 1,
+                "write memory B8000 size 1": 1,
+                "write memory elsewhere size 1": 1,
+            },
+        )
 
     def test_the_cycles_between_two(self) -> None:
         data = BEGIN + b"- w p 3C4 1 1\n- w p 3C5 1 1\n- w p 3CE 1 1\n"
@@ -316,10 +599,15 @@ class Endings(Folder):
         with contextlib.suppress(BrokenPipeError):
             for _ in range(1000):
                 command.stdin.write(1000 * BEGIN)
-        self.assertEqual((command.wait(60), script.read_bytes()), (0, b"VGAS\x01" + 3 * b"\x01\xc2\x03\x67" + b"\x0b"))
+        self.assertEqual(
+            (command.wait(60), script.read_bytes()),
+            (0, b"VGAS\x01" + 3 * b"\x01\xc2\x03\x67" + b"\x0b"),
+        )
 
     def test_a_compressed_trace_that_is_cut_off(self) -> None:
-        for data, cut in product((BEGIN, os.urandom(1000).hex().encode() + b"\n" + BEGIN), (1, 5, 12, 20)):
+        for data, cut in product(
+            (BEGIN, os.urandom(1000).hex().encode() + b"\n" + BEGIN), (1, 5, 12, 20)
+        ):
             path = self.write("trace", gzip.compress(data)[:-cut])
             told = rf"^vga-trace: {path}:\d+: its compressed bytes are damaged .*\n$"
             hold_undone(self, run("convert", path, self.folder / "script"), told)
@@ -327,46 +615,125 @@ class Endings(Folder):
 
 
 class Checking(Folder):
-    # Seven steps: two writes, reads of a register, of status, of a byte and a word of memory, and the frame.
-    TRACE = BEGIN + b"- w p 3C4 2 1\n- r p 3C5 F 1\n- r p 3DA 4 1\n- r m A0000 E1 1\n- r m A0002 1234 2\n"
+    # Seven steps: two writes, reads of a register, of status, of a byte and a word of memory, and
+    # the frame.
+    TRACE = (
+        BEGIN
+        + b"- w p 3C4 2 1\n- r p 3C5 F 1\n- r p 3DA 4 1\n- r m A0000 E1 1\n- r m A0002 1234 2\n"
+    )
     GOOD = ("ok", "ok", "0F", "04", "E1", "1234", PICTURE)
 
-    def check(self, *answers: str | bytes, given: bytes = TRACE, options: tuple[str, ...] = ()) -> tuple[int, list[str], str]:
+    def check(
+        self, *answers: str | bytes, given: bytes = TRACE, options: tuple[str, ...] = ()
+    ) -> tuple[int, list[str], str]:
         """Exit status, the lines, and what is said of a report with these answers."""
-        status, out, said = run("check", self.write("trace", given), "-", *options, given=report(*answers))
+        status, out, said = run(
+            "check", self.write("trace", given), "-", *options, given=report(*answers)
+        )
         return status, out.decode().split("\n")[:-1], said
 
     def changed(self, **answers: str) -> tuple[str | bytes, ...]:
         """The good answers, but of the steps `s1`, `s2` and so on."""
-        return tuple(answers.get(f"s{number}", answer) for number, answer in enumerate(self.GOOD, 1))
+        return tuple(
+            answers.get(f"s{number}", answer) for number, answer in enumerate(self.GOOD, 1)
+        )
 
     def test_what_is_counted(self) -> None:
-        index, status, *memory = (f"  read            1 {kind}" for kind in
-                                  ("in port 3C5 index 02", "in port 3DA", "get memory A0000", "getw memory A0000"))
+        index, status, *memory = (
+            f"  read            1 {kind}"
+            for kind in (
+                "in port 3C5 index 02",
+                "in port 3DA",
+                "get memory A0000",
+                "getw memory A0000",
+            )
+        )
         refusing = BEGIN + 2 * b"- w p 3B4 1 1\n- w p 3B5 2 1\n" + b"- r p 3C7 0 1\n"
-        hold(self, lambda given, *answers: self.check(*answers, given=given), (
-            *((self.TRACE, *self.GOOD[:-1], frame,
-               (0, ["7 steps, 0 refused, 4 reads answered, 0 differ", index, status, *memory], ""))
-              for frame in (PICTURE, "ragged", f"picture {len(PICTURE)} 9x1 {32 * '0'}")),
-            (self.TRACE, *self.changed(s5="skipped"),
-             (0, ["7 steps, 0 refused, 3 reads answered, 0 differ, 1 skipped", index, status, memory[1]], "")),
-            (refusing, "ok", *4 * ["E1 NotDecoded"], "E2 NotInProfile", PICTURE, (1, [
-                "7 steps, 5 refused, 0 reads answered, 0 differ",
-                "  refused         2 E1 NotDecoded: out port 3B4 (first at step 2)",
-                "  refused         2 E1 NotDecoded: out port 3B5 index 01 (first at step 3)",
-                "  refused         1 E2 NotInProfile: in port 3C7 (first at step 6)",
-            ], "")),
-            (BEGIN + b"- w p 3C0 10 1\n- w p 3C0 C 1\n- r p 3C1 0 1\n", *3 * ["ok"], "01", PICTURE, (1, [
-                "5 steps, 0 refused, 1 reads answered, 1 differ", "  read            1 in port 3C1 index 10",
-                "  differ          1 in port 3C1 index 10 (first at step 4: traced 00, answered 01)",
-            ], "")),
-        ))
+        hold(
+            self,
+            lambda given, *answers: self.check(*answers, given=given),
+            (
+                *(
+                    (
+                        self.TRACE,
+                        *self.GOOD[:-1],
+                        frame,
+                        (
+                            0,
+                            [
+                                "7 steps, 0 refused, 4 reads answered, 0 differ",
+                                index,
+                                status,
+                                *memory,
+                            ],
+                            "",
+                        ),
+                    )
+                    for frame in (PICTURE, "ragged", f"picture {len(PICTURE)} 9x1 {32 * '0'}")
+                ),
+                (
+                    self.TRACE,
+                    *self.changed(s5="skipped"),
+                    (
+                        0,
+                        [
+                            "7 steps, 0 refused, 3 reads answered, 0 differ, 1 skipped",
+                            index,
+                            status,
+                            memory[1],
+                        ],
+                        "",
+                    ),
+                ),
+                (
+                    refusing,
+                    "ok",
+                    *4 * ["E1 NotDecoded"],
+                    "E2 NotInProfile",
+                    PICTURE,
+                    (
+                        1,
+                        [
+                            "7 steps, 5 refused, 0 reads answered, 0 differ",
+                            "  refused         2 E1 NotDecoded: out port 3B4 (first at step 2)",
+                            (
+                                "  refused         2 E1 NotDecoded: out port 3B5 index 01 (first at"
+                                " step 3)"
+                            ),
+                            "  refused         1 E2 NotInProfile: in port 3C7 (first at step 6)",
+                        ],
+                        "",
+                    ),
+                ),
+                (
+                    BEGIN + b"- w p 3C0 10 1\n- w p 3C0 C 1\n- r p 3C1 0 1\n",
+                    *3 * ["ok"],
+                    "01",
+                    PICTURE,
+                    (
+                        1,
+                        [
+                            "5 steps, 0 refused, 1 reads answered, 1 differ",
+                            "  read            1 in port 3C1 index 10",
+                            (
+                                "  differ          1 in port 3C1 index 10 (first at step 4: traced"
+                                " 00, answered 01)"
+                            ),
+                        ],
+                        "",
+                    ),
+                ),
+            ),
+        )
 
     def test_reads_that_differ(self) -> None:
         front, last = "  differ          1", "  read            1 getw memory A0000"
         for answers, told in (
             ({"s4": "35"}, f"{front} in port 3DA (first at step 4: traced 04, answered 35)"),
-            ({"s6": "0034"}, f"{front} getw memory A0000 (first at step 6: traced 1234, answered 0034)"),
+            (
+                {"s6": "0034"},
+                f"{front} getw memory A0000 (first at step 6: traced 1234, answered 0034)",
+            ),
             # Where the beam is differs from none.
             *(({"s4": answer}, last) for answer in ("05", "0C", "0D")),
         ):
@@ -380,25 +747,53 @@ class Checking(Folder):
 
     def test_a_report_of_another_script(self) -> None:
         other = "vga-trace: standard input:{}: it is of another script\n".format
-        hold(self, self.check, (
-            (*self.GOOD[:-1], (2, [], other(" it ends before step 7, `frame`"))),
-            (*self.GOOD, "ok", (2, [], other(" it has more than the 7 steps of the trace"))),
-            (*self.changed(s1="00"), (2, [], other("1: step 1 is `out`, and '00' answers none"))),
-            (*self.changed(s3="ok"), (2, [], other("3: step 3 is `in`, and 'ok' answers none"))),
-            (*self.changed(s3="000F"), (2, [], other("3: step 3 is `in`, and '000F' answers none"))),
-            (*self.changed(s7="ok"), (2, [], other("7: step 7 is `frame`, and 'ok' answers none"))),
-        ))
+        hold(
+            self,
+            self.check,
+            (
+                (*self.GOOD[:-1], (2, [], other(" it ends before step 7, `frame`"))),
+                (*self.GOOD, "ok", (2, [], other(" it has more than the 7 steps of the trace"))),
+                (
+                    *self.changed(s1="00"),
+                    (2, [], other("1: step 1 is `out`, and '00' answers none")),
+                ),
+                (
+                    *self.changed(s3="ok"),
+                    (2, [], other("3: step 3 is `in`, and 'ok' answers none")),
+                ),
+                (
+                    *self.changed(s3="000F"),
+                    (2, [], other("3: step 3 is `in`, and '000F' answers none")),
+                ),
+                (
+                    *self.changed(s7="ok"),
+                    (2, [], other("7: step 7 is `frame`, and 'ok' answers none")),
+                ),
+            ),
+        )
         said = "vga-trace: standard input:2: step 2 is to come, and not '3 ok'\n"
-        self.assertEqual(run("check", self.write("trace", self.TRACE), "-", given=b"1 ok\n3 ok\n"), (2, b"", said))
+        self.assertEqual(
+            run("check", self.write("trace", self.TRACE), "-", given=b"1 ok\n3 ok\n"),
+            (2, b"", said),
+        )
 
     def test_with_the_options_of_the_script(self) -> None:
         given = BEGIN + 2 * b"0 r p 3DA 0 1\n"
-        hold(self, lambda options, *answers: self.check(*answers, PICTURE, given=given, options=options)[0], (
-            (("--polls", "first"), "ok", "00", 0), (("--to", "1"), "ok", 0), ((), "ok", "00", 2),
-            (("--text",), "ok", "00", "00", 0), (("--no-repeat",), "ok", "00", "00", 0),
-            # A frame began amid the cycles, and a whole one stands at the end.
-            (("--time",), "ok", "00", "00", PICTURE, 0),
-        ))
+        hold(
+            self,
+            lambda options, *answers: self.check(*answers, PICTURE, given=given, options=options)[
+                0
+            ],
+            (
+                (("--polls", "first"), "ok", "00", 0),
+                (("--to", "1"), "ok", 0),
+                ((), "ok", "00", 2),
+                (("--text",), "ok", "00", "00", 0),
+                (("--no-repeat",), "ok", "00", "00", 0),
+                # A frame began amid the cycles, and a whole one stands at the end.
+                (("--time",), "ok", "00", "00", PICTURE, 0),
+            ),
+        )
 
 
 class Example(Folder):
@@ -406,11 +801,15 @@ class Example(Folder):
 
     def test_its_picture_and_its_reads_from_several_cycles_on(self) -> None:
         cuts = ("1", "2", "300", "586")
-        runs = run_texts({cut: run("convert", self.PATH, "-", "--text", "--from", cut)[1] for cut in cuts})
+        runs = run_texts(
+            {cut: run("convert", self.PATH, "-", "--text", "--from", cut)[1] for cut in cuts}
+        )
         for cut, ran in runs.items():
             with self.subTest(cut):
-                picture = ran.report[ran.report.index(b"P6"):-1]
-                self.assertEqual(hashlib.md5(picture).hexdigest(), "c568c179decaec703a3333f9afda3326")
+                picture = ran.report[ran.report.index(b"P6") : -1]
+                self.assertEqual(
+                    hashlib.md5(picture).hexdigest(), "c568c179decaec703a3333f9afda3326"
+                )
                 path = self.write("report", ran.report)
                 status, out, said = run("check", self.PATH, path, "--from", cut)
                 self.assertEqual((status, said), (0, ""))
@@ -419,7 +818,10 @@ class Example(Folder):
                 self.assertEqual(run("check", self.PATH, path)[0], 0 if cut == "1" else 2)
 
     def test_what_it_becomes(self) -> None:
-        told = b"586 cycles, 586 steps, 2,810 bytes, 2 repeats: 186 in, 184 putw, 121 outw, 93 out, 1 getw, 1 frame\n"
+        told = (
+            b"586 cycles, 586 steps, 2,810 bytes, 2 repeats: 186 in, 184 putw, 121 outw, 93 out, 1"
+            b" getw, 1 frame\n"
+        )
         self.assertEqual(run("convert", self.PATH, self.folder / "script"), (0, told, ""))
 
 
@@ -431,15 +833,29 @@ class Folding(unittest.TestCase):
     def test_rows_of_equal_steps_and_groups(self) -> None:
         nine = [Step(PUT, 0xA0000 + at, at) for at in range(9)] * 3
         group, other = nine[:8], [Step(IN, 0x3C9, value) for value in range(20)]
-        hold(self, lines, (
-            ([WRITE, *[POLL] * 100, WRITE], ["out 3C0 20", "repeat 100", "in 3DA", "end", "out 3C0 20"]),
-            ([POLL, WRITE] * 30 + [POLL], ["repeat 30", "in 3DA", "out 3C0 20", "end", "in 3DA"]),
-            (group * 3, ["repeat 3", *texts(*group), "end"]), (nine, texts(*nine)),
-            # More than are looked at ahead.
-            ([POLL, *group * 600, *nine], ["in 3DA", "repeat 601", *texts(*group), "end", *texts(*nine[8:])]),
-            # Reads of other values are one row in bytes, and not in text.
-            (other, texts(*other)),
-        ))
+        hold(
+            self,
+            lines,
+            (
+                (
+                    [WRITE, *[POLL] * 100, WRITE],
+                    ["out 3C0 20", "repeat 100", "in 3DA", "end", "out 3C0 20"],
+                ),
+                (
+                    [POLL, WRITE] * 30 + [POLL],
+                    ["repeat 30", "in 3DA", "out 3C0 20", "end", "in 3DA"],
+                ),
+                (group * 3, ["repeat 3", *texts(*group), "end"]),
+                (nine, texts(*nine)),
+                # More than are looked at ahead.
+                (
+                    [POLL, *group * 600, *nine],
+                    ["in 3DA", "repeat 601", *texts(*group), "end", *texts(*nine[8:])],
+                ),
+                # Reads of other values are one row in bytes, and not in text.
+                (other, texts(*other)),
+            ),
+        )
         self.assertEqual([row.count for row in folded(other, Step.data)], [20])
 
     def test_short_rows_stay(self) -> None:
@@ -450,7 +866,9 @@ class Folding(unittest.TestCase):
                 self.assertEqual(lines([step] * least)[0], f"repeat {least}")
 
     def test_more_rounds_than_a_block_has(self) -> None:
-        rows = list(folded([POLL._replace(cycle=number) for number in range(1, 2 * 65535 + 4)], Step.data))
+        rows = list(
+            folded([POLL._replace(cycle=number) for number in range(1, 2 * 65535 + 4)], Step.data)
+        )
         self.assertEqual([row.count for row in rows], [65535, 65535, 1, 1, 1])
         self.assertEqual([row.cycle for row in rows], [65535, 131070, 131071, 131072, 131073])
         self.assertEqual(Written(False).row(rows[0]), bytes.fromhex("0D FFFF 03DA03 0E"))

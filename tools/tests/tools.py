@@ -1,4 +1,5 @@
-"""How tests run the tools, in folders of their own, with fake programs, and ended by signals; and the built program."""
+"""How tests run the tools, in folders of their own, with fake programs, and ended by signals; and
+the built program."""
 
 from __future__ import annotations
 
@@ -30,7 +31,8 @@ EXAMPLES = TOP / "examples"
 RED, WHITE, BLACK = b"\x3f\x00\x00", b"\x3f\x3f\x3f", b"\x00\x00\x00"
 # How a tool's script names the module that has its `main`.
 MAIN = re.compile(r"^from ([\w.]+) import main$", re.M)
-# The tools want nothing but Python's own library, and start faster where nothing else is looked for.
+# The tools want nothing but Python's own library, and start faster where nothing else is looked
+# for.
 PYTHON = (sys.executable, "-S")
 FORKING = multiprocessing.get_context("fork")
 # So long may a run take.
@@ -42,7 +44,8 @@ WAITING = 60
 # The program that is tested, as the runner of the tests names it to their processes.
 TESTED = "ZAKLIMOT_TESTED_PROGRAM"
 PROGRAM = Path(os.environ.get(TESTED) or BUILT_PROGRAM)
-# Why a test is skipped; with this variable, which the gate sets once the program is built, it fails.
+# Why a test is skipped; with this variable, which the gate sets once the program is built, it
+# fails.
 UNBUILT = "there is no program to test: tools/tests-of-tools compiles one, if there is a C compiler"
 BUILT = "ZAKLIMOT_PROGRAM_IS_BUILT"
 
@@ -54,11 +57,18 @@ def main_of(name: str) -> Callable[[Sequence[str]], int]:
     return importlib.import_module(found[1]).main
 
 
-def _become(work: Callable[[], int], streams: Sequence[BinaryIO], prepare: Callable[[], object]) -> None:
-    """Goes on as a tool does that has just been started, with these three files as its standard streams."""
+def _become(
+    work: Callable[[], int], streams: Sequence[BinaryIO], prepare: Callable[[], object]
+) -> None:
+    """Goes on as a tool does that has just been started, with these three files as its standard
+    streams."""
     for number, stream in enumerate(streams):
         os.dup2(stream.fileno(), number)
-    sys.stdin, sys.stdout, sys.stderr = open(0), open(1, "w"), open(2, "w", errors="backslashreplace")
+    sys.stdin, sys.stdout, sys.stderr = (
+        open(0),
+        open(1, "w"),
+        open(2, "w", errors="backslashreplace"),
+    )
     warnings.simplefilter("ignore")
     tempfile.tempdir = None
     _heed_signals()
@@ -69,12 +79,18 @@ def _become(work: Callable[[], int], streams: Sequence[BinaryIO], prepare: Calla
 def run_tool(
     name: str, *words: str | bytes | Path, given: bytes = b"", prepare: Callable[[], object] = bool
 ) -> tuple[int, bytes, str]:
-    """Exit status, output and standard error of a tool, which reads these bytes; its process is prepared before.
+    """Exit status, output and standard error of a tool, which reads these bytes; its process is
+    prepared before.
 
-    The process has the tool's modules already: to start Python for each run would take most of the tests' time.
+    The process has the tool's modules already: to start Python for each run would take most of the
+    tests' time.
     """
     work = partial(main_of(name), [os.fsdecode(word) for word in words])
-    with tempfile.TemporaryFile() as read, tempfile.TemporaryFile() as written, tempfile.TemporaryFile() as said:
+    with (
+        tempfile.TemporaryFile() as read,
+        tempfile.TemporaryFile() as written,
+        tempfile.TemporaryFile() as said,
+    ):
         read.write(given)
         read.seek(0)
         process = FORKING.Process(target=_become, args=(work, (read, written, said), prepare))
@@ -100,14 +116,22 @@ def call(main: Callable[[list[str]], int], *words: str | Path) -> tuple[int, str
 
 
 def ended(*words: str | bytes | Path, **options: Any) -> tuple[int, Any, Any]:
-    """The same of any command; `options` go to `subprocess.run`, and `text=False` among them asks for bytes."""
-    given = {"stdout": subprocess.PIPE, "stderr": subprocess.PIPE, "text": True, "timeout": MOST_SECONDS, **options}
+    """The same of any command; `options` go to `subprocess.run`, and `text=False` among them asks
+    for bytes."""
+    given = {
+        "stdout": subprocess.PIPE,
+        "stderr": subprocess.PIPE,
+        "text": True,
+        "timeout": MOST_SECONDS,
+        **options,
+    }
     done = subprocess.run(words, **given)
     return done.returncode, done.stdout, done.stderr
 
 
 def want_program() -> None:
-    """Skips a test where there is no program to test, or has it fail where the proved one is to be built."""
+    """Skips a test where there is no program to test, or has it fail where the proved one is to be
+    built."""
     if not os.access(PROGRAM, os.X_OK):
         raise (AssertionError if os.environ.get(BUILT) else unittest.SkipTest)(UNBUILT)
 
@@ -120,7 +144,9 @@ class Ran(NamedTuple):
     said: str
 
 
-def run_program(*words: str | bytes | Path, given: bytes = b"", folder: Optional[Path] = None) -> Ran:
+def run_program(
+    *words: str | bytes | Path, given: bytes = b"", folder: Optional[Path] = None
+) -> Ran:
     """How a run of the program with these words ends."""
     status, report, said = ended(PROGRAM, *words, cwd=folder, input=given, text=False)
     return Ran(status, report, said.decode())
@@ -133,7 +159,9 @@ def run_texts(texts: Mapping[str, bytes]) -> dict[str, Ran]:
     return {name: run_program(*words, given=text) for name, text in texts.items()}
 
 
-def hold(test: unittest.TestCase, work: Callable[..., object], table: Iterable[tuple[Any, ...]]) -> None:
+def hold(
+    test: unittest.TestCase, work: Callable[..., object], table: Iterable[tuple[Any, ...]]
+) -> None:
     """Holds what work makes of the front of each row of a table to the row's last."""
     for *given, wanted in table:
         with test.subTest(given):
@@ -141,7 +169,8 @@ def hold(test: unittest.TestCase, work: Callable[..., object], table: Iterable[t
 
 
 def hold_undone(test: unittest.TestCase, done: Sequence[Any], told: Any) -> None:
-    """Holds what a call above has answered to work that can't be done: status 2, no output, words with the pattern."""
+    """Holds what a call above has answered to work that can't be done: status 2, no output, words
+    with the pattern."""
     status, output, said = done
     test.assertEqual((status, len(output)), (2, 0), said)
     test.assertRegex(said, told)
@@ -156,8 +185,11 @@ def refused(work: Callable[..., object], *words: object) -> str:
     raise AssertionError("it is not refused")
 
 
-def hold_refused(test: unittest.TestCase, work: Callable[..., object], table: Iterable[tuple[Any, ...]]) -> None:
-    """Holds what is told of work that a Trouble ends, for the front of each row, to the row's last, a pattern."""
+def hold_refused(
+    test: unittest.TestCase, work: Callable[..., object], table: Iterable[tuple[Any, ...]]
+) -> None:
+    """Holds what is told of work that a Trouble ends, for the front of each row, to the row's last,
+    a pattern."""
     for *given, told in table:
         with test.subTest(given):
             test.assertRegex(refused(work, *given), told)
@@ -173,7 +205,12 @@ def _heed_signals() -> None:
 
 def begin(name: str, *words: str | Path, **options: Any) -> subprocess.Popen[bytes]:
     """A tool that has begun, with pipes for its streams; `options` go to `subprocess.Popen`."""
-    given = {"stdout": subprocess.PIPE, "stderr": subprocess.PIPE, "preexec_fn": _heed_signals, **options}
+    given = {
+        "stdout": subprocess.PIPE,
+        "stderr": subprocess.PIPE,
+        "preexec_fn": _heed_signals,
+        **options,
+    }
     return subprocess.Popen([*PYTHON, TOOLS / name, *words], **given)
 
 
@@ -202,7 +239,8 @@ class Folder(unittest.TestCase):
         return str(path)
 
     def program(self, name: str, text: str) -> str:
-        """Writes a program: of the shell, or of Python without packages, where it has no line that names another."""
+        """Writes a program: of the shell, or of Python without packages, where it has no line that
+        names another."""
         path = self.write(name, text if text.startswith("#!") else f"#!{sys.executable} -S\n{text}")
         os.chmod(path, 0o755)
         return path
@@ -232,7 +270,9 @@ class Folder(unittest.TestCase):
             patch.start()
             self.addCleanup(patch.stop)
 
-    def wait_until(self, is_done: Callable[[], bool], process: Optional[subprocess.Popen[bytes]] = None) -> None:
+    def wait_until(
+        self, is_done: Callable[[], bool], process: Optional[subprocess.Popen[bytes]] = None
+    ) -> None:
         """Waits until something is done, as long as a process runs."""
         until = time.monotonic() + WAITING
         while not is_done():
@@ -246,7 +286,8 @@ class Folder(unittest.TestCase):
         return path.read_text()
 
     def within(self, work: Callable[[int], Any], begun: Path) -> Any:
-        """What comes of work that is ended after so many seconds: after more, where no file tells that it had begun."""
+        """What comes of work that is ended after so many seconds: after more, where no file tells
+        that it had begun."""
         for seconds in (2, 8, 32):
             made = work(seconds)
             if begun.exists():
@@ -268,7 +309,10 @@ def ppm(width: int, height: int, dots: bytes) -> bytes:
 
 def report(*answers: str | bytes) -> bytes:
     """A report of steps with these answers. Bytes are a picture."""
-    told = (b"picture %d\n" % len(one) + one if isinstance(one, bytes) else one.encode() for one in answers)
+    told = (
+        b"picture %d\n" % len(one) + one if isinstance(one, bytes) else one.encode()
+        for one in answers
+    )
     return b"".join(b"%d %b\n" % step for step in enumerate(told, 1))
 
 
@@ -283,7 +327,7 @@ def png_chunks(data: bytes) -> list[tuple[bytes, bytes]]:
     at, chunks = 8, []
     while at < len(data):
         (length,) = struct.unpack_from(">I", data, at)
-        kind, body = data[at + 4:at + 8], data[at + 8:at + 8 + length]
+        kind, body = data[at + 4 : at + 8], data[at + 8 : at + 8 + length]
         (check,) = struct.unpack_from(">I", data, at + 8 + length)
         assert check == zlib.crc32(kind + body)
         chunks.append((kind, body))
@@ -297,7 +341,10 @@ def png_rows(data: bytes) -> tuple[int, int, list[bytes]]:
     assert chunks[0][0] == b"IHDR" and chunks[-1] == (b"IEND", b"")
     width, height, *form = struct.unpack(">IIBBBBB", chunks[0][1])
     assert form == [8, 2, 0, 0, 0]
-    lines, length = zlib.decompress(b"".join(body for kind, body in chunks if kind == b"IDAT")), 3 * width + 1
+    lines, length = (
+        zlib.decompress(b"".join(body for kind, body in chunks if kind == b"IDAT")),
+        3 * width + 1,
+    )
     assert len(lines) == length * height
     assert not any(lines[::length]), "a row with a filter"
-    return width, height, [lines[at + 1:at + length] for at in range(0, len(lines), length)]
+    return width, height, [lines[at + 1 : at + length] for at in range(0, len(lines), length)]

@@ -8,7 +8,16 @@ from vga_report.cli import add
 from vga_report.progress import Progress
 from vga_report.png import save_png
 from vga_report.faults import script_of
-from vga_report.streams import STANDARD, name_of, read_at_most, reading, refuse_twice, to_read, write_file, writing
+from vga_report.streams import (
+    STANDARD,
+    name_of,
+    read_at_most,
+    reading,
+    refuse_twice,
+    to_read,
+    write_file,
+    writing,
+)
 from vga_report.suite import LIST, empty_folder
 from vga_report.trouble import Trouble
 from vga_report.words import seconds
@@ -36,11 +45,18 @@ def _add_report(parser: argparse.ArgumentParser) -> None:
 
 def _parser() -> argparse.ArgumentParser:
     parser = cli.tool_parser(
-        "vga-floppy", "Runs scripts on machines: by a floppy on a PC, or on an emulator.",
-        "tools/vga-floppy run --on dosbox examples/asked-of-machines.vga", "docs/REAL-MACHINES.md",
+        "vga-floppy",
+        "Runs scripts on machines: by a floppy on a PC, or on an emulator.",
+        "tools/vga-floppy run --on dosbox examples/asked-of-machines.vga",
+        "docs/REAL-MACHINES.md",
     )
     commands = parser.add_subparsers(required=True, metavar="COMMAND")
-    made = cli.command(commands, "make", _make, "makes the image of a floppy or a stick that runs a script, or many")
+    made = cli.command(
+        commands,
+        "make",
+        _make,
+        "makes the image of a floppy or a stick that runs a script, or many",
+    )
     _add_script(made)
     add(made, "--disk", "writes a partition table, for a stick or a hard disk (default: a floppy)")
     add(made, "IMAGE", "the image, of 1,474,560 bytes; - is standard output")
@@ -51,7 +67,12 @@ def _parser() -> argparse.ArgumentParser:
     _add_report(made)
     made = cli.command(commands, "run", _run, "runs a script on an emulator, and gives the report")
     add(made, "--on", "the emulator", required=True, choices=list(MACHINES))
-    add(made, "--bios", "the video BIOS (default: sea on qemu, lgpl on bochs)", choices=[SEABIOS, LGPL])
+    add(
+        made,
+        "--bios",
+        "the video BIOS (default: sea on qemu, lgpl on bochs)",
+        choices=[SEABIOS, LGPL],
+    )
     told = "how long it may take, without the time that it waits for a processor (default: 30)"
     add(made, "--seconds N", told, type=seconds, default=30)
     add(made, "--picture FILE", "writes the last screen as PNG")
@@ -81,7 +102,9 @@ def scripts_of(path: str) -> dict[str, Script]:
 def _write_report(words: argparse.Namespace, run: Run, name: str) -> None:
     names = [script for script, _ in run.table.scripts()]
     if words.report == STANDARD and len(names) != 1:
-        raise Trouble(f"it has the answers of {len(names)} scripts: name a folder for their reports", name)
+        raise Trouble(
+            f"it has the answers of {len(names)} scripts: name a folder for their reports", name
+        )
     # A script of a folder has a name, and its report is a file of a folder too, be it the only one.
     if words.report == STANDARD or names == [""]:
         with writing(words.report) as stream:
@@ -91,14 +114,18 @@ def _write_report(words: argparse.Namespace, run: Run, name: str) -> None:
     for script, lines in reports(run, name, words.all_registers):
         path = folder / f"{script}.report"
         if ".." in path.parts or folder not in path.parents:
-            raise Trouble(f"a script has the name of a file outside of a folder: '{script[:40]}'", name)
+            raise Trouble(
+                f"a script has the name of a file outside of a folder: '{script[:40]}'", name
+            )
         path.parent.mkdir(parents=True, exist_ok=True)
         with writing(str(path)) as stream:
             stream.writelines(lines)
 
 
 def _make(words: argparse.Namespace, _: Progress) -> None:
-    write_file(words.image, image_for(scripts_of(words.script), name_of(words.script), is_disk=words.disk))
+    write_file(
+        words.image, image_for(scripts_of(words.script), name_of(words.script), is_disk=words.disk)
+    )
 
 
 def _read(words: argparse.Namespace, _: Progress) -> None:
@@ -108,13 +135,17 @@ def _read(words: argparse.Namespace, _: Progress) -> None:
     run = read_record(data, name) if words.serial else read_image(data, name)
     if not run.is_whole and not words.part:
         came = f"{len(run.answers):,} of {run.table.answer_length():,} bytes of answers came"
-        raise Trouble(f"the record ends before the run did: {came}; --part gives the report so far", name)
+        raise Trouble(
+            f"the record ends before the run did: {came}; --part gives the report so far", name
+        )
     _write_report(words, run, name)
 
 
 def _run(words: argparse.Namespace, _: Progress) -> None:
     scripts, name = scripts_of(words.script), name_of(words.script)
-    run, shown = run_on(MACHINES[words.on], scripts, name, words.bios, words.seconds, words.picture is not None)
+    run, shown = run_on(
+        MACHINES[words.on], scripts, name, words.bios, words.seconds, words.picture is not None
+    )
     if shown is not None:
         # In the six bits of a component that the DAC has.
         save_png(words.picture, shown.picture(2 if shown.most == 255 else 0))

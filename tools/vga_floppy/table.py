@@ -1,7 +1,8 @@
-"""The table of steps that the floppy's interpreter reads: what a machine is to do, and which answers come of it.
+"""The table of steps that the floppy's interpreter reads: what a machine is to do, and which
+answers come of it.
 
-Each step is an opcode and its fields, low bytes first. The same table tells what to make of the answers, so that an
-image, or what came over the serial port, stands alone.
+Each step is an opcode and its fields, low bytes first. The same table tells what to make of the
+answers, so that an image, or what came over the serial port, stands alone.
 """
 
 import struct
@@ -18,22 +19,41 @@ from zaklimot.format.script import Item
 FINISH, OUT, OUTW, IN, INW, PUT, PUTW, GET, GETW, INT = range(10)
 PASS_OVER, LOOK_AWAY, FILL, REPEAT, END, SCRIPT, END_OF_RESET = range(10, 17)
 STEPS = {name: form.opcode for name, form in format.FORMS.items() if OUT <= form.opcode <= GETW}
-FORMS = {opcode: struct.Struct(f"<{fields}") for opcode, fields in {
-    OUT: "HB", OUTW: "HH", IN: "H", INW: "H", PUT: "HHB", PUTW: "HHH", GET: "HH", GETW: "HH",
-    # ax, bx, cx, dx; where it looks for its block or table; the table's length, and the block's.
-    INT: "4HBHH",
-    # The last value of miscellaneous output before a script, and the length of the script's name.
-    SCRIPT: "BB", PASS_OVER: "H", LOOK_AWAY: "HB", FILL: "HB", REPEAT: "H", END: "", END_OF_RESET: "", FINISH: "",
-}.items()}
+FORMS = {
+    opcode: struct.Struct(f"<{fields}")
+    for opcode, fields in {
+        OUT: "HB",
+        OUTW: "HH",
+        IN: "H",
+        INW: "H",
+        PUT: "HHB",
+        PUTW: "HHH",
+        GET: "HH",
+        GETW: "HH",
+        # ax, bx, cx, dx; where it looks for its block or table; the table's length, and the
+        # block's.
+        INT: "4HBHH",
+        # The last value of miscellaneous output before a script, and the length of the script's
+        # name.
+        SCRIPT: "BB",
+        PASS_OVER: "H",
+        LOOK_AWAY: "HB",
+        FILL: "HB",
+        REPEAT: "H",
+        END: "",
+        END_OF_RESET: "",
+        FINISH: "",
+    }.items()
+}
 # Bytes of such a number stand behind the fields, the last of which is the number.
 BEHIND = (INT, SCRIPT)
-# The header before the steps: a name, the version of the forms, where the first script stands, behind the steps that
-# reset the adapter; the length of all steps, and their check.
+# The header before the steps: a name, the version of the forms, where the first script stands,
+# behind the steps that reset the adapter; the length of all steps, and their check.
 HEADER = struct.Struct("<4sHHII")
 NAME, VERSION = b"VGAT", 1
 
-# Ports that a machine may be asked for: those of the adapter, without the printer's between them (3BC to 3BF), and
-# without 3C3, by which a machine turns the adapter off.
+# Ports that a machine may be asked for: those of the adapter, without the printer's between them
+# (3BC to 3BF), and without 3C3, by which a machine turns the adapter off.
 PORTS = frozenset([*range(0x3B0, 0x3BC), *range(0x3C0, 0x3E0)]) - {0x3C3}
 STATUS_PORTS = frozenset([0x3BA, 0x3DA])
 MEMORY = range(0xA0000, 0xC0000)
@@ -43,17 +63,26 @@ MOST_NAME = 0xFF
 
 # Where a service looks for its block, or writes its table.
 AT_DX, AT_BP, TABLE_AT_DX = 1, 2, 4
-PLACES = {0x1002: AT_DX, 0x1012: AT_DX, 0x1100: AT_BP, 0x1110: AT_BP, 0x1009: TABLE_AT_DX, 0x1017: TABLE_AT_DX}
+PLACES = {
+    0x1002: AT_DX,
+    0x1012: AT_DX,
+    0x1100: AT_BP,
+    0x1110: AT_BP,
+    0x1009: TABLE_AT_DX,
+    0x1017: TABLE_AT_DX,
+}
 STRING = 0x13
 PALETTE_LENGTH, DAC_ENTRIES = 17, 256
 
-# What the steps of a report answer, and how many bytes of answers each has: a call more of them where it has a table.
+# What the steps of a report answer, and how many bytes of answers each has: a call more of them
+# where it has a table.
 DONE, SKIPPED, BYTE, WORD, CALL = "ok", "skipped", "byte", "word", "call"
 ANSWER_LENGTHS = {DONE: 0, SKIPPED: 0, BYTE: 1, WORD: 2, CALL: 8}
 
 
 def is_for_machine(step: Step) -> bool:
-    """Whether a machine can do a step, and may: one that names the adapter's ports or its memory, or a call."""
+    """Whether a machine can do a step, and may: one that names the adapter's ports or its memory,
+    or a call."""
     if step.name == "int":
         return len(step.block) <= MOST_BLOCK and _table_length(step.numbers) is not None
     if step.name not in STEPS:
@@ -76,7 +105,10 @@ def _packed_item(step: Item) -> bytes:
     if step.name == "int":
         ax = step.numbers[0]
         place = AT_BP if ax >> 8 == STRING else PLACES.get(ax, 0)
-        return _packed(INT, *step.numbers, place, _table_length(step.numbers) or 0, len(step.block)) + step.block
+        return (
+            _packed(INT, *step.numbers, place, _table_length(step.numbers) or 0, len(step.block))
+            + step.block
+        )
     opcode, (place, *value) = STEPS[step.name], step.numbers
     if opcode in (IN, INW) and STATUS_PORTS & {place, place + (opcode == INW)}:
         return _packed(LOOK_AWAY, place, opcode == INW)
@@ -86,7 +118,8 @@ def _packed_item(step: Item) -> bytes:
 
 
 def _table_length(registers: tuple[int, ...]) -> Optional[int]:
-    """How many bytes a call answers behind its registers; None where they would go past the adapter's entries."""
+    """How many bytes a call answers behind its registers; None where they would go past the
+    adapter's entries."""
     ax, bx, cx, _ = registers
     if ax == 0x1009:
         return PALETTE_LENGTH
@@ -96,29 +129,51 @@ def _table_length(registers: tuple[int, ...]) -> Optional[int]:
 
 
 def reset_steps() -> bytes:
-    """The steps that bring the adapter into its state at power-on, after a machine's BIOS or a script has used it.
+    """The steps that bring the adapter into its state at power-on, after a machine's BIOS or a
+    script has used it.
 
-    Two registers have another value then. The sequencer's reset register keeps 03: a real adapter whose sequencer
-    stands still answers no cycle of memory. Miscellaneous output gets the value that stands with the script.
+    Two registers have another value then. The sequencer's reset register keeps 03: a real adapter
+    whose sequencer stands still answers no cycle of memory. Miscellaneous output gets the value
+    that stands with the script.
     """
+
     def registers(port: int, values: Iterable[tuple[int, int]]) -> bytes:
         return b"".join(_packed(OUTW, port, value << 8 | index) for index, value in values)
 
-    attributes = b"".join(_packed(OUT, 0x3C0, index) + _packed(OUT, 0x3C0, 0) for index in range(0x15))
+    attributes = b"".join(
+        _packed(OUT, 0x3C0, index) + _packed(OUT, 0x3C0, 0) for index in range(0x15)
+    )
     indexes = b"".join(_packed(OUT, port, 0) for port in (0x3C4, 0x3C8, 0x3CE, 0x3D4))
-    return b"".join([
-        _packed(INT, 0x0003, 0, 0, 0, 0, 0, 0), _packed(OUT, 0x3C2, 0x03), registers(0x3D4, [(0x11, 0)]),
-        registers(0x3C4, [(0, 3), (4, 6), (2, 0x0F)]), registers(0x3CE, [*((index, 0) for index in range(8)), (8, 0xFF)]),
-        # Emulators have another memory of text: planes are reached in graphics alone.
-        registers(0x3CE, [(6, 5)]), _packed(LOOK_AWAY, 0x3DA, 0), _packed(OUT, 0x3C0, 0x10), _packed(OUT, 0x3C0, 1),
-        _packed(FILL, 0xA000, 0), _packed(GET, 0xA000, 0),
-        _packed(OUT, 0x3C6, 0xFF), _packed(OUT, 0x3C8, 0),
-        _packed(REPEAT, 768), _packed(OUT, 0x3C9, 0), _packed(END),
-        _packed(LOOK_AWAY, 0x3DA, 0), attributes, _packed(OUT, 0x3C0, 0), _packed(LOOK_AWAY, 0x3DA, 0),
-        registers(0x3D4, ((index, 3 if index == 0x17 else 0) for index in range(0x19))),
-        registers(0x3C4, ((index, 0) for index in range(1, 5))), registers(0x3CE, ((index, 0) for index in range(9))),
-        indexes, _packed(END_OF_RESET),
-    ])
+    return b"".join(
+        [
+            _packed(INT, 0x0003, 0, 0, 0, 0, 0, 0),
+            _packed(OUT, 0x3C2, 0x03),
+            registers(0x3D4, [(0x11, 0)]),
+            registers(0x3C4, [(0, 3), (4, 6), (2, 0x0F)]),
+            registers(0x3CE, [*((index, 0) for index in range(8)), (8, 0xFF)]),
+            # Emulators have another memory of text: planes are reached in graphics alone.
+            registers(0x3CE, [(6, 5)]),
+            _packed(LOOK_AWAY, 0x3DA, 0),
+            _packed(OUT, 0x3C0, 0x10),
+            _packed(OUT, 0x3C0, 1),
+            _packed(FILL, 0xA000, 0),
+            _packed(GET, 0xA000, 0),
+            _packed(OUT, 0x3C6, 0xFF),
+            _packed(OUT, 0x3C8, 0),
+            _packed(REPEAT, 768),
+            _packed(OUT, 0x3C9, 0),
+            _packed(END),
+            _packed(LOOK_AWAY, 0x3DA, 0),
+            attributes,
+            _packed(OUT, 0x3C0, 0),
+            _packed(LOOK_AWAY, 0x3DA, 0),
+            registers(0x3D4, ((index, 3 if index == 0x17 else 0) for index in range(0x19))),
+            registers(0x3C4, ((index, 0) for index in range(1, 5))),
+            registers(0x3CE, ((index, 0) for index in range(9))),
+            indexes,
+            _packed(END_OF_RESET),
+        ]
+    )
 
 
 def _has_call(item: Item) -> bool:
@@ -128,8 +183,8 @@ def _has_call(item: Item) -> bool:
 def table_for(scripts: Mapping[str, Script]) -> bytes:
     """The whole table of scripts by their names, with its header.
 
-    A script that calls services finds 03 in miscellaneous output, any other 00: a BIOS may write the CRT controller
-    at 3D4 before it says that it is there.
+    A script that calls services finds 03 in miscellaneous output, any other 00: a BIOS may write
+    the CRT controller at 3D4 before it says that it is there.
     """
     parts = [reset_steps()]
     for name, script in scripts.items():
@@ -150,15 +205,18 @@ class Table:
             raise Trouble("it holds no table of steps of vga-floppy", name)
         _, version, self._first, length, self.check = HEADER.unpack_from(data)
         if version != VERSION:
-            raise Trouble(f"its table is of version {version}, and this tool reads version {VERSION}", name)
-        self._steps = data[HEADER.size:HEADER.size + length]
+            raise Trouble(
+                f"its table is of version {version}, and this tool reads version {VERSION}", name
+            )
+        self._steps = data[HEADER.size : HEADER.size + length]
         if len(self._steps) < length or zlib.crc32(self._steps) != self.check:
             raise Trouble("its table of steps is damaged", name)
 
     def scripts(self) -> list[tuple[str, Script]]:
         """Its scripts in their order, with their names.
 
-        Their steps are called by what they answer; that of a call has its registers, and how long its table is.
+        Their steps are called by what they answer; that of a call has its registers, and how long
+        its table is.
         """
         scripts: list[tuple[str, list[Item]]] = []
         steps = self._decoded()
@@ -184,7 +242,7 @@ class Table:
             fields = FORMS[opcode].unpack_from(self._steps, at + 1)
             at += 1 + FORMS[opcode].size
             length = fields[-1] if opcode in BEHIND else 0
-            yield opcode, fields, self._steps[at:at + length]
+            yield opcode, fields, self._steps[at : at + length]
             at += length
 
 
@@ -200,4 +258,4 @@ def length_of(answer: Item) -> int:
     """How many bytes an answer has, or all those of a block."""
     if isinstance(answer, Block):
         return answer.count * sum(map(length_of, answer.steps))
-    return ANSWER_LENGTHS[answer.name] + sum(answer.numbers[len(REGISTERS):])
+    return ANSWER_LENGTHS[answer.name] + sum(answer.numbers[len(REGISTERS) :])

@@ -1,4 +1,5 @@
-"""The suite's results on emulators as tables of a page, between two marks; what people wrote stays around them."""
+"""The suite's results on emulators as tables of a page, between two marks; what people wrote stays
+around them."""
 
 from __future__ import annotations
 
@@ -23,7 +24,8 @@ SAME, NOTHING, WORD_FAILED = "same", "not compared", "fails"
 
 
 class Results(NamedTuple):
-    """What `vga-report suite --json` printed of `vga-floppy run` on an emulator: its cases, with rule and folder."""
+    """What `vga-report suite --json` printed of `vga-floppy run` on an emulator: its cases, with
+    rule and folder."""
 
     name: str
     version: str
@@ -41,7 +43,8 @@ def _read(path: str) -> Results:
         found = json.loads(data)
         command, cases = found["command"], [
             {**case, "rule": str(rule["rule"]), "folder": str(rule["folder"])}
-            for rule in found["rules"] for case in rule["cases"]
+            for rule in found["rules"]
+            for case in rule["cases"]
         ]
         for case in cases:
             # What lacks a part raises an error.
@@ -67,7 +70,9 @@ def write_tables(page: str, paths: Sequence[str]) -> None:
     compared = "Compared were " + ", ".join(result.version for result in results) + "."
     tables = ("\n".join(lines) for lines in (_counts(results), _folders(results), _rules(results)))
     made = "\n\n".join([compared, *tables])
-    write_over(page, f"{before}{first}\n\n{made}\n\n{last}{after}".encode("utf-8", "surrogateescape"))
+    write_over(
+        page, f"{before}{first}\n\n{made}\n\n{last}{after}".encode("utf-8", "surrogateescape")
+    )
 
 
 def _row(*cells: str) -> str:
@@ -82,8 +87,10 @@ def _heading(results: Sequence[Results], *cells: str) -> Iterator[str]:
 
 def _counts(results: Sequence[Results]) -> Iterator[str]:
     told = {
-        AGREES: "cases that agree", SKIPPED: "cases of which a part or all was skipped, and the rest agrees",
-        DIFFERS: "cases that differ", FAILED: "cases whose run failed",
+        AGREES: "cases that agree",
+        SKIPPED: "cases of which a part or all was skipped, and the rest agrees",
+        DIFFERS: "cases that differ",
+        FAILED: "cases whose run failed",
     }
     yield from _heading(results, "")
     for answer, text in told.items():
@@ -91,7 +98,9 @@ def _counts(results: Sequence[Results]) -> Iterator[str]:
     compared = [sum(case["answers"] for case in result.cases) for result in results]
     differing = [sum(case["differing"] for case in result.cases) for result in results]
     yield _row("bytes, words and registers compared", *(f"{count:,}" for count in compared))
-    yield _row("of these as expected", *(f"{count - wrong:,}" for count, wrong in zip(compared, differing)))
+    yield _row(
+        "of these as expected", *(f"{count - wrong:,}" for count, wrong in zip(compared, differing))
+    )
 
 
 def _folders(results: Sequence[Results]) -> Iterator[str]:
@@ -108,7 +117,9 @@ def _folder_cell(cases: Sequence[dict[str, Any]]) -> str:
 def _rules(results: Sequence[Results]) -> Iterator[str]:
     """The rules that one of the emulators doesn't follow, each with what it answers first."""
     yield from _heading(results, "Rule of the suite", "Case")
-    for text, folder in dict.fromkeys((case["rule"], case["folder"]) for result in results for case in result.cases):
+    for text, folder in dict.fromkeys(
+        (case["rule"], case["folder"]) for result in results for case in result.cases
+    ):
         found = [result.of(rule=text, folder=folder) for result in results]
         wrong = [case for cases in found for case in cases if case["answer"] in (DIFFERS, FAILED)]
         if wrong:
@@ -128,6 +139,11 @@ def _rule_cell(cases: Sequence[dict[str, Any]]) -> str:
 def _difference(answered: str, expected: str) -> str:
     words, others = answered.split(), expected.split()
     if len(words) == len(others) > 1:
-        answered, expected = next(((one, other) for one, other in zip(words, others) if one != other), ("", ""))
-    cut = (text if len(text) <= MOST_ANSWER else text[:MOST_ANSWER] + ".." for text in (answered, expected))
+        answered, expected = next(
+            ((one, other) for one, other in zip(words, others) if one != other), ("", "")
+        )
+    cut = (
+        text if len(text) <= MOST_ANSWER else text[:MOST_ANSWER] + ".."
+        for text in (answered, expected)
+    )
     return ", not ".join(cut)

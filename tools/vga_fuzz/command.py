@@ -36,10 +36,16 @@ WRONG = "wrong"
 
 def _parser() -> argparse.ArgumentParser:
     parser = cli.tool_parser(
-        "vga-fuzz", "Feeds vga with scripts and texts made at random.", "tools/vga-fuzz --seed 1 --seconds 300 --keep found",
-        "tools/README.md", cli.JUDGES,
+        "vga-fuzz",
+        "Feeds vga with scripts and texts made at random.",
+        "tools/vga-fuzz --seed 1 --seconds 300 --keep found",
+        "tools/README.md",
+        cli.JUDGES,
     )
-    told = "the program (default: one built here, a release's, vga in the path, or one that is compiled)"
+    told = (
+        "the program (default: one built here, a release's, vga in the path, or one that is"
+        " compiled)"
+    )
     parser.add_argument("program", nargs="?", type=to_read, help=told)
     numbers = {
         "seed": (1, 0, "where the random numbers begin (default: 1)"),
@@ -51,16 +57,31 @@ def _parser() -> argparse.ArgumentParser:
     for name, (usual, least, told) in numbers.items():
         most = MOST_MEBIBYTES if name in ("memory", "output") else MOST_NUMBER
         cli.add(parser, f"--{name} N", told, type=number_to(most, least), default=usual)
-    for name, told in (("seconds", "how long to make inputs"), ("timeout", "how long one run may take")):
-        cli.add(parser, f"--{name} SECONDS", f"{told}, in seconds (default: 60)", type=seconds, default=60)
+    for name, told in (
+        ("seconds", "how long to make inputs"),
+        ("timeout", "how long one run may take"),
+    ):
+        cli.add(
+            parser,
+            f"--{name} SECONDS",
+            f"{told}, in seconds (default: 60)",
+            type=seconds,
+            default=60,
+        )
     cli.add(parser, "--keep FOLDER", "keeps the inputs that show something wrong in this folder")
     parser.set_defaults(job=_run)
     return parser
 
 
 def _at_hand() -> tuple[list[bytes], list[bytes]]:
-    """The texts of the examples and of the suite; and as bytes the scripts of those that are any."""
-    files = sorted(file for folder in TEXTS for file in folder.rglob("*.vga") if file.stat().st_size <= MOST_TEXT)
+    """The texts of the examples and of the suite; and as bytes the scripts of those that are
+    any."""
+    files = sorted(
+        file
+        for folder in TEXTS
+        for file in folder.rglob("*.vga")
+        if file.stat().st_size <= MOST_TEXT
+    )
     texts, scripts = [file.read_bytes() for file in files], []
     for text in texts:
         with suppress(ScriptFault):
@@ -72,30 +93,42 @@ def _check(program: Program) -> None:
     try:
         script = program.assembled(FIRST_TEXT)
     except Wrong as wrong:
-        raise Trouble(f"it isn't vga, or can't work within these limits: {wrong}", program.path) from wrong
+        raise Trouble(
+            f"it isn't vga, or can't work within these limits: {wrong}", program.path
+        ) from wrong
     if script != encode(parse_text(FIRST_TEXT)):
-        raise Trouble(f"it isn't vga: it makes another script of `{FIRST_TEXT.decode().strip()}`", program.path)
+        raise Trouble(
+            f"it isn't vga: it makes another script of `{FIRST_TEXT.decode().strip()}`",
+            program.path,
+        )
 
 
 def _figures(made: Counter[str], answers: Counter[str], seed: int, seconds: float) -> str:
-    """How many inputs were made in each way and answered in each way, and with how many something was wrong."""
+    """How many inputs were made in each way and answered in each way, and with how many something
+    was wrong."""
     total = sum(made.values())
     counts = [*sorted(made.items()), *sorted(answers.items())]
-    return "\n".join([
-        f"seed {seed}: {total:,} input{'s' * (total != 1)} in {seconds:,.0f} seconds",
-        *(f"{count:9,} {name}" for name, count in counts), f"{answers[WRONG]:,} with something wrong",
-    ])
+    return "\n".join(
+        [
+            f"seed {seed}: {total:,} input{'s' * (total != 1)} in {seconds:,.0f} seconds",
+            *(f"{count:9,} {name}" for name, count in counts),
+            f"{answers[WRONG]:,} with something wrong",
+        ]
+    )
 
 
 def _fuzz(words: argparse.Namespace, folder: Path) -> int:
-    """Makes inputs and feeds the program with them, until the time or the inputs are used up, or the user ends it."""
+    """Makes inputs and feeds the program with them, until the time or the inputs are used up, or
+    the user ends it."""
     limits = Limits(words.timeout, words.memory * MEBIBYTE, words.output * MEBIBYTE)
     program = Program(words.program or found_program(), str(FONTS), folder, limits)
     _check(program)
     texts, scripts = _at_hand()
     made, answers, number, begin = Counter[str](), Counter[str](), words.first, time.monotonic()
     try:
-        while time.monotonic() - begin < words.seconds and number - words.first != (words.inputs or -1):
+        while time.monotonic() - begin < words.seconds and number - words.first != (
+            words.inputs or -1
+        ):
             given = make(Random(f"{words.seed}:{number}"), texts, scripts)
             try:
                 # An answer is counted without its place.
@@ -104,7 +137,10 @@ def _fuzz(words: argparse.Namespace, folder: Path) -> int:
                 answer = WRONG
                 print(f"input {number} ({given.made}): {wrong}", flush=True)
                 if words.keep is not None:
-                    write_file(str(Path(words.keep) / f"{number}{'.vga' if given.is_text else '.bin'}"), given.data)
+                    write_file(
+                        str(Path(words.keep) / f"{number}{'.vga' if given.is_text else '.bin'}"),
+                        given.data,
+                    )
             made[given.made] += 1
             answers[answer] += 1
             number += 1
@@ -116,7 +152,9 @@ def _fuzz(words: argparse.Namespace, folder: Path) -> int:
 
 def _run(words: argparse.Namespace, _: Progress) -> int:
     if not os.path.isfile(words.program) or not os.access(words.program, os.X_OK):
-        raise Trouble("it is no program; (cd crates/vga && rt run -- --help) builds it", words.program)
+        raise Trouble(
+            "it is no program; (cd crates/vga && rt run -- --help) builds it", words.program
+        )
     if words.keep is not None:
         empty_folder(words.keep)
     with tempfile.TemporaryDirectory(prefix="vga-fuzz-") as folder:

@@ -1,4 +1,5 @@
-"""Feeds the program with one input, in each way that it takes one, within limits; and what is wrong with its end."""
+"""Feeds the program with one input, in each way that it takes one, within limits; and what is wrong
+with its end."""
 
 from __future__ import annotations
 
@@ -51,12 +52,15 @@ class Outcome(NamedTuple):
             return line[1]
         if self.status is None:
             raise Wrong("it has not ended in time")
-        ended = f"signal {-self.status} has ended it" if self.status < 0 else f"status {self.status}"
+        ended = (
+            f"signal {-self.status} has ended it" if self.status < 0 else f"status {self.status}"
+        )
         raise Wrong(f"{ended}, and it says {self.said[:100]!r}")
 
 
 def meant_by(read: Callable[[bytes], Script], data: bytes) -> tuple[str, Script]:
-    """What the program is to answer to bytes or a text that are read so, a fault or `done`; and the script that they are."""
+    """What the program is to answer to bytes or a text that are read so, a fault or `done`; and the
+    script that they are."""
     try:
         return DONE, read(data)
     except ScriptFault as fault:
@@ -67,14 +71,17 @@ def _check_report(report: bytes, script: Script, is_whole: bool) -> None:
     """A Wrong where some bytes are no report of a script, or not the whole lines of one's front."""
     meant = script.steps()
     try:
-        for answered in Report(io.BufferedReader(io.BytesIO(report)), "report").steps():  # type: ignore[arg-type]
+        read = io.BufferedReader(io.BytesIO(report))  # type: ignore[arg-type]
+        for answered in Report(read, "report").steps():
             if answered.number == 0:
                 raise Wrong("a fault stands on standard output")
             step = next(meant, None)
             if step is None:
                 raise Wrong(f"step {answered.number} is answered, and the script has none")
             if not is_answer_to(step, answered):
-                raise Wrong(f"step {answered.number}, {step.name}, answers {answered.answer[:60]!r}")
+                raise Wrong(
+                    f"step {answered.number}, {step.name}, answers {answered.answer[:60]!r}"
+                )
     except Trouble as trouble:
         raise Wrong(str(trouble)) from trouble
     if is_whole and next(meant, None):
@@ -82,7 +89,8 @@ def _check_report(report: bytes, script: Script, is_whole: bool) -> None:
 
 
 def check(outcome: Outcome, script: Optional[Script]) -> None:
-    """A Wrong where something is wrong with a run. What it writes is the report of a script, or has no form here."""
+    """A Wrong where something is wrong with a run. What it writes is the report of a script, or has
+    no form here."""
     answer = outcome.answer
     if answer == WRITE_FAULT:
         if not outcome.is_report_full:
@@ -96,7 +104,11 @@ def check(outcome: Outcome, script: Optional[Script]) -> None:
 def run(words: Sequence[str | Path], folder: Path, limits: Limits) -> Outcome:
     """Runs a program. A write past the limit of output fails, as one on a full disk does."""
     report, said = folder / "report", folder / "said"
-    most = {resource.RLIMIT_CORE: 0, resource.RLIMIT_AS: limits.memory, resource.RLIMIT_FSIZE: limits.output}
+    most = {
+        resource.RLIMIT_CORE: 0,
+        resource.RLIMIT_AS: limits.memory,
+        resource.RLIMIT_FSIZE: limits.output,
+    }
 
     def limit() -> None:
         for what, value in most.items():
@@ -104,7 +116,9 @@ def run(words: Sequence[str | Path], folder: Path, limits: Limits) -> Outcome:
 
     with open(report, "wb") as output, open(said, "wb") as errors:
         # Python ignores the signal of a file that has become too large, and the program shall too.
-        with started(words, stdout=output, stderr=errors, restore_signals=False, preexec_fn=limit) as process:
+        with started(
+            words, stdout=output, stderr=errors, restore_signals=False, preexec_fn=limit
+        ) as process:
             try:
                 status = process.wait(limits.seconds)
             except subprocess.TimeoutExpired:
@@ -127,7 +141,8 @@ class Program:
     def feed(self, given: Input) -> str:
         """The answer of an input's run, a Wrong if anything is wrong.
 
-        A text answers what its script does, and a script what its printed text does, which spells it again.
+        A text answers what its script does, and a script what its printed text does, which spells
+        it again.
         """
         file, first = self._file("input", given.data), "go" if given.is_text else "run"
         wanted, meant = meant_by(parse_text if given.is_text else decode, given.data)
@@ -168,7 +183,8 @@ class Program:
         return path
 
     def _done(self, command: str, *words: str | Path, script: Optional[Script] = None) -> Outcome:
-        """How a command ended, where nothing is wrong with it. What it writes is the report of a script, if one is given."""
+        """How a command ended, where nothing is wrong with it. What it writes is the report of a
+        script, if one is given."""
         outcome = run([self.path, command, *words], self._folder, self._limits)
         try:
             check(outcome, script)
@@ -178,7 +194,9 @@ class Program:
 
     def _ran(self, command: str, file: Path, wanted: str, meant: Script) -> Outcome:
         """How a script is run: twice, with the same answers, which are to end as it is wanted."""
-        once, again = (self._done(command, file, "--fonts", self._fonts, script=meant) for _ in range(2))
+        once, again = (
+            self._done(command, file, "--fonts", self._fonts, script=meant) for _ in range(2)
+        )
         _agree(command, once, f"{command} once more", again)
         if once.answer not in (wanted, WRITE_FAULT, OUT_OF_MEMORY):
             raise Wrong(f"vga {command} answers {once.answer}, and not {wanted}")
@@ -186,7 +204,8 @@ class Program:
 
 
 def _agree(first: str, one: Outcome, second: str, other: Outcome) -> None:
-    """Two runs of the same script answer the same. Want of memory or of room may stop one before the other."""
+    """Two runs of the same script answer the same. Want of memory or of room may stop one before
+    the other."""
     answers = one.answer, other.answer
     if {WRITE_FAULT, OUT_OF_MEMORY} & set(answers):
         return

@@ -7,8 +7,19 @@ from random import Random
 from typing import NamedTuple, Optional, Sequence
 
 from zaklimot.format import (
-    END, FIRST_LINE, FORMS, MOST_COUNT, PLANE_BYTES, REGISTERS, REPEAT, SHOWN, Block, Field, Script,
-    Step, encode,
+    END,
+    FIRST_LINE,
+    FORMS,
+    MOST_COUNT,
+    PLANE_BYTES,
+    REGISTERS,
+    REPEAT,
+    SHOWN,
+    Block,
+    Field,
+    Script,
+    Step,
+    encode,
 )
 
 # So many steps has a new script at most, and so many changes are made to one that is at hand.
@@ -19,22 +30,90 @@ MOST_BYTES = 1 << 16
 # Words and bytes that a text or a script may get in the place of others.
 HOSTILE_BYTES = (0x00, 0xFF, 0x0A, 0x0D, 0x20, 0x3B, 0x7F, 0x80, 0x09, 0x0C, 0x0E, 0x02)
 HOSTILE_WORDS = (
-    *(b"0", b"00", b"FF", b"100", b"FFFF", b"10000", b"FFFFFFFF", b"100000000", b"4294967296", b"99999999999999999999"),
-    *(b"ax=", b"=", b"block", b"frame", b"show", b"int", b"-1", b"0x3C4", b";", b"\r", b"\x00", b"version 2", b"repeat", b"repeat 2", b"end", b"65536"),
+    *(
+        b"0",
+        b"00",
+        b"FF",
+        b"100",
+        b"FFFF",
+        b"10000",
+        b"FFFFFFFF",
+        b"100000000",
+        b"4294967296",
+        b"99999999999999999999",
+    ),
+    *(
+        b"ax=",
+        b"=",
+        b"block",
+        b"frame",
+        b"show",
+        b"int",
+        b"-1",
+        b"0x3C4",
+        b";",
+        b"\r",
+        b"\x00",
+        b"version 2",
+        b"repeat",
+        b"repeat 2",
+        b"end",
+        b"65536",
+    ),
 )
 DUMPED = FORMS["show plane"].fields[-1]
 
 # The steps of ports and memory.
 CYCLES = [form for form in FORMS.values() if form.opcode < FORMS["int"].opcode]
-# How often a block that has steps is taken; and so many short steps mean more than a script may, taken as often as can be.
+# How often a block that has steps is taken; and so many short steps mean more than a script may,
+# taken as often as can be.
 COUNTS, TOO_MANY = (1, 2, 3, 7), 257
 
 BYTES = (0x00, 0xFF, 0x01, 0x80, 0x55, 0x20)
-PORTS = (0x3C0, 0x3C0, 0x3C2, 0x3C4, 0x3C5, 0x3C6, 0x3C7, 0x3C8, 0x3C9, 0x3CE, 0x3CF, 0x3D4, 0x3D5, 0x3DA, 0x3B4, 0x3BA)
+PORTS = (
+    0x3C0,
+    0x3C0,
+    0x3C2,
+    0x3C4,
+    0x3C5,
+    0x3C6,
+    0x3C7,
+    0x3C8,
+    0x3C9,
+    0x3CE,
+    0x3CF,
+    0x3D4,
+    0x3D5,
+    0x3DA,
+    0x3B4,
+    0x3BA,
+)
 # Ports whose word is an index and its data.
 PAIRS = (0x3C4, 0x3CE, 0x3D4, 0x3B4)
 ADDRESSES = (0x9FFFF, 0xA0000, 0xAFFFF, 0xB0000, 0xB7FFF, 0xB8000, 0xBFFFF, 0xC0000, 0xFFFFFFFF, 0)
-FUNCTIONS = (0, 0, 1, 2, 3, 5, 6, 7, 8, 9, 0x0A, 0x0C, 0x0D, 0x0E, 0x0F, 0x10, 0x10, 0x11, 0x12, 0x13, 0x1A)
+FUNCTIONS = (
+    0,
+    0,
+    1,
+    2,
+    3,
+    5,
+    6,
+    7,
+    8,
+    9,
+    0x0A,
+    0x0C,
+    0x0D,
+    0x0E,
+    0x0F,
+    0x10,
+    0x10,
+    0x11,
+    0x12,
+    0x13,
+    0x1A,
+)
 MODES = (0x03, 0x07, 0x0D, 0x10, 0x12, 0x13)
 PALETTE = (0x00, 0x01, 0x02, 0x03, 0x07, 0x08, 0x09, 0x10, 0x12, 0x15, 0x17, 0x18, 0x19)
 GLYPHS = (0x10, 0x11, 0x12, 0x14)
@@ -54,7 +133,8 @@ class Input(NamedTuple):
 
 
 def _change(random: Random, data: bytearray, is_text: bool) -> None:
-    """Changes one place: a bit, a byte, some bytes that come in, go or come once more, the end, or a word of a text."""
+    """Changes one place: a bit, a byte, some bytes that come in, go or come once more, the end, or
+    a word of a text."""
     at, kind = random.randrange(len(data)), random.randrange(8 if is_text else 6)
     part = slice(at, at + random.choice((1, 2, 3, 5, 11, 100, 1000)))
     behind = random.randint(0, len(data))
@@ -81,7 +161,7 @@ def _changed(random: Random, data: bytes, others: Sequence[bytes], is_text: bool
     result = bytearray(data)
     if random.random() < 0.2:
         other = random.choice(others)
-        result[random.randint(0, len(result)):] = other[random.randint(0, len(other)):]
+        result[random.randint(0, len(result)) :] = other[random.randint(0, len(other)) :]
     for _ in range(random.randint(1, MOST_CHANGES)):
         if result:
             _change(random, result, is_text)
@@ -135,13 +215,23 @@ def _field(random: Random, field: Field, is_word: bool) -> int:
     if field.name == "PORT":
         return _number(random, PAIRS if is_word else PORTS, 16)
     if field.name == "ADDRESS":
-        return random.randrange(0xA0000, 0xC0000) if random.random() < 0.6 else _number(random, ADDRESSES, 32)
-    return random.getrandbits(8) << 8 | random.randrange(0x20) if field.size == 2 else _number(random, BYTES, 8)
+        return (
+            random.randrange(0xA0000, 0xC0000)
+            if random.random() < 0.6
+            else _number(random, ADDRESSES, 32)
+        )
+    return (
+        random.getrandbits(8) << 8 | random.randrange(0x20)
+        if field.size == 2
+        else _number(random, BYTES, 8)
+    )
 
 
 def _call(random: Random) -> Step:
     function = random.choice(FUNCTIONS) if random.random() < 0.95 else random.getrandbits(8)
-    part = _number(random, {0: MODES, 0x10: PALETTE, 0x11: GLYPHS, 0x13: (0, 1, 2, 3)}.get(function, BYTES), 8)
+    part = _number(
+        random, {0: MODES, 0x10: PALETTE, 0x11: GLYPHS, 0x13: (0, 1, 2, 3)}.get(function, BYTES), 8
+    )
     bx, dx = (random.getrandbits(16) & random.choice((0x0F0F, 0x7FF, 0xFFFF)) for _ in range(2))
     cx = random.choice((0, 1, random.randrange(12), random.randrange(2000), random.getrandbits(16)))
     if function == 0x11:
@@ -151,20 +241,31 @@ def _call(random: Random) -> Step:
     takes_block = function in (0x10, 0x11, 0x13)
     length = needed if takes_block and needed <= 4096 else random.randrange(MOST_BLOCK)
     has_block = random.random() < (0.95 if takes_block else 0.05)
-    return Step("int", (function << 8 | part, bx, cx, dx), random.randbytes(length) if has_block else b"")
+    return Step(
+        "int", (function << 8 | part, bx, cx, dx), random.randbytes(length) if has_block else b""
+    )
 
 
 def _dump(random: Random) -> Step:
     form = random.choice(list(SHOWN.values()))
     if DUMPED in form.fields:
         offset = random.getrandbits(16)
-        return Step(form.name, (random.randrange(4), offset, random.randint(1, min(DUMPED.most, PLANE_BYTES - offset))))
+        return Step(
+            form.name,
+            (
+                random.randrange(4),
+                offset,
+                random.randint(1, min(DUMPED.most, PLANE_BYTES - offset)),
+            ),
+        )
     return Step(form.name, tuple(random.randint(field.least, field.most) for field in form.fields))
 
 
 def _cycle(random: Random) -> Step:
     form = random.choice(CYCLES)
-    return Step(form.name, tuple(_field(random, field, form.name.endswith("w")) for field in form.fields))
+    return Step(
+        form.name, tuple(_field(random, field, form.name.endswith("w")) for field in form.fields)
+    )
 
 
 def step(random: Random) -> Step:
@@ -189,7 +290,8 @@ def block(random: Random) -> Block:
 
 
 def spelled(given: Step, random: Optional[Random] = None) -> str:
-    """A step as a line with as few digits as will do, where `vga dis` prints all; letters are of either case."""
+    """A step as a line with as few digits as will do, where `vga dis` prints all; letters are of
+    either case."""
     texts = [field.shown(number) for field, number in zip(given.form.fields, given.numbers)]
     if given.form.has_block:
         texts = [f"{name}={text}" for name, text in zip(REGISTERS, texts)]

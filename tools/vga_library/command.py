@@ -17,7 +17,18 @@ from vga_page.making import made_for_c
 
 from .one_file import TRANSLATORS, one_file, written_by_wasm2c
 from .making import (
-    ARCHIVE, BACKENDS, MOVING, TARGETS, X86_64, Place, Target, built_archive, keep, kept, make_library, memory_part,
+    ARCHIVE,
+    BACKENDS,
+    MOVING,
+    TARGETS,
+    X86_64,
+    Place,
+    Target,
+    built_archive,
+    keep,
+    kept,
+    make_library,
+    memory_part,
 )
 
 # Where files go that a package names no other place for.
@@ -32,31 +43,59 @@ def check_given(*paths: Optional[str]) -> None:
 
 
 def _add_archive(parser: argparse.ArgumentParser) -> None:
-    add(parser, "--target", "the processor, with Linux (default: x86_64)", choices=[*TARGETS], default=X86_64.name)
+    add(
+        parser,
+        "--target",
+        "the processor, with Linux (default: x86_64)",
+        choices=[*TARGETS],
+        default=X86_64.name,
+    )
     told = "the compiler: llvm, or rattle, which is written in Rattle (default: llvm)"
     add(parser, "--backend", told, choices=BACKENDS, default=BACKENDS[0])
-    told = f"takes this archive of the crate, as {ARCHIVE.name} (default: `rt lib` proves and builds it)"
+    told = (
+        f"takes this archive of the crate, as {ARCHIVE.name} (default: `rt lib` proves and"
+        " builds it)"
+    )
     add(parser, "--archive FILE", told, type=to_read)
 
 
 def _parser() -> argparse.ArgumentParser:
-    parser = cli.tool_parser("vga-library", "Makes the library for C.", "tools/vga-library make kit", "docs/LIBRARY.md")
+    parser = cli.tool_parser(
+        "vga-library", "Makes the library for C.", "tools/vga-library make kit", "docs/LIBRARY.md"
+    )
     commands = parser.add_subparsers(required=True, metavar="COMMAND")
     made = cli.command(commands, "make", _make, "makes it in a folder, which you may move")
     add(made, "FOLDER", "gets include/, lib/ and lib/pkgconfig/")
     _add_archive(made)
     made = cli.command(
-        commands, "install", _install, "installs it below a prefix, as packagers do; takes what `make` has made",
+        commands,
+        "install",
+        _install,
+        "installs it below a prefix, as packagers do; takes what `make` has made",
         epilog="PREFIX and DESTDIR of the environment are the defaults of --prefix and --destdir.",
     )
     add(made, "--prefix FOLDER", f"the prefix (default: {USUAL_PREFIX})")
-    add(made, "--destdir FOLDER", "stands before the prefix while files are installed (default: nothing)")
-    add(made, "--libdir NAME", "the folder of libraries below the prefix (default: lib)", default="lib")
+    add(
+        made,
+        "--destdir FOLDER",
+        "stands before the prefix while files are installed (default: nothing)",
+    )
+    add(
+        made,
+        "--libdir NAME",
+        "the folder of libraries below the prefix (default: lib)",
+        default="lib",
+    )
     _add_archive(made)
     made = cli.command(
-        commands, "one-file", _one_file, "makes it as one C file, portable/zaklimot.c in the repository",
-        description="Makes the library as one C file, which any C compiler takes. "
-        "It is made of the proved crate, by programs that no proof covers.",
+        commands,
+        "one-file",
+        _one_file,
+        "makes it as one C file, portable/zaklimot.c in the repository",
+        description=(
+            "Makes the library as one C file, which any C compiler takes. "
+            "It is made of the proved crate, by programs that no proof covers."
+        ),
     )
     add(made, "FILE", "the C file")
     cli.add_proof(made, usually=" (default: `rt check` proves)")
@@ -66,7 +105,8 @@ def _parser() -> argparse.ArgumentParser:
 def _parts(
     words: argparse.Namespace, target: Target, takes_made: bool, progress: Progress, folder: Path
 ) -> tuple[Path, Path]:
-    """The crate's archive, given, or made before of the same sources, or proved and built now; its memory's part."""
+    """The crate's archive, given, or made before of the same sources, or proved and built now; its
+    memory's part."""
     if words.archive is not None:
         return Path(words.archive), memory_part(target, folder)
     found = kept(words.backend, target) if takes_made else None
@@ -78,7 +118,13 @@ def _parts(
     return keep(words.backend, target, *parts)
 
 
-def _lay(words: argparse.Namespace, place: Place, prefix: str, progress: Progress, takes_made: bool = False) -> None:
+def _lay(
+    words: argparse.Namespace,
+    place: Place,
+    prefix: str,
+    progress: Progress,
+    takes_made: bool = False,
+) -> None:
     # What is wrong with words, programs and folders is told before the long work.
     check_given(words.archive)
     target = TARGETS[words.target]
@@ -89,7 +135,9 @@ def _lay(words: argparse.Namespace, place: Place, prefix: str, progress: Progres
     for name in ("include", place.library_folder, "share"):
         check_folder(place.folder(name))
     with tempfile.TemporaryDirectory(prefix="vga-library-") as folder:
-        for path in make_library(*_parts(words, target, takes_made, progress, Path(folder)), place, prefix, target):
+        for path in make_library(
+            *_parts(words, target, takes_made, progress, Path(folder)), place, prefix, target
+        ):
             print(path)
 
 

@@ -1,4 +1,5 @@
-"""Makes the library's files, of the crate's archive for a processor and the functions that take its memory, and lays them."""
+"""Makes the library's files, of the crate's archive for a processor and the functions that take its
+memory, and lays them."""
 
 from __future__ import annotations
 
@@ -20,7 +21,10 @@ from zaklimot._file import PROVED
 CRATE = TOP / "crates" / "vga_c"
 ARCHIVE = CRATE / "out" / "libvga_c.a"
 # A build that was stopped takes a library away, and what `rt ci` has kept hides that it is lacking.
-AGAIN = ". If rt ci has passed, a build was stopped since: remove the folders crates/*/out, and run it again"
+AGAIN = (
+    ". If rt ci has passed, a build was stopped since: remove the folders crates/*/out, and run it"
+    " again"
+)
 # What every crate stands on, unnamed.
 ALWAYS = "std"
 # The memory's functions for processors for which the kit has none.
@@ -50,9 +54,11 @@ CRATES, MEMORY, MADE_OF = "crates.a", "memory.a", "made-of"
 
 
 class Target(NamedTuple):
-    """A processor with Linux: its name, Rattle's name of it, and the compilers of Rattle that a kit has for it.
+    """A processor with Linux: its name, Rattle's name of it, and the compilers of Rattle that a kit
+    has for it.
 
-    `prefix` begins the names of the programs that make files for it; it is empty where they are the machine's own.
+    `prefix` begins the names of the programs that make files for it; it is empty where they are the
+    machine's own.
     """
 
     name: str
@@ -111,37 +117,58 @@ def _libraries(kit: Path) -> list[str | Path]:
 
 
 def proving_words(kit: Path, kept: str | Path) -> list[str | Path]:
-    """What the compiler is told where it proves the crate, over what a folder keeps of its proof."""
+    """What the compiler is told where it proves the crate, over what a folder keeps of its
+    proof."""
     jobs = min(4, os.cpu_count() or 1)
     words = ["--crate-name", CRATE.name, "src/lib.rt", *_libraries(kit)]
     words += ["--antt-project", kit / "rattle" / "logic" / "antt-project.json"]
     words += ["--links", f"{CRATE.name}=", "--crate-type", "staticlib"]
-    return [*words, "--logic-built", kit / "logic_built", "--jobs", str(jobs), "--incremental", kept]
+    return [
+        *words,
+        "--logic-built",
+        kit / "logic_built",
+        "--jobs",
+        str(jobs),
+        "--incremental",
+        kept,
+    ]
 
 
 def gated_archive(backend: str, kept: Path, made: Path, target: Target = X86_64) -> Path:
-    """Proves the crate, keeps its proof in a folder, and builds the archive for a processor by one of the compilers.
+    """Proves the crate, keeps its proof in a folder, and builds the archive for a processor by one
+    of the compilers.
 
     Where the folder has the proof already, it is not made again.
     """
     kit = kit_folder()
-    words = [*proving_words(kit, kept.absolute()), "--toolchain", kit / "toolchain", "--backend", backend]
+    words = [
+        *proving_words(kit, kept.absolute()),
+        "--toolchain",
+        kit / "toolchain",
+        "--backend",
+        backend,
+    ]
     run([kit / "bin" / "rattle", "build", *words, "--target", target.triple, "-o", made], CRATE)
     return made
 
 
 def built_archive(backend: str, target: Target, heard: Optional[Hearer] = None) -> Path:
-    """The crate's archive for a processor, proved and built. What is kept of its proof makes it quick."""
+    """The crate's archive for a processor, proved and built. What is kept of its proof makes it
+    quick."""
     if target == X86_64:
-        run(["rt", "lib", *([] if backend == BACKENDS[0] else ["--backend", backend])], CRATE, heard)
+        run(
+            ["rt", "lib", *([] if backend == BACKENDS[0] else ["--backend", backend])], CRATE, heard
+        )
         return ARCHIVE
-    # `rt lib` builds for the kit's own processor alone. The compiler proves the crate for the other one too.
+    # `rt lib` builds for the kit's own processor alone. The compiler proves the crate for the other
+    # one too.
     run(["rt", "check"], CRATE, heard)
     return gated_archive(backend, KEPT, CRATE / "out" / f"lib{CRATE.name}-{target.name}.a", target)
 
 
 def memory_part(target: Target, folder: Path) -> Path:
-    """The functions that the crate takes its memory by: the kit's, or a file that is made in the folder."""
+    """The functions that the crate takes its memory by: the kit's, or a file that is made in the
+    folder."""
     if target == X86_64:
         return kit_folder() / "c" / "liblibc_c.a"
     made = folder / "heap.o"
@@ -168,35 +195,62 @@ def described(
 ) -> dict[str, str]:
     """What `pkg-config` and CMake read, by the names of the files below the folder of libraries.
 
-    CMake finds the library from its files' own place, wherever that is, and so does `pkg-config` where it is MOVING.
-    The packages for Python and Rust find the library's kind there.
+    CMake finds the library from its files' own place, wherever that is, and so does `pkg-config`
+    where it is MOVING. The packages for Python and Rust find the library's kind there.
     """
     cmake, version_words = f"cmake/{CMAKE_NAME}", {"VERSION": str(told), "MAJOR": str(told.major)}
-    upwards, moving = ("/".join([".."] * len(Path(library_folder, name).parts)) for name in (cmake, "pkgconfig"))
+    upwards, moving = (
+        "/".join([".."] * len(Path(library_folder, name).parts)) for name in (cmake, "pkgconfig")
+    )
     prefix = prefix or "${pcfiledir}/" + moving
     return {
-        f"pkgconfig/{NAME}.pc":
-            filled(
-                PACKAGE, PREFIX=prefix, LIBRARY_FOLDER=library_folder, VERSION=str(told), KIND=kind
-            ),
-        f"{cmake}/{CMAKE_NAME}Config.cmake":
-            filled(CMAKE / "config.cmake.in", UPWARDS=upwards, LIBRARY_FOLDER=library_folder, **version_words),
-        f"{cmake}/{CMAKE_NAME}ConfigVersion.cmake": filled(CMAKE / "version.cmake.in", **version_words),
+        f"pkgconfig/{NAME}.pc": filled(
+            PACKAGE, PREFIX=prefix, LIBRARY_FOLDER=library_folder, VERSION=str(told), KIND=kind
+        ),
+        f"{cmake}/{CMAKE_NAME}Config.cmake": filled(
+            CMAKE / "config.cmake.in",
+            UPWARDS=upwards,
+            LIBRARY_FOLDER=library_folder,
+            **version_words,
+        ),
+        f"{cmake}/{CMAKE_NAME}ConfigVersion.cmake": filled(
+            CMAKE / "version.cmake.in", **version_words
+        ),
     }
 
 
 def joined_object(archive: Path, memory: Path, folder: Path, target: Target) -> Path:
-    """One object of the crate's archive and of the functions that take its memory, of which the names of the header alone are seen."""
+    """One object of the crate's archive and of the functions that take its memory, of which the
+    names of the header alone are seen."""
     made = folder / f"{NAME}.o"
-    run([target.tool("ld"), "-r", "-z", "noexecstack", "-o", made, "--whole-archive", archive, memory])
+    run(
+        [
+            target.tool("ld"),
+            "-r",
+            "-z",
+            "noexecstack",
+            "-o",
+            made,
+            "--whole-archive",
+            archive,
+            memory,
+        ]
+    )
     run([target.tool("objcopy"), "--wildcard", f"--keep-global-symbol={SEEN}", made])
     return made
 
 
 def make_shared(whole: Path, folder: Path, told: Version, target: Target) -> None:
-    """The shared library under its version, with the names by which programs and linkers look for it."""
+    """The shared library under its version, with the names by which programs and linkers look for
+    it."""
     soname, file = f"lib{NAME}.so.{told.major}", f"lib{NAME}.so.{told}"
-    options = ["-shared", f"-Wl,-soname,{soname}", "-Wl,-z,noexecstack", "-Wl,-z,defs", "-Wl,--build-id=none"]
+    options = [
+        "-shared",
+        f"-Wl,-soname,{soname}",
+        "-Wl,-z,noexecstack",
+        "-Wl,-z,defs",
+        "-Wl,--build-id=none",
+    ]
     # Names are looked for once, when a program starts; what holds their places is only read then.
     options += ["-Wl,-z,relro", "-Wl,-z,now"]
     run([target.compiler(), *options, "-o", folder / file, whole])
@@ -206,13 +260,18 @@ def make_shared(whole: Path, folder: Path, told: Version, target: Target) -> Non
 
 
 def make_library(
-    archive: Path, memory: Path, place: Place, prefix: str, target: Target = X86_64,
+    archive: Path,
+    memory: Path,
+    place: Place,
+    prefix: str,
+    target: Target = X86_64,
     kind: str = PROVED,
 ) -> list[Path]:
     """Lays headers, libraries, fonts, and what `pkg-config` and CMake read. Answers what was laid.
 
-    The archive and the functions that take its memory are for this processor. The file for `pkg-config`
-    names this prefix, or one that goes with the folder where it is MOVING, and the library's kind.
+    The archive and the functions that take its memory are for this processor. The file for
+    `pkg-config` names this prefix, or one that goes with the folder where it is MOVING, and the
+    library's kind.
     """
     told = version()
     include, libraries = place.folder("include"), place.folder(place.library_folder)
@@ -229,7 +288,8 @@ def make_library(
         for path, text in texts.items():
             (Path(name) / path.name).write_text(text, "ascii")
         laid = {
-            include / HEADER.name: HEADER, include / CPP_HEADER.name: CPP_HEADER,
+            include / HEADER.name: HEADER,
+            include / CPP_HEADER.name: CPP_HEADER,
             **{libraries / path.name: path for path in sorted(made.iterdir())},
             **{path: Path(name) / path.name for path in texts},
             share / FONTS.name: FONTS,
@@ -250,14 +310,20 @@ def _sources() -> Iterator[Path]:
     for name in [*below(CRATE.name), CRATE.name]:
         for entry in sorted((TOP / "crates" / name).iterdir()):
             if entry.name != "out":
-                yield from sorted(path for path in (entry.rglob("*") if entry.is_dir() else [entry]) if path.is_file())
+                yield from sorted(
+                    path
+                    for path in (entry.rglob("*") if entry.is_dir() else [entry])
+                    if path.is_file()
+                )
 
 
 def made_of(backend: str, target: Target, parts: Iterable[Path]) -> str:
     """A line for the compiler, and for each source and part, with its digest."""
     named = {path: str(path.relative_to(TOP)) for path in _sources()}
     named.update({path: path.name for path in (*(() if target == X86_64 else (HEAP,)), *parts)})
-    lines = (f"{hashlib.sha256(path.read_bytes()).hexdigest()} {name}\n" for path, name in named.items())
+    lines = (
+        f"{hashlib.sha256(path.read_bytes()).hexdigest()} {name}\n" for path, name in named.items()
+    )
     return f"backend {backend}\n" + "".join(lines)
 
 
@@ -281,6 +347,10 @@ def kept(backend: str, target: Target) -> Optional[tuple[Path, Path]]:
     """Both parts, where they were made by this compiler of these sources; else None."""
     parts = _parts(target)
     try:
-        return parts if parts[0].with_name(MADE_OF).read_text("utf-8") == made_of(backend, target, parts) else None
+        return (
+            parts
+            if parts[0].with_name(MADE_OF).read_text("utf-8") == made_of(backend, target, parts)
+            else None
+        )
     except FileNotFoundError:
         return None

@@ -1,4 +1,5 @@
-"""Makes the adapter as one C file: of the page's module, by wasm2c, between two parts written by hand.
+"""Makes the adapter as one C file: of the page's module, by wasm2c, between two parts written by
+hand.
 
 What wasm2c writes is read strictly: each function is made of statements that are known here, and
 anything else ends the work. Of its frame of macros nothing is kept; c/memory.c has the few
@@ -34,15 +35,18 @@ NAMED = "what wasm2c wrote"
 PROTOTYPE = re.compile(rf"^static (\w+) (w2c_\w+)\({INSTANCE}\*(.*)\);$", re.M)
 GLOBAL = re.compile(r"^  instance->(w2c_g\d+) = (\d+)(u|ull);$", re.M)
 HEAP = re.compile(r"^  instance->w2c___heap_base = (\d+)ull;$", re.M)
-PAGES = re.compile(
-    r"^  wasm_rt_allocate_memory\(&instance->w2c_memory, (\d+), 65536\);$", re.M
+PAGES = re.compile(r"^  wasm_rt_allocate_memory\(&instance->w2c_memory, (\d+), 65536\);$", re.M)
+DATA = re.compile(
+    r"^static const u8 data_segment_data_(w2c_d\d+)\[\] = \{\n(.*?)^\};$", re.M | re.S
 )
-DATA = re.compile(r"^static const u8 data_segment_data_(w2c_d\d+)\[\] = \{\n(.*?)^\};$", re.M | re.S)
 LOADED = re.compile(
     r"^  LOAD_DATA\(instance->w2c_memory, (\d+)u, data_segment_data_(w2c_d\d+), (\d+)\);$", re.M
 )
 FUNCTION = re.compile(
-    rf"^static (\w+) (w2c_\w+)\({INSTANCE}\* instance((?:, \w+ \w+|,\s+\w+ \w+)*)\) \{{\n(.*?)^\}}$",
+    (
+        rf"^static (\w+) (w2c_\w+)\({INSTANCE}\* instance((?:, \w+ \w+|,\s+\w+ \w+)*)\)"
+        r" \{\n(.*?)^\}$"
+    ),
     re.M | re.S,
 )
 FIRST_FUNCTION = re.compile(rf"^static \w+ w2c_\w+\({INSTANCE}\* instance", re.M)
@@ -50,13 +54,17 @@ END = "\n/* export: "
 # What is written otherwise, in this order.
 REPLACED = (
     (re.compile(r"&instance->w2c_memory, &instance->w2c_memory, "), ""),
-    (re.compile(r"wasm_rt_grow_memory\(&instance->w2c_memory, (\w+)\);"), r"memory_grow(self, \1);"),
+    (
+        re.compile(r"wasm_rt_grow_memory\(&instance->w2c_memory, (\w+)\);"),
+        r"memory_grow(self, \1);",
+    ),
     (re.compile(r"&instance->w2c_memory, "), ""),
     (re.compile(r"instance->w2c_memory\.pages"), "self->pages"),
     (re.compile(r"^  FUNC_EPILOGUE;\n", re.M), ""),
     (re.compile(r"\binstance\b"), "self"),
 )
-# How a function ends that meets a trap. One that answers a number of 32 bits may be a call, which answers its status.
+# How a function ends that meets a trap. One that answers a number of 32 bits may be a call, which
+# answers its status.
 LEAVES = {"void": "return;", "u32": "return ZAK_BROKEN;", "u64": "return 0;"}
 GROWS, TRAPS = "memory_grow(self", "UNREACHABLE;"
 # A division, which traps where its divisor is 0.
@@ -80,7 +88,8 @@ SHOWN = re.compile(r"\bw2c_((?:zak|page)_\w+)")
 
 
 class Function(NamedTuple):
-    """A function that wasm2c wrote: what it answers, its name, its parameters and its statements."""
+    """A function that wasm2c wrote: what it answers, its name, its parameters and its
+    statements."""
 
     answer: str
     name: str
@@ -92,7 +101,7 @@ def _functions(text: str) -> list[Function]:
     first = FIRST_FUNCTION.search(text)
     if first is None or END not in text:
         raise Trouble("it has no functions", NAMED)
-    part = text[first.start():text.index(END)]
+    part = text[first.start() : text.index(END)]
     found = [Function(*match.groups()) for match in FUNCTION.finditer(part)]
     rest = FUNCTION.sub("", part).strip()
     if rest:
@@ -134,7 +143,8 @@ WIDE = {"copy": (0, 1, 2), "fill": (0, 2)}
 
 
 class Places:
-    """Gives each access its address in full: a module's lowering to 32 bits takes the low half of it."""
+    """Gives each access its address in full: a module's lowering to 32 bits takes the low half of
+    it."""
 
     def __init__(self) -> None:
         self._whole: dict[str, str] = {}
@@ -166,9 +176,11 @@ class Places:
 
 
 class Writer:
-    """Writes functions, each with m as its memory, anew where that may have moved, and with its traps.
+    """Writes functions, each with m as its memory, anew where that may have moved, and with its
+    traps.
 
-    A trap ends the function, and those that have called it, since each looks for one behind the call.
+    A trap ends the function, and those that have called it, since each looks for one behind the
+    call.
     """
 
     def __init__(self, bodies: dict[str, str]) -> None:
@@ -192,9 +204,7 @@ class Writer:
         begin = "  u8 *m = self->memory;\n" if has_memory else ""
         body = body.replace("  FUNC_PROLOGUE;\n", begin, 1)
         places = Places()
-        lines = (
-            self._line(places.line(line), has_memory, leave) for line in body.splitlines()
-        )
+        lines = (self._line(places.line(line), has_memory, leave) for line in body.splitlines())
         head = f"static {function.answer} {function.name}(module *self{function.parameters})"
         return _short("\n".join((f"\n{head} {{", *lines, "}\n")))
 
@@ -218,7 +228,9 @@ def _start(text: str) -> Iterator[str]:
     data = dict(DATA.findall(text))
     for name, numbers in data.items():
         # Trailing blanks go.
-        yield f"static const u8 {_short(name)}[] = {{\n{re.sub(' +$', '', numbers, flags=re.M)}}};\n"
+        yield (
+            f"static const u8 {_short(name)}[] = {{\n{re.sub(' +$', '', numbers, flags=re.M)}}};\n"
+        )
     yield "\nstatic void start(module *self)\n{\n"
     for place, name, length in LOADED.findall(text):
         yield f"    memcpy(self->memory + {place}u, {_short(name)}, {length});\n"
@@ -231,7 +243,12 @@ def _constants(text: str) -> str:
     globals_of = GLOBAL.findall(text)
     pages, heap = PAGES.findall(text), HEAP.findall(text)
     loaded = {name for _, name, _ in LOADED.findall(text)}
-    if not globals_of or len(pages) != 1 or len(heap) != 1 or loaded != {name for name, _ in DATA.findall(text)}:
+    if (
+        not globals_of
+        or len(pages) != 1
+        or len(heap) != 1
+        or loaded != {name for name, _ in DATA.findall(text)}
+    ):
         raise Trouble("its memory, globals or data are not as they are known", NAMED)
     kinds = {"u": "u32", "ull": "u64"}
     fields = " ".join(f"{kinds[kind]} {_short(name)};" for name, _, kind in globals_of)
@@ -242,8 +259,15 @@ def _constants(text: str) -> str:
 
 
 # Warnings that tell nothing of what a program has written.
-QUIET = ("unused-variable", "unused-label", "unused-but-set-variable", "unused-function",
-         "unused-parameter", "conversion", "sign-conversion")
+QUIET = (
+    "unused-variable",
+    "unused-label",
+    "unused-but-set-variable",
+    "unused-function",
+    "unused-parameter",
+    "conversion",
+    "sign-conversion",
+)
 
 
 def _quiet(code: str) -> str:
@@ -260,7 +284,11 @@ def number_of(program: str) -> str:
 def one_file(text: str) -> str:
     """The C file, of what wasm2c has written of the module."""
     parts = [
-        filled(HEAD, LOWERING=f"{WASM_OPT} {number_of(WASM_OPT)}", TRANSLATOR=f"{WASM2C} {number_of(WASM2C)}"),
+        filled(
+            HEAD,
+            LOWERING=f"{WASM_OPT} {number_of(WASM_OPT)}",
+            TRANSLATOR=f"{WASM2C} {number_of(WASM2C)}",
+        ),
         _constants(text),
         MEMORY.read_text("ascii"),
         _quiet("".join(_written(text))),
@@ -269,7 +297,9 @@ def one_file(text: str) -> str:
     ]
     whole = "\n".join(parts)
     if len(whole) > MOST_BYTES:
-        raise Trouble(f"it would have {len(whole):,} bytes, and {MOST_BYTES:,} are the most", "the C file")
+        raise Trouble(
+            f"it would have {len(whole):,} bytes, and {MOST_BYTES:,} are the most", "the C file"
+        )
     return whole
 
 

@@ -1,4 +1,5 @@
-"""Refuses allocations to the calls of `vga_tests` and to the program `vga`, and tells how many were refused."""
+"""Refuses allocations to the calls of `vga_tests` and to the program `vga`, and tells how many were
+refused."""
 
 import argparse
 import re
@@ -17,7 +18,11 @@ CRATES = TOP / "crates"
 TABLE = CRATES / "vga_suite" / "data" / "examples" / "palette-and-dac-services"
 PATH_TEXT, PATH_SCRIPT = (TOP / "examples" / name for name in ("first-path.vga", "first-path.bin"))
 # The files that the program finds, by the names that its words have for them.
-FILES = {"table.vga": TABLE.with_suffix(".vga"), "path.vga": PATH_TEXT, "z.fnt": TOP / "fonts" / "zaklimot.fnt"}
+FILES = {
+    "table.vga": TABLE.with_suffix(".vga"),
+    "path.vga": PATH_TEXT,
+    "z.fnt": TOP / "fonts" / "zaklimot.fnt",
+}
 # The number of the allocation that is refused, above those that a run has by itself.
 ALLOCATION = 110
 REFUSED_WORD = (
@@ -27,8 +32,17 @@ REFUSED_WORD = (
 # What `rt try` puts behind an output whose last line has no end.
 ENDING = b"\n"
 CALLS = (
-    "Bytes::copy", "Bytes::zeros", "Planes::new", "Card::new", "Fonts::from_bytes", "Screen::read",
-    "decode", "encode", "assemble", "print", "run",
+    "Bytes::copy",
+    "Bytes::zeros",
+    "Planes::new",
+    "Card::new",
+    "Fonts::from_bytes",
+    "Screen::read",
+    "decode",
+    "encode",
+    "assemble",
+    "print",
+    "run",
 )
 RIGHT, FAULT = ": as in its example", "vga: F10 OutOfMemory\n"
 # What stands before the output of a case, and what behind what it said.
@@ -63,12 +77,14 @@ class Answer(NamedTuple):
     said: str
 
 
-# What is answered before the first call, where an allocation of the words is refused, or one that is made first.
+# What is answered before the first call, where an allocation of the words is refused, or one that
+# is made first.
 BEFORE_CALLS = Answer(1, b"", "Error: memory allocation failed\n")
 
 
 class Job(NamedTuple):
-    """A job of the program: its words, how many allocations its first run makes before it, and what it answers."""
+    """A job of the program: its words, how many allocations its first run makes before it, and what
+    it answers."""
 
     words: Sequence[str]
     first: int
@@ -80,32 +96,59 @@ def jobs() -> dict[str, Job]:
     report, go = TABLE.with_suffix(".txt").read_bytes(), ["go", "table.vga", "--fonts", "z.fnt"]
     return {
         "go": Job(go, 17, Answer(0, report, "")),
-        "asm": Job(["asm", "path.vga", "/dev/stdout"], 33, Answer(0, PATH_SCRIPT.read_bytes() + ENDING, "")),
+        "asm": Job(
+            ["asm", "path.vga", "/dev/stdout"], 33, Answer(0, PATH_SCRIPT.read_bytes() + ENDING, "")
+        ),
         "words that are refused": Job([*go, "x"], 34, Answer(2, b"", REFUSED_WORD)),
     }
 
 
-# How the runs of the calls and of each job end, so many alike one after the other. With each run the allocation that is
-# refused stands earlier: none at first, in the end those of the words. One of these may be done without, since words are
-# collected with room for all of them at once, or else with less.
+# How the runs of the calls and of each job end, so many alike one after the other. With each run
+# the allocation that is refused stands earlier: none at first, in the end those of the words. One
+# of these may be done without, since words are collected with room for all of them at once, or else
+# with less.
 ENDINGS: dict[str, list[tuple[str, int]]] = {
     "the calls": [
-        ("each as in its example", 22), ("run: out of memory in a step", 2), ("run: out of memory", 21),
-        ("print: out of memory", 3), ("assemble: out of memory", 3), ("encode: out of memory", 2),
-        ("decode: out of memory", 1), ("Screen::read: out of memory", 34), ("Fonts::from_bytes: out of memory", 8),
-        ("Card::new: out of memory", 3), ("Planes::new: out of memory", 1), ("Bytes::zeros: out of memory", 2),
-        ("Bytes::copy: out of memory", 2), ("before the calls", 6),
+        ("each as in its example", 22),
+        ("run: out of memory in a step", 2),
+        ("run: out of memory", 21),
+        ("print: out of memory", 3),
+        ("assemble: out of memory", 3),
+        ("encode: out of memory", 2),
+        ("decode: out of memory", 1),
+        ("Screen::read: out of memory", 34),
+        ("Fonts::from_bytes: out of memory", 8),
+        ("Card::new: out of memory", 3),
+        ("Planes::new: out of memory", 1),
+        ("Bytes::zeros: out of memory", 2),
+        ("Bytes::copy: out of memory", 2),
+        ("before the calls", 6),
     ],
     "go": [
-        ("done", 1), ("refused behind 6 lines", 2), ("refused behind 0 lines", 81), ("done", 1), ("refused behind 0 lines", 8),
+        ("done", 1),
+        ("refused behind 6 lines", 2),
+        ("refused behind 0 lines", 81),
+        ("done", 1),
+        ("refused behind 0 lines", 8),
     ],
-    "asm": [("done", 4), ("refused behind 0 lines", 66), ("done", 1), ("refused behind 0 lines", 6)],
-    "words that are refused": [("done", 2), ("refused behind 0 lines", 64), ("done", 1), ("refused behind 0 lines", 9)],
+    "asm": [
+        ("done", 4),
+        ("refused behind 0 lines", 66),
+        ("done", 1),
+        ("refused behind 0 lines", 6),
+    ],
+    "words that are refused": [
+        ("done", 2),
+        ("refused behind 0 lines", 64),
+        ("done", 1),
+        ("refused behind 0 lines", 9),
+    ],
 }
 
 
 def calls_ending(answer: Answer) -> str:
-    """How the calls end: the line of the one that does not answer as in its example, if there is one."""
+    """How the calls end: the line of the one that does not answer as in its example, if there is
+    one."""
     lines = answer.written.decode("utf-8", "replace").splitlines()
     if answer == BEFORE_CALLS:
         return "before the calls"
@@ -115,12 +158,17 @@ def calls_ending(answer: Answer) -> str:
 
 
 def job_ending(job: Job, answer: Answer) -> str:
-    """How a job ends: done, or with an allocation failure behind so many whole lines of what it writes."""
+    """How a job ends: done, or with an allocation failure behind so many whole lines of what it
+    writes."""
     lines = answer.written.splitlines(keepends=True)
-    is_front = lines == job.whole.written.splitlines(keepends=True)[:len(lines)]
+    is_front = lines == job.whole.written.splitlines(keepends=True)[: len(lines)]
     if answer == job.whole:
         return "done"
-    return f"refused behind {len(lines)} lines" if is_front and (answer.status, answer.said) == (1, FAULT) else repr(answer)
+    return (
+        f"refused behind {len(lines)} lines"
+        if is_front and (answer.status, answer.said) == (1, FAULT)
+        else repr(answer)
+    )
 
 
 def judge(name: str, endings: Iterable[str]) -> None:
@@ -128,7 +176,9 @@ def judge(name: str, endings: Iterable[str]) -> None:
     found = [(ending, len(list(alike))) for ending, alike in groupby(endings)]
     told = f"{name}: " + ", ".join(f"{count} {ending}" for ending, count in found)
     if found != ENDINGS[name]:
-        raise Wrong(f"{told}\nand not {', '.join(f'{count} {ending}' for ending, count in ENDINGS[name])}")
+        raise Wrong(
+            f"{told}\nand not {', '.join(f'{count} {ending}' for ending, count in ENDINGS[name])}"
+        )
     print(told, flush=True)
 
 
@@ -156,7 +206,9 @@ def try_cases(crate: Path, cases: Sequence[Case]) -> list[Answer]:
             Path(name, f"{number:04}").write_text(given)
             Path(name, f"{number:04}.args").write_text("".join(f"{word}\n" for word in words))
         files = [word for file, path in FILES.items() for word in ("--data", f"{file}={path}")]
-        done = captured(["rt", "try", "--fail-alloc", str(ALLOCATION), *files, "--cases", name, "--"], crate)
+        done = captured(
+            ["rt", "try", "--fail-alloc", str(ALLOCATION), *files, "--cases", name, "--"], crate
+        )
     said = done.errors.decode("utf-8", "replace")
     answers = answers_of(done.output, said)
     if len(answers) != len(cases):
@@ -176,7 +228,10 @@ def _refuse_program() -> None:
 
     It runs a `vga` that makes allocations first, in a copy of the crates.
     """
-    runs = {name: [(first * "x", job.words) for first in range(job.first, ALLOCATION)] for name, job in jobs().items()}
+    runs = {
+        name: [(first * "x", job.words) for first in range(job.first, ALLOCATION)]
+        for name, job in jobs().items()
+    }
     with tempfile.TemporaryDirectory(prefix="vga-memory-") as name:
         shutil.copy(TOP / "crates.txt", name)
         shutil.copytree(CRATES, Path(name, "crates"), ignore=shutil.ignore_patterns(*UNREAD))
@@ -197,8 +252,12 @@ def _refuse(*_: object) -> None:
 
 def _parser() -> argparse.ArgumentParser:
     parser = cli.tool_parser(
-        "vga-memory", "Refuses each allocation in turn, and judges what the calls and the program then answer.\n"
-        "It takes minutes, and needs `rt`.", "tools/vga-memory", "tools/README.md", cli.JUDGES,
+        "vga-memory",
+        "Refuses each allocation in turn, and judges what the calls and the program then answer.\n"
+        "It takes minutes, and needs `rt`.",
+        "tools/vga-memory",
+        "tools/README.md",
+        cli.JUDGES,
     )
     parser.set_defaults(job=_refuse)
     return parser

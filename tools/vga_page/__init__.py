@@ -1,1 +1,2 @@
-"""The adapter in a web page: the library's crate as a WebAssembly module, and the one file that holds it."""
+"""The adapter in a web page: the library's crate as a WebAssembly module, and the one file that
+holds it."""

@@ -23,11 +23,16 @@ MOST_MEBIBYTES = 4096
 
 def _parser() -> argparse.ArgumentParser:
     parser = cli.tool_parser(
-        "vga-page", "Makes the page that runs scripts in a browser.", "tools/vga-page make page/zaklimot.html",
+        "vga-page",
+        "Makes the page that runs scripts in a browser.",
+        "tools/vga-page make page/zaklimot.html",
         "tools/README.md",
     )
     commands = parser.add_subparsers(required=True, metavar="COMMAND")
-    told, usually = f"Makes the page: one file of at most {MOST_BYTES:,} bytes.", " (default: `rt check` proves)"
+    told, usually = (
+        f"Makes the page: one file of at most {MOST_BYTES:,} bytes.",
+        " (default: `rt check` proves)",
+    )
     made = cli.command(commands, "make", _make, "makes the page", description=told)
     cli.add(made, "FILE", "the page, page/zaklimot.html in the repository")
     cli.add(made, "--module FILE", "takes this module (default: makes one)", type=to_read)
@@ -37,17 +42,26 @@ def _parser() -> argparse.ArgumentParser:
     made = cli.command(commands, "module", _module, "makes the module alone", description=told)
     cli.add(made, "FILE", "the module")
     told = "fixes the size of its memory, so that tests see it spent (default: it grows)"
-    cli.add(made, "--memory MIB", told, type=lambda word: number_to(MOST_MEBIBYTES)(word) * MEBIBYTE)
+    cli.add(
+        made, "--memory MIB", told, type=lambda word: number_to(MOST_MEBIBYTES)(word) * MEBIBYTE
+    )
     cli.add_proof(made, usually=usually)
     made.set_defaults(module=None)
     told = "Makes the page's copy of tools/vga_report/wordings.json, as a module."
-    made = cli.command(commands, "wordings", _wordings, "makes the page's copy of the tools' words", description=told)
+    made = cli.command(
+        commands,
+        "wordings",
+        _wordings,
+        "makes the page's copy of the tools' words",
+        description=told,
+    )
     cli.add(made, "FILE", "the module, page/script/wordings.js in the repository")
     return parser
 
 
 def _given_module(words: argparse.Namespace) -> Optional[bytes]:
-    """The module that the words name; none where one is to be made. Here all is refused that can be at once."""
+    """The module that the words name; none where one is to be made. Here all is refused that can be
+    at once."""
     cli.refuse_to_check(words)
     if words.module is not None and words.gated:
         raise Trouble("--module takes a module as it is, so --gated proves nothing")

@@ -58,7 +58,9 @@ def _minified(text: str, *words: str) -> str:
     """What esbuild makes of a text whose files lie in the package, wherever this clone lies."""
     done = ended_well(
         [ESBUILD, "--minify", "--charset=utf8", "--log-level=warning", "--color=false", *words],
-        FOLDER, given=text.encode("utf-8"), seconds=MOST_SECONDS,
+        FOLDER,
+        given=text.encode("utf-8"),
+        seconds=MOST_SECONDS,
     )
     if done.errors:
         raise Trouble(done.said().strip(), ESBUILD)

@@ -1,7 +1,8 @@
-"""Makes the machine's modules: libx86emu's processor, patched, with the PC round it; and its reads of the adapter.
+"""Makes the machine's modules: libx86emu's processor, patched, with the PC round it; and its reads
+of the adapter.
 
-libx86emu is no part of the repository. Its source is that of Debian's source package, which is fetched and held to
-its sum. machine/ has our patches, and all that is ours.
+libx86emu is no part of the repository. Its source is that of Debian's source package, which is
+fetched and held to its sum. machine/ has our patches, and all that is ours.
 """
 
 from __future__ import annotations
@@ -25,7 +26,9 @@ from .packing import about, in_base64, packed, unzipped
 PACKAGE, ARCHIVE = "libx86emu", "libx86emu_3.5.orig.tar.gz"
 SHA256 = "91da55f5da55017d5a80e2364de30f9520aa8df2744ff587a09ba58d6e3536c8"
 # Where apt finds it, with lists of its own: nothing of the system's is changed.
-SUITE, KEYRING = "http://deb.debian.org/debian bookworm main", Path("/usr/share/keyrings/debian-archive-keyring.gpg")
+SUITE, KEYRING = "http://deb.debian.org/debian bookworm main", Path(
+    "/usr/share/keyrings/debian-archive-keyring.gpg"
+)
 MACHINE, PROGRAMS = TOP / "machine", TOP / "examples" / "machine"
 # The notice of libx86emu's licence, which goes with the module.
 NOTICE = MACHINE / "NOTICE"
@@ -33,14 +36,26 @@ CLANG, LINKER, APT, PATCH, ASSEMBLER = "clang", "wasm-ld", "apt-get", "patch", "
 # Seconds that a fetch may take, and a compilation.
 FETCHING, MAKING = 120, 300
 MOST_ARCHIVE = 1 << 20
-# The parts of libx86emu that the machine has; of the others, machine/pc/library.c has what these ask for.
+# The parts of libx86emu that the machine has; of the others, machine/pc/library.c has what these
+# ask for.
 PROCESSOR = ("decode", "ops", "ops2", "prim_ops")
 TARGET = (
-    "--target=wasm32", "-O3", "-std=gnu17", "-mbulk-memory", "-msign-ext", "-nostdlib", "-ffreestanding",
-    "-fno-strict-aliasing", "-flto",
+    "--target=wasm32",
+    "-O3",
+    "-std=gnu17",
+    "-mbulk-memory",
+    "-msign-ext",
+    "-nostdlib",
+    "-ffreestanding",
+    "-fno-strict-aliasing",
+    "-flto",
 )
 DEFINED = (
-    "-DWITH_TSC=0", "-DWITH_IOPL=0", "-DX86EMU_OWN_SHIFTS", '-DX86EMU_MEMORY="memory.h"', "-DX86EMU_TELLS=is_told",
+    "-DWITH_TSC=0",
+    "-DWITH_IOPL=0",
+    "-DX86EMU_OWN_SHIFTS",
+    '-DX86EMU_MEMORY="memory.h"',
+    "-DX86EMU_TELLS=is_told",
     "-DX86EMU_LOGS=is_told",
 )
 STRICT = ("-Wall", "-Wextra", "-Wno-parentheses", "-Werror")
@@ -76,14 +91,24 @@ def _fetch(folder: Path) -> bytes:
     signed = f"[signed-by={KEYRING}] " if KEYRING.exists() else ""
     lists.write_text(f"deb-src {signed}{SUITE}\n", "ascii")
     own = {
-        "Dir::Etc::sourcelist": lists, "Dir::Etc::sourceparts": "/dev/null", "Dir::State::lists": folder / "lists",
-        "Dir::Cache": folder / "cache", "APT::Sandbox::User": "root",
+        "Dir::Etc::sourcelist": lists,
+        "Dir::Etc::sourceparts": "/dev/null",
+        "Dir::State::lists": folder / "lists",
+        "Dir::Cache": folder / "cache",
+        "APT::Sandbox::User": "root",
     }
-    words = [APT, "-qq", *(word for name, value in own.items() for word in ("-o", f"{name}={value}"))]
+    words = [
+        APT,
+        "-qq",
+        *(word for name, value in own.items() for word in ("-o", f"{name}={value}")),
+    ]
     for command in (["update"], ["source", "--download-only", "--tar-only", PACKAGE]):
         done = captured([*words, *command], folder, seconds=FETCHING)
         if done.status:
-            lacking = f"the source of Debian's package {PACKAGE} can't be fetched; {ARCHIVE} may lie at {_cache()}"
+            lacking = (
+                f"the source of Debian's package {PACKAGE} can't be fetched; {ARCHIVE} may lie at"
+                f" {_cache()}"
+            )
             raise Trouble(f"{lacking}\n{done.said().strip()}", APT)
     return read_at_most(str(folder / ARCHIVE), MOST_ARCHIVE)
 
@@ -112,7 +137,9 @@ def patched(folder: Path) -> Path:
     archive, top = folder / ARCHIVE, folder / "libx86emu"
     archive.write_bytes(source())
     with tarfile.open(archive) as opened:
-        inside = [member for member in opened.getmembers() if member.isfile() and "/" in member.name]
+        inside = [
+            member for member in opened.getmembers() if member.isfile() and "/" in member.name
+        ]
         for member in inside:
             member.name = member.name.partition("/")[2]
             if ".." in Path(member.name).parts:
@@ -140,13 +167,25 @@ def _compiled(sources: Sequence[Path], folder: Path, *flags: str | Path) -> list
 
 
 def _linked(objects: Sequence[Path], module: Path, *flags: str) -> bytes:
-    words = [LINKER, "--no-entry", "-s", "--lto-O3", "-O2", "--gc-sections", *flags, *objects, "-o", module]
+    words = [
+        LINKER,
+        "--no-entry",
+        "-s",
+        "--lto-O3",
+        "-O2",
+        "--gc-sections",
+        *flags,
+        *objects,
+        "-o",
+        module,
+    ]
     run(words, seconds=MAKING)
     return with_kit(module.read_bytes(), compiler_line())
 
 
 def made_machine() -> Machine:
-    """The machine's modules, made of their sources. The same sources and compiler make the same bytes."""
+    """The machine's modules, made of their sources. The same sources and compiler make the same
+    bytes."""
     compiler_line()
     with tempfile.TemporaryDirectory(prefix="vga-page-") as name:
         folder = Path(name)
@@ -155,12 +194,18 @@ def made_machine() -> Machine:
             raise Trouble("it is not the licence of the source", str(NOTICE))
         include = [word for path in ("shim", "cpu", "pc") for word in ("-I", MACHINE / path)]
         include += ["-I", top / "include", "-I", top]
-        objects = _compiled([top / f"{part}.c" for part in PROCESSOR], folder, "-w", *DEFINED, *include)
+        objects = _compiled(
+            [top / f"{part}.c" for part in PROCESSOR], folder, "-w", *DEFINED, *include
+        )
         own = [MACHINE / "cpu" / "shifts.c", *sorted((MACHINE / "pc").glob("*.c"))]
         objects += _compiled(own, folder, *STRICT, *DEFINED, *include)
-        cpu = _linked(objects, folder / "cpu.wasm", "-z", f"stack-size={STACK}", "--export=__heap_base")
+        cpu = _linked(
+            objects, folder / "cpu.wasm", "-z", f"stack-size={STACK}", "--export=__heap_base"
+        )
         reads = _compiled([MACHINE / "cpu" / "reads.c"], folder, *STRICT)
-        return Machine(cpu, _linked(reads, folder / "reads.wasm", "--import-memory", "--allow-undefined"))
+        return Machine(
+            cpu, _linked(reads, folder / "reads.wasm", "--import-memory", "--allow-undefined")
+        )
 
 
 def is_of_this_compiler(machine: Machine) -> bool:
@@ -175,7 +220,8 @@ def machine_in(page: bytes) -> Machine:
 
 
 def made_or_kept(page: Path, tell: Callable[[str], object]) -> Machine:
-    """The machine's modules, made; where they can't be made here, those of the page as it was built before."""
+    """The machine's modules, made; where they can't be made here, those of the page as it was built
+    before."""
     try:
         return made_machine()
     except Trouble as trouble:

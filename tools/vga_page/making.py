@@ -1,7 +1,9 @@
-"""Makes the module: the crate's proof, its LLVM module, and of that, turned from x86-64 to wasm64, the linked module.
+"""Makes the module: the crate's proof, its LLVM module, and of that, turned from x86-64 to wasm64,
+the linked module.
 
-The proved code has addresses of 64 bits. The linked module's memory is made one of 32 bits, which every browser knows,
-by Debian's binaryen. It is held to what the page relies on: what it imports and exports, and what it calls.
+The proved code has addresses of 64 bits. The linked module's memory is made one of 32 bits, which
+every browser knows, by Debian's binaryen. It is held to what the page relies on: what it imports
+and exports, and what it calls.
 """
 
 from __future__ import annotations
@@ -26,8 +28,8 @@ MAGIC = b"\0asm\1\0\0\0"
 CUSTOM, KIT = 0, b"kit"
 IMPORTS, TABLES, MEMORIES, EXPORTS, ELEMENTS = 2, 4, 5, 7, 9
 FUNCTION = 0
-# What the module exports besides the header's calls: its memory, where the heap begins, and how the page
-# takes memory from it.
+# What the module exports besides the header's calls: its memory, where the heap begins, and how the
+# page takes memory from it.
 OWN = frozenset(("memory", "__heap_base", "page_take", "page_give"))
 # A memory of 64-bit addresses.
 IS_64 = 4
@@ -49,9 +51,11 @@ NATIVE = re.compile(r'"probe-stack"="inline-asm" "stack-probe-size"="\d+" "targe
 # LLVM would make calls of these functions out of loops, and the module has none of them.
 QUIET = '"no-builtin-bcmp" "no-builtin-memcmp" "no-builtin-strlen"'
 ATTRIBUTES = f'nounwind {QUIET} "target-cpu"="{CPU}"'
-# All that the module may call: these mean the same on both targets. What else it calls is to be looked at
-# first.
-INTRINSICS = frozenset(("llvm.memset.p0.i64", "llvm.memmove.p0.p0.i64", "llvm.memcpy.p0.p0.i64", "llvm.trap"))
+# All that the module may call: these mean the same on both targets. What else it calls is to be
+# looked at first.
+INTRINSICS = frozenset(
+    ("llvm.memset.p0.i64", "llvm.memmove.p0.p0.i64", "llvm.memcpy.p0.p0.i64", "llvm.trap")
+)
 MEMORY_CALLS = frozenset(("rattle_alloc", "rattle_realloc", "rattle_dealloc"))
 DECLARED = re.compile(r'^declare [^\n]*?@"?([^"(\n]+)"?\(', re.M)
 # What a module for x86-64 alone may have, each with the words that tell it.
@@ -61,12 +65,14 @@ FOREIGN = {
     "a vector": re.compile(r"<\d+ x "),
     "a call by a pointer": re.compile(r"\bcall [^@\n]*?%[\w.]+\("),
 }
-# A function that the module shows: what it answers, its name, its parameters, and the number of its attributes.
+# A function that the module shows: what it answers, its name, its parameters, and the number of its
+# attributes.
 EXPORT = re.compile(r"^define noundef (\S+) @(\w+)\((.*)\) #(\d+) \{$", re.M)
 PARAMETER = re.compile(r"(\S+)(?: noundef| zeroext| signext)* (%\w+)")
 # Numbers of attributes that the module itself doesn't reach.
 FIRST_NUMBER = 9000
-# How the module's user takes and gives back memory for what it hands over; page_take answers 0 where there is none.
+# How the module's user takes and gives back memory for what it hands over; page_take answers 0
+# where there is none.
 MEMORY = """
 define internal noundef i64 @"rattle::export page_take"(i64 noundef %bytes) nounwind {
 start:
@@ -102,17 +108,33 @@ run:
 HEAP = Path(__file__).resolve().parent / "heap.c"
 # As Rattle calls clang for this target.
 TARGET = (
-    f"--target={WASM}", f"-mcpu={CPU}",
-    "-mllvm", "-expand-div-rem-bits=64", "-mllvm", "-expand-fp-convert-bits=64",
-    "-ffunction-sections", "-fdata-sections",
-    "-mllvm", "-trap-unreachable", "-mllvm", "-no-x86-call-frame-opt",
-    "-mllvm", "-disable-machine-licm", "-mllvm", "-disable-postra-machine-licm",
-    "-mllvm", "-sink-common-insts=false",
-    "--no-default-config", "-no-canonical-prefixes", "-fno-crash-diagnostics", "-Werror",
+    f"--target={WASM}",
+    f"-mcpu={CPU}",
+    "-mllvm",
+    "-expand-div-rem-bits=64",
+    "-mllvm",
+    "-expand-fp-convert-bits=64",
+    "-ffunction-sections",
+    "-fdata-sections",
+    "-mllvm",
+    "-trap-unreachable",
+    "-mllvm",
+    "-no-x86-call-frame-opt",
+    "-mllvm",
+    "-disable-machine-licm",
+    "-mllvm",
+    "-disable-postra-machine-licm",
+    "-mllvm",
+    "-sink-common-insts=false",
+    "--no-default-config",
+    "-no-canonical-prefixes",
+    "-fno-crash-diagnostics",
+    "-Werror",
 )
 C = ("-O2", "-std=c17", "-ffreestanding", "-nostdinc", "-Wall", "-Wextra")
 PROVED = "logic=proved "
-# A clang that keeps the LLVM module which Rattle hands to it. Of the object for x86-64 nothing is used.
+# A clang that keeps the LLVM module which Rattle hands to it. Of the object for x86-64 nothing is
+# used.
 KEEPER = "#!/bin/sh\n/bin/cp module.bc {kept} && : > module.o\n"
 
 
@@ -137,7 +159,7 @@ def _number(stream: BinaryIO) -> int:
 def _sections(module: bytes) -> Iterator[tuple[int, bytes]]:
     if not module.startswith(MAGIC):
         raise Trouble("it is no WebAssembly module", "the module")
-    stream = io.BytesIO(module[len(MAGIC):])
+    stream = io.BytesIO(module[len(MAGIC) :])
     while number := stream.read(1):
         yield number[0], _taken(stream, _number(stream))
 
@@ -153,12 +175,15 @@ def with_kit(module: bytes, kit: str) -> bytes:
 def kit_of(module: bytes) -> str:
     """The kit that has made a module; nothing where it doesn't tell."""
     begin = bytes([len(KIT)]) + KIT
-    found = [data for number, data in _sections(module) if number == CUSTOM and data.startswith(begin)]
-    return found[-1][len(begin):].decode("ascii", "replace") if found else ""
+    found = [
+        data for number, data in _sections(module) if number == CUSTOM and data.startswith(begin)
+    ]
+    return found[-1][len(begin) :].decode("ascii", "replace") if found else ""
 
 
 def exports_of(section: bytes) -> dict[str, int]:
-    """The names that a section of exports has, in its order, each with its kind: 0 is a function."""
+    """The names that a section of exports has, in its order, each with its kind: 0 is a
+    function."""
     stream, found = io.BytesIO(section), {}
     for _ in range(_number(stream)):
         name = _taken(stream, _number(stream)).decode("utf-8", "replace")
@@ -171,12 +196,17 @@ def exports_of(section: bytes) -> dict[str, int]:
 def check_module(module: bytes) -> str:
     """Holds a module to what the page relies on, and answers what was seen.
 
-    It has no imports and no table, its memory has 32-bit addresses, and it exports the header's calls.
+    It has no imports and no table, its memory has 32-bit addresses, and it exports the header's
+    calls.
     """
     if len(module) > MOST_MODULE:
         raise Trouble(f"it has more than {MOST_MODULE:,} bytes", "the module")
     found = dict(_sections(module))
-    for number, what in ((IMPORTS, "imports"), (TABLES, "a table"), (ELEMENTS, "elements of a table")):
+    for number, what in (
+        (IMPORTS, "imports"),
+        (TABLES, "a table"),
+        (ELEMENTS, "elements of a table"),
+    ):
         if number in found:
             raise Trouble(f"it has {what}, which it must not have", "the module")
     if not found.get(MEMORIES, b"")[1:2] or found[MEMORIES][1] & IS_64:
@@ -184,7 +214,9 @@ def check_module(module: bytes) -> str:
     exports = exports_of(found.get(EXPORTS, b"\0"))
     calls = set(calls_of(HEADER.read_text("ascii")))
     shown = {name for name, kind in exports.items() if kind == FUNCTION} - OWN
-    lacking, more = sorted((calls - shown) | (OWN - exports.keys())), sorted(exports.keys() - calls - OWN)
+    lacking, more = sorted((calls - shown) | (OWN - exports.keys())), sorted(
+        exports.keys() - calls - OWN
+    )
     if lacking:
         raise Trouble(f"it lacks {', '.join(lacking)}", "the module")
     if more:
@@ -193,15 +225,20 @@ def check_module(module: bytes) -> str:
 
 
 def _refuse_unknown(text: str) -> None:
-    """Ends the work where the module has something that is not known to mean the same on both targets."""
+    """Ends the work where the module has something that is not known to mean the same on both
+    targets."""
     unknown = sorted(set(DECLARED.findall(text)) - INTRINSICS - MEMORY_CALLS)
     if unknown:
-        raise Trouble(f"it calls {', '.join(unknown)}, and that isn't known to mean the same on wasm64", NAME)
+        raise Trouble(
+            f"it calls {', '.join(unknown)}, and that isn't known to mean the same on wasm64", NAME
+        )
     for what, pattern in FOREIGN.items():
         found = pattern.search(text)
         if found is not None:
             line = text.count("\n", 0, found.start()) + 1
-            raise Trouble(f"it has {what}, and that isn't known to mean the same on wasm64", NAME, line)
+            raise Trouble(
+                f"it has {what}, and that isn't known to mean the same on wasm64", NAME, line
+            )
 
 
 def _with_target(text: str) -> str:
@@ -220,9 +257,11 @@ def _with_target(text: str) -> str:
 class Form(NamedTuple):
     """How a module shows its calls."""
 
-    # After a trap no call runs over memory that is half written, as Rattle's own lowering for wasm64 has it.
+    # After a trap no call runs over memory that is half written, as Rattle's own lowering for
+    # wasm64 has it.
     is_guarded: bool
-    # Addresses and lengths come and go in 32 bits, which are plain numbers in JavaScript. Else they have 64.
+    # Addresses and lengths come and go in 32 bits, which are plain numbers in JavaScript. Else they
+    # have 64.
     is_narrow: bool
 
 
@@ -253,7 +292,9 @@ class Shown:
 
     def _arguments(self) -> Iterator[str]:
         for kind, name, _ in self._parameters:
-            yield f"{kind} {name}" + {"ptr": ".place", "i64": ".wide"}.get(kind, "") * self._is_widened(kind)
+            yield f"{kind} {name}" + {"ptr": ".place", "i64": ".wide"}.get(
+                kind, ""
+            ) * self._is_widened(kind)
 
     def _answer(self) -> str:
         if self._is_widened(self._result):
@@ -264,9 +305,13 @@ class Shown:
         """The function, with the attributes of this number."""
         result = "i32" if self._is_widened(self._result) else self._result
         given = ", ".join(
-            f"i32 noundef {name}" if self._is_widened(kind) else whole for kind, name, whole in self._parameters
+            f"i32 noundef {name}" if self._is_widened(kind) else whole
+            for kind, name, whole in self._parameters
         )
-        call = f'  %answer = call {self._result} @"rattle::export {self._name}"({", ".join(self._arguments())})\n'
+        call = (
+            f'  %answer = call {self._result} @"rattle::export'
+            f' {self._name}"({", ".join(self._arguments())})\n'
+        )
         enter = ENTER if is_guarded else ""
         leave = "  call void @__rattle_leave()\n" if is_guarded else ""
         return (
@@ -277,7 +322,8 @@ class Shown:
 
 
 def retargeted(text: str, form: Form) -> str:
-    """The module for wasm64, which shows its calls in a form. It also shows `page_take` and `page_give`."""
+    """The module for wasm64, which shows its calls in a form. It also shows `page_take` and
+    `page_give`."""
     _refuse_unknown(text)
     text = _with_target(text)
     exports = [found[:3] for found in EXPORT.findall(text)]
@@ -285,7 +331,9 @@ def retargeted(text: str, form: Form) -> str:
         raise Trouble("it exports nothing", NAME)
     kept = "noinline " if form.is_guarded else ""
     text = EXPORT.sub(rf'define internal noundef \1 @"rattle::export \2"(\3) {kept}#\4 {{', text)
-    shown = [(export, form.is_guarded) for export in exports] + [(export, False) for export in OF_MEMORY]
+    shown = [(export, form.is_guarded) for export in exports] + [
+        (export, False) for export in OF_MEMORY
+    ]
     wrappers = (
         Shown(*export, form).text(number, is_guarded)
         for number, (export, is_guarded) in enumerate(shown, FIRST_NUMBER)
@@ -294,7 +342,8 @@ def retargeted(text: str, form: Form) -> str:
 
 
 class Maker:
-    """Makes modules in a folder, with the toolchain of a kit; a phase of that has what hears its programs."""
+    """Makes modules in a folder, with the toolchain of a kit; a phase of that has what hears its
+    programs."""
 
     def __init__(self, folder: Path, phase: Callable[[str], Hearer]) -> None:
         self._folder = folder
@@ -317,9 +366,12 @@ class Maker:
         if gated is None:
             self._run("proving", ["rt", "check"], CRATE)
         words = proving_words(self._kit, gated or KEPT)
-        # The module is made of what is proved for x86-64. The crate is to be proved for this target too.
+        # The module is made of what is proved for x86-64. The crate is to be proved for this target
+        # too.
         said = self._rattle(f"proving for {WASM}", "check", *words, "--target", WASM)
-        if not any(line.startswith(PROVED) and f"target={WASM}" in line for line in said.splitlines()):
+        if not any(
+            line.startswith(PROVED) and f"target={WASM}" in line for line in said.splitlines()
+        ):
             raise Trouble(f"the compiler doesn't say that it is proved for {WASM}", CRATE.name)
         return words
 
@@ -338,7 +390,15 @@ class Maker:
         """The text of the LLVM module that Rattle makes of the proved crate for x86-64."""
         kept, text = folder / "module.bc", folder / "native.ll"
         toolchain = self._keeping_toolchain(folder / "toolchain", kept)
-        words = [*building, "--toolchain", toolchain, "--backend", "llvm", "-o", folder / "native.a"]
+        words = [
+            *building,
+            "--toolchain",
+            toolchain,
+            "--backend",
+            "llvm",
+            "-o",
+            folder / "native.a",
+        ]
         self._rattle("lowering", "build", *words)
         as_text = ["-S", "-emit-llvm", "-O0", "-Xclang", "-disable-llvm-passes", "-x", "ir"]
         self._run("writing LLVM's text", [self._tools / "clang", *as_text, kept, "-o", text])
@@ -349,7 +409,9 @@ class Maker:
         objects = [folder / "wasm.o", folder / "heap.o"]
         source.write_text(text, "utf-8")
         clang = [self._tools / "clang", *TARGET]
-        self._run(f"compiling for {WASM}", [*clang, "-O3", "-c", "-x", "ir", source, "-o", objects[0]])
+        self._run(
+            f"compiling for {WASM}", [*clang, "-O3", "-c", "-x", "ir", source, "-o", objects[0]]
+        )
         self._run("compiling the heap", [*clang, *C, "-c", HEAP, "-o", objects[1]])
         self._run("archiving", [self._tools / "llvm-ar", "rcsD", "--format=gnu", archive, *objects])
         return archive
@@ -369,8 +431,11 @@ class Maker:
         check_module(lowered)
         return lowered
 
-    def modules(self, building: Sequence[str | Path], memories: Sequence[Optional[int]]) -> list[bytes]:
-        """Modules of the proved crate, held to what the page relies on, one for each size of memory.
+    def modules(
+        self, building: Sequence[str | Path], memories: Sequence[Optional[int]]
+    ) -> list[bytes]:
+        """Modules of the proved crate, held to what the page relies on, one for each size of
+        memory.
 
         A size is a number of bytes, a multiple of 65,536; None is a memory that grows.
         """
@@ -380,17 +445,21 @@ class Maker:
             return [self._lowered(self._linked(archive, memory), SMALLER) for memory in memories]
 
     def module_for_c(self, building: Sequence[str | Path]) -> bytes:
-        """The module of which C is made: each of its places in memory is the low half of an address, as it stands."""
+        """The module of which C is made: each of its places in memory is the low half of an
+        address, as it stands."""
         with tempfile.TemporaryDirectory(dir=self._folder) as name:
             text = retargeted(self._llvm_text(building, Path(name)), OF_C)
             return self._lowered(self._linked(self._archive(text, Path(name)), None))
 
 
 def made_for_c(words: argparse.Namespace, progress: Progress) -> bytes:
-    """Proves the crate, and makes the module of which C is made; --gated and --proof as for `made_modules`."""
+    """Proves the crate, and makes the module of which C is made; --gated and --proof as for
+    `made_modules`."""
     with tempfile.TemporaryDirectory(prefix="vga-page-") as name:
         maker = Maker(Path(name), phases(progress))
-        building = maker.prove((words.proof or Path(name) / "proof").absolute() if words.gated else None)
+        building = maker.prove(
+            (words.proof or Path(name) / "proof").absolute() if words.gated else None
+        )
         module = maker.module_for_c(building)
     progress.clear()
     return module
@@ -401,11 +470,14 @@ def made_modules(
 ) -> list[list[bytes]]:
     """Proves the crate once, and makes its modules so many times, one for each size of memory.
 
-    By --gated of the words the crates below are those that `rt ci` left; the folder of --proof keeps the crate's own.
+    By --gated of the words the crates below are those that `rt ci` left; the folder of --proof
+    keeps the crate's own.
     """
     with tempfile.TemporaryDirectory(prefix="vga-page-") as name:
         maker = Maker(Path(name), phases(progress))
-        building = maker.prove((words.proof or Path(name) / "proof").absolute() if words.gated else None)
+        building = maker.prove(
+            (words.proof or Path(name) / "proof").absolute() if words.gated else None
+        )
         made = [maker.modules(building, memories) for _ in range(times)]
     progress.clear()
     return made

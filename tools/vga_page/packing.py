@@ -1,4 +1,5 @@
-"""What the page is given, as it stands in the page: packed, and as text; and what an example is about."""
+"""What the page is given, as it stands in the page: packed, and as text; and what an example is
+about."""
 
 from __future__ import annotations
 
@@ -18,7 +19,8 @@ SENTENCE = re.compile(r"(.+?[.!?])(?: |$)")
 
 
 def about(text: str) -> str:
-    """The first sentence of the comment that an example begins with; nothing where it begins with a step."""
+    """The first sentence of the comment that an example begins with; nothing where it begins with a
+    step."""
     lines = takewhile(lambda line: line.startswith(";"), map(str.strip, text.lstrip().splitlines()))
     whole = " ".join(line[1:].strip() for line in lines)
     found = SENTENCE.match(whole)

@@ -1,7 +1,8 @@
-"""Puts the page together: one file of the sources in page/, of the module, the font and the examples.
+"""Puts the page together: one file of the sources in page/, of the module, the font and the
+examples.
 
-Its JavaScript is in modules, so that tests can import each as it stands. esbuild joins them to one script, which
-lies in the page.
+Its JavaScript is in modules, so that tests can import each as it stands. esbuild joins them to one
+script, which lies in the page.
 """
 
 from __future__ import annotations
@@ -29,7 +30,9 @@ from .sections import quoted_sections
 SOURCES = PAGE.parent
 EXAMPLES = TOP / "examples"
 TUTORIAL = DOCS / "TUTORIAL.md"
-SCRIPT, STYLE, DATA, MADE = (f"<!-- zaklimot:{name} -->" for name in ("script", "style", "data", "made"))
+SCRIPT, STYLE, DATA, MADE = (
+    f"<!-- zaklimot:{name} -->" for name in ("script", "style", "data", "made")
+)
 # The page as built has at most so many bytes.
 MOST_BYTES = 800_000
 # From the page as built, where the documentation's pages lie.
@@ -37,32 +40,56 @@ PAGES = "../docs/"
 ENTRY, FIRST_STYLE, TESTS = "main.js", "style.css", "tests"
 ESBUILD = "esbuild"
 # The editor's parts in a page as built.
-EDITOR = tuple(re.compile(form, re.S) for form in (
-    r"<script>\n(.*?)</script>", r"<style>\n(.*?)</style>",
-    r"<!-- The editor of this page is (.*?)\. -->",
-))
+EDITOR = tuple(
+    re.compile(form, re.S)
+    for form in (
+        r"<script>\n(.*?)</script>",
+        r"<style>\n(.*?)</style>",
+        r"<!-- The editor of this page is (.*?)\. -->",
+    )
+)
 # The oldest browsers in which the page works: the script says nothing that they don't take.
 TARGETS = "chrome103,firefox113,safari16.4"
 # The joining takes a fraction of a second.
 MOST_SECONDS = 60
 SCRIPT_BLOCK = re.compile(r"^```\n(.*?)^```$", re.M | re.S)
 TUTORIAL_FILE = re.compile(r"In a terminal: `tools/vga-report run examples/tutorial/([a-z-]+)\.vga")
-WORDINGS_HEAD = """// Made of tools/vga_report/wordings.json by `tools/vga-page wordings page/script/wordings.js`.
-/** The words of bad lines, faults and refusals, and the registers by name, bit and field. */"""
-MACHINE_MADE = "The processor of the machine in this page is libx86emu's, changed (machine/patches/). Its licence:"
+WORDINGS_HEAD = (
+    "// Made of tools/vga_report/wordings.json by "
+    "`tools/vga-page wordings page/script/wordings.js`.\n"
+    "/** The words of bad lines, faults and refusals, and the registers by name, bit and field. */"
+)
+MACHINE_MADE = (
+    "The processor of the machine in this page is libx86emu's, changed (machine/patches/). Its"
+    " licence:"
+)
 # What a browser takes for the end of a page's script, or for a comment that hides it.
 ENDING = re.compile(r"</script|<!--", re.I)
 
 
 def joined(folder: Path) -> str:
-    """One script of a folder's entry and of the modules that it leads to; a Trouble names one that nothing imports."""
+    """One script of a folder's entry and of the modules that it leads to; a Trouble names one that
+    nothing imports."""
     check_program(ESBUILD)
     with tempfile.TemporaryDirectory(prefix="vga-page-") as name:
         made, listed = (Path(name, file) for file in ("joined.js", "listed.json"))
-        done = ended_well([
-            ESBUILD, ENTRY, "--bundle", "--minify", "--format=esm", f"--target={TARGETS}", "--charset=utf8",
-            f"--outfile={made}", f"--metafile={listed}", "--log-level=warning", "--color=false",
-        ], folder, seconds=MOST_SECONDS)
+        done = ended_well(
+            [
+                ESBUILD,
+                ENTRY,
+                "--bundle",
+                "--minify",
+                "--format=esm",
+                f"--target={TARGETS}",
+                "--charset=utf8",
+                f"--outfile={made}",
+                f"--metafile={listed}",
+                "--log-level=warning",
+                "--color=false",
+            ],
+            folder,
+            seconds=MOST_SECONDS,
+        )
         # A warning tells of what is undefined, or never done.
         if done.errors:
             raise Trouble(done.said().strip(), ESBUILD)
@@ -75,7 +102,8 @@ def joined(folder: Path) -> str:
 
 
 class Sources(NamedTuple):
-    """The texts of a page's sources: the frame, the style, the script that its modules are joined to, and the editor."""
+    """The texts of a page's sources: the frame, the style, the script that its modules are joined
+    to, and the editor."""
 
     frame: str
     style: str
@@ -84,8 +112,14 @@ class Sources(NamedTuple):
 
 
 def protect_sources(folder: Path = SOURCES) -> None:
-    """Names the files that a page is made of as files that are read, so that none of them is written."""
-    sources = [folder / "index.html", *folder.rglob("*.js"), *folder.rglob("*.css"), *EXAMPLES.glob("*.vga")]
+    """Names the files that a page is made of as files that are read, so that none of them is
+    written."""
+    sources = [
+        folder / "index.html",
+        *folder.rglob("*.js"),
+        *folder.rglob("*.css"),
+        *EXAMPLES.glob("*.vga"),
+    ]
     for path in sources:
         to_read(str(path))
 
@@ -97,9 +131,12 @@ def read_sources(folder: Path = SOURCES) -> Sources:
 
 
 def styles(folder: Path = SOURCES) -> str:
-    """The style sheets of a folder, one after the other: the page's own first, and those of its parts by name."""
+    """The style sheets of a folder, one after the other: the page's own first, and those of its
+    parts by name."""
     first = Path(to_read(str(folder / FIRST_STYLE)))
-    others = sorted(path for path in folder.rglob("*.css") if path != first and TESTS not in path.parts)
+    others = sorted(
+        path for path in folder.rglob("*.css") if path != first and TESTS not in path.parts
+    )
     return "".join(path.read_text("utf-8") for path in (first, *others))
 
 
@@ -111,12 +148,16 @@ def wordings_module() -> str:
 
 def examples(folder: Path = EXAMPLES) -> list[dict[str, str]]:
     """The scripts of a folder, by their names."""
-    texts = {path.stem: Path(to_read(str(path))).read_text("utf-8") for path in sorted(folder.glob("*.vga"))}
+    texts = {
+        path.stem: Path(to_read(str(path))).read_text("utf-8")
+        for path in sorted(folder.glob("*.vga"))
+    }
     return [{"name": name, "about": about(text), "text": text} for name, text in texts.items()]
 
 
 def tutorial(text: str) -> list[dict[str, str]]:
-    """The scripts of the tutorial: each has its part's heading, and the name of its file among the examples."""
+    """The scripts of the tutorial: each has its part's heading, and the name of its file among the
+    examples."""
     found = []
     for part in re.split(r"^## ", text, flags=re.M)[1:]:
         heading, names = part.split("\n", 1)[0], TUTORIAL_FILE.findall(part)
@@ -151,7 +192,9 @@ def data_of(module: bytes, machine: Machine) -> dict[str, Any]:
 
 def _filled(frame: str, mark: str, content: str) -> str:
     if frame.count(mark) != 1:
-        raise Trouble(f"{mark} stands {frame.count(mark)} times in it, and once is right", "index.html")
+        raise Trouble(
+            f"{mark} stands {frame.count(mark)} times in it, and once is right", "index.html"
+        )
     return frame.replace(mark, content)
 
 
@@ -166,7 +209,9 @@ def page_text(sources: Sources, data: dict[str, Any]) -> str:
             raise Trouble(f"a page would take {ending[0]} for the end of a script", name)
     # The data come last, since what they hold may look like a mark.
     notice = NOTICE.read_text("ascii").strip()
-    made = f"<!-- The editor of this page is {editor.made}. -->\n<!-- {MACHINE_MADE}\n\n{notice}\n-->"
+    made = (
+        f"<!-- The editor of this page is {editor.made}. -->\n<!-- {MACHINE_MADE}\n\n{notice}\n-->"
+    )
     text = _filled(sources.frame, MADE, made)
     styles_of_both = f"<style>\n{editor.style}</style>\n<style>\n{sources.style}</style>"
     text = _filled(text, STYLE, styles_of_both)
@@ -187,5 +232,7 @@ def make_page(module: bytes, sources: Sources, machine: Machine) -> bytes:
     """The page's bytes, which are the same each time."""
     page = page_text(sources, data_of(module, machine)).encode("utf-8")
     if len(page) > MOST_BYTES:
-        raise Trouble(f"it would have {len(page):,} bytes, and {MOST_BYTES:,} are the most", PAGE.name)
+        raise Trouble(
+            f"it would have {len(page):,} bytes, and {MOST_BYTES:,} are the most", PAGE.name
+        )
     return page

@@ -47,7 +47,7 @@ def inline(text: str) -> list[Any]:
     parts: list[Any] = []
     at = 0
     for found in INLINE.finditer(text):
-        parts += [text[at:found.start()]] if found.start() > at else []
+        parts += [text[at : found.start()]] if found.start() > at else []
         at = found.end()
         if found["to"]:
             parts.append(["a", found["to"], inline(found["text"])])
@@ -120,11 +120,11 @@ def sections_of(text: str) -> dict[str, dict[str, Any]]:
     lines, sections = text.splitlines(), {}
     heads = [(at, found) for at, line in enumerate(lines) if (found := HEADING.match(line))]
     for number, (at, found) in enumerate(heads):
-        ends = (begin for begin, other in heads[number + 1:] if len(other[1]) <= len(found[1]))
+        ends = (begin for begin, other in heads[number + 1 :] if len(other[1]) <= len(found[1]))
         # A page's own heading has only what stands before the first section.
         if found[1] == "#":
             ends = (begin for begin, _ in heads[1:])
-        inside = "\n".join(lines[at + 1:next(ends, len(lines))])
+        inside = "\n".join(lines[at + 1 : next(ends, len(lines))])
         sections[anchor_of(found[2])] = {"title": found[2], "blocks": blocks(inside)}
     return sections
 

@@ -17,15 +17,18 @@ Colour = tuple[int, int, int]
 WEIGHTS = (2, 4, 1)
 # Colours, each with how many dots have it.
 Box = list[tuple[Colour, int]]
-# Where an image has more colours than this, those that differ in their low bits alone are first taken as one.
+# Where an image has more colours than this, those that differ in their low bits alone are first
+# taken as one.
 MANY = 4096
-# How often colours that save little are put elsewhere at most, and how often all are moved each time.
+# How often colours that save little are put elsewhere at most, and how often all are moved each
+# time.
 EXCHANGES, MOVES = 8, 6
 # A colour that more than seven of eight dots of its box have is taken as it is.
 PLAIN = 7
 Row = Sequence[Colour]
 MOST = 63
-# Colours for a dither are tried on so many dots at most, and judged by areas of so many dots across and down.
+# Colours for a dither are tried on so many dots at most, and judged by areas of so many dots across
+# and down.
 TRIED, AREA = 16384, 4
 # An ordered dither of four by four dots: the order in which they become brighter.
 ORDERED = ((0, 8, 2, 10), (12, 4, 14, 6), (3, 11, 1, 9), (15, 7, 13, 5))
@@ -40,9 +43,9 @@ def distance(one: Sequence[int], other: Sequence[int]) -> int:
 class Nearest:
     """The number of the nearest of some colours; of several the first.
 
-    A search begins at the colour that was nearest to one close by, and looks at those around it alone: where another
-    is twice as far from it as the colour that is looked for, that one can't be nearer. Distances are squares, so
-    twice as far is four times.
+    A search begins at the colour that was nearest to one close by, and looks at those around it
+    alone: where another is twice as far from it as the colour that is looked for, that one can't be
+    nearer. Distances are squares, so twice as far is four times.
     """
 
     def __init__(self, colours: Sequence[Colour]) -> None:
@@ -57,7 +60,9 @@ class Nearest:
         if number is None:
             red, green, blue = colour
             close = red >> 2, green >> 2, blue >> 2
-            number = self._begins[close] = self._known[colour] = self._search(colour, self._begins.get(close, 0))
+            number = self._begins[close] = self._known[colour] = self._search(
+                colour, self._begins.get(close, 0)
+            )
         return number
 
     def _search(self, colour: Colour, first: int) -> int:
@@ -73,19 +78,23 @@ class Nearest:
         if number not in self._around:
             own = self._colours[number]
             self._around[number] = sorted(
-                (distance(own, colour), other, colour) for other, colour in enumerate(self._colours) if other != number
+                (distance(own, colour), other, colour)
+                for other, colour in enumerate(self._colours)
+                if other != number
             )
         return self._around[number]
 
 
 def middle_colours(counts: Counter[Colour], most: int) -> list[Colour]:
-    """So many colours in the middle of those of an image: by cutting boxes of colours at their median, and k-means."""
+    """So many colours in the middle of those of an image: by cutting boxes of colours at their
+    median, and k-means."""
     counts = _fewer(counts)
     return sorted(set(_refined(counts, [_mean(box) for box in _cut_boxes(counts, most)])))
 
 
 def outer_colours(counts: Counter[Colour], most: int) -> list[Colour]:
-    """So many colours of an image that lie far apart: each is the one that is farthest from those before it."""
+    """So many colours of an image that lie far apart: each is the one that is farthest from those
+    before it."""
     counts = _fewer(counts)
     middle = _mean(list(counts.items()))
     chosen = [max(counts, key=lambda colour: (distance(colour, middle), colour))]
@@ -98,14 +107,17 @@ def outer_colours(counts: Counter[Colour], most: int) -> list[Colour]:
 
 
 def _fewer(counts: Counter[Colour]) -> Counter[Colour]:
-    """At most so many colours as can be looked at: each the middle of those whose high bits are alike."""
+    """At most so many colours as can be looked at: each the middle of those whose high bits are
+    alike."""
     shift, fewer = 0, counts
     while len(fewer) > MANY:
         shift += 1
         boxes: dict[Colour, Box] = {}
         for colour, count in counts.items():
             red, green, blue = colour
-            boxes.setdefault((red >> shift, green >> shift, blue >> shift), []).append((colour, count))
+            boxes.setdefault((red >> shift, green >> shift, blue >> shift), []).append(
+                (colour, count)
+            )
         fewer = Counter()
         for box in boxes.values():
             fewer[_mean(box)] += sum(count for _, count in box)
@@ -119,7 +131,8 @@ def _mean(box: Box) -> Colour:
     if 8 * most > PLAIN * total:
         return colour
     red, green, blue = (
-        (2 * sum(colour[part] * count for colour, count in box) + total) // (2 * total) for part in range(3)
+        (2 * sum(colour[part] * count for colour, count in box) + total) // (2 * total)
+        for part in range(3)
     )
     return red, green, blue
 
@@ -127,7 +140,12 @@ def _mean(box: Box) -> Colour:
 def _widest(box: Box) -> tuple[int, int]:
     """How wide a box of colours is, weighted, and in which component."""
     spans = [
-        (WEIGHTS[part] * (max(colour[part] for colour, _ in box) - min(colour[part] for colour, _ in box)) ** 2, part)
+        (
+            WEIGHTS[part]
+            * (max(colour[part] for colour, _ in box) - min(colour[part] for colour, _ in box))
+            ** 2,
+            part,
+        )
         for part in range(3)
     ]
     return max(spans)
@@ -173,7 +191,8 @@ def _lost(box: Box, middle: Colour) -> int:
 
 
 def _refined(counts: Counter[Colour], chosen: list[Colour]) -> list[Colour]:
-    """Colours in the middle of those that are nearest to them; those that save little are put where most is lost."""
+    """Colours in the middle of those that are nearest to them; those that save little are put where
+    most is lost."""
     best, least = chosen, -1
     for _ in range(EXCHANGES):
         for _ in range(MOVES):
@@ -192,13 +211,18 @@ def _refined(counts: Counter[Colour], chosen: list[Colour]) -> list[Colour]:
 
 
 def _exchanged(chosen: Sequence[Colour], boxes: Sequence[Box], lost: Sequence[int]) -> list[Colour]:
-    """Colours of which those that save little stand where most is won: in one half of a box that is cut in two."""
+    """Colours of which those that save little stand where most is won: in one half of a box that is
+    cut in two."""
     dots = [sum(count for _, count in box) for box in boxes]
     saved = []
     for number, colour in enumerate(chosen):
-        far, other = min((distance(colour, near), at) for at, near in enumerate(chosen) if at != number)
+        far, other = min(
+            (distance(colour, near), at) for at, near in enumerate(chosen) if at != number
+        )
         # What two boxes lose more where they become one.
-        saved.append((dots[number] * dots[other] * far // max(1, dots[number] + dots[other]), number, other))
+        saved.append(
+            (dots[number] * dots[other] * far // max(1, dots[number] + dots[other]), number, other)
+        )
     won = []
     for number, box in enumerate(boxes):
         if len(box) > 1:
@@ -206,7 +230,9 @@ def _exchanged(chosen: Sequence[Colour], boxes: Sequence[Box], lost: Sequence[in
             middles = [_mean(half) for half in halves]
             won.append((lost[number] - sum(map(_lost, halves, middles)), number, middles))
     made, touched = list(chosen), set[int]()
-    for (little, number, other), (much, cut, middles) in zip(sorted(saved), sorted(won, reverse=True)):
+    for (little, number, other), (much, cut, middles) in zip(
+        sorted(saved), sorted(won, reverse=True)
+    ):
         if little >= much:
             break
         if not touched & {number, other, cut}:
@@ -232,7 +258,8 @@ class Indexed:
     rows: tuple[bytes, ...]
 
     def renumbered(self, numbers: Sequence[int], count: int) -> Indexed:
-        """The same image with colour i as number numbers[i]; numbers that no colour has are black."""
+        """The same image with colour i as number numbers[i]; numbers that no colour has are
+        black."""
         colours = [(0, 0, 0)] * count
         for colour, number in zip(self.colours, numbers):
             colours[number] = colour
@@ -254,12 +281,19 @@ def _clamped(value: int) -> int:
 
 def _spread(colours: Sequence[Colour]) -> float:
     """How far a colour is from the one that is nearest to it, in one component, on the average."""
-    near = [min((other for other in colours if other != colour), key=lambda other: distance(colour, other)) for colour in colours]
+    near = [
+        min(
+            (other for other in colours if other != colour),
+            key=lambda other: distance(colour, other),
+        )
+        for colour in colours
+    ]
     return sum(max(abs(a - b) for a, b in zip(*pair)) for pair in zip(colours, near)) / len(colours)
 
 
 def _ordered(rows: Sequence[Row], colours: Sequence[Colour]) -> Iterator[bytes]:
-    """Rows by the ordered dither: a dot is made brighter or darker by its place, as far as colours lie apart."""
+    """Rows by the ordered dither: a dot is made brighter or darker by its place, as far as colours
+    lie apart."""
     nearest, own = Nearest(colours), {colour: number for number, colour in enumerate(colours)}
     spread = _spread(colours)
     for y, row in enumerate(rows):
@@ -270,13 +304,16 @@ def _ordered(rows: Sequence[Row], colours: Sequence[Colour]) -> Iterator[bytes]:
             step, number = steps[x % 4], own.get(dot)
             if number is None:
                 red, green, blue = dot
-                number = nearest((_clamped(red + step), _clamped(green + step), _clamped(blue + step)))
+                number = nearest(
+                    (_clamped(red + step), _clamped(green + step), _clamped(blue + step))
+                )
             made[x] = number
         yield bytes(made)
 
 
 def _floyd(rows: Sequence[Row], colours: Sequence[Colour]) -> Iterator[bytes]:
-    """Rows by the dither of Floyd and Steinberg: what a dot is off goes to those behind and below, in sixteenths."""
+    """Rows by the dither of Floyd and Steinberg: what a dot is off goes to those behind and below,
+    in sixteenths."""
     nearest = Nearest(colours)
     width = len(rows[0])
     below = [[0, 0, 0] for _ in range(width + 2)]
@@ -285,7 +322,9 @@ def _floyd(rows: Sequence[Row], colours: Sequence[Colour]) -> Iterator[bytes]:
         ahead, made = [0, 0, 0], bytearray(width)
         for x, dot in enumerate(row):
             owed = above[x + 1]
-            red, green, blue = (_clamped(dot[part] + (owed[part] + ahead[part] + 8 >> 4)) for part in range(3))
+            red, green, blue = (
+                _clamped(dot[part] + (owed[part] + ahead[part] + 8 >> 4)) for part in range(3)
+            )
             number = made[x] = nearest((red, green, blue))
             for part, value in enumerate((red, green, blue)):
                 error = value - colours[number][part]
@@ -302,15 +341,18 @@ def _nearest(rows: Sequence[Row], colours: Sequence[Colour]) -> Iterator[bytes]:
 
 
 WAYS: dict[Fewer, Callable[[Sequence[Row], Sequence[Colour]], Iterable[bytes]]] = {
-    Fewer.NEAREST: _nearest, Fewer.ORDERED: _ordered, Fewer.FLOYD: _floyd,
+    Fewer.NEAREST: _nearest,
+    Fewer.ORDERED: _ordered,
+    Fewer.FLOYD: _floyd,
 }
 
 
 def _chosen(rows: Sequence[Row], counts: Counter[Colour], most: int, fewer: Fewer) -> list[Colour]:
-    """So many colours for an image: of those in the middle and the outer ones those that a dither does better with.
+    """So many colours for an image: of those in the middle and the outer ones those that a dither
+    does better with.
 
-    A dither makes each colour that lies between those it has, and none that lies outside of them; but the farther these
-    are apart, the coarser is its grain.
+    A dither makes each colour that lies between those it has, and none that lies outside of them;
+    but the farther these are apart, the coarser is its grain.
     """
     middle = middle_colours(counts, most)
     if fewer is Fewer.NEAREST:
@@ -319,11 +361,15 @@ def _chosen(rows: Sequence[Row], counts: Counter[Colour], most: int, fewer: Fewe
     while len(rows) // step * (len(rows[0]) // step) > TRIED:
         step += 1
     part = [row[::step] for row in rows[::step]]
-    return min((middle, outer_colours(counts, most)), key=lambda colours: _seen(part, colours, WAYS[fewer](part, colours)))
+    return min(
+        (middle, outer_colours(counts, most)),
+        key=lambda colours: _seen(part, colours, WAYS[fewer](part, colours)),
+    )
 
 
 def _seen(rows: Sequence[Row], colours: Sequence[Colour], made: Iterable[bytes]) -> int:
-    """How far an image is from the one that it stands for: by its dots, times by areas of dots that are seen as one."""
+    """How far an image is from the one that it stands for: by its dots, times by areas of dots that
+    are seen as one."""
     by_dots, by_areas, width = 1, 1, len(rows[0])
     off = [[0, 0, 0] for _ in range(0, width, AREA)]
     for y, (row, numbers) in enumerate(zip(rows, made), 1):
@@ -339,7 +385,8 @@ def _seen(rows: Sequence[Row], colours: Sequence[Colour], made: Iterable[bytes])
 
 
 def indexed(rows: Sequence[Row], most: int, fewer: Fewer, name: str) -> tuple[Indexed, int]:
-    """The image of these dots in so many colours at most, and how many it had; a Trouble where more are refused."""
+    """The image of these dots in so many colours at most, and how many it had; a Trouble where more
+    are refused."""
     counts = Counter(chain.from_iterable(rows))
     colours = list(counts)
     if len(colours) <= most:
@@ -355,8 +402,11 @@ def indexed(rows: Sequence[Row], most: int, fewer: Fewer, name: str) -> tuple[In
 
 
 def _by_frequency(colours: Sequence[Colour], rows: Sequence[bytes]) -> Indexed:
-    """An image with its colours in the order of how many dots they have; colours without one are left out."""
+    """An image with its colours in the order of how many dots they have; colours without one are
+    left out."""
     counts = Counter(b"".join(rows))
     order = sorted(counts, key=lambda number: (-counts[number], colours[number]))
     table = bytes.maketrans(bytes(order), bytes(range(len(order))))
-    return Indexed(tuple(colours[old] for old in order), tuple(row.translate(table) for row in rows))
+    return Indexed(
+        tuple(colours[old] for old in order), tuple(row.translate(table) for row in rows)
+    )

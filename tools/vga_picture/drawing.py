@@ -25,20 +25,32 @@ class Drawn(NamedTuple):
 
 
 def _colours(colours: Sequence[Colour], mode: Mode) -> Iterator[Item]:
-    """The entries of the DAC that the palette names for these colours, as many at a time as stand side by side."""
+    """The entries of the DAC that the palette names for these colours, as many at a time as stand
+    side by side."""
     parts = iter(colours)
-    for run in runs(mode.entries[:len(colours)]):
+    for run in runs(mode.entries[: len(colours)]):
         block = bytes(part for _ in run for part in next(parts))
         yield service(1 + len(block), 0x1012, run.start, len(run), block=block)
 
 
 def _drawn(
-    mode: Mode, colours: Sequence[Colour], count: int, parts: Iterable[Part], rows: Sequence[bytes], told: str = ""
+    mode: Mode,
+    colours: Sequence[Colour],
+    count: int,
+    parts: Iterable[Part],
+    rows: Sequence[bytes],
+    told: str = "",
 ) -> Drawn:
-    """A script: mode, colours, its parts, and its frame, whose picture has each pixel as wide and high as the mode."""
-    note = f"A picture of {mode.width} by {mode.height} pixels and {count} colours, in mode {mode.name}"
+    """A script: mode, colours, its parts, and its frame, whose picture has each pixel as wide and
+    high as the mode."""
+    note = (
+        f"A picture of {mode.width} by {mode.height} pixels and {count} colours, in mode"
+        f" {mode.name}"
+    )
     note += ", made by vga-picture. Numbers are hexadecimal, but the count of `repeat`."
-    cycles = SET_CYCLES + (GLYPH_CYCLES + TEXT_CYCLES if mode.kind is Kind.CELLS else GRAPHICS_CYCLES)
+    cycles = SET_CYCLES + (
+        GLYPH_CYCLES + TEXT_CYCLES if mode.kind is Kind.CELLS else GRAPHICS_CYCLES
+    )
     begin = Part(note, [service(cycles, mode.number)])
     palette = Part("Its colours, six bits a component", list(_colours(colours, mode)))
     frame = Part("The picture", [Item(format.Step("frame"), 0)])
@@ -62,9 +74,15 @@ def draw_pixels(image: Indexed, mode: Mode, is_short: bool) -> Drawn:
 
 
 def draw_text(
-    image: Indexed, mode: Mode, font: bytes, is_short: bool, has_own: bool, tell: Callable[[int], None]
+    image: Indexed,
+    mode: Mode,
+    font: bytes,
+    is_short: bool,
+    has_own: bool,
+    tell: Callable[[int], None],
 ) -> Drawn:
-    """A script for text: its rows, glyphs of its own if they are wanted, bright backgrounds, no cursor, and the cells."""
+    """A script for text: its rows, glyphs of its own if they are wanted, bright backgrounds, no
+    cursor, and the cells."""
     cells, told = cells_of(image, mode, font, tell), ""
     glyphs: dict[int, bytes] = {}
     if has_own:
@@ -76,7 +94,10 @@ def draw_text(
     calls = [service(6, 0x1003), service(4, 0x0100, 0, NO_CURSOR)]
     steps = typed_cells(cells, mode.columns) if is_short else put_cells(cells)
     parts = [
-        Part(f"Text of {mode.rows} rows, and {len(glyphs)} glyphs of its own", list(loading(mode, glyphs))),
+        Part(
+            f"Text of {mode.rows} rows, and {len(glyphs)} glyphs of its own",
+            list(loading(mode, glyphs)),
+        ),
         Part("No blinking, but bright backgrounds; no cursor", calls),
         Part("The cells: a character and its attribute", steps),
     ]

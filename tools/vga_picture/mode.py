@@ -1,4 +1,5 @@
-"""The modes that a picture may be drawn in, as far as drawing needs them; an image of another size than theirs."""
+"""The modes that a picture may be drawn in, as far as drawing needs them; an image of another size
+than theirs."""
 
 from dataclasses import dataclass, replace
 from enum import Enum
@@ -13,7 +14,8 @@ WIDE, HIGH = 4, 3
 
 
 class Kind(Enum):
-    """How memory holds the pixels: as cells of characters, as a bit in each of four planes, or as a byte."""
+    """How memory holds the pixels: as cells of characters, as a bit in each of four planes, or as a
+    byte."""
 
     CELLS = "text"
     PLANES = "planes"
@@ -22,7 +24,8 @@ class Kind(Enum):
 
 @dataclass(frozen=True)
 class Mode:
-    """A mode: its size in pixels, how many dots of a frame a pixel has, and the DAC's entry of each colour's number."""
+    """A mode: its size in pixels, how many dots of a frame a pixel has, and the DAC's entry of each
+    colour's number."""
 
     number: int
     kind: Kind
@@ -57,7 +60,8 @@ class Mode:
         return f"{self.width}x{self.height}"
 
 
-# What the palette of 16 colours names after a mode set: entries as on a display of 64 colours, or of 16.
+# What the palette of 16 colours names after a mode set: entries as on a display of 64 colours, or
+# of 16.
 OF_64 = (0x00, 0x01, 0x02, 0x03, 0x04, 0x05, 0x14, 0x07, *range(0x38, 0x40))
 OF_16 = (*range(0x00, 0x08), *range(0x10, 0x18))
 MODES = {
@@ -80,7 +84,8 @@ def text_of(rows: int) -> Mode:
 
 
 class Fit(Enum):
-    """What is done to an image of another size: nothing, it is stretched, or it keeps its shape between bars."""
+    """What is done to an image of another size: nothing, it is stretched, or it keeps its shape
+    between bars."""
 
     EXACT = "exact"
     SCALE = "scale"
@@ -88,25 +93,31 @@ class Fit(Enum):
 
 
 def _stretched(image: Image, width: int, height: int) -> list[bytes]:
-    """The rows of an image in another size: each dot is the one of the image that its middle falls on."""
+    """The rows of an image in another size: each dot is the one of the image that its middle falls
+    on."""
     columns = [(2 * x + 1) * image.width // (2 * width) for x in range(width)]
     lines = [(2 * y + 1) * image.height // (2 * height) for y in range(height)]
-    known = {line: b"".join([image.rows[line][3 * x:3 * x + 3] for x in columns]) for line in set(lines)}
+    known = {
+        line: b"".join([image.rows[line][3 * x : 3 * x + 3] for x in columns])
+        for line in set(lines)
+    }
     return [known[line] for line in lines]
 
 
 def fitted(image: Image, mode: Mode, fit: Fit, bars: bytes, name: str) -> tuple[Image, str]:
     """An image of the mode's size, and what was done for that; a Trouble where nothing may be done.
 
-    `bars` is the colour of bars, eight bits a component. The image's dots are square, and a screen has the shape of 4 to
-    3 in each mode.
+    `bars` is the colour of bars, eight bits a component. The image's dots are square, and a screen
+    has the shape of 4 to 3 in each mode.
     """
     given = f"{image.width}x{image.height}"
     if (image.width, image.height) == (mode.width, mode.height):
         return image, given
     if fit is Fit.EXACT:
         ways = "--scale stretches it, --fit keeps its shape"
-        raise Trouble(f"the image has {given} dots, and mode {mode.name} has {mode.size}: {ways}", name)
+        raise Trouble(
+            f"the image has {given} dots, and mode {mode.name} has {mode.size}: {ways}", name
+        )
     width, height = mode.width, mode.height
     if fit is Fit.FIT and WIDE * image.height < HIGH * image.width:
         height = max(1, WIDE * image.height * height // (HIGH * image.width))

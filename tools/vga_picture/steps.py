@@ -1,4 +1,5 @@
-"""What a script that draws is made of: steps, services, blocks that are repeated; how it is written; its figures."""
+"""What a script that draws is made of: steps, services, blocks that are repeated; how it is
+written; its figures."""
 
 from collections import Counter
 from typing import BinaryIO, Iterable, Iterator, NamedTuple, Sequence, Union
@@ -10,19 +11,22 @@ from zaklimot.format.text import printed_item
 
 
 class Item(NamedTuple):
-    """A step or a block of a script, with its cycles. A word is one, as a bus of 16 bits takes it."""
+    """A step or a block of a script, with its cycles. A word is one, as a bus of 16 bits takes
+    it."""
 
     step: Union[format.Step, format.Block]
     cycles: int = 1
 
 
 def service(cycles: int, *registers: int, block: bytes = b"") -> Item:
-    """A call of the video BIOS with AX, BX, CX and DX, or the first of these; its cycles are as in docs/SERVICES.md."""
+    """A call of the video BIOS with AX, BX, CX and DX, or the first of these; its cycles are as in
+    docs/SERVICES.md."""
     return Item(format.Step("int", (*registers, 0, 0, 0)[:4], block), cycles)
 
 
 def runs(numbers: Iterable[int], gap: int = 0) -> Iterator[range]:
-    """Numbers as ranges of those that follow one another; so many may be lacking between two, and are in it then."""
+    """Numbers as ranges of those that follow one another; so many may be lacking between two, and
+    are in it then."""
     run = range(0)
     for number in numbers:
         if run and run.stop <= number <= run.stop + gap:
@@ -53,7 +57,8 @@ def _lines(parts: Sequence[Part], answer: str, version: int) -> bytes:
 
 
 def write_script(stream: BinaryIO, parts: Sequence[Part], answer: str, is_text: bool) -> str:
-    """Writes a script, whose last step is a frame, and answers its figures; a Trouble where it is too long for one."""
+    """Writes a script, whose last step is a frame, and answers its figures; a Trouble where it is
+    too long for one."""
     items = [item for part in parts for item in part.items]
     blocks = sum(isinstance(item.step, format.Block) for item in items)
     script = format.Script(tuple(item.step for item in items), 2 if blocks else 1)
@@ -61,7 +66,10 @@ def write_script(stream: BinaryIO, parts: Sequence[Part], answer: str, is_text: 
     if max(script.size, len(data)) > MOST_BYTES or script.count > MOST_STEPS:
         raise Trouble(f"the script would be longer than {MOST_BYTES:,} bytes or steps")
     stream.write(data)
-    kinds = [f"{count:,} {kind}" for kind, count in Counter(step.name for step in script.steps()).most_common()]
+    kinds = [
+        f"{count:,} {kind}"
+        for kind, count in Counter(step.name for step in script.steps()).most_common()
+    ]
     kinds += [f"{blocks:,} repeat"] if blocks else []
     cycles = sum(item.cycles for item in items)
     return f"{script.count:,} steps, {cycles:,} cycles, {len(data):,} bytes: {', '.join(kinds)}"

@@ -1,4 +1,5 @@
-"""The words of the command line, and what a release holds: files of the commit, what is built, the wheel, and pages.
+"""The words of the command line, and what a release holds: files of the commit, what is built, the
+wheel, and pages.
 
 Their links lead to what is in it. The archive hangs on nothing but its files and the commit's time.
 The C file has an archive of its own, which needs no toolchain.
@@ -19,7 +20,16 @@ from typing import AbstractSet, BinaryIO, Mapping, Match, NamedTuple, Optional, 
 
 from vga_library.command import check_given
 from vga_library.making import (
-    AARCH64, BACKENDS, MOVING, X86_64, Place, Target, built_archive, kit_line, make_library, memory_part,
+    AARCH64,
+    BACKENDS,
+    MOVING,
+    X86_64,
+    Place,
+    Target,
+    built_archive,
+    kit_line,
+    make_library,
+    memory_part,
 )
 from vga_report import TOP, cli
 from vga_report.crates import phases
@@ -56,20 +66,41 @@ class Commit(NamedTuple):
 
 
 # The tools that need no toolchain: the command of each, and its package.
-TOOLS = tuple(f"tools/vga{mark}{name}" for name in ("floppy", "fuzz", "picture", "report", "trace") for mark in "-_")
+TOOLS = tuple(
+    f"tools/vga{mark}{name}"
+    for name in ("floppy", "fuzz", "picture", "report", "trace")
+    for mark in "-_"
+)
 # The front page of a release is this one, and the repository's lies beside the other pages.
 PAGE, FRONT = "tools/vga_release/README.md", "README.md"
 # What of the commit goes into a release, where it lies in the repository.
 PATHS = (
-    "CHANGELOG.md", "CMakeLists.txt", "LICENSE", FRONT, PAGE, "SECURITY.md", "bindings",
-    "crates/vga_suite/data", "docs", "examples", "fonts", "include", "page/zaklimot.html", PORTABLE,
-    "share", "tools/README.md", "tools/vga", *TOOLS,
+    "CHANGELOG.md",
+    "CMakeLists.txt",
+    "LICENSE",
+    FRONT,
+    PAGE,
+    "SECURITY.md",
+    "bindings",
+    "crates/vga_suite/data",
+    "docs",
+    "examples",
+    "fonts",
+    "include",
+    "page/zaklimot.html",
+    PORTABLE,
+    "share",
+    "tools/README.md",
+    "tools/vga",
+    *TOOLS,
 )
 MOVED = {PAGE: FRONT, FRONT: f"docs/{FRONT}"}
 # What is in the archive of the C file, all in one folder.
 ALONE_PAGE = "tools/vga_release/PORTABLE.md"
 ALONE = {
-    ALONE_PAGE: FRONT, "LICENSE": "LICENSE", "fonts/zaklimot.fnt": "zaklimot.fnt",
+    ALONE_PAGE: FRONT,
+    "LICENSE": "LICENSE",
+    "fonts/zaklimot.fnt": "zaklimot.fnt",
     **{f"include/{name}": name for name in ("zaklimot.h", "zaklimot.hpp")},
     **{f"{PORTABLE}/{name}": name for name in ("CMakeLists.txt", "vga.c", "zaklimot.c")},
 }
@@ -77,7 +108,9 @@ INSTALL = "install.sh"
 # Other names of what is built, so that the commands of all pages run in a release as they stand.
 LINKS: Mapping[str, Entry] = {
     "crates/vga/out/vga": "../../../bin/vga",
-    "kit/include": "../include", "kit/lib": "../lib", "kit/share": "../share",
+    "kit/include": "../include",
+    "kit/lib": "../lib",
+    "kit/share": "../share",
 }
 MADE_OF = "MADE-OF"
 PACKAGE = "bindings/python"
@@ -85,10 +118,12 @@ PACKAGE = "bindings/python"
 SOURCES = (PACKAGE, "fonts")
 # The package's own backend makes the wheel, as it does for pip.
 MAKING = "import sys, building; building.build_wheel(sys.argv[1])"
-# What stands between fences, which has no links; or a link or an image that leads to a file of the repository.
+# What stands between fences, which has no links; or a link or an image that leads to a file of the
+# repository.
 LINK = re.compile(
     r"^```.*?^```$"
-    r"|(?P<mark>!?)\[(?P<text>[^\[\]]*)\]\((?!https?:|#)(?P<place>[^()\s#]+)(?P<anchor>#[^()\s]*)?\)",
+    r"|(?P<mark>!?)\[(?P<text>[^\[\]]*)\]"
+    r"\((?!https?:|#)(?P<place>[^()\s#]+)(?P<anchor>#[^()\s]*)?\)",
     re.M | re.S,
 )
 
@@ -96,8 +131,11 @@ LINK = re.compile(
 def laid_files(folder: Path) -> dict[str, Entry]:
     """The files and the links below a folder, by their places in it."""
     return {
-        str(path.relative_to(folder)): str(path.readlink()) if path.is_symlink() else File(path.read_bytes())
-        for path in sorted(folder.rglob("*")) if path.is_symlink() or path.is_file()
+        str(path.relative_to(folder)): (
+            str(path.readlink()) if path.is_symlink() else File(path.read_bytes())
+        )
+        for path in sorted(folder.rglob("*"))
+        if path.is_symlink() or path.is_file()
     }
 
 
@@ -112,7 +150,11 @@ def library_files(files: Mapping[str, Entry], target: Target, archive: Path) -> 
         make_library(archive, memory_part(target, Path(name)), Place(str(library)), MOVING, target)
         wheel = wheel_of(files, library, making, target)
         made = {wheel.name: File(wheel.read_bytes()), **laid_files(library)}
-    return made if target == X86_64 else {f"{target.name}/{place}": entry for place, entry in made.items()}
+    return (
+        made
+        if target == X86_64
+        else {f"{target.name}/{place}": entry for place, entry in made.items()}
+    )
 
 
 def settled(entries: Mapping[str, Entry], moved: Mapping[str, str] = MOVED) -> dict[str, Entry]:
@@ -132,14 +174,22 @@ def made_of(commit: Commit, toolchain: str, built: Mapping[str, Entry]) -> File:
     """The commit, the toolchain, and a checksum of each file that was built."""
     sums = (
         f"sha256 {hashlib.sha256(entry.content).hexdigest()} {path}\n"
-        for path, entry in sorted(built.items()) if isinstance(entry, File)
+        for path, entry in sorted(built.items())
+        if isinstance(entry, File)
     )
-    return File((f"commit {commit.number}\ntoolchain {toolchain}\n" + "".join(sums)).encode("ascii"))
+    return File(
+        (f"commit {commit.number}\ntoolchain {toolchain}\n" + "".join(sums)).encode("ascii")
+    )
 
 
-def release_entries(commit: Commit, program: Path, archives: Mapping[Target, Path]) -> dict[str, Entry]:
-    """All files of a release: among those that are built the program, and a library and a wheel for each processor."""
-    files, built = files_of(commit, PATHS), dict[str, Entry]({"bin/vga": File(program.read_bytes(), True)})
+def release_entries(
+    commit: Commit, program: Path, archives: Mapping[Target, Path]
+) -> dict[str, Entry]:
+    """All files of a release: among those that are built the program, and a library and a wheel for
+    each processor."""
+    files, built = files_of(commit, PATHS), dict[str, Entry](
+        {"bin/vga": File(program.read_bytes(), True)}
+    )
     for target, archive in archives.items():
         built.update(library_files(files, target, archive))
     install = File((Path(__file__).parent / INSTALL).read_bytes(), True)
@@ -157,7 +207,8 @@ def portable_entries(commit: Commit) -> dict[str, Entry]:
 
 
 def wheel_of(files: Mapping[str, Entry], library: Path, folder: Path, target: Target) -> Path:
-    """Makes the wheel for a processor in a folder, of these files of the repository and a folder of the library's."""
+    """Makes the wheel for a processor in a folder, of these files of the repository and a folder of
+    the library's."""
     for place, file in files.items():
         if isinstance(file, File) and place.startswith(tuple(f"{source}/" for source in SOURCES)):
             laid = folder / "sources" / place
@@ -167,16 +218,22 @@ def wheel_of(files: Mapping[str, Entry], library: Path, folder: Path, target: Ta
     made.mkdir()
     # As where Python itself is built for another processor.
     environment = {
-        "ZAKLIMOT_DIR": str(library), "ZAKLIMOT_PORTABLE": "",
+        "ZAKLIMOT_DIR": str(library),
+        "ZAKLIMOT_PORTABLE": "",
         "_PYTHON_HOST_PLATFORM": f"linux-{target.name}",
     }
     # With -B Python leaves nothing beside the sources, which would go into the wheel.
-    run([sys.executable, "-B", "-c", MAKING, made], folder / "sources" / PACKAGE, environment=environment)
+    run(
+        [sys.executable, "-B", "-c", MAKING, made],
+        folder / "sources" / PACKAGE,
+        environment=environment,
+    )
     return next(made.iterdir())
 
 
 def _link(page: str, places: AbstractSet[str], moved: Mapping[str, str], found: Match[str]) -> str:
-    """A link of a page of the repository, as it is in a release that has these places: words, if it leads elsewhere."""
+    """A link of a page of the repository, as it is in a release that has these places: words, if it
+    leads elsewhere."""
     if found["place"] is None:
         return found[0]
     target = posixpath.normpath(posixpath.join(posixpath.dirname(page), found["place"]))
@@ -184,12 +241,18 @@ def _link(page: str, places: AbstractSet[str], moved: Mapping[str, str], found: 
     if place not in places:
         return found["text"]
     folder = posixpath.dirname(moved.get(page, page)) or "."
-    return f"{found['mark']}[{found['text']}]({posixpath.relpath(place, folder)}{found['anchor'] or ''})"
+    there = posixpath.relpath(place, folder) + (found["anchor"] or "")
+    return f"{found['mark']}[{found['text']}]({there})"
 
 
 def clean_commit() -> Commit:
-    """The commit that is checked out. Where a file differs from it, there is none to make a release from."""
-    changed = _git("status", "--porcelain", "--untracked-files=no").decode("utf-8", "replace").split("\n")[0]
+    """The commit that is checked out. Where a file differs from it, there is none to make a release
+    from."""
+    changed = (
+        _git("status", "--porcelain", "--untracked-files=no")
+        .decode("utf-8", "replace")
+        .split("\n")[0]
+    )
     if changed:
         raise Trouble(f"a release is made from a commit, and this is changed: {changed.strip()}")
     number, time = _git("log", "-1", "--format=%H %ct").decode("ascii").split()
@@ -199,7 +262,9 @@ def clean_commit() -> Commit:
 def files_of(commit: Commit, paths: Sequence[str]) -> dict[str, Entry]:
     """The files and the links of a commit below these paths."""
     files: dict[str, Entry] = {}
-    with tarfile.open(fileobj=io.BytesIO(_git("archive", "--format=tar", commit.number, "--", *paths))) as archive:
+    with tarfile.open(
+        fileobj=io.BytesIO(_git("archive", "--format=tar", commit.number, "--", *paths))
+    ) as archive:
         for member in archive.getmembers():
             stream = archive.extractfile(member) if member.isfile() else None
             if stream is not None:
@@ -214,7 +279,8 @@ def _git(*words: str) -> bytes:
 
 
 def _member(name: str, entry: Optional[Entry], time: int) -> tarfile.TarInfo:
-    """What an archive tells of a file, a link, or a folder, which has no entry: no owner, and the commit's time."""
+    """What an archive tells of a file, a link, or a folder, which has no entry: no owner, and the
+    commit's time."""
     made = tarfile.TarInfo(name)
     made.mtime, made.mode = time, RUN
     if isinstance(entry, File):
@@ -229,7 +295,9 @@ def _member(name: str, entry: Optional[Entry], time: int) -> tarfile.TarInfo:
 def pack(stream: BinaryIO, entries: Mapping[str, Entry], time: int) -> None:
     """Writes the archive: names in order, each folder before what lies in it."""
     folders = {str(folder) for path in entries for folder in PurePosixPath(path).parents} - {"."}
-    with gzip.GzipFile(filename="", mode="wb", compresslevel=LEVEL, fileobj=stream, mtime=time) as packed:
+    with gzip.GzipFile(
+        filename="", mode="wb", compresslevel=LEVEL, fileobj=stream, mtime=time
+    ) as packed:
         with tarfile.open(fileobj=packed, mode="w", format=tarfile.PAX_FORMAT) as archive:
             for name in sorted({*entries, *folders}):
                 entry = entries.get(name)
@@ -239,12 +307,30 @@ def pack(stream: BinaryIO, entries: Mapping[str, Entry], time: int) -> None:
 
 def _parser() -> argparse.ArgumentParser:
     parser = cli.tool_parser(
-        "vga-release", "Packs a release of what is checked out.", "tools/vga-release release", "docs/RELEASES.md"
+        "vga-release",
+        "Packs a release of what is checked out.",
+        "tools/vga-release release",
+        "docs/RELEASES.md",
     )
     parser.add_argument("folder", type=Path, metavar="FOLDER", help="where the archive goes")
-    cli.add(parser, "--program FILE", "takes this program (default: `rt run` proves and builds one)", type=to_read)
-    cli.add(parser, "--archive FILE", "takes this archive of the library (default: `rt lib` builds one)", type=to_read)
-    cli.add(parser, f"--archive-{AARCH64.name} FILE", f"the same of the library for {AARCH64.name}", type=to_read)
+    cli.add(
+        parser,
+        "--program FILE",
+        "takes this program (default: `rt run` proves and builds one)",
+        type=to_read,
+    )
+    cli.add(
+        parser,
+        "--archive FILE",
+        "takes this archive of the library (default: `rt lib` builds one)",
+        type=to_read,
+    )
+    cli.add(
+        parser,
+        f"--archive-{AARCH64.name} FILE",
+        f"the same of the library for {AARCH64.name}",
+        type=to_read,
+    )
     told = f"packs the archive of {PORTABLE}/zaklimot.c alone, for which nothing is built"
     cli.add(parser, f"--{PORTABLE}", told)
     parser.set_defaults(job=_release)
@@ -273,7 +359,9 @@ def write_archive(folder: Path, kind: str, entries: Mapping[str, Entry], time: i
     with writing(str(path)) as stream:
         pack(stream, {f"{name}/{place}": entry for place, entry in entries.items()}, time)
     sums = path.with_name(f"{path.name}.{SUM}")
-    write_file(str(sums), f"{hashlib.sha256(path.read_bytes()).hexdigest()}  {path.name}\n".encode("ascii"))
+    write_file(
+        str(sums), f"{hashlib.sha256(path.read_bytes()).hexdigest()}  {path.name}\n".encode("ascii")
+    )
     print(path, sums, sep="\n")
 
 

@@ -1,6 +1,7 @@
 """Reads the adapter's reports: as text, as pictures, side by side, and against the suite of cases.
 
-All tools find the format of scripts and reports here, in the package that the bindings for Python have.
+All tools find the format of scripts and reports here, in the package that the bindings for Python
+have.
 """
 
 import sys

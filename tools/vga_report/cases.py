@@ -60,7 +60,8 @@ class Case(NamedTuple):
         return self.name
 
     def script(self) -> bytes:
-        """Its whole script: text, with what stands in front of it, or bytes, where `XX*N` is N times the byte."""
+        """Its whole script: text, with what stands in front of it, or bytes, where `XX*N` is N
+        times the byte."""
         source = bytes_of(self.source, MOST_BYTES)
         if not self.is_bytes:
             return (bytes_of(self.front, MOST_BYTES) if self.front else b"") + source
@@ -80,7 +81,9 @@ class Case(NamedTuple):
         if step is None:
             return ""
         lines = bytes_of(self.front, MOST_BYTES).count(b"\n") if self.front else 0
-        file, line = (self.source, step.number - lines) if step.number > lines else (self.front, step.number)
+        file, line = (
+            (self.source, step.number - lines) if step.number > lines else (self.front, step.number)
+        )
         return printable(f"`{step.words[:MOST_WORDS]}`, {file.relative_to(self.folder)}:{line}")
 
     def expects_fault(self) -> bool:
@@ -89,7 +92,8 @@ class Case(NamedTuple):
             return FAULT.match(stream.read(MOST_FAULT).decode("ascii", "replace")) is not None
 
     def stopped_script(self) -> bytes:
-        """The script that does the same where none can stop it: its first steps, and dumps of the state.
+        """The script that does the same where none can stop it: its first steps, and dumps of the
+        state.
 
         One with a mistake stays whole, since all of it is judged before the first step.
         """
@@ -98,15 +102,20 @@ class Case(NamedTuple):
         return _front_of(self.script(), self.until) + STATE_DUMPS
 
     def has_answers_of_machine(self) -> bool:
-        """Whether a step before the first that is to be refused has an answer that a machine can give."""
-        steps = () if self.expects_fault() else takewhile(lambda step: step.kind != REFUSAL, self.expected_steps())
+        """Whether a step before the first that is to be refused has an answer that a machine can
+        give."""
+        steps = (
+            ()
+            if self.expects_fault()
+            else takewhile(lambda step: step.kind != REFUSAL, self.expected_steps())
+        )
         return any(step.kind == VALUE or step.answer.startswith(CALLED) for step in steps)
 
     def handed(self, is_for_machine: bool, can_stop: bool) -> bytes:
         """Its script as a command gets it, which can stop a run or not.
 
-        A text for a machine ends before the first step that is to be refused, and has its blocks spelt out then. All
-        others are handed over as they stand.
+        A text for a machine ends before the first step that is to be refused, and has its blocks
+        spelt out then. All others are handed over as they stand.
         """
         if self.is_bytes or can_stop and not is_for_machine:
             return self.script()
@@ -122,18 +131,23 @@ class Case(NamedTuple):
 
 def printable(text: str, others: str = "") -> str:
     """A text that no terminal takes for more than a text. Other characters may be kept."""
-    return "".join(character if character.isprintable() or character in others else "?" for character in text)
+    return "".join(
+        character if character.isprintable() or character in others else "?" for character in text
+    )
 
 
 def _front_of(text: bytes, steps: int) -> bytes:
-    """The lines of a script up to so many steps, whole lines each; those of version 2 without blocks."""
+    """The lines of a script up to so many steps, whole lines each; those of version 2 without
+    blocks."""
     first = next(lines_in(BytesIO(text)), None)
     lines = list(islice(steps_in(BytesIO(text)), steps + 1))
     if first is not None and first.has_blocks:
-        return "".join(f"{line.words}\n" for line in lines[:steps]).encode("utf-8", "surrogateescape")
+        return "".join(f"{line.words}\n" for line in lines[:steps]).encode(
+            "utf-8", "surrogateescape"
+        )
     if len(lines) <= steps:
         return text if text.endswith(b"\n") else text + b"\n"
-    return b"".join(line + b"\n" for line in text.split(b"\n")[:lines[steps].number - 1])
+    return b"".join(line + b"\n" for line in text.split(b"\n")[: lines[steps].number - 1])
 
 
 def read_cases(path: str) -> list[Case]:
@@ -142,7 +156,9 @@ def read_cases(path: str) -> list[Case]:
     fonts: Optional[Path] = None
     front: Optional[Path] = None
     cases = []
-    for number, line in enumerate(read_at_most(path, MOST_BYTES).decode("utf-8", "replace").splitlines(), 1):
+    for number, line in enumerate(
+        read_at_most(path, MOST_BYTES).decode("utf-8", "replace").splitlines(), 1
+    ):
         word, _, rest = line.strip().partition(" ")
         if not word or word.startswith("#") or word == "wrong":
             continue
@@ -155,7 +171,11 @@ def read_cases(path: str) -> list[Case]:
             if found is None:
                 raise Trouble(f"no case: '{line[:40]}'", name, number)
             if ".." in Path(found["name"]).parts or Path(found["name"]).is_absolute():
-                raise Trouble(f"a case outside the list's folder: '{found['name'][:40]}'", name, number)
+                raise Trouble(
+                    f"a case outside the list's folder: '{found['name'][:40]}'", name, number
+                )
             until = None if found["steps"] is None else int(found["steps"])
-            cases.append(Case(found["name"], folder, fonts, front, until, found["bytes"] is not None))
+            cases.append(
+                Case(found["name"], folder, fonts, front, until, found["bytes"] is not None)
+            )
     return cases

@@ -1,4 +1,5 @@
-"""How each tool begins and ends: its words and help, its streams, its signals, its exit status, and what it says at last."""
+"""How each tool begins and ends: its words and help, its streams, its signals, its exit status, and
+what it says at last."""
 
 import argparse
 import os
@@ -39,10 +40,15 @@ class _Parser(argparse.ArgumentParser):
             (file or sys.stderr).write(message)
 
 
-def tool_parser(name: str, does: str, example: str, page: str, statuses: str = DOES) -> argparse.ArgumentParser:
-    """The parser of a tool, whose help has an example of its use and names the page that tells more."""
+def tool_parser(
+    name: str, does: str, example: str, page: str, statuses: str = DOES
+) -> argparse.ArgumentParser:
+    """The parser of a tool, whose help has an example of its use and names the page that tells
+    more."""
     made = _Parser(
-        prog=name, description=does, formatter_class=argparse.RawDescriptionHelpFormatter,
+        prog=name,
+        description=does,
+        formatter_class=argparse.RawDescriptionHelpFormatter,
         epilog=f"Example:\n  {example}\n\n{statuses}\n{page} tells more.",
     )
     made.add_argument("--version", action=_Version, nargs=0, help="prints the release's number")
@@ -50,7 +56,8 @@ def tool_parser(name: str, does: str, example: str, page: str, statuses: str = D
 
 
 def add(parser: argparse._ActionsContainer, spelt: str, told: str, **given: Any) -> None:
-    """Adds a word as a usage spells it: `FILE`, `--flag` or `--option VALUE`. `given` goes to argparse."""
+    """Adds a word as a usage spells it: `FILE`, `--flag` or `--option VALUE`. `given` goes to
+    argparse."""
     name, _, value = spelt.partition(" ")
     if not name.startswith("-"):
         given = {"metavar": name, **given}
@@ -61,7 +68,9 @@ def add(parser: argparse._ActionsContainer, spelt: str, told: str, **given: Any)
     parser.add_argument(name if name.startswith("-") else name.lower(), help=told, **given)
 
 
-def command(commands: Any, name: str, job: Callable[..., object], told: str, **given: Any) -> argparse.ArgumentParser:
+def command(
+    commands: Any, name: str, job: Callable[..., object], told: str, **given: Any
+) -> argparse.ArgumentParser:
     """Adds a command, which does a job, to those of a tool."""
     made: argparse.ArgumentParser = commands.add_parser(name, help=told, **given)
     made.set_defaults(job=job)
@@ -69,19 +78,39 @@ def command(commands: Any, name: str, job: Callable[..., object], told: str, **g
 
 
 def add_proof(
-    parser: argparse.ArgumentParser, gate: Optional[argparse._ActionsContainer] = None, usually: str = ""
+    parser: argparse.ArgumentParser,
+    gate: Optional[argparse._ActionsContainer] = None,
+    usually: str = "",
 ) -> None:
     """The options of a tool that proves the library's crate; `gate` gets that of the gate."""
-    add(gate or parser, "--gated", f"works over the libraries of `rt ci`, which must have run just before{usually}")
-    add(parser, "--proof FOLDER", "with --gated: keeps the crate's proof there, or takes it from there", type=Path)
+    add(
+        gate or parser,
+        "--gated",
+        f"works over the libraries of `rt ci`, which must have run just before{usually}",
+    )
+    add(
+        parser,
+        "--proof FOLDER",
+        "with --gated: keeps the crate's proof there, or takes it from there",
+        type=Path,
+    )
 
 
 def add_checks(
-    parser: argparse.ArgumentParser, checks: Iterable[str], gate: Optional[argparse._ActionsContainer] = None,
+    parser: argparse.ArgumentParser,
+    checks: Iterable[str],
+    gate: Optional[argparse._ActionsContainer] = None,
 ) -> None:
     """The same of a tool that checks the crate."""
     add_proof(parser, gate)
-    add(parser, "--only", "this check alone; again and again", action="append", default=[], choices=checks)
+    add(
+        parser,
+        "--only",
+        "this check alone; again and again",
+        action="append",
+        default=[],
+        choices=checks,
+    )
 
 
 def refuse_to_check(words: argparse.Namespace, lacking: Sequence[str] = ()) -> None:
@@ -97,7 +126,8 @@ class Ended(BaseException):
 
 
 def open_closed_streams() -> bool:
-    """Sees to it that no file gets the number of a standard stream that is closed; whether there is an output."""
+    """Sees to it that no file gets the number of a standard stream that is closed; whether there is
+    an output."""
     is_written = sys.stdout is not None
     while (handle := os.open(os.devnull, os.O_RDWR)) <= 2:
         pass
@@ -131,8 +161,8 @@ def _ending_at_signals() -> Iterator[None]:
 def run(name: str, work: Callable[[], int], progress: Optional[Progress] = None) -> int:
     """Does a tool's work, which answers its exit status; the status with which the tool is to end.
 
-    What it can't do is told on standard error. Once this returns, all is undone that the work's own `with` and
-    `finally` undo, also where a signal ended it.
+    What it can't do is told on standard error. Once this returns, all is undone that the work's own
+    `with` and `finally` undo, also where a signal ended it.
     """
     if not open_closed_streams():
         sys.stderr.write(f"{name}: standard output: it is closed\n")
@@ -165,7 +195,8 @@ def run(name: str, work: Callable[[], int], progress: Optional[Progress] = None)
 
 
 def _end_output(is_kept: bool) -> None:
-    """Writes what is left of standard output, or drops it: it would fail once more when Python ends."""
+    """Writes what is left of standard output, or drops it: it would fail once more when Python
+    ends."""
     try:
         if is_kept:
             sys.stdout.flush()
@@ -180,6 +211,7 @@ def runner(made: Callable[[], argparse.ArgumentParser]) -> Callable[[Optional[Se
 
     Its parser sets a `job`, which takes the words and the progress, and answers a status or None.
     """
+
     def main(words: Optional[Sequence[str]] = None) -> int:
         progress, parser = Progress(), made()
 

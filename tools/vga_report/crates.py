@@ -31,9 +31,11 @@ def below(name: str) -> list[str]:
 
 
 def phases(progress: Progress, crate: str = "vga_c") -> Callable[[str], Hearer]:
-    """What begins a phase of work on a crate, that of the library or another, and answers what hears its program.
+    """What begins a phase of work on a crate, that of the library or another, and answers what
+    hears its program.
 
-    It tells what is done, and at which crate it is, of this one and those below it, or else what is said.
+    It tells what is done, and at which crate it is, of this one and those below it, or else what is
+    said.
     """
     crates, begun = [*below(crate), crate], time.monotonic()
 

@@ -1,4 +1,5 @@
-"""The page that runs scripts, and its data: a JSON object, in which a script of the user's may stand."""
+"""The page that runs scripts, and its data: a JSON object, in which a script of the user's may
+stand."""
 
 from __future__ import annotations
 
@@ -25,7 +26,8 @@ MOST_PAGE = 1 << 24
 
 
 def data_element(data: dict[str, Any]) -> str:
-    """The element of a page that holds its data. No character of them ends it, or begins another."""
+    """The element of a page that holds its data. No character of them ends it, or begins
+    another."""
     return BEGIN + json.dumps(data, separators=(",", ":")).replace("<", "\\u003c") + END
 
 
@@ -54,7 +56,9 @@ def link_to(path: str | Path, page: str) -> str:
 def debug_page(name: str, script: bytes, fonts: str, page: str) -> bytes:
     """The page that runs this script with this font file, as it is written to a file."""
     if not PAGE.exists():
-        raise Trouble("the page is not built: `tools/vga-page make page/zaklimot.html` builds it", str(PAGE))
+        raise Trouble(
+            "the page is not built: `tools/vga-page make page/zaklimot.html` builds it", str(PAGE)
+        )
     if fonts == STANDARD:
         raise Trouble("--fonts wants a file")
     text = read_at_most(str(PAGE), MOST_PAGE).decode("utf-8")
@@ -64,9 +68,17 @@ def debug_page(name: str, script: bytes, fonts: str, page: str) -> bytes:
         raise Trouble(f"the font file has {len(font):,} bytes, and {FONT_BYTES:,} are right", fonts)
     in_base64, in_text = base64.b64encode(font).decode("ascii"), script.decode("utf-8", "replace")
     # A byte that is no text is wrong in a step, and means nothing in a comment.
-    given = {"bytes": base64.b64encode(script).decode("ascii")} if is_bytes(script) else {"text": in_text}
+    given = (
+        {"bytes": base64.b64encode(script).decode("ascii")}
+        if is_bytes(script)
+        else {"text": in_text}
+    )
     # The project's own font file is in the page.
-    data["open"] = {"name": name, **given, "fonts": None if in_base64 == data["fonts"] else in_base64}
+    data["open"] = {
+        "name": name,
+        **given,
+        "fonts": None if in_base64 == data["fonts"] else in_base64,
+    }
     data["pages"] = link_to(DOCS, page) + "/"
     element = data_element(data)
     return ELEMENT.sub(lambda _: element, text).encode("utf-8")

@@ -1,4 +1,5 @@
-"""Answers that a script expects, held against those that came; what differs in a dump is told by name.
+"""Answers that a script expects, held against those that came; what differs in a dump is told by
+name.
 
 The names of registers are those of the page.
 """
@@ -30,11 +31,16 @@ REFUSAL = re.compile(r"(E[1-9][0-9]?) [A-Za-z]+")
 # The registers that `show regs` shows, by the word that their line begins with.
 NAMES = {
     group["id"]: [register["name"] for register in group["registers"]]
-    for group in WORDINGS["registers"] if group["id"] != "misc"
+    for group in WORDINGS["registers"]
+    if group["id"] != "misc"
 }
 COLOURS = ("red", "green", "blue")
-# The words before the numbers of a line: of registers, of cells, of a DAC entry, of a plane from an offset on.
-_ROW = re.compile(r"(?:(seq|crtc|gfx|attr) (\S+)(?: [id])?|(row|entry) ([0-9A-F]{2})|plane ([0-3]) ([0-9A-F]{4})):")
+# The words before the numbers of a line: of registers, of cells, of a DAC entry, of a plane from an
+# offset on.
+_ROW = re.compile(
+    r"(?:(seq|crtc|gfx|attr) (\S+)(?: [id])?|(row|entry) ([0-9A-F]{2})|plane ([0-3])"
+    r" ([0-9A-F]{4})):"
+)
 # So many differences of a dump are named.
 MOST_NAMED = 8
 
@@ -47,15 +53,18 @@ def expected_in(comment: bytes) -> Optional[str]:
 @lru_cache(4096)
 def _marked(comment: bytes) -> Optional[str]:
     text = text_of(comment).strip()
-    return " ".join(text[len(MARK):].partition(";")[0].split()) if text.startswith(MARK) else None
+    return " ".join(text[len(MARK) :].partition(";")[0].split()) if text.startswith(MARK) else None
 
 
 def answer_of(step: Answer) -> str:
-    """An answer on one line: a picture by size and digest, a dump of several lines by their number and digest."""
+    """An answer on one line: a picture by size and digest, a dump of several lines by their number
+    and digest."""
     if step.picture is not None:
         return f"picture {step.picture.size} {step.picture.sum}"
     if step.others:
-        digest = hashlib.md5("".join(line + "\n" for line in step.lines).encode("ascii")).hexdigest()
+        digest = hashlib.md5(
+            "".join(line + "\n" for line in step.lines).encode("ascii")
+        ).hexdigest()
         return f"{len(step.lines)} lines {digest}"
     return step.answer
 
@@ -66,7 +75,11 @@ def is_as_expected(step: Answer, expected: str, words: str) -> bool:
         return True
     answer = answer_of(step).lower()
     wanted = expected.lower()
-    if wanted in (ANY, answer) or wanted.endswith(FRONT) and answer.startswith(wanted[:-len(FRONT)]):
+    if (
+        wanted in (ANY, answer)
+        or wanted.endswith(FRONT)
+        and answer.startswith(wanted[: -len(FRONT)])
+    ):
         return True
     refusal = REFUSAL.fullmatch(step.answer)
     if refusal is not None and words.partition(" ")[0].lower() not in READING:
@@ -79,14 +92,16 @@ def is_as_expected(step: Answer, expected: str, words: str) -> bool:
 
 
 def is_worth_telling(step: Answer, words: str) -> bool:
-    """Whether `--bless` writes an answer in: not where it is `ok`, or the registers that a call handed in."""
+    """Whether `--bless` writes an answer in: not where it is `ok`, or the registers that a call
+    handed in."""
     given = dict(word.lower().split("=", 1) for word in words.split() if "=" in word)
     handed_in = " ".join(f"{name}={given.get(name, '0'):0>4}" for name in REGISTERS)
     return step.answer not in ("ok", "skipped") and step.answer.lower() != handed_in
 
 
 def dumps_in(data: bytes, name: str) -> dict[int, tuple[str, ...]]:
-    """The dumps that stand whole in a text, by the lines of their steps; a Trouble where no step is to give an answer."""
+    """The dumps that stand whole in a text, by the lines of their steps; a Trouble where no step is
+    to give an answer."""
     dumps: dict[int, list[str]] = {}
     step = 0
     for number, line in enumerate(BytesIO(data) if b";" in data else (), 1):
@@ -100,24 +115,40 @@ def dumps_in(data: bytes, name: str) -> dict[int, tuple[str, ...]]:
             continue
         step = number if words and words[0].lower() not in BLOCK_WORDS else 0
         if not step and expected_in(comment) and comment.strip(b" =\t\r\n"):
-            raise Trouble(f"no step stands on this line, so nothing answers {expected_in(comment)}", name, number)
+            raise Trouble(
+                f"no step stands on this line, so nothing answers {expected_in(comment)}",
+                name,
+                number,
+            )
     return {number: tuple(lines) for number, lines in dumps.items()}
 
 
 def what_differs(step: Answer, expected: str, name: str, dump: tuple[str, ...]) -> list[str]:
-    """What of an answer is otherwise than expected, by name, as far as that is more than both answers tell."""
+    """What of an answer is otherwise than expected, by name, as far as that is more than both
+    answers tell."""
     refusal = REFUSAL.fullmatch(step.answer)
     if refusal is not None:
         is_byte = name in READING and re.fullmatch("e[1-9a-f]", expected.lower()) is not None
-        return [f"{expected} is a byte that is read here; the refusal is written {step.answer}"] if is_byte else []
+        return (
+            [f"{expected} is a byte that is read here; the refusal is written {step.answer}"]
+            if is_byte
+            else []
+        )
     if dump:
-        return differing(step.lines, dump) or ["the lines below it agree, and its digest is that of others"]
-    is_whole = name == "show" and expected.split(" ")[0] == step.answer.split(" ")[0] and not expected.endswith(FRONT)
+        return differing(step.lines, dump) or [
+            "the lines below it agree, and its digest is that of others"
+        ]
+    is_whole = (
+        name == "show"
+        and expected.split(" ")[0] == step.answer.split(" ")[0]
+        and not expected.endswith(FRONT)
+    )
     return differing([step.answer], [expected]) if is_whole and not step.others else []
 
 
 def differing(answer: Sequence[str], wanted: Sequence[str]) -> list[str]:
-    """What differs in a dump, each as `crtc 0C start address high: 03, not 00`; the rest is counted at the end."""
+    """What differs in a dump, each as `crtc 0C start address high: 03, not 00`; the rest is counted
+    at the end."""
     found = [told for pair in zip_longest(answer, wanted) for told in _in_line(*pair)]
     more = len(found) - MOST_NAMED
     return found[:MOST_NAMED] + ([f"and {more} more"] if more > 0 else [])
@@ -143,8 +174,14 @@ def _in_line(line: str | None, wanted: str | None) -> Iterator[str]:
 def _place(words: Sequence[str], row: re.Match[str] | None, at: int, front: int) -> str:
     if row is None:
         # A line of names and values, or of four latches.
-        names = [word for word in words[:at] if not re.fullmatch(r"[0-9A-F]{2,4}|[0-9]+", word)] or words[:1]
-        return f"latch of plane {at - 1}" if words[0] == "latches" else " ".join(dict.fromkeys([words[0], names[-1]]))
+        names = [
+            word for word in words[:at] if not re.fullmatch(r"[0-9A-F]{2,4}|[0-9]+", word)
+        ] or words[:1]
+        return (
+            f"latch of plane {at - 1}"
+            if words[0] == "latches"
+            else " ".join(dict.fromkeys([words[0], names[-1]]))
+        )
     group, _, kind, number, plane, offset = row.groups()
     if at < front:
         return f"{group or kind or 'plane'} {'index' if at == 1 else 'state'}"

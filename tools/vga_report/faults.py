@@ -1,10 +1,23 @@
-"""What a fault of the program means, in the file where it arose: the program judges, and this looks for the reason."""
+"""What a fault of the program means, in the file where it arose: the program judges, and this looks
+for the reason."""
 
 from functools import partial
 from typing import Optional
 
 from zaklimot.format import (
-    FAULT, FAULTS, FONT_BYTES, FORMS, HEADERS, MAGIC, MOST_BYTES, MOST_STEPS, OPCODES, SHOWN, Script, ScriptFault, read,
+    FAULT,
+    FAULTS,
+    FONT_BYTES,
+    FORMS,
+    HEADERS,
+    MAGIC,
+    MOST_BYTES,
+    MOST_STEPS,
+    OPCODES,
+    SHOWN,
+    Script,
+    ScriptFault,
+    read,
 )
 from zaklimot.format.table import END_CODE, REPEAT_CODE
 
@@ -16,7 +29,8 @@ from .wordings import WORDINGS, said
 # What is said of a file, and of a fault; the page says the same.
 _of_file, _of_fault = (partial(said, part) for part in ("files", "faults"))
 UNKNOWN = said("lines", "unknown")
-# Files of other kinds, by what they begin with; bytes that no text has; and how much of a file's front is looked at.
+# Files of other kinds, by what they begin with; bytes that no text has; and how much of a file's
+# front is looked at.
 FOREIGN = {bytes.fromhex(begin): what for begin, what in WORDINGS["foreign"]}
 CONTROLS, LOOKED_AT = set(range(32)) - set(b"\t\n\v\f\r"), 200
 SHOWS = FORMS["show regs"].opcode
@@ -34,12 +48,15 @@ def read_script(path: str) -> bytes:
 
 
 def script_of(data: bytes, name: str) -> Script:
-    """A script read whole; a Trouble with its fault, as the program has it, and the reason, where it is no good."""
+    """A script read whole; a Trouble with its fault, as the program has it, and the reason, where
+    it is no good."""
     try:
         return read(data)
     except ScriptFault as fault:
         line = fault.place if fault.fault.place == "line" else None
-        raise Trouble(f"{fault.answer}: {reason_of(fault.fault.name, fault.place, data)}", name, line) from fault
+        raise Trouble(
+            f"{fault.answer}: {reason_of(fault.fault.name, fault.place, data)}", name, line
+        ) from fault
 
 
 def explained(fault: str, script: str, fonts: str) -> str:
@@ -50,15 +67,27 @@ def explained(fault: str, script: str, fonts: str) -> str:
     name, place = found[2], None if found[3] is None else int(found[3])
     file, reason = script, SYSTEM.get(name, UNKNOWN)
     if name == "ReadFault":
-        unread = ((path, what, _read(path)[1]) for path, what in ((fonts, "font file"), (script, "script")))
+        unread = (
+            (path, what, _read(path)[1])
+            for path, what in ((fonts, "font file"), (script, "script"))
+        )
         told = ((path, f"the {what} can't be read: {why}") for path, what, why in unread if why)
         file, reason = next(told, (file, reason))
     elif name == "FontSize":
         data, _ = _read(fonts)
         count = f"{len(data):,}" if len(data) <= MOST_BYTES else f"more than {MOST_BYTES:,}"
-        rows = f"; a font of {len(data) // 256} rows alone has so many, and a font file has those of 8, 14 and 16 rows"
+        rows = (
+            f"; a font of {len(data) // 256} rows alone has so many, and a font file has those of"
+            " 8, 14 and 16 rows"
+        )
         is_script = data.startswith(MAGIC)
-        hint = rows if len(data) in (4096, 3584, 2048) else "; it is a script of bytes" if is_script else ""
+        hint = (
+            rows
+            if len(data) in (4096, 3584, 2048)
+            else "; it is a script of bytes"
+            if is_script
+            else ""
+        )
         file, reason = fonts, f"the font file has {count} bytes, and {FONT_BYTES:,} are right{hint}"
     elif name in FAULTS and name not in SYSTEM:
         file = f"{script}:{place}" if FAULTS[name].place == "line" else script
@@ -143,17 +172,21 @@ def not_a_script(data: bytes) -> Optional[str]:
 
 
 def _is_utf_16(data: bytes) -> bool:
-    """Whether each other byte of a file's front is 0, as of letters of two bytes, and the others are a text."""
+    """Whether each other byte of a file's front is 0, as of letters of two bytes, and the others
+    are a text."""
     begin = 2 if data.startswith((b"\xff\xfe", b"\xfe\xff")) else 0
-    pairs = data[begin:begin + LOOKED_AT // 2 * 2]
+    pairs = data[begin : begin + LOOKED_AT // 2 * 2]
     halves = pairs[0::2], pairs[1::2]
-    return any(high and not any(high) and low and not CONTROLS & set(low) for low, high in (halves, halves[::-1]))
+    return any(
+        high and not any(high) and low and not CONTROLS & set(low)
+        for low, high in (halves, halves[::-1])
+    )
 
 
 def _bad_step(data: bytes, place: int) -> str:
     if place >= len(data):
         return UNKNOWN
-    opcode, kind = data[place], data[place + 1:place + 2]
+    opcode, kind = data[place], data[place + 1 : place + 2]
     if opcode in (REPEAT_CODE, END_CODE) and data[4:5] == b"\2":
         name = "bad repeat" if opcode == REPEAT_CODE else "bad end"
         return _of_fault(name, name=OPCODES[opcode], place=place)

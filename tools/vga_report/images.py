@@ -15,11 +15,14 @@ from .png import MOST_DOTS, SIGNATURE, stretched
 from .streams import read_at_most
 from .trouble import Trouble
 
-PPM = re.compile(rb"P6(?:\s|#[^\n]*\n)+(\d{1,7})(?:\s|#[^\n]*\n)+(\d{1,7})(?:\s|#[^\n]*\n)+(\d{1,5})\s")
+PPM = re.compile(
+    rb"P6(?:\s|#[^\n]*\n)+(\d{1,7})(?:\s|#[^\n]*\n)+(\d{1,7})(?:\s|#[^\n]*\n)+(\d{1,5})\s"
+)
 DAMAGED = "the PNG is damaged"
 # An image's file has at most so many bytes.
 MOST_BYTES = 1 << 26
-# Samples of a dot, by the colour type of a PNG, and the colour type whose dots name entries of a palette.
+# Samples of a dot, by the colour type of a PNG, and the colour type whose dots name entries of a
+# palette.
 SAMPLES, PALETTE = {0: 1, 2: 3, 3: 1, 4: 2, 6: 4}, 3
 
 
@@ -33,7 +36,9 @@ class Image(NamedTuple):
 
     def every(self, across: int, down: int) -> Image:
         """The image of each so-manieth dot of each so-manieth row."""
-        rows = tuple(_spread([row[part::3 * across] for part in range(3)]) for row in self.rows[::down])
+        rows = tuple(
+            _spread([row[part :: 3 * across] for part in range(3)]) for row in self.rows[::down]
+        )
         return Image(self.width // across, self.height // down, rows, self.most)
 
     def repeated(self, across: int, down: int) -> Image:
@@ -81,18 +86,23 @@ def _ppm(data: bytes, name: str, most_dots: int) -> Image:
     _check_dots(width, height, most_dots, name)
     if most not in (63, 255):
         raise Trouble(f"the components go to {most}; 63 and 255 can be read", name)
-    dots = data[found.end():found.end() + 3 * width * height]
+    dots = data[found.end() : found.end() + 3 * width * height]
     if not width or not height or len(dots) < 3 * width * height or max(dots) > most:
         raise Trouble(f"the PPM of {width}x{height} dots is damaged", name)
-    return Image(width, height, tuple(dots[at:at + 3 * width] for at in range(0, len(dots), 3 * width)), most)
+    return Image(
+        width,
+        height,
+        tuple(dots[at : at + 3 * width] for at in range(0, len(dots), 3 * width)),
+        most,
+    )
 
 
 def _chunks(data: bytes, name: str) -> dict[bytes, bytes]:
     at, parts = len(SIGNATURE), defaultdict(list)
     while b"IEND" not in parts:
-        kind, end = data[at + 4:at + 8], at + 8 + int.from_bytes(data[at:at + 4], "big")
-        parts[kind].append(data[at + 8:end])
-        if data[end:end + 4] != struct.pack(">I", zlib.crc32(kind + parts[kind][-1])):
+        kind, end = data[at + 4 : at + 8], at + 8 + int.from_bytes(data[at : at + 4], "big")
+        parts[kind].append(data[at + 8 : end])
+        if data[end : end + 4] != struct.pack(">I", zlib.crc32(kind + parts[kind][-1])):
             raise Trouble(DAMAGED, name)
         at = end + 4
     return {kind: b"".join(bodies) for kind, bodies in parts.items()}
@@ -106,7 +116,13 @@ def _png(data: bytes, name: str, most: int) -> Image:
     width, height, depth, colour, _, _, interlace = struct.unpack(">IIBBBBB", head)
     _check_dots(width, height, most, name)
     if colour not in SAMPLES or depth not in (1, 2, 4, 8, 16) or not width * height:
-        raise Trouble(f"a PNG of this form can't be read: {width}x{height}, depth {depth}, colour type {colour}", name)
+        raise Trouble(
+            (
+                f"a PNG of this form can't be read: {width}x{height}, depth {depth}, colour type"
+                f" {colour}"
+            ),
+            name,
+        )
     if interlace:
         raise Trouble("an interlaced PNG can't be read: save it without interlace", name)
     bits, lines = depth * SAMPLES[colour], b""
@@ -125,12 +141,15 @@ def _png(data: bytes, name: str, most: int) -> Image:
 
 
 def _unfiltered(lines: bytes, length: int, back: int, name: str) -> Iterator[bytes]:
-    """The rows of a PNG without their filters; a Trouble where one has a filter that there is not."""
+    """The rows of a PNG without their filters; a Trouble where one has a filter that there is
+    not."""
     last = bytearray(back + length)
     for at in range(0, len(lines), length + 1):
-        kind, row = lines[at], bytearray(back) + lines[at + 1:at + 1 + length]
+        kind, row = lines[at], bytearray(back) + lines[at + 1 : at + 1 + length]
         if kind > len(FILTERS):
-            raise Trouble(f"a row of the PNG has filter {kind}, and the filters are 0 to {len(FILTERS)}", name)
+            raise Trouble(
+                f"a row of the PNG has filter {kind}, and the filters are 0 to {len(FILTERS)}", name
+            )
         taken_off = FILTERS[kind - 1]
         for x in range(back, len(row) if kind else 0):
             row[x] = row[x] + taken_off(row[x - back], last[x], last[x - back]) & 255
@@ -144,9 +163,13 @@ def _paeth(left: int, above: int, corner: int) -> int:
     return left if far <= other and far <= both else above if other <= both else corner
 
 
-# What the filters 1 to 4 have taken off a sample: the one of the dot to the left, above, their mean, or the nearest.
+# What the filters 1 to 4 have taken off a sample: the one of the dot to the left, above, their
+# mean, or the nearest.
 FILTERS: tuple[Callable[[int, int, int], int], ...] = (
-    lambda left, _, __: left, lambda _, above, __: above, lambda left, above, _: (left + above) // 2, _paeth,
+    lambda left, _, __: left,
+    lambda _, above, __: above,
+    lambda left, above, _: (left + above) // 2,
+    _paeth,
 )
 
 
@@ -158,13 +181,16 @@ def _samples(row: bytes, width: int, depth: int, samples: int, colour: int) -> b
         return row[::2]
     most = (1 << depth) - 1
     scale = 1 if colour == PALETTE else 255 // most
-    spread = [bytes((byte >> shift & most) * scale for shift in range(8 - depth, -1, -depth)) for byte in range(256)]
-    return b"".join(map(spread.__getitem__, row))[:width * samples]
+    spread = [
+        bytes((byte >> shift & most) * scale for shift in range(8 - depth, -1, -depth))
+        for byte in range(256)
+    ]
+    return b"".join(map(spread.__getitem__, row))[: width * samples]
 
 
 def _dots(samples: bytes, colour: int, palette: bytes) -> bytes:
     if colour == PALETTE:
-        return b"".join(palette[3 * entry:3 * entry + 3] for entry in samples)
+        return b"".join(palette[3 * entry : 3 * entry + 3] for entry in samples)
     if colour in (0, 4):
         grey = samples if colour == 0 else samples[::2]
         return _spread([grey, grey, grey])

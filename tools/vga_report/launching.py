@@ -12,7 +12,9 @@ NAME = "vga"
 
 
 def main(words: Optional[Sequence[str]] = None) -> int:
-    """Runs the program with these words, or those of the command line; its status. On POSIX it does not return."""
+    """Runs the program with these words, or those of the command line; its status. On POSIX it does
+    not return."""
+
     def work() -> int:
         path, given = found_program(), sys.argv[1:] if words is None else words
         sys.stdout.flush()

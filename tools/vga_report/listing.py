@@ -1,4 +1,5 @@
-"""A run step by step: each with its line, its number, its words as they were understood, and its answer.
+"""A run step by step: each with its line, its number, its words as they were understood, and its
+answer.
 
 What was seen is counted, told for machines, or written into the script.
 """
@@ -21,7 +22,15 @@ from zaklimot.format.report import VALUE
 from zaklimot.format.table import OK
 
 from .expecting import (
-    ANY, DUMPED, MARK, answer_of, dumps_in, expected_in, is_as_expected, is_worth_telling, what_differs,
+    ANY,
+    DUMPED,
+    MARK,
+    answer_of,
+    dumps_in,
+    expected_in,
+    is_as_expected,
+    is_worth_telling,
+    what_differs,
 )
 from .faults import explained
 from .mistakes import text_of
@@ -54,7 +63,8 @@ class Row(NamedTuple):
     words: str
     line: Optional[int] = None
     expected: Optional[str] = None
-    # A dump that is expected, where it stands whole; why the step was refused; whether a refusal must be expected.
+    # A dump that is expected, where it stands whole; why the step was refused; whether a refusal
+    # must be expected.
     dump: tuple[str, ...] = ()
     why: str = ""
     is_strict: bool = False
@@ -78,7 +88,9 @@ class Row(NamedTuple):
         if self.expected is None:
             return f"answers {self.step.answer}, and no refusal is expected"
         named = what_differs(self.step, self.expected, self.name, self.dump)
-        return f"answers {answer_of(self.step)}, not {self.expected}" + (f": {'; '.join(named)}" if named else "")
+        return f"answers {answer_of(self.step)}, not {self.expected}" + (
+            f": {'; '.join(named)}" if named else ""
+        )
 
 
 # A row of all its parts, made in half the time that the class itself takes.
@@ -102,23 +114,33 @@ def chosen(text: str) -> Callable[[Row], bool]:
 def _kind(word: str) -> Callable[[Row], bool]:
     found = RANGE.fullmatch(word)
     if found is None and word not in KINDS:
-        raise Trouble(f"--only has numbers of steps, as 10-20, and {', '.join(KINDS)}, and not '{word}'")
+        raise Trouble(
+            f"--only has numbers of steps, as 10-20, and {', '.join(KINDS)}, and not '{word}'"
+        )
     if found is None:
         return KINDS[word]
     first, last = int(found[1]), int(found[2] or found[1])
     if not 1 <= first <= last:
-        reason = "steps are counted from 1" if not first else f"the range ends before it begins: {last}-{first}?"
+        reason = (
+            "steps are counted from 1"
+            if not first
+            else f"the range ends before it begins: {last}-{first}?"
+        )
         raise Trouble(f"--only {word}: {reason}")
     return lambda row: first <= row.step.number <= last
 
 
 class Script:
-    """A script that is run: its file, and its steps as they stand in it and as the program understands them.
+    """A script that is run: its file, and its steps as they stand in it and as the program
+    understands them.
 
-    The steps are read anew each time from the text and from what the program prints, so that memory holds none of them.
+    The steps are read anew each time from the text and from what the program prints, so that memory
+    holds none of them.
     """
 
-    def __init__(self, path: str, data: bytes, program: Union[Built, Tried], shown: str, printed: BinaryIO) -> None:
+    def __init__(
+        self, path: str, data: bytes, program: Union[Built, Tried], shown: str, printed: BinaryIO
+    ) -> None:
         self._path = path
         self.shown = shown
         self.is_bytes = is_bytes(data)
@@ -128,29 +150,41 @@ class Script:
         program.print_steps(Path(path), self.is_bytes, printed)
         understood = count_in(printed)
         meant = understood if self._text is None else count_in(self._text)
-        # Without a line for each step there is no telling which is which; the words are then those of the text.
+        # Without a line for each step there is no telling which is which; the words are then those
+        # of the text.
         self._printed = printed if understood == meant else None
-        # How many steps it means; None where that isn't known, of bytes that the program doesn't print.
-        self._count: Optional[int] = meant if meant or not self.is_bytes or len(data) <= EMPTY else None
+        # How many steps it means; None where that isn't known, of bytes that the program doesn't
+        # print.
+        self._count: Optional[int] = (
+            meant if meant or not self.is_bytes or len(data) <= EMPTY else None
+        )
         printed.seek(0)
-        lengths = map(len, printed) if self._printed is not None else (len(words) + 1 for words, _ in self._steps())
+        lengths = (
+            map(len, printed)
+            if self._printed is not None
+            else (len(words) + 1 for words, _ in self._steps())
+        )
         longest = max(lengths, default=1) - 1
         self.width = min(max(len(HEADING), longest), MOST_WORDS)
 
     def _steps(self) -> Iterator[tuple[str, tuple[Optional[int], bytes]]]:
-        """The steps: each one's words as they were understood, with the number of its line and its comment."""
+        """The steps: each one's words as they were understood, with the number of its line and its
+        comment."""
         if self._printed is None:
             assert self._text is not None
             return ((line.words, (line.number, line.comment)) for line in steps_in(self._text))
-        return zip(words_in(self._printed), zip(count(1), repeat(b"")) if self._text is None else places_in(self._text))
+        return zip(
+            words_in(self._printed),
+            zip(count(1), repeat(b"")) if self._text is None else places_in(self._text),
+        )
 
     def rows(
         self, fonts: str, until: Optional[int], progress: Progress, is_strict: bool, tells_why: bool
     ) -> Iterator[Row]:
         """The steps with their answers, as they come, and why each was refused, if that is wanted.
 
-        A fault is told with its reason. A run that is ended at a limit tells nothing: a second one then tells what
-        stands before it.
+        A fault is told with its reason. A run that is ended at a limit tells nothing: a second one
+        then tells what stands before it.
         """
         given = progress, is_strict, tells_why
         try:
@@ -162,13 +196,18 @@ class Script:
     def _rows(
         self, fonts: str, until: Optional[int], progress: Progress, is_strict: bool, tells_why: bool
     ) -> Iterator[Row]:
-        # Behind the last step there are the dumps of a stopped run. Steps that aren't known have no words.
+        # Behind the last step there are the dumps of a stopped run. Steps that aren't known have no
+        # words.
         dumps = () if until is None else STATE
         unknown = repeat(("", NO_PLACE)) if self._count is None else ()
         meant = chain(islice(self._steps(), until), ((dump, NO_PLACE) for dump in dumps), unknown)
         count = self._count if until is None or self._count is None else min(until, self._count)
         wanted = None if count is None else count + len(dumps)
-        state, dump_of, is_told = Registers() if tells_why else None, self._dumps.get, progress.is_wanted
+        state, dump_of, is_told = (
+            Registers() if tells_why else None,
+            self._dumps.get,
+            progress.is_wanted,
+        )
         with self._program.running(Path(self._path), fonts, until, self.is_bytes) as outcome:
             _wait_for(outcome.report, self.shown, progress)
             report = Report(outcome.report, "the report", progress)  # type: ignore[arg-type]
@@ -189,7 +228,10 @@ class Script:
         if outcome.status:
             raise self._trouble(outcome.fault, fonts)
         if wanted is None:
-            raise Trouble("the program prints none of its steps, so there is no telling which were answered", self.shown)
+            raise Trouble(
+                "the program prints none of its steps, so there is no telling which were answered",
+                self.shown,
+            )
         if report.count < wanted:
             raise Trouble(f"the report ends after {report.count:,} of {wanted:,} steps", self.shown)
 
@@ -205,10 +247,11 @@ def _wait_for(report: BinaryIO, shown: str, progress: Progress) -> None:
 
 
 def listed(row: Row, is_wrong: bool, width: int, more: str = "", why: str = "") -> str:
-    """A step in the listing, and below it why it was refused: lines that end with a newline each."""
+    """A step in the listing, and below it why it was refused: lines that end with a newline
+    each."""
     step, words, line, expected, _, _, _ = row
     if len(words) > width:
-        words = words[:width - 2] + ".."
+        words = words[: width - 2] + ".."
     place = "" if line is None else line
     is_other = is_wrong and expected is not None
     if not is_other and step.picture is None and not step.others:
@@ -229,9 +272,11 @@ def heading(width: int) -> str:
 
 
 class Tally:
-    """What was seen of a run: counted, and told as JSON into a stream, if one is given, as the steps come.
+    """What was seen of a run: counted, and told as JSON into a stream, if one is given, as the
+    steps come.
 
-    The JSON is one object, whose last members are the counts, and the trouble of a run that isn't whole.
+    The JSON is one object, whose last members are the counts, and the trouble of a run that isn't
+    whole.
     """
 
     def __init__(self, shown: str, stream: Optional[BinaryIO] = None) -> None:
@@ -248,7 +293,9 @@ class Tally:
         step, expected = row.step, row.expected
         self.steps += 1
         if self._stream is not None:
-            self._stream.write((b",\n" if self.steps > 1 else b"\n") + json.dumps(_told(row)).encode("ascii"))
+            self._stream.write(
+                (b",\n" if self.steps > 1 else b"\n") + json.dumps(_told(row)).encode("ascii")
+            )
         if expected is None and step.answer == OK:
             # Of most steps there is nothing more to count.
             return False
@@ -261,7 +308,9 @@ class Tally:
         if is_wrong:
             self.wrong += 1
             place = f"{self.shown}:{row.line}: step {step.number}"
-            self._told.write(f"{place}: {row.words} {row.mismatch()}\n".encode("utf-8", "surrogateescape"))
+            self._told.write(
+                f"{place}: {row.words} {row.mismatch()}\n".encode("utf-8", "surrogateescape")
+            )
         return is_wrong
 
     def differing(self) -> Iterator[str]:
@@ -271,7 +320,10 @@ class Tally:
 
     def text(self) -> str:
         """What was seen, as a line."""
-        parts = [counted(self.steps, "step"), *([f"{self.refused} refused"] if self.refused else [])]
+        parts = [
+            counted(self.steps, "step"),
+            *([f"{self.refused} refused"] if self.refused else []),
+        ]
         parts.append(counted(self.pictures, "picture"))
         if self.expected:
             parts.append(f"{self.met} of {self.expected} answers as expected")
@@ -280,7 +332,12 @@ class Tally:
 
 def _told(row: Row) -> dict[str, Any]:
     step = row.step
-    told: dict[str, Any] = {"step": step.number, "line": row.line, "words": row.words, "answer": answer_of(step)}
+    told: dict[str, Any] = {
+        "step": step.number,
+        "line": row.line,
+        "words": row.words,
+        "answer": answer_of(step),
+    }
     told.update({"lines": list(step.lines)} if step.others else {})
     if step.picture is not None:
         told["picture"] = {"size": step.picture.size, "md5": step.picture.sum}
@@ -292,7 +349,8 @@ def _told(row: Row) -> dict[str, Any]:
 
 @contextmanager
 def tallied(shown: str, path: Optional[str]) -> Iterator[Tally]:
-    """The tally of a run, whose JSON goes into a file, where one is named: whole, also where a trouble ends the run."""
+    """The tally of a run, whose JSON goes into a file, where one is named: whole, also where a
+    trouble ends the run."""
     trouble: Optional[Trouble] = None
     with nullcontext() if path is None else writing(path) as stream:
         tally = Tally(shown, stream)
@@ -301,7 +359,10 @@ def tallied(shown: str, path: Optional[str]) -> Iterator[Tally]:
         except Trouble as raised:
             trouble = raised
         if stream is not None:
-            counts = {name: getattr(tally, name) for name in "steps refused pictures expected met wrong".split()}
+            counts = {
+                name: getattr(tally, name)
+                for name in "steps refused pictures expected met wrong".split()
+            }
             ended = json.dumps({**counts, "trouble": None if trouble is None else str(trouble)})
             stream.write(b"\n], " + ended[1:].encode("ascii") + b"\n")
     if trouble is not None:
@@ -309,19 +370,24 @@ def tallied(shown: str, path: Optional[str]) -> Iterator[Tally]:
 
 
 class Blessing:
-    """The answers that a script is to expect: those that were not met, and, if all are wanted, those of other steps."""
+    """The answers that a script is to expect: those that were not met, and, if all are wanted,
+    those of other steps."""
 
     def __init__(self, data: bytes, is_all: bool) -> None:
         self._lines = text_of(data).split("\n")
         self._is_all = is_all
-        # What each line's step answered: on one line, and the lines of a dump of several; and which lines change.
+        # What each line's step answered: on one line, and the lines of a dump of several; and which
+        # lines change.
         self._answers: dict[int, tuple[str, tuple[str, ...]]] = {}
         self._changed: set[int] = set()
 
     def take(self, row: Row) -> None:
-        """Takes a step's answer. That of a block's step may be another each time: then any will do."""
+        """Takes a step's answer. That of a block's step may be another each time: then any will
+        do."""
         number = row.line
-        if number is None or not (row.expected is not None or is_worth_telling(row.step, row.words)):
+        if number is None or not (
+            row.expected is not None or is_worth_telling(row.step, row.words)
+        ):
             return
         answered = answer_of(row.step), row.step.lines if row.step.others else ()
         if self._answers.setdefault(number, answered) != answered:
@@ -333,7 +399,9 @@ class Blessing:
         """The lines that change: number, expectation before, and after."""
         for number, (answer, _) in self._answers.items():
             if number in self._changed:
-                before = expected_in(self._lines[number - 1].partition(";")[2].encode("utf-8", "surrogateescape"))
+                before = expected_in(
+                    self._lines[number - 1].partition(";")[2].encode("utf-8", "surrogateescape")
+                )
                 yield number, before or "", answer
 
     def text(self) -> str:
@@ -352,7 +420,9 @@ class Blessing:
 
     def difference(self, name: str) -> str:
         """What differs from the expectations, as a unified diff of the script."""
-        lines = difflib.unified_diff(self._lines, self.text().split("\n"), name, f"{name} as answered", lineterm="")
+        lines = difflib.unified_diff(
+            self._lines, self.text().split("\n"), name, f"{name} as answered", lineterm=""
+        )
         return "".join(f"{line}\n" for line in lines)
 
 

@@ -1,7 +1,8 @@
-"""Why a line of a script is no step: the word at which it stops being one, and what could stand there.
+"""Why a line of a script is no step: the word at which it stops being one, and what could stand
+there.
 
-Whether a line is a step, the program alone says. Here its answer is explained, and where nothing is found, nothing is
-said.
+Whether a line is a step, the program alone says. Here its answer is explained, and where nothing is
+found, nothing is said.
 """
 
 from __future__ import annotations
@@ -13,7 +14,18 @@ from io import BytesIO
 from typing import Iterator, Optional, Sequence
 
 from zaklimot.format import (
-    BLOCK, BLOCK_LINES, END, FIRST_LINE, FORMS, MOST_BLOCK, MOST_STEPS, PLANE_BYTES, REGISTERS, REPEAT, SHOWN, Field,
+    BLOCK,
+    BLOCK_LINES,
+    END,
+    FIRST_LINE,
+    FORMS,
+    MOST_BLOCK,
+    MOST_STEPS,
+    PLANE_BYTES,
+    REGISTERS,
+    REPEAT,
+    SHOWN,
+    Field,
     lines_in,
 )
 
@@ -30,7 +42,9 @@ COMMENT_WORDS = ("rem", "note")
 LOOKALIKES = str.maketrans("OoIl", "0011")
 PUNCTUATION = ",;:."
 # The steps whose name is one word, with numbers alone behind it; and the first words of all lines.
-SHAPES = {name: form.fields for name, form in FORMS.items() if " " not in name and not form.has_block}
+SHAPES = {
+    name: form.fields for name, form in FORMS.items() if " " not in name and not form.has_block
+}
 NAMES = [*SHAPES, "int", "show", *BLOCK_LINES]
 # What is said of a line; the page says the same.
 _said = partial(said, "lines")
@@ -39,7 +53,8 @@ Word = re.Match[str]
 
 
 class Mistake(Exception):
-    """The part of a line that is wrong, and why it is. It is raised where it is found: nothing else is looked at."""
+    """The part of a line that is wrong, and why it is. It is raised where it is found: nothing else
+    is looked at."""
 
     def __init__(self, at: int, width: int, reason: str) -> None:
         super().__init__(reason)
@@ -70,7 +85,8 @@ def mistake_in(line: str) -> Optional[Mistake]:
 
 
 def mistake_among_lines(data: bytes, number: int) -> Optional[str]:
-    """Why a good line is bad where it stands in a text, as the end of a block that none has begun."""
+    """Why a good line is bad where it stands in a text, as the end of a block that none has
+    begun."""
     lines = list(lines_in(BytesIO(data)))
     line = next((line for line in lines if line.number == number), None)
     if line is None:
@@ -80,7 +96,7 @@ def mistake_among_lines(data: bytes, number: int) -> Optional[str]:
     if line.name in BLOCK_LINES and not lines[0].has_blocks:
         return _said("repeats of version 2", version=FIRST_LINE)
     opened = None
-    for other in lines[:lines.index(line)]:
+    for other in lines[: lines.index(line)]:
         opened = other if other.name == REPEAT else None if other.name == END else opened
     if line.name == END and opened is None:
         return _said("no repeat")
@@ -88,14 +104,18 @@ def mistake_among_lines(data: bytes, number: int) -> Optional[str]:
         return _said("repeat in a repeat", line=opened.number)
     if line.name != REPEAT:
         return None
-    has_end = any(other.name == END for other in lines[lines.index(line):])
+    has_end = any(other.name == END for other in lines[lines.index(line) :])
     return _said("long repeat", most=MOST_STEPS) if has_end else _said("no end")
 
 
 def _heed_odd_byte(word: Word) -> None:
     for at, character in enumerate(word[0]):
         if not "!" <= character <= "~":
-            code = f"U+{ord(character):04X}" if ord(character) < 0xDC80 else f"byte {ord(character) - 0xDC00:02X}"
+            code = (
+                f"U+{ord(character):04X}"
+                if ord(character) < 0xDC80
+                else f"byte {ord(character) - 0xDC00:02X}"
+            )
             name = "odd blank" if character.isspace() else "odd character"
             raise Mistake(word.start() + at, 1, _said(name, code=code))
 
@@ -123,8 +143,8 @@ def _unknown_step(word: Word) -> Mistake:
         return _wrong(word, _said("after a name", name=text.rstrip(PUNCTUATION)))
     longest = sorted((name for name, numbers in SHAPES.items() if numbers), key=len, reverse=True)
     glued = next((name for name in longest if text.startswith(name)), None)
-    if glued and HEX.fullmatch(text[len(glued):]) and len(text) > len(glued) + 1:
-        return _wrong(word, _said("no blank", name=glued, rest=word[0][len(glued):]))
+    if glued and HEX.fullmatch(text[len(glued) :]) and len(text) > len(glued) + 1:
+        return _wrong(word, _said("no blank", name=glued, rest=word[0][len(glued) :]))
     hint = _near(text, NAMES) or _said("all steps", names=", ".join(NAMES))
     return _wrong(word, _said("no step", word=_short(word[0]), hint=hint))
 
@@ -169,7 +189,9 @@ def _heed_digits(number: Field, word: Word, text: str) -> None:
         cut = text.lstrip("0") or "0"
         hint = _said("write", text=cut) if len(cut) <= number.digits else ""
         name = "one digit" if number.digits == 1 else "digits"
-        raise _wrong(word, _said(name, name=number.name, count=len(text), most=number.digits, hint=hint))
+        raise _wrong(
+            word, _said(name, name=number.name, count=len(text), most=number.digits, hint=hint)
+        )
     if not text:
         raise _wrong(word, _said("no digits", name=number.name))
     cleaned = _cleaned(text)
@@ -211,7 +233,9 @@ def _heed_show(words: Sequence[Word], end: int) -> None:
     if name == "plane":
         offset, count = int(words[3][0], 16), int(words[4][0])
         if offset + count > PLANE_BYTES:
-            raise _wrong(words[4], _said("past the plane", offset=offset, count=PLANE_BYTES - offset))
+            raise _wrong(
+                words[4], _said("past the plane", offset=offset, count=PLANE_BYTES - offset)
+            )
 
 
 def _heed_call(words: Sequence[Word]) -> None:
@@ -219,7 +243,7 @@ def _heed_call(words: Sequence[Word]) -> None:
     for at, word in enumerate(words):
         if word[0].lower() == BLOCK:
             return _heed_block(words[at:])
-        last = _place_of(word, words[at + 1:], last)
+        last = _place_of(word, words[at + 1 :], last)
 
 
 def _place_of(word: Word, behind: Sequence[Word], last: int) -> int:
@@ -281,7 +305,9 @@ def _short(text: str) -> str:
 def marked_lines(line: str, mistake: Mistake, most: int = 100) -> Iterator[str]:
     """A line and the mark below it, cut where it is long, with tabs as blanks."""
     begin = max(0, mistake.at - most // 2) if len(line) > most else 0
-    part = "".join(character if character.isprintable() else " " for character in line[begin:begin + most])
+    part = "".join(
+        character if character.isprintable() else " " for character in line[begin : begin + most]
+    )
     width = max(1, min(mistake.width, most - (mistake.at - begin)))
     yield ("" if begin == 0 else "..") + part.rstrip() + (".." if len(line) > begin + most else "")
     yield " " * (mistake.at - begin + (0 if begin == 0 else 2)) + "^" * width

@@ -1,4 +1,5 @@
-"""A run, or two reports that differ, as a page that stands alone: nothing of it comes from elsewhere."""
+"""A run, or two reports that differ, as a page that stands alone: nothing of it comes from
+elsewhere."""
 
 import base64
 import io
@@ -35,10 +36,13 @@ class Page:
         self._images = 0
 
     def _image(self, picture: Picture, other: Optional[Picture] = None) -> tuple[str, str]:
-        """An image's name, and its element that has the picture in it; with another one, its differing dots marked."""
+        """An image's name, and its element that has the picture in it; with another one, its
+        differing dots marked."""
         self._images += 1
         if self._images > MOST_PICTURES:
-            raise Trouble(f"the page would have more than {MOST_PICTURES} pictures: --only takes some steps")
+            raise Trouble(
+                f"the page would have more than {MOST_PICTURES} pictures: --only takes some steps"
+            )
         stream = io.BytesIO()
         write_png(stream, picture, other=other)
         data = base64.b64encode(stream.getvalue()).decode("ascii")
@@ -47,7 +51,9 @@ class Page:
 
     def _add(self, cells: Sequence[str], kind: str) -> None:
         if len(self._rows) == MOST_ROWS:
-            raise Trouble(f"the page would have more than {MOST_ROWS:,} rows: --only takes some steps")
+            raise Trouble(
+                f"the page would have more than {MOST_ROWS:,} rows: --only takes some steps"
+            )
         marked = f' class="{kind}"' if kind else ""
         self._rows.append(f"<tr{marked}>{''.join(cells)}</tr>")
 
@@ -67,7 +73,15 @@ class Page:
         number = '<td class="number">{}</td>'.format
         kind = "differs" if row.is_wrong else "refused" if row.step.is_refused else ""
         line = "" if row.line is None else str(row.line)
-        self._add([number(line), number(row.step.number), f"<td>{escape(row.words)}</td>", f"<td>{text}</td>"], kind)
+        self._add(
+            [
+                number(line),
+                number(row.step.number),
+                f"<td>{escape(row.words)}</td>",
+                f"<td>{text}</td>",
+            ],
+            kind,
+        )
 
     def add_difference(self, difference: Difference) -> None:
         """Adds a step in which two reports differ."""
@@ -80,7 +94,10 @@ class Page:
             self._frames.append({"step": difference.number, "title": title, "images": names})
             texts = [f"{text}{image}" for text, (_, image) in zip(texts, images)]
             dots += images[2][1]
-        cells = [f'<td class="number">{difference.number}</td>', *(f"<td>{text}</td>" for text in (*texts, dots))]
+        cells = [
+            f'<td class="number">{difference.number}</td>',
+            *(f"<td>{text}</td>" for text in (*texts, dots)),
+        ]
         self._add(cells, "differs")
 
     def text(self, title: str, said: str, link: Optional[str] = None) -> str:
@@ -89,9 +106,20 @@ class Page:
         captions = (f"<figcaption>{escape(caption)}</figcaption>" for caption in self._captions)
         figures = "".join(f"<figure><canvas></canvas>{caption}</figure>" for caption in captions)
         heads = "".join(f"<th>{escape(column)}</th>" for column in self._columns)
-        told = escape(said) + ("" if link is None else f' <a href="{escape(link)}">Run it step by step</a>')
+        told = escape(said) + (
+            "" if link is None else f' <a href="{escape(link)}">Run it step by step</a>'
+        )
         style, script = ((HERE / name).read_text("utf-8") for name in ("page.css", "page.js"))
         return filled(
-            HERE / "page.html", POLICY=escape(POLICY), TITLE=escape(title), STYLE=style, TOLD=told,
-            SIZES=SIZES, FIGURES=figures, HEADS=heads, ROWS="\n".join(self._rows), FRAMES=frames, SCRIPT=script,
+            HERE / "page.html",
+            POLICY=escape(POLICY),
+            TITLE=escape(title),
+            STYLE=style,
+            TOLD=told,
+            SIZES=SIZES,
+            FIGURES=figures,
+            HEADS=heads,
+            ROWS="\n".join(self._rows),
+            FRAMES=frames,
+            SCRIPT=script,
         )

@@ -27,7 +27,8 @@ MOST_DOTS = 100_000_000
 
 
 class Shape(NamedTuple):
-    """How a picture is enlarged: each dot so often, and then to the shape of a monitor of 4 by 3."""
+    """How a picture is enlarged: each dot so often, and then to the shape of a monitor of 4 by
+    3."""
 
     scale: int = 1
     is_monitor: bool = False
@@ -41,7 +42,10 @@ class Shape(NamedTuple):
         elif self.is_monitor:
             width = (4 * height + 1) // 3
         if width * height > MOST_DOTS:
-            raise Trouble(f"a picture of {given} dots would get {width}x{height}, and {MOST_DOTS:,} dots are the most")
+            raise Trouble(
+                f"a picture of {given} dots would get {width}x{height}, and {MOST_DOTS:,} dots are"
+                " the most"
+            )
         return width, height
 
 
@@ -65,16 +69,22 @@ def _packed(rows: Iterable[bytes], size: tuple[int, int], new: tuple[int, int]) 
     yield packer.flush()
 
 
-def stretched(rows: Iterable[bytes], size: tuple[int, int], new: tuple[int, int]) -> Iterator[bytes]:
-    """Rows of one size as rows of a larger one, each dot and each row repeated as often as it takes."""
+def stretched(
+    rows: Iterable[bytes], size: tuple[int, int], new: tuple[int, int]
+) -> Iterator[bytes]:
+    """Rows of one size as rows of a larger one, each dot and each row repeated as often as it
+    takes."""
     (width, height), (new_width, new_height) = size, new
     columns = [x * width // new_width for x in range(new_width)]
     last, wide = b"", b""
     for y, row in enumerate(rows):
         if row != last:
-            dots = [row[at:at + 3] for at in range(0, len(row), 3)]
-            last, wide = row, row if width == new_width else b"".join(map(dots.__getitem__, columns))
-        # The new rows that this one gives: those whose number times height / new_height is y and a bit.
+            dots = [row[at : at + 3] for at in range(0, len(row), 3)]
+            last, wide = row, (
+                row if width == new_width else b"".join(map(dots.__getitem__, columns))
+            )
+        # The new rows that this one gives: those whose number times height / new_height is y and a
+        # bit.
         for _ in range(-(-y * new_height // height), -(-(y + 1) * new_height // height)):
             yield wide
 
@@ -91,12 +101,15 @@ def _marked_row(picture: Picture, other: Picture, width: int, y: int) -> bytes:
     dark = row[:shared].translate(WIDENED).translate(DARKENED)
     if row != other_row:
         marks = marks_in_row(row[:shared], other_row[:shared])
-        dark = b"".join(MARK if mark else dark[3 * x:3 * x + 3] for x, mark in enumerate(marks))
+        dark = b"".join(MARK if mark else dark[3 * x : 3 * x + 3] for x, mark in enumerate(marks))
     return dark + MARK * (width - shared // 3)
 
 
-def write_png(stream: BinaryIO, picture: Picture, shape: Shape = Shape(), other: Optional[Picture] = None) -> None:
-    """Writes a picture; beside another one it is darkened, and the dots are marked in which that differs."""
+def write_png(
+    stream: BinaryIO, picture: Picture, shape: Shape = Shape(), other: Optional[Picture] = None
+) -> None:
+    """Writes a picture; beside another one it is darkened, and the dots are marked in which that
+    differs."""
     width, height, rows = picture.width, picture.height, _rows(picture)
     if other is not None:
         width, height = max(width, other.width), max(height, other.height)
@@ -108,14 +121,17 @@ def write_png(stream: BinaryIO, picture: Picture, shape: Shape = Shape(), other:
     stream.write(chunk(b"IEND", b""))
 
 
-def save_png(path: str, picture: Picture, shape: Shape = Shape(), other: Optional[Picture] = None) -> None:
+def save_png(
+    path: str, picture: Picture, shape: Shape = Shape(), other: Optional[Picture] = None
+) -> None:
     """The same into a file."""
     with writing(path) as stream:
         write_png(stream, picture, shape, other)
 
 
 class Animation:
-    """Frames of one size: that of the first, or a size that is given, to which each picture is stretched."""
+    """Frames of one size: that of the first, or a size that is given, to which each picture is
+    stretched."""
 
     def __init__(self, shape: Shape, stretched: Optional[tuple[int, int]] = None) -> None:
         self._shape = shape
@@ -131,7 +147,10 @@ class Animation:
         given = picture.width, picture.height
         size = self._shape.size(*(self._stretched or given))
         if self.frames and size != self._size:
-            raise Trouble(f"{name} has a picture of another size than {self._first}: --step picks those of one size")
+            raise Trouble(
+                f"{name} has a picture of another size than {self._first}: --step picks those of"
+                " one size"
+            )
         self._size, self._first = size, self._first or name
         packed = b"".join(_packed(_rows(picture), given, size))
         part = SHORT if seconds < 1 else LONG
@@ -145,8 +164,15 @@ class Animation:
         for at, (packed, time, part) in enumerate(self.frames):
             # These chunks are counted, but for the first frame's dots.
             number = max(0, 2 * at - 1)
-            stream.write(chunk(b"fcTL", struct.pack(">IIIIIHHBB", number, width, height, 0, 0, time, part, 0, 0)))
-            stream.write(chunk(b"fdAT", struct.pack(">I", 2 * at) + packed) if at else chunk(b"IDAT", packed))
+            stream.write(
+                chunk(
+                    b"fcTL",
+                    struct.pack(">IIIIIHHBB", number, width, height, 0, 0, time, part, 0, 0),
+                )
+            )
+            stream.write(
+                chunk(b"fdAT", struct.pack(">I", 2 * at) + packed) if at else chunk(b"IDAT", packed)
+            )
         stream.write(chunk(b"IEND", b""))
 
 
@@ -157,7 +183,12 @@ def _shrunk_row(picture: Picture, top: int, bottom: int, columns: int) -> list[l
         left = column * picture.width // columns
         right = max(left + 1, (column + 1) * picture.width // columns)
         count = len(rows) * (right - left)
-        colours.append([sum(sum(row[3 * left + part:3 * right:3]) for row in rows) // count for part in range(3)])
+        colours.append(
+            [
+                sum(sum(row[3 * left + part : 3 * right : 3]) for row in rows) // count
+                for part in range(3)
+            ]
+        )
     return colours
 
 
@@ -170,5 +201,6 @@ def block_lines(picture: Picture, columns: int) -> Iterator[str]:
         upper = _shrunk_row(picture, edges[y], edges[y + 1], columns)
         lower = _shrunk_row(picture, edges[y + 1], edges[y + 2], columns)
         yield "".join(
-            f"\x1b[38;2;{a[0]};{a[1]};{a[2]};48;2;{b[0]};{b[1]};{b[2]}m{UPPER_HALF}" for a, b in zip(upper, lower)
+            f"\x1b[38;2;{a[0]};{a[1]};{a[2]};48;2;{b[0]};{b[1]};{b[2]}m{UPPER_HALF}"
+            for a, b in zip(upper, lower)
         ) + "\x1b[0m"

@@ -1,4 +1,5 @@
-"""The portable program: compiled once from the sources in C, and kept in a folder of the user's cache."""
+"""The portable program: compiled once from the sources in C, and kept in a folder of the user's
+cache."""
 
 import hashlib
 import os
@@ -20,25 +21,31 @@ try:
 except ImportError:  # Windows
     fcntl = None  # type: ignore[assignment]
 
-SOURCES = tuple(TOP / place for place in ("portable/vga.c", "portable/zaklimot.c", "include/zaklimot.h"))
+SOURCES = tuple(
+    TOP / place for place in ("portable/vga.c", "portable/zaklimot.c", "include/zaklimot.h")
+)
 FLAGS = ("-std=c99", "-O2")
 # Where $CC names no compiler, the first of these that is in the path.
 COMPILERS = ("cc", "gcc", "clang")
-# The program's name, in a folder that its digest names; and the names beside that: of folders in which a program is
-# being made, and of the lock.
+# The program's name, in a folder that its digest names; and the names beside that: of folders in
+# which a program is being made, and of the lock.
 NAME, MAKING, LOCK = "vga.exe" if os.name == "nt" else "vga", "making-", "lock"
-# So many seconds may a compilation take, and a run wait for that of another run; and between two looks.
+# So many seconds may a compilation take, and a run wait for that of another run; and between two
+# looks.
 MOST_SECONDS, MOST_WAITING, PAUSE = 900, 1000, 0.1
 PAGE = "page/zaklimot.html runs scripts in a browser without one"
 NO_COMPILER = (
-    "there is no C compiler to make the program vga with: install Debian's package gcc or clang, on macOS Xcode's "
-    f"command line tools (xcode-select --install), or name one by CC; {PAGE}"
+    "there is no C compiler to make the program vga with: install Debian's package gcc or clang,"
+    f" on macOS Xcode's command line tools (xcode-select --install), or name one by CC; {PAGE}"
 )
 COMPILES = (
-    "{} compiles the program vga from portable/ now, in about 20 seconds, and once: this program is tested, not proved\n"
+    "{} compiles the program vga from portable/ now, in about 20 seconds, and once: this program is"
+    " tested, not proved\n"
 )
 WAITS = "another run compiles the program vga from portable/ just now: this one waits for it\n"
-UNKEPT = "the compiled program can't be kept there: name a folder that can be written by XDG_CACHE_HOME"
+UNKEPT = (
+    "the compiled program can't be kept there: name a folder that can be written by XDG_CACHE_HOME"
+)
 # The programs that this process has found, as open files: no other run removes them meanwhile.
 _in_use: list[int] = []
 
@@ -49,7 +56,8 @@ def has_sources() -> bool:
 
 
 def portable_program() -> str:
-    """The path of the program, which is compiled where that was not done yet; one line on standard error tells it.
+    """The path of the program, which is compiled where that was not done yet; one line on standard
+    error tells it.
 
     A Trouble tells what is lacking: a compiler, or a folder that can be written.
     """
@@ -63,7 +71,9 @@ def portable_program() -> str:
                 if not os.access(path, os.X_OK):
                     _compile(compiler, path)
         except OSError as error:
-            raise Trouble(f"{error.strerror or error}; {UNKEPT}", error.filename or str(folder)) from error
+            raise Trouble(
+                f"{error.strerror or error}; {UNKEPT}", error.filename or str(folder)
+            ) from error
     _use(path)
     return str(path)
 
@@ -98,7 +108,8 @@ def _digest(compiler: list[str]) -> str:
 
 
 def _is_locked(file: Union[int, BinaryIO], kind: int) -> bool:
-    """Takes a lock, which ends with the file or the process; whether no other process has it. It is never waited for."""
+    """Takes a lock, which ends with the file or the process; whether no other process has it. It is
+    never waited for."""
     try:
         fcntl.flock(file, kind | fcntl.LOCK_NB)
     except BlockingIOError:
@@ -111,7 +122,8 @@ def _is_locked(file: Union[int, BinaryIO], kind: int) -> bool:
 
 @contextmanager
 def _alone(folder: Path) -> Iterator[None]:
-    """Keeps other runs from compiling meanwhile. One that takes too long is waited for no longer."""
+    """Keeps other runs from compiling meanwhile. One that takes too long is waited for no
+    longer."""
     with open(folder / LOCK, "wb") as file:
         until = time.monotonic() + MOST_WAITING
         if fcntl is not None and not _is_locked(file, fcntl.LOCK_EX):
@@ -127,7 +139,8 @@ def _say(line: str) -> None:
 
 
 def _compile(compiler: list[str], path: Path) -> None:
-    """Compiles the program, tries it, and only then puts it in its place. Other programs there are removed."""
+    """Compiles the program, tries it, and only then puts it in its place. Other programs there are
+    removed."""
     _say(COMPILES.format(shlex.join(compiler)))
     kept = path.parent
     # A run that was killed may have left its folder.
@@ -137,9 +150,19 @@ def _compile(compiler: list[str], path: Path) -> None:
         made = Path(folder) / kept.name / NAME
         made.parent.mkdir()
         include = ("-I", SOURCES[-1].parent)
-        done = captured([*compiler, *FLAGS, *include, "-o", made, *SOURCES[:-1]], seconds=MOST_SECONDS)
-        _check(done, f"it can't compile the program vga; CC may name another C compiler, and {PAGE}", compiler[0])
-        _check(captured([made, "--help"], seconds=MOST_SECONDS), "what it makes doesn't run here", compiler[0])
+        done = captured(
+            [*compiler, *FLAGS, *include, "-o", made, *SOURCES[:-1]], seconds=MOST_SECONDS
+        )
+        _check(
+            done,
+            f"it can't compile the program vga; CC may name another C compiler, and {PAGE}",
+            compiler[0],
+        )
+        _check(
+            captured([made, "--help"], seconds=MOST_SECONDS),
+            "what it makes doesn't run here",
+            compiler[0],
+        )
         os.replace(made.parent, kept)
     for other in kept.parent.glob(f"*/{NAME}"):
         if other != path:

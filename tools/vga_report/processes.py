@@ -1,4 +1,5 @@
-"""Runs other programs: each in a group of its own, within limits, and all that it has started ends with it."""
+"""Runs other programs: each in a group of its own, within limits, and all that it has started ends
+with it."""
 
 import ctypes
 import math
@@ -14,7 +15,19 @@ from concurrent.futures import ThreadPoolExecutor
 from contextlib import contextmanager, suppress
 from pathlib import Path
 from threading import Event
-from typing import Any, BinaryIO, Callable, Iterable, Iterator, Mapping, NamedTuple, Optional, Sequence, TypeVar, Union
+from typing import (
+    Any,
+    BinaryIO,
+    Callable,
+    Iterable,
+    Iterator,
+    Mapping,
+    NamedTuple,
+    Optional,
+    Sequence,
+    TypeVar,
+    Union,
+)
 
 from .trouble import Trouble, Wrong
 
@@ -26,22 +39,43 @@ DRAINING = 5
 # Seconds for a program to end what it has started in groups of its own, once it is asked to.
 ENDING = 5
 MEBIBYTE = 1 << 20
-# So much of what a program says at last is told, in lines and as one line; and so much of its output is kept at most.
+# So much of what a program says at last is told, in lines and as one line; and so much of its
+# output is kept at most.
 MOST_SAID, MOST_IN_LINE, MOST_KEPT = 2000, 600, 1 << 28
 TOO_LONG = "the command took too long"
-# Where each program comes from that may be lacking: the toolchain's, and those of Debian's packages.
+# Where each program comes from that may be lacking: the toolchain's, and those of Debian's
+# packages.
 BINUTILS, CROSS = ("ld", "objcopy", "objdump", "ar", "nm", "readelf"), "aarch64-linux-gnu"
 PACKAGES = {
-    **dict.fromkeys(BINUTILS, "binutils"), **{f"{CROSS}-{name}": f"binutils-{CROSS}" for name in BINUTILS},
-    "cc": "gcc", "gcc": "gcc", "g++": "g++", "clang": "clang", "clang++": "clang",
-    f"{CROSS}-gcc": f"gcc-{CROSS}", f"{CROSS}-g++": f"g++-{CROSS}",
-    "s390x-linux-gnu-gcc": "gcc-s390x-linux-gnu", "x86_64-w64-mingw32-gcc": "gcc-mingw-w64-x86-64",
-    "i686-linux-gnu-gcc": "gcc-i686-linux-gnu", "wine": "wine", "qemu-s390x": "qemu-user", "node": "nodejs", "qemu-system-x86_64": "qemu-system-x86", "qemu-aarch64": "qemu-user",
-    "xwininfo": "x11-utils", "wasm-opt": "binaryen", "wasm2c": "wabt", "esbuild": "esbuild",
-    "python3": "python3", "cargo": "cargo", "rustc": "rustc", "rustdoc": "rustc", "cargo-clippy": "rust-clippy",
+    **dict.fromkeys(BINUTILS, "binutils"),
+    **{f"{CROSS}-{name}": f"binutils-{CROSS}" for name in BINUTILS},
+    "cc": "gcc",
+    "gcc": "gcc",
+    "g++": "g++",
+    "clang": "clang",
+    "clang++": "clang",
+    f"{CROSS}-gcc": f"gcc-{CROSS}",
+    f"{CROSS}-g++": f"g++-{CROSS}",
+    "s390x-linux-gnu-gcc": "gcc-s390x-linux-gnu",
+    "x86_64-w64-mingw32-gcc": "gcc-mingw-w64-x86-64",
+    "i686-linux-gnu-gcc": "gcc-i686-linux-gnu",
+    "wine": "wine",
+    "qemu-s390x": "qemu-user",
+    "node": "nodejs",
+    "qemu-system-x86_64": "qemu-system-x86",
+    "qemu-aarch64": "qemu-user",
+    "xwininfo": "x11-utils",
+    "wasm-opt": "binaryen",
+    "wasm2c": "wabt",
+    "esbuild": "esbuild",
+    "python3": "python3",
+    "cargo": "cargo",
+    "rustc": "rustc",
+    "rustdoc": "rustc",
+    "cargo-clippy": "rust-clippy",
 }
 SOURCES = {
-    "rt": "it is the command of the Rattle toolchain, which README.md tells of under \"Build it\"",
+    "rt": 'it is the command of the Rattle toolchain, which README.md tells of under "Build it"',
     **{name: f"install the package {package}" for name, package in PACKAGES.items()},
 }
 # Linux' prctl: the signal that a process gets when the one that has started it ends.
@@ -54,12 +88,19 @@ Hearer = Callable[[str], None]
 
 @contextmanager
 def _signals_held() -> Iterator[None]:
-    """Keeps the signals back that end a tool while a program is started: Python loses one that comes amid a fork."""
+    """Keeps the signals back that end a tool while a program is started: Python loses one that
+    comes amid a fork."""
     came: list[int] = []
     held: dict[int, Any] = {}
     if threading.current_thread() is threading.main_thread():
-        known = [getattr(signal, name) for name in ("SIGINT", "SIGTERM", "SIGHUP") if hasattr(signal, name)]
-        held = {number: handler for number in known if callable(handler := signal.getsignal(number))}
+        known = [
+            getattr(signal, name)
+            for name in ("SIGINT", "SIGTERM", "SIGHUP")
+            if hasattr(signal, name)
+        ]
+        held = {
+            number: handler for number in known if callable(handler := signal.getsignal(number))
+        }
     for number in held:
         signal.signal(number, lambda number, _: came.append(number))
     try:
@@ -73,10 +114,11 @@ def _signals_held() -> Iterator[None]:
 
 @contextmanager
 def started(words: Words, asking: float = 0, **given: Any) -> Iterator[subprocess.Popen[bytes]]:
-    """A program that runs in a group of its own, with nothing on standard input; the group has ended afterwards.
+    """A program that runs in a group of its own, with nothing on standard input; the group has
+    ended afterwards.
 
-    It may be asked to end so many seconds before it is made to. `given` goes to `Popen`; a program that can't be
-    started is a Trouble.
+    It may be asked to end so many seconds before it is made to. `given` goes to `Popen`; a program
+    that can't be started is a Trouble.
     """
     process: Optional[subprocess.Popen[bytes]] = None
     try:
@@ -87,9 +129,13 @@ def started(words: Words, asking: float = 0, **given: Any) -> Iterator[subproces
                     **{"stdin": subprocess.DEVNULL, "start_new_session": IS_POSIX, **given},
                 )
             except (OSError, ValueError) as error:
-                raise Trouble(getattr(error, "strerror", None) or str(error), str(words[0])) from error
+                raise Trouble(
+                    getattr(error, "strerror", None) or str(error), str(words[0])
+                ) from error
             except subprocess.SubprocessError as error:
-                raise Trouble("the system doesn't set these limits for it", str(words[0])) from error
+                raise Trouble(
+                    "the system doesn't set these limits for it", str(words[0])
+                ) from error
         yield process
     finally:
         if process is not None:
@@ -106,9 +152,11 @@ def end_with_parent() -> None:
 
 
 def end(process: subprocess.Popen[bytes], asking: float = 0) -> None:
-    """Ends a command with all that it has started, unless its end was asked for: its number may be another's then.
+    """Ends a command with all that it has started, unless its end was asked for: its number may be
+    another's then.
 
-    It may be asked to end so many seconds before it is made to: it ends what it has started in groups of their own.
+    It may be asked to end so many seconds before it is made to: it ends what it has started in
+    groups of their own.
     """
     for number in (signal.SIGTERM, signal.SIGKILL) if asking and IS_POSIX else (None,):
         if process.returncode is not None:
@@ -123,7 +171,8 @@ def end(process: subprocess.Popen[bytes], asking: float = 0) -> None:
 
 
 class Limits(NamedTuple):
-    """What a command may take: seconds, and bytes on its standard output. Of its messages so many bytes are kept."""
+    """What a command may take: seconds, and bytes on its standard output. Of its messages so many
+    bytes are kept."""
 
     seconds: float = 60
     output: int = 256 * MEBIBYTE
@@ -138,15 +187,25 @@ class Outcome(NamedTuple):
 
 
 def run_command(
-    words: Words, output: Path, messages: Path, limits: Limits, is_ended: Event, hear: Callable[[], object] = bool,
-    asking: float = 0, **given: Any,
+    words: Words,
+    output: Path,
+    messages: Path,
+    limits: Limits,
+    is_ended: Event,
+    hear: Callable[[], object] = bool,
+    asking: float = 0,
+    **given: Any,
 ) -> Outcome:
-    """Runs a command with nothing on standard input, until it ends, or the event or a limit ends it.
+    """Runs a command with nothing on standard input, until it ends, or the event or a limit ends
+    it.
 
-    What it writes and says stands in two files then; `hear` is called meanwhile. Its whole process group has ended
-    afterwards, however it ended itself. `asking` and `given` go to `started`.
+    What it writes and says stands in two files then; `hear` is called meanwhile. Its whole process
+    group has ended afterwards, however it ended itself. `asking` and `given` go to `started`.
     """
-    until, too_much = time.monotonic() + limits.seconds, f"the command wrote more than {limits.output // MEBIBYTE} MiB"
+    until, too_much = (
+        time.monotonic() + limits.seconds,
+        f"the command wrote more than {limits.output // MEBIBYTE} MiB",
+    )
     with open(output, "wb") as written, open(messages, "ab") as said:
         said.truncate(0)
 
@@ -156,7 +215,13 @@ def run_command(
             if _size(written) > limits.output:
                 return too_much
             hear()
-            return TOO_LONG if time.monotonic() >= until else "it was ended" if is_ended.is_set() else ""
+            return (
+                TOO_LONG
+                if time.monotonic() >= until
+                else "it was ended"
+                if is_ended.is_set()
+                else ""
+            )
 
         with started(words, asking, stdout=written, stderr=said, **given) as process:
             ended, pause = "", FIRST_PAUSE
@@ -219,15 +284,22 @@ def check_program(name: str, instead: str = "") -> None:
 
 
 def captured(
-    words: Words, folder: Optional[Path] = None, heard: Optional[Hearer] = None, seconds: Optional[float] = None,
-    environment: Optional[Mapping[str, str]] = None, given: bytes = b"", is_ended: Optional[Event] = None,
+    words: Words,
+    folder: Optional[Path] = None,
+    heard: Optional[Hearer] = None,
+    seconds: Optional[float] = None,
+    environment: Optional[Mapping[str, str]] = None,
+    given: bytes = b"",
+    is_ended: Optional[Event] = None,
 ) -> Done:
     """Runs a program to its end, and answers its status and what it writes.
 
-    A Failed tells that it took more than it may, or that the event has ended it. Its temporary files lie in a folder of
-    their own, which goes with them.
+    A Failed tells that it took more than it may, or that the event has ended it. Its temporary
+    files lie in a folder of their own, which goes with them.
     """
-    with tempfile.TemporaryDirectory(prefix="vga-tool-") as temporary, tempfile.TemporaryFile() as file:
+    with tempfile.TemporaryDirectory(
+        prefix="vga-tool-"
+    ) as temporary, tempfile.TemporaryFile() as file:
         file.write(given)
         file.seek(0)
         output, errors = Path(temporary, "output"), Path(temporary, "errors")
@@ -240,10 +312,23 @@ def captured(
         limits = Limits(seconds or math.inf, MOST_KEPT, MOST_KEPT)
         # What a program said at last is heard too where it has ended at once.
         outcome = run_command(
-            words, output, errors, limits, is_ended or Event(), hear, ENDING, cwd=folder, env=variables, stdin=file
+            words,
+            output,
+            errors,
+            limits,
+            is_ended or Event(),
+            hear,
+            ENDING,
+            cwd=folder,
+            env=variables,
+            stdin=file,
         )
         if outcome.status is None:
-            told = f"it had not ended after {seconds:.0f} seconds" if outcome.reason == TOO_LONG else outcome.reason
+            told = (
+                f"it had not ended after {seconds:.0f} seconds"
+                if outcome.reason == TOO_LONG
+                else outcome.reason
+            )
             raise Failed(told, str(words[0]))
         return Done(outcome.status, output.read_bytes(), errors.read_bytes())
 
@@ -255,12 +340,17 @@ def _last_line(path: Path) -> str:
     return lines[-1].decode("utf-8", "replace").strip() if lines else ""
 
 
-def run(words: Words, folder: Optional[Path] = None, heard: Optional[Hearer] = None, **given: Any) -> str:
-    """Runs a program as `captured` does, and answers what it writes; a Failed tells how one ended badly."""
+def run(
+    words: Words, folder: Optional[Path] = None, heard: Optional[Hearer] = None, **given: Any
+) -> str:
+    """Runs a program as `captured` does, and answers what it writes; a Failed tells how one ended
+    badly."""
     return ended_well(words, folder, heard, **given).output.decode("utf-8", "replace")
 
 
-def ended_well(words: Words, folder: Optional[Path] = None, heard: Optional[Hearer] = None, **given: Any) -> Done:
+def ended_well(
+    words: Words, folder: Optional[Path] = None, heard: Optional[Hearer] = None, **given: Any
+) -> Done:
     """The same, with its bytes, and with what it says on standard error."""
     name = str(words[0])
     check_program(name)

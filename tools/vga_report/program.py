@@ -28,21 +28,24 @@ PROGRAM = CRATE / "out" / "vga"
 # The program of an unpacked release, and the command that finds a program as this does.
 RELEASED, LAUNCHER = TOP / "bin" / "vga", TOP / "tools" / "vga"
 FONTS = TOP / "fonts" / "zaklimot.fnt"
-# No script is printed in more bytes: none of its steps has a line that is seven times as long as its bytes.
+# No script is printed in more bytes: none of its steps has a line that is seven times as long as
+# its bytes.
 MOST_PRINTED = 7 << 24
 CHUNK = 1 << 16
 # So much of what the program says at last is looked at.
 MOST_SAID = 1 << 16
 # What a run without proofs may take.
 LIMITS = "60 seconds and 1 MiB of output, which two pictures of text fill"
-NO_SOURCES = "the program's sources in Rattle are not here: they lie in the repository, and not in a release"
+NO_SOURCES = (
+    "the program's sources in Rattle are not here: they lie in the repository, and not in a release"
+)
 WITHOUT_RT = (
     ". Without it --vga runs a program that is built already, and --debug FILE writes a page that "
     "runs the script in a browser"
 )
 NO_PROGRAM = (
-    "there is no program vga, and portable/ has no sources of it: --build proves and builds it, --vga names another, "
-    "and --try runs it without its proofs"
+    "there is no program vga, and portable/ has no sources of it: --build proves and builds it,"
+    " --vga names another, and --try runs it without its proofs"
 )
 
 
@@ -71,9 +74,11 @@ def _in_path() -> Optional[str]:
 
 
 def found_program(named: Optional[str] = None) -> str:
-    """Where the program is: as it is named, else proved and built here, a release's, in the path, or the portable one.
+    """Where the program is: as it is named, else proved and built here, a release's, in the path,
+    or the portable one.
 
-    The portable one is compiled where that was not done yet. Where there is none, a Trouble says how it is had.
+    The portable one is compiled where that was not done yet. Where there is none, a Trouble says
+    how it is had.
     """
     if named is not None:
         # A name without a folder is looked for in the path.
@@ -113,11 +118,16 @@ def _crate() -> Path:
 
 
 def build_program(progress: Progress) -> None:
-    """Proves and builds the program where it is lacking, and tells how far that is: it may take hours at first."""
+    """Proves and builds the program where it is lacking, and tells how far that is: it may take
+    hours at first."""
     if os.access(PROGRAM, os.X_OK):
         return
     try:
-        run(["rt", "run", "--", "--help"], _crate(), phases(progress, "vga")("proving and building the program"))
+        run(
+            ["rt", "run", "--", "--help"],
+            _crate(),
+            phases(progress, "vga")("proving and building the program"),
+        )
     finally:
         progress.clear()
 
@@ -128,12 +138,15 @@ class Built:
 
     path: str
 
-    def running(self, script: Path, fonts: str, until: Optional[int], is_bytes: bool) -> ContextManager[Outcome]:
+    def running(
+        self, script: Path, fonts: str, until: Optional[int], is_bytes: bool
+    ) -> ContextManager[Outcome]:
         """A run of a script, as text or as bytes."""
         return _running([self.path, *_words(str(script), fonts, until, is_bytes)])
 
     def print_steps(self, script: Path, is_bytes: bool, printed: BinaryIO) -> None:
-        """Prints the steps of a script as the program understands them; nothing where it has a fault."""
+        """Prints the steps of a script as the program understands them; nothing where it has a
+        fault."""
         with tempfile.TemporaryDirectory(prefix="vga-report-") as name:
             made = script if is_bytes else Path(name) / "script"
             is_good = is_bytes or self._writes(["asm", str(script), str(made)], io.BytesIO())
@@ -152,7 +165,8 @@ class Built:
 
 
 class Limited(Trouble):
-    """A run without proofs that came to a limit; so many steps stand before its second picture, 0 without one."""
+    """A run without proofs that came to a limit; so many steps stand before its second picture, 0
+    without one."""
 
     def __init__(self, reason: str, before: int) -> None:
         super().__init__(reason)
@@ -162,17 +176,22 @@ class Limited(Trouble):
 class Tried:
     """The program without its proofs, as `rt try` builds and runs it: in about a minute."""
 
-    # What `rt try` says of a run that has ended; and why it has ended one, behind what that has written.
+    # What `rt try` says of a run that has ended; and why it has ended one, behind what that has
+    # written.
     ENDED, CHECKED = "run=ended status=", re.compile("(?m)^checked: (.+)")
 
     @contextmanager
-    def running(self, script: Path, fonts: str, until: Optional[int], is_bytes: bool) -> Iterator[Outcome]:
+    def running(
+        self, script: Path, fonts: str, until: Optional[int], is_bytes: bool
+    ) -> Iterator[Outcome]:
         """A run of a script, as text or as bytes."""
         files = ["--data", f"script={script.resolve()}", "--data", f"fonts={Path(fonts).resolve()}"]
         words = ["rt", "try", *files, "--", *_words("script", "fonts", until, is_bytes)]
         # What it leaves when it is ended goes with this folder.
         with tempfile.TemporaryDirectory(prefix="vga-report-") as temporary:
-            with _running(words, ENDING, cwd=_crate(), env={**os.environ, "TMPDIR": temporary}) as outcome:
+            with _running(
+                words, ENDING, cwd=_crate(), env={**os.environ, "TMPDIR": temporary}
+            ) as outcome:
                 yield outcome
         if self.ENDED not in outcome.said:
             found, before = self.CHECKED.search(outcome.said), 0
@@ -183,7 +202,9 @@ class Tried:
                 before = next(islice(frames, 1, None), 0)
             told = f"; --until {before} ends before the second" if before else ""
             reason = found[1] if found else outcome.fault
-            raise Limited(f"rt try has not run it to its end, within {LIMITS}{told}: {reason}", before)
+            raise Limited(
+                f"rt try has not run it to its end, within {LIMITS}{told}: {reason}", before
+            )
         outcome.status = int(outcome.said.rpartition(self.ENDED)[2].split()[0])
 
     def print_steps(self, script: Path, is_bytes: bool, printed: BinaryIO) -> None:

@@ -1,7 +1,8 @@
-"""The registers on which the time of frames and refusals hang, as far as a script tells them; why steps are refused.
+"""The registers on which the time of frames and refusals hang, as far as a script tells them; why
+steps are refused.
 
-The words of refusals are those of the page; page/tests/refusals.mjs and tests/test_refusals.py hold both to the same
-cases.
+The words of refusals are those of the page; page/tests/refusals.mjs and tests/test_refusals.py hold
+both to the same cases.
 """
 
 from functools import lru_cache, partial
@@ -12,7 +13,12 @@ from zaklimot.format import MOST_ADVANCE, REGISTERS, Answer, Step, parse_line
 
 from .wordings import WORDINGS, said
 
-SEQUENCER, GRAPHICS, CRT, ATTRIBUTES = "sequencer", "graphics controller", "CRT controller", "attribute controller"
+SEQUENCER, GRAPHICS, CRT, ATTRIBUTES = (
+    "sequencer",
+    "graphics controller",
+    "CRT controller",
+    "attribute controller",
+)
 # How many registers a group has, and the bits of its index.
 COUNTS = {SEQUENCER: (5, 7), GRAPHICS: (9, 15), CRT: (25, 31), ATTRIBUTES: (21, 31)}
 INDEX_PORTS = {0x3C4: SEQUENCER, 0x3CE: GRAPHICS, 0x3B4: CRT, 0x3D4: CRT}
@@ -37,14 +43,18 @@ LEFT_OUT = {int(port, 16): name for port, name in _PORTS["left out"].items()}
 # Why a step is refused; the page says the same.
 _why = partial(said, "refusals")
 # Registers whose bit 5 is left out.
-LEFT_OUT_BITS = {(GRAPHICS, 5): "graphics mode, shift register mode", (CRT, 0x14): "underline location, count by four"}
+LEFT_OUT_BITS = {
+    (GRAPHICS, 5): "graphics mode, shift register mode",
+    (CRT, 0x14): "underline location, count by four",
+}
 CYCLES = {name + width for name in ("out", "in", "put", "get") for width in ("", "w")}
 # How the steps begin that may change what refusals hang on: `out`, `in` and `int`.
 CHANGING = "oOiI"
 
 
 class Mode(NamedTuple):
-    """What a mode set leaves: miscellaneous output, dots of a frame, memory map, and whether the clock is halved."""
+    """What a mode set leaves: miscellaneous output, dots of a frame, memory map, and whether the
+    clock is halved."""
 
     misc: int
     dots: int
@@ -53,8 +63,12 @@ class Mode(NamedTuple):
 
 
 MODES = {
-    0x03: Mode(0x67, 404_100, 3), 0x07: Mode(0x66, 404_100, 2), 0x0D: Mode(0x63, 179_600, is_halved=True),
-    0x10: Mode(0xA3, 359_200), 0x12: Mode(0xE3, 420_000), 0x13: Mode(0x63, 359_200),
+    0x03: Mode(0x67, 404_100, 3),
+    0x07: Mode(0x66, 404_100, 2),
+    0x0D: Mode(0x63, 179_600, is_halved=True),
+    0x10: Mode(0xA3, 359_200),
+    0x12: Mode(0xE3, 420_000),
+    0x13: Mode(0x63, 359_200),
 }
 
 
@@ -63,12 +77,19 @@ def bytes_written(step: Step) -> tuple[tuple[int, int], ...]:
     if step.name not in ("out", "outw"):
         return ()
     port, value = step.numbers
-    return ((port, value),) if step.name == "out" else ((port, value & 0xFF), (port + 1, value >> 8))
+    return (
+        ((port, value),) if step.name == "out" else ((port, value & 0xFF), (port + 1, value >> 8))
+    )
 
 
 def shape_of(clocking: int, total: int, lines: int, overflow: int) -> tuple[int, int, int]:
-    """The lines of a frame, the characters of a line and the dots of a character, by the registers that say so."""
-    return lines + ((overflow & 1) << 8) + ((overflow >> 5 & 1) << 9) + 2, total + 5, 8 if clocking & 1 else 9
+    """The lines of a frame, the characters of a line and the dots of a character, by the registers
+    that say so."""
+    return (
+        lines + ((overflow & 1) << 8) + ((overflow >> 5 & 1) << 9) + 2,
+        total + 5,
+        8 if clocking & 1 else 9,
+    )
 
 
 class Registers:
@@ -124,10 +145,16 @@ class Registers:
             # A register that shapes the frame takes the place of a mode's, unless it is protected.
             if not (group == CRT and register[1] < 8 and self._values.get(PROTECTING, 0) & PROTECT):
                 self._values[register] = value
-                self._is_of_mode = self._is_of_mode and register not in (CLOCKING, TOTAL, LINES, OVERFLOW)
+                self._is_of_mode = self._is_of_mode and register not in (
+                    CLOCKING,
+                    TOTAL,
+                    LINES,
+                    OVERFLOW,
+                )
 
     def why_of(self, words: str, answer: Answer) -> str:
-        """Why a step was refused, by its answer; nothing of a step that was done, which is taken."""
+        """Why a step was refused, by its answer; nothing of a step that was done, which is
+        taken."""
         # No answer of another letter is a refusal.
         refusal = answer.refusal if answer.answer[0] == "E" else 0
         if refusal:
@@ -144,7 +171,8 @@ class Registers:
         return USUAL if found is None else found[0] / found[1]
 
     def speed(self) -> Optional[tuple[int, float]]:
-        """The dots of a frame, and the dots that pass in a second; None where the script doesn't tell."""
+        """The dots of a frame, and the dots that pass in a second; None where the script doesn't
+        tell."""
         clock = None if self.misc is None else CLOCKS.get(self.misc >> 2 & 3)
         values = self._values
         if clock is None or not (self._is_of_mode or {TOTAL, LINES, OVERFLOW} <= values.keys()):
@@ -153,12 +181,15 @@ class Registers:
             dots, is_halved = MODES[self.mode].dots, MODES[self.mode].is_halved
         else:
             clocking = values.get(CLOCKING, 0)
-            dots, is_halved = prod(shape_of(clocking, values[TOTAL], values[LINES], values[OVERFLOW])), bool(clocking & 8)
+            dots, is_halved = prod(
+                shape_of(clocking, values[TOTAL], values[LINES], values[OVERFLOW])
+            ), bool(clocking & 8)
         return dots, clock / (2 if is_halved else 1)
 
 
 def why_refused(words: str, number: int, state: Registers) -> str:
-    """Why a step with these words was refused with this number in a state, in sentences; empty where none is known."""
+    """Why a step with these words was refused with this number in a state, in sentences; empty
+    where none is known."""
     step = step_of(words)
     if step is None:
         return ""
@@ -185,7 +216,8 @@ def step_of(words: str) -> Optional[Step]:
 
 
 def _cycles(step: Step) -> Iterator[tuple[bool, int, Optional[int], Optional[int]]]:
-    """Whether a cycle is of memory, its port or address, the byte written to a port, the index that the step picked."""
+    """Whether a cycle is of memory, its port or address, the byte written to a port, the index that
+    the step picked."""
     if step.name in CYCLES:
         written, first = dict(bytes_written(step)), step.numbers[0]
         for place in range(first, first + 1 + step.name.endswith("w")):
@@ -193,13 +225,19 @@ def _cycles(step: Step) -> Iterator[tuple[bool, int, Optional[int], Optional[int
             yield step.name.startswith(("put", "get")), place, written.get(place), picked
 
 
-def _not_decoded(state: Registers, is_memory: bool, place: int, value: Optional[int], _: Optional[int]) -> str:
+def _not_decoded(
+    state: Registers, is_memory: bool, place: int, value: Optional[int], _: Optional[int]
+) -> str:
     misc, (first, last) = state.misc or 0, WINDOWS[state.map]
     if is_memory and not misc & 2:
         return _why("memory off")
     if is_memory:
         is_inside = first <= place <= last
-        return "" if is_inside else _why("outside", map=state.map, first=first, last=last, address=place)
+        return (
+            ""
+            if is_inside
+            else _why("outside", map=state.map, first=first, last=last, address=place)
+        )
     if place in CRT_PORTS:
         is_here = place & 0xFF0 == state.base & 0xFF0
         told = partial(_why, "CRT controller elsewhere", base=state.base, bit=misc & 1)
@@ -209,13 +247,21 @@ def _not_decoded(state: Registers, is_memory: bool, place: int, value: Optional[
     return "" if place in READ_AND_WRITTEN else _why("no port", port=place)
 
 
-def _not_in_profile(state: Registers, _: bool, port: int, value: Optional[int], picked: Optional[int]) -> str:
+def _not_in_profile(
+    state: Registers, _: bool, port: int, value: Optional[int], picked: Optional[int]
+) -> str:
     if value is not None and port & 0xF0F == 0x30A and port != 0x3CA:
         return _why("feature control")
     if port in LEFT_OUT and (value is None or port == 0x3C3):
         return _why("left out", port=port, name=LEFT_OUT[port])
     # The group of the registers that a data port is for.
-    groups = {0x3C5: SEQUENCER, 0x3CF: GRAPHICS, state.base + 1: CRT, 0x3C0: ATTRIBUTES, 0x3C1: ATTRIBUTES}
+    groups = {
+        0x3C5: SEQUENCER,
+        0x3CF: GRAPHICS,
+        state.base + 1: CRT,
+        0x3C0: ATTRIBUTES,
+        0x3C1: ATTRIBUTES,
+    }
     if port not in groups:
         return ""
     group = groups[port]
@@ -232,9 +278,13 @@ def _not_in_profile(state: Registers, _: bool, port: int, value: Optional[int], 
 # What the refusals of calls mean, E3 to E11 and E13.
 OF_CALLS: dict[int, Callable[[dict[str, int], Registers], str]] = {
     3: lambda *_: _why("3"),
-    4: lambda call, _: _why("4", function=call["ax"] >> 8, al=call["ax"] & 255, bl=call["bx"] & 255),
+    4: lambda call, _: _why(
+        "4", function=call["ax"] >> 8, al=call["ax"] & 255, bl=call["bx"] & 255
+    ),
     5: lambda call, _: _why("5", mode=call["ax"] & 127),
-    6: lambda _, state: _why("6 in text" if state.mode in (3, 7) else "6 in graphics", mode=state.mode or 0),
+    6: lambda _, state: _why(
+        "6 in text" if state.mode in (3, 7) else "6 in graphics", mode=state.mode or 0
+    ),
     7: lambda call, state: _why("7", mode=state.mode or 0, page=_page_of(call)),
     8: lambda *_: _why("8"),
     9: lambda call, _: _why("9", count=call["cx"]),

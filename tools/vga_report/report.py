@@ -1,4 +1,5 @@
-"""A report that a tool reads, the one that is expected of a case, as the suite writes it, and where two reports differ.
+"""A report that a tool reads, the one that is expected of a case, as the suite writes it, and where
+two reports differ.
 
 The troubles of both name the file and the line.
 """
@@ -32,14 +33,17 @@ class Report(format.Report):
     Lines are counted as `text` shows them, a picture as one.
     """
 
-    def __init__(self, stream: io.BufferedReader, name: str, progress: Optional[Progress] = None) -> None:
+    def __init__(
+        self, stream: io.BufferedReader, name: str, progress: Optional[Progress] = None
+    ) -> None:
         super().__init__(stream, None if progress is None else self._tell)
         self._name = name
         self._progress = progress
         self._length = length_of(stream)
 
     def steps(self) -> Iterator[Answer]:
-        """The answers in their order; a Trouble where the report is damaged, behind those before that place."""
+        """The answers in their order; a Trouble where the report is damaged, behind those before
+        that place."""
         try:
             yield from self.answers()
         except ReportError as error:
@@ -50,15 +54,21 @@ class Report(format.Report):
     def _tell(self, line: int) -> None:
         assert self._progress is not None
         if self._progress.is_due():
-            share = f"{100 * self._stream.tell() // self._length} %" if self._length else f"{line} lines"
+            share = (
+                f"{100 * self._stream.tell() // self._length} %"
+                if self._length
+                else f"{line} lines"
+            )
             self._progress.tell(f"{self._name}: {share}")
 
 
 class Expected(Report):
-    """An expected report: steps that answer `ok` may be one line, and a picture the rows of its dots, or its digest."""
+    """An expected report: steps that answer `ok` may be one line, and a picture the rows of its
+    dots, or its digest."""
 
     def answers(self) -> Iterator[Answer]:
-        """The answers in their order; a ReportError where the report is damaged, behind those before that place."""
+        """The answers in their order; a ReportError where the report is damaged, behind those
+        before that place."""
         number = 1
         for line in iter(self._next_line, b""):
             alike = OK_STEPS.fullmatch(line)
@@ -67,7 +77,9 @@ class Expected(Report):
             else:
                 first, last = int(alike[1]), int(alike[2])
                 if not number == first <= last:
-                    raise self._error(f"steps from {number} on are to come, and not '{first}-{last} ok'")
+                    raise self._error(
+                        f"steps from {number} on are to come, and not '{first}-{last} ok'"
+                    )
                 yield from (Answer(number, self.line, "ok") for number in range(first, last + 1))
                 number = last
             number += 1
@@ -79,14 +91,18 @@ class Expected(Report):
         length, width, height = map(int, found.groups()[1:])
         picture = Picture.of_dots(width, height, b"".join(self._row(width) for _ in range(height)))
         if picture.length != length:
-            raise self._error(f"a picture of {picture.size} dots has {picture.length} bytes, and not {length}")
+            raise self._error(
+                f"a picture of {picture.size} dots has {picture.length} bytes, and not {length}"
+            )
         return Answer(number, place, found[1], (), picture)
 
     def _row(self, width: int) -> bytes:
         """The dots of the next line: `3F0015*9` stands for nine that are alike."""
         text = self._text_of(self._next_line())
         runs = [RUN.fullmatch(word) for word in text.split(" ")]
-        dots = b"".join(bytes.fromhex(run[1]) * int(run[2] or "1") for run in runs if run is not None)
+        dots = b"".join(
+            bytes.fromhex(run[1]) * int(run[2] or "1") for run in runs if run is not None
+        )
         if None in runs or len(dots) != 3 * width:
             raise self._error(f"no row of {width} dots: '{text[:40]}'")
         if max(dots) > 63:
@@ -111,17 +127,23 @@ class Difference(NamedTuple):
         return f"step {self.number}" if self.number else "the run"
 
     def answers(self) -> tuple[str, str]:
-        """Both answers, each as one line: the first that differs; pictures by what tells them apart."""
+        """Both answers, each as one line: the first that differs; pictures by what tells them
+        apart."""
         step, other = self
         if step is None or other is None:
             return END if step is None else step.answer, END if other is None else other.answer
         if step.picture is not None and other.picture is not None:
-            head, other_head = f"{step.answer} {step.picture.size}", f"{other.answer} {other.picture.size}"
+            head, other_head = (
+                f"{step.answer} {step.picture.size}",
+                f"{other.answer} {other.picture.size}",
+            )
             if head != other_head:
                 return head, other_head
             return f"{head} {step.picture.sum}", f"{head} {other.picture.sum}"
         lines = zip_longest(step.lines, other.lines, fillvalue=END)
-        line, other_line = next((line, other_line) for line, other_line in lines if line != other_line)
+        line, other_line = next(
+            (line, other_line) for line, other_line in lines if line != other_line
+        )
         if step.kind == other.kind:
             return line, other_line
         # A refusal looks like a byte that was read.
@@ -131,7 +153,11 @@ class Difference(NamedTuple):
     def pictures(self) -> Optional[tuple[Picture, Picture]]:
         """Both pictures, if both answers are pictures whose dots are at hand."""
         picture, other = (None if step is None else step.picture for step in self)
-        return (picture, other) if isinstance(picture, Picture) and isinstance(other, Picture) else None
+        return (
+            (picture, other)
+            if isinstance(picture, Picture) and isinstance(other, Picture)
+            else None
+        )
 
     def dots(self) -> str:
         """How two pictures of one size differ; empty for all else."""
@@ -139,7 +165,8 @@ class Difference(NamedTuple):
         return told_dots(*pictures) if pictures and pictures[0].size == pictures[1].size else ""
 
     def told(self) -> str:
-        """What messages tell of it: as a line, what the first report has in the place of what the other has."""
+        """What messages tell of it: as a line, what the first report has in the place of what the
+        other has."""
         answer, other = self.answers()
         text = self.dots() or f"{answer}, not {other}"
         lines = ["" if step is None else step.answer for step in self]
@@ -155,16 +182,19 @@ def told_dots(picture: Picture, other: Picture) -> str:
         return ""
     colours = f"{picture.dot(found.x, found.y)}, not {other.dot(found.x, found.y)}"
     count = picture.width * picture.height
-    return f"{found.count} of {count} dots differ, the first is dot {found.x} of row {found.y}: {colours}"
+    return (
+        f"{found.count} of {count} dots differ, the first is dot {found.x} of row {found.y}:"
+        f" {colours}"
+    )
 
 
 @dataclass
 class Comparison:
     """Walks through two reports side by side, and counts what it has seen.
 
-    Without refusals, the first report is that of a bus that refuses nothing: where the other has a refusal, any
-    answer counts as skipped. Of a machine, which would go on from a state of its own there, all behind it does too,
-    whether its report has it or not.
+    Without refusals, the first report is that of a bus that refuses nothing: where the other has a
+    refusal, any answer counts as skipped. Of a machine, which would go on from a state of its own
+    there, all behind it does too, whether its report has it or not.
     """
 
     has_refusals: bool = True
@@ -176,8 +206,11 @@ class Comparison:
     answers: int = 0
     differing: int = 0
 
-    def differences(self, steps: Iterator[Answer], others: Iterator[Answer]) -> Iterator[Difference]:
-        """The steps that differ, up to the end of the shorter report. A step that was left out differs from none."""
+    def differences(
+        self, steps: Iterator[Answer], others: Iterator[Answer]
+    ) -> Iterator[Difference]:
+        """The steps that differ, up to the end of the shorter report. A step that was left out
+        differs from none."""
         is_left = False
         for step, other in zip_longest(steps, others):
             is_left = is_left or (self.is_machine and other is not None and other.kind == REFUSAL)

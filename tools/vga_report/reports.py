@@ -16,7 +16,16 @@ from .progress import Progress
 from .report import Comparison, Difference, Expected, Report, told_dots
 from .faults import read_script, script_of
 from .streams import (
-    STANDARD, check_folder, name_of, reading, refuse_twice, teller, write, write_file, write_name, writing,
+    STANDARD,
+    check_folder,
+    name_of,
+    reading,
+    refuse_twice,
+    teller,
+    write,
+    write_file,
+    write_name,
+    writing,
 )
 from .registers import USUAL, Registers
 from .trouble import AGREED, DIFFERED, Trouble
@@ -26,7 +35,9 @@ TIMES = {1: "", 2: "twice", 3: "three times", 4: "four times"}
 
 
 @contextmanager
-def _steps(path: str, progress: Optional[Progress] = None, kind: type[Report] = Report) -> Iterator[Iterator[Answer]]:
+def _steps(
+    path: str, progress: Optional[Progress] = None, kind: type[Report] = Report
+) -> Iterator[Iterator[Answer]]:
     with reading(path) as stream:
         yield kind(stream, name_of(path), progress).steps()
 
@@ -34,20 +45,29 @@ def _steps(path: str, progress: Optional[Progress] = None, kind: type[Report] = 
 def text(words: argparse.Namespace, progress: Progress) -> int:
     """Writes a report as text."""
     # Text on a terminal shows by itself how far the work has come.
-    with _steps(words.report, None if sys.stdout.isatty() else progress) as steps, writing(STANDARD) as output:
+    with (
+        _steps(words.report, None if sys.stdout.isatty() else progress) as steps,
+        writing(STANDARD) as output,
+    ):
         for step in steps:
             output.write(step.text().encode("ascii"))
     return AGREED
 
 
-def wanted_pictures(steps: Iterator[Answer], wanted: Sequence[int], name: str) -> Iterator[tuple[int, Picture]]:
+def wanted_pictures(
+    steps: Iterator[Answer], wanted: Sequence[int], name: str
+) -> Iterator[tuple[int, Picture]]:
     """The pictures of the steps that are wanted, or all."""
     last, missing = 0, set(wanted)
     for step in steps:
         last = step.number
         if not wanted or last in missing:
             if isinstance(step.picture, Digest):
-                raise Trouble("the picture is shown by its digest, and its dots are not in the file", name, step.line)
+                raise Trouble(
+                    "the picture is shown by its digest, and its dots are not in the file",
+                    name,
+                    step.line,
+                )
             if step.picture is not None:
                 missing.discard(last)
                 yield last, step.picture
@@ -83,12 +103,15 @@ def pictures(words: argparse.Namespace, progress: Progress) -> int:
         with writing(words.apng) as output:
             animation.write(output)
         if words.apng != STANDARD:
-            write(f"{words.apng}: {len(animation.frames)} frames, {animation.seconds:.3f} seconds\n")
+            write(
+                f"{words.apng}: {len(animation.frames)} frames, {animation.seconds:.3f} seconds\n"
+            )
     return AGREED
 
 
 def delays_of(script: Optional[str]) -> Callable[[int], float]:
-    """How long the frame of a step lasts, with the whole frames that an advance passes over behind it, as a script tells it."""
+    """How long the frame of a step lasts, with the whole frames that an advance passes over behind
+    it, as a script tells it."""
     if script is None:
         return lambda number: USUAL
     registers, frames, last, dots = Registers(), {}, 0, 0
@@ -105,7 +128,13 @@ def delays_of(script: Optional[str]) -> Callable[[int], float]:
 
     def delay(number: int) -> float:
         if number not in frames:
-            raise Trouble(f"it is not the report's script: step {number} has a picture, and is no frame of it", name)
+            raise Trouble(
+                (
+                    f"it is not the report's script: step {number} has a picture, and is no frame"
+                    " of it"
+                ),
+                name,
+            )
         return frames[number]
 
     return delay
@@ -128,7 +157,11 @@ def compare(words: argparse.Namespace, progress: Progress) -> int:
     refuse_twice(words.report, words.other)
     names = name, other_name = name_of(words.report), name_of(words.other)
     comparison, count, wants_picture = Comparison(), 0, words.picture is not None
-    page = Page([*names, "where they differ"], ["step", *names, "dots that differ"]) if words.html else None
+    page = (
+        Page([*names, "where they differ"], ["step", *names, "dots that differ"])
+        if words.html
+        else None
+    )
     tell = teller(words.picture, words.html)
     with _steps(words.report, progress) as steps, _steps(words.other) as others:
         for count, difference in enumerate(comparison.differences(steps, others), 1):
@@ -148,7 +181,9 @@ def compare(words: argparse.Namespace, progress: Progress) -> int:
         sys.stderr.write(f"vga-report: no pictures differ, so {words.picture} isn't written\n")
     if page is not None:
         said = f"{count} step{'s differ' if count != 1 else ' differs'}; {comparison.text()}"
-        write_file(words.html, page.text(f"{name} and {other_name}", said).encode("utf-8", "replace"))
+        write_file(
+            words.html, page.text(f"{name} and {other_name}", said).encode("utf-8", "replace")
+        )
     if not count:
         tell(f"{name} and {other_name} agree: {comparison.text()}\n")
     return DIFFERED if count else AGREED
@@ -173,15 +208,22 @@ def check(words: argparse.Namespace, progress: Progress) -> int:
     if difference is None:
         write(f"{name} is as expected: {comparison.text()}\n")
         return AGREED
-    places = [f"{one}:{step.line}" if step else one for one, step in zip((name, expected_name), difference)]
+    places = [
+        f"{one}:{step.line}" if step else one
+        for one, step in zip((name, expected_name), difference)
+    ]
     write(f"{places[0]}: {difference.told()} ({places[1]})\n")
     return DIFFERED
 
 
 def _fitted(picture: Picture, image: Image) -> Optional[tuple[Image, str]]:
-    """An image brought to the size of a picture, and how; None where neither is the other with dots or lines repeated."""
+    """An image brought to the size of a picture, and how; None where neither is the other with dots
+    or lines repeated."""
     told = []
-    for what, size, other in (("dot", picture.width, image.width), ("line", picture.height, image.height)):
+    for what, size, other in (
+        ("dot", picture.width, image.width),
+        ("line", picture.height, image.height),
+    ):
         least, most = sorted((size, other))
         times = most // least
         if times * least != most or times not in TIMES:
@@ -212,7 +254,8 @@ def _best(picture: Picture, image: Image) -> tuple[Picture, Optional[DifferentDo
 
 
 class Held(NamedTuple):
-    """A picture held against an image: how many dots differ, None where the sizes do; how both were read, and what is told.
+    """A picture held against an image: how many dots differ, None where the sizes do; how both were
+    read, and what is told.
 
     `image` has the image's dots where there are as many.
     """
@@ -242,7 +285,9 @@ def compare_picture(words: argparse.Namespace, progress: Progress) -> int:
         _, picture = next(wanted_pictures(steps, [words.step], name_of(words.report)))
     name = name_of(words.image)
     found = held(picture, image_of(image_bytes(words.image), name))
-    write(f"step {words.step} and {name} {'differ' if found.count != 0 else 'agree'}: {found.how}\n")
+    write(
+        f"step {words.step} and {name} {'differ' if found.count != 0 else 'agree'}: {found.how}\n"
+    )
     if found.count == 0:
         return AGREED
     if found.image is not None:

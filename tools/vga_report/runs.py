@@ -1,4 +1,5 @@
-"""The command `run`: a script beside its answers; the scripts of a folder; and runs again when their files change."""
+"""The command `run`: a script beside its answers; the scripts of a folder; and runs again when
+their files change."""
 
 import argparse
 import os
@@ -25,7 +26,17 @@ from .program import Built, Tried, build_program, found_program
 from .processes import captured, in_parallel
 from .progress import Progress
 from .streams import (
-    STANDARD, check_file, check_folder, counted, name_of, refuse_input, teller, to_read, write, write_file, write_over,
+    STANDARD,
+    check_file,
+    check_folder,
+    counted,
+    name_of,
+    refuse_input,
+    teller,
+    to_read,
+    write,
+    write_file,
+    write_over,
     writing,
 )
 from .trouble import AGREED, DIFFERED, TROUBLE, Trouble
@@ -50,9 +61,11 @@ LOST_TEXT = (
 
 @contextmanager
 def _files(script: str, fonts: str) -> Iterator[tuple[str, bytes, str]]:
-    """The path and the bytes of a script, and the path of its font file, by names that the program takes.
+    """The path and the bytes of a script, and the path of its font file, by names that the program
+    takes.
 
-    The script of a pipe becomes a file, since it is read more than once. What is wrong with a name the program says.
+    The script of a pipe becomes a file, since it is read more than once. What is wrong with a name
+    the program says.
     """
     is_there = script in (STANDARD, "") or os.path.exists(script) and not os.path.isdir(script)
     data = read_script(script) if is_there else b""
@@ -75,23 +88,37 @@ def _is_text(name: str) -> bool:
 
 
 def _contradictions(words: argparse.Namespace) -> dict[str, object]:
-    pictures, several = words.pictures or words.show, words.junit is not None or os.path.isdir(words.script)
+    pictures, several = words.pictures or words.show, words.junit is not None or os.path.isdir(
+        words.script
+    )
     return {
-        "--bless writes into the script, whole: it wants a file, and no --until":
-            words.bless and (words.script == STANDARD or words.until is not None),
-        "--dry-run tells what --bless would write: it wants --bless": words.dry_run and not words.bless,
-        "--html writes a page that has the pictures: without --bless, --pictures and --show":
-            words.html and (words.bless or pictures),
-        "a folder of scripts, and --junit, want none of --bless, --only, --pictures, --show, --html and --debug":
-            several and (words.bless or pictures or words.html or words.debug or words.only),
-        "--watch wants a file that changes, and not standard input": words.watch and words.script == STANDARD,
-        "--bless lists its changes: without --diff and --json": words.bless and (words.diff or words.json),
-        "--debug writes a page that runs the script: without --bless, --pictures and --show":
-            words.debug and (words.bless or pictures),
-        "--debug runs nothing here: without --only, --try and --vga, unless --html is there too":
-            words.debug and words.html is None and (words.only is not None or words.try_ or words.vga),
-        "the page of --html links to that of --debug: both want files":
-            words.debug and words.html and STANDARD in (words.html, words.debug),
+        "--bless writes into the script, whole: it wants a file, and no --until": words.bless
+        and (words.script == STANDARD or words.until is not None),
+        "--dry-run tells what --bless would write: it wants --bless": (
+            words.dry_run and not words.bless
+        ),
+        "--html writes a page that has the pictures: without --bless, --pictures and --show": (
+            words.html and (words.bless or pictures)
+        ),
+        "a folder of scripts, and --junit, want none of --bless, --only, --pictures, --show, "
+        "--html and --debug": several
+        and (words.bless or pictures or words.html or words.debug or words.only),
+        "--watch wants a file that changes, and not standard input": (
+            words.watch and words.script == STANDARD
+        ),
+        "--bless lists its changes: without --diff and --json": words.bless
+        and (words.diff or words.json),
+        "--debug writes a page that runs the script: without --bless, --pictures and --show": (
+            words.debug and (words.bless or pictures)
+        ),
+        "--debug runs nothing here: without --only, --try and --vga, unless --html is there too": (
+            words.debug
+            and words.html is None
+            and (words.only is not None or words.try_ or words.vga)
+        ),
+        "the page of --html links to that of --debug: both want files": (
+            words.debug and words.html and STANDARD in (words.html, words.debug)
+        ),
     }
 
 
@@ -119,7 +146,8 @@ def _write_debug_page(words: argparse.Namespace, data: bytes) -> None:
 
 
 def run(words: argparse.Namespace, progress: Progress) -> int:
-    """Runs a script, or each one of a folder, and shows each step beside its line and its answer."""
+    """Runs a script, or each one of a folder, and shows each step beside its line and its
+    answer."""
     _refuse_words(words)
     if words.build:
         build_program(progress)
@@ -135,7 +163,14 @@ def _run_script(words: argparse.Namespace, progress: Progress) -> int:
     program: Union[Built, Tried] = Tried() if words.try_ else Built(found_program(words.vga))
     shower = _Shower(words, progress)
     with tallied(name_of(words.script), words.json) as tally:
-        with _files(words.script, words.fonts) as (path, data, fonts), tempfile.TemporaryFile() as printed:
+        with (
+            _files(words.script, words.fonts) as (
+                path,
+                data,
+                fonts,
+            ),
+            tempfile.TemporaryFile() as printed,
+        ):
             if words.debug is not None and os.path.isfile(path):
                 _write_debug_page(words, data)
             script = Script(path, data, program, tally.shown, cast(BinaryIO, printed))
@@ -172,7 +207,9 @@ class _Shower:
     def __init__(self, words: argparse.Namespace, progress: Progress) -> None:
         self._words = words
         self._progress = progress
-        self._is_listed = not (words.bless or words.html or words.quiet or words.diff or words.json == STANDARD)
+        self._is_listed = not (
+            words.bless or words.html or words.quiet or words.diff or words.json == STANDARD
+        )
         # Whether the reasons of refusals are shown.
         self.tells_why = self._is_listed or words.html is not None
         self._page = Page([""], ["line", "step", "step as understood", "answer"])
@@ -188,7 +225,8 @@ class _Shower:
             write(heading(width) + "\n")
 
     def show(self, row: Row, is_wrong: bool) -> None:
-        """Shows a step, and writes its picture where that is wanted, with its path; why it was refused is told once."""
+        """Shows a step, and writes its picture where that is wanted, with its path; why it was
+        refused is told once."""
         picture, words, path = row.step.picture, self._words, ""
         if words.pictures is not None and isinstance(picture, Picture):
             path = os.path.join(words.pictures, f"{row.step.number:04}.png")
@@ -210,8 +248,13 @@ class _Shower:
         """Writes the page, where one is wanted."""
         words = self._words
         if words.html:
-            link = None if words.debug is None else link_to(words.debug, words.html) + _fragment(words)
-            write_file(words.html, self._page.text(tally.shown, tally.text(), link).encode("utf-8", "replace"))
+            link = (
+                None if words.debug is None else link_to(words.debug, words.html) + _fragment(words)
+            )
+            write_file(
+                words.html,
+                self._page.text(tally.shown, tally.text(), link).encode("utf-8", "replace"),
+            )
 
 
 def _bless(words: argparse.Namespace, blessing: Blessing) -> int:
@@ -221,12 +264,16 @@ def _bless(words: argparse.Namespace, blessing: Blessing) -> int:
         write(f"{path}:{number}: {before or 'nothing'} -> {after}\n")
     if not words.dry_run and changes:
         write_over(path, blessing.text().encode("utf-8", "surrogateescape"))
-    write(f"{path}: {counted(len(changes), 'answer')} {'would be written' if words.dry_run else 'written'}\n")
+    write(
+        f"{path}:"
+        f" {counted(len(changes), 'answer')} {'would be written' if words.dry_run else 'written'}\n"
+    )
     return AGREED
 
 
 class Ran(NamedTuple):
-    """A script that was run: its exit status, what was written and said, its seconds, and the file of its JSON."""
+    """A script that was run: its exit status, what was written and said, its seconds, and the file
+    of its JSON."""
 
     script: Path
     status: int
@@ -241,7 +288,9 @@ def _run_several(words: argparse.Namespace, progress: Progress) -> int:
         raise Trouble("--junit wants a file or a folder, and not standard input")
     paths = _scripts_in(words.script) if os.path.isdir(words.script) else [Path(words.script)]
     if not paths:
-        raise Trouble(f"it has no script: their names end with {' or '.join(ENDINGS)}", words.script)
+        raise Trouble(
+            f"it has no script: their names end with {' or '.join(ENDINGS)}", words.script
+        )
     for path in paths:
         to_read(str(path))
     for file in (words.json, words.junit):
@@ -257,7 +306,10 @@ def _run_several(words: argparse.Namespace, progress: Progress) -> int:
         if words.json is not None:
             _write_json(words.json, ran)
     if words.junit is not None:
-        write_file(words.junit, _junit_text(name_of(words.script), ran).encode("utf-8", "xmlcharrefreplace"))
+        write_file(
+            words.junit,
+            _junit_text(name_of(words.script), ran).encode("utf-8", "xmlcharrefreplace"),
+        )
     differ, failed = (sum(one.status == status for one in ran) for status in (DIFFERED, TROUBLE))
     parts = [counted(len(ran), "script"), f"{differ} differ{'s' * (differ == 1)}"]
     tell(", ".join(parts + ([f"{failed} can't be run"] if failed else [])) + "\n")
@@ -265,17 +317,29 @@ def _run_several(words: argparse.Namespace, progress: Progress) -> int:
 
 
 def _scripts_in(folder: str) -> list[Path]:
-    return sorted(path for path in Path(folder).rglob("*") if path.suffix in ENDINGS and path.is_file())
+    return sorted(
+        path for path in Path(folder).rglob("*") if path.suffix in ENDINGS and path.is_file()
+    )
 
 
-def _runs(words: argparse.Namespace, paths: list[Path], folder: Path, progress: Progress) -> Iterator[Ran]:
+def _runs(
+    words: argparse.Namespace, paths: list[Path], folder: Path, progress: Progress
+) -> Iterator[Ran]:
     is_ended, given = Event(), {"--fonts": words.fonts, "--vga": words.vga, "--until": words.until}
-    options = ["--quiet", *(str(word) for pair in given.items() if pair[1] is not None for word in pair)]
-    options += [f"--{name.rstrip('_')}" for name in ("try_", "strict", "diff") if getattr(words, name)]
+    options = [
+        "--quiet",
+        *(str(word) for pair in given.items() if pair[1] is not None for word in pair),
+    ]
+    options += [
+        f"--{name.rstrip('_')}" for name in ("try_", "strict", "diff") if getattr(words, name)
+    ]
 
     def run_one(number: int) -> Ran:
         begun, told = time.monotonic(), folder / str(number)
-        done = captured([sys.executable, TOOL, "run", "--json", told, *options, "--", paths[number]], is_ended=is_ended)
+        done = captured(
+            [sys.executable, TOOL, "run", "--json", told, *options, "--", paths[number]],
+            is_ended=is_ended,
+        )
         output, said = (part.decode("utf-8", "replace") for part in (done.output, done.errors))
         return Ran(paths[number], done.status, output, said, time.monotonic() - begun, told)
 
@@ -287,7 +351,8 @@ def _runs(words: argparse.Namespace, paths: list[Path], folder: Path, progress: 
 
 
 def _write_json(path: str, ran: list[Ran]) -> None:
-    """Writes what the scripts told as one list. One that was not even begun has its trouble alone."""
+    """Writes what the scripts told as one list. One that was not even begun has its trouble
+    alone."""
     with writing(path) as stream:
         for number, one in enumerate(ran):
             stream.write(b",\n" if number else b"[\n")
@@ -301,9 +366,13 @@ def _write_json(path: str, ran: list[Ran]) -> None:
 
 def _junit_text(name: str, ran: list[Ran]) -> str:
     kinds = {DIFFERED: "failure", TROUBLE: "error"}
-    counts = {f"{kind}s": str(sum(one.status == status for one in ran)) for status, kind in kinds.items()}
+    counts = {
+        f"{kind}s": str(sum(one.status == status for one in ran)) for status, kind in kinds.items()
+    }
     time_of_all = f"{sum(one.seconds for one in ran):.3f}"
-    suite = Element("testsuite", name=printable(name, "\n"), tests=str(len(ran)), **counts, time=time_of_all)
+    suite = Element(
+        "testsuite", name=printable(name, "\n"), tests=str(len(ran)), **counts, time=time_of_all
+    )
     for one in ran:
         case_name, seconds = printable(str(one.script), "\n"), f"{one.seconds:.3f}"
         names = {"classname": printable(name, "\n"), "name": case_name, "time": seconds}
@@ -328,7 +397,9 @@ def _watched(words: argparse.Namespace, work: Work, progress: Progress) -> NoRet
         sys.stdout.flush()
         while (now := _changes(words)) == before:
             time.sleep(LOOK)
-        changed = next(file for file in {**now, **before} if now.get(file, 0) != before.get(file, 0))
+        changed = next(
+            file for file in {**now, **before} if now.get(file, 0) != before.get(file, 0)
+        )
         write(f"{changed} has changed\n")
 
 

@@ -1,4 +1,5 @@
-"""Files by their names, where `-` is standard input or output; and what is told there. An input is never an output."""
+"""Files by their names, where `-` is standard input or output; and what is told there. An input is
+never an output."""
 
 import io
 import os
@@ -28,7 +29,8 @@ def name_of(path: str, standard: str = "standard input") -> str:
 
 
 def _status_of(place: Union[int, str]) -> Optional[os.stat_result]:
-    """What is known of a regular file, named or open; None of anything else, and where there is none."""
+    """What is known of a regular file, named or open; None of anything else, and where there is
+    none."""
     try:
         status = os.stat(place)
     except (OSError, ValueError):
@@ -37,7 +39,8 @@ def _status_of(place: Union[int, str]) -> Optional[os.stat_result]:
 
 
 def to_read(path: str) -> str:
-    """A name of the command line whose file is read, or may be: from now on it isn't written, under whatever name."""
+    """A name of the command line whose file is read, or may be: from now on it isn't written, under
+    whatever name."""
     if path != STANDARD:
         _were_read[path] = path
     return path
@@ -49,12 +52,15 @@ def refuse_input(path: str) -> None:
     for place, name in _were_read.items():
         status = _status_of(place)
         if output is not None and status is not None and os.path.samestat(output, status):
-            raise Trouble(f"it is read as {name}, so it isn't written", name_of(path, "standard output"))
+            raise Trouble(
+                f"it is read as {name}, so it isn't written", name_of(path, "standard output")
+            )
 
 
 @contextmanager
 def reading(path: str, is_drained: bool = True) -> Iterator[io.BufferedReader]:
-    """A file that is read, as bytes. Standard input is drained, so that its writer doesn't fail, unless it may be endless."""
+    """A file that is read, as bytes. Standard input is drained, so that its writer doesn't fail,
+    unless it may be endless."""
     if path == STANDARD:
         if sys.stdin is None:
             raise Trouble("it is closed", "standard input")
@@ -72,7 +78,8 @@ def reading(path: str, is_drained: bool = True) -> Iterator[io.BufferedReader]:
 
 
 def check_folder(path: Union[str, Path]) -> None:
-    """Ends the work, before it begins, where files can't be laid into a folder, be it there or to be made."""
+    """Ends the work, before it begins, where files can't be laid into a folder, be it there or to
+    be made."""
     if not str(path):
         raise Trouble(NO_NAME)
     whole = Path(path).absolute()
@@ -108,7 +115,8 @@ def bytes_of(path: Union[str, Path], most: int) -> bytes:
 
 
 def read_at_most(path: str, most: int, told: str = "") -> bytes:
-    """The bytes of a file, which may not have more than so many; else a Trouble, whose reason may be given."""
+    """The bytes of a file, which may not have more than so many; else a Trouble, whose reason may
+    be given."""
     with reading(path, is_drained=False) as stream:
         data = stream.read(most + 1)
     if len(data) > most:
@@ -118,7 +126,8 @@ def read_at_most(path: str, most: int, told: str = "") -> bytes:
 
 @contextmanager
 def writing(path: str) -> Iterator[BinaryIO]:
-    """A file that is written, as bytes: a new one beside it that takes its place once it is whole."""
+    """A file that is written, as bytes: a new one beside it that takes its place once it is
+    whole."""
     if not path:
         raise Trouble(NO_NAME)
     refuse_input(path)
@@ -136,7 +145,8 @@ def writing(path: str) -> Iterator[BinaryIO]:
 
 
 def _may_be_replaced(path: str) -> bool:
-    """Whether another file may take the place of what has this name: not that of a device or a pipe."""
+    """Whether another file may take the place of what has this name: not that of a device or a
+    pipe."""
     try:
         return stat.S_ISREG(os.stat(path).st_mode)
     except OSError:
@@ -153,7 +163,9 @@ def _written_beside(path: Path) -> Iterator[BinaryIO]:
             # The rights are those of the file that is replaced, or of a new one.
             mask = os.umask(0)
             os.umask(mask)
-            os.chmod(beside, stat.S_IMODE(os.stat(place).st_mode) if place.exists() else 0o666 & ~mask)
+            os.chmod(
+                beside, stat.S_IMODE(os.stat(place).st_mode) if place.exists() else 0o666 & ~mask
+            )
             yield stream
         os.replace(beside, place)
     except BaseException:
@@ -188,7 +200,8 @@ def length_of(stream: BinaryIO) -> int:
 
 
 def write(text: str) -> None:
-    """Writes text on standard output. Names of files that are no text pass as the bytes that they are."""
+    """Writes text on standard output. Names of files that are no text pass as the bytes that they
+    are."""
     sys.stdout.buffer.write(text.encode("utf-8", "surrogateescape"))
 
 
@@ -203,7 +216,8 @@ def counted(count: int, what: str) -> str:
 
 
 def teller(*files: Optional[str]) -> Callable[[str], object]:
-    """What writes text beside these files: on standard error where one of them goes to standard output."""
+    """What writes text beside these files: on standard error where one of them goes to standard
+    output."""
     return sys.stderr.write if STANDARD in files else write
 
 

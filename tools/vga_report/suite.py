@@ -1,4 +1,5 @@
-"""The commands `suite` and `scripts` over the suite's cases: each is run and judged, and told by its rule."""
+"""The commands `suite` and `scripts` over the suite's cases: each is run and judged, and told by
+its rule."""
 
 import argparse
 import io
@@ -19,11 +20,21 @@ from .png import save_png
 from .processes import MEBIBYTE, Limits, in_parallel, run_command
 from .progress import Progress
 from .report import Comparison, Report
-from .streams import STANDARD, bytes_of, check_folder, counted, name_of, write, write_file, write_name
+from .streams import (
+    STANDARD,
+    bytes_of,
+    check_folder,
+    counted,
+    name_of,
+    write,
+    write_file,
+    write_name,
+)
 from .trouble import AGREED, DIFFERED, Trouble
 
 AGREES, SKIPPED, DIFFERS, FAILED = "agrees", "skipped", "differs", "failed"
-# The answers from the best to the worst, as they are counted. A rule has the worst answer of its cases.
+# The answers from the best to the worst, as they are counted. A rule has the worst answer of its
+# cases.
 COUNTED = {AGREES: "agree", SKIPPED: "skipped", DIFFERS: "differ", FAILED: "failed"}
 ANSWERS = tuple(COUNTED)
 # The word in the place of a command that asks for the expected pictures.
@@ -41,7 +52,8 @@ SHOWN_LINES = 10
 
 @dataclass
 class Result:
-    """What came of a case: its answer, why it doesn't agree, the step that differs first, and what was compared."""
+    """What came of a case: its answer, why it doesn't agree, the step that differs first, and what
+    was compared."""
 
     case: Case
     rule: str
@@ -53,8 +65,17 @@ class Result:
 
     def told(self) -> dict[str, object]:
         """The same for machines."""
-        counts = {name: getattr(self.comparison, name) for name in ("steps", "skipped", "answers", "differing")}
-        told = {"name": self.case.name, "rule": self.rule, "answer": self.answer, **counts, **self.first}
+        counts = {
+            name: getattr(self.comparison, name)
+            for name in ("steps", "skipped", "answers", "differing")
+        }
+        told = {
+            "name": self.case.name,
+            "rule": self.rule,
+            "answer": self.answer,
+            **counts,
+            **self.first,
+        }
         return {**told, "reason": self.reason} if self.answer != AGREES else told
 
 
@@ -82,7 +103,10 @@ class Command:
             raise Trouble(f"no line `fonts FILE` stands before {case.name} in the list")
         values = {"script": str(script), "fonts": str(case.fonts), "name": case.name}
         stop = [] if case.until is None else ["--until", str(case.until)]
-        words = [stop if word == UNTIL else [PLACE.sub(lambda place: values[place[1]], word)] for word in self._words]
+        words = [
+            stop if word == UNTIL else [PLACE.sub(lambda place: values[place[1]], word)]
+            for word in self._words
+        ]
         return [word for some in words for word in some]
 
 
@@ -98,11 +122,17 @@ def suite(words: argparse.Namespace, progress: Progress) -> int:
     progress.clear()
     rules: Rules = {}
     for result in results:
-        rules.setdefault(result.case.name.rpartition("/")[0], {}).setdefault(result.rule, []).append(result)
+        rules.setdefault(result.case.name.rpartition("/")[0], {}).setdefault(
+            result.rule, []
+        ).append(result)
     if words.json:
         write(_json_text(words.command, rules, results))
     else:
-        write("".join(f"{line}\n" for group, some in rules.items() for line in _group_lines(group, some)))
+        write(
+            "".join(
+                f"{line}\n" for group, some in rules.items() for line in _group_lines(group, some)
+            )
+        )
         write(_counts_text(results) + "\n")
     counts = _counts(results)
     return DIFFERED if counts[DIFFERS] or counts[FAILED] or not counts[AGREES] else AGREED
@@ -122,7 +152,9 @@ def _write_expected(words: argparse.Namespace) -> int:
 def _chosen(words: argparse.Namespace) -> list[Case]:
     wanted, unwanted = tuple(words.only) or "", tuple(words.except_)
     cases = [
-        case for case in read_cases(words.list) if case.name.startswith(wanted) and not case.name.startswith(unwanted)
+        case
+        for case in read_cases(words.list)
+        if case.name.startswith(wanted) and not case.name.startswith(unwanted)
     ]
     if not cases:
         raise Trouble("no case has a name as --only and --except want it", name_of(words.list))
@@ -142,11 +174,15 @@ def _results(words: argparse.Namespace, cases: list[Case], progress: Progress) -
             if progress.is_due():
                 counts = _counts(results)
                 wrong = counts[DIFFERS] + counts[FAILED]
-                progress.tell(f"{len(results)} of {len(cases)} cases, {wrong} don't agree: {result.case.name}")
+                progress.tell(
+                    f"{len(results)} of {len(cases)} cases, {wrong} don't agree: {result.case.name}"
+                )
     return results
 
 
-def _run_case(case: Case, command: Optional[Command], words: argparse.Namespace, is_ended: Event) -> Result:
+def _run_case(
+    case: Case, command: Optional[Command], words: argparse.Namespace, is_ended: Event
+) -> Result:
     if command is None:
         return Result(case, case.rule(), SKIPPED, "the script is bytes, and --bytes has no command")
     if case.is_bytes and case.until is not None and not command.can_stop:
@@ -156,7 +192,9 @@ def _run_case(case: Case, command: Optional[Command], words: argparse.Namespace,
     result = Result(case, case.rule(), comparison=Comparison(words.refusals, words.machine))
     limits = Limits(words.timeout, words.output * MEBIBYTE)
     with tempfile.TemporaryDirectory(prefix="vga-report-") as name:
-        script, report, messages = (Path(name, file) for file in (f"script{case.suffix}", "report", "messages"))
+        script, report, messages = (
+            Path(name, file) for file in (f"script{case.suffix}", "report", "messages")
+        )
         script.write_bytes(case.handed(words.machine, command.can_stop))
         outcome = run_command(command.words(case, script), report, messages, limits, is_ended)
         if outcome.status is None:
@@ -164,33 +202,50 @@ def _run_case(case: Case, command: Optional[Command], words: argparse.Namespace,
         else:
             _judge(result, outcome.status, report, messages)
         if words.keep is not None and result.answer in (DIFFERS, FAILED):
-            _keep(Path(words.keep, case.name), case, {case.suffix: script, ".report": report, ".said": messages})
+            _keep(
+                Path(words.keep, case.name),
+                case,
+                {case.suffix: script, ".report": report, ".said": messages},
+            )
     return result
 
 
 def _judge(result: Result, status: int, report: Path, messages: Path) -> None:
-    """Judges a command that has ended with this status: a fault that it has said is its report where it wrote none."""
+    """Judges a command that has ended with this status: a fault that it has said is its report
+    where it wrote none."""
     has_report = not status or report.stat().st_size > 0
     fault = None if has_report else FAULT.search((said_lines(messages) or [""])[-1])
     if has_report:
         with open(report, "rb") as stream:
             _compare(result, stream)
     elif fault is not None:
-        _compare(result, io.BufferedReader(io.BytesIO(f"{fault[0]}\n".encode())))  # type: ignore[arg-type]
+        report = io.BytesIO(f"{fault[0]}\n".encode())
+        _compare(result, io.BufferedReader(report))  # type: ignore[arg-type]
     if status and fault is None and not (has_report and result.answer in (DIFFERS, FAILED)):
-        result.answer, result.reason = FAILED, f"the command ended with status {status}" + _said_text(messages)
+        (
+            result.answer,
+            result.reason,
+        ) = FAILED, f"the command ended with status {status}" + _said_text(messages)
 
 
 def _compare(result: Result, report: io.BufferedReader) -> None:
     comparison = result.comparison
     try:
-        for difference in comparison.differences(Report(report, REPORT_NAME).steps(), result.case.expected_steps()):
+        for difference in comparison.differences(
+            Report(report, REPORT_NAME).steps(), result.case.expected_steps()
+        ):
             # The first is told, and the others are counted.
             if not result.first:
                 answered, expected = difference.answers()
-                result.first = {"step": difference.number, "answered": answered, "expected": expected}
+                result.first = {
+                    "step": difference.number,
+                    "answered": answered,
+                    "expected": expected,
+                }
                 place = result.case.place_of(difference.number)
-                result.answer, result.reason = DIFFERS, difference.told() + (f" ({place})" if place else "")
+                result.answer, result.reason = DIFFERS, difference.told() + (
+                    f" ({place})" if place else ""
+                )
     except Trouble as trouble:
         if trouble.name != REPORT_NAME:
             raise
@@ -199,7 +254,9 @@ def _compare(result: Result, report: io.BufferedReader) -> None:
             return
     if not result.first and comparison.skipped:
         result.answer = SKIPPED
-        result.reason = f"{comparison.skipped} of {comparison.steps} steps are skipped, the others agree"
+        result.reason = (
+            f"{comparison.skipped} of {comparison.steps} steps are skipped, the others agree"
+        )
 
 
 def said_lines(messages: Path) -> list[str]:
@@ -211,7 +268,11 @@ def said_lines(messages: Path) -> list[str]:
 def _said_text(messages: Path) -> str:
     lines = said_lines(messages)
     if len(lines) > 2 * SHOWN_LINES:
-        lines = [*lines[:SHOWN_LINES], f".. {len(lines) - 2 * SHOWN_LINES} lines ..", *lines[-SHOWN_LINES:]]
+        lines = [
+            *lines[:SHOWN_LINES],
+            f".. {len(lines) - 2 * SHOWN_LINES} lines ..",
+            *lines[-SHOWN_LINES:],
+        ]
     if len(lines) < 2:
         return "".join(f": {line}" for line in lines)
     return ", and said\n" + "\n".join("  " + line for line in lines)
@@ -247,7 +308,10 @@ def empty_folder(path: str) -> Path:
     folder = Path(path)
     folder.mkdir(parents=True, exist_ok=True)
     if any(folder.iterdir()):
-        raise Trouble("the folder has files, and none of them is to be lost: give one that is new or empty", path)
+        raise Trouble(
+            "the folder has files, and none of them is to be lost: give one that is new or empty",
+            path,
+        )
     return folder
 
 
@@ -300,12 +364,16 @@ def _group_lines(group: str, rules: dict[str, list[Result]]) -> Iterator[str]:
         yield f"  {_worst(results):8} {rule}"
         for result in results:
             if result.answer != AGREES:
-                yield f"           {result.case.name}: " + result.reason.replace("\n", "\n           ")
+                yield f"           {result.case.name}: " + result.reason.replace(
+                    "\n", "\n           "
+                )
 
 
 def _json_text(command: str, groups: Rules, results: list[Result]) -> str:
     told = []
-    for group, rule, some in ((group, *one) for group, rules in groups.items() for one in rules.items()):
+    for group, rule, some in (
+        (group, *one) for group, rules in groups.items() for one in rules.items()
+    ):
         head = json.dumps({"rule": rule, "folder": group, "answer": _worst(some)})
         cases = ",\n".join(json.dumps(result.told()) for result in some)
         told.append(f'{head[:-1]}, "cases": [\n{cases}]}}')

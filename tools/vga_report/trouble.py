@@ -2,12 +2,14 @@
 
 from typing import Optional
 
-# The exit statuses of a tool: nothing differs, something differs or is wrong, and the work can't be done.
+# The exit statuses of a tool: nothing differs, something differs or is wrong, and the work can't be
+# done.
 AGREED, DIFFERED, TROUBLE = 0, 1, 2
 
 
 class Trouble(Exception):
-    """A file that can't be read as what it should be, or a word of the command line that can't be meant."""
+    """A file that can't be read as what it should be, or a word of the command line that can't be
+    meant."""
 
     status = TROUBLE
 

@@ -1,4 +1,5 @@
-"""The words of bad lines, faults and refusals, and the names of registers: the page says the same ones.
+"""The words of bad lines, faults and refusals, and the names of registers: the page says the same
+ones.
 
 They stand in `wordings.json`, of which `vga-page wordings` makes the page's copy.
 """
@@ -11,6 +12,7 @@ WORDINGS: dict[str, Any] = json.loads((Path(__file__).parent / "wordings.json").
 
 
 def said(part: str, which: str, /, **values: object) -> str:
-    """A sentence of a part of the table, with values in it. A form such as `{port:03X}` is one of `str.format`."""
+    """A sentence of a part of the table, with values in it. A form such as `{port:03X}` is one of
+    `str.format`."""
     text: str = WORDINGS[part][which]
     return text.format(**values)

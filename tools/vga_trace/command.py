@@ -16,7 +16,15 @@ from vga_report.program import found_program
 from vga_report.progress import Progress
 from vga_report.report import Report
 from vga_report.streams import (
-    STANDARD, check_file, check_folder, name_of, reading, refuse_twice, to_read, write_name, writing,
+    STANDARD,
+    check_file,
+    check_folder,
+    name_of,
+    reading,
+    refuse_twice,
+    to_read,
+    write_name,
+    writing,
 )
 from vga_report.trouble import AGREED, DIFFERED, Trouble
 from vga_report.words import add_program, add_shape, number_to, seconds
@@ -39,8 +47,20 @@ MOST_PACKED = 1 << 29
 def _add_trace(parser: argparse.ArgumentParser) -> None:
     told = "qemu's log or lines of the plain form, also compressed by gzip; - is standard input"
     add(parser, "TRACE", told, type=to_read)
-    add(parser, "--to N", "takes only the first N cycles (default: all)", type=number_to(MOST_CYCLES))
-    add(parser, "--from N", "begins with the Nth cycle (default: 1)", dest="from_", type=number_to(MOST_CYCLES), default=1)
+    add(
+        parser,
+        "--to N",
+        "takes only the first N cycles (default: all)",
+        type=number_to(MOST_CYCLES),
+    )
+    add(
+        parser,
+        "--from N",
+        "begins with the Nth cycle (default: 1)",
+        dest="from_",
+        type=number_to(MOST_CYCLES),
+        default=1,
+    )
 
 
 def _add_listing(parser: argparse.ArgumentParser) -> None:
@@ -50,9 +70,15 @@ def _add_listing(parser: argparse.ArgumentParser) -> None:
     told = "keeps all reads of input status 1, or only the first of several (default: keep)"
     add(parser, "--polls", told, choices=[KEEP, FIRST], default=KEEP)
     add(parser, "--time", "lets the clock run by the trace's times, at most a frame for each pause")
-    told = "adds frames: only at the end, before each change of the start address, where `record` took a screen, " \
-        "in each frame of the dot clock with a write, or every SECONDS by the trace's times"
-    frames = {"default": END, "type": lambda word: word if word in (END, FLIP, SCREENS, CLOCK) else seconds(word)}
+    told = (
+        "adds frames: only at the end, before each change of the start address, where `record` took"
+        " a screen, in each frame of the dot clock with a write, or every SECONDS by the trace's"
+        " times"
+    )
+    frames = {
+        "default": END,
+        "type": lambda word: word if word in (END, FLIP, SCREENS, CLOCK) else seconds(word),
+    }
     add(parser, "--frames end|flip|screens|clock|SECONDS", told, **frames)
     _add_longest(parser)
 
@@ -66,34 +92,80 @@ def _deed(word: str) -> Deed:
     """Reads keys, with their time or without: `2.5:ret`, `c,l,s,ret`."""
     time, colon, keys = word.rpartition(":")
     if not re.fullmatch("[a-z0-9_]+([-,][a-z0-9_]+)*", keys):
-        raise argparse.ArgumentTypeError(f"'{word}' is no key of qemu's, as `ret`, `2.5:down,ret` or `ctrl-c`")
+        raise argparse.ArgumentTypeError(
+            f"'{word}' is no key of qemu's, as `ret`, `2.5:down,ret` or `ctrl-c`"
+        )
     return Deed(seconds(time) if colon else None, tuple(keys.split(",")))
 
 
 def _add_record(parser: argparse.ArgumentParser) -> None:
     add(parser, "FOLDER", "a new folder, or an empty one")
-    told = "presses keys so many seconds after power-on, or once the software is quiet; may be repeated"
-    add(parser, "--key [SECONDS:]KEY,..", told, dest="deeds", action="append", default=[], type=_deed)
-    told = "dumps the screen, among the keys in the order of the words (default: at the end, once it is quiet)"
-    screen = {"dest": "deeds", "action": "append", "type": lambda word: Deed(None if word == QUIET else seconds(word))}
+    told = (
+        "presses keys so many seconds after power-on, or once the software is quiet; may be"
+        " repeated"
+    )
+    add(
+        parser,
+        "--key [SECONDS:]KEY,..",
+        told,
+        dest="deeds",
+        action="append",
+        default=[],
+        type=_deed,
+    )
+    told = (
+        "dumps the screen, among the keys in the order of the words (default: at the end, once it"
+        " is quiet)"
+    )
+    screen = {
+        "dest": "deeds",
+        "action": "append",
+        "type": lambda word: Deed(None if word == QUIET else seconds(word)),
+    }
     add(parser, "--screen quiet|SECONDS", told, **screen)
-    told = "runs this file on the machine of the page, in node, instead of on qemu: a program for DOS, a floppy, a disk, a " \
-        "ZIP, or a run that the page has saved, whose keys come again. Seconds are the machine's then, and not the clock's"
+    told = (
+        "runs this file on the machine of the page, in node, instead of on qemu: a program for DOS,"
+        " a floppy, a disk, a ZIP, or a run that the page has saved, whose keys come again. Seconds"
+        " are the machine's then, and not the clock's"
+    )
     add(parser, "--in-page FILE", told, type=to_read)
-    told = f"the processor's speed in the page's machine: {', '.join(inpage.SPEEDS)} (default: {inpage.USUAL_SPEED})"
+    told = (
+        f"the processor's speed in the page's machine: {', '.join(inpage.SPEEDS)} (default:"
+        f" {inpage.USUAL_SPEED})"
+    )
     add(parser, "--speed NAME", told, choices=inpage.SPEEDS)
-    add(parser, "--rom FILE", "the ROM of a video BIOS, which serves interrupt 10 of the page's machine", type=to_read)
-    add(parser, "--start NAME", "what the page's machine runs of a ZIP in which several files can run")
+    add(
+        parser,
+        "--rom FILE",
+        "the ROM of a video BIOS, which serves interrupt 10 of the page's machine",
+        type=to_read,
+    )
+    add(
+        parser,
+        "--start NAME",
+        "what the page's machine runs of a ZIP in which several files can run",
+    )
     told = "takes the software as quiet after so long without a cycle (default: 3)"
     add(parser, "--quiet SECONDS", told, type=seconds, default=3)
-    add(parser, "--seconds SECONDS", "ends the machine after so many seconds (default: 60)", type=seconds, default=60)
+    add(
+        parser,
+        "--seconds SECONDS",
+        "ends the machine after so many seconds (default: 60)",
+        type=seconds,
+        default=60,
+    )
     add(parser, "--chain-4", "records mode 13 too, by a plugin for qemu 7.2 that gcc builds")
     add(parser, "--card DEVICE", "takes this VGA of qemu's devices (default: VGA)")
     add_program(parser)
 
 
 def _add_pictures(parser: argparse.ArgumentParser) -> None:
-    add(parser, "FOLDER", "the folder for PNG files, which are named by the second of each", nargs="?")
+    add(
+        parser,
+        "FOLDER",
+        "the folder for PNG files, which are named by the second of each",
+        nargs="?",
+    )
     add(parser, "--apng FILE", "writes one picture that moves, in real time")
     add_shape(parser)
     _add_longest(parser)
@@ -103,8 +175,11 @@ def _add_pictures(parser: argparse.ArgumentParser) -> None:
 def _parser(qemu: Sequence[str] = ()) -> argparse.ArgumentParser:
     """The parser; the words for qemu, behind `--`, are none of its own."""
     parser = cli.tool_parser(
-        "vga-trace", "Makes scripts of what software did to a VGA.",
-        "tools/vga-trace convert examples/typed-line.trace script.bin", "docs/TRACES.md", cli.DIFFERS,
+        "vga-trace",
+        "Makes scripts of what software did to a VGA.",
+        "tools/vga-trace convert examples/typed-line.trace script.bin",
+        "docs/TRACES.md",
+        cli.DIFFERS,
     )
     commands = parser.add_subparsers(required=True, metavar="COMMAND")
     made = cli.command(commands, "convert", _convert, "makes a script of a trace")
@@ -119,12 +194,20 @@ def _parser(qemu: Sequence[str] = ()) -> argparse.ArgumentParser:
     add(made, "--most N", told, type=number_to(MOST_KINDS), default=40)
     _add_listing(made)
     _add_trace(cli.command(commands, "kinds", _kinds, "counts a trace's cycles by kind"))
-    made = cli.command(commands, "pictures", _pictures, "makes the pictures of a trace, in real time")
+    made = cli.command(
+        commands, "pictures", _pictures, "makes the pictures of a trace, in real time"
+    )
     _add_trace(made)
     _add_pictures(made)
     made = cli.command(
-        commands, "record", _record, "records on qemu or on the page's machine, replays, and compares the screens of both",
-        usage="vga-trace record [OPTION..] FOLDER -- QEMU-WORD..\n       vga-trace record [OPTION..] FOLDER --in-page FILE",
+        commands,
+        "record",
+        _record,
+        "records on qemu or on the page's machine, replays, and compares the screens of both",
+        usage=(
+            "vga-trace record [OPTION..] FOLDER -- QEMU-WORD..\n       vga-trace record [OPTION..]"
+            " FOLDER --in-page FILE"
+        ),
         epilog="After `--` stand qemu's words for what it boots: -cdrom disc.iso",
     )
     made.set_defaults(qemu=qemu)
@@ -135,7 +218,9 @@ def _parser(qemu: Sequence[str] = ()) -> argparse.ArgumentParser:
 def _listing(trace: Trace, words: argparse.Namespace) -> Listing:
     if words.time and words.frames == CLOCK:
         raise Trouble("frames by the clock have the time already: without --time")
-    return Listing(trace, words.polls == KEEP, words.time, words.frames, words.to, words.from_, words.longest)
+    return Listing(
+        trace, words.polls == KEEP, words.time, words.frames, words.to, words.from_, words.longest
+    )
 
 
 def _opened(words: argparse.Namespace) -> ContextManager[Trace]:
@@ -178,7 +263,11 @@ def _kinds(words: argparse.Namespace, _: Progress) -> None:
 def _pictures(words: argparse.Namespace, _: Progress) -> None:
     if words.folder is None and words.apng is None:
         raise Trouble("the pictures want a folder, or --apng a file")
-    program, shape, found = found_program(words.vga), Shape(words.scale, words.aspect), _opened(words)
+    program, shape, found = (
+        found_program(words.vga),
+        Shape(words.scale, words.aspect),
+        _opened(words),
+    )
     if words.folder is not None:
         check_folder(words.folder)
         os.makedirs(words.folder, exist_ok=True)
@@ -187,7 +276,9 @@ def _pictures(words: argparse.Namespace, _: Progress) -> None:
     with TemporaryDirectory(prefix="vga-trace-") as name:
         script, begin, width, height = Path(name) / "script", 0.0, 0, 0
         with found as trace, writing(str(script)) as stream:
-            listing = Listing(trace, frames=CLOCK, most=words.to, first=words.from_, longest=words.longest)
+            listing = Listing(
+                trace, frames=CLOCK, most=words.to, first=words.from_, longest=words.longest
+            )
             convert(listing, stream)
         _warn(listing, name_of(words.trace))
         for picture, lasts in shown(program, words.fonts, script, words.longest):
@@ -195,14 +286,21 @@ def _pictures(words: argparse.Namespace, _: Progress) -> None:
                 path = Path(words.folder) / f"{begin:09.3f}.png"
                 save_png(str(path), picture, shape)
                 write_name(path)
-            begin, width, height = begin + lasts, max(width, picture.width), max(height, picture.height)
+            begin, width, height = (
+                begin + lasts,
+                max(width, picture.width),
+                max(height, picture.height),
+            )
         if words.apng is not None:
             pictures = shown(program, words.fonts, script, words.longest)
             _write_moving(words.apng, Animation(shape, (width, height)), pictures)
 
 
-def _write_moving(path: str, animation: Animation, pictures: Iterator[tuple[Picture, float]]) -> None:
-    """Writes pictures that move, each stretched to the largest size of them, as a monitor shows them."""
+def _write_moving(
+    path: str, animation: Animation, pictures: Iterator[tuple[Picture, float]]
+) -> None:
+    """Writes pictures that move, each stretched to the largest size of them, as a monitor shows
+    them."""
     size = 0
     for number, (picture, lasts) in enumerate(pictures, 1):
         animation.add(picture, lasts, f"picture {number}")
@@ -223,11 +321,16 @@ OF_QEMU, OF_PAGE = ("qemu", "chain_4", "card"), ("speed", "rom", "start")
 def _check_record(words: argparse.Namespace) -> None:
     is_own = words.in_page is not None
     if not is_own and not words.qemu:
-        raise Trouble("qemu needs words after `--`, as `-- -cdrom disc.iso`; and the page's machine, --in-page FILE")
+        raise Trouble(
+            "qemu needs words after `--`, as `-- -cdrom disc.iso`; and the page's machine,"
+            " --in-page FILE"
+        )
     for name in OF_QEMU if is_own else OF_PAGE:
         if getattr(words, name):
             called = "what stands behind `--`" if name == "qemu" else f"--{name.replace('_', '-')}"
-            raise Trouble(f"{called} is for {'qemu, and not for --in-page' if is_own else '--in-page alone'}")
+            raise Trouble(
+                f"{called} is for {'qemu, and not for --in-page' if is_own else '--in-page alone'}"
+            )
 
 
 def _record(words: argparse.Namespace, progress: Progress) -> int:
@@ -244,10 +347,17 @@ def _record(words: argparse.Namespace, progress: Progress) -> int:
             plugin = chain_4(Path(made)) if words.chain_4 else []
             machine: Union[Machine, inpage.PageMachine]
             if words.in_page is None:
-                machine = Machine(["-device", words.card or "VGA", *plugin, *words.qemu], deeds, words.quiet, words.seconds)
+                machine = Machine(
+                    ["-device", words.card or "VGA", *plugin, *words.qemu],
+                    deeds,
+                    words.quiet,
+                    words.seconds,
+                )
             else:
                 options = words.speed, words.rom, words.start
-                machine = inpage.PageMachine(words.in_page, deeds, words.quiet, words.seconds, *options)
+                machine = inpage.PageMachine(
+                    words.in_page, deeds, words.quiet, words.seconds, *options
+                )
             return _judge(machine, folder, program, words.fonts, progress)
     finally:
         for left in folder.glob(".dump.*.ppm"):
@@ -256,7 +366,13 @@ def _record(words: argparse.Namespace, progress: Progress) -> int:
             folder.rmdir()
 
 
-def _judge(machine: Union[Machine, inpage.PageMachine], folder: Path, program: str, fonts: str, progress: Progress) -> int:
+def _judge(
+    machine: Union[Machine, inpage.PageMachine],
+    folder: Path,
+    program: str,
+    fonts: str,
+    progress: Progress,
+) -> int:
     def say(text: str) -> None:
         progress.clear()
         print(f"vga-trace: {text}", file=sys.stderr)
@@ -288,7 +404,8 @@ def _judge(machine: Union[Machine, inpage.PageMachine], folder: Path, program: s
 
 
 def main(words: Optional[Sequence[str]] = None) -> int:
-    """Runs a command line, and answers its exit status. What stands behind `--` of `record` is for qemu."""
+    """Runs a command line, and answers its exit status. What stands behind `--` of `record` is for
+    qemu."""
     given = sys.argv[1:] if words is None else list(words)
     end = given.index("--") if given[:1] == ["record"] and "--" in given else len(given)
-    return cli.runner(lambda: _parser(given[end + 1:]))(given[:end])
+    return cli.runner(lambda: _parser(given[end + 1 :]))(given[:end])

@@ -12,23 +12,47 @@ from vga_report.registers import ATTRIBUTE, ATTRIBUTES, INDEX_PORTS, Registers, 
 from vga_report.streams import counted
 from vga_report.trouble import Trouble
 from zaklimot import format
-from zaklimot.format import FIRST_LINE, HEADERS, MOST_ADVANCE, MOST_BYTES, MOST_STEPS, Answer, is_answer_to
+from zaklimot.format import (
+    FIRST_LINE,
+    HEADERS,
+    MOST_ADVANCE,
+    MOST_BYTES,
+    MOST_STEPS,
+    Answer,
+    is_answer_to,
+)
 from zaklimot.format.picture import Digest
 from zaklimot.format.report import REFUSAL, SKIPPED, VALUE
 
 from .state import State, rebuilt
-from .step import ADVANCE, BEAM_BITS, FRAME, INT, NAMES, OUT, OUTW, PORTS, PUT, PUTW, Step, steps_of, without_polls
+from .step import (
+    ADVANCE,
+    BEAM_BITS,
+    FRAME,
+    INT,
+    NAMES,
+    OUT,
+    OUTW,
+    PORTS,
+    PUT,
+    PUTW,
+    Step,
+    steps_of,
+    without_polls,
+)
 from .trace import MEMORY, PORT, Cycle, Trace
 
-# When a script has a frame: at its end alone, before each page flip, where a screen was taken, once in each frame of the dot
-# clock in which something was written, or every so many seconds.
+# When a script has a frame: at its end alone, before each page flip, where a screen was taken, once
+# in each frame of the dot clock in which something was written, or every so many seconds.
 END, FLIP, SCREENS, CLOCK = "end", "flip", "screens", "clock"
 Frames = Union[str, float]
-# Bytes that are kept free, as text: for the steps at the end, and for a row that is no block once it is cut there.
+# Bytes that are kept free, as text: for the steps at the end, and for a row that is no block once
+# it is cut there.
 FOR_THE_END = 1024
 # The bytes of a block but its steps, and the most steps that are looked at as one group.
 BLOCK_BYTES, MOST_GROUP = format.Block(1, ()).size, 8
-# Steps that are looked at ahead: as many as the shortest row that is worth a block may have. More are fetched at once.
+# Steps that are looked at ahead: as many as the shortest row that is worth a block may have. More
+# are fetched at once.
 AHEAD, FETCHED = 64, 4096
 # A step as its bytes or its line.
 Code = Callable[[Step], bytes]
@@ -49,7 +73,8 @@ def advances(dots: int) -> Iterator[Step]:
 
 
 class Pauses:
-    """The time between steps, as dots of the clock that the steps before have chosen; exact where the trace tells them."""
+    """The time between steps, as dots of the clock that the steps before have chosen; exact where
+    the trace tells them."""
 
     def __init__(self) -> None:
         self._registers = Registers()
@@ -71,7 +96,8 @@ class Pauses:
         return max(0, (step.dots or 0) - (step.opcode == FRAME))
 
     def _dots(self, now: Optional[int]) -> int:
-        """The dots of the time that has passed until now, a frame's at most; 0 of less than a line, kept for later."""
+        """The dots of the time that has passed until now, a frame's at most; 0 of less than a line,
+        kept for later."""
         if now is not None:
             passed = 0 if self._last is None else now - self._last
             self._last = now
@@ -87,7 +113,8 @@ class Pauses:
 class Clocked:
     """Real time: a frame at the end of each frame of the dot clock in which something was written.
 
-    Behind it so many frames pass as went by until the next that is drawn; a time without a write is cut to `longest` seconds.
+    Behind it so many frames pass as went by until the next that is drawn; a time without a write is
+    cut to `longest` seconds.
     """
 
     def __init__(self, longest: float) -> None:
@@ -100,7 +127,8 @@ class Clocked:
         self.shortened, self.left_out = 0, 0.0
 
     def steps(self, steps: Iterable[Step]) -> Iterator[Step]:
-        """The steps, with the frames that end before them, and the time until the end of the last."""
+        """The steps, with the frames that end before them, and the time until the end of the
+        last."""
         for step in steps:
             if step.time is not None:
                 yield from self._frames(step.time / 1_000_000)
@@ -126,18 +154,26 @@ class Clocked:
         if seconds > self.longest:
             self.shortened += 1
             self.left_out += seconds - self.longest
-        speed, frames = self._registers.speed(), round(min(seconds, self.longest) / self._registers.frame()) - 1
+        speed, frames = (
+            self._registers.speed(),
+            round(min(seconds, self.longest) / self._registers.frame()) - 1,
+        )
         yield from advances(0 if speed is None else speed[0] * max(frames, 0))
 
 
 def with_flips(steps: Iterable[Step]) -> Iterator[Step]:
-    """The steps, with a frame before each write that changes the start address: what was drawn until then.
+    """The steps, with a frame before each write that changes the start address: what was drawn
+    until then.
 
     There is one frame for the two halves of an address.
     """
     index, address, is_flipping = 0, dict.fromkeys(START_ADDRESS, 0), False
     for step in steps:
-        written = [(port & 1, value) for port, value in bytes_written(step.step) if port & ~1 in CONTROLLERS]
+        written = [
+            (port & 1, value)
+            for port, value in bytes_written(step.step)
+            if port & ~1 in CONTROLLERS
+        ]
         last = dict(address)
         for is_data, value in written:
             if not is_data:
@@ -166,14 +202,21 @@ def with_frames_every(seconds: float, steps: Iterable[Step]) -> Iterator[Step]:
 class Listing:
     """The steps of a trace, in the order of the script, and how cycles become steps.
 
-    That is whether all polls stay, whether time passes, when a frame stands, and how many cycles count. The script
-    begins with the cycle of the number `first`, and with steps that rebuild what those before it have done. With frames
-    by the clock a time without a write lasts `longest` seconds at most.
+    That is whether all polls stay, whether time passes, when a frame stands, and how many cycles
+    count. The script begins with the cycle of the number `first`, and with steps that rebuild what
+    those before it have done. With frames by the clock a time without a write lasts `longest`
+    seconds at most.
     """
 
     def __init__(
-        self, trace: Trace, keeps_polls: bool = True, has_time: bool = False, frames: Frames = END,
-        most: Optional[int] = None, first: int = 1, longest: float = 1,
+        self,
+        trace: Trace,
+        keeps_polls: bool = True,
+        has_time: bool = False,
+        frames: Frames = END,
+        most: Optional[int] = None,
+        first: int = 1,
+        longest: float = 1,
     ) -> None:
         self.trace = trace
         self._keeps_polls, self._has_time, self._frames = keeps_polls, has_time, frames
@@ -184,7 +227,8 @@ class Listing:
         self.rebuilding = 0
 
     def steps(self) -> Iterator[Step]:
-        """The steps, and the frame at the end. Where time passes there are two: the first began amid the cycles."""
+        """The steps, and the frame at the end. Where time passes there are two: the first began
+        amid the cycles."""
         steps = steps_of(self.trace.cycles(self._most), self.trace.screens)
         if self._is_timed:
             steps = self._timed(steps)
@@ -211,7 +255,10 @@ class Listing:
         clocked = self._clocked
         if clocked.shortened:
             silences = counted(clocked.shortened, "silence")
-            yield f"{silences} cut to {clocked.longest:g} s, and {clocked.left_out:,.1f} s left out so"
+            yield (
+                f"{silences} cut to {clocked.longest:g} s, and {clocked.left_out:,.1f} s left"
+                " out so"
+            )
         if self._is_timed and self.trace.untimed:
             yield f"{self.trace.untimed:,} cycles have no time, and come without a pause"
 
@@ -221,11 +268,17 @@ class Listing:
             if step.cycle >= self._first:
                 break
             if step.opcode == INT:
-                reason = "a call of interrupt 10, and --from follows cycles alone: what comes after it begins at power-on"
+                reason = (
+                    "a call of interrupt 10, and --from follows cycles alone: what comes after it"
+                    " begins at power-on"
+                )
                 raise Trouble(f"cycle {step.cycle:,} is {reason}", self.trace.name)
             state.take(step)
         else:
-            told = f"it has {self.trace.count:,} cycles, and none from {self._first:,} on becomes a step"
+            told = (
+                f"it has {self.trace.count:,} cycles, and none from {self._first:,} on becomes a"
+                " step"
+            )
             raise Trouble(told, self.trace.name)
         for rebuilding in rebuilt(state):
             self.rebuilding += 1
@@ -253,7 +306,8 @@ class Listing:
 
 
 class Row(NamedTuple):
-    """Steps with their codes, which a script has so often; the cycle of the last one, 0 where it is none's."""
+    """Steps with their codes, which a script has so often; the cycle of the last one, 0 where it is
+    none's."""
 
     steps: Sequence[Step]
     codes: Sequence[bytes]
@@ -262,16 +316,23 @@ class Row(NamedTuple):
 
 
 def folded(steps: Iterable[Step], code: Code, has_blocks: bool = True) -> Iterator[Row]:
-    """The steps, but rows of equal steps or equal groups as blocks where these have at most half of the bytes.
+    """The steps, but rows of equal steps or equal groups as blocks where these have at most half of
+    the bytes.
 
-    Steps are equal if their codes are. As lines, what is read is expected to be equal too: a line has one answer.
+    Steps are equal if their codes are. As lines, what is read is expected to be equal too: a line
+    has one answer.
     """
     ahead = _Ahead(iter(steps), code)
     while ahead.has(AHEAD):
         size, at, count = ahead.group() if has_blocks else 0, ahead.at, 1
-        group, codes = ahead.steps[at:at + (size or 1)], ahead.codes[at:at + (size or 1)]
+        group, codes = ahead.steps[at : at + (size or 1)], ahead.codes[at : at + (size or 1)]
         last, ahead.at = group[-1], at + len(group)
-        while size and count < format.MOST_COUNT and ahead.has(size) and ahead.codes[ahead.at:ahead.at + size] == codes:
+        while (
+            size
+            and count < format.MOST_COUNT
+            and ahead.has(size)
+            and ahead.codes[ahead.at : ahead.at + size] == codes
+        ):
             ahead.at, count = ahead.at + size, count + 1
             last = ahead.steps[ahead.at - 1]
         yield Row(group, codes, count, last.cycle)
@@ -290,27 +351,31 @@ class _Ahead:
         """Whether there is a step. So many are fetched, if there are."""
         if len(self.steps) - self.at < wanted:
             more = list(islice(self._rest, FETCHED))
-            self.steps, self.codes = self.steps[self.at:] + more, self.codes[self.at:] + list(map(self._code, more))
+            self.steps, self.codes = self.steps[self.at :] + more, self.codes[self.at :] + list(
+                map(self._code, more)
+            )
             self.at = 0
         return self.at < len(self.steps)
 
     def group(self) -> int:
-        """The size of the smallest group that stands here so often that it is worth a block; else 0."""
+        """The size of the smallest group that stands here so often that it is worth a block; else
+        0."""
         codes, at = self.codes, self.at
-        if codes[at] not in codes[at + 1:at + 1 + MOST_GROUP]:
+        if codes[at] not in codes[at + 1 : at + 1 + MOST_GROUP]:
             return 0
         for size in range(1, MOST_GROUP + 1):
-            if codes[at:at + size] == codes[at + size:at + 2 * size]:
-                length = sum(step.size for step in self.steps[at:at + size])
+            if codes[at : at + size] == codes[at + size : at + 2 * size]:
+                length = sum(step.size for step in self.steps[at : at + size])
                 least = -(-2 * (BLOCK_BYTES + length) // length)
-                if codes[at:at + least * size] == codes[at:at + size] * least:
+                if codes[at : at + least * size] == codes[at : at + size] * least:
                     return size
         return 0
 
 
 @dataclass
 class Written:
-    """How many steps of each kind and how many blocks a script has, and its bytes and those of its text."""
+    """How many steps of each kind and how many blocks a script has, and its bytes and those of its
+    text."""
 
     is_text: bool
     kinds: Counter[str] = field(default_factory=Counter)
@@ -334,7 +399,11 @@ class Written:
             ends = format.encoded(format.Block(row.count, ()))
             words = f"{format.REPEAT} {row.count}\n".encode(), f"{format.END}\n".encode()
             front, end = words if self.is_text else (ends[:-1], ends[-1:])
-            self.blocks, self.script_bytes, body = self.blocks + 1, self.script_bytes + len(ends), front + body + end
+            self.blocks, self.script_bytes, body = (
+                self.blocks + 1,
+                self.script_bytes + len(ends),
+                front + body + end,
+            )
         self.text_bytes += len(body) if self.is_text else 0
         return body
 
@@ -356,18 +425,30 @@ class Written:
         return f"{', '.join(parts)}: {kinds}"
 
 
-def convert(listing: Listing, stream: BinaryIO, is_text: bool = False, has_blocks: bool = True) -> Written:
-    """Writes a script as text or bytes; a Trouble where it has more bytes, or means more steps, than a script may.
+def convert(
+    listing: Listing, stream: BinaryIO, is_text: bool = False, has_blocks: bool = True
+) -> Written:
+    """Writes a script as text or bytes; a Trouble where it has more bytes, or means more steps,
+    than a script may.
 
     Rows of equal steps become blocks, which version 2 has, if these are wanted.
     """
     written, body = Written(is_text), bytearray()
     for row in folded(listing.steps(), Step.text if is_text else Step.data, has_blocks):
         body += written.row(row)
-        if max(written.script_bytes, written.text_bytes) > MOST_BYTES - FOR_THE_END or written.steps > MOST_STEPS - FOR_THE_END:
-            last, most = written.last_cycle, f"more than {MOST_BYTES:,} bytes, or means more than {MOST_STEPS:,} steps"
+        if (
+            max(written.script_bytes, written.text_bytes) > MOST_BYTES - FOR_THE_END
+            or written.steps > MOST_STEPS - FOR_THE_END
+        ):
+            last, most = (
+                written.last_cycle,
+                f"more than {MOST_BYTES:,} bytes, or means more than {MOST_STEPS:,} steps",
+            )
             part = f"; `--to {last}` ends before that, and `--from {last + 1}` goes on after it"
-            raise Trouble(f"the script has {most}{part if last else ', and no cycle fits'}", listing.trace.name)
+            raise Trouble(
+                f"the script has {most}{part if last else ', and no cycle fits'}",
+                listing.trace.name,
+            )
         written.last_cycle = row.cycle or written.last_cycle
     stream.write(written.header())
     stream.write(body)
@@ -376,7 +457,8 @@ def convert(listing: Listing, stream: BinaryIO, is_text: bool = False, has_block
 
 @dataclass
 class Checked:
-    """How many steps were answered, refused and left out, which reads there were, and which of them differ."""
+    """How many steps were answered, refused and left out, which reads there were, and which of them
+    differ."""
 
     steps: int = 0
     skipped: int = 0
@@ -391,13 +473,25 @@ class Checked:
         return not (self.refused or self.differing)
 
     def lines(self, most: int) -> Iterator[str]:
-        """The figures, and so many kinds at most of refusals, of reads, and of those that differ."""
-        refused, reads, differing = (sum(kinds.values()) for kinds in (self.refused, self.reads, self.differing))
+        """The figures, and so many kinds at most of refusals, of reads, and of those that
+        differ."""
+        refused, reads, differing = (
+            sum(kinds.values()) for kinds in (self.refused, self.reads, self.differing)
+        )
         skipped = f", {self.skipped:,} skipped" if self.skipped else ""
-        yield f"{self.steps:,} steps, {refused:,} refused, {reads:,} reads answered, {differing:,} differ{skipped}"
-        for name, kinds in (("refused", self.refused), ("read", self.reads), ("differ", self.differing)):
+        yield (
+            f"{self.steps:,} steps, {refused:,} refused, {reads:,} reads answered,"
+            f" {differing:,} differ{skipped}"
+        )
+        for name, kinds in (
+            ("refused", self.refused),
+            ("read", self.reads),
+            ("differ", self.differing),
+        ):
             for kind, count in kinds.most_common(most):
-                yield f"  {name:7} {count:9,} {kind}" + ("" if name == "read" else f" ({self.examples[kind]})")
+                yield f"  {name:7} {count:9,} {kind}" + (
+                    "" if name == "read" else f" ({self.examples[kind]})"
+                )
 
     def note(self, kinds: Counter[str], kind: str, told: str) -> None:
         """Counts a refusal or a read that differs; of each kind the first is told."""
@@ -405,8 +499,8 @@ class Checked:
         self.examples.setdefault(kind, f"first at step {told}")
 
     def take(self, step: Step, answer: Answer, kind: str, is_exact: bool = False) -> None:
-        """Counts a step and its answer. A trace without dots doesn't tell where the beam is: of input status 1 these bits
-        don't count then.
+        """Counts a step and its answer. A trace without dots doesn't tell where the beam is: of
+        input status 1 these bits don't count then.
         """
         self.steps += 1
         if answer.answer == SKIPPED:
@@ -415,24 +509,43 @@ class Checked:
             self.note(self.refused, f"{answer.answer}: {kind}", f"{self.steps:,}")
         elif answer.kind == VALUE:
             self.reads[kind] += 1
-            if (int(answer.answer, 16) ^ step.value) & ~(BEAM_BITS if step.is_status and not is_exact else 0):
+            if (int(answer.answer, 16) ^ step.value) & ~(
+                BEAM_BITS if step.is_status and not is_exact else 0
+            ):
                 traced = f"{step.value:0{len(answer.answer)}X}"
-                self.note(self.differing, kind, f"{self.steps:,}: traced {traced}, answered {answer.answer}")
+                self.note(
+                    self.differing,
+                    kind,
+                    f"{self.steps:,}: traced {traced}, answered {answer.answer}",
+                )
 
 
 def _judged(step: Step, number: int, answer: Optional[Answer], name: str) -> Answer:
-    """The answer of a step; a Trouble where the report has none, or one that is no answer of such a step."""
+    """The answer of a step; a Trouble where the report has none, or one that is no answer of such a
+    step."""
     if answer is None:
-        raise Trouble(f"it ends before step {number:,}, `{NAMES[step.opcode]}`: it is of another script", name)
+        raise Trouble(
+            f"it ends before step {number:,}, `{NAMES[step.opcode]}`: it is of another script", name
+        )
     is_any = answer.kind == REFUSAL or answer.answer == SKIPPED
     # A report that is kept as text has no pictures.
-    if not (is_any or isinstance(answer.picture, Digest) and step.opcode == FRAME or is_answer_to(step.step, answer)):
-        reason = f"step {number:,} is `{NAMES[step.opcode]}`, and '{answer.answer[:40]}' answers none: it is of another script"
+    if not (
+        is_any
+        or isinstance(answer.picture, Digest)
+        and step.opcode == FRAME
+        or is_answer_to(step.step, answer)
+    ):
+        reason = (
+            f"step {number:,} is `{NAMES[step.opcode]}`, and '{answer.answer[:40]}' answers none:"
+            " it is of another script"
+        )
         raise Trouble(reason, name, answer.line)
     return answer
 
 
-def check(steps: Iterable[Step], answers: Iterator[Answer], name: str, has_time: bool = False) -> Checked:
+def check(
+    steps: Iterable[Step], answers: Iterator[Answer], name: str, has_time: bool = False
+) -> Checked:
     """Holds the answers of a report, which messages call by a name, against the steps of a trace.
 
     Where time has passed by the dots of the trace, the beam is where it was.
@@ -444,7 +557,10 @@ def check(steps: Iterable[Step], answers: Iterator[Answer], name: str, has_time:
         checked.take(step, answer, f"{NAMES[step.opcode]} {_place(step, registers)}", is_exact)
         registers.take(step.step)
     if next(answers, None) is not None:
-        raise Trouble(f"it has more than the {checked.steps:,} steps of the trace: it is of another script", name)
+        raise Trouble(
+            f"it has more than the {checked.steps:,} steps of the trace: it is of another script",
+            name,
+        )
     return checked
 
 
@@ -460,17 +576,24 @@ def count(cycles: Iterable[Cycle]) -> Counter[str]:
         if cycle.call is not None:
             found[f"call of interrupt 10, AH {cycle.call.registers[0] >> 8:02X}"] += 1
             continue
-        place = place_of(cycle.address) if cycle.space == MEMORY else f"{cycle.space} {cycle.address:03X}"
+        place = (
+            place_of(cycle.address)
+            if cycle.space == MEMORY
+            else f"{cycle.space} {cycle.address:03X}"
+        )
         # A VBE port is none of the adapter's, and is called so.
         found[f"{'write' if cycle.is_write else 'read'} {place} size {cycle.size}"] += 1
     return found
 
 
 def _place(step: Step, registers: Registers) -> str:
-    """What a step is about: a function of the BIOS, a window of memory, or a port, of data with its register's index."""
+    """What a step is about: a function of the BIOS, a window of memory, or a port, of data with its
+    register's index."""
     if step.call is not None:
         return f"AH {step.call.registers[0] >> 8:02X}"
     if step.opcode not in PORTS:
         return place_of(step.address)
     group = ATTRIBUTES if step.address == ATTRIBUTE + 1 else INDEX_PORTS.get(step.address - 1)
-    return f"{PORT} {step.address:03X}" + ("" if group is None else f" index {registers.indexes[group]:02X}")
+    return f"{PORT} {step.address:03X}" + (
+        "" if group is None else f" index {registers.indexes[group]:02X}"
+    )

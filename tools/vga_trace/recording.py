@@ -23,10 +23,22 @@ QEMU = "qemu-system-x86_64"
 EVENTS = "memory_region_ops_read\nmemory_region_ops_write\n"
 # The regions of the log that are the VGA's.
 KEPT = ("'vga", "'vbe'", "'cirrus-io'", "'cirrus-low-memory'")
-# A machine of one processor whose cycles keep their order, with no devices but those that are wanted.
-BARE = ("-accel", "tcg", "-machine", "pc,smm=off", "-nodefaults", "-m", "128", "-no-reboot", "-display", "none")
-# Seconds between two looks, between two keys, and that the cursor's phase lasts about half of; and in which qemu ends
-# that can't begin.
+# A machine of one processor whose cycles keep their order, with no devices but those that are
+# wanted.
+BARE = (
+    "-accel",
+    "tcg",
+    "-machine",
+    "pc,smm=off",
+    "-nodefaults",
+    "-m",
+    "128",
+    "-no-reboot",
+    "-display",
+    "none",
+)
+# Seconds between two looks, between two keys, and that the cursor's phase lasts about half of; and
+# in which qemu ends that can't begin.
 LOOK, PRESSING, PHASE, BEGINNING = 0.05, 0.1, 0.12, 0.3
 # Screens are taken again and again, since qemu blinks by a clock of its own.
 PHASES = 6
@@ -40,7 +52,8 @@ Say = Callable[[str], None]
 class Deed(NamedTuple):
     """Keys that are pressed one after the other, or the screen taken where there are none.
 
-    It is done so many seconds after power-on, or once the software is quiet. Keys have qemu's names, `ctrl-c` two of them.
+    It is done so many seconds after power-on, or once the software is quiet. Keys have qemu's
+    names, `ctrl-c` two of them.
     """
 
     at: Optional[float] = None
@@ -52,10 +65,11 @@ class Deed(NamedTuple):
 
 @dataclass(frozen=True)
 class Machine:
-    """What a machine is made of, what is done to it in this order, and how long its software is waited for.
+    """What a machine is made of, what is done to it in this order, and how long its software is
+    waited for.
 
-    `quiet` is how many seconds without a cycle mean that the software waits; `most` is after how many seconds the machine
-    ends, whatever was not done by then.
+    `quiet` is how many seconds without a cycle mean that the software waits; `most` is after how
+    many seconds the machine ends, whatever was not done by then.
     """
 
     words: Sequence[str]
@@ -65,7 +79,8 @@ class Machine:
 
 
 class Keeper(Thread):
-    """Keeps the lines of a pipe in a file, and tells how many bytes there were, and when the last came."""
+    """Keeps the lines of a pipe in a file, and tells how many bytes there were, and when the last
+    came."""
 
     def __init__(self, source: BinaryIO, target: BinaryIO, name: str = QEMU) -> None:
         super().__init__(daemon=True)
@@ -74,7 +89,8 @@ class Keeper(Thread):
         self.trouble: Optional[Trouble] = None
 
     def run(self) -> None:
-        """Takes all lines, also those that can't be kept, so that their writer goes on to its end."""
+        """Takes all lines, also those that can't be kept, so that their writer goes on to its
+        end."""
         with self._source:
             while chunk := os.read(self._source.fileno(), CHUNK):
                 self.size, self.last = self.size + len(chunk), time.monotonic()
@@ -82,14 +98,20 @@ class Keeper(Thread):
                     if self.size <= MOST_LINES:
                         self._target.write(chunk)
                     else:
-                        self.trouble = Trouble(f"its trace has more than {MOST_LINES:,} bytes: end it sooner", self._name)
+                        self.trouble = Trouble(
+                            f"its trace has more than {MOST_LINES:,} bytes: end it sooner",
+                            self._name,
+                        )
                 except OSError as error:
-                    self.trouble = Trouble(f"its trace can't be kept: {error.strerror or error}", self._name)
+                    self.trouble = Trouble(
+                        f"its trace can't be kept: {error.strerror or error}", self._name
+                    )
 
 
 @dataclass
 class Session:
-    """A machine that runs, with its dumps in a folder: what is done to it, and the seconds of its screens."""
+    """A machine that runs, with its dumps in a folder: what is done to it, and the seconds of its
+    screens."""
 
     machine: Machine
     process: subprocess.Popen[bytes]
@@ -114,11 +136,14 @@ class Session:
         return self.keeper.size > 0 and now - max(self.acted, self.keeper.last) > self.machine.quiet
 
     def act(self, do: Monitor, log: BinaryIO, say: Say) -> None:
-        """Does all that is to be done. The last screen is taken in the last second at the latest."""
+        """Does all that is to be done. The last screen is taken in the last second at the
+        latest."""
         for number, deed in enumerate(self.machine.deeds, 1):
             is_due, is_last = self._wait(deed), number == len(self.machine.deeds)
             if self.has_ended():
-                say(f"the machine ended by itself after {time.monotonic() - self.began:.1f} seconds")
+                say(
+                    f"the machine ended by itself after {time.monotonic() - self.began:.1f} seconds"
+                )
                 return
             if not is_due and (deed.keys or not is_last):
                 over = f"{self.machine.most:g} seconds were over before it was time for {deed}"
@@ -133,7 +158,8 @@ class Session:
                 return
 
     def _wait(self, deed: Deed) -> bool:
-        """Waits until a deed is to be done; whether it came to that before the machine's last second."""
+        """Waits until a deed is to be done; whether it came to that before the machine's last
+        second."""
         while not self.is_due(deed):
             passed = time.monotonic() - self.began
             if self.has_ended() or passed >= self.machine.most:
@@ -151,7 +177,8 @@ class Session:
         self.acted = time.monotonic()
 
     def _take_screen(self, do: Monitor, log: BinaryIO) -> None:
-        """Takes the screen at several phases of the cursor. A line of the log tells the place of each among the cycles."""
+        """Takes the screen at several phases of the cursor. A line of the log tells the place of
+        each among the cycles."""
         first = PHASES * len(self.screens)
         self.screens.append(time.monotonic() - self.began)
         do("stop")
@@ -181,14 +208,27 @@ def dump(folder: Path, number: int) -> Path:
 def _qemu(machine: Machine, folder: Path) -> list[str]:
     (folder / "events").write_text(EVENTS, encoding="ascii")
     return [
-        "nice", "-n", "10", QEMU, *BARE, "-msg", "timestamp=on", "-trace", f"events={folder}/events", "-D", f"{folder}/log",
-        "-qmp", f"unix:{folder}/monitor,server=on,wait=off", *machine.words,
+        "nice",
+        "-n",
+        "10",
+        QEMU,
+        *BARE,
+        "-msg",
+        "timestamp=on",
+        "-trace",
+        f"events={folder}/events",
+        "-D",
+        f"{folder}/log",
+        "-qmp",
+        f"unix:{folder}/monitor,server=on,wait=off",
+        *machine.words,
     ]
 
 
 @contextmanager
 def _reached(folder: Path, process: subprocess.Popen[bytes]) -> Iterator[tuple[Monitor, BinaryIO]]:
-    """The monitor of a machine, and its log to write into; a Trouble tells what it said where it doesn't begin."""
+    """The monitor of a machine, and its log to write into; a Trouble tells what it said where it
+    doesn't begin."""
     until = time.monotonic() + ANSWERING
     while not (folder / "monitor").exists() and process.poll() is None and time.monotonic() < until:
         time.sleep(LOOK)
@@ -197,7 +237,9 @@ def _reached(folder: Path, process: subprocess.Popen[bytes]) -> Iterator[tuple[M
         process.wait(BEGINNING)
     if process.poll() is not None or not (folder / "monitor").exists():
         raise Trouble(f"it doesn't begin: {said_last(folder / 'said') or 'it said nothing'}", QEMU)
-    with monitor_at(folder / "monitor") as do, open(os.open(folder / "log", os.O_WRONLY | os.O_NONBLOCK), "wb", 0) as log:
+    with monitor_at(folder / "monitor") as do, open(
+        os.open(folder / "log", os.O_WRONLY | os.O_NONBLOCK), "wb", 0
+    ) as log:
         os.set_blocking(log.fileno(), True)
         yield do, log
 
@@ -212,17 +254,25 @@ def record(machine: Machine, kept: Path, say: Say, progress: Progress) -> list[f
     with ExitStack() as stack:
         folder = Path(stack.enter_context(tempfile.TemporaryDirectory(prefix="vga-recording-")))
         os.mkfifo(folder / "log")
-        target = stack.enter_context(gzip.open(stack.enter_context(writing(str(kept / TRACE))), "wb", 6))
+        target = stack.enter_context(
+            gzip.open(stack.enter_context(writing(str(kept / TRACE))), "wb", 6)
+        )
         keepers: list[Keeper] = []
         stack.callback(lambda: [keeper.join(DRAINING) for keeper in keepers])
-        filtering = stack.enter_context(started(
-            ["grep", "--line-buffered", "-F", *words, folder / "log"], stdout=subprocess.PIPE, preexec_fn=end_with_parent
-        ))
+        filtering = stack.enter_context(
+            started(
+                ["grep", "--line-buffered", "-F", *words, folder / "log"],
+                stdout=subprocess.PIPE,
+                preexec_fn=end_with_parent,
+            )
+        )
         keepers.append(Keeper(filtering.stdout, target))  # type: ignore[arg-type]
         filtering.stdout = None
         keepers[0].start()
         said = stack.enter_context(open(folder / "said", "wb"))
-        process = stack.enter_context(started(_qemu(machine, folder), stdout=said, stderr=said, preexec_fn=end_with_parent))
+        process = stack.enter_context(
+            started(_qemu(machine, folder), stdout=said, stderr=said, preexec_fn=end_with_parent)
+        )
         session = Session(machine, process, keepers[0], kept, progress)
         # A machine that has ended by itself hears nothing more.
         with suppress(BrokenPipeError), _reached(folder, process) as (do, log):

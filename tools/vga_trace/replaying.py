@@ -1,6 +1,8 @@
-"""A trace replayed by the program: its pictures held against the screens that qemu showed, or with how long they last.
+"""A trace replayed by the program: its pictures held against the screens that qemu showed, or with
+how long they last.
 
-What qemu is known to show otherwise is told by the pictures, or by registers and memory at a screen.
+What qemu is known to show otherwise is told by the pictures, or by registers and memory at a
+screen.
 """
 
 from __future__ import annotations
@@ -43,11 +45,12 @@ NINE = 9
 
 @dataclass
 class Screen:
-    """A dump of a screen, held against the picture here, and the names of what is known of how they differ.
+    """A dump of a screen, held against the picture here, and the names of what is known of how they
+    differ.
 
-    `state` is that of the moment, `cycle` how many cycles came before, and `lacking` what the trace lacks up to there.
-    What was held of the picture is all of it, or its front where qemu leaves out the last lines. Of the page's own machine
-    nothing is known that differs.
+    `state` is that of the moment, `cycle` how many cycles came before, and `lacking` what the trace
+    lacks up to there. What was held of the picture is all of it, or its front where qemu leaves out
+    the last lines. Of the page's own machine nothing is known that differs.
     """
 
     state: State
@@ -92,10 +95,17 @@ class Screen:
     def dots(self) -> Sequence[tuple[int, int]]:
         """The dots that differ, as columns and rows; none where the sizes do."""
         part, other = self.part, self.held.image
-        return [] if other is None else [
-            (x, y) for y in range(part.height) if part.row(y) != other.row(y)
-            for x, mark in enumerate(marks_in_row(part.row(y), other.row(y))) if mark
-        ]
+        return (
+            []
+            if other is None
+            else [
+                (x, y)
+                for y in range(part.height)
+                if part.row(y) != other.row(y)
+                for x, mark in enumerate(marks_in_row(part.row(y), other.row(y)))
+                if mark
+            ]
+        )
 
     def lines(self, front: str) -> Iterator[str]:
         """What is told of it, behind words that tell which screen it is."""
@@ -115,12 +125,17 @@ class Screen:
             return f"equal, {self.held.how}"
         if self.held.count is None:
             return f"another size: {self.held.how}"
-        lacking = f"it lacks the last {self.cut} of {self.picture.height} lines; " if self.cut else ""
+        lacking = (
+            f"it lacks the last {self.cut} of {self.picture.height} lines; " if self.cut else ""
+        )
         if not self.dots:
             return f"{lacking}the others are equal, {self.held.how}"
         (left, right), (top, bottom) = ((min(at), max(at)) for at in zip(*self.dots))
         where = f"in columns {left} to {right} and rows {top} to {bottom}"
-        return f"{lacking}{self.held.count:,} of {self.part.width * self.part.height:,} dots differ, {where}"
+        return (
+            f"{lacking}{self.held.count:,} of {self.part.width * self.part.height:,} dots differ,"
+            f" {where}"
+        )
 
     def write(self, folder: Path, number: int) -> None:
         """Leaves the dump, the picture, and where they differ."""
@@ -133,7 +148,11 @@ class Screen:
 def _has_blinking(screen: Screen) -> bool:
     """Whether a character of text memory blinks: bit 7 of its attribute, which is in plane 1."""
     state = screen.state
-    return bool(screen.is_text and state.attr.registers[0x10] & 8 and any(word & 0x8000 for word in state.memory.words))
+    return bool(
+        screen.is_text
+        and state.attr.registers[0x10] & 8
+        and any(word & 0x8000 for word in state.memory.words)
+    )
 
 
 def _is_ninth(screen: Screen) -> bool:
@@ -164,7 +183,8 @@ def _has_underline(screen: Screen) -> bool:
 
 
 def _has_two_fonts(screen: Screen) -> bool:
-    """Whether bit 3 of an attribute chooses between two fonts, and colour plane enable takes it off the colour."""
+    """Whether bit 3 of an attribute chooses between two fonts, and colour plane enable takes it off
+    the colour."""
     chosen = screen.state.seq.registers[3]
     fonts = chosen >> 5 & 1 | chosen >> 1 & 6, chosen >> 4 & 1 | chosen << 1 & 6
     return screen.is_text and fonts[0] != fonts[1] and not screen.state.attr.registers[0x12] & 8
@@ -182,19 +202,27 @@ def _is_split_within_row(screen: Screen) -> bool:
     if screen.is_text or not had or image is None or any(y < begin for _, y in screen.dots):
         return False
     shown = [(y, begin + (y - begin + had) // lines * lines) for y in range(begin, picture.height)]
-    return bool(shown) and all(image.row(y) == picture.row(at) for y, at in shown if at < picture.height)
+    return bool(shown) and all(
+        image.row(y) == picture.row(at) for y, at in shown if at < picture.height
+    )
 
 
 def whole_rows(state: State, picture: Picture) -> Picture:
-    """A picture of text without a last row that isn't whole; the picture itself if there is none."""
+    """A picture of text without a last row that isn't whole; the picture itself if there is
+    none."""
     height = picture.height - picture.height % _row_lines(state.crtc.registers)
     # Under double scan qemu counts other lines to a row.
-    if state.gfx.registers[6] & 1 or state.crtc.registers[9] & 0x80 or height in (0, picture.height):
+    if (
+        state.gfx.registers[6] & 1
+        or state.crtc.registers[9] & 0x80
+        or height in (0, picture.height)
+    ):
         return picture
     return Picture.of_dots(picture.width, height, b"".join(picture.row(y) for y in range(height)))
 
 
-# The differences as the page calls them, each with what tells whether a screen has it: what pictures themselves tell ..
+# The differences as the page calls them, each with what tells whether a screen has it: what
+# pictures themselves tell ..
 SEEN: Mapping[str, Callable[[Screen], bool]] = {
     "split within a row": _is_split_within_row,
     "last row of text that isn't whole": lambda screen: screen.cut > 0,
@@ -207,7 +235,10 @@ ALLOWED: Mapping[str, Callable[[Screen], bool]] = {
     "ninth dot": _is_ninth,
     "colour plane enable": _has_two_fonts,
     "preset row scan": lambda screen: bool(screen.state.crtc.registers[8] & 0x1F),
-    "panning": lambda screen: screen.state.attr.registers[0x13] not in (0, 8) or screen.state.crtc.registers[8] & 0x60 > 0,
+    "panning": (
+        lambda screen: screen.state.attr.registers[0x13] not in (0, 8)
+        or screen.state.crtc.registers[8] & 0x60 > 0
+    ),
     "line compare": _is_split,
     "underline": _has_underline,
     "blinking": _has_blinking,
@@ -215,7 +246,8 @@ ALLOWED: Mapping[str, Callable[[Screen], bool]] = {
 
 
 def _known(screen: Screen) -> dict[str, list[str]]:
-    """The names of the differences that a screen "is" and "may be": none that the pictures rule out."""
+    """The names of the differences that a screen "is" and "may be": none that the pictures rule
+    out."""
     seen = [name for name, shows in SEEN.items() if shows(screen)]
     is_explained = seen and not (screen.cut and screen.dots)
     allowed = [] if is_explained else [name for name, shows in ALLOWED.items() if shows(screen)]
@@ -224,10 +256,12 @@ def _known(screen: Screen) -> dict[str, list[str]]:
 
 @dataclass
 class Replay:
-    """The steps of a trace and the answers to them, as they pass: the script's figures, the reads, and the screens.
+    """The steps of a trace and the answers to them, as they pass: the script's figures, the reads,
+    and the screens.
 
-    `cycles` tells how many cycles stand before each dump, of which a screen has several: `screens` keeps the nearest. A
-    recording of the page's own machine tells the dots between its cycles, and has one dump of a screen.
+    `cycles` tells how many cycles stand before each dump, of which a screen has several: `screens`
+    keeps the nearest. A recording of the page's own machine tells the dots between its cycles, and
+    has one dump of a screen.
     """
 
     written: Written
@@ -261,7 +295,9 @@ class Replay:
         if not path.exists():
             return
         image, cycle = image_of(image_bytes(str(path)), str(path)), self.cycles[self._dumps]
-        screen = Screen(self.state, picture, image, path, cycle, self.listing.trace.lacking, self.is_own)
+        screen = Screen(
+            self.state, picture, image, path, cycle, self.listing.trace.lacking, self.is_own
+        )
         if number not in self.screens or screen.distance < self.screens[number].distance:
             self.screens[number] = screen
 
@@ -269,15 +305,20 @@ class Replay:
 def _run_script(program: str, fonts: str, script: Path, report: Path) -> None:
     with TemporaryDirectory(prefix=".run.", dir=report.parent) as made:
         answers, messages = Path(made) / "report", Path(made) / "said"
-        outcome = run_command([program, "run", script, "--fonts", fonts], answers, messages, MOST_RUN, Event())
+        outcome = run_command(
+            [program, "run", script, "--fonts", fonts], answers, messages, MOST_RUN, Event()
+        )
         if outcome.status != 0:
             ended = outcome.reason or f"it ended with status {outcome.status}"
             raise Trouble(f"{ended}: {said_last(messages) or 'it said nothing'}", program)
         answers.replace(report)
 
 
-def replay(folder: Path, program: str, fonts: str, progress: Progress, is_own: bool = False) -> Replay:
-    """Makes script.bin and report.txt beside a trace and its screens in a folder, and holds all against one another.
+def replay(
+    folder: Path, program: str, fonts: str, progress: Progress, is_own: bool = False
+) -> Replay:
+    """Makes script.bin and report.txt beside a trace and its screens in a folder, and holds all
+    against one another.
 
     In a recording of the page's own machine time passes, dot by dot.
     """
@@ -289,12 +330,17 @@ def replay(folder: Path, program: str, fonts: str, progress: Progress, is_own: b
     with opened(trace) as read, reading(str(report)) as answers:
         listing, name = Listing(read, has_time=is_own, frames=SCREENS), str(report)
         done = Replay(written, listing, folder, cycles, is_own=is_own)
-        done.checked = check(done.steps(), done.answers(Report(answers, name, progress).steps()), name, is_own)
+        done.checked = check(
+            done.steps(), done.answers(Report(answers, name, progress).steps()), name, is_own
+        )
     return done
 
 
-def shown(program: str, fonts: str, script: Path, at_last: float) -> Iterator[tuple[Picture, float]]:
-    """The pictures of a script that the program runs, each with the seconds that it is seen, the last with so many more.
+def shown(
+    program: str, fonts: str, script: Path, at_last: float
+) -> Iterator[tuple[Picture, float]]:
+    """The pictures of a script that the program runs, each with the seconds that it is seen, the
+    last with so many more.
 
     Equal ones that follow one another are one.
     """

@@ -26,21 +26,32 @@ WINDOWS = ((0xA0000, 0x20000), (0xA0000, 0x10000), (0xB0000, 0x8000), (0xB8000, 
 FIRST_ADDRESS, PLANE_BYTES, PLANES, ALL_PLANES = 0xA0000, 1 << 16, 4, 0x0F
 # A byte in each of the four bytes of a word, and words of which the bytes of some planes are FF.
 EACH = 0x01010101
-SPREAD = tuple(sum(0xFF << 8 * plane for plane in range(PLANES) if planes >> plane & 1) for planes in range(16))
+SPREAD = tuple(
+    sum(0xFF << 8 * plane for plane in range(PLANES) if planes >> plane & 1) for planes in range(16)
+)
 EVEN, ODD = 0b0101, 0b1010
 # What is done with data and the latches, by the function of data rotate.
 FUNCTIONS: tuple[Callable[[int, int], int], ...] = (lambda data, _: data, and_, or_, xor)
 COMPONENTS, ENTRIES = 3, 256
-# The index of the attribute controller: the palette address source; and how many registers are the palette.
+# The index of the attribute controller: the palette address source; and how many registers are the
+# palette.
 SOURCE, PALETTE = 0x20, 0x10
-# Bits of the end of vertical retrace and of overflow: what protects registers 0 to 7, and what is never protected.
+# Bits of the end of vertical retrace and of overflow: what protects registers 0 to 7, and what is
+# never protected.
 PROTECT, COMPARE_8 = 0x80, 0x10
 # Frames are counted modulo so many: the cursor and blinking text go by this number.
 FRAMES = 32
-# The CRT controller's registers that are taken at a frame's first dot: preset row scan, start address.
+# The CRT controller's registers that are taken at a frame's first dot: preset row scan, start
+# address.
 TAKEN = (0x08, 0x0C, 0x0D)
-# Sequencer and graphics controller such that a byte goes to the planes of the map mask, at its address' offset.
-PLANAR = ((SEQUENCER, 0x04, 0x06), *((GRAPHICS, index, 0) for index in range(6)), (GRAPHICS, 0x06, 0x04), (GRAPHICS, 0x08, 0xFF))
+# Sequencer and graphics controller such that a byte goes to the planes of the map mask, at its
+# address' offset.
+PLANAR = (
+    (SEQUENCER, 0x04, 0x06),
+    *((GRAPHICS, index, 0) for index in range(6)),
+    (GRAPHICS, 0x06, 0x04),
+    (GRAPHICS, 0x08, 0xFF),
+)
 MAP_MASK, RETRACE_END = 0x02, 0x11
 # The lines of a frame, the characters of a line, and the dots of a character.
 Shape = tuple[int, int, int]
@@ -48,13 +59,17 @@ Value = TypeVar("Value")
 
 
 class State:
-    """The state at power-on, and as steps leave it. A step that the adapter refuses changes nothing."""
+    """The state at power-on, and as steps leave it. A step that the adapter refuses changes
+    nothing."""
 
     def __init__(self) -> None:
         self.misc = 0
         self.seq = Bank("033D0F3F0E", 0x07)
         self.gfx = Bank("0F0F0F1F037B0F0FFF", 0x0F, {5: (0x20, 0)})
-        crtc_kept, crtc_wanted = "FF" * 8 + "7FFF3F7F" + "FF" * 8 + "7FFFFFEFFF", {0x14: (0x20, 0), 0x17: (0x0F, 0x03)}
+        crtc_kept, crtc_wanted = "FF" * 8 + "7FFF3F7F" + "FF" * 8 + "7FFFFFEFFF", {
+            0x14: (0x20, 0),
+            0x17: (0x0F, 0x03),
+        }
         self.crtc = Bank(crtc_kept, 0x1F, crtc_wanted, _unprotected)
         self.crtc.registers[0x17] = 0x03
         self.attr = Bank("3F" * PALETTE + "EFFF3F0F0F", 0x3F, {}, _unlocked)
@@ -76,7 +91,8 @@ class State:
         return shape_of(self.seq.registers[1], crtc[0], crtc[6], crtc[7])
 
     def take(self, step: Step) -> Optional[int]:
-        """Takes a step, and answers what it reads; None of a write and of a refusal. Of input status 1 all bits are 0."""
+        """Takes a step, and answers what it reads; None of a write and of a refusal. Of input
+        status 1 all bits are 0."""
         opcode, address, value = step.opcode, step.address, step.value
         size = 2 if opcode in WORDS else 1
         if opcode in (PUT, PUTW):
@@ -92,8 +108,16 @@ class State:
             read = bytes(map(self.memory.get, self._places(address, size)))
             return int.from_bytes(read, "little") if read else None
         elif opcode in (IN, INW):
-            readers = [reader for reader in map(self._reader, range(address, address + size)) if reader is not None]
-            return int.from_bytes(bytes(reader() for reader in readers), "little") if len(readers) == size else None
+            readers = [
+                reader
+                for reader in map(self._reader, range(address, address + size))
+                if reader is not None
+            ]
+            return (
+                int.from_bytes(bytes(reader() for reader in readers), "little")
+                if len(readers) == size
+                else None
+            )
         return None
 
     def _places(self, address: int, count: int) -> Sequence[int]:
@@ -110,17 +134,21 @@ class State:
         return self.seq if port == SEQUENCER else self.gfx if port == GRAPHICS else None
 
     def _write(self, port: int, data: bytes) -> None:
-        """Writes a byte or a word: whole, or not at all. The first byte decides on the second where it is its index."""
+        """Writes a byte or a word: whole, or not at all. The first byte decides on the second where
+        it is its index."""
         bank = self._bank(port)
         writers = [self._writer(port, data[0], None)]
         if len(data) > 1:
-            writers.append(self._writer(port + 1, data[1], None if bank is None else data[0] & bank.index_kept))
+            writers.append(
+                self._writer(port + 1, data[1], None if bank is None else data[0] & bank.index_kept)
+            )
         if None not in writers:
             for writer in writers:
                 writer()  # type: ignore[misc]
 
     def _writer(self, port: int, value: int, index: Optional[int]) -> Optional[Callable[[], None]]:
-        """What writes a value to a port, whose index may be another then; None where that is refused."""
+        """What writes a value to a port, whose index may be another then; None where that is
+        refused."""
         bank, bank_of_data = self._bank(port), self._bank(port - 1)
         if bank is not None:
             return partial(setattr, bank, "index", value & bank.index_kept)
@@ -128,7 +156,11 @@ class State:
             is_taken = bank_of_data.takes(bank_of_data.index if index is None else index, value)
             return partial(bank_of_data.write, value) if is_taken else None
         if port == ATTRIBUTE:
-            return None if self.is_data and not self.attr.has_register else partial(self._write_attribute, value)
+            return (
+                None
+                if self.is_data and not self.attr.has_register
+                else partial(self._write_attribute, value)
+            )
         if port == MISC:
             return partial(setattr, self, "misc", value & MISC_KEPT)
         if port == MASK:
@@ -145,7 +177,9 @@ class State:
         self.is_data = not self.is_data
 
     def _reader(self, port: int) -> Optional[Callable[[], int]]:
-        bank, bank_of_data = self._bank(port), self.attr if port == ATTRIBUTE_READ else self._bank(port - 1)
+        bank, bank_of_data = self._bank(port), self.attr if port == ATTRIBUTE_READ else self._bank(
+            port - 1
+        )
         if bank is not None:
             return partial(getattr, bank, "index")
         if bank_of_data is not None:
@@ -155,7 +189,12 @@ class State:
             return self._read_status
         if port == DAC_DATA:
             return self.dac.read
-        values = {ATTRIBUTE: self.attr.index, MASK: self.dac.mask, DAC_WRITE: self.dac.index, MISC_READ: self.misc}
+        values = {
+            ATTRIBUTE: self.attr.index,
+            MASK: self.dac.mask,
+            DAC_WRITE: self.dac.index,
+            MISC_READ: self.misc,
+        }
         return partial(values.__getitem__, port) if port in values else None
 
     def _read_status(self) -> int:
@@ -164,10 +203,11 @@ class State:
 
 
 class Memory:
-    """The planes. A word has the four bytes of an offset, that of plane 0 lowest; so have the latches.
+    """The planes. A word has the four bytes of an offset, that of plane 0 lowest; so have the
+    latches.
 
-    `place` is an address less the first of its window; `seq` and `gfx` are the registers of the sequencer and of the
-    graphics controller, as they can be held.
+    `place` is an address less the first of its window; `seq` and `gfx` are the registers of the
+    sequencer and of the graphics controller, as they can be held.
     """
 
     def __init__(self, seq: Sequence[int], gfx: Sequence[int]) -> None:
@@ -193,7 +233,13 @@ class Memory:
             differing = (self.latches ^ SPREAD[self._gfx[2]]) & SPREAD[self._gfx[7]]
             differing |= differing >> 16
             return ~(differing | differing >> 8) & 0xFF
-        plane = place & 3 if self._seq[4] & 8 else self._gfx[4] & 2 | place & 1 if self._gfx[5] & 0x10 else self._gfx[4]
+        plane = (
+            place & 3
+            if self._seq[4] & 8
+            else self._gfx[4] & 2 | place & 1
+            if self._gfx[5] & 0x10
+            else self._gfx[4]
+        )
         return self.latches >> 8 * plane & 0xFF
 
     def _offset(self, place: int) -> int:
@@ -216,7 +262,8 @@ class Memory:
 
 
 def _unprotected(crtc: Bank) -> int:
-    """The bits of the register that may be written: the first eight may be protected, but for line compare."""
+    """The bits of the register that may be written: the first eight may be protected, but for line
+    compare."""
     if not crtc.registers[RETRACE_END] & PROTECT or crtc.number > 7:
         return 0xFF
     return COMPARE_8 if crtc.number == 7 else 0
@@ -230,12 +277,16 @@ def _unlocked(attributes: Bank) -> int:
 class Bank:
     """Registers behind an index.
 
-    `kept` has the bits that each register keeps, `index_kept` those of the index. `wanted` has, of some registers, bits
-    and the value that these must have, or a write is refused. `opened` tells which bits a write changes now.
+    `kept` has the bits that each register keeps, `index_kept` those of the index. `wanted` has, of
+    some registers, bits and the value that these must have, or a write is refused. `opened` tells
+    which bits a write changes now.
     """
 
     def __init__(
-        self, kept: str, index_kept: int, wanted: Mapping[int, tuple[int, int]] = {},
+        self,
+        kept: str,
+        index_kept: int,
+        wanted: Mapping[int, tuple[int, int]] = {},
         opened: Callable[[Bank], int] = lambda _: 0xFF,
     ) -> None:
         self._kept, self._wanted, self._opened = bytes.fromhex(kept), wanted, opened
@@ -282,7 +333,7 @@ class Dac:
             self.waiting[self.next] = value & 0x3F
         else:
             at = COMPONENTS * self.index
-            self.components[at:at + COMPONENTS] = [*self.waiting, value & 0x3F]
+            self.components[at : at + COMPONENTS] = [*self.waiting, value & 0x3F]
         self._go_on()
 
     def read(self) -> int:
@@ -297,9 +348,11 @@ class Dac:
 
 
 class Beam:
-    """Where the next dot is: its frame, and in it the line, the character of the line, and the dot of the character.
+    """Where the next dot is: its frame, and in it the line, the character of the line, and the dot
+    of the character.
 
-    A place that registers have since left outside is as good as the last one: what it is in ends with the next dot.
+    A place that registers have since left outside is as good as the last one: what it is in ends
+    with the next dot.
     """
 
     def __init__(self) -> None:
@@ -313,14 +366,20 @@ class Beam:
         return not any(self.place)
 
     def drawn(self, shape: Shape) -> int:
-        """The dots of the frame under way that are drawn; of a place that is outside, those up to the last one inside."""
+        """The dots of the frame under way that are drawn; of a place that is outside, those up to
+        the last one inside."""
         line, character, dot = (min(at, most - 1) for at, most in zip(self.place, shape))
         return (line * shape[1] + character) * shape[2] + dot
 
     def advance(self, count: int, shape: Shape, crtc: Sequence[int]) -> None:
-        """Goes on by so many dots. The line and the character stay as they are, inside or outside, until they end."""
+        """Goes on by so many dots. The line and the character stay as they are, inside or outside,
+        until they end."""
         _, characters, dots = shape
-        (line, character, dot), was_at_begin, begin = self.place, self.is_at_begin, self.drawn(shape)
+        (line, character, dot), was_at_begin, begin = (
+            self.place,
+            self.is_at_begin,
+            self.drawn(shape),
+        )
         end, frames = begin + count, 0
         if end // dots == begin // dots:
             self.place = line, character, dot + count
@@ -339,7 +398,8 @@ class Beam:
 
 
 def rebuilt(state: State) -> Iterator[Step]:
-    """The steps that take the adapter from power-on to a state. What they read is what it answers then."""
+    """The steps that take the adapter from power-on to a state. What they read is what it answers
+    then."""
     taking = State()
     for step in _steps(state, taking):
         read = taking.take(step)
@@ -376,7 +436,11 @@ def _steps(state: State, begin: State) -> Iterator[Step]:
     yield from _attributes(state)
     yield from _dac(state)
     yield from _controller(state)
-    for port, bank in ((GRAPHICS, state.gfx), (SEQUENCER, state.seq), (state.controller, state.crtc)):
+    for port, bank in (
+        (GRAPHICS, state.gfx),
+        (SEQUENCER, state.seq),
+        (state.controller, state.crtc),
+    ):
         yield Step(OUT, port, bank.index)
     if not state.misc & ENABLE_MEMORY:
         yield Step(OUT, MISC, state.misc)
@@ -395,13 +459,16 @@ def _latches(latches: int) -> Iterator[Step]:
 
 
 def _planes(words: list[int]) -> Iterator[Step]:
-    """What isn't 0 in the planes, two offsets a step, and once for all planes that have the same there."""
+    """What isn't 0 in the planes, two offsets a step, and once for all planes that have the same
+    there."""
     steps: dict[int, list[Step]] = {}
     for offset in range(0, PLANE_BYTES, 2):
         low, high = words[offset], words[offset + 1]
         if not (low or high):
             continue
-        values = (low >> 8 * plane & 0xFF | (high >> 8 * plane & 0xFF) << 8 for plane in range(PLANES))
+        values = (
+            low >> 8 * plane & 0xFF | (high >> 8 * plane & 0xFF) << 8 for plane in range(PLANES)
+        )
         for value, planes in masks_of(values).items():
             if value:
                 steps.setdefault(planes, []).append(Step(PUTW, FIRST_ADDRESS + offset, value))
@@ -411,7 +478,8 @@ def _planes(words: list[int]) -> Iterator[Step]:
 
 
 def _attributes(state: State) -> Iterator[Step]:
-    """The attribute controller: its palette is written before it is looked at; what is written next is as it was."""
+    """The attribute controller: its palette is written before it is looked at; what is written next
+    is as it was."""
     status = state.controller + STATUS
     yield Step(IN, status)
     for index, value in enumerate(state.attr.registers):
@@ -423,7 +491,8 @@ def _attributes(state: State) -> Iterator[Step]:
 
 
 def _dac(state: State) -> Iterator[Step]:
-    """The DAC: its entries, what waits for blue, and which component is next, by reading those before it."""
+    """The DAC: its entries, what waits for blue, and which component is next, by reading those
+    before it."""
     dac = state.dac
     yield Step(OUT, MASK, dac.mask)
     yield Step(OUT, DAC_WRITE, 0)
@@ -434,7 +503,8 @@ def _dac(state: State) -> Iterator[Step]:
 
 
 def _controller(state: State) -> Iterator[Step]:
-    """The CRT controller, and the beam's place in its frame, which began with registers of that time."""
+    """The CRT controller, and the beam's place in its frame, which began with registers of that
+    time."""
     port, registers = state.controller, state.crtc.registers
     taken = {} if state.beam.is_at_begin else state.beam.taken
     yield _register(port, RETRACE_END, registers[RETRACE_END] & ~PROTECT)

@@ -1,7 +1,7 @@
 """How long calls take through the package, beside the same by C: python3 bench.py [FOLDER]
 
-FOLDER is one that `tools/vga-library make` has made; else ZAKLIMOT_DIR names it. The table has the best of
-several runs, in microseconds. Debian's package gcc is needed; this is no part of the tests.
+FOLDER is one that `tools/vga-library make` has made; else ZAKLIMOT_DIR names it. The table has the
+best of several runs, in microseconds. Debian's package gcc is needed; this is no part of the tests.
 """
 
 from __future__ import annotations
@@ -23,10 +23,24 @@ CALLS = header.TOP / "bench" / "calls.c"
 FONTS = header.TOP / "fonts" / "zaklimot.fnt"
 # The name of a call in bench/calls.c, the mode, and how often it is made.
 TIMED = (
-    ("put", "13", 5000), ("get", "13", 5000), ("out", "13", 5000), ("in", "13", 5000), ("advance_25", "13", 5000),
-    ("put_bytes", "13", 20), ("fill_bytes", "13", 20), ("get_bytes", "13", 20), ("clock", "13", 5000),
-    ("frame", "13", 20), ("frame", "3", 20), ("frame", "12", 20), ("frame_xrgb", "13", 20), ("frame_lines", "12", 20),
-    ("teletype", "3", 1000), ("read_registers", "13", 1000), ("show_regs", "13", 1000), ("save", "13", 20),
+    ("put", "13", 5000),
+    ("get", "13", 5000),
+    ("out", "13", 5000),
+    ("in", "13", 5000),
+    ("advance_25", "13", 5000),
+    ("put_bytes", "13", 20),
+    ("fill_bytes", "13", 20),
+    ("get_bytes", "13", 20),
+    ("clock", "13", 5000),
+    ("frame", "13", 20),
+    ("frame", "3", 20),
+    ("frame", "12", 20),
+    ("frame_xrgb", "13", 20),
+    ("frame_lines", "12", 20),
+    ("teletype", "3", 1000),
+    ("read_registers", "13", 1000),
+    ("show_regs", "13", 1000),
+    ("save", "13", 20),
     ("restore", "13", 20),
 )
 
@@ -80,19 +94,32 @@ def by_python(name: str, mode: str, times: int) -> float:
 
 
 def main() -> int:
-    folder = Path(sys.argv[1] if len(sys.argv) > 1 else os.environ.get("ZAKLIMOT_DIR", "")).absolute()
+    folder = Path(
+        sys.argv[1] if len(sys.argv) > 1 else os.environ.get("ZAKLIMOT_DIR", "")
+    ).absolute()
     if not (folder / "lib" / "libzaklimot.a").is_file():
         print(__doc__, file=sys.stderr)
         return 2
     if not CALLS.is_file():
-        print(f"{CALLS}: no such file: it lies in the repository, and not in a release", file=sys.stderr)
+        print(
+            f"{CALLS}: no such file: it lies in the repository, and not in a release",
+            file=sys.stderr,
+        )
         return 2
     os.environ["ZAKLIMOT_DIR"] = str(folder)
     sys.path.insert(0, str(header.TOP / "bindings" / "python" / "src"))
     print("| Call | Mode | C, µs | Python, µs | times |\n|---|---|---|---|---|")
     with tempfile.TemporaryDirectory(prefix="zaklimot-bench-") as name:
         program = Path(name) / "calls"
-        words = ["gcc", "-std=c99", "-O2", "-I", folder / "include", CALLS, folder / "lib" / "libzaklimot.a"]
+        words = [
+            "gcc",
+            "-std=c99",
+            "-O2",
+            "-I",
+            folder / "include",
+            CALLS,
+            folder / "lib" / "libzaklimot.a",
+        ]
         subprocess.run([*words, "-o", program], check=True)
         for call, mode, times in TIMED:
             c, python = by_c(program, call, mode, times), by_python(call, mode, times)

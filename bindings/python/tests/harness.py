@@ -1,4 +1,5 @@
-"""Performs a script's steps by a call of the package each, and writes the report that docs/REPORT.md tells."""
+"""Performs a script's steps by a call of the package each, and writes the report that
+docs/REPORT.md tells."""
 
 from __future__ import annotations
 
@@ -27,7 +28,9 @@ def _int10(card: Card, words: list[str]) -> bytes:
     numbers = [int(word[3:], 16) for word in words[1:5]]
     answer = card.int10(*numbers, block=bytes.fromhex(words[6]) if len(words) > 5 else b"")
     table = f" block {answer.table.hex().upper()}" if answer.table else ""
-    return (f"ax={answer.ax:04X} bx={answer.bx:04X} cx={answer.cx:04X} dx={answer.dx:04X}{table}\n").encode("ascii")
+    return (
+        f"ax={answer.ax:04X} bx={answer.bx:04X} cx={answer.cx:04X} dx={answer.dx:04X}{table}\n"
+    ).encode("ascii")
 
 
 def _show(card: Card, words: list[str]) -> bytes:
@@ -57,12 +60,18 @@ def _advance(card: Card, words: list[str]) -> bytes:
 def answers(card: Card, steps: Iterator[str]) -> Iterator[bytes]:
     """The lines of the report."""
     takes: dict[str, Callable[[list[str]], bytes]] = {
-        "out": _write(card.out), "outw": _write(card.out_word),
-        "in": _read(card.inp, 2), "inw": _read(card.inp_word, 4),
-        "put": _write(card.put), "putw": _write(card.put_word),
-        "get": _read(card.get, 2), "getw": _read(card.get_word, 4),
-        "int": lambda words: _int10(card, words), "advance": lambda words: _advance(card, words),
-        "frame": lambda _: _frame(card), "show": lambda words: _show(card, words),
+        "out": _write(card.out),
+        "outw": _write(card.out_word),
+        "in": _read(card.inp, 2),
+        "inw": _read(card.inp_word, 4),
+        "put": _write(card.put),
+        "putw": _write(card.put_word),
+        "get": _read(card.get, 2),
+        "getw": _read(card.get_word, 4),
+        "int": lambda words: _int10(card, words),
+        "advance": lambda words: _advance(card, words),
+        "frame": lambda _: _frame(card),
+        "show": lambda words: _show(card, words),
     }
     for number, step in enumerate(steps, 1):
         words = step.split(" ")
@@ -101,7 +110,9 @@ def report_by_runs(code: bytes, fonts: bytes, until: Optional[int] = None) -> by
         with Card(fonts) as card:
             part = card.run_on(code, 0, until)
             dumps = (line.split(b" ", 1)[1] for line in answers(card, iter(STATE)))
-            return part.raw + b"".join(b"%d %s" % (part.taken + at, dump) for at, dump in enumerate(dumps, 1))
+            return part.raw + b"".join(
+                b"%d %s" % (part.taken + at, dump) for at, dump in enumerate(dumps, 1)
+            )
     except zaklimot.Error as error:
         return fault_of(error)
 

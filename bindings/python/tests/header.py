@@ -17,7 +17,8 @@ FIELD = re.compile(r"(\w+)(?:\[(\d+)\])?")
 
 
 class Field(NamedTuple):
-    """A field of a struct: its name, its type in C, and how many there are, or 0 where it is no array."""
+    """A field of a struct: its name, its type in C, and how many there are, or 0 where it is no
+    array."""
 
     name: str
     kind: str
@@ -45,7 +46,8 @@ def structs() -> dict[str, list[Field]]:
 
 
 def _kind(parameter: str) -> str:
-    """The type of a parameter, with a `*` where it is a pointer, and `const ` where that is only read."""
+    """The type of a parameter, with a `*` where it is a pointer, and `const ` where that is only
+    read."""
     words = parameter.strip()
     if "[" in words:
         words = words.replace(" ", " *", 1)
@@ -57,7 +59,10 @@ def _kind(parameter: str) -> str:
 def calls() -> dict[str, list[str]]:
     """The types of each call's parameters."""
     found = {name: " ".join(given.split()) for name, given in CALL.findall(text())}
-    return {name: [] if given == "void" else [_kind(one) for one in given.split(",")] for name, given in found.items()}
+    return {
+        name: [] if given == "void" else [_kind(one) for one in given.split(",")]
+        for name, given in found.items()
+    }
 
 
 def statuses() -> dict[str, int]:

@@ -43,9 +43,14 @@ class Cycles(unittest.TestCase):
     def test_refusals_and_their_numbers(self) -> None:
         card = self.card
         for call in (
-            lambda: card.out(0x60, 0), lambda: card.out_word(0xFFFF, 0), lambda: card.inp(0x60),
-            lambda: card.inp_word(0xFFFF), lambda: card.put(0x9FFFF, 0), lambda: card.put_word(0xFFFF_FFFF, 0),
-            lambda: card.get(0x9FFFF), lambda: card.get_word(0x9FFFF),
+            lambda: card.out(0x60, 0),
+            lambda: card.out_word(0xFFFF, 0),
+            lambda: card.inp(0x60),
+            lambda: card.inp_word(0xFFFF),
+            lambda: card.put(0x9FFFF, 0),
+            lambda: card.put_word(0xFFFF_FFFF, 0),
+            lambda: card.get(0x9FFFF),
+            lambda: card.get_word(0x9FFFF),
         ):
             with self.assertRaises(zaklimot.NotDecoded) as caught:
                 call()
@@ -55,9 +60,12 @@ class Cycles(unittest.TestCase):
 
     def test_refused_calls_of_the_bios(self) -> None:
         for kind, registers, block in (
-            (zaklimot.BadFunction, (0xFF00,), b""), (zaklimot.BadMode, (0x0099,), b""),
-            (zaklimot.WrongKind, (0x1112,), b""), (zaklimot.BadPage, (0x0501,), b""),
-            (zaklimot.Outside, (0x0C00, 0, 320, 0), b""), (zaklimot.BadBlock, (0x1300, 0, 3, 0), b"ab"),
+            (zaklimot.BadFunction, (0xFF00,), b""),
+            (zaklimot.BadMode, (0x0099,), b""),
+            (zaklimot.WrongKind, (0x1112,), b""),
+            (zaklimot.BadPage, (0x0501,), b""),
+            (zaklimot.Outside, (0x0C00, 0, 320, 0), b""),
+            (zaklimot.BadBlock, (0x1300, 0, 3, 0), b"ab"),
         ):
             with self.subTest(kind), self.assertRaises(kind) as caught:
                 self.card.int10(*registers, block=block)
@@ -93,7 +101,12 @@ class Transfers(unittest.TestCase):
         self.assertEqual(self.card.latches(), screen[-4:])
 
     def test_buffers(self) -> None:
-        for given in (b"abc", bytearray(b"abc"), memoryview(b"-a-b-c")[1::2], array.array("B", b"abc")):
+        for given in (
+            b"abc",
+            bytearray(b"abc"),
+            memoryview(b"-a-b-c")[1::2],
+            array.array("B", b"abc"),
+        ):
             self.card.fill(0xA0000, 0, 4)
             self.assertEqual(self.card.put_bytes(0xA0000, given), 3)  # type: ignore[arg-type]
             self.assertEqual(self.card.get_bytes(0xA0000, 4), b"abc\0")
@@ -103,7 +116,9 @@ class Transfers(unittest.TestCase):
         words = array.array("H", [0, 0])
         self.assertEqual(self.card.get_bytes(0xA0000, words), 4)  # type: ignore[call-overload]
         self.assertEqual(words.tobytes(), b"abc\0")
-        self.assertEqual((self.card.get_bytes(0xA0000, 0), self.card.get_bytes(0xA0000, bytearray())), (b"", 0))
+        self.assertEqual(
+            (self.card.get_bytes(0xA0000, 0), self.card.get_bytes(0xA0000, bytearray())), (b"", 0)
+        )
         self.assertEqual((self.card.put_bytes(0xA0000, b""), self.card.fill(0xA0000, 1, 0)), (0, 0))
 
     def test_what_is_read_keeps_its_number(self) -> None:
@@ -131,7 +146,10 @@ class Transfers(unittest.TestCase):
             card.out_word(0x3C4, 0x0F02)
             card.out_word(0x3CE, 0x0105)
             self.assertEqual(card.move(0xA0000, 0xA0001, 3), 6)
-            self.assertEqual([card.plane(plane, 0, 5) for plane in range(4)], [bytes(4 * [1 + at] + [0]) for at in range(4)])
+            self.assertEqual(
+                [card.plane(plane, 0, 5) for plane in range(4)],
+                [bytes(4 * [1 + at] + [0]) for at in range(4)],
+            )
 
     def test_up_and_down(self) -> None:
         self.card.put_bytes(0xA0000, b"abcd")
@@ -157,12 +175,15 @@ class Transfers(unittest.TestCase):
             self.assertEqual(self.card.get_bytes(0xA0000, 1), value)
 
     def test_each_is_its_cycles(self) -> None:
-        """Two cards with the same pseudo-random registers: one takes the transfers, the other their cycles."""
+        """Two cards with the same pseudo-random registers: one takes the transfers, the other their
+        cycles."""
         random = Random(1)
         with card_in(0x12) as other:
             self.card.int10(ax=0x12)
             for _ in range(300):
-                word = random.choice((0x3CE, 0x3C4)), random.randrange(256) << 8 | random.choice((2, 4, 5, 8))
+                word = random.choice((0x3CE, 0x3C4)), random.randrange(256) << 8 | random.choice(
+                    (2, 4, 5, 8)
+                )
                 for card in (self.card, other):
                     try:
                         card.out_word(*word)
@@ -174,9 +195,17 @@ class Transfers(unittest.TestCase):
     def transfer(self, random: Random, other: Card) -> None:
         """A transfer, and its cycles on the other card; what they answer is compared."""
         begin, count = 0xA0000 + random.randrange(-20, 0x10000), random.randrange(40)
-        target, down, value = begin + random.randrange(-30, 30), random.random() < 0.5, random.randrange(256)
+        target, down, value = (
+            begin + random.randrange(-30, 30),
+            random.random() < 0.5,
+            random.randrange(256),
+        )
         order = range(count)[::-1] if down else range(count)
-        data, read, decoded = random.getrandbits(8 * 40).to_bytes(40, "little")[:count], bytearray(b"\xff" * count), 0
+        data, read, decoded = (
+            random.getrandbits(8 * 40).to_bytes(40, "little")[:count],
+            bytearray(b"\xff" * count),
+            0,
+        )
 
         def done(call: Callable[[], object]) -> int:
             try:
@@ -197,8 +226,10 @@ class Transfers(unittest.TestCase):
             if kind == 3:
                 decoded += done(lambda: other.put(target + at, read[at]))
         told: object = (
-            lambda: self.card.put_bytes(begin, data, down), lambda: self.card.fill(begin, value, count, down),
-            lambda: self.card.get_bytes(begin, count, down), lambda: self.card.move(begin, target, count, down),
+            lambda: self.card.put_bytes(begin, data, down),
+            lambda: self.card.fill(begin, value, count, down),
+            lambda: self.card.get_bytes(begin, count, down),
+            lambda: self.card.move(begin, target, count, down),
         )[kind]()
         if isinstance(told, zaklimot.ReadBytes):
             self.assertEqual((told, told.decoded), (read, decoded))
@@ -214,7 +245,9 @@ class Clock(unittest.TestCase):
     def test_a_mode(self) -> None:
         clock = self.card.clock()
         self.assertEqual((clock.line_dots, clock.lines, clock.frame_dots), (800, 449, 359_200))
-        self.assertEqual((clock.to_frame, clock.to_display, clock.to_retrace), (359_200, 640, 412 * 800))
+        self.assertEqual(
+            (clock.to_frame, clock.to_display, clock.to_retrace), (359_200, 640, 412 * 800)
+        )
         self.assertEqual(clock.dots_per_second, 25_175_000)
         self.assertEqual(round(clock.dots_per_second / clock.frame_dots, 2), Fraction(7009, 100))
         self.assertEqual(self.card.clock(), clock)
@@ -224,7 +257,9 @@ class Clock(unittest.TestCase):
             for _ in range(5):
                 dots, before = getattr(self.card.clock(), name), self.card.inp(0x3DA) & mask
                 self.card.advance(dots - 1)
-                self.assertEqual((self.card.inp(0x3DA) & mask, getattr(self.card.clock(), name)), (before, 1))
+                self.assertEqual(
+                    (self.card.inp(0x3DA) & mask, getattr(self.card.clock(), name)), (before, 1)
+                )
                 self.card.advance(1)
                 self.assertEqual(self.card.inp(0x3DA) & mask, mask - before)
         frame = self.card.beam().frame
@@ -243,7 +278,10 @@ class Clock(unittest.TestCase):
 
     def test_rates(self) -> None:
         for misc, mode, rate in (
-            (0x63, 0x01, 25_175_000), (0x67, 0x01, 28_322_000), (0x63, 0x09, 12_587_500), (0x67, 0x08, 14_161_000),
+            (0x63, 0x01, 25_175_000),
+            (0x67, 0x01, 28_322_000),
+            (0x63, 0x09, 12_587_500),
+            (0x67, 0x08, 14_161_000),
         ):
             self.card.out(0x3C2, misc)
             self.card.out_word(0x3C4, mode << 8 | 1)
@@ -276,7 +314,9 @@ class Frames(unittest.TestCase):
         kept = first.copy()
         self.card.put(0xA0000, 0x0F)
         second = self.card.frame()
-        self.assertEqual((first[0, 0], second[0, 0], kept[0, 0]), ((63, 63, 63), (63, 63, 63), (0, 0, 0)))
+        self.assertEqual(
+            (first[0, 0], second[0, 0], kept[0, 0]), ((63, 63, 63), (63, 63, 63), (0, 0, 0))
+        )
         self.assertNotEqual(second, kept)
         self.assertEqual(second, second.copy())
         self.card.close()
@@ -296,7 +336,9 @@ class Frames(unittest.TestCase):
 
     def test_words(self) -> None:
         picture = self.card.frame_xrgb()
-        self.assertEqual((picture.width, picture.height, picture.pitch), (640, 400, zaklimot.WIDEST))
+        self.assertEqual(
+            (picture.width, picture.height, picture.pitch), (640, 400, zaklimot.WIDEST)
+        )
         self.assertEqual((picture[639, 399], picture[0, 0]), (0x00FF_FF55, 0))
         rows = list(picture.rows())
         self.assertEqual((len(rows), len(rows[0]), rows[399][638]), (400, 640, 0x00FF_FF55))
@@ -318,16 +360,24 @@ class Frames(unittest.TestCase):
         known = [whole[x, y] for y in range(0, 400, 2) for x in range(0, 640, 2)]
         for opaque, above in ((False, 0), (True, 0xFF00_0000)):
             picture = self.card.frame_words(opaque=opaque)
-            self.assertEqual((picture.width, picture.height, picture.across, picture.down), (320, 200, 2, 2))
-            self.assertEqual([word for row in picture.rows() for word in row], [above + word for word in known])
+            self.assertEqual(
+                (picture.width, picture.height, picture.across, picture.down), (320, 200, 2, 2)
+            )
+            self.assertEqual(
+                [word for row in picture.rows() for word in row], [above + word for word in known]
+            )
         picture = self.card.frame_words(once=False)
-        self.assertEqual((picture.width, picture.height, picture.across, picture.down), (640, 400, 1, 1))
+        self.assertEqual(
+            (picture.width, picture.height, picture.across, picture.down), (640, 400, 1, 1)
+        )
 
     def test_words_of_pixels_in_a_buffer_of_the_callers(self) -> None:
         buffer = bytearray(b"\xee" * (4 * 321 * 200))
         self.card.frame_words(into=buffer, pitch=321, opaque=True)
         words = memoryview(buffer).cast("I")
-        self.assertEqual((words[319], words[320], words[-1]), (0xFF00_0000, 0xEEEE_EEEE, 0xEEEE_EEEE))
+        self.assertEqual(
+            (words[319], words[320], words[-1]), (0xFF00_0000, 0xEEEE_EEEE, 0xEEEE_EEEE)
+        )
         for pitch in (319, 322):
             with self.assertRaises(zaklimot.NoRoom):
                 self.card.frame_words(into=buffer, pitch=pitch)
@@ -347,7 +397,9 @@ class Frames(unittest.TestCase):
         self.assertEqual((lines.widths[0], lines.widths[399], lines.widths[400]), (640, 640, 0))
         self.assertEqual((len(lines.widths), len(lines), len(list(lines))), (1024, 400, 400))
         self.assertEqual(b"".join(lines), whole)
-        self.assertEqual((bytes(lines.line(399)[-3:]), len(lines.line(400))), (bytes((63, 63, 21)), 0))
+        self.assertEqual(
+            (bytes(lines.line(399)[-3:]), len(lines.line(400))), (bytes((63, 63, 21)), 0)
+        )
         with self.assertRaises(IndexError):
             lines.line(1024)
 
@@ -373,8 +425,8 @@ class Frames(unittest.TestCase):
         png = picture.png()
         self.assertEqual(struct.unpack(">II", png[16:24]), (640, 400))
         at = png.index(b"IDAT")
-        length = struct.unpack(">I", png[at - 4:at])[0]
-        rows = zlib.decompress(png[at + 4:at + 4 + length])
+        length = struct.unpack(">I", png[at - 4 : at])[0]
+        rows = zlib.decompress(png[at + 4 : at + 4 + length])
         self.assertEqual((len(rows), rows[-3:]), (400 * 1921, bytes((255, 255, 85))))
 
     def test_arrays_of_numpy_share_the_memory(self) -> None:
@@ -388,7 +440,9 @@ class Frames(unittest.TestCase):
             self.skipTest("numpy is not here")
         picture, xrgb = self.card.frame(), self.card.frame_xrgb()
         array, wide = numpy.asarray(picture), numpy.asarray(xrgb)
-        self.assertEqual((array[399, 639].tolist(), int(wide[399, 639])), ([63, 63, 21], 0x00FF_FF55))
+        self.assertEqual(
+            (array[399, 639].tolist(), int(wide[399, 639])), ([63, 63, 21], 0x00FF_FF55)
+        )
         self.card.put(0xA0000, 0x0F)
         self.card.frame()
         self.assertEqual(array[0, 0].tolist(), [63, 63, 63])
@@ -442,14 +496,19 @@ class Bios(unittest.TestCase):
         self.assertEqual(self.card.cells()[0][0], zaklimot.Cell(ord("H"), 7))
         self.assertEqual(self.card.cursor(), zaklimot.Position(1, 1))
         data = self.card.bios_data()
-        self.assertEqual((data.mode, data.columns, data.cursors[0], data.last_row), (3, 80, (1, 1), 24))
+        self.assertEqual(
+            (data.mode, data.columns, data.cursors[0], data.last_row), (3, 80, (1, 1), 24)
+        )
 
     def test_the_screen(self) -> None:
         self.assertEqual(self.card.screen(), zaklimot.Screen(0, 0, 80, 25, 3, True, 0, 8))
         self.assertIs(self.card.screen().is_text, True)
         for call in (
-            lambda: self.card.cell(25, 0), lambda: self.card.cell(0, 80), lambda: self.card.cell(0, 0, page=8),
-            lambda: self.card.pixel(0, 0), lambda: self.card.cursor(8),
+            lambda: self.card.cell(25, 0),
+            lambda: self.card.cell(0, 80),
+            lambda: self.card.cell(0, 0, page=8),
+            lambda: self.card.pixel(0, 0),
+            lambda: self.card.cursor(8),
         ):
             with self.assertRaises(zaklimot.BadArgument):
                 call()
@@ -458,7 +517,11 @@ class Bios(unittest.TestCase):
         self.card.int10(ax=0x12)
         self.card.int10(ax=0x0C05, cx=639, dx=479)
         self.assertEqual((self.card.pixel(639, 479), self.card.pixel(638, 479)), (5, 0))
-        for call in (lambda: self.card.pixel(640, 0), lambda: self.card.pixel(0, 480), lambda: self.card.cell(0, 0)):
+        for call in (
+            lambda: self.card.pixel(640, 0),
+            lambda: self.card.pixel(0, 480),
+            lambda: self.card.cell(0, 0),
+        ):
             with self.assertRaises(zaklimot.BadArgument):
                 call()
         with self.assertRaises(zaklimot.WrongKind):
@@ -466,7 +529,12 @@ class Bios(unittest.TestCase):
 
     def test_no_screen(self) -> None:
         with Card() as card:
-            for call in (card.screen, lambda: card.cell(0, 0), lambda: card.pixel(0, 0), card.cursor):
+            for call in (
+                card.screen,
+                lambda: card.cell(0, 0),
+                lambda: card.pixel(0, 0),
+                card.cursor,
+            ):
                 with self.assertRaises(zaklimot.NoScreen):
                     call()
             for call in (card.cells, card.text, lambda: card.int10(ax=0x0E41)):
@@ -518,16 +586,22 @@ class State(unittest.TestCase):
         for mode in (0x03, 0x12):
             self.card.int10(ax=mode)
             script = (
-                f"int ax={mode:X}\nshow regs\nshow beam\nshow latches\nshow bda\nshow dac 7\nshow plane 3 FFFE 2\n"
-                + ("show cells" if mode == 3 else "")
+                f"int ax={mode:X}\nshow regs\nshow beam\nshow latches\nshow bda\nshow dac 7\nshow"
+                " plane 3 FFFE 2\n" + ("show cells" if mode == 3 else "")
             )
             dumps = [
-                self.card.show_regs(), self.card.show_beam(), self.card.show_latches(), self.card.show_bda(),
-                self.card.show_dac(7), self.card.show_plane(3, 0xFFFE, 2),
+                self.card.show_regs(),
+                self.card.show_beam(),
+                self.card.show_latches(),
+                self.card.show_bda(),
+                self.card.show_dac(7),
+                self.card.show_plane(3, 0xFFFE, 2),
             ]
             dumps += [self.card.show_cells()] if mode == 3 else []
-            told = zaklimot.run("int ax=12\n" + script)[2:] if mode == 3 else zaklimot.run(script)[1:]
-            self.assertEqual([step.answer + "\n" for step in told][-len(dumps):], dumps)
+            told = (
+                zaklimot.run("int ax=12\n" + script)[2:] if mode == 3 else zaklimot.run(script)[1:]
+            )
+            self.assertEqual([step.answer + "\n" for step in told][-len(dumps) :], dumps)
 
 
 class Snapshots(unittest.TestCase):
@@ -555,7 +629,7 @@ class Snapshots(unittest.TestCase):
             states.append((self.card.save(), self.card.save_fixed(1_100_000)))
         with Card() as other:
             for state, fixed in states:
-                self.assertEqual((len(fixed), fixed[:len(state)]), (1_100_000, state))
+                self.assertEqual((len(fixed), fixed[: len(state)]), (1_100_000, state))
                 self.assertEqual(zlib.adler32(fixed[:-4]), int.from_bytes(fixed[-4:], "little"))
                 other.restore_fixed(bytearray(fixed))
                 self.assertEqual(other.save(), state)
@@ -567,18 +641,23 @@ class Snapshots(unittest.TestCase):
                 self.assertEqual((caught.exception.number, other.save()), (34, state))
         with self.assertRaises(zaklimot.NoRoom):
             self.card.save_fixed(len(self.card.save()) + 3)
-        self.assertEqual(len(self.card.save_fixed(len(self.card.save()) + 4)), len(self.card.save()) + 4)
+        self.assertEqual(
+            len(self.card.save_fixed(len(self.card.save()) + 4)), len(self.card.save()) + 4
+        )
 
     def test_other_bytes_are_refused(self) -> None:
         state = self.card.save()
 
         def damaged(at: int, value: int) -> bytes:
-            return state[:at] + bytes((value,)) + state[at + 1:]
+            return state[:at] + bytes((value,)) + state[at + 1 :]
 
         for kind, number, given in (
-            (zaklimot.StateMagic, 30, b""), (zaklimot.StateMagic, 30, zaklimot.default_fonts()),
-            (zaklimot.StateVersion, 31, damaged(4, 2)), (zaklimot.StateLength, 32, state[:-1]),
-            (zaklimot.StateLength, 32, state + b"\0"), (zaklimot.StatePart, 33, damaged(40, 0xFF)),
+            (zaklimot.StateMagic, 30, b""),
+            (zaklimot.StateMagic, 30, zaklimot.default_fonts()),
+            (zaklimot.StateVersion, 31, damaged(4, 2)),
+            (zaklimot.StateLength, 32, state[:-1]),
+            (zaklimot.StateLength, 32, state + b"\0"),
+            (zaklimot.StatePart, 33, damaged(40, 0xFF)),
         ):
             with self.subTest(kind), self.assertRaises(kind) as caught:
                 self.card.restore(given)

@@ -1,4 +1,5 @@
-"""The package's tables against include/zaklimot.h: no number, field or parameter stands twice unseen."""
+"""The package's tables against include/zaklimot.h: no number, field or parameter stands twice
+unseen."""
 
 from __future__ import annotations
 
@@ -9,13 +10,22 @@ import header
 from zaklimot import _calls, _errors, _state, _structs, _version, format
 
 KINDS = {
-    "bool": ctypes.c_bool, "pointer": ctypes.c_void_p, "size_t": ctypes.c_size_t,
-    "uint8_t": ctypes.c_uint8, "uint16_t": ctypes.c_uint16, "uint32_t": ctypes.c_uint32,
+    "bool": ctypes.c_bool,
+    "pointer": ctypes.c_void_p,
+    "size_t": ctypes.c_size_t,
+    "uint8_t": ctypes.c_uint8,
+    "uint16_t": ctypes.c_uint16,
+    "uint32_t": ctypes.c_uint32,
 }
 # Where the objects of the package have other names than the structs.
 OBJECTS = {
-    "registers": _state.Registers, "beam": _state.Beam, "bda": _state.BiosData, "screen": _state.Screen,
-    "cell": _state.Cell, "place": _state.Position, "timing": _state.Timing,
+    "registers": _state.Registers,
+    "beam": _state.Beam,
+    "bda": _state.BiosData,
+    "screen": _state.Screen,
+    "cell": _state.Cell,
+    "place": _state.Position,
+    "timing": _state.Timing,
 }
 RENAMED = {"cursor_places": "cursors", "rate": "dots_per_second", "rate_divisor": "dots_per_second"}
 
@@ -36,7 +46,10 @@ class Header(unittest.TestCase):
         own = {name for name in vars(_structs) if name.startswith("zak_")}
         self.assertEqual(own, set(structs))
         for name, fields in structs.items():
-            wanted = [(one.name, KINDS[one.kind] * one.count if one.count else KINDS[one.kind]) for one in fields]
+            wanted = [
+                (one.name, KINDS[one.kind] * one.count if one.count else KINDS[one.kind])
+                for one in fields
+            ]
             self.assertEqual(getattr(_structs, name)._fields_, wanted, name)
 
     def test_objects_have_the_fields_of_their_structs(self) -> None:
@@ -67,17 +80,29 @@ class Header(unittest.TestCase):
             self.assertEqual(issubclass(kind, _errors.ScriptError), number > 100, kind)
 
     def test_the_formats_refusals_and_faults(self) -> None:
-        refusals = {number: kind.__name__ for number, kind in _errors.BY_NUMBER.items() if number < 20}
+        refusals = {
+            number: kind.__name__ for number, kind in _errors.BY_NUMBER.items() if number < 20
+        }
         self.assertEqual(refusals, format.REFUSALS)
-        faults = {kind.__name__: number - 100 for number, kind in _errors.BY_NUMBER.items() if number > 100}
+        faults = {
+            kind.__name__: number - 100
+            for number, kind in _errors.BY_NUMBER.items()
+            if number > 100
+        }
         self.assertEqual(faults, {name: format.FAULTS[name].number for name in faults})
-        self.assertEqual((_structs.FONTS_SIZE, _structs.MOST_DOTS), (format.FONT_BYTES, format.MOST_ADVANCE))
+        self.assertEqual(
+            (_structs.FONTS_SIZE, _structs.MOST_DOTS), (format.FONT_BYTES, format.MOST_ADVANCE)
+        )
 
     def test_numbers(self) -> None:
         numbers = header.numbers()
         version = {"API_MAJOR": _version.API_MAJOR, "API_MINOR": _version.API_MINOR}
-        self.assertEqual(numbers.pop("API_VERSION"), 65536 * version["API_MAJOR"] + version["API_MINOR"])
-        self.assertEqual(numbers, {name: version.get(name) or getattr(_structs, name) for name in numbers})
+        self.assertEqual(
+            numbers.pop("API_VERSION"), 65536 * version["API_MAJOR"] + version["API_MINOR"]
+        )
+        self.assertEqual(
+            numbers, {name: version.get(name) or getattr(_structs, name) for name in numbers}
+        )
 
     def test_the_reader_sees_the_header(self) -> None:
         self.assertGreater(len(header.calls()), 40)
@@ -85,7 +110,9 @@ class Header(unittest.TestCase):
         self.assertEqual(header.structs()["zak_registers"][2], header.Field("seq", "uint8_t", 5))
         self.assertEqual(header.calls()["in"], ["zak_card *", "uint16_t", "uint8_t *"])
         self.assertEqual(header.calls()["fill_bytes"][3:], ["size_t", "bool", "size_t *"])
-        self.assertEqual((header.numbers()["MOST_RGB"], header.numbers()["NEVER"]), (7_077_888, 0xFFFF_FFFF))
+        self.assertEqual(
+            (header.numbers()["MOST_RGB"], header.numbers()["NEVER"]), (7_077_888, 0xFFFF_FFFF)
+        )
 
 
 if __name__ == "__main__":

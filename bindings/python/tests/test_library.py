@@ -17,15 +17,27 @@ from zaklimot import _file, _library, _version
 SOURCES = header.TOP / "bindings" / "python" / "src"
 OPEN = "import zaklimot; zaklimot.Card().close(); print(zaklimot.library_path())"
 KIND = "import zaklimot; print(zaklimot.library().kind)"
-TRIED = f"import zaklimot\ntry:\n    {OPEN[17:]}\nexcept zaklimot.LibraryMissing as error: print('missing:', error)"
+TRIED = (
+    f"import zaklimot\ntry:\n    {OPEN[17:]}\nexcept zaklimot.LibraryMissing as error:"
+    " print('missing:', error)"
+)
 
 
 def said(program: str, *given: str, **names: str) -> str:
     """What a program writes, in an environment with these names and none of the library's own."""
-    kept = {name: value for name, value in os.environ.items() if not name.startswith(("ZAKLIMOT_", "LD_LIBRARY"))}
+    kept = {
+        name: value
+        for name, value in os.environ.items()
+        if not name.startswith(("ZAKLIMOT_", "LD_LIBRARY"))
+    }
     words = [sys.executable, "-B", "-c", program, *given]
     done = subprocess.run(
-        words, env={**kept, "PYTHONPATH": str(SOURCES), **names}, capture_output=True, text=True, timeout=60)
+        words,
+        env={**kept, "PYTHONPATH": str(SOURCES), **names},
+        capture_output=True,
+        text=True,
+        timeout=60,
+    )
     if done.returncode:
         raise AssertionError(done.stderr)
     return done.stdout.strip()
@@ -55,8 +67,11 @@ class Finding(unittest.TestCase):
             told = said(TRIED, **names)
             self.assertIn(*names.values(), told)
             for word in (
-                "missing: ", "pip install bindings/python", "export ZAKLIMOT_LIBRARY=",
-                "cc -O2 -fPIC -shared -Iinclude portable/zaklimot.c", "tools/vga-library make kit",
+                "missing: ",
+                "pip install bindings/python",
+                "export ZAKLIMOT_LIBRARY=",
+                "cc -O2 -fPIC -shared -Iinclude portable/zaklimot.c",
+                "tools/vga-library make kit",
                 "export ZAKLIMOT_DIR=$PWD/kit",
             ):
                 self.assertIn(word, told)
@@ -107,9 +122,12 @@ class Kinds(unittest.TestCase):
                 self.assertEqual(self.kind(Path(name)), "unknown")
                 for text, kind in (
                     ("prefix=/usr\nkind=proved\nName: x\n", "proved"),
-                    ("kind=portable\n", "portable"), ("kind=unknown\n", "unknown"),
-                    ("kind=provedly\n", "unknown"), ("# kind=proved\n", "unknown"),
-                    (5000 * "\n" + "kind=proved\n", "unknown"), ("", "unknown"),
+                    ("kind=portable\n", "portable"),
+                    ("kind=unknown\n", "unknown"),
+                    ("kind=provedly\n", "unknown"),
+                    ("# kind=proved\n", "unknown"),
+                    (5000 * "\n" + "kind=proved\n", "unknown"),
+                    ("", "unknown"),
                 ):
                     note.write_text(text)
                     self.assertEqual(self.kind(Path(name)), kind, text)
@@ -129,17 +147,34 @@ class Kinds(unittest.TestCase):
 
 class Importing(unittest.TestCase):
     def test_it_needs_no_library(self) -> None:
-        program = "import zaklimot; script = zaklimot.Script(); script.frame(); print(script.text(), zaklimot.Card)"
-        self.assertEqual(said(program, ZAKLIMOT_LIBRARY="/no-such-file"), "frame\n <class 'zaklimot._card.Card'>")
+        program = (
+            "import zaklimot; script = zaklimot.Script(); script.frame(); print(script.text(),"
+            " zaklimot.Card)"
+        )
+        self.assertEqual(
+            said(program, ZAKLIMOT_LIBRARY="/no-such-file"), "frame\n <class 'zaklimot._card.Card'>"
+        )
 
     def test_the_formats_come_alone(self) -> None:
-        shown = "print(*sorted(name for name in sys.modules if name.startswith('zaklimot') and '.format' not in name))"
-        for program in ("import zaklimot.format", "from zaklimot import format", "from zaklimot.format import parse_text"):
-            self.assertEqual(said(f"import sys; {program}; {shown}", ZAKLIMOT_LIBRARY="/no-such-file"), "zaklimot")
+        shown = (
+            "print(*sorted(name for name in sys.modules if name.startswith('zaklimot') and"
+            " '.format' not in name))"
+        )
+        for program in (
+            "import zaklimot.format",
+            "from zaklimot import format",
+            "from zaklimot.format import parse_text",
+        ):
+            self.assertEqual(
+                said(f"import sys; {program}; {shown}", ZAKLIMOT_LIBRARY="/no-such-file"),
+                "zaklimot",
+            )
 
     def test_names_come_when_they_are_used(self) -> None:
         self.assertLessEqual(set(zaklimot.__all__), set(dir(zaklimot)))
-        self.assertEqual(said("from zaklimot import *; print(Card.__name__, run.__name__)"), "Card run")
+        self.assertEqual(
+            said("from zaklimot import *; print(Card.__name__, run.__name__)"), "Card run"
+        )
         self.assertEqual(zaklimot.__version__, _version.VERSION)
         with self.assertRaisesRegex(AttributeError, "has no attribute 'Crad'"):
             zaklimot.Crad  # type: ignore[attr-defined]

@@ -19,25 +19,81 @@ from zaklimot import Card
 
 # The methods that call the card, each with numbers that it takes.
 CALLS: dict[str, tuple[Any, ...]] = {
-    "out": (0x3C4, 2), "out_word": (0x3C4, 2), "inp": (0x3CC,), "inp_word": (0x3C4,), "put": (0xA0000, 1),
-    "put_word": (0xA0000, 1), "get": (0xA0000,), "get_word": (0xA0000,), "put_bytes": (0xA0000, b"ab"),
-    "fill": (0xA0000, 1, 2), "get_bytes": (0xA0000, 2), "move": (0xA0000, 0xA0002, 2), "advance": (1,), "clock": (),
-    "frame": (), "frame_xrgb": (), "frame_words": (), "line": (), "lines": (), "block": (0x1301,), "cycles": (0x0E41,), "int10": (0x13,), "registers": (), "beam": (), "colour": (0,),
-    "palette": (), "latches": (), "plane": (0,), "bios_data": (), "screen": (), "cell": (0, 0), "pixel": (0, 0), "cursor": (),
-    "cells": (), "text": (), "show_regs": (), "show_beam": (), "show_latches": (), "show_bda": (),
-    "show_cells": (), "show_dac": (0,), "show_plane": (0, 0, 1), "save": (), "save_size": (), "restore": (b"",), "save_fixed": (1,), "restore_fixed": (b"",),
-    "run_on": ("frame",), "close": (),
+    "out": (0x3C4, 2),
+    "out_word": (0x3C4, 2),
+    "inp": (0x3CC,),
+    "inp_word": (0x3C4,),
+    "put": (0xA0000, 1),
+    "put_word": (0xA0000, 1),
+    "get": (0xA0000,),
+    "get_word": (0xA0000,),
+    "put_bytes": (0xA0000, b"ab"),
+    "fill": (0xA0000, 1, 2),
+    "get_bytes": (0xA0000, 2),
+    "move": (0xA0000, 0xA0002, 2),
+    "advance": (1,),
+    "clock": (),
+    "frame": (),
+    "frame_xrgb": (),
+    "frame_words": (),
+    "line": (),
+    "lines": (),
+    "block": (0x1301,),
+    "cycles": (0x0E41,),
+    "int10": (0x13,),
+    "registers": (),
+    "beam": (),
+    "colour": (0,),
+    "palette": (),
+    "latches": (),
+    "plane": (0,),
+    "bios_data": (),
+    "screen": (),
+    "cell": (0, 0),
+    "pixel": (0, 0),
+    "cursor": (),
+    "cells": (),
+    "text": (),
+    "show_regs": (),
+    "show_beam": (),
+    "show_latches": (),
+    "show_bda": (),
+    "show_cells": (),
+    "show_dac": (0,),
+    "show_plane": (0, 0, 1),
+    "save": (),
+    "save_size": (),
+    "restore": (b"",),
+    "save_fixed": (1,),
+    "restore_fixed": (b"",),
+    "run_on": ("frame",),
+    "close": (),
 }
-# The most that each number may be; one more is out of range. What a page, a row, a column, x or y may be, the
-# screen says.
+# The most that each number may be; one more is out of range. What a page, a row, a column, x or y
+# may be, the screen says.
 MOST = {
-    "out": (0xFFFF, 0xFF), "out_word": (0xFFFF, 0xFFFF), "inp": (0xFFFF,), "inp_word": (0xFFFF,),
-    "put": (0xFFFF_FFFF, 0xFF), "put_word": (0xFFFF_FFFF, 0xFFFF), "get": (0xFFFF_FFFF,), "get_word": (0xFFFF_FFFF,),
-    "fill": (0xFFFF_FFFF, 0xFF, 0xFFFF_FFFF), "get_bytes": (0xFFFF_FFFF, 0xFFFF_FFFF),
-    "move": (0xFFFF_FFFF, 0xFFFF_FFFF, 0xFFFF_FFFF), "advance": (0xFFFF_FFFF,),
-    "int10": (0xFFFF, 0xFFFF, 0xFFFF, 0xFFFF), "block": (0xFFFF, 0xFFFF, 0xFFFF, 0xFFFF), "cycles": (0xFFFF, 0xFFFF, 0xFFFF, 0xFFFF), "colour": (0xFF,),
-    "plane": (3, 0xFFFF, 65_536), "cell": (0xFF, 0xFF, 0xFF), "pixel": (0xFFFF, 0xFFFF, 0xFF), "cursor": (0xFF,),
-    "show_dac": (0xFF,), "show_plane": (3, 0xFFFF, 256),
+    "out": (0xFFFF, 0xFF),
+    "out_word": (0xFFFF, 0xFFFF),
+    "inp": (0xFFFF,),
+    "inp_word": (0xFFFF,),
+    "put": (0xFFFF_FFFF, 0xFF),
+    "put_word": (0xFFFF_FFFF, 0xFFFF),
+    "get": (0xFFFF_FFFF,),
+    "get_word": (0xFFFF_FFFF,),
+    "fill": (0xFFFF_FFFF, 0xFF, 0xFFFF_FFFF),
+    "get_bytes": (0xFFFF_FFFF, 0xFFFF_FFFF),
+    "move": (0xFFFF_FFFF, 0xFFFF_FFFF, 0xFFFF_FFFF),
+    "advance": (0xFFFF_FFFF,),
+    "int10": (0xFFFF, 0xFFFF, 0xFFFF, 0xFFFF),
+    "block": (0xFFFF, 0xFFFF, 0xFFFF, 0xFFFF),
+    "cycles": (0xFFFF, 0xFFFF, 0xFFFF, 0xFFFF),
+    "colour": (0xFF,),
+    "plane": (3, 0xFFFF, 65_536),
+    "cell": (0xFF, 0xFF, 0xFF),
+    "pixel": (0xFFFF, 0xFFFF, 0xFF),
+    "cursor": (0xFF,),
+    "show_dac": (0xFF,),
+    "show_plane": (3, 0xFFFF, 256),
 }
 # No numbers: of each method's, one is replaced by one of these.
 NO_NUMBERS = (1.0, 1.5, "1", b"1", None, [1], 1j, object(), float("nan"), float("inf"))
@@ -45,7 +101,11 @@ NO_NUMBERS = (1.0, 1.5, "1", b"1", None, [1], 1j, object(), float("nan"), float(
 
 class Closed(unittest.TestCase):
     def test_each_method_has_its_place_here(self) -> None:
-        methods = {name for name, _ in inspect.getmembers(Card, inspect.isfunction) if not name.startswith("_")}
+        methods = {
+            name
+            for name, _ in inspect.getmembers(Card, inspect.isfunction)
+            if not name.startswith("_")
+        }
         self.assertEqual(methods, set(CALLS))
 
     def test_a_closed_card_raises(self) -> None:
@@ -139,19 +199,24 @@ class Numbers(unittest.TestCase):
 
     def test_out_of_range(self) -> None:
         for name, mosts in MOST.items():
-            right = (*CALLS[name], *len(mosts) * [0])[:len(mosts)]
+            right = (*CALLS[name], *len(mosts) * [0])[: len(mosts)]
             for at, most in enumerate(mosts):
                 # Cut to as many bits as the call takes, some of these would be right.
-                cut = (right[at] + most + 1, right[at] - most - 1, right[at] + 2**32, right[at] + 2**64)
+                cut = (
+                    right[at] + most + 1,
+                    right[at] - most - 1,
+                    right[at] + 2**32,
+                    right[at] + 2**64,
+                )
                 for wrong in (-1, most + 1, *cut, -(2**63), 10**30):
-                    self.assert_raises(ValueError, name, (*right[:at], wrong, *right[at + 1:]))
+                    self.assert_raises(ValueError, name, (*right[:at], wrong, *right[at + 1 :]))
 
     def test_no_numbers(self) -> None:
         for name, mosts in MOST.items():
             for at in range(len(mosts)):
                 for wrong in NO_NUMBERS:
                     if (name, at, wrong) != ("plane", 2, None):
-                        values = (*(len(mosts) * [1])[:at], wrong, *(len(mosts) * [1])[at + 1:])
+                        values = (*(len(mosts) * [1])[:at], wrong, *(len(mosts) * [1])[at + 1 :])
                         self.assert_raises(TypeError, name, values)
 
     def test_numbers_of_other_kinds(self) -> None:
@@ -163,7 +228,8 @@ class Numbers(unittest.TestCase):
                 return self.value
 
         self.card.put(Index(0xA0000), Index(0x41))  # type: ignore[arg-type]
-        self.assertEqual((self.card.get(Index(0xA0000)), self.card.get(0xA0000)), (0x41, 0x41))  # type: ignore[arg-type]
+        read = self.card.get(Index(0xA0000))  # type: ignore[arg-type]
+        self.assertEqual((read, self.card.get(0xA0000)), (0x41, 0x41))
         self.card.put(0xA0000, True)
         self.assertEqual(self.card.get_word(Index(0xA0000)), 1)  # type: ignore[arg-type]
         with self.assertRaises(ValueError):
@@ -172,10 +238,15 @@ class Numbers(unittest.TestCase):
     def test_addresses_past_the_last(self) -> None:
         kept = bytearray(b"-")
         for name, values in (
-            ("put_bytes", (0xFFFF_FFFD, b"abc")), ("put_bytes", (0xFFFF_FFFF, b"a", True)),
-            ("fill", (0xA0000, 1, 0xFFF6_0000)), ("fill", (1, 1, 0xFFFF_FFFF, True)),
-            ("get_bytes", (1, 0xFFFF_FFFF)), ("get_bytes", (0xFFFF_FFFF, 1)), ("get_bytes", (0xFFFF_FFFF, kept, True)),
-            ("move", (0xA0000, 0xFFFF_FFFE, 2)), ("move", (0xFFFF_FFFE, 0xA0000, 2, True)),
+            ("put_bytes", (0xFFFF_FFFD, b"abc")),
+            ("put_bytes", (0xFFFF_FFFF, b"a", True)),
+            ("fill", (0xA0000, 1, 0xFFF6_0000)),
+            ("fill", (1, 1, 0xFFFF_FFFF, True)),
+            ("get_bytes", (1, 0xFFFF_FFFF)),
+            ("get_bytes", (0xFFFF_FFFF, 1)),
+            ("get_bytes", (0xFFFF_FFFF, kept, True)),
+            ("move", (0xA0000, 0xFFFF_FFFE, 2)),
+            ("move", (0xFFFF_FFFE, 0xA0000, 2, True)),
             ("move", (1, 1, 0xFFFF_FFFF)),
         ):
             self.assert_raises(zaklimot.BadArgument, name, values)
@@ -223,7 +294,8 @@ class Numbers(unittest.TestCase):
 
 class Threads(unittest.TestCase):
     def test_two_threads_with_one_card(self) -> None:
-        """Calls of many threads come one after the other, also where one closes the card in between."""
+        """Calls of many threads come one after the other, also where one closes the card in
+        between."""
         card, raised = Card(), []
         card.int10(ax=0x13)
 
@@ -300,7 +372,10 @@ class Forks(unittest.TestCase):
 
 class Ending(unittest.TestCase):
     def test_a_program_that_closes_nothing_ends_well(self) -> None:
-        program = "import zaklimot; card = zaklimot.Card(); card.int10(ax=0x13); picture = card.frame(); card.me = card"
+        program = (
+            "import zaklimot; card = zaklimot.Card(); card.int10(ax=0x13); picture = card.frame();"
+            " card.me = card"
+        )
         done = subprocess.run([sys.executable, "-c", program], capture_output=True, timeout=60)
         self.assertEqual((done.returncode, done.stderr), (0, b""))
 

@@ -27,7 +27,9 @@ PAGE = header.TOP / "docs" / "PYTHON.md"
 
 def run(*words: str | Path, env: dict[str, str] | None = None) -> str:
     """What a program writes that ends well."""
-    done = subprocess.run([str(word) for word in words], env=env, capture_output=True, text=True, timeout=300)
+    done = subprocess.run(
+        [str(word) for word in words], env=env, capture_output=True, text=True, timeout=300
+    )
     if done.returncode:
         raise AssertionError(f"{words}: {done.stdout}{done.stderr}")
     return done.stdout
@@ -95,13 +97,18 @@ class Wheel(unittest.TestCase):
             self.assertIn("format/table.py", own)
             with zipfile.ZipFile(wheel) as files:
                 names = files.namelist()
-                self.assertIn("Requires-Python: >=3.9\n", files.read(next(n for n in names if n.endswith("METADATA"))).decode())
+                self.assertIn(
+                    "Requires-Python: >=3.9\n",
+                    files.read(next(n for n in names if n.endswith("METADATA"))).decode(),
+                )
             packed = {path.partition("/")[2] for path in names if path.startswith("zaklimot/")}
             self.assertEqual(own | {"carried/zaklimot.fnt"}, packed)
             self.assertEqual(wheel.read_bytes(), build(name, ZAKLIMOT_PORTABLE="0").read_bytes())
 
     def test_a_folder_without_the_library(self) -> None:
-        with tempfile.TemporaryDirectory() as name, self.assertRaisesRegex(AssertionError, "type tools/vga-library make"):
+        with tempfile.TemporaryDirectory() as name, self.assertRaisesRegex(
+            AssertionError, "type tools/vga-library make"
+        ):
             build(name, ZAKLIMOT_DIR=name)
 
 
@@ -124,7 +131,7 @@ class Compiled(unittest.TestCase):
         place = "zaklimot/carried/"
         with zipfile.ZipFile(wheel) as files:
             names = [name for name in files.namelist() if name.startswith(place)]
-            return {name[len(place):]: files.read(name) for name in names}
+            return {name[len(place) :]: files.read(name) for name in names}
 
     def test_in_an_empty_environment_by_way_of_the_sources(self) -> None:
         """The archive of the sources has all that is needed, and its wheel is the repository's."""
@@ -165,7 +172,10 @@ class Compiled(unittest.TestCase):
         old.write_text("unsigned zak_version(void) { return 65536 + 3; }\n")
         older = f'cc -shared -fPIC {old} -o "$last"'
         for names, told in (
-            ({"CC": "no-such-cc"}, "there is no C compiler no-such-cc. Install one, as Debian's packages"),
+            (
+                {"CC": "no-such-cc"},
+                "there is no C compiler no-such-cc. Install one, as Debian's packages",
+            ),
             (self.compiler(FAILING), "sh ended with status 1, and said:\nno such option\n"),
             (self.compiler("exit 0"), "sh ended with status 0, and said:"),
             (self.compiler(WRITING), "made a library that Python can't load: OSError: "),
@@ -212,7 +222,8 @@ class Compiled(unittest.TestCase):
             ("linux-x86_64", "x86_64", 64, "linux_x86_64"),
             ("linux-x86_64", "x86_64", 32, "linux_i686"),
             ("linux-aarch64", "aarch64", 64, "linux_aarch64"),
-            ("win-amd64", "AMD64", 64, "win_amd64"), ("win32", "AMD64", 32, "win32"),
+            ("win-amd64", "AMD64", 64, "win_amd64"),
+            ("win32", "AMD64", 32, "win32"),
             ("macosx-10.9-universal2", "x86_64", 64, "macosx_10_9_x86_64"),
             ("macosx-10.9-universal2", "arm64", 64, "macosx_11_0_arm64"),
             ("macosx-14.2-arm64", "arm64", 64, "macosx_14_2_arm64"),
@@ -242,8 +253,14 @@ class Examples(unittest.TestCase):
         return run(sys.executable, "-B", EXAMPLES / str(words[0]), *words[1:])
 
     def test_the_picture(self) -> None:
-        script = "int ax=13\n" + "".join(
-            f"put {0xA0000 + at:X} {at % 320 // 20 + 16 * (2 * (at // 320) // 25):X}\n" for at in range(64_000)) + "frame\n"
+        script = (
+            "int ax=13\n"
+            + "".join(
+                f"put {0xA0000 + at:X} {at % 320 // 20 + 16 * (2 * (at // 320) // 25):X}\n"
+                for at in range(64_000)
+            )
+            + "frame\n"
+        )
         with tempfile.TemporaryDirectory() as name:
             ppm, png = Path(name) / "picture.ppm", Path(name) / "picture.png"
             self.run_example("picture.py", ppm)
@@ -257,7 +274,9 @@ class Examples(unittest.TestCase):
         with tempfile.TemporaryDirectory() as name:
             path = Path(name) / "none" / "picture.png"
             for words in (("picture.py", path), ("palette.py", "13", path)):
-                with self.subTest(words), self.assertRaisesRegex(AssertionError, f": {path}: No such file or directory\n$"):
+                with self.subTest(words), self.assertRaisesRegex(
+                    AssertionError, f": {path}: No such file or directory\n$"
+                ):
                     self.run_example(*words)
 
     def test_the_palette(self) -> None:
@@ -279,7 +298,10 @@ class Examples(unittest.TestCase):
 
     def test_slices(self) -> None:
         text = "; blanks\r\nversion 2\n int AX=3\nrepeat 2\nput b8000 41\nGET b8000\nend\n\nin 3cc"
-        printed = "version 2\nint ax=0003 bx=0000 cx=0000 dx=0000\nrepeat 2\nput B8000 41\nget B8000\nend\nin 3CC\n"
+        printed = (
+            "version 2\nint ax=0003 bx=0000 cx=0000 dx=0000\nrepeat 2\nput B8000 41\nget"
+            " B8000\nend\nin 3CC\n"
+        )
         answers = "1 ax=0003 bx=0000 cx=0000 dx=0000\n2 ok\n3 41\n4 ok\n5 41\n6 67\n"
         with tempfile.TemporaryDirectory() as name:
             script = Path(name) / "few.vga"
@@ -290,7 +312,9 @@ class Examples(unittest.TestCase):
             with self.assertRaisesRegex(AssertionError, "few.vga: line 3: "):
                 self.run_example("slices.py", script, "1")
             for steps in ("0", "-1", "few"):
-                with self.assertRaisesRegex(AssertionError, f": {steps}: a slice has one step or more\n"):
+                with self.assertRaisesRegex(
+                    AssertionError, f": {steps}: a slice has one step or more\n"
+                ):
                     self.run_example("slices.py", script, steps)
             script.unlink()
             with self.assertRaisesRegex(AssertionError, "few.vga: No such file or directory"):
@@ -299,17 +323,30 @@ class Examples(unittest.TestCase):
 
 class Pages(unittest.TestCase):
     def test_programs_of_the_docstrings_run(self) -> None:
-        for text, count in ((zaklimot.__doc__, 2), (Card.__doc__, 1), (zaklimot.run.__doc__, 1), (zaklimot.Script.__doc__, 1)):
+        for text, count in (
+            (zaklimot.__doc__, 2),
+            (Card.__doc__, 1),
+            (zaklimot.run.__doc__, 1),
+            (zaklimot.Script.__doc__, 1),
+        ):
             blocks = self.programs(inspect.cleandoc(text or ""))
             self.assertEqual(len(blocks), count)
             with tempfile.TemporaryDirectory() as name:
                 for block in blocks:
-                    told = run(sys.executable, "-B", "-c", f"import os, zaklimot; os.chdir({name!r})\n{block}")
+                    told = run(
+                        sys.executable,
+                        "-B",
+                        "-c",
+                        f"import os, zaklimot; os.chdir({name!r})\n{block}",
+                    )
                     wanted = re.findall(r"print\(.*\) +# (.*)", block)
                     self.assertEqual(told.splitlines(), wanted)
 
     def test_lines_of_methods_run(self) -> None:
-        begin = "import zaklimot; card = zaklimot.Card(); card.int10(ax=0x13); buffer = bytearray(320)\n"
+        begin = (
+            "import zaklimot; card = zaklimot.Card(); card.int10(ax=0x13); buffer ="
+            " bytearray(320)\n"
+        )
         for method in (Card.put_bytes, Card.get_bytes, Card.clock):
             (block,) = self.programs(inspect.cleandoc(method.__doc__ or ""))
             names = re.findall(r"^(?:\w+ = )?(.*?) +# (\w+) in mode 13", block, re.M)
@@ -322,9 +359,11 @@ class Pages(unittest.TestCase):
         self.assertEqual(len(blocks), 5)
         with tempfile.TemporaryDirectory() as name:
             for block in blocks:
-                told = run(sys.executable, "-B", "-c", f"import os; os.chdir({name!r})\n{block}").splitlines()
+                told = run(
+                    sys.executable, "-B", "-c", f"import os; os.chdir({name!r})\n{block}"
+                ).splitlines()
                 wanted = re.findall(r"print\(.*\) +# (.*)", block)
-                self.assertEqual(told[-len(wanted):], wanted)
+                self.assertEqual(told[-len(wanted) :], wanted)
             self.assertEqual(len((Path(name) / "picture.png").read_bytes()[:8]), 8)
 
     def programs(self, text: str) -> list[str]:
@@ -337,7 +376,14 @@ class Pages(unittest.TestCase):
             one = getattr(zaklimot, name)
             if callable(one):
                 self.assertTrue(one.__doc__, name)
-        for kind in (Card, zaklimot.Picture, zaklimot.XrgbPicture, zaklimot.Lines, zaklimot.Report, zaklimot.Step):
+        for kind in (
+            Card,
+            zaklimot.Picture,
+            zaklimot.XrgbPicture,
+            zaklimot.Lines,
+            zaklimot.Report,
+            zaklimot.Step,
+        ):
             for name, method in inspect.getmembers(kind, inspect.isfunction):
                 if not name.startswith("_") and method.__module__.startswith("zaklimot"):
                     self.assertTrue(method.__doc__, f"{kind.__name__}.{name}")

@@ -1,4 +1,5 @@
-"""The script that a program writes: each of its steps is one that the library takes, and does what Card does."""
+"""The script that a program writes: each of its steps is one that the library takes, and does what
+Card does."""
 
 from __future__ import annotations
 
@@ -30,7 +31,13 @@ def whole() -> Script:
     script.get(0xB8000)
     script.get_word(0xB8002)
     script.int10(ax=0x1300, bx=0x1E, cx=1, dx=0x0101, block=b"\x01")
-    for dump in (script.show_regs, script.show_beam, script.show_latches, script.show_bda, script.show_cells):
+    for dump in (
+        script.show_regs,
+        script.show_beam,
+        script.show_latches,
+        script.show_bda,
+        script.show_cells,
+    ):
         dump()
     script.show_dac(255)
     script.show_plane(3, 0xFFFF, 1)
@@ -47,7 +54,9 @@ class Scripts(unittest.TestCase):
         code = zaklimot.assemble(script.text())
         self.assertEqual(bytes(script), code)
         spelled = {line.partition(" ")[0] for line in script.text().splitlines()}
-        self.assertEqual(spelled, {line.partition(" ")[0] for line in zaklimot.disassemble(code).splitlines()})
+        self.assertEqual(
+            spelled, {line.partition(" ")[0] for line in zaklimot.disassemble(code).splitlines()}
+        )
         own = {name.partition(" ")[0] for name in FORMS}
         self.assertEqual(spelled, own | {"version", "repeat", "end"})
         self.assertEqual(set(_script.STEPS.values()), set(FORMS))
@@ -66,11 +75,19 @@ class Scripts(unittest.TestCase):
         self.assertEqual(zaklimot.run(whole()).raw, report.raw)
 
     def test_it_has_the_names_of_cards(self) -> None:
-        own = {name for name, _ in inspect.getmembers(Script, inspect.isfunction) if not name.startswith("_")}
+        own = {
+            name
+            for name, _ in inspect.getmembers(Script, inspect.isfunction)
+            if not name.startswith("_")
+        }
         self.assertEqual(own - {"repeat", "text", "run", "type"}, set(_script.STEPS))
         for name in _script.STEPS:
             parameters = list(inspect.signature(getattr(Script, name)).parameters)
-            wanted = [one for one in inspect.signature(getattr(Card, name)).parameters if one not in ("into",)]
+            wanted = [
+                one
+                for one in inspect.signature(getattr(Card, name)).parameters
+                if one not in ("into",)
+            ]
             self.assertEqual(parameters, wanted, name)
 
     def test_registers_by_name(self) -> None:
@@ -84,14 +101,22 @@ class Scripts(unittest.TestCase):
                     script, value = Script(), VALUES.get(register, 0x01)
                     script.out(register, value)
                     self.assertEqual(card.run_on(script)[0].answer, "ok", register)
-                    self.assertEqual(getattr(card.registers(), field)[register.word], value, register)
+                    self.assertEqual(
+                        getattr(card.registers(), field)[register.word], value, register
+                    )
 
     def test_what_is_out_of_range(self) -> None:
         script = Script()
         for call in (
-            lambda: script.out(0x10000, 0), lambda: script.out(SEQ.MAP_MASK, 256), lambda: script.put(2**32, 0),
-            lambda: script.advance(-1), lambda: script.show_plane(0, 0xFFFF, 2), lambda: script.show_plane(0, 0, 0),
-            lambda: script.int10(0x10000), lambda: script.int10(0, block=bytes(65_536)), lambda: script.type("\u4e00"),
+            lambda: script.out(0x10000, 0),
+            lambda: script.out(SEQ.MAP_MASK, 256),
+            lambda: script.put(2**32, 0),
+            lambda: script.advance(-1),
+            lambda: script.show_plane(0, 0xFFFF, 2),
+            lambda: script.show_plane(0, 0, 0),
+            lambda: script.int10(0x10000),
+            lambda: script.int10(0, block=bytes(65_536)),
+            lambda: script.type("\u4e00"),
         ):
             with self.assertRaises(ValueError):
                 call()

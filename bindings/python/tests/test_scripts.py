@@ -7,26 +7,37 @@ import unittest
 import zaklimot
 from zaklimot import Card
 
-TEXT = "int ax=13\nput A0000 0F\nget A0000\nframe\nin 60\ngetw A0000\nint ax=1017 cx=1\nshow regs\nshow latches"
+TEXT = (
+    "int ax=13\nput A0000 0F\nget A0000\nframe\nin 60\ngetw A0000\nint ax=1017 cx=1\nshow"
+    " regs\nshow latches"
+)
 
 
 class Runs(unittest.TestCase):
     def test_the_answers_of_steps(self) -> None:
         report = zaklimot.run(TEXT)
-        self.assertEqual((len(report), report.taken, [step.number for step in report]), (9, 9, list(range(1, 10))))
+        self.assertEqual(
+            (len(report), report.taken, [step.number for step in report]),
+            (9, 9, list(range(1, 10))),
+        )
         self.assertEqual(report[0].registers, (0x13, 0, 0, 0, b""))
         self.assertEqual((report[1].answer, report[1].value, report[1].refusal), ("ok", None, None))
         self.assertEqual((report[2].value, report[5].value), (0x0F, 0x000F))
         self.assertEqual((report[4].refusal, report[4].value), (zaklimot.NotDecoded, None))
         self.assertEqual(report[6].registers, (0x1017, 0, 1, 0, bytes(3)))
-        self.assertEqual((len(report[7].answer.splitlines()), report[8].answer), (6, "latches 0F 00 00 00"))
+        self.assertEqual(
+            (len(report[7].answer.splitlines()), report[8].answer), (6, "latches 0F 00 00 00")
+        )
         self.assertEqual([step.number for step in report[1:3]], [2, 3])
 
     def test_pictures(self) -> None:
         report = zaklimot.run(TEXT)
         picture = report[3].picture
         assert picture is not None
-        self.assertEqual((picture.width, picture.height, picture[1, 1], picture[2, 0]), (640, 400, (63, 63, 63), (0, 0, 0)))
+        self.assertEqual(
+            (picture.width, picture.height, picture[1, 1], picture[2, 0]),
+            (640, 400, (63, 63, 63), (0, 0, 0)),
+        )
         self.assertEqual(report[3].answer, f"picture {len(picture.ppm())}")
         self.assertEqual(report.pictures, [picture])
         with Card() as card:
@@ -49,7 +60,9 @@ class Runs(unittest.TestCase):
 
     def test_fonts(self) -> None:
         script = "int ax=3\nshow plane 2 820 4"
-        self.assertEqual(zaklimot.run(script, fonts=bytes(9728))[1].answer, "plane 2 0820: 00 00 00 00")
+        self.assertEqual(
+            zaklimot.run(script, fonts=bytes(9728))[1].answer, "plane 2 0820: 00 00 00 00"
+        )
         self.assertNotEqual(zaklimot.run(script)[1].answer, "plane 2 0820: 00 00 00 00")
         with self.assertRaises(zaklimot.FontSize):
             zaklimot.run(script, fonts=b"")
@@ -76,8 +89,14 @@ class Forms(unittest.TestCase):
             (zaklimot.Truncated, 105, 4, lambda: zaklimot.disassemble(b"VGAS")),
             (zaklimot.BadMagic, 102, None, lambda: zaklimot.run(b"")),
             (zaklimot.BadVersion, 103, None, lambda: zaklimot.disassemble(b"VGAS\x07")),
-            (zaklimot.TooMany, 111, 17, lambda: zaklimot.disassemble(
-                b"VGAS\x02" + b"\x0d\xff\xff" + 300 * b"\x0b" + b"\x0e")),
+            (
+                zaklimot.TooMany,
+                111,
+                17,
+                lambda: zaklimot.disassemble(
+                    b"VGAS\x02" + b"\x0d\xff\xff" + 300 * b"\x0b" + b"\x0e"
+                ),
+            ),
         ):
             with self.subTest(kind), self.assertRaises(kind) as caught:
                 call()

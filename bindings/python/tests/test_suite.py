@@ -53,9 +53,13 @@ class Suite(unittest.TestCase):
         self.assertEqual(wrong, [])
 
     def test_a_case_that_differs_is_told(self) -> None:
-        texts = (case for case in read_cases(str(SUITE)) if not case.is_bytes and case.until is None)
+        texts = (
+            case for case in read_cases(str(SUITE)) if not case.is_bytes and case.until is None
+        )
         reports = ((case, harness.report_by_calls(case.script(), fonts_of(case))) for case in texts)
-        case, report = next((case, report) for case, report in reports if report.startswith(b"1 ok\n"))
+        case, report = next(
+            (case, report) for case, report in reports if report.startswith(b"1 ok\n")
+        )
         self.assertIsNone(difference(report, case))
         self.assertIsNotNone(difference(report.replace(b"1 ok", b"1 00", 1), case))
 

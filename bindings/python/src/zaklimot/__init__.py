@@ -29,7 +29,8 @@ is a ValueError. All exceptions of the package are subclasses of `zaklimot.Error
 
 The package looks for the library as the file that ZAKLIMOT_LIBRARY names, below the folder
 ZAKLIMOT_DIR, in the package, and where `tools/vga-library install` puts it. `library()` says which
-one it is: the proved one, or the portable one, which a C compiler makes. docs/PYTHON.md is the guide.
+one it is: the proved one, or the portable one, which a C compiler makes. docs/PYTHON.md is the
+guide.
 """
 
 from __future__ import annotations
@@ -45,10 +46,13 @@ if TYPE_CHECKING:
 
 
 def __getattr__(name: str) -> Any:
-    """What `_api` offers. It is imported at its first use, so that programs that need only `format` start fast."""
+    """What `_api` offers. It is imported at its first use, so that programs that need only `format`
+    start fast."""
     if not name.startswith("_") or name in ("__all__", "__version__"):
         api = import_module("._api", __name__)
-        globals().update({one: getattr(api, one) for one in (*api.__all__, "__all__", "__version__")})
+        globals().update(
+            {one: getattr(api, one) for one in (*api.__all__, "__all__", "__version__")}
+        )
         if name in globals():
             return globals()[name]
     raise AttributeError(f"module {__name__!r} has no attribute {name!r}")

@@ -108,4 +108,7 @@ def bind_all(path: str) -> Mapping[str, Call]:
     whole script, release the lock.
     """
     held, released = ctypes.PyDLL(path), ctypes.CDLL(path)
-    return {name: _bind(held if CARD in parameters else released, name) for name, parameters in CALLS.items()}
+    return {
+        name: _bind(held if CARD in parameters else released, name)
+        for name, parameters in CALLS.items()
+    }

@@ -19,7 +19,18 @@ from ._numbers import BYTE, LONG, WORD, in_range
 from ._pictures import Colour, Lines, Picture, ScanLine, XrgbPicture
 from ._report import Report
 from ._scripts import script_bytes
-from ._state import Answer, Beam, BiosData, Cell, Position, ReadBytes, Registers, Screen, Source, Timing
+from ._state import (
+    Answer,
+    Beam,
+    BiosData,
+    Cell,
+    Position,
+    ReadBytes,
+    Registers,
+    Screen,
+    Source,
+    Timing,
+)
 
 Bytes = Union[bytes, bytearray, memoryview]
 Fonts = Union[Bytes, str, "os.PathLike[str]", None]
@@ -45,7 +56,8 @@ def font_bytes(fonts: Fonts) -> bytes:
 
 
 def _writable(buffer: Any, size: int) -> memoryview:
-    """A caller's buffer as bytes. TypeError if it is read-only or not contiguous, ValueError if it is not aligned."""
+    """A caller's buffer as bytes. TypeError if it is read-only or not contiguous, ValueError if it
+    is not aligned."""
     view = memoryview(buffer)
     if view.readonly or not view.c_contiguous:
         raise TypeError("a buffer is to be writable and contiguous")
@@ -82,12 +94,13 @@ class Card:
             assert picture[0, 0] == (63, 63, 63)
 
     `fonts` are the glyphs of the text modes: the bytes of a font file, or its path; None means the
-    project's font. Cycles take no time on the card: its clock runs only in `advance` and in the calls
-    that draw a line or a frame.
+    project's font. Cycles take no time on the card: its clock runs only in `advance` and in the
+    calls that draw a line or a frame.
 
     A call that the adapter refuses raises a `Refusal` and changes nothing. A number out of range is
     a ValueError, and one that is not an int is a TypeError, before anything is done. A closed card
-    raises `Closed`. `with` closes the card at its end; otherwise `close` does, or the end of the object.
+    raises `Closed`. `with` closes the card at its end; otherwise `close` does, or the end of the
+    object.
 
     A card may move from one thread to another. Calls of two threads come one after another, but in
     no order that you can rely on. What a card lends, such as a picture, is overwritten by either.
@@ -146,7 +159,7 @@ class Card:
     def _text(self, name: str, *places: int) -> str:
         text, length = (s.U8 * s.MOST_TEXT)(), s.SIZE()
         self._call(name, *places, text, s.MOST_TEXT, _byref(length))
-        return bytes(memoryview(text)[:length.value]).decode("ascii")
+        return bytes(memoryview(text)[: length.value]).decode("ascii")
 
     # Opening and closing.
 
@@ -171,7 +184,9 @@ class Card:
             self._end()
 
     def __reduce_ex__(self, _: object) -> NoReturn:
-        raise TypeError("a card can't be copied or pickled: save() it, and restore() the bytes into another")
+        raise TypeError(
+            "a card can't be copied or pickled: save() it, and restore() the bytes into another"
+        )
 
     def __repr__(self) -> str:
         return f"<Card, {'open' if self._struct.is_open else 'closed'}>"
@@ -195,7 +210,8 @@ class Card:
         self._cycle(self._out, ("port", port, WORD), ("value", value, BYTE))
 
     def out_word(self, port: int, value: int) -> None:
-        """Writes a word, 0 to FFFF (hexadecimal): its low byte to the port, its high byte to the next."""
+        """Writes a word, 0 to FFFF (hexadecimal): its low byte to the port, its high byte to the
+        next."""
         try:
             if 0 <= port <= WORD and 0 <= value <= WORD:
                 status = self._out_word(self._card, port, value)
@@ -238,8 +254,8 @@ class Card:
     def put(self, address: int, value: int) -> None:
         """Writes a byte, 0 to FF, to display memory at one of the processor's addresses.
 
-        The registers decide which of A0000 to BFFFF (hexadecimal) are decoded. Raises NotDecoded and
-        NotInProfile.
+        The registers decide which of A0000 to BFFFF (hexadecimal) are decoded. Raises NotDecoded
+        and NotInProfile.
         """
         try:
             if 0 <= address <= LONG and 0 <= value <= BYTE:
@@ -252,7 +268,8 @@ class Card:
         self._cycle(self._put, ("address", address, LONG), ("value", value, BYTE))
 
     def put_word(self, address: int, value: int) -> None:
-        """Writes a word, 0 to FFFF (hexadecimal): its low byte to the address, its high byte to the next."""
+        """Writes a word, 0 to FFFF (hexadecimal): its low byte to the address, its high byte to the
+        next."""
         try:
             if 0 <= address <= LONG and 0 <= value <= WORD:
                 status = self._put_word(self._card, address, value)
@@ -264,7 +281,8 @@ class Card:
         self._cycle(self._put_word, ("address", address, LONG), ("value", value, WORD))
 
     def get(self, address: int) -> int:
-        """Reads a byte of display memory, which loads the latches. Raises NotDecoded and NotInProfile."""
+        """Reads a byte of display memory, which loads the latches. Raises NotDecoded and
+        NotInProfile."""
         value = _U8()
         try:
             if 0 <= address <= LONG:
@@ -289,8 +307,8 @@ class Card:
             pass
         return int(self._read("get_word", s.U16, in_range("address", address, LONG)).value)
 
-    # Cycles of many bytes at once. Addresses that the adapter doesn't decode are not refused: a write
-    # there changes nothing, and a read gives FF.
+    # Cycles of many bytes at once. Addresses that the adapter doesn't decode are not refused: a
+    # write there changes nothing, and a read gives FF.
 
     def put_bytes(self, address: int, data: Bytes, down: bool = False) -> int:
         """Writes bytes to consecutive addresses, and returns how many of them the adapter decodes.
@@ -298,15 +316,16 @@ class Card:
             screen = bytes(y // 8 for y in range(200) for x in range(320))
             decoded = card.put_bytes(0xA0000, screen)     # 64000 in mode 13
 
-        Each write does what `put` does. `data[i]` goes to `address + i`: the first byte first or, if
-        `down` is true, the last byte first, like `rep movsb` of a processor with its direction flag set.
-        Raises BadArgument if `address + len(data)` is above FFFFFFFF (hexadecimal).
+        Each write does what `put` does. `data[i]` goes to `address + i`: the first byte first or,
+        if `down` is true, the last byte first, like `rep movsb` of a processor with its direction
+        flag set. Raises BadArgument if `address + len(data)` is above FFFFFFFF (hexadecimal).
         """
         begin, given = in_range("address", address, LONG), bytes(memoryview(data))
         return self._transfer("put_bytes", begin, given, len(given), bool(down))
 
     def fill(self, address: int, value: int, count: int, down: bool = False) -> int:
-        """Writes a byte, 0 to FF, to `count` addresses, and returns how many of them the adapter decodes.
+        """Writes a byte, 0 to FF, to `count` addresses, and returns how many of them the adapter
+        decodes.
 
         Like `put_bytes` with `count` times the same byte, and like `rep stosb` of a processor.
         """
@@ -314,22 +333,28 @@ class Card:
         return self._transfer("fill_bytes", begin, byte, in_range("count", count, LONG), bool(down))
 
     @overload
-    def get_bytes(self, address: int, count_or_buffer: int, down: bool = False) -> ReadBytes: ...
+    def get_bytes(self, address: int, count_or_buffer: int, down: bool = False) -> ReadBytes:
+        ...
 
     @overload
-    def get_bytes(self, address: int, count_or_buffer: Union[bytearray, memoryview], down: bool = False) -> int: ...
+    def get_bytes(
+        self, address: int, count_or_buffer: Union[bytearray, memoryview], down: bool = False
+    ) -> int:
+        ...
 
     def get_bytes(self, address: int, count_or_buffer: Any, down: bool = False) -> Any:
-        """Reads consecutive addresses: a number of bytes, or as many as your writable buffer has room for.
+        """Reads consecutive addresses: a number of bytes, or as many as your writable buffer has
+        room for.
 
             row = card.get_bytes(0xA0000, 320)            # bytes
             row.decoded                                   # 320 in mode 13
             decoded = card.get_bytes(0xA0000, buffer)     # the same into a bytearray
 
-        Each read does what `get` does, and loads the latches; an address that the adapter doesn't decode
-        reads as FF. For a number you get the bytes, whose `decoded` says how many addresses the adapter
-        decodes; for a buffer you get that number. Byte i is that of `address + i`, even if `down` is true
-        and the last one is read first. Raises BadArgument if they go past FFFFFFFF (hexadecimal).
+        Each read does what `get` does, and loads the latches; an address that the adapter doesn't
+        decode reads as FF. For a number you get the bytes, whose `decoded` says how many addresses
+        the adapter decodes; for a buffer you get that number. Byte i is that of `address + i`, even
+        if `down` is true and the last one is read first. Raises BadArgument if they go past
+        FFFFFFFF (hexadecimal).
         """
         begin = in_range("address", address, LONG)
         try:
@@ -348,15 +373,18 @@ class Card:
         return ReadBytes(memoryview(read)[:count], decoded)
 
     def move(self, source: int, target: int, count: int, down: bool = False) -> int:
-        """Reads `count` addresses from `source` on, and writes each byte from `target` on, one after another.
+        """Reads `count` addresses from `source` on, and writes each byte from `target` on, one
+        after another.
 
-        Each read loads the latches, so in write mode 1 all four planes are copied. The first byte goes
-        first or, if `down` is true, the last byte. Returns how many of the reads and writes the adapter
-        decodes: 2 * count if it decodes all. Raises BadArgument if `source + count` or `target + count`
-        is above FFFFFFFF (hexadecimal).
+        Each read loads the latches, so in write mode 1 all four planes are copied. The first byte
+        goes first or, if `down` is true, the last byte. Returns how many of the reads and writes
+        the adapter decodes: 2 * count if it decodes all. Raises BadArgument if `source + count` or
+        `target + count` is above FFFFFFFF (hexadecimal).
         """
         places = (("source", source), ("target", target), ("count", count))
-        return self._transfer("move_bytes", *(in_range(name, value, LONG) for name, value in places), bool(down))
+        return self._transfer(
+            "move_bytes", *(in_range(name, value, LONG) for name, value in places), bool(down)
+        )
 
     # The clock, and frames.
 
@@ -373,48 +401,61 @@ class Card:
         self._cycle(self._advance, ("dots", dots, LONG))
 
     def clock(self) -> Timing:
-        """When the frame ends and input status 1 changes next, if no register is written until then.
+        """When the frame ends and input status 1 changes next, if no register is written until
+        then.
 
             card.advance(card.clock().to_frame)           # to the first dot of the next frame
             retrace = card.clock().to_retrace             # None if there is none
 
-        Nothing changes. If your program polls input status 1, let `to_display` or `to_retrace` dots pass.
+        Nothing changes. If your program polls input status 1, let `to_display` or `to_retrace` dots
+        pass.
         """
         read = self._read("clock", s.zak_timing)
         return Timing(
-            read.to_frame, _unless_never(read.to_display), _unless_never(read.to_retrace),
-            read.line_dots, read.frame_dots, read.lines, _rate(read.rate, read.rate_divisor),
+            read.to_frame,
+            _unless_never(read.to_display),
+            _unless_never(read.to_retrace),
+            read.line_dots,
+            read.frame_dots,
+            read.lines,
+            _rate(read.rate, read.rate_divisor),
         )
 
     def frame(self, into: Optional[Any] = None) -> Picture:
         """Lets the clock run to the end of the frame under way, and returns its picture.
 
         The picture lies in the card's memory, until its next `frame` or `lines`; or in `into`, a
-        writable buffer of at least 3 * width * height bytes. Raises Ragged if two rows differ in width,
-        and NoRoom if `into` is too short. With either the frame has passed.
+        writable buffer of at least 3 * width * height bytes. Raises Ragged if two rows differ in
+        width, and NoRoom if `into` is too short. With either the frame has passed.
         """
         size = s.zak_size()
         view, pointer, room = self._target(into, "rgb", s.MOST_RGB, s.U8)
         self._call("frame", _byref(size), pointer, room)
         width, height = size.width, size.height
-        return Picture(width, height, view[:3 * width * height])
+        return Picture(width, height, view[: 3 * width * height])
 
     def frame_xrgb(self, into: Optional[Any] = None, pitch: int = s.WIDEST) -> XrgbPicture:
         """Lets the clock run to the end of the frame, and returns a word 00RRGGBB per dot.
 
         Row y begins at word `pitch * y`. The words lie in the card's memory, until its next
-        `frame_xrgb`, `frame_words` or `line`; or in `into`, a writable buffer of at least
-        4 * pitch * height bytes, in which words beside the picture are unchanged. Raises Ragged, and
-        NoRoom if `into` is too short or the pitch below the width. With either the frame has passed.
+        `frame_xrgb`, `frame_words` or `line`; or in `into`, a writable buffer of at least 4 * pitch
+        * height bytes, in which words beside the picture are unchanged. Raises Ragged, and NoRoom
+        if `into` is too short or the pitch below the width. With either the frame has passed.
         """
         size = s.zak_size()
         in_range("pitch", pitch, s.WIDEST if into is None else LONG)
         view, pointer, room = self._target(into, "xrgb", 4 * s.WIDEST * s.HIGHEST, s.U32)
         self._call("frame_xrgb", _byref(size), pointer, room // 4, pitch)
-        return XrgbPicture(size.width, size.height, pitch, view[:room // 4 * 4].cast("I"))
+        return XrgbPicture(size.width, size.height, pitch, view[: room // 4 * 4].cast("I"))
 
-    def frame_words(self, into: Optional[Any] = None, pitch: int = s.WIDEST, *, once: bool = True,
-                    opaque: bool = False) -> XrgbPicture:
+    def frame_words(
+        self,
+        into: Optional[Any] = None,
+        pitch: int = s.WIDEST,
+        *,
+        once: bool = True,
+        opaque: bool = False,
+    ) -> XrgbPicture:
         """Lets the clock run to the end of the frame, and returns a word per pixel.
 
             picture = card.frame_words()                  # in mode 13 (hexadecimal) 320 by 200
@@ -429,7 +470,7 @@ class Card:
         view, pointer, room = self._target(into, "xrgb", 4 * s.WIDEST * s.HIGHEST, s.U32)
         flags = s.ONCE * bool(once) + s.OPAQUE * bool(opaque)
         self._call("frame_words", flags, _byref(told), pointer, room // 4, pitch)
-        words = view[:room // 4 * 4].cast("I")
+        words = view[: room // 4 * 4].cast("I")
         return XrgbPicture(told.width, told.height, pitch, words, told.across, told.down)
 
     def line(self, *, opaque: bool = False) -> ScanLine:
@@ -444,7 +485,7 @@ class Card:
         told, room = s.zak_scan_line(), self._room(4 * s.WIDEST * s.HIGHEST, "xrgb")
         pointer = ctypes.cast(room.pointer, ctypes.POINTER(s.U32))
         self._call("line", s.OPAQUE * bool(opaque), _byref(told), pointer, s.WIDEST)
-        words = room.view[:4 * told.width].cast("I")
+        words = room.view[: 4 * told.width].cast("I")
         return ScanLine(told.number, told.ends_frame, words)
 
     def lines(self) -> Lines:
@@ -456,9 +497,13 @@ class Card:
         room, widths, used = self._room(s.MOST_RGB, "rgb"), (s.U32 * s.HIGHEST)(), s.SIZE()
         self._call("frame_lines", widths, room.pointer, room.size, _byref(used))
         # A memoryview hands over all numbers at once; ctypes does so one by one.
-        return Lines(tuple(memoryview(widths).cast("B").cast("I").tolist()), room.view[:used.value])
+        return Lines(
+            tuple(memoryview(widths).cast("B").cast("I").tolist()), room.view[: used.value]
+        )
 
-    def _target(self, into: Optional[Any], name: str, size: int, kind: Any) -> tuple[memoryview, Any, int]:
+    def _target(
+        self, into: Optional[Any], name: str, size: int, kind: Any
+    ) -> tuple[memoryview, Any, int]:
         """Where a picture goes: the memory as bytes, a pointer to it, and its length in bytes."""
         if into is None:
             room = self._room(size, name)
@@ -482,23 +527,24 @@ class Card:
     def int10(self, ax: int, bx: int = 0, cx: int = 0, dx: int = 0, block: Bytes = b"") -> Answer:
         """Calls the video BIOS, interrupt 10 (hexadecimal), with these registers, 0 to FFFF each.
 
-        `block` is what memory contains at ES:BP or ES:DX, for functions that read it. The answer has the
-        registers afterwards, and in `table` what a function writes at ES:DX. docs/SERVICES.md describes
-        the functions. Raises NoMode to BadBlock, and BadHeight.
+        `block` is what memory contains at ES:BP or ES:DX, for functions that read it. The answer
+        has the registers afterwards, and in `table` what a function writes at ES:DX.
+        docs/SERVICES.md describes the functions. Raises NoMode to BadBlock, and BadHeight.
         """
         regs = _registers(ax, bx, cx, dx)
         given, table, length = bytes(memoryview(block)), (s.U8 * s.MOST_TABLE)(), s.SIZE()
         self._call("int10", _byref(regs), given, len(given), table, s.MOST_TABLE, _byref(length))
-        return Answer(regs.ax, regs.bx, regs.cx, regs.dx, bytes(table[:length.value]))
+        return Answer(regs.ax, regs.bx, regs.cx, regs.dx, bytes(table[: length.value]))
 
     def cycles(self, ax: int, bx: int = 0, cx: int = 0, dx: int = 0, block: Bytes = b"") -> bytes:
-        """The script of the cycles that `int10` with these registers would make now. Nothing changes.
+        """The script of the cycles that `int10` with these registers would make now. Nothing
+        changes.
 
             print(zaklimot.disassemble(card.cycles(0x0E41)))      # what printing an A writes
 
-        The script has a step `out`, `in`, `put` or `get` for each cycle, in order. A card that runs it
-        gets the registers and the memory that `int10` leaves, but keeps its BIOS data. Raises what
-        `int10` raises, and TooLong for more than 16,777,216 bytes.
+        The script has a step `out`, `in`, `put` or `get` for each cycle, in order. A card that runs
+        it gets the registers and the memory that `int10` leaves, but keeps its BIOS data. Raises
+        what `int10` raises, and TooLong for more than 16,777,216 bytes.
         """
         regs, given = _registers(ax, bx, cx, dx), bytes(memoryview(block))
         length, size = s.SIZE(), FIRST_CYCLES
@@ -507,7 +553,7 @@ class Card:
             words = (_byref(regs), given, len(given), script, size, _byref(length))
             status = self._calls["cycles"](self._card, *words)
             if not status:
-                return bytes(memoryview(script)[:length.value])
+                return bytes(memoryview(script)[: length.value])
             if status != NO_ROOM:
                 raise error_of(status)
             size = length.value
@@ -542,7 +588,8 @@ class Card:
         return bytes(self._read("read_latches", s.zak_latches).plane)
 
     def plane(self, plane: int, offset: int = 0, count: Optional[int] = None) -> bytes:
-        """Bytes of a plane, 0 to 3, from an offset on: `count` of them, or all up to the plane's end at 65,536.
+        """Bytes of a plane, 0 to 3, from an offset on: `count` of them, or all up to the plane's
+        end at 65,536.
 
         Raises BadArgument if they go past the end.
         """
@@ -556,7 +603,9 @@ class Card:
         """The data of the video BIOS; all 0 until a mode is set."""
         read = self._read("read_bda", s.zak_bda)
         values = {name: getattr(read, name) for name in BiosData._fields if name != "cursors"}
-        return BiosData(**values, cursors=tuple(Position(*divmod(place, 256)) for place in read.cursor_places))
+        return BiosData(
+            **values, cursors=tuple(Position(*divmod(place, 256)) for place in read.cursor_places)
+        )
 
     # The plain screen, as programs that use only the video BIOS see it.
 
@@ -572,7 +621,9 @@ class Card:
         Each call reads the whole screen; `cells` returns all cells at once.
         """
         places = (("page", page), ("row", row), ("column", column))
-        read = self._read("screen_cell", s.zak_cell, *(in_range(name, value, BYTE) for name, value in places))
+        read = self._read(
+            "screen_cell", s.zak_cell, *(in_range(name, value, BYTE) for name, value in places)
+        )
         return Cell(read.character, read.attribute)
 
     def pixel(self, x: int, y: int, page: int = 0) -> int:
@@ -623,7 +674,8 @@ class Card:
         return self._text("show_bda")
 
     def show_cells(self) -> str:
-        """The cells of the active page, one row per line. Raises NoMode, and WrongKind in a graphics mode."""
+        """The cells of the active page, one row per line. Raises NoMode, and WrongKind in a
+        graphics mode."""
         return self._text("show_cells")
 
     def show_dac(self, entry: int) -> str:
@@ -631,21 +683,23 @@ class Card:
         return self._text("show_dac", in_range("entry", entry, BYTE))
 
     def show_plane(self, plane: int, offset: int, count: int) -> str:
-        """1 to 256 bytes of plane 0 to 3 from an offset on. Raises BadArgument if they go past the plane's end."""
+        """1 to 256 bytes of plane 0 to 3 from an offset on. Raises BadArgument if they go past the
+        plane's end."""
         numbers = (("plane", plane, 3, 0), ("offset", offset, WORD, 0), ("count", count, 256, 1))
         return self._text("show_plane", *(in_range(*number) for number in numbers))
 
     # Snapshots, and steps of a script.
 
     def save(self) -> bytes:
-        """The state of the card, from which this card or another can go on as if it had never stopped.
+        """The state of the card, from which this card or another can go on as if it had never
+        stopped.
 
         It has 265,086 bytes at the first dot of a frame, and three more for each dot drawn since
         (docs/STATE.md). It does not contain the fonts.
         """
         room, length = self._room(s.MOST_STATE, "state"), s.SIZE()
         self._call("save", room.pointer, room.size, _byref(length))
-        return bytes(room.view[:length.value])
+        return bytes(room.view[: length.value])
 
     def save_size(self) -> int:
         """How many bytes the state has now."""
@@ -654,12 +708,14 @@ class Card:
         return length.value
 
     def restore(self, state: Bytes) -> None:
-        """Restores a saved state. For other bytes it raises a StateError, and the card is unchanged."""
+        """Restores a saved state. For other bytes it raises a StateError, and the card is
+        unchanged."""
         given = bytes(memoryview(state))
         self._call("restore", given, len(given))
 
     def save_fixed(self, length: int) -> bytes:
-        """The state in `length` bytes: the state, zeros and a checksum, so that all states have one size.
+        """The state in `length` bytes: the state, zeros and a checksum, so that all states have one
+        size.
 
         Raises NoRoom if they are too few; 7,342,978 are always enough.
         """
@@ -668,16 +724,18 @@ class Card:
         return bytes(into)[:length]
 
     def restore_fixed(self, state: Bytes) -> None:
-        """Restores a state of `save_fixed`. For other bytes it raises a StateError, and the card is unchanged."""
+        """Restores a state of `save_fixed`. For other bytes it raises a StateError, and the card is
+        unchanged."""
         given = bytes(memoryview(state))
         self._call("restore_fixed", given, len(given))
 
     def run_on(self, script: Any, first: int = 0, most: int = LONG) -> Report:
         """Skips the first `first` steps of a script, and takes at most `most` steps after them.
 
-        `script` is as for `zaklimot.run`. The steps are numbered from first + 1 on. Fewer than `most`
-        are taken only if the script ends. Raises a ScriptError before any step is taken. After
-        OutOfMemory the card is as it was before; but if `most` is 1, the step may have been taken.
+        `script` is as for `zaklimot.run`. The steps are numbered from first + 1 on. Fewer than
+        `most` are taken only if the script ends. Raises a ScriptError before any step is taken.
+        After OutOfMemory the card is as it was before; but if `most` is 1, the step may have been
+        taken.
         """
         code = script_bytes(script)
         numbers = (in_range("first", first, LONG), in_range("most", most, LONG))
@@ -685,13 +743,18 @@ class Card:
             return self._slice(code, numbers, self._room(STEP_ROOM, "report"), None)
         return self._slice(code, numbers, self._room(STEP_ROOM, "report"), self.save())
 
-    def _slice(self, code: bytes, numbers: tuple[int, int], room: Room, state: Optional[bytes]) -> Report:
-        """The report of a slice. If the room is too small, the card is restored and takes the steps again."""
+    def _slice(
+        self, code: bytes, numbers: tuple[int, int], room: Room, state: Optional[bytes]
+    ) -> Report:
+        """The report of a slice. If the room is too small, the card is restored and takes the steps
+        again."""
         length, taken, place = s.SIZE(), s.SIZE(), s.SIZE()
         told = (_byref(length), _byref(taken), _byref(place))
-        status = self._calls["run_on"](self._card, code, len(code), *numbers, room.pointer, room.size, *told)
+        status = self._calls["run_on"](
+            self._card, code, len(code), *numbers, room.pointer, room.size, *told
+        )
         if not status:
-            return Report(bytes(room.view[:length.value]))
+            return Report(bytes(room.view[: length.value]))
         if state is not None and self._struct.is_open:
             self.restore(state)
         if status == NO_ROOM and state is not None:

@@ -11,7 +11,8 @@ from .format import FAULTS
 
 
 class Error(Exception):
-    """A call failed. `number` is its status in zaklimot.h, `place` the place of a fault in a script.
+    """A call failed. `number` is its status in zaklimot.h, `place` the place of a fault in a
+    script.
 
     The card is unchanged, unless the class says otherwise.
     """
@@ -25,7 +26,8 @@ class LibraryMissing(Error, OSError):
 
 
 class Refusal(Error):
-    """The adapter refuses the call, and nothing changes. `number` is N of `EN` in docs/REPORT.md."""
+    """The adapter refuses the call, and nothing changes. `number` is N of `EN` in
+    docs/REPORT.md."""
 
 
 class NotDecoded(Refusal):
@@ -131,7 +133,8 @@ class OutOfMemory(Error, MemoryError):
 
 
 class Ragged(Error):
-    """Two rows of the frame differ in width, so it has no picture. It has passed. `Card.lines` gives its dots."""
+    """Two rows of the frame differ in width, so it has no picture. It has passed. `Card.lines`
+    gives its dots."""
 
     number = 24
 
@@ -143,7 +146,8 @@ class NoRoom(Error, ValueError):
 
 
 class BadArgument(Error, ValueError):
-    """There is no such page, row, column, x or y; or bytes go past the end of a plane, or past the last address."""
+    """There is no such page, row, column, x or y; or bytes go past the end of a plane, or past the
+    last address."""
 
     number = 26
 
@@ -205,7 +209,8 @@ class StateChecksum(StateError):
 
 
 class ScriptError(Error, ValueError):
-    """A script, or its text, has a fault. `place` is the offset of the bad step, or the number of the bad line."""
+    """A script, or its text, has a fault. `place` is the offset of the bad step, or the number of
+    the bad line."""
 
 
 class BadMagic(ScriptError):

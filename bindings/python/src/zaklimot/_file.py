@@ -12,7 +12,8 @@ from pathlib import Path
 
 FILE = {"darwin": "libzaklimot.dylib", "win32": "zaklimot.dll"}.get(sys.platform, "libzaklimot.so")
 FONTS = "zaklimot.fnt"
-# The file that gives the kind: beside a wheel's library, and beside a library that was installed or made.
+# The file that gives the kind: beside a wheel's library, and beside a library that was installed or
+# made.
 NOTE, PACKAGE = "kind", "pkgconfig/zaklimot.pc"
 PROVED, PORTABLE, UNKNOWN = "proved", "portable", "unknown"
 LINE = re.compile(rf"^kind=({PROVED}|{PORTABLE})$", re.M)
@@ -26,7 +27,8 @@ def kind_of(library: str) -> str:
     if os.path.basename(library) == library:
         return UNKNOWN
     file = Path(os.path.realpath(library))
-    # A file of another name is not the one that was put there. Versions make the names of others longer.
+    # A file of another name is not the one that was put there. Versions make the names of others
+    # longer.
     if file.name.partition(".")[0] != FILE.partition(".")[0]:
         return UNKNOWN
     for note in (file.with_name(NOTE), file.parent / PACKAGE):

@@ -16,7 +16,8 @@ from ._version import API_MAJOR, API_MINOR
 
 # What the system's loader is asked for.
 SONAME = {"darwin": f"libzaklimot.{API_MAJOR}.dylib", "win32": FILE}.get(
-    sys.platform, f"{FILE}.{API_MAJOR}")
+    sys.platform, f"{FILE}.{API_MAJOR}"
+)
 # What a wheel carries.
 CARRIED = Path(__file__).resolve().parent / "carried"
 USUAL_PREFIXES = ("/usr/local", "/usr")
@@ -57,7 +58,9 @@ def _named() -> Optional[Path]:
     if folder:
         found = next(_below(Path(folder)), None)
         if found is None:
-            raise LibraryMissing(f"ZAKLIMOT_DIR is {folder}, and there is no lib/{FILE} in it. {HOW}")
+            raise LibraryMissing(
+                f"ZAKLIMOT_DIR is {folder}, and there is no lib/{FILE} in it. {HOW}"
+            )
         return found
     return None
 
@@ -96,13 +99,15 @@ def loaded() -> Loaded:
     told = (version // 65536, version % 65536)
     if not _fits(version):
         needed = f"{API_MAJOR}.{API_MINOR} or later of {API_MAJOR}"
-        raise LibraryMissing(f"{path} has version {told[0]}.{told[1]}, and this package needs {needed}. {HOW}")
+        raise LibraryMissing(
+            f"{path} has version {told[0]}.{told[1]}, and this package needs {needed}. {HOW}"
+        )
     return Loaded(path, calls, told)
 
 
 def _in_sources(own: Path) -> list[Path]:
     """The repository's font, relative to this file. Near the root of the system there is none."""
-    return [top / "fonts" / FONTS for top in list(own.parents)[LEVELS:LEVELS + 1]]
+    return [top / "fonts" / FONTS for top in list(own.parents)[LEVELS : LEVELS + 1]]
 
 
 def _font_places() -> Iterator[Path]:

@@ -13,7 +13,8 @@ PRIVATE = {"flags": mmap.MAP_PRIVATE | mmap.MAP_ANONYMOUS} if hasattr(mmap, "MAP
 
 
 class Room:
-    """Memory of a given size, which costs nothing until it is written. A process that forks gets its own."""
+    """Memory of a given size, which costs nothing until it is written. A process that forks gets
+    its own."""
 
     def __init__(self, size: int) -> None:
         try:

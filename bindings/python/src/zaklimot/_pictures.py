@@ -27,7 +27,7 @@ def _chunk(kind: bytes, data: bytes) -> bytes:
 def _png(width: int, height: int, rgb: bytes) -> bytes:
     """A PNG of three bytes per dot, eight bits per component."""
     pitch = 3 * width
-    rows = b"".join(b"\0" + rgb[pitch * y:pitch * (y + 1)] for y in range(height))
+    rows = b"".join(b"\0" + rgb[pitch * y : pitch * (y + 1)] for y in range(height))
     head = struct.pack(">IIBBBBB", width, height, 8, 2, 0, 0, 0)
     parts = (_chunk(b"IHDR", head), _chunk(b"IDAT", zlib.compress(rows)), _chunk(b"IEND", b""))
     return b"\x89PNG\r\n\x1a\n" + b"".join(parts)
@@ -38,8 +38,8 @@ class Picture:
 
     `data` is a memoryview of 3 * width * height bytes, rows from the top, dots from the left, red,
     green and blue. `pixels` is the same memory with the shape (height, width, 3), so
-    `picture.pixels[y, x, 0]` is a red. With numpy, `numpy.asarray(picture)` is an array over the same
-    memory, without a copy.
+    `picture.pixels[y, x, 0]` is a red. With numpy, `numpy.asarray(picture)` is an array over the
+    same memory, without a copy.
 
     A picture that `Card.frame` lends is valid until the card's next frame; `copy()` keeps it.
     """
@@ -58,18 +58,21 @@ class Picture:
         return {"version": 3, "typestr": "|u1", "shape": shape, "data": self.data}
 
     def __getitem__(self, place: tuple[int, int]) -> Colour:
-        """`picture[x, y]` is the colour of the dot x from the left, y from the top. IndexError outside."""
+        """`picture[x, y]` is the colour of the dot x from the left, y from the top. IndexError
+        outside."""
         x, y = place
         if not (0 <= x < self.width and 0 <= y < self.height):
-            raise IndexError(f"({x}, {y}) is outside a picture of {self.width} by {self.height} dots")
+            raise IndexError(
+                f"({x}, {y}) is outside a picture of {self.width} by {self.height} dots"
+            )
         at = 3 * (self.width * y + x)
-        return Colour(*self.data[at:at + 3])
+        return Colour(*self.data[at : at + 3])
 
     def rows(self) -> Iterator[memoryview]:
         """The rows from the top, 3 * width bytes each."""
         pitch = 3 * self.width
         for y in range(self.height):
-            yield self.data[pitch * y:pitch * (y + 1)]
+            yield self.data[pitch * y : pitch * (y + 1)]
 
     def copy(self) -> Picture:
         """A copy of the picture in memory of its own."""
@@ -105,27 +108,36 @@ class XrgbPicture:
     A picture in the card's own memory is valid until its next `frame_xrgb` or `frame_words`.
     """
 
-    def __init__(self, width: int, height: int, pitch: int, words: memoryview, across: int = 1,
-                 down: int = 1) -> None:
+    def __init__(
+        self, width: int, height: int, pitch: int, words: memoryview, across: int = 1, down: int = 1
+    ) -> None:
         self.width, self.height, self.pitch, self.words = width, height, pitch, words
         self.across, self.down = across, down
 
     @property
     def __array_interface__(self) -> dict[str, Any]:
         shape, strides = (self.height, self.width), (4 * self.pitch, 4)
-        return {"version": 3, "typestr": "<u4", "shape": shape, "strides": strides, "data": self.words}
+        return {
+            "version": 3,
+            "typestr": "<u4",
+            "shape": shape,
+            "strides": strides,
+            "data": self.words,
+        }
 
     def __getitem__(self, place: tuple[int, int]) -> int:
         """`picture[x, y]` is the word of a dot. IndexError outside."""
         x, y = place
         if not (0 <= x < self.width and 0 <= y < self.height):
-            raise IndexError(f"({x}, {y}) is outside a picture of {self.width} by {self.height} dots")
+            raise IndexError(
+                f"({x}, {y}) is outside a picture of {self.width} by {self.height} dots"
+            )
         return int(self.words[self.pitch * y + x])
 
     def rows(self) -> Iterator[memoryview]:
         """The rows from the top, `width` words each."""
         for y in range(self.height):
-            yield self.words[self.pitch * y:self.pitch * y + self.width]
+            yield self.words[self.pitch * y : self.pitch * y + self.width]
 
     def __repr__(self) -> str:
         return f"<XrgbPicture of {self.width} by {self.height} dots>"
@@ -146,8 +158,8 @@ class Lines:
     """The dots of a frame line by line, even if its lines differ in width.
 
     `widths[y]` is how many dots line y has, 0 to 2,304, for y from 0 to 1,023. Iterating gives a
-    memoryview of 3 * widths[y] bytes for each line that has dots; `line(y)` gives one by its number.
-    It is valid until the card's next frame.
+    memoryview of 3 * widths[y] bytes for each line that has dots; `line(y)` gives one by its
+    number. It is valid until the card's next frame.
     """
 
     def __init__(self, widths: tuple[int, ...], data: memoryview) -> None:
@@ -158,13 +170,13 @@ class Lines:
         if not 0 <= y < HIGHEST:
             raise IndexError(f"there are lines 0 to {HIGHEST - 1}, and not {y}")
         begin = 3 * sum(self.widths[:y])
-        return self.data[begin:begin + 3 * self.widths[y]]
+        return self.data[begin : begin + 3 * self.widths[y]]
 
     def __iter__(self) -> Iterator[memoryview]:
         begin = 0
         for width in self.widths:
             if width:
-                yield self.data[begin:begin + 3 * width]
+                yield self.data[begin : begin + 3 * width]
                 begin += 3 * width
 
     def __len__(self) -> int:

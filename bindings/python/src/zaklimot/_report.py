@@ -14,7 +14,8 @@ from .format.report import READ
 
 
 class Step(NamedTuple):
-    """The answer of one step: its number, counted from 1, its text, and its picture if it has one."""
+    """The answer of one step: its number, counted from 1, its text, and its picture if it has
+    one."""
 
     number: int
     answer: str
@@ -30,10 +31,13 @@ class Step(NamedTuple):
     def registers(self) -> Optional[Answer]:
         """What an `int` answers, or None."""
         words = self.answer.split(" ")
-        pairs = [word.partition("=") for word in words[:len(format.REGISTERS)]]
+        pairs = [word.partition("=") for word in words[: len(format.REGISTERS)]]
         if [name for name, *_ in pairs] != list(format.REGISTERS):
             return None
-        return Answer(*(int(value, 16) for *_, value in pairs), bytes.fromhex(words[-1] if len(words) > 4 else ""))
+        return Answer(
+            *(int(value, 16) for *_, value in pairs),
+            bytes.fromhex(words[-1] if len(words) > 4 else ""),
+        )
 
     @property
     def refusal(self) -> Optional[type[Error]]:
@@ -45,12 +49,13 @@ def _picture(read: Union[format.Picture, format.Digest, None]) -> Optional[Pictu
     """A picture of the report, over the report's own bytes."""
     if not isinstance(read, format.Picture):
         return None
-    return Picture(read.width, read.height, memoryview(read.ppm)[-3 * read.width * read.height:])
+    return Picture(read.width, read.height, memoryview(read.ppm)[-3 * read.width * read.height :])
 
 
 def read_steps(raw: bytes) -> Iterator[Step]:
     """The steps of a report one after another. It may begin with any number."""
-    front, stream = raw[:20].partition(b" ")[0], io.BufferedReader(io.BytesIO(raw))  # type: ignore[arg-type]
+    front = raw[:20].partition(b" ")[0]
+    stream = io.BufferedReader(io.BytesIO(raw))  # type: ignore[arg-type]
     for answer in format.Report(stream, first=int(front) if front.isdigit() else 1).answers():
         yield Step(answer.number, "\n".join(answer.lines), _picture(answer.picture))
 
@@ -69,10 +74,12 @@ class Report(Sequence[Step]):
         return list(read_steps(self.raw))
 
     @overload
-    def __getitem__(self, at: int) -> Step: ...
+    def __getitem__(self, at: int) -> Step:
+        ...
 
     @overload
-    def __getitem__(self, at: slice) -> list[Step]: ...
+    def __getitem__(self, at: slice) -> list[Step]:
+        ...
 
     def __getitem__(self, at: Union[int, slice]) -> Union[Step, list[Step]]:
         return self._steps[at]

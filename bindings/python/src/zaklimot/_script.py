@@ -14,16 +14,31 @@ from .format.table import MOST_DUMPED, PLANE
 
 # The step that each method writes, by its name in the table of the format.
 STEPS = {
-    "out": "out", "out_word": "outw", "inp": "in", "inp_word": "inw", "put": "put", "put_word": "putw", "get": "get",
-    "get_word": "getw", "advance": "advance", "frame": "frame", "int10": "int", "show_regs": "show regs",
-    "show_dac": "show dac", "show_beam": "show beam", "show_latches": "show latches", "show_plane": "show plane",
-    "show_bda": "show bda", "show_cells": "show cells",
+    "out": "out",
+    "out_word": "outw",
+    "inp": "in",
+    "inp_word": "inw",
+    "put": "put",
+    "put_word": "putw",
+    "get": "get",
+    "get_word": "getw",
+    "advance": "advance",
+    "frame": "frame",
+    "int10": "int",
+    "show_regs": "show regs",
+    "show_dac": "show dac",
+    "show_beam": "show beam",
+    "show_latches": "show latches",
+    "show_plane": "show plane",
+    "show_bda": "show bda",
+    "show_cells": "show cells",
 }
 TELETYPE = 0x0E00
 
 
 class Script:
-    """A script, built step by step. Its methods have the names and ranges of Card's, but only add steps.
+    """A script, built step by step. Its methods have the names and ranges of Card's, but only add
+    steps.
 
         from zaklimot import GFX, SEQ, Script
 
@@ -48,7 +63,8 @@ class Script:
         self._lines.append(printed(Step(STEPS[name], values, block), is_short=True))
 
     def out(self, port: Union[int, Indexed], value: int) -> None:
-        """Writes a byte to a port; or to a register by its name, as one word to its index and its data."""
+        """Writes a byte to a port; or to a register by its name, as one word to its index and its
+        data."""
         if isinstance(port, Indexed):
             self._add("out_word", port.port, in_range("value", value, BYTE) << 8 | port.word)
         else:
@@ -102,10 +118,11 @@ class Script:
         self._add("int10", *(in_range(name, value, WORD) for name, value in names), block=given)
 
     def type(self, text: Union[str, bytes], colour: int = 7) -> None:
-        """Types a text by the BIOS's teletype function, one step per character. A str is encoded in code page 437.
+        """Types a text by the BIOS's teletype function, one step per character. A str is encoded in
+        code page 437.
 
-        `colour`, 0 to 255, matters only in graphics. Raises UnicodeEncodeError for characters that the
-        code page lacks.
+        `colour`, 0 to 255, matters only in graphics. Raises UnicodeEncodeError for characters that
+        the code page lacks.
         """
         in_range("colour", colour, BYTE)
         for letter in text.encode("cp437") if isinstance(text, str) else bytes(memoryview(text)):
@@ -139,7 +156,12 @@ class Script:
         """Shows 1 to 256 bytes of plane 0 to 3 from an offset on, none past the plane's end."""
         begin = in_range("offset", offset, WORD)
         most = min(MOST_DUMPED, PLANE_BYTES - begin)
-        self._add("show_plane", in_range("plane", plane, PLANE.most), begin, in_range("count", count, most, 1))
+        self._add(
+            "show_plane",
+            in_range("plane", plane, PLANE.most),
+            begin,
+            in_range("count", count, most, 1),
+        )
 
     @contextmanager
     def repeat(self, times: int) -> Iterator[None]:
@@ -158,7 +180,8 @@ class Script:
             self._lines.append(END)
 
     def text(self) -> str:
-        """The script's text, with one line per step. A script with blocks begins with `version 2`."""
+        """The script's text, with one line per step. A script with blocks begins with `version
+        2`."""
         lines = [FIRST_LINE, *self._lines] if self._has_blocks else self._lines
         return "".join(f"{line}\n" for line in lines)
 

@@ -11,7 +11,8 @@ from ._library import loaded
 from ._memory import Room
 
 NO_ROOM = 25
-# Room for a run's report; the system gives memory only for what is written. A longer report is made again.
+# Room for a run's report; the system gives memory only for what is written. A longer report is made
+# again.
 FIRST_ROOM = 1 << 25
 # The forms of a script: its text, its bytes, or an object with a method `text`.
 AnyScript = Union[str, bytes, bytearray, memoryview, Any]
@@ -38,7 +39,7 @@ def _other_form(name: str, given: bytes) -> bytes:
         status = call(given, len(given), made, length.value, *told)
     if status:
         raise error_of(status, place.value)
-    return bytes(made)[:length.value]
+    return bytes(made)[: length.value]
 
 
 def assemble(text: Union[str, bytes]) -> bytes:
@@ -73,7 +74,7 @@ def run_script(script: AnyScript, fonts: bytes) -> bytes:
         run = loaded().calls["run"]
         status = run(code, len(code), glyphs, len(glyphs), room.pointer, size, *told)
         if not status:
-            return bytes(room.view[:length.value])
+            return bytes(room.view[: length.value])
         if status != NO_ROOM:
             raise error_of(status, place.value)
         size = length.value

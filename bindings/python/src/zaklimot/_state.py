@@ -7,7 +7,8 @@ from typing import NamedTuple, Optional, Union
 
 
 class Registers(NamedTuple):
-    """All registers of the adapter. `seq`, `crtc`, `gfx` and `attr` are bytes, by the register's index."""
+    """All registers of the adapter. `seq`, `crtc`, `gfx` and `attr` are bytes, by the register's
+    index."""
 
     misc: int
     """miscellaneous output register"""
@@ -67,7 +68,8 @@ class Timing(NamedTuple):
     to_frame: int
     """dots to the end of the frame under way"""
     to_display: Optional[int]
-    """dots until bit 0 of input status 1 changes, 1 where no dot is displayed; None where none change it"""
+    """dots until bit 0 of input status 1 changes, 1 where no dot is displayed; None where none
+    change it"""
     to_retrace: Optional[int]
     """dots until bit 3 of it changes, 1 in the vertical retrace; None where none change it"""
     line_dots: int
@@ -90,7 +92,8 @@ class Source(NamedTuple):
 
 
 class ReadBytes(bytes):
-    """Bytes of display memory. `decoded` is how many of their addresses the adapter decodes. Others read as FF."""
+    """Bytes of display memory. `decoded` is how many of their addresses the adapter decodes. Others
+    read as FF."""
 
     decoded: int
 
@@ -156,7 +159,8 @@ class Screen(NamedTuple):
 
 
 class Answer(NamedTuple):
-    """What the video BIOS answers: the registers afterwards, and the bytes that a function writes."""
+    """What the video BIOS answers: the registers afterwards, and the bytes that a function
+    writes."""
 
     ax: int
     bx: int

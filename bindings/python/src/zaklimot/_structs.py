@@ -29,8 +29,14 @@ class zak_card(Structure):
 
 class zak_timing(Structure):
     _fields_ = [
-        ("to_frame", U32), ("to_display", U32), ("to_retrace", U32),
-        ("line_dots", U32), ("frame_dots", U32), ("lines", U32), ("rate", U32), ("rate_divisor", U32),
+        ("to_frame", U32),
+        ("to_display", U32),
+        ("to_retrace", U32),
+        ("line_dots", U32),
+        ("frame_dots", U32),
+        ("lines", U32),
+        ("rate", U32),
+        ("rate_divisor", U32),
     ]
 
 
@@ -57,12 +63,20 @@ class zak_regs(Structure):
 class zak_registers(Structure):
     _fields_ = [
         ("misc", U8),
-        ("seq_index", U8), ("seq", U8 * 5),
-        ("crtc_index", U8), ("crtc", U8 * 25),
-        ("gfx_index", U8), ("gfx", U8 * 9),
-        ("attr_index", U8), ("attr_is_data", U8), ("attr", U8 * 21),
-        ("dac_index", U8), ("dac_component", U8),
-        ("dac_mask", U8), ("dac_waiting_red", U8), ("dac_waiting_green", U8),
+        ("seq_index", U8),
+        ("seq", U8 * 5),
+        ("crtc_index", U8),
+        ("crtc", U8 * 25),
+        ("gfx_index", U8),
+        ("gfx", U8 * 9),
+        ("attr_index", U8),
+        ("attr_is_data", U8),
+        ("attr", U8 * 21),
+        ("dac_index", U8),
+        ("dac_component", U8),
+        ("dac_mask", U8),
+        ("dac_waiting_red", U8),
+        ("dac_waiting_green", U8),
     ]
 
 
@@ -72,8 +86,15 @@ class zak_colour(Structure):
 
 class zak_beam(Structure):
     _fields_ = [
-        ("line", U16), ("character", U16), ("dot", U16), ("base", U16), ("scan", U16), ("rows", U16),
-        ("frame", U8), ("half", U8), ("split", U8),
+        ("line", U16),
+        ("character", U16),
+        ("dot", U16),
+        ("base", U16),
+        ("scan", U16),
+        ("rows", U16),
+        ("frame", U8),
+        ("half", U8),
+        ("split", U8),
     ]
 
 
@@ -83,16 +104,29 @@ class zak_latches(Structure):
 
 class zak_bda(Structure):
     _fields_ = [
-        ("columns", U16), ("size", U16), ("start", U16), ("cursor_places", U16 * 8),
-        ("cursor_type", U16), ("crtc_address", U16), ("height", U16),
-        ("mode", U8), ("page", U8), ("last_row", U8),
+        ("columns", U16),
+        ("size", U16),
+        ("start", U16),
+        ("cursor_places", U16 * 8),
+        ("cursor_type", U16),
+        ("crtc_address", U16),
+        ("height", U16),
+        ("mode", U8),
+        ("page", U8),
+        ("last_row", U8),
     ]
 
 
 class zak_screen(Structure):
     _fields_ = [
-        ("width", U32), ("height", U32), ("columns", U16), ("rows", U16),
-        ("mode", U8), ("is_text", U8), ("page", U8), ("pages", U8),
+        ("width", U32),
+        ("height", U32),
+        ("columns", U16),
+        ("rows", U16),
+        ("mode", U8),
+        ("is_text", U8),
+        ("page", U8),
+        ("pages", U8),
     ]
 
 

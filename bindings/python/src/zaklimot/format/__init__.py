@@ -12,9 +12,10 @@
     out 3C4 02
     end
 
-`parse_text` reads a text, `decode` reads bytes, and `read` reads either. A `ScriptFault` names the fault as the
-program does. `Report` reads a report answer by answer, and `is_answer_to` says whether a step may answer so.
-docs/SCRIPT.md and docs/REPORT.md describe the formats. This package needs Python 3.9 and its standard library.
+`parse_text` reads a text, `decode` reads bytes, and `read` reads either. A `ScriptFault` names the
+fault as the program does. `Report` reads a report answer by answer, and `is_answer_to` says whether
+a step may answer so. docs/SCRIPT.md and docs/REPORT.md describe the formats. This package needs
+Python 3.9 and its standard library.
 """
 
 from .answers import is_answer_to
@@ -24,17 +25,90 @@ from .picture import Digest, Picture
 from .report import Answer, Report, ReportError
 from .script import Block, Script, Step
 from .table import (
-    BLOCK, BLOCK_LINES, END, FAULT, FAULTS, FIRST_LINE, FONT_BYTES, FORMS, HEADERS, LINE, MAGIC, MOST_ADVANCE,
-    MOST_BLOCK, MOST_BYTES, MOST_COUNT, MOST_STEPS, OPCODES, PLANE_BYTES, READING, REFUSALS, REGISTERS, REPEAT, SHOWN,
-    STATE, Fault, Field, Form, ScriptFault, refusal_of,
+    BLOCK,
+    BLOCK_LINES,
+    END,
+    FAULT,
+    FAULTS,
+    FIRST_LINE,
+    FONT_BYTES,
+    FORMS,
+    HEADERS,
+    LINE,
+    MAGIC,
+    MOST_ADVANCE,
+    MOST_BLOCK,
+    MOST_BYTES,
+    MOST_COUNT,
+    MOST_STEPS,
+    OPCODES,
+    PLANE_BYTES,
+    READING,
+    REFUSALS,
+    REGISTERS,
+    REPEAT,
+    SHOWN,
+    STATE,
+    Fault,
+    Field,
+    Form,
+    ScriptFault,
+    refusal_of,
 )
 from .text import parse_line, parse_text, print_text, printed
 
 __all__ = [
-    "BLOCK", "BLOCK_LINES", "END", "FAULT", "FAULTS", "FIRST_LINE", "FONT_BYTES", "FORMS", "HEADERS", "LINE", "MAGIC",
-    "MOST_ADVANCE", "MOST_BLOCK", "MOST_BYTES", "MOST_COUNT", "MOST_STEPS", "OPCODES", "PLANE_BYTES", "READING",
-    "REFUSALS", "REGISTERS", "REPEAT", "SHOWN", "STATE", "Answer", "Block", "Digest", "Fault", "Field", "Form", "Line",
-    "Picture", "Report", "ReportError", "Script", "ScriptFault", "Step", "count_in", "decode", "encode", "encoded",
-    "is_answer_to", "is_bytes", "lines_in", "parse_line", "parse_text", "places_in", "print_text", "printed", "read",
-    "refusal_of", "steps_in", "words_in",
+    "BLOCK",
+    "BLOCK_LINES",
+    "END",
+    "FAULT",
+    "FAULTS",
+    "FIRST_LINE",
+    "FONT_BYTES",
+    "FORMS",
+    "HEADERS",
+    "LINE",
+    "MAGIC",
+    "MOST_ADVANCE",
+    "MOST_BLOCK",
+    "MOST_BYTES",
+    "MOST_COUNT",
+    "MOST_STEPS",
+    "OPCODES",
+    "PLANE_BYTES",
+    "READING",
+    "REFUSALS",
+    "REGISTERS",
+    "REPEAT",
+    "SHOWN",
+    "STATE",
+    "Answer",
+    "Block",
+    "Digest",
+    "Fault",
+    "Field",
+    "Form",
+    "Line",
+    "Picture",
+    "Report",
+    "ReportError",
+    "Script",
+    "ScriptFault",
+    "Step",
+    "count_in",
+    "decode",
+    "encode",
+    "encoded",
+    "is_answer_to",
+    "is_bytes",
+    "lines_in",
+    "parse_line",
+    "parse_text",
+    "places_in",
+    "print_text",
+    "printed",
+    "read",
+    "refusal_of",
+    "steps_in",
+    "words_in",
 ]

@@ -8,7 +8,17 @@ from typing import Optional, Sequence
 from .picture import Picture
 from .report import REFUSED, Answer
 from .script import Step
-from .table import ADVANCE, CALLED, DUMP, MOST_ADVANCE, OK, PICTURE, READ_BYTE, READ_WORD, refusal_of
+from .table import (
+    ADVANCE,
+    CALLED,
+    DUMP,
+    MOST_ADVANCE,
+    OK,
+    PICTURE,
+    READ_BYTE,
+    READ_WORD,
+    refusal_of,
+)
 
 _BYTE, _WORD = "[0-9A-F]{2}", "[0-9A-F]{4}"
 _CALLED = re.compile(rf"ax={_WORD} bx={_WORD} cx={_WORD} dx={_WORD}(?: block ((?:{_BYTE})+))?")
@@ -22,12 +32,15 @@ def _bytes(count: int) -> str:
     return f"(?: {_BYTE}){{{count}}}"
 
 
-# The groups of registers that `show regs` shows: their name, and how many registers follow the index.
+# The groups of registers that `show regs` shows: their name, and how many registers follow the
+# index.
 GROUPS = {"seq": 5, "crtc": 25, "gfx": 9, "attr": 21}
 _DUMPS = {
     "show regs": [
-        f"misc {_BYTE}", *(f"{name} {_BYTE}:{_bytes(count)}" for name, count in GROUPS.items() if name != "attr"),
-        f"attr {_BYTE} [id]:{_bytes(GROUPS['attr'])}", f"dac {_BYTE} [rgb]{_bytes(3)}",
+        f"misc {_BYTE}",
+        *(f"{name} {_BYTE}:{_bytes(count)}" for name, count in GROUPS.items() if name != "attr"),
+        f"attr {_BYTE} [id]:{_bytes(GROUPS['attr'])}",
+        f"dac {_BYTE} [rgb]{_bytes(3)}",
     ],
     "show beam": [
         "beam frame [0-9]{1,2} line [0-9]{1,4} char [0-9]{1,3} dot [0-9] "
@@ -35,8 +48,8 @@ _DUMPS = {
     ],
     "show latches": [f"latches{_bytes(4)}"],
     "show bda": [
-        f"bda mode {_BYTE} cols {_WORD} size {_WORD} start {_WORD} at(?: {_WORD}){{8}} type {_WORD} page {_BYTE} "
-        f"crtc {_WORD} last {_BYTE} height {_WORD}"
+        f"bda mode {_BYTE} cols {_WORD} size {_WORD} start {_WORD} at(?: {_WORD}){{8}} type"
+        f" {_WORD} page {_BYTE} crtc {_WORD} last {_BYTE} height {_WORD}"
     ],
 }
 # The rows and columns that a screen of cells may have.
@@ -56,7 +69,10 @@ def _dump(step: Step) -> Optional[list[str]]:
 def _are_cells(lines: Sequence[str]) -> bool:
     """Whether these lines are a dump of the cells."""
     return len(lines) in _ROWS and any(
-        all(re.fullmatch(f"row {row:02X}:(?: {_WORD}){{{columns}}}", line) for row, line in enumerate(lines))
+        all(
+            re.fullmatch(f"row {row:02X}:(?: {_WORD}){{{columns}}}", line)
+            for row, line in enumerate(lines)
+        )
         for columns in _COLUMNS
     )
 
@@ -79,13 +95,16 @@ def _is_call(step: Step, answer: str) -> bool:
 
 
 def is_answer_to(step: Step, answer: Answer) -> bool:
-    """Whether an answer has a form that this step may have, or is a refusal that this step may get."""
+    """Whether an answer has a form that this step may have, or is a refusal that this step may
+    get."""
     has_more, kind = bool(answer.others) or answer.picture is not None, step.form.answer
     # An advance is refused exactly if it is too far.
     is_too_far = step.name == ADVANCE and step.numbers[0] > MOST_ADVANCE
     if REFUSED.fullmatch(answer.answer):
         may_be_refused = is_too_far or step.name != ADVANCE
-        return not has_more and may_be_refused and answer.answer in map(refusal_of, step.form.refusals)
+        return (
+            not has_more and may_be_refused and answer.answer in map(refusal_of, step.form.refusals)
+        )
     if is_too_far:
         return False
     if kind == DUMP:

@@ -6,7 +6,17 @@ from typing import Iterator, Union
 
 from .script import Block, Item, Script, Step
 from .table import (
-    CODES, COUNT, DUMPED, END_CODE, FORMS, HEADERS, MAGIC, MOST_BYTES, MOST_STEPS, PLANE, REPEAT_CODE,
+    CODES,
+    COUNT,
+    DUMPED,
+    END_CODE,
+    FORMS,
+    HEADERS,
+    MAGIC,
+    MOST_BYTES,
+    MOST_STEPS,
+    PLANE,
+    REPEAT_CODE,
     ScriptFault,
 )
 from .text import DUMP_OF_PLANE, is_in_plane, parse_text
@@ -41,7 +51,8 @@ def encode(script: Script) -> bytes:
 
 
 def decode(data: bytes) -> Script:
-    """The script that bytes spell. Raises ScriptFault with the first fault in the order of docs/SCRIPT.md."""
+    """The script that bytes spell. Raises ScriptFault with the first fault in the order of
+    docs/SCRIPT.md."""
     if len(data) > MOST_BYTES:
         raise ScriptFault("TooLong")
     if not is_bytes(data):
@@ -67,7 +78,9 @@ class _Reader:
         data, meant = self._data, 0
         while self._at < len(data):
             begin = self._at
-            item: Item = self._block() if has_blocks and data[begin] == REPEAT_CODE else self._step()
+            item: Item = (
+                self._block() if has_blocks and data[begin] == REPEAT_CODE else self._step()
+            )
             meant += item.count * len(item.steps) if isinstance(item, Block) else 1
             if meant > MOST_STEPS:
                 raise ScriptFault("TooMany", begin)
@@ -79,7 +92,7 @@ class _Reader:
         self._at += 1 + COUNT.size
         if self._at > len(data):
             raise ScriptFault("Truncated", begin)
-        count = int.from_bytes(data[begin + 1:self._at], "little")
+        count = int.from_bytes(data[begin + 1 : self._at], "little")
         if not count:
             raise ScriptFault("BadStep", begin)
         steps = []
@@ -93,10 +106,12 @@ class _Reader:
     def _step(self) -> Step:
         """Reads the next step. Its opcode is checked first, then its length, then its numbers."""
         data, begin = self._data, self._at
-        code = data[begin:begin + (2 if data[begin] in _HAS_KIND else 1)]
+        code = data[begin : begin + (2 if data[begin] in _HAS_KIND else 1)]
         form = CODES.get(code)
         if form is None:
-            raise ScriptFault("Truncated" if code[0] in _HAS_KIND and len(code) == 1 else "BadStep", begin)
+            raise ScriptFault(
+                "Truncated" if code[0] in _HAS_KIND and len(code) == 1 else "BadStep", begin
+            )
         end = begin + form.size
         if end > len(data):
             raise ScriptFault("Truncated", begin)
@@ -106,10 +121,14 @@ class _Reader:
             self._at += numbers[-1]
             if self._at > len(data):
                 raise ScriptFault("Truncated", begin)
-            return Step(form.name, numbers[:-1], data[end:self._at])
+            return Step(form.name, numbers[:-1], data[end : self._at])
         if form.name == DUMP_OF_PLANE:
             # The fields of a plane's dump must be in range. All other fields take any bytes.
             plane, _, count = numbers
-            if plane > PLANE.most or not DUMPED.least <= count <= DUMPED.most or not is_in_plane(numbers):
+            if (
+                plane > PLANE.most
+                or not DUMPED.least <= count <= DUMPED.most
+                or not is_in_plane(numbers)
+            ):
                 raise ScriptFault("BadStep", begin)
         return Step(form.name, numbers)

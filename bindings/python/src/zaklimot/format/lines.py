@@ -1,4 +1,5 @@
-"""A text's lines as they come from a stream, good or bad, with their comments. Few of them are in memory at a time."""
+"""A text's lines as they come from a stream, good or bad, with their comments. Few of them are in
+memory at a time."""
 
 from __future__ import annotations
 
@@ -12,7 +13,8 @@ from typing import BinaryIO, Iterator, NamedTuple
 from .table import END, FIRST_LINE, MOST_STEPS, REPEAT
 
 _WORDS = re.compile(rb"[^ \t\r\n]+")
-# Bytes as numbers: Python finds a number in bytes several times as fast as it finds other bytes there.
+# Bytes as numbers: Python finds a number in bytes several times as fast as it finds other bytes
+# there.
 _COMMENT, _VERTICAL_TAB, _FORM_FEED = b";\v\f"
 # The beginnings of the lines of blocks. Few other lines begin so.
 _BLOCK_LETTERS, _BLOCK_BYTES = "rReE", b"rReE"
@@ -22,7 +24,8 @@ _MOST_KEPT = 4096
 
 
 class Line(NamedTuple):
-    """A line with a word: its number from 1, its words separated by one blank, and its comment's bytes."""
+    """A line with a word: its number from 1, its words separated by one blank, and its comment's
+    bytes."""
 
     number: int
     words: str
@@ -50,7 +53,9 @@ def lines_in(stream: BinaryIO, before: int = 0) -> Iterator[Line]:
         if _COMMENT in line:
             line, _, comment = line.partition(b";")
         # The call that splits fastest also takes other characters for blanks.
-        words = _WORDS.findall(line) if _VERTICAL_TAB in line or _FORM_FEED in line else line.split()
+        words = (
+            _WORDS.findall(line) if _VERTICAL_TAB in line or _FORM_FEED in line else line.split()
+        )
         if words:
             yield _made_line((number, b" ".join(words).decode("utf-8", "surrogateescape"), comment))
 
@@ -71,7 +76,8 @@ def steps_in(stream: BinaryIO) -> Iterator[Line]:
 
 
 def words_in(stream: BinaryIO) -> Iterator[str]:
-    """The words of the same steps, from a stream that `vga dis` printed, in which a line is only the words of a step."""
+    """The words of the same steps, from a stream that `vga dis` printed, in which a line is only
+    the words of a step."""
     stream.seek(0)
     if stream.readline().split() == FIRST_LINE.encode().split():
         return (line.words for line in steps_in(stream))
@@ -80,7 +86,8 @@ def words_in(stream: BinaryIO) -> Iterator[str]:
 
 
 def places_in(stream: BinaryIO) -> Iterator[tuple[int, bytes]]:
-    """Where the same steps stand in a text: the number of each line, and the bytes of its comment."""
+    """Where the same steps stand in a text: the number of each line, and the bytes of its
+    comment."""
     stream.seek(0)
     first = next(lines_in(stream), None)
     if first is not None and first.has_blocks:
@@ -113,7 +120,9 @@ def _unrolled(stream: BinaryIO, lines: Iterator[Line]) -> Iterator[Line]:
             for _ in range(rounds if length else 0):
                 if length > _MOST_KEPT:
                     stream.seek(place)
-                yield from block if length <= _MOST_KEPT else islice(lines_in(stream, number), length)
+                yield from block if length <= _MOST_KEPT else islice(
+                    lines_in(stream, number), length
+                )
             stream.seek(behind)
             count = 0
         else:

@@ -40,12 +40,16 @@ class Picture:
         """The picture of a PPM. Raises ValueError with the reason if it is not one."""
         header = HEADER.match(ppm)
         if header is None:
-            raise ValueError("the picture doesn't begin as a PPM of the kind P6, width, height and 63")
+            raise ValueError(
+                "the picture doesn't begin as a PPM of the kind P6, width, height and 63"
+            )
         width, height = int(header[1]), int(header[2])
         length = header.end() + 3 * width * height
         if len(ppm) != length:
-            raise ValueError(f"a picture of {width}x{height} dots has {length} bytes, and not {len(ppm)}")
-        if ppm[header.end():].translate(None, COMPONENTS):
+            raise ValueError(
+                f"a picture of {width}x{height} dots has {length} bytes, and not {len(ppm)}"
+            )
+        if ppm[header.end() :].translate(None, COMPONENTS):
             raise ValueError("a dot of the picture has a component above 63")
         return cls(ppm, width, height)
 
@@ -72,16 +76,16 @@ class Picture:
     def row(self, y: int) -> bytes:
         """The dots of a row, three bytes each."""
         start = len(self.ppm) - 3 * self.width * (self.height - y)
-        return self.ppm[start:start + 3 * self.width]
+        return self.ppm[start : start + 3 * self.width]
 
     def dot(self, x: int, y: int) -> str:
         """A dot's red, green and blue, as `3F0015`."""
-        return self.row(y)[3 * x:3 * x + 3].hex().upper()
+        return self.row(y)[3 * x : 3 * x + 3].hex().upper()
 
 
 def marks_in_row(row: bytes, other: bytes) -> list[bool]:
     """For each dot of a row, whether it differs from the dot of another row of the same width."""
-    return [row[at:at + 3] != other[at:at + 3] for at in range(0, len(row), 3)]
+    return [row[at : at + 3] != other[at : at + 3] for at in range(0, len(row), 3)]
 
 
 def different_dots(picture: Picture, other: Picture) -> Optional[DifferentDots]:

@@ -11,15 +11,19 @@ from typing import Callable, Iterator, NamedTuple, Optional, Union
 from .picture import Digest, Picture
 from .table import FAULT, OK, REFUSALS, refusal_of
 
-# More than the longest line of an answer, with a block of 65,535 bytes, and more than an adapter's largest picture.
+# More than the longest line of an answer, with a block of 65,535 bytes, and more than an adapter's
+# largest picture.
 MOST_LINE, MOST_PICTURE = 1 << 18, 1 << 26
 # How many lines are read between two reports of progress.
 _LINES_BETWEEN = 4096
 
 TEXT = re.compile(rb"[ -~]+\n")
 _PICTURE = re.compile(r"picture ([1-9][0-9]{0,11})")
-# A picture in a report that is kept as text: its length, its size, and its digest in place of its bytes.
-_SHOWN = re.compile(r"(picture ([1-9][0-9]{0,11})) ([1-9][0-9]{0,6}x[1-9][0-9]{0,6}) ([0-9a-f]{32})")
+# A picture in a report that is kept as text: its length, its size, and its digest in place of its
+# bytes.
+_SHOWN = re.compile(
+    r"(picture ([1-9][0-9]{0,11})) ([1-9][0-9]{0,6}x[1-9][0-9]{0,6}) ([0-9a-f]{32})"
+)
 READ = re.compile(r"[0-9A-F]{2}|[0-9A-F]{4}")
 REFUSED = re.compile(r"E([1-9][0-9]?) ([A-Z][A-Za-z]*)")
 # The refusals, with their numbers.
@@ -29,7 +33,10 @@ SKIPPED = "skipped"
 # The kinds of answers that could be mistaken for one another.
 VALUE, REFUSAL, RUN_FAULT = "read", "refused", "fault"
 # The answers of most steps. Looking them up makes long reports fast to read.
-_PLAIN = {b"%s\n" % answer.encode(): answer for answer in (OK, SKIPPED, *("%02X" % value for value in range(256)))}
+_PLAIN = {
+    b"%s\n" % answer.encode(): answer
+    for answer in (OK, SKIPPED, *("%02X" % value for value in range(256)))
+}
 _MOST_PLAIN = 1024
 # What may follow the lines of an answer.
 _DIGITS_OR_END = (b"", *(b"%d" % digit for digit in range(10)))
@@ -74,7 +81,11 @@ class Answer(NamedTuple):
     def is_refused(self) -> bool:
         """Whether it looks like a refusal, known or not."""
         answer = self.answer
-        return answer[:1] == "E" and self.number != 0 and (answer in _REFUSED or REFUSED.fullmatch(answer) is not None)
+        return (
+            answer[:1] == "E"
+            and self.number != 0
+            and (answer in _REFUSED or REFUSED.fullmatch(answer) is not None)
+        )
 
     @property
     def refusal(self) -> int:
@@ -94,14 +105,18 @@ _made_answer = partial(tuple.__new__, Answer)
 
 
 class Report:
-    """A report that is read from a stream. Lines are counted from 1; a picture and its line count as one.
+    """A report that is read from a stream. Lines are counted from 1; a picture and its line count
+    as one.
 
-    `heard` is called now and then during reading, with the line. `first` is the number of the first step: the report of
-    a slice of a script begins with a later step.
+    `heard` is called now and then during reading, with the line. `first` is the number of the first
+    step: the report of a slice of a script begins with a later step.
     """
 
     def __init__(
-        self, stream: io.BufferedReader, heard: Optional[Callable[[int], None]] = None, first: int = 1
+        self,
+        stream: io.BufferedReader,
+        heard: Optional[Callable[[int], None]] = None,
+        first: int = 1,
     ) -> None:
         self._stream = stream
         self._heard = heard
@@ -113,7 +128,8 @@ class Report:
         self.count = 0
 
     def answers(self) -> Iterator[Answer]:
-        """The answers in order. If the report is damaged, raises ReportError after the answers before that place."""
+        """The answers in order. If the report is damaged, raises ReportError after the answers
+        before that place."""
         read_line, plain_of = self._stream.readline, self._plain.get
         for number in count(self._first):
             # The same as `_next_line`, without the call.
@@ -144,7 +160,7 @@ class Report:
             return self._picture_answer(number, answer)
         if REFUSED.fullmatch(answer) or READ.fullmatch(answer):
             if len(self._plain) < _MOST_PLAIN:
-                self._plain[line[len(front) + 1:]] = answer
+                self._plain[line[len(front) + 1 :]] = answer
             return Answer(number, place, answer)
         return Answer(number, place, answer, tuple(self._other_lines()))
 
@@ -179,26 +195,35 @@ class Report:
         if not line.endswith(b"\n"):
             raise self._error("the report ends within a line")
         if line.endswith(b"\r\n"):
-            raise self._error("the line ends with a carriage return: a report is bytes, not a system's text")
+            raise self._error(
+                "the line ends with a carriage return: a report is bytes, not a system's text"
+            )
         if TEXT.fullmatch(line) is None:
             raise self._error("the line is empty, or has bytes that no answer has")
         return line[:-1].decode("ascii")
 
     def _other_lines(self) -> Iterator[str]:
-        """The lines before the next step's, which belong to a dump: none of them begins with a digit."""
+        """The lines before the next step's, which belong to a dump: none of them begins with a
+        digit."""
         while self._stream.peek(1)[:1] not in _DIGITS_OR_END:
             yield self._text_of(self._next_line())
 
     def _picture(self, number: int, length: int) -> Picture:
         """Reads the next picture, of the given length, and its newline."""
         if length > MOST_PICTURE:
-            raise self._error(f"step {number} has a picture of {length} bytes, and {MOST_PICTURE} are the most")
+            raise self._error(
+                f"step {number} has a picture of {length} bytes, and {MOST_PICTURE} are the most"
+            )
         ppm = self._stream.read(length)
         newline = self._stream.read(1)
         if len(ppm) < length:
-            raise self._error(f"the picture of step {number} is cut off: of {length} bytes there are {len(ppm)}")
+            raise self._error(
+                f"the picture of step {number} is cut off: of {length} bytes there are {len(ppm)}"
+            )
         if newline != b"\n":
-            raise self._error(f"no newline stands after the {length} bytes of the picture of step {number}")
+            raise self._error(
+                f"no newline stands after the {length} bytes of the picture of step {number}"
+            )
         if self._heard is not None:
             self._heard(self.line)
         try:

@@ -10,7 +10,8 @@ from .table import FORMS, HEADERS, Form
 
 
 class Step(NamedTuple):
-    """A step: its name, such as `out` or `show plane`; the numbers of its fields, in order; and the block of a call."""
+    """A step: its name, such as `out` or `show plane`; the numbers of its fields, in order; and the
+    block of a call."""
 
     name: str
     numbers: tuple[int, ...] = ()
@@ -44,7 +45,8 @@ Item = Union[Step, Block]
 
 @dataclass(frozen=True)
 class Script:
-    """A script: its steps and blocks, in order, and its version. A script with blocks is of version 2."""
+    """A script: its steps and blocks, in order, and its version. A script with blocks is of version
+    2."""
 
     items: tuple[Item, ...] = ()
     version: int = 1
@@ -52,7 +54,9 @@ class Script:
     @property
     def count(self) -> int:
         """How many steps it means. The steps of a block count in each of its rounds."""
-        return sum(item.count * len(item.steps) if isinstance(item, Block) else 1 for item in self.items)
+        return sum(
+            item.count * len(item.steps) if isinstance(item, Block) else 1 for item in self.items
+        )
 
     @property
     def size(self) -> int:
@@ -62,6 +66,8 @@ class Script:
     def steps(self) -> Iterator[Step]:
         """The steps that it means. Those of a block come in each of its rounds."""
         return chain.from_iterable(
-            chain.from_iterable(repeat(item.steps, item.count)) if isinstance(item, Block) else (item,)
+            chain.from_iterable(repeat(item.steps, item.count))
+            if isinstance(item, Block)
+            else (item,)
             for item in self.items
         )

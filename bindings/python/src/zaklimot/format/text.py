@@ -8,8 +8,20 @@ from typing import Iterable, Iterator, Sequence, Union
 
 from .script import Block, Item, Script, Step
 from .table import (
-    BLOCK, BLOCK_LINES, END, FIRST_LINE, FORMS, INT, MOST_BLOCK, MOST_BYTES, MOST_STEPS, PLANE_BYTES, REPEAT, SHOW,
-    Field, ScriptFault,
+    BLOCK,
+    BLOCK_LINES,
+    END,
+    FIRST_LINE,
+    FORMS,
+    INT,
+    MOST_BLOCK,
+    MOST_BYTES,
+    MOST_STEPS,
+    PLANE_BYTES,
+    REPEAT,
+    SHOW,
+    Field,
+    ScriptFault,
 )
 
 _WORDS = re.compile(rb"[^ \t\r]+")
@@ -28,7 +40,11 @@ def parse_text(text: Union[str, bytes]) -> Script:
         raise ScriptFault("TooLong")
     lines = list(_lines(data))
     has_blocks = bool(lines) and " ".join(lines[0][1]) == FIRST_LINE
-    items = _items_with_blocks(lines[1:]) if has_blocks else (_step(number, words) for number, words in lines)
+    items = (
+        _items_with_blocks(lines[1:])
+        if has_blocks
+        else (_step(number, words) for number, words in lines)
+    )
     script = Script(tuple(items), 2 if has_blocks else 1)
     if script.size > MOST_BYTES:
         raise ScriptFault("TooLong")
@@ -40,7 +56,9 @@ def _lines(data: bytes) -> Iterator[tuple[int, list[str]]]:
     for number, line in enumerate(data.split(b"\n"), 1):
         words = _WORDS.findall(line.partition(b";")[0])
         if words:
-            yield number, [word.decode("ascii").lower() if word.isascii() else _NO_LETTER for word in words]
+            yield number, [
+                word.decode("ascii").lower() if word.isascii() else _NO_LETTER for word in words
+            ]
 
 
 def _step(number: int, words: Sequence[str]) -> Step:
@@ -117,7 +135,7 @@ def _call(words: Sequence[str]) -> Step:
     names, last = list(values), -1
     for at, word in enumerate(words):
         if word == BLOCK:
-            block = _block(words[at + 1:])
+            block = _block(words[at + 1 :])
             break
         name, sign, value = word.partition("=")
         if name not in values or not sign or names.index(name) <= last:
@@ -135,11 +153,21 @@ def _block(words: Sequence[str]) -> bytes:
 
 
 def printed(step: Step, is_short: bool = False) -> str:
-    """A step as a line without its end, as `vga dis` prints it. With `is_short` registers of 0 are left out."""
+    """A step as a line without its end, as `vga dis` prints it. With `is_short` registers of 0 are
+    left out."""
     line = FORMS[step.name].template.format(*step.numbers)
     if is_short and step.name == INT:
         fields = zip(FORMS[INT].fields, step.numbers)
-        line = " ".join([INT, *(f"{field.name}={value:X}" for field, value in fields if value or field.name == "ax")])
+        line = " ".join(
+            [
+                INT,
+                *(
+                    f"{field.name}={value:X}"
+                    for field, value in fields
+                    if value or field.name == "ax"
+                ),
+            ]
+        )
     return f"{line} {BLOCK} {step.block.hex().upper()}" if step.block else line
 
 
