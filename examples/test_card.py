@@ -17,9 +17,9 @@ from pathlib import Path
 TOP = Path(__file__).resolve().parents[1]
 sys.path.insert(0, str(TOP / "tools"))
 
-from vga_report.png import Shape, write_png  # noqa: E402
-from vga_report.streams import writing  # noqa: E402
-from vga_report.trouble import Trouble  # noqa: E402
+from zaklimot_tools.images.png import Shape, write_png  # noqa: E402
+from zaklimot_tools.core.streams import writing  # noqa: E402
+from zaklimot_tools.core.trouble import Trouble  # noqa: E402
 from zaklimot.format import Picture  # noqa: E402
 
 Colour = tuple[int, int, int]

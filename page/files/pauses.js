@@ -1,5 +1,5 @@
 // The time between the steps of a trace (docs/TRACES.md), as dots of the clock that the steps
-// before have chosen. tools/vga_trace/converting.py does the same for `--time`;
+// before have chosen. tools/zaklimot_tools/trace/converting.py does the same for `--time`;
 // page/tests/traces.mjs holds both to the same text.
 import { frameSpeed } from "../module/state.js";
 
@@ -8,7 +8,7 @@ const SEQUENCER_INDEX = 0x3c4, CRTC_INDEXES = [0x3b4, 0x3d4], MISC_OUTPUT = 0x3c
 // bit protects the registers below 8.
 const SHAPE = [0, 6, 7], RETRACE_END = 17, PROTECTS = 0x80, PROTECTED_BELOW = 8;
 // What a mode set by interrupt 10 leaves: miscellaneous output, the dots of a frame, and whether the
-// clock is halved. tools/vga_report/registers.py has the same.
+// clock is halved. tools/zaklimot_tools/explain/registers.py has the same.
 const SET_MODE = { 0x03: [0x67, 404100], 0x07: [0x66, 404100], 0x0d: [0x63, 179600, true],
   0x10: [0xa3, 359200], 0x12: [0xe3, 420000], 0x13: [0x63, 359200] };
 const CLOCKING = 1, HALVED = 8;

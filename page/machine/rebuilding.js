@@ -1,6 +1,6 @@
 // A saved state at a frame's first dot as the steps that lead there from power-on, so that a script can
-// begin in the middle of a run. tools/vga_trace/state.py does the same of a trace's dumps; here the
-// BIOS' data come first, by services.
+// begin in the middle of a run. tools/zaklimot_tools/trace/state.py does the same of a trace's
+// dumps; here the BIOS' data come first, by services.
 import { Card } from "../module/adapter.js";
 import { State } from "../module/state.js";
 import { hex } from "../common/bytes.js";

@@ -1,4 +1,5 @@
-// Pictures as PNG, and pictures that move: the same forms as tools/vga_report/png.py writes.
+// Pictures as PNG, and pictures that move: the same forms as
+// tools/zaklimot_tools/images/png.py writes.
 import { Trouble } from "../common/trouble.js";
 import { joinedBytes, throughStream } from "../common/bytes.js";
 

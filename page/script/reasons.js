@@ -1,7 +1,7 @@
 // Why a line of a script is no step: the word at which it stops being one, and what could stand
 // there. Whether a line is a step, the module alone says. Here its answer is explained, by the
-// rules of tools/vga_report/mistakes.py and in the same words; page/tests/reasons.mjs compares the
-// two.
+// rules of tools/zaklimot_tools/explain/mistakes.py and in the same words; page/tests/reasons.mjs
+// compares the two.
 import { BLOCK, BLOCK_LINES, CALL_REGISTERS, MOST_STEPS, SHAPES, SHOWN, VERSION_TWO }
   from "./grammar.js";
 import { digitsNumber } from "./grammar.js";

@@ -1,4 +1,5 @@
-// Made of tools/vga_report/wordings.json by `tools/vga-page wordings page/script/wordings.js`.
+// Made of tools/zaklimot_tools/explain/wordings.json by
+// `tools/vga-page wordings page/script/wordings.js`.
 /** The words of bad lines, faults and refusals, and the registers by name, bit and field. */
 export const WORDINGS = {
   "lines": {

@@ -1,4 +1,4 @@
-// Expected answers are met in the page where tools/vga_report says that they are met.
+// Expected answers are met in the page where the tools say that they are met.
 import assert from "node:assert/strict";
 import test from "node:test";
 import { createHash } from "node:crypto";
@@ -30,8 +30,8 @@ test("each answer against each expectation, as Python judges", () => {
   const source = `
 import io, json, sys
 sys.path.insert(0, "tools")
-from vga_report.expecting import is_as_expected
-from vga_report.report import Report
+from zaklimot_tools.report.expecting import is_as_expected
+from zaklimot_tools.report.report import Report
 report, names, expected = json.load(sys.stdin)
 steps = list(Report(io.BufferedReader(io.BytesIO(report.encode("latin1"))), "report").steps())
 print(json.dumps([[is_as_expected(step, one, name) for one in expected] for step,

@@ -1,4 +1,4 @@
-// The page tells the same reasons of bad lines as tools/vga_report: those of a table that both
+// The page tells the same reasons of bad lines as the tools: those of a table that both
 // tests read, and those of lines at random, which Python is asked for.
 import assert from "node:assert/strict";
 import test from "node:test";
@@ -55,9 +55,9 @@ test("the module refuses each line of the table, and takes the good ones", async
 
 test("the grammar is that of the bindings for Python, which the tools go by", () => {
   const told = python(`
-import vga_report
+import zaklimot_tools
 from zaklimot.format import BLOCK_LINES, FORMS, MOST_STEPS, READING, REGISTERS, SHOWN
-from vga_report.mistakes import SHAPES
+from zaklimot_tools.explain.mistakes import SHAPES
 def numbers(table):
     return {name: [[n.name, n.digits, n.least, n.most] for n in shape] for name, shape in table.items()}
 shown = {name: form.fields for name, form in SHOWN.items()}
@@ -95,7 +95,7 @@ function randomLines(count) {
 test("lines at random have the reason that Python tells", () => {
   const lines = randomLines(20000);
   const told = python(`
-from vga_report.mistakes import mistake_in
+from zaklimot_tools.explain.mistakes import mistake_in
 found = [mistake_in(line) for line in json.load(sys.stdin)]
 print(json.dumps([None if mistake is None else [mistake.at, mistake.width,
   mistake.reason] for mistake in found]))`, lines);

@@ -14,7 +14,7 @@ function sessionOf(text) {
   return runWhole(new Session(adapter, FONTS, text));
 }
 
-// The refusals with their words, which the tests of tools/vga_report read too: so both tell the
+// The refusals with their words, which the tests of the tools read too: so both tell the
 // same.
 const REFUSED = JSON.parse(readFileSync(TOP + "tools/tests/refusals.json", "utf-8"));
 

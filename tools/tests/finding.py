@@ -6,8 +6,8 @@ from pathlib import Path
 
 sys.path.insert(0, str(Path(__file__).resolve().parents[1]))
 
-from vga_report import cli  # noqa: E402
-from vga_report.portable import portable_program  # noqa: E402
+from zaklimot_tools.core import cli  # noqa: E402
+from zaklimot_tools.script.portable import portable_program  # noqa: E402
 
 
 def _find() -> int:

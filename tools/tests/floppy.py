@@ -5,8 +5,9 @@ from __future__ import annotations
 
 from typing import Iterator, Optional
 
-from vga_floppy.image import image_for
-from vga_floppy.table import (
+from zaklimot_tools.explain.faults import script_of
+from zaklimot_tools.floppy.image import image_for
+from zaklimot_tools.floppy.table import (
     BEHIND,
     END,
     END_OF_RESET,
@@ -19,7 +20,7 @@ from vga_floppy.table import (
     REPEAT,
     SCRIPT,
 )
-from vga_report.faults import script_of
+
 
 SECTOR, TABLE, MARK, ANSWERS = 512, 5 * 512, 1023 * 512, 1024 * 512
 

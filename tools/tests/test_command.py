@@ -28,6 +28,7 @@ from .tools import (
     run_tool,
 )
 
+
 PROGRAM = TOOLS / "vga-report"
 ADAPTER = shlex.join([sys.executable, str(TOOLS / "tests" / "adapter.py")]) + " {script}"
 PICTURE = ppm(9, 1, RED * 4 + BLACK * 5)

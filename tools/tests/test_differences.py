@@ -4,11 +4,12 @@ import hashlib
 import unittest
 from typing import Iterable, Optional
 
-from vga_report.expecting import differing
-from vga_report.report import Comparison, Expected, Report
 from zaklimot.format import Answer, Picture
+from zaklimot_tools.report.expecting import differing
+from zaklimot_tools.report.report import Comparison, Expected, Report
 
 from .tools import BLACK, RED, WHITE, hold, ppm, refused, report, stream
+
 
 DUMP = "misc 00\nseq 00: 00"
 PICTURE = ppm(3, 2, RED * 2 + BLACK * 4)

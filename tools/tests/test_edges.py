@@ -14,7 +14,7 @@ from itertools import product
 from pathlib import Path
 from typing import Callable, Optional
 
-from vga_report.program import FONTS
+from zaklimot_tools.script.program import FONTS
 
 from .tools import (
     BUILT_PROGRAM,

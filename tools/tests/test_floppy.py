@@ -18,22 +18,22 @@ from pathlib import Path
 from typing import Callable
 from unittest import mock
 
-from vga_floppy import image as images, running
-from vga_floppy.command import main
-from vga_floppy.image import CODE, Run, image_for, read_image, read_record, report_lines
-from vga_floppy.running import DOSBOX, MACHINES
-from vga_floppy.table import reset_steps, table_for
-from vga_floppy.table_page import FIRST_MARK, LAST_MARK
-from vga_report.cases import read_cases
-from vga_report.processes import started
-from vga_report.faults import script_of
-from vga_report.words import SUITE
-from vga_trace.state import Bank, State
-from vga_trace.step import GET, IN, OUT, PUT, Step
 from zaklimot.format import Script
+from zaklimot_tools.core.processes import started
+from zaklimot_tools.dev.emulators.command import main as emulators
+from zaklimot_tools.dev.emulators.table_page import FIRST_MARK, LAST_MARK
+from zaklimot_tools.explain.faults import script_of
+from zaklimot_tools.floppy import image as images, running
+from zaklimot_tools.floppy.image import CODE, Run, image_for, read_image, read_record, report_lines
+from zaklimot_tools.floppy.running import DOSBOX, MACHINES
+from zaklimot_tools.floppy.table import reset_steps, table_for
+from zaklimot_tools.report.cases import SUITE, read_cases
+from zaklimot_tools.trace.state import Bank, State
+from zaklimot_tools.trace.step import GET, IN, OUT, PUT, Step
 
 from .floppy import ANSWERS, MARK, Machine, cycles, line, machine
 from .tools import TOOLS, TOP, Folder, begin, call, ended, hold, hold_undone, refused, run_tool
+
 
 run = partial(run_tool, "vga-floppy")
 SCRIPT = b"""version 2
@@ -538,7 +538,7 @@ class Pages(Folder):
 
     def write_page(self, results: str) -> tuple[int, str, str]:
         page = Path(self.write("page.md", f"Before.\n{FIRST_MARK}\nold\n{LAST_MARK}\nAfter.\n"))
-        status, _, said = call(main, "table", page, results)
+        status, _, said = call(emulators, "table", page, results)
         return status, page.read_text(), said
 
     def test_tables_between_the_marks(self) -> None:
@@ -604,13 +604,17 @@ class Pages(Folder):
             status, page, said = self.write_page(path)
             self.assertEqual(
                 (status, said),
-                (2, f"vga-floppy: {path}: it isn't what `vga-report suite --json` prints\n"),
+                (2, f"vga-emulators: {path}: it isn't what `vga-report suite --json` prints\n"),
             )
             self.assertIn("\nold\n", page)
         path = self.write("other", '{"command": "my-harness {script}", "rules": []}')
         self.assertEqual(
             self.write_page(path)[2],
-            f"vga-floppy: {path}: its command is no `vga-floppy run --on` of an emulator\n",
+            f"vga-emulators: {path}: its command is no `vga-floppy run --on` of an emulator\n",
         )
         page = self.write("unmarked.md", "Text.\n")
-        hold_undone(self, run("table", page, path), f"^vga-floppy: {page}: it lacks the marks: ")
+        hold_undone(
+            self,
+            call(emulators, "table", page, path),
+            f"^vga-emulators: {page}: it lacks the marks: ",
+        )

@@ -6,9 +6,6 @@ import re
 import unittest
 from unittest import mock
 
-from vga_report.cases import read_cases
-from vga_report.program import TOP
-from vga_report.words import SUITE
 from zaklimot import format
 from zaklimot.format import (
     BLOCK_LINES,
@@ -36,8 +33,11 @@ from zaklimot.format import (
     read,
 )
 from zaklimot.format.table import CODES
+from zaklimot_tools.report.cases import SUITE, read_cases
+from zaklimot_tools.script.program import TOP
 
 from .tools import hold, stream
+
 
 DOCS, CRATES = TOP / "docs", TOP / "crates"
 

@@ -9,9 +9,6 @@ from pathlib import Path
 from random import Random
 from unittest import mock
 
-from vga_fuzz import command
-from vga_fuzz.feeding import Limits, Outcome, Program, Wrong, check, meant_by
-from vga_fuzz.making import Input, block, make, spelled, step
 from zaklimot.format import (
     FORMS,
     HEADERS,
@@ -26,6 +23,9 @@ from zaklimot.format import (
     parse_text,
     print_text,
 )
+from zaklimot_tools.dev.fuzz import command
+from zaklimot_tools.dev.fuzz.feeding import Limits, Outcome, Program, Wrong, check, meant_by
+from zaklimot_tools.dev.fuzz.making import Input, block, make, spelled, step
 
 from .tools import Folder, begin, call, hold, hold_undone
 

@@ -12,13 +12,14 @@ import unittest
 import zlib
 from typing import Optional
 
-from vga_report.images import image_of
-from vga_report.png import MARK, Shape, chunk, write_png
-from vga_report.registers import USUAL, Registers
 from zaklimot.format import Picture, parse_text
+from zaklimot_tools.explain.registers import USUAL, Registers
+from zaklimot_tools.images.png import MARK, Shape, chunk, write_png
+from zaklimot_tools.images.reading import image_of
 
 from .test_command import PICTURE, run
 from .tools import BLACK, RED, TOP, WHITE, Folder, ended, hold, png_chunks, png_rows, ppm
+
 
 GREY = b"\x15\x15\x15"
 PREVIEW = TOP / "fonts" / "preview.py"

@@ -15,9 +15,9 @@ from functools import partial
 from pathlib import Path
 from unittest import mock
 
-from vga_report.debugging import PAGE
-from vga_trace import inpage
-from vga_trace.recording import Deed
+from zaklimot_tools.report.debugging import PAGE
+from zaklimot_tools.trace import inpage
+from zaklimot_tools.trace.recording import Deed
 
 from .tools import (
     PROGRAM as TESTED,
@@ -29,6 +29,7 @@ from .tools import (
     run_tool,
     want_program,
 )
+
 
 run = partial(run_tool, "vga-trace")
 HAS_NODE = shutil.which("node") is not None

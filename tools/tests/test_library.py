@@ -20,10 +20,20 @@ from pathlib import Path
 from typing import Any, Iterator
 from unittest import mock
 
-from library_tests import bindings, checks, compilers, portable
-from library_tests.compilers import run
-from vga_library import command, making
-from vga_library.making import (
+from zaklimot_tools import TOP
+from zaklimot_tools.core.processes import PACKAGES, Done
+from zaklimot_tools.core.progress import Progress
+from zaklimot_tools.core.trouble import Trouble, Wrong
+from zaklimot_tools.core.version import (
+    HEADER,
+    Version,
+    calls_of,
+    version,
+    version_of,
+    without_comments,
+)
+from zaklimot_tools.dev.library import command, making
+from zaklimot_tools.dev.library.making import (
     AARCH64,
     HEAP,
     HEAP_OPTIONS,
@@ -33,18 +43,26 @@ from vga_library.making import (
     Place,
     described,
 )
-from vga_release import command as release
-from vga_release.command import FRONT, INSTALL, LINKS, MADE_OF, PATHS, Commit, Entry, File, settled
-from vga_report import TOP, crates
-from vga_report.cases import read_cases
-from vga_report.processes import PACKAGES, Done
-from vga_report.progress import Progress
-from vga_report.trouble import Trouble, Wrong
-from vga_report.version import HEADER, Version, calls_of, version, version_of, without_comments
-from vga_report.words import SUITE
+from zaklimot_tools.dev.library_tests import bindings, checks, compilers, portable
+from zaklimot_tools.dev.library_tests.compilers import run
+from zaklimot_tools.dev.release import command as release
+from zaklimot_tools.dev.release.command import (
+    FRONT,
+    INSTALL,
+    LINKS,
+    MADE_OF,
+    PATHS,
+    Commit,
+    Entry,
+    File,
+    settled,
+)
+from zaklimot_tools.report.cases import SUITE, read_cases
+from zaklimot_tools.script import crates
 
 from .test_pages import broken
 from .tools import Folder, call, ended, hold, hold_undone, refused
+
 
 TEXT = HEADER.read_text("ascii")
 PAGE, RELEASES = TOP / "docs" / "LIBRARY.md", TOP / "docs" / "RELEASES.md"
@@ -415,7 +433,7 @@ class Parts(Folder):
                 (FRONT, b"[a](docs/A.md) [b](README.md#d)", b"[a](A.md) [b](README.md#d)"),
                 (
                     front,
-                    b"[a](../../docs/A.md) [c](#e) [f](https://g.h/)",
+                    b"[a](../../../../docs/A.md) [c](#e) [f](https://g.h/)",
                     b"[a](docs/A.md) [c](#e) [f](https://g.h/)",
                 ),
                 # What stands between fences stays.
@@ -429,7 +447,7 @@ class Parts(Folder):
 
     def test_what_is_changed_is_no_release(self) -> None:
         with mock.patch(
-            "vga_report.processes.captured", return_value=Done(0, b" M README.md\n", b"")
+            "zaklimot_tools.core.processes.captured", return_value=Done(0, b" M README.md\n", b"")
         ):
             told = (
                 "^vga-release: a release is made from a commit, and this is changed: M README.md\n$"
@@ -559,7 +577,7 @@ class Installing(Folder):
         ):
             self.write(f"a release/{place}", text)
         (self.release / "lib/z.so").symlink_to("z.so.1")
-        shutil.copy(TOP / "tools" / "vga_release" / INSTALL, self.release / INSTALL)
+        shutil.copy(Path(release.__file__).parent / INSTALL, self.release / INSTALL)
 
     def install(self, *words: str) -> tuple[int, str, str]:
         return ended("sh", self.release / INSTALL, *words, cwd=self.folder)
@@ -631,7 +649,7 @@ class OtherProcessors(Folder):
 
     def test_what_is_run_and_what_is_laid(self) -> None:
         progress = mock.create_autospec(Progress, instance=True)
-        with mock.patch("vga_report.cli.Progress", return_value=progress):
+        with mock.patch("zaklimot_tools.core.cli.Progress", return_value=progress):
             status, told, said = self.make("kit-for-arm")
         self.assertIn(
             " proving and building the library: vga_bits, crate 1 of ",

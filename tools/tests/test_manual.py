@@ -7,10 +7,11 @@ import shutil
 import unittest
 from pathlib import Path
 
-from vga_report.version import version
+from zaklimot_tools.core.version import version
 
 from .test_edges import HELP
 from .tools import TOP, Folder, ended, hold
+
 
 PAGE, BASH, ZSH, FISH = (
     TOP / "share" / place

@@ -5,7 +5,7 @@ import io
 import unittest
 from itertools import chain, repeat
 
-from vga_memory.command import (
+from zaklimot_tools.dev.memory.command import (
     CALLS,
     CRATES,
     ENDING,
@@ -25,6 +25,7 @@ from vga_memory.command import (
 )
 
 from .tools import hold, hold_refused
+
 
 JOB = Job((), 0, Answer(0, b"1 ok\n2 ok\n", ""))
 

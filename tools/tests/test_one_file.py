@@ -4,14 +4,15 @@ import re
 import unittest
 from unittest import mock
 
-from library_tests import one_file as checks
-from vga_library import one_file as portable
-from vga_library.one_file import C_FILE, HAND, Places, one_file
-from vga_report import TOP
-from vga_report.trouble import Trouble, Wrong
-from vga_report.version import HEADER, calls_of
+from zaklimot_tools import TOP
+from zaklimot_tools.core.trouble import Trouble, Wrong
+from zaklimot_tools.core.version import HEADER, calls_of
+from zaklimot_tools.dev.library import one_file as portable
+from zaklimot_tools.dev.library.one_file import C_FILE, HAND, Places, one_file
+from zaklimot_tools.dev.library_tests import one_file as checks
 
 from .tools import hold_refused
+
 
 INSTANCE = portable.INSTANCE
 # What wasm2c writes of a module with one function that grows memory, one that traps, and two calls.

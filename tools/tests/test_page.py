@@ -16,10 +16,19 @@ from typing import Any, Mapping, Optional
 from unittest import mock
 from urllib.parse import unquote
 
-from page_tests import command as tests_command
-from vga_page import command, editor, machine, making, page, sections
-from vga_page.making import LAYOUTS, OF_C, OF_PAGE, TRIPLES, check_module, retargeted, with_kit
-from vga_page.page import (
+from zaklimot_tools.core.trouble import Trouble, Wrong
+from zaklimot_tools.core.version import HEADER, calls_of
+from zaklimot_tools.dev.page import command, editor, machine, making, page, sections
+from zaklimot_tools.dev.page.making import (
+    LAYOUTS,
+    OF_C,
+    OF_PAGE,
+    TRIPLES,
+    check_module,
+    retargeted,
+    with_kit,
+)
+from zaklimot_tools.dev.page.page import (
     DATA,
     MADE,
     SCRIPT,
@@ -32,14 +41,14 @@ from vga_page.page import (
     packed,
     page_text,
 )
-from vga_report import debugging
-from vga_report.debugging import DOCS, PAGE, data_element, page_data
-from vga_report.trouble import Trouble, Wrong
-from vga_report.version import HEADER, calls_of
+from zaklimot_tools.dev.page_tests import command as tests_command
+from zaklimot_tools.report import debugging
+from zaklimot_tools.report.debugging import DOCS, PAGE, data_element, page_data
 
 from .test_command import PICTURE, run
 from .test_run import Fake
 from .tools import BLACK, RED, Folder, call, hold, hold_refused, hold_undone, png_rows, ppm, refused
+
 
 FRAME = f"<!DOCTYPE html>\n{MADE}\n{STYLE}\n{DATA}\n{SCRIPT}\n"
 needs_esbuild = unittest.skipIf(shutil.which(page.ESBUILD) is None, "esbuild is lacking")

@@ -13,13 +13,12 @@ from pathlib import Path
 from typing import Iterator
 from unittest import mock
 
-from page_tests import command
-from vga_page.page import examples
-from vga_report.cases import read_cases
-from vga_report.program import FONTS
-from vga_report.trouble import Wrong
-from vga_report.words import SUITE
 from zaklimot import Script, format
+from zaklimot_tools.core.trouble import Wrong
+from zaklimot_tools.dev.page.page import examples
+from zaklimot_tools.dev.page_tests import command
+from zaklimot_tools.report.cases import SUITE, read_cases
+from zaklimot_tools.script.program import FONTS
 
 from .tools import (
     EXAMPLES,
@@ -42,6 +41,7 @@ FENCE = re.compile(r"^ *(```|~~~)")
 OUTSIDE = ("http:", "https:", "mailto:")
 # How a command of the repository begins. In prose its path stands between back quotes.
 COMMAND = re.compile(r"(?:\$ )?(?:tools|crates|bench|examples|page|\.ci)/\S+( |$)")
+PACKAGE = TOOLS / "zaklimot_tools"
 TUTORIAL = TOP / "docs" / "TUTORIAL.md"
 TEXT = TUTORIAL.read_text("utf-8")
 SCRIPTS = EXAMPLES / "tutorial"
@@ -512,23 +512,26 @@ class Modules(unittest.TestCase):
     there."""
 
     NAMED = re.compile(
-        r"from ((?:vga|page|library|bindings|emulator)_\w+)\.(\w+) import"
-        r"|tools/(\w+/\w+\.(?:py|css|js|c))\b"
+        r"from (zaklimot_tools[\w.]*)\.(\w+) import"
+        r"|tools/((?:\w+/)+\w+\.(?:py|css|js|mjs|c|json))\b"
     )
 
     def test_tables_have_them_all(self) -> None:
-        form = r"(?m)^\| Module of `(\w+)` \|.*\n\|---\|---\|\n((?:\|.*\n)+)"
+        form = r"(?m)^\| Module of `([\w.]+)` \|.*\n\|---\|---\|\n((?:\|.*\n)+)"
         tables = dict(re.findall(form, (TOOLS / "README.md").read_text("utf-8")))
+        folders = {path.parent for path in PACKAGE.glob("*/**/__init__.py")}
         self.assertEqual(
-            set(tables), {path.parent.name for path in TOOLS.glob("[!t]*/__init__.py")}
+            set(tables) - {"zaklimot.format"},
+            {".".join(folder.relative_to(PACKAGE).parts) for folder in folders},
         )
+        del tables["zaklimot.format"]
         for name, rows in tables.items():
             named = re.findall(
                 r"`(\w+)`", "".join(row.split(" | ")[0] for row in rows.splitlines())
             )
             there = [
                 path.stem
-                for path in (TOOLS / name).glob("[!_]*")
+                for path in PACKAGE.joinpath(*name.split(".")).glob("[!_]*")
                 if path.is_file() and path.suffix in (".py", "")
             ]
             self.assertEqual(sorted(named), sorted(there), name)
@@ -539,7 +542,8 @@ class Modules(unittest.TestCase):
         files = [path for end in ends for path in TOP.glob(f"[!.ct]*/**/*.{end}")]
         for path in files:
             for package, module, file in self.NAMED.findall(path.read_text("utf-8", "replace")):
-                with self.subTest(path.relative_to(TOP), module=module or file):
-                    self.assertTrue((TOP / "tools" / (file or f"{package}/{module}.py")).is_file())
+                named = file or f"{package.replace('.', '/')}/{module}.py"
+                with self.subTest(path.relative_to(TOP), module=named):
+                    self.assertTrue((TOP / "tools" / named).is_file())
                     seen += 1
         self.assertGreater(seen, 20)

@@ -14,8 +14,10 @@ from itertools import chain, product
 from pathlib import Path
 from typing import Iterator, NamedTuple, Sequence
 
-from vga_picture.cells import FONTS_AT, Chooser, Chosen
-from vga_picture.colours import (
+from zaklimot.format import Picture, encode, parse_text
+from zaklimot_tools.images.png import write_png
+from zaklimot_tools.picture.cells import FONTS_AT, Chooser, Chosen
+from zaklimot_tools.picture.colours import (
     Colour,
     Fewer,
     Nearest,
@@ -24,15 +26,14 @@ from vga_picture.colours import (
     middle_colours,
     outer_colours,
 )
-from vga_picture.command import main
-from vga_picture.mode import MODES
-from vga_picture.screen import MASKS, least_writes
-from vga_report.png import write_png
-from vga_report.program import FONTS
-from zaklimot.format import Picture, encode, parse_text
+from zaklimot_tools.picture.command import main
+from zaklimot_tools.picture.mode import MODES
+from zaklimot_tools.picture.screen import MASKS, least_writes
+from zaklimot_tools.script.program import FONTS
 
-from .tools import EXAMPLES, Folder, call, ended, hold, png_rows, ppm, refused, run_texts
 from .test_images import png
+from .tools import EXAMPLES, Folder, call, ended, hold, png_rows, ppm, refused, run_texts
+
 
 sys.path.insert(0, str(EXAMPLES))
 

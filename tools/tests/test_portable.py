@@ -14,15 +14,17 @@ import unittest
 from pathlib import Path
 from unittest import mock
 
-from vga_report import portable, program
-from vga_report.portable import portable_program
-from vga_report.program import found_program
-from vga_report.trouble import Trouble
 from zaklimot.format import FORMS
 from zaklimot.format.table import END_CODE, REPEAT_CODE
+from zaklimot_tools.core.trouble import Trouble
+from zaklimot_tools.dev.testing.discovering import BUILT
+from zaklimot_tools.script import portable, program
+from zaklimot_tools.script.portable import portable_program
+from zaklimot_tools.script.program import found_program
 
 from . import commands
-from .tools import BUILT, BUILT_PROGRAM, SIGNALS, TOP, Folder, begin, hold_refused, refused
+from .tools import BUILT_PROGRAM, SIGNALS, TOP, Folder, begin, hold_refused, refused
+
 
 SOURCE = (TOP / "portable" / "vga.c").read_text("ascii")
 # What stands in the place of a compiler: it notes its words, does this, and makes a program that

@@ -18,19 +18,20 @@ from types import SimpleNamespace as Namespace
 from typing import Sequence
 from unittest import mock
 
-from emulator_tests.traces import row as row_of
-from vga_report.images import image_of
-from vga_trace import recording
-from vga_trace.converting import Checked, Clocked, Written
-from vga_trace.recording import PHASES, Deed, Machine, Session
-from vga_trace.replaying import ALLOWED, PAGE, SEEN, Replay, Screen, whole_rows
-from vga_trace.state import State
-from vga_trace.step import ADVANCE, FRAME, IN, PUT, Step
-from vga_trace.trace import SCREEN
 from zaklimot.format import Picture
+from zaklimot_tools.dev.emulators.traces import row as row_of
+from zaklimot_tools.images.reading import image_of
+from zaklimot_tools.trace import recording
+from zaklimot_tools.trace.converting import Checked, Clocked, Written
+from zaklimot_tools.trace.recording import PHASES, Deed, Machine, Session
+from zaklimot_tools.trace.replaying import ALLOWED, PAGE, SEEN, Replay, Screen, whole_rows
+from zaklimot_tools.trace.state import State
+from zaklimot_tools.trace.step import ADVANCE, FRAME, IN, PUT, Step
+from zaklimot_tools.trace.trace import SCREEN
 
 from .test_trace import BEGIN, listed, qemu, registers
 from .tools import BLACK, RED, TOP, WHITE, Folder, ended, hold, hold_undone, png_rows, ppm, run_tool
+
 
 run = partial(run_tool, "vga-trace")
 PICTURE = ppm(3, 2, RED * 3 + WHITE * 3)
@@ -85,7 +86,7 @@ with connection, connection.makefile("rw") as monitor:
 """
 # A line that the filter of the log keeps, and one of another device.
 LINES = qemu("write 3c2 67 1") + qemu("write 70 f 1", "rtc")
-PROGRAM = Path(__file__).resolve().parents[1] / "emulator_tests" / "traces.py"
+PROGRAM = TOP / "tools" / "vga-emulators"
 
 
 class Recorded(Folder):
@@ -554,8 +555,10 @@ class Traces(unittest.TestCase):
             self.assertEqual(row_of("name", replayed, 0, 8), (f"{front} {picture} |", dots == 8))
 
     def test_the_command_tells_its_software(self) -> None:
-        status, told, _ = ended(sys.executable, PROGRAM, "--help")
+        status, told, _ = ended(sys.executable, PROGRAM, "record", "--help")
         self.assertEqual((status, "grub-planar" in told), (0, True))
         hold_undone(
-            self, ended(sys.executable, PROGRAM, "folder", "none"), "there is no software none"
+            self,
+            ended(sys.executable, PROGRAM, "record", "folder", "none"),
+            "there is no software none",
         )

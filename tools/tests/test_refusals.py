@@ -7,14 +7,15 @@ import unittest
 from pathlib import Path
 from typing import Sequence
 
-from vga_report import TOP
-from vga_report.faults import explained
-from vga_report.mistakes import mistake_in
-from vga_report.registers import MODES, OF_CALLS, Registers, why_refused
-from vga_report.wordings import WORDINGS
 from zaklimot.format import REFUSALS, Answer
+from zaklimot_tools import TOP
+from zaklimot_tools.explain.faults import explained
+from zaklimot_tools.explain.mistakes import mistake_in
+from zaklimot_tools.explain.registers import MODES, OF_CALLS, Registers, why_refused
+from zaklimot_tools.explain.wordings import WORDINGS
 
 from .tools import Folder, hold, run_texts
+
 
 HERE = Path(__file__).parent
 # Scripts whose last step is refused, the answer, and why; the page's tests read them too.

@@ -9,11 +9,12 @@ import unittest
 from functools import partial
 from pathlib import Path
 
-from vga_floppy.table_page import FIRST_MARK, LAST_MARK
+from zaklimot_tools.dev.emulators.table_page import FIRST_MARK, LAST_MARK
 
 from .floppy import machine
 from .test_images import png
 from .tools import BLACK, TOP, Folder, ppm, report, run_tool
+
 
 PICTURE, OTHER = ppm(9, 1, BLACK * 9), ppm(9, 1, b"\x3f\0\0" * 9)
 # A floppy's image with what a run has left.
@@ -78,10 +79,10 @@ REFUSED = {
     "report suite true{{script}} --list {endless}": (
         "endless.vga: it has more than 16,777,216 bytes"
     ),
-    "floppy table /dev/full {r}": "/dev/full: it has more than 16,777,216 bytes",
-    "floppy table {s} /dev/zero": "it lacks the marks",
+    "emulators table /dev/full {r}": "/dev/full: it has more than 16,777,216 bytes",
+    "emulators table {s} /dev/zero": "it lacks the marks",
     "page make {o} --module /dev/zero": "/dev/zero: it has more than 16,777,216 bytes",
-    "floppy table {marks} /dev/zero": "/dev/zero: it has more than 16,777,216 bytes",
+    "emulators table {marks} /dev/zero": "/dev/zero: it has more than 16,777,216 bytes",
     "report suite true{{script}} --machine --list {list}": (
         "zero.txt:1: the line is longer than any answer"
     ),

@@ -20,13 +20,13 @@ from pathlib import Path
 from unittest import mock
 from xml.etree import ElementTree
 
-from vga_report import program
-from vga_report.expecting import dumps_in, expected_in
-from vga_report.listing import Blessing, Row, chosen
-from vga_report.mistakes import text_of
-from vga_report.progress import Progress
-from vga_report.words import parser
 from zaklimot.format import Answer, count_in, lines_in, places_in, steps_in, words_in
+from zaklimot_tools.core.progress import Progress
+from zaklimot_tools.report.expecting import dumps_in, expected_in
+from zaklimot_tools.report.listing import Blessing, Row, chosen
+from zaklimot_tools.report.words import parser
+from zaklimot_tools.script import program
+from zaklimot_tools.script.reading import text_of
 
 from .test_command import run
 from .tools import (
@@ -596,7 +596,7 @@ class Calls(Fake):
         return sum(entry.callcount for entry in profile.getstats())
 
     def test_of_a_step(self) -> None:
-        with mock.patch("vga_report.listing._wait_for") as waited:
+        with mock.patch("zaklimot_tools.report.listing._wait_for") as waited:
             self.calls("get 0\n")
         waited.assert_called_once()
         for line in ("out 3c4 2\n", "put b8000 55\n", "get 0 ; a comment\n", "in 3da\n"):

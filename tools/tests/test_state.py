@@ -7,9 +7,9 @@ from itertools import product
 from random import Random
 from typing import Iterable, Iterator
 
-from vga_report.report import Report
-from vga_trace.state import State, rebuilt
-from vga_trace.step import ADVANCE, FRAME, OUT, OUTW, PUTW, READS, WORDS, Step
+from zaklimot_tools.report.report import Report
+from zaklimot_tools.trace.state import State, rebuilt
+from zaklimot_tools.trace.step import ADVANCE, FRAME, OUT, OUTW, PUTW, READS, WORDS, Step
 
 from .test_trace import steps_listed
 from .tools import refused, run_texts, stream

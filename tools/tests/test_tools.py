@@ -17,21 +17,29 @@ from pathlib import Path
 from threading import Event
 from unittest import mock
 
-from vga_library.making import AARCH64
-from vga_report import cli
-from vga_report.crates import phases
-from vga_report.listing import _wait_for
-from vga_report.processes import MEBIBYTE, Failed, Limits, Outcome, run, run_command, started
-from vga_report.progress import DELAY, Progress
-from vga_report.streams import write_file, writing
-from vga_report.trouble import TROUBLE, Trouble
-from vga_report.version import version
+from zaklimot_tools.core import cli
+from zaklimot_tools.core.processes import (
+    MEBIBYTE,
+    Failed,
+    Limits,
+    Outcome,
+    run,
+    run_command,
+    started,
+)
+from zaklimot_tools.core.progress import DELAY, Progress
+from zaklimot_tools.core.streams import write_file, writing
+from zaklimot_tools.core.trouble import TROUBLE, Trouble
+from zaklimot_tools.core.version import version
+from zaklimot_tools.dev.library.making import AARCH64
+from zaklimot_tools.dev.testing import checking, discovering
+from zaklimot_tools.dev.testing.discovering import TESTED
+from zaklimot_tools.report.listing import _wait_for
+from zaklimot_tools.script.crates import phases
 
-from . import checking, discovering
 from .tools import (
     PYTHON,
     SIGNALS,
-    TESTED,
     TOOLS,
     TOP,
     Folder,
@@ -45,12 +53,13 @@ from .tools import (
     run_tool,
 )
 
+
 NOTING = Path(__file__).with_name("noting.sh").read_text("ascii")
 # Starts a program, and has a signal come amid its start; its status tells that the signal came.
 INTERRUPTED = """
 import os, signal, sys
 sys.path.insert(0, {tools!r})
-from vga_report.processes import started
+from zaklimot_tools.core.processes import started
 # A run in the background of a shell has the signal ignored.
 signal.signal(signal.SIGINT, signal.default_int_handler)
 os.register_at_fork(after_in_parent=lambda: os.kill(os.getpid(), signal.SIGINT))
@@ -90,7 +99,7 @@ time.sleep(600)
 # too.
 TESTS = """
 import os, subprocess, tempfile, unittest
-from vga_report.processes import started
+from zaklimot_tools.core.processes import started
 class Sleeping(unittest.TestCase):
     def test_one(self):
         tempfile.mkstemp()
@@ -208,7 +217,7 @@ class Programs(unittest.TestCase):
         )
         found = {
             path.name
-            for path in TOOLS.glob("*/*.py")
+            for path in TOOLS.rglob("*.py")
             if path.parent.name != "tests" and starting.search(path.read_text("utf-8"))
         }
         self.assertEqual(found, {"processes.py"})
@@ -224,7 +233,7 @@ class Programs(unittest.TestCase):
 
     def test_unions_of_types_are_not_evaluated(self) -> None:
         # Python 3.9, which the tools are content with, has no `|` between types.
-        for path in TOOLS.glob("vga_*/*.py"):
+        for path in TOOLS.glob("zaklimot_tools/**/*.py"):
             nodes = list(ast.walk(ast.parse(path.read_text("utf-8"))))
             told = [node.annotation for node in nodes if isinstance(node, (ast.arg, ast.AnnAssign))]
             told += [node.returns for node in nodes if isinstance(node, ast.FunctionDef)]
@@ -435,7 +444,7 @@ class Lines(Folder):
         told: list[str] = []
         progress = mock.create_autospec(Progress)
         progress.tell.side_effect = told.append
-        with mock.patch("vga_report.crates.below", return_value=["low"]):
+        with mock.patch("zaklimot_tools.script.crates.below", return_value=["low"]):
             hear = phases(progress, "high")("proving")
         for line in (
             "",

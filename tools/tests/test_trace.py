@@ -14,12 +14,23 @@ from itertools import product
 from typing import Iterable
 from unittest import mock
 
-from vga_report.trouble import Trouble
-from vga_trace import converting
-from vga_trace.command import main
-from vga_trace.converting import Listing, Pauses, Written, count, folded, with_flips
-from vga_trace.step import ADVANCE, FRAME, IN, NAMES, OUT, OUTW, PUT, Step, steps_of, without_polls
-from vga_trace.trace import MEMORY, PORT, SCREEN, VBE, Cycle, Trace
+from zaklimot_tools.core.trouble import Trouble
+from zaklimot_tools.trace import converting
+from zaklimot_tools.trace.command import main
+from zaklimot_tools.trace.converting import Listing, Pauses, Written, count, folded, with_flips
+from zaklimot_tools.trace.step import (
+    ADVANCE,
+    FRAME,
+    IN,
+    NAMES,
+    OUT,
+    OUTW,
+    PUT,
+    Step,
+    steps_of,
+    without_polls,
+)
+from zaklimot_tools.trace.trace import MEMORY, PORT, SCREEN, VBE, Cycle, Trace
 
 from .tools import (
     EXAMPLES,
@@ -34,6 +45,7 @@ from .tools import (
     run_texts,
     run_tool,
 )
+
 
 run = partial(run_tool, "vga-trace")
 # What a trace from power-on begins with.

@@ -22,8 +22,10 @@ from functools import partial
 from pathlib import Path
 from typing import Any, BinaryIO, Callable, Iterable, Mapping, NamedTuple, Optional, Sequence
 
-from vga_report.program import FONTS, PROGRAM as BUILT_PROGRAM
-from vga_report.trouble import Trouble
+from zaklimot_tools.core.trouble import Trouble
+from zaklimot_tools.dev.testing.discovering import BUILT, TESTED
+from zaklimot_tools.script.program import FONTS, PROGRAM as BUILT_PROGRAM
+
 
 TOOLS = Path(__file__).resolve().parents[1]
 TOP = TOOLS.parent
@@ -42,12 +44,9 @@ SIGNALS = ((signal.SIGTERM, 143), (signal.SIGHUP, 129), (signal.SIGINT, 130))
 # A child that is to be there is waited for this many seconds.
 WAITING = 60
 # The program that is tested, as the runner of the tests names it to their processes.
-TESTED = "ZAKLIMOT_TESTED_PROGRAM"
 PROGRAM = Path(os.environ.get(TESTED) or BUILT_PROGRAM)
-# Why a test is skipped; with this variable, which the gate sets once the program is built, it
-# fails.
+# Why a test is skipped.
 UNBUILT = "there is no program to test: tools/tests-of-tools compiles one, if there is a C compiler"
-BUILT = "ZAKLIMOT_PROGRAM_IS_BUILT"
 
 
 def main_of(name: str) -> Callable[[Sequence[str]], int]:

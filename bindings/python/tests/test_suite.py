@@ -15,8 +15,8 @@ import zaklimot
 
 sys.path.insert(0, str(header.TOP / "tools"))
 
-from vga_report.cases import Case, read_cases  # noqa: E402
-from vga_report.report import Comparison, Expected, Report  # noqa: E402
+from zaklimot_tools.report.cases import Case, read_cases  # noqa: E402
+from zaklimot_tools.report.report import Comparison, Expected, Report  # noqa: E402
 
 SUITE = header.TOP / "crates" / "vga_suite" / "data" / "list.txt"
 EXAMPLES = sorted((header.TOP / "examples").glob("*.vga"))

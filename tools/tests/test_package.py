@@ -1,0 +1,144 @@
+"""The tools as one package: what its parts depend on, and where its commands run."""
+
+from __future__ import annotations
+
+import ast
+import importlib.util
+import os
+import re
+import sys
+import tempfile
+import unittest
+import zipfile
+from pathlib import Path
+from unittest import mock
+
+import building
+from zaklimot_tools import PARTS
+from zaklimot_tools.core.version import version
+
+from .tools import PROGRAM, TOOLS, Folder, ended, want_program
+
+PACKAGE = TOOLS / "zaklimot_tools"
+
+
+def used_parts(path: Path) -> set[str]:
+    """The parts of the tools' package that a module imports from."""
+    package, found = path.relative_to(TOOLS).parts[:-1], set()
+    for node in ast.walk(ast.parse(path.read_text("utf-8"))):
+        names = [name.name for name in node.names] if isinstance(node, ast.Import) else []
+        if isinstance(node, ast.ImportFrom):
+            above = package[: len(package) + 1 - node.level] if node.level else ()
+            front = ".".join([*above, *([node.module] if node.module else [])])
+            names = [f"{front}.{name.name}" for name in node.names]
+        words = (name.split(".") for name in names)
+        found.update(word[1] for word in words if word[0] == PACKAGE.name and word[1] in PARTS)
+    return found
+
+
+class Parts(Folder):
+    """The tools are one package, whose parts depend on those before them alone."""
+
+    def test_all_parts_are_listed(self) -> None:
+        self.assertEqual(
+            sorted(PARTS), sorted(path.parent.name for path in PACKAGE.glob("*/__init__.py"))
+        )
+
+    def test_a_part_uses_those_before_it(self) -> None:
+        seen: set[str] = set()
+        for place, part in enumerate(PARTS):
+            for path in sorted((PACKAGE / part).rglob("*.py")):
+                with self.subTest(path.relative_to(PACKAGE)):
+                    used = used_parts(path)
+                    self.assertEqual(used - {*PARTS[: place + 1]}, set())
+                    seen |= used
+        # Each is used by some other, but for those that are tools alone.
+        self.assertGreaterEqual(seen, {"core", "script", "explain", "images", "report", "trace"})
+
+    def test_what_a_module_uses_is_seen(self) -> None:
+        for text, used in (
+            ("from zaklimot_tools.core import cli", {"core"}),
+            ("import zaklimot_tools.floppy.image", {"floppy"}),
+            ("from zaklimot_tools import report as other", {"report"}),
+            ("def work():\n    from ..images.png import write_png", {"images"}),
+            ("from .words import add", {"script"}),
+            ("from zaklimot.format import read", set()),
+        ):
+            with self.subTest(text), mock.patch(f"{__name__}.TOOLS", self.folder):
+                path = Path(self.write("zaklimot_tools/script/module.py", text))
+                self.assertEqual(used_parts(path), used)
+
+    def test_a_tool_runs_from_any_folder_and_through_a_link(self) -> None:
+        (self.folder / "there").mkdir()
+        for name in ("vga-report", "vga-trace", "vga-picture", "vga-floppy"):
+            (self.folder / name).symlink_to(TOOLS / name)
+            (self.folder / "there" / name).symlink_to(f"../{name}")
+            for words in ([TOOLS / name], [f"./{name}"], [f"there/{name}"]):
+                with self.subTest(words):
+                    done = ended(sys.executable, "-S", *words, "--version", cwd=self.folder)
+                    self.assertEqual(done, (0, f"{name} {version()}\n", ""))
+
+
+class Installed(Folder):
+    """`pip install tools` gives the commands of users, which need nothing of the clone then."""
+
+    site: Path
+    starting: dict[str, str]
+
+    @classmethod
+    def setUpClass(cls) -> None:
+        folder = tempfile.TemporaryDirectory()
+        cls.addClassCleanup(folder.cleanup)
+        cls.site = Path(folder.name) / "site"
+        name = building.build_wheel(folder.name)
+        with zipfile.ZipFile(Path(folder.name) / name) as wheel:
+            wheel.extractall(cls.site)
+            listed = wheel.read(f"{name.rsplit('-', 3)[0]}.dist-info/entry_points.txt").decode()
+        entries = re.findall(r"^(\S+) = (\S+):main$", listed, re.M)
+        cls.starting = {one: f"from {at} import main; sys.exit(main())" for one, at in entries}
+
+    def run_installed(self, *words: str) -> tuple[int, str, str]:
+        """Exit status, output and standard error of a command of the wheel."""
+        command = f"import sys; sys.argv[0] = {words[0]!r}; {self.starting[words[0]]}"
+        environment = {**os.environ, "PYTHONPATH": str(self.site)}
+        python = [sys.executable, "-S", "-c", command]
+        return ended(*python, *words[1:], cwd=self.folder, env=environment)
+
+    def test_the_commands_and_what_they_carry(self) -> None:
+        self.assertEqual(
+            sorted(self.starting), ["vga-floppy", "vga-picture", "vga-report", "vga-trace"]
+        )
+        for name in self.starting:
+            self.assertEqual(
+                self.run_installed(name, "--version"), (0, f"{name} {version()}\n", "")
+            )
+        self.assertFalse((self.site / "zaklimot_tools" / "dev").exists())
+        status, told, said = self.run_installed("vga-report", "scripts", "cases", "--only", "dots/")
+        self.assertEqual((status, said), (0, ""))
+        self.assertTrue((self.folder / told.split("\n")[0]).is_file())
+
+    def test_a_script_is_run_and_a_page_is_written(self) -> None:
+        want_program()
+        self.write("one.vga", "in 3CC ; = 00\n")
+        done = self.run_installed("vga-report", "run", "one.vga", "--vga", str(PROGRAM), "--quiet")
+        self.assertEqual((done[0], done[2]), (0, ""))
+        self.assertIn("1 of 1 answers as expected", done[1])
+        done = self.run_installed("vga-report", "run", "one.vga", "--debug", "page.html")
+        self.assertEqual((done[0], done[2]), (0, ""))
+        self.assertGreater((self.folder / "page.html").stat().st_size, 100_000)
+
+    def test_what_is_no_source_is_left_out(self) -> None:
+        for name in ("a.py", "__pycache__/a.pyc", "carried/b.py", "c/d.bin"):
+            self.write(f"folder/{name}", "")
+        found = [path.name for path in building._files(self.folder / "folder")]
+        self.assertEqual(found, ["a.py", "d.bin"])
+
+    @unittest.skipIf(importlib.util.find_spec("pip") is None, "there is no pip")
+    def test_pip_installs_the_commands(self) -> None:
+        words = ["-m", "pip", "install", "--quiet", "--no-index", "--disable-pip-version-check"]
+        target = self.folder / "target"
+        done = ended(sys.executable, *words, "--target", target, TOOLS)
+        self.assertEqual((done[0], done[1]), (0, ""), done[2])
+        environment = {**os.environ, "PYTHONPATH": str(target)}
+        done = ended(target / "bin" / "vga-report", "--version", env=environment)
+        self.assertEqual(done, (0, f"vga-report {version()}\n", ""))

@@ -1,0 +1,183 @@
+"""How each tool begins and ends: its words and help, its streams, its signals, its exit status, and
+what it says at last."""
+
+import argparse
+import os
+import signal
+import sys
+from contextlib import contextmanager
+from typing import IO, Any, Callable, Iterator, Optional, Sequence
+
+from .progress import Progress
+from .trouble import TROUBLE, Trouble
+from .version import version
+
+# What a shell says of programs that a closed pipe, the user, or the system has ended.
+PIPE_CLOSED, INTERRUPTED, SIGNALLED = 141, 130, 128
+# The signals that end a tool, apart from the user's own.
+ENDING = ("SIGTERM", "SIGHUP")
+NO_MEMORY = "there is not enough memory for this"
+# How the exit status reads of a tool that tells differences, and of one that does a job or doesn't.
+DIFFERS = "Exit status: 0 done, and nothing differs; 1 something differs; 2 the work can't be done."
+DOES = "Exit status: 0 done; 2 the work can't be done."
+JUDGES = "Exit status: 0 all is right; 1 something is wrong; 2 the work can't be done."
+
+
+class _Version(argparse.Action):
+    """Prints the release's number, and ends the tool. No other command wants the header."""
+
+    def __call__(self, parser: argparse.ArgumentParser, *_: object) -> None:
+        sys.stdout.write(f"{parser.prog} {version()}\n")
+        parser.exit()
+
+
+class _Parser(argparse.ArgumentParser):
+    """A parser that loses no trouble with what it prints, as a disk that is full."""
+
+    def _print_message(self, message: str, file: Optional[IO[str]] = None) -> None:
+        if message:
+            (file or sys.stderr).write(message)
+
+
+def tool_parser(
+    name: str, does: str, example: str, page: str, statuses: str = DOES
+) -> argparse.ArgumentParser:
+    """The parser of a tool, whose help has an example of its use and names the page that tells
+    more."""
+    made = _Parser(
+        prog=name,
+        description=does,
+        formatter_class=argparse.RawDescriptionHelpFormatter,
+        epilog=f"Example:\n  {example}\n\n{statuses}\n{page} tells more.",
+    )
+    made.add_argument("--version", action=_Version, nargs=0, help="prints the release's number")
+    return made
+
+
+def add(parser: argparse._ActionsContainer, spelt: str, told: str, **given: Any) -> None:
+    """Adds a word as a usage spells it: `FILE`, `--flag` or `--option VALUE`. `given` goes to
+    argparse."""
+    name, _, value = spelt.partition(" ")
+    if not name.startswith("-"):
+        given = {"metavar": name, **given}
+    elif value:
+        given = {"metavar": value, **given}
+    elif "choices" not in given:
+        given = {"action": "store_true", **given}
+    parser.add_argument(name if name.startswith("-") else name.lower(), help=told, **given)
+
+
+def command(
+    commands: Any, name: str, job: Callable[..., object], told: str, **given: Any
+) -> argparse.ArgumentParser:
+    """Adds a command, which does a job, to those of a tool."""
+    made: argparse.ArgumentParser = commands.add_parser(name, help=told, **given)
+    made.set_defaults(job=job)
+    return made
+
+
+class Ended(BaseException):
+    """A signal, by its number, that asks the tool to end."""
+
+
+def open_closed_streams() -> bool:
+    """Sees to it that no file gets the number of a standard stream that is closed; whether there is
+    an output."""
+    is_written = sys.stdout is not None
+    while (handle := os.open(os.devnull, os.O_RDWR)) <= 2:
+        pass
+    os.close(handle)
+    sys.stderr = sys.stderr or open(os.devnull, "w", encoding="ascii")
+    return is_written
+
+
+@contextmanager
+def _ending_at_signals() -> Iterator[None]:
+    """Lets the signals that end a program raise meanwhile, so that what it has begun is undone."""
+    # A caller such as nohup has some of them ignored.
+    known = [getattr(signal, name) for name in ENDING if hasattr(signal, name)]
+    heeded = [number for number in known if signal.getsignal(number) == signal.SIG_DFL]
+
+    def end(number: int, _: object) -> None:
+        # Nothing disturbs the undoing.
+        for other in heeded:
+            signal.signal(other, signal.SIG_IGN)
+        raise Ended(number)
+
+    for number in heeded:
+        signal.signal(number, end)
+    try:
+        yield
+    finally:
+        for number in heeded:
+            signal.signal(number, signal.SIG_DFL)
+
+
+def run(name: str, work: Callable[[], int], progress: Optional[Progress] = None) -> int:
+    """Does a tool's work, which answers its exit status; the status with which the tool is to end.
+
+    What it can't do is told on standard error. Once this returns, all is undone that the work's own
+    `with` and `finally` undo, also where a signal ended it.
+    """
+    if not open_closed_streams():
+        sys.stderr.write(f"{name}: standard output: it is closed\n")
+        return TROUBLE
+    reason = ""
+    try:
+        with _ending_at_signals():
+            status = work()
+            sys.stdout.flush()
+        return status
+    except BrokenPipeError:
+        status = PIPE_CLOSED
+    except KeyboardInterrupt:
+        status = INTERRUPTED
+    except Ended as ended:
+        status = SIGNALLED + ended.args[0]
+    except Trouble as trouble:
+        status, reason = trouble.status, str(trouble)
+    except OSError as error:
+        name_of_file = "standard output" if error.filename is None else error.filename
+        status, reason = TROUBLE, f"{name_of_file}: {error.strerror or error}"
+    except MemoryError:
+        status, reason = TROUBLE, NO_MEMORY
+    if progress is not None:
+        progress.clear()
+    _end_output(is_kept=bool(reason))
+    if reason:
+        sys.stderr.write(f"{name}: {reason}\n")
+    return status
+
+
+def _end_output(is_kept: bool) -> None:
+    """Writes what is left of standard output, or drops it: it would fail once more when Python
+    ends."""
+    try:
+        if is_kept:
+            sys.stdout.flush()
+    except OSError:
+        is_kept = False
+    if not is_kept:
+        os.dup2(os.open(os.devnull, os.O_WRONLY), sys.stdout.fileno())
+
+
+def runner(made: Callable[[], argparse.ArgumentParser]) -> Callable[[Optional[Sequence[str]]], int]:
+    """What runs a tool's command line, and answers its exit status.
+
+    Its parser sets a `job`, which takes the words and the progress, and answers a status or None.
+    """
+
+    def main(words: Optional[Sequence[str]] = None) -> int:
+        progress, parser = Progress(), made()
+
+        def work() -> int:
+            try:
+                parsed = parser.parse_args(words)
+            except SystemExit as ended:
+                # The words ask for help, or mean nothing: the tool ends as ever.
+                return int(ended.code or 0)
+            return parsed.job(parsed, progress) or 0
+
+        return run(parser.prog, work, progress)
+
+    return main

@@ -1,0 +1,376 @@
+"""Runs other programs: each in a group of its own, within limits, and all that it has started ends
+with it."""
+
+import ctypes
+import math
+import os
+import shutil
+import signal
+import subprocess
+import sys
+import tempfile
+import threading
+import time
+from concurrent.futures import ThreadPoolExecutor
+from contextlib import contextmanager, suppress
+from pathlib import Path
+from threading import Event
+from typing import (
+    Any,
+    BinaryIO,
+    Callable,
+    Iterable,
+    Iterator,
+    Mapping,
+    NamedTuple,
+    Optional,
+    Sequence,
+    TypeVar,
+    Union,
+)
+
+from .trouble import Trouble, Wrong
+
+
+IS_POSIX, IS_LINUX = os.name == "posix", sys.platform.startswith("linux")
+# Seconds between two looks whether a command has ended: the first of them, and the longest.
+FIRST_PAUSE, LONGEST_PAUSE = 0.0005, 0.05
+# Seconds for what stands in a pipe once all that could write into it has ended.
+DRAINING = 5
+# Seconds for a program to end what it has started in groups of its own, once it is asked to.
+ENDING = 5
+MEBIBYTE = 1 << 20
+# So much of what a program says at last is told, in lines and as one line; and so much of its
+# output is kept at most.
+MOST_SAID, MOST_IN_LINE, MOST_KEPT = 2000, 600, 1 << 28
+TOO_LONG = "the command took too long"
+# Where each program comes from that may be lacking: the toolchain's, and those of Debian's
+# packages.
+BINUTILS, CROSS = ("ld", "objcopy", "objdump", "ar", "nm", "readelf"), "aarch64-linux-gnu"
+PACKAGES = {
+    **dict.fromkeys(BINUTILS, "binutils"),
+    **{f"{CROSS}-{name}": f"binutils-{CROSS}" for name in BINUTILS},
+    "cc": "gcc",
+    "gcc": "gcc",
+    "g++": "g++",
+    "clang": "clang",
+    "clang++": "clang",
+    f"{CROSS}-gcc": f"gcc-{CROSS}",
+    f"{CROSS}-g++": f"g++-{CROSS}",
+    "s390x-linux-gnu-gcc": "gcc-s390x-linux-gnu",
+    "x86_64-w64-mingw32-gcc": "gcc-mingw-w64-x86-64",
+    "i686-linux-gnu-gcc": "gcc-i686-linux-gnu",
+    "wine": "wine",
+    "qemu-s390x": "qemu-user",
+    "node": "nodejs",
+    "qemu-system-x86_64": "qemu-system-x86",
+    "qemu-aarch64": "qemu-user",
+    "xwininfo": "x11-utils",
+    "wasm-opt": "binaryen",
+    "wasm2c": "wabt",
+    "esbuild": "esbuild",
+    "python3": "python3",
+    "cargo": "cargo",
+    "rustc": "rustc",
+    "rustdoc": "rustc",
+    "cargo-clippy": "rust-clippy",
+}
+SOURCES = {
+    "rt": 'it is the command of the Rattle toolchain, which README.md tells of under "Build it"',
+    **{name: f"install the package {package}" for name, package in PACKAGES.items()},
+}
+# Linux' prctl: the signal that a process gets when the one that has started it ends.
+SET_PARENT_DEATH_SIGNAL = 1
+Words = Sequence[Union[str, Path]]
+Item, Made = TypeVar("Item"), TypeVar("Made")
+# What is told the last whole line that a program has said, again and again while it works.
+Hearer = Callable[[str], None]
+
+
+@contextmanager
+def _signals_held() -> Iterator[None]:
+    """Keeps the signals back that end a tool while a program is started: Python loses one that
+    comes amid a fork."""
+    came: list[int] = []
+    held: dict[int, Any] = {}
+    if threading.current_thread() is threading.main_thread():
+        known = [
+            getattr(signal, name)
+            for name in ("SIGINT", "SIGTERM", "SIGHUP")
+            if hasattr(signal, name)
+        ]
+        held = {
+            number: handler for number in known if callable(handler := signal.getsignal(number))
+        }
+    for number in held:
+        signal.signal(number, lambda number, _: came.append(number))
+    try:
+        yield
+    finally:
+        for number, handler in held.items():
+            signal.signal(number, handler)
+        for number in came[:1]:
+            held[number](number, None)
+
+
+@contextmanager
+def started(words: Words, asking: float = 0, **given: Any) -> Iterator[subprocess.Popen[bytes]]:
+    """A program that runs in a group of its own, with nothing on standard input; the group has
+    ended afterwards.
+
+    It may be asked to end so many seconds before it is made to. `given` goes to `Popen`; a program
+    that can't be started is a Trouble.
+    """
+    process: Optional[subprocess.Popen[bytes]] = None
+    try:
+        with _signals_held():
+            try:
+                process = subprocess.Popen(
+                    [str(word) for word in words],
+                    **{"stdin": subprocess.DEVNULL, "start_new_session": IS_POSIX, **given},
+                )
+            except (OSError, ValueError) as error:
+                raise Trouble(
+                    getattr(error, "strerror", None) or str(error), str(words[0])
+                ) from error
+            except subprocess.SubprocessError as error:
+                raise Trouble(
+                    "the system doesn't set these limits for it", str(words[0])
+                ) from error
+        yield process
+    finally:
+        if process is not None:
+            end(process, asking)
+            for stream in (process.stdout, process.stderr):
+                if stream is not None:
+                    stream.close()
+
+
+def end_with_parent() -> None:
+    """Has the system end this process when its parent is killed, and can't end it itself."""
+    if IS_LINUX:
+        ctypes.CDLL(None).prctl(SET_PARENT_DEATH_SIGNAL, signal.SIGKILL)
+
+
+def end(process: subprocess.Popen[bytes], asking: float = 0) -> None:
+    """Ends a command with all that it has started, unless its end was asked for: its number may be
+    another's then.
+
+    It may be asked to end so many seconds before it is made to: it ends what it has started in
+    groups of their own.
+    """
+    for number in (signal.SIGTERM, signal.SIGKILL) if asking and IS_POSIX else (None,):
+        if process.returncode is not None:
+            return
+        if not IS_POSIX:
+            process.kill()
+        else:
+            with suppress(ProcessLookupError, PermissionError):
+                os.killpg(process.pid, number or signal.SIGKILL)
+        with suppress(subprocess.TimeoutExpired):
+            process.wait(asking if number == signal.SIGTERM else None)
+
+
+class Limits(NamedTuple):
+    """What a command may take: seconds, and bytes on its standard output. Of its messages so many
+    bytes are kept."""
+
+    seconds: float = 60
+    output: int = 256 * MEBIBYTE
+    messages: int = MEBIBYTE
+
+
+class Outcome(NamedTuple):
+    """How a command ended: its status, or why it was ended."""
+
+    status: Optional[int]
+    reason: str = ""
+
+
+def run_command(
+    words: Words,
+    output: Path,
+    messages: Path,
+    limits: Limits,
+    is_ended: Event,
+    hear: Callable[[], object] = bool,
+    asking: float = 0,
+    **given: Any,
+) -> Outcome:
+    """Runs a command with nothing on standard input, until it ends, or the event or a limit ends
+    it.
+
+    What it writes and says stands in two files then; `hear` is called meanwhile. Its whole process
+    group has ended afterwards, however it ended itself. `asking` and `given` go to `started`.
+    """
+    until, too_much = (
+        time.monotonic() + limits.seconds,
+        f"the command wrote more than {limits.output // MEBIBYTE} MiB",
+    )
+    with open(output, "wb") as written, open(messages, "ab") as said:
+        said.truncate(0)
+
+        def reason() -> str:
+            if _size(said) > limits.messages:
+                said.truncate(limits.messages)
+            if _size(written) > limits.output:
+                return too_much
+            hear()
+            return (
+                TOO_LONG
+                if time.monotonic() >= until
+                else "it was ended"
+                if is_ended.is_set()
+                else ""
+            )
+
+        with started(words, asking, stdout=written, stderr=said, **given) as process:
+            ended, pause = "", FIRST_PAUSE
+            while not (ended or _has_ended(process)):
+                time.sleep(pause)
+                pause = min(2 * pause, LONGEST_PAUSE)
+                ended = reason()
+        if reason() == too_much:
+            written.truncate(limits.output)
+            ended = too_much
+    return Outcome(None if ended else process.returncode, ended)
+
+
+def _size(file: BinaryIO) -> int:
+    return os.fstat(file.fileno()).st_size
+
+
+@contextmanager
+def in_parallel(
+    work: Callable[[Item], Made], items: Iterable[Item], jobs: int, is_ended: Event
+) -> Iterator[Iterator[Made]]:
+    """What comes of items in their order, so many at a time. The event tells the work to end."""
+    with ThreadPoolExecutor(jobs) as pool:
+        try:
+            yield pool.map(work, items)
+        except BaseException:
+            is_ended.set()
+            pool.shutdown(wait=False, cancel_futures=True)
+            raise
+
+
+def _has_ended(process: subprocess.Popen[bytes]) -> bool:
+    """Whether a command has ended. Its number stays taken, so that its group can still be named."""
+    if not hasattr(os, "waitid"):
+        return process.poll() is not None
+    return os.waitid(os.P_PID, process.pid, os.WEXITED | os.WNOWAIT | os.WNOHANG) is not None
+
+
+class Failed(Trouble):
+    """A program that has ended badly, or not in its time."""
+
+
+class Done(NamedTuple):
+    """How a program ended: its status, and the last part of what it wrote and said."""
+
+    status: int
+    output: bytes
+    errors: bytes
+
+    def said(self) -> str:
+        """What it wrote and said at last, for messages."""
+        return (self.output + self.errors).decode("utf-8", "replace")[-MOST_SAID:]
+
+
+def check_program(name: str, instead: str = "") -> None:
+    """Ends the work where a program is lacking: its source is told, and what works instead."""
+    if shutil.which(name) is None:
+        source = SOURCES.get(name)
+        raise Trouble("it is not in the path" + (f": {source}" if source else "") + instead, name)
+
+
+def captured(
+    words: Words,
+    folder: Optional[Path] = None,
+    heard: Optional[Hearer] = None,
+    seconds: Optional[float] = None,
+    environment: Optional[Mapping[str, str]] = None,
+    given: bytes = b"",
+    is_ended: Optional[Event] = None,
+) -> Done:
+    """Runs a program to its end, and answers its status and what it writes.
+
+    A Failed tells that it took more than it may, or that the event has ended it. Its temporary
+    files lie in a folder of their own, which goes with them.
+    """
+    with tempfile.TemporaryDirectory(
+        prefix="vga-tool-"
+    ) as temporary, tempfile.TemporaryFile() as file:
+        file.write(given)
+        file.seek(0)
+        output, errors = Path(temporary, "output"), Path(temporary, "errors")
+
+        def hear() -> None:
+            if heard is not None:
+                heard(_last_line(errors) or _last_line(output))
+
+        variables = {**os.environ, "TMPDIR": temporary, **(environment or {})}
+        limits = Limits(seconds or math.inf, MOST_KEPT, MOST_KEPT)
+        # What a program said at last is heard too where it has ended at once.
+        outcome = run_command(
+            words,
+            output,
+            errors,
+            limits,
+            is_ended or Event(),
+            hear,
+            ENDING,
+            cwd=folder,
+            env=variables,
+            stdin=file,
+        )
+        if outcome.status is None:
+            told = (
+                f"it had not ended after {seconds:.0f} seconds"
+                if outcome.reason == TOO_LONG
+                else outcome.reason
+            )
+            raise Failed(told, str(words[0]))
+        return Done(outcome.status, output.read_bytes(), errors.read_bytes())
+
+
+def _last_line(path: Path) -> str:
+    with open(path, "rb") as stream:
+        stream.seek(max(0, _size(stream) - MOST_SAID))
+        lines = stream.read(MOST_SAID).rpartition(b"\n")[0].splitlines()
+    return lines[-1].decode("utf-8", "replace").strip() if lines else ""
+
+
+def run(
+    words: Words, folder: Optional[Path] = None, heard: Optional[Hearer] = None, **given: Any
+) -> str:
+    """Runs a program as `captured` does, and answers what it writes; a Failed tells how one ended
+    badly."""
+    return ended_well(words, folder, heard, **given).output.decode("utf-8", "replace")
+
+
+def ended_well(
+    words: Words, folder: Optional[Path] = None, heard: Optional[Hearer] = None, **given: Any
+) -> Done:
+    """The same, with its bytes, and with what it says on standard error."""
+    name = str(words[0])
+    check_program(name)
+    done = captured(words, folder, heard, **given)
+    if done.status:
+        line = " ".join(str(word) for word in words)
+        raise Failed(f"it ended with status {done.status}\n  {line}\n{done.said()}", name)
+    return done
+
+
+def tested(words: Words, folder: Optional[Path] = None, **given: Any) -> Done:
+    """The same of a program that is tested: one that ends badly is a Wrong."""
+    try:
+        return ended_well(words, folder, **given)
+    except Failed as failed:
+        raise Wrong(str(failed)) from failed
+
+
+def said_last(path: Path) -> str:
+    """The end of what a program said into a file, as one line."""
+    text = path.read_bytes()[-MOST_IN_LINE:].decode("utf-8", "replace") if path.exists() else ""
+    return " ".join("".join(letter if letter.isprintable() else " " for letter in text).split())

@@ -1,0 +1,39 @@
+"""The values of options: numbers within bounds."""
+
+import argparse
+import math
+from typing import Callable
+
+# The largest numbers of options: enlargements, commands at a time, MiB, steps, and a day of
+# seconds.
+MOST_SCALE, MOST_JOBS, MOST_OUTPUT, MOST_STEP, MOST_SECONDS = (
+    1000,
+    256,
+    1 << 20,
+    4_294_967_295,
+    86_400,
+)
+
+
+def number_to(most: int, least: int = 1) -> Callable[[str], int]:
+    """Reads a number of decimal digits within these bounds."""
+
+    def read(word: str) -> int:
+        if not (word.isascii() and word.isdigit()) or not least <= int(word) <= most:
+            raise argparse.ArgumentTypeError(f"'{word}' is no number from {least} to {most}")
+        return int(word)
+
+    return read
+
+
+def seconds(word: str) -> float:
+    """Reads a number of seconds above 0."""
+    try:
+        number = float(word)
+    except ValueError:
+        number = math.nan
+    if not 0 < number <= MOST_SECONDS:
+        raise argparse.ArgumentTypeError(
+            f"'{word}' is no number of seconds above 0, to {MOST_SECONDS}"
+        )
+    return number

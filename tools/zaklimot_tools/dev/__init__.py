@@ -1,0 +1,1 @@
+"""What only developers of the project need: no release has it."""

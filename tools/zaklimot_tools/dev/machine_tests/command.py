@@ -1,0 +1,194 @@
+"""Whether the page's processor does what a 386 does: by Intel's manual, and by another processor's
+emulator."""
+
+from __future__ import annotations
+
+import argparse
+import os
+import re
+import shutil
+import tempfile
+from functools import partial
+from pathlib import Path
+from threading import Event
+from typing import Optional
+
+from zaklimot_tools import TOP
+from zaklimot_tools.core import cli
+from zaklimot_tools.core.processes import captured, check_program, in_parallel, run
+from zaklimot_tools.core.progress import Progress
+from zaklimot_tools.core.trouble import Trouble, Wrong
+from zaklimot_tools.core.words import number_to
+from zaklimot_tools.dev.library_tests.compilers import make_check
+from zaklimot_tools.dev.page.machine import DEFINED, MACHINE, PROCESSOR, patched
+
+from .manual import cases as manual_cases
+
+
+HERE = Path(__file__).resolve().parent
+COMPILER = "cc"
+OF_MANUAL, OF_UNICORN, OF_DESCRIPTORS = "manual", "unicorn", "descriptors"
+CHECKS = OF_MANUAL, OF_UNICORN, OF_DESCRIPTORS
+# What is compared once makes so many cases, of which one process makes so many: a process may end
+# amid them.
+USUAL, CHUNK, MOST_CASES, DESCRIBED = 20_000, 2000, 10_000_000, 2000
+SECONDS = 600
+COUNT = re.compile(
+    r"^([0-9]+) cases: ([0-9]+) differ, ([0-9]+) lacking, ([0-9]+) beyond a segment's end$", re.M
+)
+UNICORN = "python3-unicorn"
+
+
+def built_processor(folder: Path) -> Path:
+    """The program that takes cases, built of libx86emu as the page has it, but for its memory."""
+    check_program(COMPILER)
+    top, program = patched(folder), folder / "processor"
+    own = [
+        flag
+        for flag in DEFINED
+        if not flag.startswith(("-DX86EMU_MEMORY", "-DX86EMU_TELLS", "-DX86EMU_LOGS"))
+    ]
+    sources = [HERE / "processor.c", MACHINE / "cpu" / "shifts.c"]
+    sources += [top / f"{name}.c" for name in (*PROCESSOR, "api", "mem")]
+    words = [COMPILER, "-O2", "-w", *own, "-I", top / "include", "-I", top, "-o", program, *sources]
+    run(words, seconds=SECONDS)
+    return program
+
+
+def judged(output: str) -> list[int]:
+    """How many cases were compared, differ, are lacking and lie beyond a segment; a Wrong tells
+    those that differ."""
+    found = COUNT.search(output)
+    if found is None:
+        raise Wrong(f"the processor's program told no count: {output[-400:]}")
+    counts = [int(number) for number in found.groups()]
+    if counts[1] or counts[2]:
+        raise Wrong(f"the processor does otherwise:\n{output.rstrip()}")
+    return counts
+
+
+def check_manual(program: Path) -> str:
+    """The cases of Intel's manual, faults with them."""
+    made = manual_cases()
+    done = captured(
+        [program, "faults"], given=b"".join(one.packed() for one in made), seconds=SECONDS
+    )
+    compared = judged(done.output.decode("ascii", "replace"))[0]
+    if compared != len(made):
+        raise Wrong(f"{compared} of {len(made)} cases of the manual were compared")
+    return f"{compared} cases of Intel's manual"
+
+
+def python_with_unicorn() -> Optional[str]:
+    """A Python that has Unicorn; none where it is lacking."""
+    for name in ("python3", "/usr/bin/python3"):
+        path = shutil.which(name)
+        if path and captured([path, "-c", "import unicorn"], seconds=SECONDS).status == 0:
+            return path
+    return None
+
+
+def _compared(
+    program: Path,
+    python: str,
+    folder: Path,
+    is_ended: Event,
+    seed: int,
+    module: str = "cases",
+    chunk: int = CHUNK,
+) -> list[int]:
+    """A chunk of cases of a module. Unicorn may end the process amid them: those before count."""
+    made = folder / f"{seed}.cases"
+    words = [python, "-m", f"zaklimot_tools.dev.machine_tests.{module}", str(chunk), str(seed)]
+    with open(made, "wb") as stream:
+        stream.write(captured(words, TOP / "tools", seconds=SECONDS, is_ended=is_ended).output)
+    done = captured([program], given=made.read_bytes(), seconds=SECONDS, is_ended=is_ended)
+    made.unlink()
+    return judged(done.output.decode("ascii", "replace"))
+
+
+def check_unicorn(program: Path, python: str, folder: Path, count: int, seed: int) -> str:
+    """So many random instructions, one at a time."""
+    total, is_ended, chunks = (
+        [0, 0, 0, 0],
+        Event(),
+        iter(range(seed, seed + 1 + 4 * count // CHUNK)),
+    )
+    jobs = os.cpu_count() or 1
+    work = partial(_compared, program, python, folder, is_ended)
+    while total[0] < count:
+        seeds = [number for number, _ in zip(chunks, range(jobs))]
+        if not seeds:
+            raise Wrong(
+                f"only {total[0]:,} cases came of Unicorn, which ends its process too often"
+            )
+        with in_parallel(work, seeds, jobs, is_ended) as found:
+            for counts in found:
+                total = [one + other for one, other in zip(total, counts)]
+    return (
+        f"{total[0]:,} instructions as Unicorn does them; {total[3]:,} beyond a segment's end are"
+        " left out"
+    )
+
+
+def check_descriptors(program: Path, python: str, folder: Path, seed: int) -> str:
+    """Loads of segments, and far jumps, by tables of descriptors."""
+    counts = _compared(program, python, folder, Event(), seed, "descriptors", DESCRIBED)
+    if counts[0] < DESCRIBED // 2:
+        raise Wrong(f"only {counts[0]:,} of {DESCRIBED:,} cases of descriptors came of Unicorn")
+    return f"{counts[0]:,} loads of segments and far jumps as Unicorn does them"
+
+
+def _parser() -> argparse.ArgumentParser:
+    parser = cli.tool_parser(
+        "vga-machine-tests",
+        "Tests the processor of the page's machine, an instruction at a time.",
+        "tools/vga-machine-tests --cases 200000",
+        "tools/README.md",
+        cli.JUDGES,
+    )
+    parser.set_defaults(job=_run)
+    cli.add(
+        parser,
+        "--only",
+        "this check alone; again and again",
+        action="append",
+        default=[],
+        choices=CHECKS,
+    )
+    told = f"compares so many instructions with Unicorn's (default: {USUAL:,})"
+    cli.add(parser, "--cases N", told, type=number_to(MOST_CASES), default=USUAL)
+    cli.add(
+        parser,
+        "--seed N",
+        "makes other instructions (default: 1)",
+        type=number_to(MOST_CASES),
+        default=1,
+    )
+    return parser
+
+
+def _run(words: argparse.Namespace, _: Progress) -> None:
+    wanted = words.only or CHECKS
+    of_unicorn = [name for name in (OF_UNICORN, OF_DESCRIPTORS) if name in wanted]
+    python = python_with_unicorn() if of_unicorn else None
+    if words.only and of_unicorn and python is None:
+        raise Trouble(f"no Python has it: install the package {UNICORN}", "unicorn")
+    with tempfile.TemporaryDirectory(prefix="vga-machine-tests-") as name:
+        folder = Path(name)
+        program = built_processor(folder)
+        if OF_MANUAL in wanted:
+            make_check(OF_MANUAL, partial(check_manual, program))
+        for name in of_unicorn:
+            if python is None:
+                print(f"{name}: not tried: install the package {UNICORN}", flush=True)
+            elif name == OF_UNICORN:
+                make_check(
+                    name, partial(check_unicorn, program, python, folder, words.cases, words.seed)
+                )
+            else:
+                make_check(name, partial(check_descriptors, program, python, folder, words.seed))
+
+
+# Runs a command line, and answers its exit status.
+main = cli.runner(_parser)

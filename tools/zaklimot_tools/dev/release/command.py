@@ -1,0 +1,388 @@
+"""The words of the command line, and what a release holds: files of the commit, what is built, the
+wheel, and pages.
+
+Their links lead to what is in it. The archive hangs on nothing but its files and the commit's time.
+The C file has an archive of its own, which needs no toolchain.
+"""
+
+import argparse
+import gzip
+import hashlib
+import io
+import posixpath
+import re
+import sys
+import tarfile
+import tempfile
+from functools import partial
+from pathlib import Path, PurePosixPath
+from typing import AbstractSet, BinaryIO, Mapping, Match, NamedTuple, Optional, Sequence, Union
+
+from zaklimot_tools import PARTS, TOP
+from zaklimot_tools.core import cli
+from zaklimot_tools.core.processes import check_program, ended_well, run
+from zaklimot_tools.core.progress import Progress
+from zaklimot_tools.core.streams import check_folder, to_read, write_file, writing
+from zaklimot_tools.core.trouble import Trouble
+from zaklimot_tools.core.version import version
+from zaklimot_tools.dev.library.command import check_given
+from zaklimot_tools.dev.library.making import (
+    AARCH64,
+    BACKENDS,
+    MOVING,
+    X86_64,
+    Place,
+    Target,
+    built_archive,
+    kit_line,
+    make_library,
+    memory_part,
+)
+from zaklimot_tools.script.crates import phases
+
+
+PROGRAM = TOP / "crates" / "vga"
+MACHINE, PORTABLE = "x86_64-linux", "portable"
+MODULES = "zaklimot_tools"
+# The file beside the archive, which `sha256sum --check` reads.
+SUM = "sha256"
+EXECUTABLE, PLAIN, RUN = 0o100, 0o644, 0o755
+LEVEL = 9
+
+
+class File(NamedTuple):
+    """A file of a release."""
+
+    content: bytes
+    is_executable: bool = False
+
+
+# A file, or where a link leads.
+Entry = Union[File, str]
+
+
+class Commit(NamedTuple):
+    """A commit's number, and its time in seconds since 1970."""
+
+    number: str
+    time: int
+
+
+# The tools of a release, and the parts of their package: those that need no toolchain.
+TOOLS = tuple(f"tools/vga-{name}" for name in ("floppy", "picture", "report", "trace"))
+PACKAGE_PARTS = tuple(f"tools/{MODULES}/{name}" for name in ("__init__.py", *PARTS[:-1]))
+# The front page of a release is this one, and the repository's lies beside the other pages.
+PAGE, FRONT = "tools/zaklimot_tools/dev/release/README.md", "README.md"
+# What of the commit goes into a release, where it lies in the repository.
+PATHS = (
+    "CHANGELOG.md",
+    "CMakeLists.txt",
+    "LICENSE",
+    FRONT,
+    PAGE,
+    "SECURITY.md",
+    "bindings",
+    "crates/vga_suite/data",
+    "docs",
+    "examples",
+    "fonts",
+    "include",
+    "page/zaklimot.html",
+    PORTABLE,
+    "share",
+    "tools/README.md",
+    "tools/pyproject.toml",
+    "tools/vga",
+    *TOOLS,
+    *PACKAGE_PARTS,
+)
+MOVED = {PAGE: FRONT, FRONT: f"docs/{FRONT}"}
+# What is in the archive of the C file, all in one folder.
+ALONE_PAGE = "tools/zaklimot_tools/dev/release/PORTABLE.md"
+ALONE = {
+    ALONE_PAGE: FRONT,
+    "LICENSE": "LICENSE",
+    "fonts/zaklimot.fnt": "zaklimot.fnt",
+    **{f"include/{name}": name for name in ("zaklimot.h", "zaklimot.hpp")},
+    **{f"{PORTABLE}/{name}": name for name in ("CMakeLists.txt", "vga.c", "zaklimot.c")},
+}
+INSTALL = "install.sh"
+# Other names of what is built, so that the commands of all pages run in a release as they stand.
+LINKS: Mapping[str, Entry] = {
+    "crates/vga/out/vga": "../../../bin/vga",
+    "kit/include": "../include",
+    "kit/lib": "../lib",
+    "kit/share": "../share",
+}
+MADE_OF = "MADE-OF"
+PACKAGE = "bindings/python"
+# What the package is made of, where it lies in the repository.
+SOURCES = (PACKAGE, "fonts")
+# The package's own backend makes the wheel, as it does for pip.
+MAKING = "import sys, building; building.build_wheel(sys.argv[1])"
+# What stands between fences, which has no links; or a link or an image that leads to a file of the
+# repository.
+LINK = re.compile(
+    r"^```.*?^```$"
+    r"|(?P<mark>!?)\[(?P<text>[^\[\]]*)\]"
+    r"\((?!https?:|#)(?P<place>[^()\s#]+)(?P<anchor>#[^()\s]*)?\)",
+    re.M | re.S,
+)
+
+
+def laid_files(folder: Path) -> dict[str, Entry]:
+    """The files and the links below a folder, by their places in it."""
+    return {
+        str(path.relative_to(folder)): (
+            str(path.readlink()) if path.is_symlink() else File(path.read_bytes())
+        )
+        for path in sorted(folder.rglob("*"))
+        if path.is_symlink() or path.is_file()
+    }
+
+
+def library_files(files: Mapping[str, Entry], target: Target, archive: Path) -> dict[str, Entry]:
+    """The library for a processor as it is laid into a folder, and the wheel with it.
+
+    They lie in a folder of the processor's name, but for those of the program's own processor.
+    """
+    with tempfile.TemporaryDirectory(prefix="vga-release-") as name:
+        library, making = Path(name) / "library", Path(name) / "wheel"
+        making.mkdir()
+        make_library(archive, memory_part(target, Path(name)), Place(str(library)), MOVING, target)
+        wheel = wheel_of(files, library, making, target)
+        made = {wheel.name: File(wheel.read_bytes()), **laid_files(library)}
+    return (
+        made
+        if target == X86_64
+        else {f"{target.name}/{place}": entry for place, entry in made.items()}
+    )
+
+
+def settled(entries: Mapping[str, Entry], moved: Mapping[str, str] = MOVED) -> dict[str, Entry]:
+    """All that is in a release, by its place there: pages lead to no more than that."""
+    names = [moved.get(place, place) for place in entries]
+    places = {str(place) for name in names for place in (name, *PurePosixPath(name).parents)}
+    done: dict[str, Entry] = {}
+    for place, entry in entries.items():
+        if place.endswith(".md") and isinstance(entry, File):
+            links = partial(_link, place, places, moved)
+            entry = File(LINK.sub(links, entry.content.decode("utf-8")).encode("utf-8"))
+        done[moved.get(place, place)] = entry
+    return done
+
+
+def made_of(commit: Commit, toolchain: str, built: Mapping[str, Entry]) -> File:
+    """The commit, the toolchain, and a checksum of each file that was built."""
+    sums = (
+        f"sha256 {hashlib.sha256(entry.content).hexdigest()} {path}\n"
+        for path, entry in sorted(built.items())
+        if isinstance(entry, File)
+    )
+    return File(
+        (f"commit {commit.number}\ntoolchain {toolchain}\n" + "".join(sums)).encode("ascii")
+    )
+
+
+def release_entries(
+    commit: Commit, program: Path, archives: Mapping[Target, Path]
+) -> dict[str, Entry]:
+    """All files of a release: among those that are built the program, and a library and a wheel for
+    each processor."""
+    files, built = files_of(commit, PATHS), dict[str, Entry](
+        {"bin/vga": File(program.read_bytes(), True)}
+    )
+    for target, archive in archives.items():
+        built.update(library_files(files, target, archive))
+    install = File((Path(__file__).parent / INSTALL).read_bytes(), True)
+    with tempfile.TemporaryDirectory(prefix="vga-release-") as name:
+        # The suite's scripts, each whole.
+        run([sys.executable, TOP / "tools" / "vga-report", "scripts", Path(name) / "scripts"])
+        scripts = laid_files(Path(name))
+    entries = {**files, **scripts, **built, **LINKS, INSTALL: install}
+    return settled({**entries, MADE_OF: made_of(commit, kit_line(), built)})
+
+
+def portable_entries(commit: Commit) -> dict[str, Entry]:
+    """All files of the archive of the C file."""
+    return settled(files_of(commit, tuple(ALONE)), ALONE)
+
+
+def wheel_of(files: Mapping[str, Entry], library: Path, folder: Path, target: Target) -> Path:
+    """Makes the wheel for a processor in a folder, of these files of the repository and a folder of
+    the library's."""
+    for place, file in files.items():
+        if isinstance(file, File) and place.startswith(tuple(f"{source}/" for source in SOURCES)):
+            laid = folder / "sources" / place
+            laid.parent.mkdir(parents=True, exist_ok=True)
+            laid.write_bytes(file.content)
+    made = folder / "made"
+    made.mkdir()
+    # As where Python itself is built for another processor.
+    environment = {
+        "ZAKLIMOT_DIR": str(library),
+        "ZAKLIMOT_PORTABLE": "",
+        "_PYTHON_HOST_PLATFORM": f"linux-{target.name}",
+    }
+    # With -B Python leaves nothing beside the sources, which would go into the wheel.
+    run(
+        [sys.executable, "-B", "-c", MAKING, made],
+        folder / "sources" / PACKAGE,
+        environment=environment,
+    )
+    return next(made.iterdir())
+
+
+def _link(page: str, places: AbstractSet[str], moved: Mapping[str, str], found: Match[str]) -> str:
+    """A link of a page of the repository, as it is in a release that has these places: words, if it
+    leads elsewhere."""
+    if found["place"] is None:
+        return found[0]
+    target = posixpath.normpath(posixpath.join(posixpath.dirname(page), found["place"]))
+    place = moved.get(target, target)
+    if place not in places:
+        return found["text"]
+    folder = posixpath.dirname(moved.get(page, page)) or "."
+    there = posixpath.relpath(place, folder) + (found["anchor"] or "")
+    return f"{found['mark']}[{found['text']}]({there})"
+
+
+def clean_commit() -> Commit:
+    """The commit that is checked out. Where a file differs from it, there is none to make a release
+    from."""
+    changed = (
+        _git("status", "--porcelain", "--untracked-files=no")
+        .decode("utf-8", "replace")
+        .split("\n")[0]
+    )
+    if changed:
+        raise Trouble(f"a release is made from a commit, and this is changed: {changed.strip()}")
+    number, time = _git("log", "-1", "--format=%H %ct").decode("ascii").split()
+    return Commit(number, int(time))
+
+
+def files_of(commit: Commit, paths: Sequence[str]) -> dict[str, Entry]:
+    """The files and the links of a commit below these paths."""
+    files: dict[str, Entry] = {}
+    with tarfile.open(
+        fileobj=io.BytesIO(_git("archive", "--format=tar", commit.number, "--", *paths))
+    ) as archive:
+        for member in archive.getmembers():
+            stream = archive.extractfile(member) if member.isfile() else None
+            if stream is not None:
+                files[member.name] = File(stream.read(), bool(member.mode & EXECUTABLE))
+            elif member.issym():
+                files[member.name] = member.linkname
+    return files
+
+
+def _git(*words: str) -> bytes:
+    return ended_well(["git", "-C", str(TOP), *words]).output
+
+
+def _member(name: str, entry: Optional[Entry], time: int) -> tarfile.TarInfo:
+    """What an archive tells of a file, a link, or a folder, which has no entry: no owner, and the
+    commit's time."""
+    made = tarfile.TarInfo(name)
+    made.mtime, made.mode = time, RUN
+    if isinstance(entry, File):
+        made.size, made.mode = len(entry.content), RUN if entry.is_executable else PLAIN
+    elif entry is None:
+        made.type = tarfile.DIRTYPE
+    else:
+        made.type, made.linkname = tarfile.SYMTYPE, entry
+    return made
+
+
+def pack(stream: BinaryIO, entries: Mapping[str, Entry], time: int) -> None:
+    """Writes the archive: names in order, each folder before what lies in it."""
+    folders = {str(folder) for path in entries for folder in PurePosixPath(path).parents} - {"."}
+    with gzip.GzipFile(
+        filename="", mode="wb", compresslevel=LEVEL, fileobj=stream, mtime=time
+    ) as packed:
+        with tarfile.open(fileobj=packed, mode="w", format=tarfile.PAX_FORMAT) as archive:
+            for name in sorted({*entries, *folders}):
+                entry = entries.get(name)
+                content = io.BytesIO(entry.content) if isinstance(entry, File) else None
+                archive.addfile(_member(name, entry, time), content)
+
+
+def _parser() -> argparse.ArgumentParser:
+    parser = cli.tool_parser(
+        "vga-release",
+        "Packs a release of what is checked out.",
+        "tools/vga-release release",
+        "docs/RELEASES.md",
+    )
+    parser.add_argument("folder", type=Path, metavar="FOLDER", help="where the archive goes")
+    cli.add(
+        parser,
+        "--program FILE",
+        "takes this program (default: `rt run` proves and builds one)",
+        type=to_read,
+    )
+    cli.add(
+        parser,
+        "--archive FILE",
+        "takes this archive of the library (default: `rt lib` builds one)",
+        type=to_read,
+    )
+    cli.add(
+        parser,
+        f"--archive-{AARCH64.name} FILE",
+        f"the same of the library for {AARCH64.name}",
+        type=to_read,
+    )
+    told = f"packs the archive of {PORTABLE}/zaklimot.c alone, for which nothing is built"
+    cli.add(parser, f"--{PORTABLE}", told)
+    parser.set_defaults(job=_release)
+    return parser
+
+
+def _built(words: argparse.Namespace, progress: Progress) -> tuple[Path, dict[Target, Path]]:
+    tell = phases(progress)
+    if words.program is None:
+        # What is kept of its proof makes it quick.
+        run(["rt", "run", "--", "--help"], PROGRAM, tell("proving and building the program"))
+    program = Path(words.program or PROGRAM / "out" / "vga")
+    archives = {}
+    for target, given in ((X86_64, words.archive), (AARCH64, words.archive_aarch64)):
+        heard = tell(f"proving and building the library for {target.name}")
+        archives[target] = Path(given or built_archive(BACKENDS[0], target, heard))
+    progress.clear()
+    return program, archives
+
+
+def write_archive(folder: Path, kind: str, entries: Mapping[str, Entry], time: int) -> None:
+    """Writes an archive and its checksum into a folder, and prints their names."""
+    # What the archive is called, and the folder that it holds.
+    name = f"zaklimot-{version()}-{kind}"
+    path = folder / f"{name}.tar.gz"
+    with writing(str(path)) as stream:
+        pack(stream, {f"{name}/{place}": entry for place, entry in entries.items()}, time)
+    sums = path.with_name(f"{path.name}.{SUM}")
+    write_file(
+        str(sums), f"{hashlib.sha256(path.read_bytes()).hexdigest()}  {path.name}\n".encode("ascii")
+    )
+    print(path, sums, sep="\n")
+
+
+def _release(words: argparse.Namespace, progress: Progress) -> None:
+    given = (words.program, words.archive, words.archive_aarch64)
+    if words.portable and any(given):
+        raise Trouble(f"--{PORTABLE} takes nothing that is built")
+    check_given(*given)
+    check_folder(words.folder)
+    commit = clean_commit()
+    archives = {PORTABLE: portable_entries(commit)}
+    if not words.portable:
+        for program in (*X86_64.programs(), *AARCH64.programs()):
+            check_program(program)
+        archives[MACHINE] = release_entries(commit, *_built(words, progress))
+    words.folder.mkdir(parents=True, exist_ok=True)
+    for kind in sorted(archives, reverse=True):
+        write_archive(words.folder, kind, archives[kind], commit.time)
+
+
+# Runs a command line, and answers its exit status.
+main = cli.runner(_parser)

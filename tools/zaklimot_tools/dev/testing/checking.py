@@ -1,0 +1,92 @@
+"""The test command for a machine without Rattle: the suite and the tools' tests, over the portable
+program."""
+
+from __future__ import annotations
+
+import argparse
+import json
+import os
+import shlex
+import sys
+import time
+from typing import NamedTuple
+
+from zaklimot_tools.core import cli
+from zaklimot_tools.core.processes import captured
+from zaklimot_tools.core.progress import Progress
+from zaklimot_tools.core.trouble import AGREED as PASSED, DIFFERED as FAILED, TROUBLE, Trouble
+from zaklimot_tools.script.portable import portable_program
+
+from .discovering import TOOLS, run_modules
+
+# What the suite does may take so many seconds.
+MOST_SECONDS = 900
+
+
+class Checked(NamedTuple):
+    """How many cases and tests have passed, failed and were skipped."""
+
+    passed: int
+    failed: int
+    skipped: int
+
+    def text(self) -> str:
+        """The counts as the last line tells them."""
+        return f"{self.passed} passed, {self.failed} failed" + (
+            f", {self.skipped} skipped" if self.skipped else ""
+        )
+
+
+def check_suite(program: str, *chosen: str) -> Checked:
+    """Holds a program to the suite, or to the cases that `--only` chooses. Those that don't agree
+    are printed."""
+    ways = [
+        shlex.join([program, way]) + " {script} --fonts {fonts} {until}" for way in ("go", "run")
+    ]
+    words = [ways[0], "--bytes", ways[1], "--jobs", str(os.cpu_count() or 1), "--json", *chosen]
+    done = captured([sys.executable, TOOLS / "vga-report", "suite", *words], seconds=MOST_SECONDS)
+    if done.status == TROUBLE:
+        raise Trouble(f"the suite can't be run\n{done.said()}")
+    told = json.loads(done.output)
+    for result in (case for rule in told["rules"] for case in rule["cases"]):
+        if result["answer"] != "agrees":
+            print(f"{result['answer']}  {result['name']}: {result['reason']}", flush=True)
+    counts = told["cases"]
+    return Checked(counts["agrees"], counts["differs"] + counts["failed"], counts["skipped"])
+
+
+def _check(words: argparse.Namespace, progress: Progress) -> int:
+    begun, program = time.monotonic(), portable_program()
+    suite = check_suite(program)
+    print(f"the suite over the portable program: {suite.text()}", flush=True)
+    tests = run_modules(words.modules, program)
+    both = Checked(
+        suite.passed + tests.passed, suite.failed + tests.failed, suite.skipped + tests.skipped
+    )
+    print(
+        f"that took {time.monotonic() - begun:.0f} seconds; the program is tested by this, and not"
+        " proved\n"
+    )
+    print(both.text())
+    return FAILED if both.failed or not both.passed else PASSED
+
+
+def _parser() -> argparse.ArgumentParser:
+    parser = cli.tool_parser(
+        "vga-check",
+        (
+            "Runs the suite and the tests of the tools over the portable program, which it compiles"
+            " once."
+        ),
+        "tools/vga-check",
+        "CONTRIBUTING.md",
+        cli.JUDGES,
+    )
+    told = "of the tests these modules alone, such as tests.test_trace (default: all)"
+    parser.add_argument("modules", nargs="*", metavar="MODULE", help=told)
+    parser.set_defaults(job=_check)
+    return parser
+
+
+# Runs a command line, and answers its exit status.
+main = cli.runner(_parser)

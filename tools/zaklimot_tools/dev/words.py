@@ -1,0 +1,52 @@
+"""The options that tools have in common which prove the library's crate, or check it."""
+
+import argparse
+from pathlib import Path
+from typing import Iterable, Optional, Sequence
+
+from zaklimot_tools.core.cli import add
+from zaklimot_tools.core.trouble import Trouble
+
+
+def add_proof(
+    parser: argparse.ArgumentParser,
+    gate: Optional[argparse._ActionsContainer] = None,
+    usually: str = "",
+) -> None:
+    """The options of a tool that proves the library's crate; `gate` gets that of the gate."""
+    add(
+        gate or parser,
+        "--gated",
+        f"works over the libraries of `rt ci`, which must have run just before{usually}",
+    )
+    add(
+        parser,
+        "--proof FOLDER",
+        "with --gated: keeps the crate's proof there, or takes it from there",
+        type=Path,
+    )
+
+
+def add_checks(
+    parser: argparse.ArgumentParser,
+    checks: Iterable[str],
+    gate: Optional[argparse._ActionsContainer] = None,
+) -> None:
+    """The same of a tool that checks the crate."""
+    add_proof(parser, gate)
+    add(
+        parser,
+        "--only",
+        "this check alone; again and again",
+        action="append",
+        default=[],
+        choices=checks,
+    )
+
+
+def refuse_to_check(words: argparse.Namespace, lacking: Sequence[str] = ()) -> None:
+    """Ends the work where these options contradict one another, or the machine lacks something."""
+    if words.proof is not None and not words.gated:
+        raise Trouble("--proof keeps a proof of --gated")
+    if lacking:
+        raise Trouble("this machine lacks\n" + "\n".join(f"  {line}" for line in lacking))

@@ -1,0 +1,1 @@
+"""Why a line is no step, why a fault came, and why a step was refused."""

@@ -1,0 +1,261 @@
+"""The table of steps that the floppy's interpreter reads: what a machine is to do, and which
+answers come of it.
+
+Each step is an opcode and its fields, low bytes first. The same table tells what to make of the
+answers, so that an image, or what came over the serial port, stands alone.
+"""
+
+import struct
+import zlib
+from itertools import chain, takewhile
+from typing import Iterable, Iterator, Mapping, Optional
+
+from zaklimot import format
+from zaklimot.format import REGISTERS, Block, Script, Step
+from zaklimot.format.script import Item
+from zaklimot_tools.core.trouble import Trouble
+
+# The opcodes; those of a script's steps have its numbers.
+FINISH, OUT, OUTW, IN, INW, PUT, PUTW, GET, GETW, INT = range(10)
+PASS_OVER, LOOK_AWAY, FILL, REPEAT, END, SCRIPT, END_OF_RESET = range(10, 17)
+STEPS = {name: form.opcode for name, form in format.FORMS.items() if OUT <= form.opcode <= GETW}
+FORMS = {
+    opcode: struct.Struct(f"<{fields}")
+    for opcode, fields in {
+        OUT: "HB",
+        OUTW: "HH",
+        IN: "H",
+        INW: "H",
+        PUT: "HHB",
+        PUTW: "HHH",
+        GET: "HH",
+        GETW: "HH",
+        # ax, bx, cx, dx; where it looks for its block or table; the table's length, and the
+        # block's.
+        INT: "4HBHH",
+        # The last value of miscellaneous output before a script, and the length of the script's
+        # name.
+        SCRIPT: "BB",
+        PASS_OVER: "H",
+        LOOK_AWAY: "HB",
+        FILL: "HB",
+        REPEAT: "H",
+        END: "",
+        END_OF_RESET: "",
+        FINISH: "",
+    }.items()
+}
+# Bytes of such a number stand behind the fields, the last of which is the number.
+BEHIND = (INT, SCRIPT)
+# The header before the steps: a name, the version of the forms, where the first script stands,
+# behind the steps that reset the adapter; the length of all steps, and their check.
+HEADER = struct.Struct("<4sHHII")
+NAME, VERSION = b"VGAT", 1
+
+# Ports that a machine may be asked for: those of the adapter, without the printer's between them
+# (3BC to 3BF), and without 3C3, by which a machine turns the adapter off.
+PORTS = frozenset([*range(0x3B0, 0x3BC), *range(0x3C0, 0x3E0)]) - {0x3C3}
+STATUS_PORTS = frozenset([0x3BA, 0x3DA])
+MEMORY = range(0xA0000, 0xC0000)
+# Longer blocks don't fit a segment wherever they begin.
+MOST_BLOCK = 0xFFF0
+MOST_NAME = 0xFF
+
+# Where a service looks for its block, or writes its table.
+AT_DX, AT_BP, TABLE_AT_DX = 1, 2, 4
+PLACES = {
+    0x1002: AT_DX,
+    0x1012: AT_DX,
+    0x1100: AT_BP,
+    0x1110: AT_BP,
+    0x1009: TABLE_AT_DX,
+    0x1017: TABLE_AT_DX,
+}
+STRING = 0x13
+PALETTE_LENGTH, DAC_ENTRIES = 17, 256
+
+# What the steps of a report answer, and how many bytes of answers each has: a call more of them
+# where it has a table.
+DONE, SKIPPED, BYTE, WORD, CALL = "ok", "skipped", "byte", "word", "call"
+ANSWER_LENGTHS = {DONE: 0, SKIPPED: 0, BYTE: 1, WORD: 2, CALL: 8}
+
+
+def is_for_machine(step: Step) -> bool:
+    """Whether a machine can do a step, and may: one that names the adapter's ports or its memory,
+    or a call."""
+    if step.name == "int":
+        return len(step.block) <= MOST_BLOCK and _table_length(step.numbers) is not None
+    if step.name not in STEPS:
+        return False
+    place, last = step.numbers[0], step.numbers[0] + step.name.endswith("w")
+    decoded = PORTS if step.name.startswith(("in", "out")) else MEMORY
+    return place in decoded and last in decoded
+
+
+def _packed(opcode: int, *fields: int) -> bytes:
+    return bytes([opcode]) + FORMS[opcode].pack(*fields)
+
+
+def _packed_item(step: Item) -> bytes:
+    """A block as the interpreter's, or a step: one of a machine, or one that it passes over."""
+    if isinstance(step, Block):
+        return _packed(REPEAT, step.count) + b"".join(map(_packed_item, step.steps)) + _packed(END)
+    if not is_for_machine(step):
+        return _packed(PASS_OVER, 1)
+    if step.name == "int":
+        ax = step.numbers[0]
+        place = AT_BP if ax >> 8 == STRING else PLACES.get(ax, 0)
+        return (
+            _packed(INT, *step.numbers, place, _table_length(step.numbers) or 0, len(step.block))
+            + step.block
+        )
+    opcode, (place, *value) = STEPS[step.name], step.numbers
+    if opcode in (IN, INW) and STATUS_PORTS & {place, place + (opcode == INW)}:
+        return _packed(LOOK_AWAY, place, opcode == INW)
+    if opcode in (OUT, OUTW, IN, INW):
+        return _packed(opcode, place, *value)
+    return _packed(opcode, place >> 4, place & 15, *value)
+
+
+def _table_length(registers: tuple[int, ...]) -> Optional[int]:
+    """How many bytes a call answers behind its registers; None where they would go past the
+    adapter's entries."""
+    ax, bx, cx, _ = registers
+    if ax == 0x1009:
+        return PALETTE_LENGTH
+    if ax == 0x1017:
+        return 3 * cx if bx + cx <= DAC_ENTRIES else None
+    return 0
+
+
+def reset_steps() -> bytes:
+    """The steps that bring the adapter into its state at power-on, after a machine's BIOS or a
+    script has used it.
+
+    Two registers have another value then. The sequencer's reset register keeps 03: a real adapter
+    whose sequencer stands still answers no cycle of memory. Miscellaneous output gets the value
+    that stands with the script.
+    """
+
+    def registers(port: int, values: Iterable[tuple[int, int]]) -> bytes:
+        return b"".join(_packed(OUTW, port, value << 8 | index) for index, value in values)
+
+    attributes = b"".join(
+        _packed(OUT, 0x3C0, index) + _packed(OUT, 0x3C0, 0) for index in range(0x15)
+    )
+    indexes = b"".join(_packed(OUT, port, 0) for port in (0x3C4, 0x3C8, 0x3CE, 0x3D4))
+    return b"".join(
+        [
+            _packed(INT, 0x0003, 0, 0, 0, 0, 0, 0),
+            _packed(OUT, 0x3C2, 0x03),
+            registers(0x3D4, [(0x11, 0)]),
+            registers(0x3C4, [(0, 3), (4, 6), (2, 0x0F)]),
+            registers(0x3CE, [*((index, 0) for index in range(8)), (8, 0xFF)]),
+            # Emulators have another memory of text: planes are reached in graphics alone.
+            registers(0x3CE, [(6, 5)]),
+            _packed(LOOK_AWAY, 0x3DA, 0),
+            _packed(OUT, 0x3C0, 0x10),
+            _packed(OUT, 0x3C0, 1),
+            _packed(FILL, 0xA000, 0),
+            _packed(GET, 0xA000, 0),
+            _packed(OUT, 0x3C6, 0xFF),
+            _packed(OUT, 0x3C8, 0),
+            _packed(REPEAT, 768),
+            _packed(OUT, 0x3C9, 0),
+            _packed(END),
+            _packed(LOOK_AWAY, 0x3DA, 0),
+            attributes,
+            _packed(OUT, 0x3C0, 0),
+            _packed(LOOK_AWAY, 0x3DA, 0),
+            registers(0x3D4, ((index, 3 if index == 0x17 else 0) for index in range(0x19))),
+            registers(0x3C4, ((index, 0) for index in range(1, 5))),
+            registers(0x3CE, ((index, 0) for index in range(9))),
+            indexes,
+            _packed(END_OF_RESET),
+        ]
+    )
+
+
+def _has_call(item: Item) -> bool:
+    return any(map(_has_call, item.steps)) if isinstance(item, Block) else item.name == "int"
+
+
+def table_for(scripts: Mapping[str, Script]) -> bytes:
+    """The whole table of scripts by their names, with its header.
+
+    A script that calls services finds 03 in miscellaneous output, any other 00: a BIOS may write
+    the CRT controller at 3D4 before it says that it is there.
+    """
+    parts = [reset_steps()]
+    for name, script in scripts.items():
+        named = name.encode("utf-8", "surrogateescape")
+        if len(named) > MOST_NAME:
+            raise Trouble(f"the name of a script has at most {MOST_NAME} bytes", name)
+        parts += [_packed(SCRIPT, 3 if any(map(_has_call, script.items)) else 0, len(named)), named]
+        parts += map(_packed_item, script.items)
+    steps = b"".join(parts) + _packed(FINISH)
+    return HEADER.pack(NAME, VERSION, len(parts[0]), len(steps), zlib.crc32(steps)) + steps
+
+
+class Table:
+    """A table that was read, from an image or from a record."""
+
+    def __init__(self, data: bytes, name: str) -> None:
+        if len(data) < HEADER.size or data[:4] != NAME:
+            raise Trouble("it holds no table of steps of vga-floppy", name)
+        _, version, self._first, length, self.check = HEADER.unpack_from(data)
+        if version != VERSION:
+            raise Trouble(
+                f"its table is of version {version}, and this tool reads version {VERSION}", name
+            )
+        self._steps = data[HEADER.size : HEADER.size + length]
+        if len(self._steps) < length or zlib.crc32(self._steps) != self.check:
+            raise Trouble("its table of steps is damaged", name)
+
+    def scripts(self) -> list[tuple[str, Script]]:
+        """Its scripts in their order, with their names.
+
+        Their steps are called by what they answer; that of a call has its registers, and how long
+        its table is.
+        """
+        scripts: list[tuple[str, list[Item]]] = []
+        steps = self._decoded()
+        for opcode, fields, behind in steps:
+            if opcode == SCRIPT:
+                scripts.append((behind.decode("utf-8", "surrogateescape"), []))
+            elif opcode == REPEAT:
+                inner = takewhile(lambda step: step[0] != END, steps)
+                answers = chain.from_iterable(_answers(*step[:2]) for step in inner)
+                scripts[-1][1].append(Block(fields[0], tuple(answers)))
+            elif opcode != FINISH:
+                scripts[-1][1].extend(_answers(opcode, fields))
+        return [(name, Script(tuple(items))) for name, items in scripts]
+
+    def answer_length(self) -> int:
+        """How many bytes of answers the scripts have."""
+        return sum(length_of(item) for _, script in self.scripts() for item in script.items)
+
+    def _decoded(self) -> Iterator[tuple[int, tuple[int, ...], bytes]]:
+        at = self._first
+        while at < len(self._steps):
+            opcode = self._steps[at]
+            fields = FORMS[opcode].unpack_from(self._steps, at + 1)
+            at += 1 + FORMS[opcode].size
+            length = fields[-1] if opcode in BEHIND else 0
+            yield opcode, fields, self._steps[at : at + length]
+            at += length
+
+
+def _answers(opcode: int, fields: tuple[int, ...]) -> list[Step]:
+    if opcode == INT:
+        return [Step(CALL, (*fields[:4], fields[5]))]
+    if opcode in (PASS_OVER, LOOK_AWAY):
+        return [Step(SKIPPED)] * (fields[0] if opcode == PASS_OVER else 1)
+    return [Step(BYTE if opcode in (IN, GET) else WORD if opcode in (INW, GETW) else DONE)]
+
+
+def length_of(answer: Item) -> int:
+    """How many bytes an answer has, or all those of a block."""
+    if isinstance(answer, Block):
+        return answer.count * sum(map(length_of, answer.steps))
+    return ANSWER_LENGTHS[answer.name] + sum(answer.numbers[len(REGISTERS) :])

@@ -1,0 +1,1 @@
+"""Pictures and images: PNG, still and moving, and what other programs draw."""

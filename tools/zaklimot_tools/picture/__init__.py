@@ -1,0 +1,1 @@
+"""Images of others into scripts that draw them."""

@@ -1,0 +1,412 @@
+"""The colours of an image: its own, where they fit, and else those that stand for them."""
+
+from __future__ import annotations
+
+from collections import Counter
+from dataclasses import dataclass
+from enum import Enum
+from itertools import chain
+from typing import Callable, Iterable, Iterator, Sequence
+
+from zaklimot_tools.core.trouble import Trouble
+from zaklimot_tools.images.reading import Image
+
+# Red, green and blue, six bits each.
+Colour = tuple[int, int, int]
+# How the eye weighs a difference of red, of green and of blue.
+WEIGHTS = (2, 4, 1)
+# Colours, each with how many dots have it.
+Box = list[tuple[Colour, int]]
+# Where an image has more colours than this, those that differ in their low bits alone are first
+# taken as one.
+MANY = 4096
+# How often colours that save little are put elsewhere at most, and how often all are moved each
+# time.
+EXCHANGES, MOVES = 8, 6
+# A colour that more than seven of eight dots of its box have is taken as it is.
+PLAIN = 7
+Row = Sequence[Colour]
+MOST = 63
+# Colours for a dither are tried on so many dots at most, and judged by areas of so many dots across
+# and down.
+TRIED, AREA = 16384, 4
+# An ordered dither of four by four dots: the order in which they become brighter.
+ORDERED = ((0, 8, 2, 10), (12, 4, 14, 6), (3, 11, 1, 9), (15, 7, 13, 5))
+
+
+def distance(one: Sequence[int], other: Sequence[int]) -> int:
+    """How far two colours are from each other: a weighted sum of squares."""
+    red, green, blue = one[0] - other[0], one[1] - other[1], one[2] - other[2]
+    return WEIGHTS[0] * red * red + WEIGHTS[1] * green * green + WEIGHTS[2] * blue * blue
+
+
+class Nearest:
+    """The number of the nearest of some colours; of several the first.
+
+    A search begins at the colour that was nearest to one close by, and looks at those around it
+    alone: where another is twice as far from it as the colour that is looked for, that one can't be
+    nearer. Distances are squares, so twice as far is four times.
+    """
+
+    def __init__(self, colours: Sequence[Colour]) -> None:
+        self._colours = colours
+        self._known: dict[Colour, int] = {}
+        self._begins: dict[Colour, int] = {}
+        self._around: dict[int, list[tuple[int, int, Colour]]] = {}
+
+    def __call__(self, colour: Colour) -> int:
+        """The number for a colour, whose components may be any integers."""
+        number = self._known.get(colour)
+        if number is None:
+            red, green, blue = colour
+            close = red >> 2, green >> 2, blue >> 2
+            number = self._begins[close] = self._known[colour] = self._search(
+                colour, self._begins.get(close, 0)
+            )
+        return number
+
+    def _search(self, colour: Colour, first: int) -> int:
+        least = distance(colour, self._colours[first])
+        best = least, first
+        for far, number, other in self._neighbours(first):
+            if far > 4 * least:
+                break
+            best = min(best, (distance(colour, other), number))
+        return best[1]
+
+    def _neighbours(self, number: int) -> list[tuple[int, int, Colour]]:
+        if number not in self._around:
+            own = self._colours[number]
+            self._around[number] = sorted(
+                (distance(own, colour), other, colour)
+                for other, colour in enumerate(self._colours)
+                if other != number
+            )
+        return self._around[number]
+
+
+def middle_colours(counts: Counter[Colour], most: int) -> list[Colour]:
+    """So many colours in the middle of those of an image: by cutting boxes of colours at their
+    median, and k-means."""
+    counts = _fewer(counts)
+    return sorted(set(_refined(counts, [_mean(box) for box in _cut_boxes(counts, most)])))
+
+
+def outer_colours(counts: Counter[Colour], most: int) -> list[Colour]:
+    """So many colours of an image that lie far apart: each is the one that is farthest from those
+    before it."""
+    counts = _fewer(counts)
+    middle = _mean(list(counts.items()))
+    chosen = [max(counts, key=lambda colour: (distance(colour, middle), colour))]
+    far = {colour: distance(colour, chosen[0]) for colour in counts}
+    while len(chosen) < min(most, len(counts)):
+        last = max(far, key=lambda colour: (far[colour], colour))
+        chosen.append(last)
+        far = {colour: min(was, distance(colour, last)) for colour, was in far.items()}
+    return sorted(chosen)
+
+
+def _fewer(counts: Counter[Colour]) -> Counter[Colour]:
+    """At most so many colours as can be looked at: each the middle of those whose high bits are
+    alike."""
+    shift, fewer = 0, counts
+    while len(fewer) > MANY:
+        shift += 1
+        boxes: dict[Colour, Box] = {}
+        for colour, count in counts.items():
+            red, green, blue = colour
+            boxes.setdefault((red >> shift, green >> shift, blue >> shift), []).append(
+                (colour, count)
+            )
+        fewer = Counter()
+        for box in boxes.values():
+            fewer[_mean(box)] += sum(count for _, count in box)
+    return fewer
+
+
+def _mean(box: Box) -> Colour:
+    """The middle of colours; the one that nearly all of the dots have, if there is one."""
+    total = sum(count for _, count in box)
+    colour, most = max(box, key=lambda entry: (entry[1], entry[0]))
+    if 8 * most > PLAIN * total:
+        return colour
+    red, green, blue = (
+        (2 * sum(colour[part] * count for colour, count in box) + total) // (2 * total)
+        for part in range(3)
+    )
+    return red, green, blue
+
+
+def _widest(box: Box) -> tuple[int, int]:
+    """How wide a box of colours is, weighted, and in which component."""
+    spans = [
+        (
+            WEIGHTS[part]
+            * (max(colour[part] for colour, _ in box) - min(colour[part] for colour, _ in box))
+            ** 2,
+            part,
+        )
+        for part in range(3)
+    ]
+    return max(spans)
+
+
+def _cut(box: Box, part: int) -> Iterator[Box]:
+    """A box in two, so that about half of the dots stand in each; none is empty."""
+    ordered = sorted(box, key=lambda entry: (entry[0][part], entry))
+    half, passed, at = sum(count for _, count in ordered) / 2, 0, 0
+    while at < len(ordered) - 1 and (at == 0 or passed + ordered[at][1] / 2 <= half):
+        passed += ordered[at][1]
+        at += 1
+    yield ordered[:at]
+    yield ordered[at:]
+
+
+def _cut_boxes(counts: Counter[Colour], most: int) -> list[Box]:
+    """So many boxes of colours, or one for each colour."""
+    boxes = [list(counts.items())]
+    while len(boxes) < most:
+        spans = [(_widest(box), -number) for number, box in enumerate(boxes) if len(box) > 1]
+        if not spans:
+            break
+        # The box that is widest, and of the most dots, is cut first.
+        (_, part), number = max(
+            ((span * sum(count for _, count in boxes[-at]), part), at) for (span, part), at in spans
+        )
+        box = boxes.pop(-number)
+        boxes.extend(_cut(box, part))
+    return boxes
+
+
+def _boxes_of(counts: Counter[Colour], chosen: Sequence[Colour]) -> list[Box]:
+    nearest = Nearest(chosen)
+    boxes: list[Box] = [[] for _ in chosen]
+    for colour, count in counts.items():
+        boxes[nearest(colour)].append((colour, count))
+    return boxes
+
+
+def _lost(box: Box, middle: Colour) -> int:
+    return sum(count * distance(colour, middle) for colour, count in box)
+
+
+def _refined(counts: Counter[Colour], chosen: list[Colour]) -> list[Colour]:
+    """Colours in the middle of those that are nearest to them; those that save little are put where
+    most is lost."""
+    best, least = chosen, -1
+    for _ in range(EXCHANGES):
+        for _ in range(MOVES):
+            boxes = _boxes_of(counts, chosen)
+            moved = [_mean(box) if box else colour for colour, box in zip(chosen, boxes)]
+            if moved == chosen:
+                break
+            chosen = moved
+        boxes = _boxes_of(counts, chosen)
+        lost = list(map(_lost, boxes, chosen))
+        if 0 <= least <= sum(lost):
+            break
+        best, least = chosen, sum(lost)
+        chosen = _exchanged(chosen, boxes, lost)
+    return best
+
+
+def _exchanged(chosen: Sequence[Colour], boxes: Sequence[Box], lost: Sequence[int]) -> list[Colour]:
+    """Colours of which those that save little stand where most is won: in one half of a box that is
+    cut in two."""
+    dots = [sum(count for _, count in box) for box in boxes]
+    saved = []
+    for number, colour in enumerate(chosen):
+        far, other = min(
+            (distance(colour, near), at) for at, near in enumerate(chosen) if at != number
+        )
+        # What two boxes lose more where they become one.
+        saved.append(
+            (dots[number] * dots[other] * far // max(1, dots[number] + dots[other]), number, other)
+        )
+    won = []
+    for number, box in enumerate(boxes):
+        if len(box) > 1:
+            halves = list(_cut(box, _widest(box)[1]))
+            middles = [_mean(half) for half in halves]
+            won.append((lost[number] - sum(map(_lost, halves, middles)), number, middles))
+    made, touched = list(chosen), set[int]()
+    for (little, number, other), (much, cut, middles) in zip(
+        sorted(saved), sorted(won, reverse=True)
+    ):
+        if little >= much:
+            break
+        if not touched & {number, other, cut}:
+            touched |= {number, other, cut}
+            made[cut], made[number] = middles
+    return made
+
+
+class Fewer(Enum):
+    """What is done to an image of more colours than a mode has."""
+
+    REFUSED = "refused"
+    NEAREST = "nearest"
+    FLOYD = "floyd"
+    ORDERED = "ordered"
+
+
+@dataclass(frozen=True)
+class Indexed:
+    """An image whose dots are numbers of its colours; the colour of the most dots is number 0."""
+
+    colours: tuple[Colour, ...]
+    rows: tuple[bytes, ...]
+
+    def renumbered(self, numbers: Sequence[int], count: int) -> Indexed:
+        """The same image with colour i as number numbers[i]; numbers that no colour has are
+        black."""
+        colours = [(0, 0, 0)] * count
+        for colour, number in zip(self.colours, numbers):
+            colours[number] = colour
+        table = bytes(numbers) + bytes(256 - len(numbers))
+        return Indexed(tuple(colours), tuple(row.translate(table) for row in self.rows))
+
+
+def six_bits(image: Image) -> list[list[Colour]]:
+    """The dots of an image, six bits a component: of eight bits the six high ones."""
+    shift = 0 if image.most == MOST else 2
+    table = bytes(value >> shift if value >> shift <= MOST else MOST for value in range(256))
+    rows = (row.translate(table) for row in image.rows)
+    return [list(zip(row[::3], row[1::3], row[2::3])) for row in rows]
+
+
+def _clamped(value: int) -> int:
+    return 0 if value < 0 else MOST if value > MOST else value
+
+
+def _spread(colours: Sequence[Colour]) -> float:
+    """How far a colour is from the one that is nearest to it, in one component, on the average."""
+    near = [
+        min(
+            (other for other in colours if other != colour),
+            key=lambda other: distance(colour, other),
+        )
+        for colour in colours
+    ]
+    return sum(max(abs(a - b) for a, b in zip(*pair)) for pair in zip(colours, near)) / len(colours)
+
+
+def _ordered(rows: Sequence[Row], colours: Sequence[Colour]) -> Iterator[bytes]:
+    """Rows by the ordered dither: a dot is made brighter or darker by its place, as far as colours
+    lie apart."""
+    nearest, own = Nearest(colours), {colour: number for number, colour in enumerate(colours)}
+    spread = _spread(colours)
+    for y, row in enumerate(rows):
+        steps = [round(((2 * order + 1) / 32 - 0.5) * spread) for order in ORDERED[y % 4]]
+        made = bytearray(len(row))
+        for x, dot in enumerate(row):
+            # A dot whose colour is there keeps it.
+            step, number = steps[x % 4], own.get(dot)
+            if number is None:
+                red, green, blue = dot
+                number = nearest(
+                    (_clamped(red + step), _clamped(green + step), _clamped(blue + step))
+                )
+            made[x] = number
+        yield bytes(made)
+
+
+def _floyd(rows: Sequence[Row], colours: Sequence[Colour]) -> Iterator[bytes]:
+    """Rows by the dither of Floyd and Steinberg: what a dot is off goes to those behind and below,
+    in sixteenths."""
+    nearest = Nearest(colours)
+    width = len(rows[0])
+    below = [[0, 0, 0] for _ in range(width + 2)]
+    for row in rows:
+        above, below = below, [[0, 0, 0] for _ in range(width + 2)]
+        ahead, made = [0, 0, 0], bytearray(width)
+        for x, dot in enumerate(row):
+            owed = above[x + 1]
+            red, green, blue = (
+                _clamped(dot[part] + (owed[part] + ahead[part] + 8 >> 4)) for part in range(3)
+            )
+            number = made[x] = nearest((red, green, blue))
+            for part, value in enumerate((red, green, blue)):
+                error = value - colours[number][part]
+                ahead[part] = 7 * error
+                below[x][part] += 3 * error
+                below[x + 1][part] += 5 * error
+                below[x + 2][part] += error
+        yield bytes(made)
+
+
+def _nearest(rows: Sequence[Row], colours: Sequence[Colour]) -> Iterator[bytes]:
+    nearest = Nearest(colours)
+    return (bytes(map(nearest, row)) for row in rows)
+
+
+WAYS: dict[Fewer, Callable[[Sequence[Row], Sequence[Colour]], Iterable[bytes]]] = {
+    Fewer.NEAREST: _nearest,
+    Fewer.ORDERED: _ordered,
+    Fewer.FLOYD: _floyd,
+}
+
+
+def _chosen(rows: Sequence[Row], counts: Counter[Colour], most: int, fewer: Fewer) -> list[Colour]:
+    """So many colours for an image: of those in the middle and the outer ones those that a dither
+    does better with.
+
+    A dither makes each colour that lies between those it has, and none that lies outside of them;
+    but the farther these are apart, the coarser is its grain.
+    """
+    middle = middle_colours(counts, most)
+    if fewer is Fewer.NEAREST:
+        return middle
+    step = 1
+    while len(rows) // step * (len(rows[0]) // step) > TRIED:
+        step += 1
+    part = [row[::step] for row in rows[::step]]
+    return min(
+        (middle, outer_colours(counts, most)),
+        key=lambda colours: _seen(part, colours, WAYS[fewer](part, colours)),
+    )
+
+
+def _seen(rows: Sequence[Row], colours: Sequence[Colour], made: Iterable[bytes]) -> int:
+    """How far an image is from the one that it stands for: by its dots, times by areas of dots that
+    are seen as one."""
+    by_dots, by_areas, width = 1, 1, len(rows[0])
+    off = [[0, 0, 0] for _ in range(0, width, AREA)]
+    for y, (row, numbers) in enumerate(zip(rows, made), 1):
+        for x, (dot, number) in enumerate(zip(row, numbers)):
+            area, colour = off[x // AREA], colours[number]
+            by_dots += distance(dot, colour)
+            for part in range(3):
+                area[part] += dot[part] - colour[part]
+        if y % AREA == 0 or y == len(rows):
+            by_areas += sum(distance(area, (0, 0, 0)) for area in off)
+            off = [[0, 0, 0] for _ in off]
+    return by_dots * by_areas
+
+
+def indexed(rows: Sequence[Row], most: int, fewer: Fewer, name: str) -> tuple[Indexed, int]:
+    """The image of these dots in so many colours at most, and how many it had; a Trouble where more
+    are refused."""
+    counts = Counter(chain.from_iterable(rows))
+    colours = list(counts)
+    if len(colours) <= most:
+        numbers = {colour: number for number, colour in enumerate(colours)}
+        made = [bytes(map(numbers.__getitem__, row)) for row in rows]
+    elif fewer is Fewer.REFUSED:
+        told = f"it has {len(colours):,} colours of six bits a component, and the mode {most}"
+        raise Trouble(f"{told}: --nearest takes the nearest of {most}, --dither mixes them", name)
+    else:
+        colours = _chosen(rows, counts, most, fewer)
+        made = list(WAYS[fewer](rows, colours))
+    return _by_frequency(colours, made), len(counts)
+
+
+def _by_frequency(colours: Sequence[Colour], rows: Sequence[bytes]) -> Indexed:
+    """An image with its colours in the order of how many dots they have; colours without one are
+    left out."""
+    counts = Counter(b"".join(rows))
+    order = sorted(counts, key=lambda number: (-counts[number], colours[number]))
+    table = bytes.maketrans(bytes(order), bytes(range(len(order))))
+    return Indexed(
+        tuple(colours[old] for old in order), tuple(row.translate(table) for row in rows)
+    )

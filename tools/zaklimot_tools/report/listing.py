@@ -1,0 +1,438 @@
+"""A run step by step: each with its line, its number, its words as they were understood, and its
+answer.
+
+What was seen is counted, told for machines, or written into the script.
+"""
+
+import difflib
+import io
+import json
+import re
+import select
+import tempfile
+import time
+from contextlib import contextmanager, nullcontext
+from functools import partial
+from itertools import chain, count, islice, repeat, zip_longest
+from pathlib import Path
+from typing import Any, BinaryIO, Callable, Iterator, NamedTuple, Optional, Union
+
+from zaklimot.format import STATE, Answer, count_in, is_bytes, places_in, steps_in, words_in
+from zaklimot.format.report import VALUE
+from zaklimot.format.table import OK
+from zaklimot_tools.core.processes import IS_POSIX
+from zaklimot_tools.core.progress import Progress
+from zaklimot_tools.core.streams import counted, writing
+from zaklimot_tools.core.trouble import Trouble
+from zaklimot_tools.explain.faults import explained
+from zaklimot_tools.explain.registers import Registers
+from zaklimot_tools.script.program import Built, Limited, Tried
+from zaklimot_tools.script.reading import text_of
+
+from .expecting import (
+    ANY,
+    DUMPED,
+    MARK,
+    answer_of,
+    dumps_in,
+    expected_in,
+    is_as_expected,
+    is_worth_telling,
+    what_differs,
+)
+from .report import Report
+
+
+HEADING = "step as understood"
+# So many bytes of answers that differ stay in memory.
+MOST_TOLD = 1 << 20
+# Seconds between two looks whether there is an answer.
+PAUSE = 0.2
+# A script of bytes with no step has so many.
+EMPTY = 5
+# The place of a step that stands on no line of the script.
+NO_PLACE = None, b""
+# The widest column of steps; what is longer has its end cut off.
+MOST_WORDS = 47
+RANGE = re.compile(r"([0-9]{1,10})(?:-([0-9]{1,10}))?")
+
+
+class Row(NamedTuple):
+    """A step with its answer."""
+
+    step: Answer
+    words: str
+    line: Optional[int] = None
+    expected: Optional[str] = None
+    # A dump that is expected, where it stands whole; why the step was refused; whether a refusal
+    # must be expected.
+    dump: tuple[str, ...] = ()
+    why: str = ""
+    is_strict: bool = False
+
+    @property
+    def name(self) -> str:
+        """What the step does: its first word."""
+        return self.words.partition(" ")[0].lower()
+
+    @property
+    def is_wrong(self) -> bool:
+        """Whether another answer was expected."""
+        step, expected = self.step, self.expected
+        if expected is None:
+            return self.is_strict and step.is_refused
+        is_other = bool(self.dump) and expected != ANY and self.dump != step.lines
+        return is_other or not is_as_expected(step, expected, self.words)
+
+    def mismatch(self) -> str:
+        """What an answer is in the place of the one that was expected."""
+        if self.expected is None:
+            return f"answers {self.step.answer}, and no refusal is expected"
+        named = what_differs(self.step, self.expected, self.name, self.dump)
+        return f"answers {answer_of(self.step)}, not {self.expected}" + (
+            f": {'; '.join(named)}" if named else ""
+        )
+
+
+# A row of all its parts, made in half the time that the class itself takes.
+made_row = partial(tuple.__new__, Row)
+# What `--only` may call a step, and which steps it means.
+KINDS: dict[str, Callable[[Row], bool]] = {
+    "refused": lambda row: row.step.is_refused,
+    "read": lambda row: row.step.kind == VALUE,
+    "pictures": lambda row: row.step.picture is not None or row.step.answer == "ragged",
+    "dumps": lambda row: row.name == "show" and not row.step.is_refused,
+    "differs": lambda row: row.is_wrong,
+}
+
+
+def chosen(text: str) -> Callable[[Row], bool]:
+    """Which steps `--only` shows with this text: those of some numbers and kinds."""
+    kinds = list(map(_kind, text.split(",")))
+    return lambda row: any(is_meant(row) for is_meant in kinds)
+
+
+def _kind(word: str) -> Callable[[Row], bool]:
+    found = RANGE.fullmatch(word)
+    if found is None and word not in KINDS:
+        raise Trouble(
+            f"--only has numbers of steps, as 10-20, and {', '.join(KINDS)}, and not '{word}'"
+        )
+    if found is None:
+        return KINDS[word]
+    first, last = int(found[1]), int(found[2] or found[1])
+    if not 1 <= first <= last:
+        reason = (
+            "steps are counted from 1"
+            if not first
+            else f"the range ends before it begins: {last}-{first}?"
+        )
+        raise Trouble(f"--only {word}: {reason}")
+    return lambda row: first <= row.step.number <= last
+
+
+class Script:
+    """A script that is run: its file, and its steps as they stand in it and as the program
+    understands them.
+
+    The steps are read anew each time from the text and from what the program prints, so that memory
+    holds none of them.
+    """
+
+    def __init__(
+        self, path: str, data: bytes, program: Union[Built, Tried], shown: str, printed: BinaryIO
+    ) -> None:
+        self._path = path
+        self.shown = shown
+        self.is_bytes = is_bytes(data)
+        self._text = None if self.is_bytes else io.BytesIO(data)
+        self._dumps = {} if self.is_bytes else dumps_in(data, shown)
+        self._program = program
+        program.print_steps(Path(path), self.is_bytes, printed)
+        understood = count_in(printed)
+        meant = understood if self._text is None else count_in(self._text)
+        # Without a line for each step there is no telling which is which; the words are then those
+        # of the text.
+        self._printed = printed if understood == meant else None
+        # How many steps it means; None where that isn't known, of bytes that the program doesn't
+        # print.
+        self._count: Optional[int] = (
+            meant if meant or not self.is_bytes or len(data) <= EMPTY else None
+        )
+        printed.seek(0)
+        lengths = (
+            map(len, printed)
+            if self._printed is not None
+            else (len(words) + 1 for words, _ in self._steps())
+        )
+        longest = max(lengths, default=1) - 1
+        self.width = min(max(len(HEADING), longest), MOST_WORDS)
+
+    def _steps(self) -> Iterator[tuple[str, tuple[Optional[int], bytes]]]:
+        """The steps: each one's words as they were understood, with the number of its line and its
+        comment."""
+        if self._printed is None:
+            assert self._text is not None
+            return ((line.words, (line.number, line.comment)) for line in steps_in(self._text))
+        return zip(
+            words_in(self._printed),
+            zip(count(1), repeat(b"")) if self._text is None else places_in(self._text),
+        )
+
+    def rows(
+        self, fonts: str, until: Optional[int], progress: Progress, is_strict: bool, tells_why: bool
+    ) -> Iterator[Row]:
+        """The steps with their answers, as they come, and why each was refused, if that is wanted.
+
+        A fault is told with its reason. A run that is ended at a limit tells nothing: a second one
+        then tells what stands before it.
+        """
+        given = progress, is_strict, tells_why
+        try:
+            yield from self._rows(fonts, until, *given)
+        except Limited as limited:
+            yield from islice(self._rows(fonts, limited.before, *given), limited.before)
+            raise
+
+    def _rows(
+        self, fonts: str, until: Optional[int], progress: Progress, is_strict: bool, tells_why: bool
+    ) -> Iterator[Row]:
+        # Behind the last step there are the dumps of a stopped run. Steps that aren't known have no
+        # words.
+        dumps = () if until is None else STATE
+        unknown = repeat(("", NO_PLACE)) if self._count is None else ()
+        meant = chain(islice(self._steps(), until), ((dump, NO_PLACE) for dump in dumps), unknown)
+        count = self._count if until is None or self._count is None else min(until, self._count)
+        wanted = None if count is None else count + len(dumps)
+        state, dump_of, is_told = (
+            Registers() if tells_why else None,
+            self._dumps.get,
+            progress.is_wanted,
+        )
+        with self._program.running(Path(self._path), fonts, until, self.is_bytes) as outcome:
+            _wait_for(outcome.report, self.shown, progress)
+            report = Report(outcome.report, "the report", progress)  # type: ignore[arg-type]
+            steps = report.steps()
+            first = next(steps, None)
+            if first is not None and first.number == 0:
+                # A fault stands in the place of the report.
+                raise self._trouble(first.answer, fonts)
+            steps = chain(() if first is None else (first,), steps)
+            for (words, (number, comment)), step in zip(meant, steps):
+                if is_told and progress.is_due():
+                    progress.tell(f"{self.shown}: step {step.number} of {self._count}")
+                expected = expected_in(comment) if comment else None
+                why = "" if state is None else state.why_of(words, step)
+                yield made_row((step, words, number, expected, dump_of(number, ()), why, is_strict))
+            if next(steps, None) is not None:
+                raise Trouble(f"the report goes on after the last step, {wanted}", self.shown)
+        if outcome.status:
+            raise self._trouble(outcome.fault, fonts)
+        if wanted is None:
+            raise Trouble(
+                "the program prints none of its steps, so there is no telling which were answered",
+                self.shown,
+            )
+        if report.count < wanted:
+            raise Trouble(f"the report ends after {report.count:,} of {wanted:,} steps", self.shown)
+
+    def _trouble(self, fault: str, fonts: str) -> Trouble:
+        return Trouble(explained(fault, self._path, fonts).replace(self._path, self.shown))
+
+
+def _wait_for(report: BinaryIO, shown: str, progress: Progress) -> None:
+    begun = time.monotonic()
+    while IS_POSIX and progress.is_wanted and not select.select([report], [], [], PAUSE)[0]:
+        if progress.is_due():
+            progress.tell(f"{shown}: no answer yet after {time.monotonic() - begun:.0f} seconds")
+
+
+def listed(row: Row, is_wrong: bool, width: int, more: str = "", why: str = "") -> str:
+    """A step in the listing, and below it why it was refused: lines that end with a newline
+    each."""
+    step, words, line, expected, _, _, _ = row
+    if len(words) > width:
+        words = words[: width - 2] + ".."
+    place = "" if line is None else line
+    is_other = is_wrong and expected is not None
+    if not is_other and step.picture is None and not step.others:
+        text = "%6s %6d  %-*s  %s\n" % (place, step.number, width, words, step.answer)
+    else:
+        front = "%6s %6d  %-*s  " % (place, step.number, width, words)
+        answers = [answer_of(step) + more] if step.picture is not None else list(step.lines)
+        if is_other:
+            answers[-1] += f"   not {expected}"
+        fronts = zip_longest([front], answers, fillvalue=" " * len(front))
+        text = "".join((front + answer).rstrip() + "\n" for front, answer in fronts)
+    return f"{text}{'':15}{why}\n" if why else text
+
+
+def heading(width: int) -> str:
+    """The names of the columns."""
+    return f"{'line':>6} {'step':>6}  {HEADING:{width}}  answer"
+
+
+class Tally:
+    """What was seen of a run: counted, and told as JSON into a stream, if one is given, as the
+    steps come.
+
+    The JSON is one object, whose last members are the counts, and the trouble of a run that isn't
+    whole.
+    """
+
+    def __init__(self, shown: str, stream: Optional[BinaryIO] = None) -> None:
+        self.shown = shown
+        self.steps = self.pictures = self.refused = self.expected = self.met = self.wrong = 0
+        # The answers that differ may be as many as the steps.
+        self._told = tempfile.SpooledTemporaryFile(MOST_TOLD)
+        self._stream = stream
+        if stream is not None:
+            stream.write(json.dumps({"script": shown})[:-1].encode("ascii") + b', "answers": [')
+
+    def count(self, row: Row) -> bool:
+        """Counts a step, and tells whether another answer was expected."""
+        step, expected = row.step, row.expected
+        self.steps += 1
+        if self._stream is not None:
+            self._stream.write(
+                (b",\n" if self.steps > 1 else b"\n") + json.dumps(_told(row)).encode("ascii")
+            )
+        if expected is None and step.answer == OK:
+            # Of most steps there is nothing more to count.
+            return False
+        self.pictures += step.picture is not None
+        self.refused += step.is_refused
+        is_wrong = row.is_wrong
+        if expected is not None:
+            self.expected += 1
+            self.met += not is_wrong
+        if is_wrong:
+            self.wrong += 1
+            place = f"{self.shown}:{row.line}: step {step.number}"
+            self._told.write(
+                f"{place}: {row.words} {row.mismatch()}\n".encode("utf-8", "surrogateescape")
+            )
+        return is_wrong
+
+    def differing(self) -> Iterator[str]:
+        """The answers that differ, a line each."""
+        self._told.seek(0)
+        return (line.decode("utf-8", "surrogateescape") for line in self._told)
+
+    def text(self) -> str:
+        """What was seen, as a line."""
+        parts = [
+            counted(self.steps, "step"),
+            *([f"{self.refused} refused"] if self.refused else []),
+        ]
+        parts.append(counted(self.pictures, "picture"))
+        if self.expected:
+            parts.append(f"{self.met} of {self.expected} answers as expected")
+        return ", ".join(parts)
+
+
+def _told(row: Row) -> dict[str, Any]:
+    step = row.step
+    told: dict[str, Any] = {
+        "step": step.number,
+        "line": row.line,
+        "words": row.words,
+        "answer": answer_of(step),
+    }
+    told.update({"lines": list(step.lines)} if step.others else {})
+    if step.picture is not None:
+        told["picture"] = {"size": step.picture.size, "md5": step.picture.sum}
+    told.update({"refused": step.answer, "why": row.why} if step.is_refused else {})
+    if row.expected is not None or row.is_wrong:
+        told.update({"expected": row.expected, "met": not row.is_wrong})
+    return told
+
+
+@contextmanager
+def tallied(shown: str, path: Optional[str]) -> Iterator[Tally]:
+    """The tally of a run, whose JSON goes into a file, where one is named: whole, also where a
+    trouble ends the run."""
+    trouble: Optional[Trouble] = None
+    with nullcontext() if path is None else writing(path) as stream:
+        tally = Tally(shown, stream)
+        try:
+            yield tally
+        except Trouble as raised:
+            trouble = raised
+        if stream is not None:
+            counts = {
+                name: getattr(tally, name)
+                for name in "steps refused pictures expected met wrong".split()
+            }
+            ended = json.dumps({**counts, "trouble": None if trouble is None else str(trouble)})
+            stream.write(b"\n], " + ended[1:].encode("ascii") + b"\n")
+    if trouble is not None:
+        raise trouble
+
+
+class Blessing:
+    """The answers that a script is to expect: those that were not met, and, if all are wanted,
+    those of other steps."""
+
+    def __init__(self, data: bytes, is_all: bool) -> None:
+        self._lines = text_of(data).split("\n")
+        self._is_all = is_all
+        # What each line's step answered: on one line, and the lines of a dump of several; and which
+        # lines change.
+        self._answers: dict[int, tuple[str, tuple[str, ...]]] = {}
+        self._changed: set[int] = set()
+
+    def take(self, row: Row) -> None:
+        """Takes a step's answer. That of a block's step may be another each time: then any will
+        do."""
+        number = row.line
+        if number is None or not (
+            row.expected is not None or is_worth_telling(row.step, row.words)
+        ):
+            return
+        answered = answer_of(row.step), row.step.lines if row.step.others else ()
+        if self._answers.setdefault(number, answered) != answered:
+            self._answers[number] = ANY, ()
+        if row.is_wrong or self._is_all and row.expected is None:
+            self._changed.add(number)
+
+    def changes(self) -> Iterator[tuple[int, str, str]]:
+        """The lines that change: number, expectation before, and after."""
+        for number, (answer, _) in self._answers.items():
+            if number in self._changed:
+                before = expected_in(
+                    self._lines[number - 1].partition(";")[2].encode("utf-8", "surrogateescape")
+                )
+                yield number, before or "", answer
+
+    def text(self) -> str:
+        """The script with the answers in it."""
+        lines, is_dropped = [], False
+        for number, line in enumerate(self._lines, 1):
+            if not (is_dropped and line.strip().startswith(DUMPED)):
+                is_dropped = False
+                lines.append(line)
+            if number in self._changed:
+                answer, dump = self._answers[number]
+                lines[-1] = _blessed(line, answer)
+                lines += [f"{DUMPED} {part}" for part in dump]
+                is_dropped = True
+        return "\n".join(lines)
+
+    def difference(self, name: str) -> str:
+        """What differs from the expectations, as a unified diff of the script."""
+        lines = difflib.unified_diff(
+            self._lines, self.text().split("\n"), name, f"{name} as answered", lineterm=""
+        )
+        return "".join(f"{line}\n" for line in lines)
+
+
+def _blessed(line: str, answer: str) -> str:
+    ending = "\r" if line.endswith("\r") else ""
+    words, _, comment = line.rstrip("\r").partition(";")
+    rest = comment.strip()
+    if rest.startswith(MARK):
+        rest = rest.partition(";")[2].strip()
+    # Comments stand in the column where they stood.
+    front = words if words.endswith((" ", "\t")) else words + " "
+    return f"{front}; {MARK} {answer}" + (f" ; {rest}" if rest else "") + ending

@@ -1,0 +1,126 @@
+"""A run, or two reports that differ, as a page that stands alone: nothing of it comes from
+elsewhere."""
+
+import base64
+import io
+import json
+from html import escape
+from pathlib import Path
+from typing import Optional, Sequence
+
+from zaklimot.format import Picture
+from zaklimot_tools.core.streams import filled
+from zaklimot_tools.core.trouble import Trouble
+from zaklimot_tools.images.png import write_png
+
+from .expecting import answer_of
+from .listing import Row
+from .report import Difference
+
+
+HERE = Path(__file__).resolve().parent
+# So much stands on a page at most.
+MOST_ROWS, MOST_PICTURES = 100_000, 2_000
+POLICY = "default-src 'none'; img-src data:; style-src 'unsafe-inline'; script-src 'unsafe-inline'"
+SIZES = "".join(f'<option value="{size}">\u00d7{size}</option>' for size in (1, 2, 3, 4))
+
+
+class Page:
+    """A page that is filled row by row."""
+
+    def __init__(self, captions: Sequence[str], columns: Sequence[str]) -> None:
+        self._captions = captions
+        self._columns = columns
+        self._rows: list[str] = []
+        # What the slider comes to: the step, how it is called, and the images by their names.
+        self._frames: list[dict[str, object]] = []
+        self._images = 0
+
+    def _image(self, picture: Picture, other: Optional[Picture] = None) -> tuple[str, str]:
+        """An image's name, and its element that has the picture in it; with another one, its
+        differing dots marked."""
+        self._images += 1
+        if self._images > MOST_PICTURES:
+            raise Trouble(
+                f"the page would have more than {MOST_PICTURES} pictures: --only takes some steps"
+            )
+        stream = io.BytesIO()
+        write_png(stream, picture, other=other)
+        data = base64.b64encode(stream.getvalue()).decode("ascii")
+        name, place = f"p{self._images}", f'data-frame="{len(self._frames)}" alt="{picture.size}"'
+        return name, f'<img id="{name}" {place} src="data:image/png;base64,{data}">'
+
+    def _add(self, cells: Sequence[str], kind: str) -> None:
+        if len(self._rows) == MOST_ROWS:
+            raise Trouble(
+                f"the page would have more than {MOST_ROWS:,} rows: --only takes some steps"
+            )
+        marked = f' class="{kind}"' if kind else ""
+        self._rows.append(f"<tr{marked}>{''.join(cells)}</tr>")
+
+    def add_row(self, row: Row) -> None:
+        """Adds a step of a run."""
+        picture = row.step.picture
+        text = escape(answer_of(row.step) if picture is not None else "\n".join(row.step.lines))
+        if row.is_wrong:
+            text += f"\nnot {escape(row.expected or '')}"
+        if row.why:
+            text += f"\n{escape(row.why)}"
+        if isinstance(picture, Picture):
+            name, image = self._image(picture)
+            title = f"step {row.step.number}, {picture.size}"
+            self._frames.append({"step": row.step.number, "title": title, "images": [name]})
+            text += image
+        number = '<td class="number">{}</td>'.format
+        kind = "differs" if row.is_wrong else "refused" if row.step.is_refused else ""
+        line = "" if row.line is None else str(row.line)
+        self._add(
+            [
+                number(line),
+                number(row.step.number),
+                f"<td>{escape(row.words)}</td>",
+                f"<td>{text}</td>",
+            ],
+            kind,
+        )
+
+    def add_difference(self, difference: Difference) -> None:
+        """Adds a step in which two reports differ."""
+        texts = [escape(answer) for answer in difference.answers()]
+        pictures = difference.pictures()
+        dots = escape(difference.dots())
+        if pictures is not None:
+            images = [self._image(pictures[0]), self._image(pictures[1]), self._image(*pictures)]
+            title, names = f"{difference.place}: {dots}", [name for name, _ in images]
+            self._frames.append({"step": difference.number, "title": title, "images": names})
+            texts = [f"{text}{image}" for text, (_, image) in zip(texts, images)]
+            dots += images[2][1]
+        cells = [
+            f'<td class="number">{difference.number}</td>',
+            *(f"<td>{text}</td>" for text in (*texts, dots)),
+        ]
+        self._add(cells, "differs")
+
+    def text(self, title: str, said: str, link: Optional[str] = None) -> str:
+        """The whole page, with a link to the one that runs the script, where there is one."""
+        frames = json.dumps(self._frames).replace("<", "\\u003c")
+        captions = (f"<figcaption>{escape(caption)}</figcaption>" for caption in self._captions)
+        figures = "".join(f"<figure><canvas></canvas>{caption}</figure>" for caption in captions)
+        heads = "".join(f"<th>{escape(column)}</th>" for column in self._columns)
+        told = escape(said) + (
+            "" if link is None else f' <a href="{escape(link)}">Run it step by step</a>'
+        )
+        style, script = ((HERE / name).read_text("utf-8") for name in ("page.css", "page.js"))
+        return filled(
+            HERE / "page.html",
+            POLICY=escape(POLICY),
+            TITLE=escape(title),
+            STYLE=style,
+            TOLD=told,
+            SIZES=SIZES,
+            FIGURES=figures,
+            HEADS=heads,
+            ROWS="\n".join(self._rows),
+            FRAMES=frames,
+            SCRIPT=script,
+        )

@@ -1,0 +1,179 @@
+"""The words of the command line."""
+
+import argparse
+from typing import Callable
+
+from zaklimot_tools.core import cli
+from zaklimot_tools.core.cli import add
+from zaklimot_tools.core.progress import Progress
+from zaklimot_tools.core.streams import to_read
+from zaklimot_tools.core.words import MOST_JOBS, MOST_OUTPUT, MOST_STEP, number_to, seconds
+from zaklimot_tools.images.words import add_shape
+from zaklimot_tools.script.words import add_program
+
+from .cases import SUITE
+from .reports import check, compare, compare_picture, pictures, text
+from .runs import run
+from .suite import scripts, suite
+
+
+def _add_cases(parser: argparse.ArgumentParser) -> None:
+    many = {"action": "append", "default": []}
+    add(
+        parser,
+        "--list FILE",
+        "reads this list of cases (default: the project's)",
+        type=to_read,
+        default=str(SUITE),
+    )
+    add(
+        parser,
+        "--only PREFIX",
+        "takes only cases whose names begin with PREFIX; may be repeated",
+        **many,
+    )
+    told = "leaves out cases whose names begin with PREFIX; may be repeated"
+    add(parser, "--except PREFIX", told, dest="except_", **many)
+    told = "cases that it can answer, each up to the first refused step"
+    add(parser, "--machine", f"for a machine, which refuses nothing: {told}")
+
+
+def _add_suite(parser: argparse.ArgumentParser) -> None:
+    add(parser, "FOLDER", "the folder for expected pictures, after the word `pictures`", nargs="?")
+    add(parser, "--keep FOLDER", "keeps the reports and pictures of cases that don't agree")
+    add(parser, "--bytes COMMAND", "the command for scripts as bytes; without it they are skipped")
+    _add_cases(parser)
+    add(
+        parser,
+        "--no-refusals",
+        "counts steps that are to be refused as skipped",
+        dest="refusals",
+        action="store_false",
+    )
+    add(
+        parser, "--timeout SECONDS", "the time of each case (default: 60)", type=seconds, default=60
+    )
+    told = "the most that a case's report may have (default: 256)"
+    add(parser, "--output MIB", told, type=number_to(MOST_OUTPUT), default=256)
+    add(
+        parser,
+        "--jobs N",
+        "runs N commands at a time (default: 1)",
+        type=number_to(MOST_JOBS),
+        default=1,
+    )
+    add(parser, "--json", "prints the table as JSON")
+
+
+def _add_run(parser: argparse.ArgumentParser) -> None:
+    add_program(parser)
+    add(parser, "--try", "runs the program without its proofs, by `rt try`", dest="try_")
+    add(
+        parser,
+        "--until N",
+        "stops after N steps, and shows the state",
+        type=number_to(MOST_STEP, 0),
+    )
+    add(
+        parser,
+        "--only WHICH",
+        "shows only these steps, as 10-20,refused; also read, pictures, dumps, differs",
+    )
+    add(
+        parser,
+        "--pictures FOLDER",
+        "writes the pictures of the steps that --only names, or of all, as NNNN.png",
+    )
+    add(parser, "--show", "shows pictures as blocks of colour")
+    add(parser, "--html FILE", "writes the listing as a page, with its pictures")
+    add(
+        parser,
+        "--debug FILE",
+        "writes a page that runs the script in a browser, step by step; nothing is run here",
+    )
+    add(parser, "--bless", "writes answers that are not as expected into the script")
+    add(parser, "--dry-run", "with --bless: lists its changes, and writes nothing")
+    add(parser, "--strict", "counts a refusal that is not expected as a difference")
+    add(parser, "--quiet", "shows only the answers that differ, and the last line")
+    add(parser, "--diff", "shows what differs as a unified diff of the script instead")
+    add(parser, "--json FILE", "writes steps, answers, digests and refusals as JSON")
+    add(parser, "--junit FILE", "writes the result of each script as XML for test runners")
+    add(
+        parser,
+        "--jobs N",
+        "runs N scripts of a folder at a time (default: 1)",
+        type=number_to(MOST_JOBS),
+        default=1,
+    )
+    add(parser, "--watch", "runs again when the script or the font file changes")
+    add(parser, "--build", "proves and builds the program first, if it is missing")
+    add_shape(parser)
+
+
+def _add_pictures(parser: argparse.ArgumentParser) -> None:
+    add(parser, "FOLDER", "where the files go", nargs="?")
+    add(parser, "--apng FILE", "writes one picture that moves, each frame as long as it lasts")
+    add(
+        parser,
+        "--script SCRIPT",
+        "takes the frames' times from this script (default: 70 frames a second)",
+        type=to_read,
+    )
+    add(parser, "--ppm", "writes the bytes as they are, as NNNN.ppm, instead of PNG")
+    steps = {"type": number_to(MOST_STEP), "action": "append", "default": []}
+    add(parser, "--step N", "writes only the picture of this step; may be repeated", **steps)
+    add_shape(parser)
+
+
+def parser() -> argparse.ArgumentParser:
+    """The parser of the command line."""
+    made = cli.tool_parser(
+        "vga-report",
+        (
+            "Runs scripts, and reads the reports of runs. `-` is standard input or output in the"
+            " place of any file."
+        ),
+        "tools/vga-report run examples/text-screen.vga",
+        "tools/README.md",
+        cli.DIFFERS,
+    )
+    commands = made.add_subparsers(required=True, metavar="COMMAND")
+    # Other words are files that are read.
+    types: dict[str, Callable[[str], object]] = {
+        "folder": str,
+        "command": str,
+        "step": number_to(MOST_STEP),
+    }
+
+    def adds(
+        job: Callable[[argparse.Namespace, Progress], int], *files: str
+    ) -> argparse.ArgumentParser:
+        told = job.__doc__ or ""
+        added = cli.command(commands, job.__name__.replace("_", "-"), job, told, description=told)
+        for file in files:
+            added.add_argument(file, type=types.get(file, to_read), metavar=file.upper())
+        return added
+
+    _add_run(adds(run, "script"))
+    adds(text, "report")
+    _add_pictures(adds(pictures, "report"))
+    adding = adds(compare, "report", "other")
+    add(adding, "--all", "tells all steps that differ, and not only the first")
+    add(
+        adding,
+        "--picture FILE",
+        "writes the first picture that differs as PNG, with its differing dots marked",
+    )
+    add(adding, "--html FILE", "writes all steps that differ as one page")
+    add_shape(adding)
+    adding = adds(compare_picture, "report", "step", "image")
+    add(adding, "--picture FILE", "writes the picture as PNG, with its differing dots marked")
+    add_shape(adding)
+    adds(check, "report", "expected")
+    _add_suite(adds(suite, "command"))
+    _add_cases(adds(scripts, "folder"))
+    return made
+
+
+# Runs a command line, and answers its exit status.
+main = cli.runner(parser)

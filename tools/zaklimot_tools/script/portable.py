@@ -1,0 +1,191 @@
+"""The portable program: compiled once from the sources in C, and kept in a folder of the user's
+cache."""
+
+import hashlib
+import os
+import shlex
+import shutil
+import sys
+import tempfile
+import time
+from contextlib import contextmanager, suppress
+from pathlib import Path
+from typing import BinaryIO, Iterator, Union
+
+from zaklimot_tools import TOP
+from zaklimot_tools.core.processes import Done, captured
+from zaklimot_tools.core.trouble import Trouble
+
+
+try:
+    import fcntl
+except ImportError:  # Windows
+    fcntl = None  # type: ignore[assignment]
+
+SOURCES = tuple(
+    TOP / place for place in ("portable/vga.c", "portable/zaklimot.c", "include/zaklimot.h")
+)
+FLAGS = ("-std=c99", "-O2")
+# Where $CC names no compiler, the first of these that is in the path.
+COMPILERS = ("cc", "gcc", "clang")
+# The program's name, in a folder that its digest names; and the names beside that: of folders in
+# which a program is being made, and of the lock.
+NAME, MAKING, LOCK = "vga.exe" if os.name == "nt" else "vga", "making-", "lock"
+# So many seconds may a compilation take, and a run wait for that of another run; and between two
+# looks.
+MOST_SECONDS, MOST_WAITING, PAUSE = 900, 1000, 0.1
+PAGE = "page/zaklimot.html runs scripts in a browser without one"
+NO_COMPILER = (
+    "there is no C compiler to make the program vga with: install Debian's package gcc or clang,"
+    f" on macOS Xcode's command line tools (xcode-select --install), or name one by CC; {PAGE}"
+)
+COMPILES = (
+    "{} compiles the program vga from portable/ now, in about 20 seconds, and once: this program is"
+    " tested, not proved\n"
+)
+WAITS = "another run compiles the program vga from portable/ just now: this one waits for it\n"
+UNKEPT = (
+    "the compiled program can't be kept there: name a folder that can be written by XDG_CACHE_HOME"
+)
+# The programs that this process has found, as open files: no other run removes them meanwhile.
+_in_use: list[int] = []
+
+
+def has_sources() -> bool:
+    """Whether the sources are here."""
+    return all(path.is_file() for path in SOURCES)
+
+
+def portable_program() -> str:
+    """The path of the program, which is compiled where that was not done yet; one line on standard
+    error tells it.
+
+    A Trouble tells what is lacking: a compiler, or a folder that can be written.
+    """
+    compiler, folder = _compiler(), _cache()
+    path = folder / _digest(compiler) / NAME
+    if not os.access(path, os.X_OK):
+        try:
+            folder.mkdir(parents=True, exist_ok=True)
+            with _alone(folder):
+                # Another run may have compiled it meanwhile.
+                if not os.access(path, os.X_OK):
+                    _compile(compiler, path)
+        except OSError as error:
+            raise Trouble(
+                f"{error.strerror or error}; {UNKEPT}", error.filename or str(folder)
+            ) from error
+    _use(path)
+    return str(path)
+
+
+def _compiler() -> list[str]:
+    try:
+        words = shlex.split(os.environ.get("CC", ""))
+    except ValueError as error:
+        raise Trouble(f"CC names no compiler: {error}") from error
+    if words and shutil.which(words[0]) is None:
+        raise Trouble(f"CC names it as the C compiler, and it is not in the path; {PAGE}", words[0])
+    found = words or [name for name in COMPILERS if shutil.which(name)][:1]
+    if not found:
+        raise Trouble(NO_COMPILER)
+    return found
+
+
+def _cache() -> Path:
+    named = os.environ.get("XDG_CACHE_HOME", "")
+    try:
+        # A path that is not absolute means nothing there.
+        return (Path(named) if os.path.isabs(named) else Path.home() / ".cache") / "zaklimot"
+    except RuntimeError as error:
+        raise Trouble(f"there is no home folder; {UNKEPT}") from error
+
+
+def _digest(compiler: list[str]) -> str:
+    made = hashlib.sha256(shlex.join([*compiler, *FLAGS]).encode("utf-8", "surrogateescape"))
+    for source in SOURCES:
+        made.update(hashlib.sha256(source.read_bytes()).digest())
+    return made.hexdigest()[:32]
+
+
+def _is_locked(file: Union[int, BinaryIO], kind: int) -> bool:
+    """Takes a lock, which ends with the file or the process; whether no other process has it. It is
+    never waited for."""
+    try:
+        fcntl.flock(file, kind | fcntl.LOCK_NB)
+    except BlockingIOError:
+        return False
+    except OSError:
+        # A file system without locks.
+        return True
+    return True
+
+
+@contextmanager
+def _alone(folder: Path) -> Iterator[None]:
+    """Keeps other runs from compiling meanwhile. One that takes too long is waited for no
+    longer."""
+    with open(folder / LOCK, "wb") as file:
+        until = time.monotonic() + MOST_WAITING
+        if fcntl is not None and not _is_locked(file, fcntl.LOCK_EX):
+            _say(WAITS)
+            while not _is_locked(file, fcntl.LOCK_EX) and time.monotonic() < until:
+                time.sleep(PAUSE)
+        yield
+
+
+def _say(line: str) -> None:
+    sys.stderr.write(line)
+    sys.stderr.flush()
+
+
+def _compile(compiler: list[str], path: Path) -> None:
+    """Compiles the program, tries it, and only then puts it in its place. Other programs there are
+    removed."""
+    _say(COMPILES.format(shlex.join(compiler)))
+    kept = path.parent
+    # A run that was killed may have left its folder.
+    for left in (kept, *kept.parent.glob(f"{MAKING}*")):
+        shutil.rmtree(left, ignore_errors=True)
+    with tempfile.TemporaryDirectory(prefix=MAKING, dir=kept.parent) as folder:
+        made = Path(folder) / kept.name / NAME
+        made.parent.mkdir()
+        include = ("-I", SOURCES[-1].parent)
+        done = captured(
+            [*compiler, *FLAGS, *include, "-o", made, *SOURCES[:-1]], seconds=MOST_SECONDS
+        )
+        _check(
+            done,
+            f"it can't compile the program vga; CC may name another C compiler, and {PAGE}",
+            compiler[0],
+        )
+        _check(
+            captured([made, "--help"], seconds=MOST_SECONDS),
+            "what it makes doesn't run here",
+            compiler[0],
+        )
+        os.replace(made.parent, kept)
+    for other in kept.parent.glob(f"*/{NAME}"):
+        if other != path:
+            _remove_unused(other)
+
+
+def _check(done: Done, reason: str, name: str) -> None:
+    if done.status:
+        raise Trouble(f"{reason}\n{done.said()}".rstrip(), name)
+
+
+def _use(path: Path) -> None:
+    """Marks a program as one that is in use, as long as this process runs."""
+    with suppress(OSError):
+        file = os.open(path, os.O_RDONLY)
+        _in_use.append(file)
+        if fcntl is not None:
+            _is_locked(file, fcntl.LOCK_SH)
+
+
+def _remove_unused(path: Path) -> None:
+    with suppress(OSError), open(path, "rb") as file:
+        # Windows itself keeps a program that runs.
+        if fcntl is None or _is_locked(file, fcntl.LOCK_EX):
+            shutil.rmtree(path.parent)

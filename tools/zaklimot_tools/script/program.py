@@ -1,0 +1,217 @@
+"""The program `vga`, and how a script is run by it."""
+
+import io
+import os
+import re
+import shutil
+import subprocess
+import tempfile
+from contextlib import contextmanager, suppress
+from dataclasses import dataclass
+from itertools import islice
+from pathlib import Path
+from typing import Any, BinaryIO, ContextManager, Iterator, Optional, Sequence, cast
+
+from zaklimot.format import FAULT, MOST_BYTES, ScriptFault, read
+from zaklimot_tools import TOP
+from zaklimot_tools.core.processes import ENDING, check_program, run, started
+from zaklimot_tools.core.progress import Progress
+from zaklimot_tools.core.streams import bytes_of, to_read
+from zaklimot_tools.core.trouble import Trouble
+
+from .crates import phases
+from .portable import has_sources, portable_program
+
+
+CRATE = TOP / "crates" / "vga"
+PROGRAM = CRATE / "out" / "vga"
+# The program of an unpacked release, and the command that finds a program as this does.
+RELEASED, LAUNCHER = TOP / "bin" / "vga", TOP / "tools" / "vga"
+FONTS = TOP / "fonts" / "zaklimot.fnt"
+# No script is printed in more bytes: none of its steps has a line that is seven times as long as
+# its bytes.
+MOST_PRINTED = 7 << 24
+CHUNK = 1 << 16
+# So much of what the program says at last is looked at.
+MOST_SAID = 1 << 16
+# What a run without proofs may take.
+LIMITS = "60 seconds and 1 MiB of output, which two pictures of text fill"
+NO_SOURCES = (
+    "the program's sources in Rattle are not here: they lie in the repository, and not in a release"
+)
+WITHOUT_RT = (
+    ". Without it --vga runs a program that is built already, and --debug FILE writes a page that "
+    "runs the script in a browser"
+)
+NO_PROGRAM = (
+    "there is no program vga, and portable/ has no sources of it: --build proves and builds it,"
+    " --vga names another, and --try runs it without its proofs"
+)
+
+
+@dataclass
+class Outcome:
+    """How a run ended: its status, known once the report was read, and what the program said."""
+
+    report: BinaryIO
+    status: int = 0
+    said: str = ""
+
+    @property
+    def fault(self) -> str:
+        """The fault that ended the run, or else what was said last."""
+        found = FAULT.search(self.said)
+        return found[0] if found else (self.said.strip().splitlines() or [""])[-1]
+
+
+def _in_path() -> Optional[str]:
+    """The program `vga` of the path, but for this repository's own command of that name."""
+    for folder in os.environ.get("PATH", os.defpath).split(os.pathsep):
+        found = shutil.which("vga", path=folder) if folder else None
+        if found is not None and not (LAUNCHER.exists() and os.path.samefile(found, LAUNCHER)):
+            return found
+    return None
+
+
+def found_program(named: Optional[str] = None) -> str:
+    """Where the program is: as it is named, else proved and built here, a release's, in the path,
+    or the portable one.
+
+    The portable one is compiled where that was not done yet. Where there is none, a Trouble says
+    how it is had.
+    """
+    if named is not None:
+        # A name without a folder is looked for in the path.
+        return to_read(shutil.which(named) or named)
+    for built in (PROGRAM, RELEASED):
+        if os.access(built, os.X_OK):
+            return to_read(str(built))
+    found = _in_path()
+    if found is None and not has_sources():
+        raise Trouble(NO_PROGRAM)
+    return to_read(found) if found is not None else portable_program()
+
+
+@contextmanager
+def _running(words: Sequence[str], asking: float = 0, **given: Any) -> Iterator[Outcome]:
+    with tempfile.TemporaryFile() as said:
+        with started(words, asking, stdout=subprocess.PIPE, stderr=said, **given) as process:
+            outcome = Outcome(cast(BinaryIO, process.stdout))
+            with outcome.report:
+                yield outcome
+            # What was not read is lost, and the program is told so.
+            outcome.status = process.wait()
+        said.seek(max(0, said.seek(0, io.SEEK_END) - MOST_SAID))
+        outcome.said = said.read().decode("utf-8", "replace")
+
+
+def _words(script: str, fonts: str, until: Optional[int], is_bytes: bool) -> list[str]:
+    stop = [] if until is None else ["--until", str(until)]
+    return ["run" if is_bytes else "go", script, "--fonts", fonts, *stop]
+
+
+def _crate() -> Path:
+    if not (CRATE / "src").is_dir():
+        raise Trouble(NO_SOURCES)
+    check_program("rt", WITHOUT_RT)
+    return CRATE
+
+
+def build_program(progress: Progress) -> None:
+    """Proves and builds the program where it is lacking, and tells how far that is: it may take
+    hours at first."""
+    if os.access(PROGRAM, os.X_OK):
+        return
+    try:
+        run(
+            ["rt", "run", "--", "--help"],
+            _crate(),
+            phases(progress, "vga")("proving and building the program"),
+        )
+    finally:
+        progress.clear()
+
+
+@dataclass
+class Built:
+    """The program as it was built."""
+
+    path: str
+
+    def running(
+        self, script: Path, fonts: str, until: Optional[int], is_bytes: bool
+    ) -> ContextManager[Outcome]:
+        """A run of a script, as text or as bytes."""
+        return _running([self.path, *_words(str(script), fonts, until, is_bytes)])
+
+    def print_steps(self, script: Path, is_bytes: bool, printed: BinaryIO) -> None:
+        """Prints the steps of a script as the program understands them; nothing where it has a
+        fault."""
+        with tempfile.TemporaryDirectory(prefix="vga-report-") as name:
+            made = script if is_bytes else Path(name) / "script"
+            is_good = is_bytes or self._writes(["asm", str(script), str(made)], io.BytesIO())
+            if is_good and not self._writes(["dis", str(made)], printed):
+                printed.truncate(0)
+
+    def _writes(self, words: Sequence[str], output: BinaryIO) -> bool:
+        left = MOST_PRINTED
+        with _running([self.path, *words]) as outcome:
+            while chunk := outcome.report.read(CHUNK):
+                left -= len(chunk)
+                if left < 0:
+                    raise Trouble(f"vga {words[0]} writes more than any script takes", self.path)
+                output.write(chunk)
+        return outcome.status == 0
+
+
+def _steps_before_second(script: Path, until: Optional[int]) -> int:
+    """How many steps of a script stand before its second picture; 0 where there is none."""
+    with suppress(ScriptFault):
+        steps = islice(read(bytes_of(script, MOST_BYTES)).steps(), until)
+        frames = (number for number, step in enumerate(steps) if step.name == "frame")
+        return next(islice(frames, 1, None), 0)
+    return 0
+
+
+class Limited(Trouble):
+    """A run without proofs that came to a limit; so many steps stand before its second picture, 0
+    without one."""
+
+    def __init__(self, reason: str, before: int) -> None:
+        super().__init__(reason)
+        self.before = before
+
+
+class Tried:
+    """The program without its proofs, as `rt try` builds and runs it: in about a minute."""
+
+    # What `rt try` says of a run that has ended; and why it has ended one, behind what that has
+    # written.
+    ENDED, CHECKED = "run=ended status=", re.compile("(?m)^checked: (.+)")
+
+    @contextmanager
+    def running(
+        self, script: Path, fonts: str, until: Optional[int], is_bytes: bool
+    ) -> Iterator[Outcome]:
+        """A run of a script, as text or as bytes."""
+        files = ["--data", f"script={script.resolve()}", "--data", f"fonts={Path(fonts).resolve()}"]
+        words = ["rt", "try", *files, "--", *_words("script", "fonts", until, is_bytes)]
+        # What it leaves when it is ended goes with this folder.
+        with tempfile.TemporaryDirectory(prefix="vga-report-") as temporary:
+            with _running(
+                words, ENDING, cwd=_crate(), env={**os.environ, "TMPDIR": temporary}
+            ) as outcome:
+                yield outcome
+        if self.ENDED not in outcome.said:
+            found = self.CHECKED.search(outcome.said)
+            # What `rt` can't build has no steps before the second picture either.
+            before = 0 if found is None else _steps_before_second(script, until)
+            told = f"; --until {before} ends before the second" if before else ""
+            reason = found[1] if found else outcome.fault
+            raise Limited(
+                f"rt try has not run it to its end, within {LIMITS}{told}: {reason}", before
+            )
+        outcome.status = int(outcome.said.rpartition(self.ENDED)[2].split()[0])
+
+    def print_steps(self, script: Path, is_bytes: bool, printed: BinaryIO) -> None:
+        """Nothing: each answer would take a build of its own."""

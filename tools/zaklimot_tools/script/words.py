@@ -1,0 +1,27 @@
+"""The options of a command that runs the program."""
+
+import argparse
+
+from zaklimot_tools.core.cli import add
+from zaklimot_tools.core.streams import to_read
+
+from .program import FONTS
+
+
+def add_program(parser: argparse.ArgumentParser) -> None:
+    """The options of a command that runs the program."""
+    add(
+        parser,
+        "--vga PROGRAM",
+        (
+            "runs this program (default: one built here, a release's, vga in the path, or one that"
+            " is compiled)"
+        ),
+    )
+    add(
+        parser,
+        "--fonts FILE",
+        "uses this font file (default: the project's)",
+        type=to_read,
+        default=str(FONTS),
+    )

@@ -1,0 +1,1 @@
+"""Traces of a VGA's cycles, as emulators log them: into scripts, and against their reports."""

@@ -1,0 +1,605 @@
+"""From a trace to a script: its steps, with the time and the frames between them.
+
+Rows of equal steps, and of equal groups of steps, become blocks.
+"""
+
+from collections import Counter
+from dataclasses import dataclass, field
+from itertools import islice
+from typing import BinaryIO, Callable, Iterable, Iterator, NamedTuple, Optional, Sequence, Union
+
+from zaklimot import format
+from zaklimot.format import (
+    FIRST_LINE,
+    HEADERS,
+    MOST_ADVANCE,
+    MOST_BYTES,
+    MOST_STEPS,
+    Answer,
+    is_answer_to,
+)
+from zaklimot.format.picture import Digest
+from zaklimot.format.report import REFUSAL, SKIPPED, VALUE
+from zaklimot_tools.core.streams import counted
+from zaklimot_tools.core.trouble import Trouble
+from zaklimot_tools.explain.registers import (
+    ATTRIBUTE,
+    ATTRIBUTES,
+    INDEX_PORTS,
+    Registers,
+    bytes_written,
+)
+
+from .state import State, rebuilt
+from .step import (
+    ADVANCE,
+    BEAM_BITS,
+    FRAME,
+    INT,
+    NAMES,
+    OUT,
+    OUTW,
+    PORTS,
+    PUT,
+    PUTW,
+    Step,
+    steps_of,
+    without_polls,
+)
+from .trace import MEMORY, PORT, Cycle, Trace
+
+# When a script has a frame: at its end alone, before each page flip, where a screen was taken, once
+# in each frame of the dot clock in which something was written, or every so many seconds.
+END, FLIP, SCREENS, CLOCK = "end", "flip", "screens", "clock"
+Frames = Union[str, float]
+# Bytes that are kept free, as text: for the steps at the end, and for a row that is no block once
+# it is cut there.
+FOR_THE_END = 1024
+# The bytes of a block but its steps, and the most steps that are looked at as one group.
+BLOCK_BYTES, MOST_GROUP = format.Block(1, ()).size, 8
+# Steps that are looked at ahead: as many as the shortest row that is worth a block may have. More
+# are fetched at once.
+AHEAD, FETCHED = 64, 4096
+# A step as its bytes or its line.
+Code = Callable[[Step], bytes]
+# Microseconds that are put together before they become a step: about a line.
+LEAST_PAUSE = 30
+WRITES = (OUT, OUTW, PUT, PUTW, INT)
+CONTROLLERS = (0x3D4, 0x3B4)
+# The CRT controller's registers of the start address, which a page flip writes.
+START_ADDRESS = (0x0C, 0x0D)
+# Windows of memory, by the 32 KiB that they have.
+WINDOWS = {0x14: "A0000", 0x15: "A0000", 0x16: "B0000", 0x17: "B8000"}
+
+
+def advances(dots: int) -> Iterator[Step]:
+    """The steps by which so many dots pass."""
+    for left in range(dots, 0, -MOST_ADVANCE):
+        yield Step(ADVANCE, min(left, MOST_ADVANCE))
+
+
+class Pauses:
+    """The time between steps, as dots of the clock that the steps before have chosen; exact where
+    the trace tells them."""
+
+    def __init__(self) -> None:
+        self._registers = Registers()
+        self._last: Optional[int] = None
+        self._owed = 0
+        self.backwards = 0
+
+    def steps(self, steps: Iterable[Step]) -> Iterator[Step]:
+        """The steps, with the clock advanced before those to which time has passed."""
+        for step in steps:
+            dots = self._dots(step.time) if step.dots is None else self._exact(step)
+            yield from advances(dots)
+            self._registers.take(step.step)
+            yield step
+
+    def _exact(self, step: Step) -> int:
+        """The dots before a step that the trace tells. A frame lets its last dot pass itself."""
+        self._last, self._owed = step.time, 0
+        return max(0, (step.dots or 0) - (step.opcode == FRAME))
+
+    def _dots(self, now: Optional[int]) -> int:
+        """The dots of the time that has passed until now, a frame's at most; 0 of less than a line,
+        kept for later."""
+        if now is not None:
+            passed = 0 if self._last is None else now - self._last
+            self._last = now
+            self.backwards += passed < 0
+            self._owed += max(passed, 0)
+        if self._owed < LEAST_PAUSE:
+            return 0
+        owed, self._owed = self._owed, 0
+        speed = self._registers.speed()
+        return 0 if speed is None else min(int(owed * speed[1] / 1_000_000), speed[0])
+
+
+class Clocked:
+    """Real time: a frame at the end of each frame of the dot clock in which something was written.
+
+    Behind it so many frames pass as went by until the next that is drawn; a time without a write is
+    cut to `longest` seconds.
+    """
+
+    def __init__(self, longest: float) -> None:
+        self.longest = longest
+        self._registers = Registers()
+        # When the last frame that was drawn ended, and when the one ends that is under way.
+        self._drawn: Optional[float] = None
+        self._ends: Optional[float] = None
+        self._is_changed = False
+        self.shortened, self.left_out = 0, 0.0
+
+    def steps(self, steps: Iterable[Step]) -> Iterator[Step]:
+        """The steps, with the frames that end before them, and the time until the end of the
+        last."""
+        for step in steps:
+            if step.time is not None:
+                yield from self._frames(step.time / 1_000_000)
+            self._is_changed |= step.opcode in WRITES
+            self._registers.take(step.step)
+            yield step
+        yield from self._passed()
+
+    def _frames(self, now: float) -> Iterator[Step]:
+        frame = self._registers.frame()
+        if self._ends is None:
+            self._ends = now + frame
+        if now < self._ends:
+            return
+        if self._is_changed:
+            yield from self._passed()
+            yield Step(FRAME)
+            self._drawn, self._is_changed = self._ends, False
+        self._ends += ((now - self._ends) // frame + 1) * frame
+
+    def _passed(self) -> Iterator[Step]:
+        seconds = 0.0 if self._drawn is None or self._ends is None else self._ends - self._drawn
+        if seconds > self.longest:
+            self.shortened += 1
+            self.left_out += seconds - self.longest
+        speed, frames = (
+            self._registers.speed(),
+            round(min(seconds, self.longest) / self._registers.frame()) - 1,
+        )
+        yield from advances(0 if speed is None else speed[0] * max(frames, 0))
+
+
+def with_flips(steps: Iterable[Step]) -> Iterator[Step]:
+    """The steps, with a frame before each write that changes the start address: what was drawn
+    until then.
+
+    There is one frame for the two halves of an address.
+    """
+    index, address, is_flipping = 0, dict.fromkeys(START_ADDRESS, 0), False
+    for step in steps:
+        written = [
+            (port & 1, value)
+            for port, value in bytes_written(step.step)
+            if port & ~1 in CONTROLLERS
+        ]
+        last = dict(address)
+        for is_data, value in written:
+            if not is_data:
+                index = value
+            elif index in address:
+                address[index] = value
+        # A step that goes on with a flip that another has begun has no frame of its own.
+        if address != last and not is_flipping:
+            yield Step(FRAME, time=step.time)
+        is_flipping = address != last or (is_flipping and bool(written) and index in address)
+        yield step
+
+
+def with_frames_every(seconds: float, steps: Iterable[Step]) -> Iterator[Step]:
+    """The steps, with a frame each time that so many seconds have passed by their times."""
+    pause = max(int(seconds * 1_000_000), 1)
+    due: Optional[int] = None
+    for step in steps:
+        if step.time is not None and (due is None or step.time >= due):
+            if due is not None:
+                yield Step(FRAME, time=step.time)
+            due = step.time + pause
+        yield step
+
+
+class Listing:
+    """The steps of a trace, in the order of the script, and how cycles become steps.
+
+    That is whether all polls stay, whether time passes, when a frame stands, and how many cycles
+    count. The script begins with the cycle of the number `first`, and with steps that rebuild what
+    those before it have done. With frames by the clock a time without a write lasts `longest`
+    seconds at most.
+    """
+
+    def __init__(
+        self,
+        trace: Trace,
+        keeps_polls: bool = True,
+        has_time: bool = False,
+        frames: Frames = END,
+        most: Optional[int] = None,
+        first: int = 1,
+        longest: float = 1,
+    ) -> None:
+        self.trace = trace
+        self._keeps_polls, self._has_time, self._frames = keeps_polls, has_time, frames
+        self._is_timed = has_time or frames == CLOCK or isinstance(frames, float)
+        self._most, self._first = most, first
+        self.has_time = has_time
+        self._pauses, self._clocked = Pauses(), Clocked(longest)
+        self.rebuilding = 0
+
+    def steps(self) -> Iterator[Step]:
+        """The steps, and the frame at the end. Where time passes there are two: the first began
+        amid the cycles."""
+        steps = steps_of(self.trace.cycles(self._most), self.trace.screens)
+        if self._is_timed:
+            steps = self._timed(steps)
+        if not self._keeps_polls:
+            steps = without_polls(steps)
+        if self._frames == FLIP:
+            steps = with_flips(steps)
+        elif self._frames == SCREENS:
+            steps = self._with_screens(steps)
+        elif self._frames == CLOCK:
+            steps = self._clocked.steps(steps)
+        elif isinstance(self._frames, float):
+            steps = with_frames_every(self._frames, steps)
+        if self._has_time:
+            steps = self._pauses.steps(steps)
+        yield from steps if self._first == 1 else self._from_the_middle(steps)
+        yield from [Step(FRAME)] * (2 if self._has_time else 1)
+
+    def warnings(self) -> Iterator[str]:
+        """What the trace lacks, a line each; the steps must have passed."""
+        yield from self.trace.warnings()
+        if self._pauses.backwards:
+            yield f"the time runs back {self._pauses.backwards:,} times, which is no pause"
+        clocked = self._clocked
+        if clocked.shortened:
+            silences = counted(clocked.shortened, "silence")
+            yield (
+                f"{silences} cut to {clocked.longest:g} s, and {clocked.left_out:,.1f} s left"
+                " out so"
+            )
+        if self._is_timed and self.trace.untimed:
+            yield f"{self.trace.untimed:,} cycles have no time, and come without a pause"
+
+    def _from_the_middle(self, steps: Iterator[Step]) -> Iterator[Step]:
+        state = State()
+        for step in steps:
+            if step.cycle >= self._first:
+                break
+            if step.opcode == INT:
+                reason = (
+                    "a call of interrupt 10, and --from follows cycles alone: what comes after it"
+                    " begins at power-on"
+                )
+                raise Trouble(f"cycle {step.cycle:,} is {reason}", self.trace.name)
+            state.take(step)
+        else:
+            told = (
+                f"it has {self.trace.count:,} cycles, and none from {self._first:,} on becomes a"
+                " step"
+            )
+            raise Trouble(told, self.trace.name)
+        for rebuilding in rebuilt(state):
+            self.rebuilding += 1
+            yield rebuilding
+        yield step
+        yield from steps
+
+    def _with_screens(self, steps: Iterator[Step]) -> Iterator[Step]:
+        screens, dots, taken = self.trace.screens, self.trace.screen_dots, 0
+        for step in steps:
+            passed = 0
+            while taken < len(screens) and screens[taken] < step.cycle:
+                yield Step(FRAME, time=step.time, dots=dots[taken])
+                passed += dots[taken] or 0
+                taken += 1
+            # The dots of the screens are among those since the cycle before.
+            yield step if step.dots is None else step._replace(dots=step.dots - passed)
+        yield from (Step(FRAME, dots=last) for last in dots[taken:])
+
+    def _timed(self, steps: Iterator[Step]) -> Iterator[Step]:
+        for number, step in enumerate(steps):
+            if number == 0 and step.time is None:
+                raise self.trace.trouble("the first cycle has no time, and time is asked for")
+            yield step
+
+
+class Row(NamedTuple):
+    """Steps with their codes, which a script has so often; the cycle of the last one, 0 where it is
+    none's."""
+
+    steps: Sequence[Step]
+    codes: Sequence[bytes]
+    count: int
+    cycle: int
+
+
+def folded(steps: Iterable[Step], code: Code, has_blocks: bool = True) -> Iterator[Row]:
+    """The steps, but rows of equal steps or equal groups as blocks where these have at most half of
+    the bytes.
+
+    Steps are equal if their codes are. As lines, what is read is expected to be equal too: a line
+    has one answer.
+    """
+    ahead = _Ahead(iter(steps), code)
+    while ahead.has(AHEAD):
+        size, at, count = ahead.group() if has_blocks else 0, ahead.at, 1
+        group, codes = ahead.steps[at : at + (size or 1)], ahead.codes[at : at + (size or 1)]
+        last, ahead.at = group[-1], at + len(group)
+        while (
+            size
+            and count < format.MOST_COUNT
+            and ahead.has(size)
+            and ahead.codes[ahead.at : ahead.at + size] == codes
+        ):
+            ahead.at, count = ahead.at + size, count + 1
+            last = ahead.steps[ahead.at - 1]
+        yield Row(group, codes, count, last.cycle)
+
+
+class _Ahead:
+    """The steps that come next, from a place on, and their codes."""
+
+    def __init__(self, rest: Iterator[Step], code: Code) -> None:
+        self._rest, self._code = rest, code
+        self.steps: list[Step] = []
+        self.codes: list[bytes] = []
+        self.at = 0
+
+    def has(self, wanted: int) -> bool:
+        """Whether there is a step. So many are fetched, if there are."""
+        if len(self.steps) - self.at < wanted:
+            more = list(islice(self._rest, FETCHED))
+            self.steps, self.codes = self.steps[self.at :] + more, self.codes[self.at :] + list(
+                map(self._code, more)
+            )
+            self.at = 0
+        return self.at < len(self.steps)
+
+    def group(self) -> int:
+        """The size of the smallest group that stands here so often that it is worth a block; else
+        0."""
+        codes, at = self.codes, self.at
+        if codes[at] not in codes[at + 1 : at + 1 + MOST_GROUP]:
+            return 0
+        for size in range(1, MOST_GROUP + 1):
+            if codes[at : at + size] == codes[at + size : at + 2 * size]:
+                length = sum(step.size for step in self.steps[at : at + size])
+                least = -(-2 * (BLOCK_BYTES + length) // length)
+                if codes[at : at + least * size] == codes[at : at + size] * least:
+                    return size
+        return 0
+
+
+@dataclass
+class Written:
+    """How many steps of each kind and how many blocks a script has, and its bytes and those of its
+    text."""
+
+    is_text: bool
+    kinds: Counter[str] = field(default_factory=Counter)
+    blocks: int = 0
+    script_bytes: int = len(HEADERS[1])
+    text_bytes: int = 0
+    last_cycle: int = 0
+
+    @property
+    def steps(self) -> int:
+        """How many steps it means."""
+        return sum(self.kinds.values())
+
+    def row(self, row: Row) -> bytes:
+        """Counts a row; what the script has of it."""
+        body = b"".join(row.codes)
+        for step in row.steps:
+            self.kinds[NAMES[step.opcode]] += row.count
+            self.script_bytes += step.size
+        if row.count > 1:
+            ends = format.encoded(format.Block(row.count, ()))
+            words = f"{format.REPEAT} {row.count}\n".encode(), f"{format.END}\n".encode()
+            front, end = words if self.is_text else (ends[:-1], ends[-1:])
+            self.blocks, self.script_bytes, body = (
+                self.blocks + 1,
+                self.script_bytes + len(ends),
+                front + body + end,
+            )
+        self.text_bytes += len(body) if self.is_text else 0
+        return body
+
+    def header(self) -> bytes:
+        """What stands before the rows: version 2 alone has blocks."""
+        if self.is_text:
+            return f"{FIRST_LINE}\n".encode() if self.blocks else b""
+        return HEADERS[2 if self.blocks else 1]
+
+    def line(self, listing: Listing) -> str:
+        """The figures."""
+        length = self.text_bytes + len(self.header()) if self.is_text else self.script_bytes
+        kinds = ", ".join(f"{count:,} {kind}" for kind, count in self.kinds.most_common())
+        parts = [f"{listing.trace.count:,} cycles", f"{self.steps:,} steps", f"{length:,} bytes"]
+        if self.blocks:
+            parts.append(f"{self.blocks:,} repeat{'s' * (self.blocks != 1)}")
+        if listing.rebuilding:
+            parts.append(f"{listing.rebuilding:,} steps rebuild the state")
+        return f"{', '.join(parts)}: {kinds}"
+
+
+def convert(
+    listing: Listing, stream: BinaryIO, is_text: bool = False, has_blocks: bool = True
+) -> Written:
+    """Writes a script as text or bytes; a Trouble where it has more bytes, or means more steps,
+    than a script may.
+
+    Rows of equal steps become blocks, which version 2 has, if these are wanted.
+    """
+    written, body = Written(is_text), bytearray()
+    for row in folded(listing.steps(), Step.text if is_text else Step.data, has_blocks):
+        body += written.row(row)
+        if (
+            max(written.script_bytes, written.text_bytes) > MOST_BYTES - FOR_THE_END
+            or written.steps > MOST_STEPS - FOR_THE_END
+        ):
+            last, most = (
+                written.last_cycle,
+                f"more than {MOST_BYTES:,} bytes, or means more than {MOST_STEPS:,} steps",
+            )
+            part = f"; `--to {last}` ends before that, and `--from {last + 1}` goes on after it"
+            raise Trouble(
+                f"the script has {most}{part if last else ', and no cycle fits'}",
+                listing.trace.name,
+            )
+        written.last_cycle = row.cycle or written.last_cycle
+    stream.write(written.header())
+    stream.write(body)
+    return written
+
+
+@dataclass
+class Checked:
+    """How many steps were answered, refused and left out, which reads there were, and which of them
+    differ."""
+
+    steps: int = 0
+    skipped: int = 0
+    reads: Counter[str] = field(default_factory=Counter)
+    refused: Counter[str] = field(default_factory=Counter)
+    differing: Counter[str] = field(default_factory=Counter)
+    examples: dict[str, str] = field(default_factory=dict)
+
+    @property
+    def agrees(self) -> bool:
+        """Whether each step was done, and each read answered as in the trace."""
+        return not (self.refused or self.differing)
+
+    def lines(self, most: int) -> Iterator[str]:
+        """The figures, and so many kinds at most of refusals, of reads, and of those that
+        differ."""
+        refused, reads, differing = (
+            sum(kinds.values()) for kinds in (self.refused, self.reads, self.differing)
+        )
+        skipped = f", {self.skipped:,} skipped" if self.skipped else ""
+        yield (
+            f"{self.steps:,} steps, {refused:,} refused, {reads:,} reads answered,"
+            f" {differing:,} differ{skipped}"
+        )
+        for name, kinds in (
+            ("refused", self.refused),
+            ("read", self.reads),
+            ("differ", self.differing),
+        ):
+            for kind, count in kinds.most_common(most):
+                yield f"  {name:7} {count:9,} {kind}" + (
+                    "" if name == "read" else f" ({self.examples[kind]})"
+                )
+
+    def note(self, kinds: Counter[str], kind: str, told: str) -> None:
+        """Counts a refusal or a read that differs; of each kind the first is told."""
+        kinds[kind] += 1
+        self.examples.setdefault(kind, f"first at step {told}")
+
+    def take(self, step: Step, answer: Answer, kind: str, is_exact: bool = False) -> None:
+        """Counts a step and its answer. A trace without dots doesn't tell where the beam is: of
+        input status 1 these bits don't count then.
+        """
+        self.steps += 1
+        if answer.answer == SKIPPED:
+            self.skipped += 1
+        elif answer.kind == REFUSAL:
+            self.note(self.refused, f"{answer.answer}: {kind}", f"{self.steps:,}")
+        elif answer.kind == VALUE:
+            self.reads[kind] += 1
+            if (int(answer.answer, 16) ^ step.value) & ~(
+                BEAM_BITS if step.is_status and not is_exact else 0
+            ):
+                traced = f"{step.value:0{len(answer.answer)}X}"
+                self.note(
+                    self.differing,
+                    kind,
+                    f"{self.steps:,}: traced {traced}, answered {answer.answer}",
+                )
+
+
+def _judged(step: Step, number: int, answer: Optional[Answer], name: str) -> Answer:
+    """The answer of a step; a Trouble where the report has none, or one that is no answer of such a
+    step."""
+    if answer is None:
+        raise Trouble(
+            f"it ends before step {number:,}, `{NAMES[step.opcode]}`: it is of another script", name
+        )
+    is_any = answer.kind == REFUSAL or answer.answer == SKIPPED
+    # A report that is kept as text has no pictures.
+    if not (
+        is_any
+        or isinstance(answer.picture, Digest)
+        and step.opcode == FRAME
+        or is_answer_to(step.step, answer)
+    ):
+        reason = (
+            f"step {number:,} is `{NAMES[step.opcode]}`, and '{answer.answer[:40]}' answers none:"
+            " it is of another script"
+        )
+        raise Trouble(reason, name, answer.line)
+    return answer
+
+
+def check(
+    steps: Iterable[Step], answers: Iterator[Answer], name: str, has_time: bool = False
+) -> Checked:
+    """Holds the answers of a report, which messages call by a name, against the steps of a trace.
+
+    Where time has passed by the dots of the trace, the beam is where it was.
+    """
+    checked, registers = Checked(), Registers()
+    for number, step in enumerate(steps, 1):
+        answer = _judged(step, number, next(answers, None), name)
+        is_exact = has_time and step.dots is not None
+        checked.take(step, answer, f"{NAMES[step.opcode]} {_place(step, registers)}", is_exact)
+        registers.take(step.step)
+    if next(answers, None) is not None:
+        raise Trouble(
+            f"it has more than the {checked.steps:,} steps of the trace: it is of another script",
+            name,
+        )
+    return checked
+
+
+def place_of(address: int) -> str:
+    """A name of the window of memory that an address is in."""
+    return f"memory {WINDOWS.get(address >> 15, 'elsewhere')}"
+
+
+def count(cycles: Iterable[Cycle]) -> Counter[str]:
+    """How many cycles there are of each kind: direction, port or window, and bytes."""
+    found: Counter[str] = Counter()
+    for cycle in cycles:
+        if cycle.call is not None:
+            found[f"call of interrupt 10, AH {cycle.call.registers[0] >> 8:02X}"] += 1
+            continue
+        place = (
+            place_of(cycle.address)
+            if cycle.space == MEMORY
+            else f"{cycle.space} {cycle.address:03X}"
+        )
+        # A VBE port is none of the adapter's, and is called so.
+        found[f"{'write' if cycle.is_write else 'read'} {place} size {cycle.size}"] += 1
+    return found
+
+
+def _place(step: Step, registers: Registers) -> str:
+    """What a step is about: a function of the BIOS, a window of memory, or a port, of data with its
+    register's index."""
+    if step.call is not None:
+        return f"AH {step.call.registers[0] >> 8:02X}"
+    if step.opcode not in PORTS:
+        return place_of(step.address)
+    group = ATTRIBUTES if step.address == ATTRIBUTE + 1 else INDEX_PORTS.get(step.address - 1)
+    return f"{PORT} {step.address:03X}" + (
+        "" if group is None else f" index {registers.indexes[group]:02X}"
+    )

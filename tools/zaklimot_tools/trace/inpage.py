@@ -1,0 +1,237 @@
+"""Records on the page's own machine, without a browser, what software does to the adapter: its
+trace, and its screens.
+
+The machine is the page's: its modules are in page/zaklimot.html, and node runs them. The same
+software and keys give the same bytes.
+"""
+
+import gzip
+import json
+import re
+import subprocess
+import tempfile
+import time
+from contextlib import ExitStack
+from dataclasses import dataclass
+from pathlib import Path
+from typing import Any, NamedTuple, Optional, Sequence, cast
+
+from zaklimot_tools import TOP
+from zaklimot_tools.core.processes import (
+    DRAINING,
+    MOST_IN_LINE,
+    check_program,
+    end_with_parent,
+    run,
+    said_last,
+    started,
+)
+from zaklimot_tools.core.progress import Progress
+from zaklimot_tools.core.streams import bytes_of, writing
+from zaklimot_tools.core.trouble import Trouble
+
+from .recording import LOOK, TRACE, Deed, Keeper, Say
+
+
+NODE, OLDEST = "node", 18
+SOURCES = TOP / "page" / "machine"
+# The speeds of the page's list, and the one that it begins with; a file of the page has so many
+# bytes at most.
+SPEEDS, USUAL_SPEED, MOST_FILE, MOST_ROM = (
+    ("8088", "286", "386", "fastest"),
+    "386",
+    1 << 28,
+    1 << 16,
+)
+# What a browser calls the keys that qemu names otherwise: their places, and what they type with
+# Shift and without.
+PLACES = {
+    "ret": "Enter",
+    "esc": "Escape",
+    "tab": "Tab",
+    "backspace": "Backspace",
+    "up": "ArrowUp",
+    "down": "ArrowDown",
+    "left": "ArrowLeft",
+    "right": "ArrowRight",
+    "pgup": "PageUp",
+    "pgdn": "PageDown",
+    "home": "Home",
+    "end": "End",
+    "insert": "Insert",
+    "delete": "Delete",
+    "caps_lock": "CapsLock",
+    "num_lock": "NumLock",
+    "scroll_lock": "ScrollLock",
+    "shift": "ShiftLeft",
+    "shift_r": "ShiftRight",
+    "ctrl": "ControlLeft",
+    "ctrl_r": "ControlRight",
+    "alt": "AltLeft",
+    "alt_r": "AltRight",
+    "kp_enter": "NumpadEnter",
+    "kp_add": "NumpadAdd",
+    "kp_subtract": "NumpadSubtract",
+    "kp_multiply": "NumpadMultiply",
+    "kp_divide": "NumpadDivide",
+    "kp_decimal": "NumpadDecimal",
+    **{f"f{number}": f"F{number}" for number in range(1, 12)},
+    **{f"kp_{digit}": f"Numpad{digit}" for digit in range(10)},
+}
+LETTERS = {
+    "spc": ("Space", "  "),
+    "minus": ("Minus", "-_"),
+    "equal": ("Equal", "=+"),
+    "bracket_left": ("BracketLeft", "[{"),
+    "bracket_right": ("BracketRight", "]}"),
+    "semicolon": ("Semicolon", ";:"),
+    "apostrophe": ("Quote", "'\""),
+    "grave_accent": ("Backquote", "`~"),
+    "backslash": ("Backslash", "\\|"),
+    "comma": ("Comma", ",<"),
+    "dot": ("Period", ".>"),
+    "slash": ("Slash", "/?"),
+    "less": ("IntlBackslash", "<>"),
+    **{
+        letter: (f"Key{letter.upper()}", letter + letter.upper())
+        for letter in map(chr, range(ord("a"), ord("z") + 1))
+    },
+    **{str(digit): (f"Digit{digit}", f"{digit}{')!@#$%^&*('[digit]}") for digit in range(10)},
+}
+MODIFIERS = {"Shift": "shiftKey", "Control": "ctrlKey", "Alt": "altKey"}
+
+
+@dataclass(frozen=True)
+class PageMachine:
+    """What the page's machine runs, what is done to it in this order, and how long: see
+    `recording.Machine`.
+
+    Seconds are the machine's own. `chosen` is the file of a ZIP that runs.
+    """
+
+    file: str
+    deeds: Sequence[Deed]
+    quiet: float = 3
+    most: float = 60
+    speed: Optional[str] = None
+    rom: Optional[str] = None
+    chosen: Optional[str] = None
+
+
+class Told(NamedTuple):
+    """The seconds of each screen, and how many steps were refused."""
+
+    screens: list[float]
+    refusals: int
+
+
+def _part(name: str) -> dict[str, str]:
+    """A key as a browser tells it."""
+    if name in LETTERS:
+        place, letters = LETTERS[name]
+    elif name in PLACES:
+        place, letters = PLACES[name], ""
+    else:
+        raise Trouble(f"`{name}` is no key of the page's machine")
+    modifier = next((flag for front, flag in MODIFIERS.items() if place.startswith(front)), "")
+    return {
+        "code": place,
+        "key": letters[:1] or place,
+        "shifted": letters[1:] or place,
+        "modifier": modifier,
+    }
+
+
+def _deed(deed: Deed) -> dict[str, Any]:
+    keys = [[_part(name) for name in key.split("-")] for key in deed.keys]
+    return {"at": deed.at, "keys": keys, "told": str(deed)}
+
+
+def check_node() -> None:
+    """Ends the work where node is lacking or too old, or the page's sources are not here."""
+    if not SOURCES.is_dir():
+        raise Trouble(
+            (
+                "the sources of the page are not here: they lie in the repository, and not in a"
+                " release"
+            ),
+            str(SOURCES),
+        )
+    check_program(NODE)
+    found = re.match(r"v(\d+)", run([NODE, "--version"], seconds=60))
+    if found is None or int(found[1]) < OLDEST:
+        raise Trouble(f"it is older than version {OLDEST}", NODE)
+
+
+def record(machine: PageMachine, kept: Path, say: Say, progress: Progress) -> Told:
+    """Leaves a trace and the dumps of screens in a folder; `say` tells what may spoil them."""
+    deeds = [_deed(deed) for deed in machine.deeds]
+    check_node()
+    with ExitStack() as stack:
+        folder = Path(stack.enter_context(tempfile.TemporaryDirectory(prefix="vga-recording-")))
+        request, answer = folder / "request", folder / "answer"
+        (folder / "file").write_bytes(bytes_of(machine.file, MOST_FILE))
+        if machine.rom is not None:
+            (folder / "rom").write_bytes(bytes_of(machine.rom, MOST_ROM))
+        request.write_text(
+            json.dumps(
+                {
+                    "file": str(folder / "file"),
+                    "name": Path(machine.file).name,
+                    "folder": str(kept.resolve()),
+                    "deeds": deeds,
+                    "quiet": machine.quiet,
+                    "seconds": machine.most,
+                    "speed": machine.speed or USUAL_SPEED,
+                    "rom": None if machine.rom is None else str(folder / "rom"),
+                    "chosen": machine.chosen,
+                    "isTyped": bool(
+                        machine.speed or machine.rom or any(deed.keys for deed in machine.deeds)
+                    ),
+                }
+            ),
+            "ascii",
+        )
+        stream = stack.enter_context(writing(str(kept / TRACE)))
+        # The same bytes each time: without the name and the time of the file.
+        target = stack.enter_context(gzip.GzipFile("", "wb", 6, stream, mtime=0))
+        said = stack.enter_context(open(folder / "said", "wb"))
+        words = [
+            "nice",
+            "-n",
+            "10",
+            NODE,
+            str(Path(__file__).with_suffix(".mjs")),
+            str(request),
+            str(answer),
+        ]
+        process = stack.enter_context(
+            started(words, stdout=subprocess.PIPE, stderr=said, preexec_fn=end_with_parent)
+        )
+        keeper = Keeper(process.stdout, cast(Any, target), NODE)  # type: ignore[arg-type]
+        stack.callback(lambda: keeper.join(DRAINING))
+        process.stdout = None
+        keeper.start()
+        _wait(process, keeper, progress)
+        if process.returncode:
+            raise Trouble(
+                said_last(folder / "said") or f"it ended with status {process.returncode}",
+                machine.file,
+            )
+        told = json.loads(answer.read_text("utf-8"))
+    for line in told["said"]:
+        say(line[:MOST_IN_LINE])
+    return Told(told["screens"], told["refusals"])
+
+
+def _wait(process: "subprocess.Popen[bytes]", keeper: Keeper, progress: Progress) -> None:
+    """Waits until the machine has ended, and all its lines are kept."""
+    while process.poll() is None:
+        if keeper.trouble:
+            raise keeper.trouble
+        if progress.is_due():
+            progress.tell(f"recording: {keeper.size:,} bytes")
+        time.sleep(LOOK)
+    keeper.join(DRAINING)
+    if keeper.trouble:
+        raise keeper.trouble

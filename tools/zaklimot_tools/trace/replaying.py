@@ -1,0 +1,361 @@
+"""A trace replayed by the program: its pictures held against the screens that qemu showed, or with
+how long they last.
+
+What qemu is known to show otherwise is told by the pictures, or by registers and memory at a
+screen.
+"""
+
+from __future__ import annotations
+
+import io
+from dataclasses import dataclass, field
+from functools import cached_property
+from math import inf
+from pathlib import Path
+from tempfile import TemporaryDirectory
+from threading import Event
+from typing import Callable, Iterator, Mapping, Sequence, cast
+
+from zaklimot.format import Answer, Picture
+from zaklimot.format.answers import RAGGED
+from zaklimot.format.picture import marks_in_row
+from zaklimot_tools.core.processes import Limits, run_command, said_last
+from zaklimot_tools.core.progress import Progress
+from zaklimot_tools.core.streams import reading, writing
+from zaklimot_tools.core.trouble import Trouble
+from zaklimot_tools.images.png import save_png
+from zaklimot_tools.images.reading import Image, image_bytes, image_of
+from zaklimot_tools.report.report import Report
+from zaklimot_tools.report.reports import delays_of, held
+from zaklimot_tools.script.program import Built
+
+from .converting import SCREENS, Checked, Listing, Written, check, convert
+from .recording import PHASES, TRACE, dump
+from .state import State
+from .step import Step
+from .trace import opened
+
+# A run may take so many seconds and bytes.
+MOST_RUN = Limits(600, 1 << 32)
+# The page that tells what qemu is known to show otherwise.
+PAGE = "docs/EMULATORS.md"
+# Dots of a character where there are nine.
+NINE = 9
+
+
+@dataclass
+class Screen:
+    """A dump of a screen, held against the picture here, and the names of what is known of how they
+    differ.
+
+    `state` is that of the moment, `cycle` how many cycles came before, and `lacking` what the trace
+    lacks up to there. What was held of the picture is all of it, or its front where qemu leaves out
+    the last lines. Of the page's own machine nothing is known that differs.
+    """
+
+    state: State
+    picture: Picture
+    image: Image
+    dump: Path = Path()
+    cycle: int = 0
+    lacking: str = ""
+    is_own: bool = False
+
+    def __post_init__(self) -> None:
+        self.part, self.held = self.picture, held(self.picture, self.image)
+        if self.held.count is None and not self.is_own:
+            front = whole_rows(self.state, self.picture)
+            found = held(front, self.image)
+            if found.count is not None:
+                self.part, self.held = front, found
+        # The state goes on from here: what it tells is asked now.
+        self.names = {} if self.is_equal or self.is_own else _known(self)
+
+    @property
+    def is_equal(self) -> bool:
+        """Whether qemu shows the picture, each dot of it."""
+        return self.held.count == 0 and not self.cut
+
+    @property
+    def distance(self) -> float:
+        """How many dots differ; more than any number of them where the sizes do."""
+        return inf if self.held.count is None else self.held.count
+
+    @property
+    def is_text(self) -> bool:
+        """Whether the screen is text."""
+        return not self.state.gfx.registers[6] & 1
+
+    @property
+    def cut(self) -> int:
+        """How many lines at the foot of the picture qemu leaves out."""
+        return self.picture.height - self.part.height
+
+    @cached_property
+    def dots(self) -> Sequence[tuple[int, int]]:
+        """The dots that differ, as columns and rows; none where the sizes do."""
+        part, other = self.part, self.held.image
+        return (
+            []
+            if other is None
+            else [
+                (x, y)
+                for y in range(part.height)
+                if part.row(y) != other.row(y)
+                for x, mark in enumerate(marks_in_row(part.row(y), other.row(y)))
+                if mark
+            ]
+        )
+
+    def lines(self, front: str) -> Iterator[str]:
+        """What is told of it, behind words that tell which screen it is."""
+        yield f"{front}, after cycle {self.cycle:,}: {self._told()}"
+        if self.is_own:
+            return
+        if not self.is_equal and self.lacking:
+            yield f"  {self.lacking}"
+        elif not self.is_equal:
+            for verb, names in self.names.items():
+                yield f"  {verb} what is known of qemu: {', '.join(names)}; {PAGE} tells of it"
+            if not self.names:
+                yield "  nothing that is known of qemu shows in this state"
+
+    def _told(self) -> str:
+        if self.is_equal:
+            return f"equal, {self.held.how}"
+        if self.held.count is None:
+            return f"another size: {self.held.how}"
+        lacking = (
+            f"it lacks the last {self.cut} of {self.picture.height} lines; " if self.cut else ""
+        )
+        if not self.dots:
+            return f"{lacking}the others are equal, {self.held.how}"
+        (left, right), (top, bottom) = ((min(at), max(at)) for at in zip(*self.dots))
+        where = f"in columns {left} to {right} and rows {top} to {bottom}"
+        return (
+            f"{lacking}{self.held.count:,} of {self.part.width * self.part.height:,} dots differ,"
+            f" {where}"
+        )
+
+    def write(self, folder: Path, number: int) -> None:
+        """Leaves the dump, the picture, and where they differ."""
+        self.dump.replace(folder / f"screen-{number}.ppm")
+        save_png(str(folder / f"picture-{number}.png"), self.picture)
+        if self.dots:
+            save_png(str(folder / f"differing-{number}.png"), self.part, other=self.held.image)
+
+
+def _has_blinking(screen: Screen) -> bool:
+    """Whether a character of text memory blinks: bit 7 of its attribute, which is in plane 1."""
+    state = screen.state
+    return bool(
+        screen.is_text
+        and state.attr.registers[0x10] & 8
+        and any(word & 0x8000 for word in state.memory.words)
+    )
+
+
+def _is_ninth(screen: Screen) -> bool:
+    """Whether all dots are ninth dots of characters whose line graphics go on into them."""
+    seq, attr = screen.state.seq.registers, screen.state.attr.registers
+    has_nine = screen.is_text and not seq[1] & 1 and attr[0x10] & 4
+    return bool(has_nine) and all(x % NINE == NINE - 1 for x, _ in screen.dots)
+
+
+def _line_compare(crtc: Sequence[int]) -> int:
+    return crtc[0x18] | (crtc[7] & 0x10) << 4 | (crtc[9] & 0x40) << 3
+
+
+def _row_lines(crtc: Sequence[int]) -> int:
+    """The lines of a row, each of them twice under double scan."""
+    return ((crtc[9] & 0x1F) + 1) << (crtc[9] >> 7)
+
+
+def _is_split(screen: Screen) -> bool:
+    crtc = screen.state.crtc.registers
+    last = crtc[0x12] | (crtc[7] & 2) << 7 | (crtc[7] & 0x40) << 3
+    return screen.is_text and _line_compare(crtc) < last
+
+
+def _has_underline(screen: Screen) -> bool:
+    crtc = screen.state.crtc.registers
+    return screen.is_text and crtc[0x14] & 0x1F <= crtc[9] & 0x1F
+
+
+def _has_two_fonts(screen: Screen) -> bool:
+    """Whether bit 3 of an attribute chooses between two fonts, and colour plane enable takes it off
+    the colour."""
+    chosen = screen.state.seq.registers[3]
+    fonts = chosen >> 5 & 1 | chosen >> 1 & 6, chosen >> 4 & 1 | chosen << 1 & 6
+    return screen.is_text and fonts[0] != fonts[1] and not screen.state.attr.registers[0x12] & 8
+
+
+def _is_split_within_row(screen: Screen) -> bool:
+    """Whether all that differs is that qemu begins no row where a split begins within one.
+
+    It goes on with the lines of the row that is under way, so the split's rows end too high, by the
+    lines that this row has had. What comes up from below the picture can't be told from it.
+    """
+    picture, image, crtc = screen.part, screen.held.image, screen.state.crtc.registers
+    begin, lines = _line_compare(crtc) + 1, _row_lines(crtc)
+    had = begin % lines
+    if screen.is_text or not had or image is None or any(y < begin for _, y in screen.dots):
+        return False
+    shown = [(y, begin + (y - begin + had) // lines * lines) for y in range(begin, picture.height)]
+    return bool(shown) and all(
+        image.row(y) == picture.row(at) for y, at in shown if at < picture.height
+    )
+
+
+def whole_rows(state: State, picture: Picture) -> Picture:
+    """A picture of text without a last row that isn't whole; the picture itself if there is
+    none."""
+    height = picture.height - picture.height % _row_lines(state.crtc.registers)
+    # Under double scan qemu counts other lines to a row.
+    if (
+        state.gfx.registers[6] & 1
+        or state.crtc.registers[9] & 0x80
+        or height in (0, picture.height)
+    ):
+        return picture
+    return Picture.of_dots(picture.width, height, b"".join(picture.row(y) for y in range(height)))
+
+
+# The differences as the page calls them, each with what tells whether a screen has it: what
+# pictures themselves tell ..
+SEEN: Mapping[str, Callable[[Screen], bool]] = {
+    "split within a row": _is_split_within_row,
+    "last row of text that isn't whole": lambda screen: screen.cut > 0,
+}
+# .. and what registers and memory allow.
+ALLOWED: Mapping[str, Callable[[Screen], bool]] = {
+    "palette address source": lambda screen: not screen.state.attr.index & 0x20,
+    "screen off": lambda screen: bool(screen.state.seq.registers[1] & 0x20),
+    "DAC mask": lambda screen: screen.state.dac.mask != 0xFF,
+    "ninth dot": _is_ninth,
+    "colour plane enable": _has_two_fonts,
+    "preset row scan": lambda screen: bool(screen.state.crtc.registers[8] & 0x1F),
+    "panning": (
+        lambda screen: screen.state.attr.registers[0x13] not in (0, 8)
+        or screen.state.crtc.registers[8] & 0x60 > 0
+    ),
+    "line compare": _is_split,
+    "underline": _has_underline,
+    "blinking": _has_blinking,
+}
+
+
+def _known(screen: Screen) -> dict[str, list[str]]:
+    """The names of the differences that a screen "is" and "may be": none that the pictures rule
+    out."""
+    seen = [name for name, shows in SEEN.items() if shows(screen)]
+    is_explained = seen and not (screen.cut and screen.dots)
+    allowed = [] if is_explained else [name for name, shows in ALLOWED.items() if shows(screen)]
+    return {verb: names for verb, names in (("is", seen), ("may be", allowed)) if names}
+
+
+@dataclass
+class Replay:
+    """The steps of a trace and the answers to them, as they pass: the script's figures, the reads,
+    and the screens.
+
+    `cycles` tells how many cycles stand before each dump, of which a screen has several: `screens`
+    keeps the nearest. A recording of the page's own machine tells the dots between its cycles, and
+    has one dump of a screen.
+    """
+
+    written: Written
+    listing: Listing
+    folder: Path
+    cycles: Sequence[int]
+    checked: Checked = field(default_factory=Checked)
+    state: State = field(default_factory=State)
+    screens: dict[int, Screen] = field(default_factory=dict)
+    is_own: bool = False
+    _dumps: int = 0
+
+    def steps(self) -> Iterator[Step]:
+        """The steps, of which the state is kept, as far as something hangs on it."""
+        for step in self.listing.steps():
+            if not self.is_own:
+                self.state.take(step)
+            yield step
+
+    def answers(self, answers: Iterator[Answer]) -> Iterator[Answer]:
+        """The answers, of which each `frame` but the last is that of a dump."""
+        for answer in answers:
+            if answer.picture is not None or answer.answer == RAGGED:
+                if self._dumps < len(self.cycles) and isinstance(answer.picture, Picture):
+                    self._judge(answer.picture)
+                self._dumps += 1
+            yield answer
+
+    def _judge(self, picture: Picture) -> None:
+        path, number = dump(self.folder, self._dumps), self._dumps // (1 if self.is_own else PHASES)
+        if not path.exists():
+            return
+        image, cycle = image_of(image_bytes(str(path)), str(path)), self.cycles[self._dumps]
+        screen = Screen(
+            self.state, picture, image, path, cycle, self.listing.trace.lacking, self.is_own
+        )
+        if number not in self.screens or screen.distance < self.screens[number].distance:
+            self.screens[number] = screen
+
+
+def _run_script(program: str, fonts: str, script: Path, report: Path) -> None:
+    with TemporaryDirectory(prefix=".run.", dir=report.parent) as made:
+        answers, messages = Path(made) / "report", Path(made) / "said"
+        outcome = run_command(
+            [program, "run", script, "--fonts", fonts], answers, messages, MOST_RUN, Event()
+        )
+        if outcome.status != 0:
+            ended = outcome.reason or f"it ended with status {outcome.status}"
+            raise Trouble(f"{ended}: {said_last(messages) or 'it said nothing'}", program)
+        answers.replace(report)
+
+
+def replay(
+    folder: Path, program: str, fonts: str, progress: Progress, is_own: bool = False
+) -> Replay:
+    """Makes script.bin and report.txt beside a trace and its screens in a folder, and holds all
+    against one another.
+
+    In a recording of the page's own machine time passes, dot by dot.
+    """
+    trace, script, report = str(folder / TRACE), folder / "script.bin", folder / "report.txt"
+    with opened(trace) as read, writing(str(script)) as stream:
+        written = convert(Listing(read, has_time=is_own, frames=SCREENS), stream)
+        cycles = read.screens
+    _run_script(program, fonts, script, report)
+    with opened(trace) as read, reading(str(report)) as answers:
+        listing, name = Listing(read, has_time=is_own, frames=SCREENS), str(report)
+        done = Replay(written, listing, folder, cycles, is_own=is_own)
+        done.checked = check(
+            done.steps(), done.answers(Report(answers, name, progress).steps()), name, is_own
+        )
+    return done
+
+
+def shown(
+    program: str, fonts: str, script: Path, at_last: float
+) -> Iterator[tuple[Picture, float]]:
+    """The pictures of a script that the program runs, each with the seconds that it is seen, the
+    last with so many more.
+
+    Equal ones that follow one another are one.
+    """
+    delay, seconds = delays_of(str(script)), 0.0
+    last: Picture | None = None
+    with Built(program).running(script, fonts, None, True) as outcome:
+        for answer in Report(cast(io.BufferedReader, outcome.report), "report").steps():
+            if not isinstance(answer.picture, Picture):
+                continue
+            if last is not None and answer.picture.ppm != last.ppm:
+                yield last, seconds
+                seconds = 0.0
+            last, seconds = answer.picture, seconds + delay(answer.number)
+    if outcome.status:
+        raise Trouble(f"it ended with status {outcome.status}: {outcome.fault}", program)
+    if last is None:
+        raise Trouble("no frame has a picture")
+    yield last, seconds + at_last

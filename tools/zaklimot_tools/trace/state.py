@@ -1,0 +1,518 @@
+"""What cycles leave of the adapter: its registers, its DAC, its memory and the beam's place.
+
+Steps rebuild such a state from power-on, so that a script can begin in the middle of a trace.
+"""
+
+from __future__ import annotations
+
+from functools import partial
+from math import prod
+from operator import and_, or_, xor
+from typing import Callable, Iterable, Iterator, Mapping, Optional, Sequence, TypeVar
+
+from zaklimot_tools.explain.registers import shape_of
+
+from .step import ADVANCE, FRAME, GET, GETW, IN, INW, OUT, OUTW, PUT, PUTW, READS, WORDS, Step
+
+
+ATTRIBUTE, ATTRIBUTE_READ, MISC, SEQUENCER, MASK = 0x3C0, 0x3C1, 0x3C2, 0x3C4, 0x3C6
+DAC_READ, DAC_WRITE, DAC_DATA, MISC_READ, GRAPHICS = 0x3C7, 0x3C8, 0x3C9, 0x3CC, 0x3CE
+COLOUR, MONOCHROME = 0x3D4, 0x3B4
+# From the port of the CRT controller's index to that of input status 1.
+STATUS = 6
+# Bits of miscellaneous output.
+IS_COLOUR, ENABLE_MEMORY, MISC_KEPT = 0x01, 0x02, 0xEF
+# First address and bytes of the window, by the memory map.
+WINDOWS = ((0xA0000, 0x20000), (0xA0000, 0x10000), (0xB0000, 0x8000), (0xB8000, 0x8000))
+FIRST_ADDRESS, PLANE_BYTES, PLANES, ALL_PLANES = 0xA0000, 1 << 16, 4, 0x0F
+# A byte in each of the four bytes of a word, and words of which the bytes of some planes are FF.
+EACH = 0x01010101
+SPREAD = tuple(
+    sum(0xFF << 8 * plane for plane in range(PLANES) if planes >> plane & 1) for planes in range(16)
+)
+EVEN, ODD = 0b0101, 0b1010
+# What is done with data and the latches, by the function of data rotate.
+FUNCTIONS: tuple[Callable[[int, int], int], ...] = (lambda data, _: data, and_, or_, xor)
+COMPONENTS, ENTRIES = 3, 256
+# The index of the attribute controller: the palette address source; and how many registers are the
+# palette.
+SOURCE, PALETTE = 0x20, 0x10
+# Bits of the end of vertical retrace and of overflow: what protects registers 0 to 7, and what is
+# never protected.
+PROTECT, COMPARE_8 = 0x80, 0x10
+# Frames are counted modulo so many: the cursor and blinking text go by this number.
+FRAMES = 32
+# The CRT controller's registers that are taken at a frame's first dot: preset row scan, start
+# address.
+TAKEN = (0x08, 0x0C, 0x0D)
+# Sequencer and graphics controller such that a byte goes to the planes of the map mask, at its
+# address' offset.
+PLANAR = (
+    (SEQUENCER, 0x04, 0x06),
+    *((GRAPHICS, index, 0) for index in range(6)),
+    (GRAPHICS, 0x06, 0x04),
+    (GRAPHICS, 0x08, 0xFF),
+)
+MAP_MASK, RETRACE_END = 0x02, 0x11
+# The lines of a frame, the characters of a line, and the dots of a character.
+Shape = tuple[int, int, int]
+Value = TypeVar("Value")
+
+
+class State:
+    """The state at power-on, and as steps leave it. A step that the adapter refuses changes
+    nothing."""
+
+    def __init__(self) -> None:
+        self.misc = 0
+        self.seq = Bank("033D0F3F0E", 0x07)
+        self.gfx = Bank("0F0F0F1F037B0F0FFF", 0x0F, {5: (0x20, 0)})
+        crtc_kept, crtc_wanted = "FF" * 8 + "7FFF3F7F" + "FF" * 8 + "7FFFFFEFFF", {
+            0x14: (0x20, 0),
+            0x17: (0x0F, 0x03),
+        }
+        self.crtc = Bank(crtc_kept, 0x1F, crtc_wanted, _unprotected)
+        self.crtc.registers[0x17] = 0x03
+        self.attr = Bank("3F" * PALETTE + "EFFF3F0F0F", 0x3F, {}, _unlocked)
+        # Whether the next write to the attribute controller is data.
+        self.is_data = False
+        self.dac = Dac()
+        self.memory = Memory(self.seq.registers, self.gfx.registers)
+        self.beam = Beam()
+
+    @property
+    def controller(self) -> int:
+        """The port of the CRT controller's index."""
+        return COLOUR if self.misc & IS_COLOUR else MONOCHROME
+
+    @property
+    def shape(self) -> Shape:
+        """The shape of the frame."""
+        crtc = self.crtc.registers
+        return shape_of(self.seq.registers[1], crtc[0], crtc[6], crtc[7])
+
+    def take(self, step: Step) -> Optional[int]:
+        """Takes a step, and answers what it reads; None of a write and of a refusal. Of input
+        status 1 all bits are 0."""
+        opcode, address, value = step.opcode, step.address, step.value
+        size = 2 if opcode in WORDS else 1
+        if opcode in (PUT, PUTW):
+            for place, byte in zip(self._places(address, size), value.to_bytes(2, "little")):
+                self.memory.put(place, byte)
+        elif opcode in (OUT, OUTW):
+            self._write(address, value.to_bytes(size, "little"))
+        elif opcode == ADVANCE:
+            self.beam.advance(address, self.shape, self.crtc.registers)
+        elif opcode == FRAME:
+            self.beam.end_frame()
+        elif opcode in (GET, GETW):
+            read = bytes(map(self.memory.get, self._places(address, size)))
+            return int.from_bytes(read, "little") if read else None
+        elif opcode in (IN, INW):
+            readers = [
+                reader
+                for reader in map(self._reader, range(address, address + size))
+                if reader is not None
+            ]
+            return (
+                int.from_bytes(bytes(reader() for reader in readers), "little")
+                if len(readers) == size
+                else None
+            )
+        return None
+
+    def _places(self, address: int, count: int) -> Sequence[int]:
+        """Where so many addresses are in the window; none where one of them isn't decoded."""
+        first, size = WINDOWS[self.gfx.registers[6] >> 2]
+        place = address - first
+        if not (self.misc & ENABLE_MEMORY and 0 <= place <= size - count):
+            return ()
+        return [place + at & 0xFFFF for at in range(count)]
+
+    def _bank(self, port: int) -> Optional[Bank]:
+        if port == self.controller:
+            return self.crtc
+        return self.seq if port == SEQUENCER else self.gfx if port == GRAPHICS else None
+
+    def _write(self, port: int, data: bytes) -> None:
+        """Writes a byte or a word: whole, or not at all. The first byte decides on the second where
+        it is its index."""
+        bank = self._bank(port)
+        writers = [self._writer(port, data[0], None)]
+        if len(data) > 1:
+            writers.append(
+                self._writer(port + 1, data[1], None if bank is None else data[0] & bank.index_kept)
+            )
+        if None not in writers:
+            for writer in writers:
+                writer()  # type: ignore[misc]
+
+    def _writer(self, port: int, value: int, index: Optional[int]) -> Optional[Callable[[], None]]:
+        """What writes a value to a port, whose index may be another then; None where that is
+        refused."""
+        bank, bank_of_data = self._bank(port), self._bank(port - 1)
+        if bank is not None:
+            return partial(setattr, bank, "index", value & bank.index_kept)
+        if bank_of_data is not None:
+            is_taken = bank_of_data.takes(bank_of_data.index if index is None else index, value)
+            return partial(bank_of_data.write, value) if is_taken else None
+        if port == ATTRIBUTE:
+            return (
+                None
+                if self.is_data and not self.attr.has_register
+                else partial(self._write_attribute, value)
+            )
+        if port == MISC:
+            return partial(setattr, self, "misc", value & MISC_KEPT)
+        if port == MASK:
+            return partial(setattr, self.dac, "mask", value)
+        if port == DAC_DATA:
+            return partial(self.dac.write, value)
+        return partial(self.dac.choose, value) if port in (DAC_READ, DAC_WRITE) else None
+
+    def _write_attribute(self, value: int) -> None:
+        if self.is_data:
+            self.attr.write(value)
+        else:
+            self.attr.index = value & self.attr.index_kept
+        self.is_data = not self.is_data
+
+    def _reader(self, port: int) -> Optional[Callable[[], int]]:
+        bank, bank_of_data = self._bank(port), self.attr if port == ATTRIBUTE_READ else self._bank(
+            port - 1
+        )
+        if bank is not None:
+            return partial(getattr, bank, "index")
+        if bank_of_data is not None:
+            read = partial(bank_of_data.registers.__getitem__, bank_of_data.number)
+            return read if bank_of_data.has_register else None
+        if port == self.controller + STATUS:
+            return self._read_status
+        if port == DAC_DATA:
+            return self.dac.read
+        values = {
+            ATTRIBUTE: self.attr.index,
+            MASK: self.dac.mask,
+            DAC_WRITE: self.dac.index,
+            MISC_READ: self.misc,
+        }
+        return partial(values.__getitem__, port) if port in values else None
+
+    def _read_status(self) -> int:
+        self.is_data = False
+        return 0
+
+
+class Memory:
+    """The planes. A word has the four bytes of an offset, that of plane 0 lowest; so have the
+    latches.
+
+    `place` is an address less the first of its window; `seq` and `gfx` are the registers of the
+    sequencer and of the graphics controller, as they can be held.
+    """
+
+    def __init__(self, seq: Sequence[int], gfx: Sequence[int]) -> None:
+        self._seq, self._gfx = seq, gfx
+        self.words = [0] * PLANE_BYTES
+        self.latches = 0
+
+    def put(self, place: int, value: int) -> None:
+        """Writes a byte. The latches stay."""
+        planes, offset = self._seq[2], self._offset(place)
+        if self._seq[4] & 8:
+            planes &= 1 << (place & 3)
+        elif not self._seq[4] & 4:
+            planes &= ODD if place & 1 else EVEN
+        stored = self.latches if self._gfx[5] & 3 == 1 else self._stored(value)
+        self.words[offset] = self.words[offset] & ~SPREAD[planes] | stored & SPREAD[planes]
+
+    def get(self, place: int) -> int:
+        """Reads a byte, which loads the latches."""
+        self.latches = self.words[self._offset(place)]
+        if self._gfx[5] & 8:
+            # Read mode 1: a 1 where each plane that counts has the bit of colour compare.
+            differing = (self.latches ^ SPREAD[self._gfx[2]]) & SPREAD[self._gfx[7]]
+            differing |= differing >> 16
+            return ~(differing | differing >> 8) & 0xFF
+        plane = (
+            place & 3
+            if self._seq[4] & 8
+            else self._gfx[4] & 2 | place & 1
+            if self._gfx[5] & 0x10
+            else self._gfx[4]
+        )
+        return self.latches >> 8 * plane & 0xFF
+
+    def _offset(self, place: int) -> int:
+        if self._seq[4] & 8:
+            return place & 0xFFFC
+        return place & 0xFFFE if self._gfx[6] & 2 else place
+
+    def _stored(self, value: int) -> int:
+        mode, mask, latches = self._gfx[5] & 3, self._gfx[8], self.latches
+        rotated = (value << 8 | value) >> (self._gfx[3] & 7) & 0xFF
+        if mode == 0:
+            set_planes = SPREAD[self._gfx[1]]
+            data = rotated * EACH & ~set_planes | SPREAD[self._gfx[0]] & set_planes
+        elif mode == 2:
+            data = SPREAD[value & 0xF]
+        else:
+            data, mask = SPREAD[self._gfx[0]], mask & rotated
+        data, mask = FUNCTIONS[self._gfx[3] >> 3](data, latches), mask * EACH
+        return data & mask | latches & ~mask
+
+
+def _unprotected(crtc: Bank) -> int:
+    """The bits of the register that may be written: the first eight may be protected, but for line
+    compare."""
+    if not crtc.registers[RETRACE_END] & PROTECT or crtc.number > 7:
+        return 0xFF
+    return COMPARE_8 if crtc.number == 7 else 0
+
+
+def _unlocked(attributes: Bank) -> int:
+    # While the palette is looked at, it isn't written.
+    return 0 if attributes.index & SOURCE and attributes.number < PALETTE else 0xFF
+
+
+class Bank:
+    """Registers behind an index.
+
+    `kept` has the bits that each register keeps, `index_kept` those of the index. `wanted` has, of
+    some registers, bits and the value that these must have, or a write is refused. `opened` tells
+    which bits a write changes now.
+    """
+
+    def __init__(
+        self,
+        kept: str,
+        index_kept: int,
+        wanted: Mapping[int, tuple[int, int]] = {},
+        opened: Callable[[Bank], int] = lambda _: 0xFF,
+    ) -> None:
+        self._kept, self._wanted, self._opened = bytes.fromhex(kept), wanted, opened
+        self.index_kept = index_kept
+        self.registers = [0] * len(self._kept)
+        self.index = 0
+
+    @property
+    def number(self) -> int:
+        """The number of the register that the index names."""
+        return self.index & 0x1F
+
+    @property
+    def has_register(self) -> bool:
+        """Whether there is such a register."""
+        return self.number < len(self.registers)
+
+    def takes(self, index: int, value: int) -> bool:
+        """Whether the register of an index takes a value."""
+        bits, value_wanted = self._wanted.get(index, (0, 0))
+        return index < len(self.registers) and value & bits == value_wanted
+
+    def write(self, value: int) -> None:
+        """Writes the register of the index, which is there."""
+        bits = self._kept[self.number] & self._opened(self)
+        self.registers[self.number] = self.registers[self.number] & ~bits | value & bits
+
+
+class Dac:
+    """The DAC: 256 entries of three components, one index, and red and green that wait for blue."""
+
+    def __init__(self) -> None:
+        self.components = [0] * (COMPONENTS * ENTRIES)
+        self.mask, self.index, self.next = 0xFF, 0, 0
+        self.waiting = [0, 0]
+
+    def choose(self, index: int) -> None:
+        """Writes the index; red is next."""
+        self.index, self.next = index, 0
+
+    def write(self, value: int) -> None:
+        """Writes the next component."""
+        if self.next < len(self.waiting):
+            self.waiting[self.next] = value & 0x3F
+        else:
+            at = COMPONENTS * self.index
+            self.components[at : at + COMPONENTS] = [*self.waiting, value & 0x3F]
+        self._go_on()
+
+    def read(self) -> int:
+        """Reads the next component."""
+        value = self.components[COMPONENTS * self.index + self.next]
+        self._go_on()
+        return value
+
+    def _go_on(self) -> None:
+        self.next = (self.next + 1) % COMPONENTS
+        self.index = (self.index + (self.next == 0)) % ENTRIES
+
+
+class Beam:
+    """Where the next dot is: its frame, and in it the line, the character of the line, and the dot
+    of the character.
+
+    A place that registers have since left outside is as good as the last one: what it is in ends
+    with the next dot.
+    """
+
+    def __init__(self) -> None:
+        self.frame, self.place = 0, (0, 0, 0)
+        # What was taken of the registers at the first dot of the frame under way.
+        self.taken = dict.fromkeys(TAKEN, 0)
+
+    @property
+    def is_at_begin(self) -> bool:
+        """Whether the next dot is a frame's first."""
+        return not any(self.place)
+
+    def drawn(self, shape: Shape) -> int:
+        """The dots of the frame under way that are drawn; of a place that is outside, those up to
+        the last one inside."""
+        line, character, dot = (min(at, most - 1) for at, most in zip(self.place, shape))
+        return (line * shape[1] + character) * shape[2] + dot
+
+    def advance(self, count: int, shape: Shape, crtc: Sequence[int]) -> None:
+        """Goes on by so many dots. The line and the character stay as they are, inside or outside,
+        until they end."""
+        _, characters, dots = shape
+        (line, character, dot), was_at_begin, begin = (
+            self.place,
+            self.is_at_begin,
+            self.drawn(shape),
+        )
+        end, frames = begin + count, 0
+        if end // dots == begin // dots:
+            self.place = line, character, dot + count
+        elif end // (dots * characters) == begin // (dots * characters):
+            self.place = line, character + end // dots - begin // dots, end % dots
+        else:
+            frames, rest = divmod(end, prod(shape))
+            self.place = rest // (dots * characters), rest // dots % characters, rest % dots
+        if (was_at_begin or frames) and not self.is_at_begin:
+            self.taken = {index: crtc[index] for index in TAKEN}
+        self.frame = (self.frame + frames) % FRAMES
+
+    def end_frame(self) -> None:
+        """Goes on to the end of the frame."""
+        self.frame, self.place = (self.frame + 1) % FRAMES, (0, 0, 0)
+
+
+def rebuilt(state: State) -> Iterator[Step]:
+    """The steps that take the adapter from power-on to a state. What they read is what it answers
+    then."""
+    taking = State()
+    for step in _steps(state, taking):
+        read = taking.take(step)
+        yield step._replace(value=read) if step.opcode in READS and read is not None else step
+
+
+def _register(port: int, index: int, value: int) -> Step:
+    return Step(OUTW, port, value << 8 | index)
+
+
+def map_mask(planes: int) -> Step:
+    """Lets writes reach these planes alone."""
+    return _register(SEQUENCER, MAP_MASK, planes)
+
+
+def masks_of(values: Iterable[Value]) -> dict[Value, int]:
+    """The planes of each value, of the values of all planes."""
+    masks: dict[Value, int] = {}
+    for plane, value in enumerate(values):
+        masks[value] = masks.get(value, 0) | 1 << plane
+    return masks
+
+
+def _steps(state: State, begin: State) -> Iterator[Step]:
+    if state.beam.frame:
+        # A frame at power-on has fewer dots than any other.
+        yield Step(ADVANCE, state.beam.frame * prod(begin.shape))
+    yield Step(OUT, MISC, state.misc | ENABLE_MEMORY)
+    yield from (_register(*setting) for setting in PLANAR)
+    yield from _latches(state.memory.latches)
+    yield from _planes(state.memory.words)
+    for port, bank in ((GRAPHICS, state.gfx), (SEQUENCER, state.seq)):
+        yield from (_register(port, index, value) for index, value in enumerate(bank.registers))
+    yield from _attributes(state)
+    yield from _dac(state)
+    yield from _controller(state)
+    for port, bank in (
+        (GRAPHICS, state.gfx),
+        (SEQUENCER, state.seq),
+        (state.controller, state.crtc),
+    ):
+        yield Step(OUT, port, bank.index)
+    if not state.misc & ENABLE_MEMORY:
+        yield Step(OUT, MISC, state.misc)
+
+
+def _latches(latches: int) -> Iterator[Step]:
+    """Latches are loaded from memory, which has them for as long."""
+    if not latches:
+        return
+    for plane in range(PLANES):
+        yield map_mask(1 << plane)
+        yield Step(PUT, FIRST_ADDRESS, latches >> 8 * plane & 0xFF)
+    yield Step(GET, FIRST_ADDRESS)
+    yield map_mask(ALL_PLANES)
+    yield Step(PUT, FIRST_ADDRESS, 0)
+
+
+def _planes(words: list[int]) -> Iterator[Step]:
+    """What isn't 0 in the planes, two offsets a step, and once for all planes that have the same
+    there."""
+    steps: dict[int, list[Step]] = {}
+    for offset in range(0, PLANE_BYTES, 2):
+        low, high = words[offset], words[offset + 1]
+        if not (low or high):
+            continue
+        values = (
+            low >> 8 * plane & 0xFF | (high >> 8 * plane & 0xFF) << 8 for plane in range(PLANES)
+        )
+        for value, planes in masks_of(values).items():
+            if value:
+                steps.setdefault(planes, []).append(Step(PUTW, FIRST_ADDRESS + offset, value))
+    for planes in sorted(steps):
+        yield map_mask(planes)
+        yield from steps[planes]
+
+
+def _attributes(state: State) -> Iterator[Step]:
+    """The attribute controller: its palette is written before it is looked at; what is written next
+    is as it was."""
+    status = state.controller + STATUS
+    yield Step(IN, status)
+    for index, value in enumerate(state.attr.registers):
+        yield Step(OUT, ATTRIBUTE, index)
+        yield Step(OUT, ATTRIBUTE, value)
+    yield Step(OUT, ATTRIBUTE, state.attr.index)
+    if not state.is_data:
+        yield Step(IN, status)
+
+
+def _dac(state: State) -> Iterator[Step]:
+    """The DAC: its entries, what waits for blue, and which component is next, by reading those
+    before it."""
+    dac = state.dac
+    yield Step(OUT, MASK, dac.mask)
+    yield Step(OUT, DAC_WRITE, 0)
+    yield from (Step(OUT, DAC_DATA, component) for component in dac.components)
+    yield from (Step(OUT, DAC_DATA, component) for component in dac.waiting)
+    yield Step(OUT, DAC_WRITE, dac.index)
+    yield from [Step(IN, DAC_DATA)] * dac.next
+
+
+def _controller(state: State) -> Iterator[Step]:
+    """The CRT controller, and the beam's place in its frame, which began with registers of that
+    time."""
+    port, registers = state.controller, state.crtc.registers
+    taken = {} if state.beam.is_at_begin else state.beam.taken
+    yield _register(port, RETRACE_END, registers[RETRACE_END] & ~PROTECT)
+    for index, value in enumerate(registers):
+        if index != RETRACE_END:
+            yield _register(port, index, taken.get(index, value))
+    yield _register(port, RETRACE_END, registers[RETRACE_END])
+    if not state.beam.is_at_begin:
+        yield Step(ADVANCE, state.beam.drawn(state.shape))
+        yield from (_register(port, index, registers[index]) for index in TAKEN)
