@@ -76,8 +76,8 @@ def _sources() -> dict[str, bytes]:
             files[place.as_posix()] = path.read_bytes()
     for name in CARRIED:
         for path in _files(TOP / name):
-            place = path.relative_to(TOP).as_posix()
-            files[f"{PACKAGE}/carried/{place}"] = path.read_bytes()
+            carried = path.relative_to(TOP).as_posix()
+            files[f"{PACKAGE}/carried/{carried}"] = path.read_bytes()
     return files
 
 

@@ -23,7 +23,7 @@ from zaklimot_tools.dev.emulators.traces import row as row_of
 from zaklimot_tools.images.reading import image_of
 from zaklimot_tools.trace import recording
 from zaklimot_tools.trace.converting import Checked, Clocked, Written
-from zaklimot_tools.trace.recording import PHASES, Deed, Machine, Session
+from zaklimot_tools.trace.recording import PHASES, Deed, Keeper, Machine, Session
 from zaklimot_tools.trace.replaying import ALLOWED, PAGE, SEEN, Replay, Screen, whole_rows
 from zaklimot_tools.trace.state import State
 from zaklimot_tools.trace.step import ADVANCE, FRAME, IN, PUT, Step
@@ -541,6 +541,18 @@ class RealTime(Folder):
         program = self.program("vga", "#!/bin/sh\necho oh >&2\nexit 3\n")
         status, _, said = run("pictures", trace, self.folder / "pictures", "--vga", program)
         self.assertEqual((status, said), (2, f"vga-trace: {program}: it ended with status 3: oh\n"))
+
+
+class Keeping(Folder):
+    def test_one_that_a_signal_kept_from_its_start(self) -> None:
+        with open(self.write("log", "w p 3C0\n"), "rb") as log, open(
+            self.write("out", ""), "wb"
+        ) as out:
+            keeper = Keeper(log, out)
+            keeper.end()
+            keeper.start()
+            keeper.end()
+        self.assertEqual((self.folder / "out").read_text(), "w p 3C0\n")
 
 
 class Traces(unittest.TestCase):

@@ -594,9 +594,8 @@ class Gate(Folder):
         standard error."""
         gate, notes = self.folder / "gate", Path(self.write("notes", ""))
         shutil.copytree(TOP / ".ci", gate / ".ci")
-        fakes = dict.fromkeys(
-            ("vga-page-tests", "vga-bindings-tests", "vga-library-tests", "tests-of-tools"), NOTING
-        )
+        names = ("page-tests", "bindings-tests", "library-tests", "style")
+        fakes = dict.fromkeys((*(f"vga-{name}" for name in names), "tests-of-tools"), NOTING)
         for name, text in {**fakes, "vga-memory": memory, "vga-check": tests, "rt": prover}.items():
             self.program(f"gate/tools/{name}", text)
         # The gate fetches these where they are lacking.
@@ -624,6 +623,7 @@ class Gate(Folder):
         status, notes, _ = self.run_gate(NOTING, prover=NOTING + SAYING.format("turned", REFUSED))
         self.assertEqual(status, 0)
         self.assertIn("\nvga-check \nrt ci\ntests-of-tools --built\n", notes)
+        self.assertLess(notes.index("\nvga-style "), notes.index("\nvga-check "))
         self.assertIn("\nvga-library-tests --portable --gated --proof ", notes)
 
     def test_a_wrong_body_that_no_contract_refuses(self) -> None:

@@ -81,8 +81,11 @@ SOURCES = {
 }
 # Linux' prctl: the signal that a process gets when the one that has started it ends.
 SET_PARENT_DEATH_SIGNAL = 1
-Words = Sequence[Union[str, Path]]
-Item, Made = TypeVar("Item"), TypeVar("Made")
+# A word of a command line.
+Word = Union[str, Path]
+Words = Sequence[Word]
+Item = TypeVar("Item")
+Made = TypeVar("Made")
 # What is told the last whole line that a program has said, again and again while it works.
 Hearer = Callable[[str], None]
 
@@ -125,10 +128,8 @@ def started(words: Words, asking: float = 0, **given: Any) -> Iterator[subproces
     try:
         with _signals_held():
             try:
-                process = subprocess.Popen(
-                    [str(word) for word in words],
-                    **{"stdin": subprocess.DEVNULL, "start_new_session": IS_POSIX, **given},
-                )
+                given = {"stdin": subprocess.DEVNULL, "start_new_session": IS_POSIX, **given}
+                process = subprocess.Popen([str(word) for word in words], **given)
             except (OSError, ValueError) as error:
                 raise Trouble(
                     getattr(error, "strerror", None) or str(error), str(words[0])

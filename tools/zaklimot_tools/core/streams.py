@@ -9,7 +9,7 @@ import sys
 import tempfile
 from contextlib import contextmanager
 from pathlib import Path
-from typing import BinaryIO, Callable, Iterator, Optional, Union, cast
+from typing import BinaryIO, Callable, ContextManager, Iterator, Optional, Union, cast
 
 from .trouble import Trouble
 
@@ -154,10 +154,14 @@ def writing(path: str) -> Iterator[BinaryIO]:
             yield stream
         return
     try:
-        with _written_beside(Path(path)) if _may_be_replaced(path) else open(path, "wb") as stream:
+        with _written_beside(Path(path)) if _may_be_replaced(path) else _opened(path) as stream:
             yield stream
     except OSError as error:
         raise Trouble(error.strerror or str(error), path) from error
+
+
+def _opened(path: str) -> ContextManager[BinaryIO]:
+    return open(path, "wb")
 
 
 def _may_be_replaced(path: str) -> bool:

@@ -145,7 +145,10 @@ def _least(have: Word, want: Word) -> Writes:
                 ):
                     before = search(left & ~reached, masks[place + 1 :], most - 1)
                     if before is not None:
-                        return [*before, (mask, first, bytes(map(min, made[first:end])))]
+                        return [
+                            *before,
+                            (mask, first, bytes(min(alike) for alike in made[first:end])),
+                        ]
         return None
 
     # A write for each plane is always enough.
@@ -215,6 +218,11 @@ def scroll(mode: Mode, window: Window, lines: int, colour: int = 0) -> Item:
     return service(
         cycles, function, colour << 8, row << 8 | column, row + rows - 1 << 8 | column + columns - 1
     )
+
+
+def _steps_of(items: Sequence[Item]) -> Iterator[format.Step]:
+    """The steps of items without blocks, of which a block is made."""
+    return (item.step for item in items if isinstance(item.step, format.Step))
 
 
 class Areas:
@@ -322,12 +330,9 @@ class Areas:
             want[y] = have[y][:left] + self._want[y][left:right] + have[y][right:]
         steps = drawn(self._mode, have, want)
         # The map mask is what it was when the block begins again.
-        masks = (
-            [Item(map_mask(ALL_PLANES).step)]
-            if any(item.step.name == "outw" for item in steps)
-            else []
-        )
+        has_masks = any(step.name == "outw" for step in _steps_of(steps))
+        masks = [Item(map_mask(ALL_PLANES).step)] if has_masks else []
         items = [scroll(self._mode, window, 1), *steps, *masks]
-        block = format.Block(rows, tuple(item.step for item in items))
+        block = format.Block(rows, tuple(_steps_of(items)))
         saved = rows * sum(item.step.size for item in steps) - block.size
         return Item(block, rows * sum(item.cycles for item in items)), saved

@@ -86,9 +86,9 @@ class Case(NamedTuple):
         if step is None:
             return ""
         lines = bytes_of(self.front, MOST_BYTES).count(b"\n") if self.front else 0
-        file, line = (
-            (self.source, step.number - lines) if step.number > lines else (self.front, step.number)
-        )
+        file, line = self.source, step.number - lines
+        if self.front is not None and line <= 0:
+            file, line = self.front, step.number
         return printable(f"`{step.words[:MOST_WORDS]}`, {file.relative_to(self.folder)}:{line}")
 
     def expects_fault(self) -> bool:

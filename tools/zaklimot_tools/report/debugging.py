@@ -12,9 +12,9 @@ from typing import Any
 from urllib.parse import quote
 
 from zaklimot.format import FONT_BYTES, MOST_BYTES, is_bytes
+from zaklimot_tools import TOP
 from zaklimot_tools.core.streams import STANDARD, read_at_most
 from zaklimot_tools.core.trouble import Trouble
-from zaklimot_tools.script.program import TOP
 
 
 PAGE = TOP / "page" / "zaklimot.html"

@@ -15,7 +15,7 @@ from contextlib import contextmanager, nullcontext
 from functools import partial
 from itertools import chain, count, islice, repeat, zip_longest
 from pathlib import Path
-from typing import Any, BinaryIO, Callable, Iterator, NamedTuple, Optional, Union
+from typing import Any, BinaryIO, Callable, Iterable, Iterator, NamedTuple, Optional, Union
 
 from zaklimot.format import STATE, Answer, count_in, is_bytes, places_in, steps_in, words_in
 from zaklimot.format.report import VALUE
@@ -95,7 +95,9 @@ class Row(NamedTuple):
 
 
 # A row of all its parts, made in half the time that the class itself takes.
-made_row = partial(tuple.__new__, Row)
+made_row: Callable[[Iterable[object]], Row] = partial(
+    tuple.__new__, Row  # type: ignore[assignment]
+)
 # What `--only` may call a step, and which steps it means.
 KINDS: dict[str, Callable[[Row], bool]] = {
     "refused": lambda row: row.step.is_refused,
@@ -204,11 +206,8 @@ class Script:
         meant = chain(islice(self._steps(), until), ((dump, NO_PLACE) for dump in dumps), unknown)
         count = self._count if until is None or self._count is None else min(until, self._count)
         wanted = None if count is None else count + len(dumps)
-        state, dump_of, is_told = (
-            Registers() if tells_why else None,
-            self._dumps.get,
-            progress.is_wanted,
-        )
+        state = Registers() if tells_why else None
+        dumps_at, is_told = self._dumps, progress.is_wanted
         with self._program.running(Path(self._path), fonts, until, self.is_bytes) as outcome:
             _wait_for(outcome.report, self.shown, progress)
             report = Report(outcome.report, "the report", progress)  # type: ignore[arg-type]
@@ -223,7 +222,8 @@ class Script:
                     progress.tell(f"{self.shown}: step {step.number} of {self._count}")
                 expected = expected_in(comment) if comment else None
                 why = "" if state is None else state.why_of(words, step)
-                yield made_row((step, words, number, expected, dump_of(number, ()), why, is_strict))
+                dump = () if number is None else dumps_at.get(number, ())
+                yield made_row((step, words, number, expected, dump, why, is_strict))
             if next(steps, None) is not None:
                 raise Trouble(f"the report goes on after the last step, {wanted}", self.shown)
         if outcome.status:

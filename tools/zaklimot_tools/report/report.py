@@ -212,7 +212,8 @@ class Comparison:
         """The steps that differ, up to the end of the shorter report. A step that was left out
         differs from none."""
         is_left = False
-        for step, other in zip_longest(steps, others):
+        pairs: Iterator[tuple[Optional[Answer], Optional[Answer]]] = zip_longest(steps, others)
+        for step, other in pairs:
             is_left = is_left or (self.is_machine and other is not None and other.kind == REFUSAL)
             if is_left and step is None:
                 # A machine gets no step from there on.

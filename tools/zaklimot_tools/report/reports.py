@@ -114,8 +114,9 @@ def delays_of(script: Optional[str]) -> Callable[[int], float]:
     it, as a script tells it."""
     if script is None:
         return lambda number: USUAL
-    registers, frames, last, dots = Registers(), {}, 0, 0
-    name = name_of(script)
+    registers, name = Registers(), name_of(script)
+    frames: dict[int, float] = {}
+    last, dots = 0, 0
     for number, step in enumerate(script_of(read_script(script), name).steps(), 1):
         registers.take(step)
         if step.name == "advance" and step.numbers[0] <= MOST_ADVANCE:
@@ -243,8 +244,9 @@ def _fitted(picture: Picture, image: Image) -> Optional[tuple[Image, str]]:
 def _best(picture: Picture, image: Image) -> tuple[Picture, Optional[DifferentDots], str]:
     """The image in six bits a component, where it differs, and how its components were read."""
     found = []
+    largest = max(max(row) for row in image.rows)
     for is_possible, shift, told in (
-        (image.most == 63 or max(map(max, image.rows)) <= 63, 0, "six bits a component"),
+        (image.most == 63 or largest <= 63, 0, "six bits a component"),
         (image.most == 255, 2, "eight bits a component, of which six count"),
     ):
         if is_possible:
@@ -260,7 +262,7 @@ class Held(NamedTuple):
     `image` has the image's dots where there are as many.
     """
 
-    count: Optional[int]
+    count: Optional[int]  # type: ignore[assignment]
     how: str
     told: str = ""
     image: Optional[Picture] = None

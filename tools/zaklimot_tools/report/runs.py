@@ -371,8 +371,9 @@ def _junit_text(name: str, ran: list[Ran]) -> str:
         f"{kind}s": str(sum(one.status == status for one in ran)) for status, kind in kinds.items()
     }
     time_of_all = f"{sum(one.seconds for one in ran):.3f}"
+    shown = printable(name, "\n")
     suite = Element(
-        "testsuite", name=printable(name, "\n"), tests=str(len(ran)), **counts, time=time_of_all
+        "testsuite", {"name": shown, "tests": str(len(ran)), **counts, "time": time_of_all}
     )
     for one in ran:
         case_name, seconds = printable(str(one.script), "\n"), f"{one.seconds:.3f}"

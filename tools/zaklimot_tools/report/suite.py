@@ -67,7 +67,7 @@ class Result:
             name: getattr(self.comparison, name)
             for name in ("steps", "skipped", "answers", "differing")
         }
-        told = {
+        told: dict[str, object] = {
             "name": self.case.name,
             "rule": self.rule,
             "answer": self.answer,
@@ -217,8 +217,8 @@ def _judge(result: Result, status: int, report: Path, messages: Path) -> None:
         with open(report, "rb") as stream:
             _compare(result, stream)
     elif fault is not None:
-        report = io.BytesIO(f"{fault[0]}\n".encode())
-        _compare(result, io.BufferedReader(report))  # type: ignore[arg-type]
+        line = io.BytesIO(f"{fault[0]}\n".encode())
+        _compare(result, io.BufferedReader(line))  # type: ignore[arg-type]
     if status and fault is None and not (has_report and result.answer in (DIFFERS, FAILED)):
         (
             result.answer,
@@ -312,8 +312,8 @@ def scripts(words: argparse.Namespace, progress: Progress) -> int:
         # Nothing but its end stops a text.
         write_file(str(path), case.handed(words.machine, case.is_bytes))
         write_name(path)
-        if case.fonts not in fonts:
-            fonts[case.fonts] = _copied(case.fonts, folder, fonts.values())
+        if case.fonts is not None and case.fonts not in fonts:
+            fonts[case.fonts] = _copied(case.fonts, folder, list(fonts.values()))
         lines.append(f"{case.name}{case.suffix} {fonts[case.fonts]}\n")
     write_file(str(folder / LIST), "".join(lines).encode("utf-8", "surrogateescape"))
     write_name(folder / LIST)

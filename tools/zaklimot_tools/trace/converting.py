@@ -317,7 +317,7 @@ class Row(NamedTuple):
 
     steps: Sequence[Step]
     codes: Sequence[bytes]
-    count: int
+    count: int  # type: ignore[assignment]
     cycle: int
 
 

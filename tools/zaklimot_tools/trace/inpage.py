@@ -209,7 +209,7 @@ def record(machine: PageMachine, kept: Path, say: Say, progress: Progress) -> To
             started(words, stdout=subprocess.PIPE, stderr=said, preexec_fn=end_with_parent)
         )
         keeper = Keeper(process.stdout, cast(Any, target), NODE)  # type: ignore[arg-type]
-        stack.callback(lambda: keeper.join(DRAINING))
+        stack.callback(keeper.end)
         process.stdout = None
         keeper.start()
         _wait(process, keeper, progress)

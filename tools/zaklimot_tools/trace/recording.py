@@ -115,6 +115,12 @@ class Keeper(Thread):
                         f"its trace can't be kept: {error.strerror or error}", self._name
                     )
 
+    def end(self) -> None:
+        """Waits a while for the lines that are still to come. A signal may have come before its
+        start."""
+        if self.is_alive():
+            self.join(DRAINING)
+
 
 @dataclass
 class Session:
@@ -265,8 +271,8 @@ def record(machine: Machine, kept: Path, say: Say, progress: Progress) -> list[f
         target = stack.enter_context(
             gzip.open(stack.enter_context(writing(str(kept / TRACE))), "wb", 6)
         )
-        keepers: list[Keeper] = []
-        stack.callback(lambda: [keeper.join(DRAINING) for keeper in keepers])
+        # It ends after the program whose lines it keeps.
+        kept_lines = stack.enter_context(ExitStack())
         filtering = stack.enter_context(
             started(
                 ["grep", "--line-buffered", "-F", *words, folder / "log"],
@@ -274,14 +280,15 @@ def record(machine: Machine, kept: Path, say: Say, progress: Progress) -> list[f
                 preexec_fn=end_with_parent,
             )
         )
-        keepers.append(Keeper(filtering.stdout, target))  # type: ignore[arg-type]
+        keeper = Keeper(filtering.stdout, target)  # type: ignore[arg-type]
+        kept_lines.callback(keeper.end)
         filtering.stdout = None
-        keepers[0].start()
+        keeper.start()
         said = stack.enter_context(open(folder / "said", "wb"))
         process = stack.enter_context(
             started(_qemu(machine, folder), stdout=said, stderr=said, preexec_fn=end_with_parent)
         )
-        session = Session(machine, process, keepers[0], kept, progress)
+        session = Session(machine, process, keeper, kept, progress)
         # A machine that has ended by itself hears nothing more.
         with suppress(BrokenPipeError), _reached(folder, process) as (do, log):
             session.act(do, log, say)
@@ -292,7 +299,7 @@ def record(machine: Machine, kept: Path, say: Say, progress: Progress) -> list[f
                 ending.wait(ANSWERING)
             except subprocess.TimeoutExpired as error:
                 raise Trouble(f"it doesn't end within {ANSWERING} seconds", name) from error
-        keepers[0].join(DRAINING)
-        if keepers[0].trouble:
-            raise keepers[0].trouble
+        keeper.join(DRAINING)
+        if keeper.trouble:
+            raise keeper.trouble
     return session.screens

@@ -563,10 +563,11 @@ class Card:
     def registers(self) -> Registers:
         """All registers, as they are."""
         read = self._read("read_registers", s.zak_registers)
-        values = {name: getattr(read, name) for name in Registers._fields}
+        values: dict[str, Any] = {name: getattr(read, name) for name in Registers._fields}
         for name in ("seq", "crtc", "gfx", "attr"):
             values[name] = bytes(values[name])
-        return Registers(**{**values, "attr_is_data": bool(read.attr_is_data)})
+        values["attr_is_data"] = bool(read.attr_is_data)
+        return Registers(**values)
 
     def beam(self) -> Beam:
         """The beam: where the next dot is."""

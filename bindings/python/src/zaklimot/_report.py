@@ -34,10 +34,8 @@ class Step(NamedTuple):
         pairs = [word.partition("=") for word in words[: len(format.REGISTERS)]]
         if [name for name, *_ in pairs] != list(format.REGISTERS):
             return None
-        return Answer(
-            *(int(value, 16) for *_, value in pairs),
-            bytes.fromhex(words[-1] if len(words) > 4 else ""),
-        )
+        ax, bx, cx, dx = (int(value, 16) for *_, value in pairs)
+        return Answer(ax, bx, cx, dx, bytes.fromhex(words[-1] if len(words) > 4 else ""))
 
     @property
     def refusal(self) -> Optional[type[Error]]:

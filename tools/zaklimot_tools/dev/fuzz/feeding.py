@@ -85,7 +85,7 @@ def _check_report(report: bytes, script: Script, is_whole: bool) -> None:
                 )
     except Trouble as trouble:
         raise Wrong(str(trouble)) from trouble
-    if is_whole and next(meant, None):
+    if is_whole and next(meant, None) is not None:
         raise Wrong("the report ends before the script")
 
 

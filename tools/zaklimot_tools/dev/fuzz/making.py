@@ -21,6 +21,7 @@ from zaklimot.format import (
     Step,
     encode,
 )
+from zaklimot.format.script import Item
 
 # So many steps has a new script at most, and so many changes are made to one that is at hand.
 MOST_STEPS = 60
@@ -171,7 +172,7 @@ def _changed(random: Random, data: bytes, others: Sequence[bytes], is_text: bool
 def _new(random: Random, is_text: bool) -> bytes:
     """A script of either version: steps at random, and in version 2 blocks of them."""
     version = random.choice((1, 2))
-    items = tuple(
+    items: tuple[Item, ...] = tuple(
         block(random) if version == 2 and random.random() < 0.2 else step(random)
         for _ in range(random.randint(1, MOST_STEPS))
     )

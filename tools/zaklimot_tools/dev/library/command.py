@@ -7,13 +7,13 @@ from pathlib import Path
 from typing import Optional
 
 from zaklimot_tools.core import cli
-from zaklimot_tools.dev.words import add_proof, refuse_to_check
 from zaklimot_tools.core.cli import add
 from zaklimot_tools.core.processes import check_program
 from zaklimot_tools.core.progress import Progress
 from zaklimot_tools.core.streams import check_file, check_folder, to_read, write_file
 from zaklimot_tools.core.trouble import Trouble
 from zaklimot_tools.dev.page.making import made_for_c
+from zaklimot_tools.dev.words import add_proof, refuse_to_check
 from zaklimot_tools.script.crates import phases
 
 from .making import (

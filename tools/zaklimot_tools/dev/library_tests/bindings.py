@@ -18,11 +18,11 @@ from typing import Callable
 from zaklimot._file import FILE, PORTABLE, PROVED, kind_of
 from zaklimot_tools import TOP
 from zaklimot_tools.core import cli
-from zaklimot_tools.dev.words import add_checks, refuse_to_check
-from zaklimot_tools.core.processes import captured, tested
+from zaklimot_tools.core.processes import Word, captured, tested
 from zaklimot_tools.core.progress import Progress
 from zaklimot_tools.core.trouble import Trouble, Wrong
 from zaklimot_tools.dev.library.making import BACKENDS, X86_64
+from zaklimot_tools.dev.words import add_checks, refuse_to_check
 from zaklimot_tools.script.crates import phases
 
 from .checks import PRINTED, REPORT, TEXT
@@ -159,8 +159,9 @@ def check_rust_examples(library: Path, folder: Path) -> str:
     _cargo(library, folder, "build", "--offline", "--examples")
     made, script, pictures = folder / "target" / "debug" / "examples", folder / "few.vga", []
     environment = {"ZAKLIMOT_DIR": str(library), "PYTHONPATH": str(PACKAGE / "src")}
-    python = [sys.executable, "-B", TOP / "examples" / "python" / "picture.py"]
-    for words in ([made / "picture"], python):
+    python: list[Word] = [sys.executable, "-B", TOP / "examples" / "python" / "picture.py"]
+    rust: list[Word] = [made / "picture"]
+    for words in (rust, python):
         tested([*words, folder / "picture.ppm"], environment=environment)
         pictures.append((folder / "picture.ppm").read_bytes())
     if pictures[0] != pictures[1]:

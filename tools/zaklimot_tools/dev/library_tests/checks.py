@@ -14,7 +14,7 @@ from typing import Any, Optional, Sequence
 
 from zaklimot.format import Picture
 from zaklimot_tools import TOP
-from zaklimot_tools.core.processes import captured
+from zaklimot_tools.core.processes import Word, captured
 from zaklimot_tools.core.streams import counted
 from zaklimot_tools.core.trouble import Wrong
 from zaklimot_tools.core.version import HEADER, calls_of, version
@@ -82,7 +82,7 @@ def check_header(built: Built, folder: Path) -> str:
             for source in (
                 [alone, LAYOUT] if language == "c++" or standard in ASSERTING else [alone]
             ):
-                words = [
+                flags: list[Word] = [
                     "-x",
                     language,
                     f"-std={standard}",
@@ -91,7 +91,7 @@ def check_header(built: Built, folder: Path) -> str:
                     "-I",
                     built.folder / "include",
                 ]
-                run([name, *words, source])
+                run([name, *flags, source])
             count += 1
         # The C++ header is taken, and a card by it answers, throws, moves and closes.
         for standard in OBJECT_STANDARDS:
@@ -365,13 +365,8 @@ def laid_files() -> list[str]:
 def check_installing(built: Built, folder: Path) -> str:
     """The files lie where they should, name no folder of this machine, and a program is built and
     run with them."""
-    words, prefix = [
-        "install",
-        "--libdir",
-        LIBRARIES,
-        "--archive",
-        built.archive,
-    ], folder / "stage" / "usr"
+    words: list[Word] = ["install", "--libdir", LIBRARIES, "--archive", built.archive]
+    prefix = folder / "stage" / "usr"
     environment = {**os.environ, "PREFIX": "/usr", "DESTDIR": str(prefix.parent)}
     run([sys.executable, TOP / "tools" / "vga-library", *words], environment=environment)
     found = sorted(str(path.relative_to(prefix)) for path in prefix.rglob("*") if not path.is_dir())
@@ -431,7 +426,7 @@ def _check_cmake(prefix: Path, folder: Path) -> str:
         return "CMake is left out: install the package cmake"
     made = folder / "cmake"
     # A packager's folder is no prefix of CMake's own.
-    words = [
+    words: list[Word] = [
         "cmake",
         "-S",
         PROJECT,
@@ -472,7 +467,7 @@ def flags_of(*packages: str) -> Optional[list[str]]:
 def _build(built: Built, made: Path, sources: list[Path], flags: list[str]) -> None:
     # The interface of Unicorn takes functions as pointers to anything, which pedantic compilers
     # refuse.
-    words = [
+    words: list[Word] = [
         built.compilers[0].c,
         "-std=c99",
         "-O2",
@@ -489,7 +484,7 @@ def _check_script(built: Built, pc: Path, folder: Path, name: str) -> None:
     """The answers that come back on the floppy are those of the harness, but for what a machine
     skips."""
     script, image = TOP / "examples" / f"{name}.vga", folder / f"{name}.img"
-    floppy = [sys.executable, TOP / "tools" / "vga-floppy"]
+    floppy: list[Word] = [sys.executable, TOP / "tools" / "vga-floppy"]
     run([*floppy, "make", script, image])
     run([pc, image, FONTS, "--keys", " ", "--seconds", "5"])
     came = [

@@ -8,12 +8,12 @@ from pathlib import Path
 from typing import Any, Callable, Sequence
 
 from zaklimot_tools.core import cli
-from zaklimot_tools.dev.words import add_checks, refuse_to_check
 from zaklimot_tools.core.progress import Progress
 from zaklimot_tools.core.trouble import Trouble
 from zaklimot_tools.dev.library.making import TARGETS, X86_64, Target
 from zaklimot_tools.dev.library.one_file import TRANSLATORS
 from zaklimot_tools.dev.page.making import made_for_c
+from zaklimot_tools.dev.words import add_checks, refuse_to_check
 from zaklimot_tools.script.crates import phases
 
 from .checks import (
@@ -110,10 +110,12 @@ def _run_portable(words: argparse.Namespace, progress: Progress) -> None:
             stack.enter_context(windows_in(Path(folder)))
         maker = Maker(Path(folder), target)
         for name, check in wanted.items():
-            work = (
-                partial(check, maker) if check else lambda: check_file(made_for_c(words, progress))
-            )
+            work = partial(check, maker) if check else partial(_check_made, words, progress)
             make_check(f"{name}, as one C file", work)
+
+
+def _check_made(words: argparse.Namespace, progress: Progress) -> str:
+    return check_file(made_for_c(words, progress))
 
 
 def _wanted(only: Sequence[str], target: Target) -> dict[str, Check]:

@@ -9,7 +9,7 @@ import time
 from pathlib import Path
 from typing import Any, Callable, Iterable, NamedTuple, Sequence
 
-from zaklimot_tools.core.processes import BINUTILS, SOURCES, Hearer, captured, tested
+from zaklimot_tools.core.processes import BINUTILS, SOURCES, Hearer, Word, captured, tested
 from zaklimot_tools.dev.library.making import (
     AARCH64,
     MOVING,
@@ -126,7 +126,7 @@ def _has_sanitizers(compiler: Compiler, runner: Sequence[str]) -> bool:
     with tempfile.TemporaryDirectory(prefix="vga-library-tests-") as name:
         source, made = Path(name) / "nothing.c", Path(name) / "nothing"
         source.write_text("int main(void) { return 0; }\n")
-        words = [compiler.c, *SANITIZED, source, "-o", made]
+        words: list[Word] = [compiler.c, *SANITIZED, source, "-o", made]
         return captured(words).status == 0 and captured([*runner, made]).status == 0
 
 
@@ -157,9 +157,9 @@ def build(
     made: Path,
     *flags: str,
     standard: str = "c99",
-) -> list[str | Path]:
+) -> list[Word]:
     """Builds a program with the static library, and answers the words that run it."""
-    words = [f"-std={standard}", *STRICT, *flags, "-I", built.folder / "include"]
+    words: list[Word] = [f"-std={standard}", *STRICT, *flags, "-I", built.folder / "include"]
     if built.target == WINDOWS:
         # Wine finds neither a program without this ending nor the compiler's own libraries.
         words, made = [*words, "-static"], made.with_suffix(".exe")

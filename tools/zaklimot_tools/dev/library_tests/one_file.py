@@ -13,11 +13,11 @@ from pathlib import Path
 from typing import Callable, Iterator, NamedTuple
 
 from zaklimot_tools import TOP
-from zaklimot_tools.core.processes import SOURCES as PACKAGES, captured
+from zaklimot_tools.core.processes import SOURCES as PACKAGES, Word, captured
 from zaklimot_tools.core.streams import counted
 from zaklimot_tools.core.trouble import Wrong
 from zaklimot_tools.core.version import HEADER, calls_of
-from zaklimot_tools.dev.library.making import FONTS
+from zaklimot_tools.dev.library.making import FONTS, X86_64, Target
 from zaklimot_tools.dev.library.one_file import C_FILE, PROGRAM, one_file, written_by_wasm2c
 from zaklimot_tools.report.cases import SUITE, read_cases
 
@@ -33,18 +33,7 @@ from .checks import (
     expect,
     names_in,
 )
-from .compilers import (
-    COMPILERS,
-    RUNNERS,
-    SANITIZED,
-    X86_64,
-    Built,
-    Compiler,
-    Target,
-    build,
-    not_there,
-    run,
-)
+from .compilers import COMPILERS, RUNNERS, SANITIZED, Built, Compiler, build, not_there, run
 
 # All that a compiler may find in the file, but for conversions in what was generated, is an error.
 STRICT = ("-std=c99", "-Wall", "-Wextra", "-Wpedantic", "-Werror")
@@ -79,7 +68,7 @@ class Maker(NamedTuple):
             (folder / "include").mkdir()
             for header in (HEADER, HEADER.with_suffix(".hpp")):
                 shutil.copyfile(header, folder / "include" / header.name)
-            words = [compiler.c, *STRICT, *flags, "-I", HEADER.parent]
+            words: list[Word] = [compiler.c, *STRICT, *flags, "-I", HEADER.parent]
             run([*words, "-c", C_FILE, "-o", built.archive])
             run([self.target.tool("ar"), "rcs", built.static, built.archive])
         return built

@@ -13,8 +13,8 @@ from pathlib import Path
 from zaklimot._file import PORTABLE
 from zaklimot_tools import TOP
 from zaklimot_tools.core.trouble import Wrong
-from zaklimot_tools.core.version import version
-from zaklimot_tools.dev.library.making import HEADER, MOVING, Place, described, make_library
+from zaklimot_tools.core.version import HEADER, version
+from zaklimot_tools.dev.library.making import MOVING, Place, described, make_library
 
 from .checks import PICTURE, PROJECT, check_picture
 from .compilers import run

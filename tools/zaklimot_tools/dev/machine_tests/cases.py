@@ -246,7 +246,7 @@ class Case(NamedTuple):
     segments: tuple[int, ...]
     written: tuple[tuple[int, int], ...]
     ports: tuple[tuple[int, int, int], ...]
-    count: int = 1
+    count: int = 1  # type: ignore[assignment]
     tables: bytes = b""
     given: tuple[tuple[int, bytes], ...] = ()
     fault: int | None = None

@@ -15,7 +15,7 @@ from typing import Optional
 
 from zaklimot_tools import TOP
 from zaklimot_tools.core import cli
-from zaklimot_tools.core.processes import captured, check_program, in_parallel, run
+from zaklimot_tools.core.processes import Word, captured, check_program, in_parallel, run
 from zaklimot_tools.core.progress import Progress
 from zaklimot_tools.core.trouble import Trouble, Wrong
 from zaklimot_tools.core.words import number_to
@@ -50,7 +50,19 @@ def built_processor(folder: Path) -> Path:
     ]
     sources = [HERE / "processor.c", MACHINE / "cpu" / "shifts.c"]
     sources += [top / f"{name}.c" for name in (*PROCESSOR, "api", "mem")]
-    words = [COMPILER, "-O2", "-w", *own, "-I", top / "include", "-I", top, "-o", program, *sources]
+    words: list[Word] = [
+        COMPILER,
+        "-O2",
+        "-w",
+        *own,
+        "-I",
+        top / "include",
+        "-I",
+        top,
+        "-o",
+        program,
+        *sources,
+    ]
     run(words, seconds=SECONDS)
     return program
 

@@ -65,7 +65,7 @@ def _random_descriptor(rnd: random.Random) -> bytes:
 def _base(tables: bytes, selector: int) -> int:
     """The base of the descriptor that a selector names."""
     low, middle, high = struct.unpack_from("<xxHBxxB", tables, selector & ~7)
-    return low | middle << 16 | high << 24
+    return int(low | middle << 16 | high << 24)
 
 
 def table(rnd: random.Random) -> bytes:

@@ -63,7 +63,7 @@ class Tables(NamedTuple):
 
     segments: bytes = b""
     interrupts: bytes = b""
-    count: int = 1
+    count: int = 1  # type: ignore[assignment]
     fault: int | None = None
 
 

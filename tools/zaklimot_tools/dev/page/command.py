@@ -7,12 +7,12 @@ import sys
 from typing import Optional
 
 from zaklimot_tools.core import cli
-from zaklimot_tools.dev.words import add_proof, refuse_to_check
 from zaklimot_tools.core.processes import MEBIBYTE
 from zaklimot_tools.core.progress import Progress
 from zaklimot_tools.core.streams import STANDARD, check_file, read_at_most, to_read, write_file
 from zaklimot_tools.core.trouble import Trouble
 from zaklimot_tools.core.words import number_to
+from zaklimot_tools.dev.words import add_proof, refuse_to_check
 from zaklimot_tools.report.debugging import PAGE
 
 from .machine import made_or_kept

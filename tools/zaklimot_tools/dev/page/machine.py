@@ -15,7 +15,7 @@ from pathlib import Path
 from typing import Callable, NamedTuple, Sequence
 
 from zaklimot_tools import TOP
-from zaklimot_tools.core.processes import captured, check_program, run
+from zaklimot_tools.core.processes import Word, captured, check_program, run
 from zaklimot_tools.core.streams import read_at_most
 from zaklimot_tools.core.trouble import Trouble
 from zaklimot_tools.report.debugging import MOST_PAGE, page_data
@@ -168,7 +168,7 @@ def _compiled(sources: Sequence[Path], folder: Path, *flags: str | Path) -> list
 
 
 def _linked(objects: Sequence[Path], module: Path, *flags: str) -> bytes:
-    words = [
+    words: list[Word] = [
         LINKER,
         "--no-entry",
         "-s",
@@ -193,8 +193,8 @@ def made_machine() -> Machine:
         top = patched(folder)
         if (top / "LICENSE").read_bytes() != NOTICE.read_bytes():
             raise Trouble("it is not the licence of the source", str(NOTICE))
-        include = [word for path in ("shim", "cpu", "pc") for word in ("-I", MACHINE / path)]
-        include += ["-I", top / "include", "-I", top]
+        folders = [*(MACHINE / path for path in ("shim", "cpu", "pc")), top / "include", top]
+        include = [f"-I{path}" for path in folders]
         objects = _compiled(
             [top / f"{part}.c" for part in PROCESSOR], folder, "-w", *DEFINED, *include
         )

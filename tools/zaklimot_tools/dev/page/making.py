@@ -16,7 +16,7 @@ import tempfile
 from pathlib import Path
 from typing import BinaryIO, Callable, Iterator, NamedTuple, Optional, Sequence
 
-from zaklimot_tools.core.processes import Hearer, ended_well
+from zaklimot_tools.core.processes import Hearer, Word, ended_well
 from zaklimot_tools.core.progress import Progress
 from zaklimot_tools.core.trouble import Trouble
 from zaklimot_tools.core.version import HEADER, calls_of
@@ -250,8 +250,8 @@ def _with_target(text: str) -> str:
         text = text.replace(line, f'target {word} = "{new}"')
     text = NATIVE.sub(f'{QUIET} "target-cpu"="{CPU}"', text)
     if "x86" in text:
-        line = text.count("\n", 0, text.index("x86")) + 1
-        raise Trouble("x86 is still named", NAME, line)
+        number = text.count("\n", 0, text.index("x86")) + 1
+        raise Trouble("x86 is still named", NAME, number)
     return text
 
 
@@ -336,8 +336,8 @@ def retargeted(text: str, form: Form) -> str:
         (export, False) for export in OF_MEMORY
     ]
     wrappers = (
-        Shown(*export, form).text(number, is_guarded)
-        for number, (export, is_guarded) in enumerate(shown, FIRST_NUMBER)
+        Shown(answer, name, given, form).text(number, is_guarded)
+        for number, ((answer, name, given), is_guarded) in enumerate(shown, FIRST_NUMBER)
     )
     return text + MEMORY + (GUARD if form.is_guarded else "") + "".join(wrappers)
 
@@ -409,7 +409,7 @@ class Maker:
         source, archive = folder / "wasm.ll", folder / "wasm.a"
         objects = [folder / "wasm.o", folder / "heap.o"]
         source.write_text(text, "utf-8")
-        clang = [self._tools / "clang", *TARGET]
+        clang: list[Word] = [self._tools / "clang", *TARGET]
         self._run(
             f"compiling for {WASM}", [*clang, "-O3", "-c", "-x", "ir", source, "-o", objects[0]]
         )
@@ -419,7 +419,7 @@ class Maker:
 
     def _linked(self, archive: Path, memory: Optional[int]) -> Path:
         module = archive.with_name("linked.wasm")
-        words = ["--target", WASM, "--toolchain", self._kit / "toolchain"]
+        words: list[Word] = ["--target", WASM, "--toolchain", self._kit / "toolchain"]
         words += [] if memory is None else ["--memory", str(memory)]
         self._run("linking", [self._kit / "bin" / "rattle-link", *words, "-o", module, archive])
         return module

@@ -16,10 +16,10 @@ from threading import Event
 from typing import Any, Callable, Iterator, Mapping, Optional, Sequence
 
 from zaklimot_tools.core import cli
-from zaklimot_tools.dev.words import add_checks, refuse_to_check
 from zaklimot_tools.core.processes import (
     MEBIBYTE,
     Limits,
+    Word,
     captured,
     ended_well,
     in_parallel,
@@ -34,6 +34,7 @@ from zaklimot_tools.dev.page.machine import is_of_this_compiler, machine_in, mad
 from zaklimot_tools.dev.page.making import MOST_MODULE, check_module, kit_of, made_modules
 from zaklimot_tools.dev.page.packing import unzipped
 from zaklimot_tools.dev.page.page import MOST_BYTES, data_of, editor_in, page_text, read_sources
+from zaklimot_tools.dev.words import add_checks, refuse_to_check
 from zaklimot_tools.report.cases import SUITE, Case, read_cases
 from zaklimot_tools.report.debugging import MOST_PAGE, PAGE, page_data
 from zaklimot_tools.report.suite import said_lines
@@ -107,6 +108,12 @@ def module_in(page: bytes) -> bytes:
     return unzipped(page_data(page.decode("utf-8"))["module"])
 
 
+def _unpacked(data: Mapping[str, Any]) -> dict[str, Any]:
+    """The data of a page, unpacked."""
+    packed = {name: unzipped(data[name]) for name in PACKED}
+    return {**data, **packed, "machine": _machine_parts(data["machine"])}
+
+
 def _machine_parts(machine: Mapping[str, Any]) -> dict[str, Any]:
     """The machine of a page's data, with its modules unpacked."""
     return {**machine, **{name: unzipped(machine[name]) for name in ("cpu", "reads")}}
@@ -147,14 +154,7 @@ def check_built(module: bytes, page: bytes) -> str:
         line = page.count(b"\n", 0, len(os.path.commonprefix([page, wanted]))) + 1
         raise Wrong(f"{NAME} is not the page that its sources make, from line {line} on; {ANEW}")
     # Other versions of zlib pack otherwise.
-    parts, wanted_parts = (
-        {
-            **one,
-            **{name: unzipped(one[name]) for name in PACKED},
-            "machine": _machine_parts(one["machine"]),
-        }
-        for one in (data, data_of(own, machine_in(page)))
-    )
+    parts, wanted_parts = (_unpacked(one) for one in (data, data_of(own, machine_in(page))))
     others = [name for name in wanted_parts if parts.get(name) != wanted_parts[name]]
     if others or list(parts) != list(wanted_parts):
         raise Wrong(
@@ -204,6 +204,10 @@ def run_node(
     """What a script writes that ends well within so many seconds; else a Wrong tells what it
     said."""
     return run([*node_words(), *words], seconds=seconds, environment=environment)
+
+
+def _check_page(module: bytes, page: bytes, folder: Path) -> str:
+    return "; ".join((check_built(module, page), check_syntax(page, folder), check_machine(page)))
 
 
 def check_syntax(page: bytes, folder: Path) -> str:
@@ -268,7 +272,7 @@ def lacking_packages(engine: str) -> list[str]:
 
 def check_browser(engine: str) -> str:
     """The page as built in a browser, and the tutorial in it. Chromium uses each control too."""
-    tests = [[OPENING, engine], [TUTORIAL, engine]]
+    tests: list[list[Word]] = [[OPENING, engine], [TUTORIAL, engine]]
     if engine != WEBKIT:
         tests += [[test, engine] for test in BY_HAND]
     if engine == CHROMIUM:
@@ -312,15 +316,16 @@ def _native(top: Path, is_ended: Event, numbered: tuple[int, Case]) -> dict[str,
     if outcome.status:
         report.write_text(said_lines(messages)[-1].removeprefix(SAID) + "\n", "ascii")
     length = report.stat().st_size
-    told = {
+    told: dict[str, object] = {
         "name": case.name,
         "isBytes": case.is_bytes,
         "script": str(script),
         "fonts": str(case.fonts),
         "length": length,
         "sha256": hashlib.sha256(report.read_bytes()).hexdigest(),
-        **({} if case.is_bytes else _assembled(script)),
     }
+    if not case.is_bytes:
+        told.update(_assembled(script))
     if length <= MOST_KEPT:
         return {**told, "report": str(report)}
     # Of long reports with pictures the sum is enough.
@@ -410,13 +415,16 @@ def _checks(
     for name, path in files.items():
         path.write_bytes(parts[name] or b"")
     if OF_PAGE in wanted and page is not None:
-        yield OF_PAGE, lambda: "; ".join(
-            (check_built(same[0], page), check_syntax(page, folder), check_machine(page))
-        )
+        yield OF_PAGE, partial(_check_page, same[0], page, folder)
     if OF_SUITE in wanted:
         for name in ("module", "page")[: 1 + (OF_PAGE in wanted and parts["page"] != same[0])]:
             yield OF_SUITE, partial(check_suite, files[name], folder / f"cases of {name}")
-    for name, check in ((OF_HEAP, check_heap), (OF_SCRIPTS, check_scripts), (OF_OWN, check_own)):
+    last: dict[str, Callable[[Path, Optional[Path]], str]] = {
+        OF_HEAP: check_heap,
+        OF_SCRIPTS: check_scripts,
+        OF_OWN: check_own,
+    }
+    for name, check in last.items():
         if name in wanted:
             yield name, partial(check, files["page"], files.get("small"))
 

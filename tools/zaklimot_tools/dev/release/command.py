@@ -16,7 +16,17 @@ import tarfile
 import tempfile
 from functools import partial
 from pathlib import Path, PurePosixPath
-from typing import AbstractSet, BinaryIO, Mapping, Match, NamedTuple, Optional, Sequence, Union
+from typing import (
+    AbstractSet,
+    BinaryIO,
+    Mapping,
+    Match,
+    NamedTuple,
+    Optional,
+    Sequence,
+    Union,
+    cast,
+)
 
 from zaklimot_tools import PARTS, TOP
 from zaklimot_tools.core import cli
@@ -151,7 +161,8 @@ def library_files(files: Mapping[str, Entry], target: Target, archive: Path) -> 
         making.mkdir()
         make_library(archive, memory_part(target, Path(name)), Place(str(library)), MOVING, target)
         wheel = wheel_of(files, library, making, target)
-        made = {wheel.name: File(wheel.read_bytes()), **laid_files(library)}
+        made: dict[str, Entry] = {wheel.name: File(wheel.read_bytes())}
+        made.update(laid_files(library))
     return (
         made
         if target == X86_64
@@ -199,8 +210,8 @@ def release_entries(
         # The suite's scripts, each whole.
         run([sys.executable, TOP / "tools" / "vga-report", "scripts", Path(name) / "scripts"])
         scripts = laid_files(Path(name))
-    entries = {**files, **scripts, **built, **LINKS, INSTALL: install}
-    return settled({**entries, MADE_OF: made_of(commit, kit_line(), built)})
+    own: dict[str, Entry] = {INSTALL: install, MADE_OF: made_of(commit, kit_line(), built)}
+    return settled({**files, **scripts, **built, **LINKS, **own})
 
 
 def portable_entries(commit: Commit) -> dict[str, Entry]:
@@ -300,7 +311,8 @@ def pack(stream: BinaryIO, entries: Mapping[str, Entry], time: int) -> None:
     with gzip.GzipFile(
         filename="", mode="wb", compresslevel=LEVEL, fileobj=stream, mtime=time
     ) as packed:
-        with tarfile.open(fileobj=packed, mode="w", format=tarfile.PAX_FORMAT) as archive:
+        written = cast(BinaryIO, packed)
+        with tarfile.open(fileobj=written, mode="w", format=tarfile.PAX_FORMAT) as archive:
             for name in sorted({*entries, *folders}):
                 entry = entries.get(name)
                 content = io.BytesIO(entry.content) if isinstance(entry, File) else None

@@ -128,7 +128,7 @@ def run_modules(modules: Sequence[str], program: str, is_built: bool = False) ->
         work = partial(_run_apart, variables=variables, is_ended=is_ended)
         with in_parallel(work, names, min(MOST_WORKERS, os.cpu_count() or 1), is_ended) as made:
             for name, done in zip(names, made):
-                counts = Counts(*map(sum, zip(counts, _told(name, done))))
+                counts = Counts(*(one + other for one, other in zip(counts, _told(name, done))))
     return counts
 
 

@@ -8,7 +8,7 @@ from collections import Counter
 from functools import partial
 from itertools import islice
 from operator import itemgetter
-from typing import BinaryIO, Iterator, NamedTuple
+from typing import BinaryIO, Callable, Iterable, Iterator, NamedTuple
 
 from .table import END, FIRST_LINE, MOST_STEPS, REPEAT
 
@@ -43,7 +43,9 @@ class Line(NamedTuple):
 
 
 # Makes a line of all its parts in half the time that the class takes.
-_made_line = partial(tuple.__new__, Line)
+_made_line: Callable[[Iterable[object]], Line] = partial(
+    tuple.__new__, Line  # type: ignore[assignment]
+)
 
 
 def lines_in(stream: BinaryIO, before: int = 0) -> Iterator[Line]:

@@ -22,7 +22,7 @@ class Digest(NamedTuple):
 class DifferentDots(NamedTuple):
     """How many dots of two pictures of one size differ, and where the first of them is."""
 
-    count: int
+    count: int  # type: ignore[assignment]
     x: int
     y: int
 

@@ -6,7 +6,7 @@ import io
 import re
 from functools import partial
 from itertools import count
-from typing import Callable, Iterator, NamedTuple, Optional, Union
+from typing import Callable, Iterable, Iterator, NamedTuple, Optional, Union
 
 from .picture import Digest, Picture
 from .table import FAULT, OK, REFUSALS, refusal_of
@@ -101,7 +101,9 @@ class Answer(NamedTuple):
 
 
 # Makes an answer of all its parts in half the time that the class takes.
-_made_answer = partial(tuple.__new__, Answer)
+_made_answer: Callable[[Iterable[object]], Answer] = partial(
+    tuple.__new__, Answer  # type: ignore[assignment]
+)
 
 
 class Report:

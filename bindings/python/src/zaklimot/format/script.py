@@ -31,7 +31,7 @@ class Step(NamedTuple):
 class Block(NamedTuple):
     """Steps that are repeated in order, `count` times: 1 to 65,535."""
 
-    count: int
+    count: int  # type: ignore[assignment]
     steps: tuple[Step, ...]
 
     @property

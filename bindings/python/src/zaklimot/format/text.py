@@ -4,7 +4,7 @@ from __future__ import annotations
 
 import re
 from functools import partial
-from typing import Iterable, Iterator, Sequence, Union
+from typing import Callable, Iterable, Iterator, Optional, Sequence, Union
 
 from .script import Block, Item, Script, Step
 from .table import (
@@ -30,7 +30,9 @@ DUMP_OF_PLANE = "show plane"
 # No step contains a byte outside ASCII.
 _NO_LETTER = "\xff"
 # Makes a step of all its parts in half the time that the class takes.
-_made_step = partial(tuple.__new__, Step)
+_made_step: Callable[[Iterable[object]], Step] = partial(
+    tuple.__new__, Step  # type: ignore[assignment]
+)
 
 
 def parse_text(text: Union[str, bytes]) -> Script:
@@ -73,7 +75,8 @@ def _items_with_blocks(lines: Iterable[tuple[int, list[str]]]) -> Iterator[Item]
     opened, count, meant = 0, 0, 0
     steps: list[Step] = []
     for number, words in lines:
-        place, item = number, None
+        place = number
+        item: Optional[Item] = None
         if words[0] == REPEAT and not opened:
             opened, count, steps = number, _count(number, words), []
         elif words == [END] and opened:

@@ -1,0 +1,58 @@
+"""How the repository's Python is written, as `vga-style` has it judged."""
+
+from __future__ import annotations
+
+import os
+import subprocess
+from pathlib import Path
+from unittest import mock
+
+from zaklimot_tools.dev.testing import style
+
+from .tools import TOP, Folder, call, hold_undone
+
+NOTING = 'printf "%s\\n" "${0##*/}" "$@" >> "$NOTES"\n'
+
+
+class Style(Folder):
+    def judged(self, *words: str, **endings: str) -> tuple[int, str, str]:
+        """Exit status, output and standard error where the judges that are named end so."""
+        for name, ending in endings.items():
+            self.program(f"bin/{name}", f"#!/bin/sh\n{NOTING}{ending}\n")
+        path = f"{self.folder / 'bin'}:/nowhere"
+        given = {"PATH": path, "NOTES": str(self.folder / "notes")}
+        system = mock.patch.object(style, "SYSTEM", str(self.folder / "bin"))
+        with mock.patch.dict(os.environ, given), system:
+            return call(style.main, *words)
+
+    def test_each_judge_reads_all_python(self) -> None:
+        done = self.judged(black="exit 0", flake8="exit 0", mypy="exit 0")
+        self.assertEqual(done, (0, "passed  black\npassed  flake8\npassed  mypy\n", ""))
+        noted = (self.folder / "notes").read_text().split("\n")
+        black, flake8 = noted.index("black"), noted.index("flake8")
+        self.assertIn("--check", noted[black:flake8])
+        for words in (noted[black:flake8], noted[flake8 : noted.index("mypy")]):
+            self.assertEqual({"tools/vga-report", *style.FOLDERS} - {*words}, set())
+        self.assertNotIn("tools/tests-with-emulators", noted)
+
+    def test_what_one_finds_is_told_and_the_others_judge_too(self) -> None:
+        status, told, _ = self.judged(black="exit 0", flake8="echo a.py:1; exit 1", mypy="exit 2")
+        self.assertEqual(status, 1)
+        found = "passed  black\nfailed  flake8\na.py:1\nfailed  mypy\nit ended with status 2\n"
+        self.assertEqual(told, found)
+
+    def test_what_is_missing_is_told(self) -> None:
+        for words in ((), ("--ready",)):
+            done = self.judged(*words, black="exit 0")
+            hold_undone(
+                self, done, r"^vga-style: this machine lacks flake8, mypy: install Debian's"
+            )
+        self.assertFalse((self.folder / "notes").exists())
+        self.assertEqual(self.judged("--ready", flake8="exit 1", mypy="exit 1"), (0, "", ""))
+
+    def test_the_folders_have_all_python(self) -> None:
+        listed = subprocess.run(["git", "ls-files", "*.py"], cwd=TOP, stdout=subprocess.PIPE)
+        files = {Path(name).parts[0] for name in listed.stdout.decode().splitlines()}
+        if not files:
+            self.skipTest("this is no clone")
+        self.assertEqual(files, {*style.FOLDERS})

@@ -1,0 +1,92 @@
+"""The command `vga-style`: how the repository's Python is laid out, and whether its types fit."""
+
+import argparse
+import os
+import shutil
+from pathlib import Path
+from typing import NamedTuple, Optional
+
+from zaklimot_tools import TOP
+from zaklimot_tools.core import cli
+from zaklimot_tools.core.processes import Word, captured
+from zaklimot_tools.core.progress import Progress
+from zaklimot_tools.core.trouble import AGREED as PASSED, DIFFERED as FAILED, Trouble
+
+# The folders that have Python, and the settings of all but flake8, which finds its own.
+FOLDERS = ("tools", "bindings", "bench", "examples", "fonts")
+SETTINGS = "tools/pyproject.toml"
+# Debian's programs lie here. Others of these names, as pip installs them, may judge otherwise.
+SYSTEM = "/usr/bin"
+MOST_SECONDS = 600
+# The first line of a command that Python runs, whose name tells nothing of that.
+PYTHON = b"#!/usr/bin/env python3\n"
+
+
+class Judge(NamedTuple):
+    """A program that judges Python: its words, and whether it wants to be told the files."""
+
+    name: str
+    words: tuple[str, ...]
+    takes_files: bool = True
+
+
+JUDGES = (
+    Judge("black", ("--quiet", "--diff", "--check", "--config", SETTINGS)),
+    Judge("flake8", ()),
+    Judge("mypy", ("--no-error-summary", "--config-file", SETTINGS), takes_files=False),
+)
+
+
+def commands() -> list[str]:
+    """The commands in Python whose names have no ending: judges of folders pass over them."""
+    files = sorted(path for path in (TOP / "tools").iterdir() if path.is_file())
+    return [f"tools/{path.name}" for path in files if path.read_bytes().startswith(PYTHON)]
+
+
+def found(name: str) -> Optional[str]:
+    """Where a judge is: Debian's, or else the one in the path."""
+    return shutil.which(name, path=SYSTEM) or shutil.which(name)
+
+
+def lacking() -> list[str]:
+    """The judges that are not here. Debian's packages have their names."""
+    return [judge.name for judge in JUDGES if found(judge.name) is None]
+
+
+def judged(judge: Judge) -> str:
+    """What a judge finds wrong; nothing where all is well."""
+    files = [*FOLDERS, *commands()] if judge.takes_files else []
+    words: list[Word] = [found(judge.name) or judge.name, *judge.words, *files]
+    # What mypy remembers of its last run goes with what the process leaves.
+    environment = {"MYPY_CACHE_DIR": os.devnull}
+    done = captured(words, Path(TOP), seconds=MOST_SECONDS, environment=environment)
+    return done.said() or f"it ended with status {done.status}\n" if done.status else ""
+
+
+def _judge(words: argparse.Namespace, progress: Progress) -> int:
+    missing = lacking()
+    if missing:
+        raise Trouble(f"this machine lacks {', '.join(missing)}: install Debian's packages")
+    status = PASSED
+    for judge in () if words.ready else JUDGES:
+        told = judged(judge)
+        print(f"{'failed' if told else 'passed'}  {judge.name}\n{told}", end="", flush=True)
+        status = FAILED if told else status
+    return status
+
+
+def _parser() -> argparse.ArgumentParser:
+    parser = cli.tool_parser(
+        "vga-style",
+        "Judges how the repository's Python is written: by black, flake8 and mypy.",
+        "tools/vga-style",
+        "CONTRIBUTING.md",
+        cli.JUDGES,
+    )
+    cli.add(parser, "--ready", "judges nothing, and says which of the three are missing")
+    parser.set_defaults(job=_judge)
+    return parser
+
+
+# Runs a command line, and answers its exit status.
+main = cli.runner(_parser)
