@@ -245,7 +245,7 @@ class Images(Folder):
                 f" '{name[:40]}'\n"
             )
             self.assertEqual(run("read", path, self.folder / "reports"), (2, b"", said))
-            self.assertEqual(list((self.folder / "reports").iterdir()), [])
+            self.assertFalse((self.folder / "reports").exists())
 
     def test_an_image_is_made_and_read(self) -> None:
         script, image = self.write("script.vga", SCRIPT), self.folder / "image"

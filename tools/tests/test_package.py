@@ -14,10 +14,12 @@ from pathlib import Path
 from unittest import mock
 
 import building
+
 from zaklimot_tools import PARTS
 from zaklimot_tools.core.version import version
 
 from .tools import PROGRAM, TOOLS, Folder, ended, want_program
+
 
 PACKAGE = TOOLS / "zaklimot_tools"
 
@@ -94,8 +96,11 @@ class Installed(Folder):
         with zipfile.ZipFile(Path(folder.name) / name) as wheel:
             wheel.extractall(cls.site)
             listed = wheel.read(f"{name.rsplit('-', 3)[0]}.dist-info/entry_points.txt").decode()
-        entries = re.findall(r"^(\S+) = (\S+):main$", listed, re.M)
-        cls.starting = {one: f"from {at} import main; sys.exit(main())" for one, at in entries}
+        entries = re.findall(r"^(\S+) = (\S+):(\w+)$", listed, re.M)
+        cls.starting = {
+            name: f"from {module} import {work}; sys.exit({work}())"
+            for name, module, work in entries
+        }
 
     def run_installed(self, *words: str) -> tuple[int, str, str]:
         """Exit status, output and standard error of a command of the wheel."""

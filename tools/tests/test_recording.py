@@ -299,7 +299,9 @@ class Recorded(Folder):
                     self.assert_ended(int((self.folder / "number").read_text()))
 
     def test_a_program_that_fails_leaves_the_trace(self) -> None:
-        program = self.program("vga", "#!/bin/sh\necho oh >&2\nexit 3\n")
+        # It answers the step that is tried first.
+        trying = '[ "$(wc -c < "$2")" -gt 10 ] || { echo 1 00; exit; }'
+        program = self.program("vga", f"#!/bin/sh\n{trying}\necho oh >&2\nexit 3\n")
         status, _, said = self.record(program=program)
         self.assertEqual((status, said), (2, f"vga-trace: {program}: it ended with status 3: oh\n"))
         self.assertEqual(

@@ -118,12 +118,12 @@ REFUSED = {
     "report run {s} --vga {o}": "vga-report: {o}: No such file or directory\n",
     "report run {o} --debug {d}/page": "vga-report: {o}: No such file or directory\n",
     "trace kinds {o}": "vga-trace: {o}: No such file or directory\n",
-    "trace convert {t} {o}/script": "vga-trace: {o}/script: No such file or directory\n",
+    "trace convert {t} {o}/script": "vga-trace: {o}: there is no such folder\n",
     "picture script {o} - --mode 13": "vga-picture: {o}: No such file or directory\n",
     "floppy make {o} {d}/image": "vga-floppy: {o}: No such file or directory\n",
     "floppy make {d} {o}": "vga-floppy: {d}: Is a directory\n",
     "floppy make {move} {o}": MOVE,
-    "floppy make {move} {o}/image": MOVE,
+    "floppy make {move} {o}": MOVE,
     "floppy run --on dosbox {move}": MOVE,
     "floppy make {end} {o}": "vga-floppy: {end}:2: F7 BadLine(2): no repeat is open here",
     "floppy make {cut} {o}": (
@@ -165,7 +165,8 @@ REFUSED = {
         for words in options
     },
     "report run {s} --debug {o} --html -": "both want files",
-    "report run {s} --debug {o} --html {o}": "want two files",
+    "report run {s} --debug {o} --html {o}": "vga-report: {o}: two outputs have this name, "
+    "and one would be lost\n",
     "report run {s} --fonts {font} --debug {o}": (
         "vga-report: {font}: the font file has 9,727 bytes, and 9,728 are right\n"
     ),
@@ -180,7 +181,7 @@ REFUSED = {
         "step 2 has a picture, and is no frame of it\n"
     ),
     "report pictures {r}": "the pictures want a folder, or --apng a file",
-    "report pictures {r} {o} --apng {o}": "--apng writes one file, with neither a folder nor --ppm",
+    "report pictures {r} {d} --apng {o}": "--apng writes one file, with neither a folder nor --ppm",
     "report pictures {r} {o} --ppm --aspect": "--ppm gives the bytes as they are",
     "report pictures {ok} - --step 1": (
         "vga-report: {ok}: step 1 has no picture; there are 2 steps\n"
@@ -285,7 +286,8 @@ for told, *images in (
     for image in images:
         name = f"image{len(FILES)}"
         FILES[name] = image
-        REFUSED[f"picture script {{{name}}} {{o}} --mode 13"] = f"vga-picture: {{{name}}}: {told}\n"
+        words = f"picture script {{{name}}} {{o}} --mode 13 --scale"
+        REFUSED[words] = f"vga-picture: {{{name}}}: {told}\n"
 # Words of the tools, in which the file {in} is read, what it has, and the other name of it in the
 # folder, which would be written.
 READ_AND_WRITTEN = [

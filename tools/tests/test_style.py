@@ -11,6 +11,7 @@ from zaklimot_tools.dev.testing import style
 
 from .tools import TOP, Folder, call, hold_undone
 
+
 NOTING = 'printf "%s\\n" "${0##*/}" "$@" >> "$NOTES"\n'
 
 

@@ -32,7 +32,7 @@ TOP = TOOLS.parent
 EXAMPLES = TOP / "examples"
 RED, WHITE, BLACK = b"\x3f\x00\x00", b"\x3f\x3f\x3f", b"\x00\x00\x00"
 # How a tool's script names the module that has its `main`.
-MAIN = re.compile(r"^from ([\w.]+) import main$", re.M)
+MAIN = re.compile(r'\bstart\("([\w.]+)"\)')
 # The tools want nothing but Python's own library, and start faster where nothing else is looked
 # for.
 PYTHON = (sys.executable, "-S")
@@ -250,7 +250,7 @@ class Folder(unittest.TestCase):
 
     def answering(self, *answers: str | bytes) -> str:
         """A program in the place of `vga` that writes a report of these answers."""
-        return self.program("vga", f"#!/bin/sh\ncat {self.report('given', *answers)}\n")
+        return self.program("vga", f"#!/bin/sh\n/bin/cat {self.report('given', *answers)}\n")
 
     def temporary(self) -> str:
         """A folder for temporary files, of which none may be left when the test ends."""

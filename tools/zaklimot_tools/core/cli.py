@@ -2,20 +2,22 @@
 what it says at last."""
 
 import argparse
+import io
 import os
 import signal
 import sys
 from contextlib import contextmanager
 from typing import IO, Any, Callable, Iterator, Optional, Sequence
 
+from .files import files, files_of_run
 from .progress import Progress
 from .trouble import TROUBLE, Trouble
 from .version import version
 
 # What a shell says of programs that a closed pipe, the user, or the system has ended.
 PIPE_CLOSED, INTERRUPTED, SIGNALLED = 141, 130, 128
-# The signals that end a tool, apart from the user's own.
-ENDING = ("SIGTERM", "SIGHUP")
+# The signals that end a tool. The user's own, by Ctrl-C, raises what Python raises for it.
+ENDING = ("SIGINT", "SIGTERM", "SIGHUP")
 NO_MEMORY = "there is not enough memory for this"
 # How the exit status reads of a tool that tells differences, and of one that does a job or doesn't.
 DIFFERS = "Exit status: 0 done, and nothing differs; 1 something differs; 2 the work can't be done."
@@ -35,8 +37,20 @@ class _Parser(argparse.ArgumentParser):
     """A parser that loses no trouble with what it prints, as a disk that is full."""
 
     def _print_message(self, message: str, file: Optional[IO[str]] = None) -> None:
-        if message:
-            (file or sys.stderr).write(message)
+        if message and (file or sys.stderr) is sys.stderr:
+            say(message)
+        elif message and file is not None:
+            file.write(message)
+
+
+def say(text: str) -> None:
+    """Writes text on standard error. Where that takes nothing, the exit status alone tells."""
+    try:
+        sys.stderr.write(text)
+        sys.stderr.flush()
+    except OSError:
+        # Python would try again at its end, and change the status.
+        os.dup2(os.open(os.devnull, os.O_WRONLY), sys.stderr.fileno())
 
 
 def tool_parser(
@@ -88,20 +102,32 @@ def open_closed_streams() -> bool:
         pass
     os.close(handle)
     sys.stderr = sys.stderr or open(os.devnull, "w", encoding="ascii")
+    if isinstance(sys.stdout, io.TextIOWrapper):
+        # Names of files that are no text pass as the bytes that they are.
+        sys.stdout.reconfigure(errors="surrogateescape")
     return is_written
 
 
 @contextmanager
 def _ending_at_signals() -> Iterator[None]:
-    """Lets the signals that end a program raise meanwhile, so that what it has begun is undone."""
+    """Lets the signals that end a program raise meanwhile, so that what it has begun is undone.
+
+    The first of them raises. Those that follow change nothing: the undoing goes on to its end.
+    """
     # A caller such as nohup has some of them ignored.
     known = [getattr(signal, name) for name in ENDING if hasattr(signal, name)]
-    heeded = [number for number in known if signal.getsignal(number) == signal.SIG_DFL]
+    usual = (signal.SIG_DFL, signal.default_int_handler)
+    before = {number: signal.getsignal(number) for number in known}
+    heeded = {number: handler for number, handler in before.items() if handler in usual}
+
+    came: list[int] = []
 
     def end(number: int, _: object) -> None:
-        # Nothing disturbs the undoing.
+        came.append(number)
         for other in heeded:
             signal.signal(other, signal.SIG_IGN)
+        if number == signal.SIGINT:
+            raise KeyboardInterrupt
         raise Ended(number)
 
     for number in heeded:
@@ -109,8 +135,9 @@ def _ending_at_signals() -> Iterator[None]:
     try:
         yield
     finally:
-        for number in heeded:
-            signal.signal(number, signal.SIG_DFL)
+        # After one that came the process ends, and has its own exit status.
+        for number, handler in () if came else heeded.items():
+            signal.signal(number, handler)
 
 
 def run(name: str, work: Callable[[], int], progress: Optional[Progress] = None) -> int:
@@ -120,11 +147,11 @@ def run(name: str, work: Callable[[], int], progress: Optional[Progress] = None)
     `with` and `finally` undo, also where a signal ended it.
     """
     if not open_closed_streams():
-        sys.stderr.write(f"{name}: standard output: it is closed\n")
+        say(f"{name}: standard output: it is closed\n")
         return TROUBLE
     reason = ""
     try:
-        with _ending_at_signals():
+        with _ending_at_signals(), files_of_run():
             status = work()
             sys.stdout.flush()
         return status
@@ -145,7 +172,7 @@ def run(name: str, work: Callable[[], int], progress: Optional[Progress] = None)
         progress.clear()
     _end_output(is_kept=bool(reason))
     if reason:
-        sys.stderr.write(f"{name}: {reason}\n")
+        say(f"{name}: {reason}\n")
     return status
 
 
@@ -176,6 +203,7 @@ def runner(made: Callable[[], argparse.ArgumentParser]) -> Callable[[Optional[Se
             except SystemExit as ended:
                 # The words ask for help, or mean nothing: the tool ends as ever.
                 return int(ended.code or 0)
+            files().take(parsed)
             return parsed.job(parsed, progress) or 0
 
         return run(parser.prog, work, progress)

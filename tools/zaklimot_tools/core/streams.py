@@ -11,51 +11,28 @@ from contextlib import contextmanager
 from pathlib import Path
 from typing import BinaryIO, Callable, ContextManager, Iterator, Optional, Union, cast
 
+from .files import NO_NAME, STANDARD, check_folder, check_writable, files, may_be_replaced, name_of
 from .trouble import Trouble
 
-
-STANDARD = "-"
-NO_NAME = "the name of a file is empty"
 # Where a file that is filled in has a part.
 PLACE = re.compile("@([A-Z_]+)@")
 # So many bytes are dropped at a time.
 DRAINED = 1 << 16
-# The files that are read: where each is found, and what messages call it.
-_were_read: dict[Union[int, str], str] = {}
-
-
-def name_of(path: str, standard: str = "standard input") -> str:
-    """What messages call a file, an input or an output."""
-    return standard if path == STANDARD else path
-
-
-def _status_of(place: Union[int, str]) -> Optional[os.stat_result]:
-    """What is known of a regular file, named or open; None of anything else, and where there is
-    none."""
-    try:
-        status = os.stat(place)
-    except (OSError, ValueError):
-        return None
-    return status if stat.S_ISREG(status.st_mode) else None
 
 
 def to_read(path: str) -> str:
-    """A name of the command line whose file is read, or may be: from now on it isn't written, under
-    whatever name."""
-    if path != STANDARD:
-        _were_read[path] = path
-    return path
+    """The name of a file that is read, or may be: from now on the run doesn't write it."""
+    return files().reads(path)
 
 
 def refuse_input(path: str) -> None:
     """Ends the work where what is to be written is a file that is read."""
-    output = _status_of(sys.stdout.fileno() if path == STANDARD else path)
-    for place, name in _were_read.items():
-        status = _status_of(place)
-        if output is not None and status is not None and os.path.samestat(output, status):
-            raise Trouble(
-                f"it is read as {name}, so it isn't written", name_of(path, "standard output")
-            )
+    files().refuse_input(path)
+
+
+def check_file(path: str) -> None:
+    """Ends the work, before it begins, where a file can't be written."""
+    files().check_file(path)
 
 
 @contextmanager
@@ -66,7 +43,7 @@ def reading(path: str, is_drained: bool = True) -> Iterator[io.BufferedReader]:
         if sys.stdin is None:
             raise Trouble("it is closed", "standard input")
         stream = cast(io.BufferedReader, sys.stdin.buffer)
-        _were_read[sys.stdin.fileno()] = "standard input"
+        files().reads_open(sys.stdin.fileno(), "standard input")
         yield stream
         while is_drained and not sys.stdin.isatty() and stream.read(DRAINED):
             pass
@@ -74,21 +51,8 @@ def reading(path: str, is_drained: bool = True) -> Iterator[io.BufferedReader]:
         raise Trouble(NO_NAME)
     else:
         with open(path, "rb") as stream:
-            _were_read[path] = path
+            files().reads(path)
             yield stream
-
-
-def check_folder(path: Union[str, Path]) -> None:
-    """Ends the work, before it begins, where files can't be laid into a folder, be it there or to
-    be made."""
-    if not str(path):
-        raise Trouble(NO_NAME)
-    whole = Path(path).absolute()
-    place = next(one for one in (whole, *whole.parents) if os.path.lexists(one))
-    if not place.is_dir():
-        raise Trouble("it is not a folder", str(path if place == whole else place))
-    if not os.access(place, os.W_OK | os.X_OK):
-        raise Trouble("there is no permission to write there", str(place))
 
 
 def empty_folder(path: str) -> Path:
@@ -96,29 +60,13 @@ def empty_folder(path: str) -> Path:
     if path == STANDARD:
         raise Trouble("the files want a folder")
     check_folder(path)
-    folder = Path(path)
-    folder.mkdir(parents=True, exist_ok=True)
+    folder = files().make_folder(path)
     if any(folder.iterdir()):
         raise Trouble(
             "the folder has files, and none of them is to be lost: give one that is new or empty",
             path,
         )
     return folder
-
-
-def check_file(path: str) -> None:
-    """Ends the work, before it begins, where a file can't be written."""
-    if not path:
-        raise Trouble(NO_NAME)
-    refuse_input(path)
-    if path == STANDARD:
-        return
-    if os.path.isdir(path):
-        raise Trouble("it is a folder", path)
-    if _may_be_replaced(path):
-        if not os.path.isdir(os.path.dirname(os.path.abspath(path))):
-            raise Trouble("there is no such folder", os.path.dirname(path))
-        check_folder(os.path.dirname(os.path.abspath(path)))
 
 
 def bytes_of(path: Union[str, Path], most: int) -> bytes:
@@ -153,8 +101,9 @@ def writing(path: str) -> Iterator[BinaryIO]:
         with open(sys.stdout.fileno(), "wb", closefd=False) as stream:
             yield stream
         return
+    check_writable(path)
     try:
-        with _written_beside(Path(path)) if _may_be_replaced(path) else _opened(path) as stream:
+        with _written_beside(Path(path)) if may_be_replaced(path) else _opened(path) as stream:
             yield stream
     except OSError as error:
         raise Trouble(error.strerror or str(error), path) from error
@@ -162,15 +111,6 @@ def writing(path: str) -> Iterator[BinaryIO]:
 
 def _opened(path: str) -> ContextManager[BinaryIO]:
     return open(path, "wb")
-
-
-def _may_be_replaced(path: str) -> bool:
-    """Whether another file may take the place of what has this name: not that of a device or a
-    pipe."""
-    try:
-        return stat.S_ISREG(os.stat(path).st_mode)
-    except OSError:
-        return True
 
 
 @contextmanager
@@ -199,10 +139,16 @@ def write_file(path: str, data: bytes) -> None:
         stream.write(data)
 
 
-def write_over(path: str, data: bytes) -> None:
-    """Writes a file anew that was read, where the user has asked for that."""
-    _were_read.pop(path, None)
-    write_file(path, data)
+def write_over(path: str, data: bytes, was: bytes) -> None:
+    """Writes a file anew that was read, where the user has asked for that.
+
+    If it has other bytes by now than those that were read, it stays as it is: a Trouble tells.
+    """
+    files().writes_over(path)
+    with writing(path) as stream:
+        stream.write(data)
+        if Path(path).read_bytes() != was:
+            raise Trouble("it has changed since it was read, so it isn't written: run again", path)
 
 
 def filled(path: Path, **parts: str) -> str:
@@ -239,9 +185,3 @@ def teller(*files: Optional[str]) -> Callable[[str], object]:
     """What writes text beside these files: on standard error where one of them goes to standard
     output."""
     return sys.stderr.write if STANDARD in files else write
-
-
-def refuse_twice(*paths: str) -> None:
-    """Standard input can be read once."""
-    if paths.count(STANDARD) > 1:
-        raise Trouble("standard input can be read once")

@@ -26,6 +26,7 @@ from zaklimot.format import (
     REPEAT,
     SHOWN,
     Field,
+    decimal,
     lines_in,
 )
 
@@ -42,6 +43,8 @@ COMMENT_WORDS = ("rem", "note")
 # Letters and signs that look like digits.
 LOOKALIKES = str.maketrans("OoIl", "0011")
 PUNCTUATION = ",;:."
+# A larger number is only told to be too large; and one of more digits is told in no other base.
+MOST_TOLD, MOST_DIGITS = 10**20, 1000
 # The steps whose name is one word, with numbers alone behind it; and the first words of all lines.
 SHAPES = {
     name: form.fields for name, form in FORMS.items() if " " not in name and not form.has_block
@@ -207,12 +210,13 @@ def _heed_range(number: Field, word: Word, value: int) -> None:
 
 def _heed_decimal(number: Field, word: Word, text: str) -> None:
     if text.isascii() and text.isdigit():
-        return _heed_range(number, word, int(text) if len(text) < 100 else number.most + 1)
+        value = decimal(text, MOST_TOLD)
+        return _heed_range(number, word, number.most + 1 if value is None else value)
     parted = text.strip(PUNCTUATION).replace(",", "").replace("_", "").replace("'", "")
-    if parted.isdigit():
+    if parted.isascii() and parted.isdigit():
         raise _wrong(word, _said("other decimal digits", name=number.name, digits=parted))
     hexadecimal = _cleaned(text)
-    if hexadecimal is not None:
+    if hexadecimal is not None and len(hexadecimal) <= MOST_DIGITS:
         raise _wrong(word, _said("not hexadecimal", name=number.name, digits=int(hexadecimal, 16)))
     raise _wrong(word, _said("sign") if text[0] in "+-" else _said("no decimal", name=number.name))
 

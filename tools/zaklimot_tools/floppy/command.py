@@ -6,14 +6,13 @@ import os
 from zaklimot.format import MOST_BYTES, Script
 from zaklimot_tools.core import cli
 from zaklimot_tools.core.cli import add
+from zaklimot_tools.core.files import STANDARD, Input, Output, OutputOrFolder, name_of
 from zaklimot_tools.core.progress import Progress
 from zaklimot_tools.core.streams import (
-    STANDARD,
+    check_file,
     empty_folder,
-    name_of,
     read_at_most,
     reading,
-    to_read,
     write_file,
     writing,
 )
@@ -32,12 +31,12 @@ MOST_READ = 1 << 26
 
 def _add_script(parser: argparse.ArgumentParser) -> None:
     told = "the script, as text or bytes, or a folder of `vga-report scripts`; - is standard input"
-    add(parser, "SCRIPT", told, type=to_read)
+    add(parser, "SCRIPT", told, type=Input)
 
 
 def _add_report(parser: argparse.ArgumentParser) -> None:
     told = "the report, or a folder for the reports of several scripts (default: standard output)"
-    add(parser, "REPORT", told, nargs="?", default=STANDARD)
+    add(parser, "REPORT", told, nargs="?", default=STANDARD, type=OutputOrFolder)
     told = "tells all registers that a call leaves, and not only those in which the service answers"
     add(parser, "--all-registers", told)
 
@@ -58,9 +57,9 @@ def _parser() -> argparse.ArgumentParser:
     )
     _add_script(made)
     add(made, "--disk", "writes a partition table, for a stick or a hard disk (default: a floppy)")
-    add(made, "IMAGE", "the image, of 1,474,560 bytes; - is standard output")
+    add(made, "IMAGE", "the image, of 1,474,560 bytes; - is standard output", type=Output)
     made = cli.command(commands, "read", _read, "gives the report of what a run has left")
-    add(made, "FILE", "the image, or with --serial the record; - is standard input", type=to_read)
+    add(made, "FILE", "the image, or with --serial the record; - is standard input", type=Input)
     add(made, "--serial", "FILE is what came over the serial port")
     add(made, "--part", "takes a record that ends too early: gives the report up to there")
     _add_report(made)
@@ -74,7 +73,7 @@ def _parser() -> argparse.ArgumentParser:
     )
     told = "how long it may take, without the time that it waits for a processor (default: 30)"
     add(made, "--seconds N", told, type=seconds, default=30)
-    add(made, "--picture FILE", "writes the last screen as PNG")
+    add(made, "--picture FILE", "writes the last screen as PNG", type=Output)
     _add_script(made)
     _add_report(made)
     return parser
@@ -139,6 +138,8 @@ def _read(words: argparse.Namespace, _: Progress) -> None:
 
 def _run(words: argparse.Namespace, _: Progress) -> None:
     scripts, name = scripts_of(words.script), name_of(words.script)
+    if [*scripts] == [""]:
+        check_file(words.report)
     run, shown = run_on(
         MACHINES[words.on], scripts, name, words.bios, words.seconds, words.picture is not None
     )

@@ -7,11 +7,11 @@ answers, so that an image, or what came over the serial port, stands alone.
 
 import struct
 import zlib
-from itertools import chain, takewhile
-from typing import Iterable, Iterator, Mapping, Optional
+from itertools import chain, islice, takewhile
+from typing import Iterable, Iterator, Mapping, Optional, Sequence
 
 from zaklimot import format
-from zaklimot.format import REGISTERS, Block, Script, Step
+from zaklimot.format import MOST_STEPS, REGISTERS, Block, Script, Step
 from zaklimot.format.script import Item
 from zaklimot_tools.core.trouble import Trouble
 
@@ -45,6 +45,8 @@ FORMS = {
         FINISH: "",
     }.items()
 }
+# The steps of a table that answer something, and may stand in a block.
+ANSWERED = frozenset([*STEPS.values(), INT, PASS_OVER, LOOK_AWAY])
 # Bytes of such a number stand behind the fields, the last of which is the number.
 BEHIND = (INT, SCRIPT)
 # The header before the steps: a name, the version of the forms, where the first script stands,
@@ -208,6 +210,7 @@ class Table:
             raise Trouble(
                 f"its table is of version {version}, and this tool reads version {VERSION}", name
             )
+        self._name = name
         self._steps = data[HEADER.size : HEADER.size + length]
         if len(self._steps) < length or zlib.crc32(self._steps) != self.check:
             raise Trouble("its table of steps is damaged", name)
@@ -219,17 +222,45 @@ class Table:
         its table is.
         """
         scripts: list[tuple[str, list[Item]]] = []
-        steps = self._decoded()
+        steps, left = self._decoded(), MOST_STEPS
         for opcode, fields, behind in steps:
             if opcode == SCRIPT:
                 scripts.append((behind.decode("utf-8", "surrogateescape"), []))
-            elif opcode == REPEAT:
-                inner = takewhile(lambda step: step[0] != END, steps)
-                answers = chain.from_iterable(_answers(*step[:2]) for step in inner)
-                scripts[-1][1].append(Block(fields[0], tuple(answers)))
+                left = MOST_STEPS
             elif opcode != FINISH:
-                scripts[-1][1].extend(_answers(opcode, fields))
+                items = self._items(opcode, fields, steps)
+                left -= sum(
+                    item.count * len(item.steps) if isinstance(item, Block) else 1 for item in items
+                )
+                if left < 0 or not scripts:
+                    raise self._forged()
+                scripts[-1][1].extend(items)
         return [(name, Script(tuple(items))) for name, items in scripts]
+
+    def _items(
+        self,
+        opcode: int,
+        fields: tuple[int, ...],
+        steps: Iterator[tuple[int, tuple[int, ...], bytes]],
+    ) -> Sequence[Item]:
+        """The items of a step of the table, or of those up to the end of a block that it begins."""
+        if opcode != REPEAT:
+            return self._answers(opcode, fields)
+        inner = takewhile(lambda step: step[0] != END, steps)
+        answers = chain.from_iterable(self._answers(*step[:2]) for step in inner)
+        # No block of a script has more steps.
+        within = tuple(islice(answers, MOST_STEPS + 1))
+        if len(within) > MOST_STEPS or not fields[0]:
+            raise self._forged()
+        return [Block(fields[0], within)]
+
+    def _answers(self, opcode: int, fields: tuple[int, ...]) -> list[Step]:
+        if opcode not in ANSWERED:
+            raise self._forged()
+        return _answers(opcode, fields)
+
+    def _forged(self) -> Trouble:
+        return Trouble("its table of steps is none that vga-floppy makes", self._name)
 
     def answer_length(self) -> int:
         """How many bytes of answers the scripts have."""
@@ -239,8 +270,11 @@ class Table:
         at = self._first
         while at < len(self._steps):
             opcode = self._steps[at]
-            fields = FORMS[opcode].unpack_from(self._steps, at + 1)
-            at += 1 + FORMS[opcode].size
+            form = FORMS.get(opcode)
+            if form is None or at + 1 + form.size > len(self._steps):
+                raise self._forged()
+            fields = form.unpack_from(self._steps, at + 1)
+            at += 1 + form.size
             length = fields[-1] if opcode in BEHIND else 0
             yield opcode, fields, self._steps[at : at + length]
             at += length

@@ -20,6 +20,8 @@ PPM = re.compile(
     rb"P6(?:\s|#[^\n]*\n)+(\d{1,7})(?:\s|#[^\n]*\n)+(\d{1,7})(?:\s|#[^\n]*\n)+(\d{1,5})\s"
 )
 DAMAGED = "the PNG is damaged"
+# Where the head of a PNG begins: behind its length and its kind.
+HEAD_AT = len(SIGNATURE) + 8
 # An image's file has at most so many bytes.
 MOST_BYTES = 1 << 26
 # Samples of a dot, by the colour type of a PNG, and the colour type whose dots name entries of a
@@ -62,9 +64,30 @@ def image_of(data: bytes, name: str, most: int = MOST_DOTS) -> Image:
     """The image that a file holds. One of more dots than the most is told before it is unpacked."""
     if data.startswith(SIGNATURE):
         return _png(data, name, most)
-    if data.startswith(b"P6"):
-        return _ppm(data, name, most)
-    raise Trouble("this is neither a PNG nor a PPM of the kind P6", name)
+    return _ppm(data, name, most)
+
+
+def size_of(data: bytes, name: str) -> tuple[int, int]:
+    """The width and the height that the file of an image tells, which says nothing yet of its
+    dots."""
+    if data.startswith(SIGNATURE):
+        if len(data) < HEAD_AT + 8:
+            raise Trouble(DAMAGED, name)
+        width, height = struct.unpack_from(">II", data, HEAD_AT)
+        return int(width), int(height)
+    width, height, _ = _ppm_head(data, name)[0]
+    return width, height
+
+
+def _ppm_head(data: bytes, name: str) -> tuple[tuple[int, int, int], int]:
+    """Width, height and the most of a component of a PPM, and where its dots begin."""
+    found = PPM.match(data)
+    if found is None and not data.startswith(b"P6"):
+        raise Trouble("this is neither a PNG nor a PPM of the kind P6", name)
+    if found is None:
+        raise Trouble("the header of the PPM is damaged", name)
+    width, height, most = (int(number) for number in found.groups())
+    return (width, height, most), found.end()
 
 
 def _check_dots(width: int, height: int, most: int, name: str) -> None:
@@ -80,14 +103,11 @@ def _spread(parts: Sequence[bytes]) -> bytes:
 
 
 def _ppm(data: bytes, name: str, most_dots: int) -> Image:
-    found = PPM.match(data)
-    if found is None:
-        raise Trouble("the header of the PPM is damaged", name)
-    width, height, most = (int(number) for number in found.groups())
+    (width, height, most), begin = _ppm_head(data, name)
     _check_dots(width, height, most_dots, name)
     if most not in (63, 255):
         raise Trouble(f"the components go to {most}; 63 and 255 can be read", name)
-    dots = data[found.end() : found.end() + 3 * width * height]
+    dots = data[begin : begin + 3 * width * height]
     if not width or not height or len(dots) < 3 * width * height or max(dots) > most:
         raise Trouble(f"the PPM of {width}x{height} dots is damaged", name)
     return Image(

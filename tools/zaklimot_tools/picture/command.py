@@ -1,33 +1,24 @@
 """The words of the command line, what the command does, and how it ends."""
 
 import argparse
-import os
 import re
 import sys
 
 from zaklimot.format import MOST_BYTES
 from zaklimot_tools.core import cli
 from zaklimot_tools.core.cli import add
+from zaklimot_tools.core.files import STANDARD, Input, Output, name_of
 from zaklimot_tools.core.progress import Progress
-from zaklimot_tools.core.streams import (
-    STANDARD,
-    counted,
-    name_of,
-    read_at_most,
-    refuse_input,
-    refuse_twice,
-    to_read,
-    writing,
-)
+from zaklimot_tools.core.streams import counted, read_at_most, writing
 from zaklimot_tools.core.trouble import Trouble
 from zaklimot_tools.images.png import save_png
-from zaklimot_tools.images.reading import image_bytes, image_of
+from zaklimot_tools.images.reading import image_bytes, image_of, size_of
 from zaklimot_tools.script.program import FONTS
 
 from .cells import font_of
 from .colours import Fewer, indexed, six_bits
 from .drawing import Drawn, draw_pixels, draw_text
-from .mode import LINES, MODES, MOST_DOTS, Fit, Kind, fitted, text_of
+from .mode import LINES, MODES, MOST_DOTS, Fit, Kind, check_size, fitted, text_of
 from .steps import write_script
 
 
@@ -57,8 +48,8 @@ def _parser() -> argparse.ArgumentParser:
     )
     commands = parser.add_subparsers(required=True, metavar="COMMAND")
     made = cli.command(commands, "script", _script, "makes a script that draws an image")
-    add(made, "IMAGE", "a PNG, or a PPM of the kind P6", type=to_read)
-    add(made, "SCRIPT", "the script")
+    add(made, "IMAGE", "a PNG, or a PPM of the kind P6", type=Input)
+    add(made, "SCRIPT", "the script", type=Output)
     add(made, "--mode", "the mode; 3 is text", required=True, type=str.upper, choices=list(MODES))
     add(made, "--bytes", "writes the script as bytes (default: as text)")
     add(made, "--short", "makes a shorter script that takes more cycles, by the video BIOS")
@@ -96,12 +87,12 @@ def _parser() -> argparse.ArgumentParser:
         made,
         "--fonts FILE",
         "uses this font file for text (default: the project's)",
-        type=to_read,
+        type=Input,
         default=str(FONTS),
     )
     add(made, "--rows", "rows of text (default: 25)", type=int, choices=list(LINES))
     add(made, "--own-glyphs", "loads glyphs of the image's own where the font's don't fit")
-    add(made, "--picture FILE", "writes the picture that the script should draw as PNG")
+    add(made, "--picture FILE", "writes the picture that it should draw as PNG", type=Output)
     made.set_defaults(fit=Fit.EXACT, fewer=Fewer.REFUSED)
     return parser
 
@@ -112,14 +103,15 @@ def _drawn(words: argparse.Namespace, progress: Progress) -> tuple[Drawn, str]:
         raise Trouble("--bars is the colour of the bars that --fit makes")
     font = b""
     if mode.kind is Kind.CELLS:
-        refuse_twice(words.image, words.fonts)
         mode = text_of(words.rows or mode.rows)
         font = font_of(
             read_at_most(words.fonts, MOST_BYTES), mode.cell_height, name_of(words.fonts)
         )
     elif words.rows or words.own_glyphs:
         raise Trouble("--rows and --own-glyphs are of text, which is mode 3")
-    image = image_of(image_bytes(words.image), name, MOST_DOTS)
+    data = image_bytes(words.image)
+    check_size(size_of(data, name), mode, words.fit, name)
+    image = image_of(data, name, MOST_DOTS)
     image, size = fitted(image, mode, words.fit, words.bars or bytes(3), name)
     made, count = indexed(six_bits(image), len(mode.entries), words.fewer, name)
     told = f"{size}, {counted(len(made.colours), 'colour')}"
@@ -136,15 +128,8 @@ def _drawn(words: argparse.Namespace, progress: Progress) -> tuple[Drawn, str]:
 
 
 def _script(words: argparse.Namespace, progress: Progress) -> None:
-    if words.picture is not None and os.path.realpath(words.script) == os.path.realpath(
-        words.picture
-    ):
-        raise Trouble("the script and its picture are to be two files", words.script)
     drawn, told = _drawn(words, progress)
     progress.clear()
-    if words.picture is not None:
-        # Told before the script goes to standard output.
-        refuse_input(words.picture)
     # The script takes its place once the picture has taken its own, so that neither is written
     # alone.
     answer = f"picture {drawn.picture.size} {drawn.picture.sum}"

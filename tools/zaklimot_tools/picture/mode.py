@@ -104,6 +104,16 @@ def _stretched(image: Image, width: int, height: int) -> list[bytes]:
     return [known[line] for line in lines]
 
 
+def check_size(size: tuple[int, int], mode: Mode, fit: Fit, name: str) -> None:
+    """Ends the work where an image has another size than the mode, and nothing may be done."""
+    if fit is Fit.EXACT and size != (mode.width, mode.height):
+        ways = "--scale stretches it, --fit keeps its shape"
+        given = f"{size[0]}x{size[1]}"
+        raise Trouble(
+            f"the image has {given} dots, and mode {mode.name} has {mode.size}: {ways}", name
+        )
+
+
 def fitted(image: Image, mode: Mode, fit: Fit, bars: bytes, name: str) -> tuple[Image, str]:
     """An image of the mode's size, and what was done for that; a Trouble where nothing may be done.
 
@@ -113,11 +123,7 @@ def fitted(image: Image, mode: Mode, fit: Fit, bars: bytes, name: str) -> tuple[
     given = f"{image.width}x{image.height}"
     if (image.width, image.height) == (mode.width, mode.height):
         return image, given
-    if fit is Fit.EXACT:
-        ways = "--scale stretches it, --fit keeps its shape"
-        raise Trouble(
-            f"the image has {given} dots, and mode {mode.name} has {mode.size}: {ways}", name
-        )
+    check_size((image.width, image.height), mode, fit, name)
     width, height = mode.width, mode.height
     if fit is Fit.FIT and WIDE * image.height < HIGH * image.width:
         height = max(1, WIDE * image.height * height // (HIGH * image.width))

@@ -6,11 +6,21 @@ from itertools import islice, takewhile
 from pathlib import Path
 from typing import Iterator, NamedTuple, Optional
 
-from zaklimot.format import FAULT, MOST_BYTES, STATE, Answer, lines_in, steps_in
+from zaklimot.format import (
+    FAULT,
+    MOST_BYTES,
+    STATE,
+    Answer,
+    decimal,
+    lines_in,
+    steps_in,
+)
 from zaklimot.format.report import REFUSAL, VALUE
 from zaklimot_tools import TOP
-from zaklimot_tools.core.streams import STANDARD, bytes_of, name_of, read_at_most
+from zaklimot_tools.core.files import STANDARD, name_of
+from zaklimot_tools.core.streams import bytes_of, read_at_most
 from zaklimot_tools.core.trouble import Trouble
+from zaklimot_tools.core.words import MOST_STEP
 
 from .report import Expected
 
@@ -20,6 +30,8 @@ SUITE = TOP / "crates" / "vga_suite" / "data" / "list.txt"
 LIST = "list.txt"
 CASE = re.compile(r"(?P<bytes>bytes )?(?P<name>[^ ]+)( until (?P<steps>[0-9]+))?")
 HEX = re.compile(r"([0-9A-Fa-f]{2})(\*([1-9][0-9]{0,7}))?")
+# A script that is too long has a few bytes more than the longest.
+MOST_LISTED = MOST_BYTES + (1 << 16)
 # So much of a step is shown.
 MOST_WORDS = 60
 # The line of a fault has at most so many bytes.
@@ -70,14 +82,22 @@ class Case(NamedTuple):
         source = bytes_of(self.source, MOST_BYTES)
         if not self.is_bytes:
             return (bytes_of(self.front, MOST_BYTES) if self.front else b"") + source
-        parts = []
+        return b"".join(self._listed_bytes(source))
+
+    def _listed_bytes(self, source: bytes) -> Iterator[bytes]:
+        """The bytes that the lines of a file list, word by word."""
+        left = MOST_LISTED
         for number, line in enumerate(source.decode("utf-8", "replace").splitlines(), 1):
             for word in line.partition(";")[0].split():
                 found = HEX.fullmatch(word)
                 if found is None:
                     raise Trouble(f"'{word[:20]}' is no byte", str(self.source), number)
-                parts.append(bytes.fromhex(found[1]) * int(found[3] or "1"))
-        return b"".join(parts)
+                count = int(found[3] or "1")
+                left -= count
+                if left < 0:
+                    told = f"it lists more than {MOST_LISTED:,} bytes"
+                    raise Trouble(told, str(self.source), number)
+                yield bytes.fromhex(found[1]) * count
 
     def place_of(self, number: int) -> str:
         """A step with the file and the line where it stands; empty where it stands in no text."""
@@ -155,6 +175,16 @@ def _front_of(text: bytes, steps: int) -> bytes:
     return b"".join(line + b"\n" for line in text.split(b"\n")[: lines[steps].number - 1])
 
 
+def _steps_of(digits: Optional[str], name: str, number: int) -> Optional[int]:
+    """The steps after which a case is stopped; a Trouble where no program takes so many."""
+    if digits is None:
+        return None
+    steps = decimal(digits, MOST_STEP)
+    if steps is None:
+        raise Trouble(f"a run is stopped after at most {MOST_STEP:,} steps", name, number)
+    return steps
+
+
 def read_cases(path: str) -> list[Case]:
     """The cases of a list, but for those whose expected report is wrong on purpose."""
     folder, name = (Path(".") if path == STANDARD else Path(path).parent).absolute(), name_of(path)
@@ -164,6 +194,8 @@ def read_cases(path: str) -> list[Case]:
     for number, line in enumerate(
         read_at_most(path, MOST_BYTES).decode("utf-8", "replace").splitlines(), 1
     ):
+        if "\0" in line:
+            raise Trouble("the line has a byte 00, and no name of a file has one", name, number)
         word, _, rest = line.strip().partition(" ")
         if not word or word.startswith("#") or word == "wrong":
             continue
@@ -179,7 +211,7 @@ def read_cases(path: str) -> list[Case]:
                 raise Trouble(
                     f"a case outside the list's folder: '{found['name'][:40]}'", name, number
                 )
-            until = None if found["steps"] is None else int(found["steps"])
+            until = _steps_of(found["steps"], name, number)
             cases.append(
                 Case(found["name"], folder, fonts, front, until, found["bytes"] is not None)
             )

@@ -13,7 +13,8 @@ from urllib.parse import quote
 
 from zaklimot.format import FONT_BYTES, MOST_BYTES, is_bytes
 from zaklimot_tools import TOP
-from zaklimot_tools.core.streams import STANDARD, read_at_most
+from zaklimot_tools.core.files import STANDARD
+from zaklimot_tools.core.streams import read_at_most
 from zaklimot_tools.core.trouble import Trouble
 
 

@@ -11,18 +11,20 @@ from itertools import zip_longest
 from typing import Iterator, NamedTuple, Optional
 
 from zaklimot import format
-from zaklimot.format import Answer, Picture, ReportError
-from zaklimot.format.picture import different_dots
-from zaklimot.format.report import REFUSAL, SKIPPED
+from zaklimot.format import MOST_STEPS, Answer, Picture, ReportError, decimal
+from zaklimot.format.report import MOST_PICTURE, REFUSAL, SKIPPED
 from zaklimot_tools.core.progress import Progress
 from zaklimot_tools.core.streams import counted, length_of
 from zaklimot_tools.core.trouble import Trouble
+from zaklimot_tools.images.holding import told_dots
 
 
 OK_STEPS = re.compile(rb"([1-9][0-9]*)-([1-9][0-9]*) ok\n")
 # A picture whose dots stand below it, a row each.
 ROWS = re.compile(r"(picture ([0-9]+)) ([1-9][0-9]*)x([1-9][0-9]*)")
 RUN = re.compile(r"([0-9A-F]{6})(?:\*([1-9][0-9]{0,6}))?")
+# So much of a line is shown.
+MOST_SHOWN = 40
 END = "the end"
 DONE = "ok"
 
@@ -75,11 +77,10 @@ class Expected(Report):
             if alike is None:
                 yield self._answer(number, line)
             else:
-                first, last = int(alike[1]), int(alike[2])
-                if not number == first <= last:
-                    raise self._error(
-                        f"steps from {number} on are to come, and not '{first}-{last} ok'"
-                    )
+                first, last = (decimal(digits, MOST_STEPS) for digits in alike.groups())
+                if first is None or last is None or not number == first <= last:
+                    given = line[:MOST_SHOWN].decode("ascii").rstrip()
+                    raise self._error(f"steps from {number} on are to come, and not '{given}'")
                 yield from (Answer(number, self.line, "ok") for number in range(first, last + 1))
                 number = last
             number += 1
@@ -88,7 +89,9 @@ class Expected(Report):
         found, place = ROWS.fullmatch(answer), self.line
         if found is None:
             return super()._picture_answer(number, answer)
-        length, width, height = map(int, found.groups()[1:])
+        length, width, height = (decimal(word, MOST_PICTURE) for word in found.groups()[1:])
+        if length is None or width is None or height is None or width * height > MOST_PICTURE:
+            raise self._error(f"no picture has so many dots: '{answer[:MOST_SHOWN]}'")
         picture = Picture.of_dots(width, height, b"".join(self._row(width) for _ in range(height)))
         if picture.length != length:
             raise self._error(
@@ -100,11 +103,13 @@ class Expected(Report):
         """The dots of the next line: `3F0015*9` stands for nine that are alike."""
         text = self._text_of(self._next_line())
         runs = [RUN.fullmatch(word) for word in text.split(" ")]
+        counts = [0 if run is None else int(run[2] or "1") for run in runs]
+        # Nothing is made of a row that is longer than the picture.
+        if None in runs or sum(counts) != width:
+            raise self._error(f"no row of {width} dots: '{text[:MOST_SHOWN]}'")
         dots = b"".join(
-            bytes.fromhex(run[1]) * int(run[2] or "1") for run in runs if run is not None
+            bytes.fromhex(run[1]) * count for run, count in zip(runs, counts) if run is not None
         )
-        if None in runs or len(dots) != 3 * width:
-            raise self._error(f"no row of {width} dots: '{text[:40]}'")
         if max(dots) > 63:
             raise self._error("a dot has a component above 3F")
         return dots
@@ -173,19 +178,6 @@ class Difference(NamedTuple):
         if lines[0] != lines[1] == lines[0].upper():
             text += ": digits are upper case in a report"
         return f"{self.place}: {text}"
-
-
-def told_dots(picture: Picture, other: Picture) -> str:
-    """How two pictures of one size differ; empty where they don't."""
-    found = different_dots(picture, other)
-    if found is None:
-        return ""
-    colours = f"{picture.dot(found.x, found.y)}, not {other.dot(found.x, found.y)}"
-    count = picture.width * picture.height
-    return (
-        f"{found.count} of {count} dots differ, the first is dot {found.x} of row {found.y}:"
-        f" {colours}"
-    )
 
 
 @dataclass

@@ -4,34 +4,21 @@ import argparse
 import os
 import sys
 from contextlib import contextmanager
-from typing import Callable, Iterator, NamedTuple, Optional, Sequence
+from typing import Callable, Iterator, Optional, Sequence
 
 from zaklimot.format import MOST_ADVANCE, Answer, Digest, Picture
-from zaklimot.format.picture import DifferentDots, different_dots
+from zaklimot_tools.core.files import STANDARD, files, name_of
 from zaklimot_tools.core.progress import Progress
-from zaklimot_tools.core.streams import (
-    STANDARD,
-    check_folder,
-    name_of,
-    reading,
-    refuse_twice,
-    teller,
-    write,
-    write_file,
-    write_name,
-    writing,
-)
+from zaklimot_tools.core.streams import reading, teller, write, write_file, write_name, writing
 from zaklimot_tools.core.trouble import AGREED, DIFFERED, Trouble
 from zaklimot_tools.explain.faults import read_script, script_of
 from zaklimot_tools.explain.registers import USUAL, Registers
+from zaklimot_tools.images.holding import held, held_size
 from zaklimot_tools.images.png import Animation, Shape, save_png
-from zaklimot_tools.images.reading import Image, image_bytes, image_of
+from zaklimot_tools.images.reading import image_bytes, image_of, size_of
 
 from .page import Page
-from .report import Comparison, Difference, Expected, Report, told_dots
-
-# Dots or lines that stand so often, as they are told.
-TIMES = {1: "", 2: "twice", 3: "three times", 4: "four times"}
+from .report import Comparison, Difference, Expected, Report
 
 
 @contextmanager
@@ -89,8 +76,7 @@ def pictures(words: argparse.Namespace, progress: Progress) -> int:
     animation, name, count = Animation(shape), name_of(words.report), 0
     delays = delays_of(None if words.apng is None else words.script)
     if words.folder not in (None, STANDARD):
-        check_folder(words.folder)
-        os.makedirs(words.folder, exist_ok=True)
+        files().make_folder(words.folder)
     with _steps(words.report, progress) as steps:
         for count, (number, picture) in enumerate(wanted_pictures(steps, words.step, name), 1):
             if words.apng is None:
@@ -155,7 +141,6 @@ def _write_picture(words: argparse.Namespace, stem: str, picture: Picture, shape
 
 def compare(words: argparse.Namespace, progress: Progress) -> int:
     """Tells the first step in which two reports differ."""
-    refuse_twice(words.report, words.other)
     names = name, other_name = name_of(words.report), name_of(words.other)
     comparison, count, wants_picture = Comparison(), 0, words.picture is not None
     page = (
@@ -200,7 +185,6 @@ def _difference_text(difference: Difference, names: tuple[str, str]) -> str:
 
 def check(words: argparse.Namespace, progress: Progress) -> int:
     """Compares a report with the one that is expected."""
-    refuse_twice(words.report, words.expected)
     name, expected_name = name_of(words.report), name_of(words.expected)
     comparison = Comparison()
     with _steps(words.report, progress) as steps, _steps(words.expected, kind=Expected) as expected:
@@ -217,76 +201,15 @@ def check(words: argparse.Namespace, progress: Progress) -> int:
     return DIFFERED
 
 
-def _fitted(picture: Picture, image: Image) -> Optional[tuple[Image, str]]:
-    """An image brought to the size of a picture, and how; None where neither is the other with dots
-    or lines repeated."""
-    told = []
-    for what, size, other in (
-        ("dot", picture.width, image.width),
-        ("line", picture.height, image.height),
-    ):
-        least, most = sorted((size, other))
-        times = most // least
-        if times * least != most or times not in TIMES:
-            return None
-        factors = (times, 1) if what == "dot" else (1, times)
-        if other > size:
-            whole, image = image, image.every(*factors)
-            if image.repeated(*factors) != whole:
-                return None
-            told.append(f"the image has each {what} {TIMES[times]}")
-        elif other < size:
-            image = image.repeated(*factors)
-            told.append(f"the picture has each {what} of the image {TIMES[times]}")
-    return image, ", ".join(told)
-
-
-def _best(picture: Picture, image: Image) -> tuple[Picture, Optional[DifferentDots], str]:
-    """The image in six bits a component, where it differs, and how its components were read."""
-    found = []
-    largest = max(max(row) for row in image.rows)
-    for is_possible, shift, told in (
-        (image.most == 63 or largest <= 63, 0, "six bits a component"),
-        (image.most == 255, 2, "eight bits a component, of which six count"),
-    ):
-        if is_possible:
-            read = image.picture(shift)
-            found.append((read, different_dots(picture, read), told))
-    return min(found, key=lambda entry: entry[1].count if entry[1] else 0)
-
-
-class Held(NamedTuple):
-    """A picture held against an image: how many dots differ, None where the sizes do; how both were
-    read, and what is told.
-
-    `image` has the image's dots where there are as many.
-    """
-
-    count: Optional[int]  # type: ignore[assignment]
-    how: str
-    told: str = ""
-    image: Optional[Picture] = None
-
-
-def held(picture: Picture, image: Image) -> Held:
-    """Holds a picture against an image."""
-    fitted = _fitted(picture, image)
-    if fitted is None:
-        sizes = f"{picture.size} and {image.width}x{image.height}"
-        return Held(None, f"they have {sizes} dots, and neither is the other with dots repeated")
-    image, told = fitted
-    read, difference, bits = _best(picture, image)
-    how = ", ".join(part for part in (picture.size, told, bits) if part)
-    return Held(0 if difference is None else difference.count, how, told_dots(picture, read), read)
-
-
 def compare_picture(words: argparse.Namespace, progress: Progress) -> int:
     """Compares the picture of a step with an image, PNG or PPM."""
-    refuse_twice(words.report, words.image)
     with _steps(words.report, progress) as steps:
         _, picture = next(wanted_pictures(steps, [words.step], name_of(words.report)))
-    name = name_of(words.image)
-    found = held(picture, image_of(image_bytes(words.image), name))
+    name, data = name_of(words.image), image_bytes(words.image)
+    # An image of another size is told before it is unpacked, which takes long.
+    found = held_size(picture, *size_of(data, name))
+    if found is None:
+        found = held(picture, image_of(data, name), words.within)
     write(
         f"step {words.step} and {name} {'differ' if found.count != 0 else 'agree'}: {found.how}\n"
     )

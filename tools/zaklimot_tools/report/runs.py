@@ -15,14 +15,11 @@ from xml.etree.ElementTree import Element, SubElement, indent, tostring
 
 from zaklimot.format import Picture
 from zaklimot_tools import TOP
+from zaklimot_tools.core.files import STANDARD, files, name_of
 from zaklimot_tools.core.processes import captured, in_parallel
 from zaklimot_tools.core.progress import Progress
 from zaklimot_tools.core.streams import (
-    STANDARD,
-    check_file,
-    check_folder,
     counted,
-    name_of,
     refuse_input,
     teller,
     to_read,
@@ -52,6 +49,10 @@ LOOK = 0.2
 Work = Callable[[argparse.Namespace, Progress], int]
 # So many reasons of refusals are told once each, and then again.
 MOST_WHYS = 1000
+# What to do where there is no program.
+BUILD_ONE = (
+    "--build proves and builds it, --vga names another, and --try runs it without its proofs"
+)
 # What the file of a text is called, and what is told where bytes are in it.
 TEXT_NAME = ".vga"
 LOST_TEXT = (
@@ -127,12 +128,6 @@ def _refuse_words(words: argparse.Namespace) -> None:
     for reason, is_so in _contradictions(words).items():
         if is_so:
             raise Trouble(reason)
-    if words.pictures is not None:
-        check_folder(words.pictures)
-    for file in (words.html, words.debug, words.json, words.junit):
-        check_file(STANDARD if file is None else file)
-    if words.debug and words.html and os.path.realpath(words.html) == os.path.realpath(words.debug):
-        raise Trouble("--html and --debug are two pages, and want two files", words.debug)
 
 
 def _fragment(words: argparse.Namespace) -> str:
@@ -161,7 +156,9 @@ def _run_script(words: argparse.Namespace, progress: Progress) -> int:
         _write_debug_page(words, read_script(words.script))
         return AGREED
     is_shown = None if words.only is None else chosen(words.only)
-    program: Union[Built, Tried] = Tried() if words.try_ else Built(found_program(words.vga))
+    program: Union[Built, Tried] = (
+        Tried() if words.try_ else Built(found_program(words.vga, BUILD_ONE))
+    )
     shower = _Shower(words, progress)
     with tallied(name_of(words.script), words.json) as tally:
         with (
@@ -192,7 +189,7 @@ def _run_script(words: argparse.Namespace, progress: Progress) -> int:
                     shower.show(row, is_wrong)
             progress.clear()
         if blessing is not None and words.bless:
-            return _bless(words, blessing)
+            return _bless(words, blessing, data)
         shower.end(tally)
         if blessing is not None:
             write(blessing.difference(tally.shown))
@@ -221,7 +218,7 @@ class _Shower:
         """Shows what stands above the first step. The steps have a column of this width."""
         self._width = width
         if self._words.pictures is not None:
-            os.makedirs(self._words.pictures, exist_ok=True)
+            files().make_folder(self._words.pictures)
         if self._is_listed:
             write(heading(width) + "\n")
 
@@ -258,13 +255,13 @@ class _Shower:
             )
 
 
-def _bless(words: argparse.Namespace, blessing: Blessing) -> int:
+def _bless(words: argparse.Namespace, blessing: Blessing, data: bytes) -> int:
     path = words.script
     changes = list(blessing.changes())
     for number, before, after in changes:
         write(f"{path}:{number}: {before or 'nothing'} -> {after}\n")
     if not words.dry_run and changes:
-        write_over(path, blessing.text().encode("utf-8", "surrogateescape"))
+        write_over(path, blessing.text().encode("utf-8", "surrogateescape"), data)
     write(
         f"{path}:"
         f" {counted(len(changes), 'answer')} {'would be written' if words.dry_run else 'written'}\n"

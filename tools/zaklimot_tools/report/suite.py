@@ -14,18 +14,18 @@ from threading import Event
 from typing import Iterator, Optional, Sequence
 
 from zaklimot.format import FAULT, MOST_BYTES, Answer, Picture
+from zaklimot_tools.core.files import name_of
 from zaklimot_tools.core.processes import MEBIBYTE, Limits, in_parallel, run_command
 from zaklimot_tools.core.progress import Progress
 from zaklimot_tools.core.streams import (
     bytes_of,
     counted,
     empty_folder,
-    name_of,
     write,
     write_file,
     write_name,
 )
-from zaklimot_tools.core.trouble import AGREED, DIFFERED, Trouble
+from zaklimot_tools.core.trouble import AGREED, DIFFERED, TROUBLE, Trouble
 from zaklimot_tools.images.png import save_png
 
 from .cases import LIST, Case, printable, read_cases
@@ -132,8 +132,15 @@ def suite(words: argparse.Namespace, progress: Progress) -> int:
             )
         )
         write(_counts_text(results) + "\n")
-    counts = _counts(results)
-    return DIFFERED if counts[DIFFERS] or counts[FAILED] or not counts[AGREES] else AGREED
+    return _status(_counts(results))
+
+
+def _status(counts: dict[str, int]) -> int:
+    """The exit status of so many answers: 2 where a case failed, else 1 where one differs or none
+    agrees."""
+    if counts[FAILED]:
+        return TROUBLE
+    return DIFFERED if counts[DIFFERS] or not counts[AGREES] else AGREED
 
 
 def _write_expected(words: argparse.Namespace) -> int:

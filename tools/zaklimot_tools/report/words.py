@@ -5,9 +5,10 @@ from typing import Callable
 
 from zaklimot_tools.core import cli
 from zaklimot_tools.core.cli import add
+from zaklimot_tools.core.files import Input, Output, PictureFolder
 from zaklimot_tools.core.progress import Progress
-from zaklimot_tools.core.streams import to_read
 from zaklimot_tools.core.words import MOST_JOBS, MOST_OUTPUT, MOST_STEP, number_to, seconds
+from zaklimot_tools.images.holding import within
 from zaklimot_tools.images.words import add_shape
 from zaklimot_tools.script.words import add_program
 
@@ -23,7 +24,7 @@ def _add_cases(parser: argparse.ArgumentParser) -> None:
         parser,
         "--list FILE",
         "reads this list of cases (default: the project's)",
-        type=to_read,
+        type=Input,
         default=str(SUITE),
     )
     add(
@@ -83,21 +84,28 @@ def _add_run(parser: argparse.ArgumentParser) -> None:
         parser,
         "--pictures FOLDER",
         "writes the pictures of the steps that --only names, or of all, as NNNN.png",
+        type=PictureFolder,
     )
     add(parser, "--show", "shows pictures as blocks of colour")
-    add(parser, "--html FILE", "writes the listing as a page, with its pictures")
+    add(parser, "--html FILE", "writes the listing as a page, with its pictures", type=Output)
     add(
         parser,
         "--debug FILE",
         "writes a page that runs the script in a browser, step by step; nothing is run here",
+        type=Output,
     )
     add(parser, "--bless", "writes answers that are not as expected into the script")
     add(parser, "--dry-run", "with --bless: lists its changes, and writes nothing")
     add(parser, "--strict", "counts a refusal that is not expected as a difference")
     add(parser, "--quiet", "shows only the answers that differ, and the last line")
     add(parser, "--diff", "shows what differs as a unified diff of the script instead")
-    add(parser, "--json FILE", "writes steps, answers, digests and refusals as JSON")
-    add(parser, "--junit FILE", "writes the result of each script as XML for test runners")
+    add(parser, "--json FILE", "writes steps, answers, digests and refusals as JSON", type=Output)
+    add(
+        parser,
+        "--junit FILE",
+        "writes the result of each script as XML for test runners",
+        type=Output,
+    )
     add(
         parser,
         "--jobs N",
@@ -111,13 +119,18 @@ def _add_run(parser: argparse.ArgumentParser) -> None:
 
 
 def _add_pictures(parser: argparse.ArgumentParser) -> None:
-    add(parser, "FOLDER", "where the files go", nargs="?")
-    add(parser, "--apng FILE", "writes one picture that moves, each frame as long as it lasts")
+    add(parser, "FOLDER", "where the files go", nargs="?", type=PictureFolder)
+    add(
+        parser,
+        "--apng FILE",
+        "writes one picture that moves, each frame as long as it lasts",
+        type=Output,
+    )
     add(
         parser,
         "--script SCRIPT",
         "takes the frames' times from this script (default: 70 frames a second)",
-        type=to_read,
+        type=Input,
     )
     add(parser, "--ppm", "writes the bytes as they are, as NNNN.ppm, instead of PNG")
     steps = {"type": number_to(MOST_STEP), "action": "append", "default": []}
@@ -151,7 +164,7 @@ def parser() -> argparse.ArgumentParser:
         told = job.__doc__ or ""
         added = cli.command(commands, job.__name__.replace("_", "-"), job, told, description=told)
         for file in files:
-            added.add_argument(file, type=types.get(file, to_read), metavar=file.upper())
+            added.add_argument(file, type=types.get(file, Input), metavar=file.upper())
         return added
 
     _add_run(adds(run, "script"))
@@ -163,11 +176,21 @@ def parser() -> argparse.ArgumentParser:
         adding,
         "--picture FILE",
         "writes the first picture that differs as PNG, with its differing dots marked",
+        type=Output,
     )
-    add(adding, "--html FILE", "writes all steps that differ as one page")
+    add(adding, "--html FILE", "writes all steps that differ as one page", type=Output)
     add_shape(adding)
     adding = adds(compare_picture, "report", "step", "image")
-    add(adding, "--picture FILE", "writes the picture as PNG, with its differing dots marked")
+    told = (
+        "takes dots as alike whose components differ by N of 63, or in colours of 5, 6 and 5 bits"
+    )
+    add(adding, "--within N|5-6-5", told, type=within, default=0)
+    add(
+        adding,
+        "--picture FILE",
+        "writes the picture as PNG, with its differing dots marked",
+        type=Output,
+    )
     add_shape(adding)
     adds(check, "report", "expected")
     _add_suite(adds(suite, "command"))

@@ -11,6 +11,7 @@ from .program import found_program
 
 
 NAME = "vga"
+BUILD_ONE = "a clone and a release have them, and README.md says how it is built"
 
 
 def main(words: Optional[Sequence[str]] = None) -> int:
@@ -18,7 +19,7 @@ def main(words: Optional[Sequence[str]] = None) -> int:
     not return."""
 
     def work() -> int:
-        path, given = found_program(), sys.argv[1:] if words is None else words
+        path, given = found_program(instead=BUILD_ONE), sys.argv[1:] if words is None else words
         sys.stdout.flush()
         if IS_POSIX:
             os.execv(path, [NAME, *given])

@@ -32,6 +32,8 @@ FONTS = TOP / "fonts" / "zaklimot.fnt"
 # its bytes.
 MOST_PRINTED = 7 << 24
 CHUNK = 1 << 16
+# A script of a step, and how its report begins.
+ONE_STEP, FIRST_ANSWER = b"in 3CC\n", b"1 "
 # So much of what the program says at last is looked at.
 MOST_SAID = 1 << 16
 # What a run without proofs may take.
@@ -43,10 +45,9 @@ WITHOUT_RT = (
     ". Without it --vga runs a program that is built already, and --debug FILE writes a page that "
     "runs the script in a browser"
 )
-NO_PROGRAM = (
-    "there is no program vga, and portable/ has no sources of it: --build proves and builds it,"
-    " --vga names another, and --try runs it without its proofs"
-)
+NO_PROGRAM = "there is no program vga, and portable/ has no sources of it: "
+# What a user can do without a program: of a command that takes one by name.
+NAME_ONE = "--vga names one"
 
 
 @dataclass
@@ -73,22 +74,31 @@ def _in_path() -> Optional[str]:
     return None
 
 
-def found_program(named: Optional[str] = None) -> str:
+def _named_program(name: str) -> str:
+    """Where the program of this name is, which lies in the path if the name has no folder."""
+    path = shutil.which(name) or name
+    if os.path.isdir(path):
+        raise Trouble("it is a folder, and no program", path)
+    if os.path.exists(path) and not os.access(path, os.X_OK):
+        raise Trouble("it is no program: there is no permission to run it", path)
+    return path
+
+
+def found_program(named: Optional[str] = None, instead: str = NAME_ONE) -> str:
     """Where the program is: as it is named, else proved and built here, a release's, in the path,
     or the portable one.
 
     The portable one is compiled where that was not done yet. Where there is none, a Trouble says
-    how it is had.
+    what to do instead.
     """
     if named is not None:
-        # A name without a folder is looked for in the path.
-        return to_read(shutil.which(named) or named)
+        return to_read(_named_program(named))
     for built in (PROGRAM, RELEASED):
         if os.access(built, os.X_OK):
             return to_read(str(built))
     found = _in_path()
     if found is None and not has_sources():
-        raise Trouble(NO_PROGRAM)
+        raise Trouble(NO_PROGRAM + instead)
     return to_read(found) if found is not None else portable_program()
 
 
@@ -171,6 +181,20 @@ def _steps_before_second(script: Path, until: Optional[int]) -> int:
         frames = (number for number, step in enumerate(steps) if step.name == "frame")
         return next(islice(frames, 1, None), 0)
     return 0
+
+
+def check_program_runs(program: str, fonts: str) -> None:
+    """Ends the work where a program runs no script, or not with this font file, before it is
+    long."""
+    with tempfile.TemporaryDirectory(prefix="vga-trying-") as name:
+        script = Path(name) / "script"
+        script.write_bytes(ONE_STEP)
+        with Built(program).running(script, fonts, None, False) as outcome:
+            report = outcome.report.read(CHUNK)
+    if not report.startswith(FIRST_ANSWER):
+        raise Trouble(
+            f"it runs no script with {fonts}: {outcome.fault or 'it says nothing'}", program
+        )
 
 
 class Limited(Trouble):

@@ -3,7 +3,7 @@
 import argparse
 
 from zaklimot_tools.core.cli import add
-from zaklimot_tools.core.streams import to_read
+from zaklimot_tools.core.files import Input
 
 from .program import FONTS
 
@@ -22,6 +22,6 @@ def add_program(parser: argparse.ArgumentParser) -> None:
         parser,
         "--fonts FILE",
         "uses this font file (default: the project's)",
-        type=to_read,
+        type=Input,
         default=str(FONTS),
     )

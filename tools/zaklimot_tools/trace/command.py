@@ -1,7 +1,6 @@
 """The words of the command line, what each command does, and how it ends."""
 
 import argparse
-import os
 import re
 import sys
 from itertools import islice
@@ -12,24 +11,23 @@ from typing import ContextManager, Iterator, Optional, Sequence, Union
 from zaklimot.format import Picture
 from zaklimot_tools.core import cli
 from zaklimot_tools.core.cli import add
-from zaklimot_tools.core.progress import Progress
-from zaklimot_tools.core.streams import (
+from zaklimot_tools.core.files import (
     STANDARD,
-    check_file,
+    Input,
+    Output,
+    PictureFolder,
     check_folder,
+    files,
     name_of,
-    reading,
-    refuse_twice,
-    to_read,
-    write_name,
-    writing,
 )
+from zaklimot_tools.core.progress import Progress
+from zaklimot_tools.core.streams import reading, write_name, writing
 from zaklimot_tools.core.trouble import AGREED, DIFFERED, Trouble
 from zaklimot_tools.core.words import number_to, seconds
 from zaklimot_tools.images.png import Animation, Shape, save_png
 from zaklimot_tools.images.words import add_shape
 from zaklimot_tools.report.report import Report
-from zaklimot_tools.script.program import found_program
+from zaklimot_tools.script.program import check_program_runs, found_program
 from zaklimot_tools.script.words import add_program
 
 from . import inpage
@@ -49,7 +47,7 @@ MOST_PACKED = 1 << 29
 
 def _add_trace(parser: argparse.ArgumentParser) -> None:
     told = "qemu's log or lines of the plain form, also compressed by gzip; - is standard input"
-    add(parser, "TRACE", told, type=to_read)
+    add(parser, "TRACE", told, type=Input)
     add(
         parser,
         "--to N",
@@ -131,7 +129,7 @@ def _add_record(parser: argparse.ArgumentParser) -> None:
         " a floppy, a disk, a ZIP, or a run that the page has saved, whose keys come again. Seconds"
         " are the machine's then, and not the clock's"
     )
-    add(parser, "--in-page FILE", told, type=to_read)
+    add(parser, "--in-page FILE", told, type=Input)
     told = (
         f"the processor's speed in the page's machine: {', '.join(inpage.SPEEDS)} (default:"
         f" {inpage.USUAL_SPEED})"
@@ -141,7 +139,7 @@ def _add_record(parser: argparse.ArgumentParser) -> None:
         parser,
         "--rom FILE",
         "the ROM of a video BIOS, which serves interrupt 10 of the page's machine",
-        type=to_read,
+        type=Input,
     )
     add(
         parser,
@@ -168,8 +166,9 @@ def _add_pictures(parser: argparse.ArgumentParser) -> None:
         "FOLDER",
         "the folder for PNG files, which are named by the second of each",
         nargs="?",
+        type=PictureFolder,
     )
-    add(parser, "--apng FILE", "writes one picture that moves, in real time")
+    add(parser, "--apng FILE", "writes one picture that moves, in real time", type=Output)
     add_shape(parser)
     _add_longest(parser)
     add_program(parser)
@@ -187,12 +186,12 @@ def _parser(qemu: Sequence[str] = ()) -> argparse.ArgumentParser:
     commands = parser.add_subparsers(required=True, metavar="COMMAND")
     made = cli.command(commands, "convert", _convert, "makes a script of a trace")
     _add_trace(made)
-    add(made, "SCRIPT", "the script; - is standard output")
+    add(made, "SCRIPT", "the script; - is standard output", type=Output)
     _add_listing(made)
     told = "compares a script's report with the trace; takes the options of convert"
     made = cli.command(commands, "check", _check, told)
     _add_trace(made)
-    add(made, "REPORT", "the report; - is standard input", type=to_read)
+    add(made, "REPORT", "the report; - is standard input", type=Input)
     told = "tells at most N kinds of refusals, of reads, and of reads that differ (default: 40)"
     add(made, "--most N", told, type=number_to(MOST_KINDS), default=40)
     _add_listing(made)
@@ -246,7 +245,6 @@ def _convert(words: argparse.Namespace, _: Progress) -> None:
 
 
 def _check(words: argparse.Namespace, _: Progress) -> int:
-    refuse_twice(words.trace, words.report)
     name = name_of(words.report)
     with _opened(words) as trace, reading(words.report) as stream:
         listing = _listing(trace, words)
@@ -272,10 +270,7 @@ def _pictures(words: argparse.Namespace, _: Progress) -> None:
         _opened(words),
     )
     if words.folder is not None:
-        check_folder(words.folder)
-        os.makedirs(words.folder, exist_ok=True)
-    if words.apng is not None:
-        check_file(words.apng)
+        files().make_folder(words.folder)
     with TemporaryDirectory(prefix="vga-trace-") as name:
         script, begin, width, height = Path(name) / "script", 0.0, 0, 0
         with found as trace, writing(str(script)) as stream:
@@ -339,6 +334,7 @@ def _check_record(words: argparse.Namespace) -> None:
 def _record(words: argparse.Namespace, progress: Progress) -> int:
     _check_record(words)
     program, folder = found_program(words.vga), Path(words.folder)
+    check_program_runs(program, words.fonts)
     check_folder(words.folder)
     if folder.exists() and any(folder.iterdir()):
         raise Trouble("it has files: name a new folder", words.folder)

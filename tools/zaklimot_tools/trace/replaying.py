@@ -23,10 +23,11 @@ from zaklimot_tools.core.processes import Limits, run_command, said_last
 from zaklimot_tools.core.progress import Progress
 from zaklimot_tools.core.streams import reading, writing
 from zaklimot_tools.core.trouble import Trouble
+from zaklimot_tools.images.holding import held
 from zaklimot_tools.images.png import save_png
 from zaklimot_tools.images.reading import Image, image_bytes, image_of
 from zaklimot_tools.report.report import Report
-from zaklimot_tools.report.reports import delays_of, held
+from zaklimot_tools.report.reports import delays_of
 from zaklimot_tools.script.program import Built
 
 from .converting import SCREENS, Checked, Listing, Written, check, convert

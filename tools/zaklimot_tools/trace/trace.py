@@ -13,7 +13,8 @@ from itertools import islice
 from typing import BinaryIO, Iterator, NamedTuple, Optional
 
 from zaklimot.format import MOST_BLOCK
-from zaklimot_tools.core.streams import name_of, reading
+from zaklimot_tools.core.files import name_of
+from zaklimot_tools.core.streams import reading
 from zaklimot_tools.core.trouble import Trouble
 
 # Where a cycle goes: a port, display memory, or a port of the Bochs VBE extensions, which is none

@@ -5,14 +5,13 @@ from pathlib import Path
 
 from zaklimot_tools.core import cli
 from zaklimot_tools.core.cli import add
-from zaklimot_tools.core.streams import refuse_twice, to_read
+from zaklimot_tools.core.files import Input
 
 from .table_page import write_tables
 from .traces import SOFTWARE, replay_all
 
 
 def _table(words: argparse.Namespace, _: object) -> None:
-    refuse_twice(words.page, *words.results)
     write_tables(words.page, words.results)
 
 
@@ -31,9 +30,9 @@ def _parser() -> argparse.ArgumentParser:
     add(made, "NAMES", f"of {', '.join(SOFTWARE)} (default: all)", metavar="NAME", nargs="*")
     add(made, "--unpacked FOLDER", "packages of Debian, unpacked", type=Path)
     made = cli.command(commands, "table", _table, "writes the suite's results into a page")
-    add(made, "PAGE", "the page, with the marks between which they stand")
+    add(made, "PAGE", "the page, with the marks between which they stand", type=Input)
     told = "what `vga-report suite --json` printed of `vga-floppy run`"
-    add(made, "RESULTS", told, nargs="+", type=to_read)
+    add(made, "RESULTS", told, nargs="+", type=Input)
     return parser
 
 

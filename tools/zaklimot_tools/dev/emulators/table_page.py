@@ -8,7 +8,8 @@ import re
 from typing import Any, Iterator, NamedTuple, Sequence
 
 from zaklimot.format import MOST_BYTES
-from zaklimot_tools.core.streams import STANDARD, name_of, read_at_most, write_over
+from zaklimot_tools.core.files import STANDARD, name_of
+from zaklimot_tools.core.streams import read_at_most, write_over
 from zaklimot_tools.core.trouble import Trouble
 from zaklimot_tools.floppy.running import MACHINES
 from zaklimot_tools.report.suite import AGREES, DIFFERS, FAILED, SKIPPED
@@ -63,7 +64,8 @@ def write_tables(page: str, paths: Sequence[str]) -> None:
     """Writes the tables of results into a page."""
     if page == STANDARD:
         raise Trouble("a page is read and written again, so it is a file", "standard input")
-    text = read_at_most(page, MOST_BYTES).decode("utf-8", "surrogateescape")
+    data = read_at_most(page, MOST_BYTES)
+    text = data.decode("utf-8", "surrogateescape")
     before, first, rest = text.partition(FIRST_MARK)
     _, last, after = rest.partition(LAST_MARK)
     if not first or not last:
@@ -72,9 +74,8 @@ def write_tables(page: str, paths: Sequence[str]) -> None:
     compared = "Compared were " + ", ".join(result.version for result in results) + "."
     tables = ("\n".join(lines) for lines in (_counts(results), _folders(results), _rules(results)))
     made = "\n\n".join([compared, *tables])
-    write_over(
-        page, f"{before}{first}\n\n{made}\n\n{last}{after}".encode("utf-8", "surrogateescape")
-    )
+    whole = f"{before}{first}\n\n{made}\n\n{last}{after}"
+    write_over(page, whole.encode("utf-8", "surrogateescape"), data)
 
 
 def _row(*cells: str) -> str:

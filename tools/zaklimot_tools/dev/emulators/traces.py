@@ -226,7 +226,7 @@ def replay_all(words: argparse.Namespace, progress: Progress) -> int:
     unknown = set(words.names) - set(SOFTWARE)
     if unknown:
         raise Trouble(f"there is no software {', '.join(sorted(unknown))}")
-    status, program = 0, found_program()
+    status, program = 0, found_program(instead="README.md says how it is built")
     print(HEADER, flush=True)
     for name in words.names or SOFTWARE:
         software, folder = SOFTWARE[name], words.folder / name

@@ -12,9 +12,10 @@ from random import Random
 from zaklimot.format import ScriptFault, encode, parse_text
 from zaklimot_tools import TOP
 from zaklimot_tools.core import cli
+from zaklimot_tools.core.files import Input
 from zaklimot_tools.core.processes import MEBIBYTE
 from zaklimot_tools.core.progress import Progress
-from zaklimot_tools.core.streams import empty_folder, to_read, write_file
+from zaklimot_tools.core.streams import empty_folder, write_file
 from zaklimot_tools.core.trouble import AGREED, DIFFERED, Trouble
 from zaklimot_tools.core.words import number_to, seconds
 from zaklimot_tools.script.program import FONTS, found_program
@@ -46,7 +47,7 @@ def _parser() -> argparse.ArgumentParser:
         "the program (default: one built here, a release's, vga in the path, or one that is"
         " compiled)"
     )
-    parser.add_argument("program", nargs="?", type=to_read, help=told)
+    parser.add_argument("program", nargs="?", type=Input, help=told)
     numbers = {
         "seed": (1, 0, "where the random numbers begin (default: 1)"),
         "inputs": (0, 0, "how many inputs are made at most (default: any number)"),
@@ -121,7 +122,9 @@ def _fuzz(words: argparse.Namespace, folder: Path) -> int:
     """Makes inputs and feeds the program with them, until the time or the inputs are used up, or
     the user ends it."""
     limits = Limits(words.timeout, words.memory * MEBIBYTE, words.output * MEBIBYTE)
-    program = Program(words.program or found_program(), str(FONTS), folder, limits)
+    program = Program(
+        words.program or found_program(instead="PROGRAM names one"), str(FONTS), folder, limits
+    )
     _check(program)
     texts, scripts = _at_hand()
     made, answers, number, begin = Counter[str](), Counter[str](), words.first, time.monotonic()

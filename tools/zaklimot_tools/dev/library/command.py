@@ -8,9 +8,10 @@ from typing import Optional
 
 from zaklimot_tools.core import cli
 from zaklimot_tools.core.cli import add
+from zaklimot_tools.core.files import Input, Output, check_folder
 from zaklimot_tools.core.processes import check_program
 from zaklimot_tools.core.progress import Progress
-from zaklimot_tools.core.streams import check_file, check_folder, to_read, write_file
+from zaklimot_tools.core.streams import write_file
 from zaklimot_tools.core.trouble import Trouble
 from zaklimot_tools.dev.page.making import made_for_c
 from zaklimot_tools.dev.words import add_proof, refuse_to_check
@@ -57,7 +58,7 @@ def _add_archive(parser: argparse.ArgumentParser) -> None:
         f"takes this archive of the crate, as {ARCHIVE.name} (default: `rt lib` proves and"
         " builds it)"
     )
-    add(parser, "--archive FILE", told, type=to_read)
+    add(parser, "--archive FILE", told, type=Input)
 
 
 def _parser() -> argparse.ArgumentParser:
@@ -98,7 +99,7 @@ def _parser() -> argparse.ArgumentParser:
             "It is made of the proved crate, by programs that no proof covers."
         ),
     )
-    add(made, "FILE", "the C file")
+    add(made, "FILE", "the C file", type=Output)
     add_proof(made, usually=" (default: `rt check` proves)")
     return parser
 
@@ -160,7 +161,6 @@ def _one_file(words: argparse.Namespace, progress: Progress) -> None:
     refuse_to_check(words)
     for name in TRANSLATORS:
         check_program(name)
-    check_file(words.file)
     made = one_file(written_by_wasm2c(made_for_c(words, progress))).encode("ascii")
     write_file(words.file, made)
     print(f"{words.file}: {len(made):,} bytes")

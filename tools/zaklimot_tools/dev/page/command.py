@@ -7,9 +7,10 @@ import sys
 from typing import Optional
 
 from zaklimot_tools.core import cli
+from zaklimot_tools.core.files import STANDARD, Input, Output
 from zaklimot_tools.core.processes import MEBIBYTE
 from zaklimot_tools.core.progress import Progress
-from zaklimot_tools.core.streams import STANDARD, check_file, read_at_most, to_read, write_file
+from zaklimot_tools.core.streams import read_at_most, refuse_input, write_file
 from zaklimot_tools.core.trouble import Trouble
 from zaklimot_tools.core.words import number_to
 from zaklimot_tools.dev.words import add_proof, refuse_to_check
@@ -36,13 +37,13 @@ def _parser() -> argparse.ArgumentParser:
         " (default: `rt check` proves)",
     )
     made = cli.command(commands, "make", _make, "makes the page", description=told)
-    cli.add(made, "FILE", "the page, page/zaklimot.html in the repository")
-    cli.add(made, "--module FILE", "takes this module (default: makes one)", type=to_read)
+    cli.add(made, "FILE", "the page, page/zaklimot.html in the repository", type=Output)
+    cli.add(made, "--module FILE", "takes this module (default: makes one)", type=Input)
     add_proof(made, usually=usually)
     made.set_defaults(memory=None)
     told = "Proves the library's crate, and makes a WebAssembly module of it."
     made = cli.command(commands, "module", _module, "makes the module alone", description=told)
-    cli.add(made, "FILE", "the module")
+    cli.add(made, "FILE", "the module", type=Output)
     told = "fixes the size of its memory, so that tests see it spent (default: it grows)"
     cli.add(
         made, "--memory MIB", told, type=lambda word: number_to(MOST_MEBIBYTES)(word) * MEBIBYTE
@@ -57,7 +58,7 @@ def _parser() -> argparse.ArgumentParser:
         "makes the page's copy of the tools' words",
         description=told,
     )
-    cli.add(made, "FILE", "the module, page/script/wordings.js in the repository")
+    cli.add(made, "FILE", "the module, page/script/wordings.js in the repository", type=Output)
     return parser
 
 
@@ -67,7 +68,8 @@ def _given_module(words: argparse.Namespace) -> Optional[bytes]:
     refuse_to_check(words)
     if words.module is not None and words.gated:
         raise Trouble("--module takes a module as it is, so --gated proves nothing")
-    check_file(words.file)
+    # By now the sources of the page are read too.
+    refuse_input(words.file)
     if words.module is None:
         return None
     module = read_at_most(words.module, MOST_MODULE)
@@ -101,7 +103,6 @@ def _module(words: argparse.Namespace, progress: Progress) -> None:
 
 
 def _wordings(words: argparse.Namespace, _: Progress) -> None:
-    check_file(words.file)
     _write(words.file, wordings_module().encode("utf-8"), "written")
 
 

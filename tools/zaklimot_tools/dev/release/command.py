@@ -30,9 +30,10 @@ from typing import (
 
 from zaklimot_tools import PARTS, TOP
 from zaklimot_tools.core import cli
+from zaklimot_tools.core.files import Input, check_folder
 from zaklimot_tools.core.processes import check_program, ended_well, run
 from zaklimot_tools.core.progress import Progress
-from zaklimot_tools.core.streams import check_folder, to_read, write_file, writing
+from zaklimot_tools.core.streams import write_file, writing
 from zaklimot_tools.core.trouble import Trouble
 from zaklimot_tools.core.version import version
 from zaklimot_tools.dev.library.command import check_given
@@ -80,7 +81,9 @@ class Commit(NamedTuple):
 
 # The tools of a release, and the parts of their package: those that need no toolchain.
 TOOLS = tuple(f"tools/vga-{name}" for name in ("floppy", "picture", "report", "trace"))
-PACKAGE_PARTS = tuple(f"tools/{MODULES}/{name}" for name in ("__init__.py", *PARTS[:-1]))
+PACKAGE_PARTS = tuple(
+    f"tools/{MODULES}/{name}" for name in ("__init__.py", "starting.py", *PARTS[:-1])
+)
 # The front page of a release is this one, and the repository's lies beside the other pages.
 PAGE, FRONT = "tools/zaklimot_tools/dev/release/README.md", "README.md"
 # What of the commit goes into a release, where it lies in the repository.
@@ -331,19 +334,19 @@ def _parser() -> argparse.ArgumentParser:
         parser,
         "--program FILE",
         "takes this program (default: `rt run` proves and builds one)",
-        type=to_read,
+        type=Input,
     )
     cli.add(
         parser,
         "--archive FILE",
         "takes this archive of the library (default: `rt lib` builds one)",
-        type=to_read,
+        type=Input,
     )
     cli.add(
         parser,
         f"--archive-{AARCH64.name} FILE",
         f"the same of the library for {AARCH64.name}",
-        type=to_read,
+        type=Input,
     )
     told = f"packs the archive of {PORTABLE}/zaklimot.c alone, for which nothing is built"
     cli.add(parser, f"--{PORTABLE}", told)

@@ -45,7 +45,8 @@ def check_suite(program: str, *chosen: str) -> Checked:
     ]
     words = [ways[0], "--bytes", ways[1], "--jobs", str(os.cpu_count() or 1), "--json", *chosen]
     done = captured([sys.executable, TOOLS / "vga-report", "suite", *words], seconds=MOST_SECONDS)
-    if done.status == TROUBLE:
+    # A case that failed has this status too, and is told of.
+    if done.status == TROUBLE and not done.output:
         raise Trouble(f"the suite can't be run\n{done.said()}")
     told = json.loads(done.output)
     for result in (case for rule in told["rules"] for case in rule["cases"]):

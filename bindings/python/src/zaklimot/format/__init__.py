@@ -53,6 +53,7 @@ from .table import (
     Field,
     Form,
     ScriptFault,
+    decimal,
     refusal_of,
 )
 from .text import parse_line, parse_text, print_text, printed
@@ -96,6 +97,7 @@ __all__ = [
     "ScriptFault",
     "Step",
     "count_in",
+    "decimal",
     "decode",
     "encode",
     "encoded",

@@ -8,9 +8,9 @@ from collections import Counter
 from functools import partial
 from itertools import islice
 from operator import itemgetter
-from typing import BinaryIO, Callable, Iterable, Iterator, NamedTuple
+from typing import BinaryIO, Callable, Iterable, Iterator, NamedTuple, Union
 
-from .table import END, FIRST_LINE, MOST_STEPS, REPEAT
+from .table import END, FIRST_LINE, MOST_COUNT, MOST_STEPS, REPEAT, decimal
 
 _WORDS = re.compile(rb"[^ \t\r\n]+")
 # Bytes as numbers: Python finds a number in bytes several times as fast as it finds other bytes
@@ -113,7 +113,7 @@ def _unrolled(stream: BinaryIO, lines: Iterator[Line]) -> Iterator[Line]:
         name = line.name if line.words[0] in _BLOCK_LETTERS else ""
         if name == REPEAT:
             given = line.words.partition(" ")[2]
-            count = int(given) if given.isdigit() else 1
+            count = _count_of(given)
             place, number, block, length = stream.tell(), line.number, [], 0
         elif name == END and count:
             rounds = min(count - 1, left // max(1, length))
@@ -136,6 +136,12 @@ def _unrolled(stream: BinaryIO, lines: Iterator[Line]) -> Iterator[Line]:
             yield line
 
 
+def _count_of(given: Union[str, bytes]) -> int:
+    """How often a block is repeated, as its first line says; once where that says nothing good."""
+    count = decimal(given, MOST_COUNT)
+    return 1 if count is None else count
+
+
 def count_in(stream: BinaryIO) -> int:
     """How many steps a text means, if it has no fault."""
     stream.seek(0)
@@ -150,7 +156,7 @@ def count_in(stream: BinaryIO) -> int:
     for line in lines:
         words = line.partition(b";")[0].lower().split() if line[0] in _BLOCK_BYTES else None
         if words and words[0] == REPEAT.encode() and words[1:]:
-            count, opened = int(words[1]) if words[1].isdigit() else 1, total
+            count, opened = _count_of(words[1]), total
         elif words and words[0] == END.encode():
             total += max(0, count - 1) * (total - opened)
             count = 0

@@ -14,6 +14,8 @@ from .table import FAULT, OK, REFUSALS, refusal_of
 # More than the longest line of an answer, with a block of 65,535 bytes, and more than an adapter's
 # largest picture.
 MOST_LINE, MOST_PICTURE = 1 << 18, 1 << 26
+# So many lines follow the first one of an answer at most: a dump of a plane has 4,096.
+MOST_LINES = 1 << 16
 # How many lines are read between two reports of progress.
 _LINES_BETWEEN = 4096
 
@@ -207,7 +209,11 @@ class Report:
     def _other_lines(self) -> Iterator[str]:
         """The lines before the next step's, which belong to a dump: none of them begins with a
         digit."""
+        left = MOST_LINES
         while self._stream.peek(1)[:1] not in _DIGITS_OR_END:
+            if not left:
+                raise self._error("the answer has more lines than any dump")
+            left -= 1
             yield self._text_of(self._next_line())
 
     def _picture(self, number: int, length: int) -> Picture:

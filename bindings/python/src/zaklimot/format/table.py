@@ -9,7 +9,7 @@ import re
 import struct
 from dataclasses import dataclass
 from functools import cached_property
-from typing import NamedTuple, Optional
+from typing import NamedTuple, Optional, Union
 
 MAGIC = b"VGAS"
 # The header of a script in bytes, by its version.
@@ -66,6 +66,19 @@ class Field:
         if not self.least <= value <= self.most:
             raise ValueError(word)
         return value
+
+
+def decimal(digits: Union[str, bytes], most: int) -> Optional[int]:
+    """The number that decimal digits spell; None of anything else, and of a number above `most`."""
+    if not (digits.isascii() and digits.isdigit()):
+        return None
+    # Python's own reader ends the program at numbers of thousands of digits.
+    if len(digits) > len(str(most)):
+        digits = digits.lstrip("0" if isinstance(digits, str) else b"0")  # type: ignore[arg-type]
+    if len(digits) > len(str(most)):
+        return None
+    number = int(digits or "0")
+    return number if number <= most else None
 
 
 _SIZES = {1: "B", 2: "H", 4: "I"}

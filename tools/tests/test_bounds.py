@@ -1,0 +1,264 @@
+"""What is read has bounds: numbers of thousands of digits, bytes and rows that are listed many
+times, names that no file has, forged images, and images of another size."""
+
+from __future__ import annotations
+
+import io
+import os
+import resource
+import unittest
+import zlib
+from functools import partial
+from pathlib import Path
+from random import Random
+from unittest import mock
+
+from zaklimot.format import Picture, count_in, decimal, parse_text, steps_in
+from zaklimot_tools.core.trouble import Trouble
+from zaklimot_tools.explain.mistakes import mistake_in
+from zaklimot_tools.floppy import image
+from zaklimot_tools.floppy.table import HEADER, NAME, VERSION, Table, table_for
+from zaklimot_tools.images import holding, reading
+from zaklimot_tools.images.reading import image_of, size_of
+from zaklimot_tools.picture.mode import MODES, Fit, check_size
+from zaklimot_tools.report.cases import MOST_LISTED, read_cases
+from zaklimot_tools.report.report import Expected, Report
+
+from .test_images import png
+from .test_run import Fake
+from .tools import (
+    PYTHON,
+    TOOLS,
+    Folder,
+    ended,
+    hold,
+    hold_refused,
+    hold_undone,
+    ppm,
+    refused,
+    run_tool,
+    stream,
+)
+
+MANY = "9" * 5000
+# So much memory may a tool take that is given what would fill any.
+ROOM = 1 << 29
+FORGED = "its table of steps is none that vga-floppy makes"
+
+
+def limit_memory() -> None:
+    resource.setrlimit(resource.RLIMIT_AS, (ROOM, ROOM))
+
+
+class Numbers(unittest.TestCase):
+    def test_digits(self) -> None:
+        rows: list[tuple[str | bytes, int, int | None]] = [
+            ("0", 9, 0),
+            ("12", 12, 12),
+            ("13", 12, None),
+            ("0" * 5000 + "12", 12, 12),
+            (b"0" * 5000 + b"12", 12, 12),
+            (MANY, 1 << 70, None),
+            ("²", 9, None),
+            ("٣", 9, None),
+            ("", 9, None),
+            ("-1", 9, None),
+            ("1_0", 99, None),
+            ("000", 9, 0),
+        ]
+        hold(self, decimal, rows)
+
+    def test_blocks_that_are_repeated_too_often(self) -> None:
+        for count in (MANY, "²", "0" * 5000, "65536"):
+            text = io.BytesIO(f"version 2\nrepeat {count}\nget 0\nend\n".encode())
+            with self.subTest(count[:9]):
+                self.assertLessEqual(len(list(steps_in(text))), 2)
+                self.assertLessEqual(count_in(text), 2)
+
+    def test_why_such_a_line_is_no_step(self) -> None:
+        for line, told in (
+            (f"repeat {MANY}", "N is from 1 to 65535"),
+            (f"advance {MANY}", "DOTS is from 0 to 4294967295"),
+            (
+                "repeat ²",
+                "the character U+00B2 stands in no step; blanks are the space and the tab",
+            ),
+            (f"repeat {'A' * 5000}", "N is a decimal number"),
+            ("repeat 1A", "N is decimal, and not hexadecimal: write 26"),
+        ):
+            found = mistake_in(line)
+            assert found is not None
+            self.assertEqual(found.reason, told, line[:20])
+
+
+class Runs(Fake):
+    def test_texts_with_such_numbers(self) -> None:
+        self.begin_program("if sys.argv[1] == 'go': sys.exit('vga: F7 BadLine(2)')\n")
+        for count in (MANY, "²"):
+            done = self.run_text(f"version 2\nrepeat {count}\nget 0\nend\n")
+            hold_undone(self, done, r"^vga-report: t\.vga:2: F7 BadLine\(2\): ")
+
+
+class Cases(Folder):
+    def listed(self, text: str | bytes) -> str:
+        return self.write("list.txt", text)
+
+    def test_lists(self) -> None:
+        for text, told in (
+            (b"a\0b\n", "1: the line has a byte 00"),
+            (b"fonts x\0\na\n", "1: the line has a byte 00"),
+            (b"\nfront \0\na\n", "2: the line has a byte 00"),
+            (f"a until {MANY}\n", "1: a run is stopped after at most 4,294,967,295 steps"),
+            ("a until 4294967296\n", "1: a run is stopped after at most 4,294,967,295 steps"),
+        ):
+            self.assertRegex(refused(read_cases, self.listed(text)), told)
+        self.assertEqual(read_cases(self.listed(f"a until {'0' * 5000}7\n"))[0].until, 7)
+
+    def test_bytes_that_are_listed_many_times(self) -> None:
+        self.write("a.hex", "00*99999999\n" * 60)
+        (case,) = read_cases(self.listed("bytes a\n"))
+        told = refused(case.script)
+        self.assertRegex(told, rf"a\.hex:1: it lists more than {MOST_LISTED:,} bytes$")
+        self.write("a.hex", "56 47*2\n00*16777217")
+        self.assertEqual(len(case.script()), 16777220)
+
+    def test_none_of_them_fills_memory(self) -> None:
+        self.write("a.hex", "00*99999999\n" * 60)
+        self.write("a.txt", "1 ok\n")
+        path = self.listed("bytes a\n")
+        words = ("suite", "true {script}", "--bytes", "true {script}", "--list", path)
+        done = run_tool("vga-report", *words, prepare=limit_memory)
+        hold_undone(self, done, "it lists more than")
+
+    def test_expected_reports(self) -> None:
+        def read(text: str) -> object:
+            return list(Expected(stream(text.encode()), "e").steps())
+
+        row = "3F0000*9999999"
+        hold_refused(
+            self,
+            read,
+            (
+                (f"1-{MANY} ok\n", r"^e:1: steps from 1 on are to come, and not '1-9{38}'$"),
+                ("1-16777217 ok\n", "^e:1: steps from 1 on are to come"),
+                (f"1 picture {MANY} {MANY}x1\n", "^e:1: no picture has so many dots"),
+                ("1 picture 9 9999999x9999999\n", "^e:1: no picture has so many dots"),
+                (f"1 picture 18 1x1\n{' '.join([row] * 300)}\n", "^e:2: no row of 1 dots"),
+            ),
+        )
+        self.assertEqual(len(read("1-3 ok\n")), 3)  # type: ignore[arg-type]
+
+    def test_an_answer_of_more_lines_than_a_dump(self) -> None:
+        text = b"1 a\n" + b"b\n" * 65537
+        told = refused(lambda: list(Report(stream(text), "r").steps()))
+        self.assertEqual(told, "r:65537: the answer has more lines than any dump")
+        self.assertEqual(len(list(Report(stream(text[:-2]), "r").steps())[0].lines), 65537)
+
+
+class Images(Folder):
+    def test_one_of_another_size_is_not_unpacked(self) -> None:
+        white = b"\x3f\x3f\x3f"
+        report = self.report("r", ppm(2, 1, white * 2))
+        large = self.write("large.png", png(3, 1, b"\0" + bytes(9)))
+        unpacked = mock.patch.object(reading, "_unfiltered", side_effect=AssertionError)
+        with unpacked:
+            self.assertEqual(size_of(Path(large).read_bytes(), "it"), (3, 1))
+            told = refused(check_size, (3, 1), MODES["13"], Fit.EXACT, "it")
+            self.assertRegex(told, "the image has 3x1 dots, and mode 13 has 320x200")
+        status, output, said = run_tool(
+            "vga-report", "compare-picture", report, "1", large, prepare=unpacked.start
+        )
+        self.assertEqual((status, said), (1, ""))
+        self.assertIn(b"they have 2x1 and 3x1 dots, and neither is the other", output)
+        words = ("script", large, self.folder / "o", "--mode", "13")
+        done = run_tool("vga-picture", *words, prepare=unpacked.start)
+        hold_undone(self, done, "large.png: the image has 3x1 dots, and mode 13 has 320x200")
+
+    def test_the_heads_of_files(self) -> None:
+        self.assertEqual(size_of(b"P6 # a\n7 5 255\n", "it"), (7, 5))
+        for data, told in (
+            (b"\x89PNG\r\n\x1a\n" + bytes(9), "it: the PNG is damaged"),
+            (b"P6 x", "it: the header of the PPM is damaged"),
+            (b"GIF", "it: this is neither a PNG nor a PPM of the kind P6"),
+        ):
+            self.assertEqual(refused(size_of, data, "it"), told)
+
+    def test_a_tolerance(self) -> None:
+        # Red and blue of five bits, green of six, as an emulator widens them to eight.
+        dots = bytes([0x3F, 0x15, 0x01, 0x20, 0x3F, 0x1F])
+        drawn = bytes(
+            ((value >> 1) << 3 | value >> 3) if at % 3 != 1 else value << 2 | value >> 4
+            for at, value in enumerate(dots)
+        )
+        picture = Picture.of_dots(2, 1, dots)
+        image_at = partial(image_of, b"P6\n2 1\n255\n" + drawn, "it")
+        for tolerance, count in ((0, 2), ("5-6-5", 0), (1, 0), (63, 0)):
+            found = holding.held(picture, image_at(), tolerance)
+            self.assertEqual(found.count, count, tolerance)
+        self.assertTrue(holding.held(picture, image_at(), "5-6-5").how.endswith("within 5-6-5"))
+        other = Picture.of_dots(2, 1, bytes([0x3F, 0x16, 0x01, 0x1D, 0x3F, 0x1F]))
+        for tolerance, count in (("5-6-5", 2), (1, 1), (3, 1), (4, 0)):
+            self.assertEqual(holding.held(other, image_at(), tolerance).count, count, tolerance)
+
+    def test_the_words_of_a_tolerance(self) -> None:
+        report = self.report("r", ppm(1, 1, b"\x3f\x3f\x3e"))
+        path = self.write("i.ppm", b"P6\n1 1\n255\n" + bytes([0xFF, 0xFF, 0xFF]))
+        words = ("compare-picture", report, "1", path)
+        for given, status in (((), 1), (("--within", "5-6-5"), 0), (("--within", "1"), 0)):
+            self.assertEqual(run_tool("vga-report", *words, *given)[0], status, given)
+        for given in ("64", "-1", "5-5-5", "x"):
+            done = run_tool("vga-report", *words, f"--within={given}")
+            hold_undone(self, done, f"'{given}' is no number from 0 to 63, and not 5-6-5")
+
+
+class Floppies(unittest.TestCase):
+    TEXT = "version 2\nint ax=3\nrepeat 2\nin 3da\nget a0000\nend\nout 3c4 1\nframe\n"
+
+    def read(self, steps: bytes, first: int, answers: int) -> int:
+        """How many lines the reports of a table with these steps have."""
+        check = zlib.crc32(steps)
+        data = HEADER.pack(NAME, VERSION, first, len(steps), check) + steps
+        run = image.Run(Table(data, "it"), bytes(answers), False)
+        return sum(1 for _, lines in image.reports(run, "it") for _ in lines)
+
+    def test_forged_tables_with_a_right_check(self) -> None:
+        made = table_for({"one": parse_text(self.TEXT)})
+        first, steps = HEADER.unpack_from(made)[2], made[HEADER.size :]
+        self.assertEqual(self.read(steps, first, 12), 7)
+        named = steps[first : first + 6]
+        for behind in (
+            b"\xff",
+            b"\x0d",
+            b"\x0d\2",
+            b"\x0d\2\0\x0f\0\0\x0e",
+            b"\x0c\0\xa0\0",
+            b"\x0d\0\0\x0e",
+        ):
+            with self.subTest(behind):
+                told = refused(self.read, named + behind, 0, 0)
+                self.assertEqual(told, f"it: {FORGED}")
+        # Steps before any script, and more of them than a script has.
+        self.assertEqual(refused(self.read, b"\x0b\xda\3\0", 0, 0), f"it: {FORGED}")
+        many = b"\x0d\xff\xff" + b"\x0a\xff\xff" * 9 + b"\x0e"
+        self.assertEqual(refused(self.read, named + many, 0, 0), f"it: {FORGED}")
+
+    def test_tables_at_random(self) -> None:
+        made = table_for({"one": parse_text(self.TEXT), "two": parse_text("get a0000\n")})
+        first, random, told = HEADER.unpack_from(made)[2], Random(4711), 0
+        for _ in range(3000):
+            steps = bytearray(made[HEADER.size :])
+            for _ in range(random.randint(1, 3)):
+                steps[random.randrange(first, len(steps))] = random.randrange(256)
+            try:
+                self.read(bytes(steps), first, random.randrange(100))
+            except Trouble:
+                told += 1
+        self.assertGreater(told, 1000)
+
+
+class Names(unittest.TestCase):
+    def test_one_that_is_no_text(self) -> None:
+        work = "from zaklimot_tools.core import cli\ncli.run('it', lambda: print('\\udcff') or 0)"
+        environment = {**os.environ, "PYTHONPATH": str(TOOLS)}
+        done = ended(*PYTHON, "-c", work, env=environment, text=False)
+        self.assertEqual(done, (0, b"\xff\n", b""))

@@ -1,0 +1,318 @@
+"""The files of a run: no input is written, no two outputs are one, and nothing is left of a
+failure; and how a run ends that is interrupted, or can tell nothing."""
+
+from __future__ import annotations
+
+import argparse
+import os
+import signal
+import sys
+import time
+import unittest
+from pathlib import Path
+
+from zaklimot_tools.core.files import (
+    Input,
+    Output,
+    OutputOrFolder,
+    PictureFolder,
+    files,
+    files_of_run,
+)
+from zaklimot_tools.core.streams import write_over, writing
+
+from .test_run import Fake
+from .tools import PYTHON, TOOLS, Folder, begin, ended, hold_undone, ppm, refused, run_tool
+
+BOTH = "two outputs have this name, and one would be lost\n"
+PICTURE = ppm(1, 1, b"\x3f\x3f\x3f")
+
+
+class Registry(Folder):
+    def taken(self, **words: object) -> str:
+        """What is told of these words; nothing where all is well."""
+        with files_of_run() as own:
+            try:
+                own.take(argparse.Namespace(**words))
+            except Exception as trouble:
+                return str(trouble)
+        return ""
+
+    def test_two_outputs(self) -> None:
+        os.chdir(self.folder)
+        self.addCleanup(os.chdir, "/")
+        self.write("o", "")
+        os.link("o", "linked")
+        Path("named").symlink_to("new")
+        (self.folder / "d").mkdir()
+        same = (
+            ("o", "o"),
+            ("o", "linked"),
+            ("new", "./new"),
+            ("new", "named"),
+            ("d/../new", "new"),
+            ("-", "-"),
+        )
+        for one, other in same:
+            with self.subTest(one=one, other=other):
+                told = self.taken(html=Output(one), json=Output(other))
+                self.assertIn(BOTH.strip(), told)
+        for one, other in (("o", "new"), ("-", "o"), ("/dev/null", "/dev/null"), ("d/o", "o")):
+            self.assertEqual(self.taken(html=Output(one), json=Output(other)), "", (one, other))
+
+    def test_a_picture_of_a_folder(self) -> None:
+        folder = str(self.folder / "d")
+        for name in ("0003.png", "12345.ppm", "00012.345.png"):
+            for words in ({"a": PictureFolder(folder)}, {"z": PictureFolder(folder)}):
+                (self.folder / "d").mkdir(exist_ok=True)
+                told = self.taken(**words, json=Output(f"{folder}/{name}"))
+                self.assertEqual(
+                    told, f"{folder}/{name}: a picture of {folder} would have this name"
+                )
+        for name in ("3.png", "report.json", "0003.txt"):
+            self.assertEqual(
+                self.taken(pictures=PictureFolder(folder), json=Output(f"{folder}/{name}")), ""
+            )
+
+    def test_what_keeps_an_output_from_being_written_is_told_before_any_work(self) -> None:
+        (self.folder / "d").mkdir()
+        path = self.write("locked", "kept")
+        os.chmod(path, 0o444)
+        for name, told in (("d", "it is a folder"), ("n/o", "there is no such folder")):
+            self.assertIn(told, self.taken(json=Output(self.folder / name)))
+        self.assertEqual(self.taken(json=Output(path)), f"{path}: it is read-only")
+        self.assertEqual(self.taken(report=OutputOrFolder(self.folder / "d")), "")
+        self.assertEqual(self.taken(pictures=PictureFolder(path)), f"{path}: it is not a folder")
+
+    def test_standard_input_is_read_once(self) -> None:
+        self.assertIn("can be read once", self.taken(report=Input("-"), other=Input("-")))
+        self.assertEqual(self.taken(report=Input("-"), other=Output("-")), "")
+
+    def test_a_run_knows_its_own_files_alone(self) -> None:
+        path = self.write("o", "")
+        with files_of_run() as own:
+            own.take(argparse.Namespace(report=Input(path)))
+            self.assertRegex(refused(files().refuse_input, path), "it is read as")
+            with files_of_run():
+                files().refuse_input(path)
+            self.assertRegex(refused(files().refuse_input, path), "it is read as")
+
+    def test_folders_that_were_made_in_vain(self) -> None:
+        for is_filled in (False, True):
+            with self.assertRaises(OSError), files_of_run() as own:
+                folder = own.make_folder(self.folder / "a" / "b")
+                if is_filled:
+                    (folder / "file").touch()
+                raise OSError
+            self.assertEqual((self.folder / "a").exists(), is_filled)
+        with files_of_run() as own:
+            own.make_folder(self.folder / "kept")
+        self.assertTrue((self.folder / "kept").is_dir())
+
+    def test_a_read_only_file_is_not_replaced(self) -> None:
+        path = self.write("locked", "kept")
+        os.chmod(path, 0o444)
+
+        def write() -> None:
+            with writing(path) as stream:
+                stream.write(b"new")
+
+        self.assertEqual(refused(write), f"{path}: it is read-only")
+        self.assertEqual((self.names(), Path(path).read_text()), (["locked"], "kept"))
+
+    def test_a_file_that_has_changed_is_not_written_over(self) -> None:
+        path = self.write("script", "old")
+        files().reads(path)
+        self.assertRegex(refused(write_over, path, b"new", b"other"), "has changed since it was")
+        self.assertEqual((self.names(), Path(path).read_text()), (["script"], "old"))
+        write_over(path, b"new", b"old")
+        self.assertEqual(Path(path).read_text(), "new")
+
+
+class Tools(Fake):
+    """The same of whole tools."""
+
+    def test_two_outputs_are_refused_before_any_work(self) -> None:
+        self.report("r", PICTURE)
+        self.report("s", "ok")
+        self.write("t.vga", "frame\n")
+        self.write("i", PICTURE)
+        self.begin_program(f"open({str(self.folder / 'begun')!r}, 'w')\n")
+        run = f"vga-report run t.vga --vga {self.vga}"
+        for words, name in (
+            (f"{run} --html o --json o", "o"),
+            (f"{run} --json o --junit o", "o"),
+            (f"{run} --html - --json -", "standard output"),
+            ("vga-report compare r s --picture o --html o", "o"),
+            ("vga-floppy run --on qemu t.vga o --picture o", "o"),
+            ("vga-floppy run --on qemu t.vga --picture -", "standard output"),
+            ("vga-picture script i o --mode 13 --picture o", "o"),
+            ("vga-trace pictures t.vga d --apng d", "d"),
+        ):
+            with self.subTest(words):
+                tool, *rest = words.split()
+                before = self.names()
+                done = run_tool(tool, *rest, prepare=lambda: os.chdir(self.folder))
+                self.assertEqual(done, (2, b"", f"{tool}: {name}: {BOTH}"))
+                self.assertEqual(self.names(), before)
+        words = f"{run} --pictures d --json d/0003.png".split()[1:]
+        (self.folder / "d").mkdir()
+        done = run_tool("vga-report", *words, prepare=lambda: os.chdir(self.folder))
+        hold_undone(self, done, "^vga-report: d/0003.png: a picture of d would have this name\n$")
+        self.assertFalse((self.folder / "begun").exists())
+
+    def test_a_script_that_an_editor_changes_while_it_runs(self) -> None:
+        path = self.write("t.vga", "get 0\n")
+        adding = f"lambda: open({path!r}, 'a').write('in 60\\n')"
+        self.begin_program(f"import atexit\nif sys.argv[1] == 'go': atexit.register({adding})\n")
+        done = run_tool("vga-report", "run", path, "--bless", "--vga", self.vga)
+        self.assertEqual((done[0], Path(path).read_text()), (2, "get 0\nin 60\n"))
+        self.assertIn(f"vga-report: {path}: it has changed since it was read", done[2])
+
+    def test_folders_of_runs_that_fail(self) -> None:
+        self.write("bad", "1 picture 9\n")
+        self.write("bad.vga", "move\n")
+        for words in (
+            ("pictures", "bad", "a/b"),
+            ("run", "bad.vga", "--pictures", "a", "--vga", self.vga),
+            ("scripts", "a", "--list", "none"),
+        ):
+            done = run_tool("vga-report", *words, prepare=lambda: os.chdir(self.folder))
+            self.assertEqual((done[0], (self.folder / "a").exists()), (2, False), words)
+
+    def test_a_folder_or_a_file_in_the_place_of_the_program(self) -> None:
+        path, plain = self.write("t.vga", "frame\n"), self.write("plain", "")
+        for given, told in (
+            (str(self.folder), "it is a folder, and no program"),
+            (plain, "it is no program: there is no permission to run it"),
+            ("/none/such", "No such file or directory"),
+        ):
+            done = run_tool("vga-report", "run", path, "--vga", given)
+            self.assertEqual(done, (2, b"", f"vga-report: {given}: {told}\n"))
+
+    def test_fonts_that_are_wrong(self) -> None:
+        path = self.write("t.vga", "frame\n")
+        self.begin_program(
+            "sys.exit('vga: F2 ReadFault') if not os.path.isfile(sys.argv[4]) else 0\n"
+        )
+        for given, told in (
+            ("/none", "No such file or directory"),
+            (str(self.folder), "directory"),
+        ):
+            done = run_tool("vga-report", "run", path, "--vga", self.vga, "--fonts", given)
+            self.assertEqual((done[0], done[1]), (2, b""))
+            self.assertRegex(
+                done[2], f"^vga-report: {given}: .*the font file can't be read: .*{told}"
+            )
+
+
+class Recordings(Folder):
+    def test_what_would_be_missing_at_the_end_is_told_at_the_beginning(self) -> None:
+        begun = self.folder / "begun"
+        self.program("bin/qemu-system-x86_64", f"#!/bin/sh\ntouch {begun}\n")
+        self.program("says", "#!/bin/sh\necho 'vga: F3 FontSize' >&2\nexit 1\n")
+        path = f"{self.folder / 'bin'}:{os.environ['PATH']}"
+        for words, told in (
+            (("--vga", "/none/vga"), "/none/vga: No such file or directory"),
+            (("--vga", str(self.folder)), "it is a folder, and no program"),
+            (("--vga", "/bin/true"), "/bin/true: it runs no script with .*: it says nothing"),
+            (("--vga", str(self.folder / "says"), "--fonts", "f"), "no script with f: F3 FontSize"),
+        ):
+            made = self.folder / "made"
+            done = ended(
+                *PYTHON,
+                TOOLS / "vga-trace",
+                "record",
+                made,
+                *words,
+                "--",
+                "-cdrom",
+                "disc",
+                env={**os.environ, "PATH": path},
+            )
+            hold_undone(self, done, told)
+            self.assertFalse(made.exists() or begun.exists(), words)
+
+    def test_no_option_is_advised_that_the_tool_lacks(self) -> None:
+        (self.folder / "tools").mkdir()
+        for name in ("tools/zaklimot_tools", "bindings", "fonts", "include"):
+            (self.folder / name).symlink_to(TOOLS.parent / name)
+        (self.folder / "tools" / "zaklimot_tools").unlink()
+        copy = ["cp", "-r", TOOLS / "zaklimot_tools", TOOLS / "vga-trace", TOOLS / "vga"]
+        self.assertEqual(ended(*copy, self.folder / "tools")[0], 0)
+        given = {**os.environ, "PATH": "/nowhere"}
+        trace = self.folder / "tools" / "vga-trace"
+        words = ("record", self.folder / "made", "--", "-cdrom", "disc")
+        done = ended(sys.executable, trace, *words, env=given)
+        hold_undone(self, done, "^vga-trace: there is no program vga, .*: --vga names one\n$")
+        done = ended(sys.executable, trace.with_name("vga"), "--help", env=given)
+        hold_undone(
+            self, done, "^vga: there is no program vga, .*README.md says how it is built\n$"
+        )
+
+
+class Endings(Folder):
+    def test_an_error_that_can_not_be_told(self) -> None:
+        for words in (("text", "/none"), ("no-such-command",), ("run", "/none", "--vga", "/none")):
+            with open("/dev/full", "wb") as full:
+                done = ended(*PYTHON, TOOLS / "vga-report", *words, stderr=full)
+            self.assertEqual(done, (2, "", None), words)
+
+    def test_an_interrupt_while_a_tool_begins(self) -> None:
+        for delay in (0.02, 0.05, 0.1, 0.2):
+            process = begin("vga-report", "--help", start_new_session=True)
+            time.sleep(delay)
+            process.send_signal(signal.SIGINT)
+            _, said = process.communicate()
+            with self.subTest(delay=delay):
+                self.assertNotIn(b"zaklimot_tools", said)
+
+    @unittest.skipUnless(
+        Path("/proc/self/stat").exists(), "processes are looked at as Linux shows them"
+    )
+    def test_two_interrupts_leave_nothing_that_runs(self) -> None:
+        harness = self.program(
+            "harness",
+            "import os, sys, time\nopen(f'{sys.argv[1]}.{os.getpid()}', 'w')\ntime.sleep(600)\n",
+        )
+        self.write("list.txt", "".join(f"case{number}\n" for number in range(12)))
+        for number in range(12):
+            self.write(f"case{number}.vga", "frame\n")
+            self.write(f"case{number}.txt", "1 ok\n")
+        words = ("--list", self.folder / "list.txt", "--jobs", "12")
+        command = f"{harness} {self.folder / 'begun'} {{script}}"
+        process = begin("vga-report", "suite", command, *words, start_new_session=True)
+        self.wait_until(lambda: len(list(self.folder.glob("begun.*"))) == 12, process)
+        for _ in range(3):
+            process.send_signal(signal.SIGINT)
+            time.sleep(0.02)
+        _, said = process.communicate(timeout=60)
+        self.assertEqual((process.returncode, said), (130, b""))
+        numbers = (int(path.suffix[1:]) for path in self.folder.glob("begun.*"))
+        self.assert_ended(*numbers)
+
+
+class Suite(Folder):
+    def test_the_exit_status(self) -> None:
+        for name, text in (("good", "1 ok\n"), ("other", "1 FF\n"), ("failed", "1 ok\n")):
+            self.write(f"{name}.vga", "crash\n" if name == "failed" else "out 3C4 1\n")
+            self.write(f"{name}.txt", text)
+        harness = f"{sys.executable} {Path(__file__).with_name('adapter.py')} {{script}}"
+        for cases, status in (
+            (("good",), 0),
+            (("good", "other"), 1),
+            (("good", "failed"), 2),
+            (("other", "failed"), 2),
+            (("failed",), 2),
+        ):
+            path = self.write("list.txt", "".join(f"{name}\n" for name in cases))
+            done = run_tool("vga-report", "suite", harness, "--list", path)
+            self.assertEqual((done[0], done[2]), (status, ""), cases)
+
+
+class Reports(Folder):
+    def test_a_report_is_no_folder(self) -> None:
+        script = self.write("t.vga", "in 3CC\n")
+        words = ("run", "--on", "dosbox", script, str(self.folder))
+        done = run_tool("vga-floppy", *words)
+        self.assertEqual(done, (2, b"", f"vga-floppy: {self.folder}: it is a folder\n"))
