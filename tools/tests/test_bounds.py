@@ -40,6 +40,7 @@ from .tools import (
     stream,
 )
 
+
 MANY = "9" * 5000
 # So much memory may a tool take that is given what would fill any.
 ROOM = 1 << 29

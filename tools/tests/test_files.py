@@ -24,6 +24,7 @@ from zaklimot_tools.core.streams import write_over, writing
 from .test_run import Fake
 from .tools import PYTHON, TOOLS, Folder, begin, ended, hold_undone, ppm, refused, run_tool
 
+
 BOTH = "two outputs have this name, and one would be lost\n"
 PICTURE = ppm(1, 1, b"\x3f\x3f\x3f")
 
@@ -289,6 +290,28 @@ class Endings(Folder):
         _, said = process.communicate(timeout=60)
         self.assertEqual((process.returncode, said), (130, b""))
         numbers = (int(path.suffix[1:]) for path in self.folder.glob("begun.*"))
+        self.assert_ended(*numbers)
+
+
+@unittest.skipUnless(
+    Path("/proc/self/stat").exists(), "processes are looked at as Linux shows them"
+)
+class Folders(Folder):
+    def test_an_interrupt_ends_all_scripts_of_a_folder(self) -> None:
+        sleeping = (
+            "import os, sys, time\nopen(f'{sys.argv[0]}.{os.getpid()}', 'w')\ntime.sleep(600)\n"
+        )
+        vga = self.program("vga", sleeping)
+        for number in range(8):
+            self.write(f"scripts/{number}.vga", "frame\n")
+        words = ("run", self.folder / "scripts", "--vga", vga, "--jobs", "4")
+        process = begin("vga-report", *words, start_new_session=True)
+        self.wait_until(lambda: len(list(self.folder.glob("vga.*"))) == 4, process)
+        process.send_signal(signal.SIGINT)
+        _, said = process.communicate(timeout=60)
+        self.assertEqual((process.returncode, said), (130, b""))
+        numbers = [int(path.suffix[1:]) for path in self.folder.glob("vga.*")]
+        self.assertEqual(len(numbers), 4)
         self.assert_ended(*numbers)
 
 

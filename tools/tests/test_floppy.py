@@ -29,7 +29,7 @@ from zaklimot_tools.floppy.running import DOSBOX, MACHINES
 from zaklimot_tools.floppy.table import reset_steps, table_for
 from zaklimot_tools.report.cases import SUITE, read_cases
 from zaklimot_tools.trace.state import Bank, State
-from zaklimot_tools.trace.step import GET, IN, OUT, PUT, Step
+from zaklimot_tools.trace.step import GET, IN, OUT, PUT, TraceStep
 
 from .floppy import ANSWERS, MARK, Machine, cycles, line, machine
 from .tools import TOOLS, TOP, Folder, begin, call, ended, hold, hold_undone, refused, run_tool
@@ -124,7 +124,7 @@ class Interpreting(unittest.TestCase):
                 bank.index = index
                 bank.write(0x55)
             for kind, *numbers in found[1 : found.index(("begin",))]:
-                state.take(Step(opcodes[kind], *numbers))  # type: ignore[index, arg-type]
+                state.take(TraceStep(opcodes[kind], *numbers))  # type: ignore[index, arg-type]
             for name, part in vars(wanted).items():
                 # What differs isn't shown: the planes are long.
                 left = vars(state)[name]

@@ -23,9 +23,11 @@ from zaklimot.format import (
     parse_text,
     print_text,
 )
+from zaklimot_tools.core.processes import Limits
+from zaklimot_tools.core.trouble import Wrong
 from zaklimot_tools.dev.fuzz import command
-from zaklimot_tools.dev.fuzz.feeding import Limits, Outcome, Program, Wrong, check, meant_by
-from zaklimot_tools.dev.fuzz.making import Input, block, make, spelled, step
+from zaklimot_tools.dev.fuzz.feeding import Fed, Program, check, meant_by
+from zaklimot_tools.dev.fuzz.making import Feed, block, make, spelled, step
 
 from .tools import Folder, begin, call, hold, hold_undone
 
@@ -80,10 +82,10 @@ WRONGS = {
     "print('1 55'); print('oh', file=sys.stderr)": "status 0, and it says 'oh\\n'",
 }
 # A machine that has just started may take seconds for a program that ends at once.
-LIMITS = Limits(seconds=60, memory=1 << 28, output=1 << 16)
+LIMITS = Limits(seconds=60, output=1 << 16, memory=1 << 28)
 # Those of a program that doesn't end, whether it has begun its work or not.
 SHORT = LIMITS._replace(seconds=0.2)
-SCRIPT, TEXT = Input(False, b"VGAS\x01\x03\xda\x03", "script"), Input(True, b"in 3DA\n", "text")
+SCRIPT, TEXT = Feed(False, b"VGAS\x01\x03\xda\x03", "script"), Feed(True, b"in 3DA\n", "text")
 
 
 class Fuzzing(Folder):
@@ -101,7 +103,7 @@ class Fuzzing(Folder):
         self.assertIn(answer, GOOD)
         return self.program("program", GOOD.replace(answer, wrong or answer))
 
-    def fed(self, given: Input, path: str, limits: Limits = LIMITS) -> str:
+    def fed(self, given: Feed, path: str, limits: Limits = LIMITS) -> str:
         """The answer to an input, or what is wrong with it."""
         try:
             return Program(path, "fonts", self.folder, limits).feed(given)
@@ -113,7 +115,7 @@ class Fuzzing(Folder):
             self.assertEqual(self.fed(given, self.program_that()), "done")
         many = encode(Script((Block(MOST_COUNT, (Step("frame"),) * 257),), 2))
         path = self.program("refusing", "import sys\nsys.exit('vga: F11 TooMany(5)')\n")
-        self.assertEqual(self.fed(Input(False, many, "script"), path), "F11 TooMany(5)")
+        self.assertEqual(self.fed(Feed(False, many, "script"), path), "F11 TooMany(5)")
 
     def test_each_wrong_is_found(self) -> None:
         for wrong, said in WRONGS.items():
@@ -125,7 +127,7 @@ class Fuzzing(Folder):
                     self.assertIn(fed, (f"vga {name}: {said}", f"vga {name} {said}"))
 
     def test_commands_that_do_not_agree(self) -> None:
-        bad = Input(True, b"move 1\n", "text")
+        bad = Feed(True, b"move 1\n", "text")
         hold(
             self,
             lambda given, wrong: self.fed(given, self.program_that(wrong)),
@@ -143,7 +145,7 @@ class Fuzzing(Folder):
                     "vga go and vga run have reports that differ",
                 ),
                 (
-                    Input(True, b"in 3C0\n", "text"),
+                    Feed(True, b"in 3C0\n", "text"),
                     "",
                     "vga asm: the script has other steps than the text",
                 ),
@@ -180,7 +182,7 @@ class Fuzzing(Folder):
             "        sys.stdout.flush()\n    except OSError: os.dup2(os.open('/dev/null',"
             " os.O_WRONLY), 1);"
         )
-        long = Input(False, b"VGAS\x02\x0d\xff\xff\x03\xda\x03\x0e", "script")
+        long = Feed(False, b"VGAS\x02\x0d\xff\xff\x03\xda\x03\x0e", "script")
         path = self.program_that(full + " sys.exit('vga: F9 WriteFault')")
         self.assertEqual(self.fed(long, path), "F9 WriteFault")
 
@@ -195,9 +197,9 @@ class Fuzzing(Folder):
     def test_want_of_memory_behind_whole_lines(self) -> None:
         script = Script((Step("in", (0x3DA,)),))
         for written in (b"", b"1 55\n"):
-            check(Outcome(1, written, "vga: F10 OutOfMemory\n"), script)
+            check(Fed(1, written, "vga: F10 OutOfMemory\n"), script)
         with self.assertRaisesRegex(Wrong, "^report:1: the report ends within a line$"):
-            check(Outcome(1, b"1 55", "vga: F10 OutOfMemory\n"), script)
+            check(Fed(1, b"1 55", "vga: F10 OutOfMemory\n"), script)
 
     def run_command(self, *words: str) -> tuple[int, list[str], str]:
         """Exit status, lines and what is said of the command."""

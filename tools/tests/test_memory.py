@@ -13,7 +13,7 @@ from zaklimot_tools.dev.memory.command import (
     FAULT,
     FILES,
     RIGHT,
-    Answer,
+    CallAnswer,
     Job,
     Wrong,
     answers_of,
@@ -27,12 +27,14 @@ from zaklimot_tools.dev.memory.command import (
 from .tools import hold, hold_refused
 
 
-JOB = Job((), 0, Answer(0, b"1 ok\n2 ok\n", ""))
+JOB = Job((), 0, CallAnswer(0, b"1 ok\n2 ok\n", ""))
 
 
-def told(**others: str) -> Answer:
+def told(**others: str) -> CallAnswer:
     """What the calls tell, of which some answer otherwise than in their examples."""
-    return Answer(0, "".join(f"{call}{others.get(call, RIGHT)}\n" for call in CALLS).encode(), "")
+    return CallAnswer(
+        0, "".join(f"{call}{others.get(call, RIGHT)}\n" for call in CALLS).encode(), ""
+    )
 
 
 class Trying(unittest.TestCase):
@@ -46,7 +48,11 @@ class Trying(unittest.TestCase):
         )
         self.assertEqual(
             answers_of(output, errors),
-            [Answer(0, b"a: b\n", ""), Answer(1, b"", "Error: no\n"), Answer(-1, b"", "")],
+            [
+                CallAnswer(0, b"a: b\n", ""),
+                CallAnswer(1, b"", "Error: no\n"),
+                CallAnswer(-1, b"", ""),
+            ],
         )
 
     def test_the_main_of_the_program_grows_first(self) -> None:
@@ -75,7 +81,7 @@ class Trying(unittest.TestCase):
 
 class Endings(unittest.TestCase):
     def test_how_the_calls_end(self) -> None:
-        cut = Answer(0, told().written.rpartition(b"print")[0], "")
+        cut = CallAnswer(0, told().written.rpartition(b"print")[0], "")
         hold(
             self,
             calls_ending,
@@ -86,29 +92,29 @@ class Endings(unittest.TestCase):
                     told(run=": otherwise", decode=": out of memory"),
                     "decode: out of memory, run: otherwise",
                 ),
-                (Answer(1, b"", "Error: memory allocation failed\n"), "before the calls"),
+                (CallAnswer(1, b"", "Error: memory allocation failed\n"), "before the calls"),
                 *(
                     (one, repr(one))
-                    for one in (cut, told()._replace(status=3), Answer(-1, b"", ""))
+                    for one in (cut, told()._replace(status=3), CallAnswer(-1, b"", ""))
                 ),
             ),
         )
 
     def test_how_a_job_ends(self) -> None:
         wrong = (
-            Answer(1, b"1 o", FAULT),
-            Answer(1, b"2 ok\n", FAULT),
-            Answer(0, b"1 ok\n", FAULT),
-            Answer(0, b"1 ok\n", ""),
-            Answer(1, b"", "vga: F9 WriteFault\n"),
+            CallAnswer(1, b"1 o", FAULT),
+            CallAnswer(1, b"2 ok\n", FAULT),
+            CallAnswer(0, b"1 ok\n", FAULT),
+            CallAnswer(0, b"1 ok\n", ""),
+            CallAnswer(1, b"", "vga: F9 WriteFault\n"),
         )
         hold(
             self,
             lambda answer: job_ending(JOB, answer),
             (
                 (JOB.whole, "done"),
-                (Answer(1, b"", FAULT), "refused behind 0 lines"),
-                (Answer(1, b"1 ok\n", FAULT), "refused behind 1 lines"),
+                (CallAnswer(1, b"", FAULT), "refused behind 0 lines"),
+                (CallAnswer(1, b"1 ok\n", FAULT), "refused behind 1 lines"),
                 *((answer, repr(answer)) for answer in wrong),
             ),
         )

@@ -10,6 +10,7 @@ import sys
 import tempfile
 import unittest
 import zipfile
+from collections import Counter
 from pathlib import Path
 from unittest import mock
 
@@ -56,6 +57,25 @@ class Parts(Folder):
                     seen |= used
         # Each is used by some other, but for those that are tools alone.
         self.assertGreaterEqual(seen, {"core", "script", "explain", "images", "report", "trace"})
+
+    def test_python_3_9_reads_each_module(self) -> None:
+        for path in sorted(PACKAGE.rglob("*.py")):
+            with self.subTest(path.relative_to(PACKAGE)):
+                ast.parse(path.read_text("utf-8"), feature_version=(3, 9))
+        with self.assertRaises(SyntaxError):
+            ast.parse("match 1:\n    case 1: pass\n", feature_version=(3, 9))
+
+    def test_no_two_types_have_one_name(self) -> None:
+        kinds = re.compile(r"^class (\w+)", re.M)
+        folders = (PACKAGE, TOOLS.parent / "bindings" / "python" / "src" / "zaklimot" / "format")
+        names = Counter(
+            name
+            for folder in folders
+            for path in folder.rglob("*.py")
+            for name in kinds.findall(path.read_text("utf-8"))
+        )
+        # A report of the tools is one of the format, whose troubles name the file.
+        self.assertEqual([name for name, count in names.items() if count > 1], ["Report"])
 
     def test_what_a_module_uses_is_seen(self) -> None:
         for text, used in (

@@ -65,7 +65,7 @@ LOADING = re.compile(
 )
 
 
-MACHINE = machine.Machine(b"cpu", b"reads")
+MACHINE = machine.MachineModules(b"cpu", b"reads")
 
 
 def small_page(module: bytes, sources: Sources) -> bytes:

@@ -23,10 +23,10 @@ from zaklimot_tools.dev.emulators.traces import row as row_of
 from zaklimot_tools.images.reading import image_of
 from zaklimot_tools.trace import recording
 from zaklimot_tools.trace.converting import Checked, Clocked, Written
-from zaklimot_tools.trace.recording import PHASES, Deed, Keeper, Machine, Session
+from zaklimot_tools.trace.recording import PHASES, Deed, Keeper, QemuMachine, Session
 from zaklimot_tools.trace.replaying import ALLOWED, PAGE, SEEN, Replay, Screen, whole_rows
 from zaklimot_tools.trace.state import State
-from zaklimot_tools.trace.step import ADVANCE, FRAME, IN, PUT, Step
+from zaklimot_tools.trace.step import ADVANCE, FRAME, IN, PUT, TraceStep
 from zaklimot_tools.trace.trace import SCREEN
 
 from .test_trace import BEGIN, listed, qemu, registers
@@ -311,7 +311,7 @@ class Recorded(Folder):
     def test_a_key_is_given_time_before_it_is_quiet(self) -> None:
         keeper = mock.Mock(size=5, last=0.0)
         session = Session(
-            Machine((), quiet=0.2), mock.Mock(), keeper, Path("folder"), mock.Mock(), acted=0.0
+            QemuMachine((), quiet=0.2), mock.Mock(), keeper, Path("folder"), mock.Mock(), acted=0.0
         )
         self.assertTrue(session.is_due(Deed()))
         session.press(mock.Mock(), ["ret"])
@@ -472,8 +472,8 @@ class RealTime(Folder):
         """The frames and dots that pass where something is read, and then written, at so many
         frames' times."""
         steps = [step._replace(time=0) for step in registers(0x67, 0)]
-        steps += [Step(IN, 0x3DA, 0, round(at * self.FRAME)) for at in reads]
-        steps += [Step(PUT, 0xA0000, 1, round(at * self.FRAME)) for at in writes]
+        steps += [TraceStep(IN, 0x3DA, 0, round(at * self.FRAME)) for at in reads]
+        steps += [TraceStep(PUT, 0xA0000, 1, round(at * self.FRAME)) for at in writes]
         clocked = Clocked(longest)
         return [
             step[:2] for step in clocked.steps(steps) if step.opcode in (ADVANCE, FRAME)

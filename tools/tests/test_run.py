@@ -78,7 +78,7 @@ TEXT = (
 )
 # What the program does first where two runs of it are to be under way at a time.
 TOGETHER = """import glob, os, time
-open(f"{sys.argv[0]}.{os.getppid()}", "w").close()
+open(f"{sys.argv[0]}.{os.getpid()}", "w").close()
 while len(glob.glob(sys.argv[0] + ".*")) < 2: time.sleep(0.01)
 """
 # What it does first where no two are to be: it fails while another runs.

@@ -9,17 +9,17 @@ from typing import Iterable, Iterator
 
 from zaklimot_tools.report.report import Report
 from zaklimot_tools.trace.state import State, rebuilt
-from zaklimot_tools.trace.step import ADVANCE, FRAME, OUT, OUTW, PUTW, READS, WORDS, Step
+from zaklimot_tools.trace.step import ADVANCE, FRAME, OUT, OUTW, PUTW, READS, WORDS, TraceStep
 
 from .test_trace import steps_listed
 from .tools import refused, run_texts, stream
 
 # Steps that enable memory, in planar order with all planes open and no bits masked.
 PLANAR = [
-    Step(OUT, 0x3C2, 0x03),
-    Step(OUTW, 0x3C4, 0x0604),
-    Step(OUTW, 0x3C4, 0x0F02),
-    Step(OUTW, 0x3CE, 0xFF08),
+    TraceStep(OUT, 0x3C2, 0x03),
+    TraceStep(OUTW, 0x3C4, 0x0604),
+    TraceStep(OUTW, 0x3C4, 0x0F02),
+    TraceStep(OUTW, 0x3CE, 0xFF08),
 ]
 # What a script shows of its whole state.
 MEMORY = tuple(
@@ -66,7 +66,7 @@ PLACES = (0xA0000, 0xA0000, 0xA0000, 0xAFFF0, 0xB0000, 0xB7FF0, 0xB8000, 0xBFFF0
 LARGE = {0x01: 0x07, 0x06: 0x1F, 0x07: 0x3F, 0x12: 0x1F, 0x09: 0x9F}
 
 
-def state_of(steps: Iterable[Step]) -> State:
+def state_of(steps: Iterable[TraceStep]) -> State:
     state = State()
     for step in steps:
         state.take(step)
@@ -118,7 +118,9 @@ class Program(unittest.TestCase):
             for name, (seed, first) in cuts.items()
         }
         ends: dict[int, list[object]] = {}
-        texts = {name: b"".join(map(Step.text, steps)) + SHOWN for name, steps in scripts.items()}
+        texts = {
+            name: b"".join(map(TraceStep.text, steps)) + SHOWN for name, steps in scripts.items()
+        }
         for name, run in run_texts(texts).items():
             with self.subTest(name):
                 answers, count = list(Report(stream(run.report), name).steps()), len(scripts[name])
@@ -137,7 +139,7 @@ class Program(unittest.TestCase):
                 for one, other in zip(ends.setdefault(cuts[name][0], shown), shown):
                     self.assertEqual(one, other)
 
-    def followed(self, steps: list[Step], answers: list[str]) -> State:
+    def followed(self, steps: list[TraceStep], answers: list[str]) -> State:
         """The state that steps leave, each read of which is what the program answered; as those
         that rebuild tell."""
         state = State()
@@ -174,30 +176,32 @@ class Cuts(unittest.TestCase):
         steps = steps_listed(b"- w p 3C2 3 1\n" + data, first=18)
         kept = [(step.cycle, step.address) for step in steps if step.cycle]
         self.assertEqual(kept, [(at, 0xA0000 + 2 * at - 4) for at in (18, 19, 20, 21)])
-        self.assertEqual(steps[-1], Step(FRAME))
+        self.assertEqual(steps[-1], TraceStep(FRAME))
 
     def test_no_cycle_there(self) -> None:
         told = refused(partial(steps_listed, noise(1, 5), first=6))
         self.assertEqual(told, "trace: it has 5 cycles, and none from 6 on becomes a step")
 
     def test_what_the_frame_under_way_has_taken_stays(self) -> None:
-        state = state_of([Step(OUTW, 0x3B4, 0x120C), Step(ADVANCE, 1), Step(OUTW, 0x3B4, 0x340C)])
+        state = state_of(
+            [TraceStep(OUTW, 0x3B4, 0x120C), TraceStep(ADVANCE, 1), TraceStep(OUTW, 0x3B4, 0x340C)]
+        )
         self.assertEqual((state.beam.taken[0x0C], state.crtc.registers[0x0C]), (0x12, 0x34))
         self.assertEqual(vars(state_of(rebuilt(state)).beam), vars(state.beam))
         self.assertEqual(state.beam.place, (0, 0, 1))
         state = state_of(
             [
-                Step(OUTW, 0x3B4, 0x120C),
-                Step(ADVANCE, 90),
-                Step(OUTW, 0x3B4, 0x340C),
-                Step(ADVANCE, 91),
+                TraceStep(OUTW, 0x3B4, 0x120C),
+                TraceStep(ADVANCE, 90),
+                TraceStep(OUTW, 0x3B4, 0x340C),
+                TraceStep(ADVANCE, 91),
             ]
         )
         self.assertEqual((state.beam.frame, state.beam.taken[0x0C]), (2, 0x34))
 
     def test_empty_memory_takes_no_steps(self) -> None:
         self.assertEqual(sum(step.opcode == PUTW for step in rebuilt(state_of(PLANAR))), 0)
-        filled = [Step(PUTW, 0xA0000 + at, 0x5555) for at in range(0, 1024, 2)]
+        filled = [TraceStep(PUTW, 0xA0000 + at, 0x5555) for at in range(0, 1024, 2)]
         self.assertEqual(
             [step for step in rebuilt(state_of([*PLANAR, *filled])) if step.opcode == PUTW], filled
         )

@@ -530,7 +530,7 @@ class Running(Folder):
 class Checking(Folder):
     """The test command for a machine without Rattle."""
 
-    def checked(self, suite: checking.Checked, **lines: str) -> tuple[int, list[str]]:
+    def checked(self, suite: checking.Counted, **lines: str) -> tuple[int, list[str]]:
         """Exit status and the lines that it prints where the suite comes to these counts, and
         modules have these tests."""
         for name, line in lines.items():
@@ -561,7 +561,7 @@ class Checking(Folder):
             ((960, 2, 1), {"good": good}, (1, "961 passed, 2 failed, 1 skipped")),
         ):
             with self.subTest(told):
-                status, output = self.checked(checking.Checked(*suite), **lines)
+                status, output = self.checked(checking.Counted(*suite), **lines)
                 self.assertEqual((status, output[-1]), told)
                 self.assertEqual("skipped  skips.One.test_one: why" in output, "skips" in lines)
 

@@ -26,7 +26,7 @@ from zaklimot_tools.trace.step import (
     OUT,
     OUTW,
     PUT,
-    Step,
+    TraceStep,
     steps_of,
     without_polls,
 )
@@ -51,7 +51,7 @@ run = partial(run_tool, "vga-trace")
 # What a trace from power-on begins with.
 BEGIN = b"0 w p 3C2 67 1\n"
 PICTURE = ppm(9, 1, bytes(27))
-POLL, WRITE = Step(IN, 0x3DA), Step(OUT, 0x3C0, 0x20)
+POLL, WRITE = TraceStep(IN, 0x3DA), TraceStep(OUT, 0x3C0, 0x20)
 
 
 def trace(data: bytes) -> Trace:
@@ -71,11 +71,11 @@ def qemu(words: str, name: str = "vga", front: str = "") -> bytes:
     )
 
 
-def texts(*steps: Step) -> list[str]:
+def texts(*steps: TraceStep) -> list[str]:
     return [step.text().decode().strip() for step in steps]
 
 
-def steps_listed(data: bytes, **wanted: object) -> list[Step]:
+def steps_listed(data: bytes, **wanted: object) -> list[TraceStep]:
     """The steps of a script of a trace."""
     return list(Listing(trace(data), **wanted).steps())  # type: ignore[arg-type]
 
@@ -323,7 +323,7 @@ class Lines(unittest.TestCase):
 
 
 class Steps(unittest.TestCase):
-    def steps(self, *lines: str) -> list[Step]:
+    def steps(self, *lines: str) -> list[TraceStep]:
         return list(steps_of(cycles("".join(f"- {line}\n" for line in lines).encode())))
 
     def test_which_bytes_become_words(self) -> None:
@@ -373,7 +373,11 @@ class Steps(unittest.TestCase):
         self.assertEqual(texts(*steps_of(cycles(lines))), ["putw B8000 1F41"])
 
     def test_rows_of_polls(self) -> None:
-        poll, mono, other = Step(IN, 0x3DA, 5), Step(IN, 0x3BA, 5), Step(IN, 0x3C9, 5)
+        poll, mono, other = (
+            TraceStep(IN, 0x3DA, 5),
+            TraceStep(IN, 0x3BA, 5),
+            TraceStep(IN, 0x3C9, 5),
+        )
         steps = [
             poll,
             poll._replace(value=4),
@@ -384,13 +388,13 @@ class Steps(unittest.TestCase):
             other,
             other,
             poll,
-            Step(OUT, 0x3C0, 1),
+            TraceStep(OUT, 0x3C0, 1),
             poll,
             poll,
         ]
         self.assertEqual(
             list(without_polls(steps)),
-            [poll, mono, poll, other, other, poll, Step(OUT, 0x3C0, 1), poll],
+            [poll, mono, poll, other, other, poll, TraceStep(OUT, 0x3C0, 1), poll],
         )
         self.assertEqual(
             listed(BEGIN + 3 * b"- r p 3DA 0 1\n"), ["out 3C2 67", *3 * ["in 3DA"], "frame"]
@@ -401,14 +405,14 @@ class Steps(unittest.TestCase):
         )
 
 
-def registers(misc: int, clocking: int) -> list[Step]:
+def registers(misc: int, clocking: int) -> list[TraceStep]:
     """The steps that choose a clock and the shape of text of 720 by 400 dots."""
     return [
-        Step(OUT, 0x3C2, misc),
-        Step(OUTW, 0x3C4, clocking << 8 | 1),
-        Step(OUTW, 0x3D4, 0x5F00),
-        Step(OUTW, 0x3D4, 0xBF06),
-        Step(OUTW, 0x3D4, 0x1F07),
+        TraceStep(OUT, 0x3C2, misc),
+        TraceStep(OUTW, 0x3C4, clocking << 8 | 1),
+        TraceStep(OUTW, 0x3D4, 0x5F00),
+        TraceStep(OUTW, 0x3D4, 0xBF06),
+        TraceStep(OUTW, 0x3D4, 0x1F07),
     ]
 
 
@@ -416,8 +420,8 @@ class Passing(unittest.TestCase):
     def test_the_dots_of_pauses(self) -> None:
         """Those of `advance` before steps at some times, behind registers that choose the clock."""
 
-        def at(*times: int) -> list[Step]:
-            return [Step(IN, 0x3DA, time=time) for time in times]
+        def at(*times: int) -> list[TraceStep]:
+            return [TraceStep(IN, 0x3DA, time=time) for time in times]
 
         hold(
             self,
@@ -444,13 +448,13 @@ class Passing(unittest.TestCase):
                     "the clock before the pause",
                     *registers(0x67, 0),
                     *at(0),
-                    Step(OUT, 0x3C2, 0x63, 1000),
+                    TraceStep(OUT, 0x3C2, 0x63, 1000),
                     *at(2000),
                     [28_322, 25_175],
                 ),
             ),
         )
-        steps = [Step(OUT, 0x3C2, 0x67), *at(0, 1000)]
+        steps = [TraceStep(OUT, 0x3C2, 0x67), *at(0, 1000)]
         self.assertEqual(list(Pauses().steps(steps)), steps)
 
     def test_time_that_is_asked_for_and_not_there(self) -> None:
@@ -464,11 +468,11 @@ class Passing(unittest.TestCase):
 
     def test_a_frame_before_each_change_of_the_start_address(self) -> None:
         high, low, draw = (
-            Step(OUTW, 0x3D4, 0x400C),
-            Step(OUTW, 0x3D4, 0x200D),
-            Step(PUT, 0xA0000, 1),
+            TraceStep(OUTW, 0x3D4, 0x400C),
+            TraceStep(OUTW, 0x3D4, 0x200D),
+            TraceStep(PUT, 0xA0000, 1),
         )
-        zero, other = Step(OUTW, 0x3D4, 0x000C), Step(OUTW, 0x3D4, 0x400E)
+        zero, other = TraceStep(OUTW, 0x3D4, 0x000C), TraceStep(OUTW, 0x3D4, 0x400E)
         hold(
             self,
             lambda steps: " ".join(NAMES[step.opcode] for step in with_flips(steps)),
@@ -480,10 +484,10 @@ class Passing(unittest.TestCase):
                 *(
                     (
                         [
-                            Step(OUT, port, 0x0C),
-                            Step(OUT, port + 1, 0x40),
-                            Step(OUT, port, 0x0D),
-                            Step(OUT, port + 1, 0x20),
+                            TraceStep(OUT, port, 0x0C),
+                            TraceStep(OUT, port + 1, 0x40),
+                            TraceStep(OUT, port, 0x0D),
+                            TraceStep(OUT, port + 1, 0x20),
                         ],
                         "out frame out out out",
                     )
@@ -837,14 +841,14 @@ class Example(Folder):
         self.assertEqual(run("convert", self.PATH, self.folder / "script"), (0, told, ""))
 
 
-def lines(steps: Iterable[Step]) -> list[str]:
-    return b"".join(map(Written(True).row, folded(steps, Step.text))).decode().splitlines()
+def lines(steps: Iterable[TraceStep]) -> list[str]:
+    return b"".join(map(Written(True).row, folded(steps, TraceStep.text))).decode().splitlines()
 
 
 class Folding(unittest.TestCase):
     def test_rows_of_equal_steps_and_groups(self) -> None:
-        nine = [Step(PUT, 0xA0000 + at, at) for at in range(9)] * 3
-        group, other = nine[:8], [Step(IN, 0x3C9, value) for value in range(20)]
+        nine = [TraceStep(PUT, 0xA0000 + at, at) for at in range(9)] * 3
+        group, other = nine[:8], [TraceStep(IN, 0x3C9, value) for value in range(20)]
         hold(
             self,
             lines,
@@ -868,18 +872,25 @@ class Folding(unittest.TestCase):
                 (other, texts(*other)),
             ),
         )
-        self.assertEqual([row.count for row in folded(other, Step.data)], [20])
+        self.assertEqual([row.count for row in folded(other, TraceStep.data)], [20])
 
     def test_short_rows_stay(self) -> None:
         # Five polls of three bytes are 15 bytes, and a block of them seven: less than half.
-        for step, least in ((POLL, 5), (WRITE, 4), (Step(PUT, 0xA0000), 4), (Step(FRAME), 10)):
+        for step, least in (
+            (POLL, 5),
+            (WRITE, 4),
+            (TraceStep(PUT, 0xA0000), 4),
+            (TraceStep(FRAME), 10),
+        ):
             with self.subTest(step):
                 self.assertEqual(len(lines([step] * (least - 1))), least - 1)
                 self.assertEqual(lines([step] * least)[0], f"repeat {least}")
 
     def test_more_rounds_than_a_block_has(self) -> None:
         rows = list(
-            folded([POLL._replace(cycle=number) for number in range(1, 2 * 65535 + 4)], Step.data)
+            folded(
+                [POLL._replace(cycle=number) for number in range(1, 2 * 65535 + 4)], TraceStep.data
+            )
         )
         self.assertEqual([row.count for row in rows], [65535, 65535, 1, 1, 1])
         self.assertEqual([row.cycle for row in rows], [65535, 131070, 131071, 131072, 131073])

@@ -7,7 +7,7 @@ import os
 import signal
 import sys
 from contextlib import contextmanager
-from typing import IO, Any, Callable, Iterator, Optional, Sequence
+from typing import Any, Callable, IO, Iterator, NamedTuple, Optional, Sequence
 
 from .files import files, files_of_run
 from .progress import Progress
@@ -66,6 +66,31 @@ def tool_parser(
     )
     made.add_argument("--version", action=_Version, nargs=0, help="prints the release's number")
     return made
+
+
+class Rule(NamedTuple):
+    """What an option asks of the words beside it: where it is given and the words break the rule,
+    the reason ends the work."""
+
+    name: str
+    is_broken: Callable[[argparse.Namespace], object]
+    reason: str
+
+    def check(self, words: argparse.Namespace) -> None:
+        """Ends the work where the rule is broken."""
+        if getattr(words, self.name) not in (None, False) and self.is_broken(words):
+            raise Trouble(self.reason)
+
+
+def rule(
+    parser: argparse.ArgumentParser,
+    name: str,
+    is_broken: Callable[[argparse.Namespace], object],
+    reason: str,
+) -> None:
+    """Adds a rule of the option or the word that has this name among the parsed words."""
+    rules: list[Rule] = parser.get_default("rules") or []
+    parser.set_defaults(rules=[*rules, Rule(name, is_broken, reason)])
 
 
 def add(parser: argparse._ActionsContainer, spelt: str, told: str, **given: Any) -> None:
@@ -140,6 +165,16 @@ def _ending_at_signals() -> Iterator[None]:
             signal.signal(number, handler)
 
 
+def ended_by(error: Exception) -> tuple[int, str]:
+    """The exit status of a work that this error has ended, and what is told of it."""
+    if isinstance(error, Trouble):
+        return error.status, str(error)
+    if isinstance(error, OSError):
+        place = "standard output" if error.filename is None else error.filename
+        return TROUBLE, f"{place}: {error.strerror or error}"
+    return TROUBLE, NO_MEMORY
+
+
 def run(name: str, work: Callable[[], int], progress: Optional[Progress] = None) -> int:
     """Does a tool's work, which answers its exit status; the status with which the tool is to end.
 
@@ -161,13 +196,8 @@ def run(name: str, work: Callable[[], int], progress: Optional[Progress] = None)
         status = INTERRUPTED
     except Ended as ended:
         status = SIGNALLED + ended.args[0]
-    except Trouble as trouble:
-        status, reason = trouble.status, str(trouble)
-    except OSError as error:
-        name_of_file = "standard output" if error.filename is None else error.filename
-        status, reason = TROUBLE, f"{name_of_file}: {error.strerror or error}"
-    except MemoryError:
-        status, reason = TROUBLE, NO_MEMORY
+    except (Trouble, OSError, MemoryError) as error:
+        status, reason = ended_by(error)
     if progress is not None:
         progress.clear()
     _end_output(is_kept=bool(reason))
@@ -203,6 +233,8 @@ def runner(made: Callable[[], argparse.ArgumentParser]) -> Callable[[Optional[Se
             except SystemExit as ended:
                 # The words ask for help, or mean nothing: the tool ends as ever.
                 return int(ended.code or 0)
+            for one in getattr(parsed, "rules", ()):
+                one.check(parsed)
             files().take(parsed)
             return parsed.job(parsed, progress) or 0
 

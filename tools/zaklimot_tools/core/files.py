@@ -181,7 +181,8 @@ class Files:
     def refuse_input(self, path: str) -> None:
         """Ends the work where what is to be written is a file that is read."""
         output = _written_status(path)
-        for place, name in self._inputs.items():
+        # Other threads may add to them meanwhile.
+        for place, name in list(self._inputs.items()):
             status = status_of(place)
             if output is not None and status is not None and os.path.samestat(output, status):
                 raise Trouble(

@@ -13,6 +13,7 @@ import threading
 import time
 from concurrent.futures import ThreadPoolExecutor
 from contextlib import contextmanager, suppress
+from dataclasses import dataclass
 from pathlib import Path
 from threading import Event
 from typing import (
@@ -27,6 +28,7 @@ from typing import (
     Sequence,
     TypeVar,
     Union,
+    cast,
 )
 
 from .trouble import Trouble, Wrong
@@ -43,6 +45,8 @@ MEBIBYTE = 1 << 20
 # So much of what a program says at last is told, in lines and as one line; and so much of its
 # output is kept at most.
 MOST_SAID, MOST_IN_LINE, MOST_KEPT = 2000, 600, 1 << 28
+# So much of what a command said at last is kept whose output is read as it comes.
+MOST_STREAMED = 1 << 16
 TOO_LONG = "the command took too long"
 # Where each program comes from that may be lacking: the toolchain's, and those of Debian's
 # packages.
@@ -90,6 +94,21 @@ Made = TypeVar("Made")
 Hearer = Callable[[str], None]
 
 
+# The programs that run, of all threads; and whether these are to start no more of them.
+_under_way: set["subprocess.Popen[bytes]"] = set()
+_are_ending = Event()
+
+
+def end_all() -> None:
+    """Asks all programs to end that run now, until the threads have ended that have begun them.
+
+    Their readers come to the end of what they write, and start no others.
+    """
+    _are_ending.set()
+    for process in list(_under_way):
+        process.terminate()
+
+
 @contextmanager
 def _signals_held() -> Iterator[None]:
     """Keeps the signals back that end a tool while a program is started: Python loses one that
@@ -125,6 +144,8 @@ def started(words: Words, asking: float = 0, **given: Any) -> Iterator[subproces
     that can't be started is a Trouble.
     """
     process: Optional[subprocess.Popen[bytes]] = None
+    if _are_ending.is_set():
+        raise Trouble("the tool has been ended", str(words[0]))
     try:
         with _signals_held():
             try:
@@ -138,9 +159,13 @@ def started(words: Words, asking: float = 0, **given: Any) -> Iterator[subproces
                 raise Trouble(
                     "the system doesn't set these limits for it", str(words[0])
                 ) from error
+        _under_way.add(process)
+        if _are_ending.is_set():
+            process.terminate()
         yield process
     finally:
         if process is not None:
+            _under_way.discard(process)
             end(process, asking)
             for stream in (process.stdout, process.stderr):
                 if stream is not None:
@@ -174,11 +199,35 @@ def end(process: subprocess.Popen[bytes], asking: float = 0) -> None:
 
 class Limits(NamedTuple):
     """What a command may take: seconds, and bytes on its standard output. Of its messages so many
-    bytes are kept."""
+    bytes are kept.
+
+    With a limit of memory, in bytes, the system holds it to that and to its output: a write past it
+    fails as on a full disk, and the command goes on.
+    """
 
     seconds: float = 60
     output: int = 256 * MEBIBYTE
     messages: int = MEBIBYTE
+    memory: Optional[int] = None
+
+    def of_system(self) -> dict[str, Any]:
+        """What `Popen` is given for the limits that the system holds a command to."""
+        if self.memory is None:
+            return {}
+        import resource
+
+        most = {
+            resource.RLIMIT_CORE: 0,
+            resource.RLIMIT_AS: self.memory,
+            resource.RLIMIT_FSIZE: self.output,
+        }
+
+        def limit() -> None:
+            for what, value in most.items():
+                resource.setrlimit(what, (value, value))
+
+        # Python ignores the signal of a file that has become too large, and so shall the command.
+        return {"restore_signals": False, "preexec_fn": limit}
 
 
 class Outcome(NamedTuple):
@@ -186,6 +235,30 @@ class Outcome(NamedTuple):
 
     status: Optional[int]
     reason: str = ""
+
+
+@dataclass
+class Streamed:
+    """A command whose output is read as it comes: its status, and what it said at last, once that
+    was read."""
+
+    report: BinaryIO
+    status: int = 0
+    said: str = ""
+
+
+@contextmanager
+def streaming(words: Words, asking: float = 0, **given: Any) -> Iterator[Streamed]:
+    """Runs a command, and gives its output as a stream. What isn't read is lost, and the command is
+    told so. `asking` and `given` go to `started`."""
+    with tempfile.TemporaryFile() as said:
+        with started(words, asking, stdout=subprocess.PIPE, stderr=said, **given) as process:
+            streamed = Streamed(cast(BinaryIO, process.stdout))
+            with streamed.report:
+                yield streamed
+            streamed.status = process.wait()
+        said.seek(max(0, said.seek(0, os.SEEK_END) - MOST_STREAMED))
+        streamed.said = said.read().decode("utf-8", "replace")
 
 
 def run_command(
@@ -225,6 +298,7 @@ def run_command(
                 else ""
             )
 
+        given = {**limits.of_system(), **given}
         with started(words, asking, stdout=written, stderr=said, **given) as process:
             ended, pause = "", FIRST_PAUSE
             while not (ended or _has_ended(process)):
@@ -243,16 +317,27 @@ def _size(file: BinaryIO) -> int:
 
 @contextmanager
 def in_parallel(
-    work: Callable[[Item], Made], items: Iterable[Item], jobs: int, is_ended: Event
+    work: Callable[[Item], Made],
+    items: Iterable[Item],
+    jobs: int,
+    is_ended: Event,
+    ending: Callable[[], object] = bool,
 ) -> Iterator[Iterator[Made]]:
-    """What comes of items in their order, so many at a time. The event tells the work to end."""
-    with ThreadPoolExecutor(jobs) as pool:
-        try:
-            yield pool.map(work, items)
-        except BaseException:
-            is_ended.set()
-            pool.shutdown(wait=False, cancel_futures=True)
-            raise
+    """What comes of items in their order, so many at a time.
+
+    The event tells the work to end, and `ending` is called then.
+    """
+    try:
+        with ThreadPoolExecutor(jobs) as pool:
+            try:
+                yield pool.map(work, items)
+            except BaseException:
+                is_ended.set()
+                pool.shutdown(wait=False, cancel_futures=True)
+                ending()
+                raise
+    finally:
+        _are_ending.clear()
 
 
 def _has_ended(process: subprocess.Popen[bytes]) -> bool:

@@ -53,7 +53,7 @@ CYCLES = {name + width for name in ("out", "in", "put", "get") for width in ("",
 CHANGING = "oOiI"
 
 
-class Mode(NamedTuple):
+class ModeSet(NamedTuple):
     """What a mode set leaves: miscellaneous output, dots of a frame, memory map, and whether the
     clock is halved."""
 
@@ -64,12 +64,12 @@ class Mode(NamedTuple):
 
 
 MODES = {
-    0x03: Mode(0x67, 404_100, 3),
-    0x07: Mode(0x66, 404_100, 2),
-    0x0D: Mode(0x63, 179_600, is_halved=True),
-    0x10: Mode(0xA3, 359_200),
-    0x12: Mode(0xE3, 420_000),
-    0x13: Mode(0x63, 359_200),
+    0x03: ModeSet(0x67, 404_100, 3),
+    0x07: ModeSet(0x66, 404_100, 2),
+    0x0D: ModeSet(0x63, 179_600, is_halved=True),
+    0x10: ModeSet(0xA3, 359_200),
+    0x12: ModeSet(0xE3, 420_000),
+    0x13: ModeSet(0x63, 359_200),
 }
 
 

@@ -6,15 +6,7 @@ from itertools import islice, takewhile
 from pathlib import Path
 from typing import Iterator, NamedTuple, Optional
 
-from zaklimot.format import (
-    FAULT,
-    MOST_BYTES,
-    STATE,
-    Answer,
-    decimal,
-    lines_in,
-    steps_in,
-)
+from zaklimot.format import FAULT, MOST_BYTES, STATE, Answer, decimal, lines_in, steps_in
 from zaklimot.format.report import REFUSAL, VALUE
 from zaklimot_tools import TOP
 from zaklimot_tools.core.files import STANDARD, name_of

@@ -26,7 +26,7 @@ from zaklimot_tools.core.streams import counted, writing
 from zaklimot_tools.core.trouble import Trouble
 from zaklimot_tools.explain.faults import explained
 from zaklimot_tools.explain.registers import Registers
-from zaklimot_tools.script.program import Built, Limited, Tried
+from zaklimot_tools.script.program import BuiltProgram, Limited, Tried, fault_of
 from zaklimot_tools.script.reading import text_of
 
 from .expecting import (
@@ -133,7 +133,7 @@ def _kind(word: str) -> Callable[[Row], bool]:
     return lambda row: first <= row.step.number <= last
 
 
-class Script:
+class RunScript:
     """A script that is run: its file, and its steps as they stand in it and as the program
     understands them.
 
@@ -142,7 +142,12 @@ class Script:
     """
 
     def __init__(
-        self, path: str, data: bytes, program: Union[Built, Tried], shown: str, printed: BinaryIO
+        self,
+        path: str,
+        data: bytes,
+        program: Union[BuiltProgram, Tried],
+        shown: str,
+        printed: BinaryIO,
     ) -> None:
         self._path = path
         self.shown = shown
@@ -227,7 +232,7 @@ class Script:
             if next(steps, None) is not None:
                 raise Trouble(f"the report goes on after the last step, {wanted}", self.shown)
         if outcome.status:
-            raise self._trouble(outcome.fault, fonts)
+            raise self._trouble(fault_of(outcome), fonts)
         if wanted is None:
             raise Trouble(
                 "the program prints none of its steps, so there is no telling which were answered",
@@ -349,11 +354,11 @@ def _told(row: Row) -> dict[str, Any]:
 
 
 @contextmanager
-def tallied(shown: str, path: Optional[str]) -> Iterator[Tally]:
-    """The tally of a run, whose JSON goes into a file, where one is named: whole, also where a
-    trouble ends the run."""
+def tallied(shown: str, place: Union[str, BinaryIO, None]) -> Iterator[Tally]:
+    """The tally of a run, whose JSON goes into a file that is named or into a stream, if there is
+    one: whole, also where a trouble ends the run."""
     trouble: Optional[Trouble] = None
-    with nullcontext() if path is None else writing(path) as stream:
+    with writing(place) if isinstance(place, str) else nullcontext(place) as stream:
         tally = Tally(shown, stream)
         try:
             yield tally

@@ -67,12 +67,6 @@ def wanted_pictures(
 def pictures(words: argparse.Namespace, progress: Progress) -> int:
     """Writes the pictures of a report as files."""
     shape = Shape(words.scale, words.aspect)
-    if words.ppm and shape != Shape():
-        raise Trouble("--ppm gives the bytes as they are, with neither --scale nor --aspect")
-    if words.folder is None and words.apng is None:
-        raise Trouble("the pictures want a folder, or --apng a file")
-    if words.apng is not None and (words.folder is not None or words.ppm):
-        raise Trouble("--apng writes one file, with neither a folder nor --ppm")
     animation, name, count = Animation(shape), name_of(words.report), 0
     delays = delays_of(None if words.apng is None else words.script)
     if words.folder not in (None, STANDARD):

@@ -1,11 +1,12 @@
 """The words of the command line."""
 
 import argparse
+from functools import partial
 from typing import Callable
 
 from zaklimot_tools.core import cli
-from zaklimot_tools.core.cli import add
-from zaklimot_tools.core.files import Input, Output, PictureFolder
+from zaklimot_tools.core.cli import add, rule
+from zaklimot_tools.core.files import STANDARD, Input, Output, PictureFolder
 from zaklimot_tools.core.progress import Progress
 from zaklimot_tools.core.words import MOST_JOBS, MOST_OUTPUT, MOST_STEP, number_to, seconds
 from zaklimot_tools.images.holding import within
@@ -13,6 +14,7 @@ from zaklimot_tools.images.words import add_shape
 from zaklimot_tools.script.words import add_program
 
 from .cases import SUITE
+from .modes import is_several
 from .reports import check, compare, compare_picture, pictures, text
 from .runs import run
 from .suite import scripts, suite
@@ -116,6 +118,63 @@ def _add_run(parser: argparse.ArgumentParser) -> None:
     add(parser, "--watch", "runs again when the script or the font file changes")
     add(parser, "--build", "proves and builds the program first, if it is missing")
     add_shape(parser)
+    _add_rules_of_run(parser)
+
+
+def _has_pictures(words: argparse.Namespace) -> bool:
+    return words.bless or words.pictures is not None or words.show
+
+
+def _add_rules_of_run(parser: argparse.ArgumentParser) -> None:
+    """What the options of `run` ask of one another."""
+    wanted = partial(rule, parser)
+    wanted(
+        "bless",
+        lambda words: words.script == STANDARD or words.until is not None,
+        "--bless writes into the script, whole: it wants a file, and no --until",
+    )
+    wanted(
+        "bless",
+        lambda words: words.diff or words.json is not None,
+        "--bless lists its changes: without --diff and --json",
+    )
+    wanted(
+        "dry_run",
+        lambda words: not words.bless,
+        "--dry-run tells what --bless would write: it wants --bless",
+    )
+    wanted(
+        "html",
+        _has_pictures,
+        "--html writes a page that has the pictures: without --bless, --pictures and --show",
+    )
+    wanted(
+        "script",
+        lambda words: is_several(words)
+        and (_has_pictures(words) or words.html or words.debug or words.only),
+        "a folder of scripts, and --junit, want none of --bless, --only, --pictures, --show, "
+        "--html and --debug",
+    )
+    wanted(
+        "watch",
+        lambda words: words.script == STANDARD,
+        "--watch wants a file that changes, and not standard input",
+    )
+    wanted(
+        "debug",
+        _has_pictures,
+        "--debug writes a page that runs the script: without --bless, --pictures and --show",
+    )
+    wanted(
+        "debug",
+        lambda words: words.html is None and (words.only or words.try_ or words.vga),
+        "--debug runs nothing here: without --only, --try and --vga, unless --html is there too",
+    )
+    wanted(
+        "debug",
+        lambda words: words.html is not None and STANDARD in (words.html, words.debug),
+        "the page of --html links to that of --debug: both want files",
+    )
 
 
 def _add_pictures(parser: argparse.ArgumentParser) -> None:
@@ -136,6 +195,22 @@ def _add_pictures(parser: argparse.ArgumentParser) -> None:
     steps = {"type": number_to(MOST_STEP), "action": "append", "default": []}
     add(parser, "--step N", "writes only the picture of this step; may be repeated", **steps)
     add_shape(parser)
+    wanted = partial(rule, parser)
+    wanted(
+        "ppm",
+        lambda words: words.scale != 1 or words.aspect,
+        "--ppm gives the bytes as they are, with neither --scale nor --aspect",
+    )
+    wanted(
+        "report",
+        lambda words: words.folder is None and words.apng is None,
+        "the pictures want a folder, or --apng a file",
+    )
+    wanted(
+        "apng",
+        lambda words: words.folder is not None or words.ppm,
+        "--apng writes one file, with neither a folder nor --ppm",
+    )
 
 
 def parser() -> argparse.ArgumentParser:

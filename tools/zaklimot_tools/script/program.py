@@ -4,17 +4,16 @@ import io
 import os
 import re
 import shutil
-import subprocess
 import tempfile
 from contextlib import contextmanager, suppress
 from dataclasses import dataclass
 from itertools import islice
 from pathlib import Path
-from typing import Any, BinaryIO, ContextManager, Iterator, Optional, Sequence, cast
+from typing import BinaryIO, ContextManager, Iterator, Optional, Sequence
 
 from zaklimot.format import FAULT, MOST_BYTES, ScriptFault, read
 from zaklimot_tools import TOP
-from zaklimot_tools.core.processes import ENDING, check_program, run, started
+from zaklimot_tools.core.processes import ENDING, Streamed, check_program, run, streaming
 from zaklimot_tools.core.progress import Progress
 from zaklimot_tools.core.streams import bytes_of, to_read
 from zaklimot_tools.core.trouble import Trouble
@@ -34,8 +33,6 @@ MOST_PRINTED = 7 << 24
 CHUNK = 1 << 16
 # A script of a step, and how its report begins.
 ONE_STEP, FIRST_ANSWER = b"in 3CC\n", b"1 "
-# So much of what the program says at last is looked at.
-MOST_SAID = 1 << 16
 # What a run without proofs may take.
 LIMITS = "60 seconds and 1 MiB of output, which two pictures of text fill"
 NO_SOURCES = (
@@ -50,19 +47,10 @@ NO_PROGRAM = "there is no program vga, and portable/ has no sources of it: "
 NAME_ONE = "--vga names one"
 
 
-@dataclass
-class Outcome:
-    """How a run ended: its status, known once the report was read, and what the program said."""
-
-    report: BinaryIO
-    status: int = 0
-    said: str = ""
-
-    @property
-    def fault(self) -> str:
-        """The fault that ended the run, or else what was said last."""
-        found = FAULT.search(self.said)
-        return found[0] if found else (self.said.strip().splitlines() or [""])[-1]
+def fault_of(run: Streamed) -> str:
+    """The fault that ended a run, or else what was said last."""
+    found = FAULT.search(run.said)
+    return found[0] if found else (run.said.strip().splitlines() or [""])[-1]
 
 
 def _in_path() -> Optional[str]:
@@ -102,19 +90,6 @@ def found_program(named: Optional[str] = None, instead: str = NAME_ONE) -> str:
     return to_read(found) if found is not None else portable_program()
 
 
-@contextmanager
-def _running(words: Sequence[str], asking: float = 0, **given: Any) -> Iterator[Outcome]:
-    with tempfile.TemporaryFile() as said:
-        with started(words, asking, stdout=subprocess.PIPE, stderr=said, **given) as process:
-            outcome = Outcome(cast(BinaryIO, process.stdout))
-            with outcome.report:
-                yield outcome
-            # What was not read is lost, and the program is told so.
-            outcome.status = process.wait()
-        said.seek(max(0, said.seek(0, io.SEEK_END) - MOST_SAID))
-        outcome.said = said.read().decode("utf-8", "replace")
-
-
 def _words(script: str, fonts: str, until: Optional[int], is_bytes: bool) -> list[str]:
     stop = [] if until is None else ["--until", str(until)]
     return ["run" if is_bytes else "go", script, "--fonts", fonts, *stop]
@@ -143,16 +118,16 @@ def build_program(progress: Progress) -> None:
 
 
 @dataclass
-class Built:
+class BuiltProgram:
     """The program as it was built."""
 
     path: str
 
     def running(
         self, script: Path, fonts: str, until: Optional[int], is_bytes: bool
-    ) -> ContextManager[Outcome]:
+    ) -> ContextManager[Streamed]:
         """A run of a script, as text or as bytes."""
-        return _running([self.path, *_words(str(script), fonts, until, is_bytes)])
+        return streaming([self.path, *_words(str(script), fonts, until, is_bytes)])
 
     def print_steps(self, script: Path, is_bytes: bool, printed: BinaryIO) -> None:
         """Prints the steps of a script as the program understands them; nothing where it has a
@@ -165,7 +140,7 @@ class Built:
 
     def _writes(self, words: Sequence[str], output: BinaryIO) -> bool:
         left = MOST_PRINTED
-        with _running([self.path, *words]) as outcome:
+        with streaming([self.path, *words]) as outcome:
             while chunk := outcome.report.read(CHUNK):
                 left -= len(chunk)
                 if left < 0:
@@ -189,11 +164,11 @@ def check_program_runs(program: str, fonts: str) -> None:
     with tempfile.TemporaryDirectory(prefix="vga-trying-") as name:
         script = Path(name) / "script"
         script.write_bytes(ONE_STEP)
-        with Built(program).running(script, fonts, None, False) as outcome:
+        with BuiltProgram(program).running(script, fonts, None, False) as outcome:
             report = outcome.report.read(CHUNK)
     if not report.startswith(FIRST_ANSWER):
         raise Trouble(
-            f"it runs no script with {fonts}: {outcome.fault or 'it says nothing'}", program
+            f"it runs no script with {fonts}: {fault_of(outcome) or 'it says nothing'}", program
         )
 
 
@@ -216,13 +191,13 @@ class Tried:
     @contextmanager
     def running(
         self, script: Path, fonts: str, until: Optional[int], is_bytes: bool
-    ) -> Iterator[Outcome]:
+    ) -> Iterator[Streamed]:
         """A run of a script, as text or as bytes."""
         files = ["--data", f"script={script.resolve()}", "--data", f"fonts={Path(fonts).resolve()}"]
         words = ["rt", "try", *files, "--", *_words("script", "fonts", until, is_bytes)]
         # What it leaves when it is ended goes with this folder.
         with tempfile.TemporaryDirectory(prefix="vga-report-") as temporary:
-            with _running(
+            with streaming(
                 words, ENDING, cwd=_crate(), env={**os.environ, "TMPDIR": temporary}
             ) as outcome:
                 yield outcome
@@ -231,7 +206,7 @@ class Tried:
             # What `rt` can't build has no steps before the second picture either.
             before = 0 if found is None else _steps_before_second(script, until)
             told = f"; --until {before} ends before the second" if before else ""
-            reason = found[1] if found else outcome.fault
+            reason = found[1] if found else fault_of(outcome)
             raise Limited(
                 f"rt try has not run it to its end, within {LIMITS}{told}: {reason}", before
             )

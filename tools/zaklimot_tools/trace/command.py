@@ -32,7 +32,7 @@ from zaklimot_tools.script.words import add_program
 
 from . import inpage
 from .converting import CLOCK, END, FLIP, SCREENS, Listing, check, convert, count
-from .recording import TRACE, Deed, Machine, chain_4, record
+from .recording import TRACE, Deed, QemuMachine, chain_4, record
 from .replaying import replay, shown
 from .trace import Trace, opened
 
@@ -344,9 +344,9 @@ def _record(words: argparse.Namespace, progress: Progress) -> int:
     try:
         with TemporaryDirectory(prefix="vga-trace-") as made:
             plugin = chain_4(Path(made)) if words.chain_4 else []
-            machine: Union[Machine, inpage.PageMachine]
+            machine: Union[QemuMachine, inpage.PageMachine]
             if words.in_page is None:
-                machine = Machine(
+                machine = QemuMachine(
                     ["-device", words.card or "VGA", *plugin, *words.qemu],
                     deeds,
                     words.quiet,
@@ -366,7 +366,7 @@ def _record(words: argparse.Namespace, progress: Progress) -> int:
 
 
 def _judge(
-    machine: Union[Machine, inpage.PageMachine],
+    machine: Union[QemuMachine, inpage.PageMachine],
     folder: Path,
     program: str,
     fonts: str,

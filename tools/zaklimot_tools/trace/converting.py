@@ -42,7 +42,7 @@ from .step import (
     PORTS,
     PUT,
     PUTW,
-    Step,
+    TraceStep,
     steps_of,
     without_polls,
 )
@@ -61,7 +61,7 @@ BLOCK_BYTES, MOST_GROUP = format.Block(1, ()).size, 8
 # are fetched at once.
 AHEAD, FETCHED = 64, 4096
 # A step as its bytes or its line.
-Code = Callable[[Step], bytes]
+Code = Callable[[TraceStep], bytes]
 # Microseconds that are put together before they become a step: about a line.
 LEAST_PAUSE = 30
 WRITES = (OUT, OUTW, PUT, PUTW, INT)
@@ -72,10 +72,10 @@ START_ADDRESS = (0x0C, 0x0D)
 WINDOWS = {0x14: "A0000", 0x15: "A0000", 0x16: "B0000", 0x17: "B8000"}
 
 
-def advances(dots: int) -> Iterator[Step]:
+def advances(dots: int) -> Iterator[TraceStep]:
     """The steps by which so many dots pass."""
     for left in range(dots, 0, -MOST_ADVANCE):
-        yield Step(ADVANCE, min(left, MOST_ADVANCE))
+        yield TraceStep(ADVANCE, min(left, MOST_ADVANCE))
 
 
 class Pauses:
@@ -88,7 +88,7 @@ class Pauses:
         self._owed = 0
         self.backwards = 0
 
-    def steps(self, steps: Iterable[Step]) -> Iterator[Step]:
+    def steps(self, steps: Iterable[TraceStep]) -> Iterator[TraceStep]:
         """The steps, with the clock advanced before those to which time has passed."""
         for step in steps:
             dots = self._dots(step.time) if step.dots is None else self._exact(step)
@@ -96,7 +96,7 @@ class Pauses:
             self._registers.take(step.step)
             yield step
 
-    def _exact(self, step: Step) -> int:
+    def _exact(self, step: TraceStep) -> int:
         """The dots before a step that the trace tells. A frame lets its last dot pass itself."""
         self._last, self._owed = step.time, 0
         return max(0, (step.dots or 0) - (step.opcode == FRAME))
@@ -132,7 +132,7 @@ class Clocked:
         self._is_changed = False
         self.shortened, self.left_out = 0, 0.0
 
-    def steps(self, steps: Iterable[Step]) -> Iterator[Step]:
+    def steps(self, steps: Iterable[TraceStep]) -> Iterator[TraceStep]:
         """The steps, with the frames that end before them, and the time until the end of the
         last."""
         for step in steps:
@@ -143,7 +143,7 @@ class Clocked:
             yield step
         yield from self._passed()
 
-    def _frames(self, now: float) -> Iterator[Step]:
+    def _frames(self, now: float) -> Iterator[TraceStep]:
         frame = self._registers.frame()
         if self._ends is None:
             self._ends = now + frame
@@ -151,11 +151,11 @@ class Clocked:
             return
         if self._is_changed:
             yield from self._passed()
-            yield Step(FRAME)
+            yield TraceStep(FRAME)
             self._drawn, self._is_changed = self._ends, False
         self._ends += ((now - self._ends) // frame + 1) * frame
 
-    def _passed(self) -> Iterator[Step]:
+    def _passed(self) -> Iterator[TraceStep]:
         seconds = 0.0 if self._drawn is None or self._ends is None else self._ends - self._drawn
         if seconds > self.longest:
             self.shortened += 1
@@ -167,7 +167,7 @@ class Clocked:
         yield from advances(0 if speed is None else speed[0] * max(frames, 0))
 
 
-def with_flips(steps: Iterable[Step]) -> Iterator[Step]:
+def with_flips(steps: Iterable[TraceStep]) -> Iterator[TraceStep]:
     """The steps, with a frame before each write that changes the start address: what was drawn
     until then.
 
@@ -188,19 +188,19 @@ def with_flips(steps: Iterable[Step]) -> Iterator[Step]:
                 address[index] = value
         # A step that goes on with a flip that another has begun has no frame of its own.
         if address != last and not is_flipping:
-            yield Step(FRAME, time=step.time)
+            yield TraceStep(FRAME, time=step.time)
         is_flipping = address != last or (is_flipping and bool(written) and index in address)
         yield step
 
 
-def with_frames_every(seconds: float, steps: Iterable[Step]) -> Iterator[Step]:
+def with_frames_every(seconds: float, steps: Iterable[TraceStep]) -> Iterator[TraceStep]:
     """The steps, with a frame each time that so many seconds have passed by their times."""
     pause = max(int(seconds * 1_000_000), 1)
     due: Optional[int] = None
     for step in steps:
         if step.time is not None and (due is None or step.time >= due):
             if due is not None:
-                yield Step(FRAME, time=step.time)
+                yield TraceStep(FRAME, time=step.time)
             due = step.time + pause
         yield step
 
@@ -232,7 +232,7 @@ class Listing:
         self._pauses, self._clocked = Pauses(), Clocked(longest)
         self.rebuilding = 0
 
-    def steps(self) -> Iterator[Step]:
+    def steps(self) -> Iterator[TraceStep]:
         """The steps, and the frame at the end. Where time passes there are two: the first began
         amid the cycles."""
         steps = steps_of(self.trace.cycles(self._most), self.trace.screens)
@@ -251,7 +251,7 @@ class Listing:
         if self._has_time:
             steps = self._pauses.steps(steps)
         yield from steps if self._first == 1 else self._from_the_middle(steps)
-        yield from [Step(FRAME)] * (2 if self._has_time else 1)
+        yield from [TraceStep(FRAME)] * (2 if self._has_time else 1)
 
     def warnings(self) -> Iterator[str]:
         """What the trace lacks, a line each; the steps must have passed."""
@@ -268,7 +268,7 @@ class Listing:
         if self._is_timed and self.trace.untimed:
             yield f"{self.trace.untimed:,} cycles have no time, and come without a pause"
 
-    def _from_the_middle(self, steps: Iterator[Step]) -> Iterator[Step]:
+    def _from_the_middle(self, steps: Iterator[TraceStep]) -> Iterator[TraceStep]:
         state = State()
         for step in steps:
             if step.cycle >= self._first:
@@ -292,36 +292,36 @@ class Listing:
         yield step
         yield from steps
 
-    def _with_screens(self, steps: Iterator[Step]) -> Iterator[Step]:
+    def _with_screens(self, steps: Iterator[TraceStep]) -> Iterator[TraceStep]:
         screens, dots, taken = self.trace.screens, self.trace.screen_dots, 0
         for step in steps:
             passed = 0
             while taken < len(screens) and screens[taken] < step.cycle:
-                yield Step(FRAME, time=step.time, dots=dots[taken])
+                yield TraceStep(FRAME, time=step.time, dots=dots[taken])
                 passed += dots[taken] or 0
                 taken += 1
             # The dots of the screens are among those since the cycle before.
             yield step if step.dots is None else step._replace(dots=step.dots - passed)
-        yield from (Step(FRAME, dots=last) for last in dots[taken:])
+        yield from (TraceStep(FRAME, dots=last) for last in dots[taken:])
 
-    def _timed(self, steps: Iterator[Step]) -> Iterator[Step]:
+    def _timed(self, steps: Iterator[TraceStep]) -> Iterator[TraceStep]:
         for number, step in enumerate(steps):
             if number == 0 and step.time is None:
                 raise self.trace.trouble("the first cycle has no time, and time is asked for")
             yield step
 
 
-class Row(NamedTuple):
+class Repeated(NamedTuple):
     """Steps with their codes, which a script has so often; the cycle of the last one, 0 where it is
     none's."""
 
-    steps: Sequence[Step]
+    steps: Sequence[TraceStep]
     codes: Sequence[bytes]
     count: int  # type: ignore[assignment]
     cycle: int
 
 
-def folded(steps: Iterable[Step], code: Code, has_blocks: bool = True) -> Iterator[Row]:
+def folded(steps: Iterable[TraceStep], code: Code, has_blocks: bool = True) -> Iterator[Repeated]:
     """The steps, but rows of equal steps or equal groups as blocks where these have at most half of
     the bytes.
 
@@ -341,15 +341,15 @@ def folded(steps: Iterable[Step], code: Code, has_blocks: bool = True) -> Iterat
         ):
             ahead.at, count = ahead.at + size, count + 1
             last = ahead.steps[ahead.at - 1]
-        yield Row(group, codes, count, last.cycle)
+        yield Repeated(group, codes, count, last.cycle)
 
 
 class _Ahead:
     """The steps that come next, from a place on, and their codes."""
 
-    def __init__(self, rest: Iterator[Step], code: Code) -> None:
+    def __init__(self, rest: Iterator[TraceStep], code: Code) -> None:
         self._rest, self._code = rest, code
-        self.steps: list[Step] = []
+        self.steps: list[TraceStep] = []
         self.codes: list[bytes] = []
         self.at = 0
 
@@ -395,7 +395,7 @@ class Written:
         """How many steps it means."""
         return sum(self.kinds.values())
 
-    def row(self, row: Row) -> bytes:
+    def row(self, row: Repeated) -> bytes:
         """Counts a row; what the script has of it."""
         body = b"".join(row.codes)
         for step in row.steps:
@@ -440,7 +440,7 @@ def convert(
     Rows of equal steps become blocks, which version 2 has, if these are wanted.
     """
     written, body = Written(is_text), bytearray()
-    for row in folded(listing.steps(), Step.text if is_text else Step.data, has_blocks):
+    for row in folded(listing.steps(), TraceStep.text if is_text else TraceStep.data, has_blocks):
         body += written.row(row)
         if (
             max(written.script_bytes, written.text_bytes) > MOST_BYTES - FOR_THE_END
@@ -504,7 +504,7 @@ class Checked:
         kinds[kind] += 1
         self.examples.setdefault(kind, f"first at step {told}")
 
-    def take(self, step: Step, answer: Answer, kind: str, is_exact: bool = False) -> None:
+    def take(self, step: TraceStep, answer: Answer, kind: str, is_exact: bool = False) -> None:
         """Counts a step and its answer. A trace without dots doesn't tell where the beam is: of
         input status 1 these bits don't count then.
         """
@@ -526,7 +526,7 @@ class Checked:
                 )
 
 
-def _judged(step: Step, number: int, answer: Optional[Answer], name: str) -> Answer:
+def _judged(step: TraceStep, number: int, answer: Optional[Answer], name: str) -> Answer:
     """The answer of a step; a Trouble where the report has none, or one that is no answer of such a
     step."""
     if answer is None:
@@ -550,7 +550,7 @@ def _judged(step: Step, number: int, answer: Optional[Answer], name: str) -> Ans
 
 
 def check(
-    steps: Iterable[Step], answers: Iterator[Answer], name: str, has_time: bool = False
+    steps: Iterable[TraceStep], answers: Iterator[Answer], name: str, has_time: bool = False
 ) -> Checked:
     """Holds the answers of a report, which messages call by a name, against the steps of a trace.
 
@@ -592,7 +592,7 @@ def count(cycles: Iterable[Cycle]) -> Counter[str]:
     return found
 
 
-def _place(step: Step, registers: Registers) -> str:
+def _place(step: TraceStep, registers: Registers) -> str:
     """What a step is about: a function of the BIOS, a window of memory, or a port, of data with its
     register's index."""
     if step.call is not None:

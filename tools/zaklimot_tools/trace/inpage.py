@@ -104,7 +104,7 @@ MODIFIERS = {"Shift": "shiftKey", "Control": "ctrlKey", "Alt": "altKey"}
 @dataclass(frozen=True)
 class PageMachine:
     """What the page's machine runs, what is done to it in this order, and how long: see
-    `recording.Machine`.
+    `recording.QemuMachine`.
 
     Seconds are the machine's own. `chosen` is the file of a ZIP that runs.
     """

@@ -72,7 +72,7 @@ class Deed(NamedTuple):
 
 
 @dataclass(frozen=True)
-class Machine:
+class QemuMachine:
     """What a machine is made of, what is done to it in this order, and how long its software is
     waited for.
 
@@ -127,7 +127,7 @@ class Session:
     """A machine that runs, with its dumps in a folder: what is done to it, and the seconds of its
     screens."""
 
-    machine: Machine
+    machine: QemuMachine
     process: subprocess.Popen[bytes]
     keeper: Keeper
     folder: Path
@@ -219,7 +219,7 @@ def dump(folder: Path, number: int) -> Path:
     return folder / f".dump.{number}.ppm"
 
 
-def _qemu(machine: Machine, folder: Path) -> list[str]:
+def _qemu(machine: QemuMachine, folder: Path) -> list[str]:
     (folder / "events").write_text(EVENTS, encoding="ascii")
     return [
         "nice",
@@ -258,7 +258,7 @@ def _reached(folder: Path, process: subprocess.Popen[bytes]) -> Iterator[tuple[M
         yield do, log
 
 
-def record(machine: Machine, kept: Path, say: Say, progress: Progress) -> list[float]:
+def record(machine: QemuMachine, kept: Path, say: Say, progress: Progress) -> list[float]:
     """Leaves a trace and the dumps of screens in a folder; answers the seconds of each screen.
 
     `say` tells what may spoil them.

@@ -28,12 +28,12 @@ from zaklimot_tools.images.png import save_png
 from zaklimot_tools.images.reading import Image, image_bytes, image_of
 from zaklimot_tools.report.report import Report
 from zaklimot_tools.report.reports import delays_of
-from zaklimot_tools.script.program import Built
+from zaklimot_tools.script.program import BuiltProgram, fault_of
 
 from .converting import SCREENS, Checked, Listing, Written, check, convert
 from .recording import PHASES, TRACE, dump
 from .state import State
-from .step import Step
+from .step import TraceStep
 from .trace import opened
 
 # A run may take so many seconds and bytes.
@@ -275,7 +275,7 @@ class Replay:
     is_own: bool = False
     _dumps: int = 0
 
-    def steps(self) -> Iterator[Step]:
+    def steps(self) -> Iterator[TraceStep]:
         """The steps, of which the state is kept, as far as something hangs on it."""
         for step in self.listing.steps():
             if not self.is_own:
@@ -347,7 +347,7 @@ def shown(
     """
     delay, seconds = delays_of(str(script)), 0.0
     last: Picture | None = None
-    with Built(program).running(script, fonts, None, True) as outcome:
+    with BuiltProgram(program).running(script, fonts, None, True) as outcome:
         for answer in Report(cast(io.BufferedReader, outcome.report), "report").steps():
             if not isinstance(answer.picture, Picture):
                 continue
@@ -356,7 +356,7 @@ def shown(
                 seconds = 0.0
             last, seconds = answer.picture, seconds + delay(answer.number)
     if outcome.status:
-        raise Trouble(f"it ended with status {outcome.status}: {outcome.fault}", program)
+        raise Trouble(f"it ended with status {outcome.status}: {fault_of(outcome)}", program)
     if last is None:
         raise Trouble("no frame has a picture")
     yield last, seconds + at_last

@@ -12,7 +12,7 @@ from typing import Callable, Iterable, Iterator, Mapping, Optional, Sequence, Ty
 
 from zaklimot_tools.explain.registers import shape_of
 
-from .step import ADVANCE, FRAME, GET, GETW, IN, INW, OUT, OUTW, PUT, PUTW, READS, WORDS, Step
+from .step import ADVANCE, FRAME, GET, GETW, IN, INW, OUT, OUTW, PUT, PUTW, READS, WORDS, TraceStep
 
 
 ATTRIBUTE, ATTRIBUTE_READ, MISC, SEQUENCER, MASK = 0x3C0, 0x3C1, 0x3C2, 0x3C4, 0x3C6
@@ -91,7 +91,7 @@ class State:
         crtc = self.crtc.registers
         return shape_of(self.seq.registers[1], crtc[0], crtc[6], crtc[7])
 
-    def take(self, step: Step) -> Optional[int]:
+    def take(self, step: TraceStep) -> Optional[int]:
         """Takes a step, and answers what it reads; None of a write and of a refusal. Of input
         status 1 all bits are 0."""
         opcode, address, value = step.opcode, step.address, step.value
@@ -398,7 +398,7 @@ class Beam:
         self.frame, self.place = (self.frame + 1) % FRAMES, (0, 0, 0)
 
 
-def rebuilt(state: State) -> Iterator[Step]:
+def rebuilt(state: State) -> Iterator[TraceStep]:
     """The steps that take the adapter from power-on to a state. What they read is what it answers
     then."""
     taking = State()
@@ -407,11 +407,11 @@ def rebuilt(state: State) -> Iterator[Step]:
         yield step._replace(value=read) if step.opcode in READS and read is not None else step
 
 
-def _register(port: int, index: int, value: int) -> Step:
-    return Step(OUTW, port, value << 8 | index)
+def _register(port: int, index: int, value: int) -> TraceStep:
+    return TraceStep(OUTW, port, value << 8 | index)
 
 
-def map_mask(planes: int) -> Step:
+def map_mask(planes: int) -> TraceStep:
     """Lets writes reach these planes alone."""
     return _register(SEQUENCER, MAP_MASK, planes)
 
@@ -424,11 +424,11 @@ def masks_of(values: Iterable[Value]) -> dict[Value, int]:
     return masks
 
 
-def _steps(state: State, begin: State) -> Iterator[Step]:
+def _steps(state: State, begin: State) -> Iterator[TraceStep]:
     if state.beam.frame:
         # A frame at power-on has fewer dots than any other.
-        yield Step(ADVANCE, state.beam.frame * prod(begin.shape))
-    yield Step(OUT, MISC, state.misc | ENABLE_MEMORY)
+        yield TraceStep(ADVANCE, state.beam.frame * prod(begin.shape))
+    yield TraceStep(OUT, MISC, state.misc | ENABLE_MEMORY)
     yield from (_register(*setting) for setting in PLANAR)
     yield from _latches(state.memory.latches)
     yield from _planes(state.memory.words)
@@ -442,27 +442,27 @@ def _steps(state: State, begin: State) -> Iterator[Step]:
         (SEQUENCER, state.seq),
         (state.controller, state.crtc),
     ):
-        yield Step(OUT, port, bank.index)
+        yield TraceStep(OUT, port, bank.index)
     if not state.misc & ENABLE_MEMORY:
-        yield Step(OUT, MISC, state.misc)
+        yield TraceStep(OUT, MISC, state.misc)
 
 
-def _latches(latches: int) -> Iterator[Step]:
+def _latches(latches: int) -> Iterator[TraceStep]:
     """Latches are loaded from memory, which has them for as long."""
     if not latches:
         return
     for plane in range(PLANES):
         yield map_mask(1 << plane)
-        yield Step(PUT, FIRST_ADDRESS, latches >> 8 * plane & 0xFF)
-    yield Step(GET, FIRST_ADDRESS)
+        yield TraceStep(PUT, FIRST_ADDRESS, latches >> 8 * plane & 0xFF)
+    yield TraceStep(GET, FIRST_ADDRESS)
     yield map_mask(ALL_PLANES)
-    yield Step(PUT, FIRST_ADDRESS, 0)
+    yield TraceStep(PUT, FIRST_ADDRESS, 0)
 
 
-def _planes(words: list[int]) -> Iterator[Step]:
+def _planes(words: list[int]) -> Iterator[TraceStep]:
     """What isn't 0 in the planes, two offsets a step, and once for all planes that have the same
     there."""
-    steps: dict[int, list[Step]] = {}
+    steps: dict[int, list[TraceStep]] = {}
     for offset in range(0, PLANE_BYTES, 2):
         low, high = words[offset], words[offset + 1]
         if not (low or high):
@@ -472,38 +472,38 @@ def _planes(words: list[int]) -> Iterator[Step]:
         )
         for value, planes in masks_of(values).items():
             if value:
-                steps.setdefault(planes, []).append(Step(PUTW, FIRST_ADDRESS + offset, value))
+                steps.setdefault(planes, []).append(TraceStep(PUTW, FIRST_ADDRESS + offset, value))
     for planes in sorted(steps):
         yield map_mask(planes)
         yield from steps[planes]
 
 
-def _attributes(state: State) -> Iterator[Step]:
+def _attributes(state: State) -> Iterator[TraceStep]:
     """The attribute controller: its palette is written before it is looked at; what is written next
     is as it was."""
     status = state.controller + STATUS
-    yield Step(IN, status)
+    yield TraceStep(IN, status)
     for index, value in enumerate(state.attr.registers):
-        yield Step(OUT, ATTRIBUTE, index)
-        yield Step(OUT, ATTRIBUTE, value)
-    yield Step(OUT, ATTRIBUTE, state.attr.index)
+        yield TraceStep(OUT, ATTRIBUTE, index)
+        yield TraceStep(OUT, ATTRIBUTE, value)
+    yield TraceStep(OUT, ATTRIBUTE, state.attr.index)
     if not state.is_data:
-        yield Step(IN, status)
+        yield TraceStep(IN, status)
 
 
-def _dac(state: State) -> Iterator[Step]:
+def _dac(state: State) -> Iterator[TraceStep]:
     """The DAC: its entries, what waits for blue, and which component is next, by reading those
     before it."""
     dac = state.dac
-    yield Step(OUT, MASK, dac.mask)
-    yield Step(OUT, DAC_WRITE, 0)
-    yield from (Step(OUT, DAC_DATA, component) for component in dac.components)
-    yield from (Step(OUT, DAC_DATA, component) for component in dac.waiting)
-    yield Step(OUT, DAC_WRITE, dac.index)
-    yield from [Step(IN, DAC_DATA)] * dac.next
+    yield TraceStep(OUT, MASK, dac.mask)
+    yield TraceStep(OUT, DAC_WRITE, 0)
+    yield from (TraceStep(OUT, DAC_DATA, component) for component in dac.components)
+    yield from (TraceStep(OUT, DAC_DATA, component) for component in dac.waiting)
+    yield TraceStep(OUT, DAC_WRITE, dac.index)
+    yield from [TraceStep(IN, DAC_DATA)] * dac.next
 
 
-def _controller(state: State) -> Iterator[Step]:
+def _controller(state: State) -> Iterator[TraceStep]:
     """The CRT controller, and the beam's place in its frame, which began with registers of that
     time."""
     port, registers = state.controller, state.crtc.registers
@@ -514,5 +514,5 @@ def _controller(state: State) -> Iterator[Step]:
             yield _register(port, index, taken.get(index, value))
     yield _register(port, RETRACE_END, registers[RETRACE_END])
     if not state.beam.is_at_begin:
-        yield Step(ADVANCE, state.beam.drawn(state.shape))
+        yield TraceStep(ADVANCE, state.beam.drawn(state.shape))
         yield from (_register(port, index, registers[index]) for index in TAKEN)

@@ -18,7 +18,7 @@ STATUS = (0x3DA, 0x3BA)
 BEAM_BITS = 0x09
 
 
-class Step(NamedTuple):
+class TraceStep(NamedTuple):
     """A step. `address` has the dots of `advance`; `value` is what was written or, in the trace,
     read.
 
@@ -68,37 +68,37 @@ class Step(NamedTuple):
         return line.encode() + b"\n"
 
 
-def _narrowed(number: int, cycle: Cycle) -> Iterator[Step]:
+def _narrowed(number: int, cycle: Cycle) -> Iterator[TraceStep]:
     """The steps of a cycle: one of four or eight bytes becomes words, the lowest first."""
     if cycle.space == CALL:
-        yield Step(INT, 0, 0, cycle.time, number, cycle.dots, cycle.call)
+        yield TraceStep(INT, 0, 0, cycle.time, number, cycle.dots, cycle.call)
         return
     opcode = (OUT if cycle.space == PORT else PUT) + (0 if cycle.is_write else 2)
     if cycle.size == 1:
-        yield Step(opcode, cycle.address, cycle.value, cycle.time, number, cycle.dots)
+        yield TraceStep(opcode, cycle.address, cycle.value, cycle.time, number, cycle.dots)
         return
     for at in range(0, cycle.size, 2):
         dots = cycle.dots if at == 0 or cycle.dots is None else 0
-        yield Step(
+        yield TraceStep(
             opcode + 1, cycle.address + at, cycle.value >> 8 * at & 0xFFFF, cycle.time, number, dots
         )
 
 
-def steps_of(cycles: Iterable[Cycle], apart: Sequence[int] = ()) -> Iterator[Step]:
+def steps_of(cycles: Iterable[Cycle], apart: Sequence[int] = ()) -> Iterator[TraceStep]:
     """The steps of cycles. A byte of memory at an even address and the next one become a word, as
     software meant them.
 
     The two stay apart after cycles of some numbers, which may be found while the cycles pass; and
     where dots are known, since a trace that tells them tells the width as well.
     """
-    held: Optional[Step] = None
+    held: Optional[TraceStep] = None
     numbered = ((number, cycle) for number, cycle in enumerate(cycles, 1) if cycle.space != VBE)
     for step in (step for number, cycle in numbered for step in _narrowed(number, cycle)):
         is_next = (
             held is not None and step.opcode == held.opcode and step.address == held.address + 1
         )
         if held is not None and is_next and step.dots is None and held.cycle not in apart:
-            yield Step(
+            yield TraceStep(
                 held.opcode + 1, held.address, held.value | step.value << 8, held.time, step.cycle
             )
             held = None
@@ -112,7 +112,7 @@ def steps_of(cycles: Iterable[Cycle], apart: Sequence[int] = ()) -> Iterator[Ste
         yield held
 
 
-def without_polls(steps: Iterable[Step]) -> Iterator[Step]:
+def without_polls(steps: Iterable[TraceStep]) -> Iterator[TraceStep]:
     """The steps, but of a row of reads of input status 1, with nothing between them, the first
     alone."""
     last, dots = None, 0

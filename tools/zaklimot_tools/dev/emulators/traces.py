@@ -28,7 +28,7 @@ from zaklimot_tools.explain.faults import script_of
 from zaklimot_tools.floppy.image import image_for
 from zaklimot_tools.report.cases import SUITE
 from zaklimot_tools.script.program import FONTS, found_program
-from zaklimot_tools.trace.recording import TRACE, Deed, Machine, chain_4, record
+from zaklimot_tools.trace.recording import TRACE, Deed, QemuMachine, chain_4, record
 from zaklimot_tools.trace.replaying import Replay, replay
 
 
@@ -78,7 +78,7 @@ class Software:
     So many cycles are known to be refused, and so many dots of its picture to differ from qemu's.
     """
 
-    make: Callable[[Path, Optional[Path]], Machine]
+    make: Callable[[Path, Optional[Path]], QemuMachine]
     is_unpacked: bool = False
     refused: int = 0
     dots: int = 0
@@ -99,7 +99,7 @@ def _disc(mode: int, folder: Path) -> list[str]:
     return ["-drive", f"file={disc},format=raw,if=ide", "-boot", "c"]
 
 
-def _grub(is_graphics: bool, keys: Sequence[str], folder: Path, _: Optional[Path]) -> Machine:
+def _grub(is_graphics: bool, keys: Sequence[str], folder: Path, _: Optional[Path]) -> QemuMachine:
     root = folder / ("grub-planar" if is_graphics else "grub-text")
     disc = root.with_suffix(".iso")
     (root / "boot" / "grub").mkdir(parents=True, exist_ok=True)
@@ -107,25 +107,25 @@ def _grub(is_graphics: bool, keys: Sequence[str], folder: Path, _: Optional[Path
     (root / "boot" / "grub" / "grub.cfg").write_text(words, encoding="ascii")
     run(["grub-mkrescue", "-o", disc, root])
     deeds = [*(Deed(keys=(key,)) for key in keys), Deed()]
-    return Machine([*_card(SEA), "-cdrom", str(disc), "-boot", "d"], deeds, quiet=12, most=300)
+    return QemuMachine([*_card(SEA), "-cdrom", str(disc), "-boot", "d"], deeds, quiet=12, most=300)
 
 
-def _calls(mode: int, rom: str, folder: Path, _: Optional[Path]) -> Machine:
+def _calls(mode: int, rom: str, folder: Path, _: Optional[Path]) -> QemuMachine:
     """A video BIOS that draws in a mode. Of mode 13, which is chain 4, qemu tells by a plugin
     alone."""
     words = [*_card(rom), *_disc(mode, folder)]
     if mode == 0x13:
         words += chain_4(folder)
-    return Machine(words)
+    return QemuMachine(words)
 
 
-def _cirrus(folder: Path, _: Optional[Path]) -> Machine:
+def _cirrus(folder: Path, _: Optional[Path]) -> QemuMachine:
     """Mode 13 on a card that tells of chain 4, with a VGA's video BIOS by the name that it looks
     for."""
     roms = folder / "roms"
     roms.mkdir(exist_ok=True)
     shutil.copy(LGPL, roms / "vgabios-cirrus.bin")
-    return Machine(["-L", str(roms), "-device", "isa-cirrus-vga", *_disc(0x13, folder)])
+    return QemuMachine(["-L", str(roms), "-device", "isa-cirrus-vga", *_disc(0x13, folder)])
 
 
 def _file(folder: Optional[Path], *names: str) -> Path:
@@ -136,7 +136,7 @@ def _file(folder: Optional[Path], *names: str) -> Path:
     raise SystemExit(f"{folder}: there is no {names[0]}")
 
 
-def _linux(has_font: bool, folder: Path, unpacked: Optional[Path]) -> Machine:
+def _linux(has_font: bool, folder: Path, unpacked: Optional[Path]) -> QemuMachine:
     root = folder / ("linux-font" if has_font else "linux")
     for name in ("bin", "dev"):
         (root / name).mkdir(parents=True, exist_ok=True)
@@ -162,11 +162,11 @@ def _linux(has_font: bool, folder: Path, unpacked: Optional[Path]) -> Machine:
         "-append",
         "nomodeset vga=normal consoleblank=0",
     ]
-    return Machine([*_card(SEA), *words], quiet=45, most=240)
+    return QemuMachine([*_card(SEA), *words], quiet=45, most=240)
 
 
-def _memtest(_: Path, unpacked: Optional[Path]) -> Machine:
-    return Machine(
+def _memtest(_: Path, unpacked: Optional[Path]) -> QemuMachine:
+    return QemuMachine(
         [*_card(SEA), "-kernel", str(_file(unpacked, "boot/memtest86+x64.bin"))], quiet=3, most=20
     )
 

@@ -13,14 +13,14 @@ from zaklimot.format import ScriptFault, encode, parse_text
 from zaklimot_tools import TOP
 from zaklimot_tools.core import cli
 from zaklimot_tools.core.files import Input
-from zaklimot_tools.core.processes import MEBIBYTE
+from zaklimot_tools.core.processes import MEBIBYTE, Limits
 from zaklimot_tools.core.progress import Progress
 from zaklimot_tools.core.streams import empty_folder, write_file
-from zaklimot_tools.core.trouble import AGREED, DIFFERED, Trouble
+from zaklimot_tools.core.trouble import AGREED, DIFFERED, Trouble, Wrong
 from zaklimot_tools.core.words import number_to, seconds
 from zaklimot_tools.script.program import FONTS, found_program
 
-from .feeding import Limits, Program, Wrong
+from .feeding import Program
 from .making import make
 
 # Where the texts are that are changed.
@@ -121,7 +121,8 @@ def _figures(made: Counter[str], answers: Counter[str], seed: int, seconds: floa
 def _fuzz(words: argparse.Namespace, folder: Path) -> int:
     """Makes inputs and feeds the program with them, until the time or the inputs are used up, or
     the user ends it."""
-    limits = Limits(words.timeout, words.memory * MEBIBYTE, words.output * MEBIBYTE)
+    memory, output = words.memory * MEBIBYTE, words.output * MEBIBYTE
+    limits = Limits(words.timeout, output, memory=memory)
     program = Program(
         words.program or found_program(instead="PROGRAM names one"), str(FONTS), folder, limits
     )

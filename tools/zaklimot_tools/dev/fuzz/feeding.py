@@ -4,17 +4,16 @@ with its end."""
 from __future__ import annotations
 
 import io
-import resource
-import subprocess
 from pathlib import Path
-from typing import Callable, NamedTuple, Optional, Sequence
+from threading import Event
+from typing import Callable, NamedTuple, Optional
 
 from zaklimot.format import LINE, Script, ScriptFault, decode, is_answer_to, parse_text
-from zaklimot_tools.core.processes import started
-from zaklimot_tools.core.trouble import Trouble
+from zaklimot_tools.core.processes import Limits, Words, run_command
+from zaklimot_tools.core.trouble import Trouble, Wrong
 from zaklimot_tools.report.report import Report
 
-from .making import Input
+from .making import Feed
 
 
 DONE = "done"
@@ -23,19 +22,7 @@ WRITE_FAULT, OUT_OF_MEMORY = "F9 WriteFault", "F10 OutOfMemory"
 MOST_SAID = 4096
 
 
-class Wrong(Exception):
-    """Something was wrong with a run."""
-
-
-class Limits(NamedTuple):
-    """What one run of the program may take."""
-
-    seconds: float
-    memory: int
-    output: int
-
-
-class Outcome(NamedTuple):
+class Fed(NamedTuple):
     """How a run ended: its status, or None where it took too long; its report and what it said."""
 
     status: Optional[int]
@@ -89,7 +76,7 @@ def _check_report(report: bytes, script: Script, is_whole: bool) -> None:
         raise Wrong("the report ends before the script")
 
 
-def check(outcome: Outcome, script: Optional[Script]) -> None:
+def check(outcome: Fed, script: Optional[Script]) -> None:
     """A Wrong where something is wrong with a run. What it writes is the report of a script, or has
     no form here."""
     answer = outcome.answer
@@ -102,32 +89,14 @@ def check(outcome: Outcome, script: Optional[Script]) -> None:
         raise Wrong(f"{len(outcome.report)} bytes are written before {answer}")
 
 
-def run(words: Sequence[str | Path], folder: Path, limits: Limits) -> Outcome:
+def run(words: Words, folder: Path, limits: Limits) -> Fed:
     """Runs a program. A write past the limit of output fails, as one on a full disk does."""
     report, said = folder / "report", folder / "said"
-    most = {
-        resource.RLIMIT_CORE: 0,
-        resource.RLIMIT_AS: limits.memory,
-        resource.RLIMIT_FSIZE: limits.output,
-    }
-
-    def limit() -> None:
-        for what, value in most.items():
-            resource.setrlimit(what, (value, value))
-
-    with open(report, "wb") as output, open(said, "wb") as errors:
-        # Python ignores the signal of a file that has become too large, and the program shall too.
-        with started(
-            words, stdout=output, stderr=errors, restore_signals=False, preexec_fn=limit
-        ) as process:
-            try:
-                status = process.wait(limits.seconds)
-            except subprocess.TimeoutExpired:
-                status = None
+    status = run_command(words, report, said, limits, Event()).status
     with open(said, "rb") as stream:
         message = stream.read(MOST_SAID).decode("ascii", "backslashreplace")
     data = report.read_bytes()
-    return Outcome(status, data, message, len(data) >= limits.output)
+    return Fed(status, data, message, len(data) >= limits.output)
 
 
 class Program:
@@ -139,7 +108,7 @@ class Program:
         self._folder = folder
         self._limits = limits
 
-    def feed(self, given: Input) -> str:
+    def feed(self, given: Feed) -> str:
         """The answer of an input's run, a Wrong if anything is wrong.
 
         A text answers what its script does, and a script what its printed text does, which spells
@@ -183,7 +152,7 @@ class Program:
         path.write_bytes(data)
         return path
 
-    def _done(self, command: str, *words: str | Path, script: Optional[Script] = None) -> Outcome:
+    def _done(self, command: str, *words: str | Path, script: Optional[Script] = None) -> Fed:
         """How a command ended, where nothing is wrong with it. What it writes is the report of a
         script, if one is given."""
         outcome = run([self.path, command, *words], self._folder, self._limits)
@@ -193,7 +162,7 @@ class Program:
             raise Wrong(f"vga {command}: {wrong}") from wrong
         return outcome
 
-    def _ran(self, command: str, file: Path, wanted: str, meant: Script) -> Outcome:
+    def _ran(self, command: str, file: Path, wanted: str, meant: Script) -> Fed:
         """How a script is run: twice, with the same answers, which are to end as it is wanted."""
         once, again = (
             self._done(command, file, "--fonts", self._fonts, script=meant) for _ in range(2)
@@ -204,7 +173,7 @@ class Program:
         return once
 
 
-def _agree(first: str, one: Outcome, second: str, other: Outcome) -> None:
+def _agree(first: str, one: Fed, second: str, other: Fed) -> None:
     """Two runs of the same script answer the same. Want of memory or of room may stop one before
     the other."""
     answers = one.answer, other.answer

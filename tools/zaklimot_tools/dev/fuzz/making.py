@@ -125,7 +125,7 @@ DOTS = (0, 1, 8, 9, 899, 900, 404_100, 16_777_216, 16_777_217, 0xFFFFFFFF)
 MOST_BLOCK = 40
 
 
-class Input(NamedTuple):
+class Feed(NamedTuple):
     """What the program is fed with: the bytes of a script, or those of a text."""
 
     is_text: bool
@@ -190,7 +190,7 @@ def _text_of(script: Script, random: Random) -> bytes:
     return "".join(f"{line}\n" for line in lines).encode("ascii")
 
 
-def make(random: Random, texts: Sequence[bytes], scripts: Sequence[bytes]) -> Input:
+def make(random: Random, texts: Sequence[bytes], scripts: Sequence[bytes]) -> Feed:
     """An input, by a choice at random of the way in which it is made."""
     is_text = random.random() < 0.5
     at_hand = texts if is_text else scripts
@@ -203,7 +203,7 @@ def make(random: Random, texts: Sequence[bytes], scripts: Sequence[bytes]) -> In
         data, made = _changed(random, random.choice(at_hand), at_hand, is_text), "changed"
     else:
         data, made = random.randbytes(random.choice((0, 1, 5, 100, 5000))), "random"
-    return Input(is_text, data[:MOST_BYTES], f"{made} {'text' if is_text else 'script'}")
+    return Feed(is_text, data[:MOST_BYTES], f"{made} {'text' if is_text else 'script'}")
 
 
 def _number(random: Random, ends: tuple[int, ...], bits: int) -> int:

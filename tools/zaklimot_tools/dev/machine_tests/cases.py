@@ -227,7 +227,7 @@ def _undefined_of_two(one: Instruction, count: int) -> int:
     return SIGN | ZERO | ADJUST | PARITY if one.opcode == 0xAF else 0
 
 
-class Case(NamedTuple):
+class Sample(NamedTuple):
     """The processor before an instruction, and what is left of it.
 
     The kind is 0 in real mode, 1 in protected mode whose segments are all of memory, and 2 by
@@ -301,7 +301,7 @@ class Processor:
     def _write(self, uc: Any, port: int, size: int, value: int, data: Any) -> None:
         self.ports.append((port, size, value & (1 << 8 * size) - 1))
 
-    def case(self, rnd: random.Random) -> Case | None:
+    def case(self, rnd: random.Random) -> Sample | None:
         """A case; None where the instruction can't be done, or goes on for long."""
         uc, one = self.uc, instruction(rnd, self.is_protected)
         registers, flags = self._registers(rnd, one), 2 | rnd.getrandbits(12) & 0xCD5
@@ -348,7 +348,7 @@ class Processor:
                 found[6], found[7] = (rnd.randrange(0x20000, 0xE0000) for _ in range(2))
         return tuple(found)
 
-    def _found(self, one: Instruction, registers: tuple[int, ...], flags: int) -> Case | None:
+    def _found(self, one: Instruction, registers: tuple[int, ...], flags: int) -> Sample | None:
         uc, changed = self.uc, self._changed()
         if len(changed) > MOST_CHANGED:
             return None
@@ -360,7 +360,7 @@ class Processor:
             return None
         # In real mode the place is told as one of all memory.
         place -= 16 * segments[1]
-        return Case(
+        return Sample(
             self.is_protected,
             registers,
             flags,
@@ -386,7 +386,7 @@ class Processor:
         return tuple(found)
 
 
-def cases(count: int, seed: int) -> Iterator[Case]:
+def cases(count: int, seed: int) -> Iterator[Sample]:
     """So many cases, of which each third is of protected mode."""
     rnd, processors = random.Random(seed), (Processor(False), Processor(False), Processor(True))
     made = 0

@@ -14,7 +14,7 @@ import struct
 import sys
 from typing import Any, Iterator
 
-from .cases import CODE, CODE_BYTES, MEMORY, REGISTERS, SEGMENTS, TABLES, Case, pattern
+from .cases import CODE, CODE_BYTES, MEMORY, REGISTERS, SEGMENTS, TABLES, Sample, pattern
 
 
 try:
@@ -142,7 +142,7 @@ class Instructions:
         return rnd.choice(("FF2B", "FF1B")), 1
 
 
-class Processor:
+class Segmented:
     """Unicorn's processor in protected mode, with a table for each case."""
 
     def __init__(self) -> None:
@@ -172,7 +172,7 @@ class Processor:
         self.fault = number
         uc.emu_stop()
 
-    def case(self, rnd: random.Random) -> Case | None:
+    def case(self, rnd: random.Random) -> Sample | None:
         """A case; None where Unicorn leaves it to its caller."""
         tables, one = table(rnd), Instructions(rnd)
         if one.count > 1 and one.selector & ~7 < len(tables):
@@ -193,7 +193,7 @@ class Processor:
             return None
         return self._found(uc, tables, one)
 
-    def _found(self, uc: Any, tables: bytes, one: Instructions) -> Case:
+    def _found(self, uc: Any, tables: bytes, one: Instructions) -> Sample:
         memory, before = bytes(uc.mem_read(0, MEMORY)), bytearray(self.pattern)
         before[TABLES : TABLES + len(tables)] = tables
         before[CODE : CODE + CODE_BYTES] = memory[CODE : CODE + CODE_BYTES]
@@ -207,7 +207,7 @@ class Processor:
             if memory == before
             else [(i, memory[i]) for i in range(MEMORY) if memory[i] != before[i]]
         )
-        return Case(
+        return Sample(
             2,
             tuple(one.registers),
             2,
@@ -226,9 +226,9 @@ class Processor:
         )
 
 
-def cases(count: int, seed: int) -> Iterator[Case]:
+def cases(count: int, seed: int) -> Iterator[Sample]:
     """So many cases."""
-    rnd, processor, made = random.Random(seed), Processor(), 0
+    rnd, processor, made = random.Random(seed), Segmented(), 0
     while made < count:
         found = processor.case(rnd)
         if found is not None:

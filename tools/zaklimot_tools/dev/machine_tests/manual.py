@@ -22,7 +22,7 @@ from .cases import (
     REAL,
     SIGN,
     ZERO,
-    Case,
+    Sample,
     pattern,
 )
 from .descriptors import FLAT_CODE, FLAT_DATA, descriptor
@@ -74,7 +74,7 @@ def case(
     flags: int = FLAGS,
     is_protected: bool = False,
     tables: Tables = Tables(),
-) -> Case:
+) -> Sample:
     """A case of an instruction, whose bytes are spelt in hexadecimal."""
     before = {"esp": 0x90000 if is_protected else STACK, **given}
     after = {**before, **left.registers}
@@ -90,7 +90,7 @@ def case(
     changed = tuple(
         (place, byte) for place, byte in sorted(written.items()) if byte != pattern(place)
     )
-    return Case(
+    return Sample(
         2 if tables.segments else int(is_protected),
         tuple(before.get(name, 0) for name in NAMES),
         flags,
@@ -126,7 +126,7 @@ def interrupted(
     )
 
 
-def interrupts() -> Iterator[Case]:
+def interrupts() -> Iterator[Sample]:
     """INT, INT3, INTO and BOUND; the faults of a divide and of an opcode that is none, which come
     back to it."""
     asked = FLAGS | INTERRUPT | CARRY
@@ -155,7 +155,7 @@ def interrupts() -> Iterator[Case]:
     yield case("0FFF", {}, interrupted(6, FLAGS, OFFSET))
 
 
-def returns() -> Iterator[Case]:
+def returns() -> Iterator[Sample]:
     """IRET; RET by more than half of a segment; PUSH SP; CALL SP; HLT."""
     top = 16 * STACK_SEGMENT + STACK
     # Of the flags that it takes, those of a 386 in real mode.
@@ -184,7 +184,7 @@ def returns() -> Iterator[Case]:
     yield case("F4", {}, Left(1))
 
 
-def frames() -> Iterator[Case]:
+def frames() -> Iterator[Sample]:
     """ENTER by a nest, and by operands of another size than the stack's; BP goes by the size of
     operands."""
     base, top = 16 * STACK_SEGMENT, 16 * STACK_SEGMENT + STACK
@@ -220,7 +220,7 @@ def frames() -> Iterator[Case]:
     )
 
 
-def others() -> Iterator[Case]:
+def others() -> Iterator[Sample]:
     """Opcodes that are others' doubles, prefixes twice, LOCK, shifts by 32 and more."""
     for carry in (0, CARRY):
         yield case("D6", {}, Left(1, {"eax": 0xFF if carry else 0}, FLAGS | carry), FLAGS | carry)
@@ -247,7 +247,7 @@ SEGMENTS = bytes(8) + b"".join(
 )
 
 
-def limits() -> Iterator[Case]:
+def limits() -> Iterator[Sample]:
     """Reads and writes at a segment's end, of one that grows down, and of none."""
     for selector, read, place, is_inside in (
         (SMALL, "268B17", 0xFC, True),
@@ -276,7 +276,7 @@ def limits() -> Iterator[Case]:
         yield case(f"8EC0{read}", given, left, is_protected=True, tables=tables)
 
 
-def gates() -> Iterator[Case]:
+def gates() -> Iterator[Sample]:
     """INT by gates of both widths, which keep interrupts or not; by one that is absent, or none, or
     past the table's end."""
     asked, place, top = FLAGS | INTERRUPT | TRAP | CARRY, 0x23456, 0x90000
@@ -323,6 +323,6 @@ def gates() -> Iterator[Case]:
         yield case("CD21", {}, Left(), asked, True, Tables(SEGMENTS, interrupts_of, 1, fault))
 
 
-def cases() -> list[Case]:
+def cases() -> list[Sample]:
     """All of them."""
     return [*interrupts(), *returns(), *frames(), *others(), *limits(), *gates()]

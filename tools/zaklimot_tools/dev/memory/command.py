@@ -71,7 +71,7 @@ UNREAD = ("out", "data", "proofs", "must-fail")
 Case = tuple[str, Sequence[str]]
 
 
-class Answer(NamedTuple):
+class CallAnswer(NamedTuple):
     """How a case ended: its status, or -1 where it had none, and what it wrote on both outputs."""
 
     status: int
@@ -81,7 +81,7 @@ class Answer(NamedTuple):
 
 # What is answered before the first call, where an allocation of the words is refused, or one that
 # is made first.
-BEFORE_CALLS = Answer(1, b"", "Error: memory allocation failed\n")
+BEFORE_CALLS = CallAnswer(1, b"", "Error: memory allocation failed\n")
 
 
 class Job(NamedTuple):
@@ -90,18 +90,20 @@ class Job(NamedTuple):
 
     words: Sequence[str]
     first: int
-    whole: Answer
+    whole: CallAnswer
 
 
 def jobs() -> dict[str, Job]:
     """The jobs by their names: two that are done, and one that is none."""
     report, go = TABLE.with_suffix(".txt").read_bytes(), ["go", "table.vga", "--fonts", "z.fnt"]
     return {
-        "go": Job(go, 17, Answer(0, report, "")),
+        "go": Job(go, 17, CallAnswer(0, report, "")),
         "asm": Job(
-            ["asm", "path.vga", "/dev/stdout"], 33, Answer(0, PATH_SCRIPT.read_bytes() + ENDING, "")
+            ["asm", "path.vga", "/dev/stdout"],
+            33,
+            CallAnswer(0, PATH_SCRIPT.read_bytes() + ENDING, ""),
         ),
-        "words that are refused": Job([*go, "x"], 34, Answer(2, b"", REFUSED_WORD)),
+        "words that are refused": Job([*go, "x"], 34, CallAnswer(2, b"", REFUSED_WORD)),
     }
 
 
@@ -148,7 +150,7 @@ ENDINGS: dict[str, list[tuple[str, int]]] = {
 }
 
 
-def calls_ending(answer: Answer) -> str:
+def calls_ending(answer: CallAnswer) -> str:
     """How the calls end: the line of the one that does not answer as in its example, if there is
     one."""
     lines = answer.written.decode("utf-8", "replace").splitlines()
@@ -159,7 +161,7 @@ def calls_ending(answer: Answer) -> str:
     return ", ".join(line for line in lines if not line.endswith(RIGHT)) or "each as in its example"
 
 
-def job_ending(job: Job, answer: Answer) -> str:
+def job_ending(job: Job, answer: CallAnswer) -> str:
     """How a job ends: done, or with an allocation failure behind so many whole lines of what it
     writes."""
     lines = answer.written.splitlines(keepends=True)
@@ -184,7 +186,7 @@ def judge(name: str, endings: Iterable[str]) -> None:
     print(told, flush=True)
 
 
-def answers_of(output: bytes, errors: str) -> list[Answer]:
+def answers_of(output: bytes, errors: str) -> list[CallAnswer]:
     """The answers that stand in both outputs of `rt try`, in the order of its cases."""
     parts = SECTION.split(output)
     written = {name.decode(): part for name, part in zip(parts[1::2], parts[2::2])}
@@ -193,14 +195,14 @@ def answers_of(output: bytes, errors: str) -> list[Answer]:
         ended = ENDED.match(line)
         if ended is not None:
             status = int(ended[3]) if ended[2] == "ended" and ended[3] else -1
-            answers.append(Answer(status, written.get(ended[1], b""), said))
+            answers.append(CallAnswer(status, written.get(ended[1], b""), said))
             said = ""
         elif not line.startswith(OWN_LINES):
             said += line
     return answers
 
 
-def try_cases(crate: Path, cases: Sequence[Case]) -> list[Answer]:
+def try_cases(crate: Path, cases: Sequence[Case]) -> list[CallAnswer]:
     """What each case of a crate's program answers, with one allocation refused."""
     check_program("rt")
     with tempfile.TemporaryDirectory(prefix="vga-memory-") as name:

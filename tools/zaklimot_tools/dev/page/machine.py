@@ -63,7 +63,7 @@ STRICT = ("-Wall", "-Wextra", "-Wno-parentheses", "-Werror")
 STACK = 65536
 
 
-class Machine(NamedTuple):
+class MachineModules(NamedTuple):
     """The modules: the processor with the PC round it, and its reads of the adapter."""
 
     cpu: bytes
@@ -184,7 +184,7 @@ def _linked(objects: Sequence[Path], module: Path, *flags: str) -> bytes:
     return with_kit(module.read_bytes(), compiler_line())
 
 
-def made_machine() -> Machine:
+def made_machine() -> MachineModules:
     """The machine's modules, made of their sources. The same sources and compiler make the same
     bytes."""
     compiler_line()
@@ -204,23 +204,23 @@ def made_machine() -> Machine:
             objects, folder / "cpu.wasm", "-z", f"stack-size={STACK}", "--export=__heap_base"
         )
         reads = _compiled([MACHINE / "cpu" / "reads.c"], folder, *STRICT)
-        return Machine(
+        return MachineModules(
             cpu, _linked(reads, folder / "reads.wasm", "--import-memory", "--allow-undefined")
         )
 
 
-def is_of_this_compiler(machine: Machine) -> bool:
+def is_of_this_compiler(machine: MachineModules) -> bool:
     """Whether modules were made by the compiler that is here."""
     return {kit_of(machine.cpu), kit_of(machine.reads)} == {compiler_line()}
 
 
-def machine_in(page: bytes) -> Machine:
+def machine_in(page: bytes) -> MachineModules:
     """The modules that a page has in it."""
     data = page_data(page.decode("utf-8"))["machine"]
-    return Machine(*(unzipped(data[name]) for name in Machine._fields))
+    return MachineModules(*(unzipped(data[name]) for name in MachineModules._fields))
 
 
-def made_or_kept(page: Path, tell: Callable[[str], object]) -> Machine:
+def made_or_kept(page: Path, tell: Callable[[str], object]) -> MachineModules:
     """The machine's modules, made; where they can't be made here, those of the page as it was built
     before."""
     try:

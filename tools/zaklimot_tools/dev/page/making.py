@@ -255,7 +255,7 @@ def _with_target(text: str) -> str:
     return text
 
 
-class Form(NamedTuple):
+class ModuleForm(NamedTuple):
     """How a module shows its calls."""
 
     # After a trap no call runs over memory that is half written, as Rattle's own lowering for
@@ -267,14 +267,14 @@ class Form(NamedTuple):
 
 
 # The page's module, and the one of which C is made, whose calls guard it themselves.
-OF_PAGE, OF_C = Form(True, True), Form(False, False)
+OF_PAGE, OF_C = ModuleForm(True, True), ModuleForm(False, False)
 WIDE = ("ptr", "i64")
 
 
 class Shown:
     """A call that a module shows: a function round the proved one."""
 
-    def __init__(self, result: str, name: str, parameters: str, form: Form) -> None:
+    def __init__(self, result: str, name: str, parameters: str, form: ModuleForm) -> None:
         read = [PARAMETER.fullmatch(parameter) for parameter in parameters.split(", ") if parameter]
         if None in read:
             raise Trouble(f"the parameters of {name} are not read: {parameters}", NAME)
@@ -322,7 +322,7 @@ class Shown:
         )
 
 
-def retargeted(text: str, form: Form) -> str:
+def retargeted(text: str, form: ModuleForm) -> str:
     """The module for wasm64, which shows its calls in a form. It also shows `page_take` and
     `page_give`."""
     _refuse_unknown(text)
@@ -342,7 +342,7 @@ def retargeted(text: str, form: Form) -> str:
     return text + MEMORY + (GUARD if form.is_guarded else "") + "".join(wrappers)
 
 
-class Maker:
+class ModuleMaker:
     """Makes modules in a folder, with the toolchain of a kit; a phase of that has what hears its
     programs."""
 
@@ -457,7 +457,7 @@ def made_for_c(words: argparse.Namespace, progress: Progress) -> bytes:
     """Proves the crate, and makes the module of which C is made; --gated and --proof as for
     `made_modules`."""
     with tempfile.TemporaryDirectory(prefix="vga-page-") as name:
-        maker = Maker(Path(name), phases(progress))
+        maker = ModuleMaker(Path(name), phases(progress))
         building = maker.prove(
             (words.proof or Path(name) / "proof").absolute() if words.gated else None
         )
@@ -475,7 +475,7 @@ def made_modules(
     keeps the crate's own.
     """
     with tempfile.TemporaryDirectory(prefix="vga-page-") as name:
-        maker = Maker(Path(name), phases(progress))
+        maker = ModuleMaker(Path(name), phases(progress))
         building = maker.prove(
             (words.proof or Path(name) / "proof").absolute() if words.gated else None
         )

@@ -23,7 +23,7 @@ from zaklimot_tools.explain.wordings import WORDINGS
 from zaklimot_tools.report.debugging import DOCS, PAGE, data_element
 
 from .editor import Editor, joined_editor
-from .machine import NOTICE, Machine, programs
+from .machine import NOTICE, MachineModules, programs
 from .packing import about, in_base64, packed
 from .sections import quoted_sections
 
@@ -176,7 +176,7 @@ def _packed_json(value: Any) -> str:
     return in_base64(packed(json.dumps(value, separators=(",", ":")).encode("ascii")))
 
 
-def data_of(module: bytes, machine: Machine) -> dict[str, Any]:
+def data_of(module: bytes, machine: MachineModules) -> dict[str, Any]:
     """What the page is given, beside its sources."""
     return {
         "version": str(version()),
@@ -229,7 +229,7 @@ def editor_in(page: str) -> Editor:
     return Editor(*parts)
 
 
-def make_page(module: bytes, sources: Sources, machine: Machine) -> bytes:
+def make_page(module: bytes, sources: Sources, machine: MachineModules) -> bytes:
     """The page's bytes, which are the same each time."""
     page = page_text(sources, data_of(module, machine)).encode("utf-8")
     if len(page) > MOST_BYTES:

@@ -23,7 +23,7 @@ from .discovering import TOOLS, run_modules
 MOST_SECONDS = 900
 
 
-class Checked(NamedTuple):
+class Counted(NamedTuple):
     """How many cases and tests have passed, failed and were skipped."""
 
     passed: int
@@ -37,7 +37,7 @@ class Checked(NamedTuple):
         )
 
 
-def check_suite(program: str, *chosen: str) -> Checked:
+def check_suite(program: str, *chosen: str) -> Counted:
     """Holds a program to the suite, or to the cases that `--only` chooses. Those that don't agree
     are printed."""
     ways = [
@@ -53,7 +53,7 @@ def check_suite(program: str, *chosen: str) -> Checked:
         if result["answer"] != "agrees":
             print(f"{result['answer']}  {result['name']}: {result['reason']}", flush=True)
     counts = told["cases"]
-    return Checked(counts["agrees"], counts["differs"] + counts["failed"], counts["skipped"])
+    return Counted(counts["agrees"], counts["differs"] + counts["failed"], counts["skipped"])
 
 
 def _check(words: argparse.Namespace, progress: Progress) -> int:
@@ -61,7 +61,7 @@ def _check(words: argparse.Namespace, progress: Progress) -> int:
     suite = check_suite(program)
     print(f"the suite over the portable program: {suite.text()}", flush=True)
     tests = run_modules(words.modules, program)
-    both = Checked(
+    both = Counted(
         suite.passed + tests.passed, suite.failed + tests.failed, suite.skipped + tests.skipped
     )
     print(

@@ -1,0 +1,196 @@
+"""What is shown of a run: a class for each way, which is told each step as it comes."""
+
+import argparse
+import os
+import shutil
+from typing import Callable, Optional
+
+from zaklimot.format import Picture
+from zaklimot_tools.core.files import STANDARD, files
+from zaklimot_tools.core.progress import Progress
+from zaklimot_tools.core.streams import counted, write, write_file, write_over
+from zaklimot_tools.core.trouble import Trouble
+from zaklimot_tools.images.png import Shape, block_lines, save_png
+
+from .debugging import link_to
+from .listing import Blessing, Row, RunScript, Tally, chosen, heading, listed
+from .page import Page
+
+# What takes text that is told.
+Tell = Callable[[str], object]
+# So many reasons of refusals are told once each, and then again.
+MOST_WHYS = 1000
+
+
+def fragment(words: argparse.Namespace) -> str:
+    """What names the step of --until in the address of a page."""
+    return "" if words.until is None else f"#step={words.until}"
+
+
+class Summary:
+    """The answers that differ, and a last line; and the pictures of the steps that are chosen, as
+    files."""
+
+    # Whether the reasons of refusals are shown.
+    tells_why = False
+
+    def __init__(self, words: argparse.Namespace, tell: Tell) -> None:
+        self._tell, self._is_quiet = tell, words.quiet
+        self._folder, self._shape = words.pictures, Shape(words.scale, words.aspect)
+        self._is_chosen = None if words.only is None else chosen(words.only)
+
+    def check(self, script: RunScript) -> None:
+        """Ends the work where the script can't be shown so."""
+
+    def begin(self, width: int) -> None:
+        """Shows what stands above the first step. The steps have a column of this width."""
+        if self._folder is not None:
+            files().make_folder(self._folder)
+
+    def take(self, row: Row, is_wrong: bool) -> None:
+        """Takes a step, and shows it if it is chosen."""
+        if self._is_chosen is None or self._is_chosen(row):
+            self._show(row, is_wrong)
+
+    def end(self, tally: Tally) -> bool:
+        """Tells what was seen; whether the run's exit status tells of differences."""
+        for line in tally.differing():
+            self._tell(line)
+        front = f"{tally.shown}: " if self._is_quiet else ""
+        self._tell(f"{front}{tally.text()}\n")
+        return True
+
+    def _show(self, row: Row, is_wrong: bool) -> None:
+        self._save(row)
+
+    def _save(self, row: Row) -> str:
+        """Writes the picture of a step where that is wanted; its path, or nothing."""
+        if self._folder is None or not isinstance(row.step.picture, Picture):
+            return ""
+        path = os.path.join(self._folder, f"{row.step.number:04}.png")
+        save_png(path, row.step.picture, self._shape)
+        return path
+
+
+class StepList(Summary):
+    """Each step beside its line and its answer."""
+
+    tells_why = True
+
+    def __init__(self, words: argparse.Namespace, tell: Tell, progress: Progress) -> None:
+        super().__init__(words, tell)
+        self._progress, self._shows = progress, words.show
+        self._whys: set[str] = set()
+        self._width = 0
+
+    def begin(self, width: int) -> None:
+        super().begin(width)
+        self._width = width
+        write(heading(width) + "\n")
+
+    def take(self, row: Row, is_wrong: bool) -> None:
+        # A script may have millions of steps, and each call takes its time.
+        if self._is_chosen is not None and not self._is_chosen(row):
+            return
+        path = self._save(row) if self._folder is not None else ""
+        if self._progress.is_wanted:
+            self._progress.clear()
+        why = self._new_why(row.why) if row.why else ""
+        write(listed(row, is_wrong, self._width, path and f"  {path}", why))
+        if self._shows and isinstance(row.step.picture, Picture):
+            columns = shutil.get_terminal_size((80, 24)).columns
+            write("".join(line + "\n" for line in block_lines(row.step.picture, columns)))
+
+    def _new_why(self, why: str) -> str:
+        """Why a step was refused, where that was not told yet."""
+        if why in self._whys:
+            return ""
+        if len(self._whys) < MOST_WHYS:
+            self._whys.add(why)
+        return why
+
+
+class PageOfSteps(Summary):
+    """The same as a page."""
+
+    tells_why = True
+
+    def __init__(self, words: argparse.Namespace, tell: Tell) -> None:
+        super().__init__(words, tell)
+        self._words = words
+        self._page = Page([""], ["line", "step", "step as understood", "answer"])
+
+    def end(self, tally: Tally) -> bool:
+        words = self._words
+        link = None if words.debug is None else link_to(words.debug, words.html) + fragment(words)
+        text = self._page.text(tally.shown, tally.text(), link)
+        write_file(words.html, text.encode("utf-8", "replace"))
+        return super().end(tally)
+
+    def _show(self, row: Row, is_wrong: bool) -> None:
+        self._page.add_row(row)
+
+
+class Differences(Summary):
+    """What differs from the expected answers, as a unified diff of the script."""
+
+    is_all = False
+
+    def __init__(self, words: argparse.Namespace, tell: Tell, data: bytes) -> None:
+        super().__init__(words, tell)
+        self._blessing, self._name = Blessing(data, self.is_all), words.script
+
+    def check(self, script: RunScript) -> None:
+        if script.is_bytes:
+            raise Trouble("a script of bytes has no comments for answers", self._name)
+
+    def take(self, row: Row, is_wrong: bool) -> None:
+        self._blessing.take(row)
+        super().take(row, is_wrong)
+
+    def end(self, tally: Tally) -> bool:
+        self._tell(self._blessing.difference(tally.shown))
+        return True
+
+
+class Blessed(Differences):
+    """The answers that are not as expected, which are written into the script."""
+
+    is_all = True
+
+    def __init__(self, words: argparse.Namespace, tell: Tell, data: bytes) -> None:
+        super().__init__(words, tell, data)
+        self._data, self._is_dry = data, words.dry_run
+
+    def end(self, tally: Tally) -> bool:
+        changes = list(self._blessing.changes())
+        for number, before, after in changes:
+            self._tell(f"{self._name}:{number}: {before or 'nothing'} -> {after}\n")
+        if changes and not self._is_dry:
+            text = self._blessing.text().encode("utf-8", "surrogateescape")
+            write_over(self._name, text, self._data)
+        done = "would be written" if self._is_dry else "written"
+        self._tell(f"{self._name}: {counted(len(changes), 'answer')} {done}\n")
+        return False
+
+
+def mode_of(words: argparse.Namespace, tell: Tell, data: bytes, progress: Progress) -> Summary:
+    """The way in which these words have a run shown."""
+    if words.bless:
+        return Blessed(words, tell, data)
+    if words.diff:
+        return Differences(words, tell, data)
+    if words.html is not None:
+        return PageOfSteps(words, tell)
+    is_listed = not words.quiet and words.json != STANDARD
+    return StepList(words, tell, progress) if is_listed else Summary(words, tell)
+
+
+def is_several(words: argparse.Namespace) -> bool:
+    """Whether the scripts of a folder are run, or one as if it were in a folder."""
+    return words.junit is not None or os.path.isdir(words.script)
+
+
+def page_alone(words: argparse.Namespace) -> Optional[str]:
+    """The file of --debug where nothing is run."""
+    return words.debug if words.html is None else None
