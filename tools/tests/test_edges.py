@@ -14,7 +14,7 @@ from itertools import product
 from pathlib import Path
 from typing import Callable, Optional
 
-from zaklimot_tools.script.program import FONTS
+from zaklimot_tools.script.words import FONTS
 
 from .tools import (
     BUILT_PROGRAM,

@@ -27,7 +27,8 @@ from zaklimot_tools.floppy import image as images, running
 from zaklimot_tools.floppy.image import CODE, Run, image_for, read_image, read_record, report_lines
 from zaklimot_tools.floppy.running import DOSBOX, MACHINES
 from zaklimot_tools.floppy.table import reset_steps, table_for
-from zaklimot_tools.report.cases import SUITE, read_cases
+from zaklimot_tools.report.cases import read_cases
+from zaklimot_tools.report.places import SUITE
 from zaklimot_tools.trace.state import Bank, State
 from zaklimot_tools.trace.step import GET, IN, OUT, PUT, TraceStep
 
@@ -235,6 +236,31 @@ class Images(Folder):
             run("make", folder, self.folder / "image"),
             rf"^vga-floppy: {folder}/two.vga:1: F7 BadLine\(1\): ",
         )
+
+    def test_the_registers_in_which_each_service_answers(self) -> None:
+        # The machine of these tests leaves DEAD in AX, and 1234 in the others.
+        hands = "bx=1 cx=2 dx=3"
+        answered = {
+            "0001 0101 0201 0501 0601 0701 0901 0A01 0C01 0E01 1003 1103 1301": "",
+            "0300 1015": "cd",
+            "0800 0D00": "a",
+            "0F00 1A00": "ab",
+            "1200": "abc",
+            "1007 1008 1019 101A": "b",
+            "1B00": "abcd",
+        }
+        for numbers, letters in answered.items():
+            for ax in numbers.split():
+                given = (int(ax, 16), 1, 2, 3)
+                left = (0xDEAD, 0x1234, 0x1234, 0x1234)
+                wanted = [
+                    f"{letter}x={(left if letter in letters else given)[at]:04X}"
+                    for at, letter in enumerate("abcd")
+                ]
+                run = read_image(machine(f"int ax={ax} {hands}\n".encode()).image, "it")
+                (line,) = report_lines(run, "it")
+                with self.subTest(ax):
+                    self.assertEqual(line.decode().split()[1:5], wanted)
 
     def test_a_name_of_a_file_elsewhere(self) -> None:
         for name in ("../one", str(self.folder / "one")):

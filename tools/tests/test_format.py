@@ -33,7 +33,8 @@ from zaklimot.format import (
     read,
 )
 from zaklimot.format.table import CODES
-from zaklimot_tools.report.cases import SUITE, read_cases
+from zaklimot_tools.report.cases import read_cases
+from zaklimot_tools.report.places import SUITE
 from zaklimot_tools.script.program import TOP
 
 from .tools import hold, stream

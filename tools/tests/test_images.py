@@ -53,6 +53,30 @@ def png(
     return b"\x89PNG\r\n\x1a\n" + b"".join(parts) + chunk(b"IEND", b"")
 
 
+class Filters(unittest.TestCase):
+    def paeth(self, left: int, above: int, corner: int) -> int:
+        """What filter 4 takes off a sample with these neighbours, by the image that is read."""
+        first = b"\0" + bytes([corner, 0, 0, above, 0, 0])
+        # The first sample of the row has the one above as its only neighbour.
+        second = b"\4" + bytes([left - corner & 255, 0, 0, 0, 0, 0])
+        return image_of(png(2, 2, first + second), "it").rows[1][3]
+
+    def test_ties_of_paeth_go_left_and_then_up(self) -> None:
+        # Each is as far from left + above - corner as the next one named.
+        hold(
+            self,
+            self.paeth,
+            (
+                (40, 10, 20, 40),
+                (10, 40, 20, 40),
+                (10, 20, 15, 15),
+                (50, 60, 60, 50),
+                (60, 50, 60, 50),
+                (0, 255, 0, 255),
+            ),
+        )
+
+
 class ComparePicture(Folder):
     def compared(self, image: bytes, *words: str, picture: bytes = PICTURE) -> tuple[int, str]:
         """The status, and what is said of an image beside a picture, without the names."""

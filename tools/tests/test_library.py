@@ -57,7 +57,8 @@ from zaklimot_tools.dev.release.command import (
     File,
     settled,
 )
-from zaklimot_tools.report.cases import SUITE, read_cases
+from zaklimot_tools.report.cases import read_cases
+from zaklimot_tools.report.places import SUITE
 from zaklimot_tools.script import crates
 
 from .test_pages import broken

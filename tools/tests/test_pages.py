@@ -17,8 +17,9 @@ from zaklimot import Script, format
 from zaklimot_tools.core.trouble import Wrong
 from zaklimot_tools.dev.page.page import examples
 from zaklimot_tools.dev.page_tests import command
-from zaklimot_tools.report.cases import SUITE, read_cases
-from zaklimot_tools.script.program import FONTS
+from zaklimot_tools.report.cases import read_cases
+from zaklimot_tools.report.places import SUITE
+from zaklimot_tools.script.words import FONTS
 
 from .tools import (
     EXAMPLES,

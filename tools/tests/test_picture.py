@@ -29,7 +29,7 @@ from zaklimot_tools.picture.colours import (
 from zaklimot_tools.picture.command import main
 from zaklimot_tools.picture.mode import MODES
 from zaklimot_tools.picture.screen import MASKS, least_writes
-from zaklimot_tools.script.program import FONTS
+from zaklimot_tools.script.words import FONTS
 
 from .test_images import png
 from .tools import EXAMPLES, Folder, call, ended, hold, png_rows, ppm, refused, run_texts

@@ -9,8 +9,10 @@ import io
 import os
 import re
 import shutil
+import signal
 import stat
 import sys
+import time
 import unittest
 from functools import partial
 from pathlib import Path
@@ -19,6 +21,7 @@ from unittest import mock
 
 from zaklimot_tools.core import cli
 from zaklimot_tools.core.processes import (
+    IS_LINUX,
     MEBIBYTE,
     Failed,
     Limits,
@@ -165,6 +168,35 @@ class Words(unittest.TestCase):
                 assert page is not None
                 self.assertTrue((TOP / page[1]).exists(), page[1])
                 self.assertIn(name, (TOP / page[1]).read_text("utf-8"))
+
+    def test_each_command_has_an_example_and_tells_its_words(self) -> None:
+        for name in ("vga-report", "vga-trace", "vga-picture", "vga-floppy"):
+            told = call(main_of(name), "--help")[1]
+            commands = re.findall(r"^    ([a-z-]+)(?:  |$)", told, re.M)
+            self.assertTrue(commands, told)
+            for command in commands:
+                with self.subTest(name, command=command):
+                    status, told, said = call(main_of(name), command, "--help")
+                    self.assertEqual((status, said), (0, ""))
+                    self.assertRegex(told, rf"\nExample:\n  tools/{name} {command} ")
+                    given = re.findall(r"^  ([A-Z]+)(  .*|)\n(?=  |\n)( {4}.*|)", told, re.M)
+                    self.assertTrue(given, told)
+                    for word, beside, below in given:
+                        self.assertTrue(beside.strip() or below.strip(), word)
+
+    def test_the_suite_tells_the_places_of_its_command(self) -> None:
+        told = call(main_of("vga-report"), "suite", "--help")[1]
+        for place in ("{script}", "{fonts}", "{until}", "{name}"):
+            self.assertIn(place, told)
+
+    def test_a_help_needs_none_of_what_does_the_work(self) -> None:
+        command = "import sys; from zaklimot_tools.report.words import main; main(['--help']); "
+        command += "print(sorted(name for name in sys.modules if name.startswith('zaklimot')))"
+        environment = {**os.environ, "PYTHONPATH": str(TOOLS)}
+        status, told, said = ended(*PYTHON, "-c", command, env=environment)
+        self.assertEqual((status, said), (0, ""))
+        for name in ("zaklimot.format", "core.processes", "images.png", "report.runs"):
+            self.assertNotIn(name, told.splitlines()[-1])
 
     def test_the_version_of_the_header_and_words_that_mean_nothing(self) -> None:
         for name in self.NAMES:
@@ -496,6 +528,41 @@ class Running(Folder):
         self.assertIn("passed  good\nseen\n", said)
         for name, (_, told) in BAD.items():
             self.assertRegex(said, rf"failed  {name}\n(?s:.*){told}")
+
+    @unittest.skipUnless(IS_LINUX, "processes are looked at as Linux shows them")
+    def test_what_a_test_leaves_running_is_ended(self) -> None:
+        # A process of a group of its own, whose parent has ended.
+        number = self.folder / "number"
+        line = f"os.system('setsid sh -c \\'sleep 600 & echo $! > {number}\\' &')"
+        waiting = f"while not os.path.exists('{number}'): pass"
+        status, said = self.run_tests(leaves=f"{line}\n        {waiting}", good="pass")
+        self.assertEqual((status, said.splitlines()[-1]), (0, "OK"))
+        self.assert_ended(int(self.wait_for(number)))
+
+    @unittest.skipUnless(IS_LINUX, "limits are those of Linux")
+    def test_a_test_that_takes_all_memory(self) -> None:
+        status, said = self.run_tests(takes="bytes(3 << 30)", good="pass")
+        self.assertEqual((status, said.splitlines()[-1]), (1, "FAILED (failed=1)"))
+        self.assertIn("MemoryError", said)
+
+    def test_a_test_that_takes_too_long(self) -> None:
+        class Sleeping(unittest.TestCase):
+            def test_one(self) -> None:
+                time.sleep(60)
+
+            def test_two(self) -> None:
+                pass
+
+        before = signal.getsignal(signal.SIGALRM)
+        self.addCleanup(signal.signal, signal.SIGALRM, before)
+        tests = unittest.defaultTestLoader.loadTestsFromTestCase(Sleeping)
+        with mock.patch.object(discovering, "MOST_OF_TEST", 0.2):
+            told = io.StringIO()
+            runner = unittest.TextTestRunner(told, resultclass=discovering._Result)
+            with mock.patch.object(discovering, "end_children"):
+                result = runner.run(tests)
+        self.assertEqual((result.testsRun, len(result.errors)), (2, 1))
+        self.assertIn("the test takes more than 0.2 seconds", result.errors[0][1])
 
     def test_one_that_is_skipped_is_told_with_the_reason(self) -> None:
         status, said = self.run_tests(skips="self.skipTest('it is Sunday')", good="pass")

@@ -24,7 +24,8 @@ from typing import Any, BinaryIO, Callable, Iterable, Mapping, NamedTuple, Optio
 
 from zaklimot_tools.core.trouble import Trouble
 from zaklimot_tools.dev.testing.discovering import BUILT, TESTED
-from zaklimot_tools.script.program import FONTS, PROGRAM as BUILT_PROGRAM
+from zaklimot_tools.script.program import PROGRAM as BUILT_PROGRAM
+from zaklimot_tools.script.words import FONTS
 
 
 TOOLS = Path(__file__).resolve().parents[1]
@@ -199,6 +200,7 @@ def _heed_signals() -> None:
     for number, _ in SIGNALS:
         signal.signal(number, signal.SIG_DFL)
     # A tool for which a test waits in vain ends all the same.
+    signal.signal(signal.SIGALRM, signal.SIG_DFL)
     signal.alarm(MOST_SECONDS)
 
 

@@ -2,6 +2,7 @@
 what it says at last."""
 
 import argparse
+import importlib
 import io
 import os
 import signal
@@ -23,6 +24,10 @@ NO_MEMORY = "there is not enough memory for this"
 DIFFERS = "Exit status: 0 done, and nothing differs; 1 something differs; 2 the work can't be done."
 DOES = "Exit status: 0 done; 2 the work can't be done."
 JUDGES = "Exit status: 0 all is right; 1 something is wrong; 2 the work can't be done."
+
+
+# What a command does with its words; its exit status, or None where all is well.
+Job = Callable[[argparse.Namespace, Progress], Optional[int]]
 
 
 class _Version(argparse.Action):
@@ -106,11 +111,28 @@ def add(parser: argparse._ActionsContainer, spelt: str, told: str, **given: Any)
     parser.add_argument(name if name.startswith("-") else name.lower(), help=told, **given)
 
 
+class later:
+    """A job that is a function of a module, which is imported once the job begins: the help of a
+    tool needs none of them."""
+
+    def __init__(self, module: str, name: str) -> None:
+        self._module, self._name = module, name
+
+    def __call__(self, words: argparse.Namespace, progress: Progress) -> Optional[int]:
+        job: Job = getattr(importlib.import_module(self._module), self._name)
+        return job(words, progress)
+
+
 def command(
-    commands: Any, name: str, job: Callable[..., object], told: str, **given: Any
+    commands: Any, name: str, job: Job, told: str, example: str = "", **given: Any
 ) -> argparse.ArgumentParser:
-    """Adds a command, which does a job, to those of a tool."""
-    made: argparse.ArgumentParser = commands.add_parser(name, help=told, **given)
+    """Adds a command, which does a job, to those of a tool. Its help has an example of its use."""
+    if example:
+        raw = argparse.RawDescriptionHelpFormatter
+        given = {"formatter_class": raw, "epilog": f"Example:\n  {example}", **given}
+    made: argparse.ArgumentParser = commands.add_parser(
+        name, help=told, **{"description": told[0].upper() + told[1:] + ".", **given}
+    )
     made.set_defaults(job=job)
     return made
 

@@ -227,7 +227,8 @@ def files_of_run() -> Iterator[Files]:
     """Begins a run, with no files yet. Where it fails, folders that it has made and not filled are
     gone."""
     global _current
-    before, _current = _current, Files()
+    before = _current
+    _current = Files()
     try:
         yield _current
     except BaseException:

@@ -85,6 +85,8 @@ SOURCES = {
 }
 # Linux' prctl: the signal that a process gets when the one that has started it ends.
 SET_PARENT_DEATH_SIGNAL = 1
+# The same: who is the parent of a process whose own parent has ended.
+SET_CHILD_SUBREAPER = 36
 # A word of a command line.
 Word = Union[str, Path]
 Words = Sequence[Word]
@@ -176,6 +178,29 @@ def end_with_parent() -> None:
     """Has the system end this process when its parent is killed, and can't end it itself."""
     if IS_LINUX:
         ctypes.CDLL(None).prctl(SET_PARENT_DEATH_SIGNAL, signal.SIGKILL)
+
+
+def adopt_orphans() -> None:
+    """Has this process become the parent of those whose own parent ends, below it."""
+    if IS_LINUX:
+        ctypes.CDLL(None).prctl(SET_CHILD_SUBREAPER, 1)
+
+
+def end_children() -> None:
+    """Ends all children of this process, and those that become its children then, on Linux."""
+    while IS_LINUX and (numbers := _children()):
+        for number in numbers:
+            with suppress(ProcessLookupError, ChildProcessError):
+                os.kill(number, signal.SIGKILL)
+                os.waitpid(number, 0)
+
+
+def _children() -> list[int]:
+    """The numbers of the children of this process."""
+    listed = Path(f"/proc/self/task/{threading.get_native_id()}/children")
+    with suppress(OSError):
+        return [int(word) for word in listed.read_text("ascii").split()]
+    return []
 
 
 def end(process: subprocess.Popen[bytes], asking: float = 0) -> None:
@@ -277,10 +302,8 @@ def run_command(
     What it writes and says stands in two files then; `hear` is called meanwhile. Its whole process
     group has ended afterwards, however it ended itself. `asking` and `given` go to `started`.
     """
-    until, too_much = (
-        time.monotonic() + limits.seconds,
-        f"the command wrote more than {limits.output // MEBIBYTE} MiB",
-    )
+    until = time.monotonic() + limits.seconds
+    too_much = f"the command wrote more than {limits.output // MEBIBYTE} MiB"
     with open(output, "wb") as written, open(messages, "ab") as said:
         said.truncate(0)
 
@@ -300,7 +323,8 @@ def run_command(
 
         given = {**limits.of_system(), **given}
         with started(words, asking, stdout=written, stderr=said, **given) as process:
-            ended, pause = "", FIRST_PAUSE
+            ended = ""
+            pause = FIRST_PAUSE
             while not (ended or _has_ended(process)):
                 time.sleep(pause)
                 pause = min(2 * pause, LONGEST_PAUSE)

@@ -2,6 +2,7 @@
 never an output."""
 
 import io
+import json
 import os
 import re
 import stat
@@ -9,7 +10,7 @@ import sys
 import tempfile
 from contextlib import contextmanager
 from pathlib import Path
-from typing import BinaryIO, Callable, ContextManager, Iterator, Optional, Union, cast
+from typing import BinaryIO, Callable, ContextManager, Iterator, Mapping, Optional, Union, cast
 
 from .files import NO_NAME, STANDARD, check_folder, check_writable, files, may_be_replaced, name_of
 from .trouble import Trouble
@@ -174,6 +175,12 @@ def write(text: str) -> None:
 def write_name(path: Union[str, Path]) -> None:
     """Writes the name of a file as a line, as its bytes are."""
     sys.stdout.buffer.write(os.fsencode(path) + b"\n")
+
+
+def members(values: Mapping[str, object]) -> str:
+    """The members of a JSON object, without its brackets: a list may follow that is written as it
+    comes."""
+    return ", ".join(f"{json.dumps(name)}: {json.dumps(value)}" for name, value in values.items())
 
 
 def counted(count: int, what: str) -> str:

@@ -6,13 +6,11 @@ from typing import Callable
 
 # The largest numbers of options: enlargements, commands at a time, MiB, steps, and a day of
 # seconds.
-MOST_SCALE, MOST_JOBS, MOST_OUTPUT, MOST_STEP, MOST_SECONDS = (
-    1000,
-    256,
-    1 << 20,
-    4_294_967_295,
-    86_400,
-)
+MOST_SCALE = 1000
+MOST_JOBS = 256
+MOST_OUTPUT = 1 << 20
+MOST_STEP = 4_294_967_295
+MOST_SECONDS = 86_400
 
 
 def number_to(most: int, least: int = 1) -> Callable[[str], int]:

@@ -65,8 +65,10 @@ def explained(fault: str, script: str, fonts: str) -> str:
     found = FAULT.search(fault)
     if found is None:
         return f"{script}: {fault.strip() or 'the program ended without a word'}"
-    name, place = found[2], None if found[3] is None else int(found[3])
-    file, reason = script, SYSTEM.get(name, UNKNOWN)
+    name = found[2]
+    place = None if found[3] is None else int(found[3])
+    file = script
+    reason = SYSTEM.get(name, UNKNOWN)
     if name == "ReadFault":
         unread = (
             (path, what, _read(path)[1])
@@ -89,7 +91,8 @@ def explained(fault: str, script: str, fonts: str) -> str:
             if is_script
             else ""
         )
-        file, reason = fonts, f"the font file has {count} bytes, and {FONT_BYTES:,} are right{hint}"
+        file = fonts
+        reason = f"the font file has {count} bytes, and {FONT_BYTES:,} are right{hint}"
     elif name in FAULTS and name not in SYSTEM:
         file = f"{script}:{place}" if FAULTS[name].place == "line" else script
         reason = reason_of(name, place, _read(script)[0])
@@ -187,7 +190,8 @@ def _is_utf_16(data: bytes) -> bool:
 def _bad_step(data: bytes, place: int) -> str:
     if place >= len(data):
         return UNKNOWN
-    opcode, kind = data[place], data[place + 1 : place + 2]
+    opcode = data[place]
+    kind = data[place + 1 : place + 2]
     if opcode in (REPEAT_CODE, END_CODE) and data[4:5] == b"\2":
         name = "bad repeat" if opcode == REPEAT_CODE else "bad end"
         return _of_fault(name, name=OPCODES[opcode], place=place)

@@ -231,7 +231,8 @@ def _heed_show(words: Sequence[Word], end: int) -> None:
         raise _wrong(words[1], _said("not shown", word=_short(words[1][0]), hint=hint))
     _heed_numbers(f"show {name}", SHOWN[name].fields, words[2:], end)
     if name == "plane":
-        offset, count = int(words[3][0], 16), int(words[4][0])
+        offset = int(words[3][0], 16)
+        count = int(words[4][0])
         if offset + count > PLANE_BYTES:
             raise _wrong(
                 words[4], _said("past the plane", offset=offset, count=PLANE_BYTES - offset)

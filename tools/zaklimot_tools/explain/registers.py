@@ -14,12 +14,10 @@ from zaklimot.format import MOST_ADVANCE, REGISTERS, Answer, Step, parse_line
 from .wordings import WORDINGS, said
 
 
-SEQUENCER, GRAPHICS, CRT, ATTRIBUTES = (
-    "sequencer",
-    "graphics controller",
-    "CRT controller",
-    "attribute controller",
-)
+SEQUENCER = "sequencer"
+GRAPHICS = "graphics controller"
+CRT = "CRT controller"
+ATTRIBUTES = "attribute controller"
 # How many registers a group has, and the bits of its index.
 COUNTS = {SEQUENCER: (5, 7), GRAPHICS: (9, 15), CRT: (25, 31), ATTRIBUTES: (21, 31)}
 INDEX_PORTS = {0x3C4: SEQUENCER, 0x3CE: GRAPHICS, 0x3B4: CRT, 0x3D4: CRT}
@@ -127,7 +125,9 @@ class Registers:
             # A read of input status 1 makes the next write to the attribute controller an index.
             self._is_data = False
         elif name == "int" and numbers[0] >> 8 == 0 and numbers[0] & 0x7F in MODES:
-            self.mode, self._is_data, self._is_of_mode = numbers[0] & 0x7F, False, True
+            self.mode = numbers[0] & 0x7F
+            self._is_data = False
+            self._is_of_mode = True
             self.misc, self._values[MAP] = MODES[self.mode].misc, MODES[self.mode].map << 2
 
     def _write(self, port: int, value: int) -> None:
@@ -182,9 +182,8 @@ class Registers:
             dots, is_halved = MODES[self.mode].dots, MODES[self.mode].is_halved
         else:
             clocking = values.get(CLOCKING, 0)
-            dots, is_halved = prod(
-                shape_of(clocking, values[TOTAL], values[LINES], values[OVERFLOW])
-            ), bool(clocking & 8)
+            dots = prod(shape_of(clocking, values[TOTAL], values[LINES], values[OVERFLOW]))
+            is_halved = bool(clocking & 8)
         return dots, clock / (2 if is_halved else 1)
 
 
@@ -220,7 +219,8 @@ def _cycles(step: Step) -> Iterator[tuple[bool, int, Optional[int], Optional[int
     """Whether a cycle is of memory, its port or address, the byte written to a port, the index that
     the step picked."""
     if step.name in CYCLES:
-        written, first = dict(bytes_written(step)), step.numbers[0]
+        written = dict(bytes_written(step))
+        first = step.numbers[0]
         for place in range(first, first + 1 + step.name.endswith("w")):
             picked = written.get(place - 1) if place - 1 in INDEX_PORTS else None
             yield step.name.startswith(("put", "get")), place, written.get(place), picked

@@ -2,6 +2,7 @@
 
 import argparse
 import os
+from typing import Any
 
 from zaklimot.format import MOST_BYTES, Script
 from zaklimot_tools.core import cli
@@ -20,7 +21,7 @@ from zaklimot_tools.core.trouble import Trouble
 from zaklimot_tools.core.words import seconds
 from zaklimot_tools.explain.faults import script_of
 from zaklimot_tools.images.png import save_png
-from zaklimot_tools.report.cases import LIST
+from zaklimot_tools.report.places import LIST
 
 from .image import IMAGE_SIZE, Run, image_for, read_image, read_record, report_lines, reports
 from .running import LGPL, MACHINES, SEABIOS, run_on
@@ -41,6 +42,38 @@ def _add_report(parser: argparse.ArgumentParser) -> None:
     add(parser, "--all-registers", told)
 
 
+def _add_make(commands: Any) -> None:
+    told = "makes the image of a floppy or a stick that runs a script, or many"
+    example = "tools/vga-floppy make examples/asked-of-machines.vga floppy.img"
+    made = cli.command(commands, "make", _make, told, example)
+    _add_script(made)
+    add(made, "--disk", "writes a partition table, for a stick or a hard disk (default: a floppy)")
+    add(made, "IMAGE", "the image, of 1,474,560 bytes; - is standard output", type=Output)
+
+
+def _add_read(commands: Any) -> None:
+    told, example = "gives the report of what a run has left", "tools/vga-floppy read floppy.img"
+    made = cli.command(commands, "read", _read, told, example)
+    add(made, "FILE", "the image, or with --serial the record; - is standard input", type=Input)
+    add(made, "--serial", "FILE is what came over the serial port")
+    add(made, "--part", "takes a record that ends too early: gives the report up to there")
+    _add_report(made)
+
+
+def _add_run(commands: Any) -> None:
+    told = "runs a script on an emulator, and gives the report"
+    example = "tools/vga-floppy run --on qemu examples/asked-of-machines.vga"
+    made = cli.command(commands, "run", _run, told, example)
+    add(made, "--on", "the emulator", required=True, choices=list(MACHINES))
+    told = "the video BIOS (default: sea on qemu, lgpl on bochs)"
+    add(made, "--bios", told, choices=[SEABIOS, LGPL])
+    told = "how long it may take, without the time that it waits for a processor (default: 30)"
+    add(made, "--seconds N", told, type=seconds, default=30)
+    add(made, "--picture FILE", "writes the last screen as PNG", type=Output)
+    _add_script(made)
+    _add_report(made)
+
+
 def _parser() -> argparse.ArgumentParser:
     parser = cli.tool_parser(
         "vga-floppy",
@@ -49,33 +82,9 @@ def _parser() -> argparse.ArgumentParser:
         "docs/REAL-MACHINES.md",
     )
     commands = parser.add_subparsers(required=True, metavar="COMMAND")
-    made = cli.command(
-        commands,
-        "make",
-        _make,
-        "makes the image of a floppy or a stick that runs a script, or many",
-    )
-    _add_script(made)
-    add(made, "--disk", "writes a partition table, for a stick or a hard disk (default: a floppy)")
-    add(made, "IMAGE", "the image, of 1,474,560 bytes; - is standard output", type=Output)
-    made = cli.command(commands, "read", _read, "gives the report of what a run has left")
-    add(made, "FILE", "the image, or with --serial the record; - is standard input", type=Input)
-    add(made, "--serial", "FILE is what came over the serial port")
-    add(made, "--part", "takes a record that ends too early: gives the report up to there")
-    _add_report(made)
-    made = cli.command(commands, "run", _run, "runs a script on an emulator, and gives the report")
-    add(made, "--on", "the emulator", required=True, choices=list(MACHINES))
-    add(
-        made,
-        "--bios",
-        "the video BIOS (default: sea on qemu, lgpl on bochs)",
-        choices=[SEABIOS, LGPL],
-    )
-    told = "how long it may take, without the time that it waits for a processor (default: 30)"
-    add(made, "--seconds N", told, type=seconds, default=30)
-    add(made, "--picture FILE", "writes the last screen as PNG", type=Output)
-    _add_script(made)
-    _add_report(made)
+    _add_make(commands)
+    _add_read(commands)
+    _add_run(commands)
     return parser
 
 

@@ -119,7 +119,8 @@ def _partition(code: bytearray) -> None:
     last = IMAGE_SIZE // SECTOR - 1
     # Places as head, sector and cylinder, as on most machines: 63 sectors of a track, and more
     # heads than are needed.
-    begin, end = (0, 2, 0), (last // 63, last % 63 + 1, 0)
+    begin = (0, 2, 0)
+    end = (last // 63, last % 63 + 1, 0)
     PARTITIONS.pack_into(code, PARTITIONS_AT, SIGNATURE, 0, ACTIVE, *begin, NO_FILES, *end, 1, last)
 
 
@@ -192,9 +193,8 @@ def _lines(data: bytes, first: int, name: str) -> Iterator[tuple[int, bytes, int
                 name,
                 number,
             )
-        numbered, listed = bytes.fromhex(found[2].decode()), bytes.fromhex(
-            (found[3] or b"").decode()
-        )
+        numbered = bytes.fromhex(found[2].decode())
+        listed = bytes.fromhex((found[3] or b"").decode())
         if sum(numbered + listed) & 0xFF != int(found[4], 16):
             raise Trouble("the line's sum is wrong: bytes were lost on their way", name, number)
         yield number, found[1], int.from_bytes(numbered, "big"), listed

@@ -89,7 +89,8 @@ def is_for_machine(step: Step) -> bool:
         return len(step.block) <= MOST_BLOCK and _table_length(step.numbers) is not None
     if step.name not in STEPS:
         return False
-    place, last = step.numbers[0], step.numbers[0] + step.name.endswith("w")
+    place = step.numbers[0]
+    last = step.numbers[0] + step.name.endswith("w")
     decoded = PORTS if step.name.startswith(("in", "out")) else MEMORY
     return place in decoded and last in decoded
 
@@ -222,7 +223,8 @@ class Table:
         its table is.
         """
         scripts: list[tuple[str, list[Item]]] = []
-        steps, left = self._decoded(), MOST_STEPS
+        steps = self._decoded()
+        left = MOST_STEPS
         for opcode, fields, behind in steps:
             if opcode == SCRIPT:
                 scripts.append((behind.decode("utf-8", "surrogateescape"), []))

@@ -1,32 +1,18 @@
 """A picture held against an image of another program, whose dots may stand several times, and whose
 colours may have fewer bits."""
 
-import argparse
-from typing import Callable, NamedTuple, Optional, Union
+from typing import Callable, NamedTuple, Optional
 
 from zaklimot.format import Picture
 from zaklimot.format.picture import DifferentDots, different_dots
-from zaklimot_tools.core.words import number_to
 
 from .reading import Image
+from .words import Within
 
 # Dots or lines that stand so often, as they are told.
 TIMES = {1: "", 2: "twice", 3: "three times", 4: "four times"}
-# What a tolerance may be: so much in each of the six bits of a component, or colours of five, six
-# and five bits.
-MOST_WITHIN, FIVE_SIX_FIVE = 63, "5-6-5"
+# The bits of five, six and five that count of a component's six.
 MASKS = (0x3E, 0x3F, 0x3E)
-Within = Union[int, str]
-
-
-def within(word: str) -> Within:
-    """Reads a tolerance: a number of the 63 steps of a component, or `5-6-5`."""
-    if word == FIVE_SIX_FIVE:
-        return word
-    try:
-        return number_to(MOST_WITHIN, 0)(word)
-    except argparse.ArgumentTypeError as error:
-        raise argparse.ArgumentTypeError(f"{error}, and not {FIVE_SIX_FIVE}") from error
 
 
 def _is_within(tolerance: Within) -> Callable[[bytes, bytes], bool]:
@@ -39,10 +25,13 @@ def _is_within(tolerance: Within) -> Callable[[bytes, bytes], bool]:
 
 def _eased(picture: Picture, image: Picture, tolerance: Within) -> Picture:
     """An image with the dots of the picture, where those are within the tolerance."""
-    is_within, size = _is_within(tolerance), 3 * image.width * image.height
-    wanted, dots = picture.ppm[-size:], bytearray(image.ppm[-size:])
+    is_within = _is_within(tolerance)
+    size = 3 * image.width * image.height
+    wanted = picture.ppm[-size:]
+    dots = bytearray(image.ppm[-size:])
     for at in range(0, size, 3):
-        dot, other = wanted[at : at + 3], bytes(dots[at : at + 3])
+        dot = wanted[at : at + 3]
+        other = bytes(dots[at : at + 3])
         if other != dot and is_within(dot, other):
             dots[at : at + 3] = dot
     return Picture.of_dots(image.width, image.height, bytes(dots))
@@ -81,7 +70,8 @@ def _fitted(picture: Picture, image: Image) -> Optional[tuple[Image, str]]:
             return None
         factors = (times, 1) if what == "dot" else (1, times)
         if other > size:
-            whole, image = image, image.every(*factors)
+            whole = image
+            image = image.every(*factors)
             if image.repeated(*factors) != whole:
                 return None
             told.append(f"the image has each {what} {TIMES[times]}")

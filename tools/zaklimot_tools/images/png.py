@@ -79,9 +79,8 @@ def stretched(
     for y, row in enumerate(rows):
         if row != last:
             dots = [row[at : at + 3] for at in range(0, len(row), 3)]
-            last, wide = row, (
-                row if width == new_width else b"".join(map(dots.__getitem__, columns))
-            )
+            last = row
+            wide = row if width == new_width else b"".join(map(dots.__getitem__, columns))
         # The new rows that this one gives: those whose number times height / new_height is y and a
         # bit.
         for _ in range(-(-y * new_height // height), -(-(y + 1) * new_height // height)):
@@ -109,7 +108,9 @@ def write_png(
 ) -> None:
     """Writes a picture; beside another one it is darkened, and the dots are marked in which that
     differs."""
-    width, height, rows = picture.width, picture.height, _rows(picture)
+    width = picture.width
+    height = picture.height
+    rows = _rows(picture)
     if other is not None:
         width, height = max(width, other.width), max(height, other.height)
         rows = (_marked_row(picture, other, width, y) for y in range(height))

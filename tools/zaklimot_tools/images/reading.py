@@ -46,7 +46,8 @@ class Image(NamedTuple):
 
     def repeated(self, across: int, down: int) -> Image:
         """The image with each dot so often across and down."""
-        size, new = (self.width, self.height), (self.width * across, self.height * down)
+        size = (self.width, self.height)
+        new = (self.width * across, self.height * down)
         return Image(*new, tuple(stretched(self.rows, size, new)), self.most)
 
     def picture(self, shift: int) -> Picture:
@@ -121,7 +122,8 @@ def _ppm(data: bytes, name: str, most_dots: int) -> Image:
 def _chunks(data: bytes, name: str) -> dict[bytes, bytes]:
     at, parts = len(SIGNATURE), defaultdict(list)
     while b"IEND" not in parts:
-        kind, end = data[at + 4 : at + 8], at + 8 + int.from_bytes(data[at : at + 4], "big")
+        kind = data[at + 4 : at + 8]
+        end = at + 8 + int.from_bytes(data[at : at + 4], "big")
         parts[kind].append(data[at + 8 : end])
         if data[end : end + 4] != struct.pack(">I", zlib.crc32(kind + parts[kind][-1])):
             raise Trouble(DAMAGED, name)
@@ -146,7 +148,8 @@ def _png(data: bytes, name: str, most: int) -> Image:
         )
     if interlace:
         raise Trouble("an interlaced PNG can't be read: save it without interlace", name)
-    bits, lines = depth * SAMPLES[colour], b""
+    bits = depth * SAMPLES[colour]
+    lines = b""
     length = (width * bits + 7) // 8
     with suppress(zlib.error):
         lines = zlib.decompressobj().decompress(chunks.get(b"IDAT", b""), (length + 1) * height)
@@ -166,7 +169,8 @@ def _unfiltered(lines: bytes, length: int, back: int, name: str) -> Iterator[byt
     not."""
     last = bytearray(back + length)
     for at in range(0, len(lines), length + 1):
-        kind, row = lines[at], bytearray(back) + lines[at + 1 : at + 1 + length]
+        kind = lines[at]
+        row = bytearray(back) + lines[at + 1 : at + 1 + length]
         if kind > len(FILTERS):
             raise Trouble(
                 f"a row of the PNG has filter {kind}, and the filters are 0 to {len(FILTERS)}", name
@@ -180,7 +184,9 @@ def _unfiltered(lines: bytes, length: int, back: int, name: str) -> Iterator[byt
 
 def _paeth(left: int, above: int, corner: int) -> int:
     # How far each is from left + above - corner.
-    far, other, both = abs(above - corner), abs(left - corner), abs(left + above - 2 * corner)
+    far = abs(above - corner)
+    other = abs(left - corner)
+    both = abs(left + above - 2 * corner)
     return left if far <= other and far <= both else above if other <= both else corner
 
 

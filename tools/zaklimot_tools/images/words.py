@@ -1,13 +1,29 @@
-"""The options of a command that writes pictures."""
+"""The options of commands that write pictures, or compare them."""
 
 import argparse
+from typing import Union
 
 from zaklimot_tools.core.cli import add
 from zaklimot_tools.core.words import MOST_SCALE, number_to
 
+# What a tolerance may be: so much in each of the six bits of a component, or colours of five, six
+# and five bits.
+MOST_WITHIN, FIVE_SIX_FIVE = 63, "5-6-5"
+Within = Union[int, str]
+
+
+def within(word: str) -> Within:
+    """Reads a tolerance: a number of the 63 steps of a component, or `5-6-5`."""
+    if word == FIVE_SIX_FIVE:
+        return word
+    try:
+        return number_to(MOST_WITHIN, 0)(word)
+    except argparse.ArgumentTypeError as error:
+        raise argparse.ArgumentTypeError(f"{error}, and not {FIVE_SIX_FIVE}") from error
+
 
 def add_shape(parser: argparse.ArgumentParser) -> None:
-    """The options of a command that writes pictures."""
+    """The options of commands that write pictures, or compare them."""
     add(
         parser,
         "--scale N",

@@ -59,7 +59,8 @@ def font_of(data: bytes, height: int, name: str) -> bytes:
 @lru_cache(maxsize=None)
 def glyph_dots(font: bytes, character: int, width: int) -> Dots:
     """The dots of a character that have the colour of the character."""
-    dots, height = 0, len(font) // GLYPHS
+    dots = 0
+    height = len(font) // GLYPHS
     for y, byte in enumerate(font[height * character : height * (character + 1)]):
         line = int(f"{byte:08b}"[::-1], 2)
         if width == 9 and character in LINE_CHARACTERS:
@@ -158,11 +159,9 @@ def rows_of(cells: Sequence[Chosen], mode: Mode, font: bytes) -> list[bytes]:
     """The rows of dots that cells show, as numbers of colours."""
     rows = [bytearray(mode.width) for _ in range(mode.height)]
     for (top, left), cell in zip(_corners(mode), cells):
-        dots, front, back = (
-            glyph_dots(font, cell.character, mode.cell_width),
-            cell.attribute & 0x0F,
-            cell.attribute >> 4,
-        )
+        dots = glyph_dots(font, cell.character, mode.cell_width)
+        front = cell.attribute & 0x0F
+        back = cell.attribute >> 4
         for y in range(mode.cell_height):
             line = dots >> mode.cell_width * y
             rows[top + y][left : left + mode.cell_width] = bytes(
@@ -247,7 +246,9 @@ def _wanted(dots: bytes, colours: Sequence[Colour], width: int) -> tuple[int, by
     counts = Counter(dots)
     # The ninth dot has the colour behind the character.
     last = Counter(dots[8::width]) if width > 8 else Counter[int]()
-    best, front, back = 1 << 62, 0, 0
+    best = 1 << 62
+    front = 0
+    back = 0
     for ink, paper in permutations([number for number, _ in counts.most_common(TRIED)], 2):
         error = 0
         for number, count in counts.items():

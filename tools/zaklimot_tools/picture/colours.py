@@ -109,7 +109,8 @@ def outer_colours(counts: Counter[Colour], most: int) -> list[Colour]:
 def _fewer(counts: Counter[Colour]) -> Counter[Colour]:
     """At most so many colours as can be looked at: each the middle of those whose high bits are
     alike."""
-    shift, fewer = 0, counts
+    shift = 0
+    fewer = counts
     while len(fewer) > MANY:
         shift += 1
         boxes: dict[Colour, Box] = {}
@@ -154,7 +155,9 @@ def _widest(box: Box) -> tuple[int, int]:
 def _cut(box: Box, part: int) -> Iterator[Box]:
     """A box in two, so that about half of the dots stand in each; none is empty."""
     ordered = sorted(box, key=lambda entry: (entry[0][part], entry))
-    half, passed, at = sum(count for _, count in ordered) / 2, 0, 0
+    half = sum(count for _, count in ordered) / 2
+    passed = 0
+    at = 0
     while at < len(ordered) - 1 and (at == 0 or passed + ordered[at][1] / 2 <= half):
         passed += ordered[at][1]
         at += 1
@@ -193,7 +196,8 @@ def _lost(box: Box, middle: Colour) -> int:
 def _refined(counts: Counter[Colour], chosen: list[Colour]) -> list[Colour]:
     """Colours in the middle of those that are nearest to them; those that save little are put where
     most is lost."""
-    best, least = chosen, -1
+    best = chosen
+    least = -1
     for _ in range(EXCHANGES):
         for _ in range(MOVES):
             boxes = _boxes_of(counts, chosen)
@@ -205,7 +209,8 @@ def _refined(counts: Counter[Colour], chosen: list[Colour]) -> list[Colour]:
         lost = list(map(_lost, boxes, chosen))
         if 0 <= least <= sum(lost):
             break
-        best, least = chosen, sum(lost)
+        best = chosen
+        least = sum(lost)
         chosen = _exchanged(chosen, boxes, lost)
     return best
 
@@ -229,7 +234,8 @@ def _exchanged(chosen: Sequence[Colour], boxes: Sequence[Box], lost: Sequence[in
             halves = list(_cut(box, _widest(box)[1]))
             middles = [_mean(half) for half in halves]
             won.append((lost[number] - sum(map(_lost, halves, middles)), number, middles))
-    made, touched = list(chosen), set[int]()
+    made = list(chosen)
+    touched = set[int]()
     for (little, number, other), (much, cut, middles) in zip(
         sorted(saved), sorted(won, reverse=True)
     ):
@@ -294,14 +300,16 @@ def _spread(colours: Sequence[Colour]) -> float:
 def _ordered(rows: Sequence[Row], colours: Sequence[Colour]) -> Iterator[bytes]:
     """Rows by the ordered dither: a dot is made brighter or darker by its place, as far as colours
     lie apart."""
-    nearest, own = Nearest(colours), {colour: number for number, colour in enumerate(colours)}
+    nearest = Nearest(colours)
+    own = {colour: number for number, colour in enumerate(colours)}
     spread = _spread(colours)
     for y, row in enumerate(rows):
         steps = [round(((2 * order + 1) / 32 - 0.5) * spread) for order in ORDERED[y % 4]]
         made = bytearray(len(row))
         for x, dot in enumerate(row):
             # A dot whose colour is there keeps it.
-            step, number = steps[x % 4], own.get(dot)
+            step = steps[x % 4]
+            number = own.get(dot)
             if number is None:
                 red, green, blue = dot
                 number = nearest(
@@ -318,8 +326,10 @@ def _floyd(rows: Sequence[Row], colours: Sequence[Colour]) -> Iterator[bytes]:
     width = len(rows[0])
     below = [[0, 0, 0] for _ in range(width + 2)]
     for row in rows:
-        above, below = below, [[0, 0, 0] for _ in range(width + 2)]
-        ahead, made = [0, 0, 0], bytearray(width)
+        above = below
+        below = [[0, 0, 0] for _ in range(width + 2)]
+        ahead = [0, 0, 0]
+        made = bytearray(width)
         for x, dot in enumerate(row):
             owed = above[x + 1]
             red, green, blue = (
@@ -370,11 +380,14 @@ def _chosen(rows: Sequence[Row], counts: Counter[Colour], most: int, fewer: Fewe
 def _seen(rows: Sequence[Row], colours: Sequence[Colour], made: Iterable[bytes]) -> int:
     """How far an image is from the one that it stands for: by its dots, times by areas of dots that
     are seen as one."""
-    by_dots, by_areas, width = 1, 1, len(rows[0])
+    by_dots = 1
+    by_areas = 1
+    width = len(rows[0])
     off = [[0, 0, 0] for _ in range(0, width, AREA)]
     for y, (row, numbers) in enumerate(zip(rows, made), 1):
         for x, (dot, number) in enumerate(zip(row, numbers)):
-            area, colour = off[x // AREA], colours[number]
+            area = off[x // AREA]
+            colour = colours[number]
             by_dots += distance(dot, colour)
             for part in range(3):
                 area[part] += dot[part] - colour[part]

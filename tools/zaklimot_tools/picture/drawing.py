@@ -83,12 +83,14 @@ def draw_text(
 ) -> Drawn:
     """A script for text: its rows, glyphs of its own if they are wanted, bright backgrounds, no
     cursor, and the cells."""
-    cells, told = cells_of(image, mode, font, tell), ""
+    cells = cells_of(image, mode, font, tell)
+    told = ""
     glyphs: dict[int, bytes] = {}
     if has_own:
         glyphs = own_glyphs(image, mode, cells)
         font = with_glyphs(font, glyphs)
-        cells, told = cells_of(image, mode, font, tell), f", {len(glyphs):,} glyphs of its own"
+        cells = cells_of(image, mode, font, tell)
+        told = f", {len(glyphs):,} glyphs of its own"
     told = f", {sum(cell.error == 0 for cell in cells):,} of {len(cells):,} cells fit{told}"
     # In frames 16 to 31 of 32 a blinking character is away, and its background has three bits.
     calls = [service(6, 0x1003), service(4, 0x0100, 0, NO_CURSOR)]

@@ -184,7 +184,8 @@ def best_numbers(rows: Rows, count: int) -> list[int]:
     words = [(sum(1 << colour for colour in colours), times) for colours, times in weighed]
     # Numbers behind those of the colours are free, and may be exchanged for one that is taken.
     numbers = list(FIRST_NUMBERS)
-    least, before = _cycles(words, numbers), -1
+    least = _cycles(words, numbers)
+    before = -1
     while least != before:
         before = least
         for one, other in combinations(range(NUMBERS), 2):
@@ -256,7 +257,8 @@ class Areas:
 
     def _finish(self, window: Window) -> None:
         column, row, columns, rows = window
-        left, right = CELL_WIDTH * column, CELL_WIDTH * (column + columns)
+        left = CELL_WIDTH * column
+        right = CELL_WIDTH * (column + columns)
         for y in range(self._height * row, self._height * (row + rows)):
             self.have[y][left:right] = self._want[y][left:right]
         for cells in self._cells[row : row + rows]:
@@ -323,7 +325,8 @@ class Areas:
         """A block that draws a window, and how many bytes it is shorter than its rows one by
         one."""
         column, row, columns, rows = window
-        left, right = CELL_WIDTH * column, CELL_WIDTH * (column + columns)
+        left = CELL_WIDTH * column
+        right = CELL_WIDTH * (column + columns)
         have = [bytes(len(line)) for line in self._want]
         want = list(have)
         for y in range(self._height * row, self._height * (row + 1)):

@@ -8,7 +8,6 @@ from typing import Iterator, NamedTuple, Optional
 
 from zaklimot.format import FAULT, MOST_BYTES, STATE, Answer, decimal, lines_in, steps_in
 from zaklimot.format.report import REFUSAL, VALUE
-from zaklimot_tools import TOP
 from zaklimot_tools.core.files import STANDARD, name_of
 from zaklimot_tools.core.streams import bytes_of, read_at_most
 from zaklimot_tools.core.trouble import Trouble
@@ -17,9 +16,6 @@ from zaklimot_tools.core.words import MOST_STEP
 from .report import Expected
 
 
-SUITE = TOP / "crates" / "vga_suite" / "data" / "list.txt"
-# The file of a folder of scripts that names the font of each.
-LIST = "list.txt"
 CASE = re.compile(r"(?P<bytes>bytes )?(?P<name>[^ ]+)( until (?P<steps>[0-9]+))?")
 HEX = re.compile(r"([0-9A-Fa-f]{2})(\*([1-9][0-9]{0,7}))?")
 # A script that is too long has a few bytes more than the longest.
@@ -98,7 +94,8 @@ class Case(NamedTuple):
         if step is None:
             return ""
         lines = bytes_of(self.front, MOST_BYTES).count(b"\n") if self.front else 0
-        file, line = self.source, step.number - lines
+        file = self.source
+        line = step.number - lines
         if self.front is not None and line <= 0:
             file, line = self.front, step.number
         return printable(f"`{step.words[:MOST_WORDS]}`, {file.relative_to(self.folder)}:{line}")
@@ -136,7 +133,8 @@ class Case(NamedTuple):
         """
         if self.is_bytes or can_stop and not is_for_machine:
             return self.script()
-        script, steps = self.stopped_script(), self.expected_steps() if is_for_machine else iter(())
+        script = self.stopped_script()
+        steps = self.expected_steps() if is_for_machine else iter(())
         refused = next((step for step in steps if step.kind == REFUSAL), None)
         return script if refused is None else _front_of(script, refused.number - 1)
 
@@ -179,7 +177,8 @@ def _steps_of(digits: Optional[str], name: str, number: int) -> Optional[int]:
 
 def read_cases(path: str) -> list[Case]:
     """The cases of a list, but for those whose expected report is wrong on purpose."""
-    folder, name = (Path(".") if path == STANDARD else Path(path).parent).absolute(), name_of(path)
+    folder = (Path(".") if path == STANDARD else Path(path).parent).absolute()
+    name = name_of(path)
     fonts: Optional[Path] = None
     front: Optional[Path] = None
     cases = []

@@ -67,7 +67,8 @@ def debug_page(name: str, script: bytes, fonts: str, page: str) -> bytes:
     font = read_at_most(fonts, MOST_BYTES)
     if len(font) != FONT_BYTES:
         raise Trouble(f"the font file has {len(font):,} bytes, and {FONT_BYTES:,} are right", fonts)
-    in_base64, in_text = base64.b64encode(font).decode("ascii"), script.decode("utf-8", "replace")
+    in_base64 = base64.b64encode(font).decode("ascii")
+    in_text = script.decode("utf-8", "replace")
     # A byte that is no text is wrong in a step, and means nothing in a comment.
     given = (
         {"bytes": base64.b64encode(script).decode("ascii")}

@@ -56,7 +56,8 @@ def run_several(words: argparse.Namespace, run_one: RunOne, progress: Progress) 
         to_read(str(path))
     for file in (words.json, words.junit):
         refuse_input(file or STANDARD)
-    tell, ran = teller(words.json, words.junit), []
+    tell = teller(words.json, words.junit)
+    ran = []
     with tempfile.TemporaryDirectory(prefix="vga-report-") as name:
         for one in _runs(words, paths, run_one, Path(name), progress):
             progress.clear()
@@ -138,7 +139,8 @@ def _junit_text(name: str, ran: list[Ran]) -> str:
         "testsuite", {"name": shown, "tests": str(len(ran)), **counts, "time": time_of_all}
     )
     for one in ran:
-        case_name, seconds = printable(str(one.script), "\n"), f"{one.seconds:.3f}"
+        case_name = printable(str(one.script), "\n")
+        seconds = f"{one.seconds:.3f}"
         case = SubElement(suite, "testcase", classname=shown, name=case_name, time=seconds)
         if one.status in kinds:
             # Characters that XML doesn't take are left out.

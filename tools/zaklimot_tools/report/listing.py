@@ -22,7 +22,7 @@ from zaklimot.format.report import VALUE
 from zaklimot.format.table import OK
 from zaklimot_tools.core.processes import IS_POSIX
 from zaklimot_tools.core.progress import Progress
-from zaklimot_tools.core.streams import counted, writing
+from zaklimot_tools.core.streams import counted, members, writing
 from zaklimot_tools.core.trouble import Trouble
 from zaklimot_tools.explain.faults import explained
 from zaklimot_tools.explain.registers import Registers
@@ -122,7 +122,8 @@ def _kind(word: str) -> Callable[[Row], bool]:
         )
     if found is None:
         return KINDS[word]
-    first, last = int(found[1]), int(found[2] or found[1])
+    first = int(found[1])
+    last = int(found[2] or found[1])
     if not 1 <= first <= last:
         reason = (
             "steps are counted from 1"
@@ -292,7 +293,7 @@ class Tally:
         self._told = tempfile.SpooledTemporaryFile(MOST_TOLD)
         self._stream = stream
         if stream is not None:
-            stream.write(json.dumps({"script": shown})[:-1].encode("ascii") + b', "answers": [')
+            stream.write(f'{{{members({"script": shown})}, "answers": ['.encode("ascii"))
 
     def count(self, row: Row) -> bool:
         """Counts a step, and tells whether another answer was expected."""
@@ -369,8 +370,8 @@ def tallied(shown: str, place: Union[str, BinaryIO, None]) -> Iterator[Tally]:
                 name: getattr(tally, name)
                 for name in "steps refused pictures expected met wrong".split()
             }
-            ended = json.dumps({**counts, "trouble": None if trouble is None else str(trouble)})
-            stream.write(b"\n], " + ended[1:].encode("ascii") + b"\n")
+            told = members({**counts, "trouble": None if trouble is None else str(trouble)})
+            stream.write(f"\n], {told}}}\n".encode("ascii"))
     if trouble is not None:
         raise trouble
 
@@ -412,7 +413,8 @@ class Blessing:
 
     def text(self) -> str:
         """The script with the answers in it."""
-        lines, is_dropped = [], False
+        lines = []
+        is_dropped = False
         for number, line in enumerate(self._lines, 1):
             if not (is_dropped and line.strip().startswith(DUMPED)):
                 is_dropped = False

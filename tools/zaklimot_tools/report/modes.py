@@ -3,7 +3,7 @@
 import argparse
 import os
 import shutil
-from typing import Callable, Optional
+from typing import Callable
 
 from zaklimot.format import Picture
 from zaklimot_tools.core.files import STANDARD, files
@@ -35,8 +35,10 @@ class Summary:
     tells_why = False
 
     def __init__(self, words: argparse.Namespace, tell: Tell) -> None:
-        self._tell, self._is_quiet = tell, words.quiet
-        self._folder, self._shape = words.pictures, Shape(words.scale, words.aspect)
+        self._tell = tell
+        self._is_quiet = words.quiet
+        self._folder = words.pictures
+        self._shape = Shape(words.scale, words.aspect)
         self._is_chosen = None if words.only is None else chosen(words.only)
 
     def check(self, script: RunScript) -> None:
@@ -79,7 +81,8 @@ class StepList(Summary):
 
     def __init__(self, words: argparse.Namespace, tell: Tell, progress: Progress) -> None:
         super().__init__(words, tell)
-        self._progress, self._shows = progress, words.show
+        self._progress = progress
+        self._shows = words.show
         self._whys: set[str] = set()
         self._width = 0
 
@@ -138,7 +141,8 @@ class Differences(Summary):
 
     def __init__(self, words: argparse.Namespace, tell: Tell, data: bytes) -> None:
         super().__init__(words, tell)
-        self._blessing, self._name = Blessing(data, self.is_all), words.script
+        self._blessing = Blessing(data, self.is_all)
+        self._name = words.script
 
     def check(self, script: RunScript) -> None:
         if script.is_bytes:
@@ -160,7 +164,8 @@ class Blessed(Differences):
 
     def __init__(self, words: argparse.Namespace, tell: Tell, data: bytes) -> None:
         super().__init__(words, tell, data)
-        self._data, self._is_dry = data, words.dry_run
+        self._data = data
+        self._is_dry = words.dry_run
 
     def end(self, tally: Tally) -> bool:
         changes = list(self._blessing.changes())
@@ -184,13 +189,3 @@ def mode_of(words: argparse.Namespace, tell: Tell, data: bytes, progress: Progre
         return PageOfSteps(words, tell)
     is_listed = not words.quiet and words.json != STANDARD
     return StepList(words, tell, progress) if is_listed else Summary(words, tell)
-
-
-def is_several(words: argparse.Namespace) -> bool:
-    """Whether the scripts of a folder are run, or one as if it were in a folder."""
-    return words.junit is not None or os.path.isdir(words.script)
-
-
-def page_alone(words: argparse.Namespace) -> Optional[str]:
-    """The file of --debug where nothing is run."""
-    return words.debug if words.html is None else None

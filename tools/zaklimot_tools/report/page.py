@@ -47,7 +47,8 @@ class Page:
         stream = io.BytesIO()
         write_png(stream, picture, other=other)
         data = base64.b64encode(stream.getvalue()).decode("ascii")
-        name, place = f"p{self._images}", f'data-frame="{len(self._frames)}" alt="{picture.size}"'
+        name = f"p{self._images}"
+        place = f'data-frame="{len(self._frames)}" alt="{picture.size}"'
         return name, f'<img id="{name}" {place} src="data:image/png;base64,{data}">'
 
     def _add(self, cells: Sequence[str], kind: str) -> None:
@@ -91,7 +92,8 @@ class Page:
         dots = escape(difference.dots())
         if pictures is not None:
             images = [self._image(pictures[0]), self._image(pictures[1]), self._image(*pictures)]
-            title, names = f"{difference.place}: {dots}", [name for name, _ in images]
+            title = f"{difference.place}: {dots}"
+            names = [name for name, _ in images]
             self._frames.append({"step": difference.number, "title": title, "images": names})
             texts = [f"{text}{image}" for text, (_, image) in zip(texts, images)]
             dots += images[2][1]

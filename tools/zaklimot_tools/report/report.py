@@ -86,7 +86,8 @@ class Expected(Report):
             number += 1
 
     def _picture_answer(self, number: int, answer: str) -> Answer:
-        found, place = ROWS.fullmatch(answer), self.line
+        found = ROWS.fullmatch(answer)
+        place = self.line
         if found is None:
             return super()._picture_answer(number, answer)
         length, width, height = (decimal(word, MOST_PICTURE) for word in found.groups()[1:])
@@ -138,10 +139,8 @@ class Difference(NamedTuple):
         if step is None or other is None:
             return END if step is None else step.answer, END if other is None else other.answer
         if step.picture is not None and other.picture is not None:
-            head, other_head = (
-                f"{step.answer} {step.picture.size}",
-                f"{other.answer} {other.picture.size}",
-            )
+            head = f"{step.answer} {step.picture.size}"
+            other_head = f"{other.answer} {other.picture.size}"
             if head != other_head:
                 return head, other_head
             return f"{head} {step.picture.sum}", f"{head} {other.picture.sum}"

@@ -45,7 +45,8 @@ def wanted_pictures(
     steps: Iterator[Answer], wanted: Sequence[int], name: str
 ) -> Iterator[tuple[int, Picture]]:
     """The pictures of the steps that are wanted, or all."""
-    last, missing = 0, set(wanted)
+    last = 0
+    missing = set(wanted)
     for step in steps:
         last = step.number
         if not wanted or last in missing:
@@ -67,7 +68,9 @@ def wanted_pictures(
 def pictures(words: argparse.Namespace, progress: Progress) -> int:
     """Writes the pictures of a report as files."""
     shape = Shape(words.scale, words.aspect)
-    animation, name, count = Animation(shape), name_of(words.report), 0
+    animation = Animation(shape)
+    name = name_of(words.report)
+    count = 0
     delays = delays_of(None if words.apng is None else words.script)
     if words.folder not in (None, STANDARD):
         files().make_folder(words.folder)
@@ -94,7 +97,8 @@ def delays_of(script: Optional[str]) -> Callable[[int], float]:
     it, as a script tells it."""
     if script is None:
         return lambda number: USUAL
-    registers, name = Registers(), name_of(script)
+    registers = Registers()
+    name = name_of(script)
     frames: dict[int, float] = {}
     last, dots = 0, 0
     for number, step in enumerate(script_of(read_script(script), name).steps(), 1):
@@ -136,7 +140,9 @@ def _write_picture(words: argparse.Namespace, stem: str, picture: Picture, shape
 def compare(words: argparse.Namespace, progress: Progress) -> int:
     """Tells the first step in which two reports differ."""
     names = name, other_name = name_of(words.report), name_of(words.other)
-    comparison, count, wants_picture = Comparison(), 0, words.picture is not None
+    comparison = Comparison()
+    count = 0
+    wants_picture = words.picture is not None
     page = (
         Page([*names, "where they differ"], ["step", *names, "dots that differ"])
         if words.html

@@ -20,7 +20,8 @@ from zaklimot_tools.script.program import BuiltProgram, Tried, build_program, fo
 from .debugging import debug_page
 from .folders import run_several, scripts_in
 from .listing import RunScript, tallied
-from .modes import Tell, fragment, is_several, mode_of, page_alone
+from .modes import Tell, fragment, mode_of
+from .words import is_several
 
 # Seconds between two looks whether a file has changed.
 LOOK = 0.2
@@ -82,7 +83,7 @@ def run(words: argparse.Namespace, progress: Progress) -> int:
 
 
 def _run(words: argparse.Namespace, progress: Progress) -> int:
-    if page_alone(words) is not None:
+    if words.debug is not None and words.html is None:
         _write_debug_page(words, read_script(words.script))
         return AGREED
     program: Program = Tried() if words.try_ else BuiltProgram(found_program(words.vga, BUILD_ONE))

@@ -20,6 +20,7 @@ from zaklimot_tools.core.progress import Progress
 from zaklimot_tools.core.streams import (
     bytes_of,
     counted,
+    members,
     empty_folder,
     write,
     write_file,
@@ -28,7 +29,8 @@ from zaklimot_tools.core.streams import (
 from zaklimot_tools.core.trouble import AGREED, DIFFERED, TROUBLE, Trouble
 from zaklimot_tools.images.png import save_png
 
-from .cases import LIST, Case, printable, read_cases
+from .cases import Case, printable, read_cases
+from .places import LIST
 from .report import Comparison, Report
 
 
@@ -155,7 +157,8 @@ def _write_expected(words: argparse.Namespace) -> int:
 
 
 def _chosen(words: argparse.Namespace) -> list[Case]:
-    wanted, unwanted = tuple(words.only) or "", tuple(words.except_)
+    wanted = tuple(words.only) or ""
+    unwanted = tuple(words.except_)
     cases = [
         case
         for case in read_cases(words.list)
@@ -167,7 +170,8 @@ def _chosen(words: argparse.Namespace) -> list[Case]:
 
 
 def _results(words: argparse.Namespace, cases: list[Case], progress: Progress) -> list[Result]:
-    is_ended, results = Event(), []
+    is_ended = Event()
+    results = []
     commands = [None if given is None else Command(given) for given in (words.command, words.bytes)]
 
     def run_one(case: Case) -> Result:
@@ -203,7 +207,8 @@ def _run_case(
         script.write_bytes(case.handed(words.machine, command.can_stop))
         outcome = run_command(command.words(case, script), report, messages, limits, is_ended)
         if outcome.status is None:
-            result.answer, result.reason = FAILED, outcome.reason + _said_text(messages)
+            result.answer = FAILED
+            result.reason = outcome.reason + _said_text(messages)
         else:
             _judge(result, outcome.status, report, messages)
         if words.keep is not None and result.answer in (DIFFERS, FAILED):
@@ -227,10 +232,8 @@ def _judge(result: Result, status: int, report: Path, messages: Path) -> None:
         line = io.BytesIO(f"{fault[0]}\n".encode())
         _compare(result, io.BufferedReader(line))  # type: ignore[arg-type]
     if status and fault is None and not (has_report and result.answer in (DIFFERS, FAILED)):
-        (
-            result.answer,
-            result.reason,
-        ) = FAILED, f"the command ended with status {status}" + _said_text(messages)
+        result.answer = FAILED
+        result.reason = f"the command ended with status {status}" + _said_text(messages)
 
 
 def _compare(result: Result, report: io.BufferedReader) -> None:
@@ -248,14 +251,14 @@ def _compare(result: Result, report: io.BufferedReader) -> None:
                     "expected": expected,
                 }
                 place = result.case.place_of(difference.number)
-                result.answer, result.reason = DIFFERS, difference.told() + (
-                    f" ({place})" if place else ""
-                )
+                result.answer = DIFFERS
+                result.reason = difference.told() + (f" ({place})" if place else "")
     except Trouble as trouble:
         if trouble.name != REPORT_NAME:
             raise
         if not result.first:
-            result.answer, result.reason = FAILED, str(trouble)
+            result.answer = FAILED
+            result.reason = str(trouble)
             return
     if not result.first and comparison.skipped:
         result.answer = SKIPPED
@@ -364,8 +367,8 @@ def _json_text(command: str, groups: Rules, results: list[Result]) -> str:
     for group, rule, some in (
         (group, *one) for group, rules in groups.items() for one in rules.items()
     ):
-        head = json.dumps({"rule": rule, "folder": group, "answer": _worst(some)})
+        head = members({"rule": rule, "folder": group, "answer": _worst(some)})
         cases = ",\n".join(json.dumps(result.told()) for result in some)
-        told.append(f'{head[:-1]}, "cases": [\n{cases}]}}')
-    head = json.dumps({"command": command, "cases": _counts(results)})
-    return f'{head[:-1]}, "rules": [\n' + ",\n".join(told) + "\n]}\n"
+        told.append(f'{{{head}, "cases": [\n{cases}]}}')
+    head = members({"command": command, "cases": _counts(results)})
+    return f'{{{head}, "rules": [\n' + ",\n".join(told) + "\n]}\n"

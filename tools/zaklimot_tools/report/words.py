@@ -1,170 +1,111 @@
-"""The words of the command line."""
+"""The words of the command line, and what its options ask of one another."""
 
 import argparse
+import os
 from functools import partial
-from typing import Callable
+from typing import Any, Callable
 
 from zaklimot_tools.core import cli
-from zaklimot_tools.core.cli import add, rule
+from zaklimot_tools.core.cli import add, later, rule
 from zaklimot_tools.core.files import STANDARD, Input, Output, PictureFolder
-from zaklimot_tools.core.progress import Progress
 from zaklimot_tools.core.words import MOST_JOBS, MOST_OUTPUT, MOST_STEP, number_to, seconds
-from zaklimot_tools.images.holding import within
-from zaklimot_tools.images.words import add_shape
+from zaklimot_tools.images.words import add_shape, within
 from zaklimot_tools.script.words import add_program
 
-from .cases import SUITE
-from .modes import is_several
-from .reports import check, compare, compare_picture, pictures, text
-from .runs import run
-from .suite import scripts, suite
+from .places import SUITE
+
+# The words of the commands that have no option's name, and what each is.
+FILES: dict[str, tuple[str, Callable[[str], object]]] = {
+    "SCRIPT": ("the script, as text or bytes, or a folder of scripts", Input),
+    "REPORT": ("the report of a run", Input),
+    "OTHER": ("the report that it is compared with, such as that of another adapter", Input),
+    "EXPECTED": ("the expected report, as the suite has them", Input),
+    "STEP": ("the number of the step", number_to(MOST_STEP)),
+    "IMAGE": ("a PNG, or a PPM of the kind P6", Input),
+}
+COMMAND = """the command that runs a case, as one word of the shell. In it these places are filled:
+{script} the file of the case's script, {fonts} the font file, {name} the case's name, and {until},
+which becomes `--until N` where the run is to stop"""
+MANY: dict[str, Any] = {"action": "append", "default": []}
 
 
-def _add_cases(parser: argparse.ArgumentParser) -> None:
-    many = {"action": "append", "default": []}
-    add(
-        parser,
-        "--list FILE",
-        "reads this list of cases (default: the project's)",
-        type=Input,
-        default=str(SUITE),
-    )
-    add(
-        parser,
-        "--only PREFIX",
-        "takes only cases whose names begin with PREFIX; may be repeated",
-        **many,
-    )
-    told = "leaves out cases whose names begin with PREFIX; may be repeated"
-    add(parser, "--except PREFIX", told, dest="except_", **many)
-    told = "cases that it can answer, each up to the first refused step"
-    add(parser, "--machine", f"for a machine, which refuses nothing: {told}")
-
-
-def _add_suite(parser: argparse.ArgumentParser) -> None:
-    add(parser, "FOLDER", "the folder for expected pictures, after the word `pictures`", nargs="?")
-    add(parser, "--keep FOLDER", "keeps the reports and pictures of cases that don't agree")
-    add(parser, "--bytes COMMAND", "the command for scripts as bytes; without it they are skipped")
-    _add_cases(parser)
-    add(
-        parser,
-        "--no-refusals",
-        "counts steps that are to be refused as skipped",
-        dest="refusals",
-        action="store_false",
-    )
-    add(
-        parser, "--timeout SECONDS", "the time of each case (default: 60)", type=seconds, default=60
-    )
-    told = "the most that a case's report may have (default: 256)"
-    add(parser, "--output MIB", told, type=number_to(MOST_OUTPUT), default=256)
-    add(
-        parser,
-        "--jobs N",
-        "runs N commands at a time (default: 1)",
-        type=number_to(MOST_JOBS),
-        default=1,
-    )
-    add(parser, "--json", "prints the table as JSON")
-
-
-def _add_run(parser: argparse.ArgumentParser) -> None:
-    add_program(parser)
-    add(parser, "--try", "runs the program without its proofs, by `rt try`", dest="try_")
-    add(
-        parser,
-        "--until N",
-        "stops after N steps, and shows the state",
-        type=number_to(MOST_STEP, 0),
-    )
-    add(
-        parser,
-        "--only WHICH",
-        "shows only these steps, as 10-20,refused; also read, pictures, dumps, differs",
-    )
-    add(
-        parser,
-        "--pictures FOLDER",
-        "writes the pictures of the steps that --only names, or of all, as NNNN.png",
-        type=PictureFolder,
-    )
-    add(parser, "--show", "shows pictures as blocks of colour")
-    add(parser, "--html FILE", "writes the listing as a page, with its pictures", type=Output)
-    add(
-        parser,
-        "--debug FILE",
-        "writes a page that runs the script in a browser, step by step; nothing is run here",
-        type=Output,
-    )
-    add(parser, "--bless", "writes answers that are not as expected into the script")
-    add(parser, "--dry-run", "with --bless: lists its changes, and writes nothing")
-    add(parser, "--strict", "counts a refusal that is not expected as a difference")
-    add(parser, "--quiet", "shows only the answers that differ, and the last line")
-    add(parser, "--diff", "shows what differs as a unified diff of the script instead")
-    add(parser, "--json FILE", "writes steps, answers, digests and refusals as JSON", type=Output)
-    add(
-        parser,
-        "--junit FILE",
-        "writes the result of each script as XML for test runners",
-        type=Output,
-    )
-    add(
-        parser,
-        "--jobs N",
-        "runs N scripts of a folder at a time (default: 1)",
-        type=number_to(MOST_JOBS),
-        default=1,
-    )
-    add(parser, "--watch", "runs again when the script or the font file changes")
-    add(parser, "--build", "proves and builds the program first, if it is missing")
-    add_shape(parser)
-    _add_rules_of_run(parser)
+def is_several(words: argparse.Namespace) -> bool:
+    """Whether the scripts of a folder are run, or one as if it were in a folder."""
+    return words.junit is not None or os.path.isdir(words.script)
 
 
 def _has_pictures(words: argparse.Namespace) -> bool:
     return words.bless or words.pictures is not None or words.show
 
 
-def _add_rules_of_run(parser: argparse.ArgumentParser) -> None:
-    """What the options of `run` ask of one another."""
+def _add_cases(parser: argparse.ArgumentParser) -> None:
+    told = "reads this list of cases (default: the project's)"
+    add(parser, "--list FILE", told, type=Input, default=str(SUITE))
+    told = "takes only cases whose names begin with PREFIX; may be repeated"
+    add(parser, "--only PREFIX", told, **MANY)
+    told = "leaves out cases whose names begin with PREFIX; may be repeated"
+    add(parser, "--except PREFIX", told, dest="except_", **MANY)
+    told = "cases that it can answer, each up to the first refused step"
+    add(parser, "--machine", f"for a machine, which refuses nothing: {told}")
+
+
+def _add_suite(parser: argparse.ArgumentParser) -> None:
+    add(parser, "COMMAND", COMMAND)
+    add(parser, "FOLDER", "the folder for expected pictures, after the word `pictures`", nargs="?")
+    add(parser, "--keep FOLDER", "keeps the reports and pictures of cases that don't agree")
+    add(parser, "--bytes COMMAND", "the command for scripts as bytes; without it they are skipped")
+    _add_cases(parser)
+    told = "counts steps that are to be refused as skipped"
+    add(parser, "--no-refusals", told, dest="refusals", action="store_false")
+    add(
+        parser, "--timeout SECONDS", "the time of each case (default: 60)", type=seconds, default=60
+    )
+    told = "the most that a case's report may have (default: 256)"
+    add(parser, "--output MIB", told, type=number_to(MOST_OUTPUT), default=256)
+    told = "runs N commands at a time (default: 1)"
+    add(parser, "--jobs N", told, type=number_to(MOST_JOBS), default=1)
+    add(parser, "--json", "prints the table as JSON")
+
+
+def _add_scripts(parser: argparse.ArgumentParser) -> None:
+    add(parser, "FOLDER", "a new folder, or an empty one")
+    _add_cases(parser)
+
+
+def _add_run(parser: argparse.ArgumentParser) -> None:
+    _add_files(parser, "SCRIPT")
+    add_program(parser)
+    add(parser, "--try", "runs the program without its proofs, by `rt try`", dest="try_")
+    told = "stops after N steps, and shows the state"
+    add(parser, "--until N", told, type=number_to(MOST_STEP, 0))
+    told = "shows only these steps, as 10-20,refused; also read, pictures, dumps, differs"
+    add(parser, "--only WHICH", told)
+    told = "writes the pictures of the steps that --only names, or of all, as NNNN.png"
+    add(parser, "--pictures FOLDER", told, type=PictureFolder)
+    add(parser, "--show", "shows pictures as blocks of colour")
+    _add_pages(parser)
+    _add_blessing(parser)
+    add(parser, "--strict", "counts a refusal that is not expected as a difference")
+    add(parser, "--quiet", "shows only the answers that differ, and the last line")
+    add(parser, "--diff", "shows what differs as a unified diff of the script instead")
+    add(parser, "--json FILE", "writes steps, answers, digests and refusals as JSON", type=Output)
+    _add_folders(parser)
+    add(parser, "--watch", "runs again when the script or the font file changes")
+    told = "--watch wants a file that changes, and not standard input"
+    rule(parser, "watch", lambda words: words.script == STANDARD, told)
+    add(parser, "--build", "proves and builds the program first, if it is missing")
+    add_shape(parser)
+
+
+def _add_pages(parser: argparse.ArgumentParser) -> None:
     wanted = partial(rule, parser)
-    wanted(
-        "bless",
-        lambda words: words.script == STANDARD or words.until is not None,
-        "--bless writes into the script, whole: it wants a file, and no --until",
-    )
-    wanted(
-        "bless",
-        lambda words: words.diff or words.json is not None,
-        "--bless lists its changes: without --diff and --json",
-    )
-    wanted(
-        "dry_run",
-        lambda words: not words.bless,
-        "--dry-run tells what --bless would write: it wants --bless",
-    )
-    wanted(
-        "html",
-        _has_pictures,
-        "--html writes a page that has the pictures: without --bless, --pictures and --show",
-    )
-    wanted(
-        "script",
-        lambda words: is_several(words)
-        and (_has_pictures(words) or words.html or words.debug or words.only),
-        "a folder of scripts, and --junit, want none of --bless, --only, --pictures, --show, "
-        "--html and --debug",
-    )
-    wanted(
-        "watch",
-        lambda words: words.script == STANDARD,
-        "--watch wants a file that changes, and not standard input",
-    )
-    wanted(
-        "debug",
-        _has_pictures,
-        "--debug writes a page that runs the script: without --bless, --pictures and --show",
-    )
+    add(parser, "--html FILE", "writes the listing as a page, with its pictures", type=Output)
+    told = "--html writes a page that has the pictures: without --bless, --pictures and --show"
+    wanted("html", _has_pictures, told)
+    told = "writes a page that runs the script in a browser, step by step; nothing is run here"
+    add(parser, "--debug FILE", told, type=Output)
+    told = "--debug writes a page that runs the script: without --bless, --pictures and --show"
+    wanted("debug", _has_pictures, told)
     wanted(
         "debug",
         lambda words: words.html is None and (words.only or words.try_ or words.vga),
@@ -177,99 +118,153 @@ def _add_rules_of_run(parser: argparse.ArgumentParser) -> None:
     )
 
 
-def _add_pictures(parser: argparse.ArgumentParser) -> None:
-    add(parser, "FOLDER", "where the files go", nargs="?", type=PictureFolder)
-    add(
-        parser,
-        "--apng FILE",
-        "writes one picture that moves, each frame as long as it lasts",
-        type=Output,
-    )
-    add(
-        parser,
-        "--script SCRIPT",
-        "takes the frames' times from this script (default: 70 frames a second)",
-        type=Input,
-    )
-    add(parser, "--ppm", "writes the bytes as they are, as NNNN.ppm, instead of PNG")
-    steps = {"type": number_to(MOST_STEP), "action": "append", "default": []}
-    add(parser, "--step N", "writes only the picture of this step; may be repeated", **steps)
-    add_shape(parser)
+def _add_blessing(parser: argparse.ArgumentParser) -> None:
     wanted = partial(rule, parser)
+    add(parser, "--bless", "writes answers that are not as expected into the script")
     wanted(
-        "ppm",
-        lambda words: words.scale != 1 or words.aspect,
-        "--ppm gives the bytes as they are, with neither --scale nor --aspect",
+        "bless",
+        lambda words: words.script == STANDARD or words.until is not None,
+        "--bless writes into the script, whole: it wants a file, and no --until",
     )
     wanted(
-        "report",
-        lambda words: words.folder is None and words.apng is None,
-        "the pictures want a folder, or --apng a file",
+        "bless",
+        lambda words: words.diff or words.json is not None,
+        "--bless lists its changes: without --diff and --json",
     )
-    wanted(
-        "apng",
-        lambda words: words.folder is not None or words.ppm,
-        "--apng writes one file, with neither a folder nor --ppm",
+    add(parser, "--dry-run", "with --bless: lists its changes, and writes nothing")
+    told = "--dry-run tells what --bless would write: it wants --bless"
+    wanted("dry_run", lambda words: not words.bless, told)
+
+
+def _add_folders(parser: argparse.ArgumentParser) -> None:
+    told = "writes the result of each script as XML for test runners"
+    add(parser, "--junit FILE", told, type=Output)
+    told = "runs N scripts of a folder at a time (default: 1)"
+    add(parser, "--jobs N", told, type=number_to(MOST_JOBS), default=1)
+    rule(
+        parser,
+        "script",
+        lambda words: is_several(words)
+        and (_has_pictures(words) or words.html or words.debug or words.only),
+        "a folder of scripts, and --junit, want none of --bless, --only, --pictures, --show, "
+        "--html and --debug",
     )
+
+
+def _add_pictures(parser: argparse.ArgumentParser) -> None:
+    wanted = partial(rule, parser)
+    _add_files(parser, "REPORT")
+    add(parser, "FOLDER", "where the files go", nargs="?", type=PictureFolder)
+    told = "writes one picture that moves, each frame as long as it lasts"
+    add(parser, "--apng FILE", told, type=Output)
+    told = "takes the frames' times from this script (default: 70 frames a second)"
+    add(parser, "--script SCRIPT", told, type=Input)
+    add(parser, "--ppm", "writes the bytes as they are, as NNNN.ppm, instead of PNG")
+    told = "--ppm gives the bytes as they are, with neither --scale nor --aspect"
+    wanted("ppm", lambda words: words.scale != 1 or words.aspect, told)
+    told = "the pictures want a folder, or --apng a file"
+    wanted("report", lambda words: words.folder is None and words.apng is None, told)
+    told = "--apng writes one file, with neither a folder nor --ppm"
+    wanted("apng", lambda words: words.folder is not None or words.ppm, told)
+    told = "writes only the picture of this step; may be repeated"
+    add(parser, "--step N", told, type=number_to(MOST_STEP), **MANY)
+    add_shape(parser)
+
+
+def _add_compare(parser: argparse.ArgumentParser) -> None:
+    _add_files(parser, "REPORT", "OTHER")
+    add(parser, "--all", "tells all steps that differ, and not only the first")
+    told = "writes the first picture that differs as PNG, with its differing dots marked"
+    add(parser, "--picture FILE", told, type=Output)
+    add(parser, "--html FILE", "writes all steps that differ as one page", type=Output)
+    add_shape(parser)
+
+
+def _add_compare_picture(parser: argparse.ArgumentParser) -> None:
+    _add_files(parser, "REPORT", "STEP", "IMAGE")
+    told = (
+        "takes dots as alike whose components differ by N of 63, or in colours of 5, 6 and 5 bits"
+    )
+    add(parser, "--within N|5-6-5", told, type=within, default=0)
+    told = "writes the picture as PNG, with its differing dots marked"
+    add(parser, "--picture FILE", told, type=Output)
+    add_shape(parser)
+
+
+def _add_files(parser: argparse.ArgumentParser, *names: str) -> None:
+    for name in names:
+        told, kind = FILES[name]
+        add(parser, name, told + ("; - is standard input" if kind is Input else ""), type=kind)
+
+
+# Each command: the module of its job, what it does, its words, and an example of its own words.
+COMMANDS: dict[str, tuple[str, str, Callable[[argparse.ArgumentParser], object], str]] = {
+    "run": (
+        "runs",
+        "runs a script, or each one of a folder, and shows steps beside their lines and answers",
+        _add_run,
+        "examples/driver-test.vga --only refused,differs",
+    ),
+    "text": (
+        "reports",
+        "writes a report as text",
+        lambda parser: _add_files(parser, "REPORT"),
+        "report.txt",
+    ),
+    "pictures": (
+        "reports",
+        "writes the pictures of a report as files",
+        _add_pictures,
+        "report.txt pictures --scale 2",
+    ),
+    "compare": (
+        "reports",
+        "tells the first step in which two reports differ",
+        _add_compare,
+        "ours theirs --picture differing.png",
+    ),
+    "compare-picture": (
+        "reports",
+        "compares the picture of a step with an image, PNG or PPM",
+        _add_compare_picture,
+        "report.txt 198 screenshots/0198.png --within 5-6-5",
+    ),
+    "check": (
+        "reports",
+        "compares a report with the one that is expected",
+        lambda parser: _add_files(parser, "REPORT", "EXPECTED"),
+        "report.txt crates/vga_suite/data/dots/cursor-off.txt",
+    ),
+    "suite": (
+        "suite",
+        "holds a command to the suite; `suite pictures FOLDER` writes the pictures that it expects",
+        _add_suite,
+        "'tools/vga go {script} --fonts {fonts} {until}' --only host/",
+    ),
+    "scripts": (
+        "suite",
+        "writes the scripts of the suite's cases into a folder, as `suite` hands them to a command",
+        _add_scripts,
+        "cases --only dots/",
+    ),
+}
 
 
 def parser() -> argparse.ArgumentParser:
     """The parser of the command line."""
     made = cli.tool_parser(
         "vga-report",
-        (
-            "Runs scripts, and reads the reports of runs. `-` is standard input or output in the"
-            " place of any file."
-        ),
+        "Runs scripts, and reads the reports of runs. `-` is standard input or output in the place"
+        " of any file.",
         "tools/vga-report run examples/text-screen.vga",
         "tools/README.md",
         cli.DIFFERS,
     )
     commands = made.add_subparsers(required=True, metavar="COMMAND")
-    # Other words are files that are read.
-    types: dict[str, Callable[[str], object]] = {
-        "folder": str,
-        "command": str,
-        "step": number_to(MOST_STEP),
-    }
-
-    def adds(
-        job: Callable[[argparse.Namespace, Progress], int], *files: str
-    ) -> argparse.ArgumentParser:
-        told = job.__doc__ or ""
-        added = cli.command(commands, job.__name__.replace("_", "-"), job, told, description=told)
-        for file in files:
-            added.add_argument(file, type=types.get(file, Input), metavar=file.upper())
-        return added
-
-    _add_run(adds(run, "script"))
-    adds(text, "report")
-    _add_pictures(adds(pictures, "report"))
-    adding = adds(compare, "report", "other")
-    add(adding, "--all", "tells all steps that differ, and not only the first")
-    add(
-        adding,
-        "--picture FILE",
-        "writes the first picture that differs as PNG, with its differing dots marked",
-        type=Output,
-    )
-    add(adding, "--html FILE", "writes all steps that differ as one page", type=Output)
-    add_shape(adding)
-    adding = adds(compare_picture, "report", "step", "image")
-    told = (
-        "takes dots as alike whose components differ by N of 63, or in colours of 5, 6 and 5 bits"
-    )
-    add(adding, "--within N|5-6-5", told, type=within, default=0)
-    add(
-        adding,
-        "--picture FILE",
-        "writes the picture as PNG, with its differing dots marked",
-        type=Output,
-    )
-    add_shape(adding)
-    adds(check, "report", "expected")
-    _add_suite(adds(suite, "command"))
-    _add_cases(adds(scripts, "folder"))
+    for name, (module, told, add_words, example) in COMMANDS.items():
+        job = later(f"zaklimot_tools.report.{module}", name.replace("-", "_"))
+        example = f"tools/vga-report {name} {example}"
+        add_words(cli.command(commands, name, job, told, example))
     return made
 
 

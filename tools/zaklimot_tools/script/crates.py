@@ -37,7 +37,8 @@ def phases(progress: Progress, crate: str = "vga_c") -> Callable[[str], Hearer]:
     It tells what is done, and at which crate it is, of this one and those below it, or else what is
     said.
     """
-    crates, begun = [*below(crate), crate], time.monotonic()
+    crates = [*below(crate), crate]
+    begun = time.monotonic()
 
     def begin(phase: str) -> Hearer:
         place = ""
@@ -49,7 +50,8 @@ def phases(progress: Progress, crate: str = "vga_c") -> Callable[[str], Hearer]:
                 done = ", is done" if DONE.match(line) else ""
                 place = f"{named[-1]}, crate {crates.index(named[-1]) + 1} of {len(crates)}{done}"
             if progress.is_due():
-                seconds, told = int(time.monotonic() - begun), place or line
+                seconds = int(time.monotonic() - begun)
+                told = place or line
                 progress.tell(f"{seconds // 60}:{seconds % 60:02} {phase}{told and ': '}{told}")
 
         hear("")

@@ -19,7 +19,8 @@ def main(words: Optional[Sequence[str]] = None) -> int:
     not return."""
 
     def work() -> int:
-        path, given = found_program(instead=BUILD_ONE), sys.argv[1:] if words is None else words
+        path = found_program(instead=BUILD_ONE)
+        given = sys.argv[1:] if words is None else words
         sys.stdout.flush()
         if IS_POSIX:
             os.execv(path, [NAME, *given])

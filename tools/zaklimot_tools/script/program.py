@@ -26,7 +26,6 @@ CRATE = TOP / "crates" / "vga"
 PROGRAM = CRATE / "out" / "vga"
 # The program of an unpacked release, and the command that finds a program as this does.
 RELEASED, LAUNCHER = TOP / "bin" / "vga", TOP / "tools" / "vga"
-FONTS = TOP / "fonts" / "zaklimot.fnt"
 # No script is printed in more bytes: none of its steps has a line that is seven times as long as
 # its bytes.
 MOST_PRINTED = 7 << 24
@@ -186,7 +185,8 @@ class Tried:
 
     # What `rt try` says of a run that has ended; and why it has ended one, behind what that has
     # written.
-    ENDED, CHECKED = "run=ended status=", re.compile("(?m)^checked: (.+)")
+    ENDED = "run=ended status="
+    CHECKED = re.compile("(?m)^checked: (.+)")
 
     @contextmanager
     def running(

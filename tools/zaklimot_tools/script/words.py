@@ -2,10 +2,12 @@
 
 import argparse
 
+from zaklimot_tools import TOP
 from zaklimot_tools.core.cli import add
 from zaklimot_tools.core.files import Input
 
-from .program import FONTS
+
+FONTS = TOP / "fonts" / "zaklimot.fnt"
 
 
 def add_program(parser: argparse.ArgumentParser) -> None:

@@ -6,7 +6,7 @@ import sys
 from itertools import islice
 from pathlib import Path
 from tempfile import TemporaryDirectory
-from typing import ContextManager, Iterator, Optional, Sequence, Union
+from typing import Any, ContextManager, Iterator, Optional, Sequence, Union
 
 from zaklimot.format import Picture
 from zaklimot_tools.core import cli
@@ -101,63 +101,49 @@ def _deed(word: str) -> Deed:
 
 def _add_record(parser: argparse.ArgumentParser) -> None:
     add(parser, "FOLDER", "a new folder, or an empty one")
+    _add_deeds(parser)
+    _add_page_machine(parser)
+    told = "takes the software as quiet after so long without a cycle (default: 3)"
+    add(parser, "--quiet SECONDS", told, type=seconds, default=3)
+    told = "ends the machine after so many seconds (default: 60)"
+    add(parser, "--seconds SECONDS", told, type=seconds, default=60)
+    add(parser, "--chain-4", "records mode 13 too, by a plugin for qemu 7.2 that gcc builds")
+    add(parser, "--card DEVICE", "takes this VGA of qemu's devices (default: VGA)")
+    add_program(parser)
+
+
+def _add_deeds(parser: argparse.ArgumentParser) -> None:
     told = (
         "presses keys so many seconds after power-on, or once the software is quiet; may be"
         " repeated"
     )
-    add(
-        parser,
-        "--key [SECONDS:]KEY,..",
-        told,
-        dest="deeds",
-        action="append",
-        default=[],
-        type=_deed,
-    )
+    many: dict[str, Any] = {"dest": "deeds", "action": "append"}
+    add(parser, "--key [SECONDS:]KEY,..", told, type=_deed, default=[], **many)
     told = (
         "dumps the screen, among the keys in the order of the words (default: at the end, once it"
         " is quiet)"
     )
-    screen = {
-        "dest": "deeds",
-        "action": "append",
-        "type": lambda word: Deed(None if word == QUIET else seconds(word)),
-    }
-    add(parser, "--screen quiet|SECONDS", told, **screen)
+
+    def screen(word: str) -> Deed:
+        return Deed(None if word == QUIET else seconds(word))
+
+    add(parser, "--screen quiet|SECONDS", told, type=screen, **many)
+
+
+def _add_page_machine(parser: argparse.ArgumentParser) -> None:
     told = (
         "runs this file on the machine of the page, in node, instead of on qemu: a program for DOS,"
         " a floppy, a disk, a ZIP, or a run that the page has saved, whose keys come again. Seconds"
         " are the machine's then, and not the clock's"
     )
     add(parser, "--in-page FILE", told, type=Input)
-    told = (
-        f"the processor's speed in the page's machine: {', '.join(inpage.SPEEDS)} (default:"
-        f" {inpage.USUAL_SPEED})"
-    )
+    speeds = f"{', '.join(inpage.SPEEDS)} (default: {inpage.USUAL_SPEED})"
+    told = f"the processor's speed in the page's machine: {speeds}"
     add(parser, "--speed NAME", told, choices=inpage.SPEEDS)
-    add(
-        parser,
-        "--rom FILE",
-        "the ROM of a video BIOS, which serves interrupt 10 of the page's machine",
-        type=Input,
-    )
-    add(
-        parser,
-        "--start NAME",
-        "what the page's machine runs of a ZIP in which several files can run",
-    )
-    told = "takes the software as quiet after so long without a cycle (default: 3)"
-    add(parser, "--quiet SECONDS", told, type=seconds, default=3)
-    add(
-        parser,
-        "--seconds SECONDS",
-        "ends the machine after so many seconds (default: 60)",
-        type=seconds,
-        default=60,
-    )
-    add(parser, "--chain-4", "records mode 13 too, by a plugin for qemu 7.2 that gcc builds")
-    add(parser, "--card DEVICE", "takes this VGA of qemu's devices (default: VGA)")
-    add_program(parser)
+    told = "the ROM of a video BIOS, which serves interrupt 10 of the page's machine"
+    add(parser, "--rom FILE", told, type=Input)
+    told = "what the page's machine runs of a ZIP in which several files can run"
+    add(parser, "--start NAME", told)
 
 
 def _add_pictures(parser: argparse.ArgumentParser) -> None:
@@ -184,21 +170,25 @@ def _parser(qemu: Sequence[str] = ()) -> argparse.ArgumentParser:
         cli.DIFFERS,
     )
     commands = parser.add_subparsers(required=True, metavar="COMMAND")
-    made = cli.command(commands, "convert", _convert, "makes a script of a trace")
+    example = "tools/vga-trace convert examples/typed-line.trace script.bin"
+    made = cli.command(commands, "convert", _convert, "makes a script of a trace", example)
     _add_trace(made)
     add(made, "SCRIPT", "the script; - is standard output", type=Output)
     _add_listing(made)
     told = "compares a script's report with the trace; takes the options of convert"
-    made = cli.command(commands, "check", _check, told)
+    example = "tools/vga-trace check examples/typed-line.trace report.txt"
+    made = cli.command(commands, "check", _check, told, example)
     _add_trace(made)
     add(made, "REPORT", "the report; - is standard input", type=Input)
     told = "tells at most N kinds of refusals, of reads, and of reads that differ (default: 40)"
     add(made, "--most N", told, type=number_to(MOST_KINDS), default=40)
     _add_listing(made)
-    _add_trace(cli.command(commands, "kinds", _kinds, "counts a trace's cycles by kind"))
-    made = cli.command(
-        commands, "pictures", _pictures, "makes the pictures of a trace, in real time"
-    )
+    example = "tools/vga-trace kinds examples/typed-line.trace"
+    told = "counts a trace's cycles by kind"
+    _add_trace(cli.command(commands, "kinds", _kinds, told, example))
+    example = "tools/vga-trace pictures examples/typed-line.trace --apng typed-line.png"
+    told = "makes the pictures of a trace, in real time"
+    made = cli.command(commands, "pictures", _pictures, told, example)
     _add_trace(made)
     _add_pictures(made)
     made = cli.command(
@@ -210,7 +200,9 @@ def _parser(qemu: Sequence[str] = ()) -> argparse.ArgumentParser:
             "vga-trace record [OPTION..] FOLDER -- QEMU-WORD..\n       vga-trace record [OPTION..]"
             " FOLDER --in-page FILE"
         ),
-        epilog="After `--` stand qemu's words for what it boots: -cdrom disc.iso",
+        epilog="After `--` stand qemu's words for what it boots.\n\nExample:\n"
+        "  tools/vga-trace record recorded --key 2:ret -- -cdrom disc.iso",
+        formatter_class=argparse.RawDescriptionHelpFormatter,
     )
     made.set_defaults(qemu=qemu)
     _add_record(made)
@@ -264,15 +256,16 @@ def _kinds(words: argparse.Namespace, _: Progress) -> None:
 def _pictures(words: argparse.Namespace, _: Progress) -> None:
     if words.folder is None and words.apng is None:
         raise Trouble("the pictures want a folder, or --apng a file")
-    program, shape, found = (
-        found_program(words.vga),
-        Shape(words.scale, words.aspect),
-        _opened(words),
-    )
+    program = found_program(words.vga)
+    shape = Shape(words.scale, words.aspect)
+    found = _opened(words)
     if words.folder is not None:
         files().make_folder(words.folder)
     with TemporaryDirectory(prefix="vga-trace-") as name:
-        script, begin, width, height = Path(name) / "script", 0.0, 0, 0
+        script = Path(name) / "script"
+        begin = 0.0
+        width = 0
+        height = 0
         with found as trace, writing(str(script)) as stream:
             listing = Listing(
                 trace, frames=CLOCK, most=words.to, first=words.from_, longest=words.longest
@@ -284,11 +277,9 @@ def _pictures(words: argparse.Namespace, _: Progress) -> None:
                 path = Path(words.folder) / f"{begin:09.3f}.png"
                 save_png(str(path), picture, shape)
                 write_name(path)
-            begin, width, height = (
-                begin + lasts,
-                max(width, picture.width),
-                max(height, picture.height),
-            )
+            begin = begin + lasts
+            width = max(width, picture.width)
+            height = max(height, picture.height)
         if words.apng is not None:
             pictures = shown(program, words.fonts, script, words.longest)
             _write_moving(words.apng, Animation(shape, (width, height)), pictures)
@@ -376,7 +367,8 @@ def _judge(
         progress.clear()
         print(f"vga-trace: {text}", file=sys.stderr)
 
-    is_own, refusals = isinstance(machine, inpage.PageMachine), 0
+    is_own = isinstance(machine, inpage.PageMachine)
+    refusals = 0
     if isinstance(machine, inpage.PageMachine):
         screens, refusals = inpage.record(machine, folder, say, progress)
     else:
@@ -391,7 +383,8 @@ def _judge(
     agrees = not done.checked.differing and sum(done.checked.refused.values()) == refusals
     are_equal = agrees and bool(screens)
     for number, at in enumerate(screens, 1):
-        screen, front = done.screens.get(number - 1), f"screen {number} at {at:.1f} s"
+        screen = done.screens.get(number - 1)
+        front = f"screen {number} at {at:.1f} s"
         are_equal &= screen is not None and screen.is_equal
         if screen is None:
             lines.append(f"{front}: here no frame has the shape of a picture")

@@ -98,7 +98,8 @@ class Pauses:
 
     def _exact(self, step: TraceStep) -> int:
         """The dots before a step that the trace tells. A frame lets its last dot pass itself."""
-        self._last, self._owed = step.time, 0
+        self._last = step.time
+        self._owed = 0
         return max(0, (step.dots or 0) - (step.opcode == FRAME))
 
     def _dots(self, now: Optional[int]) -> int:
@@ -111,7 +112,8 @@ class Pauses:
             self._owed += max(passed, 0)
         if self._owed < LEAST_PAUSE:
             return 0
-        owed, self._owed = self._owed, 0
+        owed = self._owed
+        self._owed = 0
         speed = self._registers.speed()
         return 0 if speed is None else min(int(owed * speed[1] / 1_000_000), speed[0])
 
@@ -130,7 +132,8 @@ class Clocked:
         self._drawn: Optional[float] = None
         self._ends: Optional[float] = None
         self._is_changed = False
-        self.shortened, self.left_out = 0, 0.0
+        self.shortened = 0
+        self.left_out = 0.0
 
     def steps(self, steps: Iterable[TraceStep]) -> Iterator[TraceStep]:
         """The steps, with the frames that end before them, and the time until the end of the
@@ -152,7 +155,8 @@ class Clocked:
         if self._is_changed:
             yield from self._passed()
             yield TraceStep(FRAME)
-            self._drawn, self._is_changed = self._ends, False
+            self._drawn = self._ends
+            self._is_changed = False
         self._ends += ((now - self._ends) // frame + 1) * frame
 
     def _passed(self) -> Iterator[TraceStep]:
@@ -160,10 +164,8 @@ class Clocked:
         if seconds > self.longest:
             self.shortened += 1
             self.left_out += seconds - self.longest
-        speed, frames = (
-            self._registers.speed(),
-            round(min(seconds, self.longest) / self._registers.frame()) - 1,
-        )
+        speed = self._registers.speed()
+        frames = round(min(seconds, self.longest) / self._registers.frame()) - 1
         yield from advances(0 if speed is None else speed[0] * max(frames, 0))
 
 
@@ -173,7 +175,9 @@ def with_flips(steps: Iterable[TraceStep]) -> Iterator[TraceStep]:
 
     There is one frame for the two halves of an address.
     """
-    index, address, is_flipping = 0, dict.fromkeys(START_ADDRESS, 0), False
+    index = 0
+    address = dict.fromkeys(START_ADDRESS, 0)
+    is_flipping = False
     for step in steps:
         written = [
             (port & 1, value)
@@ -229,7 +233,8 @@ class Listing:
         self._is_timed = has_time or frames == CLOCK or isinstance(frames, float)
         self._most, self._first = most, first
         self.has_time = has_time
-        self._pauses, self._clocked = Pauses(), Clocked(longest)
+        self._pauses = Pauses()
+        self._clocked = Clocked(longest)
         self.rebuilding = 0
 
     def steps(self) -> Iterator[TraceStep]:
@@ -293,7 +298,9 @@ class Listing:
         yield from steps
 
     def _with_screens(self, steps: Iterator[TraceStep]) -> Iterator[TraceStep]:
-        screens, dots, taken = self.trace.screens, self.trace.screen_dots, 0
+        screens = self.trace.screens
+        dots = self.trace.screen_dots
+        taken = 0
         for step in steps:
             passed = 0
             while taken < len(screens) and screens[taken] < step.cycle:
@@ -330,16 +337,20 @@ def folded(steps: Iterable[TraceStep], code: Code, has_blocks: bool = True) -> I
     """
     ahead = _Ahead(iter(steps), code)
     while ahead.has(AHEAD):
-        size, at, count = ahead.group() if has_blocks else 0, ahead.at, 1
+        size = ahead.group() if has_blocks else 0
+        at = ahead.at
+        count = 1
         group, codes = ahead.steps[at : at + (size or 1)], ahead.codes[at : at + (size or 1)]
-        last, ahead.at = group[-1], at + len(group)
+        last = group[-1]
+        ahead.at = at + len(group)
         while (
             size
             and count < format.MOST_COUNT
             and ahead.has(size)
             and ahead.codes[ahead.at : ahead.at + size] == codes
         ):
-            ahead.at, count = ahead.at + size, count + 1
+            ahead.at = ahead.at + size
+            count = count + 1
             last = ahead.steps[ahead.at - 1]
         yield Repeated(group, codes, count, last.cycle)
 
@@ -439,17 +450,16 @@ def convert(
 
     Rows of equal steps become blocks, which version 2 has, if these are wanted.
     """
-    written, body = Written(is_text), bytearray()
+    written = Written(is_text)
+    body = bytearray()
     for row in folded(listing.steps(), TraceStep.text if is_text else TraceStep.data, has_blocks):
         body += written.row(row)
         if (
             max(written.script_bytes, written.text_bytes) > MOST_BYTES - FOR_THE_END
             or written.steps > MOST_STEPS - FOR_THE_END
         ):
-            last, most = (
-                written.last_cycle,
-                f"more than {MOST_BYTES:,} bytes, or means more than {MOST_STEPS:,} steps",
-            )
+            last = written.last_cycle
+            most = f"more than {MOST_BYTES:,} bytes, or means more than {MOST_STEPS:,} steps"
             part = f"; `--to {last}` ends before that, and `--from {last + 1}` goes on after it"
             raise Trouble(
                 f"the script has {most}{part if last else ', and no cycle fits'}",

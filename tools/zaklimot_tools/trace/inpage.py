@@ -20,6 +20,7 @@ from zaklimot_tools import TOP
 from zaklimot_tools.core.processes import (
     DRAINING,
     MOST_IN_LINE,
+    Word,
     check_program,
     end_with_parent,
     run,
@@ -37,12 +38,10 @@ NODE, OLDEST = "node", 18
 SOURCES = TOP / "page" / "machine"
 # The speeds of the page's list, and the one that it begins with; a file of the page has so many
 # bytes at most.
-SPEEDS, USUAL_SPEED, MOST_FILE, MOST_ROM = (
-    ("8088", "286", "386", "fastest"),
-    "386",
-    1 << 28,
-    1 << 16,
-)
+SPEEDS = ("8088", "286", "386", "fastest")
+USUAL_SPEED = "386"
+MOST_FILE = 1 << 28
+MOST_ROM = 1 << 16
 # What a browser calls the keys that qemu names otherwise: their places, and what they type with
 # Shift and without.
 PLACES = {
@@ -130,7 +129,8 @@ def _part(name: str) -> dict[str, str]:
     if name in LETTERS:
         place, letters = LETTERS[name]
     elif name in PLACES:
-        place, letters = PLACES[name], ""
+        place = PLACES[name]
+        letters = ""
     else:
         raise Trouble(f"`{name}` is no key of the page's machine")
     modifier = next((flag for front, flag in MODIFIERS.items() if place.startswith(front)), "")
@@ -163,47 +163,51 @@ def check_node() -> None:
         raise Trouble(f"it is older than version {OLDEST}", NODE)
 
 
+def _lay_request(machine: PageMachine, kept: Path, folder: Path) -> Path:
+    """Lays what the machine runs into a folder, and the file that asks node for it."""
+    (folder / "file").write_bytes(bytes_of(machine.file, MOST_FILE))
+    if machine.rom is not None:
+        (folder / "rom").write_bytes(bytes_of(machine.rom, MOST_ROM))
+    is_typed = machine.speed or machine.rom or any(deed.keys for deed in machine.deeds)
+    asked = {
+        "file": str(folder / "file"),
+        "name": Path(machine.file).name,
+        "folder": str(kept.resolve()),
+        "deeds": [_deed(deed) for deed in machine.deeds],
+        "quiet": machine.quiet,
+        "seconds": machine.most,
+        "speed": machine.speed or USUAL_SPEED,
+        "rom": None if machine.rom is None else str(folder / "rom"),
+        "chosen": machine.chosen,
+        "isTyped": bool(is_typed),
+    }
+    request = folder / "request"
+    request.write_text(json.dumps(asked), "ascii")
+    return request
+
+
 def record(machine: PageMachine, kept: Path, say: Say, progress: Progress) -> Told:
     """Leaves a trace and the dumps of screens in a folder; `say` tells what may spoil them."""
-    deeds = [_deed(deed) for deed in machine.deeds]
+    # A key that the page's machine lacks is told first.
+    for deed in machine.deeds:
+        _deed(deed)
     check_node()
     with ExitStack() as stack:
         folder = Path(stack.enter_context(tempfile.TemporaryDirectory(prefix="vga-recording-")))
-        request, answer = folder / "request", folder / "answer"
-        (folder / "file").write_bytes(bytes_of(machine.file, MOST_FILE))
-        if machine.rom is not None:
-            (folder / "rom").write_bytes(bytes_of(machine.rom, MOST_ROM))
-        request.write_text(
-            json.dumps(
-                {
-                    "file": str(folder / "file"),
-                    "name": Path(machine.file).name,
-                    "folder": str(kept.resolve()),
-                    "deeds": deeds,
-                    "quiet": machine.quiet,
-                    "seconds": machine.most,
-                    "speed": machine.speed or USUAL_SPEED,
-                    "rom": None if machine.rom is None else str(folder / "rom"),
-                    "chosen": machine.chosen,
-                    "isTyped": bool(
-                        machine.speed or machine.rom or any(deed.keys for deed in machine.deeds)
-                    ),
-                }
-            ),
-            "ascii",
-        )
+        request = _lay_request(machine, kept, folder)
+        answer = folder / "answer"
         stream = stack.enter_context(writing(str(kept / TRACE)))
         # The same bytes each time: without the name and the time of the file.
         target = stack.enter_context(gzip.GzipFile("", "wb", 6, stream, mtime=0))
         said = stack.enter_context(open(folder / "said", "wb"))
-        words = [
+        words: list[Word] = [
             "nice",
             "-n",
             "10",
             NODE,
-            str(Path(__file__).with_suffix(".mjs")),
-            str(request),
-            str(answer),
+            Path(__file__).with_suffix(".mjs"),
+            request,
+            answer,
         ]
         process = stack.enter_context(
             started(words, stdout=subprocess.PIPE, stderr=said, preexec_fn=end_with_parent)
@@ -214,10 +218,8 @@ def record(machine: PageMachine, kept: Path, say: Say, progress: Progress) -> To
         keeper.start()
         _wait(process, keeper, progress)
         if process.returncode:
-            raise Trouble(
-                said_last(folder / "said") or f"it ended with status {process.returncode}",
-                machine.file,
-            )
+            ended = f"it ended with status {process.returncode}"
+            raise Trouble(said_last(folder / "said") or ended, machine.file)
         told = json.loads(answer.read_text("utf-8"))
     for line in told["said"]:
         say(line[:MOST_IN_LINE])

@@ -93,7 +93,8 @@ class Keeper(Thread):
     def __init__(self, source: BinaryIO, target: BinaryIO, name: str = QEMU) -> None:
         super().__init__(daemon=True)
         self._source, self._target, self._name = source, target, name
-        self.size, self.last = 0, time.monotonic()
+        self.size = 0
+        self.last = time.monotonic()
         self.trouble: Optional[Trouble] = None
 
     def run(self) -> None:
@@ -101,7 +102,8 @@ class Keeper(Thread):
         end."""
         with self._source:
             while chunk := os.read(self._source.fileno(), CHUNK):
-                self.size, self.last = self.size + len(chunk), time.monotonic()
+                self.size = self.size + len(chunk)
+                self.last = time.monotonic()
                 try:
                     if self.size <= MOST_LINES:
                         self._target.write(chunk)
@@ -153,7 +155,8 @@ class Session:
         """Does all that is to be done. The last screen is taken in the last second at the
         latest."""
         for number, deed in enumerate(self.machine.deeds, 1):
-            is_due, is_last = self._wait(deed), number == len(self.machine.deeds)
+            is_due = self._wait(deed)
+            is_last = number == len(self.machine.deeds)
             if self.has_ended():
                 say(
                     f"the machine ended by itself after {time.monotonic() - self.began:.1f} seconds"

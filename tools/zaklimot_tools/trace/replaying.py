@@ -95,7 +95,8 @@ class Screen:
     @cached_property
     def dots(self) -> Sequence[tuple[int, int]]:
         """The dots that differ, as columns and rows; none where the sizes do."""
-        part, other = self.part, self.held.image
+        part = self.part
+        other = self.held.image
         return (
             []
             if other is None
@@ -197,8 +198,11 @@ def _is_split_within_row(screen: Screen) -> bool:
     It goes on with the lines of the row that is under way, so the split's rows end too high, by the
     lines that this row has had. What comes up from below the picture can't be told from it.
     """
-    picture, image, crtc = screen.part, screen.held.image, screen.state.crtc.registers
-    begin, lines = _line_compare(crtc) + 1, _row_lines(crtc)
+    picture = screen.part
+    image = screen.held.image
+    crtc = screen.state.crtc.registers
+    begin = _line_compare(crtc) + 1
+    lines = _row_lines(crtc)
     had = begin % lines
     if screen.is_text or not had or image is None or any(y < begin for _, y in screen.dots):
         return False
@@ -292,10 +296,12 @@ class Replay:
             yield answer
 
     def _judge(self, picture: Picture) -> None:
-        path, number = dump(self.folder, self._dumps), self._dumps // (1 if self.is_own else PHASES)
+        path = dump(self.folder, self._dumps)
+        number = self._dumps // (1 if self.is_own else PHASES)
         if not path.exists():
             return
-        image, cycle = image_of(image_bytes(str(path)), str(path)), self.cycles[self._dumps]
+        image = image_of(image_bytes(str(path)), str(path))
+        cycle = self.cycles[self._dumps]
         screen = Screen(
             self.state, picture, image, path, cycle, self.listing.trace.lacking, self.is_own
         )
@@ -323,13 +329,16 @@ def replay(
 
     In a recording of the page's own machine time passes, dot by dot.
     """
-    trace, script, report = str(folder / TRACE), folder / "script.bin", folder / "report.txt"
+    trace = str(folder / TRACE)
+    script = folder / "script.bin"
+    report = folder / "report.txt"
     with opened(trace) as read, writing(str(script)) as stream:
         written = convert(Listing(read, has_time=is_own, frames=SCREENS), stream)
         cycles = read.screens
     _run_script(program, fonts, script, report)
     with opened(trace) as read, reading(str(report)) as answers:
-        listing, name = Listing(read, has_time=is_own, frames=SCREENS), str(report)
+        listing = Listing(read, has_time=is_own, frames=SCREENS)
+        name = str(report)
         done = Replay(written, listing, folder, cycles, is_own=is_own)
         done.checked = check(
             done.steps(), done.answers(Report(answers, name, progress).steps()), name, is_own
@@ -345,7 +354,8 @@ def shown(
 
     Equal ones that follow one another are one.
     """
-    delay, seconds = delays_of(str(script)), 0.0
+    delay = delays_of(str(script))
+    seconds = 0.0
     last: Picture | None = None
     with BuiltProgram(program).running(script, fonts, None, True) as outcome:
         for answer in Report(cast(io.BufferedReader, outcome.report), "report").steps():
@@ -354,7 +364,8 @@ def shown(
             if last is not None and answer.picture.ppm != last.ppm:
                 yield last, seconds
                 seconds = 0.0
-            last, seconds = answer.picture, seconds + delay(answer.number)
+            last = answer.picture
+            seconds = seconds + delay(answer.number)
     if outcome.status:
         raise Trouble(f"it ended with status {outcome.status}: {fault_of(outcome)}", program)
     if last is None:

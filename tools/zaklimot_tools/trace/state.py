@@ -67,7 +67,8 @@ class State:
         self.misc = 0
         self.seq = Bank("033D0F3F0E", 0x07)
         self.gfx = Bank("0F0F0F1F037B0F0FFF", 0x0F, {5: (0x20, 0)})
-        crtc_kept, crtc_wanted = "FF" * 8 + "7FFF3F7F" + "FF" * 8 + "7FFFFFEFFF", {
+        crtc_kept = "FF" * 8 + "7FFF3F7F" + "FF" * 8 + "7FFFFFEFFF"
+        crtc_wanted = {
             0x14: (0x20, 0),
             0x17: (0x0F, 0x03),
         }
@@ -150,7 +151,8 @@ class State:
     def _writer(self, port: int, value: int, index: Optional[int]) -> Optional[Callable[[], None]]:
         """What writes a value to a port, whose index may be another then; None where that is
         refused."""
-        bank, bank_of_data = self._bank(port), self._bank(port - 1)
+        bank = self._bank(port)
+        bank_of_data = self._bank(port - 1)
         if bank is not None:
             return partial(setattr, bank, "index", value & bank.index_kept)
         if bank_of_data is not None:
@@ -178,9 +180,8 @@ class State:
         self.is_data = not self.is_data
 
     def _reader(self, port: int) -> Optional[Callable[[], int]]:
-        bank, bank_of_data = self._bank(port), self.attr if port == ATTRIBUTE_READ else self._bank(
-            port - 1
-        )
+        bank = self._bank(port)
+        bank_of_data = self.attr if port == ATTRIBUTE_READ else self._bank(port - 1)
         if bank is not None:
             return partial(getattr, bank, "index")
         if bank_of_data is not None:
@@ -218,7 +219,8 @@ class Memory:
 
     def put(self, place: int, value: int) -> None:
         """Writes a byte. The latches stay."""
-        planes, offset = self._seq[2], self._offset(place)
+        planes = self._seq[2]
+        offset = self._offset(place)
         if self._seq[4] & 8:
             planes &= 1 << (place & 3)
         elif not self._seq[4] & 4:
@@ -249,7 +251,9 @@ class Memory:
         return place & 0xFFFE if self._gfx[6] & 2 else place
 
     def _stored(self, value: int) -> int:
-        mode, mask, latches = self._gfx[5] & 3, self._gfx[8], self.latches
+        mode = self._gfx[5] & 3
+        mask = self._gfx[8]
+        latches = self.latches
         rotated = (value << 8 | value) >> (self._gfx[3] & 7) & 0xFF
         if mode == 0:
             set_planes = SPREAD[self._gfx[1]]
@@ -257,8 +261,10 @@ class Memory:
         elif mode == 2:
             data = SPREAD[value & 0xF]
         else:
-            data, mask = SPREAD[self._gfx[0]], mask & rotated
-        data, mask = FUNCTIONS[self._gfx[3] >> 3](data, latches), mask * EACH
+            data = SPREAD[self._gfx[0]]
+            mask = mask & rotated
+        data = FUNCTIONS[self._gfx[3] >> 3](data, latches)
+        mask = mask * EACH
         return data & mask | latches & ~mask
 
 
@@ -290,7 +296,9 @@ class Bank:
         wanted: Mapping[int, tuple[int, int]] = {},
         opened: Callable[[Bank], int] = lambda _: 0xFF,
     ) -> None:
-        self._kept, self._wanted, self._opened = bytes.fromhex(kept), wanted, opened
+        self._kept = bytes.fromhex(kept)
+        self._wanted = wanted
+        self._opened = opened
         self.index_kept = index_kept
         self.registers = [0] * len(self._kept)
         self.index = 0
@@ -326,7 +334,8 @@ class Dac:
 
     def choose(self, index: int) -> None:
         """Writes the index; red is next."""
-        self.index, self.next = index, 0
+        self.index = index
+        self.next = 0
 
     def write(self, value: int) -> None:
         """Writes the next component."""
@@ -357,7 +366,8 @@ class Beam:
     """
 
     def __init__(self) -> None:
-        self.frame, self.place = 0, (0, 0, 0)
+        self.frame = 0
+        self.place = (0, 0, 0)
         # What was taken of the registers at the first dot of the frame under way.
         self.taken = dict.fromkeys(TAKEN, 0)
 
@@ -381,7 +391,8 @@ class Beam:
             self.is_at_begin,
             self.drawn(shape),
         )
-        end, frames = begin + count, 0
+        end = begin + count
+        frames = 0
         if end // dots == begin // dots:
             self.place = line, character, dot + count
         elif end // (dots * characters) == begin // (dots * characters):
@@ -395,7 +406,8 @@ class Beam:
 
     def end_frame(self) -> None:
         """Goes on to the end of the frame."""
-        self.frame, self.place = (self.frame + 1) % FRAMES, (0, 0, 0)
+        self.frame = (self.frame + 1) % FRAMES
+        self.place = (0, 0, 0)
 
 
 def rebuilt(state: State) -> Iterator[TraceStep]:
@@ -464,7 +476,8 @@ def _planes(words: list[int]) -> Iterator[TraceStep]:
     there."""
     steps: dict[int, list[TraceStep]] = {}
     for offset in range(0, PLANE_BYTES, 2):
-        low, high = words[offset], words[offset + 1]
+        low = words[offset]
+        high = words[offset + 1]
         if not (low or high):
             continue
         values = (
@@ -506,7 +519,8 @@ def _dac(state: State) -> Iterator[TraceStep]:
 def _controller(state: State) -> Iterator[TraceStep]:
     """The CRT controller, and the beam's place in its frame, which began with registers of that
     time."""
-    port, registers = state.controller, state.crtc.registers
+    port = state.controller
+    registers = state.crtc.registers
     taken = {} if state.beam.is_at_begin else state.beam.taken
     yield _register(port, RETRACE_END, registers[RETRACE_END] & ~PROTECT)
     for index, value in enumerate(registers):

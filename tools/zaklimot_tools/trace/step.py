@@ -115,11 +115,13 @@ def steps_of(cycles: Iterable[Cycle], apart: Sequence[int] = ()) -> Iterator[Tra
 def without_polls(steps: Iterable[TraceStep]) -> Iterator[TraceStep]:
     """The steps, but of a row of reads of input status 1, with nothing between them, the first
     alone."""
-    last, dots = None, 0
+    last = None
+    dots = 0
     for step in steps:
         port = step.address if step.is_status else None
         if port is not None and port == last:
             dots += step.dots or 0
             continue
         yield step._replace(dots=(step.dots or 0) + dots) if dots else step
-        last, dots = port, 0
+        last = port
+        dots = 0

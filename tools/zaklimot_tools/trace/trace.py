@@ -259,7 +259,8 @@ class Trace:
         if dots is None:
             return None
         self.has_dots = True
-        passed, self._dots = int(dots) + self._dots, 0
+        passed = int(dots) + self._dots
+        self._dots = 0
         return passed
 
     def _pass(self, line: bytes) -> None:

@@ -44,7 +44,8 @@ def _read(path: str) -> Results:
     data = read_at_most(path, MOST_BYTES)
     try:
         found = json.loads(data)
-        command, cases = found["command"], [
+        command = found["command"]
+        cases = [
             {**case, "rule": str(rule["rule"]), "folder": str(rule["folder"])}
             for rule in found["rules"]
             for case in rule["cases"]

@@ -26,8 +26,9 @@ from zaklimot_tools.core.progress import Progress
 from zaklimot_tools.core.trouble import Trouble
 from zaklimot_tools.explain.faults import script_of
 from zaklimot_tools.floppy.image import image_for
-from zaklimot_tools.report.cases import SUITE
-from zaklimot_tools.script.program import FONTS, found_program
+from zaklimot_tools.report.places import SUITE
+from zaklimot_tools.script.program import found_program
+from zaklimot_tools.script.words import FONTS
 from zaklimot_tools.trace.recording import TRACE, Deed, QemuMachine, chain_4, record
 from zaklimot_tools.trace.replaying import Replay, replay
 
@@ -91,7 +92,8 @@ def _card(rom: str) -> list[str]:
 def _disc(mode: int, folder: Path) -> list[str]:
     """A disc that lets the video BIOS draw in a mode: an image of vga-floppy with a script of the
     suite."""
-    disc, name = folder / "calls.img", f"mode-{mode:02x}-cut-by-cell.vga"
+    disc = folder / "calls.img"
+    name = f"mode-{mode:02x}-cut-by-cell.vga"
     # Where mode 7 is set, the CRT controller isn't at 3B4 yet, and keeps what it had: that is to be
     # what text has.
     text = (b"int ax=3\n" if mode == 7 else b"") + (SUITE.parent / "screens" / name).read_bytes()
@@ -203,7 +205,9 @@ SOFTWARE = {
 def row(name: str, replayed: Replay, refused: int, dots: Optional[int]) -> tuple[str, bool]:
     """The row of a recording, and whether it is as known: so many cycles refused, so many dots
     unlike qemu's."""
-    written, checked, differing = replayed.written, replayed.checked, replayed.screens[0].held.count
+    written = replayed.written
+    checked = replayed.checked
+    differing = replayed.screens[0].held.count
     plain = len(HEADERS[1]) + sum(FORMS[kind].size * count for kind, count in written.kinds.items())
     counts = [sum(kinds.values()) for kinds in (checked.reads, checked.differing, checked.refused)]
     picture = (
@@ -226,10 +230,12 @@ def replay_all(words: argparse.Namespace, progress: Progress) -> int:
     unknown = set(words.names) - set(SOFTWARE)
     if unknown:
         raise Trouble(f"there is no software {', '.join(sorted(unknown))}")
-    status, program = 0, found_program(instead="README.md says how it is built")
+    status = 0
+    program = found_program(instead="README.md says how it is built")
     print(HEADER, flush=True)
     for name in words.names or SOFTWARE:
-        software, folder = SOFTWARE[name], words.folder / name
+        software = SOFTWARE[name]
+        folder = words.folder / name
         if software.is_unpacked and words.unpacked is None:
             print(
                 f"{name}: left out, since --unpacked names no folder", file=sys.stderr, flush=True

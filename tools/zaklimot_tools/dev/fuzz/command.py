@@ -18,7 +18,8 @@ from zaklimot_tools.core.progress import Progress
 from zaklimot_tools.core.streams import empty_folder, write_file
 from zaklimot_tools.core.trouble import AGREED, DIFFERED, Trouble, Wrong
 from zaklimot_tools.core.words import number_to, seconds
-from zaklimot_tools.script.program import FONTS, found_program
+from zaklimot_tools.script.program import found_program
+from zaklimot_tools.script.words import FONTS
 
 from .feeding import Program
 from .making import make
@@ -83,7 +84,8 @@ def _at_hand() -> tuple[list[bytes], list[bytes]]:
         for file in folder.rglob("*.vga")
         if file.stat().st_size <= MOST_TEXT
     )
-    texts, scripts = [file.read_bytes() for file in files], []
+    texts = [file.read_bytes() for file in files]
+    scripts = []
     for text in texts:
         with suppress(ScriptFault):
             scripts.append(encode(parse_text(text)))
@@ -128,7 +130,10 @@ def _fuzz(words: argparse.Namespace, folder: Path) -> int:
     )
     _check(program)
     texts, scripts = _at_hand()
-    made, answers, number, begin = Counter[str](), Counter[str](), words.first, time.monotonic()
+    made = Counter[str]()
+    answers = Counter[str]()
+    number = words.first
+    begin = time.monotonic()
     try:
         while time.monotonic() - begin < words.seconds and number - words.first != (
             words.inputs or -1

@@ -114,7 +114,8 @@ class Program:
         A text answers what its script does, and a script what its printed text does, which spells
         it again.
         """
-        file, first = self._file("input", given.data), "go" if given.is_text else "run"
+        file = self._file("input", given.data)
+        first = "go" if given.is_text else "run"
         wanted, meant = meant_by(parse_text if given.is_text else decode, given.data)
         ran = self._ran(first, file, wanted, meant)
         if given.is_text:

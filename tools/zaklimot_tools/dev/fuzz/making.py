@@ -136,7 +136,8 @@ class Feed(NamedTuple):
 def _change(random: Random, data: bytearray, is_text: bool) -> None:
     """Changes one place: a bit, a byte, some bytes that come in, go or come once more, the end, or
     a word of a text."""
-    at, kind = random.randrange(len(data)), random.randrange(8 if is_text else 6)
+    at = random.randrange(len(data))
+    kind = random.randrange(8 if is_text else 6)
     part = slice(at, at + random.choice((1, 2, 3, 5, 11, 100, 1000)))
     behind = random.randint(0, len(data))
     if kind == 0:
@@ -196,13 +197,17 @@ def make(random: Random, texts: Sequence[bytes], scripts: Sequence[bytes]) -> Fe
     at_hand = texts if is_text else scripts
     kind = random.random()
     if kind < 0.4:
-        data, made = _new(random, is_text), "new"
+        data = _new(random, is_text)
+        made = "new"
     elif kind < 0.6:
-        data, made = _changed(random, _new(random, is_text), at_hand, is_text), "new, changed"
+        data = _changed(random, _new(random, is_text), at_hand, is_text)
+        made = "new, changed"
     elif kind < 0.97:
-        data, made = _changed(random, random.choice(at_hand), at_hand, is_text), "changed"
+        data = _changed(random, random.choice(at_hand), at_hand, is_text)
+        made = "changed"
     else:
-        data, made = random.randbytes(random.choice((0, 1, 5, 100, 5000))), "random"
+        data = random.randbytes(random.choice((0, 1, 5, 100, 5000)))
+        made = "random"
     return Feed(is_text, data[:MOST_BYTES], f"{made} {'text' if is_text else 'script'}")
 
 
@@ -286,7 +291,8 @@ def block(random: Random) -> Block:
     steps = [step(random) for _ in range(random.randrange(5))]
     count = random.choice(COUNTS) if steps else random.randint(1, MOST_COUNT)
     if random.random() < 0.03:
-        steps, count = [Step("frame")] * TOO_MANY, MOST_COUNT
+        steps = [Step("frame")] * TOO_MANY
+        count = MOST_COUNT
     return Block(count, tuple(steps))
 
 

@@ -199,7 +199,8 @@ def described(
     CMake finds the library from its files' own place, wherever that is, and so does `pkg-config`
     where it is MOVING. The packages for Python and Rust find the library's kind there.
     """
-    cmake, version_words = f"cmake/{CMAKE_NAME}", {"VERSION": str(told), "MAJOR": str(told.major)}
+    cmake = f"cmake/{CMAKE_NAME}"
+    version_words = {"VERSION": str(told), "MAJOR": str(told.major)}
     upwards, moving = (
         "/".join([".."] * len(Path(library_folder, name).parts)) for name in (cmake, "pkgconfig")
     )
@@ -244,7 +245,8 @@ def joined_object(archive: Path, memory: Path, folder: Path, target: Target) -> 
 def make_shared(whole: Path, folder: Path, told: Version, target: Target) -> None:
     """The shared library under its version, with the names by which programs and linkers look for
     it."""
-    soname, file = f"lib{NAME}.so.{told.major}", f"lib{NAME}.so.{told}"
+    soname = f"lib{NAME}.so.{told.major}"
+    file = f"lib{NAME}.so.{told}"
     options = [
         "-shared",
         f"-Wl,-soname,{soname}",
@@ -275,7 +277,8 @@ def make_library(
     library's kind.
     """
     told = version()
-    include, libraries = place.folder("include"), place.folder(place.library_folder)
+    include = place.folder("include")
+    libraries = place.folder(place.library_folder)
     share = place.folder(f"share/{NAME}")
     read = described(prefix, place.library_folder, told, kind)
     texts = {libraries / file: text for file, text in read.items()}

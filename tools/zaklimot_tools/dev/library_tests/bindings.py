@@ -157,7 +157,9 @@ def check_rust_examples(library: Path, folder: Path) -> str:
     """The first program draws what Python's draws, slices write the report of the whole, and
     mistakes are told."""
     _cargo(library, folder, "build", "--offline", "--examples")
-    made, script, pictures = folder / "target" / "debug" / "examples", folder / "few.vga", []
+    made = folder / "target" / "debug" / "examples"
+    script = folder / "few.vga"
+    pictures = []
     environment = {"ZAKLIMOT_DIR": str(library), "PYTHONPATH": str(PACKAGE / "src")}
     python: list[Word] = [sys.executable, "-B", TOP / "examples" / "python" / "picture.py"]
     rust: list[Word] = [made / "picture"]

@@ -19,7 +19,8 @@ from zaklimot_tools.core.streams import counted
 from zaklimot_tools.core.trouble import Wrong
 from zaklimot_tools.core.version import HEADER, calls_of, version
 from zaklimot_tools.dev.library.making import FONTS, MOVING, Place, make_library, memory_part
-from zaklimot_tools.report.cases import SUITE, read_cases
+from zaklimot_tools.report.cases import read_cases
+from zaklimot_tools.report.places import SUITE
 
 from .compilers import SANITIZED, STRICT, Built, build, run
 
@@ -170,7 +171,8 @@ COUNTED: dict[str, tuple[Sequence[str], Sequence[str], str]] = {
 
 def expect(name: str, written: str) -> None:
     """What a program writes is to be the text beside its source."""
-    wanted, written = (SOURCES / f"{name}.txt").read_text("ascii"), written.replace("\r\n", "\n")
+    wanted = (SOURCES / f"{name}.txt").read_text("ascii")
+    written = written.replace("\r\n", "\n")
     if written != wanted:
         lines = difflib.unified_diff(
             wanted.splitlines(), written.splitlines(), "expected", "written", lineterm="", n=0
@@ -240,7 +242,8 @@ def harness(built: Built, folder: Path) -> list[str | Path]:
 def check_cases(way: str, built: Built, folder: Path) -> str:
     """Each case agrees in a way of WAYS."""
     texts, scripts = WAYS[way]
-    command, cases = shlex.join(map(str, harness(built, folder))), read_cases(str(SUITE))
+    command = shlex.join(map(str, harness(built, folder)))
+    cases = read_cases(str(SUITE))
     words = [
         f"{command} {texts}",
         "--bytes",
@@ -375,7 +378,8 @@ def check_installing(built: Built, folder: Path) -> str:
     package = (prefix / LIBRARIES / "pkgconfig" / "zaklimot.pc").read_text("ascii")
     if "prefix=/usr\n" not in package or str(folder) in package:
         raise Wrong(f"zaklimot.pc has\n{package}")
-    made, environment = folder / "picture", {
+    made = folder / "picture"
+    environment = {
         **os.environ,
         "LD_LIBRARY_PATH": str(prefix / LIBRARIES),
     }
@@ -483,7 +487,8 @@ def _build(built: Built, made: Path, sources: list[Path], flags: list[str]) -> N
 def _check_script(built: Built, pc: Path, folder: Path, name: str) -> None:
     """The answers that come back on the floppy are those of the harness, but for what a machine
     skips."""
-    script, image = TOP / "examples" / f"{name}.vga", folder / f"{name}.img"
+    script = TOP / "examples" / f"{name}.vga"
+    image = folder / f"{name}.img"
     floppy: list[Word] = [sys.executable, TOP / "tools" / "vga-floppy"]
     run([*floppy, "make", script, image])
     run([pc, image, FONTS, "--keys", " ", "--seconds", "5"])
@@ -516,7 +521,8 @@ def _check_demo(pc: Path, folder: Path, *rom: str | Path) -> None:
 
 def _told(pc: Path, folder: Path, code: str, *words: str) -> tuple[int, int]:
     """How many instructions a boot sector runs, and how many frames are shown."""
-    image, sector = folder / "boot.img", bytes.fromhex(code)
+    image = folder / "boot.img"
+    sector = bytes.fromhex(code)
     image.write_bytes(sector.ljust(SECTOR - len(BOOTS), b"\0") + BOOTS + bytes(FLOPPY - SECTOR))
     told = TOLD.match(run([pc, image, FONTS, *words]).strip())
     if told is None:

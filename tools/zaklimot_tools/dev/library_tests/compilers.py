@@ -162,6 +162,7 @@ def build(
     words: list[Word] = [f"-std={standard}", *STRICT, *flags, "-I", built.folder / "include"]
     if built.target == WINDOWS:
         # Wine finds neither a program without this ending nor the compiler's own libraries.
-        words, made = [*words, "-static"], made.with_suffix(".exe")
+        words = [*words, "-static"]
+        made = made.with_suffix(".exe")
     run([compiler, *words, *sources, built.static, "-o", made])
     return [*RUNNERS[built.target], made]

@@ -19,7 +19,8 @@ from zaklimot_tools.core.trouble import Wrong
 from zaklimot_tools.core.version import HEADER, calls_of
 from zaklimot_tools.dev.library.making import FONTS, X86_64, Target
 from zaklimot_tools.dev.library.one_file import C_FILE, PROGRAM, one_file, written_by_wasm2c
-from zaklimot_tools.report.cases import SUITE, read_cases
+from zaklimot_tools.report.cases import read_cases
+from zaklimot_tools.report.places import SUITE
 
 from .checks import (
     COUNTED,
@@ -123,7 +124,8 @@ def check_one(maker: Maker) -> str:
 def check_names(maker: Maker) -> str:
     """The names that are seen of the file are the header's calls, and it wants few of the C
     library."""
-    calls, built = set(calls_of(HEADER.read_text("ascii"))), maker.usual()
+    calls = set(calls_of(HEADER.read_text("ascii")))
+    built = maker.usual()
     defined, wanted = (
         names_in(built, built.static, "-g", which)
         for which in ("--defined-only", "--undefined-only")

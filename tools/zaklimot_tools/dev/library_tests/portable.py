@@ -46,7 +46,8 @@ CALLING = """fn main() {
 
 def portable_library(folder: Path) -> Path:
     """Compiles the C file, and lays it into a folder as `vga-library make` lays the proved one."""
-    made, code = folder / PORTABLE, folder / "zaklimot.o"
+    made = folder / PORTABLE
+    code = folder / "zaklimot.o"
     whole, nothing = folder / "portable.a", folder / "nothing.a"
     run(["cc", *OPTIONS, "-I", HEADER.parent, "-c", SOURCE, "-o", code])
     run(["ar", "rcsD", whole, code])

@@ -173,7 +173,8 @@ def _keep_unicorn_alive(opcode: int, tail: bytearray) -> None:
 
 def undefined_flags(one: Instruction, count: int) -> int:
     """The flags that Intel's manual leaves undefined after an instruction; `count` is CL."""
-    opcode, which = one.opcode, one.modrm >> 3 & 7
+    opcode = one.opcode
+    which = one.modrm >> 3 & 7
     if one.is_two:
         return _undefined_of_two(one, count)
     if opcode in (0xC0, 0xC1, 0xD0, 0xD1, 0xD2, 0xD3):
@@ -303,8 +304,10 @@ class Processor:
 
     def case(self, rnd: random.Random) -> Sample | None:
         """A case; None where the instruction can't be done, or goes on for long."""
-        uc, one = self.uc, instruction(rnd, self.is_protected)
-        registers, flags = self._registers(rnd, one), 2 | rnd.getrandbits(12) & 0xCD5
+        uc = self.uc
+        one = instruction(rnd, self.is_protected)
+        registers = self._registers(rnd, one)
+        flags = 2 | rnd.getrandbits(12) & 0xCD5
         for name, value in zip(REGISTERS, registers):
             uc.reg_write(name, value)
         if not self.is_protected:
@@ -349,7 +352,8 @@ class Processor:
         return tuple(found)
 
     def _found(self, one: Instruction, registers: tuple[int, ...], flags: int) -> Sample | None:
-        uc, changed = self.uc, self._changed()
+        uc = self.uc
+        changed = self._changed()
         if len(changed) > MOST_CHANGED:
             return None
         compared = (ALL | CONTROL) & ~undefined_flags(one, registers[1])
@@ -377,10 +381,12 @@ class Processor:
     def _changed(self) -> tuple[tuple[int, int], ...]:
         """The bytes of memory that aren't those of the pattern any longer, but for the
         instruction's own."""
-        memory, found = bytearray(self.uc.mem_read(0, MEMORY)), []
+        memory = bytearray(self.uc.mem_read(0, MEMORY))
+        found = []
         memory[CODE : CODE + CODE_BYTES] = self.pattern[CODE : CODE + CODE_BYTES]
         for part in range(0, MEMORY, PART):
-            now, old = memory[part : part + PART], self.pattern[part : part + PART]
+            now = memory[part : part + PART]
+            old = self.pattern[part : part + PART]
             if now != old:
                 found += [(part + i, byte) for i, byte in enumerate(now) if byte != old[i]]
         return tuple(found)
@@ -388,7 +394,8 @@ class Processor:
 
 def cases(count: int, seed: int) -> Iterator[Sample]:
     """So many cases, of which each third is of protected mode."""
-    rnd, processors = random.Random(seed), (Processor(False), Processor(False), Processor(True))
+    rnd = random.Random(seed)
+    processors = (Processor(False), Processor(False), Processor(True))
     made = 0
     while made < count:
         found = processors[made % 3].case(rnd)

@@ -42,7 +42,8 @@ UNICORN = "python3-unicorn"
 def built_processor(folder: Path) -> Path:
     """The program that takes cases, built of libx86emu as the page has it, but for its memory."""
     check_program(COMPILER)
-    top, program = patched(folder), folder / "processor"
+    top = patched(folder)
+    program = folder / "processor"
     own = [
         flag
         for flag in DEFINED
@@ -121,11 +122,9 @@ def _compared(
 
 def check_unicorn(program: Path, python: str, folder: Path, count: int, seed: int) -> str:
     """So many random instructions, one at a time."""
-    total, is_ended, chunks = (
-        [0, 0, 0, 0],
-        Event(),
-        iter(range(seed, seed + 1 + 4 * count // CHUNK)),
-    )
+    total = [0, 0, 0, 0]
+    is_ended = Event()
+    chunks = iter(range(seed, seed + 1 + 4 * count // CHUNK))
     jobs = os.cpu_count() or 1
     work = partial(_compared, program, python, folder, is_ended)
     while total[0] < count:

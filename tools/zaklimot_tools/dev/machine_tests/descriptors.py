@@ -90,8 +90,10 @@ class Instructions:
         self.registers = [rnd.randrange(0x1000, 0x8000) for _ in REGISTERS]
         self.registers[4] = STACK
         self.given: list[tuple[int, bytes]] = []
-        selector, which = _selector(rnd), rnd.choice(list(LOADS))
-        self.selector, self.is_null = selector, selector < 4
+        selector = _selector(rnd)
+        which = rnd.choice(list(LOADS))
+        self.selector = selector
+        self.is_null = selector < 4
         make = rnd.choice(
             (
                 self._load,
@@ -130,7 +132,8 @@ class Instructions:
         return f"9A{struct.pack('<IH', 0x1234, selector).hex()}", 1
 
     def _return(self, rnd: random.Random, selector: int, which: int) -> tuple[str, int]:
-        is_interrupt, selector = rnd.random() < 0.5, selector & ~3
+        is_interrupt = rnd.random() < 0.5
+        selector = selector & ~3
         flags = struct.pack("<I", 0x202 | rnd.choice((0, 1, 0x40))) if is_interrupt else b""
         self.given.append((STACK, struct.pack("<II", 0x1234, selector) + flags))
         return ("CF" if is_interrupt else "CB"), 1
@@ -194,7 +197,8 @@ class Segmented:
         return self._found(uc, tables, one)
 
     def _found(self, uc: Any, tables: bytes, one: Instructions) -> Sample:
-        memory, before = bytes(uc.mem_read(0, MEMORY)), bytearray(self.pattern)
+        memory = bytes(uc.mem_read(0, MEMORY))
+        before = bytearray(self.pattern)
         before[TABLES : TABLES + len(tables)] = tables
         before[CODE : CODE + CODE_BYTES] = memory[CODE : CODE + CODE_BYTES]
         for place, data in one.given:
@@ -228,7 +232,9 @@ class Segmented:
 
 def cases(count: int, seed: int) -> Iterator[Sample]:
     """So many cases."""
-    rnd, processor, made = random.Random(seed), Segmented(), 0
+    rnd = random.Random(seed)
+    processor = Segmented()
+    made = 0
     while made < count:
         found = processor.case(rnd)
         if found is not None:

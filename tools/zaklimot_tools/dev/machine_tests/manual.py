@@ -142,7 +142,8 @@ def interrupts() -> Iterator[Sample]:
         if word_at(at) < word_at(at + 2) < 0x8000 and word_at(at + 2) - word_at(at) > 2
     )
     offset = place - 16 * DATA_SEGMENT
-    within, above = word_at(place) + 1, word_at(place + 2) + 4
+    within = word_at(place) + 1
+    above = word_at(place + 2) + 4
     bound = "6206" + offset.to_bytes(2, "little").hex()
     yield case(bound, {"eax": within}, Left(4))
     yield case(bound, {"eax": above}, interrupted(5, FLAGS, OFFSET, eax=above))
@@ -187,7 +188,8 @@ def returns() -> Iterator[Sample]:
 def frames() -> Iterator[Sample]:
     """ENTER by a nest, and by operands of another size than the stack's; BP goes by the size of
     operands."""
-    base, top = 16 * STACK_SEGMENT, 16 * STACK_SEGMENT + STACK
+    base = 16 * STACK_SEGMENT
+    top = 16 * STACK_SEGMENT + STACK
     given = {"ebp": 0x7000}
     old = [
         (top - 2, 0x7000, 2),
@@ -279,7 +281,9 @@ def limits() -> Iterator[Sample]:
 def gates() -> Iterator[Sample]:
     """INT by gates of both widths, which keep interrupts or not; by one that is absent, or none, or
     past the table's end."""
-    asked, place, top = FLAGS | INTERRUPT | TRAP | CARRY, 0x23456, 0x90000
+    asked = FLAGS | INTERRUPT | TRAP | CARRY
+    place = 0x23456
+    top = 0x90000
 
     def gate(kind: int, selector: int = FLAT_CODE) -> bytes:
         one = place.to_bytes(4, "little")

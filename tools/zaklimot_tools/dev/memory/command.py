@@ -95,7 +95,8 @@ class Job(NamedTuple):
 
 def jobs() -> dict[str, Job]:
     """The jobs by their names: two that are done, and one that is none."""
-    report, go = TABLE.with_suffix(".txt").read_bytes(), ["go", "table.vga", "--fonts", "z.fnt"]
+    report = TABLE.with_suffix(".txt").read_bytes()
+    go = ["go", "table.vga", "--fonts", "z.fnt"]
     return {
         "go": Job(go, 17, CallAnswer(0, report, "")),
         "asm": Job(
@@ -190,7 +191,8 @@ def answers_of(output: bytes, errors: str) -> list[CallAnswer]:
     """The answers that stand in both outputs of `rt try`, in the order of its cases."""
     parts = SECTION.split(output)
     written = {name.decode(): part for name, part in zip(parts[1::2], parts[2::2])}
-    answers, said = [], ""
+    answers = []
+    said = ""
     for line in errors.splitlines(keepends=True):
         ended = ENDED.match(line)
         if ended is not None:

@@ -32,10 +32,8 @@ def _parser() -> argparse.ArgumentParser:
         "tools/README.md",
     )
     commands = parser.add_subparsers(required=True, metavar="COMMAND")
-    told, usually = (
-        f"Makes the page: one file of at most {MOST_BYTES:,} bytes.",
-        " (default: `rt check` proves)",
-    )
+    told = f"Makes the page: one file of at most {MOST_BYTES:,} bytes."
+    usually = " (default: `rt check` proves)"
     made = cli.command(commands, "make", _make, "makes the page", description=told)
     cli.add(made, "FILE", "the page, page/zaklimot.html in the repository", type=Output)
     cli.add(made, "--module FILE", "takes this module (default: makes one)", type=Input)

@@ -27,9 +27,8 @@ from .packing import about, in_base64, packed, unzipped
 PACKAGE, ARCHIVE = "libx86emu", "libx86emu_3.5.orig.tar.gz"
 SHA256 = "91da55f5da55017d5a80e2364de30f9520aa8df2744ff587a09ba58d6e3536c8"
 # Where apt finds it, with lists of its own: nothing of the system's is changed.
-SUITE, KEYRING = "http://deb.debian.org/debian bookworm main", Path(
-    "/usr/share/keyrings/debian-archive-keyring.gpg"
-)
+SUITE = "http://deb.debian.org/debian bookworm main"
+KEYRING = Path("/usr/share/keyrings/debian-archive-keyring.gpg")
 MACHINE, PROGRAMS = TOP / "machine", TOP / "examples" / "machine"
 # The notice of libx86emu's licence, which goes with the module.
 NOTICE = MACHINE / "NOTICE"
@@ -135,7 +134,8 @@ def source() -> bytes:
 def patched(folder: Path) -> Path:
     """libx86emu's source in a folder, with the patches of machine/patches/."""
     check_program(PATCH)
-    archive, top = folder / ARCHIVE, folder / "libx86emu"
+    archive = folder / ARCHIVE
+    top = folder / "libx86emu"
     archive.write_bytes(source())
     with tarfile.open(archive) as opened:
         inside = [

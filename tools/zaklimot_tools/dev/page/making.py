@@ -185,7 +185,8 @@ def kit_of(module: bytes) -> str:
 def exports_of(section: bytes) -> dict[str, int]:
     """The names that a section of exports has, in its order, each with its kind: 0 is a
     function."""
-    stream, found = io.BytesIO(section), {}
+    stream = io.BytesIO(section)
+    found = {}
     for _ in range(_number(stream)):
         name = _taken(stream, _number(stream)).decode("utf-8", "replace")
         (found[name],) = _taken(stream, 1)
@@ -215,9 +216,8 @@ def check_module(module: bytes) -> str:
     exports = exports_of(found.get(EXPORTS, b"\0"))
     calls = set(calls_of(HEADER.read_text("ascii")))
     shown = {name for name, kind in exports.items() if kind == FUNCTION} - OWN
-    lacking, more = sorted((calls - shown) | (OWN - exports.keys())), sorted(
-        exports.keys() - calls - OWN
-    )
+    lacking = sorted((calls - shown) | (OWN - exports.keys()))
+    more = sorted(exports.keys() - calls - OWN)
     if lacking:
         raise Trouble(f"it lacks {', '.join(lacking)}", "the module")
     if more:

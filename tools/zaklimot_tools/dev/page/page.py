@@ -94,7 +94,8 @@ def joined(folder: Path) -> str:
         # A warning tells of what is undefined, or never done.
         if done.errors:
             raise Trouble(done.said().strip(), ESBUILD)
-        script, found = made.read_text("utf-8"), json.loads(listed.read_text("utf-8"))["inputs"]
+        script = made.read_text("utf-8")
+        found = json.loads(listed.read_text("utf-8"))["inputs"]
     places = {path.relative_to(folder).as_posix() for path in folder.rglob("*.js")}
     unused = sorted(place for place in places - found.keys() if not place.startswith(f"{TESTS}/"))
     if unused:
@@ -161,7 +162,8 @@ def tutorial(text: str) -> list[dict[str, str]]:
     examples."""
     found = []
     for part in re.split(r"^## ", text, flags=re.M)[1:]:
-        heading, names = part.split("\n", 1)[0], TUTORIAL_FILE.findall(part)
+        heading = part.split("\n", 1)[0]
+        names = TUTORIAL_FILE.findall(part)
         scripts = SCRIPT_BLOCK.findall(part)
         if scripts and len(names) < len(scripts):
             raise Trouble(f"a script of part {heading} has no file", TUTORIAL.name)

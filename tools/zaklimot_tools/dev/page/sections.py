@@ -66,7 +66,8 @@ def _table(lines: list[str]) -> list[Any]:
 
 
 def _items(lines: list[str]) -> list[Any]:
-    kind, items = "ol" if lines[0][0].isdigit() else "ul", []
+    kind = "ol" if lines[0][0].isdigit() else "ul"
+    items = []
     for line in lines:
         found = ITEM.match(line)
         if found:
@@ -98,7 +99,8 @@ def _groups(lines: list[str]) -> Iterator[list[str]]:
         if line.startswith("```"):
             if is_example:
                 yield ["```", *group]
-            is_example, group = not is_example, []
+            is_example = not is_example
+            group = []
         elif is_example or (line and not HEADING.match(line)):
             group.append(line)
         else:
@@ -117,7 +119,8 @@ def blocks(text: str) -> list[Any]:
 
 def sections_of(text: str) -> dict[str, dict[str, Any]]:
     """The sections of a page by their anchors: `{"title": TEXT, "blocks": [BLOCK, ..]}`."""
-    lines, sections = text.splitlines(), {}
+    lines = text.splitlines()
+    sections = {}
     heads = [(at, found) for at, line in enumerate(lines) if (found := HEADING.match(line))]
     for number, (at, found) in enumerate(heads):
         ends = (begin for begin, other in heads[number + 1 :] if len(other[1]) <= len(found[1]))

@@ -35,8 +35,9 @@ from zaklimot_tools.dev.page.making import MOST_MODULE, check_module, kit_of, ma
 from zaklimot_tools.dev.page.packing import unzipped
 from zaklimot_tools.dev.page.page import MOST_BYTES, data_of, editor_in, page_text, read_sources
 from zaklimot_tools.dev.words import add_checks, refuse_to_check
-from zaklimot_tools.report.cases import SUITE, Case, read_cases
+from zaklimot_tools.report.cases import Case, read_cases
 from zaklimot_tools.report.debugging import MOST_PAGE, PAGE, page_data
+from zaklimot_tools.report.places import SUITE
 from zaklimot_tools.report.suite import said_lines
 from zaklimot_tools.script.program import PROGRAM
 
@@ -142,10 +143,12 @@ def check_built(module: bytes, page: bytes) -> str:
     Where another kit has made the page's module, the suite judges it. An editor that other versions
     of its packages have made stays as it is.
     """
-    own, data = module_in(page), page_data(page.decode("utf-8"))
+    own = module_in(page)
+    data = page_data(page.decode("utf-8"))
     if len(page) > MOST_BYTES:
         raise Wrong(f"{NAME} has {len(page):,} bytes, and {MOST_BYTES:,} are the most")
-    sources, editor = read_sources(), editor_in(page.decode("utf-8"))
+    sources = read_sources()
+    editor = editor_in(page.decode("utf-8"))
     is_other = editor.made != sources.editor.made
     wanted = page_text(sources._replace(editor=editor) if is_other else sources, data).encode(
         "utf-8"
@@ -259,7 +262,8 @@ def check_heap(module: Path, small: Optional[Path]) -> str:
     if small is None:
         return "left out: --module has none of fixed memory"
     told = json.loads(run_node([HEAP, module, small]))
-    grown, cards = told["grown"] // MEBIBYTE, told["cards"]
+    grown = told["grown"] // MEBIBYTE
+    cards = told["cards"]
     spent = f"where memory is spent after {cards} card{'s' * (cards != 1)}, calls say so and go on"
     return f"{told['rounds']:,} times a block is taken or given back, in {grown} MiB; {spent}"
 
@@ -349,7 +353,8 @@ def check_suite(module: Path, folder: Path) -> str:
         raise Trouble(
             "the program isn't built: (cd crates/vga && rt run -- --help) builds it", str(PROGRAM)
         )
-    cases, is_ended = read_cases(str(SUITE)), Event()
+    cases = read_cases(str(SUITE))
+    is_ended = Event()
     folder.mkdir()
     with in_parallel(
         partial(_native, folder, is_ended), enumerate(cases), os.cpu_count() or 1, is_ended
@@ -398,12 +403,14 @@ def _checks(
     wanted = words.only or CHECKS
     page = built_page() if {OF_PAGE, OF_SCRIPTS, OF_OWN} & set(wanted) else None
     if words.module is not None:
-        same, small = [read_at_most(words.module, MOST_MODULE)], None
+        same = [read_at_most(words.module, MOST_MODULE)]
+        small = None
     else:
         # One module is enough where it is held to the page's, which this kit made in another run.
         is_held = OF_PAGE in wanted and page is not None and kit_of(module_in(page)) == kit_line()
         made = made_modules(words, progress, [None, SMALL_MEMORY], 1 if is_held else 2)
-        same, small = [module for module, _ in made], made[0][1]
+        same = [module for module, _ in made]
+        small = made[0][1]
     yield OF_MODULE, partial(check_modules, same)
     # What runs in the page is the module in it, even where that is another kit's.
     parts = {

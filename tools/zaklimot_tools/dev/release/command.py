@@ -203,9 +203,8 @@ def release_entries(
 ) -> dict[str, Entry]:
     """All files of a release: among those that are built the program, and a library and a wheel for
     each processor."""
-    files, built = files_of(commit, PATHS), dict[str, Entry](
-        {"bin/vga": File(program.read_bytes(), True)}
-    )
+    files = files_of(commit, PATHS)
+    built = dict[str, Entry]({"bin/vga": File(program.read_bytes(), True)})
     for target, archive in archives.items():
         built.update(library_files(files, target, archive))
     install = File((Path(__file__).parent / INSTALL).read_bytes(), True)
@@ -300,11 +299,13 @@ def _member(name: str, entry: Optional[Entry], time: int) -> tarfile.TarInfo:
     made = tarfile.TarInfo(name)
     made.mtime, made.mode = time, RUN
     if isinstance(entry, File):
-        made.size, made.mode = len(entry.content), RUN if entry.is_executable else PLAIN
+        made.size = len(entry.content)
+        made.mode = RUN if entry.is_executable else PLAIN
     elif entry is None:
         made.type = tarfile.DIRTYPE
     else:
-        made.type, made.linkname = tarfile.SYMTYPE, entry
+        made.type = tarfile.SYMTYPE
+        made.linkname = entry
     return made
 
 

@@ -57,7 +57,8 @@ def check_suite(program: str, *chosen: str) -> Counted:
 
 
 def _check(words: argparse.Namespace, progress: Progress) -> int:
-    begun, program = time.monotonic(), portable_program()
+    begun = time.monotonic()
+    program = portable_program()
     suite = check_suite(program)
     print(f"the suite over the portable program: {suite.text()}", flush=True)
     tests = run_modules(words.modules, program)

@@ -6,6 +6,7 @@ from __future__ import annotations
 import argparse
 import os
 import re
+import signal
 import sys
 import tempfile
 import time
@@ -16,7 +17,14 @@ from typing import Any, Mapping, NamedTuple, Sequence
 
 from zaklimot_tools import TOP
 from zaklimot_tools.core import cli
-from zaklimot_tools.core.processes import Done, captured, in_parallel
+from zaklimot_tools.core.processes import (
+    IS_LINUX,
+    Done,
+    adopt_orphans,
+    captured,
+    end_children,
+    in_parallel,
+)
 from zaklimot_tools.core.trouble import AGREED as PASSED, DIFFERED as FAILED, Trouble
 from zaklimot_tools.script.portable import portable_program
 from zaklimot_tools.script.program import PROGRAM
@@ -31,6 +39,8 @@ TESTED = "ZAKLIMOT_TESTED_PROGRAM"
 BUILT = "ZAKLIMOT_PROGRAM_IS_BUILT"
 # So many modules run at a time at most, and so many seconds may one take.
 MOST_WORKERS, MOST_SECONDS = 4, 900
+# So many seconds may a test take, and so much memory each process of it.
+MOST_OF_TEST, MOST_MEMORY = 300, 1 << 31
 # What unittest says of tests that have passed; nothing else stands there where no test has printed
 # or warned.
 GOOD = re.compile(r"\n-{70}\nRan (\d+) tests? in \S+\n\nOK(?: \(skipped=(\d+)\))?\n$")
@@ -55,9 +65,41 @@ class Counts(NamedTuple):
         return max(0, self.ran - self.skipped - self.failed)
 
 
+class TookTooLong(Exception):
+    """A test that hasn't ended in its time."""
+
+
+def _end_test(*_: object) -> None:
+    raise TookTooLong(f"the test takes more than {MOST_OF_TEST} seconds")
+
+
+def _limit() -> None:
+    """Limits the memory of this process and of those that tests start, which become its children
+    where their own parent ends."""
+    if IS_LINUX:
+        import resource
+
+        resource.setrlimit(resource.RLIMIT_DATA, (MOST_MEMORY, MOST_MEMORY))
+        adopt_orphans()
+
+
 class _Result(unittest.TextTestResult):
-    """A result that ends the tests where a signal came: unittest would take it for one test's
-    error."""
+    """A result that ends a test after its time, and what it has left running.
+
+    It ends all tests where a signal came: unittest would take it for one test's error.
+    """
+
+    def startTest(self, test: unittest.TestCase) -> None:
+        super().startTest(test)
+        if hasattr(signal, "setitimer"):
+            signal.signal(signal.SIGALRM, _end_test)
+            signal.setitimer(signal.ITIMER_REAL, MOST_OF_TEST)
+
+    def stopTest(self, test: unittest.TestCase) -> None:
+        if hasattr(signal, "setitimer"):
+            signal.setitimer(signal.ITIMER_REAL, 0)
+        end_children()
+        super().stopTest(test)
 
     def addError(self, test: unittest.TestCase, err: Any) -> None:
         if isinstance(err[1], cli.Ended):
@@ -77,6 +119,7 @@ def _run_apart(name: str, variables: Mapping[str, str], is_ended: Event) -> Done
 
 
 def _run_here(names: Sequence[str]) -> int:
+    _limit()
     tests = unittest.defaultTestLoader.loadTestsFromNames(names)
     result = unittest.TextTestRunner(resultclass=_Result).run(tests)
     for test, reason in result.skipped:
@@ -85,7 +128,8 @@ def _run_here(names: Sequence[str]) -> int:
 
 
 def _count(done: Done, text: str) -> Counts:
-    found, bad = None if done.status else GOOD.search(text), BAD.search(text)
+    found = None if done.status else GOOD.search(text)
+    bad = BAD.search(text)
     if found is not None:
         return Counts(int(found[1]), int(found[2] or 0))
     told = (
@@ -103,7 +147,8 @@ def _told(name: str, done: Done) -> Counts:
     text = "".join(line for line in lines if not line.startswith(SKIPS)) + done.errors.decode(
         "utf-8", "replace"
     )
-    counts, found = _count(done, text), GOOD.search(text)
+    counts = _count(done, text)
+    found = GOOD.search(text)
     print(f"{'failed' if counts.modules else 'passed'}  {name}", flush=True)
     sys.stdout.writelines(line for line in lines if line.startswith(SKIPS))
     if counts.modules or found is None or text[: found.start()].strip(".s"):
