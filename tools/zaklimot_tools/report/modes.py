@@ -51,8 +51,8 @@ class Summary:
 
     def take(self, row: Row, is_wrong: bool) -> None:
         """Takes a step, and shows it if it is chosen."""
-        if self._is_chosen is None or self._is_chosen(row):
-            self._show(row, is_wrong)
+        if self._folder is not None and self._is_shown(row):
+            self._save(row)
 
     def end(self, tally: Tally) -> bool:
         """Tells what was seen; whether the run's exit status tells of differences."""
@@ -62,8 +62,8 @@ class Summary:
         self._tell(f"{front}{tally.text()}\n")
         return True
 
-    def _show(self, row: Row, is_wrong: bool) -> None:
-        self._save(row)
+    def _is_shown(self, row: Row) -> bool:
+        return self._is_chosen is None or self._is_chosen(row)
 
     def _save(self, row: Row) -> str:
         """Writes the picture of a step where that is wanted; its path, or nothing."""
@@ -130,8 +130,9 @@ class PageOfSteps(Summary):
         write_file(words.html, text.encode("utf-8", "replace"))
         return super().end(tally)
 
-    def _show(self, row: Row, is_wrong: bool) -> None:
-        self._page.add_row(row)
+    def take(self, row: Row, is_wrong: bool) -> None:
+        if self._is_shown(row):
+            self._page.add_row(row)
 
 
 class Differences(Summary):
