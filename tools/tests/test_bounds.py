@@ -197,7 +197,7 @@ class Images(Folder):
             found = holding.held(picture, image_at(), tolerance)
             self.assertEqual(found.count, count, tolerance)
         self.assertTrue(holding.held(picture, image_at(), "5-6-5").how.endswith("within 5-6-5"))
-        other = Picture.of_dots(2, 1, bytes([0x3F, 0x16, 0x01, 0x1D, 0x3F, 0x1F]))
+        other = Picture.of_dots(2, 1, bytes([0x3F, 0x14, 0x01, 0x1D, 0x3F, 0x1F]))
         for tolerance, count in (("5-6-5", 2), (1, 1), (3, 1), (4, 0)):
             self.assertEqual(holding.held(other, image_at(), tolerance).count, count, tolerance)
 

@@ -13,6 +13,7 @@ from zaklimot_tools.explain.faults import explained
 from zaklimot_tools.explain.mistakes import mistake_in
 from zaklimot_tools.explain.registers import MODES, OF_CALLS, Registers, why_refused
 from zaklimot_tools.explain.wordings import WORDINGS
+from zaklimot_tools.picture.mode import MODES as DRAWN
 
 from .tools import Folder, hold, run_texts
 
@@ -204,3 +205,24 @@ class Faults(Folder):
             make()
             told = explained("vga: F8 ReadFault", str(script), str(fonts))
             self.assertEqual(told, f"{path}: F8 ReadFault: {reason}")
+
+
+class Modes(unittest.TestCase):
+    """The tools' tables of modes are those of docs/MODES.md."""
+
+    ROWS = {
+        row[1]: [cell.strip() for cell in row[2].split("|")]
+        for row in re.finditer(
+            r"(?m)^\| ([^|]*) \|(.*)\|$", (TOP / "docs/MODES.md").read_text("utf-8")
+        )
+    }
+
+    def test_the_dots_of_a_frame(self) -> None:
+        told = [int(cell.replace(",", "")) for cell in self.ROWS["dots of a frame"]]
+        self.assertEqual([mode.dots for mode in MODES.values()], told)
+
+    def test_the_pixels_of_what_is_drawn(self) -> None:
+        sizes = dict(zip((f"{mode:02X}" for mode in MODES), self.ROWS["pixels"]))
+        for name, mode in DRAWN.items():
+            told = f"{mode.width} by {mode.height}"
+            self.assertEqual(sizes[name.rjust(2, "0")], told, name)
