@@ -26,6 +26,7 @@ from zaklimot_tools.core.processes import (
     Failed,
     Limits,
     Outcome,
+    captured,
     run,
     run_command,
     started,
@@ -354,6 +355,12 @@ class Commands(Folder):
         self.assertEqual(
             self.run_python("import time; time.sleep(600)", Limits(), is_ended).status, None
         )
+
+    def test_one_without_a_limit_of_time_is_ended(self) -> None:
+        is_ended = Event()
+        is_ended.set()
+        told = refused(partial(captured, is_ended=is_ended), ["sleep", "600"])
+        self.assertEqual(told, "sleep: it was ended")
 
     def test_signals_end_all_that_was_begun(self) -> None:
         self.write("two.fnt", "12")

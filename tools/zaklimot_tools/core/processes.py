@@ -313,26 +313,29 @@ def run_command(
             if _size(written) > limits.output:
                 return too_much
             hear()
-            return (
-                TOO_LONG
-                if time.monotonic() >= until
-                else "it was ended"
-                if is_ended.is_set()
-                else ""
-            )
+            if time.monotonic() >= until:
+                return TOO_LONG
+            return "it was ended" if is_ended.is_set() else ""
 
         given = {**limits.of_system(), **given}
         with started(words, asking, stdout=written, stderr=said, **given) as process:
-            ended = ""
-            pause = FIRST_PAUSE
-            while not (ended or _has_ended(process)):
-                time.sleep(pause)
-                pause = min(2 * pause, LONGEST_PAUSE)
-                ended = reason()
+            ended = _waited(process, reason)
         if reason() == too_much:
             written.truncate(limits.output)
             ended = too_much
     return Outcome(None if ended else process.returncode, ended)
+
+
+def _waited(process: subprocess.Popen[bytes], reason: Callable[[], str]) -> str:
+    """Waits until a command has ended, or until there is a reason to end it, which is the
+    answer."""
+    ended = ""
+    pause = FIRST_PAUSE
+    while not (ended or _has_ended(process)):
+        time.sleep(pause)
+        pause = min(2 * pause, LONGEST_PAUSE)
+        ended = reason()
+    return ended
 
 
 def _size(file: BinaryIO) -> int:
@@ -421,26 +424,14 @@ def captured(
 
         variables = {**os.environ, "TMPDIR": temporary, **(environment or {})}
         limits = Limits(seconds or math.inf, MOST_KEPT, MOST_KEPT)
+        around: dict[str, Any] = {"cwd": folder, "env": variables, "stdin": file}
         # What a program said at last is heard too where it has ended at once.
         outcome = run_command(
-            words,
-            output,
-            errors,
-            limits,
-            is_ended or Event(),
-            hear,
-            ENDING,
-            cwd=folder,
-            env=variables,
-            stdin=file,
+            words, output, errors, limits, is_ended or Event(), hear, ENDING, **around
         )
         if outcome.status is None:
-            told = (
-                f"it had not ended after {seconds:.0f} seconds"
-                if outcome.reason == TOO_LONG
-                else outcome.reason
-            )
-            raise Failed(told, str(words[0]))
+            late = f"it had not ended after {limits.seconds:.0f} seconds"
+            raise Failed(late if outcome.reason == TOO_LONG else outcome.reason, str(words[0]))
         return Done(outcome.status, output.read_bytes(), errors.read_bytes())
 
 

@@ -37,6 +37,7 @@ from .replaying import replay, shown
 from .trace import Trace, opened
 
 
+CONVERTING = "tools/vga-trace convert examples/typed-line.trace script.bin"
 KEEP, FIRST, QUIET = "keep", "first", "quiet"
 MOST_CYCLES, MOST_KINDS = 1 << 40, 1 << 20
 # So many kinds of refusals, of reads and of differing reads are told of a recording.
@@ -160,18 +161,9 @@ def _add_pictures(parser: argparse.ArgumentParser) -> None:
     add_program(parser)
 
 
-def _parser(qemu: Sequence[str] = ()) -> argparse.ArgumentParser:
-    """The parser; the words for qemu, behind `--`, are none of its own."""
-    parser = cli.tool_parser(
-        "vga-trace",
-        "Makes scripts of what software did to a VGA.",
-        "tools/vga-trace convert examples/typed-line.trace script.bin",
-        "docs/TRACES.md",
-        cli.DIFFERS,
-    )
-    commands = parser.add_subparsers(required=True, metavar="COMMAND")
-    example = "tools/vga-trace convert examples/typed-line.trace script.bin"
-    made = cli.command(commands, "convert", _convert, "makes a script of a trace", example)
+def _add_conversions(commands: Any) -> None:
+    told = "makes a script of a trace"
+    made = cli.command(commands, "convert", _convert, told, CONVERTING)
     _add_trace(made)
     add(made, "SCRIPT", "the script; - is standard output", type=Output)
     _add_listing(made)
@@ -183,19 +175,28 @@ def _parser(qemu: Sequence[str] = ()) -> argparse.ArgumentParser:
     told = "tells at most N kinds of refusals, of reads, and of reads that differ (default: 40)"
     add(made, "--most N", told, type=number_to(MOST_KINDS), default=40)
     _add_listing(made)
-    example = "tools/vga-trace kinds examples/typed-line.trace"
     told = "counts a trace's cycles by kind"
+    example = "tools/vga-trace kinds examples/typed-line.trace"
     _add_trace(cli.command(commands, "kinds", _kinds, told, example))
-    example = "tools/vga-trace pictures examples/typed-line.trace --apng typed-line.png"
+
+
+def _parser(qemu: Sequence[str] = ()) -> argparse.ArgumentParser:
+    """The parser; the words for qemu, behind `--`, are none of its own."""
+    told = "Makes scripts of what software did to a VGA."
+    parser = cli.tool_parser("vga-trace", told, CONVERTING, "docs/TRACES.md", cli.DIFFERS)
+    commands = parser.add_subparsers(required=True, metavar="COMMAND")
+    _add_conversions(commands)
     told = "makes the pictures of a trace, in real time"
+    example = "tools/vga-trace pictures examples/typed-line.trace --apng typed-line.png"
     made = cli.command(commands, "pictures", _pictures, told, example)
     _add_trace(made)
     _add_pictures(made)
+    told = "records on qemu or on the page's machine, replays, and compares the screens of both"
     made = cli.command(
         commands,
         "record",
         _record,
-        "records on qemu or on the page's machine, replays, and compares the screens of both",
+        told,
         usage=(
             "vga-trace record [OPTION..] FOLDER -- QEMU-WORD..\n       vga-trace record [OPTION..]"
             " FOLDER --in-page FILE"
