@@ -20,8 +20,8 @@ abbrev pub glyph_row : ℕ → List ℕ → ℕ → ℕ → ℕ
 glyph_row h font c r = slice_index font (h * c + r)
 
 -- how many bytes a font file has
-abbrev pub file_len : ℕ
-file_len = 9728
+abbrev pub font_file_len : ℕ
+font_file_len = 9728
 
 -- the fonts of a file: that of 8 rows, then that of 14, then that of 16
 unfoldable pub fonts_of : List ℕ → FontSet
@@ -35,6 +35,6 @@ fonts_of file =
 
 -- why a file gives no fonts: it has another length, or memory was refused
 abbrev pub IsFontFault : List ℕ → Fault → Type 0
-IsFontFault file FontSize = length file ≢ file_len
-IsFontFault file OutOfMemory = length file ≡ file_len
+IsFontFault file FontSize = length file ≢ font_file_len
+IsFontFault file OutOfMemory = length file ≡ font_file_len
 IsFontFault file _ = ⊥

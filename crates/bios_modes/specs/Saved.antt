@@ -6,8 +6,8 @@ use Rattle.bios_modes.specs.Bda.{BiosData}
 use Rattle.bios_modes.specs.Valid.{IsValid}
 
 -- the bytes before the cursor positions: mode, columns, size and start
-abbrev pub saved_prefix : BiosData → List ℕ
-saved_prefix d =
+abbrev pub saved_front : BiosData → List ℕ
+saved_front d =
     (d.mode ∷ []) ++ (word_bytes d.columns ++ (word_bytes d.size ++ word_bytes d.start))
 
 -- the bytes after the cursor positions: the cursor's type, the page, the CRT controller's address,
@@ -18,7 +18,7 @@ saved_back d = word_bytes d.cursor_type ++ ((d.page ∷ []) ++ (word_bytes d.crt
 
 -- all bytes of BIOS data
 unfoldable pub saved_bda : BiosData → List ℕ
-saved_bda d = saved_prefix d ++ (flat_map word_bytes d.cursor_places ++ saved_back d)
+saved_bda d = saved_front d ++ (flat_map word_bytes d.cursor_places ++ saved_back d)
 
 -- the bytes that follow the prefix
 abbrev pub past_prefix : List ℕ → List ℕ

@@ -1,7 +1,7 @@
 //! The fonts of a file.
 ghost use Rattle.std.specs.Prelude.{◌≡◌, IfOk, IfErr, length};
 ghost use Rattle.bios_modes.specs.Bounds.{AreFonts};
-ghost use Rattle.bios_modes.specs.Fonts.{IsFontFault, file_len, fonts_of};
+ghost use Rattle.bios_modes.specs.Fonts.{IsFontFault, font_file_len, fonts_of};
 
 use super::font::Font;
 use std::alloc::Global;
@@ -39,7 +39,7 @@ impl Fonts {
     /// memory is refused.
     #[tactic(auto, unfolding(crate::specs::Fonts::fonts_of))]
     pub fn from_bytes(alloc: Global, file: &[u8]) -> Result<Fonts, Fault>
-        ensures ok { IfOk result (λ fonts. (length file.now ≡ file_len)
+        ensures ok { IfOk result (λ fonts. (length file.now ≡ font_file_len)
             × (fonts ≡ fonts_of file.now)) }
         ensures err { IfErr result (IsFontFault file.now) }
     {

@@ -1,4 +1,5 @@
--- What depends on no mode: flat memories of cells and what loops leave of them, lists, plans, and registers of memory cycles.
+-- What depends on no mode: flat memories of cells, what loops leave of them, lists, plans, and the
+-- registers of memory cycles.
 pub mod Flat
 pub mod Plans
 pub mod Ports

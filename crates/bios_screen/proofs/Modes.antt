@@ -1,4 +1,4 @@
--- The rows of the mode table, what their registers say, and what a clearing mode set leaves.
+-- The rows of the mode table, what their registers imply, and what a clearing mode set leaves.
 pub mod Frames
 pub mod TextModes
 pub mod PixelModes

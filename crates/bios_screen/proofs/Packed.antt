@@ -1,4 +1,4 @@
--- Drawing in 256 colours, under chain 4.
+-- Drawing in 256 colours, with chain 4.
 pub mod Memory
 pub mod Pixels
 pub mod Screens

@@ -1,4 +1,4 @@
--- Services on pixels, whether they have sixteen colours or 256.
+-- Services on pixels, in sixteen colours or 256.
 pub mod NewPixels
 pub mod Writes
 pub mod Reads

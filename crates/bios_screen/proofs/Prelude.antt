@@ -1,4 +1,4 @@
--- Names that many rooms use, passed on from where they are defined.
+-- Names that many modules use, passed on from where they are defined.
 pub use Rattle.bios_modes.specs.Bda.{BiosData}
 pub use Rattle.bios_modes.specs.Begin.{data_of_mode}
 pub use Rattle.bios_modes.specs.Bounds.{AreBytes}
@@ -9,7 +9,7 @@ pub use Rattle.bios_modes.specs.Modes.{bytes_320_by_200}
 pub use Rattle.bios_modes.specs.declared.kind.Kind.TheVariants.{Planar}
 pub use Rattle.bios_modes.specs.declared.modes.ModeRow.{ModeRow}
 pub use Rattle.bios_screen.specs.Listing.{listing}
-pub use Rattle.bios_screen.specs.Picture.{shade}
+pub use Rattle.bios_screen.specs.Picture.{colour_by_palette}
 pub use Rattle.bios_screen.specs.Raster.{Draws, Raster}
 pub use Rattle.bios_screen.specs.Screen.{Cell, Screen}
 pub use Rattle.bios_screen.specs.AfterCall.{IsServed}

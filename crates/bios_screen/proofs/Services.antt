@@ -1,4 +1,4 @@
--- The services by their numbers, and calls.
+-- The services, function by function, and whole calls.
 pub mod Cursors
 pub mod Characters
 pub mod Pixels

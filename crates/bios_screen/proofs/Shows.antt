@@ -1,4 +1,4 @@
--- When an adapter shows a screen, and what a screen that is shown says.
+-- When an adapter shows a screen, and what a shown screen implies.
 pub mod Screens
 pub mod Pixels
 pub mod Any

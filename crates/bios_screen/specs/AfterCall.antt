@@ -24,10 +24,11 @@ use Rattle.bios_screen.specs.Shown.{shown}
 use Rattle.bios_screen.specs.Step.{refusal_on, next, answer_on}
 use Rattle.bios_screen.specs.Fresh.{fresh_screen}
 
--- the adapter, the registers and the data after a service, with the page that its number means
-abbrev pub after_service : Service → FontSet → Regs → List ℕ → CardState → BiosData → CardState
+-- The adapter after a service, and the outcome: registers and BIOS data. The service is taken with
+-- the page that its page number means.
+abbrev pub card_after_service : Service → FontSet → Regs → List ℕ → CardState → BiosData → CardState
     × Outcome
-after_service service fonts r block c d =
+card_after_service service fonts r block c d =
     run card_meaning (plan_of (on_page_named d service) fonts d r block) c
 
 -- a service is refused for the screen's reason, or else gives the screen's answer and the next
@@ -37,11 +38,11 @@ pub record IsServed (service : Service) (fonts : FontSet) (r : Regs) (block : Li
   pub refusal : refusal_in_mode (on_page_named d service) d (length block)
       ≡ refusal_on s service (length block)
   pub answer : refusal_on s service (length block) ≡ None →
-      (after_service service fonts r block c d).1.0 ≡ answer_on fonts s service r
+      (card_after_service service fonts r block c d).1.0 ≡ answer_on fonts s service r
   pub shows : refusal_on s service (length block) ≡ None →
-      shown (after_service service fonts r block c d).0
-      (after_service service fonts r block c d).1.1 ≡ Some (next fonts s service block)
-  pub beam : (after_service service fonts r block c d).0.crtc.beam ≡ c.crtc.beam
+      shown (card_after_service service fonts r block c d).0
+      (card_after_service service fonts r block c d).1.1 ≡ Some (next fonts s service block)
+  pub beam : (card_after_service service fonts r block c d).0.crtc.beam ≡ c.crtc.beam
 
 -- the overscan that a subfunction of function 10 sets is a byte
 abbrev pub FitsBytes : ColourService → Type 0

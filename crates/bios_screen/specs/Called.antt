@@ -1,5 +1,5 @@
--- A call on a plain screen: its reply or refusal, and the screen afterwards; and a call to which
--- memory is refused.
+-- A call on a plain screen: its reply or refusal, and the screen afterwards; and a call whose
+-- allocation fails.
 -- From the IBM PS/2 and PC BIOS Interface Technical Reference, "Interrupt 10H - Video".
 use Rattle.std.specs.Prelude.{ℕ, ◌≡◌, ◌<◌, List, length, Option, Some, None, Result, Ok, Err}
 use Rattle.vga_bits.specs.declared.refusal.Refusal.{Refusal}
@@ -74,7 +74,7 @@ pub record IsRead (service : TableService) (fonts : FontSet) (r : Regs) (block :
   pub shows : shown (after_call fonts r block c d).0 (after_call fonts r block c d).1.1 ≡ Some s
   pub beam : (after_call fonts r block c d).0.crtc.beam ≡ c.crtc.beam
 
--- memory for a table is refused, and the call leaves this adapter and these data
+-- the allocation of a table fails, and the call leaves this adapter and these data
 abbrev pub WantsMemory : FontSet → Regs → List ℕ → CardState → BiosData → CardState → BiosData →
     Type 0
 WantsMemory fonts r block c d y after = MayAnswer card_meaning (whole_service fonts d r block) c d

@@ -35,8 +35,8 @@ with_value s i v = record s {
 }
 
 -- the screen with a palette from the first sixteen bytes of a block, and the overscan from the next
-abbrev pub with_block : Screen → List ℕ → Screen
-with_block s block = record s {
+abbrev pub with_palette_and_overscan : Screen → List ℕ → Screen
+with_palette_and_overscan s block = record s {
   palette = record s.palette { values = listing (λ i. six_bits (slice_index block i)) 0 16 };
   overscan = slice_index block 16;
 }
@@ -63,7 +63,7 @@ with_entries s first count block = record s {
 unfoldable pub with_colours : Screen → ColourService → List ℕ → Screen
 with_colours s (SetRegister register value) block = with_value s register value
 with_colours s (SetOverscan value) block = record s { overscan = value }
-with_colours s SetPalette block = with_block s block
+with_colours s SetPalette block = with_palette_and_overscan s block
 with_colours s (SetBlinking blinking) block = record s { is_blink = blinking == 1 }
 with_colours s (ReadRegister register) block = s
 with_colours s ReadOverscan block = s

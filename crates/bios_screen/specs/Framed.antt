@@ -12,7 +12,7 @@ use Rattle.bios_screen.specs.Raster.{picture_bytes}
 
 -- a frame draws the picture of the screen's active page, and leaves the screen with the next frame
 -- number, again at the first dot of a frame
-pub record IsFramed (c : CardState) (d : BiosData) (s : Screen) : Type 0 where
+pub record FrameDrawsScreen (c : CardState) (d : BiosData) (s : Screen) : Type 0 where
   pub size : shape (frame c).drawn ≡ Some (record {
     width = picture_width s;
     height = picture_height s;

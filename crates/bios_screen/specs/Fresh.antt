@@ -11,9 +11,9 @@ use Rattle.bios_screen.specs.Listing.{listing}
 use Rattle.bios_screen.specs.Screen.{Cell, Contents, Cells, Pixels, Layout, Palette, Screen}
 use Rattle.bios_screen.specs.Shown.{all_cells}
 
--- n blank cells
-unfoldable pub blank_cells : ℕ → List Cell
-blank_cells n = replicate n (0x20, 0x07)
+-- n cells as a mode set leaves them: blanks with attribute 07
+unfoldable pub fresh_cells : ℕ → List Cell
+fresh_cells n = replicate n (0x20, 0x07)
 
 -- n pixels of colour 0
 unfoldable pub blank_pixels : ℕ → List ℕ
@@ -66,7 +66,7 @@ fresh_by mode row distance contents glyphs frame = record {
 
 -- the fresh screen of text: blank cells, and the glyphs of a font
 abbrev pub fresh_text : ℕ → ModeRow → List ℕ → ℕ → Screen
-fresh_text mode row font frame = fresh_by mode row (row.size / 2) (Cells (blank_cells all_cells))
+fresh_text mode row font frame = fresh_by mode row (row.size / 2) (Cells (fresh_cells all_cells))
     (font_bytes font 4096) frame
 
 -- the fresh screen of graphics: pages of pixels of colour 0

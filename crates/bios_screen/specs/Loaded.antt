@@ -13,7 +13,7 @@ use Rattle.bios_services.specs.GlyphLoads.{load_refusal, loaded_line}
 use Rattle.bios_screen.specs.Listing.{listing}
 use Rattle.bios_screen.specs.Screen.{Layout, Screen}
 
--- the text-height table has no row
+-- why a height is refused: the text-height table has no row for it
 abbrev pub height_refusal_on : Option TextRow → Option Refusal
 height_refusal_on None = Some BadHeight
 height_refusal_on (Some text) = None
@@ -43,7 +43,7 @@ layout_with l text = record {
 }
 
 -- the screen after a load, by the row of its height: the cells stay and are laid out anew, the
--- cursors stand in the upper left corner, and page 0 is active
+-- cursors are in the upper left corner, and page 0 is active
 abbrev pub load_at_height : Option TextRow → FontSet → Screen → GlyphLoad → List ℕ → Screen
 load_at_height None fonts s load block = s
 load_at_height (Some text) fonts s load block = record s {

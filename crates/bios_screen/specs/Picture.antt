@@ -63,13 +63,13 @@ nibble s k r i = if is_foreground s k r i then field (cell_on s k).1 3 0
     else background s (cell_on s k)
 
 -- red, green and blue of the entry that a number names, after the mask
-abbrev pub tint : Palette → ℕ → List ℕ
-tint p n = slice_index p.reds (bit_and n p.mask) ∷ slice_index p.greens (bit_and n p.mask)
-    ∷ slice_index p.blues (bit_and n p.mask) ∷ []
+abbrev pub colour_of_value : Palette → ℕ → List ℕ
+colour_of_value p n = slice_index p.reds (bit_and n p.mask)
+    ∷ slice_index p.greens (bit_and n p.mask) ∷ slice_index p.blues (bit_and n p.mask) ∷ []
 
 -- red, green and blue of four bits, which select a value of the palette
-abbrev pub shade : Palette → ℕ → List ℕ
-shade p n = tint p (slice_index p.values n)
+abbrev pub colour_by_palette : Palette → ℕ → List ℕ
+colour_by_palette p n = colour_of_value p (slice_index p.values n)
 
 -- the number of the cell at column x of line y of a page's picture, where a cell is nine dots wide
 abbrev pub cell_shown : Screen → ℕ → ℕ → ℕ → ℕ
@@ -77,8 +77,8 @@ cell_shown s page x y = page_start s page + (s.layout.columns * (y / s.layout.he
 
 -- the colour of the dot at column x of line y of a page of text
 unfoldable pub text_dot : Screen → ℕ → ℕ → ℕ → List ℕ
-text_dot s page x y = shade s.palette (nibble s (cell_shown s page x y) (y % s.layout.height)
-    (x % 9))
+text_dot s page x y = colour_by_palette s.palette
+    (nibble s (cell_shown s page x y) (y % s.layout.height) (x % 9))
 
 -- ---- graphics
 
@@ -108,7 +108,7 @@ pixel_on s page x y = pixel_of s page (pixel_number s x y)
 unfoldable pub pixel_dot : Screen → ℕ → ℕ → ℕ → List ℕ
 pixel_dot s page x y =
     let pixel = pixel_on s page (x / pixel_width s.mode) (y / pixel_height s.mode) in
-    if is_packed s.mode then tint s.palette pixel else shade s.palette pixel
+    if is_packed s.mode then colour_of_value s.palette pixel else colour_by_palette s.palette pixel
 
 -- ---- the picture
 

@@ -26,7 +26,7 @@ use Rattle.bios_modes.specs.Palette.{is_monochrome_mode}
 use Rattle.bios_services.specs.Registers.{low, with_low}
 use Rattle.bios_services.specs.Scroll.{window_among, whole_page, lines_of}
 use Rattle.bios_services.specs.Teletype.{line_start, dots_in}
-use Rattle.bios_services.specs.Strings.{character_at, colouring_at}
+use Rattle.bios_services.specs.Strings.{character_at, colouring_of_character}
 use Rattle.bios_services.specs.Colours.{colour_reason}
 use Rattle.bios_services.specs.Reasons.{◌or◌, no_pixels, no_page, outside_cells, outside_page}
 use Rattle.bios_services.specs.Reasons.{outside_pixels, past_cells, or_wrong_block}
@@ -178,8 +178,8 @@ change_pixels page new (Pixels pages) = Pixels (set pages page
 abbrev pub with_pixels : Screen → ℕ → ((ℕ → ℕ) → ℕ → ℕ) → Screen
 with_pixels s page new = record s { contents = change_pixels page new s.contents }
 
--- a pixel after a colour is written to it: of 256 colours it is that colour; of 16 it is the four
--- low bits, or their XOR with the old pixel if bit 7 is 1
+-- a pixel after a colour is written to it: in 256 colours it is that colour; in 16 colours it is
+-- the four low bits, or their XOR with the old pixel if bit 7 is 1
 abbrev pub colour_over : ℕ → ℕ → ℕ → ℕ
 colour_over mode colour old = if is_packed mode then colour else if is_set colour 7
     then bit_xor old (colour % 16) else colour % 16
@@ -322,7 +322,7 @@ abbrev pub type_characters : FontSet → StringCall → List ℕ → ℕ → ℕ
 type_characters fonts call block page zero i at = at
 type_characters fonts call block page (suc n) i at =
     type_characters fonts call block page n (i + 1)
-    (type_character fonts at.0 page at.1 (character_at call block i) (colouring_at call block i))
+    (type_character fonts at.0 page at.1 (character_at call block i) (colouring_of_character call block i))
 
 -- a whole string is typed on a page, and if AL asks for it, the cursor moves to the position after
 abbrev pub type_string : FontSet → Screen → ℕ → StringCall → List ℕ → Screen

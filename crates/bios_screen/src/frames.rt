@@ -10,7 +10,7 @@ ghost use Rattle.vga_card.specs.Frames.{collect};
 ghost use Rattle.bios_modes.specs.Bda.{BiosData};
 ghost use Rattle.bios_screen.specs.Screen.{Screen};
 ghost use Rattle.bios_screen.specs.Shown.{shown};
-ghost use Rattle.bios_screen.specs.Framed.{IsFramed};
+ghost use Rattle.bios_screen.specs.Framed.{FrameDrawsScreen};
 ghost use Rattle.bios_screen.specs.Raster.{Raster, IsRaster, HasRaster, IsAtDot, Colours, Draws};
 ghost use Rattle.bios_screen.specs.Raster.{PlacesDrawn, GoesOn, FrameEnded, FrameDrawn};
 ghost use Rattle.bios_screen.specs.Raster.{picture_dot, all_dots, IsPictureOf};
@@ -41,5 +41,5 @@ pub fn frame_is_picture()
 /// picture, and leaves the screen with the next frame number, again at the first dot of a frame.
 pub fn frame_draws_screen()
     ensures { (c : CardState) (d : BiosData) (s : Screen) → IsCard c → shown c d ≡ Some s →
-        IsFrameStart c.crtc.beam → IsFramed c d s }
+        IsFrameStart c.crtc.beam → FrameDrawsScreen c d s }
 {}

@@ -98,8 +98,8 @@ pub fn dots_are_served()
 
 /// From every state that shows a screen, a call for a service gives the screen's reply or refusal,
 /// and leads to a state that shows the next screen; so does a call that loads glyphs of text. A
-/// call for a table replies with that of the screen, and leaves the screen, also if memory is
-/// refused. A call for no service, or for a mode that does not exist, changes nothing.
+/// call for a table replies with that of the screen, and leaves the screen, also if its allocation
+/// fails. A call for no service, or for a mode that does not exist, changes nothing.
 pub fn calls_lead_to_screens()
     ensures served { (service : Service) (fonts : FontSet) (r : Regs) (block : List ℕ)
         (c : CardState) (d : BiosData) (s : Screen) →

@@ -35,8 +35,8 @@ use Rattle.bios_services.specs.Drawing.{character_plan}
 use Rattle.bios_services.specs.CellRuns.{cell_run_plan}
 use Rattle.bios_services.specs.Scroll.{page_up_plan, scroll_plan}
 use Rattle.bios_services.specs.Pixels.{write_pixel_plan}
-use Rattle.bios_services.specs.Teletype.{line_start, dots_in, line_feed_fill, line_feed_plan, cursor_advance_plan, show_plan, type_plan, teletype_plan}
-use Rattle.bios_services.specs.Strings.{string_len, character_at, colouring_at, type_string_plan, string_plan}
+use Rattle.bios_services.specs.Teletype.{line_start, dots_in, line_feed_fill, line_feed_plan, next_position_plan, show_plan, type_plan, teletype_plan}
+use Rattle.bios_services.specs.Strings.{string_len, character_at, colouring_of_character, type_string_plan, string_plan}
 use Rattle.bios_services.specs.ModeSet.{mode_set_plan}
 use Rattle.bios_services.specs.Reasons.{no_page, outside_page, wrong_block}
 use Rattle.bios_services.specs.Colours.{colours_plan}
@@ -101,8 +101,8 @@ fed_near d page position few near =
 start_near : (position : ℕ) → IsNear position → IsNear (line_start position)
 start_near position near = omega arith
 
-advanced_near : (d : BiosData) (page position : ℕ) → d.last_row < 50 → d.columns ≤ 80 → IsNear position → Always IsNear (cursor_advance_plan d page position)
-unfolding cursor_advance_plan
+advanced_near : (d : BiosData) (page position : ℕ) → d.last_row < 50 → d.columns ≤ 80 → IsNear position → Always IsNear (next_position_plan d page position)
+unfolding next_position_plan
 advanced_near d page position few narrow near =
     on_if IsNear (nat_lt (column_of position + 1) d.columns) (Done (position + 1)) _
     (λ e. let l = lt_is (column_of position + 1) d.columns e in omega arith)
@@ -120,7 +120,7 @@ typed_near fonts d page position character colouring few narrow near =
     (λ _. on_if IsNear (character == 0x08) (Done (if column_of position == 0 then position else position - 1)) _ (λ _. back_near position (column_of position == 0) near)
     (λ _. on_if IsNear (character == 0x0A) (line_feed_plan d page position) _ (λ _. fed_near d page position few near)
     (λ _. on_if IsNear (character == 0x0D) (Done (line_start position)) _ (λ _. start_near position near)
-    (λ _. then_always IsNear (character_plan fonts d page (cell_number d position) character colouring) (λ _. cursor_advance_plan d page position) (λ _.
+    (λ _. then_always IsNear (character_plan fonts d page (cell_number d position) character colouring) (λ _. next_position_plan d page position) (λ _.
     advanced_near d page position few narrow near)))))
 
 -- ---- BIOS data
@@ -216,12 +216,12 @@ module _ (d : BiosData) (a : AreData d) (is : IsSet d) (unset : d.mode ≢ 0) wh
       (λ position l. moved d.page position (omega arith)))
 
   characters_near : (fonts : FontSet) (page : ℕ) (s : StringCall) (block : List ℕ) (n i position : ℕ) → IsNear position
-      → Always IsNear (fold (λ i position. type_plan fonts d page position (character_at s block i) (colouring_at s block i)) n i position)
+      → Always IsNear (fold (λ i position. type_plan fonts d page position (character_at s block i) (colouring_of_character s block i)) n i position)
   characters_near fonts page s block zero i position near = near
   characters_near fonts page s block (suc n) i position near =
-      let turn : ℕ → ℕ → Plan ℕ = λ i position. type_plan fonts d page position (character_at s block i) (colouring_at s block i) in
+      let turn : ℕ → ℕ → Plan ℕ = λ i position. type_plan fonts d page position (character_at s block i) (colouring_of_character s block i) in
       then_always_such IsNear IsNear (turn i position) (λ next. fold turn n (i + 1) next)
-      (typed_near fonts d page position (character_at s block i) (colouring_at s block i) is.rows is.columns near)
+      (typed_near fonts d page position (character_at s block i) (colouring_of_character s block i) is.rows is.columns near)
       (λ next l. characters_near fonts page s block n (i + 1) next l)
 
   string : (fonts : FontSet) (s : StringCall) (block : List ℕ) → IsNear s.position → Always AreData (string_plan fonts d s block)

@@ -5,8 +5,8 @@ use Rattle.bios_modes.specs.Heights.{row_at}
 use Rattle.bios_modes.specs.Bda.{BiosData}
 
 -- the number of the cell at row 255, column 255, in rows of 80 cells: no position names a later one
-abbrev pub furthest_cell : ℕ
-furthest_cell = 80 * 255 + 255
+abbrev pub furthest_position : ℕ
+furthest_position = 80 * 255 + 255
 
 -- more cells than calls reach: a word's count of cells from any position on
 abbrev pub reached_cells : ℕ

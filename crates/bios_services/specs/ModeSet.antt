@@ -14,7 +14,7 @@ use Rattle.bios_services.specs.Cycles.{expect_index, show_palette}
 use Rattle.bios_services.specs.VideoRegisters.{miscellaneous_output, sequencer_port, graphics_port}
 use Rattle.bios_services.specs.VideoRegisters.{dac_mask, dac_write_index, dac_data, all_bits}
 use Rattle.bios_services.specs.VideoRegisters.{vertical_retrace_end, map_mask, glyph_plane}
-use Rattle.bios_services.specs.VideoRegisters.{text_planes, memory_mode, all_addresses}
+use Rattle.bios_services.specs.VideoRegisters.{text_planes, memory_mode, sequential_memory}
 use Rattle.bios_services.specs.VideoRegisters.{odd_and_even_addresses, graphics_mode, byte_access}
 use Rattle.bios_services.specs.VideoRegisters.{odd_and_even_access, miscellaneous, window_at_a0000}
 
@@ -39,8 +39,8 @@ colour_plan colour = do
   out dac_data (slice_index colour 2)
 
 -- the DAC's mask and the first n entries of a palette are written
-unfoldable pub palette_plan : Palette → ℕ → Plan (Unit {0})
-palette_plan palette n = do
+unfoldable pub mask_and_palette_plan : Palette → ℕ → Plan (Unit {0})
+mask_and_palette_plan palette n = do
   out dac_mask all_bits
   out dac_write_index 0x00
   each (λ i. colour_plan (palette_entry palette i)) n 0
@@ -58,7 +58,7 @@ glyphs_plan line height n first = each (glyph_plan line height) n first
 unfoldable pub font_plan : (ℕ → ℕ → ℕ) → ℕ → ℕ → ℕ → ℕ → Plan (Unit {0})
 font_plan line height n first window = do
   sequencer map_mask glyph_plane
-  sequencer memory_mode all_addresses
+  sequencer memory_mode sequential_memory
   graphics graphics_mode byte_access
   graphics miscellaneous window_at_a0000
   glyphs_plan line height n first
@@ -96,5 +96,5 @@ memory_plan row keeps font =
 unfoldable pub mode_set_plan : ModeRow → Bool → FontSet → Plan (Unit {0})
 mode_set_plan row keeps fonts = do
   registers_plan row
-  palette_plan row.palette 256
+  mask_and_palette_plan row.palette 256
   memory_plan row keeps fonts.f16

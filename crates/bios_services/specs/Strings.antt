@@ -37,8 +37,8 @@ abbrev pub character_at : StringCall → List ℕ → ℕ → ℕ
 character_at s block i = slice_index block (stride s * i)
 
 -- the colour in which character i of the block is typed
-abbrev pub colouring_at : StringCall → List ℕ → ℕ → Colouring
-colouring_at s block i = record {
+abbrev pub colouring_of_character : StringCall → List ℕ → ℕ → Colouring
+colouring_of_character s block i = record {
   colour = (if s.has_attributes then slice_index block (2 * i + 1)
       else s.colour);
   is_attribute = true;
@@ -48,7 +48,7 @@ colouring_at s block i = record {
 unfoldable pub type_string_plan : FontSet → BiosData → StringCall → List ℕ → Plan ℕ
 type_string_plan fonts d s block =
     fold (λ i position. type_plan fonts d s.page position (character_at s block i)
-    (colouring_at s block i)) s.count 0 s.position
+    (colouring_of_character s block i)) s.count 0 s.position
 
 -- 13: a string is typed, and if AL asks for it, the cursor moves to the position after it
 unfoldable pub string_plan : FontSet → BiosData → StringCall → List ℕ → Plan BiosData

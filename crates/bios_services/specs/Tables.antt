@@ -34,9 +34,10 @@ palette_register i = if i == 16 then 0x11 else i
 unfoldable pub registers_plan : ℕ → Plan (List ℕ)
 registers_plan port = gather (λ i. register_plan port (palette_register i)) 17 0
 
--- 09: the palette registers and the overscan colour are read
-unfoldable pub read_palette_plan : ℕ → Plan (List ℕ)
-read_palette_plan port = do
+-- 09: the 16 palette registers and the overscan colour are read; the CRT controller's index is at
+-- this port
+unfoldable pub read_palette_and_overscan_plan : ℕ → Plan (List ℕ)
+read_palette_and_overscan_plan port = do
   expect_index port
   registers_plan port
 
@@ -53,7 +54,7 @@ read_entries_plan first count = do
 -- what a subfunction that is not refused does and answers; the CRT controller's index is at this
 -- port
 unfoldable pub table_plan : TableService → ℕ → Plan Table
-table_plan ReadPalette port = read_palette_plan port >>= λ values. Done (Palette values)
+table_plan ReadPalette port = read_palette_and_overscan_plan port >>= λ values. Done (Palette values)
 table_plan (ReadEntries first count) port = read_entries_plan first count
     >>= λ values. Done (Dac values)
 

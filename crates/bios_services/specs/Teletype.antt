@@ -33,9 +33,10 @@ line_feed_plan d page position =
       page_up_plan d page colour
       Done position)
 
--- the position after one: the next column, or the first column of the row below
-unfoldable pub cursor_advance_plan : BiosData → ℕ → ℕ → Plan ℕ
-cursor_advance_plan d page position =
+-- the answer is the position after this one: the next column, or the first column of the row below,
+-- for which the page may go up
+unfoldable pub next_position_plan : BiosData → ℕ → ℕ → Plan ℕ
+next_position_plan d page position =
     if nat_lt (column_of position + 1) d.columns then Done (position + 1)
     else (do
       below ← line_feed_plan d page position
@@ -45,7 +46,7 @@ cursor_advance_plan d page position =
 unfoldable pub show_plan : FontSet → BiosData → ℕ → ℕ → ℕ → Colouring → Plan ℕ
 show_plan fonts d page position character colouring = do
   character_plan fonts d page (cell_number d position) character colouring
-  cursor_advance_plan d page position
+  next_position_plan d page position
 
 -- a character is typed at a position; the answer is the position afterwards. A bell does nothing; a
 -- backspace goes one column back, unless it is the first; a line feed goes one row down, and a

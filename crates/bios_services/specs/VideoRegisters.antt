@@ -61,8 +61,8 @@ abbrev pub memory_mode : ℕ
 memory_mode = 0x04
 
 -- memory mode: each address reaches all planes
-abbrev pub all_addresses : ℕ
-all_addresses = 0x06
+abbrev pub sequential_memory : ℕ
+sequential_memory = 0x06
 
 -- memory mode: even addresses reach planes 0 and 2, odd ones planes 1 and 3
 abbrev pub odd_and_even_addresses : ℕ

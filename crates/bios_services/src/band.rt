@@ -47,7 +47,7 @@ pub(crate) fn set_access<B: Bus>(bus: &mut B, kind: Kind, mode: u8)
 
 impl Band {
     /// `width` columns of a page, from column `left` on.
-    pub(crate) fn of_page(bda: &Bda, page: u8, left: u32, width: u32) -> Band
+    pub(crate) fn of_columns(bda: &Bda, page: u8, left: u32, width: u32) -> Band
         requires data { IsSet bda.now }
         requires page { page < pages_of bda.now }
         requires columns { left + width ≤ 80 }

@@ -1,7 +1,7 @@
 //! The cursor and the pages.
 ghost use Rattle.std.specs.Prelude.{◌≡◌, ◌<◌, ◌≤◌, ◌+◌, ◌*◌, ◌/◌};
 ghost use Rattle.bios_services.specs.Plan.{run};
-ghost use Rattle.bios_services.specs.Bounds.{IsSet, StaysInMode, pages_of, furthest_cell};
+ghost use Rattle.bios_services.specs.Bounds.{IsSet, StaysInMode, pages_of, furthest_position};
 ghost use Rattle.bios_services.specs.Bounds.{ports_end};
 ghost use Rattle.bios_services.specs.Cursor.{cell_number as cell_number_of};
 ghost use Rattle.bios_services.specs.Cursor.{cursor_cell as cursor_cell_of, word_plan};
@@ -17,7 +17,7 @@ use vga_card::Bus;
 pub(crate) fn cell_number(bda: &Bda, position: u16) -> u32
     requires { IsSet bda.now }
     ensures value { result ≡ cell_number_of bda.now position }
-    ensures small { result ≤ furthest_cell }
+    ensures small { result ≤ furthest_position }
 {
     bda.columns() as u32 * (position / 256) as u32 + (position % 256) as u32
 }
@@ -27,7 +27,7 @@ pub(crate) fn cursor_cell(bda: &Bda, page: u8) -> u32
     requires data { IsSet bda.now }
     requires page { page < pages_of bda.now }
     ensures value { result ≡ cursor_cell_of bda.now page }
-    ensures small { result ≤ furthest_cell }
+    ensures small { result ≤ furthest_position }
 {
     cell_number(bda, bda.cursor_place(page as usize))
 }

@@ -18,7 +18,7 @@ pub struct DotCell {
 
 impl DotCell {
     /// Cell q of a page.
-    pub(crate) fn of_page(bda: &Bda, page: u8, q: u32) -> DotCell
+    pub(crate) fn of_columns(bda: &Bda, page: u8, q: u32) -> DotCell
         requires data { IsSet bda.now }
         requires page { page < pages_of bda.now }
         requires cell { q < reached_cells }
@@ -29,7 +29,7 @@ impl DotCell {
     {
         let columns = bda.columns() as u32;
         DotCell {
-            band: Band::of_page(bda, page, q % columns, 1),
+            band: Band::of_columns(bda, page, q % columns, 1),
             row: q / columns,
         }
     }

@@ -159,7 +159,7 @@ pub(crate) fn write_character<B: Bus>(
     by_kind!(
         kind_of(bda.mode()),
         Text => write_cell(bus, cell_address(bda, number, q), character, colouring),
-        Planar => draw_planar(bus, DotCell::of_page(bda, number, q), fonts, character, colour),
-        Packed => draw_packed(bus, DotCell::of_page(bda, number, q), fonts, character, colour),
+        Planar => draw_planar(bus, DotCell::of_columns(bda, number, q), fonts, character, colour),
+        Packed => draw_packed(bus, DotCell::of_columns(bda, number, q), fonts, character, colour),
     )
 }

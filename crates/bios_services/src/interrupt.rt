@@ -59,7 +59,7 @@ fn read_cursor_cell<B: Bus>(bus: &mut B, fonts: &Fonts, bda: &Bda, page: u8, reg
         regs.ax = read_cell(bus, cell_address(bda, page, q));
         return;
     }
-    let character = read_character(bus, DotCell::of_page(bda, page, q), fonts);
+    let character = read_character(bus, DotCell::of_columns(bda, page, q), fonts);
     regs.ax = with_low(regs.ax, character);
 }
 

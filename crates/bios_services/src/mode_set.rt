@@ -2,7 +2,7 @@
 ghost use Rattle.std.specs.Prelude.{◌≡◌, ◌<◌, ◌≤◌, ◌+◌, ◌*◌, ◌^◌};
 ghost use Rattle.bios_services.specs.Bounds.{ports_end};
 ghost use Rattle.bios_services.specs.Plan.{run};
-ghost use Rattle.bios_services.specs.ModeSet.{registers_plan, colour_plan, palette_plan};
+ghost use Rattle.bios_services.specs.ModeSet.{registers_plan, colour_plan, mask_and_palette_plan};
 ghost use Rattle.bios_services.specs.ModeSet.{blank_plan, clear_plan};
 ghost use Rattle.bios_services.specs.ModeSet.{text_plan, memory_plan, mode_set_plan};
 
@@ -52,10 +52,10 @@ fn write_colour<B: Bus>(bus: &mut B, colour: [u8; 3])
 }
 
 /// Writes the DAC's mask, and the first n entries of a palette.
-#[tactic(auto, using(crate::proofs::PlanRuns::run_bind), unfolding(crate::specs::ModeSet::palette_plan))]
-fn write_palette<B: Bus>(bus: &mut B, palette: Palette, n: u16)
+#[tactic(auto, using(crate::proofs::PlanRuns::run_bind), unfolding(crate::specs::ModeSet::mask_and_palette_plan))]
+fn write_mask_and_palette<B: Bus>(bus: &mut B, palette: Palette, n: u16)
     requires { n ≤ 256 }
-    ensures { bus.new ≡ (run B.meaning (palette_plan palette n) bus.old).0 }
+    ensures { bus.new ≡ (run B.meaning (mask_and_palette_plan palette n) bus.old).0 }
 {
     out(bus, DAC_MASK, ALL_BITS);
     out(bus, DAC_WRITE_INDEX, 0x00);
@@ -121,6 +121,6 @@ pub(crate) fn set_mode<B: Bus>(bus: &mut B, row: &ModeRow, keeps: bool, fonts: &
     ensures { bus.new ≡ (run B.meaning (mode_set_plan row.now keeps fonts.now) bus.old).0 }
 {
     write_registers(bus, row);
-    write_palette(bus, row.palette, 256);
+    write_mask_and_palette(bus, row.palette, 256);
     write_memory(bus, row, keeps, fonts);
 }

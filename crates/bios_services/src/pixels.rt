@@ -62,7 +62,7 @@ fn pixel_address(bda: &Bda, packed: bool, pixel: Pixel) -> u32
 }
 
 /// Sets the function that combines data with the latches, if bit 7 of a colour asks for XOR.
-fn set_function<B: Bus>(bus: &mut B, colour: u8, function: u8)
+fn set_function_if_xor<B: Bus>(bus: &mut B, colour: u8, function: u8)
     ensures { bus.new ≡ (run B.meaning (function_plan colour function) bus.old).0 }
 {
     if is_set(colour, 7) {
@@ -76,12 +76,12 @@ fn write_dot<B: Bus>(bus: &mut B, address: u32, x: u16, colour: u8)
     ensures { bus.new ≡ (run B.meaning (write_dot_plan address x colour) bus.old).0 }
 {
     graphics(bus, BIT_MASK, 0x80 >> (x as u32 % 8));
-    set_function(bus, colour, XOR);
+    set_function_if_xor(bus, colour, XOR);
     get(bus, address);
     graphics(bus, GRAPHICS_MODE, WRITE_COLOUR);
     put(bus, address, colour);
     graphics(bus, GRAPHICS_MODE, BYTE_ACCESS);
-    set_function(bus, colour, REPLACE);
+    set_function_if_xor(bus, colour, REPLACE);
     graphics(bus, BIT_MASK, ALL_BITS);
 }
 

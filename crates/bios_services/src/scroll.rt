@@ -70,7 +70,7 @@ impl Window {
         ensures { bus.new ≡ (run B.meaning (window_plan bda.now page self shift.direction shift.rows
             shift.colour) bus.old).0 }
     {
-        let band = Band::of_page(bda, page, self.left, self.width);
+        let band = Band::of_columns(bda, page, self.left, self.width);
         band.scroll_rows(bus, shift, self.top, self.height);
     }
 }

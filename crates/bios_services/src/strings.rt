@@ -4,7 +4,7 @@ ghost use Rattle.bios_services.specs.Plan.{run};
 ghost use Rattle.bios_services.specs.Bounds.{IsSet, StaysInMode, pages_of};
 ghost use Rattle.bios_services.specs.Cursor.{row_of};
 ghost use Rattle.bios_services.specs.Strings.{string_of as string_of_regs, string_len};
-ghost use Rattle.bios_services.specs.Strings.{character_at, colouring_at, type_string_plan};
+ghost use Rattle.bios_services.specs.Strings.{character_at, colouring_of_character, type_string_plan};
 ghost use Rattle.bios_services.specs.Strings.{string_plan};
 
 use crate::colouring::Colouring;
@@ -74,7 +74,7 @@ impl StringCall {
     fn colouring(self, block: &[u8], i: u16) -> Colouring
         requires whole { length block.now ≡ string_len self }
         requires character { i < self.count }
-        ensures { result ≡ colouring_at self block.now i }
+        ensures { result ≡ colouring_of_character self block.now i }
     {
         let colour = if self.has_attributes {
             block[2 * i as usize + 1]

@@ -5,7 +5,7 @@ ghost use Rattle.bios_services.specs.Plan.{run};
 ghost use Rattle.bios_services.specs.Reasons.{reason_of};
 ghost use Rattle.bios_services.specs.Tables.{table_refusal as table_refusal_of};
 ghost use Rattle.bios_services.specs.Tables.{palette_register as palette_register_of};
-ghost use Rattle.bios_services.specs.Tables.{registers_plan, read_palette_plan};
+ghost use Rattle.bios_services.specs.Tables.{registers_plan, read_palette_and_overscan_plan};
 ghost use Rattle.bios_services.specs.Tables.{read_components_plan, read_entries_plan, table_plan};
 ghost use Rattle.bios_services.specs.Tables.{table_takes_memory};
 
@@ -62,10 +62,10 @@ fn read_registers<B: Bus>(bus: &mut B, port: u16, values: &mut [u8])
 }
 
 /// 09: reads the palette registers and the overscan colour.
-#[tactic(auto, using(crate::proofs::PlanRuns::run_bind), unfolding(crate::specs::Tables::read_palette_plan))]
+#[tactic(auto, using(crate::proofs::PlanRuns::run_bind), unfolding(crate::specs::Tables::read_palette_and_overscan_plan))]
 fn read_palette<B: Bus>(bus: &mut B, port: u16) -> [u8; PALETTE_BYTES]
     requires { port < ports_end }
-    ensures { (bus.new, result) ≡ run B.meaning (read_palette_plan port) bus.old }
+    ensures { (bus.new, result) ≡ run B.meaning (read_palette_and_overscan_plan port) bus.old }
 {
     let mut values = [0u8; PALETTE_BYTES];
     expect_index(bus, port);

@@ -5,7 +5,7 @@ ghost use Rattle.bios_services.specs.Bounds.{IsSet, StaysInMode, pages_of};
 ghost use Rattle.bios_services.specs.Cursor.{row_of, position_of};
 ghost use Rattle.bios_services.specs.Page.{IsPage};
 ghost use Rattle.bios_services.specs.Teletype.{line_feed_fill as line_feed_fill_plan};
-ghost use Rattle.bios_services.specs.Teletype.{line_feed_plan, cursor_advance_plan};
+ghost use Rattle.bios_services.specs.Teletype.{line_feed_plan, next_position_plan};
 ghost use Rattle.bios_services.specs.Teletype.{type_plan, teletype_plan};
 
 use crate::cells::cell_address;
@@ -70,12 +70,12 @@ fn line_feed<B: Bus>(bus: &mut B, bda: &Bda, page: u8, position: u16) -> u16
 }
 
 /// The position after one: the next column, or the first column of the row below.
-#[tactic(auto, using(crate::proofs::PlanRuns::run_bind), unfolding(crate::specs::Teletype::cursor_advance_plan))]
+#[tactic(auto, using(crate::proofs::PlanRuns::run_bind), unfolding(crate::specs::Teletype::next_position_plan))]
 fn cursor_advance<B: Bus>(bus: &mut B, bda: &Bda, page: u8, position: u16) -> u16
     requires data { IsSet bda.now }
     requires page { page < pages_of bda.now }
     requires row { row_of position ≤ bda.now.last_row }
-    ensures position { (bus.new, result) ≡ run B.meaning (cursor_advance_plan bda.now page position)
+    ensures position { (bus.new, result) ≡ run B.meaning (next_position_plan bda.now page position)
         bus.old }
     ensures row { row_of result ≤ bda.now.last_row }
 {

@@ -13,7 +13,7 @@ use Rattle.vga_script.specs.Script.{IsScript, IsTextFault}
 use Rattle.vga_script.specs.Spelling.{Spells, encoding}
 use Rattle.vga_script.specs.Text.{SpellsText}
 use Rattle.bios_modes.specs.Fonts.{FontSet}
-use Rattle.vga_run.specs.Run.{RunsScript, StopsSteps}
+use Rattle.vga_run.specs.Run.{RunsScript, RunsOutOfMemory}
 use Rattle.vga.specs.Scripts.{Assembles, FindsScript, Prints, RunsText, StopsText}
 
 -- ---- a text
@@ -70,7 +70,7 @@ script_is_run until file input before after script (Err _) found h = absurd h.1
 
 -- and where its run stops
 pub script_stops : (until : Option ℕ) (fonts : FontSet) (input before after : Option (List ℕ)) (script : Listing) → FindsScript input (Ok script)
-    → StopsSteps until fonts (expanded script.items) before after → StopsText until fonts input before after
+    → RunsOutOfMemory until fonts (expanded script.items) before after → StopsText until fonts input before after
 script_stops until fonts input before after script found stops = (script, found, stops)
 
 -- ---- a script in bytes

@@ -10,18 +10,18 @@ use Rattle.vga_bits.specs.declared.fault.Fault.TheVariants.{WriteFault, OutOfMem
 use Rattle.vga_script.specs.Item.{Listing, expanded}
 use Rattle.vga_script.specs.Input.{InputHasFault, InputSpells, InputSpellsText, IsInput, IsTooLong}
 use Rattle.vga_script.specs.Printing.{printed}
-use Rattle.vga_script.specs.Script.{SpellsTooLong}
+use Rattle.vga_script.specs.Script.{SpellsTooLongScript}
 use Rattle.vga_script.specs.Spelling.{encoding}
 use Rattle.vga_script.specs.Text.{IsBadLine}
 use Rattle.vga_run.specs.Report.{report_of, steps_until}
-use Rattle.vga_run.specs.Run.{StopsSteps}
-use Rattle.bios_modes.specs.Fonts.{FontSet, file_len, fonts_of}
+use Rattle.vga_run.specs.Run.{RunsOutOfMemory}
+use Rattle.bios_modes.specs.Fonts.{FontSet, font_file_len, fonts_of}
 
 -- Why a text is not assembled: it or its script has too many bytes; or this is its first bad line;
 -- or the reader or an allocation failed.
 abbrev pub IsAssemblingFault : Option (List ℕ) → Fault → Type 0
 IsAssemblingFault input TooLong = IsTooLong input ⊎ ((text : List ℕ) × IsInput input text
-    × SpellsTooLong text)
+    × SpellsTooLongScript text)
 IsAssemblingFault input (BadLine n) = (text : List ℕ) × IsInput input text × IsBadLine text n
 IsAssemblingFault input ReadFault = ⊤
 IsAssemblingFault input OutOfMemory = ⊤
@@ -57,14 +57,14 @@ Prints input before after (Err fault) = InputHasFault input fault
 -- font file has the wrong size, which is checked after the text.
 abbrev pub RunsText : Option ℕ → List ℕ → Option (List ℕ) → Option (List ℕ) → Option (List ℕ) →
     Result Unit Fault → Type 0
-RunsText until file input before after (Ok done) = (length file ≡ file_len)
+RunsText until file input before after (Ok done) = (length file ≡ font_file_len)
     × ((script : Listing) × InputSpellsText input script
     × Appends before after (report_of (fonts_of file) (steps_until until (expanded script.items))))
-RunsText until file input before after (Err WriteFault) = (length file ≡ file_len)
+RunsText until file input before after (Err WriteFault) = (length file ≡ font_file_len)
     × ((script : Listing) × InputSpellsText input script
     × AppendsPrefix before after (report_of (fonts_of file)
     (steps_until until (expanded script.items))))
-RunsText until file input before after (Err FontSize) = (length file ≢ file_len)
+RunsText until file input before after (Err FontSize) = (length file ≢ font_file_len)
     × ((script : Listing) × InputSpellsText input script)
 RunsText until file input before after (Err fault) = IsAssemblingFault input fault
 
@@ -72,4 +72,4 @@ RunsText until file input before after (Err fault) = IsAssemblingFault input fau
 abbrev pub StopsText : Option ℕ → FontSet → Option (List ℕ) → Option (List ℕ) → Option (List ℕ) →
     Type 0
 StopsText until fonts input before after = (script : Listing) × InputSpellsText input script
-    × StopsSteps until fonts (expanded script.items) before after
+    × RunsOutOfMemory until fonts (expanded script.items) before after

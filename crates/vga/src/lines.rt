@@ -1,6 +1,6 @@
 //! The lines that the program itself writes to standard error.
 ghost use Rattle.std.specs.Prelude.{◌≡◌, ◌≤◌, length, codes};
-ghost use Rattle.vga_bits.specs.Fault.{fault_name};
+ghost use Rattle.vga_bits.specs.Fault.{fault_text};
 ghost use Rattle.vga.specs.Lines.{line_of};
 
 use arrayvec::ArrayString;
@@ -26,7 +26,7 @@ fn line(text: &str) -> Line
 
 /// The line of a fault, as `vga: F1 FontSize`.
 pub fn fault_line(fault: &Fault) -> Line
-    ensures { result.bytes ≡ line_of (fault_name fault.now) }
+    ensures { result.bytes ≡ line_of (fault_text fault.now) }
 {
     line(fault.name().as_str())
 }

@@ -18,7 +18,7 @@ use vga_script::{Script, assemble, decode, encode, print, read_script};
 ///
 /// `ReadFault` if the reader fails, `TooLong` and `BadLine` as for `assemble`, and `OutOfMemory`.
 #[tactic(auto, using(crate::proofs::ScriptsLemmas::unread_text, crate::proofs::ScriptsLemmas::bad_text, crate::proofs::ScriptsLemmas::good_text))]
-fn script_of_text<R: Read>(alloc: Global, text: &mut Tracked<R>) -> Result<Script, Fault>
+fn read_and_assemble<R: Read>(alloc: Global, text: &mut Tracked<R>) -> Result<Script, Fault>
     requires { has_failed text.old ≡ false }
     ensures answer { FindsScript (R.remaining (inner_of text.old)) result }
     ensures reading { ReadsScript R.remaining text.old text.new result }
@@ -38,7 +38,7 @@ pub fn assembled<R: Read>(alloc: Global, text: &mut Tracked<R>) -> Result<Vec<u8
     ensures answer { Assembles (R.remaining (inner_of text.old)) result }
     ensures reading { ReadsScript R.remaining text.old text.new result }
 {
-    let script = script_of_text(alloc, text)?;
+    let script = read_and_assemble(alloc, text)?;
     encode(alloc, &script)
 }
 
@@ -95,6 +95,6 @@ pub fn run_text<R: Read, W: Write>(
         ⊎ StopsText until (fonts_of fonts.now) (R.remaining (inner_of text.old))
         (W.contents (inner_of out.old)) (W.contents (inner_of out.new)) }
 {
-    let script = script_of_text(alloc, text)?;
+    let script = read_and_assemble(alloc, text)?;
     vga_run::run_script(alloc, &script, fonts, out, until)
 }

@@ -7,6 +7,7 @@ use Rattle.std.specs.Prelude.{◌∷◌, length, replicate, slice_index, slice_s
 use Rattle.vga_bits.specs.Bits.{is_set, field}
 use Rattle.vga_bits.specs.RegFile.{AreKept}
 
+-- what each register holds, the index, and whether the next write is data
 pub record AttrState : Type 0 where
   pub registers : List ℕ
   pub index : ℕ
@@ -24,14 +25,14 @@ attr_masks =
     ∷ 0x3F ∷ 0x3F
     ∷ 0xEF ∷ 0xFF ∷ 0x3F ∷ 0x0F ∷ 0x0F ∷ []
 
--- what the registers hold, whatever was written: 21 of them with the bits that each keeps, six in
--- the palette's
+-- what holds whatever was written: there are 21 registers, each holds only bits that it keeps, and
+-- a palette register keeps six
 pub record IsAttr (a : AttrState) : Type 0 where
   pub size : length a.registers ≡ 21
   pub kept : AreKept attr_masks a.registers
   pub palette : (i : ℕ) → i < 16 → slice_index a.registers i < 64
 
--- the register that the index names
+-- the number of the register that the index selects
 abbrev pub register_of : AttrState → ℕ
 register_of a = field a.index 4 0
 
@@ -40,7 +41,7 @@ register_of a = field a.index 4 0
 abbrev pub is_locked : AttrState → ℕ → Bool
 is_locked a i = nat_lt i 16 && is_set a.index 5
 
--- whether a write is refused: it is data, and the index names no register
+-- whether a write is refused: it is data, and the index selects no register
 abbrev pub is_refused_write : AttrState → Bool
 is_refused_write a = a.is_data && nat_lt 20 (register_of a)
 
@@ -50,21 +51,21 @@ registers_after a v =
     if is_locked a (register_of a) then a.registers
     else slice_set a.registers (register_of a) (bit_and v (slice_index attr_masks (register_of a)))
 
--- the attribute controller after a write: data for the register of the index, or a new index; the
--- next write is the other
+-- the attribute controller after a write: data for the register that the index selects, or a new
+-- index. After an index, the next write is data; after data, it is an index.
 abbrev pub after_write : AttrState → ℕ → AttrState
 after_write a v =
     if a.is_data then record a { registers = registers_after a v; is_data = false }
     else record a { index = bit_and v 0x3F; is_data = true }
 
--- whether a read of the register of the index is refused: there is none
+-- whether a read of the register that the index selects is refused: there is no such register
 abbrev pub is_refused_read : AttrState → Bool
 is_refused_read a = nat_lt 20 (register_of a)
 
--- the register of the index
+-- what the register that the index selects holds
 abbrev pub register_value : AttrState → ℕ
 register_value a = slice_index a.registers (register_of a)
 
--- input status 1 is read: the next write is an index
+-- the attribute controller after a read of input status 1: the next write is an index
 abbrev pub after_reset : AttrState → AttrState
 after_reset a = record a { is_data = false }

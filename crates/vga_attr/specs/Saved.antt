@@ -1,5 +1,5 @@
 -- The attribute controller as bytes: the registers in their order, the index with the palette
--- address source, and 1 where the next write is data.
+-- address source, and 1 if the next write is data, else 0.
 use Rattle.std.specs.Prelude.{ℕ, ◌≡◌, ◌<◌, List, [], ◌∷◌, ◌++◌, length, take, drop, slice_index}
 use Rattle.vga_bits.specs.RegFile.{AreKept}
 use Rattle.vga_bits.specs.Saved.{flag_byte, flag_at}

@@ -17,9 +17,10 @@ const MASKS: [u8; 21] = [
 /// The bits that the index keeps: the register's number, and the palette address source.
 const INDEX_MASK: u8 = 0x3F;
 
-/// How many registers there are, and how many of them are the palette's.
+/// How many registers there are.
 const REGISTERS: u8 = 21;
 
+/// How many of the registers are the palette's, from register 0.
 const PALETTE_REGISTERS: u8 = 16;
 
 /// The attribute controller.
@@ -29,7 +30,7 @@ const PALETTE_REGISTERS: u8 = 16;
 #[derive(Drop)]
 pub struct Attr {
     registers: RegFile<21>,
-    /// The numbers that the 16 values of a dot's four bits give, kept for speed alone.
+    /// The colour number of each of the 16 values of a dot's four bits, kept for speed alone.
     numbers: [u8; 16],
     index: u8,
     is_data: bool,
@@ -73,8 +74,8 @@ impl Attr {
         }
     }
 
-    /// Each register holds the bits that it keeps alone, whatever was written: a palette register
-    /// six. The clause is for proofs: nothing runs.
+    /// Each register holds only the bits that it keeps, whatever was written: a palette register
+    /// keeps six. The clause is for proofs: nothing runs.
     #[tactic(auto, using(crate::proofs::PaletteLemmas::palette_small))]
     pub fn bounds(&self)
         ensures { IsAttr self.now }
@@ -82,14 +83,14 @@ impl Attr {
         self.registers.bounds();
     }
 
-    /// The register that the index names, 0 to 31.
+    /// The number of the register that the index selects, 0 to 31.
     fn register(&self) -> u8
         ensures { result ≡ register_of self.now }
     {
         self.index & 0x1F
     }
 
-    /// Writes data for the register of the index, where there is one and it is not locked.
+    /// Writes data to the register that the index selects, if it exists and is not locked.
     fn write_data(&mut self, v: u8) -> Result<(), Refusal>
         ensures refused { IsErr result ↔ IsTrue (is_refused_read self.old) }
         ensures ok { OnOk result (self.new ≡ record self.old {
@@ -109,10 +110,9 @@ impl Attr {
         Ok(())
     }
 
-    /// Writes a byte to the port: an index and data in turn. Data for a palette register changes
-    /// nothing while the palette address source is 1. Data for a register that does not exist is
-    /// refused with
-    /// `NotInProfile`, and then changes nothing: the next write is data still.
+    /// Writes a byte to the port: an index and data in turn. Data for a palette register changes no
+    /// register while the palette address source is 1. Data for a register that does not exist is
+    /// refused with `NotInProfile` and changes nothing: the next write is still data.
     pub fn write(&mut self, v: u8) -> Result<(), Refusal>
         ensures refused { IsErr result ↔ IsTrue (is_refused_write self.old) }
         ensures ok { OnOk result (self.new ≡ after_write self.old v) }
@@ -127,7 +127,8 @@ impl Attr {
         Ok(())
     }
 
-    /// The register of the index. It is refused with `NotInProfile` where there is none.
+    /// Reads the register that the index selects. If there is none, the read is refused with
+    /// `NotInProfile`.
     pub fn read_register(&self) -> Result<u8, Refusal>
         ensures refused { IsErr result ↔ IsTrue (is_refused_read self.now) }
         ensures ok { IfOk result (λ v. v ≡ register_value self.now) }

@@ -13,7 +13,7 @@ unfolding hex
 hex_more zero n some = absurd (omega arith)
 hex_more (suc k) n some = let e : suc k - 1 ≡ k = omega arith in rw e refl
 
--- the last digit behind the others
+-- the last digit after the others
 pub hex_pushed : (k n : ℕ) (old mid new : List ℕ) (d : ℕ) → 0 < k → mid ≡ old ++ hex (k - 1) (n / 16) → d ≡ hex_digit (n % 16) → new ≡ mid ++ d ∷ [] → new ≡ old
     ++ hex k n
 hex_pushed k n old mid new d some e f g = g ∙ rw (e, f, hex_more k n some) (append_assoc old (hex (k - 1) (n / 16)) (hex_digit (n % 16) ∷ []))

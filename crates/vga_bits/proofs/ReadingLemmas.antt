@@ -8,7 +8,7 @@ use Rattle.vga_bits.specs.declared.fault.Fault.{Fault}
 use Rattle.vga_bits.specs.declared.fault.Fault.TheVariants.{ReadFault, OutOfMemory}
 use Rattle.vga_bits.specs.LimitedReading.{IsPrefix, ReadsPrefix, TakesAtMost, is_read_fault}
 
--- the bytes so far, of which there are so many, are a prefix of what the reader had
+-- the `count` bytes read until now are a prefix of what the reader had
 pub record Taken (old new : Option (List ℕ)) (failed : Bool) (before after : ℕ) (bytes : List ℕ) (count most : ℕ) : Type 0 where
   pub consumed : Consumes old new bytes
   pub counted : count ≡ length bytes

@@ -66,7 +66,7 @@ prefix_is_nothing old new all a = ([], all, refl, a)
 pub prefix_of_more : (old new : Option (List ℕ)) (first second : List ℕ) → AppendsPrefix old new first → AppendsPrefix old new (first ++ second)
 prefix_of_more old new first second (prefix, back, parts, a) = (prefix, back ++ second, ap (λ (l : List ℕ). l ++ second) parts ∙ append_assoc prefix back second, a)
 
--- behind the first text a call writes the second
+-- after the first text, a call writes the second
 pub writes_after : {U : Type 0} (old mid new : Option (List ℕ)) (failed : Bool) (result : Result U Fault) (first second : List ℕ)
     → Appends old mid first → Writes mid new failed result second → Writes old new failed result (first ++ second)
 writes_after old mid new failed (Ok u) first second a w = (Appends-trans old mid new first second a w.0, w.1)
@@ -76,13 +76,13 @@ writes_after old mid new failed (Err e) first second a (is, bad, (prefix, back, 
   (first ++ prefix, back, ap (λ (l : List ℕ). first ++ l) parts ∙ simp append_assoc, Appends-trans old mid new first prefix a more),
 )
 
--- a first call takes so many of the bytes, and others write the rest
+-- a first call writes n of the bytes, and later calls write the rest
 pub writes_rest : {U : Type 0} (old mid new : Option (List ℕ)) (failed : Bool) (result : Result U Fault) (all rest : List ℕ) (n : ℕ)
     → Appends old mid (take n all) → rest ≡ drop n all → Writes mid new failed result rest → Writes old new failed result all
 writes_rest old mid new failed result all rest n a e w = subst (Writes old new failed result) (take-append-drop n all)
     (writes_after old mid new failed result (take n all) (drop n all) a (subst (Writes mid new failed result) e w))
 
--- behind some bytes a call writes nothing more
+-- after some bytes, a call writes nothing more
 pub writes_more : {U : Type 0} (old mid new : Option (List ℕ)) (failed : Bool) (result : Result U Fault) (bytes : List ℕ) → Appends old mid bytes →
     Writes mid new failed result [] → Writes old new failed result bytes
 writes_more old mid new failed (Ok u) bytes a w = (subst (Appends old new) (append-nil bytes) (Appends-trans old mid new bytes [] a w.0), w.1)

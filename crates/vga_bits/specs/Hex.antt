@@ -6,7 +6,7 @@ use Rattle.std.specs.Prelude.{◌++◌}
 abbrev pub hex_digit : ℕ → ℕ
 hex_digit n = if nat_lt n 10 then 48 + n else 55 + n
 
--- the last so many digits of a number
+-- the lowest hexadecimal digits of a number, as many as the first argument says
 unfoldable pub hex : ℕ → ℕ → List ℕ
 hex zero n = []
 hex (suc digits) n = hex digits (n / 16) ++ hex_digit (n % 16) ∷ []

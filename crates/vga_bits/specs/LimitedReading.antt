@@ -6,17 +6,17 @@ use Rattle.std.specs.Io.KnownBytes.{Consumes}
 use Rattle.vga_bits.specs.declared.fault.Fault.{Fault}
 use Rattle.vga_bits.specs.declared.fault.Fault.TheVariants.{ReadFault, OutOfMemory}
 
--- what was taken of a reader is a prefix of what it had, of at most n bytes
+-- what was read is a prefix of what the reader had, at most n bytes
 abbrev pub TakesAtMost : ℕ → Option (List ℕ) → Option (List ℕ) → Type 0
 TakesAtMost n old new = (bytes : List ℕ) × Consumes old new bytes × (length bytes ≤ n)
 
--- the bytes are the first `most` of a reader's, where it tells them
+-- the bytes are the first `most` bytes of the reader, if it tells its bytes
 abbrev pub IsPrefix : ℕ → Option (List ℕ) → List ℕ → Type 0
 IsPrefix most input bytes = IfSome input (λ all. bytes ≡ take most all)
 
--- What reading the first `most` bytes answers, over a reader that has these bytes before and after:
--- those bytes, which alone were taken; a fault, where the reader has failed; or that memory ran
--- out, where it has not.
+-- What reading the first `most` bytes returns, for a reader that has these bytes before and after.
+-- It returns those bytes, and no others were read. Or it returns `ReadFault`, and the reader has
+-- failed. Or it returns `OutOfMemory`, and the reader has not failed.
 abbrev pub ReadsPrefix : ℕ → Option (List ℕ) → Option (List ℕ) → Bool →
     Result (Vec ℕ Global) Fault →
     Type 0

@@ -5,8 +5,8 @@ use Rattle.std.specs.Io.KnownBytes.{Appends}
 use Rattle.vga_bits.specs.declared.fault.Fault.{Fault}
 use Rattle.vga_bits.specs.declared.fault.Fault.TheVariants.{WriteFault}
 
--- a reader or writer, whether a call of it has failed, and how many bytes its reads have given, up
--- to the largest number of 64 bits
+-- a reader or writer, whether a call of it has failed, and how many bytes its reads have returned,
+-- up to the largest number of 64 bits
 pub record TrackedState (T : Type 0) : Type 0 where
   pub inner : T
   pub failed : Bool
@@ -20,28 +20,28 @@ inner_of t = t.inner
 abbrev pub has_failed : {T : Type 0} → TrackedState T → Bool
 has_failed t = t.failed
 
--- how many bytes its reads have given
+-- how many bytes its reads have returned
 abbrev pub read_count_of : {T : Type 0} → TrackedState T → ℕ
 read_count_of t = t.read_count
 
--- how many bytes are counted after a read with this answer, if so many were before
+-- the count of bytes read after a read with this answer, from the count before it
 abbrev pub read_count_after : {E : Type 0} → ℕ → Result ℕ E → ℕ
 read_count_after read_count (Ok n) = min (read_count + n) (2 ^ 64 - 1)
 read_count_after read_count (Err e) = read_count
 
--- whether a write of some bytes with this answer failed: by an error, or by taking none of some
--- bytes
+-- whether a write of these bytes with this answer failed: it returned an error, or took none of at
+-- least one byte
 abbrev pub write_fails : {E : Type 0} → Result ℕ E → List ℕ → Bool
 write_fails (Ok n) bytes = (n == 0) && nat_lt 0 (length bytes)
 write_fails (Err e) bytes = true
 
--- the bytes of a writer, where it tells them, have grown by a prefix of these
+-- a prefix of these bytes was appended to those of a writer, if it tells its bytes
 abbrev pub AppendsPrefix : Option (List ℕ) → Option (List ℕ) → List ℕ → Type 0
 AppendsPrefix old new bytes = (prefix : List ℕ) × (back : List ℕ) × (bytes ≡ prefix ++ back)
     × Appends old new prefix
 
--- what a call that writes bytes answers: it has written them all, or the writer has failed and has
--- a prefix of them
+-- What a call that writes bytes returns: it has written all of them, or the writer has failed and
+-- has a prefix of them.
 abbrev pub Writes : {U : Type 0} → Option (List ℕ) → Option (List ℕ) → Bool → Result U Fault →
     List ℕ → Type 0
 Writes old new failed (Ok u) bytes = Appends old new bytes × (failed ≡ false)

@@ -17,7 +17,7 @@ bytes_of word = four (λ p. byte_in p word)
 abbrev pub word_of : Four ℕ → ℕ
 word_of bytes = bytes.plane0 + 256 * bytes.plane1 + 65536 * bytes.plane2 + 16777216 * bytes.plane3
 
--- a word is known by its bytes
+-- the bytes of a word determine the word
 pub word_back : (w : ℕ) → w < 4294967296 → word_of (bytes_of w) ≡ w
 word_back w fits = omega arith
 

@@ -6,8 +6,8 @@ use super::fault::Fault;
 use std::alloc::Global;
 use std::marker::Model;
 
-/// Some bytes, which contracts see as their list. No bytes take no memory, and the others stand
-/// apart, so that a list of steps, of which few have a block, is short.
+/// Some bytes, which contracts see as their list. An empty list allocates nothing, and other bytes
+/// are boxed. So a list of steps stays small, since few steps have a block.
 #[derive(Drop)]
 pub struct Bytes {
     items: Option<Box<Vec<u8>>>,
@@ -23,7 +23,7 @@ impl Model for Bytes {
 }
 
 impl Bytes {
-    /// The bytes of a vector, with no copy. It fails with `OutOfMemory` alone.
+    /// The bytes of a vector, without a copy. It fails only with `OutOfMemory`.
     pub fn from_vec(alloc: Global, items: Vec<u8>) -> Result<Bytes, Fault>
         ensures kept { IfOk result (λ bytes. bytes ≡ items.items) }
         ensures err { IsOkUnless result Fault.OutOfMemory }
@@ -37,7 +37,7 @@ impl Bytes {
         }
     }
 
-    /// A copy of the bytes of a slice. It fails with `OutOfMemory` alone.
+    /// A copy of the bytes of a slice. It fails only with `OutOfMemory`.
     pub fn copy(alloc: Global, bytes: &[u8]) -> Result<Bytes, Fault>
         ensures copied { IfOk result (λ copy. copy ≡ bytes.now) }
         ensures err { IsOkUnless result Fault.OutOfMemory }
@@ -48,7 +48,7 @@ impl Bytes {
         }
     }
 
-    /// So many bytes, each 0. It fails with `OutOfMemory` alone, and never for no bytes.
+    /// `len` bytes, each 0. It fails only with `OutOfMemory`, and never where `len` is 0.
     #[tactic(auto, unfolding(crate::specs::Bytes::zeros))]
     pub fn zeros(alloc: Global, len: usize) -> Result<Bytes, Fault>
         ensures zeros { IfOk result (λ bytes. bytes ≡ zeros_of len) }
@@ -64,7 +64,7 @@ impl Bytes {
         }
     }
 
-    /// Puts the byte `value` at place `i`, below the length. The others stay.
+    /// Sets the byte at index `i`, below the length, to `value`. The others stay the same.
     pub fn set(&mut self, i: usize, value: u8)
         requires { i < length self.old }
         ensures { self.new ≡ slice_set self.old i value }

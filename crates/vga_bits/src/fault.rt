@@ -6,20 +6,20 @@ use arrayvec::ArrayString;
 use itoa::Buffer;
 use thiserror::Error;
 
-/// Why a run ends before its script does. Those that stand before `WriteFault`, and `TooMany`, come
-/// before the first byte of a report.
+/// Why a run ends before its script does. The faults listed before `WriteFault`, and `TooMany`,
+/// occur before the first byte of a report is written.
 #[derive(Clone, Copy, PartialEq, Eq, Debug, Error)]
 #[error("{}", self.name())]
 pub enum Fault {
-    /// The font file has not 9,728 bytes.
+    /// The font file does not have 9,728 bytes.
     FontSize,
     /// The script does not begin with `VGAS`.
     BadMagic,
     /// The script has another version.
     BadVersion,
-    /// No step, or one out of range, stands at this offset of the script, in bytes.
+    /// The bytes at this offset of the script are no step, or a step out of range.
     BadStep(usize),
-    /// The step at this offset of the script, in bytes, is cut off.
+    /// The step at this offset of the script is cut off. The offset counts bytes.
     Truncated(usize),
     /// The script has more than 16,777,216 bytes.
     TooLong,
@@ -31,8 +31,8 @@ pub enum Fault {
     WriteFault,
     /// A request for memory was refused.
     OutOfMemory,
-    /// With the step or the block at this offset of the script, in bytes, it means more than
-    /// 16,777,216 steps.
+    /// The script means more than 16,777,216 steps. The step or block at this offset, in bytes,
+    /// exceeds the limit.
     TooMany(usize),
 }
 
@@ -42,7 +42,7 @@ const NAME_LEN: usize = 34;
 /// The name of a fault.
 pub type FaultName = ArrayString<NAME_LEN>;
 
-/// A name that ends with a number in parentheses, which is to be put at its end.
+/// A name that ends with a number in parentheses. `prefix` contains everything before the number.
 fn with_number(prefix: &str, number: usize) -> FaultName
     requires { length prefix.now ≤ 13 }
     ensures { result.bytes ≡ prefix.now ++ (decimal number ++ codes ")") }
@@ -66,11 +66,12 @@ fn plain(text: &str) -> FaultName
 }
 
 impl Fault {
-    ghost use Rattle.vga_bits.specs.Fault.{fault_name};
+    ghost use Rattle.vga_bits.specs.Fault.{fault_text};
 
-    /// The number and the name, with its place in decimal: `F1 FontSize`, `F4 BadStep(9)`.
+    /// The fault's number and name, and its offset or line in decimal if it has one: `F1 FontSize`,
+    /// `F4 BadStep(9)`.
     pub fn name(&self) -> FaultName
-        ensures { result.bytes ≡ fault_name self.now }
+        ensures { result.bytes ≡ fault_text self.now }
     {
         match self {
             Fault::FontSize => plain("F1 FontSize"),

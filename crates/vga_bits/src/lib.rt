@@ -1,6 +1,6 @@
-//! What every part of the adapter shares: bits and registers under write masks, bytes that
-//! are seen as a list, text and its digits, the names of refusals and faults, readers and writers
-//! that remember a failure, the bytes of saved states, and how many comparisons passed and failed.
+//! What the parts of the adapter share: bits and registers under write masks, bytes that contracts
+//! see as a list, text and its digits, the names of refusals and faults, readers and writers that
+//! remember a failure, the bytes of saved states, and counts of comparisons that passed or failed.
 #![tactic(auto)]
 
 pub mod bits;

@@ -8,14 +8,15 @@ use super::tracked::Tracked;
 use std::alloc::Global;
 use std::io::Read;
 
-/// How many bytes one call of the reader is asked for, at most.
+/// The most bytes that one call asks the reader for.
 const PIECE_LEN: usize = 65_536;
 
-/// The first `most` bytes of a reader, or all where it has fewer. No further byte is taken from it.
+/// The first `most` bytes of a reader, or all if it has fewer. It reads no more bytes than these.
 ///
 /// # Errors
 ///
-/// `ReadFault` where the reader fails in this call, and `OutOfMemory`.
+/// `ReadFault` if the reader fails in this call, and `OutOfMemory` if memory for the bytes is
+/// refused.
 pub fn read_prefix<R: Read>(
     alloc: Global,
     reader: &mut Tracked<R>,

@@ -1,16 +1,16 @@
-//! What a step is answered in place of a value.
+//! What a refused step returns instead of a value.
 ghost use Rattle.std.specs.Prelude.{◌≡◌};
 
 use thiserror::Error;
 
-/// Why a step is refused. A refused step is answered by name, changes nothing, and the script goes
-/// on. Where several apply, the one that stands first here is answered.
+/// Why a step is refused. A refused step is reported by name and changes nothing, and the script
+/// goes on. If several refusals apply, the first one listed here is returned.
 #[derive(Clone, Copy, PartialEq, Eq, Debug, Error)]
 #[error("{}", self.name())]
 pub enum Refusal {
-    /// No part of the adapter decodes the port or the address.
+    /// No part of the adapter decodes this port or address.
     NotDecoded,
-    /// A register, a value or a port that the adapter has and this profile leaves out.
+    /// A register, a value or a port that the adapter has, but this profile leaves out.
     NotInProfile,
     /// A video service before the first mode set.
     NoMode,
@@ -28,18 +28,18 @@ pub enum Refusal {
     CountPast,
     /// A palette or DAC register that is not there.
     BadRegister,
-    /// A table of another length than the service takes.
+    /// A table whose length is not the one that the service takes.
     BadBlock,
     /// More dots than one step may advance.
     TooFar,
-    /// A height of characters that there is no font of.
+    /// A character height for which there is no font.
     BadHeight,
 }
 
 impl Refusal {
     ghost use Rattle.vga_bits.specs.Refusal.{refusal_name};
 
-    /// The number and the name, as a report has them: `E1 NotDecoded`.
+    /// The number and the name, as a report shows them: `E1 NotDecoded`.
     pub fn name(&self) -> &'static str
         ensures { result.now ≡ refusal_name self.now }
     {

@@ -6,7 +6,7 @@ ghost use Rattle.vga_bits.specs.Bits.{is_set as is_set_of, field as field_of};
 use super::bits::is_set;
 use std::marker::Model;
 
-/// N registers of a byte each. A register keeps the bits of its mask and reads the others as 0.
+/// N registers of one byte each. A register keeps the bits of its mask; the others read as 0.
 ///
 /// Contracts see a record of two lists: `masks`, and `values`, what each register holds.
 #[derive(Drop)]
@@ -55,7 +55,8 @@ impl<const N: usize> RegFile<N> {
         &self.values
     }
 
-    /// Register `i`, below N, keeps the bits of `v` under its mask. The others stay.
+    /// Writes `v` to register `i`, below N. The register keeps the bits of its mask. The other
+    /// registers stay the same.
     #[tactic(auto, using(crate::proofs::RegisterLemmas::kept_set))]
     pub fn write(&mut self, i: usize, v: u8)
         requires { i < N }
@@ -67,7 +68,7 @@ impl<const N: usize> RegFile<N> {
         *register = v & self.masks[i];
     }
 
-    /// Each register gets its byte of those of the list, which hold bits of the masks alone.
+    /// Sets each register to its byte of the list. The bytes have no bits outside the masks.
     pub fn restore(&mut self, values: &[u8])
         requires count { length values.now ≡ N }
         requires kept { AreKept self.old.masks values.now }
@@ -77,8 +78,8 @@ impl<const N: usize> RegFile<N> {
         self.values.copy_from_slice(values);
     }
 
-    /// There are N registers, and each holds bits of its mask alone, whatever was written. The
-    /// clause is for proofs: nothing runs.
+    /// There are N registers, and each holds only bits of its mask, whatever was written. The
+    /// clauses are for proofs: nothing runs.
     pub fn bounds(&self)
         ensures count { length self.now.values ≡ N }
         ensures kept { AreKept self.now.masks self.now.values }

@@ -1,11 +1,11 @@
-//! The bytes of saved states: written into a slice one after the other, and read by their places.
+//! The bytes of saved states: written into a slice one after another, and read by index.
 ghost use Rattle.std.specs.Prelude.{◌≡◌, ◌+◌, ◌/◌, ◌%◌, ◌≤◌, ◌↔◌, [], ◌∷◌, length, IsTrue};
 ghost use Rattle.vga_bits.specs.RegFile.{AreKept};
 ghost use Rattle.vga_bits.specs.Saved.{word_bytes, word_at as word_of, IsPut};
 ghost use Rattle.vga_bits.specs.Saved.{flag_byte as flag_byte_of};
 
-/// Copies some bytes into a slice from place `at` on, where there is room for them, and gives the
-/// place behind them.
+/// Copies some bytes into a slice from index `at` on, where there is room for them. It returns the
+/// index after them.
 pub fn put_bytes(out: &mut [u8], at: usize, bytes: &[u8]) -> usize
     requires { at + length bytes.now ≤ length out.old }
     ensures put { IsPut out.old out.new at result bytes.now }
@@ -16,7 +16,7 @@ pub fn put_bytes(out: &mut [u8], at: usize, bytes: &[u8]) -> usize
     end
 }
 
-/// Puts a byte at place `at`, and gives the place behind it.
+/// Puts a byte at index `at`, and returns the index after it.
 pub fn put_byte(out: &mut [u8], at: usize, value: u8) -> usize
     requires { at + 1 ≤ length out.old }
     ensures put { IsPut out.old out.new at result (value ∷ []) }
@@ -39,14 +39,14 @@ pub fn high_byte(word: u16) -> u8
     (word / 256) as u8
 }
 
-/// A flag as a byte: 1 where it is set, and else 0.
+/// A flag as a byte: 1 if it is set, else 0.
 pub fn flag_byte(flag: bool) -> u8
     ensures { result ≡ flag_byte_of flag }
 {
     if flag { 1 } else { 0 }
 }
 
-/// Puts a word at place `at`, low byte first, and gives the place behind it.
+/// Puts a word at index `at`, low byte first, and returns the index after it.
 pub fn put_word(out: &mut [u8], at: usize, word: u16) -> usize
     requires { at + 2 ≤ length out.old }
     ensures put { IsPut out.old out.new at result (word_bytes word) }
@@ -55,7 +55,7 @@ pub fn put_word(out: &mut [u8], at: usize, word: u16) -> usize
     put_bytes(out, at, &[low_byte(word), high_byte(word)])
 }
 
-/// The word at place `at`, of which the low byte stands first.
+/// The word at index `at`, low byte first.
 pub fn word_at(bytes: &[u8], at: usize) -> u16
     requires { at + 2 ≤ length bytes.now }
     ensures { result ≡ word_of bytes.now at }
@@ -63,7 +63,7 @@ pub fn word_at(bytes: &[u8], at: usize) -> u16
     bytes[at] as u16 + 256 * bytes[at + 1] as u16
 }
 
-/// Whether each of some registers holds bits of its mask alone; there is a mask for each.
+/// Whether each register value has only bits of its own mask. There is one mask for each value.
 #[tactic(auto, using(crate::proofs::RegisterLemmas::kept_within))]
 pub fn are_kept(masks: &[u8], values: &[u8]) -> bool
     requires { length masks.now ≡ length values.now }

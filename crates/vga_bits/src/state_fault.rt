@@ -1,20 +1,20 @@
-//! Why bytes are no saved state.
+//! Why some bytes are not a saved state.
 ghost use Rattle.std.specs.Prelude.{◌≡◌};
 
 use thiserror::Error;
 
-/// Why some bytes are not a state that was saved. Where several apply, the one that stands first
-/// here is answered.
+/// Why some bytes are not a saved state. If several faults apply, the first one listed here is
+/// returned.
 #[derive(Clone, Copy, PartialEq, Eq, Debug, Error)]
 #[error("{}", self.name())]
 pub enum StateFault {
-    /// They do not begin with the mark of saved states.
+    /// The bytes do not begin with the mark of saved states.
     BadMagic,
-    /// They are of another version of the format.
+    /// The bytes have another version of the format.
     BadVersion,
-    /// They are not as many as they say, or fewer than any state has.
+    /// The number of bytes is not the one that they state, or is smaller than any state's.
     BadLength,
-    /// Some part of them is none that a part of the adapter could have.
+    /// Some part of the bytes is no state that its part of the adapter could have.
     BadPart,
 }
 

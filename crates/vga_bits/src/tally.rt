@@ -23,7 +23,7 @@ impl Tally {
         }
     }
 
-    /// Counts a comparison.
+    /// Counts one comparison. Each count stops at the largest number of 64 bits.
     pub fn count(&mut self, has_passed: bool)
         ensures passed { self.new.passed ≡ (if has_passed then one_more self.old.passed
             else self.old.passed) }
@@ -37,7 +37,7 @@ impl Tally {
         }
     }
 
-    /// The exit status of a program that compares: 1 where any comparison failed.
+    /// The exit status of a program that compares: 1 if any comparison failed, else 0.
     pub fn status(&self) -> u8
         ensures { result ≡ (if self.now.failed == 0 then 0 else 1) }
     {

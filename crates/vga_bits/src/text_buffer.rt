@@ -1,4 +1,4 @@
-//! Text that is made piece by piece, with no memory taken.
+//! Text that is made piece by piece, without allocating memory.
 ghost use Rattle.std.specs.Prelude.{◌≡◌, ◌+◌, ◌<◌, ◌≤◌, ◌++◌, [], length, take, slice_set, decimal};
 ghost use Rattle.vga_bits.specs.Hex.{hex, hex_digit as hex_digit_of, hex_byte, hex_word};
 
@@ -6,7 +6,7 @@ use arrayvec::ArrayVec;
 use itoa::Buffer;
 use std::marker::Model;
 
-/// A digit below 16, in upper case.
+/// The hexadecimal digit of a number below 16, in upper case.
 pub fn hex_digit(n: u8) -> u8
     requires { n < 16 }
     ensures { result ≡ hex_digit_of n }
@@ -47,7 +47,7 @@ impl<const ROOM: usize> TextBuffer<ROOM> {
         self.as_slice().len()
     }
 
-    /// Puts some bytes at the end, which has room for them.
+    /// Appends some bytes. There is room for them.
     pub fn push(&mut self, text: &[u8])
         requires { length self.old + length text.now ≤ ROOM }
         ensures items { self.new ≡ self.old ++ text.now }
@@ -56,7 +56,7 @@ impl<const ROOM: usize> TextBuffer<ROOM> {
         let _ = self.bytes.try_extend_from_slice(text);
     }
 
-    /// Keeps the first `len` bytes alone.
+    /// Keeps only the first `len` bytes.
     pub fn truncate(&mut self, len: usize)
         requires { len ≤ length self.old }
         ensures items { self.new ≡ take len self.old }
@@ -65,7 +65,7 @@ impl<const ROOM: usize> TextBuffer<ROOM> {
         self.bytes.truncate(len);
     }
 
-    /// Puts the byte `value` at place `i`, below the length. The others stay.
+    /// Sets the byte at index `i`, below the length, to `value`. The others stay the same.
     pub fn set(&mut self, i: usize, value: u8)
         requires { i < length self.old }
         ensures items { self.new ≡ slice_set self.old i value }
@@ -74,8 +74,8 @@ impl<const ROOM: usize> TextBuffer<ROOM> {
         self.bytes.as_mut_slice()[i] = value;
     }
 
-    /// Keeps the first `at` bytes, and puts some bytes in the place of the others, for which there
-    /// is room. As many as there were are written over.
+    /// Keeps the first `at` bytes and replaces the others by `text`. There is room for it. If
+    /// `text` is as long as the bytes that it replaces, it overwrites them in place.
     #[inline(always)]
     pub fn replace_end(&mut self, at: usize, text: &[u8])
         requires within { at ≤ length self.old }
@@ -91,7 +91,7 @@ impl<const ROOM: usize> TextBuffer<ROOM> {
         }
     }
 
-    /// Puts a number at the end, in decimal. There is room for ten digits.
+    /// Appends a number in decimal. There is room for ten digits.
     pub fn push_decimal(&mut self, n: u32)
         requires { length self.old + 10 ≤ ROOM }
         ensures items { self.new ≡ self.old ++ decimal n }
@@ -101,7 +101,7 @@ impl<const ROOM: usize> TextBuffer<ROOM> {
         self.push(digits.format(n).as_bytes());
     }
 
-    /// Puts a size at the end, in decimal. There is room for 20 digits.
+    /// Appends a size in decimal. There is room for 20 digits.
     pub fn push_decimal_size(&mut self, size: usize)
         requires { length self.old + 20 ≤ ROOM }
         ensures items { self.new ≡ self.old ++ decimal size }
@@ -111,7 +111,7 @@ impl<const ROOM: usize> TextBuffer<ROOM> {
         self.push(digits.format(size).as_bytes());
     }
 
-    /// Puts the last so many digits of a number at the end, in hexadecimal.
+    /// Appends the lowest `digits` hexadecimal digits of a number. There is room for them.
     #[tactic(auto, using(crate::proofs::HexLemmas::hex_none, crate::proofs::HexLemmas::hex_pushed))]
     pub fn push_hex(&mut self, n: u32, digits: usize)
         requires { length self.old + digits ≤ ROOM }
@@ -124,7 +124,7 @@ impl<const ROOM: usize> TextBuffer<ROOM> {
         }
     }
 
-    /// Puts the two digits of a byte at the end, in hexadecimal.
+    /// Appends the two hexadecimal digits of a byte. There is room for them.
     #[tactic(auto, using(crate::proofs::HexLemmas::hex_of_byte))]
     pub fn push_hex_byte(&mut self, v: u8)
         requires { length self.old + 2 ≤ ROOM }
@@ -134,7 +134,7 @@ impl<const ROOM: usize> TextBuffer<ROOM> {
         self.push(&[hex_digit(v / 16), hex_digit(v % 16)]);
     }
 
-    /// Puts the four digits of a word at the end, in hexadecimal.
+    /// Appends the four hexadecimal digits of a word. There is room for them.
     #[tactic(auto, using(crate::proofs::HexLemmas::hex_of_word))]
     pub fn push_hex_word(&mut self, v: u16)
         requires { length self.old + 4 ≤ ROOM }

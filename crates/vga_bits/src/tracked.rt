@@ -10,11 +10,11 @@ use std::io;
 use std::io::{Read, Write};
 use std::marker::Model;
 
-/// A reader or a writer that knows whether one of its calls has failed, and how many bytes were
-/// read of it.
+/// A reader or a writer that remembers whether one of its calls has failed, and how many bytes were
+/// read from it.
 ///
 /// Contracts see three things of it: the reader or writer itself, whether a call has failed, and
-/// how many bytes its reads have given.
+/// how many bytes its reads have returned.
 #[derive(Drop)]
 pub struct Tracked<T> {
     inner: T,
@@ -35,7 +35,7 @@ impl<T> Model for Tracked<T> {
 }
 
 impl<T> Tracked<T> {
-    /// A reader or writer of which no call has failed yet.
+    /// Tracks a reader or writer. No call of it has failed yet, and no bytes are counted.
     pub fn new(inner: T) -> Tracked<T>
         ensures inner { inner_of result ≡ inner }
         ensures failed { has_failed result ≡ false }
@@ -60,7 +60,7 @@ impl<T> Tracked<T> {
         inner
     }
 
-    /// Whether a call has answered an error or, for a write of some bytes, has taken none of them.
+    /// Whether a call has returned an error, or a write of at least one byte has taken none.
     pub fn failed(&self) -> bool
         ensures { result ≡ has_failed self.now }
     {
@@ -68,8 +68,7 @@ impl<T> Tracked<T> {
         *has_failed
     }
 
-    /// How many bytes its reads have given. More than 18,446,744,073,709,551,615 are counted as so
-    /// many.
+    /// How many bytes its reads have returned. The count stops at 18,446,744,073,709,551,615.
     pub fn read_count(&self) -> u64
         ensures { result ≡ read_count_of self.now }
     {
@@ -127,8 +126,8 @@ impl<T: Write> Write for Tracked<T> {
     }
 }
 
-/// Writes what a call has left of some bytes, by as many calls as the writer needs. It fails as
-/// `write_whole` does.
+/// Writes the bytes that a first call has left, by as many calls as the writer needs. It fails in
+/// the same cases as `write_whole`.
 #[tactic(auto, using(crate::proofs::WritingLemmas::written_none, crate::proofs::WritingLemmas::written_more, crate::proofs::WritingLemmas::written_all, crate::proofs::WritingLemmas::written_prefix, crate::proofs::WritingLemmas::written_prefix_nothing))]
 #[cold]
 #[inline(never)]
@@ -148,8 +147,8 @@ fn write_rest<W: Write>(out: &mut Tracked<W>, bytes: &[u8]) -> Result<(), Fault>
     Ok(())
 }
 
-/// Writes all the bytes, by as many calls as the writer needs. It fails, with `WriteFault`, only
-/// where the writer does, which then has a prefix of the bytes.
+/// Writes all the bytes, by as many calls as the writer needs. It fails with `WriteFault`, and only
+/// if the writer fails. The writer then has a prefix of the bytes.
 #[tactic(auto, using(crate::proofs::WritingLemmas::prefix_is_none, crate::proofs::WritingLemmas::prefix_is_nothing))]
 #[inline(always)]
 pub fn write_whole<W: Write>(out: &mut Tracked<W>, bytes: &[u8]) -> Result<(), Fault>
@@ -168,7 +167,7 @@ pub fn write_whole<W: Write>(out: &mut Tracked<W>, bytes: &[u8]) -> Result<(), F
     }
 }
 
-/// Flushes the writer. It fails, with `WriteFault`, only where the writer does.
+/// Flushes the writer. It fails with `WriteFault`, and only if the writer fails.
 #[tactic(auto, using(crate::proofs::WritingLemmas::kept_is_nothing))]
 pub fn flush<W: Write>(out: &mut Tracked<W>) -> Result<(), Fault>
     requires { has_failed out.old ≡ false }

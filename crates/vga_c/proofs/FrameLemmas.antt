@@ -6,7 +6,7 @@ use Rattle.vga_card.specs.declared.drawn.Drawn.TheVariants as drawn
 use Rattle.vga_card.specs.declared.shape.Shape.{Shape}
 use Rattle.vga_run.specs.Answer.{StepAnswer, Picture, of_drawn, of_frame, of_shape}
 use Rattle.vga_c.specs.declared.frames.Size.{Size}
-use Rattle.vga_c.specs.Frames.{HasBytes, HasWords}
+use Rattle.vga_c.specs.Frames.{HasDotBytes, HasDotWords}
 use Rattle.vga_c.specs.Forms.{HasForm}
 use Rattle.vga_c.specs.declared.forms.Form.{Form}
 use Rattle.vga_c.specs.declared.forms.WordPicture.{WordPicture}
@@ -19,14 +19,14 @@ of_dots P dots (drawn.Picture width height bytes) is told =
 of_dots P dots drawn.Ragged is told = subst (λ (x : Option Shape). P (of_shape x (bytes_of dots))) (sym is) told
 
 pub bytes_of_frame : (dots : List Dot) (lent : Drawn) (size_old size : Size) (old new : List ℕ) (status : ℕ) → IsPictureOf dots lent →
-    HasBytes (of_drawn lent) size_old size old new status → HasBytes (of_frame dots) size_old size old new status
+    HasDotBytes (of_drawn lent) size_old size old new status → HasDotBytes (of_frame dots) size_old size old new status
 bytes_of_frame dots lent size_old size old new status is told =
-    of_dots (λ (reply : StepAnswer). HasBytes reply size_old size old new status) dots lent is told
+    of_dots (λ (reply : StepAnswer). HasDotBytes reply size_old size old new status) dots lent is told
 
 pub words_of_frame : (dots : List Dot) (lent : Drawn) (pitch : ℕ) (size_old size : Size) (old new : List ℕ) (status : ℕ) → IsPictureOf dots lent →
-    HasWords (of_drawn lent) pitch size_old size old new status → HasWords (of_frame dots) pitch size_old size old new status
+    HasDotWords (of_drawn lent) pitch size_old size old new status → HasDotWords (of_frame dots) pitch size_old size old new status
 words_of_frame dots lent pitch size_old size old new status is told =
-    of_dots (λ (reply : StepAnswer). HasWords reply pitch size_old size old new status) dots lent is told
+    of_dots (λ (reply : StepAnswer). HasDotWords reply pitch size_old size old new status) dots lent is told
 
 pub form_of_frame : (dots : List Dot) (lent : Drawn) (form : Form) (pitch : ℕ) (told_old told : WordPicture) (old new : List ℕ) (status : ℕ) →
     IsPictureOf dots lent → HasForm form (of_drawn lent) pitch told_old told old new status →

@@ -8,6 +8,7 @@ use Rattle.vga_script.specs.declared.step.Step.TheVariants.{Frame}
 use Rattle.vga_run.specs.declared.machine.Machine.{Machine}
 use Rattle.vga_run.specs.Answer.{StepAnswer, Picture, Ragged}
 use Rattle.vga_run.specs.Step.{after_step, answer_to}
+use Rattle.vga_run.specs.Saved.{machine_with_fresh_canvas}
 use Rattle.vga_c.specs.declared.frames.Size.{Size}
 use Rattle.vga_c.specs.Handle.{HandleState, machine_of}
 use Rattle.vga_c.specs.Forms.{AreInRows, dot_word}
@@ -19,6 +20,12 @@ use Rattle.vga_c.specs.Status.{ragged}
 abbrev pub EndsFrame : HandleState → HandleState → Type 0
 EndsFrame old new = old.is_open ≡ true → Holds new (after_step (machine_of old) Frame)
 
+-- An open card comes to the end of the frame under way. It has lost the dots of that frame, which
+-- no step can see any more.
+abbrev pub SkipsFrame : HandleState → HandleState → ℕ → Type 0
+SkipsFrame old new status = old.is_open ≡ true →
+    Holds new (machine_with_fresh_canvas (after_step (machine_of old) Frame)) × (status ≡ 0)
+
 -- how large a picture is
 abbrev pub size_of : ℕ → ℕ → Size
 size_of width height = record { width = width; height = height }
@@ -27,35 +34,35 @@ size_of width height = record { width = width; height = height }
 
 -- The output has size and bytes of a picture, or only its size if there was no room. If rows differ
 -- in width, the status says so, and the output is unchanged.
-abbrev pub HasBytes : StepAnswer → Size → Size → List ℕ → List ℕ → ℕ → Type 0
-HasBytes (Picture width height bytes) size_old size old new status =
+abbrev pub HasDotBytes : StepAnswer → Size → Size → List ℕ → List ℕ → ℕ → Type 0
+HasDotBytes (Picture width height bytes) size_old size old new status =
     (size ≡ size_of width height) × ((new ≡ with_prefix bytes old)
     × (status ≡ room_status (length bytes) (length old)))
-HasBytes Ragged size_old size old new status =
+HasDotBytes Ragged size_old size old new status =
     (size ≡ size_old) × ((new ≡ old) × (status ≡ ragged))
-HasBytes reply size_old size old new status = ⊥
+HasDotBytes reply size_old size old new status = ⊥
 
 -- that holds for the frame of an open card
 abbrev pub DrawsBytes : HandleState → Size → Size → List ℕ → List ℕ → ℕ → Type 0
 DrawsBytes card size_old size old new status = card.is_open ≡ true →
-    HasBytes (answer_to (machine_of card) Frame) size_old size old new status
+    HasDotBytes (answer_to (machine_of card) Frame) size_old size old new status
 
 -- ---- a word a dot
 
 -- The output has size and words of a picture, or only its size if there was no room. If rows differ
 -- in width, the status says so, and the output is unchanged.
-abbrev pub HasWords : StepAnswer → ℕ → Size → Size → List ℕ → List ℕ → ℕ → Type 0
-HasWords (Picture width height bytes) pitch size_old size old new status =
+abbrev pub HasDotWords : StepAnswer → ℕ → Size → Size → List ℕ → List ℕ → ℕ → Type 0
+HasDotWords (Picture width height bytes) pitch size_old size old new status =
     (size ≡ size_of width height) × AreInRows width height pitch
     (λ x y. dot_word bytes (width * y + x)) old new status
-HasWords Ragged pitch size_old size old new status =
+HasDotWords Ragged pitch size_old size old new status =
     (size ≡ size_old) × ((new ≡ old) × (status ≡ ragged))
-HasWords reply pitch size_old size old new status = ⊥
+HasDotWords reply pitch size_old size old new status = ⊥
 
 -- that holds for the frame of an open card
 abbrev pub DrawsWords : HandleState → ℕ → Size → Size → List ℕ → List ℕ → ℕ → Type 0
 DrawsWords card pitch size_old size old new status = card.is_open ≡ true →
-    HasWords (answer_to (machine_of card) Frame) pitch size_old size old new status
+    HasDotWords (answer_to (machine_of card) Frame) pitch size_old size old new status
 
 -- ---- line by line
 
@@ -70,6 +77,6 @@ CountsLines card widths = card.is_open ≡ true →
 
 -- the output has the colours of the dots, and how many bytes they are; or there was no room for
 -- them
-abbrev pub CopiesDots : HandleState → List ℕ → List ℕ → ℕ → ℕ → Type 0
-CopiesDots card old new len status = card.is_open ≡ true →
+abbrev pub GivesDotBytes : HandleState → List ℕ → List ℕ → ℕ → ℕ → Type 0
+GivesDotBytes card old new len status = card.is_open ≡ true →
     IsCopied (bytes_of (frame_dots (machine_of card))) old new len status

@@ -1,6 +1,6 @@
 -- What opening and closing a card does.
 use Rattle.std.specs.Prelude.{◌≡◌, ◌≢◌, ◌⊎◌, ℕ, true, false, List, length}
-use Rattle.bios_modes.specs.Fonts.{file_len, fonts_of}
+use Rattle.bios_modes.specs.Fonts.{font_file_len, fonts_of}
 use Rattle.vga_run.specs.Machine.{power_on_machine}
 use Rattle.vga_c.specs.Handle.{HandleState}
 use Rattle.vga_c.specs.Cards.{Holds}
@@ -17,12 +17,12 @@ IsOpened file old new status = (Holds new (power_on_machine (fonts_of file)) × 
 
 -- a card that is not open is opened, if the font file has the right size
 abbrev pub Opens : List ℕ → HandleState → HandleState → ℕ → Type 0
-Opens file old new status = old.is_open ≡ false → length file ≡ file_len →
+Opens file old new status = old.is_open ≡ false → length file ≡ font_file_len →
     IsOpened file old new status
 
 -- otherwise it stays as it is
 abbrev pub RefusesFile : List ℕ → HandleState → HandleState → ℕ → Type 0
-RefusesFile file old new status = old.is_open ≡ false → length file ≢ file_len →
+RefusesFile file old new status = old.is_open ≡ false → length file ≢ font_file_len →
     IsLeft font_size old new status
 
 -- a card that is open stays as it is

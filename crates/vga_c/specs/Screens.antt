@@ -14,15 +14,15 @@ use Rattle.vga_c.specs.declared.screens.Place.{Place}
 use Rattle.vga_c.specs.State.{flag}
 use Rattle.vga_c.specs.Status.{bad_argument, no_screen, out_of_memory}
 
--- a number of pixels, or 0 in text
-abbrev pub pixels_of : ℕ → ℕ → ℕ
-pixels_of mode count = if is_text mode then 0 else count
+-- this number of pixels in a graphics mode, or 0 in text
+abbrev pub count_unless_text : ℕ → ℕ → ℕ
+count_unless_text mode count = if is_text mode then 0 else count
 
 -- mode, page and sizes of a screen
 abbrev pub layout_in : Screen → ScreenLayout
 layout_in s = record {
-  width = pixels_of s.mode (8 * s.layout.columns);
-  height = pixels_of s.mode (s.layout.height * s.layout.rows);
+  width = count_unless_text s.mode (8 * s.layout.columns);
+  height = count_unless_text s.mode (s.layout.height * s.layout.rows);
   columns = s.layout.columns;
   rows = s.layout.rows;
   mode = s.mode;
@@ -35,8 +35,8 @@ layout_in s = record {
 abbrev pub layout_by : Option ModeRow → BiosData → Option ScreenLayout
 layout_by None d = None
 layout_by (Some row) d = Some (record {
-  width = pixels_of d.mode (8 * d.columns);
-  height = pixels_of d.mode (d.height * (d.last_row + 1));
+  width = count_unless_text d.mode (8 * d.columns);
+  height = count_unless_text d.mode (d.height * (d.last_row + 1));
   columns = d.columns;
   rows = d.last_row + 1;
   mode = d.mode;

@@ -12,13 +12,17 @@ use crate::status::{DONE, byte_status, word_status, write_status};
 use std::alloc::Global;
 use vga_run::machine::Machine;
 
-/// Writes a byte to a port.
+/// Writes a byte to a port after the dots that are owed. It gives how many are owed from then on.
 #[tactic(auto, unfolding(vga_run::specs::Step::after_step, vga_run::specs::Step::answer_to))]
-fn out(machine: &mut Machine, port: u16, value: u8) -> u32
-    ensures after { machine.new ≡ after_step machine.old (Out port value) }
-    ensures status { result ≡ status_of (answer_to machine.old (Out port value)) }
+fn out(machine: &mut Machine, owed: u32, port: u16, value: u8) -> (u32, u32)
+    requires { owed ≤ most_dots }
+    ensures after { after_step machine.new (Advance result.0)
+        ≡ after_step (after_step machine.old (Advance owed)) (Out port value) }
+    ensures status { result.1
+        ≡ status_of (answer_to (after_step machine.old (Advance owed)) (Out port value)) }
 {
-    write_status(machine.card.out(port, value))
+    let (left, answer) = machine.card.out_after(owed, port, value);
+    (left, write_status(answer))
 }
 
 /// Writes a byte to a port.
@@ -27,16 +31,21 @@ pub extern "C" fn zak_out(alloc: Global, card: &mut Handle, port: u16, value: u8
     ensures step { Takes (Out port value) card.old card.new result }
     ensures closed { LeavesClosed card.old card.new result }
 {
-    on_open_card!(alloc, card, machine => out(machine, port, value))
+    on_owing_card!(alloc, card, machine, owed => out(machine, owed, port, value))
 }
 
-/// Writes a word to a port and the next port.
+/// Writes a word to a port and the next port after the dots that are owed. It gives how many are
+/// owed from then on.
 #[tactic(auto, unfolding(vga_run::specs::Step::after_step, vga_run::specs::Step::answer_to))]
-fn out_word(machine: &mut Machine, port: u16, value: u16) -> u32
-    ensures after { machine.new ≡ after_step machine.old (OutWord port value) }
-    ensures status { result ≡ status_of (answer_to machine.old (OutWord port value)) }
+fn out_word(machine: &mut Machine, owed: u32, port: u16, value: u16) -> (u32, u32)
+    requires { owed ≤ most_dots }
+    ensures after { after_step machine.new (Advance result.0)
+        ≡ after_step (after_step machine.old (Advance owed)) (OutWord port value) }
+    ensures status { result.1
+        ≡ status_of (answer_to (after_step machine.old (Advance owed)) (OutWord port value)) }
 {
-    write_status(machine.card.out_word(port, value))
+    let (left, answer) = machine.card.out_word_after(owed, port, value);
+    (left, write_status(answer))
 }
 
 /// Writes a word to a port and the next port.
@@ -45,7 +54,7 @@ pub extern "C" fn zak_out_word(alloc: Global, card: &mut Handle, port: u16, valu
     ensures step { Takes (OutWord port value) card.old card.new result }
     ensures closed { LeavesClosed card.old card.new result }
 {
-    on_open_card!(alloc, card, machine => out_word(machine, port, value))
+    on_owing_card!(alloc, card, machine, owed => out_word(machine, owed, port, value))
 }
 
 /// Reads a byte from a port after the dots that are owed. It gives how many are owed from then on.
@@ -95,7 +104,8 @@ pub extern "C" fn zak_in_word(alloc: Global, card: &mut Handle, port: u16, value
     on_open_card!(alloc, card, machine => inp_word(machine, port, value))
 }
 
-/// Writes a byte to an address after the dots that are owed. It gives how many are owed from then on.
+/// Writes a byte to an address after the dots that are owed. It gives how many are owed from then
+/// on.
 #[tactic(auto, unfolding(vga_run::specs::Step::after_step, vga_run::specs::Step::answer_to))]
 fn put(machine: &mut Machine, owed: u32, address: u32, value: u8) -> (u32, u32)
     requires { owed ≤ most_dots }
@@ -117,13 +127,18 @@ pub extern "C" fn zak_put(alloc: Global, card: &mut Handle, address: u32, value:
     on_owing_card!(alloc, card, machine, owed => put(machine, owed, address, value))
 }
 
-/// Writes a word to an address and the next address.
+/// Writes a word to an address and the next address, after the dots that are owed. It gives how
+/// many are owed from then on.
 #[tactic(auto, unfolding(vga_run::specs::Step::after_step, vga_run::specs::Step::answer_to))]
-fn put_word(machine: &mut Machine, address: u32, value: u16) -> u32
-    ensures after { machine.new ≡ after_step machine.old (PutWord address value) }
-    ensures status { result ≡ status_of (answer_to machine.old (PutWord address value)) }
+fn put_word(machine: &mut Machine, owed: u32, address: u32, value: u16) -> (u32, u32)
+    requires { owed ≤ most_dots }
+    ensures after { after_step machine.new (Advance result.0)
+        ≡ after_step (after_step machine.old (Advance owed)) (PutWord address value) }
+    ensures status { result.1
+        ≡ status_of (answer_to (after_step machine.old (Advance owed)) (PutWord address value)) }
 {
-    write_status(machine.card.put_word(address, value))
+    let (left, answer) = machine.card.put_word_after(owed, address, value);
+    (left, write_status(answer))
 }
 
 /// Writes a word to an address and the next address.
@@ -132,7 +147,7 @@ pub extern "C" fn zak_put_word(alloc: Global, card: &mut Handle, address: u32, v
     ensures step { Takes (PutWord address value) card.old card.new result }
     ensures closed { LeavesClosed card.old card.new result }
 {
-    on_open_card!(alloc, card, machine => put_word(machine, address, value))
+    on_owing_card!(alloc, card, machine, owed => put_word(machine, owed, address, value))
 }
 
 /// Reads a byte from an address after the dots that are owed. It gives how many are owed from then
@@ -162,14 +177,20 @@ pub extern "C" fn zak_get(alloc: Global, card: &mut Handle, address: u32, value:
     on_owing_card!(alloc, card, machine, owed => get(machine, owed, address, value))
 }
 
-/// Reads a word from an address and the next address.
+/// Reads a word from an address and the next address, after the dots that are owed. It gives how
+/// many are owed from then on.
 #[tactic(auto, unfolding(vga_run::specs::Step::after_step, vga_run::specs::Step::answer_to))]
-fn get_word(machine: &mut Machine, address: u32, value: &mut u16) -> u32
-    ensures after { machine.new ≡ after_step machine.old (GetWord address) }
-    ensures status { result ≡ status_of (answer_to machine.old (GetWord address)) }
-    ensures value { value.new ≡ value_of (answer_to machine.old (GetWord address)) value.old }
+fn get_word(machine: &mut Machine, owed: u32, address: u32, value: &mut u16) -> (u32, u32)
+    requires { owed ≤ most_dots }
+    ensures after { after_step machine.new (Advance result.0)
+        ≡ after_step (after_step machine.old (Advance owed)) (GetWord address) }
+    ensures status { result.1
+        ≡ status_of (answer_to (after_step machine.old (Advance owed)) (GetWord address)) }
+    ensures value { value.new
+        ≡ value_of (answer_to (after_step machine.old (Advance owed)) (GetWord address)) value.old }
 {
-    word_status(machine.card.get_word(address), value)
+    let answer = machine.card.get_word_after(owed, address);
+    (owed, word_status(answer, value))
 }
 
 /// Reads a word from an address and the next address.
@@ -185,7 +206,7 @@ pub extern "C" fn zak_get_word(
     ensures closed { LeavesClosed card.old card.new result }
     ensures spared { Spares card.old value.old value.new }
 {
-    on_open_card!(alloc, card, machine => get_word(machine, address, value))
+    on_owing_card!(alloc, card, machine, owed => get_word(machine, owed, address, value))
 }
 
 /// Lets the clock run for `dots` dots.

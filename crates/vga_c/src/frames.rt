@@ -1,22 +1,26 @@
 //! Frames and their pictures.
 ghost use Rattle.std.specs.Prelude.{◌≡◌, ◌+◌, ◌*◌, ◌<◌, ◌≤◌, ℕ, length, slice_index};
+ghost use Rattle.vga_card.specs.Dots.{most_dots};
 ghost use Rattle.vga_card.specs.Frames.{IsSmall};
 ghost use Rattle.vga_run.specs.Answer.{of_drawn};
+ghost use Rattle.vga_run.specs.Saved.{machine_with_fresh_canvas};
 ghost use Rattle.vga_run.specs.Step.{after_step, answer_to};
-ghost use Rattle.vga_script.specs.declared.step.Step.TheVariants.{Frame};
+ghost use Rattle.vga_script.specs.declared.step.Step.TheVariants.{Advance, Frame};
 ghost use Rattle.vga_c.specs.Cards.{LeavesClosed, Spares};
 ghost use Rattle.vga_card.specs.Lines.{line_widths};
 ghost use Rattle.vga_card.specs.Picture.{bytes_of};
 ghost use Rattle.vga_c.specs.Buffers.{IsCopied};
-ghost use Rattle.vga_c.specs.Frames.{CopiesDots, CountsLines, frame_dots};
-ghost use Rattle.vga_c.specs.Frames.{DrawsBytes, DrawsWords, EndsFrame, HasBytes, HasWords};
+ghost use Rattle.vga_c.specs.Frames.{GivesDotBytes, CountsLines, frame_dots};
+ghost use Rattle.vga_c.specs.Frames.{DrawsBytes, DrawsWords, EndsFrame, HasDotBytes, HasDotWords};
+ghost use Rattle.vga_c.specs.Frames.{SkipsFrame};
 
 use crate::buffer::{copy_prefix, write_prefix};
 use crate::forms::{Form, has_room, write_rows};
-use crate::handle::{Handle, on_open_card};
+use crate::handle::{Handle, on_open_card, on_owing_card};
 use crate::status::{DONE, NO_ROOM, RAGGED};
 use std::alloc::Global;
 use vga_card::Drawn;
+use vga_card::laws::dots_split;
 use vga_run::machine::Machine;
 
 /// Every dot of every line, with nothing above its colour.
@@ -36,7 +40,7 @@ pub struct Size {
 
 /// Writes a picture to the caller: red, green and blue of each dot.
 fn write_bytes(drawn: Drawn<'_>, size: &mut Size, rgb: &mut [u8]) -> u32
-    ensures { HasBytes (of_drawn drawn.entry) size.old size.new rgb.old rgb.new result }
+    ensures { HasDotBytes (of_drawn drawn.entry) size.old size.new rgb.old rgb.new result }
 {
     match drawn {
         Drawn::Picture(width, height, bytes) => {
@@ -51,7 +55,7 @@ fn write_bytes(drawn: Drawn<'_>, size: &mut Size, rgb: &mut [u8]) -> u32
 #[tactic(auto, using(crate::proofs::FrameLemmas::bytes_of_frame), unfolding(vga_run::specs::Step::after_step, vga_run::specs::Step::answer_to))]
 fn frame(machine: &mut Machine, size: &mut Size, rgb: &mut [u8]) -> u32
     ensures after { machine.new ≡ after_step machine.old Frame }
-    ensures picture { HasBytes (answer_to machine.old Frame) size.old size.new rgb.old rgb.new
+    ensures picture { HasDotBytes (answer_to machine.old Frame) size.old size.new rgb.old rgb.new
         result }
 {
     write_bytes(machine.card.frame(), size, rgb)
@@ -79,7 +83,7 @@ pub extern "C" fn zak_frame(
 #[tactic(auto, using(crate::proofs::RowLemmas::every_dot_rows))]
 fn write_words(drawn: Drawn<'_>, size: &mut Size, pixels: &mut [u32], pitch: usize) -> u32
     requires { IsSmall drawn }
-    ensures { HasWords (of_drawn drawn.entry) pitch size.old size.new pixels.old pixels.new result }
+    ensures { HasDotWords (of_drawn drawn.entry) pitch size.old size.new pixels.old pixels.new result }
 {
     match drawn {
         Drawn::Picture(width, height, bytes) => {
@@ -99,7 +103,7 @@ fn write_words(drawn: Drawn<'_>, size: &mut Size, pixels: &mut [u32], pitch: usi
 #[tactic(auto, using(crate::proofs::FrameLemmas::words_of_frame), unfolding(vga_run::specs::Step::after_step, vga_run::specs::Step::answer_to))]
 fn frame_words(machine: &mut Machine, size: &mut Size, pixels: &mut [u32], pitch: usize) -> u32
     ensures after { machine.new ≡ after_step machine.old Frame }
-    ensures picture { HasWords (answer_to machine.old Frame) pitch size.old size.new pixels.old
+    ensures picture { HasDotWords (answer_to machine.old Frame) pitch size.old size.new pixels.old
         pixels.new result }
 {
     write_words(machine.card.frame(), size, pixels, pitch)
@@ -153,11 +157,35 @@ pub extern "C" fn zak_frame_lines(
 ) -> u32
     ensures frame { EndsFrame card.old card.new }
     ensures widths { CountsLines card.old widths.new }
-    ensures dots { CopiesDots card.old rgb.old rgb.new len.new result }
+    ensures dots { GivesDotBytes card.old rgb.old rgb.new len.new result }
     ensures closed { LeavesClosed card.old card.new result }
     ensures spared { Spares card.old widths.old widths.new }
     ensures rgb { Spares card.old rgb.old rgb.new }
     ensures len { Spares card.old len.old len.new }
 {
     on_open_card!(alloc, card, machine => frame_lines(machine, widths, rgb, len))
+}
+
+/// Lets the clock of a machine run for the dots that are owed, and then to the end of the frame
+/// under way. It draws nothing of that frame. It gives how many dots are owed from then on: none.
+#[tactic(auto, unfolding(vga_run::specs::Step::after_step))]
+fn skip_frame(machine: &mut Machine, owed: u32) -> (u32, u32)
+    requires { owed ≤ most_dots }
+    ensures after { after_step machine.new (Advance result.0) ≡ machine_with_fresh_canvas
+        (after_step (after_step machine.old (Advance owed)) Frame) }
+    ensures status { result.1 ≡ 0 }
+{
+    dots_split();
+    machine.card.skip_frame_after(owed);
+    (0, DONE)
+}
+
+/// Lets the clock run to the end of the frame under way, and draws nothing. The card is from then
+/// on as `zak_frame` leaves it, but for the dots of that frame, which no call shows any more.
+#[unsafe(no_mangle)]
+pub extern "C" fn zak_skip_frame(alloc: Global, card: &mut Handle) -> u32
+    ensures frame { SkipsFrame card.old card.new result }
+    ensures closed { LeavesClosed card.old card.new result }
+{
+    on_owing_card!(alloc, card, machine, owed => skip_frame(machine, owed))
 }

@@ -88,8 +88,8 @@ macro_rules! on_open_card {
     }};
 }
 
-/// The same, for a call that need not wait for all the dots that are owed. Where it begins, this many
-/// are owed; it gives how many of them are left, and its number.
+/// The same, for a call that need not wait for all the dots that are owed. Where it begins, this
+/// many are owed; it gives how many of them are left, and its number.
 macro_rules! on_owing_card {
     ($alloc:ident, $card:ident, $machine:ident, $owed:ident => $call:expr) => {{
         if !$card.is_open() {

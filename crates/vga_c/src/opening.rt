@@ -1,6 +1,6 @@
 //! Opening and closing a card.
 ghost use Rattle.std.specs.Prelude.{◌≡◌, IfErr, IfOk, length};
-ghost use Rattle.bios_modes.specs.Fonts.{fonts_of, file_len, IsFontFault};
+ghost use Rattle.bios_modes.specs.Fonts.{fonts_of, font_file_len, IsFontFault};
 ghost use Rattle.vga_run.specs.Machine.{power_on_machine};
 ghost use Rattle.vga_c.specs.Cards.{LeavesClosed};
 ghost use Rattle.vga_c.specs.Opening.{Closes, LeavesOpen, Opens, RefusesFile};
@@ -14,7 +14,7 @@ use vga_run::machine::Machine;
 
 /// A machine at power-on, with the fonts of a font file.
 fn power_on(alloc: Global, file: &[u8]) -> Result<Machine, Fault>
-    ensures ok { IfOk result (λ machine. (length file.now ≡ file_len)
+    ensures ok { IfOk result (λ machine. (length file.now ≡ font_file_len)
         × (machine ≡ power_on_machine (fonts_of file.now))) }
     ensures err { IfErr result (IsFontFault file.now) }
 {

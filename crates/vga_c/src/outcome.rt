@@ -35,7 +35,7 @@ pub(crate) fn write_place(fault: Fault, place: &mut usize)
 }
 
 /// Returns the status of a fault, and writes its place.
-pub(crate) fn write_fault(fault: Fault, place: &mut usize) -> u32
+pub(crate) fn status_and_place(fault: Fault, place: &mut usize) -> u32
     ensures status { result ≡ fault_status_of fault }
     ensures place { place.new ≡ fault_place fault place.old }
 {

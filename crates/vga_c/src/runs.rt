@@ -4,7 +4,7 @@ ghost use Rattle.vga_c.specs.Outcome.{told};
 ghost use Rattle.vga_c.specs.Runs.{IsFirstFault, IsReport, Runs};
 
 use crate::buffer::copy_prefix;
-use crate::outcome::write_fault;
+use crate::outcome::status_and_place;
 use std::alloc::Global;
 use vga_bits::{Fault, Tracked};
 use vga_run::run_bytes;
@@ -35,6 +35,6 @@ pub extern "C" fn zak_run(
 {
     match report(alloc, script, fonts) {
         Ok(report) => copy_prefix(out, len, report.as_slice()),
-        Err(fault) => write_fault(fault, place),
+        Err(fault) => status_and_place(fault, place),
     }
 }

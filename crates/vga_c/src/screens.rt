@@ -4,7 +4,7 @@ ghost use Rattle.bios_modes.specs.Heights.{row_at as row_at_of};
 ghost use Rattle.bios_screen.specs.Parts.{cell_at, cursor_at};
 ghost use Rattle.vga_c.specs.Cards.{Keeps, LeavesClosed, Spares};
 ghost use Rattle.vga_c.specs.Screens.{ask_cell, ask_cursor, ask_layout, ask_pixel, Asks, cell_of};
-ghost use Rattle.vga_c.specs.Screens.{HasOfScreen, IsAnswered, layout_by, pixels_of as pixels_in};
+ghost use Rattle.vga_c.specs.Screens.{HasOfScreen, IsAnswered, layout_by, count_unless_text as pixels_in};
 ghost use Rattle.vga_c.specs.Screens.{place_of};
 
 use crate::handle::{Handle, on_open_card};
@@ -70,7 +70,7 @@ fn answer<T: Copy>(found: Option<T>, to: &mut T) -> u32
 }
 
 /// A number of pixels, or 0 in text.
-fn pixels_of(mode: u8, count: u32) -> u32
+fn count_unless_text(mode: u8, count: u32) -> u32
     ensures { result ≡ pixels_in mode count }
 {
     if is_text(mode) { 0 } else { count }
@@ -83,8 +83,8 @@ fn layout_of(bda: &Bda) -> Option<ScreenLayout>
     let row = row_at(bda.mode(), bda.height())?;
     let rows = bda.last_row() as u16 + 1;
     Some(ScreenLayout {
-        width: pixels_of(bda.mode(), 8 * bda.columns() as u32),
-        height: pixels_of(bda.mode(), bda.height() as u32 * rows as u32),
+        width: count_unless_text(bda.mode(), 8 * bda.columns() as u32),
+        height: count_unless_text(bda.mode(), bda.height() as u32 * rows as u32),
         columns: bda.columns(),
         rows,
         mode: bda.mode(),

@@ -7,7 +7,7 @@ ghost use Rattle.vga_c.specs.Steps.{AreTakenOrCutOff, IsRunOn, RunsOn, told};
 
 use crate::buffer::copy_prefix;
 use crate::handle::{Handle, on_open_card};
-use crate::outcome::write_fault;
+use crate::outcome::status_and_place;
 use crate::status::{BAD_CARD, OUT_OF_MEMORY};
 use std::alloc::Global;
 use vga_bits::Tracked;
@@ -78,7 +78,7 @@ fn run_valid(
                 taken,
             )
         }
-        Err(fault) => write_fault(fault, place),
+        Err(fault) => status_and_place(fault, place),
     }
 }
 

@@ -5,7 +5,7 @@ ghost use Rattle.vga_c.specs.Texts.{Assembles, IsAssembled, IsFaultOfBytes, IsFa
 ghost use Rattle.vga_c.specs.Texts.{IsPrinted, Prints};
 
 use crate::buffer::copy_prefix;
-use crate::outcome::write_fault;
+use crate::outcome::status_and_place;
 use std::alloc::Global;
 use vga_bits::Fault;
 use vga_script::{assemble, decode, encode, print};
@@ -34,7 +34,7 @@ pub extern "C" fn zak_assemble(
 {
     match bytes_of_text(alloc, text) {
         Ok(bytes) => copy_prefix(out, len, bytes.as_slice()),
-        Err(fault) => write_fault(fault, line),
+        Err(fault) => status_and_place(fault, line),
     }
 }
 
@@ -62,6 +62,6 @@ pub extern "C" fn zak_print(
 {
     match text_of_bytes(alloc, script) {
         Ok(text) => copy_prefix(out, len, text.as_slice()),
-        Err(fault) => write_fault(fault, place),
+        Err(fault) => status_and_place(fault, place),
     }
 }

@@ -207,7 +207,7 @@ roomier capacity more buffer ws line l is = record {
   later = is.later;
 }
 
--- a line that was drawn behind the bytes that a longer buffer has in use
+-- a line that was drawn after the bytes that a longer buffer has in use
 pub line_appended : (cw : ℕ) (d : DisplayState) (old mid new : List ℕ) (used len : ℕ) → used ≤ length old → len ≡ 3 * (shown_characters d.crtc.registers * cw)
     → take (length old) mid ≡ old → used + len ≤ length new → take used new ≡ take used mid →
     IsLineDrawn cw (shown_characters d.crtc.registers) d (drop used mid) (drop used new)

@@ -70,7 +70,7 @@ bit_stays i test c tests is = λ m. tests m ∙ is m ∙ sym (now i test c tests
 opposite : (test : Beam → Bool) (cw : ℕ) (r : List ℕ) (b : Beam) (n : ℕ) → ChangesAfter test cw r b n → ChangesAfter (λ x. not (test x)) cw r b n
 opposite test cw r b n is = record { changed = ap not is.changed; first = λ m few. ap not (is.first m few) }
 
--- ---- what the CRT controller tells is told of the adapter
+-- ---- what the CRT controller says of the clock holds of the adapter
 
 display_of : (c : CardState) (told : Option ℕ) →
     MatchOption told (NeverChanges (is_display c.crtc.registers) (character_width c) c.crtc.registers c.crtc.beam)

@@ -1,6 +1,7 @@
 pub mod CycleLemmas
 pub mod CanvasLemmas
 pub mod ShapeLemmas
+pub mod SkipLemmas
 pub mod PlaceLemmas
 pub mod DotLemmas
 pub mod FrameLemmas
@@ -10,6 +11,8 @@ pub mod LineLemmas
 pub mod DrawnLemmas
 pub mod PartLemmas
 pub mod WidthLemmas
+pub mod WordReadLemmas
+pub mod WordWriteLemmas
 pub mod SavedLemmas
 pub mod SavedCards
 pub mod FreshCanvasLemmas
@@ -17,3 +20,4 @@ pub mod RepeatLemmas
 pub mod ClockLemmas
 pub mod TransferLemmas
 pub mod OwedLemmas
+pub mod HiddenLemmas

@@ -243,7 +243,7 @@ unfolding dots
 latches_dots zero c latches = refl
 latches_dots (suc n) c latches = ap (dots n) (latches_dot c latches) ∙ latches_dots n (dot c) latches
 
-read_later : (decoded : Bool) (n : ℕ) (c : CardState) (latches : Four ℕ) (v : ℕ) →
+pub read_later : (decoded : Bool) (n : ℕ) (c : CardState) (latches : Four ℕ) (v : ℕ) →
     answered (dots n c) (where_decoded decoded (around (dots n c) (record c.host { latches = latches }), v))
     ≡ (let now = answered c (where_decoded decoded (around c (record c.host { latches = latches }), v)) in let later : Answered = (dots n now.0, now.1) in later)
 read_later false n c latches v = refl

@@ -253,7 +253,7 @@ few_started stays cw n c few =
     let e = ap (λ x. (characters c.registers - (x + 1)) * cw) place.character in
     omega (arith, few, e, place.dot)
 
--- a part that was drawn behind the bytes that a longer buffer has in use
+-- a part that was drawn after the bytes that a longer buffer has in use
 pub part_appended : (cw n : ℕ) (d : DisplayState) (old mid new : List ℕ) (used : ℕ) → used ≤ length old
     → take (length old) mid ≡ old → used + 3 * n ≤ length new → take used new ≡ take used mid → IsPartDrawn cw n d (drop used mid) (drop used new)
     → IsPartAppended cw n d (take used old) (take (used + 3 * n) new)

@@ -34,7 +34,7 @@ use Rattle.vga_card.proofs.RowLemmas.{collect_same, shown_dot, hidden_dot, shown
 
 -- ---- dots in a buffer
 
--- behind so many dots stand the others
+-- to drop m dots is to drop their lines, and three bytes for each
 dropped_dots : (m : ℕ) (vs bs : List ℕ) → drop m (dots_from vs bs) ≡ dots_from (drop m vs) (drop (3 * m) bs)
 unfolding dots_from
 dropped_dots zero vs bs = refl

@@ -7,7 +7,7 @@ use Rattle.vga_attr.specs.Attr.{AttrState}
 use Rattle.vga_dac.specs.Dac.{DacState}
 use Rattle.vga_card.specs.Card.{CardState}
 
--- registers and index are those of the CRT controller
+-- `registers` and `index` are those of the CRT controller
 pub record AdapterState : Type 0 where
   pub host : HostState
   pub registers : List ℕ
@@ -16,6 +16,7 @@ pub record AdapterState : Type 0 where
   pub dac : DacState
   pub misc : ℕ
 
+-- a card without its beam and the dots drawn
 abbrev pub adapter_of : CardState → AdapterState
 adapter_of c = record {
   host = c.host;
@@ -26,14 +27,15 @@ adapter_of c = record {
   misc = c.misc;
 }
 
--- the CRT controller with its beam
+-- the CRT controller of an adapter, with its beam at b
 abbrev pub crtc_of : Beam → AdapterState → CrtcState
 crtc_of b a = record { registers = a.registers; index = a.index; beam = b }
 
+-- the adapter with the registers and the index of this CRT controller
 abbrev pub with_crtc : AdapterState → CrtcState → AdapterState
 with_crtc a crtc = record a { registers = crtc.registers; index = crtc.index }
 
--- beam and dots stay
+-- the card with the parts of this adapter; its beam and its dots stay the same
 abbrev pub with_adapter : CardState → AdapterState → CardState
 with_adapter c a = record c {
   host = a.host;

@@ -5,8 +5,8 @@ use Rattle.vga_attr.specs.Attr.{IsAttr}
 use Rattle.vga_dac.specs.Dac.{IsDac}
 use Rattle.vga_card.specs.Card.{CardState}
 
--- each part holds what it can: lists of its lengths, of bytes and of the bits that registers keep,
--- and a beam within its bounds
+-- Each part of the adapter is within its bounds: lists have their lengths, memory holds bytes,
+-- registers hold only bits that they keep, and the beam is within its bounds.
 pub record IsCard (c : CardState) : Type 0 where
   pub host : IsHost c.host
   pub crtc : IsCrtc c.crtc

@@ -10,7 +10,7 @@ pub data Place : Type 0 where
   AtPort : ℕ → Place
   AtAddress : ℕ → Place
 
--- what a write of a byte leaves and answers, and what a read leaves and answers
+-- the state that a write of a byte leaves, and its answer; and the same for a read
 pub record Meaning (S : Type 0) : Type 0 where
   pub write : S → Place → ℕ → S × Result (Unit {0}) Refusal
   pub read : S → Place → S × Result ℕ Refusal
@@ -44,7 +44,7 @@ abbrev pub card_write : CardState → Place → ℕ → Written
 card_write c (AtPort port) v = out_cycle c port v
 card_write c (AtAddress address) v = put_cycle c address v
 
--- a read of it
+-- a read of the adapter
 abbrev pub card_read : CardState → Place → Answered
 card_read c (AtPort port) = inp_cycle c port
 card_read c (AtAddress address) = get_cycle c address

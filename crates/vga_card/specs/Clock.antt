@@ -30,10 +30,11 @@ BitStays i c = (m : ℕ) → status_bit i c m ≡ status_bit i c 0
 abbrev pub clock_rate : ℕ → ℕ
 clock_rate misc = if field misc 3 2 == 1 then 28322000 else 25175000
 
--- how many dots a line has, and how many lines a frame
+-- how many dots a line has
 abbrev pub dots_a_line : CardState → ℕ
 dots_a_line c = characters c.crtc.registers * character_width c
 
+-- how many lines a frame has
 abbrev pub lines_a_frame : CardState → ℕ
 lines_a_frame c = lines c.crtc.registers
 
@@ -41,9 +42,9 @@ lines_a_frame c = lines c.crtc.registers
 abbrev pub is_halved : CardState → Bool
 is_halved c = is_clock_halved c.host
 
--- what is told of the clock: the dots to the end of the frame, as `EndsFirst` has it; those to the
--- next change of bit 0 of input status 1, which tells the display, and of bit 3, which tells the
--- vertical retrace; the dots of a line and of a frame, and a frame's lines; the rate, and whether it is halved
+-- What a `Clock` contains: the dots to the end of the frame, as `EndsFirst` says; the dots to the
+-- next change of bit 0 of input status 1, the display, and of bit 3, the vertical retrace; the dots
+-- of a line and of a frame, and a frame's lines; the rate, and whether it is halved.
 pub record IsClock (c : CardState) (told : Clock) : Type 0 where
   pub frame : told.to_frame ≡ frame_count c
   pub display : MatchOption told.to_display (BitStays 0 c) (BitChanges 0 c)

@@ -1,5 +1,5 @@
 -- The adapter without the dots that no step can see any more: those of the frame that ended, while
--- the beam is at the first dot of the next. So it is where it was saved and restored.
+-- the beam is at the first dot of the next. A saved and restored adapter is in this state.
 use Rattle.std.specs.Prelude.{ℕ, ◌≡◌, ◌<◌, false}
 use Rattle.vga_crtc.specs.Beam.{is_first_dot}
 use Rattle.vga_card.specs.Card.{CardState}
@@ -9,16 +9,17 @@ use Rattle.vga_card.specs.WordCycles.{get_word_cycle}
 use Rattle.vga_card.specs.Dots.{fresh, dots}
 use Rattle.vga_card.specs.Frames.{frame}
 
+-- the card with only the dots of the frame under way: none at its first dot
 abbrev pub with_fresh_canvas : CardState → CardState
 with_fresh_canvas c = record c { drawn = fresh c }
 
--- what a cycle leaves, settled, and what it answers
+-- what a cycle leaves, with a fresh canvas, and what it returns
 abbrev pub fresh_canvas_after : {A : Type 0} → CardState × A → CardState × A
 fresh_canvas_after after = (with_fresh_canvas after.0, after.1)
 
--- a settled adapter is the adapter while a frame is under way; and it can never be told from it: a
--- cycle answers the same and leaves the same but for what is settled, one dot and more lead to the
--- same state, and so does a frame
+-- An adapter with a fresh canvas can never be told from the adapter itself. Past the first dot of a
+-- frame they are equal. A cycle has the same answer on both, and leaves the same state but for the
+-- canvas. One dot or more lead both to the same state, and so does a frame.
 pub record CannotBeTold : Type 0 where
   pub under_way : (c : CardState) → is_first_dot c.crtc.beam ≡ false → with_fresh_canvas c ≡ c
   pub fresh : (c : CardState) → fresh (with_fresh_canvas c) ≡ fresh c

@@ -4,10 +4,11 @@ use Rattle.std.specs.List.{count_by}
 use Rattle.vga_card.specs.declared.lines.Lines.{Lines}
 use Rattle.vga_card.specs.Picture.{Dot, lines_of, bytes_of}
 
--- how many of these lines are line v, and how many are each of so many lines from v on
+-- how many numbers of a list are v
 abbrev pub count_on : List ℕ → ℕ → ℕ
 count_on lines v = count_by (λ x. x == v) lines
 
+-- for each of the n numbers from v on, how many numbers of a list equal it
 unfoldable pub counts_from : List ℕ → ℕ → ℕ → List ℕ
 counts_from lines v zero = []
 counts_from lines v (suc n) = count_on lines v ∷ counts_from lines (v + 1) n

@@ -1,4 +1,4 @@
--- Rows that are copied: what a line shows that has the memory of the line before it.
+-- Rows that are copied: what a line shows if it shows the same memory as an earlier line.
 use Rattle.std.specs.Prelude.{◌≡◌, ◌<◌, ℕ, ◌-◌, true, List, ◌++◌, length, drop, map}
 use Rattle.vga_host.specs.Graphics.{is_graphics}
 use Rattle.vga_crtc.specs.declared.beam.Beam.{Beam}
@@ -24,7 +24,7 @@ pub record EndsWithLine (d : DisplayState) (dots : List Dot) (b : Beam) : Type 0
   pub prefix : List Dot
   pub whole : dots ≡ prefix ++ line_dots (with_beam d b)
 
--- the beam's line shows in graphics what an earlier line of the frame showed, which has this beam
+-- the beam's line, in graphics, shows the same as an earlier line of the frame, drawn with beam b
 pub record ShowsAgain (d : DisplayState) (b : Beam) : Type 0 where
   pub graphics : is_graphics d.host ≡ true
   pub fetch : IsSameFetch b d.crtc.beam

@@ -19,15 +19,16 @@ use Rattle.vga_card.specs.Lines.{line_widths}
 
 -- ---- the dots drawn
 
--- the bytes of the dots drawn: for each line a word that counts them, and red, green and blue of
--- each
+-- the bytes of the dots drawn: a word for each line that counts its dots, and then red, green and
+-- blue of each dot
 unfoldable pub saved_dots : List Dot → List ℕ
 saved_dots dots = flat_map word_bytes (line_widths dots) ++ bytes_of dots
 
--- the width of each line, and what follows the widths
+-- the width of each of the 1,024 lines
 unfoldable pub widths_in : List ℕ → List ℕ
 widths_in bytes = words_in 1024 bytes
 
+-- the bytes after the widths
 abbrev pub past_widths : List ℕ → List ℕ
 past_widths bytes = drop 2048 bytes
 
@@ -35,15 +36,16 @@ past_widths bytes = drop 2048 bytes
 unfoldable pub saved_dots_from : List ℕ → List Dot
 saved_dots_from bytes = stored_dots (widths_in bytes) (past_widths bytes)
 
--- the most dots that line v can have where the beam is at b: on a line before the beam's as many as
--- any, on its own those before it
+-- the most dots that line v can have while the beam is at b: 2,304 on a line before the beam's; on
+-- its own line those before the beam, with nine dots counted for each character, but at most 2,304;
+-- and none on a later line
 abbrev pub most_on : Beam → ℕ → ℕ
 most_on b v =
     if nat_lt v b.line then widest
     else if v == b.line then min (9 * b.character + b.dot) widest
     else 0
 
--- lines of these widths have no more dots than they can where the beam is at b
+-- lines of these widths have no more dots than they can have while the beam is at b
 pub record AreFew (b : Beam) (widths : List ℕ) : Type 0 where
   pub most : (v : ℕ) → slice_index widths v ≤ most_on b v
 
@@ -61,19 +63,23 @@ unfoldable pub saved_card : CardState → List ℕ
 saved_card c = (c.misc ∷ []) ++ (saved_crtc c.crtc ++ (saved_attr c.attr ++ (saved_dac c.dac
     ++ (saved_host c.host ++ saved_dots (fresh c)))))
 
--- what follows each part of fixed size
+-- the bytes after the miscellaneous output register
 abbrev pub past_misc : List ℕ → List ℕ
 past_misc bytes = drop 1 bytes
 
+-- the bytes after those of the CRT controller
 abbrev pub past_crtc : List ℕ → List ℕ
 past_crtc bytes = drop 37 (past_misc bytes)
 
+-- the bytes after those of the attribute controller
 abbrev pub past_attr : List ℕ → List ℕ
 past_attr bytes = drop 23 (past_crtc bytes)
 
+-- the bytes after those of the DAC
 abbrev pub past_dac : List ℕ → List ℕ
 past_dac bytes = drop 773 (past_attr bytes)
 
+-- the bytes after those of the host path
 abbrev pub past_host : List ℕ → List ℕ
 past_host bytes = drop 262164 (past_dac bytes)
 

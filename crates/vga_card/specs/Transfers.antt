@@ -1,5 +1,5 @@
--- Bytes that are written to addresses which follow one another, or read from them, cycle by cycle:
--- the first address first, or, going down, the last one first.
+-- Writes to a run of addresses, and reads from one, cycle by cycle. They go up from the first
+-- address, or down from the last.
 -- From the IBM PS/2 Hardware Interface Technical Reference, Video Subsystems: no cycle of memory
 -- changes a register.
 use Rattle.std.specs.Prelude.{◌≡◌, ℕ, zero, suc, ◌+◌, ◌<◌, List, length, slice_index}
@@ -34,12 +34,12 @@ after_moves_down m from to (suc n) s = after_moves_down m from to n
 abbrev pub decoded_by : CardState → ℕ → ℕ → ℕ
 decoded_by c first n = decoded_among c.host c.misc first n
 
--- the byte that a read of an address answers, FF where it is refused
+-- the byte that a read of an address returns, or FF if the read is refused
 abbrev pub byte_at : CardState → ℕ → ℕ
 byte_at c address = byte_of (card_meaning.read c (AtAddress address)).1
 
--- byte i is what a read of the address i after the first answers; none of the reads changes what
--- another one answers, as `reads_change_no_byte` says
+-- Byte i is what a read of the address i after the first returns. No read changes what another
+-- returns, as `reads_change_no_byte` says.
 pub record AreRead (c : CardState) (first : ℕ) (old new : List ℕ) : Type 0 where
   pub bytes : (i : ℕ) → i < length old → slice_index new i ≡ byte_at c (first + i)
   pub size : length new ≡ length old

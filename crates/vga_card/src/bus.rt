@@ -1,4 +1,4 @@
-//! What answers cycles of a byte at ports and addresses.
+//! A bus: it answers cycles of a byte at ports and addresses.
 ghost use Rattle.std.specs.Prelude.{◌≡◌, ◌<◌, ◌+◌, ◌^◌, length, slice_index};
 ghost use Rattle.vga_card.specs.Bus.{Meaning, AtPort, AtAddress, card_meaning, after_puts};
 ghost use Rattle.vga_card.specs.Bus.{after_moves};
@@ -7,12 +7,13 @@ ghost use Rattle.vga_host.specs.Memory.Runs.{in_turn};
 use crate::card::Card;
 use vga_bits::Refusal;
 
-/// What a refused read gives where it is moved.
+/// What a refused read gives when its byte is moved.
 const REFUSED: u8 = 0xFF;
 
-/// What answers cycles of a byte at ports and addresses: an adapter, or what stands in its place.
+/// A bus answers cycles of a byte at ports and addresses. An adapter is one; so is anything that
+/// takes its place.
 pub trait Bus {
-    /// What a cycle does to the state, and what it answers.
+    /// What a cycle does to the state, and what it returns.
     ghost meaning: { Meaning Self };
 
     /// Writes a byte to a port. It fails where the bus refuses the cycle.
@@ -42,8 +43,8 @@ pub trait Bus {
         }
     }
 
-    /// Moves n bytes, in ascending order: each is read at an address, and written at another. A
-    /// refused write does nothing, and a refused read gives FF.
+    /// Moves n bytes from one run of addresses to another, in ascending order. A refused write does
+    /// nothing, and a refused read gives FF.
     fn move_bytes(&mut self, from: u32, to: u32, n: u32)
         requires from { from + n < 2 ^ 32 }
         requires to { to + n < 2 ^ 32 }
@@ -59,7 +60,7 @@ pub trait Bus {
     }
 }
 
-/// A cycle of an adapter is the register table's.
+/// A cycle of an adapter does what the register table says.
 impl Bus for Card {
     ghost meaning = { card_meaning };
 

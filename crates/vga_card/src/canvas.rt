@@ -1,4 +1,4 @@
-//! The dots that were drawn of the frame under way.
+//! The dots drawn until now of the frame under way.
 ghost use Rattle.std.specs.Prelude.{◌≡◌, ℕ, ◌+◌, ◌*◌, ◌<◌, ◌≤◌, [], ◌∷◌, ◌++◌, length};
 ghost use Rattle.std.specs.Prelude.{slice_index, take, drop, replicate, vec_len, vec_capacity};
 ghost use Rattle.std.specs.Prelude.{IfOk, IfSome, IsOkUnless};
@@ -30,15 +30,15 @@ const WIDEST: usize = 2_304;
 /// How many lines of a frame can have a dot.
 const HIGHEST: usize = 1_024;
 
-/// The dots in order in one buffer, three bytes each, and how many of them each line has. The
+/// The dots in order in one buffer, three bytes each, and the number of dots on each line. The
 /// buffer keeps its memory when it is cleared.
 ///
 /// Contracts see the list of the dots, the last line with one, and how many that line has.
 #[derive(Drop)]
 pub(crate) struct Canvas {
     buffer: Vec<u8>,
-    /// How many bytes of the buffer the dots have. Those behind them tell nothing, and are written
-    /// over.
+    /// How many bytes of the buffer the dots take. The bytes after them mean nothing, and are
+    /// overwritten.
     used: usize,
     widths: Vec<u32>,
     line: u16,
@@ -60,7 +60,7 @@ impl Model for Canvas {
         × IsCanvas (vec_capacity c.buffer) (take c.used c.buffer.items) c.widths.items c.line };
 }
 
-/// No bytes, with room for so many.
+/// An empty buffer with room for `bytes` bytes. It fails only with `OutOfMemory`.
 fn room_for(alloc: Global, bytes: usize) -> Result<Vec<u8>, Fault>
     ensures items { IfOk result (λ v. v.items ≡ []) }
     ensures capacity { IfOk result (λ v. vec_capacity v ≡ bytes) }
@@ -72,7 +72,7 @@ fn room_for(alloc: Global, bytes: usize) -> Result<Vec<u8>, Fault>
     }
 }
 
-/// So many widths 0.
+/// `len` widths, each 0. It fails only with `OutOfMemory`.
 #[tactic(auto, unfolding(vga_bits::specs::Bytes::zeros))]
 fn zero_widths(alloc: Global, len: usize) -> Result<Vec<u32>, Fault>
     ensures items { IfOk result (λ v. v.items ≡ zeros len) }
@@ -84,7 +84,7 @@ fn zero_widths(alloc: Global, len: usize) -> Result<Vec<u32>, Fault>
     }
 }
 
-/// Makes all widths 0, of which those behind `last` are.
+/// Sets all widths to 0. Those after `last` are 0 already.
 fn clear_widths(widths: &mut [u32], last: usize)
     requires within { last < length widths.old }
     requires later { (j : ℕ) → last < j → slice_index widths.old j ≡ 0 }
@@ -107,7 +107,7 @@ fn push_colour(buffer: &mut Vec<u8>, colour: [u8; 3])
     buffer.push_reserved(colour[2]);
 }
 
-/// Gives a buffer at least `len` bytes, for which it has memory.
+/// Lengthens a buffer to at least `len` bytes. It has memory for them.
 fn lengthen(buffer: &mut Vec<u8>, len: usize)
     requires { len ≤ vec_capacity buffer.old }
     ensures prefix { take (length buffer.old.items) buffer.new.items ≡ buffer.old.items }
@@ -122,8 +122,7 @@ fn lengthen(buffer: &mut Vec<u8>, len: usize)
     }
 }
 
-/// Writes the displayed dots of the beam's line, three bytes each, over those bytes that stand from
-/// `at` on.
+/// Writes the displayed dots of the beam's line, three bytes each, over the bytes from `at` on.
 fn draw_at<const CW: usize>(display: &Display<'_>, bytes: &mut [u8], at: usize)
     requires width { CW ≡ character_width display.now.host }
     requires room { at + 3 * (shown_characters display.now.crtc.registers * CW) ≤ length bytes.old }
@@ -140,10 +139,15 @@ fn draw_at<const CW: usize>(display: &Display<'_>, bytes: &mut [u8], at: usize)
     );
 }
 
-/// Puts the displayed dots of the beam's line, three bytes each, behind the first `used` bytes of a
-/// buffer, which has memory for them. They are drawn where they stay: a row that is copied takes as
-/// long again.
-fn put_line<const CW: usize>(display: &Display<'_>, buffer: &mut Vec<u8>, used: usize, len: usize)
+/// Puts the displayed dots of the beam's line, three bytes each, after the first `used` bytes of a
+/// buffer. The buffer has memory for them. The dots are drawn in place: to draw a row elsewhere and
+/// copy it would take twice as long.
+fn append_line<const CW: usize>(
+    display: &Display<'_>,
+    buffer: &mut Vec<u8>,
+    used: usize,
+    len: usize,
+)
     requires width { CW ≡ character_width display.now.host }
     requires len { len ≡ 3 * (shown_characters display.now.crtc.registers * CW) }
     requires used { used ≤ length buffer.old.items }
@@ -157,8 +161,8 @@ fn put_line<const CW: usize>(display: &Display<'_>, buffer: &mut Vec<u8>, used: 
     draw_at::<CW>(display, buffer.as_mut_slice(), used);
 }
 
-/// Writes so many dots of the beam's line, three bytes each, from the beam's on, over those bytes
-/// that stand from `at` on.
+/// Writes the next `count` dots of the beam's line, three bytes each, from the beam's dot on, over
+/// the bytes from `at` on.
 fn draw_part_at<const CW: usize>(display: &Display<'_>, count: usize, bytes: &mut [u8], at: usize)
     requires count { count ≤ 128 }
     requires width { CW ≡ character_width display.now.host }
@@ -169,9 +173,14 @@ fn draw_part_at<const CW: usize>(display: &Display<'_>, count: usize, bytes: &mu
     draw_part::<CW>(display, count, &mut bytes[at..]);
 }
 
-/// Puts so many dots of the beam's line, from the beam's on, behind the first `used` bytes of a
-/// buffer, which has memory for them.
-fn put_part<const CW: usize>(display: &Display<'_>, count: usize, buffer: &mut Vec<u8>, used: usize)
+/// Puts the next `count` dots of the beam's line, from the beam's dot on, after the first `used`
+/// bytes of a buffer. The buffer has memory for them.
+fn append_part<const CW: usize>(
+    display: &Display<'_>,
+    count: usize,
+    buffer: &mut Vec<u8>,
+    used: usize,
+)
     requires count { count ≤ 128 }
     requires width { CW ≡ character_width display.now.host }
     requires used { used ≤ length buffer.old.items }
@@ -186,8 +195,8 @@ fn put_part<const CW: usize>(display: &Display<'_>, count: usize, buffer: &mut V
 }
 
 impl Canvas {
-    /// No dots, with room for the largest frame: no later call takes memory. It fails with
-    /// `OutOfMemory` alone.
+    /// A canvas without dots, with room for the largest frame: no later call allocates memory. It
+    /// fails only with `OutOfMemory`.
     pub(crate) fn new(alloc: Global) -> Result<Canvas, Fault>
         ensures ok { IfOk result (λ canvas. canvas ≡ blank_canvas) }
         ensures err { IsOkUnless result Fault.OutOfMemory }
@@ -238,15 +247,15 @@ impl Canvas {
     {
         let line = display.beam().line;
         let dots = count * CW;
-        put_line::<CW>(display, &mut self.buffer, self.used, 3 * dots);
+        append_line::<CW>(display, &mut self.buffer, self.used, 3 * dots);
         self.used += 3 * dots;
         let width = &mut self.widths[line as usize];
         *width += dots as u32;
         self.line = line;
     }
 
-    /// Adds so many dots of the beam's line, at most 128, from the beam's on, all of them
-    /// displayed, to the last line or to one after it.
+    /// Adds the next `count` dots of the beam's line, at most 128, from the beam's dot on, to the
+    /// last line or to one after it. All of them are displayed.
     pub(crate) fn add_part<const CW: usize>(&mut self, display: &Display<'_>, count: usize)
         requires width { CW ≡ character_width display.now.host }
         requires count { count ≤ 128 }
@@ -263,14 +272,14 @@ impl Canvas {
         ensures width { self.new.width ≡ width_more self.old display.now.crtc.beam.line count }
     {
         let line = display.beam().line;
-        put_part::<CW>(display, count, &mut self.buffer, self.used);
+        append_part::<CW>(display, count, &mut self.buffer, self.used);
         self.used += 3 * count;
         let width = &mut self.widths[line as usize];
         *width += count as u32;
         self.line = line;
     }
 
-    /// Takes all dots away.
+    /// Removes all dots.
     pub(crate) fn clear(&mut self)
         ensures { self.new ≡ blank_canvas }
     {

@@ -1,10 +1,10 @@
-//! What the clock comes to next, and how fast it runs.
+//! What the clock reaches next, and how fast it runs.
 ghost use Rattle.std.specs.Prelude.{◌≡◌, ◌≤◌, IfSome};
 ghost use Rattle.vga_card.specs.Clock.{clock_rate as clock_rate_of, IsClock};
 
 use crate::card::Card;
 
-/// What the clock comes to next, if no register is written meanwhile, in dots; and how fast dots
+/// How many dots lead to the next events, if no register is written meanwhile, and how fast dots
 /// come.
 #[derive(Clone, Copy, Debug, PartialEq, Eq)]
 pub struct Clock {
@@ -40,7 +40,7 @@ fn clock_rate(misc: u8) -> u32
 }
 
 impl Card {
-    /// What the clock comes to next, and how fast it runs, by the registers as they are.
+    /// What the clock reaches next, and how fast it runs, by the registers as they are.
     pub fn clock(&self) -> Clock
         ensures clock { IsClock self.now result }
         ensures display { IfSome result.to_display (λ n. n ≤ 4800000) }

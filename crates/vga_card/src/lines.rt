@@ -3,8 +3,8 @@
 /// What was drawn of a frame.
 #[derive(Clone, Copy, Debug, PartialEq, Eq)]
 pub struct Lines<'a> {
-    /// How many dots each of the 1,024 lines has that can have some, at most 2,304 each. A line
-    /// without a dot has 0.
+    /// How many dots each of the 1,024 lines has that can have dots, at most 2,304. A line without
+    /// dots has 0.
     pub widths: &'a [u32],
     /// Red, green and blue of each dot in turn, 0 to 63 each: those of line 0 from the left, then
     /// those of line 1, and so on.

@@ -4,7 +4,7 @@ ghost use Rattle.vga_card.specs.Pixels.{pixel_height, pixel_width};
 
 use crate::card::{Card, Regs};
 
-/// How many dots of a line, 1 or 2, and how many scan lines, 1 to 64, show the same pixel.
+/// How many dots of a line, 1 or 2, and how many scan lines, 1 to 64, show one pixel of memory.
 #[derive(Clone, Copy, Debug, PartialEq, Eq)]
 pub struct PixelSize {
     pub width: u32,

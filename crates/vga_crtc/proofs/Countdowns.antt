@@ -106,7 +106,7 @@ pub record CountsDown (Known End : Beam → Type 0) (left : Beam → ℕ) (cw : 
   pub step : (b : Beam) → Known b → 1 < left b → Known (dot cw r b) × (left b ≡ left (dot cw r b) + 1)
   pub last : (b : Beam) → Known b → left b ≡ 1 → End (dot cw r b)
 
--- it ends after so many dots
+-- a count of n + 1 ends after n + 1 dots
 pub count_ends : (Known End : Beam → Type 0) (left : Beam → ℕ) (cw : ℕ) (r : List ℕ) → CountsDown Known End left cw r → (n : ℕ) (b : Beam) → Known b →
     left b ≡ suc n → End (dots cw r (suc n) b)
 count_ends Known End left cw r counts zero b known e =

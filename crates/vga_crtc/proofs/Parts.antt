@@ -60,7 +60,7 @@ module _ (cw : ℕ) (r : List ℕ) (b : Beam) (free : started r b ≡ b) (inside
       ap (λ m. dots cw r m b) z ∙ dots_more cw r n b ∙ ap (moved cw r) before
       ∙ goes_on cw r b (dot_number cw b + n) (omega (arith, inside.dot)) (omega arith) ∙ ap (in_line cw b) i
 
-  -- so many dots from the beam on, the start taken
+  -- the beam n dots on in the line, once the start is taken
   started_some : (n : ℕ) → dot_number cw b + n < line_dots cw r → started r (dots cw r n b) ≡ in_line cw b (dot_number cw b + n)
   started_some zero within = ap (started r) (dots_none cw r b) ∙ free ∙ sym (placed_at cw b b.character b.dot (dot_number cw b + 0) inside.dot (omega arith))
   started_some (suc n) within = ap (started r) (one_more n (started_some n (omega arith)) within) ∙ past_first cw r b (dot_number cw b + suc n) (omega arith)

@@ -7,13 +7,13 @@ use Rattle.vga_crtc.specs.declared.beam.Beam.{Beam}
 use Rattle.vga_crtc.specs.Beam.{characters, dots}
 use Rattle.vga_crtc.specs.Raster.{dots_in_line, dots_in_frame}
 
--- a test of the beam, such as one bit of input status 1, answers otherwise after n dots, and not
+-- a test of the beam, such as one bit of input status 1, changes its result after n dots, and not
 -- before
 pub record ChangesAfter (test : Beam → Bool) (cw : ℕ) (r : List ℕ) (b : Beam) (n : ℕ) : Type 0 where
   pub changed : test (dots cw r n b) ≡ not (test b)
   pub first : (m : ℕ) → m < n → test (dots cw r m b) ≡ test b
 
--- a test of the beam answers the same after any number of dots
+-- a test of the beam has the same result after any number of dots
 abbrev pub NeverChanges : (Beam → Bool) → ℕ → List ℕ → Beam → Type 0
 NeverChanges test cw r b = (m : ℕ) → test (dots cw r m b) ≡ test b
 

@@ -38,10 +38,11 @@ pub record IsSavedBeam (bytes : List ℕ) : Type 0 where
 unfoldable pub saved_crtc : CrtcState → List ℕ
 saved_crtc c = c.registers ++ (c.index ∷ saved_beam c.beam)
 
--- what follows the registers, and what follows the index
+-- the bytes after the registers
 abbrev pub past_registers : List ℕ → List ℕ
 past_registers bytes = drop 25 bytes
 
+-- the bytes after the index
 abbrev pub past_index : List ℕ → List ℕ
 past_index bytes = drop 1 (past_registers bytes)
 

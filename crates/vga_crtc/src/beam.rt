@@ -32,7 +32,7 @@ impl Beam {
     ghost use Rattle.vga_crtc.specs.Crtc.{first_dot};
     ghost use Rattle.vga_crtc.specs.Beam.{IsBeam, is_first_dot, started, next_row, next_line, dot};
 
-    /// The first dot of a frame, with nothing taken yet.
+    /// The beam at the first dot of a frame, before the start of the frame is taken.
     pub(crate) fn first_dot(frame: u8) -> Beam
         ensures { result ≡ first_dot frame }
     {
@@ -93,7 +93,7 @@ impl Beam {
     }
 
     /// Moves to the first dot of the next line.
-    // A line whose dots are not displayed takes little more than this, so that a call is felt.
+    // A line whose dots are not displayed takes little more time than this, so a call would cost.
     #[inline(always)]
     fn end_line(&mut self, registers: &Registers)
         requires { IsBeam self.old }
@@ -138,8 +138,8 @@ impl Beam {
         self.end_line(registers);
     }
 
-    /// Moves by `n` dots of the line, at a dot of which the beam is, or to the first dot of the
-    /// next line.
+    /// Moves by `n` dots within the beam's line, or to the first dot of the next line. The beam is
+    /// at a dot of its line.
     pub(crate) fn step_dots(&mut self, registers: &Registers, cw: u8, n: u32)
         requires width { (cw ≡ 8) ⊎ (cw ≡ 9) }
         requires place { IsBeam self.old }

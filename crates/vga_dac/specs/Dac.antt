@@ -8,6 +8,8 @@ use Rattle.vga_bits.specs.Bytes.{zeros}
 use Rattle.vga_dac.specs.declared.component.Component.{Component}
 use Rattle.vga_dac.specs.declared.component.Component.TheVariants.{Red, Green, Blue}
 
+-- the red, green and blue of each entry, the index, the component that the next byte is, the red
+-- and green that wait for blue, and the mask
 pub record DacState : Type 0 where
   pub reds : List ℕ
   pub greens : List ℕ
@@ -18,7 +20,7 @@ pub record DacState : Type 0 where
   pub waiting_green : ℕ
   pub mask : ℕ
 
--- the DAC at power-on: all is 0, but the mask is FF
+-- the DAC at power-on: the mask is FF, everything else is 0, and red is next
 abbrev pub power_on_dac : DacState
 power_on_dac = record {
   reds = zeros 256;
@@ -41,8 +43,8 @@ pub record IsDac (d : DacState) : Type 0 where
 abbrev pub entry_of : DacState → ℕ → List ℕ
 entry_of d i = slice_index d.reds i ∷ slice_index d.greens i ∷ slice_index d.blues i ∷ []
 
--- the first n entries have these components, and a byte 0 more each: how they are kept for speed
--- alone
+-- The first n entries have these components, and one more byte, 0, each. They are kept in this form
+-- for speed alone.
 pub record AreEntries (n : ℕ) (entries : List (List ℕ)) (reds greens blues : List ℕ) : Type 0 where
   pub each : (i : ℕ) → i < n → slice_index_or entries i []
       ≡ slice_index reds i ∷ slice_index greens i ∷ slice_index blues i ∷ 0 ∷ []
@@ -69,19 +71,20 @@ component_of d Red i = slice_index d.reds i
 component_of d Green i = slice_index d.greens i
 component_of d Blue i = slice_index d.blues i
 
--- what a read of a component answers: that of the counter, of the entry of the index
+-- the byte that a read of a component returns: the next component of the entry that the index
+-- selects
 abbrev pub read_value : DacState → ℕ
 read_value d = component_of d d.component d.index
 
--- what a byte moves: the counter, and after blue the index
+-- the DAC after a component is read or written: the component moves on, and after blue the index
+-- does too
 abbrev pub after_read : DacState → DacState
 after_read d = record d {
   component = next_component d.component;
   index = next_index d.component d.index;
 }
 
--- what a value does where it is this component: red and green wait, and blue stores the three in
--- the entry
+-- what a value does as this component: red and green wait, and blue stores all three in the entry
 abbrev pub with_component : DacState → Component → ℕ → DacState
 with_component d Red value = record d { waiting_red = value }
 with_component d Green value = record d { waiting_green = value }
@@ -91,6 +94,6 @@ with_component d Blue value = record d {
   blues = slice_set d.blues d.index value;
 }
 
--- the DAC after a component is written: six bits of it are kept
+-- the DAC after a component is written, of which it keeps six bits
 abbrev pub after_write : DacState → ℕ → DacState
 after_write d v = after_read (with_component d d.component (bit_and v 0x3F))

@@ -12,13 +12,13 @@ component_number Red = 0
 component_number Green = 1
 component_number Blue = 2
 
--- the component of a number, 0 to 2
+-- the component with this number, 0 to 2
 abbrev pub component_numbered : ℕ → Component
 component_numbered zero = Red
 component_numbered (suc zero) = Green
 component_numbered (suc (suc n)) = Blue
 
--- what follows the entries
+-- the bytes after the entries
 abbrev pub saved_counters : DacState → List ℕ
 saved_counters d = d.index ∷ component_number d.component ∷ d.waiting_red ∷ d.waiting_green
     ∷ d.mask ∷ []
@@ -27,7 +27,7 @@ saved_counters d = d.index ∷ component_number d.component ∷ d.waiting_red �
 unfoldable pub saved_dac : DacState → List ℕ
 saved_dac d = d.reds ++ (d.greens ++ (d.blues ++ saved_counters d))
 
--- values of six bits
+-- each value fits in six bits
 pub record AreSmall (values : List ℕ) : Type 0 where
   pub small : (i : ℕ) → slice_index values i < 64
 
@@ -37,13 +37,15 @@ pub record AreCounters (bytes : List ℕ) : Type 0 where
   pub waiting_red : slice_index bytes 2 < 64
   pub waiting_green : slice_index bytes 3 < 64
 
--- what follows the 256 reds, the greens and the blues
+-- the bytes after the 256 reds
 abbrev pub past_reds : List ℕ → List ℕ
 past_reds bytes = drop 256 bytes
 
+-- the bytes after the 256 greens
 abbrev pub past_greens : List ℕ → List ℕ
 past_greens bytes = drop 256 (past_reds bytes)
 
+-- the bytes after the 256 blues
 abbrev pub past_blues : List ℕ → List ℕ
 past_blues bytes = drop 256 (past_greens bytes)
 

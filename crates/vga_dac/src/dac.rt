@@ -12,7 +12,7 @@ const COMPONENT_MASK: u8 = 0x3F;
 /// How many entries there are.
 const ENTRIES: usize = 256;
 
-/// The DAC: what a colour's number means.
+/// The DAC: which colour each colour number means.
 ///
 /// Contracts see one record: a list of 256 values for each component, the index, the component that
 /// the next byte is, the red and green that wait, and the mask.
@@ -21,7 +21,7 @@ pub struct Dac {
     reds: [u8; 256],
     greens: [u8; 256],
     blues: [u8; 256],
-    /// The three components of each entry and a byte 0 more, kept for speed alone.
+    /// The three components of each entry and one more byte, 0, kept for speed alone.
     entries: [[u8; 4]; 256],
     index: u8,
     component: Component,
@@ -56,7 +56,7 @@ impl Model for Dac {
 ghost use Rattle.vga_bits.specs.Bytes.{zeros as zeros_of};
 ghost use Rattle.vga_dac.specs.Dac.{AreEntries};
 
-/// So many values 0.
+/// `N` values, each 0.
 #[tactic(auto, unfolding(vga_bits::specs::Bytes::zeros))]
 fn zeros<const N: usize>() -> [u8; N]
     ensures { result ≡ zeros_of N }
@@ -81,7 +81,8 @@ impl Dac {
     ghost use Rattle.vga_dac.specs.Dac.{after_read, entry_of};
     ghost use Rattle.vga_dac.specs.Dac.{IsDac};
 
-    /// The DAC at power-on: all entries black, the index 0, red next, nothing waiting, the mask FF.
+    /// The DAC at power-on: all entries are black, the index is 0, the next component is red, the
+    /// waiting values are 0, and the mask is FF.
     #[tactic(auto, using(crate::proofs::SavedLemmas::small_zeros))]
     pub fn new() -> Dac
         ensures { result ≡ power_on_dac }
@@ -131,7 +132,7 @@ impl Dac {
         self.index
     }
 
-    /// Goes on to the next component, and after blue to the next entry; after 255 that is 0.
+    /// Moves on to the next component, and after blue to the next entry. Entry 0 follows entry 255.
     fn go_on(&mut self)
         ensures { self.new ≡ after_read self.old }
     {
@@ -141,8 +142,8 @@ impl Dac {
         self.component = self.component.next();
     }
 
-    /// Writes the next component, of which six bits are kept. Red and green wait; blue stores all
-    /// three in the entry of the index.
+    /// Writes the next component and keeps six bits of it. Red and green wait. Blue stores all
+    /// three in the entry that the index selects.
     #[tactic(auto, using(crate::proofs::SavedLemmas::small_set, crate::proofs::SavedLemmas::small_and, crate::proofs::EntryLemmas::entries_set))]
     pub fn write_component(&mut self, v: u8)
         ensures { self.new ≡ after_write self.old v }
@@ -162,7 +163,7 @@ impl Dac {
         self.go_on();
     }
 
-    /// Reads the next component of the entry of the index.
+    /// Reads the next component of the entry that the index selects.
     pub fn read_component(&mut self) -> u8
         ensures value { result ≡ read_value self.old }
         ensures after { self.new ≡ after_read self.old }
@@ -177,7 +178,7 @@ impl Dac {
         value
     }
 
-    /// Sets the mask that each colour's number passes on its way to an entry.
+    /// Sets the mask, which is ANDed with each colour number to select an entry.
     pub fn set_mask(&mut self, v: u8)
         ensures { self.new ≡ record self.old { mask = v } }
     {
@@ -199,8 +200,8 @@ impl Dac {
         [self.reds[at], self.greens[at], self.blues[at]]
     }
 
-    /// Red, green and blue of entry `i`, and a byte 0 more: four bytes are moved at once, three are
-    /// not.
+    /// Red, green and blue of entry `i`, and one more byte, 0. Four bytes are moved at once, three
+    /// are not.
     pub fn padded_entry(&self, i: u8) -> [u8; 4]
         ensures { result ≡ entry_of self.now i ++ 0 ∷ [] }
     {

@@ -1,5 +1,5 @@
-//! The digital-to-analogue converter: 256 colours, and the sequence of bytes by which they are
-//! written and read.
+//! The digital-to-analogue converter: 256 colours, and the sequence of bytes that writes and reads
+//! them.
 #![tactic(auto)]
 
 pub mod component;

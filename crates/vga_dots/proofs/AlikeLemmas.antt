@@ -5,9 +5,9 @@ use Rattle.vga_bits.specs.Bits.{field}
 use Rattle.vga_dots.specs.declared.text.Cell.{Cell}
 use Rattle.vga_dots.specs.Text.{text_nibble, is_foreground, is_cursor_at, is_blinked_away, is_underlined, is_glyph_dot, glyph_row, background}
 use Rattle.vga_dots.specs.Display.{DisplayState, ShowsText}
-use Rattle.vga_dots.specs.Line.{shade, dot_of, source_colour}
+use Rattle.vga_dots.specs.Line.{colour_by_palette, dot_of, source_colour}
 use Rattle.vga_dots.specs.Row.{dot_in, AreDotsPut, AreCharactersPut}
-use Rattle.vga_dots.specs.Alike.{HasCell}
+use Rattle.vga_dots.specs.Alike.{HasPlainCell}
 use Rattle.vga_dots.proofs.CharacterLemmas.{cell, text_shown}
 use Rattle.vga_dots.proofs.RowLemmas.{dot_byte}
 
@@ -23,13 +23,13 @@ module _ (d : DisplayState) (i : ℕ) where
   unfolding text_nibble is_foreground
   nibble_is n = refl
 
-  nibble_of_cell : (n : ℕ) (c : Cell) → HasCell d n c → text_nibble d.host d.crtc d.attr (dot_of n i) ≡ nibble_by false c
+  nibble_of_cell : (n : ℕ) (c : Cell) → HasPlainCell d n c → text_nibble d.host d.crtc d.attr (dot_of n i) ≡ nibble_by false c
   nibble_of_cell n c has = nibble_is n ∙ ap (λ v. nibble_by v (cell d n)) has.plain ∙ ap (nibble_by false) has.cell
 
   -- two counters with one cell, and no cursor, look alike
-  pub one_look : (n m : ℕ) (c : Cell) → ShowsText d → HasCell d n c → HasCell d m c → source_colour d (dot_of n i) ≡ source_colour d (dot_of m i)
+  pub one_look : (n m : ℕ) (c : Cell) → ShowsText d → HasPlainCell d n c → HasPlainCell d m c → source_colour d (dot_of n i) ≡ source_colour d (dot_of m i)
   one_look n m c shows one other =
-      sym (text_shown d n i shows) ∙ ap (shade d.attr d.dac) (nibble_of_cell n c one ∙ sym (nibble_of_cell m c other)) ∙ text_shown d m i shows
+      sym (text_shown d n i shows) ∙ ap (colour_by_palette d.attr d.dac) (nibble_of_cell n c one ∙ sym (nibble_of_cell m c other)) ∙ text_shown d m i shows
 
 -- dots that are put again are those of a character that looks alike
 pub again : (cw n drawn x : ℕ) (f : ℕ → ℕ → List ℕ) (old row blank dots row0 row1 : List ℕ) → n < drawn → AreCharactersPut cw drawn f old row

@@ -23,11 +23,11 @@ use Rattle.vga_dots.specs.Text.{text_nibble, cell_at, background, is_foreground,
 use Rattle.vga_dots.specs.Graphics.{plane_bits, planar_nibble, packed_byte}
 use Rattle.vga_dots.specs.Row.{nibble_of, padded_colour}
 use Rattle.vga_dots.specs.Display.{DisplayState, ShowsText, ShowsPlanes, ShowsBytes}
-use Rattle.vga_dots.specs.Line.{masked_colour, shade, padded_shade, shades_of, dot_of, source_colour}
+use Rattle.vga_dots.specs.Line.{masked_colour, colour_by_palette, padded_colour_by_palette, colours_by_palette, dot_of, source_colour}
 use Rattle.vga_dots.proofs.RowLemmas.{padded_byte}
 
-pub shades_at : (a : AttrState) (d : DacState) (n : ℕ) → n < 16 → slice_index_or (shades_of a d) n [] ≡ padded_shade a d n
-unfolding shades_of
+pub shades_at : (a : AttrState) (d : DacState) (n : ℕ) → n < 16 → slice_index_or (colours_by_palette a d) n [] ≡ padded_colour_by_palette a d n
+unfolding colours_by_palette
 shades_at a d zero l = refl
 shades_at a d (suc zero) l = refl
 shades_at a d (suc (suc zero)) l = refl
@@ -131,8 +131,8 @@ pick off shown packed graphics x1 x2 x3 x4 x5 = if off then x1 else if not shown
 module _ (d : DisplayState) (s : SourceDot) where
   abbrev shown_by : Bool → Bool → List ℕ
   shown_by off shown = pick off shown (is_256_colours d.host) (is_graphics d.host) (0 ∷ 0 ∷ 0 ∷ []) (masked_colour d.dac (overscan d.attr))
-      (masked_colour d.dac (packed_byte d.host d.crtc s)) (shade d.attr d.dac (planar_nibble d.host d.crtc s))
-      (shade d.attr d.dac (text_nibble d.host d.crtc d.attr s))
+      (masked_colour d.dac (packed_byte d.host d.crtc s)) (colour_by_palette d.attr d.dac (planar_nibble d.host d.crtc s))
+      (colour_by_palette d.attr d.dac (text_nibble d.host d.crtc d.attr s))
 
   pub off_colour : is_screen_off d.host ≡ true → 0 ∷ 0 ∷ 0 ∷ [] ≡ source_colour d s
   unfolding source_colour
@@ -153,10 +153,10 @@ module _ (d : DisplayState) (counter : ℕ) where
   packed_colour i = masked_colour d.dac (packed_byte d.host d.crtc (dot_of counter i))
 
   abbrev planar_colour : ℕ → List ℕ
-  planar_colour i = shade d.attr d.dac (planar_nibble d.host d.crtc (dot_of counter i))
+  planar_colour i = colour_by_palette d.attr d.dac (planar_nibble d.host d.crtc (dot_of counter i))
 
   abbrev text_colour : ℕ → List ℕ
-  text_colour i = shade d.attr d.dac (text_nibble d.host d.crtc d.attr (dot_of counter i))
+  text_colour i = colour_by_palette d.attr d.dac (text_nibble d.host d.crtc d.attr (dot_of counter i))
 
   abbrev colour_by : ℕ → Bool → Bool → Bool → Bool → List ℕ
   colour_by i off shown packed graphics = pick off shown packed graphics (0 ∷ 0 ∷ 0 ∷ []) overscanned (packed_colour i) (planar_colour i) (text_colour i)
@@ -198,36 +198,36 @@ module _ (d : DisplayState) (counter : ℕ) where
   -- ---- 16 colours
 
   -- the bits of a word are those of the planes, looked up in the table
-  pub planar_dot : (table : List (List ℕ)) (word i j : ℕ) → j < 3 → table ≡ shades_of d.attr d.dac → ShowsPlanes d
+  pub planar_dot : (table : List (List ℕ)) (word i j : ℕ) → j < 3 → table ≡ colours_by_palette d.attr d.dac → ShowsPlanes d
       → bytes_of word ≡ bytes_at d.host.memory place
       → slice_index (slice_index_or table (if nat_lt i 8 then nibble_of word (7 - i) else 0) []) j ≡ slice_index (source_colour d (dot_of counter i)) j
   unfolding planar_nibble
   planar_dot table word i j within is shows e =
       let n = planar_nibble d.host d.crtc (dot_of counter i) in
       ap (λ c. slice_index c j) (ap (λ t. slice_index_or t (if nat_lt i 8 then nibble_of word (7 - i) else 0) []) is
-      ∙ ap (λ m. slice_index_or (shades_of d.attr d.dac) (if nat_lt i 8 then m else 0) []) (bits_are d.host place (7 - i) word (omega arith) e)
+      ∙ ap (λ m. slice_index_or (colours_by_palette d.attr d.dac) (if nat_lt i 8 then m else 0) []) (bits_are d.host place (7 - i) word (omega arith) e)
       ∙ shades_at d.attr d.dac n (small_if (nat_lt i 8) _ (bits_small d.host place (7 - i))))
-      ∙ padded_byte (shade d.attr d.dac n) j within ∙ ap (λ c. slice_index c j) (planar_shown i shows)
+      ∙ padded_byte (colour_by_palette d.attr d.dac n) j within ∙ ap (λ c. slice_index c j) (planar_shown i shows)
 
   -- ---- text
 
   abbrev pub cell : Cell
   cell = cell_at d.host place
 
-  shade_if : (v : Bool) (n m : ℕ) → (if v then shade d.attr d.dac n else shade d.attr d.dac m) ≡ shade d.attr d.dac (if v then n else m)
+  shade_if : (v : Bool) (n m : ℕ) → (if v then colour_by_palette d.attr d.dac n else colour_by_palette d.attr d.dac m) ≡ colour_by_palette d.attr d.dac (if v then n else m)
   shade_if true n m = refl
   shade_if false n m = refl
 
   -- a dot has the foreground or the background of its cell
   pub text_dot : (fore back : List ℕ) (lit : Bool) (i : ℕ) → ShowsText d
-      → fore ≡ shade d.attr d.dac (field cell.attribute 3 0) → back ≡ shade d.attr d.dac (background d.attr cell) →
+      → fore ≡ colour_by_palette d.attr d.dac (field cell.attribute 3 0) → back ≡ colour_by_palette d.attr d.dac (background d.attr cell) →
       lit ≡ is_foreground d.host d.crtc d.attr (dot_of counter i) cell
       → (if lit then fore else back) ≡ source_colour d (dot_of counter i)
   unfolding text_nibble
   text_dot fore back lit i shows is_fore is_back is_lit =
       ap (λ v. if v then fore else back) is_lit
       ∙ ap (λ x. if is_foreground d.host d.crtc d.attr (dot_of counter i) cell then x else back) is_fore
-      ∙ ap (λ x. if is_foreground d.host d.crtc d.attr (dot_of counter i) cell then shade d.attr d.dac (field cell.attribute 3 0) else x) is_back
+      ∙ ap (λ x. if is_foreground d.host d.crtc d.attr (dot_of counter i) cell then colour_by_palette d.attr d.dac (field cell.attribute 3 0) else x) is_back
       ∙ shade_if (is_foreground d.host d.crtc d.attr (dot_of counter i) cell) (field cell.attribute 3 0) (background d.attr cell)
       ∙ text_shown i shows
 

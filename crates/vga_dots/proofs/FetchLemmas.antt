@@ -1,4 +1,5 @@
--- A dot's colour tells nothing of the memory but what the dot fetches.
+-- A dot's colour depends on nothing of the memory except what the dot fetches and, in text, the
+-- glyphs.
 use Rattle.std.proofs.Common.{◌≡◌, ℕ, ◌/◌, ◌<◌, refl, ap, ◌∙◌, arith, Bool, true, false, List, [], ◌∷◌}
 use Rattle.std.specs.Prelude.{nat_lt, not, if◌then◌else◌, bit_and, ◌+◌, ◌*◌, ◌-◌}
 use Rattle.std.specs.Int.{bit_at}

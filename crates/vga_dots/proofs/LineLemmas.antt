@@ -18,14 +18,14 @@ use Rattle.vga_dots.specs.Graphics.{planar_nibble, packed_byte}
 use Rattle.vga_dots.specs.Colour.{dot_colour, colour_number, nibble}
 use Rattle.vga_dots.specs.Row.{dot_in, AreDotsPut, AreCharactersPut}
 use Rattle.vga_dots.specs.Display.{DisplayState}
-use Rattle.vga_dots.specs.Line.{placed, masked_colour, shade, dot_of, source_colour, unpanned_colour, IsLineDrawn, IsPartDrawn}
+use Rattle.vga_dots.specs.Line.{placed, masked_colour, colour_by_palette, dot_of, source_colour, unpanned_colour, IsLineDrawn, IsPartDrawn}
 use Rattle.vga_dots.proofs.RowLemmas.{dot_byte}
 
 -- a choice of numbers is one of colours
 distribute : (off hidden packed graphics : Bool) (a : AttrState) (d : DacState) (n1 n2 n3 n4 : ℕ)
     → (if off then 0 ∷ 0 ∷ 0 ∷ [] else masked_colour d (if hidden then n1 else if packed then n2 else colour_index a (if graphics then n3 else n4)))
-    ≡ (if off then 0 ∷ 0 ∷ 0 ∷ [] else if hidden then masked_colour d n1 else if packed then masked_colour d n2 else if graphics then shade a d n3 else shade a d n4)
-unfolding shade
+    ≡ (if off then 0 ∷ 0 ∷ 0 ∷ [] else if hidden then masked_colour d n1 else if packed then masked_colour d n2 else if graphics then colour_by_palette a d n3 else colour_by_palette a d n4)
+unfolding colour_by_palette
 distribute true p m g a d n1 n2 n3 n4 = refl
 distribute false true m g a d n1 n2 n3 n4 = refl
 distribute false false true g a d n1 n2 n3 n4 = refl

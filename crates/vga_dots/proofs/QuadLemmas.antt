@@ -75,7 +75,7 @@ high_mask n p few within =
 
 -- ---- the dots
 
--- some dots, and some more behind them
+-- some dots, and some more after them
 pub dots_joined : (n m at : ℕ) (f g : ℕ → List ℕ) (row0 row1 row2 : List ℕ) → AreDotsPut n at f row0 row1 → AreDotsPut m (at + n) g row1 row2
     → ((i : ℕ) → i < m → g i ≡ f (n + i)) → AreDotsPut (n + m) at f row0 row2
 dots_joined n m at f g row0 row1 row2 before now same = record {

@@ -1,4 +1,4 @@
--- In graphics a dot's colour tells nothing of the scan line.
+-- In graphics a dot's colour does not depend on the scan line.
 use Rattle.std.proofs.Common.{◌≡◌, ℕ, sym, ap, ◌∙◌, Bool, true, [], ◌∷◌}
 use Rattle.std.specs.Prelude.{not, if◌then◌else◌, bit_and}
 use Rattle.vga_host.specs.Host.{HostState}

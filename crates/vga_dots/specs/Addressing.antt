@@ -5,8 +5,8 @@ use Rattle.std.specs.Prelude.{ℕ, List, if◌then◌else◌}
 use Rattle.vga_crtc.specs.Fields.{is_double_word, is_byte_mode, is_address_wrap}
 use Rattle.vga_dots.specs.declared.addressing.Addressing.{Addressing}
 
--- by how much a counter is multiplied, and which of its bits is added: 16, which none has, where
--- double words or bytes are addressed
+-- By how much a counter is multiplied, and which of its bits is added. Where double words or bytes
+-- are addressed no bit is added: a counter has no bit 16.
 unfoldable pub addressing_of : List ℕ → Addressing
 addressing_of r =
     if is_double_word r then record { step = 4; bit = 16 }

@@ -31,13 +31,13 @@ pub record ShowsText (display : DisplayState) : Type 0 where
   pub few : is_256_colours display.host ≡ false
   pub text : is_graphics display.host ≡ false
 
--- it is shown as dots of 16 colours, of which each plane has a bit
+-- it is shown as dots of 16 colours: each plane has one bit of a dot
 pub record ShowsPlanes (display : DisplayState) : Type 0 where
   pub memory : ShowsMemory display
   pub few : is_256_colours display.host ≡ false
   pub graphics : is_graphics display.host ≡ true
 
--- it is shown as dots of 256 colours, of which each two have a byte
+-- it is shown as dots of 256 colours: each byte is two dots
 pub record ShowsBytes (display : DisplayState) : Type 0 where
   pub memory : ShowsMemory display
   pub many : is_256_colours display.host ≡ true

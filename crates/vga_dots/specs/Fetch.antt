@@ -1,5 +1,5 @@
--- What the dot at the beam sees of the memory: a byte of each plane at one place, and in text a
--- glyph of plane 2.
+-- What the dot at the beam sees of the memory: one byte of each plane at one address and, in text,
+-- a glyph of plane 2.
 -- From the IBM PS/2 Hardware Interface Technical Reference, Video Subsystems, "Alphanumeric Modes"
 -- and "All Points Addressable Modes".
 use Rattle.std.specs.Prelude.{◌≡◌, ℕ, ◌<◌, false, List}
@@ -11,11 +11,11 @@ use Rattle.vga_crtc.specs.Crtc.{CrtcState}
 use Rattle.vga_attr.specs.Attr.{AttrState}
 use Rattle.vga_dots.specs.SourceDot.{source_dot, fetch_address}
 
--- the place in each plane that the dot at the beam fetches
+-- the address in each plane that the dot at the beam fetches
 abbrev pub fetched_at : HostState → CrtcState → AttrState → ℕ
 fetched_at h c a = fetch_address c.registers (source_dot h c a).counter
 
--- another memory has the same bytes where the dot at the beam fetches them, and in text the same
+-- another memory has the same bytes where the dot at the beam fetches them and, in text, the same
 -- glyphs
 pub record IsSeenAlike (h : HostState) (c : CrtcState) (a : AttrState) (memory : Four (List ℕ)) : Type 0 where
   pub fetched : (p : ℕ) → p < 4 →

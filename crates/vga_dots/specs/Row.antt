@@ -7,7 +7,7 @@ abbrev pub dot_in : List ℕ → ℕ → List ℕ
 dot_in row n = slice_index row (3 * n) ∷ slice_index row (3 * n + 1) ∷ slice_index row (3 * n + 2)
     ∷ []
 
--- bit i of each plane of a word, the first plane lowest
+-- bit i of each plane of a word, with plane 0 as the lowest bit
 abbrev pub nibble_of : ℕ → ℕ → ℕ
 nibble_of word i = word_bit word 0 i + 2 * word_bit word 1 i + 4 * word_bit word 2 i
     + 8 * word_bit word 3 i
@@ -21,14 +21,14 @@ pub record IsDotPut (old new : List ℕ) (at : ℕ) (colour : List ℕ) : Type 0
   pub inside : (j : ℕ) → j < 3 → slice_index new (3 * at + j) ≡ slice_index colour j
   pub outside : (k : ℕ) → (k < 3 * at) ⊎ (3 * at + 3 ≤ k) → slice_index new k ≡ slice_index old k
 
--- dot i of a character has this colour, and all bytes before it and behind the character stay
+-- dot i of a character has this colour, and all bytes before the dot and after the character stay
 pub record IsNextPut (cw at i : ℕ) (colour old new : List ℕ) : Type 0 where
   pub inside : (j : ℕ) → j < 3 → slice_index new (3 * (at + i) + j) ≡ slice_index colour j
   pub outside : (k : ℕ) → (k < 3 * (at + i)) ⊎ (3 * (at + cw) ≤ k) →
       slice_index new k ≡ slice_index old k
 
--- the first n dots of a character have the colours f 0, f 1, .., and all bytes before the character
--- and behind it stay
+-- the first n dots of a character have the colours f 0, f 1, .., and all bytes before and after the
+-- character stay the same
 pub record AreFirstPut (cw n at : ℕ) (f : ℕ → List ℕ) (old new : List ℕ) : Type 0 where
   pub inside : (i j : ℕ) → i < n → j < 3 → slice_index new (3 * (at + i) + j) ≡ slice_index (f i) j
   pub outside : (k : ℕ) → (k < 3 * at) ⊎ (3 * (at + cw) ≤ k) → slice_index new k ≡ slice_index old k

@@ -14,10 +14,11 @@ use Rattle.vga_attr.specs.Fields.{is_monochrome, is_line_graphics, is_blink}
 use Rattle.vga_dots.specs.declared.text_line.TextLine.{TextLine}
 use Rattle.vga_dots.specs.Text.{map_start}
 
--- what the registers and the beam's line and frame tell of every character: where this line has the
--- cursor, which bit of an attribute blinks away, what its bits 0x77 are where it is underlined
--- here, where the glyphs' rows begin, which 32 characters have a ninth dot, and which bits the
--- background has; 65536 is no counter, 0xFF is no bits 0x77, and 8 is no block of 32 characters
+-- What the registers and the beam's line and frame say of every character: where this line has the
+-- cursor, which bit of an attribute blinks away, which value of attribute bits 0x77 is underlined
+-- here, where the glyphs' rows begin, which block of 32 characters has a ninth dot, and which bits
+-- the background has. 65536 is no counter, bits 0x77 are never 0xFF, and no block of 32 characters
+-- is 8.
 unfoldable pub text_line : HostState → CrtcState → AttrState → TextLine
 text_line h c a = record {
   cursor = if not (is_cursor_off c.registers) && nat_le (cursor_start c.registers) c.beam.scan

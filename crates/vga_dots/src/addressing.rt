@@ -1,5 +1,5 @@
-//! Where characters are fetched, apart for speed alone: what the registers say of every address is
-//! looked up once for a line.
+//! Where characters are fetched. This file serves speed alone: what the registers say of every
+//! address is looked up once for a line.
 ghost use Rattle.std.specs.Prelude.{◌≡◌, ◌<◌, ◌≤◌, true, ℕ, List};
 ghost use Rattle.vga_host.specs.Host.{HostState};
 ghost use Rattle.vga_crtc.specs.Fields.{horizontal_display_end};
@@ -17,14 +17,14 @@ const NO_BIT: u32 = 16;
 /// What the registers say of every fetch address.
 #[derive(Clone, Copy)]
 pub(crate) struct Addressing {
-    /// By how many places in each plane a counter's are apart.
+    /// How far apart in each plane the addresses of two adjacent counters are.
     step: u16,
     /// Which bit of a counter is added.
     bit: u32,
 }
 
 impl Addressing {
-    /// That of some registers.
+    /// The addressing that some registers select.
     #[tactic(auto, unfolding(crate::specs::Addressing::addressing_of))]
     pub(crate) fn new(registers: &Registers) -> Addressing
         ensures { result ≡ addressing_of registers.now }
@@ -46,7 +46,7 @@ impl Addressing {
         }
     }
 
-    /// The place in each plane that a counter addresses.
+    /// The address in each plane that a counter selects.
     #[inline(always)]
     pub(crate) fn address(self, counter: u16) -> u16
         requires { self.bit < 32 }
@@ -58,8 +58,8 @@ impl Addressing {
     }
 }
 
-/// Whether no displayed dot of the beam's line fetches an offset. The start of the frame must have
-/// been taken. An offset that is near those that are fetched may count as one of them.
+/// True only if no displayed dot of the beam's line fetches an offset. The start of the frame must
+/// have been taken. An offset near the fetched ones may count as fetched.
 #[tactic(auto, unfolding(crate::specs::Addressing::addressing_of))]
 pub fn is_apart(crtc: &Crtc, offset: u16) -> bool
     ensures { result ≡ true → (h : HostState) (a : AttrState) (x k : ℕ) →

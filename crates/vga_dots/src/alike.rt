@@ -1,12 +1,12 @@
-//! The end of a line of text that looks alike, as most lines have one: this file serves speed
-//! alone, for each of its characters could be drawn by itself.
+//! The end of a line of text in which all characters look alike. Most lines have such an end. This
+//! file serves speed alone: each of these characters could be drawn by itself.
 ghost use Rattle.std.specs.Prelude.{◌≡◌, ℕ, List, ◌+◌, ◌-◌, ◌*◌, ◌<◌, ◌≤◌, length};
 ghost use Rattle.vga_dots.specs.SourceDot.{counter_of};
 ghost use Rattle.vga_dots.specs.Character.{DrawsText};
 ghost use Rattle.vga_dots.specs.Display.{ShowsText};
 ghost use Rattle.vga_dots.specs.Line.{unpanned_colour};
 ghost use Rattle.vga_dots.specs.Row.{dot_in, AreDotsPut, AreCharactersPut};
-ghost use Rattle.vga_dots.specs.Alike.{HasCell, AreAlike};
+ghost use Rattle.vga_dots.specs.Alike.{HasPlainCell, RepeatTheOneBefore};
 
 use crate::character::TextCharacters;
 use crate::display::Display;
@@ -15,8 +15,8 @@ use crate::row::copy_dots;
 /// How many bytes the dots of a character have at most.
 const CHARACTER_BYTES: usize = 27;
 
-/// How many characters of a line of text are to be drawn: each behind them looks as the last of
-/// these does.
+/// How many of the `count` characters of text from `first` on must be drawn. Each character after
+/// these looks like the last that is drawn.
 pub(crate) fn characters_to_draw(
     display: &Display<'_>,
     characters: &TextCharacters,
@@ -29,19 +29,19 @@ pub(crate) fn characters_to_draw(
     requires count { count ≤ 257 }
     ensures some { 0 < result }
     ensures few { result ≤ count }
-    ensures alike { AreAlike result count (λ x. unpanned_colour display.now (first + x)) }
+    ensures alike { RepeatTheOneBefore result count (λ x. unpanned_colour display.now (first + x)) }
 {
     let last = characters.cell(display, display.counter((first + count - 1) as u16));
     let mut drawn = count;
     while 0 < drawn
-        && characters.has_cell(display, display.counter((first + drawn - 1) as u16), last)
+        && characters.has_plain_cell(display, display.counter((first + drawn - 1) as u16), last)
     {
         drawn -= 1;
     }
     (drawn + 1).min(count)
 }
 
-/// Writes the dots of a character as others are.
+/// Writes a character's dots, given in `dots`, into the row from dot `at` on.
 fn put_again<const CW: usize>(row: &mut [u8], at: usize, dots: &[u8; 27])
     requires room { 3 * (at + CW) ≤ length row.old }
     requires width { CW < 10 }
@@ -50,8 +50,8 @@ fn put_again<const CW: usize>(row: &mut [u8], at: usize, dots: &[u8; 27])
     row[3 * at..3 * (at + CW)].copy_from_slice(&dots[..3 * CW]);
 }
 
-/// Gives the characters behind the first ones, up to so many in all, the dots of the last of these:
-/// of any picture in which they are alike, they are drawn then.
+/// Copies the dots of character `drawn - 1` to each character after it, up to `count` in all. In
+/// any picture in which these characters look alike, they are drawn then.
 pub(crate) fn repeat_last<const CW: usize>(row: &mut [u8], drawn: usize, count: usize)
     requires some { 0 < drawn }
     requires more { drawn ≤ count }
@@ -59,7 +59,7 @@ pub(crate) fn repeat_last<const CW: usize>(row: &mut [u8], drawn: usize, count: 
     requires width { CW < 10 }
     requires room { 3 * (count * CW) ≤ length row.old }
     ensures { (f : ℕ → ℕ → List ℕ) (old : List ℕ) → AreCharactersPut CW drawn f old row.old
-        → AreAlike drawn count f → AreCharactersPut CW count f old row.new }
+        → RepeatTheOneBefore drawn count f → AreCharactersPut CW count f old row.new }
 {
     let mut dots = [0; CHARACTER_BYTES];
     copy_dots(&mut dots, row, (drawn - 1) * CW, CW);

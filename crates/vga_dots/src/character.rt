@@ -1,4 +1,5 @@
-//! The characters of a line, each in the way of what is shown: what is fetched is fetched once.
+//! The characters of a line in text, 16 colours and 256 colours. What a character needs is fetched
+//! once for all its dots.
 ghost use Rattle.std.specs.Prelude.{◌≡◌, true, ℕ, ◌+◌, ◌-◌, ◌*◌, ◌<◌, ◌≤◌, length};
 ghost use Rattle.std.specs.Prelude.{if◌then◌else◌};
 ghost use Rattle.vga_bits.specs.Bits.{is_set};
@@ -7,18 +8,18 @@ ghost use Rattle.vga_dots.specs.Text.{is_glyph_dot as is_dot_of_glyph, is_foregr
 ghost use Rattle.vga_dots.specs.Text.{cell_at as cell_at_place};
 ghost use Rattle.vga_dots.specs.TextLine.{text_line, HasGlyphs};
 ghost use Rattle.vga_dots.specs.Row.{AreDotsPut, padded_colour as padded_colour_of};
-ghost use Rattle.vga_dots.specs.Line.{masked_colour as masked_colour_of, shade, shades_of, dot_of};
+ghost use Rattle.vga_dots.specs.Line.{masked_colour as masked_colour_of, colour_by_palette, colours_by_palette as colours_by_palette_of, dot_of};
 ghost use Rattle.vga_dots.specs.Line.{source_colour};
 ghost use Rattle.vga_dots.specs.Quads.{IsQuad};
 ghost use Rattle.vga_dots.specs.SourceDot.{fetch_address};
 ghost use Rattle.vga_dots.specs.Character.{HasColours};
 ghost use Rattle.vga_dots.specs.Display.{ShowsText, ShowsPlanes};
-ghost use Rattle.vga_dots.specs.Alike.{HasCell};
+ghost use Rattle.vga_dots.specs.Alike.{HasPlainCell};
 
 use crate::addressing::Addressing;
 use crate::display::Display;
 use crate::quads::{Quad, put_glyph};
-use crate::row::{Shades, put_pixels, put_planes};
+use crate::row::{PaletteColours, put_pixels, put_planes};
 use crate::text::{Cell, GLYPHS, cell_at};
 use crate::text_line::TextLine;
 use vga_attr::Attr;
@@ -41,9 +42,9 @@ fn padded_colour(dac: &Dac, n: u8) -> [u8; 4]
     dac.padded_entry(n & dac.mask())
 }
 
-/// The colours of the 16 numbers that four bits have, each with a byte more.
-fn shades(attr: &Attr, dac: &Dac) -> Shades
-    ensures { result ≡ shades_of attr.now dac.now }
+/// The colours of the 16 values of four bits, each with a byte more.
+fn colours_by_palette(attr: &Attr, dac: &Dac) -> PaletteColours
+    ensures { result ≡ colours_by_palette_of attr.now dac.now }
 {
     let numbers = attr.table();
     [
@@ -67,14 +68,14 @@ fn shades(attr: &Attr, dac: &Dac) -> Shades
 }
 
 /// Four dots of the colour of four bits.
-#[tactic(auto, unfolding(crate::specs::Line::shade))]
+#[tactic(auto, unfolding(crate::specs::Line::colour_by_palette))]
 fn quad_of(display: &Display<'_>, n: u8) -> Quad
-    ensures { IsQuad result (shade display.now.attr display.now.dac n) }
+    ensures { IsQuad result (colour_by_palette display.now.attr display.now.dac n) }
 {
     Quad::of(masked_colour(display.dac(), display.attr().colour_index(n)))
 }
 
-/// The dots of a line of a glyph, of which bit 8 is the leftmost.
+/// The dots of one line of a glyph, as bits. Bit 8 is the leftmost dot.
 #[inline(always)]
 fn glyph_dots(attr: &Attr, line: &TextLine, character: u8, row: u8) -> u16
     requires line { line.now.nine_dot_block ≡ (if is_line_graphics attr.now then 6 else 8) }
@@ -85,7 +86,7 @@ fn glyph_dots(attr: &Attr, line: &TextLine, character: u8, row: u8) -> u16
     2 * row as u16 + line.ninth_dot(character, row) as u16
 }
 
-/// The dots of a counter's cell that have its foreground, of which bit 8 is the leftmost.
+/// The dots of a counter's cell that have its foreground, as bits. Bit 8 is the leftmost dot.
 #[inline(always)]
 fn lit_dots(display: &Display<'_>, line: &TextLine, counter: u16, cell: Cell) -> u16
     requires line { line.now ≡ text_line display.now.host display.now.crtc display.now.attr }
@@ -160,11 +161,11 @@ impl TextCharacters {
         cell_at(display.host(), self.addressing.address(counter))
     }
 
-    /// Whether a counter has a cell, and no cursor.
+    /// Whether a counter has this cell, and no cursor.
     #[inline(always)]
-    pub(crate) fn has_cell(&self, display: &Display<'_>, counter: u16, cell: Cell) -> bool
+    pub(crate) fn has_plain_cell(&self, display: &Display<'_>, counter: u16, cell: Cell) -> bool
         requires { DrawsText self.now display.now }
-        ensures { result ≡ true → HasCell display.now counter cell }
+        ensures { result ≡ true → HasPlainCell display.now counter cell }
     {
         self.cell(display, counter).is_same(cell) && !self.line.has_cursor_at(counter)
     }
@@ -182,7 +183,7 @@ impl TextCharacters {
         }
     }
 
-    /// Writes the dots of a counter's character, which has a cell with these colours.
+    /// Writes the dots of a counter's character. It has this cell, with these colours.
     #[inline(always)]
     pub(crate) fn put<const CW: usize>(
         &self,
@@ -213,7 +214,7 @@ impl TextCharacters {
 #[derive(Drop)]
 pub(crate) struct PlanarCharacters {
     addressing: Addressing,
-    table: Shades,
+    table: PaletteColours,
 }
 
 impl PlanarCharacters {
@@ -227,7 +228,7 @@ impl PlanarCharacters {
     {
         PlanarCharacters {
             addressing: Addressing::new(display.crtc().fields()),
-            table: shades(display.attr(), display.dac()),
+            table: colours_by_palette(display.attr(), display.dac()),
         }
     }
 }

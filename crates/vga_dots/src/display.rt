@@ -1,4 +1,4 @@
-//! What a picture is drawn from.
+//! The parts of an adapter that a picture is drawn from.
 ghost use Rattle.std.specs.Prelude.{◌≡◌};
 ghost use Rattle.vga_crtc.specs.Beam.{IsBeam};
 ghost use Rattle.vga_dots.specs.Display.{display_of};
@@ -37,7 +37,7 @@ impl<'a> Model for Display<'a> {
 }
 
 impl<'a> Display<'a> {
-    /// The parts together.
+    /// Borrows the four parts as one display.
     pub fn new(host: &'a Host, crtc: &'a Crtc, attr: &'a Attr, dac: &'a Dac) -> Display<'a>
         ensures { result ≡ display_of host.now crtc.now attr.now dac.now }
     {
@@ -100,7 +100,7 @@ impl<'a> Display<'a> {
         self.beam().base.wrapping_add(character)
     }
 
-    /// The place in each plane that a counter addresses.
+    /// The address in each plane that a counter selects.
     pub(crate) fn fetch_address(&self, counter: u16) -> u16
         ensures { result ≡ fetch_address_of self.now.crtc.registers counter }
     {

@@ -1,4 +1,4 @@
-//! Graphics: the four bits, or the byte, of a dot from the planes.
+//! Graphics: from the planes to the four bits, or the byte, of a dot.
 ghost use Rattle.std.specs.Prelude.{◌≡◌, ◌<◌};
 ghost use Rattle.std.specs.Int.{bit_at};
 ghost use Rattle.vga_dots.specs.Graphics.{plane_bits as bits_of_planes};
@@ -18,7 +18,7 @@ pub(crate) fn bit(byte: u8, i: u8) -> u8
     (byte >> i) & 1
 }
 
-/// Bit `i`, 0 to 7, of each plane's byte at a place, plane 0 lowest.
+/// Bit `i`, 0 to 7, of each plane's byte at an address, with plane 0 as the lowest bit.
 #[tactic(auto, unfolding(crate::specs::Graphics::plane_bits))]
 fn plane_bits(host: &Host, address: u16, i: u8) -> u8
     requires { i < 8 }

@@ -1,5 +1,5 @@
-//! Laws of dots, for those who build on them. Each function has an empty body: its clauses are the
-//! law.
+//! Laws of dots, for crates that build on them. Each function has an empty body: its clauses are
+//! the law.
 ghost use Rattle.std.specs.Prelude.{◌≡◌, ℕ, List, true};
 ghost use Rattle.vga_bits.specs.Four.{Four};
 ghost use Rattle.vga_host.specs.Host.{HostState};
@@ -12,9 +12,10 @@ ghost use Rattle.vga_dots.specs.Colour.{dot_colour};
 ghost use Rattle.vga_dots.specs.Fetch.{IsSeenAlike};
 ghost use Rattle.vga_dots.specs.Line.{placed};
 ghost use Rattle.vga_dots.specs.Repeat.{IsSameFetch};
+ghost use Rattle.vga_dots.specs.Seen.{AreSeenAlike};
 
-/// In graphics two lines that begin at the same counter, with line compare reached before both or
-/// before neither, have the same colours: no dot tells the scan line that it is of.
+/// In graphics, two lines have the same colours if they begin at the same counter and line compare
+/// was reached before both or before neither. No colour depends on the scan line.
 #[tactic(auto, using(crate::proofs::RepeatLemmas::same_colour))]
 pub fn graphics_lines_repeat()
     ensures { (h : HostState) (c : CrtcState) (b : Beam) (a : AttrState) (d : DacState) (x k : ℕ) →
@@ -22,11 +23,18 @@ pub fn graphics_lines_repeat()
         dot_colour h (placed (record c { beam = b }) x k) a d ≡ dot_colour h (placed c x k) a d }
 {}
 
-/// A dot's colour depends on no byte of the memory but those that the dot fetches, and in text on
-/// the glyphs.
+/// A dot's colour depends only on the bytes of memory that the dot fetches and, in text, on the
+/// glyphs.
 #[tactic(auto, using(crate::proofs::FetchLemmas::same_colour))]
 pub fn dots_see_what_they_fetch()
     ensures { (h : HostState) (c : CrtcState) (a : AttrState) (d : DacState)
         (memory : Four (List ℕ)) → IsSeenAlike h c a memory →
         dot_colour (record h { memory = memory }) c a d ≡ dot_colour h c a d }
+{}
+
+/// A dot's colour depends on no latch and no index, and on only four registers of the host path.
+#[tactic(auto, using(crate::proofs::SeenLemmas::colour_alike))]
+pub fn dots_see_four_registers()
+    ensures { (h other : HostState) (c : CrtcState) (a : AttrState) (d : DacState) →
+        AreSeenAlike h other → dot_colour other c a d ≡ dot_colour h c a d }
 {}

@@ -21,7 +21,8 @@ use vga_crtc::{Crtc, Registers};
 use vga_dac::Dac;
 use vga_host::Host;
 
-/// How many bytes the most characters of a line, and one more, have: 257 of nine dots.
+/// How many bytes the dots of 257 characters of nine dots have: those of the longest line, and one
+/// more.
 const UNPANNED_BYTES: usize = 6_939;
 
 /// The most dots of a part of a line.
@@ -30,13 +31,13 @@ pub const MOST_PART: usize = 128;
 /// The attribute of most text: grey on black.
 const USUAL_ATTRIBUTE: u8 = 0x07;
 
-/// How many bytes the characters have in which the dots of a part lie: 145 dots.
+/// How many bytes the characters that contain a part have at most: 145 dots.
 const PART_BYTES: usize = 435;
 
 /// The most dots of a small part.
 const SMALL_PART: usize = 32;
 
-/// How many bytes the characters have in which the dots of a small part lie: 49 dots.
+/// How many bytes the characters that contain a small part have at most: 49 dots.
 const SMALL_PART_BYTES: usize = 147;
 
 /// How many characters of a line are displayed, 1 to 256.
@@ -47,7 +48,8 @@ pub fn shown_characters(registers: &Registers) -> u16
     (registers.horizontal_display_end() as u16 + 1).min(registers.characters())
 }
 
-/// Draws some characters of the beam's line in one way, from `first` on, as if it were not panned.
+/// Draws `count` characters of the beam's line from `first` on, all in one way, as if the line were
+/// not panned.
 fn draw_each<const CW: usize, C: Characters<CW>>(
     display: &Display<'_>,
     characters: &C,
@@ -69,8 +71,9 @@ fn draw_each<const CW: usize, C: Characters<CW>>(
     }
 }
 
-/// Draws some characters of text one by one, from `first` on, as if the line were not panned. Most
-/// of them have the attribute of the one before, so colours are looked up where that is another.
+/// Draws `count` characters of text one by one, from `first` on, as if the line were not panned.
+/// Most of them have the attribute of the one before, so colours are looked up only where the
+/// attribute changes.
 fn draw_cells<const CW: usize>(
     display: &Display<'_>,
     characters: &TextCharacters,
@@ -98,8 +101,8 @@ fn draw_cells<const CW: usize>(
     }
 }
 
-/// Draws some characters of the beam's line, which shows text, from `first` on, as if it were not
-/// panned.
+/// Draws `count` characters of the beam's line, which shows text, from `first` on, as if it were
+/// not panned.
 fn draw_text<const CW: usize>(display: &Display<'_>, first: usize, count: usize, row: &mut [u8])
     requires text { ShowsText display.now }
     requires first { first ≤ 300 }
@@ -119,8 +122,8 @@ fn draw_text<const CW: usize>(display: &Display<'_>, first: usize, count: usize,
     repeat_last::<CW>(row, drawn, count);
 }
 
-/// Draws some characters of the beam's line, which shows memory, from `first` on, as if it were not
-/// panned.
+/// Draws `count` characters of the beam's line, which shows memory, from `first` on, as if it were
+/// not panned.
 fn draw_characters<const CW: usize>(
     display: &Display<'_>,
     first: usize,
@@ -157,8 +160,9 @@ fn draw_characters<const CW: usize>(
     }
 }
 
-/// Draws the first characters of the beam's line, which shows memory shifted by so many dots: what
-/// is shifted out on the left is drawn beside the row, and one character more on the right.
+/// Draws the first `count` characters of the beam's line, which shows memory shifted left by
+/// `panning_shift` dots. It draws one character more than it shows into a buffer of its own, and
+/// copies the shown dots from there.
 fn draw_panned<const CW: usize>(
     display: &Display<'_>,
     count: usize,
@@ -179,7 +183,7 @@ fn draw_panned<const CW: usize>(
     copy_dots(row, &unpanned, panning_shift, count * CW);
 }
 
-/// Draws the first characters of the beam's line, which shows memory, panned or not.
+/// Draws the first `count` characters of the beam's line, which shows memory, panned or not.
 fn draw_shown<const CW: usize>(display: &Display<'_>, count: usize, row: &mut [u8])
     requires memory { ShowsMemory display.now }
     requires count { count ≤ 256 }
@@ -216,9 +220,10 @@ fn draw_line_of<const CW: usize>(display: &Display<'_>, row: &mut [u8])
     }
 }
 
-/// Writes red, green and blue of each displayed dot of the beam's line, from its first dot on: as
-/// `dot_colour` has them with the beam there. No other byte of the row changes. A character is `CW`
-/// dots wide. Where a frame begins, its start is to be taken first (`Crtc::take_start`).
+/// Writes red, green and blue of each displayed dot of the beam's line, from its first dot on. Each
+/// dot has the colour that `dot_colour` gives with the beam there. No other byte of the row
+/// changes. A character is `CW` dots wide. Where a frame begins, take its start first
+/// (`Crtc::take_start`).
 pub fn draw_line<const CW: usize>(host: &Host, crtc: &Crtc, attr: &Attr, dac: &Dac, row: &mut [u8])
     requires width { CW ≡ character_width host.now }
     requires room { 3 * (characters_shown crtc.now.registers * CW) ≤ length row.old }
@@ -228,9 +233,9 @@ pub fn draw_line<const CW: usize>(host: &Host, crtc: &Crtc, attr: &Attr, dac: &D
     draw_line_of::<CW>(&Display::new(host, crtc, attr, dac), row);
 }
 
-/// Draws so many dots of the beam's line, which shows memory, from the beam's dot on: the
-/// characters in which they lie are drawn beside the row, from their first dots to their last, and
-/// have at most `N` bytes.
+/// Draws the next `count` dots of the beam's line, which shows memory, from the beam's dot on. It
+/// draws the whole characters that contain them into a buffer of `N` bytes, and copies the dots
+/// from there.
 fn draw_part_shown<const CW: usize, const N: usize>(
     display: &Display<'_>,
     count: usize,
@@ -254,9 +259,10 @@ fn draw_part_shown<const CW: usize, const N: usize>(
     copy_dots(row, &unpanned, skipped, count);
 }
 
-/// Writes red, green and blue of so many dots of the beam's line, at most 128, from the beam's dot
-/// on: as `dot_colour` has them with the beam there. No other byte of the row changes. A character
-/// is `CW` dots wide. Where a frame begins, its start is to be taken first (`Crtc::take_start`).
+/// Writes red, green and blue of the next `count` dots of the beam's line, at most 128, from the
+/// beam's dot on. Each dot has the colour that `dot_colour` gives with the beam there. No other
+/// byte of the row changes. A character is `CW` dots wide. Where a frame begins, take its start
+/// first (`Crtc::take_start`).
 pub fn draw_part<const CW: usize>(display: &Display<'_>, count: usize, row: &mut [u8])
     requires count { count ≤ 128 }
     requires width { CW ≡ character_width display.now.host }

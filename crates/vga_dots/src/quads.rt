@@ -1,4 +1,4 @@
-//! Dots of text by words, four at once: this file serves speed alone, for each dot could be put by
+//! Dots of text, four at once, by words. This file serves speed alone: each dot could be written by
 //! itself.
 ghost use Rattle.std.specs.Prelude.{◌≡◌, ℕ, List, ◌+◌, ◌-◌, ◌*◌, ◌/◌, ◌<◌, ◌≤◌, length};
 ghost use Rattle.std.specs.Prelude.{if◌then◌else◌};

@@ -4,18 +4,18 @@ ghost use Rattle.std.specs.Prelude.{nat_lt, slice_index_or};
 ghost use Rattle.vga_dots.specs.Row.{nibble_of, dot_in, IsDotPut, IsNextPut, AreDotsPut};
 ghost use Rattle.vga_dots.specs.Row.{AreCharactersPut};
 
-/// The colours of the 16 numbers that four bits have, each with a byte more: four bytes are moved
-/// at once, three are not.
-pub(crate) type Shades = [[u8; 4]; 16];
+/// The colours of the 16 values of four bits, each with a byte more. Four bytes are moved at once,
+/// three are not.
+pub(crate) type PaletteColours = [[u8; 4]; 16];
 
-/// The four colours of a character in 256 colours, and that of its ninth dot, each with a byte
-/// more.
+/// The four colours of a character in 256 colours, and the colour of its ninth dot, each with a
+/// byte more.
 pub(crate) type Pixels = [[u8; 4]; 5];
 
 /// The lowest bit of each plane of a word.
 const LOWEST_BITS: u32 = 0x0101_0101;
 
-/// What brings the lowest bits of the four planes together in the highest four bits.
+/// The factor that brings the lowest bits of the four planes together in the highest four bits.
 const TOGETHER: u32 = 0x1020_4080;
 
 /// Writes the three bytes of a dot.
@@ -28,7 +28,7 @@ pub(crate) fn put_dot(row: &mut [u8], at: usize, colour: [u8; 3])
     row[3 * at + 2] = colour[2];
 }
 
-/// Copies as many dots as are told from dot `first` of a row on.
+/// Copies `count` dots, from dot `first` of `dots` on, to the start of the row.
 pub(crate) fn copy_dots(row: &mut [u8], dots: &[u8], first: usize, count: usize)
     requires room { 3 * count ≤ length row.old }
     requires there { 3 * (first + count) ≤ length dots.now }
@@ -47,7 +47,7 @@ fn put_blank<const CW: usize>(row: &mut [u8], at: usize, colour: [u8; 3])
     }
 }
 
-/// Gives the first characters, as many as are told, one colour.
+/// Fills the first `count` characters of the row with one colour.
 pub(crate) fn fill<const CW: usize>(row: &mut [u8], count: usize, colour: [u8; 3])
     requires count { count ≤ 257 }
     requires width { CW < 10 }
@@ -59,8 +59,8 @@ pub(crate) fn fill<const CW: usize>(row: &mut [u8], count: usize, colour: [u8; 3
     }
 }
 
-/// Bit `place`, 0 to 7, of each plane of a word as one number, the first plane lowest: the four
-/// bits stand apart, and a product brings them together in its highest bits.
+/// Bit `place`, 0 to 7, of each plane of a word as one number, with plane 0 as the lowest bit. The
+/// four bits are eight apart in the word; a product brings them together in its highest bits.
 fn nibble(word: u32, place: u32) -> u8
     requires { place < 8 }
     ensures value { result ≡ nibble_of word place }
@@ -70,7 +70,7 @@ fn nibble(word: u32, place: u32) -> u8
     (bits.wrapping_mul(TOGETHER >> place) >> 28) as u8
 }
 
-/// Dot `i`, 0 to 8, of eight dots and a ninth, whose bits stand in the planes of a word.
+/// Dot `i`, 0 to 8, of eight dots and a ninth, whose bits are in the planes of a word.
 fn plane_dot(word: u32, i: usize) -> u8
     requires { i < 9 }
     ensures value { result ≡ (if nat_lt i 8 then nibble_of word (7 - i) else 0) }
@@ -94,8 +94,13 @@ fn put_next<const CW: usize>(row: &mut [u8], at: usize, i: usize, colour: [u8; 4
     }
 }
 
-/// Writes the dots of a character in 16 colours, whose bits stand in the planes of a word.
-pub(crate) fn put_planes<const CW: usize>(row: &mut [u8], at: usize, word: u32, table: &Shades)
+/// Writes the dots of a character in 16 colours, whose bits are in the planes of a word.
+pub(crate) fn put_planes<const CW: usize>(
+    row: &mut [u8],
+    at: usize,
+    word: u32,
+    table: &PaletteColours,
+)
     requires room { 3 * (at + CW) ≤ length row.old }
     requires width { CW < 10 }
     ensures { AreDotsPut CW at (λ i. slice_index_or table.now (if nat_lt i 8

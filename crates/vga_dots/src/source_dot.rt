@@ -58,7 +58,7 @@ impl SourceDot {
     }
 }
 
-/// The place in each plane that a counter addresses.
+/// The address in each plane that a counter selects.
 #[tactic(auto, unfolding(crate::specs::SourceDot::fetch_address))]
 pub(crate) fn fetch_address(registers: &Registers, counter: u16) -> u16
     ensures { result ≡ fetch_address_of registers.now counter }

@@ -28,7 +28,7 @@ pub(crate) const GLYPHS: usize = 2;
 /// How many bytes a glyph has in its map.
 pub(crate) const GLYPH_BYTES: u16 = 32;
 
-/// The bits of an attribute that tell an underlined one.
+/// The bits of an attribute that decide whether it is underlined.
 pub(crate) const UNDERLINE_BITS: u8 = 0x77;
 
 /// A character and its attribute.
@@ -39,7 +39,7 @@ pub struct Cell {
 }
 
 impl Cell {
-    /// Whether two cells are the same.
+    /// True only if two cells are the same.
     pub(crate) fn is_same(self, other: Cell) -> bool
         ensures { result ≡ true → self ≡ other }
     {
@@ -47,7 +47,7 @@ impl Cell {
     }
 }
 
-/// The character and the attribute at a place.
+/// The character and the attribute at an address in the planes.
 #[tactic(auto, unfolding(crate::specs::Text::cell_at))]
 pub(crate) fn cell_at(host: &Host, address: u16) -> Cell
     ensures { result ≡ cell_of_place host.now address }
@@ -67,7 +67,7 @@ pub(crate) fn map_start(map: u8) -> u16
     16384 * (map % 4) as u16 + 8192 * (map / 4) as u16
 }
 
-/// The map, 0 to 7, of a cell's character.
+/// The map, 0 to 7, that contains the glyph of a cell's character.
 fn character_map(host: &Host, cell: Cell) -> u8
     ensures value { result ≡ map_of_cell host.now cell }
     ensures below { result < 8 }
@@ -90,7 +90,7 @@ pub(crate) fn glyph_row(host: &Host, cell: Cell, scan: u8) -> u8
     host.planes().byte(GLYPHS, place)
 }
 
-/// Whether dot `i` of a row is of its glyph.
+/// Whether dot `i` of a row belongs to the glyph.
 #[tactic(auto, unfolding(crate::specs::Text::is_glyph_dot))]
 pub(crate) fn is_glyph_dot(attr: &Attr, character: u8, row: u8, i: u8) -> bool
     ensures { result ≡ is_dot_of_glyph attr.now character row i }

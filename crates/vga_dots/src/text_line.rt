@@ -1,4 +1,4 @@
-//! What is looked up once for a line of text.
+//! What is looked up once for a whole line of text.
 ghost use Rattle.std.specs.Prelude.{◌≡◌, ◌+◌, ◌*◌, ◌/◌, ◌%◌, ◌<◌, ◌==◌, ◌&&◌, not, nat_le, nat_lt};
 ghost use Rattle.std.specs.Prelude.{bit_and, if◌then◌else◌};
 ghost use Rattle.vga_bits.specs.Bits.{is_set as is_set_of};
@@ -13,50 +13,55 @@ use vga_attr::Attr;
 use vga_bits::is_set;
 use vga_crtc::Crtc;
 
-/// What no counter is.
+/// A number that no counter equals.
 const NO_COUNTER: u32 = 0x1_0000;
 
-/// The bit of an attribute whose characters blink.
+/// The attribute bit that makes a character blink.
 const BLINKING: u8 = 0x80;
 
-/// What the bits are of an underlined attribute that tell it, and what they never are.
+/// The value of the attribute bits that select underline.
 const UNDERLINED: u8 = 0x01;
 
+/// A value that the attribute bits never have.
 const NOT_UNDERLINED: u8 = 0xFF;
 
-/// The line-drawing characters C0 to DF as a block of 32 characters, and what no block is.
+/// The block of 32 characters that contains the line-drawing characters, C0 to DF.
 const LINE_DRAWING: u8 = 6;
 
+/// A number that no block of 32 characters has.
 const NO_BLOCK: u8 = 8;
 
-/// The bits of a background, without and with its intensity.
+/// The bits of a background without its intensity.
 const DARK_BACKGROUNDS: u8 = 0x07;
 
+/// The bits of a background with its intensity.
 const ALL_BACKGROUNDS: u8 = 0x0F;
 
-/// What the beam's line decides for all characters of text alike. A character is drawn by these,
-/// and the registers are not looked at again. What only some lines have is a number that nothing is
-/// equal to on the others, or a mask of no bits there, so that a character asks for it with one
-/// comparison.
+/// What the beam's line decides for all its characters of text alike. A character is drawn from
+/// these fields, and the registers are not looked at again. If a line does not have a feature, its
+/// field is a number that never matches, or a mask without bits. So a character needs one
+/// comparison for it.
 #[derive(Clone, Copy)]
 pub struct TextLine {
-    /// The counter of the cursor where this line shows it, and else 65,536, which none is.
+    /// The counter of the cursor if this line shows it, else 65,536, which no counter equals.
     pub cursor: u32,
-    /// The bit of an attribute whose characters are blinked away, and 0 where none are.
+    /// The attribute bit whose characters are blinked away, or 0 if none are.
     pub blinked_away: u8,
-    /// What the bits 77 of an underlined attribute are here: 1, or 255, which they never are.
+    /// The value of attribute bits 77 (hexadecimal) that selects underline on this line: 1, or 255,
+    /// which never matches.
     pub underlined: u8,
-    /// Where this line of the first glyph of map A stands in its plane.
+    /// The address in its plane of this line of map A's first glyph.
     pub map_a: u16,
-    /// The same of map B.
+    /// The address in its plane of this line of map B's first glyph.
     pub map_b: u16,
-    /// Of which 32 characters the ninth dot is their eighth: the block C0 to DF, or none.
+    /// The block of 32 characters whose ninth dot repeats the eighth: 6 for C0 to DF, or 8, which
+    /// no block has.
     pub nine_dot_block: u8,
-    /// Which of the bits 7 to 4 of an attribute are the background's.
+    /// Which of attribute bits 7 to 4 belong to the background.
     pub background_mask: u8,
 }
 
-/// Whether the beam's line has the cursor, in the beam's frame.
+/// Whether the beam's line shows the cursor in the beam's frame.
 fn has_cursor(crtc: &Crtc) -> bool
     ensures { result ≡ (not (is_cursor_off crtc.now.registers)
         && nat_le (cursor_start crtc.now.registers) crtc.now.beam.scan
@@ -71,7 +76,7 @@ fn has_cursor(crtc: &Crtc) -> bool
         && beam.frame % 16 < 8
 }
 
-/// The counter at which the beam's line shows the cursor, or what none is.
+/// The counter at which the beam's line shows the cursor, or 65,536, which no counter equals.
 fn shown_cursor(crtc: &Crtc) -> u32
     ensures { result ≡ (if not (is_cursor_off crtc.now.registers)
         && nat_le (cursor_start crtc.now.registers) crtc.now.beam.scan
@@ -86,7 +91,7 @@ fn shown_cursor(crtc: &Crtc) -> u32
     }
 }
 
-/// The bit of an attribute whose characters are blinked away in a frame, or 0.
+/// The attribute bit whose characters are blinked away in a frame, or 0 if none are.
 fn blinked_away(attr: &Attr, frame: u8) -> u8
     ensures { result ≡ (if is_blink attr.now && nat_le 16 frame then 0x80 else 0) }
 {
@@ -97,7 +102,7 @@ fn blinked_away(attr: &Attr, frame: u8) -> u8
     }
 }
 
-/// What the bits of an attribute are that is underlined at the beam's line.
+/// The value of the attribute bits that selects underline at the beam's line; 255 never matches.
 fn underlined(display: &Display<'_>) -> u8
     ensures { result ≡ (if is_monochrome display.now.attr
         && display.now.crtc.beam.scan == underline_location display.now.crtc.registers then 1
@@ -111,7 +116,7 @@ fn underlined(display: &Display<'_>) -> u8
     }
 }
 
-/// The block of characters that have a ninth dot.
+/// The block of characters whose ninth dot repeats the eighth, or a number that no block has.
 fn nine_dot_block(attr: &Attr) -> u8
     ensures { result ≡ (if is_line_graphics attr.now then 6 else 8) }
 {
@@ -122,7 +127,7 @@ fn nine_dot_block(attr: &Attr) -> u8
     }
 }
 
-/// The bits of a background, of which the highest is left out where it blinks.
+/// The bits of a background. The highest is left out if it means blinking.
 fn background_mask(attr: &Attr) -> u8
     ensures { result ≡ (if is_blink attr.now then 0x07 else 0x0F) }
 {
@@ -134,8 +139,8 @@ fn background_mask(attr: &Attr) -> u8
 }
 
 impl TextLine {
-    /// What the beam's line decides. It stands apart from the loop that draws: a compiler that sees
-    /// what the numbers are made of asks for that again at each character.
+    /// What the beam's line decides. It is never inlined into the loop that draws: a compiler that
+    /// saw how the numbers are made would compute them again for each character.
     #[inline(never)]
     #[tactic(auto, unfolding(crate::specs::TextLine::text_line))]
     pub(crate) fn at_beam(display: &Display<'_>) -> TextLine
@@ -181,7 +186,7 @@ impl TextLine {
         cell.attribute & UNDERLINE_BITS == self.underlined
     }
 
-    /// Where the row of a cell's glyph stands in its plane.
+    /// The address in its plane of the row of a cell's glyph.
     #[inline(always)]
     pub(crate) fn glyph_place(&self, cell: Cell) -> u16
         requires { HasGlyphs self.now }

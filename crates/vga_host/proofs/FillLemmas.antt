@@ -250,7 +250,7 @@ words_go_on h s r per misc first n f done g w words room few whole same put is =
           ∙ ap (λ (x : HostState). word_put x (is_in_map_mask h) ((f + done) % 65536) (w done)) same ∙ sym is,
     )
 
--- what is left of n writes, behind those that are done, is what all of them leave
+-- the rest of n writes, after those that are done, leaves what all n writes leave
 pub puts_rest : (misc first n done : ℕ) (g : ℕ → ℕ) (h s : HostState) → done ≤ n → s ≡ after_puts misc first g done 0 h →
     after_puts misc first g (n - done) done s ≡ after_puts misc first g n 0 h
 puts_rest misc first n done g h s few is =

@@ -385,7 +385,7 @@ words_go_on h s r per misc from to n f t done words room few whole same moved by
           ∙ ap (λ (x : HostState). word_moved x (is_in_map_mask h) ((f + done) % 65536) ((t + done) % 65536)) same ∙ sym is,
     )
 
--- what is left of n moves, behind those that are done, is what all of them leave
+-- the rest of n moves, after those that are done, leaves what all n moves leave
 pub moves_rest : (misc from to n done : ℕ) (h s : HostState) → done ≤ n → s ≡ after_moves misc from to done 0 h →
     after_moves misc from to (n - done) done s ≡ after_moves misc from to n 0 h
 moves_rest misc from to n done h s few is =

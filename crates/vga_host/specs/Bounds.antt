@@ -1,4 +1,4 @@
--- What the host path holds, whatever was written.
+-- The bounds of everything that the host path holds, whatever was written.
 use Rattle.std.specs.Prelude.{ℕ, ◌≡◌, ◌<◌, length}
 use Rattle.vga_bits.specs.Four.{of_plane}
 use Rattle.vga_bits.specs.RegFile.{AreKept}

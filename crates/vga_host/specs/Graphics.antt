@@ -18,7 +18,7 @@ is_set_reset_enabled h p = is_set (slice_index h.gfx 1) p
 abbrev pub colour_compare : HostState → ℕ → ℕ
 colour_compare h p = bit_at (slice_index h.gfx 2) p
 
--- data rotate, bits 2 to 0: by how many places the byte written is rotated right
+-- data rotate, bits 2 to 0: by how many bits a written byte is rotated right
 abbrev pub rotate_count : HostState → ℕ
 rotate_count h = field (slice_index h.gfx 3) 2 0
 
@@ -47,7 +47,7 @@ is_read_compare h = is_set (slice_index h.gfx 5) 3
 abbrev pub is_odd_even_read : HostState → Bool
 is_odd_even_read h = is_set (slice_index h.gfx 5) 4
 
--- graphics mode, bit 6: four bits of each plane are a colour of 256
+-- graphics mode, bit 6: each byte of a plane is a colour of 256, which two dots show
 abbrev pub is_shift_256 : HostState → Bool
 is_shift_256 h = is_set (slice_index h.gfx 5) 6
 
@@ -59,11 +59,11 @@ is_graphics h = is_set (slice_index h.gfx 6) 0
 abbrev pub is_256_colours : HostState → Bool
 is_256_colours h = is_graphics h && is_shift_256 h
 
--- miscellaneous, bit 1: the lowest bit of an address picks a plane and not an offset
+-- miscellaneous, bit 1: the lowest bit of an address is left out of its offset in each plane
 abbrev pub is_chain_odd_even : HostState → Bool
 is_chain_odd_even h = is_set (slice_index h.gfx 6) 1
 
--- miscellaneous, bits 3 and 2: which addresses the display memory has
+-- miscellaneous, bits 3 and 2: which addresses the display memory decodes
 abbrev pub memory_map : HostState → ℕ
 memory_map h = field (slice_index h.gfx 6) 3 2
 

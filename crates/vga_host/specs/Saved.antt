@@ -25,16 +25,19 @@ unfoldable pub saved_host : HostState → List ℕ
 saved_host h = saved_latches h.latches ++ (h.seq ++ (h.gfx ++ ((h.seq_index ∷ h.gfx_index ∷ [])
     ++ saved_memory h.memory)))
 
--- what follows the latches, the sequencer's registers, the graphics controller's and the indexes
+-- the bytes after the latches
 abbrev pub past_latches : List ℕ → List ℕ
 past_latches bytes = drop 4 bytes
 
+-- the bytes after the sequencer's registers
 abbrev pub past_seq : List ℕ → List ℕ
 past_seq bytes = drop 5 (past_latches bytes)
 
+-- the bytes after the graphics controller's registers
 abbrev pub past_gfx : List ℕ → List ℕ
 past_gfx bytes = drop 9 (past_seq bytes)
 
+-- the bytes after both indexes
 abbrev pub past_indexes : List ℕ → List ℕ
 past_indexes bytes = drop 2 (past_gfx bytes)
 

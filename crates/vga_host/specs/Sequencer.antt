@@ -1,5 +1,6 @@
 -- The fields of the sequencer's registers, in the order of the registers.
--- From the IBM PS/2 Hardware Interface Technical Reference, Video Subsystems, "Sequencer Registers".
+-- From the IBM PS/2 Hardware Interface Technical Reference, Video Subsystems, "Sequencer
+-- Registers".
 use Rattle.std.specs.Prelude.{ℕ, ◌+◌, ◌*◌, Bool, if◌then◌else◌, slice_index}
 use Rattle.std.specs.Int.{bit_at}
 use Rattle.vga_bits.specs.Bits.{is_set, field}
@@ -13,7 +14,7 @@ is_eight_dots h = is_set (slice_index h.seq 1) 0
 abbrev pub character_width : HostState → ℕ
 character_width h = if is_eight_dots h then 8 else 9
 
--- clocking mode, bit 3: the dot clock has half its rate
+-- clocking mode, bit 3: the dot clock runs at half its rate
 abbrev pub is_clock_halved : HostState → Bool
 is_clock_halved h = is_set (slice_index h.seq 1) 3
 

@@ -1,11 +1,11 @@
-//! The data path of a write and of a read that compares: eight bits, or the four bytes of a word,
-//! at once.
+//! The data path of a write, and of a read that compares. It handles eight bits at once, or the
+//! four bytes of a word.
 ghost use Rattle.std.specs.Prelude.{◌≡◌, ◌==◌, ◌+◌, ◌%◌, ◌<◌, ◌&&◌, ℕ, if◌then◌else◌};
 ghost use Rattle.std.specs.Int.{bit_at};
 ghost use Rattle.vga_bits.specs.Words.{word_bit};
 ghost use Rattle.vga_host.specs.Memory.Write.{combined_by};
 
-/// The byte, rotated right by 0 to 7 places.
+/// The byte, rotated right by 0 to 7 bits.
 #[tactic(auto, using(vga_bits::proofs::BitLemmas::bit_at_rotate))]
 pub(crate) fn rotated(v: u8, by: u8) -> u8
     requires { by < 8 }
@@ -14,7 +14,8 @@ pub(crate) fn rotated(v: u8, by: u8) -> u8
     v.rotate_right(by as u32)
 }
 
-/// Each bit of the source and the latch bit by the function, 0 to 3.
+/// Combines each bit of the source with its latch bit: function 0 keeps the source, 1 is AND, 2 is
+/// OR, and 3 is XOR.
 #[tactic(auto, using(vga_bits::proofs::WordLemmas::word_bit_and, vga_bits::proofs::WordLemmas::word_bit_or, vga_bits::proofs::WordLemmas::word_bit_xor))]
 pub(crate) fn combined(function: u8, source: u32, latch: u32) -> u32
     requires { function < 4 }
@@ -29,7 +30,7 @@ pub(crate) fn combined(function: u8, source: u32, latch: u32) -> u32
     }
 }
 
-/// The bits that are 0 in all four planes.
+/// The byte that has 1 in each bit that is 0 in all four planes.
 #[tactic(auto, using(vga_bits::proofs::WordLemmas::word_bit_folded))]
 pub(crate) fn clear_in_all(word: u32) -> u8
     ensures { (i : ℕ) → i < 8 → bit_at result i ≡ (if (word_bit word 0 i == 0)

@@ -1,13 +1,13 @@
 //! The four ports of the host path.
 
-/// The sequencer's index, which picks one of its registers.
+/// The sequencer's index, which selects one of its registers.
 pub const SEQUENCER_INDEX: u16 = 0x3C4;
 
-/// The sequencer's register of the index.
+/// The sequencer's register that its index selects.
 pub const SEQUENCER_DATA: u16 = 0x3C5;
 
-/// The graphics controller's index, which picks one of its registers.
+/// The graphics controller's index, which selects one of its registers.
 pub const GRAPHICS_INDEX: u16 = 0x3CE;
 
-/// The graphics controller's register of the index.
+/// The graphics controller's register that its index selects.
 pub const GRAPHICS_DATA: u16 = 0x3CF;

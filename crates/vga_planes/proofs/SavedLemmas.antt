@@ -22,7 +22,7 @@ one_more out old plane at i v prefix room within value =
     ∙ append_assoc (take at old) (take i plane) (slice_index plane i ∷ [])
     ∙ ap (λ (l : List ℕ). take at old ++ l) (sym (take_more plane i 0 within))
 
--- all bytes of a list, and none behind them
+-- all bytes of a list, and none after them
 pub all_put : (out old plane : List ℕ) (at n : ℕ) → length plane ≡ n → take (at + n) out ≡ take at old ++ take n plane
     → drop (at + n) out ≡ drop (at + n) old → IsPut old out at (at + n) plane
 all_put out old plane at n size prefix back = record {

@@ -6,7 +6,8 @@ use Rattle.vga_bits.specs.Four.{Four}
 unfoldable pub saved_memory : Four (List ℕ) → List ℕ
 saved_memory planes = planes.plane0 ++ (planes.plane1 ++ (planes.plane2 ++ planes.plane3))
 
--- four planes of so many bytes each, of which the last has all the bytes that are left
+-- four planes from one list of bytes: the first three take `size` bytes each, and the last takes
+-- the rest
 abbrev pub planes_from : ℕ → List ℕ → Four (List ℕ)
 planes_from size bytes = record {
   plane0 = take size bytes;
@@ -15,6 +16,6 @@ planes_from size bytes = record {
   plane3 = drop size (drop size (drop size bytes));
 }
 
--- the four planes that have these bytes, which are 4 times 65,536
+-- the four planes with these bytes, 65,536 for each plane
 unfoldable pub memory_from : List ℕ → Four (List ℕ)
 memory_from bytes = planes_from 65536 bytes

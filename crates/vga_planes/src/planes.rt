@@ -12,7 +12,7 @@ use std::alloc::Global;
 use std::marker::Model;
 use vga_bits::Fault;
 
-/// Planes by their bits: bit p, 0 to 3, names plane p. The other bits are not looked at.
+/// A set of planes: bit p, 0 to 3, selects plane p. The other bits are ignored.
 pub type PlaneSet = u8;
 
 /// How many bytes a plane has.
@@ -39,7 +39,7 @@ impl Model for Planes {
     ghost invariant = { λ p. vec_len p.words ≡ 65536 };
 }
 
-/// So many words 0.
+/// `len` words, each 0. It fails only with `OutOfMemory`.
 #[tactic(auto, unfolding(vga_bits::specs::Bytes::zeros))]
 fn zeros(alloc: Global, len: usize) -> Result<Vec<u32>, Fault>
     ensures items { IfOk result (λ v. v.items ≡ zeros_of len) }
@@ -53,7 +53,7 @@ fn zeros(alloc: Global, len: usize) -> Result<Vec<u32>, Fault>
 }
 
 impl Planes {
-    /// All bytes 0, as at power-on. It fails with `OutOfMemory` alone.
+    /// All bytes 0, as at power-on. It fails only with `OutOfMemory`.
     pub fn new(alloc: Global) -> Result<Planes, Fault>
         ensures zeros { IfOk result (λ planes. planes ≡ zero_planes) }
         ensures err { IsOkUnless result Fault.OutOfMemory }
@@ -92,7 +92,7 @@ impl Planes {
         Latch::from_word(self.word(offset))
     }
 
-    /// Each plane of the set gets its byte of the latch at the offset. Nothing else changes.
+    /// Stores the latch's bytes at an offset, in the planes of the set. Nothing else changes.
     pub fn store(&mut self, offset: u16, latch: Latch, set: PlaneSet)
         ensures { self.new ≡ with_bytes self.old offset latch set }
     {

@@ -3,7 +3,7 @@ use Rattle.std.proofs.Common.{◌≡◌, ◌∙◌, inl, inr, ℕ, ◌<◌, ◌�
 use Rattle.vga_bits.specs.declared.fault.Fault.{Fault}
 use Rattle.vga_bits.specs.declared.fault.Fault.TheVariants.{FontSize, BadMagic, BadVersion, BadStep, Truncated, TooLong, ReadFault, WriteFault, OutOfMemory}
 use Rattle.vga_bits.specs.declared.fault.Fault.TheVariants.{TooMany}
-use Rattle.bios_modes.specs.Fonts.{FontSet, IsFontFault, file_len, fonts_of}
+use Rattle.bios_modes.specs.Fonts.{FontSet, IsFontFault, font_file_len, fonts_of}
 use Rattle.vga_script.specs.declared.step.Step.{Step}
 use Rattle.vga_script.specs.Item.{Listing}
 use Rattle.vga_script.specs.Spelled.{SpellsExpanded}
@@ -14,7 +14,7 @@ use Rattle.vga_script.specs.Input.{InputHasFault, IsInput, IsReadingFault}
 use Rattle.vga_run.specs.declared.machine.Machine.{Machine}
 use Rattle.vga_run.specs.Machine.{power_on_machine}
 use Rattle.vga_run.specs.Report.{steps_until}
-use Rattle.vga_run.specs.Run.{Reports, ReportsSteps, RunAnswers, RunsGoodScripts, RunsScript, StopsIn, StopsRun, StopsSteps, WritesReport}
+use Rattle.vga_run.specs.Run.{Reports, ReportsSteps, RunAnswers, RunsGoodScripts, RunsScript, StopsIn, StopsRun, RunsOutOfMemory, WritesReport}
 use Rattle.vga_script.specs.Decoding.{IsSpellingFault, IsFault}
 
 -- what taking the steps of a script answers is what its run does
@@ -40,7 +40,7 @@ report_stops before after failed (Err e) machine n steps (inr (is, sound, stops)
 
 -- where memory runs out in the run of a script, it does in that of bytes that spell it
 pub stops_of_steps : (until : Option ℕ) (fonts : FontSet) (bytes : List ℕ) (before after : Option (List ℕ)) (steps : List Step)
-    → length bytes ≤ script_limit → SpellsExpanded bytes steps → StopsSteps until fonts steps before after → StopsRun until fonts (Some bytes) before after
+    → length bytes ≤ script_limit → SpellsExpanded bytes steps → RunsOutOfMemory until fonts steps before after → StopsRun until fonts (Some bytes) before after
 stops_of_steps until fonts bytes before after steps few spelled stops = (steps, (bytes, (refl, few), spelled), stops)
 
 -- what the run of a script answers is the answer for bytes that spell it
@@ -91,31 +91,31 @@ input_stops until fonts input before after bytes read (steps, (others, same, spe
 
 -- what a run over the fonts of a file answers is what one over the file does
 of_file : (until : Option ℕ) (file : List ℕ) (input before after : Option (List ℕ)) (result : Result Unit Fault)
-    → length file ≡ file_len → Reports until (fonts_of file) input before after result → RunAnswers until file input before after result
+    → length file ≡ font_file_len → Reports until (fonts_of file) input before after result → RunAnswers until file input before after result
 of_file until file input before after (Ok u) size h = (size, h)
 of_file until file input before after (Err FontSize) size h = absurd h
 of_file until file input before after (Err f) size h = (size, h)
 
 pub file_answers : (until : Option ℕ) (file : List ℕ) (fonts : FontSet) (input before after : Option (List ℕ)) (result : Result Unit Fault)
-    → (length file ≡ file_len) × (fonts ≡ fonts_of file) → Reports until fonts input before after result → RunAnswers until file input before after result
+    → (length file ≡ font_file_len) × (fonts ≡ fonts_of file) → Reports until fonts input before after result → RunAnswers until file input before after result
 file_answers until file fonts input before after result (size, are) h =
     of_file until file input before after result size (subst (λ (f : FontSet). Reports until f input before after result) are h)
 
 pub input_answers : (until : Option ℕ) (file : List ℕ) (fonts : FontSet) (input before after : Option (List ℕ)) (bytes : List ℕ) (result : Result Unit Fault)
-    → (length file ≡ file_len) × (fonts ≡ fonts_of file) → IsInput input bytes → Reports until fonts (Some bytes) before after result →
+    → (length file ≡ font_file_len) × (fonts ≡ fonts_of file) → IsInput input bytes → Reports until fonts (Some bytes) before after result →
     RunAnswers until file input before after result
 input_answers until file fonts input before after bytes result (size, are) read h =
     file_answers until file fonts input before after result (size, are) (input_reports until fonts input before after bytes result read h)
 
 -- what the run of a script over the fonts of a file answers is what one over the file does
 script_of_file : (until : Option ℕ) (file : List ℕ) (steps : List Step) (before after : Option (List ℕ)) (result : Result Unit Fault)
-    → length file ≡ file_len → ReportsSteps until (fonts_of file) steps before after result → RunsScript until file steps before after result
+    → length file ≡ font_file_len → ReportsSteps until (fonts_of file) steps before after result → RunsScript until file steps before after result
 script_of_file until file steps before after (Ok u) size h = (size, h)
 script_of_file until file steps before after (Err FontSize) size h = absurd h
 script_of_file until file steps before after (Err f) size h = (size, h)
 
 pub steps_answers : (until : Option ℕ) (file : List ℕ) (fonts : FontSet) (steps : List Step) (before after : Option (List ℕ)) (result : Result Unit Fault)
-    → (length file ≡ file_len) × (fonts ≡ fonts_of file) → ReportsSteps until fonts steps before after result → RunsScript until file steps before after result
+    → (length file ≡ font_file_len) × (fonts ≡ fonts_of file) → ReportsSteps until fonts steps before after result → RunsScript until file steps before after result
 steps_answers until file fonts steps before after result (size, are) h =
     script_of_file until file steps before after result size (subst (λ (f : FontSet). ReportsSteps until f steps before after result) are h)
 
@@ -133,7 +133,7 @@ font_answers until file input before after OutOfMemory size = (size, tt)
 font_answers until file input before after _ bad = absurd bad
 
 -- an unread input
-pub unread_answers : (until : Option ℕ) (file : List ℕ) (input before after : Option (List ℕ)) (f : Fault) → length file ≡ file_len → IsReadingFault input f →
+pub unread_answers : (until : Option ℕ) (file : List ℕ) (input before after : Option (List ℕ)) (f : Fault) → length file ≡ font_file_len → IsReadingFault input f →
     RunAnswers until file input before after (Err f)
 unread_answers until file input before after f size (inl is) = subst (λ (x : Fault). RunAnswers until file input before after (Err x)) (sym is) (size, tt)
 unread_answers until file input before after f size (inr (inl (is, long))) = subst (λ (x : Fault). RunAnswers until file input before after (Err x)) (sym is)

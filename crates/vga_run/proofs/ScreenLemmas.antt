@@ -35,7 +35,7 @@ use Rattle.bios_screen.specs.Screen.{Screen}
 use Rattle.bios_screen.specs.Shown.{shown, shown_by, shows, screen_of}
 use Rattle.bios_screen.specs.AfterCall.{SetsFresh, after_call}
 use Rattle.bios_screen.specs.Called.{AreWords, IsCalled, IsLoaded, IsRead}
-use Rattle.bios_screen.specs.Framed.{IsFramed}
+use Rattle.bios_screen.specs.Framed.{FrameDrawsScreen}
 use Rattle.bios_screen.specs.Fresh.{fresh_screen}
 use Rattle.bios_screen.specs.Picture.{picture_width, picture_height}
 use Rattle.vga_script.specs.declared.step.Step.{Step}
@@ -68,7 +68,7 @@ pub record Laws : Type 0 where
   pub no_mode : (mode : ℕ) (keeps : Bool) (fonts : FontSet) (r : Regs) (block : List ℕ) (c : CardState) (d : BiosData)
       → call_of r ≡ Some (SetMode mode keeps) → mode_row mode ≡ None → after_call fonts r block c d ≡ (c, (Err BadMode, d))
   pub fresh : (mode : ℕ) (row : ModeRow) → mode_row mode ≡ Some row → SetsFresh mode row
-  pub framed : (c : CardState) (d : BiosData) (s : Screen) → IsCard c → shown c d ≡ Some s → IsFrameStart c.crtc.beam → IsFramed c d s
+  pub framed : (c : CardState) (d : BiosData) (s : Screen) → IsCard c → shown c d ≡ Some s → IsFrameStart c.crtc.beam → FrameDrawsScreen c d s
 
 -- ---- modes
 
@@ -215,7 +215,7 @@ call_stands law fonts ax bx cx dx block m s small z a same start shows beam = re
 }
 
 -- and so does a frame
-frame_stands : Laws → (fonts : FontSet) (m : Machine) (s : Screen) → Stands fonts m s → IsFramed m.card m.bda s →
+frame_stands : Laws → (fonts : FontSet) (m : Machine) (s : Screen) → Stands fonts m s → FrameDrawsScreen m.card m.bda s →
     Stands fonts (after_step m Frame) (screen_after fonts s Frame)
 unfolding after_step screen_after
 frame_stands law fonts m s is f = record { card = law.dots (frame_count m.card) m.card is.card; bda = is.bda; same = is.same; shows = f.next; start = f.start }

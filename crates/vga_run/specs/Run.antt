@@ -7,7 +7,7 @@ use Rattle.vga_bits.specs.Tracked.{AppendsPrefix}
 use Rattle.vga_bits.specs.declared.fault.Fault.{Fault}
 use Rattle.vga_bits.specs.declared.fault.Fault.TheVariants.{FontSize, TooLong, ReadFault}
 use Rattle.vga_bits.specs.declared.fault.Fault.TheVariants.{WriteFault, OutOfMemory}
-use Rattle.bios_modes.specs.Fonts.{FontSet, file_len, fonts_of}
+use Rattle.bios_modes.specs.Fonts.{FontSet, font_file_len, fonts_of}
 use Rattle.vga_script.specs.declared.step.Step.{Step}
 use Rattle.vga_script.specs.Spelling.{script_limit}
 use Rattle.vga_script.specs.Spelled.{SpellsExpanded}
@@ -54,16 +54,17 @@ IsTakenOrNot old step new = (new ≡ old) ⊎ (new ≡ after_step old step)
 abbrev pub IsOnTheWay : Machine → List Step → Machine → Type 0
 IsOnTheWay old steps new = (n : ℕ) × (new ≡ after_steps old (take n steps))
 
--- an allocation failed in the run of some steps from power-on
-abbrev pub StopsSteps : Option ℕ → FontSet → List Step → Option (List ℕ) → Option (List ℕ) → Type 0
-StopsSteps until fonts steps before after = StopsIn (power_on_machine fonts) 1
+-- an allocation failed in the run of some steps from power-on, after the report of the steps before
+-- it was written
+abbrev pub RunsOutOfMemory : Option ℕ → FontSet → List Step → Option (List ℕ) → Option (List ℕ) → Type 0
+RunsOutOfMemory until fonts steps before after = StopsIn (power_on_machine fonts) 1
     (steps_until until steps) before after
 
 -- an allocation failed in the run of the script that an input spells
 abbrev pub StopsRun : Option ℕ → FontSet → Option (List ℕ) → Option (List ℕ) → Option (List ℕ) →
     Type 0
 StopsRun until fonts input before after = (steps : List Step) × InputMeans input steps
-    × StopsSteps until fonts steps before after
+    × RunsOutOfMemory until fonts steps before after
 
 -- What the run of these steps with these fonts answers, with a limit or without, over a writer
 -- whose contents are `before` and `after`. It has written their report, or a prefix of it if the
@@ -81,8 +82,8 @@ ReportsSteps until fonts steps before after (Err _) = ⊥
 -- the file has the wrong size.
 abbrev pub RunsScript : Option ℕ → List ℕ → List Step → Option (List ℕ) → Option (List ℕ) →
     Result Unit Fault → Type 0
-RunsScript until file steps before after (Err FontSize) = length file ≢ file_len
-RunsScript until file steps before after result = (length file ≡ file_len)
+RunsScript until file steps before after (Err FontSize) = length file ≢ font_file_len
+RunsScript until file steps before after result = (length file ≡ font_file_len)
     × ReportsSteps until (fonts_of file) steps before after result
 
 -- What a run with these fonts answers, with a limit or without, over a reader that contains this
@@ -106,14 +107,14 @@ Reports until fonts input before after (Err fault) = InputHasFault input fault
 -- wrong size.
 abbrev pub RunAnswers : Option ℕ → List ℕ → Option (List ℕ) → Option (List ℕ) → Option (List ℕ) →
     Result Unit Fault → Type 0
-RunAnswers until file input before after (Err FontSize) = length file ≢ file_len
-RunAnswers until file input before after result = (length file ≡ file_len)
+RunAnswers until file input before after (Err FontSize) = length file ≢ font_file_len
+RunAnswers until file input before after result = (length file ≡ font_file_len)
     × Reports until (fonts_of file) input before after result
 
 -- With a font file of the right size, bytes that spell a script are run, unless an allocation, the
 -- reader or the writer fails.
 abbrev pub RunsGoodScripts : List ℕ → Option (List ℕ) → Bool → Bool → Result Unit Fault → Type 0
 RunsGoodScripts file input read_failed write_failed result =
-    (bytes : List ℕ) (steps : List Step) → length file ≡ file_len → input ≡ Some bytes →
+    (bytes : List ℕ) (steps : List Step) → length file ≡ font_file_len → input ≡ Some bytes →
     length bytes ≤ script_limit → SpellsExpanded bytes steps
     → read_failed ≡ false → write_failed ≡ false → IsOkUnless result OutOfMemory

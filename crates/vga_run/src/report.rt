@@ -291,8 +291,8 @@ fn write_lines<W: Write>(
     Ok(())
 }
 
-/// Takes the last dumps of the machine. The first has the number n.
-pub(crate) fn write_last_dumps<W: Write>(
+/// Takes the closing dumps of the machine. The first of them has the number `first`.
+pub(crate) fn write_closing_dumps<W: Write>(
     alloc: Global,
     out: &mut Tracked<W>,
     machine: &mut Machine,

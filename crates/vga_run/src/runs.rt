@@ -4,12 +4,12 @@ ghost use Rattle.std.specs.Prelude.{Some, Err};
 ghost use Rattle.vga_bits.specs.declared.fault.Fault.TheVariants.{WriteFault, OutOfMemory};
 ghost use Rattle.vga_bits.specs.Tracked.{inner_of, has_failed, is_write_fault};
 ghost use Rattle.vga_bits.specs.LimitedReading.{is_read_fault};
-ghost use Rattle.bios_modes.specs.Fonts.{file_len, fonts_of};
+ghost use Rattle.bios_modes.specs.Fonts.{font_file_len, fonts_of};
 ghost use Rattle.vga_script.specs.Input.{ReadsScript};
 ghost use Rattle.vga_script.specs.Item.{expanded};
 ghost use Rattle.vga_script.specs.Spelling.{script_limit};
 ghost use Rattle.vga_run.specs.Run.{Reports, ReportsSteps, RunAnswers, RunsGoodScripts, RunsScript};
-ghost use Rattle.vga_run.specs.Run.{StopsRun, StopsSteps};
+ghost use Rattle.vga_run.specs.Run.{StopsRun, RunsOutOfMemory};
 ghost use Rattle.vga_run.specs.DotReport.{AreOfDots, ReportsDots, RunsDots};
 ghost use Rattle.vga_run.specs.ScreenReport.{AreOfScreens, ReportsScreens, RunsScreens};
 
@@ -66,7 +66,7 @@ pub fn run<R: Read, W: Write>(
     // read of any reader, and none if the font file has the wrong size.
     ensures reading { ReadsScript R.remaining script.old script.new result }
     ensures write_failed { has_failed out.new ≡ is_write_fault result }
-    ensures unread { length fonts.now ≢ file_len → script.new ≡ script.old }
+    ensures unread { length fonts.now ≢ font_file_len → script.new ≡ script.old }
     // What is written at a fault that is not the writer's: nothing; or, if an allocation failed,
     // whole answers.
     ensures unwritten { IfErr result (λ e. e ≢ WriteFault → e ≢ OutOfMemory → out.new ≡ out.old) }
@@ -163,7 +163,7 @@ fn run_steps_over<W: Write>(
     ensures write_failed { has_failed out.new ≡ is_write_fault result }
     ensures unwritten { IfErr result (λ e. e ≢ WriteFault → e ≢ OutOfMemory → out.new ≡ out.old) }
     ensures stopped { result ≡ Err OutOfMemory → (out.new ≡ out.old)
-        ⊎ StopsSteps until fonts steps.entry
+        ⊎ RunsOutOfMemory until fonts steps.entry
         (W.contents (inner_of out.old)) (W.contents (inner_of out.new)) }
 {
     let mut machine = Machine::power_on(alloc, fonts)?;
@@ -198,7 +198,7 @@ pub fn run_script<W: Write>(
     ensures write_failed { has_failed out.new ≡ is_write_fault result }
     ensures unwritten { IfErr result (λ e. e ≢ WriteFault → e ≢ OutOfMemory → out.new ≡ out.old) }
     ensures stopped { result ≡ Err OutOfMemory → (out.new ≡ out.old)
-        ⊎ StopsSteps until (fonts_of fonts.now) (expanded script.now.items)
+        ⊎ RunsOutOfMemory until (fonts_of fonts.now) (expanded script.now.items)
         (W.contents (inner_of out.old)) (W.contents (inner_of out.new)) }
 {
     reports_are_screens();

@@ -12,7 +12,7 @@ use Rattle.vga_script.specs.DumpRange.{IsShownInRange, kind_dac, kind_plane}
 use Rattle.vga_script.specs.Spelling.{StartsWithStep, header, opcode_out, opcode_out_word, opcode_in, opcode_in_word, opcode_put, opcode_put_word, opcode_get}
 use Rattle.vga_script.specs.Spelling.{opcode_get_word, opcode_int, opcode_advance, opcode_frame, opcode_show, item_spelling, StartsWithItem, SpellsItems}
 use Rattle.vga_script.specs.Spelling.{Spells}
-use Rattle.vga_script.specs.Decoding.{shown_len, fields_len, StartsOutOfRange, StartsWithBadStep, StartsWithCutStep, SpellsUpTo, IsItemFault, HasItemFault}
+use Rattle.vga_script.specs.Decoding.{shown_len, fields_len, StartsWithPlaneOutOfRange, StartsWithBadStep, StartsWithCutStep, SpellsUpTo, IsItemFault, HasItemFault}
 use Rattle.vga_script.specs.Decoding.{IsSpellingFault}
 use Rattle.vga_script.proofs.ItemLemmas.{length-expanded-push}
 
@@ -74,11 +74,11 @@ no_kind fields rest kind e is = inl (opcode_show, fields, refl, ap shown_len e �
 -- bytes of a plane that are not there, or too many
 pub out_of_range : (fields rest : List ℕ) (plane offset count : ℕ) (b : Bool) → fields ≡ plane ∷ (little_bytes 2 offset ++ (little_bytes 2 count ++ rest)) →
     offset < 2 ^ 16 → count < 2 ^ 16
-    → (IsTrue b ↔ IsShownInRange (shown.Plane plane offset count)) → b ≡ false → StartsOutOfRange (opcode_show ∷ kind_plane ∷ fields)
+    → (IsTrue b ↔ IsShownInRange (shown.Plane plane offset count)) → b ≡ false → StartsWithPlaneOutOfRange (opcode_show ∷ kind_plane ∷ fields)
 out_of_range fields rest plane offset count b e ho hn same is =
     (plane, offset, count, rest, ho, hn, ap (λ (l : List ℕ). opcode_show ∷ kind_plane ∷ l) e, λ h. let yes = same.1 h in absurd (cc))
 
-pub bad_range : (bytes : List ℕ) → StartsOutOfRange bytes → StartsWithBadStep bytes
+pub bad_range : (bytes : List ℕ) → StartsWithPlaneOutOfRange bytes → StartsWithBadStep bytes
 bad_range bytes h = inr h
 
 -- ---- the items of a script

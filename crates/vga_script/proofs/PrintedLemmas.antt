@@ -32,7 +32,7 @@ use Rattle.vga_script.specs.declared.version.Version.TheVariants.{One, Two}
 use Rattle.vga_script.specs.DumpRange.{IsShownInRange}
 use Rattle.vga_script.specs.Step.{IsBlock, IsInRange, AreInRange}
 use Rattle.vga_bits.specs.Hex.{hex, hex_digit}
-use Rattle.vga_script.specs.Printing.{port_text, address_text, block_words, shown_field_words, field_words, printed_words, line_of, printed_line, printed_steps}
+use Rattle.vga_script.specs.Printing.{port_text, address_text, block_words, shown_field_words, words_after_name, printed_words, line_of, printed_line, printed_steps}
 use Rattle.vga_script.specs.Printing.{printed_item, version_line, printed}
 
 -- ---- digits
@@ -276,7 +276,7 @@ register_text name v lower small = inr (name, hex 4 v, refl, lower, spells_exact
 
 -- the words of a step's fields are words, and spell its fields
 abbrev Prints : Step → Type 0
-Prints s = AreWords (field_words s) × SpellsFields (field_words s) s
+Prints s = AreWords (words_after_name s) × SpellsFields (words_after_name s) s
 
 -- a port, and an address
 port_prints : (port : ℕ) → port < 2 ^ 16 → AreWords (port_text port ∷ []) × SpellsHex 4 (port_text port ∷ []) port

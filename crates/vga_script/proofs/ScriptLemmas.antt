@@ -14,7 +14,7 @@ use Rattle.vga_script.specs.Text.{SpellsText}
 use Rattle.vga_script.specs.DumpRange.{IsShownInRange}
 use Rattle.vga_script.specs.Step.{IsBlock, IsInRange, AreInRange}
 use Rattle.vga_script.specs.Spelling.{script_limit, encoding, Spells}
-use Rattle.vga_script.specs.Script.{IsScript, SpellsTooLong}
+use Rattle.vga_script.specs.Script.{IsScript, SpellsTooLongScript}
 use Rattle.vga_script.proofs.NumberLemmas.{hex_below}
 use Rattle.vga_script.proofs.FieldLemmas.{all_bytes}
 use Rattle.vga_script.proofs.ItemLemmas.{range-append}
@@ -130,5 +130,5 @@ text_fits text bytes (script, h, e) short =
 
 -- a text whose script has too many bytes
 pub too_long : (text bytes : List ℕ) → (script : Listing) × SpellsText text script × (bytes ≡ encoding script) → script_limit < length bytes →
-    SpellsTooLong text
+    SpellsTooLongScript text
 too_long text bytes (script, h, e) long = (script, h, subst (λ (l : List ℕ). script_limit < length l) e long)

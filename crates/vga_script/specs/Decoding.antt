@@ -59,8 +59,8 @@ StartsWithNoOpcode bytes = (opcode : ℕ) × (rest : List ℕ) × (bytes ≡ opc
 -- The bytes begin with a whole dump of a plane that is out of range: of no plane, of no bytes or
 -- more than 256, or past the plane's end. The offset and the count are below 65,536, since larger
 -- numbers would be spelled as smaller ones are.
-abbrev pub StartsOutOfRange : List ℕ → Type 0
-StartsOutOfRange bytes =
+abbrev pub StartsWithPlaneOutOfRange : List ℕ → Type 0
+StartsWithPlaneOutOfRange bytes =
     (plane : ℕ) × (offset : ℕ) × (count : ℕ) × (rest : List ℕ) × (offset < 2 ^ 16)
     × (count < 2 ^ 16)
     × (bytes ≡ spelling (Show (shown.Plane plane offset count)) ++ rest)
@@ -68,7 +68,7 @@ StartsOutOfRange bytes =
 
 -- no step begins so, however the bytes go on
 abbrev pub StartsWithBadStep : List ℕ → Type 0
-StartsWithBadStep bytes = StartsWithNoOpcode bytes ⊎ StartsOutOfRange bytes
+StartsWithBadStep bytes = StartsWithNoOpcode bytes ⊎ StartsWithPlaneOutOfRange bytes
 
 -- the bytes begin with an opcode, and end before the last byte of its fields
 abbrev pub StartsWithCutStep : List ℕ → Type 0

@@ -43,25 +43,25 @@ shown_field_words shown.BiosData = []
 shown_field_words shown.Cells = []
 
 -- the words that follow a step's name
-abbrev pub field_words : Step → List (List ℕ)
-field_words (Out port value) = port_text port ∷ hex 2 value ∷ []
-field_words (OutWord port value) = port_text port ∷ hex 4 value ∷ []
-field_words (In port) = port_text port ∷ []
-field_words (InWord port) = port_text port ∷ []
-field_words (Put address value) = address_text address ∷ hex 2 value ∷ []
-field_words (PutWord address value) = address_text address ∷ hex 4 value ∷ []
-field_words (Get address) = address_text address ∷ []
-field_words (GetWord address) = address_text address ∷ []
-field_words (Int ax bx cx dx block) =
+abbrev pub words_after_name : Step → List (List ℕ)
+words_after_name (Out port value) = port_text port ∷ hex 2 value ∷ []
+words_after_name (OutWord port value) = port_text port ∷ hex 4 value ∷ []
+words_after_name (In port) = port_text port ∷ []
+words_after_name (InWord port) = port_text port ∷ []
+words_after_name (Put address value) = address_text address ∷ hex 2 value ∷ []
+words_after_name (PutWord address value) = address_text address ∷ hex 4 value ∷ []
+words_after_name (Get address) = address_text address ∷ []
+words_after_name (GetWord address) = address_text address ∷ []
+words_after_name (Int ax bx cx dx block) =
     (codes "ax=" ++ hex 4 ax) ∷ (codes "bx=" ++ hex 4 bx) ∷ (codes "cx=" ++ hex 4 cx) ∷ (codes "dx="
     ++ hex 4 dx) ∷ block_words block
-field_words (Advance dots) = decimal dots ∷ []
-field_words Frame = []
-field_words (Show what) = shown_name what ∷ shown_field_words what
+words_after_name (Advance dots) = decimal dots ∷ []
+words_after_name Frame = []
+words_after_name (Show what) = shown_name what ∷ shown_field_words what
 
 -- the words of a step
 abbrev pub printed_words : Step → List (List ℕ)
-printed_words step = name_of (keyword_of step) ∷ field_words step
+printed_words step = name_of (keyword_of step) ∷ words_after_name step
 
 -- a line of these words, separated by one space each, and a newline
 unfoldable pub line_of : List (List ℕ) → List ℕ

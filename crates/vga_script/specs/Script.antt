@@ -14,14 +14,14 @@ pub record IsScript (script : Listing) : Type 0 where
   pub short : length (encoding script) ≤ script_limit
 
 -- a text spells a script of more bytes than a script may have
-abbrev pub SpellsTooLong : List ℕ → Type 0
-SpellsTooLong text = (script : Listing) × SpellsText text script
+abbrev pub SpellsTooLongScript : List ℕ → Type 0
+SpellsTooLongScript text = (script : Listing) × SpellsText text script
     × (script_limit < length (encoding script))
 
 -- The first fault of a text: it is too long; or one of its lines is bad; or its script has too many
 -- bytes. They are judged in this order.
 abbrev pub IsTextFault : List ℕ → Fault → Type 0
 IsTextFault text TooLong = (script_limit < length text)
-    ⊎ ((length text ≤ script_limit) × SpellsTooLong text)
+    ⊎ ((length text ≤ script_limit) × SpellsTooLongScript text)
 IsTextFault text (BadLine n) = (length text ≤ script_limit) × IsBadLine text n
 IsTextFault text _ = ⊥

@@ -2,7 +2,7 @@
 ghost use Rattle.std.specs.Prelude.{◌≡◌, ◌≢◌, ◌<◌, ◌++◌, ◌∷◌, length, IfOk, IfErr, IsOkUnless};
 ghost use Rattle.std.specs.Prelude.{OnOk, IfSome, Err};
 ghost use Rattle.byteorder.specs.Endian.{little_bytes};
-ghost use Rattle.vga_script.specs.Decoding.{StartsOutOfRange, StartsWithBadStep, StartsWithCutStep};
+ghost use Rattle.vga_script.specs.Decoding.{StartsWithPlaneOutOfRange, StartsWithBadStep, StartsWithCutStep};
 ghost use Rattle.vga_script.specs.DumpRange.{kind_dac, kind_plane, shown_spelling};
 ghost use Rattle.vga_script.specs.Spelling.{StartsWithStep, opcode_frame, opcode_int, opcode_show};
 ghost use Rattle.vga_script.specs.Spelling.{spelling};
@@ -135,7 +135,7 @@ fn dac_at(fields: &[u8]) -> Result<(Step<'_>, &[u8]), NoStep>
 fn plane_at(fields: &[u8]) -> Result<(Step<'_>, &[u8]), NoStep>
     ensures found { IfOk result (λ x. StartsWithStep (opcode_show ∷ kind_plane ∷ fields.now) x.0
         x.1.now) }
-    ensures bad { result ≡ Err NoStep.Bad → StartsOutOfRange
+    ensures bad { result ≡ Err NoStep.Bad → StartsWithPlaneOutOfRange
         (opcode_show ∷ kind_plane ∷ fields.now) }
     ensures cut { result ≡ Err NoStep.Cut → StartsWithCutStep
         (opcode_show ∷ kind_plane ∷ fields.now) }

@@ -4,7 +4,7 @@ ghost use Rattle.vga_bits.specs.Tracked.{inner_of, has_failed, Writes};
 ghost use Rattle.vga_show.specs.Lines.{room, behind_blanks};
 ghost use Rattle.vga_show.specs.Bda.{mode_words, place_words, other_words, bda_text as bda_text_of};
 
-use super::text::{DumpText, push_byte_field, push_word, push_word_field};
+use super::text::{DumpText, push_byte_field, push_spaced_word, push_word_field};
 use bios_modes::Bda;
 use std::io::Write;
 use vga_bits::{Fault, Tracked, write_whole};
@@ -31,7 +31,7 @@ fn push_places(text: &mut DumpText, bda: &Bda)
 {
     text.push(b" at");
     for i in 0..8 {
-        push_word(text, bda.cursor_place(i));
+        push_spaced_word(text, bda.cursor_place(i));
     }
 }
 

@@ -8,7 +8,7 @@ ghost use Rattle.vga_show.specs.Cells.{cells_refusal as cells_refusal_of, cell_w
 ghost use Rattle.vga_show.specs.Cells.{row_text as row_text_of, rows_text, cells_text};
 ghost use Rattle.vga_show.specs.Cells.{cells_answer, HasCells};
 
-use super::text::{DumpText, push_word};
+use super::text::{DumpText, push_spaced_word};
 use bios_modes::{Bda, is_text};
 use std::io::Write;
 use vga_bits::{Fault, Refusal, Tracked, write_whole};
@@ -50,7 +50,7 @@ fn push_cells(text: &mut DumpText, card: &Card, bda: &Bda, row: u8)
 {
     let first = bda.columns() as u32 * row as u32;
     for column in 0..bda.columns() {
-        push_word(text, cell(card, bda, first + column as u32));
+        push_spaced_word(text, cell(card, bda, first + column as u32));
     }
 }
 

@@ -3,7 +3,7 @@ ghost use Rattle.std.specs.Prelude.{◌≡◌, false};
 ghost use Rattle.vga_bits.specs.Tracked.{inner_of, has_failed, Writes};
 ghost use Rattle.vga_show.specs.Dac.{entry_text as entry_text_of};
 
-use super::text::{DumpText, push_byte};
+use super::text::{DumpText, push_spaced_byte};
 use std::io::Write;
 use vga_bits::{Fault, Tracked, write_whole};
 use vga_card::Card;
@@ -16,11 +16,11 @@ fn entry_text(card: &Card, index: u8) -> DumpText
     let [red, green, blue] = card.regs().dac.entry(index);
     let mut text = DumpText::new();
     text.push(b"entry");
-    push_byte(&mut text, index);
+    push_spaced_byte(&mut text, index);
     text.push(b":");
-    push_byte(&mut text, red);
-    push_byte(&mut text, green);
-    push_byte(&mut text, blue);
+    push_spaced_byte(&mut text, red);
+    push_spaced_byte(&mut text, green);
+    push_spaced_byte(&mut text, blue);
     text.push(b"\n");
     text
 }

@@ -3,7 +3,7 @@ ghost use Rattle.std.specs.Prelude.{◌≡◌, false};
 ghost use Rattle.vga_bits.specs.Tracked.{inner_of, has_failed, Writes};
 ghost use Rattle.vga_show.specs.Latches.{latches_text as latches_text_of};
 
-use super::text::{DumpText, push_byte};
+use super::text::{DumpText, push_spaced_byte};
 use std::io::Write;
 use vga_bits::{Fault, Tracked, write_whole};
 use vga_card::Card;
@@ -16,10 +16,10 @@ fn latches_text(card: &Card) -> DumpText
     let latches = card.latches();
     let mut text = DumpText::new();
     text.push(b"latches");
-    push_byte(&mut text, latches.byte(0));
-    push_byte(&mut text, latches.byte(1));
-    push_byte(&mut text, latches.byte(2));
-    push_byte(&mut text, latches.byte(3));
+    push_spaced_byte(&mut text, latches.byte(0));
+    push_spaced_byte(&mut text, latches.byte(1));
+    push_spaced_byte(&mut text, latches.byte(2));
+    push_spaced_byte(&mut text, latches.byte(3));
     text.push(b"\n");
     text
 }

@@ -5,15 +5,15 @@ ghost use Rattle.vga_planes.specs.Planes.{byte_at};
 ghost use Rattle.vga_show.specs.Lines.{room, hex_bytes, behind_blanks};
 ghost use Rattle.vga_show.specs.Plane.{plane_text as plane_text_of};
 
-use super::text::{DumpText, push_byte, push_word};
+use super::text::{DumpText, push_spaced_byte, push_spaced_word};
 use std::io::Write;
 use vga_bits::{Fault, Tracked, write_whole};
 use vga_card::Card;
 use vga_planes::Planes;
 
-/// Appends bytes of a plane, from an offset on.
+/// Appends a blank and two digits for each byte of a plane, from an offset on.
 #[tactic(auto, using(crate::proofs::TextLemmas::listing))]
-fn push_bytes(text: &mut DumpText, planes: &Planes, plane: usize, offset: u16, count: u16)
+fn push_plane_bytes(text: &mut DumpText, planes: &Planes, plane: usize, offset: u16, count: u16)
     requires plane { plane < 4 }
     requires end { offset + count ≤ 65536 }
     requires room { length text.old + 3 * count ≤ room }
@@ -22,7 +22,7 @@ fn push_bytes(text: &mut DumpText, planes: &Planes, plane: usize, offset: u16, c
     ensures len { length text.new ≡ length text.old + 3 * count }
 {
     for i in 0..count {
-        push_byte(text, planes.byte(plane, offset + i));
+        push_spaced_byte(text, planes.byte(plane, offset + i));
     }
 }
 
@@ -36,9 +36,9 @@ fn plane_text(card: &Card, plane: u8, offset: u16, count: u16) -> DumpText
     let mut text = DumpText::new();
     text.push(b"plane ");
     text.push(&[b'0' + plane]);
-    push_word(&mut text, offset);
+    push_spaced_word(&mut text, offset);
     text.push(b":");
-    push_bytes(&mut text, card.planes(), plane as usize, offset, count);
+    push_plane_bytes(&mut text, card.planes(), plane as usize, offset, count);
     text.push(b"\n");
     text
 }

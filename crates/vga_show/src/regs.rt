@@ -6,7 +6,7 @@ ghost use Rattle.vga_show.specs.Regs.{misc_line, group_line, attr_line};
 ghost use Rattle.vga_show.specs.Regs.{component_letter as component_letter_of, dac_line};
 ghost use Rattle.vga_show.specs.Regs.{regs_text as regs_text_of};
 
-use super::text::{DumpText, push_byte, push_bytes};
+use super::text::{DumpText, push_spaced_byte, push_spaced_bytes};
 use std::io::Write;
 use vga_attr::Attr;
 use vga_bits::{Fault, Tracked, write_whole};
@@ -21,7 +21,7 @@ fn push_misc(text: &mut DumpText, misc: u8)
     ensures len { length text.new ≡ length text.old + 8 }
 {
     text.push(b"misc");
-    push_byte(text, misc);
+    push_spaced_byte(text, misc);
     text.push(b"\n");
 }
 
@@ -35,9 +35,9 @@ fn push_group(text: &mut DumpText, name: &[u8], index: u8, registers: &[u8])
         ≡ length text.old + length name.now + 3 * length registers.now + 5 }
 {
     text.push(name);
-    push_byte(text, index);
+    push_spaced_byte(text, index);
     text.push(b":");
-    push_bytes(text, registers);
+    push_spaced_bytes(text, registers);
     text.push(b"\n");
 }
 
@@ -49,9 +49,9 @@ fn push_attr(text: &mut DumpText, attr: &Attr)
     ensures len { length text.new ≡ length text.old + 74 }
 {
     text.push(b"attr");
-    push_byte(text, attr.read_index());
+    push_spaced_byte(text, attr.read_index());
     text.push(if attr.is_data() { b" d:" } else { b" i:" });
-    push_bytes(text, attr.regs());
+    push_spaced_bytes(text, attr.regs());
     text.push(b"\n");
 }
 
@@ -75,11 +75,11 @@ fn push_dac(text: &mut DumpText, dac: &Dac)
 {
     let (red, green) = dac.waiting();
     text.push(b"dac");
-    push_byte(text, dac.read_index());
+    push_spaced_byte(text, dac.read_index());
     text.push(&[b' ', component_letter(dac.component())]);
-    push_byte(text, dac.mask());
-    push_byte(text, red);
-    push_byte(text, green);
+    push_spaced_byte(text, dac.mask());
+    push_spaced_byte(text, red);
+    push_spaced_byte(text, green);
     text.push(b"\n");
 }
 

@@ -11,7 +11,7 @@ const ROOM: usize = 782;
 pub(crate) type DumpText = vga_bits::TextBuffer<ROOM>;
 
 /// Appends a blank and the two digits of a byte.
-pub(crate) fn push_byte(text: &mut DumpText, v: u8)
+pub(crate) fn push_spaced_byte(text: &mut DumpText, v: u8)
     requires { length text.old + 3 ≤ room }
     ensures items { text.new ≡ text.old ++ (codes " " ++ hex_byte v) }
     ensures len { length text.new ≡ length text.old + 3 }
@@ -22,19 +22,19 @@ pub(crate) fn push_byte(text: &mut DumpText, v: u8)
 
 /// Appends a blank and two digits for each byte.
 #[tactic(auto, using(crate::proofs::TextLemmas::listing))]
-pub(crate) fn push_bytes(text: &mut DumpText, bytes: &[u8])
+pub(crate) fn push_spaced_bytes(text: &mut DumpText, bytes: &[u8])
     requires { length text.old + 3 * length bytes.now ≤ room }
     ensures items { text.new ≡ text.old ++ behind_blanks
         (hex_bytes (slice_index bytes.now) 0 (length bytes.now)) }
     ensures len { length text.new ≡ length text.old + 3 * length bytes.now }
 {
     for i in 0..bytes.len() {
-        push_byte(text, bytes[i]);
+        push_spaced_byte(text, bytes[i]);
     }
 }
 
 /// Appends a blank and the four digits of a word.
-pub(crate) fn push_word(text: &mut DumpText, v: u16)
+pub(crate) fn push_spaced_word(text: &mut DumpText, v: u16)
     requires { length text.old + 5 ≤ room }
     ensures items { text.new ≡ text.old ++ (codes " " ++ hex_word v) }
     ensures len { length text.new ≡ length text.old + 5 }
@@ -51,7 +51,7 @@ pub(crate) fn push_byte_field(text: &mut DumpText, name: &[u8], v: u8)
 {
     text.push(b" ");
     text.push(name);
-    push_byte(text, v);
+    push_spaced_byte(text, v);
 }
 
 /// Appends a blank, a name, a blank and the four digits of a word.
@@ -62,7 +62,7 @@ pub(crate) fn push_word_field(text: &mut DumpText, name: &[u8], v: u16)
 {
     text.push(b" ");
     text.push(name);
-    push_word(text, v);
+    push_spaced_word(text, v);
 }
 
 /// Appends a blank, a name, a blank and a number of at most ten digits in decimal.

@@ -3,7 +3,7 @@ ghost use Rattle.std.specs.Prelude.{◌≡◌, ◌+◌, ◌≤◌, ◌↔◌, le
 ghost use Rattle.std.specs.List.{flat_map};
 ghost use Rattle.vga_bits.specs.Saved.{word_bytes, words_in, IsPut};
 ghost use Rattle.bios_modes.specs.Valid.{IsValid};
-ghost use Rattle.bios_modes.specs.Saved.{saved_prefix, saved_back, saved_bda, bda_from, IsSavedBda};
+ghost use Rattle.bios_modes.specs.Saved.{saved_front, saved_back, saved_bda, bda_from, IsSavedBda};
 
 use super::{Bda, PAGES};
 use vga_bits::{high_byte, low_byte, put_bytes, put_word, word_at};
@@ -39,7 +39,7 @@ impl Bda {
 
     /// The bytes before the cursor positions.
     fn prefix(&self) -> [u8; 7]
-        ensures { result ≡ saved_prefix self.now }
+        ensures { result ≡ saved_front self.now }
     {
         [
             self.mode,

@@ -1,4 +1,4 @@
--- Rows of a band that are copied, and rows that are filled, on any machine whose memory is flat.
+-- Copying and filling the rows of a band, on any machine whose memory is flat.
 use Rattle.std.proofs.Common.{◌≡◌, ◌≢◌, ℕ, ◌+◌, ◌-◌, ◌*◌, ◌%◌, ◌<◌, ◌≤◌, sym, ap, ◌∙◌, subst, arith, Bool, true, false}
 use Rattle.std.specs.Prelude.{◌==◌, if◌then◌else◌}
 use Rattle.vga_card.specs.Bus.{Meaning}
@@ -21,8 +21,9 @@ some_bytes Text = omega arith
 some_bytes Planar = omega arith
 some_bytes Packed = omega arith
 
--- a window of a page in a memory of `size` cells from an address on: the page has `rows` rows of characters from cell `start`
--- on, and the window has the band's cells of each line, a fixed number for a column
+-- a window of a page, whose memory has `size` cells from address `base` on: the page has `rows`
+-- rows of characters from cell `start` on. On each line the band covers the window's columns, with
+-- a fixed number of cells for a column
 pub record IsWindow (base size : ℕ) (band : Band) (start rows : ℕ) (window : Window) : Type 0 where
   pub address : band.start ≡ base + start
   pub memory : start + band.pitch * (band.lines * rows) ≤ size
@@ -41,7 +42,7 @@ filled_small filling i e o = by_test (i % 2 == 0)
     by_test false = o
 
 module _ (S X : Type 0) (m : Meaning S) (base size : ℕ) (band : Band) (start rows : ℕ) (window : Window) (w : IsWindow base size band start rows window) where
-  -- a cell of a line, and one of a row
+  -- a cell of a line, and a cell of a row
   abbrev pub Column : Type 0
   Column = Turn (λ _. Unit {0}) 0 band.width
 
@@ -62,7 +63,7 @@ module _ (S X : Type 0) (m : Meaning S) (base size : ℕ) (band : Band) (start r
       let e = w.memory in
       omega arith
 
-  -- two cells are equal only if their rows and lines are
+  -- two cells are the same only if their rows and lines are
   same_line : (r a i s b j : ℕ) → a < band.lines → b < band.lines → i < band.width → j < band.width → place r a i ≡ place s b j → (r ≡ s) × (a ≡ b)
   same_line r a i s b j la lb li lj h =
       let q : band.pitch * (band.lines * r + a) + (band.left + i) ≡ band.pitch * (band.lines * s + b) + (band.left + j) = omega arith in
@@ -76,13 +77,13 @@ module _ (S X : Type 0) (m : Meaning S) (base size : ℕ) (band : Band) (start r
   lines_apart : (r a b : ℕ) (g h : Column) → a < band.lines → b < band.lines → a ≢ b → place r a g.turn ≢ place r b h.turn
   lines_apart r a b g h la lb o q = o (same_line r a g.turn r b h.turn la lb g.before h.before q).1
 
-  -- a cell of a line, as one of its row
+  -- a cell of a line, as a cell of its row
   abbrev of_line : (line : ℕ) → line < band.lines → Column → Line
   of_line line l h = record { turn = line; from = omega arith; before = l; place = h }
 
   -- ---- rows are copied
 
-  -- rows that move down by n, by the rows that get them
+  -- rows that move down by n, numbered by where they go
   by_target : (first count n : ℕ) (f g : ℕ → X) → Moved X (Turn (λ _. Line) first (first + count)) (λ h. place h.turn h.place.turn h.place.place.turn)
       (λ h. place (h.turn + n) h.place.turn h.place.place.turn) f g → Moved X (Turn (λ _. Line) (first + n) (first + n + count))
       (λ h. place (h.turn - n) h.place.turn h.place.place.turn) (λ h. place h.turn h.place.turn h.place.place.turn) f g
@@ -158,7 +159,7 @@ module _ (S X : Type 0) (m : Meaning S) (base size : ℕ) (band : Band) (start r
         count top s f (omega arith) (omega arith) t in
         record { cells = down.cells; shown = down.shown; fact = by_target top count n f down.cells down.fact }
 
-  -- ---- rows are filled, if a byte changes a cell
+  -- ---- rows are filled, on a machine where storing a byte changes one cell
 
   module _ (R : S → (ℕ → X) → Type 0) (made : ℕ → X → X) (stored : (j v : ℕ) (s : S) (f : ℕ → X) → j < size → v < 256 → R s f →
       R (run m (put (base + j) v) s).0 (set_cell f j (made v (f j)))) (filling : Filling) (even : filling.even < 256) (odd : filling.odd < 256) where

@@ -1,11 +1,11 @@
--- Where the cells of characters lie on a page of pixels: columns and rows by division, whatever their numbers are.
+-- Where character cells lie on a page of pixels: rows and columns by division, for any sizes.
 use Rattle.std.proofs.Common.{◌≡◌, ℕ, ◌+◌, ◌*◌, ◌/◌, ◌%◌, ◌<◌, ◌≤◌, ⊎_elim, sym, ap, ◌∙◌, arith}
 use Rattle.std.proofs.Math.Nat.{mod-lt}
 use Rattle.std.proofs.lemmas.Bool.{cases_lt}
 use Rattle.std.proofs.lemmas.Nat.{div-mul-add, mod-mul-add, mul-add-lt, mul-le}
 use Rattle.bios_screen.proofs.Base.Places.{rows_further, row_and_column}
 
--- the cell of strip b of a page, of which w make a line, and the line in that cell, if a character has h lines
+-- the cell of strip b, and the line in it; w strips make a line, and h lines a character
 abbrev pub cell_of : ℕ → ℕ → ℕ → ℕ
 cell_of w h b = w * (b / w / h) + b % w
 
@@ -44,11 +44,11 @@ cell_of_strip w h q r lw lr =
 pub line_of_strip : (w h q r : ℕ) → 0 < w → r < h → line_of w h (strip_at w h q r) ≡ r
 line_of_strip w h q r lw lr = ap (λ n. n % h) (line_over w h q r lw) ∙ rest h (q / w) r lr
 
--- two lines of a cell have two strips
+-- different lines of a cell have different strips
 pub same_line : (w h q r v : ℕ) → 0 < w → r < h → v < h → strip_at w h q r ≡ strip_at w h q v → r ≡ v
 same_line w h q r v lw lr lv e = sym (line_of_strip w h q r lw lr) ∙ ap (line_of w h) e ∙ line_of_strip w h q v lw lv
 
--- the strips of a cell of a page lie on that page
+-- the strips of a page's cell lie on that page
 pub strip_within : (w h rows q r : ℕ) → 0 < w → r < h → q < w * rows → strip_at w h q r < w * (h * rows)
 strip_within w h rows q r lw lr lq =
     let row : q / w < rows = ⊎_elim (λ (a : q / w < rows). a) (λ (a : rows ≤ q / w). let e = row_and_column w q lw in let g =
@@ -57,7 +57,7 @@ strip_within w h rows q r lw lr lq =
     let a = mul-add-lt (h * (q / w) + r) w (q % w) (h * rows) y (mod-lt q lw) in
     omega arith
 
--- eight pixels make a strip
+-- a pixel's number by line, strip and position in the strip; eight pixels make a strip
 split : (w k : ℕ) → 0 < w → k ≡ 8 * w * (k / 8 / w) + (8 * (k / 8 % w) + k % 8)
 split w k lw =
     let e = row_and_column w (k / 8) lw in
@@ -85,7 +85,7 @@ pixel_cell_is w h k lw = ap (λ n. w * (n / h) + k % (8 * w) / 8) (line_by_8 w k
 pub pixel_line_is : (w h k : ℕ) → 0 < w → k / (8 * w) % h ≡ line_of w h (k / 8)
 pixel_line_is w h k lw = ap (λ n. n % h) (line_by_8 w k lw)
 
--- a strip of one of the first rows, and one that lies some rows below it
+-- a strip in one of the first rows of characters, and the one some rows below it
 pub within_rows : (w h rows b : ℕ) → 0 < w → 0 < h → b / w / h < rows → b < w * (h * rows)
 within_rows w h rows b lw lh l =
     let y = row_and_column h (b / w) lh in
@@ -103,7 +103,7 @@ moved_within w h rows b n lw lh l =
     let e = mul-le w (h * (first + n)) w (h * rows) (omega arith) (mul-le h (first + n) h rows (omega arith) (omega arith)) in
     omega arith
 
--- the rows above a strip have no more strips than its number
+-- if n rows of characters lie above strip b, then b is at least their number of strips
 pub rows_above : (w h b n : ℕ) → 0 < w → 0 < h → n ≤ b / w / h → w * (h * n) ≤ b
 rows_above w h b n lw lh l =
     let y = row_and_column h (b / w) lh in

@@ -1,4 +1,4 @@
--- Lists of dots by number, line by line, with their lines and bytes.
+-- Lists of dots by number, line by line, and their scan lines and bytes.
 use Rattle.std.proofs.Common.{◌≡◌, ℕ, zero, suc, ◌+◌, ◌-◌, ◌*◌, ◌%◌, ◌<◌, ◌≤◌, refl, sym, ap, ◌∙◌, arith, Bool, true, false, List, [], ◌∷◌, ◌++◌, append_assoc}
 use Rattle.std.proofs.Common.{replicate}
 use Rattle.std.specs.Prelude.{nat_lt, if◌then◌else◌, ◌&&◌}
@@ -13,26 +13,26 @@ pub same_collected : (f g : ℕ → List Dot) (n : ℕ) → ((i : ℕ) → i < n
 same_collected f g zero h = refl
 same_collected f g (suc n) h = ap (λ l. l ++ f n) (same_collected f g n (λ i l. h i (omega arith))) ∙ ap (λ l. collect g n ++ l) (h n (omega arith))
 
--- nothing and nothing is nothing
+-- if each number below n gives no dots, they give none together
 pub none_collected : (f : ℕ → List Dot) (n : ℕ) → ((i : ℕ) → i < n → f i ≡ []) → collect f n ≡ []
 none_collected f zero h = refl
 none_collected f (suc n) h = ap (λ l. l ++ f n) (none_collected f n (λ i l. h i (omega arith))) ∙ h n (omega arith)
 
--- the first a, and the b that come then
+-- the first a + b numbers are the first a and then the next b
 pub collected_split : (f : ℕ → List Dot) (a b : ℕ) → collect f (a + b) ≡ collect f a ++ collect (λ i. f (a + i)) b
 collected_split f a zero = let e : a + 0 ≡ a = omega arith in ap (collect f) e ∙ sym (append-nil (collect f a))
 collected_split f a (suc b) =
     let e : a + suc b ≡ suc (a + b) = omega arith in
     ap (collect f) e ∙ ap (λ l. l ++ f (a + b)) (collected_split f a b) ∙ append_assoc (collect f a) (collect (λ i. f (a + i)) b) (f (a + b))
 
--- line after line
+-- whole lines of dots, one line after another
 pub collected_lines : (f : ℕ → List Dot) (line n : ℕ) → collect f (n * line) ≡ collect (λ y. collect (λ x. f (y * line + x)) line) n
 collected_lines f line zero = let e : 0 * line ≡ 0 = omega arith in ap (collect f) e
 collected_lines f line (suc n) =
     let e : suc n * line ≡ n * line + line = omega arith in
     ap (collect f) e ∙ collected_split f (n * line) line ∙ ap (λ l. l ++ collect (λ x. f (n * line + x)) line) (collected_lines f line n)
 
--- the first a of n, if the others are nothing
+-- the first a of n numbers, if the others give no dots
 pub collected_prefix : (f : ℕ → List Dot) (a n : ℕ) → a ≤ n → ((i : ℕ) → a ≤ i → i < n → f i ≡ []) → collect f n ≡ collect f a
 collected_prefix f a n le h =
     let e : n ≡ a + (n - a) = omega arith in
@@ -88,7 +88,7 @@ whole_picture m f narrow low =
     ∙ collected_prefix rows m.height m.lines low (λ y below in_frame. no_row_there m f y below)
     ∙ same_collected rows (row_dots f (width m)) m.height (λ y within. row_there m f y narrow within)
 
--- ---- its lines
+-- ---- its scan lines
 
 row_lines : (f : Colours) (w y : ℕ) → lines_of (row_dots f w y) ≡ replicate w y
 row_lines f zero y = refl

@@ -1,4 +1,4 @@
--- A loop whose turns change cells of a flat memory, from what they or others were, on any machine.
+-- A loop whose turns change cells of a flat memory, on any machine.
 use Rattle.std.proofs.Common.{◌≡◌, ◌≢◌, ℕ, zero, suc, ◌+◌, ◌<◌, ◌≤◌, ⊎_elim, refl, sym, ap, ◌∙◌, subst, arith}
 use Rattle.std.proofs.lemmas.Bool.{cases_eq}
 use Rattle.vga_card.specs.Bus.{Meaning}
@@ -7,15 +7,15 @@ use Rattle.bios_screen.proofs.Base.Plans.{run_bind}
 use Rattle.bios_screen.proofs.Base.Flat.{Leaves, set_same, set_other}
 use Rattle.bios_screen.proofs.Base.Flat.{Changed, Edited, Turn, set_cell}
 
--- one cell
+-- one cell is set
 pub one_edit : {X : Type 0} (a : ℕ) (v : X) (c : ℕ → X) → Edited X (Unit {0}) (λ _. a) (λ _ x. v) c (set_cell c a v)
 one_edit a v c = record { inside = λ h. set_same c a v a refl; outside = λ x o. set_other c a v x (o tt) }
 
--- one cell that is a function of what it was
+-- one cell becomes a function of what it was
 pub changed_edit : {X : Type 0} (a : ℕ) (G : X → X) (c : ℕ → X) → Edited X (Unit {0}) (λ _. a) (λ _ x. G x) c (set_cell c a (G (c a)))
 changed_edit a G c = record { inside = λ h. set_same c a (G (c a)) a refl; outside = λ x o. set_other c a (G (c a)) x (o tt) }
 
--- the same places twice
+-- the same cells are changed twice
 pub edited_twice : {X H : Type 0} (at : H → ℕ) (F G : H → X → X) (a b c : ℕ → X) → Edited X H at F a b → Edited X H at G b c →
     Edited X H at (λ h x. G h (F h x)) a c
 edited_twice at F G a b c p q = record { inside = λ h. q.inside h ∙ ap (G h) (p.inside h); outside = λ x o. q.outside x o ∙ p.outside x o }
@@ -24,7 +24,7 @@ module _ (S X : Type 0) (m : Meaning S) (f : ℕ → Plan (Unit {0})) (R : ℕ �
     (F : (r : ℕ) → H r → X → X) (apart : (j k : ℕ) (g : H j) (h : H k) → b ≤ j → j < k → k < e → at j g ≢ at k h)
     (later : (j k : ℕ) (g : H j) (h : H k) → b ≤ j → j < k → k < e → from k h ≢ at j g)
     (turn : (r : ℕ) (s : S) (c : ℕ → X) → b ≤ r → r < e → R r s c → Leaves S X (R (r + 1)) (run m (f r) s).0 (Changed X (H r) (from r) (at r) (F r) c)) where
-  -- n turns from i on, none before b, if no earlier turn changes what a later one reads
+  -- n turns from i on, within b to e, if no earlier turn changes what a later one reads
   pub changes : (n i : ℕ) (s : S) (c : ℕ → X) → b ≤ i → i + n ≡ e → R i s c → Leaves S X (R e) (run m (each f n i) s).0
       (Changed X (Turn H i e) (λ h. from h.turn h.place) (λ h. at h.turn h.place) (λ h. F h.turn h.place) c)
   changes zero i s c lb l r =
@@ -62,7 +62,7 @@ module _ (S X : Type 0) (m : Meaning S) (f : ℕ → Plan (Unit {0})) (R : ℕ �
       subst (λ t. Leaves S X (R e) t.0 Changes)
       (sym (run_bind m (f i) (λ _. each f n (i + 1)) s)) all
 
--- turns that each read what they change
+-- turns that each read only the cells they change
 module _ (S X : Type 0) (m : Meaning S) (f : ℕ → Plan (Unit {0})) (R : ℕ → S → (ℕ → X) → Type 0) (b e : ℕ) (H : ℕ → Type 0) (at : (r : ℕ) → H r → ℕ)
     (F : (r : ℕ) → H r → X → X) (apart : (j k : ℕ) (g : H j) (h : H k) → b ≤ j → j < k → k < e → at j g ≢ at k h)
     (turn : (r : ℕ) (s : S) (c : ℕ → X) → b ≤ r → r < e → R r s c → Leaves S X (R (r + 1)) (run m (f r) s).0 (Edited X (H r) (at r) (F r) c)) where

@@ -1,4 +1,4 @@
--- Lists whose elements a function gives by their numbers.
+-- Lists given by a function of the element number.
 use Rattle.std.proofs.Common.{◌≡◌, ◌≢◌, ℕ, zero, suc, ◌+◌, ◌<◌, ⊎_elim, refl, sym, ap, ◌∙◌, arith, List, ◌∷◌, length, get_or, replicate}
 use Rattle.std.specs.Prelude.{slice_index, set}
 use Rattle.std.proofs.lemmas.Bool.{cases_eq}
@@ -18,7 +18,7 @@ same_listing f g i j (suc n) h =
     ap g (sym ej) ∙ h (suc k) (omega arith) ∙ ap f ei) in
     ap (λ y. y ∷ listing g (j + 1) n) first ∙ ap (λ r. f i ∷ r) rest
 
--- the same from 0 on
+-- the same for listings from 0 on
 pub same_from_0 : {Y : Type 0} (f g : ℕ → Y) (n : ℕ) → ((k : ℕ) → k < n → g k ≡ f k) → listing g 0 n ≡ listing f 0 n
 same_from_0 f g n h = same_listing f g 0 0 n (λ k l. let z : 0 + k ≡ k = omega arith in ap g z ∙ h k l ∙ ap f (sym z))
 
@@ -42,7 +42,7 @@ listing_at f i (suc n) (suc q) d l = let z : i + 1 + q ≡ i + suc q = omega ari
 pub listed_at : {Y : Type 0} (f : ℕ → Y) (n q : ℕ) (d : Y) → q < n → get_or (listing f 0 n) q d ≡ f q
 listed_at f n q d l = let z : 0 + q ≡ q = omega arith in listing_at f 0 n q d l ∙ ap f z
 
--- a list of n numbers is spelled out if n is a numeral
+-- a list of length n is the listing of its elements; for a numeral n it is spelled out
 pub spelled : (l : List ℕ) (n : ℕ) → length l ≡ n → l ≡ listing (slice_index l) 0 n
 spelled l n e = same_number_lists l (listing (slice_index l) 0 n) (e ∙ sym (length_listing (slice_index l) 0 n))
     (λ k h. sym (listed_at (slice_index l) n k 0 (omega arith)))

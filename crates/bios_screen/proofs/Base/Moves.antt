@@ -6,11 +6,11 @@ use Rattle.bios_screen.proofs.Base.Edits.{changes}
 use Rattle.bios_screen.proofs.Base.Flat.{Leaves, set_same, set_other}
 use Rattle.bios_screen.proofs.Base.Flat.{Moved, Turn, set_cell}
 
--- one cell
+-- one cell is moved
 pub one_move : {X : Type 0} (a b : ℕ) (c : ℕ → X) → Moved X (Unit {0}) (λ _. a) (λ _. b) c (set_cell c b (c a))
 one_move a b c = record { inside = λ h. set_same c b (c a) b refl; outside = λ x o. set_other c b (c a) x (o tt) }
 
--- turns in descending order are others in ascending order
+-- turns in descending order are renumbered turns in ascending order
 down_is : (f : ℕ → Plan (Unit {0})) (n i k t : ℕ) → i + n + k ≡ t → each_down f n i ≡ each (λ j. f (t - suc j)) n k
 down_is f zero i k t q = refl
 down_is f (suc n) i k t q =
@@ -20,12 +20,12 @@ down_is f (suc n) i k t q =
 module _ (S X : Type 0) (m : Meaning S) (f : ℕ → Plan (Unit {0})) (R : S → (ℕ → X) → Type 0) (b e : ℕ) (H : ℕ → Type 0) (from to : (r : ℕ) → H r → ℕ)
     (apart : (j k : ℕ) (g : H j) (h : H k) → b ≤ j → j < k → k < e → to j g ≢ to k h)
     (turn : (r : ℕ) (s : S) (c : ℕ → X) → b ≤ r → r < e → R s c → Leaves S X R (run m (f r) s).0 (Moved X (H r) (from r) (to r) c)) where
-  -- ascending, where no later source is an earlier target
+  -- in ascending order, if no later source is an earlier target
   pub moves_up : (later : (j k : ℕ) (g : H j) (h : H k) → b ≤ j → j < k → k < e → from k h ≢ to j g) (n i : ℕ) (s : S) (c : ℕ → X) → b ≤ i → i + n ≡ e → R s c →
       Leaves S X R (run m (each f n i) s).0 (Moved X (Turn H i e) (λ h. from h.turn h.place) (λ h. to h.turn h.place) c)
   moves_up later = changes S X m f (λ _. R) b e H from to (λ _ _ x. x) apart later turn
 
-  -- descending, where no source below is a target above
+  -- in descending order, if no lower source is a higher target
   pub moves_down : (later : (j k : ℕ) (g : H j) (h : H k) → b ≤ j → j < k → k < e → from j g ≢ to k h) (n i : ℕ) (s : S) (c : ℕ → X) → b ≤ i → i + n ≤ e →
       R s c → Leaves S X R (run m (each_down f n i) s).0 (Moved X (Turn H i (i + n)) (λ h. from h.turn h.place) (λ h. to h.turn h.place) c)
   moves_down later n i s c lb l r =

@@ -1,4 +1,4 @@
--- What is known if there is no reason to refuse.
+-- What is known if a call is not refused.
 use Rattle.std.proofs.Common.{◌≡◌, ℕ, ◌+◌, ◌<◌, ◌≤◌, None}
 use Rattle.std.specs.Prelude.{nat_lt, nat_le}
 use Rattle.vga_bits.specs.declared.refusal.Refusal.TheVariants.{BadPage, Outside, CountPast}
@@ -8,7 +8,7 @@ pub use Rattle.bios_services.proofs.ReasonLemmas.{neither, holds, wrong_or, bloc
 use Rattle.bios_screen.proofs.Base.Tests.{both_true, lt_is, le_is}
 use Rattle.bios_screen.proofs.Base.TypedPlaces.{Inside}
 
--- the mode has the page, and the position is on it
+-- the mode has the page, and the position is on the page
 pub page_allowed : (pages page : ℕ) → no_page pages page ≡ None → page < pages
 page_allowed pages page e = lt_is page pages (holds (nat_lt page pages) BadPage e)
 
@@ -17,7 +17,7 @@ place_allowed rows columns place e =
     let both = both_true (nat_lt (row_of place) rows) (nat_lt (column_of place) columns) (holds _ Outside e) in
     record { row = lt_is (row_of place) rows both.0; column = lt_is (column_of place) columns both.1 }
 
--- the page has the cell, and the cells of a run from it on
+-- the mode has the page, and the page has the cell, or all cells of a run from it on
 pub cell_allowed : (pages page at cells : ℕ) → (no_page pages page or outside_cells cells at) ≡ None → (page < pages) × (at < cells)
 cell_allowed pages page at cells e =
     let both = neither (no_page pages page) (outside_cells cells at) e in

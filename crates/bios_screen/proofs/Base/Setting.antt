@@ -1,4 +1,4 @@
--- The registers that a memory cycle depends on, and what it does if they are known.
+-- The registers that a memory cycle depends on, and what the cycle does if they are known.
 use Rattle.std.proofs.Common.{◌≡◌, ℕ, ◌+◌, ◌-◌, ◌%◌, ◌<◌, List, Bool, true, sym, ap, ◌∙◌, arith}
 use Rattle.std.specs.Prelude.{◌&&◌, nat_le, nat_lt}
 use Rattle.std.proofs.lemmas.Bool.Decides.{nat_tests}
@@ -18,11 +18,11 @@ pub record Setting : Type 0 where
 abbrev pub setting : CardState → Setting
 setting c = record { misc = c.misc; seq = c.host.seq; gfx = c.host.gfx }
 
--- a host path whose registers are these
+-- a host path with the registers of this setting
 abbrev pub host_at : HostState → Setting → HostState
 host_at h s = record h { seq = s.seq; gfx = s.gfx }
 
--- an adapter whose registers are these; at its own setting it is the adapter itself, by computation
+-- an adapter with the registers of this setting; with its own setting it is the same adapter
 abbrev pub card_at : CardState → Setting → CardState
 card_at c s = record c { host = host_at c.host s; misc = s.misc }
 
@@ -30,14 +30,14 @@ card_at c s = record c { host = host_at c.host s; misc = s.misc }
 abbrev pub with_memory : CardState → Four (List ℕ) → CardState
 with_memory c m = record c { host = record c.host { memory = m } }
 
--- an address of graphics is decoded if memory is enabled, and its offset is its distance from the first
+-- a graphics address A0000 + a is decoded if memory is enabled and a is below 65536
 pub reached : (enabled : Bool) (a : ℕ) → enabled ≡ true → a < 65536 → (enabled && (nat_le 0xA0000 (0xA0000 + a) && nat_lt (0xA0000 + a) 0xB0000)) ≡ true
 reached enabled a on l = ap (λ b. b && (nat_le 0xA0000 (0xA0000 + a) && nat_lt (0xA0000 + a) 0xB0000)) on ∙ grind (arith, nat_tests)
 
 pub offset_is : (a : ℕ) → a < 65536 → (0xA0000 + a - 0xA0000) % 65536 ≡ a
 offset_is a l = omega arith
 
--- a Put at a decoded address: one equation for every setting
+-- a Put at a decoded address, by one equation for every setting
 pub put_decoded : (c : CardState) (s : Setting) (a v : ℕ) → setting c ≡ s → is_decoded (host_at c.host s) s.misc a ≡ true →
     (run card_meaning (put a v) c).0 ≡ with_memory c (memory_after_put (host_at c.host s) (window_offset (host_at c.host s) a) v)
 put_decoded c s a v e d =
@@ -46,7 +46,7 @@ put_decoded c s a v e d =
     ∙ ap (λ b. (written (card_at c s) (where_decoded b (record (adapter_of (card_at c s)) { host = after_put (host_at c.host s) a v }))).0) d
     ∙ ap (λ x. let y : CardState = record (card_at c x) { host = record (host_at c.host x) { memory = memory } } in y) (sym e)
 
--- a Get at a decoded address
+-- a Get at a decoded address, likewise
 pub get_decoded : (c : CardState) (s : Setting) (a : ℕ) → setting c ≡ s → is_decoded (host_at c.host s) s.misc a ≡ true →
     run card_meaning (get a) c ≡ (record c { host = record c.host { latches = loaded (host_at c.host s) a } }, read_byte (host_at c.host s) a)
 get_decoded c s a e d =

@@ -1,4 +1,4 @@
--- A window of a flat memory whose rows were moved and then filled, by the number of a cell, whatever the sizes are.
+-- A window of a flat memory whose rows were moved and then filled, cell by cell, for any sizes.
 use Rattle.std.proofs.Common.{◌≡◌, ◌≢◌, ℕ, ◌+◌, ◌-◌, ◌*◌, ◌/◌, ◌%◌, ◌<◌, ◌≤◌, refl, sym, ap, ◌∙◌, subst, arith, Bool, true, false}
 use Rattle.std.proofs.Math.Nat.{mod-lt, div-lt_iff_lt-mul, le-div_iff_mul-le}
 use Rattle.vga_card.specs.Bus.{Meaning}
@@ -17,7 +17,7 @@ use Rattle.bios_screen.proofs.Base.Windows.{inside_of, inside_test, contrary, fi
 use Rattle.bios_screen.proofs.Base.Bands.{IsWindow, some_bytes}
 use Rattle.bios_screen.proofs.Base.Bands as bands
 
--- W cells make a line, H lines a row, and the window has `width` cells of each line from `left` on
+-- W cells make a line, and H lines a row; the window has `width` cells of each line from `left` on
 module _ (X : Type 0) (base size : ℕ) (band : Band) (start rows : ℕ) (window : Window) (w : IsWindow base size band start rows window) where
   abbrev W : ℕ
   W = band.pitch
@@ -44,8 +44,8 @@ module _ (X : Type 0) (base size : ℕ) (band : Band) (start rows : ℕ) (window
   at h = place h.turn h.place.turn h.place.place.turn
 
   -- whether cell b of the page lies in the window
-  abbrev pub has_cell : ℕ → Bool
-  has_cell b = in_window window (b / band.pitch / band.lines) (b % band.pitch / column_bytes band.kind)
+  abbrev pub in_this_window : ℕ → Bool
+  in_this_window b = in_window window (b / band.pitch / band.lines) (b % band.pitch / column_bytes band.kind)
 
   record IsIn (b : ℕ) : Type 0 where
     above : window.top ≤ row b
@@ -56,7 +56,7 @@ module _ (X : Type 0) (base size : ℕ) (band : Band) (start rows : ℕ) (window
   abbrev unit : ℕ
   unit = column_bytes band.kind
 
-  in_of : (b : ℕ) → has_cell b ≡ true → IsIn b
+  in_of : (b : ℕ) → in_this_window b ≡ true → IsIn b
   in_of b t =
       let u = some_bytes band.kind in
       let i = inside_of window (row b) (column b / unit) t in
@@ -73,7 +73,7 @@ module _ (X : Type 0) (base size : ℕ) (band : Band) (start rows : ℕ) (window
       let f : W * (H * row b + line b) ≡ W * (b / W) = ap (λ n. W * n) e in
       omega arith
 
-  -- the cell of a turn, its row and its column, and that it is in the window
+  -- the cell that a turn changes, its row and its column; it is in the window
   abbrev cell : {first e : ℕ} → Rows first e → ℕ
   cell h = W * (H * h.turn + h.place.turn) + (band.left + h.place.place.turn)
 
@@ -85,7 +85,7 @@ module _ (X : Type 0) (base size : ℕ) (band : Band) (start rows : ℕ) (window
   column_of h = let l = h.place.place.before in let z = w.after in
       rest W (H * h.turn + h.place.turn) (band.left + h.place.place.turn) (omega arith)
 
-  in_turn : {first e : ℕ} (h : Rows first e) → window.top ≤ first → e ≤ window.top + window.height → has_cell (cell h) ≡ true
+  in_turn : {first e : ℕ} (h : Rows first e) → window.top ≤ first → e ≤ window.top + window.height → in_this_window (cell h) ≡ true
   in_turn h low high =
       let r = row_of h in
       let c = column_of h in
@@ -104,10 +104,10 @@ module _ (X : Type 0) (base size : ℕ) (band : Band) (start rows : ℕ) (window
       })
 
   elsewhere : {first e : ℕ} (h : Rows first e) (o : ℕ) → window.top ≤ first → e ≤ window.top + window.height →
-      ((b : ℕ) → start + b ≡ o → has_cell b ≡ false) → o ≢ at h
-  elsewhere h o low high none q = contrary (has_cell (cell h)) (in_turn h low high) (none (cell h) (sym q))
+      ((b : ℕ) → start + b ≡ o → in_this_window b ≡ false) → o ≢ at h
+  elsewhere h o low high none q = contrary (in_this_window (cell h)) (in_turn h low high) (none (cell h) (sym q))
 
-  -- the turn of a cell
+  -- the turn that changes a cell
   turn_of : (first e b : ℕ) → first ≤ row b → row b < e → IsIn b → Rows first e
   turn_of first e b a k i = let l = i.before in let m = i.after in record {
     turn = row b;
@@ -136,8 +136,8 @@ module _ (X : Type 0) (base size : ℕ) (band : Band) (start rows : ℕ) (window
       let s = shift from (line b) (column b - band.left) n in
       omega arith
 
-  -- it is on the page
-  pub source_within : (direction : Direction) (b n : ℕ) → has_cell b ≡ true → has_source direction window n (b / band.pitch / band.lines) ≡ true →
+  -- that source cell is on the page
+  pub source_within : (direction : Direction) (b n : ℕ) → in_this_window b ≡ true → has_source direction window n (b / band.pitch / band.lines) ≡ true →
       source direction b (band.pitch * (band.lines * n)) < band.pitch * (band.lines * rows)
   source_within Up b n u t =
       let a = lt_is (row b + n) (window.top + window.height) t in
@@ -146,17 +146,17 @@ module _ (X : Type 0) (base size : ℕ) (band : Band) (start rows : ℕ) (window
   source_within Down b n u t = let i = in_of b u in let a = i.below in let z = w.below in let l = within_rows W H rows b w.wide w.high (omega arith) in
       omega arith
 
-  -- a cell of the new rows was filled over, by its number in its line
+  -- a cell of a new row was filled, depending on its number in its line
   pub record IsFilled (B : ℕ → X → X) (b : ℕ) (x : X) : Type 0 where
     pub under : X
     pub is : x ≡ B (b % band.pitch - band.left) under
 
   -- the window has moved by n rows
   pub record IsScrolled (direction : Direction) (n : ℕ) (B : ℕ → X → X) (f g : ℕ → X) : Type 0 where
-    pub moved : (b : ℕ) → has_cell b ≡ true → has_source direction window n (b / band.pitch / band.lines) ≡ true →
+    pub moved : (b : ℕ) → in_this_window b ≡ true → has_source direction window n (b / band.pitch / band.lines) ≡ true →
         g (start + b) ≡ f (start + source direction b (band.pitch * (band.lines * n)))
-    pub filled : (b : ℕ) → has_cell b ≡ true → has_source direction window n (b / band.pitch / band.lines) ≡ false → IsFilled B b (g (start + b))
-    pub outside : (o : ℕ) → ((b : ℕ) → start + b ≡ o → has_cell b ≡ false) → g o ≡ f o
+    pub filled : (b : ℕ) → in_this_window b ≡ true → has_source direction window n (b / band.pitch / band.lines) ≡ false → IsFilled B b (g (start + b))
+    pub outside : (o : ℕ) → ((b : ℕ) → start + b ≡ o → in_this_window b ≡ false) → g o ≡ f o
 
   -- rows that get another row's contents, and new ones
   abbrev pub Taking : Direction → ℕ → Type 0
@@ -191,13 +191,13 @@ module _ (X : Type 0) (base size : ℕ) (band : Band) (start rows : ℕ) (window
             ∙ moves.outside o (λ h. elsewhere h o p.moved_above p.moved_below none);
       }
 
--- what a read of a byte leaves and answers
+-- a read of a byte answers it and leaves the cells unchanged
 pub record IsRead (S : Type 0) (m : Meaning S) (R : S → (ℕ → ℕ) → Type 0) (address : ℕ) (s : S) (f : ℕ → ℕ) (v : ℕ) : Type 0 where
   pub still : R (run m (get address) s).0 f
   pub answer : (run m (get address) s).1 ≡ v
   pub small : v < 256
 
--- cells that are bytes: one filling makes new rows, whatever was there
+-- if cells are bytes, filling makes new rows, whatever was there
 module _ (S : Type 0) (m : Meaning S) (base size : ℕ) (band : Band) (start rows : ℕ) (window : Window) (w : IsWindow base size band start rows window)
     (R : S → (ℕ → ℕ) → Type 0) (read : (i : ℕ) (s : S) (f : ℕ → ℕ) → i < size → R s f → IsRead S m R (base + i) s f (f i))
     (stored : (j v : ℕ) (s : S) (f : ℕ → ℕ) → j < size → v < 256 → R s f → R (run m (put (base + j) v) s).0 (set_cell f j v))

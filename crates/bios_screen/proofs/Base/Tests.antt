@@ -1,4 +1,4 @@
--- What tests say, and what makes them true.
+-- What Boolean tests imply, and what implies them.
 use Rattle.std.proofs.Common.{◌≡◌, ◌≢◌, ℕ, ◌+◌, ◌<◌, ◌≤◌, refl, ap, ◌∙◌, arith, Bool, true, false, Some, None}
 use Rattle.std.specs.Prelude.{◌==◌, ◌&&◌, nat_lt, nat_le, if◌then◌else◌}
 use Rattle.std.proofs.lemmas.Bool.Decides.{nat_tests}
@@ -47,7 +47,7 @@ not_lt a b m = grind (arith, nat_tests)
 pub not_le : (a b : ℕ) → b < a → nat_le a b ≡ false
 not_le a b m = grind (arith, nat_tests)
 
--- a value for the numbers of a run, and another for those before and after it
+-- one value for the numbers of a run, and another for those before and after it
 pub of_run : {Y : Type 0} (first count k : ℕ) (r x y : Y) → (first ≤ k → k < first + count → r ≡ x)
     → (((j : ℕ) → j < count → k ≢ first + j) → r ≡ y) → r ≡ (if nat_le first k && nat_lt k (first + count) then x else y)
 of_run first count k r x y inside outside = by_tests (nat_le first k) (nat_lt k (first + count)) refl refl

@@ -1,4 +1,4 @@
--- Typing within a page leaves a position within it.
+-- Typing from a position of a page leads to a position of that page.
 use Rattle.std.proofs.Common.{◌≡◌, ℕ, ◌+◌, ◌-◌, ◌<◌, ◌≤◌, refl, sym, ap, subst, arith, Bool, true, false}
 use Rattle.std.specs.Prelude.{◌==◌, nat_lt, if◌then◌else◌}
 use Rattle.std.proofs.lemmas.Bool.Decides.{nat_tests}
@@ -8,12 +8,12 @@ use Rattle.bios_services.specs.Teletype.{line_start}
 use Rattle.bios_screen.specs.Step.{last_colour, page_up, line_feed, cursor_advance, put_character, type_character}
 use Rattle.bios_screen.proofs.Base.Tests.{lt_is}
 
--- a position lies on a page of these rows and columns
+-- a position lies on a page with these numbers of rows and columns
 pub record Inside (rows columns place : ℕ) : Type 0 where
   pub row : row_of place < rows
   pub column : column_of place < columns
 
--- what a line feed on the last row leaves: the page has gone up by a row
+-- the screen after a line feed on the last row: the page has gone up by a row
 abbrev pub risen : Screen → ℕ → ℕ → Screen
 risen s p place = page_up s p (last_colour s p place)
 

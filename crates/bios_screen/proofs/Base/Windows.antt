@@ -1,4 +1,4 @@
--- The rows and columns of a window: where it is cut, what lies in it, and which of its rows get another row's contents.
+-- The rows and columns of a window: how it is cut, what lies in it, and which rows move.
 use Rattle.std.proofs.Common.{◌≡◌, ℕ, ◌+◌, ◌-◌, ◌<◌, ◌≤◌, refl, sym, ap, ◌∙◌, arith, Bool, true, false, Some}
 use Rattle.std.specs.Prelude.{◌==◌, ◌&&◌, ◌||◌, nat_lt, nat_le, if◌then◌else◌, min}
 use Rattle.std.proofs.lemmas.Bool.Decides.{nat_tests}
@@ -9,7 +9,7 @@ use Rattle.bios_services.specs.Scroll.{IsOnPage, window_among, lines_of}
 use Rattle.bios_screen.specs.Step.{in_window, has_source}
 use Rattle.bios_screen.proofs.Base.Tests.{both_true, both_are, if_some, lt_is, le_is, lt_not, le_not, lt_test, le_test}
 
--- a window that is cut lies on the page
+-- a window cut to the page lies on the page
 pub cut_on_page : (rows columns : ℕ) (asked : Scroll) (w : Window) → window_among rows columns asked ≡ Some w → IsOnPage rows columns w
 cut_on_page rows columns asked w e =
     let bottom = min (asked.bottom + 1) rows in
@@ -24,7 +24,7 @@ cut_on_page rows columns asked w e =
     let width = ap (λ (x : Window). x.width) a.1 in
     record { below = omega arith; after = omega arith; some = omega arith }
 
--- a window moves by no more rows than it has, and by at least one
+-- a window moves by at least one row, and by no more rows than it has
 pub few_lines : (w : Window) (asked : ℕ) → lines_of w asked ≤ w.height
 few_lines w asked = by_tests (asked == 0) (nat_lt w.height asked) refl
   where
@@ -70,7 +70,7 @@ inside_test w row column i =
 pub contrary : {Y : Type 0} (b : Bool) → b ≡ true → b ≡ false → Y
 contrary b t f = let e = sym t ∙ f in absurd (cc)
 
--- the contents of a cell of a page after a window has moved, by its two tests
+-- the contents of a cell after a window has moved, by the two tests on the cell
 pub by_both_tests : {Y : Type 0} (inside moved : Bool) (new source blank old : Y) → (inside ≡ true → moved ≡ true → new ≡ source) →
     (inside ≡ true → moved ≡ false → new ≡ blank) → (inside ≡ false → new ≡ old) → new ≡ (if inside then (if moved then source else blank) else old)
 by_both_tests true true new source blank old t b o = t refl refl
@@ -79,12 +79,12 @@ by_both_tests false moved new source blank old t b o = o refl
 
 -- ---- which of its rows get another row's contents, and which are new
 
--- the first of the rows that get another row's contents, if the window moves by n
+-- the first of the rows that get another row's contents, when the window moves by n
 abbrev pub first_moved : Direction → Window → ℕ → ℕ
 first_moved Up w n = w.top
 first_moved Down w n = w.top + n
 
--- the first of its new rows
+-- the first of the new rows
 abbrev pub first_new : Direction → Window → ℕ → ℕ
 first_new direction w n = new_row direction w.top (w.height - n)
 

@@ -1,4 +1,4 @@
--- What every screen that is shown says of its frames, in text and in graphics.
+-- The frames of every shown screen, in text and in graphics.
 use Rattle.std.proofs.Common.{◌≡◌, ℕ, ◌+◌, ◌*◌, ◌<◌, refl, sym, ap, subst, ◌∙◌, arith}
 use Rattle.std.specs.Prelude.{if◌then◌else◌, Some}
 use Rattle.bios_screen.proofs.Prelude.{first_counter, IsCard, CardState, ModeRow, bytes_320_by_200, BiosData, start_address, Screen, pixel_screen, shown}
@@ -18,7 +18,8 @@ use Rattle.bios_screen.proofs.Dots.PixelDots as pixels
 use Rattle.bios_screen.proofs.Dots.PlanarDots as planar
 use Rattle.bios_screen.proofs.Dots.PackedDots as packed
 
--- the adapter's frames have the numbers of the mode; a frame of any page draws that page; and the next one is of the active page
+-- the adapter's frames have the numbers of the mode; a frame of any page draws that page; and the
+-- next frame is of the active page
 pub record HasFrames (c : CardState) (d : BiosData) (s : Screen) : Type 0 where
   pub raster : Raster
   pub has : HasRaster raster c

@@ -22,7 +22,7 @@ use Rattle.bios_screen.proofs.Shows.Steady.{same_frames}
 use Rattle.bios_screen.proofs.Shows.CutAlike.{IsCutAs, uncut}
 use Rattle.bios_screen.proofs.Dots.OneDot.{not_zero, is_zero, all_is}
 
--- the test of a dot's place knows the mode of a screen and how it is cut
+-- whether dot n belongs to the picture depends only on the mode and the layout
 picture_kept : (s t : Screen) → IsCutAs s t → (n : ℕ) → is_of_picture t n ≡ is_of_picture s n
 picture_kept s t same n =
     ap (λ m. is_of_picture (record t { mode = m }) n) same.mode
@@ -36,7 +36,7 @@ lines_kept s t same (suc n) =
     ∙ ap (λ v. lines_before s n ++ (if v then n / dots_a_line t.mode ∷ [] else [])) (picture_kept s t same n)
     ∙ ap (λ m. lines_before s n ++ (if is_of_picture s n then n / dots_a_line m ∷ [] else [])) same.mode
 
--- the beam that stays is at the same dot, where frames are the same
+-- if the frames are the same, an unchanged beam is at the same dot
 at_kept : (c y : CardState) (start n : ℕ) → ((a f k : ℕ) → beam_at (character_width c) c.crtc.registers a f k
     ≡ beam_at (character_width y) y.crtc.registers a f k)
     → y.crtc.beam ≡ c.crtc.beam → BeamIsAt c start n → BeamIsAt y start n
@@ -44,7 +44,7 @@ at_kept c y start zero same e at = subst IsFrameStart (sym e) at
 at_kept c y start (suc n) same e at = e ∙ at ∙ same start c.crtc.beam.frame (suc n)
     ∙ ap (λ (b : Beam). beam_at (character_width y) y.crtc.registers start b.frame (suc n)) (sym e)
 
--- a state that shows another screen of the same cut, with the same beam and the same dots drawn
+-- the adapter follows another screen of the same mode and layout; beam and drawn dots stay
 pub screen_follows : (c y : CardState) (d after : BiosData) (b : Drawing) (t : Screen) → Follows c d b → IsCard y → shown y after ≡ Some t →
     y.crtc.beam ≡ c.crtc.beam → y.drawn ≡ c.drawn → IsCutAs b.screen t
     → Follows y after (record b { screen = t })
@@ -79,7 +79,7 @@ screen_follows c y d after b t is z shows beam drawn same =
         subst (λ n. BeamIsAt y (start_address after (if n == 0 then t.page else b.page)) n) (sym e)
         (subst (λ v. BeamIsAt y (start_address after (if v then t.page else b.page)) (suc m)) (sym (not_zero m)) new)
 
--- a frame has dots
+-- a frame has at least one dot
 some_dots : (c : CardState) (d : BiosData) (s : Screen) → HasFrames c d s → 0 < dots_a_frame s.mode
 unfolding all_dots
 some_dots c d s h =
@@ -93,7 +93,7 @@ some_dots c d s h =
     let all = mul-le 1 1 m.lines (m.characters * m.dots) (omega arith) (omega (arith, line)) in
     subst (λ n. 0 < n) (all_is c d s h) (omega (arith, all))
 
--- at the first dot of a frame whatever screen is shown is followed
+-- at the first dot of a frame, any shown screen is followed
 pub starts : (c : CardState) (d : BiosData) (b : Drawing) → IsCard c → shown c d ≡ Some b.screen → b.dot ≡ 0 → (is_first_dot c.crtc.beam ≡ true) →
     IsFrameStart c.crtc.beam → Follows c d b
 unfolding lines_before bytes_of
@@ -112,24 +112,24 @@ starts c d b z shows e first start =
 
 -- ---- a load of glyphs
 
--- at the first dot of a frame whatever is shown is followed
+-- the same, with one premise less
 pub begins : (c : CardState) (d : BiosData) (b : Drawing) → IsCard c → shown c d ≡ Some b.screen → b.dot ≡ 0 → IsFrameStart c.crtc.beam → Follows c d b
 begins c d b z shows e start = starts c d b z shows e ((first_dot_starts c.crtc.beam).1 start) start
 
--- at dot 0 the beam is at the first dot of a frame
+-- if the drawing is at dot 0, the beam is at the first dot of a frame
 pub start_of : (c : CardState) (d : BiosData) (b : Drawing) → Follows c d b → b.dot ≡ 0 → IsFrameStart c.crtc.beam
 start_of c d b is e = subst (λ n. BeamIsAt c (start_address d (if n == 0 then b.screen.page else b.page)) n) e is.at
 
--- a refused call leaves the screen
+-- a refused call keeps the mode and the layout
 refused_cut : (why : Option Refusal) (s t : Screen) → why ≢ None → IsCutAs s (screen_unless why s t)
 refused_cut None s t some = absurd (some refl)
 refused_cut (Some why) s t some = uncut s
 
--- the screen that a load leads to, also where it is refused
+-- the screen after a load, also if the load is refused
 abbrev pub loaded_on : FontSet → Screen → GlyphLoad → List ℕ → Screen
 loaded_on fonts s load block = screen_unless (load_refusal_on s load (length block)) s (load_glyphs fonts s load block)
 
--- it is followed
+-- the adapter follows that screen
 pub load_follows : (fonts : FontSet) (load : GlyphLoad) (block : List ℕ) (c y : CardState) (d after : BiosData) (b : Drawing) →
     MayLoad b load (length block) → Follows c d b → IsCard y
     → shown y after ≡ Some (loaded_on fonts b.screen load block) → y.crtc.beam ≡ c.crtc.beam → y.drawn ≡ c.drawn →

@@ -4,7 +4,7 @@ use Rattle.std.specs.Prelude.{◌==◌, ◌&&◌, if◌then◌else◌, slice_ind
 use Rattle.std.specs.Str.{bytes_eq}
 use Rattle.std.proofs.lemmas.Slice.Eq.{bytes_eq-Decides}
 use Rattle.std.proofs.lemmas.Nat.{and_mask}
-use Rattle.bios_screen.proofs.Prelude.{is_set, CrtcState, is_palette_shown, IsCard, CardState, ModeRow, BiosData, shows_attribute, shade}
+use Rattle.bios_screen.proofs.Prelude.{is_set, CrtcState, is_palette_shown, IsCard, CardState, ModeRow, BiosData, shows_attribute, colour_by_palette}
 use Rattle.vga_bits.specs.Bits.{field}
 use Rattle.vga_bits.proofs.BitLemmas.{is_set_and}
 use Rattle.vga_host.specs.Sequencer.{is_screen_off}
@@ -21,7 +21,7 @@ use Rattle.bios_screen.proofs.Base.Setting.{Setting}
 use Rattle.bios_screen.proofs.Modes.Frames.{HasShades}
 use Rattle.bios_screen.proofs.Shows.Screens.{AllTests, setting_by}
 
--- ---- what the test says of the attribute controller
+-- ---- what the test implies for the attribute controller
 
 pub record HasAttribute (row : ModeRow) (a : AttrState) : Type 0 where
   pub shown : is_palette_shown a ≡ true
@@ -55,7 +55,8 @@ control_bit v n i e one = sym (off_right (is_set v i)) ∙ ap (λ b. is_set v i 
 
 -- ---- the colour of four bits
 
--- each dot is a palette register of all six bits
+-- the screen is on and not in 256 colours; all four bits of a dot and all six of a palette register
+-- count
 pub record Coloured (c : CardState) : Type 0 where
   pub on : is_screen_off c.host ≡ false
   pub many : is_256_colours c.host ≡ false
@@ -64,7 +65,7 @@ pub record Coloured (c : CardState) : Type 0 where
   pub select : slice_index c.attr.registers 0x14 ≡ 0
   pub shown : is_palette_shown c.attr ≡ true
 
--- in a mode whose row says so
+-- a shown screen has this, if the mode's row does
 pub coloured : (row : ModeRow) (c : CardState) (d : BiosData) → HasShades row → length row.attribute ≡ 21 → AllTests row c d → IsCard c → Coloured c
 coloured row c d h size t z =
     let set = setting_by row c t.memory in
@@ -100,7 +101,7 @@ module _ (c : CardState) (t : Coloured c) (z : IsCard c) where
   number_is s = rw (t.shown, t.many) refl
 
   -- a dot of these four bits has their colour
-  pub dot_shade : (s : CrtcState) (n : ℕ) → nibble c.host s c.attr ≡ n → n < 16 → dot_colour c.host s c.attr c.dac ≡ shade (palette_in c) n
+  pub dot_shade : (s : CrtcState) (n : ℕ) → nibble c.host s c.attr ≡ n → n < 16 → dot_colour c.host s c.attr c.dac ≡ colour_by_palette (palette_in c) n
   unfolding dot_colour
   dot_shade s n e l =
       ap (λ w. if w then 0 ∷ 0 ∷ 0 ∷ [] else entry_of c.dac (bit_and (colour_number c.host s c.attr) c.dac.mask)) t.on

@@ -30,7 +30,7 @@ wide false = omega arith
 
 -- ---- one dot
 
--- the CRT controller with another beam
+-- a CRT controller with another beam
 abbrev beamed : CrtcState → Beam → CrtcState
 beamed s b = record s { beam = b }
 
@@ -41,7 +41,7 @@ seen_at : (c : CardState) (n : ℕ) → display_dot_at c n ≡ seen c (started c
 unfolding display_dot after_start after_dots
 seen_at c n = refl
 
--- a character is shown where its dots are
+-- a character is shown exactly if its dots are
 shown_column : (w e x k : ℕ) → k < w → nat_le x e ≡ nat_lt (x * w + k) ((e + 1) * w)
 shown_column w e x k lk = ⊎_elim
     (λ (out : e < x).
@@ -62,11 +62,11 @@ chosen false xs ys h = refl
 place_of : (n line cw : ℕ) → n / line * line + (n % line / cw * cw + n % line % cw) ≡ n
 place_of n line cw = ap (λ x. n / line * line + x) (div-add-mod' (n % line) cw) ∙ div-add-mod' n line
 
--- at the first dot of a frame nothing is drawn
+-- at the first dot of a frame nothing has been drawn
 nothing_yet : (c : CardState) → IsFrameStart c.crtc.beam → fresh c ≡ []
 nothing_yet c s = ap (λ v. if v then [] else c.drawn) ((first_dot_starts c.crtc.beam).1 s)
 
--- i dots on from dot n
+-- the beam, i dots after dot n
 beam_on : (c : CardState) (start n i : ℕ) → IsRegular c.crtc.registers → IsAtDot (raster_of c) c start n → n + i < all_dots (raster_of c)
     → started c.crtc.registers (beam_dots (character_width c) c.crtc.registers i c.crtc.beam)
     ≡ beam_at (character_width c) c.crtc.registers start c.crtc.beam.frame (n + i)
@@ -82,7 +82,7 @@ frame_left c start n at =
     ∙ dots_left w r start c.crtc.beam.frame n (wide _) at.within
 
 module _ (c : CardState) (start : ℕ) (f : Colours) (draws : Draws (raster_of c) c start f) where
-  -- the place v, x, k shows what the picture has there
+  -- dot k of character x of line v is the picture's
   place_shows : (v x k : ℕ) → x < characters c.crtc.registers → k < character_width c
       → seen c (regular_beam c.crtc.registers start c.crtc.beam.frame v x k)
       ≡ picture_dot (raster_of c) f (v * (characters c.crtc.registers * character_width c) + (x * character_width c + k))
@@ -104,7 +104,7 @@ module _ (c : CardState) (start : ℕ) (f : Colours) (draws : Draws (raster_of c
       ap (λ q. record { line = v; colour = q } ∷ []) (draws v x k lv (omega arith) lk))
       ∙ sym (dot_there m f v at small)
 
-  -- the dot i on from dot n is that of the picture
+  -- the dot that comes i dots after dot n is the picture's
   dot_shows : (n i : ℕ) → IsRegular c.crtc.registers → IsAtDot (raster_of c) c start n → n + i < all_dots (raster_of c) →
       display_dot_at c i ≡ picture_dot (raster_of c) f (n + i)
   unfolding all_dots
@@ -157,7 +157,7 @@ goes_on_from c start n regular at j l =
       frame = ap (λ (s : CardState). s.crtc.beam.frame) kept ∙ sym frame_is;
     }
 
--- the first dot of a frame
+-- at the first dot of a frame the adapter is at dot 0
 at_start : (c : CardState) → IsRegular c.crtc.registers → IsFrameStart c.crtc.beam → IsAtDot (raster_of c) c (first_counter c.crtc.registers) 0
 unfolding all_dots
 at_start c regular start =
@@ -186,7 +186,7 @@ frame_is_ended m c start n f has = subst (λ (k : Raster). IsAtDot k c start n �
 pub starts_at_0 : (m : Raster) (c : CardState) → HasRaster m c → IsFrameStart c.crtc.beam → IsAtDot m c (first_counter c.crtc.registers) 0
 starts_at_0 m c has start = subst (λ (k : Raster). IsAtDot k c (first_counter c.crtc.registers) 0) has.numbers (at_start c has.regular start)
 
--- all dots of a frame are a picture
+-- if all dots of a frame are drawn, they are the picture
 pub all_are_picture : (m : Raster) (drawn : List Dot) (f : Colours) → IsRaster m → drawn ≡ collect (picture_dot m f) (all_dots m) → IsPictureOf m drawn f
 unfolding picture_bytes all_dots
 all_are_picture m drawn f raster e =

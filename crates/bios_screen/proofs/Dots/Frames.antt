@@ -1,4 +1,5 @@
--- Frames of a screen that is shown, by the numbers of its row: where they begin, and where a dot comes from.
+-- The frames of a shown screen, from the numbers of its row: where they begin, and where each dot
+-- comes from.
 use Rattle.std.proofs.Common.{◌≡◌, ℕ, ◌+◌, ◌-◌, ◌%◌, ◌<◌, sym, ap, subst, ◌∙◌, arith, false}
 use Rattle.std.specs.Prelude.{◌&&◌, if◌then◌else◌, slice_index}
 use Rattle.bios_screen.proofs.Prelude.{is_set, Beam, CrtcState, first_counter, regular_beam, IsCard, CardState, ModeRow, BiosData, start_address, Raster}
@@ -37,18 +38,18 @@ module _ (m : Raster) (row : ModeRow) (f : IsFrame m row) (c : CardState) (d : B
         ∙ f.numbers;
   }
 
-  -- a frame begins with the active page
+  -- a frame begins at the start address
   pub first_is : start < 65536 → first_counter c.crtc.registers ≡ start
   first_is small = ap first_counter t.crtc ∙ begins_with row d.cursor_type start location f.whole small
 
-  -- the beam at a place of a frame, and the place of a counter in memory, are the row's
+  -- the beam at a dot of a frame, and the memory address of a counter, are the row's
   pub beam_is : (a frame v x k : ℕ) → regular_beam c.crtc.registers a frame v x k ≡ regular_beam row.crtc a frame v x k
   beam_is a frame v x k = ap (λ r. regular_beam r a frame v x k) t.crtc ∙ beam_stays row d.cursor_type start location a frame v x k
 
   pub fetch_is : (n : ℕ) → fetch_address c.crtc.registers n ≡ fetch_address row.crtc n
   fetch_is n = ap (λ r. fetch_address r n) t.crtc ∙ fetch_stays row d.cursor_type start location n
 
-  -- no dot is panned
+  -- panning shifts no dot
   panned_is : IsCard c → (b : Beam) → b.split ≡ false → panning_shift c.host (record c.crtc { beam = b }) c.attr ≡ 0
   unfolding panning_shift
   panned_is z b unsplit =
@@ -58,7 +59,7 @@ module _ (m : Raster) (row : ModeRow) (f : IsFrame m row) (c : CardState) (d : B
       ∙ ap (panned_by row.sequencer row.graphics) (attribute_is row c.attr z.attr f.attributes t.attribute).panning
       ∙ f.still
 
-  -- so a dot of the beam's character comes from there
+  -- so a dot comes from the counter of the beam's character
   pub source_is : IsCard c → (b : Beam) → b.split ≡ false → b.dot < m.dots → source_dot c.host (record c.crtc { beam = b }) c.attr
       ≡ record { counter = (b.base + b.character) % 65536; dot = b.dot }
   unfolding source_dot

@@ -1,4 +1,5 @@
--- One dot, any number of them, and the dots to the end of a frame: the adapter follows the plain screen.
+-- One dot, any number of dots, and the dots to the end of a frame: the adapter follows the plain
+-- screen.
 use Rattle.std.proofs.Common.{◌≡◌, ℕ, zero, suc, ◌+◌, ◌-◌, ◌*◌, ◌/◌, ◌%◌, ◌<◌, ◌≤◌, ⊎_elim, refl, sym, ap, subst, ◌∙◌, arith, Bool, true, false, List, [], ◌∷◌}
 use Rattle.std.proofs.Common.{◌++◌, replicate, Some}
 use Rattle.std.specs.Prelude.{nat_lt, if◌then◌else◌, ◌==◌, ◌&&◌}
@@ -65,7 +66,7 @@ is_away false h = refl
 
 -- ---- the plain screen
 
--- a dot that is the last, or is not
+-- the drawing after a dot, whether or not it is the frame's last
 dot_step : (b : Drawing) (v : Bool) → is_last b ≡ v → take_dot b ≡ record {
   screen = if v then next_frame b.screen else b.screen;
   dot = if v then 0 else b.dot + 1;
@@ -80,11 +81,11 @@ dot_step b v e = ap (λ v. let x : Drawing = record {
   picture = so_far b ++ colour_of b.screen (page_shown b) b.dot;
 } in x) e
 
--- the next dot of the frame
+-- the drawing at the next dot of the frame
 abbrev pub onward : Drawing → Drawing
 onward b = record { screen = b.screen; dot = suc b.dot; page = page_shown b; picture = so_far b ++ colour_of b.screen (page_shown b) b.dot }
 
--- dot 0 of the next
+-- the drawing at dot 0 of the next frame
 abbrev pub renewed : Drawing → Drawing
 renewed b = record { screen = next_frame b.screen; dot = 0; page = page_shown b; picture = so_far b ++ colour_of b.screen (page_shown b) b.dot }
 
@@ -96,7 +97,7 @@ taken_on b l =
 pub taken_last : (b : Drawing) → b.dot + 1 ≡ dots_a_frame b.screen.mode → take_dot b ≡ renewed b
 taken_last b e = dot_step b true (same_test (b.dot + 1) (dots_a_frame b.screen.mode) e)
 
--- k dots that do not end the frame
+-- the drawing after k dots that do not end the frame
 pub record IsOn (b : Drawing) (k : ℕ) : Type 0 where
   pub dot : (take_dots k b).dot ≡ b.dot + k
   pub screen : (take_dots k b).screen ≡ b.screen
@@ -124,7 +125,7 @@ dot_is_one : (c : CardState) → dots 1 c ≡ dot c
 unfolding dots
 dot_is_one c = refl
 
--- dot n of a frame, by how long lines are, and how wide and high the picture is
+-- dot n of a frame, by the dots of a line and the width and height of the picture
 abbrev pub dot_by : ℕ → ℕ → ℕ → Colours → ℕ → List Dot
 dot_by line w h f n = if nat_lt (n % line) w && nat_lt (n / line) h then record { line = n / line; colour = f (n % line) (n / line) } ∷ [] else []
 
@@ -142,7 +143,7 @@ module _ (c : CardState) (d : BiosData) (s : Screen) (h : HasFrames c d s) where
   unfolding all_dots dots_a_frame
   all_is = ap (λ n. n * dots_of_line h.raster) h.lines ∙ ap (λ n. lines_a_frame s.mode * n) h.line
 
-  -- all lines of a frame are those of the picture, each as wide as it is
+  -- the scan lines of the picture's dots among the first n dots of a frame
   lines_collected : (f : Colours) (n : ℕ) → lines_before s n ≡ lines_of (collect (picture_dot h.raster f) n)
   unfolding lines_before
   lines_collected f zero = refl
@@ -175,7 +176,7 @@ at_of m c start (suc n) has within first at = record {
   beam = ap (started c.crtc.registers) at ∙ past_start (character_width c) c.crtc.registers start c.crtc.beam.frame (suc n) (omega arith);
 }
 
--- whatever is drawn of a frame, its dots join that with the colours of the screen
+-- dots from dot n on join those already drawn, in the colours of the screen
 pub rows_join : (c : CardState) (d : BiosData) (s : Screen) (page n : ℕ) → IsCard c → shown c d ≡ Some s → page < s.layout.pages →
     n < dots_a_frame s.mode → (n ≡ 0 → page ≡ s.page)
     → BeamIsAt c (start_address d page) n → RowsJoin c s page n
@@ -191,7 +192,7 @@ rows_join c d s page n z shows lp within first at j some few =
     ∙ ap (λ l. bytes_of (fresh c) ++ l) (bytes_joined one j ∙ same_joined (λ i. bytes_of (one i)) (λ i. colour_of s page (n + i)) j (λ i.
     dot_bytes c d s h page (n + i)))
 
--- what one dot draws, and that the adapter follows
+-- what one dot draws; the adapter still follows
 pub record DotTaken (c : CardState) (d : BiosData) (b : Drawing) : Type 0 where
   pub lines : lines_of (dot c).drawn ≡ lines_before b.screen (suc b.dot)
   pub bytes : bytes_of (dot c).drawn ≡ (take_dot b).picture
@@ -249,7 +250,7 @@ module _ (c : CardState) (d : BiosData) (b : Drawing) (z : IsCard c) (is : Follo
       ∙ ap (λ l. l ++ bytes_of one) is.bytes
       ∙ ap (λ l. so_far b ++ l) (dot_bytes c d s h g n)
 
-  -- ---- where the frame goes on
+  -- ---- if the frame goes on
   module _ (l : n + 1 < dots_a_frame s.mode) where
     later : n + 1 < all_dots h.raster
     later = let e = all_is c d s h in omega arith
@@ -296,7 +297,7 @@ module _ (c : CardState) (d : BiosData) (b : Drawing) (z : IsCard c) (is : Follo
           ∙ sym (ap (λ v. if v then [] else so_far b ++ colour_of s g n) (not_zero n));
     }
 
-  -- ---- where it ends
+  -- ---- if the frame ends
   module _ (e : n + 1 ≡ dots_a_frame s.mode) where
     ends_here : frame c ≡ dot c
     ends_here =

@@ -1,8 +1,8 @@
--- The dot at a place of a frame of 256 colours is the screen's pixel.
+-- Each dot of a frame in 256 colours is the screen's pixel.
 use Rattle.std.proofs.Common.{◌≡◌, ℕ, ◌+◌, ◌*◌, ◌/◌, ◌%◌, ◌<◌, sym, ap, ◌∙◌, subst, arith, true, false}
 use Rattle.std.specs.Prelude.{if◌then◌else◌, ◌&&◌, slice_index}
 use Rattle.bios_screen.proofs.Prelude.{is_set, is_palette_shown, IsCard, CardState, bytes_320_by_200, is_packed, BiosData, planar_pixel, packed_pixel}
-use Rattle.bios_screen.proofs.Prelude.{pixel_screen, shade, Draws}
+use Rattle.bios_screen.proofs.Prelude.{pixel_screen, colour_by_palette, Draws}
 use Rattle.vga_planes.specs.Planes.{byte_at}
 use Rattle.vga_host.specs.Sequencer.{is_screen_off}
 use Rattle.vga_host.specs.Graphics.{is_256_colours}
@@ -10,7 +10,7 @@ use Rattle.vga_dots.specs.SourceDot.{source_dot, fetch_address}
 use Rattle.vga_dots.specs.Graphics.{packed_byte}
 use Rattle.vga_dots.specs.Colour.{colour_number, dot_colour}
 use Rattle.bios_screen.specs.Shown.{palette_in}
-use Rattle.bios_screen.specs.Picture.{tint, pixel_width, pixel_height, pixel_dot}
+use Rattle.bios_screen.specs.Picture.{colour_of_value, pixel_width, pixel_height, pixel_dot}
 use Rattle.bios_screen.proofs.Base.Tests.{lt_test, both_true}
 use Rattle.bios_screen.proofs.Base.Setting.{Setting, setting}
 use Rattle.bios_screen.proofs.Shows.Screens.{setting_by}
@@ -38,7 +38,7 @@ module _ (c : CardState) (d : BiosData) (t : IsPacked c d) (z : IsCard c) (g : �
   shown : is_palette_shown c.attr ≡ true
   shown = (both_true (is_palette_shown c.attr) _ t.tests.attribute).0
 
-  -- the byte of the dot i of character x of line v is the pixel
+  -- the byte of dot i of character x of line v is the pixel
   byte_is : (v x i : ℕ) → v < t.raster.height → x < t.raster.columns → i < t.raster.dots → i < 8 →
       (let at = placed bytes_320_by_200 c d t.graphics g v x i in packed_byte c.host at (source_dot c.host at c.attr))
       ≡ pixel bytes_320_by_200 c d t.graphics g v x i
@@ -67,6 +67,6 @@ module _ (c : CardState) (d : BiosData) (t : IsPacked c d) (z : IsCard c) (g : �
       let s = pixel_screen bytes_320_by_200 c d in
       let li8 : i < 8 = subst (λ n. i < n) t.picture.dots li in
       let p = pixel bytes_320_by_200 c d t.graphics g v x i in
-      rw (screen_on, shown, many_colours) (ap (tint (palette_in c)) (byte_is v x i lv lx li li8))
-      ∙ sym (dot_is bytes_320_by_200 c d t.graphics g v x i lg lv lx li8 ∙ ap (λ j. if is_packed j then tint s.palette p else shade s.palette p) t.number)
+      rw (screen_on, shown, many_colours) (ap (colour_of_value (palette_in c)) (byte_is v x i lv lx li li8))
+      ∙ sym (dot_is bytes_320_by_200 c d t.graphics g v x i lg lv lx li8 ∙ ap (λ j. if is_packed j then colour_of_value s.palette p else colour_by_palette s.palette p) t.number)
       ∙ ap (λ n. pixel_dot s g (x * n + i) v) (sym t.picture.dots)

@@ -7,12 +7,12 @@ use Rattle.bios_screen.proofs.Prelude.{IsCard, CardState, BiosData, Screen, show
 use Rattle.vga_card.specs.Frames.{frame}
 use Rattle.bios_screen.specs.Picture.{dot_at, picture_width}
 use Rattle.bios_screen.specs.Raster.{picture_bytes}
-use Rattle.bios_screen.specs.Framed.{IsFramed}
+use Rattle.bios_screen.specs.Framed.{FrameDrawsScreen}
 use Rattle.bios_screen.proofs.Shows.Steady.{shown_moved, frame_shown}
 use Rattle.bios_screen.proofs.Dots.Drawing.{frame_is_picture}
 use Rattle.bios_screen.proofs.Dots.Any.{frames_of}
 
-pub frame_drawn : (c : CardState) (d : BiosData) (s : Screen) → IsCard c → shown c d ≡ Some s → IsFrameStart c.crtc.beam → IsFramed c d s
+pub frame_drawn : (c : CardState) (d : BiosData) (s : Screen) → IsCard c → shown c d ≡ Some s → IsFrameStart c.crtc.beam → FrameDrawsScreen c d s
 frame_drawn c d s z e start =
     let h = frames_of c d s z e in
     let m = h.raster in

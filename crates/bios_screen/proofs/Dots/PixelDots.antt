@@ -1,26 +1,26 @@
--- The pixel at a place of a frame of graphics, whether it has sixteen colours or 256.
+-- The pixel at each dot of a graphics frame, in sixteen colours or 256.
 use Rattle.std.proofs.Common.{◌≡◌, ℕ, ◌+◌, ◌*◌, ◌/◌, ◌%◌, ◌<◌, refl, sym, ap, subst, ◌∙◌, List, [], get_or}
 use Rattle.std.specs.Prelude.{if◌then◌else◌, slice_index}
 use Rattle.bios_screen.proofs.Prelude.{Four, CrtcState, first_counter, regular_beam, IsCard, CardState, ModeRow, BiosData, is_packed, start_address, Screen}
-use Rattle.bios_screen.proofs.Prelude.{pixel_in, pixel_screen, shade}
+use Rattle.bios_screen.proofs.Prelude.{pixel_in, pixel_screen, colour_by_palette}
 use Rattle.vga_dots.specs.declared.source_dot.SourceDot.{SourceDot}
 use Rattle.vga_dots.specs.SourceDot.{source_dot, fetch_address}
 use Rattle.bios_screen.specs.Shown.{pixels_in, pixel_pages}
-use Rattle.bios_screen.specs.Picture.{tint, pixel_width, pixel_height, pixel_on, pixel_dot}
+use Rattle.bios_screen.specs.Picture.{colour_of_value, pixel_width, pixel_height, pixel_on, pixel_dot}
 use Rattle.bios_screen.specs.Raster.{HasRaster}
 use Rattle.bios_screen.proofs.Base.Lists.{listed_at}
 use Rattle.bios_screen.proofs.Shows.Screens.{HasData, AllTests}
 use Rattle.bios_screen.proofs.Modes.PixelModes.{IsGraphicsRow, pixels_of, page_begins}
 use Rattle.bios_screen.proofs.Dots.Frames as frames
 
--- pixel k of page p
+-- pixel k of page p, from the list of pages
 pub pixel_at : (mode : ℕ) (m : Four (List ℕ)) (size n pages p k : ℕ) → p < pages → k < n →
     slice_index (get_or (pixel_pages mode m size n pages) p []) k ≡ pixel_in mode m (size * p) k
 unfolding pixel_pages pixels_in
 pixel_at mode m size n pages p k lp lk =
     ap (λ l. slice_index l k) (listed_at (λ q. pixels_in mode m (size * q) n) pages p [] lp) ∙ listed_at (pixel_in mode m (size * p)) n k 0 lk
 
--- the adapter and the data show a screen of this row of graphics
+-- the adapter and the data show a screen of this graphics row
 pub record IsGraphics (row : ModeRow) (c : CardState) (d : BiosData) : Type 0 where
   pub says : IsGraphicsRow d.mode row
   pub open says use *
@@ -48,9 +48,9 @@ module _ (row : ModeRow) (c : CardState) (d : BiosData) (t : IsGraphics row c d)
   pub first_is : first_counter c.crtc.registers ≡ start_address d d.page
   first_is = frames.first_is t.raster row t.frame c d t.tests (subst (λ n. n < 65536) (sym (start_is d.page)) (page_begins row t.room d.page t.has.page))
 
-  -- ---- the dot i of character x of line v of page g
+  -- ---- dot i of character x of line v of page g
 
-  -- the CRT controller there, and the counter
+  -- the CRT controller at that dot, and the counter there
   abbrev pub placed : ℕ → ℕ → ℕ → ℕ → CrtcState
   placed g v x i = record c.crtc { beam = regular_beam c.crtc.registers (row.size * g) c.crtc.beam.frame v x i }
 
@@ -68,7 +68,7 @@ module _ (row : ModeRow) (c : CardState) (d : BiosData) (t : IsGraphics row c d)
   pub fetch_is : (n : ℕ) → fetch_address c.crtc.registers n ≡ fetch_address row.crtc n
   fetch_is = frames.fetch_is t.raster row t.frame c d t.tests
 
-  -- the pixel of the place, which has as many dots and lines as the mode says
+  -- the pixel at that dot; the mode decides how many dots and lines a pixel has
   abbrev pub number_of_pixel : ℕ → ℕ → ℕ → ℕ
   number_of_pixel v x i = 8 * columns * (v / tall) + (x * 8 + i) / pixel_width d.mode
 
@@ -82,6 +82,6 @@ module _ (row : ModeRow) (c : CardState) (d : BiosData) (t : IsGraphics row c d)
       (pixels_of row) row.pages g (number_of_pixel v x i) lg (t.places.pixel v x i lv lx li))
 
   pub dot_is : (g v x i : ℕ) → g < row.pages → v < t.raster.height → x < t.raster.columns → i < 8 →
-      pixel_dot s g (x * 8 + i) v ≡ (if is_packed d.mode then tint s.palette (pixel g v x i) else shade s.palette (pixel g v x i))
+      pixel_dot s g (x * 8 + i) v ≡ (if is_packed d.mode then colour_of_value s.palette (pixel g v x i) else colour_by_palette s.palette (pixel g v x i))
   unfolding pixel_dot
-  dot_is g v x i lg lv lx li = ap (λ p. if is_packed d.mode then tint s.palette p else shade s.palette p) (pixel_is g v x i lg lv lx li)
+  dot_is g v x i lg lv lx li = ap (λ p. if is_packed d.mode then colour_of_value s.palette p else colour_by_palette s.palette p) (pixel_is g v x i lg lv lx li)

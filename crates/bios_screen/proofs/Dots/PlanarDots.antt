@@ -1,15 +1,15 @@
--- The dot at a place of a frame of sixteen colours is the screen's pixel.
+-- Each dot of a frame in sixteen colours is the screen's pixel.
 use Rattle.std.proofs.Common.{◌≡◌, ℕ, ◌+◌, ◌-◌, ◌*◌, ◌/◌, ◌%◌, ◌<◌, refl, sym, ap, subst, ◌∙◌, arith, true}
 use Rattle.std.specs.Prelude.{if◌then◌else◌, slice_index}
 use Rattle.std.specs.Int.{bit_at}
 use Rattle.std.proofs.lemmas.Nat.{div-mul-add, mod-mul-add}
 use Rattle.std.proofs.lemmas.Nat.Bits.{bit_at-lt}
-use Rattle.bios_screen.proofs.Prelude.{is_set, HostState, IsCard, CardState, ModeRow, BiosData, planar_pixel, pixel_screen, shade, Draws}
+use Rattle.bios_screen.proofs.Prelude.{is_set, HostState, IsCard, CardState, ModeRow, BiosData, planar_pixel, pixel_screen, colour_by_palette, Draws}
 use Rattle.vga_planes.specs.Planes.{byte_at}
 use Rattle.vga_host.specs.Graphics.{is_graphics}
 use Rattle.vga_dots.specs.Graphics.{plane_bits, planar_nibble}
 use Rattle.vga_dots.specs.Colour.{nibble}
-use Rattle.bios_screen.specs.Picture.{tint, pixel_height, pixel_dot}
+use Rattle.bios_screen.specs.Picture.{colour_of_value, pixel_height, pixel_dot}
 use Rattle.bios_screen.proofs.Base.Tests.{lt_test}
 use Rattle.bios_screen.proofs.Base.Setting.{Setting}
 use Rattle.bios_screen.proofs.Shows.Screens.{setting_by}
@@ -32,7 +32,7 @@ bits_at : (h : HostState) (z k : ℕ) → planar_pixel h.memory z k ≡ plane_bi
 unfolding plane_bits
 bits_at h z k = refl
 
--- dot k of character x of line y
+-- the pixel at dot k of character x of line y
 pixel_there : (h : HostState) (z w y x k : ℕ) → k < 8 → planar_pixel h.memory z (8 * w * y + (x * 8 + k) / 1) ≡ plane_bits h (z + (w * y + x)) (7 - k)
 pixel_there h z w y x k lk =
     let n = w * y + x in
@@ -55,7 +55,7 @@ module _ (row : ModeRow) (c : CardState) (d : BiosData) (t : IsPlanar row c d) (
   graphics_on : is_graphics c.host ≡ true
   graphics_on = ap (λ (s : Setting). is_set (slice_index s.gfx 6) 0) (setting_by row c t.tests.memory ∙ t.setting)
 
-  -- the four bits of the dot i of character x of line v
+  -- the four bits of dot i of character x of line v
   abbrev bits : ℕ → ℕ → ℕ → ℕ
   bits v x i = plane_bits c.host (place row c d t.graphics g v x) (7 - i)
 
@@ -66,7 +66,7 @@ module _ (row : ModeRow) (c : CardState) (d : BiosData) (t : IsPlanar row c d) (
       let n = place row c d t.graphics g v x in
       rw (graphics_on, source_is row c d t.graphics z g v x i lg lv lx li, lt_test i 8 li8, fetch_is row c d t.graphics n, t.fetch n) refl
 
-  -- are those of the pixel
+  -- they are the pixel's
   pixel_bits : (v x i : ℕ) → i < 8 → pixel row c d t.graphics g v x i ≡ bits v x i
   pixel_bits v x i li = rw (t.packed, t.columns) (pixel_there c.host (row.size * g) row.columns (v / pixel_height d.mode) x i li)
 
@@ -77,6 +77,6 @@ module _ (row : ModeRow) (c : CardState) (d : BiosData) (t : IsPlanar row c d) (
       let p = pixel row c d t.graphics g v x i in
       dot_shade c (coloured row c d t.shades t.frame.attributes t.tests z) z (placed row c d t.graphics g v x i) (bits v x i)
       (dot_bits v x i lv lx li li8) (plane_bits_small c.host (place row c d t.graphics g v x) (7 - i))
-      ∙ ap (shade s.palette) (sym (pixel_bits v x i li8))
-      ∙ sym (dot_is row c d t.graphics g v x i lg lv lx li8 ∙ ap (λ b. if b then tint s.palette p else shade s.palette p) t.packed)
+      ∙ ap (colour_by_palette s.palette) (sym (pixel_bits v x i li8))
+      ∙ sym (dot_is row c d t.graphics g v x i lg lv lx li8 ∙ ap (λ b. if b then colour_of_value s.palette p else colour_by_palette s.palette p) t.packed)
       ∙ ap (λ n. pixel_dot s g (x * n + i) v) (sym t.picture.dots)

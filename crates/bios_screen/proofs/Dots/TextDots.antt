@@ -1,10 +1,10 @@
--- The dot at a place of a text screen's frame is the screen's.
+-- Each dot of a text frame is the screen's.
 use Rattle.std.proofs.Common.{◌≡◌, ℕ, ◌+◌, ◌-◌, ◌*◌, ◌/◌, ◌%◌, ◌<◌, refl, sym, ap, subst, ◌∙◌, arith, Bool, true, false, List}
 use Rattle.std.specs.Prelude.{nat_lt, nat_le, not, if◌then◌else◌, ◌==◌, ◌&&◌, slice_index, bit_and}
 use Rattle.std.specs.Int.{bit_at}
 use Rattle.std.proofs.lemmas.Nat.{and_mask}
 use Rattle.bios_screen.proofs.Prelude.{is_set, Beam, CrtcState, regular_beam, IsCard, CardState, BiosData, start_address, Cell, Screen, cell_in, all_cells}
-use Rattle.bios_screen.proofs.Prelude.{shade}
+use Rattle.bios_screen.proofs.Prelude.{colour_by_palette}
 use Rattle.vga_bits.specs.Bits.{field}
 use Rattle.vga_planes.specs.Planes.{byte_at}
 use Rattle.vga_host.specs.Sequencer.{character_map_a, character_map_b}
@@ -80,7 +80,7 @@ glyphs_at : (plane2 : List ℕ) (n i : ℕ) → i < n → slice_index (glyphs_in
 unfolding glyphs_in
 glyphs_at plane2 n i l = listed_at (glyph_byte plane2) n i 0 l
 
--- ---- the dot k of character x of line v
+-- ---- dot k of character x of line v
 
 module _ (c : CardState) (d : BiosData) (h : IsShown c d) (z : IsCard c) (g : ℕ) (lg : g < h.row.pages) where
   abbrev s : Screen
@@ -106,21 +106,21 @@ module _ (c : CardState) (d : BiosData) (h : IsShown c d) (z : IsCard c) (g : �
   abbrev rows : ℕ
   rows = h.row.last_row + 1
 
-  -- a line is of a row of the page
+  -- a line of the picture belongs to a row of the page
   row_there : (v : ℕ) → v < height * rows → v / height < rows
   row_there v l = let e : height * rows ≡ rows * height = omega arith in (div-lt_iff_lt-mul t.some_lines).1 (subst (λ n. v < n) e l)
 
   place_there : (v x : ℕ) → v < height * rows → x < columns → columns * (v / height) + x < columns * rows
   place_there v x lv lx = let e = ends_before columns (v / height) rows (row_there v lv) in omega arith
 
-  -- a cell of the page is one of text memory
+  -- a cell of the page lies within text memory
   within : (q : ℕ) → q < columns * rows → half * g + q < 16384
   within q l = let a = h.text.fits in let b = ends_before half g h.row.pages lg in let m = h.text.memory in omega arith
 
   scan_small : (v : ℕ) → v % height < 16
   scan_small v = let a = mod_below v height t.some_lines in let b = t.short in omega arith
 
-  -- the beam at a place of the picture
+  -- the beam at that dot
   abbrev pub text_beam : ℕ → ℕ → ℕ → ℕ → Beam
   text_beam frame v x k = record {
     frame = frame;
@@ -146,7 +146,7 @@ module _ (c : CardState) (d : BiosData) (h : IsShown c d) (z : IsCard c) (g : �
 
   -- ---- where a dot comes from
 
-  -- the CRT controller at a place
+  -- the CRT controller at that dot
   abbrev placed : ℕ → ℕ → ℕ → CrtcState
   placed v x k = record c.crtc { beam = text_beam c.crtc.beam.frame v x k }
 
@@ -166,7 +166,7 @@ module _ (c : CardState) (d : BiosData) (h : IsShown c d) (z : IsCard c) (g : �
       ∙ ap (λ n. let q : SourceDot = record { counter = n; dot = k } in q) (counter_is (half * g) (columns * (v / height)) x
       (within (columns * (v / height) + x) (place_there v x lv lx)))
 
-  -- the cell q of the page, as the planes have it
+  -- cell q of the page, from the planes
   abbrev there : ℕ → Cell
   there q = cell_in c.host.memory.plane0 c.host.memory.plane1 (half * g + q)
 
@@ -234,7 +234,7 @@ module _ (c : CardState) (d : BiosData) (h : IsShown c d) (z : IsCard c) (g : �
       three true b e = refl
       three false b e = refl
 
-  -- the cursor's location, as the screen has it
+  -- the cursor location is that of the screen's cursor cell
   location_is : cursor_address d d.page ≡ cursor_cell s d.page
   location_is =
       let e = (lies c d h).even d.page in
@@ -262,7 +262,7 @@ module _ (c : CardState) (d : BiosData) (h : IsShown c d) (z : IsCard c) (g : �
 
   -- ---- the four bits of a dot
 
-  -- whether a dot has its cell's foreground
+  -- a dot has its cell's foreground exactly if it has it on the screen
   on_is : (q v x k : ℕ) → q < columns * rows → is_cell_foreground c.host (placed v x k) c.attr (record { counter = half * g + q; dot = k }) (dot_cell q)
       ≡ is_foreground s (half * g + q) (v % height) k
   unfolding is_cell_foreground is_foreground
@@ -298,9 +298,9 @@ module _ (c : CardState) (d : BiosData) (h : IsShown c d) (z : IsCard c) (g : �
 
   -- ---- its colour
 
-  -- the dot at the place has the screen's colour
+  -- the dot has the screen's colour
   pub place_is : (v x k : ℕ) → v < height * rows → x < columns → k < 9 → dot_colour c.host (placed v x k) c.attr c.dac
-      ≡ shade s.palette (nibble s (half * g + (columns * (v / height) + x)) (v % height) k)
+      ≡ colour_by_palette s.palette (nibble s (half * g + (columns * (v / height) + x)) (v % height) k)
   place_is v x k lv lx lk =
       let n = half * g + (columns * (v / height) + x) in
       dot_shade c (coloured h.row c d t.shades t.frame.attributes (all_of h.row c d h.tests) z) z (placed v x k) (nibble s n (v % height) k)

@@ -1,4 +1,5 @@
--- The rows of the mode table that are text: what their registers say of a frame, whatever the data say of cursor and page.
+-- The text rows of the mode table: what their registers imply for frames, whatever cursor and page
+-- the data have.
 use Rattle.std.proofs.Common.{◌≡◌, ℕ, ◌+◌, ◌-◌, ◌*◌, ◌/◌, ◌%◌, ◌<◌, ◌≤◌, refl, sym, subst, arith, Bool, false}
 use Rattle.std.specs.Prelude.{nat_le, not, ◌==◌, ◌&&◌, bit_and}
 use Rattle.std.specs.Int.{bit_at}
@@ -16,11 +17,11 @@ use Rattle.bios_screen.proofs.Modes.TextModes.Display.{Colour, Monochrome}
 use Rattle.bios_screen.proofs.Modes.TextModes.Height.{Eight, Fourteen, Sixteen}
 use Rattle.bios_screen.proofs.Shows.Screens.{IsShown}
 
--- the numbers of the frames of a row
+-- the numbers of a text row's frames
 abbrev pub text_raster : ModeRow → Raster
 text_raster row = record { dots = 9; columns = row.columns; height = row.height * (row.last_row + 1); characters = 100; lines = 449 }
 
--- the beam at a place of a frame of text whose counter began at a
+-- the beam at dot k of character x of line v, in a text frame whose counter began at a
 abbrev pub beam_of : ModeRow → ℕ → ℕ → ℕ → ℕ → ℕ → Beam
 beam_of row a frame v x k = record {
   frame = frame;
@@ -33,7 +34,7 @@ beam_of row a frame v x k = record {
   split = false;
 }
 
--- the lines of a row of text, and what its registers make of addresses and underline
+-- the lines of a text row, its fetch addresses and its underline
 pub record HasTextLines (mode : ℕ) (row : ModeRow) : Type 0 where
   pub some_lines : 0 < row.height
   pub short : row.height ≤ 16
@@ -42,14 +43,14 @@ pub record HasTextLines (mode : ℕ) (row : ModeRow) : Type 0 where
   pub underline : (v : Bool) (r : ℕ) → (is_monochrome_mode mode && v && r == underline_location row.crtc)
       ≡ (is_monochrome_mode mode && (v && (r == row.height - 1)))
 
--- a row of text with all that it says of a frame
+-- a text row with all that it implies for frames
 pub record IsTextFrame (mode : ℕ) (row : ModeRow) : Type 0 where
   pub frame : IsFrame (text_raster row) row
   pub shades : HasShades row
   pub lines : HasTextLines mode row
   pub open lines use *
 
--- in any row the cursor is what the data say
+-- in any row, the cursor depends on the type and the location in the data
 pub cursor_by : (row : ModeRow) (type start location k r : ℕ) (f : Bool) → (let l = crtc_registers row type start location in (k == cursor_location l)
     && not (is_cursor_off l) && nat_le (cursor_start l) r && nat_le r (cursor_end l) && f)
     ≡ ((k == 256 * (location / 256) + location % 256) && not (is_set (bit_and (high type) 0x3F) 5) && nat_le (field (bit_and (high type) 0x3F) 4 0) r
@@ -57,7 +58,7 @@ pub cursor_by : (row : ModeRow) (type start location k r : ℕ) (f : Bool) → (
 unfolding cursor_location is_cursor_off cursor_start cursor_end
 cursor_by row type start location k r f = refl
 
--- ---- each row of text is one
+-- ---- each text row is one
 
 frame_by : (disp : Display) (height : Height) → IsFrame (text_raster (row_with disp height)) (row_with disp height)
 unfolding horizontal_total horizontal_display_end vertical_total vertical_display_end line_compare preset_row_scan byte_panning
@@ -81,7 +82,7 @@ lines_by Monochrome Eight = record { some_lines = omega arith; short = omega ari
 lines_by Monochrome Fourteen = record { some_lines = omega arith; short = omega arith; beam = λ _ _ _ _ _. refl; fetch = λ _. refl; underline = λ v r. refl }
 lines_by Monochrome Sixteen = record { some_lines = omega arith; short = omega arith; beam = λ _ _ _ _ _. refl; fetch = λ _. refl; underline = λ v r. refl }
 
--- so is the row of a screen that is shown
+-- the row of a shown text screen is one
 pub frame_of : (c : CardState) (d : BiosData) (h : IsShown c d) → IsTextFrame d.mode h.row
 frame_of c d h = subst (λ m. IsTextFrame m h.row) (sym h.number) (subst (IsTextFrame (number_of h.display)) (sym h.row_is) (record {
   frame = frame_by h.display h.height;

@@ -37,12 +37,12 @@ module _ (b : Drawing) where
   abbrev colours : ℕ → List ℕ
   colours i = colour_of s g (n + i)
 
-  -- k dots on, which do not end the frame
+  -- after k dots that do not end the frame
   record Collected (k : ℕ) : Type 0 where
     page : page_shown (take_dots k b) ≡ g
     picture : so_far (take_dots k b) ≡ so_far b ++ join colours k
 
-  -- the dots of the next one
+  -- the next dot adds its colour
   joins : (k : ℕ) → n + k < all → Collected k → so_far (take_dots k b) ++ colour_of (take_dots k b).screen (page_shown (take_dots k b)) (take_dots k b).dot
       ≡ so_far b ++ join colours (suc k)
   unfolding join
@@ -90,7 +90,7 @@ module _ (b : Drawing) where
 
 -- ---- from dot 0 on
 
--- the numbers of a screen's frames, with characters of one dot
+-- the numbers of a screen's frames, taking a character as one dot
 abbrev raster_of : Screen → Raster
 raster_of s = record { dots = 1; columns = picture_width s; height = picture_height s; characters = dots_a_line s.mode; lines = lines_a_frame s.mode }
 

@@ -1,4 +1,4 @@
--- Dots of a screen of two pages of two cells, computed, with services between them.
+-- Dots of a screen with two pages of two cells each, computed, with services between the dots.
 use Rattle.std.proofs.Common.{◌≡◌, ℕ, refl, List, [], ◌∷◌, true, false, Some}
 use Rattle.vga_bits.specs.declared.refusal.Refusal.TheVariants.{BadBlock}
 use Rattle.bios_modes.specs.Fonts.{FontSet}
@@ -17,7 +17,7 @@ use Rattle.bios_screen.specs.Drawing.{Drawing, dots_a_frame, take_dot, take_dots
 abbrev two_glyphs : List ℕ
 two_glyphs = 0 ∷ 0 ∷ 0 ∷ 0 ∷ 0 ∷ 0 ∷ 0 ∷ 0 ∷ 0 ∷ 0 ∷ 0 ∷ 0 ∷ 0 ∷ 0 ∷ 0 ∷ 0 ∷ 0x81 ∷ 0 ∷ 0 ∷ 0 ∷ 0 ∷ 0 ∷ 0 ∷ 0 ∷ 0 ∷ 0 ∷ 0 ∷ 0 ∷ 0 ∷ 0 ∷ 0 ∷ 0 ∷ []
 
--- 18 dots by 16, with 2 on 1 on page 0 and 3 on 2 on page 1, and no cursor
+-- 18 dots by 16 lines: colour 2 on 1 on page 0, colour 3 on 2 on page 1, and no cursor
 abbrev small : ℕ → ℕ → Screen
 small page frame = record {
   mode = 0x03;
@@ -36,14 +36,14 @@ small page frame = record {
 abbrev no_fonts : FontSet
 no_fonts = record { f8 = []; f14 = []; f16 = [] }
 
--- dot n comes next in a frame of page 0 that has one dot so far
+-- dot n comes next in a frame of page 0, whose picture has one dot so far
 abbrev at : Screen → ℕ → Drawing
 at s n = record { screen = s; dot = n; page = 0; picture = 1 ∷ 2 ∷ 3 ∷ [] }
 
 abbrev after : Service → Drawing → Drawing
 after service b = record b { screen = next no_fonts b.screen service [] }
 
--- a frame begins with the active page, and with no dot
+-- a frame begins with the active page and an empty picture
 first : take_dot (at (small 1 0) 0) ≡ record { screen = small 1 0; dot = 1; page = 1; picture = 13 ∷ 23 ∷ 33 ∷ [] }
 unfolding take_dot dots_a_frame text_dot nibble is_foreground
 first = refl
@@ -52,7 +52,7 @@ two : take_dots 2 (at (small 0 0) 0) ≡ record { screen = small 0 0; dot = 2; p
 unfolding take_dots take_dot dots_a_frame text_dot nibble is_foreground
 two = refl
 
--- a palette value that is set between two dots shows at the second
+-- a palette value set between two dots shows at the second
 coloured_between : (take_dot (after (Colours (SetRegister 1 3)) (take_dot (at (small 0 0) 0)))).picture ≡ 12 ∷ 22 ∷ 32 ∷ 13 ∷ 23 ∷ 33 ∷ []
 unfolding take_dot dots_a_frame text_dot nibble is_foreground next with_colours
 coloured_between = refl
@@ -62,7 +62,7 @@ page_between : (take_dot (after (SelectPage 1) (take_dot (at (small 0 0) 0)))).p
 unfolding take_dot dots_a_frame text_dot nibble is_foreground next
 page_between = refl
 
--- right of the picture and below it no dot joins
+-- dots to the right of the picture and below it are not part of it
 right : (take_dot (at (small 0 0) 18)).picture ≡ 1 ∷ 2 ∷ 3 ∷ []
 unfolding take_dot dots_a_frame text_dot nibble is_foreground
 right = refl
@@ -76,19 +76,20 @@ second_line : take_dot (at (small 0 0) 900) ≡ record { screen = small 0 0; dot
 unfolding take_dot dots_a_frame text_dot nibble is_foreground
 second_line = refl
 
--- the last dot ends frame 31, and leaves its picture and dot 0 of frame 0
+-- the last dot ends frame 31: its picture stays, and dot 0 of frame 0 comes next
 last : take_dot (at (small 1 31) 404099) ≡ record { screen = small 1 0; dot = 0; page = 0; picture = 1 ∷ 2 ∷ 3 ∷ [] }
 unfolding take_dot dots_a_frame text_dot nibble is_foreground
 last = refl
 
--- one glyph of 8 lines for character 1, with the first dot of its top row
+-- one glyph of 8 lines for character 1, with one dot: the first of its top row
 abbrev one_glyph : GlyphLoad
 one_glyph = record { height = 8; first = 1; count = 1; is_block = true }
 
 abbrev cut_anew : Screen
 cut_anew = load_glyphs no_fonts (small 1 0) one_glyph (0x80 ∷ 0 ∷ 0 ∷ 0 ∷ 0 ∷ 0 ∷ 0 ∷ 0 ∷ [])
 
--- a height that is set at dot 0 holds for the whole frame: page 0 is shown, and the second row of cells begins on line 8
+-- a height set at dot 0 holds for the whole frame: page 0 is shown, and the second row of cells
+-- begins at line 8
 first_row_anew : take_dots 2 (at cut_anew 0) ≡ record { screen = cut_anew; dot = 2; page = 0; picture = 12 ∷ 22 ∷ 32 ∷ 11 ∷ 21 ∷ 31 ∷ [] }
 unfolding take_dots take_dot dots_a_frame text_dot nibble is_foreground load_glyphs
 first_row_anew = refl
@@ -101,7 +102,7 @@ line_8_before : (take_dot (at (small 0 0) 7200)).picture ≡ 1 ∷ 2 ∷ 3 ∷ 1
 unfolding take_dot dots_a_frame text_dot nibble is_foreground
 line_8_before = refl
 
--- a block that is too short is refused, at whatever dot
+-- a block that is too short is refused at any dot
 short_block : load_refusal_on (small 0 0) one_glyph 7 ≡ Some BadBlock
 short_block = refl
 

@@ -1,14 +1,14 @@
--- Dots of a screen of two pages of two cells, computed.
+-- Dots of a screen with two pages of two cells each, computed.
 use Rattle.std.proofs.Common.{◌≡◌, ℕ, refl, List, [], ◌∷◌, Bool, true, false}
 use Rattle.bios_screen.specs.Screen.{Cells, Screen}
-use Rattle.bios_screen.specs.Picture.{is_glyph_dot, is_foreground, nibble, tint, text_dot, dot_at}
+use Rattle.bios_screen.specs.Picture.{is_glyph_dot, is_foreground, nibble, colour_of_value, text_dot, dot_at}
 
 -- character 0 has no dot, and character 1 has the outer dots of its top row
 abbrev two_glyphs : List ℕ
 two_glyphs = 0 ∷ 0 ∷ 0 ∷ 0 ∷ 0 ∷ 0 ∷ 0 ∷ 0 ∷ 0 ∷ 0 ∷ 0 ∷ 0 ∷ 0 ∷ 0 ∷ 0 ∷ 0 ∷ 0x81 ∷ 0 ∷ 0 ∷ 0 ∷ 0 ∷ 0 ∷ 0 ∷ 0 ∷ 0 ∷ 0 ∷ 0 ∷ 0 ∷ 0 ∷ 0 ∷ 0 ∷ 0 ∷ []
 
--- a screen of this mode, with these attributes of its first two cells, blinking or not, in this frame; page 1 has its cursor
--- in its second cell
+-- a screen in this mode and frame, blinking or not, with these attributes in its first two cells;
+-- page 1 has its cursor in its second cell
 abbrev shown : ℕ → ℕ → ℕ → Bool → ℕ → Screen
 shown mode a b is_blink frame = record {
   mode = mode;
@@ -24,7 +24,7 @@ shown mode a b is_blink frame = record {
   frame = frame;
 }
 
--- the outer dots of the glyph have the foreground, the dots between and the ninth the background
+-- the glyph's outer dots have the foreground; those between and the ninth have the background
 pub left_dot : nibble (shown 3 0x1E 0 true 0) 0 0 0 ≡ 0x0E
 unfolding nibble is_foreground
 left_dot = refl
@@ -54,7 +54,7 @@ last_line = refl
 after_lines : is_glyph_dot 0xE0 0x01 8 ≡ false
 after_lines = refl
 
--- attribute bit 7 belongs to the background if nothing blinks, and else blinks
+-- attribute bit 7 belongs to the background if blinking is off; else the character blinks
 bright : nibble (shown 3 0x9E 0 false 16) 0 0 1 ≡ 9
 unfolding nibble is_foreground
 bright = refl
@@ -67,7 +67,7 @@ blinked_away : nibble (shown 3 0x9E 0 true 16) 0 0 0 ≡ 1
 unfolding nibble is_foreground
 blinked_away = refl
 
--- the underline is in the last row, only in monochrome; blink comes after it
+-- in monochrome the underline is in the character's last line; it blinks with the character
 underline : nibble (shown 7 0 0x01 true 0) 1 15 4 ≡ 1
 unfolding nibble is_foreground
 underline = refl
@@ -84,7 +84,7 @@ underline_blinks : nibble (shown 7 0 0x81 true 16) 1 15 4 ≡ 0
 unfolding nibble is_foreground
 underline_blinks = refl
 
--- the cursor of the active page is shown there in its rows, in the first half of 16 frames
+-- the active page's cursor shows on its scan lines, in the first 8 of 16 frames
 cursor : nibble (shown 3 0 0 true 7) 3 13 8 ≡ 3
 unfolding nibble is_foreground
 cursor = refl
@@ -101,8 +101,8 @@ other_page : nibble (shown 3 0x1E 0x1E true 7) 1 13 8 ≡ 1
 unfolding nibble is_foreground
 other_page = refl
 
--- a value of the palette names an entry, under the mask
-masked : tint (shown 3 0 0 true 0).palette 3 ≡ 11 ∷ 21 ∷ 31 ∷ []
+-- a palette value selects a DAC entry, through the mask
+masked : colour_of_value (shown 3 0 0 true 0).palette 3 ≡ 11 ∷ 21 ∷ 31 ∷ []
 masked = refl
 
 -- column 9 of line 13 of page 1 is a dot of the cursor

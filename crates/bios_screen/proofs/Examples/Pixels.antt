@@ -13,11 +13,11 @@ use Rattle.bios_screen.specs.Parts.{cell_at, pixel_at}
 use Rattle.bios_screen.specs.Step.{pages_on, refusal_on, next, answer_on, type_character}
 use Rattle.bios_screen.specs.Picture.{pixel_dot, dot_at, picture_width, picture_height}
 
--- a byte of each plane at 0, and another of plane 1 at 4
+-- a byte of each plane at offset 0, and another byte of plane 1 at offset 4
 abbrev memory : Four (List ℕ)
 memory = record { plane0 = 0x80 ∷ []; plane1 = 0x40 ∷ 0 ∷ 0 ∷ 0 ∷ 0x2A ∷ []; plane2 = 0xC0 ∷ []; plane3 = 0x01 ∷ [] }
 
--- bit p of a pixel is that of plane p, the first pixel the highest bit
+-- bit p of a pixel comes from plane p; the first pixel is the highest bit
 first : planar_pixel memory 0 0 ≡ 5
 first = refl
 
@@ -27,18 +27,18 @@ second = refl
 eighth : planar_pixel memory 0 7 ≡ 8
 eighth = refl
 
--- pixel 34 of a page that begins at 0 is bit 5 of byte 4, and so is pixel 2 of a page that begins there
+-- pixel 34 of a page at offset 0 is bit 5 of byte 4, and so is pixel 2 of a page at offset 4
 later : planar_pixel memory 0 34 ≡ 2
 later = refl
 
 later_page : planar_pixel memory 4 2 ≡ 2
 later_page = refl
 
--- in 256 colours pixel 5 is in plane 1 at 4
+-- in 256 colours pixel 5 is in plane 1 at offset 4
 packed : packed_pixel memory 5 ≡ 0x2A
 packed = refl
 
--- rows 1 2 3 0 0 0 0 0 and 3 0 0 0 0 0 0 2, in a mode
+-- two lines of pixels, 1 2 3 0 0 0 0 0 and 3 0 0 0 0 0 0 2, in any mode
 abbrev shown : ℕ → Screen
 shown mode = record {
   mode = mode;
@@ -54,7 +54,7 @@ shown mode = record {
   frame = 0;
 }
 
--- a pixel is the value of the palette, which names an entry
+-- a pixel selects a palette value, which selects a DAC entry
 coloured : dot_at (shown 0x10) 0 1 0 ≡ 11 ∷ 21 ∷ 31 ∷ []
 unfolding pixel_dot
 coloured = refl
@@ -63,7 +63,7 @@ last : dot_at (shown 0x12) 0 7 1 ≡ 11 ∷ 21 ∷ 31 ∷ []
 unfolding pixel_dot
 last = refl
 
--- in mode 0D a pixel has two lines
+-- in mode 0D a pixel is two lines high
 two_lines : dot_at (shown 0x0D) 0 0 1 ≡ 13 ∷ 23 ∷ 33 ∷ []
 unfolding pixel_dot
 two_lines = refl
@@ -72,7 +72,7 @@ third_line : dot_at (shown 0x0D) 0 0 2 ≡ 12 ∷ 22 ∷ 32 ∷ []
 unfolding pixel_dot
 third_line = refl
 
--- in mode 13 two dots of each of two lines, and it names an entry itself
+-- in mode 13 a pixel is two dots by two lines, and selects a DAC entry itself
 entry : dot_at (shown 0x13) 0 3 1 ≡ 12 ∷ 22 ∷ 32 ∷ []
 unfolding pixel_dot
 entry = refl
@@ -83,7 +83,7 @@ wide = refl
 high : picture_height (shown 0x0D) ≡ 4
 high = refl
 
--- pixels there are, and no cells
+-- the screen has pixels, and no cells
 there : pixel_at (shown 0x10) 0 7 1 ≡ Some 2
 there = refl
 
@@ -102,12 +102,12 @@ fonts = record { f8 = []; f14 = []; f16 = 0xC1 ∷ 0x80 ∷ [] }
 abbrev pixels : Screen → List (List ℕ)
 pixels s = pages_on s.contents
 
--- a pixel of 256 colours is written
+-- in 256 colours a pixel becomes the colour
 written : pixels (next fonts (shown 0x13) (WritePixel 0 2 1 0x81) []) ≡ (1 ∷ 2 ∷ 3 ∷ 0 ∷ 0 ∷ 0 ∷ 0 ∷ 0 ∷ 3 ∷ 0 ∷ 0x81 ∷ 0 ∷ 0 ∷ 0 ∷ 0 ∷ 2 ∷ []) ∷ []
 unfolding next
 written = refl
 
--- of 16 colours four bits stand there, and bit 7 asks for XOR
+-- in 16 colours a pixel becomes the four low bits, and bit 7 asks for XOR
 replaced : pixels (next fonts (shown 0x10) (WritePixel 0 1 0 0x15) []) ≡ (1 ∷ 5 ∷ 3 ∷ 0 ∷ 0 ∷ 0 ∷ 0 ∷ 0 ∷ 3 ∷ 0 ∷ 0 ∷ 0 ∷ 0 ∷ 0 ∷ 0 ∷ 2 ∷ []) ∷ []
 unfolding next
 replaced = refl
@@ -116,7 +116,7 @@ turned : pixels (next fonts (shown 0x10) (WritePixel 0 1 0 0x83) []) ≡ (1 ∷ 
 unfolding next
 turned = refl
 
--- a character has the colour where its glyph has dots, and all else in its cell is 0
+-- a character draws the colour where its glyph has dots, and 0 elsewhere in its cell
 abbrev character : ℕ → CellRun
 character colour = record { page = 0; character = 0; colouring = record { colour = colour; is_attribute = true }; count = 1 }
 
@@ -124,18 +124,19 @@ drawn : pixels (next fonts (shown 0x10) (WriteCells (character 0x15)) []) ≡ (5
 unfolding next
 drawn = refl
 
--- by XOR all else stays
+-- with XOR the pixels elsewhere stay
 drawn_over : pixels (next fonts (shown 0x10) (WriteCells (character 0x83)) []) ≡ (2 ∷ 1 ∷ 3 ∷ 0 ∷ 0 ∷ 0 ∷ 0 ∷ 3 ∷ 0 ∷ 0 ∷ 0 ∷ 0 ∷ 0 ∷ 0 ∷ 0 ∷ 2 ∷ []) ∷ []
 unfolding next
 drawn_over = refl
 
--- in 256 colours bit 7 is one of the colour's
+-- in 256 colours bit 7 belongs to the colour
 drawn_packed : pixels (next fonts (shown 0x13) (WriteCells (character 0x83)) []) ≡ (0x83 ∷ 0x83 ∷ 0 ∷ 0 ∷ 0 ∷ 0 ∷ 0 ∷ 0x83 ∷ 0x83 ∷ 0 ∷ 0 ∷ 0 ∷ 0 ∷ 0 ∷ 0 ∷ 0
     ∷ []) ∷ []
 unfolding next
 drawn_packed = refl
 
--- a screen of three rows of one line each, of which the window has the second and the third; it goes up and down by one row
+-- three rows of one line each; the window is the second and the third, and moves up and down by a
+-- row
 abbrev tall : ℕ → Screen
 tall mode = record (shown mode) {
   layout = record { columns = 1; rows = 3; height = 1; distance = 0; pages = 1 };
@@ -155,12 +156,12 @@ down : pixels (next fonts (tall 0x13) (ScrollDown lower) []) ≡ (1 ∷ 1 ∷ 1 
 unfolding next
 down = refl
 
--- a pixel is answered in the low byte, and one outside is refused
+-- a pixel is answered in AL; one outside the page is refused
 answered : answer_on fonts (shown 0x13) (ReadPixel 0 2 0) (record { ax = 0x0D00; bx = 0; cx = 2; dx = 0 }) ≡ record { ax = 0x0D03; bx = 0; cx = 2; dx = 0 }
 unfolding answer_on
 answered = refl
 
--- the first row's pixels 0, 1 and 2 are dots of no glyph but one that has just these rows
+-- the pixels match the one glyph that has dots for just those that are not 0
 seen : answer_on (record { f8 = []; f14 = []; f16 = listing (λ i. if i == 0x10 then 0xE0 else if i == 0x11 then 0x81 else 0) 0 0x20 }) (shown 0x10) (ReadCell 0)
     (record { ax = 0x0D00; bx = 0; cx = 2; dx = 0 }) ≡ record { ax = 0x0D01; bx = 0; cx = 2; dx = 0 }
 unfolding answer_on first_character has_lines byte_of
@@ -176,14 +177,15 @@ outside = refl
 abbrev eight : ℕ → List ℕ → List ℕ
 eight n rest = n ∷ n ∷ n ∷ n ∷ n ∷ n ∷ n ∷ n ∷ rest
 
--- eight pixels of the first character's row, in a colour on another
+-- the eight pixels of character 0's top row, in one colour on another
 abbrev dots : ℕ → ℕ → List ℕ → List ℕ
 dots colour other rest = colour ∷ colour ∷ other ∷ other ∷ other ∷ other ∷ other ∷ colour ∷ rest
 
 abbrev whole : List ℕ
 whole = eight 1 (eight 2 (eight 3 (eight 4 [])))
 
--- two pages of two rows of two characters, which are a line high; the second is shown, and these are the places of the cursors
+-- two pages of two rows of two characters, one line high, with their cursor positions; page 1 is
+-- shown
 abbrev paged : ℕ → List ℕ → ℕ → List ℕ → ℕ → Screen
 paged mode page0 place0 page1 place1 = record (shown mode) {
   layout = record { columns = 2; rows = 2; height = 1; distance = 0; pages = 2 };
@@ -192,7 +194,7 @@ paged mode page0 place0 page1 place1 = record (shown mode) {
   page = 1;
 }
 
--- a character of 16 colours at the end of a row, and one by XOR
+-- a character at the end of a row in 16 colours, and one by XOR
 typed_opaque : next fonts (paged 0x0D whole 0 whole 0x0001) (Teletype 0 0x15) [] ≡ paged 0x0D whole 0 (eight 1 (dots 5 0 (eight 3 (eight 4 [])))) 0x0100
 unfolding next type_character
 typed_opaque = refl
@@ -201,17 +203,17 @@ typed_over : next fonts (paged 0x0D whole 0 whole 0x0100) (Teletype 0 0x87) [] �
 unfolding next type_character
 typed_over = refl
 
--- after the last column of the last row the page goes up, with a row of colour 0
+-- after the last column of the last row the page goes up, and the new row has colour 0
 typed_last : next fonts (paged 0x0D whole 0 whole 0x0101) (Teletype 0 0x05) [] ≡ paged 0x0D whole 0 (eight 3 (dots 5 0 (eight 0 (eight 0 [])))) 0x0100
 unfolding next type_character
 typed_last = refl
 
--- and so it does for a line feed there, which leaves the cursor
+-- a line feed there does the same, and leaves the cursor where it is
 fed_last : next fonts (paged 0x0D whole 0 whole 0x0101) (Teletype 0x0A 0x05) [] ≡ paged 0x0D whole 0 (eight 3 (eight 4 (eight 0 (eight 0 [])))) 0x0101
 unfolding next type_character
 fed_last = refl
 
--- the page of 256 colours, and what is typed there
+-- one page of 256 colours, and typing on it
 abbrev single : List ℕ → ℕ → Screen
 single page place = record (paged 0x13 page place [] 0) {
   layout = record { columns = 2; rows = 2; height = 1; distance = 0; pages = 1 };
@@ -228,7 +230,8 @@ last_packed : next fonts (single whole 0x0101) (Teletype 0 0x87) [] ≡ single (
 unfolding next type_character
 last_packed = refl
 
--- a string over the end of a page that is not shown: the first character is there before the page goes up, the second is by XOR
+-- a string past the end of a page that is not shown: the first character is written before the page
+-- goes up, and the second by XOR
 string_typed : next fonts (paged 0x0D whole 0x0001 whole 0) (WriteString (record {
   page = 0;
   position = 0x0101;
@@ -240,7 +243,7 @@ string_typed : next fonts (paged 0x0D whole 0x0001 whole 0) (WriteString (record
 unfolding next type_character
 string_typed = refl
 
--- a cursor outside is refused
+-- a cursor outside the page is refused
 typed_outside : refusal_on (paged 0x0D whole 0 whole 0x0002) (Teletype 0 5) 0 ≡ Some Outside
 unfolding refusal_on
 typed_outside = refl

@@ -33,7 +33,7 @@ small cells place = record {
 abbrev six : List Cell
 six = (1, 11) ∷ (2, 12) ∷ (3, 13) ∷ (4, 14) ∷ (5, 15) ∷ (6, 16) ∷ (7, 17) ∷ (8, 18) ∷ []
 
--- a run of cells with a character in this colour, which is the attribute or is not
+-- a run of cells that get a character in this colour; the colour is the attribute, or is ignored
 abbrev run : ℕ → ℕ → Bool → ℕ → CellRun
 run character colour is_attribute count = record {
   page = 0;
@@ -49,7 +49,7 @@ no_fonts = record { f8 = []; f14 = []; f16 = [] }
 abbrev after : Screen → Service → List Cell
 after s service = cells_on (next no_fonts s service []).contents
 
--- 09 writes the attribute too, and 0A does not
+-- 09 writes the attribute too; 0A does not
 coloured_write : after (small six 1) (WriteCells (run 65 30 true 2)) ≡ (1, 11) ∷ (65, 30) ∷ (65, 30) ∷ (4, 14) ∷ (5, 15) ∷ (6, 16) ∷ (7, 17) ∷ (8, 18) ∷ []
 unfolding next
 coloured_write = refl
@@ -58,12 +58,12 @@ character_write : after (small six 256) (WriteCells (run 65 30 false 3)) ≡ (1,
 unfolding next
 character_write = refl
 
--- four cells from the second row on are past the page's last
+-- four cells from the second row on go past the end of the page
 long_write : refusal_on (small six 256) (WriteCells (run 65 30 false 4)) 0 ≡ Some CountPast
 unfolding refusal_on
 long_write = refl
 
--- a window of the last two columns goes up by a row, and down
+-- a window of the last two columns moves up by a row, and down by a row
 window_up : after (small six 0) (ScrollUp (record { lines = 1; fill = 7; top = 0; left = 1; bottom = 1; right = 2 }))
     ≡ (1, 11) ∷ (5, 15) ∷ (6, 16) ∷ (4, 14) ∷ (0x20, 7) ∷ (0x20, 7) ∷ (7, 17) ∷ (8, 18) ∷ []
 unfolding next
@@ -74,7 +74,7 @@ window_down : after (small six 0) (ScrollDown (record { lines = 1; fill = 7; top
 unfolding next
 window_down = refl
 
--- 0 lines are all, and corners past the page are cut
+-- 0 lines means all rows of the window, and corners outside the page are cut
 whole_page : after (small six 0) (ScrollUp (record { lines = 0; fill = 7; top = 1; left = 0; bottom = 99; right = 99 }))
     ≡ (1, 11) ∷ (2, 12) ∷ (3, 13) ∷ (0x20, 7) ∷ (0x20, 7) ∷ (0x20, 7) ∷ (7, 17) ∷ (8, 18) ∷ []
 unfolding next
@@ -108,7 +108,7 @@ carriage_return : next no_fonts (small six 258) (Teletype 0x0D 9) [] ≡ small s
 unfolding next type_character
 carriage_return = refl
 
--- with one page, any number means that page, but another page can't be shown
+-- with one page, any page number means that page, but another page cannot be shown
 page_named : refusal_on (small six 0) (SetCursor 5 0) 0 ≡ None
 unfolding refusal_on
 page_named = refl
@@ -121,7 +121,7 @@ typed_outside : refusal_on (small six 3) (Teletype 65 9) 0 ≡ Some Outside
 unfolding refusal_on
 typed_outside = refl
 
--- a string with attributes over the end of a row, which moves the cursor or leaves it
+-- a string with attributes across the end of a row, which moves the cursor or leaves it
 abbrev string : Bool → Service
 string moves = WriteString (record { page = 0; position = 2; colour = 0; count = 2; has_attributes = true; moves_cursor = moves })
 
@@ -140,7 +140,7 @@ short_block : refusal_on (small six 0) (string true) 3 ≡ Some BadBlock
 unfolding refusal_on
 short_block = refl
 
--- text has no dots
+-- in text no pixel can be written
 no_dots : refusal_on (small six 0) (WritePixel 0 0 0 1) 0 ≡ Some WrongKind
 unfolding refusal_on
 no_dots = refl
@@ -159,7 +159,7 @@ coloured = record (small six 0) {
   };
 }
 
--- six bits of a value are kept
+-- six bits of a palette value are kept
 value_set : (next no_fonts coloured (Colours (SetRegister 1 0xC5)) []).palette.values ≡ 1 ∷ 5 ∷ []
 unfolding next colours_after
 value_set = refl
@@ -170,7 +170,7 @@ entries_set : (next no_fonts coloured (Colours (SetEntries 1 2)) (1 ∷ 2 ∷ 3 
 unfolding next colours_after
 entries_set = refl
 
--- a block that is too short, and a register that does not exist
+-- a block that is too short is refused, and so is a register that does not exist
 short_entries : refusal_on coloured (Colours (SetEntries 1 2)) 5 ≡ Some BadBlock
 unfolding refusal_on
 short_entries = refl
@@ -179,7 +179,7 @@ no_register : refusal_on coloured (Colours (SetRegister 16 0)) 0 ≡ Some BadReg
 unfolding refusal_on
 no_register = refl
 
--- the palette is answered with the overscan after it, and entries with three bytes each
+-- the palette is answered with the overscan after it; each entry is answered as three bytes
 palette_table : table_answer (record coloured { overscan = 7 }) ReadPalette ≡ PaletteTable (1 ∷ 2 ∷ 7 ∷ [])
 palette_table = refl
 

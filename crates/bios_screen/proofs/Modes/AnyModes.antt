@@ -1,4 +1,5 @@
--- The rows of the mode table by their numbers: each is one of text or of graphics, with what such a row says.
+-- The rows of the mode table by number: each is a text row or a graphics row, with all that this
+-- implies.
 use Rattle.std.proofs.Common.{◌≡◌, ℕ, ap, subst, ◌∙◌, Bool, true, false, Some}
 use Rattle.bios_screen.proofs.Prelude.{ModeRow, row_at, bytes_320_by_200, is_text}
 use Rattle.bios_modes.specs.Heights.{if_row, at_height}
@@ -9,7 +10,7 @@ use Rattle.bios_screen.proofs.Modes.TextModes.{Display, number_of, text_by, Text
 use Rattle.bios_screen.proofs.Modes.TextModes.Display.{Colour, Monochrome}
 use Rattle.bios_screen.proofs.Modes.PixelModes.{IsGraphicsRow, IsPlanarRow, IsPackedRow, planar_0d, planar_10, planar_12, packed_13}
 
--- a row of graphics, by its colours
+-- a graphics row, by its number of colours
 pub data Colours (mode : ℕ) (row : ModeRow) : Type 0 where
   Sixteen : IsPlanarRow mode row → Colours mode row
   Many : IsPackedRow mode row → Colours mode row
@@ -37,7 +38,7 @@ tabled mode height row =
 not_both : {Y : Type 0} (b : Bool) → b ≡ true → b ≡ false → Y
 not_both b t f = absurd (cc)
 
--- a row of the table that is text is one of text
+-- the row of a text mode is a text row
 pub text_row_is : (mode height : ℕ) (row : ModeRow) → is_text mode ≡ true → row_at mode height ≡ Some row → TextRow mode row
 text_row_is mode height row t e = by_kind (tabled mode height row e)
   where
@@ -45,7 +46,7 @@ text_row_is mode height row t e = by_kind (tabled mode height row e)
     by_kind (OfText is) = is
     by_kind (OfPixels k) = not_both (is_text mode) t (says_of mode row k).text
 
--- and one that is no text is one of graphics
+-- the row of any other mode is a graphics row
 pub colours_is : (mode height : ℕ) (row : ModeRow) → is_text mode ≡ false → row_at mode height ≡ Some row → Colours mode row
 colours_is mode height row t e = by_kind (tabled mode height row e)
   where

@@ -1,4 +1,4 @@
--- The DAC of a mode set.
+-- The DAC's entries in a mode set.
 use Rattle.std.proofs.Common.{◌≡◌, ◌≢◌, ℕ, ◌+◌, ◌%◌, ◌<◌, ◌≤◌, ⊎_elim, refl, sym, ap, ◌∙◌, subst, arith, List, [], length, Bool, true}
 use Rattle.std.specs.Prelude.{◌==◌, ◌&&◌, slice_index, slice_set, bit_and}
 use Rattle.std.proofs.lemmas.Bool.{cases_eq, agree_below, agree_below_at}
@@ -21,22 +21,22 @@ pub record Colour : Type 0 where
   pub green : ℕ
   pub blue : ℕ
 
--- red, green and blue of a list, and the bits of them that the DAC keeps
+-- a colour from a list of three bytes, and the bits of it that the DAC keeps
 abbrev pub colour_of : List ℕ → Colour
 colour_of l = record { red = slice_index l 0; green = slice_index l 1; blue = slice_index l 2 }
 
 abbrev pub kept_colour : Colour → Colour
 kept_colour x = record { red = bit_and x.red 0x3F; green = bit_and x.green 0x3F; blue = bit_and x.blue 0x3F }
 
--- an entry, from the three lists
+-- entry k, from the three lists
 abbrev pub entry_at : DacState → ℕ → Colour
 entry_at d k = record { red = slice_index d.reds k; green = slice_index d.greens k; blue = slice_index d.blues k }
 
--- all of an adapter except its DAC entries and what the DAC waits for
+-- all of an adapter except the DAC's entries, index, component and waiting values
 abbrev pub without_entries : CardState → CardState
 without_entries c = record c { dac = record c.dac { reds = []; greens = []; blues = []; index = 0; component = Red; waiting_red = 0; waiting_green = 0 } }
 
--- the DAC stands at entry i, its entries are f, and all else is as in `rest`
+-- the DAC is at red of entry i, its entries are f, and all else is as in `rest`
 pub record HasEntries (rest : CardState) (i : ℕ) (c : CardState) (f : ℕ → Colour) : Type 0 where
   pub index : c.dac.index ≡ i % 256
   pub component : c.dac.component ≡ Red
@@ -46,7 +46,7 @@ pub record HasEntries (rest : CardState) (i : ℕ) (c : CardState) (f : ℕ → 
   pub entry : (k : ℕ) → k < 256 → entry_at c.dac k ≡ f k
   pub others : without_entries c ≡ rest
 
--- the DAC after entry i is written with a colour, where i is its index
+-- the DAC after entry i, which its index selects, is written with a colour
 abbrev stored : DacState → ℕ → Colour → DacState
 stored d i x = record d {
   reds = slice_set d.reds i (bit_and x.red 0x3F);
@@ -58,7 +58,7 @@ stored d i x = record d {
   waiting_green = bit_and x.green 0x3F;
 }
 
--- three writes are one entry
+-- three writes set one entry
 three : (l : List ℕ) (i : ℕ) (c : CardState) → c.dac.component ≡ Red → c.dac.index ≡ i →
     (run card_meaning (colour_plan l) c).0 ≡ record c { dac = stored c.dac i (colour_of l) }
 unfolding colour_plan port_of out_reached
@@ -96,7 +96,7 @@ one_entry rest colour i s c l t =
     } in
     record { cells = d; shown = subst (λ x. HasEntries rest (i + 1) x d) (sym (three colour i s t.component (t.index ∙ z))) still; fact = one_edit i new c }
 
--- an adapter whose DAC waits for red of entry i
+-- an adapter whose DAC is at red of entry i
 pub before_entry : (c : CardState) (i : ℕ) → IsDac c.dac → i < 256 →
     HasEntries (without_entries c) i (record c { dac = record c.dac { index = i; component = Red } }) (entry_at c.dac)
 before_entry c i z l = record {
@@ -109,7 +109,7 @@ before_entry c i z l = record {
   others = refl;
 }
 
--- n colours from entry i on
+-- n colours are written, from entry i on
 pub entries_written : (rest : CardState) (colour : ℕ → List ℕ) (i n : ℕ) (s : CardState) (c : ℕ → Colour) → i + n ≤ 256 → HasEntries rest i s c →
     Leaves CardState Colour (HasEntries rest (i + n)) (run card_meaning (each (λ r. colour_plan (colour r)) n 0) s).0
     (Edited Colour (Turn (λ _. Unit {0}) 0 n) (λ h. i + h.turn) (λ h x. kept_colour (colour_of (colour h.turn))) c)
@@ -122,11 +122,11 @@ entries_written rest colour i n s c l t =
     (Edited Colour (Unit {0}) (λ _. i + r) (λ _ y. kept_colour (colour_of (colour r))) g)) a (one_entry rest (colour r) (i + r) x g (omega arith) there))
     n 0 s c (omega arith) (omega arith) (subst (λ k. HasEntries rest k s c) z t)
 
--- a palette's entries have no bits to lose
+-- the DAC keeps every bit of a palette's first n entries
 abbrev pub keeps_entries : Palette → ℕ → Type 0
 keeps_entries palette n = (k : ℕ) → k < n → kept_colour (colour_of (palette_entry palette k)) ≡ colour_of (palette_entry palette k)
 
--- if that holds for each component, which is computed
+-- the same as a test of each component, which can be computed
 abbrev is_kept : List ℕ → Bool
 is_kept l = (bit_and (slice_index l 0) 0x3F == slice_index l 0)
     && ((bit_and (slice_index l 1) 0x3F == slice_index l 1) && (bit_and (slice_index l 2) 0x3F == slice_index l 2))

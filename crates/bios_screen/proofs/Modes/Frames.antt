@@ -1,4 +1,5 @@
--- What the registers of a row of the mode table say of frames, whatever the data say of cursor and page, and of colours.
+-- What a mode table row's registers imply for frames and colours, whatever cursor and page the data
+-- have.
 use Rattle.std.proofs.Common.{◌≡◌, ℕ, ◌+◌, ◌*◌, ◌/◌, ◌%◌, ◌<◌, refl, ap, ◌∙◌, arith, Bool, true, false, List, length}
 use Rattle.std.proofs.lemmas.Bool.{and_parts, eqb-true}
 use Rattle.std.proofs.lemmas.Bool.Decides.{nat_tests}
@@ -13,11 +14,11 @@ use Rattle.vga_dots.specs.SourceDot.{fetch_address}
 use Rattle.bios_screen.specs.Raster.{IsRaster}
 use Rattle.bios_screen.proofs.Base.Tests.{le_is}
 
--- the numbers of a frame from registers, where a character has w dots
+-- the numbers of frames, from the registers, if a character has w dots
 abbrev pub numbers_of : ℕ → List ℕ → Raster
 numbers_of w l = record { dots = w; columns = horizontal_display_end l + 1; height = vertical_display_end l + 1; characters = characters l; lines = lines l }
 
--- by how many dots this panning shifts a line, with these registers of the sequencer and the graphics controller
+-- by how many dots panning p shifts a line, with these sequencer and graphics registers
 abbrev pub panned_by : List ℕ → List ℕ → ℕ → ℕ
 panned_by seq gfx p =
     if is_set (slice_index gfx 6) 0 && is_set (slice_index gfx 5) 6 then bit_and p 6
@@ -25,7 +26,8 @@ panned_by seq gfx p =
     else if p == 8 then 0
     else p % 8 + 1
 
--- the frames of a row have these numbers; none is cut, begins within a row of characters, or is panned
+-- the row's frames have these numbers; none is split, begins within a row of characters, or is
+-- panned
 pub record IsFrame (m : Raster) (row : ModeRow) : Type 0 where
   pub raster : IsRaster m
   pub clock : (if is_set (slice_index row.sequencer 1) 0 then 8 else 9) ≡ m.dots
@@ -35,7 +37,8 @@ pub record IsFrame (m : Raster) (row : ModeRow) : Type 0 where
   pub attributes : length row.attribute ≡ 21
   pub still : panned_by row.sequencer row.graphics (slice_index row.attribute 0x13) ≡ 0
 
--- text and sixteen colours: the screen is on, a dot has four bits, all of which count, and they pick a palette register of all six bits
+-- text and sixteen colours: the screen is on, all four bits of a dot count, and so do all six of a
+-- palette register
 pub record HasShades (row : ModeRow) : Type 0 where
   pub on : is_set (slice_index row.sequencer 1) 5 ≡ false
   pub many : (is_set (slice_index row.graphics 6) 0 && is_set (slice_index row.graphics 5) 6) ≡ false
@@ -43,13 +46,13 @@ pub record HasShades (row : ModeRow) : Type 0 where
   pub planes : slice_index row.attribute 0x12 ≡ 0x0F
   pub select : slice_index row.attribute 0x14 ≡ 0
 
--- blinking is bit 3 of mode control, whose other bits are the row's
+-- blinking is bit 3 of mode control; the other bits are the row's
 abbrev pub Blinks : ModeRow → ℕ → Type 0
 Blinks row b =
     let v = bit_and (slice_index row.attribute 0x10) 0xF7 in
     (bit_and (bit_and (bit_or v (8 * b)) 0xEF) 0xF7 ≡ v) × (is_set (bit_and (bit_or v (8 * b)) 0xEF) 3 ≡ (b == 1))
 
--- ---- by one test that is computed of a literal row
+-- ---- one test, computed for a literal row
 
 abbrev has_numbers : Raster → Bool
 has_numbers m = nat_lt 0 m.dots && (nat_lt 0 m.columns && (nat_lt 0 m.height && (nat_le m.columns m.characters && nat_le m.height m.lines)))
@@ -112,7 +115,7 @@ computed_frame m row e =
 begins_at : (start : ℕ) → start < 65536 → (256 * (start / 256) + start % 256 + 0) % 65536 ≡ start
 begins_at start l = omega arith
 
--- ---- other registers of cursor and start address are no matter of frames
+-- ---- cursor and start address do not change the numbers of frames
 
 module _ (row : ModeRow) (type start location : ℕ) where
   abbrev l : List ℕ
@@ -138,7 +141,7 @@ module _ (row : ModeRow) (type start location : ℕ) where
   unfolding underline_location
   underline_stays = refl
 
-  -- a frame begins with the start address
+  -- a frame begins at the start address
   pub begins_with : byte_panning row.crtc ≡ 0 → start < 65536 → first_counter l ≡ start
   unfolding address_of byte_panning
   begins_with e small = ap (λ n. (256 * (start / 256) + start % 256 + n) % 65536) e ∙ begins_at start small

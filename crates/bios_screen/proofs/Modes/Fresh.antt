@@ -1,4 +1,4 @@
--- A clearing mode set, down to its memory: registers and the DAC's entries; and the call around it.
+-- A clearing mode set up to its memory: the registers, the DAC's entries, and the call around it.
 use Rattle.std.proofs.Common.{◌≡◌, ℕ, ◌+◌, ◌<◌, refl, ap, ◌∙◌, subst, arith, List, length, Option, Some, false}
 use Rattle.std.specs.Prelude.{slice_index}
 use Rattle.vga_dac.specs.declared.component.Component.TheVariants.{Red}
@@ -12,7 +12,7 @@ use Rattle.bios_modes.specs.Palette.{palette_entry}
 use Rattle.bios_services.specs.declared.call.Call.{Call}
 use Rattle.bios_services.specs.declared.call.Call.TheVariants.{SetMode}
 use Rattle.bios_services.specs.Service.{call_plan, set_mode_plan, answer_of, Answered, service as whole_service}
-use Rattle.bios_services.specs.ModeSet.{registers_plan, colour_plan, palette_plan, mode_set_plan}
+use Rattle.bios_services.specs.ModeSet.{registers_plan, colour_plan, mask_and_palette_plan, mode_set_plan}
 use Rattle.bios_screen.specs.Shown.{palette_in}
 use Rattle.bios_screen.specs.Fresh.{default_component, fresh_palette, fresh_screen}
 use Rattle.bios_screen.specs.AfterCall.{SetsFresh}
@@ -24,7 +24,7 @@ use Rattle.bios_screen.proofs.Modes.Entries.{Colour as Entry, colour_of, entry_a
 
 -- ---- the DAC
 
--- states that differ only in entries are equal with the same entries
+-- if x and y differ only in DAC entries, x is y with the entries of x
 but_entries : (x y : CardState) → without_entries x ≡ without_entries y → x ≡ record y { dac = record x.dac { mask = y.dac.mask } }
 but_entries x y e = ap (λ s. let r : CardState = record s { dac = record x.dac { mask = s.dac.mask } } in r) e
 
@@ -34,16 +34,16 @@ component_same : (palette : DefaultPalette) (i n : ℕ) (l : List ℕ) → lengt
 unfolding default_component
 component_same palette i n l e h = spelled l n e ∙ same_from_0 (λ k. slice_index (palette_entry palette k) i) (slice_index l) n h
 
--- the DAC's mask is set and its index is 0
+-- the DAC's mask is FF, and its index is 0
 abbrev unmasked : CardState → CardState
 unmasked c = record c { dac = record c.dac { mask = 0xFF; index = 0; component = Red } }
 
-masked_is : (palette : DefaultPalette) (c : CardState) (n : ℕ) → (run card_meaning (palette_plan palette n) c).0
+masked_is : (palette : DefaultPalette) (c : CardState) (n : ℕ) → (run card_meaning (mask_and_palette_plan palette n) c).0
     ≡ (run card_meaning (each (λ i. colour_plan (palette_entry palette i)) n 0) (unmasked c)).0
-unfolding palette_plan reached_by out_reached
+unfolding mask_and_palette_plan reached_by out_reached
 masked_is palette c n = refl
 
--- a DAC has the colours of a palette
+-- a DAC has the colours of a default palette
 pub record HasColours (palette : DefaultPalette) (d : DacState) : Type 0 where
   pub mask : d.mask ≡ 0xFF
   pub reds : d.reds ≡ default_component palette 0 256
@@ -54,16 +54,16 @@ pub record HasColours (palette : DefaultPalette) (d : DacState) : Type 0 where
 abbrev pub coloured : ModeRow → CardState → DacState → CardState
 coloured row c d = record (in_mode row c) { dac = d }
 
--- then its palette is the fresh screen's
+-- with these colours the palette is the fresh screen's
 pub palette_is : (row : ModeRow) (c : CardState) (d : DacState) → HasColours row.palette d → palette_in (coloured row c d) ≡ fresh_palette row
 palette_is row c d t = rw (t.mask, t.reds, t.greens, t.blues) refl
 
--- what registers and palette of a mode leave, before the rest of its plan
+-- what a mode's registers and palette leave, before the rest of the plan
 pub record Prepared (row : ModeRow) (c : CardState) : Type 0 where
   pub dac : DacState
   pub colours : HasColours row.palette dac
   pub bounds : IsCard (coloured row c dac)
-  pub runs : (rest : Plan (Unit {0})) → (run card_meaning (registers_plan row >> (palette_plan row.palette 256 >> rest)) c).0
+  pub runs : (rest : Plan (Unit {0})) → (run card_meaning (registers_plan row >> (mask_and_palette_plan row.palette 256 >> rest)) c).0
       ≡ (run card_meaning rest (coloured row c dac)).0
 
 pub prepared : (mode : ℕ) (row : ModeRow) (c : CardState) → IsSet mode row → IsCard c → Prepared row c
@@ -96,22 +96,22 @@ prepared mode row c is z =
       };
       bounds = subst IsCard e (plan_bounds entries y1 z1);
       runs = λ rest.
-          then_runs (registers_plan row) (palette_plan row.palette 256 >> rest) c
-          ∙ ap (λ x. (run card_meaning (palette_plan row.palette 256 >> rest) x).0) (registers_set mode row c is z)
-          ∙ then_runs (palette_plan row.palette 256) rest y0
+          then_runs (registers_plan row) (mask_and_palette_plan row.palette 256 >> rest) c
+          ∙ ap (λ x. (run card_meaning (mask_and_palette_plan row.palette 256 >> rest) x).0) (registers_set mode row c is z)
+          ∙ then_runs (mask_and_palette_plan row.palette 256) rest y0
           ∙ ap (λ x. (run card_meaning rest x).0) (masked_is row.palette y0 256 ∙ e);
     }
 
 -- ---- the call
 
--- its plan is the mode's
+-- the call's plan is the mode's
 call_is : (mode : ℕ) (row : ModeRow) (fonts : FontSet) (r : Regs) (block : List ℕ) (d : BiosData) → mode_row mode ≡ Some row →
     call_plan (Some (SetMode mode false)) fonts d r block
     ≡ (mode_set_plan row false fonts >> (let q : Plan Answered = Done (answer_of r (data_of_mode mode row)) in q))
 unfolding set_mode_plan
 call_is mode row fonts r block d e = ap (λ x. set_mode_plan x mode false fonts d r) e
 
--- the plan shows the fresh screen
+-- the plan leads to a state that shows the fresh screen
 abbrev pub ShowsFresh : ℕ → ModeRow → Type 0
 ShowsFresh mode row = (c : CardState) (fonts : FontSet) → IsCard c → AreBytes fonts.f16 →
     shown (run card_meaning (mode_set_plan row false fonts) c).0 (data_of_mode mode row) ≡ Some (fresh_screen mode row fonts.f16 c.crtc.beam.frame)

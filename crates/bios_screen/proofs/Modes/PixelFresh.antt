@@ -26,7 +26,7 @@ use Rattle.bios_screen.proofs.Planar.Settings.{drawing, at_rest, stored, without
 use Rattle.bios_screen.proofs.Planar.Bits.{nibble_of}
 use Rattle.bios_screen.proofs.Packed.Screens.{IsFlat, put_flat}
 
--- ---- what clearing leaves: the pixels are 0, and no register is another
+-- ---- what clearing leaves: all pixels are 0, and no register has changed
 
 abbrev cleared : CardState → CardState
 cleared c = (run card_meaning (clear_plan 0x10000) c).0
@@ -39,7 +39,7 @@ record IsCleared (mode : ℕ) (row : ModeRow) (c y : CardState) : Type 0 where
 abbrev Clears : ℕ → ModeRow → Type 0
 Clears mode row = (c : CardState) → IsCard c → setting c ≡ setting_of row → IsCleared mode row c (cleared c)
 
--- a Put of 0 reaches all planes
+-- a Put of 0 stores 0 in all four planes
 stored_zero : (misc clocking : ℕ) (q x : Four ℕ) → stored (drawing misc clocking at_rest) 0x0F 0 q x ≡ four (λ _. 0)
 unfolding byte_of written_bit combined_bit
 stored_zero misc clocking q x = refl
@@ -79,7 +79,7 @@ planes_clear mode row is c z e =
           ∙ no_bits (7 - k % 8);
     }
 
--- or the pixel of its address
+-- in 256 colours a Put of 0 clears the pixel at its address
 bytes_clear : Clears 0x13 bytes_320_by_200
 unfolding clear_plan
 bytes_clear c z e =

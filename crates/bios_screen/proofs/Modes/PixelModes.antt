@@ -1,4 +1,5 @@
--- The rows of the mode table that are graphics. What a row says is computed here once; all other rooms cite it.
+-- The graphics rows of the mode table. What a row implies is computed here once, and cited
+-- elsewhere.
 use Rattle.std.proofs.Common.{◌≡◌, ℕ, ◌+◌, ◌*◌, ◌/◌, ◌%◌, ◌<◌, ◌≤◌, refl, arith, true, false, Some}
 use Rattle.std.specs.Prelude.{slice_index, IsTrue, ◌&&◌, nat_lt, nat_le}
 use Rattle.std.proofs.lemmas.Bool.Decides.{nat_tests}
@@ -27,13 +28,13 @@ use Rattle.bios_screen.proofs.Planar.Settings.{drawing, at_rest}
 abbrev pub setting_of : ModeRow → Setting
 setting_of row = record { misc = row.misc; seq = row.sequencer; gfx = row.graphics }
 
--- how many pixels a page of a row has
+-- how many pixels a page of this row has
 abbrev pub pixels_of : ModeRow → ℕ
 pixels_of row = 8 * row.columns * (row.height * (row.last_row + 1))
 
--- ---- what a row of graphics says
+-- ---- what a graphics row implies
 
--- as a row of the table, and that the test finds its mode once that is set
+-- it is the mode's row at any height, and after a mode set the test holds
 pub record IsListed (mode : ℕ) (row : ModeRow) : Type 0 where
   pub there : (height : ℕ) → row_at mode height ≡ Some row
   pub text : is_text mode ≡ false
@@ -43,7 +44,7 @@ pub record IsListed (mode : ℕ) (row : ModeRow) : Type 0 where
   pub blinks : Blinks row 1
   pub fresh : (c : CardState) (d : DacState) → shows row (record (in_mode row c) { dac = d }) (data_of_mode mode row) ≡ true
 
--- of its characters and pages
+-- the sizes of its characters and pages
 pub record HasRoom (row : ModeRow) : Type 0 where
   pub some_columns : 0 < row.columns
   pub narrow : row.columns ≤ 80
@@ -55,7 +56,7 @@ pub record HasRoom (row : ModeRow) : Type 0 where
   pub bytes : (pixels_of row + 7) / 8 ≤ row.size
   pub memory : row.size * row.pages ≤ 65536
 
--- by a test that is computed of a literal row
+-- the sizes follow from a test that is computed for a literal row
 roomy : (row : ModeRow) → (nat_lt 0 row.columns && (nat_le row.columns 80 && (nat_lt 0 row.height && (nat_le row.height 16 && (nat_lt row.last_row 255
     && (nat_le row.pages 8 && (nat_lt 0 row.size && (nat_le ((pixels_of row + 7) / 8) row.size && nat_le (row.size * row.pages) 65536)))))))) ≡ true →
     HasRoom row
@@ -71,7 +72,7 @@ roomy row e = record {
   memory = grind (arith, nat_tests);
 }
 
--- of its picture
+-- the size of its picture
 pub record IsPictured (mode : ℕ) (row : ModeRow) (m : Raster) : Type 0 where
   pub dots : m.dots ≡ 8
   pub line : line_dots m ≡ dots_a_line mode
@@ -79,13 +80,14 @@ pub record IsPictured (mode : ℕ) (row : ModeRow) (m : Raster) : Type 0 where
   pub wide : width m ≡ pixel_width mode * (8 * row.columns)
   pub high : m.height ≡ pixel_height mode * (row.height * (row.last_row + 1))
 
--- of the places of a frame: the counter at character x of line v of a page, and the pixel that dot i of it shows
+-- where the dots of a frame come from: the counter at character x of line v of a page, and the
+-- pixel at dot i of it
 pub record HasPlaces (mode : ℕ) (row : ModeRow) (m : Raster) : Type 0 where
   pub counter : (page v x : ℕ) → page < row.pages → v < m.height → x < m.columns → ((regular_beam row.crtc (row.size * page) 0 v 0 0).base + x) % 65536
       ≡ row.size * page + (m.columns * (v / pixel_height mode) + x)
   pub pixel : (v x i : ℕ) → v < m.height → x < m.columns → i < 8 → 8 * row.columns * (v / pixel_height mode) + (x * 8 + i) / pixel_width mode < pixels_of row
 
--- a row of graphics of this mode: all of it, and the numbers of its frames
+-- a graphics row of this mode, with all of this and the numbers of its frames
 pub record IsGraphicsRow (mode : ℕ) (row : ModeRow) : Type 0 where
   pub raster : Raster
   pub frame : IsFrame raster row
@@ -96,7 +98,8 @@ pub record IsGraphicsRow (mode : ℕ) (row : ModeRow) : Type 0 where
   pub picture : IsPictured mode row raster
   pub places : HasPlaces mode row raster
 
--- of sixteen colours: its kind, its memory at rest, and that a counter is the address of a byte of each plane
+-- for sixteen colours: its kind, its memory at rest, and a counter that is the offset of a byte in
+-- each plane
 pub record HasPlanes (mode : ℕ) (row : ModeRow) (m : Raster) : Type 0 where
   pub kind : kind_of mode ≡ Planar
   pub packed : is_packed mode ≡ false
@@ -112,7 +115,7 @@ pub record IsPlanarRow (mode : ℕ) (row : ModeRow) : Type 0 where
   pub planes : HasPlanes mode row graphics.raster
   pub shades : HasShades row
 
--- the row of 256 colours, of which there is one
+-- the row of 256 colours; there is only one
 pub record IsPackedRow (mode : ℕ) (row : ModeRow) : Type 0 where
   pub number : mode ≡ 0x13
   pub literal : bytes_320_by_200 ≡ row
@@ -120,7 +123,7 @@ pub record IsPackedRow (mode : ℕ) (row : ModeRow) : Type 0 where
   pub columns : graphics.raster.columns ≡ 80
   pub height : graphics.raster.height ≡ 400
 
--- ---- what follows of pages
+-- ---- what follows for pages
 
 module _ (row : ModeRow) (is : HasRoom row) where
   -- pages lie within memory
@@ -130,13 +133,13 @@ module _ (row : ModeRow) (is : HasRoom row) where
   pub page_begins : (page : ℕ) → page < row.pages → row.size * page < 65536
   page_begins page l = let a = page_ends page l in let b = is.some in omega arith
 
-  -- a page has room for its pixels, eight of them a byte
+  -- a page has room for its pixels, eight to a byte
   pub page_room : (k : ℕ) → k < pixels_of row → k / 8 < row.size
   page_room k l = let a = is.bytes in omega arith
 
 -- ---- the rows
 
--- what a literal row is computed through: the fields of its registers, the cycles of its mode set, and the test that finds its mode
+-- what a literal row is computed through: register fields, the cycles of a mode set, and the test
 row_registers : Unit {0}
 unfolding
     horizontal_total horizontal_display_end vertical_total vertical_display_end byte_panning line_compare preset_row_scan maximum_scan_line

@@ -35,7 +35,7 @@ in_mode row c = record c {
   misc = row.misc;
 }
 
--- what a row says of its mode set: it is the mode's, and its registers are set, which is computed where they are literal
+-- the row is the mode's, and a mode set writes its registers; this is computed for literals
 pub record IsSet (mode : ℕ) (row : ModeRow) : Type 0 where
   pub table : mode_row mode ≡ Some row
   pub literal : (c : CardState) → (run card_meaning (registers_plan row) (spelled_card c)).0 ≡ in_mode row c

@@ -13,7 +13,7 @@ use Rattle.bios_services.specs.Cycles.{sequencer, group, attribute_group}
 use Rattle.bios_services.specs.ModeSet.{registers_plan, glyphs_plan, font_plan, blank_byte, blank_plan, text_plan, memory_plan, mode_set_plan}
 use Rattle.bios_screen.specs.Screen.{Palette}
 use Rattle.bios_screen.specs.Shown.{cells_in, glyph_byte, glyphs_in, shows, screen_with, screen_of, shown_by}
-use Rattle.bios_screen.specs.Fresh.{blank_cells, font_bytes, fresh_text, fresh_pixels}
+use Rattle.bios_screen.specs.Fresh.{fresh_cells, font_bytes, fresh_text, fresh_pixels}
 use Rattle.bios_screen.specs.AfterCall.{SetsFresh}
 use Rattle.bios_screen.proofs.Shows.Screens.{screen_is_text}
 use Rattle.bios_screen.proofs.Base.Flat.{Edited, Turn, Leaves, set_cell}
@@ -56,7 +56,7 @@ blanked disp rest c m n l t =
     })
     n 0 c m (omega arith) (omega arith) t
 
--- states that differ only in glyphs are equal with the same glyphs
+-- if x and y differ only in glyphs, x is y with the glyphs of x
 pub but_glyphs : (x y : CardState) → without_glyphs x ≡ without_glyphs y → x ≡ record y {
   host =
       record y.host { memory = record y.host.memory { plane2 = x.host.memory.plane2 } };
@@ -69,8 +69,8 @@ glyphs_same : (plane2 font : List ℕ) (n : ℕ) → ((i : ℕ) → i < n → gl
 unfolding glyphs_in font_bytes
 glyphs_same plane2 font n h = same_from_0 (slice_index font) (glyph_byte plane2) n h
 
-cells_blank : (p0 p1 : List ℕ) (n : ℕ) → ((k : ℕ) → k < n → cell_in p0 p1 k ≡ (0x20, 0x07)) → cells_in p0 p1 n ≡ blank_cells n
-unfolding cells_in blank_cells
+cells_blank : (p0 p1 : List ℕ) (n : ℕ) → ((k : ℕ) → k < n → cell_in p0 p1 k ≡ (0x20, 0x07)) → cells_in p0 p1 n ≡ fresh_cells n
+unfolding cells_in fresh_cells
 cells_blank p0 p1 n h = blank_listing (cell_in p0 p1) (0x20, 0x07) 0 n (λ k l. let z : 0 + k ≡ k = omega arith in ap (cell_in p0 p1) z ∙ h k l)
 
 -- ---- one text mode
@@ -102,7 +102,7 @@ unfolding reached_by out_reached
 off_is Colour c d l = refl
 off_is Monochrome c d l = refl
 
--- the test, where all is literal
+-- the test, computed from literals
 test_is : (disp : Display) (c : CardState) (d : DacState) (l : List ℕ) →
     shows (row_of disp) (in_text disp (with_glyphs (in_glyphs disp (coloured (row_of disp) c d)) l)) (data_of_mode (number_of disp) (row_of disp)) ≡ true
 unfolding shows
@@ -134,12 +134,12 @@ unfolding memory_plan text_plan
 memory_is Colour font c = then_runs (font_plan (glyph_row 16 font) 16 256 0 0x0E) (blank_plan 0xB8000 0x8000) c
 memory_is Monochrome font c = then_runs (font_plan (glyph_row 16 font) 16 256 0 0x0A) (blank_plan 0xB0000 0x8000) c
 
--- the memory of a mode set, part after part
+-- the memory after a mode set: glyphs, cells and all else
 record FreshMemory (disp : Display) (font : List ℕ) (y s : CardState) : Type 0 where
   plane2 : List ℕ
   others : without_text s ≡ without_text (in_text disp (with_glyphs (in_glyphs disp y) plane2))
   glyphs : glyphs_in plane2 4096 ≡ font_bytes font 4096
-  cells : cells_in s.host.memory.plane0 s.host.memory.plane1 all_cells ≡ blank_cells all_cells
+  cells : cells_in s.host.memory.plane0 s.host.memory.plane1 all_cells ≡ fresh_cells all_cells
 
 fresh_memory : (disp : Display) (c : CardState) (d : DacState) (font : List ℕ) → IsCard (coloured (row_of disp) c d) → AreBytes font →
     FreshMemory disp font (coloured (row_of disp) c d)
@@ -213,7 +213,7 @@ shows_fresh disp c fonts z small =
     let y = in_text disp (with_glyphs (in_glyphs disp (coloured row c first.dac)) t.plane2) in
     let new = fresh_text mode row font c.crtc.beam.frame in
     let pixels = fresh_pixels mode row c.crtc.beam.frame in
-    let blank = blank_cells all_cells in
+    let blank = fresh_cells all_cells in
     ap (λ x. shown x d) (first.runs (memory_plan row false font))
     ∙ ap (λ x. shown_by x s d) (row_is disp)
     ∙ ap (λ b. if b then Some (screen_of row s d) else None) (test_stays row y s d t.others ∙ test_is disp c first.dac t.plane2)

@@ -1,4 +1,4 @@
--- The two text displays, and the rows of the mode table that are text.
+-- The two text displays, and the text rows of the mode table.
 use Rattle.std.proofs.Common.{◌≡◌, ℕ, ◌+◌, ◌*◌, ◌<◌, ◌≤◌, refl, subst, arith, List, [], ◌∷◌, length, Bool, true, false, Some, None}
 use Rattle.std.specs.Prelude.{slice_index, bit_and, nat_le, nat_lt, ◌==◌, ◌&&◌, if◌then◌else◌}
 use Rattle.std.proofs.lemmas.Bool.Decides.{nat_tests}
@@ -18,7 +18,7 @@ abbrev pub misc_of : Display → ℕ
 misc_of Colour = 0x67
 misc_of Monochrome = 0x66
 
--- miscellaneous register of the graphics controller: the window
+-- the miscellaneous register of the graphics controller, which selects the window
 abbrev pub window_of : Display → ℕ
 window_of Colour = 0x0E
 window_of Monochrome = 0x0A
@@ -44,7 +44,7 @@ text_graphics k = 0x00 ∷ 0x00 ∷ 0x00 ∷ 0x00 ∷ 0x00 ∷ 0x10 ∷ window_o
 abbrev pub text_setting : Display → Setting
 text_setting k = record { misc = misc_of k; seq = text_sequencer; gfx = text_graphics k }
 
--- what a row of text says by its display: the registers of memory, and the port
+-- what a text row has from its display: the registers for memory cycles, and the port
 pub record IsOfDisplay (k : Display) (mode : ℕ) (row : ModeRow) : Type 0 where
   pub misc : row.misc ≡ misc_of k
   pub sequencer : row.sequencer ≡ text_sequencer
@@ -53,7 +53,7 @@ pub record IsOfDisplay (k : Display) (mode : ℕ) (row : ModeRow) : Type 0 where
   pub base : page_base mode ≡ base_of k
   pub crtc : length row.crtc ≡ 25
 
--- the numbers of its characters and pages; a page has this many cells
+-- the sizes of its characters and pages; a page has room for `half` cells
 pub record HasTextPages (row : ModeRow) : Type 0 where
   pub half : ℕ
   pub some_columns : 0 < row.columns
@@ -64,14 +64,14 @@ pub record HasTextPages (row : ModeRow) : Type 0 where
   pub pages : row.pages ≤ 8
   pub last_row : row.last_row < 255
 
--- a row of text of this display
+-- a text row of this display
 pub record IsTextRow (k : Display) (mode : ℕ) (row : ModeRow) : Type 0 where
   pub of_display : IsOfDisplay k mode row
   pub open of_display use *
   pub has_pages : HasTextPages row
   pub open has_pages use *
 
--- the row of a display as a mode set leaves it, and its mode
+-- the row that a mode set uses for a display, and the number of its mode
 abbrev pub row_of : Display → ModeRow
 row_of Colour = colour_text
 row_of Monochrome = monochrome_text
@@ -84,7 +84,7 @@ pub text_by : (k : Display) → is_text (number_of k) ≡ true
 text_by Colour = refl
 text_by Monochrome = refl
 
--- mode control without blink
+-- mode control without the blink bit
 abbrev pub control_of : Display → ℕ
 control_of Colour = 0x04
 control_of Monochrome = 0x06
@@ -99,7 +99,7 @@ pub data Height : Type 0 where
   Fourteen : Height
   Sixteen : Height
 
--- the row of a display and a height in the text-height table, and in the mode table
+-- the row of a display and a height, in the text-height table and in the mode table
 abbrev pub lines_of : Display → Height → HeightRow
 lines_of Colour Eight = fifty_rows 0x1F
 lines_of Colour Fourteen = twenty_eight_rows 0x1F
@@ -115,7 +115,7 @@ pub text_blinks : (k : Display) (height : Height) → Blinks (row_with k height)
 text_blinks Colour _ = ((refl, refl), (refl, refl))
 text_blinks Monochrome _ = ((refl, refl), (refl, refl))
 
--- which display a mode of text has, and which height
+-- the display and the height of a text mode
 pub record TextRow (mode : ℕ) (row : ModeRow) : Type 0 where
   pub display : Display
   pub height : Height
@@ -123,12 +123,12 @@ pub record TextRow (mode : ℕ) (row : ModeRow) : Type 0 where
   pub row_is : row ≡ row_with display height
   pub number : mode ≡ number_of display
 
--- each of their rows is one of text: by its display, and by how its pages lie in memory
+-- each of these rows is a text row: by its display, and by how its pages lie in memory
 display_by : (k : Display) (height : Height) → IsOfDisplay k (number_of k) (row_with k height)
 display_by Colour _ = record { misc = refl; sequencer = refl; graphics = refl; port = refl; base = refl; crtc = refl }
 display_by Monochrome _ = record { misc = refl; sequencer = refl; graphics = refl; port = refl; base = refl; crtc = refl }
 
--- the numbers by a test that is computed of a literal row
+-- the sizes follow from a test that is computed for a literal row
 paged : (row : ModeRow) (half : ℕ) → row.size ≡ 2 * half → (nat_lt 0 row.columns && (nat_le row.columns 80 && (nat_le (row.columns * (row.last_row + 1)) half
     && (nat_le (half * row.pages) 16384 && (nat_le row.pages 8 && nat_lt row.last_row 255))))) ≡ true → HasTextPages row
 paged row half even e = record {
@@ -153,7 +153,7 @@ pages_by Monochrome Sixteen = paged _ 2048 refl refl
 row_by : (k : Display) (height : Height) → IsTextRow k (number_of k) (row_with k height)
 row_by k height = record { of_display = display_by k height; has_pages = pages_by k height }
 
--- the height that the row of some data has
+-- the height of the row that the data have
 record HasHeight (k : Display) (row : ModeRow) : Type 0 where
   height : Height
   is : row_with k height ≡ row

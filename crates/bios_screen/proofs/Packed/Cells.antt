@@ -1,4 +1,4 @@
--- The character at the cursor of 256 colours is the first whose glyph its pixels are.
+-- Reading the character at the cursor in 256 colours: the first whose glyph matches the pixels.
 use Rattle.std.proofs.Common.{◌≡◌, ℕ, zero, suc, ◌+◌, ◌-◌, ◌*◌, ◌%◌, ◌<◌, refl, sym, ap, ◌∙◌, subst, arith, Bool, true, false}
 use Rattle.std.specs.Prelude.{◌==◌, if◌then◌else◌}
 use Rattle.vga_bits.specs.Bits.{byte_of}
@@ -27,12 +27,12 @@ dot_small n = by_test (n == 0)
     by_test true = omega arith
     by_test false = omega arith
 
--- pixels from pixel i on, n of them, shifted into a byte
+-- the byte x after n pixels, from pixel i on, are shifted in as bits
 abbrev shifted : (ℕ → ℕ) → ℕ → ℕ → ℕ → ℕ
 shifted f zero i x = x
 shifted f (suc n) i x = shifted f n (i + 1) ((2 * x + as_dot (f i)) % 256)
 
--- a byte of eight bits, by Horner's rule
+-- eight bits, shifted in one after another, make a byte
 horner : (b0 b1 b2 b3 b4 b5 b6 b7 : ℕ) → b0 < 2 → b1 < 2 → b2 < 2 → b3 < 2 → b4 < 2 → b5 < 2 → b6 < 2 → b7 < 2 →
     (2 * ((2 * ((2 * ((2 * ((2 * ((2 * ((2 * ((2 * 0 + b0) % 256) + b1) % 256) + b2) % 256) + b3) % 256) + b4) % 256) + b5) % 256) + b6) % 256) + b7) % 256
     ≡ b7 + 2 * b6 + 4 * b5 + 8 * b4 + 16 * b3 + 32 * b2 + 64 * b1 + 128 * b0

@@ -1,4 +1,4 @@
--- Under chain 4 the planes are one flat memory of pixels of 256 colours.
+-- With chain 4 the planes are one flat memory, with a byte for each pixel.
 use Rattle.std.proofs.Common.{◌≡◌, ℕ, ◌+◌, ◌*◌, ◌/◌, ◌%◌, ◌<◌, refl, sym, ap, ◌∙◌, subst, arith, List, length, true}
 use Rattle.std.specs.Prelude.{slice_index, slice_set, ◌==◌, ◌&&◌, if◌then◌else◌}
 use Rattle.std.proofs.lemmas.Bool.Decides.{nat_tests}
@@ -24,7 +24,7 @@ written : (h : HostState) (b : ℕ) → b < 256 → (p : ℕ) → p < 4 → writ
 unfolding byte_of written_bit combined_bit
 written h b l = by_plane (λ p. written_byte (host_at h (setting_of bytes_320_by_200)) b p ≡ b) (byte_bits b l) (byte_bits b l) (byte_bits b l) (byte_bits b l)
 
--- the planes, each of which may have a new byte
+-- the planes, of which plane n % 4 gets a new byte
 abbrev four_packed : Four (List ℕ) → ℕ → ℕ → ℕ → ℕ → ℕ → Four (List ℕ)
 four_packed m n x0 x1 x2 x3 = record {
   plane0 = if 0 == n % 4 then slice_set m.plane0 (n / 4 * 4) x0 else m.plane0;
@@ -56,7 +56,7 @@ plane_after : (m : Four (List ℕ)) (n b p : ℕ) → p < 4 → of_plane (packed
 plane_after m n b = by_plane (λ p. of_plane (packed_memory m n b) p ≡ (if p == n % 4 then slice_set (of_plane m p) (n / 4 * 4) b else of_plane m p))
     refl refl refl refl
 
--- a Put changes one pixel
+-- a Put at pixel n changes that pixel only
 pub pixel_put : (m : Four (List ℕ)) (n b k : ℕ) → ((p : ℕ) → p < 4 → length (of_plane m p) ≡ 65536) → n < 65536 →
     packed_pixel (packed_memory m n b) k ≡ set_cell (packed_pixel m) n b k
 pixel_put m n b k size l =
@@ -68,7 +68,7 @@ pixel_put m n b k size l =
     ap (λ x. slice_index x (k / 4 * 4)) (plane_after m n b (k % 4) within)
     ∙ list_put (k % 4 == n % 4) plane o b (k / 4 * 4) (omega arith) ∙ ap (λ t. if t then b else packed_pixel m k) same
 
--- a byte of the four is the plane's
+-- byte p of the four bytes at an offset is that of plane p
 byte_of_plane : (m : Four (List ℕ)) (o p : ℕ) → p < 4 → of_plane (bytes_at m o) p ≡ slice_index (of_plane m p) o
 byte_of_plane m o = by_plane (λ p. of_plane (bytes_at m o) p ≡ slice_index (of_plane m p) o) refl refl refl refl
 

@@ -1,4 +1,4 @@
--- Pixels of 256 colours are written and read.
+-- Writing and reading a pixel in 256 colours.
 use Rattle.std.proofs.Common.{◌≡◌, ℕ, ◌+◌, ◌*◌, ◌/◌, ◌<◌, sym, ap, ◌∙◌, subst, arith, Some}
 use Rattle.std.specs.Prelude.{◌==◌, if◌then◌else◌}
 use Rattle.bios_screen.proofs.Prelude.{IsCard, card_meaning, CardState, bytes_320_by_200, BiosData, is_packed, page_base, Plan, run, put, get, Screen}
@@ -17,9 +17,9 @@ module _ (c : CardState) (d : BiosData) (t : IsPacked c d) (z : IsCard c) where
   abbrev s : Screen
   s = pixel_screen bytes_320_by_200 c d
 
-  -- ---- where it is
+  -- ---- where a pixel is
 
-  -- the number of a pixel
+  -- the number of the pixel at column x of line y
   abbrev number : ℕ → ℕ → ℕ
   number x y = 8 * d.columns * y + x
 
@@ -36,7 +36,7 @@ module _ (c : CardState) (d : BiosData) (t : IsPacked c d) (z : IsCard c) where
       sum : (n : ℕ) → 0xA0000 + 0 + n ≡ 0xA0000 + n
       sum n = omega arith
 
-  -- ---- 0C
+  -- ---- function 0C
 
   write_is : (x y colour : ℕ) → write_pixel_plan d 0 x y colour ≡ put (0xA0000 + number x y) colour
   unfolding write_pixel_plan
@@ -62,7 +62,7 @@ module _ (c : CardState) (d : BiosData) (t : IsPacked c d) (z : IsCard c) where
       (λ k lk. ap (λ v. if k == n then v else packed_pixel m k) (sym (ap (λ i. colour_over i colour (packed_pixel m k)) t.number))
       ∙ ap (λ v. if k == n then colour_over d.mode colour v else v) (sym (screens.pixel_is c d t z k lk))))
 
-  -- ---- 0D
+  -- ---- function 0D
 
   read_is : (x y : ℕ) → read_pixel_plan d 0 x y ≡ get (0xA0000 + number x y)
   unfolding read_pixel_plan

@@ -14,14 +14,14 @@ use Rattle.bios_screen.proofs.Dots.PackedDots.{IsPacked}
 use Rattle.bios_screen.proofs.Packed.Memory.{decoded, byte_read, put_is, pixel_put, packed_memory}
 use Rattle.bios_screen.proofs.Planar.Settings.{without_host}
 
--- the adapter is in the setting of 256 colours, and its pixels are these
+-- the registers are those of the mode of 256 colours, and pixel k is f k
 pub record IsFlat (rest : CardState) (c : CardState) (f : ℕ → ℕ) : Type 0 where
   pub mode : setting c ≡ setting_of bytes_320_by_200
   pub bounds : IsCard c
   pub cell : (k : ℕ) → packed_pixel c.host.memory k ≡ f k
   pub others : without_host c ≡ rest
 
--- a Put changes one of them
+-- a Put at pixel n changes that pixel only
 pub put_flat : (rest : CardState) (n v : ℕ) (c : CardState) (f : ℕ → ℕ) → n < 65536 → v < 256 → IsFlat rest c f →
     IsFlat rest (run card_meaning (put (0xA0000 + n) v) c).0 (set_cell f n v)
 put_flat rest n v c f l lv t =
@@ -34,7 +34,7 @@ put_flat rest n v c f l lv t =
     } in
     subst (λ x. IsFlat rest x (set_cell f n v)) (sym after) still
 
--- a Get answers one of them
+-- a Get at pixel a answers it, and changes no pixel
 pub record IsGot (rest : CardState) (a : ℕ) (c : CardState) (f : ℕ → ℕ) : Type 0 where
   pub still : IsFlat rest (run card_meaning (get (0xA0000 + a)) c).0 f
   pub value : (run card_meaning (get (0xA0000 + a)) c).1 ≡ f a
@@ -67,7 +67,7 @@ module _ (c : CardState) (d : BiosData) (t : IsPacked c d) (z : IsCard c) where
   all_pixels = ap (λ i. 8 * i * (d.height * (d.last_row + 1))) t.has.columns ∙ ap (λ i. 320 * (i * (d.last_row + 1))) t.has.height
       ∙ ap (λ i. 320 * (8 * (i + 1))) t.has.last_row
 
-  -- a pixel of the page, in memory that shows it
+  -- pixel k of page 0, in a memory
   pixel_by : (m : Four (List ℕ)) (k : ℕ) → pixel_in d.mode m (d.size * 0) k ≡ packed_pixel m k
   pixel_by m k =
       let at : d.size * 0 + k ≡ k = omega arith in
@@ -76,14 +76,14 @@ module _ (c : CardState) (d : BiosData) (t : IsPacked c d) (z : IsCard c) where
   pub pixel_is : (k : ℕ) → k < page_pixels d → pixel_of s 0 k ≡ packed_pixel c.host.memory k
   pixel_is k l = pixel_at d.mode c.host.memory d.size (page_pixels d) 1 0 k (omega arith) l ∙ pixel_by c.host.memory k
 
-  -- what the adapter shows where the page has other pixels
+  -- if the page has new pixels, the screen with these pixels is shown
   pub page_redrawn : (y : CardState) (f : ℕ → ℕ) (change : (ℕ → ℕ) → ℕ → ℕ) → IsFlat (without_host c) y f →
       ((k : ℕ) → k < page_pixels d → f k ≡ change (pixel_of s 0) k) → shown y d ≡ Some (with_pixels s 0 change)
   page_redrawn y f change h inside =
       page_renewed bytes_320_by_200 c y d (t.there d.height) t.text t.tests (h.mode ∙ sym setting_is) h.others 0 change (omega arith)
       (λ k l. pixel_by y.host.memory k ∙ h.cell k ∙ inside k l) (λ g k lg w l. absurd (w (omega arith)))
 
-  -- and if all pixels are as they were, the screen stays
+  -- if all pixels are as they were, the same screen is shown
   pub stays : (y : CardState) → IsFlat (without_host c) y (packed_pixel c.host.memory) → shown y d ≡ Some s
   stays y h = pixels_stay bytes_320_by_200 c y d (t.there d.height) t.text t.tests (h.mode ∙ sym setting_is) h.others (λ g k lg _.
       let first : g ≡ 0 = omega arith in

@@ -1,4 +1,4 @@
--- A window of 256 colours moves up or down, from the screen to the next.
+-- Scrolling a window in 256 colours, from one screen to the next.
 use Rattle.std.proofs.Common.{◌≡◌, ℕ, ◌+◌, ◌-◌, ◌*◌, ◌/◌, ◌%◌, ◌<◌, ◌≤◌, refl, sym, ap, ◌∙◌, subst, arith, Some, false}
 use Rattle.bios_screen.proofs.Prelude.{IsCard, card_meaning, CardState, bytes_320_by_200, BiosData, Band, Direction, Window, page_base, kind_of, run, Screen}
 use Rattle.bios_screen.proofs.Prelude.{packed_pixel, page_pixels, pixel_screen, shown, pixel_of, with_pixels}

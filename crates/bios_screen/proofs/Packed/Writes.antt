@@ -1,4 +1,4 @@
--- Characters in 256 colours in a run of cells of the page, from the screen to the next.
+-- Writing a run of characters in 256 colours, from one screen to the next.
 use Rattle.std.proofs.Common.{◌≡◌, ℕ, ◌+◌, ◌-◌, ◌*◌, ◌/◌, ◌%◌, ◌<◌, ◌≤◌, refl, sym, ap, ◌∙◌, subst, arith, Some, Bool, true, false}
 use Rattle.std.specs.Prelude.{if◌then◌else◌}
 use Rattle.bios_screen.proofs.Prelude.{is_set, IsCard, card_meaning, CardState, bytes_320_by_200, BiosData, FontSet, Band, Colouring, page_base, cells_of}
@@ -21,7 +21,7 @@ use Rattle.bios_screen.proofs.Pixels.Writes.{column_by, IsCanvas}
 pub address_sum : (w h row r left i : ℕ) → 0xA0000 + 0 + 8 * w * (h * row + r) + 8 * left + i ≡ 0xA0000 + (8 * (w * (h * row + r) + left) + i)
 address_sum w h row r left i = let a : 8 * w * (h * row + r) ≡ 8 * (w * (h * row + r)) = omega arith in omega arith
 
--- eight dots of each line
+-- the plan that writes eight dots on each of n lines
 abbrev glyph_plan : (ℕ → ℕ → ℕ) → (ℕ → ℕ) → ℕ → ℕ → Plan (Unit {0})
 glyph_plan at g n colour = each (λ r. each (λ i. put (at r i) (dot_of (g r) colour i)) 8 0) n 0
 
@@ -30,7 +30,7 @@ plan_is : (band : Band) (row : ℕ) (fonts : FontSet) (character colour : ℕ) �
 unfolding packed_plan put_dots
 plan_is band row fonts character colour = refl
 
--- a dot or none is a byte
+-- the byte that is written, the colour or 0, is below 256
 dot_small : (b : Bool) (colour : ℕ) → colour < 256 → (if b then colour else 0) < 256
 dot_small true colour l = l
 dot_small false colour l = omega arith
@@ -54,7 +54,7 @@ module _ (c : CardState) (d : BiosData) (t : IsPacked c d) (z : IsCard c) where
   high : 0 < h
   high = let a = t.has.height in omega arith
 
-  -- the place of dot i of line r of cell q
+  -- the number of the pixel of dot i of line r of cell q
   abbrev place : ℕ → ℕ → ℕ → ℕ
   place q r i = 8 * strip_at w h q r + i
 
@@ -76,7 +76,7 @@ module _ (c : CardState) (d : BiosData) (t : IsPacked c d) (z : IsCard c) where
       ∙ plan_is band (q / w) fonts character colouring.colour
       ∙ ap (λ a. glyph_plan a (glyph_line fonts h character) h colouring.colour) (λ j r i. address_is q r i j)
 
-  -- the page has 8000 strips
+  -- the page has 8000 strips, and the strips of a cell are among these
   pub strip_small : (q r : ℕ) → q < cells_of d → r < h → strip_at w h q r < 8000
   strip_small q r lq lr =
       let l = strip_within w h (d.last_row + 1) q r wide lr lq in
@@ -124,11 +124,11 @@ module _ (c : CardState) (d : BiosData) (t : IsPacked c d) (z : IsCard c) where
       (λ r v f1 lb l k. line_drawn q r (g r) colour v f1 lq l lc k)
       h 0 y f (omega arith) (omega arith) u
 
-  -- what a dot makes of a pixel, in 256 colours
+  -- in 256 colours a dot gives the colour, and no dot gives 0
   dot_is : (colour : ℕ) (is_dot : Bool) (x : ℕ) → (if is_dot then colour else 0) ≡ glyph_pixel d.mode colour is_dot x
   dot_is colour is_dot x = sym (ap (λ i. glyph_pixel i colour is_dot x) t.number)
 
-  -- a place is of one strip, and has a pixel
+  -- each strip is eight pixels, and no two strips share one
   canvas : IsCanvas bytes_320_by_200 c d wide high ℕ Dots 0 (λ b x. 8 * b + x.turn) dot
       (λ x _. x) (packed_pixel c.host.memory) (IsFlat rest)
   canvas = record {
@@ -139,7 +139,7 @@ module _ (c : CardState) (d : BiosData) (t : IsPacked c d) (z : IsCard c) where
         ap f whole ∙ inside k lk);
   }
 
-  -- there is no other page
+  -- page 0 is the only page
   pub characters_shown : (fonts : FontSet) (p q n character : ℕ) (colouring : Colouring) → p < bytes_320_by_200.pages → q + n ≤ cells_of d →
       colouring.colour < 256 → shown (run card_meaning (characters_plan fonts d p q character colouring n) c).0 d
       ≡ Some (put_characters fonts s p q n character colouring)

@@ -1,4 +1,4 @@
--- If a service changes only pixels: from pixels that are known one by one to the next screen.
+-- Services that change only pixels: from pixels known one by one to the next screen.
 use Rattle.std.proofs.Common.{◌≡◌, ◌≢◌, ℕ, ◌+◌, ◌*◌, ◌<◌, sym, ap, ◌∙◌, arith, List, [], length, get_or, Some, false}
 use Rattle.std.specs.Prelude.{set}
 use Rattle.bios_screen.proofs.Prelude.{Four, CardState, ModeRow, row_at, BiosData, is_text, listing, Screen, shows_attribute, pixel_in, page_pixels}
@@ -13,7 +13,7 @@ use Rattle.bios_screen.proofs.Shows.Pixels.{pixels_shown_of}
 use Rattle.bios_screen.proofs.Shows.Any.{same_tests}
 use Rattle.bios_screen.proofs.Planar.Settings.{without_host}
 
--- a pixel of a page is there, and its number
+-- the pixel at column x of line y is on the page
 pub record There (d : BiosData) (x y : ℕ) : Type 0 where
   pub across : x < 8 * d.columns
   pub down : y < d.height * (d.last_row + 1)
@@ -38,14 +38,14 @@ module _ (row : ModeRow) (c y : CardState) (d : BiosData) (e : row_at d.mode d.h
   abbrev page : Four (List ℕ) → ℕ → List ℕ
   page m g = pixels_in d.mode m (d.size * g) n
 
-  -- the screen around the pages that are then in memory
+  -- the screen that is then shown has the pages now in memory
   pub redrawn : shown y d ≡ Some (screen_by row c d 0 (Pixels (pixel_pages d.mode y.host.memory d.size n row.pages)) [])
   redrawn =
       pixels_shown_of y d row e text (same_tests row c y d same (ap (λ (x : CardState). x.crtc.registers) others)
       (ap (λ (x : CardState). shows_attribute row x.attr) others ∙ t.attribute) t)
       ∙ ap (λ (x : CardState). Some (screen_by row x d 0 (Pixels (pixel_pages d.mode y.host.memory d.size n row.pages)) [])) others
 
-  -- one page has other pixels
+  -- one page has new pixels
   pub page_renewed : (p : ℕ) (change : (ℕ → ℕ) → ℕ → ℕ) → p < row.pages → ((k : ℕ) → k < n → pixel y.host.memory p k ≡ change (pixel_of s p) k)
       → ((g k : ℕ) → g < row.pages → g ≢ p → k < n → pixel y.host.memory g k ≡ pixel c.host.memory g k) → shown y d ≡ Some (with_pixels s p change)
   unfolding pixel_pages pixels_in
@@ -58,7 +58,7 @@ module _ (row : ModeRow) (c y : CardState) (d : BiosData) (e : row_at d.mode d.h
       (λ g lg w. same_from_0 (pixel c.host.memory g) (pixel y.host.memory g) n (λ k l. outside g k lg w l)) in
       redrawn ∙ ap (λ x. Some (screen_by row c d 0 (Pixels x) [])) (pages ∙ ap (λ i. set old p (listing (change (pixel_of s p)) 0 i)) (sym long))
 
-  -- and if all pixels are as they were, the screen stays
+  -- if all pixels are as they were, the same screen is shown
   pub pixels_stay : ((g k : ℕ) → g < row.pages → k < n → pixel y.host.memory g k ≡ pixel c.host.memory g k) → shown y d ≡ Some s
   unfolding pixel_pages pixels_in
   pixels_stay stay =

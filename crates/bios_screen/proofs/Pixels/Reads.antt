@@ -1,4 +1,5 @@
--- The character at a cell of pixels is read: its lines, one after another, and the first glyph that they are.
+-- Reading the character at a cell of pixels: its lines, one after another, and the first glyph that
+-- matches.
 use Rattle.std.proofs.Common.{◌≡◌, ℕ, zero, suc, ◌+◌, ◌%◌, ◌/◌, ◌<◌, ◌≤◌, refl, sym, ap, ◌∙◌, subst, arith, List, ◌∷◌, Some, false}
 use Rattle.std.specs.Prelude.{◌==◌, if◌then◌else◌}
 use Rattle.vga_bits.specs.Bits.{byte_of}
@@ -20,11 +21,11 @@ use Rattle.bios_screen.proofs.Base.Plans.{run_bind}
 use Rattle.bios_screen.proofs.Pixels.Writes.{column_by}
 use Rattle.bios_screen.proofs.Text.Writes.{IsCellRead}
 
--- a pixel as a dot
+-- a pixel as a bit: 1 if it is not 0
 abbrev pub as_dot : ℕ → ℕ
 as_dot pixel = if pixel == 0 then 0 else 1
 
--- bytes of the same bits
+-- bytes with the same bits are the same
 pub byte_same : (f g : ℕ → ℕ) → ((i : ℕ) → i < 8 → f i ≡ g i) → byte_of f ≡ byte_of g
 unfolding byte_of
 byte_same f g h =
@@ -32,7 +33,7 @@ byte_same f g h =
     let h4 = h 4 (omega arith) in let h5 = h 5 (omega arith) in let h6 = h 6 (omega arith) in let h7 = h 7 (omega arith) in
     omega arith
 
--- a plan that reads answers a number, and leaves what holds
+-- a plan answers v, and leaves a state for which R holds
 pub record IsSeen (R : CardState → Type 0) (plan : Plan ℕ) (v : ℕ) (c : CardState) : Type 0 where
   pub still : R (run card_meaning plan c).0
   pub value : (run card_meaning plan c).1 ≡ v
@@ -41,7 +42,7 @@ record AreSeen (R : CardState → Type 0) (plan : Plan (List ℕ)) (l : List ℕ
   still : R (run card_meaning plan c).0
   value : (run card_meaning plan c).1 ≡ l
 
--- the plan by its addresses
+-- the plan, by the addresses of the lines
 abbrev reading : Kind → (ℕ → ℕ) → ℕ → FontSet → Plan ℕ
 reading k at n fonts = do
   access_plan k 0x08
@@ -81,7 +82,7 @@ module _ (row : ModeRow) (c : CardState) (d : BiosData) (fonts : FontSet) (p q :
           value = ap (λ v. v.1) runs ∙ ap (λ v. v ∷ (run card_meaning more y1).1) seen.value ∙ ap (λ l. cell_line s p q i ∷ l) rest.value;
         }
 
-    -- from a state that shows the screen back to one
+    -- reading begins and ends in a state that shows the screen
     pub character_seen : kind_of d.mode ≡ k → row_lines k h ≡ h → ((r : ℕ) → address_in (column_by k d p (q % d.columns)) (q / d.columns) r 0 ≡ at r)
         → R (run card_meaning (access_plan k 0x08) c).0
         → ((y : CardState) → R y → shown (run card_meaning (access_plan k 0x00) y).0 d ≡ Some s)
@@ -103,7 +104,7 @@ module _ (row : ModeRow) (c : CardState) (d : BiosData) (fonts : FontSet) (p q :
           value = ap (λ v. v.1) runs ∙ ap (λ l. first_character fonts h l 256) seen.value;
         }
 
--- function 08 where the character is read
+-- function 08, given that the character is read
 pub cell_read : (row : ModeRow) (c : CardState) (d : BiosData) (fonts : FontSet) (r : Regs) (p : ℕ) → is_text d.mode ≡ false
     → (let s = pixel_screen row c d in let q = cursor_cell d p in
     IsSeen (λ y. shown y d ≡ Some s) (read_character_plan (cell_band d p q) (cell_row d q) fonts)

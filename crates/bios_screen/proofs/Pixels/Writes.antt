@@ -1,4 +1,5 @@
--- Characters in a run of cells of a page of pixels, from the screen to the next, however the pixels lie in memory.
+-- Writing a run of characters on a page of pixels, from one screen to the next, however pixels lie
+-- in memory.
 use Rattle.std.proofs.Common.{◌≡◌, ◌≢◌, ℕ, ◌+◌, ◌-◌, ◌*◌, ◌/◌, ◌%◌, ◌<◌, ◌≤◌, sym, ap, ◌∙◌, arith, Some}
 use Rattle.std.proofs.Math.Nat.{mod-lt}
 use Rattle.bios_screen.proofs.Prelude.{is_set, card_meaning, CardState, ModeRow, BiosData, FontSet, Band, Colouring, cells_of, run, Screen, page_pixels}
@@ -13,11 +14,12 @@ use Rattle.bios_services.specs.Bands.{band_by}
 use Rattle.bios_screen.proofs.Base.Tests.{of_run}
 use Rattle.bios_screen.proofs.Base.CellPlaces.{cell_of, line_of, strip_at, strip_of_cell, cell_of_strip, strip_within, pixel_cell_is, pixel_line_is}
 
--- one column of a page, as the kind of memory has it
+-- a band of one column of a page, in this kind of memory
 abbrev pub column_by : Kind → BiosData → ℕ → ℕ → Band
 column_by k d page left = band_by k d page left 1
 
--- memory has each strip of eight pixels of a page at some places, of which dot k has pixel k as a shade of what is there
+-- memory has each strip of eight pixels at some positions; pixel k is a shade of what is at the
+-- position that `dot` selects
 module _ (row : ModeRow) (c : CardState) (d : BiosData) (wide : 0 < d.columns) (high : 0 < d.height) (X D : Type 0) (p : ℕ) (at : ℕ → D → ℕ)
     (dot : ℕ → D) (shade : X → ℕ → ℕ) (old : ℕ → X) (R : CardState → (ℕ → X) → Type 0) where
   abbrev s : Screen
@@ -32,14 +34,15 @@ module _ (row : ModeRow) (c : CardState) (d : BiosData) (wide : 0 < d.columns) (
   abbrev strips : ℕ
   strips = w * (h * (d.last_row + 1))
 
-  -- the places of a character, and of some one after another
+  -- the positions of a character, and those of a run of characters
   abbrev pub Lines : Type 0
   Lines = Turn (λ _. D) 0 h
 
   abbrev Cells : ℕ → Type 0
   Cells n = Turn (λ _. Lines) 0 n
 
-  -- what is known of memory: two strips have no place in common, a pixel is a shade, and other pixels are another page
+  -- two strips share no position, a pixel is a shade, and a page with new pixels gives the screen
+  -- with them
   pub record IsCanvas : Type 0 where
     pub apart : (a b : ℕ) (x y : D) → at a x ≡ at b y → a ≡ b
     pub pixel : (k : ℕ) → k < page_pixels d → pixel_of s p k ≡ shade (old (at (k / 8) (dot k))) k
@@ -49,7 +52,7 @@ module _ (row : ModeRow) (c : CardState) (d : BiosData) (wide : 0 < d.columns) (
         → ((o : ℕ) → ((b : ℕ) (x : D) → b < strips → o ≢ at b x) → f o ≡ old o)
         → shown y d ≡ Some (with_pixels s p change)
 
-  -- a character that is drawn at a cell: line r of its glyph makes F r of what is there
+  -- a character is drawn at a cell: line r of its glyph applies F r to what is there
   module _ (is : IsCanvas) (fonts : FontSet) (character : ℕ) (colouring : Colouring) (F : ℕ → D → X → X)
       (shaded : (k r : ℕ) (x : X) → shade (F r (dot k) x) k
       ≡ glyph_pixel d.mode colouring.colour (is_set (glyph_line fonts h character r) (7 - k % 8)) (shade x k))

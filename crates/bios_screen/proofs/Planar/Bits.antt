@@ -1,4 +1,4 @@
--- What a write of one pixel in sixteen colours is to the eight pixels of its place.
+-- What a write of one pixel in sixteen colours does to the eight pixels of its byte.
 use Rattle.std.proofs.Common.{◌≡◌, ℕ, zero, suc, ◌+◌, ◌-◌, ◌*◌, ◌/◌, ◌%◌, ◌^◌, ◌<◌, refl, sym, ap, ◌∙◌, arith, Bool, true, false}
 use Rattle.std.specs.Prelude.{◌==◌, if◌then◌else◌, bit_xor}
 use Rattle.std.specs.Int.{bit_at}
@@ -11,7 +11,7 @@ use Rattle.vga_bits.proofs.FourLemmas.{by_plane}
 use Rattle.vga_host.specs.Memory.Write.{written_bit, combined_bit, written_byte}
 use Rattle.bios_screen.proofs.Planar.Settings.{Hand, drawing, bare, stored}
 
--- ---- a number of four bits, one of each plane
+-- ---- a four-bit number with one bit from each plane
 
 abbrev pub nibble : (ℕ → ℕ) → ℕ
 nibble f = f 0 + 2 * f 1 + 4 * f 2 + 8 * f 3
@@ -19,15 +19,15 @@ nibble f = f 0 + 2 * f 1 + 4 * f 2 + 8 * f 3
 pub same_nibble : (f g : ℕ → ℕ) → ((p : ℕ) → p < 4 → f p ≡ g p) → nibble f ≡ nibble g
 same_nibble f g h = let h0 = h 0 (omega arith) in let h1 = h 1 (omega arith) in let h2 = h 2 (omega arith) in let h3 = h 3 (omega arith) in omega arith
 
--- pixel i of a byte of each plane, the first as the highest bits
+-- pixel i of four bytes, one of each plane; pixel 0 is the highest bit
 abbrev pub nibble_of : Four ℕ → ℕ → ℕ
 nibble_of q i = nibble (λ p. bit_at (of_plane q p) (7 - i))
 
--- the low bits of a number
+-- a number modulo 16, from its four low bits
 pub low_is : (v : ℕ) → nibble (bit_at v) ≡ v % 16
 low_is v = omega arith
 
--- the XOR of two numbers below 16, by their bits
+-- the XOR of two numbers below 16, bit by bit
 xor_16 : (x m : ℕ) → x < 16 → m < 16 → nibble (λ p. (bit_at x p + bit_at m p) % 2) ≡ bit_xor x m
 xor_16 x m hx hm =
     let n = 16 * x + m in
@@ -46,7 +46,7 @@ xor_nibble m x s =
     (by_plane (λ p. (bit_at m p + x p) % 2 ≡ (bit_at n p + bit_at (m % 16) p) % 2) (omega arith) (omega arith) (omega arith) (omega arith))
     ∙ xor_16 n (m % 16) (omega arith) (omega arith)
 
--- ---- a bit of a byte that is given by its bits
+-- ---- a bit of a byte that is built from bits
 
 by_eight : (P : ℕ → Type 0) → P 0 → P 1 → P 2 → P 3 → P 4 → P 5 → P 6 → P 7 → (j : ℕ) → j < 8 → P j
 by_eight P a b c d e f g h zero l = a
@@ -65,7 +65,7 @@ bit_of f h =
     let h0 = h 0 in let h1 = h 1 in let h2 = h 2 in let h3 = h 3 in let h4 = h 4 in let h5 = h 5 in let h6 = h 6 in let h7 = h 7 in
     by_eight (λ j. bit_at (byte_of f) j ≡ f j) (omega arith) (omega arith) (omega arith) (omega arith) (omega arith) (omega arith) (omega arith) (omega arith)
 
--- 80 shifted right by k has the one bit 7 - k
+-- 80 shifted right by k has bit 7 - k set, and no other
 pub one_bit : (j k : ℕ) → j < 8 → k < 8 → (bit_at (0x80 / 2 ^ k) j == 0) ≡ (if 7 - k == j then false else true)
 one_bit j k hj hk =
     let n = 8 * k + j in
@@ -75,12 +75,12 @@ one_bit j k hj hk =
     ap (λ x. bit_at (0x80 / 2 ^ x) j == 0) (sym a) ∙ ap (λ y. bit_at (0x80 / 2 ^ (n / 8)) y == 0) (sym b) ∙ t
     ∙ ap (λ x. if 7 - x == n % 8 then false else true) a ∙ ap (λ y. if 7 - k == y then false else true) b
 
--- ---- a Put in write mode 2 under a mask of one bit, directly or by XOR
+-- ---- a Put in write mode 2 with one bit in the bit mask, directly or by XOR
 
 abbrev pub dot_hand : Bool → ℕ → Hand
 dot_hand b k = record { mask = 0x0F; turn = if b then 0x18 else 0x00; mode = 0x02; bits = 0x80 / 2 ^ k }
 
--- what it makes of a bit of a latch, and of a pixel
+-- bit i of plane p after such a Put, and the drawn pixel
 abbrev dot_bit : Bool → ℕ → ℕ → ℕ → ℕ → ℕ → ℕ
 dot_bit b k p v latch i = if bit_at (0x80 / 2 ^ k) i == 0 then bit_at latch i else if b then (bit_at v p + bit_at latch i) % 2 else bit_at v p
 
@@ -101,7 +101,7 @@ unfolding written_bit combined_bit
 bits_dotted true e d k p v i q hk hi = bit_of (dot_bit true k p v (of_plane q p)) (dot_bit_small true k p v (of_plane q p)) i hi
 bits_dotted false e d k p v i q hk hi = bit_of (dot_bit false k p v (of_plane q p)) (dot_bit_small false k p v (of_plane q p)) i hi
 
--- it changes one pixel
+-- such a Put changes one pixel only
 pub pixel_dotted : (b : Bool) (e d k v i : ℕ) (q : Four ℕ) → k < 8 → i < 8 → nibble_of (stored (drawing e d (dot_hand b k)) 0x0F v q q) i
     ≡ (if i == k then dot_over b v (nibble_of q i) else nibble_of q i)
 pixel_dotted b e d k v i q hk hi =

@@ -1,4 +1,5 @@
--- The character at a cell of sixteen colours is read from planes, which the graphics controller compares with 0.
+-- Reading the character at a cell of sixteen colours: the graphics controller compares the planes
+-- with 0.
 use Rattle.std.proofs.Common.{◌≡◌, ℕ, ◌+◌, ◌-◌, ◌*◌, ◌/◌, ◌%◌, ◌<◌, refl, sym, ap, ◌∙◌, arith, true}
 use Rattle.std.specs.Prelude.{slice_index, ◌==◌, ◌&&◌, if◌then◌else◌}
 use Rattle.std.specs.Int.{bit_at}
@@ -22,18 +23,18 @@ use Rattle.bios_screen.proofs.Planar.Characters.{Drawn}
 use Rattle.bios_screen.proofs.Planar.Writes as writes
 use Rattle.bios_screen.proofs.Planar.Screens as screens
 
--- read mode 1
+-- the registers for read mode 1
 abbrev pub seeing : Hand
 seeing = record { mask = 0x0F; turn = 0x00; mode = 0x08; bits = 0xFF }
 
--- bits of four planes that are all 0
+-- 1 if bit i is 0 in all four planes, else 0
 abbrev none_of : Four ℕ → ℕ → ℕ
 none_of q i = if (bit_at q.plane0 i == 0) && ((bit_at q.plane1 i == 0) && ((bit_at q.plane2 i == 0) && (bit_at q.plane3 i == 0))) then 1 else 0
 
 abbrev nibble : Four ℕ → ℕ → ℕ
 nibble q i = bit_at q.plane0 i + 2 * bit_at q.plane1 i + 4 * bit_at q.plane2 i + 8 * bit_at q.plane3 i
 
--- which pixels are not 0, the first as the highest bit
+-- which pixels are not 0, as a byte; pixel 0 is the highest bit
 abbrev pub dots_of : Four ℕ → ℕ
 dots_of q = byte_of (λ i. if nibble_of q (7 - i) == 0 then 0 else 1)
 
@@ -57,7 +58,7 @@ dots_are : (q : Four ℕ) → byte_of (λ i. if nibble q i == 0 then 0 else 1) �
 unfolding byte_of
 dots_are q = refl
 
--- a line of a cell
+-- reading a line of a cell
 line_seen : (rest : CardState) (e d : ℕ) → is_set e 1 ≡ true → (a : ℕ) (c : CardState) (f : ℕ → Four ℕ) → a < 65536 →
     Drawn rest e d seeing c f → IsSeen (λ y. Drawn rest e d seeing y f) (line_plan Planar (0xA0000 + a)) (dots_of (f a)) c
 unfolding line_plan
@@ -85,7 +86,7 @@ module _ (row : ModeRow) (c : CardState) (d : BiosData) (t : IsPlanar row c d) (
   abbrev old : ℕ → Four ℕ
   old = bytes_at c.host.memory
 
-  -- a line of a cell is its byte of each plane
+  -- line r of cell q, from its byte in each plane
   line_is : (p q r : ℕ) → p < row.pages → q < cells_of d → r < h → dots_of (old (place p q r)) ≡ cell_line s p q r
   line_is p q r lp lq lr =
       let b = strip_at w h q r in

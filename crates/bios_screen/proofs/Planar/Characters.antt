@@ -1,4 +1,5 @@
--- A character in sixteen colours, opaque and by XOR: what its lines leave of four bytes each, and what that is to the pixels.
+-- A character in sixteen colours, opaque or by XOR: what its lines leave in the four planes, and
+-- what that does to the pixels.
 use Rattle.std.proofs.Common.{◌≡◌, ◌≢◌, ℕ, zero, suc, ◌+◌, ◌-◌, ◌%◌, ◌<◌, refl, sym, ap, ◌∙◌, subst, arith, Bool, true, false}
 use Rattle.std.specs.Prelude.{◌==◌, if◌then◌else◌, bit_xor}
 use Rattle.std.specs.Int.{bit_at}
@@ -16,28 +17,28 @@ use Rattle.bios_screen.proofs.Base.Plans.{run_bind}
 use Rattle.bios_screen.proofs.Planar.Settings.{Hand, at_rest, drawing, stored, Loaded, put_draws, get_loads, mask_set, function_set}
 use Rattle.bios_screen.proofs.Planar.Bits.{nibble, same_nibble, nibble_of, low_is, xor_nibble, bit_of}
 
--- ---- four bytes
+-- ---- four bytes, one of each plane
 
--- a byte as a Put stores it
+-- a byte built from its bits, as a Put stores it
 abbrev pub byte : ℕ → ℕ
 byte v = byte_of (bit_at v)
 
--- a byte goes to the planes of a mask, and the others stay
+-- a byte is stored in the planes of a mask, and the other planes stay
 abbrev pub put_in_planes : ℕ → ℕ → Four ℕ → Four ℕ
 put_in_planes mask v old = four (λ p. if is_set mask p then byte v else of_plane old p)
 
--- the XOR of two bytes, and of a byte with the planes of a mask
+-- the XOR of two bytes, and of a byte with each plane of a mask
 abbrev xor_byte : ℕ → ℕ → ℕ
 xor_byte a b = byte_of (λ i. (bit_at a i + bit_at b i) % 2)
 
 abbrev pub turned : ℕ → ℕ → Four ℕ → Four ℕ
 turned mask v old = four (λ p. if is_set mask p then xor_byte v (of_plane old p) else of_plane old p)
 
--- a line of a glyph, opaque over zeros or by XOR
+-- the planes after a line of a glyph: by XOR, or opaque over zeros
 abbrev pub lined : Bool → ℕ → ℕ → Four ℕ → Four ℕ
 lined b mask v old = if b then turned mask v old else put_in_planes mask v (put_in_planes 0x0F 0x00 old)
 
--- what it is to a pixel
+-- a pixel after a line of a glyph
 abbrev pub dotted_by : Bool → ℕ → Bool → ℕ → ℕ
 dotted_by b mask is_dot old = if is_dot then (if b then bit_xor old mask else mask) else if b then old else 0
 
@@ -97,15 +98,15 @@ pixel_turned mask v i old l =
         ∙ xor_nibble mask x (λ p. bit_at-lt (of_plane old p) (7 - i)) ∙ ap (bit_xor (nibble x)) low
     at_bit (suc (suc b)) h = absurd (omega arith)
 
--- a pixel of a line of a character
+-- pixel i of a line of a character
 pub pixel_lined : (b : Bool) (mask v i : ℕ) (old : Four ℕ) → mask < 16 → i < 8 → nibble_of (lined b mask v old) i
     ≡ dotted_by b mask (is_set v (7 - i)) (nibble_of old i)
 pixel_lined true mask v i old l li = pixel_turned mask v i old l
 pixel_lined false mask v i old l li = pixel_opaque mask v i old l
 
--- ---- the plans, by the places of the lines
+-- ---- the plans, by the addresses of the lines
 
--- any latches
+-- the adapter is in this setting with these cells, whatever the latches are
 pub record Drawn (rest : CardState) (e d : ℕ) (h : Hand) (c : CardState) (f : ℕ → Four ℕ) : Type 0 where
   pub latches : Four ℕ
   pub is : Loaded rest e d h c f latches
@@ -145,7 +146,7 @@ module _ (rest : CardState) (e d : ℕ) (on : is_set e 1 ≡ true) (at : ℕ →
   abbrev Line : Type 0
   Line = Turn (λ _. Unit {0}) 0 height
 
-  -- what is stored, by hand
+  -- what a Put stores in each of the settings
   stores_byte : (v mask : ℕ) (q old : Four ℕ) → stored (drawing e d (opaque mask)) mask v q old ≡ put_in_planes mask v old
   unfolding byte_of written_bit combined_bit
   stores_byte v mask q old = refl
@@ -194,7 +195,7 @@ module _ (rest : CardState) (e d : ℕ) (on : is_set e 1 ≡ true) (at : ℕ →
   abbrev Lined : Bool → (ℕ → ℕ) → ℕ → (ℕ → Four ℕ) → (ℕ → Four ℕ) → Type 0
   Lined b g mask f = Edited (Four ℕ) Line (λ h. at h.turn) (λ h x. lined b mask (g h.turn) x) f
 
-  -- a character, from rest to rest
+  -- a whole character; the registers are at rest before it and after it
   pub glyph_drawn : (b : Bool) (mask : ℕ) (g : ℕ → ℕ) (c : CardState) (f : ℕ → Four ℕ) → mask < 16 → Drawn rest e d at_rest c f →
       Leaves CardState (Four ℕ) (Drawn rest e d at_rest) (run card_meaning (glyph_by b (λ r. 0xA0000 + at r) g height mask) c).0 (Lined b g mask f)
   glyph_drawn false mask g c f lm t =

@@ -1,4 +1,4 @@
--- A pixel of sixteen colours is written, directly or by XOR.
+-- Writing a pixel of sixteen colours, directly or by XOR.
 use Rattle.std.proofs.Common.{◌≡◌, ◌≢◌, ℕ, ◌+◌, ◌*◌, ◌/◌, ◌%◌, ◌^◌, ◌<◌, ◌≤◌, ⊎_elim, refl, sym, ap, ◌∙◌, subst, arith, Some, Bool, true, false}
 use Rattle.std.specs.Prelude.{slice_index, bit_and, ◌==◌, if◌then◌else◌}
 use Rattle.std.proofs.lemmas.Bool.{cases_eq, agree_below_at}
@@ -19,7 +19,7 @@ use Rattle.bios_screen.proofs.Pixels.NewPixels.{There, number_within}
 mask_kept : (k : ℕ) → k < 8 → bit_and (0x80 / 2 ^ k) 0xFF ≡ 0x80 / 2 ^ k
 mask_kept k l = let t = agree_below_at (λ k. bit_and (0x80 / 2 ^ k) 0xFF == 0x80 / 2 ^ k) (λ _. true) 8 k refl l in grind (arith, nat_tests)
 
--- XOR, where bit 7 of the colour asks for it, and back
+-- function and rotate is written only if bit 7 of the colour asks for XOR, before and after
 abbrev turn_plan : Bool → ℕ → Plan (Unit {0})
 turn_plan b v = if b then graphics 3 v else Done tt
 
@@ -35,7 +35,7 @@ turn_ended : (rest : CardState) (e d : ℕ) (h : Hand) (q : Four ℕ) (c : CardS
 turn_ended rest e d h q c f true t = function_set rest e d 0x00 (record h { turn = 0x18 }) q c f refl t
 turn_ended rest e d h q c f false t = t
 
--- the plan, where bit 7 of the colour is known
+-- the plan, if bit 7 of the colour is known
 abbrev dot_plan : Bool → ℕ → ℕ → ℕ → Plan (Unit {0})
 dot_plan b address k v = do
   graphics 8 (0x80 / 2 ^ k)
@@ -47,7 +47,7 @@ dot_plan b address k v = do
   turn_plan b 0x00
   graphics 8 0xFF
 
--- one cell is drawn anew, in which one pixel changes
+-- the four bytes at offset a are new, and only their pixel k has changed
 record IsDotted (rest : CardState) (e d a k : ℕ) (change : ℕ → ℕ) (y : CardState) (f : ℕ → Four ℕ) : Type 0 where
   new : Four ℕ
   still : Loaded rest e d at_rest y (set_cell f a new) (f a)
@@ -89,7 +89,7 @@ plan_is : (address x v : ℕ) → write_dot_plan address x v ≡ dot_plan (is_se
 unfolding write_dot_plan
 plan_is address x v = refl
 
--- a pixel by its number is one by the number of its byte and its place there
+-- two pixels of the same byte are equal exactly if their positions in it are
 one_test : (k n : ℕ) → k / 8 ≡ n / 8 → (k % 8 == n % 8) ≡ (k == n)
 one_test k n e = grind (arith, nat_tests)
 
@@ -103,7 +103,7 @@ module _ (row : ModeRow) (c : CardState) (d : BiosData) (t : IsPlanar row c d) (
   abbrev old : ℕ → Four ℕ
   old = bytes_at c.host.memory
 
-  -- the byte of each plane, where one of its pixels changes
+  -- if one pixel of a byte has changed, the screen with that change is shown
   dot_shown : (p n v : ℕ) (b : Bool) (y : CardState) → p < row.pages → n < page_pixels d →
       IsDotted (without_host c) row.misc (slice_index row.sequencer 1) (d.size * p + n / 8) (n % 8) (dot_over b v) y old →
       shown y d ≡ Some (with_pixels s p (change_pixel n (dot_over b v)))
@@ -136,7 +136,7 @@ module _ (row : ModeRow) (c : CardState) (d : BiosData) (t : IsPlanar row c d) (
       ∙ ap (λ a. write_dot_plan a x v) (reads.address_is row c d t z p x y)
       ∙ plan_is (0xA0000 + (d.size * p + pixel_number s x y / 8)) x v
 
-  -- the colour by the mode
+  -- drawing the colour changes a pixel as it does on the screen
   colouring_is : (v : ℕ) → dot_over (is_set v 7) v ≡ colour_over d.mode v
   colouring_is v = sym (ap (λ i o. let x : ℕ = if i then v else dot_over (is_set v 7) v o in x) t.packed)
 

@@ -1,4 +1,4 @@
--- A pixel of sixteen colours is read, plane after plane.
+-- Reading a pixel of sixteen colours, plane by plane.
 use Rattle.std.proofs.Common.{◌≡◌, ℕ, ◌+◌, ◌-◌, ◌*◌, ◌/◌, ◌%◌, ◌<◌, refl, sym, ap, ◌∙◌, subst, arith, List, [], ◌∷◌, Some, true}
 use Rattle.std.specs.Prelude.{slice_index, slice_set, bit_and, if◌then◌else◌}
 use Rattle.std.specs.Int.{bit_at}
@@ -56,7 +56,7 @@ byte_is h e k a l =
     byte : (plane : List ℕ) → slice_index plane a < 256 → byte_of (bit_at (slice_index plane ((0xA0000 + a - 0xA0000) % 65536))) ≡ slice_index plane a
     byte plane b = ap (λ o. byte_of (bit_at (slice_index plane o))) (offset_is a l) ∙ byte_bits (slice_index plane a) b
 
--- what a read leaves and answers
+-- a Get answers the byte of the selected plane
 record IsPicked (rest : CardState) (e k p a : ℕ) (c : CardState) : Type 0 where
   still : IsPicking rest e k p (run card_meaning (get (0xA0000 + a)) c).0
   value : (run card_meaning (get (0xA0000 + a)) c).1 ≡ byte_at rest.host.memory p a
@@ -71,7 +71,7 @@ pick_get rest e k p a c lp la on b t =
       value = ap (λ y. y.1) r ∙ byte_is c.host e k a la p lp (subst (λ m. byte_at m p a < 256) (sym memory) b) ∙ ap (λ m. byte_at m p a) memory;
     }
 
--- four planes, one after another
+-- all four planes are read, one after another
 record IsDotRead (rest : CardState) (e k a x : ℕ) (c : CardState) : Type 0 where
   still : IsPicking rest e k 0 (run card_meaning (read_dot_plan (0xA0000 + a) x) c).0
   value : (run card_meaning (read_dot_plan (0xA0000 + a) x) c).1 ≡ bit_at (byte_at rest.host.memory 0 a) (7 - x % 8)
@@ -116,7 +116,7 @@ module _ (row : ModeRow) (c : CardState) (d : BiosData) (t : IsPlanar row c d) (
   abbrev number : ℕ → ℕ → ℕ
   number x y = 8 * d.columns * y + x
 
-  -- the place of a pixel's byte in each plane
+  -- the offset of a pixel's byte, which is the same in each plane
   abbrev offset : ℕ → ℕ → ℕ → ℕ
   offset p x y = d.size * p + number x y / 8
 
@@ -153,7 +153,7 @@ module _ (row : ModeRow) (c : CardState) (d : BiosData) (t : IsPlanar row c d) (
       + 8 * bit_at (byte_at f 3 (offset p x y)) (7 - i)) (rest_of_8 d.columns y x)
       ∙ sym (screens.pixel_is row c d t z p n lp (number_within d x y h))
 
-  -- the screen stays
+  -- the screen stays the same
   stays : (y : CardState) → IsPicking (without_reads c) row.misc (slice_index row.sequencer 1) 0 y → shown y d ≡ Some s
   stays y h = pixels_stay row c y d (t.there d.height) t.text t.tests (h.mode ∙ sym begins.mode) (ap without_host h.others) (λ g k _ _.
       ap (λ (x : CardState). pixel_in d.mode x.host.memory (d.size * g) k) h.others)

@@ -1,4 +1,4 @@
--- From drawn memory of sixteen colours to the screen that it shows, in which one page is drawn anew.
+-- From drawn memory of sixteen colours to the screen that it shows, when one page has changed.
 use Rattle.std.proofs.Common.{◌≡◌, ◌≢◌, ℕ, ◌+◌, ◌*◌, ◌/◌, ◌%◌, ◌<◌, ◌≤◌, ◌⊎◌, inl, inr, ⊎_elim, refl, sym, ap, ◌∙◌, subst, arith, List, Some}
 use Rattle.std.specs.Prelude.{slice_index, if◌then◌else◌}
 use Rattle.std.proofs.lemmas.Bool.{cases_lt}
@@ -27,7 +27,7 @@ module _ (row : ModeRow) (c : CardState) (d : BiosData) (t : IsPlanar row c d) (
   pub setting_is : setting c ≡ drawing misc clocking at_rest
   setting_is = setting_by row c t.tests.memory ∙ t.setting
 
-  -- memory as cells of four bytes
+  -- before drawing, memory is cells of four bytes, and the registers are at rest
   pub begins : Loaded (without_host c) misc clocking at_rest c (bytes_at c.host.memory) c.host.latches
   begins = record { mode = setting_is; bounds = z; cell = λ o. refl; others = refl; latch = refl }
 
@@ -38,12 +38,12 @@ module _ (row : ModeRow) (c : CardState) (d : BiosData) (t : IsPlanar row c d) (
   pub room : (k : ℕ) → k < page_pixels d → k / 8 < d.size
   room k l = subst (λ i. k / 8 < i) (sym t.has.size) (page_room row t.room k (subst (λ i. k < i) all_pixels l))
 
-  -- the place of a pixel is in memory
+  -- the byte of a pixel lies in memory
   pub in_memory : (p k : ℕ) → p < row.pages → k < page_pixels d → d.size * p + k / 8 < 65536
   in_memory p k lp l = subst (λ i. i * p + k / 8 < 65536) (sym t.has.size)
       (let a = page_ends row t.room p lp in let b = page_room row t.room k (subst (λ i. k < i) all_pixels l) in omega arith)
 
-  -- a strip of a page lies before all other pages
+  -- a strip lies within its page: its first pixel is one of the page, and so is its byte
   pub strip_small : (b : ℕ) → b < d.columns * (d.height * (d.last_row + 1)) → (8 * b < page_pixels d) × (b < d.size)
   strip_small b l =
       let same : 8 * d.columns * (d.height * (d.last_row + 1)) ≡ 8 * (d.columns * (d.height * (d.last_row + 1))) = omega arith in
@@ -51,14 +51,14 @@ module _ (row : ModeRow) (c : CardState) (d : BiosData) (t : IsPlanar row c d) (
       let k : 8 * b / 8 ≡ b = omega arith in
       (inside, subst (λ x. x < d.size) k (room (8 * b) inside))
 
-  -- a pixel of a page is one of its byte of each plane
+  -- pixel k of page p, from its byte in each plane
   pixel_by : (f : Four (List ℕ)) (p k : ℕ) → pixel_in d.mode f (d.size * p) k ≡ nibble_of (bytes_at f (d.size * p + k / 8)) (k % 8)
   pixel_by f p k = ap (λ b. if b then packed_pixel f (d.size * p + k) else planar_pixel f (d.size * p) k) t.packed
 
   pub pixel_is : (p k : ℕ) → p < row.pages → k < page_pixels d → pixel_of s p k ≡ nibble_of (bytes_at c.host.memory (d.size * p + k / 8)) (k % 8)
   pixel_is p k lp l = pixel_at d.mode c.host.memory d.size (page_pixels d) row.pages p k lp l ∙ pixel_by c.host.memory p k
 
-  -- other pages lie apart
+  -- the bytes of other pages lie before this page or after it
   apart : (p q k : ℕ) → p ≢ q → k < d.size → (d.size * q + k < d.size * p) ⊎ (d.size * p + d.size ≤ d.size * q + k)
   apart p q k n l = ⊎_elim
       (λ (a : p < q). let w = ends_before d.size p q a in inr (omega arith))
@@ -68,7 +68,7 @@ module _ (row : ModeRow) (c : CardState) (d : BiosData) (t : IsPlanar row c d) (
       (cases_lt q p))
       (cases_lt p q)
 
-  -- what the adapter shows at rest again, where one page has other pixels
+  -- with the registers at rest again, the screen whose page has the new pixels is shown
   pub page_redrawn : (p : ℕ) (y : CardState) (f : ℕ → Four ℕ) (q : Four ℕ) (change : (ℕ → ℕ) → ℕ → ℕ) → p < row.pages →
       Loaded (without_host c) misc clocking at_rest y f q
       → ((k : ℕ) → k < page_pixels d → nibble_of (f (d.size * p + k / 8)) (k % 8) ≡ change (pixel_of s p) k)
@@ -80,7 +80,7 @@ module _ (row : ModeRow) (c : CardState) (d : BiosData) (t : IsPlanar row c d) (
       (λ g k _ w l. pixel_by y.host.memory g k ∙ ap (λ (x : Four ℕ). nibble_of x (k % 8)) (h.cell (d.size * g + k / 8)
       ∙ outside (d.size * g + k / 8) (apart p g (k / 8) (λ v. w (sym v)) (room k l))) ∙ sym (pixel_by c.host.memory g k))
 
-  -- and if all its bytes are as they were, the screen stays
+  -- if all bytes are as they were, the same screen is shown
   pub stays : (y : CardState) (f : ℕ → Four ℕ) (q : Four ℕ) → Loaded (without_host c) misc clocking at_rest y f q →
       ((o : ℕ) → f o ≡ bytes_at c.host.memory o) → shown y d ≡ Some s
   stays y f q h same = pixels_stay row c y d (t.there d.height) t.text t.tests (h.mode ∙ sym setting_is) h.others (λ g k _ _.

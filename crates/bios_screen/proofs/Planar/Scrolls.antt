@@ -1,4 +1,4 @@
--- A window of sixteen colours moves up or down, from the screen to the next.
+-- Scrolling a window in sixteen colours, from one screen to the next.
 use Rattle.std.proofs.Common.{◌≡◌, ℕ, ◌+◌, ◌-◌, ◌*◌, ◌/◌, ◌%◌, ◌<◌, ◌≤◌, ◌⊎◌, ⊎_elim, refl, sym, ap, ◌∙◌, subst, arith, Some, Bool, true, false}
 use Rattle.std.specs.Prelude.{slice_index, ◌==◌, if◌then◌else◌}
 use Rattle.bios_screen.proofs.Prelude.{Four, bytes_at, IsCard, card_meaning, CardState, ModeRow, BiosData, Band, Planar, Direction, Up, Down, Window, run}
@@ -84,7 +84,7 @@ module _ (row : ModeRow) (c : CardState) (d : BiosData) (t : IsPlanar row c d) (
       let one : k / 8 % W / 1 ≡ k / 8 % W = omega arith in
       ap (in_window w (k / 8 / W / H)) (one ∙ sym (column_by_8 W k window.wide)) ∙ ap (λ r. in_window w r (pixel_column s k)) (sym (strip_row k))
 
-  -- strips of the page are of no other page
+  -- a byte outside the page is no strip of the window
   no_other : (o : ℕ) → (o < d.size * p) ⊎ (d.size * p + d.size ≤ o) → (b : ℕ) → start + b ≡ o → in_window w (b / W / H) (b % W / 1) ≡ false
   no_other o out b q = by_test (in_window w (b / W / H) (b % W / 1)) refl
     where
@@ -96,7 +96,7 @@ module _ (row : ModeRow) (c : CardState) (d : BiosData) (t : IsPlanar row c d) (
           let g = (screens.strip_small row c d t z b (within_rows W H rows b window.wide window.high (omega arith))).1 in
           ⊎_elim (λ (a : o < d.size * p). absurd (omega arith)) (λ (a : d.size * p + d.size ≤ o). absurd (omega arith)) out
 
-  -- the strip of the pixel whose value a pixel gets
+  -- the strip of the pixel whose value pixel k gets, and the position in it
   record IsTaken (way : Direction) (k : ℕ) : Type 0 where
     strip : source way k (row_pixels s n) / 8 ≡ source way (k / 8) (W * (H * n))
     dot : source way k (row_pixels s n) % 8 ≡ k % 8
@@ -109,7 +109,7 @@ module _ (row : ModeRow) (c : CardState) (d : BiosData) (t : IsPlanar row c d) (
       let whole : 8 * W * (H * n) ≡ 8 * (W * (H * n)) = omega arith in
       record { strip = omega arith; dot = omega arith }
 
-  -- a pixel that was filled over
+  -- a pixel of a new row has the fill colour
   filled : (j b : ℕ) (x : Four ℕ) → j < 8 → shifts.IsFilled (Four ℕ) 0xA0000 65536 band start rows w window (λ _. lined false (colour % 16) 0xFF) b x →
       nibble_of x j ≡ fill_pixel d.mode colour
   filled j b x lj is =

@@ -1,4 +1,5 @@
--- Drawing in sixteen colours: the settings that a plan goes through, and what a Put, a Get and a register write leave there.
+-- Drawing in sixteen colours: the settings that a plan goes through, and what a Put, a Get and a
+-- register write do in them.
 use Rattle.std.proofs.Common.{◌≡◌, ◌≢◌, ℕ, ◌+◌, ◌<◌, ⊎_elim, refl, sym, ap, ◌∙◌, subst, arith, List, [], ◌∷◌, length, Bool, true, false}
 use Rattle.std.specs.Prelude.{slice_index, slice_set, ◌==◌, ◌&&◌, if◌then◌else◌, bit_and}
 use Rattle.std.proofs.lemmas.Bool.{cases_eq, agree_below_at}
@@ -18,7 +19,7 @@ use Rattle.bios_screen.proofs.Base.Flat.{set_cell, set_same, set_other}
 use Rattle.bios_services.proofs.CardLemmas.{plan_bounds}
 use Rattle.bios_screen.proofs.Base.Setting.{Setting, setting, host_at, with_memory, reached, offset_is, put_decoded, get_decoded}
 
--- what a plan may change: map mask, function and rotate, mode, bit mask
+-- the registers that a plan may change: map mask, function and rotate, mode, and bit mask
 pub record Hand : Type 0 where
   pub mask : ℕ
   pub turn : ℕ
@@ -28,7 +29,7 @@ pub record Hand : Type 0 where
 abbrev pub at_rest : Hand
 at_rest = record { mask = 0x0F; turn = 0x00; mode = 0x00; bits = 0xFF }
 
--- the setting of a mode of sixteen colours, by its miscellaneous output and its clocking mode
+-- the setting of a mode of sixteen colours, by miscellaneous output, clocking mode and a hand
 abbrev pub drawing : ℕ → ℕ → Hand → Setting
 drawing misc clocking h = record {
   misc = misc;
@@ -36,11 +37,11 @@ drawing misc clocking h = record {
   gfx = 0x00 ∷ 0x00 ∷ 0x00 ∷ h.turn ∷ 0x00 ∷ h.mode ∷ 0x05 ∷ 0x0F ∷ h.bits ∷ [];
 }
 
--- a host path with no memory: what a write stores depends on nothing else
+-- a host path without memory: registers and latches decide what a write stores
 abbrev pub bare : Setting → Four ℕ → HostState
 bare s latches = record { memory = four (λ p. []); latches = latches; seq = s.seq; gfx = s.gfx; seq_index = 0; gfx_index = 0 }
 
--- the four bytes after a Put of v to the planes of a mask, over these latches
+-- the byte of each plane after a Put of v under a map mask, with these latches
 abbrev stored_in : Setting → ℕ → ℕ → Four ℕ → Four ℕ → ℕ → ℕ
 stored_in s mask v latches old p = if is_set mask p then written_byte (bare s latches) v p else of_plane old p
 
@@ -51,7 +52,7 @@ stored s mask v latches old = four (stored_in s mask v latches old)
 abbrev pub without_host : CardState → CardState
 without_host c = record c { host = record { memory = four (λ p. []); latches = four (λ p. 0); seq = []; gfx = []; seq_index = 0; gfx_index = 0 } }
 
--- the adapter is in this setting, its four planes are the cells, by offset, and its latches are known
+-- the adapter is in this setting, its four planes are the cells f, and its latches are q
 pub record Loaded (rest : CardState) (misc clocking : ℕ) (h : Hand) (c : CardState) (f : ℕ → Four ℕ) (q : Four ℕ) : Type 0 where
   pub mode : setting c ≡ drawing misc clocking h
   pub bounds : IsCard c
@@ -79,7 +80,7 @@ bare_byte h s v p = refl
 abbrev plane_put : Bool → List ℕ → ℕ → ℕ → List ℕ
 plane_put t plane a x = if t then slice_set plane a x else plane
 
--- four planes, each of which may have a new byte at a place
+-- four planes, each of which may get a new byte at offset a
 abbrev four_put : Four (List ℕ) → ℕ → Bool → Bool → Bool → Bool → ℕ → ℕ → ℕ → ℕ → Four (List ℕ)
 four_put m a t0 t1 t2 t3 x0 x1 x2 x3 = record {
   plane0 = plane_put t0 m.plane0 a x0;
@@ -159,7 +160,7 @@ put_draws rest e d a v k q c f on t l =
     } in
     subst (λ x. Loaded rest e d k x (set_cell f a new) q) (sym after) still
 
--- a Get loads the latches
+-- a Get at offset a loads the latches with the cell there
 pub get_loads : (rest : CardState) (e d a : ℕ) (k : Hand) (q : Four ℕ) (c : CardState) (f : ℕ → Four ℕ) → is_set e 1 ≡ true →
     Loaded rest e d k c f q → a < 65536 → Loaded rest e d k (run card_meaning (get (0xA0000 + a)) c).0 f (f a)
 get_loads rest e d a k q c f on t l =
@@ -180,7 +181,7 @@ get_loads rest e d a k q c f on t l =
 and_15 : (m : ℕ) → m < 16 → bit_and m 0x0F ≡ m
 and_15 m l = let t = agree_below_at (λ m. bit_and m 0x0F == m) (λ _. true) 16 m refl l in grind (arith, nat_tests)
 
--- a write to a register of the sequencer or of the graphics controller, after which the hand is another
+-- a write to a register of the sequencer or the graphics controller, which sets the hand n
 hand_set : (rest : CardState) (e d : ℕ) (k n : Hand) (q : Four ℕ) (c : CardState) (f : ℕ → Four ℕ) (plan : Plan (Unit {0}))
     (seq gfx : List ℕ) (i j : ℕ)
     → (run card_meaning plan c).0 ≡ record c { host = record c.host { seq = seq; gfx = gfx; seq_index = i; gfx_index = j } }
@@ -194,14 +195,14 @@ hand_set rest e d k n q c f plan seq gfx i j after mode t = subst (λ y. Loaded 
   latch = t.latch;
 })
 
--- register i of the sequencer, or of the graphics controller, in a setting
+-- a setting with another value in register i of the sequencer, or of the graphics controller
 abbrev with_seq : ℕ → ℕ → Setting → Setting
 with_seq i v s = record s { seq = slice_set s.seq i v }
 
 abbrev with_gfx : ℕ → ℕ → Setting → Setting
 with_gfx i v s = record s { gfx = slice_set s.gfx i v }
 
--- the map mask
+-- the map mask is set
 pub mask_set : (rest : CardState) (e d m : ℕ) (k : Hand) (q : Four ℕ) (c : CardState) (f : ℕ → Four ℕ) → m < 16 → Loaded rest e d k c f q →
     Loaded rest e d (record k { mask = m }) (run card_meaning (sequencer 2 m) c).0 f q
 unfolding port_of out_reached
@@ -209,7 +210,7 @@ mask_set rest e d m k q c f l t =
     hand_set rest e d k (record k { mask = m }) q c f (sequencer 2 m) (slice_set c.host.seq 2 (bit_and m 0x0F)) c.host.gfx 2 c.host.gfx_index refl
     (ap (with_seq 2 (bit_and m 0x0F)) t.mode ∙ ap (λ x. drawing e d (record k { mask = x })) (and_15 m l)) t
 
--- the function and the rotation
+-- the function and the rotation are set
 pub function_set : (rest : CardState) (e d v : ℕ) (k : Hand) (q : Four ℕ) (c : CardState) (f : ℕ → Four ℕ) → bit_and v 0x1F ≡ v →
     Loaded rest e d k c f q → Loaded rest e d (record k { turn = v }) (run card_meaning (graphics 3 v) c).0 f q
 unfolding port_of out_reached
@@ -217,7 +218,7 @@ function_set rest e d v k q c f l t =
     hand_set rest e d k (record k { turn = v }) q c f (graphics 3 v) c.host.seq (slice_set c.host.gfx 3 (bit_and v 0x1F)) c.host.seq_index 3 refl
     (ap (with_gfx 3 (bit_and v 0x1F)) t.mode ∙ ap (λ x. drawing e d (record k { turn = x })) l) t
 
--- read and write mode; bit 5 is refused, and so the test of it is a premise
+-- read mode and write mode are set; bit 5 must be 0, for it is refused
 pub mode_set : (rest : CardState) (e d v : ℕ) (k : Hand) (q : Four ℕ) (c : CardState) (f : ℕ → Four ℕ) → bit_and v 0x7B ≡ v →
     is_set v 5 ≡ false → Loaded rest e d k c f q → Loaded rest e d (record k { mode = v }) (run card_meaning (graphics 5 v) c).0 f q
 unfolding port_of out_reached
@@ -228,7 +229,7 @@ mode_set rest e d v k q c f l b t =
     (ap (λ y. (written index (unless_refused y next)).0) b)
     (ap (with_gfx 5 (bit_and v 0x7B)) t.mode ∙ ap (λ x. drawing e d (record k { mode = x })) l) t
 
--- the bit mask
+-- the bit mask is set
 pub bits_set : (rest : CardState) (e d v : ℕ) (k : Hand) (q : Four ℕ) (c : CardState) (f : ℕ → Four ℕ) → bit_and v 0xFF ≡ v →
     Loaded rest e d k c f q → Loaded rest e d (record k { bits = v }) (run card_meaning (graphics 8 v) c).0 f q
 unfolding port_of out_reached

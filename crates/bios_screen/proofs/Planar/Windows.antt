@@ -1,4 +1,4 @@
--- A window of sixteen colours is moved and filled: what its plan leaves of four bytes each.
+-- Scrolling a window of sixteen colours: what its plan leaves in the four planes.
 use Rattle.std.proofs.Common.{◌≡◌, ℕ, ◌+◌, ◌-◌, ◌%◌, ◌<◌, ◌≤◌, refl, sym, ap, ◌∙◌, subst, arith, Bool, true, false}
 use Rattle.std.specs.Prelude.{◌==◌, if◌then◌else◌}
 use Rattle.bios_screen.proofs.Prelude.{is_set, Four, bytes_at, card_meaning, CardState, Band, Planar, Window, Direction, graphics, run, put, get, ◌>>◌}
@@ -20,14 +20,14 @@ use Rattle.bios_screen.proofs.Base.Shifts as shifts
 use Rattle.bios_screen.proofs.Planar.Settings.{Hand, at_rest, drawing, stored, Loaded, put_draws, get_loads, mask_set, mode_set}
 use Rattle.bios_screen.proofs.Planar.Characters.{Drawn, put_in_planes, lined}
 
--- write mode 1
+-- the registers for write mode 1
 abbrev copying : Hand
 copying = record { mask = 0x0F; turn = 0x00; mode = 0x01; bits = 0xFF }
 
 abbrev planes_of : ℕ → Hand
 planes_of mask = record { mask = mask; turn = 0x00; mode = 0x00; bits = 0xFF }
 
--- the latches are stored as they are
+-- write mode 1 stores the latches as they are
 latched : (e d v : ℕ) (q old : Four ℕ) → ((p : ℕ) → p < 4 → of_plane q p < 256) → stored (drawing e d copying) 0x0F v q old ≡ q
 unfolding byte_of written_bit combined_bit
 latched e d v q old h = rw (
@@ -41,7 +41,7 @@ stores_byte : (e d v mask : ℕ) (q old : Four ℕ) → stored (drawing e d (pla
 unfolding byte_of written_bit combined_bit
 stores_byte e d v mask q old = refl
 
--- a move is a move of four bytes
+-- in write mode 1 a move copies all four bytes
 cell_moved : (rest : CardState) (e d : ℕ) → is_set e 1 ≡ true → (a b : ℕ) (c : CardState) (f : ℕ → Four ℕ) → a < 65536 → b < 65536 →
     Drawn rest e d copying c f → Drawn rest e d copying (run card_meaning (move (0xA0000 + a) (0xA0000 + b)) c).0 (set_cell f b (f a))
 cell_moved rest e d on a b c f la lb t =
@@ -58,7 +58,7 @@ cell_moved rest e d on a b c f la lb t =
     by_four c a u p l = by_plane (λ p. of_plane (bytes_at c.host.memory a) p < 256) (u.bounds.host.memory.bytes 0 (omega arith) a)
         (u.bounds.host.memory.bytes 1 (omega arith) a) (u.bounds.host.memory.bytes 2 (omega arith) a) (u.bounds.host.memory.bytes 3 (omega arith) a) p l
 
--- a Put of a byte to the planes of a mask
+-- a Put stores its byte in the planes of the mask
 cell_put : (rest : CardState) (e d mask : ℕ) → is_set e 1 ≡ true → (j v : ℕ) (c : CardState) (f : ℕ → Four ℕ) → j < 65536 → v < 256 →
     Drawn rest e d (planes_of mask) c f → Drawn rest e d (planes_of mask) (run card_meaning (put (0xA0000 + j) v) c).0 (set_cell f j (put_in_planes mask v (f j)))
 cell_put rest e d mask on j v c f lj lv t = record {
@@ -80,7 +80,7 @@ module _ (rest : CardState) (e d : ℕ) (on : is_set e 1 ≡ true) (first_byte p
     abbrev band : Band
     band = record { kind = Planar; start = first_byte; pitch = pitch; lines = lines; left = left; width = width }
 
-    -- the colour as four bytes
+    -- filling all planes with 00, and then the colour's planes with FF, gives the colour
     filling_is : (mask i : ℕ) (q : Four ℕ) → put_in_planes mask (filling_byte (uniform 0xFF) i) (put_in_planes 0x0F (filling_byte (uniform 0x00) i) q) ≡ lined false mask 0xFF q
     filling_is mask i q = ap (λ v. put_in_planes mask v (put_in_planes 0x0F (filling_byte (uniform 0x00) i) q)) (filled_uniform 0xFF i)
         ∙ ap (λ v. put_in_planes mask 0xFF (put_in_planes 0x0F v q)) (filled_uniform 0x00 i)
@@ -88,7 +88,7 @@ module _ (rest : CardState) (e d : ℕ) (on : is_set e 1 ≡ true) (first_byte p
     abbrev IsScrolled : Direction → ℕ → ℕ → (ℕ → Four ℕ) → (ℕ → Four ℕ) → Type 0
     IsScrolled direction n mask = shifts.IsScrolled (Four ℕ) 0xA0000 65536 band start rows window w direction n (λ _. lined false mask 0xFF)
 
-    -- rows are moved through the latches, and others get a colour
+    -- rows move through the latches, and new rows get the colour
     pub scrolls : (direction : Direction) (n colour : ℕ) (c : CardState) (f : ℕ → Four ℕ) → 0 < n → n ≤ window.height → Drawn rest e d at_rest c f →
         Leaves CardState (Four ℕ) (Drawn rest e d at_rest) (run card_meaning (scroll_rows band direction window.top window.height n colour) c).0
         (IsScrolled direction n (colour % 16) f)

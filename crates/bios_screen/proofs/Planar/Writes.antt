@@ -1,4 +1,4 @@
--- Characters in sixteen colours in a run of cells of a page, from the screen to the next.
+-- Writing a run of characters in sixteen colours, from one screen to the next.
 use Rattle.std.proofs.Common.{◌≡◌, ℕ, ◌+◌, ◌-◌, ◌*◌, ◌/◌, ◌%◌, ◌<◌, ◌≤◌, ⊎_elim, refl, sym, ap, ◌∙◌, subst, arith, Some, Bool}
 use Rattle.std.specs.Prelude.{slice_index, ◌==◌, ◌&&◌, nat_le, nat_lt, min, not, if◌then◌else◌}
 use Rattle.bios_screen.proofs.Prelude.{is_set, Four, bytes_at, IsCard, card_meaning, CardState, ModeRow, BiosData, FontSet, Band, Colouring, Planar, cells_of}
@@ -17,7 +17,7 @@ use Rattle.bios_screen.proofs.Planar.Screens as screens
 use Rattle.bios_screen.proofs.Pixels.Writes as writes
 use Rattle.bios_screen.proofs.Pixels.Writes.{column_by, IsCanvas}
 
--- the plan by its addresses
+-- the address of a line, as the plan adds it up
 pub address_sum : (start w h row r left : ℕ) → 0xA0000 + start + 1 * w * (h * row + r) + 1 * left + 0 ≡ 0xA0000 + (start + (w * (h * row + r) + left))
 address_sum start w h row r left =
     let a : 1 * w ≡ w = omega arith in
@@ -26,7 +26,7 @@ address_sum start w h row r left =
     sum : (n : ℕ) → 0xA0000 + start + n + 1 * left + 0 ≡ 0xA0000 + (start + (n + left))
     sum n = omega arith
 
--- a band of one byte
+-- the plan of a band that is one byte wide
 plan_is : (band : Band) (row : ℕ) (fonts : FontSet) (character colour : ℕ) → planar_plan (record band { width = 1 }) row fonts character colour
     ≡ glyph_by (is_set colour 7) (λ r. address_in band row r 0) (glyph_line fonts band.lines character) band.lines (colour % 16)
 unfolding planar_plan opaque_plan xor_plan put_glyph put_glyph_over fill_row fill_line
@@ -54,7 +54,7 @@ module _ (row : ModeRow) (c : CardState) (d : BiosData) (t : IsPlanar row c d) (
   pub high : 0 < h
   high = subst (λ n. 0 < n) (sym t.has.height) t.room.some_lines
 
-  -- the place of line r of cell q of a page
+  -- the offset of line r of cell q of page p
   abbrev place : ℕ → ℕ → ℕ → ℕ
   place p q r = d.size * p + strip_at w h q r
 
@@ -76,7 +76,7 @@ module _ (row : ModeRow) (c : CardState) (d : BiosData) (t : IsPlanar row c d) (
       ∙ plan_is band row fonts character colouring.colour
       ∙ ap (λ a. glyph_by (is_set colouring.colour 7) a lines h (colouring.colour % 16)) (λ j r. address_is p q r j)
 
-  -- the byte lies in memory, and in no other page
+  -- a line's byte lies within its page, and in memory
   pub within : (p q r : ℕ) → p < row.pages → q < cells_of d → r < h → (strip_at w h q r < d.size) × (place p q r < 65536)
   within p q r lp lq lr =
       let b = strip_at w h q r in
@@ -85,7 +85,7 @@ module _ (row : ModeRow) (c : CardState) (d : BiosData) (t : IsPlanar row c d) (
       let small = screens.strip_small row c d t z b l in
       (small.1, subst (λ n. d.size * p + n < 65536) k (screens.in_memory row c d t z p (8 * b) lp small.0))
 
-  -- a place is of one strip, and pixels are those of its byte of each plane
+  -- each strip is one offset, and its pixels are the bits of its byte in each plane
   canvas : (p : ℕ) → p < row.pages → IsCanvas row c d wide high (Four ℕ) (Unit {0}) p (λ b _. d.size * p + b) (λ _. tt)
       (λ x k. nibble_of x (k % 8)) (bytes_at c.host.memory) (Drawn (without_host c) misc clocking at_rest)
   canvas p lp = record {
@@ -97,7 +97,7 @@ module _ (row : ModeRow) (c : CardState) (d : BiosData) (t : IsPlanar row c d) (
         ⊎_elim (λ (a : o < d.size * p). absurd (omega arith)) (λ (a : d.size * p + d.size ≤ o). absurd (omega arith)) out));
   }
 
-  -- what a dot makes of a pixel, in a mode of sixteen colours
+  -- what a dot does to a pixel in a mode of sixteen colours
   dot_is : (colour : ℕ) (is_dot : Bool) (x : ℕ) → dotted_by (is_set colour 7) (colour % 16) is_dot x ≡ glyph_pixel d.mode colour is_dot x
   dot_is colour is_dot x = sym (ap (λ b. if is_dot then (if b then colour else if is_set colour 7 then Rattle.std.specs.Prelude.bit_xor x (colour % 16)
       else colour % 16) else if not b && is_set colour 7 then x else 0) t.packed)

@@ -21,7 +21,7 @@ use Rattle.bios_screen.proofs.Services.Teletypes as teletypes
 use Rattle.bios_screen.proofs.Services.Strings as strings
 use Rattle.bios_screen.proofs.Services.Palette as coloured
 
--- in all modes alike
+-- a service is served if it is served from what is known of any shown screen
 serves_any : (service : Service) → ((fonts : FontSet) (r : Regs) (block : List ℕ) (c : CardState) (d : BiosData) (h : IsAny c d) → AreBytes block → IsCard c →
     IsBda d → IsServed service fonts r block c d (any_screen c d h c)) → Serves service
 serves_any service f fonts r block c d s bytes z bda e = let x = any_is c d s e in
@@ -46,7 +46,7 @@ write_pixel page x y colour l = serves_any (WritePixel page x y colour) (λ font
 pub read_pixel : (page x y : ℕ) → Serves (ReadPixel page x y)
 read_pixel page x y = serves_any (ReadPixel page x y) (λ fonts r block c d h bytes z bda. pixels.read_pixel c d h page x y fonts r block z)
 
--- in text whatever the arguments are
+-- in text functions 0C and 0D are refused, whatever the arguments are
 pub dot_refused : (page x y colour : ℕ) → ServesText (WritePixel page x y colour)
 dot_refused page x y colour fonts r block c d s bytes z bda e text =
     let any = any_is c d s e in

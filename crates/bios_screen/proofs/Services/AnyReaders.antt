@@ -1,4 +1,4 @@
--- Services that answer, and do nothing, in text and in graphics.
+-- Services that only answer, in text and in graphics.
 use Rattle.std.proofs.Common.{◌≡◌, ℕ, refl, ap, List}
 use Rattle.std.specs.Prelude.{slice_index}
 use Rattle.bios_screen.proofs.Prelude.{CardState, BiosData, FontSet, Regs, page_among, page_named, page_meant, IsServed}
@@ -10,7 +10,7 @@ use Rattle.bios_screen.specs.Step.{refusal_on, next, answer_on}
 use Rattle.bios_screen.proofs.Shows.Screens.{pages_are, named_page}
 use Rattle.bios_screen.proofs.Shows.Any.{IsAny, any_screen, still_any}
 
--- the page that is meant
+-- a call's page number means the same page for the adapter and for the screen
 pub any_meant : (c : CardState) (d : BiosData) (h : IsAny c d) (page : ℕ) → page_named d page ≡ page_meant (any_screen c d h c) page
 any_meant c d h page = named_page h.row d h.mode page
 

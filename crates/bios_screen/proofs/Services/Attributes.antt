@@ -1,4 +1,4 @@
--- What services do to the attribute controller, whatever the mode is.
+-- What services do to the attribute controller, in any mode.
 use Rattle.std.proofs.Common.{◌≡◌, ℕ, ◌+◌, ◌*◌, ◌<◌, refl, ap, ◌∙◌, List, [], ◌∷◌, ◌++◌, length, Bool, true, false}
 use Rattle.std.specs.Prelude.{◌==◌, ◌&&◌, nat_lt, if◌then◌else◌, slice_index, slice_set, take, bit_and, bit_or}
 use Rattle.std.proofs.lemmas.Bool.{agree_below_at}
@@ -20,7 +20,7 @@ use Rattle.bios_screen.proofs.Base.Tests.{same}
 abbrev pub with_attr : CardState → List ℕ → ℕ → Bool → CardState
 with_attr c l i b = record c { attr = record { registers = l; index = i; is_data = b } }
 
--- an index that names a register, which can be written
+-- index i selects register i, and that register can be written
 record Names (i : ℕ) : Type 0 where
   kept : bit_and i 0x3F ≡ i
   number : field i 4 0 ≡ i
@@ -47,7 +47,7 @@ value_written : (s : CardState) (l : List ℕ) (i v : ℕ) → Names i → (run 
     ≡ with_attr s (slice_set l i (bit_and v (slice_index attr_masks i))) i false
 value_written s l i v n = value_by s l i v ∙ rw (n.number, n.there, n.free) refl
 
--- the palette is shown again
+-- the palette is shown again: the index is 20, and the controller expects an index
 again : (c : CardState) (l : List ℕ) (i : ℕ) → (run card_meaning (show_palette (crtc_port c.misc)) (with_attr c l i false)).0 ≡ with_attr c l 0x20 false
 unfolding reached_by out_reached
 again c l i = let done : Plan (Unit {0}) = Done tt in ap (λ r. r.0) (expected_runs done (with_attr c l 0x20 true))
@@ -91,12 +91,12 @@ sixteen port values v = do
   attribute 0x11 v
   show_palette port
 
--- the registers with these values of the palette and this overscan
+-- the registers with these palette values and this overscan
 abbrev pub with_palette : List ℕ → List ℕ → ℕ → List ℕ
 with_palette l values v = listing (λ i. six_bits (slice_index values i)) 0 16 ++ slice_index l 16 ∷ bit_and v 0xFF ∷ slice_index l 18 ∷ slice_index l 19
     ∷ slice_index l 20 ∷ []
 
--- if the registers are spelled out
+-- setting all palette values and the overscan, when the registers are spelled out
 sixteen_by : (c : CardState) (values : List ℕ) (v : ℕ) → (let l = c.attr.registers in
     (run card_meaning (sixteen (crtc_port c.misc) values v) (with_attr c (listing (slice_index l) 0 21) c.attr.index false)).0
     ≡ with_attr c (with_palette l values v) 0x20 false)
@@ -123,7 +123,7 @@ palette_set c block z n =
 
 -- ---- a register is read
 
--- an index with the palette shown
+-- index 20 + i selects register i and shows the palette
 record Reads (i : ℕ) : Type 0 where
   kept : bit_and (0x20 + i) 0x3F ≡ 0x20 + i
   number : field (0x20 + i) 4 0 ≡ i
@@ -151,7 +151,7 @@ value_read : (s : CardState) (l : List ℕ) (i : ℕ) → Reads i → run card_m
     ≡ (with_attr s l (0x20 + i) true, slice_index l i)
 value_read s l i n = value_read_by s l (0x20 + i) ∙ rw (n.number, n.there) refl
 
--- if the attribute controller expects an index, it does so again afterwards
+-- register i is answered; the controller expects an index before and after
 pub value_of_register : (c : CardState) (l : List ℕ) (j i : ℕ) → i < 18 →
     run card_meaning (register_plan (crtc_port c.misc) i) (with_attr c l j false) ≡ (with_attr c l (0x20 + i) false, slice_index l i)
 unfolding register_plan reached_by out_reached

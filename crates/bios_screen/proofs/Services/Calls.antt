@@ -1,4 +1,4 @@
--- Calls: the service that the registers ask for, whole.
+-- Whole calls: each performs the service that the registers ask for.
 use Rattle.std.proofs.Common.{◌≡◌, ℕ, ◌<◌, refl, ap, ◌∙◌, subst, arith, List, length, Option, Some, None, Bool, true, false, Err}
 use Rattle.std.specs.Prelude.{◌==◌, ◌&&◌, nat_lt, if◌then◌else◌, IfSome}
 use Rattle.bios_screen.proofs.Prelude.{Refusal, IsCard, card_meaning, CardState, BiosData, FontSet, Regs, Plan, run, Done, Outcome, Screen, shown, IsServed}
@@ -21,14 +21,14 @@ use Rattle.bios_services.specs.Refusals.{on_page_named, refusal_in_mode}
 use Rattle.bios_services.specs.Service.{plan_of, set_mode_plan, Answered, answer_of, refuse, unless, in_mode_plan, call_plan}
 use Rattle.bios_modes.specs.Bounds.{IsBda}
 use Rattle.bios_screen.specs.Step.{refusal_on, next, answer_on}
-use Rattle.bios_screen.specs.AfterCall.{Serves, after_call, after_service}
+use Rattle.bios_screen.specs.AfterCall.{Serves, after_call, card_after_service}
 use Rattle.bios_screen.specs.Called.{AreWords, reply_unless, screen_unless, IsCalled}
 use Rattle.bios_screen.proofs.Base.Plans.{run_bind}
 use Rattle.bios_services.proofs.CardLemmas.{plan_beam}
 use Rattle.bios_screen.proofs.Shows.Screens.{mode_of_shown}
 use Rattle.bios_screen.proofs.Services.All as served
 
--- ---- each service that registers ask for is served
+-- ---- every service that registers can ask for is served
 
 choose : (b : Bool) (x y : Option Service) → IfSome x Serves → IfSome y Serves → IfSome (if b then x else y) Serves
 choose true x y f g = f
@@ -59,7 +59,7 @@ asked_is_served r w =
     (choose ((high r.ax == 0x13) && nat_lt (low r.ax) 4) _ _ (served.write_string (string_of r) (low_small r.bx))
     (choose ((high r.ax == 0x1A) && (low r.ax == 0x00)) (Some ReadDisplay) None (served.read_display) tt)))))))))))))))
 
--- the service that a call asks for, if it does, is served
+-- if a call asks for a service, that service is served
 abbrev IsServedCall : Option Call → Type 0
 IsServedCall (Some (InMode service)) = Serves service
 IsServedCall call = Unit {0}
@@ -68,7 +68,7 @@ choose_call : (b : Bool) (x y : Option Call) → IsServedCall x → IsServedCall
 choose_call true x y f g = f
 choose_call false x y f g = g
 
--- the subfunctions of function 10, whose overscan is a byte
+-- the subfunctions of function 10; the overscan is a byte
 colours_are_served : (r : Regs) → AreWords r → IsServedCall (colour_call_of r)
 colours_are_served r w =
     let al = low r.ax in
@@ -102,14 +102,14 @@ call_is_served r w =
 
 -- ---- the call around a service
 
--- what a plan leaves and answers, as the screen has it
+-- a call's reply, and the screen that it leads to, unless it is refused
 pub record Leads (why : Option Refusal) (r : Regs) (s new : Screen) (x : CardState × Answered) : Type 0 where
   pub reply : x.1.0 ≡ reply_unless why r
   pub shows : shown x.0 x.1.1 ≡ Some (screen_unless why s new)
 
 unless_leads : (why : Option Refusal) (service : Service) (fonts : FontSet) (r : Regs) (block : List ℕ) (c : CardState) (d : BiosData) (s : Screen) →
-    shown c d ≡ Some s → (why ≡ None → (after_service service fonts r block c d).1.0 ≡ answer_on fonts s service r)
-    → (why ≡ None → (let x = after_service service fonts r block c d in shown x.0 x.1.1) ≡ Some (next fonts s service block))
+    shown c d ≡ Some s → (why ≡ None → (card_after_service service fonts r block c d).1.0 ≡ answer_on fonts s service r)
+    → (why ≡ None → (let x = card_after_service service fonts r block c d in shown x.0 x.1.1) ≡ Some (next fonts s service block))
     → Leads why (answer_on fonts s service r) s (next fonts s service block) (run card_meaning
     (unless why (on_page_named d service) fonts d r block) c)
 unfolding unless
@@ -150,14 +150,14 @@ calls_lead service fonts r block c d s z bda w bytes old e =
     let serves = served_if (call_of r) service e (call_is_served r w) in
     call_done service fonts r block c d s e old (serves fonts r block c d s bytes z bda old)
 
--- a call for no service is refused
+-- a call that asks for no service is refused
 pub unknown_refused : (fonts : FontSet) (r : Regs) (block : List ℕ) (c : CardState) (d : BiosData) (s : Screen) → shown c d ≡ Some s → call_of r ≡ None →
     after_call fonts r block c d ≡ (c, (Err BadFunction, d))
 unknown_refused fonts r block c d s old e =
     ap (λ (q : Option Call). run card_meaning (call_plan q fonts d r block) c) e
     ∙ ap (λ b. let y : CardState × Answered = (c, (Err (if b then NoMode else BadFunction), d)) in y) (mode_of_shown c d s old).set
 
--- and so is a call for a mode that does not exist
+-- a call for a mode that does not exist is refused
 pub mode_refused : (mode : ℕ) (keeps : Bool) (fonts : FontSet) (r : Regs) (block : List ℕ) (c : CardState) (d : BiosData) →
     call_of r ≡ Some (SetMode mode keeps) → mode_row mode ≡ None → after_call fonts r block c d ≡ (c, (Err BadMode, d))
 unfolding set_mode_plan

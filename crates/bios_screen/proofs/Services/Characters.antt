@@ -1,4 +1,5 @@
--- Functions 08, 09 and 0A in any mode: the character at the cursor is read, and characters are written from there on.
+-- Functions 08, 09 and 0A in any mode: reading the character at the cursor, and writing characters
+-- from there on.
 use Rattle.std.proofs.Common.{◌≡◌, ℕ, ◌+◌, ◌<◌, ◌≤◌, ap, ◌∙◌, List, Some, None}
 use Rattle.bios_screen.proofs.Prelude.{IsCard, card_meaning, CardState, BiosData, FontSet, bytes_320_by_200, Regs, Colouring, pages_of, cells_of, Plan, run}
 use Rattle.bios_screen.proofs.Prelude.{Done, ◌>>=◌, ◌>>◌, page_among, page_named, Outcome, Screen, shown, page_meant, IsServed}
@@ -24,7 +25,7 @@ use Rattle.bios_screen.proofs.Planar.Cells as planar_cells
 use Rattle.bios_screen.proofs.Packed.Writes as packed
 use Rattle.bios_screen.proofs.Packed.Cells as packed_cells
 
--- what a loop of characters leaves is the screen with them
+-- after n characters are written, the screen with these characters is shown
 pub characters_shown : (fonts : FontSet) (c : CardState) (d : BiosData) (s : Screen) (p q n v : ℕ) (colouring : Colouring) → shown c d ≡ Some s →
     IsCard c → p < pages_of d → q + n ≤ cells_of d → v < 256 → colouring.colour < 256
     → shown (run card_meaning (characters_plan fonts d p q v colouring n) c).0 d ≡ Some (put_characters fonts s p q n v colouring)
@@ -35,7 +36,7 @@ characters_shown fonts c d s p q n v colouring e z lp lq lv la =
     (λ t. packed.characters_shown c d t z fonts p q n v colouring (page_in bytes_320_by_200 d p (t.there d.height) lp) lq la)
     s e
 
--- the character at a cursor is answered, and the screen stays
+-- the character at a cursor is answered, and the screen stays the same
 cell_read : (fonts : FontSet) (r : Regs) (c : CardState) (d : BiosData) (s : Screen) (p : ℕ) → shown c d ≡ Some s → IsCard c → p < pages_of d →
     cursor_cell d p < cells_of d → IsCellRead fonts r c d p s
 cell_read fonts r c d s p e z lp lq = by_modes c d (IsCellRead fonts r c d p)

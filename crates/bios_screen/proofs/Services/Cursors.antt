@@ -1,4 +1,5 @@
--- Services that change registers of the CRT controller, in text and in graphics: the cursor's type and place, and the active page.
+-- Services that change the CRT controller's registers, in text and in graphics: the cursor type,
+-- the cursor position and the active page.
 use Rattle.std.proofs.Common.{◌≡◌, ◌≢◌, ℕ, ◌+◌, ◌*◌, ◌/◌, ◌%◌, ◌<◌, ◌≤◌, ⊎_elim, refl, sym, ap, ◌∙◌, arith, List, Some, None, Bool, true, false}
 use Rattle.std.specs.Prelude.{slice_index, slice_set, ◌==◌, ◌&&◌, nat_lt, if◌then◌else◌, bit_and}
 use Rattle.std.proofs.lemmas.Bool.{cases_eq, agree_below_at}
@@ -39,13 +40,13 @@ two_bytes n = omega arith
 abbrev pub with_crtc : CardState → List ℕ → ℕ → CardState
 with_crtc c l i = record c { crtc = record c.crtc { registers = l; index = i } }
 
--- ---- the registers, of which each two hold a word
+-- ---- registers in pairs, each of which holds a word
 
--- register i after a write of v
+-- the adapter after v is written to register i
 abbrev written : CardState → ℕ → ℕ → CardState
 written c i v = (out_at (out_at c (Some CrtcIndex) i).0 (Some CrtcData) v).0
 
--- two writes, by what each leaves
+-- two writes, given what each leaves
 bytes_written : (c : CardState) (i a b : ℕ) (x y : List ℕ) → written c i a ≡ with_crtc c x i → written (with_crtc c x i) (i + 1) b ≡ with_crtc c y (i + 1) →
     (run card_meaning (crtc (crtc_port c.misc) i a >> crtc (crtc_port c.misc) (i + 1) b) c).0 ≡ with_crtc c y (i + 1)
 bytes_written c i a b x y e f =
@@ -55,7 +56,7 @@ bytes_written c i a b x y e f =
     ∙ crtc_runs (with_crtc c x i) (i + 1) b
     ∙ f
 
--- the registers of a row, for cursor and start address that the data say, become those for others
+-- a row's registers for one cursor type, start address and location become those for others
 module _ (c : CardState) (row : ModeRow) (type start location : ℕ) (r : c.crtc.registers ≡ crtc_registers row type start location) where
   abbrev l : List ℕ
   l = c.crtc.registers
@@ -89,7 +90,7 @@ module _ (c : CardState) (row : ModeRow) (type start location : ℕ) (r : c.crtc
       ∙ ap (λ x. with_crtc c (slice_set (slice_set (crtc_registers row type start location) 0x0E x) 0x0F b) 0x0F) (and_255 (n / 256) (omega arith))
       ∙ ap (λ x. with_crtc c (slice_set (slice_set (crtc_registers row type start location) 0x0E (n / 256)) 0x0F x) 0x0F) (and_255 (n % 256) (omega arith))
 
-  -- the cursor of the active page is shown in text; that of another page is not, nor is one in graphics
+  -- the location changes only in text, and only if page p is the active page
   cursor_set : (e : BiosData) (p : ℕ) → e.crtc_address ≡ crtc_port c.misc → ((is_text e.mode && (p == e.page)) ≡ true → cursor_address e p < 65536) →
       (run card_meaning (cursor_plan e p) c).0
       ≡ with_crtc c (crtc_registers row type start (if is_text e.mode && (p == e.page) then cursor_address e p else location))
@@ -104,9 +105,9 @@ module _ (c : CardState) (row : ModeRow) (type start location : ℕ) (r : c.crtc
       by_tests true false small = ap (λ x. with_crtc c x c.crtc.index) r
       by_tests false b small = ap (λ x. with_crtc c x c.crtc.index) r
 
--- ---- the location of the cursor that is shown
+-- ---- the cursor location that is shown
 
--- it is the data's, and where none is shown it stays
+-- in text it is the data's; in graphics, which shows no cursor, it stays
 location_is : (row : ModeRow) (e : BiosData) (type start n : ℕ) → (is_text e.mode ≡ true → cursor_address e e.page ≡ n) →
     location_shown e (crtc_registers row type start n) ≡ n
 location_is row e type start n h = by_kind (is_text e.mode) refl
@@ -115,7 +116,7 @@ location_is row e type start n h = by_kind (is_text e.mode) refl
     by_kind true t = h t
     by_kind false t = two_bytes n
 
--- the active page's, where the cursor of page p has been shown
+-- the active page's cursor location, after the cursor of page p was set
 at_cursor : (e : BiosData) (p location : ℕ) → is_text e.mode ≡ true → (p ≢ e.page → cursor_address e e.page ≡ location) →
     cursor_address e e.page ≡ (if is_text e.mode && (p == e.page) then cursor_address e p else location)
 at_cursor e p location t other =
@@ -130,7 +131,7 @@ at_cursor e p location t other =
 
 -- ---- the services
 
--- a plan that leaves BIOS data, and after it the same registers
+-- a plan that answers BIOS data, as a service whose registers stay the same
 abbrev pub then_data : Plan BiosData → Regs → Plan Outcome
 then_data p r = p >>= λ after. Done (r, after)
 
@@ -141,7 +142,7 @@ data_runs p r c = run_bind card_meaning p (λ after. Done (r, after)) c
 same_test : (n : ℕ) → (n == n) ≡ true
 same_test n = grind (arith, nat_tests)
 
--- the data of another page
+-- the data are still the mode's, with another active page
 page_data : (row : ModeRow) (d : BiosData) (page : ℕ) → shows_data row d ≡ true → page < row.pages → shows_data row (with_page d page) ≡ true
 page_data row d page h l =
     let a = both_true (d.columns == row.columns) _ h in
@@ -163,11 +164,11 @@ module _ (c : CardState) (d : BiosData) (h : IsAny c d) where
   abbrev location : ℕ
   location = location_shown d c.crtc.registers
 
-  -- in text it is that of the active page
+  -- in text the location is that of the active page's cursor
   here : is_text d.mode ≡ true → cursor_address d d.page ≡ location
   here t = sym (ap (λ b. if b then cursor_address d d.page else 256 * slice_index c.crtc.registers 0x0E + slice_index c.crtc.registers 0x0F) t)
 
-  -- a screen with other cursors or another page, where registers and data are those
+  -- if registers and data agree, the screen with another cursor or another page is shown
   other_data : (type : ℕ) (places : List ℕ) (page start n i : ℕ) → (let e = with_cursors d type places page start in shows_data h.row e ≡ true →
       (is_text d.mode ≡ true → cursor_address e page ≡ n) →
       shown (with_crtc c (crtc_registers h.row type (start_address e page) n) i) e ≡ Some (record s { cursor_type = type; places = places; page = page }))
@@ -211,7 +212,7 @@ module _ (c : CardState) (d : BiosData) (h : IsAny c d) where
       let few = few_cells d.columns place columns l in
       omega arith
 
-  -- the cursor at another place of a page: in the data, and in text on the active page in the registers
+  -- the cursor of a page moves: in the data, and for the active page in text in the registers too
   pub moved_shown : (p place : ℕ) → IsBda d → p < h.row.pages → place < 65536 →
       (let x = run card_meaning (move_cursor_plan d p place) c in shown x.0 x.1) ≡ Some (placed_on s p place)
   unfolding move_cursor_plan
@@ -251,7 +252,7 @@ module _ (c : CardState) (d : BiosData) (h : IsAny c d) where
         beam = plan_beam (then_data plan r) c;
       }
 
-  -- another page is shown from its start on, with its cursor
+  -- another page is shown from its start on, with its own cursor
   page_shown : (page : ℕ) → IsBda d → page < h.row.pages → (let x = run card_meaning (page_plan d page) c in shown x.0 x.1) ≡ Some (record s { page = page })
   unfolding page_plan
   page_shown page bda lp =

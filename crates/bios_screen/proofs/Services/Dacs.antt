@@ -1,4 +1,4 @@
--- What services do to the entries of the DAC.
+-- What services do to the DAC's entries.
 use Rattle.std.proofs.Common.{◌≡◌, ℕ, zero, suc, ◌+◌, ◌-◌, ◌*◌, ◌%◌, ◌<◌, ◌≤◌, refl, sym, ap, ◌∙◌, subst, arith, List, [], ◌∷◌, length, Bool, true}
 use Rattle.std.proofs.Common.{false}
 use Rattle.std.specs.Prelude.{◌&&◌, nat_lt, nat_le, if◌then◌else◌, slice_index}
@@ -20,15 +20,15 @@ use Rattle.bios_screen.proofs.Base.Lists.{length_listing, listed_at}
 use Rattle.bios_screen.proofs.Base.Tests.{of_run}
 use Rattle.bios_screen.proofs.Modes.Entries.{Colour, colour_of, kept_colour, entry_at, without_entries, HasEntries, before_entry, entries_written}
 
--- an adapter with another DAC
+-- the adapter with another DAC
 abbrev pub with_dac : CardState → DacState → CardState
 with_dac c d = record c { dac = d }
 
--- the three bytes of a block for its colour r
+-- the three bytes of colour r in a block
 abbrev triple : List ℕ → ℕ → List ℕ
 triple block r = slice_index block (3 * r + 0) ∷ slice_index block (3 * r + 1) ∷ slice_index block (3 * r + 2) ∷ []
 
--- ---- bytes by threes are colours
+-- ---- three bytes make a colour
 
 abbrev byte : List ℕ → ℕ → Plan (Unit {0})
 byte block i = out 0x3C9 (slice_index block i)
@@ -53,7 +53,7 @@ colours_are block (suc n) j c =
 
 -- ---- entries are set
 
--- a list of entries with some from a block
+-- one component of all entries, after some entries were set from a block
 component_is : (old new block : List ℕ) (first count i : ℕ) → length old ≡ 256 → length new ≡ 256 →
     ((k : ℕ) → k < 256 → slice_index new k ≡ (if nat_le first k && nat_lt k (first + count) then six_bits (slice_index block (3 * (k - first) + i))
     else slice_index old k)) → new ≡ component_over old first count block i
@@ -62,7 +62,7 @@ component_is old new block first count i eo en h =
     same_number_lists new (listing f 0 (length old)) (en ∙ sym (length_listing f 0 (length old) ∙ eo)) (λ k l. h k (omega arith)
     ∙ sym (listed_at f (length old) k 0 (omega arith)))
 
--- the DAC's lists are those of the screen's step
+-- the DAC's three lists are those of the screen after the step
 pub record AreEntries (old new : DacState) (first count : ℕ) (block : List ℕ) : Type 0 where
   pub reds : new.reds ≡ component_over old.reds first count block 0
   pub greens : new.greens ≡ component_over old.greens first count block 1
@@ -72,7 +72,7 @@ pub record IsLoaded (c y : CardState) (first count : ℕ) (block : List ℕ) : T
   pub entries : AreEntries c.dac y.dac first count block
   pub others : without_entries y ≡ without_entries c
 
--- an entry of the DAC by the place of its colour
+-- entry k, after some entries were set from a block
 entry_is : (first count : ℕ) (block : List ℕ) (f g : ℕ → Colour) → Edited Colour (Turn (λ _. Unit {0}) 0 count) (λ h. first + h.turn) (λ h x.
     kept_colour (colour_of (triple block h.turn))) f g → (k : ℕ) → g k ≡ (if nat_le first k && nat_lt k (first + count)
     then kept_colour (colour_of (triple block (k - first))) else f k)
@@ -83,12 +83,12 @@ entry_is first count block f g edited k =
     ap g (sym there) ∙ edited.inside (record { turn = k - first; from = omega arith; before = omega arith; place = tt }))
     (λ out. edited.outside k (λ h. out h.turn h.before))
 
--- one component of it
+-- a component of the colour that a test chooses
 part_of_choice : (b : Bool) (x y : Colour) (part : Colour → ℕ) → part (if b then x else y) ≡ (if b then part x else part y)
 part_of_choice true x y part = refl
 part_of_choice false x y part = refl
 
--- the index is written, and then colours from there on
+-- colours are written from entry `first` on, after the index was written
 loaded_from : (c s : CardState) (first count : ℕ) (block : List ℕ) → IsDac c.dac → first + count ≤ 256 → first < 256 →
     s ≡ with_dac c (record c.dac { index = first; component = Red }) → IsLoaded c (run card_meaning (each (λ r. colour_plan (triple block r)) count 0) s).0
     first count block
@@ -137,7 +137,7 @@ pub entry_loaded : (c : CardState) (entry r g b : ℕ) → IsDac c.dac → entry
 entry_loaded c entry r g b z l = subst (λ y. IsLoaded c y entry 1 (r ∷ g ∷ b ∷ [])) (sym (one_by c entry r g b))
     (entries_loaded c entry 1 (r ∷ g ∷ b ∷ []) z (omega arith) l refl)
 
--- ---- an entry is read, and the mask
+-- ---- reading an entry and the mask
 
 pub entry_read : (c : CardState) (entry : ℕ) (r : Regs) → run card_meaning (read_entry_plan entry r) c
     ≡ (

@@ -1,4 +1,4 @@
--- Whole calls that load glyphs: they are refused, or lead to the screen with these glyphs.
+-- Calls that load glyphs: each is refused, or leads to the screen with these glyphs.
 use Rattle.std.proofs.Common.{◌≡◌, ℕ, ◌+◌, ◌≤◌, refl, sym, ap, ◌∙◌, arith, List, length, Option, Some, None, Bool, true, false, if◌then◌else◌}
 use Rattle.std.specs.Prelude.{◌==◌}
 use Rattle.std.proofs.lemmas.Bool.Decides.{nat_tests}
@@ -29,9 +29,9 @@ use Rattle.bios_screen.proofs.Shows.Screens.{screen_shown, shown_is, mode_of_sho
 use Rattle.bios_screen.proofs.Text.Loads.{load_shown}
 use Rattle.bios_screen.proofs.Services.Calls.{Leads}
 
--- ---- the row of a height
+-- ---- the text-height row of a height
 
--- the height of a row of the text-height table
+-- a row of the text-height table belongs to one of the heights, and the height is at most 16
 record HasLines (disp : Display) (height : ℕ) (text : TextRow) : Type 0 where
   new : Height
   is : text ≡ lines_of disp new
@@ -59,14 +59,15 @@ lines_are disp height text e = by_display disp e
     by_display Colour h = by_tests Colour (height == 8) (height == 14) (height == 16) 0x1F 0x1F 0x1F refl refl refl refl refl refl h
     by_display Monochrome h = by_tests Monochrome (height == 8) (height == 14) (height == 16) 0x07 0x0D 0x0F refl refl refl refl refl refl h
 
--- the mode's row of a height is that of the text-height table
+-- the mode's row at a height takes its lines from the text-height table
 rows_agree : (disp : Display) (height : ℕ) → row_at (number_of disp) height ≡ with_height (row_of disp) (text_row (number_of disp) height)
 rows_agree Colour height = refl
 rows_agree Monochrome height = refl
 
 -- ---- why a load is refused
 
--- a load that is not refused is of text, of characters up to FF, and has all its glyphs in the block
+-- a load that is not refused: the mode is text, no character is above FF, and a block has exactly
+-- the length of its glyphs
 record IsAllowed (load : GlyphLoad) (mode len : ℕ) : Type 0 where
   text : is_text mode ≡ true
   last : load.first + load.count ≤ 256
@@ -93,7 +94,7 @@ module _ (fonts : FontSet) (load : GlyphLoad) (r : Regs) (block : List ℕ) (byt
   abbrev new : Screen
   new = load_glyphs fonts s load block
 
-  -- glyphs that are allowed, if there is a row of their height
+  -- an allowed load leads to the screen with the glyphs, if their height has a row
   row_leads : (a : IsAllowed load d.mode (length block)) (text : TextRow) → text_row d.mode load.height ≡ Some text →
       Leads None r s (load_at_height (Some text) fonts s load block) (run card_meaning (load_at (row_at d.mode load.height) load fonts d r block) c)
   unfolding load_at
@@ -121,7 +122,7 @@ module _ (fonts : FontSet) (load : GlyphLoad) (r : Regs) (block : List ℕ) (byt
             ∙ ap (λ q. Some (load_at_height (Some text) fonts q load block)) x.screen;
       }
 
-  -- if there is none, the call is refused
+  -- if the height has no row, the call is refused
   height_leads : (a : IsAllowed load d.mode (length block)) (q : Option TextRow) → text_row d.mode load.height ≡ q →
       Leads (height_refusal_on q) r s (load_at_height q fonts s load block) (run card_meaning (load_at (row_at d.mode load.height) load fonts d r block) c)
   unfolding load_at

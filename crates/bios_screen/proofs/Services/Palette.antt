@@ -24,7 +24,7 @@ use Rattle.bios_services.specs.Reasons.{refuse_unless, wrong_block}
 use Rattle.bios_services.specs.Colours.{colour_refusal, has_entries, no_register, no_entry, no_entries, read_register_in_bh, read_mask_in_bl, colours_plan}
 use Rattle.bios_services.specs.Refusals.{refusal_in_mode}
 use Rattle.bios_services.specs.Service.{plan_of}
-use Rattle.bios_screen.specs.Colours.{six_bits, with_value, with_block, with_entries, with_colours, colours_answer}
+use Rattle.bios_screen.specs.Colours.{six_bits, with_value, with_palette_and_overscan, with_entries, with_colours, colours_answer}
 use Rattle.bios_screen.proofs.Base.Reasons.{neither, holds, block_fits}
 use Rattle.bios_screen.specs.Step.{refusal_on, next, answer_on}
 use Rattle.bios_screen.specs.AfterCall.{FitsBytes}
@@ -38,12 +38,12 @@ use Rattle.bios_screen.proofs.Services.Cursors.{and_255}
 use Rattle.bios_screen.proofs.Services.Attributes.{with_attr, with_blinking, with_palette, register_set, blinking_set, palette_set, index_shown, register_read}
 use Rattle.bios_screen.proofs.Services.Dacs.{with_dac, IsLoaded, entries_loaded, entry_loaded, entry_read}
 
--- what a subfunction leaves and answers
+-- what a subfunction answers, and the screen that it leads to
 pub record IsColoured (service : ColourService) (r : Regs) (block : List ℕ) (c : CardState) (d : BiosData) (s : Screen) : Type 0 where
   pub answer : (run card_meaning (colours_plan service d.crtc_address r block) c).1 ≡ colours_answer s service r
   pub shows : shown (run card_meaning (colours_plan service d.crtc_address r block) c).0 d ≡ Some (with_colours s service block)
 
--- entries that are not refused
+-- the entries of a call that is not refused
 pub record EntriesAllowed (first count : ℕ) : Type 0 where
   pub begin : first < 256
   pub all : first + count ≤ 256
@@ -62,7 +62,7 @@ module _ (c : CardState) (d : BiosData) (h : IsAny c d) where
 
   -- ---- the attribute controller
 
-  -- the test depends on bits of mode control, and on the registers after the overscan
+  -- the test depends on mode control, blinking excepted, and on the registers after overscan
   rest_is : ((bit_and (slice_index registers 0x10) 0xF7 == bit_and (slice_index h.row.attribute 0x10) 0xF7)
       && bytes_eq (drop 0x12 registers) (drop 0x12 h.row.attribute)) ≡ true
   rest_is = (both_true (is_palette_shown c.attr) _ h.tests.attribute).1
@@ -71,7 +71,7 @@ module _ (c : CardState) (d : BiosData) (h : IsAny c d) where
       drop 0x12 l ≡ drop 0x12 registers → shows_attribute h.row (with_attr c l i false).attr ≡ true
   attribute_stays l i e control rest = rw (e, control, rest) rest_is
 
-  -- other registers show other colours
+  -- other palette values, overscan and blinking give the screen with these
   attribute_shown : (l : List ℕ) (i : ℕ) → is_set i 5 ≡ true → bit_and (slice_index l 0x10) 0xF7 ≡ bit_and (slice_index registers 0x10) 0xF7 →
       drop 0x12 l ≡ drop 0x12 registers → (values : List ℕ) (overscan : ℕ) (blink : Bool) → take 16 l ≡ values → slice_index l 0x11 ≡ overscan →
       is_set (slice_index l 0x10) 3 ≡ blink
@@ -80,7 +80,7 @@ module _ (c : CardState) (d : BiosData) (h : IsAny c d) where
       any_shown c (with_attr c l i false) d h refl refl (attribute_stays l i e control rest)
       ∙ rw (ev, eo, eb) refl
 
-  -- another DAC too
+  -- another DAC gives the screen with its entries and mask
   pub dac_shown : (new : DacState) → shown (with_dac c new) d ≡ Some (record s {
     palette =
         record s.palette { reds = new.reds; greens = new.greens; blues = new.blues; mask = new.mask };
@@ -96,7 +96,7 @@ module _ (c : CardState) (d : BiosData) (h : IsAny c d) where
 
   -- ---- services that set
 
-  -- a plan, and then the same registers
+  -- a plan that sets something, and then replies the same registers
   setting_served : (service : ColourService) (r : Regs) (block : List ℕ) (p : ℕ → Plan (Unit {0})) →
       colours_plan service d.crtc_address r block ≡ (p d.crtc_address >> Done r) → colours_answer s service r ≡ r →
       shown (run card_meaning (p (crtc_port c.misc)) c).0 d ≡ Some (with_colours s service block) → IsColoured service r block c d s
@@ -136,7 +136,7 @@ module _ (c : CardState) (d : BiosData) (h : IsAny c d) where
       (ap (λ n. is_set n 3) control)
 
   palette_shown : (block : List ℕ) → AreBytes block → IsCard c → length block ≡ 17 →
-      shown (run card_meaning (set_palette_plan (crtc_port c.misc) block) c).0 d ≡ Some (with_block s block)
+      shown (run card_meaning (set_palette_plan (crtc_port c.misc) block) c).0 d ≡ Some (with_palette_and_overscan s block)
   palette_shown block bytes z e =
       let values = take 16 block in
       let v = slice_index block 16 in
@@ -191,7 +191,7 @@ module _ (c : CardState) (d : BiosData) (h : IsAny c d) where
   unfolding read_mask_in_bl reached_by inp_reached
   mask_read r = refl
 
-  -- ---- what is known where they are not refused
+  -- ---- what is known if a subfunction is not refused
 
   register_allowed : (i : ℕ) → no_register i ≡ None → i < 16
   register_allowed i e = lt_is i 0x10 (holds (nat_lt i 0x10) BadRegister e)

@@ -1,4 +1,4 @@
--- Functions 0C and 0D: a pixel is written or read in any mode of graphics, and in text neither is.
+-- Functions 0C and 0D: a pixel is written or read in any graphics mode; in text both are refused.
 use Rattle.std.proofs.Common.{◌≡◌, ℕ, ◌+◌, ◌*◌, ◌<◌, refl, ap, ◌∙◌, List, Some, None, Bool, true, false}
 use Rattle.std.specs.Prelude.{nat_lt, not}
 use Rattle.vga_bits.specs.declared.refusal.Refusal.TheVariants.{Outside, WrongKind}
@@ -24,7 +24,7 @@ use Rattle.bios_screen.proofs.Planar.Dots as planar
 use Rattle.bios_screen.proofs.Planar.Reads as planar_reads
 use Rattle.bios_screen.proofs.Packed.Pixels as packed
 
--- ---- the services, where it is known what is done to pixels
+-- ---- the services, given what their plans do to pixels
 
 module _ (c : CardState) (d : BiosData) (h : IsAny c d) (page x y : ℕ) where
   abbrev s : Screen
@@ -33,7 +33,7 @@ module _ (c : CardState) (d : BiosData) (h : IsAny c d) (page x y : ℕ) where
   abbrev p : ℕ
   p = page_meant s page
 
-  -- a pixel that is not refused is there
+  -- a call that is not refused: the mode is graphics, and the pixel exists
   record IsAllowed : Type 0 where
     in_graphics : is_text d.mode ≡ false
     on_page : p < pages_of d

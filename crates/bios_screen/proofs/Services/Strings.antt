@@ -9,7 +9,7 @@ use Rattle.bios_services.specs.declared.call.Service.TheVariants.{WriteString}
 use Rattle.bios_services.specs.Plan.{fold}
 use Rattle.bios_services.specs.Cursor.{move_cursor_plan}
 use Rattle.bios_services.specs.Teletype.{type_plan}
-use Rattle.bios_services.specs.Strings.{string_len, character_at, colouring_at, type_string_plan, string_plan}
+use Rattle.bios_services.specs.Strings.{string_len, character_at, colouring_of_character, type_string_plan, string_plan}
 use Rattle.bios_services.specs.Reasons.{◌or◌, no_page, outside_page, wrong_block}
 use Rattle.bios_services.specs.Refusals.{refusal_in_mode}
 use Rattle.bios_services.specs.Service.{plan_of}
@@ -29,28 +29,28 @@ use Rattle.bios_screen.proofs.Services.Teletypes.{moved}
 
 module _ (fonts : FontSet) (d : BiosData) (p : ℕ) (lp : p < pages_of d) (call : StringCall) (block : List ℕ) (bytes : AreBytes block)
     (colour : call.colour < 256) where
-  colouring_small : (i : ℕ) → (colouring_at call block i).colour < 256
+  colouring_small : (i : ℕ) → (colouring_of_character call block i).colour < 256
   colouring_small i = by_test call.has_attributes
     where
       by_test : (b : Bool) → (if b then slice_index block (2 * i + 1) else call.colour) < 256
       by_test true = bytes (2 * i + 1)
       by_test false = colour
 
-  -- the string on this page
+  -- the call with its page number resolved to page p
   abbrev there : StringCall
   there = record call { page = p }
 
-  -- one character of the string
+  -- the plan that types character i of the string
   abbrev one : ℕ → ℕ → Plan ℕ
-  one i place = type_plan fonts d p place (character_at call block i) (colouring_at call block i)
+  one i place = type_plan fonts d p place (character_at call block i) (colouring_of_character call block i)
 
-  -- n characters from character i on
+  -- n characters of the string are typed, from character i on
   all_typed : (n i place : ℕ) (c : CardState) (s : Screen) → shown c d ≡ Some s → IsCard c → Inside (d.last_row + 1) d.columns place →
       LeadsInside (fold one n i place) c d (type_characters fonts call block p n i (s, place))
   all_typed zero i place c s e z l = record { leads = record { answer = refl; shows = e }; inside = l }
   all_typed (suc n) i place c s e z l =
       let v = character_at call block i in
-      let colouring = colouring_at call block i in
+      let colouring = colouring_of_character call block i in
       let t = is_typed fonts d p lp c s place v colouring z e l (bytes _) (colouring_small i) in
       let after = type_character fonts s p place v colouring in
       let rest = all_typed n (i + 1) after.1 (run card_meaning (one i place) c).0 after.0 t.leads.shows (plan_bounds (one i place) c z) t.inside in

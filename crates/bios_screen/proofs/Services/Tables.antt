@@ -1,4 +1,4 @@
--- Calls for tables: from a state that shows a screen, its palette or some of its entries are replied, and it stays.
+-- Calls for tables: they reply the palette or some DAC entries, and the screen stays the same.
 use Rattle.std.proofs.Common.{◌≡◌, ℕ, zero, suc, ◌+◌, ◌*◌, ◌%◌, ◌<◌, ◌≤◌, refl, sym, ap, ◌∙◌, subst, arith, List, [], ◌∷◌, ◌++◌, Option, Some, None, false, Err}
 use Rattle.std.proofs.lemmas.Bool.Decides.{nat_tests}
 use Rattle.std.specs.Prelude.{if◌then◌else◌, slice_index, take}
@@ -16,7 +16,7 @@ use Rattle.bios_services.specs.declared.call.Call.{Call}
 use Rattle.bios_services.specs.declared.call.Call.TheVariants.{ReadTable}
 use Rattle.bios_services.specs.Plan.{out, inp, gather}
 use Rattle.bios_services.specs.Palette.{register_plan}
-use Rattle.bios_services.specs.Tables.{table_refusal, palette_register, registers_plan, read_palette_plan, read_components_plan, read_entries_plan, table_plan}
+use Rattle.bios_services.specs.Tables.{table_refusal, palette_register, registers_plan, read_palette_and_overscan_plan, read_components_plan, read_entries_plan, table_plan}
 use Rattle.bios_services.specs.Calls.{call_of}
 use Rattle.bios_services.specs.Service.{Answered, answer_with, refuse, table_unless, table_in_mode_plan, call_plan}
 use Rattle.bios_screen.specs.Shown.{palette_in}
@@ -35,14 +35,14 @@ use Rattle.bios_screen.proofs.Services.Palette.{entries_allowed, index_moved, da
 
 -- ---- the palette is read
 
--- sixteen values and then the overscan
+-- the sixteen palette values and then the overscan
 abbrev values_of : List ℕ → List ℕ
 values_of l = take 16 l ++ slice_index l 0x11 ∷ []
 
 abbrev with_byte : ℕ → List ℕ → Plan (List ℕ)
 with_byte x l = Done (x ∷ l)
 
--- the index after n values, from index i on
+-- the index after n values were read, from value i on; j is the index before
 abbrev index_after : ℕ → ℕ → ℕ → ℕ
 index_after zero i j = j
 index_after (suc n) i j = index_after n (i + 1) (0x20 + palette_register i)
@@ -65,9 +65,9 @@ gathered c (suc n) i j h =
     ∙ run_bind card_meaning rest (with_byte x) c1
     ∙ ap (λ (r : CardState × List ℕ). let p : CardState × List ℕ = (r.0, x ∷ r.1) in p) (gathered c n (i + 1) (0x20 + palette_register i) (omega arith))
 
-palette_read : (c : CardState) → IsCard c → run card_meaning (read_palette_plan (crtc_port c.misc)) c
+palette_read : (c : CardState) → IsCard c → run card_meaning (read_palette_and_overscan_plan (crtc_port c.misc)) c
     ≡ (with_attr c c.attr.registers 0x31 false, values_of c.attr.registers)
-unfolding read_palette_plan registers_plan
+unfolding read_palette_and_overscan_plan registers_plan
 palette_read c z =
     expected_runs (registers_plan (crtc_port c.misc)) c
     ∙ gathered c 17 0 c.attr.index (omega arith)
@@ -75,7 +75,7 @@ palette_read c z =
 
 -- ---- entries are read
 
--- the DAC stands before red of an entry
+-- the adapter whose DAC is at red of entry k
 abbrev at_entry : CardState → ℕ → CardState
 at_entry c k = with_dac c (record c.dac { index = k; component = Red })
 
@@ -95,7 +95,7 @@ entry_by : (c : CardState) (n i k : ℕ) → run card_meaning (gather next_byte 
 unfolding reached_by inp_reached
 entry_by c n i k = refl
 
--- n entries from entry k on
+-- reading n entries from entry k on
 entries_by : (c : CardState) (n i k : ℕ) → k + n ≤ 256 → run card_meaning (gather next_byte (3 * n) i) (at_entry c (k % 256))
     ≡ (at_entry c ((k + n) % 256), entries_from (palette_in c) k n)
 entries_by c zero i k l = let z : k ≡ k + 0 = omega arith in ap (λ j. let p : CardState × List ℕ = (at_entry c (j % 256), []) in p) z
@@ -139,8 +139,8 @@ unfolding table_plan
 is_table ReadPalette c d h z e =
     let done : List ℕ → Plan Table = λ values. Done (PaletteTable values) in
     let runs =
-    run_bind card_meaning (read_palette_plan d.crtc_address) done c
-    ∙ ap (λ p. let x = run card_meaning (read_palette_plan p) c in run card_meaning (done x.1) x.0) h.port
+    run_bind card_meaning (read_palette_and_overscan_plan d.crtc_address) done c
+    ∙ ap (λ p. let x = run card_meaning (read_palette_and_overscan_plan p) c in run card_meaning (done x.1) x.0) h.port
     ∙ ap (λ (x : CardState × List ℕ). run card_meaning (done x.1) x.0) (palette_read c z) in
     record { answer = ap (λ x. x.1) runs; shows = ap (λ x. shown x.0 d) runs ∙ index_moved c d h 0x11 (omega arith) }
 is_table (ReadEntries first count) c d h z e =
@@ -198,7 +198,7 @@ tables_read service fonts r block c d s z old e =
     let x = any_is c d s old in
     subst (IsRead service fonts r block c d) x.screen (call_read service fonts r block c d x.is z (old ∙ ap Some (sym x.screen)) e)
 
--- if memory is refused, nothing has changed
+-- after an allocation failure nothing has changed
 pub memory_wanted : (fonts : FontSet) (r : Regs) (block : List ℕ) (c y : CardState) (d after : BiosData) (s : Screen) → shown c d ≡ Some s →
     WantsMemory fonts r block c d y after → IsLeft c s y after
 memory_wanted fonts r block c y d after s old h = record { shows = ap (λ x. shown x after) h.0 ∙ ap (shown c) h.1 ∙ old; beam = ap (λ x. x.crtc.beam) h.0 }

@@ -1,4 +1,4 @@
--- Typing at the cursor of the active page: from a state that shows a screen to one that shows the next.
+-- Typing at the cursor of the active page, from one screen to the next.
 use Rattle.std.proofs.Common.{◌≡◌, ℕ, ◌+◌, ◌<◌, refl, ap, ◌∙◌, List, Some, Bool, true, false}
 use Rattle.std.specs.Prelude.{◌==◌, if◌then◌else◌}
 use Rattle.bios_screen.proofs.Prelude.{IsCard, card_meaning, CardState, BiosData, FontSet, Regs, pages_of, Plan, run, Done, ◌>>=◌, Screen, shown, IsServed}
@@ -18,7 +18,7 @@ use Rattle.bios_screen.proofs.Services.Cursors.{then_data, data_runs, moved_show
 use Rattle.bios_screen.proofs.Base.TypedPlaces.{Inside, inside_word}
 use Rattle.bios_screen.proofs.Services.Typing.{is_typed}
 
--- the cursor goes to a place of the page
+-- the cursor moves to a position of the page
 pub moved : (c : CardState) (d : BiosData) (s : Screen) (p place : ℕ) → shown c d ≡ Some s → IsBda d → p < pages_of d →
     Inside (d.last_row + 1) d.columns place → (let x = run card_meaning (move_cursor_plan d p place) c in shown x.0 x.1) ≡ Some (placed_on s p place)
 moved c d s p place e bda lp i =

@@ -1,4 +1,5 @@
--- Typing a character in any mode: from a state that shows a screen to one that shows the next, plan after plan.
+-- Typing a character in any mode: plan by plan, from a state that shows a screen to one that shows
+-- the next.
 use Rattle.std.proofs.Common.{◌≡◌, ℕ, ◌+◌, ◌-◌, ◌*◌, ◌<◌, refl, sym, ap, ◌∙◌, subst, arith, Some, Bool, true, false}
 use Rattle.std.specs.Prelude.{◌==◌, nat_lt, if◌then◌else◌}
 use Rattle.bios_screen.proofs.Prelude.{IsCard, card_meaning, CardState, BiosData, FontSet, Colouring, pages_of, Plan, run, Done, get, ◌>>=◌, ◌>>◌, Screen}
@@ -7,7 +8,7 @@ use Rattle.bios_services.specs.Cells.{cell_address}
 use Rattle.bios_services.specs.Cursor.{row_of as text_row_of, column_of, cell_number}
 use Rattle.bios_services.specs.Drawing.{character_plan, characters_plan}
 use Rattle.bios_services.specs.Scroll.{page_up_plan}
-use Rattle.bios_services.specs.Teletype.{line_start, line_feed_fill, line_feed_plan, cursor_advance_plan, show_plan, type_plan}
+use Rattle.bios_services.specs.Teletype.{line_start, line_feed_fill, line_feed_plan, next_position_plan, show_plan, type_plan}
 use Rattle.bios_screen.specs.Screen.{page_start}
 use Rattle.bios_screen.specs.Step.{cell_on, last_colour, line_feed, cursor_advance, put_characters, put_character, type_character}
 use Rattle.bios_screen.proofs.Base.Plans.{run_bind, then_runs, then_answers}
@@ -24,23 +25,23 @@ use Rattle.bios_screen.proofs.Services.Windows.{page_raised}
 
 -- ---- plans that lead to a screen and a position
 
--- a plan leads to a state that shows a screen, and answers a place on it
+-- a plan leads to a state that shows a screen, and answers a position
 pub record Leads (p : Plan ℕ) (c : CardState) (d : BiosData) (to : Screen × ℕ) : Type 0 where
   pub answer : (run card_meaning p c).1 ≡ to.1
   pub shows : shown (run card_meaning p c).0 d ≡ Some to.0
 
--- and that is within the page
+-- the same, and the position is on the page
 pub record LeadsInside (p : Plan ℕ) (c : CardState) (d : BiosData) (to : Screen × ℕ) : Type 0 where
   pub leads : Leads p c d to
   pub inside : Inside (d.last_row + 1) d.columns to.1
 
--- one of two plans leads to one of two screens
+-- if two plans lead to their screens, the chosen plan leads to the chosen screen
 leads_if : (b : Bool) (p q : Plan ℕ) (c : CardState) (d : BiosData) (x y : Screen × ℕ) → Leads p c d x → Leads q c d y →
     Leads (if b then p else q) c d (if b then x else y)
 leads_if true p q c d x y f g = f
 leads_if false p q c d x y f g = g
 
--- one plan, and then another that knows the place
+-- a plan, and then one that uses the position it answers
 pub leads_on : (p : Plan ℕ) (f : ℕ → Plan ℕ) (c : CardState) (d : BiosData) (x y : Screen × ℕ) → Leads p c d x → Leads (f x.1) (run card_meaning p c).0 d y →
     Leads (p >>= f) c d y
 leads_on p f c d x y first second =
@@ -51,7 +52,7 @@ leads_on p f c d x y first second =
       shows = ap (λ r. shown r.0 d) bound ∙ ap (λ n. shown (run card_meaning (f n) c1).0 d) first.answer ∙ second.shows;
     }
 
--- a plan without an answer, and then another
+-- a plan without an answer, and then another plan
 pub leads_after : (p : Plan (Unit {0})) (q : Plan ℕ) (c : CardState) (d : BiosData) (y : Screen × ℕ) → Leads q (run card_meaning p c).0 d y →
     Leads (p >> q) c d y
 leads_after p q c d y second = record {
@@ -61,12 +62,12 @@ leads_after p q c d y second = record {
 
 -- ---- what typing depends on
 
--- a page goes up by a row, which is filled as a line feed does
+-- the page goes up by a row, which is filled as for a line feed; the position stays
 abbrev pub rise_plan : BiosData → ℕ → ℕ → Plan ℕ
 rise_plan d p place = line_feed_fill d p place >>= λ colour. (page_up_plan d p colour >> Done place)
 
 module _ (fonts : FontSet) (d : BiosData) (p : ℕ) (lp : p < pages_of d) where
-  -- a character at a place is a run of one
+  -- a character at a position is a run of one
   put : (c : CardState) (s : Screen) (place v : ℕ) (colouring : Colouring) → IsCard c → shown c d ≡ Some s → Inside (d.last_row + 1) d.columns place →
       v < 256 → colouring.colour < 256
       → shown (run card_meaning (character_plan fonts d p (cell_number d place) v colouring) c).0 d ≡ Some (put_character fonts s p place v colouring)
@@ -81,7 +82,7 @@ module _ (fonts : FontSet) (d : BiosData) (p : ℕ) (lp : p < pages_of d) where
       ∙ characters_shown fonts c d s p q 1 v colouring e z lp (omega arith) lv la
       ∙ ap (λ n. Some (put_characters fonts s p (n * text_row_of place + column_of place) 1 v colouring)) (sym (cut_is c d s e).columns)
 
-  -- the colour of a line feed's row: in text the attribute in the last row, which is read, and in graphics 0
+  -- the fill of a line feed's row: the attribute read from the last row in text, 0 in graphics
   record IsFilled (c : CardState) (place : ℕ) (s : Screen) : Type 0 where
     leads : Leads (line_feed_fill d p place) c d (s, last_colour s p place)
     small : last_colour s p place < 256
@@ -144,8 +145,8 @@ module _ (fonts : FontSet) (d : BiosData) (p : ℕ) (lp : p < pages_of d) where
       ) (record { answer = refl; shows = e }) (rises c s place z e lc))
 
   advances : (c : CardState) (s : Screen) (place : ℕ) → IsCard c → shown c d ≡ Some s → column_of place < d.columns →
-      Leads (cursor_advance_plan d p place) c d (cursor_advance s p place)
-  unfolding cursor_advance_plan
+      Leads (next_position_plan d p place) c d (cursor_advance s p place)
+  unfolding next_position_plan
   advances c s place z e lc =
       let below = feeds c s place z e lc in
       let start : ℕ → Plan ℕ = λ x. Done (line_start x) in
@@ -164,11 +165,11 @@ module _ (fonts : FontSet) (d : BiosData) (p : ℕ) (lp : p < pages_of d) where
     unfolding show_plan
     shows =
         let write = character_plan fonts d p (cell_number d place) v colouring in
-        leads_after write (cursor_advance_plan d p place) c d (cursor_advance (put_character fonts s p place v colouring) p place)
+        leads_after write (next_position_plan d p place) c d (cursor_advance (put_character fonts s p place v colouring) p place)
         (advances (run card_meaning write c).0 (put_character fonts s p place v colouring) place (plan_bounds write c z)
         (put c s place v colouring z e i lv la) i.column)
 
-    -- what is typed, and where the cursor is then
+    -- the screen after the character, and the position after it
     leads : Leads (type_plan fonts d p place v colouring) c d (type_character fonts s p place v colouring)
     unfolding type_plan type_character
     leads = by_tests (v == 0x07) (v == 0x08) (v == 0x0A) (v == 0x0D)

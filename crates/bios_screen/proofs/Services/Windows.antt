@@ -1,4 +1,4 @@
--- Functions 06 and 07, and a page that goes up by a row, in any mode.
+-- Functions 06 and 07, and moving a page up by a row, in any mode.
 use Rattle.std.proofs.Common.{◌≡◌, ℕ, ◌+◌, ◌<◌, ◌≤◌, refl, sym, ap, ◌∙◌, arith, Option, Some, None}
 use Rattle.bios_screen.proofs.Prelude.{IsCard, card_meaning, CardState, BiosData, bytes_320_by_200, Direction, Up, Down, Regs, Window, pages_of, Plan, run}
 use Rattle.bios_screen.proofs.Prelude.{Done, ◌>>◌, Outcome, Screen, shown}
@@ -59,7 +59,7 @@ module _ (c : CardState) (d : BiosData) (s : Screen) (z : IsCard c) (e : shown c
             window_shown d.page cut.active w on direction n asked.fill (some_lines w asked.lines on.some) (few_lines w asked.lines) lc
             ∙ ap (λ p. Some (scroll_window s p w direction n asked.fill)) (sym cut.page)
 
-    -- the service's answer, the screen after it, and the beam
+    -- the service's answer and the screen after it; the beam stays where it is
     pub record IsPerformed (r : Regs) : Type 0 where
       pub answer : (run card_meaning (scroll_plan d asked direction >> (let x : Plan Outcome = Done (r, d) in x)) c).1.0 ≡ r
       pub shows : (let x = run card_meaning (scroll_plan d asked direction >> (let y : Plan Outcome = Done (r, d) in y)) c in shown x.0 x.1.1)

@@ -1,4 +1,4 @@
--- What every screen that is shown says, in text and in graphics.
+-- What holds of every shown screen, in text and in graphics.
 use Rattle.std.proofs.Common.{◌≡◌, ℕ, ◌+◌, ◌<◌, ◌≤◌, refl, sym, ap, subst, ◌∙◌, arith, Bool, true, false, List, [], Some}
 use Rattle.std.specs.Prelude.{◌==◌, ◌&&◌, ◌*◌, ◌/◌, if◌then◌else◌, slice_index, bit_and}
 use Rattle.std.specs.Str.{bytes_eq}
@@ -16,11 +16,11 @@ use Rattle.bios_screen.proofs.Modes.PixelModes.{page_begins}
 use Rattle.bios_screen.proofs.Modes.AnyModes.{says_is}
 use Rattle.bios_screen.proofs.Shows.Pixels.{screen_is_pixels, pixels_of_shown}
 
--- the data with other cursors, or another page
+-- the data with another cursor type, other cursor positions, another page and its start
 abbrev pub with_cursors : BiosData → ℕ → List ℕ → ℕ → ℕ → BiosData
 with_cursors d type places page start = record d { cursor_type = type; cursor_places = places; page = page; start = start }
 
--- all that a screen says, whatever its mode; contents and glyphs are of the memory alone
+-- what is known of a shown screen in any mode; contents and glyphs depend on memory alone
 pub record IsAny (c : CardState) (d : BiosData) : Type 0 where
   pub row : ModeRow
   pub mode : row_at d.mode d.height ≡ Some row
@@ -42,7 +42,8 @@ pub record IsAny (c : CardState) (d : BiosData) : Type 0 where
 abbrev pub any_screen : (c : CardState) (d : BiosData) → IsAny c d → (y : CardState) → Screen
 any_screen c d h y = screen_by h.row y d h.distance (h.contents y.host.memory) (h.glyphs y.host.memory)
 
--- the test in another state, where registers that memory looks at and those of the CRT controller are the same
+-- the test holds in another state too, if its memory-cycle and CRT controller registers are the
+-- same and its attribute controller passes
 pub same_tests : (row : ModeRow) (c y : CardState) (d : BiosData) → setting y ≡ setting c → y.crtc.registers ≡ c.crtc.registers →
     shows_attribute row y.attr ≡ true → AllTests row c d → AllTests row y d
 same_tests row c y d s e a t = record {
@@ -52,7 +53,7 @@ same_tests row c y d s e a t = record {
   attribute = a;
 }
 
--- other registers that are shown, where those of the CRT controller and those that memory looks at stay
+-- such a state shows the screen of its own memory and colours
 pub any_shown : (c y : CardState) (d : BiosData) (h : IsAny c d) → setting y ≡ setting c → y.crtc.registers ≡ c.crtc.registers →
     shows_attribute h.row y.attr ≡ true → shown y d ≡ Some (any_screen c d h y)
 any_shown c y d h s e a = shown_by_row y d h.row h.mode (same_tests h.row c y d s e a h.tests)
@@ -61,14 +62,14 @@ any_shown c y d h s e a = shown_by_row y d h.row h.mode (same_tests h.row c y d 
 pub still_any : (c : CardState) (d : BiosData) (h : IsAny c d) → shown c d ≡ Some (any_screen c d h c)
 still_any c d h = any_shown c c d h refl refl h.tests.attribute
 
--- mode control is the row's, except for blinking
+-- mode control is the row's, except for the blink bit
 pub any_control : (c : CardState) (d : BiosData) (h : IsAny c d) → bit_and (slice_index c.attr.registers 0x10) 0xF7
     ≡ bit_and (slice_index h.row.attribute 0x10) 0xF7
 any_control c d h =
     let a = both_true (is_palette_shown c.attr) _ h.tests.attribute in
     same (both_true (bit_and (slice_index c.attr.registers 0x10) 0xF7 == bit_and (slice_index h.row.attribute 0x10) 0xF7) _ a.1).0
 
--- ---- from a screen that is shown
+-- ---- what follows from a shown screen
 
 pub record ShowsAny (c : CardState) (d : BiosData) (s : Screen) : Type 0 where
   pub is : IsAny c d
@@ -132,7 +133,7 @@ any_is c d s h = by_kind (is_text d.mode) refl
           screen = x.screen;
         }
 
--- the layout of a page, by the data
+-- the layout of a page is the data's, and the page shown is one of the mode's
 pub record IsCut (d : BiosData) (s : Screen) : Type 0 where
   pub columns : s.layout.columns ≡ d.columns
   pub rows : s.layout.rows ≡ d.last_row + 1

@@ -1,4 +1,4 @@
--- Services leave the mode and the layout of a plain screen.
+-- Services keep the mode and the layout of a plain screen.
 use Rattle.std.proofs.Common.{◌≡◌, ℕ, zero, suc, ◌+◌, ◌-◌, refl, ◌∙◌, Bool, true, false, List, Option, Some, None}
 use Rattle.std.specs.Prelude.{◌==◌, nat_lt, if◌then◌else◌}
 use Rattle.bios_screen.proofs.Prelude.{Refusal, FontSet, Colouring, Direction, Up, Down, Window, Screen, page_meant}
@@ -12,7 +12,7 @@ use Rattle.bios_services.specs.declared.call.Service.TheVariants.{WritePixel, Re
 use Rattle.bios_services.specs.declared.scroll.Scroll.{Scroll}
 use Rattle.bios_services.specs.Scroll.{window_among}
 use Rattle.bios_services.specs.Teletype.{line_start, dots_in}
-use Rattle.bios_services.specs.Strings.{character_at, colouring_at}
+use Rattle.bios_services.specs.Strings.{character_at, colouring_of_character}
 use Rattle.bios_services.specs.Cursor.{row_of, column_of}
 use Rattle.bios_screen.specs.Screen.{cursor_position}
 use Rattle.bios_screen.specs.Colours.{with_colours}
@@ -66,8 +66,8 @@ string_cut : (fonts : FontSet) (call : StringCall) (block : List ℕ) (page n i 
     IsCutAs at.0 (type_characters fonts call block page n i at).0
 string_cut fonts call block page zero i at = uncut at.0
 string_cut fonts call block page (suc n) i at =
-    let after = type_character fonts at.0 page at.1 (character_at call block i) (colouring_at call block i) in
-    cut_on (typed_cut fonts at.0 page at.1 (character_at call block i) (colouring_at call block i)) (string_cut fonts call block page n (i + 1) after)
+    let after = type_character fonts at.0 page at.1 (character_at call block i) (colouring_of_character call block i) in
+    cut_on (typed_cut fonts at.0 page at.1 (character_at call block i) (colouring_of_character call block i)) (string_cut fonts call block page n (i + 1) after)
 
 coloured_cut : (s : Screen) (service : ColourService) (block : List ℕ) → IsCutAs s (with_colours s service block)
 unfolding with_colours
@@ -87,7 +87,7 @@ scrolled_cut : (s : Screen) (asked : Scroll) (direction : Direction) (w : Option
 scrolled_cut s asked direction None = uncut s
 scrolled_cut s asked direction (Some w) = record { mode = refl; layout = refl }
 
--- a service that sets no mode leaves both
+-- a service, which sets no mode, keeps both
 pub next_cut : (fonts : FontSet) (s : Screen) (service : Service) (block : List ℕ) → IsCutAs s (next fonts s service block)
 unfolding next
 next_cut fonts s (SetCursorType cursor_type) block = record { mode = refl; layout = refl }

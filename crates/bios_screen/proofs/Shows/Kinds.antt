@@ -1,4 +1,4 @@
--- A screen is of text or of pixels, and one of pixels has sixteen colours or 256.
+-- A screen is text or pixels; pixels have sixteen colours or 256.
 use Rattle.std.proofs.Common.{◌≡◌, refl, subst, Bool, true, false, Some}
 use Rattle.bios_screen.proofs.Prelude.{CardState, ModeRow, bytes_320_by_200, BiosData, is_text, Screen, pixel_screen, shown}
 use Rattle.bios_screen.proofs.Shows.Screens.{AllTests, data_is, IsShown, screen_shown, shown_is}
@@ -9,7 +9,7 @@ use Rattle.bios_screen.proofs.Modes.AnyModes.Colours.{Sixteen, Many}
 use Rattle.bios_screen.proofs.Dots.PlanarDots.{IsPlanar}
 use Rattle.bios_screen.proofs.Dots.PackedDots.{IsPacked}
 
--- what holds of every screen of sixteen colours, and of that of 256, holds of every screen of pixels that is shown
+-- every shown screen of pixels has a property, if those of sixteen colours and that of 256 have it
 pub by_colours : (c : CardState) (d : BiosData) (Q : Screen → Type 0) → ((row : ModeRow) → IsPlanar row c d → Q (pixel_screen row c d)) →
     (IsPacked c d → Q (pixel_screen bytes_320_by_200 c d)) → (s : Screen) → is_text d.mode ≡ false → shown c d ≡ Some s → Q s
 by_colours c d Q planar packed s t e =
@@ -29,7 +29,7 @@ by_colours c d Q planar packed s t e =
       high = p.height;
     })) is tests
 
--- what holds of every screen of text that is shown, and of every one of pixels, holds of every screen that is shown
+-- every shown screen has a property, if those of text and those of pixels have it
 pub by_contents : (c : CardState) (d : BiosData) (Q : Screen → Type 0) → ((h : IsShown c d) → Q (screen_shown c d h)) →
     ((h : IsPixels c d) → Q (pixels_shown c d h)) → (s : Screen) → shown c d ≡ Some s → Q s
 by_contents c d Q text pixels s e = by_kind (is_text d.mode) refl
@@ -38,7 +38,7 @@ by_contents c d Q text pixels s e = by_kind (is_text d.mode) refl
     by_kind true t = let x = shown_is c d s t e in subst Q x.screen (text x.is)
     by_kind false t = let x = pixels_of_shown c d s t e in subst Q x.screen (pixels x.is)
 
--- in text, in sixteen colours and in 256
+-- the same by three cases: text, sixteen colours and 256 colours
 pub by_modes : (c : CardState) (d : BiosData) (Q : Screen → Type 0) → ((h : IsShown c d) → Q (screen_shown c d h))
     → ((row : ModeRow) → IsPlanar row c d → Q (pixel_screen row c d)) → (IsPacked c d → Q (pixel_screen bytes_320_by_200 c d))
     → (s : Screen) → shown c d ≡ Some s → Q s

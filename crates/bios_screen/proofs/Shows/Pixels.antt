@@ -1,11 +1,11 @@
--- What a screen of pixels that is shown says of registers and data.
+-- What a shown screen of pixels implies for registers and data.
 use Rattle.std.proofs.Common.{◌≡◌, sym, ap, ◌∙◌, false, Some}
 use Rattle.std.specs.Prelude.{if◌then◌else◌}
 use Rattle.bios_screen.proofs.Prelude.{CardState, ModeRow, row_at, BiosData, is_text, Screen, pixel_screen, shown}
 use Rattle.bios_screen.specs.Shown.{text_screen, screen_of}
 use Rattle.bios_screen.proofs.Shows.Screens.{HasData, data_is, AllTests, row_shown, shown_by_row}
 
--- all that a screen of pixels says
+-- what is known when a screen of pixels is shown
 pub record IsPixels (c : CardState) (d : BiosData) : Type 0 where
   pub row : ModeRow
   pub mode : row_at d.mode d.height ≡ Some row
@@ -20,7 +20,7 @@ pub record ShowsPixels (c : CardState) (d : BiosData) (s : Screen) : Type 0 wher
   pub is : IsPixels c d
   pub screen : pixels_shown c d is ≡ s
 
--- in graphics the screen of the mode is one of pixels
+-- in graphics the screen of the mode's kind is the screen of pixels
 pub screen_is_pixels : (row : ModeRow) (c : CardState) (d : BiosData) → is_text d.mode ≡ false → screen_of row c d ≡ pixel_screen row c d
 screen_is_pixels row c d t = ap (λ b. let x : Screen = (if b then text_screen row c d else pixel_screen row c d) in x) t
 
@@ -32,7 +32,7 @@ pixels_of_shown c d s t h =
       screen = sym (screen_is_pixels x.row c d t) ∙ x.screen;
     }
 
--- and back
+-- conversely, if the tests hold in graphics, the screen of pixels is shown
 pub pixels_shown_of : (c : CardState) (d : BiosData) (row : ModeRow) → row_at d.mode d.height ≡ Some row → is_text d.mode ≡ false → AllTests row c d →
     shown c d ≡ Some (pixel_screen row c d)
 pixels_shown_of c d row e t tests = shown_by_row c d row e tests ∙ ap (λ (x : Screen). Some x) (screen_is_pixels row c d t)

@@ -1,4 +1,4 @@
--- What a reading has found so far, and lists by their elements.
+-- What a reading has found so far, and lists given by their elements.
 use Rattle.std.proofs.Common.{◌≡◌, ℕ, zero, suc, ◌+◌, ◌*◌, ◌/◌, ◌%◌, ◌<◌, ◌≤◌, ⊎_elim, refl, sym, ap, subst, ◌∙◌, arith, List, [], ◌∷◌, ◌++◌, length}
 use Rattle.std.proofs.Common.{append_assoc, get_or, Bool, true, false, Some, None, IsTrue}
 use Rattle.std.specs.Prelude.{slice_index, slice_set, bit_and, nat_lt, ◌&&◌, if◌then◌else◌}
@@ -18,7 +18,7 @@ use Rattle.bios_screen.proofs.Modes.AnyModes.{text_row_is, says_is}
 use Rattle.bios_screen.proofs.Shows.Screens.{data_is, all_tests_of, tests_of}
 use Rattle.bios_screen.proofs.Modes.PixelModes.{pixels_of}
 
--- a listing has one element more
+-- a listing that is one element longer
 listing_more : {Y : Type 0} (f : ℕ → Y) (i n : ℕ) → listing f i (n + 1) ≡ listing f i n ++ f (i + n) ∷ []
 listing_more f i zero = let z : i ≡ i + 0 = omega arith in ap (λ k. f k ∷ []) z
 listing_more f i (suc n) =
@@ -54,7 +54,7 @@ joined_length f n (suc m) h =
     let z : n * m + n ≡ n * suc m = omega arith in
     length-append (join f m) (f m) ∙ ap (λ k. k + length (f m)) (joined_length f n m (λ q l. h q (omega arith))) ∙ ap (λ k. n * m + k) (h m (omega arith)) ∙ z
 
--- pixel k of page p, where each page has n of them
+-- pixel k of page p, in the joined list; each page has n pixels
 joined_at : (f : ℕ → List ℕ) (n pages p k : ℕ) → ((q : ℕ) → q < pages → length (f q) ≡ n) → p < pages → k < n →
     slice_index (join f pages) (n * p + k) ≡ slice_index (f p) k
 unfolding join
@@ -78,7 +78,7 @@ cut_joined f n pages size =
     (λ p lp. same_from_0 (slice_index (f p)) (λ k. slice_index (join f pages) (n * p + k)) n (λ k lk. joined_at f n pages p k size lp lk)
     ∙ sym (spelled (f p) n (size p lp)))
 
--- and back: pixel k of page p is that of the list
+-- conversely, pixel k of page p after the list is cut into pages
 pub cut_at : (pixels : List ℕ) (n pages p k : ℕ) → p < pages → k < n → slice_index (get_or (cut_pages pixels n pages) p []) k ≡ slice_index pixels (n * p + k)
 unfolding cut_pages
 cut_at pixels n pages p k lp lk =
@@ -104,7 +104,7 @@ pages_length : (mode : ℕ) (m : Four (List ℕ)) (size n pages : ℕ) → lengt
 unfolding pixels_in
 pages_length mode m size n pages = joined_length (λ p. pixels_in mode m (size * p) n) n pages (λ q l. length_listing (pixel_in mode m (size * q)) 0 n)
 
--- the pages are those of the memory
+-- the joined pixels, cut into pages again, are the pages of the memory
 pub pages_are : (mode : ℕ) (m : Four (List ℕ)) (size n pages : ℕ) → cut_pages (join (λ p. pixels_in mode m (size * p) n) pages) n pages
     ≡ pixel_pages mode m size n pages
 unfolding pixels_in pixel_pages
@@ -123,12 +123,12 @@ page_pixel_is mode l cells pixels p k t lp lk =
     ap (λ b. let x : Contents = (if b then Cells cells else Pixels (cut_pages pixels (pixel_count l) l.pages)) in page_pixel x p k) t
     ∙ ap (λ (n : ℕ). Some n) (cut_at pixels (pixel_count l) l.pages p k lp lk)
 
--- a value that is there if three tests hold
+-- a conditional whose three tests hold has its first value
 there_if : {Y : Type 0} (a b g : Bool) (x y : Y) → a ≡ true → b ≡ true → g ≡ true → (if a && (b && g) then x else y) ≡ x
 there_if a b g x y ea eb eg =
     ap (λ t. if t && (b && g) then x else y) ea ∙ ap (λ t. if t && g then x else y) eb ∙ ap (λ t. if t then x else y) eg
 
--- a cell of a page, if there is one
+-- the cell at a row and a column of a page, if all three are in range
 pub cell_there : (mode : ℕ) (l : Layout) (cells : List Cell) (pixels : List ℕ) (page row column : ℕ) (x : Cell) → is_text mode ≡ true → page < l.pages →
     row < l.rows → column < l.columns → l.distance * page + (l.columns * row + column) < length cells →
     x ≡ get_or cells (l.distance * page + (l.columns * row + column)) x
@@ -141,11 +141,11 @@ cell_there mode l cells pixels page row column x t lp lr lc within e =
     there_if (nat_lt page l.pages) (nat_lt row l.rows) (nat_lt column l.columns) q None (lt_test page l.pages lp) (lt_test row l.rows lr)
     (lt_test column l.columns lc) ∙ text_cell_is mode l cells pixels k t)
 
--- a pixel's number is below the length of the list
+-- the number of a pixel is below n
 abbrev pub pixels_within : Layout → ℕ → ℕ → ℕ → ℕ → Type 0
 pixels_within l page x y n = pixel_count l * page + (8 * l.columns * y + x) < n
 
--- a pixel of a page, if there is one
+-- the pixel at column x of line y of a page, if all three are in range
 pub pixel_there : (mode : ℕ) (l : Layout) (cells : List Cell) (pixels : List ℕ) (page x y n : ℕ) → is_text mode ≡ false → page < l.pages → x < 8 * l.columns →
     y < l.height * l.rows → pixels_within l page x y (length pixels) → n ≡ get_or pixels (pixel_count l * page + (8 * l.columns * y + x)) n
     → Some n ≡ (if nat_lt page l.pages && (nat_lt x (8 * l.columns) && nat_lt y (l.height * l.rows))
@@ -187,7 +187,7 @@ text_laid_out row c d e t h mode l n m em ec er ed ep en =
     let all : l.distance * l.pages ≡ text.half * row.pages = ap (λ k. k * l.pages) (ed ∙ half) ∙ ap (λ k. text.half * k) ep in
     record { page = λ _. omega arith; cells = λ _. omega arith; pixels = λ f. is_both (is_text mode) (ap is_text em ∙ t) f }
 
--- the numbers of a mode of graphics fit its memory
+-- the numbers of a graphics mode are small, and its pages fit its memory
 pub record PixelNumbers (row : ModeRow) (mode columns height size n : ℕ) : Type 0 where
   pub columns_few : columns ≤ 80
   pub height_few : height ≤ 16
@@ -218,7 +218,7 @@ pixels_laid_out d f mode l n m size count pages pixels t em ec ep el e = record 
   pixels = λ _. el ∙ ap (λ (x : List ℕ). length x) e ∙ pages_length mode f size count pages ∙ ap (λ i. i * pages) ec ∙ ap (λ i. pixel_count l * i) ep;
 }
 
--- what is read in graphics is the screen of pixels
+-- the screen read in graphics is the screen of pixels
 pub pixel_screen_is : (row : ModeRow) (c : CardState) (d : BiosData) (cells : List Cell) (pixels : List ℕ) (s : Screen) → is_text d.mode ≡ false →
     pixels ≡ join (λ p. pixels_in d.mode c.host.memory (d.size * p) (page_pixels d)) row.pages →
     s ≡ screen_by row c d 0 (contents_of d.mode (layout_of row d 0) cells pixels) [] → s ≡ pixel_screen row c d
@@ -229,7 +229,7 @@ pixel_screen_is row c d cells pixels s t e h =
     ∙ ap (λ l. screen_by row c d 0 (Pixels (cut_pages l n row.pages)) []) e
     ∙ ap (λ l. screen_by row c d 0 (Pixels l) []) (pages_are d.mode c.host.memory d.size n row.pages)
 
--- the registers that show the active page are those of the mode except for six
+-- a mode's CRT controller registers with six set: cursor type, start address, cursor location
 abbrev pub set_registers : List ℕ → ℕ → ℕ → ℕ → List ℕ
 set_registers l type start location =
     slice_set (slice_set (slice_set (slice_set (slice_set (slice_set l 0x0A (bit_and (type / 256) 0x3F)) 0x0B (bit_and (type % 256) 0x7F)) 0x0C (start / 256))

@@ -1,4 +1,4 @@
--- What a shown screen says of registers and data, and what has to be known for a screen to be shown.
+-- What a shown screen implies for registers and data, and what makes a screen shown.
 use Rattle.std.proofs.Common.{◌≡◌, ℕ, ◌+◌, ◌*◌, ◌<◌, refl, sym, ap, ◌∙◌, subst, Bool, true, false, List, Option, Some, None}
 use Rattle.std.specs.Prelude.{slice_index, bit_and, ◌==◌, ◌&&◌, if◌then◌else◌}
 use Rattle.std.specs.Str.{bytes_eq}
@@ -18,7 +18,7 @@ use Rattle.bios_screen.proofs.Modes.TextModes.{Display, text_setting, text_seque
 use Rattle.bios_screen.proofs.Modes.TextModes.{control_by}
 use Rattle.bios_screen.proofs.Modes.AnyModes.{text_row_is}
 
--- the data as numbers
+-- the data are those of the row, with one of its pages
 pub record HasData (row : ModeRow) (d : BiosData) : Type 0 where
   pub columns : d.columns ≡ row.columns
   pub size : d.size ≡ row.size
@@ -28,7 +28,7 @@ pub record HasData (row : ModeRow) (d : BiosData) : Type 0 where
   pub start : d.start ≡ d.size * d.page
   pub page : d.page < row.pages
 
--- how many pages a mode has by its row, and the page that a call means there
+-- a mode has as many pages as its row, and a call's page number means one of these
 pub pages_are : (row : ModeRow) (d : BiosData) → row_at d.mode d.height ≡ Some row → pages_of d ≡ row.pages
 pages_are row d e = ap pages_in e
 
@@ -51,7 +51,7 @@ data_is row d h =
     let i = both_true (d.start == d.size * d.page) _ g.1 in
     record { columns = same a.0; size = same b.0; last_row = same e.0; height = same f.0; port = same g.0; start = same i.0; page = lt_is d.page row.pages i.1 }
 
--- the test's parts
+-- the parts of the test
 pub record AllTests (row : ModeRow) (c : CardState) (d : BiosData) : Type 0 where
   pub memory : shows_memory row c ≡ true
   pub data_test : shows_data row d ≡ true
@@ -76,7 +76,7 @@ shows_by row c d t =
     ∙ ap (λ b. b && shows_attribute row c.attr) ((bytes_eq-Decides c.crtc.registers wanted).1 t.crtc)
     ∙ t.attribute
 
--- the row of a screen that is shown
+-- the row of a shown screen, whose tests hold
 pub record ShowsRow (c : CardState) (d : BiosData) (s : Screen) : Type 0 where
   pub row : ModeRow
   pub mode : row_at d.mode d.height ≡ Some row
@@ -92,12 +92,12 @@ row_shown c d s h = by_row (row_at d.mode d.height) refl h
         let parts = if_some (shows row c d) (screen_of row c d) s g in
         record { row = row; mode = e; tests = all_tests_of row c d parts.0; screen = parts.1 }
 
--- and back
+-- conversely, if a row's tests hold, its screen is shown
 pub shown_by_row : (c : CardState) (d : BiosData) (row : ModeRow) → row_at d.mode d.height ≡ Some row → AllTests row c d → shown c d ≡ Some (screen_of row c d)
 shown_by_row c d row e t =
     ap (λ x. shown_by x c d) e ∙ ap (λ b. if b then Some (screen_of row c d) else None) (shows_by row c d t)
 
--- the test gives the registers that memory cycles depend on
+-- the test determines the registers that memory cycles depend on
 pub setting_by : (row : ModeRow) (c : CardState) → shows_memory row c ≡ true → setting c ≡ record { misc = row.misc; seq = row.sequencer; gfx = row.graphics }
 setting_by row c h =
     let a = both_true (c.misc == row.misc) (bytes_eq c.host.seq row.sequencer && bytes_eq c.host.gfx row.graphics) h in
@@ -116,7 +116,7 @@ text_crtc_is : (row : ModeRow) (d : BiosData) (l : List ℕ) → is_text d.mode 
 text_crtc_is row d l t = ap (λ b. crtc_registers row d.cursor_type (start_address d d.page) (if b then cursor_address d d.page
     else 256 * slice_index l 0x0E + slice_index l 0x0F)) t
 
--- the test's parts in text
+-- the parts of the test in text
 pub record Tests (row : ModeRow) (c : CardState) (d : BiosData) : Type 0 where
   pub is_text : is_text d.mode ≡ true
   pub memory : shows_memory row c ≡ true
@@ -140,7 +140,7 @@ all_of row c d t = record {
 pub test_of : (row : ModeRow) (c : CardState) (d : BiosData) → Tests row c d → shows row c d ≡ true
 test_of row c d t = shows_by row c d (all_of row c d t)
 
--- in text that is a literal
+-- in text these registers are those of the display
 setting_is : (disp : Display) (mode : ℕ) (row : ModeRow) (c : CardState) → IsTextRow disp mode row → shows_memory row c ≡ true → setting c ≡ text_setting disp
 setting_is disp mode row c text h =
     setting_by row c h
@@ -148,7 +148,7 @@ setting_is disp mode row c text h =
     ∙ ap (λ x. let r : Setting = record { misc = misc_of disp; seq = x; gfx = row.graphics } in r) text.sequencer
     ∙ ap (λ x. let r : Setting = record { misc = misc_of disp; seq = text_sequencer; gfx = x } in r) text.graphics
 
--- all that a shown screen says
+-- what is known when a text screen is shown
 pub record IsShown (c : CardState) (d : BiosData) : Type 0 where
   pub row : ModeRow
   pub mode : row_at d.mode d.height ≡ Some row
@@ -164,12 +164,12 @@ pub record IsShown (c : CardState) (d : BiosData) : Type 0 where
 abbrev pub screen_shown : (c : CardState) (d : BiosData) → IsShown c d → Screen
 screen_shown c d h = text_screen h.row c d
 
--- the screen that is shown, and what is known then
+-- the text screen that is shown, and what is known then
 pub record Shows (c : CardState) (d : BiosData) (s : Screen) : Type 0 where
   pub is : IsShown c d
   pub screen : screen_shown c d is ≡ s
 
--- in text the screen of the mode is one of text
+-- in text the screen of the mode's kind is the text screen
 pub screen_is_text : (row : ModeRow) (c : CardState) (d : BiosData) → is_text d.mode ≡ true → screen_of row c d ≡ text_screen row c d
 screen_is_text row c d t = ap (λ b. let x : Screen = (if b then text_screen row c d else pixel_screen row c d) in x) t
 
@@ -193,13 +193,13 @@ shown_is c d s t h =
       screen = sym (screen_is_text x.row c d t) ∙ x.screen;
     }
 
--- and back
+-- conversely, if the tests hold in text, the text screen is shown
 pub shown_of : (c : CardState) (d : BiosData) (row : ModeRow) → row_at d.mode d.height ≡ Some row → Tests row c d → shown c d ≡ Some (text_screen row c d)
 shown_of c d row e t = shown_by_row c d row e (all_of row c d t) ∙ ap (λ (x : Screen). Some x) (screen_is_text row c d t.is_text)
 
 -- ---- any mode
 
--- a screen has the mode of the data, and that is one of the six
+-- a shown screen has the mode of the data, and a mode is set
 pub record HasMode (d : BiosData) (s : Screen) : Type 0 where
   pub is : s.mode ≡ d.mode
   pub set : (d.mode == 0) ≡ false
@@ -217,11 +217,11 @@ mode_of_shown c d s h =
     not_0 true row e g = none_some row (sym (ap (λ m. row_at m d.height) (same e)) ∙ g)
     not_0 false row e g = e
 
--- a screen of text
+-- if the shown screen is text, so is the mode of the data
 pub text_shown : (c : CardState) (d : BiosData) (s : Screen) → shown c d ≡ Some s → is_text s.mode ≡ true → is_text d.mode ≡ true
 text_shown c d s h t = ap is_text (sym (mode_of_shown c d s h).is) ∙ t
 
--- the mode uses the memory for text
+-- the mode is of the text kind
 pub kind_is : (c : CardState) (d : BiosData) → IsShown c d → kind_of d.mode ≡ Text
 kind_is c d h = by_kind (kind_of d.mode) h.tests.is_text
   where
@@ -230,7 +230,7 @@ kind_is c d h = by_kind (kind_of d.mode) h.tests.is_text
     by_kind Planar t = absurd (cc)
     by_kind Packed t = absurd (cc)
 
--- mode control is the mode's, except for blinking
+-- mode control is the mode's, except for the blink bit
 pub control_is : (c : CardState) (d : BiosData) (h : IsShown c d) → bit_and (slice_index c.attr.registers 0x10) 0xF7 ≡ control_of h.display
 control_is c d h =
     let a = both_true (is_palette_shown c.attr) _ h.tests.attribute in

@@ -1,4 +1,4 @@
--- What dots leave of a screen that is shown, and what services leave of the beam's frame.
+-- What dots keep of a shown screen, and what services keep of its frames.
 use Rattle.std.proofs.Common.{◌≡◌, ℕ, ◌*◌, ◌/◌, refl, sym, ap, ◌∙◌, List, Some}
 use Rattle.std.specs.Prelude.{if◌then◌else◌, slice_index}
 use Rattle.bios_screen.proofs.Prelude.{is_set, Beam, CardState, ModeRow, row_at, BiosData, is_text, start_address, Screen, crtc_registers, shown}
@@ -13,7 +13,7 @@ use Rattle.bios_screen.proofs.Base.Setting.{Setting}
 use Rattle.bios_screen.proofs.Shows.Screens.{data_is, setting_by, mode_of_shown}
 use Rattle.bios_screen.proofs.Shows.Any.{any_is, any_shown}
 
--- another beam shows the same screen, with the number of its frame
+-- another beam, and other drawn dots, show the same screen with the beam's frame number
 pub shown_moved : (c : CardState) (d : BiosData) (s : Screen) (b : Beam) (l : List Dot) → shown c d ≡ Some s
     → shown (record c { crtc = record c.crtc { beam = b }; drawn = l }) d ≡ Some (record s { frame = b.frame })
 shown_moved c d s b l e =
@@ -21,22 +21,22 @@ shown_moved c d s b l e =
     any_shown c (record c { crtc = record c.crtc { beam = b }; drawn = l }) d x.is refl refl x.is.tests.attribute
     ∙ ap (λ (y : Screen). Some (record y { frame = b.frame })) x.screen
 
--- its frame is the beam's
+-- the frame number of a shown screen is the beam's
 pub frame_shown : (c : CardState) (d : BiosData) (s : Screen) → shown c d ≡ Some s → s.frame ≡ c.crtc.beam.frame
 frame_shown c d s e = let x = any_is c d s e in sym (ap (λ (y : Screen). y.frame) x.screen)
 
--- ---- what services leave
+-- ---- what services keep
 
--- a mode's own registers, whatever cursor and start address are
+-- the beam depends on the mode's registers, not on cursor and start address
 beam_of_row : (w : ℕ) (row : ModeRow) (type start location a f n : ℕ) → beam_at w (crtc_registers row type start location) a f n ≡ beam_at w row.crtc a f n
 unfolding horizontal_total maximum_scan_line is_double_scan offset
 beam_of_row w row type start location a f n = refl
 
--- the width of a character in a mode
+-- the width of a character of a mode, in dots
 abbrev row_width : ModeRow → ℕ
 row_width row = if is_set (slice_index row.sequencer 1) 0 then 8 else 9
 
--- what a shown screen says of a frame's beam and of where pages begin
+-- the row of a shown screen's mode gives the beam of a frame and the start of each page
 record HasRow (c : CardState) (d : BiosData) (s : Screen) : Type 0 where
   row : ModeRow
   mode : row_at s.mode s.layout.height ≡ Some row
@@ -62,7 +62,7 @@ row_shown c d s e =
           ∙ sym (ap (λ m. if is_text m then h.row.size * g / 2 else h.row.size * g) is);
     }
 
--- two states that show screens of the same mode and layout have the same frames, and their pages begin at the same numbers
+-- the frames of two states are the same, and each page begins at the same address
 pub record SameFrames (c : CardState) (d : BiosData) (y : CardState) (after : BiosData) : Type 0 where
   pub beam : (a f n : ℕ) → beam_at (character_width c) c.crtc.registers a f n ≡ beam_at (character_width y) y.crtc.registers a f n
   pub begins : (g : ℕ) → start_address d g ≡ start_address after g

@@ -13,14 +13,14 @@ use Rattle.bios_screen.proofs.Modes.TextModes.{Display, base_of, text_setting}
 use Rattle.bios_screen.proofs.Text.Memory.{IsTextual, without_text, text_put}
 use Rattle.bios_screen.proofs.Text.Reads.{text_get}
 
--- the cells of bytes
+-- the cells of a memory of bytes
 abbrev pub cells_of_bytes : (ℕ → ℕ) → ℕ → Cell
 cells_of_bytes m k = (m (2 * k), m (2 * k + 1))
 
 pub same_pair : {a b x y : ℕ} → a ≡ x → b ≡ y → (let p : Cell = (a, b) in p) ≡ (x, y)
 same_pair {a} {b} {x} {y} e f = ap (λ n. let p : Cell = (n, b) in p) e ∙ ap (λ n. let p : Cell = (x, n) in p) f
 
--- an adapter in text whose cells are f, by number
+-- an adapter in text, whose cell k is f k
 pub record IsCells (disp : Display) (rest : CardState) (c : CardState) (f : ℕ → Cell) : Type 0 where
   pub bytes : ℕ → ℕ
   pub is : IsTextual disp rest c bytes
@@ -30,7 +30,7 @@ pub record IsCells (disp : Display) (rest : CardState) (c : CardState) (f : ℕ 
 pub attribute_small : (disp : Display) (rest c : CardState) (f : ℕ → Cell) (k : ℕ) → k < 16384 → IsCells disp rest c f → (f k).1 < 256
 attribute_small disp rest c f k l t = subst (λ (x : Cell). x.1 < 256) (sym (t.cell k l)) (t.is.small (2 * k + 1) (omega arith))
 
--- ---- a cell is written: its character, and then its attribute where one is given
+-- ---- a cell is written: its character, and then its attribute if one is given
 
 both_put : (f : ℕ → Cell) (m : ℕ → ℕ) (k v a j : ℕ) → f j ≡ cells_of_bytes m j →
     set_cell f k (v, a) j ≡ cells_of_bytes (set_cell (set_cell m (2 * k) v) (2 * k + 1) a) j
@@ -45,7 +45,7 @@ both_put f m k v a j e =
     (set_other n (2 * k + 1) a (2 * j + 1) (omega arith) ∙ set_other m (2 * k) v (2 * j + 1) (omega arith))))
     (cases_eq j k)
 
--- where none is given it stays
+-- if none is given, the attribute stays
 kept_put : (m : ℕ → ℕ) (k v a w : ℕ) → a ≡ m (2 * k + 1) → set_cell (set_cell m (2 * k) v) (2 * k + 1) a w ≡ set_cell m (2 * k) v w
 kept_put m k v a w e =
     let n : ℕ → ℕ = set_cell m (2 * k) v in
@@ -118,7 +118,7 @@ attribute_get disp rest c f at k e l t =
 
 -- ---- the cells of the planes
 
--- the bytes of two planes by place
+-- two planes as one memory of bytes: even addresses are plane 0, odd ones plane 1
 abbrev pub woven : List ℕ → List ℕ → ℕ → ℕ
 woven p0 p1 w = if w % 2 == 0 then slice_index p0 w else slice_index p1 (w - 1)
 
@@ -139,7 +139,7 @@ woven_small p0 p1 w h k = by_test (w % 2 == 0)
     by_test true = h w
     by_test false = k (w - 1)
 
--- an adapter in text, whose planes are memory, has the bytes of its planes
+-- an adapter in text has the bytes of its planes
 pub has_bytes : (disp : Display) (c : CardState) → setting c ≡ text_setting disp → IsHost c.host →
     IsTextual disp (without_text c) c (woven c.host.memory.plane0 c.host.memory.plane1)
 has_bytes disp c e z =
@@ -155,7 +155,7 @@ has_bytes disp c e z =
       others = refl;
     }
 
--- and their cells
+-- an adapter in text has the cells of its planes
 pub has_cells : (disp : Display) (c : CardState) → setting c ≡ text_setting disp → IsHost c.host →
     IsCells disp (without_text c) c (cell_in c.host.memory.plane0 c.host.memory.plane1)
 has_cells disp c e z =
@@ -166,7 +166,7 @@ has_cells disp c e z =
       cell = λ k l. same_pair (woven_even m.plane0 m.plane1 k) (woven_odd m.plane0 m.plane1 k);
     }
 
--- and the other way round
+-- conversely, cell k of the planes is f k
 pub cells_are : (disp : Display) (rest c : CardState) (f : ℕ → Cell) (k : ℕ) → k < 16384 → IsCells disp rest c f →
     cell_in c.host.memory.plane0 c.host.memory.plane1 k ≡ f k
 cells_are disp rest c f k l t = same_pair (t.is.character k l) (t.is.attribute k l) ∙ sym (t.cell k l)
@@ -176,13 +176,13 @@ cells_are disp rest c f k l t = same_pair (t.is.character k l) (t.is.attribute k
 pub bytes_are_cells : (disp : Display) (rest c : CardState) (m : ℕ → ℕ) → IsTextual disp rest c m → IsCells disp rest c (cells_of_bytes m)
 bytes_are_cells disp rest c m t = record { bytes = m; is = t; cell = λ k l. refl }
 
--- cells whose two bytes are the same
+-- two cells are the same if their bytes are
 pub same_cell : (g f : ℕ → ℕ) (k q : ℕ) → ((j : ℕ) → j < 2 → g (2 * k + j) ≡ f (2 * q + j)) → cells_of_bytes g k ≡ cells_of_bytes f q
 same_cell g f k q e =
     let zk : 2 * k + 0 ≡ 2 * k = omega arith in
     let zq : 2 * q + 0 ≡ 2 * q = omega arith in
     same_pair (ap g (sym zk) ∙ e 0 (omega arith) ∙ ap f zq) (e 1 (omega arith))
 
--- and one whose bytes are those of a blank
+-- a cell with the bytes of a blank is a blank
 pub blank_cell : (g : ℕ → ℕ) (colour k : ℕ) → ((j : ℕ) → j < 2 → g (2 * k + j) ≡ (if j == 0 then 0x20 else colour)) → cells_of_bytes g k ≡ (0x20, colour)
 blank_cell g colour k e = let z : 2 * k + 0 ≡ 2 * k = omega arith in same_pair (ap g (sym z) ∙ e 0 (omega arith)) (e 1 (omega arith))

@@ -1,4 +1,4 @@
--- Glyphs that are loaded: Puts to plane 2.
+-- Loading glyphs: Puts to plane 2.
 use Rattle.std.proofs.Common.{◌≡◌, ℕ, ◌+◌, ◌*◌, ◌<◌, ◌≤◌, sym, ap, ◌∙◌, subst, arith, List, [], ◌∷◌, length, true}
 use Rattle.std.specs.Prelude.{slice_index, slice_set, ◌==◌, if◌then◌else◌}
 use Rattle.std.proofs.lemmas.Bool.Decides.{nat_tests}
@@ -15,7 +15,7 @@ use Rattle.bios_screen.proofs.Base.Setting.{Setting, setting, host_at, with_memo
 use Rattle.bios_screen.proofs.Modes.TextModes.{Display, misc_of}
 use Rattle.bios_screen.proofs.Modes.TextModes.Display.{Colour, Monochrome}
 
--- plane 2 alone, at A0000
+-- the setting that puts plane 2 alone at A0000
 abbrev pub glyph_setting : Display → Setting
 glyph_setting disp = record { misc = misc_of disp; seq = 3 ∷ 0 ∷ 4 ∷ 0 ∷ 6 ∷ []; gfx = 0 ∷ 0 ∷ 0 ∷ 0 ∷ 0 ∷ 0 ∷ 4 ∷ 0 ∷ 0xFF ∷ [] }
 
@@ -23,7 +23,7 @@ glyph_setting disp = record { misc = misc_of disp; seq = 3 ∷ 0 ∷ 4 ∷ 0 ∷
 abbrev pub without_glyphs : CardState → CardState
 without_glyphs c = record c { host = record c.host { memory = record c.host.memory { plane2 = [] } } }
 
--- an adapter that is loading glyphs, its plane 2 by offset
+-- an adapter that is loading glyphs; byte o of its plane 2 is g o
 pub record IsLoading (disp : Display) (rest : CardState) (c : CardState) (g : ℕ → ℕ) : Type 0 where
   pub mode : setting c ≡ glyph_setting disp
   pub size2 : length c.host.memory.plane2 ≡ 65536
@@ -41,7 +41,7 @@ glyph_byte : (disp : Display) (h : HostState) (v : ℕ) → v < 256 → written_
 unfolding byte_of written_bit combined_bit
 glyph_byte disp h v l = byte_bits v l
 
--- plane 2 alone is reached, by computation
+-- a Put reaches plane 2 alone, by computation
 glyph_memory : (disp : Display) (h : HostState) (a v : ℕ) → v < 256 → memory_after_put (host_at h (glyph_setting disp)) a v
     ≡ record h.memory { plane2 = slice_set h.memory.plane2 a v }
 glyph_memory disp h a v l = ap (λ x. let m : Four (List ℕ) = record h.memory { plane2 = slice_set h.memory.plane2 a x } in m) (glyph_byte disp h v l)
@@ -82,7 +82,7 @@ glyph_loaded disp rest c g line height ch lc lh small t =
     })
     height 0 c g (omega arith) (omega arith) t
 
--- the lines of n characters, from the first on
+-- the lines of n glyphs are written, from character `first` on
 pub glyphs_loaded : (disp : Display) (rest c : CardState) (g : ℕ → ℕ) (line : ℕ → ℕ → ℕ) (height n first : ℕ) → first + n ≤ 256 → height ≤ 16 →
     ((ch r : ℕ) → line ch r < 256) → IsLoading disp rest c g
     → Leaves CardState ℕ (IsLoading disp rest) (run card_meaning (glyphs_plan line height n first) c).0

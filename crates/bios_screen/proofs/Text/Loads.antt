@@ -1,4 +1,5 @@
--- A call that loads glyphs of text: from a state that shows a screen to one that shows it with characters of another height.
+-- Loading glyphs in text: from a state that shows a screen to one that shows it with characters of
+-- another height.
 use Rattle.std.proofs.Common.{◌≡◌, ℕ, ◌+◌, ◌*◌, ◌/◌, ◌%◌, ◌<◌, ◌≤◌, refl, sym, ap, ◌∙◌, subst, arith, List, length, Some, Bool, true, false, if◌then◌else◌}
 use Rattle.std.specs.Prelude.{slice_index, nat_le, nat_lt, ◌&&◌, replicate}
 use Rattle.std.proofs.lemmas.Bool.Decides.{nat_tests}
@@ -37,11 +38,11 @@ use Rattle.bios_screen.proofs.Modes.TextFresh.{but_glyphs, font_is, glyphs_on, g
 
 -- ---- the registers
 
--- an adapter whose memory is reached by other registers, and their indexes
+-- an adapter with other sequencer and graphics registers, and the indexes that setting them leaves
 abbrev pub through : CardState → Setting → CardState
 through c s = record c { host = record c.host { seq = s.seq; gfx = s.gfx; seq_index = 4; gfx_index = 6 } }
 
--- the CRT controller gets what the height changes
+-- the plan that sets the CRT controller registers which depend on the height
 abbrev height_plan : ℕ → ModeRow → Plan (Unit {0})
 height_plan port row =
     crtc port 0x09 (slice_index row.crtc 0x09) >> (word_plan port 0x0A row.cursor_type
@@ -60,7 +61,7 @@ height_by Monochrome Eight old c type start location = refl
 height_by Monochrome Fourteen old c type start location = refl
 height_by Monochrome Sixteen old c type start location = refl
 
--- the plan's parts
+-- the two parts of the plan
 load_is : (fonts : FontSet) (load : GlyphLoad) (block : List ℕ) (row : ModeRow) (c : CardState)
     → (run card_meaning (load_plan fonts load block row) c).0 ≡ (run card_meaning (height_plan row.crtc_address row)
     (run card_meaning (font_plan (loaded_line fonts load block) load.height load.count load.first (slice_index row.graphics 6)) c).0).0
@@ -70,12 +71,12 @@ load_is fonts load block row c = then_runs (font_plan (loaded_line fonts load bl
 
 -- ---- the glyphs
 
--- lines of glyphs that are loaded over others
+-- the lines of the loaded glyphs replace the old ones
 abbrev pub AreLoaded : FontSet → GlyphLoad → List ℕ → (ℕ → ℕ) → (ℕ → ℕ) → Type 0
 AreLoaded fonts load block old new = Edited ℕ (Turn (λ _. Turn (λ _. Unit {0}) 0 load.height) load.first (load.first + load.count)) (λ h.
     32 * h.turn + h.place.turn) (λ h x. loaded_line fonts load block h.turn h.place.turn) old new
 
--- a byte of the glyphs is the new one where it is loaded, and else the old one
+-- a byte of the glyphs is the new one if it was loaded, else the old one
 glyph_is : (fonts : FontSet) (load : GlyphLoad) (block : List ℕ) (old new : ℕ → ℕ) (i : ℕ) → load.height ≤ 16 → AreLoaded fonts load block old new
     → new (32 * (i / 16) + i % 16) ≡ load_byte fonts load block (λ k. old (32 * (k / 16) + k % 16)) i
 glyph_is fonts load block old new i few edited =
@@ -93,7 +94,7 @@ glyph_is fonts load block old new i few edited =
     by_test true false e ea eb ee = edited.outside (32 * (i / 16) + i % 16) (λ h q. let x = h.before in let y = h.place.before in grind (arith, nat_tests))
     by_test true true false ea eb ee = edited.outside (32 * (i / 16) + i % 16) (λ h q. let y = h.place.before in grind (arith, nat_tests))
 
--- and so are all of them
+-- so are all bytes of the glyphs
 glyphs_are : (fonts : FontSet) (load : GlyphLoad) (block old new : List ℕ) (cells : ℕ → ℕ) → load.height ≤ 16 →
     AreLoaded fonts load block (slice_index old) cells → ((o : ℕ) → o < 65536 → slice_index new o ≡ cells o)
     → glyphs_in new 4096 ≡ listing (load_byte fonts load block (slice_index (glyphs_in old 4096))) 0 (length (glyphs_in old 4096))
@@ -108,12 +109,12 @@ glyphs_are fonts load block old new cells few edited row =
 
 -- ---- what the plan leaves
 
--- other glyphs and other registers of the CRT controller, and text is reached
+-- an adapter in text again, with other glyphs and other CRT controller registers
 abbrev pub left : Display → CardState → List ℕ → List ℕ → CardState
 left disp c glyphs registers = with_crtc (through (record c { host = record c.host { memory = record c.host.memory { plane2 = glyphs } } }) (text_setting disp))
     registers 0x0F
 
--- what the registers of a display do, computed: glyphs are reached and text again, by the window and the port of its row
+-- two plans, computed for a display: one reaches the glyphs, the other reaches text again
 record ReachesGlyphs (disp : Display) : Type 0 where
   on : (c : CardState) → (run card_meaning glyphs_on (card_at c (text_setting disp))).0 ≡ through (card_at c (text_setting disp)) (glyph_setting disp)
   off : (c : CardState) → (run card_meaning (glyphs_off (window_of disp)) (card_at c (glyph_setting disp))).0
@@ -127,7 +128,7 @@ unfolding reached_by out_reached
 reaches_glyphs Colour = record { on = λ c. refl; off = λ c. refl; window = refl; port = refl; memory = refl }
 reaches_glyphs Monochrome = record { on = λ c. refl; off = λ c. refl; window = refl; port = refl; memory = refl }
 
--- the glyphs after a load, and the adapter
+-- the adapter after a load, and its glyphs
 pub record IsLoadedCard (fonts : FontSet) (load : GlyphLoad) (block : List ℕ) (disp : Display) (row : ModeRow) (c y : CardState) : Type 0 where
   pub plane2 : List ℕ
   pub cells : ℕ → ℕ
@@ -212,7 +213,7 @@ module _ (fonts : FontSet) (load : GlyphLoad) (block : List ℕ) (bytes : AreByt
 
 -- ---- the screen
 
--- the data of a mode with a height, by cases
+-- the row of a display at a height is the mode's, and passes the test with its own data; by cases
 record IsOwn (disp : Display) (new : Height) : Type 0 where
   row_is : row_at (number_of disp) (row_with disp new).height ≡ Some (row_with disp new)
   data_test : (mode : ℕ) → shows_data (row_with disp new) (data_of_mode mode (row_with disp new)) ≡ true
@@ -227,7 +228,7 @@ own_by Monochrome Eight = record { row_is = refl; data_test = λ _. refl; crtc =
 own_by Monochrome Fourteen = record { row_is = refl; data_test = λ _. refl; crtc = refl }
 own_by Monochrome Sixteen = record { row_is = refl; data_test = λ _. refl; crtc = refl }
 
--- the tests of attributes look at the row's attributes alone
+-- the test of the attribute controller depends only on the row's attribute registers
 attribute_stays : (old new : ModeRow) (a : AttrState) → old.attribute ≡ new.attribute → shows_attribute old a ≡ true → shows_attribute new a ≡ true
 attribute_stays old new a e t =
     sym (ap (λ (l : List ℕ). is_palette_shown a && ((bit_and (slice_index a.registers 0x10) 0xF7 == bit_and (slice_index l 0x10) 0xF7)

@@ -1,4 +1,4 @@
--- Text memory as one flat memory of bytes, with all else kept.
+-- Text memory as one flat memory of bytes; all else is kept.
 use Rattle.std.proofs.Common.{◌≡◌, ◌≢◌, ℕ, zero, suc, Bool, List, [], ◌+◌, ◌*◌, ◌/◌, ◌%◌, ◌<◌, ⊎_elim, refl, sym, ap, ◌∙◌, subst, arith, length, true, false}
 use Rattle.std.specs.Prelude.{slice_index, slice_set, ◌==◌, ◌&&◌, if◌then◌else◌}
 use Rattle.std.proofs.lemmas.Bool.{cases_eq}
@@ -15,7 +15,7 @@ use Rattle.bios_screen.proofs.Base.Setting.{setting, host_at, with_memory, put_d
 use Rattle.bios_screen.proofs.Modes.TextModes.{Display, misc_of, base_of, text_setting}
 use Rattle.bios_screen.proofs.Modes.TextModes.Display.{Colour, Monochrome}
 
--- a byte by its bits
+-- a byte built from its bits
 abbrev pub bits_of : ℕ → ℕ
 bits_of b = byte_of (bit_at b)
 
@@ -28,7 +28,7 @@ without_text c = record c {
   };
 }
 
--- an adapter in text, its bytes by place in the window; all else is as in `rest`
+-- an adapter in text, whose byte at offset w of the window is m w; all else is as in `rest`
 pub record IsTextual (disp : Display) (rest : CardState) (c : CardState) (m : ℕ → ℕ) : Type 0 where
   pub mode : setting c ≡ text_setting disp
   pub size0 : length c.host.memory.plane0 ≡ 65536
@@ -49,14 +49,14 @@ written disp h b zero k l = byte_bits b l
 written disp h b (suc zero) k l = byte_bits b l
 written disp h b (suc (suc p)) k l = absurd (omega arith)
 
--- the memory where plane 0 and plane 1 may be reached
+-- the memory when plane 0 and plane 1 each may have a new byte
 abbrev reached_memory : HostState → Bool → Bool → ℕ → ℕ → ℕ → Four (List ℕ)
 reached_memory h even odd o v w = record h.memory {
   plane0 = if even then slice_set h.memory.plane0 o v else h.memory.plane0;
   plane1 = if odd then slice_set h.memory.plane1 o w else h.memory.plane1;
 }
 
--- the planes that a Put reaches, by computation
+-- which of the two planes a Put reaches, by computation
 memory_by : (disp : Display) (h : HostState) (w b : ℕ) → memory_after_put (host_at h (text_setting disp)) w b
     ≡ reached_memory h (0 == w % 2) (1 == w % 2) (w / 2 * 2) (written_byte (host_at h (text_setting disp)) b 0)
     (written_byte (host_at h (text_setting disp)) b 1)
@@ -84,7 +84,7 @@ small_cell : (m : ℕ → ℕ) (a b : ℕ) → b < 256 → ((w : ℕ) → w < 32
 small_cell m a b h t w l = ⊎_elim (λ (e : w ≡ a). let z = set_same m a b w e in omega arith) (λ (n : w ≢ a). let z = set_other m a b w n in let y = t w l in
     omega arith) (cases_eq w a)
 
--- a Put anywhere in the window
+-- a Put at any offset of the window
 pub text_put : (disp : Display) (rest c : CardState) (m : ℕ → ℕ) (w b : ℕ) → w < 32768 → b < 256 → IsTextual disp rest c m →
     IsTextual disp rest (run card_meaning (put (base_of disp + w) b) c).0 (set_cell m w b)
 text_put disp rest c m w b l h t =

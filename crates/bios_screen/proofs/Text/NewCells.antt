@@ -1,4 +1,4 @@
--- If a service changes only cells: from cells that are known one by one to the next screen.
+-- Services that change only cells: from cells known one by one to the next screen.
 use Rattle.std.proofs.Common.{◌≡◌, ℕ, ◌<◌, sym, ap, ◌∙◌, List, Some}
 use Rattle.bios_screen.proofs.Prelude.{CardState, BiosData, ModeRow, listing, Cell, cell_in, all_cells, shown}
 use Rattle.bios_screen.specs.Screen.{no_cell, cell_of}
@@ -10,24 +10,24 @@ use Rattle.bios_screen.proofs.Text.Memory.{without_text}
 use Rattle.bios_screen.proofs.Text.Cells.{IsCells, cells_are}
 use Rattle.bios_screen.proofs.Shows.Screens.{IsShown, screen_shown, tests_of, test_of, shown_of}
 
--- cell k of the list is that of the planes
+-- cell k of the list is cell k of the planes
 pub cells_at : (p0 p1 : List ℕ) (n k : ℕ) → k < n → cell_of (cells_in p0 p1 n) k ≡ cell_in p0 p1 k
 unfolding cells_in
 cells_at p0 p1 n k l = listed_at (cell_in p0 p1) n k no_cell l
 
--- the test does not depend on text
+-- the test does not depend on the cells
 pub test_stays : (row : ModeRow) (c y : CardState) (d : BiosData) → without_text y ≡ without_text c → shows row y d ≡ shows row c d
 unfolding shows
 test_stays row c y d e = ap (λ x. shows row x d) e
 
--- if only text has changed, the screen has the cells that are then in memory
+-- if only text has changed, the screen has the cells that are now in memory
 cells_shown : (c y : CardState) (d : BiosData) (h : IsShown c d) → without_text y ≡ without_text c →
     shown y d ≡ Some (screen_with h.row c d (cells_in y.host.memory.plane0 y.host.memory.plane1 all_cells))
 cells_shown c y d h others =
     shown_of y d h.row h.mode (tests_of h.row y d h.tests.is_text (test_stays h.row c y d others ∙ test_of h.row c d h.tests))
     ∙ ap (λ x. Some (screen_with h.row x d (cells_in y.host.memory.plane0 y.host.memory.plane1 all_cells))) others
 
--- a screen with other cells is shown
+-- if memory has new cells, the screen with these is shown
 pub renewed_shown : (disp : Display) (rest c y : CardState) (d : BiosData) (h : IsShown c d) (new : (ℕ → Cell) → ℕ → Cell) (g : ℕ → Cell) →
     without_text y ≡ without_text c → IsCells disp rest y g → ((k : ℕ) → k < 16384 → g k ≡ new (cell_on (screen_shown c d h)) k) →
     shown y d ≡ Some (with_cells (screen_shown c d h) new)

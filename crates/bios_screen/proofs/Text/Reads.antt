@@ -1,4 +1,4 @@
--- What a read of text memory answers, and leaves.
+-- What a read of text memory answers, and what it leaves.
 use Rattle.std.proofs.Common.{◌≡◌, ◌≢◌, ℕ, ◌+◌, ◌*◌, ◌/◌, ◌%◌, ◌<◌, ⊎_elim, refl, sym, ap, ◌∙◌, subst, arith}
 use Rattle.std.proofs.lemmas.Bool.{cases_eq}
 use Rattle.vga_bits.specs.Bits.{byte_of}
@@ -24,7 +24,7 @@ read_is : (disp : Display) (h : HostState) (w : ℕ) → w < 32768 → read_byte
 read_is disp h w l = ap (λ o. byte_of (λ i. read_bit (host_at h (text_setting disp)) o (bytes_at h.memory (plane_offset (host_at h (text_setting disp)) o)) i))
     (window_is disp h w l) ∙ read_at disp h w
 
--- the byte of plane 0 or 1 that is there
+-- that byte of plane 0 or 1 is the one at offset w of the window
 byte_is : (disp : Display) (rest c : CardState) (m : ℕ → ℕ) (w : ℕ) → w < 32768 → IsTextual disp rest c m →
     of_plane (bytes_at c.host.memory (w / 2 * 2)) (0 + w % 2) ≡ m w
 byte_is disp rest c m w l t =
@@ -41,7 +41,7 @@ answer_is : (disp : Display) (rest c : CardState) (m : ℕ → ℕ) (w : ℕ) �
     read_byte (host_at c.host (text_setting disp)) (base_of disp + w) ≡ m w
 answer_is disp rest c m w l t = read_is disp c.host w l ∙ ap bits_of (byte_is disp rest c m w l t) ∙ byte_bits (m w) (t.small w l)
 
--- a read in text leaves the text, and answers the byte at its place
+-- a read in text answers the byte at its offset, and leaves the text as it is
 pub record Answers (disp : Display) (rest : CardState) (m : ℕ → ℕ) (w : ℕ) (r : CardState × ℕ) : Type 0 where
   pub text : IsTextual disp rest r.0 m
   pub answer : r.1 ≡ m w

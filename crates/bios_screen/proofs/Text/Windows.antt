@@ -1,4 +1,4 @@
--- A window of text goes up or down, from the screen to the next.
+-- Scrolling a window of text, from one screen to the next.
 use Rattle.std.proofs.Common.{◌≡◌, ℕ, ◌+◌, ◌-◌, ◌*◌, ◌/◌, ◌%◌, ◌<◌, ◌≤◌, refl, sym, ap, ◌∙◌, subst, arith, Some, true, false}
 use Rattle.std.specs.Prelude.{◌==◌, ◌&&◌, nat_le, if◌then◌else◌}
 use Rattle.std.proofs.lemmas.Bool.Decides.{nat_tests}
@@ -40,7 +40,7 @@ module _ (c : CardState) (d : BiosData) (h : IsShown c d) (p : ℕ) (lp : p < h.
   some_columns : 0 < d.columns
   some_columns = let a = h.has.columns in let b = h.text.some_columns in omega arith
 
-  -- the band of text: two bytes for a cell, and one line for a row
+  -- the band of the window: a cell is two bytes, and a row is one line
   abbrev band : Band
   band = band_by Text d p w.left w.width
 
@@ -64,7 +64,7 @@ module _ (c : CardState) (d : BiosData) (h : IsShown c d) (p : ℕ) (lp : p < h.
     high = omega arith;
   }
 
-  -- ---- what the plan leaves of the bytes
+  -- ---- what the plan leaves in the bytes
 
   abbrev Textual : CardState → (ℕ → ℕ) → Type 0
   Textual = IsTextual h.display (without_text c)
@@ -110,11 +110,11 @@ module _ (c : CardState) (d : BiosData) (h : IsShown c d) (p : ℕ) (lp : p < h.
       let half : byte_of k j % (2 * d.columns) / 2 ≡ column_on s p k = let q = byte_column k j l in omega arith in
       ap (in_window w (byte_of k j / (2 * d.columns) / 1)) half ∙ ap (λ r. in_window w r (column_on s p k)) (byte_row k j l)
 
-  -- the bytes of the rows of a page
+  -- how many bytes n rows of a page have
   rows_bytes : 2 * d.columns * (1 * n) ≡ 2 * (d.columns * n)
   rows_bytes = let one : 1 * n ≡ n = omega arith in ap (λ x. 2 * d.columns * x) one ∙ twice d.columns n
 
-  -- the contents that a cell gets, byte by byte, and in the page
+  -- the byte that byte j of cell k gets, counted in the page and counted in the cells of memory
   byte_source : (way : Direction) (k j : ℕ) → first ≤ k → has_source way w n (row_on s p k) ≡ true →
       d.size * p + source way (byte_of k j) (2 * d.columns * (1 * n)) ≡ 2 * source way k (d.columns * n) + j
   byte_source Up k j low t = let a = page_bytes in let b = rows_bytes in omega arith

@@ -1,4 +1,4 @@
--- Cells of text that are written and read: where they lie, and the screen that is then shown.
+-- Writing and reading cells of text: where they lie, and which screen is then shown.
 use Rattle.std.proofs.Common.{◌≡◌, ℕ, ◌+◌, ◌-◌, ◌*◌, ◌/◌, ◌<◌, ◌≤◌, refl, sym, ap, ◌∙◌, arith, Some}
 use Rattle.std.specs.Prelude.{if◌then◌else◌}
 use Rattle.bios_screen.proofs.Prelude.{IsCard, card_meaning, CardState, BiosData, FontSet, Regs, Colouring, Plan, run, Done, get, each, ◌>>=◌, page_base}
@@ -23,7 +23,7 @@ use Rattle.bios_screen.proofs.Text.NewCells.{cells_at, renewed_shown, same_shown
 
 -- ---- where a page's cells are
 
--- the pages lie within the cells
+-- the pages lie within text memory
 pub record Lies (d : BiosData) (disp : Display) (pages : ℕ) : Type 0 where
   pub base : page_base d.mode ≡ base_of disp
   pub even : (p : ℕ) → d.size * p ≡ 2 * (d.size / 2 * p)
@@ -60,7 +60,7 @@ address_is d disp pages p q w =
     sum : (b n : ℕ) → b + 2 * n + 2 * q ≡ b + 2 * (n + q)
     sum b n = omega arith
 
--- ---- some cells of a page from one on are written
+-- ---- a run of cells of a page is written
 
 module _ (fonts : FontSet) (c : CardState) (d : BiosData) (h : IsShown c d) (z : IsCard c) (p q n v : ℕ) (colouring : Colouring) (lp : p < h.row.pages)
     (lq : q + n ≤ cells_of d) (lv : v < 256) (la : colouring.colour < 256) where
@@ -70,7 +70,7 @@ module _ (fonts : FontSet) (c : CardState) (d : BiosData) (h : IsShown c d) (z :
   abbrev plan : ℕ → Plan (Unit {0})
   plan i = write_cell_plan (cell_address d p (q + i)) v colouring
 
-  -- in text the plan of some characters is that of their cells
+  -- in text the plan of a run of characters writes its cells one by one
   characters_are : characters_plan fonts d p q v colouring n ≡ each plan n 0
   unfolding characters_plan character_by
   characters_are = ap (λ k. each (λ i. character_by k fonts d p (q + i) v colouring) n 0) (kind_is c d h)
@@ -127,11 +127,11 @@ module _ (c : CardState) (d : BiosData) (h : IsShown c d) (z : IsCard c) (p q : 
   begins : IsCells h.display (without_text c) c all
   begins = has_cells h.display c h.setting z.host
 
-  -- where cells are as they were the screen stays
+  -- if the cells are as they were, the same screen is shown
   stays : (y : CardState) → IsCells h.display (without_text c) y all → shown y d ≡ Some (screen_shown c d h)
   stays y t = same_shown h.display (without_text c) c y d h all t.is.others t (λ _ _. refl)
 
-  -- its attribute, which is a byte
+  -- a read of the cell's attribute, which is a byte
   pub record IsAttribute : Type 0 where
     pub answer : (run card_meaning (get (cell_address d p q + 1)) c).1 ≡ (cell_on (screen_shown c d h) cell).1
     pub shows : shown (run card_meaning (get (cell_address d p q + 1)) c).0 d ≡ Some (screen_shown c d h)
@@ -147,7 +147,7 @@ module _ (c : CardState) (d : BiosData) (h : IsShown c d) (z : IsCard c) (p q : 
         small = let l = attribute_small h.display (without_text c) c all cell within begins in omega arith;
       }
 
-  -- both its bytes as a word
+  -- a read of both bytes of the cell as a word
   word_read : IsRead h.display (without_text c) all ((all cell).0 + 256 * (all cell).1) (run card_meaning (read_cell_plan (cell_address d p q)) c)
   unfolding read_cell_plan
   word_read =
@@ -160,7 +160,7 @@ module _ (c : CardState) (d : BiosData) (h : IsShown c d) (z : IsCard c) (p q : 
         answer = ap (λ a. a + 256 * (run card_meaning (get (at + 1)) y).1) first.answer ∙ ap (λ a. (all cell).0 + 256 * a) second.answer;
       }
 
--- what function 08 answers of the cell at the cursor, and leaves
+-- function 08 answers the cell at the cursor, and the screen stays the same
 pub record IsCellRead (fonts : FontSet) (r : Regs) (c : CardState) (d : BiosData) (p : ℕ) (s : Screen) : Type 0 where
   pub answer : (run card_meaning (read_cell_service fonts p d r) c).1 ≡ cell_answer s.contents fonts s p r
   pub shows : shown (run card_meaning (read_cell_service fonts p d r) c).0 d ≡ Some s

@@ -11,8 +11,9 @@ impl Attr {
     /// How many bytes an attribute controller has when it is saved.
     pub const SAVED_LEN: usize = 23;
 
-    /// Puts the bytes of the attribute controller into a slice from place `at` on, and gives the
-    /// place behind them: the 21 registers, the index, and 1 where the next write is data.
+    /// Puts the bytes of the attribute controller into a slice from index `at` on. It returns the
+    /// index after them. The order is: the 21 registers, the controller's index, and 1 if the next
+    /// write is data, else 0.
     #[tactic(auto, unfolding(crate::specs::Saved::saved_attr), using(vga_bits::proofs::SavedLemmas::put_after))]
     pub fn save(&self, out: &mut [u8], at: usize) -> usize
         requires { at + 23 ≤ length out.old }
@@ -23,8 +24,8 @@ impl Attr {
         put_bytes(out, at, &[self.index, flag_byte(self.is_data)])
     }
 
-    /// Whether some bytes are those of an attribute controller: registers and index hold bits that
-    /// they keep, and the flag is 0 or 1.
+    /// Whether some bytes are those of an attribute controller. Registers and index must hold only
+    /// bits that they keep, and the flag must be 0 or 1.
     pub fn is_saved(bytes: &[u8]) -> bool
         ensures { IsTrue result ↔ IsSavedAttr bytes.now }
     {
@@ -35,7 +36,7 @@ impl Attr {
         are_kept(&MASKS, registers) && rest[0] <= INDEX_MASK && rest[1] <= 1
     }
 
-    /// Takes registers, index and flip-flop from the bytes of an attribute controller.
+    /// Restores registers, index and flip-flop from the bytes of an attribute controller.
     #[tactic(auto, unfolding(crate::specs::Saved::attr_from))]
     pub fn restore(&mut self, bytes: &[u8])
         requires { IsSavedAttr bytes.now }
@@ -48,7 +49,7 @@ impl Attr {
         self.is_data = rest[1] == 1;
     }
 
-    /// What is saved is restored, whole. The clauses are for proofs: nothing runs.
+    /// A saved attribute controller is restored in full. The clauses are for proofs: nothing runs.
     #[tactic(auto, using(crate::proofs::SavedLemmas::attr_is_back))]
     pub fn saves_whole(&self)
         ensures saved { IsSavedAttr (saved_attr self.now) }

@@ -1,4 +1,4 @@
-//! Rows that are copied: it serves speed alone, since a row can be drawn again.
+//! Rows that are copied. This file serves speed alone: a row could be drawn again.
 ghost use Rattle.std.specs.Prelude.{◌≡◌, ◌+◌, ◌-◌, ◌*◌, ◌<◌, ◌≤◌, ◌++◌, length, take, drop};
 ghost use Rattle.std.specs.Prelude.{vec_capacity};
 ghost use Rattle.vga_card.specs.Picture.{widest, highest};
@@ -6,7 +6,7 @@ ghost use Rattle.vga_card.specs.Repeat.{last_on_line};
 
 use super::{Canvas, lengthen};
 
-/// Copies the last `len` of the first `used` bytes over those behind them.
+/// Copies the last `len` of the first `used` bytes over the bytes after those.
 fn copy_last(bytes: &mut [u8], used: usize, len: usize)
     requires few { len ≤ used }
     requires room { used + len ≤ length bytes.old }
@@ -18,8 +18,8 @@ fn copy_last(bytes: &mut [u8], used: usize, len: usize)
     back[..len].copy_from_slice(&prefix[used - len..]);
 }
 
-/// Puts the last `len` of the first `used` bytes of a buffer behind them once more. The buffer has
-/// memory for that.
+/// Appends the last `len` of the first `used` bytes of a buffer to these `used` bytes once more.
+/// The buffer has memory for that.
 fn put_again(buffer: &mut Vec<u8>, used: usize, len: usize)
     requires used { used ≤ length buffer.old.items }
     requires few { len ≤ used }
@@ -34,8 +34,8 @@ fn put_again(buffer: &mut Vec<u8>, used: usize, len: usize)
 }
 
 impl Canvas {
-    /// Adds the last `count` dots once more, on another line: the last one or one after it. A line
-    /// is below 1,024 and has at most 2,304 dots.
+    /// Adds the last `count` dots once more, on `line`: the last line or one after it. A line is
+    /// below 1,024 and has at most 2,304 dots.
     pub(crate) fn repeat(&mut self, line: u16, count: usize)
         requires all { count ≤ length self.old.dots }
         requires lines { line < highest }

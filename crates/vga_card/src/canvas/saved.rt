@@ -1,5 +1,5 @@
-//! The dots drawn as bytes: for each of 1,024 lines a word that counts them, and red, green and
-//! blue of each dot in turn.
+//! The dots drawn, as bytes: a word for each of the 1,024 lines that counts its dots, and then red,
+//! green and blue of each dot in turn.
 ghost use Rattle.std.specs.Prelude.{◌≡◌, ℕ, ◌+◌, ◌*◌, ◌<◌, ◌≤◌, ◌↔◌, IsTrue, length, slice_index};
 ghost use Rattle.std.specs.Prelude.{[], take, IfSome, IfNone, vec_capacity, false};
 ghost use Rattle.std.specs.List.{flat_map};
@@ -18,8 +18,8 @@ use vga_crtc::Beam;
 /// How many bytes the widths of all lines have.
 pub(crate) const WIDTHS_LEN: usize = 2 * HIGHEST;
 
-/// Puts a word for each width, at most 2,304, into a slice from place `at` on, and gives the place
-/// behind them.
+/// Puts a word for each width, at most 2,304, into a slice from index `at` on. It returns the index
+/// after them.
 fn put_widths(out: &mut [u8], at: usize, widths: &[u32]) -> usize
     requires narrow { (j : ℕ) → slice_index widths.now j ≤ widest }
     requires few { length widths.now ≡ highest }
@@ -34,7 +34,7 @@ fn put_widths(out: &mut [u8], at: usize, widths: &[u32]) -> usize
     next
 }
 
-/// The widths of lines with no dot.
+/// The widths of `N` lines without dots.
 #[tactic(auto, unfolding(vga_bits::specs::Bytes::zeros))]
 fn blank_widths<const N: usize>() -> [u32; N]
     ensures { result ≡ zeros N }
@@ -42,7 +42,8 @@ fn blank_widths<const N: usize>() -> [u32; N]
     [0; N]
 }
 
-/// Puts the bytes of no dots into a slice from place `at` on, and gives the place behind them.
+/// Puts the bytes of a canvas without dots into a slice from index `at` on. It returns the index
+/// after them.
 pub(crate) fn put_no_dots(out: &mut [u8], at: usize) -> usize
     requires { at + 2048 ≤ length out.old }
     ensures put { IsPut out.old out.new at result (saved_dots []) }
@@ -51,7 +52,7 @@ pub(crate) fn put_no_dots(out: &mut [u8], at: usize) -> usize
     put_widths(out, at, &blank_widths::<HIGHEST>())
 }
 
-/// The most dots that a line can have where the beam is here.
+/// The most dots that a line can have while the beam is at `beam`.
 fn most_on(beam: Beam, line: usize) -> u32
     ensures { result ≡ most_dots_on beam line }
 {
@@ -64,7 +65,7 @@ fn most_on(beam: Beam, line: usize) -> u32
     }
 }
 
-/// How many dots all lines have together, or `None` where one has more than it can.
+/// How many dots all lines have together, or `None` if a line has more than it can have.
 fn count_dots(beam: Beam, bytes: &[u8]) -> Option<u32>
     requires { 2048 ≤ length bytes.now }
     ensures some { IfSome result (λ n. AreFew beam (widths_in bytes.now)
@@ -82,8 +83,9 @@ fn count_dots(beam: Beam, bytes: &[u8]) -> Option<u32>
     Some(count)
 }
 
-/// Whether some bytes are those of the dots of a frame under way where the beam is here: no line
-/// has more dots than it can, and each dot has three bytes.
+/// Whether some bytes could be the saved dots of a frame whose beam is at `beam`. No line may have
+/// more dots than it can have, and each dot must have three bytes. At the first dot of a frame
+/// there must be no dots.
 pub(crate) fn are_saved_dots(beam: Beam, bytes: &[u8]) -> bool
     requires { 2048 ≤ length bytes.now }
     ensures { IsTrue result ↔ AreSavedDots beam bytes.now }
@@ -97,7 +99,7 @@ pub(crate) fn are_saved_dots(beam: Beam, bytes: &[u8]) -> bool
     }
 }
 
-/// Makes the widths those that stand in some bytes.
+/// Sets the widths to those in some bytes.
 fn restore_widths(widths: &mut [u32], bytes: &[u8])
     requires lines { length widths.old ≡ highest }
     requires all { 2048 ≤ length bytes.now }
@@ -108,7 +110,7 @@ fn restore_widths(widths: &mut [u32], bytes: &[u8])
     }
 }
 
-/// Makes some bytes the first ones of a buffer, which has memory for them.
+/// Overwrites the start of a buffer with some bytes. The buffer has memory for them.
 fn restore_bytes(buffer: &mut Vec<u8>, bytes: &[u8])
     requires { length bytes.now ≤ vec_capacity buffer.old }
     ensures prefix { take (length bytes.now) buffer.new.items ≡ bytes.now }
@@ -120,7 +122,7 @@ fn restore_bytes(buffer: &mut Vec<u8>, bytes: &[u8])
 }
 
 impl Canvas {
-    /// Puts the bytes of the dots into a slice from place `at` on, and gives the place behind them.
+    /// Puts the bytes of the dots into a slice from index `at` on. It returns the index after them.
     pub(crate) fn save(&self, out: &mut [u8], at: usize) -> usize
         requires { at + (2048 + 3 * length self.now.dots) ≤ length out.old }
         ensures put { IsPut out.old out.new at result (saved_dots self.now.dots) }
@@ -130,7 +132,7 @@ impl Canvas {
         put_bytes(out, at, self.bytes())
     }
 
-    /// How many bytes the dots have beside the widths.
+    /// How many bytes the dots take, without the widths.
     pub(crate) fn saved_len(&self) -> usize
         ensures value { result ≡ 3 * length self.now.dots }
         ensures few { result ≤ 7077888 }
@@ -138,7 +140,7 @@ impl Canvas {
         self.used
     }
 
-    /// Takes the dots of a frame under way from their bytes, where the beam is here.
+    /// Restores the dots of a frame under way from their bytes. The beam is at `beam`.
     pub(crate) fn restore(&mut self, beam: Beam, bytes: &[u8])
         requires all { 2048 ≤ length bytes.now }
         requires dots { AreSavedDots beam bytes.now }
@@ -152,8 +154,8 @@ impl Canvas {
         self.line = beam.line.min(HIGHEST as u16 - 1);
     }
 
-    /// The dots that are saved are restored, whole, where the beam is here. The clauses are for
-    /// proofs: nothing runs.
+    /// Saved dots are restored in full. The beam is at `beam`. The clauses are for proofs: nothing
+    /// runs.
     pub(crate) fn saves_whole(&self, beam: Beam)
         requires { IsDrawn beam self.now }
         ensures saved { is_first_dot beam ≡ false → AreSavedDots beam (saved_dots self.now.dots) }

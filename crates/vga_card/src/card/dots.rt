@@ -29,7 +29,10 @@ use vga_host::Host;
 /// The most dots that one step may advance.
 const MOST_DOTS: u32 = 16_777_216;
 
-/// Takes away the dots of the frame before, where a frame begins.
+/// The most dots of a line.
+const LONGEST_LINE: u32 = 2340;
+
+/// Removes the dots of the frame before, where a frame begins.
 fn clear_at_first_dot(beam: Beam, canvas: &mut Canvas)
     ensures dots { canvas.new.dots ≡ fresh_dots beam canvas.old.dots }
     ensures line { canvas.new.line ≡ fresh_count beam canvas.old.line }
@@ -60,7 +63,7 @@ fn draw_dot(host: &Host, crtc: &mut Crtc, attr: &Attr, dac: &Dac, canvas: &mut C
     crtc.step_dot(width);
 }
 
-/// Adds the display dots of the beam's line, the start of whose frame is taken.
+/// Adds the display dots of the beam's line. The start of its frame is taken already.
 pub(super) fn draw_row(display: &Display<'_>, canvas: &mut Canvas)
     requires place { IsDrawnTo display.now.crtc.beam 0 canvas.old.line canvas.old.width }
     requires start { IsLineStart display.now.crtc.beam }
@@ -78,7 +81,7 @@ pub(super) fn draw_row(display: &Display<'_>, canvas: &mut Canvas)
     }
 }
 
-/// How many of the next `n` dots are displayed, at one of the beam's line that is.
+/// How many of the next `n` dots are displayed. The beam is at a displayed character.
 fn shown_count(display: &Display<'_>, n: u32) -> usize
     requires inside { IsInLine (host_width display.now.host) display.now.crtc.registers
         display.now.crtc.beam }
@@ -96,8 +99,8 @@ fn shown_count(display: &Display<'_>, n: u32) -> usize
     n.min(shown.saturating_sub(at)) as usize
 }
 
-/// Adds the display dots among the next `n` dots of the beam's line, the start of whose frame is
-/// taken.
+/// Adds the display dots among the next `n` dots of the beam's line. The start of its frame is
+/// taken already.
 fn draw_dots(display: &Display<'_>, canvas: &mut Canvas, n: u32)
     requires place { IsDrawnTo display.now.crtc.beam 0 canvas.old.line canvas.old.width }
     requires inside { IsInLine (host_width display.now.host) display.now.crtc.registers
@@ -121,8 +124,9 @@ fn draw_dots(display: &Display<'_>, canvas: &mut Canvas, n: u32)
 }
 
 impl Card {
-    /// Takes the dots of a whole line, at whose first dot the beam is, and gives the beam that it
-    /// was drawn with. If the dots drawn last are those of a whole line, `before` is that beam.
+    /// Takes the dots of a whole line, and returns the beam that the line was drawn with. The beam
+    /// is at the line's first dot. If the dots drawn last are those of a whole line, `before` may
+    /// be the beam of that line.
     fn take_line(&mut self, before: Option<Beam>) -> Beam
         requires start { IsLineStart self.old.crtc.beam }
         requires before { IfSome before (EndsWithLine (started_display self.old) self.old.drawn) }
@@ -143,7 +147,7 @@ impl Card {
         beam
     }
 
-    /// Takes `n` dots of the line, at a dot of which the beam is.
+    /// Takes the next `n` dots of the beam's line, which has at least `n` dots left.
     fn take_part(&mut self, n: u32)
         requires some { 0 < n }
         requires inside { IsInLine (character_width self.old) self.old.crtc.registers
@@ -183,9 +187,9 @@ impl Card {
         );
     }
 
-    /// Takes so many dots, by whole lines and parts of lines where it can. A line may be a copy of
-    /// the whole line taken just before it.
-    pub(super) fn take_dots(&mut self, n: u32)
+    /// Takes `n` dots and draws them, by whole lines and parts of lines where it can. A line may be
+    /// a copy of the whole line taken just before it.
+    fn take_and_draw(&mut self, n: u32)
         ensures { self.new ≡ dots n self.old }
     {
         let width = self.host.character_width();
@@ -211,9 +215,23 @@ impl Card {
         }
     }
 
-    /// Lets the clock run for `n` dots, at most 16,777,216: the display dots among them join the
-    /// picture of their frame. Registers and memory stay. It is refused with `TooFar`, and then
-    /// changes nothing, where there are more.
+    /// Takes `n` dots. It draws none of a frame that ends before the last of them, because no dot
+    /// of that frame can be seen any more.
+    pub(super) fn take_dots(&mut self, n: u32)
+        ensures { self.new ≡ dots n self.old }
+    {
+        // So few dots end no frame, or one of so few lines that it may be drawn.
+        let left = if n > LONGEST_LINE {
+            self.skip_frames(n)
+        } else {
+            n
+        };
+        self.take_and_draw(left);
+    }
+
+    /// Lets the clock run for `n` dots, at most 16,777,216. The display dots among them join the
+    /// picture of their frame. Registers and memory stay the same. A larger `n` is refused with
+    /// `TooFar`, and then nothing changes.
     pub fn advance(&mut self, n: u32) -> Result<(), Refusal>
         ensures few { IsOk result ↔ (n ≤ most_dots) }
         ensures ok { OnOk result (self.new ≡ dots n self.old) }

@@ -1,24 +1,44 @@
 //! Cycles that need not wait for the dots before them: reads of memory and of input status 1, and
-//! writes to memory that none of the dots sees. Each takes as many of the dots as it must, and
-//! tells how many are left.
-ghost use Rattle.std.specs.Prelude.{◌≡◌, ◌≤◌, true, ℕ, Some};
+//! writes to memory and to registers that none of the dots sees. Each takes only the dots that it
+//! must, and returns how many are left.
+ghost use Rattle.std.specs.Prelude.{◌≡◌, ◌≤◌, ◌==◌, ◌&&◌, ◌<◌, not, true, ℕ, Some, Ok};
 ghost use Rattle.vga_card.specs.Dots.{character_width, dots};
 ghost use Rattle.vga_card.specs.Port.{port_of};
 ghost use Rattle.vga_card.specs.declared.port.Port.TheVariants.{InputStatus1};
 ghost use Rattle.vga_crtc.specs.Raster.{IsInLine, dots_in_line};
-ghost use Rattle.vga_card.specs.Cycles.{inp_cycle, put_cycle, get_cycle};
+ghost use Rattle.vga_card.specs.Cycles.{out_cycle, inp_cycle, put_cycle, get_cycle};
+ghost use Rattle.vga_card.specs.WordCycles.{out_word_cycle, put_word_cycle, get_word_cycle};
 ghost use Rattle.vga_host.specs.Memory.Address.{window_offset};
 ghost use Rattle.vga_host.specs.Memory.Write.{memory_after_put};
-ghost use Rattle.vga_card.specs.Owed.{SeeAlike};
+ghost use Rattle.vga_card.specs.Owed.{SeeAlike, IsHidden};
 
 use super::Card;
+use super::word_cycles::bytes_of;
 use crate::laws::{
-    dots_split, reads_do_not_wait, status_reads_do_not_wait, unseen_writes_do_not_wait,
+    dots_keep, dots_split, hidden_writes_do_not_wait, reads_do_not_wait, status_reads_do_not_wait,
+    unseen_writes_do_not_wait,
 };
 use crate::port::{Port, port_reached};
 use vga_bits::Refusal;
 use vga_crtc::laws::{beam_goes_in_line, start_is_taken_once};
 use vga_dots::is_apart;
+use vga_host::{GRAPHICS_DATA, GRAPHICS_INDEX, SEQUENCER_DATA, SEQUENCER_INDEX};
+
+/// Whether no dot sees the sequencer's register with this index. Dots see clocking mode and
+/// character map select.
+fn is_hidden_sequencer(index: u8) -> bool
+    ensures { result ≡ (not (index == 1) && not (index == 3)) }
+{
+    index != 1 && index != 3
+}
+
+/// Whether no dot sees the graphics controller's register with this index. Dots see graphics mode
+/// and miscellaneous.
+fn is_hidden_graphics(index: u8) -> bool
+    ensures { result ≡ (not (index == 5) && not (index == 6)) }
+{
+    index != 5 && index != 6
+}
 
 impl Card {
     /// Whether the next n dots are dots of the beam's line.
@@ -33,8 +53,9 @@ impl Card {
         self.crtc.is_in_line(width) && n <= self.crtc.dots_in_line(width)
     }
 
-    /// Whether none of the next n dots sees a write to an address: they are dots of the beam's line,
-    /// past the first of a frame, and fetch nothing near the offset that is written.
+    /// True only if none of the next n dots sees a write to this address. They must be dots of the
+    /// beam's line, must not begin a frame, and must fetch nothing near the offset that is written.
+    /// In text the write must not reach the plane of glyphs.
     fn is_unseen(&self, n: u32, address: u32) -> bool
         ensures { result ≡ true → (v : ℕ) → SeeAlike n self.now
             (memory_after_put self.now.host (window_offset self.now.host address) v) }
@@ -50,9 +71,10 @@ impl Card {
         }
     }
 
-    /// Takes the whole lines among the next n dots, or all of these if the beam is past its line's
-    /// end. It gives how many dots are left.
-    fn take_whole_lines(&mut self, n: u32) -> u32
+    /// Takes the rest of the line under way if it ends among the next n dots, and then the whole
+    /// lines among them. It takes all n dots if the beam is past its line's end. It returns how many
+    /// dots are left.
+    fn take_to_last_line_start(&mut self, n: u32) -> u32
         ensures left { result ≤ n }
         ensures dots { dots result self.new ≡ dots n self.old }
     {
@@ -72,8 +94,8 @@ impl Card {
         rest
     }
 
-    /// Takes those of the next n dots that may see a write to an address. It gives how many dots
-    /// are left, none of which sees it.
+    /// Takes those of the next n dots that may see a write to an address. It returns how many dots
+    /// are left. None of those sees the write.
     #[inline(never)]
     fn take_dots_that_see(&mut self, n: u32, address: u32) -> u32
         ensures left { result ≤ n }
@@ -82,7 +104,7 @@ impl Card {
             (memory_after_put self.new.host (window_offset self.new.host address) v) }
     {
         dots_split();
-        let left = self.take_whole_lines(n);
+        let left = self.take_to_last_line_start(n);
         if self.is_unseen(left, address) {
             return left;
         }
@@ -90,8 +112,8 @@ impl Card {
         0
     }
 
-    /// Writes a byte to an address n dots on. It gives how many of these dots are left to be taken
-    /// after the write, which they do not see.
+    /// Writes a byte to an address n dots on. It returns how many of these dots remain to be taken
+    /// after the write. They do not see it.
     pub fn put_after(&mut self, n: u32, address: u32, v: u8) -> (u32, Result<(), Refusal>)
         ensures left { result.0 ≤ n }
         ensures put { (dots result.0 self.new, result.1) ≡ put_cycle (dots n self.old) address v }
@@ -106,6 +128,25 @@ impl Card {
         }
     }
 
+    /// Writes a word to an address and the next, n dots on. It returns how many of these dots
+    /// remain to be taken after the write. They see neither byte.
+    pub fn put_word_after(&mut self, n: u32, address: u32, v: u16) -> (u32, Result<(), Refusal>)
+        ensures left { result.0 ≤ n }
+        ensures put { (dots result.0 self.new, result.1)
+            ≡ put_word_cycle (dots n self.old) address v }
+    {
+        dots_keep();
+        if address == u32::MAX || !self.decodes_word(address) {
+            return (n, Err(Refusal::NotDecoded));
+        }
+        let (low, high) = bytes_of(v);
+        let (left, first) = self.put_after(n, address, low);
+        match first {
+            Ok(()) => self.put_after(left, address + 1, high),
+            Err(refusal) => (left, Err(refusal)),
+        }
+    }
+
     /// Whether a port is that of input status 1.
     fn is_input_status_1(&self, port: u16) -> bool
         ensures { result ≡ true → port_of self.now.misc port ≡ Some InputStatus1 }
@@ -113,34 +154,128 @@ impl Card {
         matches!(port_reached(self.misc, port), Some(Port::InputStatus1))
     }
 
-    /// Reads a byte from a port n dots on. It gives how many of these dots are left to be taken
+    /// Reads input status 1 as it is n dots on, within the beam's line. The attribute controller
+    /// takes its next write as an index; no dot sees that.
+    fn read_status_after(&mut self, n: u32) -> u8
+        requires some { 0 < n }
+        requires inside { IsInLine (character_width self.old) self.old.crtc.registers
+            self.old.crtc.beam }
+        requires few { n ≤ dots_in_line (character_width self.old) self.old.crtc.registers
+            self.old.crtc.beam }
+        requires at_most { n ≤ 2340 }
+        ensures { (port : ℕ) → port_of self.old.misc port ≡ Some InputStatus1 →
+            (dots n self.new, Ok result) ≡ inp_cycle (dots n self.old) port }
+    {
+        status_reads_do_not_wait();
+        let status = self.crtc.status_after(self.host.character_width(), n);
+        self.attr.to_index();
+        status
+    }
+
+    /// Reads a byte from a port n dots on. It takes the whole lines among these dots first. It
+    /// returns how many dots remain to be taken after the read.
+    #[inline(never)]
+    fn inp_after_lines(&mut self, n: u32, port: u16) -> (u32, Result<u8, Refusal>)
+        ensures left { result.0 ≤ n }
+        ensures read { (dots result.0 self.new, result.1) ≡ inp_cycle (dots n self.old) port }
+    {
+        dots_split();
+        let left = self.take_to_last_line_start(n);
+        if left > 0 && self.is_within_line(left) && self.is_input_status_1(port) {
+            return (left, Ok(self.read_status_after(left)));
+        }
+        self.take_dots(left);
+        (0, self.inp(port))
+    }
+
+    /// Reads a byte from a port n dots on. It returns how many of these dots remain to be taken
     /// after the read.
     pub fn inp_after(&mut self, n: u32, port: u16) -> (u32, Result<u8, Refusal>)
         ensures left { result.0 ≤ n }
         ensures read { (dots result.0 self.new, result.1) ≡ inp_cycle (dots n self.old) port }
     {
         dots_split();
-        status_reads_do_not_wait();
-        let left = if self.is_within_line(n) {
-            n
-        } else {
-            self.take_whole_lines(n)
-        };
-        if left > 0 && self.is_within_line(left) && self.is_input_status_1(port) {
-            let status = self.crtc.status_after(self.host.character_width(), left);
-            self.attr.to_index();
-            return (left, Ok(status));
+        if n == 0 {
+            return (0, self.inp(port));
         }
-        self.take_dots(left);
-        (0, self.inp(port))
+        if self.is_within_line(n) && self.is_input_status_1(port) {
+            return (n, Ok(self.read_status_after(n)));
+        }
+        self.inp_after_lines(n, port)
     }
 
-    /// Reads a byte from an address n dots on. All these dots are left to be taken after the read,
-    /// since no dot sees the latches.
+    /// Reads a byte from an address n dots on. All these dots remain to be taken after the read,
+    /// because no dot sees the latches.
     pub fn get_after(&mut self, n: u32, address: u32) -> Result<u8, Refusal>
         ensures { (dots n self.new, result) ≡ get_cycle (dots n self.old) address }
     {
         reads_do_not_wait();
         self.get(address)
+    }
+
+    /// Reads a word from an address and the next, n dots on. All these dots remain to be taken
+    /// after the read.
+    pub fn get_word_after(&mut self, n: u32, address: u32) -> Result<u16, Refusal>
+        ensures { (dots n self.new, result) ≡ get_word_cycle (dots n self.old) address }
+    {
+        reads_do_not_wait();
+        self.get_word(address)
+    }
+
+    /// Whether a write to this port is known to be hidden from dots, whichever byte it writes. Such
+    /// a port reaches the index of the sequencer or the graphics controller, or a hidden register
+    /// of theirs.
+    fn is_hidden_out(&self, port: u16) -> bool
+        ensures { result ≡ true → (v : ℕ) → IsHidden self.now (out_cycle self.now port v).0 }
+    {
+        match port {
+            SEQUENCER_INDEX | GRAPHICS_INDEX => true,
+            SEQUENCER_DATA => is_hidden_sequencer(self.host.seq_index()),
+            GRAPHICS_DATA => is_hidden_graphics(self.host.gfx_index()),
+            _ => false,
+        }
+    }
+
+    /// Whether a write of this word to a port is known to be hidden from dots. Such a word sets the
+    /// index of the sequencer or the graphics controller, and a hidden register of theirs.
+    fn is_hidden_out_word(&self, port: u16, v: u16) -> bool
+        ensures { result ≡ true → IsHidden self.now (out_word_cycle self.now port v).0 }
+    {
+        let index = (v % 256) as u8;
+        match port {
+            SEQUENCER_INDEX => is_hidden_sequencer(index & 0x07),
+            GRAPHICS_INDEX => is_hidden_graphics(index & 0x0F),
+            _ => false,
+        }
+    }
+
+    /// Writes a byte to a port n dots on. It returns how many of these dots remain to be taken
+    /// after the write. They do not see it.
+    pub fn out_after(&mut self, n: u32, port: u16, v: u8) -> (u32, Result<(), Refusal>)
+        ensures left { result.0 ≤ n }
+        ensures out { (dots result.0 self.new, result.1) ≡ out_cycle (dots n self.old) port v }
+    {
+        dots_split();
+        hidden_writes_do_not_wait();
+        if self.is_hidden_out(port) {
+            return (n, self.out(port, v));
+        }
+        self.take_dots(n);
+        (0, self.out(port, v))
+    }
+
+    /// Writes a word to a port and the next port, n dots on. It returns how many of these dots
+    /// remain to be taken after the write. They do not see it.
+    pub fn out_word_after(&mut self, n: u32, port: u16, v: u16) -> (u32, Result<(), Refusal>)
+        ensures left { result.0 ≤ n }
+        ensures out { (dots result.0 self.new, result.1) ≡ out_word_cycle (dots n self.old) port v }
+    {
+        dots_split();
+        hidden_writes_do_not_wait();
+        if self.is_hidden_out_word(port, v) {
+            return (n, self.out_word(port, v));
+        }
+        self.take_dots(n);
+        (0, self.out_word(port, v))
     }
 }

@@ -1,6 +1,6 @@
-//! Rows that are copied from the line before: it serves speed alone, since `draw_row` can draw them
-//! all. In graphics the lines of one row of characters, and the two of a doubled line, have the
-//! same dots, since the profile leaves out the row scan as a bit of the address.
+//! Rows that are copied from the line before. This file serves speed alone: `draw_row` can draw
+//! them all. In graphics, the lines of one row of characters have the same dots, and so do the two
+//! lines of a doubled line, because the profile leaves out the row scan as a bit of the address.
 ghost use Rattle.std.specs.Prelude.{◌≡◌, ◌<◌, ◌≤◌, ◌++◌, true, IfSome};
 ghost use Rattle.vga_crtc.specs.Raster.{IsLineStart};
 ghost use Rattle.vga_card.specs.Line.{line_dots};
@@ -13,8 +13,8 @@ use vga_crtc::Beam;
 use vga_dots::laws::graphics_lines_repeat;
 use vga_dots::{Display, shown_characters};
 
-/// Whether the beam's line shows in graphics what an earlier line of the frame showed, whose beam
-/// was `before`.
+/// Whether the beam's line, in graphics, shows the same as an earlier line of the frame. That line
+/// was drawn with the beam `before`.
 fn shows_again(display: &Display<'_>, before: Beam) -> bool
     ensures { result ≡ true → ShowsAgain display.now before }
 {
@@ -25,8 +25,9 @@ fn shows_again(display: &Display<'_>, before: Beam) -> bool
         && before.line < beam.line
 }
 
-/// Adds the display dots of the beam's line, the start of whose frame is taken: a copy of the dots
-/// added last, which are those of a line with the beam `before` and show the same.
+/// Adds the display dots of the beam's line as a copy of the dots added last. Those are the dots of
+/// a line that was drawn with the beam `before` and shows the same. The start of the frame is taken
+/// already.
 fn copy_row(display: &Display<'_>, canvas: &mut Canvas, before: Beam)
     requires place { IsDrawnTo display.now.crtc.beam 0 canvas.old.line canvas.old.width }
     requires start { IsLineStart display.now.crtc.beam }
@@ -44,8 +45,9 @@ fn copy_row(display: &Display<'_>, canvas: &mut Canvas, before: Beam)
     }
 }
 
-/// Adds the display dots of the beam's line, the start of whose frame is taken: by a copy, where
-/// the dots added last are those of a whole line that shows the same, whose beam was `before`.
+/// Adds the display dots of the beam's line. If the dots added last are those of a whole line,
+/// `before` may be its beam. If that line shows the same, its dots are copied. The start of the
+/// frame is taken already.
 pub(super) fn add_row(display: &Display<'_>, canvas: &mut Canvas, before: Option<Beam>)
     requires place { IsDrawnTo display.now.crtc.beam 0 canvas.old.line canvas.old.width }
     requires start { IsLineStart display.now.crtc.beam }

@@ -28,7 +28,7 @@ struct Parts<'a> {
     dots: &'a [u8],
 }
 
-/// The bytes of each part: those of the dots are what is left behind the parts of fixed size.
+/// The bytes of each part. Those of the dots are what remains after the parts of fixed size.
 fn parts_of(bytes: &[u8]) -> Parts<'_>
     requires { 265046 ≤ length bytes.now }
     ensures misc { result.misc ≡ slice_index bytes.now 0 }
@@ -55,8 +55,8 @@ fn parts_of(bytes: &[u8]) -> Parts<'_>
 }
 
 impl Card {
-    /// How many bytes an adapter has when it is saved at the first dot of a frame; elsewhere it has
-    /// three more for each dot drawn.
+    /// How many bytes an adapter has when you save it at the first dot of a frame. At any other dot
+    /// it has three more for each dot drawn.
     pub const SAVED_LEN: usize = 1
         + Crtc::SAVED_LEN
         + Attr::SAVED_LEN
@@ -64,7 +64,7 @@ impl Card {
         + Host::SAVED_LEN
         + WIDTHS_LEN;
 
-    /// How many bytes the adapter has when it is saved now.
+    /// How many bytes the adapter has if you save it now.
     pub fn saved_len(&self) -> usize
         ensures value { result ≡ length (saved_card self.now) }
         ensures dots { result ≡ 265046 + 3 * length (fresh self.now) }
@@ -79,10 +79,10 @@ impl Card {
         Card::SAVED_LEN + dots
     }
 
-    /// Puts the bytes of the adapter into a slice from place `at` on, where there is room for them,
-    /// and gives the place behind them: the miscellaneous output register, CRT controller,
-    /// attribute controller, DAC, host path, and the dots that are drawn of the frame under way, of
-    /// which there is none at its first dot.
+    /// Puts the bytes of the adapter into a slice from index `at` on, where there is room for them.
+    /// It returns the index after them. The order is: miscellaneous output register, CRT
+    /// controller, attribute controller, DAC, host path, and the dots drawn until now of the frame
+    /// under way. At the frame's first dot there are no dots.
     #[tactic(auto, unfolding(crate::specs::Saved::saved_card))]
     pub fn save(&self, out: &mut [u8], at: usize) -> usize
         requires { at + (265046 + 3 * length (fresh self.now)) ≤ length out.old }
@@ -100,8 +100,8 @@ impl Card {
         }
     }
 
-    /// Whether some bytes are those of an adapter: each part's are within its bounds, and the
-    /// dots are drawn up to the beam.
+    /// Whether some bytes are those of an adapter. Each part must be within its bounds, and dots
+    /// may be drawn up to the beam only.
     pub fn is_saved(bytes: &[u8]) -> bool
         ensures { IsTrue result ↔ IsSavedCard bytes.now }
     {
@@ -121,7 +121,7 @@ impl Card {
         are_saved_dots(Crtc::saved_beam(parts.crtc), parts.dots)
     }
 
-    /// Takes all parts and the dots drawn from the bytes of an adapter. No memory is taken.
+    /// Restores all parts and the dots drawn from the bytes of an adapter. It allocates no memory.
     #[tactic(auto, unfolding(crate::specs::Saved::card_from))]
     pub fn restore(&mut self, bytes: &[u8])
         requires { IsSavedCard bytes.now }
@@ -136,7 +136,7 @@ impl Card {
         self.canvas.restore(self.crtc.beam(), parts.dots);
     }
 
-    /// Saves the adapter into a slice that has as many bytes as `saved_len` tells.
+    /// Saves the adapter into a slice of `saved_len` bytes.
     #[tactic(auto, using(vga_bits::proofs::SavedLemmas::put_whole))]
     fn save_whole(&self, out: &mut [u8])
         requires { length out.old ≡ length (saved_card self.now) }
@@ -146,7 +146,7 @@ impl Card {
         self.save(out, 0);
     }
 
-    /// The bytes of the adapter. It fails with `OutOfMemory` alone.
+    /// The bytes of the adapter. It fails only with `OutOfMemory`.
     fn saved_bytes(&self, alloc: Global) -> Result<Vec<u8>, Fault>
         ensures ok { IfOk result (λ bytes. bytes.items ≡ saved_card self.now) }
         ensures err { IsOkUnless result Fault.OutOfMemory }
@@ -158,8 +158,8 @@ impl Card {
         Ok(bytes)
     }
 
-    /// A copy of the adapter, but for dots that no step can see any more. It fails with
-    /// `OutOfMemory` alone.
+    /// A copy of the adapter, without the dots that no step can see any more. It fails only with
+    /// `OutOfMemory`.
     #[tactic(auto, using(crate::proofs::SavedCards::saved_there))]
     pub fn copy(&self, alloc: Global) -> Result<Card, Fault>
         ensures ok { IfOk result (λ card. card ≡ with_fresh_canvas self.now) }
@@ -172,8 +172,8 @@ impl Card {
         Ok(copy)
     }
 
-    /// What is saved is restored, whole, but for dots that no step can see any more. The clauses
-    /// are for proofs: nothing runs.
+    /// A saved adapter is restored in full, except for dots that no step can see any more. The
+    /// clauses are for proofs: nothing runs.
     pub fn saves_whole(&self)
         ensures saved { IsSavedCard (saved_card self.now) }
         ensures back { card_from (saved_card self.now) ≡ with_fresh_canvas self.now }

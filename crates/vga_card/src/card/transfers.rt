@@ -1,5 +1,5 @@
-//! Bytes that are written to addresses which follow one another, or read from them: the first
-//! address first, or, going down, the last one first.
+//! Writes to a run of addresses, and reads from one. They go up from the first address, or down
+//! from the last.
 ghost use Rattle.std.specs.Prelude.{◌≡◌, ◌<◌, ◌≤◌, ◌+◌, ◌^◌, ℕ, length, slice_index};
 ghost use Rattle.vga_card.specs.Bus.{after_puts, card_meaning, AtAddress};
 ghost use Rattle.vga_card.specs.Transfers.{after_gets, after_puts_down, after_gets_down};
@@ -7,11 +7,11 @@ ghost use Rattle.vga_card.specs.Transfers.{after_moves_down, byte_at, decoded_by
 
 use super::Card;
 
-/// What a refused read gives where it is moved, or read among others.
+/// What a refused read gives when its byte is moved, or when it is one of many reads.
 const REFUSED: u8 = 0xFF;
 
 impl Card {
-    /// How many of n addresses from the first on the display memory has.
+    /// How many of the n addresses from the first on are decoded by the display memory.
     pub fn decoded_among(&self, first: u32, n: u32) -> u32
         requires { first + n < 2 ^ 32 }
         ensures value { result ≡ decoded_by self.now first n }
@@ -64,7 +64,7 @@ impl Card {
         }
     }
 
-    /// The byte that a read of an address answers: FF where it is refused.
+    /// The byte that a read of an address returns, or FF where the read is refused.
     fn get_or_refused(&mut self, address: u32) -> u8
         ensures after { self.new ≡ (card_meaning.read self.old (AtAddress address)).0 }
         ensures byte { result ≡ byte_at self.old address }
@@ -75,8 +75,8 @@ impl Card {
         }
     }
 
-    /// Reads the addresses from the first on into bytes of the caller's. A refused read gives FF,
-    /// and loads no latch.
+    /// Reads the addresses from the first on into the caller's bytes. A refused read gives FF and
+    /// loads no latch.
     #[tactic(auto, using(crate::proofs::TransferLemmas::card_gets))]
     pub fn get_slice(&mut self, first: u32, bytes: &mut [u8])
         requires { first + length bytes.old < 2 ^ 32 }
@@ -86,8 +86,8 @@ impl Card {
         self.host.get_slice(first, bytes, self.misc);
     }
 
-    /// Reads the addresses from the first on into bytes of the caller's, the last address first. A
-    /// refused read gives FF, and loads no latch.
+    /// Reads the addresses from the first on into the caller's bytes, the last address first. A
+    /// refused read gives FF and loads no latch.
     pub fn get_slice_down(&mut self, first: u32, bytes: &mut [u8])
         requires { first + length bytes.old < 2 ^ 32 }
         ensures after { self.new ≡ after_gets_down card_meaning first (length bytes.old)
@@ -101,8 +101,8 @@ impl Card {
         }
     }
 
-    /// Moves n bytes, the last first: each is read at an address, and written at another. A refused
-    /// write does nothing, and a refused read gives FF.
+    /// Moves n bytes from one run of addresses to another, the last byte first. A refused write
+    /// does nothing, and a refused read gives FF.
     pub fn move_bytes_down(&mut self, from: u32, to: u32, n: u32)
         requires from { from + n < 2 ^ 32 }
         requires to { to + n < 2 ^ 32 }

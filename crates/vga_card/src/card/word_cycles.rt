@@ -1,5 +1,5 @@
-//! Cycles of a word: its low byte at the port or address, then its high byte at the next, or
-//! neither.
+//! Cycles of a word: its low byte at a port or address, and then its high byte at the next one. A
+//! refused cycle moves neither byte.
 ghost use Rattle.std.specs.Prelude.{◌≡◌, ◌+◌, ◌*◌, ◌/◌, ◌%◌, ◌<◌, ◌&&◌, IsOk};
 ghost use Rattle.vga_host.specs.Memory.Address.{is_decoded};
 ghost use Rattle.vga_card.specs.Cycles.{out_cycle, inp_cycle};
@@ -14,7 +14,7 @@ use vga_bits::Refusal;
 use vga_host::{GRAPHICS_INDEX, SEQUENCER_DATA, SEQUENCER_INDEX};
 
 /// The low and the high byte of a word.
-fn bytes_of(v: u16) -> (u8, u8)
+pub(super) fn bytes_of(v: u16) -> (u8, u8)
     ensures low { result.0 ≡ v % 256 }
     ensures high { result.1 ≡ v / 256 }
 {
@@ -29,8 +29,8 @@ fn word_of(low: u8, high: u8) -> u16
 }
 
 impl Card {
-    /// Writes a byte to a port and then one to the next, where the second is not refused once the
-    /// first is written.
+    /// Writes a byte to a port, and then one to the next port. The second write is not refused once
+    /// the first is done.
     #[tactic(auto, using(crate::proofs::CycleLemmas::written_refused))]
     fn out_pair(&mut self, port: u16, low: u8, high: u8) -> Result<(), Refusal>
         requires few { port < 65535 }
@@ -41,7 +41,7 @@ impl Card {
         self.out(port + 1, high)
     }
 
-    /// Writes an index to the sequencer's index port, and its register.
+    /// Writes the sequencer's index, and then the register that it selects.
     #[tactic(auto, unfolding(crate::specs::Cycles::out_reached, crate::specs::Port::port_of))]
     fn out_sequencer(&mut self, index: u8, v: u8) -> Result<(), Refusal>
         ensures { (self.new, result) ≡ out_bytes self.old 0x3C4 index v }
@@ -53,7 +53,7 @@ impl Card {
         self.out_at(Port::SequencerData, v)
     }
 
-    /// Writes an index to the graphics controller's index port, and its register.
+    /// Writes the graphics controller's index, and then the register that it selects.
     #[tactic(auto, unfolding(crate::specs::Cycles::out_reached, crate::specs::Port::port_of))]
     fn out_graphics(&mut self, index: u8, v: u8) -> Result<(), Refusal>
         ensures { (self.new, result) ≡ out_bytes self.old 0x3CE index v }
@@ -65,7 +65,7 @@ impl Card {
         self.out_at(Port::GraphicsData, v)
     }
 
-    /// Writes an index to the CRT controller's index port, and its register.
+    /// Writes the CRT controller's index, and then the register that it selects.
     #[tactic(auto, unfolding(crate::specs::Cycles::out_reached, crate::specs::Port::port_of, crate::specs::Port::crtc_port_of))]
     fn out_crtc(&mut self, index: u8, v: u8) -> Result<(), Refusal>
         ensures { (self.new, result) ≡ out_bytes self.old (crtc_port self.old.misc) index v }
@@ -77,9 +77,9 @@ impl Card {
         self.out_at(Port::CrtcData, v)
     }
 
-    /// Writes a word to a port and the next. It is refused whole if either byte would be, the
-    /// second judged in the state after the first, with the lower-numbered refusal where both are;
-    /// a word at the last port is `NotDecoded`.
+    /// Writes a word to a port and the next. If either byte would be refused, neither is written.
+    /// Whether the second byte would be is judged in the state after the first. If both would be,
+    /// the lower-numbered refusal is returned. A word at the last port is `NotDecoded`.
     #[tactic(auto, unfolding(crate::specs::Cycles::out_reached, crate::specs::Port::port_of, crate::specs::Port::crtc_port_of))]
     pub fn out_word(&mut self, port: u16, v: u16) -> Result<(), Refusal>
         ensures { (self.new, result) ≡ out_word_cycle self.old port v }
@@ -89,7 +89,7 @@ impl Card {
             return Err(Refusal::NotDecoded);
         };
         match reached {
-            // The second byte is for the register that the first one names.
+            // The second byte is for the register that the first one selects.
             Port::SequencerIndex => self.out_sequencer(low, high),
             Port::GraphicsIndex => self.out_graphics(low, high),
             Port::CrtcIndex => self.out_crtc(low, high),
@@ -100,7 +100,7 @@ impl Card {
             Port::DacWriteIndex => self.out_pair(port, low, high),
             // One of the two bytes is for video subsystem enable.
             Port::MiscellaneousWrite | Port::SubsystemEnable => Err(Refusal::NotInProfile),
-            // One of the two bytes is at a port that is not written, or at none.
+            // One of the two bytes is at a port that cannot be written, or at no port.
             Port::Attribute => Err(Refusal::NotDecoded),
             Port::AttributeRegister => Err(Refusal::NotDecoded),
             Port::DacData => Err(Refusal::NotDecoded),
@@ -112,7 +112,8 @@ impl Card {
         }
     }
 
-    /// Reads a word at a port and the next, where the first byte is read without effect or refusal.
+    /// Reads a word from a port and the next. Reading its first byte has no effect, and is not
+    /// refused.
     fn inp_quiet(&mut self, port: u16) -> Result<u16, Refusal>
         requires few { port < 65535 }
         requires quiet { IsQuiet self.old port }
@@ -127,7 +128,8 @@ impl Card {
         }
     }
 
-    /// Reads a word from a port and the next. It is refused as a write is, and then has no effect.
+    /// Reads a word from a port and the next. It is refused by the same rules as a write, and then
+    /// has no effect.
     #[tactic(auto, unfolding(crate::specs::Cycles::inp_reached, crate::specs::Port::port_of, crate::specs::Port::crtc_port_of))]
     pub fn inp_word(&mut self, port: u16) -> Result<u16, Refusal>
         ensures { (self.new, result) ≡ inp_word_cycle self.old port }
@@ -136,7 +138,7 @@ impl Card {
             return Err(Refusal::NotDecoded);
         };
         match reached {
-            // An index, and then what it names.
+            // An index, and then the register or the data that it selects.
             Port::Attribute => self.inp_quiet(port),
             Port::SequencerIndex => self.inp_quiet(port),
             Port::DacWriteIndex => self.inp_quiet(port),
@@ -165,8 +167,8 @@ impl Card {
         }
     }
 
-    /// Whether a word at an address is decoded: both of its bytes are.
-    fn decodes_word(&self, address: u32) -> bool
+    /// Whether both bytes of a word at an address are decoded.
+    pub(super) fn decodes_word(&self, address: u32) -> bool
         requires { address < 4294967295 }
         ensures { result ≡ (is_decoded self.now.host self.now.misc address
             && is_decoded self.now.host self.now.misc (address + 1)) }
@@ -174,8 +176,9 @@ impl Card {
         self.host.decodes(address, self.misc) && self.host.decodes(address + 1, self.misc)
     }
 
-    /// Writes a word to an address and the next. It is refused whole, with `NotDecoded`, where the
-    /// display memory does not have both; a word at the last address is `NotDecoded`.
+    /// Writes a word to an address and the next. If the display memory does not decode both
+    /// addresses, the write is refused with `NotDecoded`, and neither byte is written. A word at
+    /// the last address is refused likewise.
     pub fn put_word(&mut self, address: u32, v: u16) -> Result<(), Refusal>
         ensures { (self.new, result) ≡ put_word_cycle self.old address v }
     {
@@ -187,8 +190,8 @@ impl Card {
         self.put(address + 1, high)
     }
 
-    /// Reads a word from an address and the next; the latches are those of the second byte. It is
-    /// refused as a write is, and then loads no latch.
+    /// Reads a word from an address and the next. Afterwards the latches are those of the second
+    /// byte. The read is refused by the same rules as a write, and then loads no latch.
     pub fn get_word(&mut self, address: u32) -> Result<u16, Refusal>
         ensures { (self.new, result) ≡ get_word_cycle self.old address }
     {

@@ -27,8 +27,8 @@ impl Beam {
             && self.line <= registers.vertical_display_end()
     }
 
-    /// Input status 1: bit 0 is 0 at a display dot and else 1, bit 3 is 1 in the vertical retrace,
-    /// and the others are 0.
+    /// Input status 1. Bit 0 is 0 at a display dot, else 1. Bit 3 is 1 in the vertical retrace. The
+    /// other bits are 0.
     pub(crate) fn status(self, registers: &Registers) -> u8
         ensures { result ≡ (if is_display registers.now self then 0 else 1)
             + (if is_retrace registers.now self then 8 else 0) }
@@ -107,7 +107,7 @@ impl Beam {
     }
 
     /// The line at whose first dot the vertical retrace begins next, or ends if the beam is in it;
-    /// `None` if it is at no line of a frame, or at all of them.
+    /// `None` if the retrace is at no line of a frame, or at every line.
     fn retrace_change(self, registers: &Registers, cw: u8) -> Option<u16>
         requires { (cw ≡ 8) ⊎ (cw ≡ 9) }
         ensures few { IfSome result (λ v. v < 1026) }

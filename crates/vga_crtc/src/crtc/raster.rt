@@ -7,11 +7,12 @@ ghost use Rattle.vga_crtc.specs.Beam.{after_start, after_dot, after_dots};
 ghost use Rattle.vga_crtc.specs.Raster.{dots_in_line, dots_in_frame, IsLineTaken, IsInLine};
 
 use super::Crtc;
+use crate::beam::Beam;
 
 impl Crtc {
     /// Takes the start of a frame, if the beam is there: the start address with byte panning, and
-    /// the first scan line. Elsewhere nothing happens. A dot leads to the same place after this as
-    /// without.
+    /// the first scan line. Elsewhere it does nothing. A dot leads to the same beam whether the
+    /// start was taken before or not.
     #[tactic(auto, unfolding(crate::specs::Beam::after_start))]
     pub fn take_start(&mut self)
         ensures started { self.new ≡ after_start self.old }
@@ -74,8 +75,8 @@ impl Crtc {
         self.beam.dots_to_display_change(&self.registers, cw)
     }
 
-    /// Moves the beam dot by dot, at least one, until it is at the first dot of a line again; a
-    /// character is `cw` dots wide, 8 or 9. The beam goes there at once.
+    /// Moves the beam to the first dot of the next line, by at least one dot. It does so in one
+    /// step. A character is `cw` dots wide, 8 or 9.
     pub fn step_line(&mut self, cw: u8)
         requires { (cw ≡ 8) ⊎ (cw ≡ 9) }
         ensures { IsLineTaken cw self.old self.new }
@@ -83,8 +84,17 @@ impl Crtc {
         self.beam.step_line(&self.registers);
     }
 
-    /// Whether the beam is at a dot that its line has: it is not where a register was lowered below
-    /// it. A character is `cw` dots wide.
+    /// Moves the beam to where single dots, at least one, first lead to the first dot of a frame.
+    /// It does so in one step, whatever the width of a character.
+    pub fn step_frame(&mut self)
+        ensures { (cw : ℕ) → 0 < cw → self.new
+            ≡ after_dots self.old cw (dots_in_frame cw self.old.registers self.old.beam) }
+    {
+        self.beam = Beam::first_dot((self.beam.frame + 1) % 32);
+    }
+
+    /// Whether the beam is at a dot that its line has. Lowering a register can leave the beam past
+    /// those dots. A character is `cw` dots wide.
     pub fn is_in_line(&self, cw: u8) -> bool
         ensures { (result ≡ true) ↔ IsInLine cw self.now.registers self.now.beam }
     {
@@ -92,8 +102,8 @@ impl Crtc {
     }
 
     /// Moves the beam by `n` dots of its line, at least one and at most those that lead to the next
-    /// line; a character is `cw` dots wide, 8 or 9. Where a frame begins, its start is taken first.
-    /// The beam goes there at once.
+    /// line. It does so in one step. Where a frame begins, its start is taken first. A character is
+    /// `cw` dots wide, 8 or 9.
     pub fn step_dots(&mut self, cw: u8, n: u32)
         requires width { (cw ≡ 8) ⊎ (cw ≡ 9) }
         requires inside { IsInLine cw self.old.registers self.old.beam }

@@ -13,8 +13,8 @@ impl Crtc {
     /// How many bytes a CRT controller has when it is saved.
     pub const SAVED_LEN: usize = 37;
 
-    /// Puts the bytes of the CRT controller into a slice from place `at` on, and gives the place
-    /// behind them: the 25 registers, the index, and the beam.
+    /// Puts the bytes of the CRT controller into a slice from index `at` on. It returns the index
+    /// after them. The order is: the 25 registers, the controller's index, and the beam.
     #[tactic(auto, unfolding(crate::specs::Saved::saved_crtc))]
     pub fn save(&self, out: &mut [u8], at: usize) -> usize
         requires { at + 37 ≤ length out.old }
@@ -26,8 +26,8 @@ impl Crtc {
         put_bytes(out, at, &self.beam.saved())
     }
 
-    /// Whether some bytes are those of a CRT controller: registers and index hold bits that they
-    /// keep, and the beam is within its bounds.
+    /// Whether some bytes are those of a CRT controller. Registers and index must hold only bits
+    /// that they keep, and the beam must be within its bounds.
     pub fn is_saved(bytes: &[u8]) -> bool
         ensures { IsTrue result ↔ IsSavedCrtc bytes.now }
     {
@@ -39,7 +39,7 @@ impl Crtc {
         are_kept(&KEPT_BITS, registers) && index[0] <= INDEX_MASK && Beam::is_saved(beam)
     }
 
-    /// The beam of a CRT controller that has these 37 bytes.
+    /// The beam of the CRT controller with these 37 bytes.
     #[tactic(auto, unfolding(crate::specs::Saved::crtc_from))]
     pub fn saved_beam(bytes: &[u8]) -> Beam
         requires { length bytes.now ≡ 37 }
@@ -49,7 +49,7 @@ impl Crtc {
         Beam::from_saved(rest.split_at(1).1)
     }
 
-    /// Takes registers, index and beam from the bytes of a CRT controller.
+    /// Restores registers, index and beam from the bytes of a CRT controller.
     #[tactic(auto, unfolding(crate::specs::Saved::crtc_from))]
     pub fn restore(&mut self, bytes: &[u8])
         requires { IsSavedCrtc bytes.now }
@@ -62,7 +62,7 @@ impl Crtc {
         self.beam = Beam::from_saved(beam);
     }
 
-    /// What is saved is restored, whole. The clauses are for proofs: nothing runs.
+    /// A saved CRT controller is restored in full. The clauses are for proofs: nothing runs.
     #[tactic(auto, using(crate::proofs::SavedLemmas::crtc_is_back))]
     pub fn saves_whole(&self)
         ensures saved { IsSavedCrtc (saved_crtc self.now) }

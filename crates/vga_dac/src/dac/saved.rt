@@ -20,7 +20,7 @@ fn component_number(component: Component) -> u8
     }
 }
 
-/// The component of a number, 0 to 2.
+/// The component with this number, 0 to 2.
 fn component_of_number(number: u8) -> Component
     ensures { result ≡ component_numbered number }
 {
@@ -31,7 +31,7 @@ fn component_of_number(number: u8) -> Component
     }
 }
 
-/// Whether each of some values has six bits.
+/// Whether each value fits in six bits.
 #[tactic(auto, using(crate::proofs::SavedLemmas::small_within))]
 fn are_small(values: &[u8]) -> bool
     ensures { IsTrue result ↔ AreSmall values.now }
@@ -44,7 +44,8 @@ fn are_small(values: &[u8]) -> bool
     true
 }
 
-/// Whether a component's number and two values of six bits stand where they do behind the entries.
+/// Whether the bytes after the entries are within bounds: the number of a component, and the two
+/// values of six bits.
 fn are_counters(bytes: &[u8]) -> bool
     requires { length bytes.now ≡ 5 }
     ensures { IsTrue result ↔ AreCounters bytes.now }
@@ -56,9 +57,9 @@ impl Dac {
     /// How many bytes a DAC has when it is saved.
     pub const SAVED_LEN: usize = 773;
 
-    /// Puts the bytes of the DAC into a slice from place `at` on, and gives the place behind them:
-    /// 256 reds, 256 greens and 256 blues, the index, the number of the component that the next
-    /// byte is, the red and the green that wait, and the mask.
+    /// Puts the bytes of the DAC into a slice from index `at` on. It returns the index after them.
+    /// The order is: 256 reds, 256 greens and 256 blues, the DAC's index, the number of the
+    /// component that the next byte is, the red and the green that wait, and the mask.
     #[tactic(auto, unfolding(crate::specs::Saved::saved_dac))]
     pub fn save(&self, out: &mut [u8], at: usize) -> usize
         requires { at + 773 ≤ length out.old }
@@ -79,7 +80,8 @@ impl Dac {
         put_bytes(out, at, &counters)
     }
 
-    /// Whether some bytes are those of a DAC: values of six bits, and a component's number.
+    /// Whether some bytes are those of a DAC. Components and waiting values must fit in six bits,
+    /// and the component's number must be 0 to 2.
     pub fn is_saved(bytes: &[u8]) -> bool
         ensures { IsTrue result ↔ IsSavedDac bytes.now }
     {
@@ -92,7 +94,7 @@ impl Dac {
         are_small(reds) && are_small(greens) && are_small(blues) && are_counters(rest)
     }
 
-    /// Takes entries, index, component, waiting values and mask from the bytes of a DAC.
+    /// Restores entries, index, component, waiting values and mask from the bytes of a DAC.
     #[tactic(auto, unfolding(crate::specs::Saved::dac_from))]
     pub fn restore(&mut self, bytes: &[u8])
         requires { IsSavedDac bytes.now }
@@ -112,7 +114,7 @@ impl Dac {
         self.mask = rest[4];
     }
 
-    /// What is saved is restored, whole. The clauses are for proofs: nothing runs.
+    /// A saved DAC is restored in full. The clauses are for proofs: nothing runs.
     #[tactic(auto, using(crate::proofs::SavedLemmas::dac_is_back))]
     pub fn saves_whole(&self)
         ensures saved { IsSavedDac (saved_dac self.now) }

@@ -11,8 +11,8 @@ use Rattle.vga_host.specs.Graphics.{is_chain_odd_even, write_mode}
 use Rattle.vga_host.specs.Memory.Address.{window_start, window_len}
 use Rattle.vga_host.specs.Memory.Write.{StoresByte}
 
--- what the registers say: the window, how places are shared out to planes, the map mask, and
--- whether a write stores its byte as it is, or the latches
+-- what the registers say: the window, how addresses select planes, the map mask, and whether a
+-- write stores its byte unchanged, or the latches
 pub record IsAccess (access : MemoryAccess) (h : HostState) : Type 0 where
   pub start : access.start ≡ window_start h
   pub len : access.len ≡ window_len h
@@ -24,7 +24,7 @@ pub record IsAccess (access : MemoryAccess) (h : HostState) : Type 0 where
   pub stores_byte : access.stores_byte ≡ true → StoresByte h
   pub stores_latches : access.stores_latches ≡ true → write_mode h ≡ 1
 
--- the same of these registers, whatever memory, latches and indexes are
+-- the same for these registers, whatever the memory, the latches and the indexes are
 abbrev pub IsAccessOf : MemoryAccess → List ℕ → List ℕ → Type 0
 IsAccessOf access seq gfx = (memory : Four (List ℕ)) (latches : Four ℕ) (i j : ℕ) →
     (let h : HostState = record {

@@ -1,4 +1,4 @@
--- The place of an address: whether it is decoded, its offset in the window, its offset in a plane,
+-- What an address means: whether it is decoded, its offset in the window, its offset in a plane,
 -- and the planes that a write there reaches.
 -- From the IBM PS/2 Hardware Interface Technical Reference, Video Subsystems: "Miscellaneous
 -- Register" (memory map), "Memory Mode Register" and "Map Mask Register".
@@ -22,7 +22,7 @@ window_start h = if nat_lt (memory_map h) 2 then 0xA0000 else if memory_map h ==
 abbrev pub window_len : HostState → ℕ
 window_len h = if memory_map h == 0 then 0x20000 else if memory_map h == 1 then 0x10000 else 0x8000
 
--- the address stands in the window, and the display memory answers
+-- the address is in the window, and the display memory answers the processor
 abbrev pub is_decoded : HostState → ℕ → ℕ → Bool
 is_decoded h misc address =
     is_memory_enabled misc && (nat_le (window_start h) address
@@ -38,15 +38,15 @@ decoded_among h misc first (suc n) = decoded_among h misc first n + (if is_decod
 abbrev pub window_offset : HostState → ℕ → ℕ
 window_offset h address = (address - window_start h) % 65536
 
--- the offset in each plane of an offset in the window: where address bits pick a plane, they are 0
--- in it
+-- the offset in each plane, from the offset in the window: address bits that pick a plane are 0 in
+-- it
 abbrev pub plane_offset : HostState → ℕ → ℕ
 plane_offset h w =
     if is_chain_four h then w / 4 * 4
     else if is_chain_odd_even h then w / 2 * 2
     else w
 
--- whether the address bits let a write at an offset in the window through to plane p
+-- whether the address bits select plane p for a write at an offset in the window
 abbrev pub is_addressed : HostState → ℕ → ℕ → Bool
 is_addressed h w p =
     if is_chain_four h then p == w % 4

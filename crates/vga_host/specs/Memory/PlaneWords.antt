@@ -15,8 +15,8 @@ use Rattle.vga_host.specs.Memory.Address.{is_decoded, window_offset}
 use Rattle.vga_host.specs.Memory.Write.{written_byte, StoresByte}
 use Rattle.vga_host.specs.Memory.Runs.{after_moves, after_puts}
 
--- a word of the planes is copied from one offset to another, in the planes told, and the latches
--- are loaded with it
+-- a word of the planes is copied from offset a to offset b, in the planes that `reach` selects, and
+-- the latches are loaded with it
 abbrev pub word_moved : HostState → (ℕ → Bool) → ℕ → ℕ → HostState
 word_moved h reach a b = record h {
   latches = bytes_at h.memory a;
@@ -24,7 +24,7 @@ word_moved h reach a b = record h {
       then slice_set (of_plane h.memory p) b (byte_at h.memory p a) else of_plane h.memory p);
 }
 
--- n moves are decoded, and have their places in the window one after another, from f and from t on
+-- n moves are decoded, and their offsets in the window follow one another, from f and from t on
 pub record AreWithin (h : HostState) (misc from to n f t : ℕ) : Type 0 where
   pub read : (k : ℕ) → k < n → is_decoded h misc (from + k) ≡ true
   pub written : (k : ℕ) → k < n → is_decoded h misc (to + k) ≡ true
@@ -38,7 +38,8 @@ pub record MovesLatches (h : HostState) : Type 0 where
   pub chain_odd_even : is_chain_odd_even h ≡ false
   pub odd_even_off : is_odd_even_off h ≡ true
 
--- moves store bytes as they are, and go from the first offset of a word of four to the first one of another
+-- moves store bytes unchanged, the two low bits of an address pick the plane, and both offsets in
+-- the window are multiples of four
 pub record MovesFours (h : HostState) (f t : ℕ) : Type 0 where
   pub chain_four : is_chain_four h ≡ true
   pub stores_byte : StoresByte h
@@ -52,7 +53,8 @@ pub record ReadsPairs (h : HostState) : Type 0 where
   pub pair : read_map_pair h ≡ 0
   pub compare : is_read_compare h ≡ false
 
--- writes of bytes as they are reach planes 0 and 1 alone, by the lowest bit of an address
+-- writes store bytes unchanged; the lowest bit of an address picks plane 0 or 1, and no other plane
+-- is written
 pub record WritesPairs (h : HostState) : Type 0 where
   pub chain_four : is_chain_four h ≡ false
   pub chain_odd_even : is_chain_odd_even h ≡ true
@@ -61,14 +63,14 @@ pub record WritesPairs (h : HostState) : Type 0 where
   pub plane3 : is_in_map_mask h 3 ≡ false
   pub stores_byte : StoresByte h
 
--- moves go from an even offset to another, of planes 0 and 1 alone
+-- moves read and write only planes 0 and 1, and go from an even offset in the window to an even one
 pub record MovesPairs (h : HostState) (f t : ℕ) : Type 0 where
   pub reads : ReadsPairs h
   pub writes : WritesPairs h
   pub from_place : f % 2 ≡ 0
   pub to_place : t % 2 ≡ 0
 
--- n moves copy words, of so many moves each, whatever memory and latches hold
+-- n moves copy whole words, `per` moves for each word, whatever memory and latches hold
 pub record MovesWords (per : ℕ) (h : HostState) (misc from to n f t : ℕ) : Type 0 where
   pub some : 0 < per
   pub next : (i : ℕ) → i % per ≡ 0 → (i + per) % per ≡ 0
@@ -80,14 +82,14 @@ pub record MovesWords (per : ℕ) (h : HostState) (misc from to n f t : ℕ) : T
 
 -- ---- fills
 
--- planes, those told, get the bytes of a word at an offset
+-- the planes that `reach` selects get the bytes of a word at offset b
 abbrev pub word_put : HostState → (ℕ → Bool) → ℕ → Four ℕ → HostState
 word_put h reach b w = record h {
   memory = four (λ p. if reach p
       then slice_set (of_plane h.memory p) b (of_plane w p) else of_plane h.memory p);
 }
 
--- the bytes of two in turn: planes 0 and 2 of the one, and 1 and 3 of the other
+-- the bytes of two words in turn: planes 0 and 2 of `even`, and planes 1 and 3 of `odd`
 abbrev pub alternating : Four ℕ → Four ℕ → Four ℕ
 alternating even odd = record {
   plane0 = even.plane0;
@@ -96,12 +98,12 @@ alternating even odd = record {
   plane3 = odd.plane3;
 }
 
--- the word that two bytes in turn make
+-- the word that writes of two bytes in turn store
 abbrev pub written_in_turn : HostState → ℕ → ℕ → Four ℕ
 written_in_turn h even odd = alternating (four (λ p. written_byte h even p))
     (four (λ p. written_byte h odd p))
 
--- n writes are decoded, and have their places in the window one after another, from f on
+-- n writes are decoded, and their offsets in the window follow one another, from f on
 pub record ArePutWithin (h : HostState) (misc first n f : ℕ) : Type 0 where
   pub written : (k : ℕ) → k < n → is_decoded h misc (first + k) ≡ true
   pub in_window : (k : ℕ) → k < n → window_offset h (first + k) ≡ (f + k) % 65536
@@ -112,7 +114,8 @@ pub record FillsPlanes (h : HostState) : Type 0 where
   pub chain_odd_even : is_chain_odd_even h ≡ false
   pub odd_even_off : is_odd_even_off h ≡ true
 
--- the two low bits of an address pick the plane, and writes begin at the first of four places
+-- the two low bits of an address pick the plane, and writes begin at a multiple of four in the
+-- window
 pub record FillsFours (h : HostState) (f : ℕ) : Type 0 where
   pub chain_four : is_chain_four h ≡ true
   pub in_window : f % 4 ≡ 0
@@ -124,8 +127,8 @@ pub record FillsPairs (h : HostState) (f : ℕ) : Type 0 where
   pub odd_even_off : is_odd_even_off h ≡ false
   pub in_window : f % 2 ≡ 0
 
--- n writes put words of the planes, each by so many writes, whatever memory holds: write i is of
--- byte g i, and the word that begins there is w i
+-- n writes store whole words of the planes, `per` writes for each word, whatever memory holds.
+-- Write i stores byte g i. The word that begins at write i is w i.
 pub record PutsWords (per : ℕ) (h : HostState) (misc first n f : ℕ) (g : ℕ → ℕ) (w : ℕ → Four ℕ)
     : Type 0 where
   pub some : 0 < per
@@ -136,6 +139,6 @@ pub record PutsWords (per : ℕ) (h : HostState) (misc first n f : ℕ) (g : ℕ
       ≡ word_put s (is_in_map_mask h) ((f + i) % 65536) (w i))
 
 -- the bytes from number i on as a word: four of them, two that each go to two planes, or one that
--- goes to all
+-- goes to all four
 abbrev pub grouped : ℕ → (ℕ → ℕ) → ℕ → Four ℕ
 grouped per g i = four (λ p. g (i + p % per))

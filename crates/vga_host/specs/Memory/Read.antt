@@ -25,26 +25,26 @@ picked_plane h w =
     else if is_odd_even_read h then 2 * read_map_pair h + w % 2
     else read_map_select h
 
--- whether bit i of plane p is as read mode 1 wants it: it equals the compare bit, or the plane is
--- not compared
+-- whether bit i of plane p agrees in read mode 1: it equals the compare bit, or the plane is not
+-- compared
 abbrev pub agrees : HostState → Four ℕ → ℕ → ℕ → Bool
 agrees h bytes p i = not (is_compared h p) || (bit_at (of_plane bytes p) i == colour_compare h p)
 
--- bit i of the answer in read mode 1: 1 where all four planes agree
+-- bit i of the byte read in read mode 1: 1 if all four planes agree
 abbrev pub compared_bit : HostState → Four ℕ → ℕ → ℕ
 compared_bit h bytes i = if agrees h bytes 0 i && (agrees h bytes 1 i
     && (agrees h bytes 2 i && agrees h bytes 3 i)) then 1 else 0
 
--- bit i of the answer to a read at an offset in the window, from the four bytes loaded
+-- bit i of the byte that a read at an offset in the window returns, from the four bytes loaded
 unfoldable pub read_bit : HostState → ℕ → Four ℕ → ℕ → ℕ
 read_bit h w bytes i = if is_read_compare h then compared_bit h bytes i
     else bit_at (of_plane bytes (picked_plane h w)) i
 
--- the byte that a read of a decoded address answers
+-- the byte that a read of a decoded address returns
 abbrev pub read_byte : HostState → ℕ → ℕ
 read_byte h address = byte_of (λ i. read_bit h (window_offset h address) (loaded h address) i)
 
--- the host path after a read of a decoded address: the latches hold the bytes loaded, and all else
--- stays
+-- the host path after a read of a decoded address: the latches hold the bytes loaded, and
+-- everything else stays the same
 abbrev pub after_get : HostState → ℕ → HostState
 after_get h address = record h { latches = loaded h address }

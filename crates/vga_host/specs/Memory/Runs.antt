@@ -1,4 +1,4 @@
--- Runs of writes: a byte to each of some addresses that follow one another, in ascending order.
+-- Runs of writes, reads and moves: one byte at each address of a run, in ascending order.
 -- From the IBM PS/2 Hardware Interface Technical Reference, Video Subsystems: no write to memory
 -- changes a register or a latch.
 use Rattle.std.specs.Prelude.{List}
@@ -15,7 +15,7 @@ use Rattle.vga_host.specs.Memory.Read.{read_byte, after_get}
 abbrev pub with_memory : HostState → Four (List ℕ) → HostState
 with_memory h m = record h { memory = m }
 
--- a write to any address: one that is not decoded changes nothing
+-- the host path after a write to any address: a write that is not decoded changes nothing
 abbrev pub put_where : HostState → ℕ → ℕ → ℕ → HostState
 put_where h misc address v = if is_decoded h misc address then after_put h address v else h
 
@@ -36,10 +36,11 @@ put_bytes h misc address bytes =
     }
     else h
 
--- a read of any address, and its byte: one that is not decoded changes nothing, and gives FF
+-- the host path after a read of any address: a read that is not decoded changes nothing
 abbrev pub get_where : HostState → ℕ → ℕ → HostState
 get_where h misc address = if is_decoded h misc address then after_get h address else h
 
+-- the byte that a read of any address gives: FF if the address is not decoded
 abbrev pub byte_where : HostState → ℕ → ℕ → ℕ
 byte_where h misc address = if is_decoded h misc address then read_byte h address else 0xFF
 

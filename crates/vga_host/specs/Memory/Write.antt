@@ -16,7 +16,7 @@ use Rattle.vga_host.specs.Memory.Address.{window_offset, plane_offset, is_reache
 abbrev pub rotated_bit : HostState → ℕ → ℕ → ℕ
 rotated_bit h b i = bit_at b ((i + rotate_count h) % 8)
 
--- a data bit and a latch bit by the function: the data bit, AND, OR, XOR
+-- a data bit combined with a latch bit: function 0 keeps the data bit, 1 is AND, 2 is OR, 3 is XOR
 abbrev pub combined_by : ℕ → ℕ → ℕ → ℕ
 combined_by function d l = if function == 0 then d else if function == 1 then min d l
     else if function == 2 then max d l else (d + l) % 2
@@ -35,7 +35,7 @@ data_bit h b p i =
 abbrev pub mask_bit : HostState → ℕ → ℕ → ℕ
 mask_bit h b i = if write_mode h == 3 then min (bit_mask h i) (rotated_bit h b i) else bit_mask h i
 
--- the data bit and the latch bit by the function
+-- the data bit, combined with the latch bit by the function
 unfoldable pub combined_bit : HostState → ℕ → ℕ → ℕ → ℕ
 combined_bit h b p i = combined_by (function_select h) (data_bit h b p i)
     (bit_at (of_plane h.latches p) i)
@@ -52,8 +52,8 @@ written_bit h b p i =
 abbrev pub written_byte : HostState → ℕ → ℕ → ℕ
 written_byte h b p = byte_of (λ i. written_bit h b p i)
 
--- a write replaces bytes as they are: write mode 0, no rotation, no function, no plane whose bit is
--- its own, and each bit let through
+-- A write stores its byte unchanged: write mode 0, no rotation, no function, no plane that takes
+-- its set/reset bit, and a bit mask of ones.
 pub record StoresByte (h : HostState) : Type 0 where
   pub mode : write_mode h ≡ 0
   pub rotate : rotate_count h ≡ 0

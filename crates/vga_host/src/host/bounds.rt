@@ -1,12 +1,11 @@
-//! What the host path holds, whatever was written.
+//! The bounds of everything that the host path holds.
 ghost use Rattle.vga_host.specs.Bounds.{IsHost};
 
 use super::Host;
 
 impl Host {
-    /// Memory and latches are bytes, and each register holds bits of its mask alone, whatever was
-    /// written.
-    /// The clause is for proofs: nothing runs.
+    /// Memory and latches hold bytes, and each register holds only bits of its mask, whatever was
+    /// written. The clause is for proofs: nothing runs.
     pub fn bounds(&self)
         ensures { IsHost self.now }
     {

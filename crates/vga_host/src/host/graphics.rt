@@ -1,5 +1,5 @@
-//! The graphics controller: its registers, and their fields in the order of the registers. `ports.rt`
-//! has its ports.
+//! The graphics controller: its registers, and their fields in the order of the registers. Its
+//! ports are in `ports.rt`.
 ghost use Rattle.std.specs.Prelude.{◌≡◌, ℕ};
 ghost use Rattle.std.specs.Int.{bit_at};
 ghost use Rattle.vga_bits.specs.Bits.{is_set as is_set_of};
@@ -38,8 +38,8 @@ pub(super) const INDEX_MASK: u8 = 0x0F;
 /// The bits that the registers keep, from register 0.
 pub(super) const GFX_MASKS: [u8; 9] = [0x0F, 0x0F, 0x0F, 0x1F, 0x03, 0x7B, 0x0F, 0x0F, 0xFF];
 
-/// Whether a write of `v` to register `i` is refused: there is no such register, or the
-/// value asks for shift register mode.
+/// Whether a write of `v` to register `i` is refused: there is no such register, or the value asks
+/// for shift register mode.
 pub(super) fn is_refused_gfx(i: u8, v: u8) -> bool
     ensures { result ≡ is_refused_gfx i v }
 {
@@ -68,14 +68,14 @@ impl Host {
         self.gfx.read(COLOUR_COMPARE)
     }
 
-    /// By how many places, 0 to 7, the byte written is rotated right.
+    /// By how many bits, 0 to 7, a written byte is rotated right.
     pub(super) fn rotate_count(&self) -> u8
         ensures { result ≡ rotate_count self.now }
     {
         self.gfx.field(DATA_ROTATE, 2, 0)
     }
 
-    /// How data and latch are combined: 0 the data, 1 AND, 2 OR, 3 XOR.
+    /// How data and latch are combined: 0 keeps the data, 1 is AND, 2 is OR, 3 is XOR.
     pub(super) fn function_select(&self) -> u8
         ensures { result ≡ function_select self.now }
     {
@@ -145,7 +145,7 @@ impl Host {
         self.gfx.read(COLOUR_DONT_CARE)
     }
 
-    /// The bit mask: bit i of each plane may change where its bit i is 1.
+    /// The bit mask. Bit i of each plane may change if bit i of the mask is 1.
     pub(super) fn bit_mask(&self) -> u8
         ensures { (i : ℕ) → bit_at result i ≡ bit_mask self.now i }
     {

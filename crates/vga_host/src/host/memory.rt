@@ -1,8 +1,8 @@
 //! The display memory as the processor reaches it.
 //!
-//! A single cycle needs four files: `address.rt` finds its place, `access.rt` keeps what the
-//! registers say of it, and `read.rt` and `write.rt` make it. The others are for speed alone: they
-//! make many cycles at once.
+//! A single cycle needs four files. `address.rt` decides which addresses are decoded, `access.rt`
+//! keeps what the registers say of a cycle, and `read.rt` and `write.rt` perform it. The other
+//! files serve speed alone: they perform many cycles at once.
 
 mod access;
 mod address;

@@ -29,9 +29,9 @@ impl Host {
     /// How many bytes a host path has when it is saved.
     pub const SAVED_LEN: usize = 262_164;
 
-    /// Puts the bytes of the host path into a slice from place `at` on, and gives the place behind
-    /// them: the latches, the sequencer's 5 registers, the graphics controller's 9, both indexes,
-    /// and the display memory.
+    /// Puts the bytes of the host path into a slice from index `at` on. It returns the index after
+    /// them. The order is: the latches, the sequencer's 5 registers, the graphics controller's 9,
+    /// both indexes, and the display memory.
     #[tactic(auto, unfolding(crate::specs::Saved::saved_host))]
     pub fn save(&self, out: &mut [u8], at: usize) -> usize
         requires { at + 262164 ≤ length out.old }
@@ -45,8 +45,8 @@ impl Host {
         self.planes.save(out, at)
     }
 
-    /// Whether some bytes are those of a host path: registers and indexes hold bits that they keep.
-    /// Latches and memory may be any.
+    /// Whether some bytes are those of a host path. Registers and indexes must hold only bits that
+    /// they keep. Latches and memory may hold any bytes.
     pub fn is_saved(bytes: &[u8]) -> bool
         ensures { IsTrue result ↔ IsSavedHost bytes.now }
     {
@@ -62,7 +62,7 @@ impl Host {
             && indexes[1] <= graphics::INDEX_MASK
     }
 
-    /// Takes latches, registers, indexes and memory from the bytes of a host path.
+    /// Restores latches, registers, indexes and memory from the bytes of a host path.
     #[tactic(auto, unfolding(crate::specs::Saved::host_from))]
     pub fn restore(&mut self, bytes: &[u8])
         requires { IsSavedHost bytes.now }
@@ -84,7 +84,7 @@ impl Host {
         self.planes.restore(memory);
     }
 
-    /// What is saved is restored, whole. The clauses are for proofs: nothing runs.
+    /// A saved host path is restored in full. The clauses are for proofs: nothing runs.
     pub fn saves_whole(&self)
         ensures saved { IsSavedHost (saved_host self.now) }
         ensures back { host_from (saved_host self.now) ≡ self.now }

@@ -1,11 +1,11 @@
-//! The sequencer: its registers, and their fields in the order of the registers. `ports.rt` has its
-//! ports.
+//! The sequencer: its registers, and their fields in the order of the registers. Its ports are in
+//! `ports.rt`.
 ghost use Rattle.std.specs.Prelude.{◌≡◌, ◌<◌, ◌⊎◌};
 ghost use Rattle.vga_host.specs.Sequencer.{is_eight_dots, character_width, is_clock_halved, is_screen_off, character_map_a, character_map_b, is_chain_four};
 
 use super::Host;
 
-/// The registers with fields that are looked at.
+/// The registers whose fields the adapter uses.
 pub(super) const CLOCKING_MODE: usize = 1;
 
 pub(super) const MAP_MASK: usize = 2;
@@ -39,7 +39,7 @@ impl Host {
         if self.is_eight_dots() { 8 } else { 9 }
     }
 
-    /// Whether the dot clock has half its rate.
+    /// Whether the dot clock runs at half its rate.
     pub fn is_clock_halved(&self) -> bool
         ensures { result ≡ is_clock_halved self.now }
     {

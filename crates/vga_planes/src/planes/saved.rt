@@ -8,7 +8,7 @@ ghost use Rattle.vga_planes.specs.PlaneWords.{planes_of};
 use super::{PLANE_LEN, Planes};
 use crate::latch::Latch;
 
-/// Makes each word of the four bytes that stand at its place in the planes.
+/// Makes word `i` from byte `i` of each plane.
 fn join_planes(words: &mut [u32], plane0: &[u8], plane1: &[u8], plane2: &[u8], plane3: &[u8])
     requires len0 { length plane0.now ≡ length words.old }
     requires len1 { length plane1.now ≡ length words.old }
@@ -30,8 +30,8 @@ impl Planes {
     /// How many bytes the display memory has when it is saved.
     pub const SAVED_LEN: usize = 262_144;
 
-    /// Puts the bytes of a plane, 0 to 3, into a slice from place `at` on, and gives the place
-    /// behind them.
+    /// Puts the bytes of a plane, 0 to 3, into a slice from index `at` on. It returns the index
+    /// after them.
     pub fn save_plane(&self, plane: usize, out: &mut [u8], at: usize) -> usize
         requires plane { plane < 4 }
         requires room { at + 65536 ≤ length out.old }
@@ -45,8 +45,8 @@ impl Planes {
         at + PLANE_LEN
     }
 
-    /// Puts the bytes of all planes, one plane after the other, into a slice from place `at` on,
-    /// and gives the place behind them.
+    /// Puts the bytes of all planes, one plane after another, into a slice from index `at` on. It
+    /// returns the index after them.
     #[tactic(auto, unfolding(crate::specs::Saved::saved_memory))]
     pub fn save(&self, out: &mut [u8], at: usize) -> usize
         requires { at + 262144 ≤ length out.old }
@@ -59,7 +59,7 @@ impl Planes {
         self.save_plane(3, out, at)
     }
 
-    /// Takes all planes from their bytes, one plane after the other.
+    /// Restores all planes from their bytes, one plane after another.
     pub fn restore(&mut self, bytes: &[u8])
         requires { length bytes.now ≡ 262144 }
         ensures { self.new ≡ memory_from bytes.now }
@@ -70,7 +70,7 @@ impl Planes {
         join_planes(self.words.as_mut_slice(), plane0, plane1, plane2, plane3);
     }
 
-    /// What is saved is restored, whole. The clauses are for proofs: nothing runs.
+    /// Saved planes are restored in full. The clauses are for proofs: nothing runs.
     #[tactic(auto, using(crate::proofs::SavedLemmas::memory_len, crate::proofs::SavedLemmas::memory_is_back))]
     pub fn saves_whole(&self)
         ensures len { length (saved_memory self.now) ≡ 262144 }

@@ -11,7 +11,7 @@ ghost use Rattle.vga_script.specs.Spelling.{script_limit};
 
 use super::Machine;
 use crate::numbered_line::NumberedLine;
-use crate::report::{write_last_dumps, write_step};
+use crate::report::{write_closing_dumps, write_step};
 use std::alloc::Global;
 use std::io::Write;
 use vga_bits::{Fault, Tracked, flush};
@@ -66,10 +66,11 @@ fn write_until<W: Write>(
 {
     let mut line = NumberedLine::of(1);
     write_first(alloc, out, &mut line, machine, steps, most as usize)?;
-    write_last_dumps(alloc, out, machine, line.number())
+    write_closing_dumps(alloc, out, machine, line.number())
 }
 
-/// Takes the steps on this machine: all of them, or with `until` the first ones and the last dumps.
+/// Takes the steps on this machine, and writes the line of each: all of them, or with `until` the
+/// first ones and then the closing dumps.
 fn write_steps<W: Write>(
     alloc: Global,
     out: &mut Tracked<W>,

@@ -11,7 +11,7 @@ third_fails true false p a e = refl
 third_fails true true true a e = absurd (cc)
 third_fails true true false a e = refl
 
--- where the CRT controller does not show the page, no screen is shown
+-- if the CRT controller does not show the page, no screen is shown
 page_not_shown : (row : ModeRow) (c : CardState) (d : BiosData) (x : CrtcState) (r : Bool) → x ≡ c.crtc
     → r ≡ bytes_eq x.registers (crtc_shown row d x.registers) → r ≡ false → r ≡ shows row c d
 unfolding shows

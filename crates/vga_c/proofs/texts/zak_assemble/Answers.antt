@@ -10,4 +10,4 @@ returns-in-Ok c = has_bytes (IsOutcomeOfText c.args.text.now) c.in-Ok.bytes.item
 -- or the first fault
 pub returns-in-Err : goal.returns-in-Err
 returns-in-Err c = has_fault (IsOutcomeOfText c.args.text.now) c.args.out.now c.args.len.now c.args.line.now _ _ c.in-Err.fault
-    c.in-Err.ensures.err c.write_fault.ensures.status c.write_fault.ensures.place
+    c.in-Err.ensures.err c.status_and_place.ensures.status c.status_and_place.ensures.place

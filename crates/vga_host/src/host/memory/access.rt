@@ -1,5 +1,5 @@
-//! What the registers say of every cycle of memory, which is kept beside them: it stands apart for
-//! speed alone.
+//! What the registers say of every cycle of memory. It is kept beside the registers, and recomputed
+//! only when one is written or restored. This serves speed alone.
 ghost use Rattle.std.specs.Prelude.{◌≡◌, ◌<◌, ◌+◌, ◌-◌, ◌*◌, ◌/◌, ◌%◌, ◌^◌, ◌==◌, ◌&&◌, ◌||◌};
 ghost use Rattle.std.specs.Prelude.{nat_le, nat_lt, if◌then◌else◌, IsTrue, true, ℕ, List};
 ghost use Rattle.std.specs.Prelude.{replicate};
@@ -19,26 +19,26 @@ use vga_planes::PlaneSet;
 /// What the registers say of every cycle of memory.
 #[derive(Clone, Copy)]
 pub(crate) struct MemoryAccess {
-    /// The window's first address, and how many it has.
+    /// The window's first address, and how many addresses it has.
     pub start: u32,
     pub len: u32,
     /// Whether the two low bits of an address pick the plane.
     pub chain_four: bool,
-    /// Whether the lowest bit of an address picks a plane and not an offset.
+    /// Whether the lowest bit of an address is left out of its offset in each plane.
     pub chain_odd_even: bool,
-    /// Whether even and odd addresses are not kept apart on writes.
+    /// Whether writes ignore whether an address is even or odd.
     pub odd_even_off: bool,
-    /// The planes that the map mask lets be written.
+    /// The planes that the map mask allows to be written.
     pub map_mask: PlaneSet,
-    /// Whether a write replaces bytes as they are.
+    /// Whether a write is known to store its byte unchanged in every plane that it reaches.
     pub stores_byte: bool,
     /// Whether a write stores the latches.
     pub stores_latches: bool,
 }
 
 impl MemoryAccess {
-    /// The offset of an address in the window, where the memory has it; `misc` is the miscellaneous
-    /// output register.
+    /// The offset of an address in the window, or `None` if the address is not decoded. `misc` is
+    /// the miscellaneous output register.
     pub(super) fn in_window(self, address: u32, misc: u8) -> Option<u16>
         ensures { (h : HostState) → IsAccess self h → SomeIff result
             (IsTrue (is_decoded h misc address)) (window_offset h address) }
@@ -51,7 +51,7 @@ impl MemoryAccess {
         }
     }
 
-    /// Whether the memory has n addresses from the first on.
+    /// Whether all n addresses from the first on are decoded.
     pub(super) fn covers(self, first: u32, n: u32, misc: u8) -> bool
         requires small { self.start + self.len < 2 ^ 32 }
         requires few { first + n < 2 ^ 32 }
@@ -61,7 +61,7 @@ impl MemoryAccess {
         is_memory_enabled(misc) && self.start <= first && first + n <= self.start + self.len
     }
 
-    /// The offset in each plane of an offset in the window.
+    /// The offset in each plane, from the offset in the window.
     pub(super) fn offset(self, in_window: u16) -> u16
         ensures { (h : HostState) → IsAccess self h → result ≡ plane_offset h in_window }
     {
@@ -74,7 +74,7 @@ impl MemoryAccess {
         }
     }
 
-    /// The planes that the address bits let a write at an offset in the window through to.
+    /// The planes that the address bits select for a write at an offset in the window.
     fn addressed(self, in_window: u16) -> PlaneSet
         ensures plane0 { is_set result 0 ≡ (if self.chain_four then 0 == in_window % 4
             else self.odd_even_off || (0 == in_window % 2)) }
@@ -110,7 +110,7 @@ impl MemoryAccess {
     }
 }
 
-/// The window's first address, and how many it has, by the number of the memory map.
+/// The window's first address, and how many addresses it has, by the number of the memory map.
 fn window(map: u8) -> (u32, u32)
     ensures start { result.0 ≡ (if nat_lt map 2 then 0xA0000 else if map == 2 then 0xB0000
         else 0xB8000) }
@@ -126,11 +126,11 @@ fn window(map: u8) -> (u32, u32)
     }
 }
 
-/// Whether a write replaces bytes as they are, by the graphics controller's registers.
+/// Whether the graphics controller's registers let a write store its byte unchanged.
 fn stores_byte(gfx: &RegFile<9>) -> bool
     ensures { result ≡ true → (h : HostState) → h.gfx ≡ gfx.now.values → StoresByte h }
 {
-    // Each of these numbers changes what is written, where it is not 0.
+    // Each of these numbers can change what is written, if it is not 0.
     let mode = gfx.field(graphics::GRAPHICS_MODE, 1, 0);
     let rotate = gfx.field(graphics::DATA_ROTATE, 2, 0);
     let function = gfx.field(graphics::DATA_ROTATE, 4, 3);
@@ -141,7 +141,7 @@ fn stores_byte(gfx: &RegFile<9>) -> bool
 }
 
 impl MemoryAccess {
-    /// What registers say that are all 0.
+    /// What the registers say when all of them are 0.
     pub(crate) fn of_zeros() -> MemoryAccess
         ensures { IsAccessOf result (replicate 5 0) (replicate 9 0) }
     {
@@ -157,7 +157,7 @@ impl MemoryAccess {
         }
     }
 
-    /// The same with what the sequencer's registers say now.
+    /// Updates what the sequencer's registers say. The rest stays the same.
     pub(crate) fn with_sequencer(self, seq: &RegFile<5>) -> MemoryAccess
         ensures { (before gfx : List ℕ) → IsAccessOf self before gfx
             → IsAccessOf result seq.now.values gfx }
@@ -174,7 +174,7 @@ impl MemoryAccess {
         }
     }
 
-    /// The same with what the graphics controller's registers say now.
+    /// Updates what the graphics controller's registers say. The rest stays the same.
     pub(crate) fn with_graphics(self, gfx: &RegFile<9>) -> MemoryAccess
         ensures { (seq before : List ℕ) → IsAccessOf self seq before
             → IsAccessOf result seq gfx.now.values }

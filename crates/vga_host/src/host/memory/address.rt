@@ -1,4 +1,4 @@
-//! The place of an address, and the planes that a write there reaches.
+//! Which addresses the display memory decodes, and where a write reaches no glyph.
 ghost use Rattle.std.specs.Prelude.{◌≡◌, ◌<◌, ◌≤◌, ◌+◌, ◌^◌, false, IfSome};
 ghost use Rattle.vga_host.specs.Graphics.{is_graphics};
 ghost use Rattle.vga_host.specs.Memory.Address.{is_memory_enabled as is_memory_enabled_of};
@@ -8,7 +8,7 @@ ghost use Rattle.vga_host.specs.Memory.Address.{plane_offset, is_reached};
 use crate::host::Host;
 use vga_bits::is_set;
 
-/// The plane that has the glyphs of text.
+/// The plane that contains the glyphs of text.
 const GLYPHS: u32 = 2;
 
 /// Whether the miscellaneous output register lets the display memory answer the processor.
@@ -19,7 +19,7 @@ pub(super) fn is_memory_enabled(misc: u8) -> bool
 }
 
 impl Host {
-    /// Whether the display memory has an address; `misc` is the miscellaneous output register.
+    /// Whether the display memory decodes an address. `misc` is the miscellaneous output register.
     pub fn decodes(&self, address: u32, misc: u8) -> bool
         ensures { result ≡ is_decoded self.now misc address }
     {
@@ -27,7 +27,7 @@ impl Host {
         is_memory_enabled(misc) && access.start <= address && address < access.start + access.len
     }
 
-    /// How many of n addresses from the first on the display memory has; `misc` is the
+    /// How many of the n addresses from `first` on the display memory decodes. `misc` is the
     /// miscellaneous output register.
     pub fn decoded_among(&self, first: u32, n: u32, misc: u8) -> u32
         requires { first + n < 2 ^ 32 }
@@ -43,8 +43,8 @@ impl Host {
         end.saturating_sub(start)
     }
 
-    /// The offset in each plane of a write to an address, where it is decoded and, in text, reaches
-    /// no glyph.
+    /// The offset in each plane of a write to an address. It is `None` if the address is not
+    /// decoded, or if the write, in text, reaches the plane of glyphs.
     pub fn offset_beside_glyphs(&self, address: u32, misc: u8) -> Option<u16>
         ensures offset { IfSome result (λ o. o
             ≡ plane_offset self.now (window_offset self.now address)) }

@@ -1,6 +1,5 @@
-//! Fills that put whole words of the planes, apart for speed alone: writes of two bytes in turn
-//! that follow one another put a word, where the bits of an address pick planes, and where none
-//! does.
+//! Fills that store whole words of the planes. This file serves speed alone: one, two or four
+//! writes of two bytes in turn may amount to storing one word.
 ghost use Rattle.std.specs.Prelude.{◌≡◌, ◌<◌, ◌≤◌, ◌+◌, ◌-◌, ◌^◌, true};
 ghost use Rattle.vga_bits.specs.Bits.{is_set};
 ghost use Rattle.vga_bits.specs.Four.{four};
@@ -14,7 +13,7 @@ use super::access::MemoryAccess;
 use crate::host::Host;
 use vga_planes::{Latch, PlaneSet};
 
-/// The bytes of two in turn: planes 0 and 2 of the one, and 1 and 3 of the other.
+/// The bytes of two words in turn: planes 0 and 2 of `even`, and planes 1 and 3 of `odd`.
 fn alternate(even: Latch, odd: Latch) -> Latch
     ensures { result ≡ alternating even odd }
 {
@@ -22,7 +21,7 @@ fn alternate(even: Latch, odd: Latch) -> Latch
 }
 
 impl Host {
-    /// Whether the memory has all addresses of n writes.
+    /// Whether all addresses of n writes are decoded.
     pub(super) fn is_put_within(&self, access: MemoryAccess, first: u32, n: u32, misc: u8) -> bool
         requires access { IsAccess access self.now }
         requires small { access.start + access.len < 2 ^ 32 }
@@ -41,8 +40,8 @@ impl Host {
         access.odd_even_off && !access.chain_four && !access.chain_odd_even
     }
 
-    /// Whether the two low bits of an address pick the plane, and an offset in the window is the
-    /// first of four.
+    /// Whether the two low bits of an address pick the plane, and the offset in the window is a
+    /// multiple of four.
     pub(super) fn fills_fours(&self, access: MemoryAccess, in_window: u32) -> bool
         requires { IsAccess access self.now }
         ensures { result ≡ true → FillsFours self.now in_window }
@@ -50,7 +49,7 @@ impl Host {
         access.chain_four && in_window % 4 == 0
     }
 
-    /// Whether the lowest bit of an address picks planes, and an offset in the window is even.
+    /// Whether the lowest bit of an address picks planes, and the offset in the window is even.
     pub(super) fn fills_pairs(&self, access: MemoryAccess, in_window: u32) -> bool
         requires { IsAccess access self.now }
         ensures { result ≡ true → FillsPairs self.now in_window }
@@ -58,7 +57,7 @@ impl Host {
         access.chain_odd_even && !access.odd_even_off && !access.chain_four && in_window % 2 == 0
     }
 
-    /// How many writes put a word: 1, 2 or 4, or 0 where they do not.
+    /// How many writes amount to storing a word: 1, 2 or 4, or 0 if no number is known to.
     fn puts_of_word(
         &self,
         access: MemoryAccess,
@@ -86,15 +85,15 @@ impl Host {
         }
     }
 
-    /// Puts a word at an offset, in the planes of a set.
+    /// Stores a word at an offset, in the planes of a set.
     pub(super) fn put_word(&mut self, at: u16, word: Latch, set: PlaneSet)
         ensures { self.new ≡ word_put self.old (is_set set) at word }
     {
         self.planes.store(at, word, set);
     }
 
-    /// Puts a word again and again, by `per` writes each, as long as a whole one is left of n
-    /// writes, and tells how many writes that were.
+    /// Stores a word once for each whole group of `per` writes among n writes. It returns how many
+    /// writes that covers.
     fn put_words(
         &mut self,
         access: MemoryAccess,
@@ -125,8 +124,9 @@ impl Host {
         done
     }
 
-    /// Puts words, where that is what the first of n writes of two bytes in turn do, and tells how
-    /// many writes that were. `bytes` and `others` are what the two bytes make.
+    /// Stores whole words where the first of n writes of two bytes in turn amount to that. It
+    /// returns how many writes that covers. `bytes` and `others` are what writes of the even and of
+    /// the odd byte store.
     pub(super) fn fill_words(
         &mut self,
         access: MemoryAccess,

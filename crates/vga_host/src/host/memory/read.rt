@@ -30,7 +30,7 @@ impl Host {
         }
     }
 
-    /// In read mode 1, the bits in which each plane does not agree with its compare bit.
+    /// In read mode 1, the bits in which each compared plane differs from its compare bit.
     fn differing(&self, bytes: Latch) -> u32
         ensures { (p i : ℕ) → p < 4 → i < 8 → word_bit result p i
             ≡ (if agrees self.now bytes p i then 0 else 1) }
@@ -48,7 +48,8 @@ impl Host {
         clear_in_all(self.differing(bytes))
     }
 
-    /// The answer to a read at an offset in the window, from the bytes loaded, by its bits.
+    /// The byte that a read at an offset in the window returns, from the bytes loaded. The contract
+    /// says it bit by bit.
     #[tactic(auto, unfolding(crate::specs::Memory::Read::read_bit))]
     fn read_bits(&self, in_window: u16, bytes: Latch) -> u8
         ensures { (i : ℕ) → i < 8 → bit_at result i ≡ read_bit self.now in_window bytes i }
@@ -60,16 +61,16 @@ impl Host {
         }
     }
 
-    /// The answer to a read at an offset in the window, from the bytes loaded.
+    /// The byte that a read at an offset in the window returns, from the bytes loaded.
     pub(super) fn read_byte(&self, in_window: u16, bytes: Latch) -> u8
         ensures { result ≡ byte_of (λ i. read_bit self.now in_window bytes i) }
     {
         self.read_bits(in_window, bytes)
     }
 
-    /// Reads a byte of display memory, and loads the latches with the four bytes at its offset;
-    /// `misc` is the miscellaneous output register. It is refused with `NotDecoded`, and then
-    /// changes nothing, where the address is not decoded.
+    /// Reads a byte of display memory, and loads the latches with the four bytes at its offset. If
+    /// the address is not decoded, the read is refused with `NotDecoded` and changes nothing.
+    /// `misc` is the miscellaneous output register.
     pub fn get(&mut self, address: u32, misc: u8) -> Result<u8, Refusal>
         ensures decoded { IsOk result ↔ IsTrue (is_decoded self.old misc address) }
         ensures ok { IfOk result (λ v. (v ≡ read_byte self.old address)

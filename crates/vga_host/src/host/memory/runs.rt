@@ -1,5 +1,5 @@
-//! Runs of cycles of display memory, apart for speed alone: what the registers say of a cycle is
-//! looked up once for a run, since no cycle of memory changes a register.
+//! Runs of cycles of display memory. This file serves speed alone: what the registers say of a
+//! cycle is looked up once for a run, because no cycle of memory changes a register.
 ghost use Rattle.std.specs.Prelude.{◌≡◌, ◌<◌, ◌+◌, ◌-◌, ◌/◌, ◌%◌, ◌^◌, ◌==◌};
 ghost use Rattle.std.specs.Prelude.{if◌then◌else◌};
 ghost use Rattle.vga_host.specs.Graphics.{write_mode};
@@ -11,12 +11,12 @@ use super::access::MemoryAccess;
 use crate::host::Host;
 use vga_planes::Latch;
 
-/// What a read gives that is not decoded.
+/// What a read of an address gives if the address is not decoded.
 const REFUSED: u8 = 0xFF;
 
 impl Host {
-    /// Writes these four bytes to the planes that an address reaches where it is decoded, by what
-    /// the registers say of every write.
+    /// Stores these four bytes in the planes that a write to an address reaches. It does nothing if
+    /// the address is not decoded. `access` is what the registers say of every cycle.
     pub(super) fn put_by_access(
         &mut self,
         access: MemoryAccess,
@@ -33,8 +33,8 @@ impl Host {
         }
     }
 
-    /// What a read of an address gives, by what the registers say of every cycle: FF, where it is
-    /// not decoded.
+    /// What a read of an address gives, or FF if the address is not decoded. `access` is what the
+    /// registers say of every cycle.
     pub(super) fn byte_by_access(&self, access: MemoryAccess, address: u32, misc: u8) -> u8
         requires access { IsAccess access self.now }
         ensures { result ≡ byte_where self.now misc address }
@@ -48,7 +48,8 @@ impl Host {
         }
     }
 
-    /// Loads the latches from an address where it is decoded, by what the registers say.
+    /// Loads the latches from an address, if it is decoded. `access` is what the registers say of
+    /// every cycle.
     pub(super) fn load_by_access(&mut self, access: MemoryAccess, address: u32, misc: u8)
         requires access { IsAccess access self.old }
         ensures { self.new ≡ get_where self.old misc address }
@@ -58,8 +59,8 @@ impl Host {
         }
     }
 
-    /// Loads the latches from an address, and stores them at another. The byte read is not looked
-    /// at.
+    /// Loads the latches from an address, and stores them at another. The byte read does not
+    /// matter.
     fn move_latches(&mut self, access: MemoryAccess, from: u32, to: u32, misc: u8)
         requires access { IsAccess access self.old }
         requires mode { write_mode self.old ≡ 1 }
@@ -81,7 +82,7 @@ impl Host {
         self.put_by_access(access, bytes, to, misc);
     }
 
-    /// Moves a byte from an address to another, in the way of the write mode.
+    /// Moves a byte from an address to another, as the write mode says.
     fn move_by_access(&mut self, access: MemoryAccess, from: u32, to: u32, misc: u8)
         requires access { IsAccess access self.old }
         ensures { self.new ≡ move_where self.old misc from to }
@@ -93,8 +94,8 @@ impl Host {
         }
     }
 
-    /// Moves n bytes, in ascending order: each is read at an address, and written at another, a
-    /// refused read as FF; `misc` is the miscellaneous output register.
+    /// Moves n bytes from one run of addresses to another, in ascending order. A refused read gives
+    /// FF, and a refused write does nothing. `misc` is the miscellaneous output register.
     pub fn move_bytes(&mut self, from: u32, to: u32, n: u32, misc: u8)
         requires from { from + n < 2 ^ 32 }
         requires to { to + n < 2 ^ 32 }
@@ -107,8 +108,8 @@ impl Host {
         }
     }
 
-    /// Writes two bytes in turn to n addresses from the first on; `misc` is the miscellaneous
-    /// output register.
+    /// Writes two bytes in turn to n addresses from the first on. A refused write does nothing.
+    /// `misc` is the miscellaneous output register.
     pub fn put_in_turn(&mut self, first: u32, n: u32, even: u8, odd: u8, misc: u8)
         requires { first + n < 2 ^ 32 }
         ensures { self.new ≡ after_puts misc first (in_turn even odd) n 0 self.old }

@@ -1,5 +1,6 @@
-//! Bytes of the caller's that are written to addresses, or read from them, one after another; apart
-//! for speed alone. Writes of bytes as they are put whole words of the planes.
+//! Writes of the caller's bytes to a run of addresses, and reads of a run into the caller's bytes.
+//! This file serves speed alone. Where writes store bytes unchanged, whole words of the planes are
+//! stored at once.
 ghost use Rattle.std.specs.Prelude.{◌≡◌, ◌<◌, ◌≤◌, ◌⊎◌, ◌+◌, ◌-◌, ◌*◌, ◌/◌, ◌%◌, ◌^◌, ℕ};
 ghost use Rattle.std.specs.Prelude.{length};
 ghost use Rattle.std.specs.Prelude.{slice_index, false};
@@ -14,8 +15,8 @@ use super::access::MemoryAccess;
 use crate::host::Host;
 use vga_planes::Latch;
 
-/// The bytes from number i on as a word: four of them, two that each go to two planes, or one that
-/// goes to all.
+/// The bytes from index i on as a word: four of them, two that each go to two planes, or one that
+/// goes to all four.
 #[inline(always)]
 fn grouped(per: u32, bytes: &[u8], i: usize) -> Latch
     requires per { (per ≡ 1) ⊎ ((per ≡ 2) ⊎ (per ≡ 4)) }
@@ -30,8 +31,8 @@ fn grouped(per: u32, bytes: &[u8], i: usize) -> Latch
 }
 
 impl Host {
-    /// How many of these bytes make a word of the planes, where writes store bytes as they are and begin at its
-    /// first place: 1, 2 or 4, or 0 where none do.
+    /// How many of these bytes make a word of the planes when they are written: 1, 2 or 4, or 0 if
+    /// no number is known to. Writes must store bytes unchanged and begin at a word's first offset.
     fn bytes_of_word(&self, access: MemoryAccess, first: u32, bytes: &[u8], misc: u8) -> u32
         requires access { IsAccess access self.now }
         requires start { access.start ≤ first }
@@ -56,8 +57,7 @@ impl Host {
         }
     }
 
-    /// Puts words of `per` bytes each, as long as a whole one is left, and tells how many bytes
-    /// that were.
+    /// Stores one word for each whole group of `per` bytes. It returns how many bytes that covers.
     #[inline(always)]
     fn put_groups(
         &mut self,
@@ -92,8 +92,8 @@ impl Host {
         done
     }
 
-    /// Puts words, where that is what writes of the first of these bytes do, and tells how many
-    /// bytes that were.
+    /// Stores whole words where writes of the first of these bytes amount to that. It returns how
+    /// many bytes that covers.
     #[inline(never)]
     fn put_whole_words(&mut self, access: MemoryAccess, first: u32, bytes: &[u8], misc: u8) -> u32
         requires access { IsAccess access self.old }
@@ -115,8 +115,8 @@ impl Host {
         }
     }
 
-    /// Writes bytes to the addresses from the first on, in ascending order; a write that is not
-    /// decoded does nothing, and `misc` is the miscellaneous output register.
+    /// Writes bytes to the addresses from the first on, in ascending order. A write to an address
+    /// that is not decoded does nothing. `misc` is the miscellaneous output register.
     pub fn put_slice(&mut self, first: u32, bytes: &[u8], misc: u8)
         requires { first + length bytes.now < 2 ^ 32 }
         ensures { self.new ≡ after_puts misc first (slice_index bytes.now) (length bytes.now) 0
@@ -131,9 +131,8 @@ impl Host {
         }
     }
 
-    /// Reads places of the window that follow one another, all of them decoded, where a read picks
-    /// plane `base`, and one more for each step of the place modulo `span`, at the place rounded
-    /// down to a multiple of `unit`.
+    /// Reads a run of addresses that are all decoded. For offset `w` in the window, a read picks
+    /// plane `base + w % span`, at `w` rounded down to a multiple of `unit`.
     #[inline(always)]
     fn read_picked(
         &self,
@@ -196,7 +195,7 @@ impl Host {
         }
     }
 
-    /// Reads the addresses from the first on, one after the other.
+    /// Reads the addresses from the first on, one after another.
     fn read_each(&mut self, access: MemoryAccess, first: u32, bytes: &mut [u8], misc: u8)
         requires access { IsAccess access self.old }
         requires small { access.start + access.len < 2 ^ 32 }
@@ -213,9 +212,9 @@ impl Host {
         }
     }
 
-    /// Reads the addresses from the first on, in ascending order, into bytes of the caller's; a
-    /// read that is not decoded gives FF and loads no latch, and `misc` is the miscellaneous output
-    /// register.
+    /// Reads the addresses from the first on, in ascending order, into the caller's bytes. A read
+    /// of an address that is not decoded gives FF and loads no latch. `misc` is the miscellaneous
+    /// output register.
     pub fn get_slice(&mut self, first: u32, bytes: &mut [u8], misc: u8)
         requires { first + length bytes.old < 2 ^ 32 }
         ensures latches { self.new ≡ after_gets misc first (length bytes.old) 0 self.old }

@@ -1,5 +1,5 @@
-//! Moves of whole words of the planes, apart for speed alone: moves that follow one another copy a
-//! word where they store the latches, and where the bits of an address pick the plane.
+//! Moves of whole words of the planes. This file serves speed alone: one, two or four moves may
+//! amount to copying one word.
 ghost use Rattle.std.specs.Prelude.{◌≡◌, ◌<◌, ◌≤◌, ◌+◌, ◌-◌, ◌^◌, ℕ, true, false};
 ghost use Rattle.vga_bits.specs.Bits.{is_set as is_set_of};
 ghost use Rattle.vga_planes.specs.Planes.{byte_at};
@@ -14,11 +14,11 @@ use crate::host::Host;
 use vga_bits::is_set;
 use vga_planes::PlaneSet;
 
-/// The map mask that has all planes.
+/// The map mask that contains all planes.
 const ALL_PLANES: PlaneSet = 0b1111;
 
 impl Host {
-    /// Whether the memory has all addresses of n moves.
+    /// Whether all addresses of n moves are decoded.
     fn are_within(&self, access: MemoryAccess, from: u32, to: u32, n: u32, misc: u8) -> bool
         requires access { IsAccess access self.now }
         requires small { access.start + access.len < 2 ^ 32 }
@@ -39,8 +39,8 @@ impl Host {
         access.stores_latches && access.odd_even_off && !access.chain_four && !access.chain_odd_even
     }
 
-    /// Whether moves of bytes as they are go from the first of four places to the first of four others, and the
-    /// two low bits of an address pick the plane.
+    /// Whether moves store bytes unchanged, the two low bits of an address pick the plane, and both
+    /// offsets in the window are multiples of four.
     fn moves_fours(&self, access: MemoryAccess, first: u32, target: u32) -> bool
         requires { IsAccess access self.now }
         ensures { result ≡ true → MovesFours self.now first target }
@@ -59,7 +59,7 @@ impl Host {
         self.is_odd_even_read() && self.read_map_pair() == 0 && !self.is_read_compare()
     }
 
-    /// Whether the map mask has a plane.
+    /// Whether the map mask contains a plane.
     fn is_in_mask(&self, access: MemoryAccess, plane: u32) -> bool
         requires access { IsAccess access self.now }
         requires plane { plane < 4 }
@@ -68,7 +68,7 @@ impl Host {
         is_set(access.map_mask, plane)
     }
 
-    /// Whether the map mask has neither plane 2 nor plane 3.
+    /// Whether the map mask contains neither plane 2 nor plane 3.
     fn masks_upper_planes(&self, access: MemoryAccess) -> bool
         requires { IsAccess access self.now }
         ensures { result ≡ true → (is_in_map_mask self.now 2 ≡ false)
@@ -77,7 +77,8 @@ impl Host {
         !self.is_in_mask(access, 2) && !self.is_in_mask(access, 3)
     }
 
-    /// Whether writes of bytes as they are reach planes 0 and 1 alone, by the lowest bit of an address.
+    /// Whether writes store bytes unchanged, the lowest bit of an address picks plane 0 or 1, and
+    /// no other plane is written.
     fn writes_pairs(&self, access: MemoryAccess) -> bool
         requires { IsAccess access self.now }
         ensures { result ≡ true → WritesPairs self.now }
@@ -89,7 +90,8 @@ impl Host {
             && self.masks_upper_planes(access)
     }
 
-    /// Whether moves of bytes as they are go from an even offset to another, of planes 0 and 1 alone.
+    /// Whether moves store bytes unchanged, read and write only planes 0 and 1, and go from an even
+    /// offset in the window to an even one.
     fn moves_pairs(&self, access: MemoryAccess, first: u32, target: u32) -> bool
         requires { IsAccess access self.now }
         ensures { result ≡ true → MovesPairs self.now first target }
@@ -97,7 +99,7 @@ impl Host {
         self.writes_pairs(access) && self.reads_pairs() && first % 2 == 0 && target % 2 == 0
     }
 
-    /// How many moves copy a word: 1, 2 or 4, or 0 where they do not.
+    /// How many moves amount to copying a word: 1, 2 or 4, or 0 if no number is known to.
     fn moves_of_word(&self, access: MemoryAccess, from: u32, to: u32, n: u32, misc: u8) -> u32
         requires access { IsAccess access self.now }
         requires starts { (access.start ≤ from) × (access.start ≤ to) }
@@ -119,7 +121,8 @@ impl Host {
         }
     }
 
-    /// Copies a word of the planes, in the planes of a set, and loads the latches with it.
+    /// Loads the latches with the word at an offset, and copies it to another, in the planes of a
+    /// set.
     fn move_word(&mut self, from: u16, to: u16, set: PlaneSet)
         ensures moved { self.new ≡ word_moved self.old (is_set_of set) from to }
         ensures bytes { (p : ℕ) → p < 4 → byte_at self.old.memory p from < 256 }
@@ -130,8 +133,8 @@ impl Host {
         self.planes.store(to, bytes, set);
     }
 
-    /// Copies words, of `per` moves each, as long as a whole one is left of n moves, and tells how
-    /// many moves that were.
+    /// Copies one word for each whole group of `per` moves among n moves. It returns how many moves
+    /// that covers.
     #[inline(always)]
     fn copy_words(
         &mut self,
@@ -166,7 +169,8 @@ impl Host {
         done
     }
 
-    /// Moves words, where that is what the first of n moves do, and tells how many moves that were.
+    /// Copies whole words where the first of n moves amount to that. It returns how many moves that
+    /// covers.
     #[inline(never)]
     pub(super) fn move_words(
         &mut self,
@@ -191,7 +195,8 @@ impl Host {
         if per == 0 {
             return 0;
         }
-        // In all planes the word that was there is not looked at, which takes a loop of its own.
+        // With all planes in the mask, a store need not look at the old word. A loop of its own
+        // lets the compiler see that.
         if per == 1 && access.map_mask == ALL_PLANES {
             self.copy_words(access, 1, ALL_PLANES, from, to, n, misc)
         } else {

@@ -46,7 +46,7 @@ impl Host {
         }
     }
 
-    /// The mask of a write in the write modes 0, 2 and 3, which is that of each plane.
+    /// The mask of a write in the write modes 0, 2 and 3. Each plane has the same mask.
     #[tactic(auto, using(std::proofs::lemmas::Nat::Bits::bit_at_and))]
     fn mask_byte(&self, v: u8) -> u8
         ensures { (i : ℕ) → i < 8 → bit_at result i ≡ mask_bit self.now v i }
@@ -65,7 +65,7 @@ impl Host {
         spread(self.mask_byte(v))
     }
 
-    /// The data of the four planes and their latches by the function.
+    /// The data of the four planes, combined with their latches by the function.
     #[tactic(auto, unfolding(crate::specs::Memory::Write::combined_bit))]
     fn combined(&self, v: u8) -> u32
         ensures { (p i : ℕ) → p < 4 → i < 8 → word_bit result p i ≡ combined_bit self.now v p i }
@@ -75,7 +75,7 @@ impl Host {
         combined(self.function_select(), data, latch)
     }
 
-    /// What the four planes get where a write reaches them, by its bits.
+    /// The word that a write stores in the planes that it reaches. The contract says it bit by bit.
     #[tactic(auto, unfolding(crate::specs::Memory::Write::written_bit))]
     fn written_bits(&self, v: u8) -> u32
         ensures { (p i : ℕ) → p < 4 → i < 8 → word_bit result p i ≡ written_bit self.now v p i }
@@ -90,8 +90,8 @@ impl Host {
         }
     }
 
-    /// The bytes that the four planes get where a write reaches them. `stores_byte` is for speed alone:
-    /// it may be false.
+    /// The bytes that a write stores in the planes that it reaches. `stores_byte` serves speed
+    /// alone: it may always be false.
     pub(super) fn written_as(&self, stores_byte: bool, v: u8) -> Latch
         requires { stores_byte ≡ true → StoresByte self.now }
         ensures { result ≡ four (λ p. written_byte self.now v p) }
@@ -103,8 +103,8 @@ impl Host {
         Latch::from_word(word)
     }
 
-    /// The bytes that the four planes get in write mode 1 where a write reaches them: the latches,
-    /// whatever is written.
+    /// The bytes that a write stores in write mode 1, in the planes that it reaches: the latches,
+    /// whatever byte is written.
     pub(super) fn stored_latches(&self) -> Latch
         requires { write_mode self.now ≡ 1 }
         ensures { (v : ℕ) → result ≡ four (λ p. written_byte self.now v p) }
@@ -113,15 +113,15 @@ impl Host {
         Latch::from_word(word)
     }
 
-    /// The bytes that the four planes get where a write reaches them.
+    /// The bytes that a write stores in the planes that it reaches.
     pub(super) fn written(&self, v: u8) -> Latch
         ensures { result ≡ four (λ p. written_byte self.now v p) }
     {
         self.written_as(self.access().stores_byte, v)
     }
 
-    /// Writes a byte to an address of display memory; `misc` is the miscellaneous output register.
-    /// It is refused with `NotDecoded`, and then changes nothing, where the address is not decoded.
+    /// Writes a byte to an address of display memory. If the address is not decoded, the write is
+    /// refused with `NotDecoded` and changes nothing. `misc` is the miscellaneous output register.
     ///
     /// To follow a write, read this file and two more. `access.rt` has what the registers say of an
     /// address: its offset in the window, its offset in a plane, and the planes that a write

@@ -4,7 +4,7 @@ use Rattle.bios_services.specs.Plan.{run}
 use Rattle.bios_services.specs.Cursor.{row_of}
 use Rattle.bios_services.specs.Page.{PageState, page_of}
 use Rattle.bios_services.specs.Teletype.{type_plan}
-use Rattle.bios_services.specs.Strings.{character_at, colouring_at}
+use Rattle.bios_services.specs.Strings.{character_at, colouring_of_character}
 use Rattle.bios_services.proofs.PlanRuns.{next_answer}
 use Rattle.bios_services.proofs.strings.StringCall.type_all.Goals as goal
 
@@ -23,6 +23,6 @@ loop-i-preserved g c =
     ∙ ap (typed page (character_at s block i)) c.colouring-colouring.ensures in
     record {
       row = subst (λ (p : PageState). row_of c.type_character-position.result ≤ p.bda.last_row) c.new-page.ensures c.type_character-position.ensures.row;
-      left = next_answer m (λ i position. type_plan c.args.fonts.now c.args.bda.now s.page position (character_at s block i) (colouring_at s block i)) i s.count
+      left = next_answer m (λ i position. type_plan c.args.fonts.now c.args.bda.now s.page position (character_at s block i) (colouring_of_character s block i)) i s.count
           c.loop-i.bus c.type_character-position.new.bus c.loop-i.position c.type_character-position.result _ (omega arith) now c.loop-i.invariant.left;
     }

@@ -9,8 +9,8 @@ use Rattle.vga_card.proofs.FrameLemmas.{wide}
 use Rattle.vga_card.proofs.RowLemmas.{appended_line}
 use Rattle.vga_card.proofs.canvas.Canvas.add_line.Goals as goal
 
-pub put_line-requires-clause-room : goal.put_line-requires-clause-room
-put_line-requires-clause-room g c =
+pub append_line-requires-clause-room : goal.append_line-requires-clause-room
+append_line-requires-clause-room g c =
     let a = c.self.inside in
     let bytes = take a.used a.buffer.items in
     let v = c.beam-line.result.line in
@@ -24,7 +24,7 @@ pub invariant_of-self : goal.invariant_of-self
 invariant_of-self g c =
     let a = c.self.inside in
     let bytes = take a.used a.buffer.items in
-    let drawn = c.put_line.ensures.line in
+    let drawn = c.append_line.ensures.line in
     let v = c.beam-line.result.line in
     let n = c.args.count * g.row.CW in
     let row = take (3 * n) drawn.row in
@@ -37,8 +37,8 @@ invariant_of-self g c =
     c.requires.few (λ same. c.requires.room (sym here ∙ same)) in
     let whole = drawn.whole ∙ ap (λ m. bytes ++ take m drawn.row) (sym count) in
     rw (whole, was) (
-      c.put_line.ensures.len,
-      roomier a.buffer.cap _ _ _ _ c.put_line.ensures.capacity
+      c.append_line.ensures.len,
+      roomier a.buffer.cap _ _ _ _ c.append_line.ensures.capacity
           (canvas_more a.buffer.cap bytes row a.widths.items a.line v n c.self.invariant.1 room long),
     )
 
@@ -46,7 +46,7 @@ pub returns-clause-dots : goal.returns-clause-dots
 returns-clause-dots g c =
     let a = c.self.inside in
     let bytes = take a.used a.buffer.items in
-    let drawn = c.put_line.ensures.line in
+    let drawn = c.append_line.ensures.line in
     let v = c.beam-line.result.line in
     let n = c.args.count * g.row.CW in
     let row = take (3 * n) drawn.row in

@@ -9,8 +9,8 @@ use Rattle.vga_card.proofs.FrameLemmas.{wide}
 use Rattle.vga_card.proofs.PartLemmas.{appended_part}
 use Rattle.vga_card.proofs.canvas.Canvas.add_part.Goals as goal
 
-pub put_part-requires-clause-room : goal.put_part-requires-clause-room
-put_part-requires-clause-room g c =
+pub append_part-requires-clause-room : goal.append_part-requires-clause-room
+append_part-requires-clause-room g c =
     let a = c.self.inside in
     let bytes = take a.used a.buffer.items in
     let v = c.beam-line.result.line in
@@ -24,7 +24,7 @@ pub invariant_of-self : goal.invariant_of-self
 invariant_of-self g c =
     let a = c.self.inside in
     let bytes = take a.used a.buffer.items in
-    let drawn = c.put_part.ensures.part in
+    let drawn = c.append_part.ensures.part in
     let v = c.beam-line.result.line in
     let n = c.args.count in
     let row = take (3 * n) drawn.row in
@@ -36,8 +36,8 @@ invariant_of-self g c =
     (omega (arith, c.requires.count)) (λ same. c.requires.room (sym here ∙ same)) in
     let whole = drawn.whole in
     rw (whole, was) (
-      c.put_part.ensures.len,
-      roomier a.buffer.cap _ _ _ _ c.put_part.ensures.capacity
+      c.append_part.ensures.len,
+      roomier a.buffer.cap _ _ _ _ c.append_part.ensures.capacity
           (canvas_more a.buffer.cap bytes row a.widths.items a.line v n c.self.invariant.1 room long),
     )
 
@@ -45,7 +45,7 @@ pub returns-clause-dots : goal.returns-clause-dots
 returns-clause-dots g c =
     let a = c.self.inside in
     let bytes = take a.used a.buffer.items in
-    let drawn = c.put_part.ensures.part in
+    let drawn = c.append_part.ensures.part in
     let v = c.beam-line.result.line in
     let n = c.args.count in
     let row = take (3 * n) drawn.row in

@@ -17,7 +17,7 @@ use Rattle.vga_card.proofs.card.dots.draw_dots.Goals as goal
 abbrev is_shown : CrtcState → Type 0
 is_shown k = is_display k.registers k.beam ≡ true
 
--- so many of the next n dots are shown
+-- `count` of the next n dots are shown
 abbrev IsShownCount : DisplayState → ℕ → ℕ → Type 0
 IsShownCount d n count = count ≡ min n (shown_characters d.crtc.registers * host_width d.host - dot_number (host_width d.host) d.crtc.beam)
 

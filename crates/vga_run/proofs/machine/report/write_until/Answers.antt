@@ -17,11 +17,11 @@ returns-clause-text g c =
     let number : c.number.result ≡ 1 + length (take c.args.most c.args.steps) = c.number.ensures
     ∙ (rw c.of-line.ensures at c.in_ok-write_first.ensures.number) in
     writes_others _ _ _ _ _ c.args.machine.now _ 1 _ (take c.args.most c.args.steps) last_dumps c.in_ok-write_first.ensures.after number w.0
-    c.write_last_dumps.ensures.text
+    c.write_closing_dumps.ensures.text
 
 pub returns-clause-after : goal.returns-clause-after
 returns-clause-after g c =
-    others_after _ c.args.machine.now _ _ (take c.args.most c.args.steps) last_dumps c.in_ok-write_first.ensures.after c.write_last_dumps.ensures.after
+    others_after _ c.args.machine.now _ _ (take c.args.most c.args.steps) last_dumps c.in_ok-write_first.ensures.after c.write_closing_dumps.ensures.after
 
 pub returns-in_err-write_first-clause-after : goal.returns-in_err-write_first-clause-after
 returns-in_err-write_first-clause-after c = search rules
