@@ -181,6 +181,25 @@ static zak_status do_frame_once(uint32_t i)
     return zak_frame_words(&card, ZAK_ONCE, &picture, pixels, sizeof pixels / 4, ZAK_WIDEST);
 }
 
+/* A page of letters: all of one colour, or each cell of another one than the cell before it. */
+static void write_page(bool coloured)
+{
+    for (uint32_t at = 0; at < 2000; at++) {
+        uint8_t attribute = coloured ? (uint8_t)(0x01 + at % 15) : 0x07;
+        zak_put(&card, 0xB8000 + 2 * at, (uint8_t)('A' + at % 26));
+        zak_put(&card, 0xB8000 + 2 * at + 1, attribute);
+    }
+}
+
+static void write_letters(void) { write_page(false); }
+static void write_colours(void) { write_page(true); }
+
+static zak_status do_skip_frame(uint32_t i)
+{
+    (void)i;
+    return zak_skip_frame(&card);
+}
+
 /* The lines of a frame, one by one. */
 static zak_status do_lines(uint32_t i)
 {
@@ -353,6 +372,9 @@ static const struct call {
     {"copy_each", do_copy_each, latch_writes},
     {"clock", do_clock, NULL},
     {"frame", do_frame, NULL},
+    {"frame_letters", do_frame, write_letters},
+    {"frame_colours", do_frame, write_colours},
+    {"skip_frame", do_skip_frame, NULL},
     {"frame_xrgb", do_frame_xrgb, NULL},
     {"frame_once", do_frame_once, NULL},
     {"block", do_block, NULL},

@@ -67,6 +67,12 @@ CALLS = (
     Call("frame", "13", 10, 500),
     Call("frame", "3", 10, 500),
     Call("frame", "12", 10, 500),
+    # The same of a page of letters: in one colour, and in sixteen.
+    Call("frame_letters", "3", 10, 500),
+    Call("frame_colours", "3", 10, 500),
+    Call("skip_frame", "13", 100, 100_000),
+    Call("skip_frame", "3", 100, 100_000),
+    Call("skip_frame", "12", 100, 100_000),
     Call("frame_xrgb", "13", 10, 500),
     Call("frame_xrgb", "3", 10, 500),
     Call("frame_xrgb", "12", 10, 500),

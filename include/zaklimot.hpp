@@ -146,6 +146,9 @@ public:
         return picture;
     }
 
+    /* Lets the clock run to the end of the frame under way, and draws nothing of it. */
+    void skip_frame() { check(zak_skip_frame(&raw_)); }
+
     /* Draws the line under way to its end. The flags are ZAK_OPAQUE or 0. */
     zak_scan_line line(span<std::uint32_t> pixels, std::uint32_t flags = 0)
     {

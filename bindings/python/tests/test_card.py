@@ -403,6 +403,17 @@ class Frames(unittest.TestCase):
         with self.assertRaises(IndexError):
             lines.line(1024)
 
+    def test_a_skipped_frame_leaves_what_a_frame_leaves(self) -> None:
+        with card_in(0x13) as other:
+            other.put(0xA0000 + 320 * 199 + 319, 0x0E)
+            for card in (self.card, other):
+                card.advance(123_456)
+            self.card.frame()
+            other.skip_frame()
+            self.assertEqual(other.save(), self.card.save())
+            self.assertEqual(other.beam().frame, self.card.beam().frame)
+            self.assertEqual(bytes(other.frame().data), bytes(self.card.frame().data))
+
     def test_a_ragged_frame_has_lines(self) -> None:
         def make_ragged() -> None:
             self.card.out_word(0x3D4, 0x4F01)

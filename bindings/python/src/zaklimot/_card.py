@@ -501,6 +501,17 @@ class Card:
             tuple(memoryview(widths).cast("B").cast("I").tolist()), room.view[: used.value]
         )
 
+    def skip_frame(self) -> None:
+        """Lets the clock run to the end of the frame under way, and draws nothing of it.
+
+            card.skip_frame()
+            card.skip_frame()
+            picture = card.frame()                        # one frame in three is drawn
+
+        The card goes on as after `frame`.
+        """
+        self._call("skip_frame")
+
     def _target(
         self, into: Optional[Any], name: str, size: int, kind: Any
     ) -> tuple[memoryview, Any, int]:

@@ -285,13 +285,13 @@ extern "C" {
         card: *mut zak_card,
         size: *mut zak_size,
         rgb: *mut u8,
-        rgb_len: usize,
+        rgb_cap: usize,
     ) -> zak_status;
     pub fn zak_frame_xrgb(
         card: *mut zak_card,
         size: *mut zak_size,
         pixels: *mut u32,
-        pixels_len: usize,
+        pixels_cap: usize,
         pitch: usize,
     ) -> zak_status;
     pub fn zak_frame_words(
@@ -299,7 +299,7 @@ extern "C" {
         flags: u32,
         picture: *mut zak_picture,
         pixels: *mut u32,
-        pixels_len: usize,
+        pixels_cap: usize,
         pitch: usize,
     ) -> zak_status;
     pub fn zak_line(
@@ -307,15 +307,16 @@ extern "C" {
         flags: u32,
         line: *mut zak_scan_line,
         pixels: *mut u32,
-        pixels_len: usize,
+        pixels_cap: usize,
     ) -> zak_status;
     pub fn zak_frame_lines(
         card: *mut zak_card,
         widths: *mut u32,
         rgb: *mut u8,
-        rgb_len: usize,
+        rgb_cap: usize,
         rgb_used: *mut usize,
     ) -> zak_status;
+    pub fn zak_skip_frame(card: *mut zak_card) -> zak_status;
     pub fn zak_block(
         card: *mut zak_card,
         regs: *const zak_regs,

@@ -450,6 +450,25 @@ impl Card {
         Ok(Lines::new(widths, &rgb[..used]))
     }
 
+    /// Lets the clock run to the end of the frame under way, and draws nothing of it: for a frame
+    /// that nobody looks at. The card goes on as after [`frame`](Card::frame).
+    ///
+    /// ```
+    /// use zaklimot::Card;
+    ///
+    /// let mut card = Card::new()?;
+    /// card.skip_frame()?;
+    /// assert_eq!(card.beam()?.frame, 1);
+    /// # Ok::<(), zaklimot::Error>(())
+    /// ```
+    ///
+    /// # Errors
+    ///
+    /// A card of this crate never returns one.
+    pub fn skip_frame(&mut self) -> Result<(), Error> {
+        done(unsafe { sys::zak_skip_frame(&mut self.raw) })
+    }
+
     /// What [`int10`](Card::int10) with these registers reads from the caller's memory. With a
     /// block of exactly `len` bytes it never returns [`Error::BadBlock`].
     ///

@@ -216,6 +216,20 @@ fn a_frame_has_its_picture() {
 }
 
 #[test]
+fn a_skipped_frame_leaves_what_a_frame_leaves() {
+    let mut card = card_in(0x0013);
+    let mut other = card_in(0x0013);
+    for each in [&mut card, &mut other] {
+        each.put(0xA0000, 0x0F).unwrap();
+        each.advance(123_456).unwrap();
+    }
+    card.frame().unwrap();
+    other.skip_frame().unwrap();
+    assert_eq!(other.save().unwrap(), card.save().unwrap());
+    assert_eq!(other.frame().unwrap().rgb(), card.frame().unwrap().rgb());
+}
+
+#[test]
 fn a_frame_goes_into_the_callers_buffer() {
     let mut card = card_in(0x0013);
     let mut rgb = vec![0xEE; 3 * 640 * 400 + 1];

@@ -208,6 +208,12 @@ zak_status zak_advance(zak_card *card, uint32_t dots)
     END(card, module_zak_advance(self, CARD, dots));
 }
 
+zak_status zak_skip_frame(zak_card *card)
+{
+    BEGIN(card);
+    END(card, module_zak_skip_frame(self, CARD));
+}
+
 zak_status zak_in(zak_card *card, uint16_t port, uint8_t *value)
 {
     BEGIN(card);

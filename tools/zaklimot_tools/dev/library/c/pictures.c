@@ -4,19 +4,19 @@ static bool is_told(zak_status status)
     return status == ZAK_OK || status == ZAK_NO_ROOM;
 }
 
-static zak_status frame(module *self, zak_size *size, uint8_t *rgb, size_t rgb_len)
+static zak_status frame(module *self, zak_size *size, uint8_t *rgb, size_t rgb_cap)
 {
     self->outside = rgb;
-    zak_status status = module_zak_frame(self, CARD, TOLD, OUTSIDE, rgb_len);
+    zak_status status = module_zak_frame(self, CARD, TOLD, OUTSIDE, rgb_cap);
     if (is_told(status))
         *size = (zak_size){told32(self, 0), told32(self, 4)};
     return status;
 }
 
-zak_status zak_frame(zak_card *card, zak_size *size, uint8_t *rgb, size_t rgb_len)
+zak_status zak_frame(zak_card *card, zak_size *size, uint8_t *rgb, size_t rgb_cap)
 {
     BEGIN(card);
-    END(card, frame(self, size, rgb, rgb_len));
+    END(card, frame(self, size, rgb, rgb_cap));
 }
 
 /* A picture in words lies on the desk without what the caller's rows have beside it. */
@@ -27,9 +27,9 @@ typedef struct canvas {
     u32 desk_pitch;   /* and how they lie on the desk */
 } canvas;
 
-static canvas canvas_of(uint32_t *pixels, size_t pixels_len, size_t pitch)
+static canvas canvas_of(uint32_t *pixels, size_t pixels_cap, size_t pitch)
 {
-    size_t rows = pitch ? least(pixels_len / pitch, ZAK_HIGHEST) : 0;
+    size_t rows = pitch ? least(pixels_cap / pitch, ZAK_HIGHEST) : 0;
     return (canvas){pixels, pitch, rows, (u32)least(pitch, ZAK_WIDEST)};
 }
 
@@ -61,10 +61,10 @@ static zak_status frame_xrgb(module *self, zak_size *size, const canvas *canvas)
     return status;
 }
 
-zak_status zak_frame_xrgb(zak_card *card, zak_size *size, uint32_t *pixels, size_t pixels_len,
+zak_status zak_frame_xrgb(zak_card *card, zak_size *size, uint32_t *pixels, size_t pixels_cap,
                           size_t pitch)
 {
-    canvas canvas = canvas_of(pixels, pixels_len, pitch);
+    canvas canvas = canvas_of(pixels, pixels_cap, pitch);
     BEGIN(card);
     END(card, frame_xrgb(self, size, &canvas));
 }
@@ -83,18 +83,18 @@ static zak_status frame_words(module *self, uint32_t flags, zak_picture *picture
 }
 
 zak_status zak_frame_words(zak_card *card, uint32_t flags, zak_picture *picture, uint32_t *pixels,
-                           size_t pixels_len, size_t pitch)
+                           size_t pixels_cap, size_t pitch)
 {
-    canvas canvas = canvas_of(pixels, pixels_len, pitch);
+    canvas canvas = canvas_of(pixels, pixels_cap, pitch);
     BEGIN(card);
     END(card, frame_words(self, flags, picture, &canvas));
 }
 
 static zak_status line(module *self, uint32_t flags, zak_scan_line *line, uint32_t *pixels,
-                       size_t pixels_len)
+                       size_t pixels_cap)
 {
     zak_status status =
-        module_zak_line(self, CARD, flags, TOLD, DESK, least(pixels_len, ZAK_WIDEST));
+        module_zak_line(self, CARD, flags, TOLD, DESK, least(pixels_cap, ZAK_WIDEST));
     if (is_told(status))
         *line = (zak_scan_line){told32(self, 0), told32(self, 4), told8(self, 8) != 0};
     if (status == ZAK_OK)
@@ -103,17 +103,17 @@ static zak_status line(module *self, uint32_t flags, zak_scan_line *line, uint32
 }
 
 zak_status zak_line(zak_card *card, uint32_t flags, zak_scan_line *scan_line, uint32_t *pixels,
-                    size_t pixels_len)
+                    size_t pixels_cap)
 {
     BEGIN(card);
-    END(card, line(self, flags, scan_line, pixels, pixels_len));
+    END(card, line(self, flags, scan_line, pixels, pixels_cap));
 }
 
-static zak_status frame_lines(module *self, uint32_t *widths, uint8_t *rgb, size_t rgb_len,
+static zak_status frame_lines(module *self, uint32_t *widths, uint8_t *rgb, size_t rgb_cap,
                               size_t *rgb_used)
 {
     self->outside = rgb;
-    zak_status status = module_zak_frame_lines(self, CARD, TOLD, OUTSIDE, rgb_len, DESK);
+    zak_status status = module_zak_frame_lines(self, CARD, TOLD, OUTSIDE, rgb_cap, DESK);
     if (is_told(status)) {
         get_words(self, widths, TOLD, ZAK_HIGHEST);
         *rgb_used = (size_t)number64(self->memory + DESK);
@@ -122,8 +122,8 @@ static zak_status frame_lines(module *self, uint32_t *widths, uint8_t *rgb, size
 }
 
 zak_status zak_frame_lines(zak_card *card, uint32_t widths[ZAK_HIGHEST], uint8_t *rgb,
-                           size_t rgb_len, size_t *rgb_used)
+                           size_t rgb_cap, size_t *rgb_used)
 {
     BEGIN(card);
-    END(card, frame_lines(self, widths, rgb, rgb_len, rgb_used));
+    END(card, frame_lines(self, widths, rgb, rgb_cap, rgb_used));
 }

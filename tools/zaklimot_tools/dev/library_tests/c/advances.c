@@ -1,6 +1,7 @@
 /* zak_advance in any pieces, with cycles among them: one card that may leave dots to be drawn later,
- * and one that is looked at after each advance, so that it has drawn them all. Each cycle answers the
- * same on both, and the states are the same at last. Prints how many advances were compared, or what
+ * and one that is looked at after each advance, so that it has drawn them all. Now and then a frame
+ * ends, which the first card skips and the other draws. Each cycle answers the same on both, and the
+ * states are the same at last. Prints how many advances were compared, or what
  * was wrong.
  *
  *     advances FONTS ROUNDS */
@@ -114,12 +115,35 @@ static void read_memory(void)
     require(answers[0] == answers[1], "get answers something else");
 }
 
+static void word_of_memory(void)
+{
+    uint32_t address = random_below(64) ? random_address() : 0xFFFFFFFF - random_below(2);
+    uint16_t value = (uint16_t)random_below(0x10000), answers[2] = {0, 0};
+    if (random_below(2)) {
+        require(zak_put_word(&card, address, value) == zak_put_word(&other, address, value), "put of a word");
+    } else {
+        zak_status status = zak_get_word(&card, address, &answers[0]);
+        require(status == zak_get_word(&other, address, &answers[1]), "get of a word");
+        require(answers[0] == answers[1], "get of a word answers something else");
+    }
+}
+
+/* Ends the frame: the first card skips it, and the other draws it. */
+static void end_frame(void)
+{
+    static uint8_t rgb[ZAK_MOST_RGB];
+    uint32_t widths[ZAK_HIGHEST];
+    size_t used;
+    require(zak_skip_frame(&card) == ZAK_OK, "skip");
+    require(zak_frame_lines(&other, widths, rgb, sizeof rgb, &used) == ZAK_OK, "frame");
+}
+
 /* A cycle, so that the dots before it and after it differ. */
 static void cycle_both(void)
 {
     uint32_t address = random_address();
     uint8_t value = (uint8_t)random_below(256);
-    switch (random_below(8)) {
+    switch (random_below(10)) {
     case 0:
         write_register();
         break;
@@ -128,6 +152,10 @@ static void cycle_both(void)
         break;
     case 2:
         read_memory();
+        break;
+    case 3:
+    case 4:
+        word_of_memory();
         break;
     default:
         require(zak_put(&card, address, value) == zak_put(&other, address, value), "put");
@@ -161,6 +189,8 @@ int main(int argc, char **argv)
             advance_both();
             if (random_below(2))
                 cycle_both();
+            if (random_below(40) == 0)
+                end_frame();
         }
         cycle_both();
         compare_states();

@@ -83,6 +83,7 @@ static void calls_of_closed(void)
     SHOW(zak_frame_words(&card, ZAK_ONCE, &picture, &pixel, 1, 1));
     SHOW(zak_line(&card, 0, &line, &pixel, 1));
     SHOW(zak_frame_lines(&card, widths, bytes, 1, &len));
+    SHOW(zak_skip_frame(&card));
     SHOW(zak_int10(&card, &regs, none, 0, bytes, 1, &len));
     SHOW(zak_block(&card, &regs, &source));
     SHOW(zak_cycles(&card, &regs, none, 0, bytes, 1, &len));

@@ -98,6 +98,8 @@ static int example(zaklimot::bytes fonts)
     HOLDS(vga.clock().frame_dots == 359200 && vga.clock().rate / vga.clock().rate_divisor == 25175000);
     vga.advance(vga.clock().to_frame);
     HOLDS(vga.beam().line == 0 && vga.beam().frame == 1);
+    vga.skip_frame();
+    HOLDS(vga.beam().line == 0 && vga.beam().frame == 2);
     return 0;
 }
 
