@@ -9,7 +9,7 @@ FROM("adapter", "zak_advance") u32 zak_advance(u32 card, u32 dots);
 FROM("adapter", "zak_clock") u32 zak_clock(u32 card, u32 room);
 FROM("reads", "word") u32 room_word(u32 place);
 FROM("reads", "in") u32 adapter_in(u32 card, u32 room, u32 port);
-FROM("host", "frame") void host_frame(u32 dots); /* lets these dots pass, to the end of the frame */
+FROM("host", "frame") void host_frame(void); /* lets the dots of the frame pass that are left */
 
 extern u32 card, room;
 #define SECOND 1000000000ull
@@ -101,7 +101,7 @@ static void end_frame(void)
     record(RECORD_FRAME, 0, 0);
     frames++;
     status_dots = 0;
-    host_frame(to_frame);
+    host_frame();
     look_at_clock();
 }
 

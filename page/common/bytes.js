@@ -70,8 +70,23 @@ export function wordsOfBytes(bytes) {
   return new Uint32Array(bytes.buffer, bytes.byteOffset, bytes.length >> 2);
 }
 
+/**
+ * The first place from one on at which two lists of words differ; `to` where none before that does. The place of a
+ * word in the other list is `ahead` more.
+ */
+export function differingWord(one, other, from = 0, to = one.length, ahead = 0) {
+  const lastFour = to - 4;
+  let at = from;
+  while (at < to && one[at] === other[at + ahead]) {
+    // Four words at a time take half as long.
+    const place = at + ahead, areFour = at <= lastFour && one[at + 1] === other[place + 1] &&
+      one[at + 2] === other[place + 2] && one[at + 3] === other[place + 3];
+    at += areFour ? 4 : 1;
+  }
+  return at;
+}
+
 /** Whether two lists of as many words are the same. */
 export function sameWords(one, other) {
-  for (let at = 0; at < one.length; at++) if (one[at] !== other[at]) return false;
-  return true;
+  return differingWord(one, other) === one.length;
 }

@@ -57,8 +57,8 @@ export function cssColour([red, green, blue]) {
   return `rgb(${[red, green, blue].map(six => six << 2 | six >> 4).join(" ")})`;
 }
 
-/** Which rows of a list are in sight: { first, last }, with some before and after. */
-export function rowsInSight(scrollTop, height, row, count) {
-  const first = Math.max(0, Math.floor(scrollTop / row) - 2);
-  return { first, last: Math.min(count, first + Math.ceil(height / row) + 4) };
+/** Which rows of a list are in sight: { first, last }, with so many more before and after. */
+export function rowsInSight(scrollTop, height, row, count, more) {
+  const first = Math.max(0, Math.floor(scrollTop / row) - more);
+  return { first, last: Math.min(count, Math.ceil((scrollTop + height) / row) + more) };
 }

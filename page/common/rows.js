@@ -31,7 +31,6 @@ export function followRowHeight(heard) {
 
 /** The rows in a box. `make` makes a row with nothing in it. */
 export class Rows {
-  height = ROW.height;
   rows = [];
   top = 0;
   inner = element("div", { className: "inner", role: "presentation" });
@@ -45,13 +44,10 @@ export class Rows {
    * Shows so many rows, the first at a place in the box; `fill(row, i)` writes the i-th of them.
    */
   show(count, top, fill) {
-    const { rows, inner } = this, { height } = ROW, place = Math.round(top);
-    if (height !== this.height) rows.forEach((made, i) => { made.style.top = height * i + "px"; });
-    this.height = height;
+    const { rows, inner } = this, place = Math.round(top);
     for (; rows.length > count; rows.pop()) inner.lastChild.remove();
     while (rows.length < count) {
       const made = this.make();
-      made.style.top = height * rows.length + "px";
       inner.append(made);
       rows.push(made);
     }

@@ -4,6 +4,9 @@ import { Rows, isWritten } from "../common/rows.js";
 import { byId, classesOf, element, setAll, setText } from "../common/dom.js";
 import { isPlainAnswer, isRefusal, shortAnswer } from "../script/expecting.js";
 
+/** An answer of so many letters has room beside its line. */
+const SHORT = 12;
+
 /** The columns. `pointed(line)` hears of a line's number that was clicked. */
 export class Columns {
   constructor(pointed) {
@@ -65,11 +68,11 @@ function answerOf(step, isLater, session) {
   const answer = session.answerOf(step), expected = outline.expectedOf(entry);
   const words = outline.wordsOf(entry), [first, ...more] = shortAnswer(answer, words).split("\n");
   const isWrong = expected !== null && session.isWrong(step);
-  const sign = expected === null ? "" : isWrong ? "✗ " : "✓ ";
+  const sign = expected === null ? "" : isWrong ? "✗ " : "✓ ", text = sign + first + (more.length ? " …" : "");
   return {
-    text: sign + first + (more.length ? " …" : ""),
+    text,
     title: `step ${step + 1}: ${answer}` + (isWrong ? `\nexpected: ${expected}` : ""),
     className: classesOf("answer", isLater && "later", isRefusal(answer) && "refused",
-      isPlainAnswer(answer, words) && "plain", sign && (isWrong ? "wrong" : "right")),
+      isPlainAnswer(answer, words) && "plain", text.length > SHORT && "long", sign && (isWrong ? "wrong" : "right")),
   };
 }

@@ -9,6 +9,8 @@ import { TextField } from "./textfield.js";
 import { byId, rowsInSight, setAll } from "../common/dom.js";
 
 const TOP = 6;
+/** So many rows before and after those in sight are there, since the browser scrolls ahead of the page. */
+const MORE = 2;
 // Browsers have no elements that are much higher.
 const HIGHEST_TEXT = 8000000;
 
@@ -297,7 +299,9 @@ export class Editor {
 
   draw() {
     const { box, scrolled } = this;
-    const { first, last } = rowsInSight(scrolled, box.height, ROW.height, this.count);
+    // The columns beside the text stand still while it is scrolled; a text that is only shown does not.
+    const more = this.isLong ? MORE : 0;
+    const { first, last } = rowsInSight(scrolled - TOP, box.height, ROW.height, this.count, more);
     const count = Math.max(0, last - first), top = TOP + ROW.height * first - scrolled;
     const marked = this.bad?.line ?? this.mark;
     this.columns.show(count, first, top, this);

@@ -7,6 +7,10 @@ import { isRefusal } from "../script/expecting.js";
 
 // Browsers have no elements that are much higher.
 const HIGHEST_LIST = 8000000;
+/** An answer of so many letters has room in each list. */
+const SHORT = 4;
+/** So many rows before and after those in sight are there, since the browser scrolls ahead of the page. */
+const MORE = 1;
 
 /**
  * The list of steps. `go` shows the state after so many, and `step` goes one forward, or back with -1;
@@ -76,7 +80,7 @@ export class Listing {
     const { session, box } = this;
     if (!session) return;
     const scrolled = box.top * this.scale, count = Math.min(session.ran, session.answers.length);
-    const { first, last } = rowsInSight(scrolled, box.height, ROW.height, count);
+    const { first, last } = rowsInSight(scrolled, box.height, ROW.height, count, MORE);
     this.list.show(Math.max(0, last - first), ROW.height * first - scrolled + box.top,
       (made, i) => this.fill(made, first + i));
     this.tellHere(first < this.steps && this.steps <= last ? `step${this.steps}` : "");
@@ -101,6 +105,7 @@ export class Listing {
     const texts = [String(step + 1), String(outline.lineOf(entry) || ""), words.slice(0, 200),
       lines[0].slice(0, 200) + (lines.length > 1 ? " …" : "")];
     texts.forEach((text, i) => setText(made.children[i], text));
+    setAll(made.lastChild, { className: texts[3].length > SHORT ? "long" : "" });
     setAll(made, { title: `${words.slice(0, 200)}\n${answer.slice(0, 600)}`,
       ariaSelected: String(isHere), id: `step${step + 1}`,
       ariaPosInSet: String(step + 1), ariaSetSize: String(session.length),

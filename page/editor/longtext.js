@@ -1,5 +1,5 @@
 // A text that is too long to be edited: its lines in sight are shown.
-import { ROW, Rows, isWritten } from "../common/rows.js";
+import { Rows, isWritten } from "../common/rows.js";
 import { classesOf, element, setAll, setText } from "../common/dom.js";
 import { grouped } from "../common/bytes.js";
 
@@ -84,7 +84,7 @@ export class LongText {
 
   #fill(made, line, here) {
     const isHere = line === here;
-    if (isWritten(made, this.starts, line, isHere, ROW.height)) return;
+    if (isWritten(made, this.starts, line, isHere)) return;
     setText(made, this.lineText(line).slice(0, WIDEST_LINE));
     setAll(made, { className: classesOf("longrow", isHere && "here") });
   }

@@ -73,7 +73,7 @@ export class Machine {
     const env = { memory: adapter.memory };
     const reads = new WebAssembly.Instance(modules.reads, { adapter, env }).exports;
     const host = {
-      frame: dots => this.#frame(dots), video: () => this.#video(),
+      frame: () => this.#frame(), video: () => this.#video(),
       told: (segment, place, text, length) => this.#instruction(segment, place, text, length),
       tell: (number, value) => this.#missing(number, value >>> 0),
     };
@@ -438,8 +438,8 @@ export class Machine {
 
   // The display.
 
-  #frame(dots) {
-    this.#passFrame(dots);
+  #frame() {
+    this.#passFrame();
     this.#frameCycles.set(this.cpu.frames(), this.cpu.cycles());
     // The start stays: a run that goes back to it passes its frame no more.
     if (this.cpu.frames() > MOST_FRAMES) this.#frameCycles.delete(this.cpu.frames() - MOST_FRAMES);
@@ -449,9 +449,9 @@ export class Machine {
     }
   }
 
-  #passFrame(dots) {
+  #passFrame() {
     if (!this.isShowing) {
-      this.calls.zak_advance(this.card, dots);
+      this.calls.zak_skip_frame(this.card);
       return;
     }
     const status = this.calls.zak_frame_words(this.card, WITH_ALPHA, this.room, this.pixels,
@@ -483,7 +483,7 @@ export class Machine {
     this.calls.zak_clock(this.card, this.room);
     const dots = this.adapterView.getUint32(this.room, true);
     this.isShowing = true;
-    this.#passFrame(dots);
+    this.#passFrame();
     return dots;
   }
 

@@ -55,7 +55,7 @@ export class State {
 
   /** Of each of 1,024 lines, how many dots the frame under way has so far. */
   get drawn() {
-    return Uint16Array.from({ length: HIGHEST }, (_, line) => drawnDots(this.bytes, line));
+    return new Uint16Array(this.bytes.slice(AT.drawn, AT.drawn + 2 * HIGHEST).buffer);
   }
 
   /** Whether a dot of the frame under way is drawn. */

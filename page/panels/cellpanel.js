@@ -91,7 +91,8 @@ export class CellPanel {
     const drawing = cellColours(after), old = this.isOther(drawing) ? [] : this.keys;
     const last = before === after ? null : { codes: before.plane(0), attributes: before.plane(1) };
     this.keys = rows.map(row => keysOf(row, last));
-    rows.forEach((row, i) => this.drawRow(row, drawing, this.keys[i], old[i]));
+    const others = rows.filter((_, i) => !isSameList(this.keys[i], old[i]));
+    if (others.length) this.drawRows(others, drawing);
     this.describe(after.registers);
     return this.root;
   }
@@ -114,14 +115,29 @@ export class CellPanel {
     return !isSame;
   }
 
-  /** Paints a row in which a cell differs from what stands on the canvas. */
-  drawRow({ cells, top, lines }, drawing, keys, old) {
-    if (old && cells.every((_, column) => keys[column] === old[column])) return;
-    const { image, brush } = this;
-    cells.forEach((cell, column) =>
-      drawCell(this.words, image.width, GLYPH_WIDTH * column, top, lines, cell, drawing));
-    brush.putImageData(image, 0, 0, 0, top, image.width, lines);
-    keys.forEach((key, column) => {
+  /** Paints rows in which a cell differs from what stands on the canvas. */
+  drawRows(others, drawing) {
+    const { rows, image, brush } = this, [first] = others, last = others.at(-1);
+    for (const row of others) this.drawRow(row, drawing);
+    brush.putImageData(image, 0, 0, 0, first.top, image.width, last.top + last.lines - first.top);
+    // What stands between them was put there too, and had marks.
+    for (const row of rows) if (row.top >= first.top && row.top <= last.top) this.markRow(row);
+  }
+
+  drawRow(row, drawing) {
+    const { rows, keys, image: { width }, words } = this, { cells, top, lines } = row, i = rows.indexOf(row);
+    const isCopy = i && rows[i - 1].lines === lines && isSameList(keys[i], keys[i - 1]);
+    // Most rows of many screens are blank.
+    if (isCopy) return words.copyWithin(top * width, (top - lines) * width, top * width);
+    for (const [column, cell] of cells.entries()) {
+      drawCell(words, width, GLYPH_WIDTH * column, top, lines, cell, drawing);
+    }
+  }
+
+  /** Frames the cursor, and the cells that have changed. */
+  markRow(row) {
+    const { brush } = this, { top, lines } = row;
+    this.keys[this.rows.indexOf(row)].forEach((key, column) => {
       if (key < CURSOR) return;
       brush.strokeStyle = key & CHANGED ? "#f6c344" : "#4a90d9";
       brush.lineWidth = 2;
@@ -182,6 +198,11 @@ export class CellPanel {
       height: part(rows[row].lines, canvas.height) });
     mark.hidden = false;
   }
+}
+
+/** Whether two lists have the same numbers; one of them may not be there. */
+function isSameList(one, other) {
+  return other?.length === one.length && one.every((value, i) => value === other[i]);
 }
 
 /** What a row's cells show, but for colours and glyphs: a number each. */

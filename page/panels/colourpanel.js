@@ -55,7 +55,7 @@ export class ColourPanel {
   made({ before, after }) {
     const { registers } = after, changed = new Set(differingColours(before, after));
     const mask = hex(registers.dacMask, 2);
-    this.said.hidden = after.bda.mode !== 0x13;
+    setAll(this.said, { hidden: after.bda.mode !== 0x13 });
     setText(this.title, `DAC: 256 entries, mask ${mask}; the index's entry has a border`);
     this.palette.forEach((swatch, four) => {
       const entry = dacEntry(registers, four), own = registers.attr[four];

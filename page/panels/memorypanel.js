@@ -1,12 +1,13 @@
 // The four planes, as bitmaps at the pitch of the offset register and as hexadecimal.
 import { classesOf, element, selectOf, setAll, setText } from "../common/dom.js";
-import { counted, grouped, hex, wordsOfBytes } from "../common/bytes.js";
+import { counted, differingWord, grouped, hex, wordsOfBytes } from "../common/bytes.js";
 import { changedPlanes } from "../run/changes.js";
 import { isWritten } from "../common/rows.js";
 import { rowBytes } from "../module/state.js";
 import { shownBytes } from "../explain/walk.js";
 
-const PLANE_LENGTH = 65536, WIDEST_PITCH = 2040, HEX_ROWS = 16, HEX_COLUMNS = 16, USUAL_PITCH = 80;
+const PLANE_LENGTH = 65536, WORDS = PLANE_LENGTH / 4, NOTHING = new Uint8Array(PLANE_LENGTH);
+const WIDEST_PITCH = 2040, HEX_ROWS = 16, HEX_COLUMNS = 16, USUAL_PITCH = 80;
 const COLOURS = { on: 0xffffffff, off: 0xff000000, shownOff: 0xff4a2a14, hiddenOn: 0xff8a8a8a,
   changedOn: 0xff44c3f6, changedOff: 0xff104a6a };
 /**
@@ -41,34 +42,30 @@ class PlaneBitmap {
       heard(plane, Math.floor(y) * pitch + Math.floor(x / 8));
     });
     this.brush = this.canvas.getContext("2d", { alpha: false });
-    const nothing = new Uint8Array(PLANE_LENGTH);
-    Object.assign(this, { bytes: nothing, shown: nothing, used: 0, rooms: {} });
+    /** By the scale, the words of dots, and how many of them something was painted on. */
+    this.rooms = {};
     // Marks of the bytes that have changed, and those which stand on the canvas: they take turns.
     this.marks = [new Marks(), new Marks()];
   }
 
   /** Paints bytes; `shown` has a 1 for each byte that is so, and `found` the numbers of those changed. */
   paint(bytes, shown, found, pitch, scale) {
+    if (pitch !== this.pitch || scale !== this.scale) this.shape(pitch, scale);
     const [old, marks] = this.marks = [...this.marks].reverse();
     marks.set(found);
-    const isNew = pitch !== this.pitch || scale !== this.scale;
-    if (isNew) this.shape(pitch, scale);
-    this.put(this.paintWords(bytes, shown, marks.bytes, old.bytes, isNew));
+    const pairs = [pairOf(bytes, this.bytes)];
+    if (shown !== this.shown) pairs.push(pairOf(shown, this.shown));
+    if (found.length || old.found.length) pairs.push(pairOf(marks.bytes, old.bytes));
+    this.put(this.paintWords(bytes, shown, marks.bytes, pairs));
     Object.assign(this, { bytes, shown });
   }
 
   /**
-   * Paints the bytes, four at a time, that differ from what is painted. The rows of the canvas that have some; of a
-   * new canvas, which is black, those that are not black.
+   * Paints the bytes, four at a time, where one of some pairs differs. The rows of the canvas that have some.
    */
-  paintWords(bytes, shown, marks, oldMarks, isNew) {
-    const [now, old] = [bytes, this.bytes].map(wordsOfBytes), { pitch, scale } = this;
-    const [grounds, oldGrounds, marked, oldMarked] = [shown, this.shown, marks, oldMarks].map(wordsOfBytes);
-    const isShownSame = shown === this.shown, rows = [];
-    for (let word = 0; word < now.length; word++) {
-      const isSame = now[word] === old[word] && marked[word] === oldMarked[word] &&
-        (isShownSame || grounds[word] === oldGrounds[word]);
-      if (isNew ? !(now[word] | grounds[word] | marked[word]) && isSame : isSame) continue;
+  paintWords(bytes, shown, marks, pairs) {
+    const { pitch, scale } = this, rows = [];
+    for (let word = nextWord(pairs, 0); word < WORDS; word = nextWord(pairs, word + 1)) {
       this.paintWord(4 * word, bytes, shown, marks);
       const row = Math.floor(4 * word / pitch / scale), last = Math.floor((4 * word + 3) / pitch / scale);
       if (rows.at(-1)?.last >= row - APART_ROWS) rows.at(-1).last = Math.max(last, rows.at(-1).last);
@@ -100,20 +97,37 @@ class PlaneBitmap {
 
   /** Puts rows of dots on the canvas. */
   put(rows) {
+    const { brush, image, image: { width }, room } = this;
     for (const { row, last } of rows) {
-      this.brush.putImageData(this.image, 0, 0, 0, row, this.image.width, last + 1 - row);
+      brush.putImageData(image, 0, 0, 0, row, width, last + 1 - row);
+      room.end = Math.max(room.end, width * (last + 1));
     }
   }
 
+  /** Clears the canvas: on it stand bytes of which all are 0, none is shown and none has a mark. */
   shape(pitch, scale) {
     const width = 8 * pitch / scale, height = Math.ceil(PLANE_LENGTH / pitch / scale);
-    Object.assign(this, { pitch, scale });
     Object.assign(this.canvas, { width, height });
     // A last row may go on behind the bytes.
-    this.rooms[scale] ??= new Uint32Array(8 * (PLANE_LENGTH + scale * WIDEST_PITCH) / scale / scale);
-    this.words = this.rooms[scale].fill(COLOURS.off);
-    this.image = new ImageData(new Uint8ClampedArray(this.words.buffer, 0, 4 * width * height), width, height);
+    const length = 8 * (PLANE_LENGTH + scale * WIDEST_PITCH) / scale / scale;
+    const room = this.rooms[scale] ??= { words: new Uint32Array(length), end: length }, { words } = room;
+    words.fill(COLOURS.off, 0, room.end);
+    room.end = 0;
+    this.marks[1].set([]);
+    Object.assign(this, { pitch, scale, room, words, bytes: NOTHING, shown: NOTHING, used: 0,
+      image: new ImageData(new Uint8ClampedArray(words.buffer, 0, 4 * width * height), width, height) });
   }
+}
+
+/** Bytes that are to be painted, and those that are, four at a time; and the next word in which they differ. */
+function pairOf(now, old) {
+  return { now: wordsOfBytes(now), old: wordsOfBytes(old), next: -1 };
+}
+
+/** The first word from one on in which one of some pairs differs. */
+function nextWord(pairs, from) {
+  for (const pair of pairs) if (pair.next < from) pair.next = differingWord(pair.now, pair.old, from);
+  return Math.min(WORDS, ...pairs.map(({ next }) => next));
 }
 
 /** Of each byte of a plane, whether it has a mark. */

@@ -1,6 +1,7 @@
 // The registers by name with their fields; what the last step has changed is marked.
 import { GROUPS, fieldValue, indexPort, valuesOf } from "../module/registers.js";
-import { classesOf, element, pageLink, setAll, setText } from "../common/dom.js";
+import { Parts } from "../common/parts.js";
+import { byId, classesOf, element, pageLink, setAll, setText } from "../common/dom.js";
 import { hex } from "../common/bytes.js";
 import { isWritten } from "../common/rows.js";
 
@@ -179,16 +180,23 @@ export class RegisterPanel {
       .map(one => one.table);
     this.root = element("div", { className: "groups" }, element("div", {}, ...tables(true)),
       element("div", {}, ...tables(false), this.more.made));
+    const writers = this.groups.map(one => [one.table, () => this.fill(one)]);
+    this.parts = new Parts(byId("panel"), new Map([...writers, [this.more.made, () => this.fillMore()]]));
   }
 
-  made({ before, after }) {
-    const [old, now] = [before.registers, after.registers];
-    for (const one of this.groups) this.fill(one, now, old);
-    this.more.fill(rowsOfStates(before, after, otherRows));
+  made(seen) {
+    this.seen = seen;
+    this.parts.write();
     return this.root;
   }
 
-  fill({ group, note, rows }, now, old) {
+  fillMore() {
+    const { before, after } = this.seen;
+    this.more.fill(rowsOfStates(before, after, otherRows));
+  }
+
+  fill({ group, note, rows }) {
+    const { before: { registers: old }, after: { registers: now } } = this.seen;
     const [values, before] = [now, old].map(registers => valuesOf(registers, group.id));
     const picked = pickedIndex(group, now);
     setText(note, groupNote(group, now));

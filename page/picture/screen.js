@@ -4,7 +4,7 @@ import { byId, cssColour, element, setAll } from "../common/dom.js";
 import { characterWidth } from "../module/state.js";
 import { dotOfSeen } from "../explain/dotsearch.js";
 import { lineOfDot } from "../explain/dotrows.js";
-import { hex, wordsOfBytes } from "../common/bytes.js";
+import { differingWord, hex, wordsOfBytes } from "../common/bytes.js";
 import { widened } from "./png.js";
 
 const DARK = 0.32, GLASS_DOTS = 15, GLASS_SCALE = 10;
@@ -35,34 +35,52 @@ const wordsOf = share => [0, 8, 16].map(shift =>
   Uint32Array.from({ length: 64 }, (_, six) => Math.round(widened(six) * share) << shift));
 const LIGHT = wordsOf(1), DIMMED = wordsOf(DARK);
 
-function paintDots(words, to, rgb, from, count, [reds, greens, blues]) {
+/** Paints dots, one after the other. */
+function paintSingly(words, to, rgb, from, count, [reds, greens, blues]) {
   for (let at = 0; at < count; at++, from += 3) {
     words[to + at] = 0xff000000 | blues[rgb[from + 2]] | greens[rgb[from + 1]] | reds[rgb[from]];
   }
 }
 
+/** Paints four dots at a time, whose colours are three words. Most look as the four before them. */
+function paintFours(words, to, colours, [reds, greens, blues]) {
+  let [first, second, third] = [-1, -1, -1], one = 0, two = 0, three = 0, four = 0;
+  for (let at = 0, place = to; at < colours.length; at += 3, place += 4) {
+    if (colours[at] !== first || colours[at + 1] !== second || colours[at + 2] !== third) {
+      [first, second, third] = [colours[at], colours[at + 1], colours[at + 2]];
+      one = 0xff000000 | reds[first & 63] | greens[first >> 8 & 63] | blues[first >> 16 & 63];
+      two = 0xff000000 | reds[first >> 24] | greens[second & 63] | blues[second >> 8 & 63];
+      three = 0xff000000 | reds[second >> 16 & 63] | greens[second >> 24] | blues[third & 63];
+      four = 0xff000000 | reds[third >> 8 & 63] | greens[third >> 16 & 63] | blues[third >> 24];
+    }
+    words[place] = one;
+    words[place + 1] = two;
+    words[place + 2] = three;
+    words[place + 3] = four;
+  }
+}
+
 /**
- * Colours of dots as bytes, and as words, four bytes each, so that many are held to others quickly.
+ * Paints so many dots, whose colours begin at a place of `rgb`, as words from a place on. `shades` has the words of
+ * each red, green and blue.
  */
-function dotsOf(rgb) {
-  const isEven = rgb.byteOffset % 4 === 0;
-  return { rgb, words: isEven ? wordsOfBytes(rgb) : null };
+export function paintDots(words, to, rgb, from, count, shades) {
+  const begin = rgb.byteOffset + from;
+  // A dot has three bytes, and words begin at multiples of four: after so many dots one does.
+  const ahead = Math.min(count, begin % 4), fours = count - ahead >> 2, end = ahead + 4 * fours;
+  paintSingly(words, to, rgb, from, ahead, shades);
+  if (fours) paintFours(words, to + ahead, new Uint32Array(rgb.buffer, begin + 3 * ahead, 3 * fours), shades);
+  paintSingly(words, to + end, rgb, from + 3 * end, count - end, shades);
 }
 
-/** Whether dots have the same `length` bytes from a place on in each. */
-function sameDots(one, from, other, otherFrom, length) {
-  const isEven = one.words && other.words && (from | otherFrom | length) % 4 === 0;
-  const [now, old] = isEven ? [one.words, other.words] : [one.rgb, other.rgb];
-  const share = isEven ? 4 : 1;
-  const end = (from + length) / share, ahead = (otherFrom - from) / share;
-  for (let at = from / share; at < end; at++) if (now[at] !== old[at + ahead]) return false;
-  return true;
-}
-
-/** Whether a row of dots looks as another one that was painted in its place. */
-function isSameRow(row, dots, old, oldDots) {
-  return old.width === row.width && old.light === row.light &&
-    sameDots(dots, row.from, oldDots, old.from, 3 * row.width);
+/**
+ * Whether a row of dots looks as another one, as far as the words of their pictures tell. Dots that stand in one word
+ * with theirs count too, and rows are held to be others where their words begin apart: painting them does no harm.
+ */
+function isSameRow(row, words, old, oldWords) {
+  const ahead = (old.from - row.from) / 4, end = Math.ceil((row.from + 3 * row.width) / 4);
+  return old.width === row.width && old.light === row.light && ahead % 1 === 0 && end <= words.length &&
+    differingWord(words, oldWords, row.from >> 2, end, ahead) === end;
 }
 
 /**
@@ -117,7 +135,7 @@ export class Screen {
    * null.
    */
   show(seen) {
-    const old = this.painted?.dots?.rgb ?? null;
+    const old = this.painted?.rgb ?? null;
     this.seen = seen;
     this.draw();
     return old === seen.picture.rgb ? null : old;
@@ -141,22 +159,30 @@ export class Screen {
   /** Paints the rows that do not stand on the canvas yet. */
   paint({ rows, width, height }, rgb) {
     const { canvas } = this;
-    if (canvas.width !== width || canvas.height !== height || !this.image) {
-      Object.assign(canvas, { width, height });
-      this.image = new ImageData(width, height);
-      this.words = new Uint32Array(this.image.data.buffer);
-      this.painted = { rows: [], dots: null };
-    }
-    const { painted: old, words } = this, dots = dotsOf(rgb);
+    if (canvas.width !== width || canvas.height !== height || !this.image) this.resize(width, height);
+    const { painted: old, words } = this, dots = wordsOfBytes(rgb);
     let first = height, last = -1;
     for (let y = 0; y < rows.length; y++) {
       if (old.rows[y] && isSameRow(rows[y], dots, old.rows[y], old.dots)) continue;
-      this.paintRow(words.subarray(y * width, (y + 1) * width), rows[y], rgb);
+      // Many rows look as the one above, which is sooner seen than they are painted.
+      const at = y * width, isCopy = y && isSameRow(rows[y], dots, rows[y - 1], dots);
+      if (isCopy) words.copyWithin(at, at - width, at);
+      else this.paintRow(words.subarray(at, at + width), rows[y], rgb);
       first = Math.min(first, y);
       last = y;
     }
-    this.painted = { rows, dots };
+    this.painted = { rows, dots, rgb };
     if (last >= 0) this.brush.putImageData(this.image, 0, 0, 0, first, width, last + 1 - first);
+  }
+
+  /** Gives the canvas another size. Its dots are made in the same memory where that is long enough. */
+  resize(width, height) {
+    const length = width * height, { words } = this;
+    Object.assign(this.canvas, { width, height });
+    const { buffer } = words?.buffer.byteLength >= 4 * length ? words : new Uint32Array(length);
+    this.words = new Uint32Array(buffer, 0, length);
+    this.image = new ImageData(new Uint8ClampedArray(buffer, 0, 4 * length), width, height);
+    this.painted = { rows: [] };
   }
 
   paintRow(words, { from, light, width }, rgb) {
@@ -216,7 +242,7 @@ export class Screen {
     const y = rows.findIndex(row => row.line >= line), isOn = byId("hairs").checked &&
       !seen.picture.isWhole && rows.length > 0;
     const hairs = [byId("hair-x"), byId("hair-y"), byId("ring")];
-    for (const hair of hairs) hair.hidden = !isOn;
+    for (const hair of hairs) setAll(hair, { hidden: !isOn });
     if (!isOn) return;
     const top = `${100 * ((y < 0 ? rows.length : y) + 0.5) / canvas.height}%`,
       left = `${100 * (Math.min(x, canvas.width) + 0.5) / canvas.width}%`;
@@ -250,7 +276,7 @@ export class Screen {
     this.pointer = pointer;
     const found = pointer && this.seen && this.dotAt(pointer);
     const isOn = Boolean(found) && byId("zoom").checked;
-    this.glass.hidden = !isOn;
+    setAll(this.glass, { hidden: !isOn });
     if (isOn) this.drawGlass(found);
     if (found) this.describe(found);
     else byId("dot").replaceChildren();

@@ -1,6 +1,6 @@
 // What a step has changed: the differences of the states before and after it.
 import { GROUPS, valuesOf } from "../module/registers.js";
-import { counted, hex, wordsOfBytes } from "../common/bytes.js";
+import { counted, differingWord, hex, wordsOfBytes } from "../common/bytes.js";
 
 const POINTERS = { seqIndex: "sequencer index", gfxIndex: "graphics index",
   crtcIndex: "CRT controller index", attrIndex: "attribute index",
@@ -15,9 +15,8 @@ export function differingBytes(before, after) {
 
 /** The same of parts that are many words, most of which are alike. */
 function differingInWords(before, after) {
-  const found = [], old = wordsOfBytes(before), now = wordsOfBytes(after);
-  for (let word = 0; word < now.length; word++) {
-    if (old[word] === now[word]) continue;
+  const found = [], old = wordsOfBytes(before), now = wordsOfBytes(after), { length } = now;
+  for (let word = differingWord(old, now); word < length; word = differingWord(old, now, word + 1)) {
     for (let at = 4 * word; at < 4 * word + 4; at++) if (before[at] !== after[at]) found.push(at);
   }
   return found;

@@ -83,6 +83,9 @@ export class Session {
   #sinceCheckpoint = 0;
   #sinceNear = 0;
   #scout = null;
+  #card;
+  /** The state to which the card is brought back before it is used; null if it is there. */
+  #left = null;
 
   /**
    * `judged` is the text as `judgedText` tells it: then no text is needed. `begin` is the saved state
@@ -98,7 +101,7 @@ export class Session {
     /** The card that takes all steps, ahead of the one that shows them. */
     this.ahead = new Card(adapter, fonts);
     try {
-      this.card = new Card(adapter, fonts);
+      this.#card = new Card(adapter, fonts);
     } catch (trouble) {
       this.ahead.close();
       throw trouble;
@@ -114,13 +117,20 @@ export class Session {
 
   close() {
     this.ahead.close();
-    this.card.close();
+    this.#card.close();
     this.#scout?.close();
     this.adapter.giveBack();
   }
 
   get isDone() {
     return this.ran === this.length;
+  }
+
+  /** The card that shows steps, in the state after `at` of them. */
+  get card() {
+    if (this.#left) this.#card.restore([this.#left.bytes]);
+    this.#left = null;
+    return this.#card;
   }
 
   /** A card by which searches go through the steps; it is opened once one is asked for. */
@@ -224,7 +234,8 @@ export class Session {
   /** Brings the card to a checkpoint. */
   restore({ at, parts }) {
     this.at = -1;
-    this.card.restore(parts);
+    this.#left = null;
+    this.#card.restore(parts);
     this.at = at;
     this.#sinceNear = 0;
   }
@@ -269,14 +280,15 @@ export class Session {
     return { steps, before: before ?? after, after, picture: picture ?? this.pictureSoFar(after) };
   }
 
-  /** The picture of the frame under way: all its lines, and how many dots of each are drawn. */
+  /**
+   * The picture of the frame under way in the card's state: all its lines, and how many dots of each are drawn.
+   * The card goes on to the frame's end, and is brought back once it is used: to go elsewhere, nothing else needs it.
+   */
   pictureSoFar(state) {
-    const at = this.at;
-    this.at = -1;
-    const lines = this.card.frameLines(this.spare);
+    const { card } = this;
+    this.#left = state;
+    const lines = card.frameLines(this.spare);
     this.spare = null;
-    this.card.restore([state.bytes]);
-    this.at = at;
     return { isWhole: false, ...lines, drawn: state.drawn, isBegun: state.isBegun };
   }
 

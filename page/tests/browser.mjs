@@ -237,6 +237,8 @@ await check("registers, with links to their places", async () => {
   await browser.click("#rows [data-step='2']");
   await stepIs(2);
   await browser.click("#tab1");
+  // It is out of sight, and written a moment later.
+  await browser.until("document.querySelector('#panel tr.changed')");
   const changed = await browser.value(
     "[...document.querySelectorAll('#panel tr.changed')].map(row => row.innerText.replace(/\\s+/g, ' '))");
   assert.equal(changed.length, 1);
@@ -605,7 +607,8 @@ const TOLD = `(() => {
 async function toldOf(step) {
   await stepIs(step);
   await browser.until("document.querySelector('.row.here') && document.querySelector('.number.here')");
-  await browser.value("new Promise(done => requestAnimationFrame(() => requestAnimationFrame(done)))");
+  // What is out of sight in a panel is written a moment later.
+  await browser.value("new Promise(done => setTimeout(done, 200))");
   return browser.value(TOLD);
 }
 

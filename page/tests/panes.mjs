@@ -9,6 +9,37 @@ const LAPTOP = { width: 1366, height: 768 }, WIDE = { width: 1920, height: 1080 
 const PHONE = { width: 390, height: 844 };
 const BANDS = "#example=raster-bands&step=100";
 
+/** In the page: places of the columns and of the list, from so many pixels on, at which no row stands. */
+const gaps = from => `[["gutter", "number"], ["told", "answer"], ["listing", "row"]].flatMap(([id, row]) => {
+  const { left, top, width, height } = document.getElementById(id).getBoundingClientRect();
+  const isRow = one => one.classList.contains(row);
+  return Array.from({ length: Math.floor(height / 4) - 3 }, (_, i) => ${from} + 4 * i)
+    .filter(y => !document.elementsFromPoint(left + width / 2, top + y).some(isRow)).map(y => [id, y]);
+})`;
+/** In the page: texts that are wider than their boxes, those that are cut off and those that are not. */
+const WIDER = `[true, false].map(isCut => [...document.querySelectorAll(".answer, .row span")].filter(one =>
+  one.scrollWidth > one.clientWidth + 1 && isCut === (getComputedStyle(one).overflowX === "hidden"))
+  .map(one => one.textContent))`;
+/**
+ * In the page: how many cells of the panel have the dots of the picture, nine a cell there, and those that have not.
+ * Cells with a mark, or whose colours are alike, look otherwise.
+ */
+const CELLS = `(() => {
+  const dotsOf = canvas => new Uint32Array(canvas.getContext("2d").getImageData(0, 0, canvas.width, canvas.height)
+    .data.buffer);
+  const [cells, picture] = [".cells", "#picture"].map(one => dotsOf(document.querySelector(one)));
+  const others = [0xffd9904a, 0xff909090, 0xff303030], found = { same: 0, differ: [] };
+  for (let cell = 0; cell < 2000; cell++) {
+    const row = Math.floor(cell / 80), column = cell % 80, pairs = Array.from({ length: 128 }, (_, dot) =>
+      [cells[640 * (16 * row + (dot >> 3)) + 8 * column + (dot & 7)],
+        picture[720 * (16 * row + (dot >> 3)) + 9 * column + (dot & 7)]]);
+    if (pairs.some(([dot]) => others.includes(dot))) continue;
+    if (pairs.every(([one, other]) => one === other)) found.same++;
+    else found.differ.push([row, column]);
+  }
+  return found;
+})()`;
+
 await check(use => {
   const { browser } = use, placeOf = selector => use.placeOf(selector);
   const near = (one, other) => assert.ok(Math.abs(one - other) <= 2, `${one}, not ${other}`);
@@ -19,6 +50,14 @@ await check(use => {
     await use.open(BANDS);
     await use.value("localStorage.clear()");
     await use.open(BANDS);
+  }
+
+  /** Goes to a step by the slider. */
+  async function go(step) {
+    await use.value(`(() => { const slider = document.getElementById("slider");
+      slider.value = ${step};
+      slider.dispatchEvent(new Event("input")); })()`);
+    await use.stepIs(step);
   }
 
   return {
@@ -179,6 +218,69 @@ await check(use => {
       await use.until("document.fullscreenElement === null");
       await use.pause();
       near((await placeOf("#picture")).width, old.width);
+    },
+
+    async "a row stands at each place in sight, however far the script and the list are scrolled"() {
+      await use.open("#example=text-screen");
+      for (const step of [1, 60, 100, 137, 200]) {
+        await go(step);
+        await use.pause();
+        assert.deepEqual(await use.value(gaps(8)), [], `step ${step}`);
+      }
+      // The text begins six pixels below its edge.
+      for (const top of [0, 1, 5, 7, 17, 20, 333, 1000, 9999]) {
+        await use.value(`document.querySelectorAll(".CodeMirror-scroll, #listing")
+          .forEach(box => { box.scrollTop = ${top}; })`);
+        await use.pause();
+        assert.deepEqual(await use.value(gaps(top < 8 ? 8 : 1)), [], `scrolled by ${top}`);
+      }
+    },
+
+    async "what is wider than its column is cut off, and nothing else"() {
+      for (const width of [1366, 900, 700]) {
+        await browser.look({ width, height: 768 });
+        await use.openScript("version 2\nint ax=3\nputw B8000 1F41\nin 3DA\nint ax=F00\nadvance 9294300\n");
+        await use.value("document.getElementById('split-script').focus()");
+        await browser.press("Home");
+        await use.pause();
+        const [cut, spilt] = await use.value(WIDER);
+        assert.ok(cut.length > 0, `${width} pixels`);
+        assert.deepEqual(spilt, [], `${width} pixels`);
+      }
+    },
+
+    async "registers out of sight are written a moment later, or once they come into sight"() {
+      await use.open("#example=text-screen&step=1");
+      const values = () => use.value(`["misc 00", "attr 0F"].map(name =>
+        document.querySelector("[data-subject='register " + name + "'] .value").textContent)`);
+      assert.deepEqual(await values(), ["67", "00"]);
+      await go(200);
+      await use.until(`document.querySelector("[data-subject='register attr 0F'] .value").textContent === "0F"`);
+      // The moment never comes.
+      await use.value(`(() => { const { setTimeout } = window;
+        window.setTimeout = (does, time) => (time === 100 ? 0 : setTimeout(does, time)); })()`);
+      await go(0);
+      assert.deepEqual(await values(), ["00", "0F"]);
+      await use.value(`document.querySelector("[data-subject='register attr 0F']").scrollIntoView()`);
+      await use.until(`document.querySelector("[data-subject='register attr 0F'] .value").textContent === "00"`);
+      await use.value("document.getElementById('panel').scrollTop = 0");
+      await use.pause();
+      await browser.press("2");
+      await go(200);
+      await browser.press("1");
+      assert.deepEqual(await values(), ["67", "0F"]);
+    },
+
+    async "cells look as the picture does"() {
+      // Rows 3 and 4 are alike, and so are those that are blank; a frame stands after each word.
+      const words = [0, 3, 4, 24].map(row => `putw ${(0xb8000 + 160 * row + 20).toString(16)} 1F4${row >> 3}\nframe\n`);
+      for (const steps of [[9], [1, 5, 9, 3, 7]]) {
+        await use.openScript(`version 2\nint ax=3\n${words.join("")}`, "&tab=cells");
+        for (const step of steps) await go(step);
+        const { same, differ } = await use.value(CELLS);
+        assert.deepEqual(differ, []);
+        assert.ok(same > 1990, `${same} cells`);
+      }
     },
 
     async "a click on a bitmap of memory scrolls to the byte, and marks it"() {

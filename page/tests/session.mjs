@@ -121,6 +121,18 @@ test("what is seen of a step leaves the card after it", () => {
   session.close();
 });
 
+test("a step is seen as it is from power-on, wherever the card was before", () => {
+  const text = "int ax=3\nadvance 200000\nint ax=E41\nput B8000 1\nadvance 100\nint ax=E42\n";
+  const [session, other] = [text, text].map(sessionOf);
+  for (const steps of [6, 2, 3, 5, 4, 1, 6, 0, 5]) {
+    session.seek(Math.max(0, steps - 1));
+    const { after, picture } = session.seen(steps), wanted = stateFromPowerOn(other, steps);
+    assert.deepEqual(after.bytes, wanted, `step ${steps}`);
+    assert.deepEqual(picture, other.pictureSoFar(other.state()), `step ${steps}`);
+  }
+  for (const one of [session, other]) one.close();
+});
+
 /** A way to a state takes less, in milliseconds. */
 const MOST_WAY = 25;
 

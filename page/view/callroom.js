@@ -1,7 +1,7 @@
 // Into BIOS calls and out of them: the bar that tells in which call the page is.
 import { RUN, TASK } from "../run/runner.js";
 import { Trouble } from "../common/trouble.js";
-import { byId, setText } from "../common/dom.js";
+import { byId, setAll, setText } from "../common/dom.js";
 import { counted, grouped } from "../common/bytes.js";
 import { isCallAt, openCall } from "../run/call.js";
 
@@ -93,7 +93,7 @@ export class CallRoom {
   /** Shows in which call the page is. */
   update() {
     const { session, isWithin, run } = this.#runner;
-    byId("callbar").hidden = !isWithin;
+    setAll(byId("callbar"), { hidden: !isWithin });
     if (!isWithin) return;
     const { step, words } = session.call;
     setText(byId("out"), `◀ back to step ${grouped(step)}`);

@@ -1,5 +1,5 @@
 // The last step: its words and answer, what it changed, and why it was refused.
-import { byId, element, pageLink, setText } from "../common/dom.js";
+import { byId, element, pageLink, setAll, setText } from "../common/dom.js";
 import { changesOf } from "../run/changes.js";
 import { grouped } from "../common/bytes.js";
 import { isCallAt } from "../run/call.js";
@@ -29,8 +29,8 @@ export class LastStep {
   /** Shows what is seen: { session, steps, before, after }. */
   show(seen) {
     const { session, steps } = seen;
-    this.#refusal.hidden = true;
     if (steps) return this.#showStep(seen);
+    setAll(this.#refusal, { hidden: true });
     const { noun, isCall, length } = session, begin = isCall ? "Before the call" : "Power-on";
     this.#box.replaceChildren(`${begin}: no ${noun} of ${grouped(length)} is taken yet.`);
     return setText(this.#changes, "");
@@ -46,8 +46,10 @@ export class LastStep {
     if (this.#place.parentNode !== this.#box) {
       this.#box.replaceChildren(this.#place, this.#step, " answers ", this.#answer, " ", this.#into);
     }
-    this.#into.hidden = !isCallAt(session, steps) || isRefusal(answer);
-    if (isRefusal(answer)) this.#showRefusal(words, answer, before);
+    const isRefused = isRefusal(answer);
+    setAll(this.#into, { hidden: !isCallAt(session, steps) || isRefused });
+    setAll(this.#refusal, { hidden: !isRefused });
+    if (isRefused) this.#showRefusal(words, answer, before);
     const changes = changesOf(before, after);
     setText(this.#changes, changes.length ? `Changed: ${changes.join("; ")}.` : "Nothing changed.");
   }
@@ -56,6 +58,5 @@ export class LastStep {
     const { text, link } = whyRefused(words, answer, before);
     const more = pageLink(this.#pages, link.page, link.anchor, `See ${link.title}.`);
     this.#refusal.replaceChildren(element("strong", {}, answer), ` ${text} `, more);
-    this.#refusal.hidden = false;
   }
 }

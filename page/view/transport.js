@@ -89,7 +89,7 @@ export class Transport {
   /** Puts the slider at the step that is shown. */
   show({ session, steps }) {
     setAll(byId("gotokind").options[0], { text: session.noun });
-    byId("slider").max = this.#runner.session.ran;
-    byId("slider").value = steps;
+    // What is set anew is laid out anew, though it be the same.
+    setAll(byId("slider"), { max: String(this.#runner.session.ran), value: String(steps) });
   }
 }

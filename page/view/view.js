@@ -37,7 +37,7 @@ import { Trouble } from "../common/trouble.js";
 import { WatchPanel } from "../panels/watchpanel.js";
 import { MOST_WATCHES, Watches } from "../explain/watches.js";
 import { WritePanel } from "../panels/writepanel.js";
-import { byId, setText } from "../common/dom.js";
+import { byId, setAll, setText } from "../common/dom.js";
 import { bytesOfBase64, grouped } from "../common/bytes.js";
 import { Helper } from "../help/helper.js";
 import { Judge, LONG_TEXT } from "../run/judging.js";
@@ -396,9 +396,9 @@ export class View {
   #showFound({ session, steps }) {
     const text = this.finder.textAt(session, steps), said = byId("found");
     setText(said.firstElementChild, text);
-    said.hidden = !text;
-    byId("older").hidden = !this.finder.isOlderAt(session, steps);
-    byId("foundcycle").hidden = !this.finder.leadsWithin(session, steps);
+    setAll(said, { hidden: !text });
+    setAll(byId("older"), { hidden: !this.finder.isOlderAt(session, steps) });
+    setAll(byId("foundcycle"), { hidden: !this.finder.leadsWithin(session, steps) });
   }
 
   /** All steps are taken: their answers stand there, and are compared with those of zak_run. */

@@ -240,15 +240,15 @@ class Pages(Folder):
 
     def test_the_styles_of_the_page(self) -> None:
         for place, text in {
-            "style.css": "a {}\n",
-            "one/b.css": "b {}\n",
+            "style.css": "a {}\n/* One,\nor two. */\n",
+            "one/b.css": "b {}\n  /* b */\n/**/ b {}\n",
             "one/a.css": "i {}\n",
             "tests/c.css": "u {}\n",
         }.items():
             path = self.folder / place
             path.parent.mkdir(exist_ok=True)
             path.write_text(text, "utf-8")
-        self.assertEqual(page.styles(self.folder), "a {}\ni {}\nb {}\n")
+        self.assertEqual(page.styles(self.folder), "a {}\ni {}\nb {}\n/**/ b {}\n")
 
     def test_the_scripts_of_a_tutorial(self) -> None:
         part = (

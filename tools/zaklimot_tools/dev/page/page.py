@@ -64,6 +64,8 @@ MACHINE_MADE = (
     "The processor of the machine in this page is libx86emu's, changed (machine/patches/). Its"
     " licence:"
 )
+# A comment of a style sheet that has lines of its own.
+COMMENT = re.compile(r"^ */\*.*?\*/\n", re.M | re.S)
 # What a browser takes for the end of a page's script, or for a comment that hides it.
 ENDING = re.compile(r"</script|<!--", re.I)
 
@@ -133,13 +135,13 @@ def read_sources(folder: Path = SOURCES) -> Sources:
 
 
 def styles(folder: Path = SOURCES) -> str:
-    """The style sheets of a folder, one after the other: the page's own first, and those of its
-    parts by name."""
+    """The style sheets of a folder without the comments between their rules: the page's own first,
+    and those of its parts by name."""
     first = Path(to_read(str(folder / FIRST_STYLE)))
     others = sorted(
         path for path in folder.rglob("*.css") if path != first and TESTS not in path.parts
     )
-    return "".join(path.read_text("utf-8") for path in (first, *others))
+    return COMMENT.sub("", "".join(path.read_text("utf-8") for path in (first, *others)))
 
 
 def wordings_module() -> str:
