@@ -19,7 +19,7 @@
  */
 
 #define FIRST_PAGES 17u
-#define HEAP_BASE 1049840u
+#define HEAP_BASE 1049856u
 #define MODULE_GLOBALS u64 g0;
 
 #include <stdlib.h>
@@ -176,101 +176,104 @@ static u32 memory_grow(module *self, u32 more)
 static void f0(module *, u64, u64, u64, u64, u64);
 static void f1(module *, u64);
 static void f2(module *, u64, u32);
-static u32 f3(module *, u64, u64);
-static void f4(module *, u64, u64, u64, u64);
+static u32 f3(module *, u64, u32);
+static u32 f4(module *, u64, u64);
 static void f5(module *, u64, u64, u64, u64);
-static void f6(module *, u64, u64, u32, u32);
-static void f7(module *, u64, u64, u64);
-static void f8(module *, u64, u64);
-static u32 f9(module *, u64, u64, u64, u64);
-static void f10(module *, u64, u64, u64, u64);
-static u32 f11(module *, u64, u64);
-static void f12(module *, u64, u64, u32);
-static void f13(module *, u64, u64, u64, u64);
+static void f6(module *, u64, u64, u64, u64);
+static void f7(module *, u64, u64, u32, u32);
+static void f8(module *, u64, u64, u64);
+static void f9(module *, u64, u64);
+static u32 f10(module *, u64, u64, u64, u64);
+static void f11(module *, u64, u64, u64, u64);
+static u32 f12(module *, u64, u64);
+static void f13(module *, u64, u64, u32);
 static void f14(module *, u64, u64, u64, u64);
-static void f15(module *, u64, u64, u64);
+static void f15(module *, u64, u64, u64, u64);
 static void f16(module *, u64, u64, u64);
-static void f17(module *, u64, u64);
-static u32 f18(module *, u64);
-static void f19(module *, u64, u32, u32);
-static void f20(module *, u64, u64, u64);
-static void f21(module *, u64);
-static void f22(module *, u64, u64);
-static void f23(module *, u64, u64, u64);
-static void f24(module *, u64, u64, u64, u64, u64, u64, u64);
-static void f25(module *, u64, u64, u32);
-static u32 f26(module *, u64, u32, u32);
-static void f27(module *, u64, u64, u64, u64, u32);
-static void f28(module *, u64, u32, u32);
-static void f29(module *, u64, u64, u64);
-static void f30(module *, u64, u64, u64, u64);
-static void f31(module *, u64, u64, u32);
-static void f32(module *, u64, u64, u64, u32, u64);
-static void f33(module *, u64, u64, u32);
-static void f34(module *, u64, u32, u32);
-static u32 f35(module *, u64, u32, u64);
-static void f36(module *, u64, u64, u32, u32, u32, u32);
-static void f37(module *, u64, u32, u32);
-static u32 f38(module *, u64, u64, u32, u32, u32, u32);
-static void f39(module *, u64, u32, u32, u32);
-static void f40(module *, u64, u32, u32);
-static void f41(module *, u64, u32);
-static void f42(module *, u64, u32, u32);
-static void f43(module *, u64, u64, u32, u32);
-static void f44(module *, u64, u32, u32);
-static u32 f45(module *, u64, u32, u32);
-static void f46(module *, u64, u64, u32, u32);
-static void f47(module *, u64, u64, u32, u32, u32);
-static u32 f48(module *, u64, u64, u32, u32);
-static void f49(module *, u64, u32, u32, u32, u32);
-static void f50(module *, u64, u64);
-static void f51(module *, u64, u64, u32, u64, u64);
-static void f52(module *, u64, u64, u32);
-static void f53(module *, u64, u64, u32);
-static void f54(module *, u64, u64, u64, u64, u64, u64, u64);
-static void f55(module *, u64, u64, u64, u64, u32);
-static void f56(module *, u64, u32, u32, u32);
-static void f57(module *, u64, u64, u64, u32, u64);
-static void f58(module *, u64, u64, u32, u32, u32, u32);
-static u32 f59(module *, u64, u64, u32, u32, u32, u32);
-static void f60(module *, u64, u32, u32, u32);
-static void f61(module *, u64, u64, u64);
-static void f62(module *, u64, u32, u32, u64);
+static void f17(module *, u64, u64, u64);
+static void f18(module *, u64, u64);
+static u32 f19(module *, u64);
+static void f20(module *, u64, u32, u32);
+static void f21(module *, u64, u64, u64);
+static void f22(module *, u64);
+static void f23(module *, u64, u64);
+static void f24(module *, u64, u64, u64);
+static void f25(module *, u64, u64, u64, u64, u64, u64, u64);
+static void f26(module *, u64, u64, u32);
+static u32 f27(module *, u64, u32, u32);
+static void f28(module *, u64, u64, u64, u64, u32);
+static void f29(module *, u64, u32, u32);
+static void f30(module *, u64, u64, u64);
+static void f31(module *, u64, u64, u64, u64);
+static void f32(module *, u64, u64, u32);
+static void f33(module *, u64, u64, u64, u32, u64);
+static void f34(module *, u64, u64, u32);
+static void f35(module *, u64, u32, u32);
+static u32 f36(module *, u64, u32, u64);
+static void f37(module *, u64, u64, u32, u32, u32, u32);
+static void f38(module *, u64, u32, u32);
+static u32 f39(module *, u64, u64, u32, u32, u32, u32);
+static void f40(module *, u64, u32, u32, u32);
+static void f41(module *, u64, u32, u32);
+static void f42(module *, u64, u32);
+static void f43(module *, u64, u32, u32);
+static void f44(module *, u64, u64, u32, u32);
+static void f45(module *, u64, u32, u32);
+static u32 f46(module *, u64, u32, u32);
+static void f47(module *, u64, u64, u32, u32);
+static void f48(module *, u64, u64, u32, u32, u32);
+static u32 f49(module *, u64, u64, u32, u32);
+static void f50(module *, u64, u32, u32, u32, u32);
+static void f51(module *, u64, u64);
+static void f52(module *, u64, u64, u32, u64, u64);
+static u32 f53(module *, u64, u32);
+static void f54(module *, u64, u64, u32, u32);
+static void f55(module *, u64, u64, u32);
+static void f56(module *, u64, u64, u32);
+static void f57(module *, u64, u64, u64, u64, u64, u64, u64);
+static void f58(module *, u64, u64, u64, u64, u32);
+static void f59(module *, u64, u32, u32, u32);
+static void f60(module *, u64, u64, u64, u32, u64);
+static void f61(module *, u64, u64, u32, u32, u32, u32);
+static u32 f62(module *, u64, u64, u32, u32, u32, u32);
 static void f63(module *, u64, u32, u32, u32);
-static u32 f64(module *, u64, u64, u32, u32, u32, u32);
-static u32 f65(module *, u64, u64, u32, u32);
-static void f66(module *, u64, u64, u64);
-static void f67(module *, u64, u64);
-static void f68(module *, u64, u64, u32, u32);
-static void f69(module *, u64, u64, u32, u32, u32);
-static void f70(module *, u64, u64, u64);
-static void f71(module *, u64, u64, u64);
-static void f72(module *, u64, u64, u64, u64, u32);
+static void f64(module *, u64, u64, u64);
+static void f65(module *, u64, u32, u32, u64);
+static void f66(module *, u64, u32, u32, u32);
+static u32 f67(module *, u64, u64, u32, u32, u32, u32);
+static u32 f68(module *, u64, u64, u32, u32);
+static void f69(module *, u64, u64, u64);
+static void f70(module *, u64, u64);
+static void f71(module *, u64, u64, u32, u32);
+static void f72(module *, u64, u64, u32, u32, u32);
 static void f73(module *, u64, u64, u64);
-static void f74(module *, u64, u32, u64);
-static void f75(module *, u64, u64, u32);
-static u32 f76(module *, u64, u32, u32);
-static u32 f77(module *, u64, u32, u32);
-static u32 f78(module *, u64, u64, u32, u64, u64, u32);
-static void f79(module *, u64, u64, u32, u32);
-static u32 f80(module *, u64, u64, u64);
-static void f81(module *, u64, u64);
-static u32 f82(module *, u64, u64, u64);
-static void f83(module *, u64, u64, u64, u64, u64, u64, u64);
+static void f74(module *, u64, u64, u64);
+static void f75(module *, u64, u64, u64, u64, u32);
+static void f76(module *, u64, u64, u64);
+static void f77(module *, u64, u32, u64);
+static void f78(module *, u64, u64, u32);
+static void f79(module *, u64, u64, u32, u32, u32);
+static u32 f80(module *, u64, u32, u32);
+static u32 f81(module *, u64, u32, u32);
+static u32 f82(module *, u64, u64, u32, u64, u64, u32);
+static u32 f83(module *, u64, u64, u64);
 static void f84(module *, u64, u64);
-static u32 f85(module *, u64, u64);
-static void f86(module *, u64, u64, u64, u64);
-static void f87(module *, u64, u64, u64, u64, u64);
-static void f88(module *, u64, u64, u64, u64);
-static void f89(module *, u64, u64, u64, u32, u64, u64);
-static void f90(module *, u64, u64, u64, u32);
-static void f91(module *, u64, u64, u64, u64, u64, u64);
-static void f92(module *, u64, u64);
-static void f93(module *, u64, u64);
-static void f94(module *, u64, u64, u64);
-static u32 f95(module *, u64);
-static u32 f96(module *, u64);
-static u32 f97(module *, u64, u64, u64, u64, u64);
+static u32 f85(module *, u64, u64, u64);
+static void f86(module *, u64, u64, u64, u64, u64, u64, u64);
+static void f87(module *, u64, u64);
+static u32 f88(module *, u64, u64);
+static void f89(module *, u64, u64, u64, u64);
+static void f90(module *, u64, u64, u64, u64, u64);
+static void f91(module *, u64, u64, u64, u64);
+static void f92(module *, u64, u64, u64, u32, u64, u64);
+static void f93(module *, u64, u64, u64, u32);
+static void f94(module *, u64, u64, u64, u64, u64, u64);
+static void f95(module *, u64, u64);
+static void f96(module *, u64, u64);
+static void f97(module *, u64, u64, u64);
+static u32 f98(module *, u64);
+static u32 f99(module *, u64);
+static u32 f100(module *, u64, u64, u64, u64, u64);
 static u32 module_zak_advance(module *, u64, u32);
 static u32 module_zak_assemble(module *, u64, u64, u64, u64, u64, u64);
 static u32 module_zak_block(module *, u64, u64, u64);
@@ -321,13 +324,14 @@ static u32 module_zak_show_dac(module *, u64, u32, u64, u64, u64);
 static u32 module_zak_show_latches(module *, u64, u64, u64, u64);
 static u32 module_zak_show_plane(module *, u64, u32, u32, u32, u64, u64, u64);
 static u32 module_zak_show_regs(module *, u64, u64, u64, u64);
+static u32 module_zak_skip_frame(module *, u64);
 static u32 module_zak_version(module *);
 static u64 module_page_take(module *, u64);
 static u32 module_page_give(module *, u64);
-static void f151(module *, u64, u64, u64);
-static u64 f152(module *, u64);
-static void f153(module *, u64, u64, u64, u64, u64);
-static void f154(module *, u64);
+static void f155(module *, u64, u64, u64);
+static u64 f156(module *, u64);
+static void f157(module *, u64, u64, u64, u64, u64);
+static void f158(module *, u64);
 
 static void f0(module *self, u64 p0, u64 p1, u64 p2, u64 p3, u64 p4) {
   u64 l5 = 0, l6 = 0;
@@ -462,8 +466,17 @@ static void f2(module *self, u64 p0, u32 p1) {
   l2 = j0;
   self->g0 = j0;
   i0 = p1;
-  i0 = !(i0);
+  i1 = 2341u;
+  i0 = i0 < i1;
   if (i0) {goto B0;}
+  j0 = p0;
+  i1 = p1;
+  i0 = f3(self, j0, i1);
+  p1 = i0;
+  B0:;
+  i0 = p1;
+  i0 = !(i0);
+  if (i0) {goto B1;}
   j0 = p0;
   j1 = 34ull;
   j0 += j1;
@@ -514,7 +527,7 @@ static void f2(module *self, u64 p0, u32 p1) {
   l24 = i0;
   i0 = 0u;
   l25 = i0;
-  L1: 
+  L2: 
     j0 = p0;
     j1 = 138ull;
     j0 += j1;
@@ -527,26 +540,24 @@ static void f2(module *self, u64 p0, u32 p1) {
     i0 = (u32)(j0);
     i0 = i32_load16_u(j0);
     l27 = i0;
-    if (i0) {goto B6;}
+    if (i0) {goto B7;}
     i0 = l26;
     i1 = 255u;
     i0 &= i1;
-    if (i0) {goto B6;}
+    if (i0) {goto B7;}
     i0 = p1;
     j1 = p0;
     j2 = 105ull;
     j1 += j2;
     i1 = (u32)(j1);
     i1 = i32_load8_u(j1);
-    i2 = 4u;
+    i2 = 5u;
     i1 += i2;
     i2 = l21;
     i1 *= i2;
-    i2 = l21;
-    i1 += i2;
     l28 = i1;
     i0 = i0 < i1;
-    if (i0) {goto B6;}
+    if (i0) {goto B7;}
     i0 = 0u;
     l27 = i0;
     j0 = p0;
@@ -554,7 +565,7 @@ static void f2(module *self, u64 p0, u32 p1) {
     j0 += j1;
     i0 = (u32)(j0);
     i0 = i32_load16_u(j0);
-    if (i0) {goto B7;}
+    if (i0) {goto B8;}
     j0 = p0;
     j1 = 2032ull;
     j0 += j1;
@@ -583,17 +594,17 @@ static void f2(module *self, u64 p0, u32 p1) {
     i32_store(j0, i1);
     j0 = l13;
     i0 = !(j0);
-    if (i0) {goto B8;}
+    if (i0) {goto B9;}
     j0 = l14;
     i0 = !(j0);
-    if (i0) {goto B8;}
+    if (i0) {goto B9;}
     j0 = l11;
     i0 = (u32)(j0);
     i1 = 0u;
     j2 = l14;
     i2 = (u32)(j2);
     memory_fill(j0, i1, j2);
-    B8:;
+    B9:;
     j0 = l12;
     i0 = (u32)(j0);
     i1 = 0u;
@@ -604,7 +615,7 @@ static void f2(module *self, u64 p0, u32 p1) {
     i0 = (u32)(j0);
     i0 = i32_load16_u(j0);
     l27 = i0;
-    if (i0) {goto B7;}
+    if (i0) {goto B8;}
     i0 = 0u;
     l27 = i0;
     j0 = p0;
@@ -612,7 +623,7 @@ static void f2(module *self, u64 p0, u32 p1) {
     j0 += j1;
     i0 = (u32)(j0);
     i0 = i32_load8_u(j0);
-    if (i0) {goto B7;}
+    if (i0) {goto B8;}
     j0 = p0;
     j1 = 134ull;
     j0 += j1;
@@ -620,7 +631,7 @@ static void f2(module *self, u64 p0, u32 p1) {
     i0 = i32_load16_u(j0);
     i1 = 65535u;
     i0 &= i1;
-    if (i0) {goto B7;}
+    if (i0) {goto B8;}
     i0 = 0u;
     l27 = i0;
     j0 = p0;
@@ -665,21 +676,21 @@ static void f2(module *self, u64 p0, u32 p1) {
     i2 &= i3;
     i1 += i2;
     i32_store16(j0, i1);
-    B7:;
+    B8:;
     i0 = l25;
     i1 = 255u;
     i0 &= i1;
     i1 = 1u;
     i0 = i0 == i1;
-    if (i0) {goto B9;}
+    if (i0) {goto B10;}
     j0 = p0;
     j1 = 106ull;
     j0 += j1;
     i0 = (u32)(j0);
     i0 = i32_load8_u(j0);
     l26 = i0;
-    goto B5;
-    B9:;
+    goto B6;
+    B10:;
     j0 = p0;
     j1 = 106ull;
     j0 += j1;
@@ -694,7 +705,7 @@ static void f2(module *self, u64 p0, u32 p1) {
     i1 = 1u;
     i0 &= i1;
     i0 = !(i0);
-    if (i0) {goto B5;}
+    if (i0) {goto B6;}
     i0 = l23;
     i1 = 65535u;
     i0 &= i1;
@@ -706,7 +717,7 @@ static void f2(module *self, u64 p0, u32 p1) {
     i2 = 65535u;
     i1 &= i2;
     i0 = i0 != i1;
-    if (i0) {goto B5;}
+    if (i0) {goto B6;}
     j0 = p0;
     j1 = 144ull;
     j0 += j1;
@@ -717,7 +728,7 @@ static void f2(module *self, u64 p0, u32 p1) {
     i0 ^= i1;
     i1 = 1u;
     i0 &= i1;
-    if (i0) {goto B5;}
+    if (i0) {goto B6;}
     i0 = l24;
     i1 = 65535u;
     i0 &= i1;
@@ -730,22 +741,22 @@ static void f2(module *self, u64 p0, u32 p1) {
     i2 = 65535u;
     i1 &= i2;
     i0 = i0 >= i1;
-    if (i0) {goto B5;}
+    if (i0) {goto B6;}
     i0 = l27;
     i1 = l26;
     i2 = 255u;
     i1 &= i2;
     l26 = i1;
     i0 = i0 <= i1;
-    if (i0) {goto B10;}
+    if (i0) {goto B11;}
     i0 = l23;
     l29 = i0;
     i0 = l25;
     l24 = i0;
     i0 = l30;
     l22 = i0;
-    goto B3;
-    B10:;
+    goto B4;
+    B11:;
     i0 = l25;
     i1 = 65535u;
     i0 &= i1;
@@ -772,7 +783,7 @@ static void f2(module *self, u64 p0, u32 p1) {
     i2 &= i3;
     i1 |= i2;
     i0 = i0 > i1;
-    if (i0) {goto B4;}
+    if (i0) {goto B5;}
     i0 = l25;
     j0 = (u64)(i0);
     l14 = j0;
@@ -823,7 +834,7 @@ static void f2(module *self, u64 p0, u32 p1) {
     j1 = i64_load(j1);
     l13 = j1;
     i0 = j0 <= j1;
-    if (i0) {goto B11;}
+    if (i0) {goto B12;}
     j0 = l16;
     j1 = l13;
     j0 -= j1;
@@ -837,14 +848,14 @@ static void f2(module *self, u64 p0, u32 p1) {
     j2 = l13;
     j1 -= j2;
     i0 = j0 <= j1;
-    if (i0) {goto B12;}
+    if (i0) {goto B13;}
     j0 = p0;
     j1 = 2008ull;
     j0 += j1;
     j1 = l16;
-    i0 = f3(self, j0, j1); m = self->memory; if (NEVER(self->is_broken)) return;
+    i0 = f4(self, j0, j1); m = self->memory; if (NEVER(self->is_broken)) return;
     i0 = !(i0);
-    if (i0) {goto B11;}
+    if (i0) {goto B12;}
     j0 = p0;
     j1 = 2024ull;
     j0 += j1;
@@ -857,7 +868,7 @@ static void f2(module *self, u64 p0, u32 p1) {
     i0 = (u32)(j0);
     j0 = i64_load(j0);
     l13 = j0;
-    B12:;
+    B13:;
     j0 = p0;
     j1 = 2008ull;
     j0 += j1;
@@ -871,10 +882,10 @@ static void f2(module *self, u64 p0, u32 p1) {
     j1 += j2;
     l20 = j1;
     i0 = j0 >= j1;
-    if (i0) {goto B13;}
+    if (i0) {goto B14;}
     j0 = l16;
     i0 = !(j0);
-    if (i0) {goto B13;}
+    if (i0) {goto B14;}
     j0 = l19;
     j1 = l13;
     j0 += j1;
@@ -883,7 +894,7 @@ static void f2(module *self, u64 p0, u32 p1) {
     j2 = l16;
     i2 = (u32)(j2);
     memory_fill(j0, i1, j2);
-    B13:;
+    B14:;
     j0 = p0;
     j1 = 2024ull;
     j0 += j1;
@@ -900,14 +911,14 @@ static void f2(module *self, u64 p0, u32 p1) {
     i0 = (u32)(j0);
     j1 = l19;
     i64_store(j0, j1);
-    B11:;
+    B12:;
     j0 = l14;
     j1 = 65535ull;
     j0 &= j1;
     l13 = j0;
     j0 = l12;
     i0 = !(j0);
-    if (i0) {goto B14;}
+    if (i0) {goto B15;}
     j0 = p0;
     j1 = 2008ull;
     j0 += j1;
@@ -926,7 +937,7 @@ static void f2(module *self, u64 p0, u32 p1) {
     j2 = l12;
     i2 = (u32)(j2);
     memory_copy(j0, j1, j2);
-    B14:;
+    B15:;
     j0 = p0;
     j1 = 2032ull;
     j0 += j1;
@@ -962,12 +973,20 @@ static void f2(module *self, u64 p0, u32 p1) {
     i0 = (u32)(j0);
     i1 = l25;
     i32_store16(j0, i1);
-    goto B4;
-    B6:;
+    goto B5;
+    B7:;
     i0 = p1;
     i1 = 1u;
-    i0 = i0 == i1;
+    i0 = i0 != i1;
     if (i0) {goto B27;}
+    j0 = p0;
+    j1 = 34ull;
+    j0 += j1;
+    i0 = (u32)(j0);
+    i0 = i32_load8_u(j0);
+    l25 = i0;
+    goto B26;
+    B27:;
     i0 = l27;
     j1 = p0;
     j2 = 105ull;
@@ -976,7 +995,7 @@ static void f2(module *self, u64 p0, u32 p1) {
     i1 = i32_load8_u(j1);
     i2 = 5u;
     i1 += i2;
-    l25 = i1;
+    l28 = i1;
     i0 = i0 < i1;
     if (i0) {goto B28;}
     j0 = p0;
@@ -989,14 +1008,20 @@ static void f2(module *self, u64 p0, u32 p1) {
     i1 = 9u;
     i0 ^= i1;
     l28 = i0;
-    goto B26;
+    goto B25;
     B28:;
+    j0 = p0;
+    j1 = 34ull;
+    j0 += j1;
+    i0 = (u32)(j0);
+    i0 = i32_load8_u(j0);
+    l25 = i0;
     i0 = l26;
     i1 = 255u;
     i0 &= i1;
     i1 = l21;
     i0 = i0 >= i1;
-    if (i0) {goto B27;}
+    if (i0) {goto B26;}
     i0 = 0u;
     i1 = l21;
     i2 = l26;
@@ -1005,22 +1030,22 @@ static void f2(module *self, u64 p0, u32 p1) {
     i3 = 255u;
     i2 &= i3;
     i1 -= i2;
-    l28 = i1;
-    i2 = l28;
+    l29 = i1;
+    i2 = l29;
     i3 = l21;
     i2 = i2 > i3;
     i0 = i2 ? i0 : i1;
     i1 = 0u;
-    i2 = l25;
+    i2 = l28;
     i3 = l27;
     i4 = 1u;
     i3 += i4;
     i4 = 65535u;
     i3 &= i4;
     i2 -= i3;
-    l28 = i2;
-    i3 = l28;
-    i4 = l25;
+    l29 = i2;
+    i3 = l29;
+    i4 = l28;
     i3 = i3 > i4;
     i1 = i3 ? i1 : i2;
     i2 = l21;
@@ -1028,25 +1053,19 @@ static void f2(module *self, u64 p0, u32 p1) {
     i0 += i1;
     i1 = 1u;
     i0 += i1;
-    l25 = i0;
+    l28 = i0;
     i1 = p1;
-    i2 = l25;
+    i2 = l28;
     i3 = p1;
     i2 = i2 < i3;
     i0 = i2 ? i0 : i1;
-    l25 = i0;
+    l28 = i0;
     i1 = 128u;
-    i2 = l25;
+    i2 = l28;
     i3 = 128u;
     i2 = i2 < i3;
     i0 = i2 ? i0 : i1;
-    l25 = i0;
-    j0 = p0;
-    j1 = 34ull;
-    j0 += j1;
-    i0 = (u32)(j0);
-    i0 = i32_load8_u(j0);
-    l29 = i0;
+    l28 = i0;
     i0 = l27;
     if (i0) {goto B31;}
     j0 = p0;
@@ -1054,12 +1073,12 @@ static void f2(module *self, u64 p0, u32 p1) {
     j0 += j1;
     i0 = (u32)(j0);
     i0 = i32_load16_u(j0);
-    l28 = i0;
+    l29 = i0;
     i0 = l26;
     i1 = 255u;
     i0 &= i1;
     if (i0) {goto B32;}
-    i0 = l28;
+    i0 = l29;
     i1 = 65535u;
     i0 &= i1;
     if (i0) {goto B32;}
@@ -1118,7 +1137,7 @@ static void f2(module *self, u64 p0, u32 p1) {
     j0 += j1;
     i0 = (u32)(j0);
     i0 = i32_load16_u(j0);
-    l28 = i0;
+    l29 = i0;
     j0 = p0;
     j1 = 138ull;
     j0 += j1;
@@ -1130,7 +1149,7 @@ static void f2(module *self, u64 p0, u32 p1) {
     i1 = 255u;
     i0 &= i1;
     if (i0) {goto B34;}
-    i0 = l28;
+    i0 = l29;
     i1 = 65535u;
     i0 &= i1;
     if (i0) {goto B34;}
@@ -1233,9 +1252,9 @@ static void f2(module *self, u64 p0, u32 p1) {
     j0 += j1;
     i0 = (u32)(j0);
     i0 = i32_load16_u(j0);
-    l28 = i0;
+    l29 = i0;
     B30:;
-    i0 = l28;
+    i0 = l29;
     i1 = 65535u;
     i0 &= i1;
     j1 = p0;
@@ -1309,9 +1328,9 @@ static void f2(module *self, u64 p0, u32 p1) {
     i2 = i2 > i3;
     i0 = i2 ? i0 : i1;
     l27 = i0;
-    i1 = l25;
+    i1 = l28;
     i2 = l27;
-    i3 = l25;
+    i3 = l28;
     i2 = i2 < i3;
     i0 = i2 ? i0 : i1;
     l31 = i0;
@@ -1359,7 +1378,7 @@ static void f2(module *self, u64 p0, u32 p1) {
     j1 = 2008ull;
     j0 += j1;
     j1 = l13;
-    i0 = f3(self, j0, j1); m = self->memory; if (NEVER(self->is_broken)) return;
+    i0 = f4(self, j0, j1); m = self->memory; if (NEVER(self->is_broken)) return;
     i0 = !(i0);
     if (i0) {goto B36;}
     j0 = p0;
@@ -1763,7 +1782,7 @@ static void f2(module *self, u64 p0, u32 p1) {
     j3 = l2;
     j4 = 5ull;
     j3 += j4;
-    f4(self, j0, j1, j2, j3); if (NEVER(self->is_broken)) return;
+    f5(self, j0, j1, j2, j3); if (NEVER(self->is_broken)) return;
     j0 = l14;
     i0 = !(j0);
     if (i0) {goto B39;}
@@ -1902,7 +1921,7 @@ static void f2(module *self, u64 p0, u32 p1) {
     j3 = l2;
     j4 = 5ull;
     j3 += j4;
-    f4(self, j0, j1, j2, j3); if (NEVER(self->is_broken)) return;
+    f5(self, j0, j1, j2, j3); if (NEVER(self->is_broken)) return;
     j0 = l14;
     i0 = !(j0);
     if (i0) {goto B39;}
@@ -1936,7 +1955,7 @@ static void f2(module *self, u64 p0, u32 p1) {
     j0 += j1;
     i0 = (u32)(j0);
     j0 = i64_load(j0);
-    i1 = l28;
+    i1 = l29;
     j1 = (u64)(i1);
     j2 = 65535ull;
     j1 &= j2;
@@ -1955,7 +1974,7 @@ static void f2(module *self, u64 p0, u32 p1) {
     j1 = 2064ull;
     j0 += j1;
     i0 = (u32)(j0);
-    i1 = l28;
+    i1 = l29;
     i32_store16(j0, i1);
     goto B29;
     B35:;
@@ -1981,7 +2000,7 @@ static void f2(module *self, u64 p0, u32 p1) {
     j1 = 2008ull;
     j0 += j1;
     j1 = l13;
-    i0 = f3(self, j0, j1); m = self->memory; if (NEVER(self->is_broken)) return;
+    i0 = f4(self, j0, j1); m = self->memory; if (NEVER(self->is_broken)) return;
     i0 = !(i0);
     if (i0) {goto B54;}
     j0 = p0;
@@ -2395,7 +2414,7 @@ static void f2(module *self, u64 p0, u32 p1) {
     j3 = l2;
     j4 = 5ull;
     j3 += j4;
-    f5(self, j0, j1, j2, j3); if (NEVER(self->is_broken)) return;
+    f6(self, j0, j1, j2, j3); if (NEVER(self->is_broken)) return;
     j0 = l14;
     i0 = !(j0);
     if (i0) {goto B57;}
@@ -2544,7 +2563,7 @@ static void f2(module *self, u64 p0, u32 p1) {
     j3 = l2;
     j4 = 5ull;
     j3 += j4;
-    f5(self, j0, j1, j2, j3); if (NEVER(self->is_broken)) return;
+    f6(self, j0, j1, j2, j3); if (NEVER(self->is_broken)) return;
     j0 = l14;
     i0 = !(j0);
     if (i0) {goto B57;}
@@ -2581,7 +2600,7 @@ static void f2(module *self, u64 p0, u32 p1) {
     j0 += j1;
     i0 = (u32)(j0);
     j0 = i64_load(j0);
-    i1 = l28;
+    i1 = l29;
     j1 = (u64)(i1);
     j2 = 65535ull;
     j1 &= j2;
@@ -2600,36 +2619,32 @@ static void f2(module *self, u64 p0, u32 p1) {
     j1 = 2064ull;
     j0 += j1;
     i0 = (u32)(j0);
-    i1 = l28;
+    i1 = l29;
     i32_store16(j0, i1);
     B29:;
     j0 = l9;
     j1 = l10;
-    i2 = l29;
+    i2 = l25;
     i3 = 1u;
     i2 &= i3;
     i3 = 9u;
     i2 ^= i3;
-    i3 = l25;
-    f6(self, j0, j1, i2, i3); if (NEVER(self->is_broken)) return;
+    i3 = l28;
+    f7(self, j0, j1, i2, i3); if (NEVER(self->is_broken)) return;
     i0 = p1;
-    i1 = l25;
+    i1 = l28;
     i0 -= i1;
     p1 = i0;
-    goto B15;
-    B27:;
-    j0 = p0;
-    j1 = 34ull;
-    j0 += j1;
-    i0 = (u32)(j0);
-    i0 = i32_load8_u(j0);
+    goto B16;
+    B26:;
+    i0 = l25;
     i1 = 1u;
     i0 &= i1;
     i1 = 9u;
     i0 ^= i1;
     l28 = i0;
     i0 = l27;
-    if (i0) {goto B26;}
+    if (i0) {goto B25;}
     j0 = p0;
     j1 = 134ull;
     j0 += j1;
@@ -2693,7 +2708,7 @@ static void f2(module *self, u64 p0, u32 p1) {
     i0 = (u32)(j0);
     i0 = i32_load16_u(j0);
     l27 = i0;
-    if (i0) {goto B26;}
+    if (i0) {goto B25;}
     j0 = p0;
     j1 = 134ull;
     j0 += j1;
@@ -2712,11 +2727,11 @@ static void f2(module *self, u64 p0, u32 p1) {
     i0 = l26;
     i1 = 255u;
     i0 &= i1;
-    if (i0) {goto B25;}
+    if (i0) {goto B24;}
     i0 = l25;
     i1 = 65535u;
     i0 &= i1;
-    if (i0) {goto B25;}
+    if (i0) {goto B24;}
     i0 = 0u;
     l25 = i0;
     j0 = p0;
@@ -2763,8 +2778,8 @@ static void f2(module *self, u64 p0, u32 p1) {
     i32_store16(j0, i1);
     i0 = 0u;
     l27 = i0;
-    goto B25;
-    B26:;
+    goto B24;
+    B25:;
     i0 = l27;
     j1 = p0;
     j2 = 106ull;
@@ -2772,14 +2787,14 @@ static void f2(module *self, u64 p0, u32 p1) {
     i1 = (u32)(j1);
     i1 = i32_load8_u(j1);
     i0 = i0 > i1;
-    if (i0) {goto B24;}
+    if (i0) {goto B23;}
     j0 = p0;
     j1 = 134ull;
     j0 += j1;
     i0 = (u32)(j0);
     i0 = i32_load16_u(j0);
     l25 = i0;
-    B25:;
+    B24:;
     i0 = l25;
     i1 = 65535u;
     i0 &= i1;
@@ -2806,7 +2821,7 @@ static void f2(module *self, u64 p0, u32 p1) {
     i2 &= i3;
     i1 |= i2;
     i0 = i0 > i1;
-    if (i0) {goto B17;}
+    if (i0) {goto B18;}
     i0 = 0u;
     l26 = i0;
     i0 = 0u;
@@ -2821,7 +2836,7 @@ static void f2(module *self, u64 p0, u32 p1) {
     l31 = i0;
     i1 = 32u;
     i0 &= i1;
-    if (i0) {goto B18;}
+    if (i0) {goto B19;}
     j0 = p0;
     j1 = 204ull;
     j0 += j1;
@@ -2836,7 +2851,7 @@ static void f2(module *self, u64 p0, u32 p1) {
     i0 = (u32)(j0);
     i0 = i32_load8_u(j0);
     l27 = i0;
-    goto B19;
+    goto B20;
     B74:;
     j0 = p0;
     j1 = 53ull;
@@ -2846,7 +2861,7 @@ static void f2(module *self, u64 p0, u32 p1) {
     i1 = 1u;
     i0 &= i1;
     l32 = i0;
-    if (i0) {goto B75;}
+    if (i0) {goto B77;}
     i0 = l31;
     i1 = 1u;
     i0 &= i1;
@@ -2874,7 +2889,7 @@ static void f2(module *self, u64 p0, u32 p1) {
     i1 = 1u;
     i0 &= i1;
     i0 = !(i0);
-    if (i0) {goto B21;}
+    if (i0) {goto B76;}
     j0 = p0;
     j1 = 183ull;
     j0 += j1;
@@ -2883,11 +2898,11 @@ static void f2(module *self, u64 p0, u32 p1) {
     i1 = 32u;
     i0 &= i1;
     i0 = !(i0);
-    if (i0) {goto B21;}
+    if (i0) {goto B76;}
     i0 = 0u;
     l30 = i0;
-    goto B20;
-    B75:;
+    goto B75;
+    B77:;
     i0 = l31;
     i1 = 1u;
     i0 &= i1;
@@ -2921,12 +2936,12 @@ static void f2(module *self, u64 p0, u32 p1) {
     i1 = 64u;
     i0 &= i1;
     i0 = !(i0);
-    if (i0) {goto B76;}
+    if (i0) {goto B78;}
     i0 = l33;
     i1 = 1u;
     i0 &= i1;
     i0 = !(i0);
-    if (i0) {goto B78;}
+    if (i0) {goto B80;}
     i0 = 0u;
     l31 = i0;
     j0 = p0;
@@ -2936,13 +2951,13 @@ static void f2(module *self, u64 p0, u32 p1) {
     i0 = i32_load8_u(j0);
     i1 = 32u;
     i0 &= i1;
-    if (i0) {goto B77;}
-    B78:;
+    if (i0) {goto B79;}
+    B80:;
     i0 = l30;
     i1 = 6u;
     i0 &= i1;
     l31 = i0;
-    B77:;
+    B79:;
     i0 = l31;
     i1 = l29;
     i0 += i1;
@@ -2951,7 +2966,7 @@ static void f2(module *self, u64 p0, u32 p1) {
     i0 &= i1;
     i1 = l26;
     i0 = i0 >= i1;
-    if (i0) {goto B80;}
+    if (i0) {goto B82;}
     j0 = p0;
     j1 = 140ull;
     j0 += j1;
@@ -2960,8 +2975,8 @@ static void f2(module *self, u64 p0, u32 p1) {
     i1 = l27;
     i0 += i1;
     l26 = i0;
-    goto B79;
-    B80:;
+    goto B81;
+    B82:;
     i0 = l29;
     i1 = l26;
     i0 -= i1;
@@ -2976,7 +2991,7 @@ static void f2(module *self, u64 p0, u32 p1) {
     i1 = 1u;
     i0 += i1;
     l26 = i0;
-    B79:;
+    B81:;
     i0 = 0u;
     l27 = i0;
     i0 = l29;
@@ -2984,7 +2999,7 @@ static void f2(module *self, u64 p0, u32 p1) {
     i0 &= i1;
     i1 = 7u;
     i0 = i0 > i1;
-    if (i0) {goto B19;}
+    if (i0) {goto B20;}
     j0 = p0;
     j1 = 125ull;
     j0 += j1;
@@ -2993,13 +3008,13 @@ static void f2(module *self, u64 p0, u32 p1) {
     i1 = 64u;
     i0 &= i1;
     i0 = !(i0);
-    if (i0) {goto B82;}
+    if (i0) {goto B84;}
     i0 = l26;
     i1 = 2u;
     i0 <<= (i1 & 31);
     l26 = i0;
-    goto B81;
-    B82:;
+    goto B83;
+    B84:;
     j0 = p0;
     j1 = 128ull;
     j0 += j1;
@@ -3008,7 +3023,7 @@ static void f2(module *self, u64 p0, u32 p1) {
     l27 = i0;
     i1 = 64u;
     i0 &= i1;
-    if (i0) {goto B81;}
+    if (i0) {goto B83;}
     i0 = l26;
     i1 = 65535u;
     i0 &= i1;
@@ -3026,7 +3041,7 @@ static void f2(module *self, u64 p0, u32 p1) {
     i1 <<= (i2 & 31);
     i0 |= i1;
     l26 = i0;
-    B81:;
+    B83:;
     j0 = p0;
     i0 = (u32)(j0);
     j0 = i64_load(j0);
@@ -3046,22 +3061,13 @@ static void f2(module *self, u64 p0, u32 p1) {
     i1 &= i2;
     i0 >>= (i1 & 31);
     l27 = i0;
-    goto B19;
-    B76:;
+    goto B20;
+    B78:;
     i0 = l33;
     i1 = 1u;
     i0 &= i1;
-    if (i0) {goto B23;}
-    goto B22;
-    B24:;
-    j0 = p0;
-    j1 = 138ull;
-    j0 += j1;
-    i0 = (u32)(j0);
-    i0 = i32_load8_u(j0);
-    l26 = i0;
-    goto B16;
-    B23:;
+    i0 = !(i0);
+    if (i0) {goto B76;}
     j0 = p0;
     j1 = 183ull;
     j0 += j1;
@@ -3070,35 +3076,20 @@ static void f2(module *self, u64 p0, u32 p1) {
     i1 = 32u;
     i0 &= i1;
     i0 = !(i0);
-    if (i0) {goto B22;}
+    if (i0) {goto B76;}
     i0 = 0u;
     l30 = i0;
-    goto B20;
-    B22:;
-    j0 = p0;
-    j1 = 52ull;
-    j0 += j1;
-    i0 = (u32)(j0);
-    i0 = i32_load8_u(j0);
-    i1 = 64u;
-    i0 &= i1;
-    i0 = !(i0);
-    if (i0) {goto B21;}
-    i0 = l30;
-    i1 = 6u;
-    i0 &= i1;
-    l30 = i0;
-    goto B20;
-    B21:;
+    goto B75;
+    B76:;
     i0 = l31;
     i0 = !(i0);
-    if (i0) {goto B83;}
+    if (i0) {goto B85;}
     i0 = l30;
     i1 = 7u;
     i0 &= i1;
     l30 = i0;
-    goto B20;
-    B83:;
+    goto B75;
+    B85:;
     i0 = 0u;
     i1 = l30;
     i2 = 7u;
@@ -3112,7 +3103,7 @@ static void f2(module *self, u64 p0, u32 p1) {
     i2 = i2 == i3;
     i0 = i2 ? i0 : i1;
     l30 = i0;
-    B20:;
+    B75:;
     i0 = l30;
     i1 = l29;
     i0 += i1;
@@ -3121,7 +3112,7 @@ static void f2(module *self, u64 p0, u32 p1) {
     i0 &= i1;
     i1 = l26;
     i0 = i0 >= i1;
-    if (i0) {goto B85;}
+    if (i0) {goto B87;}
     j0 = p0;
     j1 = 140ull;
     j0 += j1;
@@ -3130,8 +3121,8 @@ static void f2(module *self, u64 p0, u32 p1) {
     i1 = l27;
     i0 += i1;
     l27 = i0;
-    goto B84;
-    B85:;
+    goto B86;
+    B87:;
     i0 = l29;
     i1 = l26;
     i0 -= i1;
@@ -3146,10 +3137,10 @@ static void f2(module *self, u64 p0, u32 p1) {
     i1 = 1u;
     i0 += i1;
     l27 = i0;
-    B84:;
+    B86:;
     i0 = l32;
     i0 = !(i0);
-    if (i0) {goto B87;}
+    if (i0) {goto B88;}
     i0 = 0u;
     l26 = i0;
     i0 = l29;
@@ -3157,7 +3148,7 @@ static void f2(module *self, u64 p0, u32 p1) {
     i0 &= i1;
     i1 = 7u;
     i0 = i0 > i1;
-    if (i0) {goto B86;}
+    if (i0) {goto B21;}
     j0 = p0;
     j1 = 125ull;
     j0 += j1;
@@ -3166,13 +3157,13 @@ static void f2(module *self, u64 p0, u32 p1) {
     i1 = 64u;
     i0 &= i1;
     i0 = !(i0);
-    if (i0) {goto B89;}
+    if (i0) {goto B90;}
     i0 = l27;
     i1 = 2u;
     i0 <<= (i1 & 31);
     l27 = i0;
-    goto B88;
-    B89:;
+    goto B89;
+    B90:;
     j0 = p0;
     j1 = 128ull;
     j0 += j1;
@@ -3181,7 +3172,7 @@ static void f2(module *self, u64 p0, u32 p1) {
     l26 = i0;
     i1 = 64u;
     i0 &= i1;
-    if (i0) {goto B88;}
+    if (i0) {goto B89;}
     i0 = l27;
     i1 = 65535u;
     i0 &= i1;
@@ -3199,7 +3190,7 @@ static void f2(module *self, u64 p0, u32 p1) {
     i1 <<= (i2 & 31);
     i0 |= i1;
     l27 = i0;
-    B88:;
+    B89:;
     j0 = p0;
     i0 = (u32)(j0);
     j0 = i64_load(j0);
@@ -3259,8 +3250,8 @@ static void f2(module *self, u64 p0, u32 p1) {
     i1 &= i2;
     i0 |= i1;
     l26 = i0;
-    goto B86;
-    B87:;
+    goto B21;
+    B88:;
     j0 = p0;
     j1 = 125ull;
     j0 += j1;
@@ -3270,13 +3261,13 @@ static void f2(module *self, u64 p0, u32 p1) {
     i1 = 64u;
     i0 &= i1;
     i0 = !(i0);
-    if (i0) {goto B91;}
+    if (i0) {goto B92;}
     i0 = l27;
     i1 = 2u;
     i0 <<= (i1 & 31);
     l26 = i0;
-    goto B90;
-    B91:;
+    goto B91;
+    B92:;
     i0 = l27;
     l26 = i0;
     j0 = p0;
@@ -3287,7 +3278,7 @@ static void f2(module *self, u64 p0, u32 p1) {
     l30 = i0;
     i1 = 64u;
     i0 &= i1;
-    if (i0) {goto B90;}
+    if (i0) {goto B91;}
     i0 = l27;
     i1 = 65535u;
     i0 &= i1;
@@ -3305,7 +3296,7 @@ static void f2(module *self, u64 p0, u32 p1) {
     i1 <<= (i2 & 31);
     i0 |= i1;
     l26 = i0;
-    B90:;
+    B91:;
     j0 = p0;
     j1 = 142ull;
     j0 += j1;
@@ -3410,7 +3401,7 @@ static void f2(module *self, u64 p0, u32 p1) {
     i0 &= i1;
     i1 = 15u;
     i0 = i0 > i1;
-    if (i0) {goto B92;}
+    if (i0) {goto B22;}
     B95:;
     i0 = l26;
     i1 = 119u;
@@ -3516,17 +3507,17 @@ static void f2(module *self, u64 p0, u32 p1) {
     i0 &= i1;
     i1 = 192u;
     i0 = i0 != i1;
-    if (i0) {goto B92;}
+    if (i0) {goto B22;}
     i0 = l32;
     i1 = 4u;
     i0 &= i1;
     i0 = !(i0);
-    if (i0) {goto B92;}
+    if (i0) {goto B22;}
     i0 = l30;
     i1 = 1u;
     i0 &= i1;
     if (i0) {goto B93;}
-    goto B92;
+    goto B22;
     B99:;
     i0 = l30;
     i1 = l29;
@@ -3534,14 +3525,22 @@ static void f2(module *self, u64 p0, u32 p1) {
     i1 = 128u;
     i0 &= i1;
     i0 = !(i0);
-    if (i0) {goto B92;}
+    if (i0) {goto B22;}
     B93:;
     i0 = l26;
     i1 = 15u;
     i0 &= i1;
     l26 = i0;
-    goto B86;
-    B92:;
+    goto B21;
+    B23:;
+    j0 = p0;
+    j1 = 138ull;
+    j0 += j1;
+    i0 = (u32)(j0);
+    i0 = i32_load8_u(j0);
+    l26 = i0;
+    goto B17;
+    B22:;
     i0 = l26;
     i1 = 240u;
     i0 &= i1;
@@ -3554,7 +3553,7 @@ static void f2(module *self, u64 p0, u32 p1) {
     i2 = l27;
     i0 = i2 ? i0 : i1;
     l26 = i0;
-    B86:;
+    B21:;
     j0 = l3;
     i1 = l26;
     j1 = (u64)(i1);
@@ -3562,7 +3561,7 @@ static void f2(module *self, u64 p0, u32 p1) {
     i0 = (u32)(j0);
     i0 = i32_load8_u(j0);
     l27 = i0;
-    B19:;
+    B20:;
     j0 = l5;
     j1 = p0;
     j2 = 2002ull;
@@ -3591,7 +3590,7 @@ static void f2(module *self, u64 p0, u32 p1) {
     i0 = (u32)(j0);
     i0 = i32_load8_u(j0);
     l26 = i0;
-    B18:;
+    B19:;
     j0 = p0;
     j1 = 2008ull;
     j0 += j1;
@@ -3687,7 +3686,7 @@ static void f2(module *self, u64 p0, u32 p1) {
     i0 = (u32)(j0);
     i0 = i32_load16_u(j0);
     l27 = i0;
-    B17:;
+    B18:;
     j0 = p0;
     j1 = 138ull;
     j0 += j1;
@@ -3697,13 +3696,13 @@ static void f2(module *self, u64 p0, u32 p1) {
     i0 = l27;
     i1 = 65535u;
     i0 &= i1;
-    if (i0) {goto B16;}
+    if (i0) {goto B17;}
     i0 = 0u;
     l27 = i0;
     i0 = l26;
     i1 = 255u;
     i0 &= i1;
-    if (i0) {goto B16;}
+    if (i0) {goto B17;}
     j0 = p0;
     j1 = 134ull;
     j0 += j1;
@@ -3711,7 +3710,7 @@ static void f2(module *self, u64 p0, u32 p1) {
     i0 = i32_load16_u(j0);
     i1 = 65535u;
     i0 &= i1;
-    if (i0) {goto B16;}
+    if (i0) {goto B17;}
     i0 = 0u;
     l27 = i0;
     j0 = p0;
@@ -3758,7 +3757,7 @@ static void f2(module *self, u64 p0, u32 p1) {
     i32_store16(j0, i1);
     i0 = 0u;
     l26 = i0;
-    B16:;
+    B17:;
     i0 = l26;
     i1 = 1u;
     i0 += i1;
@@ -3990,11 +3989,11 @@ static void f2(module *self, u64 p0, u32 p1) {
     i1 = 4294967295u;
     i0 += i1;
     p1 = i0;
-    B15:;
+    B16:;
     i0 = 0u;
     l25 = i0;
-    goto B2;
-    B5:;
+    goto B3;
+    B6:;
     i0 = l27;
     i1 = l26;
     i2 = 255u;
@@ -4021,7 +4020,7 @@ static void f2(module *self, u64 p0, u32 p1) {
     i0 = i32_load16_u(j0);
     l29 = i0;
     l23 = i0;
-    goto B3;
+    goto B4;
     B108:;
     j0 = p0;
     j1 = 134ull;
@@ -4052,7 +4051,7 @@ static void f2(module *self, u64 p0, u32 p1) {
     i2 &= i3;
     i1 |= i2;
     i0 = i0 > i1;
-    if (i0) {goto B4;}
+    if (i0) {goto B5;}
     i0 = l24;
     j0 = (u64)(i0);
     l15 = j0;
@@ -4124,7 +4123,7 @@ static void f2(module *self, u64 p0, u32 p1) {
     j1 = 2008ull;
     j0 += j1;
     j1 = l14;
-    i0 = f3(self, j0, j1); m = self->memory; if (NEVER(self->is_broken)) return;
+    i0 = f4(self, j0, j1); m = self->memory; if (NEVER(self->is_broken)) return;
     i0 = !(i0);
     if (i0) {goto B114;}
     j0 = p0;
@@ -4558,7 +4557,7 @@ static void f2(module *self, u64 p0, u32 p1) {
     j1 = 2008ull;
     j0 += j1;
     j1 = l14;
-    i0 = f3(self, j0, j1); m = self->memory; if (NEVER(self->is_broken)) return;
+    i0 = f4(self, j0, j1); m = self->memory; if (NEVER(self->is_broken)) return;
     i0 = !(i0);
     if (i0) {goto B123;}
     j0 = p0;
@@ -4991,7 +4990,7 @@ static void f2(module *self, u64 p0, u32 p1) {
     j1 = 0ull;
     j2 = l12;
     j3 = l14;
-    f5(self, j0, j1, j2, j3); if (NEVER(self->is_broken)) return;
+    f6(self, j0, j1, j2, j3); if (NEVER(self->is_broken)) return;
     goto B126;
     B130:;
     j0 = l2;
@@ -5012,7 +5011,7 @@ static void f2(module *self, u64 p0, u32 p1) {
     j3 = l2;
     j4 = 5ull;
     j3 += j4;
-    f5(self, j0, j1, j2, j3); if (NEVER(self->is_broken)) return;
+    f6(self, j0, j1, j2, j3); if (NEVER(self->is_broken)) return;
     j0 = l12;
     j1 = 27ull;
     j0 *= j1;
@@ -5070,7 +5069,7 @@ static void f2(module *self, u64 p0, u32 p1) {
     i0 = (u32)(j0);
     i1 = l24;
     i32_store16(j0, i1);
-    goto B4;
+    goto B5;
     B112:;
     i0 = l27;
     if (i0) {goto B110;}
@@ -5081,7 +5080,7 @@ static void f2(module *self, u64 p0, u32 p1) {
     j1 = 0ull;
     j2 = l12;
     j3 = l14;
-    f4(self, j0, j1, j2, j3); if (NEVER(self->is_broken)) return;
+    f5(self, j0, j1, j2, j3); if (NEVER(self->is_broken)) return;
     goto B109;
     B110:;
     j0 = l2;
@@ -5102,7 +5101,7 @@ static void f2(module *self, u64 p0, u32 p1) {
     j3 = l2;
     j4 = 5ull;
     j3 += j4;
-    f4(self, j0, j1, j2, j3); if (NEVER(self->is_broken)) return;
+    f5(self, j0, j1, j2, j3); if (NEVER(self->is_broken)) return;
     j0 = l12;
     j1 = 24ull;
     j0 *= j1;
@@ -5160,7 +5159,7 @@ static void f2(module *self, u64 p0, u32 p1) {
     i0 = (u32)(j0);
     i1 = l24;
     i32_store16(j0, i1);
-    B4:;
+    B5:;
     j0 = p0;
     j1 = 144ull;
     j0 += j1;
@@ -5188,7 +5187,7 @@ static void f2(module *self, u64 p0, u32 p1) {
     if (i0) {goto B136;}
     i0 = l23;
     l29 = i0;
-    goto B3;
+    goto B4;
     B136:;
     j0 = p0;
     j1 = 138ull;
@@ -5199,7 +5198,7 @@ static void f2(module *self, u64 p0, u32 p1) {
     if (i0) {goto B137;}
     i0 = l23;
     l29 = i0;
-    goto B3;
+    goto B4;
     B137:;
     i0 = l24;
     i1 = 65535u;
@@ -5208,7 +5207,7 @@ static void f2(module *self, u64 p0, u32 p1) {
     if (i0) {goto B138;}
     i0 = l23;
     l29 = i0;
-    goto B3;
+    goto B4;
     B138:;
     i0 = 0u;
     l24 = i0;
@@ -5255,7 +5254,7 @@ static void f2(module *self, u64 p0, u32 p1) {
     i1 += i2;
     l29 = i1;
     i32_store16(j0, i1);
-    B3:;
+    B4:;
     i0 = p1;
     i1 = l28;
     i0 -= i1;
@@ -5414,7 +5413,7 @@ static void f2(module *self, u64 p0, u32 p1) {
     i0 = (u32)(j0);
     i1 = l26;
     i32_store16(j0, i1);
-    goto B2;
+    goto B3;
     B139:;
     j0 = l4;
     i0 = (u32)(j0);
@@ -5434,17 +5433,456 @@ static void f2(module *self, u64 p0, u32 p1) {
     i2 = 31u;
     i1 &= i2;
     i32_store8(j0, i1);
-    B2:;
+    B3:;
     i0 = p1;
-    if (i0) {goto L1;}
-  B0:;
+    if (i0) {goto L2;}
+  B1:;
   j0 = l2;
   j1 = 6976ull;
   j0 += j1;
   self->g0 = j0;
 }
 
-static u32 f3(module *self, u64 p0, u64 p1) {
+static u32 f3(module *self, u64 p0, u32 p1) {
+  u32 l2 = 0, l3 = 0, l4 = 0, l5 = 0;
+  u64 l6 = 0, l7 = 0, l8 = 0, l9 = 0, l10 = 0;
+  u8 *m = self->memory;
+  u32 i0, i1, i2, i3, i4, i5, i6;
+  u64 j0, j1, j2, j3, j4, j5, j6;
+  i0 = p1;
+  i1 = 0u;
+  j2 = p0;
+  j3 = 34ull;
+  j2 += j3;
+  i2 = (u32)(j2);
+  i2 = i32_load8_u(j2);
+  i3 = 1u;
+  i2 &= i3;
+  i3 = 9u;
+  i2 ^= i3;
+  l2 = i2;
+  j3 = p0;
+  j4 = 138ull;
+  j3 += j4;
+  l6 = j3;
+  i3 = (u32)(j3);
+  i3 = i32_load8_u(j3);
+  i4 = 1u;
+  i3 += i4;
+  i4 = 255u;
+  i3 &= i4;
+  i2 -= i3;
+  l3 = i2;
+  i3 = l3;
+  i4 = l2;
+  i3 = i3 > i4;
+  i1 = i3 ? i1 : i2;
+  i2 = 0u;
+  j3 = p0;
+  j4 = 111ull;
+  j3 += j4;
+  i3 = (u32)(j3);
+  i3 = i32_load8_u(j3);
+  j4 = p0;
+  j5 = 112ull;
+  j4 += j5;
+  i4 = (u32)(j4);
+  i4 = i32_load8_u(j4);
+  l3 = i4;
+  i5 = 1u;
+  i4 &= i5;
+  i5 = 8u;
+  i4 <<= (i5 & 31);
+  i3 |= i4;
+  i4 = l3;
+  i5 = 4u;
+  i4 <<= (i5 & 31);
+  i5 = 512u;
+  i4 &= i5;
+  i3 |= i4;
+  i4 = 2u;
+  i3 += i4;
+  l3 = i3;
+  j4 = p0;
+  j5 = 134ull;
+  j4 += j5;
+  i4 = (u32)(j4);
+  i4 = i32_load16_u(j4);
+  i5 = 1u;
+  i4 += i5;
+  i5 = 65535u;
+  i4 &= i5;
+  i3 -= i4;
+  l4 = i3;
+  i4 = l4;
+  i5 = l3;
+  i4 = i4 > i5;
+  i2 = i4 ? i2 : i3;
+  j3 = p0;
+  j4 = 105ull;
+  j3 += j4;
+  i3 = (u32)(j3);
+  i3 = i32_load8_u(j3);
+  i4 = 5u;
+  i3 += i4;
+  l3 = i3;
+  i2 *= i3;
+  i3 = 0u;
+  i4 = l3;
+  j5 = p0;
+  j6 = 136ull;
+  j5 += j6;
+  i5 = (u32)(j5);
+  i5 = i32_load16_u(j5);
+  i6 = 1u;
+  i5 += i6;
+  i6 = 65535u;
+  i5 &= i6;
+  i4 -= i5;
+  l4 = i4;
+  i5 = l4;
+  i6 = l3;
+  i5 = i5 > i6;
+  i3 = i5 ? i3 : i4;
+  i2 += i3;
+  i3 = l2;
+  i2 *= i3;
+  i1 += i2;
+  i2 = 1u;
+  i1 += i2;
+  l3 = i1;
+  i0 = i0 <= i1;
+  if (i0) {goto B0;}
+  j0 = p0;
+  j1 = 133ull;
+  j0 += j1;
+  l7 = j0;
+  i0 = (u32)(j0);
+  j1 = 0ull;
+  i64_store(j0, j1);
+  j0 = l6;
+  i0 = (u32)(j0);
+  j1 = 0ull;
+  i64_store(j0, j1);
+  j0 = p0;
+  j1 = 2032ull;
+  j0 += j1;
+  i0 = (u32)(j0);
+  j1 = 0ull;
+  i64_store(j0, j1);
+  j0 = p0;
+  j1 = 132ull;
+  j0 += j1;
+  l6 = j0;
+  i0 = (u32)(j0);
+  j1 = l6;
+  i1 = (u32)(j1);
+  i1 = i32_load8_u(j1);
+  i2 = 1u;
+  i1 += i2;
+  i2 = 31u;
+  i1 &= i2;
+  i32_store8(j0, i1);
+  j0 = p0;
+  j1 = 2040ull;
+  j0 += j1;
+  i0 = (u32)(j0);
+  j0 = i64_load(j0);
+  l8 = j0;
+  j1 = p0;
+  j2 = 2064ull;
+  j1 += j2;
+  l6 = j1;
+  i1 = (u32)(j1);
+  j1 = i64_load16_u(j1);
+  l9 = j1;
+  j2 = 2ull;
+  j1 <<= (j2 & 63);
+  l10 = j1;
+  j0 += j1;
+  i0 = (u32)(j0);
+  i1 = 0u;
+  i32_store(j0, i1);
+  j0 = l9;
+  i0 = !(j0);
+  if (i0) {goto B1;}
+  j0 = l10;
+  i0 = !(j0);
+  if (i0) {goto B1;}
+  j0 = l8;
+  i0 = (u32)(j0);
+  i1 = 0u;
+  j2 = l10;
+  i2 = (u32)(j2);
+  memory_fill(j0, i1, j2);
+  B1:;
+  j0 = l6;
+  i0 = (u32)(j0);
+  i1 = 0u;
+  i32_store16(j0, i1);
+  i0 = 0u;
+  j1 = p0;
+  j2 = 34ull;
+  j1 += j2;
+  i1 = (u32)(j1);
+  i1 = i32_load8_u(j1);
+  i2 = 1u;
+  i1 &= i2;
+  i2 = 9u;
+  i1 ^= i2;
+  l2 = i1;
+  j2 = p0;
+  j3 = 138ull;
+  j2 += j3;
+  i2 = (u32)(j2);
+  i2 = i32_load8_u(j2);
+  i3 = 1u;
+  i2 += i3;
+  i3 = 255u;
+  i2 &= i3;
+  i1 -= i2;
+  l4 = i1;
+  i2 = l4;
+  i3 = l2;
+  i2 = i2 > i3;
+  i0 = i2 ? i0 : i1;
+  i1 = 0u;
+  j2 = p0;
+  j3 = 111ull;
+  j2 += j3;
+  i2 = (u32)(j2);
+  i2 = i32_load8_u(j2);
+  j3 = p0;
+  j4 = 112ull;
+  j3 += j4;
+  i3 = (u32)(j3);
+  i3 = i32_load8_u(j3);
+  l4 = i3;
+  i4 = 1u;
+  i3 &= i4;
+  i4 = 8u;
+  i3 <<= (i4 & 31);
+  i2 |= i3;
+  i3 = l4;
+  i4 = 4u;
+  i3 <<= (i4 & 31);
+  i4 = 512u;
+  i3 &= i4;
+  i2 |= i3;
+  i3 = 2u;
+  i2 += i3;
+  l4 = i2;
+  j3 = p0;
+  j4 = 134ull;
+  j3 += j4;
+  i3 = (u32)(j3);
+  i3 = i32_load16_u(j3);
+  i4 = 1u;
+  i3 += i4;
+  i4 = 65535u;
+  i3 &= i4;
+  i2 -= i3;
+  l5 = i2;
+  i3 = l5;
+  i4 = l4;
+  i3 = i3 > i4;
+  i1 = i3 ? i1 : i2;
+  j2 = p0;
+  j3 = 105ull;
+  j2 += j3;
+  i2 = (u32)(j2);
+  i2 = i32_load8_u(j2);
+  i3 = 5u;
+  i2 += i3;
+  l4 = i2;
+  i1 *= i2;
+  i2 = 0u;
+  i3 = l4;
+  j4 = p0;
+  j5 = 136ull;
+  j4 += j5;
+  i4 = (u32)(j4);
+  i4 = i32_load16_u(j4);
+  i5 = 1u;
+  i4 += i5;
+  i5 = 65535u;
+  i4 &= i5;
+  i3 -= i4;
+  l5 = i3;
+  i4 = l5;
+  i5 = l4;
+  i4 = i4 > i5;
+  i2 = i4 ? i2 : i3;
+  i1 += i2;
+  i2 = l2;
+  i1 *= i2;
+  i0 += i1;
+  i1 = 1u;
+  i0 += i1;
+  l2 = i0;
+  i1 = p1;
+  i2 = l3;
+  i1 -= i2;
+  p1 = i1;
+  i0 = i0 >= i1;
+  if (i0) {goto B0;}
+  L2: 
+    j0 = l7;
+    i0 = (u32)(j0);
+    j1 = 0ull;
+    i64_store(j0, j1);
+    j0 = l7;
+    i0 = (u32)(j0);
+    j1 = 0ull;
+    i64_store(j0 + 5, j1);
+    j0 = p0;
+    j1 = 2032ull;
+    j0 += j1;
+    i0 = (u32)(j0);
+    j1 = 0ull;
+    i64_store(j0, j1);
+    j0 = p0;
+    j1 = 132ull;
+    j0 += j1;
+    l6 = j0;
+    i0 = (u32)(j0);
+    j1 = l6;
+    i1 = (u32)(j1);
+    i1 = i32_load8_u(j1);
+    i2 = 1u;
+    i1 += i2;
+    i2 = 31u;
+    i1 &= i2;
+    i32_store8(j0, i1);
+    j0 = p0;
+    j1 = 2040ull;
+    j0 += j1;
+    i0 = (u32)(j0);
+    j0 = i64_load(j0);
+    i0 = (u32)(j0);
+    i1 = 0u;
+    i32_store(j0, i1);
+    j0 = p0;
+    j1 = 2064ull;
+    j0 += j1;
+    i0 = (u32)(j0);
+    i1 = 0u;
+    i32_store16(j0, i1);
+    i0 = p1;
+    i1 = l2;
+    i0 -= i1;
+    p1 = i0;
+    i0 = 0u;
+    j1 = p0;
+    j2 = 34ull;
+    j1 += j2;
+    i1 = (u32)(j1);
+    i1 = i32_load8_u(j1);
+    i2 = 1u;
+    i1 &= i2;
+    i2 = 9u;
+    i1 ^= i2;
+    l2 = i1;
+    j2 = p0;
+    j3 = 138ull;
+    j2 += j3;
+    i2 = (u32)(j2);
+    i2 = i32_load8_u(j2);
+    i3 = 1u;
+    i2 += i3;
+    i3 = 255u;
+    i2 &= i3;
+    i1 -= i2;
+    l3 = i1;
+    i2 = l3;
+    i3 = l2;
+    i2 = i2 > i3;
+    i0 = i2 ? i0 : i1;
+    i1 = 0u;
+    j2 = p0;
+    j3 = 111ull;
+    j2 += j3;
+    i2 = (u32)(j2);
+    i2 = i32_load8_u(j2);
+    j3 = p0;
+    j4 = 112ull;
+    j3 += j4;
+    i3 = (u32)(j3);
+    i3 = i32_load8_u(j3);
+    l3 = i3;
+    i4 = 1u;
+    i3 &= i4;
+    i4 = 8u;
+    i3 <<= (i4 & 31);
+    i2 |= i3;
+    i3 = l3;
+    i4 = 4u;
+    i3 <<= (i4 & 31);
+    i4 = 512u;
+    i3 &= i4;
+    i2 |= i3;
+    i3 = 2u;
+    i2 += i3;
+    l3 = i2;
+    j3 = p0;
+    j4 = 134ull;
+    j3 += j4;
+    i3 = (u32)(j3);
+    i3 = i32_load16_u(j3);
+    i4 = 1u;
+    i3 += i4;
+    i4 = 65535u;
+    i3 &= i4;
+    i2 -= i3;
+    l4 = i2;
+    i3 = l4;
+    i4 = l3;
+    i3 = i3 > i4;
+    i1 = i3 ? i1 : i2;
+    j2 = p0;
+    j3 = 105ull;
+    j2 += j3;
+    i2 = (u32)(j2);
+    i2 = i32_load8_u(j2);
+    i3 = 5u;
+    i2 += i3;
+    l3 = i2;
+    i1 *= i2;
+    i2 = 0u;
+    i3 = l3;
+    j4 = p0;
+    j5 = 136ull;
+    j4 += j5;
+    i4 = (u32)(j4);
+    i4 = i32_load16_u(j4);
+    i5 = 1u;
+    i4 += i5;
+    i5 = 65535u;
+    i4 &= i5;
+    i3 -= i4;
+    l4 = i3;
+    i4 = l4;
+    i5 = l3;
+    i4 = i4 > i5;
+    i2 = i4 ? i2 : i3;
+    i1 += i2;
+    i2 = l2;
+    i1 *= i2;
+    i0 += i1;
+    i1 = 1u;
+    i0 += i1;
+    l3 = i0;
+    l2 = i0;
+    i0 = l3;
+    i1 = p1;
+    i0 = i0 < i1;
+    if (i0) {goto L2;}
+  B0:;
+  i0 = p1;
+  return i0;
+}
+
+static u32 f4(module *self, u64 p0, u64 p1) {
   u32 l6 = 0;
   u64 l2 = 0, l3 = 0, l4 = 0, l5 = 0;
   u8 *m = self->memory;
@@ -5513,7 +5951,7 @@ static u32 f3(module *self, u64 p0, u64 p1) {
   j2 = l3;
   j3 = p1;
   j4 = 1ull;
-  f153(self, j0, j1, j2, j3, j4); m = self->memory; if (NEVER(self->is_broken)) return ZAK_BROKEN;
+  f157(self, j0, j1, j2, j3, j4); m = self->memory; if (NEVER(self->is_broken)) return ZAK_BROKEN;
   j0 = l2;
   i0 = (u32)(j0);
   j0 = i64_load(j0 + 16u);
@@ -5531,7 +5969,7 @@ static u32 f3(module *self, u64 p0, u64 p1) {
   j0 = l2;
   j1 = l5;
   j2 = 1ull;
-  f151(self, j0, j1, j2); m = self->memory; if (NEVER(self->is_broken)) return ZAK_BROKEN;
+  f155(self, j0, j1, j2); m = self->memory; if (NEVER(self->is_broken)) return ZAK_BROKEN;
   j0 = l2;
   i0 = (u32)(j0);
   j0 = i64_load(j0);
@@ -5566,7 +6004,7 @@ static u32 f3(module *self, u64 p0, u64 p1) {
   return i0;
 }
 
-static void f4(module *self, u64 p0, u64 p1, u64 p2, u64 p3) {
+static void f5(module *self, u64 p0, u64 p1, u64 p2, u64 p3) {
   u32 l18 = 0, l19 = 0, l20 = 0, l21 = 0, l22 = 0, l23 = 0, l24 = 0, l25 = 0, 
       l26 = 0, l27 = 0, l28 = 0, l29 = 0, l30 = 0, l31 = 0, l32 = 0, l33 = 0, 
       l34 = 0, l35 = 0, l36 = 0, l37 = 0, l38 = 0, l39 = 0, l40 = 0, l41 = 0;
@@ -5884,7 +6322,7 @@ static void f4(module *self, u64 p0, u64 p1, u64 p2, u64 p3) {
   j2 += j3;
   i2 = (u32)(j2);
   j2 = i64_load(j2);
-  f7(self, j0, j1, j2);
+  f8(self, j0, j1, j2);
   j0 = l4;
   i0 = (u32)(j0);
   j1 = l4;
@@ -6255,7 +6693,7 @@ static void f4(module *self, u64 p0, u64 p1, u64 p2, u64 p3) {
   j1 = 144ull;
   j0 += j1;
   j1 = p0;
-  f8(self, j0, j1);
+  f9(self, j0, j1);
   j0 = l4;
   i0 = (u32)(j0);
   i0 = i32_load8_u(j0 + 155u);
@@ -7158,7 +7596,7 @@ static void f4(module *self, u64 p0, u64 p1, u64 p2, u64 p3) {
   self->g0 = j0;
 }
 
-static void f5(module *self, u64 p0, u64 p1, u64 p2, u64 p3) {
+static void f6(module *self, u64 p0, u64 p1, u64 p2, u64 p3) {
   u32 l18 = 0, l19 = 0, l20 = 0, l21 = 0, l22 = 0, l23 = 0, l24 = 0, l25 = 0, 
       l26 = 0, l27 = 0, l28 = 0, l29 = 0, l30 = 0, l31 = 0, l32 = 0, l33 = 0, 
       l34 = 0, l35 = 0, l36 = 0, l37 = 0, l38 = 0, l39 = 0, l40 = 0, l41 = 0, 
@@ -7532,7 +7970,7 @@ static void f5(module *self, u64 p0, u64 p1, u64 p2, u64 p3) {
   j2 += j3;
   i2 = (u32)(j2);
   j2 = i64_load(j2);
-  f7(self, j0, j1, j2);
+  f8(self, j0, j1, j2);
   j0 = l4;
   i0 = (u32)(j0);
   j1 = l4;
@@ -7920,7 +8358,7 @@ static void f5(module *self, u64 p0, u64 p1, u64 p2, u64 p3) {
   j1 = 144ull;
   j0 += j1;
   j1 = p0;
-  f8(self, j0, j1);
+  f9(self, j0, j1);
   j0 = l4;
   i0 = (u32)(j0);
   i0 = i32_load8_u(j0 + 155u);
@@ -8903,7 +9341,7 @@ static void f5(module *self, u64 p0, u64 p1, u64 p2, u64 p3) {
   self->g0 = j0;
 }
 
-static void f6(module *self, u64 p0, u64 p1, u32 p2, u32 p3) {
+static void f7(module *self, u64 p0, u64 p1, u32 p2, u32 p3) {
   u32 l4 = 0, l5 = 0, l6 = 0;
   u64 l7 = 0;
   u8 *m = self->memory;
@@ -9209,7 +9647,7 @@ static void f6(module *self, u64 p0, u64 p1, u32 p2, u32 p3) {
   Bfunc:;
 }
 
-static void f7(module *self, u64 p0, u64 p1, u64 p2) {
+static void f8(module *self, u64 p0, u64 p1, u64 p2) {
   u32 l4 = 0, l5 = 0, l6 = 0, l7 = 0, l8 = 0, l9 = 0, l10 = 0, l11 = 0, 
       l12 = 0, l13 = 0, l14 = 0, l15 = 0, l16 = 0, l17 = 0, l18 = 0, l19 = 0;
   u64 l3 = 0;
@@ -9560,7 +9998,7 @@ static void f7(module *self, u64 p0, u64 p1, u64 p2) {
   i32_store(j0, i1);
 }
 
-static void f8(module *self, u64 p0, u64 p1) {
+static void f9(module *self, u64 p0, u64 p1) {
   u32 l4 = 0, l5 = 0, l6 = 0, l7 = 0, l8 = 0, l9 = 0, l10 = 0;
   u64 l2 = 0, l3 = 0;
   u8 *m = self->memory;
@@ -9753,7 +10191,7 @@ static void f8(module *self, u64 p0, u64 p1) {
   i32_store16(j0 + 6, i1);
 }
 
-static u32 f9(module *self, u64 p0, u64 p1, u64 p2, u64 p3) {
+static u32 f10(module *self, u64 p0, u64 p1, u64 p2, u64 p3) {
   u32 l4 = 0, l5 = 0, l6 = 0;
   u8 *m = self->memory;
   u32 i0, i1, i2, i3, i4;
@@ -9834,7 +10272,7 @@ static u32 f9(module *self, u64 p0, u64 p1, u64 p2, u64 p3) {
   return i0;
 }
 
-static void f10(module *self, u64 p0, u64 p1, u64 p2, u64 p3) {
+static void f11(module *self, u64 p0, u64 p1, u64 p2, u64 p3) {
   u32 l13 = 0;
   u64 l4 = 0, l5 = 0, l6 = 0, l7 = 0, l8 = 0, l9 = 0, l10 = 0, l11 = 0, 
       l12 = 0;
@@ -9860,7 +10298,7 @@ static void f10(module *self, u64 p0, u64 p1, u64 p2, u64 p3) {
   if (i0) {goto B1;}
   j0 = p1;
   j1 = p3;
-  i0 = f11(self, j0, j1); m = self->memory; if (NEVER(self->is_broken)) return;
+  i0 = f12(self, j0, j1); m = self->memory; if (NEVER(self->is_broken)) return;
   if (i0) {goto B2;}
   j0 = 9ull;
   p3 = j0;
@@ -10060,7 +10498,7 @@ static void f10(module *self, u64 p0, u64 p1, u64 p2, u64 p3) {
   i64_store(j0, j1);
 }
 
-static u32 f11(module *self, u64 p0, u64 p1) {
+static u32 f12(module *self, u64 p0, u64 p1) {
   u32 l6 = 0;
   u64 l2 = 0, l3 = 0, l4 = 0, l5 = 0;
   u8 *m = self->memory;
@@ -10129,7 +10567,7 @@ static u32 f11(module *self, u64 p0, u64 p1) {
   j2 = l3;
   j3 = p1;
   j4 = 1ull;
-  f153(self, j0, j1, j2, j3, j4); m = self->memory; if (NEVER(self->is_broken)) return ZAK_BROKEN;
+  f157(self, j0, j1, j2, j3, j4); m = self->memory; if (NEVER(self->is_broken)) return ZAK_BROKEN;
   j0 = l2;
   i0 = (u32)(j0);
   j0 = i64_load(j0 + 16u);
@@ -10147,7 +10585,7 @@ static u32 f11(module *self, u64 p0, u64 p1) {
   j0 = l2;
   j1 = l5;
   j2 = 1ull;
-  f151(self, j0, j1, j2); m = self->memory; if (NEVER(self->is_broken)) return ZAK_BROKEN;
+  f155(self, j0, j1, j2); m = self->memory; if (NEVER(self->is_broken)) return ZAK_BROKEN;
   j0 = l2;
   i0 = (u32)(j0);
   j0 = i64_load(j0);
@@ -10182,7 +10620,7 @@ static u32 f11(module *self, u64 p0, u64 p1) {
   return i0;
 }
 
-static void f12(module *self, u64 p0, u64 p1, u32 p2) {
+static void f13(module *self, u64 p0, u64 p1, u32 p2) {
   u64 l3 = 0, l4 = 0, l5 = 0, l6 = 0, l7 = 0, l8 = 0, l9 = 0;
   u8 *m = self->memory;
   u32 i0, i1, i2, i3;
@@ -10216,7 +10654,7 @@ static void f12(module *self, u64 p0, u64 p1, u32 p2) {
   if (i0) {goto B1;}
   j0 = p1;
   j1 = 2ull;
-  i0 = f11(self, j0, j1); m = self->memory; if (NEVER(self->is_broken)) return;
+  i0 = f12(self, j0, j1); m = self->memory; if (NEVER(self->is_broken)) return;
   if (i0) {goto B2;}
   j0 = 9ull;
   p1 = j0;
@@ -10299,7 +10737,7 @@ static void f12(module *self, u64 p0, u64 p1, u32 p2) {
   self->g0 = j0;
 }
 
-static void f13(module *self, u64 p0, u64 p1, u64 p2, u64 p3) {
+static void f14(module *self, u64 p0, u64 p1, u64 p2, u64 p3) {
   u32 l15 = 0, l16 = 0, l17 = 0, l18 = 0, l19 = 0, l20 = 0, l21 = 0, l22 = 0;
   u64 l4 = 0, l5 = 0, l6 = 0, l7 = 0, l8 = 0, l9 = 0, l10 = 0, l11 = 0, 
       l12 = 0, l13 = 0, l14 = 0;
@@ -11294,7 +11732,7 @@ static void f13(module *self, u64 p0, u64 p1, u64 p2, u64 p3) {
   if (i0) {goto B88;}
   j0 = p1;
   j1 = 1ull;
-  i0 = f11(self, j0, j1); m = self->memory; if (NEVER(self->is_broken)) return;
+  i0 = f12(self, j0, j1); m = self->memory; if (NEVER(self->is_broken)) return;
   i0 = !(i0);
   if (i0) {goto B2;}
   j0 = p1;
@@ -13618,7 +14056,7 @@ static void f13(module *self, u64 p0, u64 p1, u64 p2, u64 p3) {
   j1 = l13;
   j2 = l11;
   j3 = 1048800ull;
-  f14(self, j0, j1, j2, j3); if (NEVER(self->is_broken)) return;
+  f15(self, j0, j1, j2, j3); if (NEVER(self->is_broken)) return;
   j0 = l4;
   i0 = (u32)(j0);
   i0 = i32_load8_u(j0 + 32u);
@@ -13637,7 +14075,7 @@ static void f13(module *self, u64 p0, u64 p1, u64 p2, u64 p3) {
   i2 = (u32)(j2);
   j2 = i64_load(j2 + 56u);
   j3 = 1048803ull;
-  f14(self, j0, j1, j2, j3); if (NEVER(self->is_broken)) return;
+  f15(self, j0, j1, j2, j3); if (NEVER(self->is_broken)) return;
   j0 = l4;
   i0 = (u32)(j0);
   i0 = i32_load8_u(j0 + 32u);
@@ -13656,7 +14094,7 @@ static void f13(module *self, u64 p0, u64 p1, u64 p2, u64 p3) {
   i2 = (u32)(j2);
   j2 = i64_load(j2 + 56u);
   j3 = 1048806ull;
-  f14(self, j0, j1, j2, j3); if (NEVER(self->is_broken)) return;
+  f15(self, j0, j1, j2, j3); if (NEVER(self->is_broken)) return;
   j0 = l4;
   i0 = (u32)(j0);
   i0 = i32_load8_u(j0 + 32u);
@@ -13675,7 +14113,7 @@ static void f13(module *self, u64 p0, u64 p1, u64 p2, u64 p3) {
   i2 = (u32)(j2);
   j2 = i64_load(j2 + 56u);
   j3 = 1048809ull;
-  f14(self, j0, j1, j2, j3); if (NEVER(self->is_broken)) return;
+  f15(self, j0, j1, j2, j3); if (NEVER(self->is_broken)) return;
   j0 = l4;
   i0 = (u32)(j0);
   i0 = i32_load8_u(j0 + 32u);
@@ -13691,7 +14129,7 @@ static void f13(module *self, u64 p0, u64 p1, u64 p2, u64 p3) {
   j2 = l4;
   i2 = (u32)(j2);
   j2 = i64_load(j2 + 56u);
-  f15(self, j0, j1, j2); m = self->memory; if (NEVER(self->is_broken)) return;
+  f16(self, j0, j1, j2); m = self->memory; if (NEVER(self->is_broken)) return;
   j0 = l4;
   i0 = (u32)(j0);
   i0 = i32_load8_u(j0);
@@ -13757,7 +14195,7 @@ static void f13(module *self, u64 p0, u64 p1, u64 p2, u64 p3) {
   if (i0) {goto B227;}
   j0 = p1;
   j1 = 1ull;
-  i0 = f11(self, j0, j1); m = self->memory; if (NEVER(self->is_broken)) return;
+  i0 = f12(self, j0, j1); m = self->memory; if (NEVER(self->is_broken)) return;
   i0 = !(i0);
   if (i0) {goto B226;}
   j0 = p1;
@@ -13805,7 +14243,7 @@ static void f13(module *self, u64 p0, u64 p1, u64 p2, u64 p3) {
   if (i0) {goto B228;}
   j0 = p1;
   j1 = 2ull;
-  i0 = f11(self, j0, j1); m = self->memory; if (NEVER(self->is_broken)) return;
+  i0 = f12(self, j0, j1); m = self->memory; if (NEVER(self->is_broken)) return;
   i0 = !(i0);
   if (i0) {goto B226;}
   j0 = p1;
@@ -13860,7 +14298,7 @@ static void f13(module *self, u64 p0, u64 p1, u64 p2, u64 p3) {
   if (i0) {goto B229;}
   j0 = p1;
   j1 = 2ull;
-  i0 = f11(self, j0, j1); m = self->memory; if (NEVER(self->is_broken)) return;
+  i0 = f12(self, j0, j1); m = self->memory; if (NEVER(self->is_broken)) return;
   i0 = !(i0);
   if (i0) {goto B226;}
   j0 = p1;
@@ -13909,7 +14347,7 @@ static void f13(module *self, u64 p0, u64 p1, u64 p2, u64 p3) {
   if (i0) {goto B230;}
   j0 = p1;
   j1 = 2ull;
-  i0 = f11(self, j0, j1); m = self->memory; if (NEVER(self->is_broken)) return;
+  i0 = f12(self, j0, j1); m = self->memory; if (NEVER(self->is_broken)) return;
   i0 = !(i0);
   if (i0) {goto B226;}
   j0 = p1;
@@ -13964,7 +14402,7 @@ static void f13(module *self, u64 p0, u64 p1, u64 p2, u64 p3) {
   if (i0) {goto B231;}
   j0 = p1;
   j1 = 2ull;
-  i0 = f11(self, j0, j1); m = self->memory; if (NEVER(self->is_broken)) return;
+  i0 = f12(self, j0, j1); m = self->memory; if (NEVER(self->is_broken)) return;
   i0 = !(i0);
   if (i0) {goto B226;}
   j0 = p1;
@@ -14013,7 +14451,7 @@ static void f13(module *self, u64 p0, u64 p1, u64 p2, u64 p3) {
   if (i0) {goto B232;}
   j0 = p1;
   j1 = 2ull;
-  i0 = f11(self, j0, j1); m = self->memory; if (NEVER(self->is_broken)) return;
+  i0 = f12(self, j0, j1); m = self->memory; if (NEVER(self->is_broken)) return;
   i0 = !(i0);
   if (i0) {goto B226;}
   j0 = p1;
@@ -14067,7 +14505,7 @@ static void f13(module *self, u64 p0, u64 p1, u64 p2, u64 p3) {
   if (i0) {goto B233;}
   j0 = p1;
   j1 = p3;
-  i0 = f11(self, j0, j1); m = self->memory; if (NEVER(self->is_broken)) return;
+  i0 = f12(self, j0, j1); m = self->memory; if (NEVER(self->is_broken)) return;
   i0 = !(i0);
   if (i0) {goto B226;}
   j0 = p1;
@@ -14229,7 +14667,7 @@ static void f13(module *self, u64 p0, u64 p1, u64 p2, u64 p3) {
   i0 = !(j0);
   if (i0) {goto B2;}
   j0 = l10;
-  f154(self, j0);
+  f158(self, j0);
   goto B2;
   B225:;
   j0 = p1;
@@ -14252,7 +14690,7 @@ static void f13(module *self, u64 p0, u64 p1, u64 p2, u64 p3) {
   i0 = !(j0);
   if (i0) {goto B1;}
   j0 = l10;
-  f154(self, j0);
+  f158(self, j0);
   goto B1;
   B21:;
   i0 = l15;
@@ -17385,7 +17823,7 @@ static void f13(module *self, u64 p0, u64 p1, u64 p2, u64 p3) {
   if (i0) {goto B426;}
   j0 = p1;
   j1 = 1ull;
-  i0 = f11(self, j0, j1); m = self->memory; if (NEVER(self->is_broken)) return;
+  i0 = f12(self, j0, j1); m = self->memory; if (NEVER(self->is_broken)) return;
   i0 = !(i0);
   if (i0) {goto B2;}
   j0 = p1;
@@ -17439,7 +17877,7 @@ static void f13(module *self, u64 p0, u64 p1, u64 p2, u64 p3) {
   if (i0) {goto B427;}
   j0 = p1;
   j1 = 2ull;
-  i0 = f11(self, j0, j1); m = self->memory; if (NEVER(self->is_broken)) return;
+  i0 = f12(self, j0, j1); m = self->memory; if (NEVER(self->is_broken)) return;
   i0 = !(i0);
   if (i0) {goto B2;}
   j0 = p1;
@@ -17501,7 +17939,7 @@ static void f13(module *self, u64 p0, u64 p1, u64 p2, u64 p3) {
   j3 = 127ull;
   j2 += j3;
   j3 = 1ull;
-  f10(self, j0, j1, j2, j3); m = self->memory; if (NEVER(self->is_broken)) return;
+  f11(self, j0, j1, j2, j3); m = self->memory; if (NEVER(self->is_broken)) return;
   j0 = l4;
   i0 = (u32)(j0);
   i0 = i32_load8_u(j0 + 32u);
@@ -17515,7 +17953,7 @@ static void f13(module *self, u64 p0, u64 p1, u64 p2, u64 p3) {
   if (i0) {goto B428;}
   j0 = p1;
   j1 = 1ull;
-  i0 = f11(self, j0, j1); m = self->memory; if (NEVER(self->is_broken)) return;
+  i0 = f12(self, j0, j1); m = self->memory; if (NEVER(self->is_broken)) return;
   i0 = !(i0);
   if (i0) {goto B2;}
   j0 = p1;
@@ -17569,7 +18007,7 @@ static void f13(module *self, u64 p0, u64 p1, u64 p2, u64 p3) {
   if (i0) {goto B429;}
   j0 = p1;
   j1 = 2ull;
-  i0 = f11(self, j0, j1); m = self->memory; if (NEVER(self->is_broken)) return;
+  i0 = f12(self, j0, j1); m = self->memory; if (NEVER(self->is_broken)) return;
   i0 = !(i0);
   if (i0) {goto B2;}
   j0 = p1;
@@ -17624,7 +18062,7 @@ static void f13(module *self, u64 p0, u64 p1, u64 p2, u64 p3) {
   i4 = 255u;
   i3 &= i4;
   i2 |= i3;
-  f12(self, j0, j1, i2); m = self->memory; if (NEVER(self->is_broken)) return;
+  f13(self, j0, j1, i2); m = self->memory; if (NEVER(self->is_broken)) return;
   j0 = l4;
   i0 = (u32)(j0);
   i0 = i32_load8_u(j0);
@@ -17638,7 +18076,7 @@ static void f13(module *self, u64 p0, u64 p1, u64 p2, u64 p3) {
   if (i0) {goto B430;}
   j0 = p1;
   j1 = 1ull;
-  i0 = f11(self, j0, j1); m = self->memory; if (NEVER(self->is_broken)) return;
+  i0 = f12(self, j0, j1); m = self->memory; if (NEVER(self->is_broken)) return;
   i0 = !(i0);
   if (i0) {goto B2;}
   j0 = p1;
@@ -17692,7 +18130,7 @@ static void f13(module *self, u64 p0, u64 p1, u64 p2, u64 p3) {
   if (i0) {goto B431;}
   j0 = p1;
   j1 = 2ull;
-  i0 = f11(self, j0, j1); m = self->memory; if (NEVER(self->is_broken)) return;
+  i0 = f12(self, j0, j1); m = self->memory; if (NEVER(self->is_broken)) return;
   i0 = !(i0);
   if (i0) {goto B2;}
   j0 = p1;
@@ -17746,7 +18184,7 @@ static void f13(module *self, u64 p0, u64 p1, u64 p2, u64 p3) {
   if (i0) {goto B432;}
   j0 = p1;
   j1 = 1ull;
-  i0 = f11(self, j0, j1); m = self->memory; if (NEVER(self->is_broken)) return;
+  i0 = f12(self, j0, j1); m = self->memory; if (NEVER(self->is_broken)) return;
   i0 = !(i0);
   if (i0) {goto B2;}
   j0 = p1;
@@ -17800,7 +18238,7 @@ static void f13(module *self, u64 p0, u64 p1, u64 p2, u64 p3) {
   if (i0) {goto B433;}
   j0 = p1;
   j1 = 2ull;
-  i0 = f11(self, j0, j1); m = self->memory; if (NEVER(self->is_broken)) return;
+  i0 = f12(self, j0, j1); m = self->memory; if (NEVER(self->is_broken)) return;
   i0 = !(i0);
   if (i0) {goto B2;}
   j0 = p1;
@@ -17854,7 +18292,7 @@ static void f13(module *self, u64 p0, u64 p1, u64 p2, u64 p3) {
   if (i0) {goto B434;}
   j0 = p1;
   j1 = 1ull;
-  i0 = f11(self, j0, j1); m = self->memory; if (NEVER(self->is_broken)) return;
+  i0 = f12(self, j0, j1); m = self->memory; if (NEVER(self->is_broken)) return;
   i0 = !(i0);
   if (i0) {goto B2;}
   j0 = p1;
@@ -17908,7 +18346,7 @@ static void f13(module *self, u64 p0, u64 p1, u64 p2, u64 p3) {
   if (i0) {goto B435;}
   j0 = p1;
   j1 = 4ull;
-  i0 = f11(self, j0, j1); m = self->memory; if (NEVER(self->is_broken)) return;
+  i0 = f12(self, j0, j1); m = self->memory; if (NEVER(self->is_broken)) return;
   i0 = !(i0);
   if (i0) {goto B2;}
   j0 = p1;
@@ -17964,7 +18402,7 @@ static void f13(module *self, u64 p0, u64 p1, u64 p2, u64 p3) {
   j3 = 95ull;
   j2 += j3;
   j3 = 1ull;
-  f10(self, j0, j1, j2, j3); m = self->memory; if (NEVER(self->is_broken)) return;
+  f11(self, j0, j1, j2, j3); m = self->memory; if (NEVER(self->is_broken)) return;
   j0 = l4;
   i0 = (u32)(j0);
   i0 = i32_load8_u(j0 + 96u);
@@ -17978,7 +18416,7 @@ static void f13(module *self, u64 p0, u64 p1, u64 p2, u64 p3) {
   if (i0) {goto B436;}
   j0 = p1;
   j1 = 1ull;
-  i0 = f11(self, j0, j1); m = self->memory; if (NEVER(self->is_broken)) return;
+  i0 = f12(self, j0, j1); m = self->memory; if (NEVER(self->is_broken)) return;
   i0 = !(i0);
   if (i0) {goto B2;}
   j0 = p1;
@@ -18032,7 +18470,7 @@ static void f13(module *self, u64 p0, u64 p1, u64 p2, u64 p3) {
   if (i0) {goto B437;}
   j0 = p1;
   j1 = 4ull;
-  i0 = f11(self, j0, j1); m = self->memory; if (NEVER(self->is_broken)) return;
+  i0 = f12(self, j0, j1); m = self->memory; if (NEVER(self->is_broken)) return;
   i0 = !(i0);
   if (i0) {goto B2;}
   j0 = p1;
@@ -18083,7 +18521,7 @@ static void f13(module *self, u64 p0, u64 p1, u64 p2, u64 p3) {
   i4 = 255u;
   i3 &= i4;
   i2 |= i3;
-  f12(self, j0, j1, i2); m = self->memory; if (NEVER(self->is_broken)) return;
+  f13(self, j0, j1, i2); m = self->memory; if (NEVER(self->is_broken)) return;
   j0 = l4;
   i0 = (u32)(j0);
   i0 = i32_load8_u(j0 + 64u);
@@ -18097,7 +18535,7 @@ static void f13(module *self, u64 p0, u64 p1, u64 p2, u64 p3) {
   if (i0) {goto B438;}
   j0 = p1;
   j1 = 1ull;
-  i0 = f11(self, j0, j1); m = self->memory; if (NEVER(self->is_broken)) return;
+  i0 = f12(self, j0, j1); m = self->memory; if (NEVER(self->is_broken)) return;
   i0 = !(i0);
   if (i0) {goto B2;}
   j0 = p1;
@@ -18151,7 +18589,7 @@ static void f13(module *self, u64 p0, u64 p1, u64 p2, u64 p3) {
   if (i0) {goto B439;}
   j0 = p1;
   j1 = 4ull;
-  i0 = f11(self, j0, j1); m = self->memory; if (NEVER(self->is_broken)) return;
+  i0 = f12(self, j0, j1); m = self->memory; if (NEVER(self->is_broken)) return;
   i0 = !(i0);
   if (i0) {goto B2;}
   j0 = p1;
@@ -18199,7 +18637,7 @@ static void f13(module *self, u64 p0, u64 p1, u64 p2, u64 p3) {
   if (i0) {goto B440;}
   j0 = p1;
   j1 = 1ull;
-  i0 = f11(self, j0, j1); m = self->memory; if (NEVER(self->is_broken)) return;
+  i0 = f12(self, j0, j1); m = self->memory; if (NEVER(self->is_broken)) return;
   i0 = !(i0);
   if (i0) {goto B2;}
   j0 = p1;
@@ -18253,7 +18691,7 @@ static void f13(module *self, u64 p0, u64 p1, u64 p2, u64 p3) {
   if (i0) {goto B441;}
   j0 = p1;
   j1 = 4ull;
-  i0 = f11(self, j0, j1); m = self->memory; if (NEVER(self->is_broken)) return;
+  i0 = f12(self, j0, j1); m = self->memory; if (NEVER(self->is_broken)) return;
   i0 = !(i0);
   if (i0) {goto B2;}
   j0 = p1;
@@ -18301,7 +18739,7 @@ static void f13(module *self, u64 p0, u64 p1, u64 p2, u64 p3) {
   if (i0) {goto B442;}
   j0 = p1;
   j1 = 1ull;
-  i0 = f11(self, j0, j1); m = self->memory; if (NEVER(self->is_broken)) return;
+  i0 = f12(self, j0, j1); m = self->memory; if (NEVER(self->is_broken)) return;
   i0 = !(i0);
   if (i0) {goto B2;}
   j0 = p1;
@@ -18355,7 +18793,7 @@ static void f13(module *self, u64 p0, u64 p1, u64 p2, u64 p3) {
   if (i0) {goto B443;}
   j0 = p1;
   j1 = 4ull;
-  i0 = f11(self, j0, j1); m = self->memory; if (NEVER(self->is_broken)) return;
+  i0 = f12(self, j0, j1); m = self->memory; if (NEVER(self->is_broken)) return;
   i0 = !(i0);
   if (i0) {goto B2;}
   j0 = p1;
@@ -18405,7 +18843,7 @@ static void f13(module *self, u64 p0, u64 p1, u64 p2, u64 p3) {
   j1 = l10;
   j2 = 1048796ull;
   j3 = 4ull;
-  i0 = f9(self, j0, j1, j2, j3);
+  i0 = f10(self, j0, j1, j2, j3);
   i0 = !(i0);
   if (i0) {goto B10;}
   j0 = l4;
@@ -18967,7 +19405,7 @@ static void f13(module *self, u64 p0, u64 p1, u64 p2, u64 p3) {
   j0 += j1;
   j1 = p3;
   j2 = l5;
-  f16(self, j0, j1, j2); if (NEVER(self->is_broken)) return;
+  f17(self, j0, j1, j2); if (NEVER(self->is_broken)) return;
   j0 = l4;
   i0 = (u32)(j0);
   i0 = i32_load8_u(j0 + 32u);
@@ -19285,7 +19723,7 @@ static void f13(module *self, u64 p0, u64 p1, u64 p2, u64 p3) {
   j1 = l6;
   j2 = 1048823ull;
   j3 = 3ull;
-  i0 = f9(self, j0, j1, j2, j3);
+  i0 = f10(self, j0, j1, j2, j3);
   i0 = !(i0);
   if (i0) {goto B475;}
   i0 = 0u;
@@ -19327,7 +19765,7 @@ static void f13(module *self, u64 p0, u64 p1, u64 p2, u64 p3) {
   j1 = l6;
   j2 = 1048826ull;
   j3 = 5ull;
-  i0 = f9(self, j0, j1, j2, j3);
+  i0 = f10(self, j0, j1, j2, j3);
   i0 = !(i0);
   if (i0) {goto B10;}
   i0 = 0u;
@@ -19531,7 +19969,7 @@ static void f13(module *self, u64 p0, u64 p1, u64 p2, u64 p3) {
   if (i0) {goto B485;}
   j0 = p1;
   j1 = 2ull;
-  i0 = f11(self, j0, j1); m = self->memory; if (NEVER(self->is_broken)) return;
+  i0 = f12(self, j0, j1); m = self->memory; if (NEVER(self->is_broken)) return;
   i0 = !(i0);
   if (i0) {goto B2;}
   j0 = p1;
@@ -19598,7 +20036,7 @@ static void f13(module *self, u64 p0, u64 p1, u64 p2, u64 p3) {
   if (i0) {goto B488;}
   j0 = p1;
   j1 = 3ull;
-  i0 = f11(self, j0, j1); m = self->memory; if (NEVER(self->is_broken)) return;
+  i0 = f12(self, j0, j1); m = self->memory; if (NEVER(self->is_broken)) return;
   i0 = !(i0);
   if (i0) {goto B2;}
   j0 = p1;
@@ -19654,7 +20092,7 @@ static void f13(module *self, u64 p0, u64 p1, u64 p2, u64 p3) {
   if (i0) {goto B489;}
   j0 = p1;
   j1 = 2ull;
-  i0 = f11(self, j0, j1); m = self->memory; if (NEVER(self->is_broken)) return;
+  i0 = f12(self, j0, j1); m = self->memory; if (NEVER(self->is_broken)) return;
   i0 = !(i0);
   if (i0) {goto B2;}
   j0 = p1;
@@ -19721,7 +20159,7 @@ static void f13(module *self, u64 p0, u64 p1, u64 p2, u64 p3) {
   if (i0) {goto B492;}
   j0 = p1;
   j1 = 2ull;
-  i0 = f11(self, j0, j1); m = self->memory; if (NEVER(self->is_broken)) return;
+  i0 = f12(self, j0, j1); m = self->memory; if (NEVER(self->is_broken)) return;
   i0 = !(i0);
   if (i0) {goto B2;}
   j0 = p1;
@@ -19788,7 +20226,7 @@ static void f13(module *self, u64 p0, u64 p1, u64 p2, u64 p3) {
   if (i0) {goto B495;}
   j0 = p1;
   j1 = 3ull;
-  i0 = f11(self, j0, j1); m = self->memory; if (NEVER(self->is_broken)) return;
+  i0 = f12(self, j0, j1); m = self->memory; if (NEVER(self->is_broken)) return;
   i0 = !(i0);
   if (i0) {goto B2;}
   j0 = p1;
@@ -19847,7 +20285,7 @@ static void f13(module *self, u64 p0, u64 p1, u64 p2, u64 p3) {
   if (i0) {goto B496;}
   j0 = p1;
   j1 = 2ull;
-  i0 = f11(self, j0, j1); m = self->memory; if (NEVER(self->is_broken)) return;
+  i0 = f12(self, j0, j1); m = self->memory; if (NEVER(self->is_broken)) return;
   i0 = !(i0);
   if (i0) {goto B2;}
   j0 = p1;
@@ -19896,7 +20334,7 @@ static void f13(module *self, u64 p0, u64 p1, u64 p2, u64 p3) {
   if (i0) {goto B497;}
   j0 = p1;
   j1 = 2ull;
-  i0 = f11(self, j0, j1); m = self->memory; if (NEVER(self->is_broken)) return;
+  i0 = f12(self, j0, j1); m = self->memory; if (NEVER(self->is_broken)) return;
   i0 = !(i0);
   if (i0) {goto B2;}
   j0 = p1;
@@ -19948,7 +20386,7 @@ static void f13(module *self, u64 p0, u64 p1, u64 p2, u64 p3) {
   if (i0) {goto B498;}
   j0 = p1;
   j1 = 2ull;
-  i0 = f11(self, j0, j1); m = self->memory; if (NEVER(self->is_broken)) return;
+  i0 = f12(self, j0, j1); m = self->memory; if (NEVER(self->is_broken)) return;
   i0 = !(i0);
   if (i0) {goto B2;}
   j0 = p1;
@@ -20015,7 +20453,7 @@ static void f13(module *self, u64 p0, u64 p1, u64 p2, u64 p3) {
   if (i0) {goto B501;}
   j0 = p1;
   j1 = 2ull;
-  i0 = f11(self, j0, j1); m = self->memory; if (NEVER(self->is_broken)) return;
+  i0 = f12(self, j0, j1); m = self->memory; if (NEVER(self->is_broken)) return;
   i0 = !(i0);
   if (i0) {goto B2;}
   j0 = p1;
@@ -20105,7 +20543,7 @@ static void f13(module *self, u64 p0, u64 p1, u64 p2, u64 p3) {
   self->g0 = j0;
 }
 
-static void f14(module *self, u64 p0, u64 p1, u64 p2, u64 p3) {
+static void f15(module *self, u64 p0, u64 p1, u64 p2, u64 p3) {
   u32 l9 = 0;
   u64 l4 = 0, l5 = 0, l6 = 0, l7 = 0, l8 = 0;
   u8 *m = self->memory;
@@ -20508,7 +20946,7 @@ static void f14(module *self, u64 p0, u64 p1, u64 p2, u64 p3) {
   Bfunc:;
 }
 
-static void f15(module *self, u64 p0, u64 p1, u64 p2) {
+static void f16(module *self, u64 p0, u64 p1, u64 p2) {
   u32 l12 = 0, l13 = 0, l14 = 0, l15 = 0, l16 = 0;
   u64 l3 = 0, l4 = 0, l5 = 0, l6 = 0, l7 = 0, l8 = 0, l9 = 0, l10 = 0, 
       l11 = 0;
@@ -20778,7 +21216,7 @@ static void f15(module *self, u64 p0, u64 p1, u64 p2) {
       j1 >>= (j2 & 63);
       l8 = j1;
       j2 = 1ull;
-      f151(self, j0, j1, j2); m = self->memory; if (NEVER(self->is_broken)) return;
+      f155(self, j0, j1, j2); m = self->memory; if (NEVER(self->is_broken)) return;
       i0 = 1u;
       l12 = i0;
       j0 = l3;
@@ -21002,7 +21440,7 @@ static void f15(module *self, u64 p0, u64 p1, u64 p2) {
       if (i0) {goto B11;}
       B19:;
       j0 = l4;
-      f154(self, j0);
+      f158(self, j0);
       goto B11;
       B13:;
       j0 = p2;
@@ -21122,7 +21560,7 @@ static void f15(module *self, u64 p0, u64 p1, u64 p2) {
   self->g0 = j0;
 }
 
-static void f16(module *self, u64 p0, u64 p1, u64 p2) {
+static void f17(module *self, u64 p0, u64 p1, u64 p2) {
   u32 l9 = 0, l10 = 0;
   u64 l3 = 0, l4 = 0, l5 = 0, l6 = 0, l7 = 0, l8 = 0;
   u8 *m = self->memory;
@@ -21851,7 +22289,7 @@ static void f16(module *self, u64 p0, u64 p1, u64 p2) {
   Bfunc:;
 }
 
-static void f17(module *self, u64 p0, u64 p1) {
+static void f18(module *self, u64 p0, u64 p1) {
   u32 l8 = 0, l9 = 0, l10 = 0, l11 = 0, l12 = 0, l13 = 0, l14 = 0, l15 = 0, 
       l16 = 0, l17 = 0, l18 = 0, l19 = 0, l20 = 0, l21 = 0, l22 = 0, l23 = 0;
   u64 l2 = 0, l3 = 0, l4 = 0, l5 = 0, l6 = 0, l7 = 0;
@@ -22689,7 +23127,7 @@ static void f17(module *self, u64 p0, u64 p1) {
   Bfunc:;
 }
 
-static u32 f18(module *self, u64 p0) {
+static u32 f19(module *self, u64 p0) {
   u32 l2 = 0, l3 = 0, l4 = 0;
   u64 l1 = 0;
   u8 *m = self->memory;
@@ -22713,7 +23151,7 @@ static u32 f18(module *self, u64 p0) {
   i2 = (u32)(j2);
   i2 = i32_load16_u(j2);
   l3 = i2;
-  f19(self, j0, i1, i2);
+  f20(self, j0, i1, i2);
   j0 = l1;
   i0 = (u32)(j0);
   i0 = i32_load8_u(j0 + 8u);
@@ -22910,7 +23348,7 @@ static u32 f18(module *self, u64 p0) {
   return i0;
 }
 
-static void f19(module *self, u64 p0, u32 p1, u32 p2) {
+static void f20(module *self, u64 p0, u32 p1, u32 p2) {
   u32 l12 = 0, l13 = 0, l14 = 0, l15 = 0, l16 = 0, l17 = 0, l18 = 0, l19 = 0, 
       l20 = 0, l21 = 0, l22 = 0, l23 = 0, l24 = 0, l25 = 0, l26 = 0, l27 = 0, 
       l28 = 0, l29 = 0, l30 = 0, l31 = 0, l32 = 0, l33 = 0, l34 = 0, l35 = 0, 
@@ -24038,7 +24476,7 @@ static void f19(module *self, u64 p0, u32 p1, u32 p2) {
   Bfunc:;
 }
 
-static void f20(module *self, u64 p0, u64 p1, u64 p2) {
+static void f21(module *self, u64 p0, u64 p1, u64 p2) {
   u32 l12 = 0, l13 = 0, l14 = 0, l15 = 0, l16 = 0, l17 = 0, l18 = 0;
   u64 l3 = 0, l4 = 0, l5 = 0, l6 = 0, l7 = 0, l8 = 0, l9 = 0, l10 = 0, 
       l11 = 0;
@@ -25809,7 +26247,7 @@ static void f20(module *self, u64 p0, u64 p1, u64 p2) {
   self->g0 = j0;
 }
 
-static void f21(module *self, u64 p0) {
+static void f22(module *self, u64 p0) {
   u32 l11 = 0;
   u64 l1 = 0, l2 = 0, l3 = 0, l4 = 0, l5 = 0, l6 = 0, l7 = 0, l8 = 0, 
       l9 = 0, l10 = 0;
@@ -25834,7 +26272,7 @@ static void f21(module *self, u64 p0) {
   j0 += j1;
   j1 = 262144ull;
   j2 = 4ull;
-  f151(self, j0, j1, j2); m = self->memory; if (NEVER(self->is_broken)) return;
+  f155(self, j0, j1, j2); m = self->memory; if (NEVER(self->is_broken)) return;
   j0 = l1;
   i0 = (u32)(j0);
   j0 = i64_load(j0 + 32u);
@@ -25857,7 +26295,7 @@ static void f21(module *self, u64 p0) {
   j0 += j1;
   j1 = 7077888ull;
   j2 = 1ull;
-  f151(self, j0, j1, j2); m = self->memory; if (NEVER(self->is_broken)) return;
+  f155(self, j0, j1, j2); m = self->memory; if (NEVER(self->is_broken)) return;
   j0 = l1;
   i0 = (u32)(j0);
   j0 = i64_load(j0 + 24u);
@@ -25880,7 +26318,7 @@ static void f21(module *self, u64 p0) {
   j0 = l1;
   j1 = 4096ull;
   j2 = 4ull;
-  f151(self, j0, j1, j2); m = self->memory; if (NEVER(self->is_broken)) return;
+  f155(self, j0, j1, j2); m = self->memory; if (NEVER(self->is_broken)) return;
   j0 = l1;
   i0 = (u32)(j0);
   j0 = i64_load(j0);
@@ -25889,7 +26327,7 @@ static void f21(module *self, u64 p0) {
   i0 &= i1;
   if (i0) {goto B3;}
   j0 = l4;
-  f154(self, j0);
+  f158(self, j0);
   j0 = 9ull;
   l3 = j0;
   goto B1;
@@ -25962,7 +26400,7 @@ static void f21(module *self, u64 p0) {
   j1 = l1;
   j2 = 2624ull;
   j1 += j2;
-  f22(self, j0, j1);
+  f23(self, j0, j1);
   j0 = l1;
   j1 = 2368ull;
   j0 += j1;
@@ -26441,7 +26879,7 @@ static void f21(module *self, u64 p0) {
   l3 = j0;
   B1:;
   j0 = l2;
-  f154(self, j0);
+  f158(self, j0);
   j0 = p0;
   j1 = 8ull;
   j0 += j1;
@@ -26467,7 +26905,7 @@ static void f21(module *self, u64 p0) {
   self->g0 = j0;
 }
 
-static void f22(module *self, u64 p0, u64 p1) {
+static void f23(module *self, u64 p0, u64 p1) {
   u32 l3 = 0, l4 = 0, l5 = 0, l6 = 0, l7 = 0, l8 = 0, l9 = 0, l10 = 0, 
       l11 = 0, l12 = 0, l13 = 0, l14 = 0, l15 = 0, l16 = 0, l17 = 0, l18 = 0, 
       l19 = 0, l20 = 0, l21 = 0, l22 = 0, l23 = 0, l24 = 0, l25 = 0, l26 = 0, 
@@ -27100,7 +27538,7 @@ static void f22(module *self, u64 p0, u64 p1) {
   i32_store8(j0, i1);
 }
 
-static void f23(module *self, u64 p0, u64 p1, u64 p2) {
+static void f24(module *self, u64 p0, u64 p1, u64 p2) {
   u32 l12 = 0, l13 = 0, l14 = 0, l15 = 0, l16 = 0, l17 = 0, l18 = 0, l19 = 0;
   u64 l3 = 0, l4 = 0, l5 = 0, l6 = 0, l7 = 0, l8 = 0, l9 = 0, l10 = 0, 
       l11 = 0;
@@ -27813,7 +28251,7 @@ static void f23(module *self, u64 p0, u64 p1, u64 p2) {
   j1 = 1024ull;
   j0 += j1;
   j1 = l7;
-  f22(self, j0, j1);
+  f23(self, j0, j1);
   j0 = p0;
   j1 = 196ull;
   j0 += j1;
@@ -28828,7 +29266,7 @@ static void f23(module *self, u64 p0, u64 p1, u64 p2) {
   j1 = 2008ull;
   j0 += j1;
   j1 = l6;
-  i0 = f3(self, j0, j1); m = self->memory; if (NEVER(self->is_broken)) return;
+  i0 = f4(self, j0, j1); m = self->memory; if (NEVER(self->is_broken)) return;
   i0 = !(i0);
   if (i0) {goto B23;}
   j0 = p0;
@@ -29044,7 +29482,7 @@ static void f23(module *self, u64 p0, u64 p1, u64 p2) {
   self->g0 = j0;
 }
 
-static void f24(module *self, u64 p0, u64 p1, u64 p2, u64 p3, u64 p4, u64 p5, u64 p6) {
+static void f25(module *self, u64 p0, u64 p1, u64 p2, u64 p3, u64 p4, u64 p5, u64 p6) {
   u32 l18 = 0, l19 = 0, l20 = 0, l21 = 0, l22 = 0, l23 = 0, l24 = 0, l25 = 0, 
       l26 = 0, l27 = 0, l28 = 0, l29 = 0, l30 = 0, l31 = 0, l32 = 0, l33 = 0, 
       l34 = 0, l35 = 0, l36 = 0, l37 = 0, l38 = 0, l39 = 0, l40 = 0, l41 = 0, 
@@ -29066,7 +29504,7 @@ static void f24(module *self, u64 p0, u64 p1, u64 p2, u64 p3, u64 p4, u64 p5, u6
   j1 = 168ull;
   j0 += j1;
   j1 = p4;
-  f17(self, j0, j1);
+  f18(self, j0, j1);
   j0 = l7;
   i0 = (u32)(j0);
   i0 = i32_load8_u(j0 + 168u);
@@ -29697,7 +30135,7 @@ static void f24(module *self, u64 p0, u64 p1, u64 p2, u64 p3, u64 p4, u64 p5, u6
   j1 = 2072ull;
   j0 += j1;
   j1 = 3ull;
-  i0 = f11(self, j0, j1); m = self->memory; if (NEVER(self->is_broken)) return;
+  i0 = f12(self, j0, j1); m = self->memory; if (NEVER(self->is_broken)) return;
   i0 = !(i0);
   if (i0) {goto B24;}
   j0 = p1;
@@ -29758,7 +30196,7 @@ static void f24(module *self, u64 p0, u64 p1, u64 p2, u64 p3, u64 p4, u64 p5, u6
   j0 += j1;
   j1 = p1;
   i2 = l27;
-  f25(self, j0, j1, i2); if (NEVER(self->is_broken)) return;
+  f26(self, j0, j1, i2); if (NEVER(self->is_broken)) return;
   i0 = 1u;
   l18 = i0;
   i0 = 0u;
@@ -29766,87 +30204,87 @@ static void f24(module *self, u64 p0, u64 p1, u64 p2, u64 p3, u64 p4, u64 p5, u6
   j0 = p1;
   i1 = l58;
   i2 = 0u;
-  i0 = f26(self, j0, i1, i2); m = self->memory; if (NEVER(self->is_broken)) return;
+  i0 = f27(self, j0, i1, i2); m = self->memory; if (NEVER(self->is_broken)) return;
   l21 = i0;
   j0 = p1;
   i1 = l58;
   i2 = 1u;
-  i0 = f26(self, j0, i1, i2); m = self->memory; if (NEVER(self->is_broken)) return;
+  i0 = f27(self, j0, i1, i2); m = self->memory; if (NEVER(self->is_broken)) return;
   l24 = i0;
   j0 = p1;
   i1 = l58;
   i2 = 2u;
-  i0 = f26(self, j0, i1, i2); m = self->memory; if (NEVER(self->is_broken)) return;
+  i0 = f27(self, j0, i1, i2); m = self->memory; if (NEVER(self->is_broken)) return;
   l73 = i0;
   j0 = p1;
   i1 = l58;
   i2 = 3u;
-  i0 = f26(self, j0, i1, i2); m = self->memory; if (NEVER(self->is_broken)) return;
+  i0 = f27(self, j0, i1, i2); m = self->memory; if (NEVER(self->is_broken)) return;
   l28 = i0;
   j0 = p1;
   i1 = l58;
   i2 = 4u;
-  i0 = f26(self, j0, i1, i2); m = self->memory; if (NEVER(self->is_broken)) return;
+  i0 = f27(self, j0, i1, i2); m = self->memory; if (NEVER(self->is_broken)) return;
   l29 = i0;
   j0 = p1;
   i1 = l58;
   i2 = 5u;
-  i0 = f26(self, j0, i1, i2); m = self->memory; if (NEVER(self->is_broken)) return;
+  i0 = f27(self, j0, i1, i2); m = self->memory; if (NEVER(self->is_broken)) return;
   l22 = i0;
   j0 = p1;
   i1 = l58;
   i2 = 6u;
-  i0 = f26(self, j0, i1, i2); m = self->memory; if (NEVER(self->is_broken)) return;
+  i0 = f27(self, j0, i1, i2); m = self->memory; if (NEVER(self->is_broken)) return;
   l60 = i0;
   j0 = p1;
   i1 = l58;
   i2 = 7u;
-  i0 = f26(self, j0, i1, i2); m = self->memory; if (NEVER(self->is_broken)) return;
+  i0 = f27(self, j0, i1, i2); m = self->memory; if (NEVER(self->is_broken)) return;
   l27 = i0;
   j0 = p1;
   i1 = l58;
   i2 = 8u;
-  i0 = f26(self, j0, i1, i2); m = self->memory; if (NEVER(self->is_broken)) return;
+  i0 = f27(self, j0, i1, i2); m = self->memory; if (NEVER(self->is_broken)) return;
   l40 = i0;
   j0 = p1;
   i1 = l58;
   i2 = 9u;
-  i0 = f26(self, j0, i1, i2); m = self->memory; if (NEVER(self->is_broken)) return;
+  i0 = f27(self, j0, i1, i2); m = self->memory; if (NEVER(self->is_broken)) return;
   l68 = i0;
   j0 = p1;
   i1 = l58;
   i2 = 10u;
-  i0 = f26(self, j0, i1, i2); m = self->memory; if (NEVER(self->is_broken)) return;
+  i0 = f27(self, j0, i1, i2); m = self->memory; if (NEVER(self->is_broken)) return;
   l69 = i0;
   j0 = p1;
   i1 = l58;
   i2 = 11u;
-  i0 = f26(self, j0, i1, i2); m = self->memory; if (NEVER(self->is_broken)) return;
+  i0 = f27(self, j0, i1, i2); m = self->memory; if (NEVER(self->is_broken)) return;
   l19 = i0;
   j0 = p1;
   i1 = l58;
   i2 = 12u;
-  i0 = f26(self, j0, i1, i2); m = self->memory; if (NEVER(self->is_broken)) return;
+  i0 = f27(self, j0, i1, i2); m = self->memory; if (NEVER(self->is_broken)) return;
   l23 = i0;
   j0 = p1;
   i1 = l58;
   i2 = 13u;
-  i0 = f26(self, j0, i1, i2); m = self->memory; if (NEVER(self->is_broken)) return;
+  i0 = f27(self, j0, i1, i2); m = self->memory; if (NEVER(self->is_broken)) return;
   l26 = i0;
   j0 = p1;
   i1 = l58;
   i2 = 14u;
-  i0 = f26(self, j0, i1, i2); m = self->memory; if (NEVER(self->is_broken)) return;
+  i0 = f27(self, j0, i1, i2); m = self->memory; if (NEVER(self->is_broken)) return;
   l31 = i0;
   j0 = p1;
   i1 = l58;
   i2 = 15u;
-  i0 = f26(self, j0, i1, i2); m = self->memory; if (NEVER(self->is_broken)) return;
+  i0 = f27(self, j0, i1, i2); m = self->memory; if (NEVER(self->is_broken)) return;
   l57 = i0;
   j0 = p1;
   i1 = l58;
   i2 = 17u;
-  i0 = f26(self, j0, i1, i2); m = self->memory; if (NEVER(self->is_broken)) return;
+  i0 = f27(self, j0, i1, i2); m = self->memory; if (NEVER(self->is_broken)) return;
   j0 = (u64)(i0);
   j1 = 255ull;
   j0 &= j1;
@@ -29964,7 +30402,7 @@ static void f24(module *self, u64 p0, u64 p1, u64 p2, u64 p3, u64 p4, u64 p5, u6
   j1 *= j2;
   p5 = j1;
   j2 = 1ull;
-  f151(self, j0, j1, j2); m = self->memory; if (NEVER(self->is_broken)) return;
+  f155(self, j0, j1, j2); m = self->memory; if (NEVER(self->is_broken)) return;
   i0 = 1u;
   l59 = i0;
   j0 = 0ull;
@@ -30005,7 +30443,7 @@ static void f24(module *self, u64 p0, u64 p1, u64 p2, u64 p3, u64 p4, u64 p5, u6
   j0 += j1;
   j1 = 24ull;
   j2 = 8ull;
-  f151(self, j0, j1, j2); m = self->memory; if (NEVER(self->is_broken)) return;
+  f155(self, j0, j1, j2); m = self->memory; if (NEVER(self->is_broken)) return;
   i0 = 1u;
   l59 = i0;
   j0 = l7;
@@ -30016,7 +30454,7 @@ static void f24(module *self, u64 p0, u64 p1, u64 p2, u64 p3, u64 p4, u64 p5, u6
   i0 &= i1;
   if (i0) {goto B29;}
   j0 = l9;
-  f154(self, j0);
+  f158(self, j0);
   goto B11;
   B29:;
   j0 = l7;
@@ -30084,7 +30522,7 @@ static void f24(module *self, u64 p0, u64 p1, u64 p2, u64 p3, u64 p4, u64 p5, u6
   j1 = 2072ull;
   j0 += j1;
   j1 = 4ull;
-  i0 = f11(self, j0, j1); m = self->memory; if (NEVER(self->is_broken)) return;
+  i0 = f12(self, j0, j1); m = self->memory; if (NEVER(self->is_broken)) return;
   i0 = !(i0);
   if (i0) {goto B30;}
   j0 = p1;
@@ -30220,7 +30658,7 @@ static void f24(module *self, u64 p0, u64 p1, u64 p2, u64 p3, u64 p4, u64 p5, u6
     j1 = 2072ull;
     j0 += j1;
     j1 = 3ull;
-    i0 = f11(self, j0, j1); m = self->memory; if (NEVER(self->is_broken)) return;
+    i0 = f12(self, j0, j1); m = self->memory; if (NEVER(self->is_broken)) return;
     i0 = !(i0);
     if (i0) {goto B34;}
     j0 = p1;
@@ -30454,7 +30892,7 @@ static void f24(module *self, u64 p0, u64 p1, u64 p2, u64 p3, u64 p4, u64 p5, u6
   i2 = (u32)(j2);
   i3 = 255u;
   i2 &= i3;
-  f19(self, j0, i1, i2);
+  f20(self, j0, i1, i2);
   i0 = 1u;
   l21 = i0;
   j0 = l7;
@@ -30508,86 +30946,86 @@ static void f24(module *self, u64 p0, u64 p1, u64 p2, u64 p3, u64 p4, u64 p5, u6
   j4 = l7;
   i4 = (u32)(j4);
   i4 = i32_load8_u(j4 + 200u);
-  f27(self, j0, j1, j2, j3, i4); m = self->memory; if (NEVER(self->is_broken)) return;
+  f28(self, j0, j1, j2, j3, i4); m = self->memory; if (NEVER(self->is_broken)) return;
   j0 = p1;
   i1 = l58;
   i2 = 9u;
-  f28(self, j0, i1, i2); m = self->memory; if (NEVER(self->is_broken)) return;
+  f29(self, j0, i1, i2); m = self->memory; if (NEVER(self->is_broken)) return;
   j0 = p1;
   i1 = l58;
   i2 = 1u;
   i1 += i2;
   l59 = i1;
   i2 = l22;
-  f28(self, j0, i1, i2); m = self->memory; if (NEVER(self->is_broken)) return;
+  f29(self, j0, i1, i2); m = self->memory; if (NEVER(self->is_broken)) return;
   j0 = p1;
   i1 = l58;
   i2 = 10u;
-  f28(self, j0, i1, i2); m = self->memory; if (NEVER(self->is_broken)) return;
+  f29(self, j0, i1, i2); m = self->memory; if (NEVER(self->is_broken)) return;
   j0 = p1;
   i1 = l59;
   i2 = l18;
   i3 = 8u;
   i2 >>= (i3 & 31);
-  f28(self, j0, i1, i2); m = self->memory; if (NEVER(self->is_broken)) return;
+  f29(self, j0, i1, i2); m = self->memory; if (NEVER(self->is_broken)) return;
   j0 = p1;
   i1 = l58;
   i2 = 11u;
-  f28(self, j0, i1, i2); m = self->memory; if (NEVER(self->is_broken)) return;
+  f29(self, j0, i1, i2); m = self->memory; if (NEVER(self->is_broken)) return;
   j0 = p1;
   i1 = l59;
   i2 = l18;
-  f28(self, j0, i1, i2); m = self->memory; if (NEVER(self->is_broken)) return;
+  f29(self, j0, i1, i2); m = self->memory; if (NEVER(self->is_broken)) return;
   j0 = p1;
   i1 = l58;
   i2 = 18u;
-  f28(self, j0, i1, i2); m = self->memory; if (NEVER(self->is_broken)) return;
+  f29(self, j0, i1, i2); m = self->memory; if (NEVER(self->is_broken)) return;
   j0 = p1;
   i1 = l59;
   i2 = l29;
-  f28(self, j0, i1, i2); m = self->memory; if (NEVER(self->is_broken)) return;
+  f29(self, j0, i1, i2); m = self->memory; if (NEVER(self->is_broken)) return;
   j0 = p1;
   i1 = l58;
   i2 = 20u;
-  f28(self, j0, i1, i2); m = self->memory; if (NEVER(self->is_broken)) return;
+  f29(self, j0, i1, i2); m = self->memory; if (NEVER(self->is_broken)) return;
   j0 = p1;
   i1 = l59;
   i2 = l21;
-  f28(self, j0, i1, i2); m = self->memory; if (NEVER(self->is_broken)) return;
+  f29(self, j0, i1, i2); m = self->memory; if (NEVER(self->is_broken)) return;
   j0 = p1;
   i1 = l58;
   i2 = 12u;
-  f28(self, j0, i1, i2); m = self->memory; if (NEVER(self->is_broken)) return;
+  f29(self, j0, i1, i2); m = self->memory; if (NEVER(self->is_broken)) return;
   i0 = 0u;
   l21 = i0;
   j0 = p1;
   i1 = l59;
   i2 = 0u;
-  f28(self, j0, i1, i2); m = self->memory; if (NEVER(self->is_broken)) return;
+  f29(self, j0, i1, i2); m = self->memory; if (NEVER(self->is_broken)) return;
   j0 = p1;
   i1 = l58;
   i2 = 13u;
-  f28(self, j0, i1, i2); m = self->memory; if (NEVER(self->is_broken)) return;
+  f29(self, j0, i1, i2); m = self->memory; if (NEVER(self->is_broken)) return;
   j0 = p1;
   i1 = l59;
   i2 = 0u;
-  f28(self, j0, i1, i2); m = self->memory; if (NEVER(self->is_broken)) return;
+  f29(self, j0, i1, i2); m = self->memory; if (NEVER(self->is_broken)) return;
   j0 = p1;
   i1 = l58;
   i2 = 14u;
-  f28(self, j0, i1, i2); m = self->memory; if (NEVER(self->is_broken)) return;
+  f29(self, j0, i1, i2); m = self->memory; if (NEVER(self->is_broken)) return;
   j0 = p1;
   i1 = l59;
   i2 = 0u;
-  f28(self, j0, i1, i2); m = self->memory; if (NEVER(self->is_broken)) return;
+  f29(self, j0, i1, i2); m = self->memory; if (NEVER(self->is_broken)) return;
   j0 = p1;
   i1 = l58;
   i2 = 15u;
-  f28(self, j0, i1, i2); m = self->memory; if (NEVER(self->is_broken)) return;
+  f29(self, j0, i1, i2); m = self->memory; if (NEVER(self->is_broken)) return;
   j0 = p1;
   i1 = l59;
   i2 = 0u;
-  f28(self, j0, i1, i2); m = self->memory; if (NEVER(self->is_broken)) return;
+  f29(self, j0, i1, i2); m = self->memory; if (NEVER(self->is_broken)) return;
   j0 = p2;
   i0 = (u32)(j0);
   j1 = 0ull;
@@ -30699,7 +31137,7 @@ static void f24(module *self, u64 p0, u64 p1, u64 p2, u64 p3, u64 p4, u64 p5, u6
   j2 = 288ull;
   j1 += j2;
   j2 = p2;
-  f29(self, j0, j1, j2);
+  f30(self, j0, j1, j2);
   j0 = l7;
   j1 = 160ull;
   j0 += j1;
@@ -30708,7 +31146,7 @@ static void f24(module *self, u64 p0, u64 p1, u64 p2, u64 p3, u64 p4, u64 p5, u6
   j1 += j2;
   j2 = p2;
   j3 = p6;
-  f30(self, j0, j1, j2, j3);
+  f31(self, j0, j1, j2, j3);
   j0 = l7;
   i0 = (u32)(j0);
   i0 = i32_load8_u(j0 + 160u);
@@ -30816,7 +31254,7 @@ static void f24(module *self, u64 p0, u64 p1, u64 p2, u64 p3, u64 p4, u64 p5, u6
   i1 = i32_load16_u(j1);
   l58 = i1;
   i2 = 10u;
-  f28(self, j0, i1, i2); m = self->memory; if (NEVER(self->is_broken)) return;
+  f29(self, j0, i1, i2); m = self->memory; if (NEVER(self->is_broken)) return;
   j0 = p1;
   i1 = l58;
   i2 = 1u;
@@ -30825,15 +31263,15 @@ static void f24(module *self, u64 p0, u64 p1, u64 p2, u64 p3, u64 p4, u64 p5, u6
   i2 = l73;
   i3 = 8u;
   i2 >>= (i3 & 31);
-  f28(self, j0, i1, i2); m = self->memory; if (NEVER(self->is_broken)) return;
+  f29(self, j0, i1, i2); m = self->memory; if (NEVER(self->is_broken)) return;
   j0 = p1;
   i1 = l58;
   i2 = 11u;
-  f28(self, j0, i1, i2); m = self->memory; if (NEVER(self->is_broken)) return;
+  f29(self, j0, i1, i2); m = self->memory; if (NEVER(self->is_broken)) return;
   j0 = p1;
   i1 = l27;
   i2 = l73;
-  f28(self, j0, i1, i2); m = self->memory; if (NEVER(self->is_broken)) return;
+  f29(self, j0, i1, i2); m = self->memory; if (NEVER(self->is_broken)) return;
   j0 = p2;
   j1 = 24ull;
   j0 += j1;
@@ -30855,7 +31293,7 @@ static void f24(module *self, u64 p0, u64 p1, u64 p2, u64 p3, u64 p4, u64 p5, u6
   j0 = p1;
   j1 = p2;
   i2 = l18;
-  f31(self, j0, j1, i2); m = self->memory; if (NEVER(self->is_broken)) return;
+  f32(self, j0, j1, i2); m = self->memory; if (NEVER(self->is_broken)) return;
   goto B47;
   B67:;
   j0 = p2;
@@ -30890,7 +31328,7 @@ static void f24(module *self, u64 p0, u64 p1, u64 p2, u64 p3, u64 p4, u64 p5, u6
   i1 = i32_load16_u(j1);
   l58 = i1;
   i2 = 12u;
-  f28(self, j0, i1, i2); m = self->memory; if (NEVER(self->is_broken)) return;
+  f29(self, j0, i1, i2); m = self->memory; if (NEVER(self->is_broken)) return;
   j0 = p1;
   i1 = l58;
   i2 = 1u;
@@ -30910,15 +31348,15 @@ static void f24(module *self, u64 p0, u64 p1, u64 p2, u64 p3, u64 p4, u64 p5, u6
   l27 = i2;
   i3 = 8u;
   i2 >>= (i3 & 31);
-  f28(self, j0, i1, i2); m = self->memory; if (NEVER(self->is_broken)) return;
+  f29(self, j0, i1, i2); m = self->memory; if (NEVER(self->is_broken)) return;
   j0 = p1;
   i1 = l58;
   i2 = 13u;
-  f28(self, j0, i1, i2); m = self->memory; if (NEVER(self->is_broken)) return;
+  f29(self, j0, i1, i2); m = self->memory; if (NEVER(self->is_broken)) return;
   j0 = p1;
   i1 = l24;
   i2 = l27;
-  f28(self, j0, i1, i2); m = self->memory; if (NEVER(self->is_broken)) return;
+  f29(self, j0, i1, i2); m = self->memory; if (NEVER(self->is_broken)) return;
   j0 = p2;
   j1 = 6ull;
   j0 += j1;
@@ -30934,7 +31372,7 @@ static void f24(module *self, u64 p0, u64 p1, u64 p2, u64 p3, u64 p4, u64 p5, u6
   j0 = p1;
   j1 = p2;
   i2 = l18;
-  f31(self, j0, j1, i2); m = self->memory; if (NEVER(self->is_broken)) return;
+  f32(self, j0, j1, i2); m = self->memory; if (NEVER(self->is_broken)) return;
   goto B47;
   B65:;
   j0 = l7;
@@ -31041,7 +31479,7 @@ static void f24(module *self, u64 p0, u64 p1, u64 p2, u64 p3, u64 p4, u64 p5, u6
   j4 = l7;
   j5 = 304ull;
   j4 += j5;
-  f32(self, j0, j1, j2, i3, j4); m = self->memory; if (NEVER(self->is_broken)) return;
+  f33(self, j0, j1, j2, i3, j4); m = self->memory; if (NEVER(self->is_broken)) return;
   goto B47;
   B64:;
   j0 = l7;
@@ -31152,7 +31590,7 @@ static void f24(module *self, u64 p0, u64 p1, u64 p2, u64 p3, u64 p4, u64 p5, u6
   j4 = l7;
   j5 = 304ull;
   j4 += j5;
-  f32(self, j0, j1, j2, i3, j4); m = self->memory; if (NEVER(self->is_broken)) return;
+  f33(self, j0, j1, j2, i3, j4); m = self->memory; if (NEVER(self->is_broken)) return;
   goto B47;
   B63:;
   j0 = p2;
@@ -31256,7 +31694,7 @@ static void f24(module *self, u64 p0, u64 p1, u64 p2, u64 p3, u64 p4, u64 p5, u6
   j1 = 2072ull;
   j0 += j1;
   j1 = 5ull;
-  i0 = f11(self, j0, j1); m = self->memory; if (NEVER(self->is_broken)) return;
+  i0 = f12(self, j0, j1); m = self->memory; if (NEVER(self->is_broken)) return;
   i0 = !(i0);
   if (i0) {goto B71;}
   j0 = p1;
@@ -31309,7 +31747,7 @@ static void f24(module *self, u64 p0, u64 p1, u64 p2, u64 p3, u64 p4, u64 p5, u6
   j0 += j1;
   j1 = p1;
   i2 = l58;
-  f33(self, j0, j1, i2);
+  f34(self, j0, j1, i2);
   i0 = l58;
   i1 = 1u;
   i0 += i1;
@@ -31368,7 +31806,7 @@ static void f24(module *self, u64 p0, u64 p1, u64 p2, u64 p3, u64 p4, u64 p5, u6
   j1 = 2072ull;
   j0 += j1;
   j1 = 5ull;
-  i0 = f11(self, j0, j1); m = self->memory; if (NEVER(self->is_broken)) return;
+  i0 = f12(self, j0, j1); m = self->memory; if (NEVER(self->is_broken)) return;
   i0 = !(i0);
   if (i0) {goto B73;}
   j0 = p1;
@@ -31421,7 +31859,7 @@ static void f24(module *self, u64 p0, u64 p1, u64 p2, u64 p3, u64 p4, u64 p5, u6
   j0 += j1;
   j1 = p1;
   i2 = l58;
-  f33(self, j0, j1, i2);
+  f34(self, j0, j1, i2);
   i0 = 4294967295u;
   j1 = l7;
   i1 = (u32)(j1);
@@ -31537,7 +31975,7 @@ static void f24(module *self, u64 p0, u64 p1, u64 p2, u64 p3, u64 p4, u64 p5, u6
   j0 = p1;
   i1 = 5u;
   i2 = 8u;
-  f34(self, j0, i1, i2); m = self->memory; if (NEVER(self->is_broken)) return;
+  f35(self, j0, i1, i2); m = self->memory; if (NEVER(self->is_broken)) return;
   B79:;
   i0 = l23;
   i0 = !(i0);
@@ -31661,7 +32099,7 @@ static void f24(module *self, u64 p0, u64 p1, u64 p2, u64 p3, u64 p4, u64 p5, u6
     j1 = 2072ull;
     j0 += j1;
     j1 = 5ull;
-    i0 = f11(self, j0, j1); m = self->memory; if (NEVER(self->is_broken)) return;
+    i0 = f12(self, j0, j1); m = self->memory; if (NEVER(self->is_broken)) return;
     i0 = !(i0);
     if (i0) {goto B86;}
     j0 = p1;
@@ -31714,7 +32152,7 @@ static void f24(module *self, u64 p0, u64 p1, u64 p2, u64 p3, u64 p4, u64 p5, u6
     j0 += j1;
     j1 = p1;
     i2 = l58;
-    f33(self, j0, j1, i2);
+    f34(self, j0, j1, i2);
     j0 = p6;
     i0 = (u32)(j0);
     i1 = 0u;
@@ -31816,7 +32254,7 @@ static void f24(module *self, u64 p0, u64 p1, u64 p2, u64 p3, u64 p4, u64 p5, u6
       j1 = 2072ull;
       j0 += j1;
       j1 = 5ull;
-      i0 = f11(self, j0, j1); m = self->memory; if (NEVER(self->is_broken)) return;
+      i0 = f12(self, j0, j1); m = self->memory; if (NEVER(self->is_broken)) return;
       i0 = !(i0);
       if (i0) {goto B90;}
       j0 = p1;
@@ -32075,7 +32513,7 @@ static void f24(module *self, u64 p0, u64 p1, u64 p2, u64 p3, u64 p4, u64 p5, u6
   j0 = p1;
   i1 = 5u;
   i2 = 0u;
-  f34(self, j0, i1, i2); m = self->memory; if (NEVER(self->is_broken)) return;
+  f35(self, j0, i1, i2); m = self->memory; if (NEVER(self->is_broken)) return;
   B80:;
   i0 = l40;
   i1 = 4294967040u;
@@ -32085,7 +32523,7 @@ static void f24(module *self, u64 p0, u64 p1, u64 p2, u64 p3, u64 p4, u64 p5, u6
   j3 = l7;
   j4 = 184ull;
   j3 += j4;
-  i1 = f35(self, j1, i2, j3); if (NEVER(self->is_broken)) return;
+  i1 = f36(self, j1, i2, j3); if (NEVER(self->is_broken)) return;
   i2 = 255u;
   i1 &= i2;
   i0 |= i1;
@@ -32165,7 +32603,7 @@ static void f24(module *self, u64 p0, u64 p1, u64 p2, u64 p3, u64 p4, u64 p5, u6
     i3 = l24;
     i4 = l58;
     i5 = l18;
-    f36(self, j0, j1, i2, i3, i4, i5); m = self->memory; if (NEVER(self->is_broken)) return;
+    f37(self, j0, j1, i2, i3, i4, i5); m = self->memory; if (NEVER(self->is_broken)) return;
     i0 = l27;
     i1 = 1u;
     i0 += i1;
@@ -32238,7 +32676,7 @@ static void f24(module *self, u64 p0, u64 p1, u64 p2, u64 p3, u64 p4, u64 p5, u6
   j0 = p1;
   i1 = l58;
   i2 = l28;
-  f37(self, j0, i1, i2); m = self->memory; if (NEVER(self->is_broken)) return;
+  f38(self, j0, i1, i2); m = self->memory; if (NEVER(self->is_broken)) return;
   goto B47;
   B101:;
   j0 = p1;
@@ -32248,7 +32686,7 @@ static void f24(module *self, u64 p0, u64 p1, u64 p2, u64 p3, u64 p4, u64 p5, u6
   i4 = 7u;
   i3 &= i4;
   i2 >>= (i3 & 31);
-  f34(self, j0, i1, i2); m = self->memory; if (NEVER(self->is_broken)) return;
+  f35(self, j0, i1, i2); m = self->memory; if (NEVER(self->is_broken)) return;
   i0 = l28;
   i1 = 4294967295u;
   i0 = (u32)((s32)i0 > (s32)i1);
@@ -32256,7 +32694,7 @@ static void f24(module *self, u64 p0, u64 p1, u64 p2, u64 p3, u64 p4, u64 p5, u6
   j0 = p1;
   i1 = 3u;
   i2 = 24u;
-  f34(self, j0, i1, i2); m = self->memory; if (NEVER(self->is_broken)) return;
+  f35(self, j0, i1, i2); m = self->memory; if (NEVER(self->is_broken)) return;
   B102:;
   j0 = p1;
   j1 = 2096ull;
@@ -32305,7 +32743,7 @@ static void f24(module *self, u64 p0, u64 p1, u64 p2, u64 p3, u64 p4, u64 p5, u6
   j1 = 2072ull;
   j0 += j1;
   j1 = 5ull;
-  i0 = f11(self, j0, j1); m = self->memory; if (NEVER(self->is_broken)) return;
+  i0 = f12(self, j0, j1); m = self->memory; if (NEVER(self->is_broken)) return;
   i0 = !(i0);
   if (i0) {goto B103;}
   j0 = p1;
@@ -32358,19 +32796,19 @@ static void f24(module *self, u64 p0, u64 p1, u64 p2, u64 p3, u64 p4, u64 p5, u6
   j0 += j1;
   j1 = p1;
   i2 = l58;
-  f33(self, j0, j1, i2);
+  f34(self, j0, j1, i2);
   j0 = p1;
   i1 = 5u;
   i2 = 2u;
-  f34(self, j0, i1, i2); m = self->memory; if (NEVER(self->is_broken)) return;
+  f35(self, j0, i1, i2); m = self->memory; if (NEVER(self->is_broken)) return;
   j0 = p1;
   i1 = l58;
   i2 = l28;
-  f37(self, j0, i1, i2); m = self->memory; if (NEVER(self->is_broken)) return;
+  f38(self, j0, i1, i2); m = self->memory; if (NEVER(self->is_broken)) return;
   j0 = p1;
   i1 = 5u;
   i2 = 0u;
-  f34(self, j0, i1, i2); m = self->memory; if (NEVER(self->is_broken)) return;
+  f35(self, j0, i1, i2); m = self->memory; if (NEVER(self->is_broken)) return;
   i0 = l28;
   i1 = 4294967295u;
   i0 = (u32)((s32)i0 > (s32)i1);
@@ -32378,12 +32816,12 @@ static void f24(module *self, u64 p0, u64 p1, u64 p2, u64 p3, u64 p4, u64 p5, u6
   j0 = p1;
   i1 = 3u;
   i2 = 0u;
-  f34(self, j0, i1, i2); m = self->memory; if (NEVER(self->is_broken)) return;
+  f35(self, j0, i1, i2); m = self->memory; if (NEVER(self->is_broken)) return;
   B105:;
   j0 = p1;
   i1 = 8u;
   i2 = 255u;
-  f34(self, j0, i1, i2); m = self->memory; if (NEVER(self->is_broken)) return;
+  f35(self, j0, i1, i2); m = self->memory; if (NEVER(self->is_broken)) return;
   goto B47;
   B60:;
   j0 = p2;
@@ -32490,7 +32928,7 @@ static void f24(module *self, u64 p0, u64 p1, u64 p2, u64 p3, u64 p4, u64 p5, u6
   j1 = 2072ull;
   j0 += j1;
   j1 = 5ull;
-  i0 = f11(self, j0, j1); m = self->memory; if (NEVER(self->is_broken)) return;
+  i0 = f12(self, j0, j1); m = self->memory; if (NEVER(self->is_broken)) return;
   i0 = !(i0);
   if (i0) {goto B110;}
   j0 = p1;
@@ -32543,7 +32981,7 @@ static void f24(module *self, u64 p0, u64 p1, u64 p2, u64 p3, u64 p4, u64 p5, u6
   j0 += j1;
   j1 = p1;
   i2 = l58;
-  f33(self, j0, j1, i2);
+  f34(self, j0, j1, i2);
   i0 = 4294967295u;
   j1 = l7;
   i1 = (u32)(j1);
@@ -32558,7 +32996,7 @@ static void f24(module *self, u64 p0, u64 p1, u64 p2, u64 p3, u64 p4, u64 p5, u6
   j0 = p1;
   i1 = 4u;
   i2 = 0u;
-  f34(self, j0, i1, i2); m = self->memory; if (NEVER(self->is_broken)) return;
+  f35(self, j0, i1, i2); m = self->memory; if (NEVER(self->is_broken)) return;
   j0 = p1;
   j1 = 2096ull;
   j0 += j1;
@@ -32606,7 +33044,7 @@ static void f24(module *self, u64 p0, u64 p1, u64 p2, u64 p3, u64 p4, u64 p5, u6
   j1 = 2072ull;
   j0 += j1;
   j1 = 5ull;
-  i0 = f11(self, j0, j1); m = self->memory; if (NEVER(self->is_broken)) return;
+  i0 = f12(self, j0, j1); m = self->memory; if (NEVER(self->is_broken)) return;
   i0 = !(i0);
   if (i0) {goto B112;}
   j0 = p1;
@@ -32659,7 +33097,7 @@ static void f24(module *self, u64 p0, u64 p1, u64 p2, u64 p3, u64 p4, u64 p5, u6
   j0 += j1;
   j1 = p1;
   i2 = l58;
-  f33(self, j0, j1, i2);
+  f34(self, j0, j1, i2);
   j0 = l7;
   i0 = (u32)(j0);
   i0 = i32_load8_u(j0 + 121u);
@@ -32671,7 +33109,7 @@ static void f24(module *self, u64 p0, u64 p1, u64 p2, u64 p3, u64 p4, u64 p5, u6
   j0 = p1;
   i1 = 4u;
   i2 = 1u;
-  f34(self, j0, i1, i2); m = self->memory; if (NEVER(self->is_broken)) return;
+  f35(self, j0, i1, i2); m = self->memory; if (NEVER(self->is_broken)) return;
   j0 = l8;
   i0 = (u32)(j0);
   j0 = i64_load(j0);
@@ -32718,7 +33156,7 @@ static void f24(module *self, u64 p0, u64 p1, u64 p2, u64 p3, u64 p4, u64 p5, u6
   j1 = 2072ull;
   j0 += j1;
   j1 = 5ull;
-  i0 = f11(self, j0, j1); m = self->memory; if (NEVER(self->is_broken)) return;
+  i0 = f12(self, j0, j1); m = self->memory; if (NEVER(self->is_broken)) return;
   i0 = !(i0);
   if (i0) {goto B114;}
   j0 = p1;
@@ -32771,7 +33209,7 @@ static void f24(module *self, u64 p0, u64 p1, u64 p2, u64 p3, u64 p4, u64 p5, u6
   j0 += j1;
   j1 = p1;
   i2 = l58;
-  f33(self, j0, j1, i2);
+  f34(self, j0, j1, i2);
   j0 = l7;
   i0 = (u32)(j0);
   i0 = i32_load8_u(j0 + 113u);
@@ -32783,7 +33221,7 @@ static void f24(module *self, u64 p0, u64 p1, u64 p2, u64 p3, u64 p4, u64 p5, u6
   j0 = p1;
   i1 = 4u;
   i2 = 2u;
-  f34(self, j0, i1, i2); m = self->memory; if (NEVER(self->is_broken)) return;
+  f35(self, j0, i1, i2); m = self->memory; if (NEVER(self->is_broken)) return;
   j0 = p1;
   j1 = 2096ull;
   j0 += j1;
@@ -32831,7 +33269,7 @@ static void f24(module *self, u64 p0, u64 p1, u64 p2, u64 p3, u64 p4, u64 p5, u6
   j1 = 2072ull;
   j0 += j1;
   j1 = 5ull;
-  i0 = f11(self, j0, j1); m = self->memory; if (NEVER(self->is_broken)) return;
+  i0 = f12(self, j0, j1); m = self->memory; if (NEVER(self->is_broken)) return;
   i0 = !(i0);
   if (i0) {goto B116;}
   j0 = p1;
@@ -32884,7 +33322,7 @@ static void f24(module *self, u64 p0, u64 p1, u64 p2, u64 p3, u64 p4, u64 p5, u6
   j0 += j1;
   j1 = p1;
   i2 = l58;
-  f33(self, j0, j1, i2);
+  f34(self, j0, j1, i2);
   j0 = l7;
   i0 = (u32)(j0);
   i0 = i32_load8_u(j0 + 105u);
@@ -32896,7 +33334,7 @@ static void f24(module *self, u64 p0, u64 p1, u64 p2, u64 p3, u64 p4, u64 p5, u6
   j0 = p1;
   i1 = 4u;
   i2 = 3u;
-  f34(self, j0, i1, i2); m = self->memory; if (NEVER(self->is_broken)) return;
+  f35(self, j0, i1, i2); m = self->memory; if (NEVER(self->is_broken)) return;
   j0 = l8;
   i0 = (u32)(j0);
   j0 = i64_load(j0);
@@ -32943,7 +33381,7 @@ static void f24(module *self, u64 p0, u64 p1, u64 p2, u64 p3, u64 p4, u64 p5, u6
   j1 = 2072ull;
   j0 += j1;
   j1 = 5ull;
-  i0 = f11(self, j0, j1); m = self->memory; if (NEVER(self->is_broken)) return;
+  i0 = f12(self, j0, j1); m = self->memory; if (NEVER(self->is_broken)) return;
   i0 = !(i0);
   if (i0) {goto B118;}
   j0 = p1;
@@ -32996,7 +33434,7 @@ static void f24(module *self, u64 p0, u64 p1, u64 p2, u64 p3, u64 p4, u64 p5, u6
   j0 += j1;
   j1 = p1;
   i2 = l58;
-  f33(self, j0, j1, i2);
+  f34(self, j0, j1, i2);
   j0 = l7;
   i0 = (u32)(j0);
   i0 = i32_load8_u(j0 + 97u);
@@ -33008,7 +33446,7 @@ static void f24(module *self, u64 p0, u64 p1, u64 p2, u64 p3, u64 p4, u64 p5, u6
   j0 = p1;
   i1 = 4u;
   i2 = 0u;
-  f34(self, j0, i1, i2); m = self->memory; if (NEVER(self->is_broken)) return;
+  f35(self, j0, i1, i2); m = self->memory; if (NEVER(self->is_broken)) return;
   i0 = 4294967295u;
   i1 = l18;
   i2 = l24;
@@ -33135,12 +33573,12 @@ static void f24(module *self, u64 p0, u64 p1, u64 p2, u64 p3, u64 p4, u64 p5, u6
   i4 = l18;
   i5 = l73;
   i6 = 0u;
-  i1 = f38(self, j1, j2, i3, i4, i5, i6); m = self->memory; if (NEVER(self->is_broken)) return;
+  i1 = f39(self, j1, j2, i3, i4, i5, i6); m = self->memory; if (NEVER(self->is_broken)) return;
   i32_store16(j0, i1);
   j0 = p1;
   j1 = p2;
   i2 = l58;
-  f31(self, j0, j1, i2); m = self->memory; if (NEVER(self->is_broken)) return;
+  f32(self, j0, j1, i2); m = self->memory; if (NEVER(self->is_broken)) return;
   goto B47;
   B58:;
   j0 = p2;
@@ -33201,14 +33639,14 @@ static void f24(module *self, u64 p0, u64 p1, u64 p2, u64 p3, u64 p4, u64 p5, u6
   i1 = l27;
   i2 = l59;
   i3 = l58;
-  f39(self, j0, i1, i2, i3); m = self->memory; if (NEVER(self->is_broken)) return;
+  f40(self, j0, i1, i2, i3); m = self->memory; if (NEVER(self->is_broken)) return;
   goto B47;
   B129:;
   j0 = p1;
   i1 = l27;
   i2 = 17u;
   i3 = l59;
-  f39(self, j0, i1, i2, i3); m = self->memory; if (NEVER(self->is_broken)) return;
+  f40(self, j0, i1, i2, i3); m = self->memory; if (NEVER(self->is_broken)) return;
   goto B47;
   B128:;
   i0 = l27;
@@ -33262,7 +33700,7 @@ static void f24(module *self, u64 p0, u64 p1, u64 p2, u64 p3, u64 p4, u64 p5, u6
   j1 = 2072ull;
   j0 += j1;
   j1 = 3ull;
-  i0 = f11(self, j0, j1); m = self->memory; if (NEVER(self->is_broken)) return;
+  i0 = f12(self, j0, j1); m = self->memory; if (NEVER(self->is_broken)) return;
   i0 = !(i0);
   if (i0) {goto B131;}
   j0 = p1;
@@ -33323,112 +33761,112 @@ static void f24(module *self, u64 p0, u64 p1, u64 p2, u64 p3, u64 p4, u64 p5, u6
   j0 += j1;
   j1 = p1;
   i2 = l58;
-  f25(self, j0, j1, i2); if (NEVER(self->is_broken)) return;
+  f26(self, j0, j1, i2); if (NEVER(self->is_broken)) return;
   j0 = p1;
   i1 = 0u;
   j2 = p5;
   i2 = (u32)(j2);
   i2 = i32_load8_u(j2);
-  f40(self, j0, i1, i2); m = self->memory; if (NEVER(self->is_broken)) return;
+  f41(self, j0, i1, i2); m = self->memory; if (NEVER(self->is_broken)) return;
   j0 = p1;
   i1 = 1u;
   j2 = p5;
   i2 = (u32)(j2);
   i2 = i32_load8_u(j2 + 1u);
-  f40(self, j0, i1, i2); m = self->memory; if (NEVER(self->is_broken)) return;
+  f41(self, j0, i1, i2); m = self->memory; if (NEVER(self->is_broken)) return;
   j0 = p1;
   i1 = 2u;
   j2 = p5;
   i2 = (u32)(j2);
   i2 = i32_load8_u(j2 + 2u);
-  f40(self, j0, i1, i2); m = self->memory; if (NEVER(self->is_broken)) return;
+  f41(self, j0, i1, i2); m = self->memory; if (NEVER(self->is_broken)) return;
   j0 = p1;
   i1 = 3u;
   j2 = p5;
   i2 = (u32)(j2);
   i2 = i32_load8_u(j2 + 3u);
-  f40(self, j0, i1, i2); m = self->memory; if (NEVER(self->is_broken)) return;
+  f41(self, j0, i1, i2); m = self->memory; if (NEVER(self->is_broken)) return;
   j0 = p1;
   i1 = 4u;
   j2 = p5;
   i2 = (u32)(j2);
   i2 = i32_load8_u(j2 + 4u);
-  f40(self, j0, i1, i2); m = self->memory; if (NEVER(self->is_broken)) return;
+  f41(self, j0, i1, i2); m = self->memory; if (NEVER(self->is_broken)) return;
   j0 = p1;
   i1 = 5u;
   j2 = p5;
   i2 = (u32)(j2);
   i2 = i32_load8_u(j2 + 5u);
-  f40(self, j0, i1, i2); m = self->memory; if (NEVER(self->is_broken)) return;
+  f41(self, j0, i1, i2); m = self->memory; if (NEVER(self->is_broken)) return;
   j0 = p1;
   i1 = 6u;
   j2 = p5;
   i2 = (u32)(j2);
   i2 = i32_load8_u(j2 + 6u);
-  f40(self, j0, i1, i2); m = self->memory; if (NEVER(self->is_broken)) return;
+  f41(self, j0, i1, i2); m = self->memory; if (NEVER(self->is_broken)) return;
   j0 = p1;
   i1 = 7u;
   j2 = p5;
   i2 = (u32)(j2);
   i2 = i32_load8_u(j2 + 7u);
-  f40(self, j0, i1, i2); m = self->memory; if (NEVER(self->is_broken)) return;
+  f41(self, j0, i1, i2); m = self->memory; if (NEVER(self->is_broken)) return;
   j0 = p1;
   i1 = 8u;
   j2 = p5;
   i2 = (u32)(j2);
   i2 = i32_load8_u(j2 + 8u);
-  f40(self, j0, i1, i2); m = self->memory; if (NEVER(self->is_broken)) return;
+  f41(self, j0, i1, i2); m = self->memory; if (NEVER(self->is_broken)) return;
   j0 = p1;
   i1 = 9u;
   j2 = p5;
   i2 = (u32)(j2);
   i2 = i32_load8_u(j2 + 9u);
-  f40(self, j0, i1, i2); m = self->memory; if (NEVER(self->is_broken)) return;
+  f41(self, j0, i1, i2); m = self->memory; if (NEVER(self->is_broken)) return;
   j0 = p1;
   i1 = 10u;
   j2 = p5;
   i2 = (u32)(j2);
   i2 = i32_load8_u(j2 + 10u);
-  f40(self, j0, i1, i2); m = self->memory; if (NEVER(self->is_broken)) return;
+  f41(self, j0, i1, i2); m = self->memory; if (NEVER(self->is_broken)) return;
   j0 = p1;
   i1 = 11u;
   j2 = p5;
   i2 = (u32)(j2);
   i2 = i32_load8_u(j2 + 11u);
-  f40(self, j0, i1, i2); m = self->memory; if (NEVER(self->is_broken)) return;
+  f41(self, j0, i1, i2); m = self->memory; if (NEVER(self->is_broken)) return;
   j0 = p1;
   i1 = 12u;
   j2 = p5;
   i2 = (u32)(j2);
   i2 = i32_load8_u(j2 + 12u);
-  f40(self, j0, i1, i2); m = self->memory; if (NEVER(self->is_broken)) return;
+  f41(self, j0, i1, i2); m = self->memory; if (NEVER(self->is_broken)) return;
   j0 = p1;
   i1 = 13u;
   j2 = p5;
   i2 = (u32)(j2);
   i2 = i32_load8_u(j2 + 13u);
-  f40(self, j0, i1, i2); m = self->memory; if (NEVER(self->is_broken)) return;
+  f41(self, j0, i1, i2); m = self->memory; if (NEVER(self->is_broken)) return;
   j0 = p1;
   i1 = 14u;
   j2 = p5;
   i2 = (u32)(j2);
   i2 = i32_load8_u(j2 + 14u);
-  f40(self, j0, i1, i2); m = self->memory; if (NEVER(self->is_broken)) return;
+  f41(self, j0, i1, i2); m = self->memory; if (NEVER(self->is_broken)) return;
   j0 = p1;
   i1 = 15u;
   j2 = p5;
   i2 = (u32)(j2);
   i2 = i32_load8_u(j2 + 15u);
-  f40(self, j0, i1, i2); m = self->memory; if (NEVER(self->is_broken)) return;
+  f41(self, j0, i1, i2); m = self->memory; if (NEVER(self->is_broken)) return;
   j0 = p1;
   i1 = 17u;
   j2 = p5;
   i2 = (u32)(j2);
   i2 = i32_load8_u(j2 + 16u);
-  f40(self, j0, i1, i2); m = self->memory; if (NEVER(self->is_broken)) return;
+  f41(self, j0, i1, i2); m = self->memory; if (NEVER(self->is_broken)) return;
   j0 = p1;
   i1 = l27;
-  f41(self, j0, i1); m = self->memory; if (NEVER(self->is_broken)) return;
+  f42(self, j0, i1); m = self->memory; if (NEVER(self->is_broken)) return;
   goto B47;
   B127:;
   i0 = l27;
@@ -33482,7 +33920,7 @@ static void f24(module *self, u64 p0, u64 p1, u64 p2, u64 p3, u64 p4, u64 p5, u6
   j1 = 2072ull;
   j0 += j1;
   j1 = 3ull;
-  i0 = f11(self, j0, j1); m = self->memory; if (NEVER(self->is_broken)) return;
+  i0 = f12(self, j0, j1); m = self->memory; if (NEVER(self->is_broken)) return;
   i0 = !(i0);
   if (i0) {goto B133;}
   j0 = p1;
@@ -33543,7 +33981,7 @@ static void f24(module *self, u64 p0, u64 p1, u64 p2, u64 p3, u64 p4, u64 p5, u6
   j0 += j1;
   j1 = p1;
   i2 = l58;
-  f25(self, j0, j1, i2); if (NEVER(self->is_broken)) return;
+  f26(self, j0, j1, i2); if (NEVER(self->is_broken)) return;
   j0 = l8;
   i0 = (u32)(j0);
   j0 = i64_load(j0);
@@ -33590,7 +34028,7 @@ static void f24(module *self, u64 p0, u64 p1, u64 p2, u64 p3, u64 p4, u64 p5, u6
   j1 = 2072ull;
   j0 += j1;
   j1 = 4ull;
-  i0 = f11(self, j0, j1); m = self->memory; if (NEVER(self->is_broken)) return;
+  i0 = f12(self, j0, j1); m = self->memory; if (NEVER(self->is_broken)) return;
   i0 = !(i0);
   if (i0) {goto B135;}
   j0 = p1;
@@ -33687,7 +34125,7 @@ static void f24(module *self, u64 p0, u64 p1, u64 p2, u64 p3, u64 p4, u64 p5, u6
   j1 = 184ull;
   j0 += j1;
   j1 = l8;
-  f22(self, j0, j1);
+  f23(self, j0, j1);
   j0 = p1;
   j1 = 196ull;
   j0 += j1;
@@ -33769,7 +34207,7 @@ static void f24(module *self, u64 p0, u64 p1, u64 p2, u64 p3, u64 p4, u64 p5, u6
   j1 = 2072ull;
   j0 += j1;
   j1 = 3ull;
-  i0 = f11(self, j0, j1); m = self->memory; if (NEVER(self->is_broken)) return;
+  i0 = f12(self, j0, j1); m = self->memory; if (NEVER(self->is_broken)) return;
   i0 = !(i0);
   if (i0) {goto B141;}
   j0 = p1;
@@ -33895,7 +34333,7 @@ static void f24(module *self, u64 p0, u64 p1, u64 p2, u64 p3, u64 p4, u64 p5, u6
   j1 = 2072ull;
   j0 += j1;
   j1 = 4ull;
-  i0 = f11(self, j0, j1); m = self->memory; if (NEVER(self->is_broken)) return;
+  i0 = f12(self, j0, j1); m = self->memory; if (NEVER(self->is_broken)) return;
   i0 = !(i0);
   if (i0) {goto B144;}
   j0 = p1;
@@ -33992,7 +34430,7 @@ static void f24(module *self, u64 p0, u64 p1, u64 p2, u64 p3, u64 p4, u64 p5, u6
   j1 = 184ull;
   j0 += j1;
   j1 = l8;
-  f22(self, j0, j1);
+  f23(self, j0, j1);
   j0 = p1;
   j1 = 196ull;
   j0 += j1;
@@ -34031,7 +34469,7 @@ static void f24(module *self, u64 p0, u64 p1, u64 p2, u64 p3, u64 p4, u64 p5, u6
   B146:;
   j0 = p1;
   i1 = l27;
-  f41(self, j0, i1); m = self->memory; if (NEVER(self->is_broken)) return;
+  f42(self, j0, i1); m = self->memory; if (NEVER(self->is_broken)) return;
   goto B47;
   B126:;
   i0 = l27;
@@ -34085,7 +34523,7 @@ static void f24(module *self, u64 p0, u64 p1, u64 p2, u64 p3, u64 p4, u64 p5, u6
   j1 = 2072ull;
   j0 += j1;
   j1 = 3ull;
-  i0 = f11(self, j0, j1); m = self->memory; if (NEVER(self->is_broken)) return;
+  i0 = f12(self, j0, j1); m = self->memory; if (NEVER(self->is_broken)) return;
   i0 = !(i0);
   if (i0) {goto B150;}
   j0 = p1;
@@ -34146,11 +34584,11 @@ static void f24(module *self, u64 p0, u64 p1, u64 p2, u64 p3, u64 p4, u64 p5, u6
   j0 += j1;
   j1 = p1;
   i2 = l58;
-  f25(self, j0, j1, i2); if (NEVER(self->is_broken)) return;
+  f26(self, j0, j1, i2); if (NEVER(self->is_broken)) return;
   j0 = p1;
   i1 = l27;
   i2 = l59;
-  i0 = f26(self, j0, i1, i2); m = self->memory; if (NEVER(self->is_broken)) return;
+  i0 = f27(self, j0, i1, i2); m = self->memory; if (NEVER(self->is_broken)) return;
   j0 = (u64)(i0);
   j1 = 255ull;
   j0 &= j1;
@@ -34214,7 +34652,7 @@ static void f24(module *self, u64 p0, u64 p1, u64 p2, u64 p3, u64 p4, u64 p5, u6
   j1 = 2072ull;
   j0 += j1;
   j1 = 3ull;
-  i0 = f11(self, j0, j1); m = self->memory; if (NEVER(self->is_broken)) return;
+  i0 = f12(self, j0, j1); m = self->memory; if (NEVER(self->is_broken)) return;
   i0 = !(i0);
   if (i0) {goto B152;}
   j0 = p1;
@@ -34275,11 +34713,11 @@ static void f24(module *self, u64 p0, u64 p1, u64 p2, u64 p3, u64 p4, u64 p5, u6
   j0 += j1;
   j1 = p1;
   i2 = l58;
-  f25(self, j0, j1, i2); if (NEVER(self->is_broken)) return;
+  f26(self, j0, j1, i2); if (NEVER(self->is_broken)) return;
   j0 = p1;
   i1 = l27;
   i2 = 17u;
-  i0 = f26(self, j0, i1, i2); m = self->memory; if (NEVER(self->is_broken)) return;
+  i0 = f27(self, j0, i1, i2); m = self->memory; if (NEVER(self->is_broken)) return;
   j0 = (u64)(i0);
   j1 = 255ull;
   j0 &= j1;
@@ -34354,7 +34792,7 @@ static void f24(module *self, u64 p0, u64 p1, u64 p2, u64 p3, u64 p4, u64 p5, u6
   j1 = 2072ull;
   j0 += j1;
   j1 = 4ull;
-  i0 = f11(self, j0, j1); m = self->memory; if (NEVER(self->is_broken)) return;
+  i0 = f12(self, j0, j1); m = self->memory; if (NEVER(self->is_broken)) return;
   i0 = !(i0);
   if (i0) {goto B156;}
   j0 = p1;
@@ -34464,7 +34902,7 @@ static void f24(module *self, u64 p0, u64 p1, u64 p2, u64 p3, u64 p4, u64 p5, u6
   j1 = 2072ull;
   j0 += j1;
   j1 = 4ull;
-  i0 = f11(self, j0, j1); m = self->memory; if (NEVER(self->is_broken)) return;
+  i0 = f12(self, j0, j1); m = self->memory; if (NEVER(self->is_broken)) return;
   i0 = !(i0);
   if (i0) {goto B158;}
   j0 = p1;
@@ -34663,7 +35101,7 @@ static void f24(module *self, u64 p0, u64 p1, u64 p2, u64 p3, u64 p4, u64 p5, u6
   j1 = 2072ull;
   j0 += j1;
   j1 = 4ull;
-  i0 = f11(self, j0, j1); m = self->memory; if (NEVER(self->is_broken)) return;
+  i0 = f12(self, j0, j1); m = self->memory; if (NEVER(self->is_broken)) return;
   i0 = !(i0);
   if (i0) {goto B162;}
   j0 = p1;
@@ -34932,7 +35370,7 @@ static void f24(module *self, u64 p0, u64 p1, u64 p2, u64 p3, u64 p4, u64 p5, u6
     j1 = 2072ull;
     j0 += j1;
     j1 = 4ull;
-    i0 = f11(self, j0, j1); m = self->memory; if (NEVER(self->is_broken)) return;
+    i0 = f12(self, j0, j1); m = self->memory; if (NEVER(self->is_broken)) return;
     i0 = !(i0);
     if (i0) {goto B172;}
     j0 = p1;
@@ -35173,7 +35611,7 @@ static void f24(module *self, u64 p0, u64 p1, u64 p2, u64 p3, u64 p4, u64 p5, u6
   j1 = 2072ull;
   j0 += j1;
   j1 = 4ull;
-  i0 = f11(self, j0, j1); m = self->memory; if (NEVER(self->is_broken)) return;
+  i0 = f12(self, j0, j1); m = self->memory; if (NEVER(self->is_broken)) return;
   i0 = !(i0);
   if (i0) {goto B180;}
   j0 = p1;
@@ -35284,7 +35722,7 @@ static void f24(module *self, u64 p0, u64 p1, u64 p2, u64 p3, u64 p4, u64 p5, u6
   j1 = 2072ull;
   j0 += j1;
   j1 = 3ull;
-  i0 = f11(self, j0, j1); m = self->memory; if (NEVER(self->is_broken)) return;
+  i0 = f12(self, j0, j1); m = self->memory; if (NEVER(self->is_broken)) return;
   i0 = !(i0);
   if (i0) {goto B182;}
   j0 = p1;
@@ -35431,7 +35869,7 @@ static void f24(module *self, u64 p0, u64 p1, u64 p2, u64 p3, u64 p4, u64 p5, u6
   j1 = 2072ull;
   j0 += j1;
   j1 = 4ull;
-  i0 = f11(self, j0, j1); m = self->memory; if (NEVER(self->is_broken)) return;
+  i0 = f12(self, j0, j1); m = self->memory; if (NEVER(self->is_broken)) return;
   i0 = !(i0);
   if (i0) {goto B186;}
   j0 = p1;
@@ -35533,7 +35971,7 @@ static void f24(module *self, u64 p0, u64 p1, u64 p2, u64 p3, u64 p4, u64 p5, u6
   j1 = 2072ull;
   j0 += j1;
   j1 = 3ull;
-  i0 = f11(self, j0, j1); m = self->memory; if (NEVER(self->is_broken)) return;
+  i0 = f12(self, j0, j1); m = self->memory; if (NEVER(self->is_broken)) return;
   i0 = !(i0);
   if (i0) {goto B188;}
   j0 = p1;
@@ -35668,7 +36106,7 @@ static void f24(module *self, u64 p0, u64 p1, u64 p2, u64 p3, u64 p4, u64 p5, u6
     i4 = (u32)(j4);
     i4 = i32_load8_u(j4);
     i5 = 1u;
-    i0 = f38(self, j0, j1, i2, i3, i4, i5); m = self->memory; if (NEVER(self->is_broken)) return;
+    i0 = f39(self, j0, j1, i2, i3, i4, i5); m = self->memory; if (NEVER(self->is_broken)) return;
     l58 = i0;
     j0 = p6;
     j1 = 2ull;
@@ -35697,7 +36135,7 @@ static void f24(module *self, u64 p0, u64 p1, u64 p2, u64 p3, u64 p4, u64 p5, u6
     i3 = i32_load8_u(j3);
     i4 = l28;
     i5 = 1u;
-    i0 = f38(self, j0, j1, i2, i3, i4, i5); m = self->memory; if (NEVER(self->is_broken)) return;
+    i0 = f39(self, j0, j1, i2, i3, i4, i5); m = self->memory; if (NEVER(self->is_broken)) return;
     l58 = i0;
     j0 = p5;
     j1 = 1ull;
@@ -35732,7 +36170,7 @@ static void f24(module *self, u64 p0, u64 p1, u64 p2, u64 p3, u64 p4, u64 p5, u6
   j0 = p1;
   j1 = p2;
   i2 = l73;
-  f31(self, j0, j1, i2); m = self->memory; if (NEVER(self->is_broken)) return;
+  f32(self, j0, j1, i2); m = self->memory; if (NEVER(self->is_broken)) return;
   goto B47;
   B54:;
   j0 = l7;
@@ -35811,7 +36249,7 @@ static void f24(module *self, u64 p0, u64 p1, u64 p2, u64 p3, u64 p4, u64 p5, u6
   j1 = 2072ull;
   j0 += j1;
   j1 = 3ull;
-  i0 = f11(self, j0, j1); m = self->memory; if (NEVER(self->is_broken)) return;
+  i0 = f12(self, j0, j1); m = self->memory; if (NEVER(self->is_broken)) return;
   i0 = !(i0);
   if (i0) {goto B195;}
   j0 = p1;
@@ -35982,7 +36420,7 @@ static void f24(module *self, u64 p0, u64 p1, u64 p2, u64 p3, u64 p4, u64 p5, u6
   j1 = 2072ull;
   j0 += j1;
   j1 = 3ull;
-  i0 = f11(self, j0, j1); m = self->memory; if (NEVER(self->is_broken)) return;
+  i0 = f12(self, j0, j1); m = self->memory; if (NEVER(self->is_broken)) return;
   i0 = !(i0);
   if (i0) {goto B202;}
   j0 = p1;
@@ -36188,7 +36626,7 @@ static void f24(module *self, u64 p0, u64 p1, u64 p2, u64 p3, u64 p4, u64 p5, u6
   j1 = 2072ull;
   j0 += j1;
   j1 = 4ull;
-  i0 = f11(self, j0, j1); m = self->memory; if (NEVER(self->is_broken)) return;
+  i0 = f12(self, j0, j1); m = self->memory; if (NEVER(self->is_broken)) return;
   i0 = !(i0);
   if (i0) {goto B209;}
   j0 = p1;
@@ -36412,7 +36850,7 @@ static void f24(module *self, u64 p0, u64 p1, u64 p2, u64 p3, u64 p4, u64 p5, u6
   j1 = 2072ull;
   j0 += j1;
   j1 = 4ull;
-  i0 = f11(self, j0, j1); m = self->memory; if (NEVER(self->is_broken)) return;
+  i0 = f12(self, j0, j1); m = self->memory; if (NEVER(self->is_broken)) return;
   i0 = !(i0);
   if (i0) {goto B216;}
   j0 = p1;
@@ -37048,7 +37486,7 @@ static void f24(module *self, u64 p0, u64 p1, u64 p2, u64 p3, u64 p4, u64 p5, u6
   j1 = 2072ull;
   j0 += j1;
   j1 = 4ull;
-  i0 = f11(self, j0, j1); m = self->memory; if (NEVER(self->is_broken)) return;
+  i0 = f12(self, j0, j1); m = self->memory; if (NEVER(self->is_broken)) return;
   i0 = !(i0);
   if (i0) {goto B221;}
   j0 = p1;
@@ -37195,7 +37633,7 @@ static void f24(module *self, u64 p0, u64 p1, u64 p2, u64 p3, u64 p4, u64 p5, u6
     j1 = 2072ull;
     j0 += j1;
     j1 = 4ull;
-    i0 = f11(self, j0, j1); m = self->memory; if (NEVER(self->is_broken)) return;
+    i0 = f12(self, j0, j1); m = self->memory; if (NEVER(self->is_broken)) return;
     i0 = !(i0);
     if (i0) {goto B227;}
     j0 = p1;
@@ -37297,7 +37735,7 @@ static void f24(module *self, u64 p0, u64 p1, u64 p2, u64 p3, u64 p4, u64 p5, u6
     j1 = 2072ull;
     j0 += j1;
     j1 = 4ull;
-    i0 = f11(self, j0, j1); m = self->memory; if (NEVER(self->is_broken)) return;
+    i0 = f12(self, j0, j1); m = self->memory; if (NEVER(self->is_broken)) return;
     i0 = !(i0);
     if (i0) {goto B229;}
     j0 = p1;
@@ -37462,7 +37900,7 @@ static void f24(module *self, u64 p0, u64 p1, u64 p2, u64 p3, u64 p4, u64 p5, u6
   j0 = p1;
   i1 = l24;
   i2 = 17u;
-  f28(self, j0, i1, i2); m = self->memory; if (NEVER(self->is_broken)) return;
+  f29(self, j0, i1, i2); m = self->memory; if (NEVER(self->is_broken)) return;
   j0 = p1;
   i1 = l24;
   i2 = 1u;
@@ -37471,7 +37909,7 @@ static void f24(module *self, u64 p0, u64 p1, u64 p2, u64 p3, u64 p4, u64 p5, u6
   i2 = l46;
   i3 = 15u;
   i2 &= i3;
-  f28(self, j0, i1, i2); m = self->memory; if (NEVER(self->is_broken)) return;
+  f29(self, j0, i1, i2); m = self->memory; if (NEVER(self->is_broken)) return;
   j0 = 0ull;
   l8 = j0;
   L232: 
@@ -37485,11 +37923,11 @@ static void f24(module *self, u64 p0, u64 p1, u64 p2, u64 p3, u64 p4, u64 p5, u6
     i1 = l24;
     j2 = l8;
     i2 = (u32)(j2);
-    f28(self, j0, i1, i2); m = self->memory; if (NEVER(self->is_broken)) return;
+    f29(self, j0, i1, i2); m = self->memory; if (NEVER(self->is_broken)) return;
     j0 = p1;
     i1 = l27;
     i2 = l58;
-    f28(self, j0, i1, i2); m = self->memory; if (NEVER(self->is_broken)) return;
+    f29(self, j0, i1, i2); m = self->memory; if (NEVER(self->is_broken)) return;
     j0 = l8;
     j1 = 1ull;
     j0 += j1;
@@ -37577,7 +38015,7 @@ static void f24(module *self, u64 p0, u64 p1, u64 p2, u64 p3, u64 p4, u64 p5, u6
     j1 = 2072ull;
     j0 += j1;
     j1 = 4ull;
-    i0 = f11(self, j0, j1); m = self->memory; if (NEVER(self->is_broken)) return;
+    i0 = f12(self, j0, j1); m = self->memory; if (NEVER(self->is_broken)) return;
     i0 = !(i0);
     if (i0) {goto B237;}
     j0 = p1;
@@ -37679,7 +38117,7 @@ static void f24(module *self, u64 p0, u64 p1, u64 p2, u64 p3, u64 p4, u64 p5, u6
     j1 = 2072ull;
     j0 += j1;
     j1 = 4ull;
-    i0 = f11(self, j0, j1); m = self->memory; if (NEVER(self->is_broken)) return;
+    i0 = f12(self, j0, j1); m = self->memory; if (NEVER(self->is_broken)) return;
     i0 = !(i0);
     if (i0) {goto B239;}
     j0 = p1;
@@ -37948,7 +38386,7 @@ static void f24(module *self, u64 p0, u64 p1, u64 p2, u64 p3, u64 p4, u64 p5, u6
   j1 = 2072ull;
   j0 += j1;
   j1 = 3ull;
-  i0 = f11(self, j0, j1); m = self->memory; if (NEVER(self->is_broken)) return;
+  i0 = f12(self, j0, j1); m = self->memory; if (NEVER(self->is_broken)) return;
   i0 = !(i0);
   if (i0) {goto B243;}
   j0 = p1;
@@ -38005,94 +38443,94 @@ static void f24(module *self, u64 p0, u64 p1, u64 p2, u64 p3, u64 p4, u64 p5, u6
   j0 += j1;
   j1 = p1;
   i2 = l58;
-  f25(self, j0, j1, i2); if (NEVER(self->is_broken)) return;
+  f26(self, j0, j1, i2); if (NEVER(self->is_broken)) return;
   j0 = p1;
   i1 = 0u;
   i2 = 0u;
-  f40(self, j0, i1, i2); m = self->memory; if (NEVER(self->is_broken)) return;
+  f41(self, j0, i1, i2); m = self->memory; if (NEVER(self->is_broken)) return;
   j0 = p1;
   i1 = 1u;
   i2 = l21;
-  f40(self, j0, i1, i2); m = self->memory; if (NEVER(self->is_broken)) return;
+  f41(self, j0, i1, i2); m = self->memory; if (NEVER(self->is_broken)) return;
   j0 = p1;
   i1 = 2u;
   i2 = l57;
-  f40(self, j0, i1, i2); m = self->memory; if (NEVER(self->is_broken)) return;
+  f41(self, j0, i1, i2); m = self->memory; if (NEVER(self->is_broken)) return;
   j0 = p1;
   i1 = 3u;
   i2 = l68;
-  f40(self, j0, i1, i2); m = self->memory; if (NEVER(self->is_broken)) return;
+  f41(self, j0, i1, i2); m = self->memory; if (NEVER(self->is_broken)) return;
   j0 = p1;
   i1 = 4u;
   i2 = l18;
-  f40(self, j0, i1, i2); m = self->memory; if (NEVER(self->is_broken)) return;
+  f41(self, j0, i1, i2); m = self->memory; if (NEVER(self->is_broken)) return;
   j0 = p1;
   i1 = 5u;
   i2 = l40;
-  f40(self, j0, i1, i2); m = self->memory; if (NEVER(self->is_broken)) return;
+  f41(self, j0, i1, i2); m = self->memory; if (NEVER(self->is_broken)) return;
   j0 = p1;
   i1 = 6u;
   i2 = l39;
-  f40(self, j0, i1, i2); m = self->memory; if (NEVER(self->is_broken)) return;
+  f41(self, j0, i1, i2); m = self->memory; if (NEVER(self->is_broken)) return;
   j0 = p1;
   i1 = 7u;
   i2 = l38;
-  f40(self, j0, i1, i2); m = self->memory; if (NEVER(self->is_broken)) return;
+  f41(self, j0, i1, i2); m = self->memory; if (NEVER(self->is_broken)) return;
   j0 = p1;
   i1 = 8u;
   i2 = l37;
-  f40(self, j0, i1, i2); m = self->memory; if (NEVER(self->is_broken)) return;
+  f41(self, j0, i1, i2); m = self->memory; if (NEVER(self->is_broken)) return;
   j0 = p1;
   i1 = 9u;
   i2 = l36;
-  f40(self, j0, i1, i2); m = self->memory; if (NEVER(self->is_broken)) return;
+  f41(self, j0, i1, i2); m = self->memory; if (NEVER(self->is_broken)) return;
   j0 = p1;
   i1 = 10u;
   i2 = l35;
-  f40(self, j0, i1, i2); m = self->memory; if (NEVER(self->is_broken)) return;
+  f41(self, j0, i1, i2); m = self->memory; if (NEVER(self->is_broken)) return;
   j0 = p1;
   i1 = 11u;
   i2 = l34;
-  f40(self, j0, i1, i2); m = self->memory; if (NEVER(self->is_broken)) return;
+  f41(self, j0, i1, i2); m = self->memory; if (NEVER(self->is_broken)) return;
   j0 = p1;
   i1 = 12u;
   i2 = l33;
-  f40(self, j0, i1, i2); m = self->memory; if (NEVER(self->is_broken)) return;
+  f41(self, j0, i1, i2); m = self->memory; if (NEVER(self->is_broken)) return;
   j0 = p1;
   i1 = 13u;
   i2 = l32;
-  f40(self, j0, i1, i2); m = self->memory; if (NEVER(self->is_broken)) return;
+  f41(self, j0, i1, i2); m = self->memory; if (NEVER(self->is_broken)) return;
   j0 = p1;
   i1 = 14u;
   i2 = l31;
-  f40(self, j0, i1, i2); m = self->memory; if (NEVER(self->is_broken)) return;
+  f41(self, j0, i1, i2); m = self->memory; if (NEVER(self->is_broken)) return;
   j0 = p1;
   i1 = 15u;
   i2 = l30;
-  f40(self, j0, i1, i2); m = self->memory; if (NEVER(self->is_broken)) return;
+  f41(self, j0, i1, i2); m = self->memory; if (NEVER(self->is_broken)) return;
   j0 = p1;
   i1 = 16u;
   i2 = l29;
-  f40(self, j0, i1, i2); m = self->memory; if (NEVER(self->is_broken)) return;
+  f41(self, j0, i1, i2); m = self->memory; if (NEVER(self->is_broken)) return;
   j0 = p1;
   i1 = 17u;
   i2 = 0u;
-  f40(self, j0, i1, i2); m = self->memory; if (NEVER(self->is_broken)) return;
+  f41(self, j0, i1, i2); m = self->memory; if (NEVER(self->is_broken)) return;
   j0 = p1;
   i1 = 18u;
   i2 = 15u;
-  f40(self, j0, i1, i2); m = self->memory; if (NEVER(self->is_broken)) return;
+  f41(self, j0, i1, i2); m = self->memory; if (NEVER(self->is_broken)) return;
   j0 = p1;
   i1 = 19u;
   i2 = l28;
-  f40(self, j0, i1, i2); m = self->memory; if (NEVER(self->is_broken)) return;
+  f41(self, j0, i1, i2); m = self->memory; if (NEVER(self->is_broken)) return;
   j0 = p1;
   i1 = 20u;
   i2 = 0u;
-  f40(self, j0, i1, i2); m = self->memory; if (NEVER(self->is_broken)) return;
+  f41(self, j0, i1, i2); m = self->memory; if (NEVER(self->is_broken)) return;
   j0 = p1;
   i1 = l24;
-  f41(self, j0, i1); m = self->memory; if (NEVER(self->is_broken)) return;
+  f42(self, j0, i1); m = self->memory; if (NEVER(self->is_broken)) return;
   j0 = l7;
   i0 = (u32)(j0);
   i1 = 0u;
@@ -38155,7 +38593,7 @@ static void f24(module *self, u64 p0, u64 p1, u64 p2, u64 p3, u64 p4, u64 p5, u6
   j1 = 2072ull;
   j0 += j1;
   j1 = 4ull;
-  i0 = f11(self, j0, j1); m = self->memory; if (NEVER(self->is_broken)) return;
+  i0 = f12(self, j0, j1); m = self->memory; if (NEVER(self->is_broken)) return;
   i0 = !(i0);
   if (i0) {goto B248;}
   j0 = p1;
@@ -38254,7 +38692,7 @@ static void f24(module *self, u64 p0, u64 p1, u64 p2, u64 p3, u64 p4, u64 p5, u6
   j1 = 2072ull;
   j0 += j1;
   j1 = 4ull;
-  i0 = f11(self, j0, j1); m = self->memory; if (NEVER(self->is_broken)) return;
+  i0 = f12(self, j0, j1); m = self->memory; if (NEVER(self->is_broken)) return;
   i0 = !(i0);
   if (i0) {goto B245;}
   j0 = p1;
@@ -38328,7 +38766,7 @@ static void f24(module *self, u64 p0, u64 p1, u64 p2, u64 p3, u64 p4, u64 p5, u6
     i1 = l73;
     i2 = l58;
     l27 = i2;
-    f42(self, j0, i1, i2); if (NEVER(self->is_broken)) return;
+    f43(self, j0, i1, i2); if (NEVER(self->is_broken)) return;
     j0 = l7;
     i0 = (u32)(j0);
     i0 = i32_load8_u(j0 + 306u);
@@ -38388,7 +38826,7 @@ static void f24(module *self, u64 p0, u64 p1, u64 p2, u64 p3, u64 p4, u64 p5, u6
     j1 = 2072ull;
     j0 += j1;
     j1 = 4ull;
-    i0 = f11(self, j0, j1); m = self->memory; if (NEVER(self->is_broken)) return;
+    i0 = f12(self, j0, j1); m = self->memory; if (NEVER(self->is_broken)) return;
     i0 = !(i0);
     if (i0) {goto B252;}
     j0 = p1;
@@ -38593,7 +39031,7 @@ static void f24(module *self, u64 p0, u64 p1, u64 p2, u64 p3, u64 p4, u64 p5, u6
     j1 = 2072ull;
     j0 += j1;
     j1 = 4ull;
-    i0 = f11(self, j0, j1); m = self->memory; if (NEVER(self->is_broken)) return;
+    i0 = f12(self, j0, j1); m = self->memory; if (NEVER(self->is_broken)) return;
     i0 = !(i0);
     if (i0) {goto B259;}
     j0 = p1;
@@ -38804,7 +39242,7 @@ static void f24(module *self, u64 p0, u64 p1, u64 p2, u64 p3, u64 p4, u64 p5, u6
     j1 = 2072ull;
     j0 += j1;
     j1 = 4ull;
-    i0 = f11(self, j0, j1); m = self->memory; if (NEVER(self->is_broken)) return;
+    i0 = f12(self, j0, j1); m = self->memory; if (NEVER(self->is_broken)) return;
     i0 = !(i0);
     if (i0) {goto B266;}
     j0 = p1;
@@ -38986,7 +39424,7 @@ static void f24(module *self, u64 p0, u64 p1, u64 p2, u64 p3, u64 p4, u64 p5, u6
   j2 = p3;
   j3 = 1048841ull;
   i4 = l56;
-  f27(self, j0, j1, j2, j3, i4); m = self->memory; if (NEVER(self->is_broken)) return;
+  f28(self, j0, j1, j2, j3, i4); m = self->memory; if (NEVER(self->is_broken)) return;
   i0 = l20;
   i1 = 1u;
   i0 &= i1;
@@ -39004,7 +39442,7 @@ static void f24(module *self, u64 p0, u64 p1, u64 p2, u64 p3, u64 p4, u64 p5, u6
     i5 = 1u;
     i4 &= i5;
     i2 = i4 ? i2 : i3;
-    f37(self, j0, i1, i2); m = self->memory; if (NEVER(self->is_broken)) return;
+    f38(self, j0, i1, i2); m = self->memory; if (NEVER(self->is_broken)) return;
     i0 = l58;
     i1 = 1u;
     i0 += i1;
@@ -39025,7 +39463,7 @@ static void f24(module *self, u64 p0, u64 p1, u64 p2, u64 p3, u64 p4, u64 p5, u6
     j0 = p1;
     i1 = l58;
     i2 = 0u;
-    f37(self, j0, i1, i2); m = self->memory; if (NEVER(self->is_broken)) return;
+    f38(self, j0, i1, i2); m = self->memory; if (NEVER(self->is_broken)) return;
     i0 = l58;
     i1 = 1u;
     i0 += i1;
@@ -39156,7 +39594,7 @@ static void f24(module *self, u64 p0, u64 p1, u64 p2, u64 p3, u64 p4, u64 p5, u6
   self->g0 = j0;
 }
 
-static void f25(module *self, u64 p0, u64 p1, u32 p2) {
+static void f26(module *self, u64 p0, u64 p1, u32 p2) {
   u32 l3 = 0, l4 = 0, l5 = 0, l6 = 0;
   u64 l7 = 0, l8 = 0;
   u8 *m = self->memory;
@@ -39605,7 +40043,7 @@ static void f25(module *self, u64 p0, u64 p1, u32 p2) {
   i32_store8(j0, i1);
 }
 
-static u32 f26(module *self, u64 p0, u32 p1, u32 p2) {
+static u32 f27(module *self, u64 p0, u32 p1, u32 p2) {
   u32 l11 = 0, l12 = 0, l13 = 0;
   u64 l3 = 0, l4 = 0, l5 = 0, l6 = 0, l7 = 0, l8 = 0, l9 = 0, l10 = 0;
   u8 *m = self->memory;
@@ -39667,7 +40105,7 @@ static u32 f26(module *self, u64 p0, u32 p1, u32 p2) {
   j1 = 2072ull;
   j0 += j1;
   j1 = 4ull;
-  i0 = f11(self, j0, j1); m = self->memory; if (NEVER(self->is_broken)) return ZAK_BROKEN;
+  i0 = f12(self, j0, j1); m = self->memory; if (NEVER(self->is_broken)) return ZAK_BROKEN;
   i0 = !(i0);
   if (i0) {goto B0;}
   j0 = p0;
@@ -39767,7 +40205,7 @@ static u32 f26(module *self, u64 p0, u32 p1, u32 p2) {
   j1 = 16ull;
   j0 += j1;
   j1 = l5;
-  f22(self, j0, j1);
+  f23(self, j0, j1);
   j0 = p0;
   j1 = 196ull;
   j0 += j1;
@@ -39851,7 +40289,7 @@ static u32 f26(module *self, u64 p0, u32 p1, u32 p2) {
   j1 = 2072ull;
   j0 += j1;
   j1 = 3ull;
-  i0 = f11(self, j0, j1); m = self->memory; if (NEVER(self->is_broken)) return ZAK_BROKEN;
+  i0 = f12(self, j0, j1); m = self->memory; if (NEVER(self->is_broken)) return ZAK_BROKEN;
   i0 = !(i0);
   if (i0) {goto B6;}
   j0 = p0;
@@ -39973,7 +40411,7 @@ static u32 f26(module *self, u64 p0, u32 p1, u32 p2) {
   j1 = 2072ull;
   j0 += j1;
   j1 = 3ull;
-  i0 = f11(self, j0, j1); m = self->memory; if (NEVER(self->is_broken)) return ZAK_BROKEN;
+  i0 = f12(self, j0, j1); m = self->memory; if (NEVER(self->is_broken)) return ZAK_BROKEN;
   i0 = !(i0);
   if (i0) {goto B9;}
   j0 = p0;
@@ -40034,7 +40472,7 @@ static u32 f26(module *self, u64 p0, u32 p1, u32 p2) {
   j0 += j1;
   j1 = p0;
   i2 = p1;
-  f25(self, j0, j1, i2); if (NEVER(self->is_broken)) return ZAK_BROKEN;
+  f26(self, j0, j1, i2); if (NEVER(self->is_broken)) return ZAK_BROKEN;
   j0 = l3;
   j1 = 32ull;
   j0 += j1;
@@ -40043,7 +40481,7 @@ static u32 f26(module *self, u64 p0, u32 p1, u32 p2) {
   return i0;
 }
 
-static void f27(module *self, u64 p0, u64 p1, u64 p2, u64 p3, u32 p4) {
+static void f28(module *self, u64 p0, u64 p1, u64 p2, u64 p3, u32 p4) {
   u32 l16 = 0, l17 = 0, l18 = 0, l19 = 0, l20 = 0, l21 = 0, l22 = 0, l23 = 0, 
       l24 = 0, l25 = 0, l26 = 0, l27 = 0, l28 = 0, l29 = 0;
   u64 l5 = 0, l6 = 0, l7 = 0, l8 = 0, l9 = 0, l10 = 0, l11 = 0, l12 = 0, 
@@ -40054,19 +40492,19 @@ static void f27(module *self, u64 p0, u64 p1, u64 p2, u64 p3, u32 p4) {
   j0 = p1;
   i1 = 2u;
   i2 = 4u;
-  f44(self, j0, i1, i2); m = self->memory; if (NEVER(self->is_broken)) return;
+  f45(self, j0, i1, i2); m = self->memory; if (NEVER(self->is_broken)) return;
   j0 = p1;
   i1 = 4u;
   i2 = 6u;
-  f44(self, j0, i1, i2); m = self->memory; if (NEVER(self->is_broken)) return;
+  f45(self, j0, i1, i2); m = self->memory; if (NEVER(self->is_broken)) return;
   j0 = p1;
   i1 = 5u;
   i2 = 0u;
-  f34(self, j0, i1, i2); m = self->memory; if (NEVER(self->is_broken)) return;
+  f35(self, j0, i1, i2); m = self->memory; if (NEVER(self->is_broken)) return;
   j0 = p1;
   i1 = 6u;
   i2 = 4u;
-  f34(self, j0, i1, i2); m = self->memory; if (NEVER(self->is_broken)) return;
+  f35(self, j0, i1, i2); m = self->memory; if (NEVER(self->is_broken)) return;
   j0 = p0;
   j1 = 16ull;
   j0 >>= (j1 & 63);
@@ -40187,7 +40625,7 @@ static void f27(module *self, u64 p0, u64 p1, u64 p2, u64 p3, u32 p4) {
       j1 = 2072ull;
       j0 += j1;
       j1 = 6ull;
-      i0 = f11(self, j0, j1); m = self->memory; if (NEVER(self->is_broken)) return;
+      i0 = f12(self, j0, j1); m = self->memory; if (NEVER(self->is_broken)) return;
       i0 = !(i0);
       if (i0) {goto B4;}
       j0 = p1;
@@ -40737,7 +41175,7 @@ static void f27(module *self, u64 p0, u64 p1, u64 p2, u64 p3, u32 p4) {
       j1 = 2072ull;
       j0 += j1;
       j1 = 6ull;
-      i0 = f11(self, j0, j1); m = self->memory; if (NEVER(self->is_broken)) return;
+      i0 = f12(self, j0, j1); m = self->memory; if (NEVER(self->is_broken)) return;
       i0 = !(i0);
       if (i0) {goto B26;}
       j0 = p1;
@@ -40839,7 +41277,7 @@ static void f27(module *self, u64 p0, u64 p1, u64 p2, u64 p3, u32 p4) {
       i1 = (u32)(j1);
       i1 = i32_load8_u(j1);
       i2 = l22;
-      i0 = f45(self, j0, i1, i2);
+      i0 = f46(self, j0, i1, i2);
       l22 = i0;
       j0 = p1;
       j1 = 68ull;
@@ -41069,7 +41507,7 @@ static void f27(module *self, u64 p0, u64 p1, u64 p2, u64 p3, u32 p4) {
       j1 = 2072ull;
       j0 += j1;
       j1 = 6ull;
-      i0 = f11(self, j0, j1); m = self->memory; if (NEVER(self->is_broken)) return;
+      i0 = f12(self, j0, j1); m = self->memory; if (NEVER(self->is_broken)) return;
       i0 = !(i0);
       if (i0) {goto B34;}
       j0 = p1;
@@ -41171,7 +41609,7 @@ static void f27(module *self, u64 p0, u64 p1, u64 p2, u64 p3, u32 p4) {
       i1 = (u32)(j1);
       i1 = i32_load8_u(j1);
       i2 = l22;
-      i0 = f45(self, j0, i1, i2);
+      i0 = f46(self, j0, i1, i2);
       l22 = i0;
       j0 = p1;
       j1 = 68ull;
@@ -41404,7 +41842,7 @@ static void f27(module *self, u64 p0, u64 p1, u64 p2, u64 p3, u32 p4) {
       j1 = 2072ull;
       j0 += j1;
       j1 = 6ull;
-      i0 = f11(self, j0, j1); m = self->memory; if (NEVER(self->is_broken)) return;
+      i0 = f12(self, j0, j1); m = self->memory; if (NEVER(self->is_broken)) return;
       i0 = !(i0);
       if (i0) {goto B42;}
       j0 = p1;
@@ -41506,7 +41944,7 @@ static void f27(module *self, u64 p0, u64 p1, u64 p2, u64 p3, u32 p4) {
       i1 = (u32)(j1);
       i1 = i32_load8_u(j1);
       i2 = l22;
-      i0 = f45(self, j0, i1, i2);
+      i0 = f46(self, j0, i1, i2);
       l22 = i0;
       j0 = p1;
       j1 = 68ull;
@@ -41633,22 +42071,22 @@ static void f27(module *self, u64 p0, u64 p1, u64 p2, u64 p3, u32 p4) {
   j0 = p1;
   i1 = 2u;
   i2 = 3u;
-  f44(self, j0, i1, i2); m = self->memory; if (NEVER(self->is_broken)) return;
+  f45(self, j0, i1, i2); m = self->memory; if (NEVER(self->is_broken)) return;
   j0 = p1;
   i1 = 4u;
   i2 = 2u;
-  f44(self, j0, i1, i2); m = self->memory; if (NEVER(self->is_broken)) return;
+  f45(self, j0, i1, i2); m = self->memory; if (NEVER(self->is_broken)) return;
   j0 = p1;
   i1 = 5u;
   i2 = 16u;
-  f34(self, j0, i1, i2); m = self->memory; if (NEVER(self->is_broken)) return;
+  f35(self, j0, i1, i2); m = self->memory; if (NEVER(self->is_broken)) return;
   j0 = p1;
   i1 = 6u;
   i2 = p4;
-  f34(self, j0, i1, i2); m = self->memory; if (NEVER(self->is_broken)) return;
+  f35(self, j0, i1, i2); m = self->memory; if (NEVER(self->is_broken)) return;
 }
 
-static void f28(module *self, u64 p0, u32 p1, u32 p2) {
+static void f29(module *self, u64 p0, u32 p1, u32 p2) {
   u32 l10 = 0, l11 = 0, l12 = 0;
   u64 l3 = 0, l4 = 0, l5 = 0, l6 = 0, l7 = 0, l8 = 0, l9 = 0;
   u8 *m = self->memory;
@@ -41706,7 +42144,7 @@ static void f28(module *self, u64 p0, u32 p1, u32 p2) {
   j1 = 2072ull;
   j0 += j1;
   j1 = 4ull;
-  i0 = f11(self, j0, j1); m = self->memory; if (NEVER(self->is_broken)) return;
+  i0 = f12(self, j0, j1); m = self->memory; if (NEVER(self->is_broken)) return;
   i0 = !(i0);
   if (i0) {goto B0;}
   j0 = p0;
@@ -41843,7 +42281,7 @@ static void f28(module *self, u64 p0, u32 p1, u32 p2) {
   j1 = p0;
   i2 = l11;
   i3 = p2;
-  f43(self, j0, j1, i2, i3);
+  f44(self, j0, j1, i2, i3);
   B2:;
   j0 = l3;
   j1 = 16ull;
@@ -41851,7 +42289,7 @@ static void f28(module *self, u64 p0, u32 p1, u32 p2) {
   self->g0 = j0;
 }
 
-static void f29(module *self, u64 p0, u64 p1, u64 p2) {
+static void f30(module *self, u64 p0, u64 p1, u64 p2) {
   u32 l4 = 0, l5 = 0, l6 = 0, l7 = 0, l8 = 0, l9 = 0, l10 = 0, l11 = 0, 
       l12 = 0, l13 = 0;
   u64 l3 = 0;
@@ -41944,7 +42382,7 @@ static void f29(module *self, u64 p0, u64 p1, u64 p2) {
   j2 += j3;
   i2 = (u32)(j2);
   i2 = i32_load16_u(j2);
-  f19(self, j0, i1, i2);
+  f20(self, j0, i1, i2);
   i0 = 0u;
   l8 = i0;
   i0 = 0u;
@@ -41984,7 +42422,7 @@ static void f29(module *self, u64 p0, u64 p1, u64 p2) {
   j2 += j3;
   i2 = (u32)(j2);
   i2 = i32_load16_u(j2);
-  f19(self, j0, i1, i2);
+  f20(self, j0, i1, i2);
   i0 = 0u;
   l9 = i0;
   i0 = 0u;
@@ -42018,7 +42456,7 @@ static void f29(module *self, u64 p0, u64 p1, u64 p2) {
   j2 += j3;
   i2 = (u32)(j2);
   i2 = i32_load16_u(j2);
-  f19(self, j0, i1, i2);
+  f20(self, j0, i1, i2);
   i0 = 0u;
   l9 = i0;
   i0 = 0u;
@@ -42052,7 +42490,7 @@ static void f29(module *self, u64 p0, u64 p1, u64 p2) {
   j2 += j3;
   i2 = (u32)(j2);
   i2 = i32_load16_u(j2);
-  f19(self, j0, i1, i2);
+  f20(self, j0, i1, i2);
   i0 = 0u;
   l10 = i0;
   i0 = l7;
@@ -42098,7 +42536,7 @@ static void f29(module *self, u64 p0, u64 p1, u64 p2) {
   j2 += j3;
   i2 = (u32)(j2);
   i2 = i32_load16_u(j2);
-  f19(self, j0, i1, i2);
+  f20(self, j0, i1, i2);
   i0 = 0u;
   l13 = i0;
   i0 = 0u;
@@ -42138,7 +42576,7 @@ static void f29(module *self, u64 p0, u64 p1, u64 p2) {
   j2 += j3;
   i2 = (u32)(j2);
   i2 = i32_load16_u(j2);
-  f19(self, j0, i1, i2);
+  f20(self, j0, i1, i2);
   i0 = 0u;
   l7 = i0;
   i0 = 0u;
@@ -42178,7 +42616,7 @@ static void f29(module *self, u64 p0, u64 p1, u64 p2) {
   j2 += j3;
   i2 = (u32)(j2);
   i2 = i32_load16_u(j2);
-  f19(self, j0, i1, i2);
+  f20(self, j0, i1, i2);
   i0 = 0u;
   l10 = i0;
   i0 = 0u;
@@ -42309,7 +42747,7 @@ static void f29(module *self, u64 p0, u64 p1, u64 p2) {
   self->g0 = j0;
 }
 
-static void f30(module *self, u64 p0, u64 p1, u64 p2, u64 p3) {
+static void f31(module *self, u64 p0, u64 p1, u64 p2, u64 p3) {
   u32 l7 = 0, l8 = 0, l9 = 0, l10 = 0, l11 = 0, l12 = 0, l13 = 0, l14 = 0, 
       l15 = 0;
   u64 l4 = 0, l5 = 0, l6 = 0;
@@ -42404,7 +42842,7 @@ static void f30(module *self, u64 p0, u64 p1, u64 p2, u64 p3) {
   j2 += j3;
   i2 = (u32)(j2);
   i2 = i32_load16_u(j2);
-  f19(self, j0, i1, i2);
+  f20(self, j0, i1, i2);
   i0 = 1u;
   l14 = i0;
   i0 = 6u;
@@ -42475,7 +42913,7 @@ static void f30(module *self, u64 p0, u64 p1, u64 p2, u64 p3) {
   j2 += j3;
   i2 = (u32)(j2);
   i2 = i32_load16_u(j2);
-  f19(self, j0, i1, i2);
+  f20(self, j0, i1, i2);
   i0 = 1u;
   l14 = i0;
   i0 = 6u;
@@ -42560,7 +42998,7 @@ static void f30(module *self, u64 p0, u64 p1, u64 p2, u64 p3) {
   j2 += j3;
   i2 = (u32)(j2);
   i2 = i32_load16_u(j2);
-  f19(self, j0, i1, i2);
+  f20(self, j0, i1, i2);
   i0 = 1u;
   l14 = i0;
   i0 = 6u;
@@ -42692,7 +43130,7 @@ static void f30(module *self, u64 p0, u64 p1, u64 p2, u64 p3) {
   i2 = (u32)(j2);
   i2 = i32_load16_u(j2);
   l12 = i2;
-  f19(self, j0, i1, i2);
+  f20(self, j0, i1, i2);
   i0 = 1u;
   l14 = i0;
   i0 = 6u;
@@ -42793,7 +43231,7 @@ static void f30(module *self, u64 p0, u64 p1, u64 p2, u64 p3) {
   j2 += j3;
   i2 = (u32)(j2);
   i2 = i32_load16_u(j2);
-  f19(self, j0, i1, i2);
+  f20(self, j0, i1, i2);
   i0 = 6u;
   i1 = 0u;
   j2 = l4;
@@ -42901,7 +43339,7 @@ static void f30(module *self, u64 p0, u64 p1, u64 p2, u64 p3) {
   self->g0 = j0;
 }
 
-static void f31(module *self, u64 p0, u64 p1, u32 p2) {
+static void f32(module *self, u64 p0, u64 p1, u32 p2) {
   u32 l3 = 0, l4 = 0, l5 = 0, l6 = 0, l7 = 0;
   u8 *m = self->memory;
   u32 i0, i1, i2, i3, i4, i5;
@@ -42958,7 +43396,7 @@ static void f31(module *self, u64 p0, u64 p1, u32 p2) {
   i1 = i32_load16_u(j1);
   l6 = i1;
   i2 = 14u;
-  f28(self, j0, i1, i2); m = self->memory; if (NEVER(self->is_broken)) return;
+  f29(self, j0, i1, i2); m = self->memory; if (NEVER(self->is_broken)) return;
   j0 = p0;
   i1 = l6;
   i2 = 1u;
@@ -42982,19 +43420,19 @@ static void f31(module *self, u64 p0, u64 p1, u32 p2) {
   p2 = i2;
   i3 = 8u;
   i2 >>= (i3 & 31);
-  f28(self, j0, i1, i2); m = self->memory; if (NEVER(self->is_broken)) return;
+  f29(self, j0, i1, i2); m = self->memory; if (NEVER(self->is_broken)) return;
   j0 = p0;
   i1 = l6;
   i2 = 15u;
-  f28(self, j0, i1, i2); m = self->memory; if (NEVER(self->is_broken)) return;
+  f29(self, j0, i1, i2); m = self->memory; if (NEVER(self->is_broken)) return;
   j0 = p0;
   i1 = l7;
   i2 = p2;
-  f28(self, j0, i1, i2); m = self->memory; if (NEVER(self->is_broken)) return;
+  f29(self, j0, i1, i2); m = self->memory; if (NEVER(self->is_broken)) return;
   B0:;
 }
 
-static void f32(module *self, u64 p0, u64 p1, u64 p2, u32 p3, u64 p4) {
+static void f33(module *self, u64 p0, u64 p1, u64 p2, u32 p3, u64 p4) {
   u32 l6 = 0, l7 = 0, l8 = 0, l9 = 0, l10 = 0, l11 = 0, l12 = 0, l13 = 0, 
       l14 = 0, l15 = 0, l16 = 0, l17 = 0, l18 = 0, l19 = 0, l20 = 0;
   u64 l5 = 0;
@@ -43145,7 +43583,7 @@ static void f32(module *self, u64 p0, u64 p1, u64 p2, u32 p3, u64 p4) {
   j0 = p1;
   i1 = 5u;
   i2 = 1u;
-  f34(self, j0, i1, i2); m = self->memory; if (NEVER(self->is_broken)) return;
+  f35(self, j0, i1, i2); m = self->memory; if (NEVER(self->is_broken)) return;
   B3:;
   j0 = l5;
   i0 = (u32)(j0);
@@ -43202,7 +43640,7 @@ static void f32(module *self, u64 p0, u64 p1, u64 p2, u32 p3, u64 p4) {
     i3 = l13;
     i2 += i3;
     i3 = l13;
-    f46(self, j0, j1, i2, i3); m = self->memory; if (NEVER(self->is_broken)) return;
+    f47(self, j0, j1, i2, i3); m = self->memory; if (NEVER(self->is_broken)) return;
     i0 = l13;
     i1 = 1u;
     i0 += i1;
@@ -43242,7 +43680,7 @@ static void f32(module *self, u64 p0, u64 p1, u64 p2, u32 p3, u64 p4) {
     i2 += i3;
     l9 = i2;
     i3 = l13;
-    f46(self, j0, j1, i2, i3); m = self->memory; if (NEVER(self->is_broken)) return;
+    f47(self, j0, j1, i2, i3); m = self->memory; if (NEVER(self->is_broken)) return;
     i0 = l17;
     i1 = l9;
     i0 = i0 < i1;
@@ -43254,7 +43692,7 @@ static void f32(module *self, u64 p0, u64 p1, u64 p2, u32 p3, u64 p4) {
   j0 = p1;
   i1 = 5u;
   i2 = 0u;
-  f34(self, j0, i1, i2); m = self->memory; if (NEVER(self->is_broken)) return;
+  f35(self, j0, i1, i2); m = self->memory; if (NEVER(self->is_broken)) return;
   j0 = l5;
   i0 = (u32)(j0);
   i1 = 0u;
@@ -43310,7 +43748,7 @@ static void f32(module *self, u64 p0, u64 p1, u64 p2, u32 p3, u64 p4) {
   i2 = l15;
   i3 = 15u;
   i2 &= i3;
-  f44(self, j0, i1, i2); m = self->memory; if (NEVER(self->is_broken)) return;
+  f45(self, j0, i1, i2); m = self->memory; if (NEVER(self->is_broken)) return;
   goto B10;
   B12:;
   i0 = 0u;
@@ -43364,7 +43802,7 @@ static void f32(module *self, u64 p0, u64 p1, u64 p2, u32 p3, u64 p4) {
     i2 = 32u;
     i3 = l15;
     i4 = l13;
-    f47(self, j0, j1, i2, i3, i4); m = self->memory; if (NEVER(self->is_broken)) return;
+    f48(self, j0, j1, i2, i3, i4); m = self->memory; if (NEVER(self->is_broken)) return;
     i0 = l13;
     i1 = 1u;
     i0 += i1;
@@ -43385,7 +43823,7 @@ static void f32(module *self, u64 p0, u64 p1, u64 p2, u32 p3, u64 p4) {
     i2 = 0u;
     i3 = 0u;
     i4 = l9;
-    f47(self, j0, j1, i2, i3, i4); m = self->memory; if (NEVER(self->is_broken)) return;
+    f48(self, j0, j1, i2, i3, i4); m = self->memory; if (NEVER(self->is_broken)) return;
     i0 = l9;
     i1 = 1u;
     i0 += i1;
@@ -43400,7 +43838,7 @@ static void f32(module *self, u64 p0, u64 p1, u64 p2, u32 p3, u64 p4) {
   i2 = l15;
   i3 = 15u;
   i2 &= i3;
-  f44(self, j0, i1, i2); m = self->memory; if (NEVER(self->is_broken)) return;
+  f45(self, j0, i1, i2); m = self->memory; if (NEVER(self->is_broken)) return;
   j0 = l5;
   i0 = (u32)(j0);
   i1 = 0u;
@@ -43441,7 +43879,7 @@ static void f32(module *self, u64 p0, u64 p1, u64 p2, u32 p3, u64 p4) {
     i2 = 255u;
     i3 = 255u;
     i4 = l13;
-    f47(self, j0, j1, i2, i3, i4); m = self->memory; if (NEVER(self->is_broken)) return;
+    f48(self, j0, j1, i2, i3, i4); m = self->memory; if (NEVER(self->is_broken)) return;
     i0 = l13;
     i1 = 1u;
     i0 += i1;
@@ -43455,7 +43893,7 @@ static void f32(module *self, u64 p0, u64 p1, u64 p2, u32 p3, u64 p4) {
   j0 = p1;
   i1 = 2u;
   i2 = 15u;
-  f44(self, j0, i1, i2); m = self->memory; if (NEVER(self->is_broken)) return;
+  f45(self, j0, i1, i2); m = self->memory; if (NEVER(self->is_broken)) return;
   goto B8;
   B9:;
   j0 = l5;
@@ -43502,7 +43940,7 @@ static void f32(module *self, u64 p0, u64 p1, u64 p2, u32 p3, u64 p4) {
     i2 = l15;
     i3 = l15;
     i4 = l13;
-    f47(self, j0, j1, i2, i3, i4); m = self->memory; if (NEVER(self->is_broken)) return;
+    f48(self, j0, j1, i2, i3, i4); m = self->memory; if (NEVER(self->is_broken)) return;
     i0 = l13;
     i1 = 1u;
     i0 += i1;
@@ -43519,7 +43957,7 @@ static void f32(module *self, u64 p0, u64 p1, u64 p2, u32 p3, u64 p4) {
   self->g0 = j0;
 }
 
-static void f33(module *self, u64 p0, u64 p1, u32 p2) {
+static void f34(module *self, u64 p0, u64 p1, u32 p2) {
   u32 l3 = 0, l4 = 0, l5 = 0;
   u8 *m = self->memory;
   u32 i0, i1, i2, i3, i4, i5;
@@ -43705,7 +44143,7 @@ static void f33(module *self, u64 p0, u64 p1, u32 p2) {
   i32_store8(j0, i1);
 }
 
-static void f34(module *self, u64 p0, u32 p1, u32 p2) {
+static void f35(module *self, u64 p0, u32 p1, u32 p2) {
   u64 l3 = 0, l4 = 0, l5 = 0, l6 = 0, l7 = 0, l8 = 0;
   u8 *m = self->memory;
   u32 i0, i1, i2, i3, i4;
@@ -43765,7 +44203,7 @@ static void f34(module *self, u64 p0, u32 p1, u32 p2) {
   j1 = 2072ull;
   j0 += j1;
   j1 = 4ull;
-  i0 = f11(self, j0, j1); m = self->memory; if (NEVER(self->is_broken)) return;
+  i0 = f12(self, j0, j1); m = self->memory; if (NEVER(self->is_broken)) return;
   i0 = !(i0);
   if (i0) {goto B4;}
   j0 = p0;
@@ -43868,7 +44306,7 @@ static void f34(module *self, u64 p0, u32 p1, u32 p2) {
   j1 = 2072ull;
   j0 += j1;
   j1 = 4ull;
-  i0 = f11(self, j0, j1); m = self->memory; if (NEVER(self->is_broken)) return;
+  i0 = f12(self, j0, j1); m = self->memory; if (NEVER(self->is_broken)) return;
   i0 = !(i0);
   if (i0) {goto B6;}
   j0 = p0;
@@ -44076,7 +44514,7 @@ static void f34(module *self, u64 p0, u32 p1, u32 p2) {
   B0:;
 }
 
-static u32 f35(module *self, u64 p0, u32 p1, u64 p2) {
+static u32 f36(module *self, u64 p0, u32 p1, u64 p2) {
   u32 l3 = 0, l4 = 0, l5 = 0;
   u64 l6 = 0, l7 = 0, l8 = 0, l9 = 0, l10 = 0, l11 = 0;
   u8 *m = self->memory;
@@ -44744,7 +45182,7 @@ static u32 f35(module *self, u64 p0, u32 p1, u64 p2) {
   return i0;
 }
 
-static void f36(module *self, u64 p0, u64 p1, u32 p2, u32 p3, u32 p4, u32 p5) {
+static void f37(module *self, u64 p0, u64 p1, u32 p2, u32 p3, u32 p4, u32 p5) {
   u32 l19 = 0, l20 = 0, l21 = 0, l22 = 0, l23 = 0, l24 = 0;
   u64 l6 = 0, l7 = 0, l8 = 0, l9 = 0, l10 = 0, l11 = 0, l12 = 0, l13 = 0, 
       l14 = 0, l15 = 0, l16 = 0, l17 = 0, l18 = 0;
@@ -44824,7 +45262,7 @@ static void f36(module *self, u64 p0, u64 p1, u32 p2, u32 p3, u32 p4, u32 p5) {
   i1 += i2;
   l20 = i1;
   i2 = p3;
-  f37(self, j0, i1, i2); m = self->memory; if (NEVER(self->is_broken)) return;
+  f38(self, j0, i1, i2); m = self->memory; if (NEVER(self->is_broken)) return;
   i0 = p5;
   i1 = 1u;
   i0 &= i1;
@@ -44835,7 +45273,7 @@ static void f36(module *self, u64 p0, u64 p1, u32 p2, u32 p3, u32 p4, u32 p5) {
   i2 = 1u;
   i1 += i2;
   i2 = p4;
-  f37(self, j0, i1, i2); m = self->memory; if (NEVER(self->is_broken)) return;
+  f38(self, j0, i1, i2); m = self->memory; if (NEVER(self->is_broken)) return;
   goto B1;
   B3:;
   j0 = p1;
@@ -44923,13 +45361,13 @@ static void f36(module *self, u64 p0, u64 p1, u32 p2, u32 p3, u32 p4, u32 p5) {
   j0 = p0;
   i1 = 3u;
   i2 = 24u;
-  f34(self, j0, i1, i2); m = self->memory; if (NEVER(self->is_broken)) return;
+  f35(self, j0, i1, i2); m = self->memory; if (NEVER(self->is_broken)) return;
   j0 = p0;
   i1 = 2u;
   i2 = p4;
   i3 = 15u;
   i2 &= i3;
-  f44(self, j0, i1, i2); m = self->memory; if (NEVER(self->is_broken)) return;
+  f45(self, j0, i1, i2); m = self->memory; if (NEVER(self->is_broken)) return;
   i0 = p5;
   i0 = !(i0);
   if (i0) {goto B8;}
@@ -45113,7 +45551,7 @@ static void f36(module *self, u64 p0, u64 p1, u32 p2, u32 p3, u32 p4, u32 p5) {
     j1 = 2072ull;
     j0 += j1;
     j1 = 5ull;
-    i0 = f11(self, j0, j1); m = self->memory; if (NEVER(self->is_broken)) return;
+    i0 = f12(self, j0, j1); m = self->memory; if (NEVER(self->is_broken)) return;
     i0 = !(i0);
     if (i0) {goto B17;}
     j0 = p0;
@@ -45164,11 +45602,11 @@ static void f36(module *self, u64 p0, u64 p1, u32 p2, u32 p3, u32 p4, u32 p5) {
     j0 = l6;
     j1 = p0;
     i2 = p4;
-    f33(self, j0, j1, i2);
+    f34(self, j0, j1, i2);
     j0 = p0;
     i1 = p4;
     i2 = p2;
-    f37(self, j0, i1, i2); m = self->memory; if (NEVER(self->is_broken)) return;
+    f38(self, j0, i1, i2); m = self->memory; if (NEVER(self->is_broken)) return;
     j0 = l8;
     j1 = 1ull;
     j0 += j1;
@@ -45188,11 +45626,11 @@ static void f36(module *self, u64 p0, u64 p1, u32 p2, u32 p3, u32 p4, u32 p5) {
   j0 = p0;
   i1 = 2u;
   i2 = 15u;
-  f44(self, j0, i1, i2); m = self->memory; if (NEVER(self->is_broken)) return;
+  f45(self, j0, i1, i2); m = self->memory; if (NEVER(self->is_broken)) return;
   j0 = p0;
   i1 = 3u;
   i2 = 0u;
-  f34(self, j0, i1, i2); m = self->memory; if (NEVER(self->is_broken)) return;
+  f35(self, j0, i1, i2); m = self->memory; if (NEVER(self->is_broken)) return;
   goto B1;
   B7:;
   j0 = l6;
@@ -45226,13 +45664,13 @@ static void f36(module *self, u64 p0, u64 p1, u32 p2, u32 p3, u32 p4, u32 p5) {
   i2 = 0u;
   i3 = 0u;
   i4 = l24;
-  f47(self, j0, j1, i2, i3, i4); m = self->memory; if (NEVER(self->is_broken)) return;
+  f48(self, j0, j1, i2, i3, i4); m = self->memory; if (NEVER(self->is_broken)) return;
   j0 = p0;
   i1 = 2u;
   i2 = p4;
   i3 = 15u;
   i2 &= i3;
-  f44(self, j0, i1, i2); m = self->memory; if (NEVER(self->is_broken)) return;
+  f45(self, j0, i1, i2); m = self->memory; if (NEVER(self->is_broken)) return;
   i0 = p5;
   i0 = !(i0);
   if (i0) {goto B19;}
@@ -45297,7 +45735,7 @@ static void f36(module *self, u64 p0, u64 p1, u32 p2, u32 p3, u32 p4, u32 p5) {
   j2 += j3;
   i2 = (u32)(j2);
   i2 = i32_load8_u(j2);
-  f37(self, j0, i1, i2); m = self->memory; if (NEVER(self->is_broken)) return;
+  f38(self, j0, i1, i2); m = self->memory; if (NEVER(self->is_broken)) return;
   j0 = l7;
   i0 = (u32)(j0);
   i0 = i32_load8_u(j0);
@@ -45326,7 +45764,7 @@ static void f36(module *self, u64 p0, u64 p1, u32 p2, u32 p3, u32 p4, u32 p5) {
   j2 += j3;
   i2 = (u32)(j2);
   i2 = i32_load8_u(j2 + 1u);
-  f37(self, j0, i1, i2); m = self->memory; if (NEVER(self->is_broken)) return;
+  f38(self, j0, i1, i2); m = self->memory; if (NEVER(self->is_broken)) return;
   j0 = 1048841ull;
   l8 = j0;
   j0 = 1048841ull;
@@ -45359,7 +45797,7 @@ static void f36(module *self, u64 p0, u64 p1, u32 p2, u32 p3, u32 p4, u32 p5) {
   j2 += j3;
   i2 = (u32)(j2);
   i2 = i32_load8_u(j2 + 2u);
-  f37(self, j0, i1, i2); m = self->memory; if (NEVER(self->is_broken)) return;
+  f38(self, j0, i1, i2); m = self->memory; if (NEVER(self->is_broken)) return;
   j0 = l7;
   i0 = (u32)(j0);
   i0 = i32_load8_u(j0);
@@ -45388,7 +45826,7 @@ static void f36(module *self, u64 p0, u64 p1, u32 p2, u32 p3, u32 p4, u32 p5) {
   j2 += j3;
   i2 = (u32)(j2);
   i2 = i32_load8_u(j2 + 3u);
-  f37(self, j0, i1, i2); m = self->memory; if (NEVER(self->is_broken)) return;
+  f38(self, j0, i1, i2); m = self->memory; if (NEVER(self->is_broken)) return;
   j0 = 1048841ull;
   l8 = j0;
   j0 = 1048841ull;
@@ -45421,7 +45859,7 @@ static void f36(module *self, u64 p0, u64 p1, u32 p2, u32 p3, u32 p4, u32 p5) {
   j2 += j3;
   i2 = (u32)(j2);
   i2 = i32_load8_u(j2 + 4u);
-  f37(self, j0, i1, i2); m = self->memory; if (NEVER(self->is_broken)) return;
+  f38(self, j0, i1, i2); m = self->memory; if (NEVER(self->is_broken)) return;
   j0 = l7;
   i0 = (u32)(j0);
   i0 = i32_load8_u(j0);
@@ -45450,7 +45888,7 @@ static void f36(module *self, u64 p0, u64 p1, u32 p2, u32 p3, u32 p4, u32 p5) {
   j2 += j3;
   i2 = (u32)(j2);
   i2 = i32_load8_u(j2 + 5u);
-  f37(self, j0, i1, i2); m = self->memory; if (NEVER(self->is_broken)) return;
+  f38(self, j0, i1, i2); m = self->memory; if (NEVER(self->is_broken)) return;
   j0 = 1048841ull;
   l8 = j0;
   j0 = 1048841ull;
@@ -45483,7 +45921,7 @@ static void f36(module *self, u64 p0, u64 p1, u32 p2, u32 p3, u32 p4, u32 p5) {
   j2 += j3;
   i2 = (u32)(j2);
   i2 = i32_load8_u(j2 + 6u);
-  f37(self, j0, i1, i2); m = self->memory; if (NEVER(self->is_broken)) return;
+  f38(self, j0, i1, i2); m = self->memory; if (NEVER(self->is_broken)) return;
   j0 = l7;
   i0 = (u32)(j0);
   i0 = i32_load8_u(j0);
@@ -45512,11 +45950,11 @@ static void f36(module *self, u64 p0, u64 p1, u32 p2, u32 p3, u32 p4, u32 p5) {
   j2 += j3;
   i2 = (u32)(j2);
   i2 = i32_load8_u(j2 + 7u);
-  f37(self, j0, i1, i2); m = self->memory; if (NEVER(self->is_broken)) return;
+  f38(self, j0, i1, i2); m = self->memory; if (NEVER(self->is_broken)) return;
   j0 = p0;
   i1 = 2u;
   i2 = 15u;
-  f44(self, j0, i1, i2); m = self->memory; if (NEVER(self->is_broken)) return;
+  f45(self, j0, i1, i2); m = self->memory; if (NEVER(self->is_broken)) return;
   goto B1;
   B21:;
   j0 = p1;
@@ -45556,7 +45994,7 @@ static void f36(module *self, u64 p0, u64 p1, u32 p2, u32 p3, u32 p4, u32 p5) {
   j2 += j3;
   i2 = (u32)(j2);
   i2 = i32_load8_u(j2);
-  f37(self, j0, i1, i2); m = self->memory; if (NEVER(self->is_broken)) return;
+  f38(self, j0, i1, i2); m = self->memory; if (NEVER(self->is_broken)) return;
   j0 = l12;
   i0 = (u32)(j0);
   i0 = i32_load8_u(j0);
@@ -45585,7 +46023,7 @@ static void f36(module *self, u64 p0, u64 p1, u32 p2, u32 p3, u32 p4, u32 p5) {
   j2 += j3;
   i2 = (u32)(j2);
   i2 = i32_load8_u(j2 + 1u);
-  f37(self, j0, i1, i2); m = self->memory; if (NEVER(self->is_broken)) return;
+  f38(self, j0, i1, i2); m = self->memory; if (NEVER(self->is_broken)) return;
   j0 = 1048841ull;
   l8 = j0;
   j0 = 1048841ull;
@@ -45621,7 +46059,7 @@ static void f36(module *self, u64 p0, u64 p1, u32 p2, u32 p3, u32 p4, u32 p5) {
   j2 += j3;
   i2 = (u32)(j2);
   i2 = i32_load8_u(j2 + 2u);
-  f37(self, j0, i1, i2); m = self->memory; if (NEVER(self->is_broken)) return;
+  f38(self, j0, i1, i2); m = self->memory; if (NEVER(self->is_broken)) return;
   j0 = l12;
   i0 = (u32)(j0);
   i0 = i32_load8_u(j0);
@@ -45650,7 +46088,7 @@ static void f36(module *self, u64 p0, u64 p1, u32 p2, u32 p3, u32 p4, u32 p5) {
   j2 += j3;
   i2 = (u32)(j2);
   i2 = i32_load8_u(j2 + 3u);
-  f37(self, j0, i1, i2); m = self->memory; if (NEVER(self->is_broken)) return;
+  f38(self, j0, i1, i2); m = self->memory; if (NEVER(self->is_broken)) return;
   j0 = 1048841ull;
   l8 = j0;
   j0 = 1048841ull;
@@ -45686,7 +46124,7 @@ static void f36(module *self, u64 p0, u64 p1, u32 p2, u32 p3, u32 p4, u32 p5) {
   j2 += j3;
   i2 = (u32)(j2);
   i2 = i32_load8_u(j2 + 4u);
-  f37(self, j0, i1, i2); m = self->memory; if (NEVER(self->is_broken)) return;
+  f38(self, j0, i1, i2); m = self->memory; if (NEVER(self->is_broken)) return;
   j0 = l12;
   i0 = (u32)(j0);
   i0 = i32_load8_u(j0);
@@ -45715,7 +46153,7 @@ static void f36(module *self, u64 p0, u64 p1, u32 p2, u32 p3, u32 p4, u32 p5) {
   j2 += j3;
   i2 = (u32)(j2);
   i2 = i32_load8_u(j2 + 5u);
-  f37(self, j0, i1, i2); m = self->memory; if (NEVER(self->is_broken)) return;
+  f38(self, j0, i1, i2); m = self->memory; if (NEVER(self->is_broken)) return;
   j0 = 1048841ull;
   l8 = j0;
   j0 = 1048841ull;
@@ -45751,7 +46189,7 @@ static void f36(module *self, u64 p0, u64 p1, u32 p2, u32 p3, u32 p4, u32 p5) {
   j2 += j3;
   i2 = (u32)(j2);
   i2 = i32_load8_u(j2 + 6u);
-  f37(self, j0, i1, i2); m = self->memory; if (NEVER(self->is_broken)) return;
+  f38(self, j0, i1, i2); m = self->memory; if (NEVER(self->is_broken)) return;
   j0 = l12;
   i0 = (u32)(j0);
   i0 = i32_load8_u(j0);
@@ -45780,7 +46218,7 @@ static void f36(module *self, u64 p0, u64 p1, u32 p2, u32 p3, u32 p4, u32 p5) {
   j2 += j3;
   i2 = (u32)(j2);
   i2 = i32_load8_u(j2 + 7u);
-  f37(self, j0, i1, i2); m = self->memory; if (NEVER(self->is_broken)) return;
+  f38(self, j0, i1, i2); m = self->memory; if (NEVER(self->is_broken)) return;
   j0 = 1048841ull;
   l8 = j0;
   j0 = 1048841ull;
@@ -45816,7 +46254,7 @@ static void f36(module *self, u64 p0, u64 p1, u32 p2, u32 p3, u32 p4, u32 p5) {
   j2 += j3;
   i2 = (u32)(j2);
   i2 = i32_load8_u(j2 + 8u);
-  f37(self, j0, i1, i2); m = self->memory; if (NEVER(self->is_broken)) return;
+  f38(self, j0, i1, i2); m = self->memory; if (NEVER(self->is_broken)) return;
   j0 = l12;
   i0 = (u32)(j0);
   i0 = i32_load8_u(j0);
@@ -45845,7 +46283,7 @@ static void f36(module *self, u64 p0, u64 p1, u32 p2, u32 p3, u32 p4, u32 p5) {
   j2 += j3;
   i2 = (u32)(j2);
   i2 = i32_load8_u(j2 + 9u);
-  f37(self, j0, i1, i2); m = self->memory; if (NEVER(self->is_broken)) return;
+  f38(self, j0, i1, i2); m = self->memory; if (NEVER(self->is_broken)) return;
   j0 = 1048841ull;
   l8 = j0;
   j0 = 1048841ull;
@@ -45881,7 +46319,7 @@ static void f36(module *self, u64 p0, u64 p1, u32 p2, u32 p3, u32 p4, u32 p5) {
   j2 += j3;
   i2 = (u32)(j2);
   i2 = i32_load8_u(j2 + 10u);
-  f37(self, j0, i1, i2); m = self->memory; if (NEVER(self->is_broken)) return;
+  f38(self, j0, i1, i2); m = self->memory; if (NEVER(self->is_broken)) return;
   j0 = l12;
   i0 = (u32)(j0);
   i0 = i32_load8_u(j0);
@@ -45910,7 +46348,7 @@ static void f36(module *self, u64 p0, u64 p1, u32 p2, u32 p3, u32 p4, u32 p5) {
   j2 += j3;
   i2 = (u32)(j2);
   i2 = i32_load8_u(j2 + 11u);
-  f37(self, j0, i1, i2); m = self->memory; if (NEVER(self->is_broken)) return;
+  f38(self, j0, i1, i2); m = self->memory; if (NEVER(self->is_broken)) return;
   j0 = 1048841ull;
   l8 = j0;
   j0 = 1048841ull;
@@ -45946,7 +46384,7 @@ static void f36(module *self, u64 p0, u64 p1, u32 p2, u32 p3, u32 p4, u32 p5) {
   j2 += j3;
   i2 = (u32)(j2);
   i2 = i32_load8_u(j2 + 12u);
-  f37(self, j0, i1, i2); m = self->memory; if (NEVER(self->is_broken)) return;
+  f38(self, j0, i1, i2); m = self->memory; if (NEVER(self->is_broken)) return;
   j0 = l12;
   i0 = (u32)(j0);
   i0 = i32_load8_u(j0);
@@ -45975,11 +46413,11 @@ static void f36(module *self, u64 p0, u64 p1, u32 p2, u32 p3, u32 p4, u32 p5) {
   j2 += j3;
   i2 = (u32)(j2);
   i2 = i32_load8_u(j2 + 13u);
-  f37(self, j0, i1, i2); m = self->memory; if (NEVER(self->is_broken)) return;
+  f38(self, j0, i1, i2); m = self->memory; if (NEVER(self->is_broken)) return;
   j0 = p0;
   i1 = 2u;
   i2 = 15u;
-  f44(self, j0, i1, i2); m = self->memory; if (NEVER(self->is_broken)) return;
+  f45(self, j0, i1, i2); m = self->memory; if (NEVER(self->is_broken)) return;
   goto B1;
   B20:;
   j0 = p1;
@@ -46025,7 +46463,7 @@ static void f36(module *self, u64 p0, u64 p1, u32 p2, u32 p3, u32 p4, u32 p5) {
     j2 += j3;
     i2 = (u32)(j2);
     i2 = i32_load8_u(j2);
-    f37(self, j0, i1, i2); m = self->memory; if (NEVER(self->is_broken)) return;
+    f38(self, j0, i1, i2); m = self->memory; if (NEVER(self->is_broken)) return;
     j0 = p1;
     j1 = 1ull;
     j0 += j1;
@@ -46045,7 +46483,7 @@ static void f36(module *self, u64 p0, u64 p1, u32 p2, u32 p3, u32 p4, u32 p5) {
   j0 = p0;
   i1 = 2u;
   i2 = 15u;
-  f44(self, j0, i1, i2); m = self->memory; if (NEVER(self->is_broken)) return;
+  f45(self, j0, i1, i2); m = self->memory; if (NEVER(self->is_broken)) return;
   goto B1;
   B2:;
   j0 = p1;
@@ -46221,7 +46659,7 @@ static void f36(module *self, u64 p0, u64 p1, u32 p2, u32 p3, u32 p4, u32 p5) {
     i2 = (u32)((s32)i2 >> (i3 & 31));
     i3 = p4;
     i2 &= i3;
-    f37(self, j0, i1, i2); m = self->memory; if (NEVER(self->is_broken)) return;
+    f38(self, j0, i1, i2); m = self->memory; if (NEVER(self->is_broken)) return;
     j0 = p0;
     i1 = l20;
     i2 = 1u;
@@ -46234,7 +46672,7 @@ static void f36(module *self, u64 p0, u64 p1, u32 p2, u32 p3, u32 p4, u32 p5) {
     i2 = (u32)((s32)i2 >> (i3 & 31));
     i3 = p4;
     i2 &= i3;
-    f37(self, j0, i1, i2); m = self->memory; if (NEVER(self->is_broken)) return;
+    f38(self, j0, i1, i2); m = self->memory; if (NEVER(self->is_broken)) return;
     j0 = p0;
     i1 = l20;
     i2 = 2u;
@@ -46247,7 +46685,7 @@ static void f36(module *self, u64 p0, u64 p1, u32 p2, u32 p3, u32 p4, u32 p5) {
     i2 = (u32)((s32)i2 >> (i3 & 31));
     i3 = p4;
     i2 &= i3;
-    f37(self, j0, i1, i2); m = self->memory; if (NEVER(self->is_broken)) return;
+    f38(self, j0, i1, i2); m = self->memory; if (NEVER(self->is_broken)) return;
     j0 = p0;
     i1 = l20;
     i2 = 3u;
@@ -46260,7 +46698,7 @@ static void f36(module *self, u64 p0, u64 p1, u32 p2, u32 p3, u32 p4, u32 p5) {
     i2 = (u32)((s32)i2 >> (i3 & 31));
     i3 = p4;
     i2 &= i3;
-    f37(self, j0, i1, i2); m = self->memory; if (NEVER(self->is_broken)) return;
+    f38(self, j0, i1, i2); m = self->memory; if (NEVER(self->is_broken)) return;
     j0 = p0;
     i1 = l20;
     i2 = 4u;
@@ -46273,7 +46711,7 @@ static void f36(module *self, u64 p0, u64 p1, u32 p2, u32 p3, u32 p4, u32 p5) {
     i2 = (u32)((s32)i2 >> (i3 & 31));
     i3 = p4;
     i2 &= i3;
-    f37(self, j0, i1, i2); m = self->memory; if (NEVER(self->is_broken)) return;
+    f38(self, j0, i1, i2); m = self->memory; if (NEVER(self->is_broken)) return;
     j0 = p0;
     i1 = l20;
     i2 = 5u;
@@ -46286,7 +46724,7 @@ static void f36(module *self, u64 p0, u64 p1, u32 p2, u32 p3, u32 p4, u32 p5) {
     i2 = (u32)((s32)i2 >> (i3 & 31));
     i3 = p4;
     i2 &= i3;
-    f37(self, j0, i1, i2); m = self->memory; if (NEVER(self->is_broken)) return;
+    f38(self, j0, i1, i2); m = self->memory; if (NEVER(self->is_broken)) return;
     j0 = p0;
     i1 = l20;
     i2 = 6u;
@@ -46299,7 +46737,7 @@ static void f36(module *self, u64 p0, u64 p1, u32 p2, u32 p3, u32 p4, u32 p5) {
     i2 = (u32)((s32)i2 >> (i3 & 31));
     i3 = p4;
     i2 &= i3;
-    f37(self, j0, i1, i2); m = self->memory; if (NEVER(self->is_broken)) return;
+    f38(self, j0, i1, i2); m = self->memory; if (NEVER(self->is_broken)) return;
     j0 = p0;
     i1 = l20;
     i2 = 7u;
@@ -46311,7 +46749,7 @@ static void f36(module *self, u64 p0, u64 p1, u32 p2, u32 p3, u32 p4, u32 p5) {
     i2 -= i3;
     i3 = p4;
     i2 &= i3;
-    f37(self, j0, i1, i2); m = self->memory; if (NEVER(self->is_broken)) return;
+    f38(self, j0, i1, i2); m = self->memory; if (NEVER(self->is_broken)) return;
     j0 = l8;
     j1 = 1ull;
     j0 += j1;
@@ -46338,7 +46776,7 @@ static void f36(module *self, u64 p0, u64 p1, u32 p2, u32 p3, u32 p4, u32 p5) {
   Bfunc:;
 }
 
-static void f37(module *self, u64 p0, u32 p1, u32 p2) {
+static void f38(module *self, u64 p0, u32 p1, u32 p2) {
   u32 l10 = 0, l11 = 0, l12 = 0, l13 = 0;
   u64 l3 = 0, l4 = 0, l5 = 0, l6 = 0, l7 = 0, l8 = 0, l9 = 0;
   u8 *m = self->memory;
@@ -46391,7 +46829,7 @@ static void f37(module *self, u64 p0, u32 p1, u32 p2) {
   j1 = 2072ull;
   j0 += j1;
   j1 = 6ull;
-  i0 = f11(self, j0, j1); m = self->memory; if (NEVER(self->is_broken)) return;
+  i0 = f12(self, j0, j1); m = self->memory; if (NEVER(self->is_broken)) return;
   i0 = !(i0);
   if (i0) {goto B0;}
   j0 = p0;
@@ -46492,7 +46930,7 @@ static void f37(module *self, u64 p0, u32 p1, u32 p2) {
   i1 = (u32)(j1);
   i1 = i32_load8_u(j1);
   i2 = p2;
-  i0 = f45(self, j0, i1, i2);
+  i0 = f46(self, j0, i1, i2);
   p2 = i0;
   j0 = p0;
   j1 = 68ull;
@@ -46576,7 +47014,7 @@ static void f37(module *self, u64 p0, u32 p1, u32 p2) {
   B2:;
 }
 
-static u32 f38(module *self, u64 p0, u64 p1, u32 p2, u32 p3, u32 p4, u32 p5) {
+static u32 f39(module *self, u64 p0, u64 p1, u32 p2, u32 p3, u32 p4, u32 p5) {
   u32 l7 = 0;
   u64 l6 = 0;
   u8 *m = self->memory;
@@ -46619,7 +47057,7 @@ static u32 f38(module *self, u64 p0, u64 p1, u32 p2, u32 p3, u32 p4, u32 p5) {
   i2 = (u32)(j2);
   i2 = i32_load8_u(j2);
   i3 = p2;
-  i0 = f48(self, j0, j1, i2, i3); m = self->memory; if (NEVER(self->is_broken)) return ZAK_BROKEN;
+  i0 = f49(self, j0, j1, i2, i3); m = self->memory; if (NEVER(self->is_broken)) return ZAK_BROKEN;
   goto Bfunc;
   B2:;
   i0 = p2;
@@ -46653,7 +47091,7 @@ static u32 f38(module *self, u64 p0, u64 p1, u32 p2, u32 p3, u32 p4, u32 p5) {
   i3 = p3;
   i4 = p4;
   i5 = p5;
-  f36(self, j0, j1, i2, i3, i4, i5); m = self->memory; if (NEVER(self->is_broken)) return ZAK_BROKEN;
+  f37(self, j0, j1, i2, i3, i4, i5); m = self->memory; if (NEVER(self->is_broken)) return ZAK_BROKEN;
   i0 = l7;
   i1 = 1u;
   i0 += i1;
@@ -46680,7 +47118,7 @@ static u32 f38(module *self, u64 p0, u64 p1, u32 p2, u32 p3, u32 p4, u32 p5) {
   i2 = (u32)(j2);
   i2 = i32_load8_u(j2);
   i3 = p2;
-  i0 = f48(self, j0, j1, i2, i3); m = self->memory; if (NEVER(self->is_broken)) return ZAK_BROKEN;
+  i0 = f49(self, j0, j1, i2, i3); m = self->memory; if (NEVER(self->is_broken)) return ZAK_BROKEN;
   i1 = 65280u;
   i0 &= i1;
   p2 = i0;
@@ -46690,7 +47128,7 @@ static u32 f38(module *self, u64 p0, u64 p1, u32 p2, u32 p3, u32 p4, u32 p5) {
   return i0;
 }
 
-static void f39(module *self, u64 p0, u32 p1, u32 p2, u32 p3) {
+static void f40(module *self, u64 p0, u32 p1, u32 p2, u32 p3) {
   u32 l12 = 0;
   u64 l4 = 0, l5 = 0, l6 = 0, l7 = 0, l8 = 0, l9 = 0, l10 = 0, l11 = 0;
   u8 *m = self->memory;
@@ -46752,7 +47190,7 @@ static void f39(module *self, u64 p0, u32 p1, u32 p2, u32 p3) {
   j1 = 2072ull;
   j0 += j1;
   j1 = 3ull;
-  i0 = f11(self, j0, j1); m = self->memory; if (NEVER(self->is_broken)) return;
+  i0 = f12(self, j0, j1); m = self->memory; if (NEVER(self->is_broken)) return;
   i0 = !(i0);
   if (i0) {goto B0;}
   j0 = p0;
@@ -46813,21 +47251,21 @@ static void f39(module *self, u64 p0, u32 p1, u32 p2, u32 p3) {
   j0 += j1;
   j1 = p0;
   i2 = l12;
-  f25(self, j0, j1, i2); if (NEVER(self->is_broken)) return;
+  f26(self, j0, j1, i2); if (NEVER(self->is_broken)) return;
   j0 = p0;
   i1 = p2;
   i2 = p3;
-  f40(self, j0, i1, i2); m = self->memory; if (NEVER(self->is_broken)) return;
+  f41(self, j0, i1, i2); m = self->memory; if (NEVER(self->is_broken)) return;
   j0 = p0;
   i1 = p1;
-  f41(self, j0, i1); m = self->memory; if (NEVER(self->is_broken)) return;
+  f42(self, j0, i1); m = self->memory; if (NEVER(self->is_broken)) return;
   j0 = l4;
   j1 = 16ull;
   j0 += j1;
   self->g0 = j0;
 }
 
-static void f40(module *self, u64 p0, u32 p1, u32 p2) {
+static void f41(module *self, u64 p0, u32 p1, u32 p2) {
   u32 l11 = 0, l12 = 0, l13 = 0;
   u64 l3 = 0, l4 = 0, l5 = 0, l6 = 0, l7 = 0, l8 = 0, l9 = 0, l10 = 0;
   u8 *m = self->memory;
@@ -46885,7 +47323,7 @@ static void f40(module *self, u64 p0, u32 p1, u32 p2) {
   j1 = 2072ull;
   j0 += j1;
   j1 = 4ull;
-  i0 = f11(self, j0, j1); m = self->memory; if (NEVER(self->is_broken)) return;
+  i0 = f12(self, j0, j1); m = self->memory; if (NEVER(self->is_broken)) return;
   i0 = !(i0);
   if (i0) {goto B0;}
   j0 = p0;
@@ -46984,7 +47422,7 @@ static void f40(module *self, u64 p0, u32 p1, u32 p2) {
   i32_store8(j0, i1);
   j0 = l3;
   j1 = l4;
-  f22(self, j0, j1);
+  f23(self, j0, j1);
   j0 = p0;
   j1 = 196ull;
   j0 += j1;
@@ -47068,7 +47506,7 @@ static void f40(module *self, u64 p0, u32 p1, u32 p2) {
   j1 = 2072ull;
   j0 += j1;
   j1 = 4ull;
-  i0 = f11(self, j0, j1); m = self->memory; if (NEVER(self->is_broken)) return;
+  i0 = f12(self, j0, j1); m = self->memory; if (NEVER(self->is_broken)) return;
   i0 = !(i0);
   if (i0) {goto B6;}
   j0 = p0;
@@ -47163,7 +47601,7 @@ static void f40(module *self, u64 p0, u32 p1, u32 p2) {
   i32_store8(j0, i1);
   j0 = l3;
   j1 = l4;
-  f22(self, j0, j1);
+  f23(self, j0, j1);
   j0 = p0;
   j1 = 196ull;
   j0 += j1;
@@ -47206,7 +47644,7 @@ static void f40(module *self, u64 p0, u32 p1, u32 p2) {
   self->g0 = j0;
 }
 
-static void f41(module *self, u64 p0, u32 p1) {
+static void f42(module *self, u64 p0, u32 p1) {
   u32 l10 = 0, l11 = 0, l12 = 0;
   u64 l2 = 0, l3 = 0, l4 = 0, l5 = 0, l6 = 0, l7 = 0, l8 = 0, l9 = 0;
   u8 *m = self->memory;
@@ -47264,7 +47702,7 @@ static void f41(module *self, u64 p0, u32 p1) {
   j1 = 2072ull;
   j0 += j1;
   j1 = 4ull;
-  i0 = f11(self, j0, j1); m = self->memory; if (NEVER(self->is_broken)) return;
+  i0 = f12(self, j0, j1); m = self->memory; if (NEVER(self->is_broken)) return;
   i0 = !(i0);
   if (i0) {goto B0;}
   j0 = p0;
@@ -47360,7 +47798,7 @@ static void f41(module *self, u64 p0, u32 p1) {
   j1 = 16ull;
   j0 += j1;
   j1 = l4;
-  f22(self, j0, j1);
+  f23(self, j0, j1);
   j0 = p0;
   j1 = 196ull;
   j0 += j1;
@@ -47446,7 +47884,7 @@ static void f41(module *self, u64 p0, u32 p1) {
   j1 = 2072ull;
   j0 += j1;
   j1 = 3ull;
-  i0 = f11(self, j0, j1); m = self->memory; if (NEVER(self->is_broken)) return;
+  i0 = f12(self, j0, j1); m = self->memory; if (NEVER(self->is_broken)) return;
   i0 = !(i0);
   if (i0) {goto B6;}
   j0 = p0;
@@ -47507,14 +47945,14 @@ static void f41(module *self, u64 p0, u32 p1) {
   j0 += j1;
   j1 = p0;
   i2 = p1;
-  f25(self, j0, j1, i2); if (NEVER(self->is_broken)) return;
+  f26(self, j0, j1, i2); if (NEVER(self->is_broken)) return;
   j0 = l2;
   j1 = 32ull;
   j0 += j1;
   self->g0 = j0;
 }
 
-static void f42(module *self, u64 p0, u32 p1, u32 p2) {
+static void f43(module *self, u64 p0, u32 p1, u32 p2) {
   u32 l3 = 0, l4 = 0;
   u8 *m = self->memory;
   u32 i0, i1, i2, i3, i4;
@@ -47778,7 +48216,7 @@ static void f42(module *self, u64 p0, u32 p1, u32 p2) {
   i32_store8(j0, i1);
 }
 
-static void f43(module *self, u64 p0, u64 p1, u32 p2, u32 p3) {
+static void f44(module *self, u64 p0, u64 p1, u32 p2, u32 p3) {
   u32 l7 = 0, l8 = 0;
   u64 l4 = 0, l5 = 0, l6 = 0;
   u8 *m = self->memory;
@@ -47870,7 +48308,7 @@ static void f43(module *self, u64 p0, u64 p1, u32 p2, u32 p3) {
   i32_store8(j0, i1);
   j0 = l4;
   j1 = l6;
-  f22(self, j0, j1);
+  f23(self, j0, j1);
   j0 = p1;
   j1 = 196ull;
   j0 += j1;
@@ -48527,7 +48965,7 @@ static void f43(module *self, u64 p0, u64 p1, u32 p2, u32 p3) {
   self->g0 = j0;
 }
 
-static void f44(module *self, u64 p0, u32 p1, u32 p2) {
+static void f45(module *self, u64 p0, u32 p1, u32 p2) {
   u64 l3 = 0, l4 = 0, l5 = 0, l6 = 0, l7 = 0, l8 = 0;
   u8 *m = self->memory;
   u32 i0, i1, i2;
@@ -48587,7 +49025,7 @@ static void f44(module *self, u64 p0, u32 p1, u32 p2) {
   j1 = 2072ull;
   j0 += j1;
   j1 = 4ull;
-  i0 = f11(self, j0, j1); m = self->memory; if (NEVER(self->is_broken)) return;
+  i0 = f12(self, j0, j1); m = self->memory; if (NEVER(self->is_broken)) return;
   i0 = !(i0);
   if (i0) {goto B4;}
   j0 = p0;
@@ -48690,7 +49128,7 @@ static void f44(module *self, u64 p0, u32 p1, u32 p2) {
   j1 = 2072ull;
   j0 += j1;
   j1 = 4ull;
-  i0 = f11(self, j0, j1); m = self->memory; if (NEVER(self->is_broken)) return;
+  i0 = f12(self, j0, j1); m = self->memory; if (NEVER(self->is_broken)) return;
   i0 = !(i0);
   if (i0) {goto B6;}
   j0 = p0;
@@ -48842,7 +49280,7 @@ static void f44(module *self, u64 p0, u32 p1, u32 p2) {
   B0:;
 }
 
-static u32 f45(module *self, u64 p0, u32 p1, u32 p2) {
+static u32 f46(module *self, u64 p0, u32 p1, u32 p2) {
   u32 l3 = 0, l4 = 0, l5 = 0, l6 = 0;
   u8 *m = self->memory;
   u32 i0, i1, i2, i3, i4;
@@ -49051,7 +49489,7 @@ static u32 f45(module *self, u64 p0, u32 p1, u32 p2) {
   return i0;
 }
 
-static void f46(module *self, u64 p0, u64 p1, u32 p2, u32 p3) {
+static void f47(module *self, u64 p0, u64 p1, u32 p2, u32 p3) {
   u32 l4 = 0, l5 = 0, l6 = 0, l7 = 0, l8 = 0, l9 = 0, l10 = 0, l11 = 0, 
       l12 = 0, l13 = 0, l14 = 0, l15 = 0, l16 = 0, l17 = 0, l18 = 0, l19 = 0, 
       l20 = 0;
@@ -49162,7 +49600,7 @@ static void f46(module *self, u64 p0, u64 p1, u32 p2, u32 p3) {
       j1 = 2072ull;
       j0 += j1;
       j1 = 5ull;
-      i0 = f11(self, j0, j1); m = self->memory; if (NEVER(self->is_broken)) return;
+      i0 = f12(self, j0, j1); m = self->memory; if (NEVER(self->is_broken)) return;
       i0 = !(i0);
       if (i0) {goto B3;}
       j0 = p1;
@@ -49428,7 +49866,7 @@ static void f46(module *self, u64 p0, u64 p1, u32 p2, u32 p3) {
       j1 = 2072ull;
       j0 += j1;
       j1 = 6ull;
-      i0 = f11(self, j0, j1); m = self->memory; if (NEVER(self->is_broken)) return;
+      i0 = f12(self, j0, j1); m = self->memory; if (NEVER(self->is_broken)) return;
       i0 = !(i0);
       if (i0) {goto B11;}
       j0 = p1;
@@ -49849,7 +50287,7 @@ static void f46(module *self, u64 p0, u64 p1, u32 p2, u32 p3) {
   B0:;
 }
 
-static void f47(module *self, u64 p0, u64 p1, u32 p2, u32 p3, u32 p4) {
+static void f48(module *self, u64 p0, u64 p1, u32 p2, u32 p3, u32 p4) {
   u32 l5 = 0, l6 = 0, l7 = 0, l8 = 0, l9 = 0, l10 = 0, l11 = 0, l12 = 0, 
       l13 = 0, l14 = 0, l15 = 0, l16 = 0, l17 = 0, l18 = 0, l19 = 0, l20 = 0, 
       l21 = 0;
@@ -49959,7 +50397,7 @@ static void f47(module *self, u64 p0, u64 p1, u32 p2, u32 p3, u32 p4) {
       j1 = 2072ull;
       j0 += j1;
       j1 = 6ull;
-      i0 = f11(self, j0, j1); m = self->memory; if (NEVER(self->is_broken)) return;
+      i0 = f12(self, j0, j1); m = self->memory; if (NEVER(self->is_broken)) return;
       i0 = !(i0);
       if (i0) {goto B3;}
       j0 = p1;
@@ -50376,7 +50814,7 @@ static void f47(module *self, u64 p0, u64 p1, u32 p2, u32 p3, u32 p4) {
   B0:;
 }
 
-static u32 f48(module *self, u64 p0, u64 p1, u32 p2, u32 p3) {
+static u32 f49(module *self, u64 p0, u64 p1, u32 p2, u32 p3) {
   u32 l12 = 0, l13 = 0, l14 = 0;
   u64 l4 = 0, l5 = 0, l6 = 0, l7 = 0, l8 = 0, l9 = 0, l10 = 0, l11 = 0;
   u8 *m = self->memory;
@@ -50511,7 +50949,7 @@ static u32 f48(module *self, u64 p0, u64 p1, u32 p2, u32 p3) {
   j1 = 2072ull;
   j0 += j1;
   j1 = 5ull;
-  i0 = f11(self, j0, j1); m = self->memory; if (NEVER(self->is_broken)) return ZAK_BROKEN;
+  i0 = f12(self, j0, j1); m = self->memory; if (NEVER(self->is_broken)) return ZAK_BROKEN;
   i0 = !(i0);
   if (i0) {goto B3;}
   j0 = p0;
@@ -50564,7 +51002,7 @@ static u32 f48(module *self, u64 p0, u64 p1, u32 p2, u32 p3) {
   j0 += j1;
   j1 = p0;
   i2 = l13;
-  f33(self, j0, j1, i2);
+  f34(self, j0, j1, i2);
   i0 = 4294967295u;
   j1 = l4;
   i1 = (u32)(j1);
@@ -50626,7 +51064,7 @@ static u32 f48(module *self, u64 p0, u64 p1, u32 p2, u32 p3) {
   j4 = l4;
   j5 = 32ull;
   j4 += j5;
-  f32(self, j0, j1, j2, i3, j4); m = self->memory; if (NEVER(self->is_broken)) return ZAK_BROKEN;
+  f33(self, j0, j1, j2, i3, j4); m = self->memory; if (NEVER(self->is_broken)) return ZAK_BROKEN;
   B0:;
   j0 = l4;
   j1 = 48ull;
@@ -50636,7 +51074,7 @@ static u32 f48(module *self, u64 p0, u64 p1, u32 p2, u32 p3) {
   return i0;
 }
 
-static void f49(module *self, u64 p0, u32 p1, u32 p2, u32 p3, u32 p4) {
+static void f50(module *self, u64 p0, u32 p1, u32 p2, u32 p3, u32 p4) {
   u32 l5 = 0, l6 = 0, l7 = 0, l8 = 0, l9 = 0, l10 = 0, l11 = 0, l12 = 0, 
       l13 = 0, l14 = 0, l15 = 0, l16 = 0, l17 = 0;
   u64 l18 = 0;
@@ -50689,12 +51127,12 @@ static void f49(module *self, u64 p0, u32 p1, u32 p2, u32 p3, u32 p4) {
   i1 = i32_load8_u(j1);
   l12 = i1;
   i2 = p3;
-  i0 = f45(self, j0, i1, i2);
+  i0 = f46(self, j0, i1, i2);
   l13 = i0;
   j0 = p0;
   i1 = l12;
   i2 = p4;
-  i0 = f45(self, j0, i1, i2);
+  i0 = f46(self, j0, i1, i2);
   l14 = i0;
   j0 = p0;
   j1 = 2003ull;
@@ -51061,7 +51499,7 @@ static void f49(module *self, u64 p0, u32 p1, u32 p2, u32 p3, u32 p4) {
   B5:;
 }
 
-static void f50(module *self, u64 p0, u64 p1) {
+static void f51(module *self, u64 p0, u64 p1) {
   u32 l2 = 0, l3 = 0, l4 = 0, l5 = 0;
   u64 l6 = 0, l7 = 0, l8 = 0;
   u8 *m = self->memory;
@@ -51297,7 +51735,7 @@ static void f50(module *self, u64 p0, u64 p1) {
   i32_store(j0, i1);
 }
 
-static void f51(module *self, u64 p0, u64 p1, u32 p2, u64 p3, u64 p4) {
+static void f52(module *self, u64 p0, u64 p1, u32 p2, u64 p3, u64 p4) {
   u32 l5 = 0, l6 = 0, l7 = 0, l8 = 0;
   u64 l9 = 0, l10 = 0;
   u8 *m = self->memory;
@@ -51946,7 +52384,503 @@ static void f51(module *self, u64 p0, u64 p1, u32 p2, u64 p3, u64 p4) {
   Bfunc:;
 }
 
-static void f52(module *self, u64 p0, u64 p1, u32 p2) {
+static u32 f53(module *self, u64 p0, u32 p1) {
+  u32 l3 = 0, l4 = 0, l5 = 0;
+  u64 l2 = 0;
+  u8 *m = self->memory;
+  u32 i0, i1, i2, i3, i4, i5;
+  u64 j0, j1, j2, j3, j4;
+  j0 = self->g0;
+  j1 = 16ull;
+  j0 -= j1;
+  l2 = j0;
+  self->g0 = j0;
+  j0 = p0;
+  j1 = 34ull;
+  j0 += j1;
+  i0 = (u32)(j0);
+  i0 = i32_load8_u(j0);
+  l3 = i0;
+  j0 = l2;
+  i0 = (u32)(j0);
+  j1 = p0;
+  j2 = 138ull;
+  j1 += j2;
+  i1 = (u32)(j1);
+  j1 = i64_load(j1);
+  i64_store(j0 + 8, j1);
+  j0 = l2;
+  i0 = (u32)(j0);
+  j1 = p0;
+  j2 = 136ull;
+  j1 += j2;
+  i1 = (u32)(j1);
+  i1 = i32_load16_u(j1);
+  i32_store16(j0 + 6, i1);
+  j0 = l2;
+  i0 = (u32)(j0);
+  j1 = p0;
+  j2 = 132ull;
+  j1 += j2;
+  i1 = (u32)(j1);
+  i1 = i32_load(j1);
+  i32_store(j0 + 2, i1);
+  i0 = 1u;
+  l4 = i0;
+  j0 = l2;
+  j1 = 2ull;
+  j0 += j1;
+  j1 = p0;
+  j2 = 80ull;
+  j1 += j2;
+  i2 = l3;
+  i3 = 1u;
+  i2 &= i3;
+  i3 = 9u;
+  i2 ^= i3;
+  i3 = p1;
+  f7(self, j0, j1, i2, i3); if (NEVER(self->is_broken)) return ZAK_BROKEN;
+  j0 = p0;
+  j1 = 112ull;
+  j0 += j1;
+  i0 = (u32)(j0);
+  i0 = i32_load8_u(j0);
+  p1 = i0;
+  j0 = l2;
+  i0 = (u32)(j0);
+  i0 = i32_load16_u(j0 + 4u);
+  l3 = i0;
+  j0 = l2;
+  i0 = (u32)(j0);
+  i0 = i32_load16_u(j0 + 6u);
+  j1 = p0;
+  j2 = 106ull;
+  j1 += j2;
+  i1 = (u32)(j1);
+  i1 = i32_load8_u(j1);
+  i0 = i0 > i1;
+  if (i0) {goto B0;}
+  i0 = l3;
+  i1 = 65535u;
+  i0 &= i1;
+  i1 = p1;
+  i2 = 7u;
+  i1 <<= (i2 & 31);
+  i2 = 256u;
+  i1 &= i2;
+  j2 = p0;
+  j3 = 123ull;
+  j2 += j3;
+  i2 = (u32)(j2);
+  i2 = i32_load8_u(j2);
+  i1 |= i2;
+  i2 = p1;
+  i3 = 3u;
+  i2 <<= (i3 & 31);
+  i3 = 512u;
+  i2 &= i3;
+  i1 |= i2;
+  i2 = 65535u;
+  i1 &= i2;
+  i0 = i0 > i1;
+  l4 = i0;
+  B0:;
+  i0 = p1;
+  i1 = 6u;
+  i0 <<= (i1 & 31);
+  i1 = 256u;
+  i0 &= i1;
+  i1 = p1;
+  i2 = 128u;
+  i1 &= i2;
+  i2 = 2u;
+  i1 <<= (i2 & 31);
+  i0 |= i1;
+  j1 = p0;
+  j2 = 121ull;
+  j1 += j2;
+  i1 = (u32)(j1);
+  i1 = i32_load8_u(j1);
+  p1 = i1;
+  i0 |= i1;
+  l5 = i0;
+  i1 = l3;
+  i2 = 65535u;
+  i1 &= i2;
+  l3 = i1;
+  i0 = i0 > i1;
+  if (i0) {goto B1;}
+  i0 = 8u;
+  i1 = 0u;
+  i2 = l3;
+  j3 = p0;
+  j4 = 122ull;
+  j3 += j4;
+  i3 = (u32)(j3);
+  i3 = i32_load8_u(j3);
+  i4 = p1;
+  i3 -= i4;
+  i4 = 15u;
+  i3 &= i4;
+  p1 = i3;
+  i4 = 16u;
+  i5 = p1;
+  i3 = i5 ? i3 : i4;
+  i4 = l5;
+  i3 += i4;
+  i4 = 65535u;
+  i3 &= i4;
+  i2 = i2 < i3;
+  i0 = i2 ? i0 : i1;
+  i1 = l4;
+  i0 |= i1;
+  l4 = i0;
+  B1:;
+  j0 = p0;
+  j1 = 205ull;
+  j0 += j1;
+  i0 = (u32)(j0);
+  i1 = 0u;
+  i32_store8(j0, i1);
+  j0 = l2;
+  j1 = 16ull;
+  j0 += j1;
+  self->g0 = j0;
+  i0 = l4;
+  return i0;
+}
+
+static void f54(module *self, u64 p0, u64 p1, u32 p2, u32 p3) {
+  u32 l5 = 0, l6 = 0, l7 = 0, l8 = 0, l9 = 0;
+  u64 l4 = 0;
+  u8 *m = self->memory;
+  u32 i0, i1, i2, i3, i4, i5;
+  u64 j0, j1, j2, j3, j4;
+  j0 = self->g0;
+  j1 = 16ull;
+  j0 -= j1;
+  l4 = j0;
+  self->g0 = j0;
+  j0 = p1;
+  j1 = 136ull;
+  j0 += j1;
+  i0 = (u32)(j0);
+  i0 = i32_load16_u(j0);
+  l5 = i0;
+  j1 = p1;
+  j2 = 105ull;
+  j1 += j2;
+  i1 = (u32)(j1);
+  i1 = i32_load8_u(j1);
+  i2 = 5u;
+  i1 += i2;
+  l6 = i1;
+  i0 = i0 >= i1;
+  if (i0) {goto B2;}
+  j0 = p1;
+  j1 = 138ull;
+  j0 += j1;
+  i0 = (u32)(j0);
+  i0 = i32_load8_u(j0);
+  l7 = i0;
+  j1 = p1;
+  j2 = 34ull;
+  j1 += j2;
+  i1 = (u32)(j1);
+  i1 = i32_load8_u(j1);
+  i2 = 1u;
+  i1 &= i2;
+  i2 = 9u;
+  i1 ^= i2;
+  l8 = i1;
+  i0 = i0 >= i1;
+  if (i0) {goto B2;}
+  i0 = 0u;
+  l9 = i0;
+  i0 = p2;
+  i1 = 0u;
+  i2 = l8;
+  i3 = l7;
+  i4 = 1u;
+  i3 += i4;
+  i4 = 255u;
+  i3 &= i4;
+  i2 -= i3;
+  l7 = i2;
+  i3 = l7;
+  i4 = l8;
+  i3 = i3 > i4;
+  i1 = i3 ? i1 : i2;
+  i2 = 0u;
+  i3 = l6;
+  i4 = l5;
+  i5 = 1u;
+  i4 += i5;
+  i5 = 65535u;
+  i4 &= i5;
+  i3 -= i4;
+  l7 = i3;
+  i4 = l7;
+  i5 = l6;
+  i4 = i4 > i5;
+  i2 = i4 ? i2 : i3;
+  i3 = l8;
+  i2 *= i3;
+  i1 += i2;
+  i2 = 1u;
+  i1 += i2;
+  l7 = i1;
+  i0 = i0 >= i1;
+  if (i0) {goto B4;}
+  i0 = p2;
+  l7 = i0;
+  goto B3;
+  B4:;
+  j0 = p1;
+  i1 = p2;
+  i2 = p2;
+  i3 = l7;
+  i2 -= i3;
+  i3 = l6;
+  i4 = l8;
+  i3 *= i4;
+  if (i3 == 0) { self->is_broken = true; return; } i2 = i2 % i3;
+  l7 = i2;
+  i1 -= i2;
+  f2(self, j0, i1); m = self->memory; if (NEVER(self->is_broken)) return;
+  i0 = l7;
+  i0 = !(i0);
+  if (i0) {goto B1;}
+  j0 = p1;
+  j1 = 105ull;
+  j0 += j1;
+  i0 = (u32)(j0);
+  i0 = i32_load8_u(j0);
+  i1 = 5u;
+  i0 += i1;
+  l6 = i0;
+  j0 = p1;
+  j1 = 34ull;
+  j0 += j1;
+  i0 = (u32)(j0);
+  i0 = i32_load8_u(j0);
+  i1 = 1u;
+  i0 &= i1;
+  i1 = 9u;
+  i0 ^= i1;
+  l8 = i0;
+  j0 = p1;
+  j1 = 136ull;
+  j0 += j1;
+  i0 = (u32)(j0);
+  i0 = i32_load16_u(j0);
+  l5 = i0;
+  B3:;
+  i0 = l5;
+  i1 = 65535u;
+  i0 &= i1;
+  i1 = l6;
+  i0 = i0 < i1;
+  if (i0) {goto B5;}
+  i0 = l7;
+  l9 = i0;
+  goto B1;
+  B5:;
+  j0 = p1;
+  j1 = 138ull;
+  j0 += j1;
+  i0 = (u32)(j0);
+  i0 = i32_load8_u(j0);
+  p2 = i0;
+  i1 = l8;
+  i0 = i0 < i1;
+  if (i0) {goto B6;}
+  i0 = l7;
+  l9 = i0;
+  goto B1;
+  B6:;
+  i0 = l7;
+  i1 = 0u;
+  i2 = l8;
+  i3 = p2;
+  i4 = 1u;
+  i3 += i4;
+  i4 = 255u;
+  i3 &= i4;
+  i2 -= i3;
+  p2 = i2;
+  i3 = p2;
+  i4 = l8;
+  i3 = i3 > i4;
+  i1 = i3 ? i1 : i2;
+  i2 = 0u;
+  i3 = l6;
+  i4 = l5;
+  i5 = 1u;
+  i4 += i5;
+  i5 = 65535u;
+  i4 &= i5;
+  i3 -= i4;
+  p2 = i3;
+  i4 = p2;
+  i5 = l6;
+  i4 = i4 > i5;
+  i2 = i4 ? i2 : i3;
+  i3 = l8;
+  i2 *= i3;
+  i1 += i2;
+  i2 = 1u;
+  i1 += i2;
+  i0 = i0 <= i1;
+  if (i0) {goto B7;}
+  i0 = l7;
+  l9 = i0;
+  goto B1;
+  B7:;
+  i0 = p3;
+  i1 = 65535u;
+  i0 &= i1;
+  p2 = i0;
+  i1 = 4294966336u;
+  i0 += i1;
+  i1 = 11u;
+  i0 = i0 >= i1;
+  if (i0) {goto B8;}
+  i0 = l7;
+  l9 = i0;
+  goto B1;
+  B8:;
+  i0 = p2;
+  i1 = 4294966324u;
+  i0 += i1;
+  p2 = i0;
+  i1 = 3u;
+  i0 = i0 > i1;
+  if (i0) {goto B9;}
+  i0 = p2;
+  i1 = 1u;
+  i0 = i0 == i1;
+  if (i0) {goto B9;}
+  i0 = l7;
+  l9 = i0;
+  goto B1;
+  B9:;
+  i0 = p3;
+  i1 = 65535u;
+  i0 &= i1;
+  p2 = i0;
+  i1 = 980u;
+  i2 = 948u;
+  j3 = p1;
+  j4 = 2003ull;
+  j3 += j4;
+  i3 = (u32)(j3);
+  i3 = i32_load8_u(j3);
+  i4 = 1u;
+  i3 &= i4;
+  i1 = i3 ? i1 : i2;
+  l9 = i1;
+  i0 = i0 != i1;
+  if (i0) {goto B10;}
+  i0 = l7;
+  l9 = i0;
+  goto B1;
+  B10:;
+  i0 = p2;
+  i1 = l9;
+  i2 = 1u;
+  i1 |= i2;
+  i2 = 65535u;
+  i1 &= i2;
+  i0 = i0 == i1;
+  l6 = i0;
+  i1 = l6;
+  i2 = p2;
+  i3 = l9;
+  i4 = 6u;
+  i3 += i4;
+  l9 = i3;
+  i4 = 65535u;
+  i3 &= i4;
+  i2 = i2 == i3;
+  i1 |= i2;
+  i0 = i0 != i1;
+  if (i0) {goto B11;}
+  i0 = l7;
+  l9 = i0;
+  goto B1;
+  B11:;
+  i0 = p3;
+  i1 = 65535u;
+  i0 &= i1;
+  i1 = l9;
+  i2 = 65535u;
+  i1 &= i2;
+  i0 = i0 == i1;
+  if (i0) {goto B12;}
+  i0 = l7;
+  l9 = i0;
+  goto B1;
+  B12:;
+  j0 = p1;
+  i1 = l7;
+  i0 = f53(self, j0, i1); if (NEVER(self->is_broken)) return;
+  p2 = i0;
+  j0 = p0;
+  j1 = 4ull;
+  j0 += j1;
+  i0 = (u32)(j0);
+  i1 = 0u;
+  i32_store8(j0, i1);
+  j0 = p0;
+  i0 = (u32)(j0);
+  i1 = l7;
+  i32_store(j0, i1);
+  j0 = p0;
+  j1 = 5ull;
+  j0 += j1;
+  i0 = (u32)(j0);
+  i1 = p2;
+  i2 = 255u;
+  i1 &= i2;
+  i32_store8(j0, i1);
+  goto B0;
+  B2:;
+  j0 = p1;
+  i1 = p2;
+  f2(self, j0, i1); m = self->memory; if (NEVER(self->is_broken)) return;
+  i0 = 0u;
+  l9 = i0;
+  B1:;
+  j0 = p1;
+  i1 = l9;
+  f2(self, j0, i1); m = self->memory; if (NEVER(self->is_broken)) return;
+  j0 = l4;
+  j1 = 8ull;
+  j0 += j1;
+  j1 = p1;
+  i2 = p3;
+  f26(self, j0, j1, i2); if (NEVER(self->is_broken)) return;
+  j0 = p0;
+  j1 = 4ull;
+  j0 += j1;
+  i0 = (u32)(j0);
+  j1 = l4;
+  i1 = (u32)(j1);
+  i1 = i32_load16_u(j1 + 8u);
+  i32_store16(j0, i1);
+  j0 = p0;
+  i0 = (u32)(j0);
+  i1 = 0u;
+  i32_store(j0, i1);
+  B0:;
+  j0 = l4;
+  j1 = 16ull;
+  j0 += j1;
+  self->g0 = j0;
+}
+
+static void f55(module *self, u64 p0, u64 p1, u32 p2) {
   u32 l4 = 0, l5 = 0, l6 = 0, l7 = 0;
   u64 l3 = 0;
   u8 *m = self->memory;
@@ -52055,7 +52989,7 @@ static void f52(module *self, u64 p0, u64 p1, u32 p2) {
   j0 += j1;
   j1 = p1;
   i2 = p2;
-  f25(self, j0, j1, i2); if (NEVER(self->is_broken)) return;
+  f26(self, j0, j1, i2); if (NEVER(self->is_broken)) return;
   j0 = l3;
   i0 = (u32)(j0);
   i0 = i32_load8_u(j0 + 25u);
@@ -52071,7 +53005,7 @@ static void f52(module *self, u64 p0, u64 p1, u32 p2) {
   i2 = p2;
   i3 = 1u;
   i2 += i3;
-  f25(self, j0, j1, i2); if (NEVER(self->is_broken)) return;
+  f26(self, j0, j1, i2); if (NEVER(self->is_broken)) return;
   j0 = l3;
   i0 = (u32)(j0);
   i0 = i32_load8_u(j0 + 17u);
@@ -52103,7 +53037,7 @@ static void f52(module *self, u64 p0, u64 p1, u32 p2) {
   j0 += j1;
   j1 = p1;
   i2 = 964u;
-  f25(self, j0, j1, i2); if (NEVER(self->is_broken)) return;
+  f26(self, j0, j1, i2); if (NEVER(self->is_broken)) return;
   j0 = l3;
   i0 = (u32)(j0);
   i0 = i32_load8_u(j0 + 41u);
@@ -52117,7 +53051,7 @@ static void f52(module *self, u64 p0, u64 p1, u32 p2) {
   j0 += j1;
   j1 = p1;
   i2 = 965u;
-  f25(self, j0, j1, i2); if (NEVER(self->is_broken)) return;
+  f26(self, j0, j1, i2); if (NEVER(self->is_broken)) return;
   j0 = l3;
   i0 = (u32)(j0);
   i0 = i32_load8_u(j0 + 33u);
@@ -52149,7 +53083,7 @@ static void f52(module *self, u64 p0, u64 p1, u32 p2) {
   j0 += j1;
   j1 = p1;
   i2 = 968u;
-  f25(self, j0, j1, i2); if (NEVER(self->is_broken)) return;
+  f26(self, j0, j1, i2); if (NEVER(self->is_broken)) return;
   j0 = l3;
   i0 = (u32)(j0);
   i0 = i32_load8_u(j0 + 57u);
@@ -52163,7 +53097,7 @@ static void f52(module *self, u64 p0, u64 p1, u32 p2) {
   j0 += j1;
   j1 = p1;
   i2 = 969u;
-  f25(self, j0, j1, i2); if (NEVER(self->is_broken)) return;
+  f26(self, j0, j1, i2); if (NEVER(self->is_broken)) return;
   j0 = l3;
   i0 = (u32)(j0);
   i0 = i32_load8_u(j0 + 49u);
@@ -52195,7 +53129,7 @@ static void f52(module *self, u64 p0, u64 p1, u32 p2) {
   j0 += j1;
   j1 = p1;
   i2 = 974u;
-  f25(self, j0, j1, i2); if (NEVER(self->is_broken)) return;
+  f26(self, j0, j1, i2); if (NEVER(self->is_broken)) return;
   j0 = l3;
   i0 = (u32)(j0);
   i0 = i32_load8_u(j0 + 73u);
@@ -52215,7 +53149,7 @@ static void f52(module *self, u64 p0, u64 p1, u32 p2) {
   j0 += j1;
   j1 = p1;
   i2 = 975u;
-  f25(self, j0, j1, i2); if (NEVER(self->is_broken)) return;
+  f26(self, j0, j1, i2); if (NEVER(self->is_broken)) return;
   j0 = l3;
   i0 = (u32)(j0);
   i0 = i32_load8_u(j0 + 65u);
@@ -52247,7 +53181,7 @@ static void f52(module *self, u64 p0, u64 p1, u32 p2) {
   j0 += j1;
   j1 = p1;
   i2 = p2;
-  f25(self, j0, j1, i2); if (NEVER(self->is_broken)) return;
+  f26(self, j0, j1, i2); if (NEVER(self->is_broken)) return;
   j0 = l3;
   i0 = (u32)(j0);
   i0 = i32_load8_u(j0 + 9u);
@@ -52266,7 +53200,7 @@ static void f52(module *self, u64 p0, u64 p1, u32 p2) {
   i2 = p2;
   i3 = 1u;
   i2 += i3;
-  f25(self, j0, j1, i2); if (NEVER(self->is_broken)) return;
+  f26(self, j0, j1, i2); if (NEVER(self->is_broken)) return;
   j0 = l3;
   i0 = (u32)(j0);
   i0 = i32_load8_u(j0 + 1u);
@@ -52312,7 +53246,7 @@ static void f52(module *self, u64 p0, u64 p1, u32 p2) {
   j0 += j1;
   j1 = p1;
   i2 = 965u;
-  f53(self, j0, j1, i2); if (NEVER(self->is_broken)) return;
+  f56(self, j0, j1, i2); if (NEVER(self->is_broken)) return;
   j0 = l3;
   i0 = (u32)(j0);
   i0 = i32_load16_u(j0 + 78u);
@@ -52364,7 +53298,7 @@ static void f52(module *self, u64 p0, u64 p1, u32 p2) {
   self->g0 = j0;
 }
 
-static void f53(module *self, u64 p0, u64 p1, u32 p2) {
+static void f56(module *self, u64 p0, u64 p1, u32 p2) {
   u32 l4 = 0, l5 = 0, l6 = 0;
   u64 l3 = 0;
   u8 *m = self->memory;
@@ -52380,7 +53314,7 @@ static void f53(module *self, u64 p0, u64 p1, u32 p2) {
   j0 += j1;
   j1 = p1;
   i2 = p2;
-  f25(self, j0, j1, i2); if (NEVER(self->is_broken)) return;
+  f26(self, j0, j1, i2); if (NEVER(self->is_broken)) return;
   i0 = 0u;
   l4 = i0;
   i0 = 1u;
@@ -52398,7 +53332,7 @@ static void f53(module *self, u64 p0, u64 p1, u32 p2) {
   i2 = p2;
   i3 = 1u;
   i2 += i3;
-  f25(self, j0, j1, i2); if (NEVER(self->is_broken)) return;
+  f26(self, j0, j1, i2); if (NEVER(self->is_broken)) return;
   j0 = l3;
   i0 = (u32)(j0);
   i0 = i32_load8_u(j0 + 1u);
@@ -52448,7 +53382,7 @@ static void f53(module *self, u64 p0, u64 p1, u32 p2) {
   self->g0 = j0;
 }
 
-static void f54(module *self, u64 p0, u64 p1, u64 p2, u64 p3, u64 p4, u64 p5, u64 p6) {
+static void f57(module *self, u64 p0, u64 p1, u64 p2, u64 p3, u64 p4, u64 p5, u64 p6) {
   u32 l20 = 0, l21 = 0, l22 = 0, l23 = 0, l24 = 0, l25 = 0, l26 = 0, l27 = 0, 
       l28 = 0, l29 = 0, l30 = 0, l31 = 0, l32 = 0, l33 = 0, l34 = 0, l35 = 0, 
       l36 = 0, l37 = 0, l38 = 0, l39 = 0, l40 = 0, l41 = 0, l42 = 0, l43 = 0, 
@@ -52486,7 +53420,7 @@ static void f54(module *self, u64 p0, u64 p1, u64 p2, u64 p3, u64 p4, u64 p5, u6
   j1 = 272ull;
   j0 += j1;
   j1 = p4;
-  f17(self, j0, j1);
+  f18(self, j0, j1);
   j0 = l7;
   i0 = (u32)(j0);
   i0 = i32_load8_u(j0 + 272u);
@@ -53181,7 +54115,7 @@ static void f54(module *self, u64 p0, u64 p1, u64 p2, u64 p3, u64 p4, u64 p5, u6
   i3 = 6u;
   i2 += i3;
   l49 = i2;
-  f25(self, j0, j1, i2); if (NEVER(self->is_broken)) return;
+  f26(self, j0, j1, i2); if (NEVER(self->is_broken)) return;
   j0 = p1;
   j1 = 188ull;
   j0 += j1;
@@ -53250,7 +54184,7 @@ static void f54(module *self, u64 p0, u64 p1, u64 p2, u64 p3, u64 p4, u64 p5, u6
     j1 = 304ull;
     j0 += j1;
     j1 = p2;
-    f22(self, j0, j1);
+    f23(self, j0, j1);
     j0 = l8;
     i0 = (u32)(j0);
     j1 = l7;
@@ -53300,7 +54234,7 @@ static void f54(module *self, u64 p0, u64 p1, u64 p2, u64 p3, u64 p4, u64 p5, u6
     j0 += j1;
     j1 = p1;
     i2 = l49;
-    f25(self, j0, j1, i2); if (NEVER(self->is_broken)) return;
+    f26(self, j0, j1, i2); if (NEVER(self->is_broken)) return;
     j0 = l7;
     j1 = 320ull;
     j0 += j1;
@@ -53374,7 +54308,7 @@ static void f54(module *self, u64 p0, u64 p1, u64 p2, u64 p3, u64 p4, u64 p5, u6
   j1 = 304ull;
   j0 += j1;
   j1 = p2;
-  f22(self, j0, j1);
+  f23(self, j0, j1);
   j0 = l8;
   i0 = (u32)(j0);
   j1 = l7;
@@ -53413,7 +54347,7 @@ static void f54(module *self, u64 p0, u64 p1, u64 p2, u64 p3, u64 p4, u64 p5, u6
   j0 += j1;
   j1 = p1;
   i2 = l49;
-  f25(self, j0, j1, i2); if (NEVER(self->is_broken)) return;
+  f26(self, j0, j1, i2); if (NEVER(self->is_broken)) return;
   j0 = l7;
   i0 = (u32)(j0);
   i1 = l39;
@@ -53454,7 +54388,7 @@ static void f54(module *self, u64 p0, u64 p1, u64 p2, u64 p3, u64 p4, u64 p5, u6
   j1 *= j2;
   l8 = j1;
   j2 = 1ull;
-  f151(self, j0, j1, j2); m = self->memory; if (NEVER(self->is_broken)) return;
+  f155(self, j0, j1, j2); m = self->memory; if (NEVER(self->is_broken)) return;
   i0 = 1u;
   l20 = i0;
   i0 = 0u;
@@ -53497,7 +54431,7 @@ static void f54(module *self, u64 p0, u64 p1, u64 p2, u64 p3, u64 p4, u64 p5, u6
   j0 += j1;
   j1 = 24ull;
   j2 = 8ull;
-  f151(self, j0, j1, j2); m = self->memory; if (NEVER(self->is_broken)) return;
+  f155(self, j0, j1, j2); m = self->memory; if (NEVER(self->is_broken)) return;
   i0 = 1u;
   l20 = i0;
   j0 = l7;
@@ -53508,7 +54442,7 @@ static void f54(module *self, u64 p0, u64 p1, u64 p2, u64 p3, u64 p4, u64 p5, u6
   i0 &= i1;
   if (i0) {goto B40;}
   j0 = p2;
-  f154(self, j0);
+  f158(self, j0);
   i0 = 0u;
   l48 = i0;
   goto B7;
@@ -53786,7 +54720,7 @@ static void f54(module *self, u64 p0, u64 p1, u64 p2, u64 p3, u64 p4, u64 p5, u6
   i2 = (u32)(j2);
   i3 = 255u;
   i2 &= i3;
-  f19(self, j0, i1, i2);
+  f20(self, j0, i1, i2);
   i0 = 1u;
   l39 = i0;
   j0 = l7;
@@ -53834,56 +54768,56 @@ static void f54(module *self, u64 p0, u64 p1, u64 p2, u64 p3, u64 p4, u64 p5, u6
   j4 = l7;
   i4 = (u32)(j4);
   i4 = i32_load8_u(j4 + 336u);
-  f55(self, j0, j1, j2, j3, i4);
+  f58(self, j0, j1, j2, j3, i4);
   j0 = p1;
   i1 = l48;
   i2 = 9u;
   i3 = l52;
-  f56(self, j0, i1, i2, i3);
+  f59(self, j0, i1, i2, i3);
   j0 = p1;
   i1 = l48;
   i2 = 10u;
   i3 = l49;
   i4 = 8u;
   i3 >>= (i4 & 31);
-  f56(self, j0, i1, i2, i3);
+  f59(self, j0, i1, i2, i3);
   j0 = p1;
   i1 = l48;
   i2 = 11u;
   i3 = l49;
-  f56(self, j0, i1, i2, i3);
+  f59(self, j0, i1, i2, i3);
   j0 = p1;
   i1 = l48;
   i2 = 18u;
   i3 = l51;
-  f56(self, j0, i1, i2, i3);
+  f59(self, j0, i1, i2, i3);
   j0 = p1;
   i1 = l48;
   i2 = 20u;
   i3 = l39;
-  f56(self, j0, i1, i2, i3);
+  f59(self, j0, i1, i2, i3);
   i0 = 0u;
   l39 = i0;
   j0 = p1;
   i1 = l48;
   i2 = 12u;
   i3 = 0u;
-  f56(self, j0, i1, i2, i3);
+  f59(self, j0, i1, i2, i3);
   j0 = p1;
   i1 = l48;
   i2 = 13u;
   i3 = 0u;
-  f56(self, j0, i1, i2, i3);
+  f59(self, j0, i1, i2, i3);
   j0 = p1;
   i1 = l48;
   i2 = 14u;
   i3 = 0u;
-  f56(self, j0, i1, i2, i3);
+  f59(self, j0, i1, i2, i3);
   j0 = p1;
   i1 = l48;
   i2 = 15u;
   i3 = 0u;
-  f56(self, j0, i1, i2, i3);
+  f59(self, j0, i1, i2, i3);
   j0 = p2;
   i0 = (u32)(j0);
   j1 = 0ull;
@@ -54046,7 +54980,7 @@ static void f54(module *self, u64 p0, u64 p1, u64 p2, u64 p3, u64 p4, u64 p5, u6
   j2 = 420ull;
   j1 += j2;
   j2 = p2;
-  f29(self, j0, j1, j2);
+  f30(self, j0, j1, j2);
   j0 = l7;
   j1 = 256ull;
   j0 += j1;
@@ -54055,7 +54989,7 @@ static void f54(module *self, u64 p0, u64 p1, u64 p2, u64 p3, u64 p4, u64 p5, u6
   j1 += j2;
   j2 = p2;
   j3 = p6;
-  f30(self, j0, j1, j2, j3);
+  f31(self, j0, j1, j2, j3);
   j0 = l7;
   i0 = (u32)(j0);
   i0 = i32_load8_u(j0 + 256u);
@@ -54156,12 +55090,12 @@ static void f54(module *self, u64 p0, u64 p1, u64 p2, u64 p3, u64 p4, u64 p5, u6
   i3 = l75;
   i4 = 8u;
   i3 >>= (i4 & 31);
-  f56(self, j0, i1, i2, i3);
+  f59(self, j0, i1, i2, i3);
   j0 = p1;
   i1 = l39;
   i2 = 11u;
   i3 = l75;
-  f56(self, j0, i1, i2, i3);
+  f59(self, j0, i1, i2, i3);
   j0 = p2;
   j1 = 24ull;
   j0 += j1;
@@ -54228,12 +55162,12 @@ static void f54(module *self, u64 p0, u64 p1, u64 p2, u64 p3, u64 p4, u64 p5, u6
   l20 = i3;
   i4 = 8u;
   i3 >>= (i4 & 31);
-  f56(self, j0, i1, i2, i3);
+  f59(self, j0, i1, i2, i3);
   j0 = p1;
   i1 = l39;
   i2 = 15u;
   i3 = l20;
-  f56(self, j0, i1, i2, i3);
+  f59(self, j0, i1, i2, i3);
   goto B56;
   B70:;
   j0 = l7;
@@ -54286,12 +55220,12 @@ static void f54(module *self, u64 p0, u64 p1, u64 p2, u64 p3, u64 p4, u64 p5, u6
   l20 = i3;
   i4 = 8u;
   i3 >>= (i4 & 31);
-  f56(self, j0, i1, i2, i3);
+  f59(self, j0, i1, i2, i3);
   j0 = p1;
   i1 = l39;
   i2 = 13u;
   i3 = l20;
-  f56(self, j0, i1, i2, i3);
+  f59(self, j0, i1, i2, i3);
   j0 = p2;
   j1 = 6ull;
   j0 += j1;
@@ -54351,12 +55285,12 @@ static void f54(module *self, u64 p0, u64 p1, u64 p2, u64 p3, u64 p4, u64 p5, u6
   l20 = i3;
   i4 = 8u;
   i3 >>= (i4 & 31);
-  f56(self, j0, i1, i2, i3);
+  f59(self, j0, i1, i2, i3);
   j0 = p1;
   i1 = l39;
   i2 = 15u;
   i3 = l20;
-  f56(self, j0, i1, i2, i3);
+  f59(self, j0, i1, i2, i3);
   goto B56;
   B68:;
   j0 = l7;
@@ -54463,7 +55397,7 @@ static void f54(module *self, u64 p0, u64 p1, u64 p2, u64 p3, u64 p4, u64 p5, u6
   j4 = l7;
   j5 = 304ull;
   j4 += j5;
-  f57(self, j0, j1, j2, i3, j4); if (NEVER(self->is_broken)) return;
+  f60(self, j0, j1, j2, i3, j4); if (NEVER(self->is_broken)) return;
   goto B56;
   B67:;
   j0 = l7;
@@ -54574,7 +55508,7 @@ static void f54(module *self, u64 p0, u64 p1, u64 p2, u64 p3, u64 p4, u64 p5, u6
   j4 = l7;
   j5 = 304ull;
   j4 += j5;
-  f57(self, j0, j1, j2, i3, j4); if (NEVER(self->is_broken)) return;
+  f60(self, j0, j1, j2, i3, j4); if (NEVER(self->is_broken)) return;
   goto B56;
   B66:;
   j0 = p2;
@@ -54635,7 +55569,7 @@ static void f54(module *self, u64 p0, u64 p1, u64 p2, u64 p3, u64 p4, u64 p5, u6
   i3 *= i4;
   i2 += i3;
   l39 = i2;
-  f33(self, j0, j1, i2);
+  f34(self, j0, j1, i2);
   j0 = l7;
   i0 = (u32)(j0);
   i0 = i32_load8_u(j0 + 81u);
@@ -54651,7 +55585,7 @@ static void f54(module *self, u64 p0, u64 p1, u64 p2, u64 p3, u64 p4, u64 p5, u6
   i2 = l39;
   i3 = 1u;
   i2 += i3;
-  f33(self, j0, j1, i2);
+  f34(self, j0, j1, i2);
   j0 = l7;
   i0 = (u32)(j0);
   i1 = 4294967295u;
@@ -54970,7 +55904,7 @@ static void f54(module *self, u64 p0, u64 p1, u64 p2, u64 p3, u64 p4, u64 p5, u6
     i4 = l20;
     i3 *= i4;
     i2 += i3;
-    f33(self, j0, j1, i2);
+    f34(self, j0, j1, i2);
     j0 = l8;
     i0 = (u32)(j0);
     i1 = 0u;
@@ -55131,7 +56065,7 @@ static void f54(module *self, u64 p0, u64 p1, u64 p2, u64 p3, u64 p4, u64 p5, u6
     i3 *= i4;
     i2 += i3;
     l39 = i2;
-    f33(self, j0, j1, i2);
+    f34(self, j0, j1, i2);
     j0 = l7;
     i0 = (u32)(j0);
     i0 = i32_load8_u(j0 + 152u);
@@ -55147,7 +56081,7 @@ static void f54(module *self, u64 p0, u64 p1, u64 p2, u64 p3, u64 p4, u64 p5, u6
     i2 = l39;
     i3 = 1u;
     i2 += i3;
-    f33(self, j0, j1, i2);
+    f34(self, j0, j1, i2);
     j0 = l7;
     i0 = (u32)(j0);
     i0 = i32_load8_u(j0 + 144u);
@@ -55163,7 +56097,7 @@ static void f54(module *self, u64 p0, u64 p1, u64 p2, u64 p3, u64 p4, u64 p5, u6
     i2 = l39;
     i3 = 2u;
     i2 += i3;
-    f33(self, j0, j1, i2);
+    f34(self, j0, j1, i2);
     j0 = l7;
     i0 = (u32)(j0);
     i0 = i32_load8_u(j0 + 136u);
@@ -55179,7 +56113,7 @@ static void f54(module *self, u64 p0, u64 p1, u64 p2, u64 p3, u64 p4, u64 p5, u6
     i2 = l39;
     i3 = 3u;
     i2 += i3;
-    f33(self, j0, j1, i2);
+    f34(self, j0, j1, i2);
     j0 = l7;
     i0 = (u32)(j0);
     i0 = i32_load8_u(j0 + 128u);
@@ -55195,7 +56129,7 @@ static void f54(module *self, u64 p0, u64 p1, u64 p2, u64 p3, u64 p4, u64 p5, u6
     i2 = l39;
     i3 = 4u;
     i2 += i3;
-    f33(self, j0, j1, i2);
+    f34(self, j0, j1, i2);
     j0 = l7;
     i0 = (u32)(j0);
     i0 = i32_load8_u(j0 + 120u);
@@ -55211,7 +56145,7 @@ static void f54(module *self, u64 p0, u64 p1, u64 p2, u64 p3, u64 p4, u64 p5, u6
     i2 = l39;
     i3 = 5u;
     i2 += i3;
-    f33(self, j0, j1, i2);
+    f34(self, j0, j1, i2);
     j0 = l7;
     i0 = (u32)(j0);
     i0 = i32_load8_u(j0 + 112u);
@@ -55227,7 +56161,7 @@ static void f54(module *self, u64 p0, u64 p1, u64 p2, u64 p3, u64 p4, u64 p5, u6
     i2 = l39;
     i3 = 6u;
     i2 += i3;
-    f33(self, j0, j1, i2);
+    f34(self, j0, j1, i2);
     j0 = l7;
     i0 = (u32)(j0);
     i0 = i32_load8_u(j0 + 104u);
@@ -55243,7 +56177,7 @@ static void f54(module *self, u64 p0, u64 p1, u64 p2, u64 p3, u64 p4, u64 p5, u6
     i2 = l39;
     i3 = 7u;
     i2 += i3;
-    f33(self, j0, j1, i2);
+    f34(self, j0, j1, i2);
     j0 = l8;
     i0 = (u32)(j0);
     i1 = 2u;
@@ -55350,7 +56284,7 @@ static void f54(module *self, u64 p0, u64 p1, u64 p2, u64 p3, u64 p4, u64 p5, u6
   j4 = l7;
   j5 = 320ull;
   j4 += j5;
-  i2 = f35(self, j2, i3, j4); if (NEVER(self->is_broken)) return;
+  i2 = f36(self, j2, i3, j4); if (NEVER(self->is_broken)) return;
   i3 = 255u;
   i2 &= i3;
   i1 |= i2;
@@ -55426,7 +56360,7 @@ static void f54(module *self, u64 p0, u64 p1, u64 p2, u64 p3, u64 p4, u64 p5, u6
     i3 = l75;
     i4 = l39;
     i5 = l49;
-    f58(self, j0, j1, i2, i3, i4, i5); if (NEVER(self->is_broken)) return;
+    f61(self, j0, j1, i2, i3, i4, i5); if (NEVER(self->is_broken)) return;
     i0 = l20;
     i1 = 1u;
     i0 += i1;
@@ -55545,7 +56479,7 @@ static void f54(module *self, u64 p0, u64 p1, u64 p2, u64 p3, u64 p4, u64 p5, u6
   i1 = (u32)(j1);
   i1 = i32_load8_u(j1);
   i2 = l48;
-  i0 = f45(self, j0, i1, i2);
+  i0 = f46(self, j0, i1, i2);
   l48 = i0;
   j0 = p1;
   j1 = 68ull;
@@ -55785,7 +56719,7 @@ static void f54(module *self, u64 p0, u64 p1, u64 p2, u64 p3, u64 p4, u64 p5, u6
   j0 += j1;
   j1 = p1;
   i2 = l49;
-  f33(self, j0, j1, i2);
+  f34(self, j0, j1, i2);
   j0 = p2;
   i0 = (u32)(j0);
   i1 = 5u;
@@ -55925,7 +56859,7 @@ static void f54(module *self, u64 p0, u64 p1, u64 p2, u64 p3, u64 p4, u64 p5, u6
   j0 = p1;
   i1 = l59;
   i2 = l48;
-  i0 = f45(self, j0, i1, i2);
+  i0 = f46(self, j0, i1, i2);
   l20 = i0;
   i0 = l52;
   i1 = 1u;
@@ -56220,7 +57154,7 @@ static void f54(module *self, u64 p0, u64 p1, u64 p2, u64 p3, u64 p4, u64 p5, u6
   j0 += j1;
   j1 = p1;
   i2 = l39;
-  f33(self, j0, j1, i2);
+  f34(self, j0, j1, i2);
   i0 = 4294967295u;
   j1 = l7;
   i1 = (u32)(j1);
@@ -56380,7 +57314,7 @@ static void f54(module *self, u64 p0, u64 p1, u64 p2, u64 p3, u64 p4, u64 p5, u6
   j0 += j1;
   j1 = p1;
   i2 = l39;
-  f33(self, j0, j1, i2);
+  f34(self, j0, j1, i2);
   j0 = l7;
   i0 = (u32)(j0);
   i0 = i32_load8_u(j0 + 201u);
@@ -56499,7 +57433,7 @@ static void f54(module *self, u64 p0, u64 p1, u64 p2, u64 p3, u64 p4, u64 p5, u6
   j0 += j1;
   j1 = p1;
   i2 = l39;
-  f33(self, j0, j1, i2);
+  f34(self, j0, j1, i2);
   j0 = l7;
   i0 = (u32)(j0);
   i0 = i32_load8_u(j0 + 193u);
@@ -56615,7 +57549,7 @@ static void f54(module *self, u64 p0, u64 p1, u64 p2, u64 p3, u64 p4, u64 p5, u6
   j0 += j1;
   j1 = p1;
   i2 = l39;
-  f33(self, j0, j1, i2);
+  f34(self, j0, j1, i2);
   j0 = l7;
   i0 = (u32)(j0);
   i0 = i32_load8_u(j0 + 185u);
@@ -56731,7 +57665,7 @@ static void f54(module *self, u64 p0, u64 p1, u64 p2, u64 p3, u64 p4, u64 p5, u6
   j0 += j1;
   j1 = p1;
   i2 = l39;
-  f33(self, j0, j1, i2);
+  f34(self, j0, j1, i2);
   j0 = l7;
   i0 = (u32)(j0);
   i0 = i32_load8_u(j0 + 177u);
@@ -56957,7 +57891,7 @@ static void f54(module *self, u64 p0, u64 p1, u64 p2, u64 p3, u64 p4, u64 p5, u6
   i4 = l49;
   i5 = l75;
   i6 = 0u;
-  i1 = f59(self, j1, j2, i3, i4, i5, i6); if (NEVER(self->is_broken)) return;
+  i1 = f62(self, j1, j2, i3, i4, i5, i6); if (NEVER(self->is_broken)) return;
   l20 = i1;
   i32_store16(j0, i1);
   j0 = p2;
@@ -57010,12 +57944,12 @@ static void f54(module *self, u64 p0, u64 p1, u64 p2, u64 p3, u64 p4, u64 p5, u6
   l39 = i3;
   i4 = 8u;
   i3 >>= (i4 & 31);
-  f56(self, j0, i1, i2, i3);
+  f59(self, j0, i1, i2, i3);
   j0 = p1;
   i1 = l48;
   i2 = 15u;
   i3 = l39;
-  f56(self, j0, i1, i2, i3);
+  f59(self, j0, i1, i2, i3);
   goto B56;
   B61:;
   j0 = l7;
@@ -57080,14 +58014,14 @@ static void f54(module *self, u64 p0, u64 p1, u64 p2, u64 p3, u64 p4, u64 p5, u6
   i1 = l20;
   i2 = l49;
   i3 = l39;
-  f60(self, j0, i1, i2, i3); if (NEVER(self->is_broken)) return;
+  f63(self, j0, i1, i2, i3); if (NEVER(self->is_broken)) return;
   goto B56;
   B109:;
   j0 = p1;
   i1 = l20;
   i2 = 17u;
   i3 = l49;
-  f60(self, j0, i1, i2, i3); if (NEVER(self->is_broken)) return;
+  f63(self, j0, i1, i2, i3); if (NEVER(self->is_broken)) return;
   goto B56;
   B108:;
   j0 = l7;
@@ -57098,11 +58032,11 @@ static void f54(module *self, u64 p0, u64 p1, u64 p2, u64 p3, u64 p4, u64 p5, u6
   i3 = 6u;
   i2 += i3;
   l20 = i2;
-  f25(self, j0, j1, i2); if (NEVER(self->is_broken)) return;
+  f26(self, j0, j1, i2); if (NEVER(self->is_broken)) return;
   j0 = p1;
   j1 = p5;
   j2 = 16ull;
-  f61(self, j0, j1, j2);
+  f64(self, j0, j1, j2);
   j0 = p1;
   j1 = 146ull;
   j0 += j1;
@@ -57161,7 +58095,7 @@ static void f54(module *self, u64 p0, u64 p1, u64 p2, u64 p3, u64 p4, u64 p5, u6
   j1 = 320ull;
   j0 += j1;
   j1 = p6;
-  f22(self, j0, j1);
+  f23(self, j0, j1);
   j0 = p1;
   j1 = 196ull;
   j0 += j1;
@@ -57223,7 +58157,7 @@ static void f54(module *self, u64 p0, u64 p1, u64 p2, u64 p3, u64 p4, u64 p5, u6
   j1 = 320ull;
   j0 += j1;
   j1 = p6;
-  f22(self, j0, j1);
+  f23(self, j0, j1);
   j0 = p1;
   j1 = 196ull;
   j0 += j1;
@@ -57265,7 +58199,7 @@ static void f54(module *self, u64 p0, u64 p1, u64 p2, u64 p3, u64 p4, u64 p5, u6
   j1 = 320ull;
   j0 += j1;
   j1 = p6;
-  f22(self, j0, j1);
+  f23(self, j0, j1);
   j0 = p1;
   j1 = 196ull;
   j0 += j1;
@@ -57301,7 +58235,7 @@ static void f54(module *self, u64 p0, u64 p1, u64 p2, u64 p3, u64 p4, u64 p5, u6
   j0 += j1;
   j1 = p1;
   i2 = l20;
-  f25(self, j0, j1, i2); if (NEVER(self->is_broken)) return;
+  f26(self, j0, j1, i2); if (NEVER(self->is_broken)) return;
   goto B56;
   B107:;
   j0 = l7;
@@ -57312,7 +58246,7 @@ static void f54(module *self, u64 p0, u64 p1, u64 p2, u64 p3, u64 p4, u64 p5, u6
   i3 = 6u;
   i2 += i3;
   l39 = i2;
-  f25(self, j0, j1, i2); if (NEVER(self->is_broken)) return;
+  f26(self, j0, j1, i2); if (NEVER(self->is_broken)) return;
   j0 = p1;
   j1 = 146ull;
   j0 += j1;
@@ -57368,7 +58302,7 @@ static void f54(module *self, u64 p0, u64 p1, u64 p2, u64 p3, u64 p4, u64 p5, u6
   j1 = 320ull;
   j0 += j1;
   j1 = p6;
-  f22(self, j0, j1);
+  f23(self, j0, j1);
   j0 = p1;
   j1 = 196ull;
   j0 += j1;
@@ -57448,7 +58382,7 @@ static void f54(module *self, u64 p0, u64 p1, u64 p2, u64 p3, u64 p4, u64 p5, u6
   j1 = 320ull;
   j0 += j1;
   j1 = p6;
-  f22(self, j0, j1);
+  f23(self, j0, j1);
   j0 = p1;
   j1 = 196ull;
   j0 += j1;
@@ -57499,7 +58433,7 @@ static void f54(module *self, u64 p0, u64 p1, u64 p2, u64 p3, u64 p4, u64 p5, u6
   j1 = 320ull;
   j0 += j1;
   j1 = p6;
-  f22(self, j0, j1);
+  f23(self, j0, j1);
   j0 = p1;
   j1 = 196ull;
   j0 += j1;
@@ -57535,7 +58469,7 @@ static void f54(module *self, u64 p0, u64 p1, u64 p2, u64 p3, u64 p4, u64 p5, u6
   j0 += j1;
   j1 = p1;
   i2 = l39;
-  f25(self, j0, j1, i2); if (NEVER(self->is_broken)) return;
+  f26(self, j0, j1, i2); if (NEVER(self->is_broken)) return;
   goto B56;
   B106:;
   j0 = p1;
@@ -57544,7 +58478,7 @@ static void f54(module *self, u64 p0, u64 p1, u64 p2, u64 p3, u64 p4, u64 p5, u6
   j3 = l7;
   j4 = 432ull;
   j3 += j4;
-  f62(self, j0, i1, i2, j3); if (NEVER(self->is_broken)) return;
+  f65(self, j0, i1, i2, j3); if (NEVER(self->is_broken)) return;
   goto B56;
   B105:;
   j0 = l7;
@@ -57555,7 +58489,7 @@ static void f54(module *self, u64 p0, u64 p1, u64 p2, u64 p3, u64 p4, u64 p5, u6
   i3 = 6u;
   i2 += i3;
   l39 = i2;
-  f25(self, j0, j1, i2); if (NEVER(self->is_broken)) return;
+  f26(self, j0, j1, i2); if (NEVER(self->is_broken)) return;
   i0 = 1u;
   l20 = i0;
   j0 = p1;
@@ -57611,7 +58545,7 @@ static void f54(module *self, u64 p0, u64 p1, u64 p2, u64 p3, u64 p4, u64 p5, u6
   j1 = 320ull;
   j0 += j1;
   j1 = p5;
-  f22(self, j0, j1);
+  f23(self, j0, j1);
   j0 = p1;
   j1 = 196ull;
   j0 += j1;
@@ -57666,7 +58600,7 @@ static void f54(module *self, u64 p0, u64 p1, u64 p2, u64 p3, u64 p4, u64 p5, u6
   j0 += j1;
   j1 = p1;
   i2 = l39;
-  f25(self, j0, j1, i2); if (NEVER(self->is_broken)) return;
+  f26(self, j0, j1, i2); if (NEVER(self->is_broken)) return;
   j0 = l7;
   i0 = (u32)(j0);
   i1 = l20;
@@ -58087,7 +59021,7 @@ static void f54(module *self, u64 p0, u64 p1, u64 p2, u64 p3, u64 p4, u64 p5, u6
     i4 = (u32)(j4);
     i4 = i32_load8_u(j4);
     i5 = 1u;
-    i0 = f59(self, j0, j1, i2, i3, i4, i5); if (NEVER(self->is_broken)) return;
+    i0 = f62(self, j0, j1, i2, i3, i4, i5); if (NEVER(self->is_broken)) return;
     l39 = i0;
     j0 = l8;
     j1 = 2ull;
@@ -58116,7 +59050,7 @@ static void f54(module *self, u64 p0, u64 p1, u64 p2, u64 p3, u64 p4, u64 p5, u6
     i3 = i32_load8_u(j3);
     i4 = l48;
     i5 = 1u;
-    i0 = f59(self, j0, j1, i2, i3, i4, i5); if (NEVER(self->is_broken)) return;
+    i0 = f62(self, j0, j1, i2, i3, i4, i5); if (NEVER(self->is_broken)) return;
     l39 = i0;
     j0 = p5;
     j1 = 1ull;
@@ -58203,12 +59137,12 @@ static void f54(module *self, u64 p0, u64 p1, u64 p2, u64 p3, u64 p4, u64 p5, u6
   l39 = i3;
   i4 = 8u;
   i3 >>= (i4 & 31);
-  f56(self, j0, i1, i2, i3);
+  f59(self, j0, i1, i2, i3);
   j0 = p1;
   i1 = l48;
   i2 = 15u;
   i3 = l39;
-  f56(self, j0, i1, i2, i3);
+  f59(self, j0, i1, i2, i3);
   goto B56;
   B57:;
   j0 = l7;
@@ -58754,140 +59688,140 @@ static void f54(module *self, u64 p0, u64 p1, u64 p2, u64 p3, u64 p4, u64 p5, u6
   i3 = l39;
   i4 = 15u;
   i3 &= i4;
-  f56(self, j0, i1, i2, i3);
+  f59(self, j0, i1, i2, i3);
   j0 = p1;
   i1 = l24;
   i2 = 0u;
   i3 = l47;
-  f56(self, j0, i1, i2, i3);
+  f59(self, j0, i1, i2, i3);
   j0 = p1;
   i1 = l24;
   i2 = 1u;
   i3 = l46;
-  f56(self, j0, i1, i2, i3);
+  f59(self, j0, i1, i2, i3);
   j0 = p1;
   i1 = l24;
   i2 = 2u;
   i3 = l20;
-  f56(self, j0, i1, i2, i3);
+  f59(self, j0, i1, i2, i3);
   j0 = p1;
   i1 = l24;
   i2 = 3u;
   i3 = l45;
-  f56(self, j0, i1, i2, i3);
+  f59(self, j0, i1, i2, i3);
   j0 = p1;
   i1 = l24;
   i2 = 4u;
   i3 = l44;
-  f56(self, j0, i1, i2, i3);
+  f59(self, j0, i1, i2, i3);
   j0 = p1;
   i1 = l24;
   i2 = 5u;
   i3 = l43;
-  f56(self, j0, i1, i2, i3);
+  f59(self, j0, i1, i2, i3);
   j0 = p1;
   i1 = l24;
   i2 = 6u;
   i3 = l42;
-  f56(self, j0, i1, i2, i3);
+  f59(self, j0, i1, i2, i3);
   j0 = p1;
   i1 = l24;
   i2 = 7u;
   i3 = l41;
-  f56(self, j0, i1, i2, i3);
+  f59(self, j0, i1, i2, i3);
   j0 = p1;
   i1 = l24;
   i2 = 8u;
   i3 = 0u;
-  f56(self, j0, i1, i2, i3);
+  f59(self, j0, i1, i2, i3);
   j0 = p1;
   i1 = l24;
   i2 = 9u;
   i3 = l56;
-  f56(self, j0, i1, i2, i3);
+  f59(self, j0, i1, i2, i3);
   j0 = p1;
   i1 = l24;
   i2 = 10u;
   i3 = l57;
-  f56(self, j0, i1, i2, i3);
+  f59(self, j0, i1, i2, i3);
   j0 = p1;
   i1 = l24;
   i2 = 11u;
   i3 = l58;
-  f56(self, j0, i1, i2, i3);
+  f59(self, j0, i1, i2, i3);
   j0 = p1;
   i1 = l24;
   i2 = 12u;
   j3 = l7;
   i3 = (u32)(j3);
   i3 = i32_load8_u(j3 + 347u);
-  f56(self, j0, i1, i2, i3);
+  f59(self, j0, i1, i2, i3);
   j0 = p1;
   i1 = l24;
   i2 = 13u;
   j3 = l7;
   i3 = (u32)(j3);
   i3 = i32_load8_u(j3 + 348u);
-  f56(self, j0, i1, i2, i3);
+  f59(self, j0, i1, i2, i3);
   j0 = p1;
   i1 = l24;
   i2 = 14u;
   j3 = l7;
   i3 = (u32)(j3);
   i3 = i32_load8_u(j3 + 349u);
-  f56(self, j0, i1, i2, i3);
+  f59(self, j0, i1, i2, i3);
   j0 = p1;
   i1 = l24;
   i2 = 15u;
   j3 = l7;
   i3 = (u32)(j3);
   i3 = i32_load8_u(j3 + 350u);
-  f56(self, j0, i1, i2, i3);
+  f59(self, j0, i1, i2, i3);
   j0 = p1;
   i1 = l24;
   i2 = 16u;
   i3 = l40;
-  f56(self, j0, i1, i2, i3);
+  f59(self, j0, i1, i2, i3);
   j0 = p1;
   i1 = l24;
   i2 = 17u;
   i3 = l39;
-  f56(self, j0, i1, i2, i3);
+  f59(self, j0, i1, i2, i3);
   j0 = p1;
   i1 = l24;
   i2 = 18u;
   i3 = l38;
-  f56(self, j0, i1, i2, i3);
+  f59(self, j0, i1, i2, i3);
   j0 = p1;
   i1 = l24;
   i2 = 19u;
   i3 = l37;
-  f56(self, j0, i1, i2, i3);
+  f59(self, j0, i1, i2, i3);
   j0 = p1;
   i1 = l24;
   i2 = 20u;
   i3 = l59;
-  f56(self, j0, i1, i2, i3);
+  f59(self, j0, i1, i2, i3);
   j0 = p1;
   i1 = l24;
   i2 = 21u;
   i3 = l36;
-  f56(self, j0, i1, i2, i3);
+  f59(self, j0, i1, i2, i3);
   j0 = p1;
   i1 = l24;
   i2 = 22u;
   i3 = l35;
-  f56(self, j0, i1, i2, i3);
+  f59(self, j0, i1, i2, i3);
   j0 = p1;
   i1 = l24;
   i2 = 23u;
   i3 = l34;
-  f56(self, j0, i1, i2, i3);
+  f59(self, j0, i1, i2, i3);
   j0 = p1;
   i1 = l24;
   i2 = 24u;
   i3 = 255u;
-  f56(self, j0, i1, i2, i3);
+  f59(self, j0, i1, i2, i3);
   j0 = l7;
   j1 = 360ull;
   j0 += j1;
@@ -59077,11 +60011,11 @@ static void f54(module *self, u64 p0, u64 p1, u64 p2, u64 p3, u64 p4, u64 p5, u6
   i3 = 6u;
   i2 += i3;
   l39 = i2;
-  f25(self, j0, j1, i2); if (NEVER(self->is_broken)) return;
+  f26(self, j0, j1, i2); if (NEVER(self->is_broken)) return;
   j0 = p1;
   j1 = l9;
   j2 = 21ull;
-  f61(self, j0, j1, j2);
+  f64(self, j0, j1, j2);
   j0 = p1;
   j1 = 205ull;
   j0 += j1;
@@ -59135,7 +60069,7 @@ static void f54(module *self, u64 p0, u64 p1, u64 p2, u64 p3, u64 p4, u64 p5, u6
   j1 = 304ull;
   j0 += j1;
   j1 = p5;
-  f22(self, j0, j1);
+  f23(self, j0, j1);
   j0 = p1;
   j1 = 196ull;
   j0 += j1;
@@ -59173,7 +60107,7 @@ static void f54(module *self, u64 p0, u64 p1, u64 p2, u64 p3, u64 p4, u64 p5, u6
   j0 = l7;
   j1 = p1;
   i2 = l39;
-  f25(self, j0, j1, i2); if (NEVER(self->is_broken)) return;
+  f26(self, j0, j1, i2); if (NEVER(self->is_broken)) return;
   j0 = p1;
   j1 = 2002ull;
   j0 += j1;
@@ -59200,7 +60134,7 @@ static void f54(module *self, u64 p0, u64 p1, u64 p2, u64 p3, u64 p4, u64 p5, u6
     j0 += j1;
     i1 = l75;
     i2 = l39;
-    f42(self, j0, i1, i2); if (NEVER(self->is_broken)) return;
+    f43(self, j0, i1, i2); if (NEVER(self->is_broken)) return;
     j0 = p1;
     j1 = l8;
     j0 += j1;
@@ -59305,7 +60239,7 @@ static void f54(module *self, u64 p0, u64 p1, u64 p2, u64 p3, u64 p4, u64 p5, u6
   j2 = p3;
   j3 = 1048841ull;
   i4 = l54;
-  f55(self, j0, j1, j2, j3, i4);
+  f58(self, j0, j1, j2, j3, i4);
   i0 = l21;
   i1 = 1u;
   i0 &= i1;
@@ -59315,7 +60249,7 @@ static void f54(module *self, u64 p0, u64 p1, u64 p2, u64 p3, u64 p4, u64 p5, u6
   i2 = 32768u;
   i3 = 32u;
   i4 = 7u;
-  f49(self, j0, i1, i2, i3, i4);
+  f50(self, j0, i1, i2, i3, i4);
   goto B146;
   B147:;
   i0 = l21;
@@ -59327,7 +60261,7 @@ static void f54(module *self, u64 p0, u64 p1, u64 p2, u64 p3, u64 p4, u64 p5, u6
   i2 = 65536u;
   i3 = 0u;
   i4 = 0u;
-  f49(self, j0, i1, i2, i3, i4);
+  f50(self, j0, i1, i2, i3, i4);
   B146:;
   j0 = p2;
   i0 = (u32)(j0);
@@ -59498,7 +60432,7 @@ static void f54(module *self, u64 p0, u64 p1, u64 p2, u64 p3, u64 p4, u64 p5, u6
   self->g0 = j0;
 }
 
-static void f55(module *self, u64 p0, u64 p1, u64 p2, u64 p3, u32 p4) {
+static void f58(module *self, u64 p0, u64 p1, u64 p2, u64 p3, u32 p4) {
   u32 l36 = 0, l37 = 0, l38 = 0, l39 = 0, l40 = 0, l41 = 0, l42 = 0, l43 = 0, 
       l44 = 0, l45 = 0, l46 = 0, l47 = 0, l48 = 0, l49 = 0;
   u64 l5 = 0, l6 = 0, l7 = 0, l8 = 0, l9 = 0, l10 = 0, l11 = 0, l12 = 0, 
@@ -60361,7 +61295,7 @@ static void f55(module *self, u64 p0, u64 p1, u64 p2, u64 p3, u32 p4) {
   i32_store(j0, i1);
 }
 
-static void f56(module *self, u64 p0, u32 p1, u32 p2, u32 p3) {
+static void f59(module *self, u64 p0, u32 p1, u32 p2, u32 p3) {
   u32 l5 = 0, l6 = 0, l7 = 0;
   u64 l4 = 0;
   u8 *m = self->memory;
@@ -60448,7 +61382,7 @@ static void f56(module *self, u64 p0, u32 p1, u32 p2, u32 p3) {
   j1 = p0;
   i2 = l6;
   i3 = p2;
-  f43(self, j0, j1, i2, i3);
+  f44(self, j0, j1, i2, i3);
   B0:;
   i0 = p1;
   i1 = 4294966337u;
@@ -60524,7 +61458,7 @@ static void f56(module *self, u64 p0, u32 p1, u32 p2, u32 p3) {
   j1 = p0;
   i2 = l6;
   i3 = p3;
-  f43(self, j0, j1, i2, i3);
+  f44(self, j0, j1, i2, i3);
   B4:;
   j0 = l4;
   j1 = 16ull;
@@ -60532,7 +61466,7 @@ static void f56(module *self, u64 p0, u32 p1, u32 p2, u32 p3) {
   self->g0 = j0;
 }
 
-static void f57(module *self, u64 p0, u64 p1, u64 p2, u32 p3, u64 p4) {
+static void f60(module *self, u64 p0, u64 p1, u64 p2, u32 p3, u64 p4) {
   u32 l5 = 0, l6 = 0, l7 = 0, l8 = 0, l9 = 0, l10 = 0, l11 = 0, l12 = 0, 
       l13 = 0, l14 = 0, l15 = 0, l16 = 0, l17 = 0, l18 = 0, l19 = 0, l20 = 0, 
       l21 = 0, l22 = 0, l23 = 0, l24 = 0, l25 = 0;
@@ -60874,7 +61808,7 @@ static void f57(module *self, u64 p0, u64 p1, u64 p2, u32 p3, u64 p4) {
       i3 = l10;
       i2 += i3;
       i3 = p3;
-      f63(self, j0, i1, i2, i3);
+      f66(self, j0, i1, i2, i3);
       i0 = l10;
       i1 = l11;
       i0 += i1;
@@ -60968,7 +61902,7 @@ static void f57(module *self, u64 p0, u64 p1, u64 p2, u32 p3, u64 p4) {
       i3 = l10;
       i2 += i3;
       i3 = p3;
-      f63(self, j0, i1, i2, i3);
+      f66(self, j0, i1, i2, i3);
       i0 = l10;
       i1 = l11;
       i0 += i1;
@@ -61191,7 +62125,7 @@ static void f57(module *self, u64 p0, u64 p1, u64 p2, u32 p3, u64 p4) {
       i2 = p3;
       i3 = 32u;
       i4 = l12;
-      f49(self, j0, i1, i2, i3, i4);
+      f50(self, j0, i1, i2, i3, i4);
       i0 = l10;
       i1 = l11;
       i0 += i1;
@@ -61253,7 +62187,7 @@ static void f57(module *self, u64 p0, u64 p1, u64 p2, u32 p3, u64 p4) {
       i2 = p3;
       i3 = 0u;
       i4 = 0u;
-      f49(self, j0, i1, i2, i3, i4);
+      f50(self, j0, i1, i2, i3, i4);
       i0 = l10;
       i1 = l11;
       i0 += i1;
@@ -61408,7 +62342,7 @@ static void f57(module *self, u64 p0, u64 p1, u64 p2, u32 p3, u64 p4) {
       i2 = p3;
       i3 = 255u;
       i4 = 255u;
-      f49(self, j0, i1, i2, i3, i4);
+      f50(self, j0, i1, i2, i3, i4);
       i0 = l10;
       i1 = l11;
       i0 += i1;
@@ -61568,7 +62502,7 @@ static void f57(module *self, u64 p0, u64 p1, u64 p2, u32 p3, u64 p4) {
       i2 = p3;
       i3 = l12;
       i4 = l12;
-      f49(self, j0, i1, i2, i3, i4);
+      f50(self, j0, i1, i2, i3, i4);
       i0 = l10;
       i1 = l11;
       i0 += i1;
@@ -61593,7 +62527,7 @@ static void f57(module *self, u64 p0, u64 p1, u64 p2, u32 p3, u64 p4) {
   Bfunc:;
 }
 
-static void f58(module *self, u64 p0, u64 p1, u32 p2, u32 p3, u32 p4, u32 p5) {
+static void f61(module *self, u64 p0, u64 p1, u32 p2, u32 p3, u32 p4, u32 p5) {
   u32 l28 = 0, l29 = 0, l30 = 0, l31 = 0, l32 = 0, l33 = 0, l34 = 0, l35 = 0, 
       l36 = 0, l37 = 0, l38 = 0, l39 = 0, l40 = 0, l41 = 0, l42 = 0, l43 = 0;
   u64 l6 = 0, l7 = 0, l8 = 0, l9 = 0, l10 = 0, l11 = 0, l12 = 0, l13 = 0, 
@@ -61722,7 +62656,7 @@ static void f58(module *self, u64 p0, u64 p1, u32 p2, u32 p3, u32 p4, u32 p5) {
   i1 = (u32)(j1);
   i1 = i32_load8_u(j1);
   i2 = p3;
-  i0 = f45(self, j0, i1, i2);
+  i0 = f46(self, j0, i1, i2);
   l32 = i0;
   j0 = p0;
   j1 = 68ull;
@@ -61860,7 +62794,7 @@ static void f58(module *self, u64 p0, u64 p1, u32 p2, u32 p3, u32 p4, u32 p5) {
   i1 = (u32)(j1);
   i1 = i32_load8_u(j1);
   i2 = p4;
-  i0 = f45(self, j0, i1, i2);
+  i0 = f46(self, j0, i1, i2);
   p5 = i0;
   j0 = p0;
   j1 = 68ull;
@@ -62347,7 +63281,7 @@ static void f58(module *self, u64 p0, u64 p1, u32 p2, u32 p3, u32 p4, u32 p5) {
     i3 *= i4;
     i2 += i3;
     l29 = i2;
-    f33(self, j0, j1, i2);
+    f34(self, j0, j1, i2);
     j0 = p0;
     j1 = 2003ull;
     j0 += j1;
@@ -62397,7 +63331,7 @@ static void f58(module *self, u64 p0, u64 p1, u32 p2, u32 p3, u32 p4, u32 p5) {
     i1 = (u32)(j1);
     i1 = i32_load8_u(j1);
     i2 = p2;
-    i0 = f45(self, j0, i1, i2);
+    i0 = f46(self, j0, i1, i2);
     p2 = i0;
     j0 = p0;
     j1 = 68ull;
@@ -62638,7 +63572,7 @@ static void f58(module *self, u64 p0, u64 p1, u32 p2, u32 p3, u32 p4, u32 p5) {
     i2 = l32;
     i3 = 0u;
     i4 = 0u;
-    f49(self, j0, i1, i2, i3, i4);
+    f50(self, j0, i1, i2, i3, i4);
     i0 = l29;
     i1 = 1u;
     i0 += i1;
@@ -62930,7 +63864,7 @@ static void f58(module *self, u64 p0, u64 p1, u32 p2, u32 p3, u32 p4, u32 p5) {
     j2 = l27;
     i2 = (u32)(j2);
     i2 = i32_load8_u(j2);
-    i0 = f45(self, j0, i1, i2);
+    i0 = f46(self, j0, i1, i2);
     l33 = i0;
     j0 = p0;
     j1 = 68ull;
@@ -63681,7 +64615,7 @@ static void f58(module *self, u64 p0, u64 p1, u32 p2, u32 p3, u32 p4, u32 p5) {
   Bfunc:;
 }
 
-static u32 f59(module *self, u64 p0, u64 p1, u32 p2, u32 p3, u32 p4, u32 p5) {
+static u32 f62(module *self, u64 p0, u64 p1, u32 p2, u32 p3, u32 p4, u32 p5) {
   u32 l7 = 0;
   u64 l6 = 0;
   u8 *m = self->memory;
@@ -63724,7 +64658,7 @@ static u32 f59(module *self, u64 p0, u64 p1, u32 p2, u32 p3, u32 p4, u32 p5) {
   i2 = (u32)(j2);
   i2 = i32_load8_u(j2);
   i3 = p2;
-  i0 = f65(self, j0, j1, i2, i3); if (NEVER(self->is_broken)) return ZAK_BROKEN;
+  i0 = f68(self, j0, j1, i2, i3); if (NEVER(self->is_broken)) return ZAK_BROKEN;
   goto Bfunc;
   B2:;
   i0 = p2;
@@ -63758,7 +64692,7 @@ static u32 f59(module *self, u64 p0, u64 p1, u32 p2, u32 p3, u32 p4, u32 p5) {
   i3 = p3;
   i4 = p4;
   i5 = p5;
-  f58(self, j0, j1, i2, i3, i4, i5); if (NEVER(self->is_broken)) return ZAK_BROKEN;
+  f61(self, j0, j1, i2, i3, i4, i5); if (NEVER(self->is_broken)) return ZAK_BROKEN;
   i0 = l7;
   i1 = 1u;
   i0 += i1;
@@ -63785,7 +64719,7 @@ static u32 f59(module *self, u64 p0, u64 p1, u32 p2, u32 p3, u32 p4, u32 p5) {
   i2 = (u32)(j2);
   i2 = i32_load8_u(j2);
   i3 = p2;
-  i0 = f65(self, j0, j1, i2, i3); if (NEVER(self->is_broken)) return ZAK_BROKEN;
+  i0 = f68(self, j0, j1, i2, i3); if (NEVER(self->is_broken)) return ZAK_BROKEN;
   i1 = 65280u;
   i0 &= i1;
   p2 = i0;
@@ -63795,7 +64729,7 @@ static u32 f59(module *self, u64 p0, u64 p1, u32 p2, u32 p3, u32 p4, u32 p5) {
   return i0;
 }
 
-static void f60(module *self, u64 p0, u32 p1, u32 p2, u32 p3) {
+static void f63(module *self, u64 p0, u32 p1, u32 p2, u32 p3) {
   u32 l7 = 0, l8 = 0;
   u64 l4 = 0, l5 = 0, l6 = 0;
   u8 *m = self->memory;
@@ -63814,7 +64748,7 @@ static void f60(module *self, u64 p0, u32 p1, u32 p2, u32 p3) {
   i3 = 6u;
   i2 += i3;
   l7 = i2;
-  f25(self, j0, j1, i2); if (NEVER(self->is_broken)) return;
+  f26(self, j0, j1, i2); if (NEVER(self->is_broken)) return;
   j0 = p0;
   j1 = 146ull;
   j0 += j1;
@@ -63869,7 +64803,7 @@ static void f60(module *self, u64 p0, u32 p1, u32 p2, u32 p3) {
   j1 = 16ull;
   j0 += j1;
   j1 = l5;
-  f22(self, j0, j1);
+  f23(self, j0, j1);
   j0 = p0;
   j1 = 196ull;
   j0 += j1;
@@ -63953,7 +64887,7 @@ static void f60(module *self, u64 p0, u32 p1, u32 p2, u32 p3) {
   j1 = 16ull;
   j0 += j1;
   j1 = l5;
-  f22(self, j0, j1);
+  f23(self, j0, j1);
   j0 = p0;
   j1 = 196ull;
   j0 += j1;
@@ -64017,7 +64951,7 @@ static void f60(module *self, u64 p0, u32 p1, u32 p2, u32 p3) {
   j1 = 16ull;
   j0 += j1;
   j1 = l5;
-  f22(self, j0, j1);
+  f23(self, j0, j1);
   j0 = p0;
   j1 = 196ull;
   j0 += j1;
@@ -64048,14 +64982,14 @@ static void f60(module *self, u64 p0, u32 p1, u32 p2, u32 p3) {
   j0 = l4;
   j1 = p0;
   i2 = l7;
-  f25(self, j0, j1, i2); if (NEVER(self->is_broken)) return;
+  f26(self, j0, j1, i2); if (NEVER(self->is_broken)) return;
   j0 = l4;
   j1 = 32ull;
   j0 += j1;
   self->g0 = j0;
 }
 
-static void f61(module *self, u64 p0, u64 p1, u64 p2) {
+static void f64(module *self, u64 p0, u64 p1, u64 p2) {
   u32 l9 = 0, l10 = 0, l11 = 0, l12 = 0, l13 = 0;
   u64 l3 = 0, l4 = 0, l5 = 0, l6 = 0, l7 = 0, l8 = 0;
   u8 *m = self->memory;
@@ -64141,7 +65075,7 @@ static void f61(module *self, u64 p0, u64 p1, u64 p2) {
     i32_store8(j0, i1);
     j0 = l3;
     j1 = l6;
-    f22(self, j0, j1);
+    f23(self, j0, j1);
     j0 = l4;
     i0 = (u32)(j0);
     j1 = l3;
@@ -64212,7 +65146,7 @@ static void f61(module *self, u64 p0, u64 p1, u64 p2) {
     i32_store8(j0, i1);
     j0 = l3;
     j1 = l6;
-    f22(self, j0, j1);
+    f23(self, j0, j1);
     j0 = l4;
     i0 = (u32)(j0);
     j1 = l3;
@@ -64254,7 +65188,7 @@ static void f61(module *self, u64 p0, u64 p1, u64 p2) {
   self->g0 = j0;
 }
 
-static void f62(module *self, u64 p0, u32 p1, u32 p2, u64 p3) {
+static void f65(module *self, u64 p0, u32 p1, u32 p2, u64 p3) {
   u32 l7 = 0, l8 = 0;
   u64 l4 = 0, l5 = 0, l6 = 0;
   u8 *m = self->memory;
@@ -64273,7 +65207,7 @@ static void f62(module *self, u64 p0, u32 p1, u32 p2, u64 p3) {
   i3 = 6u;
   i2 += i3;
   l7 = i2;
-  f25(self, j0, j1, i2); if (NEVER(self->is_broken)) return;
+  f26(self, j0, j1, i2); if (NEVER(self->is_broken)) return;
   i0 = p2;
   i1 = 32u;
   i0 += i1;
@@ -64331,7 +65265,7 @@ static void f62(module *self, u64 p0, u32 p1, u32 p2, u64 p3) {
   j1 = 16ull;
   j0 += j1;
   j1 = l6;
-  f22(self, j0, j1);
+  f23(self, j0, j1);
   j0 = p0;
   j1 = 196ull;
   j0 += j1;
@@ -64396,7 +65330,7 @@ static void f62(module *self, u64 p0, u32 p1, u32 p2, u64 p3) {
   j0 = l4;
   j1 = p0;
   i2 = l7;
-  f25(self, j0, j1, i2); if (NEVER(self->is_broken)) return;
+  f26(self, j0, j1, i2); if (NEVER(self->is_broken)) return;
   j0 = p3;
   j1 = 3ull;
   j0 += j1;
@@ -64409,7 +65343,7 @@ static void f62(module *self, u64 p0, u32 p1, u32 p2, u64 p3) {
   self->g0 = j0;
 }
 
-static void f63(module *self, u64 p0, u32 p1, u32 p2, u32 p3) {
+static void f66(module *self, u64 p0, u32 p1, u32 p2, u32 p3) {
   u32 l6 = 0, l7 = 0, l8 = 0, l9 = 0, l10 = 0, l11 = 0, l12 = 0, l13 = 0, 
       l14 = 0, l15 = 0, l16 = 0;
   u64 l4 = 0, l5 = 0;
@@ -64450,7 +65384,7 @@ static void f63(module *self, u64 p0, u32 p1, u32 p2, u32 p3) {
   i4 = p2;
   i5 = p3;
   i6 = l6;
-  i1 = f64(self, j1, j2, i3, i4, i5, i6);
+  i1 = f67(self, j1, j2, i3, i4, i5, i6);
   l7 = i1;
   i0 = i0 <= i1;
   if (i0) {goto B0;}
@@ -64795,7 +65729,7 @@ static void f63(module *self, u64 p0, u32 p1, u32 p2, u32 p3) {
     i1 = (u32)(j1);
     i1 = i32_load8_u(j1);
     i2 = l15;
-    i0 = f45(self, j0, i1, i2);
+    i0 = f46(self, j0, i1, i2);
     l7 = i0;
     i0 = l6;
     i0 = !(i0);
@@ -64904,7 +65838,7 @@ static void f63(module *self, u64 p0, u32 p1, u32 p2, u32 p3) {
   self->g0 = j0;
 }
 
-static u32 f64(module *self, u64 p0, u64 p1, u32 p2, u32 p3, u32 p4, u32 p5) {
+static u32 f67(module *self, u64 p0, u64 p1, u32 p2, u32 p3, u32 p4, u32 p5) {
   u32 l6 = 0, l7 = 0, l8 = 0, l9 = 0, l10 = 0, l11 = 0, l12 = 0, l13 = 0, 
       l14 = 0;
   u8 *m = self->memory;
@@ -65333,7 +66267,7 @@ static u32 f64(module *self, u64 p0, u64 p1, u32 p2, u32 p3, u32 p4, u32 p5) {
   return i0;
 }
 
-static u32 f65(module *self, u64 p0, u64 p1, u32 p2, u32 p3) {
+static u32 f68(module *self, u64 p0, u64 p1, u32 p2, u32 p3) {
   u32 l5 = 0, l6 = 0, l7 = 0;
   u64 l4 = 0;
   u8 *m = self->memory;
@@ -65424,7 +66358,7 @@ static u32 f65(module *self, u64 p0, u64 p1, u32 p2, u32 p3) {
   i4 = 1u;
   i3 <<= (i4 & 31);
   i2 += i3;
-  f33(self, j0, j1, i2);
+  f34(self, j0, j1, i2);
   i0 = 4294967295u;
   j1 = l4;
   i1 = (u32)(j1);
@@ -65486,7 +66420,7 @@ static u32 f65(module *self, u64 p0, u64 p1, u32 p2, u32 p3) {
   j4 = l4;
   j5 = 32ull;
   j4 += j5;
-  f57(self, j0, j1, j2, i3, j4); if (NEVER(self->is_broken)) return ZAK_BROKEN;
+  f60(self, j0, j1, j2, i3, j4); if (NEVER(self->is_broken)) return ZAK_BROKEN;
   B0:;
   j0 = l4;
   j1 = 48ull;
@@ -65496,7 +66430,7 @@ static u32 f65(module *self, u64 p0, u64 p1, u32 p2, u32 p3) {
   return i0;
 }
 
-static void f66(module *self, u64 p0, u64 p1, u64 p2) {
+static void f69(module *self, u64 p0, u64 p1, u64 p2) {
   u64 l3 = 0, l4 = 0, l5 = 0, l6 = 0, l7 = 0, l8 = 0;
   u8 *m = self->memory;
   u32 i0, i1, i2;
@@ -65557,7 +66491,7 @@ static void f66(module *self, u64 p0, u64 p1, u64 p2) {
   j0 += j1;
   j1 = 2048ull;
   j2 = 1ull;
-  f151(self, j0, j1, j2); m = self->memory; if (NEVER(self->is_broken)) return;
+  f155(self, j0, j1, j2); m = self->memory; if (NEVER(self->is_broken)) return;
   j0 = l3;
   i0 = (u32)(j0);
   j0 = i64_load(j0 + 80u);
@@ -65647,7 +66581,7 @@ static void f66(module *self, u64 p0, u64 p1, u64 p2) {
   j0 += j1;
   j1 = 24ull;
   j2 = 8ull;
-  f151(self, j0, j1, j2); m = self->memory; if (NEVER(self->is_broken)) return;
+  f155(self, j0, j1, j2); m = self->memory; if (NEVER(self->is_broken)) return;
   j0 = l3;
   i0 = (u32)(j0);
   j0 = i64_load(j0 + 64u);
@@ -65656,7 +66590,7 @@ static void f66(module *self, u64 p0, u64 p1, u64 p2) {
   i0 &= i1;
   if (i0) {goto B2;}
   j0 = l4;
-  f154(self, j0);
+  f158(self, j0);
   B3:;
   j0 = p0;
   i0 = (u32)(j0);
@@ -65720,7 +66654,7 @@ static void f66(module *self, u64 p0, u64 p1, u64 p2) {
   j0 += j1;
   j1 = 3584ull;
   j2 = 1ull;
-  f151(self, j0, j1, j2); m = self->memory; if (NEVER(self->is_broken)) return;
+  f155(self, j0, j1, j2); m = self->memory; if (NEVER(self->is_broken)) return;
   j0 = l3;
   i0 = (u32)(j0);
   j0 = i64_load(j0 + 48u);
@@ -65813,7 +66747,7 @@ static void f66(module *self, u64 p0, u64 p1, u64 p2) {
   j0 += j1;
   j1 = 24ull;
   j2 = 8ull;
-  f151(self, j0, j1, j2); m = self->memory; if (NEVER(self->is_broken)) return;
+  f155(self, j0, j1, j2); m = self->memory; if (NEVER(self->is_broken)) return;
   j0 = l3;
   i0 = (u32)(j0);
   j0 = i64_load(j0 + 32u);
@@ -65822,7 +66756,7 @@ static void f66(module *self, u64 p0, u64 p1, u64 p2) {
   i0 &= i1;
   if (i0) {goto B7;}
   j0 = l4;
-  f154(self, j0);
+  f158(self, j0);
   B8:;
   j0 = l7;
   i0 = (u32)(j0);
@@ -65833,12 +66767,12 @@ static void f66(module *self, u64 p0, u64 p1, u64 p2) {
   j0 = i64_load(j0 + 16u);
   p2 = j0;
   j0 = l7;
-  f154(self, j0);
+  f158(self, j0);
   j0 = p2;
   i0 = !(j0);
   if (i0) {goto B12;}
   j0 = l5;
-  f154(self, j0);
+  f158(self, j0);
   B12:;
   j0 = p0;
   i0 = (u32)(j0);
@@ -65902,7 +66836,7 @@ static void f66(module *self, u64 p0, u64 p1, u64 p2) {
   j0 += j1;
   j1 = 4096ull;
   j2 = 1ull;
-  f151(self, j0, j1, j2); m = self->memory; if (NEVER(self->is_broken)) return;
+  f155(self, j0, j1, j2); m = self->memory; if (NEVER(self->is_broken)) return;
   j0 = l3;
   i0 = (u32)(j0);
   j0 = i64_load(j0 + 16u);
@@ -65993,7 +66927,7 @@ static void f66(module *self, u64 p0, u64 p1, u64 p2) {
   j0 = l3;
   j1 = 24ull;
   j2 = 8ull;
-  f151(self, j0, j1, j2); m = self->memory; if (NEVER(self->is_broken)) return;
+  f155(self, j0, j1, j2); m = self->memory; if (NEVER(self->is_broken)) return;
   j0 = l3;
   i0 = (u32)(j0);
   j0 = i64_load(j0);
@@ -66002,7 +66936,7 @@ static void f66(module *self, u64 p0, u64 p1, u64 p2) {
   i0 &= i1;
   if (i0) {goto B13;}
   j0 = l4;
-  f154(self, j0);
+  f158(self, j0);
   B14:;
   j0 = l8;
   i0 = (u32)(j0);
@@ -66013,12 +66947,12 @@ static void f66(module *self, u64 p0, u64 p1, u64 p2) {
   j0 = i64_load(j0 + 16u);
   p2 = j0;
   j0 = l8;
-  f154(self, j0);
+  f158(self, j0);
   j0 = p2;
   i0 = !(j0);
   if (i0) {goto B18;}
   j0 = l5;
-  f154(self, j0);
+  f158(self, j0);
   B18:;
   j0 = l7;
   i0 = (u32)(j0);
@@ -66029,12 +66963,12 @@ static void f66(module *self, u64 p0, u64 p1, u64 p2) {
   j0 = i64_load(j0 + 16u);
   p2 = j0;
   j0 = l7;
-  f154(self, j0);
+  f158(self, j0);
   j0 = p2;
   i0 = !(j0);
   if (i0) {goto B19;}
   j0 = l5;
-  f154(self, j0);
+  f158(self, j0);
   B19:;
   j0 = p0;
   i0 = (u32)(j0);
@@ -66140,7 +67074,7 @@ static void f66(module *self, u64 p0, u64 p1, u64 p2) {
   self->g0 = j0;
 }
 
-static void f67(module *self, u64 p0, u64 p1) {
+static void f70(module *self, u64 p0, u64 p1) {
   u32 l9 = 0, l10 = 0, l11 = 0;
   u64 l2 = 0, l3 = 0, l4 = 0, l5 = 0, l6 = 0, l7 = 0, l8 = 0;
   u8 *m = self->memory;
@@ -66222,7 +67156,7 @@ static void f67(module *self, u64 p0, u64 p1) {
   j0 = l2;
   j1 = 8ull;
   j0 += j1;
-  f21(self, j0); m = self->memory; if (NEVER(self->is_broken)) return;
+  f22(self, j0); m = self->memory; if (NEVER(self->is_broken)) return;
   j0 = l2;
   i0 = (u32)(j0);
   j0 = i64_load(j0 + 24u);
@@ -66396,12 +67330,12 @@ static void f67(module *self, u64 p0, u64 p1) {
   j0 = i64_load(j0 + 16u);
   l8 = j0;
   j0 = l3;
-  f154(self, j0);
+  f158(self, j0);
   j0 = l8;
   i0 = !(j0);
   if (i0) {goto B2;}
   j0 = l7;
-  f154(self, j0);
+  f158(self, j0);
   B2:;
   i0 = l10;
   i1 = 255u;
@@ -66418,12 +67352,12 @@ static void f67(module *self, u64 p0, u64 p1) {
   j0 = i64_load(j0 + 16u);
   l3 = j0;
   j0 = l4;
-  f154(self, j0);
+  f158(self, j0);
   j0 = l3;
   i0 = !(j0);
   if (i0) {goto B3;}
   j0 = l8;
-  f154(self, j0);
+  f158(self, j0);
   B3:;
   j0 = l6;
   j1 = 255ull;
@@ -66444,12 +67378,12 @@ static void f67(module *self, u64 p0, u64 p1) {
   j0 = i64_load(j0 + 16u);
   l4 = j0;
   j0 = p1;
-  f154(self, j0);
+  f158(self, j0);
   j0 = l4;
   i0 = !(j0);
   if (i0) {goto B4;}
   j0 = l6;
-  f154(self, j0);
+  f158(self, j0);
   B4:;
   j0 = p0;
   i0 = (u32)(j0);
@@ -66482,7 +67416,7 @@ static void f67(module *self, u64 p0, u64 p1) {
   self->g0 = j0;
 }
 
-static void f68(module *self, u64 p0, u64 p1, u32 p2, u32 p3) {
+static void f71(module *self, u64 p0, u64 p1, u32 p2, u32 p3) {
   u32 l6 = 0, l7 = 0, l8 = 0, l9 = 0, l10 = 0;
   u64 l4 = 0, l5 = 0;
   u8 *m = self->memory;
@@ -66983,7 +67917,7 @@ static void f68(module *self, u64 p0, u64 p1, u32 p2, u32 p3) {
   i2 = 965u;
   i3 = p3;
   i4 = l6;
-  f69(self, j0, j1, i2, i3, i4);
+  f72(self, j0, j1, i2, i3, i4);
   j0 = l4;
   i0 = (u32)(j0);
   i0 = i32_load8_u(j0 + 1u);
@@ -67001,7 +67935,7 @@ static void f68(module *self, u64 p0, u64 p1, u32 p2, u32 p3) {
   i2 = 966u;
   i3 = p3;
   i4 = l6;
-  f69(self, j0, j1, i2, i3, i4);
+  f72(self, j0, j1, i2, i3, i4);
   j0 = l4;
   i0 = (u32)(j0);
   i0 = i32_load8_u(j0 + 9u);
@@ -67019,7 +67953,7 @@ static void f68(module *self, u64 p0, u64 p1, u32 p2, u32 p3) {
   i2 = 967u;
   i3 = p3;
   i4 = l6;
-  f69(self, j0, j1, i2, i3, i4);
+  f72(self, j0, j1, i2, i3, i4);
   j0 = l4;
   i0 = (u32)(j0);
   i0 = i32_load8_u(j0 + 17u);
@@ -67037,7 +67971,7 @@ static void f68(module *self, u64 p0, u64 p1, u32 p2, u32 p3) {
   i2 = 968u;
   i3 = p3;
   i4 = l6;
-  f69(self, j0, j1, i2, i3, i4);
+  f72(self, j0, j1, i2, i3, i4);
   j0 = l4;
   i0 = (u32)(j0);
   i0 = i32_load8_u(j0 + 25u);
@@ -67065,7 +67999,7 @@ static void f68(module *self, u64 p0, u64 p1, u32 p2, u32 p3) {
   self->g0 = j0;
 }
 
-static void f69(module *self, u64 p0, u64 p1, u32 p2, u32 p3, u32 p4) {
+static void f72(module *self, u64 p0, u64 p1, u32 p2, u32 p3, u32 p4) {
   u32 l6 = 0, l7 = 0, l8 = 0, l9 = 0, l10 = 0;
   u64 l5 = 0;
   u8 *m = self->memory;
@@ -67156,7 +68090,7 @@ static void f69(module *self, u64 p0, u64 p1, u32 p2, u32 p3, u32 p4) {
   j1 = p1;
   i2 = l8;
   i3 = p3;
-  f43(self, j0, j1, i2, i3);
+  f44(self, j0, j1, i2, i3);
   j0 = l5;
   i0 = (u32)(j0);
   i0 = i32_load8_u(j0 + 8u);
@@ -67248,7 +68182,7 @@ static void f69(module *self, u64 p0, u64 p1, u32 p2, u32 p3, u32 p4) {
   j1 = p1;
   i2 = l8;
   i3 = p4;
-  f43(self, j0, j1, i2, i3);
+  f44(self, j0, j1, i2, i3);
   j0 = l5;
   i0 = (u32)(j0);
   i0 = i32_load8_u(j0 + 1u);
@@ -67272,7 +68206,7 @@ static void f69(module *self, u64 p0, u64 p1, u32 p2, u32 p3, u32 p4) {
   self->g0 = j0;
 }
 
-static void f70(module *self, u64 p0, u64 p1, u64 p2) {
+static void f73(module *self, u64 p0, u64 p1, u64 p2) {
   u32 l20 = 0, l21 = 0, l22 = 0, l23 = 0, l24 = 0, l25 = 0, l26 = 0, l27 = 0, 
       l28 = 0;
   u64 l3 = 0, l4 = 0, l5 = 0, l6 = 0, l7 = 0, l8 = 0, l9 = 0, l10 = 0, 
@@ -68642,7 +69576,7 @@ static void f70(module *self, u64 p0, u64 p1, u64 p2) {
     j0 += j1;
     j1 = l19;
     j2 = l18;
-    f71(self, j0, j1, j2);
+    f74(self, j0, j1, j2);
     j0 = l3;
     i0 = (u32)(j0);
     j0 = i64_load(j0 + 288u);
@@ -68835,7 +69769,7 @@ static void f70(module *self, u64 p0, u64 p1, u64 p2) {
     j2 = l5;
     j3 = l4;
     i4 = l21;
-    f72(self, j0, j1, j2, j3, i4); if (NEVER(self->is_broken)) return;
+    f75(self, j0, j1, j2, j3, i4); if (NEVER(self->is_broken)) return;
     j0 = l3;
     i0 = (u32)(j0);
     j0 = i64_load(j0 + 256u);
@@ -68932,7 +69866,7 @@ static void f70(module *self, u64 p0, u64 p1, u64 p2) {
   self->g0 = j0;
 }
 
-static void f71(module *self, u64 p0, u64 p1, u64 p2) {
+static void f74(module *self, u64 p0, u64 p1, u64 p2) {
   u32 l6 = 0, l7 = 0, l8 = 0, l9 = 0, l10 = 0, l11 = 0;
   u64 l3 = 0, l4 = 0, l5 = 0;
   u8 *m = self->memory;
@@ -69541,7 +70475,7 @@ static void f71(module *self, u64 p0, u64 p1, u64 p2) {
   Bfunc:;
 }
 
-static void f72(module *self, u64 p0, u64 p1, u64 p2, u64 p3, u32 p4) {
+static void f75(module *self, u64 p0, u64 p1, u64 p2, u64 p3, u32 p4) {
   u32 l25 = 0, l26 = 0, l27 = 0, l28 = 0, l29 = 0, l30 = 0, l31 = 0, l32 = 0;
   u64 l5 = 0, l6 = 0, l7 = 0, l8 = 0, l9 = 0, l10 = 0, l11 = 0, l12 = 0, 
       l13 = 0, l14 = 0, l15 = 0, l16 = 0, l17 = 0, l18 = 0, l19 = 0, l20 = 0, 
@@ -70671,7 +71605,7 @@ static void f72(module *self, u64 p0, u64 p1, u64 p2, u64 p3, u32 p4) {
     j0 += j1;
     j1 = l7;
     j2 = p1;
-    f71(self, j0, j1, j2);
+    f74(self, j0, j1, j2);
     j0 = l5;
     i0 = (u32)(j0);
     j0 = i64_load(j0 + 72u);
@@ -71798,7 +72732,7 @@ static void f72(module *self, u64 p0, u64 p1, u64 p2, u64 p3, u32 p4) {
   j0 += j1;
   j1 = l22;
   j2 = l23;
-  f71(self, j0, j1, j2);
+  f74(self, j0, j1, j2);
   j0 = l5;
   i0 = (u32)(j0);
   j0 = i64_load(j0 + 72u);
@@ -72094,7 +73028,7 @@ static void f72(module *self, u64 p0, u64 p1, u64 p2, u64 p3, u32 p4) {
   self->g0 = j0;
 }
 
-static void f73(module *self, u64 p0, u64 p1, u64 p2) {
+static void f76(module *self, u64 p0, u64 p1, u64 p2) {
   u32 l15 = 0, l16 = 0, l17 = 0, l18 = 0;
   u64 l3 = 0, l4 = 0, l5 = 0, l6 = 0, l7 = 0, l8 = 0, l9 = 0, l10 = 0, 
       l11 = 0, l12 = 0, l13 = 0, l14 = 0;
@@ -72258,7 +73192,7 @@ static void f73(module *self, u64 p0, u64 p1, u64 p2) {
   i5 = 4096u;
   i4 = i4 < i5;
   j2 = i4 ? j2 : j3;
-  f74(self, j0, i1, j2);
+  f77(self, j0, i1, j2);
   j0 = l3;
   j1 = 560ull;
   j0 += j1;
@@ -72316,7 +73250,7 @@ static void f73(module *self, u64 p0, u64 p1, u64 p2) {
   j0 += j1;
   i1 = l15;
   j2 = 2ull;
-  f74(self, j0, i1, j2);
+  f77(self, j0, i1, j2);
   j0 = l3;
   i0 = (u32)(j0);
   j0 = i64_load(j0 + 840u);
@@ -72358,7 +73292,7 @@ static void f73(module *self, u64 p0, u64 p1, u64 p2) {
   if (i0) {goto B17;}
   j0 = p1;
   j1 = p2;
-  i0 = f11(self, j0, j1); m = self->memory; if (NEVER(self->is_broken)) return;
+  i0 = f12(self, j0, j1); m = self->memory; if (NEVER(self->is_broken)) return;
   i0 = !(i0);
   if (i0) {goto B1;}
   j0 = p1;
@@ -72473,7 +73407,7 @@ static void f73(module *self, u64 p0, u64 p1, u64 p2) {
   i5 = 4096u;
   i4 = i4 < i5;
   j2 = i4 ? j2 : j3;
-  f74(self, j0, i1, j2);
+  f77(self, j0, i1, j2);
   j0 = l3;
   j1 = 488ull;
   j0 += j1;
@@ -72531,7 +73465,7 @@ static void f73(module *self, u64 p0, u64 p1, u64 p2) {
   j0 += j1;
   i1 = l15;
   j2 = 4ull;
-  f74(self, j0, i1, j2);
+  f77(self, j0, i1, j2);
   j0 = l3;
   i0 = (u32)(j0);
   j0 = i64_load(j0 + 840u);
@@ -72573,7 +73507,7 @@ static void f73(module *self, u64 p0, u64 p1, u64 p2) {
   if (i0) {goto B21;}
   j0 = p1;
   j1 = p2;
-  i0 = f11(self, j0, j1); m = self->memory; if (NEVER(self->is_broken)) return;
+  i0 = f12(self, j0, j1); m = self->memory; if (NEVER(self->is_broken)) return;
   i0 = !(i0);
   if (i0) {goto B1;}
   j0 = p1;
@@ -72688,7 +73622,7 @@ static void f73(module *self, u64 p0, u64 p1, u64 p2) {
   i5 = 4096u;
   i4 = i4 < i5;
   j2 = i4 ? j2 : j3;
-  f74(self, j0, i1, j2);
+  f77(self, j0, i1, j2);
   j0 = l3;
   j1 = 272ull;
   j0 += j1;
@@ -72754,7 +73688,7 @@ static void f73(module *self, u64 p0, u64 p1, u64 p2) {
   if (i0) {goto B24;}
   j0 = p1;
   j1 = p2;
-  i0 = f11(self, j0, j1); m = self->memory; if (NEVER(self->is_broken)) return;
+  i0 = f12(self, j0, j1); m = self->memory; if (NEVER(self->is_broken)) return;
   i0 = !(i0);
   if (i0) {goto B1;}
   j0 = p1;
@@ -72877,7 +73811,7 @@ static void f73(module *self, u64 p0, u64 p1, u64 p2) {
   i5 = 4096u;
   i4 = i4 < i5;
   j2 = i4 ? j2 : j3;
-  f74(self, j0, i1, j2);
+  f77(self, j0, i1, j2);
   j0 = l3;
   j1 = 200ull;
   j0 += j1;
@@ -72943,7 +73877,7 @@ static void f73(module *self, u64 p0, u64 p1, u64 p2) {
   if (i0) {goto B27;}
   j0 = p1;
   j1 = p2;
-  i0 = f11(self, j0, j1); m = self->memory; if (NEVER(self->is_broken)) return;
+  i0 = f12(self, j0, j1); m = self->memory; if (NEVER(self->is_broken)) return;
   i0 = !(i0);
   if (i0) {goto B1;}
   j0 = p1;
@@ -73076,7 +74010,7 @@ static void f73(module *self, u64 p0, u64 p1, u64 p2) {
   i5 = 1048576u;
   i4 = i4 < i5;
   j2 = i4 ? j2 : j3;
-  f74(self, j0, i1, j2);
+  f77(self, j0, i1, j2);
   j0 = l3;
   j1 = 416ull;
   j0 += j1;
@@ -73134,7 +74068,7 @@ static void f73(module *self, u64 p0, u64 p1, u64 p2) {
   j0 += j1;
   i1 = l15;
   j2 = 2ull;
-  f74(self, j0, i1, j2);
+  f77(self, j0, i1, j2);
   j0 = l3;
   i0 = (u32)(j0);
   j0 = i64_load(j0 + 840u);
@@ -73176,7 +74110,7 @@ static void f73(module *self, u64 p0, u64 p1, u64 p2) {
   if (i0) {goto B31;}
   j0 = p1;
   j1 = p2;
-  i0 = f11(self, j0, j1); m = self->memory; if (NEVER(self->is_broken)) return;
+  i0 = f12(self, j0, j1); m = self->memory; if (NEVER(self->is_broken)) return;
   i0 = !(i0);
   if (i0) {goto B1;}
   j0 = p1;
@@ -73301,7 +74235,7 @@ static void f73(module *self, u64 p0, u64 p1, u64 p2) {
   i5 = 1048576u;
   i4 = i4 < i5;
   j2 = i4 ? j2 : j3;
-  f74(self, j0, i1, j2);
+  f77(self, j0, i1, j2);
   j0 = l3;
   j1 = 344ull;
   j0 += j1;
@@ -73359,7 +74293,7 @@ static void f73(module *self, u64 p0, u64 p1, u64 p2) {
   j0 += j1;
   i1 = l15;
   j2 = 4ull;
-  f74(self, j0, i1, j2);
+  f77(self, j0, i1, j2);
   j0 = l3;
   i0 = (u32)(j0);
   j0 = i64_load(j0 + 840u);
@@ -73401,7 +74335,7 @@ static void f73(module *self, u64 p0, u64 p1, u64 p2) {
   if (i0) {goto B35;}
   j0 = p1;
   j1 = p2;
-  i0 = f11(self, j0, j1); m = self->memory; if (NEVER(self->is_broken)) return;
+  i0 = f12(self, j0, j1); m = self->memory; if (NEVER(self->is_broken)) return;
   i0 = !(i0);
   if (i0) {goto B1;}
   j0 = p1;
@@ -73534,7 +74468,7 @@ static void f73(module *self, u64 p0, u64 p1, u64 p2) {
   i5 = 1048576u;
   i4 = i4 < i5;
   j2 = i4 ? j2 : j3;
-  f74(self, j0, i1, j2);
+  f77(self, j0, i1, j2);
   j0 = l3;
   j1 = 128ull;
   j0 += j1;
@@ -73600,7 +74534,7 @@ static void f73(module *self, u64 p0, u64 p1, u64 p2) {
   if (i0) {goto B38;}
   j0 = p1;
   j1 = p2;
-  i0 = f11(self, j0, j1); m = self->memory; if (NEVER(self->is_broken)) return;
+  i0 = f12(self, j0, j1); m = self->memory; if (NEVER(self->is_broken)) return;
   i0 = !(i0);
   if (i0) {goto B1;}
   j0 = p1;
@@ -73725,7 +74659,7 @@ static void f73(module *self, u64 p0, u64 p1, u64 p2) {
   i5 = 1048576u;
   i4 = i4 < i5;
   j2 = i4 ? j2 : j3;
-  f74(self, j0, i1, j2);
+  f77(self, j0, i1, j2);
   j0 = l3;
   j1 = 56ull;
   j0 += j1;
@@ -73791,7 +74725,7 @@ static void f73(module *self, u64 p0, u64 p1, u64 p2) {
   if (i0) {goto B41;}
   j0 = p1;
   j1 = p2;
-  i0 = f11(self, j0, j1); m = self->memory; if (NEVER(self->is_broken)) return;
+  i0 = f12(self, j0, j1); m = self->memory; if (NEVER(self->is_broken)) return;
   i0 = !(i0);
   if (i0) {goto B1;}
   j0 = p1;
@@ -73951,7 +74885,7 @@ static void f73(module *self, u64 p0, u64 p1, u64 p2) {
   j0 += j1;
   i1 = l18;
   j2 = 4ull;
-  f74(self, j0, i1, j2);
+  f77(self, j0, i1, j2);
   j0 = l3;
   i0 = (u32)(j0);
   j0 = i64_load(j0 + 840u);
@@ -73981,7 +74915,7 @@ static void f73(module *self, u64 p0, u64 p1, u64 p2) {
   j0 += j1;
   i1 = l17;
   j2 = 4ull;
-  f74(self, j0, i1, j2);
+  f77(self, j0, i1, j2);
   j0 = l3;
   i0 = (u32)(j0);
   j0 = i64_load(j0 + 840u);
@@ -74011,7 +74945,7 @@ static void f73(module *self, u64 p0, u64 p1, u64 p2) {
   j0 += j1;
   i1 = l16;
   j2 = 4ull;
-  f74(self, j0, i1, j2);
+  f77(self, j0, i1, j2);
   j0 = l3;
   i0 = (u32)(j0);
   j0 = i64_load(j0 + 840u);
@@ -74041,7 +74975,7 @@ static void f73(module *self, u64 p0, u64 p1, u64 p2) {
   j0 += j1;
   i1 = l15;
   j2 = 4ull;
-  f74(self, j0, i1, j2);
+  f77(self, j0, i1, j2);
   j0 = l3;
   j1 = 632ull;
   j0 += j1;
@@ -74122,7 +75056,7 @@ static void f73(module *self, u64 p0, u64 p1, u64 p2) {
   if (i0) {goto B48;}
   j0 = p1;
   j1 = p2;
-  i0 = f11(self, j0, j1); m = self->memory; if (NEVER(self->is_broken)) return;
+  i0 = f12(self, j0, j1); m = self->memory; if (NEVER(self->is_broken)) return;
   i0 = !(i0);
   if (i0) {goto B1;}
   j0 = p1;
@@ -74251,7 +75185,7 @@ static void f73(module *self, u64 p0, u64 p1, u64 p2) {
   if (i0) {goto B53;}
   j0 = p1;
   j1 = p2;
-  i0 = f11(self, j0, j1); m = self->memory; if (NEVER(self->is_broken)) return;
+  i0 = f12(self, j0, j1); m = self->memory; if (NEVER(self->is_broken)) return;
   i0 = !(i0);
   if (i0) {goto B1;}
   j0 = p1;
@@ -74324,7 +75258,7 @@ static void f73(module *self, u64 p0, u64 p1, u64 p2) {
   j0 += j1;
   j1 = l10;
   j2 = 1ull;
-  f151(self, j0, j1, j2); m = self->memory; if (NEVER(self->is_broken)) return;
+  f155(self, j0, j1, j2); m = self->memory; if (NEVER(self->is_broken)) return;
   i0 = 1u;
   l15 = i0;
   j0 = l3;
@@ -74415,7 +75349,7 @@ static void f73(module *self, u64 p0, u64 p1, u64 p2) {
   if (i0) {goto B59;}
   j0 = p1;
   j1 = l10;
-  i0 = f11(self, j0, j1); m = self->memory; if (NEVER(self->is_broken)) return;
+  i0 = f12(self, j0, j1); m = self->memory; if (NEVER(self->is_broken)) return;
   i0 = !(i0);
   if (i0) {goto B58;}
   j0 = p1;
@@ -74588,7 +75522,7 @@ static void f73(module *self, u64 p0, u64 p1, u64 p2) {
   j1 = l13;
   i64_store(j0, j1);
   j0 = l7;
-  f154(self, j0);
+  f158(self, j0);
   j0 = l4;
   i0 = (u32)(j0);
   j0 = i64_load(j0);
@@ -74601,7 +75535,7 @@ static void f73(module *self, u64 p0, u64 p1, u64 p2) {
   if (i0) {goto B65;}
   j0 = p1;
   j1 = 1ull;
-  i0 = f11(self, j0, j1); m = self->memory; if (NEVER(self->is_broken)) return;
+  i0 = f12(self, j0, j1); m = self->memory; if (NEVER(self->is_broken)) return;
   i0 = !(i0);
   if (i0) {goto B0;}
   j0 = p1;
@@ -74643,7 +75577,7 @@ static void f73(module *self, u64 p0, u64 p1, u64 p2) {
   goto B2;
   B58:;
   j0 = l7;
-  f154(self, j0);
+  f158(self, j0);
   goto B0;
   B5:;
   j0 = p2;
@@ -74715,7 +75649,7 @@ static void f73(module *self, u64 p0, u64 p1, u64 p2) {
   j2 = 704ull;
   j1 += j2;
   i2 = l15;
-  f75(self, j0, j1, i2); if (NEVER(self->is_broken)) return;
+  f78(self, j0, j1, i2); if (NEVER(self->is_broken)) return;
   j0 = l3;
   i0 = (u32)(j0);
   j0 = i64_load(j0 + 32u);
@@ -74792,7 +75726,7 @@ static void f73(module *self, u64 p0, u64 p1, u64 p2) {
   if (i0) {goto B70;}
   j0 = p1;
   j1 = p2;
-  i0 = f11(self, j0, j1); m = self->memory; if (NEVER(self->is_broken)) return;
+  i0 = f12(self, j0, j1); m = self->memory; if (NEVER(self->is_broken)) return;
   i0 = !(i0);
   if (i0) {goto B1;}
   j0 = p1;
@@ -74865,7 +75799,7 @@ static void f73(module *self, u64 p0, u64 p1, u64 p2) {
   if (i0) {goto B72;}
   j0 = p1;
   j1 = 6ull;
-  i0 = f11(self, j0, j1); m = self->memory; if (NEVER(self->is_broken)) return;
+  i0 = f12(self, j0, j1); m = self->memory; if (NEVER(self->is_broken)) return;
   i0 = !(i0);
   if (i0) {goto B1;}
   j0 = p1;
@@ -74981,7 +75915,7 @@ static void f73(module *self, u64 p0, u64 p1, u64 p2) {
   if (i0) {goto B82;}
   j0 = p1;
   j1 = 10ull;
-  i0 = f11(self, j0, j1); m = self->memory; if (NEVER(self->is_broken)) return;
+  i0 = f12(self, j0, j1); m = self->memory; if (NEVER(self->is_broken)) return;
   if (i0) {goto B83;}
   i0 = 1u;
   l15 = i0;
@@ -75106,7 +76040,7 @@ static void f73(module *self, u64 p0, u64 p1, u64 p2) {
   j0 += j1;
   i1 = l15;
   j2 = 2ull;
-  f74(self, j0, i1, j2);
+  f77(self, j0, i1, j2);
   j0 = 64ull;
   p2 = j0;
   j0 = l3;
@@ -75150,7 +76084,7 @@ static void f73(module *self, u64 p0, u64 p1, u64 p2) {
   if (i0) {goto B87;}
   j0 = p1;
   j1 = p2;
-  i0 = f11(self, j0, j1); m = self->memory; if (NEVER(self->is_broken)) return;
+  i0 = f12(self, j0, j1); m = self->memory; if (NEVER(self->is_broken)) return;
   i0 = !(i0);
   if (i0) {goto B1;}
   j0 = p1;
@@ -75225,7 +76159,7 @@ static void f73(module *self, u64 p0, u64 p1, u64 p2) {
   if (i0) {goto B89;}
   j0 = p1;
   j1 = 10ull;
-  i0 = f11(self, j0, j1); m = self->memory; if (NEVER(self->is_broken)) return;
+  i0 = f12(self, j0, j1); m = self->memory; if (NEVER(self->is_broken)) return;
   if (i0) {goto B90;}
   i0 = 1u;
   l15 = i0;
@@ -75319,7 +76253,7 @@ static void f73(module *self, u64 p0, u64 p1, u64 p2) {
   if (i0) {goto B93;}
   j0 = p1;
   j1 = 13ull;
-  i0 = f11(self, j0, j1); m = self->memory; if (NEVER(self->is_broken)) return;
+  i0 = f12(self, j0, j1); m = self->memory; if (NEVER(self->is_broken)) return;
   i0 = !(i0);
   if (i0) {goto B1;}
   j0 = p1;
@@ -75457,7 +76391,7 @@ static void f73(module *self, u64 p0, u64 p1, u64 p2) {
   j0 += j1;
   i1 = l15;
   j2 = 1ull;
-  f74(self, j0, i1, j2);
+  f77(self, j0, i1, j2);
   j0 = 64ull;
   p2 = j0;
   j0 = l3;
@@ -75487,7 +76421,7 @@ static void f73(module *self, u64 p0, u64 p1, u64 p2) {
   j0 += j1;
   i1 = l17;
   j2 = 4ull;
-  f74(self, j0, i1, j2);
+  f77(self, j0, i1, j2);
   j0 = l3;
   i0 = (u32)(j0);
   j0 = i64_load(j0 + 840u);
@@ -75538,7 +76472,7 @@ static void f73(module *self, u64 p0, u64 p1, u64 p2) {
   j2 = 704ull;
   j1 += j2;
   i2 = l16;
-  f75(self, j0, j1, i2); if (NEVER(self->is_broken)) return;
+  f78(self, j0, j1, i2); if (NEVER(self->is_broken)) return;
   j0 = 64ull;
   l4 = j0;
   j0 = 64ull;
@@ -75613,7 +76547,7 @@ static void f73(module *self, u64 p0, u64 p1, u64 p2) {
   if (i0) {goto B101;}
   j0 = p1;
   j1 = l4;
-  i0 = f11(self, j0, j1); m = self->memory; if (NEVER(self->is_broken)) return;
+  i0 = f12(self, j0, j1); m = self->memory; if (NEVER(self->is_broken)) return;
   i0 = !(i0);
   if (i0) {goto B1;}
   j0 = p1;
@@ -75688,7 +76622,7 @@ static void f73(module *self, u64 p0, u64 p1, u64 p2) {
   p2 = j0;
   j0 = p1;
   j1 = 9ull;
-  i0 = f11(self, j0, j1); m = self->memory; if (NEVER(self->is_broken)) return;
+  i0 = f12(self, j0, j1); m = self->memory; if (NEVER(self->is_broken)) return;
   if (i0) {goto B104;}
   i0 = 1u;
   l15 = i0;
@@ -75782,7 +76716,7 @@ static void f73(module *self, u64 p0, u64 p1, u64 p2) {
   if (i0) {goto B107;}
   j0 = p1;
   j1 = 11ull;
-  i0 = f11(self, j0, j1); m = self->memory; if (NEVER(self->is_broken)) return;
+  i0 = f12(self, j0, j1); m = self->memory; if (NEVER(self->is_broken)) return;
   i0 = !(i0);
   if (i0) {goto B1;}
   j0 = p1;
@@ -75891,7 +76825,7 @@ static void f73(module *self, u64 p0, u64 p1, u64 p2) {
   self->g0 = j0;
 }
 
-static void f74(module *self, u64 p0, u32 p1, u64 p2) {
+static void f77(module *self, u64 p0, u32 p1, u64 p2) {
   u64 l3 = 0;
   u8 *m = self->memory;
   u32 i0, i1, i2, i3, i4;
@@ -75906,7 +76840,7 @@ static void f74(module *self, u64 p0, u32 p1, u64 p2) {
   j2 = p2;
   j3 = 18446744073709551615ull;
   j2 += j3;
-  f74(self, j0, i1, j2);
+  f77(self, j0, i1, j2);
   j0 = p0;
   j1 = 64ull;
   j0 += j1;
@@ -75944,7 +76878,7 @@ static void f74(module *self, u64 p0, u32 p1, u64 p2) {
   B0:;
 }
 
-static void f75(module *self, u64 p0, u64 p1, u32 p2) {
+static void f78(module *self, u64 p0, u64 p1, u32 p2) {
   u32 l7 = 0;
   u64 l3 = 0, l4 = 0, l5 = 0, l6 = 0;
   u8 *m = self->memory;
@@ -76126,7 +77060,315 @@ static void f75(module *self, u64 p0, u64 p1, u32 p2) {
   i64_store(j0, j1);
 }
 
-static u32 f76(module *self, u64 p0, u32 p1, u32 p2) {
+static void f79(module *self, u64 p0, u64 p1, u32 p2, u32 p3, u32 p4) {
+  u32 l5 = 0, l6 = 0, l7 = 0, l8 = 0;
+  u8 *m = self->memory;
+  u32 i0, i1, i2, i3, i4, i5;
+  u64 j0, j1, j2, j3;
+  i0 = p2;
+  i0 = !(i0);
+  if (i0) {goto B3;}
+  j0 = p1;
+  i1 = p2;
+  i2 = p3;
+  i0 = f80(self, j0, i1, i2);
+  i0 = !(i0);
+  if (i0) {goto B2;}
+  B3:;
+  i0 = 1u;
+  l5 = i0;
+  j0 = p1;
+  j1 = 2003ull;
+  j0 += j1;
+  i0 = (u32)(j0);
+  i0 = i32_load8_u(j0);
+  i1 = 2u;
+  i0 &= i1;
+  i0 = !(i0);
+  if (i0) {goto B0;}
+  i0 = p3;
+  j1 = p1;
+  j2 = 60ull;
+  j1 += j2;
+  i1 = (u32)(j1);
+  i1 = i32_load(j1);
+  i0 -= i1;
+  p3 = i0;
+  j1 = p1;
+  j2 = 64ull;
+  j1 += j2;
+  i1 = (u32)(j1);
+  i1 = i32_load(j1);
+  i0 = i0 >= i1;
+  if (i0) {goto B0;}
+  j0 = p1;
+  j1 = 71ull;
+  j0 += j1;
+  i0 = (u32)(j0);
+  i0 = i32_load8_u(j0);
+  l5 = i0;
+  j0 = p1;
+  j1 = 70ull;
+  j0 += j1;
+  i0 = (u32)(j0);
+  i0 = i32_load8_u(j0);
+  l6 = i0;
+  j0 = p1;
+  j1 = 69ull;
+  j0 += j1;
+  i0 = (u32)(j0);
+  i0 = i32_load8_u(j0);
+  l7 = i0;
+  j0 = p1;
+  j1 = p1;
+  j2 = 72ull;
+  j1 += j2;
+  i1 = (u32)(j1);
+  i1 = i32_load8_u(j1);
+  i2 = p4;
+  i0 = f46(self, j0, i1, i2);
+  p4 = i0;
+  j0 = p1;
+  j1 = 68ull;
+  j0 += j1;
+  i0 = (u32)(j0);
+  i0 = i32_load8_u(j0);
+  l8 = i0;
+  i1 = 1u;
+  i0 &= i1;
+  i0 = !(i0);
+  if (i0) {goto B5;}
+  i0 = 134480385u;
+  i1 = p3;
+  i2 = 3u;
+  i1 <<= (i2 & 31);
+  i0 >>= (i1 & 31);
+  l6 = i0;
+  goto B4;
+  B5:;
+  i0 = 15u;
+  i1 = 10u;
+  i2 = 5u;
+  i3 = p3;
+  i4 = 1u;
+  i3 &= i4;
+  i1 = i3 ? i1 : i2;
+  i2 = l6;
+  i3 = 1u;
+  i2 &= i3;
+  i0 = i2 ? i0 : i1;
+  l6 = i0;
+  B4:;
+  j0 = p1;
+  i0 = (u32)(j0);
+  j0 = i64_load(j0);
+  i1 = p3;
+  i2 = 65532u;
+  i1 &= i2;
+  i2 = p3;
+  i3 = 65534u;
+  i2 &= i3;
+  i3 = p3;
+  i4 = l7;
+  i5 = 1u;
+  i4 &= i5;
+  i2 = i4 ? i2 : i3;
+  i3 = l8;
+  i4 = 1u;
+  i3 &= i4;
+  i1 = i3 ? i1 : i2;
+  j1 = (u64)(i1);
+  j2 = 65535ull;
+  j1 &= j2;
+  j2 = 2ull;
+  j1 <<= (j2 & 63);
+  j0 += j1;
+  p1 = j0;
+  i0 = (u32)(j0);
+  i1 = p4;
+  j2 = p1;
+  i2 = (u32)(j2);
+  i2 = i32_load(j2);
+  p3 = i2;
+  i1 ^= i2;
+  i2 = l6;
+  i3 = l5;
+  i2 &= i3;
+  i3 = 2u;
+  i2 <<= (i3 & 31);
+  j2 = (u64)(i2);
+  j3 = 60ull;
+  j2 &= j3;
+  j3 = 1048844ull;
+  j2 += j3;
+  i2 = (u32)(j2);
+  i2 = i32_load(j2);
+  i1 &= i2;
+  i2 = p3;
+  i1 ^= i2;
+  i32_store(j0, i1);
+  goto B1;
+  B2:;
+  j0 = p1;
+  i1 = p2;
+  i2 = p3;
+  i0 = f81(self, j0, i1, i2); m = self->memory; if (NEVER(self->is_broken)) return;
+  p2 = i0;
+  i0 = 1u;
+  l5 = i0;
+  j0 = p1;
+  j1 = 2003ull;
+  j0 += j1;
+  i0 = (u32)(j0);
+  i0 = i32_load8_u(j0);
+  i1 = 2u;
+  i0 &= i1;
+  i0 = !(i0);
+  if (i0) {goto B0;}
+  i0 = p3;
+  j1 = p1;
+  j2 = 60ull;
+  j1 += j2;
+  i1 = (u32)(j1);
+  i1 = i32_load(j1);
+  i0 -= i1;
+  p3 = i0;
+  j1 = p1;
+  j2 = 64ull;
+  j1 += j2;
+  i1 = (u32)(j1);
+  i1 = i32_load(j1);
+  i0 = i0 >= i1;
+  if (i0) {goto B0;}
+  j0 = p1;
+  j1 = 71ull;
+  j0 += j1;
+  i0 = (u32)(j0);
+  i0 = i32_load8_u(j0);
+  l5 = i0;
+  j0 = p1;
+  j1 = 70ull;
+  j0 += j1;
+  i0 = (u32)(j0);
+  i0 = i32_load8_u(j0);
+  l6 = i0;
+  j0 = p1;
+  j1 = 69ull;
+  j0 += j1;
+  i0 = (u32)(j0);
+  i0 = i32_load8_u(j0);
+  l7 = i0;
+  j0 = p1;
+  j1 = p1;
+  j2 = 72ull;
+  j1 += j2;
+  i1 = (u32)(j1);
+  i1 = i32_load8_u(j1);
+  i2 = p4;
+  i0 = f46(self, j0, i1, i2);
+  p4 = i0;
+  j0 = p1;
+  j1 = 68ull;
+  j0 += j1;
+  i0 = (u32)(j0);
+  i0 = i32_load8_u(j0);
+  l8 = i0;
+  i1 = 1u;
+  i0 &= i1;
+  i0 = !(i0);
+  if (i0) {goto B7;}
+  i0 = 134480385u;
+  i1 = p3;
+  i2 = 3u;
+  i1 <<= (i2 & 31);
+  i0 >>= (i1 & 31);
+  l6 = i0;
+  goto B6;
+  B7:;
+  i0 = 15u;
+  i1 = 10u;
+  i2 = 5u;
+  i3 = p3;
+  i4 = 1u;
+  i3 &= i4;
+  i1 = i3 ? i1 : i2;
+  i2 = l6;
+  i3 = 1u;
+  i2 &= i3;
+  i0 = i2 ? i0 : i1;
+  l6 = i0;
+  B6:;
+  j0 = p1;
+  i0 = (u32)(j0);
+  j0 = i64_load(j0);
+  i1 = p3;
+  i2 = 65532u;
+  i1 &= i2;
+  i2 = p3;
+  i3 = 65534u;
+  i2 &= i3;
+  i3 = p3;
+  i4 = l7;
+  i5 = 1u;
+  i4 &= i5;
+  i2 = i4 ? i2 : i3;
+  i3 = l8;
+  i4 = 1u;
+  i3 &= i4;
+  i1 = i3 ? i1 : i2;
+  j1 = (u64)(i1);
+  j2 = 65535ull;
+  j1 &= j2;
+  j2 = 2ull;
+  j1 <<= (j2 & 63);
+  j0 += j1;
+  p1 = j0;
+  i0 = (u32)(j0);
+  i1 = p4;
+  j2 = p1;
+  i2 = (u32)(j2);
+  i2 = i32_load(j2);
+  p3 = i2;
+  i1 ^= i2;
+  i2 = l6;
+  i3 = l5;
+  i2 &= i3;
+  i3 = 2u;
+  i2 <<= (i3 & 31);
+  j2 = (u64)(i2);
+  j3 = 60ull;
+  j2 &= j3;
+  j3 = 1048844ull;
+  j2 += j3;
+  i2 = (u32)(j2);
+  i2 = i32_load(j2);
+  i1 &= i2;
+  i2 = p3;
+  i1 ^= i2;
+  i32_store(j0, i1);
+  B1:;
+  i0 = 0u;
+  l5 = i0;
+  B0:;
+  j0 = p0;
+  i0 = (u32)(j0);
+  i1 = p2;
+  i32_store(j0, i1);
+  j0 = p0;
+  j1 = 5ull;
+  j0 += j1;
+  i0 = (u32)(j0);
+  i1 = 0u;
+  i32_store8(j0, i1);
+  j0 = p0;
+  j1 = 4ull;
+  j0 += j1;
+  i0 = (u32)(j0);
+  i1 = l5;
+  i32_store8(j0, i1);
+}
+
+static u32 f80(module *self, u64 p0, u32 p1, u32 p2) {
   u32 l3 = 0, l4 = 0, l5 = 0, l6 = 0, l7 = 0;
   u64 l8 = 0;
   u8 *m = self->memory;
@@ -76379,7 +77621,7 @@ static u32 f76(module *self, u64 p0, u32 p1, u32 p2) {
   return i0;
 }
 
-static u32 f77(module *self, u64 p0, u32 p1, u32 p2) {
+static u32 f81(module *self, u64 p0, u32 p1, u32 p2) {
   u32 l3 = 0, l4 = 0, l5 = 0, l6 = 0, l7 = 0;
   u8 *m = self->memory;
   u32 i0, i1, i2, i3, i4, i5;
@@ -76477,7 +77719,7 @@ static u32 f77(module *self, u64 p0, u32 p1, u32 p2) {
   j0 = p0;
   i1 = l3;
   i2 = p2;
-  i0 = f76(self, j0, i1, i2);
+  i0 = f80(self, j0, i1, i2);
   if (i0) {goto B3;}
   j0 = p0;
   i1 = l3;
@@ -76489,7 +77731,7 @@ static u32 f77(module *self, u64 p0, u32 p1, u32 p2) {
   return i0;
 }
 
-static u32 f78(module *self, u64 p0, u64 p1, u32 p2, u64 p3, u64 p4, u32 p5) {
+static u32 f82(module *self, u64 p0, u64 p1, u32 p2, u64 p3, u64 p4, u32 p5) {
   u32 l6 = 0, l7 = 0, l8 = 0, l9 = 0, l10 = 0, l11 = 0, l12 = 0;
   u8 *m = self->memory;
   u32 i0, i1, i2, i3;
@@ -76833,318 +78075,7 @@ static u32 f78(module *self, u64 p0, u64 p1, u32 p2, u64 p3, u64 p4, u32 p5) {
   return i0;
 }
 
-static void f79(module *self, u64 p0, u64 p1, u32 p2, u32 p3) {
-  u32 l4 = 0, l5 = 0, l6 = 0, l7 = 0, l8 = 0, l9 = 0, l10 = 0;
-  u64 l11 = 0;
-  u8 *m = self->memory;
-  u32 i0, i1, i2, i3, i4, i5;
-  u64 j0, j1, j2, j3;
-  i0 = 1u;
-  l4 = i0;
-  i0 = p2;
-  i1 = 4294967295u;
-  i0 = i0 == i1;
-  if (i0) {goto B0;}
-  j0 = p1;
-  j1 = 2003ull;
-  j0 += j1;
-  i0 = (u32)(j0);
-  i0 = i32_load8_u(j0);
-  i1 = 2u;
-  i0 &= i1;
-  i0 = !(i0);
-  if (i0) {goto B0;}
-  i0 = p2;
-  j1 = p1;
-  j2 = 60ull;
-  j1 += j2;
-  i1 = (u32)(j1);
-  i1 = i32_load(j1);
-  l5 = i1;
-  i0 = i0 < i1;
-  if (i0) {goto B0;}
-  i0 = p2;
-  j1 = p1;
-  j2 = 64ull;
-  j1 += j2;
-  i1 = (u32)(j1);
-  i1 = i32_load(j1);
-  l6 = i1;
-  i2 = l5;
-  i1 += i2;
-  l7 = i1;
-  i0 = i0 >= i1;
-  if (i0) {goto B0;}
-  i0 = p2;
-  i1 = 1u;
-  i0 += i1;
-  l8 = i0;
-  i1 = l7;
-  i0 = i0 >= i1;
-  if (i0) {goto B0;}
-  i0 = p2;
-  i1 = l5;
-  i0 -= i1;
-  p2 = i0;
-  i1 = l6;
-  i0 = i0 >= i1;
-  if (i0) {goto B0;}
-  j0 = p1;
-  j1 = 71ull;
-  j0 += j1;
-  i0 = (u32)(j0);
-  i0 = i32_load8_u(j0);
-  l5 = i0;
-  j0 = p1;
-  j1 = 70ull;
-  j0 += j1;
-  i0 = (u32)(j0);
-  i0 = i32_load8_u(j0);
-  l4 = i0;
-  j0 = p1;
-  j1 = 69ull;
-  j0 += j1;
-  i0 = (u32)(j0);
-  i0 = i32_load8_u(j0);
-  l7 = i0;
-  j0 = p1;
-  j1 = p1;
-  j2 = 72ull;
-  j1 += j2;
-  i1 = (u32)(j1);
-  i1 = i32_load8_u(j1);
-  i2 = p3;
-  i0 = f45(self, j0, i1, i2);
-  l6 = i0;
-  j0 = p1;
-  j1 = 68ull;
-  j0 += j1;
-  i0 = (u32)(j0);
-  i0 = i32_load8_u(j0);
-  l9 = i0;
-  i1 = 1u;
-  i0 &= i1;
-  i0 = !(i0);
-  if (i0) {goto B2;}
-  i0 = 134480385u;
-  i1 = p2;
-  i2 = 3u;
-  i1 <<= (i2 & 31);
-  i0 >>= (i1 & 31);
-  l10 = i0;
-  goto B1;
-  B2:;
-  i0 = 15u;
-  i1 = 10u;
-  i2 = 5u;
-  i3 = p2;
-  i4 = 1u;
-  i3 &= i4;
-  i1 = i3 ? i1 : i2;
-  i2 = l4;
-  i3 = 1u;
-  i2 &= i3;
-  i0 = i2 ? i0 : i1;
-  l10 = i0;
-  B1:;
-  i0 = 1u;
-  l4 = i0;
-  j0 = p1;
-  i0 = (u32)(j0);
-  j0 = i64_load(j0);
-  i1 = p2;
-  i2 = 65532u;
-  i1 &= i2;
-  i2 = p2;
-  i3 = 65534u;
-  i2 &= i3;
-  i3 = p2;
-  i4 = l7;
-  i5 = 1u;
-  i4 &= i5;
-  i2 = i4 ? i2 : i3;
-  i3 = l9;
-  i4 = 1u;
-  i3 &= i4;
-  i1 = i3 ? i1 : i2;
-  j1 = (u64)(i1);
-  j2 = 65535ull;
-  j1 &= j2;
-  j2 = 2ull;
-  j1 <<= (j2 & 63);
-  j0 += j1;
-  l11 = j0;
-  i0 = (u32)(j0);
-  i1 = l6;
-  j2 = l11;
-  i2 = (u32)(j2);
-  i2 = i32_load(j2);
-  p2 = i2;
-  i1 ^= i2;
-  i2 = l10;
-  i3 = l5;
-  i2 &= i3;
-  i3 = 2u;
-  i2 <<= (i3 & 31);
-  j2 = (u64)(i2);
-  j3 = 60ull;
-  j2 &= j3;
-  j3 = 1048844ull;
-  j2 += j3;
-  i2 = (u32)(j2);
-  i2 = i32_load(j2);
-  i1 &= i2;
-  i2 = p2;
-  i1 ^= i2;
-  i32_store(j0, i1);
-  j0 = p1;
-  j1 = 2003ull;
-  j0 += j1;
-  i0 = (u32)(j0);
-  i0 = i32_load8_u(j0);
-  i1 = 2u;
-  i0 &= i1;
-  i0 = !(i0);
-  if (i0) {goto B0;}
-  i0 = l8;
-  j1 = p1;
-  j2 = 60ull;
-  j1 += j2;
-  i1 = (u32)(j1);
-  i1 = i32_load(j1);
-  i0 -= i1;
-  p2 = i0;
-  j1 = p1;
-  j2 = 64ull;
-  j1 += j2;
-  i1 = (u32)(j1);
-  i1 = i32_load(j1);
-  i0 = i0 >= i1;
-  if (i0) {goto B0;}
-  j0 = p1;
-  j1 = 71ull;
-  j0 += j1;
-  i0 = (u32)(j0);
-  i0 = i32_load8_u(j0);
-  l4 = i0;
-  j0 = p1;
-  j1 = 70ull;
-  j0 += j1;
-  i0 = (u32)(j0);
-  i0 = i32_load8_u(j0);
-  l6 = i0;
-  j0 = p1;
-  j1 = 69ull;
-  j0 += j1;
-  i0 = (u32)(j0);
-  i0 = i32_load8_u(j0);
-  l5 = i0;
-  j0 = p1;
-  j1 = p1;
-  j2 = 72ull;
-  j1 += j2;
-  i1 = (u32)(j1);
-  i1 = i32_load8_u(j1);
-  i2 = p3;
-  i3 = 65280u;
-  i2 &= i3;
-  i3 = 8u;
-  i2 >>= (i3 & 31);
-  i0 = f45(self, j0, i1, i2);
-  p3 = i0;
-  j0 = p1;
-  j1 = 68ull;
-  j0 += j1;
-  i0 = (u32)(j0);
-  i0 = i32_load8_u(j0);
-  l7 = i0;
-  i1 = 1u;
-  i0 &= i1;
-  i0 = !(i0);
-  if (i0) {goto B4;}
-  i0 = 134480385u;
-  i1 = p2;
-  i2 = 3u;
-  i1 <<= (i2 & 31);
-  i0 >>= (i1 & 31);
-  l6 = i0;
-  goto B3;
-  B4:;
-  i0 = 15u;
-  i1 = 10u;
-  i2 = 5u;
-  i3 = p2;
-  i4 = 1u;
-  i3 &= i4;
-  i1 = i3 ? i1 : i2;
-  i2 = l6;
-  i3 = 1u;
-  i2 &= i3;
-  i0 = i2 ? i0 : i1;
-  l6 = i0;
-  B3:;
-  j0 = p1;
-  i0 = (u32)(j0);
-  j0 = i64_load(j0);
-  i1 = p2;
-  i2 = 65532u;
-  i1 &= i2;
-  i2 = p2;
-  i3 = 65534u;
-  i2 &= i3;
-  i3 = p2;
-  i4 = l5;
-  i5 = 1u;
-  i4 &= i5;
-  i2 = i4 ? i2 : i3;
-  i3 = l7;
-  i4 = 1u;
-  i3 &= i4;
-  i1 = i3 ? i1 : i2;
-  j1 = (u64)(i1);
-  j2 = 65535ull;
-  j1 &= j2;
-  j2 = 2ull;
-  j1 <<= (j2 & 63);
-  j0 += j1;
-  p1 = j0;
-  i0 = (u32)(j0);
-  i1 = p3;
-  j2 = p1;
-  i2 = (u32)(j2);
-  i2 = i32_load(j2);
-  p2 = i2;
-  i1 ^= i2;
-  i2 = l6;
-  i3 = l4;
-  i2 &= i3;
-  i3 = 2u;
-  i2 <<= (i3 & 31);
-  j2 = (u64)(i2);
-  j3 = 60ull;
-  j2 &= j3;
-  j3 = 1048844ull;
-  j2 += j3;
-  i2 = (u32)(j2);
-  i2 = i32_load(j2);
-  i1 &= i2;
-  i2 = p2;
-  i1 ^= i2;
-  i32_store(j0, i1);
-  i0 = 0u;
-  l4 = i0;
-  B0:;
-  j0 = p0;
-  i0 = (u32)(j0);
-  i1 = 0u;
-  i32_store8(j0 + 1, i1);
-  j0 = p0;
-  i0 = (u32)(j0);
-  i1 = l4;
-  i32_store8(j0, i1);
-}
-
-static u32 f80(module *self, u64 p0, u64 p1, u64 p2) {
+static u32 f83(module *self, u64 p0, u64 p1, u64 p2) {
   u32 l10 = 0, l11 = 0, l12 = 0, l13 = 0, l14 = 0, l15 = 0, l16 = 0, l17 = 0, 
       l18 = 0, l19 = 0, l20 = 0, l21 = 0, l22 = 0, l23 = 0, l24 = 0, l25 = 0, 
       l26 = 0, l27 = 0;
@@ -77397,7 +78328,7 @@ static u32 f80(module *self, u64 p0, u64 p1, u64 p2) {
   j0 = l3;
   j1 = 14ull;
   j0 += j1;
-  i0 = f18(self, j0);
+  i0 = f19(self, j0);
   i0 = !(i0);
   if (i0) {goto B0;}
   j0 = p1;
@@ -77992,13 +78923,13 @@ static u32 f80(module *self, u64 p0, u64 p1, u64 p2) {
   j1 = 14ull;
   j0 += j1;
   j1 = l7;
-  f81(self, j0, j1);
+  f84(self, j0, j1);
   j0 = l3;
   j1 = 14ull;
   j0 += j1;
   j1 = l6;
   j2 = l5;
-  i0 = f82(self, j0, j1, j2);
+  i0 = f85(self, j0, j1, j2);
   i0 = !(i0);
   if (i0) {goto B0;}
   j0 = p0;
@@ -78128,7 +79059,7 @@ static u32 f80(module *self, u64 p0, u64 p1, u64 p2) {
   j2 = p2;
   j3 = 18446744073709551576ull;
   j2 += j3;
-  f23(self, j0, j1, j2); m = self->memory; if (NEVER(self->is_broken)) return ZAK_BROKEN;
+  f24(self, j0, j1, j2); m = self->memory; if (NEVER(self->is_broken)) return ZAK_BROKEN;
   B0:;
   j0 = l3;
   j1 = 48ull;
@@ -78138,7 +79069,7 @@ static u32 f80(module *self, u64 p0, u64 p1, u64 p2) {
   return i0;
 }
 
-static void f81(module *self, u64 p0, u64 p1) {
+static void f84(module *self, u64 p0, u64 p1) {
   u32 l2 = 0, l3 = 0, l4 = 0, l5 = 0, l6 = 0, l7 = 0, l8 = 0;
   u8 *m = self->memory;
   u32 i0, i1, i2;
@@ -78231,7 +79162,7 @@ static void f81(module *self, u64 p0, u64 p1) {
   i32_store8(j0 + 11, i1);
 }
 
-static u32 f82(module *self, u64 p0, u64 p1, u64 p2) {
+static u32 f85(module *self, u64 p0, u64 p1, u64 p2) {
   u32 l3 = 0, l4 = 0, l5 = 0, l6 = 0, l7 = 0, l8 = 0, l9 = 0, l10 = 0;
   u64 l11 = 0;
   u8 *m = self->memory;
@@ -78365,7 +79296,7 @@ static u32 f82(module *self, u64 p0, u64 p1, u64 p2) {
   return i0;
 }
 
-static void f83(module *self, u64 p0, u64 p1, u64 p2, u64 p3, u64 p4, u64 p5, u64 p6) {
+static void f86(module *self, u64 p0, u64 p1, u64 p2, u64 p3, u64 p4, u64 p5, u64 p6) {
   u32 l15 = 0, l16 = 0, l17 = 0, l18 = 0, l19 = 0;
   u64 l7 = 0, l8 = 0, l9 = 0, l10 = 0, l11 = 0, l12 = 0, l13 = 0, l14 = 0;
   u8 *m = self->memory;
@@ -78425,7 +79356,7 @@ static void f83(module *self, u64 p0, u64 p1, u64 p2, u64 p3, u64 p4, u64 p5, u6
   j4 = p4;
   j5 = p5;
   j6 = p6;
-  f54(self, j0, j1, j2, j3, j4, j5, j6); m = self->memory; if (NEVER(self->is_broken)) return;
+  f57(self, j0, j1, j2, j3, j4, j5, j6); m = self->memory; if (NEVER(self->is_broken)) return;
   j0 = l7;
   i0 = (u32)(j0);
   i0 = i32_load8_u(j0 + 40u);
@@ -78566,7 +79497,7 @@ static void f83(module *self, u64 p0, u64 p1, u64 p2, u64 p3, u64 p4, u64 p5, u6
   j1 = 208ull;
   j0 += j1;
   j1 = p3;
-  f84(self, j0, j1); if (NEVER(self->is_broken)) return;
+  f87(self, j0, j1); if (NEVER(self->is_broken)) return;
   j0 = l7;
   i0 = (u32)(j0);
   j0 = i64_load(j0 + 264u);
@@ -79203,7 +80134,7 @@ static void f83(module *self, u64 p0, u64 p1, u64 p2, u64 p3, u64 p4, u64 p5, u6
   if (i0) {goto B19;}
   j0 = p1;
   j1 = p3;
-  i0 = f85(self, j0, j1); m = self->memory; if (NEVER(self->is_broken)) return;
+  i0 = f88(self, j0, j1); m = self->memory; if (NEVER(self->is_broken)) return;
   i0 = !(i0);
   if (i0) {goto B6;}
   j0 = p1;
@@ -79347,7 +80278,7 @@ static void f83(module *self, u64 p0, u64 p1, u64 p2, u64 p3, u64 p4, u64 p5, u6
   if (i0) {goto B27;}
   j0 = p1;
   j1 = 7ull;
-  i0 = f85(self, j0, j1); m = self->memory; if (NEVER(self->is_broken)) return;
+  i0 = f88(self, j0, j1); m = self->memory; if (NEVER(self->is_broken)) return;
   i0 = !(i0);
   if (i0) {goto B26;}
   j0 = l10;
@@ -79431,7 +80362,7 @@ static void f83(module *self, u64 p0, u64 p1, u64 p2, u64 p3, u64 p4, u64 p5, u6
     if (i0) {goto B32;}
     j0 = p1;
     j1 = 2ull;
-    i0 = f85(self, j0, j1); m = self->memory; if (NEVER(self->is_broken)) return;
+    i0 = f88(self, j0, j1); m = self->memory; if (NEVER(self->is_broken)) return;
     i0 = !(i0);
     if (i0) {goto B30;}
     j0 = p1;
@@ -79973,7 +80904,7 @@ static void f83(module *self, u64 p0, u64 p1, u64 p2, u64 p3, u64 p4, u64 p5, u6
   if (i0) {goto B51;}
   j0 = p1;
   j1 = 10ull;
-  i0 = f85(self, j0, j1); m = self->memory; if (NEVER(self->is_broken)) return;
+  i0 = f88(self, j0, j1); m = self->memory; if (NEVER(self->is_broken)) return;
   i0 = !(i0);
   if (i0) {goto B50;}
   j0 = p1;
@@ -80159,7 +81090,7 @@ static void f83(module *self, u64 p0, u64 p1, u64 p2, u64 p3, u64 p4, u64 p5, u6
   if (i0) {goto B55;}
   j0 = p1;
   j1 = 11ull;
-  i0 = f85(self, j0, j1); m = self->memory; if (NEVER(self->is_broken)) return;
+  i0 = f88(self, j0, j1); m = self->memory; if (NEVER(self->is_broken)) return;
   i0 = !(i0);
   if (i0) {goto B54;}
   j0 = p1;
@@ -80361,7 +81292,7 @@ static void f83(module *self, u64 p0, u64 p1, u64 p2, u64 p3, u64 p4, u64 p5, u6
   if (i0) {goto B59;}
   j0 = p1;
   j1 = 12ull;
-  i0 = f85(self, j0, j1); m = self->memory; if (NEVER(self->is_broken)) return;
+  i0 = f88(self, j0, j1); m = self->memory; if (NEVER(self->is_broken)) return;
   i0 = !(i0);
   if (i0) {goto B58;}
   j0 = p1;
@@ -80563,7 +81494,7 @@ static void f83(module *self, u64 p0, u64 p1, u64 p2, u64 p3, u64 p4, u64 p5, u6
   if (i0) {goto B63;}
   j0 = p1;
   j1 = p3;
-  i0 = f85(self, j0, j1); m = self->memory; if (NEVER(self->is_broken)) return;
+  i0 = f88(self, j0, j1); m = self->memory; if (NEVER(self->is_broken)) return;
   i0 = !(i0);
   if (i0) {goto B62;}
   j0 = p1;
@@ -80764,7 +81695,7 @@ static void f83(module *self, u64 p0, u64 p1, u64 p2, u64 p3, u64 p4, u64 p5, u6
   if (i0) {goto B70;}
   j0 = p1;
   j1 = 1ull;
-  i0 = f85(self, j0, j1); m = self->memory; if (NEVER(self->is_broken)) return;
+  i0 = f88(self, j0, j1); m = self->memory; if (NEVER(self->is_broken)) return;
   i0 = !(i0);
   if (i0) {goto B69;}
   j0 = l10;
@@ -80847,12 +81778,12 @@ static void f83(module *self, u64 p0, u64 p1, u64 p2, u64 p3, u64 p4, u64 p5, u6
   j0 = i64_load(j0 + 16u);
   p3 = j0;
   j0 = p1;
-  f154(self, j0);
+  f158(self, j0);
   j0 = p3;
   i0 = !(j0);
   if (i0) {goto B0;}
   j0 = p6;
-  f154(self, j0);
+  f158(self, j0);
   B0:;
   j0 = p0;
   i0 = (u32)(j0);
@@ -80877,7 +81808,7 @@ static void f83(module *self, u64 p0, u64 p1, u64 p2, u64 p3, u64 p4, u64 p5, u6
   self->g0 = j0;
 }
 
-static void f84(module *self, u64 p0, u64 p1) {
+static void f87(module *self, u64 p0, u64 p1) {
   u32 l6 = 0, l7 = 0;
   u64 l2 = 0, l3 = 0, l4 = 0, l5 = 0;
   u8 *m = self->memory;
@@ -81157,7 +82088,7 @@ static void f84(module *self, u64 p0, u64 p1) {
   B8:;
 }
 
-static u32 f85(module *self, u64 p0, u64 p1) {
+static u32 f88(module *self, u64 p0, u64 p1) {
   u32 l6 = 0;
   u64 l2 = 0, l3 = 0, l4 = 0, l5 = 0;
   u8 *m = self->memory;
@@ -81226,7 +82157,7 @@ static u32 f85(module *self, u64 p0, u64 p1) {
   j2 = l3;
   j3 = p1;
   j4 = 1ull;
-  f153(self, j0, j1, j2, j3, j4); m = self->memory; if (NEVER(self->is_broken)) return ZAK_BROKEN;
+  f157(self, j0, j1, j2, j3, j4); m = self->memory; if (NEVER(self->is_broken)) return ZAK_BROKEN;
   j0 = l2;
   i0 = (u32)(j0);
   j0 = i64_load(j0 + 16u);
@@ -81244,7 +82175,7 @@ static u32 f85(module *self, u64 p0, u64 p1) {
   j0 = l2;
   j1 = l5;
   j2 = 1ull;
-  f151(self, j0, j1, j2); m = self->memory; if (NEVER(self->is_broken)) return ZAK_BROKEN;
+  f155(self, j0, j1, j2); m = self->memory; if (NEVER(self->is_broken)) return ZAK_BROKEN;
   j0 = l2;
   i0 = (u32)(j0);
   j0 = i64_load(j0);
@@ -81279,7 +82210,7 @@ static u32 f85(module *self, u64 p0, u64 p1) {
   return i0;
 }
 
-static void f86(module *self, u64 p0, u64 p1, u64 p2, u64 p3) {
+static void f89(module *self, u64 p0, u64 p1, u64 p2, u64 p3) {
   u32 l14 = 0, l15 = 0, l16 = 0;
   u64 l4 = 0, l5 = 0, l6 = 0, l7 = 0, l8 = 0, l9 = 0, l10 = 0, l11 = 0, 
       l12 = 0, l13 = 0;
@@ -81390,7 +82321,7 @@ static void f86(module *self, u64 p0, u64 p1, u64 p2, u64 p3) {
   j2 = 1792ull;
   j1 += j2;
   i2 = l15;
-  f75(self, j0, j1, i2); if (NEVER(self->is_broken)) return;
+  f78(self, j0, j1, i2); if (NEVER(self->is_broken)) return;
   j0 = l4;
   i0 = (u32)(j0);
   j0 = i64_load(j0 + 72u);
@@ -81424,7 +82355,7 @@ static void f86(module *self, u64 p0, u64 p1, u64 p2, u64 p3) {
   j2 = 1792ull;
   j1 += j2;
   i2 = l14;
-  f75(self, j0, j1, i2); if (NEVER(self->is_broken)) return;
+  f78(self, j0, j1, i2); if (NEVER(self->is_broken)) return;
   j0 = l4;
   i0 = (u32)(j0);
   j0 = i64_load(j0 + 56u);
@@ -81465,7 +82396,7 @@ static void f86(module *self, u64 p0, u64 p1, u64 p2, u64 p3) {
   j1 = 1792ull;
   j0 += j1;
   j1 = p2;
-  f84(self, j0, j1); if (NEVER(self->is_broken)) return;
+  f87(self, j0, j1); if (NEVER(self->is_broken)) return;
   i0 = l15;
   i1 = l14;
   i0 *= i1;
@@ -81546,7 +82477,7 @@ static void f86(module *self, u64 p0, u64 p1, u64 p2, u64 p3) {
   j2 = 1000ull;
   j1 += j2;
   i2 = l16;
-  f75(self, j0, j1, i2); if (NEVER(self->is_broken)) return;
+  f78(self, j0, j1, i2); if (NEVER(self->is_broken)) return;
   j0 = 52ull;
   j1 = p3;
   j0 -= j1;
@@ -81713,7 +82644,7 @@ static void f86(module *self, u64 p0, u64 p1, u64 p2, u64 p3) {
   if (i0) {goto B14;}
   j0 = p1;
   j1 = p3;
-  i0 = f85(self, j0, j1); m = self->memory; if (NEVER(self->is_broken)) return;
+  i0 = f88(self, j0, j1); m = self->memory; if (NEVER(self->is_broken)) return;
   i0 = !(i0);
   if (i0) {goto B4;}
   j0 = p1;
@@ -81834,7 +82765,7 @@ static void f86(module *self, u64 p0, u64 p1, u64 p2, u64 p3) {
   j2 = 2584ull;
   j1 += j2;
   i2 = l15;
-  f75(self, j0, j1, i2); if (NEVER(self->is_broken)) return;
+  f78(self, j0, j1, i2); if (NEVER(self->is_broken)) return;
   j0 = l4;
   i0 = (u32)(j0);
   j0 = i64_load(j0 + 24u);
@@ -81910,7 +82841,7 @@ static void f86(module *self, u64 p0, u64 p1, u64 p2, u64 p3) {
   j2 = 2584ull;
   j1 += j2;
   i2 = l14;
-  f75(self, j0, j1, i2); if (NEVER(self->is_broken)) return;
+  f78(self, j0, j1, i2); if (NEVER(self->is_broken)) return;
   j0 = 782ull;
   j1 = p3;
   j0 -= j1;
@@ -82016,7 +82947,7 @@ static void f86(module *self, u64 p0, u64 p1, u64 p2, u64 p3) {
   if (i0) {goto B23;}
   j0 = p1;
   j1 = p3;
-  i0 = f85(self, j0, j1); m = self->memory; if (NEVER(self->is_broken)) return;
+  i0 = f88(self, j0, j1); m = self->memory; if (NEVER(self->is_broken)) return;
   i0 = !(i0);
   if (i0) {goto B3;}
   j0 = p1;
@@ -82087,7 +83018,7 @@ static void f86(module *self, u64 p0, u64 p1, u64 p2, u64 p3) {
   if (i0) {goto B27;}
   j0 = p1;
   j1 = l5;
-  i0 = f85(self, j0, j1); m = self->memory; if (NEVER(self->is_broken)) return;
+  i0 = f88(self, j0, j1); m = self->memory; if (NEVER(self->is_broken)) return;
   i0 = !(i0);
   if (i0) {goto B2;}
   j0 = p1;
@@ -82265,7 +83196,7 @@ static void f86(module *self, u64 p0, u64 p1, u64 p2, u64 p3) {
   if (i0) {goto B34;}
   j0 = p1;
   j1 = 1ull;
-  i0 = f85(self, j0, j1); m = self->memory; if (NEVER(self->is_broken)) return;
+  i0 = f88(self, j0, j1); m = self->memory; if (NEVER(self->is_broken)) return;
   i0 = !(i0);
   if (i0) {goto B33;}
   j0 = p1;
@@ -82362,7 +83293,7 @@ static void f86(module *self, u64 p0, u64 p1, u64 p2, u64 p3) {
   j1 = 1792ull;
   j0 += j1;
   j1 = p2;
-  f84(self, j0, j1); if (NEVER(self->is_broken)) return;
+  f87(self, j0, j1); if (NEVER(self->is_broken)) return;
   j0 = l4;
   i0 = (u32)(j0);
   j0 = i64_load(j0 + 1848u);
@@ -82422,7 +83353,7 @@ static void f86(module *self, u64 p0, u64 p1, u64 p2, u64 p3) {
   if (i0) {goto B37;}
   j0 = p1;
   j1 = p3;
-  i0 = f85(self, j0, j1); m = self->memory; if (NEVER(self->is_broken)) return;
+  i0 = f88(self, j0, j1); m = self->memory; if (NEVER(self->is_broken)) return;
   i0 = !(i0);
   if (i0) {goto B36;}
   j0 = p1;
@@ -82543,7 +83474,7 @@ static void f86(module *self, u64 p0, u64 p1, u64 p2, u64 p3) {
   self->g0 = j0;
 }
 
-static void f87(module *self, u64 p0, u64 p1, u64 p2, u64 p3, u64 p4) {
+static void f90(module *self, u64 p0, u64 p1, u64 p2, u64 p3, u64 p4) {
   u32 l8 = 0;
   u64 l5 = 0, l6 = 0, l7 = 0;
   u8 *m = self->memory;
@@ -82616,7 +83547,7 @@ static void f87(module *self, u64 p0, u64 p1, u64 p2, u64 p3, u64 p4) {
   j1 = 32ull;
   j0 += j1;
   j1 = p2;
-  f84(self, j0, j1); if (NEVER(self->is_broken)) return;
+  f87(self, j0, j1); if (NEVER(self->is_broken)) return;
   j0 = l5;
   i0 = (u32)(j0);
   j0 = i64_load(j0 + 88u);
@@ -82642,7 +83573,7 @@ static void f87(module *self, u64 p0, u64 p1, u64 p2, u64 p3, u64 p4) {
   if (i0) {goto B6;}
   j0 = p1;
   j1 = p4;
-  i0 = f85(self, j0, j1); m = self->memory; if (NEVER(self->is_broken)) return;
+  i0 = f88(self, j0, j1); m = self->memory; if (NEVER(self->is_broken)) return;
   i0 = !(i0);
   if (i0) {goto B4;}
   j0 = p1;
@@ -82701,7 +83632,7 @@ static void f87(module *self, u64 p0, u64 p1, u64 p2, u64 p3, u64 p4) {
   j3 = l5;
   j4 = 26ull;
   j3 += j4;
-  f88(self, j0, j1, j2, j3); m = self->memory; if (NEVER(self->is_broken)) return;
+  f91(self, j0, j1, j2, j3); m = self->memory; if (NEVER(self->is_broken)) return;
   j0 = l5;
   i0 = (u32)(j0);
   i0 = i32_load8_u(j0);
@@ -82848,7 +83779,7 @@ static void f87(module *self, u64 p0, u64 p1, u64 p2, u64 p3, u64 p4) {
   if (i0) {goto B10;}
   j0 = p1;
   j1 = p2;
-  i0 = f85(self, j0, j1); m = self->memory; if (NEVER(self->is_broken)) return;
+  i0 = f88(self, j0, j1); m = self->memory; if (NEVER(self->is_broken)) return;
   i0 = !(i0);
   if (i0) {goto B9;}
   j0 = p1;
@@ -82941,7 +83872,7 @@ static void f87(module *self, u64 p0, u64 p1, u64 p2, u64 p3, u64 p4) {
   self->g0 = j0;
 }
 
-static void f88(module *self, u64 p0, u64 p1, u64 p2, u64 p3) {
+static void f91(module *self, u64 p0, u64 p1, u64 p2, u64 p3) {
   u32 l13 = 0, l14 = 0, l15 = 0, l16 = 0, l17 = 0, l18 = 0, l19 = 0, l20 = 0, 
       l21 = 0;
   u64 l4 = 0, l5 = 0, l6 = 0, l7 = 0, l8 = 0, l9 = 0, l10 = 0, l11 = 0, 
@@ -83085,7 +84016,7 @@ static void f88(module *self, u64 p0, u64 p1, u64 p2, u64 p3) {
   j5 = 33ull;
   j4 += j5;
   j5 = 5ull;
-  f89(self, j0, j1, j2, i3, j4, j5);
+  f92(self, j0, j1, j2, i3, j4, j5);
   j0 = l4;
   j1 = 2552ull;
   j0 += j1;
@@ -83100,7 +84031,7 @@ static void f88(module *self, u64 p0, u64 p1, u64 p2, u64 p3) {
   j5 = 105ull;
   j4 += j5;
   j5 = 25ull;
-  f89(self, j0, j1, j2, i3, j4, j5);
+  f92(self, j0, j1, j2, i3, j4, j5);
   j0 = l4;
   j1 = 2552ull;
   j0 += j1;
@@ -83115,7 +84046,7 @@ static void f88(module *self, u64 p0, u64 p1, u64 p2, u64 p3) {
   j5 = 47ull;
   j4 += j5;
   j5 = 9ull;
-  f89(self, j0, j1, j2, i3, j4, j5);
+  f92(self, j0, j1, j2, i3, j4, j5);
   j0 = l4;
   i0 = (u32)(j0);
   j0 = i64_load(j0 + 3336u);
@@ -83653,7 +84584,7 @@ static void f88(module *self, u64 p0, u64 p1, u64 p2, u64 p3) {
   if (i0) {goto B32;}
   j0 = p1;
   j1 = 19ull;
-  i0 = f85(self, j0, j1); m = self->memory; if (NEVER(self->is_broken)) return;
+  i0 = f88(self, j0, j1); m = self->memory; if (NEVER(self->is_broken)) return;
   i0 = !(i0);
   if (i0) {goto B31;}
   j0 = p1;
@@ -84161,7 +85092,7 @@ static void f88(module *self, u64 p0, u64 p1, u64 p2, u64 p3) {
   j2 = 136ull;
   j1 += j2;
   i2 = l17;
-  f75(self, j0, j1, i2); if (NEVER(self->is_broken)) return;
+  f78(self, j0, j1, i2); if (NEVER(self->is_broken)) return;
   j0 = l4;
   i0 = (u32)(j0);
   j0 = i64_load(j0 + 128u);
@@ -84427,7 +85358,7 @@ static void f88(module *self, u64 p0, u64 p1, u64 p2, u64 p3) {
   j2 = 136ull;
   j1 += j2;
   i2 = l15;
-  f75(self, j0, j1, i2); if (NEVER(self->is_broken)) return;
+  f78(self, j0, j1, i2); if (NEVER(self->is_broken)) return;
   j0 = 782ull;
   l7 = j0;
   j0 = 782ull;
@@ -84683,7 +85614,7 @@ static void f88(module *self, u64 p0, u64 p1, u64 p2, u64 p3) {
   j2 = 136ull;
   j1 += j2;
   i2 = l16;
-  f75(self, j0, j1, i2); if (NEVER(self->is_broken)) return;
+  f78(self, j0, j1, i2); if (NEVER(self->is_broken)) return;
   j0 = 782ull;
   l12 = j0;
   j0 = 782ull;
@@ -84951,7 +85882,7 @@ static void f88(module *self, u64 p0, u64 p1, u64 p2, u64 p3) {
   j2 = 136ull;
   j1 += j2;
   i2 = l13;
-  f75(self, j0, j1, i2); if (NEVER(self->is_broken)) return;
+  f78(self, j0, j1, i2); if (NEVER(self->is_broken)) return;
   j0 = 782ull;
   l7 = j0;
   j0 = 782ull;
@@ -85108,7 +86039,7 @@ static void f88(module *self, u64 p0, u64 p1, u64 p2, u64 p3) {
   j1 = 1049312ull;
   j2 = 4ull;
   i3 = l21;
-  f90(self, j0, j1, j2, i3);
+  f93(self, j0, j1, j2, i3);
   j0 = l4;
   i0 = (u32)(j0);
   j0 = i64_load(j0 + 3336u);
@@ -85216,7 +86147,7 @@ static void f88(module *self, u64 p0, u64 p1, u64 p2, u64 p3) {
   j2 = 136ull;
   j1 += j2;
   i2 = l20;
-  f75(self, j0, j1, i2); if (NEVER(self->is_broken)) return;
+  f78(self, j0, j1, i2); if (NEVER(self->is_broken)) return;
   j0 = 782ull;
   p2 = j0;
   j0 = 782ull;
@@ -85472,7 +86403,7 @@ static void f88(module *self, u64 p0, u64 p1, u64 p2, u64 p3) {
   j2 = 136ull;
   j1 += j2;
   i2 = l19;
-  f75(self, j0, j1, i2); if (NEVER(self->is_broken)) return;
+  f78(self, j0, j1, i2); if (NEVER(self->is_broken)) return;
   j0 = 782ull;
   l7 = j0;
   j0 = 782ull;
@@ -85740,7 +86671,7 @@ static void f88(module *self, u64 p0, u64 p1, u64 p2, u64 p3) {
   j2 = 136ull;
   j1 += j2;
   i2 = l18;
-  f75(self, j0, j1, i2); if (NEVER(self->is_broken)) return;
+  f78(self, j0, j1, i2); if (NEVER(self->is_broken)) return;
   j0 = 782ull;
   p2 = j0;
   j0 = 782ull;
@@ -85982,7 +86913,7 @@ static void f88(module *self, u64 p0, u64 p1, u64 p2, u64 p3) {
   j2 = 136ull;
   j1 += j2;
   i2 = l14;
-  f75(self, j0, j1, i2); if (NEVER(self->is_broken)) return;
+  f78(self, j0, j1, i2); if (NEVER(self->is_broken)) return;
   j0 = 782ull;
   j1 = p2;
   j0 -= j1;
@@ -86198,7 +87129,7 @@ static void f88(module *self, u64 p0, u64 p1, u64 p2, u64 p3) {
   if (i0) {goto B119;}
   j0 = p1;
   j1 = p3;
-  i0 = f85(self, j0, j1); m = self->memory; if (NEVER(self->is_broken)) return;
+  i0 = f88(self, j0, j1); m = self->memory; if (NEVER(self->is_broken)) return;
   i0 = !(i0);
   if (i0) {goto B118;}
   j0 = p1;
@@ -86308,7 +87239,7 @@ static void f88(module *self, u64 p0, u64 p1, u64 p2, u64 p3) {
   if (i0) {goto B122;}
   j0 = p1;
   j1 = 20ull;
-  i0 = f85(self, j0, j1); m = self->memory; if (NEVER(self->is_broken)) return;
+  i0 = f88(self, j0, j1); m = self->memory; if (NEVER(self->is_broken)) return;
   i0 = !(i0);
   if (i0) {goto B121;}
   j0 = p1;
@@ -86860,7 +87791,7 @@ static void f88(module *self, u64 p0, u64 p1, u64 p2, u64 p3) {
   if (i0) {goto B129;}
   j0 = p1;
   j1 = p3;
-  i0 = f85(self, j0, j1); m = self->memory; if (NEVER(self->is_broken)) return;
+  i0 = f88(self, j0, j1); m = self->memory; if (NEVER(self->is_broken)) return;
   i0 = !(i0);
   if (i0) {goto B128;}
   j0 = p1;
@@ -87063,7 +87994,7 @@ static void f88(module *self, u64 p0, u64 p1, u64 p2, u64 p3) {
   j3 += j4;
   i3 = (u32)(j3);
   i3 = i32_load16_u(j3);
-  f90(self, j0, j1, j2, i3);
+  f93(self, j0, j1, j2, i3);
   j0 = l4;
   j1 = 2552ull;
   j0 += j1;
@@ -87074,7 +88005,7 @@ static void f88(module *self, u64 p0, u64 p1, u64 p2, u64 p3) {
   j3 += j4;
   i3 = (u32)(j3);
   i3 = i32_load16_u(j3);
-  f90(self, j0, j1, j2, i3);
+  f93(self, j0, j1, j2, i3);
   j0 = l4;
   j1 = 2552ull;
   j0 += j1;
@@ -87085,7 +88016,7 @@ static void f88(module *self, u64 p0, u64 p1, u64 p2, u64 p3) {
   j3 += j4;
   i3 = (u32)(j3);
   i3 = i32_load16_u(j3);
-  f90(self, j0, j1, j2, i3);
+  f93(self, j0, j1, j2, i3);
   j0 = l4;
   i0 = (u32)(j0);
   j0 = i64_load(j0 + 3336u);
@@ -87284,7 +88215,7 @@ static void f88(module *self, u64 p0, u64 p1, u64 p2, u64 p3) {
   j3 += j4;
   i3 = (u32)(j3);
   i3 = i32_load16_u(j3);
-  f90(self, j0, j1, j2, i3);
+  f93(self, j0, j1, j2, i3);
   j0 = l4;
   i0 = (u32)(j0);
   j0 = i64_load(j0 + 3336u);
@@ -87430,7 +88361,7 @@ static void f88(module *self, u64 p0, u64 p1, u64 p2, u64 p3) {
   j3 += j4;
   i3 = (u32)(j3);
   i3 = i32_load16_u(j3);
-  f90(self, j0, j1, j2, i3);
+  f93(self, j0, j1, j2, i3);
   j0 = l4;
   i0 = (u32)(j0);
   j0 = i64_load(j0 + 3336u);
@@ -87576,7 +88507,7 @@ static void f88(module *self, u64 p0, u64 p1, u64 p2, u64 p3) {
   j3 += j4;
   i3 = (u32)(j3);
   i3 = i32_load16_u(j3);
-  f90(self, j0, j1, j2, i3);
+  f93(self, j0, j1, j2, i3);
   j0 = l4;
   i0 = (u32)(j0);
   j0 = i64_load(j0 + 3336u);
@@ -87646,7 +88577,7 @@ static void f88(module *self, u64 p0, u64 p1, u64 p2, u64 p3) {
   if (i0) {goto B149;}
   j0 = p1;
   j1 = p3;
-  i0 = f85(self, j0, j1); m = self->memory; if (NEVER(self->is_broken)) return;
+  i0 = f88(self, j0, j1); m = self->memory; if (NEVER(self->is_broken)) return;
   i0 = !(i0);
   if (i0) {goto B148;}
   j0 = p1;
@@ -88067,7 +88998,7 @@ static void f88(module *self, u64 p0, u64 p1, u64 p2, u64 p3) {
     if (i0) {goto B163;}
     j0 = p1;
     j1 = p3;
-    i0 = f85(self, j0, j1); m = self->memory; if (NEVER(self->is_broken)) return;
+    i0 = f88(self, j0, j1); m = self->memory; if (NEVER(self->is_broken)) return;
     i0 = !(i0);
     if (i0) {goto B151;}
     j0 = p1;
@@ -88532,7 +89463,7 @@ static void f88(module *self, u64 p0, u64 p1, u64 p2, u64 p3) {
   if (i0) {goto B171;}
   j0 = p1;
   j1 = p3;
-  i0 = f85(self, j0, j1); m = self->memory; if (NEVER(self->is_broken)) return;
+  i0 = f88(self, j0, j1); m = self->memory; if (NEVER(self->is_broken)) return;
   i0 = !(i0);
   if (i0) {goto B170;}
   j0 = p1;
@@ -88645,7 +89576,7 @@ static void f88(module *self, u64 p0, u64 p1, u64 p2, u64 p3) {
   self->g0 = j0;
 }
 
-static void f89(module *self, u64 p0, u64 p1, u64 p2, u32 p3, u64 p4, u64 p5) {
+static void f92(module *self, u64 p0, u64 p1, u64 p2, u32 p3, u64 p4, u64 p5) {
   u32 l8 = 0;
   u64 l6 = 0, l7 = 0;
   u8 *m = self->memory;
@@ -88933,7 +89864,7 @@ static void f89(module *self, u64 p0, u64 p1, u64 p2, u32 p3, u64 p4, u64 p5) {
   B3:;
 }
 
-static void f90(module *self, u64 p0, u64 p1, u64 p2, u32 p3) {
+static void f93(module *self, u64 p0, u64 p1, u64 p2, u32 p3) {
   u32 l7 = 0, l8 = 0;
   u64 l4 = 0, l5 = 0, l6 = 0;
   u8 *m = self->memory;
@@ -89155,7 +90086,7 @@ static void f90(module *self, u64 p0, u64 p1, u64 p2, u32 p3) {
   B4:;
 }
 
-static void f91(module *self, u64 p0, u64 p1, u64 p2, u64 p3, u64 p4, u64 p5) {
+static void f94(module *self, u64 p0, u64 p1, u64 p2, u64 p3, u64 p4, u64 p5) {
   u32 l37 = 0, l38 = 0, l39 = 0, l40 = 0, l41 = 0, l42 = 0, l43 = 0, l44 = 0, 
       l45 = 0, l46 = 0;
   u64 l6 = 0, l7 = 0, l8 = 0, l9 = 0, l10 = 0, l11 = 0, l12 = 0, l13 = 0, 
@@ -89166,7 +90097,7 @@ static void f91(module *self, u64 p0, u64 p1, u64 p2, u64 p3, u64 p4, u64 p5) {
   u32 i0, i1, i2, i3, i4, i5, i6;
   u64 j0, j1, j2, j3, j4, j5, j6, j7;
   j0 = self->g0;
-  j1 = 464ull;
+  j1 = 448ull;
   j0 -= j1;
   l6 = j0;
   self->g0 = j0;
@@ -89186,71 +90117,71 @@ static void f91(module *self, u64 p0, u64 p1, u64 p2, u64 p3, u64 p4, u64 p5) {
   j0 += j1;
   l9 = j0;
   j0 = l6;
-  j1 = 416ull;
+  j1 = 400ull;
   j0 += j1;
   j1 = 6ull;
   j0 += j1;
   l10 = j0;
   j0 = l6;
-  j1 = 392ull;
+  j1 = 376ull;
   j0 += j1;
   j1 = 6ull;
   j0 += j1;
   l11 = j0;
   j0 = l6;
-  j1 = 368ull;
+  j1 = 352ull;
   j0 += j1;
   j1 = 6ull;
   j0 += j1;
   l12 = j0;
   j0 = l6;
-  j1 = 344ull;
+  j1 = 328ull;
   j0 += j1;
   j1 = 6ull;
   j0 += j1;
   l13 = j0;
   j0 = l6;
-  j1 = 320ull;
+  j1 = 304ull;
   j0 += j1;
   j1 = 6ull;
   j0 += j1;
   l14 = j0;
   j0 = l6;
-  j1 = 296ull;
+  j1 = 280ull;
   j0 += j1;
   j1 = 6ull;
   j0 += j1;
   l15 = j0;
   j0 = l6;
-  j1 = 272ull;
+  j1 = 256ull;
   j0 += j1;
   j1 = 6ull;
   j0 += j1;
   l16 = j0;
   j0 = l6;
-  j1 = 248ull;
+  j1 = 232ull;
   j0 += j1;
   j1 = 6ull;
   j0 += j1;
   l17 = j0;
   j0 = l6;
-  j1 = 224ull;
+  j1 = 208ull;
   j0 += j1;
   j1 = 6ull;
   j0 += j1;
   l18 = j0;
   j0 = l6;
-  j1 = 144ull;
+  j1 = 128ull;
   j0 += j1;
   j1 = 6ull;
   j0 += j1;
   l19 = j0;
   j0 = l6;
-  j1 = 186ull;
+  j1 = 170ull;
   j0 += j1;
   l20 = j0;
   j0 = l6;
-  j1 = 168ull;
+  j1 = 152ull;
   j0 += j1;
   j1 = 8ull;
   j0 += j1;
@@ -89281,6 +90212,14 @@ static void f91(module *self, u64 p0, u64 p1, u64 p2, u64 p3, u64 p4, u64 p5) {
     j0 = l6;
     i0 = (u32)(j0);
     j1 = 0ull;
+    i64_store(j0 + 88, j1);
+    j0 = l6;
+    i0 = (u32)(j0);
+    j1 = 0ull;
+    i64_store(j0 + 96, j1);
+    j0 = l6;
+    i0 = (u32)(j0);
+    j1 = 0ull;
     i64_store(j0 + 104, j1);
     j0 = l6;
     i0 = (u32)(j0);
@@ -89293,11 +90232,11 @@ static void f91(module *self, u64 p0, u64 p1, u64 p2, u64 p3, u64 p4, u64 p5) {
     j0 = l6;
     i0 = (u32)(j0);
     j1 = 0ull;
-    i64_store(j0 + 128, j1);
+    i64_store(j0 + 48, j1);
     j0 = l6;
     i0 = (u32)(j0);
     j1 = 0ull;
-    i64_store(j0 + 136, j1);
+    i64_store(j0 + 56, j1);
     j0 = l6;
     i0 = (u32)(j0);
     j1 = 0ull;
@@ -89310,14 +90249,6 @@ static void f91(module *self, u64 p0, u64 p1, u64 p2, u64 p3, u64 p4, u64 p5) {
     i0 = (u32)(j0);
     j1 = 0ull;
     i64_store(j0 + 80, j1);
-    j0 = l6;
-    i0 = (u32)(j0);
-    j1 = 0ull;
-    i64_store(j0 + 88, j1);
-    j0 = l6;
-    i0 = (u32)(j0);
-    j1 = 0ull;
-    i64_store(j0 + 96, j1);
     j0 = l23;
     i0 = !(j0);
     if (i0) {goto B7;}
@@ -89327,6 +90258,14 @@ static void f91(module *self, u64 p0, u64 p1, u64 p2, u64 p3, u64 p4, u64 p5) {
     l38 = i0;
     j0 = 0ull;
     l27 = j0;
+    j0 = l6;
+    i0 = (u32)(j0);
+    j1 = 0ull;
+    i64_store(j0 + 152, j1);
+    j0 = l6;
+    i0 = (u32)(j0);
+    j1 = 0ull;
+    i64_store(j0 + 160, j1);
     j0 = l6;
     i0 = (u32)(j0);
     j1 = 0ull;
@@ -89350,23 +90289,15 @@ static void f91(module *self, u64 p0, u64 p1, u64 p2, u64 p3, u64 p4, u64 p5) {
     j0 = l6;
     i0 = (u32)(j0);
     j1 = 0ull;
-    i64_store(j0 + 208, j1);
+    i64_store(j0 + 128, j1);
     j0 = l6;
     i0 = (u32)(j0);
     j1 = 0ull;
-    i64_store(j0 + 216, j1);
+    i64_store(j0 + 136, j1);
     j0 = l6;
     i0 = (u32)(j0);
     j1 = 0ull;
-    i64_store(j0 + 144, j1);
-    j0 = l6;
-    i0 = (u32)(j0);
-    j1 = 0ull;
-    i64_store(j0 + 152, j1);
-    j0 = l6;
-    i0 = (u32)(j0);
-    j1 = 0ull;
-    i64_store(j0 + 158, j1);
+    i64_store(j0 + 142, j1);
     j0 = l23;
     j1 = 18446744073709551615ull;
     j0 += j1;
@@ -89484,7 +90415,7 @@ static void f91(module *self, u64 p0, u64 p1, u64 p2, u64 p3, u64 p4, u64 p5) {
     i3 = 8u;
     i2 <<= (i3 & 31);
     i1 |= i2;
-    i32_store16(j0 + 184, i1);
+    i32_store16(j0 + 168, i1);
     j0 = l6;
     i0 = (u32)(j0);
     i1 = l39;
@@ -89492,17 +90423,17 @@ static void f91(module *self, u64 p0, u64 p1, u64 p2, u64 p3, u64 p4, u64 p5) {
     i3 = 8u;
     i2 <<= (i3 & 31);
     i1 |= i2;
-    i32_store16(j0 + 178, i1);
+    i32_store16(j0 + 162, i1);
     i0 = 8u;
     l46 = i0;
     j0 = l6;
     i0 = (u32)(j0);
     i1 = 8u;
-    i32_store16(j0 + 176, i1);
+    i32_store16(j0 + 160, i1);
     j0 = l6;
     i0 = (u32)(j0);
     i1 = 0u;
-    i32_store8(j0 + 169, i1);
+    i32_store8(j0 + 153, i1);
     j0 = l6;
     i0 = (u32)(j0);
     i1 = l41;
@@ -89519,11 +90450,11 @@ static void f91(module *self, u64 p0, u64 p1, u64 p2, u64 p3, u64 p4, u64 p5) {
     i2 <<= (i3 & 31);
     i1 |= i2;
     l40 = i1;
-    i32_store(j0 + 180, i1);
+    i32_store(j0 + 164, i1);
     j0 = l6;
     i0 = (u32)(j0);
     j1 = p4;
-    i64_store(j0 + 200, j1);
+    i64_store(j0 + 184, j1);
     j0 = l27;
     j1 = p4;
     j0 -= j1;
@@ -89534,7 +90465,7 @@ static void f91(module *self, u64 p0, u64 p1, u64 p2, u64 p3, u64 p4, u64 p5) {
     j2 = 11ull;
     j1 += j2;
     l27 = j1;
-    i64_store(j0 + 192, j1);
+    i64_store(j0 + 176, j1);
     j0 = l27;
     j1 = p4;
     j0 += j1;
@@ -89544,31 +90475,15 @@ static void f91(module *self, u64 p0, u64 p1, u64 p2, u64 p3, u64 p4, u64 p5) {
     j0 = l6;
     i0 = (u32)(j0);
     j1 = 0ull;
-    i64_store(j0 + 440, j1);
-    j0 = l6;
-    i0 = (u32)(j0);
-    j1 = 0ull;
-    i64_store(j0 + 448, j1);
-    j0 = l6;
-    i0 = (u32)(j0);
-    j1 = 0ull;
-    i64_store(j0 + 454, j1);
-    j0 = l6;
-    i0 = (u32)(j0);
-    j1 = 0ull;
-    i64_store(j0 + 416, j1);
-    j0 = l6;
-    i0 = (u32)(j0);
-    j1 = 0ull;
     i64_store(j0 + 424, j1);
     j0 = l6;
     i0 = (u32)(j0);
     j1 = 0ull;
-    i64_store(j0 + 430, j1);
+    i64_store(j0 + 432, j1);
     j0 = l6;
     i0 = (u32)(j0);
     j1 = 0ull;
-    i64_store(j0 + 392, j1);
+    i64_store(j0 + 438, j1);
     j0 = l6;
     i0 = (u32)(j0);
     j1 = 0ull;
@@ -89576,11 +90491,11 @@ static void f91(module *self, u64 p0, u64 p1, u64 p2, u64 p3, u64 p4, u64 p5) {
     j0 = l6;
     i0 = (u32)(j0);
     j1 = 0ull;
-    i64_store(j0 + 406, j1);
+    i64_store(j0 + 408, j1);
     j0 = l6;
     i0 = (u32)(j0);
     j1 = 0ull;
-    i64_store(j0 + 368, j1);
+    i64_store(j0 + 414, j1);
     j0 = l6;
     i0 = (u32)(j0);
     j1 = 0ull;
@@ -89588,11 +90503,11 @@ static void f91(module *self, u64 p0, u64 p1, u64 p2, u64 p3, u64 p4, u64 p5) {
     j0 = l6;
     i0 = (u32)(j0);
     j1 = 0ull;
-    i64_store(j0 + 382, j1);
+    i64_store(j0 + 384, j1);
     j0 = l6;
     i0 = (u32)(j0);
     j1 = 0ull;
-    i64_store(j0 + 358, j1);
+    i64_store(j0 + 390, j1);
     j0 = l6;
     i0 = (u32)(j0);
     j1 = 0ull;
@@ -89600,11 +90515,19 @@ static void f91(module *self, u64 p0, u64 p1, u64 p2, u64 p3, u64 p4, u64 p5) {
     j0 = l6;
     i0 = (u32)(j0);
     j1 = 0ull;
-    i64_store(j0 + 344, j1);
+    i64_store(j0 + 360, j1);
     j0 = l6;
     i0 = (u32)(j0);
     j1 = 0ull;
-    i64_store(j0 + 334, j1);
+    i64_store(j0 + 366, j1);
+    j0 = l6;
+    i0 = (u32)(j0);
+    j1 = 0ull;
+    i64_store(j0 + 342, j1);
+    j0 = l6;
+    i0 = (u32)(j0);
+    j1 = 0ull;
+    i64_store(j0 + 336, j1);
     j0 = l6;
     i0 = (u32)(j0);
     j1 = 0ull;
@@ -89612,11 +90535,11 @@ static void f91(module *self, u64 p0, u64 p1, u64 p2, u64 p3, u64 p4, u64 p5) {
     j0 = l6;
     i0 = (u32)(j0);
     j1 = 0ull;
-    i64_store(j0 + 320, j1);
+    i64_store(j0 + 318, j1);
     j0 = l6;
     i0 = (u32)(j0);
     j1 = 0ull;
-    i64_store(j0 + 310, j1);
+    i64_store(j0 + 312, j1);
     j0 = l6;
     i0 = (u32)(j0);
     j1 = 0ull;
@@ -89624,11 +90547,11 @@ static void f91(module *self, u64 p0, u64 p1, u64 p2, u64 p3, u64 p4, u64 p5) {
     j0 = l6;
     i0 = (u32)(j0);
     j1 = 0ull;
-    i64_store(j0 + 296, j1);
+    i64_store(j0 + 294, j1);
     j0 = l6;
     i0 = (u32)(j0);
     j1 = 0ull;
-    i64_store(j0 + 286, j1);
+    i64_store(j0 + 288, j1);
     j0 = l6;
     i0 = (u32)(j0);
     j1 = 0ull;
@@ -89636,11 +90559,11 @@ static void f91(module *self, u64 p0, u64 p1, u64 p2, u64 p3, u64 p4, u64 p5) {
     j0 = l6;
     i0 = (u32)(j0);
     j1 = 0ull;
-    i64_store(j0 + 272, j1);
+    i64_store(j0 + 270, j1);
     j0 = l6;
     i0 = (u32)(j0);
     j1 = 0ull;
-    i64_store(j0 + 262, j1);
+    i64_store(j0 + 264, j1);
     j0 = l6;
     i0 = (u32)(j0);
     j1 = 0ull;
@@ -89648,11 +90571,11 @@ static void f91(module *self, u64 p0, u64 p1, u64 p2, u64 p3, u64 p4, u64 p5) {
     j0 = l6;
     i0 = (u32)(j0);
     j1 = 0ull;
-    i64_store(j0 + 248, j1);
+    i64_store(j0 + 246, j1);
     j0 = l6;
     i0 = (u32)(j0);
     j1 = 0ull;
-    i64_store(j0 + 238, j1);
+    i64_store(j0 + 240, j1);
     j0 = l6;
     i0 = (u32)(j0);
     j1 = 0ull;
@@ -89660,7 +90583,15 @@ static void f91(module *self, u64 p0, u64 p1, u64 p2, u64 p3, u64 p4, u64 p5) {
     j0 = l6;
     i0 = (u32)(j0);
     j1 = 0ull;
-    i64_store(j0 + 224, j1);
+    i64_store(j0 + 222, j1);
+    j0 = l6;
+    i0 = (u32)(j0);
+    j1 = 0ull;
+    i64_store(j0 + 216, j1);
+    j0 = l6;
+    i0 = (u32)(j0);
+    j1 = 0ull;
+    i64_store(j0 + 208, j1);
     i0 = 1u;
     l41 = i0;
     j0 = 0ull;
@@ -89724,20 +90655,20 @@ static void f91(module *self, u64 p0, u64 p1, u64 p2, u64 p3, u64 p4, u64 p5) {
     i0 = (u32)(j0);
     j1 = l6;
     i1 = (u32)(j1);
-    j1 = i64_load(j1 + 416u);
-    i64_store(j0 + 440, j1);
+    j1 = i64_load(j1 + 400u);
+    i64_store(j0 + 424, j1);
     j0 = l6;
     i0 = (u32)(j0);
     j1 = l6;
     i1 = (u32)(j1);
-    j1 = i64_load(j1 + 424u);
-    i64_store(j0 + 448, j1);
+    j1 = i64_load(j1 + 408u);
+    i64_store(j0 + 432, j1);
     j0 = l6;
     i0 = (u32)(j0);
     j1 = l6;
     i1 = (u32)(j1);
-    j1 = i64_load(j1 + 430u);
-    i64_store(j0 + 454, j1);
+    j1 = i64_load(j1 + 414u);
+    i64_store(j0 + 438, j1);
     j0 = l23;
     j1 = 18446744073709551612ull;
     j0 += j1;
@@ -89781,7 +90712,7 @@ static void f91(module *self, u64 p0, u64 p1, u64 p2, u64 p3, u64 p4, u64 p5) {
     j0 = l6;
     i0 = (u32)(j0);
     i1 = 257u;
-    i32_store16(j0 + 168, i1);
+    i32_store16(j0 + 152, i1);
     goto B10;
     B31:;
     j0 = 0ull;
@@ -89813,7 +90744,7 @@ static void f91(module *self, u64 p0, u64 p1, u64 p2, u64 p3, u64 p4, u64 p5) {
     j0 = l6;
     i0 = (u32)(j0);
     i1 = 257u;
-    i32_store16(j0 + 168, i1);
+    i32_store16(j0 + 152, i1);
     goto B10;
     B29:;
     j0 = l23;
@@ -89848,20 +90779,20 @@ static void f91(module *self, u64 p0, u64 p1, u64 p2, u64 p3, u64 p4, u64 p5) {
     i0 = (u32)(j0);
     j1 = l6;
     i1 = (u32)(j1);
-    j1 = i64_load(j1 + 392u);
-    i64_store(j0 + 440, j1);
+    j1 = i64_load(j1 + 376u);
+    i64_store(j0 + 424, j1);
     j0 = l6;
     i0 = (u32)(j0);
     j1 = l6;
     i1 = (u32)(j1);
-    j1 = i64_load(j1 + 400u);
-    i64_store(j0 + 448, j1);
+    j1 = i64_load(j1 + 384u);
+    i64_store(j0 + 432, j1);
     j0 = l6;
     i0 = (u32)(j0);
     j1 = l6;
     i1 = (u32)(j1);
-    j1 = i64_load(j1 + 406u);
-    i64_store(j0 + 454, j1);
+    j1 = i64_load(j1 + 390u);
+    i64_store(j0 + 438, j1);
     j0 = l23;
     j1 = 18446744073709551611ull;
     j0 += j1;
@@ -89905,7 +90836,7 @@ static void f91(module *self, u64 p0, u64 p1, u64 p2, u64 p3, u64 p4, u64 p5) {
     j0 = l6;
     i0 = (u32)(j0);
     i1 = 257u;
-    i32_store16(j0 + 168, i1);
+    i32_store16(j0 + 152, i1);
     goto B10;
     B28:;
     j0 = l23;
@@ -89930,20 +90861,20 @@ static void f91(module *self, u64 p0, u64 p1, u64 p2, u64 p3, u64 p4, u64 p5) {
     i0 = (u32)(j0);
     j1 = l6;
     i1 = (u32)(j1);
-    j1 = i64_load(j1 + 368u);
-    i64_store(j0 + 440, j1);
+    j1 = i64_load(j1 + 352u);
+    i64_store(j0 + 424, j1);
     j0 = l6;
     i0 = (u32)(j0);
     j1 = l6;
     i1 = (u32)(j1);
-    j1 = i64_load(j1 + 376u);
-    i64_store(j0 + 448, j1);
+    j1 = i64_load(j1 + 360u);
+    i64_store(j0 + 432, j1);
     j0 = l6;
     i0 = (u32)(j0);
     j1 = l6;
     i1 = (u32)(j1);
-    j1 = i64_load(j1 + 382u);
-    i64_store(j0 + 454, j1);
+    j1 = i64_load(j1 + 366u);
+    i64_store(j0 + 438, j1);
     j0 = l23;
     j1 = 18446744073709551613ull;
     j0 += j1;
@@ -89987,7 +90918,7 @@ static void f91(module *self, u64 p0, u64 p1, u64 p2, u64 p3, u64 p4, u64 p5) {
     j0 = l6;
     i0 = (u32)(j0);
     i1 = 257u;
-    i32_store16(j0 + 168, i1);
+    i32_store16(j0 + 152, i1);
     goto B10;
     B27:;
     j0 = l23;
@@ -90012,20 +90943,20 @@ static void f91(module *self, u64 p0, u64 p1, u64 p2, u64 p3, u64 p4, u64 p5) {
     i0 = (u32)(j0);
     j1 = l6;
     i1 = (u32)(j1);
-    j1 = i64_load(j1 + 344u);
-    i64_store(j0 + 440, j1);
+    j1 = i64_load(j1 + 328u);
+    i64_store(j0 + 424, j1);
     j0 = l6;
     i0 = (u32)(j0);
     j1 = l6;
     i1 = (u32)(j1);
-    j1 = i64_load(j1 + 352u);
-    i64_store(j0 + 448, j1);
+    j1 = i64_load(j1 + 336u);
+    i64_store(j0 + 432, j1);
     j0 = l6;
     i0 = (u32)(j0);
     j1 = l6;
     i1 = (u32)(j1);
-    j1 = i64_load(j1 + 358u);
-    i64_store(j0 + 454, j1);
+    j1 = i64_load(j1 + 342u);
+    i64_store(j0 + 438, j1);
     j0 = l23;
     j1 = 18446744073709551613ull;
     j0 += j1;
@@ -90069,7 +91000,7 @@ static void f91(module *self, u64 p0, u64 p1, u64 p2, u64 p3, u64 p4, u64 p5) {
     j0 = l6;
     i0 = (u32)(j0);
     i1 = 257u;
-    i32_store16(j0 + 168, i1);
+    i32_store16(j0 + 152, i1);
     goto B10;
     B26:;
     j0 = l23;
@@ -90104,20 +91035,20 @@ static void f91(module *self, u64 p0, u64 p1, u64 p2, u64 p3, u64 p4, u64 p5) {
     i0 = (u32)(j0);
     j1 = l6;
     i1 = (u32)(j1);
-    j1 = i64_load(j1 + 320u);
-    i64_store(j0 + 440, j1);
+    j1 = i64_load(j1 + 304u);
+    i64_store(j0 + 424, j1);
     j0 = l6;
     i0 = (u32)(j0);
     j1 = l6;
     i1 = (u32)(j1);
-    j1 = i64_load(j1 + 328u);
-    i64_store(j0 + 448, j1);
+    j1 = i64_load(j1 + 312u);
+    i64_store(j0 + 432, j1);
     j0 = l6;
     i0 = (u32)(j0);
     j1 = l6;
     i1 = (u32)(j1);
-    j1 = i64_load(j1 + 334u);
-    i64_store(j0 + 454, j1);
+    j1 = i64_load(j1 + 318u);
+    i64_store(j0 + 438, j1);
     j0 = l23;
     j1 = 18446744073709551610ull;
     j0 += j1;
@@ -90165,7 +91096,7 @@ static void f91(module *self, u64 p0, u64 p1, u64 p2, u64 p3, u64 p4, u64 p5) {
     j0 = l6;
     i0 = (u32)(j0);
     i1 = 257u;
-    i32_store16(j0 + 168, i1);
+    i32_store16(j0 + 152, i1);
     goto B10;
     B25:;
     j0 = l23;
@@ -90206,20 +91137,20 @@ static void f91(module *self, u64 p0, u64 p1, u64 p2, u64 p3, u64 p4, u64 p5) {
     i0 = (u32)(j0);
     j1 = l6;
     i1 = (u32)(j1);
-    j1 = i64_load(j1 + 296u);
-    i64_store(j0 + 440, j1);
+    j1 = i64_load(j1 + 280u);
+    i64_store(j0 + 424, j1);
     j0 = l6;
     i0 = (u32)(j0);
     j1 = l6;
     i1 = (u32)(j1);
-    j1 = i64_load(j1 + 304u);
-    i64_store(j0 + 448, j1);
+    j1 = i64_load(j1 + 288u);
+    i64_store(j0 + 432, j1);
     j0 = l6;
     i0 = (u32)(j0);
     j1 = l6;
     i1 = (u32)(j1);
-    j1 = i64_load(j1 + 310u);
-    i64_store(j0 + 454, j1);
+    j1 = i64_load(j1 + 294u);
+    i64_store(j0 + 438, j1);
     j0 = l23;
     j1 = 18446744073709551609ull;
     j0 += j1;
@@ -90265,7 +91196,7 @@ static void f91(module *self, u64 p0, u64 p1, u64 p2, u64 p3, u64 p4, u64 p5) {
     j0 = l6;
     i0 = (u32)(j0);
     i1 = 257u;
-    i32_store16(j0 + 168, i1);
+    i32_store16(j0 + 152, i1);
     goto B10;
     B24:;
     j0 = l23;
@@ -90290,20 +91221,20 @@ static void f91(module *self, u64 p0, u64 p1, u64 p2, u64 p3, u64 p4, u64 p5) {
     i0 = (u32)(j0);
     j1 = l6;
     i1 = (u32)(j1);
-    j1 = i64_load(j1 + 272u);
-    i64_store(j0 + 440, j1);
+    j1 = i64_load(j1 + 256u);
+    i64_store(j0 + 424, j1);
     j0 = l6;
     i0 = (u32)(j0);
     j1 = l6;
     i1 = (u32)(j1);
-    j1 = i64_load(j1 + 280u);
-    i64_store(j0 + 448, j1);
+    j1 = i64_load(j1 + 264u);
+    i64_store(j0 + 432, j1);
     j0 = l6;
     i0 = (u32)(j0);
     j1 = l6;
     i1 = (u32)(j1);
-    j1 = i64_load(j1 + 286u);
-    i64_store(j0 + 454, j1);
+    j1 = i64_load(j1 + 270u);
+    i64_store(j0 + 438, j1);
     j0 = l23;
     j1 = 18446744073709551611ull;
     j0 += j1;
@@ -90349,7 +91280,7 @@ static void f91(module *self, u64 p0, u64 p1, u64 p2, u64 p3, u64 p4, u64 p5) {
     j0 = l6;
     i0 = (u32)(j0);
     i1 = 257u;
-    i32_store16(j0 + 168, i1);
+    i32_store16(j0 + 152, i1);
     goto B10;
     B23:;
     j0 = l23;
@@ -90374,20 +91305,20 @@ static void f91(module *self, u64 p0, u64 p1, u64 p2, u64 p3, u64 p4, u64 p5) {
     i0 = (u32)(j0);
     j1 = l6;
     i1 = (u32)(j1);
-    j1 = i64_load(j1 + 248u);
-    i64_store(j0 + 440, j1);
+    j1 = i64_load(j1 + 232u);
+    i64_store(j0 + 424, j1);
     j0 = l6;
     i0 = (u32)(j0);
     j1 = l6;
     i1 = (u32)(j1);
-    j1 = i64_load(j1 + 256u);
-    i64_store(j0 + 448, j1);
+    j1 = i64_load(j1 + 240u);
+    i64_store(j0 + 432, j1);
     j0 = l6;
     i0 = (u32)(j0);
     j1 = l6;
     i1 = (u32)(j1);
-    j1 = i64_load(j1 + 262u);
-    i64_store(j0 + 454, j1);
+    j1 = i64_load(j1 + 246u);
+    i64_store(j0 + 438, j1);
     j0 = l23;
     j1 = 18446744073709551611ull;
     j0 += j1;
@@ -90433,7 +91364,7 @@ static void f91(module *self, u64 p0, u64 p1, u64 p2, u64 p3, u64 p4, u64 p5) {
     j0 = l6;
     i0 = (u32)(j0);
     i1 = 257u;
-    i32_store16(j0 + 168, i1);
+    i32_store16(j0 + 152, i1);
     goto B10;
     B22:;
     j0 = l23;
@@ -90458,20 +91389,20 @@ static void f91(module *self, u64 p0, u64 p1, u64 p2, u64 p3, u64 p4, u64 p5) {
     i0 = (u32)(j0);
     j1 = l6;
     i1 = (u32)(j1);
-    j1 = i64_load(j1 + 224u);
-    i64_store(j0 + 440, j1);
+    j1 = i64_load(j1 + 208u);
+    i64_store(j0 + 424, j1);
     j0 = l6;
     i0 = (u32)(j0);
     j1 = l6;
     i1 = (u32)(j1);
-    j1 = i64_load(j1 + 232u);
-    i64_store(j0 + 448, j1);
+    j1 = i64_load(j1 + 216u);
+    i64_store(j0 + 432, j1);
     j0 = l6;
     i0 = (u32)(j0);
     j1 = l6;
     i1 = (u32)(j1);
-    j1 = i64_load(j1 + 238u);
-    i64_store(j0 + 454, j1);
+    j1 = i64_load(j1 + 222u);
+    i64_store(j0 + 438, j1);
     j0 = l23;
     j1 = 18446744073709551611ull;
     j0 += j1;
@@ -90517,13 +91448,13 @@ static void f91(module *self, u64 p0, u64 p1, u64 p2, u64 p3, u64 p4, u64 p5) {
     j0 = l6;
     i0 = (u32)(j0);
     i1 = 257u;
-    i32_store16(j0 + 168, i1);
+    i32_store16(j0 + 152, i1);
     goto B10;
     B19:;
     j0 = l6;
     i0 = (u32)(j0);
     i1 = 1u;
-    i32_store8(j0 + 168, i1);
+    i32_store8(j0 + 152, i1);
     goto B8;
     B18:;
     j0 = l19;
@@ -90538,36 +91469,36 @@ static void f91(module *self, u64 p0, u64 p1, u64 p2, u64 p3, u64 p4, u64 p5) {
     i0 = (u32)(j0);
     j1 = l6;
     i1 = (u32)(j1);
-    j1 = i64_load(j1 + 144u);
+    j1 = i64_load(j1 + 128u);
     i64_store(j0, j1);
     j0 = l20;
     i0 = (u32)(j0);
     j1 = l6;
     i1 = (u32)(j1);
-    j1 = i64_load(j1 + 152u);
+    j1 = i64_load(j1 + 136u);
     i64_store(j0 + 8, j1);
     j0 = l20;
     i0 = (u32)(j0);
     j1 = l6;
     i1 = (u32)(j1);
-    j1 = i64_load(j1 + 158u);
+    j1 = i64_load(j1 + 142u);
     i64_store(j0 + 14, j1);
     j0 = l6;
     i0 = (u32)(j0);
     j1 = 0ull;
-    i64_store(j0 + 178, j1);
+    i64_store(j0 + 162, j1);
     i0 = 10u;
     l46 = i0;
     j0 = l6;
     i0 = (u32)(j0);
     i1 = 10u;
-    i32_store16(j0 + 176, i1);
+    i32_store16(j0 + 160, i1);
     i0 = 0u;
     l45 = i0;
     j0 = l6;
     i0 = (u32)(j0);
     i1 = 0u;
-    i32_store8(j0 + 168, i1);
+    i32_store8(j0 + 152, i1);
     j0 = p4;
     l23 = j0;
     j0 = l28;
@@ -90575,44 +91506,44 @@ static void f91(module *self, u64 p0, u64 p1, u64 p2, u64 p3, u64 p4, u64 p5) {
     goto B6;
     B17:;
     j0 = l6;
-    j1 = 168ull;
+    j1 = 152ull;
     j0 += j1;
     j1 = l28;
     j2 = p4;
-    f71(self, j0, j1, j2);
+    f74(self, j0, j1, j2);
     j0 = l6;
     i0 = (u32)(j0);
-    i0 = i32_load16_u(j0 + 178u);
+    i0 = i32_load16_u(j0 + 162u);
     l39 = i0;
     i1 = 8u;
     i0 >>= (i1 & 31);
     l38 = i0;
     j0 = l6;
     i0 = (u32)(j0);
-    i0 = i32_load16_u(j0 + 184u);
+    i0 = i32_load16_u(j0 + 168u);
     l45 = i0;
     i1 = 8u;
     i0 >>= (i1 & 31);
     l44 = i0;
     j0 = l6;
     i0 = (u32)(j0);
-    j0 = i64_load(j0 + 216u);
+    j0 = i64_load(j0 + 200u);
     l29 = j0;
     j0 = l6;
     i0 = (u32)(j0);
-    j0 = i64_load(j0 + 208u);
+    j0 = i64_load(j0 + 192u);
     l27 = j0;
     j0 = l6;
     i0 = (u32)(j0);
-    i0 = i32_load(j0 + 180u);
+    i0 = i32_load(j0 + 164u);
     l40 = i0;
     j0 = l6;
     i0 = (u32)(j0);
-    i0 = i32_load8_u(j0 + 176u);
+    i0 = i32_load8_u(j0 + 160u);
     l46 = i0;
     j0 = l6;
     i0 = (u32)(j0);
-    i0 = i32_load8_u(j0 + 168u);
+    i0 = i32_load8_u(j0 + 152u);
     l41 = i0;
     goto B9;
     B16:;
@@ -90645,7 +91576,7 @@ static void f91(module *self, u64 p0, u64 p1, u64 p2, u64 p3, u64 p4, u64 p5) {
     j0 = l6;
     i0 = (u32)(j0);
     i1 = 257u;
-    i32_store16(j0 + 168, i1);
+    i32_store16(j0 + 152, i1);
     goto B10;
     B15:;
     j0 = 0ull;
@@ -90677,7 +91608,7 @@ static void f91(module *self, u64 p0, u64 p1, u64 p2, u64 p3, u64 p4, u64 p5) {
     j0 = l6;
     i0 = (u32)(j0);
     i1 = 257u;
-    i32_store16(j0 + 168, i1);
+    i32_store16(j0 + 152, i1);
     goto B10;
     B14:;
     j0 = 0ull;
@@ -90709,7 +91640,7 @@ static void f91(module *self, u64 p0, u64 p1, u64 p2, u64 p3, u64 p4, u64 p5) {
     j0 = l6;
     i0 = (u32)(j0);
     i1 = 257u;
-    i32_store16(j0 + 168, i1);
+    i32_store16(j0 + 152, i1);
     goto B10;
     B13:;
     i0 = 0u;
@@ -90724,48 +91655,48 @@ static void f91(module *self, u64 p0, u64 p1, u64 p2, u64 p3, u64 p4, u64 p5) {
     i0 = (u32)(j0);
     j1 = l6;
     i1 = (u32)(j1);
-    j1 = i64_load(j1 + 440u);
+    j1 = i64_load(j1 + 424u);
     i64_store(j0, j1);
     j0 = l20;
     i0 = (u32)(j0);
     j1 = l6;
     i1 = (u32)(j1);
-    j1 = i64_load(j1 + 448u);
+    j1 = i64_load(j1 + 432u);
     i64_store(j0 + 8, j1);
     j0 = l20;
     i0 = (u32)(j0);
     j1 = l6;
     i1 = (u32)(j1);
-    j1 = i64_load(j1 + 454u);
+    j1 = i64_load(j1 + 438u);
     i64_store(j0 + 14, j1);
     j0 = l6;
     i0 = (u32)(j0);
     i1 = l40;
-    i32_store(j0 + 180, i1);
+    i32_store(j0 + 164, i1);
     j0 = l6;
     i0 = (u32)(j0);
     i1 = l39;
-    i32_store16(j0 + 178, i1);
+    i32_store16(j0 + 162, i1);
     j0 = l6;
     i0 = (u32)(j0);
     i1 = l46;
-    i32_store16(j0 + 176, i1);
+    i32_store16(j0 + 160, i1);
     j0 = l6;
     i0 = (u32)(j0);
     i1 = 0u;
-    i32_store8(j0 + 169, i1);
+    i32_store8(j0 + 153, i1);
     j0 = l6;
     i0 = (u32)(j0);
     i1 = l41;
-    i32_store8(j0 + 168, i1);
+    i32_store8(j0 + 152, i1);
     j0 = l6;
     i0 = (u32)(j0);
     j1 = l29;
-    i64_store(j0 + 216, j1);
+    i64_store(j0 + 200, j1);
     j0 = l6;
     i0 = (u32)(j0);
     j1 = l27;
-    i64_store(j0 + 208, j1);
+    i64_store(j0 + 192, j1);
     j0 = l6;
     i0 = (u32)(j0);
     i1 = l44;
@@ -90775,7 +91706,7 @@ static void f91(module *self, u64 p0, u64 p1, u64 p2, u64 p3, u64 p4, u64 p5) {
     i3 = 255u;
     i2 &= i3;
     i1 |= i2;
-    i32_store16(j0 + 184, i1);
+    i32_store16(j0 + 168, i1);
     i0 = l39;
     i1 = 65280u;
     i0 &= i1;
@@ -90807,11 +91738,11 @@ static void f91(module *self, u64 p0, u64 p1, u64 p2, u64 p3, u64 p4, u64 p5) {
     if (i0) {goto B8;}
     j0 = l6;
     i0 = (u32)(j0);
-    j0 = i64_load(j0 + 200u);
+    j0 = i64_load(j0 + 184u);
     p4 = j0;
     j0 = l6;
     i0 = (u32)(j0);
-    j0 = i64_load(j0 + 192u);
+    j0 = i64_load(j0 + 176u);
     l28 = j0;
     j0 = l27;
     l22 = j0;
@@ -90822,57 +91753,65 @@ static void f91(module *self, u64 p0, u64 p1, u64 p2, u64 p3, u64 p4, u64 p5) {
     j0 = l6;
     i0 = (u32)(j0);
     i1 = l37;
-    i32_store16(j0 + 96, i1);
+    i32_store16(j0 + 80, i1);
     j0 = l6;
     i0 = (u32)(j0);
     j1 = l25;
-    i64_store(j0 + 88, j1);
-    j0 = l6;
-    i0 = (u32)(j0);
-    j1 = l24;
-    i64_store(j0 + 80, j1);
-    j0 = l6;
-    i0 = (u32)(j0);
-    j1 = l23;
     i64_store(j0 + 72, j1);
     j0 = l6;
     i0 = (u32)(j0);
-    j1 = l22;
+    j1 = l24;
     i64_store(j0 + 64, j1);
     j0 = l6;
-    j1 = 104ull;
-    j0 += j1;
-    j1 = l6;
-    j2 = 64ull;
-    j1 += j2;
-    f92(self, j0, j1); if (NEVER(self->is_broken)) return;
+    i0 = (u32)(j0);
+    j1 = l23;
+    i64_store(j0 + 56, j1);
     j0 = l6;
     i0 = (u32)(j0);
-    j0 = i64_load(j0 + 112u);
+    j1 = l22;
+    i64_store(j0 + 48, j1);
+    j0 = l6;
+    j1 = 88ull;
+    j0 += j1;
+    j1 = l6;
+    j2 = 48ull;
+    j1 += j2;
+    f95(self, j0, j1); if (NEVER(self->is_broken)) return;
+    j0 = l6;
+    i0 = (u32)(j0);
+    j0 = i64_load(j0 + 96u);
     l27 = j0;
     i0 = !(j0);
     if (i0) {goto B7;}
     j0 = l6;
     i0 = (u32)(j0);
-    i0 = i32_load16_u(j0 + 136u);
+    i0 = i32_load16_u(j0 + 120u);
     l37 = i0;
     j0 = l6;
     i0 = (u32)(j0);
-    j0 = i64_load(j0 + 128u);
+    j0 = i64_load(j0 + 112u);
     l25 = j0;
     j0 = l6;
     i0 = (u32)(j0);
-    j0 = i64_load(j0 + 120u);
+    j0 = i64_load(j0 + 104u);
     l24 = j0;
     j0 = l6;
     i0 = (u32)(j0);
-    j0 = i64_load(j0 + 104u);
+    j0 = i64_load(j0 + 88u);
     p4 = j0;
     i0 = (u32)(j0);
     i0 = i32_load8_u(j0);
     l38 = i0;
     j0 = 0ull;
     l29 = j0;
+    j0 = l6;
+    i0 = (u32)(j0);
+    j1 = 0ull;
+    i64_store(j0 + 152, j1);
+    j0 = l6;
+    i0 = (u32)(j0);
+    j1 = 0ull;
+    i64_store(j0 + 160, j1);
     j0 = l6;
     i0 = (u32)(j0);
     j1 = 0ull;
@@ -90896,23 +91835,15 @@ static void f91(module *self, u64 p0, u64 p1, u64 p2, u64 p3, u64 p4, u64 p5) {
     j0 = l6;
     i0 = (u32)(j0);
     j1 = 0ull;
-    i64_store(j0 + 208, j1);
+    i64_store(j0 + 128, j1);
     j0 = l6;
     i0 = (u32)(j0);
     j1 = 0ull;
-    i64_store(j0 + 216, j1);
+    i64_store(j0 + 136, j1);
     j0 = l6;
     i0 = (u32)(j0);
     j1 = 0ull;
-    i64_store(j0 + 144, j1);
-    j0 = l6;
-    i0 = (u32)(j0);
-    j1 = 0ull;
-    i64_store(j0 + 152, j1);
-    j0 = l6;
-    i0 = (u32)(j0);
-    j1 = 0ull;
-    i64_store(j0 + 158, j1);
+    i64_store(j0 + 142, j1);
     j0 = l27;
     j1 = 18446744073709551615ull;
     j0 += j1;
@@ -91030,7 +91961,7 @@ static void f91(module *self, u64 p0, u64 p1, u64 p2, u64 p3, u64 p4, u64 p5) {
     i3 = 8u;
     i2 <<= (i3 & 31);
     i1 |= i2;
-    i32_store16(j0 + 184, i1);
+    i32_store16(j0 + 168, i1);
     j0 = l6;
     i0 = (u32)(j0);
     i1 = l39;
@@ -91038,17 +91969,17 @@ static void f91(module *self, u64 p0, u64 p1, u64 p2, u64 p3, u64 p4, u64 p5) {
     i3 = 8u;
     i2 <<= (i3 & 31);
     i1 |= i2;
-    i32_store16(j0 + 178, i1);
+    i32_store16(j0 + 162, i1);
     i0 = 8u;
     l46 = i0;
     j0 = l6;
     i0 = (u32)(j0);
     i1 = 8u;
-    i32_store16(j0 + 176, i1);
+    i32_store16(j0 + 160, i1);
     j0 = l6;
     i0 = (u32)(j0);
     i1 = 0u;
-    i32_store8(j0 + 169, i1);
+    i32_store8(j0 + 153, i1);
     j0 = l6;
     i0 = (u32)(j0);
     i1 = l41;
@@ -91065,11 +91996,11 @@ static void f91(module *self, u64 p0, u64 p1, u64 p2, u64 p3, u64 p4, u64 p5) {
     i2 <<= (i3 & 31);
     i1 |= i2;
     l40 = i1;
-    i32_store(j0 + 180, i1);
+    i32_store(j0 + 164, i1);
     j0 = l6;
     i0 = (u32)(j0);
     j1 = l27;
-    i64_store(j0 + 200, j1);
+    i64_store(j0 + 184, j1);
     j0 = l28;
     j1 = l27;
     j0 -= j1;
@@ -91080,7 +92011,7 @@ static void f91(module *self, u64 p0, u64 p1, u64 p2, u64 p3, u64 p4, u64 p5) {
     j2 = 11ull;
     j1 += j2;
     p4 = j1;
-    i64_store(j0 + 192, j1);
+    i64_store(j0 + 176, j1);
     j0 = p4;
     j1 = l27;
     j0 += j1;
@@ -91090,87 +92021,87 @@ static void f91(module *self, u64 p0, u64 p1, u64 p2, u64 p3, u64 p4, u64 p5) {
     j0 = l6;
     i0 = (u32)(j0);
     j1 = 0ull;
-    i64_store(j0 + 440, j1);
+    i64_store(j0 + 424, j1);
     j0 = l6;
     i0 = (u32)(j0);
     j1 = 0ull;
-    i64_store(j0 + 448, j1);
+    i64_store(j0 + 432, j1);
     j0 = l6;
     i0 = (u32)(j0);
     j1 = 0ull;
-    i64_store(j0 + 454, j1);
+    i64_store(j0 + 438, j1);
     j0 = l6;
     i0 = (u32)(j0);
     i1 = 0u;
-    i32_store(j0 + 416, i1);
+    i32_store(j0 + 400, i1);
     j0 = l6;
     i0 = (u32)(j0);
     i1 = 0u;
-    i32_store16(j0 + 420, i1);
+    i32_store16(j0 + 404, i1);
     j0 = l6;
     i0 = (u32)(j0);
     i1 = 0u;
-    i32_store(j0 + 392, i1);
+    i32_store(j0 + 376, i1);
     j0 = l6;
     i0 = (u32)(j0);
     i1 = 0u;
-    i32_store16(j0 + 396, i1);
+    i32_store16(j0 + 380, i1);
     j0 = l6;
     i0 = (u32)(j0);
     i1 = 0u;
-    i32_store(j0 + 368, i1);
+    i32_store(j0 + 352, i1);
     j0 = l6;
     i0 = (u32)(j0);
     i1 = 0u;
-    i32_store16(j0 + 372, i1);
+    i32_store16(j0 + 356, i1);
     j0 = l6;
     i0 = (u32)(j0);
     i1 = 0u;
-    i32_store(j0 + 344, i1);
+    i32_store(j0 + 328, i1);
     j0 = l6;
     i0 = (u32)(j0);
     i1 = 0u;
-    i32_store16(j0 + 348, i1);
+    i32_store16(j0 + 332, i1);
     j0 = l6;
     i0 = (u32)(j0);
     i1 = 0u;
-    i32_store16(j0 + 324, i1);
+    i32_store16(j0 + 308, i1);
     j0 = l6;
     i0 = (u32)(j0);
     i1 = 0u;
-    i32_store(j0 + 320, i1);
+    i32_store(j0 + 304, i1);
     j0 = l6;
     i0 = (u32)(j0);
     i1 = 0u;
-    i32_store16(j0 + 300, i1);
+    i32_store16(j0 + 284, i1);
     j0 = l6;
     i0 = (u32)(j0);
     i1 = 0u;
-    i32_store(j0 + 296, i1);
+    i32_store(j0 + 280, i1);
     j0 = l6;
     i0 = (u32)(j0);
     i1 = 0u;
-    i32_store16(j0 + 276, i1);
+    i32_store16(j0 + 260, i1);
     j0 = l6;
     i0 = (u32)(j0);
     i1 = 0u;
-    i32_store(j0 + 272, i1);
+    i32_store(j0 + 256, i1);
     j0 = l6;
     i0 = (u32)(j0);
     i1 = 0u;
-    i32_store16(j0 + 252, i1);
+    i32_store16(j0 + 236, i1);
     j0 = l6;
     i0 = (u32)(j0);
     i1 = 0u;
-    i32_store(j0 + 248, i1);
+    i32_store(j0 + 232, i1);
     j0 = l6;
     i0 = (u32)(j0);
     i1 = 0u;
-    i32_store16(j0 + 228, i1);
+    i32_store16(j0 + 212, i1);
     j0 = l6;
     i0 = (u32)(j0);
     i1 = 0u;
-    i32_store(j0 + 224, i1);
+    i32_store(j0 + 208, i1);
     i0 = 1u;
     l41 = i0;
     j0 = 0ull;
@@ -91222,20 +92153,20 @@ static void f91(module *self, u64 p0, u64 p1, u64 p2, u64 p3, u64 p4, u64 p5) {
     i0 = (u32)(j0);
     j1 = l6;
     i1 = (u32)(j1);
-    j1 = i64_load(j1 + 416u);
-    i64_store(j0 + 440, j1);
+    j1 = i64_load(j1 + 400u);
+    i64_store(j0 + 424, j1);
     j0 = l6;
     i0 = (u32)(j0);
     j1 = l6;
     i1 = (u32)(j1);
-    j1 = i64_load(j1 + 424u);
-    i64_store(j0 + 448, j1);
+    j1 = i64_load(j1 + 408u);
+    i64_store(j0 + 432, j1);
     j0 = l6;
     i0 = (u32)(j0);
     j1 = l6;
     i1 = (u32)(j1);
-    j1 = i64_load(j1 + 430u);
-    i64_store(j0 + 454, j1);
+    j1 = i64_load(j1 + 414u);
+    i64_store(j0 + 438, j1);
     j0 = l27;
     j1 = 18446744073709551612ull;
     j0 += j1;
@@ -91291,7 +92222,7 @@ static void f91(module *self, u64 p0, u64 p1, u64 p2, u64 p3, u64 p4, u64 p5) {
     j0 = l6;
     i0 = (u32)(j0);
     i1 = 257u;
-    i32_store16(j0 + 168, i1);
+    i32_store16(j0 + 152, i1);
     goto B42;
     B62:;
     j0 = 0ull;
@@ -91323,7 +92254,7 @@ static void f91(module *self, u64 p0, u64 p1, u64 p2, u64 p3, u64 p4, u64 p5) {
     j0 = l6;
     i0 = (u32)(j0);
     i1 = 257u;
-    i32_store16(j0 + 168, i1);
+    i32_store16(j0 + 152, i1);
     goto B42;
     B60:;
     j0 = l23;
@@ -91348,20 +92279,20 @@ static void f91(module *self, u64 p0, u64 p1, u64 p2, u64 p3, u64 p4, u64 p5) {
     i0 = (u32)(j0);
     j1 = l6;
     i1 = (u32)(j1);
-    j1 = i64_load(j1 + 392u);
-    i64_store(j0 + 440, j1);
+    j1 = i64_load(j1 + 376u);
+    i64_store(j0 + 424, j1);
     j0 = l6;
     i0 = (u32)(j0);
     j1 = l6;
     i1 = (u32)(j1);
-    j1 = i64_load(j1 + 400u);
-    i64_store(j0 + 448, j1);
+    j1 = i64_load(j1 + 384u);
+    i64_store(j0 + 432, j1);
     j0 = l6;
     i0 = (u32)(j0);
     j1 = l6;
     i1 = (u32)(j1);
-    j1 = i64_load(j1 + 406u);
-    i64_store(j0 + 454, j1);
+    j1 = i64_load(j1 + 390u);
+    i64_store(j0 + 438, j1);
     j0 = l27;
     j1 = 18446744073709551611ull;
     j0 += j1;
@@ -91417,7 +92348,7 @@ static void f91(module *self, u64 p0, u64 p1, u64 p2, u64 p3, u64 p4, u64 p5) {
     j0 = l6;
     i0 = (u32)(j0);
     i1 = 257u;
-    i32_store16(j0 + 168, i1);
+    i32_store16(j0 + 152, i1);
     goto B42;
     B59:;
     j0 = l27;
@@ -91436,20 +92367,20 @@ static void f91(module *self, u64 p0, u64 p1, u64 p2, u64 p3, u64 p4, u64 p5) {
     i0 = (u32)(j0);
     j1 = l6;
     i1 = (u32)(j1);
-    j1 = i64_load(j1 + 368u);
-    i64_store(j0 + 440, j1);
+    j1 = i64_load(j1 + 352u);
+    i64_store(j0 + 424, j1);
     j0 = l6;
     i0 = (u32)(j0);
     j1 = l6;
     i1 = (u32)(j1);
-    j1 = i64_load(j1 + 376u);
-    i64_store(j0 + 448, j1);
+    j1 = i64_load(j1 + 360u);
+    i64_store(j0 + 432, j1);
     j0 = l6;
     i0 = (u32)(j0);
     j1 = l6;
     i1 = (u32)(j1);
-    j1 = i64_load(j1 + 382u);
-    i64_store(j0 + 454, j1);
+    j1 = i64_load(j1 + 366u);
+    i64_store(j0 + 438, j1);
     j0 = l27;
     j1 = 18446744073709551613ull;
     j0 += j1;
@@ -91499,7 +92430,7 @@ static void f91(module *self, u64 p0, u64 p1, u64 p2, u64 p3, u64 p4, u64 p5) {
     j0 = l6;
     i0 = (u32)(j0);
     i1 = 257u;
-    i32_store16(j0 + 168, i1);
+    i32_store16(j0 + 152, i1);
     goto B42;
     B58:;
     j0 = l27;
@@ -91518,20 +92449,20 @@ static void f91(module *self, u64 p0, u64 p1, u64 p2, u64 p3, u64 p4, u64 p5) {
     i0 = (u32)(j0);
     j1 = l6;
     i1 = (u32)(j1);
-    j1 = i64_load(j1 + 344u);
-    i64_store(j0 + 440, j1);
+    j1 = i64_load(j1 + 328u);
+    i64_store(j0 + 424, j1);
     j0 = l6;
     i0 = (u32)(j0);
     j1 = l6;
     i1 = (u32)(j1);
-    j1 = i64_load(j1 + 352u);
-    i64_store(j0 + 448, j1);
+    j1 = i64_load(j1 + 336u);
+    i64_store(j0 + 432, j1);
     j0 = l6;
     i0 = (u32)(j0);
     j1 = l6;
     i1 = (u32)(j1);
-    j1 = i64_load(j1 + 358u);
-    i64_store(j0 + 454, j1);
+    j1 = i64_load(j1 + 342u);
+    i64_store(j0 + 438, j1);
     j0 = l27;
     j1 = 18446744073709551613ull;
     j0 += j1;
@@ -91581,7 +92512,7 @@ static void f91(module *self, u64 p0, u64 p1, u64 p2, u64 p3, u64 p4, u64 p5) {
     j0 = l6;
     i0 = (u32)(j0);
     i1 = 257u;
-    i32_store16(j0 + 168, i1);
+    i32_store16(j0 + 152, i1);
     goto B42;
     B57:;
     j0 = l27;
@@ -91604,20 +92535,20 @@ static void f91(module *self, u64 p0, u64 p1, u64 p2, u64 p3, u64 p4, u64 p5) {
     i0 = (u32)(j0);
     j1 = l6;
     i1 = (u32)(j1);
-    j1 = i64_load(j1 + 320u);
-    i64_store(j0 + 440, j1);
+    j1 = i64_load(j1 + 304u);
+    i64_store(j0 + 424, j1);
     j0 = l6;
     i0 = (u32)(j0);
     j1 = l6;
     i1 = (u32)(j1);
-    j1 = i64_load(j1 + 328u);
-    i64_store(j0 + 448, j1);
+    j1 = i64_load(j1 + 312u);
+    i64_store(j0 + 432, j1);
     j0 = l6;
     i0 = (u32)(j0);
     j1 = l6;
     i1 = (u32)(j1);
-    j1 = i64_load(j1 + 334u);
-    i64_store(j0 + 454, j1);
+    j1 = i64_load(j1 + 318u);
+    i64_store(j0 + 438, j1);
     j0 = l27;
     j1 = 18446744073709551610ull;
     j0 += j1;
@@ -91677,7 +92608,7 @@ static void f91(module *self, u64 p0, u64 p1, u64 p2, u64 p3, u64 p4, u64 p5) {
     j0 = l6;
     i0 = (u32)(j0);
     i1 = 257u;
-    i32_store16(j0 + 168, i1);
+    i32_store16(j0 + 152, i1);
     goto B42;
     B56:;
     j0 = l27;
@@ -91700,20 +92631,20 @@ static void f91(module *self, u64 p0, u64 p1, u64 p2, u64 p3, u64 p4, u64 p5) {
     i0 = (u32)(j0);
     j1 = l6;
     i1 = (u32)(j1);
-    j1 = i64_load(j1 + 296u);
-    i64_store(j0 + 440, j1);
+    j1 = i64_load(j1 + 280u);
+    i64_store(j0 + 424, j1);
     j0 = l6;
     i0 = (u32)(j0);
     j1 = l6;
     i1 = (u32)(j1);
-    j1 = i64_load(j1 + 304u);
-    i64_store(j0 + 448, j1);
+    j1 = i64_load(j1 + 288u);
+    i64_store(j0 + 432, j1);
     j0 = l6;
     i0 = (u32)(j0);
     j1 = l6;
     i1 = (u32)(j1);
-    j1 = i64_load(j1 + 310u);
-    i64_store(j0 + 454, j1);
+    j1 = i64_load(j1 + 294u);
+    i64_store(j0 + 438, j1);
     j0 = l27;
     j1 = 18446744073709551609ull;
     j0 += j1;
@@ -91777,7 +92708,7 @@ static void f91(module *self, u64 p0, u64 p1, u64 p2, u64 p3, u64 p4, u64 p5) {
     j0 = l6;
     i0 = (u32)(j0);
     i1 = 257u;
-    i32_store16(j0 + 168, i1);
+    i32_store16(j0 + 152, i1);
     goto B42;
     B55:;
     j0 = l27;
@@ -91796,20 +92727,20 @@ static void f91(module *self, u64 p0, u64 p1, u64 p2, u64 p3, u64 p4, u64 p5) {
     i0 = (u32)(j0);
     j1 = l6;
     i1 = (u32)(j1);
-    j1 = i64_load(j1 + 272u);
-    i64_store(j0 + 440, j1);
+    j1 = i64_load(j1 + 256u);
+    i64_store(j0 + 424, j1);
     j0 = l6;
     i0 = (u32)(j0);
     j1 = l6;
     i1 = (u32)(j1);
-    j1 = i64_load(j1 + 280u);
-    i64_store(j0 + 448, j1);
+    j1 = i64_load(j1 + 264u);
+    i64_store(j0 + 432, j1);
     j0 = l6;
     i0 = (u32)(j0);
     j1 = l6;
     i1 = (u32)(j1);
-    j1 = i64_load(j1 + 286u);
-    i64_store(j0 + 454, j1);
+    j1 = i64_load(j1 + 270u);
+    i64_store(j0 + 438, j1);
     j0 = l27;
     j1 = 18446744073709551611ull;
     j0 += j1;
@@ -91861,7 +92792,7 @@ static void f91(module *self, u64 p0, u64 p1, u64 p2, u64 p3, u64 p4, u64 p5) {
     j0 = l6;
     i0 = (u32)(j0);
     i1 = 257u;
-    i32_store16(j0 + 168, i1);
+    i32_store16(j0 + 152, i1);
     goto B42;
     B54:;
     j0 = l27;
@@ -91880,20 +92811,20 @@ static void f91(module *self, u64 p0, u64 p1, u64 p2, u64 p3, u64 p4, u64 p5) {
     i0 = (u32)(j0);
     j1 = l6;
     i1 = (u32)(j1);
-    j1 = i64_load(j1 + 248u);
-    i64_store(j0 + 440, j1);
+    j1 = i64_load(j1 + 232u);
+    i64_store(j0 + 424, j1);
     j0 = l6;
     i0 = (u32)(j0);
     j1 = l6;
     i1 = (u32)(j1);
-    j1 = i64_load(j1 + 256u);
-    i64_store(j0 + 448, j1);
+    j1 = i64_load(j1 + 240u);
+    i64_store(j0 + 432, j1);
     j0 = l6;
     i0 = (u32)(j0);
     j1 = l6;
     i1 = (u32)(j1);
-    j1 = i64_load(j1 + 262u);
-    i64_store(j0 + 454, j1);
+    j1 = i64_load(j1 + 246u);
+    i64_store(j0 + 438, j1);
     j0 = l27;
     j1 = 18446744073709551611ull;
     j0 += j1;
@@ -91945,7 +92876,7 @@ static void f91(module *self, u64 p0, u64 p1, u64 p2, u64 p3, u64 p4, u64 p5) {
     j0 = l6;
     i0 = (u32)(j0);
     i1 = 257u;
-    i32_store16(j0 + 168, i1);
+    i32_store16(j0 + 152, i1);
     goto B42;
     B53:;
     j0 = l27;
@@ -91964,20 +92895,20 @@ static void f91(module *self, u64 p0, u64 p1, u64 p2, u64 p3, u64 p4, u64 p5) {
     i0 = (u32)(j0);
     j1 = l6;
     i1 = (u32)(j1);
-    j1 = i64_load(j1 + 224u);
-    i64_store(j0 + 440, j1);
+    j1 = i64_load(j1 + 208u);
+    i64_store(j0 + 424, j1);
     j0 = l6;
     i0 = (u32)(j0);
     j1 = l6;
     i1 = (u32)(j1);
-    j1 = i64_load(j1 + 232u);
-    i64_store(j0 + 448, j1);
+    j1 = i64_load(j1 + 216u);
+    i64_store(j0 + 432, j1);
     j0 = l6;
     i0 = (u32)(j0);
     j1 = l6;
     i1 = (u32)(j1);
-    j1 = i64_load(j1 + 238u);
-    i64_store(j0 + 454, j1);
+    j1 = i64_load(j1 + 222u);
+    i64_store(j0 + 438, j1);
     j0 = l27;
     j1 = 18446744073709551611ull;
     j0 += j1;
@@ -92029,7 +92960,7 @@ static void f91(module *self, u64 p0, u64 p1, u64 p2, u64 p3, u64 p4, u64 p5) {
     j0 = l6;
     i0 = (u32)(j0);
     i1 = 257u;
-    i32_store16(j0 + 168, i1);
+    i32_store16(j0 + 152, i1);
     goto B42;
     B50:;
     j0 = l19;
@@ -92044,77 +92975,77 @@ static void f91(module *self, u64 p0, u64 p1, u64 p2, u64 p3, u64 p4, u64 p5) {
     i0 = (u32)(j0);
     j1 = l6;
     i1 = (u32)(j1);
-    j1 = i64_load(j1 + 144u);
+    j1 = i64_load(j1 + 128u);
     i64_store(j0, j1);
     j0 = l20;
     i0 = (u32)(j0);
     j1 = l6;
     i1 = (u32)(j1);
-    j1 = i64_load(j1 + 152u);
+    j1 = i64_load(j1 + 136u);
     i64_store(j0 + 8, j1);
     j0 = l20;
     i0 = (u32)(j0);
     j1 = l6;
     i1 = (u32)(j1);
-    j1 = i64_load(j1 + 158u);
+    j1 = i64_load(j1 + 142u);
     i64_store(j0 + 14, j1);
     j0 = l6;
     i0 = (u32)(j0);
     j1 = 0ull;
-    i64_store(j0 + 178, j1);
+    i64_store(j0 + 162, j1);
     i0 = 10u;
     l46 = i0;
     j0 = l6;
     i0 = (u32)(j0);
     i1 = 10u;
-    i32_store16(j0 + 176, i1);
+    i32_store16(j0 + 160, i1);
     i0 = 0u;
     l45 = i0;
     j0 = l6;
     i0 = (u32)(j0);
     i1 = 0u;
-    i32_store8(j0 + 168, i1);
+    i32_store8(j0 + 152, i1);
     goto B6;
     B49:;
     j0 = l6;
-    j1 = 168ull;
+    j1 = 152ull;
     j0 += j1;
     j1 = l22;
     j2 = l23;
-    f71(self, j0, j1, j2);
+    f74(self, j0, j1, j2);
     j0 = l6;
     i0 = (u32)(j0);
-    i0 = i32_load16_u(j0 + 178u);
+    i0 = i32_load16_u(j0 + 162u);
     l39 = i0;
     i1 = 8u;
     i0 >>= (i1 & 31);
     l38 = i0;
     j0 = l6;
     i0 = (u32)(j0);
-    i0 = i32_load16_u(j0 + 184u);
+    i0 = i32_load16_u(j0 + 168u);
     l45 = i0;
     i1 = 8u;
     i0 >>= (i1 & 31);
     l44 = i0;
     j0 = l6;
     i0 = (u32)(j0);
-    j0 = i64_load(j0 + 216u);
+    j0 = i64_load(j0 + 200u);
     l30 = j0;
     j0 = l6;
     i0 = (u32)(j0);
-    j0 = i64_load(j0 + 208u);
+    j0 = i64_load(j0 + 192u);
     l29 = j0;
     j0 = l6;
     i0 = (u32)(j0);
-    i0 = i32_load(j0 + 180u);
+    i0 = i32_load(j0 + 164u);
     l40 = i0;
     j0 = l6;
     i0 = (u32)(j0);
-    i0 = i32_load8_u(j0 + 176u);
+    i0 = i32_load8_u(j0 + 160u);
     l46 = i0;
     j0 = l6;
     i0 = (u32)(j0);
-    i0 = i32_load8_u(j0 + 168u);
+    i0 = i32_load8_u(j0 + 152u);
     l41 = i0;
     goto B41;
     B48:;
@@ -92147,7 +93078,7 @@ static void f91(module *self, u64 p0, u64 p1, u64 p2, u64 p3, u64 p4, u64 p5) {
     j0 = l6;
     i0 = (u32)(j0);
     i1 = 257u;
-    i32_store16(j0 + 168, i1);
+    i32_store16(j0 + 152, i1);
     goto B42;
     B47:;
     j0 = 0ull;
@@ -92179,7 +93110,7 @@ static void f91(module *self, u64 p0, u64 p1, u64 p2, u64 p3, u64 p4, u64 p5) {
     j0 = l6;
     i0 = (u32)(j0);
     i1 = 257u;
-    i32_store16(j0 + 168, i1);
+    i32_store16(j0 + 152, i1);
     goto B42;
     B46:;
     j0 = 0ull;
@@ -92211,7 +93142,7 @@ static void f91(module *self, u64 p0, u64 p1, u64 p2, u64 p3, u64 p4, u64 p5) {
     j0 = l6;
     i0 = (u32)(j0);
     i1 = 257u;
-    i32_store16(j0 + 168, i1);
+    i32_store16(j0 + 152, i1);
     goto B42;
     B45:;
     i0 = 0u;
@@ -92226,48 +93157,48 @@ static void f91(module *self, u64 p0, u64 p1, u64 p2, u64 p3, u64 p4, u64 p5) {
     i0 = (u32)(j0);
     j1 = l6;
     i1 = (u32)(j1);
-    j1 = i64_load(j1 + 440u);
+    j1 = i64_load(j1 + 424u);
     i64_store(j0, j1);
     j0 = l20;
     i0 = (u32)(j0);
     j1 = l6;
     i1 = (u32)(j1);
-    j1 = i64_load(j1 + 448u);
+    j1 = i64_load(j1 + 432u);
     i64_store(j0 + 8, j1);
     j0 = l20;
     i0 = (u32)(j0);
     j1 = l6;
     i1 = (u32)(j1);
-    j1 = i64_load(j1 + 454u);
+    j1 = i64_load(j1 + 438u);
     i64_store(j0 + 14, j1);
     j0 = l6;
     i0 = (u32)(j0);
     i1 = l40;
-    i32_store(j0 + 180, i1);
+    i32_store(j0 + 164, i1);
     j0 = l6;
     i0 = (u32)(j0);
     i1 = l39;
-    i32_store16(j0 + 178, i1);
+    i32_store16(j0 + 162, i1);
     j0 = l6;
     i0 = (u32)(j0);
     i1 = l46;
-    i32_store16(j0 + 176, i1);
+    i32_store16(j0 + 160, i1);
     j0 = l6;
     i0 = (u32)(j0);
     i1 = 0u;
-    i32_store8(j0 + 169, i1);
+    i32_store8(j0 + 153, i1);
     j0 = l6;
     i0 = (u32)(j0);
     i1 = l41;
-    i32_store8(j0 + 168, i1);
+    i32_store8(j0 + 152, i1);
     j0 = l6;
     i0 = (u32)(j0);
     j1 = l30;
-    i64_store(j0 + 216, j1);
+    i64_store(j0 + 200, j1);
     j0 = l6;
     i0 = (u32)(j0);
     j1 = l29;
-    i64_store(j0 + 208, j1);
+    i64_store(j0 + 192, j1);
     j0 = l6;
     i0 = (u32)(j0);
     i1 = l44;
@@ -92277,7 +93208,7 @@ static void f91(module *self, u64 p0, u64 p1, u64 p2, u64 p3, u64 p4, u64 p5) {
     i3 = 255u;
     i2 &= i3;
     i1 |= i2;
-    i32_store16(j0 + 184, i1);
+    i32_store16(j0 + 168, i1);
     i0 = l39;
     i1 = 65280u;
     i0 &= i1;
@@ -92309,11 +93240,11 @@ static void f91(module *self, u64 p0, u64 p1, u64 p2, u64 p3, u64 p4, u64 p5) {
     if (i0) {goto B7;}
     j0 = l6;
     i0 = (u32)(j0);
-    j0 = i64_load(j0 + 200u);
+    j0 = i64_load(j0 + 184u);
     p4 = j0;
     j0 = l6;
     i0 = (u32)(j0);
-    j0 = i64_load(j0 + 192u);
+    j0 = i64_load(j0 + 176u);
     l28 = j0;
     j0 = l29;
     l22 = j0;
@@ -92350,29 +93281,37 @@ static void f91(module *self, u64 p0, u64 p1, u64 p2, u64 p3, u64 p4, u64 p5) {
     B5:;
     j0 = l6;
     i0 = (u32)(j0);
-    j0 = i64_load(j0 + 200u);
+    j0 = i64_load(j0 + 184u);
     p4 = j0;
     j0 = l6;
     i0 = (u32)(j0);
-    j0 = i64_load(j0 + 192u);
+    j0 = i64_load(j0 + 176u);
     l28 = j0;
     B4:;
+    j0 = l6;
+    i0 = (u32)(j0);
+    j1 = 0ull;
+    i64_store(j0 + 88, j1);
+    j0 = l6;
+    i0 = (u32)(j0);
+    j1 = 0ull;
+    i64_store(j0 + 96, j1);
     j0 = l6;
     i0 = (u32)(j0);
     j1 = 0ull;
     i64_store(j0 + 104, j1);
     j0 = l6;
     i0 = (u32)(j0);
-    j1 = 0ull;
-    i64_store(j0 + 112, j1);
-    j0 = l6;
-    i0 = (u32)(j0);
-    j1 = 0ull;
-    i64_store(j0 + 120, j1);
-    j0 = l6;
-    i0 = (u32)(j0);
     i1 = 0u;
-    i32_store(j0 + 440, i1);
+    i32_store(j0 + 424, i1);
+    j0 = l6;
+    i0 = (u32)(j0);
+    j1 = 0ull;
+    i64_store(j0 + 152, j1);
+    j0 = l6;
+    i0 = (u32)(j0);
+    j1 = 0ull;
+    i64_store(j0 + 160, j1);
     j0 = l6;
     i0 = (u32)(j0);
     j1 = 0ull;
@@ -92383,20 +93322,12 @@ static void f91(module *self, u64 p0, u64 p1, u64 p2, u64 p3, u64 p4, u64 p5) {
     i64_store(j0 + 176, j1);
     j0 = l6;
     i0 = (u32)(j0);
-    j1 = 0ull;
-    i64_store(j0 + 184, j1);
-    j0 = l6;
-    i0 = (u32)(j0);
-    j1 = 0ull;
-    i64_store(j0 + 192, j1);
+    i1 = 0u;
+    i32_store(j0 + 48, i1);
     j0 = l6;
     i0 = (u32)(j0);
     i1 = 0u;
-    i32_store(j0 + 64, i1);
-    j0 = l6;
-    i0 = (u32)(j0);
-    i1 = 0u;
-    i32_store16(j0 + 68, i1);
+    i32_store16(j0 + 52, i1);
     i0 = l40;
     i1 = 16u;
     i0 >>= (i1 & 31);
@@ -92510,27 +93441,25 @@ static void f91(module *self, u64 p0, u64 p1, u64 p2, u64 p3, u64 p4, u64 p5) {
     l46 = i0;
     B98:;
     j0 = l6;
-    j1 = 8ull;
-    j0 += j1;
     j1 = p3;
     i2 = l46;
     i3 = l40;
-    f43(self, j0, j1, i2, i3);
+    f44(self, j0, j1, i2, i3);
     j0 = l6;
     i0 = (u32)(j0);
-    i0 = i32_load8_u(j0 + 8u);
+    i0 = i32_load8_u(j0);
     i1 = 1u;
     i0 &= i1;
     i0 = !(i0);
     if (i0) {goto B86;}
     j0 = l6;
     i0 = (u32)(j0);
-    i0 = i32_load8_u(j0 + 9u);
+    i0 = i32_load8_u(j0 + 1u);
     l40 = i0;
     goto B80;
     B96:;
     j0 = l6;
-    j1 = 16ull;
+    j1 = 8ull;
     j0 += j1;
     j1 = p3;
     i2 = l38;
@@ -92547,22 +93476,22 @@ static void f91(module *self, u64 p0, u64 p1, u64 p2, u64 p3, u64 p4, u64 p5) {
     i5 = 255u;
     i4 &= i5;
     i3 |= i4;
-    f68(self, j0, j1, i2, i3);
+    f71(self, j0, j1, i2, i3);
     j0 = l6;
     i0 = (u32)(j0);
-    i0 = i32_load8_u(j0 + 16u);
+    i0 = i32_load8_u(j0 + 8u);
     i1 = 1u;
     i0 &= i1;
     i0 = !(i0);
     if (i0) {goto B86;}
     j0 = l6;
     i0 = (u32)(j0);
-    i0 = i32_load8_u(j0 + 17u);
+    i0 = i32_load8_u(j0 + 9u);
     l40 = i0;
     goto B80;
     B95:;
     j0 = l6;
-    j1 = 440ull;
+    j1 = 424ull;
     j0 += j1;
     j1 = p3;
     i2 = l38;
@@ -92572,14 +93501,14 @@ static void f91(module *self, u64 p0, u64 p1, u64 p2, u64 p3, u64 p4, u64 p5) {
     i4 = 255u;
     i3 &= i4;
     i2 |= i3;
-    f52(self, j0, j1, i2); if (NEVER(self->is_broken)) return;
+    f55(self, j0, j1, i2); if (NEVER(self->is_broken)) return;
     j0 = l6;
     i0 = (u32)(j0);
-    i0 = i32_load8_u(j0 + 440u);
+    i0 = i32_load8_u(j0 + 424u);
     if (i0) {goto B101;}
     j0 = l6;
     i0 = (u32)(j0);
-    i0 = i32_load16_u(j0 + 442u);
+    i0 = i32_load16_u(j0 + 426u);
     l40 = i0;
     i1 = 12u;
     i0 >>= (i1 & 31);
@@ -92592,7 +93521,7 @@ static void f91(module *self, u64 p0, u64 p1, u64 p2, u64 p3, u64 p4, u64 p5) {
     B101:;
     j0 = l6;
     i0 = (u32)(j0);
-    i0 = i32_load8_u(j0 + 441u);
+    i0 = i32_load8_u(j0 + 425u);
     l40 = i0;
     goto B80;
     B94:;
@@ -92645,7 +93574,7 @@ static void f91(module *self, u64 p0, u64 p1, u64 p2, u64 p3, u64 p4, u64 p5) {
     i1 = (u32)(j1);
     i1 = i32_load8_u(j1);
     i2 = l45;
-    i0 = f45(self, j0, i1, i2);
+    i0 = f46(self, j0, i1, i2);
     l38 = i0;
     j0 = p3;
     j1 = 68ull;
@@ -92728,31 +93657,291 @@ static void f91(module *self, u64 p0, u64 p1, u64 p2, u64 p3, u64 p4, u64 p5) {
     i32_store(j0, i1);
     goto B86;
     B93:;
-    j0 = l6;
-    j1 = 32ull;
+    i0 = l40;
+    i1 = 4294967295u;
+    i0 = i0 == i1;
+    if (i0) {goto B82;}
+    j0 = p3;
+    j1 = 2003ull;
     j0 += j1;
-    j1 = p3;
-    i2 = l40;
-    i3 = l44;
-    i4 = 8u;
-    i3 <<= (i4 & 31);
-    i4 = l45;
-    i5 = 255u;
-    i4 &= i5;
-    i3 |= i4;
-    f79(self, j0, j1, i2, i3);
-    j0 = l6;
     i0 = (u32)(j0);
-    i0 = i32_load8_u(j0 + 32u);
+    i0 = i32_load8_u(j0);
+    i1 = 2u;
+    i0 &= i1;
+    i0 = !(i0);
+    if (i0) {goto B82;}
+    i0 = l40;
+    j1 = p3;
+    j2 = 60ull;
+    j1 += j2;
+    i1 = (u32)(j1);
+    i1 = i32_load(j1);
+    l46 = i1;
+    i0 = i0 < i1;
+    if (i0) {goto B82;}
+    i0 = l40;
+    j1 = p3;
+    j2 = 64ull;
+    j1 += j2;
+    i1 = (u32)(j1);
+    i1 = i32_load(j1);
+    l38 = i1;
+    i2 = l46;
+    i1 += i2;
+    l39 = i1;
+    i0 = i0 >= i1;
+    if (i0) {goto B82;}
+    i0 = l40;
+    i1 = 1u;
+    i0 += i1;
+    l41 = i0;
+    i1 = l39;
+    i0 = i0 >= i1;
+    if (i0) {goto B82;}
+    i0 = l40;
+    i1 = l46;
+    i0 -= i1;
+    l40 = i0;
+    i1 = l38;
+    i0 = i0 >= i1;
+    if (i0) {goto B82;}
+    j0 = p3;
+    j1 = 71ull;
+    j0 += j1;
+    i0 = (u32)(j0);
+    i0 = i32_load8_u(j0);
+    l46 = i0;
+    j0 = p3;
+    j1 = 70ull;
+    j0 += j1;
+    i0 = (u32)(j0);
+    i0 = i32_load8_u(j0);
+    l42 = i0;
+    j0 = p3;
+    j1 = 69ull;
+    j0 += j1;
+    i0 = (u32)(j0);
+    i0 = i32_load8_u(j0);
+    l39 = i0;
+    j0 = p3;
+    j1 = p3;
+    j2 = 72ull;
+    j1 += j2;
+    i1 = (u32)(j1);
+    i1 = i32_load8_u(j1);
+    i2 = l45;
+    i0 = f46(self, j0, i1, i2);
+    l38 = i0;
+    j0 = p3;
+    j1 = 68ull;
+    j0 += j1;
+    i0 = (u32)(j0);
+    i0 = i32_load8_u(j0);
+    l45 = i0;
     i1 = 1u;
     i0 &= i1;
     i0 = !(i0);
-    if (i0) {goto B86;}
-    j0 = l6;
+    if (i0) {goto B105;}
+    i0 = 134480385u;
+    i1 = l40;
+    i2 = 3u;
+    i1 <<= (i2 & 31);
+    i0 >>= (i1 & 31);
+    l42 = i0;
+    goto B104;
+    B105:;
+    i0 = 15u;
+    i1 = 10u;
+    i2 = 5u;
+    i3 = l40;
+    i4 = 1u;
+    i3 &= i4;
+    i1 = i3 ? i1 : i2;
+    i2 = l42;
+    i3 = 1u;
+    i2 &= i3;
+    i0 = i2 ? i0 : i1;
+    l42 = i0;
+    B104:;
+    j0 = p3;
     i0 = (u32)(j0);
-    i0 = i32_load8_u(j0 + 33u);
+    j0 = i64_load(j0);
+    i1 = l40;
+    i2 = 65532u;
+    i1 &= i2;
+    i2 = l40;
+    i3 = 65534u;
+    i2 &= i3;
+    i3 = l40;
+    i4 = l39;
+    i5 = 1u;
+    i4 &= i5;
+    i2 = i4 ? i2 : i3;
+    i3 = l45;
+    i4 = 1u;
+    i3 &= i4;
+    i1 = i3 ? i1 : i2;
+    j1 = (u64)(i1);
+    j2 = 65535ull;
+    j1 &= j2;
+    j2 = 2ull;
+    j1 <<= (j2 & 63);
+    j0 += j1;
+    p4 = j0;
+    i0 = (u32)(j0);
+    i1 = l38;
+    j2 = p4;
+    i2 = (u32)(j2);
+    i2 = i32_load(j2);
+    l40 = i2;
+    i1 ^= i2;
+    i2 = l42;
+    i3 = l46;
+    i2 &= i3;
+    i3 = 2u;
+    i2 <<= (i3 & 31);
+    j2 = (u64)(i2);
+    j3 = 60ull;
+    j2 &= j3;
+    j3 = 1048844ull;
+    j2 += j3;
+    i2 = (u32)(j2);
+    i2 = i32_load(j2);
+    i1 &= i2;
+    i2 = l40;
+    i1 ^= i2;
+    i32_store(j0, i1);
+    j0 = p3;
+    j1 = 2003ull;
+    j0 += j1;
+    i0 = (u32)(j0);
+    i0 = i32_load8_u(j0);
+    i1 = 2u;
+    i0 &= i1;
+    i0 = !(i0);
+    if (i0) {goto B82;}
+    i0 = l41;
+    j1 = p3;
+    j2 = 60ull;
+    j1 += j2;
+    i1 = (u32)(j1);
+    i1 = i32_load(j1);
+    i0 -= i1;
     l40 = i0;
-    goto B80;
+    j1 = p3;
+    j2 = 64ull;
+    j1 += j2;
+    i1 = (u32)(j1);
+    i1 = i32_load(j1);
+    i0 = i0 >= i1;
+    if (i0) {goto B82;}
+    j0 = p3;
+    j1 = 71ull;
+    j0 += j1;
+    i0 = (u32)(j0);
+    i0 = i32_load8_u(j0);
+    l46 = i0;
+    j0 = p3;
+    j1 = 70ull;
+    j0 += j1;
+    i0 = (u32)(j0);
+    i0 = i32_load8_u(j0);
+    l41 = i0;
+    j0 = p3;
+    j1 = 69ull;
+    j0 += j1;
+    i0 = (u32)(j0);
+    i0 = i32_load8_u(j0);
+    l39 = i0;
+    j0 = p3;
+    j1 = p3;
+    j2 = 72ull;
+    j1 += j2;
+    i1 = (u32)(j1);
+    i1 = i32_load8_u(j1);
+    i2 = l44;
+    i0 = f46(self, j0, i1, i2);
+    l38 = i0;
+    j0 = p3;
+    j1 = 68ull;
+    j0 += j1;
+    i0 = (u32)(j0);
+    i0 = i32_load8_u(j0);
+    l45 = i0;
+    i1 = 1u;
+    i0 &= i1;
+    i0 = !(i0);
+    if (i0) {goto B107;}
+    i0 = 134480385u;
+    i1 = l40;
+    i2 = 3u;
+    i1 <<= (i2 & 31);
+    i0 >>= (i1 & 31);
+    l44 = i0;
+    goto B106;
+    B107:;
+    i0 = 15u;
+    i1 = 10u;
+    i2 = 5u;
+    i3 = l40;
+    i4 = 1u;
+    i3 &= i4;
+    i1 = i3 ? i1 : i2;
+    i2 = l41;
+    i3 = 1u;
+    i2 &= i3;
+    i0 = i2 ? i0 : i1;
+    l44 = i0;
+    B106:;
+    j0 = p3;
+    i0 = (u32)(j0);
+    j0 = i64_load(j0);
+    i1 = l40;
+    i2 = 65532u;
+    i1 &= i2;
+    i2 = l40;
+    i3 = 65534u;
+    i2 &= i3;
+    i3 = l40;
+    i4 = l39;
+    i5 = 1u;
+    i4 &= i5;
+    i2 = i4 ? i2 : i3;
+    i3 = l45;
+    i4 = 1u;
+    i3 &= i4;
+    i1 = i3 ? i1 : i2;
+    j1 = (u64)(i1);
+    j2 = 65535ull;
+    j1 &= j2;
+    j2 = 2ull;
+    j1 <<= (j2 & 63);
+    j0 += j1;
+    p4 = j0;
+    i0 = (u32)(j0);
+    i1 = l38;
+    j2 = p4;
+    i2 = (u32)(j2);
+    i2 = i32_load(j2);
+    l40 = i2;
+    i1 ^= i2;
+    i2 = l44;
+    i3 = l46;
+    i2 &= i3;
+    i3 = 2u;
+    i2 <<= (i3 & 31);
+    j2 = (u64)(i2);
+    j3 = 60ull;
+    j2 &= j3;
+    j3 = 1048844ull;
+    j2 += j3;
+    i2 = (u32)(j2);
+    i2 = i32_load(j2);
+    i1 &= i2;
+    i2 = l40;
+    i1 ^= i2;
+    i32_store(j0, i1);
+    goto B86;
     B92:;
     i0 = l40;
     i1 = 4294967295u;
@@ -92795,32 +93984,32 @@ static void f91(module *self, u64 p0, u64 p1, u64 p2, u64 p3, u64 p4, u64 p5) {
     i0 = i0 >= i1;
     if (i0) {goto B82;}
     j0 = l6;
-    j1 = 56ull;
+    j1 = 40ull;
     j0 += j1;
     j1 = p3;
     i2 = l40;
-    f33(self, j0, j1, i2);
+    f34(self, j0, j1, i2);
     j0 = l6;
     i0 = (u32)(j0);
-    i0 = i32_load8_u(j0 + 57u);
+    i0 = i32_load8_u(j0 + 41u);
     l40 = i0;
     j0 = l6;
     i0 = (u32)(j0);
-    i0 = i32_load8_u(j0 + 56u);
+    i0 = i32_load8_u(j0 + 40u);
     if (i0) {goto B80;}
     j0 = l6;
-    j1 = 48ull;
+    j1 = 32ull;
     j0 += j1;
     j1 = p3;
     i2 = l39;
-    f33(self, j0, j1, i2);
+    f34(self, j0, j1, i2);
     j0 = l6;
     i0 = (u32)(j0);
-    i0 = i32_load8_u(j0 + 49u);
+    i0 = i32_load8_u(j0 + 33u);
     l39 = i0;
     j0 = l6;
     i0 = (u32)(j0);
-    i0 = i32_load8_u(j0 + 48u);
+    i0 = i32_load8_u(j0 + 32u);
     i0 = !(i0);
     if (i0) {goto B84;}
     i0 = l39;
@@ -92828,7 +94017,7 @@ static void f91(module *self, u64 p0, u64 p1, u64 p2, u64 p3, u64 p4, u64 p5) {
     goto B80;
     B91:;
     j0 = l6;
-    j1 = 104ull;
+    j1 = 88ull;
     j0 += j1;
     j1 = p1;
     j2 = p2;
@@ -92868,7 +94057,7 @@ static void f91(module *self, u64 p0, u64 p1, u64 p2, u64 p3, u64 p4, u64 p5) {
     j4 |= j5;
     j5 = l28;
     j6 = p4;
-    f83(self, j0, j1, j2, j3, j4, j5, j6); m = self->memory; if (NEVER(self->is_broken)) return;
+    f86(self, j0, j1, j2, j3, j4, j5, j6); m = self->memory; if (NEVER(self->is_broken)) return;
     goto B78;
     B90:;
     i0 = l40;
@@ -92888,33 +94077,33 @@ static void f91(module *self, u64 p0, u64 p1, u64 p2, u64 p3, u64 p4, u64 p5) {
     j0 = i64_load(j0);
     p4 = j0;
     j0 = l6;
-    j1 = 168ull;
+    j1 = 152ull;
     j0 += j1;
     j1 = p3;
-    f50(self, j0, j1); m = self->memory; if (NEVER(self->is_broken)) return;
+    f51(self, j0, j1); m = self->memory; if (NEVER(self->is_broken)) return;
     j0 = l6;
-    j1 = 104ull;
+    j1 = 88ull;
     j0 += j1;
     j1 = p1;
     j2 = p4;
     j3 = l6;
-    j4 = 168ull;
+    j4 = 152ull;
     j3 += j4;
-    f86(self, j0, j1, j2, j3); m = self->memory; if (NEVER(self->is_broken)) return;
+    f89(self, j0, j1, j2, j3); m = self->memory; if (NEVER(self->is_broken)) return;
     goto B78;
     B88:;
     j0 = l6;
     i0 = (u32)(j0);
     i1 = l41;
-    i32_store16(j0 + 68, i1);
+    i32_store16(j0 + 52, i1);
     j0 = l6;
     i0 = (u32)(j0);
     i1 = l38;
-    i32_store8(j0 + 65, i1);
+    i32_store8(j0 + 49, i1);
     j0 = l6;
     i0 = (u32)(j0);
     i1 = l39;
-    i32_store8(j0 + 64, i1);
+    i32_store8(j0 + 48, i1);
     j0 = l6;
     i0 = (u32)(j0);
     i1 = l42;
@@ -92924,9 +94113,9 @@ static void f91(module *self, u64 p0, u64 p1, u64 p2, u64 p3, u64 p4, u64 p5) {
     i3 = 255u;
     i2 &= i3;
     i1 |= i2;
-    i32_store16(j0 + 66, i1);
+    i32_store16(j0 + 50, i1);
     j0 = l6;
-    j1 = 104ull;
+    j1 = 88ull;
     j0 += j1;
     j1 = p1;
     j2 = p2;
@@ -92934,9 +94123,9 @@ static void f91(module *self, u64 p0, u64 p1, u64 p2, u64 p3, u64 p4, u64 p5) {
     j2 = i64_load(j2);
     j3 = p3;
     j4 = l6;
-    j5 = 64ull;
+    j5 = 48ull;
     j4 += j5;
-    f87(self, j0, j1, j2, j3, j4); m = self->memory; if (NEVER(self->is_broken)) return;
+    f90(self, j0, j1, j2, j3, j4); m = self->memory; if (NEVER(self->is_broken)) return;
     goto B78;
     B87:;
     j0 = p3;
@@ -92958,7 +94147,7 @@ static void f91(module *self, u64 p0, u64 p1, u64 p2, u64 p3, u64 p4, u64 p5) {
     j2 = 3ull;
     j1 += j2;
     i0 = j0 != j1;
-    if (i0) {goto B104;}
+    if (i0) {goto B108;}
     j0 = l7;
     j1 = p4;
     j0 += j1;
@@ -92973,21 +94162,21 @@ static void f91(module *self, u64 p0, u64 p1, u64 p2, u64 p3, u64 p4, u64 p5) {
     i1 = 10u;
     i32_store8(j0, i1);
     goto B74;
-    B104:;
+    B108:;
     j0 = l27;
     j1 = p4;
     i0 = j0 > j1;
-    if (i0) {goto B106;}
+    if (i0) {goto B110;}
     j0 = l27;
     p4 = j0;
-    goto B105;
-    B106:;
+    goto B109;
+    B110:;
     j0 = l27;
     j1 = p4;
     j0 -= j1;
     l27 = j0;
     i0 = !(j0);
-    if (i0) {goto B107;}
+    if (i0) {goto B111;}
     j0 = l7;
     j1 = p4;
     j0 += j1;
@@ -92996,14 +94185,14 @@ static void f91(module *self, u64 p0, u64 p1, u64 p2, u64 p3, u64 p4, u64 p5) {
     j2 = l27;
     i2 = (u32)(j2);
     memory_fill(j0, i1, j2);
-    B107:;
+    B111:;
     j0 = p2;
     j1 = 64ull;
     j0 += j1;
     i0 = (u32)(j0);
     j1 = p4;
     i64_store(j0, j1);
-    B105:;
+    B109:;
     j0 = p4;
     j1 = 18446744073709551566ull;
     j0 += j1;
@@ -93036,18 +94225,18 @@ static void f91(module *self, u64 p0, u64 p1, u64 p2, u64 p3, u64 p4, u64 p5) {
     goto B74;
     B85:;
     j0 = l6;
-    j1 = 40ull;
+    j1 = 24ull;
     j0 += j1;
     j1 = p3;
     i2 = l40;
-    f33(self, j0, j1, i2);
+    f34(self, j0, j1, i2);
     j0 = l6;
     i0 = (u32)(j0);
-    i0 = i32_load8_u(j0 + 41u);
+    i0 = i32_load8_u(j0 + 25u);
     l40 = i0;
     j0 = l6;
     i0 = (u32)(j0);
-    i0 = i32_load8_u(j0 + 40u);
+    i0 = i32_load8_u(j0 + 24u);
     i1 = 1u;
     i0 &= i1;
     if (i0) {goto B80;}
@@ -93073,17 +94262,17 @@ static void f91(module *self, u64 p0, u64 p1, u64 p2, u64 p3, u64 p4, u64 p5) {
     j1 = i64_load(j1);
     p4 = j1;
     i0 = j0 > j1;
-    if (i0) {goto B109;}
+    if (i0) {goto B113;}
     j0 = l27;
     p4 = j0;
-    goto B108;
-    B109:;
+    goto B112;
+    B113:;
     j0 = l27;
     j1 = p4;
     j0 -= j1;
     l27 = j0;
     i0 = !(j0);
-    if (i0) {goto B110;}
+    if (i0) {goto B114;}
     j0 = l7;
     j1 = p4;
     j0 += j1;
@@ -93092,20 +94281,20 @@ static void f91(module *self, u64 p0, u64 p1, u64 p2, u64 p3, u64 p4, u64 p5) {
     j2 = l27;
     i2 = (u32)(j2);
     memory_fill(j0, i1, j2);
-    B110:;
+    B114:;
     j0 = p2;
     j1 = 64ull;
     j0 += j1;
     i0 = (u32)(j0);
     j1 = p4;
     i64_store(j0, j1);
-    B108:;
+    B112:;
     j0 = p4;
     j1 = 18446744073709551567ull;
     j0 += j1;
     j1 = 4ull;
     i0 = j0 < j1;
-    if (i0) {goto B111;}
+    if (i0) {goto B115;}
     j0 = l7;
     j1 = p4;
     j0 += j1;
@@ -93181,7 +94370,7 @@ static void f91(module *self, u64 p0, u64 p1, u64 p2, u64 p3, u64 p4, u64 p5) {
     j1 += j2;
     p4 = j1;
     i64_store(j0, j1);
-    B111:;
+    B115:;
     j0 = p4;
     j1 = 52ull;
     i0 = j0 == j1;
@@ -93212,7 +94401,7 @@ static void f91(module *self, u64 p0, u64 p1, u64 p2, u64 p3, u64 p4, u64 p5) {
     goto B76;
     B81:;
     j0 = l6;
-    j1 = 24ull;
+    j1 = 16ull;
     j0 += j1;
     j1 = p3;
     i2 = l38;
@@ -93222,14 +94411,14 @@ static void f91(module *self, u64 p0, u64 p1, u64 p2, u64 p3, u64 p4, u64 p5) {
     i4 = 255u;
     i3 &= i4;
     i2 |= i3;
-    f25(self, j0, j1, i2); if (NEVER(self->is_broken)) return;
+    f26(self, j0, j1, i2); if (NEVER(self->is_broken)) return;
     j0 = l6;
     i0 = (u32)(j0);
-    i0 = i32_load8_u(j0 + 25u);
+    i0 = i32_load8_u(j0 + 17u);
     l40 = i0;
     j0 = l6;
     i0 = (u32)(j0);
-    i0 = i32_load8_u(j0 + 24u);
+    i0 = i32_load8_u(j0 + 16u);
     i1 = 1u;
     i0 &= i1;
     i0 = !(i0);
@@ -93252,81 +94441,81 @@ static void f91(module *self, u64 p0, u64 p1, u64 p2, u64 p3, u64 p4, u64 p5) {
     i0 = (u32)(j0);
     switch (i0) {
       case 0: goto B75;
-      case 1: goto B122;
-      case 2: goto B121;
-      case 3: goto B120;
-      case 4: goto B119;
-      case 5: goto B118;
-      case 6: goto B117;
-      case 7: goto B116;
-      case 8: goto B115;
-      case 9: goto B114;
-      case 10: goto B113;
+      case 1: goto B126;
+      case 2: goto B125;
+      case 3: goto B124;
+      case 4: goto B123;
+      case 5: goto B122;
+      case 6: goto B121;
+      case 7: goto B120;
+      case 8: goto B119;
+      case 9: goto B118;
+      case 10: goto B117;
       case 11: goto B77;
-      case 12: goto B112;
+      case 12: goto B116;
       default: goto B75;
     }
-    B122:;
+    B126:;
     j0 = 1049389ull;
     l32 = j0;
     j0 = 15ull;
     l33 = j0;
     goto B75;
-    B121:;
+    B125:;
     j0 = 1049404ull;
     l32 = j0;
     j0 = 9ull;
     l33 = j0;
     goto B75;
-    B120:;
+    B124:;
     j0 = 1049413ull;
     l32 = j0;
     j0 = 14ull;
     l33 = j0;
     goto B75;
-    B119:;
+    B123:;
     j0 = 1049427ull;
     l32 = j0;
     j0 = 10ull;
     l33 = j0;
     goto B75;
-    B118:;
+    B122:;
     j0 = 1049437ull;
     l32 = j0;
     j0 = 12ull;
     l33 = j0;
     goto B75;
-    B117:;
+    B121:;
     j0 = 1049449ull;
     l32 = j0;
     j0 = 10ull;
     l33 = j0;
     goto B75;
-    B116:;
+    B120:;
     j0 = 1049459ull;
     l32 = j0;
     j0 = 10ull;
     l33 = j0;
     goto B75;
-    B115:;
+    B119:;
     j0 = 1049469ull;
     l32 = j0;
     j0 = 12ull;
     l33 = j0;
     goto B75;
-    B114:;
+    B118:;
     j0 = 1049481ull;
     l32 = j0;
     j0 = 15ull;
     l33 = j0;
     goto B75;
-    B113:;
+    B117:;
     j0 = 1049496ull;
     l32 = j0;
     j0 = 12ull;
     l33 = j0;
     goto B75;
-    B112:;
+    B116:;
     j0 = 1049518ull;
     l32 = j0;
     goto B75;
@@ -93377,7 +94566,7 @@ static void f91(module *self, u64 p0, u64 p1, u64 p2, u64 p3, u64 p4, u64 p5) {
     j2 = 3ull;
     j1 += j2;
     i0 = j0 != j1;
-    if (i0) {goto B123;}
+    if (i0) {goto B127;}
     j0 = l7;
     j1 = p4;
     j0 += j1;
@@ -93398,21 +94587,21 @@ static void f91(module *self, u64 p0, u64 p1, u64 p2, u64 p3, u64 p4, u64 p5) {
     i1 = l39;
     i32_store8(j0, i1);
     goto B74;
-    B123:;
+    B127:;
     j0 = l27;
     j1 = p4;
     i0 = j0 > j1;
-    if (i0) {goto B125;}
+    if (i0) {goto B129;}
     j0 = l27;
     p4 = j0;
-    goto B124;
-    B125:;
+    goto B128;
+    B129:;
     j0 = l27;
     j1 = p4;
     j0 -= j1;
     l27 = j0;
     i0 = !(j0);
-    if (i0) {goto B126;}
+    if (i0) {goto B130;}
     j0 = l7;
     j1 = p4;
     j0 += j1;
@@ -93421,14 +94610,14 @@ static void f91(module *self, u64 p0, u64 p1, u64 p2, u64 p3, u64 p4, u64 p5) {
     j2 = l27;
     i2 = (u32)(j2);
     memory_fill(j0, i1, j2);
-    B126:;
+    B130:;
     j0 = p2;
     j1 = 64ull;
     j0 += j1;
     i0 = (u32)(j0);
     j1 = p4;
     i64_store(j0, j1);
-    B124:;
+    B128:;
     j0 = p4;
     j1 = 18446744073709551566ull;
     j0 += j1;
@@ -93462,15 +94651,15 @@ static void f91(module *self, u64 p0, u64 p1, u64 p2, u64 p3, u64 p4, u64 p5) {
     B78:;
     j0 = l6;
     i0 = (u32)(j0);
-    j0 = i64_load(j0 + 120u);
+    j0 = i64_load(j0 + 104u);
     p4 = j0;
     j0 = l6;
     i0 = (u32)(j0);
-    i0 = i32_load8_u(j0 + 112u);
+    i0 = i32_load8_u(j0 + 96u);
     l46 = i0;
     j0 = l6;
     i0 = (u32)(j0);
-    i0 = i32_load8_u(j0 + 104u);
+    i0 = i32_load8_u(j0 + 88u);
     l40 = i0;
     goto B72;
     B77:;
@@ -93495,7 +94684,7 @@ static void f91(module *self, u64 p0, u64 p1, u64 p2, u64 p3, u64 p4, u64 p5) {
     j1 = i64_load(j1);
     p4 = j1;
     i0 = j0 != j1;
-    if (i0) {goto B129;}
+    if (i0) {goto B133;}
     j0 = l7;
     j1 = l31;
     j0 += j1;
@@ -93504,7 +94693,7 @@ static void f91(module *self, u64 p0, u64 p1, u64 p2, u64 p3, u64 p4, u64 p5) {
     j0 -= j1;
     j1 = l33;
     i0 = j0 >= j1;
-    if (i0) {goto B130;}
+    if (i0) {goto B134;}
     j0 = l8;
     j1 = l31;
     j0 += j1;
@@ -93527,7 +94716,7 @@ static void f91(module *self, u64 p0, u64 p1, u64 p2, u64 p3, u64 p4, u64 p5) {
     l31 = j0;
     j0 = 0ull;
     p4 = j0;
-    L131: 
+    L135: 
       j0 = l34;
       j1 = p4;
       j0 += j1;
@@ -93588,11 +94777,11 @@ static void f91(module *self, u64 p0, u64 p1, u64 p2, u64 p3, u64 p4, u64 p5) {
       j1 += j2;
       p4 = j1;
       i0 = j0 != j1;
-      if (i0) {goto L131;}
+      if (i0) {goto L135;}
     j0 = l31;
     i0 = !(j0);
-    if (i0) {goto B128;}
-    L132: 
+    if (i0) {goto B132;}
+    L136: 
       j0 = l27;
       i0 = (u32)(j0);
       j1 = l28;
@@ -93613,13 +94802,13 @@ static void f91(module *self, u64 p0, u64 p1, u64 p2, u64 p3, u64 p4, u64 p5) {
       l31 = j0;
       j1 = 0ull;
       i0 = j0 != j1;
-      if (i0) {goto L132;}
-      goto B128;
+      if (i0) {goto L136;}
+      goto B132;
     { self->is_broken = true; return; }
-    B130:;
+    B134:;
     j0 = l33;
     i0 = !(j0);
-    if (i0) {goto B128;}
+    if (i0) {goto B132;}
     j0 = p4;
     i0 = (u32)(j0);
     j1 = l32;
@@ -93627,22 +94816,22 @@ static void f91(module *self, u64 p0, u64 p1, u64 p2, u64 p3, u64 p4, u64 p5) {
     j2 = l33;
     i2 = (u32)(j2);
     memory_copy(j0, j1, j2);
-    goto B128;
-    B129:;
+    goto B132;
+    B133:;
     j0 = p4;
     j1 = l31;
     i0 = j0 > j1;
-    if (i0) {goto B134;}
+    if (i0) {goto B138;}
     j0 = p4;
     l31 = j0;
-    goto B133;
-    B134:;
+    goto B137;
+    B138:;
     j0 = p4;
     j1 = l31;
     j0 -= j1;
     p4 = j0;
     i0 = !(j0);
-    if (i0) {goto B135;}
+    if (i0) {goto B139;}
     j0 = l7;
     j1 = l31;
     j0 += j1;
@@ -93651,20 +94840,20 @@ static void f91(module *self, u64 p0, u64 p1, u64 p2, u64 p3, u64 p4, u64 p5) {
     j2 = p4;
     i2 = (u32)(j2);
     memory_fill(j0, i1, j2);
-    B135:;
+    B139:;
     j0 = p2;
     j1 = 64ull;
     j0 += j1;
     i0 = (u32)(j0);
     j1 = l31;
     i64_store(j0, j1);
-    B133:;
+    B137:;
     j0 = 52ull;
     j1 = l31;
     j0 -= j1;
     j1 = l33;
     i0 = j0 < j1;
-    if (i0) {goto B128;}
+    if (i0) {goto B132;}
     j0 = l7;
     j1 = l31;
     j0 += j1;
@@ -93673,7 +94862,7 @@ static void f91(module *self, u64 p0, u64 p1, u64 p2, u64 p3, u64 p4, u64 p5) {
     j0 -= j1;
     j1 = l33;
     i0 = j0 >= j1;
-    if (i0) {goto B137;}
+    if (i0) {goto B141;}
     j0 = l8;
     j1 = l31;
     j0 += j1;
@@ -93696,7 +94885,7 @@ static void f91(module *self, u64 p0, u64 p1, u64 p2, u64 p3, u64 p4, u64 p5) {
     l34 = j0;
     j0 = 0ull;
     p4 = j0;
-    L138: 
+    L142: 
       j0 = l35;
       j1 = p4;
       j0 += j1;
@@ -93757,11 +94946,11 @@ static void f91(module *self, u64 p0, u64 p1, u64 p2, u64 p3, u64 p4, u64 p5) {
       j1 += j2;
       p4 = j1;
       i0 = j0 != j1;
-      if (i0) {goto L138;}
+      if (i0) {goto L142;}
     j0 = l34;
     i0 = !(j0);
-    if (i0) {goto B136;}
-    L139: 
+    if (i0) {goto B140;}
+    L143: 
       j0 = l27;
       i0 = (u32)(j0);
       j1 = l28;
@@ -93782,13 +94971,13 @@ static void f91(module *self, u64 p0, u64 p1, u64 p2, u64 p3, u64 p4, u64 p5) {
       l34 = j0;
       j1 = 0ull;
       i0 = j0 != j1;
-      if (i0) {goto L139;}
-      goto B136;
+      if (i0) {goto L143;}
+      goto B140;
     { self->is_broken = true; return; }
-    B137:;
+    B141:;
     j0 = l33;
     i0 = !(j0);
-    if (i0) {goto B136;}
+    if (i0) {goto B140;}
     j0 = p4;
     i0 = (u32)(j0);
     j1 = l32;
@@ -93796,7 +94985,7 @@ static void f91(module *self, u64 p0, u64 p1, u64 p2, u64 p3, u64 p4, u64 p5) {
     j2 = l33;
     i2 = (u32)(j2);
     memory_copy(j0, j1, j2);
-    B136:;
+    B140:;
     j0 = p2;
     j1 = 64ull;
     j0 += j1;
@@ -93806,15 +94995,15 @@ static void f91(module *self, u64 p0, u64 p1, u64 p2, u64 p3, u64 p4, u64 p5) {
     j1 += j2;
     p4 = j1;
     i64_store(j0, j1);
-    goto B127;
-    B128:;
+    goto B131;
+    B132:;
     j0 = p2;
     j1 = 64ull;
     j0 += j1;
     i0 = (u32)(j0);
     j0 = i64_load(j0);
     p4 = j0;
-    B127:;
+    B131:;
     j0 = p4;
     j1 = 52ull;
     i0 = j0 == j1;
@@ -93848,28 +95037,28 @@ static void f91(module *self, u64 p0, u64 p1, u64 p2, u64 p3, u64 p4, u64 p5) {
     j0 = p4;
     j1 = 12ull;
     i0 = j0 > j1;
-    if (i0) {goto B142;}
+    if (i0) {goto B146;}
     i0 = 0u;
     l46 = i0;
     j0 = p4;
     i0 = (u32)(j0);
     switch (i0) {
-      case 0: goto B140;
-      case 1: goto B142;
-      case 2: goto B142;
-      case 3: goto B142;
-      case 4: goto B142;
-      case 5: goto B142;
-      case 6: goto B142;
-      case 7: goto B142;
-      case 8: goto B142;
-      case 9: goto B142;
-      case 10: goto B145;
-      case 11: goto B144;
-      case 12: goto B143;
-      default: goto B140;
+      case 0: goto B144;
+      case 1: goto B146;
+      case 2: goto B146;
+      case 3: goto B146;
+      case 4: goto B146;
+      case 5: goto B146;
+      case 6: goto B146;
+      case 7: goto B146;
+      case 8: goto B146;
+      case 9: goto B146;
+      case 10: goto B149;
+      case 11: goto B148;
+      case 12: goto B147;
+      default: goto B144;
     }
-    B145:;
+    B149:;
     j0 = p1;
     j1 = 16ull;
     j0 += j1;
@@ -93885,12 +95074,12 @@ static void f91(module *self, u64 p0, u64 p1, u64 p2, u64 p3, u64 p4, u64 p5) {
     j0 -= j1;
     j1 = 9ull;
     i0 = j0 > j1;
-    if (i0) {goto B147;}
+    if (i0) {goto B151;}
     j0 = p1;
     j1 = 10ull;
-    i0 = f85(self, j0, j1); m = self->memory; if (NEVER(self->is_broken)) return;
+    i0 = f88(self, j0, j1); m = self->memory; if (NEVER(self->is_broken)) return;
     i0 = !(i0);
-    if (i0) {goto B146;}
+    if (i0) {goto B150;}
     j0 = p1;
     j1 = 16ull;
     j0 += j1;
@@ -93903,7 +95092,7 @@ static void f91(module *self, u64 p0, u64 p1, u64 p2, u64 p3, u64 p4, u64 p5) {
     i0 = (u32)(j0);
     j0 = i64_load(j0);
     p4 = j0;
-    B147:;
+    B151:;
     j0 = l9;
     i0 = (u32)(j0);
     j1 = 0ull;
@@ -93927,7 +95116,7 @@ static void f91(module *self, u64 p0, u64 p1, u64 p2, u64 p3, u64 p4, u64 p5) {
     j0 -= j1;
     j1 = 9ull;
     i0 = j0 > j1;
-    if (i0) {goto B149;}
+    if (i0) {goto B153;}
     j0 = p4;
     i0 = (u32)(j0);
     j1 = p2;
@@ -94008,8 +95197,8 @@ static void f91(module *self, u64 p0, u64 p1, u64 p2, u64 p3, u64 p4, u64 p5) {
     i1 = (u32)(j1);
     i1 = i32_load8_u(j1);
     i32_store8(j0 + 9, i1);
-    goto B148;
-    B149:;
+    goto B152;
+    B153:;
     j0 = l7;
     i0 = (u32)(j0);
     j0 = i64_load(j0);
@@ -94024,7 +95213,7 @@ static void f91(module *self, u64 p0, u64 p1, u64 p2, u64 p3, u64 p4, u64 p5) {
     i0 = (u32)(j0);
     j1 = l30;
     i64_store(j0, j1);
-    B148:;
+    B152:;
     j0 = p1;
     i0 = (u32)(j0);
     j1 = l29;
@@ -94043,8 +95232,8 @@ static void f91(module *self, u64 p0, u64 p1, u64 p2, u64 p3, u64 p4, u64 p5) {
     i64_store(j0, j1);
     i0 = 0u;
     l46 = i0;
-    goto B140;
-    B146:;
+    goto B144;
+    B150:;
     i0 = 1u;
     l40 = i0;
     j0 = p1;
@@ -94053,8 +95242,8 @@ static void f91(module *self, u64 p0, u64 p1, u64 p2, u64 p3, u64 p4, u64 p5) {
     i0 = (u32)(j0);
     i1 = 1u;
     i32_store8(j0, i1);
-    goto B141;
-    B144:;
+    goto B145;
+    B148:;
     j0 = p1;
     j1 = 16ull;
     j0 += j1;
@@ -94070,12 +95259,12 @@ static void f91(module *self, u64 p0, u64 p1, u64 p2, u64 p3, u64 p4, u64 p5) {
     j0 -= j1;
     j1 = 10ull;
     i0 = j0 > j1;
-    if (i0) {goto B151;}
+    if (i0) {goto B155;}
     j0 = p1;
     j1 = 11ull;
-    i0 = f85(self, j0, j1); m = self->memory; if (NEVER(self->is_broken)) return;
+    i0 = f88(self, j0, j1); m = self->memory; if (NEVER(self->is_broken)) return;
     i0 = !(i0);
-    if (i0) {goto B150;}
+    if (i0) {goto B154;}
     j0 = p1;
     j1 = 16ull;
     j0 += j1;
@@ -94088,7 +95277,7 @@ static void f91(module *self, u64 p0, u64 p1, u64 p2, u64 p3, u64 p4, u64 p5) {
     i0 = (u32)(j0);
     j0 = i64_load(j0);
     p4 = j0;
-    B151:;
+    B155:;
     j0 = l9;
     i0 = (u32)(j0);
     j1 = 0ull;
@@ -94112,7 +95301,7 @@ static void f91(module *self, u64 p0, u64 p1, u64 p2, u64 p3, u64 p4, u64 p5) {
     j0 -= j1;
     j1 = 10ull;
     i0 = j0 > j1;
-    if (i0) {goto B153;}
+    if (i0) {goto B157;}
     j0 = p4;
     i0 = (u32)(j0);
     j1 = p2;
@@ -94201,8 +95390,8 @@ static void f91(module *self, u64 p0, u64 p1, u64 p2, u64 p3, u64 p4, u64 p5) {
     i1 = (u32)(j1);
     i1 = i32_load8_u(j1);
     i32_store8(j0 + 10, i1);
-    goto B152;
-    B153:;
+    goto B156;
+    B157:;
     j0 = l7;
     i0 = (u32)(j0);
     j0 = i64_load(j0);
@@ -94225,7 +95414,7 @@ static void f91(module *self, u64 p0, u64 p1, u64 p2, u64 p3, u64 p4, u64 p5) {
     i0 = (u32)(j0);
     j1 = l30;
     i64_store(j0, j1);
-    B152:;
+    B156:;
     j0 = p1;
     i0 = (u32)(j0);
     j1 = l29;
@@ -94244,8 +95433,8 @@ static void f91(module *self, u64 p0, u64 p1, u64 p2, u64 p3, u64 p4, u64 p5) {
     i64_store(j0, j1);
     i0 = 0u;
     l46 = i0;
-    goto B140;
-    B150:;
+    goto B144;
+    B154:;
     i0 = 1u;
     l40 = i0;
     j0 = p1;
@@ -94254,8 +95443,8 @@ static void f91(module *self, u64 p0, u64 p1, u64 p2, u64 p3, u64 p4, u64 p5) {
     i0 = (u32)(j0);
     i1 = 1u;
     i32_store8(j0, i1);
-    goto B141;
-    B143:;
+    goto B145;
+    B147:;
     j0 = p1;
     j1 = 16ull;
     j0 += j1;
@@ -94271,12 +95460,12 @@ static void f91(module *self, u64 p0, u64 p1, u64 p2, u64 p3, u64 p4, u64 p5) {
     j0 -= j1;
     j1 = 11ull;
     i0 = j0 > j1;
-    if (i0) {goto B155;}
+    if (i0) {goto B159;}
     j0 = p1;
     j1 = 12ull;
-    i0 = f85(self, j0, j1); m = self->memory; if (NEVER(self->is_broken)) return;
+    i0 = f88(self, j0, j1); m = self->memory; if (NEVER(self->is_broken)) return;
     i0 = !(i0);
-    if (i0) {goto B154;}
+    if (i0) {goto B158;}
     j0 = p1;
     j1 = 16ull;
     j0 += j1;
@@ -94289,7 +95478,7 @@ static void f91(module *self, u64 p0, u64 p1, u64 p2, u64 p3, u64 p4, u64 p5) {
     i0 = (u32)(j0);
     j0 = i64_load(j0);
     p4 = j0;
-    B155:;
+    B159:;
     j0 = l9;
     i0 = (u32)(j0);
     j1 = 0ull;
@@ -94313,7 +95502,7 @@ static void f91(module *self, u64 p0, u64 p1, u64 p2, u64 p3, u64 p4, u64 p5) {
     j0 -= j1;
     j1 = 11ull;
     i0 = j0 > j1;
-    if (i0) {goto B157;}
+    if (i0) {goto B161;}
     j0 = p4;
     i0 = (u32)(j0);
     j1 = p2;
@@ -94410,8 +95599,8 @@ static void f91(module *self, u64 p0, u64 p1, u64 p2, u64 p3, u64 p4, u64 p5) {
     i1 = (u32)(j1);
     i1 = i32_load8_u(j1);
     i32_store8(j0 + 11, i1);
-    goto B156;
-    B157:;
+    goto B160;
+    B161:;
     j0 = l7;
     i0 = (u32)(j0);
     j0 = i64_load(j0);
@@ -94426,7 +95615,7 @@ static void f91(module *self, u64 p0, u64 p1, u64 p2, u64 p3, u64 p4, u64 p5) {
     i0 = (u32)(j0);
     j1 = l30;
     i64_store(j0, j1);
-    B156:;
+    B160:;
     j0 = p1;
     i0 = (u32)(j0);
     j1 = l29;
@@ -94445,8 +95634,8 @@ static void f91(module *self, u64 p0, u64 p1, u64 p2, u64 p3, u64 p4, u64 p5) {
     i64_store(j0, j1);
     i0 = 0u;
     l46 = i0;
-    goto B140;
-    B154:;
+    goto B144;
+    B158:;
     i0 = 1u;
     l40 = i0;
     j0 = p1;
@@ -94455,8 +95644,8 @@ static void f91(module *self, u64 p0, u64 p1, u64 p2, u64 p3, u64 p4, u64 p5) {
     i0 = (u32)(j0);
     i1 = 1u;
     i32_store8(j0, i1);
-    goto B141;
-    B142:;
+    goto B145;
+    B146:;
     j0 = p4;
     j1 = p1;
     j2 = 16ull;
@@ -94472,12 +95661,12 @@ static void f91(module *self, u64 p0, u64 p1, u64 p2, u64 p3, u64 p4, u64 p5) {
     l31 = j2;
     j1 -= j2;
     i0 = j0 <= j1;
-    if (i0) {goto B159;}
+    if (i0) {goto B163;}
     j0 = p1;
     j1 = p4;
-    i0 = f85(self, j0, j1); m = self->memory; if (NEVER(self->is_broken)) return;
+    i0 = f88(self, j0, j1); m = self->memory; if (NEVER(self->is_broken)) return;
     i0 = !(i0);
-    if (i0) {goto B158;}
+    if (i0) {goto B162;}
     j0 = p1;
     j1 = 16ull;
     j0 += j1;
@@ -94490,7 +95679,7 @@ static void f91(module *self, u64 p0, u64 p1, u64 p2, u64 p3, u64 p4, u64 p5) {
     i0 = (u32)(j0);
     j0 = i64_load(j0);
     l31 = j0;
-    B159:;
+    B163:;
     j0 = 0ull;
     l27 = j0;
     j0 = l9;
@@ -94516,7 +95705,7 @@ static void f91(module *self, u64 p0, u64 p1, u64 p2, u64 p3, u64 p4, u64 p5) {
     j0 -= j1;
     j1 = p4;
     i0 = j0 >= j1;
-    if (i0) {goto B161;}
+    if (i0) {goto B165;}
     j0 = p4;
     j1 = 3ull;
     j0 &= j1;
@@ -94524,14 +95713,14 @@ static void f91(module *self, u64 p0, u64 p1, u64 p2, u64 p3, u64 p4, u64 p5) {
     j0 = p4;
     j1 = 4ull;
     i0 = j0 < j1;
-    if (i0) {goto B162;}
+    if (i0) {goto B166;}
     j0 = p4;
     j1 = 18446744073709551612ull;
     j0 &= j1;
     l32 = j0;
     j0 = 0ull;
     l27 = j0;
-    L163: 
+    L167: 
       j0 = l30;
       j1 = l27;
       j0 += j1;
@@ -94582,11 +95771,11 @@ static void f91(module *self, u64 p0, u64 p1, u64 p2, u64 p3, u64 p4, u64 p5) {
       j1 += j2;
       l27 = j1;
       i0 = j0 != j1;
-      if (i0) {goto L163;}
+      if (i0) {goto L167;}
     j0 = l29;
     i0 = !(j0);
-    if (i0) {goto B160;}
-    B162:;
+    if (i0) {goto B164;}
+    B166:;
     j0 = l7;
     j1 = l27;
     j0 += j1;
@@ -94597,7 +95786,7 @@ static void f91(module *self, u64 p0, u64 p1, u64 p2, u64 p3, u64 p4, u64 p5) {
     j1 += j2;
     j0 += j1;
     l27 = j0;
-    L164: 
+    L168: 
       j0 = l27;
       i0 = (u32)(j0);
       j1 = p4;
@@ -94618,13 +95807,13 @@ static void f91(module *self, u64 p0, u64 p1, u64 p2, u64 p3, u64 p4, u64 p5) {
       l29 = j0;
       j1 = 0ull;
       i0 = j0 != j1;
-      if (i0) {goto L164;}
-      goto B160;
+      if (i0) {goto L168;}
+      goto B164;
     { self->is_broken = true; return; }
-    B161:;
+    B165:;
     j0 = p4;
     i0 = !(j0);
-    if (i0) {goto B160;}
+    if (i0) {goto B164;}
     j0 = l30;
     i0 = (u32)(j0);
     j1 = l7;
@@ -94632,7 +95821,7 @@ static void f91(module *self, u64 p0, u64 p1, u64 p2, u64 p3, u64 p4, u64 p5) {
     j2 = p4;
     i2 = (u32)(j2);
     memory_copy(j0, j1, j2);
-    B160:;
+    B164:;
     j0 = p1;
     i0 = (u32)(j0);
     j1 = l34;
@@ -94651,8 +95840,8 @@ static void f91(module *self, u64 p0, u64 p1, u64 p2, u64 p3, u64 p4, u64 p5) {
     i64_store(j0, j1);
     i0 = 0u;
     l46 = i0;
-    goto B140;
-    B158:;
+    goto B144;
+    B162:;
     i0 = 1u;
     l40 = i0;
     j0 = p1;
@@ -94661,19 +95850,19 @@ static void f91(module *self, u64 p0, u64 p1, u64 p2, u64 p3, u64 p4, u64 p5) {
     i0 = (u32)(j0);
     i1 = 1u;
     i32_store8(j0, i1);
-    B141:;
+    B145:;
     i0 = 8u;
     l46 = i0;
-    B140:;
+    B144:;
     j0 = l6;
     i0 = (u32)(j0);
     i1 = l40;
-    i32_store8(j0 + 104, i1);
+    i32_store8(j0 + 88, i1);
     j0 = l6;
     i0 = (u32)(j0);
     i1 = l46;
     j1 = (u64)(i1);
-    i64_store(j0 + 112, j1);
+    i64_store(j0 + 96, j1);
     j0 = 0ull;
     p4 = j0;
     B72:;
@@ -94708,19 +95897,19 @@ static void f91(module *self, u64 p0, u64 p1, u64 p2, u64 p3, u64 p4, u64 p5) {
     i0 = l40;
     i1 = 56u;
     i0 = i0 > i1;
-    if (i0) {goto B166;}
+    if (i0) {goto B170;}
     j0 = l27;
     i0 = (u32)(j0);
     i1 = l40;
     i2 = 1u;
     i1 += i2;
     i32_store8(j0, i1);
-    goto B165;
-    B166:;
+    goto B169;
+    B170:;
     j0 = p4;
     j1 = 3ull;
     i0 = j0 < j1;
-    if (i0) {goto B167;}
+    if (i0) {goto B171;}
     j0 = l29;
     j1 = 18446744073709551613ull;
     j0 += j1;
@@ -94730,7 +95919,7 @@ static void f91(module *self, u64 p0, u64 p1, u64 p2, u64 p3, u64 p4, u64 p5) {
     l40 = i0;
     i1 = 56u;
     i0 = i0 > i1;
-    if (i0) {goto B167;}
+    if (i0) {goto B171;}
     j0 = p4;
     i0 = (u32)(j0);
     i1 = l40;
@@ -94749,11 +95938,11 @@ static void f91(module *self, u64 p0, u64 p1, u64 p2, u64 p3, u64 p4, u64 p5) {
     i0 = (u32)(j0);
     i1 = 48u;
     i32_store8(j0, i1);
-    goto B165;
-    B167:;
+    goto B169;
+    B171:;
     j0 = l7;
     j1 = l28;
-    f84(self, j0, j1); if (NEVER(self->is_broken)) return;
+    f87(self, j0, j1); if (NEVER(self->is_broken)) return;
     j0 = p2;
     j1 = 72ull;
     j0 += j1;
@@ -94764,7 +95953,7 @@ static void f91(module *self, u64 p0, u64 p1, u64 p2, u64 p3, u64 p4, u64 p5) {
     i1 = (u32)(j1);
     j1 = i64_load(j1);
     i64_store(j0, j1);
-    B165:;
+    B169:;
     j0 = l26;
     j1 = 1ull;
     j0 += j1;
@@ -94812,12 +96001,12 @@ static void f91(module *self, u64 p0, u64 p1, u64 p2, u64 p3, u64 p4, u64 p5) {
   i64_store(j0, j1);
   B0:;
   j0 = l6;
-  j1 = 464ull;
+  j1 = 448ull;
   j0 += j1;
   self->g0 = j0;
 }
 
-static void f92(module *self, u64 p0, u64 p1) {
+static void f95(module *self, u64 p0, u64 p1) {
   u32 l9 = 0, l10 = 0;
   u64 l2 = 0, l3 = 0, l4 = 0, l5 = 0, l6 = 0, l7 = 0, l8 = 0;
   u8 *m = self->memory;
@@ -95132,7 +96321,7 @@ static void f92(module *self, u64 p0, u64 p1) {
   Bfunc:;
 }
 
-static void f93(module *self, u64 p0, u64 p1) {
+static void f96(module *self, u64 p0, u64 p1) {
   u32 l2 = 0, l3 = 0, l4 = 0, l5 = 0;
   u8 *m = self->memory;
   u32 i0, i1, i2;
@@ -95401,10 +96590,10 @@ static void f93(module *self, u64 p0, u64 p1) {
   j0 = p0;
   j1 = p1;
   j2 = 40ull;
-  f20(self, j0, j1, j2); if (NEVER(self->is_broken)) return;
+  f21(self, j0, j1, j2); if (NEVER(self->is_broken)) return;
 }
 
-static void f94(module *self, u64 p0, u64 p1, u64 p2) {
+static void f97(module *self, u64 p0, u64 p1, u64 p2) {
   u32 l16 = 0, l17 = 0, l18 = 0, l19 = 0, l20 = 0, l21 = 0, l22 = 0, l23 = 0, 
       l24 = 0, l25 = 0, l26 = 0, l27 = 0, l28 = 0, l29 = 0;
   u64 l3 = 0, l4 = 0, l5 = 0, l6 = 0, l7 = 0, l8 = 0, l9 = 0, l10 = 0, 
@@ -95478,7 +96667,7 @@ static void f94(module *self, u64 p0, u64 p1, u64 p2) {
   i2 = (u32)(j2);
   i2 = i32_load16_u(j2);
   l17 = i2;
-  f19(self, j0, i1, i2);
+  f20(self, j0, i1, i2);
   j0 = l3;
   i0 = (u32)(j0);
   i0 = i32_load8_u(j0 + 848u);
@@ -96339,7 +97528,7 @@ static void f94(module *self, u64 p0, u64 p1, u64 p2) {
     j0 = l3;
     j1 = 1744ull;
     j0 += j1;
-    i0 = f95(self, j0); m = self->memory; if (NEVER(self->is_broken)) return;
+    i0 = f98(self, j0); m = self->memory; if (NEVER(self->is_broken)) return;
     i0 = !(i0);
     if (i0) {goto B7;}
     j0 = l3;
@@ -96533,7 +97722,7 @@ static void f94(module *self, u64 p0, u64 p1, u64 p2) {
     j0 = l3;
     j1 = 1744ull;
     j0 += j1;
-    i0 = f96(self, j0); m = self->memory; if (NEVER(self->is_broken)) return;
+    i0 = f99(self, j0); m = self->memory; if (NEVER(self->is_broken)) return;
     i0 = !(i0);
     if (i0) {goto B14;}
     j0 = l3;
@@ -96554,13 +97743,13 @@ static void f94(module *self, u64 p0, u64 p1, u64 p2) {
     j0 = l3;
     i0 = (u32)(j0);
     j0 = i64_load(j0 + 1744u);
-    f154(self, j0);
+    f158(self, j0);
     B15:;
     j0 = l14;
     i0 = !(j0);
     if (i0) {goto B6;}
     j0 = l15;
-    f154(self, j0);
+    f158(self, j0);
     goto B6;
     B13:;
     j0 = l11;
@@ -96795,7 +97984,7 @@ static void f94(module *self, u64 p0, u64 p1, u64 p2) {
       j0 = l3;
       j1 = 1744ull;
       j0 += j1;
-      i0 = f96(self, j0); m = self->memory; if (NEVER(self->is_broken)) return;
+      i0 = f99(self, j0); m = self->memory; if (NEVER(self->is_broken)) return;
       i0 = !(i0);
       if (i0) {goto B17;}
       j0 = l3;
@@ -96930,7 +98119,7 @@ static void f94(module *self, u64 p0, u64 p1, u64 p2) {
       j0 = l3;
       j1 = 1744ull;
       j0 += j1;
-      i0 = f96(self, j0); m = self->memory; if (NEVER(self->is_broken)) return;
+      i0 = f99(self, j0); m = self->memory; if (NEVER(self->is_broken)) return;
       i0 = !(i0);
       if (i0) {goto B17;}
       j0 = l3;
@@ -96998,7 +98187,7 @@ static void f94(module *self, u64 p0, u64 p1, u64 p2) {
   j0 = l3;
   i0 = (u32)(j0);
   j0 = i64_load(j0 + 1744u);
-  f154(self, j0);
+  f158(self, j0);
   B25:;
   j0 = p0;
   j1 = 8ull;
@@ -97367,7 +98556,7 @@ static void f94(module *self, u64 p0, u64 p1, u64 p2) {
   j0 = l3;
   i0 = (u32)(j0);
   j0 = i64_load(j0 + 1744u);
-  f154(self, j0);
+  f158(self, j0);
   B6:;
   j0 = p0;
   j1 = 8ull;
@@ -97394,7 +98583,7 @@ static void f94(module *self, u64 p0, u64 p1, u64 p2) {
   self->g0 = j0;
 }
 
-static u32 f95(module *self, u64 p0) {
+static u32 f98(module *self, u64 p0) {
   u32 l6 = 0;
   u64 l1 = 0, l2 = 0, l3 = 0, l4 = 0, l5 = 0;
   u8 *m = self->memory;
@@ -97464,7 +98653,7 @@ static u32 f95(module *self, u64 p0) {
   j4 = 1ull;
   j3 <<= (j4 & 63);
   j4 = 1ull;
-  f153(self, j0, j1, j2, j3, j4); m = self->memory; if (NEVER(self->is_broken)) return ZAK_BROKEN;
+  f157(self, j0, j1, j2, j3, j4); m = self->memory; if (NEVER(self->is_broken)) return ZAK_BROKEN;
   j0 = l1;
   i0 = (u32)(j0);
   j0 = i64_load(j0 + 16u);
@@ -97484,7 +98673,7 @@ static u32 f95(module *self, u64 p0) {
   j2 = 1ull;
   j1 <<= (j2 & 63);
   j2 = 1ull;
-  f151(self, j0, j1, j2); m = self->memory; if (NEVER(self->is_broken)) return ZAK_BROKEN;
+  f155(self, j0, j1, j2); m = self->memory; if (NEVER(self->is_broken)) return ZAK_BROKEN;
   j0 = l1;
   i0 = (u32)(j0);
   j0 = i64_load(j0);
@@ -97519,7 +98708,7 @@ static u32 f95(module *self, u64 p0) {
   return i0;
 }
 
-static u32 f96(module *self, u64 p0) {
+static u32 f99(module *self, u64 p0) {
   u32 l6 = 0;
   u64 l1 = 0, l2 = 0, l3 = 0, l4 = 0, l5 = 0;
   u8 *m = self->memory;
@@ -97585,7 +98774,7 @@ static u32 f96(module *self, u64 p0) {
   j2 = l2;
   j3 = l3;
   j4 = 1ull;
-  f153(self, j0, j1, j2, j3, j4); m = self->memory; if (NEVER(self->is_broken)) return ZAK_BROKEN;
+  f157(self, j0, j1, j2, j3, j4); m = self->memory; if (NEVER(self->is_broken)) return ZAK_BROKEN;
   j0 = l1;
   i0 = (u32)(j0);
   j0 = i64_load(j0 + 16u);
@@ -97603,7 +98792,7 @@ static u32 f96(module *self, u64 p0) {
   j0 = l1;
   j1 = l5;
   j2 = 1ull;
-  f151(self, j0, j1, j2); m = self->memory; if (NEVER(self->is_broken)) return ZAK_BROKEN;
+  f155(self, j0, j1, j2); m = self->memory; if (NEVER(self->is_broken)) return ZAK_BROKEN;
   j0 = l1;
   i0 = (u32)(j0);
   j0 = i64_load(j0);
@@ -97638,7 +98827,7 @@ static u32 f96(module *self, u64 p0) {
   return i0;
 }
 
-static u32 f97(module *self, u64 p0, u64 p1, u64 p2, u64 p3, u64 p4) {
+static u32 f100(module *self, u64 p0, u64 p1, u64 p2, u64 p3, u64 p4) {
   u32 l11 = 0, l12 = 0, l13 = 0, l14 = 0;
   u64 l5 = 0, l6 = 0, l7 = 0, l8 = 0, l9 = 0, l10 = 0;
   u8 *m = self->memory;
@@ -97733,7 +98922,7 @@ static u32 f97(module *self, u64 p0, u64 p1, u64 p2, u64 p3, u64 p4) {
   j0 = p1;
   j1 = 2072ull;
   j0 += j1;
-  i0 = f18(self, j0);
+  i0 = f19(self, j0);
   i0 = !(i0);
   if (i0) {goto B2;}
   j0 = l5;
@@ -97768,7 +98957,7 @@ static u32 f97(module *self, u64 p0, u64 p1, u64 p2, u64 p3, u64 p4) {
   j3 = l5;
   j4 = 72ull;
   j3 += j4;
-  f88(self, j0, j1, j2, j3); m = self->memory; if (NEVER(self->is_broken)) return ZAK_BROKEN;
+  f91(self, j0, j1, j2, j3); m = self->memory; if (NEVER(self->is_broken)) return ZAK_BROKEN;
   j0 = l5;
   i0 = (u32)(j0);
   i0 = i32_load8_u(j0 + 8u);
@@ -97927,7 +99116,7 @@ static u32 f97(module *self, u64 p0, u64 p1, u64 p2, u64 p3, u64 p4) {
   i0 = !(j0);
   if (i0) {goto B2;}
   j0 = l8;
-  f154(self, j0);
+  f158(self, j0);
   goto B2;
   B4:;
   j0 = l5;
@@ -97944,7 +99133,7 @@ static u32 f97(module *self, u64 p0, u64 p1, u64 p2, u64 p3, u64 p4) {
   j0 = l5;
   i0 = (u32)(j0);
   j0 = i64_load(j0 + 32u);
-  f154(self, j0);
+  f158(self, j0);
   goto B2;
   B3:;
   i0 = 23u;
@@ -97957,7 +99146,7 @@ static u32 f97(module *self, u64 p0, u64 p1, u64 p2, u64 p3, u64 p4) {
   j0 = l5;
   i0 = (u32)(j0);
   j0 = i64_load(j0 + 32u);
-  f154(self, j0);
+  f158(self, j0);
   B2:;
   j0 = p0;
   i0 = (u32)(j0);
@@ -98704,7 +99893,7 @@ static u32 module_zak_assemble(module *self, u64 p0, u64 p1, u64 p2, u64 p3, u64
   j1 = 32ull;
   j0 += j1;
   j1 = 4ull;
-  i0 = f11(self, j0, j1); m = self->memory; if (NEVER(self->is_broken)) return ZAK_BROKEN;
+  i0 = f12(self, j0, j1); m = self->memory; if (NEVER(self->is_broken)) return ZAK_BROKEN;
   i0 = !(i0);
   if (i0) {goto B50;}
   j0 = l6;
@@ -98753,7 +99942,7 @@ static u32 module_zak_assemble(module *self, u64 p0, u64 p1, u64 p2, u64 p3, u64
   j1 = 32ull;
   j0 += j1;
   j1 = 1ull;
-  i0 = f11(self, j0, j1); m = self->memory; if (NEVER(self->is_broken)) return ZAK_BROKEN;
+  i0 = f12(self, j0, j1); m = self->memory; if (NEVER(self->is_broken)) return ZAK_BROKEN;
   i0 = !(i0);
   if (i0) {goto B53;}
   j0 = l6;
@@ -99289,7 +100478,7 @@ static u32 module_zak_assemble(module *self, u64 p0, u64 p1, u64 p2, u64 p3, u64
       j1 = 32ull;
       j0 += j1;
       j1 = 1ull;
-      i0 = f11(self, j0, j1); m = self->memory; if (NEVER(self->is_broken)) return ZAK_BROKEN;
+      i0 = f12(self, j0, j1); m = self->memory; if (NEVER(self->is_broken)) return ZAK_BROKEN;
       i0 = !(i0);
       if (i0) {goto B82;}
       j0 = l6;
@@ -99335,7 +100524,7 @@ static u32 module_zak_assemble(module *self, u64 p0, u64 p1, u64 p2, u64 p3, u64
       j1 = 32ull;
       j0 += j1;
       j1 = 2ull;
-      i0 = f11(self, j0, j1); m = self->memory; if (NEVER(self->is_broken)) return ZAK_BROKEN;
+      i0 = f12(self, j0, j1); m = self->memory; if (NEVER(self->is_broken)) return ZAK_BROKEN;
       i0 = !(i0);
       if (i0) {goto B82;}
       j0 = l6;
@@ -99681,7 +100870,7 @@ static u32 module_zak_assemble(module *self, u64 p0, u64 p1, u64 p2, u64 p3, u64
           j1 = 32ull;
           j0 += j1;
           j1 = 1ull;
-          i0 = f11(self, j0, j1); m = self->memory; if (NEVER(self->is_broken)) return ZAK_BROKEN;
+          i0 = f12(self, j0, j1); m = self->memory; if (NEVER(self->is_broken)) return ZAK_BROKEN;
           i0 = !(i0);
           if (i0) {goto B82;}
           j0 = l6;
@@ -99755,7 +100944,7 @@ static u32 module_zak_assemble(module *self, u64 p0, u64 p1, u64 p2, u64 p3, u64
         j1 += j2;
         j2 = l12;
         j3 = l14;
-        f13(self, j0, j1, j2, j3); m = self->memory; if (NEVER(self->is_broken)) return ZAK_BROKEN;
+        f14(self, j0, j1, j2, j3); m = self->memory; if (NEVER(self->is_broken)) return ZAK_BROKEN;
         j0 = l6;
         i0 = (u32)(j0);
         i0 = i32_load8_u(j0 + 16u);
@@ -99811,7 +101000,7 @@ static u32 module_zak_assemble(module *self, u64 p0, u64 p1, u64 p2, u64 p3, u64
     j1 += j2;
     j2 = l11;
     j3 = p1;
-    f13(self, j0, j1, j2, j3); m = self->memory; if (NEVER(self->is_broken)) return ZAK_BROKEN;
+    f14(self, j0, j1, j2, j3); m = self->memory; if (NEVER(self->is_broken)) return ZAK_BROKEN;
     j0 = l6;
     i0 = (u32)(j0);
     i0 = i32_load8_u(j0);
@@ -99857,7 +101046,7 @@ static u32 module_zak_assemble(module *self, u64 p0, u64 p1, u64 p2, u64 p3, u64
   j0 = l6;
   i0 = (u32)(j0);
   j0 = i64_load(j0 + 32u);
-  f154(self, j0);
+  f158(self, j0);
   goto B41;
   B50:;
   i0 = 9u;
@@ -99870,7 +101059,7 @@ static u32 module_zak_assemble(module *self, u64 p0, u64 p1, u64 p2, u64 p3, u64
   j0 = l6;
   i0 = (u32)(j0);
   j0 = i64_load(j0 + 32u);
-  f154(self, j0);
+  f158(self, j0);
   goto B41;
   B49:;
   j0 = 0ull;
@@ -99944,7 +101133,7 @@ static u32 module_zak_assemble(module *self, u64 p0, u64 p1, u64 p2, u64 p3, u64
     j1 += j2;
     j2 = l11;
     j3 = p0;
-    f13(self, j0, j1, j2, j3); m = self->memory; if (NEVER(self->is_broken)) return ZAK_BROKEN;
+    f14(self, j0, j1, j2, j3); m = self->memory; if (NEVER(self->is_broken)) return ZAK_BROKEN;
     j0 = l6;
     i0 = (u32)(j0);
     i0 = i32_load8_u(j0);
@@ -100007,7 +101196,7 @@ static u32 module_zak_assemble(module *self, u64 p0, u64 p1, u64 p2, u64 p3, u64
   j0 = l6;
   i0 = (u32)(j0);
   j0 = i64_load(j0 + 32u);
-  f154(self, j0);
+  f158(self, j0);
   goto B41;
   B45:;
   j0 = l6;
@@ -100031,13 +101220,13 @@ static u32 module_zak_assemble(module *self, u64 p0, u64 p1, u64 p2, u64 p3, u64
   i0 = !(j0);
   if (i0) {goto B1;}
   j0 = l16;
-  f154(self, j0);
+  f158(self, j0);
   goto B1;
   B43:;
   j0 = l6;
   i0 = (u32)(j0);
   j0 = i64_load(j0 + 32u);
-  f154(self, j0);
+  f158(self, j0);
   j0 = l9;
   l12 = j0;
   goto B41;
@@ -100072,7 +101261,7 @@ static u32 module_zak_assemble(module *self, u64 p0, u64 p1, u64 p2, u64 p3, u64
   j1 = 32ull;
   j0 += j1;
   j1 = p0;
-  i0 = f11(self, j0, j1); m = self->memory; if (NEVER(self->is_broken)) return ZAK_BROKEN;
+  i0 = f12(self, j0, j1); m = self->memory; if (NEVER(self->is_broken)) return ZAK_BROKEN;
   i0 = !(i0);
   if (i0) {goto B113;}
   j0 = l6;
@@ -100233,7 +101422,7 @@ static u32 module_zak_assemble(module *self, u64 p0, u64 p1, u64 p2, u64 p3, u64
   j0 = l6;
   i0 = (u32)(j0);
   j0 = i64_load(j0 + 32u);
-  f154(self, j0);
+  f158(self, j0);
   B119:;
   j0 = 0ull;
   p1 = j0;
@@ -100246,7 +101435,7 @@ static u32 module_zak_assemble(module *self, u64 p0, u64 p1, u64 p2, u64 p3, u64
   i0 = !(j0);
   if (i0) {goto B120;}
   j0 = l16;
-  f154(self, j0);
+  f158(self, j0);
   B120:;
   i0 = l27;
   if (i0) {goto B40;}
@@ -100418,7 +101607,7 @@ static u32 module_zak_assemble(module *self, u64 p0, u64 p1, u64 p2, u64 p3, u64
   i0 = !(j0);
   if (i0) {goto B0;}
   j0 = l20;
-  f154(self, j0);
+  f158(self, j0);
   goto B0;
   B39:;
   j0 = p5;
@@ -100437,7 +101626,7 @@ static u32 module_zak_assemble(module *self, u64 p0, u64 p1, u64 p2, u64 p3, u64
   j0 = (u64)(s64)(s8)(u8)(j0);
   j1 = 2ull;
   j0 <<= (j1 & 63);
-  j1 = 1049780ull;
+  j1 = 1049796ull;
   j0 += j1;
   i0 = (u32)(j0);
   i0 = i32_load(j0);
@@ -100535,7 +101724,7 @@ static u32 module_zak_block(module *self, u64 p0, u64 p1, u64 p2) {
   j2 = i64_load16_u(j2);
   p1 = j2;
   j1 |= j2;
-  f17(self, j0, j1);
+  f18(self, j0, j1);
   j0 = l3;
   i0 = (u32)(j0);
   i0 = i32_load8_u(j0);
@@ -101264,24 +102453,24 @@ static u32 module_zak_close(module *self, u64 p0) {
   j0 = i64_load(j0 + 16u);
   l12 = j0;
   j0 = l4;
-  f154(self, j0);
+  f158(self, j0);
   j0 = l12;
   i0 = !(j0);
   if (i0) {goto B2;}
   j0 = l11;
-  f154(self, j0);
+  f158(self, j0);
   B2:;
   j0 = l9;
   i0 = !(j0);
   if (i0) {goto B3;}
   j0 = l10;
-  f154(self, j0);
+  f158(self, j0);
   B3:;
   j0 = l7;
   i0 = !(j0);
   if (i0) {goto B4;}
   j0 = l8;
-  f154(self, j0);
+  f158(self, j0);
   B4:;
   i0 = l3;
   i1 = 255u;
@@ -101297,12 +102486,12 @@ static u32 module_zak_close(module *self, u64 p0) {
   j0 = i64_load(j0 + 16u);
   l4 = j0;
   j0 = l6;
-  f154(self, j0);
+  f158(self, j0);
   j0 = l4;
   i0 = !(j0);
   if (i0) {goto B5;}
   j0 = l7;
-  f154(self, j0);
+  f158(self, j0);
   B5:;
   i0 = l1;
   i1 = 255u;
@@ -101318,12 +102507,12 @@ static u32 module_zak_close(module *self, u64 p0) {
   j0 = i64_load(j0 + 16u);
   l4 = j0;
   j0 = l5;
-  f154(self, j0);
+  f158(self, j0);
   j0 = l4;
   i0 = !(j0);
   if (i0) {goto B6;}
   j0 = l6;
-  f154(self, j0);
+  f158(self, j0);
   B6:;
   i0 = 0u;
   l1 = i0;
@@ -101341,12 +102530,12 @@ static u32 module_zak_close(module *self, u64 p0) {
   j0 = i64_load(j0 + 16u);
   l4 = j0;
   j0 = p0;
-  f154(self, j0);
+  f158(self, j0);
   j0 = l4;
   i0 = !(j0);
   if (i0) {goto B0;}
   j0 = l5;
-  f154(self, j0);
+  f158(self, j0);
   B0:;
   i0 = l1;
   return i0;
@@ -101398,7 +102587,7 @@ static u32 module_zak_cycles(module *self, u64 p0, u64 p1, u64 p2, u64 p3, u64 p
   j0 = l8;
   j1 = 2072ull;
   j0 += j1;
-  i0 = f18(self, j0);
+  i0 = f19(self, j0);
   if (i0) {goto B3;}
   i0 = 27u;
   l23 = i0;
@@ -101632,7 +102821,7 @@ static u32 module_zak_cycles(module *self, u64 p0, u64 p1, u64 p2, u64 p3, u64 p
   j0 += j1;
   j1 = p1;
   j2 = 1ull;
-  f151(self, j0, j1, j2); m = self->memory; if (NEVER(self->is_broken)) return ZAK_BROKEN;
+  f155(self, j0, j1, j2); m = self->memory; if (NEVER(self->is_broken)) return ZAK_BROKEN;
   j0 = l7;
   i0 = (u32)(j0);
   j0 = i64_load(j0 + 32u);
@@ -101660,7 +102849,7 @@ static u32 module_zak_cycles(module *self, u64 p0, u64 p1, u64 p2, u64 p3, u64 p
   j0 += j1;
   j1 = 265046ull;
   j2 = 1ull;
-  f151(self, j0, j1, j2); m = self->memory; if (NEVER(self->is_broken)) return ZAK_BROKEN;
+  f155(self, j0, j1, j2); m = self->memory; if (NEVER(self->is_broken)) return ZAK_BROKEN;
   j0 = l7;
   i0 = (u32)(j0);
   j0 = i64_load(j0 + 16u);
@@ -101703,11 +102892,11 @@ static u32 module_zak_cycles(module *self, u64 p0, u64 p1, u64 p2, u64 p3, u64 p
   j0 = l8;
   j1 = l10;
   j2 = 0ull;
-  f20(self, j0, j1, j2); if (NEVER(self->is_broken)) return ZAK_BROKEN;
+  f21(self, j0, j1, j2); if (NEVER(self->is_broken)) return ZAK_BROKEN;
   j0 = l7;
   j1 = 6208ull;
   j0 += j1;
-  f21(self, j0); m = self->memory; if (NEVER(self->is_broken)) return ZAK_BROKEN;
+  f22(self, j0); m = self->memory; if (NEVER(self->is_broken)) return ZAK_BROKEN;
   j0 = l7;
   i0 = (u32)(j0);
   i0 = i32_load8_u(j0 + 6208u);
@@ -101744,7 +102933,7 @@ static u32 module_zak_cycles(module *self, u64 p0, u64 p1, u64 p2, u64 p3, u64 p
   j0 += j1;
   j1 = l10;
   j2 = p1;
-  f23(self, j0, j1, j2); m = self->memory; if (NEVER(self->is_broken)) return ZAK_BROKEN;
+  f24(self, j0, j1, j2); m = self->memory; if (NEVER(self->is_broken)) return ZAK_BROKEN;
   j0 = l7;
   i0 = (u32)(j0);
   j1 = l7;
@@ -101845,7 +103034,7 @@ static u32 module_zak_cycles(module *self, u64 p0, u64 p1, u64 p2, u64 p3, u64 p
   i0 = l23;
   if (i0) {goto B16;}
   j0 = l10;
-  f154(self, j0);
+  f158(self, j0);
   B16:;
   j0 = p5;
   j1 = 16777216ull;
@@ -101956,7 +103145,7 @@ static u32 module_zak_cycles(module *self, u64 p0, u64 p1, u64 p2, u64 p3, u64 p
   i0 = l23;
   if (i0) {goto B6;}
   j0 = l10;
-  f154(self, j0);
+  f158(self, j0);
   i0 = 23u;
   l23 = i0;
   goto B2;
@@ -101964,7 +103153,7 @@ static u32 module_zak_cycles(module *self, u64 p0, u64 p1, u64 p2, u64 p3, u64 p
   j0 = l7;
   j1 = p1;
   j2 = 1ull;
-  f151(self, j0, j1, j2); m = self->memory; if (NEVER(self->is_broken)) return ZAK_BROKEN;
+  f155(self, j0, j1, j2); m = self->memory; if (NEVER(self->is_broken)) return ZAK_BROKEN;
   j0 = l7;
   i0 = (u32)(j0);
   j0 = i64_load(j0);
@@ -101991,19 +103180,19 @@ static u32 module_zak_cycles(module *self, u64 p0, u64 p1, u64 p2, u64 p3, u64 p
   i0 = !(j0);
   if (i0) {goto B19;}
   j0 = l13;
-  f154(self, j0);
+  f158(self, j0);
   B19:;
   j0 = l19;
   i0 = !(j0);
   if (i0) {goto B20;}
   j0 = l21;
-  f154(self, j0);
+  f158(self, j0);
   B20:;
   j0 = l15;
   i0 = !(j0);
   if (i0) {goto B6;}
   j0 = l17;
-  f154(self, j0);
+  f158(self, j0);
   i0 = 23u;
   l23 = i0;
   goto B2;
@@ -102314,7 +103503,7 @@ static u32 module_zak_cycles(module *self, u64 p0, u64 p1, u64 p2, u64 p3, u64 p
   j6 = i8 ? j6 : j7;
   j5 += j6;
   j6 = p3;
-  f24(self, j0, j1, j2, j3, j4, j5, j6); m = self->memory; if (NEVER(self->is_broken)) return ZAK_BROKEN;
+  f25(self, j0, j1, j2, j3, j4, j5, j6); m = self->memory; if (NEVER(self->is_broken)) return ZAK_BROKEN;
   j0 = l7;
   i0 = (u32)(j0);
   i0 = i32_load8_u(j0 + 48u);
@@ -102362,25 +103551,25 @@ static u32 module_zak_cycles(module *self, u64 p0, u64 p1, u64 p2, u64 p3, u64 p
   i0 = !(j0);
   if (i0) {goto B23;}
   j0 = l10;
-  f154(self, j0);
+  f158(self, j0);
   B23:;
   j0 = l15;
   i0 = !(j0);
   if (i0) {goto B24;}
   j0 = l17;
-  f154(self, j0);
+  f158(self, j0);
   B24:;
   j0 = l11;
   i0 = !(j0);
   if (i0) {goto B25;}
   j0 = l13;
-  f154(self, j0);
+  f158(self, j0);
   B25:;
   j0 = p3;
   i0 = !(j0);
   if (i0) {goto B5;}
   j0 = l19;
-  f154(self, j0);
+  f158(self, j0);
   goto B5;
   B22:;
   j0 = l7;
@@ -102391,19 +103580,19 @@ static u32 module_zak_cycles(module *self, u64 p0, u64 p1, u64 p2, u64 p3, u64 p
   i0 = !(j0);
   if (i0) {goto B26;}
   j0 = l17;
-  f154(self, j0);
+  f158(self, j0);
   B26:;
   j0 = l11;
   i0 = !(j0);
   if (i0) {goto B27;}
   j0 = l13;
-  f154(self, j0);
+  f158(self, j0);
   B27:;
   j0 = p3;
   i0 = !(j0);
   if (i0) {goto B28;}
   j0 = l19;
-  f154(self, j0);
+  f158(self, j0);
   B28:;
   j0 = p1;
   p3 = j0;
@@ -102441,19 +103630,19 @@ static u32 module_zak_cycles(module *self, u64 p0, u64 p1, u64 p2, u64 p3, u64 p
   j0 = l7;
   i0 = (u32)(j0);
   j0 = i64_load(j0 + 2112u);
-  f154(self, j0);
+  f158(self, j0);
   B30:;
   j0 = p5;
   i0 = !(j0);
   if (i0) {goto B31;}
   j0 = p3;
-  f154(self, j0);
+  f158(self, j0);
   B31:;
   j0 = p1;
   i0 = !(j0);
   if (i0) {goto B32;}
   j0 = p2;
-  f154(self, j0);
+  f158(self, j0);
   B32:;
   j0 = l7;
   i0 = (u32)(j0);
@@ -102463,7 +103652,7 @@ static u32 module_zak_cycles(module *self, u64 p0, u64 p1, u64 p2, u64 p3, u64 p
   j0 = l7;
   i0 = (u32)(j0);
   j0 = i64_load(j0 + 4184u);
-  f154(self, j0);
+  f158(self, j0);
   B33:;
   i0 = l23;
   i1 = 1u;
@@ -102495,19 +103684,19 @@ static u32 module_zak_cycles(module *self, u64 p0, u64 p1, u64 p2, u64 p3, u64 p
   j0 = l7;
   i0 = (u32)(j0);
   j0 = i64_load(j0 + 2112u);
-  f154(self, j0);
+  f158(self, j0);
   B34:;
   j0 = p5;
   i0 = !(j0);
   if (i0) {goto B35;}
   j0 = p3;
-  f154(self, j0);
+  f158(self, j0);
   B35:;
   j0 = p1;
   i0 = !(j0);
   if (i0) {goto B36;}
   j0 = p2;
-  f154(self, j0);
+  f158(self, j0);
   B36:;
   j0 = l7;
   i0 = (u32)(j0);
@@ -102517,7 +103706,7 @@ static u32 module_zak_cycles(module *self, u64 p0, u64 p1, u64 p2, u64 p3, u64 p
   j0 = l7;
   i0 = (u32)(j0);
   j0 = i64_load(j0 + 4184u);
-  f154(self, j0);
+  f158(self, j0);
   B6:;
   i0 = 23u;
   l23 = i0;
@@ -102558,12 +103747,12 @@ static u32 module_zak_cycles(module *self, u64 p0, u64 p1, u64 p2, u64 p3, u64 p
   j0 = i64_load(j0 + 16u);
   l15 = j0;
   j0 = l11;
-  f154(self, j0);
+  f158(self, j0);
   j0 = l15;
   i0 = !(j0);
   if (i0) {goto B37;}
   j0 = l19;
-  f154(self, j0);
+  f158(self, j0);
   B37:;
   j0 = p1;
   j1 = 16777216ull;
@@ -102724,7 +103913,7 @@ static u32 module_zak_cycles(module *self, u64 p0, u64 p1, u64 p2, u64 p3, u64 p
   i0 = !(j0);
   if (i0) {goto B2;}
   j0 = l10;
-  f154(self, j0);
+  f158(self, j0);
   B2:;
   j0 = p0;
   i0 = (u32)(j0);
@@ -102928,7 +104117,7 @@ static u32 module_zak_fill_bytes(module *self, u64 p0, u32 p1, u32 p2, u64 p3, u
     i1 = (u32)(j1);
     i1 = i32_load8_u(j1);
     i2 = p2;
-    i0 = f45(self, j0, i1, i2);
+    i0 = f46(self, j0, i1, i2);
     l13 = i0;
     j0 = l16;
     j1 = 68ull;
@@ -103031,7 +104220,7 @@ static u32 module_zak_fill_bytes(module *self, u64 p0, u32 p1, u32 p2, u64 p3, u
   i2 = l7;
   i3 = p2;
   i4 = p2;
-  f49(self, j0, i1, i2, i3, i4);
+  f50(self, j0, i1, i2, i3, i4);
   i0 = 0u;
   l6 = i0;
   B2:;
@@ -103115,7 +104304,7 @@ static u32 module_zak_frame(module *self, u64 p0, u64 p1, u64 p2, u64 p3) {
   i64_store(j0, j1);
   j0 = l4;
   j1 = l5;
-  f50(self, j0, j1); m = self->memory; if (NEVER(self->is_broken)) return ZAK_BROKEN;
+  f51(self, j0, j1); m = self->memory; if (NEVER(self->is_broken)) return ZAK_BROKEN;
   j0 = l4;
   i0 = (u32)(j0);
   i0 = i32_load8_u(j0);
@@ -103898,7 +105087,7 @@ static u32 module_zak_frame_words(module *self, u64 p0, u32 p1, u64 p2, u64 p3, 
   j1 = 16ull;
   j0 += j1;
   j1 = l7;
-  f50(self, j0, j1); m = self->memory; if (NEVER(self->is_broken)) return ZAK_BROKEN;
+  f51(self, j0, j1); m = self->memory; if (NEVER(self->is_broken)) return ZAK_BROKEN;
   i0 = 24u;
   l15 = i0;
   j0 = l6;
@@ -104207,7 +105396,7 @@ static u32 module_zak_frame_xrgb(module *self, u64 p0, u64 p1, u64 p2, u64 p3, u
   j1 = 16ull;
   j0 += j1;
   j1 = l6;
-  f50(self, j0, j1); m = self->memory; if (NEVER(self->is_broken)) return ZAK_BROKEN;
+  f51(self, j0, j1); m = self->memory; if (NEVER(self->is_broken)) return ZAK_BROKEN;
   i0 = 24u;
   l13 = i0;
   j0 = l5;
@@ -104449,7 +105638,7 @@ static u32 module_zak_get(module *self, u64 p0, u32 p1, u64 p2) {
   j0 += j1;
   j1 = l4;
   i2 = p1;
-  f33(self, j0, j1, i2);
+  f34(self, j0, j1, i2);
   j0 = l3;
   i0 = (u32)(j0);
   i0 = i32_load8_u(j0 + 9u);
@@ -104646,7 +105835,7 @@ static u32 module_zak_get_bytes(module *self, u64 p0, u32 p1, u64 p2, u64 p3, u3
     j0 += j1;
     j1 = l8;
     i2 = p1;
-    f33(self, j0, j1, i2);
+    f34(self, j0, j1, i2);
     j0 = p2;
     j1 = p3;
     j0 += j1;
@@ -104952,7 +106141,7 @@ static u32 module_zak_get_bytes(module *self, u64 p0, u32 p1, u64 p2, u64 p3, u3
   i2 = p1;
   j3 = p2;
   j4 = p3;
-  f51(self, j0, j1, i2, j3, j4); if (NEVER(self->is_broken)) return ZAK_BROKEN;
+  f52(self, j0, j1, i2, j3, j4); if (NEVER(self->is_broken)) return ZAK_BROKEN;
   i0 = l11;
   i1 = p4;
   i2 = 4294967295u;
@@ -105037,7 +106226,7 @@ static u32 module_zak_get_bytes(module *self, u64 p0, u32 p1, u64 p2, u64 p3, u3
 }
 
 static u32 module_zak_get_word(module *self, u64 p0, u32 p1, u64 p2) {
-  u32 l5 = 0, l6 = 0, l7 = 0;
+  u32 l5 = 0, l6 = 0, l7 = 0, l8 = 0;
   u64 l3 = 0, l4 = 0;
   u8 *m = self->memory;
   u32 i0, i1, i2, i3;
@@ -105060,11 +106249,12 @@ static u32 module_zak_get_word(module *self, u64 p0, u32 p1, u64 p2) {
   j0 += j1;
   i0 = (u32)(j0);
   i0 = i32_load(j0);
-  i0 = !(i0);
-  if (i0) {goto B1;}
+  l6 = i0;
+  i1 = 16777217u;
+  i0 = i0 < i1;
+  if (i0) {goto B2;}
   j0 = p0;
   f1(self, j0); m = self->memory; if (NEVER(self->is_broken)) return ZAK_BROKEN;
-  B1:;
   j0 = p0;
   i0 = (u32)(j0);
   j1 = 0ull;
@@ -105078,11 +106268,28 @@ static u32 module_zak_get_word(module *self, u64 p0, u32 p1, u64 p2) {
   j1 = 0ull;
   i64_store(j0 + 8, j1);
   i0 = 0u;
+  l6 = i0;
+  goto B1;
+  B2:;
+  j0 = p0;
+  i0 = (u32)(j0);
+  j1 = 0ull;
+  i64_store(j0, j1);
+  j0 = p0;
+  i0 = (u32)(j0);
+  j0 = i64_load(j0 + 8u);
+  l4 = j0;
+  j0 = p0;
+  i0 = (u32)(j0);
+  j1 = 0ull;
+  i64_store(j0 + 8, j1);
+  B1:;
+  i0 = 0u;
   l5 = i0;
   i0 = p1;
   i1 = 4294967295u;
   i0 = i0 == i1;
-  if (i0) {goto B4;}
+  if (i0) {goto B5;}
   j0 = l4;
   j1 = 2003ull;
   j0 += j1;
@@ -105091,40 +106298,40 @@ static u32 module_zak_get_word(module *self, u64 p0, u32 p1, u64 p2) {
   i1 = 2u;
   i0 &= i1;
   i0 = !(i0);
-  if (i0) {goto B4;}
+  if (i0) {goto B5;}
   j0 = l4;
   j1 = 60ull;
   j0 += j1;
   i0 = (u32)(j0);
   i0 = i32_load(j0);
-  l6 = i0;
+  l7 = i0;
   i1 = p1;
   i0 = i0 > i1;
-  if (i0) {goto B4;}
+  if (i0) {goto B5;}
   i0 = p1;
   j1 = l4;
   j2 = 64ull;
   j1 += j2;
   i1 = (u32)(j1);
   i1 = i32_load(j1);
-  i2 = l6;
+  i2 = l7;
   i1 += i2;
-  l6 = i1;
+  l7 = i1;
   i0 = i0 >= i1;
-  if (i0) {goto B4;}
+  if (i0) {goto B5;}
   i0 = p1;
   i1 = 1u;
   i0 += i1;
-  l7 = i0;
-  i1 = l6;
+  l8 = i0;
+  i1 = l7;
   i0 = i0 >= i1;
-  if (i0) {goto B4;}
+  if (i0) {goto B5;}
   j0 = l3;
   j1 = 8ull;
   j0 += j1;
   j1 = l4;
   i2 = p1;
-  f33(self, j0, j1, i2);
+  f34(self, j0, j1, i2);
   j0 = l3;
   i0 = (u32)(j0);
   i0 = i32_load8_u(j0 + 9u);
@@ -105132,11 +106339,11 @@ static u32 module_zak_get_word(module *self, u64 p0, u32 p1, u64 p2) {
   j0 = l3;
   i0 = (u32)(j0);
   i0 = i32_load8_u(j0 + 8u);
-  if (i0) {goto B4;}
+  if (i0) {goto B5;}
   j0 = l3;
   j1 = l4;
-  i2 = l7;
-  f33(self, j0, j1, i2);
+  i2 = l8;
+  f34(self, j0, j1, i2);
   j0 = l3;
   i0 = (u32)(j0);
   i0 = i32_load8_u(j0 + 1u);
@@ -105145,18 +106352,18 @@ static u32 module_zak_get_word(module *self, u64 p0, u32 p1, u64 p2) {
   i0 = (u32)(j0);
   i0 = i32_load8_u(j0);
   i0 = !(i0);
-  if (i0) {goto B3;}
+  if (i0) {goto B4;}
   i0 = p1;
   l5 = i0;
-  B4:;
+  B5:;
   i0 = l5;
   i1 = 255u;
   i0 &= i1;
   i1 = 1u;
   i0 += i1;
   l5 = i0;
-  goto B2;
-  B3:;
+  goto B3;
+  B4:;
   j0 = p2;
   i0 = (u32)(j0);
   i1 = p1;
@@ -105169,11 +106376,11 @@ static u32 module_zak_get_word(module *self, u64 p0, u32 p1, u64 p2) {
   i32_store16(j0, i1);
   i0 = 0u;
   l5 = i0;
-  B2:;
+  B3:;
   j0 = p0;
   i0 = (u32)(j0);
   i1 = 0u;
-  i32_store(j0 + 1, i1);
+  i32_store16(j0 + 1, i1);
   j0 = p0;
   i0 = (u32)(j0);
   i1 = 1u;
@@ -105181,11 +106388,17 @@ static u32 module_zak_get_word(module *self, u64 p0, u32 p1, u64 p2) {
   j0 = p0;
   i0 = (u32)(j0);
   i1 = 0u;
-  i32_store(j0 + 4, i1);
+  i32_store8(j0 + 3, i1);
   j0 = p0;
   i0 = (u32)(j0);
   j1 = l4;
   i64_store(j0 + 8, j1);
+  j0 = p0;
+  j1 = 4ull;
+  j0 += j1;
+  i0 = (u32)(j0);
+  i1 = l6;
+  i32_store(j0, i1);
   B0:;
   j0 = l3;
   j1 = 16ull;
@@ -105196,7 +106409,7 @@ static u32 module_zak_get_word(module *self, u64 p0, u32 p1, u64 p2) {
 }
 
 static u32 module_zak_in(module *self, u64 p0, u32 p1, u64 p2) {
-  u32 l5 = 0, l6 = 0, l7 = 0, l8 = 0, l9 = 0, l10 = 0;
+  u32 l5 = 0, l6 = 0, l7 = 0, l8 = 0, l9 = 0;
   u64 l3 = 0, l4 = 0;
   u8 *m = self->memory;
   u32 i0, i1, i2, i3, i4, i5;
@@ -105219,10 +106432,10 @@ static u32 module_zak_in(module *self, u64 p0, u32 p1, u64 p2) {
   j0 += j1;
   i0 = (u32)(j0);
   i0 = i32_load(j0);
-  l5 = i0;
+  l6 = i0;
   i1 = 16777217u;
   i0 = i0 < i1;
-  if (i0) {goto B2;}
+  if (i0) {goto B7;}
   j0 = p0;
   f1(self, j0); m = self->memory; if (NEVER(self->is_broken)) return ZAK_BROKEN;
   j0 = p0;
@@ -105237,10 +106450,8 @@ static u32 module_zak_in(module *self, u64 p0, u32 p1, u64 p2) {
   i0 = (u32)(j0);
   j1 = 0ull;
   i64_store(j0 + 8, j1);
-  i0 = 0u;
-  l5 = i0;
-  goto B1;
-  B2:;
+  goto B6;
+  B7:;
   j0 = p0;
   i0 = (u32)(j0);
   j1 = 0ull;
@@ -105253,106 +106464,35 @@ static u32 module_zak_in(module *self, u64 p0, u32 p1, u64 p2) {
   i0 = (u32)(j0);
   j1 = 0ull;
   i64_store(j0 + 8, j1);
-  B1:;
+  j0 = l3;
+  i0 = (u32)(j0);
+  j1 = 0ull;
+  i64_store(j0 + 8, j1);
+  i0 = l6;
+  if (i0) {goto B5;}
+  B6:;
+  j0 = l3;
+  j1 = l4;
+  i2 = p1;
+  f26(self, j0, j1, i2); if (NEVER(self->is_broken)) return ZAK_BROKEN;
   i0 = 0u;
   l6 = i0;
+  j0 = l3;
+  i0 = (u32)(j0);
+  i0 = i32_load8_u(j0 + 1u);
+  l5 = i0;
+  j0 = l3;
+  i0 = (u32)(j0);
+  i0 = i32_load8_u(j0);
+  p1 = i0;
+  goto B4;
+  B5:;
   j0 = l4;
   j1 = 136ull;
   j0 += j1;
   i0 = (u32)(j0);
   i0 = i32_load16_u(j0);
   l7 = i0;
-  j1 = l4;
-  j2 = 105ull;
-  j1 += j2;
-  i1 = (u32)(j1);
-  i1 = i32_load8_u(j1);
-  i2 = 5u;
-  i1 += i2;
-  l8 = i1;
-  i0 = i0 >= i1;
-  if (i0) {goto B4;}
-  j0 = l4;
-  j1 = 138ull;
-  j0 += j1;
-  i0 = (u32)(j0);
-  i0 = i32_load8_u(j0);
-  l9 = i0;
-  j1 = l4;
-  j2 = 34ull;
-  j1 += j2;
-  i1 = (u32)(j1);
-  i1 = i32_load8_u(j1);
-  i2 = 1u;
-  i1 &= i2;
-  i2 = 9u;
-  i1 ^= i2;
-  l10 = i1;
-  i0 = i0 >= i1;
-  if (i0) {goto B4;}
-  i0 = l5;
-  i1 = 0u;
-  i2 = l10;
-  i3 = l9;
-  i4 = 1u;
-  i3 += i4;
-  i4 = 255u;
-  i3 &= i4;
-  i2 -= i3;
-  l6 = i2;
-  i3 = l6;
-  i4 = l10;
-  i3 = i3 > i4;
-  i1 = i3 ? i1 : i2;
-  i2 = 0u;
-  i3 = l8;
-  i4 = l7;
-  i5 = 1u;
-  i4 += i5;
-  i5 = 65535u;
-  i4 &= i5;
-  i3 -= i4;
-  l6 = i3;
-  i4 = l6;
-  i5 = l8;
-  i4 = i4 > i5;
-  i2 = i4 ? i2 : i3;
-  i3 = l10;
-  i2 *= i3;
-  i1 += i2;
-  i2 = 1u;
-  i1 += i2;
-  l6 = i1;
-  i0 = i0 > i1;
-  if (i0) {goto B5;}
-  i0 = l5;
-  l6 = i0;
-  goto B3;
-  B5:;
-  i0 = l5;
-  i1 = l6;
-  i0 -= i1;
-  i1 = l8;
-  i2 = l10;
-  i1 *= i2;
-  if (i1 == 0) { self->is_broken = true; return ZAK_BROKEN; } i0 = i0 % i1;
-  l6 = i0;
-  B4:;
-  j0 = l4;
-  i1 = l5;
-  i2 = l6;
-  i1 -= i2;
-  f2(self, j0, i1); m = self->memory; if (NEVER(self->is_broken)) return ZAK_BROKEN;
-  B3:;
-  i0 = l6;
-  i0 = !(i0);
-  if (i0) {goto B9;}
-  j0 = l4;
-  j1 = 136ull;
-  j0 += j1;
-  i0 = (u32)(j0);
-  i0 = i32_load16_u(j0);
-  l8 = i0;
   j1 = l4;
   j2 = 105ull;
   j1 += j2;
@@ -105362,13 +106502,13 @@ static u32 module_zak_in(module *self, u64 p0, u32 p1, u64 p2) {
   i1 += i2;
   l5 = i1;
   i0 = i0 >= i1;
-  if (i0) {goto B9;}
+  if (i0) {goto B8;}
   j0 = l4;
   j1 = 138ull;
   j0 += j1;
   i0 = (u32)(j0);
   i0 = i32_load8_u(j0);
-  l7 = i0;
+  l8 = i0;
   j1 = l4;
   j2 = 34ull;
   j1 += j2;
@@ -105378,26 +106518,26 @@ static u32 module_zak_in(module *self, u64 p0, u32 p1, u64 p2) {
   i1 &= i2;
   i2 = 9u;
   i1 ^= i2;
-  l10 = i1;
+  l9 = i1;
   i0 = i0 >= i1;
-  if (i0) {goto B9;}
+  if (i0) {goto B8;}
   i0 = l6;
   i1 = 0u;
-  i2 = l10;
-  i3 = l7;
+  i2 = l9;
+  i3 = l8;
   i4 = 1u;
   i3 += i4;
   i4 = 255u;
   i3 &= i4;
   i2 -= i3;
-  l7 = i2;
-  i3 = l7;
-  i4 = l10;
+  l8 = i2;
+  i3 = l8;
+  i4 = l9;
   i3 = i3 > i4;
   i1 = i3 ? i1 : i2;
   i2 = 0u;
   i3 = l5;
-  i4 = l8;
+  i4 = l7;
   i5 = 1u;
   i4 += i5;
   i5 = 65535u;
@@ -105408,13 +106548,13 @@ static u32 module_zak_in(module *self, u64 p0, u32 p1, u64 p2) {
   i5 = l5;
   i4 = i4 > i5;
   i2 = i4 ? i2 : i3;
-  i3 = l10;
+  i3 = l9;
   i2 *= i3;
   i1 += i2;
   i2 = 1u;
   i1 += i2;
   i0 = i0 > i1;
-  if (i0) {goto B9;}
+  if (i0) {goto B8;}
   i0 = p1;
   i1 = 65535u;
   i0 &= i1;
@@ -105423,19 +106563,19 @@ static u32 module_zak_in(module *self, u64 p0, u32 p1, u64 p2) {
   i0 += i1;
   i1 = 11u;
   i0 = i0 < i1;
-  if (i0) {goto B9;}
+  if (i0) {goto B8;}
   i0 = l5;
   i1 = 4294966324u;
   i0 += i1;
   l5 = i0;
   i1 = 3u;
   i0 = i0 > i1;
-  if (i0) {goto B10;}
+  if (i0) {goto B9;}
   i0 = l5;
   i1 = 1u;
   i0 = i0 != i1;
-  if (i0) {goto B9;}
-  B10:;
+  if (i0) {goto B8;}
+  B9:;
   i0 = p1;
   i1 = 65535u;
   i0 &= i1;
@@ -105452,7 +106592,7 @@ static u32 module_zak_in(module *self, u64 p0, u32 p1, u64 p2) {
   i1 = i3 ? i1 : i2;
   l7 = i1;
   i0 = i0 == i1;
-  if (i0) {goto B9;}
+  if (i0) {goto B8;}
   i0 = l5;
   i1 = l7;
   i2 = 1u;
@@ -105472,7 +106612,7 @@ static u32 module_zak_in(module *self, u64 p0, u32 p1, u64 p2) {
   i2 = i2 == i3;
   i1 |= i2;
   i0 = i0 == i1;
-  if (i0) {goto B9;}
+  if (i0) {goto B8;}
   i0 = p1;
   i1 = 65535u;
   i0 &= i1;
@@ -105480,177 +106620,55 @@ static u32 module_zak_in(module *self, u64 p0, u32 p1, u64 p2) {
   i2 = 65535u;
   i1 &= i2;
   i0 = i0 != i1;
-  if (i0) {goto B9;}
-  j0 = l3;
-  i0 = (u32)(j0);
-  i1 = l8;
-  i32_store16(j0 + 6, i1);
-  j0 = l3;
-  i0 = (u32)(j0);
-  j1 = l4;
-  j2 = 138ull;
-  j1 += j2;
-  i1 = (u32)(j1);
-  j1 = i64_load(j1);
-  i64_store(j0 + 8, j1);
-  j0 = l3;
-  i0 = (u32)(j0);
-  j1 = l4;
-  j2 = 132ull;
-  j1 += j2;
-  i1 = (u32)(j1);
-  i1 = i32_load(j1);
-  i32_store(j0 + 2, i1);
-  j0 = l3;
-  j1 = 2ull;
-  j0 += j1;
-  j1 = l4;
-  j2 = 80ull;
-  j1 += j2;
-  i2 = l10;
-  i3 = l6;
-  f6(self, j0, j1, i2, i3); if (NEVER(self->is_broken)) return ZAK_BROKEN;
-  j0 = l4;
-  j1 = 112ull;
-  j0 += j1;
-  i0 = (u32)(j0);
-  i0 = i32_load8_u(j0);
-  p1 = i0;
-  i0 = 1u;
-  l5 = i0;
-  j0 = l3;
-  i0 = (u32)(j0);
-  i0 = i32_load16_u(j0 + 4u);
-  l8 = i0;
-  j0 = l3;
-  i0 = (u32)(j0);
-  i0 = i32_load16_u(j0 + 6u);
-  j1 = l4;
-  j2 = 106ull;
-  j1 += j2;
-  i1 = (u32)(j1);
-  i1 = i32_load8_u(j1);
-  i0 = i0 > i1;
-  if (i0) {goto B11;}
-  i0 = l8;
-  i1 = 65535u;
-  i0 &= i1;
-  i1 = p1;
-  i2 = 7u;
-  i1 <<= (i2 & 31);
-  i2 = 256u;
-  i1 &= i2;
-  j2 = l4;
-  j3 = 123ull;
-  j2 += j3;
-  i2 = (u32)(j2);
-  i2 = i32_load8_u(j2);
-  i1 |= i2;
-  i2 = p1;
-  i3 = 3u;
-  i2 <<= (i3 & 31);
-  i3 = 512u;
-  i2 &= i3;
-  i1 |= i2;
-  i2 = 65535u;
-  i1 &= i2;
-  i0 = i0 > i1;
-  l5 = i0;
-  B11:;
-  i0 = p1;
-  i1 = 6u;
-  i0 <<= (i1 & 31);
-  i1 = 256u;
-  i0 &= i1;
-  i1 = p1;
-  i2 = 128u;
-  i1 &= i2;
-  i2 = 2u;
-  i1 <<= (i2 & 31);
-  i0 |= i1;
-  j1 = l4;
-  j2 = 121ull;
-  j1 += j2;
-  i1 = (u32)(j1);
-  i1 = i32_load8_u(j1);
-  p1 = i1;
-  i0 |= i1;
-  l10 = i0;
-  i1 = l8;
-  i2 = 65535u;
-  i1 &= i2;
-  l8 = i1;
-  i0 = i0 > i1;
-  if (i0) {goto B12;}
-  i0 = 8u;
-  i1 = 0u;
-  i2 = l8;
-  j3 = l4;
-  j4 = 122ull;
-  j3 += j4;
-  i3 = (u32)(j3);
-  i3 = i32_load8_u(j3);
-  i4 = p1;
-  i3 -= i4;
-  i4 = 15u;
-  i3 &= i4;
-  p1 = i3;
-  i4 = 16u;
-  i5 = p1;
-  i3 = i5 ? i3 : i4;
-  i4 = l10;
-  i3 += i4;
-  i4 = 65535u;
-  i3 &= i4;
-  i2 = i2 < i3;
-  i0 = i2 ? i0 : i1;
-  i1 = l5;
-  i0 |= i1;
-  l5 = i0;
-  B12:;
-  j0 = l4;
-  j1 = 205ull;
-  j0 += j1;
-  i0 = (u32)(j0);
-  i1 = 0u;
-  i32_store8(j0, i1);
-  goto B8;
-  B9:;
+  if (i0) {goto B8;}
   j0 = l4;
   i1 = l6;
-  f2(self, j0, i1); m = self->memory; if (NEVER(self->is_broken)) return ZAK_BROKEN;
+  i0 = f53(self, j0, i1); if (NEVER(self->is_broken)) return ZAK_BROKEN;
+  i1 = 255u;
+  i0 &= i1;
+  l5 = i0;
+  goto B3;
+  B8:;
   j0 = l3;
+  j1 = 8ull;
+  j0 += j1;
   j1 = l4;
-  i2 = p1;
-  f25(self, j0, j1, i2); if (NEVER(self->is_broken)) return ZAK_BROKEN;
+  i2 = l6;
+  i3 = p1;
+  f54(self, j0, j1, i2, i3); m = self->memory; if (NEVER(self->is_broken)) return ZAK_BROKEN;
   j0 = l3;
   i0 = (u32)(j0);
-  i0 = i32_load8_u(j0 + 1u);
+  i0 = i32_load8_u(j0 + 13u);
   l5 = i0;
   j0 = l3;
   i0 = (u32)(j0);
-  i0 = i32_load8_u(j0);
-  if (i0) {goto B7;}
-  i0 = 0u;
+  i0 = i32_load8_u(j0 + 12u);
+  p1 = i0;
+  j0 = l3;
+  i0 = (u32)(j0);
+  i0 = i32_load(j0 + 8u);
   l6 = i0;
-  B8:;
+  B4:;
+  i0 = p1;
+  i1 = 255u;
+  i0 &= i1;
+  if (i0) {goto B2;}
+  B3:;
   j0 = p2;
   i0 = (u32)(j0);
   i1 = l5;
   i32_store8(j0, i1);
   i0 = 0u;
   l5 = i0;
-  goto B6;
-  B7:;
+  goto B1;
+  B2:;
   i0 = l5;
   i1 = 255u;
   i0 &= i1;
   i1 = 1u;
   i0 += i1;
   l5 = i0;
-  i0 = 0u;
-  l6 = i0;
-  B6:;
+  B1:;
   j0 = p0;
   i0 = (u32)(j0);
   i1 = 0u;
@@ -105728,7 +106746,7 @@ static u32 module_zak_in_word(module *self, u64 p0, u32 p1, u64 p2) {
   j0 += j1;
   j1 = l4;
   i2 = p1;
-  f52(self, j0, j1, i2); if (NEVER(self->is_broken)) return ZAK_BROKEN;
+  f55(self, j0, j1, i2); if (NEVER(self->is_broken)) return ZAK_BROKEN;
   j0 = l3;
   i0 = (u32)(j0);
   i0 = i32_load8_u(j0 + 12u);
@@ -105823,7 +106841,7 @@ static u32 module_zak_int10(module *self, u64 p0, u64 p1, u64 p2, u64 p3, u64 p4
   j1 = 2072ull;
   j0 += j1;
   l9 = j0;
-  i0 = f18(self, j0);
+  i0 = f19(self, j0);
   i0 = !(i0);
   if (i0) {goto B2;}
   j0 = l7;
@@ -105865,7 +106883,7 @@ static u32 module_zak_int10(module *self, u64 p0, u64 p1, u64 p2, u64 p3, u64 p4
   j6 = i8 ? j6 : j7;
   j5 += j6;
   j6 = p3;
-  f54(self, j0, j1, j2, j3, j4, j5, j6); m = self->memory; if (NEVER(self->is_broken)) return ZAK_BROKEN;
+  f57(self, j0, j1, j2, j3, j4, j5, j6); m = self->memory; if (NEVER(self->is_broken)) return ZAK_BROKEN;
   j0 = l7;
   i0 = (u32)(j0);
   i0 = i32_load8_u(j0 + 8u);
@@ -106120,12 +107138,12 @@ static u32 module_zak_int10(module *self, u64 p0, u64 p1, u64 p2, u64 p3, u64 p4
   j0 = i64_load(j0 + 16u);
   p1 = j0;
   j0 = p2;
-  f154(self, j0);
+  f158(self, j0);
   j0 = p1;
   i0 = !(j0);
   if (i0) {goto B2;}
   j0 = p3;
-  f154(self, j0);
+  f158(self, j0);
   goto B2;
   B3:;
   i0 = 23u;
@@ -106639,7 +107657,7 @@ static u32 module_zak_move_bytes(module *self, u64 p0, u32 p1, u32 p2, u64 p3, u
     i2 = p4;
     i3 = l10;
     i2 += i3;
-    f33(self, j0, j1, i2);
+    f34(self, j0, j1, i2);
     j0 = l7;
     j1 = 2003ull;
     j0 += j1;
@@ -106701,7 +107719,7 @@ static u32 module_zak_move_bytes(module *self, u64 p0, u32 p1, u32 p2, u64 p3, u
     i5 = 255u;
     i4 &= i5;
     i2 = i4 ? i2 : i3;
-    i0 = f45(self, j0, i1, i2);
+    i0 = f46(self, j0, i1, i2);
     l16 = i0;
     j0 = l7;
     j1 = 68ull;
@@ -106803,7 +107821,7 @@ static u32 module_zak_move_bytes(module *self, u64 p0, u32 p1, u32 p2, u64 p3, u
   i1 = p1;
   i2 = p2;
   i3 = l10;
-  f63(self, j0, i1, i2, i3);
+  f66(self, j0, i1, i2, i3);
   i0 = 0u;
   l9 = i0;
   B2:;
@@ -106889,7 +107907,7 @@ static u32 module_zak_open(module *self, u64 p0, u64 p1, u64 p2) {
   j2 = i4 ? j2 : j3;
   j1 += j2;
   j2 = p2;
-  f66(self, j0, j1, j2); m = self->memory; if (NEVER(self->is_broken)) return ZAK_BROKEN;
+  f69(self, j0, j1, j2); m = self->memory; if (NEVER(self->is_broken)) return ZAK_BROKEN;
   j0 = l3;
   i0 = (u32)(j0);
   j0 = i64_load(j0 + 2120u);
@@ -106938,7 +107956,7 @@ static u32 module_zak_open(module *self, u64 p0, u64 p1, u64 p2) {
   j1 = l3;
   j2 = 2064ull;
   j1 += j2;
-  f67(self, j0, j1); m = self->memory; if (NEVER(self->is_broken)) return ZAK_BROKEN;
+  f70(self, j0, j1); m = self->memory; if (NEVER(self->is_broken)) return ZAK_BROKEN;
   j0 = l3;
   i0 = (u32)(j0);
   j1 = l3;
@@ -107135,7 +108153,7 @@ static u32 module_zak_open(module *self, u64 p0, u64 p1, u64 p2) {
   j0 = l3;
   j1 = 2160ull;
   j2 = 8ull;
-  f151(self, j0, j1, j2); m = self->memory; if (NEVER(self->is_broken)) return ZAK_BROKEN;
+  f155(self, j0, j1, j2); m = self->memory; if (NEVER(self->is_broken)) return ZAK_BROKEN;
   j0 = l3;
   i0 = (u32)(j0);
   j0 = i64_load(j0);
@@ -107358,19 +108376,19 @@ static u32 module_zak_open(module *self, u64 p0, u64 p1, u64 p2) {
   i0 = !(j0);
   if (i0) {goto B3;}
   j0 = p1;
-  f154(self, j0);
+  f158(self, j0);
   B3:;
   j0 = l11;
   i0 = !(j0);
   if (i0) {goto B4;}
   j0 = l13;
-  f154(self, j0);
+  f158(self, j0);
   B4:;
   j0 = l7;
   i0 = !(j0);
   if (i0) {goto B5;}
   j0 = l9;
-  f154(self, j0);
+  f158(self, j0);
   B5:;
   i0 = l17;
   i1 = 255u;
@@ -107387,12 +108405,12 @@ static u32 module_zak_open(module *self, u64 p0, u64 p1, u64 p2) {
   j0 = i64_load(j0 + 16u);
   p0 = j0;
   j0 = l14;
-  f154(self, j0);
+  f158(self, j0);
   j0 = p0;
   i0 = !(j0);
   if (i0) {goto B6;}
   j0 = p1;
-  f154(self, j0);
+  f158(self, j0);
   B6:;
   i0 = l18;
   i1 = 255u;
@@ -107409,12 +108427,12 @@ static u32 module_zak_open(module *self, u64 p0, u64 p1, u64 p2) {
   j0 = i64_load(j0 + 16u);
   p0 = j0;
   j0 = l15;
-  f154(self, j0);
+  f158(self, j0);
   j0 = p0;
   i0 = !(j0);
   if (i0) {goto B7;}
   j0 = p1;
-  f154(self, j0);
+  f158(self, j0);
   B7:;
   i0 = 23u;
   l17 = i0;
@@ -107433,12 +108451,12 @@ static u32 module_zak_open(module *self, u64 p0, u64 p1, u64 p2) {
   j0 = i64_load(j0 + 16u);
   p0 = j0;
   j0 = l16;
-  f154(self, j0);
+  f158(self, j0);
   j0 = p0;
   i0 = !(j0);
   if (i0) {goto B0;}
   j0 = p1;
-  f154(self, j0);
+  f158(self, j0);
   goto B0;
   B1:;
   i0 = 22u;
@@ -107459,11 +108477,11 @@ static u32 module_zak_open(module *self, u64 p0, u64 p1, u64 p2) {
 }
 
 static u32 module_zak_out(module *self, u64 p0, u32 p1, u32 p2) {
-  u32 l5 = 0, l6 = 0, l7 = 0, l8 = 0;
+  u32 l5 = 0, l6 = 0, l7 = 0, l8 = 0, l9 = 0, l10 = 0;
   u64 l3 = 0, l4 = 0;
   u8 *m = self->memory;
   u32 i0, i1, i2, i3, i4, i5;
-  u64 j0, j1, j2, j3, j4;
+  u64 j0, j1, j3, j4;
   j0 = self->g0;
   j1 = 16ull;
   j0 -= j1;
@@ -107482,11 +108500,12 @@ static u32 module_zak_out(module *self, u64 p0, u32 p1, u32 p2) {
   j0 += j1;
   i0 = (u32)(j0);
   i0 = i32_load(j0);
-  i0 = !(i0);
-  if (i0) {goto B1;}
+  l6 = i0;
+  i1 = 16777217u;
+  i0 = i0 < i1;
+  if (i0) {goto B2;}
   j0 = p0;
   f1(self, j0); m = self->memory; if (NEVER(self->is_broken)) return ZAK_BROKEN;
-  B1:;
   j0 = p0;
   i0 = (u32)(j0);
   j1 = 0ull;
@@ -107499,6 +108518,113 @@ static u32 module_zak_out(module *self, u64 p0, u32 p1, u32 p2) {
   i0 = (u32)(j0);
   j1 = 0ull;
   i64_store(j0 + 8, j1);
+  i0 = 0u;
+  l6 = i0;
+  goto B1;
+  B2:;
+  j0 = p0;
+  i0 = (u32)(j0);
+  j1 = 0ull;
+  i64_store(j0, j1);
+  j0 = p0;
+  i0 = (u32)(j0);
+  j0 = i64_load(j0 + 8u);
+  l4 = j0;
+  j0 = p0;
+  i0 = (u32)(j0);
+  j1 = 0ull;
+  i64_store(j0 + 8, j1);
+  B1:;
+  i0 = 4u;
+  l5 = i0;
+  i0 = p1;
+  i1 = 65535u;
+  i0 &= i1;
+  i1 = 4294966332u;
+  i0 += i1;
+  switch (i0) {
+    case 0: goto B7;
+    case 1: goto B10;
+    case 2: goto B6;
+    case 3: goto B6;
+    case 4: goto B6;
+    case 5: goto B6;
+    case 6: goto B6;
+    case 7: goto B6;
+    case 8: goto B6;
+    case 9: goto B6;
+    case 10: goto B8;
+    case 11: goto B9;
+    default: goto B6;
+  }
+  B10:;
+  j0 = l4;
+  j1 = 56ull;
+  j0 += j1;
+  i0 = (u32)(j0);
+  i0 = i32_load8_u(j0);
+  i1 = 253u;
+  i0 &= i1;
+  i1 = 1u;
+  i0 = i0 == i1;
+  if (i0) {goto B11;}
+  i0 = 5u;
+  l5 = i0;
+  goto B7;
+  B11:;
+  j0 = l4;
+  i1 = l6;
+  f2(self, j0, i1); m = self->memory; if (NEVER(self->is_broken)) return ZAK_BROKEN;
+  i0 = 5u;
+  l7 = i0;
+  goto B5;
+  B9:;
+  j0 = l4;
+  j1 = 57ull;
+  j0 += j1;
+  i0 = (u32)(j0);
+  i0 = i32_load8_u(j0);
+  i1 = 4294967289u;
+  i0 += i1;
+  i1 = 255u;
+  i0 &= i1;
+  i1 = 254u;
+  i0 = i0 >= i1;
+  if (i0) {goto B12;}
+  i0 = 13u;
+  l5 = i0;
+  goto B7;
+  B12:;
+  j0 = l4;
+  i1 = l6;
+  f2(self, j0, i1); m = self->memory; if (NEVER(self->is_broken)) return ZAK_BROKEN;
+  i0 = 13u;
+  l7 = i0;
+  goto B5;
+  B8:;
+  i0 = 12u;
+  l5 = i0;
+  B7:;
+  j0 = l3;
+  j1 = 8ull;
+  j0 += j1;
+  j1 = l4;
+  i2 = l5;
+  i3 = p2;
+  f44(self, j0, j1, i2, i3);
+  j0 = l3;
+  i0 = (u32)(j0);
+  i0 = i32_load8_u(j0 + 9u);
+  l5 = i0;
+  j0 = l3;
+  i0 = (u32)(j0);
+  i0 = i32_load8_u(j0 + 8u);
+  p1 = i0;
+  goto B4;
+  B6:;
+  j0 = l4;
+  i1 = l6;
+  f2(self, j0, i1); m = self->memory; if (NEVER(self->is_broken)) return ZAK_BROKEN;
   i0 = p1;
   i1 = 4294966336u;
   i0 += i1;
@@ -107506,23 +108632,24 @@ static u32 module_zak_out(module *self, u64 p0, u32 p1, u32 p2) {
   i1 = 65535u;
   i0 &= i1;
   l5 = i0;
-  i1 = 15u;
+  i1 = 12u;
   i0 = i0 > i1;
-  if (i0) {goto B5;}
-  i0 = 55295u;
+  if (i0) {goto B14;}
+  i0 = 6095u;
   i1 = l5;
   i0 >>= (i1 & 31);
   i1 = 1u;
   i0 &= i1;
-  if (i0) {goto B4;}
-  B5:;
+  if (i0) {goto B13;}
+  B14:;
   i0 = 1u;
   l5 = i0;
   i0 = 14u;
-  l6 = i0;
+  l7 = i0;
   i0 = p1;
   i1 = 65535u;
   i0 &= i1;
+  l8 = i0;
   i1 = 980u;
   i2 = 948u;
   j3 = l4;
@@ -107533,71 +108660,79 @@ static u32 module_zak_out(module *self, u64 p0, u32 p1, u32 p2) {
   i4 = 1u;
   i3 &= i4;
   i1 = i3 ? i1 : i2;
-  l7 = i1;
+  l9 = i1;
   i0 = i0 == i1;
-  if (i0) {goto B3;}
+  if (i0) {goto B5;}
+  i0 = 0u;
+  l6 = i0;
   i0 = 15u;
   i1 = 16u;
   i2 = 0u;
-  i3 = p1;
-  i4 = 65535u;
-  i3 &= i4;
-  p1 = i3;
-  i4 = l7;
+  i3 = l8;
+  i4 = l9;
   i5 = 6u;
   i4 += i5;
+  l10 = i4;
   i3 = i3 == i4;
-  l8 = i3;
   i1 = i3 ? i1 : i2;
-  i2 = p1;
-  i3 = l7;
+  i2 = l8;
+  i3 = l9;
   i4 = 1u;
   i3 |= i4;
   i2 = i2 == i3;
-  p1 = i2;
+  l8 = i2;
   i0 = i2 ? i0 : i1;
-  l6 = i0;
-  i0 = p1;
-  if (i0) {goto B3;}
+  l7 = i0;
   i0 = l8;
-  if (i0) {goto B3;}
-  goto B2;
-  B4:;
+  if (i0) {goto B5;}
+  i0 = p1;
+  i1 = 65535u;
+  i0 &= i1;
+  i1 = l10;
+  i0 = i0 == i1;
+  if (i0) {goto B5;}
+  goto B3;
+  B13:;
   i0 = l6;
   j0 = (u64)(i0);
   j1 = 65535ull;
   j0 &= j1;
   i0 = (u32)(j0);
-  i0 = i32_load8_u(j0 + 1049776u);
-  l6 = i0;
-  B3:;
+  i0 = i32_load8_u(j0 + 1049792u);
+  l7 = i0;
+  B5:;
   j0 = l3;
-  j1 = 8ull;
-  j0 += j1;
   j1 = l4;
-  i2 = l6;
+  i2 = l7;
   i3 = p2;
-  f43(self, j0, j1, i2, i3);
+  f44(self, j0, j1, i2, i3);
+  i0 = 0u;
+  l6 = i0;
   j0 = l3;
   i0 = (u32)(j0);
-  i0 = i32_load8_u(j0 + 9u);
+  i0 = i32_load8_u(j0 + 1u);
+  l5 = i0;
+  j0 = l3;
+  i0 = (u32)(j0);
+  i0 = i32_load8_u(j0);
+  p1 = i0;
+  B4:;
+  i0 = l5;
   i1 = 255u;
   i0 &= i1;
   i1 = 1u;
   i0 += i1;
   i1 = 0u;
-  j2 = l3;
-  i2 = (u32)(j2);
-  i2 = i32_load8_u(j2 + 8u);
+  i2 = p1;
   i3 = 255u;
   i2 &= i3;
   i0 = i2 ? i0 : i1;
   l5 = i0;
-  B2:;
+  B3:;
   j0 = p0;
   i0 = (u32)(j0);
   i1 = 0u;
-  i32_store(j0 + 1, i1);
+  i32_store16(j0 + 1, i1);
   j0 = p0;
   i0 = (u32)(j0);
   i1 = 1u;
@@ -107605,11 +108740,17 @@ static u32 module_zak_out(module *self, u64 p0, u32 p1, u32 p2) {
   j0 = p0;
   i0 = (u32)(j0);
   i1 = 0u;
-  i32_store(j0 + 4, i1);
+  i32_store8(j0 + 3, i1);
   j0 = p0;
   i0 = (u32)(j0);
   j1 = l4;
   i64_store(j0 + 8, j1);
+  j0 = p0;
+  j1 = 4ull;
+  j0 += j1;
+  i0 = (u32)(j0);
+  i1 = l6;
+  i32_store(j0, i1);
   B0:;
   j0 = l3;
   j1 = 16ull;
@@ -107643,11 +108784,12 @@ static u32 module_zak_out_word(module *self, u64 p0, u32 p1, u32 p2) {
   j0 += j1;
   i0 = (u32)(j0);
   i0 = i32_load(j0);
-  i0 = !(i0);
-  if (i0) {goto B1;}
+  l5 = i0;
+  i1 = 16777217u;
+  i0 = i0 < i1;
+  if (i0) {goto B2;}
   j0 = p0;
   f1(self, j0); m = self->memory; if (NEVER(self->is_broken)) return ZAK_BROKEN;
-  B1:;
   j0 = p0;
   i0 = (u32)(j0);
   j1 = 0ull;
@@ -107660,25 +108802,100 @@ static u32 module_zak_out_word(module *self, u64 p0, u32 p1, u32 p2) {
   i0 = (u32)(j0);
   j1 = 0ull;
   i64_store(j0 + 8, j1);
+  i0 = 0u;
+  l5 = i0;
+  goto B1;
+  B2:;
+  j0 = p0;
+  i0 = (u32)(j0);
+  j1 = 0ull;
+  i64_store(j0, j1);
+  j0 = p0;
+  i0 = (u32)(j0);
+  j0 = i64_load(j0 + 8u);
+  l4 = j0;
+  j0 = p0;
+  i0 = (u32)(j0);
+  j1 = 0ull;
+  i64_store(j0 + 8, j1);
+  B1:;
+  i0 = p1;
+  i1 = 65535u;
+  i0 &= i1;
+  i1 = 4294966332u;
+  i0 += i1;
+  switch (i0) {
+    case 0: goto B7;
+    case 1: goto B5;
+    case 2: goto B5;
+    case 3: goto B5;
+    case 4: goto B5;
+    case 5: goto B5;
+    case 6: goto B5;
+    case 7: goto B5;
+    case 8: goto B5;
+    case 9: goto B5;
+    case 10: goto B6;
+    default: goto B5;
+  }
+  B7:;
+  i0 = p2;
+  i1 = 5u;
+  i0 &= i1;
+  i1 = 1u;
+  i0 = i0 == i1;
+  if (i0) {goto B5;}
+  goto B4;
+  B6:;
+  i0 = p2;
+  i1 = 15u;
+  i0 &= i1;
+  i1 = 4294967289u;
+  i0 += i1;
+  i1 = 4294967294u;
+  i0 = i0 < i1;
+  if (i0) {goto B4;}
+  B5:;
+  j0 = l4;
+  i1 = l5;
+  f2(self, j0, i1); m = self->memory; if (NEVER(self->is_broken)) return ZAK_BROKEN;
+  j0 = l3;
+  j1 = l4;
+  i2 = p1;
+  i3 = p2;
+  f71(self, j0, j1, i2, i3);
+  i0 = 0u;
+  l5 = i0;
+  j0 = l3;
+  i0 = (u32)(j0);
+  i0 = i32_load8_u(j0 + 1u);
+  p1 = i0;
+  j0 = l3;
+  i0 = (u32)(j0);
+  i0 = i32_load8_u(j0);
+  p2 = i0;
+  goto B3;
+  B4:;
   j0 = l3;
   j1 = 8ull;
   j0 += j1;
   j1 = l4;
   i2 = p1;
   i3 = p2;
-  f68(self, j0, j1, i2, i3);
-  j0 = l3;
-  i0 = (u32)(j0);
-  i0 = i32_load8_u(j0 + 8u);
-  l5 = i0;
+  f71(self, j0, j1, i2, i3);
   j0 = l3;
   i0 = (u32)(j0);
   i0 = i32_load8_u(j0 + 9u);
+  p1 = i0;
+  j0 = l3;
+  i0 = (u32)(j0);
+  i0 = i32_load8_u(j0 + 8u);
   p2 = i0;
+  B3:;
   j0 = p0;
   i0 = (u32)(j0);
   i1 = 0u;
-  i32_store(j0 + 1, i1);
+  i32_store16(j0 + 1, i1);
   j0 = p0;
   i0 = (u32)(j0);
   i1 = 1u;
@@ -107686,16 +108903,26 @@ static u32 module_zak_out_word(module *self, u64 p0, u32 p1, u32 p2) {
   j0 = p0;
   i0 = (u32)(j0);
   i1 = 0u;
-  i32_store(j0 + 4, i1);
+  i32_store8(j0 + 3, i1);
   j0 = p0;
   i0 = (u32)(j0);
   j1 = l4;
   i64_store(j0 + 8, j1);
-  i0 = p2;
+  j0 = p0;
+  j1 = 4ull;
+  j0 += j1;
+  i0 = (u32)(j0);
+  i1 = l5;
+  i32_store(j0, i1);
+  i0 = p1;
+  i1 = 255u;
+  i0 &= i1;
   i1 = 1u;
   i0 += i1;
   i1 = 0u;
-  i2 = l5;
+  i2 = p2;
+  i3 = 255u;
+  i2 &= i3;
   i0 = i2 ? i0 : i1;
   l5 = i0;
   B0:;
@@ -107747,7 +108974,7 @@ static u32 module_zak_print(module *self, u64 p0, u64 p1, u64 p2, u64 p3, u64 p4
   j1 += j2;
   l8 = j1;
   j2 = p1;
-  f70(self, j0, j1, j2); if (NEVER(self->is_broken)) return ZAK_BROKEN;
+  f73(self, j0, j1, j2); if (NEVER(self->is_broken)) return ZAK_BROKEN;
   j0 = l6;
   i0 = (u32)(j0);
   i0 = i32_load8_u(j0 + 48u);
@@ -107785,7 +109012,7 @@ static u32 module_zak_print(module *self, u64 p0, u64 p1, u64 p2, u64 p3, u64 p4
   j1 = 176ull;
   j0 += j1;
   j1 = p1;
-  i0 = f11(self, j0, j1); m = self->memory; if (NEVER(self->is_broken)) return ZAK_BROKEN;
+  i0 = f12(self, j0, j1); m = self->memory; if (NEVER(self->is_broken)) return ZAK_BROKEN;
   i0 = !(i0);
   if (i0) {goto B12;}
   j0 = l6;
@@ -107941,7 +109168,7 @@ static u32 module_zak_print(module *self, u64 p0, u64 p1, u64 p2, u64 p3, u64 p4
   j0 = l6;
   i0 = (u32)(j0);
   j0 = i64_load(j0 + 176u);
-  f154(self, j0);
+  f158(self, j0);
   goto B9;
   B11:;
   j0 = l6;
@@ -107988,7 +109215,7 @@ static u32 module_zak_print(module *self, u64 p0, u64 p1, u64 p2, u64 p3, u64 p4
   j1 = 24ull;
   j0 += j1;
   j1 = 10ull;
-  i0 = f11(self, j0, j1); m = self->memory; if (NEVER(self->is_broken)) return ZAK_BROKEN;
+  i0 = f12(self, j0, j1); m = self->memory; if (NEVER(self->is_broken)) return ZAK_BROKEN;
   i0 = !(i0);
   if (i0) {goto B20;}
   j0 = l6;
@@ -108283,7 +109510,7 @@ static u32 module_zak_print(module *self, u64 p0, u64 p1, u64 p2, u64 p3, u64 p4
     j2 = l10;
     j3 = 0ull;
     i4 = l35;
-    f72(self, j0, j1, j2, j3, i4); if (NEVER(self->is_broken)) return ZAK_BROKEN;
+    f75(self, j0, j1, j2, j3, i4); if (NEVER(self->is_broken)) return ZAK_BROKEN;
     j0 = l6;
     i0 = (u32)(j0);
     i0 = i32_load8_u(j0 + 48u);
@@ -108394,7 +109621,7 @@ static u32 module_zak_print(module *self, u64 p0, u64 p1, u64 p2, u64 p3, u64 p4
     j2 = 248ull;
     j1 += j2;
     i2 = l34;
-    f75(self, j0, j1, i2); if (NEVER(self->is_broken)) return ZAK_BROKEN;
+    f78(self, j0, j1, i2); if (NEVER(self->is_broken)) return ZAK_BROKEN;
     j0 = l6;
     i0 = (u32)(j0);
     j0 = i64_load(j0 + 16u);
@@ -108465,7 +109692,7 @@ static u32 module_zak_print(module *self, u64 p0, u64 p1, u64 p2, u64 p3, u64 p4
     j1 = 24ull;
     j0 += j1;
     j1 = l15;
-    i0 = f11(self, j0, j1); m = self->memory; if (NEVER(self->is_broken)) return ZAK_BROKEN;
+    i0 = f12(self, j0, j1); m = self->memory; if (NEVER(self->is_broken)) return ZAK_BROKEN;
     i0 = !(i0);
     if (i0) {goto B37;}
     j0 = l6;
@@ -109837,7 +111064,7 @@ static u32 module_zak_print(module *self, u64 p0, u64 p1, u64 p2, u64 p3, u64 p4
       j0 += j1;
       j1 = l14;
       j2 = p0;
-      f71(self, j0, j1, j2);
+      f74(self, j0, j1, j2);
       j0 = l6;
       i0 = (u32)(j0);
       j0 = i64_load(j0 + 224u);
@@ -110110,7 +111337,7 @@ static u32 module_zak_print(module *self, u64 p0, u64 p1, u64 p2, u64 p3, u64 p4
       j2 = l6;
       j3 = 248ull;
       j2 += j3;
-      f73(self, j0, j1, j2); m = self->memory; if (NEVER(self->is_broken)) return ZAK_BROKEN;
+      f76(self, j0, j1, j2); m = self->memory; if (NEVER(self->is_broken)) return ZAK_BROKEN;
       j0 = l12;
       l15 = j0;
       j0 = l8;
@@ -110146,7 +111373,7 @@ static u32 module_zak_print(module *self, u64 p0, u64 p1, u64 p2, u64 p3, u64 p4
     j1 = 24ull;
     j0 += j1;
     j1 = 4ull;
-    i0 = f11(self, j0, j1); m = self->memory; if (NEVER(self->is_broken)) return ZAK_BROKEN;
+    i0 = f12(self, j0, j1); m = self->memory; if (NEVER(self->is_broken)) return ZAK_BROKEN;
     if (i0) {goto B76;}
     i0 = 9u;
     l32 = i0;
@@ -110217,7 +111444,7 @@ static u32 module_zak_print(module *self, u64 p0, u64 p1, u64 p2, u64 p3, u64 p4
     j2 = 24ull;
     j1 += j2;
     j2 = l31;
-    f73(self, j0, j1, j2); m = self->memory; if (NEVER(self->is_broken)) return ZAK_BROKEN;
+    f76(self, j0, j1, j2); m = self->memory; if (NEVER(self->is_broken)) return ZAK_BROKEN;
     j0 = l6;
     i0 = (u32)(j0);
     i0 = i32_load8_u(j0 + 152u);
@@ -110249,7 +111476,7 @@ static u32 module_zak_print(module *self, u64 p0, u64 p1, u64 p2, u64 p3, u64 p4
     j0 = l6;
     i0 = (u32)(j0);
     j0 = i64_load(j0 + 24u);
-    f154(self, j0);
+    f158(self, j0);
     goto B19;
     B30:;
     j0 = l10;
@@ -110293,12 +111520,12 @@ static u32 module_zak_print(module *self, u64 p0, u64 p1, u64 p2, u64 p3, u64 p4
   j0 = l6;
   i0 = (u32)(j0);
   j0 = i64_load(j0 + 24u);
-  f154(self, j0);
+  f158(self, j0);
   B19:;
   i0 = l33;
   if (i0) {goto B79;}
   j0 = l9;
-  f154(self, j0);
+  f158(self, j0);
   B79:;
   i0 = l32;
   if (i0) {goto B8;}
@@ -110477,7 +111704,7 @@ static u32 module_zak_print(module *self, u64 p0, u64 p1, u64 p2, u64 p3, u64 p4
   i0 = l34;
   if (i0) {goto B0;}
   j0 = l11;
-  f154(self, j0);
+  f158(self, j0);
   goto B0;
   B7:;
   j0 = p5;
@@ -110496,7 +111723,7 @@ static u32 module_zak_print(module *self, u64 p0, u64 p1, u64 p2, u64 p3, u64 p4
   j0 = (u64)(s64)(s8)(u8)(j0);
   j1 = 2ull;
   j0 <<= (j1 & 63);
-  j1 = 1049780ull;
+  j1 = 1049796ull;
   j0 += j1;
   i0 = (u32)(j0);
   i0 = i32_load(j0);
@@ -110531,13 +111758,18 @@ static u32 module_zak_print(module *self, u64 p0, u64 p1, u64 p2, u64 p3, u64 p4
 }
 
 static u32 module_zak_put(module *self, u64 p0, u32 p1, u32 p2) {
-  u32 l3 = 0, l4 = 0, l5 = 0, l6 = 0, l7 = 0;
-  u64 l8 = 0, l9 = 0;
+  u32 l5 = 0;
+  u64 l3 = 0, l4 = 0;
   u8 *m = self->memory;
-  u32 i0, i1, i2, i3, i4, i5;
-  u64 j0, j1, j2, j3;
+  u32 i0, i1, i2, i3, i4;
+  u64 j0, j1;
+  j0 = self->g0;
+  j1 = 16ull;
+  j0 -= j1;
+  l3 = j0;
+  self->g0 = j0;
   i0 = 20u;
-  l3 = i0;
+  l5 = i0;
   j0 = p0;
   i0 = (u32)(j0);
   i0 = i32_load8_u(j0);
@@ -110549,10 +111781,10 @@ static u32 module_zak_put(module *self, u64 p0, u32 p1, u32 p2) {
   j0 += j1;
   i0 = (u32)(j0);
   i0 = i32_load(j0);
-  l4 = i0;
+  l5 = i0;
   i1 = 16777217u;
   i0 = i0 < i1;
-  if (i0) {goto B5;}
+  if (i0) {goto B2;}
   j0 = p0;
   f1(self, j0); m = self->memory; if (NEVER(self->is_broken)) return ZAK_BROKEN;
   j0 = p0;
@@ -110562,15 +111794,15 @@ static u32 module_zak_put(module *self, u64 p0, u32 p1, u32 p2) {
   j0 = p0;
   i0 = (u32)(j0);
   j0 = i64_load(j0 + 8u);
-  l8 = j0;
+  l4 = j0;
   j0 = p0;
   i0 = (u32)(j0);
   j1 = 0ull;
   i64_store(j0 + 8, j1);
   i0 = 0u;
-  l4 = i0;
-  goto B4;
-  B5:;
+  l5 = i0;
+  goto B1;
+  B2:;
   j0 = p0;
   i0 = (u32)(j0);
   j1 = 0ull;
@@ -110578,299 +111810,36 @@ static u32 module_zak_put(module *self, u64 p0, u32 p1, u32 p2) {
   j0 = p0;
   i0 = (u32)(j0);
   j0 = i64_load(j0 + 8u);
-  l8 = j0;
+  l4 = j0;
   j0 = p0;
   i0 = (u32)(j0);
   j1 = 0ull;
   i64_store(j0 + 8, j1);
-  i0 = l4;
-  if (i0) {goto B6;}
-  i0 = 0u;
-  l4 = i0;
-  goto B4;
-  B6:;
-  j0 = l8;
-  i1 = l4;
-  i2 = p1;
-  i0 = f76(self, j0, i1, i2);
-  i0 = !(i0);
-  if (i0) {goto B3;}
-  B4:;
-  i0 = 1u;
-  l3 = i0;
-  j0 = l8;
-  j1 = 2003ull;
-  j0 += j1;
-  i0 = (u32)(j0);
-  i0 = i32_load8_u(j0);
-  i1 = 2u;
-  i0 &= i1;
-  i0 = !(i0);
-  if (i0) {goto B1;}
-  i0 = p1;
-  j1 = l8;
-  j2 = 60ull;
-  j1 += j2;
-  i1 = (u32)(j1);
-  i1 = i32_load(j1);
-  i0 -= i1;
-  p1 = i0;
-  j1 = l8;
-  j2 = 64ull;
-  j1 += j2;
-  i1 = (u32)(j1);
-  i1 = i32_load(j1);
-  i0 = i0 >= i1;
-  if (i0) {goto B1;}
-  j0 = l8;
-  j1 = 71ull;
-  j0 += j1;
-  i0 = (u32)(j0);
-  i0 = i32_load8_u(j0);
-  l3 = i0;
-  j0 = l8;
-  j1 = 70ull;
-  j0 += j1;
-  i0 = (u32)(j0);
-  i0 = i32_load8_u(j0);
-  l5 = i0;
-  j0 = l8;
-  j1 = 69ull;
-  j0 += j1;
-  i0 = (u32)(j0);
-  i0 = i32_load8_u(j0);
-  l6 = i0;
-  j0 = l8;
-  j1 = l8;
-  j2 = 72ull;
-  j1 += j2;
-  i1 = (u32)(j1);
-  i1 = i32_load8_u(j1);
-  i2 = p2;
-  i0 = f45(self, j0, i1, i2);
-  p2 = i0;
-  j0 = l8;
-  j1 = 68ull;
-  j0 += j1;
-  i0 = (u32)(j0);
-  i0 = i32_load8_u(j0);
-  l7 = i0;
-  i1 = 1u;
-  i0 &= i1;
-  i0 = !(i0);
-  if (i0) {goto B8;}
-  i0 = 134480385u;
-  i1 = p1;
-  i2 = 3u;
-  i1 <<= (i2 & 31);
-  i0 >>= (i1 & 31);
-  l5 = i0;
-  goto B7;
-  B8:;
-  i0 = 15u;
-  i1 = 10u;
-  i2 = 5u;
-  i3 = p1;
-  i4 = 1u;
-  i3 &= i4;
-  i1 = i3 ? i1 : i2;
-  i2 = l5;
-  i3 = 1u;
-  i2 &= i3;
-  i0 = i2 ? i0 : i1;
-  l5 = i0;
-  B7:;
-  j0 = l8;
-  i0 = (u32)(j0);
-  j0 = i64_load(j0);
-  i1 = p1;
-  i2 = 65532u;
-  i1 &= i2;
-  i2 = p1;
-  i3 = 65534u;
-  i2 &= i3;
-  i3 = p1;
-  i4 = l6;
-  i5 = 1u;
-  i4 &= i5;
-  i2 = i4 ? i2 : i3;
-  i3 = l7;
-  i4 = 1u;
-  i3 &= i4;
-  i1 = i3 ? i1 : i2;
-  j1 = (u64)(i1);
-  j2 = 65535ull;
-  j1 &= j2;
-  j2 = 2ull;
-  j1 <<= (j2 & 63);
-  j0 += j1;
-  l9 = j0;
-  i0 = (u32)(j0);
-  i1 = p2;
-  j2 = l9;
-  i2 = (u32)(j2);
-  i2 = i32_load(j2);
-  p1 = i2;
-  i1 ^= i2;
-  i2 = l5;
-  i3 = l3;
-  i2 &= i3;
-  i3 = 2u;
-  i2 <<= (i3 & 31);
-  j2 = (u64)(i2);
-  j3 = 60ull;
-  j2 &= j3;
-  j3 = 1048844ull;
-  j2 += j3;
-  i2 = (u32)(j2);
-  i2 = i32_load(j2);
-  i1 &= i2;
-  i2 = p1;
-  i1 ^= i2;
-  i32_store(j0, i1);
-  goto B2;
-  B3:;
-  j0 = l8;
-  i1 = l4;
-  i2 = p1;
-  i0 = f77(self, j0, i1, i2); m = self->memory; if (NEVER(self->is_broken)) return ZAK_BROKEN;
-  l4 = i0;
-  i0 = 1u;
-  l3 = i0;
-  j0 = l8;
-  j1 = 2003ull;
-  j0 += j1;
-  i0 = (u32)(j0);
-  i0 = i32_load8_u(j0);
-  i1 = 2u;
-  i0 &= i1;
-  i0 = !(i0);
-  if (i0) {goto B1;}
-  i0 = p1;
-  j1 = l8;
-  j2 = 60ull;
-  j1 += j2;
-  i1 = (u32)(j1);
-  i1 = i32_load(j1);
-  i0 -= i1;
-  p1 = i0;
-  j1 = l8;
-  j2 = 64ull;
-  j1 += j2;
-  i1 = (u32)(j1);
-  i1 = i32_load(j1);
-  i0 = i0 >= i1;
-  if (i0) {goto B1;}
-  j0 = l8;
-  j1 = 71ull;
-  j0 += j1;
-  i0 = (u32)(j0);
-  i0 = i32_load8_u(j0);
-  l3 = i0;
-  j0 = l8;
-  j1 = 70ull;
-  j0 += j1;
-  i0 = (u32)(j0);
-  i0 = i32_load8_u(j0);
-  l5 = i0;
-  j0 = l8;
-  j1 = 69ull;
-  j0 += j1;
-  i0 = (u32)(j0);
-  i0 = i32_load8_u(j0);
-  l6 = i0;
-  j0 = l8;
-  j1 = l8;
-  j2 = 72ull;
-  j1 += j2;
-  i1 = (u32)(j1);
-  i1 = i32_load8_u(j1);
-  i2 = p2;
-  i0 = f45(self, j0, i1, i2);
-  p2 = i0;
-  j0 = l8;
-  j1 = 68ull;
-  j0 += j1;
-  i0 = (u32)(j0);
-  i0 = i32_load8_u(j0);
-  l7 = i0;
-  i1 = 1u;
-  i0 &= i1;
-  i0 = !(i0);
-  if (i0) {goto B10;}
-  i0 = 134480385u;
-  i1 = p1;
-  i2 = 3u;
-  i1 <<= (i2 & 31);
-  i0 >>= (i1 & 31);
-  l5 = i0;
-  goto B9;
-  B10:;
-  i0 = 15u;
-  i1 = 10u;
-  i2 = 5u;
-  i3 = p1;
-  i4 = 1u;
-  i3 &= i4;
-  i1 = i3 ? i1 : i2;
-  i2 = l5;
-  i3 = 1u;
-  i2 &= i3;
-  i0 = i2 ? i0 : i1;
-  l5 = i0;
-  B9:;
-  j0 = l8;
-  i0 = (u32)(j0);
-  j0 = i64_load(j0);
-  i1 = p1;
-  i2 = 65532u;
-  i1 &= i2;
-  i2 = p1;
-  i3 = 65534u;
-  i2 &= i3;
-  i3 = p1;
-  i4 = l6;
-  i5 = 1u;
-  i4 &= i5;
-  i2 = i4 ? i2 : i3;
-  i3 = l7;
-  i4 = 1u;
-  i3 &= i4;
-  i1 = i3 ? i1 : i2;
-  j1 = (u64)(i1);
-  j2 = 65535ull;
-  j1 &= j2;
-  j2 = 2ull;
-  j1 <<= (j2 & 63);
-  j0 += j1;
-  l9 = j0;
-  i0 = (u32)(j0);
-  i1 = p2;
-  j2 = l9;
-  i2 = (u32)(j2);
-  i2 = i32_load(j2);
-  p1 = i2;
-  i1 ^= i2;
-  i2 = l5;
-  i3 = l3;
-  i2 &= i3;
-  i3 = 2u;
-  i2 <<= (i3 & 31);
-  j2 = (u64)(i2);
-  j3 = 60ull;
-  j2 &= j3;
-  j3 = 1048844ull;
-  j2 += j3;
-  i2 = (u32)(j2);
-  i2 = i32_load(j2);
-  i1 &= i2;
-  i2 = p1;
-  i1 ^= i2;
-  i32_store(j0, i1);
-  B2:;
-  i0 = 0u;
-  l3 = i0;
   B1:;
+  j0 = l3;
+  i0 = (u32)(j0);
+  j1 = 0ull;
+  i64_store(j0 + 8, j1);
+  j0 = l3;
+  j1 = 8ull;
+  j0 += j1;
+  j1 = l4;
+  i2 = l5;
+  i3 = p1;
+  i4 = p2;
+  f79(self, j0, j1, i2, i3, i4); m = self->memory; if (NEVER(self->is_broken)) return ZAK_BROKEN;
+  j0 = l3;
+  i0 = (u32)(j0);
+  i0 = i32_load8_u(j0 + 12u);
+  l5 = i0;
+  j0 = l3;
+  i0 = (u32)(j0);
+  i0 = i32_load8_u(j0 + 13u);
+  p2 = i0;
+  j0 = l3;
+  i0 = (u32)(j0);
+  i0 = i32_load(j0 + 8u);
+  p1 = i0;
   j0 = p0;
   i0 = (u32)(j0);
   i1 = 0u;
@@ -110885,16 +111854,27 @@ static u32 module_zak_put(module *self, u64 p0, u32 p1, u32 p2) {
   i32_store8(j0 + 3, i1);
   j0 = p0;
   i0 = (u32)(j0);
-  j1 = l8;
+  j1 = l4;
   i64_store(j0 + 8, j1);
   j0 = p0;
   j1 = 4ull;
   j0 += j1;
   i0 = (u32)(j0);
-  i1 = l4;
+  i1 = p1;
   i32_store(j0, i1);
+  i0 = p2;
+  i1 = 1u;
+  i0 += i1;
+  i1 = 0u;
+  i2 = l5;
+  i0 = i2 ? i0 : i1;
+  l5 = i0;
   B0:;
-  i0 = l3;
+  j0 = l3;
+  j1 = 16ull;
+  j0 += j1;
+  self->g0 = j0;
+  i0 = l5;
   return i0;
 }
 
@@ -111092,7 +112072,7 @@ static u32 module_zak_put_bytes(module *self, u64 p0, u32 p1, u64 p2, u64 p3, u3
     j2 += j3;
     i2 = (u32)(j2);
     i2 = i32_load8_u(j2);
-    i0 = f45(self, j0, i1, i2);
+    i0 = f46(self, j0, i1, i2);
     l17 = i0;
     j0 = l8;
     j1 = 68ull;
@@ -111225,7 +112205,7 @@ static u32 module_zak_put_bytes(module *self, u64 p0, u32 p1, u64 p2, u64 p3, u3
   j4 = l10;
   j5 = p3;
   i6 = p4;
-  i1 = f78(self, j1, j2, i3, j4, j5, i6);
+  i1 = f82(self, j1, j2, i3, j4, j5, i6);
   l16 = i1;
   i0 = i0 <= i1;
   if (i0) {goto B9;}
@@ -111305,7 +112285,7 @@ static u32 module_zak_put_bytes(module *self, u64 p0, u32 p1, u64 p2, u64 p3, u3
     j3 = p3;
     i3 = (u32)(j3);
     i3 = i32_load8_u(j3);
-    i1 = f45(self, j1, i2, i3);
+    i1 = f46(self, j1, i2, i3);
     j2 = p2;
     i2 = (u32)(j2);
     i2 = i32_load(j2);
@@ -111405,7 +112385,7 @@ static u32 module_zak_put_bytes(module *self, u64 p0, u32 p1, u64 p2, u64 p3, u3
     j3 = p3;
     i3 = (u32)(j3);
     i3 = i32_load8_u(j3);
-    i1 = f45(self, j1, i2, i3);
+    i1 = f46(self, j1, i2, i3);
     j2 = p2;
     i2 = (u32)(j2);
     i2 = i32_load(j2);
@@ -111497,7 +112477,7 @@ static u32 module_zak_put_bytes(module *self, u64 p0, u32 p1, u64 p2, u64 p3, u3
     j3 = p3;
     i3 = (u32)(j3);
     i3 = i32_load8_u(j3);
-    i1 = f45(self, j1, i2, i3);
+    i1 = f46(self, j1, i2, i3);
     j2 = p2;
     i2 = (u32)(j2);
     i2 = i32_load(j2);
@@ -111591,7 +112571,7 @@ static u32 module_zak_put_bytes(module *self, u64 p0, u32 p1, u64 p2, u64 p3, u3
     j3 = p3;
     i3 = (u32)(j3);
     i3 = i32_load8_u(j3);
-    i1 = f45(self, j1, i2, i3);
+    i1 = f46(self, j1, i2, i3);
     j2 = p2;
     i2 = (u32)(j2);
     i2 = i32_load(j2);
@@ -111656,11 +112636,11 @@ static u32 module_zak_put_bytes(module *self, u64 p0, u32 p1, u64 p2, u64 p3, u3
 }
 
 static u32 module_zak_put_word(module *self, u64 p0, u32 p1, u32 p2) {
-  u32 l5 = 0;
+  u32 l5 = 0, l6 = 0, l7 = 0, l8 = 0;
   u64 l3 = 0, l4 = 0;
   u8 *m = self->memory;
-  u32 i0, i1, i2, i3;
-  u64 j0, j1;
+  u32 i0, i1, i2, i3, i4, i5;
+  u64 j0, j1, j2;
   j0 = self->g0;
   j1 = 16ull;
   j0 -= j1;
@@ -111679,11 +112659,12 @@ static u32 module_zak_put_word(module *self, u64 p0, u32 p1, u32 p2) {
   j0 += j1;
   i0 = (u32)(j0);
   i0 = i32_load(j0);
-  i0 = !(i0);
-  if (i0) {goto B1;}
+  l6 = i0;
+  i1 = 16777217u;
+  i0 = i0 < i1;
+  if (i0) {goto B2;}
   j0 = p0;
   f1(self, j0); m = self->memory; if (NEVER(self->is_broken)) return ZAK_BROKEN;
-  B1:;
   j0 = p0;
   i0 = (u32)(j0);
   j1 = 0ull;
@@ -111696,25 +112677,130 @@ static u32 module_zak_put_word(module *self, u64 p0, u32 p1, u32 p2) {
   i0 = (u32)(j0);
   j1 = 0ull;
   i64_store(j0 + 8, j1);
+  i0 = 0u;
+  l6 = i0;
+  goto B1;
+  B2:;
+  j0 = p0;
+  i0 = (u32)(j0);
+  j1 = 0ull;
+  i64_store(j0, j1);
+  j0 = p0;
+  i0 = (u32)(j0);
+  j0 = i64_load(j0 + 8u);
+  l4 = j0;
+  j0 = p0;
+  i0 = (u32)(j0);
+  j1 = 0ull;
+  i64_store(j0 + 8, j1);
+  B1:;
+  j0 = l3;
+  i0 = (u32)(j0);
+  j1 = 0ull;
+  i64_store(j0 + 8, j1);
+  j0 = l3;
+  i0 = (u32)(j0);
+  j1 = 0ull;
+  i64_store(j0, j1);
+  i0 = 1u;
+  l5 = i0;
+  i0 = p1;
+  i1 = 4294967295u;
+  i0 = i0 == i1;
+  if (i0) {goto B3;}
+  j0 = l4;
+  j1 = 2003ull;
+  j0 += j1;
+  i0 = (u32)(j0);
+  i0 = i32_load8_u(j0);
+  i1 = 2u;
+  i0 &= i1;
+  i0 = !(i0);
+  if (i0) {goto B3;}
+  j0 = l4;
+  j1 = 60ull;
+  j0 += j1;
+  i0 = (u32)(j0);
+  i0 = i32_load(j0);
+  l7 = i0;
+  i1 = p1;
+  i0 = i0 > i1;
+  if (i0) {goto B3;}
+  i0 = p1;
+  j1 = l4;
+  j2 = 64ull;
+  j1 += j2;
+  i1 = (u32)(j1);
+  i1 = i32_load(j1);
+  i2 = l7;
+  i1 += i2;
+  l7 = i1;
+  i0 = i0 >= i1;
+  if (i0) {goto B3;}
+  i0 = p1;
+  i1 = 1u;
+  i0 += i1;
+  l8 = i0;
+  i1 = l7;
+  i0 = i0 >= i1;
+  if (i0) {goto B3;}
   j0 = l3;
   j1 = 8ull;
   j0 += j1;
   j1 = l4;
-  i2 = p1;
-  i3 = p2;
-  f79(self, j0, j1, i2, i3);
+  i2 = l6;
+  i3 = p1;
+  i4 = p2;
+  f79(self, j0, j1, i2, i3, i4); m = self->memory; if (NEVER(self->is_broken)) return ZAK_BROKEN;
   j0 = l3;
   i0 = (u32)(j0);
-  i0 = i32_load8_u(j0 + 8u);
+  i0 = i32_load(j0 + 8u);
+  l6 = i0;
+  j0 = l3;
+  i0 = (u32)(j0);
+  i0 = i32_load8_u(j0 + 12u);
+  i0 = !(i0);
+  if (i0) {goto B4;}
+  j0 = l3;
+  i0 = (u32)(j0);
+  i0 = i32_load8_u(j0 + 13u);
+  i1 = 1u;
+  i0 += i1;
+  l5 = i0;
+  goto B3;
+  B4:;
+  j0 = l3;
+  j1 = l4;
+  i2 = l6;
+  i3 = l8;
+  i4 = p2;
+  i5 = 65280u;
+  i4 &= i5;
+  i5 = 8u;
+  i4 >>= (i5 & 31);
+  f79(self, j0, j1, i2, i3, i4); m = self->memory; if (NEVER(self->is_broken)) return ZAK_BROKEN;
+  j0 = l3;
+  i0 = (u32)(j0);
+  i0 = i32_load8_u(j0 + 5u);
+  i1 = 1u;
+  i0 += i1;
+  i1 = 0u;
+  j2 = l3;
+  i2 = (u32)(j2);
+  i2 = i32_load8_u(j2 + 4u);
+  i3 = 255u;
+  i2 &= i3;
+  i0 = i2 ? i0 : i1;
   l5 = i0;
   j0 = l3;
   i0 = (u32)(j0);
-  i0 = i32_load8_u(j0 + 9u);
-  p2 = i0;
+  i0 = i32_load(j0);
+  l6 = i0;
+  B3:;
   j0 = p0;
   i0 = (u32)(j0);
   i1 = 0u;
-  i32_store(j0 + 1, i1);
+  i32_store16(j0 + 1, i1);
   j0 = p0;
   i0 = (u32)(j0);
   i1 = 1u;
@@ -111722,18 +112808,17 @@ static u32 module_zak_put_word(module *self, u64 p0, u32 p1, u32 p2) {
   j0 = p0;
   i0 = (u32)(j0);
   i1 = 0u;
-  i32_store(j0 + 4, i1);
+  i32_store8(j0 + 3, i1);
   j0 = p0;
   i0 = (u32)(j0);
   j1 = l4;
   i64_store(j0 + 8, j1);
-  i0 = p2;
-  i1 = 1u;
-  i0 += i1;
-  i1 = 0u;
-  i2 = l5;
-  i0 = i2 ? i0 : i1;
-  l5 = i0;
+  j0 = p0;
+  j1 = 4ull;
+  j0 += j1;
+  i0 = (u32)(j0);
+  i1 = l6;
+  i32_store(j0, i1);
   B0:;
   j0 = l3;
   j1 = 16ull;
@@ -112924,7 +114009,7 @@ static u32 module_zak_restore(module *self, u64 p0, u64 p1, u64 p2) {
   j0 = p1;
   j1 = l4;
   j2 = p2;
-  i0 = f80(self, j0, j1, j2); m = self->memory; if (NEVER(self->is_broken)) return ZAK_BROKEN;
+  i0 = f83(self, j0, j1, j2); m = self->memory; if (NEVER(self->is_broken)) return ZAK_BROKEN;
   l3 = i0;
   j0 = p0;
   i0 = (u32)(j0);
@@ -113125,7 +114210,7 @@ static u32 module_zak_restore_fixed(module *self, u64 p0, u64 p1, u64 p2) {
   j0 = l8;
   j1 = l9;
   j2 = l10;
-  i0 = f80(self, j0, j1, j2); m = self->memory; if (NEVER(self->is_broken)) return ZAK_BROKEN;
+  i0 = f83(self, j0, j1, j2); m = self->memory; if (NEVER(self->is_broken)) return ZAK_BROKEN;
   l3 = i0;
   B2:;
   j0 = p0;
@@ -113221,7 +114306,7 @@ static u32 module_zak_run(module *self, u64 p0, u64 p1, u64 p2, u64 p3, u64 p4, 
   j2 = i4 ? j2 : j3;
   j1 += j2;
   j2 = p3;
-  f66(self, j0, j1, j2); m = self->memory; if (NEVER(self->is_broken)) return ZAK_BROKEN;
+  f69(self, j0, j1, j2); m = self->memory; if (NEVER(self->is_broken)) return ZAK_BROKEN;
   j0 = l8;
   i0 = (u32)(j0);
   j0 = i64_load(j0 + 56u);
@@ -113274,7 +114359,7 @@ static u32 module_zak_run(module *self, u64 p0, u64 p1, u64 p2, u64 p3, u64 p4, 
   j1 += j2;
   p0 = j1;
   j2 = p1;
-  f70(self, j0, j1, j2); if (NEVER(self->is_broken)) return ZAK_BROKEN;
+  f73(self, j0, j1, j2); if (NEVER(self->is_broken)) return ZAK_BROKEN;
   j0 = l8;
   i0 = (u32)(j0);
   i0 = i32_load8_u(j0 + 144u);
@@ -113357,7 +114442,7 @@ static u32 module_zak_run(module *self, u64 p0, u64 p1, u64 p2, u64 p3, u64 p4, 
   j1 = l8;
   j2 = 96ull;
   j1 += j2;
-  f67(self, j0, j1); m = self->memory; if (NEVER(self->is_broken)) return ZAK_BROKEN;
+  f70(self, j0, j1); m = self->memory; if (NEVER(self->is_broken)) return ZAK_BROKEN;
   j0 = l8;
   i0 = (u32)(j0);
   j0 = i64_load(j0 + 160u);
@@ -113437,7 +114522,7 @@ static u32 module_zak_run(module *self, u64 p0, u64 p1, u64 p2, u64 p3, u64 p4, 
   j1 = 4616ull;
   j0 += j1;
   j1 = 1ull;
-  f84(self, j0, j1); if (NEVER(self->is_broken)) return ZAK_BROKEN;
+  f87(self, j0, j1); if (NEVER(self->is_broken)) return ZAK_BROKEN;
   j0 = l8;
   i0 = (u32)(j0);
   j1 = l8;
@@ -113509,7 +114594,7 @@ static u32 module_zak_run(module *self, u64 p0, u64 p1, u64 p2, u64 p3, u64 p4, 
   j5 = 4472ull;
   j4 += j5;
   j5 = 18446744073709551615ull;
-  f91(self, j0, j1, j2, j3, j4, j5); m = self->memory; if (NEVER(self->is_broken)) return ZAK_BROKEN;
+  f94(self, j0, j1, j2, j3, j4, j5); m = self->memory; if (NEVER(self->is_broken)) return ZAK_BROKEN;
   j0 = l8;
   i0 = (u32)(j0);
   j0 = i64_load(j0 + 4528u);
@@ -113546,19 +114631,19 @@ static u32 module_zak_run(module *self, u64 p0, u64 p1, u64 p2, u64 p3, u64 p4, 
   j0 = l8;
   i0 = (u32)(j0);
   j0 = i64_load(j0 + 2312u);
-  f154(self, j0);
+  f158(self, j0);
   B7:;
   j0 = p3;
   i0 = !(j0);
   if (i0) {goto B8;}
   j0 = l9;
-  f154(self, j0);
+  f158(self, j0);
   B8:;
   j0 = p2;
   i0 = !(j0);
   if (i0) {goto B9;}
   j0 = p1;
-  f154(self, j0);
+  f158(self, j0);
   B9:;
   j0 = l8;
   i0 = (u32)(j0);
@@ -113594,12 +114679,12 @@ static u32 module_zak_run(module *self, u64 p0, u64 p1, u64 p2, u64 p3, u64 p4, 
   j0 = i64_load(j0 + 16u);
   l9 = j0;
   j0 = p1;
-  f154(self, j0);
+  f158(self, j0);
   j0 = l9;
   i0 = !(j0);
   if (i0) {goto B10;}
   j0 = l10;
-  f154(self, j0);
+  f158(self, j0);
   B10:;
   i0 = l14;
   i1 = 255u;
@@ -113616,12 +114701,12 @@ static u32 module_zak_run(module *self, u64 p0, u64 p1, u64 p2, u64 p3, u64 p4, 
   j0 = i64_load(j0 + 16u);
   p1 = j0;
   j0 = p3;
-  f154(self, j0);
+  f158(self, j0);
   j0 = p1;
   i0 = !(j0);
   if (i0) {goto B11;}
   j0 = l9;
-  f154(self, j0);
+  f158(self, j0);
   B11:;
   i0 = l12;
   i1 = 255u;
@@ -113638,12 +114723,12 @@ static u32 module_zak_run(module *self, u64 p0, u64 p1, u64 p2, u64 p3, u64 p4, 
   j0 = i64_load(j0 + 16u);
   p3 = j0;
   j0 = p2;
-  f154(self, j0);
+  f158(self, j0);
   j0 = p3;
   i0 = !(j0);
   if (i0) {goto B12;}
   j0 = p1;
-  f154(self, j0);
+  f158(self, j0);
   B12:;
   i0 = l11;
   i1 = 255u;
@@ -113695,12 +114780,12 @@ static u32 module_zak_run(module *self, u64 p0, u64 p1, u64 p2, u64 p3, u64 p4, 
   j0 = i64_load(j0 + 16u);
   p3 = j0;
   j0 = p2;
-  f154(self, j0);
+  f158(self, j0);
   j0 = p3;
   i0 = !(j0);
   if (i0) {goto B13;}
   j0 = p1;
-  f154(self, j0);
+  f158(self, j0);
   B13:;
   i0 = l12;
   i1 = 255u;
@@ -113717,12 +114802,12 @@ static u32 module_zak_run(module *self, u64 p0, u64 p1, u64 p2, u64 p3, u64 p4, 
   j0 = i64_load(j0 + 16u);
   p2 = j0;
   j0 = l10;
-  f154(self, j0);
+  f158(self, j0);
   j0 = p2;
   i0 = !(j0);
   if (i0) {goto B14;}
   j0 = p3;
-  f154(self, j0);
+  f158(self, j0);
   B14:;
   i0 = l11;
   i1 = 255u;
@@ -113739,12 +114824,12 @@ static u32 module_zak_run(module *self, u64 p0, u64 p1, u64 p2, u64 p3, u64 p4, 
   j0 = i64_load(j0 + 16u);
   p2 = j0;
   j0 = l9;
-  f154(self, j0);
+  f158(self, j0);
   j0 = p2;
   i0 = !(j0);
   if (i0) {goto B1;}
   j0 = p3;
-  f154(self, j0);
+  f158(self, j0);
   goto B1;
   B5:;
   j0 = p4;
@@ -113884,7 +114969,7 @@ static u32 module_zak_run(module *self, u64 p0, u64 p1, u64 p2, u64 p3, u64 p4, 
   i0 = !(j0);
   if (i0) {goto B0;}
   j0 = p7;
-  f154(self, j0);
+  f158(self, j0);
   goto B0;
   B3:;
   j0 = p2;
@@ -113906,7 +114991,7 @@ static u32 module_zak_run(module *self, u64 p0, u64 p1, u64 p2, u64 p3, u64 p4, 
   j0 = l8;
   i0 = (u32)(j0);
   j0 = i64_load(j0);
-  f154(self, j0);
+  f158(self, j0);
   B20:;
   i0 = 22u;
   l11 = i0;
@@ -113947,7 +115032,7 @@ static u32 module_zak_run(module *self, u64 p0, u64 p1, u64 p2, u64 p3, u64 p4, 
   j0 = (u64)(s64)(s8)(u8)(j0);
   j1 = 2ull;
   j0 <<= (j1 & 63);
-  j1 = 1049780ull;
+  j1 = 1049796ull;
   j0 += j1;
   i0 = (u32)(j0);
   i0 = i32_load(j0);
@@ -114028,7 +115113,7 @@ static u32 module_zak_run_on(module *self, u64 p0, u64 p1, u64 p2, u32 p3, u32 p
   j0 = l11;
   j1 = 2072ull;
   j0 += j1;
-  i0 = f18(self, j0);
+  i0 = f19(self, j0);
   i0 = !(i0);
   if (i0) {goto B2;}
   j0 = l10;
@@ -114055,7 +115140,7 @@ static u32 module_zak_run_on(module *self, u64 p0, u64 p1, u64 p2, u32 p3, u32 p
   j1 += j2;
   l12 = j1;
   j2 = p2;
-  f70(self, j0, j1, j2); if (NEVER(self->is_broken)) return ZAK_BROKEN;
+  f73(self, j0, j1, j2); if (NEVER(self->is_broken)) return ZAK_BROKEN;
   j0 = l10;
   i0 = (u32)(j0);
   i0 = i32_load8_u(j0 + 120u);
@@ -114393,7 +115478,7 @@ static u32 module_zak_run_on(module *self, u64 p0, u64 p1, u64 p2, u32 p3, u32 p
     j0 += j1;
     j1 = l16;
     j2 = p9;
-    f71(self, j0, j1, j2);
+    f74(self, j0, j1, j2);
     j0 = l10;
     i0 = (u32)(j0);
     i0 = i32_load8_u(j0 + 120u);
@@ -114426,7 +115511,7 @@ static u32 module_zak_run_on(module *self, u64 p0, u64 p1, u64 p2, u32 p3, u32 p
     j1 = l10;
     j2 = 56ull;
     j1 += j2;
-    f92(self, j0, j1); if (NEVER(self->is_broken)) return ZAK_BROKEN;
+    f95(self, j0, j1); if (NEVER(self->is_broken)) return ZAK_BROKEN;
     j0 = l10;
     i0 = (u32)(j0);
     i0 = i32_load16_u(j0 + 232u);
@@ -114688,7 +115773,7 @@ static u32 module_zak_run_on(module *self, u64 p0, u64 p1, u64 p2, u32 p3, u32 p
     j0 += j1;
     j1 = p2;
     j2 = p1;
-    f71(self, j0, j1, j2);
+    f74(self, j0, j1, j2);
     j0 = l10;
     i0 = (u32)(j0);
     i0 = i32_load8_u(j0 + 120u);
@@ -114823,7 +115908,7 @@ static u32 module_zak_run_on(module *self, u64 p0, u64 p1, u64 p2, u32 p3, u32 p
   j2 = 1ull;
   j1 += j2;
   p1 = j1;
-  f84(self, j0, j1); if (NEVER(self->is_broken)) return ZAK_BROKEN;
+  f87(self, j0, j1); if (NEVER(self->is_broken)) return ZAK_BROKEN;
   j0 = l10;
   i0 = (u32)(j0);
   j1 = l10;
@@ -114896,7 +115981,7 @@ static u32 module_zak_run_on(module *self, u64 p0, u64 p1, u64 p2, u32 p3, u32 p
   j4 += j5;
   i5 = p4;
   j5 = (u64)(i5);
-  f91(self, j0, j1, j2, j3, j4, j5); m = self->memory; if (NEVER(self->is_broken)) return ZAK_BROKEN;
+  f94(self, j0, j1, j2, j3, j4, j5); m = self->memory; if (NEVER(self->is_broken)) return ZAK_BROKEN;
   j0 = l10;
   i0 = (u32)(j0);
   i0 = i32_load8_u(j0 + 96u);
@@ -115069,7 +116154,7 @@ static u32 module_zak_run_on(module *self, u64 p0, u64 p1, u64 p2, u32 p3, u32 p
   i0 = !(j0);
   if (i0) {goto B2;}
   j0 = p7;
-  f154(self, j0);
+  f158(self, j0);
   goto B2;
   B39:;
   i0 = 23u;
@@ -115082,7 +116167,7 @@ static u32 module_zak_run_on(module *self, u64 p0, u64 p1, u64 p2, u32 p3, u32 p
   j0 = l10;
   i0 = (u32)(j0);
   j0 = i64_load(j0 + 16u);
-  f154(self, j0);
+  f158(self, j0);
   goto B2;
   B3:;
   j0 = l10;
@@ -115127,7 +116212,7 @@ static u32 module_zak_run_on(module *self, u64 p0, u64 p1, u64 p2, u32 p3, u32 p
   j0 = (u64)(s64)(s8)(u8)(j0);
   j1 = 2ull;
   j0 <<= (j1 & 63);
-  j1 = 1049780ull;
+  j1 = 1049796ull;
   j0 += j1;
   i0 = (u32)(j0);
   i0 = i32_load(j0);
@@ -115265,7 +116350,7 @@ static u32 module_zak_save(module *self, u64 p0, u64 p1, u64 p2, u64 p3) {
   i4 = !(j4);
   j2 = i4 ? j2 : j3;
   j1 += j2;
-  f93(self, j0, j1); if (NEVER(self->is_broken)) return ZAK_BROKEN;
+  f96(self, j0, j1); if (NEVER(self->is_broken)) return ZAK_BROKEN;
   i0 = 0u;
   l4 = i0;
   B4:;
@@ -115376,7 +116461,7 @@ static u32 module_zak_save_fixed(module *self, u64 p0, u64 p1, u64 p2) {
   j2 = i4 ? j2 : j3;
   j1 += j2;
   l8 = j1;
-  f93(self, j0, j1); if (NEVER(self->is_broken)) return ZAK_BROKEN;
+  f96(self, j0, j1); if (NEVER(self->is_broken)) return ZAK_BROKEN;
   j0 = p2;
   j1 = 18446744073709551612ull;
   j0 += j1;
@@ -115681,7 +116766,7 @@ static u32 module_zak_screen_cell(module *self, u64 p0, u32 p1, u32 p2, u32 p3, 
   j2 = l6;
   j3 = 2072ull;
   j2 += j3;
-  f94(self, j0, j1, j2); m = self->memory; if (NEVER(self->is_broken)) return ZAK_BROKEN;
+  f97(self, j0, j1, j2); m = self->memory; if (NEVER(self->is_broken)) return ZAK_BROKEN;
   j0 = l5;
   i0 = (u32)(j0);
   i0 = i32_load8_u(j0 + 8u);
@@ -115803,19 +116888,19 @@ static u32 module_zak_screen_cell(module *self, u64 p0, u32 p1, u32 p2, u32 p3, 
   i0 = !(j0);
   if (i0) {goto B6;}
   j0 = l8;
-  f154(self, j0);
+  f158(self, j0);
   B6:;
   j0 = l10;
   i0 = !(j0);
   if (i0) {goto B7;}
   j0 = l11;
-  f154(self, j0);
+  f158(self, j0);
   B7:;
   j0 = p4;
   i0 = !(j0);
   if (i0) {goto B2;}
   j0 = l9;
-  f154(self, j0);
+  f158(self, j0);
   B2:;
   j0 = p0;
   i0 = (u32)(j0);
@@ -115894,7 +116979,7 @@ static u32 module_zak_screen_cursor(module *self, u64 p0, u32 p1, u64 p2) {
   j2 = l4;
   j3 = 2072ull;
   j2 += j3;
-  f94(self, j0, j1, j2); m = self->memory; if (NEVER(self->is_broken)) return ZAK_BROKEN;
+  f97(self, j0, j1, j2); m = self->memory; if (NEVER(self->is_broken)) return ZAK_BROKEN;
   j0 = l3;
   i0 = (u32)(j0);
   i0 = i32_load8_u(j0);
@@ -115966,7 +117051,7 @@ static u32 module_zak_screen_cursor(module *self, u64 p0, u32 p1, u64 p2) {
   j0 = l3;
   i0 = (u32)(j0);
   j0 = i64_load(j0 + 936u);
-  f154(self, j0);
+  f158(self, j0);
   B6:;
   j0 = l3;
   i0 = (u32)(j0);
@@ -115976,7 +117061,7 @@ static u32 module_zak_screen_cursor(module *self, u64 p0, u32 p1, u64 p2) {
   j0 = l3;
   i0 = (u32)(j0);
   j0 = i64_load(j0 + 960u);
-  f154(self, j0);
+  f158(self, j0);
   B7:;
   j0 = l3;
   i0 = (u32)(j0);
@@ -115986,7 +117071,7 @@ static u32 module_zak_screen_cursor(module *self, u64 p0, u32 p1, u64 p2) {
   j0 = l3;
   i0 = (u32)(j0);
   j0 = i64_load(j0 + 1792u);
-  f154(self, j0);
+  f158(self, j0);
   B2:;
   j0 = p0;
   i0 = (u32)(j0);
@@ -116069,7 +117154,7 @@ static u32 module_zak_screen_pixel(module *self, u64 p0, u32 p1, u32 p2, u32 p3,
   j2 = l6;
   j3 = 2072ull;
   j2 += j3;
-  f94(self, j0, j1, j2); m = self->memory; if (NEVER(self->is_broken)) return ZAK_BROKEN;
+  f97(self, j0, j1, j2); m = self->memory; if (NEVER(self->is_broken)) return ZAK_BROKEN;
   j0 = l5;
   i0 = (u32)(j0);
   i0 = i32_load8_u(j0 + 8u);
@@ -116186,19 +117271,19 @@ static u32 module_zak_screen_pixel(module *self, u64 p0, u32 p1, u32 p2, u32 p3,
   j0 = l5;
   i0 = (u32)(j0);
   j0 = i64_load(j0 + 40u);
-  f154(self, j0);
+  f158(self, j0);
   B6:;
   j0 = l9;
   i0 = !(j0);
   if (i0) {goto B7;}
   j0 = l7;
-  f154(self, j0);
+  f158(self, j0);
   B7:;
   j0 = p4;
   i0 = !(j0);
   if (i0) {goto B2;}
   j0 = l10;
-  f154(self, j0);
+  f158(self, j0);
   B2:;
   j0 = p0;
   i0 = (u32)(j0);
@@ -116277,7 +117362,7 @@ static u32 module_zak_screen_read(module *self, u64 p0, u64 p1) {
   j2 = l3;
   j3 = 2072ull;
   j2 += j3;
-  f94(self, j0, j1, j2); m = self->memory; if (NEVER(self->is_broken)) return ZAK_BROKEN;
+  f97(self, j0, j1, j2); m = self->memory; if (NEVER(self->is_broken)) return ZAK_BROKEN;
   j0 = l2;
   i0 = (u32)(j0);
   i0 = i32_load8_u(j0);
@@ -116336,7 +117421,7 @@ static u32 module_zak_screen_read(module *self, u64 p0, u64 p1) {
   i2 = (u32)(j2);
   i2 = i32_load16_u(j2);
   l11 = i2;
-  f19(self, j0, i1, i2);
+  f20(self, j0, i1, i2);
   j0 = l2;
   i0 = (u32)(j0);
   i0 = i32_load8_u(j0 + 920u);
@@ -116425,19 +117510,19 @@ static u32 module_zak_screen_read(module *self, u64 p0, u64 p1) {
   i0 = !(j0);
   if (i0) {goto B7;}
   j0 = l9;
-  f154(self, j0);
+  f158(self, j0);
   B7:;
   j0 = l6;
   i0 = !(j0);
   if (i0) {goto B8;}
   j0 = l7;
-  f154(self, j0);
+  f158(self, j0);
   B8:;
   j0 = l4;
   i0 = !(j0);
   if (i0) {goto B2;}
   j0 = l5;
-  f154(self, j0);
+  f158(self, j0);
   B2:;
   j0 = p0;
   i0 = (u32)(j0);
@@ -116500,7 +117585,7 @@ static u32 module_zak_show_bda(module *self, u64 p0, u64 p1, u64 p2, u64 p3) {
   j2 += j3;
   j3 = p2;
   j4 = p3;
-  i0 = f97(self, j0, j1, j2, j3, j4); m = self->memory; if (NEVER(self->is_broken)) return ZAK_BROKEN;
+  i0 = f100(self, j0, j1, j2, j3, j4); m = self->memory; if (NEVER(self->is_broken)) return ZAK_BROKEN;
   l5 = i0;
   j0 = l4;
   j1 = 16ull;
@@ -116546,7 +117631,7 @@ static u32 module_zak_show_beam(module *self, u64 p0, u64 p1, u64 p2, u64 p3) {
   j2 += j3;
   j3 = p2;
   j4 = p3;
-  i0 = f97(self, j0, j1, j2, j3, j4); m = self->memory; if (NEVER(self->is_broken)) return ZAK_BROKEN;
+  i0 = f100(self, j0, j1, j2, j3, j4); m = self->memory; if (NEVER(self->is_broken)) return ZAK_BROKEN;
   l5 = i0;
   j0 = l4;
   j1 = 16ull;
@@ -116592,7 +117677,7 @@ static u32 module_zak_show_cells(module *self, u64 p0, u64 p1, u64 p2, u64 p3) {
   j2 += j3;
   j3 = p2;
   j4 = p3;
-  i0 = f97(self, j0, j1, j2, j3, j4); m = self->memory; if (NEVER(self->is_broken)) return ZAK_BROKEN;
+  i0 = f100(self, j0, j1, j2, j3, j4); m = self->memory; if (NEVER(self->is_broken)) return ZAK_BROKEN;
   l5 = i0;
   j0 = l4;
   j1 = 16ull;
@@ -116637,7 +117722,7 @@ static u32 module_zak_show_dac(module *self, u64 p0, u32 p1, u64 p2, u64 p3, u64
   j2 += j3;
   j3 = p3;
   j4 = p4;
-  i0 = f97(self, j0, j1, j2, j3, j4); m = self->memory; if (NEVER(self->is_broken)) return ZAK_BROKEN;
+  i0 = f100(self, j0, j1, j2, j3, j4); m = self->memory; if (NEVER(self->is_broken)) return ZAK_BROKEN;
   p1 = i0;
   j0 = l5;
   j1 = 16ull;
@@ -116683,7 +117768,7 @@ static u32 module_zak_show_latches(module *self, u64 p0, u64 p1, u64 p2, u64 p3)
   j2 += j3;
   j3 = p2;
   j4 = p3;
-  i0 = f97(self, j0, j1, j2, j3, j4); m = self->memory; if (NEVER(self->is_broken)) return ZAK_BROKEN;
+  i0 = f100(self, j0, j1, j2, j3, j4); m = self->memory; if (NEVER(self->is_broken)) return ZAK_BROKEN;
   l5 = i0;
   j0 = l4;
   j1 = 16ull;
@@ -116767,7 +117852,7 @@ static u32 module_zak_show_plane(module *self, u64 p0, u32 p1, u32 p2, u32 p3, u
   j2 += j3;
   j3 = p5;
   j4 = p6;
-  i0 = f97(self, j0, j1, j2, j3, j4); m = self->memory; if (NEVER(self->is_broken)) return ZAK_BROKEN;
+  i0 = f100(self, j0, j1, j2, j3, j4); m = self->memory; if (NEVER(self->is_broken)) return ZAK_BROKEN;
   l8 = i0;
   B0:;
   j0 = l7;
@@ -116810,13 +117895,267 @@ static u32 module_zak_show_regs(module *self, u64 p0, u64 p1, u64 p2, u64 p3) {
   j2 += j3;
   j3 = p2;
   j4 = p3;
-  i0 = f97(self, j0, j1, j2, j3, j4); m = self->memory; if (NEVER(self->is_broken)) return ZAK_BROKEN;
+  i0 = f100(self, j0, j1, j2, j3, j4); m = self->memory; if (NEVER(self->is_broken)) return ZAK_BROKEN;
   l5 = i0;
   j0 = l4;
   j1 = 16ull;
   j0 += j1;
   self->g0 = j0;
   i0 = l5;
+  return i0;
+}
+
+static u32 module_zak_skip_frame(module *self, u64 p0) {
+  u32 l1 = 0, l2 = 0, l3 = 0, l4 = 0;
+  u64 l5 = 0, l6 = 0, l7 = 0, l8 = 0, l9 = 0;
+  u8 *m = self->memory;
+  u32 i0, i1, i2, i3, i4, i5;
+  u64 j0, j1, j2, j3, j4, j5;
+  i0 = 20u;
+  l1 = i0;
+  j0 = p0;
+  i0 = (u32)(j0);
+  i0 = i32_load8_u(j0);
+  i1 = 1u;
+  i0 = i0 != i1;
+  if (i0) {goto B0;}
+  j0 = p0;
+  j1 = 4ull;
+  j0 += j1;
+  i0 = (u32)(j0);
+  i0 = i32_load(j0);
+  l1 = i0;
+  i1 = 16777217u;
+  i0 = i0 < i1;
+  if (i0) {goto B2;}
+  j0 = p0;
+  f1(self, j0); m = self->memory; if (NEVER(self->is_broken)) return ZAK_BROKEN;
+  j0 = p0;
+  i0 = (u32)(j0);
+  j1 = 0ull;
+  i64_store(j0, j1);
+  j0 = p0;
+  i0 = (u32)(j0);
+  j0 = i64_load(j0 + 8u);
+  l5 = j0;
+  j0 = p0;
+  i0 = (u32)(j0);
+  j1 = 0ull;
+  i64_store(j0 + 8, j1);
+  i0 = 0u;
+  l1 = i0;
+  goto B1;
+  B2:;
+  j0 = p0;
+  i0 = (u32)(j0);
+  j1 = 0ull;
+  i64_store(j0, j1);
+  j0 = p0;
+  i0 = (u32)(j0);
+  j0 = i64_load(j0 + 8u);
+  l5 = j0;
+  j0 = p0;
+  i0 = (u32)(j0);
+  j1 = 0ull;
+  i64_store(j0 + 8, j1);
+  B1:;
+  j0 = l5;
+  i1 = l1;
+  i0 = f3(self, j0, i1);
+  l2 = i0;
+  i0 = 0u;
+  j1 = l5;
+  j2 = 34ull;
+  j1 += j2;
+  i1 = (u32)(j1);
+  i1 = i32_load8_u(j1);
+  i2 = 1u;
+  i1 &= i2;
+  i2 = 9u;
+  i1 ^= i2;
+  l1 = i1;
+  j2 = l5;
+  j3 = 138ull;
+  j2 += j3;
+  l6 = j2;
+  i2 = (u32)(j2);
+  i2 = i32_load8_u(j2);
+  i3 = 1u;
+  i2 += i3;
+  i3 = 255u;
+  i2 &= i3;
+  i1 -= i2;
+  l3 = i1;
+  i2 = l3;
+  i3 = l1;
+  i2 = i2 > i3;
+  i0 = i2 ? i0 : i1;
+  i1 = 0u;
+  j2 = l5;
+  j3 = 111ull;
+  j2 += j3;
+  i2 = (u32)(j2);
+  i2 = i32_load8_u(j2);
+  j3 = l5;
+  j4 = 112ull;
+  j3 += j4;
+  i3 = (u32)(j3);
+  i3 = i32_load8_u(j3);
+  l3 = i3;
+  i4 = 1u;
+  i3 &= i4;
+  i4 = 8u;
+  i3 <<= (i4 & 31);
+  i2 |= i3;
+  i3 = l3;
+  i4 = 4u;
+  i3 <<= (i4 & 31);
+  i4 = 512u;
+  i3 &= i4;
+  i2 |= i3;
+  i3 = 2u;
+  i2 += i3;
+  l3 = i2;
+  j3 = l5;
+  j4 = 134ull;
+  j3 += j4;
+  i3 = (u32)(j3);
+  i3 = i32_load16_u(j3);
+  i4 = 1u;
+  i3 += i4;
+  i4 = 65535u;
+  i3 &= i4;
+  i2 -= i3;
+  l4 = i2;
+  i3 = l4;
+  i4 = l3;
+  i3 = i3 > i4;
+  i1 = i3 ? i1 : i2;
+  j2 = l5;
+  j3 = 105ull;
+  j2 += j3;
+  i2 = (u32)(j2);
+  i2 = i32_load8_u(j2);
+  i3 = 5u;
+  i2 += i3;
+  l3 = i2;
+  i1 *= i2;
+  i2 = 0u;
+  i3 = l3;
+  j4 = l5;
+  j5 = 136ull;
+  j4 += j5;
+  i4 = (u32)(j4);
+  i4 = i32_load16_u(j4);
+  i5 = 1u;
+  i4 += i5;
+  i5 = 65535u;
+  i4 &= i5;
+  i3 -= i4;
+  l4 = i3;
+  i4 = l4;
+  i5 = l3;
+  i4 = i4 > i5;
+  i2 = i4 ? i2 : i3;
+  i1 += i2;
+  i2 = l1;
+  i1 *= i2;
+  i0 += i1;
+  i1 = 1u;
+  i0 += i1;
+  i1 = l2;
+  i0 = i0 > i1;
+  if (i0) {goto B3;}
+  j0 = l5;
+  i1 = l2;
+  f2(self, j0, i1); m = self->memory; if (NEVER(self->is_broken)) return ZAK_BROKEN;
+  B3:;
+  j0 = l5;
+  j1 = 133ull;
+  j0 += j1;
+  i0 = (u32)(j0);
+  j1 = 0ull;
+  i64_store(j0, j1);
+  j0 = l6;
+  i0 = (u32)(j0);
+  j1 = 0ull;
+  i64_store(j0, j1);
+  j0 = l5;
+  j1 = 2032ull;
+  j0 += j1;
+  i0 = (u32)(j0);
+  j1 = 0ull;
+  i64_store(j0, j1);
+  j0 = l5;
+  j1 = 132ull;
+  j0 += j1;
+  l6 = j0;
+  i0 = (u32)(j0);
+  j1 = l6;
+  i1 = (u32)(j1);
+  i1 = i32_load8_u(j1);
+  i2 = 1u;
+  i1 += i2;
+  i2 = 31u;
+  i1 &= i2;
+  i32_store8(j0, i1);
+  j0 = l5;
+  j1 = 2040ull;
+  j0 += j1;
+  i0 = (u32)(j0);
+  j0 = i64_load(j0);
+  l7 = j0;
+  j1 = l5;
+  j2 = 2064ull;
+  j1 += j2;
+  l6 = j1;
+  i1 = (u32)(j1);
+  j1 = i64_load16_u(j1);
+  l8 = j1;
+  j2 = 2ull;
+  j1 <<= (j2 & 63);
+  l9 = j1;
+  j0 += j1;
+  i0 = (u32)(j0);
+  i1 = 0u;
+  i32_store(j0, i1);
+  j0 = l8;
+  i0 = !(j0);
+  if (i0) {goto B4;}
+  j0 = l9;
+  i0 = !(j0);
+  if (i0) {goto B4;}
+  j0 = l7;
+  i0 = (u32)(j0);
+  i1 = 0u;
+  j2 = l9;
+  i2 = (u32)(j2);
+  memory_fill(j0, i1, j2);
+  B4:;
+  i0 = 0u;
+  l1 = i0;
+  j0 = l6;
+  i0 = (u32)(j0);
+  i1 = 0u;
+  i32_store16(j0, i1);
+  j0 = p0;
+  i0 = (u32)(j0);
+  i1 = 0u;
+  i32_store(j0 + 1, i1);
+  j0 = p0;
+  i0 = (u32)(j0);
+  i1 = 1u;
+  i32_store8(j0, i1);
+  j0 = p0;
+  i0 = (u32)(j0);
+  i1 = 0u;
+  i32_store(j0 + 4, i1);
+  j0 = p0;
+  i0 = (u32)(j0);
+  j1 = l5;
+  i64_store(j0 + 8, j1);
+  B0:;
+  i0 = l1;
   return i0;
 }
 
@@ -116839,7 +118178,7 @@ static u64 module_page_take(module *self, u64 p0) {
   j0 = l1;
   j1 = p0;
   j2 = 16ull;
-  f151(self, j0, j1, j2); m = self->memory; if (NEVER(self->is_broken)) return 0;
+  f155(self, j0, j1, j2); m = self->memory; if (NEVER(self->is_broken)) return 0;
   j0 = l1;
   i0 = (u32)(j0);
   j0 = i64_load(j0);
@@ -116864,12 +118203,12 @@ static u32 module_page_give(module *self, u64 p0) {
   u32 i0;
   u64 j0;
   j0 = p0;
-  f154(self, j0);
+  f158(self, j0);
   i0 = 0u;
   return i0;
 }
 
-static void f151(module *self, u64 p0, u64 p1, u64 p2) {
+static void f155(module *self, u64 p0, u64 p1, u64 p2) {
   u64 l3 = 0;
   u8 *m = self->memory;
   u32 i0, i1;
@@ -116881,7 +118220,7 @@ static void f151(module *self, u64 p0, u64 p1, u64 p2) {
   i0 = j0 > j1;
   if (i0) {goto B0;}
   j0 = p1;
-  j0 = f152(self, j0); m = self->memory; if (NEVER(self->is_broken)) return;
+  j0 = f156(self, j0); m = self->memory; if (NEVER(self->is_broken)) return;
   l3 = j0;
   B0:;
   j0 = p0;
@@ -116897,7 +118236,7 @@ static void f151(module *self, u64 p0, u64 p1, u64 p2) {
   i64_store(j0, j1);
 }
 
-static u64 f152(module *self, u64 p0) {
+static u64 f156(module *self, u64 p0) {
   u32 l8 = 0;
   u64 l1 = 0, l2 = 0, l3 = 0, l4 = 0, l5 = 0, l6 = 0, l7 = 0;
   u8 *m = self->memory;
@@ -116925,11 +118264,11 @@ static u64 f152(module *self, u64 p0) {
   l1 = j0;
   j0 = 0ull;
   i0 = (u32)(j0);
-  j0 = i64_load(j0 + 1049824u);
+  j0 = i64_load(j0 + 1049840u);
   l2 = j0;
   i0 = !(j0);
   if (i0) {goto B10;}
-  j0 = 1049824ull;
+  j0 = 1049840ull;
   l3 = j0;
   j0 = l2;
   i0 = (u32)(j0);
@@ -116967,7 +118306,7 @@ static u64 f152(module *self, u64 p0) {
   l5 = j0;
   j0 = 0ull;
   i0 = (u32)(j0);
-  i0 = i32_load8_u(j0 + 1049832u);
+  i0 = i32_load8_u(j0 + 1049848u);
   if (i0) {goto B5;}
   i0 = self->pages;
   j0 = (u64)(i0);
@@ -116977,12 +118316,12 @@ static u64 f152(module *self, u64 p0) {
   j0 = 0ull;
   i0 = (u32)(j0);
   i1 = 1u;
-  i32_store8(j0 + 1049832, i1);
+  i32_store8(j0 + 1049848, i1);
   j0 = l2;
   j1 = 16ull;
   j0 <<= (j1 & 63);
   l3 = j0;
-  j1 = 1049840ull;
+  j1 = 1049856ull;
   j2 = 15ull;
   j1 += j2;
   j2 = 18446744073709551600ull;
@@ -116999,7 +118338,7 @@ static u64 f152(module *self, u64 p0) {
   j1 -= j2;
   l6 = j1;
   i64_store(j0, j1);
-  j0 = 1049824ull;
+  j0 = 1049840ull;
   l3 = j0;
   L13: 
     j0 = p0;
@@ -117108,7 +118447,7 @@ static u64 f152(module *self, u64 p0) {
   j0 = 0ull;
   i0 = (u32)(j0);
   j1 = l2;
-  i64_store(j0 + 1049824, j1);
+  i64_store(j0 + 1049840, j1);
   goto B3;
   B16:;
   j0 = l7;
@@ -117176,7 +118515,7 @@ static u64 f152(module *self, u64 p0) {
     i0 = (u32)(j0);
     j1 = l5;
     i64_store(j0, j1);
-    j0 = 1049824ull;
+    j0 = 1049840ull;
     l3 = j0;
     j0 = 0ull;
     p0 = j0;
@@ -117247,7 +118586,7 @@ static u64 f152(module *self, u64 p0) {
     j0 = 0ull;
     i0 = (u32)(j0);
     j1 = l2;
-    i64_store(j0 + 1049824, j1);
+    i64_store(j0 + 1049840, j1);
     goto B21;
     B29:;
     j0 = l7;
@@ -117282,7 +118621,7 @@ static u64 f152(module *self, u64 p0) {
     B22:;
     j0 = 0ull;
     i0 = (u32)(j0);
-    j0 = i64_load(j0 + 1049824u);
+    j0 = i64_load(j0 + 1049840u);
     l2 = j0;
     i0 = !(j0);
     if (i0) {goto B19;}
@@ -117298,7 +118637,7 @@ static u64 f152(module *self, u64 p0) {
     j1 = l1;
     i0 = j0 < j1;
     if (i0) {goto B33;}
-    j0 = 1049824ull;
+    j0 = 1049840ull;
     l3 = j0;
     goto B32;
     B33:;
@@ -117372,7 +118711,7 @@ static u64 f152(module *self, u64 p0) {
   return j0;
 }
 
-static void f153(module *self, u64 p0, u64 p1, u64 p2, u64 p3, u64 p4) {
+static void f157(module *self, u64 p0, u64 p1, u64 p2, u64 p3, u64 p4) {
   u32 l8 = 0;
   u64 l5 = 0, l6 = 0, l7 = 0;
   u8 *m = self->memory;
@@ -117408,7 +118747,7 @@ static void f153(module *self, u64 p0, u64 p1, u64 p2, u64 p3, u64 p4) {
   i0 = j0 > j1;
   if (i0) {goto B1;}
   j0 = p3;
-  j0 = f152(self, j0); m = self->memory; if (NEVER(self->is_broken)) return;
+  j0 = f156(self, j0); m = self->memory; if (NEVER(self->is_broken)) return;
   l7 = j0;
   i0 = !(j0);
   i0 = !(i0);
@@ -117430,7 +118769,7 @@ static void f153(module *self, u64 p0, u64 p1, u64 p2, u64 p3, u64 p4) {
   i2 = (u32)(j2);
   memory_copy(j0, j1, j2);
   B3:;
-  j0 = 1049824ull;
+  j0 = 1049840ull;
   p4 = j0;
   j0 = 0ull;
   p3 = j0;
@@ -117500,7 +118839,7 @@ static void f153(module *self, u64 p0, u64 p1, u64 p2, u64 p3, u64 p4) {
   j0 = 0ull;
   i0 = (u32)(j0);
   j1 = l5;
-  i64_store(j0 + 1049824, j1);
+  i64_store(j0 + 1049840, j1);
   goto B8;
   B9:;
   j0 = l6;
@@ -117545,7 +118884,7 @@ static void f153(module *self, u64 p0, u64 p1, u64 p2, u64 p3, u64 p4) {
   Bfunc:;
 }
 
-static void f154(module *self, u64 p0) {
+static void f158(module *self, u64 p0) {
   u32 l6 = 0;
   u64 l1 = 0, l2 = 0, l3 = 0, l4 = 0, l5 = 0;
   u8 *m = self->memory;
@@ -117555,7 +118894,7 @@ static void f154(module *self, u64 p0) {
   j1 = 18446744073709551600ull;
   j0 += j1;
   l1 = j0;
-  j0 = 1049824ull;
+  j0 = 1049840ull;
   l2 = j0;
   j0 = 0ull;
   l3 = j0;
@@ -117625,7 +118964,7 @@ static void f154(module *self, u64 p0) {
   j0 = 0ull;
   i0 = (u32)(j0);
   j1 = l1;
-  i64_store(j0 + 1049824, j1);
+  i64_store(j0 + 1049840, j1);
   goto Bfunc;
   B4:;
   j0 = l4;
@@ -117764,15 +119103,16 @@ static const u8 d0[] = {
   0x98, 0x03, 0x10, 0x00, 0x00, 0x00, 0x00, 0x00, 0xa4, 0x03, 0x10, 0x00,
   0x00, 0x00, 0x00, 0x00, 0xae, 0x03, 0x10, 0x00, 0x00, 0x00, 0x00, 0x00,
   0x00, 0x01, 0x02, 0x03, 0x04, 0x05, 0x06, 0x07, 0x08, 0x09, 0x0a, 0x00,
-  0x0b, 0x00, 0x0c, 0x0d, 0x68, 0x00, 0x00, 0x00, 0x69, 0x00, 0x00, 0x00,
-  0x6a, 0x00, 0x00, 0x00, 0x6b, 0x00, 0x00, 0x00, 0x6c, 0x00, 0x00, 0x00,
-  0x17, 0x00, 0x00, 0x00, 0x17, 0x00, 0x00, 0x00, 0x6f, 0x00, 0x00, 0x00,
-
+  0x0b, 0x00, 0x0c, 0x0d, 0x00, 0x01, 0x02, 0x03, 0x00, 0x00, 0x06, 0x07,
+  0x08, 0x09, 0x0a, 0x00, 0x0b, 0x00, 0x00, 0x00, 0x68, 0x00, 0x00, 0x00,
+  0x69, 0x00, 0x00, 0x00, 0x6a, 0x00, 0x00, 0x00, 0x6b, 0x00, 0x00, 0x00,
+  0x6c, 0x00, 0x00, 0x00, 0x17, 0x00, 0x00, 0x00, 0x17, 0x00, 0x00, 0x00,
+  0x6f, 0x00, 0x00, 0x00,
 };
 
 static void start(module *self)
 {
-    memcpy(self->memory + 1048576u, d0, 1248);
+    memcpy(self->memory + 1048576u, d0, 1264);
     self->g0 = 1048576ull;
 }
 
@@ -117986,6 +119326,12 @@ zak_status zak_advance(zak_card *card, uint32_t dots)
     END(card, module_zak_advance(self, CARD, dots));
 }
 
+zak_status zak_skip_frame(zak_card *card)
+{
+    BEGIN(card);
+    END(card, module_zak_skip_frame(self, CARD));
+}
+
 zak_status zak_in(zak_card *card, uint16_t port, uint8_t *value)
 {
     BEGIN(card);
@@ -118107,19 +119453,19 @@ static bool is_told(zak_status status)
     return status == ZAK_OK || status == ZAK_NO_ROOM;
 }
 
-static zak_status frame(module *self, zak_size *size, uint8_t *rgb, size_t rgb_len)
+static zak_status frame(module *self, zak_size *size, uint8_t *rgb, size_t rgb_cap)
 {
     self->outside = rgb;
-    zak_status status = module_zak_frame(self, CARD, TOLD, OUTSIDE, rgb_len);
+    zak_status status = module_zak_frame(self, CARD, TOLD, OUTSIDE, rgb_cap);
     if (is_told(status))
         *size = (zak_size){told32(self, 0), told32(self, 4)};
     return status;
 }
 
-zak_status zak_frame(zak_card *card, zak_size *size, uint8_t *rgb, size_t rgb_len)
+zak_status zak_frame(zak_card *card, zak_size *size, uint8_t *rgb, size_t rgb_cap)
 {
     BEGIN(card);
-    END(card, frame(self, size, rgb, rgb_len));
+    END(card, frame(self, size, rgb, rgb_cap));
 }
 
 /* A picture in words lies on the desk without what the caller's rows have beside it. */
@@ -118130,9 +119476,9 @@ typedef struct canvas {
     u32 desk_pitch;   /* and how they lie on the desk */
 } canvas;
 
-static canvas canvas_of(uint32_t *pixels, size_t pixels_len, size_t pitch)
+static canvas canvas_of(uint32_t *pixels, size_t pixels_cap, size_t pitch)
 {
-    size_t rows = pitch ? least(pixels_len / pitch, ZAK_HIGHEST) : 0;
+    size_t rows = pitch ? least(pixels_cap / pitch, ZAK_HIGHEST) : 0;
     return (canvas){pixels, pitch, rows, (u32)least(pitch, ZAK_WIDEST)};
 }
 
@@ -118164,10 +119510,10 @@ static zak_status frame_xrgb(module *self, zak_size *size, const canvas *canvas)
     return status;
 }
 
-zak_status zak_frame_xrgb(zak_card *card, zak_size *size, uint32_t *pixels, size_t pixels_len,
+zak_status zak_frame_xrgb(zak_card *card, zak_size *size, uint32_t *pixels, size_t pixels_cap,
                           size_t pitch)
 {
-    canvas canvas = canvas_of(pixels, pixels_len, pitch);
+    canvas canvas = canvas_of(pixels, pixels_cap, pitch);
     BEGIN(card);
     END(card, frame_xrgb(self, size, &canvas));
 }
@@ -118186,18 +119532,18 @@ static zak_status frame_words(module *self, uint32_t flags, zak_picture *picture
 }
 
 zak_status zak_frame_words(zak_card *card, uint32_t flags, zak_picture *picture, uint32_t *pixels,
-                           size_t pixels_len, size_t pitch)
+                           size_t pixels_cap, size_t pitch)
 {
-    canvas canvas = canvas_of(pixels, pixels_len, pitch);
+    canvas canvas = canvas_of(pixels, pixels_cap, pitch);
     BEGIN(card);
     END(card, frame_words(self, flags, picture, &canvas));
 }
 
 static zak_status line(module *self, uint32_t flags, zak_scan_line *line, uint32_t *pixels,
-                       size_t pixels_len)
+                       size_t pixels_cap)
 {
     zak_status status =
-        module_zak_line(self, CARD, flags, TOLD, DESK, least(pixels_len, ZAK_WIDEST));
+        module_zak_line(self, CARD, flags, TOLD, DESK, least(pixels_cap, ZAK_WIDEST));
     if (is_told(status))
         *line = (zak_scan_line){told32(self, 0), told32(self, 4), told8(self, 8) != 0};
     if (status == ZAK_OK)
@@ -118206,17 +119552,17 @@ static zak_status line(module *self, uint32_t flags, zak_scan_line *line, uint32
 }
 
 zak_status zak_line(zak_card *card, uint32_t flags, zak_scan_line *scan_line, uint32_t *pixels,
-                    size_t pixels_len)
+                    size_t pixels_cap)
 {
     BEGIN(card);
-    END(card, line(self, flags, scan_line, pixels, pixels_len));
+    END(card, line(self, flags, scan_line, pixels, pixels_cap));
 }
 
-static zak_status frame_lines(module *self, uint32_t *widths, uint8_t *rgb, size_t rgb_len,
+static zak_status frame_lines(module *self, uint32_t *widths, uint8_t *rgb, size_t rgb_cap,
                               size_t *rgb_used)
 {
     self->outside = rgb;
-    zak_status status = module_zak_frame_lines(self, CARD, TOLD, OUTSIDE, rgb_len, DESK);
+    zak_status status = module_zak_frame_lines(self, CARD, TOLD, OUTSIDE, rgb_cap, DESK);
     if (is_told(status)) {
         get_words(self, widths, TOLD, ZAK_HIGHEST);
         *rgb_used = (size_t)number64(self->memory + DESK);
@@ -118225,10 +119571,10 @@ static zak_status frame_lines(module *self, uint32_t *widths, uint8_t *rgb, size
 }
 
 zak_status zak_frame_lines(zak_card *card, uint32_t widths[ZAK_HIGHEST], uint8_t *rgb,
-                           size_t rgb_len, size_t *rgb_used)
+                           size_t rgb_cap, size_t *rgb_used)
 {
     BEGIN(card);
-    END(card, frame_lines(self, widths, rgb, rgb_len, rgb_used));
+    END(card, frame_lines(self, widths, rgb, rgb_cap, rgb_used));
 }
 
 /* The registers of interrupt 10, from `told` on, and behind them a number. */

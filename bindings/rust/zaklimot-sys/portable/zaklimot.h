@@ -5,9 +5,19 @@
  * Each call does what the step of the same name does in a script (docs/SCRIPT.md), by the register
  * table (docs/REGISTERS.md). A refused call changes nothing. docs/LIBRARY.md is the guide.
  *
+ *     zak_card card = ZAK_CARD_INIT;
+ *     zak_size size;
+ *     zak_open(&card, fonts, sizeof fonts);                 // fonts/zaklimot.fnt
+ *     zak_out_word(&card, 0x3C4, 0x0402);                   // a cycle of the processor
+ *     zak_put(&card, 0xA0000, 0x55);
+ *     zak_advance(&card, 25);                               // the dots that pass meanwhile
+ *     zak_frame(&card, &size, rgb, sizeof rgb);             // to the frame's end, and its picture
+ *     zak_close(&card);
+ *
  * You own the struct of a card. A zero-filled card is a closed card. Do not write or copy an open
  * card, and close it once. Two cards share nothing. A card may move from one thread to another, but
- * takes one call at a time, and none from a signal handler.
+ * takes one call at a time, and none from a signal handler. After fork, parent and child each have
+ * a card of their own, and each closes its own.
  *
  * Pointers must not be NULL, even when the length is 0, and no two pointers of a call overlap. On
  * any status but ZAK_OK, output arguments are unchanged unless the call says otherwise. Lengths
@@ -154,6 +164,9 @@ typedef struct zak_timing {
 
 zak_status zak_clock(zak_card *card, zak_timing *timing);
 
+/* Five calls give a frame. zak_frame gives its dots in 18-bit colour, and zak_frame_xrgb in words
+ * for a window. zak_frame_words gives each pixel of the software once. zak_frame_lines gives a
+ * ragged frame too, and zak_line each line as it ends. zak_skip_frame passes a frame unseen. */
 typedef struct zak_size { uint32_t width, height; } zak_size; /* dots in a row, and rows */
 
 /* Let the clock run to the end of the frame under way, by at least one dot, and write the frame's
@@ -161,10 +174,10 @@ typedef struct zak_size { uint32_t width, height; } zak_size; /* dots in a row, 
  * and blue, 0 to 63 each. zak_frame_xrgb writes a word 00RRGGBB per dot, with eight bits per colour
  * (a component c of six bits becomes 4 * c + c / 16). Row y begins at pixels[pitch * y], the pitch
  * counts words, and words beside the picture are unchanged. ZAK_RAGGED: *size is unchanged.
- * ZAK_NO_ROOM: rgb_len is below 3 * width * height, or the pitch below width, or pixels_len below
+ * ZAK_NO_ROOM: rgb_cap is below 3 * width * height, or the pitch below width, or pixels_cap below
  * pitch * height; *size is the size of the picture. With either status the frame has passed. */
-zak_status zak_frame(zak_card *card, zak_size *size, uint8_t *rgb, size_t rgb_len);
-zak_status zak_frame_xrgb(zak_card *card, zak_size *size, uint32_t *pixels, size_t pixels_len,
+zak_status zak_frame(zak_card *card, zak_size *size, uint8_t *rgb, size_t rgb_cap);
+zak_status zak_frame_xrgb(zak_card *card, zak_size *size, uint32_t *pixels, size_t pixels_cap,
                           size_t pitch);
 
 typedef struct zak_picture {
@@ -182,11 +195,11 @@ typedef struct zak_picture {
  * Both follow from the registers at the call. ZAK_NO_ROOM and ZAK_RAGGED: as for zak_frame_xrgb.
  * ZAK_BAD_ARGUMENT: flags are above 3, and no dot has passed. */
 zak_status zak_frame_words(zak_card *card, uint32_t flags, zak_picture *picture, uint32_t *pixels,
-                           size_t pixels_len, size_t pitch);
+                           size_t pixels_cap, size_t pitch);
 
 /* Lets the clock run to the end of the line under way, by at least one dot, for a core that shows
  * each line as it ends. pixels[x] is the word of the line's dot x: 00RRGGBB, or FFRRGGBB with
- * ZAK_OPAQUE in flags. ZAK_NO_ROOM: pixels_len is below the width; the line has passed, and *line
+ * ZAK_OPAQUE in flags. ZAK_NO_ROOM: pixels_cap is below the width; the line has passed, and *line
  * is written. ZAK_BAD_ARGUMENT: flags are above 1, and no dot has passed. */
 typedef struct zak_scan_line {
     uint32_t number; /* the line's number in the frame, from 0; lines without a dot count too */
@@ -195,7 +208,7 @@ typedef struct zak_scan_line {
 } zak_scan_line;
 
 zak_status zak_line(zak_card *card, uint32_t flags, zak_scan_line *line, uint32_t *pixels,
-                    size_t pixels_len);
+                    size_t pixels_cap);
 
 /* Lets the clock run to the end of the frame under way, and writes the frame's dots line by line,
  * even if it is ragged. widths[y], for y from 0 to ZAK_HIGHEST - 1, is the number of dots of line
@@ -203,7 +216,11 @@ zak_status zak_line(zak_card *card, uint32_t flags, zak_scan_line *line, uint32_
  * left, then line 1, and so on. *rgb_used is the number of bytes. ZAK_NO_ROOM: widths and *rgb_used
  * are written, but rgb is not. */
 zak_status zak_frame_lines(zak_card *card, uint32_t widths[ZAK_HIGHEST], uint8_t *rgb,
-                           size_t rgb_len, size_t *rgb_used);
+                           size_t rgb_cap, size_t *rgb_used);
+
+/* Lets the clock run to the end of the frame under way, by at least one dot, and draws nothing of
+ * it: for a frame that nobody looks at. The card goes on as after zak_frame. */
+zak_status zak_skip_frame(zak_card *card);
 
 typedef struct zak_regs { uint16_t ax, bx, cx, dx; } zak_regs;
 
@@ -211,7 +228,8 @@ typedef struct zak_regs { uint16_t ax, bx, cx, dx; } zak_regs;
  * block is what the caller's memory contains at ES:BP or ES:DX, for functions that read it. table
  * is room for what a function writes there, at most ZAK_MOST_TABLE bytes; *table_len is their
  * number. Refused with ZAK_NO_MODE to ZAK_BAD_BLOCK, and ZAK_BAD_HEIGHT. ZAK_NO_ROOM: the call is
- * done, *regs and *table_len are written, but the table is not. */
+ * done, *regs and *table_len are written, but the table is not. ZAK_OUT_OF_MEMORY: only with AX =
+ * 1017 (hexadecimal). ZAK_BAD_CARD. */
 zak_status zak_int10(zak_card *card, zak_regs *regs, const uint8_t *block, size_t block_len,
                      uint8_t *table, size_t table_cap, size_t *table_len);
 
@@ -241,7 +259,7 @@ zak_status zak_cycles(zak_card *card, const zak_regs *regs, const uint8_t *block
  * after it. ZAK_MOST_TEXT bytes are always enough. ZAK_NO_ROOM: *text_len is the number of bytes
  * needed. zak_show_cells is refused with ZAK_NO_MODE and ZAK_WRONG_KIND. zak_show_plane dumps count
  * bytes, 1 to 256, of plane 0 to 3 from an offset on, none past the plane's end. Any other count,
- * plane or offset is ZAK_BAD_ARGUMENT. */
+ * plane or offset is ZAK_BAD_ARGUMENT. ZAK_OUT_OF_MEMORY, ZAK_BAD_CARD. */
 zak_status zak_show_regs(zak_card *card, uint8_t *text, size_t text_cap, size_t *text_len);
 zak_status zak_show_beam(zak_card *card, uint8_t *text, size_t text_cap, size_t *text_len);
 zak_status zak_show_latches(zak_card *card, uint8_t *text, size_t text_cap, size_t *text_len);
@@ -302,7 +320,7 @@ zak_status zak_read_plane(zak_card *card, uint8_t plane, uint16_t offset, uint8_
  * reads the whole screen, into up to 0.8 MB that it allocates and frees. ZAK_BAD_ARGUMENT: there is
  * no such page, row, column, x or y, or you ask for a cell in graphics, or for a pixel in text. The
  * BIOS keeps a cursor position for each of pages 0 to 7 in every mode: zak_screen_cursor takes
- * these pages. */
+ * these pages. ZAK_OUT_OF_MEMORY. */
 typedef struct zak_screen {
     uint32_t width, height;               /* in pixels; 0 in text, which has none */
     uint16_t columns, rows;               /* in characters */
@@ -364,13 +382,13 @@ zak_status zak_run_on(zak_card *card, const uint8_t *script, size_t script_len, 
 /* Assembles a text into a script (docs/SCRIPT.md). ZAK_NO_ROOM: *script_len is the number of bytes
  * needed; a first call with a script_cap of 0 says how much room to get. ZAK_BAD_LINE: *line is the
  * number of the first bad line, from 1. ZAK_TOO_LONG: the text or the script has more than
- * 16,777,216 bytes. */
+ * 16,777,216 bytes. ZAK_OUT_OF_MEMORY. */
 zak_status zak_assemble(const uint8_t *text, size_t text_len, uint8_t *script, size_t script_cap,
                         size_t *script_len, size_t *line);
 
 /* Disassembles a script into text: a line for each step, with every number at full width, and for
  * each `version 2`, `repeat` and `end`. A script contains no comments. ZAK_NO_ROOM: *text_len is
- * the number of bytes needed. The faults of zak_run, with *place. */
+ * the number of bytes needed. The faults of zak_run, with *place, and ZAK_OUT_OF_MEMORY. */
 zak_status zak_print(const uint8_t *script, size_t script_len, uint8_t *text, size_t text_cap,
                      size_t *text_len, size_t *place);
 
