@@ -144,6 +144,8 @@ const CHECKS = {
     await write("int ax=3\n");
     await browser.type("out ");
     await browser.type("3ce");
+    // The list of the letters before is closed.
+    await until("document.querySelectorAll('.CodeMirror-hint').length === 0");
     await browser.press("Backspace");
     await until("document.querySelectorAll('.CodeMirror-hint').length > 2");
     await browser.press("Escape");
