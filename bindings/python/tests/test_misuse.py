@@ -38,6 +38,7 @@ CALLS: dict[str, tuple[Any, ...]] = {
     "frame_words": (),
     "line": (),
     "lines": (),
+    "skip_frame": (),
     "block": (0x1301,),
     "cycles": (0x0E41,),
     "int10": (0x13,),
