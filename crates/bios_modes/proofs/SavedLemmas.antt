@@ -3,32 +3,32 @@ use Rattle.std.proofs.Common.{◌≡◌, ℕ, ap, ◌∙◌, sym, refl, subst, a
 use Rattle.std.specs.Prelude.{slice_index}
 use Rattle.std.specs.List.{flat_map}
 use Rattle.std.proofs.lemmas.List.{drop_at}
-use Rattle.vga_bits.specs.Saved.{word_bytes, word_at, words_in}
+use Rattle.vga_bits.specs.Saved.{word_bytes, word_at, first_words}
 use Rattle.vga_bits.proofs.SavedLemmas.{word_is_back, words_are_back, length-word_bytes}
 use Rattle.bios_modes.specs.Bda.{BiosData}
 use Rattle.bios_modes.specs.Bounds.{IsBda}
 use Rattle.bios_modes.specs.Valid.{IsValid}
-use Rattle.bios_modes.specs.Saved.{saved_back, saved_bda, past_prefix, past_places, bda_from, IsSavedBda}
+use Rattle.bios_modes.specs.Saved.{saved_after_positions, saved_bda, past_prefix, bytes_after_positions, bda_from, IsSavedBda}
 
 module _ (d : BiosData) (is : IsBda d) where
-  prefix_past : past_prefix (saved_bda d) ≡ flat_map word_bytes d.cursor_places ++ saved_back d
+  prefix_past : past_prefix (saved_bda d) ≡ flat_map word_bytes d.cursor_places ++ saved_after_positions d
   unfolding saved_bda
   prefix_past = refl
 
   places_len : length (flat_map word_bytes d.cursor_places) ≡ 16
   places_len = omega (arith, length-word_bytes d.cursor_places, is.places)
 
-  places_past : past_places (saved_bda d) ≡ saved_back d
-  places_past = ap (drop 16) prefix_past ∙ drop_at (flat_map word_bytes d.cursor_places) (saved_back d) 16 places_len
+  places_past : bytes_after_positions (saved_bda d) ≡ saved_after_positions d
+  places_past = ap (drop 16) prefix_past ∙ drop_at (flat_map word_bytes d.cursor_places) (saved_after_positions d) 16 places_len
 
-  places_are : words_in 8 (past_prefix (saved_bda d)) ≡ d.cursor_places
+  places_are : first_words 8 (past_prefix (saved_bda d)) ≡ d.cursor_places
   places_are =
-      ap (words_in 8) prefix_past ∙ ap (λ (n : ℕ). words_in n (flat_map word_bytes d.cursor_places ++ saved_back d)) (sym is.places)
-      ∙ words_are_back d.cursor_places (saved_back d)
+      ap (first_words 8) prefix_past ∙ ap (λ (n : ℕ). first_words n (flat_map word_bytes d.cursor_places ++ saved_after_positions d)) (sym is.places)
+      ∙ words_are_back d.cursor_places (saved_after_positions d)
 
   pub bda_len : length (saved_bda d) ≡ 31
   unfolding saved_bda
-  bda_len = omega (arith, places_len, length-append (flat_map word_bytes d.cursor_places) (saved_back d))
+  bda_len = omega (arith, places_len, length-append (flat_map word_bytes d.cursor_places) (saved_after_positions d))
 
   mode_is : slice_index (saved_bda d) 0 ≡ d.mode
   unfolding saved_bda

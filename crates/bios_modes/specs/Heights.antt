@@ -51,44 +51,44 @@ twenty_five_rows underline = record {
 }
 
 -- the row of a height for text in colour, where no scan line of a character is underlined
-abbrev pub colour_rows : ℕ → Option TextRow
-colour_rows height =
+abbrev pub colour_text_row : ℕ → Option TextRow
+colour_text_row height =
     if height == 8 then Some (fifty_rows 0x1F)
     else if height == 14 then Some (twenty_eight_rows 0x1F)
     else if height == 16 then Some (twenty_five_rows 0x1F)
     else None
 
 -- the row of a height for monochrome text, where the last scan line of a character is underlined
-abbrev pub monochrome_rows : ℕ → Option TextRow
-monochrome_rows height =
+abbrev pub monochrome_text_row : ℕ → Option TextRow
+monochrome_text_row height =
     if height == 8 then Some (fifty_rows 0x07)
     else if height == 14 then Some (twenty_eight_rows 0x0D)
     else if height == 16 then Some (twenty_five_rows 0x0F)
     else None
 
 -- a value that a row gives, if there is a row
-abbrev pub if_row : {A : Type 0} → Option ModeRow → (ModeRow → Option A) → Option A
-if_row None f = None
-if_row (Some row) f = f row
+abbrev pub value_of_row : {A : Type 0} → Option ModeRow → (ModeRow → Option A) → Option A
+value_of_row None f = None
+value_of_row (Some row) f = f row
 
 -- the text-height table's row for a kind of mode and a height, if there is one
-abbrev pub text_rows : Kind → Palette → ℕ → Option TextRow
-text_rows Text Monochrome height = monochrome_rows height
-text_rows Text _ height = colour_rows height
-text_rows Planar _ height = None
-text_rows Packed _ height = None
+abbrev pub text_row_of_kind : Kind → Palette → ℕ → Option TextRow
+text_row_of_kind Text Monochrome height = monochrome_text_row height
+text_row_of_kind Text _ height = colour_text_row height
+text_row_of_kind Planar _ height = None
+text_row_of_kind Packed _ height = None
 
 -- the text-height table's row for a mode's row and a height, if there is one
-abbrev pub text_row_in : ModeRow → ℕ → Option TextRow
-text_row_in row height = text_rows row.kind row.palette height
+abbrev pub text_row_of_mode_row : ModeRow → ℕ → Option TextRow
+text_row_of_mode_row row height = text_row_of_kind row.kind row.palette height
 
 -- the text-height table's row for a mode and a height, if there is one
 abbrev pub text_row : ℕ → ℕ → Option TextRow
-text_row mode height = if_row (mode_row mode) (λ row. text_row_in row height)
+text_row mode height = value_of_row (mode_row mode) (λ row. text_row_of_mode_row row height)
 
 -- a mode's row with the values of a height
-abbrev pub with_text : ModeRow → TextRow → ModeRow
-with_text row text = record row {
+abbrev pub with_text_row : ModeRow → TextRow → ModeRow
+with_text_row row text = record row {
   crtc = slice_set (slice_set (slice_set row.crtc 0x09 text.maximum_scan_line) 0x12
       text.vertical_display_end) 0x14 text.underline;
   size = text.size;
@@ -99,20 +99,20 @@ with_text row text = record row {
 }
 
 -- a mode's row with the values of a height, if there are such
-abbrev pub with_height : ModeRow → Option TextRow → Option ModeRow
-with_height row None = None
-with_height row (Some text) = Some (with_text row text)
+abbrev pub with_height_row : ModeRow → Option TextRow → Option ModeRow
+with_height_row row None = None
+with_height_row row (Some text) = Some (with_text_row row text)
 
 -- a mode's row at a height: for text by the table, for graphics the row as it is
-abbrev pub by_kind : Kind → ModeRow → ℕ → Option ModeRow
-by_kind Text row height = with_height row (text_row_in row height)
-by_kind Planar row height = Some row
-by_kind Packed row height = Some row
+abbrev pub row_at_height_by_kind : Kind → ModeRow → ℕ → Option ModeRow
+row_at_height_by_kind Text row height = with_height_row row (text_row_of_mode_row row height)
+row_at_height_by_kind Planar row height = Some row
+row_at_height_by_kind Packed row height = Some row
 
 -- a mode's row at a height, if there is one
-abbrev pub at_height : ModeRow → ℕ → Option ModeRow
-at_height row height = by_kind row.kind row height
+abbrev pub row_at_height : ModeRow → ℕ → Option ModeRow
+row_at_height row height = row_at_height_by_kind row.kind row height
 
 -- the row of a mode, by its number, at a height, if there is one
-abbrev pub row_at : ℕ → ℕ → Option ModeRow
-row_at mode height = if_row (mode_row mode) (λ row. at_height row height)
+abbrev pub mode_row_at_height : ℕ → ℕ → Option ModeRow
+mode_row_at_height mode height = value_of_row (mode_row mode) (λ row. row_at_height row height)

@@ -9,13 +9,13 @@ use Rattle.bios_modes.specs.declared.modes.ModeRow.{ModeRow}
 use Rattle.bios_modes.specs.Modes.{mode_row}
 
 -- how a mode uses the memory, by its row of the mode table; without a row, as 16 colours do
-abbrev pub kind_in : Option ModeRow → Kind
-kind_in None = Planar
-kind_in (Some row) = row.kind
+abbrev pub kind_of_row : Option ModeRow → Kind
+kind_of_row None = Planar
+kind_of_row (Some row) = row.kind
 
 -- how a mode uses the memory, by its number
 abbrev pub kind_of : ℕ → Kind
-kind_of mode = kind_in (mode_row mode)
+kind_of mode = kind_of_row (mode_row mode)
 
 -- whether this is the use of text
 abbrev pub is_text_kind : Kind → Bool

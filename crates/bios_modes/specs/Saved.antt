@@ -1,32 +1,33 @@
 -- The BIOS data as bytes, in the order of their offsets; a word is two bytes, the low one first.
 use Rattle.std.specs.Prelude.{ℕ, ◌≡◌, List, [], ◌∷◌, ◌++◌, length, drop, slice_index}
 use Rattle.std.specs.List.{flat_map}
-use Rattle.vga_bits.specs.Saved.{word_bytes, word_at, words_in}
+use Rattle.vga_bits.specs.Saved.{word_bytes, word_at, first_words}
 use Rattle.bios_modes.specs.Bda.{BiosData}
 use Rattle.bios_modes.specs.Valid.{IsValid}
 
 -- the bytes before the cursor positions: mode, columns, size and start
-abbrev pub saved_front : BiosData → List ℕ
-saved_front d =
+abbrev pub saved_before_positions : BiosData → List ℕ
+saved_before_positions d =
     (d.mode ∷ []) ++ (word_bytes d.columns ++ (word_bytes d.size ++ word_bytes d.start))
 
 -- the bytes after the cursor positions: the cursor's type, the page, the CRT controller's address,
 -- the last row and the height
-abbrev pub saved_back : BiosData → List ℕ
-saved_back d = word_bytes d.cursor_type ++ ((d.page ∷ []) ++ (word_bytes d.crtc_address
+abbrev pub saved_after_positions : BiosData → List ℕ
+saved_after_positions d = word_bytes d.cursor_type ++ ((d.page ∷ []) ++ (word_bytes d.crtc_address
     ++ ((d.last_row ∷ []) ++ word_bytes d.height)))
 
 -- all bytes of BIOS data
 unfoldable pub saved_bda : BiosData → List ℕ
-saved_bda d = saved_front d ++ (flat_map word_bytes d.cursor_places ++ saved_back d)
+saved_bda d =
+    saved_before_positions d ++ (flat_map word_bytes d.cursor_places ++ saved_after_positions d)
 
 -- the bytes that follow the prefix
 abbrev pub past_prefix : List ℕ → List ℕ
 past_prefix bytes = drop 7 bytes
 
 -- the bytes that follow the cursor positions
-abbrev pub past_places : List ℕ → List ℕ
-past_places bytes = drop 16 (past_prefix bytes)
+abbrev pub bytes_after_positions : List ℕ → List ℕ
+bytes_after_positions bytes = drop 16 (past_prefix bytes)
 
 -- the BIOS data that these bytes spell
 unfoldable pub bda_from : List ℕ → BiosData
@@ -35,12 +36,12 @@ bda_from bytes = record {
   columns = word_at bytes 1;
   size = word_at bytes 3;
   start = word_at bytes 5;
-  cursor_places = words_in 8 (past_prefix bytes);
-  cursor_type = word_at (past_places bytes) 0;
-  page = slice_index (past_places bytes) 2;
-  crtc_address = word_at (past_places bytes) 3;
-  last_row = slice_index (past_places bytes) 5;
-  height = word_at (past_places bytes) 6;
+  cursor_places = first_words 8 (past_prefix bytes);
+  cursor_type = word_at (bytes_after_positions bytes) 0;
+  page = slice_index (bytes_after_positions bytes) 2;
+  crtc_address = word_at (bytes_after_positions bytes) 3;
+  last_row = slice_index (bytes_after_positions bytes) 5;
+  height = word_at (bytes_after_positions bytes) 6;
 }
 
 -- the bytes are those of valid BIOS data

@@ -4,11 +4,11 @@
 -- Data Area".
 use Rattle.std.specs.Prelude.{◌≡◌, ◌*◌, ◌<◌, ◌⊎◌, Option, Some, None}
 use Rattle.bios_modes.specs.declared.modes.ModeRow.{ModeRow}
-use Rattle.bios_modes.specs.Heights.{row_at}
+use Rattle.bios_modes.specs.Heights.{mode_row_at_height}
 use Rattle.bios_modes.specs.Bda.{BiosData, power_on_data}
 
 -- the data have the constants of a mode's row, one of its pages, and the beginning of that page
-pub record IsOf (row : ModeRow) (d : BiosData) : Type 0 where
+pub record IsDataOfRow (row : ModeRow) (d : BiosData) : Type 0 where
   pub columns : d.columns ≡ row.columns
   pub size : d.size ≡ row.size
   pub last_row : d.last_row ≡ row.last_row
@@ -18,11 +18,11 @@ pub record IsOf (row : ModeRow) (d : BiosData) : Type 0 where
   pub start : d.start ≡ d.size * d.page
 
 -- there is a row, and the data are its own
-abbrev pub Fits : Option ModeRow → BiosData → Type 0
-Fits None d = ⊥
-Fits (Some row) d = IsOf row d
+abbrev pub FitsModeRow : Option ModeRow → BiosData → Type 0
+FitsModeRow None d = ⊥
+FitsModeRow (Some row) d = IsDataOfRow row d
 
 -- the data are all 0, or those of their mode at their height; the cursor's positions and type may
 -- be any in a mode
 abbrev pub IsValid : BiosData → Type 0
-IsValid d = (d ≡ power_on_data) ⊎ Fits (row_at d.mode d.height) d
+IsValid d = (d ≡ power_on_data) ⊎ FitsModeRow (mode_row_at_height d.mode d.height) d

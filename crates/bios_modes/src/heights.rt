@@ -1,9 +1,12 @@
 //! The values of a text mode that depend on the height of characters.
 ghost use Rattle.std.specs.Prelude.{◌≡◌};
-ghost use Rattle.bios_modes.specs.Heights.{at_height, colour_rows, fifty_rows, monochrome_rows};
-ghost use Rattle.bios_modes.specs.Heights.{row_at as row_at_of, text_row as text_row_of};
-ghost use Rattle.bios_modes.specs.Heights.{text_row_in, twenty_eight_rows, twenty_five_rows};
-ghost use Rattle.bios_modes.specs.Heights.{with_text};
+ghost use Rattle.bios_modes.specs.Heights.{row_at_height, colour_text_row, fifty_rows};
+ghost use Rattle.bios_modes.specs.Heights.{monochrome_text_row};
+ghost use Rattle.bios_modes.specs.Heights.{mode_row_at_height as mode_row_at_height_of};
+ghost use Rattle.bios_modes.specs.Heights.{text_row as text_row_of};
+ghost use Rattle.bios_modes.specs.Heights.{text_row_of_mode_row, twenty_eight_rows};
+ghost use Rattle.bios_modes.specs.Heights.{twenty_five_rows};
+ghost use Rattle.bios_modes.specs.Heights.{with_text_row};
 
 use super::kind::Kind;
 use super::modes::{ModeRow, mode_row};
@@ -88,8 +91,8 @@ impl TextRow {
     }
 
     /// The row of a height for text in colour, where no scan line of a character is underlined.
-    fn of_colour(height: u8) -> Option<TextRow>
-        ensures { result ≡ colour_rows height }
+    fn of_colour_text(height: u8) -> Option<TextRow>
+        ensures { result ≡ colour_text_row height }
     {
         match height {
             8 => Some(TextRow::fifty(0x1F)),
@@ -101,8 +104,8 @@ impl TextRow {
 
     /// The row of a height for monochrome text, where the last scan line of a character is
     /// underlined.
-    fn of_monochrome(height: u8) -> Option<TextRow>
-        ensures { result ≡ monochrome_rows height }
+    fn of_monochrome_text(height: u8) -> Option<TextRow>
+        ensures { result ≡ monochrome_text_row height }
     {
         match height {
             8 => Some(TextRow::fifty(0x07)),
@@ -115,8 +118,8 @@ impl TextRow {
 
 impl ModeRow {
     /// The mode's row with the values of another height.
-    fn with_text(self, text: TextRow) -> ModeRow
-        ensures { result ≡ with_text self text }
+    fn with_text_row(self, text: TextRow) -> ModeRow
+        ensures { result ≡ with_text_row self text }
     {
         let mut row = self;
         row.crtc[MAXIMUM_SCAN_LINE] = text.maximum_scan_line;
@@ -132,18 +135,18 @@ impl ModeRow {
 
     /// The text-height table's row for the mode and a height, if there is one.
     fn text_row(&self, height: u8) -> Option<TextRow>
-        ensures { result ≡ text_row_in self.now height }
+        ensures { result ≡ text_row_of_mode_row self.now height }
     {
         match (self.kind, self.palette) {
-            (Kind::Text, Palette::Monochrome) => TextRow::of_monochrome(height),
-            (Kind::Text, _) => TextRow::of_colour(height),
+            (Kind::Text, Palette::Monochrome) => TextRow::of_monochrome_text(height),
+            (Kind::Text, _) => TextRow::of_colour_text(height),
             _ => None,
         }
     }
 
     /// The mode's row at a height: for text by the table, for graphics the row as it is.
-    fn at_height(self, height: u16) -> Option<ModeRow>
-        ensures { result ≡ at_height self height }
+    fn row_at_height(self, height: u16) -> Option<ModeRow>
+        ensures { result ≡ row_at_height self height }
     {
         if self.kind != Kind::Text {
             return Some(self);
@@ -152,7 +155,7 @@ impl ModeRow {
             return None;
         }
         let text = self.text_row(height as u8)?;
-        Some(self.with_text(text))
+        Some(self.with_text_row(text))
     }
 }
 
@@ -166,8 +169,8 @@ pub fn text_row(mode: u8, height: u8) -> Option<TextRow>
 
 /// The row of a mode at a height: for a text mode by the text-height table, if that has a row; for
 /// a graphics mode its own row, whatever the height is.
-pub fn row_at(mode: u8, height: u16) -> Option<ModeRow>
-    ensures { result ≡ row_at_of mode height }
+pub fn mode_row_at_height(mode: u8, height: u16) -> Option<ModeRow>
+    ensures { result ≡ mode_row_at_height_of mode height }
 {
-    mode_row(mode)?.at_height(height)
+    mode_row(mode)?.row_at_height(height)
 }

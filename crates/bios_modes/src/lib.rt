@@ -14,7 +14,7 @@ pub mod palette;
 pub use bda::Bda;
 pub use font::Font;
 pub use fonts::Fonts;
-pub use heights::{TextRow, row_at, text_row};
+pub use heights::{TextRow, mode_row_at_height, text_row};
 pub use kind::{Kind, is_packed, is_text, kind_of};
 pub use modes::{ModeRow, mode_row};
 pub use palette::{Palette, dac_entry, is_monochrome, palette_of};

@@ -1,9 +1,11 @@
 //! The default palettes.
 ghost use Rattle.std.specs.Prelude.{◌≡◌, ◌<◌, ◌≤◌};
 ghost use Rattle.std.specs.Int.{bit_at};
-ghost use Rattle.bios_modes.specs.Palette.{component as component_of, of_six_bits as six_bits_of};
-ghost use Rattle.bios_modes.specs.Palette.{of_bright_bit as bright_bit_of};
-ghost use Rattle.bios_modes.specs.Palette.{of_intensity as intensity_of, of_byte as byte_of};
+ghost use Rattle.bios_modes.specs.Palette.{component_of_two_bits as component_of};
+ghost use Rattle.bios_modes.specs.Palette.{colour_of_six_bits as six_bits_of};
+ghost use Rattle.bios_modes.specs.Palette.{colour_with_bright_bit as bright_bit_of};
+ghost use Rattle.bios_modes.specs.Palette.{grey_of_intensity as intensity_of};
+ghost use Rattle.bios_modes.specs.Palette.{colour_of_byte as byte_of};
 ghost use Rattle.bios_modes.specs.Palette.{palette_entry, is_monochrome_mode};
 ghost use Rattle.bios_modes.specs.Palette.{palette_of as palette_of_mode, dac_entry as entry_of};
 
@@ -37,7 +39,7 @@ fn bit(n: u8, i: u32) -> u8
 }
 
 /// A component made of two bits.
-fn component(n: u8, strong: u32, weak: u32) -> u8
+fn component_of_two_bits(n: u8, strong: u32, weak: u32) -> u8
     requires strong { strong < 8 }
     requires weak { weak < 8 }
     ensures { result ≡ component_of n strong weak }
@@ -46,14 +48,14 @@ fn component(n: u8, strong: u32, weak: u32) -> u8
 }
 
 /// A colour with two bits for each component.
-fn of_six_bits(n: u8) -> [u8; 3]
+fn colour_of_six_bits(n: u8) -> [u8; 3]
     ensures { result ≡ six_bits_of n }
 {
-    [component(n, 2, 5), component(n, 1, 4), component(n, 0, 3)]
+    [component_of_two_bits(n, 2, 5), component_of_two_bits(n, 1, 4), component_of_two_bits(n, 0, 3)]
 }
 
 /// One of 16 colours, with a bit for each component and one for brightness.
-fn of_bright_bit(n: u8, bright: u32) -> [u8; 3]
+fn colour_with_bright_bit(n: u8, bright: u32) -> [u8; 3]
     requires { bright < 8 }
     ensures { result ≡ bright_bit_of bright n }
 {
@@ -61,13 +63,13 @@ fn of_bright_bit(n: u8, bright: u32) -> [u8; 3]
     let green = if is_brown {
         WEAK
     } else {
-        component(n, 1, bright)
+        component_of_two_bits(n, 1, bright)
     };
-    [component(n, 2, bright), green, component(n, 0, bright)]
+    [component_of_two_bits(n, 2, bright), green, component_of_two_bits(n, 0, bright)]
 }
 
 /// Black, or one of two greys.
-fn of_intensity(n: u8) -> [u8; 3]
+fn grey_of_intensity(n: u8) -> [u8; 3]
     ensures { result ≡ intensity_of n }
 {
     let level = if bit(n, 3) == 1 {
@@ -79,11 +81,11 @@ fn of_intensity(n: u8) -> [u8; 3]
 }
 
 /// One of 16 colours, of 16 greys, or of 224 colours by the bits of a byte.
-fn of_byte(n: u8) -> [u8; 3]
+fn colour_of_byte(n: u8) -> [u8; 3]
     ensures { result ≡ byte_of n }
 {
     match n {
-        0x00..=0x0F => of_bright_bit(n, 3),
+        0x00..=0x0F => colour_with_bright_bit(n, 3),
         0x10..=0x1F => [(63 * (n as u16 - 16) / 15) as u8; 3],
         _ => [9 * (n / 32), 9 * (n / 4 % 8), 21 * (n % 4)],
     }
@@ -95,10 +97,10 @@ impl Palette {
         ensures { result ≡ palette_entry self n }
     {
         match self {
-            Palette::Colours64 => of_six_bits(n),
-            Palette::Monochrome => of_intensity(n),
-            Palette::Colours16 => of_bright_bit(n, 4),
-            Palette::Colours256 => of_byte(n),
+            Palette::Colours64 => colour_of_six_bits(n),
+            Palette::Monochrome => grey_of_intensity(n),
+            Palette::Colours16 => colour_with_bright_bit(n, 4),
+            Palette::Colours256 => colour_of_byte(n),
         }
     }
 }

@@ -3,26 +3,26 @@ pub use Rattle.bios_modes.specs.Bda.{BiosData}
 pub use Rattle.bios_modes.specs.Begin.{data_of_mode}
 pub use Rattle.bios_modes.specs.Bounds.{AreBytes}
 pub use Rattle.bios_modes.specs.Fonts.{FontSet}
-pub use Rattle.bios_modes.specs.Heights.{row_at}
+pub use Rattle.bios_modes.specs.Heights.{mode_row_at_height}
 pub use Rattle.bios_modes.specs.Kinds.{is_packed, is_text, kind_of}
 pub use Rattle.bios_modes.specs.Modes.{bytes_320_by_200}
 pub use Rattle.bios_modes.specs.declared.kind.Kind.TheVariants.{Planar}
 pub use Rattle.bios_modes.specs.declared.modes.ModeRow.{ModeRow}
-pub use Rattle.bios_screen.specs.Listing.{listing}
+pub use Rattle.bios_screen.specs.Listing.{list_by_function}
 pub use Rattle.bios_screen.specs.Picture.{colour_by_palette}
-pub use Rattle.bios_screen.specs.Raster.{Draws, Raster}
+pub use Rattle.bios_screen.specs.Raster.{DrawsDotColours, Raster}
 pub use Rattle.bios_screen.specs.Screen.{Cell, Screen}
 pub use Rattle.bios_screen.specs.AfterCall.{IsServed}
-pub use Rattle.bios_screen.specs.Shown.{all_cells, cell_in, crtc_registers, packed_pixel, page_pixels, pixel_in, pixel_screen, planar_pixel, shown}
+pub use Rattle.bios_screen.specs.Shown.{text_memory_cells, cell_in, crtc_registers, packed_pixel, page_pixels, pixel_in, pixel_screen, planar_pixel, shown}
 pub use Rattle.bios_screen.specs.Shown.{shows_attribute}
 pub use Rattle.bios_screen.specs.Step.{page_meant, pixel_of, with_pixels}
-pub use Rattle.bios_services.specs.Bounds.{pages_of}
-pub use Rattle.bios_services.specs.Cells.{cells_of, page_base}
+pub use Rattle.bios_services.specs.Bounds.{page_count}
+pub use Rattle.bios_services.specs.Cells.{cells_per_page, page_base}
 pub use Rattle.bios_services.specs.Cursor.{start_address}
-pub use Rattle.bios_services.specs.Cycles.{graphics}
+pub use Rattle.bios_services.specs.Cycles.{write_graphics}
 pub use Rattle.bios_services.specs.Plan.{Done, Plan, each, get, put, run, ◌>>=◌, ◌>>◌}
-pub use Rattle.bios_services.specs.Refusals.{page_among, page_named}
-pub use Rattle.bios_services.specs.Service.{Outcome}
+pub use Rattle.bios_services.specs.Refusals.{page_among, page_meant_by_number}
+pub use Rattle.bios_services.specs.Service.{ServiceOutcome}
 pub use Rattle.bios_services.specs.declared.band.Band.{Band}
 pub use Rattle.bios_services.specs.declared.direction.Direction.{Direction}
 pub use Rattle.bios_services.specs.declared.direction.Direction.TheVariants.{Down, Up}

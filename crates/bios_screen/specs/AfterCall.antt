@@ -16,9 +16,10 @@ use Rattle.bios_services.specs.declared.colours.ColourService.{ColourService}
 use Rattle.bios_services.specs.declared.colours.ColourService.TheVariants.{SetOverscan}
 use Rattle.bios_services.specs.Plan.{run}
 use Rattle.bios_modes.specs.Kinds.{is_text}
-use Rattle.bios_services.specs.Refusals.{on_page_named, refusal_in_mode}
+use Rattle.bios_services.specs.Refusals.{service_on_page_meant, refusal_in_mode}
 use Rattle.bios_services.specs.Calls.{call_of}
-use Rattle.bios_services.specs.Service.{plan_of, Outcome, Answered, service as whole_service}
+use Rattle.bios_services.specs.Service.{plan_of_service, ServiceOutcome, CallOutcome}
+use Rattle.bios_services.specs.Service.{service as whole_service}
 use Rattle.bios_screen.specs.Screen.{Screen}
 use Rattle.bios_screen.specs.Shown.{shown}
 use Rattle.bios_screen.specs.Step.{refusal_on, next, answer_on}
@@ -27,15 +28,15 @@ use Rattle.bios_screen.specs.Fresh.{fresh_screen}
 -- The adapter after a service, and the outcome: registers and BIOS data. The service is taken with
 -- the page that its page number means.
 abbrev pub card_after_service : Service → FontSet → Regs → List ℕ → CardState → BiosData → CardState
-    × Outcome
+    × ServiceOutcome
 card_after_service service fonts r block c d =
-    run card_meaning (plan_of (on_page_named d service) fonts d r block) c
+    run card_meaning (plan_of_service (service_on_page_meant d service) fonts d r block) c
 
 -- a service is refused for the screen's reason, or else gives the screen's answer and the next
 -- screen; it leaves the beam
 pub record IsServed (service : Service) (fonts : FontSet) (r : Regs) (block : List ℕ)
     (c : CardState) (d : BiosData) (s : Screen) : Type 0 where
-  pub refusal : refusal_in_mode (on_page_named d service) d (length block)
+  pub refusal : refusal_in_mode (service_on_page_meant d service) d (length block)
       ≡ refusal_on s service (length block)
   pub answer : refusal_on s service (length block) ≡ None →
       (card_after_service service fonts r block c d).1.0 ≡ answer_on fonts s service r
@@ -45,26 +46,28 @@ pub record IsServed (service : Service) (fonts : FontSet) (r : Regs) (block : Li
   pub beam : (card_after_service service fonts r block c d).0.crtc.beam ≡ c.crtc.beam
 
 -- the overscan that a subfunction of function 10 sets is a byte
-abbrev pub FitsBytes : ColourService → Type 0
-FitsBytes (SetOverscan value) = value < 256
-FitsBytes service = Unit {0}
+abbrev pub OverscanFitsByte : ColourService → Type 0
+OverscanFitsByte (SetOverscan value) = value < 256
+OverscanFitsByte service = Unit {0}
 
 -- from every state that shows a screen, the service leads to a state that shows the next screen
-abbrev pub Serves : Service → Type 0
-Serves service = (fonts : FontSet) (r : Regs) (block : List ℕ) (c : CardState) (d : BiosData)
+abbrev pub ServiceLeadsToNextScreen : Service → Type 0
+ServiceLeadsToNextScreen service =
+    (fonts : FontSet) (r : Regs) (block : List ℕ) (c : CardState) (d : BiosData)
     (s : Screen) → AreBytes block → IsCard c → IsBda d → shown c d ≡ Some s →
     IsServed service fonts r block c d s
 
 -- the same from every state that shows a screen of text
-abbrev pub ServesText : Service → Type 0
-ServesText service = (fonts : FontSet) (r : Regs) (block : List ℕ) (c : CardState) (d : BiosData)
+abbrev pub TextServiceLeadsToNext : Service → Type 0
+TextServiceLeadsToNext service =
+    (fonts : FontSet) (r : Regs) (block : List ℕ) (c : CardState) (d : BiosData)
     (s : Screen) → AreBytes block → IsCard c → IsBda d → shown c d ≡ Some s →
     is_text s.mode ≡ true → IsServed service fonts r block c d s
 
 -- ---- a clearing mode set
 
 -- the adapter, the reply and the data after a call
-abbrev pub after_call : FontSet → Regs → List ℕ → CardState → BiosData → CardState × Answered
+abbrev pub after_call : FontSet → Regs → List ℕ → CardState → BiosData → CardState × CallOutcome
 after_call fonts r block c d = run card_meaning (whole_service fonts d r block) c
 
 -- the mode is set, the fresh screen is shown, and the beam stays where it is
@@ -77,7 +80,8 @@ pub record IsFreshlySet (mode : ℕ) (row : ModeRow) (fonts : FontSet) (r : Regs
 
 -- from every state and with any data, a call that sets the mode and clears the memory shows the
 -- fresh screen
-abbrev pub SetsFresh : ℕ → ModeRow → Type 0
-SetsFresh mode row = (fonts : FontSet) (r : Regs) (block : List ℕ) (c : CardState) (d : BiosData) →
+abbrev pub ModeSetShowsFreshScreen : ℕ → ModeRow → Type 0
+ModeSetShowsFreshScreen mode row =
+    (fonts : FontSet) (r : Regs) (block : List ℕ) (c : CardState) (d : BiosData) →
     IsCard c → AreBytes fonts.f16 → call_of r ≡ Some (SetMode mode false) →
     IsFreshlySet mode row fonts r block c d

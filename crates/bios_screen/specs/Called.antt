@@ -25,20 +25,20 @@ use Rattle.bios_screen.specs.Loaded.{load_refusal_on, load_glyphs}
 use Rattle.bios_screen.specs.AfterCall.{after_call}
 
 -- the registers of a call are words
-pub record AreWords (r : Regs) : Type 0 where
+pub record AreRegistersWords (r : Regs) : Type 0 where
   pub ax : r.ax < 65536
   pub bx : r.bx < 65536
   pub cx : r.cx < 65536
   pub dx : r.dx < 65536
 
 -- the reply of registers and a table, unless the call is refused
-abbrev pub table_unless : Option Refusal → Table → Regs → Result Reply Refusal
-table_unless None table r = Ok (record { regs = r; table = table })
-table_unless (Some why) table r = Err why
+abbrev pub table_reply_unless : Option Refusal → Table → Regs → Result Reply Refusal
+table_reply_unless None table r = Ok (record { regs = r; table = table })
+table_reply_unless (Some why) table r = Err why
 
 -- the reply of registers alone, unless the call is refused
 abbrev pub reply_unless : Option Refusal → Regs → Result Reply Refusal
-reply_unless refusal r = table_unless refusal Empty r
+reply_unless refusal r = table_reply_unless refusal Empty r
 
 -- the next screen, unless the call is refused; then the old one
 abbrev pub screen_unless : Option Refusal → Screen → Screen → Screen
@@ -46,7 +46,8 @@ screen_unless None old new = new
 screen_unless (Some why) old new = old
 
 -- a call for a service gives the screen's reply, leads to the next screen and leaves the beam
-pub record IsCalled (service : Service) (fonts : FontSet) (r : Regs) (block : List ℕ)
+pub record ServiceCallLeadsToScreen (service : Service) (fonts : FontSet) (r : Regs)
+    (block : List ℕ)
     (c : CardState) (d : BiosData) (s : Screen) : Type 0 where
   pub reply : (after_call fonts r block c d).1.0 ≡ reply_unless
       (refusal_on s service (length block)) (answer_on fonts s service r)
@@ -56,7 +57,8 @@ pub record IsCalled (service : Service) (fonts : FontSet) (r : Regs) (block : Li
 
 -- a call that loads glyphs replies with its registers and leads to the screen with these glyphs,
 -- unless it is refused; it leaves the beam
-pub record IsLoaded (load : GlyphLoad) (fonts : FontSet) (r : Regs) (block : List ℕ) (c : CardState)
+pub record GlyphCallLeadsToScreen (load : GlyphLoad) (fonts : FontSet) (r : Regs) (block : List ℕ)
+    (c : CardState)
     (d : BiosData) (s : Screen) : Type 0 where
   pub reply : (after_call fonts r block c d).1.0 ≡ reply_unless
       (load_refusal_on s load (length block)) r
@@ -67,20 +69,24 @@ pub record IsLoaded (load : GlyphLoad) (fonts : FontSet) (r : Regs) (block : Lis
 
 -- a call for a table gives the screen's table, unless it is refused; it leaves the screen and the
 -- beam
-pub record IsRead (service : TableService) (fonts : FontSet) (r : Regs) (block : List ℕ)
+pub record TableCallLeavesScreen (service : TableService) (fonts : FontSet) (r : Regs)
+    (block : List ℕ)
     (c : CardState) (d : BiosData) (s : Screen) : Type 0 where
-  pub reply : (after_call fonts r block c d).1.0 ≡ table_unless (table_refusal service)
+  pub reply : (after_call fonts r block c d).1.0 ≡ table_reply_unless (table_refusal service)
       (table_answer s service) r
   pub shows : shown (after_call fonts r block c d).0 (after_call fonts r block c d).1.1 ≡ Some s
   pub beam : (after_call fonts r block c d).0.crtc.beam ≡ c.crtc.beam
 
 -- the allocation of a table fails, and the call leaves this adapter and these data
-abbrev pub WantsMemory : FontSet → Regs → List ℕ → CardState → BiosData → CardState → BiosData →
+abbrev pub CallRunsOutOfMemory : FontSet → Regs → List ℕ → CardState → BiosData → CardState
+    → BiosData →
     Type 0
-WantsMemory fonts r block c d y after = MayAnswer card_meaning (whole_service fonts d r block) c d
+CallRunsOutOfMemory fonts r block c d y after =
+    MayAnswer card_meaning (whole_service fonts d r block) c d
     (Err OutOfMemory) y after
 
 -- the adapter and the data show the same screen as before, and the beam is where it was
-pub record IsLeft (c : CardState) (s : Screen) (y : CardState) (after : BiosData) : Type 0 where
+pub record ScreenStaysShown (c : CardState) (s : Screen) (y : CardState)
+    (after : BiosData) : Type 0 where
   pub shows : shown y after ≡ Some s
   pub beam : y.crtc.beam ≡ c.crtc.beam

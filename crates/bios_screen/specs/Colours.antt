@@ -18,7 +18,7 @@ use Rattle.bios_services.specs.declared.reply.Table.{Table}
 use Rattle.bios_services.specs.declared.reply.Table.TheVariants.{Palette as PaletteTable}
 use Rattle.bios_services.specs.declared.reply.Table.TheVariants.{Dac as DacTable}
 use Rattle.bios_services.specs.Registers.{with_high, with_low}
-use Rattle.bios_screen.specs.Listing.{listing}
+use Rattle.bios_screen.specs.Listing.{list_by_function}
 use Rattle.bios_screen.specs.Screen.{Palette, Screen}
 
 -- the six bits that the palette's values and the components of the DAC's entries have
@@ -26,8 +26,8 @@ abbrev pub six_bits : ℕ → ℕ
 six_bits v = bit_and v 0x3F
 
 -- the screen with another value of the palette
-abbrev pub with_value : Screen → ℕ → ℕ → Screen
-with_value s i v = record s {
+abbrev pub with_palette_value : Screen → ℕ → ℕ → Screen
+with_palette_value s i v = record s {
   palette = record s.palette {
     values =
         slice_set s.palette.values i (six_bits v);
@@ -37,15 +37,16 @@ with_value s i v = record s {
 -- the screen with a palette from the first sixteen bytes of a block, and the overscan from the next
 abbrev pub with_palette_and_overscan : Screen → List ℕ → Screen
 with_palette_and_overscan s block = record s {
-  palette = record s.palette { values = listing (λ i. six_bits (slice_index block i)) 0 16 };
+  palette = record s.palette { values = list_by_function (λ i. six_bits (slice_index block i)) 0
+      16 };
   overscan = slice_index block 16;
 }
 
 -- one component of all entries, 0 red, 1 green or 2 blue, after count entries from entry `first` on
 -- got theirs from a block of three bytes each
-abbrev pub component_over : List ℕ → ℕ → ℕ → List ℕ → ℕ → List ℕ
-component_over old first count block i =
-    listing (λ k. if nat_le first k && nat_lt k (first + count)
+abbrev pub component_with_entries : List ℕ → ℕ → ℕ → List ℕ → ℕ → List ℕ
+component_with_entries old first count block i =
+    list_by_function (λ k. if nat_le first k && nat_lt k (first + count)
     then six_bits (slice_index block (3 * (k - first) + i))
     else slice_index old k) 0 (length old)
 
@@ -53,15 +54,15 @@ component_over old first count block i =
 abbrev pub with_entries : Screen → ℕ → ℕ → List ℕ → Screen
 with_entries s first count block = record s {
   palette = record s.palette {
-    reds = component_over s.palette.reds first count block 0;
-    greens = component_over s.palette.greens first count block 1;
-    blues = component_over s.palette.blues first count block 2;
+    reds = component_with_entries s.palette.reds first count block 0;
+    greens = component_with_entries s.palette.greens first count block 1;
+    blues = component_with_entries s.palette.blues first count block 2;
   };
 }
 
 -- the screen after a subfunction that is not refused
 unfoldable pub with_colours : Screen → ColourService → List ℕ → Screen
-with_colours s (SetRegister register value) block = with_value s register value
+with_colours s (SetRegister register value) block = with_palette_value s register value
 with_colours s (SetOverscan value) block = record s { overscan = value }
 with_colours s SetPalette block = with_palette_and_overscan s block
 with_colours s (SetBlinking blinking) block = record s { is_blink = blinking == 1 }
@@ -97,12 +98,12 @@ colours_answer s (SetMask mask) r = r
 colours_answer s ReadMask r = record r { bx = with_low r.bx s.palette.mask }
 
 -- red, green and blue of n entries from entry k on
-abbrev pub entries_from : Palette → ℕ → ℕ → List ℕ
-entries_from p k zero = []
-entries_from p k (suc n) = slice_index p.reds k ∷ slice_index p.greens k ∷ slice_index p.blues k
-    ∷ entries_from p (k + 1) n
+abbrev pub entry_bytes_from : Palette → ℕ → ℕ → List ℕ
+entry_bytes_from p k zero = []
+entry_bytes_from p k (suc n) = slice_index p.reds k ∷ slice_index p.greens k ∷ slice_index p.blues k
+    ∷ entry_bytes_from p (k + 1) n
 
 -- the table that a subfunction answers: the palette's values and then the overscan, or entries
 abbrev pub table_answer : Screen → TableService → Table
 table_answer s ReadPalette = PaletteTable (s.palette.values ++ s.overscan ∷ [])
-table_answer s (ReadEntries first count) = DacTable (entries_from s.palette first count)
+table_answer s (ReadEntries first count) = DacTable (entry_bytes_from s.palette first count)

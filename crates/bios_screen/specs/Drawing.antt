@@ -10,17 +10,18 @@ use Rattle.bios_modes.specs.Modes.{mode_row}
 use Rattle.bios_modes.specs.declared.modes.ModeRow.{ModeRow}
 use Rattle.bios_screen.specs.Screen.{Screen}
 use Rattle.bios_screen.specs.Loaded.{load_refusal_on}
-use Rattle.bios_screen.specs.Picture.{dot_at, lines_of, pixel_width, picture_width, picture_height}
+use Rattle.bios_screen.specs.Picture.{dot_at, pixel_lines_of_mode, pixel_width, picture_width}
+use Rattle.bios_screen.specs.Picture.{picture_height}
 use Rattle.bios_screen.specs.Picture.{next_frame}
 
 -- how many columns of characters a mode has, by its row of the mode table; without a row, 80
-abbrev pub columns_in : Option ModeRow → ℕ
-columns_in None = 80
-columns_in (Some row) = row.columns
+abbrev pub columns_of_row : Option ModeRow → ℕ
+columns_of_row None = 80
+columns_of_row (Some row) = row.columns
 
 -- how many columns of characters a mode has, by its number
 abbrev pub columns_of : ℕ → ℕ
-columns_of mode = columns_in (mode_row mode)
+columns_of mode = columns_of_row (mode_row mode)
 
 -- how many dots a line of a mode has: those of the picture, and a quarter as many to its right
 abbrev pub dots_a_line : ℕ → ℕ
@@ -28,7 +29,7 @@ dots_a_line mode = if is_text mode then 900 else 10 * (pixel_width mode * column
 
 -- how many lines a frame of a mode has: those of the picture, and more below
 abbrev pub lines_a_frame : ℕ → ℕ
-lines_a_frame mode = if lines_of mode == 480 then 525 else 449
+lines_a_frame mode = if pixel_lines_of_mode mode == 480 then 525 else 449
 
 -- how many dots a frame of a mode has; it is opaque, or else checks would count down from it
 unfoldable pub dots_a_frame : ℕ → ℕ
@@ -48,8 +49,8 @@ abbrev pub page_shown : Drawing → ℕ
 page_shown b = if b.dot == 0 then b.screen.page else b.page
 
 -- the picture of the frame so far, which is empty at dot 0
-abbrev pub so_far : Drawing → List ℕ
-so_far b = if b.dot == 0 then [] else b.picture
+abbrev pub picture_so_far : Drawing → List ℕ
+picture_so_far b = if b.dot == 0 then [] else b.picture
 
 -- whether dot n of a frame belongs to the picture
 abbrev pub is_of_picture : Screen → ℕ → Bool
@@ -57,21 +58,21 @@ is_of_picture s n = nat_lt (n % dots_a_line s.mode) (picture_width s)
     && nat_lt (n / dots_a_line s.mode) (picture_height s)
 
 -- the colour of dot n of a frame that shows this page of the screen; nothing if it is outside
-abbrev pub colour_of : Screen → ℕ → ℕ → List ℕ
-colour_of s page n = if is_of_picture s n then dot_at s page (n % dots_a_line s.mode)
+abbrev pub colour_of_frame_dot : Screen → ℕ → ℕ → List ℕ
+colour_of_frame_dot s page n = if is_of_picture s n then dot_at s page (n % dots_a_line s.mode)
     (n / dots_a_line s.mode) else []
 
 -- whether the next dot is the last one of its frame
-abbrev pub is_last : Drawing → Bool
-is_last b = b.dot + 1 == dots_a_frame b.screen.mode
+abbrev pub is_last_dot_of_frame : Drawing → Bool
+is_last_dot_of_frame b = b.dot + 1 == dots_a_frame b.screen.mode
 
 -- one dot: its colour joins the picture; dot 0 of the next frame follows the last one
 unfoldable pub take_dot : Drawing → Drawing
 take_dot b = record {
-  screen = if is_last b then next_frame b.screen else b.screen;
-  dot = if is_last b then 0 else b.dot + 1;
+  screen = if is_last_dot_of_frame b then next_frame b.screen else b.screen;
+  dot = if is_last_dot_of_frame b then 0 else b.dot + 1;
   page = page_shown b;
-  picture = so_far b ++ colour_of b.screen (page_shown b) b.dot;
+  picture = picture_so_far b ++ colour_of_frame_dot b.screen (page_shown b) b.dot;
 }
 
 -- n dots, one after another

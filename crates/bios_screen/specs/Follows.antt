@@ -2,35 +2,39 @@
 -- From the IBM PS/2 Hardware Interface Technical Reference, Video Subsystems.
 use Rattle.std.specs.Prelude.{ℕ, zero, suc, ◌≡◌, ◌+◌, ◌<◌, ◌≤◌, ◌/◌, if◌then◌else◌, List, [], ◌∷◌}
 use Rattle.std.specs.Prelude.{◌++◌, Some}
-use Rattle.vga_crtc.specs.Raster.{IsFrameStart, beam_at}
+use Rattle.vga_crtc.specs.Raster.{IsFrameStart, beam_at_dot_of_frame}
 use Rattle.vga_card.specs.Card.{CardState}
-use Rattle.vga_card.specs.Dots.{character_width, fresh, dots}
+use Rattle.vga_card.specs.Dots.{character_width, dots_of_frame_so_far, dots}
 use Rattle.vga_card.specs.Frames.{frame}
-use Rattle.vga_card.specs.Picture.{lines_of, bytes_of, shape}
+use Rattle.vga_card.specs.Picture.{lines_of_dots, bytes_of_dots, picture_shape}
 use Rattle.bios_modes.specs.Bda.{BiosData}
 use Rattle.bios_services.specs.Cursor.{start_address}
 use Rattle.bios_screen.specs.Screen.{Screen}
 use Rattle.bios_screen.specs.Shown.{shown}
 use Rattle.bios_screen.specs.Picture.{picture_width, picture_height}
-use Rattle.bios_screen.specs.Raster.{join}
-use Rattle.bios_screen.specs.Drawing.{Drawing, dots_a_line, dots_a_frame, page_shown, so_far}
-use Rattle.bios_screen.specs.Drawing.{is_of_picture, colour_of, take_frame}
+use Rattle.bios_screen.specs.Raster.{concatenated_lists}
+use Rattle.bios_screen.specs.Drawing.{Drawing, dots_a_line, dots_a_frame, page_shown}
+use Rattle.bios_screen.specs.Drawing.{picture_so_far}
+use Rattle.bios_screen.specs.Drawing.{is_of_picture, colour_of_frame_dot, take_frame}
 
 -- the beam is at dot n of a frame whose counter began at `start`; at dot 0, the frame has not begun
 abbrev pub BeamIsAt : CardState → ℕ → ℕ → Type 0
 BeamIsAt c start zero = IsFrameStart c.crtc.beam
-BeamIsAt c start (suc n) = c.crtc.beam ≡ beam_at (character_width c) c.crtc.registers start
+BeamIsAt c start (suc n) =
+    c.crtc.beam ≡ beam_at_dot_of_frame (character_width c) c.crtc.registers start
     c.crtc.beam.frame (suc n)
 
 -- dots from dot n of a frame of this page on join what is drawn of the frame, up to its end
-abbrev pub RowsJoin : CardState → Screen → ℕ → ℕ → Type 0
-RowsJoin c s page n = (j : ℕ) → 0 < j → n + j ≤ dots_a_frame s.mode →
-    bytes_of (dots j c).drawn ≡ bytes_of (fresh c) ++ join (λ i. colour_of s page (n + i)) j
+abbrev pub DotsJoinPicture : CardState → Screen → ℕ → ℕ → Type 0
+DotsJoinPicture c s page n = (j : ℕ) → 0 < j → n + j ≤ dots_a_frame s.mode →
+    bytes_of_dots (dots j c).drawn ≡ bytes_of_dots (dots_of_frame_so_far c) ++ concatenated_lists
+        (λ i. colour_of_frame_dot s page (n + i)) j
 
 -- the line of each dot of the picture among the first n dots of a frame
-unfoldable pub lines_before : Screen → ℕ → List ℕ
-lines_before s zero = []
-lines_before s (suc n) = lines_before s n ++ (if is_of_picture s n then n / dots_a_line s.mode ∷ []
+unfoldable pub picture_lines_before : Screen → ℕ → List ℕ
+picture_lines_before s zero = []
+picture_lines_before s (suc n) =
+    picture_lines_before s n ++ (if is_of_picture s n then n / dots_a_line s.mode ∷ []
     else [])
 
 -- the adapter shows the screen, its beam is at the next dot of a frame of the page, and it has
@@ -40,14 +44,14 @@ pub record Follows (c : CardState) (d : BiosData) (b : Drawing) : Type 0 where
   pub within : b.dot < dots_a_frame b.screen.mode
   pub page : page_shown b < b.screen.layout.pages
   pub at : BeamIsAt c (start_address d (page_shown b)) b.dot
-  pub lines : lines_of (fresh c) ≡ lines_before b.screen b.dot
-  pub bytes : bytes_of (fresh c) ≡ so_far b
+  pub lines : lines_of_dots (dots_of_frame_so_far c) ≡ picture_lines_before b.screen b.dot
+  pub bytes : bytes_of_dots (dots_of_frame_so_far c) ≡ picture_so_far b
 
 -- the frame ends with the picture so far and the dots that remained, and dot 0 of the next follows
 pub record EndsFrame (c : CardState) (d : BiosData) (b : Drawing) : Type 0 where
-  pub size : shape (frame c).drawn ≡ Some (record {
+  pub size : picture_shape (frame c).drawn ≡ Some (record {
     width = picture_width b.screen;
     height = picture_height b.screen;
   })
-  pub bytes : bytes_of (frame c).drawn ≡ (take_frame b).picture
+  pub bytes : bytes_of_dots (frame c).drawn ≡ (take_frame b).picture
   pub follows : Follows (frame c) d (take_frame b)

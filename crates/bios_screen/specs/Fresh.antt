@@ -7,9 +7,9 @@ use Rattle.bios_modes.specs.declared.modes.ModeRow.{ModeRow}
 use Rattle.bios_modes.specs.declared.palette.Palette.{Palette as DefaultPalette}
 use Rattle.bios_modes.specs.Palette.{palette_entry}
 use Rattle.bios_modes.specs.Kinds.{is_text}
-use Rattle.bios_screen.specs.Listing.{listing}
+use Rattle.bios_screen.specs.Listing.{list_by_function}
 use Rattle.bios_screen.specs.Screen.{Cell, Contents, Cells, Pixels, Layout, Palette, Screen}
-use Rattle.bios_screen.specs.Shown.{all_cells}
+use Rattle.bios_screen.specs.Shown.{text_memory_cells}
 
 -- n cells as a mode set leaves them: blanks with attribute 07
 unfoldable pub fresh_cells : ℕ → List Cell
@@ -21,11 +21,11 @@ blank_pixels n = replicate n 0
 
 -- one component of the first n entries of a default palette: 0 red, 1 green, 2 blue
 unfoldable pub default_component : DefaultPalette → ℕ → ℕ → List ℕ
-default_component palette i n = listing (λ k. slice_index (palette_entry palette k) i) 0 n
+default_component palette i n = list_by_function (λ k. slice_index (palette_entry palette k) i) 0 n
 
 -- the first n bytes of a font
 unfoldable pub font_bytes : List ℕ → ℕ → List ℕ
-font_bytes font n = listing (slice_index font) 0 n
+font_bytes font n = list_by_function (slice_index font) 0 n
 
 -- the palette that a mode set loads
 abbrev pub fresh_palette : ModeRow → Palette
@@ -49,8 +49,8 @@ fresh_layout row distance = record {
 
 -- a screen of these contents and glyphs, with the cursors in the upper left corner and the mode's
 -- cursor type and colours; the frame number stays
-abbrev pub fresh_by : ℕ → ModeRow → ℕ → Contents → List ℕ → ℕ → Screen
-fresh_by mode row distance contents glyphs frame = record {
+abbrev pub fresh_screen_with : ℕ → ModeRow → ℕ → Contents → List ℕ → ℕ → Screen
+fresh_screen_with mode row distance contents glyphs frame = record {
   mode = mode;
   layout = fresh_layout row distance;
   contents = contents;
@@ -66,12 +66,13 @@ fresh_by mode row distance contents glyphs frame = record {
 
 -- the fresh screen of text: blank cells, and the glyphs of a font
 abbrev pub fresh_text : ℕ → ModeRow → List ℕ → ℕ → Screen
-fresh_text mode row font frame = fresh_by mode row (row.size / 2) (Cells (fresh_cells all_cells))
+fresh_text mode row font frame =
+    fresh_screen_with mode row (row.size / 2) (Cells (fresh_cells text_memory_cells))
     (font_bytes font 4096) frame
 
 -- the fresh screen of graphics: pages of pixels of colour 0
 abbrev pub fresh_pixels : ℕ → ModeRow → ℕ → Screen
-fresh_pixels mode row frame = fresh_by mode row 0 (Pixels
+fresh_pixels mode row frame = fresh_screen_with mode row 0 (Pixels
     (replicate row.pages (blank_pixels (8 * row.columns * (row.height * (row.last_row + 1)))))) []
     frame
 

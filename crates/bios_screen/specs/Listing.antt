@@ -2,6 +2,6 @@
 use Rattle.std.specs.Prelude.{ℕ, zero, suc, ◌+◌, List, [], ◌∷◌}
 
 -- the list of f i, f (i + 1) and so on, of n elements
-abbrev pub listing : {A : Type 0} → (ℕ → A) → ℕ → ℕ → List A
-listing f i zero = []
-listing f i (suc n) = f i ∷ listing f (i + 1) n
+abbrev pub list_by_function : {A : Type 0} → (ℕ → A) → ℕ → ℕ → List A
+list_by_function f i zero = []
+list_by_function f i (suc n) = f i ∷ list_by_function f (i + 1) n

@@ -10,7 +10,7 @@ use Rattle.bios_modes.specs.Fonts.{FontSet}
 use Rattle.bios_services.specs.declared.glyph_load.GlyphLoad.{GlyphLoad}
 use Rattle.bios_services.specs.Reasons.{◌or◌}
 use Rattle.bios_services.specs.GlyphLoads.{load_refusal, loaded_line}
-use Rattle.bios_screen.specs.Listing.{listing}
+use Rattle.bios_screen.specs.Listing.{list_by_function}
 use Rattle.bios_screen.specs.Screen.{Layout, Screen}
 
 -- why a height is refused: the text-height table has no row for it
@@ -25,16 +25,16 @@ load_refusal_on s load len = load_refusal load s.mode len
 
 -- byte i of the glyphs, sixteen for a character, after a load: the first lines of each loaded
 -- character are new, and all others stay
-abbrev pub load_byte : FontSet → GlyphLoad → List ℕ → (ℕ → ℕ) → ℕ → ℕ
-load_byte fonts load block old i =
+abbrev pub glyph_byte_after_load : FontSet → GlyphLoad → List ℕ → (ℕ → ℕ) → ℕ → ℕ
+glyph_byte_after_load fonts load block old i =
     if nat_le load.first (i / 16) && (nat_lt (i / 16) (load.first + load.count)
     && nat_lt (i % 16) load.height)
     then loaded_line fonts load block (i / 16) (i % 16)
     else old i
 
 -- the layout of text with the values of a row of the text-height table
-abbrev pub layout_with : Layout → TextRow → Layout
-layout_with l text = record {
+abbrev pub layout_at_height : Layout → TextRow → Layout
+layout_at_height l text = record {
   columns = l.columns;
   rows = text.last_row + 1;
   height = text.height;
@@ -47,11 +47,12 @@ layout_with l text = record {
 abbrev pub load_at_height : Option TextRow → FontSet → Screen → GlyphLoad → List ℕ → Screen
 load_at_height None fonts s load block = s
 load_at_height (Some text) fonts s load block = record s {
-  layout = layout_with s.layout text;
+  layout = layout_at_height s.layout text;
   places = replicate 8 0;
   cursor_type = text.cursor_type;
   page = 0;
-  glyphs = listing (load_byte fonts load block (slice_index s.glyphs)) 0 (length s.glyphs);
+  glyphs = list_by_function (glyph_byte_after_load fonts load block (slice_index s.glyphs)) 0
+      (length s.glyphs);
 }
 
 -- the screen after a load that is not refused

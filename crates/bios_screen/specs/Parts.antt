@@ -3,7 +3,7 @@ use Rattle.std.specs.Prelude.{ℕ, ◌≡◌, ◌+◌, ◌*◌, ◌≤◌, ◌&&
 use Rattle.std.specs.Prelude.{[], get_or, slice_index, Option, Some, None}
 use Rattle.bios_modes.specs.Kinds.{is_text}
 use Rattle.bios_services.specs.Cursor.{row_of, column_of}
-use Rattle.bios_screen.specs.Listing.{listing}
+use Rattle.bios_screen.specs.Listing.{list_by_function}
 use Rattle.bios_screen.specs.Screen.{Cell, Contents, Cells, Pixels, Layout, Screen, cell_of}
 use Rattle.bios_screen.specs.Screen.{page_start, cursor_position}
 
@@ -41,7 +41,8 @@ cursor_at s page = if nat_lt page 8 then Some (
 
 -- the pixels of each of count pages, cut from one list with n pixels for a page
 unfoldable pub cut_pages : List ℕ → ℕ → ℕ → List (List ℕ)
-cut_pages pixels n pages = listing (λ p. listing (λ k. slice_index pixels (n * p + k)) 0 n) 0 pages
+cut_pages pixels n pages =
+    list_by_function (λ p. list_by_function (λ k. slice_index pixels (n * p + k)) 0 n) 0 pages
 
 -- how many pixels a page has
 abbrev pub pixel_count : Layout → ℕ

@@ -12,7 +12,7 @@ use Rattle.bios_modes.specs.Palette.{is_monochrome_mode}
 use Rattle.bios_modes.specs.Modes.{mode_row}
 use Rattle.bios_modes.specs.declared.modes.ModeRow.{ModeRow}
 use Rattle.bios_services.specs.Registers.{high, low}
-use Rattle.bios_screen.specs.Screen.{Cell, Palette, Screen, page_start, cursor_cell}
+use Rattle.bios_screen.specs.Screen.{Cell, Palette, Screen, page_start, cursor_cell_on_screen}
 use Rattle.bios_screen.specs.Step.{cell_on, pixel_of, pixel_number}
 
 -- row r of a character's glyph
@@ -40,7 +40,7 @@ is_blinked_away s cell = s.is_blink && (is_set cell.1 7 && nat_le 16 s.frame)
 -- of 16 frames unless bit 5 of its first row is 1; cells are counted from the first of page 0
 abbrev pub is_cursor : Screen → ℕ → ℕ → Bool
 is_cursor s k r =
-    (k == cursor_cell s s.page) && (not (is_set (high s.cursor_type) 5)
+    (k == cursor_cell_on_screen s s.page) && (not (is_set (high s.cursor_type) 5)
     && (nat_le (field (high s.cursor_type) 4 0) r
     && (nat_le r (field (low s.cursor_type) 4 0) && nat_lt (s.frame % 16) 8)))
 
@@ -72,24 +72,24 @@ abbrev pub colour_by_palette : Palette → ℕ → List ℕ
 colour_by_palette p n = colour_of_value p (slice_index p.values n)
 
 -- the number of the cell at column x of line y of a page's picture, where a cell is nine dots wide
-abbrev pub cell_shown : Screen → ℕ → ℕ → ℕ → ℕ
-cell_shown s page x y = page_start s page + (s.layout.columns * (y / s.layout.height) + x / 9)
+abbrev pub cell_at_dot : Screen → ℕ → ℕ → ℕ → ℕ
+cell_at_dot s page x y = page_start s page + (s.layout.columns * (y / s.layout.height) + x / 9)
 
 -- the colour of the dot at column x of line y of a page of text
-unfoldable pub text_dot : Screen → ℕ → ℕ → ℕ → List ℕ
-text_dot s page x y = colour_by_palette s.palette
-    (nibble s (cell_shown s page x y) (y % s.layout.height) (x % 9))
+unfoldable pub text_dot_colour : Screen → ℕ → ℕ → ℕ → List ℕ
+text_dot_colour s page x y = colour_by_palette s.palette
+    (nibble s (cell_at_dot s page x y) (y % s.layout.height) (x % 9))
 
 -- ---- graphics
 
 -- how many lines of pixels a mode has, by its row of the mode table
-abbrev pub lines_in : Option ModeRow → ℕ
-lines_in None = 0
-lines_in (Some row) = row.height * (row.last_row + 1)
+abbrev pub pixel_lines_of_row : Option ModeRow → ℕ
+pixel_lines_of_row None = 0
+pixel_lines_of_row (Some row) = row.height * (row.last_row + 1)
 
 -- how many lines of pixels a mode has, by its number
-abbrev pub lines_of : ℕ → ℕ
-lines_of mode = lines_in (mode_row mode)
+abbrev pub pixel_lines_of_mode : ℕ → ℕ
+pixel_lines_of_mode mode = pixel_lines_of_row (mode_row mode)
 
 -- how many dots wide a pixel is: two if it is a byte
 abbrev pub pixel_width : ℕ → ℕ
@@ -97,24 +97,25 @@ pixel_width mode = if is_packed mode then 2 else 1
 
 -- how many lines high a pixel is: two if the mode has 200 lines
 abbrev pub pixel_height : ℕ → ℕ
-pixel_height mode = if lines_of mode == 200 then 2 else 1
+pixel_height mode = if pixel_lines_of_mode mode == 200 then 2 else 1
 
 -- the pixel at column x of line y of a page
-abbrev pub pixel_on : Screen → ℕ → ℕ → ℕ → ℕ
-pixel_on s page x y = pixel_of s page (pixel_number s x y)
+abbrev pub pixel_at_position : Screen → ℕ → ℕ → ℕ → ℕ
+pixel_at_position s page x y = pixel_of s page (pixel_number s x y)
 
 -- the colour of the dot at column x of line y of a page of pixels: a pixel of 16 colours selects a
 -- value of the palette, and one of 256 an entry
-unfoldable pub pixel_dot : Screen → ℕ → ℕ → ℕ → List ℕ
-pixel_dot s page x y =
-    let pixel = pixel_on s page (x / pixel_width s.mode) (y / pixel_height s.mode) in
+unfoldable pub pixel_dot_colour : Screen → ℕ → ℕ → ℕ → List ℕ
+pixel_dot_colour s page x y =
+    let pixel = pixel_at_position s page (x / pixel_width s.mode) (y / pixel_height s.mode) in
     if is_packed s.mode then colour_of_value s.palette pixel else colour_by_palette s.palette pixel
 
 -- ---- the picture
 
 -- the colour of the dot at column x of line y of a page
 abbrev pub dot_at : Screen → ℕ → ℕ → ℕ → List ℕ
-dot_at s page x y = if is_text s.mode then text_dot s page x y else pixel_dot s page x y
+dot_at s page x y =
+    if is_text s.mode then text_dot_colour s page x y else pixel_dot_colour s page x y
 
 -- how many dots wide the picture is, without the overscan
 abbrev pub picture_width : Screen → ℕ

@@ -49,12 +49,12 @@ pub record Screen : Type 0 where
   pub frame : ℕ
 
 -- the cell that stands for one that is not there
-abbrev pub no_cell : Cell
-no_cell = (0, 0)
+abbrev pub missing_cell : Cell
+missing_cell = (0, 0)
 
 -- cell k of a list
 abbrev pub cell_of : List Cell → ℕ → Cell
-cell_of cells k = get_or cells k no_cell
+cell_of cells k = get_or cells k missing_cell
 
 -- how many cells a page shows
 abbrev pub page_cells : Screen → ℕ
@@ -65,13 +65,14 @@ abbrev pub page_start : Screen → ℕ → ℕ
 page_start s page = s.layout.distance * page
 
 -- the number of the cell at a position, counted along the rows of its page
-abbrev pub position_number : Screen → ℕ → ℕ
-position_number s position = s.layout.columns * row_of position + column_of position
+abbrev pub cell_number_of_position : Screen → ℕ → ℕ
+cell_number_of_position s position = s.layout.columns * row_of position + column_of position
 
 -- the cursor's position on a page
 abbrev pub cursor_position : Screen → ℕ → ℕ
 cursor_position s page = slice_index s.places page
 
 -- the number of the cell at a page's cursor, counted from the first cell of page 0
-abbrev pub cursor_cell : Screen → ℕ → ℕ
-cursor_cell s page = page_start s page + position_number s (cursor_position s page)
+abbrev pub cursor_cell_on_screen : Screen → ℕ → ℕ
+cursor_cell_on_screen s page =
+    page_start s page + cell_number_of_position s (cursor_position s page)

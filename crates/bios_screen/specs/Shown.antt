@@ -12,12 +12,12 @@ use Rattle.vga_attr.specs.Attr.{AttrState}
 use Rattle.vga_attr.specs.Fields.{is_palette_shown, is_blink, overscan}
 use Rattle.vga_card.specs.Card.{CardState}
 use Rattle.bios_modes.specs.declared.modes.ModeRow.{ModeRow}
-use Rattle.bios_modes.specs.Heights.{row_at}
+use Rattle.bios_modes.specs.Heights.{mode_row_at_height}
 use Rattle.bios_modes.specs.Bda.{BiosData}
 use Rattle.bios_modes.specs.Kinds.{is_text, is_packed}
 use Rattle.bios_services.specs.Cursor.{cursor_address, start_address}
-use Rattle.bios_services.specs.Pixels.{dots_across, dots_down}
-use Rattle.bios_screen.specs.Listing.{listing}
+use Rattle.bios_services.specs.Pixels.{pixels_across, pixels_down}
+use Rattle.bios_screen.specs.Listing.{list_by_function}
 use Rattle.bios_screen.specs.Screen.{Cell, Contents, Cells, Pixels, Layout, Palette, Screen}
 
 -- ---- the test
@@ -41,19 +41,19 @@ crtc_register row cursor_type start location i =
 
 -- all 25 registers of the CRT controller
 abbrev pub crtc_registers : ModeRow → ℕ → ℕ → ℕ → List ℕ
-crtc_registers row cursor_type start location = listing
+crtc_registers row cursor_type start location = list_by_function
     (crtc_register row cursor_type start location) 0 25
 
 -- the cursor location: in text that of the active page; in graphics, which shows no cursor, the one
 -- that the registers contain
-abbrev pub location_shown : BiosData → List ℕ → ℕ
-location_shown d registers = if is_text d.mode then cursor_address d d.page
+abbrev pub cursor_location_shown : BiosData → List ℕ → ℕ
+cursor_location_shown d registers = if is_text d.mode then cursor_address d d.page
     else 256 * slice_index registers 0x0E + slice_index registers 0x0F
 
 -- the registers of the CRT controller that show the active page of the data, with its cursor
-abbrev pub crtc_shown : ModeRow → BiosData → List ℕ → List ℕ
-crtc_shown row d registers = crtc_registers row d.cursor_type (start_address d d.page)
-    (location_shown d registers)
+abbrev pub crtc_registers_shown : ModeRow → BiosData → List ℕ → List ℕ
+crtc_registers_shown row d registers = crtc_registers row d.cursor_type (start_address d d.page)
+    (cursor_location_shown d registers)
 
 -- whether the attribute controller shows its palette, and its registers from mode control on are
 -- the mode's, except for bit 3 of mode control, which is blinking, and for overscan
@@ -75,7 +75,7 @@ shows_data row d =
 unfoldable pub shows : ModeRow → CardState → BiosData → Bool
 shows row c d =
     shows_memory row c && (shows_data row d && (bytes_eq c.crtc.registers
-    (crtc_shown row d c.crtc.registers) && shows_attribute row c.attr))
+    (crtc_registers_shown row d c.crtc.registers) && shows_attribute row c.attr))
 
 -- ---- the reading
 
@@ -85,7 +85,7 @@ cell_in plane0 plane1 k = (slice_index plane0 (2 * k), slice_index plane1 (2 * k
 
 -- the first n cells of text memory
 unfoldable pub cells_in : List ℕ → List ℕ → ℕ → List Cell
-cells_in plane0 plane1 n = listing (cell_in plane0 plane1) 0 n
+cells_in plane0 plane1 n = list_by_function (cell_in plane0 plane1) 0 n
 
 -- byte i of the glyphs; each glyph has 16 rows, the first 16 of 32 bytes in plane 2
 abbrev pub glyph_byte : List ℕ → ℕ → ℕ
@@ -93,7 +93,7 @@ glyph_byte plane2 i = slice_index plane2 (32 * (i / 16) + i % 16)
 
 -- the first n bytes of the glyphs
 unfoldable pub glyphs_in : List ℕ → ℕ → List ℕ
-glyphs_in plane2 n = listing (glyph_byte plane2) 0 n
+glyphs_in plane2 n = list_by_function (glyph_byte plane2) 0 n
 
 -- pixel k of a page of 16 colours that begins at byte z: its bit p lies in plane p, eight pixels to
 -- a byte, the first one as the highest bit
@@ -116,19 +116,20 @@ pixel_in mode memory z k = if is_packed mode then packed_pixel memory (z + k)
 
 -- the first n pixels of a page that begins at byte z
 unfoldable pub pixels_in : ℕ → Four (List ℕ) → ℕ → ℕ → List ℕ
-pixels_in mode memory z n = listing (pixel_in mode memory z) 0 n
+pixels_in mode memory z n = list_by_function (pixel_in mode memory z) 0 n
 
 -- how many pixels a page has
 abbrev pub page_pixels : BiosData → ℕ
-page_pixels d = dots_across d * dots_down d
+page_pixels d = pixels_across d * pixels_down d
 
 -- the pages, of n pixels each; each begins `size` bytes after the one before
 unfoldable pub pixel_pages : ℕ → Four (List ℕ) → ℕ → ℕ → ℕ → List (List ℕ)
-pixel_pages mode memory size n pages = listing (λ p. pixels_in mode memory (size * p) n) 0 pages
+pixel_pages mode memory size n pages =
+    list_by_function (λ p. pixels_in mode memory (size * p) n) 0 pages
 
 -- the colours of the adapter: the palette registers, the DAC's entries and its mask
-abbrev pub palette_in : CardState → Palette
-palette_in c = record {
+abbrev pub palette_of_card : CardState → Palette
+palette_of_card c = record {
   values = take 16 c.attr.registers;
   reds = c.dac.reds;
   greens = c.dac.greens;
@@ -147,15 +148,15 @@ layout_of row d distance = record {
 }
 
 -- the screen of the adapter and the data, with these contents and glyphs
-abbrev pub screen_by : ModeRow → CardState → BiosData → ℕ → Contents → List ℕ → Screen
-screen_by row c d distance contents glyphs = record {
+abbrev pub screen_with_contents : ModeRow → CardState → BiosData → ℕ → Contents → List ℕ → Screen
+screen_with_contents row c d distance contents glyphs = record {
   mode = d.mode;
   layout = layout_of row d distance;
   contents = contents;
   places = d.cursor_places;
   cursor_type = d.cursor_type;
   page = d.page;
-  palette = palette_in c;
+  palette = palette_of_card c;
   overscan = overscan c.attr;
   is_blink = is_blink c.attr;
   glyphs = glyphs;
@@ -163,22 +164,24 @@ screen_by row c d distance contents glyphs = record {
 }
 
 -- how many cells text memory has
-abbrev pub all_cells : ℕ
-all_cells = 16384
+abbrev pub text_memory_cells : ℕ
+text_memory_cells = 16384
 
 -- the text screen with these cells; a cell is two bytes of a page
-abbrev pub screen_with : ModeRow → CardState → BiosData → List Cell → Screen
-screen_with row c d cells = screen_by row c d (d.size / 2) (Cells cells)
+abbrev pub text_screen_with_cells : ModeRow → CardState → BiosData → List Cell → Screen
+text_screen_with_cells row c d cells = screen_with_contents row c d (d.size / 2) (Cells cells)
     (glyphs_in c.host.memory.plane2 4096)
 
 -- the text screen of the adapter and the data
 abbrev pub text_screen : ModeRow → CardState → BiosData → Screen
-text_screen row c d = screen_with row c d (cells_in c.host.memory.plane0 c.host.memory.plane1
-    all_cells)
+text_screen row c d =
+    text_screen_with_cells row c d (cells_in c.host.memory.plane0 c.host.memory.plane1
+    text_memory_cells)
 
 -- the screen of pixels of the adapter and the data
 abbrev pub pixel_screen : ModeRow → CardState → BiosData → Screen
-pixel_screen row c d = screen_by row c d 0 (Pixels (pixel_pages d.mode c.host.memory d.size
+pixel_screen row c d =
+    screen_with_contents row c d 0 (Pixels (pixel_pages d.mode c.host.memory d.size
     (page_pixels d) row.pages)) []
 
 -- the screen of the mode's kind: text or pixels
@@ -187,10 +190,10 @@ screen_of row c d = if is_text d.mode then text_screen row c d else pixel_screen
 
 -- the screen that the adapter shows with these data, if it shows one, by the mode's row at its
 -- height
-abbrev pub shown_by : Option ModeRow → CardState → BiosData → Option Screen
-shown_by None c d = None
-shown_by (Some row) c d = if shows row c d then Some (screen_of row c d) else None
+abbrev pub screen_shown_in_mode : Option ModeRow → CardState → BiosData → Option Screen
+screen_shown_in_mode None c d = None
+screen_shown_in_mode (Some row) c d = if shows row c d then Some (screen_of row c d) else None
 
 -- the screen that the adapter shows with these data, if it shows one
 abbrev pub shown : CardState → BiosData → Option Screen
-shown c d = shown_by (row_at d.mode d.height) c d
+shown c d = screen_shown_in_mode (mode_row_at_height d.mode d.height) c d

@@ -3,7 +3,7 @@
 use Rattle.std.specs.Prelude.{ℕ, zero, suc, ◌+◌, ◌-◌, ◌*◌, ◌/◌, ◌%◌, ◌==◌, ◌&&◌, nat_lt}
 use Rattle.std.specs.Prelude.{nat_le, Bool, not, if◌then◌else◌, List, [], length, get_or, set}
 use Rattle.std.specs.Prelude.{slice_index, slice_set, bit_xor, Option, Some, None}
-use Rattle.vga_bits.specs.Bits.{is_set, byte_of}
+use Rattle.vga_bits.specs.Bits.{is_set, byte_of_bits}
 use Rattle.vga_bits.specs.declared.refusal.Refusal.{Refusal}
 use Rattle.bios_modes.specs.Fonts.{FontSet}
 use Rattle.bios_services.specs.declared.regs.Regs.{Regs}
@@ -24,19 +24,20 @@ use Rattle.bios_services.specs.declared.call.Service.TheVariants.{WriteString, R
 use Rattle.bios_modes.specs.Kinds.{is_packed}
 use Rattle.bios_modes.specs.Palette.{is_monochrome_mode}
 use Rattle.bios_services.specs.Registers.{low, with_low}
-use Rattle.bios_services.specs.Scroll.{window_among, whole_page, lines_of}
-use Rattle.bios_services.specs.Teletype.{line_start, dots_in}
+use Rattle.bios_services.specs.Scroll.{window_among, whole_page, rows_to_scroll}
+use Rattle.bios_services.specs.Teletype.{line_start, pixel_colouring}
 use Rattle.bios_services.specs.Strings.{character_at, colouring_of_character}
 use Rattle.bios_services.specs.Colours.{colour_reason}
 use Rattle.bios_services.specs.Reasons.{◌or◌, no_pixels, no_page, outside_cells, outside_page}
 use Rattle.bios_services.specs.Reasons.{outside_pixels, past_cells, or_wrong_block}
 use Rattle.bios_services.specs.Refusals.{page_among, service_block}
 use Rattle.bios_services.specs.Cursor.{row_of, column_of}
-use Rattle.bios_services.specs.Glyphs.{glyph_line, first_character}
-use Rattle.bios_screen.specs.Listing.{listing}
+use Rattle.bios_services.specs.Glyphs.{glyph_line, first_character_with_lines}
+use Rattle.bios_screen.specs.Listing.{list_by_function}
 use Rattle.bios_screen.specs.Colours.{with_colours, colours_answer}
 use Rattle.bios_screen.specs.Screen.{Cell, Contents, Cells, Pixels, Screen, cell_of, page_cells}
-use Rattle.bios_screen.specs.Screen.{page_start, position_number, cursor_position, cursor_cell}
+use Rattle.bios_screen.specs.Screen.{page_start, cell_number_of_position, cursor_position}
+use Rattle.bios_screen.specs.Screen.{cursor_cell_on_screen}
 
 -- ---- why a service is refused
 
@@ -46,44 +47,44 @@ page_meant s page = page_among s.layout.pages page
 
 -- the number of the cell at the cursor of a page, counted along the rows of that page
 abbrev pub cursor_number : Screen → ℕ → ℕ
-cursor_number s page = position_number s (cursor_position s page)
+cursor_number s page = cell_number_of_position s (cursor_position s page)
 
 -- why a service is refused on a screen whatever its block: the first of its reasons
-abbrev pub reason_on : Screen → Service → Option Refusal
-reason_on s (SetCursorType cursor_type) = None
-reason_on s (SetCursor page position) = no_page s.layout.pages (page_meant s page)
-reason_on s (ReadCursor page) = no_page s.layout.pages (page_meant s page)
-reason_on s (SelectPage page) = no_page s.layout.pages page
-reason_on s (ScrollUp window) = None
-reason_on s (ScrollDown window) = None
-reason_on s (ReadCell page) =
+abbrev pub refusal_reason_on : Screen → Service → Option Refusal
+refusal_reason_on s (SetCursorType cursor_type) = None
+refusal_reason_on s (SetCursor page position) = no_page s.layout.pages (page_meant s page)
+refusal_reason_on s (ReadCursor page) = no_page s.layout.pages (page_meant s page)
+refusal_reason_on s (SelectPage page) = no_page s.layout.pages page
+refusal_reason_on s (ScrollUp window) = None
+refusal_reason_on s (ScrollDown window) = None
+refusal_reason_on s (ReadCell page) =
     no_page s.layout.pages (page_meant s page)
     or outside_cells (page_cells s) (cursor_number s (page_meant s page))
-reason_on s (WriteCells cells) =
+refusal_reason_on s (WriteCells cells) =
     no_page s.layout.pages (page_meant s cells.page)
     or outside_cells (page_cells s) (cursor_number s (page_meant s cells.page))
     or past_cells (page_cells s) (cursor_number s (page_meant s cells.page)) cells.count
-reason_on s (WritePixel page x y colour) =
+refusal_reason_on s (WritePixel page x y colour) =
     no_pixels s.mode
     or no_page s.layout.pages (page_meant s page)
     or outside_pixels (8 * s.layout.columns) (s.layout.height * s.layout.rows) x y
-reason_on s (ReadPixel page x y) =
+refusal_reason_on s (ReadPixel page x y) =
     no_pixels s.mode
     or no_page s.layout.pages (page_meant s page)
     or outside_pixels (8 * s.layout.columns) (s.layout.height * s.layout.rows) x y
-reason_on s (Teletype character colour) = outside_page s.layout.rows s.layout.columns
+refusal_reason_on s (Teletype character colour) = outside_page s.layout.rows s.layout.columns
     (cursor_position s s.page)
-reason_on s ReadMode = None
-reason_on s (Colours service) = colour_reason service
-reason_on s ReadAdapter = None
-reason_on s (WriteString call) =
+refusal_reason_on s ReadMode = None
+refusal_reason_on s (Colours service) = colour_reason service
+refusal_reason_on s ReadAdapter = None
+refusal_reason_on s (WriteString call) =
     no_page s.layout.pages (page_meant s call.page)
     or outside_page s.layout.rows s.layout.columns call.position
-reason_on s ReadDisplay = None
+refusal_reason_on s ReadDisplay = None
 
 -- why a service is refused on a screen with a block of this length
 unfoldable pub refusal_on : Screen → Service → ℕ → Option Refusal
-refusal_on s service len = or_wrong_block (reason_on s service) (service_block service) len
+refusal_on s service len = or_wrong_block (refusal_reason_on s service) (service_block service) len
 
 -- ---- what it does to the cells
 
@@ -98,7 +99,7 @@ cell_on s k = cell_of (cells_on s.contents) k
 
 -- new cells, each given by its number and all the old ones; pixels stay
 abbrev pub change_cells : ((ℕ → Cell) → ℕ → Cell) → Contents → Contents
-change_cells new (Cells cells) = Cells (listing (new (cell_of cells)) 0 (length cells))
+change_cells new (Cells cells) = Cells (list_by_function (new (cell_of cells)) 0 (length cells))
 change_cells new (Pixels pages) = Pixels pages
 
 -- a screen with new cells, each given by its number and all the old ones
@@ -128,29 +129,29 @@ abbrev pub column_on : Screen → ℕ → ℕ → ℕ
 column_on s page k = (k - page_start s page) % s.layout.columns
 
 -- whether a row and a column lie in a window
-abbrev pub in_window : Window → ℕ → ℕ → Bool
-in_window w row column = nat_le w.top row && (nat_lt row (w.top + w.height)
+abbrev pub is_in_window : Window → ℕ → ℕ → Bool
+is_in_window w row column = nat_le w.top row && (nat_lt row (w.top + w.height)
     && (nat_le w.left column && nat_lt column (w.left + w.width)))
 
 -- whether a row of a window that moves by n rows gets another row's contents: all but the last n do
 -- if it moves up, and all but the first n if it moves down
-abbrev pub has_source : Direction → Window → ℕ → ℕ → Bool
-has_source Up w n row = nat_lt (row + n) (w.top + w.height)
-has_source Down w n row = nat_le (w.top + n) row
+abbrev pub has_source_row : Direction → Window → ℕ → ℕ → Bool
+has_source_row Up w n row = nat_lt (row + n) (w.top + w.height)
+has_source_row Down w n row = nat_le (w.top + n) row
 
 -- the number of the cell or pixel whose contents number k gets: `distance` after it if the window
 -- moves up, `distance` before it if the window moves down
-abbrev pub source : Direction → ℕ → ℕ → ℕ
-source Up k distance = k + distance
-source Down k distance = k - distance
+abbrev pub source_number : Direction → ℕ → ℕ → ℕ
+source_number Up k distance = k + distance
+source_number Down k distance = k - distance
 
 -- a window of a page moves by n rows: a cell gets the contents of the one n rows below or above it,
 -- the n rows that the window leaves become blank in an attribute, and all cells outside stay
 abbrev pub scroll_cells : Screen → ℕ → Window → Direction → ℕ → ℕ → (ℕ → Cell) → ℕ → Cell
 scroll_cells s page w direction n attribute old k =
-    if nat_le (page_start s page) k && in_window w (row_on s page k) (column_on s page k)
-    then (if has_source direction w n (row_on s page k)
-    then old (source direction k (s.layout.columns * n)) else (0x20, attribute))
+    if nat_le (page_start s page) k && is_in_window w (row_on s page k) (column_on s page k)
+    then (if has_source_row direction w n (row_on s page k)
+    then old (source_number direction k (s.layout.columns * n)) else (0x20, attribute))
     else old k
 
 -- ---- what it does to the pixels
@@ -172,7 +173,7 @@ pixel_number s x y = 8 * s.layout.columns * y + x
 abbrev pub change_pixels : ℕ → ((ℕ → ℕ) → ℕ → ℕ) → Contents → Contents
 change_pixels page new (Cells cells) = Cells cells
 change_pixels page new (Pixels pages) = Pixels (set pages page
-    (listing (new (slice_index (get_or pages page []))) 0 (length (get_or pages page []))))
+    (list_by_function (new (slice_index (get_or pages page []))) 0 (length (get_or pages page []))))
 
 -- a screen with new pixels on a page, each given by its number and all the old ones
 abbrev pub with_pixels : Screen → ℕ → ((ℕ → ℕ) → ℕ → ℕ) → Screen
@@ -242,9 +243,9 @@ fill_pixel mode colour = if is_packed mode then colour else colour % 16
 -- the n rows that the window leaves get a colour, and all pixels outside stay
 abbrev pub scroll_pixels : Screen → Window → Direction → ℕ → ℕ → (ℕ → ℕ) → ℕ → ℕ
 scroll_pixels s w direction n colour old k =
-    if in_window w (pixel_row s k) (pixel_column s k)
-    then (if has_source direction w n (pixel_row s k)
-    then old (source direction k (row_pixels s n)) else fill_pixel s.mode colour)
+    if is_in_window w (pixel_row s k) (pixel_column s k)
+    then (if has_source_row direction w n (pixel_row s k)
+    then old (source_number direction k (row_pixels s n)) else fill_pixel s.mode colour)
     else old k
 
 -- a window of a page moves by n rows, with its cells or its pixels
@@ -257,7 +258,7 @@ scroll_window s page w direction n fill =
 abbrev pub scroll_asked : Screen → Scroll → Direction → Option Window → Screen
 scroll_asked s asked direction None = s
 scroll_asked s asked direction (Some w) =
-    scroll_window s s.page w direction (lines_of w asked.lines) asked.fill
+    scroll_window s s.page w direction (rows_to_scroll w asked.lines) asked.fill
 
 -- the window that a call names scrolls on the active page
 abbrev pub scroll : Screen → Scroll → Direction → Screen
@@ -271,27 +272,27 @@ page_up s page fill = scroll_window s page (whole_page s.layout.rows s.layout.co
 -- ---- typing
 
 -- the attribute in the last row of a page, in the column of a position; for pixels it is colour 0
-abbrev pub last_colour : Screen → ℕ → ℕ → ℕ
-last_colour s page position = (cell_on s (page_start s page
+abbrev pub last_row_attribute : Screen → ℕ → ℕ → ℕ
+last_row_attribute s page position = (cell_on s (page_start s page
     + (s.layout.columns * (s.layout.rows - 1) + column_of position))).1
 
 -- the position one row below; on the last row it stays, and the page goes up by a row, with a new
 -- row in that attribute or colour
-abbrev pub line_feed : Screen → ℕ → ℕ → Screen × ℕ
-line_feed s page position =
+abbrev pub after_line_feed : Screen → ℕ → ℕ → Screen × ℕ
+after_line_feed s page position =
     if nat_lt (row_of position) (s.layout.rows - 1) then (s, position + 256)
-    else (page_up s page (last_colour s page position), position)
+    else (page_up s page (last_row_attribute s page position), position)
 
 -- the position after one: the next column, or the first column of the row below
-abbrev pub cursor_advance : Screen → ℕ → ℕ → Screen × ℕ
-cursor_advance s page position =
+abbrev pub after_cursor_advance : Screen → ℕ → ℕ → Screen × ℕ
+after_cursor_advance s page position =
     if nat_lt (column_of position + 1) s.layout.columns then (s, position + 1)
-    else ((line_feed s page position).0, line_start (line_feed s page position).1)
+    else ((after_line_feed s page position).0, line_start (after_line_feed s page position).1)
 
 -- a character is written at a position
 abbrev pub put_character : FontSet → Screen → ℕ → ℕ → ℕ → Colouring → Screen
 put_character fonts s page position character colouring =
-    put_characters fonts s page (position_number s position) 1 character colouring
+    put_characters fonts s page (cell_number_of_position s position) 1 character colouring
 
 -- a character is typed at a position. A bell does nothing; a backspace goes one column back, unless
 -- it is the first; a line feed goes one row down, and a carriage return to the first column. Any
@@ -300,9 +301,10 @@ unfoldable pub type_character : FontSet → Screen → ℕ → ℕ → ℕ → C
 type_character fonts s page position character colouring =
     if character == 0x07 then (s, position)
     else if character == 0x08 then (s, if column_of position == 0 then position else position - 1)
-    else if character == 0x0A then line_feed s page position
+    else if character == 0x0A then after_line_feed s page position
     else if character == 0x0D then (s, line_start position)
-    else cursor_advance (put_character fonts s page position character colouring) page position
+    else after_cursor_advance (put_character fonts s page position character colouring) page
+        position
 
 -- a screen with the cursor of a page at another position
 abbrev pub with_position : Screen → ℕ → ℕ → Screen
@@ -313,7 +315,7 @@ with_position s page position = record s { places = slice_set s.places page posi
 abbrev pub type_at_cursor : FontSet → Screen → ℕ → ℕ → Screen
 type_at_cursor fonts s character colour =
     let after = type_character fonts s s.page (cursor_position s s.page) character
-    (dots_in colour) in
+    (pixel_colouring colour) in
     if character == 0x07 then s else with_position after.0 s.page after.1
 
 -- n characters of a string, from character i on, are typed one after another on a page; a screen
@@ -353,26 +355,27 @@ next fonts s (WriteString call) block = type_string fonts s (page_meant s call.p
 next fonts s ReadDisplay block = s
 
 -- the cell at the cursor of a page: the character is the low byte, the attribute the high one
-abbrev pub cell_word : Screen → ℕ → ℕ
-cell_word s page = (cell_on s (cursor_cell s page)).0 + 256 * (cell_on s (cursor_cell s page)).1
+abbrev pub cursor_cell_word : Screen → ℕ → ℕ
+cursor_cell_word s page = (cell_on s (cursor_cell_on_screen s page)).0 + 256 * (cell_on s
+    (cursor_cell_on_screen s page)).1
 
 -- line r of cell q of a page of pixels as a byte: a bit is 1 if its pixel is not 0, and the first
 -- pixel is the highest bit
 abbrev pub cell_line : Screen → ℕ → ℕ → ℕ → ℕ
 cell_line s page q r =
-    byte_of (λ i. if pixel_of s page (8 * (s.layout.columns
+    byte_of_bits (λ i. if pixel_of s page (8 * (s.layout.columns
     * (s.layout.height * (q / s.layout.columns) + r) + q % s.layout.columns) + (7 - i)) == 0
     then 0 else 1)
 
 -- the first character whose glyph has a dot for each pixel other than 0 of the cell at the cursor
 -- of a page, and no other dot, else 0
 abbrev pub character_at_cursor : FontSet → Screen → ℕ → ℕ
-character_at_cursor fonts s page = first_character fonts s.layout.height
-    (listing (cell_line s page (cursor_number s page)) 0 s.layout.height) 256
+character_at_cursor fonts s page = first_character_with_lines fonts s.layout.height
+    (list_by_function (cell_line s page (cursor_number s page)) 0 s.layout.height) 256
 
 -- 08: a cell of text is answered in AX, and a character of pixels in AL
 abbrev pub cell_answer : Contents → FontSet → Screen → ℕ → Regs → Regs
-cell_answer (Cells cells) fonts s page r = record r { ax = cell_word s page }
+cell_answer (Cells cells) fonts s page r = record r { ax = cursor_cell_word s page }
 cell_answer (Pixels pages) fonts s page r = record r {
   ax =
       with_low r.ax (character_at_cursor fonts s page);

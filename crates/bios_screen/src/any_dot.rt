@@ -20,10 +20,10 @@ ghost use Rattle.bios_screen.specs.Shown.{shown};
 ghost use Rattle.bios_screen.specs.AfterCall.{after_call};
 ghost use Rattle.bios_screen.specs.Step.{next, refusal_on};
 ghost use Rattle.bios_screen.specs.Loaded.{load_refusal_on, load_glyphs};
-ghost use Rattle.bios_screen.specs.Called.{AreWords, screen_unless};
+ghost use Rattle.bios_screen.specs.Called.{AreRegistersWords, screen_unless};
 ghost use Rattle.bios_screen.specs.Drawing.{Drawing, dots_a_frame, take_dots, MayLoad};
-ghost use Rattle.bios_screen.specs.Whole.{FitsFrame, IsFrameTaken, IsWhole};
-ghost use Rattle.bios_screen.specs.Follows.{BeamIsAt, RowsJoin, Follows, EndsFrame};
+ghost use Rattle.bios_screen.specs.Whole.{FitsFrame, FrameEndsAtDotZero, FrameIsWholePicture};
+ghost use Rattle.bios_screen.specs.Follows.{BeamIsAt, DotsJoinPicture, Follows, EndsFrame};
 
 /// A service that sets no mode leaves the mode and the layout of a screen.
 pub fn services_keep_the_layout()
@@ -38,9 +38,9 @@ pub fn services_keep_the_layout()
 /// remained, and the picture of a whole frame is that of the active page.
 pub fn frames_are_dots()
     ensures split { (m n : ℕ) (b : Drawing) → take_dots (m + n) b ≡ take_dots n (take_dots m b) }
-    ensures frame { (b : Drawing) → b.dot < dots_a_frame b.screen.mode → IsFrameTaken b }
+    ensures frame { (b : Drawing) → b.dot < dots_a_frame b.screen.mode → FrameEndsAtDotZero b }
     ensures whole { (b : Drawing) → FitsFrame b.screen → b.dot ≡ 0 →
-        b.dot < dots_a_frame b.screen.mode → IsWhole b }
+        b.dot < dots_a_frame b.screen.mode → FrameIsWholePicture b }
 {}
 
 /// Dots join what is drawn of the current frame, whatever that is, in the colours of the shown
@@ -54,7 +54,7 @@ pub fn dots_follow_screens()
         IsFrameStart c.crtc.beam }
     ensures joins { (c : CardState) (d : BiosData) (s : Screen) (page n : ℕ) → IsCard c →
         shown c d ≡ Some s → page < s.layout.pages → n < dots_a_frame s.mode →
-        (n ≡ 0 → page ≡ s.page) → BeamIsAt c (start_address d page) n → RowsJoin c s page n }
+        (n ≡ 0 → page ≡ s.page) → BeamIsAt c (start_address d page) n → DotsJoinPicture c s page n }
     ensures dots { (n : ℕ) (c : CardState) (d : BiosData) (b : Drawing) → IsCard c → Follows c d b →
         Follows (dots n c) d (take_dots n b) }
     ensures frame { (c : CardState) (d : BiosData) (b : Drawing) → IsCard c → Follows c d b →
@@ -66,7 +66,7 @@ pub fn dots_follow_screens()
 pub fn calls_follow_screens()
     ensures served { (service : Service) (fonts : FontSet) (r : Regs) (block : List ℕ)
         (c : CardState) (d : BiosData) (b : Drawing) →
-        IsCard c → IsBda d → AreWords r → AreBytes block → Follows c d b →
+        IsCard c → IsBda d → AreRegistersWords r → AreBytes block → Follows c d b →
         call_of r ≡ Some (InMode service) →
         Follows (after_call fonts r block c d).0 (after_call fonts r block c d).1.1
         (record b {

@@ -31,69 +31,80 @@ ghost use Rattle.bios_modes.specs.Modes.{mode_row};
 ghost use Rattle.bios_modes.specs.Bounds.{IsBda};
 ghost use Rattle.bios_screen.specs.Screen.{Screen};
 ghost use Rattle.bios_screen.specs.Shown.{shown};
-ghost use Rattle.bios_screen.specs.AfterCall.{FitsBytes, Serves, ServesText, SetsFresh, after_call};
+ghost use Rattle.bios_screen.specs.AfterCall.{OverscanFitsByte, ServiceLeadsToNextScreen};
+ghost use Rattle.bios_screen.specs.AfterCall.{TextServiceLeadsToNext, ModeSetShowsFreshScreen};
+ghost use Rattle.bios_screen.specs.AfterCall.{after_call};
 ghost use Rattle.bios_modes.specs.Bounds.{AreBytes, AreFonts};
-ghost use Rattle.bios_screen.specs.Called.{AreWords, IsCalled, IsLoaded, IsRead, WantsMemory};
-ghost use Rattle.bios_screen.specs.Called.{IsLeft};
+ghost use Rattle.bios_screen.specs.Called.{AreRegistersWords, ServiceCallLeadsToScreen};
+ghost use Rattle.bios_screen.specs.Called.{GlyphCallLeadsToScreen, TableCallLeavesScreen};
+ghost use Rattle.bios_screen.specs.Called.{CallRunsOutOfMemory};
+ghost use Rattle.bios_screen.specs.Called.{ScreenStaysShown};
 
 /// Function 00, with the memory cleared: in every mode of the table, it leads from any state to one
 /// that shows the fresh screen of the mode's row.
 pub fn mode_set_is_fresh()
-    ensures { (mode : ℕ) (row : ModeRow) → mode_row mode ≡ Some row → SetsFresh mode row }
+    ensures { (mode : ℕ) (row : ModeRow) → mode_row mode ≡ Some row → ModeSetShowsFreshScreen mode
+        row }
 {}
 
 /// Functions 03, 0F, 12 and 1A: cursor, mode, adapter and display are answered.
 pub fn readers_are_served()
-    ensures cursor { (page : ℕ) → Serves (ReadCursor page) }
-    ensures mode { Serves ReadMode }
-    ensures adapter { Serves ReadAdapter }
-    ensures display { Serves ReadDisplay }
+    ensures cursor { (page : ℕ) → ServiceLeadsToNextScreen (ReadCursor page) }
+    ensures mode { ServiceLeadsToNextScreen ReadMode }
+    ensures adapter { ServiceLeadsToNextScreen ReadAdapter }
+    ensures display { ServiceLeadsToNextScreen ReadDisplay }
 {}
 
 /// Functions 01, 02 and 05: the cursor's type, its position on a page, and the active page are set.
 pub fn cursor_is_served()
-    ensures kind { (cursor_type : ℕ) → Serves (SetCursorType cursor_type) }
-    ensures position { (page position : ℕ) → position < 65536 → Serves (SetCursor page position) }
-    ensures page { (page : ℕ) → Serves (SelectPage page) }
+    ensures kind { (cursor_type : ℕ) → ServiceLeadsToNextScreen (SetCursorType cursor_type) }
+    ensures position { (page position : ℕ) → position < 65536 → ServiceLeadsToNextScreen
+        (SetCursor page position) }
+    ensures page { (page : ℕ) → ServiceLeadsToNextScreen (SelectPage page) }
 {}
 
 /// Functions 08, 09 and 0A: the cell at the cursor is read, and cells from it on are written, in
 /// graphics as pixels.
 pub fn cells_are_served()
-    ensures read { (page : ℕ) → Serves (ReadCell page) }
+    ensures read { (page : ℕ) → ServiceLeadsToNextScreen (ReadCell page) }
     ensures written { (cells : CellRun) → cells.character < 256 → cells.colouring.colour < 256 →
-        Serves (WriteCells cells) }
+        ServiceLeadsToNextScreen (WriteCells cells) }
 {}
 
 /// Functions 06 and 07: a window of the active page goes up or down, in graphics by its pixels.
 pub fn windows_are_served()
-    ensures up { (window : Scroll) → window.fill < 256 → Serves (ScrollUp window) }
-    ensures down { (window : Scroll) → window.fill < 256 → Serves (ScrollDown window) }
+    ensures up { (window : Scroll) → window.fill < 256 → ServiceLeadsToNextScreen
+        (ScrollUp window) }
+    ensures down { (window : Scroll) → window.fill < 256 → ServiceLeadsToNextScreen
+        (ScrollDown window) }
 {}
 
 /// Functions 0E and 13: a character is typed at the cursor of the active page, and a string from a
 /// position on.
 pub fn typing_is_served()
     ensures character { (character colour : ℕ) → character < 256 → colour < 256 →
-        Serves (Teletype character colour) }
-    ensures string { (call : StringCall) → call.colour < 256 → Serves (WriteString call) }
+        ServiceLeadsToNextScreen (Teletype character colour) }
+    ensures string { (call : StringCall) → call.colour < 256 → ServiceLeadsToNextScreen
+        (WriteString call) }
 {}
 
 /// Function 10: palette, overscan, blinking and DAC are set and answered.
 pub fn colours_are_served()
-    ensures { (service : ColourService) → FitsBytes service → Serves (Colours service) }
+    ensures { (service : ColourService) → OverscanFitsByte service → ServiceLeadsToNextScreen
+        (Colours service) }
 {}
 
 /// Functions 0C and 0D in text, which has no pixels.
-pub fn dots_are_refused()
-    ensures written { (page x y colour : ℕ) → ServesText (WritePixel page x y colour) }
-    ensures read { (page x y : ℕ) → ServesText (ReadPixel page x y) }
+pub fn pixel_calls_are_refused()
+    ensures written { (page x y colour : ℕ) → TextServiceLeadsToNext (WritePixel page x y colour) }
+    ensures read { (page x y : ℕ) → TextServiceLeadsToNext (ReadPixel page x y) }
 {}
 
 /// Functions 0C and 0D in graphics: a pixel is written and read.
-pub fn dots_are_served()
-    ensures written { (page x y colour : ℕ) → colour < 256 → Serves (WritePixel page x y colour) }
-    ensures read { (page x y : ℕ) → Serves (ReadPixel page x y) }
+pub fn pixel_calls_are_served()
+    ensures written { (page x y colour : ℕ) → colour < 256 → ServiceLeadsToNextScreen
+        (WritePixel page x y colour) }
+    ensures read { (page x y : ℕ) → ServiceLeadsToNextScreen (ReadPixel page x y) }
 {}
 
 /// From every state that shows a screen, a call for a service gives the screen's reply or refusal,
@@ -103,19 +114,20 @@ pub fn dots_are_served()
 pub fn calls_lead_to_screens()
     ensures served { (service : Service) (fonts : FontSet) (r : Regs) (block : List ℕ)
         (c : CardState) (d : BiosData) (s : Screen) →
-        IsCard c → IsBda d → AreWords r → AreBytes block → shown c d ≡ Some s →
-        call_of r ≡ Some (InMode service) → IsCalled service fonts r block c d s }
+        IsCard c → IsBda d → AreRegistersWords r → AreBytes block → shown c d ≡ Some s →
+        call_of r ≡ Some (InMode service) → ServiceCallLeadsToScreen service fonts r block c d s }
     ensures table { (service : TableService) (fonts : FontSet) (r : Regs) (block : List ℕ)
         (c : CardState) (d : BiosData) (s : Screen) →
         IsCard c → shown c d ≡ Some s → call_of r ≡ Some (ReadTable service) →
-        IsRead service fonts r block c d s }
+        TableCallLeavesScreen service fonts r block c d s }
     ensures loaded { (load : GlyphLoad) (fonts : FontSet) (r : Regs) (block : List ℕ)
         (c : CardState) (d : BiosData) (s : Screen) →
         IsCard c → AreBytes block → AreFonts fonts → shown c d ≡ Some s →
-        call_of r ≡ Some (LoadGlyphs load) → IsLoaded load fonts r block c d s }
+        call_of r ≡ Some (LoadGlyphs load) → GlyphCallLeadsToScreen load fonts r block c d s }
     ensures memory { (fonts : FontSet) (r : Regs) (block : List ℕ) (c y : CardState)
         (d after : BiosData) (s : Screen) →
-        shown c d ≡ Some s → WantsMemory fonts r block c d y after → IsLeft c s y after }
+        shown c d ≡ Some s → CallRunsOutOfMemory fonts r block c d y after → ScreenStaysShown c s y
+        after }
     ensures unknown { (fonts : FontSet) (r : Regs) (block : List ℕ) (c : CardState) (d : BiosData)
         (s : Screen) →
         shown c d ≡ Some s → call_of r ≡ None → after_call fonts r block c d

@@ -15,7 +15,7 @@ pub(crate) struct Palette {
 }
 
 /// The palette registers.
-fn read_values(attr: &Attr) -> [u8; 16]
+fn read_palette_registers(attr: &Attr) -> [u8; 16]
     ensures { result ≡ take 16 attr.now.registers }
 {
     let mut values = [0; 16];
@@ -34,7 +34,7 @@ impl Palette {
     {
         dac.bounds();
         let mut palette = Palette {
-            values: read_values(attr),
+            values: read_palette_registers(attr),
             reds: [0; 256],
             greens: [0; 256],
             blues: [0; 256],

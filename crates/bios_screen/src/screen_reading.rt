@@ -3,9 +3,9 @@ ghost use Rattle.std.specs.Prelude.{◌≡◌, ◌+◌, ◌*◌, ◌/◌, ◌<�
 ghost use Rattle.std.specs.Prelude.{IfOk, OnOk, IsOkUnless, IsTrue, if◌then◌else◌};
 ghost use Rattle.std.specs.Int.{bit_at};
 ghost use Rattle.vga_planes.specs.Planes.{byte_at};
-ghost use Rattle.bios_modes.specs.Heights.{row_at as row_at_of};
+ghost use Rattle.bios_modes.specs.Heights.{mode_row_at_height as mode_row_at_height_of};
 ghost use Rattle.bios_modes.specs.Kinds.{is_packed as is_packed_of, is_text as is_text_of};
-ghost use Rattle.bios_screen.specs.Raster.{join};
+ghost use Rattle.bios_screen.specs.Raster.{concatenated_lists};
 ghost use Rattle.bios_screen.specs.Shown.{cells_in, glyphs_in, planar_pixel, packed_pixel};
 ghost use Rattle.bios_screen.specs.Shown.{pixels_in, page_pixels as page_pixels_of, text_screen};
 ghost use Rattle.bios_screen.specs.Shown.{pixel_screen, shows, shown};
@@ -13,7 +13,7 @@ ghost use Rattle.bios_screen.specs.Shown.{pixel_screen, shows, shown};
 use crate::palette::Palette;
 use crate::screen::{Layout, Screen};
 use crate::shown::is_shown;
-use bios_modes::{Bda, ModeRow, is_packed, is_text, row_at};
+use bios_modes::{Bda, ModeRow, is_packed, is_text, mode_row_at_height};
 use std::alloc::Global;
 use vga_bits::Fault;
 use vga_card::Card;
@@ -83,7 +83,7 @@ fn bit(byte: u8, i: u32) -> u8
 }
 
 /// Pixel k of a page of 16 colours that begins at byte z.
-fn planar(planes: &Planes, z: u32, k: u32) -> u8
+fn read_planar_pixel(planes: &Planes, z: u32, k: u32) -> u8
     requires { z + k / 8 < 65536 }
     ensures { result ≡ planar_pixel planes.now z k }
 {
@@ -97,7 +97,7 @@ fn planar(planes: &Planes, z: u32, k: u32) -> u8
 }
 
 /// Pixel n of 256 colours.
-fn packed(planes: &Planes, n: u32) -> u8
+fn read_packed_pixel(planes: &Planes, n: u32) -> u8
     requires { n < 65536 }
     ensures { result ≡ packed_pixel planes.now n }
 {
@@ -112,9 +112,9 @@ fn pixel(planes: &Planes, is_byte: bool, z: u32, k: u32) -> u8
         else planar_pixel planes.now z k) }
 {
     if is_byte {
-        packed(planes, z + k)
+        read_packed_pixel(planes, z + k)
     } else {
-        planar(planes, z, k)
+        read_planar_pixel(planes, z, k)
     }
 }
 
@@ -137,7 +137,7 @@ fn read_page(planes: &Planes, mode: u8, z: u32, n: u32, pixels: &mut Vec<u8>) ->
 }
 
 /// The pixels of all pages, page after page, n for each.
-#[tactic(auto, unfolding(crate::specs::Raster::join))]
+#[tactic(auto, unfolding(crate::specs::Raster::concatenated_lists))]
 fn read_pixels(
     alloc: Global,
     planes: &Planes,
@@ -150,7 +150,7 @@ fn read_pixels(
     requires page { (n + 7) / 8 ≤ size }
     requires packed { IsTrue (is_packed_of mode) → n ≤ size }
     ensures ok { IfOk result (λ pixels. pixels.items
-        ≡ join (λ p. pixels_in mode planes.now (size * p) n) pages) }
+        ≡ concatenated_lists (λ p. pixels_in mode planes.now (size * p) n) pages) }
     ensures err { IsOkUnless result Fault.OutOfMemory }
 {
     let mut pixels = Vec::new(alloc);
@@ -191,7 +191,7 @@ fn layout_of(bda: &Bda, row: &ModeRow, distance: u16) -> Layout
 impl Screen {
     /// The text screen of the adapter and the data, which show one.
     fn of_text(alloc: Global, card: &Card, bda: &Bda, row: &ModeRow) -> Result<Screen, Fault>
-        requires row { row_at_of bda.now.mode bda.now.height ≡ Some row.now }
+        requires row { mode_row_at_height_of bda.now.mode bda.now.height ≡ Some row.now }
         requires shown { shows row.now card.now bda.now ≡ true }
         requires text { is_text_of bda.now.mode ≡ true }
         ensures ok { IfOk result (λ screen. screen ≡ text_screen row.now card.now bda.now) }
@@ -217,7 +217,7 @@ impl Screen {
 
     /// The screen of pixels of the adapter and the data, which show one.
     fn of_pixels(alloc: Global, card: &Card, bda: &Bda, row: &ModeRow) -> Result<Screen, Fault>
-        requires row { row_at_of bda.now.mode bda.now.height ≡ Some row.now }
+        requires row { mode_row_at_height_of bda.now.mode bda.now.height ≡ Some row.now }
         requires shown { shows row.now card.now bda.now ≡ true }
         requires pixels { is_text_of bda.now.mode ≡ false }
         ensures ok { IfOk result (λ screen. screen ≡ pixel_screen row.now card.now bda.now) }
@@ -255,7 +255,7 @@ impl Screen {
         ensures ok { IfOk result (λ found. found ≡ shown card.now bda.now) }
         ensures err { IsOkUnless result Fault.OutOfMemory }
     {
-        let Some(row) = row_at(bda.mode(), bda.height()) else {
+        let Some(row) = mode_row_at_height(bda.mode(), bda.height()) else {
             return Ok(None);
         };
         if !is_shown(card, bda, &row) {

@@ -1,12 +1,12 @@
 //! Whether the adapter shows a screen.
 ghost use Rattle.std.specs.Prelude.{◌≡◌, ◌≤◌, ◌<◌, ◌*◌, true, drop, length, Some};
 ghost use Rattle.std.specs.Str.{bytes_eq};
-ghost use Rattle.bios_modes.specs.Heights.{row_at};
+ghost use Rattle.bios_modes.specs.Heights.{mode_row_at_height};
 ghost use Rattle.bios_services.specs.Cursor.{start_address};
 ghost use Rattle.bios_screen.specs.Shown.{shows_memory as shows_memory_of};
 ghost use Rattle.bios_screen.specs.Shown.{shows_data as shows_data_of};
 ghost use Rattle.bios_screen.specs.Shown.{shows_attribute as shows_attribute_of, shows};
-ghost use Rattle.bios_screen.specs.Shown.{location_shown, crtc_shown};
+ghost use Rattle.bios_screen.specs.Shown.{cursor_location_shown, crtc_registers_shown};
 
 use bios_modes::{Bda, ModeRow, is_text};
 use vga_attr::Attr;
@@ -35,7 +35,7 @@ fn shows_data(bda: &Bda, row: &ModeRow) -> bool
 }
 
 /// The first cell or byte of the active page, as the CRT controller counts them.
-fn start_of(bda: &Bda) -> u32
+fn start_address_of(bda: &Bda) -> u32
     requires { bda.now.size * bda.now.page < 65536 }
     ensures value { result ≡ start_address bda.now bda.now.page }
     ensures small { result < 65536 }
@@ -50,11 +50,11 @@ fn start_of(bda: &Bda) -> u32
 
 /// The cursor location: in text that of the active page, in graphics the one that the registers
 /// contain.
-fn location_of(bda: &Bda, crtc: &Crtc) -> u32
+fn cursor_location_of(bda: &Bda, crtc: &Crtc) -> u32
     requires columns { bda.now.columns ≤ 80 }
     requires start { bda.now.size * bda.now.page < 65536 }
     requires page { bda.now.page ≤ 7 }
-    ensures value { result ≡ location_shown bda.now crtc.now.registers }
+    ensures value { result ≡ cursor_location_shown bda.now crtc.now.registers }
     ensures small { result < 65536 }
 {
     if is_text(bda.mode()) {
@@ -72,11 +72,11 @@ fn wanted_registers(bda: &Bda, crtc: &Crtc, row: &ModeRow) -> [u8; 25]
     requires columns { bda.now.columns ≤ 80 }
     requires start { bda.now.size * bda.now.page < 65536 }
     requires page { bda.now.page ≤ 7 }
-    ensures { result ≡ crtc_shown row.now bda.now crtc.now.registers }
+    ensures { result ≡ crtc_registers_shown row.now bda.now crtc.now.registers }
 {
     let cursor_type = bda.cursor_type();
-    let start = start_of(bda);
-    let location = location_of(bda, crtc);
+    let start = start_address_of(bda);
+    let location = cursor_location_of(bda, crtc);
     let mut registers = row.crtc;
     registers[0x0A] = (cursor_type / 256) as u8 & 0x3F;
     registers[0x0B] = (cursor_type % 256) as u8 & 0x7F;
@@ -107,9 +107,10 @@ fn shows_attribute(attr: &Attr, row: &ModeRow) -> bool
 
 /// Whether the CRT controller shows the active page of data that are those of the mode.
 fn shows_page(crtc: &Crtc, bda: &Bda, row: &ModeRow) -> bool
-    requires row { row_at bda.now.mode bda.now.height ≡ Some row.now }
+    requires row { mode_row_at_height bda.now.mode bda.now.height ≡ Some row.now }
     requires data { shows_data_of row.now bda.now ≡ true }
-    ensures { result ≡ bytes_eq crtc.now.registers (crtc_shown row.now bda.now crtc.now.registers) }
+    ensures { result ≡ bytes_eq crtc.now.registers (crtc_registers_shown row.now bda.now
+        crtc.now.registers) }
 {
     *crtc.regs() == wanted_registers(bda, crtc, row)
 }
@@ -117,7 +118,7 @@ fn shows_page(crtc: &Crtc, bda: &Bda, row: &ModeRow) -> bool
 /// Whether the adapter and the data show a screen of the mode.
 #[tactic(auto, unfolding(crate::specs::Shown::shows))]
 pub(crate) fn is_shown(card: &Card, bda: &Bda, row: &ModeRow) -> bool
-    requires { row_at bda.now.mode bda.now.height ≡ Some row.now }
+    requires { mode_row_at_height bda.now.mode bda.now.height ≡ Some row.now }
     ensures { result ≡ shows row.now card.now bda.now }
 {
     if !shows_memory(card, row) || !shows_data(bda, row) {

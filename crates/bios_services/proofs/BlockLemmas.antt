@@ -4,10 +4,10 @@ use Rattle.std.proofs.Common.{subst, arith, nat_lt, nat_le, not, ◌&&◌, unwra
 use Rattle.std.proofs.lemmas.Bool.Decides.{nat_tests}
 use Rattle.vga_bits.specs.declared.refusal.Refusal.{Refusal}
 use Rattle.vga_bits.specs.declared.refusal.Refusal.TheVariants.{NoMode, BadFunction, BadMode, WrongKind, BadPage, Outside, CountPast, BadRegister, BadBlock, BadHeight}
-use Rattle.vga_card.specs.Bus.{Meaning}
+use Rattle.vga_card.specs.Bus.{BusMeaning}
 use Rattle.bios_modes.specs.declared.modes.ModeRow.{ModeRow}
 use Rattle.bios_modes.specs.Modes.{mode_row}
-use Rattle.bios_modes.specs.Heights.{row_at}
+use Rattle.bios_modes.specs.Heights.{mode_row_at_height}
 use Rattle.bios_modes.specs.Kinds.{is_text}
 use Rattle.bios_modes.specs.Bda.{BiosData}
 use Rattle.bios_services.specs.declared.reply.Reply.{Reply}
@@ -22,19 +22,19 @@ use Rattle.bios_services.specs.declared.call.Call.TheVariants.{SetMode, ReadTabl
 use Rattle.bios_services.specs.declared.call.Service.{Service}
 use Rattle.bios_services.specs.declared.call.Service.TheVariants.{SetCursorType, SetCursor, ReadCursor, SelectPage, ScrollUp, ScrollDown, ReadCell, WriteCells}
 use Rattle.bios_services.specs.declared.call.Service.TheVariants.{WritePixel, ReadPixel, Teletype, ReadMode, Colours, ReadAdapter, WriteString, ReadDisplay}
-use Rattle.bios_services.specs.Bounds.{pages_of}
-use Rattle.bios_services.specs.Cells.{cells_of}
-use Rattle.bios_services.specs.Cursor.{cursor_cell, position_of, row_of, column_of}
-use Rattle.bios_services.specs.Pixels.{dots_across, dots_down}
+use Rattle.bios_services.specs.Bounds.{page_count}
+use Rattle.bios_services.specs.Cells.{cells_per_page}
+use Rattle.bios_services.specs.Cursor.{cursor_cell_number, cursor_position_of, row_of, column_of}
+use Rattle.bios_services.specs.Pixels.{pixels_across, pixels_down}
 use Rattle.bios_services.specs.Plan.{run}
 use Rattle.bios_services.specs.Reasons.{◌or◌, refuse_unless, wrong_block, or_wrong_block, no_page, no_pixels, outside_cells, outside_page, outside_pixels}
 use Rattle.bios_services.specs.Colours.{colour_reason, has_entries}
 use Rattle.bios_services.specs.Calls.{call_of}
 use Rattle.bios_services.specs.GlyphLoads.{load_reason, load_refusal, glyphs_block}
-use Rattle.bios_services.specs.Refusals.{on_page_named, reason_in_mode, refusal_in_mode, service_block}
+use Rattle.bios_services.specs.Refusals.{service_on_page_meant, reason_in_mode, refusal_in_mode, service_block}
 use Rattle.bios_services.specs.Tables.{table_refusal}
 use Rattle.bios_services.specs.Blocks.{BlocksFit, OthersAreRefused, block_len}
-use Rattle.bios_services.specs.Service.{Answered, service}
+use Rattle.bios_services.specs.Service.{CallOutcome, service}
 use Rattle.bios_services.proofs.ReasonLemmas.{neither, holds}
 use Rattle.bios_services.proofs.RefusedLemmas.{no_row, in_mode, refusal_of, Ends, call_ends}
 
@@ -66,20 +66,20 @@ other_row : (why : Refusal) (row : Option ModeRow) → (why ≡ BadBlock → ⊥
 other_row why None h = other_unless false why h
 other_row why (Some row) h = λ e. cc
 
-page_other : (d : BiosData) (page : ℕ) → IsOther (no_page (pages_of d) page)
-page_other d page = other_unless (nat_lt page (pages_of d)) BadPage (λ e. cc)
+page_other : (d : BiosData) (page : ℕ) → IsOther (no_page (page_count d) page)
+page_other d page = other_unless (nat_lt page (page_count d)) BadPage (λ e. cc)
 
 position_other : (d : BiosData) (position : ℕ) → IsOther (outside_page (d.last_row + 1) d.columns position)
 position_other d position = other_unless (nat_lt (row_of position) (d.last_row + 1) && nat_lt (column_of position) d.columns) Outside (λ e. cc)
 
-cell_other : (d : BiosData) (page : ℕ) → IsOther (outside_cells (cells_of d) (cursor_cell d page))
-cell_other d page = other_unless (nat_lt (cursor_cell d page) (cells_of d)) Outside (λ e. cc)
+cell_other : (d : BiosData) (page : ℕ) → IsOther (outside_cells (cells_per_page d) (cursor_cell_number d page))
+cell_other d page = other_unless (nat_lt (cursor_cell_number d page) (cells_per_page d)) Outside (λ e. cc)
 
-dot_other : (d : BiosData) (page x y : ℕ) → IsOther (no_pixels d.mode or no_page (pages_of d) page or outside_pixels (dots_across d) (dots_down d) x y)
+dot_other : (d : BiosData) (page x y : ℕ) → IsOther (no_pixels d.mode or no_page (page_count d) page or outside_pixels (pixels_across d) (pixels_down d) x y)
 dot_other d page x y =
     other_or (no_pixels d.mode) _ (other_unless (not (is_text d.mode)) WrongKind (λ e. cc))
-    (other_or (no_page (pages_of d) page) _ (page_other d page)
-    (other_unless (nat_lt x (dots_across d) && nat_lt y (dots_down d)) Outside (λ e. cc)))
+    (other_or (no_page (page_count d) page) _ (page_other d page)
+    (other_unless (nat_lt x (pixels_across d) && nat_lt y (pixels_down d)) Outside (λ e. cc)))
 
 register_other : (holds : Bool) → IsOther (refuse_unless holds BadRegister)
 register_other holds = other_unless holds BadRegister (λ e. cc)
@@ -104,18 +104,18 @@ service_other (ReadCursor page) d = page_other d page
 service_other (SelectPage page) d = page_other d page
 service_other (ScrollUp scroll) d = λ e. cc
 service_other (ScrollDown scroll) d = λ e. cc
-service_other (ReadCell page) d = other_or (no_page (pages_of d) page) _ (page_other d page) (cell_other d page)
+service_other (ReadCell page) d = other_or (no_page (page_count d) page) _ (page_other d page) (cell_other d page)
 service_other (WriteCells cells) d =
-    other_or (no_page (pages_of d) cells.page) _ (page_other d cells.page)
-    (other_or (outside_cells (cells_of d) (cursor_cell d cells.page)) _ (cell_other d cells.page)
-    (other_unless (nat_le (cursor_cell d cells.page + cells.count) (cells_of d)) CountPast (λ e. cc)))
+    other_or (no_page (page_count d) cells.page) _ (page_other d cells.page)
+    (other_or (outside_cells (cells_per_page d) (cursor_cell_number d cells.page)) _ (cell_other d cells.page)
+    (other_unless (nat_le (cursor_cell_number d cells.page + cells.count) (cells_per_page d)) CountPast (λ e. cc)))
 service_other (WritePixel page x y colour) d = dot_other d page x y
 service_other (ReadPixel page x y) d = dot_other d page x y
-service_other (Teletype character colour) d = position_other d (position_of d d.page)
+service_other (Teletype character colour) d = position_other d (cursor_position_of d d.page)
 service_other ReadMode d = λ e. cc
 service_other (Colours asked) d = colour_other asked
 service_other ReadAdapter d = λ e. cc
-service_other (WriteString string) d = other_or (no_page (pages_of d) string.page) _ (page_other d string.page) (position_other d string.position)
+service_other (WriteString string) d = other_or (no_page (page_count d) string.page) _ (page_other d string.page) (position_other d string.position)
 service_other ReadDisplay d = λ e. cc
 
 table_other : (asked : TableService) → IsOther (table_refusal asked)
@@ -149,7 +149,7 @@ block_whole why (Some size) len some none =
 -- ---- calls
 
 -- the page does not change the block
-same_block : (d : BiosData) (asked : Service) → service_block (on_page_named d asked) ≡ service_block asked
+same_block : (d : BiosData) (asked : Service) → service_block (service_on_page_meant d asked) ≡ service_block asked
 same_block d (SetCursorType cursor_type) = refl
 same_block d (SetCursor page position) = refl
 same_block d (ReadCursor page) = refl
@@ -178,9 +178,9 @@ call_other (Some (SetMode mode keeps)) d len is = other_row BadMode (mode_row mo
 call_other (Some (ReadTable asked)) d len is = other_set d (table_refusal asked) (table_other asked)
 call_other (Some (LoadGlyphs load)) d len is =
     other_set d _ (other_or (load_refusal load d.mode len) _ (block_other (load_reason load d.mode) (glyphs_block load) len (load_other load d.mode) is)
-    (other_row BadHeight (row_at d.mode load.height) (λ e. cc)))
+    (other_row BadHeight (mode_row_at_height d.mode load.height) (λ e. cc)))
 call_other (Some (InMode asked)) d len is =
-    let there = on_page_named d asked in
+    let there = service_on_page_meant d asked in
     let fits : len ≡ unwrap_or (service_block there) 0 = is ∙ ap (λ size. unwrap_or size 0) (sym (same_block d asked)) in
     other_set d _ (block_other (reason_in_mode there d) (service_block there) len (service_other there d) fits)
 
@@ -199,11 +199,11 @@ call_whole (Some (ReadTable asked)) d len some none = absurd (omega (arith, some
 call_whole (Some (LoadGlyphs load)) d len some none =
     block_whole (load_reason load d.mode) (glyphs_block load) len some (neither (load_refusal load d.mode len) _ (allowed_set d _ none)).0
 call_whole (Some (InMode asked)) d len some none =
-    let there = on_page_named d asked in
+    let there = service_on_page_meant d asked in
     let same = ap (λ size. unwrap_or size 0) (same_block d asked) in
     block_whole (reason_in_mode there d) (service_block there) len (subst (λ n. 0 < n) (sym same) some) (allowed_set d _ none) ∙ same
 
-pub blocks_fit : {S : Type 0} (m : Meaning S) → BlocksFit m
+pub blocks_fit : {S : Type 0} (m : BusMeaning S) → BlocksFit m
 blocks_fit {S} m fonts d r block s is e =
     by_reason (refusal_of (call_of r) d (length block)) (call_other (call_of r) d (length block) is) (call_ends m (call_of r) fonts d r block s)
   where
@@ -211,13 +211,13 @@ blocks_fit {S} m fonts d r block s is e =
     same why e = cc
 
     by_reason : (why : Option Refusal) → IsOther why → Ends why s d (run m (service fonts d r block) s) → ⊥
-    by_reason (Some why) other ends = other (same why (sym (ap (λ (x : S × Answered). x.1.0) ends) ∙ e))
+    by_reason (Some why) other ends = other (same why (sym (ap (λ (x : S × CallOutcome). x.1.0) ends) ∙ e))
     by_reason None other ends = let both = sym ends.1 ∙ e in cc
 
-pub others_are_refused : {S : Type 0} (m : Meaning S) → OthersAreRefused m
+pub others_are_refused : {S : Type 0} (m : BusMeaning S) → OthersAreRefused m
 others_are_refused {S} m fonts d r block s reply some other e =
     by_reason (refusal_of (call_of r) d (length block)) refl (call_ends m (call_of r) fonts d r block s)
   where
     by_reason : (why : Option Refusal) → refusal_of (call_of r) d (length block) ≡ why → Ends why s d (run m (service fonts d r block) s) → ⊥
-    by_reason (Some why) is ends = let both = sym (ap (λ (x : S × Answered). x.1.0) ends) ∙ e in cc
+    by_reason (Some why) is ends = let both = sym (ap (λ (x : S × CallOutcome). x.1.0) ends) ∙ e in cc
     by_reason None is ends = other (call_whole (call_of r) d (length block) some is)

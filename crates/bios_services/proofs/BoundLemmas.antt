@@ -3,22 +3,22 @@ use Rattle.std.proofs.Common.{◌≡◌, ◌≢◌, ℕ, ◌*◌, ◌<◌, ◌�
 use Rattle.std.proofs.Common.{None, inl, inr, ◌==◌}
 use Rattle.bios_modes.specs.declared.modes.ModeRow.{ModeRow}
 use Rattle.bios_modes.specs.declared.heights.TextRow.{TextRow}
-use Rattle.bios_modes.specs.Heights.{fifty_rows, twenty_eight_rows, twenty_five_rows, colour_rows, monochrome_rows, with_text, with_height, if_row, at_height}
-use Rattle.bios_modes.specs.Heights.{row_at}
+use Rattle.bios_modes.specs.Heights.{fifty_rows, twenty_eight_rows, twenty_five_rows, colour_text_row, monochrome_text_row, with_text_row, with_height_row, value_of_row, row_at_height}
+use Rattle.bios_modes.specs.Heights.{mode_row_at_height}
 use Rattle.bios_modes.specs.Modes.{mode_row, colour_text, monochrome_text}
 use Rattle.bios_modes.specs.Bda.{BiosData}
 use Rattle.bios_modes.proofs.RowLemmas.{each_mode, own_row}
 use Rattle.bios_modes.specs.Begin.{data_of_mode}
-use Rattle.bios_modes.specs.Valid.{IsOf, Fits, IsValid}
+use Rattle.bios_modes.specs.Valid.{IsDataOfRow, FitsModeRow, IsValid}
 use Rattle.std.specs.Prelude.{◌+◌, ◌&&◌, nat_le, nat_lt}
 use Rattle.std.proofs.lemmas.Bool.Decides.{nat_tests}
 use Rattle.vga_bits.specs.declared.refusal.Refusal.TheVariants.{WrongKind, CountPast}
 use Rattle.bios_services.specs.declared.glyph_load.GlyphLoad.{GlyphLoad}
-use Rattle.bios_modes.specs.Kinds.{is_text, is_text_kind, kind_in}
-use Rattle.bios_services.specs.Cells.{base_in, page_base}
+use Rattle.bios_modes.specs.Kinds.{is_text, is_text_kind, kind_of_row}
+use Rattle.bios_services.specs.Cells.{page_base_of_row, page_base}
 use Rattle.bios_services.specs.Reasons.{refuse_unless}
-use Rattle.bios_services.specs.GlyphLoads.{AreThere, glyphs_block, glyphs_len, load_reason, load_refusal}
-use Rattle.bios_services.specs.Bounds.{IsSet, StaysInMode, pages_in, ports_end}
+use Rattle.bios_services.specs.GlyphLoads.{AreGlyphsThere, glyphs_block, glyphs_len, load_reason, load_refusal}
+use Rattle.bios_services.specs.Bounds.{IsModeSet, StaysInMode, pages_of_row, ports_bound}
 use Rattle.bios_services.proofs.ReasonLemmas.{neither, holds, wrong_or}
 
 -- what holds for both branches holds for a choice
@@ -28,26 +28,26 @@ on_either P false px py = py
 
 -- the row of a mode with characters of a height
 abbrev sized : Option ModeRow → ℕ → Option ModeRow
-sized x height = if_row x (λ row. at_height row height)
+sized x height = value_of_row x (λ row. row_at_height row height)
 
 -- the pages of each mode begin at one of three addresses
 pub base_small : (mode : ℕ) → page_base mode ≤ 0xB8000
-base_small = each_mode (λ _ x. base_in x ≤ 0xB8000) (omega arith) (omega arith) (omega arith) (omega arith) (omega arith) (omega arith) (λ _. omega arith)
+base_small = each_mode (λ _ x. page_base_of_row x ≤ 0xB8000) (omega arith) (omega arith) (omega arith) (omega arith) (omega arith) (omega arith) (λ _. omega arith)
 
 -- what holds of each row of mode 3, and of none, holds of that of any height
-on_colour : (P : Option ModeRow → Type 0) (height : ℕ) → P (Some (with_text colour_text (fifty_rows 0x1F))) →
-    P (Some (with_text colour_text (twenty_eight_rows 0x1F))) → P (Some (with_text colour_text (twenty_five_rows 0x1F))) → P None →
-    P (with_height colour_text (colour_rows height))
+on_colour : (P : Option ModeRow → Type 0) (height : ℕ) → P (Some (with_text_row colour_text (fifty_rows 0x1F))) →
+    P (Some (with_text_row colour_text (twenty_eight_rows 0x1F))) → P (Some (with_text_row colour_text (twenty_five_rows 0x1F))) → P None →
+    P (with_height_row colour_text (colour_text_row height))
 on_colour P height p8 p14 p16 none =
-    let Q : Option TextRow → Type 0 = λ text. P (with_height colour_text text) in
+    let Q : Option TextRow → Type 0 = λ text. P (with_height_row colour_text text) in
     on_either Q (height == 8) p8 (on_either Q (height == 14) p14 (on_either Q (height == 16) p16 none))
 
 -- and so it does of mode 7
-on_monochrome : (P : Option ModeRow → Type 0) (height : ℕ) → P (Some (with_text monochrome_text (fifty_rows 0x07))) →
-    P (Some (with_text monochrome_text (twenty_eight_rows 0x0D))) → P (Some (with_text monochrome_text (twenty_five_rows 0x0F))) → P None →
-    P (with_height monochrome_text (monochrome_rows height))
+on_monochrome : (P : Option ModeRow → Type 0) (height : ℕ) → P (Some (with_text_row monochrome_text (fifty_rows 0x07))) →
+    P (Some (with_text_row monochrome_text (twenty_eight_rows 0x0D))) → P (Some (with_text_row monochrome_text (twenty_five_rows 0x0F))) → P None →
+    P (with_height_row monochrome_text (monochrome_text_row height))
 on_monochrome P height p8 p14 p16 none =
-    let Q : Option TextRow → Type 0 = λ text. P (with_height monochrome_text text) in
+    let Q : Option TextRow → Type 0 = λ text. P (with_height_row monochrome_text text) in
     on_either Q (height == 8) p8 (on_either Q (height == 14) p14 (on_either Q (height == 16) p16 none))
 
 -- a row whose numbers are small enough
@@ -56,7 +56,7 @@ record Small (row : ModeRow) : Type 0 where
   pub columns : row.columns ≤ 80
   pub rows : row.last_row < 50
   pub height : row.height ≤ 16
-  pub port : row.crtc_address < ports_end
+  pub port : row.crtc_address < ports_bound
   pub pages : row.pages ≤ 8
   pub memory : row.size * row.pages ≤ 65536
 
@@ -66,14 +66,14 @@ record Bounds (row : Option ModeRow) (d : BiosData) : Type 0 where
   pub columns : d.columns ≤ 80
   pub rows : d.last_row < 50
   pub height : d.height ≤ 16
-  pub port : d.crtc_address < ports_end
-  pub pages : pages_in row ≤ 8
-  pub page : d.page < pages_in row
+  pub port : d.crtc_address < ports_bound
+  pub pages : pages_of_row row ≤ 8
+  pub page : d.page < pages_of_row row
   pub start : d.start ≡ d.size * d.page
-  pub memory : d.size * pages_in row ≤ 65536
+  pub memory : d.size * pages_of_row row ≤ 65536
 
 -- data of a small row are small
-of_row : (row : ModeRow) (d : BiosData) → Small row → IsOf row d → Bounds (Some row) d
+of_row : (row : ModeRow) (d : BiosData) → Small row → IsDataOfRow row d → Bounds (Some row) d
 of_row row d s f =
     let columns = f.columns in let last_row = f.last_row in let high = f.height in let port = f.crtc_address in
     let size = ap (λ n. n * row.pages) f.size in
@@ -92,7 +92,7 @@ of_row row d s f =
 
 -- which is computed of a literal row
 small : (row : ModeRow) → (nat_lt 0 row.columns && (nat_le row.columns 80 && (nat_lt row.last_row 50 && (nat_le row.height 16
-    && (nat_lt row.crtc_address ports_end && (nat_le row.pages 8 && nat_le (row.size * row.pages) 65536)))))) ≡ true → Small row
+    && (nat_lt row.crtc_address ports_bound && (nat_le row.pages 8 && nat_le (row.size * row.pages) 65536)))))) ≡ true → Small row
 small row e = record {
   some_columns = grind (arith, nat_tests);
   columns = grind (arith, nat_tests);
@@ -104,7 +104,7 @@ small row e = record {
 }
 
 -- what holds of small rows, and of none, holds of that of any mode and height
-on_small : (P : Option ModeRow → Type 0) (mode height : ℕ) → ((row : ModeRow) → Small row → P (Some row)) → P None → P (row_at mode height)
+on_small : (P : Option ModeRow → Type 0) (mode height : ℕ) → ((row : ModeRow) → Small row → P (Some row)) → P None → P (mode_row_at_height mode height)
 on_small P mode height some none =
     each_mode (λ _ x. P (sized x height))
     (on_colour P height (some _ (small _ refl)) (some _ (small _ refl)) (some _ (small _ refl)) none)
@@ -112,10 +112,10 @@ on_small P mode height some none =
     (some _ (small _ refl)) (some _ (small _ refl)) (some _ (small _ refl)) (some _ (small _ refl)) (λ _. none) mode
 
 -- data that are those of their mode and height are small
-bounds_of : (d : BiosData) → Fits (row_at d.mode d.height) d → Bounds (row_at d.mode d.height) d
-bounds_of d = on_small (λ row. Fits row d → Bounds row d) d.mode d.height (λ row small. of_row row d small) (λ none. absurd none)
+bounds_of : (d : BiosData) → FitsModeRow (mode_row_at_height d.mode d.height) d → Bounds (mode_row_at_height d.mode d.height) d
+bounds_of d = on_small (λ row. FitsModeRow row d → Bounds row d) d.mode d.height (λ row small. of_row row d small) (λ none. absurd none)
 
-set_of_bounds : (d : BiosData) → Bounds (row_at d.mode d.height) d → IsSet d
+set_of_bounds : (d : BiosData) → Bounds (mode_row_at_height d.mode d.height) d → IsModeSet d
 set_of_bounds d b = record {
   some_columns = b.some_columns;
   columns = b.columns;
@@ -129,12 +129,12 @@ set_of_bounds d b = record {
 }
 
 -- valid data of a mode are small
-pub set_of_valid : (d : BiosData) → IsValid d → d.mode ≢ 0 → IsSet d
+pub set_of_valid : (d : BiosData) → IsValid d → d.mode ≢ 0 → IsModeSet d
 set_of_valid d (inl unset) set = absurd (set (ap (λ (bios : BiosData). bios.mode) unset))
 set_of_valid d (inr fits) set = set_of_bounds d (bounds_of d fits)
 
 -- data whose constants stay fit the row that the old data fit
-fits_again : (row : Option ModeRow) (old new : BiosData) → Fits row old → StaysInMode old new → new.page < pages_in row → Fits row new
+fits_again : (row : Option ModeRow) (old new : BiosData) → FitsModeRow row old → StaysInMode old new → new.page < pages_of_row row → FitsModeRow row new
 fits_again None old new fits stays page = fits
 fits_again (Some row) old new fits stays page = record {
   columns = stays.columns ∙ fits.columns;
@@ -150,12 +150,12 @@ fits_again (Some row) old new fits stays page = record {
 pub stays_valid : (old new : BiosData) → IsValid old → old.mode ≢ 0 → StaysInMode old new → IsValid new
 stays_valid old new (inl unset) set stays = absurd (set (ap (λ (bios : BiosData). bios.mode) unset))
 stays_valid old new (inr fits) set stays =
-    let again : Fits (row_at old.mode old.height) new = fits_again (row_at old.mode old.height) old new fits stays stays.page in
-    let same : row_at new.mode new.height ≡ row_at old.mode old.height = ap (λ mode. row_at mode new.height) stays.mode ∙ ap (row_at old.mode) stays.height in
-    inr (subst (λ row. Fits row new) (sym same) again)
+    let again : FitsModeRow (mode_row_at_height old.mode old.height) new = fits_again (mode_row_at_height old.mode old.height) old new fits stays stays.page in
+    let same : mode_row_at_height new.mode new.height ≡ mode_row_at_height old.mode old.height = ap (λ mode. mode_row_at_height mode new.height) stays.mode ∙ ap (mode_row_at_height old.mode) stays.height in
+    inr (subst (λ row. FitsModeRow row new) (sym same) again)
 
 -- the data that a mode begins with are those of its row
-begins_as : (row : ModeRow) (mode : ℕ) → 0 < row.pages → IsOf row (data_of_mode mode row)
+begins_as : (row : ModeRow) (mode : ℕ) → 0 < row.pages → IsDataOfRow row (data_of_mode mode row)
 begins_as row mode some = record {
   columns = refl;
   size = refl;
@@ -170,30 +170,30 @@ begins_as row mode some = record {
 abbrev BeginsAt : (ℕ → Option ModeRow) → ModeRow → Type 0
 BeginsAt rows row = (0 < row.pages) × (rows row.height ≡ Some row)
 
-colour_begins : (height : ℕ) → IfSome (with_height colour_text (colour_rows height)) (BeginsAt (λ h. with_height colour_text (colour_rows h)))
-colour_begins height = on_colour (λ x. IfSome x (BeginsAt (λ h. with_height colour_text (colour_rows h)))) height (omega arith, refl) (
+colour_begins : (height : ℕ) → IfSome (with_height_row colour_text (colour_text_row height)) (BeginsAt (λ h. with_height_row colour_text (colour_text_row h)))
+colour_begins height = on_colour (λ x. IfSome x (BeginsAt (λ h. with_height_row colour_text (colour_text_row h)))) height (omega arith, refl) (
   omega arith,
   refl,
 ) (omega arith, refl) tt
 
-monochrome_begins : (height : ℕ) → IfSome (with_height monochrome_text (monochrome_rows height))
-    (BeginsAt (λ h. with_height monochrome_text (monochrome_rows h)))
-monochrome_begins height = on_monochrome (λ x. IfSome x (BeginsAt (λ h. with_height monochrome_text (monochrome_rows h)))) height (
+monochrome_begins : (height : ℕ) → IfSome (with_height_row monochrome_text (monochrome_text_row height))
+    (BeginsAt (λ h. with_height_row monochrome_text (monochrome_text_row h)))
+monochrome_begins height = on_monochrome (λ x. IfSome x (BeginsAt (λ h. with_height_row monochrome_text (monochrome_text_row h)))) height (
   omega arith,
   refl,
 ) (omega arith, refl) (omega arith, refl) tt
 
 -- each row of a mode and a height begins it
-all_begin : (mode height : ℕ) → IfSome (row_at mode height) (BeginsAt (row_at mode))
+all_begin : (mode height : ℕ) → IfSome (mode_row_at_height mode height) (BeginsAt (mode_row_at_height mode))
 all_begin mode height =
     each_mode (λ _ x. IfSome (sized x height) (BeginsAt (sized x))) (colour_begins height) (monochrome_begins height)
     (omega arith, refl) (omega arith, refl) (omega arith, refl) (omega arith, refl) (λ _. tt) mode
 
 -- the data that a mode begins with at a height are valid
-pub begins_valid_at : (mode height : ℕ) (row : ModeRow) → row_at mode height ≡ Some row → IsValid (data_of_mode mode row)
+pub begins_valid_at : (mode height : ℕ) (row : ModeRow) → mode_row_at_height mode height ≡ Some row → IsValid (data_of_mode mode row)
 begins_valid_at mode height row e =
-    let h : BeginsAt (row_at mode) row = subst (λ x. IfSome x (BeginsAt (row_at mode))) e (all_begin mode height) in
-    inr (subst (λ x. Fits x (data_of_mode mode row)) (sym h.1) (begins_as row mode h.0))
+    let h : BeginsAt (mode_row_at_height mode) row = subst (λ x. IfSome x (BeginsAt (mode_row_at_height mode))) e (all_begin mode height) in
+    inr (subst (λ x. FitsModeRow x (data_of_mode mode row)) (sym h.1) (begins_as row mode h.0))
 
 -- and those that it begins with at its own
 pub begins_valid : (mode : ℕ) (row : ModeRow) → mode_row mode ≡ Some row → IsValid (data_of_mode mode row)
@@ -202,14 +202,14 @@ begins_valid mode row e = begins_valid_at mode row.height row (own_row mode row 
 -- ---- function 11
 
 -- a row of text is at most 16 scan lines high
-text_height : (mode height : ℕ) (row : ModeRow) → is_text mode ≡ true → row_at mode height ≡ Some row → height ≤ 16
+text_height : (mode height : ℕ) (row : ModeRow) → is_text mode ≡ true → mode_row_at_height mode height ≡ Some row → height ≤ 16
 text_height mode height row =
-    each_mode (λ _ x. is_text_kind (kind_in x) ≡ true → sized x height ≡ Some row → height ≤ 16)
+    each_mode (λ _ x. is_text_kind (kind_of_row x) ≡ true → sized x height ≡ Some row → height ≤ 16)
     (λ _ e. grind (arith, nat_tests)) (λ _ e. grind (arith, nat_tests)) (λ t _. absurd (cc)) (λ t _. absurd (cc)) (λ t _. absurd (cc)) (λ t _. absurd (cc))
     (λ _ t _. absurd (cc)) mode
 
 -- the glyphs of a load that is not refused, at a height that the mode has, are there
-pub there_of : (load : GlyphLoad) (mode len : ℕ) (row : ModeRow) → load_refusal load mode len ≡ None → row_at mode load.height ≡ Some row → AreThere load len
+pub there_of : (load : GlyphLoad) (mode len : ℕ) (row : ModeRow) → load_refusal load mode len ≡ None → mode_row_at_height mode load.height ≡ Some row → AreGlyphsThere load len
 there_of load mode len row allowed e =
     let block = wrong_or (load_reason load mode) (glyphs_block load) len allowed in
     let reason = neither (refuse_unless (is_text mode) WrongKind) _ block.0 in
@@ -221,6 +221,6 @@ there_of load mode len row allowed e =
     }
 
 -- the port of a row is small
-pub port_small : (mode height : ℕ) (row : ModeRow) → row_at mode height ≡ Some row → row.crtc_address < ports_end
-port_small mode height row e = subst (λ x. IfSome x (λ r. r.crtc_address < ports_end)) e
-    (on_small (λ x. IfSome x (λ r. r.crtc_address < ports_end)) mode height (λ r small. small.port) tt)
+pub port_small : (mode height : ℕ) (row : ModeRow) → mode_row_at_height mode height ≡ Some row → row.crtc_address < ports_bound
+port_small mode height row e = subst (λ x. IfSome x (λ r. r.crtc_address < ports_bound)) e
+    (on_small (λ x. IfSome x (λ r. r.crtc_address < ports_bound)) mode height (λ r small. small.port) tt)

@@ -5,12 +5,12 @@ use Rattle.vga_card.specs.Bounds.{IsCard}
 use Rattle.vga_card.specs.Bus.{Place, AtPort, AtAddress, card_meaning, card_write, card_read}
 use Rattle.vga_card.specs.Card.{CardState}
 use Rattle.vga_card.specs.Adapter.{adapter_of}
-use Rattle.vga_card.specs.Cycles.{Written, Answered, out_byte, inp_byte, put_byte, get_byte}
+use Rattle.vga_card.specs.Cycles.{WriteResult, ReadResult, out_byte, inp_byte, put_byte, get_byte}
 use Rattle.vga_card.specs.FreshCanvas.{with_fresh_canvas, fresh_canvas_after}
 use Rattle.vga_card.proofs.BoundLemmas.{out_bounds, inp_bounds, put_bounds, get_bounds}
 use Rattle.vga_card.proofs.DrawnLemmas.{IsStill, still, still_after, written_still, answered_still}
 use Rattle.vga_card.proofs.FreshCanvasLemmas.{cannot_be_told}
-use Rattle.bios_services.specs.Plan.{Plan, Done, Write, Read, byte_of, run}
+use Rattle.bios_services.specs.Plan.{Plan, Done, Write, Read, read_byte_or_ff, run}
 use Rattle.bios_services.proofs.PlanRuns.{run_keeps}
 
 write_bounds : (c : CardState) (place : Place) (v : ℕ) → IsCard c → IsCard (card_write c place v).0
@@ -53,7 +53,7 @@ read_fresh c (AtAddress address) = cannot_be_told.get c address
 pub plan_fresh : {A : Type 0} (p : Plan A) (c : CardState) → run card_meaning p (with_fresh_canvas c) ≡ fresh_canvas_after (run card_meaning p c)
 plan_fresh (Done a) c = refl
 plan_fresh (Write place v rest) c =
-    ap (λ (w : Written). run card_meaning rest w.0) (write_fresh c place v) ∙ plan_fresh rest (card_write c place v).0
+    ap (λ (w : WriteResult). run card_meaning rest w.0) (write_fresh c place v) ∙ plan_fresh rest (card_write c place v).0
 plan_fresh (Read place rest) c =
     let r = card_read c place in
-    ap (λ (a : Answered). run card_meaning (rest (byte_of a.1)) a.0) (read_fresh c place) ∙ plan_fresh (rest (byte_of r.1)) r.0
+    ap (λ (a : ReadResult). run card_meaning (rest (read_byte_or_ff a.1)) a.0) (read_fresh c place) ∙ plan_fresh (rest (read_byte_or_ff r.1)) r.0

@@ -7,10 +7,10 @@ use Rattle.std.proofs.lemmas.List.{length-set}
 use Rattle.vga_bits.specs.declared.refusal.Refusal.{Refusal}
 use Rattle.vga_bits.specs.declared.refusal.Refusal.TheVariants.{BadPage, Outside}
 use Rattle.vga_card.specs.Card.{CardState}
-use Rattle.vga_card.specs.Bus.{Meaning, card_meaning}
+use Rattle.vga_card.specs.Bus.{BusMeaning, card_meaning}
 use Rattle.bios_modes.specs.declared.modes.ModeRow.{ModeRow}
 use Rattle.bios_modes.specs.Modes.{mode_row}
-use Rattle.bios_modes.specs.Heights.{row_at}
+use Rattle.bios_modes.specs.Heights.{mode_row_at_height}
 use Rattle.bios_modes.specs.Bda.{BiosData, power_on_data}
 use Rattle.bios_modes.specs.Begin.{data_of_mode}
 use Rattle.bios_modes.specs.Fonts.{FontSet}
@@ -24,29 +24,29 @@ use Rattle.bios_services.specs.declared.call.Call.TheVariants.{SetMode, ReadTabl
 use Rattle.bios_services.specs.declared.call.Service.{Service}
 use Rattle.bios_services.specs.declared.call.Service.TheVariants.{SetCursorType, SetCursor, ReadCursor, SelectPage, ScrollUp, ScrollDown, ReadCell, WriteCells}
 use Rattle.bios_services.specs.declared.call.Service.TheVariants.{WritePixel, ReadPixel, Teletype, ReadMode, Colours, ReadAdapter, WriteString, ReadDisplay}
-use Rattle.bios_services.specs.Plan.{Plan, Done, Write, Read, ◌>>=◌, ◌>>◌, run, byte_of, fold}
+use Rattle.bios_services.specs.Plan.{Plan, Done, Write, Read, ◌>>=◌, ◌>>◌, run, read_byte_or_ff, fold}
 use Rattle.bios_services.specs.Registers.{high, low}
-use Rattle.bios_services.specs.Bounds.{IsSet, pages_of}
-use Rattle.bios_services.specs.Data.{AreData}
-use Rattle.bios_services.specs.Cursor.{row_of, column_of, cell_number, position_of, with_position, with_page, start_address, word_plan, cursor_plan, move_cursor_plan}
-use Rattle.bios_services.specs.Cursor.{cursor_type_plan, page_plan}
+use Rattle.bios_services.specs.Bounds.{IsModeSet, page_count}
+use Rattle.bios_services.specs.Data.{AreValidData}
+use Rattle.bios_services.specs.Cursor.{row_of, column_of, cell_number, cursor_position_of, with_position, with_page, start_address, write_crtc_word_plan, show_cursor_plan, move_cursor_plan}
+use Rattle.bios_services.specs.Cursor.{cursor_type_plan, show_page_plan}
 use Rattle.bios_services.specs.declared.direction.Direction.TheVariants.{Up, Down}
 use Rattle.bios_services.specs.Drawing.{character_plan}
 use Rattle.bios_services.specs.CellRuns.{cell_run_plan}
 use Rattle.bios_services.specs.Scroll.{page_up_plan, scroll_plan}
 use Rattle.bios_services.specs.Pixels.{write_pixel_plan}
-use Rattle.bios_services.specs.Teletype.{line_start, dots_in, line_feed_fill, line_feed_plan, next_position_plan, show_plan, type_plan, teletype_plan}
+use Rattle.bios_services.specs.Teletype.{line_start, pixel_colouring, line_feed_fill, line_feed_plan, next_position_plan, write_and_advance_plan, type_plan, teletype_plan}
 use Rattle.bios_services.specs.Strings.{string_len, character_at, colouring_of_character, type_string_plan, string_plan}
 use Rattle.bios_services.specs.ModeSet.{mode_set_plan}
 use Rattle.bios_services.specs.Reasons.{no_page, outside_page, wrong_block}
 use Rattle.bios_services.specs.Colours.{colours_plan}
 use Rattle.bios_services.specs.Tables.{table_refusal, table_plan}
 use Rattle.bios_services.specs.GlyphLoads.{glyph_load_of, load_refusal, load_plan}
-use Rattle.bios_services.specs.Refusals.{on_page_named, reason_in_mode, refusal_in_mode}
+use Rattle.bios_services.specs.Refusals.{service_on_page_meant, reason_in_mode, refusal_in_mode}
 use Rattle.bios_services.specs.declared.colours.ColourService.TheVariants.{ReadMask}
-use Rattle.bios_services.specs.Calls.{colours, colour_call_of, service_of, in_mode, call_of, glyphs_or}
-use Rattle.bios_services.specs.Service.{Outcome, Answered, answer_of, answer_with, call_plan, in_mode_plan, load_at, load_unless, load_in_mode_plan, plan_of}
-use Rattle.bios_services.specs.Service.{read_cell_service, read_pixel_service, service, set_mode_plan, table_in_mode_plan, table_unless, unless}
+use Rattle.bios_services.specs.Calls.{colours_call, colour_call_of, service_of, call_in_mode, call_of, glyph_load_or}
+use Rattle.bios_services.specs.Service.{ServiceOutcome, CallOutcome, answer_of_registers, answer_with, call_plan, in_mode_plan, load_if_height_exists, load_unless_refused_plan, load_in_mode_plan, plan_of_service}
+use Rattle.bios_services.specs.Service.{read_cell_service, read_pixel_service, service, set_mode_plan, table_in_mode_plan, table_unless_refused_plan, unless_refused_plan}
 use Rattle.bios_services.proofs.ReasonLemmas.{neither, holds}
 use Rattle.bios_services.proofs.BoundLemmas.{set_of_valid, stays_valid, begins_valid, begins_valid_at}
 
@@ -58,10 +58,10 @@ Always P (Write place v rest) = Always P rest
 Always P (Read place rest) = (b : ℕ) → Always P (rest b)
 
 -- it holds on each bus
-always_runs : {S A : Type 0} (P : A → Type 0) (m : Meaning S) (p : Plan A) (s : S) → Always P p → P (run m p s).1
+always_runs : {S A : Type 0} (P : A → Type 0) (m : BusMeaning S) (p : Plan A) (s : S) → Always P p → P (run m p s).1
 always_runs P m (Done a) s h = h
 always_runs P m (Write place v rest) s h = always_runs P m rest (m.write s place v).0 h
-always_runs P m (Read place rest) s h = let r = m.read s place in always_runs P m (rest (byte_of r.1)) r.0 (h (byte_of r.1))
+always_runs P m (Read place rest) s h = let r = m.read s place in always_runs P m (rest (read_byte_or_ff r.1)) r.0 (h (read_byte_or_ff r.1))
 
 -- for one plan and then another, if it holds for the second
 then_always : {A B : Type 0} (P : B → Type 0) (p : Plan A) (f : A → Plan B) → ((a : A) → Always P (f a)) → Always P (p >>= f)
@@ -114,7 +114,7 @@ back_near position false near = omega arith
 
 typed_near : (fonts : FontSet) (d : BiosData) (page position character : ℕ) (colouring : Colouring) → d.last_row < 50 → d.columns ≤ 80 → IsNear position →
     Always IsNear (type_plan fonts d page position character colouring)
-unfolding type_plan show_plan
+unfolding type_plan write_and_advance_plan
 typed_near fonts d page position character colouring few narrow near =
     on_if IsNear (character == 0x07) (Done position) _ (λ _. near)
     (λ _. on_if IsNear (character == 0x08) (Done (if column_of position == 0 then position else position - 1)) _ (λ _. back_near position (column_of position == 0) near)
@@ -138,19 +138,19 @@ zero_words (suc n) zero = omega arith
 zero_words (suc n) (suc i) = zero_words n i
 
 -- the data at power-on
-pub first_data : AreData power_on_data
+pub first_data : AreValidData power_on_data
 first_data = record { valid = inl refl; words = record { places = refl; words = zero_words 8 } }
 
 -- the data that a mode begins with
-begun : (mode : ℕ) (row : ModeRow) → mode_row mode ≡ Some row → AreData (data_of_mode mode row)
+begun : (mode : ℕ) (row : ModeRow) → mode_row mode ≡ Some row → AreValidData (data_of_mode mode row)
 begun mode row e = record { valid = begins_valid mode row e; words = record { places = refl; words = zero_words 8 } }
 
-begun_at : (mode height : ℕ) (row : ModeRow) → row_at mode height ≡ Some row → AreData (data_of_mode mode row)
+begun_at : (mode height : ℕ) (row : ModeRow) → mode_row_at_height mode height ≡ Some row → AreValidData (data_of_mode mode row)
 begun_at mode height row e = record { valid = begins_valid_at mode height row e; words = record { places = refl; words = zero_words 8 } }
 
-module _ (d : BiosData) (a : AreData d) (is : IsSet d) (unset : d.mode ≢ 0) where
+module _ (d : BiosData) (a : AreValidData d) (is : IsModeSet d) (unset : d.mode ≢ 0) where
   -- a cursor at another position
-  placed : (page position : ℕ) → position < 65536 → AreData (with_position d page position)
+  placed : (page position : ℕ) → position < 65536 → AreValidData (with_position d page position)
   placed page position l = record {
     valid = stays_valid d (with_position d page position) a.valid unset (record {
       mode = refl;
@@ -165,12 +165,12 @@ module _ (d : BiosData) (a : AreData d) (is : IsSet d) (unset : d.mode ≢ 0) wh
     words = record { places = length-set d.cursor_places page position ∙ a.words.places; words = set_words d.cursor_places page position l a.words.words };
   }
 
-  moved : (page position : ℕ) → position < 65536 → Always AreData (move_cursor_plan d page position)
+  moved : (page position : ℕ) → position < 65536 → Always AreValidData (move_cursor_plan d page position)
   unfolding move_cursor_plan
-  moved page position l = then_always AreData (cursor_plan (with_position d page position) page) (λ _. Done (with_position d page position)) (λ _. placed page position l)
+  moved page position l = then_always AreValidData (show_cursor_plan (with_position d page position) page) (λ _. Done (with_position d page position)) (λ _. placed page position l)
 
   -- another type of the cursor
-  typed_cursor : (cursor_type : ℕ) → Always AreData (cursor_type_plan d cursor_type)
+  typed_cursor : (cursor_type : ℕ) → Always AreValidData (cursor_type_plan d cursor_type)
   unfolding cursor_type_plan
   typed_cursor cursor_type = record {
     valid = stays_valid d (record d { cursor_type = cursor_type }) a.valid unset (record {
@@ -187,10 +187,10 @@ module _ (d : BiosData) (a : AreData d) (is : IsSet d) (unset : d.mode ≢ 0) wh
   }
 
   -- another page
-  paged : (page : ℕ) → page < pages_of d → Always AreData (page_plan d page)
-  unfolding page_plan
+  paged : (page : ℕ) → page < page_count d → Always AreValidData (show_page_plan d page)
+  unfolding show_page_plan
   paged page l =
-      let after : AreData (with_page d page) = record {
+      let after : AreValidData (with_page d page) = record {
         valid = stays_valid d (with_page d page) a.valid unset (record {
           mode = refl;
           columns = refl;
@@ -203,16 +203,16 @@ module _ (d : BiosData) (a : AreData d) (is : IsSet d) (unset : d.mode ≢ 0) wh
         });
         words = record { places = a.words.places; words = a.words.words };
       } in
-      then_always AreData (word_plan d.crtc_address 0x0C (start_address d page)) (λ _. cursor_plan (with_page d page) page >> Done (with_page d page))
-      (λ _. then_always AreData (cursor_plan (with_page d page) page) (λ _. Done (with_page d page)) (λ _. after))
+      then_always AreValidData (write_crtc_word_plan d.crtc_address 0x0C (start_address d page)) (λ _. show_cursor_plan (with_page d page) page >> Done (with_page d page))
+      (λ _. then_always AreValidData (show_cursor_plan (with_page d page) page) (λ _. Done (with_page d page)) (λ _. after))
 
   -- a character that is typed, and a string
-  typed : (fonts : FontSet) (character colour : ℕ) → IsNear (position_of d d.page) → Always AreData (teletype_plan fonts d character colour)
+  typed : (fonts : FontSet) (character colour : ℕ) → IsNear (cursor_position_of d d.page) → Always AreValidData (teletype_plan fonts d character colour)
   unfolding teletype_plan
   typed fonts character colour near =
-      on_if AreData (character == 0x07) (Done d) _ (λ _. a)
-      (λ _. then_always_such IsNear AreData (type_plan fonts d d.page (position_of d d.page) character (dots_in colour)) (λ position. move_cursor_plan d d.page position)
-      (typed_near fonts d d.page (position_of d d.page) character (dots_in colour) is.rows is.columns near)
+      on_if AreValidData (character == 0x07) (Done d) _ (λ _. a)
+      (λ _. then_always_such IsNear AreValidData (type_plan fonts d d.page (cursor_position_of d d.page) character (pixel_colouring colour)) (λ position. move_cursor_plan d d.page position)
+      (typed_near fonts d d.page (cursor_position_of d d.page) character (pixel_colouring colour) is.rows is.columns near)
       (λ position l. moved d.page position (omega arith)))
 
   characters_near : (fonts : FontSet) (page : ℕ) (s : StringCall) (block : List ℕ) (n i position : ℕ) → IsNear position
@@ -224,12 +224,12 @@ module _ (d : BiosData) (a : AreData d) (is : IsSet d) (unset : d.mode ≢ 0) wh
       (typed_near fonts d page position (character_at s block i) (colouring_of_character s block i) is.rows is.columns near)
       (λ next l. characters_near fonts page s block n (i + 1) next l)
 
-  string : (fonts : FontSet) (s : StringCall) (block : List ℕ) → IsNear s.position → Always AreData (string_plan fonts d s block)
+  string : (fonts : FontSet) (s : StringCall) (block : List ℕ) → IsNear s.position → Always AreValidData (string_plan fonts d s block)
   unfolding string_plan type_string_plan
   string fonts s block near =
-      then_always_such IsNear AreData (type_string_plan fonts d s block) (λ position. if s.moves_cursor then move_cursor_plan d s.page position else Done d)
+      then_always_such IsNear AreValidData (type_string_plan fonts d s block) (λ position. if s.moves_cursor then move_cursor_plan d s.page position else Done d)
       (characters_near fonts s.page s block s.count 0 s.position near)
-      (λ position l. on_if AreData s.moves_cursor (move_cursor_plan d s.page position) (Done d) (λ _. moved s.page position (omega arith)) (λ _. a))
+      (λ position l. on_if AreValidData s.moves_cursor (move_cursor_plan d s.page position) (Done d) (λ _. moved s.page position (omega arith)) (λ _. a))
 
 -- ---- services that are not refused
 
@@ -248,14 +248,14 @@ string_near : (d : BiosData) (s : StringCall) (len : ℕ) → d.last_row < 50 �
 unfolding refusal_in_mode
 string_near d s len few h =
     let reason = neither (reason_in_mode (WriteString s) d) (wrong_block (string_len s) len) h in
-    inside_near d s.position few (neither (no_page (pages_of d) s.page) (outside_page (d.last_row + 1) d.columns s.position) reason.0).1
+    inside_near d s.position few (neither (no_page (page_count d) s.page) (outside_page (d.last_row + 1) d.columns s.position) reason.0).1
 
 -- the position that a service names is a word
 abbrev FitsWords : Service → Type 0
 FitsWords (SetCursor page position) = position < 65536
 FitsWords service = Unit {0}
 
-fits_there : (d : BiosData) (asked_for : Service) → FitsWords asked_for → FitsWords (on_page_named d asked_for)
+fits_there : (d : BiosData) (asked_for : Service) → FitsWords asked_for → FitsWords (service_on_page_meant d asked_for)
 fits_there d (SetCursor page position) fits = fits
 fits_there d (SetCursorType cursor_type) fits = tt
 fits_there d (ReadCursor page) fits = tt
@@ -274,21 +274,21 @@ fits_there d (WriteString s) fits = tt
 fits_there d ReadDisplay fits = tt
 
 -- the data that a service answers
-abbrev OutcomeKept : Outcome → Type 0
-OutcomeKept o = AreData o.1
+abbrev OutcomeKept : ServiceOutcome → Type 0
+OutcomeKept o = AreValidData o.1
 
-service_keeps : (asked_for : Service) (fonts : FontSet) (d : BiosData) (r : Regs) (block : List ℕ) → FitsWords asked_for → AreData d → IsSet d → d.mode ≢ 0 →
+service_keeps : (asked_for : Service) (fonts : FontSet) (d : BiosData) (r : Regs) (block : List ℕ) → FitsWords asked_for → AreValidData d → IsModeSet d → d.mode ≢ 0 →
     refusal_in_mode asked_for d (length block) ≡ None
-    → Always OutcomeKept (plan_of asked_for fonts d r block)
-unfolding plan_of refusal_in_mode
+    → Always OutcomeKept (plan_of_service asked_for fonts d r block)
+unfolding plan_of_service refusal_in_mode
 service_keeps (SetCursorType cursor_type) fonts d r block fits a is unset h =
-    then_always_such AreData OutcomeKept (cursor_type_plan d cursor_type) (λ after. Done (r, after)) (typed_cursor d a is unset cursor_type) (λ after k. k)
+    then_always_such AreValidData OutcomeKept (cursor_type_plan d cursor_type) (λ after. Done (r, after)) (typed_cursor d a is unset cursor_type) (λ after k. k)
 service_keeps (SetCursor page position) fonts d r block fits a is unset h =
-    then_always_such AreData OutcomeKept (move_cursor_plan d page position) (λ after. Done (r, after))
+    then_always_such AreValidData OutcomeKept (move_cursor_plan d page position) (λ after. Done (r, after))
     (moved d a is unset page position fits) (λ after k. k)
 service_keeps (ReadCursor page) fonts d r block fits a is unset h = a
 service_keeps (SelectPage page) fonts d r block fits a is unset h =
-    then_always_such AreData OutcomeKept (page_plan d page) (λ after. Done (r, after)) (paged d a is unset page (page_allowed (pages_of d) page h)) (λ after k. k)
+    then_always_such AreValidData OutcomeKept (show_page_plan d page) (λ after. Done (r, after)) (paged d a is unset page (page_allowed (page_count d) page h)) (λ after k. k)
 service_keeps (ScrollUp scroll) fonts d r block fits a is unset h = then_always OutcomeKept (scroll_plan d scroll Up) (λ _. Done (r, d)) (λ _. a)
 service_keeps (ScrollDown scroll) fonts d r block fits a is unset h = then_always OutcomeKept (scroll_plan d scroll Down) (λ _. Done (r, d)) (λ _. a)
 service_keeps (ReadCell page) fonts d r block fits a is unset h = then_always OutcomeKept (read_cell_service fonts page d r) (λ after.
@@ -300,82 +300,82 @@ service_keeps (WritePixel page x y colour) fonts d r block fits a is unset h = t
 service_keeps (ReadPixel page x y) fonts d r block fits a is unset h = then_always OutcomeKept (read_pixel_service page x y d r) (λ after.
     Done (after, d)) (λ _. a)
 service_keeps (Teletype character colour) fonts d r block fits a is unset h =
-    then_always_such AreData OutcomeKept (teletype_plan fonts d character colour) (λ after. Done (r, after))
-    (typed d a is unset fonts character colour (inside_near d (position_of d d.page) is.rows h)) (λ after k. k)
+    then_always_such AreValidData OutcomeKept (teletype_plan fonts d character colour) (λ after. Done (r, after))
+    (typed d a is unset fonts character colour (inside_near d (cursor_position_of d d.page) is.rows h)) (λ after k. k)
 service_keeps ReadMode fonts d r block fits a is unset h = a
 service_keeps (Colours asked_for) fonts d r block fits a is unset h = then_always OutcomeKept (colours_plan asked_for d.crtc_address r block) (λ after.
     Done (after, d)) (λ _. a)
 service_keeps ReadAdapter fonts d r block fits a is unset h = a
 service_keeps (WriteString s) fonts d r block fits a is unset h =
-    then_always_such AreData OutcomeKept (string_plan fonts d s block) (λ after. Done (r, after))
+    then_always_such AreValidData OutcomeKept (string_plan fonts d s block) (λ after. Done (r, after))
     (string d a is unset fonts s block (string_near d s (length block) is.rows h)) (λ after k. k)
 service_keeps ReadDisplay fonts d r block fits a is unset h = a
 
 -- ---- calls
 
-abbrev AnswerKept : Answered → Type 0
-AnswerKept x = AreData x.1
+abbrev AnswerKept : CallOutcome → Type 0
+AnswerKept x = AreValidData x.1
 
 -- data of a mode that is set
 mode_is_set : (mode : ℕ) → (mode == 0) ≡ false → mode ≢ 0
 mode_is_set mode e f = grind (arith, nat_tests)
 
-in_mode_keeps : (asked_for : Service) (fonts : FontSet) (d : BiosData) (r : Regs) (block : List ℕ) → FitsWords asked_for → AreData d →
+in_mode_keeps : (asked_for : Service) (fonts : FontSet) (d : BiosData) (r : Regs) (block : List ℕ) → FitsWords asked_for → AreValidData d →
     Always AnswerKept (in_mode_plan asked_for fonts d r block)
-unfolding in_mode_plan unless
+unfolding in_mode_plan unless_refused_plan
 in_mode_keeps asked_for fonts d r block fits a =
-    on_if AnswerKept (d.mode == 0) _ (unless (refusal_in_mode there d (length block)) there fonts d r block) (λ _. a) (λ e.
+    on_if AnswerKept (d.mode == 0) _ (unless_refused_plan (refusal_in_mode there d (length block)) there fonts d r block) (λ _. a) (λ e.
     by_refusal (mode_is_set d.mode e) (refusal_in_mode there d (length block)) refl)
   where
     there : Service
-    there = on_page_named d asked_for
+    there = service_on_page_meant d asked_for
 
-    by_refusal : d.mode ≢ 0 → (x : Option Refusal) → refusal_in_mode there d (length block) ≡ x → Always AnswerKept (unless x there fonts d r block)
+    by_refusal : d.mode ≢ 0 → (x : Option Refusal) → refusal_in_mode there d (length block) ≡ x → Always AnswerKept (unless_refused_plan x there fonts d r block)
     by_refusal unset (Some why) e = a
     by_refusal unset None e =
-        then_always_such OutcomeKept AnswerKept (plan_of there fonts d r block) (λ outcome. Done (answer_of outcome.0 outcome.1))
+        then_always_such OutcomeKept AnswerKept (plan_of_service there fonts d r block) (λ outcome. Done (answer_of_registers outcome.0 outcome.1))
         (service_keeps there fonts d r block (fits_there d asked_for fits) a (set_of_valid d a.valid unset) unset e) (λ outcome k. k)
 
-table_keeps : (asked_for : TableService) (d : BiosData) (r : Regs) → AreData d → Always AnswerKept (table_in_mode_plan asked_for d r)
-unfolding table_in_mode_plan table_unless
+table_keeps : (asked_for : TableService) (d : BiosData) (r : Regs) → AreValidData d → Always AnswerKept (table_in_mode_plan asked_for d r)
+unfolding table_in_mode_plan table_unless_refused_plan
 table_keeps asked_for d r a =
-    on_if AnswerKept (d.mode == 0) _ (table_unless (table_refusal asked_for) asked_for d r) (λ _. a) (λ _. by_refusal (table_refusal asked_for))
+    on_if AnswerKept (d.mode == 0) _ (table_unless_refused_plan (table_refusal asked_for) asked_for d r) (λ _. a) (λ _. by_refusal (table_refusal asked_for))
   where
-    by_refusal : (x : Option Refusal) → Always AnswerKept (table_unless x asked_for d r)
+    by_refusal : (x : Option Refusal) → Always AnswerKept (table_unless_refused_plan x asked_for d r)
     by_refusal (Some why) = a
     by_refusal None = then_always AnswerKept (table_plan asked_for d.crtc_address) (λ table. Done (answer_with table r d)) (λ _. a)
 
-set_mode_keeps : (x : Option ModeRow) (mode : ℕ) (keeps : Bool) (fonts : FontSet) (d : BiosData) (r : Regs) → mode_row mode ≡ x → AreData d →
+set_mode_keeps : (x : Option ModeRow) (mode : ℕ) (keeps : Bool) (fonts : FontSet) (d : BiosData) (r : Regs) → mode_row mode ≡ x → AreValidData d →
     Always AnswerKept (set_mode_plan x mode keeps fonts d r)
 unfolding set_mode_plan
 set_mode_keeps None mode keeps fonts d r e a = a
-set_mode_keeps (Some row) mode keeps fonts d r e a = then_always AnswerKept (mode_set_plan row keeps fonts) (λ _. Done (answer_of r (data_of_mode mode row)))
+set_mode_keeps (Some row) mode keeps fonts d r e a = then_always AnswerKept (mode_set_plan row keeps fonts) (λ _. Done (answer_of_registers r (data_of_mode mode row)))
     (λ _. begun mode row e)
 
-load_keeps : (x : Option ModeRow) (load : GlyphLoad) (fonts : FontSet) (d : BiosData) (r : Regs) (block : List ℕ) → row_at d.mode load.height ≡ x → AreData d →
-    Always AnswerKept (load_at x load fonts d r block)
-unfolding load_at
+load_keeps : (x : Option ModeRow) (load : GlyphLoad) (fonts : FontSet) (d : BiosData) (r : Regs) (block : List ℕ) → mode_row_at_height d.mode load.height ≡ x → AreValidData d →
+    Always AnswerKept (load_if_height_exists x load fonts d r block)
+unfolding load_if_height_exists
 load_keeps None load fonts d r block e a = a
-load_keeps (Some row) load fonts d r block e a = then_always AnswerKept (load_plan fonts load block row) (λ _. Done (answer_of r (data_of_mode d.mode row))) (λ _.
+load_keeps (Some row) load fonts d r block e a = then_always AnswerKept (load_plan fonts load block row) (λ _. Done (answer_of_registers r (data_of_mode d.mode row))) (λ _.
     begun_at d.mode load.height row e)
 
-load_in_mode_keeps : (load : GlyphLoad) (fonts : FontSet) (d : BiosData) (r : Regs) (block : List ℕ) → AreData d →
+load_in_mode_keeps : (load : GlyphLoad) (fonts : FontSet) (d : BiosData) (r : Regs) (block : List ℕ) → AreValidData d →
     Always AnswerKept (load_in_mode_plan load fonts d r block)
-unfolding load_in_mode_plan load_unless
+unfolding load_in_mode_plan load_unless_refused_plan
 load_in_mode_keeps load fonts d r block a =
-    on_if AnswerKept (d.mode == 0) _ (load_unless (load_refusal load d.mode (length block)) load fonts d r block) (λ _. a) (λ _.
+    on_if AnswerKept (d.mode == 0) _ (load_unless_refused_plan (load_refusal load d.mode (length block)) load fonts d r block) (λ _. a) (λ _.
     by_refusal (load_refusal load d.mode (length block)))
   where
-    by_refusal : (x : Option Refusal) → Always AnswerKept (load_unless x load fonts d r block)
+    by_refusal : (x : Option Refusal) → Always AnswerKept (load_unless_refused_plan x load fonts d r block)
     by_refusal (Some why) = a
-    by_refusal None = load_keeps (row_at d.mode load.height) load fonts d r block refl a
+    by_refusal None = load_keeps (mode_row_at_height d.mode load.height) load fonts d r block refl a
 
 -- a call whose service names a word
 abbrev CallFits : Option Call → Type 0
 CallFits (Some (InMode asked_for)) = FitsWords asked_for
 CallFits call = Unit {0}
 
-asked_keeps : (call : Option Call) (fonts : FontSet) (d : BiosData) (r : Regs) (block : List ℕ) → CallFits call → AreData d →
+asked_keeps : (call : Option Call) (fonts : FontSet) (d : BiosData) (r : Regs) (block : List ℕ) → CallFits call → AreValidData d →
     Always AnswerKept (call_plan call fonts d r block)
 asked_keeps None fonts d r block fits a = a
 asked_keeps (Some (SetMode mode keeps)) fonts d r block fits a = set_mode_keeps (mode_row mode) mode keeps fonts d r refl a
@@ -427,7 +427,7 @@ colours_fit r =
     (choose_call (al == 0x15) _ _ tt
     (choose_call (al == 0x17) _ _ tt
     (choose_call (al == 0x18) _ _ tt
-    (choose_call (al == 0x19) (colours ReadMask) None tt tt))))))))))))
+    (choose_call (al == 0x19) (colours_call ReadMask) None tt tt))))))))))))
 
 call_fits : (r : Regs) → r.dx < 65536 → CallFits (call_of r)
 call_fits r l =
@@ -435,15 +435,15 @@ call_fits r l =
     (choose_call (high r.ax == 0x10) _ _ (colours_fit r)
     (glyphs_or_fits (glyph_load_of r) _ (in_mode_fits (service_of r) (service_fits r l))))
   where
-    in_mode_fits : (x : Option Service) → IfSome x FitsWords → CallFits (in_mode x)
+    in_mode_fits : (x : Option Service) → IfSome x FitsWords → CallFits (call_in_mode x)
     in_mode_fits None f = tt
     in_mode_fits (Some asked_for) f = f
 
-    glyphs_or_fits : (g : Option GlyphLoad) (x : Option Call) → CallFits x → CallFits (glyphs_or g x)
+    glyphs_or_fits : (g : Option GlyphLoad) (x : Option Call) → CallFits x → CallFits (glyph_load_or g x)
     glyphs_or_fits None x f = f
     glyphs_or_fits (Some load) x f = tt
 
 -- so a call keeps the BIOS data valid, and their cursor positions words
-pub data_stay : (fonts : FontSet) (d : BiosData) (r : Regs) (block : List ℕ) (c : CardState) → r.dx < 65536 → AreData d →
-    AreData (run card_meaning (service fonts d r block) c).1.1
+pub data_stay : (fonts : FontSet) (d : BiosData) (r : Regs) (block : List ℕ) (c : CardState) → r.dx < 65536 → AreValidData d →
+    AreValidData (run card_meaning (service fonts d r block) c).1.1
 data_stay fonts d r block c l a = always_runs AnswerKept card_meaning (service fonts d r block) c (asked_keeps (call_of r) fonts d r block (call_fits r l) a)

@@ -10,16 +10,18 @@ use Rattle.bios_services.specs.declared.direction.Direction.{Direction}
 use Rattle.bios_services.specs.declared.direction.Direction.TheVariants.{Up, Down}
 use Rattle.bios_services.specs.declared.filling.Filling.{Filling}
 use Rattle.bios_services.specs.Plan.{Plan, Done, ◌>>◌, put, move, each, each_down}
-use Rattle.bios_services.specs.Cycles.{sequencer, graphics}
+use Rattle.bios_services.specs.Cycles.{write_sequencer, write_graphics}
 use Rattle.bios_modes.specs.Kinds.{kind_of}
 use Rattle.bios_services.specs.Kinds.{column_bytes, row_lines}
 use Rattle.bios_services.specs.Cells.{page_address}
-use Rattle.bios_services.specs.VideoRegisters.{map_mask, all_planes, graphics_mode, copy_latches}
-use Rattle.bios_services.specs.VideoRegisters.{byte_access, all_bits}
+use Rattle.bios_services.specs.VideoRegisters.{map_mask_index, all_planes, graphics_mode_index}
+use Rattle.bios_services.specs.VideoRegisters.{latch_copy_mode}
+use Rattle.bios_services.specs.VideoRegisters.{write_and_read_mode_0, all_bits}
 
 -- the address of a byte of the band, by row of characters, line of that row and byte of that line
-abbrev pub address_in : Band → ℕ → ℕ → ℕ → ℕ
-address_in band row line byte = band.start + band.pitch * (band.lines * row + line) + band.left
+abbrev pub byte_address_in_band : Band → ℕ → ℕ → ℕ → ℕ
+byte_address_in_band band row line byte =
+    band.start + band.pitch * (band.lines * row + line) + band.left
     + byte
 
 -- a band in the adapter's memory: 80 columns at most, each of eight bytes at most in a line
@@ -31,8 +33,8 @@ pub record IsBand (band : Band) : Type 0 where
   pub width : band.width ≤ 8 * 80
 
 -- `width` columns of a page from column `left` on, by how a mode uses the memory
-abbrev pub band_by : Kind → BiosData → ℕ → ℕ → ℕ → Band
-band_by kind d page left width = record {
+abbrev pub band_of_kind : Kind → BiosData → ℕ → ℕ → ℕ → Band
+band_of_kind kind d page left width = record {
   kind = kind;
   start = page_address d page;
   pitch = column_bytes kind * d.columns;
@@ -43,12 +45,12 @@ band_by kind d page left width = record {
 
 -- `width` columns of a page of the mode from column `left` on
 abbrev pub band_of : BiosData → ℕ → ℕ → ℕ → Band
-band_of d = band_by (kind_of d.mode) d
+band_of d = band_of_kind (kind_of d.mode) d
 
 -- a line of a row is copied to another row, byte by byte
 unfoldable pub copy_line : Band → ℕ → ℕ → ℕ → Plan (Unit {0})
-copy_line band from to line = each (λ i. move (address_in band from line i)
-    (address_in band to line i)) band.width 0
+copy_line band from to line = each (λ i. move (byte_address_in_band band from line i)
+    (byte_address_in_band band to line i)) band.width 0
 
 -- a row is copied to another, line by line
 unfoldable pub copy_row : Band → ℕ → ℕ → Plan (Unit {0})
@@ -61,12 +63,12 @@ move_rows band Up n top count = each (λ row. copy_row band (row + n) row) count
 move_rows band Down n top count = each_down (λ row. copy_row band row (row + n)) count top
 
 -- the bytes of blank cells: the character 20 and the attribute by turns
-abbrev pub blank : ℕ → Filling
-blank attribute = record { even = 0x20; odd = attribute }
+abbrev pub blank_cells_filling : ℕ → Filling
+blank_cells_filling attribute = record { even = 0x20; odd = attribute }
 
 -- one byte everywhere
-abbrev pub uniform : ℕ → Filling
-uniform byte = record { even = byte; odd = byte }
+abbrev pub one_byte_filling : ℕ → Filling
+one_byte_filling byte = record { even = byte; odd = byte }
 
 -- the value that byte i of a line is filled with
 abbrev pub filling_byte : Filling → ℕ → ℕ
@@ -74,7 +76,7 @@ filling_byte filling i = if i % 2 == 0 then filling.even else filling.odd
 
 -- a line of a row is filled
 unfoldable pub fill_line : Band → Filling → ℕ → ℕ → Plan (Unit {0})
-fill_line band filling row line = each (λ i. put (address_in band row line i)
+fill_line band filling row line = each (λ i. put (byte_address_in_band band row line i)
     (filling_byte filling i)) band.width 0
 
 -- a row is filled, line by line
@@ -86,33 +88,33 @@ unfoldable pub fill_rows : Band → Filling → ℕ → ℕ → Plan (Unit {0})
 fill_rows band filling top count = each (fill_row band filling) count top
 
 -- the graphics controller's read and write mode is set, which services do in 16 colours only
-abbrev pub access_plan : Kind → ℕ → Plan (Unit {0})
-access_plan Text mode = Done tt
-access_plan Planar mode = graphics graphics_mode mode
-access_plan Packed mode = Done tt
+abbrev pub set_access_plan : Kind → ℕ → Plan (Unit {0})
+set_access_plan Text mode = Done tt
+set_access_plan Planar mode = write_graphics graphics_mode_index mode
+set_access_plan Packed mode = Done tt
 
 -- count rows from row `top` on become blank in an attribute, or pixels of a colour; in 16 colours
 -- all planes become 0, and then the planes of the colour's bits FF
 unfoldable pub fill_plan : Kind → Band → ℕ → ℕ → ℕ → Plan (Unit {0})
-fill_plan Text band colour top count = fill_rows band (blank colour) top count
+fill_plan Text band colour top count = fill_rows band (blank_cells_filling colour) top count
 fill_plan Planar band colour top count = do
-  fill_rows band (uniform 0x00) top count
-  sequencer map_mask (colour % 16)
-  fill_rows band (uniform all_bits) top count
-  sequencer map_mask all_planes
-fill_plan Packed band colour top count = fill_rows band (uniform colour) top count
+  fill_rows band (one_byte_filling 0x00) top count
+  write_sequencer map_mask_index (colour % 16)
+  fill_rows band (one_byte_filling all_bits) top count
+  write_sequencer map_mask_index all_planes
+fill_plan Packed band colour top count = fill_rows band (one_byte_filling colour) top count
 
 -- the first of the rows that are to be filled after count rows have moved: below them if the window
 -- goes up, and else row `top`
-abbrev pub new_row : Direction → ℕ → ℕ → ℕ
-new_row Up top count = top + count
-new_row Down top count = top
+abbrev pub first_row_to_fill : Direction → ℕ → ℕ → ℕ
+first_row_to_fill Up top count = top + count
+first_row_to_fill Down top count = top
 
 -- height rows from row `top` on go up or down by n, and the n rows that they leave are filled; four
 -- planes are copied through the latches
 unfoldable pub scroll_rows : Band → Direction → ℕ → ℕ → ℕ → ℕ → Plan (Unit {0})
 scroll_rows band direction top height n colour = do
-  access_plan band.kind copy_latches
+  set_access_plan band.kind latch_copy_mode
   move_rows band direction n top (height - n)
-  access_plan band.kind byte_access
-  fill_plan band.kind band colour (new_row direction top (height - n)) n
+  set_access_plan band.kind write_and_read_mode_0
+  fill_plan band.kind band colour (first_row_to_fill direction top (height - n)) n

@@ -67,13 +67,13 @@ service_of r =
     else None
 
 -- a service as a call that needs a mode
-abbrev pub in_mode : Option Service → Option Call
-in_mode None = None
-in_mode (Some service) = Some (InMode service)
+abbrev pub call_in_mode : Option Service → Option Call
+call_in_mode None = None
+call_in_mode (Some service) = Some (InMode service)
 
 -- a subfunction of function 10 that answers registers alone, as a call
-abbrev pub colours : ColourService → Option Call
-colours service = Some (InMode (Colours service))
+abbrev pub colours_call : ColourService → Option Call
+colours_call service = Some (InMode (Colours service))
 
 -- the subfunction of function 10, by AL; 09 and 17 answer a table
 abbrev pub colour_call_of : Regs → Option Call
@@ -81,25 +81,25 @@ colour_call_of r =
     let al = low r.ax in
     let bh = high r.bx in
     let bl = low r.bx in
-    if al == 0x00 then colours (SetRegister bl bh)
-    else if al == 0x01 then colours (SetOverscan bh)
-    else if al == 0x02 then colours SetPalette
-    else if al == 0x03 then colours (SetBlinking bl)
-    else if al == 0x07 then colours (ReadRegister bl)
-    else if al == 0x08 then colours ReadOverscan
+    if al == 0x00 then colours_call (SetRegister bl bh)
+    else if al == 0x01 then colours_call (SetOverscan bh)
+    else if al == 0x02 then colours_call SetPalette
+    else if al == 0x03 then colours_call (SetBlinking bl)
+    else if al == 0x07 then colours_call (ReadRegister bl)
+    else if al == 0x08 then colours_call ReadOverscan
     else if al == 0x09 then Some (ReadTable ReadPalette)
-    else if al == 0x10 then colours (SetEntry r.bx (high r.dx) (high r.cx) (low r.cx))
-    else if al == 0x12 then colours (SetEntries r.bx r.cx)
-    else if al == 0x15 then colours (ReadEntry r.bx)
+    else if al == 0x10 then colours_call (SetEntry r.bx (high r.dx) (high r.cx) (low r.cx))
+    else if al == 0x12 then colours_call (SetEntries r.bx r.cx)
+    else if al == 0x15 then colours_call (ReadEntry r.bx)
     else if al == 0x17 then Some (ReadTable (ReadEntries r.bx r.cx))
-    else if al == 0x18 then colours (SetMask bl)
-    else if al == 0x19 then colours ReadMask
+    else if al == 0x18 then colours_call (SetMask bl)
+    else if al == 0x19 then colours_call ReadMask
     else None
 
 -- a load of glyphs, if the call asks for one, or else another call
-abbrev pub glyphs_or : Option GlyphLoad → Option Call → Option Call
-glyphs_or None call = call
-glyphs_or (Some load) call = Some (LoadGlyphs load)
+abbrev pub glyph_load_or : Option GlyphLoad → Option Call → Option Call
+glyph_load_or None call = call
+glyph_load_or (Some load) call = Some (LoadGlyphs load)
 
 -- what the registers ask for; function 00 sets the mode in the low seven bits of AL, and keeps the
 -- memory if bit 7 is 1
@@ -107,4 +107,4 @@ abbrev pub call_of : Regs → Option Call
 call_of r =
     if high r.ax == 0x00 then Some (SetMode (low r.ax % 128) (nat_le 128 (low r.ax)))
     else if high r.ax == 0x10 then colour_call_of r
-    else glyphs_or (glyph_load_of r) (in_mode (service_of r))
+    else glyph_load_or (glyph_load_of r) (call_in_mode (service_of r))

@@ -8,7 +8,7 @@ use Rattle.bios_services.specs.declared.regs.Regs.{Regs}
 use Rattle.bios_services.specs.declared.cell_run.CellRun.{CellRun}
 use Rattle.bios_services.specs.Plan.{Plan}
 use Rattle.bios_services.specs.Registers.{high, low}
-use Rattle.bios_services.specs.Cursor.{cursor_cell}
+use Rattle.bios_services.specs.Cursor.{cursor_cell_number}
 use Rattle.bios_services.specs.Drawing.{characters_plan}
 
 -- the run that the registers name: page BH, character AL, CX cells, colour BL; in text the colour
@@ -23,5 +23,5 @@ cell_run_of r is_attribute = record {
 
 -- the character goes to each cell of the run, from the cursor of its page on
 abbrev pub cell_run_plan : FontSet → BiosData → CellRun → Plan (Unit {0})
-cell_run_plan fonts d cells = characters_plan fonts d cells.page (cursor_cell d cells.page)
+cell_run_plan fonts d cells = characters_plan fonts d cells.page (cursor_cell_number d cells.page)
     cells.character cells.colouring cells.count

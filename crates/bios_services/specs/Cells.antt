@@ -10,13 +10,13 @@ use Rattle.bios_services.specs.Plan.{Plan, Done, ◌>>=◌, ◌>>◌, put, get}
 
 -- the address where the pages of a mode begin, by its row of the mode table; without a row, the
 -- address of graphics
-abbrev pub base_in : Option ModeRow → ℕ
-base_in None = 0xA0000
-base_in (Some row) = row.base
+abbrev pub page_base_of_row : Option ModeRow → ℕ
+page_base_of_row None = 0xA0000
+page_base_of_row (Some row) = row.base
 
 -- the address where the pages of a mode begin
 abbrev pub page_base : ℕ → ℕ
-page_base mode = base_in (mode_row mode)
+page_base mode = page_base_of_row (mode_row mode)
 
 -- the address where a page begins
 abbrev pub page_address : BiosData → ℕ → ℕ
@@ -27,8 +27,8 @@ abbrev pub cell_address : BiosData → ℕ → ℕ → ℕ
 cell_address d page q = page_address d page + 2 * q
 
 -- how many cells a page has
-abbrev pub cells_of : BiosData → ℕ
-cells_of d = d.columns * (d.last_row + 1)
+abbrev pub cells_per_page : BiosData → ℕ
+cells_per_page d = d.columns * (d.last_row + 1)
 
 -- a cell is read: the character is the low byte of the answer, the attribute its high byte
 unfoldable pub read_cell_plan : ℕ → Plan ℕ

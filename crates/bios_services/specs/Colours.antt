@@ -19,7 +19,7 @@ use Rattle.bios_services.specs.Palette.{set_register_plan, set_palette_plan, set
 use Rattle.bios_services.specs.Palette.{read_register_plan}
 use Rattle.bios_services.specs.Dac.{set_entry_plan, set_entries_plan}
 use Rattle.bios_services.specs.Reasons.{refuse_unless, or_wrong_block}
-use Rattle.bios_services.specs.VideoRegisters.{dac_mask, dac_read_index, dac_data}
+use Rattle.bios_services.specs.VideoRegisters.{dac_mask_port, dac_read_index_port, dac_data_port}
 
 -- a number is none of the 16 palette registers
 abbrev pub no_register : ℕ → Option Refusal
@@ -65,10 +65,10 @@ colour_refusal service len = or_wrong_block (colour_reason service) (colour_bloc
 -- 15: an entry of the DAC is read, red into DH, green into CH and blue into CL
 unfoldable pub read_entry_plan : ℕ → Regs → Plan Regs
 read_entry_plan entry r = do
-  out dac_read_index entry
-  red ← inp dac_data
-  green ← inp dac_data
-  blue ← inp dac_data
+  out dac_read_index_port entry
+  red ← inp dac_data_port
+  green ← inp dac_data_port
+  blue ← inp dac_data_port
   Done (record r { cx = 256 * green + blue; dx = with_high r.dx red })
 
 -- 07 and 08: a register of the attribute controller is read into BH
@@ -80,7 +80,7 @@ read_register_in_bh port register r = do
 -- 19: the DAC's mask is read into BL
 unfoldable pub read_mask_in_bl : Regs → Plan Regs
 read_mask_in_bl r = do
-  mask ← inp dac_mask
+  mask ← inp dac_mask_port
   Done (record r { bx = with_low r.bx mask })
 
 -- what a subfunction that is not refused does and answers; the CRT controller's index is at this
@@ -97,5 +97,5 @@ colours_plan (SetEntry entry red green blue) port r block = set_entry_plan entry
     >> Done r
 colours_plan (SetEntries first count) port r block = set_entries_plan first block >> Done r
 colours_plan (ReadEntry entry) port r block = read_entry_plan entry r
-colours_plan (SetMask mask) port r block = out dac_mask mask >> Done r
+colours_plan (SetMask mask) port r block = out dac_mask_port mask >> Done r
 colours_plan ReadMask port r block = read_mask_in_bl r

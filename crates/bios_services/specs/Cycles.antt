@@ -4,39 +4,41 @@
 use Rattle.std.specs.Prelude.{ℕ, ◌+◌, List, length, slice_index}
 use Rattle.bios_services.specs.Plan.{Plan, Done, ◌>>◌, out, inp, each}
 use Rattle.bios_services.specs.VideoRegisters.{attribute_port, sequencer_port, graphics_port}
-use Rattle.bios_services.specs.VideoRegisters.{palette_shown}
+use Rattle.bios_services.specs.VideoRegisters.{palette_shown_bit}
 
 -- register i of an index port is written; the data port is the next one
-abbrev pub indexed : ℕ → ℕ → ℕ → Plan (Unit {0})
-indexed port i v = do
+abbrev pub write_indexed : ℕ → ℕ → ℕ → Plan (Unit {0})
+write_indexed port i v = do
   out port i
   out (port + 1) v
 
 -- a register of the sequencer is written
-abbrev pub sequencer : ℕ → ℕ → Plan (Unit {0})
-sequencer i v = indexed sequencer_port i v
+abbrev pub write_sequencer : ℕ → ℕ → Plan (Unit {0})
+write_sequencer i v = write_indexed sequencer_port i v
 
 -- a register of the graphics controller is written
-abbrev pub graphics : ℕ → ℕ → Plan (Unit {0})
-graphics i v = indexed graphics_port i v
+abbrev pub write_graphics : ℕ → ℕ → Plan (Unit {0})
+write_graphics i v = write_indexed graphics_port i v
 
 -- a register of the CRT controller is written, whose index is at this port
-abbrev pub crtc : ℕ → ℕ → ℕ → Plan (Unit {0})
-crtc port i v = indexed port i v
+abbrev pub write_crtc : ℕ → ℕ → ℕ → Plan (Unit {0})
+write_crtc port i v = write_indexed port i v
 
 -- a register of the attribute controller is written, which expects an index
-abbrev pub attribute : ℕ → ℕ → Plan (Unit {0})
-attribute i v = do
+abbrev pub write_attribute_register : ℕ → ℕ → Plan (Unit {0})
+write_attribute_register i v = do
   out attribute_port i
   out attribute_port v
 
 -- registers 0, 1, .. of an index port are written
-unfoldable pub group : ℕ → List ℕ → Plan (Unit {0})
-group port values = each (λ i. indexed port i (slice_index values i)) (length values) 0
+unfoldable pub write_registers_from_0 : ℕ → List ℕ → Plan (Unit {0})
+write_registers_from_0 port values =
+    each (λ i. write_indexed port i (slice_index values i)) (length values) 0
 
 -- registers 0, 1, .. of the attribute controller are written, which expects an index
-unfoldable pub attribute_group : List ℕ → Plan (Unit {0})
-attribute_group values = each (λ i. attribute i (slice_index values i)) (length values) 0
+unfoldable pub write_attribute_registers : List ℕ → Plan (Unit {0})
+write_attribute_registers values =
+    each (λ i. write_attribute_register i (slice_index values i)) (length values) 0
 
 -- input status 1 is read, so that the attribute controller expects an index; the CRT controller's
 -- index is at this port
@@ -46,6 +48,6 @@ expect_index port = inp (port + 6)
 -- the palette is shown again
 abbrev pub show_palette : ℕ → Plan (Unit {0})
 show_palette port = do
-  out attribute_port palette_shown
+  out attribute_port palette_shown_bit
   expect_index port
   Done tt

@@ -4,6 +4,6 @@ use Rattle.bios_modes.specs.Bounds.{IsBda}
 use Rattle.bios_modes.specs.Valid.{IsValid}
 
 -- the data are valid, and each cursor position is a word
-pub record AreData (d : BiosData) : Type 0 where
+pub record AreValidData (d : BiosData) : Type 0 where
   pub valid : IsValid d
   pub words : IsBda d

@@ -11,15 +11,16 @@ use Rattle.bios_services.specs.declared.regs.Regs.{Regs}
 use Rattle.bios_services.specs.declared.glyph_load.GlyphLoad.{GlyphLoad}
 use Rattle.bios_services.specs.Plan.{Plan, ◌>>◌}
 use Rattle.bios_services.specs.Registers.{high, low}
-use Rattle.bios_services.specs.Cycles.{crtc}
+use Rattle.bios_services.specs.Cycles.{write_crtc}
 use Rattle.bios_modes.specs.Kinds.{is_text}
-use Rattle.bios_services.specs.ModeSet.{font_plan}
-use Rattle.bios_services.specs.Cursor.{word_plan}
+use Rattle.bios_services.specs.ModeSet.{write_font_plan}
+use Rattle.bios_services.specs.Cursor.{write_crtc_word_plan}
 use Rattle.bios_services.specs.Glyphs.{glyph_line}
 use Rattle.bios_services.specs.Reasons.{◌or◌, refuse_unless, or_wrong_block}
-use Rattle.bios_services.specs.VideoRegisters.{miscellaneous, maximum_scan_line, cursor_start}
-use Rattle.bios_services.specs.VideoRegisters.{vertical_display_end, underline_location}
-use Rattle.bios_services.specs.VideoRegisters.{start_address_high, cursor_address_high}
+use Rattle.bios_services.specs.VideoRegisters.{miscellaneous_index, maximum_scan_line_index}
+use Rattle.bios_services.specs.VideoRegisters.{cursor_start_index}
+use Rattle.bios_services.specs.VideoRegisters.{vertical_display_end_index, underline_location_index}
+use Rattle.bios_services.specs.VideoRegisters.{start_address_high_index, cursor_address_high_index}
 
 -- a load of all characters of the font of this height
 abbrev pub whole_font : ℕ → GlyphLoad
@@ -50,7 +51,7 @@ glyphs_len load = load.height * load.count
 
 -- the glyphs of a load are there: no higher than 16 scan lines, of characters up to FF, and all in
 -- the block of this length if they come from one
-pub record AreThere (load : GlyphLoad) (len : ℕ) : Type 0 where
+pub record AreGlyphsThere (load : GlyphLoad) (len : ℕ) : Type 0 where
   pub height : load.height ≤ 16
   pub last : load.first + load.count ≤ 256
   pub whole : load.is_block ≡ true → len ≡ glyphs_len load
@@ -79,11 +80,13 @@ loaded_line fonts load block c r =
 -- and the underline of this row, and shows page 0 with the cursor in its upper left corner
 unfoldable pub load_plan : FontSet → GlyphLoad → List ℕ → ModeRow → Plan (Unit {0})
 load_plan fonts load block row = do
-  font_plan (loaded_line fonts load block) load.height load.count load.first
-      (slice_index row.graphics miscellaneous)
-  crtc row.crtc_address maximum_scan_line (slice_index row.crtc maximum_scan_line)
-  word_plan row.crtc_address cursor_start row.cursor_type
-  crtc row.crtc_address vertical_display_end (slice_index row.crtc vertical_display_end)
-  crtc row.crtc_address underline_location (slice_index row.crtc underline_location)
-  word_plan row.crtc_address start_address_high 0
-  word_plan row.crtc_address cursor_address_high 0
+  write_font_plan (loaded_line fonts load block) load.height load.count load.first
+      (slice_index row.graphics miscellaneous_index)
+  write_crtc row.crtc_address maximum_scan_line_index (slice_index row.crtc maximum_scan_line_index)
+  write_crtc_word_plan row.crtc_address cursor_start_index row.cursor_type
+  write_crtc row.crtc_address vertical_display_end_index (slice_index row.crtc
+      vertical_display_end_index)
+  write_crtc row.crtc_address underline_location_index (slice_index row.crtc
+      underline_location_index)
+  write_crtc_word_plan row.crtc_address start_address_high_index 0
+  write_crtc_word_plan row.crtc_address cursor_address_high_index 0

@@ -14,20 +14,21 @@ glyph_line fonts height character r =
     else glyph_row 16 fonts.f16 character r
 
 -- whether a test holds for each of n numbers from i on
-abbrev pub all_of : (ℕ → Bool) → ℕ → ℕ → Bool
-all_of test zero i = true
-all_of test (suc n) i = test i && all_of test n (i + 1)
+abbrev pub holds_for_all : (ℕ → Bool) → ℕ → ℕ → Bool
+holds_for_all test zero i = true
+holds_for_all test (suc n) i = test i && holds_for_all test n (i + 1)
 
 -- the first of n numbers from i on for which a test holds, else 0
-abbrev pub first_of : (ℕ → Bool) → ℕ → ℕ → ℕ
-first_of test zero i = 0
-first_of test (suc n) i = if test i then i else first_of test n (i + 1)
+abbrev pub first_passing_number : (ℕ → Bool) → ℕ → ℕ → ℕ
+first_passing_number test zero i = 0
+first_passing_number test (suc n) i = if test i then i else first_passing_number test n (i + 1)
 
 -- whether a character's glyph has these lines
-unfoldable pub has_lines : FontSet → ℕ → List ℕ → ℕ → Bool
-has_lines fonts height lines character = all_of (λ r.
+unfoldable pub glyph_has_lines : FontSet → ℕ → List ℕ → ℕ → Bool
+glyph_has_lines fonts height lines character = holds_for_all (λ r.
     glyph_line fonts height character r == slice_index lines r) height 0
 
 -- the first of n characters whose glyph has these lines, else 0
-unfoldable pub first_character : FontSet → ℕ → List ℕ → ℕ → ℕ
-first_character fonts height lines n = first_of (has_lines fonts height lines) n 0
+unfoldable pub first_character_with_lines : FontSet → ℕ → List ℕ → ℕ → ℕ
+first_character_with_lines fonts height lines n =
+    first_passing_number (glyph_has_lines fonts height lines) n 0

@@ -2,7 +2,7 @@
 use Rattle.std.specs.Prelude.{ℕ, ◌<◌}
 use Rattle.bios_modes.specs.Bda.{BiosData}
 use Rattle.bios_modes.specs.Fonts.{FontSet}
-use Rattle.bios_services.specs.Bounds.{IsSet, pages_of}
+use Rattle.bios_services.specs.Bounds.{IsModeSet, page_count}
 
 -- the fonts, the data of the mode, and the number of the page
 pub record PageState : Type 0 where
@@ -16,5 +16,5 @@ page_of fonts bda number = record { fonts = fonts; bda = bda; number = number }
 
 -- a mode is set that has a page of this number
 pub record IsPage (page : PageState) : Type 0 where
-  pub set : IsSet page.bda
-  pub number : page.number < pages_of page.bda
+  pub set : IsModeSet page.bda
+  pub number : page.number < page_count page.bda

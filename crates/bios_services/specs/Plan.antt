@@ -2,7 +2,7 @@
 -- ones read.
 use Rattle.std.specs.Prelude.{ℕ, zero, suc, ◌+◌, List, [], ◌∷◌, Result}
 use Rattle.vga_bits.specs.declared.refusal.Refusal.{Refusal}
-use Rattle.vga_card.specs.Bus.{Meaning, Place, AtPort, AtAddress, byte_of as moved_byte}
+use Rattle.vga_card.specs.Bus.{BusMeaning, Place, AtPort, AtAddress, byte_or_ff as moved_byte}
 
 -- a plan is done and gives an answer, or asks for one more cycle
 pub data Plan (A : Type 0) : Type 0 where
@@ -23,14 +23,14 @@ abbrev pub ◌>>◌ : {A B : Type 0} → Plan A → Plan B → Plan B
 p >> q = p >>= λ _. q
 
 -- the byte that a read gives; FF if it is refused
-abbrev pub byte_of : Result ℕ Refusal → ℕ
-byte_of r = moved_byte r
+abbrev pub read_byte_or_ff : Result ℕ Refusal → ℕ
+read_byte_or_ff r = moved_byte r
 
 -- the state in which a plan leaves a bus, and its answer; what a refused write does is the bus's
-abbrev pub run : {S A : Type 0} → Meaning S → Plan A → S → S × A
+abbrev pub run : {S A : Type 0} → BusMeaning S → Plan A → S → S × A
 run m (Done a) s = (s, a)
 run m (Write place v rest) s = run m rest (m.write s place v).0
-run m (Read place rest) s = let r = m.read s place in run m (rest (byte_of r.1)) r.0
+run m (Read place rest) s = let r = m.read s place in run m (rest (read_byte_or_ff r.1)) r.0
 
 -- a write to a port
 abbrev pub out : ℕ → ℕ → Plan (Unit {0})

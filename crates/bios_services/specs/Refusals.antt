@@ -12,10 +12,10 @@ use Rattle.bios_services.specs.declared.call.Service.TheVariants.{ScrollDown, Re
 use Rattle.bios_services.specs.declared.call.Service.TheVariants.{WritePixel, ReadPixel, Teletype}
 use Rattle.bios_services.specs.declared.call.Service.TheVariants.{ReadMode, Colours, ReadAdapter}
 use Rattle.bios_services.specs.declared.call.Service.TheVariants.{WriteString, ReadDisplay}
-use Rattle.bios_services.specs.Bounds.{pages_of}
-use Rattle.bios_services.specs.Cursor.{cursor_cell, position_of}
-use Rattle.bios_services.specs.Cells.{cells_of}
-use Rattle.bios_services.specs.Pixels.{dots_across, dots_down}
+use Rattle.bios_services.specs.Bounds.{page_count}
+use Rattle.bios_services.specs.Cursor.{cursor_cell_number, cursor_position_of}
+use Rattle.bios_services.specs.Cells.{cells_per_page}
+use Rattle.bios_services.specs.Pixels.{pixels_across, pixels_down}
 use Rattle.bios_services.specs.Strings.{string_len}
 use Rattle.bios_services.specs.Colours.{colour_block, colour_reason}
 use Rattle.bios_services.specs.Reasons.{◌or◌, no_pixels, no_page, outside_cells, outside_page}
@@ -27,19 +27,22 @@ abbrev pub page_among : ℕ → ℕ → ℕ
 page_among pages page = if pages == 1 then 0 else page
 
 -- the page that a number means in the mode that is set
-abbrev pub page_named : BiosData → ℕ → ℕ
-page_named d page = page_among (pages_of d) page
+abbrev pub page_meant_by_number : BiosData → ℕ → ℕ
+page_meant_by_number d page = page_among (page_count d) page
 
 -- a service with the page that its number means
-abbrev pub on_page_named : BiosData → Service → Service
-on_page_named d (SetCursor page position) = SetCursor (page_named d page) position
-on_page_named d (ReadCursor page) = ReadCursor (page_named d page)
-on_page_named d (ReadCell page) = ReadCell (page_named d page)
-on_page_named d (WriteCells cells) = WriteCells (record cells { page = page_named d cells.page })
-on_page_named d (WritePixel page x y colour) = WritePixel (page_named d page) x y colour
-on_page_named d (ReadPixel page x y) = ReadPixel (page_named d page) x y
-on_page_named d (WriteString s) = WriteString (record s { page = page_named d s.page })
-on_page_named d service = service
+abbrev pub service_on_page_meant : BiosData → Service → Service
+service_on_page_meant d (SetCursor page position) = SetCursor (page_meant_by_number d page) position
+service_on_page_meant d (ReadCursor page) = ReadCursor (page_meant_by_number d page)
+service_on_page_meant d (ReadCell page) = ReadCell (page_meant_by_number d page)
+service_on_page_meant d (WriteCells cells) =
+    WriteCells (record cells { page = page_meant_by_number d cells.page })
+service_on_page_meant d (WritePixel page x y colour) =
+    WritePixel (page_meant_by_number d page) x y colour
+service_on_page_meant d (ReadPixel page x y) = ReadPixel (page_meant_by_number d page) x y
+service_on_page_meant d (WriteString s) =
+    WriteString (record s { page = page_meant_by_number d s.page })
+service_on_page_meant d service = service
 
 -- how many bytes the block of a service has; None if it reads no block
 abbrev pub service_block : Service → Option ℕ
@@ -50,33 +53,33 @@ service_block other = None
 -- why a service is refused whatever its block: the first of its reasons
 abbrev pub reason_in_mode : Service → BiosData → Option Refusal
 reason_in_mode (SetCursorType cursor_type) d = None
-reason_in_mode (SetCursor page position) d = no_page (pages_of d) page
-reason_in_mode (ReadCursor page) d = no_page (pages_of d) page
-reason_in_mode (SelectPage page) d = no_page (pages_of d) page
+reason_in_mode (SetCursor page position) d = no_page (page_count d) page
+reason_in_mode (ReadCursor page) d = no_page (page_count d) page
+reason_in_mode (SelectPage page) d = no_page (page_count d) page
 reason_in_mode (ScrollUp scroll) d = None
 reason_in_mode (ScrollDown scroll) d = None
 reason_in_mode (ReadCell page) d =
-    no_page (pages_of d) page
-    or outside_cells (cells_of d) (cursor_cell d page)
+    no_page (page_count d) page
+    or outside_cells (cells_per_page d) (cursor_cell_number d page)
 reason_in_mode (WriteCells cells) d =
-    no_page (pages_of d) cells.page
-    or outside_cells (cells_of d) (cursor_cell d cells.page)
-    or past_cells (cells_of d) (cursor_cell d cells.page) cells.count
+    no_page (page_count d) cells.page
+    or outside_cells (cells_per_page d) (cursor_cell_number d cells.page)
+    or past_cells (cells_per_page d) (cursor_cell_number d cells.page) cells.count
 reason_in_mode (WritePixel page x y colour) d =
     no_pixels d.mode
-    or no_page (pages_of d) page
-    or outside_pixels (dots_across d) (dots_down d) x y
+    or no_page (page_count d) page
+    or outside_pixels (pixels_across d) (pixels_down d) x y
 reason_in_mode (ReadPixel page x y) d =
     no_pixels d.mode
-    or no_page (pages_of d) page
-    or outside_pixels (dots_across d) (dots_down d) x y
+    or no_page (page_count d) page
+    or outside_pixels (pixels_across d) (pixels_down d) x y
 reason_in_mode (Teletype character colour) d =
-    outside_page (d.last_row + 1) d.columns (position_of d d.page)
+    outside_page (d.last_row + 1) d.columns (cursor_position_of d d.page)
 reason_in_mode ReadMode d = None
 reason_in_mode (Colours service) d = colour_reason service
 reason_in_mode ReadAdapter d = None
 reason_in_mode (WriteString string) d =
-    no_page (pages_of d) string.page
+    no_page (page_count d) string.page
     or outside_page (d.last_row + 1) d.columns string.position
 reason_in_mode ReadDisplay d = None
 

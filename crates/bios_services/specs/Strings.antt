@@ -25,16 +25,16 @@ string_of r = record {
 }
 
 -- how many bytes of the block belong to a character
-abbrev pub stride : StringCall → ℕ
-stride s = if s.has_attributes then 2 else 1
+abbrev pub bytes_per_character : StringCall → ℕ
+bytes_per_character s = if s.has_attributes then 2 else 1
 
 -- how many bytes the block of a string has
 abbrev pub string_len : StringCall → ℕ
-string_len s = stride s * s.count
+string_len s = bytes_per_character s * s.count
 
 -- character i of the block
 abbrev pub character_at : StringCall → List ℕ → ℕ → ℕ
-character_at s block i = slice_index block (stride s * i)
+character_at s block i = slice_index block (bytes_per_character s * i)
 
 -- the colour in which character i of the block is typed
 abbrev pub colouring_of_character : StringCall → List ℕ → ℕ → Colouring

@@ -10,9 +10,9 @@ use Rattle.bios_services.specs.declared.tables.TableService.{TableService}
 use Rattle.bios_services.specs.declared.tables.TableService.TheVariants.{ReadPalette, ReadEntries}
 use Rattle.bios_services.specs.Plan.{Plan, Done, ◌>>=◌, ◌>>◌, out, inp, gather}
 use Rattle.bios_services.specs.Cycles.{expect_index}
-use Rattle.bios_services.specs.Palette.{register_plan}
+use Rattle.bios_services.specs.Palette.{read_register_at_index_plan}
 use Rattle.bios_services.specs.Colours.{has_entries, no_entries}
-use Rattle.bios_services.specs.VideoRegisters.{dac_read_index, dac_data}
+use Rattle.bios_services.specs.VideoRegisters.{dac_read_index_port, dac_data_port}
 
 -- why a subfunction that answers a table is refused
 abbrev pub table_refusal : TableService → Option Refusal
@@ -20,9 +20,9 @@ table_refusal ReadPalette = None
 table_refusal (ReadEntries first count) = no_entries first count
 
 -- whether a subfunction allocates memory: 17 does if it is not refused and there is an entry
-abbrev pub table_takes_memory : TableService → Bool
-table_takes_memory ReadPalette = false
-table_takes_memory (ReadEntries first count) = has_entries first count && nat_lt 0 count
+abbrev pub table_allocates_memory : TableService → Bool
+table_allocates_memory ReadPalette = false
+table_allocates_memory (ReadEntries first count) = has_entries first count && nat_lt 0 count
 
 -- the register whose value is byte i of the palette: the 16 palette registers, and then the
 -- overscan colour
@@ -31,24 +31,25 @@ palette_register i = if i == 16 then 0x11 else i
 
 -- the palette registers and the overscan colour, 17 bytes, are read; the attribute controller
 -- expects an index
-unfoldable pub registers_plan : ℕ → Plan (List ℕ)
-registers_plan port = gather (λ i. register_plan port (palette_register i)) 17 0
+unfoldable pub read_palette_registers_plan : ℕ → Plan (List ℕ)
+read_palette_registers_plan port =
+    gather (λ i. read_register_at_index_plan port (palette_register i)) 17 0
 
 -- 09: the 16 palette registers and the overscan colour are read; the CRT controller's index is at
 -- this port
 unfoldable pub read_palette_and_overscan_plan : ℕ → Plan (List ℕ)
 read_palette_and_overscan_plan port = do
   expect_index port
-  registers_plan port
+  read_palette_registers_plan port
 
 -- n bytes are read from the DAC's data
 unfoldable pub read_components_plan : ℕ → Plan (List ℕ)
-read_components_plan n = gather (λ i. inp dac_data) n 0
+read_components_plan n = gather (λ i. inp dac_data_port) n 0
 
 -- 17: red, green and blue of count entries are read, from entry `first` on
 unfoldable pub read_entries_plan : ℕ → ℕ → Plan (List ℕ)
 read_entries_plan first count = do
-  out dac_read_index first
+  out dac_read_index_port first
   read_components_plan (3 * count)
 
 -- what a subfunction that is not refused does and answers; the CRT controller's index is at this

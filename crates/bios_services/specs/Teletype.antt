@@ -6,7 +6,7 @@ use Rattle.bios_modes.specs.Fonts.{FontSet}
 use Rattle.bios_services.specs.declared.colouring.Colouring.{Colouring}
 use Rattle.bios_services.specs.Plan.{Plan, Done, ◌>>=◌, ◌>>◌, get}
 use Rattle.bios_modes.specs.Kinds.{is_text}
-use Rattle.bios_services.specs.Cursor.{row_of, column_of, cell_number, position_of}
+use Rattle.bios_services.specs.Cursor.{row_of, column_of, cell_number, cursor_position_of}
 use Rattle.bios_services.specs.Cursor.{move_cursor_plan}
 use Rattle.bios_services.specs.Cells.{cell_address}
 use Rattle.bios_services.specs.Scroll.{page_up_plan}
@@ -43,8 +43,8 @@ next_position_plan d page position =
       Done (line_start below))
 
 -- a character is written at a position; the answer is the position after it
-unfoldable pub show_plan : FontSet → BiosData → ℕ → ℕ → ℕ → Colouring → Plan ℕ
-show_plan fonts d page position character colouring = do
+unfoldable pub write_and_advance_plan : FontSet → BiosData → ℕ → ℕ → ℕ → Colouring → Plan ℕ
+write_and_advance_plan fonts d page position character colouring = do
   character_plan fonts d page (cell_number d position) character colouring
   next_position_plan d page position
 
@@ -57,11 +57,11 @@ type_plan fonts d page position character colouring =
     else if character == 0x08 then Done (if column_of position == 0 then position else position - 1)
     else if character == 0x0A then line_feed_plan d page position
     else if character == 0x0D then Done (line_start position)
-    else show_plan fonts d page position character colouring
+    else write_and_advance_plan fonts d page position character colouring
 
 -- a colour for pixels, with which cells of text keep their attributes
-abbrev pub dots_in : ℕ → Colouring
-dots_in colour = record { colour = colour; is_attribute = false }
+abbrev pub pixel_colouring : ℕ → Colouring
+pixel_colouring colour = record { colour = colour; is_attribute = false }
 
 -- 0E: a character is typed at the cursor of the active page, and the cursor moves to the position
 -- afterwards; for a bell nothing happens
@@ -69,5 +69,6 @@ unfoldable pub teletype_plan : FontSet → BiosData → ℕ → ℕ → Plan Bio
 teletype_plan fonts d character colour =
     if character == 0x07 then Done d
     else (do
-      position ← type_plan fonts d d.page (position_of d d.page) character (dots_in colour)
+      position ← type_plan fonts d d.page (cursor_position_of d d.page) character
+      (pixel_colouring colour)
       move_cursor_plan d d.page position)

@@ -1,16 +1,17 @@
 //! Neighbouring columns of a page, as bytes of its lines.
 ghost use Rattle.std.specs.Prelude.{◌≡◌, ◌<◌, ◌≤◌, ◌+◌, ◌-◌, ◌*◌, ◌^◌};
 ghost use Rattle.bios_services.specs.Plan.{run};
-ghost use Rattle.bios_services.specs.Bounds.{IsSet, pages_of, reached_cells, reached_rows};
-ghost use Rattle.bios_services.specs.Bands.{IsBand, address_in, band_of};
+ghost use Rattle.bios_services.specs.Bounds.{IsModeSet, page_count, cells_bound, rows_bound};
+ghost use Rattle.bios_services.specs.Bands.{IsBand, byte_address_in_band, band_of};
 ghost use Rattle.bios_services.specs.Bands.{copy_line as copy_line_plan, copy_row as copy_row_plan};
 ghost use Rattle.bios_services.specs.Bands.{move_rows as move_rows_plan};
 ghost use Rattle.bios_services.specs.Bands.{fill_line as fill_line_plan, fill_row as fill_row_plan};
-ghost use Rattle.bios_services.specs.Bands.{fill_rows as fill_rows_plan, access_plan, fill_plan};
+ghost use Rattle.bios_services.specs.Bands.{fill_rows as fill_rows_plan, set_access_plan};
+ghost use Rattle.bios_services.specs.Bands.{fill_plan};
 ghost use Rattle.bios_services.specs.Bands.{scroll_rows as scroll_rows_plan};
 
 use crate::cells::page_address;
-use crate::cycles::{graphics, move_bytes, put_in_turn, sequencer};
+use crate::cycles::{move_bytes, put_in_turn, write_graphics, write_sequencer};
 use crate::direction::Direction;
 use crate::filling::Filling;
 use crate::kind::{Kind, by_kind, column_bytes, kind_of, row_lines};
@@ -40,16 +41,16 @@ pub struct Band {
 
 /// Sets the graphics controller's read and write mode, in 16 colours only.
 pub(crate) fn set_access<B: Bus>(bus: &mut B, kind: Kind, mode: u8)
-    ensures { bus.new ≡ (run B.meaning (access_plan kind mode) bus.old).0 }
+    ensures { bus.new ≡ (run B.meaning (set_access_plan kind mode) bus.old).0 }
 {
-    by_kind!(kind, Text => {}, Planar => graphics(bus, GRAPHICS_MODE, mode), Packed => {})
+    by_kind!(kind, Text => {}, Planar => write_graphics(bus, GRAPHICS_MODE, mode), Packed => {})
 }
 
 impl Band {
     /// `width` columns of a page, from column `left` on.
     pub(crate) fn of_columns(bda: &Bda, page: u8, left: u32, width: u32) -> Band
-        requires data { IsSet bda.now }
-        requires page { page < pages_of bda.now }
+        requires data { IsModeSet bda.now }
+        requires page { page < page_count bda.now }
         requires columns { left + width ≤ 80 }
         ensures value { result ≡ band_of bda.now page left width }
         ensures band { IsBand result }
@@ -69,10 +70,10 @@ impl Band {
     /// The address of a byte, by row of characters, line of that row and byte of that line.
     pub(crate) fn address(self, row: u32, line: u32, byte: u32) -> u32
         requires band { IsBand self }
-        requires row { row < reached_cells }
+        requires row { row < cells_bound }
         requires line { line ≤ 16 }
         requires byte { byte ≤ 8 * 80 }
-        ensures value { result ≡ address_in self row line byte }
+        ensures value { result ≡ byte_address_in_band self row line byte }
         ensures small { result < 2 ^ 31 }
     {
         self.start + self.pitch * (self.lines * row + line) + self.left + byte
@@ -82,8 +83,8 @@ impl Band {
     #[tactic(auto, using(crate::proofs::PlanRuns::run_bind), unfolding(crate::specs::Bands::copy_line))]
     fn copy_line<B: Bus>(self, bus: &mut B, from: u32, to: u32, line: u32)
         requires band { IsBand self }
-        requires from { from < reached_rows }
-        requires to { to < reached_rows }
+        requires from { from < rows_bound }
+        requires to { to < rows_bound }
         requires line { line ≤ 16 }
         ensures { bus.new ≡ (run B.meaning (copy_line_plan self from to line) bus.old).0 }
     {
@@ -96,8 +97,8 @@ impl Band {
     #[tactic(auto, using(crate::proofs::PlanRuns::run_bind), unfolding(crate::specs::Bands::copy_row))]
     fn copy_row<B: Bus>(self, bus: &mut B, from: u32, to: u32)
         requires band { IsBand self }
-        requires from { from < reached_rows }
-        requires to { to < reached_rows }
+        requires from { from < rows_bound }
+        requires to { to < rows_bound }
         ensures { bus.new ≡ (run B.meaning (copy_row_plan self from to) bus.old).0 }
     {
         for line in 0..self.lines {
@@ -110,7 +111,7 @@ impl Band {
     #[tactic(auto, using(crate::proofs::PlanRuns::run_bind), unfolding(crate::specs::Bands::move_rows))]
     fn move_rows<B: Bus>(self, bus: &mut B, shift: Shift, top: u32, count: u32)
         requires band { IsBand self }
-        requires rows { top + count + shift.rows ≤ reached_rows }
+        requires rows { top + count + shift.rows ≤ rows_bound }
         ensures { bus.new ≡ (run B.meaning (move_rows_plan self shift.direction shift.rows top
             count) bus.old).0 }
     {
@@ -132,7 +133,7 @@ impl Band {
     #[tactic(auto, using(crate::proofs::PlanRuns::run_bind), unfolding(crate::specs::Bands::fill_line))]
     fn fill_line<B: Bus>(self, bus: &mut B, filling: Filling, row: u32, line: u32)
         requires band { IsBand self }
-        requires row { row < reached_cells }
+        requires row { row < cells_bound }
         requires line { line ≤ 16 }
         ensures { bus.new ≡ (run B.meaning (fill_line_plan self filling row line) bus.old).0 }
     {
@@ -144,7 +145,7 @@ impl Band {
     #[tactic(auto, using(crate::proofs::PlanRuns::run_bind), unfolding(crate::specs::Bands::fill_row))]
     pub(crate) fn fill_row<B: Bus>(self, bus: &mut B, filling: Filling, row: u32)
         requires band { IsBand self }
-        requires row { row < reached_cells }
+        requires row { row < cells_bound }
         ensures { bus.new ≡ (run B.meaning (fill_row_plan self filling row) bus.old).0 }
     {
         for line in 0..self.lines {
@@ -156,7 +157,7 @@ impl Band {
     #[tactic(auto, using(crate::proofs::PlanRuns::run_bind), unfolding(crate::specs::Bands::fill_rows))]
     fn fill_rows<B: Bus>(self, bus: &mut B, filling: Filling, top: u32, count: u32)
         requires band { IsBand self }
-        requires rows { top + count ≤ reached_rows }
+        requires rows { top + count ≤ rows_bound }
         ensures { bus.new ≡ (run B.meaning (fill_rows_plan self filling top count) bus.old).0 }
     {
         for row in top..top + count {
@@ -168,19 +169,19 @@ impl Band {
     #[tactic(auto, using(crate::proofs::PlanRuns::run_bind), unfolding(crate::specs::Bands::fill_plan))]
     fn fill<B: Bus>(self, bus: &mut B, colour: u8, top: u32, count: u32)
         requires band { IsBand self }
-        requires rows { top + count ≤ reached_rows }
+        requires rows { top + count ≤ rows_bound }
         ensures { bus.new ≡ (run B.meaning (fill_plan self.kind self colour top count) bus.old).0 }
     {
         by_kind!(
             self.kind,
-            Text => self.fill_rows(bus, Filling::blank(colour), top, count),
+            Text => self.fill_rows(bus, Filling::blank_cells(colour), top, count),
             Planar => {
-                self.fill_rows(bus, Filling::uniform(0x00), top, count);
-                sequencer(bus, MAP_MASK, colour % 16);
-                self.fill_rows(bus, Filling::uniform(ALL_BITS), top, count);
-                sequencer(bus, MAP_MASK, ALL_PLANES);
+                self.fill_rows(bus, Filling::one_byte_everywhere(0x00), top, count);
+                write_sequencer(bus, MAP_MASK, colour % 16);
+                self.fill_rows(bus, Filling::one_byte_everywhere(ALL_BITS), top, count);
+                write_sequencer(bus, MAP_MASK, ALL_PLANES);
             },
-            Packed => self.fill_rows(bus, Filling::uniform(colour), top, count),
+            Packed => self.fill_rows(bus, Filling::one_byte_everywhere(colour), top, count),
         )
     }
 
@@ -189,7 +190,7 @@ impl Band {
     #[tactic(auto, using(crate::proofs::PlanRuns::run_bind), unfolding(crate::specs::Bands::scroll_rows))]
     pub(crate) fn scroll_rows<B: Bus>(self, bus: &mut B, shift: Shift, top: u32, height: u32)
         requires band { IsBand self }
-        requires rows { top + height ≤ reached_rows }
+        requires rows { top + height ≤ rows_bound }
         requires few { shift.rows ≤ height }
         ensures { bus.new ≡ (run B.meaning (scroll_rows_plan self shift.direction top height
             shift.rows shift.colour) bus.old).0 }
@@ -198,7 +199,7 @@ impl Band {
         set_access(bus, self.kind, COPY_LATCHES);
         self.move_rows(bus, shift, top, stay);
         set_access(bus, self.kind, BYTE_ACCESS);
-        let first_new = shift.direction.new_row(top, stay);
+        let first_new = shift.direction.first_row_to_fill(top, stay);
         self.fill(bus, shift.colour, first_new, shift.rows);
     }
 }

@@ -1,7 +1,7 @@
 //! The block of a call: what it reads of the caller's memory.
 ghost use Rattle.std.specs.Prelude.{◌≡◌};
 ghost use Rattle.bios_services.specs.Calls.{call_of};
-ghost use Rattle.bios_services.specs.Blocks.{block_of, block_len, is_at_dx};
+ghost use Rattle.bios_services.specs.Blocks.{block_len_if_any, block_len, is_block_at_dx};
 
 use crate::call::{Call, decode};
 use crate::regs::{Regs, high};
@@ -17,7 +17,7 @@ pub struct BlockSpan {
 
 /// How many bytes the block of a call has, if it reads one.
 fn block(call: Option<Call>) -> Option<usize>
-    ensures { result ≡ block_of call }
+    ensures { result ≡ block_len_if_any call }
 {
     match call {
         Some(Call::InMode(service)) => service.block(),
@@ -29,9 +29,9 @@ fn block(call: Option<Call>) -> Option<usize>
 impl BlockSpan {
     /// What a call reads with these registers. With a block of just `len` bytes `int10` never
     /// answers `BadBlock`.
-    pub fn of(regs: Regs) -> BlockSpan
+    pub fn of_registers(regs: Regs) -> BlockSpan
         ensures len { result.len ≡ block_len (call_of regs) }
-        ensures place { result.is_at_dx ≡ is_at_dx regs }
+        ensures place { result.is_at_dx ≡ is_block_at_dx regs }
     {
         BlockSpan {
             len: block(decode(regs)).unwrap_or(0),

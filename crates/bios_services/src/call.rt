@@ -156,8 +156,8 @@ fn service_of(regs: Regs) -> Option<Service>
         0x06 => Some(Service::ScrollUp { scroll }),
         0x07 => Some(Service::ScrollDown { scroll }),
         0x08 => Some(Service::ReadCell { page }),
-        0x09 => Some(Service::WriteCells(CellRun::of(regs, true))),
-        0x0A => Some(Service::WriteCells(CellRun::of(regs, false))),
+        0x09 => Some(Service::WriteCells(CellRun::of_registers(regs, true))),
+        0x0A => Some(Service::WriteCells(CellRun::of_registers(regs, false))),
         0x0C => Some(Service::WritePixel {
             page,
             x,
@@ -171,7 +171,7 @@ fn service_of(regs: Regs) -> Option<Service>
         }),
         0x0F => Some(Service::ReadMode),
         0x12 if low(regs.bx) == 0x10 => Some(Service::ReadAdapter),
-        0x13 if al < 4 => Some(Service::WriteString(StringCall::of(regs))),
+        0x13 if al < 4 => Some(Service::WriteString(StringCall::of_registers(regs))),
         0x1A if al == 0x00 => Some(Service::ReadDisplay),
         _ => None,
     }
@@ -191,7 +191,7 @@ pub(crate) fn decode(regs: Regs) -> Option<Call>
     if high(regs.ax) == 0x10 {
         return colour_call_of(regs);
     }
-    if let Some(load) = GlyphLoad::of(regs) {
+    if let Some(load) = GlyphLoad::of_registers(regs) {
         return Some(Call::LoadGlyphs(load));
     }
     match service_of(regs) {

@@ -1,13 +1,13 @@
 //! Functions 09 and 0A: writing a character to a run of cells.
 ghost use Rattle.std.specs.Prelude.{◌≡◌, ◌<◌, ◌≤◌, ◌+◌};
 ghost use Rattle.bios_services.specs.Plan.{run};
-ghost use Rattle.bios_services.specs.Bounds.{IsSet, pages_of, reached_cells};
+ghost use Rattle.bios_services.specs.Bounds.{IsModeSet, page_count, cells_bound};
 ghost use Rattle.bios_services.specs.CellRuns.{cell_run_of, cell_run_plan};
 ghost use Rattle.bios_services.specs.Drawing.{characters_plan};
 ghost use Rattle.bios_services.specs.Page.{IsPage};
 
 use crate::colouring::Colouring;
-use crate::cursor::cursor_cell;
+use crate::cursor::cursor_cell_number;
 use crate::drawing::write_character;
 use crate::page::Page;
 use crate::regs::{Regs, high, low};
@@ -25,7 +25,7 @@ pub struct CellRun {
 
 impl CellRun {
     /// The run that the registers name. In text, its cells get the attribute or keep their own.
-    pub(crate) fn of(regs: Regs, is_attribute: bool) -> CellRun
+    pub(crate) fn of_registers(regs: Regs, is_attribute: bool) -> CellRun
         ensures { result ≡ cell_run_of regs is_attribute }
     {
         CellRun {
@@ -43,7 +43,7 @@ impl CellRun {
     #[tactic(auto, using(crate::proofs::PlanRuns::run_bind), unfolding(crate::specs::Drawing::characters_plan))]
     fn write_from<B: Bus>(self, bus: &mut B, page: &Page<'_>, first: u32)
         requires page { IsPage page.now }
-        requires cells { first + self.count ≤ reached_cells }
+        requires cells { first + self.count ≤ cells_bound }
         ensures { bus.new ≡ (run B.meaning (characters_plan page.now.fonts page.now.bda
             page.now.number first self.character self.colouring self.count) bus.old).0 }
     {
@@ -54,11 +54,11 @@ impl CellRun {
 
     /// Writes the character to the cells of the run.
     pub(crate) fn write<B: Bus>(self, bus: &mut B, fonts: &Fonts, bda: &Bda)
-        requires data { IsSet bda.now }
-        requires page { self.page < pages_of bda.now }
+        requires data { IsModeSet bda.now }
+        requires page { self.page < page_count bda.now }
         ensures { bus.new ≡ (run B.meaning (cell_run_plan fonts.now bda.now self) bus.old).0 }
     {
         let page = Page::new(fonts, bda, self.page);
-        self.write_from(bus, &page, cursor_cell(bda, self.page));
+        self.write_from(bus, &page, cursor_cell_number(bda, self.page));
     }
 }

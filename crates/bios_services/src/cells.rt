@@ -1,10 +1,10 @@
 //! Cells of characters: where they lie in memory, and how text is read and written.
 ghost use Rattle.std.specs.Prelude.{◌≡◌, ◌<◌, ◌≤◌, ◌+◌, ◌*◌, ◌^◌};
 ghost use Rattle.bios_services.specs.Plan.{run};
-ghost use Rattle.bios_services.specs.Bounds.{IsSet, pages_of, reached_cells};
+ghost use Rattle.bios_services.specs.Bounds.{IsModeSet, page_count, cells_bound};
 ghost use Rattle.bios_services.specs.Cells.{page_base as page_base_of};
 ghost use Rattle.bios_services.specs.Cells.{page_address as page_address_of};
-ghost use Rattle.bios_services.specs.Cells.{cell_address as cell_address_of, cells_of};
+ghost use Rattle.bios_services.specs.Cells.{cell_address as cell_address_of, cells_per_page};
 ghost use Rattle.bios_services.specs.Cells.{read_cell_plan, attribute_plan, write_cell_plan};
 
 use crate::colouring::Colouring;
@@ -29,8 +29,8 @@ fn page_base(mode: u8) -> u32
 
 /// The address where a page begins.
 pub(crate) fn page_address(bda: &Bda, page: u8) -> u32
-    requires data { IsSet bda.now }
-    requires page { page < pages_of bda.now }
+    requires data { IsModeSet bda.now }
+    requires page { page < page_count bda.now }
     ensures value { result ≡ page_address_of bda.now page }
     ensures small { result < 2 ^ 20 }
 {
@@ -39,9 +39,9 @@ pub(crate) fn page_address(bda: &Bda, page: u8) -> u32
 
 /// The address of cell q of a page of text.
 pub(crate) fn cell_address(bda: &Bda, page: u8, q: u32) -> u32
-    requires data { IsSet bda.now }
-    requires page { page < pages_of bda.now }
-    requires cell { q < reached_cells }
+    requires data { IsModeSet bda.now }
+    requires page { page < page_count bda.now }
+    requires cell { q < cells_bound }
     ensures value { result ≡ cell_address_of bda.now page q }
     ensures small { result < 2 ^ 21 }
 {
@@ -50,8 +50,8 @@ pub(crate) fn cell_address(bda: &Bda, page: u8, q: u32) -> u32
 
 /// How many cells a page has.
 pub(crate) fn cells(bda: &Bda) -> u32
-    requires { IsSet bda.now }
-    ensures { result ≡ cells_of bda.now }
+    requires { IsModeSet bda.now }
+    ensures { result ≡ cells_per_page bda.now }
 {
     bda.columns() as u32 * (bda.last_row() as u32 + 1)
 }

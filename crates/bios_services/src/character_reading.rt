@@ -1,16 +1,17 @@
 //! Reading the character of a cell of pixels.
 ghost use Rattle.std.specs.Prelude.{◌≡◌, ◌<◌, ◌+◌, ◌^◌, length};
-ghost use Rattle.bios_services.specs.Bounds.{reached_cells};
+ghost use Rattle.bios_services.specs.Bounds.{cells_bound};
 ghost use Rattle.bios_services.specs.Plan.{run};
 ghost use Rattle.bios_services.specs.Bands.{IsBand};
 ghost use Rattle.bios_services.specs.CharacterReading.{shift_dot as shift_dot_plan};
-ghost use Rattle.bios_services.specs.CharacterReading.{packed_line as packed_line_plan, line_plan};
-ghost use Rattle.bios_services.specs.CharacterReading.{lines_plan, read_character_plan};
+ghost use Rattle.bios_services.specs.CharacterReading.{read_packed_line as packed_line_plan};
+ghost use Rattle.bios_services.specs.CharacterReading.{read_line_plan};
+ghost use Rattle.bios_services.specs.CharacterReading.{read_lines_plan, read_character_plan};
 
 use crate::band::set_access;
 use crate::cycles::get;
 use crate::dot_cell::DotCell;
-use crate::glyphs::first_character;
+use crate::glyphs::first_character_with_lines;
 use crate::kind::{Kind, by_kind};
 use crate::video_registers::{BYTE_ACCESS, COMPARE_COLOURS};
 use bios_modes::Fonts;
@@ -32,8 +33,8 @@ fn shift_dot<B: Bus>(bus: &mut B, address: u32, line: u8) -> u8
 }
 
 /// Reads the line of eight pixels at an address of 256 colours: a bit is 1 if its pixel is not 0.
-#[tactic(auto, using(crate::proofs::PlanRuns::run_bind), unfolding(crate::specs::CharacterReading::packed_line))]
-fn packed_line<B: Bus>(bus: &mut B, address: u32) -> u8
+#[tactic(auto, using(crate::proofs::PlanRuns::run_bind), unfolding(crate::specs::CharacterReading::read_packed_line))]
+fn read_packed_line<B: Bus>(bus: &mut B, address: u32) -> u8
     requires { address < 2 ^ 31 }
     ensures { (bus.new, result) ≡ run B.meaning (packed_line_plan address) bus.old }
 {
@@ -45,26 +46,27 @@ fn packed_line<B: Bus>(bus: &mut B, address: u32) -> u8
 }
 
 /// Reads which pixels of a line of a cell are not 0.
-#[tactic(auto, using(crate::proofs::PlanRuns::run_bind), unfolding(crate::specs::CharacterReading::line_plan))]
+#[tactic(auto, using(crate::proofs::PlanRuns::run_bind), unfolding(crate::specs::CharacterReading::read_line_plan))]
 fn read_line<B: Bus>(bus: &mut B, kind: Kind, address: u32) -> u8
     requires { address < 2 ^ 31 }
-    ensures { (bus.new, result) ≡ run B.meaning (line_plan kind address) bus.old }
+    ensures { (bus.new, result) ≡ run B.meaning (read_line_plan kind address) bus.old }
 {
     by_kind!(
         kind,
         Text => 0,
         Planar => 255 - get(bus, address),
-        Packed => packed_line(bus, address),
+        Packed => read_packed_line(bus, address),
     )
 }
 
 /// Reads the lines of a cell from the top.
-#[tactic(auto, using(crate::proofs::PlanRuns::run_bind), unfolding(crate::specs::CharacterReading::lines_plan))]
+#[tactic(auto, using(crate::proofs::PlanRuns::run_bind), unfolding(crate::specs::CharacterReading::read_lines_plan))]
 fn read_lines<B: Bus>(bus: &mut B, cell: DotCell, lines: &mut [u8])
     requires band { IsBand cell.band }
-    requires row { cell.row < reached_cells }
+    requires row { cell.row < cells_bound }
     requires count { length lines.old ≡ cell.band.lines }
-    ensures lines { (bus.new, lines.new) ≡ run B.meaning (lines_plan cell.band cell.row) bus.old }
+    ensures lines { (bus.new, lines.new) ≡ run B.meaning (read_lines_plan cell.band cell.row)
+        bus.old }
     ensures count { length lines.new ≡ cell.band.lines }
 {
     for r in 0..lines.len() {
@@ -76,7 +78,7 @@ fn read_lines<B: Bus>(bus: &mut B, cell: DotCell, lines: &mut [u8])
 #[tactic(auto, using(crate::proofs::PlanRuns::run_bind), unfolding(crate::specs::CharacterReading::read_character_plan))]
 pub(crate) fn read_character<B: Bus>(bus: &mut B, cell: DotCell, fonts: &Fonts) -> u8
     requires band { IsBand cell.band }
-    requires row { cell.row < reached_cells }
+    requires row { cell.row < cells_bound }
     ensures { (bus.new, result) ≡ run B.meaning (read_character_plan cell.band cell.row fonts.now)
         bus.old }
 {
@@ -85,5 +87,5 @@ pub(crate) fn read_character<B: Bus>(bus: &mut B, cell: DotCell, fonts: &Fonts) 
     set_access(bus, cell.band.kind, COMPARE_COLOURS);
     read_lines(bus, cell, lines);
     set_access(bus, cell.band.kind, BYTE_ACCESS);
-    first_character(fonts, cell.band.lines, lines, CHARACTERS)
+    first_character_with_lines(fonts, cell.band.lines, lines, CHARACTERS)
 }

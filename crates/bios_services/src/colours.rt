@@ -1,6 +1,6 @@
 //! Function 10, by its subfunctions.
 ghost use Rattle.std.specs.Prelude.{◌≡◌, ◌<◌, None, length};
-ghost use Rattle.bios_services.specs.Bounds.{ports_end};
+ghost use Rattle.bios_services.specs.Bounds.{ports_bound};
 ghost use Rattle.bios_services.specs.Plan.{run};
 ghost use Rattle.bios_services.specs.Reasons.{reason_of};
 ghost use Rattle.bios_services.specs.Colours.{no_register as no_register_of};
@@ -142,7 +142,7 @@ fn read_entry<B: Bus>(bus: &mut B, entry: u8, regs: &mut Regs)
 /// 07 and 08: reads a register of the attribute controller into BH.
 #[tactic(auto, using(crate::proofs::PlanRuns::run_bind), unfolding(crate::specs::Colours::read_register_in_bh))]
 fn answer_register<B: Bus>(bus: &mut B, port: u16, register: u8, regs: &mut Regs)
-    requires port { port < ports_end }
+    requires port { port < ports_bound }
     requires register { register < 32 }
     ensures { (bus.new, regs.new) ≡ run B.meaning (read_register_in_bh port register regs.old)
         bus.old }
@@ -169,7 +169,7 @@ pub(crate) fn perform_colours<B: Bus>(
     regs: &mut Regs,
     block: &[u8],
 )
-    requires port { port < ports_end }
+    requires port { port < ports_bound }
     requires allowed { colour_refusal service (length block.now) ≡ None }
     ensures { (bus.new, regs.new) ≡ run B.meaning (colours_plan service port regs.old block.now)
         bus.old }

@@ -1,7 +1,7 @@
 //! The direction in which rows of characters move.
 ghost use Rattle.std.specs.Prelude.{◌≡◌, ◌≤◌, ◌+◌};
-ghost use Rattle.bios_services.specs.Bounds.{reached_rows};
-ghost use Rattle.bios_services.specs.Bands.{new_row as new_row_of};
+ghost use Rattle.bios_services.specs.Bounds.{rows_bound};
+ghost use Rattle.bios_services.specs.Bands.{first_row_to_fill as first_row_to_fill_of};
 
 /// The direction in which rows of characters move.
 #[derive(Clone, Copy)]
@@ -12,9 +12,9 @@ pub enum Direction {
 
 impl Direction {
     /// The first of the rows that are to be filled after `count` rows have moved.
-    pub(crate) fn new_row(self, top: u32, count: u32) -> u32
-        requires { top + count ≤ reached_rows }
-        ensures value { result ≡ new_row_of self top count }
+    pub(crate) fn first_row_to_fill(self, top: u32, count: u32) -> u32
+        requires { top + count ≤ rows_bound }
+        ensures value { result ≡ first_row_to_fill_of self top count }
         ensures inside { result ≤ top + count }
     {
         match self {

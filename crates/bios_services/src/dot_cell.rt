@@ -1,7 +1,7 @@
 //! A cell of a page of pixels.
 ghost use Rattle.std.specs.Prelude.{◌≡◌, ◌<◌, ◌≤◌, ◌*◌, ◌^◌};
-ghost use Rattle.bios_services.specs.Bounds.{IsSet, pages_of, reached_cells};
-ghost use Rattle.bios_services.specs.Bands.{IsBand, address_in};
+ghost use Rattle.bios_services.specs.Bounds.{IsModeSet, page_count, cells_bound};
+ghost use Rattle.bios_services.specs.Bands.{IsBand, byte_address_in_band};
 ghost use Rattle.bios_services.specs.Drawing.{cell_band, cell_row};
 
 use crate::band::Band;
@@ -19,13 +19,13 @@ pub struct DotCell {
 impl DotCell {
     /// Cell q of a page.
     pub(crate) fn of_columns(bda: &Bda, page: u8, q: u32) -> DotCell
-        requires data { IsSet bda.now }
-        requires page { page < pages_of bda.now }
-        requires cell { q < reached_cells }
+        requires data { IsModeSet bda.now }
+        requires page { page < page_count bda.now }
+        requires cell { q < cells_bound }
         ensures column { result.band ≡ cell_band bda.now page q }
         ensures band { IsBand result.band }
         ensures place { result.row ≡ cell_row bda.now q }
-        ensures row { result.row < reached_cells }
+        ensures row { result.row < cells_bound }
     {
         let columns = bda.columns() as u32;
         DotCell {
@@ -37,10 +37,10 @@ impl DotCell {
     /// The address of a byte of one of its lines.
     pub(crate) fn address(self, line: u32, byte: u32) -> u32
         requires band { IsBand self.band }
-        requires row { self.row < reached_cells }
+        requires row { self.row < cells_bound }
         requires line { line ≤ 16 }
         requires byte { byte ≤ 8 * 80 }
-        ensures value { result ≡ address_in self.band self.row line byte }
+        ensures value { result ≡ byte_address_in_band self.band self.row line byte }
         ensures small { result < 2 ^ 31 }
     {
         self.band.address(self.row, line, byte)

@@ -1,6 +1,7 @@
 //! The bytes that rows are filled with.
 ghost use Rattle.std.specs.Prelude.{◌≡◌};
-ghost use Rattle.bios_services.specs.Bands.{blank as blank_of, uniform as uniform_of};
+ghost use Rattle.bios_services.specs.Bands.{blank_cells_filling as blank_cells_filling_of};
+ghost use Rattle.bios_services.specs.Bands.{one_byte_filling as one_byte_filling_of};
 
 /// Two bytes by turns.
 #[derive(Clone, Copy)]
@@ -16,8 +17,8 @@ const BLANK: u8 = 0x20;
 
 impl Filling {
     /// Blank cells in an attribute.
-    pub(crate) fn blank(attribute: u8) -> Filling
-        ensures { result ≡ blank_of attribute }
+    pub(crate) fn blank_cells(attribute: u8) -> Filling
+        ensures { result ≡ blank_cells_filling_of attribute }
     {
         Filling {
             even: BLANK,
@@ -26,8 +27,8 @@ impl Filling {
     }
 
     /// One byte everywhere.
-    pub(crate) fn uniform(byte: u8) -> Filling
-        ensures { result ≡ uniform_of byte }
+    pub(crate) fn one_byte_everywhere(byte: u8) -> Filling
+        ensures { result ≡ one_byte_filling_of byte }
     {
         Filling {
             even: byte,

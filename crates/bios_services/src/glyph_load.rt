@@ -1,17 +1,17 @@
 //! Function 11: loading glyphs of text, which also sets the height of characters.
 ghost use Rattle.std.specs.Prelude.{◌≡◌, ◌<◌, ◌≤◌, ◌+◌, length};
 ghost use Rattle.bios_modes.specs.Fonts.{glyph_row};
-ghost use Rattle.bios_services.specs.Bounds.{ports_end};
+ghost use Rattle.bios_services.specs.Bounds.{ports_bound};
 ghost use Rattle.bios_services.specs.Plan.{run};
-ghost use Rattle.bios_services.specs.ModeSet.{font_plan, glyph_plan, glyphs_plan};
+ghost use Rattle.bios_services.specs.ModeSet.{write_font_plan, write_glyph_plan, write_glyphs_plan};
 ghost use Rattle.bios_services.specs.Reasons.{reason_of};
-ghost use Rattle.bios_services.specs.GlyphLoads.{AreThere, whole_font, glyph_load_of};
+ghost use Rattle.bios_services.specs.GlyphLoads.{AreGlyphsThere, whole_font, glyph_load_of};
 ghost use Rattle.bios_services.specs.GlyphLoads.{glyphs_block, load_reason, load_refusal};
 ghost use Rattle.bios_services.specs.GlyphLoads.{loaded_line, load_plan};
 
 use crate::cells::GRAPHICS_BASE;
 use crate::cursor::write_word;
-use crate::cycles::{graphics, indexed, put, sequencer};
+use crate::cycles::{put, write_graphics, write_indexed, write_sequencer};
 use crate::glyphs::glyph_line;
 use crate::reasons::{or_wrong_block, refuse_unless};
 use crate::regs::{Regs, high, low};
@@ -52,7 +52,7 @@ impl GlyphLoad {
     }
 
     /// The load that a call asks for, if it does.
-    pub(crate) fn of(regs: Regs) -> Option<GlyphLoad>
+    pub(crate) fn of_registers(regs: Regs) -> Option<GlyphLoad>
         ensures { result ≡ glyph_load_of regs }
     {
         if high(regs.ax) != 0x11 || low(regs.bx) != 0x00 {
@@ -101,7 +101,7 @@ impl GlyphLoad {
 
     /// Scan line r of character c.
     fn line(self, fonts: &Fonts, block: &[u8], c: u16, r: u8) -> u8
-        requires there { AreThere self (length block.now) }
+        requires there { AreGlyphsThere self (length block.now) }
         requires line { r < self.height }
         requires first { self.first ≤ c }
         requires last { c < self.first + self.count }
@@ -114,12 +114,12 @@ impl GlyphLoad {
     }
 
     /// Writes the lines of a character to plane 2.
-    #[tactic(auto, using(crate::proofs::PlanRuns::run_bind), unfolding(crate::specs::ModeSet::glyph_plan))]
+    #[tactic(auto, using(crate::proofs::PlanRuns::run_bind), unfolding(crate::specs::ModeSet::write_glyph_plan))]
     fn write_glyph<B: Bus>(self, bus: &mut B, fonts: &Fonts, block: &[u8], c: u16)
-        requires there { AreThere self (length block.now) }
+        requires there { AreGlyphsThere self (length block.now) }
         requires first { self.first ≤ c }
         requires last { c < self.first + self.count }
-        ensures { bus.new ≡ (run B.meaning (glyph_plan (loaded_line fonts.now self block.now)
+        ensures { bus.new ≡ (run B.meaning (write_glyph_plan (loaded_line fonts.now self block.now)
             self.height c) bus.old).0 }
     {
         for r in 0..self.height {
@@ -132,10 +132,10 @@ impl GlyphLoad {
     }
 
     /// Writes the lines of all characters.
-    #[tactic(auto, using(crate::proofs::PlanRuns::run_bind), unfolding(crate::specs::ModeSet::glyphs_plan))]
+    #[tactic(auto, using(crate::proofs::PlanRuns::run_bind), unfolding(crate::specs::ModeSet::write_glyphs_plan))]
     fn write_glyphs<B: Bus>(self, bus: &mut B, fonts: &Fonts, block: &[u8])
-        requires { AreThere self (length block.now) }
-        ensures { bus.new ≡ (run B.meaning (glyphs_plan (loaded_line fonts.now self block.now)
+        requires { AreGlyphsThere self (length block.now) }
+        ensures { bus.new ≡ (run B.meaning (write_glyphs_plan (loaded_line fonts.now self block.now)
             self.height self.count self.first) bus.old).0 }
     {
         for c in self.first..self.first + self.count {
@@ -145,26 +145,27 @@ impl GlyphLoad {
 
     /// Writes the glyphs to plane 2, which is alone at A0000 meanwhile. Then text is there again,
     /// in the window that this value of graphics register 6 selects.
-    #[tactic(auto, using(crate::proofs::PlanRuns::run_bind), unfolding(crate::specs::ModeSet::font_plan))]
+    #[tactic(auto, using(crate::proofs::PlanRuns::run_bind), unfolding(crate::specs::ModeSet::write_font_plan))]
     fn write_font<B: Bus>(self, bus: &mut B, fonts: &Fonts, block: &[u8], window: u8)
-        requires { AreThere self (length block.now) }
-        ensures { bus.new ≡ (run B.meaning (font_plan (loaded_line fonts.now self block.now)
+        requires { AreGlyphsThere self (length block.now) }
+        ensures { bus.new ≡ (run B.meaning (write_font_plan (loaded_line fonts.now self block.now)
             self.height self.count self.first window) bus.old).0 }
     {
-        sequencer(bus, MAP_MASK, GLYPH_PLANE);
-        sequencer(bus, MEMORY_MODE, ALL_ADDRESSES);
-        graphics(bus, GRAPHICS_MODE, BYTE_ACCESS);
-        graphics(bus, MISCELLANEOUS, WINDOW_AT_A0000);
+        write_sequencer(bus, MAP_MASK, GLYPH_PLANE);
+        write_sequencer(bus, MEMORY_MODE, ALL_ADDRESSES);
+        write_graphics(bus, GRAPHICS_MODE, BYTE_ACCESS);
+        write_graphics(bus, MISCELLANEOUS, WINDOW_AT_A0000);
         self.write_glyphs(bus, fonts, block);
-        sequencer(bus, MAP_MASK, TEXT_PLANES);
-        sequencer(bus, MEMORY_MODE, ODD_AND_EVEN_ADDRESSES);
-        graphics(bus, GRAPHICS_MODE, BYTE_ACCESS_ODD_AND_EVEN);
-        graphics(bus, MISCELLANEOUS, window);
+        write_sequencer(bus, MAP_MASK, TEXT_PLANES);
+        write_sequencer(bus, MEMORY_MODE, ODD_AND_EVEN_ADDRESSES);
+        write_graphics(bus, GRAPHICS_MODE, BYTE_ACCESS_ODD_AND_EVEN);
+        write_graphics(bus, MISCELLANEOUS, window);
     }
 
     /// Writes the font of 16 scan lines, for a mode set.
     pub(crate) fn write_font_of_16<B: Bus>(bus: &mut B, fonts: &Fonts, window: u8)
-        ensures { bus.new ≡ (run B.meaning (font_plan (glyph_row 16 fonts.now.f16) 16 256 0 window)
+        ensures { bus.new ≡ (run B.meaning (write_font_plan (glyph_row 16 fonts.now.f16) 16 256 0
+            window)
             bus.old).0 }
     {
         GlyphLoad::whole_font(16).write_font(bus, fonts, &[], window);
@@ -174,26 +175,26 @@ impl GlyphLoad {
     /// page 0 with the cursor in its upper left corner.
     #[tactic(auto, using(crate::proofs::PlanRuns::run_bind), unfolding(crate::specs::GlyphLoads::load_plan))]
     pub(crate) fn write<B: Bus>(self, bus: &mut B, fonts: &Fonts, block: &[u8], row: &ModeRow)
-        requires there { AreThere self (length block.now) }
-        requires port { row.now.crtc_address < ports_end }
+        requires there { AreGlyphsThere self (length block.now) }
+        requires port { row.now.crtc_address < ports_bound }
         ensures { bus.new ≡ (run B.meaning (load_plan fonts.now self block.now row.now) bus.old).0 }
     {
         let port = row.crtc_address;
         self.write_font(bus, fonts, block, row.graphics[MISCELLANEOUS as usize]);
-        indexed(
+        write_indexed(
             bus,
             port,
             MAXIMUM_SCAN_LINE,
             row.crtc[MAXIMUM_SCAN_LINE as usize],
         );
         write_word(bus, port, CURSOR_START, row.cursor_type);
-        indexed(
+        write_indexed(
             bus,
             port,
             VERTICAL_DISPLAY_END,
             row.crtc[VERTICAL_DISPLAY_END as usize],
         );
-        indexed(
+        write_indexed(
             bus,
             port,
             UNDERLINE_LOCATION,

@@ -1,8 +1,8 @@
 //! The glyphs of characters in the font of the mode's height.
 ghost use Rattle.std.specs.Prelude.{◌≡◌, ◌<◌, ◌≤◌, length};
 ghost use Rattle.bios_services.specs.Glyphs.{glyph_line as glyph_line_of};
-ghost use Rattle.bios_services.specs.Glyphs.{has_lines as has_lines_of};
-ghost use Rattle.bios_services.specs.Glyphs.{first_character as first_character_of};
+ghost use Rattle.bios_services.specs.Glyphs.{glyph_has_lines as glyph_has_lines_of};
+ghost use Rattle.bios_services.specs.Glyphs.{first_character_with_lines as first_character_of};
 
 use bios_modes::Fonts;
 
@@ -20,11 +20,11 @@ pub(crate) fn glyph_line(fonts: &Fonts, height: u32, character: u8, r: u32) -> u
 }
 
 /// Whether a character's glyph has these lines.
-#[tactic(auto, unfolding(crate::specs::Glyphs::has_lines))]
-fn has_lines(fonts: &Fonts, height: u32, lines: &[u8], character: u8) -> bool
+#[tactic(auto, unfolding(crate::specs::Glyphs::glyph_has_lines))]
+fn glyph_has_lines(fonts: &Fonts, height: u32, lines: &[u8], character: u8) -> bool
     requires height { height ≤ 16 }
     requires whole { length lines.now ≡ height }
-    ensures { result ≡ has_lines_of fonts.now height lines.now character }
+    ensures { result ≡ glyph_has_lines_of fonts.now height lines.now character }
 {
     for r in 0..height {
         let same = glyph_line(fonts, height, character, r) == lines[r as usize];
@@ -36,15 +36,15 @@ fn has_lines(fonts: &Fonts, height: u32, lines: &[u8], character: u8) -> bool
 }
 
 /// The first of n characters whose glyph has these lines, else 0.
-#[tactic(auto, unfolding(crate::specs::Glyphs::first_character))]
-pub(crate) fn first_character(fonts: &Fonts, height: u32, lines: &[u8], n: u16) -> u8
+#[tactic(auto, unfolding(crate::specs::Glyphs::first_character_with_lines))]
+pub(crate) fn first_character_with_lines(fonts: &Fonts, height: u32, lines: &[u8], n: u16) -> u8
     requires height { height ≤ 16 }
     requires whole { length lines.now ≡ height }
     requires few { n ≤ 256 }
     ensures { result ≡ first_character_of fonts.now height lines.now n }
 {
     for character in 0..n {
-        if has_lines(fonts, height, lines, character as u8) {
+        if glyph_has_lines(fonts, height, lines, character as u8) {
             return character as u8;
         }
     }

@@ -3,25 +3,27 @@ ghost use Rattle.std.specs.Prelude.{◌≡◌, ◌≢◌, ◌<◌, true, None, S
 ghost use Rattle.bios_modes.specs.Valid.{IsValid};
 ghost use Rattle.bios_services.specs.Plan.{run};
 ghost use Rattle.bios_services.specs.Calls.{call_of};
-ghost use Rattle.bios_services.specs.Bounds.{IsSet, StaysInMode, pages_of};
+ghost use Rattle.bios_services.specs.Bounds.{IsModeSet, StaysInMode, page_count};
 ghost use Rattle.bios_services.specs.Refusals.{refusal_in_mode as refusal_in_mode_of};
 ghost use Rattle.bios_modes.specs.Modes.{mode_row as mode_row_of};
-ghost use Rattle.bios_modes.specs.Heights.{row_at as row_at_of};
+ghost use Rattle.bios_modes.specs.Heights.{mode_row_at_height as mode_row_at_height_of};
 ghost use Rattle.bios_services.specs.GlyphLoads.{load_refusal};
 ghost use Rattle.bios_services.specs.declared.reply.Table.TheVariants.{Empty};
 ghost use Rattle.bios_services.specs.declared.reply.ServiceError.TheVariants.{OutOfMemory};
 ghost use Rattle.bios_services.specs.declared.call.Call.TheVariants.{ReadTable};
-ghost use Rattle.bios_services.specs.Service.{set_mode_plan, load_at, load_in_mode_plan};
+ghost use Rattle.bios_services.specs.Service.{set_mode_plan, load_if_height_exists};
+ghost use Rattle.bios_services.specs.Service.{load_in_mode_plan};
 ghost use Rattle.bios_services.specs.Service.{in_mode_plan, read_cursor_of, read_mode_of};
 ghost use Rattle.bios_services.specs.Service.{read_adapter_of, read_display_of, read_cell_service};
-ghost use Rattle.bios_services.specs.Service.{read_pixel_service, plan_of, table_in_mode_plan};
-ghost use Rattle.bios_services.specs.Service.{service, takes_memory, MayAnswer};
+ghost use Rattle.bios_services.specs.Service.{read_pixel_service, plan_of_service};
+ghost use Rattle.bios_services.specs.Service.{table_in_mode_plan};
+ghost use Rattle.bios_services.specs.Service.{service, allocates_memory, MayAnswer};
 
 use crate::call::{Call, Service, decode};
 use crate::cells::{cell_address, read_cell};
 use crate::character_reading::read_character;
 use crate::colours::perform_colours;
-use crate::cursor::{cursor_cell, move_cursor, set_cursor_type, show_page};
+use crate::cursor::{cursor_cell_number, move_cursor, set_cursor_type, show_page};
 use crate::direction::Direction;
 use crate::dot_cell::DotCell;
 use crate::glyph_load::GlyphLoad;
@@ -32,7 +34,7 @@ use crate::regs::{Regs, with_low};
 use crate::reply::{Reply, ServiceError, Table};
 use crate::tables::{TableService, read_table, table_refusal};
 use crate::teletype::teletype;
-use bios_modes::{Bda, Fonts, is_monochrome, is_text, mode_row, row_at};
+use bios_modes::{Bda, Fonts, is_monochrome, is_text, mode_row, mode_row_at_height};
 use std::alloc::Global;
 use vga_bits::Refusal;
 use vga_card::Bus;
@@ -49,12 +51,12 @@ fn read_cursor(bda: &Bda, page: u8, regs: &mut Regs)
 /// Answers the character at the cursor of a page, and in text its attribute.
 #[tactic(auto, using(crate::proofs::PlanRuns::run_bind), unfolding(crate::specs::Service::read_cell_service))]
 fn read_cursor_cell<B: Bus>(bus: &mut B, fonts: &Fonts, bda: &Bda, page: u8, regs: &mut Regs)
-    requires data { IsSet bda.now }
-    requires page { page < pages_of bda.now }
+    requires data { IsModeSet bda.now }
+    requires page { page < page_count bda.now }
     ensures { (bus.new, regs.new) ≡ run B.meaning (read_cell_service fonts.now page bda.now
         regs.old) bus.old }
 {
-    let q = cursor_cell(bda, page);
+    let q = cursor_cell_number(bda, page);
     if is_text(bda.mode()) {
         regs.ax = read_cell(bus, cell_address(bda, page, q));
         return;
@@ -66,8 +68,8 @@ fn read_cursor_cell<B: Bus>(bus: &mut B, fonts: &Fonts, bda: &Bda, page: u8, reg
 /// Answers the colour of a pixel.
 #[tactic(auto, using(crate::proofs::PlanRuns::run_bind), unfolding(crate::specs::Service::read_pixel_service))]
 fn read_pixel_colour<B: Bus>(bus: &mut B, bda: &Bda, pixel: Pixel, regs: &mut Regs)
-    requires data { IsSet bda.now }
-    requires page { pixel.page < pages_of bda.now }
+    requires data { IsModeSet bda.now }
+    requires page { pixel.page < page_count bda.now }
     ensures { (bus.new, regs.new) ≡ run B.meaning (read_pixel_service pixel.page pixel.x pixel.y
         bda.now regs.old) bus.old }
 {
@@ -77,7 +79,7 @@ fn read_pixel_colour<B: Bus>(bus: &mut B, bda: &Bda, pixel: Pixel, regs: &mut Re
 
 /// Answers the mode, its number of columns and the active page.
 fn read_mode(bda: &Bda, regs: &mut Regs)
-    requires { IsSet bda.now }
+    requires { IsModeSet bda.now }
     ensures { regs.new ≡ read_mode_of bda.now regs.old }
 {
     regs.ax = bda.mode() as u16 + 256 * bda.columns();
@@ -105,7 +107,7 @@ fn read_display(regs: &mut Regs)
 }
 
 /// Does a service that is not refused.
-#[tactic(auto, using(crate::proofs::PlanRuns::run_bind), unfolding(crate::specs::Service::plan_of, crate::specs::Refusals::refusal_in_mode))]
+#[tactic(auto, using(crate::proofs::PlanRuns::run_bind), unfolding(crate::specs::Service::plan_of_service, crate::specs::Refusals::refusal_in_mode))]
 fn perform<B: Bus>(
     bus: &mut B,
     bda: &mut Bda,
@@ -115,9 +117,9 @@ fn perform<B: Bus>(
     block: &[u8],
 )
     requires allowed { refusal_in_mode_of service bda.old (length block.now) ≡ None }
-    requires data { IsSet bda.old }
+    requires data { IsModeSet bda.old }
     ensures answer { (bus.new, (regs.new, bda.new))
-        ≡ run B.meaning (plan_of service fonts.now bda.old regs.old block.now) bus.old }
+        ≡ run B.meaning (plan_of_service service fonts.now bda.old regs.old block.now) bus.old }
     ensures stays { StaysInMode bda.old bda.new }
 {
     match service {
@@ -160,7 +162,7 @@ fn perform_allowed<B: Bus>(
     requires valid { IsValid bda.old }
     requires set { bda.old.mode ≢ 0 }
     ensures answer { (bus.new, (result, bda.new)) ≡ run B.meaning
-        (plan_of service fonts.now bda.old regs block.now) bus.old }
+        (plan_of_service service fonts.now bda.old regs block.now) bus.old }
     ensures valid { IsValid bda.new }
 {
     let mut answer = regs;
@@ -169,7 +171,7 @@ fn perform_allowed<B: Bus>(
 }
 
 /// An answer of registers alone.
-fn answer_of(regs: Regs) -> Result<Reply, Refusal>
+fn answer_of_registers(regs: Regs) -> Result<Reply, Refusal>
     ensures { result ≡ Ok (record { regs = regs; table = Empty }) }
 {
     Ok(Reply {
@@ -198,11 +200,11 @@ fn set_mode<B: Bus>(
     };
     mode_set::set_mode(bus, &row, keeps, fonts);
     bda.begin_mode(mode, &row);
-    answer_of(regs)
+    answer_of_registers(regs)
 }
 
 /// Loads glyphs, if the mode has a row of their height; no other reason refuses them.
-#[tactic(auto, using(crate::proofs::PlanRuns::run_bind, crate::proofs::BoundLemmas::begins_valid_at, crate::proofs::BoundLemmas::there_of, crate::proofs::BoundLemmas::port_small), unfolding(crate::specs::Service::load_at))]
+#[tactic(auto, using(crate::proofs::PlanRuns::run_bind, crate::proofs::BoundLemmas::begins_valid_at, crate::proofs::BoundLemmas::there_of, crate::proofs::BoundLemmas::port_small), unfolding(crate::specs::Service::load_if_height_exists))]
 fn load_allowed<B: Bus>(
     bus: &mut B,
     bda: &mut Bda,
@@ -214,21 +216,22 @@ fn load_allowed<B: Bus>(
     requires valid { IsValid bda.old }
     requires allowed { load_refusal load bda.old.mode (length block.now) ≡ None }
     ensures answer { (bus.new, (result, bda.new)) ≡ run B.meaning
-        (load_at (row_at_of bda.old.mode load.height) load fonts.now bda.old regs block.now)
+        (load_if_height_exists (mode_row_at_height_of bda.old.mode load.height) load fonts.now
+        bda.old regs block.now)
         bus.old }
     ensures valid { IsValid bda.new }
 {
     let mode = bda.mode();
-    let Some(row) = row_at(mode, load.height as u16) else {
+    let Some(row) = mode_row_at_height(mode, load.height as u16) else {
         return Err(Refusal::BadHeight);
     };
     load.write(bus, fonts, block, &row);
     bda.begin_mode(mode, &row);
-    answer_of(regs)
+    answer_of_registers(regs)
 }
 
 /// Loads glyphs of text, unless they are refused.
-#[tactic(auto, unfolding(crate::specs::Service::load_in_mode_plan, crate::specs::Service::load_unless))]
+#[tactic(auto, unfolding(crate::specs::Service::load_in_mode_plan, crate::specs::Service::load_unless_refused_plan))]
 fn load_in_mode<B: Bus>(
     bus: &mut B,
     bda: &mut Bda,
@@ -250,7 +253,7 @@ fn load_in_mode<B: Bus>(
 }
 
 /// Does a service that needs a mode, unless it is refused.
-#[tactic(auto, using(crate::proofs::PlanRuns::run_bind, crate::proofs::BoundLemmas::set_of_valid), unfolding(crate::specs::Service::in_mode_plan, crate::specs::Service::unless))]
+#[tactic(auto, using(crate::proofs::PlanRuns::run_bind, crate::proofs::BoundLemmas::set_of_valid), unfolding(crate::specs::Service::in_mode_plan, crate::specs::Service::unless_refused_plan))]
 fn in_mode<B: Bus>(
     bus: &mut B,
     bda: &mut Bda,
@@ -267,13 +270,13 @@ fn in_mode<B: Bus>(
     if bda.mode() == 0 {
         return Err(Refusal::NoMode);
     }
-    let service = service.on_page_named(bda);
+    let service = service.service_on_page_meant(bda);
     refusal_in_mode(service, bda, block.len())?;
-    answer_of(perform_allowed(bus, bda, fonts, service, regs, block))
+    answer_of_registers(perform_allowed(bus, bda, fonts, service, regs, block))
 }
 
 /// Answers a table, unless that is refused.
-#[tactic(auto, using(crate::proofs::PlanRuns::run_bind, crate::proofs::BoundLemmas::set_of_valid), unfolding(crate::specs::Service::table_in_mode_plan, crate::specs::Service::table_unless))]
+#[tactic(auto, using(crate::proofs::PlanRuns::run_bind, crate::proofs::BoundLemmas::set_of_valid), unfolding(crate::specs::Service::table_in_mode_plan, crate::specs::Service::table_unless_refused_plan))]
 fn table_in_mode<B: Bus>(
     alloc: Global,
     bus: &mut B,
@@ -284,7 +287,7 @@ fn table_in_mode<B: Bus>(
     requires { IsValid bda.now }
     ensures answer { MayAnswer B.meaning (table_in_mode_plan service bda.now regs) bus.old bda.now
         result bus.new bda.now }
-    ensures memory { result ≡ Err OutOfMemory → takes_memory (Some (ReadTable service)) bda.now
+    ensures memory { result ≡ Err OutOfMemory → allocates_memory (Some (ReadTable service)) bda.now
         ≡ true }
 {
     if bda.mode() == 0 {
@@ -325,7 +328,7 @@ pub fn int10<B: Bus>(
     ensures answer { MayAnswer B.meaning (service fonts.now bda.old regs block.now) bus.old bda.old
         result bus.new bda.new }
     // Only a table of entries of the DAC allocates memory.
-    ensures memory { result ≡ Err OutOfMemory → takes_memory (call_of regs) bda.old ≡ true }
+    ensures memory { result ≡ Err OutOfMemory → allocates_memory (call_of regs) bda.old ≡ true }
     ensures valid { IsValid bda.new }
 {
     let outcome = match decode(regs) {

@@ -7,7 +7,7 @@ ghost use Rattle.vga_card.specs.FreshCanvas.{with_fresh_canvas, fresh_canvas_aft
 ghost use Rattle.bios_modes.specs.Bda.{BiosData, power_on_data};
 ghost use Rattle.bios_modes.specs.Fonts.{FontSet};
 ghost use Rattle.bios_services.specs.declared.regs.Regs.{Regs};
-ghost use Rattle.bios_services.specs.Data.{AreData};
+ghost use Rattle.bios_services.specs.Data.{AreValidData};
 ghost use Rattle.bios_services.specs.Plan.{run};
 ghost use Rattle.bios_services.specs.Service.{service, RefusedDoNothing};
 ghost use Rattle.bios_services.specs.Blocks.{BlocksFit, OthersAreRefused};
@@ -29,11 +29,12 @@ pub fn blocks_fit<B: Bus>()
 /// BIOS data are valid, and their cursor positions words, at power-on and after every call; and
 /// every call keeps the bounds of the adapter's parts.
 pub fn calls_keep_bounds()
-    ensures first { AreData power_on_data }
+    ensures first { AreValidData power_on_data }
     ensures card { (fonts : FontSet) (d : BiosData) (r : Regs) (block : List ℕ) (c : CardState) →
         IsCard c → IsCard (run card_meaning (service fonts d r block) c).0 }
     ensures bda { (fonts : FontSet) (d : BiosData) (r : Regs) (block : List ℕ) (c : CardState) →
-        r.dx < 65536 → AreData d → AreData (run card_meaning (service fonts d r block) c).1.1 }
+        r.dx < 65536 → AreValidData d → AreValidData (run card_meaning (service fonts d r block)
+        c).1.1 }
 {}
 
 /// No call draws or removes a dot: what is drawn of a frame stays.

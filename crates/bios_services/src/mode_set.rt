@@ -1,14 +1,16 @@
 //! Setting a mode: every register, the palette, the font of a text mode, and the memory.
 ghost use Rattle.std.specs.Prelude.{◌≡◌, ◌<◌, ◌≤◌, ◌+◌, ◌*◌, ◌^◌};
-ghost use Rattle.bios_services.specs.Bounds.{ports_end};
+ghost use Rattle.bios_services.specs.Bounds.{ports_bound};
 ghost use Rattle.bios_services.specs.Plan.{run};
-ghost use Rattle.bios_services.specs.ModeSet.{registers_plan, colour_plan, mask_and_palette_plan};
-ghost use Rattle.bios_services.specs.ModeSet.{blank_plan, clear_plan};
-ghost use Rattle.bios_services.specs.ModeSet.{text_plan, memory_plan, mode_set_plan};
+ghost use Rattle.bios_services.specs.ModeSet.{write_registers_plan, write_dac_entry_plan};
+ghost use Rattle.bios_services.specs.ModeSet.{mask_and_palette_plan};
+ghost use Rattle.bios_services.specs.ModeSet.{write_blanks_plan, clear_plan};
+ghost use Rattle.bios_services.specs.ModeSet.{write_text_plan, write_memory_plan, mode_set_plan};
 
 use crate::cells::GRAPHICS_BASE;
 use crate::cycles::{
-    attribute_group, expect_index, group, indexed, out, put_in_turn, show_palette,
+    expect_index, out, put_in_turn, show_palette, write_attribute_registers, write_indexed,
+    write_registers_from_0,
 };
 use crate::glyph_load::GlyphLoad;
 use crate::video_registers::{
@@ -25,26 +27,26 @@ const TEXT_LEN: u32 = 0x8000;
 const GRAPHICS_LEN: u32 = 0x10000;
 
 /// Writes all registers.
-#[tactic(auto, using(crate::proofs::PlanRuns::run_bind), unfolding(crate::specs::ModeSet::registers_plan))]
+#[tactic(auto, using(crate::proofs::PlanRuns::run_bind), unfolding(crate::specs::ModeSet::write_registers_plan))]
 fn write_registers<B: Bus>(bus: &mut B, row: &ModeRow)
-    requires { row.now.crtc_address < ports_end }
-    ensures { bus.new ≡ (run B.meaning (registers_plan row.now) bus.old).0 }
+    requires { row.now.crtc_address < ports_bound }
+    ensures { bus.new ≡ (run B.meaning (write_registers_plan row.now) bus.old).0 }
 {
     out(bus, MISCELLANEOUS_OUTPUT, row.misc);
-    group(bus, SEQUENCER, &row.sequencer);
+    write_registers_from_0(bus, SEQUENCER, &row.sequencer);
     let unprotected = row.crtc[VERTICAL_RETRACE_END as usize] & 0x7F;
-    indexed(bus, row.crtc_address, VERTICAL_RETRACE_END, unprotected);
-    group(bus, row.crtc_address, &row.crtc);
-    group(bus, GRAPHICS, &row.graphics);
+    write_indexed(bus, row.crtc_address, VERTICAL_RETRACE_END, unprotected);
+    write_registers_from_0(bus, row.crtc_address, &row.crtc);
+    write_registers_from_0(bus, GRAPHICS, &row.graphics);
     expect_index(bus, row.crtc_address);
-    attribute_group(bus, &row.attribute);
+    write_attribute_registers(bus, &row.attribute);
     show_palette(bus, row.crtc_address);
 }
 
 /// Writes red, green and blue of the DAC's next entry.
-#[tactic(auto, using(crate::proofs::PlanRuns::run_bind), unfolding(crate::specs::ModeSet::colour_plan))]
+#[tactic(auto, using(crate::proofs::PlanRuns::run_bind), unfolding(crate::specs::ModeSet::write_dac_entry_plan))]
 fn write_colour<B: Bus>(bus: &mut B, colour: [u8; 3])
-    ensures { bus.new ≡ (run B.meaning (colour_plan colour) bus.old).0 }
+    ensures { bus.new ≡ (run B.meaning (write_dac_entry_plan colour) bus.old).0 }
 {
     out(bus, DAC_DATA, colour[0]);
     out(bus, DAC_DATA, colour[1]);
@@ -71,10 +73,10 @@ const BLANK: u8 = 0x20;
 const ATTRIBUTE_OF_BLANK: u8 = 0x07;
 
 /// Writes n bytes of blank cells from an address on.
-#[tactic(auto, using(crate::proofs::PlanRuns::run_bind), unfolding(crate::specs::ModeSet::blank_plan))]
+#[tactic(auto, using(crate::proofs::PlanRuns::run_bind), unfolding(crate::specs::ModeSet::write_blanks_plan))]
 fn write_blanks<B: Bus>(bus: &mut B, base: u32, n: u32)
     requires { base + n < 2 ^ 32 }
-    ensures { bus.new ≡ (run B.meaning (blank_plan base n) bus.old).0 }
+    ensures { bus.new ≡ (run B.meaning (write_blanks_plan base n) bus.old).0 }
 {
     put_in_turn(bus, base, n, BLANK, ATTRIBUTE_OF_BLANK);
 }
@@ -89,10 +91,10 @@ fn clear<B: Bus>(bus: &mut B, n: u32)
 }
 
 /// Writes what a text mode needs besides registers and palette: the font, and blank cells.
-#[tactic(auto, using(crate::proofs::PlanRuns::run_bind), unfolding(crate::specs::ModeSet::text_plan))]
+#[tactic(auto, using(crate::proofs::PlanRuns::run_bind), unfolding(crate::specs::ModeSet::write_text_plan))]
 fn write_text<B: Bus>(bus: &mut B, row: &ModeRow, keeps: bool, fonts: &Fonts)
     requires { row.now.base < 2 ^ 20 }
-    ensures { bus.new ≡ (run B.meaning (text_plan row.now keeps fonts.now.f16) bus.old).0 }
+    ensures { bus.new ≡ (run B.meaning (write_text_plan row.now keeps fonts.now.f16) bus.old).0 }
 {
     GlyphLoad::write_font_of_16(bus, fonts, row.graphics[MISCELLANEOUS as usize]);
     if !keeps {
@@ -101,10 +103,10 @@ fn write_text<B: Bus>(bus: &mut B, row: &ModeRow, keeps: bool, fonts: &Fonts)
 }
 
 /// Writes what a mode needs besides registers and palette.
-#[tactic(auto, using(crate::proofs::PlanRuns::run_bind), unfolding(crate::specs::ModeSet::memory_plan))]
+#[tactic(auto, using(crate::proofs::PlanRuns::run_bind), unfolding(crate::specs::ModeSet::write_memory_plan))]
 fn write_memory<B: Bus>(bus: &mut B, row: &ModeRow, keeps: bool, fonts: &Fonts)
     requires { row.now.base < 2 ^ 20 }
-    ensures { bus.new ≡ (run B.meaning (memory_plan row.now keeps fonts.now.f16) bus.old).0 }
+    ensures { bus.new ≡ (run B.meaning (write_memory_plan row.now keeps fonts.now.f16) bus.old).0 }
 {
     if row.kind == Kind::Text {
         write_text(bus, row, keeps, fonts);
@@ -116,7 +118,7 @@ fn write_memory<B: Bus>(bus: &mut B, row: &ModeRow, keeps: bool, fonts: &Fonts)
 /// Sets a mode, and clears its memory unless it is kept.
 #[tactic(auto, using(crate::proofs::PlanRuns::run_bind), unfolding(crate::specs::ModeSet::mode_set_plan))]
 pub(crate) fn set_mode<B: Bus>(bus: &mut B, row: &ModeRow, keeps: bool, fonts: &Fonts)
-    requires port { row.now.crtc_address < ports_end }
+    requires port { row.now.crtc_address < ports_bound }
     requires base { row.now.base < 2 ^ 20 }
     ensures { bus.new ≡ (run B.meaning (mode_set_plan row.now keeps fonts.now) bus.old).0 }
 {

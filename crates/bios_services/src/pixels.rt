@@ -3,16 +3,18 @@ ghost use Rattle.std.specs.Prelude.{◌≡◌, ◌<◌, ◌≤◌, ◌+◌, ◌-
 ghost use Rattle.std.specs.Int.{bit_at};
 ghost use Rattle.bios_modes.specs.Kinds.{is_packed as is_packed_mode};
 ghost use Rattle.bios_services.specs.Plan.{run};
-ghost use Rattle.bios_services.specs.Bounds.{IsSet, pages_of};
-ghost use Rattle.bios_services.specs.Pixels.{dots_across as dots_across_of};
-ghost use Rattle.bios_services.specs.Pixels.{dots_down as dots_down_of};
-ghost use Rattle.bios_services.specs.Pixels.{pixel_address as pixel_address_of, function_plan};
-ghost use Rattle.bios_services.specs.Pixels.{write_dot_plan, write_pixel_plan};
-ghost use Rattle.bios_services.specs.Pixels.{plane_byte as plane_byte_plan, read_dot_plan};
+ghost use Rattle.bios_services.specs.Bounds.{IsModeSet, page_count};
+ghost use Rattle.bios_services.specs.Pixels.{pixels_across as pixels_across_of};
+ghost use Rattle.bios_services.specs.Pixels.{pixels_down as pixels_down_of};
+ghost use Rattle.bios_services.specs.Pixels.{pixel_address as pixel_address_of};
+ghost use Rattle.bios_services.specs.Pixels.{set_function_if_xor_plan};
+ghost use Rattle.bios_services.specs.Pixels.{write_planar_pixel_plan, write_pixel_plan};
+ghost use Rattle.bios_services.specs.Pixels.{read_plane_byte as plane_byte_plan};
+ghost use Rattle.bios_services.specs.Pixels.{read_planar_pixel_plan};
 ghost use Rattle.bios_services.specs.Pixels.{read_pixel_plan};
 
 use crate::cells::page_address;
-use crate::cycles::{get, graphics, put};
+use crate::cycles::{get, put, write_graphics};
 use crate::video_registers::{
     ALL_BITS, BIT_MASK, BYTE_ACCESS, DATA_ROTATE, GRAPHICS_MODE, READ_MAP_SELECT, REPLACE,
     WRITE_COLOUR, XOR,
@@ -32,15 +34,15 @@ pub(crate) struct Pixel {
 }
 
 /// How many pixels a graphics mode has across.
-pub(crate) fn dots_across(bda: &Bda) -> u32
-    ensures { result ≡ dots_across_of bda.now }
+pub(crate) fn pixels_across(bda: &Bda) -> u32
+    ensures { result ≡ pixels_across_of bda.now }
 {
     8 * bda.columns() as u32
 }
 
 /// How many pixels a graphics mode has down.
-pub(crate) fn dots_down(bda: &Bda) -> u32
-    ensures { result ≡ dots_down_of bda.now }
+pub(crate) fn pixels_down(bda: &Bda) -> u32
+    ensures { result ≡ pixels_down_of bda.now }
 {
     bda.height() as u32 * (bda.last_row() as u32 + 1)
 }
@@ -48,8 +50,8 @@ pub(crate) fn dots_down(bda: &Bda) -> u32
 /// The address of a pixel; `packed` says whether the mode has a byte for each.
 fn pixel_address(bda: &Bda, packed: bool, pixel: Pixel) -> u32
     requires packed { packed ≡ is_packed_mode bda.now.mode }
-    requires data { IsSet bda.now }
-    requires page { pixel.page < pages_of bda.now }
+    requires data { IsModeSet bda.now }
+    requires page { pixel.page < page_count bda.now }
     ensures { result ≡ pixel_address_of bda.now pixel.page pixel.x pixel.y }
 {
     let start = page_address(bda, pixel.page);
@@ -63,33 +65,33 @@ fn pixel_address(bda: &Bda, packed: bool, pixel: Pixel) -> u32
 
 /// Sets the function that combines data with the latches, if bit 7 of a colour asks for XOR.
 fn set_function_if_xor<B: Bus>(bus: &mut B, colour: u8, function: u8)
-    ensures { bus.new ≡ (run B.meaning (function_plan colour function) bus.old).0 }
+    ensures { bus.new ≡ (run B.meaning (set_function_if_xor_plan colour function) bus.old).0 }
 {
     if is_set(colour, 7) {
-        graphics(bus, DATA_ROTATE, function);
+        write_graphics(bus, DATA_ROTATE, function);
     }
 }
 
 /// Writes a pixel in 16 colours.
-#[tactic(auto, using(crate::proofs::PlanRuns::run_bind), unfolding(crate::specs::Pixels::write_dot_plan))]
-fn write_dot<B: Bus>(bus: &mut B, address: u32, x: u16, colour: u8)
-    ensures { bus.new ≡ (run B.meaning (write_dot_plan address x colour) bus.old).0 }
+#[tactic(auto, using(crate::proofs::PlanRuns::run_bind), unfolding(crate::specs::Pixels::write_planar_pixel_plan))]
+fn write_planar_pixel<B: Bus>(bus: &mut B, address: u32, x: u16, colour: u8)
+    ensures { bus.new ≡ (run B.meaning (write_planar_pixel_plan address x colour) bus.old).0 }
 {
-    graphics(bus, BIT_MASK, 0x80 >> (x as u32 % 8));
+    write_graphics(bus, BIT_MASK, 0x80 >> (x as u32 % 8));
     set_function_if_xor(bus, colour, XOR);
     get(bus, address);
-    graphics(bus, GRAPHICS_MODE, WRITE_COLOUR);
+    write_graphics(bus, GRAPHICS_MODE, WRITE_COLOUR);
     put(bus, address, colour);
-    graphics(bus, GRAPHICS_MODE, BYTE_ACCESS);
+    write_graphics(bus, GRAPHICS_MODE, BYTE_ACCESS);
     set_function_if_xor(bus, colour, REPLACE);
-    graphics(bus, BIT_MASK, ALL_BITS);
+    write_graphics(bus, BIT_MASK, ALL_BITS);
 }
 
 /// 0C: writes a pixel.
 #[tactic(auto, unfolding(crate::specs::Pixels::write_pixel_plan))]
 pub(crate) fn write_pixel<B: Bus>(bus: &mut B, bda: &Bda, pixel: Pixel, colour: u8)
-    requires data { IsSet bda.now }
-    requires page { pixel.page < pages_of bda.now }
+    requires data { IsModeSet bda.now }
+    requires page { pixel.page < page_count bda.now }
     ensures { bus.new ≡ (run B.meaning (write_pixel_plan bda.now pixel.page pixel.x pixel.y colour)
         bus.old).0 }
 {
@@ -98,16 +100,16 @@ pub(crate) fn write_pixel<B: Bus>(bus: &mut B, bda: &Bda, pixel: Pixel, colour: 
     if packed {
         put(bus, address, colour);
     } else {
-        write_dot(bus, address, pixel.x, colour);
+        write_planar_pixel(bus, address, pixel.x, colour);
     }
 }
 
 /// Reads the byte of a plane.
 #[tactic(auto, using(crate::proofs::PlanRuns::run_bind))]
-fn plane_byte<B: Bus>(bus: &mut B, plane: u8, address: u32) -> u8
+fn read_plane_byte<B: Bus>(bus: &mut B, plane: u8, address: u32) -> u8
     ensures { (bus.new, result) ≡ run B.meaning (plane_byte_plan plane address) bus.old }
 {
-    graphics(bus, READ_MAP_SELECT, plane);
+    write_graphics(bus, READ_MAP_SELECT, plane);
     get(bus, address)
 }
 
@@ -121,24 +123,24 @@ fn bit(byte: u8, i: u32) -> u8
 }
 
 /// Reads a pixel in 16 colours.
-#[tactic(auto, using(crate::proofs::PlanRuns::run_bind), unfolding(crate::specs::Pixels::read_dot_plan))]
-fn read_dot<B: Bus>(bus: &mut B, address: u32, x: u16) -> u8
-    ensures { (bus.new, result) ≡ run B.meaning (read_dot_plan address x) bus.old }
+#[tactic(auto, using(crate::proofs::PlanRuns::run_bind), unfolding(crate::specs::Pixels::read_planar_pixel_plan))]
+fn read_planar_pixel<B: Bus>(bus: &mut B, address: u32, x: u16) -> u8
+    ensures { (bus.new, result) ≡ run B.meaning (read_planar_pixel_plan address x) bus.old }
 {
     let i = 7 - x as u32 % 8;
-    let b0 = bit(plane_byte(bus, 0, address), i);
-    let b1 = bit(plane_byte(bus, 1, address), i);
-    let b2 = bit(plane_byte(bus, 2, address), i);
-    let b3 = bit(plane_byte(bus, 3, address), i);
-    graphics(bus, READ_MAP_SELECT, 0);
+    let b0 = bit(read_plane_byte(bus, 0, address), i);
+    let b1 = bit(read_plane_byte(bus, 1, address), i);
+    let b2 = bit(read_plane_byte(bus, 2, address), i);
+    let b3 = bit(read_plane_byte(bus, 3, address), i);
+    write_graphics(bus, READ_MAP_SELECT, 0);
     b0 + 2 * b1 + 4 * b2 + 8 * b3
 }
 
 /// 0D: reads a pixel.
 #[tactic(auto, unfolding(crate::specs::Pixels::read_pixel_plan))]
 pub(crate) fn read_pixel<B: Bus>(bus: &mut B, bda: &Bda, pixel: Pixel) -> u8
-    requires data { IsSet bda.now }
-    requires page { pixel.page < pages_of bda.now }
+    requires data { IsModeSet bda.now }
+    requires page { pixel.page < page_count bda.now }
     ensures { (bus.new, result) ≡ run B.meaning (read_pixel_plan bda.now pixel.page pixel.x pixel.y)
         bus.old }
 {
@@ -147,6 +149,6 @@ pub(crate) fn read_pixel<B: Bus>(bus: &mut B, bda: &Bda, pixel: Pixel) -> u8
     if packed {
         get(bus, address)
     } else {
-        read_dot(bus, address, pixel.x)
+        read_planar_pixel(bus, address, pixel.x)
     }
 }

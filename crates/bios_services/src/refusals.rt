@@ -1,8 +1,8 @@
 //! Why a service is refused.
 ghost use Rattle.std.specs.Prelude.{◌≡◌};
-ghost use Rattle.bios_services.specs.Bounds.{IsSet, pages_of};
+ghost use Rattle.bios_services.specs.Bounds.{IsModeSet, page_count};
 ghost use Rattle.bios_services.specs.Reasons.{reason_of};
-ghost use Rattle.bios_services.specs.Refusals.{page_named as page_named_of};
+ghost use Rattle.bios_services.specs.Refusals.{page_meant_by_number as page_meant_by_number_of};
 ghost use Rattle.bios_services.specs.Refusals.{reason_in_mode as reason_in_mode_of};
 ghost use Rattle.bios_services.specs.Refusals.{refusal_in_mode as refusal_in_mode_of};
 ghost use Rattle.bios_services.specs.Refusals.{unknown_refusal as unknown_refusal_of};
@@ -11,35 +11,35 @@ use crate::call::Service;
 use crate::cell_run::CellRun;
 use crate::cells::cells;
 use crate::colours::colour_reason;
-use crate::cursor::cursor_cell;
-use crate::pixels::{dots_across, dots_down};
+use crate::cursor::cursor_cell_number;
+use crate::pixels::{pixels_across, pixels_down};
 use crate::reasons::{
     no_page, no_pixels, or_wrong_block, outside_cells, outside_page, outside_pixels, past_cells,
 };
 use crate::strings::StringCall;
-use bios_modes::{Bda, row_at};
+use bios_modes::{Bda, mode_row_at_height};
 use vga_bits::Refusal;
 
 /// How many pages the mode has, in text at the height of its characters.
 fn pages(bda: &Bda) -> u8
-    ensures { result ≡ pages_of bda.now }
+    ensures { result ≡ page_count bda.now }
 {
-    match row_at(bda.mode(), bda.height()) {
+    match mode_row_at_height(bda.mode(), bda.height()) {
         Some(row) => row.pages,
         None => 0,
     }
 }
 
 /// The page that a number means: in a mode of one page, any number means page 0.
-fn page_named(bda: &Bda, page: u8) -> u8
-    ensures { result ≡ page_named_of bda.now page }
+fn page_meant_by_number(bda: &Bda, page: u8) -> u8
+    ensures { result ≡ page_meant_by_number_of bda.now page }
 {
     if pages(bda) == 1 { 0 } else { page }
 }
 
 impl Service {
     ghost use Rattle.bios_services.specs.Refusals.{service_block};
-    ghost use Rattle.bios_services.specs.Refusals.{on_page_named as on_page_named_of};
+    ghost use Rattle.bios_services.specs.Refusals.{service_on_page_meant as on_page_named_of};
 
     /// How many bytes the block of a service has, if it reads one.
     pub(crate) fn block(self) -> Option<usize>
@@ -53,34 +53,34 @@ impl Service {
     }
 
     /// The service with the page that its number means.
-    pub(crate) fn on_page_named(self, bda: &Bda) -> Service
+    pub(crate) fn service_on_page_meant(self, bda: &Bda) -> Service
         ensures { result ≡ on_page_named_of bda.now self }
     {
         match self {
             Service::SetCursor { page, position } => {
-                let page = page_named(bda, page);
+                let page = page_meant_by_number(bda, page);
                 Service::SetCursor { page, position }
             }
             Service::ReadCursor { page } => Service::ReadCursor {
-                page: page_named(bda, page),
+                page: page_meant_by_number(bda, page),
             },
             Service::ReadCell { page } => Service::ReadCell {
-                page: page_named(bda, page),
+                page: page_meant_by_number(bda, page),
             },
             Service::WriteCells(run) => {
-                let page = page_named(bda, run.page);
+                let page = page_meant_by_number(bda, run.page);
                 Service::WriteCells(CellRun { page, ..run })
             }
             Service::WritePixel { page, x, y, colour } => {
-                let page = page_named(bda, page);
+                let page = page_meant_by_number(bda, page);
                 Service::WritePixel { page, x, y, colour }
             }
             Service::ReadPixel { page, x, y } => {
-                let page = page_named(bda, page);
+                let page = page_meant_by_number(bda, page);
                 Service::ReadPixel { page, x, y }
             }
             Service::WriteString(string) => {
-                let page = page_named(bda, string.page);
+                let page = page_meant_by_number(bda, string.page);
                 Service::WriteString(StringCall { page, ..string })
             }
             _ => self,
@@ -90,7 +90,7 @@ impl Service {
 
 /// Refuses a service in a mode, whatever its block, for the first of its reasons.
 fn reason_in_mode(service: Service, bda: &Bda) -> Result<(), Refusal>
-    requires { IsSet bda.now }
+    requires { IsModeSet bda.now }
     ensures { reason_of result ≡ reason_in_mode_of service bda.now }
 {
     let rows = bda.last_row() as u16 + 1;
@@ -100,17 +100,17 @@ fn reason_in_mode(service: Service, bda: &Bda) -> Result<(), Refusal>
         | Service::SelectPage { page } => no_page(pages(bda), page),
         Service::ReadCell { page } => {
             no_page(pages(bda), page)?;
-            outside_cells(cells(bda), cursor_cell(bda, page))
+            outside_cells(cells(bda), cursor_cell_number(bda, page))
         }
         Service::WriteCells(run) => {
             no_page(pages(bda), run.page)?;
-            outside_cells(cells(bda), cursor_cell(bda, run.page))?;
-            past_cells(cells(bda), cursor_cell(bda, run.page), run.count)
+            outside_cells(cells(bda), cursor_cell_number(bda, run.page))?;
+            past_cells(cells(bda), cursor_cell_number(bda, run.page), run.count)
         }
         Service::WritePixel { page, x, y, .. } | Service::ReadPixel { page, x, y } => {
             no_pixels(bda.mode())?;
             no_page(pages(bda), page)?;
-            outside_pixels(dots_across(bda), dots_down(bda), x, y)
+            outside_pixels(pixels_across(bda), pixels_down(bda), x, y)
         }
         Service::Teletype { .. } => {
             outside_page(rows, bda.columns(), bda.cursor_place(bda.page() as usize))
@@ -132,7 +132,7 @@ fn reason_in_mode(service: Service, bda: &Bda) -> Result<(), Refusal>
 /// Refuses a service in a mode, with a block of this length, for the first of its reasons.
 #[tactic(auto, unfolding(crate::specs::Refusals::refusal_in_mode))]
 pub(crate) fn refusal_in_mode(service: Service, bda: &Bda, len: usize) -> Result<(), Refusal>
-    requires { IsSet bda.now }
+    requires { IsModeSet bda.now }
     ensures { reason_of result ≡ refusal_in_mode_of service bda.now len }
 {
     or_wrong_block(reason_in_mode(service, bda), service.block(), len)

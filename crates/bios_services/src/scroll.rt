@@ -1,10 +1,10 @@
 //! Functions 06 and 07: scrolling a window of the active page.
 ghost use Rattle.std.specs.Prelude.{◌≡◌, ◌<◌, ◌≤◌, ◌+◌, IfSome};
 ghost use Rattle.bios_services.specs.Plan.{run};
-ghost use Rattle.bios_services.specs.Bounds.{IsSet, pages_of};
-ghost use Rattle.bios_services.specs.Scroll.{IsOnPage, window_among, lines_of};
+ghost use Rattle.bios_services.specs.Bounds.{IsModeSet, page_count};
+ghost use Rattle.bios_services.specs.Scroll.{IsOnPage, window_among, rows_to_scroll};
 ghost use Rattle.bios_services.specs.Scroll.{whole_page as whole_page_of};
-ghost use Rattle.bios_services.specs.Scroll.{window_plan, scroll_plan};
+ghost use Rattle.bios_services.specs.Scroll.{scroll_window_plan, scroll_plan};
 
 use crate::band::Band;
 use crate::direction::Direction;
@@ -36,7 +36,7 @@ pub struct Window {
 impl Window {
     /// All the rows and columns of a page.
     pub(crate) fn whole_page(bda: &Bda) -> Window
-        requires data { IsSet bda.now }
+        requires data { IsModeSet bda.now }
         ensures value { result ≡ whole_page_of (bda.now.last_row + 1) bda.now.columns }
         ensures on_page { IsOnPage (bda.now.last_row + 1) bda.now.columns result }
     {
@@ -50,7 +50,7 @@ impl Window {
 
     /// By how many rows the window goes if a call asks for this number.
     fn lines(self, asked: u8) -> u32
-        ensures value { result ≡ lines_of self asked }
+        ensures value { result ≡ rows_to_scroll self asked }
         ensures few { result ≤ self.height }
     {
         let lines = asked as u32;
@@ -63,11 +63,12 @@ impl Window {
 
     /// Scrolls the window on a page.
     pub(crate) fn scroll<B: Bus>(self, bus: &mut B, bda: &Bda, page: u8, shift: Shift)
-        requires data { IsSet bda.now }
-        requires page { page < pages_of bda.now }
+        requires data { IsModeSet bda.now }
+        requires page { page < page_count bda.now }
         requires window { IsOnPage (bda.now.last_row + 1) bda.now.columns self }
         requires few { shift.rows ≤ self.height }
-        ensures { bus.new ≡ (run B.meaning (window_plan bda.now page self shift.direction shift.rows
+        ensures { bus.new ≡ (run B.meaning (scroll_window_plan bda.now page self shift.direction
+            shift.rows
             shift.colour) bus.old).0 }
     {
         let band = Band::of_columns(bda, page, self.left, self.width);
@@ -78,7 +79,7 @@ impl Window {
 impl Scroll {
     /// The part of the window that lies on the page, if it has a cell there.
     fn window(self, bda: &Bda) -> Option<Window>
-        requires { IsSet bda.now }
+        requires { IsModeSet bda.now }
         ensures value { result ≡ window_among (bda.now.last_row + 1) bda.now.columns self }
         ensures on_page { IfSome result (IsOnPage (bda.now.last_row + 1) bda.now.columns) }
     {
@@ -100,7 +101,7 @@ impl Scroll {
     /// Scrolls the window up or down, on the active page.
     #[tactic(auto, unfolding(crate::specs::Scroll::scroll_plan))]
     pub(crate) fn apply<B: Bus>(self, bus: &mut B, bda: &Bda, direction: Direction)
-        requires { IsSet bda.now }
+        requires { IsModeSet bda.now }
         ensures { bus.new ≡ (run B.meaning (scroll_plan bda.now self direction) bus.old).0 }
     {
         if let Some(window) = self.window(bda) {

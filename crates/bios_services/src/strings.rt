@@ -1,7 +1,7 @@
 //! Function 13: typing a string.
 ghost use Rattle.std.specs.Prelude.{◌≡◌, ◌<◌, ◌≤◌, length};
 ghost use Rattle.bios_services.specs.Plan.{run};
-ghost use Rattle.bios_services.specs.Bounds.{IsSet, StaysInMode, pages_of};
+ghost use Rattle.bios_services.specs.Bounds.{IsModeSet, StaysInMode, page_count};
 ghost use Rattle.bios_services.specs.Cursor.{row_of};
 ghost use Rattle.bios_services.specs.Strings.{string_of as string_of_regs, string_len};
 ghost use Rattle.bios_services.specs.Strings.{character_at, colouring_of_character, type_string_plan};
@@ -32,7 +32,7 @@ pub struct StringCall {
 
 impl StringCall {
     /// The string that the registers name.
-    pub(crate) fn of(regs: Regs) -> StringCall
+    pub(crate) fn of_registers(regs: Regs) -> StringCall
         ensures { result ≡ string_of_regs regs }
     {
         let al = low(regs.ax);
@@ -90,8 +90,8 @@ impl StringCall {
     /// Types the characters, and answers the position after them.
     #[tactic(auto, using(crate::proofs::PlanRuns::run_bind), unfolding(crate::specs::Strings::type_string_plan))]
     fn type_all<B: Bus>(self, bus: &mut B, fonts: &Fonts, bda: &Bda, block: &[u8]) -> u16
-        requires data { IsSet bda.now }
-        requires page { self.page < pages_of bda.now }
+        requires data { IsModeSet bda.now }
+        requires page { self.page < page_count bda.now }
         requires row { row_of self.position ≤ bda.now.last_row }
         requires whole { length block.now ≡ string_len self }
         ensures { (bus.new, result) ≡ run B.meaning
@@ -110,8 +110,8 @@ impl StringCall {
     /// 13: types the string, and moves the cursor to the position after it if AL asks for that.
     #[tactic(auto, using(crate::proofs::PlanRuns::run_bind), unfolding(crate::specs::Strings::string_plan))]
     pub(crate) fn write<B: Bus>(self, bus: &mut B, fonts: &Fonts, bda: &mut Bda, block: &[u8])
-        requires data { IsSet bda.old }
-        requires page { self.page < pages_of bda.old }
+        requires data { IsModeSet bda.old }
+        requires page { self.page < page_count bda.old }
         requires row { row_of self.position ≤ bda.old.last_row }
         requires whole { length block.now ≡ string_len self }
         ensures answer { (bus.new, bda.new) ≡ run B.meaning

@@ -1,17 +1,18 @@
 //! Tables that function 10 answers in the caller's memory: subfunctions 09 and 17.
 ghost use Rattle.std.specs.Prelude.{◌≡◌, ◌<◌, IfOk, OnErr, None, length, true};
-ghost use Rattle.bios_services.specs.Bounds.{ports_end};
+ghost use Rattle.bios_services.specs.Bounds.{ports_bound};
 ghost use Rattle.bios_services.specs.Plan.{run};
 ghost use Rattle.bios_services.specs.Reasons.{reason_of};
 ghost use Rattle.bios_services.specs.Tables.{table_refusal as table_refusal_of};
 ghost use Rattle.bios_services.specs.Tables.{palette_register as palette_register_of};
-ghost use Rattle.bios_services.specs.Tables.{registers_plan, read_palette_and_overscan_plan};
+ghost use Rattle.bios_services.specs.Tables.{read_palette_registers_plan};
+ghost use Rattle.bios_services.specs.Tables.{read_palette_and_overscan_plan};
 ghost use Rattle.bios_services.specs.Tables.{read_components_plan, read_entries_plan, table_plan};
-ghost use Rattle.bios_services.specs.Tables.{table_takes_memory};
+ghost use Rattle.bios_services.specs.Tables.{table_allocates_memory};
 
 use crate::colours::no_entries;
 use crate::cycles::{expect_index, inp, out};
-use crate::palette::register;
+use crate::palette::read_register_at_index;
 use crate::reply::Table;
 use crate::video_registers::{DAC_DATA, DAC_READ_INDEX, OVERSCAN};
 use std::alloc::{AllocError, Global};
@@ -50,21 +51,21 @@ fn palette_register(i: usize) -> u8
 }
 
 /// Reads the palette registers and the overscan colour; the attribute controller expects an index.
-#[tactic(auto, using(crate::proofs::PlanRuns::run_bind), unfolding(crate::specs::Tables::registers_plan))]
+#[tactic(auto, using(crate::proofs::PlanRuns::run_bind), unfolding(crate::specs::Tables::read_palette_registers_plan))]
 fn read_registers<B: Bus>(bus: &mut B, port: u16, values: &mut [u8])
-    requires port { port < ports_end }
+    requires port { port < ports_bound }
     requires whole { length values.old ≡ 17 }
-    ensures { (bus.new, values.new) ≡ run B.meaning (registers_plan port) bus.old }
+    ensures { (bus.new, values.new) ≡ run B.meaning (read_palette_registers_plan port) bus.old }
 {
     for i in 0..values.len() {
-        values[i] = register(bus, port, palette_register(i));
+        values[i] = read_register_at_index(bus, port, palette_register(i));
     }
 }
 
 /// 09: reads the palette registers and the overscan colour.
 #[tactic(auto, using(crate::proofs::PlanRuns::run_bind), unfolding(crate::specs::Tables::read_palette_and_overscan_plan))]
 fn read_palette<B: Bus>(bus: &mut B, port: u16) -> [u8; PALETTE_BYTES]
-    requires { port < ports_end }
+    requires { port < ports_bound }
     ensures { (bus.new, result) ≡ run B.meaning (read_palette_and_overscan_plan port) bus.old }
 {
     let mut values = [0u8; PALETTE_BYTES];
@@ -114,11 +115,11 @@ pub(crate) fn read_table<B: Bus>(
     port: u16,
     service: TableService,
 ) -> Result<Table, AllocError>
-    requires port { port < ports_end }
+    requires port { port < ports_bound }
     requires allowed { table_refusal_of service ≡ None }
     ensures ok { IfOk result (λ table. (bus.new, table)
         ≡ run B.meaning (table_plan service port) bus.old) }
-    ensures err { OnErr result ((bus.new ≡ bus.old) × (table_takes_memory service ≡ true)) }
+    ensures err { OnErr result ((bus.new ≡ bus.old) × (table_allocates_memory service ≡ true)) }
 {
     match service {
         TableService::ReadPalette => Ok(Table::Palette(read_palette(bus, port))),

@@ -1,8 +1,8 @@
 //! Typing characters one after another, while the cursor advances.
 ghost use Rattle.std.specs.Prelude.{◌≡◌, ◌<◌, ◌≤◌, ◌+◌, ◌*◌};
 ghost use Rattle.bios_services.specs.Plan.{run};
-ghost use Rattle.bios_services.specs.Bounds.{IsSet, StaysInMode, pages_of};
-ghost use Rattle.bios_services.specs.Cursor.{row_of, position_of};
+ghost use Rattle.bios_services.specs.Bounds.{IsModeSet, StaysInMode, page_count};
+ghost use Rattle.bios_services.specs.Cursor.{row_of, cursor_position_of};
 ghost use Rattle.bios_services.specs.Page.{IsPage};
 ghost use Rattle.bios_services.specs.Teletype.{line_feed_fill as line_feed_fill_plan};
 ghost use Rattle.bios_services.specs.Teletype.{line_feed_plan, next_position_plan};
@@ -35,8 +35,8 @@ const CARRIAGE_RETURN: u8 = 0x0D;
 /// The value that a new row is filled with: an attribute in text, and colour 0 in graphics.
 #[tactic(auto, using(crate::proofs::PlanRuns::run_bind), unfolding(crate::specs::Teletype::line_feed_fill))]
 fn line_feed_fill<B: Bus>(bus: &mut B, bda: &Bda, page: u8, position: u16) -> u8
-    requires data { IsSet bda.now }
-    requires page { page < pages_of bda.now }
+    requires data { IsModeSet bda.now }
+    requires page { page < page_count bda.now }
     ensures { (bus.new, result) ≡ run B.meaning (line_feed_fill_plan bda.now page position)
         bus.old }
 {
@@ -49,9 +49,9 @@ fn line_feed_fill<B: Bus>(bus: &mut B, bda: &Bda, page: u8, position: u16) -> u8
 
 /// The position one row below. On the last row it stays, and the page goes up by a row.
 #[tactic(auto, using(crate::proofs::PlanRuns::run_bind), unfolding(crate::specs::Teletype::line_feed_plan))]
-fn line_feed<B: Bus>(bus: &mut B, bda: &Bda, page: u8, position: u16) -> u16
-    requires data { IsSet bda.now }
-    requires page { page < pages_of bda.now }
+fn position_after_line_feed<B: Bus>(bus: &mut B, bda: &Bda, page: u8, position: u16) -> u16
+    requires data { IsModeSet bda.now }
+    requires page { page < page_count bda.now }
     requires row { row_of position ≤ bda.now.last_row }
     ensures position { (bus.new, result) ≡ run B.meaning (line_feed_plan bda.now page position)
         bus.old }
@@ -71,9 +71,9 @@ fn line_feed<B: Bus>(bus: &mut B, bda: &Bda, page: u8, position: u16) -> u16
 
 /// The position after one: the next column, or the first column of the row below.
 #[tactic(auto, using(crate::proofs::PlanRuns::run_bind), unfolding(crate::specs::Teletype::next_position_plan))]
-fn cursor_advance<B: Bus>(bus: &mut B, bda: &Bda, page: u8, position: u16) -> u16
-    requires data { IsSet bda.now }
-    requires page { page < pages_of bda.now }
+fn next_position<B: Bus>(bus: &mut B, bda: &Bda, page: u8, position: u16) -> u16
+    requires data { IsModeSet bda.now }
+    requires page { page < page_count bda.now }
     requires row { row_of position ≤ bda.now.last_row }
     ensures position { (bus.new, result) ≡ run B.meaning (next_position_plan bda.now page position)
         bus.old }
@@ -82,12 +82,12 @@ fn cursor_advance<B: Bus>(bus: &mut B, bda: &Bda, page: u8, position: u16) -> u1
     if position % 256 + 1 < bda.columns() {
         return position + 1;
     }
-    let below = line_feed(bus, bda, page, position);
+    let below = position_after_line_feed(bus, bda, page, position);
     below / 256 * 256
 }
 
 /// Types a character at a position, and answers the position afterwards.
-#[tactic(auto, using(crate::proofs::PlanRuns::run_bind), unfolding(crate::specs::Teletype::type_plan, crate::specs::Teletype::show_plan))]
+#[tactic(auto, using(crate::proofs::PlanRuns::run_bind), unfolding(crate::specs::Teletype::type_plan, crate::specs::Teletype::write_and_advance_plan))]
 pub(crate) fn type_character<B: Bus>(
     bus: &mut B,
     page: &Page<'_>,
@@ -110,12 +110,12 @@ pub(crate) fn type_character<B: Bus>(
                 position - 1
             }
         }
-        LINE_FEED => line_feed(bus, page.bda(), page.number(), position),
+        LINE_FEED => position_after_line_feed(bus, page.bda(), page.number(), position),
         CARRIAGE_RETURN => position / 256 * 256,
         _ => {
             let q = cell_number(page.bda(), position);
             write_character(bus, page, q, character, colouring);
-            cursor_advance(bus, page.bda(), page.number(), position)
+            next_position(bus, page.bda(), page.number(), position)
         }
     }
 }
@@ -123,8 +123,8 @@ pub(crate) fn type_character<B: Bus>(
 /// 0E: types a character at the cursor of the active page, and moves the cursor.
 #[tactic(auto, using(crate::proofs::PlanRuns::run_bind), unfolding(crate::specs::Teletype::teletype_plan))]
 pub(crate) fn teletype<B: Bus>(bus: &mut B, fonts: &Fonts, bda: &mut Bda, character: u8, colour: u8)
-    requires data { IsSet bda.old }
-    requires row { row_of (position_of bda.old bda.old.page) ≤ bda.old.last_row }
+    requires data { IsModeSet bda.old }
+    requires row { row_of (cursor_position_of bda.old bda.old.page) ≤ bda.old.last_row }
     ensures answer { (bus.new, bda.new) ≡ run B.meaning
         (teletype_plan fonts.now bda.old character colour) bus.old }
     ensures stays { StaysInMode bda.old bda.new }

@@ -14,7 +14,7 @@ use Rattle.clap.specs.declared.parser.matches.ValueSource.TheVariants.{CommandLi
 use Rattle.clap.proofs.OnLiterals.{clap_on_literals}
 use Rattle.vga.specs.CommandLine.{asm_command, command_line, dis_command, go_command, run_command}
 use Rattle.vga.specs.Job.{Request, request_of, asm, dis, run, go}
-use Rattle.vga.specs.Arguments.{HasPlainPaths, JobAnswers, NamesPaths, asked, asm_asked, bad_count, begins_with_hyphen, count_of, dis_asked, go_asked, is_bad_count}
+use Rattle.vga.specs.Arguments.{HasPlainPaths, JobAnswers, NamesPaths, request_of_words, asm_asked, has_bad_limit_word, begins_with_hyphen, count_of, dis_asked, go_asked, is_bad_count}
 use Rattle.vga.specs.Arguments.{run_asked, until_in, until_words, words_of}
 use Rattle.vga.proofs.CountLemmas.{count_is_plain, good_count}
 use Rattle.vga_bits.specs.declared.fault.Fault.TheVariants.{OutOfMemory}
@@ -388,7 +388,7 @@ asked_by goes rows = go_asked rows
 abbrev rows_behind : Request → Text → List Row
 rows_behind request count = finished (rules (command_for request)) (walk (rules (command_for request)) [] nothing_held (words_after request count)).held
 
-command_met : (program : Text) (request : Request) (count : Text) → asked (program ∷ words_of request count)
+command_met : (program : Text) (request : Request) (count : Text) → request_of_words (program ∷ words_of request count)
     ≡ asked_by (command_for request) (rows_behind request count)
 unfolding clap_on_literals
 command_met program (asm text script) count = refl
@@ -398,7 +398,7 @@ command_met program (run script fonts (Some n)) count = refl
 command_met program (go text fonts None) count = refl
 command_met program (go text fonts (Some n)) count = refl
 
-count_met : (program : Text) (request : Request) (count : Text) → bad_count (program ∷ words_of request count)
+count_met : (program : Text) (request : Request) (count : Text) → has_bad_limit_word (program ∷ words_of request count)
     ≡ is_bad_count (first_of (codes "until") (rows_behind request count))
 unfolding clap_on_literals
 count_met program (asm text script) count = refl
@@ -432,13 +432,13 @@ ended_counts (run script fonts (Some n)) count is = good_count count n is
 ended_counts (go text fonts None) count is = refl
 ended_counts (go text fonts (Some n)) count is = good_count count n is
 
-request_asked : (program : Text) (request : Request) (count : Text) → IsSound request count → asked (program ∷ words_of request count) ≡ Some request
+request_asked : (program : Text) (request : Request) (count : Text) → IsSound request count → request_of_words (program ∷ words_of request count) ≡ Some request
 request_asked program request count sound =
     command_met program request count
     ∙ ap (λ (w : Walk). asked_by (command_for request) (finished (rules (command_for request)) w.held)) (words_walked request count sound)
     ∙ ended_asks request count sound.1
 
-request_counts : (program : Text) (request : Request) (count : Text) → IsSound request count → bad_count (program ∷ words_of request count) ≡ false
+request_counts : (program : Text) (request : Request) (count : Text) → IsSound request count → has_bad_limit_word (program ∷ words_of request count) ≡ false
 request_counts program request count sound =
     count_met program request count
     ∙ ap (λ (w : Walk). is_bad_count (first_of (codes "until") (finished (rules (command_for request)) w.held))) (words_walked request count sound)
@@ -491,8 +491,8 @@ names_paths words result answer program request count are plain is =
     (request_counts program request count sound)
     (request_passes program request count sound)
   where
-    go_on : (r : Result Job Failure) → JobAnswers (program ∷ words_of request count) r → asked (program ∷ words_of request count) ≡ Some request
-        → bad_count (program ∷ words_of request count) ≡ false → fault_of command_line (program ∷ words_of request count) ≡ []
+    go_on : (r : Result Job Failure) → JobAnswers (program ∷ words_of request count) r → request_of_words (program ∷ words_of request count) ≡ Some request
+        → has_bad_limit_word (program ∷ words_of request count) ≡ false → fault_of command_line (program ∷ words_of request count) ≡ []
         → MatchResult r (λ job. request_of job ≡ request) (λ failure. failure ≡ Fault OutOfMemory)
     go_on (Ok job) answer asks counts passes = let same : Some (request_of job) ≡ Some request = sym answer.2 ∙ asks in cc
     go_on (Err (Words (Refused error))) (usable, inl among) asks counts passes = absurd (subst (IsAmong (kind_of error)) passes among)

@@ -8,13 +8,13 @@ use Rattle.vga_bits.specs.declared.fault.Fault.TheVariants.{TooMany}
 use Rattle.vga_script.specs.Item.{Listing, expanded}
 use Rattle.vga_script.specs.Decoding.{IsFault, IsSpellingFault}
 use Rattle.vga_script.specs.Input.{IsInput, IsReadingFault}
-use Rattle.vga_script.specs.Printing.{printed}
+use Rattle.vga_script.specs.Printing.{printed_script}
 use Rattle.vga_script.specs.Script.{IsScript, IsTextFault}
 use Rattle.vga_script.specs.Spelling.{Spells, encoding}
 use Rattle.vga_script.specs.Text.{SpellsText}
 use Rattle.bios_modes.specs.Fonts.{FontSet}
 use Rattle.vga_run.specs.Run.{RunsScript, RunsOutOfMemory}
-use Rattle.vga.specs.Scripts.{Assembles, FindsScript, Prints, RunsText, StopsText}
+use Rattle.vga.specs.Scripts.{AssembleAnswers, FindsScript, DisassembleAnswers, RunsText, StopsText}
 
 -- ---- a text
 
@@ -39,9 +39,9 @@ good_text input text script read spelled good = (text, read, spelled, good)
 
 -- and its bytes
 pub assembled : (input : Option (List ℕ)) (script : Listing) (result : Result (Vec ℕ Global) Fault) → FindsScript input (Ok script)
-    → IfOk result (λ bytes. bytes.items ≡ encoding script) → IsOkUnless result OutOfMemory → Assembles input result
+    → IfOk result (λ bytes. bytes.items ≡ encoding script) → IsOkUnless result OutOfMemory → AssembleAnswers input result
 assembled input script (Ok bytes) found are only = (script, found, are)
-assembled input script (Err f) found are only = subst (λ (x : Fault). Assembles input (Err x)) (sym only) tt
+assembled input script (Err f) found are only = subst (λ (x : Fault). AssembleAnswers input (Err x)) (sym only) tt
 
 -- ---- a text that is run
 
@@ -76,14 +76,14 @@ script_stops until fonts input before after script found stops = (script, found,
 -- ---- a script in bytes
 
 -- bytes that are not read
-pub unread_script : (input before after : Option (List ℕ)) (f : Fault) → IsReadingFault input f → Prints input before after (Err f)
-unread_script input before after f (inl is) = subst (λ (x : Fault). Prints input before after (Err x)) (sym is) tt
-unread_script input before after f (inr (inl (is, long))) = subst (λ (x : Fault). Prints input before after (Err x)) (sym is) long
-unread_script input before after f (inr (inr is)) = subst (λ (x : Fault). Prints input before after (Err x)) (sym is) tt
+pub unread_script : (input before after : Option (List ℕ)) (f : Fault) → IsReadingFault input f → DisassembleAnswers input before after (Err f)
+unread_script input before after f (inl is) = subst (λ (x : Fault). DisassembleAnswers input before after (Err x)) (sym is) tt
+unread_script input before after f (inr (inl (is, long))) = subst (λ (x : Fault). DisassembleAnswers input before after (Err x)) (sym is) long
+unread_script input before after f (inr (inr is)) = subst (λ (x : Fault). DisassembleAnswers input before after (Err x)) (sym is) tt
 
 -- bytes that spell no script
 unspelled : (input before after : Option (List ℕ)) (bytes : List ℕ) (f : Fault) → IsInput input bytes → IsSpellingFault bytes f →
-    Prints input before after (Err f)
+    DisassembleAnswers input before after (Err f)
 unspelled input before after bytes BadMagic read bad = (bytes, read, bad)
 unspelled input before after bytes BadVersion read bad = (bytes, read, bad)
 unspelled input before after bytes (BadStep at) read bad = (bytes, read, bad)
@@ -92,18 +92,18 @@ unspelled input before after bytes (TooMany at) read bad = (bytes, read, bad)
 unspelled input before after bytes _ read bad = absurd bad
 
 pub bad_script : (input before after : Option (List ℕ)) (bytes : List ℕ) (f : Fault) → IsInput input bytes → (f ≡ OutOfMemory) ⊎ IsFault bytes f →
-    Prints input before after (Err f)
-bad_script input before after bytes f read (inl is) = subst (λ (x : Fault). Prints input before after (Err x)) (sym is) tt
+    DisassembleAnswers input before after (Err f)
+bad_script input before after bytes f read (inl is) = subst (λ (x : Fault). DisassembleAnswers input before after (Err x)) (sym is) tt
 bad_script input before after bytes f read (inr (inl (is, long))) = let short = read.1 in absurd (omega arith)
 bad_script input before after bytes f read (inr (inr (short, bad))) = unspelled input before after bytes f read bad
 
 -- a script that finds no memory for its text
-pub unprinted_script : (input before after : Option (List ℕ)) (f : Fault) → f ≡ OutOfMemory → Prints input before after (Err f)
-unprinted_script input before after f is = subst (λ (x : Fault). Prints input before after (Err x)) (sym is) tt
+pub unprinted_script : (input before after : Option (List ℕ)) (f : Fault) → f ≡ OutOfMemory → DisassembleAnswers input before after (Err f)
+unprinted_script input before after f is = subst (λ (x : Fault). DisassembleAnswers input before after (Err x)) (sym is) tt
 
 -- a script that is printed
 pub good_script : (input before after : Option (List ℕ)) (bytes : List ℕ) (script : Listing) (failed : Bool) (result : Result Unit Fault) → IsInput input bytes
-    → Spells bytes script → Writes before after failed result (printed script) → Prints input before after result
+    → Spells bytes script → Writes before after failed result (printed_script script) → DisassembleAnswers input before after result
 good_script input before after bytes script failed (Ok u) read spelled w = (script, (bytes, read, spelled), w.0)
 good_script input before after bytes script failed (Err f) read spelled w =
-    subst (λ (x : Fault). Prints input before after (Err x)) (sym w.0) (script, (bytes, read, spelled), w.2)
+    subst (λ (x : Fault). DisassembleAnswers input before after (Err x)) (sym w.0) (script, (bytes, read, spelled), w.2)

@@ -12,7 +12,7 @@ use Rattle.clap.proofs.OnLiterals.{clap_on_literals}
 use Rattle.clap.proofs.WalkLemmas.{first_value-rows}
 use Rattle.vga.specs.Failure.{failure_of, is_out_of_memory, out_of_memory}
 use Rattle.vga.specs.CommandLine.{command_line}
-use Rattle.vga.specs.Arguments.{Finds, JobAnswers, RefusesCount, asked, asked_of, bad_count, has_bad_count, is_bad_count}
+use Rattle.vga.specs.Arguments.{FindsJob, JobAnswers, RefusesCount, request_of_words, asked_of, has_bad_limit_word, matches_have_bad_limit, is_bad_count}
 use Rattle.vga.specs.declared.failure.Failure.{Failure}
 use Rattle.vga.specs.declared.failure.Failure.TheVariants.{Words, Fault}
 use Rattle.vga.specs.declared.words_error.WordsError.TheVariants.{Refused, Missing}
@@ -36,7 +36,7 @@ command_is_asked m name wanted rows named has is = ap asked_of (pair_of _ _ _ na
 
 -- and its word for the number of steps is judged by them
 pub rows_are_judged : (o : Option (Text × List Row)) (rows : List Row) → Some rows ≡ option_map (λ p. p.1) o →
-    is_bad_count (first_of (codes "until") rows) ≡ has_bad_count o
+    is_bad_count (first_of (codes "until") rows) ≡ matches_have_bad_limit o
 rows_are_judged None rows has = cc
 rows_are_judged (Some command) rows has = let same : rows ≡ command.1 = cc in ap (λ (r : List Row). is_bad_count (first_of (codes "until") r)) same
 
@@ -78,12 +78,12 @@ are_met app words m ours matches = (subst (λ (a : App). HasMatchesOf a words m)
 
 -- what `job` answers where the number of steps is none
 pub bad_count_answers : (app : App) (words : List Text) (m : ArgMatches) (failure : Failure) → app ≡ command_line
-    → (is_simple_and_free app ≡ true → fault_of app words ≡ []) → HasMatchesOf app words m → has_bad_count (subcommand_rows_of m) ≡ true → RefusesCount failure
+    → (is_simple_and_free app ≡ true → fault_of app words ≡ []) → HasMatchesOf app words m → matches_have_bad_limit (subcommand_rows_of m) ≡ true → RefusesCount failure
     → JobAnswers words (Err failure)
 bad_count_answers app words m failure ours kinds matches bad refuses =
-    go failure (nothing_amiss app words ours kinds) (ap has_bad_count (sym (are_met app words m ours matches)) ∙ bad) refuses
+    go failure (nothing_amiss app words ours kinds) (ap matches_have_bad_limit (sym (are_met app words m ours matches)) ∙ bad) refuses
   where
-    go : (f : Failure) → fault_of command_line words ≡ [] → bad_count words ≡ true → RefusesCount f → JobAnswers words (Err f)
+    go : (f : Failure) → fault_of command_line words ≡ [] → has_bad_limit_word words ≡ true → RefusesCount f → JobAnswers words (Err f)
     go (Words (Refused error)) passes bad refuses = (
       (λ same. let no : kind.OutOfMemory ≡ kind.ValueValidation = sym same ∙ refuses in cc),
       inr (passes, bad, refuses),
@@ -93,14 +93,14 @@ bad_count_answers app words m failure ours kinds matches bad refuses =
 
 -- what `job` answers where it is one, or where there is no word for it
 pub matches_answer : (app : App) (words : List Text) (m : ArgMatches) (result : Result Job Failure) → app ≡ command_line
-    → (is_simple_and_free app ≡ true → fault_of app words ≡ []) → HasMatchesOf app words m → has_bad_count (subcommand_rows_of m) ≡ false
-    → Finds (asked_of (subcommand_rows_of m)) result → JobAnswers words result
+    → (is_simple_and_free app ≡ true → fault_of app words ≡ []) → HasMatchesOf app words m → matches_have_bad_limit (subcommand_rows_of m) ≡ false
+    → FindsJob (asked_of (subcommand_rows_of m)) result → JobAnswers words result
 matches_answer app words m result ours kinds matches counts found =
     let met = are_met app words m ours matches in
-    go result (nothing_amiss app words ours kinds) (ap has_bad_count (sym met) ∙ counts)
-    (subst (λ (o : Option (Text × List Row)). Finds (asked_of o) result) met found)
+    go result (nothing_amiss app words ours kinds) (ap matches_have_bad_limit (sym met) ∙ counts)
+    (subst (λ (o : Option (Text × List Row)). FindsJob (asked_of o) result) met found)
   where
-    go : (r : Result Job Failure) → fault_of command_line words ≡ [] → bad_count words ≡ false → Finds (asked words) r → JobAnswers words r
+    go : (r : Result Job Failure) → fault_of command_line words ≡ [] → has_bad_limit_word words ≡ false → FindsJob (request_of_words words) r → JobAnswers words r
     go (Ok job) passes counts found = (passes, counts, found)
     go (Err (Words (Refused error))) passes counts found = let bad : Words (Refused error) ≡ Words Missing = found.1 in cc
     go (Err (Words Missing)) passes counts found = (passes, counts, found.0)

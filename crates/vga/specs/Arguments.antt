@@ -18,22 +18,24 @@ use Rattle.vga.specs.declared.failure.Failure.TheVariants.{Words, Fault}
 use Rattle.vga.specs.declared.words_error.WordsError.TheVariants.{Refused, Missing}
 
 -- a request with one path, if there is one
-abbrev pub of_one : (Text → Request) → Option Text → Option Request
-of_one request (Some path) = Some (request path)
-of_one request None = None
+abbrev pub request_of_one_path : (Text → Request) → Option Text → Option Request
+request_of_one_path request (Some path) = Some (request path)
+request_of_one_path request None = None
 
 -- a request with two paths, if there are two
-abbrev pub of_two : (Text → Text → Request) → Option Text → Option Text → Option Request
-of_two request (Some first) (Some second) = Some (request first second)
-of_two request _ _ = None
+abbrev pub request_of_two_paths : (Text → Text → Request) → Option Text → Option Text → Option
+    Request
+request_of_two_paths request (Some first) (Some second) = Some (request first second)
+request_of_two_paths request _ _ = None
 
 -- what the matches of `asm` ask for
 abbrev pub asm_asked : List Row → Option Request
-asm_asked rows = of_two asm (first_of (codes "TEXT") rows) (first_of (codes "BIN") rows)
+asm_asked rows =
+    request_of_two_paths asm (first_of (codes "TEXT") rows) (first_of (codes "BIN") rows)
 
 -- what the matches of `dis` ask for
 abbrev pub dis_asked : List Row → Option Request
-dis_asked rows = of_one dis (first_of (codes "BIN") rows)
+dis_asked rows = request_of_one_path dis (first_of (codes "BIN") rows)
 
 -- a word of decimal digits only, whose number fits into 32 bits
 abbrev pub is_count : Text → Bool
@@ -49,12 +51,12 @@ until_asked rows = option_and_then count_of (first_of (codes "until") rows)
 
 -- what the matches of `run` ask for
 abbrev pub run_asked : List Row → Option Request
-run_asked rows = of_two (λ script fonts. run script fonts (until_asked rows))
+run_asked rows = request_of_two_paths (λ script fonts. run script fonts (until_asked rows))
     (first_of (codes "BIN") rows) (first_of (codes "fonts") rows)
 
 -- what the matches of `go` ask for
 abbrev pub go_asked : List Row → Option Request
-go_asked rows = of_two (λ text fonts. go text fonts (until_asked rows))
+go_asked rows = request_of_two_paths (λ text fonts. go text fonts (until_asked rows))
     (first_of (codes "TEXT") rows) (first_of (codes "fonts") rows)
 
 -- what a command and its matches ask for, if no path is missing
@@ -68,8 +70,8 @@ asked_of (Some command) =
     else None
 
 -- what words on the program's command line ask for
-abbrev pub asked : List Text → Option Request
-asked words = asked_of (subcommand_of command_line words)
+abbrev pub request_of_words : List Text → Option Request
+request_of_words words = asked_of (subcommand_of command_line words)
 
 -- there is a word for the limit, and it is not a number of steps
 abbrev pub is_bad_count : Option Text → Bool
@@ -77,13 +79,13 @@ is_bad_count None = false
 is_bad_count (Some word) = not (is_count word)
 
 -- the matches of a command have such a word
-abbrev pub has_bad_count : Option (Text × List Row) → Bool
-has_bad_count None = false
-has_bad_count (Some command) = is_bad_count (first_of (codes "until") command.1)
+abbrev pub matches_have_bad_limit : Option (Text × List Row) → Bool
+matches_have_bad_limit None = false
+matches_have_bad_limit (Some command) = is_bad_count (first_of (codes "until") command.1)
 
 -- words on the program's command line have such a word
-abbrev pub bad_count : List Text → Bool
-bad_count words = has_bad_count (subcommand_of command_line words)
+abbrev pub has_bad_limit_word : List Text → Bool
+has_bad_limit_word words = matches_have_bad_limit (subcommand_of command_line words)
 
 -- the refusal of a word for the limit; or an allocation failed
 abbrev pub RefusesCount : Failure → Type 0
@@ -95,23 +97,23 @@ RefusesCount (Fault fault) = fault ≡ OutOfMemory
 -- finds none, and their word for the limit is not a number of steps.
 abbrev pub Refuses : List Text → ErrorKind → Type 0
 Refuses words found = IsAmong found (fault_of command_line words)
-    ⊎ ((fault_of command_line words ≡ []) × (bad_count words ≡ true)
+    ⊎ ((fault_of command_line words ≡ []) × (has_bad_limit_word words ≡ true)
     × (found ≡ kind.ValueValidation))
 
 -- the job that is asked for, or that a command or a path is missing
-abbrev pub Finds : Option Request → Result Job Failure → Type 0
-Finds request (Ok job) = request ≡ Some (request_of job)
-Finds request (Err failure) = (request ≡ None) × (failure ≡ Words Missing)
+abbrev pub FindsJob : Option Request → Result Job Failure → Type 0
+FindsJob request (Ok job) = request ≡ Some (request_of job)
+FindsJob request (Err failure) = (request ≡ None) × (failure ≡ Words Missing)
 
 -- What `job` answers for words: the job that they ask for; or that they are refused; or that they
 -- are accepted but lack a command or a path; or that an allocation failed.
 abbrev pub JobAnswers : List Text → Result Job Failure → Type 0
-JobAnswers words (Ok job) = (fault_of command_line words ≡ []) × (bad_count words ≡ false)
-    × (asked words ≡ Some (request_of job))
+JobAnswers words (Ok job) = (fault_of command_line words ≡ []) × (has_bad_limit_word words ≡ false)
+    × (request_of_words words ≡ Some (request_of job))
 JobAnswers words (Err (Words (Refused error))) = (kind_of error ≢ kind.OutOfMemory)
     × Refuses words (kind_of error)
 JobAnswers words (Err (Words Missing)) = (fault_of command_line words ≡ [])
-    × (bad_count words ≡ false) × (asked words ≡ None)
+    × (has_bad_limit_word words ≡ false) × (request_of_words words ≡ None)
 JobAnswers words (Err (Fault fault)) = fault ≡ OutOfMemory
 
 -- the word may be a flag

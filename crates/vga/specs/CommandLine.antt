@@ -4,8 +4,8 @@ use Rattle.clap.specs.Words.{App, Rule, Shape, Text, new_rule}
 use Rattle.clap.specs.Simple.{new_shape}
 
 -- a file that is named by its position among the words
-abbrev pub path_argument : Text → Rule
-path_argument id = record (new_rule id) { required = true }
+abbrev pub required_path_argument : Text → Rule
+required_path_argument id = record (new_rule id) { required = true }
 
 -- the font file, which follows `--fonts`
 abbrev pub fonts_argument : Rule
@@ -23,39 +23,39 @@ until_argument = record (new_rule (codes "until")) { long = Some (codes "until")
 abbrev pub asm_command : Shape
 asm_command = record (new_shape (codes "asm")) {
   rules =
-      path_argument (codes "TEXT") ∷ path_argument (codes "BIN") ∷ [];
+      required_path_argument (codes "TEXT") ∷ required_path_argument (codes "BIN") ∷ [];
 }
 
 -- `dis BIN`
 abbrev pub dis_command : Shape
-dis_command = record (new_shape (codes "dis")) { rules = path_argument (codes "BIN") ∷ [] }
+dis_command = record (new_shape (codes "dis")) { rules = required_path_argument (codes "BIN") ∷ [] }
 
 -- `run BIN --fonts FILE`, which `--until N` may follow
 abbrev pub run_command : Shape
 run_command = record (new_shape (codes "run")) {
   rules =
-      path_argument (codes "BIN") ∷ fonts_argument ∷ until_argument ∷ [];
+      required_path_argument (codes "BIN") ∷ fonts_argument ∷ until_argument ∷ [];
 }
 
 -- `go TEXT --fonts FILE`, which `--until N` may follow
 abbrev pub go_command : Shape
 go_command = record (new_shape (codes "go")) {
   rules =
-      path_argument (codes "TEXT") ∷ fonts_argument ∷ until_argument ∷ [];
+      required_path_argument (codes "TEXT") ∷ fonts_argument ∷ until_argument ∷ [];
 }
 
 -- `vga` itself, which needs a command after it
-abbrev pub program : Shape
-program = record (new_shape (codes "vga")) { is_leaf = false; subcommand_required = true }
+abbrev pub program_shape : Shape
+program_shape = record (new_shape (codes "vga")) { is_leaf = false; subcommand_required = true }
 
 -- `vga` and a command that converts a script from one form to the other
-abbrev pub converting_line : App
-converting_line = record { top = program; subs = asm_command ∷ dis_command ∷ [] }
+abbrev pub converting_commands : App
+converting_commands = record { top = program_shape; subs = asm_command ∷ dis_command ∷ [] }
 
 -- `vga` and a command
 abbrev pub command_line : App
 command_line = record {
-  top = program;
+  top = program_shape;
   subs = asm_command ∷ dis_command ∷ run_command ∷ go_command
       ∷ [];
 }

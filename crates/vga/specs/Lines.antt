@@ -2,5 +2,5 @@
 use Rattle.std.specs.Prelude.{List, ℕ, ◌++◌, ◌∷◌, [], codes}
 
 -- `vga: `, a text and a newline
-abbrev pub line_of : List ℕ → List ℕ
-line_of text = codes "vga: " ++ (text ++ 10 ∷ [])
+abbrev pub program_line : List ℕ → List ℕ
+program_line text = codes "vga: " ++ (text ++ 10 ∷ [])

@@ -9,7 +9,7 @@ use Rattle.vga_bits.specs.declared.fault.Fault.TheVariants.{FontSize, TooLong, B
 use Rattle.vga_bits.specs.declared.fault.Fault.TheVariants.{WriteFault, OutOfMemory}
 use Rattle.vga_script.specs.Item.{Listing, expanded}
 use Rattle.vga_script.specs.Input.{InputHasFault, InputSpells, InputSpellsText, IsInput, IsTooLong}
-use Rattle.vga_script.specs.Printing.{printed}
+use Rattle.vga_script.specs.Printing.{printed_script}
 use Rattle.vga_script.specs.Script.{SpellsTooLongScript}
 use Rattle.vga_script.specs.Spelling.{encoding}
 use Rattle.vga_script.specs.Text.{IsBadLine}
@@ -33,23 +33,25 @@ FindsScript input (Ok script) = InputSpellsText input script
 FindsScript input (Err fault) = IsAssemblingFault input fault
 
 -- What assembling answers: the bytes of the script that the text spells, or why there is none.
-abbrev pub Assembles : Option (List ℕ) → Result (Vec ℕ Global) Fault → Type 0
-Assembles input (Ok bytes) = (script : Listing) × InputSpellsText input script
+abbrev pub AssembleAnswers : Option (List ℕ) → Result (Vec ℕ Global) Fault → Type 0
+AssembleAnswers input (Ok bytes) = (script : Listing) × InputSpellsText input script
     × (bytes.items ≡ encoding script)
-Assembles input (Err fault) = IsAssemblingFault input fault
+AssembleAnswers input (Err fault) = IsAssemblingFault input fault
 
 -- What disassembling answers, over a writer whose contents are `before` and `after`: it has written
 -- the printed text of the script, or a prefix of it if the writer failed; or the first fault of the
 -- bytes.
-abbrev pub Prints : Option (List ℕ) → Option (List ℕ) → Option (List ℕ) → Result Unit Fault → Type 0
-Prints input before after (Ok done) = (script : Listing) × InputSpells input script
-    × Appends before after (printed script)
-Prints input before after (Err WriteFault) = (script : Listing) × InputSpells input script
-    × AppendsPrefix before after (printed script)
-Prints input before after (Err TooLong) = IsTooLong input
-Prints input before after (Err ReadFault) = ⊤
-Prints input before after (Err OutOfMemory) = ⊤
-Prints input before after (Err fault) = InputHasFault input fault
+abbrev pub DisassembleAnswers : Option (List ℕ) → Option (List ℕ) → Option (List ℕ) → Result Unit
+    Fault → Type 0
+DisassembleAnswers input before after (Ok done) = (script : Listing) × InputSpells input script
+    × Appends before after (printed_script script)
+DisassembleAnswers input before after (Err WriteFault) =
+    (script : Listing) × InputSpells input script
+    × AppendsPrefix before after (printed_script script)
+DisassembleAnswers input before after (Err TooLong) = IsTooLong input
+DisassembleAnswers input before after (Err ReadFault) = ⊤
+DisassembleAnswers input before after (Err OutOfMemory) = ⊤
+DisassembleAnswers input before after (Err fault) = InputHasFault input fault
 
 -- What running a text answers, with a limit or without, with a font file and over a writer whose
 -- contents are `before` and `after`. It has written the report of the script that the text spells,

@@ -3,9 +3,10 @@ ghost use Rattle.std.specs.Prelude.{◌≡◌, ◌==◌, codes, map, slice_index
 ghost use Rattle.std.specs.IoError.{error_kind};
 ghost use Rattle.clap.specs.Words.{first_of, found_of, rows_of, subcommand_rows_of};
 ghost use Rattle.vga.specs.Failure.{unread_failure};
-ghost use Rattle.vga.specs.Arguments.{Finds, JobAnswers, NamesPaths, RefusesCount, asked_of};
+ghost use Rattle.vga.specs.Arguments.{FindsJob, JobAnswers, NamesPaths, RefusesCount, asked_of};
 ghost use Rattle.vga.specs.Arguments.{asm_asked};
-ghost use Rattle.vga.specs.Arguments.{count_of, dis_asked, go_asked, has_bad_count, is_bad_count};
+ghost use Rattle.vga.specs.Arguments.{count_of, dis_asked, go_asked, matches_have_bad_limit};
+ghost use Rattle.vga.specs.Arguments.{is_bad_count};
 ghost use Rattle.vga.specs.Arguments.{run_asked, until_asked};
 
 use super::command_line::command_line;
@@ -62,8 +63,8 @@ fn is_bad_count(command: &ArgMatches) -> bool
 
 /// The same of the command that the matches name.
 #[tactic(auto, using(crate::proofs::WordsLemmas::rows_are_judged))]
-fn has_bad_count(matches: &ArgMatches) -> bool
-    ensures { result ≡ has_bad_count (subcommand_rows_of matches.now) }
+fn matches_have_bad_limit(matches: &ArgMatches) -> bool
+    ensures { result ≡ matches_have_bad_limit (subcommand_rows_of matches.now) }
 {
     match matches.subcommand() {
         Some((_, command)) => is_bad_count(command),
@@ -84,7 +85,7 @@ fn refuse_count(line: &mut Command) -> Failure
 /// The job that the matches of `asm` name.
 #[tactic(auto, using(crate::proofs::WordsLemmas::first_value_rows))]
 fn asm_job<'a>(asm: &ArgMatches<'a>) -> Result<Job<'a>, Failure>
-    ensures { Finds (asm_asked (rows_of (found_of asm.now))) result }
+    ensures { FindsJob (asm_asked (rows_of (found_of asm.now))) result }
 {
     match (asm.get_str("TEXT"), asm.get_str("BIN")) {
         (Some(text), Some(script)) => Ok(Job::Asm { text, script }),
@@ -95,7 +96,7 @@ fn asm_job<'a>(asm: &ArgMatches<'a>) -> Result<Job<'a>, Failure>
 /// The job that the matches of `dis` name.
 #[tactic(auto, using(crate::proofs::WordsLemmas::first_value_rows))]
 fn dis_job<'a>(dis: &ArgMatches<'a>) -> Result<Job<'a>, Failure>
-    ensures { Finds (dis_asked (rows_of (found_of dis.now))) result }
+    ensures { FindsJob (dis_asked (rows_of (found_of dis.now))) result }
 {
     match dis.get_str("BIN") {
         Some(script) => Ok(Job::Dis { script }),
@@ -106,7 +107,7 @@ fn dis_job<'a>(dis: &ArgMatches<'a>) -> Result<Job<'a>, Failure>
 /// The job that the matches of `run` name.
 #[tactic(auto, using(crate::proofs::WordsLemmas::first_value_rows))]
 fn run_job<'a>(run: &ArgMatches<'a>) -> Result<Job<'a>, Failure>
-    ensures { Finds (run_asked (rows_of (found_of run.now))) result }
+    ensures { FindsJob (run_asked (rows_of (found_of run.now))) result }
 {
     match (run.get_str("BIN"), run.get_str("fonts")) {
         (Some(script), Some(fonts)) => Ok(Job::Run {
@@ -121,7 +122,7 @@ fn run_job<'a>(run: &ArgMatches<'a>) -> Result<Job<'a>, Failure>
 /// The job that the matches of `go` name.
 #[tactic(auto, using(crate::proofs::WordsLemmas::first_value_rows))]
 fn go_job<'a>(go: &ArgMatches<'a>) -> Result<Job<'a>, Failure>
-    ensures { Finds (go_asked (rows_of (found_of go.now))) result }
+    ensures { FindsJob (go_asked (rows_of (found_of go.now))) result }
 {
     match (go.get_str("TEXT"), go.get_str("fonts")) {
         (Some(text), Some(fonts)) => Ok(Job::Go {
@@ -135,7 +136,7 @@ fn go_job<'a>(go: &ArgMatches<'a>) -> Result<Job<'a>, Failure>
 
 /// The job that matches name.
 fn matched_job<'a>(matches: &ArgMatches<'a>) -> Result<Job<'a>, Failure>
-    ensures { Finds (asked_of (subcommand_rows_of matches.now)) result }
+    ensures { FindsJob (asked_of (subcommand_rows_of matches.now)) result }
 {
     match matches.subcommand() {
         Some(("asm", asm)) => asm_job(asm),
@@ -148,7 +149,7 @@ fn matched_job<'a>(matches: &ArgMatches<'a>) -> Result<Job<'a>, Failure>
 
 /// Why the words could not be read: an allocation failed, or one of them is not text, so it can be
 /// no path.
-pub fn unread(error: &io::Error) -> Failure
+pub fn unread_words_failure(error: &io::Error) -> Failure
     ensures { result ≡ unread_failure (error_kind error.now) }
 {
     match error.kind() {
@@ -163,7 +164,7 @@ fn parsed_job<'a>(alloc: Global, words: &'a [String]) -> Result<Job<'a>, Failure
 {
     let mut line = command_line(alloc)?;
     let matches = line.try_get_matches_from_mut(words)?;
-    if has_bad_count(&matches) {
+    if matches_have_bad_limit(&matches) {
         return Err(refuse_count(&mut line));
     }
     matched_job(&matches)

@@ -2,8 +2,10 @@
 ghost use Rattle.std.specs.Prelude.{◌≡◌, IfOk, false};
 ghost use Rattle.clap.specs.Words.{app_of, new_app, rule_of, shape_of};
 ghost use Rattle.clap.specs.declared.builder.command.Command.TheViews.{out-Command as fields_of};
-ghost use Rattle.vga.specs.CommandLine.{asm_command, command_line, converting_line, dis_command};
-ghost use Rattle.vga.specs.CommandLine.{fonts_argument, go_command, path_argument, run_command};
+ghost use Rattle.vga.specs.CommandLine.{asm_command, command_line, converting_commands};
+ghost use Rattle.vga.specs.CommandLine.{dis_command};
+ghost use Rattle.vga.specs.CommandLine.{fonts_argument, go_command, required_path_argument};
+ghost use Rattle.vga.specs.CommandLine.{run_command};
 ghost use Rattle.vga.specs.CommandLine.{until_argument};
 
 use clap::{Arg, Command};
@@ -86,8 +88,8 @@ docs/REPORT.md explains each answer and each fault.
 vga 1.6";
 
 /// A required argument that names a file.
-fn path_argument<'a>(alloc: Global, id: &'a str, help: &'a str) -> Arg<'a>
-    ensures rule { rule_of result ≡ path_argument id.now }
+fn required_path_argument<'a>(alloc: Global, id: &'a str, help: &'a str) -> Arg<'a>
+    ensures rule { rule_of result ≡ required_path_argument id.now }
     ensures local { result.global ≡ false }
 {
     Arg::new(alloc, id).required(true).help(help)
@@ -118,7 +120,7 @@ fn until_argument<'a>(alloc: Global) -> Arg<'a>
 
 /// A command without arguments: its name, a description, its usage, and the text that its help ends
 /// with.
-fn described<'a>(
+fn command_described_as<'a>(
     alloc: Global,
     name: &'a str,
     about: &'a str,
@@ -138,43 +140,43 @@ fn described<'a>(
 fn asm_command<'a>(alloc: Global) -> Result<Command<'a>, AllocError>
     ensures { IfOk result (λ c. (shape_of c ≡ asm_command) × ((fields_of c).has_globals ≡ false)) }
 {
-    described(
+    command_described_as(
         alloc,
         "asm",
         "Assembles the text of a script, and writes its binary form",
         "vga asm <TEXT> <BIN>",
         ASM_EXAMPLE,
     )
-    .arg(path_argument(alloc, "TEXT", "The script, as text"))?
-    .arg(path_argument(alloc, "BIN", "The file that its binary form is written to"))
+    .arg(required_path_argument(alloc, "TEXT", "The script, as text"))?
+    .arg(required_path_argument(alloc, "BIN", "The file that its binary form is written to"))
 }
 
 /// `dis BIN`.
 fn dis_command<'a>(alloc: Global) -> Result<Command<'a>, AllocError>
     ensures { IfOk result (λ c. (shape_of c ≡ dis_command) × ((fields_of c).has_globals ≡ false)) }
 {
-    described(
+    command_described_as(
         alloc,
         "dis",
         "Prints a script as text on standard output",
         "vga dis <BIN>",
         DIS_EXAMPLE,
     )
-    .arg(path_argument(alloc, "BIN", "The script, in its binary form"))
+    .arg(required_path_argument(alloc, "BIN", "The script, in its binary form"))
 }
 
 /// `run BIN --fonts FILE [--until N]`.
 fn run_command<'a>(alloc: Global) -> Result<Command<'a>, AllocError>
     ensures { IfOk result (λ c. (shape_of c ≡ run_command) × ((fields_of c).has_globals ≡ false)) }
 {
-    described(
+    command_described_as(
         alloc,
         "run",
         "Runs a script, and writes its report on standard output",
         "vga run <BIN> --fonts <FILE> [--until <N>]",
         RUN_EXAMPLE,
     )
-    .arg(path_argument(alloc, "BIN", "The script, in its binary form"))?
+    .arg(required_path_argument(alloc, "BIN", "The script, in its binary form"))?
     .arg(fonts_argument(alloc))?
     .arg(until_argument(alloc))
 }
@@ -183,24 +185,24 @@ fn run_command<'a>(alloc: Global) -> Result<Command<'a>, AllocError>
 fn go_command<'a>(alloc: Global) -> Result<Command<'a>, AllocError>
     ensures { IfOk result (λ c. (shape_of c ≡ go_command) × ((fields_of c).has_globals ≡ false)) }
 {
-    described(
+    command_described_as(
         alloc,
         "go",
         "Assembles the text of a script, and runs it as `run` does",
         "vga go <TEXT> --fonts <FILE> [--until <N>]",
         GO_EXAMPLE,
     )
-    .arg(path_argument(alloc, "TEXT", "The script, as text"))?
+    .arg(required_path_argument(alloc, "TEXT", "The script, as text"))?
     .arg(fonts_argument(alloc))?
     .arg(until_argument(alloc))
 }
 
 /// The program's command line without the commands that run a script.
-fn converting_line<'a>(alloc: Global) -> Result<Command<'a>, AllocError>
-    ensures line { IfOk result (λ c. app_of c ≡ converting_line) }
+fn converting_commands<'a>(alloc: Global) -> Result<Command<'a>, AllocError>
+    ensures line { IfOk result (λ c. app_of c ≡ converting_commands) }
     ensures local { IfOk result (λ c. (fields_of c).has_globals ≡ false) }
 {
-    described(
+    command_described_as(
         alloc,
         "vga",
         "A VGA display adapter that is driven by a script",
@@ -216,7 +218,7 @@ fn converting_line<'a>(alloc: Global) -> Result<Command<'a>, AllocError>
 pub fn command_line<'a>(alloc: Global) -> Result<Command<'a>, AllocError>
     ensures { IfOk result (λ c. app_of c ≡ command_line) }
 {
-    converting_line(alloc)?
+    converting_commands(alloc)?
         .subcommand(run_command(alloc)?)?
         .subcommand(go_command(alloc)?)
 }

@@ -23,7 +23,7 @@ use words_error::WordsError;
 
 /// Assembles the text at one path, and writes its script at another.
 fn assemble_file<R: Files + AllocGlobal>(rt: &R, text: &str, script: &str) -> Result<(), Fault> {
-    let bytes = scripts::assembled(rt.alloc(), &mut input_files::open(rt, text)?)?;
+    let bytes = scripts::assemble_to_bytes(rt.alloc(), &mut input_files::open(rt, text)?)?;
     output_files::write_all(&mut output_files::create(rt, script)?, bytes.as_slice())
 }
 
@@ -70,7 +70,7 @@ fn run_text_file<R: Files + Print + AllocGlobal>(
 
 /// Does the job that the words of the command line name.
 fn do_job<R: Env + Files + Print + AllocGlobal>(rt: &R) -> Result<(), Failure> {
-    let args = env::args(rt).map_err(|error| arguments::unread(&error))?;
+    let args = env::args(rt).map_err(|error| arguments::unread_words_failure(&error))?;
     let words: Vec<String> = args.collect(rt.alloc())?;
     match arguments::job(rt.alloc(), words.as_slice())? {
         Job::Asm { text, script } => assemble_file(rt, text, script)?,

@@ -4,7 +4,8 @@ ghost use Rattle.vga_bits.specs.declared.fault.Fault.TheVariants.{WriteFault, Ou
 ghost use Rattle.vga_bits.specs.Tracked.{inner_of, has_failed, is_write_fault};
 ghost use Rattle.bios_modes.specs.Fonts.{fonts_of};
 ghost use Rattle.vga_script.specs.Input.{ReadsScript};
-ghost use Rattle.vga.specs.Scripts.{Assembles, FindsScript, Prints, RunsText, StopsText};
+ghost use Rattle.vga.specs.Scripts.{AssembleAnswers, FindsScript, DisassembleAnswers, RunsText};
+ghost use Rattle.vga.specs.Scripts.{StopsText};
 
 use super::output_files::write_all;
 use std::alloc::Global;
@@ -33,9 +34,9 @@ fn read_and_assemble<R: Read>(alloc: Global, text: &mut Tracked<R>) -> Result<Sc
 ///
 /// `ReadFault` if the reader fails, `TooLong` and `BadLine` as for `assemble`, and `OutOfMemory`.
 #[tactic(auto, using(crate::proofs::ScriptsLemmas::assembled))]
-pub fn assembled<R: Read>(alloc: Global, text: &mut Tracked<R>) -> Result<Vec<u8>, Fault>
+pub fn assemble_to_bytes<R: Read>(alloc: Global, text: &mut Tracked<R>) -> Result<Vec<u8>, Fault>
     requires { has_failed text.old ≡ false }
-    ensures answer { Assembles (R.remaining (inner_of text.old)) result }
+    ensures answer { AssembleAnswers (R.remaining (inner_of text.old)) result }
     ensures reading { ReadsScript R.remaining text.old text.new result }
 {
     let script = read_and_assemble(alloc, text)?;
@@ -57,7 +58,8 @@ pub fn print_script<R: Read, W: Write>(
 ) -> Result<(), Fault>
     requires reader { has_failed script.old ≡ false }
     requires writer { has_failed out.old ≡ false }
-    ensures answer { Prints (R.remaining (inner_of script.old)) (W.contents (inner_of out.old))
+    ensures answer { DisassembleAnswers (R.remaining (inner_of script.old))
+        (W.contents (inner_of out.old))
         (W.contents (inner_of out.new)) result }
     ensures reading { ReadsScript R.remaining script.old script.new result }
     ensures write_failed { has_failed out.new ≡ is_write_fault result }

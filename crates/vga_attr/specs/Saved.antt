@@ -1,7 +1,7 @@
 -- The attribute controller as bytes: the registers in their order, the index with the palette
 -- address source, and 1 if the next write is data, else 0.
 use Rattle.std.specs.Prelude.{ℕ, ◌≡◌, ◌<◌, List, [], ◌∷◌, ◌++◌, length, take, drop, slice_index}
-use Rattle.vga_bits.specs.RegFile.{AreKept}
+use Rattle.vga_bits.specs.RegFile.{AreWithinMasks}
 use Rattle.vga_bits.specs.Saved.{flag_byte, flag_at}
 use Rattle.vga_attr.specs.Attr.{AttrState, attr_masks}
 
@@ -13,7 +13,7 @@ saved_attr a = a.registers ++ (a.index ∷ flag_byte a.is_data ∷ [])
 -- an index of six bits, and a flag
 pub record IsSavedAttr (bytes : List ℕ) : Type 0 where
   pub size : length bytes ≡ 23
-  pub kept : AreKept attr_masks (take 21 bytes)
+  pub kept : AreWithinMasks attr_masks (take 21 bytes)
   pub index : slice_index (drop 21 bytes) 0 < 64
   pub flag : slice_index (drop 21 bytes) 1 < 2
 

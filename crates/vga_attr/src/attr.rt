@@ -4,7 +4,7 @@ ghost use Rattle.std.specs.Prelude.{◌≡◌, ◌<◌, ◌↔◌, IsTrue, OnOk,
 mod fields;
 mod saved;
 
-use fields::numbers_of;
+use fields::colour_numbers_of;
 use std::marker::Model;
 use vga_bits::{Refusal, RegFile};
 
@@ -39,7 +39,7 @@ pub struct Attr {
 impl Model for Attr {
     ghost use Rattle.std.specs.Prelude.{◌≡◌, ◌<◌};
     ghost use Rattle.vga_attr.specs.Attr.{AttrState};
-    ghost use Rattle.vga_attr.specs.Colour.{AreNumbers};
+    ghost use Rattle.vga_attr.specs.Colour.{AreColourNumbers};
     ghost use Rattle.vga_attr.specs.declared.attr.TheConstants.{MASKS};
 
     ghost Value = { AttrState };
@@ -51,14 +51,14 @@ impl Model for Attr {
     } };
 
     ghost invariant = { λ a. (a.registers.masks ≡ MASKS) × (a.index < 64)
-        × AreNumbers a.numbers a.registers.values };
+        × AreColourNumbers a.numbers a.registers.values };
 }
 
 impl Attr {
-    ghost use Rattle.vga_attr.specs.Attr.{power_on_attr, register_of, is_refused_write};
-    ghost use Rattle.vga_attr.specs.Attr.{registers_after};
-    ghost use Rattle.vga_attr.specs.Attr.{after_write, is_refused_read, register_value};
-    ghost use Rattle.vga_attr.specs.Attr.{after_reset, IsAttr};
+    ghost use Rattle.vga_attr.specs.Attr.{power_on_attr, selected_register, is_refused_write};
+    ghost use Rattle.vga_attr.specs.Attr.{registers_after_data};
+    ghost use Rattle.vga_attr.specs.Attr.{after_write, is_refused_read, selected_register_value};
+    ghost use Rattle.vga_attr.specs.Attr.{after_flip_flop_reset, IsAttr};
 
     /// The attribute controller at power-on: registers and index are 0, and the next write is an
     /// index.
@@ -67,7 +67,7 @@ impl Attr {
     {
         let registers = RegFile::new(MASKS);
         Attr {
-            numbers: numbers_of(&registers),
+            numbers: colour_numbers_of(&registers),
             registers,
             index: 0,
             is_data: false,
@@ -85,17 +85,17 @@ impl Attr {
 
     /// The number of the register that the index selects, 0 to 31.
     fn register(&self) -> u8
-        ensures { result ≡ register_of self.now }
+        ensures { result ≡ selected_register self.now }
     {
         self.index & 0x1F
     }
 
     /// Writes data to the register that the index selects, if it exists and is not locked.
-    fn write_data(&mut self, v: u8) -> Result<(), Refusal>
+    fn write_selected_register(&mut self, v: u8) -> Result<(), Refusal>
         ensures refused { IsErr result ↔ IsTrue (is_refused_read self.old) }
         ensures ok { OnOk result (self.new ≡ record self.old {
           registers =
-              registers_after self.old v;
+              registers_after_data self.old v;
         }) }
         ensures err { IfErr result (λ e. (e ≡ Refusal.NotInProfile) × (self.new ≡ self.old)) }
     {
@@ -105,7 +105,7 @@ impl Attr {
         }
         if i >= PALETTE_REGISTERS || !self.is_palette_shown() {
             self.registers.write(i as usize, v);
-            self.numbers = numbers_of(&self.registers);
+            self.numbers = colour_numbers_of(&self.registers);
         }
         Ok(())
     }
@@ -119,7 +119,7 @@ impl Attr {
         ensures err { IfErr result (λ e. (e ≡ Refusal.NotInProfile) × (self.new ≡ self.old)) }
     {
         if self.is_data {
-            self.write_data(v)?;
+            self.write_selected_register(v)?;
         } else {
             self.index = v & INDEX_MASK;
         }
@@ -131,7 +131,7 @@ impl Attr {
     /// `NotInProfile`.
     pub fn read_register(&self) -> Result<u8, Refusal>
         ensures refused { IsErr result ↔ IsTrue (is_refused_read self.now) }
-        ensures ok { IfOk result (λ v. v ≡ register_value self.now) }
+        ensures ok { IfOk result (λ v. v ≡ selected_register_value self.now) }
         ensures err { IfErr result (λ e. e ≡ Refusal.NotInProfile) }
     {
         let i = self.register();
@@ -150,7 +150,7 @@ impl Attr {
 
     /// Makes the next write an index, as reading input status 1 does.
     pub fn to_index(&mut self)
-        ensures { self.new ≡ after_reset self.old }
+        ensures { self.new ≡ after_flip_flop_reset self.old }
     {
         self.is_data = false;
     }

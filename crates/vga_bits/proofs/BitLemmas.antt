@@ -5,11 +5,11 @@ use Rattle.std.proofs.lemmas.Bool.Decides.{nat_tests}
 use Rattle.std.specs.Int.{bit_at, rotate_right}
 use Rattle.std.proofs.lemmas.Nat.Bits.{ones_shr, bit_at_or, bit_at_and, bit_at-lt, bit_at-zero, bit_at_ones, bit_at_above, bit_at_cat_low, bit_at_cat_high}
 use Rattle.std.proofs.lemmas.Nat.{and_mask, shr-shr, pow_pos, div-add-mod'}
-use Rattle.vga_bits.specs.Bits.{byte_of, is_set}
+use Rattle.vga_bits.specs.Bits.{byte_of_bits, is_set}
 
 -- a byte whose bits are given is the byte of them
-pub byte_from_bits : (b : ℕ) (f : ℕ → ℕ) → b < 256 → ((i : ℕ) → i < 8 → bit_at b i ≡ f i) → b ≡ byte_of f
-unfolding byte_of
+pub byte_from_bits : (b : ℕ) (f : ℕ → ℕ) → b < 256 → ((i : ℕ) → i < 8 → bit_at b i ≡ f i) → b ≡ byte_of_bits f
+unfolding byte_of_bits
 byte_from_bits b f fits bits =
     let e0 = bits 0 (omega arith) in
     let e1 = bits 1 (omega arith) in
@@ -22,12 +22,12 @@ byte_from_bits b f fits bits =
     omega arith
 
 -- a byte is the byte of its bits
-pub byte_bits : (b : ℕ) → b < 256 → byte_of (bit_at b) ≡ b
+pub byte_bits : (b : ℕ) → b < 256 → byte_of_bits (bit_at b) ≡ b
 byte_bits b fits = sym (byte_from_bits b (bit_at b) fits (λ i within. refl))
 
 -- eight bits make a byte
-pub byte_small : (f : ℕ → ℕ) → ((i : ℕ) → f i < 2) → byte_of f < 256
-unfolding byte_of
+pub byte_small : (f : ℕ → ℕ) → ((i : ℕ) → f i < 2) → byte_of_bits f < 256
+unfolding byte_of_bits
 byte_small f bits =
     let b0 = bits 0 in
     let b1 = bits 1 in

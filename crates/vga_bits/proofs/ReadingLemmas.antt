@@ -6,7 +6,7 @@ use Rattle.std.specs.Io.KnownBytes.{Consumes}
 use Rattle.std.proofs.KnownBytes.{Consumes-trans}
 use Rattle.vga_bits.specs.declared.fault.Fault.{Fault}
 use Rattle.vga_bits.specs.declared.fault.Fault.TheVariants.{ReadFault, OutOfMemory}
-use Rattle.vga_bits.specs.LimitedReading.{IsPrefix, ReadsPrefix, TakesAtMost, is_read_fault}
+use Rattle.vga_bits.specs.LimitedReading.{IsPrefixOfReader, ReadsPrefix, TakesAtMost, is_read_fault}
 
 -- the `count` bytes read until now are a prefix of what the reader had
 pub record Taken (old new : Option (List ℕ)) (failed : Bool) (before after : ℕ) (bytes : List ℕ) (count most : ℕ) : Type 0 where
@@ -34,12 +34,12 @@ prefix_whole n all bytes prefix short =
     sym (prefix ∙ take_all n all (omega (arith, e)))
 
 -- bytes that end before the limit are all that the reader had
-pub prefix_is_all : (n : ℕ) (input : Option (List ℕ)) (bytes : List ℕ) → IsPrefix n input bytes → length bytes < n → IfSome input (λ all. all ≡ bytes)
+pub prefix_is_all : (n : ℕ) (input : Option (List ℕ)) (bytes : List ℕ) → IsPrefixOfReader n input bytes → length bytes < n → IfSome input (λ all. all ≡ bytes)
 prefix_is_all n None bytes prefix short = tt
 prefix_is_all n (Some all) bytes prefix short = prefix_whole n all bytes prefix short
 
 -- and where they are many, the reader had as many or more
-pub prefix_is_long : (n most : ℕ) (input : Option (List ℕ)) (bytes : List ℕ) → IsPrefix n input bytes → most < length bytes →
+pub prefix_is_long : (n most : ℕ) (input : Option (List ℕ)) (bytes : List ℕ) → IsPrefixOfReader n input bytes → most < length bytes →
     IfSome input (λ all. most < length all)
 prefix_is_long n most None bytes prefix long = tt
 prefix_is_long n most (Some all) bytes prefix long = let e = prefix_short n all bytes prefix in omega arith

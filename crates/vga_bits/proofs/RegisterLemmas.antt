@@ -6,10 +6,10 @@ use Rattle.std.proofs.lemmas.Bool.{agree_below, agree_below_at, cases_lt, ltb-tr
 use Rattle.std.proofs.lemmas.List.{get_or_past}
 use Rattle.std.proofs.lemmas.Nat.{and_assoc, and_le_r}
 use Rattle.vga_bits.specs.Bytes.{zeros}
-use Rattle.vga_bits.specs.RegFile.{AreKept}
+use Rattle.vga_bits.specs.RegFile.{AreWithinMasks}
 use Rattle.vga_bits.proofs.ByteLemmas.{zeros_at}
 
-pub kept_zeros : (masks : List ℕ) (n : ℕ) → AreKept masks (replicate n 0)
+pub kept_zeros : (masks : List ℕ) (n : ℕ) → AreWithinMasks masks (replicate n 0)
 unfolding zeros
 kept_zeros masks n = record {
   kept = λ i. ap (λ v. bit_and v (slice_index masks i)) (zeros_at n i) ∙ and_zero_l (slice_index masks i) ∙ sym (zeros_at n i);
@@ -31,11 +31,11 @@ kept_at [] (x ∷ values) (suc i) v (suc j) e = kept_at [] values i v j e
 kept_at (m ∷ masks) (x ∷ values) (suc i) v (suc j) e = kept_at masks values i v j e
 
 -- a register that is written keeps its bits of the value
-pub kept_set : (masks values : List ℕ) (i v : ℕ) → AreKept masks values → AreKept masks (slice_set values i (bit_and v (slice_index masks i)))
+pub kept_set : (masks values : List ℕ) (i v : ℕ) → AreWithinMasks masks values → AreWithinMasks masks (slice_set values i (bit_and v (slice_index masks i)))
 kept_set masks values i v are = record { kept = λ j. kept_at masks values i v j (are.kept j) }
 
 -- the first n registers are below a bound that all their masks are below
-pub kept_below : (masks values : List ℕ) (n bound : ℕ) → AreKept masks values → agree_below (λ k. nat_lt (slice_index masks k) bound) (λ k. true) n ≡ true
+pub kept_below : (masks values : List ℕ) (n bound : ℕ) → AreWithinMasks masks values → agree_below (λ k. nat_lt (slice_index masks k) bound) (λ k. true) n ≡ true
     → (i : ℕ) → i < n → slice_index values i < bound
 kept_below masks values n bound are below i within =
     let small = ltb-true (slice_index masks i) bound (agree_below_at (λ k. nat_lt (slice_index masks k) bound) (λ k. true) n i below within) in
@@ -43,7 +43,7 @@ kept_below masks values n bound are below i within =
 
 -- registers hold bits of their masks, where each that is there does
 pub kept_within : (masks values : List ℕ) → ((k : ℕ) → k < length values → bit_and (slice_index values k) (slice_index masks k) ≡ slice_index values k)
-    → AreKept masks values
+    → AreWithinMasks masks values
 kept_within masks values kept = record {
   kept = λ k. elim (cases_lt k (length values)) [
     | inl within ↦ kept k within

@@ -4,7 +4,7 @@ use Rattle.std.proofs.Common.{length, take, drop, append_assoc, length-append}
 use Rattle.std.specs.Prelude.{slice_index, slice_set}
 use Rattle.std.specs.List.{flat_map}
 use Rattle.std.proofs.lemmas.List.{append-nil, drop-drop, get_or-drop, take_all, take_more, take_more_set, flat_map_more}
-use Rattle.vga_bits.specs.Saved.{word_bytes, word_at, words_in, flag_byte, IsPut}
+use Rattle.vga_bits.specs.Saved.{word_bytes, word_at, first_words, flag_byte, IsPut}
 
 -- what stays from a place on stays from a later one on
 stays_later : (xs ys : List ℕ) (at n end : ℕ) → end ≡ at + n → drop at xs ≡ drop at ys → drop end xs ≡ drop end ys
@@ -43,16 +43,16 @@ pub length-word_bytes : (ws : List ℕ) → length (flat_map word_bytes ws) ≡ 
 length-word_bytes [] = refl
 length-word_bytes (w ∷ ws) = omega (arith, length-word_bytes ws)
 
-pub length-words_in : (n : ℕ) (bytes : List ℕ) → length (words_in n bytes) ≡ n
-unfolding words_in
+pub length-words_in : (n : ℕ) (bytes : List ℕ) → length (first_words n bytes) ≡ n
+unfolding first_words
 length-words_in zero bytes = refl
 length-words_in (suc n) bytes = ap suc (length-words_in n (drop 2 bytes))
 
 -- words are read back, whatever follows them
-pub words_are_back : (ws rest : List ℕ) → words_in (length ws) (flat_map word_bytes ws ++ rest) ≡ ws
-unfolding words_in
+pub words_are_back : (ws rest : List ℕ) → first_words (length ws) (flat_map word_bytes ws ++ rest) ≡ ws
+unfolding first_words
 words_are_back [] rest = refl
-words_are_back (w ∷ ws) rest = ap (λ (x : ℕ). x ∷ words_in (length ws) (flat_map word_bytes ws ++ rest)) (word_is_back w)
+words_are_back (w ∷ ws) rest = ap (λ (x : ℕ). x ∷ first_words (length ws) (flat_map word_bytes ws ++ rest)) (word_is_back w)
     ∙ ap (λ (l : List ℕ). w ∷ l) (words_are_back ws rest)
 
 word_shifted : (bytes : List ℕ) (n : ℕ) → word_at (drop 2 bytes) (2 * n) ≡ word_at bytes (2 * suc n)
@@ -63,26 +63,26 @@ word_shifted bytes n =
     ∙ ap (λ (x : ℕ). slice_index bytes (2 * suc n) + 256 * x) (get_or-drop 2 bytes (2 * n + 1) 0 ∙ ap (slice_index bytes) high)
 
 -- the word at a place among those that are read
-pub word_in_at : (n : ℕ) (bytes : List ℕ) (k : ℕ) → k < n → slice_index (words_in n bytes) k ≡ word_at bytes (2 * k)
-unfolding words_in
+pub word_in_at : (n : ℕ) (bytes : List ℕ) (k : ℕ) → k < n → slice_index (first_words n bytes) k ≡ word_at bytes (2 * k)
+unfolding first_words
 word_in_at zero bytes k within = absurd (omega arith)
 word_in_at (suc n) bytes zero within = refl
 word_in_at (suc n) bytes (suc k) within = word_in_at n (drop 2 bytes) k (omega arith) ∙ word_shifted bytes k
 
 -- one word more
-pub words_more : (n : ℕ) (bytes : List ℕ) → words_in (n + 1) bytes ≡ words_in n bytes ++ word_at bytes (2 * n) ∷ []
-unfolding words_in
+pub words_more : (n : ℕ) (bytes : List ℕ) → first_words (n + 1) bytes ≡ first_words n bytes ++ word_at bytes (2 * n) ∷ []
+unfolding first_words
 words_more zero bytes = refl
 words_more (suc n) bytes =
     let e : suc n + 1 ≡ suc (n + 1) = omega arith in
-    ap (λ (k : ℕ). words_in k bytes) e ∙ ap (λ (l : List ℕ). word_at bytes 0 ∷ l) (words_more n (drop 2 bytes))
-    ∙ ap (λ (x : ℕ). word_at bytes 0 ∷ (words_in n (drop 2 bytes) ++ x ∷ [])) (word_shifted bytes n)
+    ap (λ (k : ℕ). first_words k bytes) e ∙ ap (λ (l : List ℕ). word_at bytes 0 ∷ l) (words_more n (drop 2 bytes))
+    ∙ ap (λ (x : ℕ). word_at bytes 0 ∷ (first_words n (drop 2 bytes) ++ x ∷ [])) (word_shifted bytes n)
 
 -- one word more is read
-pub words_taken : (ws bytes : List ℕ) (n w : ℕ) → n < length ws → take n ws ≡ words_in n bytes → w ≡ word_at bytes (2 * n)
-    → take (n + 1) (slice_set ws n w) ≡ words_in (n + 1) bytes
+pub words_taken : (ws bytes : List ℕ) (n w : ℕ) → n < length ws → take n ws ≡ first_words n bytes → w ≡ word_at bytes (2 * n)
+    → take (n + 1) (slice_set ws n w) ≡ first_words (n + 1) bytes
 words_taken ws bytes n w within before value =
-    take_more_set ws n w within ∙ ap (λ (l : List ℕ). l ++ w ∷ []) before ∙ ap (λ (x : ℕ). words_in n bytes ++ x ∷ []) value ∙ sym (words_more n bytes)
+    take_more_set ws n w within ∙ ap (λ (l : List ℕ). l ++ w ∷ []) before ∙ ap (λ (x : ℕ). first_words n bytes ++ x ∷ []) value ∙ sym (words_more n bytes)
 
 -- nothing was put
 pub put_none : (old : List ℕ) (at : ℕ) → IsPut old old at at []

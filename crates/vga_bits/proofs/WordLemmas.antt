@@ -5,58 +5,58 @@ use Rattle.std.proofs.lemmas.Bool.{agree_below_at, eqb-true}
 use Rattle.std.proofs.lemmas.Bool.Decides.{nat_tests}
 use Rattle.std.specs.Int.{bit_at}
 use Rattle.std.proofs.lemmas.Nat.Bits.{bit_at_or, bit_at_and, bit_at_not, bit_at_xor, bit_at-lt, bit_at-zero}
-use Rattle.vga_bits.specs.Bits.{byte_of}
-use Rattle.vga_bits.specs.Four.{four, of_plane}
-use Rattle.vga_bits.specs.Words.{byte_in, bytes_of, word_bit}
+use Rattle.vga_bits.specs.Bits.{byte_of_bits}
+use Rattle.vga_bits.specs.Four.{four_by_plane, of_plane}
+use Rattle.vga_bits.specs.Words.{plane_byte_in_word, plane_bytes_of_word, plane_bit_in_word}
 use Rattle.vga_bits.proofs.BitLemmas.{byte_from_bits, ones_byte, bit_at_cut, bit_at_shr}
 use Rattle.vga_bits.proofs.FourLemmas.{by_plane}
 
 -- ---- a word and its four bytes
 
-pub byte_below : (p w : ℕ) → byte_in p w < 256
+pub byte_below : (p w : ℕ) → plane_byte_in_word p w < 256
 byte_below p w = omega arith
 
 -- one of four bytes is that of its plane
-pub byte_of_plane : (w p : ℕ) → p < 4 → of_plane (bytes_of w) p ≡ byte_in p w
-byte_of_plane w = by_plane (λ p. of_plane (bytes_of w) p ≡ byte_in p w) refl refl refl refl
+pub byte_of_plane : (w p : ℕ) → p < 4 → of_plane (plane_bytes_of_word w) p ≡ plane_byte_in_word p w
+byte_of_plane w = by_plane (λ p. of_plane (plane_bytes_of_word w) p ≡ plane_byte_in_word p w) refl refl refl refl
 
 -- each of four bytes is below 256
-pub bytes_below : (w p : ℕ) → p < 4 → of_plane (bytes_of w) p < 256
-bytes_below w = by_plane (λ p. of_plane (bytes_of w) p < 256) (byte_below 0 w) (byte_below 1 w) (byte_below 2 w) (byte_below 3 w)
+pub bytes_below : (w p : ℕ) → p < 4 → of_plane (plane_bytes_of_word w) p < 256
+bytes_below w = by_plane (λ p. of_plane (plane_bytes_of_word w) p < 256) (byte_below 0 w) (byte_below 1 w) (byte_below 2 w) (byte_below 3 w)
 
 -- ---- a word and its bits
 
 -- bit i of plane p is bit i of that plane's byte
-pub word_bit_byte : (w p i : ℕ) → i < 8 → word_bit w p i ≡ bit_at (byte_in p w) i
-unfolding word_bit
+pub word_bit_byte : (w p i : ℕ) → i < 8 → plane_bit_in_word w p i ≡ bit_at (plane_byte_in_word p w) i
+unfolding plane_bit_in_word
 word_bit_byte w p i within = sym (bit_at_cut (w / 2 ^ (8 * p)) 8 i within ∙ bit_at_shr w (8 * p) i)
 
-pub word_bit_plane : (w p i : ℕ) → p < 4 → i < 8 → word_bit w p i ≡ bit_at (of_plane (bytes_of w) p) i
+pub word_bit_plane : (w p i : ℕ) → p < 4 → i < 8 → plane_bit_in_word w p i ≡ bit_at (of_plane (plane_bytes_of_word w) p) i
 word_bit_plane w p i plane within = word_bit_byte w p i within ∙ ap (λ b. bit_at b i) (sym (byte_of_plane w p plane))
 
-pub word_bit_lt : (w p i : ℕ) → word_bit w p i < 2
-unfolding word_bit
+pub word_bit_lt : (w p i : ℕ) → plane_bit_in_word w p i < 2
+unfolding plane_bit_in_word
 word_bit_lt w p i = bit_at-lt w (8 * p + i)
 
-pub word_bit_and : (a b p i : ℕ) → word_bit (bit_and a b) p i ≡ min (word_bit a p i) (word_bit b p i)
-unfolding word_bit
+pub word_bit_and : (a b p i : ℕ) → plane_bit_in_word (bit_and a b) p i ≡ min (plane_bit_in_word a p i) (plane_bit_in_word b p i)
+unfolding plane_bit_in_word
 word_bit_and a b p i = bit_at_and a b (8 * p + i)
 
-pub word_bit_or : (a b p i : ℕ) → word_bit (bit_or a b) p i ≡ max (word_bit a p i) (word_bit b p i)
-unfolding word_bit
+pub word_bit_or : (a b p i : ℕ) → plane_bit_in_word (bit_or a b) p i ≡ max (plane_bit_in_word a p i) (plane_bit_in_word b p i)
+unfolding plane_bit_in_word
 word_bit_or a b p i = bit_at_or a b (8 * p + i)
 
-pub word_bit_xor : (a b p i : ℕ) → word_bit (bit_xor a b) p i ≡ (word_bit a p i + word_bit b p i) % 2
-unfolding word_bit
+pub word_bit_xor : (a b p i : ℕ) → plane_bit_in_word (bit_xor a b) p i ≡ (plane_bit_in_word a p i + plane_bit_in_word b p i) % 2
+unfolding plane_bit_in_word
 word_bit_xor a b p i = bit_at_xor a b (8 * p + i)
 
-pub word_bit_not : (m p i : ℕ) → m < 4294967296 → p < 4 → i < 8 → word_bit (4294967295 - m) p i ≡ 1 - word_bit m p i
-unfolding word_bit
+pub word_bit_not : (m p i : ℕ) → m < 4294967296 → p < 4 → i < 8 → plane_bit_in_word (4294967295 - m) p i ≡ 1 - plane_bit_in_word m p i
+unfolding plane_bit_in_word
 word_bit_not m p i fits plane within = bit_at_not w32 m (8 * p + i) fits (omega arith)
 
 -- the bits of `(d & m) | (l & !m)`
 pub word_bit_select : (d m l p i : ℕ) → m < 4294967296 → p < 4 → i < 8
-    → word_bit (bit_or (bit_and d m) (bit_and l (4294967295 - m))) p i ≡ (if word_bit m p i == 0 then word_bit l p i else word_bit d p i)
+    → plane_bit_in_word (bit_or (bit_and d m) (bit_and l (4294967295 - m))) p i ≡ (if plane_bit_in_word m p i == 0 then plane_bit_in_word l p i else plane_bit_in_word d p i)
 word_bit_select d m l p i fits plane within =
     let either = word_bit_or (bit_and d m) (bit_and l (4294967295 - m)) p i in
     let chosen = word_bit_and d m p i in
@@ -68,9 +68,9 @@ word_bit_select d m l p i fits plane within =
     grind (arith, nat_tests)
 
 -- the four bytes of a word whose bits are given
-pub bytes_from_bits : (w : ℕ) (f : ℕ → ℕ → ℕ) → ((p i : ℕ) → p < 4 → i < 8 → word_bit w p i ≡ f p i) → bytes_of w ≡ four (λ p. byte_of (f p))
+pub bytes_from_bits : (w : ℕ) (f : ℕ → ℕ → ℕ) → ((p i : ℕ) → p < 4 → i < 8 → plane_bit_in_word w p i ≡ f p i) → plane_bytes_of_word w ≡ four_by_plane (λ p. byte_of_bits (f p))
 bytes_from_bits w f bits =
-    let each : (p : ℕ) → p < 4 → byte_in p w ≡ byte_of (f p) =
+    let each : (p : ℕ) → p < 4 → plane_byte_in_word p w ≡ byte_of_bits (f p) =
     λ p plane. byte_from_bits _ _ (byte_below p w) (λ i within. sym (word_bit_byte w p i within) ∙ bits p i plane within) in
     let e0 = each 0 (omega arith) in
     let e1 = each 1 (omega arith) in
@@ -81,10 +81,10 @@ bytes_from_bits w f bits =
 -- ---- a byte in each plane
 
 -- `v * 01010101` has the byte v in each plane
-pub word_bit_spread : (v p i : ℕ) → v < 256 → p < 4 → i < 8 → word_bit (v * 16843009) p i ≡ bit_at v i
+pub word_bit_spread : (v p i : ℕ) → v < 256 → p < 4 → i < 8 → plane_bit_in_word (v * 16843009) p i ≡ bit_at v i
 word_bit_spread v p i fits plane within =
     word_bit_byte (v * 16843009) p i within
-    ∙ ap (λ b. bit_at b i) (by_plane (λ q. byte_in q (v * 16843009) ≡ v) (omega arith) (omega arith) (omega arith) (omega arith) p plane)
+    ∙ ap (λ b. bit_at b i) (by_plane (λ q. plane_byte_in_word q (v * 16843009) ≡ v) (omega arith) (omega arith) (omega arith) (omega arith) p plane)
 
 -- bit p of s in the lowest bit of plane p
 abbrev apart : ℕ → ℕ
@@ -101,18 +101,18 @@ full zero i bit within = bit_at-zero i
 full (suc zero) i bit within = ones_byte i within
 full (suc (suc b)) i bit within = absurd (omega arith)
 
-apart_byte : (s p : ℕ) → p < 4 → byte_in p (apart s * 255) ≡ 255 * bit_at s p
+apart_byte : (s p : ℕ) → p < 4 → plane_byte_in_word p (apart s * 255) ≡ 255 * bit_at s p
 apart_byte s =
     let b0 = bit_at-lt s 0 in
     let b1 = bit_at-lt s 1 in
     let b2 = bit_at-lt s 2 in
     let b3 = bit_at-lt s 3 in
-    by_plane (λ p. byte_in p (apart s * 255) ≡ 255 * bit_at s p) (omega arith) (omega arith) (omega arith) (omega arith)
+    by_plane (λ p. plane_byte_in_word p (apart s * 255) ≡ 255 * bit_at s p) (omega arith) (omega arith) (omega arith) (omega arith)
 
 -- `(s % 16 * 00204081 & 01010101) * FF` has bit p of s in all eight bits of plane p
-pub word_bit_filled : (s p i : ℕ) → p < 4 → i < 8 → word_bit (bit_and (s % 16 * 2113665) 16843009 * 255) p i ≡ bit_at s p
+pub word_bit_filled : (s p i : ℕ) → p < 4 → i < 8 → plane_bit_in_word (bit_and (s % 16 * 2113665) 16843009 * 255) p i ≡ bit_at s p
 word_bit_filled s p i plane within =
-    ap (λ w. word_bit (w * 255) p i) (apart_is (s % 16) (omega arith))
+    ap (λ w. plane_bit_in_word (w * 255) p i) (apart_is (s % 16) (omega arith))
     ∙ word_bit_byte (apart (s % 16) * 255) p i within
     ∙ ap (λ b. bit_at b i) (apart_byte (s % 16) p plane)
     ∙ full (bit_at (s % 16) p) i (bit_at-lt (s % 16) p) within
@@ -121,8 +121,8 @@ word_bit_filled s p i plane within =
 -- ---- tests of all planes at once
 
 -- the bits of `(a ^ b) & m` tell where the two differ in the planes of the mask
-pub word_bit_differing : (a b m p i : ℕ) → word_bit (bit_and (bit_xor a b) m) p i
-    ≡ (if not (word_bit m p i == 1) || (word_bit a p i == word_bit b p i) then 0 else 1)
+pub word_bit_differing : (a b m p i : ℕ) → plane_bit_in_word (bit_and (bit_xor a b) m) p i
+    ≡ (if not (plane_bit_in_word m p i == 1) || (plane_bit_in_word a p i == plane_bit_in_word b p i) then 0 else 1)
 word_bit_differing a b m p i =
     let both = word_bit_and (bit_xor a b) m p i in
     let either = word_bit_xor a b p i in
@@ -140,9 +140,9 @@ folded_bits x a b c d fa fb fc fd e = grind (arith, nat_tests)
 
 -- the complement of `h | h >> 8`, where h is `w | w >> 16`, tells which bits are 0 in all four planes
 pub word_bit_folded : (w h i : ℕ) → i < 8 → h ≡ bit_or w (w / 2 ^ 16)
-    → bit_at (255 - bit_or h (h / 2 ^ 8) % 256) i ≡ (if (word_bit w 0 i == 0) && ((word_bit w 1 i == 0) && ((word_bit w 2 i == 0) && (word_bit w 3 i == 0)))
+    → bit_at (255 - bit_or h (h / 2 ^ 8) % 256) i ≡ (if (plane_bit_in_word w 0 i == 0) && ((plane_bit_in_word w 1 i == 0) && ((plane_bit_in_word w 2 i == 0) && (plane_bit_in_word w 3 i == 0)))
     then 1 else 0)
-unfolding word_bit
+unfolding plane_bit_in_word
 word_bit_folded w h i within half =
     let complement = bit_at_not w8 (bit_or h (h / 2 ^ 8) % 256) i (omega arith) within in
     let cut = bit_at_cut (bit_or h (h / 2 ^ 8)) 8 i within in

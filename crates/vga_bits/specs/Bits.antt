@@ -11,5 +11,5 @@ abbrev pub field : ℕ → ℕ → ℕ → ℕ
 field n hi lo = n / 2 ^ lo % 2 ^ (hi + 1 - lo)
 
 -- the byte whose bit i is f i
-unfoldable pub byte_of : (ℕ → ℕ) → ℕ
-byte_of f = f 0 + 2 * f 1 + 4 * f 2 + 8 * f 3 + 16 * f 4 + 32 * f 5 + 64 * f 6 + 128 * f 7
+unfoldable pub byte_of_bits : (ℕ → ℕ) → ℕ
+byte_of_bits f = f 0 + 2 * f 1 + 4 * f 2 + 8 * f 3 + 16 * f 4 + 32 * f 5 + 64 * f 6 + 128 * f 7

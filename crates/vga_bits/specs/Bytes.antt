@@ -7,6 +7,6 @@ unfoldable pub zeros : ℕ → List ℕ
 zeros n = replicate n 0
 
 -- the bytes of a vector, or an empty list if there is no vector
-abbrev pub bytes_in : Option (Box (Vec ℕ Global) Global) → List ℕ
-bytes_in None = []
-bytes_in (Some items) = items.value.items
+abbrev pub bytes_or_empty : Option (Box (Vec ℕ Global) Global) → List ℕ
+bytes_or_empty None = []
+bytes_or_empty (Some items) = items.value.items

@@ -9,8 +9,8 @@ pub record Four (A : Type 0) : Type 0 where
   pub plane3 : A
 
 -- what f gives for each plane
-abbrev pub four : {A : Type 0} → (ℕ → A) → Four A
-four f = record { plane0 = f 0; plane1 = f 1; plane2 = f 2; plane3 = f 3 }
+abbrev pub four_by_plane : {A : Type 0} → (ℕ → A) → Four A
+four_by_plane f = record { plane0 = f 0; plane1 = f 1; plane2 = f 2; plane3 = f 3 }
 
 -- the thing for plane p, below 4
 abbrev pub of_plane : {A : Type 0} → Four A → ℕ → A

@@ -12,9 +12,9 @@ hex zero n = []
 hex (suc digits) n = hex digits (n / 16) ++ hex_digit (n % 16) ∷ []
 
 -- the two digits of a byte
-abbrev pub hex_byte : ℕ → List ℕ
-hex_byte n = hex 2 n
+abbrev pub two_hex_digits : ℕ → List ℕ
+two_hex_digits n = hex 2 n
 
 -- the four digits of a word
-abbrev pub hex_word : ℕ → List ℕ
-hex_word n = hex 4 n
+abbrev pub four_hex_digits : ℕ → List ℕ
+four_hex_digits n = hex 4 n

@@ -11,8 +11,8 @@ abbrev pub TakesAtMost : ℕ → Option (List ℕ) → Option (List ℕ) → Typ
 TakesAtMost n old new = (bytes : List ℕ) × Consumes old new bytes × (length bytes ≤ n)
 
 -- the bytes are the first `most` bytes of the reader, if it tells its bytes
-abbrev pub IsPrefix : ℕ → Option (List ℕ) → List ℕ → Type 0
-IsPrefix most input bytes = IfSome input (λ all. bytes ≡ take most all)
+abbrev pub IsPrefixOfReader : ℕ → Option (List ℕ) → List ℕ → Type 0
+IsPrefixOfReader most input bytes = IfSome input (λ all. bytes ≡ take most all)
 
 -- What reading the first `most` bytes returns, for a reader that has these bytes before and after.
 -- It returns those bytes, and no others were read. Or it returns `ReadFault`, and the reader has
@@ -21,7 +21,8 @@ abbrev pub ReadsPrefix : ℕ → Option (List ℕ) → Option (List ℕ) → Boo
     Result (Vec ℕ Global) Fault →
     Type 0
 ReadsPrefix most old new failed (Ok bytes) =
-    (length bytes.items ≤ most) × IsPrefix most old bytes.items × Consumes old new bytes.items
+    (length bytes.items ≤ most) × IsPrefixOfReader most old bytes.items × Consumes old new
+    bytes.items
     × (failed ≡ false)
 ReadsPrefix most old new failed (Err ReadFault) = (failed ≡ true) × TakesAtMost most old new
 ReadsPrefix most old new failed (Err OutOfMemory) = (failed ≡ false) × TakesAtMost most old new

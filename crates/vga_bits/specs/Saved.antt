@@ -13,9 +13,9 @@ word_at bytes at = slice_index bytes at + 256 * slice_index bytes (at + 1)
 
 -- The first n words in some bytes. It is opaque, because a large count would be written out in
 -- every goal.
-unfoldable pub words_in : ℕ → List ℕ → List ℕ
-words_in zero bytes = []
-words_in (suc n) bytes = word_at bytes 0 ∷ words_in n (drop 2 bytes)
+unfoldable pub first_words : ℕ → List ℕ → List ℕ
+first_words zero bytes = []
+first_words (suc n) bytes = word_at bytes 0 ∷ first_words n (drop 2 bytes)
 
 -- a flag as a byte: 1 if it is set, else 0
 abbrev pub flag_byte : Bool → ℕ

@@ -3,24 +3,26 @@
 use Rattle.std.specs.Prelude.{ℕ, ◌+◌, ◌*◌, ◌/◌, ◌%◌, ◌^◌, ◌<◌, ◌≡◌}
 use Rattle.std.proofs.Common.{arith}
 use Rattle.std.specs.Int.{bit_at}
-use Rattle.vga_bits.specs.Four.{Four, four}
+use Rattle.vga_bits.specs.Four.{Four, four_by_plane}
 
 -- the byte of plane p
-abbrev pub byte_in : ℕ → ℕ → ℕ
-byte_in p word = word / 2 ^ (8 * p) % 256
+abbrev pub plane_byte_in_word : ℕ → ℕ → ℕ
+plane_byte_in_word p word = word / 2 ^ (8 * p) % 256
 
 -- the four bytes of a word
-abbrev pub bytes_of : ℕ → Four ℕ
-bytes_of word = four (λ p. byte_in p word)
+abbrev pub plane_bytes_of_word : ℕ → Four ℕ
+plane_bytes_of_word word = four_by_plane (λ p. plane_byte_in_word p word)
 
 -- the word of four bytes
-abbrev pub word_of : Four ℕ → ℕ
-word_of bytes = bytes.plane0 + 256 * bytes.plane1 + 65536 * bytes.plane2 + 16777216 * bytes.plane3
+abbrev pub word_of_plane_bytes : Four ℕ → ℕ
+word_of_plane_bytes bytes =
+    bytes.plane0 + 256 * bytes.plane1 + 65536 * bytes.plane2 + 16777216 * bytes.plane3
 
 -- the bytes of a word determine the word
-pub word_back : (w : ℕ) → w < 4294967296 → word_of (bytes_of w) ≡ w
-word_back w fits = omega arith
+pub word_of_its_plane_bytes : (w : ℕ) → w < 4294967296 → word_of_plane_bytes (plane_bytes_of_word w)
+    ≡ w
+word_of_its_plane_bytes w fits = omega arith
 
 -- bit i of plane p
-unfoldable pub word_bit : ℕ → ℕ → ℕ → ℕ
-word_bit word p i = bit_at word (8 * p + i)
+unfoldable pub plane_bit_in_word : ℕ → ℕ → ℕ → ℕ
+plane_bit_in_word word p i = bit_at word (8 * p + i)

@@ -15,11 +15,11 @@ pub struct Bytes {
 
 impl Model for Bytes {
     ghost use Rattle.std.specs.Prelude.{ℕ, List};
-    ghost use Rattle.vga_bits.specs.Bytes.{bytes_in};
+    ghost use Rattle.vga_bits.specs.Bytes.{bytes_or_empty};
 
     ghost Value = { List ℕ };
 
-    ghost view = { λ bytes. bytes_in bytes.items };
+    ghost view = { λ bytes. bytes_or_empty bytes.items };
 }
 
 impl Bytes {

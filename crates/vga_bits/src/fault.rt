@@ -43,7 +43,7 @@ const NAME_LEN: usize = 34;
 pub type FaultName = ArrayString<NAME_LEN>;
 
 /// A name that ends with a number in parentheses. `prefix` contains everything before the number.
-fn with_number(prefix: &str, number: usize) -> FaultName
+fn name_with_number(prefix: &str, number: usize) -> FaultName
     requires { length prefix.now ≤ 13 }
     ensures { result.bytes ≡ prefix.now ++ (decimal number ++ codes ")") }
 {
@@ -56,7 +56,7 @@ fn with_number(prefix: &str, number: usize) -> FaultName
 }
 
 /// A name with no number.
-fn plain(text: &str) -> FaultName
+fn name_without_number(text: &str) -> FaultName
     requires { length text.now ≤ 34 }
     ensures { result.bytes ≡ text.now }
 {
@@ -74,17 +74,17 @@ impl Fault {
         ensures { result.bytes ≡ fault_text self.now }
     {
         match self {
-            Fault::FontSize => plain("F1 FontSize"),
-            Fault::BadMagic => plain("F2 BadMagic"),
-            Fault::BadVersion => plain("F3 BadVersion"),
-            Fault::BadStep(at) => with_number("F4 BadStep(", *at),
-            Fault::Truncated(at) => with_number("F5 Truncated(", *at),
-            Fault::TooLong => plain("F6 TooLong"),
-            Fault::BadLine(line) => with_number("F7 BadLine(", *line),
-            Fault::ReadFault => plain("F8 ReadFault"),
-            Fault::WriteFault => plain("F9 WriteFault"),
-            Fault::OutOfMemory => plain("F10 OutOfMemory"),
-            Fault::TooMany(at) => with_number("F11 TooMany(", *at),
+            Fault::FontSize => name_without_number("F1 FontSize"),
+            Fault::BadMagic => name_without_number("F2 BadMagic"),
+            Fault::BadVersion => name_without_number("F3 BadVersion"),
+            Fault::BadStep(at) => name_with_number("F4 BadStep(", *at),
+            Fault::Truncated(at) => name_with_number("F5 Truncated(", *at),
+            Fault::TooLong => name_without_number("F6 TooLong"),
+            Fault::BadLine(line) => name_with_number("F7 BadLine(", *line),
+            Fault::ReadFault => name_without_number("F8 ReadFault"),
+            Fault::WriteFault => name_without_number("F9 WriteFault"),
+            Fault::OutOfMemory => name_without_number("F10 OutOfMemory"),
+            Fault::TooMany(at) => name_with_number("F11 TooMany(", *at),
         }
     }
 }

@@ -21,7 +21,9 @@ pub use fault::{Fault, FaultName};
 pub use limited_reading::read_prefix;
 pub use refusal::Refusal;
 pub use reg_file::RegFile;
-pub use saved::{are_kept, flag_byte, high_byte, low_byte, put_byte, put_bytes, put_word, word_at};
+pub use saved::{
+    are_within_masks, flag_byte, high_byte, low_byte, put_byte, put_bytes, put_word, word_at,
+};
 pub use state_fault::StateFault;
 pub use tally::Tally;
 pub use text_buffer::{TextBuffer, hex_digit};

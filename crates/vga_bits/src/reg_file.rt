@@ -16,17 +16,17 @@ pub struct RegFile<const N: usize> {
 }
 
 impl<const N: usize> Model for RegFile<N> {
-    ghost use Rattle.vga_bits.specs.RegFile.{Registers, AreKept};
+    ghost use Rattle.vga_bits.specs.RegFile.{Registers, AreWithinMasks};
 
     ghost Value = { Registers };
 
     ghost view = { λ r. record { masks = r.masks; values = r.values } };
 
-    ghost invariant = { λ r. AreKept r.masks r.values };
+    ghost invariant = { λ r. AreWithinMasks r.masks r.values };
 }
 
 impl<const N: usize> RegFile<N> {
-    ghost use Rattle.vga_bits.specs.RegFile.{AreKept};
+    ghost use Rattle.vga_bits.specs.RegFile.{AreWithinMasks};
 
     /// All registers 0, under these masks.
     #[tactic(auto, using(crate::proofs::RegisterLemmas::kept_zeros))]
@@ -71,7 +71,7 @@ impl<const N: usize> RegFile<N> {
     /// Sets each register to its byte of the list. The bytes have no bits outside the masks.
     pub fn restore(&mut self, values: &[u8])
         requires count { length values.now ≡ N }
-        requires kept { AreKept self.old.masks values.now }
+        requires kept { AreWithinMasks self.old.masks values.now }
         ensures masks { self.new.masks ≡ self.old.masks }
         ensures values { self.new.values ≡ values.now }
     {
@@ -82,7 +82,7 @@ impl<const N: usize> RegFile<N> {
     /// clauses are for proofs: nothing runs.
     pub fn bounds(&self)
         ensures count { length self.now.values ≡ N }
-        ensures kept { AreKept self.now.masks self.now.values }
+        ensures kept { AreWithinMasks self.now.masks self.now.values }
     {
         let _ = &self.values;
     }

@@ -1,6 +1,6 @@
 //! The bytes of saved states: written into a slice one after another, and read by index.
 ghost use Rattle.std.specs.Prelude.{◌≡◌, ◌+◌, ◌/◌, ◌%◌, ◌≤◌, ◌↔◌, [], ◌∷◌, length, IsTrue};
-ghost use Rattle.vga_bits.specs.RegFile.{AreKept};
+ghost use Rattle.vga_bits.specs.RegFile.{AreWithinMasks};
 ghost use Rattle.vga_bits.specs.Saved.{word_bytes, word_at as word_of, IsPut};
 ghost use Rattle.vga_bits.specs.Saved.{flag_byte as flag_byte_of};
 
@@ -65,9 +65,9 @@ pub fn word_at(bytes: &[u8], at: usize) -> u16
 
 /// Whether each register value has only bits of its own mask. There is one mask for each value.
 #[tactic(auto, using(crate::proofs::RegisterLemmas::kept_within))]
-pub fn are_kept(masks: &[u8], values: &[u8]) -> bool
+pub fn are_within_masks(masks: &[u8], values: &[u8]) -> bool
     requires { length masks.now ≡ length values.now }
-    ensures { IsTrue result ↔ AreKept masks.now values.now }
+    ensures { IsTrue result ↔ AreWithinMasks masks.now values.now }
 {
     for i in 0..values.len() {
         if values[i] & masks[i] != values[i] {

@@ -1,6 +1,6 @@
 //! How many comparisons passed and failed.
 ghost use Rattle.std.specs.Prelude.{◌≡◌, ◌==◌, if◌then◌else◌};
-ghost use Rattle.vga_bits.specs.Tally.{one_more};
+ghost use Rattle.vga_bits.specs.Tally.{saturating_increment};
 
 use std::fmt;
 
@@ -25,10 +25,10 @@ impl Tally {
 
     /// Counts one comparison. Each count stops at the largest number of 64 bits.
     pub fn count(&mut self, has_passed: bool)
-        ensures passed { self.new.passed ≡ (if has_passed then one_more self.old.passed
+        ensures passed { self.new.passed ≡ (if has_passed then saturating_increment self.old.passed
             else self.old.passed) }
         ensures failed { self.new.failed ≡ (if has_passed then self.old.failed
-            else one_more self.old.failed) }
+            else saturating_increment self.old.failed) }
     {
         if has_passed {
             self.passed = self.passed.saturating_add(1);

@@ -1,6 +1,7 @@
 //! Text that is made piece by piece, without allocating memory.
 ghost use Rattle.std.specs.Prelude.{◌≡◌, ◌+◌, ◌<◌, ◌≤◌, ◌++◌, [], length, take, slice_set, decimal};
-ghost use Rattle.vga_bits.specs.Hex.{hex, hex_digit as hex_digit_of, hex_byte, hex_word};
+ghost use Rattle.vga_bits.specs.Hex.{hex, hex_digit as hex_digit_of, two_hex_digits};
+ghost use Rattle.vga_bits.specs.Hex.{four_hex_digits};
 
 use arrayvec::ArrayVec;
 use itoa::Buffer;
@@ -128,7 +129,7 @@ impl<const ROOM: usize> TextBuffer<ROOM> {
     #[tactic(auto, using(crate::proofs::HexLemmas::hex_of_byte))]
     pub fn push_hex_byte(&mut self, v: u8)
         requires { length self.old + 2 ≤ ROOM }
-        ensures items { self.new ≡ self.old ++ hex_byte v }
+        ensures items { self.new ≡ self.old ++ two_hex_digits v }
         ensures len { length self.new ≡ length self.old + 2 }
     {
         self.push(&[hex_digit(v / 16), hex_digit(v % 16)]);
@@ -138,7 +139,7 @@ impl<const ROOM: usize> TextBuffer<ROOM> {
     #[tactic(auto, using(crate::proofs::HexLemmas::hex_of_word))]
     pub fn push_hex_word(&mut self, v: u16)
         requires { length self.old + 4 ≤ ROOM }
-        ensures items { self.new ≡ self.old ++ hex_word v }
+        ensures items { self.new ≡ self.old ++ four_hex_digits v }
         ensures len { length self.new ≡ length self.old + 4 }
     {
         self.push(&[

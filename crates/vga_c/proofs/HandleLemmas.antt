@@ -3,7 +3,7 @@ use Rattle.std.proofs.Common.{◌≡◌, ◌+◌, ◌≤◌, ◌∙◌, ℕ, Boo
 use Rattle.std.proofs.lemmas.Bool.Decides.{nat_tests}
 use Rattle.vga_bits.specs.declared.refusal.Refusal.TheVariants.{TooFar}
 use Rattle.vga_card.specs.Card.{CardState}
-use Rattle.vga_card.specs.Cycles.{Written}
+use Rattle.vga_card.specs.Cycles.{WriteResult}
 use Rattle.vga_card.specs.Dots.{dots, most_dots}
 use Rattle.vga_script.specs.declared.step.Step.TheVariants.{Advance}
 use Rattle.vga_run.specs.declared.machine.Machine.{Machine}
@@ -20,12 +20,12 @@ few_are n few = grind (arith, nat_tests)
 cycle_is : (c : CardState) (n : ℕ) → n ≤ most_dots → advance_cycle c n ≡ (dots n c, Ok tt)
 cycle_is c n few = chosen (nat_le n most_dots) (dots n c, Ok tt) (c, Err TooFar) (few_are n few)
   where
-    chosen : (t : Bool) (x y : Written) → t ≡ true → (if t then x else y) ≡ x
+    chosen : (t : Bool) (x y : WriteResult) → t ≡ true → (if t then x else y) ≡ x
     chosen true x y e = refl
     chosen false x y e = absurd (cc)
 
 few_dots : (c : CardState) (n : ℕ) → n ≤ most_dots → (advance_cycle c n).0 ≡ dots n c
-few_dots c n few = ap (λ (r : Written). r.0) (cycle_is c n few)
+few_dots c n few = ap (λ (r : WriteResult). r.0) (cycle_is c n few)
 
 -- no dots leave a machine
 pub none_owed : ((c : CardState) → dots 0 c ≡ c) → (m : Machine) → after_step m (Advance 0) ≡ m
@@ -45,7 +45,7 @@ owed_both split m a b few =
 -- few enough dots are not refused
 pub advance_is_done : (m : Machine) (n : ℕ) → n ≤ most_dots → 0 ≡ status_of (answer_to m (Advance n))
 unfolding answer_to
-advance_is_done m n few = sym (ap (λ (r : Written). status_of (Short (of_write r.1))) (cycle_is m.card n few))
+advance_is_done m n few = sym (ap (λ (r : WriteResult). status_of (Short (of_write r.1))) (cycle_is m.card n few))
 
 -- a card that owes no dots has the machine that it keeps
 pub nothing_owed : ((c : CardState) → dots 0 c ≡ c) → (h : HandleState) → h.owed ≡ 0 → h.kept.machine ≡ machine_of h

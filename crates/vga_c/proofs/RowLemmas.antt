@@ -4,7 +4,7 @@ use Rattle.std.proofs.Math.Nat.{mul-div-le}
 use Rattle.std.proofs.lemmas.Nat.{mul-add-lt}
 use Rattle.std.specs.Prelude.{slice_index}
 use Rattle.std.specs.Int.Bits.{or_zero_l}
-use Rattle.vga_c.specs.Forms.{AreRows, IsForm, div_ceil, form_word, dot_word}
+use Rattle.vga_c.specs.Forms.{AreRowsOfWords, IsForm, div_ceil, form_word, rgb_word_of_dot}
 use Rattle.vga_c.specs.declared.forms.Form.{Form}
 
 -- a place of an earlier row is before the row
@@ -15,7 +15,7 @@ before_row p x y z within earlier = omega (arith, mul-add-lt z p x y earlier wit
 row_or_earlier : (y z : ℕ) → z < y + 1 → (z ≡ y) ⊎ (z < y)
 row_or_earlier y z within = eq-or-lt_of_le (omega (arith, within))
 
-module _ (w y p : ℕ) (word : ℕ → ℕ → ℕ) (old mid new : List ℕ) (fits : w ≤ p) (so_far : AreRows w y p word old mid)
+module _ (w y p : ℕ) (word : ℕ → ℕ → ℕ) (old mid new : List ℕ) (fits : w ≤ p) (so_far : AreRowsOfWords w y p word old mid)
     (words : (x : ℕ) → x < w → slice_index new (p * y + x) ≡ word x y)
     (before : (i : ℕ) → i < p * y → slice_index new i ≡ slice_index mid i)
     (behind : (i : ℕ) → p * y + w ≤ i → slice_index new i ≡ slice_index mid i) where
@@ -32,7 +32,7 @@ module _ (w y p : ℕ) (word : ℕ → ℕ → ℕ) (old mid new : List ℕ) (fi
       before (p * z + x) (before_row p x y z within earlier) ∙ so_far.beside x z past within earlier
 
   -- with one row more, what is written is the picture with one row more
-  pub next_row : length new ≡ length mid → AreRows w (y + 1) p word old new
+  pub next_row : length new ≡ length mid → AreRowsOfWords w (y + 1) p word old new
   next_row size = record {
     words = λ x z a b. word_of x z a (row_or_earlier y z b);
     beside = λ x z a b c. beside_of x z a b (row_or_earlier y z c);
@@ -65,18 +65,18 @@ every_one n = omega arith
 abbrev every_dot : Form
 every_dot = record { across = 1; down = 1; above = 0 }
 
-every_dot_word : (w : ℕ) (bytes : List ℕ) (x y : ℕ) → form_word every_dot w bytes x y ≡ dot_word bytes (w * y + x)
-every_dot_word w bytes x y = or_zero_l (dot_word bytes (w * (1 * y) + 1 * x)) ∙ ap (dot_word bytes) (ap (λ z. w * z + 1 * x) one ∙ omega arith)
+every_dot_word : (w : ℕ) (bytes : List ℕ) (x y : ℕ) → form_word every_dot w bytes x y ≡ rgb_word_of_dot bytes (w * y + x)
+every_dot_word w bytes x y = or_zero_l (rgb_word_of_dot bytes (w * (1 * y) + 1 * x)) ∙ ap (rgb_word_of_dot bytes) (ap (λ z. w * z + 1 * x) one ∙ omega arith)
   where
     one : 1 * y ≡ y
     one = omega arith
 
-pub every_dot_rows : (w h p : ℕ) (bytes old new : List ℕ) → AreRows (div_ceil w 1) (div_ceil h 1) p (form_word every_dot w bytes) old new →
-    AreRows w h p (λ x y. dot_word bytes (w * y + x)) old new
+pub every_dot_rows : (w h p : ℕ) (bytes old new : List ℕ) → AreRowsOfWords (div_ceil w 1) (div_ceil h 1) p (form_word every_dot w bytes) old new →
+    AreRowsOfWords w h p (λ x y. rgb_word_of_dot bytes (w * y + x)) old new
 every_dot_rows w h p bytes old new rows =
-    let sized : AreRows w h p (form_word every_dot w bytes) old new =
-    subst (λ n. AreRows n h p (form_word every_dot w bytes) old new) (every_one w)
-    (subst (λ n. AreRows (div_ceil w 1) n p (form_word every_dot w bytes) old new) (every_one h) rows) in
+    let sized : AreRowsOfWords w h p (form_word every_dot w bytes) old new =
+    subst (λ n. AreRowsOfWords n h p (form_word every_dot w bytes) old new) (every_one w)
+    (subst (λ n. AreRowsOfWords (div_ceil w 1) n p (form_word every_dot w bytes) old new) (every_one h) rows) in
     record {
       words = λ x y a b. sized.words x y a b ∙ every_dot_word w bytes x y;
       beside = sized.beside;

@@ -2,7 +2,7 @@
 use Rattle.std.specs.Prelude.{◌≡◌, ℕ, List, length, true}
 use Rattle.vga_bits.specs.declared.refusal.Refusal.TheVariants.{BadBlock}
 use Rattle.bios_services.specs.declared.regs.Regs.{Regs}
-use Rattle.bios_services.specs.Blocks.{block_len, is_at_dx}
+use Rattle.bios_services.specs.Blocks.{block_len, is_block_at_dx}
 use Rattle.bios_services.specs.Calls.{call_of}
 use Rattle.vga_run.specs.declared.machine.Machine.{Machine}
 use Rattle.vga_run.specs.declared.answer.Answer.TheVariants.{Refused}
@@ -18,15 +18,16 @@ abbrev pub regs_of : CallRegisters → Regs
 regs_of r = record { ax = r.ax; bx = r.bx; cx = r.cx; dx = r.dx }
 
 -- how many bytes a call reads, and where: at ES:DX, or else at ES:BP
-abbrev pub IsBlock : CallRegisters → BlockPlace → Type 0
-IsBlock r told = (told.len ≡ block_len (call_of (regs_of r))) × (told.is_at_dx ≡ is_at_dx (regs_of r))
+abbrev pub IsBlockPlace : CallRegisters → BlockPlace → Type 0
+IsBlockPlace r told =
+    (told.len ≡ block_len (call_of (regs_of r))) × (told.is_at_dx ≡ is_block_at_dx (regs_of r))
 
 -- with a block of this length the call is not refused for its block
-abbrev pub IsEnough : Machine → CallRegisters → ℕ → Type 0
-IsEnough m r len = (block : List ℕ) → length block ≡ len →
+abbrev pub IsBlockEnough : Machine → CallRegisters → ℕ → Type 0
+IsBlockEnough m r len = (block : List ℕ) → length block ≡ len →
     ¬ (answer_to m (call_step r block) ≡ Short (Refused BadBlock))
 
 -- an open card answers that
 abbrev pub TellsBlock : HandleState → CallRegisters → BlockPlace → ℕ → Type 0
 TellsBlock old r told status = old.is_open ≡ true →
-    IsBlock r told × (IsEnough (machine_of old) r told.len × (status ≡ 0))
+    IsBlockPlace r told × (IsBlockEnough (machine_of old) r told.len × (status ≡ 0))

@@ -1,6 +1,6 @@
 -- Copying to the caller's buffers.
 use Rattle.std.specs.Prelude.{◌≡◌, ◌++◌, ℕ, if◌then◌else◌, nat_le, List, length, drop}
-use Rattle.vga_c.specs.Status.{no_room}
+use Rattle.vga_c.specs.Status.{no_room_status}
 
 -- the buffer with these bytes at its beginning; unchanged if it is too short for them
 abbrev pub with_prefix : List ℕ → List ℕ → List ℕ
@@ -9,7 +9,7 @@ with_prefix bytes buffer = if nat_le (length bytes) (length buffer)
 
 -- the status of a call that needs room for `need` in a buffer of `room`
 abbrev pub room_status : ℕ → ℕ → ℕ
-room_status need room = if nat_le need room then 0 else no_room
+room_status need room = if nat_le need room then 0 else no_room_status
 
 -- the buffer begins with the bytes, and the caller learns how many they are; or there was no room
 -- for them

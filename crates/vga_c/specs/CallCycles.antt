@@ -8,51 +8,51 @@ use Rattle.vga_run.specs.declared.cycle_list.Unlisted.{Unlisted}
 use Rattle.vga_run.specs.declared.cycle_list.Unlisted.TheVariants.{Refused, TooLong, OutOfMemory}
 use Rattle.vga_run.specs.declared.machine.Machine.{Machine}
 use Rattle.vga_run.specs.CycleList.{cycles_of_call, listed_bytes, IsUnlisted}
-use Rattle.vga_run.specs.Step.{called}
+use Rattle.vga_run.specs.Step.{after_int10}
 use Rattle.vga_c.specs.declared.services.CallRegisters.{CallRegisters}
 use Rattle.vga_c.specs.Buffers.{IsCopied}
 use Rattle.vga_c.specs.Handle.{HandleState, machine_of}
-use Rattle.vga_c.specs.Status.{out_of_memory, refusal_status, too_long}
+use Rattle.vga_c.specs.Status.{out_of_memory_status, refusal_status, too_long_status}
 
 -- the registers of a call, as the services see them
 abbrev pub regs_of : CallRegisters → Regs
 regs_of r = record { ax = r.ax; bx = r.bx; cx = r.cx; dx = r.dx }
 
 -- The caller's output: a buffer for bytes, and how many there are.
-pub record Given : Type 0 where
+pub record ListOutput : Type 0 where
   pub bytes : List ℕ
   pub len : ℕ
 
 -- an output with these contents
-abbrev pub given : List ℕ → ℕ → Given
-given bytes len = record { bytes = bytes; len = len }
+abbrev pub list_output : List ℕ → ℕ → ListOutput
+list_output bytes len = record { bytes = bytes; len = len }
 
 -- the status that says why there is no list
 abbrev pub unlisted_status : Unlisted → ℕ
 unlisted_status (Refused why) = refusal_status why
-unlisted_status TooLong = too_long
-unlisted_status OutOfMemory = out_of_memory
+unlisted_status TooLong = too_long_status
+unlisted_status OutOfMemory = out_of_memory_status
 
 -- the bytes that list the cycles of a call that is not refused: they spell the script of the
 -- cycles; or why there are none
 abbrev pub IsOutcomeOfList : Machine → Regs → List ℕ → Result (List ℕ) Unlisted → Type 0
 IsOutcomeOfList m regs block (Ok bytes) = (bytes ≡ listed_bytes m regs block)
     × Spells bytes (script_of_steps (cycles_of_call m regs block))
-    × IsOk (called m regs.ax regs.bx regs.cx regs.dx block).1.0
+    × IsOk (after_int10 m regs.ax regs.bx regs.cx regs.dx block).1.0
 IsOutcomeOfList m regs block (Err why) = IsUnlisted m regs block why
 
 -- the output has the bytes; or the status says why there are none
-abbrev pub HasCycles : Result (List ℕ) Unlisted → Given → Given → ℕ → Type 0
+abbrev pub HasCycles : Result (List ℕ) Unlisted → ListOutput → ListOutput → ℕ → Type 0
 HasCycles (Ok bytes) before after status = IsCopied bytes before.bytes after.bytes after.len status
 HasCycles (Err why) before after status = (status ≡ unlisted_status why) × (after ≡ before)
 
 -- that holds for the cycles of a call on a machine
-abbrev pub AreListed : Machine → CallRegisters → List ℕ → Given → Given → ℕ → Type 0
+abbrev pub AreListed : Machine → CallRegisters → List ℕ → ListOutput → ListOutput → ℕ → Type 0
 AreListed m registers block before after status = (outcome : Result (List ℕ) Unlisted)
     × IsOutcomeOfList m (regs_of registers) block outcome × HasCycles outcome before after status
 
 -- and on an open card with valid BIOS data
-abbrev pub Lists : HandleState → CallRegisters → List ℕ → Given → Given → ℕ → Type 0
+abbrev pub Lists : HandleState → CallRegisters → List ℕ → ListOutput → ListOutput → ℕ → Type 0
 Lists old registers block before after status = old.is_open ≡ true →
     IsValid (machine_of old).bda →
     AreListed (machine_of old) registers block before after status

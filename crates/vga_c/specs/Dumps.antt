@@ -9,43 +9,45 @@ use Rattle.vga_run.specs.declared.machine.Machine.{Machine}
 use Rattle.vga_run.specs.Step.{dump_refusal, dump_text}
 use Rattle.vga_c.specs.Handle.{HandleState, machine_of}
 use Rattle.vga_c.specs.Buffers.{IsCopied}
-use Rattle.vga_c.specs.Cards.{Keeps, LeavesClosed, Spares}
-use Rattle.vga_c.specs.Status.{bad_argument, bad_card, out_of_memory, refusal_status}
+use Rattle.vga_c.specs.Cards.{KeepsMachine, LeavesClosed, Spares}
+use Rattle.vga_c.specs.Status.{bad_argument_status, bad_data_status, out_of_memory_status}
+use Rattle.vga_c.specs.Status.{refusal_status}
 
 -- The caller's output: a buffer for the text, and its length.
-pub record Told : Type 0 where
+pub record DumpOutput : Type 0 where
   pub text : List ℕ
   pub len : ℕ
 
 -- an output with these contents
-abbrev pub told : List ℕ → ℕ → Told
-told text len = record { text = text; len = len }
+abbrev pub dump_output : List ℕ → ℕ → DumpOutput
+dump_output text len = record { text = text; len = len }
 
 -- the output is unchanged, and the status says why
-abbrev pub IsUntold : ℕ → Told → Told → ℕ → Type 0
-IsUntold why before after status = (after ≡ before) × (status ≡ why)
+abbrev pub IsUnchangedOutput : ℕ → DumpOutput → DumpOutput → ℕ → Type 0
+IsUnchangedOutput why before after status = (after ≡ before) × (status ≡ why)
 
 -- the output has a text, unless the dump is refused or an allocation failed
-abbrev pub IsDumped : Option Refusal → List ℕ → Told → Told → ℕ → Type 0
-IsDumped None text before after status = IsUntold out_of_memory before after status
+abbrev pub IsDumped : Option Refusal → List ℕ → DumpOutput → DumpOutput → ℕ → Type 0
+IsDumped None text before after status = IsUnchangedOutput out_of_memory_status before after status
     ⊎ IsCopied text before.text after.text after.len status
-IsDumped (Some why) text before after status = IsUntold (refusal_status why) before after status
+IsDumped (Some why) text before after status =
+    IsUnchangedOutput (refusal_status why) before after status
 
 -- that holds for the dump of a machine with valid BIOS data; with others the status says so
-abbrev pub Dumps : Machine → Shown → Told → Told → ℕ → Type 0
+abbrev pub Dumps : Machine → Shown → DumpOutput → DumpOutput → ℕ → Type 0
 Dumps m what before after status =
     (IsValid m.bda → IsDumped (dump_refusal m what) (dump_text m what) before after status)
-    × ((IsValid m.bda → ⊥) → IsUntold bad_card before after status)
+    × ((IsValid m.bda → ⊥) → IsUnchangedOutput bad_data_status before after status)
 
 -- a call that reads a card: the card stays as it is, and the output of one that is not open does
 -- too
-abbrev pub LooksAt : HandleState → HandleState → Told → Told → ℕ → Type 0
-LooksAt old new before after status = Keeps old new
+abbrev pub LeavesCardUnchanged : HandleState → HandleState → DumpOutput → DumpOutput → ℕ → Type 0
+LeavesCardUnchanged old new before after status = KeepsMachine old new
     × (LeavesClosed old new status × Spares old before after)
 
 -- such a call dumps an open card
-abbrev pub Shows : Shown → HandleState → HandleState → Told → Told → ℕ → Type 0
-Shows what old new before after status = LooksAt old new before after status
+abbrev pub Shows : Shown → HandleState → HandleState → DumpOutput → DumpOutput → ℕ → Type 0
+Shows what old new before after status = LeavesCardUnchanged old new before after status
     × (old.is_open ≡ true → Dumps (machine_of old) what before after status)
 
 -- bytes of a plane: 1 to 256, none past its end
@@ -54,9 +56,11 @@ is_plane_part plane offset count = nat_lt plane 4 && (nat_lt 0 count && (nat_le 
     && nat_le (offset + count) 0x1_0000))
 
 -- such a call dumps these bytes of a plane; other ranges are refused
-abbrev pub ShowsPart : ℕ → ℕ → ℕ → HandleState → HandleState → Told → Told → ℕ → Type 0
-ShowsPart plane offset count old new before after status = LooksAt old new before after status
+abbrev pub DumpsPlanePart : ℕ → ℕ → ℕ → HandleState → HandleState → DumpOutput → DumpOutput → ℕ
+    → Type 0
+DumpsPlanePart plane offset count old new before after status =
+    LeavesCardUnchanged old new before after status
     × ((is_plane_part plane offset count ≡ true →
     Shows (Plane plane offset count) old new before after status)
     × (is_plane_part plane offset count ≡ false → old.is_open ≡ true →
-    IsUntold bad_argument before after status))
+    IsUnchangedOutput bad_argument_status before after status))

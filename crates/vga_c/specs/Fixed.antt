@@ -3,10 +3,10 @@ use Rattle.std.specs.Prelude.{◌≡◌, ◌+◌, ◌-◌, ◌*◌, ◌%◌, ◌
 use Rattle.std.specs.Prelude.{take, min, nat_lt, if◌then◌else◌}
 use Rattle.vga_bits.specs.Bytes.{zeros}
 use Rattle.vga_run.specs.declared.machine.Machine.{Machine}
-use Rattle.vga_run.specs.Saved.{long_at, long_bytes, saved_machine}
+use Rattle.vga_run.specs.Saved.{number_of_four_bytes, four_bytes_of_number, saved_machine}
 use Rattle.vga_c.specs.Handle.{HandleState, machine_of}
 use Rattle.vga_c.specs.Saved.{IsRestored}
-use Rattle.vga_c.specs.Status.{no_room}
+use Rattle.vga_c.specs.Status.{no_room_status}
 
 -- Adler-32, the checksum of zlib (RFC 1950), from these two sums on: the sum of the bytes, plus 1,
 -- and the sum of those sums, each modulo the largest prime below 65,536
@@ -20,18 +20,19 @@ abbrev pub adler_32 : List ℕ → ℕ
 adler_32 bytes = adler_from 1 0 bytes
 
 -- a state and zeros, which with the checksum make `len` bytes
-abbrev pub body_of : List ℕ → ℕ → List ℕ
-body_of state len = state ++ zeros (len - (4 + length state))
+abbrev pub state_and_zeros : List ℕ → ℕ → List ℕ
+state_and_zeros state len = state ++ zeros (len - (4 + length state))
 
 -- those bytes, and their checksum
 abbrev pub fixed_bytes : List ℕ → ℕ → List ℕ
-fixed_bytes state len = body_of state len ++ long_bytes (adler_32 (body_of state len))
+fixed_bytes state len =
+    state_and_zeros state len ++ four_bytes_of_number (adler_32 (state_and_zeros state len))
 
 -- the caller's whole buffer has such a state; or it is too short, and stays as it is
 abbrev pub IsSavedFixed : List ℕ → List ℕ → List ℕ → ℕ → Type 0
 IsSavedFixed state old new status =
     (4 + length state ≤ length old → (new ≡ fixed_bytes state (length old)) × (status ≡ 0))
-    × (length old < 4 + length state → (new ≡ old) × (status ≡ no_room))
+    × (length old < 4 + length state → (new ≡ old) × (status ≡ no_room_status))
 
 -- that holds for the state of an open card
 abbrev pub SavesFixed : HandleState → List ℕ → List ℕ → ℕ → Type 0
@@ -43,24 +44,26 @@ abbrev pub state_checksum : ℕ
 state_checksum = 34
 
 -- the bytes before the checksum
-abbrev pub summed : List ℕ → List ℕ
-summed bytes = take (length bytes - 4) bytes
+abbrev pub bytes_before_checksum : List ℕ → List ℕ
+bytes_before_checksum bytes = take (length bytes - 4) bytes
 
 -- the state at the beginning of those bytes, as long as it says
 abbrev pub state_in : List ℕ → List ℕ
-state_in body = if nat_lt (length body) 9 then body else take (min (long_at body 5) (length body))
+state_in body =
+    if nat_lt (length body) 9 then body else take (min (number_of_four_bytes body 5) (length body))
     body
 
 -- bytes end with the checksum of the bytes before
-abbrev pub IsSummed : List ℕ → Type 0
-IsSummed bytes = (4 ≤ length bytes) × (long_at bytes (length bytes - 4) ≡ adler_32 (summed bytes))
+abbrev pub HasRightChecksum : List ℕ → Type 0
+HasRightChecksum bytes = (4 ≤ length bytes) × (number_of_four_bytes bytes (length bytes - 4)
+    ≡ adler_32 (bytes_before_checksum bytes))
 
 -- if the checksum is right, the machine is restored from the state, or the state is refused;
 -- otherwise the machine stays as it is
 abbrev pub IsRestoredFixed : Machine → Machine → List ℕ → ℕ → Type 0
 IsRestoredFixed old new bytes status =
-    (IsSummed bytes → IsRestored old new (state_in (summed bytes)) status)
-    × (¬ IsSummed bytes → (new ≡ old) × (status ≡ state_checksum))
+    (HasRightChecksum bytes → IsRestored old new (state_in (bytes_before_checksum bytes)) status)
+    × (¬ HasRightChecksum bytes → (new ≡ old) × (status ≡ state_checksum))
 
 -- that holds for an open card
 abbrev pub RestoresFixed : HandleState → HandleState → List ℕ → ℕ → Type 0

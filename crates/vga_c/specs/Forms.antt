@@ -10,21 +10,22 @@ use Rattle.vga_run.specs.Step.{after_step, answer_to}
 use Rattle.vga_c.specs.declared.forms.Form.{Form}
 use Rattle.vga_c.specs.declared.forms.WordPicture.{WordPicture}
 use Rattle.vga_c.specs.Handle.{HandleState, machine_of}
-use Rattle.vga_c.specs.Status.{bad_argument, no_room, ragged}
+use Rattle.vga_c.specs.Status.{bad_argument_status, no_room_status, ragged_status}
 
 -- a component of six bits widened to eight: its two highest bits follow it
-abbrev pub eight_bits : ℕ → ℕ
-eight_bits six = 4 * six + six / 16
+abbrev pub widened_to_eight_bits : ℕ → ℕ
+widened_to_eight_bits six = 4 * six + six / 16
 
 -- the word 00RRGGBB of dot i of a picture
-abbrev pub dot_word : List ℕ → ℕ → ℕ
-dot_word bytes i = 0x1_0000 * eight_bits (slice_index bytes (3 * i))
-    + (0x100 * eight_bits (slice_index bytes (3 * i + 1))
-    + eight_bits (slice_index bytes (3 * i + 2)))
+abbrev pub rgb_word_of_dot : List ℕ → ℕ → ℕ
+rgb_word_of_dot bytes i = 0x1_0000 * widened_to_eight_bits (slice_index bytes (3 * i))
+    + (0x100 * widened_to_eight_bits (slice_index bytes (3 * i + 1))
+    + widened_to_eight_bits (slice_index bytes (3 * i + 2)))
 
 -- Rows of words: row y begins at pitch * y, and its word x is `word x y`. What lies between and
 -- after the rows stays as it was.
-pub record AreRows (width height pitch : ℕ) (word : ℕ → ℕ → ℕ) (old new : List ℕ) : Type 0 where
+pub record AreRowsOfWords (width height pitch : ℕ) (word : ℕ → ℕ → ℕ)
+    (old new : List ℕ) : Type 0 where
   pub words : (x y : ℕ) → x < width → y < height → slice_index new (pitch * y + x) ≡ word x y
   pub beside : (x y : ℕ) → width ≤ x → x < pitch → y < height →
       slice_index new (pitch * y + x) ≡ slice_index old (pitch * y + x)
@@ -39,8 +40,8 @@ has_room width height pitch len = nat_le width pitch && nat_le (pitch * height) 
 abbrev pub AreInRows : ℕ → ℕ → ℕ → (ℕ → ℕ → ℕ) → List ℕ → List ℕ → ℕ → Type 0
 AreInRows width height pitch word old new status =
     (has_room width height pitch (length old) ≡ true →
-    AreRows width height pitch word old new × (status ≡ 0))
-    × (has_room width height pitch (length old) ≡ false → (new ≡ old) × (status ≡ no_room))
+    AreRowsOfWords width height pitch word old new × (status ≡ 0))
+    × (has_room width height pitch (length old) ≡ false → (new ≡ old) × (status ≡ no_room_status))
 
 -- ---- forms
 
@@ -49,19 +50,19 @@ abbrev pub div_ceil : ℕ → ℕ → ℕ
 div_ceil n m = (n + (m - 1)) / m
 
 -- whether flags ask for opaque words, whose top byte is FF
-abbrev pub is_opaque : ℕ → Bool
-is_opaque flags = flags % 2 == 1
+abbrev pub wants_opaque_words : ℕ → Bool
+wants_opaque_words flags = flags % 2 == 1
 
 -- whether flags ask for each pixel once, even if the screen shows it several times
-abbrev pub is_once : ℕ → Bool
-is_once flags = flags / 2 % 2 == 1
+abbrev pub wants_each_pixel_once : ℕ → Bool
+wants_each_pixel_once flags = flags / 2 % 2 == 1
 
 -- the form that flags ask for
 abbrev pub form_of : ℕ → CardState → Form
 form_of flags c = record {
-  across = if is_once flags then pixel_width c else 1;
-  down = if is_once flags then pixel_height c else 1;
-  above = if is_opaque flags then 0xFF00_0000 else 0;
+  across = if wants_each_pixel_once flags then pixel_width c else 1;
+  down = if wants_each_pixel_once flags then pixel_height c else 1;
+  above = if wants_opaque_words flags then 0xFF00_0000 else 0;
 }
 
 -- a form that flags can ask for
@@ -76,11 +77,11 @@ pub record IsForm (form : Form) : Type 0 where
 -- word x of row y of a picture with lines of `width` dots
 abbrev pub form_word : Form → ℕ → List ℕ → ℕ → ℕ → ℕ
 form_word form width bytes x y =
-    bit_or form.above (dot_word bytes (width * (form.down * y) + form.across * x))
+    bit_or form.above (rgb_word_of_dot bytes (width * (form.down * y) + form.across * x))
 
 -- the description of a picture in a form: words in a row, rows, and what each word stands for
-abbrev pub picture_of : Form → ℕ → ℕ → WordPicture
-picture_of form width height = record {
+abbrev pub picture_description : Form → ℕ → ℕ → WordPicture
+picture_description form width height = record {
   width = div_ceil width form.across;
   height = div_ceil height form.down;
   across = form.across;
@@ -89,24 +90,25 @@ picture_of form width height = record {
 
 -- The output has a picture in this form, or only its description if there was no room. If rows
 -- differ in width, the status says so, and the output is unchanged.
-abbrev pub HasForm : Form → StepAnswer → ℕ → WordPicture → WordPicture → List ℕ → List ℕ → ℕ →
+abbrev pub HasPictureInForm : Form → StepAnswer → ℕ → WordPicture → WordPicture → List ℕ → List ℕ
+    → ℕ →
     Type 0
-HasForm form (Picture width height bytes) pitch told_old told old new status =
-    (told ≡ picture_of form width height) × AreInRows (div_ceil width form.across)
+HasPictureInForm form (Picture width height bytes) pitch told_old told old new status =
+    (told ≡ picture_description form width height) × AreInRows (div_ceil width form.across)
     (div_ceil height form.down) pitch (form_word form width bytes) old new status
-HasForm form Ragged pitch told_old told old new status =
-    (told ≡ told_old) × ((new ≡ old) × (status ≡ ragged))
-HasForm form reply pitch told_old told old new status = ⊥
+HasPictureInForm form Ragged pitch told_old told old new status =
+    (told ≡ told_old) × ((new ≡ old) × (status ≡ ragged_status))
+HasPictureInForm form reply pitch told_old told old new status = ⊥
 
 -- Known flags: the machine comes to the end of the frame under way, and the output has its picture
 -- in that form. With other flags, machine and output are unchanged.
 abbrev pub DrawsForm : ℕ → Machine → Machine → ℕ → WordPicture → WordPicture → List ℕ → List ℕ →
     ℕ → Type 0
 DrawsForm flags old_machine new_machine pitch told_old told old new status =
-    (flags < 4 → (new_machine ≡ after_step old_machine Frame) × HasForm (form_of flags
+    (flags < 4 → (new_machine ≡ after_step old_machine Frame) × HasPictureInForm (form_of flags
     old_machine.card) (answer_to old_machine Frame) pitch told_old told old new status)
     × (4 ≤ flags → (new_machine ≡ old_machine) × ((told ≡ told_old) × ((new ≡ old)
-    × (status ≡ bad_argument))))
+    × (status ≡ bad_argument_status))))
 
 -- that holds for an open card
 abbrev pub DrawsFormOf : ℕ → HandleState → HandleState → ℕ → WordPicture → WordPicture → List ℕ →

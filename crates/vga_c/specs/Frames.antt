@@ -3,7 +3,7 @@ use Rattle.std.specs.Prelude.{◌≡◌, ◌+◌, ◌*◌, ℕ, true}
 use Rattle.std.specs.Prelude.{List, length}
 use Rattle.vga_card.specs.Frames.{frame}
 use Rattle.vga_card.specs.Lines.{line_widths}
-use Rattle.vga_card.specs.Picture.{Dot, bytes_of}
+use Rattle.vga_card.specs.Picture.{Dot, bytes_of_dots}
 use Rattle.vga_script.specs.declared.step.Step.TheVariants.{Frame}
 use Rattle.vga_run.specs.declared.machine.Machine.{Machine}
 use Rattle.vga_run.specs.Answer.{StepAnswer, Picture, Ragged}
@@ -11,20 +11,20 @@ use Rattle.vga_run.specs.Step.{after_step, answer_to}
 use Rattle.vga_run.specs.Saved.{machine_with_fresh_canvas}
 use Rattle.vga_c.specs.declared.frames.Size.{Size}
 use Rattle.vga_c.specs.Handle.{HandleState, machine_of}
-use Rattle.vga_c.specs.Forms.{AreInRows, dot_word}
+use Rattle.vga_c.specs.Forms.{AreInRows, rgb_word_of_dot}
 use Rattle.vga_c.specs.Buffers.{IsCopied, room_status, with_prefix}
-use Rattle.vga_c.specs.Cards.{Holds}
-use Rattle.vga_c.specs.Status.{ragged}
+use Rattle.vga_c.specs.Cards.{HoldsMachine}
+use Rattle.vga_c.specs.Status.{ragged_status}
 
 -- an open card comes to the end of the frame under way
 abbrev pub EndsFrame : HandleState → HandleState → Type 0
-EndsFrame old new = old.is_open ≡ true → Holds new (after_step (machine_of old) Frame)
+EndsFrame old new = old.is_open ≡ true → HoldsMachine new (after_step (machine_of old) Frame)
 
 -- An open card comes to the end of the frame under way. It has lost the dots of that frame, which
 -- no step can see any more.
 abbrev pub SkipsFrame : HandleState → HandleState → ℕ → Type 0
 SkipsFrame old new status = old.is_open ≡ true →
-    Holds new (machine_with_fresh_canvas (after_step (machine_of old) Frame)) × (status ≡ 0)
+    HoldsMachine new (machine_with_fresh_canvas (after_step (machine_of old) Frame)) × (status ≡ 0)
 
 -- how large a picture is
 abbrev pub size_of : ℕ → ℕ → Size
@@ -39,7 +39,7 @@ HasDotBytes (Picture width height bytes) size_old size old new status =
     (size ≡ size_of width height) × ((new ≡ with_prefix bytes old)
     × (status ≡ room_status (length bytes) (length old)))
 HasDotBytes Ragged size_old size old new status =
-    (size ≡ size_old) × ((new ≡ old) × (status ≡ ragged))
+    (size ≡ size_old) × ((new ≡ old) × (status ≡ ragged_status))
 HasDotBytes reply size_old size old new status = ⊥
 
 -- that holds for the frame of an open card
@@ -54,9 +54,9 @@ DrawsBytes card size_old size old new status = card.is_open ≡ true →
 abbrev pub HasDotWords : StepAnswer → ℕ → Size → Size → List ℕ → List ℕ → ℕ → Type 0
 HasDotWords (Picture width height bytes) pitch size_old size old new status =
     (size ≡ size_of width height) × AreInRows width height pitch
-    (λ x y. dot_word bytes (width * y + x)) old new status
+    (λ x y. rgb_word_of_dot bytes (width * y + x)) old new status
 HasDotWords Ragged pitch size_old size old new status =
-    (size ≡ size_old) × ((new ≡ old) × (status ≡ ragged))
+    (size ≡ size_old) × ((new ≡ old) × (status ≡ ragged_status))
 HasDotWords reply pitch size_old size old new status = ⊥
 
 -- that holds for the frame of an open card
@@ -79,4 +79,4 @@ CountsLines card widths = card.is_open ≡ true →
 -- them
 abbrev pub GivesDotBytes : HandleState → List ℕ → List ℕ → ℕ → ℕ → Type 0
 GivesDotBytes card old new len status = card.is_open ≡ true →
-    IsCopied (bytes_of (frame_dots (machine_of card))) old new len status
+    IsCopied (bytes_of_dots (frame_dots (machine_of card))) old new len status

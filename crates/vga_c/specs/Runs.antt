@@ -6,7 +6,7 @@ use Rattle.bios_modes.specs.Fonts.{font_file_len, fonts_of}
 use Rattle.vga_script.specs.declared.step.Step.{Step}
 use Rattle.vga_script.specs.Input.{InputHasFault, InputMeans, IsTooLong}
 use Rattle.vga_run.specs.Report.{report_of}
-use Rattle.vga_c.specs.Outcome.{Told, Gives}
+use Rattle.vga_c.specs.Outcome.{ScriptOutput, GivesOutcome}
 
 -- the first fault of a font file and the bytes of a script; or an allocation failed, with a font
 -- file of the right size
@@ -24,10 +24,10 @@ IsReport file script report = (length file ≡ font_file_len) × ((steps : List 
     × InputMeans (Some script) steps × (report ≡ report_of (fonts_of file) steps))
 
 -- the report, or the first fault
-abbrev pub IsOutcome : List ℕ → List ℕ → Result (List ℕ) Fault → Type 0
-IsOutcome file script (Ok report) = IsReport file script report
-IsOutcome file script (Err why) = IsFirstFault file script why
+abbrev pub IsReportOrFault : List ℕ → List ℕ → Result (List ℕ) Fault → Type 0
+IsReportOrFault file script (Ok report) = IsReport file script report
+IsReportOrFault file script (Err why) = IsFirstFault file script why
 
 -- the output has that
-abbrev pub Runs : List ℕ → List ℕ → Told → Told → ℕ → Type 0
-Runs file script = Gives (IsOutcome file script)
+abbrev pub GivesReport : List ℕ → List ℕ → ScriptOutput → ScriptOutput → ℕ → Type 0
+GivesReport file script = GivesOutcome (IsReportOrFault file script)

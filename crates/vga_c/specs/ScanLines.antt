@@ -4,12 +4,12 @@ use Rattle.std.specs.Prelude.{if◌then◌else◌}
 use Rattle.vga_card.specs.Card.{CardState}
 use Rattle.vga_card.specs.Frames.{is_at_frame_start, line}
 use Rattle.vga_card.specs.Lines.{line_widths}
-use Rattle.vga_card.specs.Picture.{bytes_of}
+use Rattle.vga_card.specs.Picture.{bytes_of_dots}
 use Rattle.vga_run.specs.declared.machine.Machine.{Machine}
 use Rattle.vga_c.specs.declared.scan_lines.ScanLine.{ScanLine}
-use Rattle.vga_c.specs.Forms.{AreInRows, dot_word, is_opaque}
+use Rattle.vga_c.specs.Forms.{AreInRows, rgb_word_of_dot, wants_opaque_words}
 use Rattle.vga_c.specs.Handle.{HandleState, machine_of}
-use Rattle.vga_c.specs.Status.{bad_argument}
+use Rattle.vga_c.specs.Status.{bad_argument_status}
 
 -- how many dots the line under way has at its end
 abbrev pub width_of : CardState → ℕ
@@ -25,8 +25,8 @@ scan_line_of c = record {
 
 -- the word of dot x of a line, whose dots are the last ones drawn at its end
 abbrev pub line_word : ℕ → CardState → ℕ → ℕ → ℕ
-line_word flags c x y = bit_or (if is_opaque flags then 0xFF00_0000 else 0)
-    (dot_word (bytes_of (line c).drawn) (length (line c).drawn - width_of c + x))
+line_word flags c x y = bit_or (if wants_opaque_words flags then 0xFF00_0000 else 0)
+    (rgb_word_of_dot (bytes_of_dots (line c).drawn) (length (line c).drawn - width_of c + x))
 
 -- Known flags: a machine comes to the end of the line under way, the output describes that line,
 -- and has its words if there is room. With other flags nothing changes.
@@ -36,7 +36,7 @@ DrawsLine flags old_machine new_machine told_old told old new status =
     × ((told ≡ scan_line_of old_machine.card)
     × AreInRows told.width 1 told.width (line_word flags old_machine.card) old new status))
     × (2 ≤ flags → (new_machine ≡ old_machine) × ((told ≡ told_old) × ((new ≡ old)
-    × (status ≡ bad_argument))))
+    × (status ≡ bad_argument_status))))
 
 -- that holds for an open card
 abbrev pub DrawsLineOf : ℕ → HandleState → HandleState → ScanLine → ScanLine → List ℕ → List ℕ →

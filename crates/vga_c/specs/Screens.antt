@@ -12,7 +12,7 @@ use Rattle.vga_c.specs.declared.screens.ScreenLayout.{ScreenLayout}
 use Rattle.vga_c.specs.declared.screens.Cell.{Cell}
 use Rattle.vga_c.specs.declared.screens.Place.{Place}
 use Rattle.vga_c.specs.State.{flag}
-use Rattle.vga_c.specs.Status.{bad_argument, no_screen, out_of_memory}
+use Rattle.vga_c.specs.Status.{bad_argument_status, no_screen_status, out_of_memory_status}
 
 -- this number of pixels in a graphics mode, or 0 in text
 abbrev pub count_unless_text : ℕ → ℕ → ℕ
@@ -57,22 +57,22 @@ place_of (Some place) = Some (record { row = place.0; column = place.1 })
 
 -- the output has what was asked for, if that exists
 abbrev pub IsAnswered : {A : Type 0} → Option A → A → A → ℕ → Type 0
-IsAnswered None before after status = (after ≡ before) × (status ≡ bad_argument)
+IsAnswered None before after status = (after ≡ before) × (status ≡ bad_argument_status)
 IsAnswered (Some value) before after status = (after ≡ value) × (status ≡ 0)
 
 -- that holds for the screen that is shown, if there is one
-abbrev pub IsAsked : {A : Type 0} → Option Screen → (Screen → Option A) → A → A → ℕ → Type 0
-IsAsked None ask before after status = (after ≡ before) × (status ≡ no_screen)
-IsAsked (Some screen) ask before after status = IsAnswered (ask screen) before after status
+abbrev pub IsScreenAnswer : {A : Type 0} → Option Screen → (Screen → Option A) → A → A → ℕ → Type 0
+IsScreenAnswer None ask before after status = (after ≡ before) × (status ≡ no_screen_status)
+IsScreenAnswer (Some screen) ask before after status = IsAnswered (ask screen) before after status
 
 -- and for the one that a machine shows; or an allocation failed
 abbrev pub HasOfScreen : {A : Type 0} → Machine → (Screen → Option A) → A → A → ℕ → Type 0
-HasOfScreen m ask before after status = ((after ≡ before) × (status ≡ out_of_memory))
-    ⊎ IsAsked (shown m.card m.bda) ask before after status
+HasOfScreen m ask before after status = ((after ≡ before) × (status ≡ out_of_memory_status))
+    ⊎ IsScreenAnswer (shown m.card m.bda) ask before after status
 
 -- that holds for an open card
-abbrev pub Asks : {A : Type 0} → (Screen → Option A) → HandleState → A → A → ℕ → Type 0
-Asks ask card before after status = card.is_open ≡ true →
+abbrev pub AnswersFromScreen : {A : Type 0} → (Screen → Option A) → HandleState → A → A → ℕ → Type 0
+AnswersFromScreen ask card before after status = card.is_open ≡ true →
     HasOfScreen (machine_of card) ask before after status
 
 -- asks a screen for its layout

@@ -11,21 +11,21 @@ use Rattle.vga_script.specs.declared.step.Step.TheVariants.{Int}
 use Rattle.vga_run.specs.declared.machine.Machine.{Machine}
 use Rattle.vga_run.specs.declared.answer.Answer.TheVariants.{Refused}
 use Rattle.vga_run.specs.Answer.{StepAnswer, Short, Served, of_service}
-use Rattle.vga_run.specs.Step.{TakesMemory, after_step, answer_to}
+use Rattle.vga_run.specs.Step.{AllocatesMemory, after_step, answer_to}
 use Rattle.vga_c.specs.Handle.{HandleState, machine_of}
 use Rattle.vga_c.specs.declared.services.CallRegisters.{CallRegisters}
 use Rattle.vga_c.specs.Buffers.{IsCopied}
-use Rattle.vga_c.specs.Status.{bad_card, out_of_memory, refusal_status}
+use Rattle.vga_c.specs.Status.{bad_data_status, out_of_memory_status, refusal_status}
 
 -- The caller's output: the registers, a buffer for a table, and the table's length.
-pub record Told : Type 0 where
+pub record ServiceOutput : Type 0 where
   pub registers : CallRegisters
   pub table : List ℕ
   pub len : ℕ
 
 -- an output with these contents
-abbrev pub told : CallRegisters → List ℕ → ℕ → Told
-told registers table len = record { registers = registers; table = table; len = len }
+abbrev pub service_output : CallRegisters → List ℕ → ℕ → ServiceOutput
+service_output registers table len = record { registers = registers; table = table; len = len }
 
 -- the step of a script that makes the call
 abbrev pub call_step : CallRegisters → List ℕ → Step
@@ -37,7 +37,7 @@ registers_of r = record { ax = r.ax; bx = r.bx; cx = r.cx; dx = r.dx }
 
 -- the output has the registers and the table of an answer; or the status is that of a refusal, and
 -- the output is unchanged
-abbrev pub HasAnswer : StepAnswer → Told → Told → ℕ → Type 0
+abbrev pub HasAnswer : StepAnswer → ServiceOutput → ServiceOutput → ℕ → Type 0
 HasAnswer (Served regs table) before after status = (after.registers ≡ registers_of regs)
     × IsCopied table before.table after.table after.len status
 HasAnswer (Short (Refused why)) before after status = (status ≡ refusal_status why)
@@ -45,31 +45,36 @@ HasAnswer (Short (Refused why)) before after status = (status ≡ refusal_status
 HasAnswer reply before after status = ⊥
 
 -- the output has what `int10` answers; or an allocation failed, and it is unchanged
-abbrev pub HasOutcome : Result ServiceReply ServiceError → Told → Told → ℕ → Type 0
-HasOutcome (Ok reply) before after status = HasAnswer (of_service (Ok reply)) before after status
-HasOutcome (Err (ServiceRefused why)) before after status =
+abbrev pub HasServiceOutcome : Result ServiceReply ServiceError → ServiceOutput → ServiceOutput → ℕ
+    → Type 0
+HasServiceOutcome (Ok reply) before after status =
+    HasAnswer (of_service (Ok reply)) before after status
+HasServiceOutcome (Err (ServiceRefused why)) before after status =
     HasAnswer (of_service (Err why)) before after status
-HasOutcome (Err OutOfMemory) before after status = (status ≡ out_of_memory) × (after ≡ before)
+HasServiceOutcome (Err OutOfMemory) before after status =
+    (status ≡ out_of_memory_status) × (after ≡ before)
 
 -- the step is taken; or it allocates, the allocation failed, and nothing has changed
-abbrev pub IsCalled : Machine → Machine → Step → Told → Told → ℕ → Type 0
+abbrev pub IsCalled : Machine → Machine → Step → ServiceOutput → ServiceOutput → ℕ → Type 0
 IsCalled old new step before after status =
-    ((status ≡ out_of_memory) × (TakesMemory old step × ((after ≡ before) × (new ≡ old))))
+    ((status ≡ out_of_memory_status) × (AllocatesMemory old step
+    × ((after ≡ before) × (new ≡ old))))
     ⊎ ((new ≡ after_step old step) × HasAnswer (answer_to old step) before after status)
 
 -- that holds for an open card with valid BIOS data, which stay valid
-abbrev pub Calls : HandleState → HandleState → List ℕ → Told → Told → ℕ → Type 0
+abbrev pub Calls : HandleState → HandleState → List ℕ → ServiceOutput → ServiceOutput → ℕ → Type 0
 Calls old new block before after status = old.is_open ≡ true → IsValid (machine_of old).bda →
     (new.is_open ≡ true) × (IsValid (machine_of new).bda
     × IsCalled (machine_of old) (machine_of new) (call_step before.registers block) before after
     status)
 
 -- a machine with other data stays as it is, and so does the output
-abbrev pub IsLeftBad : {A : Type 0} → Machine → Machine → A → A → ℕ → Type 0
-IsLeftBad old new before after status = (IsValid old.bda → ⊥) →
-    (new ≡ old) × ((after ≡ before) × (status ≡ bad_card))
+abbrev pub IsUnchangedIfDataBad : {A : Type 0} → Machine → Machine → A → A → ℕ → Type 0
+IsUnchangedIfDataBad old new before after status = (IsValid old.bda → ⊥) →
+    (new ≡ old) × ((after ≡ before) × (status ≡ bad_data_status))
 
 -- that holds for the machine of an open card
 abbrev pub LeavesBad : {A : Type 0} → HandleState → HandleState → A → A → ℕ → Type 0
 LeavesBad old new before after status = old.is_open ≡ true →
-    (new.is_open ≡ true) × IsLeftBad (machine_of old) (machine_of new) before after status
+    (new.is_open ≡ true) × IsUnchangedIfDataBad (machine_of old) (machine_of new) before after
+    status

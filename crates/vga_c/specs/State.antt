@@ -5,8 +5,8 @@ use Rattle.vga_bits.specs.Four.{Four}
 use Rattle.vga_planes.specs.Planes.{byte_at}
 use Rattle.vga_dac.specs.declared.component.Component.{Component}
 use Rattle.vga_dac.specs.declared.component.Component.TheVariants.{Red, Green, Blue}
-use Rattle.vga_card.specs.Dots.{fresh}
-use Rattle.vga_card.specs.Picture.{rows}
+use Rattle.vga_card.specs.Dots.{dots_of_frame_so_far}
+use Rattle.vga_card.specs.Picture.{row_count}
 use Rattle.vga_run.specs.declared.machine.Machine.{Machine}
 use Rattle.vga_c.specs.Handle.{HandleState, machine_of}
 use Rattle.vga_c.specs.declared.state.Registers.{Registers}
@@ -14,7 +14,7 @@ use Rattle.vga_c.specs.declared.state.Colour.{Colour}
 use Rattle.vga_c.specs.declared.state.Beam.{Beam}
 use Rattle.vga_c.specs.declared.state.Latches.{Latches}
 use Rattle.vga_c.specs.declared.state.BiosDataArea.{BiosDataArea}
-use Rattle.vga_c.specs.Status.{bad_argument}
+use Rattle.vga_c.specs.Status.{bad_argument_status}
 
 -- a flag as a number: 1 if it is set, otherwise 0
 abbrev pub flag : Bool → ℕ
@@ -62,7 +62,7 @@ beam_in m = record {
   dot = m.card.crtc.beam.dot;
   base = m.card.crtc.beam.base;
   scan = m.card.crtc.beam.scan;
-  rows = rows (fresh m.card);
+  rows = row_count (dots_of_frame_so_far m.card);
   frame = m.card.crtc.beam.frame;
   half = flag m.card.crtc.beam.half;
   split = flag m.card.crtc.beam.split;
@@ -104,7 +104,7 @@ abbrev pub IsPlaneRead : Four (List ℕ) → ℕ → ℕ → List ℕ → List �
 IsPlaneRead memory plane offset old new status =
     (is_in_plane plane offset (length old) ≡ true →
     IsPlanePart memory plane offset old new × (status ≡ 0))
-    × (is_in_plane plane offset (length old) ≡ false → (new ≡ old) × (status ≡ bad_argument))
+    × (is_in_plane plane offset (length old) ≡ false → (new ≡ old) × (status ≡ bad_argument_status))
 
 -- that holds for an open card's memory
 abbrev pub TellsPlane : ℕ → ℕ → HandleState → List ℕ → List ℕ → ℕ → Type 0

@@ -32,47 +32,47 @@ status_of (Short (Refused why)) = refusal_status why
 status_of reply = 0
 
 -- what a step leaves in the caller's variable: what it read, or what was there
-abbrev pub value_of : StepAnswer → ℕ → ℕ
-value_of (Short (Byte value)) before = value
-value_of (Short (Word value)) before = value
-value_of reply before = before
+abbrev pub value_read_or_before : StepAnswer → ℕ → ℕ
+value_read_or_before (Short (Byte value)) before = value
+value_read_or_before (Short (Word value)) before = value
+value_read_or_before reply before = before
 
 -- the card is not open
-abbrev pub no_card : ℕ
-no_card = 20
+abbrev pub no_card_status : ℕ
+no_card_status = 20
 
 -- the card is open already
-abbrev pub open_already : ℕ
-open_already = 21
+abbrev pub open_already_status : ℕ
+open_already_status = 21
 
 -- the font file does not have 9,728 bytes
-abbrev pub font_size : ℕ
-font_size = 22
+abbrev pub font_size_status : ℕ
+font_size_status = 22
 
 -- an allocation failed
-abbrev pub out_of_memory : ℕ
-out_of_memory = 23
+abbrev pub out_of_memory_status : ℕ
+out_of_memory_status = 23
 
 -- two rows of the picture differ in width
-abbrev pub ragged : ℕ
-ragged = 24
+abbrev pub ragged_status : ℕ
+ragged_status = 24
 
 -- the caller's buffer is too short
-abbrev pub no_room : ℕ
-no_room = 25
+abbrev pub no_room_status : ℕ
+no_room_status = 25
 
 -- an argument is out of range
-abbrev pub bad_argument : ℕ
-bad_argument = 26
+abbrev pub bad_argument_status : ℕ
+bad_argument_status = 26
 
 -- the BIOS data are not valid
-abbrev pub bad_card : ℕ
-bad_card = 27
+abbrev pub bad_data_status : ℕ
+bad_data_status = 27
 
 -- the adapter shows no plain screen
-abbrev pub no_screen : ℕ
-no_screen = 28
+abbrev pub no_screen_status : ℕ
+no_screen_status = 28
 
 -- a script would have more bytes than a script may have
-abbrev pub too_long : ℕ
-too_long = 106
+abbrev pub too_long_status : ℕ
+too_long_status = 106

@@ -13,61 +13,65 @@ use Rattle.vga_run.specs.Step.{after_steps}
 use Rattle.vga_c.specs.Handle.{HandleState, machine_of}
 use Rattle.vga_c.specs.Buffers.{IsCopied}
 use Rattle.vga_c.specs.Outcome.{fault_status, fault_place}
-use Rattle.vga_c.specs.Status.{out_of_memory}
+use Rattle.vga_c.specs.Status.{out_of_memory_status}
 
 -- The caller's output: a buffer for the report, its length, how many steps were taken, and the
 -- place of a fault.
-pub record Told : Type 0 where
+pub record StepsOutput : Type 0 where
   pub report : List ℕ
   pub len : ℕ
   pub taken : ℕ
   pub place : ℕ
 
 -- an output with these contents
-abbrev pub told : List ℕ → ℕ → ℕ → ℕ → Told
-told report len taken place = record { report = report; len = len; taken = taken; place = place }
+abbrev pub steps_output : List ℕ → ℕ → ℕ → ℕ → StepsOutput
+steps_output report len taken place =
+    record { report = report; len = len; taken = taken; place = place }
 
 -- the steps that are taken: the first ones are skipped, and then at most `most` are taken
 abbrev pub asked_steps : ℕ → ℕ → List Step → List Step
 asked_steps first most steps = take most (drop first steps)
 
 -- the steps are taken, the first with this number, and the output has their report
-abbrev pub AreTaken : List Step → ℕ → Machine → Machine → Told → Told → ℕ → Type 0
-AreTaken steps number old new before after status = (new ≡ after_steps old steps)
+abbrev pub AreStepsTaken : List Step → ℕ → Machine → Machine → StepsOutput → StepsOutput → ℕ
+    → Type 0
+AreStepsTaken steps number old new before after status = (new ≡ after_steps old steps)
     × (after.taken ≡ length steps) × (after.place ≡ before.place)
     × IsCopied (report_from old number steps) before.report after.report after.len status
 
 -- an allocation failed: some of the first steps are taken, and the output is unchanged
-abbrev pub AreCutOff : List Step → Machine → Machine → Told → Told → ℕ → Type 0
-AreCutOff steps old new before after status = IsOnTheWay old steps new × (after ≡ before)
-    × (status ≡ out_of_memory)
+abbrev pub AreStepsCutOff : List Step → Machine → Machine → StepsOutput → StepsOutput → ℕ → Type 0
+AreStepsCutOff steps old new before after status = IsOnTheWay old steps new × (after ≡ before)
+    × (status ≡ out_of_memory_status)
 
 -- either holds
-abbrev pub AreTakenOrCutOff : List Step → ℕ → Machine → Machine → Told → Told → ℕ → Type 0
+abbrev pub AreTakenOrCutOff : List Step → ℕ → Machine → Machine → StepsOutput → StepsOutput → ℕ
+    → Type 0
 AreTakenOrCutOff steps number old new before after status =
-    AreTaken steps number old new before after status
-    ⊎ AreCutOff steps old new before after status
+    AreStepsTaken steps number old new before after status
+    ⊎ AreStepsCutOff steps old new before after status
 
 -- the bytes spell a script, and these of its steps are taken
-abbrev pub TakesSteps : List ℕ → ℕ → ℕ → Machine → Machine → Told → Told → ℕ → Type 0
+abbrev pub TakesSteps : List ℕ → ℕ → ℕ → Machine → Machine → StepsOutput → StepsOutput → ℕ → Type 0
 TakesSteps script first most old new before after status = (length script ≤ script_limit)
     × ((steps : List Step) × SpellsExpanded script steps
     × AreTakenOrCutOff (asked_steps first most steps) (first + 1) old new before after status)
 
 -- the bytes spell no script, the machine stays as it is, and the caller learns the first fault
-abbrev pub IsRefused : List ℕ → Machine → Machine → Told → Told → ℕ → Type 0
+abbrev pub IsRefused : List ℕ → Machine → Machine → StepsOutput → StepsOutput → ℕ → Type 0
 IsRefused script old new before after status = (why : Fault) × IsFault script why × (new ≡ old)
     × (status ≡ fault_status why)
-    × (after ≡ told before.report before.len before.taken (fault_place why before.place))
+    × (after ≡ steps_output before.report before.len before.taken (fault_place why before.place))
 
 -- one of the two holds
-abbrev pub IsRunOn : List ℕ → ℕ → ℕ → Machine → Machine → Told → Told → ℕ → Type 0
+abbrev pub IsRunOn : List ℕ → ℕ → ℕ → Machine → Machine → StepsOutput → StepsOutput → ℕ → Type 0
 IsRunOn script first most old new before after status =
     TakesSteps script first most old new before after status
     ⊎ IsRefused script old new before after status
 
 -- that holds for an open card with valid BIOS data, which stay valid
-abbrev pub RunsOn : List ℕ → ℕ → ℕ → HandleState → HandleState → Told → Told → ℕ → Type 0
+abbrev pub RunsOn : List ℕ → ℕ → ℕ → HandleState → HandleState → StepsOutput → StepsOutput → ℕ
+    → Type 0
 RunsOn script first most old new before after status = old.is_open ≡ true →
     IsValid (machine_of old).bda → (new.is_open ≡ true) × (IsValid (machine_of new).bda
     × IsRunOn script first most (machine_of old) (machine_of new) before after status)

@@ -4,11 +4,11 @@ use Rattle.vga_bits.specs.declared.fault.Fault.{Fault}
 use Rattle.vga_bits.specs.declared.fault.Fault.TheVariants.{OutOfMemory}
 use Rattle.vga_script.specs.Decoding.{IsFault}
 use Rattle.vga_script.specs.Item.{Listing}
-use Rattle.vga_script.specs.Printing.{printed}
+use Rattle.vga_script.specs.Printing.{printed_script}
 use Rattle.vga_script.specs.Script.{IsTextFault}
 use Rattle.vga_script.specs.Spelling.{script_limit, encoding, Spells}
 use Rattle.vga_script.specs.Text.{SpellsText}
-use Rattle.vga_c.specs.Outcome.{Told, Gives}
+use Rattle.vga_c.specs.Outcome.{ScriptOutput, GivesOutcome}
 
 -- the text spells a script, and these are its bytes
 abbrev pub IsAssembled : List ℕ → List ℕ → Type 0
@@ -25,13 +25,13 @@ IsOutcomeOfText text (Ok bytes) = IsAssembled text bytes
 IsOutcomeOfText text (Err why) = IsFaultOfText text why
 
 -- the output has that
-abbrev pub Assembles : List ℕ → Told → Told → ℕ → Type 0
-Assembles text = Gives (IsOutcomeOfText text)
+abbrev pub GivesAssembledBytes : List ℕ → ScriptOutput → ScriptOutput → ℕ → Type 0
+GivesAssembledBytes text = GivesOutcome (IsOutcomeOfText text)
 
 -- the bytes spell a script, and this is its printed text
 abbrev pub IsPrinted : List ℕ → List ℕ → Type 0
 IsPrinted bytes text = (length bytes ≤ script_limit)
-    × ((script : Listing) × Spells bytes script × (text ≡ printed script))
+    × ((script : Listing) × Spells bytes script × (text ≡ printed_script script))
 
 -- the first fault of some bytes; or an allocation failed
 abbrev pub IsFaultOfBytes : List ℕ → Fault → Type 0
@@ -43,5 +43,5 @@ IsOutcomeOfBytes bytes (Ok text) = IsPrinted bytes text
 IsOutcomeOfBytes bytes (Err why) = IsFaultOfBytes bytes why
 
 -- the output has that
-abbrev pub Prints : List ℕ → Told → Told → ℕ → Type 0
-Prints bytes = Gives (IsOutcomeOfBytes bytes)
+abbrev pub GivesPrintedText : List ℕ → ScriptOutput → ScriptOutput → ℕ → Type 0
+GivesPrintedText bytes = GivesOutcome (IsOutcomeOfBytes bytes)

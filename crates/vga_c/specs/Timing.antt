@@ -3,17 +3,17 @@ use Rattle.std.specs.Prelude.{◌≡◌, ℕ, ◌*◌, true, if◌then◌else◌
 use Rattle.vga_card.specs.Card.{CardState}
 use Rattle.vga_card.specs.Frames.{frame_count}
 use Rattle.vga_card.specs.Clock.{BitChanges, BitStays, clock_rate, dots_a_line}
-use Rattle.vga_card.specs.Clock.{lines_a_frame, is_halved}
+use Rattle.vga_card.specs.Clock.{lines_a_frame, is_rate_halved}
 use Rattle.vga_c.specs.declared.timing.Timing.{Timing}
 use Rattle.vga_c.specs.Handle.{HandleState, machine_of}
 
 -- in place of a number of dots: the bit never changes
-abbrev pub never : ℕ
-never = 0xFFFF_FFFF
+abbrev pub never_changes : ℕ
+never_changes = 0xFFFF_FFFF
 
 -- after n dots a bit of input status 1 changes next, or it never does
 abbrev pub IsChange : ℕ → CardState → ℕ → Type 0
-IsChange i c n = (n ≡ never → BitStays i c) × (¬ (n ≡ never) → BitChanges i c n)
+IsChange i c n = (n ≡ never_changes → BitStays i c) × (¬ (n ≡ never_changes) → BitChanges i c n)
 
 -- the dots to the end of the frame under way, and to the next changes of bits 0 and 3 of input
 -- status 1; the dots of a line and of a frame, and a frame's lines; the clock's rate, and its
@@ -26,7 +26,7 @@ pub record IsTiming (c : CardState) (told : Timing) : Type 0 where
   pub whole : told.frame_dots ≡ told.line_dots * told.lines
   pub lines : told.lines ≡ lines_a_frame c
   pub rate : told.rate ≡ clock_rate c.misc
-  pub divisor : told.rate_divisor ≡ (if is_halved c then 2 else 1)
+  pub divisor : told.rate_divisor ≡ (if is_rate_halved c then 2 else 1)
 
 -- an open card answers that
 abbrev pub AnswersTiming : HandleState → Timing → ℕ → Type 0

@@ -7,7 +7,7 @@ use Rattle.vga_card.specs.Transfers.{after_gets, after_puts_down, after_gets_dow
 use Rattle.vga_card.specs.Transfers.{after_moves_down}
 use Rattle.vga_run.specs.declared.machine.Machine.{Machine}
 use Rattle.vga_c.specs.Handle.{HandleState, machine_of}
-use Rattle.vga_c.specs.Status.{bad_argument}
+use Rattle.vga_c.specs.Status.{bad_argument_status}
 
 -- whether n addresses from the first on, and the next one too, have 32 bits
 abbrev pub are_addresses : ℕ → ℕ → Bool
@@ -34,11 +34,12 @@ bytes_moved down from to n c =
 abbrev pub IsTransferred : Bool → (CardState → CardState) → Machine → Machine → ℕ → Type 0
 IsTransferred are_some after old new status =
     (are_some ≡ true → (new ≡ record old { card = after old.card }) × (status ≡ 0))
-    × (are_some ≡ false → (new ≡ old) × (status ≡ bad_argument))
+    × (are_some ≡ false → (new ≡ old) × (status ≡ bad_argument_status))
 
 -- and the output then describes the adapter as it was before; otherwise it is unchanged
-abbrev pub IsTold : {A : Type 0} → Bool → (CardState → A → Type 0) → CardState → A → A → Type 0
-IsTold are_some Told card before after = (are_some ≡ true → Told card after)
+abbrev pub IsOutputGiven : {A : Type 0} → Bool → (CardState → A → Type 0) → CardState → A → A
+    → Type 0
+IsOutputGiven are_some Told card before after = (are_some ≡ true → Told card after)
     × (are_some ≡ false → after ≡ before)
 
 -- that holds for an open card
@@ -47,6 +48,7 @@ Transfers are_some after old new status = old.is_open ≡ true → (new.is_open 
     × IsTransferred are_some after (machine_of old) (machine_of new) status
 
 -- what the output describes after such a call on an open card
-abbrev pub ToldOf : {A : Type 0} → Bool → (CardState → A → Type 0) → HandleState → A → A → Type 0
-ToldOf are_some Told old before after = old.is_open ≡ true →
-    IsTold are_some Told (machine_of old).card before after
+abbrev pub OutputGivenOf : {A : Type 0} → Bool → (CardState → A → Type 0) → HandleState → A → A
+    → Type 0
+OutputGivenOf are_some Told old before after = old.is_open ≡ true →
+    IsOutputGiven are_some Told (machine_of old).card before after

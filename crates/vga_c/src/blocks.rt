@@ -1,7 +1,7 @@
 //! What a call of interrupt 10 reads from the caller's memory.
 ghost use Rattle.std.specs.Prelude.{◌≡◌};
-ghost use Rattle.vga_c.specs.Blocks.{IsBlock, IsEnough, TellsBlock};
-ghost use Rattle.vga_c.specs.Cards.{Keeps, LeavesClosed, Spares};
+ghost use Rattle.vga_c.specs.Blocks.{IsBlockPlace, IsBlockEnough, TellsBlock};
+ghost use Rattle.vga_c.specs.Cards.{KeepsMachine, LeavesClosed, Spares};
 
 use crate::handle::{Handle, on_open_card};
 use crate::services::CallRegisters;
@@ -24,11 +24,11 @@ pub struct BlockPlace {
 /// What a call with these registers reads. With a block of that length it is never refused for its
 /// block.
 fn block_of(machine: &Machine, registers: &CallRegisters) -> BlockPlace
-    ensures block { IsBlock registers.now result }
-    ensures enough { IsEnough machine.now registers.now result.len }
+    ensures block { IsBlockPlace registers.now result }
+    ensures enough { IsBlockEnough machine.now registers.now result.len }
 {
     blocks_fit::<Card>();
-    let BlockSpan { len, is_at_dx } = BlockSpan::of(Regs {
+    let BlockSpan { len, is_at_dx } = BlockSpan::of_registers(Regs {
         ax: registers.ax,
         bx: registers.bx,
         cx: registers.cx,
@@ -46,7 +46,7 @@ pub extern "C" fn zak_block(
     registers: &CallRegisters,
     block: &mut BlockPlace,
 ) -> u32
-    ensures card { Keeps card.old card.new }
+    ensures card { KeepsMachine card.old card.new }
     ensures block { TellsBlock card.old registers.now block.new result }
     ensures closed { LeavesClosed card.old card.new result }
     ensures spared { Spares card.old block.old block.new }

@@ -2,11 +2,11 @@
 ghost use Rattle.std.specs.Prelude.{◌≡◌, ◌≤◌, ℕ, List, length};
 ghost use Rattle.bios_modes.specs.Valid.{IsValid};
 ghost use Rattle.vga_c.specs.Buffers.{IsCopied};
-ghost use Rattle.vga_c.specs.CallCycles.{given, AreListed, Lists};
+ghost use Rattle.vga_c.specs.CallCycles.{list_output, AreListed, Lists};
 ghost use Rattle.vga_c.specs.CallCycles.{unlisted_status as unlisted_status_of};
-ghost use Rattle.vga_c.specs.Cards.{Keeps, LeavesClosed, Spares};
+ghost use Rattle.vga_c.specs.Cards.{KeepsMachine, LeavesClosed, Spares};
 ghost use Rattle.vga_c.specs.Services.{LeavesBad};
-ghost use Rattle.vga_c.specs.Status.{bad_card};
+ghost use Rattle.vga_c.specs.Status.{bad_data_status};
 
 use crate::buffer::write_prefix;
 use crate::handle::{Handle, on_open_card};
@@ -53,8 +53,8 @@ fn list_valid(
     len: &mut usize,
 ) -> u32
     requires { IsValid machine.now.bda }
-    ensures { AreListed machine.now registers.now block.now (given out.old len.old)
-        (given out.new len.new) result }
+    ensures { AreListed machine.now registers.now block.now (list_output out.old len.old)
+        (list_output out.new len.new) result }
 {
     let regs = Regs {
         ax: registers.ax,
@@ -78,9 +78,10 @@ fn list(
     len: &mut usize,
 ) -> u32
     ensures listed { IsValid machine.now.bda → AreListed machine.now registers.now block.now
-        (given out.old len.old) (given out.new len.new) result }
-    ensures bad { (IsValid machine.now.bda → ⊥) → (given out.new len.new ≡ given out.old len.old)
-        × (result ≡ bad_card) }
+        (list_output out.old len.old) (list_output out.new len.new) result }
+    ensures bad { (IsValid machine.now.bda → ⊥) → (list_output out.new len.new ≡ list_output out.old
+        len.old)
+        × (result ≡ bad_data_status) }
 {
     if !machine.bda.valid() {
         return BAD_CARD;
@@ -99,13 +100,14 @@ pub extern "C" fn zak_cycles(
     out: &mut [u8],
     len: &mut usize,
 ) -> u32
-    ensures card { Keeps card.old card.new }
-    ensures listed { Lists card.old registers.now block.now (given out.old len.old)
-        (given out.new len.new) result }
-    ensures bad { LeavesBad card.old card.new (given out.old len.old) (given out.new len.new)
+    ensures card { KeepsMachine card.old card.new }
+    ensures listed { Lists card.old registers.now block.now (list_output out.old len.old)
+        (list_output out.new len.new) result }
+    ensures bad { LeavesBad card.old card.new (list_output out.old len.old)
+        (list_output out.new len.new)
         result }
     ensures closed { LeavesClosed card.old card.new result }
-    ensures spared { Spares card.old (given out.old len.old) (given out.new len.new) }
+    ensures spared { Spares card.old (list_output out.old len.old) (list_output out.new len.new) }
 {
     on_open_card!(alloc, card, machine => list(alloc, machine, registers, block, out, len))
 }

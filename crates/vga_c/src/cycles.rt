@@ -4,11 +4,11 @@ ghost use Rattle.vga_card.specs.Dots.{most_dots};
 ghost use Rattle.vga_script.specs.declared.step.Step.TheVariants.{Out, OutWord, In, InWord, Put};
 ghost use Rattle.vga_script.specs.declared.step.Step.TheVariants.{PutWord, Get, GetWord, Advance};
 ghost use Rattle.vga_run.specs.Step.{after_step, answer_to};
-ghost use Rattle.vga_c.specs.Status.{status_of, value_of};
+ghost use Rattle.vga_c.specs.Status.{status_of, value_read_or_before};
 ghost use Rattle.vga_c.specs.Cards.{LeavesClosed, Reads, Spares, Takes};
 
 use crate::handle::{Handle, on_open_card, on_owing_card};
-use crate::status::{DONE, byte_status, word_status, write_status};
+use crate::status::{DONE, status_after_byte_read, status_after_word_read, status_after_write};
 use std::alloc::Global;
 use vga_run::machine::Machine;
 
@@ -22,7 +22,7 @@ fn out(machine: &mut Machine, owed: u32, port: u16, value: u8) -> (u32, u32)
         ≡ status_of (answer_to (after_step machine.old (Advance owed)) (Out port value)) }
 {
     let (left, answer) = machine.card.out_after(owed, port, value);
-    (left, write_status(answer))
+    (left, status_after_write(answer))
 }
 
 /// Writes a byte to a port.
@@ -45,7 +45,7 @@ fn out_word(machine: &mut Machine, owed: u32, port: u16, value: u16) -> (u32, u3
         ≡ status_of (answer_to (after_step machine.old (Advance owed)) (OutWord port value)) }
 {
     let (left, answer) = machine.card.out_word_after(owed, port, value);
-    (left, write_status(answer))
+    (left, status_after_write(answer))
 }
 
 /// Writes a word to a port and the next port.
@@ -66,10 +66,11 @@ fn inp(machine: &mut Machine, owed: u32, port: u16, value: &mut u8) -> (u32, u32
     ensures status { result.1
         ≡ status_of (answer_to (after_step machine.old (Advance owed)) (In port)) }
     ensures value { value.new
-        ≡ value_of (answer_to (after_step machine.old (Advance owed)) (In port)) value.old }
+        ≡ value_read_or_before (answer_to (after_step machine.old (Advance owed)) (In port))
+        value.old }
 {
     let (left, answer) = machine.card.inp_after(owed, port);
-    (left, byte_status(answer, value))
+    (left, status_after_byte_read(answer, value))
 }
 
 /// Reads a byte from a port.
@@ -88,9 +89,10 @@ pub extern "C" fn zak_in(alloc: Global, card: &mut Handle, port: u16, value: &mu
 fn inp_word(machine: &mut Machine, port: u16, value: &mut u16) -> u32
     ensures after { machine.new ≡ after_step machine.old (InWord port) }
     ensures status { result ≡ status_of (answer_to machine.old (InWord port)) }
-    ensures value { value.new ≡ value_of (answer_to machine.old (InWord port)) value.old }
+    ensures value { value.new ≡ value_read_or_before (answer_to machine.old (InWord port))
+        value.old }
 {
-    word_status(machine.card.inp_word(port), value)
+    status_after_word_read(machine.card.inp_word(port), value)
 }
 
 /// Reads a word from a port and the next port.
@@ -115,7 +117,7 @@ fn put(machine: &mut Machine, owed: u32, address: u32, value: u8) -> (u32, u32)
         ≡ status_of (answer_to (after_step machine.old (Advance owed)) (Put address value)) }
 {
     let (left, answer) = machine.card.put_after(owed, address, value);
-    (left, write_status(answer))
+    (left, status_after_write(answer))
 }
 
 /// Writes a byte to an address.
@@ -138,7 +140,7 @@ fn put_word(machine: &mut Machine, owed: u32, address: u32, value: u16) -> (u32,
         ≡ status_of (answer_to (after_step machine.old (Advance owed)) (PutWord address value)) }
 {
     let (left, answer) = machine.card.put_word_after(owed, address, value);
-    (left, write_status(answer))
+    (left, status_after_write(answer))
 }
 
 /// Writes a word to an address and the next address.
@@ -160,10 +162,11 @@ fn get(machine: &mut Machine, owed: u32, address: u32, value: &mut u8) -> (u32, 
     ensures status { result.1
         ≡ status_of (answer_to (after_step machine.old (Advance owed)) (Get address)) }
     ensures value { value.new
-        ≡ value_of (answer_to (after_step machine.old (Advance owed)) (Get address)) value.old }
+        ≡ value_read_or_before (answer_to (after_step machine.old (Advance owed)) (Get address))
+        value.old }
 {
     let answer = machine.card.get_after(owed, address);
-    (owed, byte_status(answer, value))
+    (owed, status_after_byte_read(answer, value))
 }
 
 /// Reads a byte from an address.
@@ -187,10 +190,11 @@ fn get_word(machine: &mut Machine, owed: u32, address: u32, value: &mut u16) -> 
     ensures status { result.1
         ≡ status_of (answer_to (after_step machine.old (Advance owed)) (GetWord address)) }
     ensures value { value.new
-        ≡ value_of (answer_to (after_step machine.old (Advance owed)) (GetWord address)) value.old }
+        ≡ value_read_or_before (answer_to (after_step machine.old (Advance owed)) (GetWord address))
+        value.old }
 {
     let answer = machine.card.get_word_after(owed, address);
-    (owed, word_status(answer, value))
+    (owed, status_after_word_read(answer, value))
 }
 
 /// Reads a word from an address and the next address.
@@ -215,7 +219,7 @@ pub(crate) fn advance(machine: &mut Machine, dots: u32) -> u32
     ensures after { machine.new ≡ after_step machine.old (Advance dots) }
     ensures status { result ≡ status_of (answer_to machine.old (Advance dots)) }
 {
-    write_status(machine.card.advance(dots))
+    status_after_write(machine.card.advance(dots))
 }
 
 /// Lets the clock run for `dots` dots. They are drawn before the next call that is not an advance.

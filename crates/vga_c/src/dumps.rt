@@ -3,8 +3,9 @@ ghost use Rattle.std.specs.Prelude.{◌≡◌};
 ghost use Rattle.bios_modes.specs.Valid.{IsValid};
 ghost use Rattle.vga_script.specs.DumpRange.{IsShownInRange};
 ghost use Rattle.vga_script.specs.declared.dump_range.Shown.TheVariants as shown_as;
-ghost use Rattle.vga_c.specs.Dumps.{Dumps, is_plane_part as is_plane_part_of, Shows, ShowsPart};
-ghost use Rattle.vga_c.specs.Dumps.{told};
+ghost use Rattle.vga_c.specs.Dumps.{Dumps, is_plane_part as is_plane_part_of, Shows};
+ghost use Rattle.vga_c.specs.Dumps.{DumpsPlanePart};
+ghost use Rattle.vga_c.specs.Dumps.{dump_output};
 
 use crate::buffer::copy_prefix;
 use crate::handle::{Handle, on_open_card};
@@ -18,7 +19,8 @@ use vga_script::Shown;
 /// Writes the text of a dump to the caller, or answers the status of its refusal.
 fn dump(alloc: Global, machine: &Machine, shown: Shown, text: &mut [u8], len: &mut usize) -> u32
     requires { IsShownInRange shown }
-    ensures { Dumps machine.now shown (told text.old len.old) (told text.new len.new) result }
+    ensures { Dumps machine.now shown (dump_output text.old len.old) (dump_output text.new len.new)
+        result }
 {
     if !machine.bda.valid() {
         return BAD_CARD;
@@ -34,7 +36,8 @@ fn dump(alloc: Global, machine: &Machine, shown: Shown, text: &mut [u8], len: &m
 /// Dumps a part of the state of a card.
 fn show(alloc: Global, card: &mut Handle, shown: Shown, text: &mut [u8], len: &mut usize) -> u32
     requires { IsShownInRange shown }
-    ensures { Shows shown card.old card.new (told text.old len.old) (told text.new len.new) result }
+    ensures { Shows shown card.old card.new (dump_output text.old len.old) (dump_output text.new
+        len.new) result }
 {
     on_open_card!(alloc, card, machine => dump(alloc, machine, shown, text, len))
 }
@@ -47,8 +50,8 @@ pub extern "C" fn zak_show_regs(
     text: &mut [u8],
     len: &mut usize,
 ) -> u32
-    ensures { Shows shown_as.Registers card.old card.new (told text.old len.old)
-        (told text.new len.new) result }
+    ensures { Shows shown_as.Registers card.old card.new (dump_output text.old len.old)
+        (dump_output text.new len.new) result }
 {
     show(alloc, card, Shown::Registers, text, len)
 }
@@ -61,8 +64,8 @@ pub extern "C" fn zak_show_beam(
     text: &mut [u8],
     len: &mut usize,
 ) -> u32
-    ensures { Shows shown_as.Beam card.old card.new (told text.old len.old)
-        (told text.new len.new) result }
+    ensures { Shows shown_as.Beam card.old card.new (dump_output text.old len.old)
+        (dump_output text.new len.new) result }
 {
     show(alloc, card, Shown::Beam, text, len)
 }
@@ -75,8 +78,8 @@ pub extern "C" fn zak_show_latches(
     text: &mut [u8],
     len: &mut usize,
 ) -> u32
-    ensures { Shows shown_as.Latches card.old card.new (told text.old len.old)
-        (told text.new len.new) result }
+    ensures { Shows shown_as.Latches card.old card.new (dump_output text.old len.old)
+        (dump_output text.new len.new) result }
 {
     show(alloc, card, Shown::Latches, text, len)
 }
@@ -89,8 +92,8 @@ pub extern "C" fn zak_show_bda(
     text: &mut [u8],
     len: &mut usize,
 ) -> u32
-    ensures { Shows shown_as.BiosData card.old card.new (told text.old len.old)
-        (told text.new len.new) result }
+    ensures { Shows shown_as.BiosData card.old card.new (dump_output text.old len.old)
+        (dump_output text.new len.new) result }
 {
     show(alloc, card, Shown::BiosData, text, len)
 }
@@ -103,8 +106,8 @@ pub extern "C" fn zak_show_cells(
     text: &mut [u8],
     len: &mut usize,
 ) -> u32
-    ensures { Shows shown_as.Cells card.old card.new (told text.old len.old)
-        (told text.new len.new) result }
+    ensures { Shows shown_as.Cells card.old card.new (dump_output text.old len.old)
+        (dump_output text.new len.new) result }
 {
     show(alloc, card, Shown::Cells, text, len)
 }
@@ -118,8 +121,8 @@ pub extern "C" fn zak_show_dac(
     text: &mut [u8],
     len: &mut usize,
 ) -> u32
-    ensures { Shows (shown_as.Dac index) card.old card.new (told text.old len.old)
-        (told text.new len.new) result }
+    ensures { Shows (shown_as.Dac index) card.old card.new (dump_output text.old len.old)
+        (dump_output text.new len.new) result }
 {
     show(alloc, card, Shown::Dac { index }, text, len)
 }
@@ -142,8 +145,8 @@ pub extern "C" fn zak_show_plane(
     text: &mut [u8],
     len: &mut usize,
 ) -> u32
-    ensures { ShowsPart plane offset count card.old card.new (told text.old len.old)
-        (told text.new len.new) result }
+    ensures { DumpsPlanePart plane offset count card.old card.new (dump_output text.old len.old)
+        (dump_output text.new len.new) result }
 {
     if !card.is_open() {
         return NO_CARD;

@@ -1,8 +1,9 @@
 //! States of a fixed length with a checksum.
 ghost use Rattle.std.specs.Prelude.{◌≡◌, ◌+◌, ◌≤◌, length};
 ghost use Rattle.vga_bits.specs.Bytes.{zeros};
-ghost use Rattle.vga_run.specs.Saved.{long_at as long_of, long_bytes, saved_machine};
-ghost use Rattle.vga_c.specs.Cards.{Keeps, LeavesClosed, Spares};
+ghost use Rattle.vga_run.specs.Saved.{number_of_four_bytes as long_of, four_bytes_of_number};
+ghost use Rattle.vga_run.specs.Saved.{saved_machine};
+ghost use Rattle.vga_c.specs.Cards.{KeepsMachine, LeavesClosed, Spares};
 ghost use Rattle.vga_c.specs.Fixed.{adler_32, IsRestoredFixed, IsSavedFixed, RestoresFixed};
 ghost use Rattle.vga_c.specs.Fixed.{SavesFixed, state_in as state_of};
 ghost use Rattle.vga_c.specs.Saved.{IsRestored};
@@ -34,7 +35,7 @@ fn checksum(bytes: &[u8]) -> u32
 }
 
 /// The number of four bytes at `at`, low byte first.
-fn long_at(bytes: &[u8], at: usize) -> u32
+fn number_of_four_bytes(bytes: &[u8], at: usize) -> u32
     requires { at + 4 ≤ length bytes.now }
     ensures { result ≡ long_of bytes.now at }
 {
@@ -42,9 +43,9 @@ fn long_at(bytes: &[u8], at: usize) -> u32
 }
 
 /// Writes the checksum of some bytes into four others.
-fn write_sum(body: &[u8], tail: &mut [u8])
+fn write_checksum(body: &[u8], tail: &mut [u8])
     requires { length tail.old ≡ 4 }
-    ensures { tail.new ≡ long_bytes (adler_32 body.now) }
+    ensures { tail.new ≡ four_bytes_of_number (adler_32 body.now) }
 {
     let sum = checksum(body);
     put_word(tail, 0, (sum % 65_536) as u16);
@@ -72,7 +73,7 @@ fn save_fixed(machine: &Machine, bytes: &mut [u8]) -> u32
     let (state, rest) = body.split_at_mut(size);
     machine.save(state);
     clear(rest);
-    write_sum(body, tail);
+    write_checksum(body, tail);
     DONE
 }
 
@@ -83,7 +84,7 @@ fn state_in(body: &[u8]) -> &[u8]
     if body.len() < 9 {
         return body;
     }
-    let len = long_at(body, 5) as usize;
+    let len = number_of_four_bytes(body, 5) as usize;
     &body[..len.min(body.len())]
 }
 
@@ -96,7 +97,7 @@ fn restore_fixed(machine: &mut Machine, bytes: &[u8]) -> u32
     }
     let end = bytes.len() - SUM_LEN;
     let body = &bytes[..end];
-    if long_at(bytes, end) != checksum(body) {
+    if number_of_four_bytes(bytes, end) != checksum(body) {
         return STATE_CHECKSUM;
     }
     restore(machine, state_in(body))
@@ -105,7 +106,7 @@ fn restore_fixed(machine: &mut Machine, bytes: &[u8]) -> u32
 /// Writes the state to the caller's whole buffer: the state, zeros, and a checksum at the end.
 #[unsafe(no_mangle)]
 pub extern "C" fn zak_save_fixed(alloc: Global, card: &mut Handle, bytes: &mut [u8]) -> u32
-    ensures card { Keeps card.old card.new }
+    ensures card { KeepsMachine card.old card.new }
     ensures bytes { SavesFixed card.old bytes.old bytes.new result }
     ensures closed { LeavesClosed card.old card.new result }
     ensures spared { Spares card.old bytes.old bytes.new }

@@ -1,15 +1,16 @@
 //! Pictures as rows of words, in the form that the caller asks for.
 ghost use Rattle.std.specs.Prelude.{◌≡◌, ◌+◌, ◌*◌, ◌<◌, ◌≤◌, ℕ, length, slice_index, bit_or};
-ghost use Rattle.vga_card.specs.Frames.{IsSmall};
-ghost use Rattle.vga_card.specs.Picture.{widest, highest};
+ghost use Rattle.vga_card.specs.Frames.{IsPictureInBounds};
+ghost use Rattle.vga_card.specs.Picture.{most_dots_of_a_line, most_lines_of_a_frame};
 ghost use Rattle.vga_run.specs.Answer.{of_drawn};
 ghost use Rattle.vga_run.specs.Step.{after_step, answer_to};
 ghost use Rattle.vga_script.specs.declared.step.Step.TheVariants.{Frame};
 ghost use Rattle.vga_c.specs.Cards.{LeavesClosed, Spares};
-ghost use Rattle.vga_c.specs.Forms.{AreRows, IsForm, div_ceil as div_ceil_of};
-ghost use Rattle.vga_c.specs.Forms.{dot_word as dot_word_of, eight_bits as eight_bits_of};
+ghost use Rattle.vga_c.specs.Forms.{AreRowsOfWords, IsForm, div_ceil as div_ceil_of};
+ghost use Rattle.vga_c.specs.Forms.{rgb_word_of_dot as rgb_word_of_dot_of};
+ghost use Rattle.vga_c.specs.Forms.{widened_to_eight_bits as eight_bits_of};
 ghost use Rattle.vga_c.specs.Forms.{form_of as form_of_flags, form_word, DrawsForm, DrawsFormOf};
-ghost use Rattle.vga_c.specs.Forms.{HasForm, has_room as has_room_of};
+ghost use Rattle.vga_c.specs.Forms.{HasPictureInForm, has_room as has_room_of};
 
 use crate::handle::{Handle, on_open_card};
 use crate::status::{BAD_ARGUMENT, DONE, NO_ROOM, RAGGED};
@@ -47,9 +48,9 @@ fn eight_bits_each(red: u8, green: u8, blue: u8) -> u32
 }
 
 /// The word of dot i of a picture.
-fn dot_word(bytes: &[u8], i: usize) -> u32
+fn rgb_word_of_dot(bytes: &[u8], i: usize) -> u32
     requires { 3 * i + 2 < length bytes.now }
-    ensures { result ≡ dot_word_of bytes.now i }
+    ensures { result ≡ rgb_word_of_dot_of bytes.now i }
 {
     eight_bits_each(bytes[3 * i], bytes[3 * i + 1], bytes[3 * i + 2])
 }
@@ -68,14 +69,14 @@ pub(crate) fn write_row(
     requires dots { (x : ℕ) → x < count → 3 * (first + form.across * x) + 2 < length bytes.now }
     requires room { at + count ≤ length pixels.old }
     ensures words { (x : ℕ) → x < count → slice_index pixels.new (at + x)
-        ≡ bit_or form.above (dot_word_of bytes.now (first + form.across * x)) }
+        ≡ bit_or form.above (rgb_word_of_dot_of bytes.now (first + form.across * x)) }
     ensures before { (i : ℕ) → i < at → slice_index pixels.new i ≡ slice_index pixels.old i }
     ensures behind { (i : ℕ) → at + count ≤ i → slice_index pixels.new i ≡ slice_index pixels.old
         i }
     ensures size { length pixels.new ≡ length pixels.old }
 {
     for x in 0..count {
-        pixels[at + x] = form.above | dot_word(bytes, first + form.across as usize * x);
+        pixels[at + x] = form.above | rgb_word_of_dot(bytes, first + form.across as usize * x);
     }
 }
 
@@ -110,12 +111,12 @@ pub(crate) fn write_rows(
     pitch: usize,
 )
     requires form { IsForm form }
-    requires width { width ≤ widest }
-    requires height { height ≤ highest }
+    requires width { width ≤ most_dots_of_a_line }
+    requires height { height ≤ most_lines_of_a_frame }
     requires dots { length bytes.now ≡ 3 * (width * height) }
     requires pitch { div_ceil_of width form.across ≤ pitch }
     requires room { pitch * div_ceil_of height form.down ≤ length pixels.old }
-    ensures { AreRows (div_ceil_of width form.across) (div_ceil_of height form.down) pitch
+    ensures { AreRowsOfWords (div_ceil_of width form.across) (div_ceil_of height form.down) pitch
         (form_word form width bytes.now) pixels.old pixels.new }
 {
     let count = div_ceil(width, form.across) as usize;
@@ -147,9 +148,9 @@ fn write_form(
     pixels: &mut [u32],
     pitch: usize,
 ) -> u32
-    requires small { IsSmall drawn }
+    requires small { IsPictureInBounds drawn }
     requires form { IsForm form }
-    ensures { HasForm form (of_drawn drawn.entry) pitch picture.old picture.new pixels.old
+    ensures { HasPictureInForm form (of_drawn drawn.entry) pitch picture.old picture.new pixels.old
         pixels.new result }
 {
     match drawn {
@@ -183,7 +184,8 @@ fn frame_form(
 ) -> u32
     requires { IsForm form }
     ensures after { machine.new ≡ after_step machine.old Frame }
-    ensures picture { HasForm form (answer_to machine.old Frame) pitch picture.old picture.new
+    ensures picture { HasPictureInForm form (answer_to machine.old Frame) pitch picture.old
+        picture.new
         pixels.old pixels.new result }
 {
     write_form(machine.card.frame(), form, picture, pixels, pitch)

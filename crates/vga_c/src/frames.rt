@@ -1,14 +1,14 @@
 //! Frames and their pictures.
 ghost use Rattle.std.specs.Prelude.{◌≡◌, ◌+◌, ◌*◌, ◌<◌, ◌≤◌, ℕ, length, slice_index};
 ghost use Rattle.vga_card.specs.Dots.{most_dots};
-ghost use Rattle.vga_card.specs.Frames.{IsSmall};
+ghost use Rattle.vga_card.specs.Frames.{IsPictureInBounds};
 ghost use Rattle.vga_run.specs.Answer.{of_drawn};
 ghost use Rattle.vga_run.specs.Saved.{machine_with_fresh_canvas};
 ghost use Rattle.vga_run.specs.Step.{after_step, answer_to};
 ghost use Rattle.vga_script.specs.declared.step.Step.TheVariants.{Advance, Frame};
 ghost use Rattle.vga_c.specs.Cards.{LeavesClosed, Spares};
 ghost use Rattle.vga_card.specs.Lines.{line_widths};
-ghost use Rattle.vga_card.specs.Picture.{bytes_of};
+ghost use Rattle.vga_card.specs.Picture.{bytes_of_dots};
 ghost use Rattle.vga_c.specs.Buffers.{IsCopied};
 ghost use Rattle.vga_c.specs.Frames.{GivesDotBytes, CountsLines, frame_dots};
 ghost use Rattle.vga_c.specs.Frames.{DrawsBytes, DrawsWords, EndsFrame, HasDotBytes, HasDotWords};
@@ -82,7 +82,7 @@ pub extern "C" fn zak_frame(
 /// Writes a picture to the caller: a word for each dot.
 #[tactic(auto, using(crate::proofs::RowLemmas::every_dot_rows))]
 fn write_words(drawn: Drawn<'_>, size: &mut Size, pixels: &mut [u32], pitch: usize) -> u32
-    requires { IsSmall drawn }
+    requires { IsPictureInBounds drawn }
     ensures { HasDotWords (of_drawn drawn.entry) pitch size.old size.new pixels.old pixels.new result }
 {
     match drawn {
@@ -138,7 +138,8 @@ fn frame_lines(
 ) -> u32
     ensures after { machine.new ≡ after_step machine.old Frame }
     ensures widths { widths.new ≡ line_widths (frame_dots machine.old) }
-    ensures dots { IsCopied (bytes_of (frame_dots machine.old)) rgb.old rgb.new len.new result }
+    ensures dots { IsCopied (bytes_of_dots (frame_dots machine.old)) rgb.old rgb.new len.new
+        result }
 {
     let lines = machine.card.frame_lines();
     widths.copy_from_slice(lines.widths);

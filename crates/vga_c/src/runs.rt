@@ -1,7 +1,7 @@
 //! A whole run: a script in, its report out.
 ghost use Rattle.std.specs.Prelude.{◌≡◌, IfErr, IfOk};
-ghost use Rattle.vga_c.specs.Outcome.{told};
-ghost use Rattle.vga_c.specs.Runs.{IsFirstFault, IsReport, Runs};
+ghost use Rattle.vga_c.specs.Outcome.{script_output};
+ghost use Rattle.vga_c.specs.Runs.{IsFirstFault, IsReport, GivesReport};
 
 use crate::buffer::copy_prefix;
 use crate::outcome::status_and_place;
@@ -30,8 +30,8 @@ pub extern "C" fn zak_run(
     len: &mut usize,
     place: &mut usize,
 ) -> u32
-    ensures { Runs fonts.now script.now (told out.old len.old place.old)
-        (told out.new len.new place.new) result }
+    ensures { GivesReport fonts.now script.now (script_output out.old len.old place.old)
+        (script_output out.new len.new place.new) result }
 {
     match report(alloc, script, fonts) {
         Ok(report) => copy_prefix(out, len, report.as_slice()),

@@ -2,7 +2,7 @@
 ghost use Rattle.std.specs.Prelude.{◌≡◌};
 ghost use Rattle.vga_run.specs.Saved.{saved_machine};
 ghost use Rattle.vga_c.specs.Buffers.{IsCopied};
-ghost use Rattle.vga_c.specs.Cards.{Keeps, LeavesClosed, Spares, Tells};
+ghost use Rattle.vga_c.specs.Cards.{KeepsMachine, LeavesClosed, Spares, GivesValue};
 ghost use Rattle.vga_c.specs.Saved.{IsRestored, Restores, saved_size, Saves};
 ghost use Rattle.vga_c.specs.Saved.{state_status as state_status_of};
 
@@ -15,8 +15,8 @@ use vga_run::machine::Machine;
 /// Answers how many bytes the state has now.
 #[unsafe(no_mangle)]
 pub extern "C" fn zak_save_size(alloc: Global, card: &mut Handle, len: &mut usize) -> u32
-    ensures card { Keeps card.old card.new }
-    ensures len { Tells saved_size card.old len.new result }
+    ensures card { KeepsMachine card.old card.new }
+    ensures len { GivesValue saved_size card.old len.new result }
     ensures closed { LeavesClosed card.old card.new result }
     ensures spared { Spares card.old len.old len.new }
 {
@@ -48,7 +48,7 @@ pub extern "C" fn zak_save(
     bytes: &mut [u8],
     len: &mut usize,
 ) -> u32
-    ensures card { Keeps card.old card.new }
+    ensures card { KeepsMachine card.old card.new }
     ensures bytes { Saves card.old bytes.old bytes.new len.new result }
     ensures closed { LeavesClosed card.old card.new result }
     ensures spared { Spares card.old bytes.old bytes.new }

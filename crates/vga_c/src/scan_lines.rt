@@ -1,7 +1,7 @@
 //! Scan lines of the frame under way, drawn to their ends.
 ghost use Rattle.std.specs.Prelude.{◌≡◌, ◌+◌, ◌*◌, ◌≤◌, ◌<◌, ℕ, length, slice_index, bit_or};
 ghost use Rattle.vga_c.specs.Cards.{LeavesClosed, Spares};
-ghost use Rattle.vga_c.specs.Forms.{AreInRows, dot_word as dot_word_of};
+ghost use Rattle.vga_c.specs.Forms.{AreInRows, rgb_word_of_dot as rgb_word_of_dot_of};
 ghost use Rattle.vga_c.specs.ScanLines.{DrawsLine, DrawsLineOf};
 
 use crate::forms::{Form, write_row};
@@ -25,7 +25,8 @@ pub struct ScanLine {
 fn write_words(bytes: &[u8], first: usize, count: usize, above: u32, pixels: &mut [u32]) -> u32
     requires { 3 * (first + count) ≤ length bytes.now }
     ensures { AreInRows count 1 count
-        (λ x y. bit_or above (dot_word_of bytes.now (first + x))) pixels.old pixels.new result }
+        (λ x y. bit_or above (rgb_word_of_dot_of bytes.now (first + x))) pixels.old pixels.new
+        result }
 {
     if count > pixels.len() {
         return NO_ROOM;

@@ -1,15 +1,16 @@
 //! The plain screen that an open card shows.
 ghost use Rattle.std.specs.Prelude.{◌≡◌};
-ghost use Rattle.bios_modes.specs.Heights.{row_at as row_at_of};
+ghost use Rattle.bios_modes.specs.Heights.{mode_row_at_height as mode_row_at_height_of};
 ghost use Rattle.bios_screen.specs.Parts.{cell_at, cursor_at};
-ghost use Rattle.vga_c.specs.Cards.{Keeps, LeavesClosed, Spares};
-ghost use Rattle.vga_c.specs.Screens.{ask_cell, ask_cursor, ask_layout, ask_pixel, Asks, cell_of};
+ghost use Rattle.vga_c.specs.Cards.{KeepsMachine, LeavesClosed, Spares};
+ghost use Rattle.vga_c.specs.Screens.{ask_cell, ask_cursor, ask_layout, ask_pixel};
+ghost use Rattle.vga_c.specs.Screens.{AnswersFromScreen, cell_of};
 ghost use Rattle.vga_c.specs.Screens.{HasOfScreen, IsAnswered, layout_by, count_unless_text as pixels_in};
 ghost use Rattle.vga_c.specs.Screens.{place_of};
 
 use crate::handle::{Handle, on_open_card};
 use crate::status::{BAD_ARGUMENT, DONE, NO_SCREEN, OUT_OF_MEMORY};
-use bios_modes::{Bda, is_text, row_at};
+use bios_modes::{Bda, is_text, mode_row_at_height};
 use bios_screen::Screen;
 use std::alloc::Global;
 use vga_run::machine::Machine;
@@ -49,7 +50,7 @@ pub struct Place {
 macro_rules! on_screen {
     ($alloc:ident, $machine:ident, $screen:ident => $found:expr, $to:ident) => {
         match Screen::read($alloc, &$machine.card, &$machine.bda) {
-            Ok(Some($screen)) => answer($found, $to),
+            Ok(Some($screen)) => write_found($found, $to),
             Ok(None) => NO_SCREEN,
             Err(_) => OUT_OF_MEMORY,
         }
@@ -57,7 +58,7 @@ macro_rules! on_screen {
 }
 
 /// Writes what was found to the caller, and returns the status.
-fn answer<T: Copy>(found: Option<T>, to: &mut T) -> u32
+fn write_found<T: Copy>(found: Option<T>, to: &mut T) -> u32
     ensures { IsAnswered found to.old to.new result }
 {
     match found {
@@ -78,9 +79,9 @@ fn count_unless_text(mode: u8, count: u32) -> u32
 
 /// The layout of the screen that a card with these BIOS data shows.
 fn layout_of(bda: &Bda) -> Option<ScreenLayout>
-    ensures { result ≡ layout_by (row_at_of bda.now.mode bda.now.height) bda.now }
+    ensures { result ≡ layout_by (mode_row_at_height_of bda.now.mode bda.now.height) bda.now }
 {
-    let row = row_at(bda.mode(), bda.height())?;
+    let row = mode_row_at_height(bda.mode(), bda.height())?;
     let rows = bda.last_row() as u16 + 1;
     Some(ScreenLayout {
         width: count_unless_text(bda.mode(), 8 * bda.columns() as u32),
@@ -109,8 +110,8 @@ pub extern "C" fn zak_screen_read(
     card: &mut Handle,
     layout: &mut ScreenLayout,
 ) -> u32
-    ensures card { Keeps card.old card.new }
-    ensures layout { Asks ask_layout card.old layout.old layout.new result }
+    ensures card { KeepsMachine card.old card.new }
+    ensures layout { AnswersFromScreen ask_layout card.old layout.old layout.new result }
     ensures closed { LeavesClosed card.old card.new result }
     ensures spared { Spares card.old layout.old layout.new }
 {
@@ -152,8 +153,8 @@ pub extern "C" fn zak_screen_cell(
     column: u8,
     cell: &mut Cell,
 ) -> u32
-    ensures card { Keeps card.old card.new }
-    ensures cell { Asks (ask_cell page row column) card.old cell.old cell.new result }
+    ensures card { KeepsMachine card.old card.new }
+    ensures cell { AnswersFromScreen (ask_cell page row column) card.old cell.old cell.new result }
     ensures closed { LeavesClosed card.old card.new result }
     ensures spared { Spares card.old cell.old cell.new }
 {
@@ -177,8 +178,8 @@ pub extern "C" fn zak_screen_pixel(
     y: u16,
     pixel: &mut u8,
 ) -> u32
-    ensures card { Keeps card.old card.new }
-    ensures pixel { Asks (ask_pixel page x y) card.old pixel.old pixel.new result }
+    ensures card { KeepsMachine card.old card.new }
+    ensures pixel { AnswersFromScreen (ask_pixel page x y) card.old pixel.old pixel.new result }
     ensures closed { LeavesClosed card.old card.new result }
     ensures spared { Spares card.old pixel.old pixel.new }
 {
@@ -208,8 +209,8 @@ pub extern "C" fn zak_screen_cursor(
     page: u8,
     place: &mut Place,
 ) -> u32
-    ensures card { Keeps card.old card.new }
-    ensures place { Asks (ask_cursor page) card.old place.old place.new result }
+    ensures card { KeepsMachine card.old card.new }
+    ensures place { AnswersFromScreen (ask_cursor page) card.old place.old place.new result }
     ensures closed { LeavesClosed card.old card.new result }
     ensures spared { Spares card.old place.old place.new }
 {

@@ -2,8 +2,9 @@
 ghost use Rattle.std.specs.Prelude.{◌≡◌};
 ghost use Rattle.bios_modes.specs.Valid.{IsValid};
 ghost use Rattle.vga_c.specs.Cards.{LeavesClosed, Spares};
-ghost use Rattle.vga_c.specs.Services.{call_step, Calls, HasOutcome, IsCalled, IsLeftBad};
-ghost use Rattle.vga_c.specs.Services.{LeavesBad, told};
+ghost use Rattle.vga_c.specs.Services.{call_step, Calls, HasServiceOutcome, IsCalled};
+ghost use Rattle.vga_c.specs.Services.{IsUnchangedIfDataBad};
+ghost use Rattle.vga_c.specs.Services.{LeavesBad, service_output};
 
 use crate::buffer::copy_prefix;
 use crate::handle::{Handle, on_open_card};
@@ -29,8 +30,8 @@ fn write_answer(
     table: &mut [u8],
     len: &mut usize,
 ) -> u32
-    ensures { HasOutcome outcome (told registers.old table.old len.old)
-        (told registers.new table.new len.new) result }
+    ensures { HasServiceOutcome outcome (service_output registers.old table.old len.old)
+        (service_output registers.new table.new len.new) result }
 {
     match outcome {
         Ok(reply) => {
@@ -55,7 +56,8 @@ fn call_valid(
 ) -> u32
     requires { IsValid machine.old.bda }
     ensures called { IsCalled machine.old machine.new (call_step registers.old block.now)
-        (told registers.old table.old len.old) (told registers.new table.new len.new) result }
+        (service_output registers.old table.old len.old) (service_output registers.new table.new
+        len.new) result }
     ensures valid { IsValid machine.new.bda }
 {
     let regs = Regs {
@@ -85,11 +87,12 @@ fn call(
     len: &mut usize,
 ) -> u32
     ensures called { IsValid machine.old.bda → IsCalled machine.old machine.new
-        (call_step registers.old block.now) (told registers.old table.old len.old)
-        (told registers.new table.new len.new) result }
+        (call_step registers.old block.now) (service_output registers.old table.old len.old)
+        (service_output registers.new table.new len.new) result }
     ensures valid { IsValid machine.old.bda → IsValid machine.new.bda }
-    ensures bad { IsLeftBad machine.old machine.new (told registers.old table.old len.old)
-        (told registers.new table.new len.new) result }
+    ensures bad { IsUnchangedIfDataBad machine.old machine.new (service_output registers.old
+        table.old len.old)
+        (service_output registers.new table.new len.new) result }
 {
     if !machine.bda.valid() {
         return BAD_CARD;
@@ -107,13 +110,14 @@ pub extern "C" fn zak_int10(
     table: &mut [u8],
     len: &mut usize,
 ) -> u32
-    ensures called { Calls card.old card.new block.now (told registers.old table.old len.old)
-        (told registers.new table.new len.new) result }
-    ensures bad { LeavesBad card.old card.new (told registers.old table.old len.old)
-        (told registers.new table.new len.new) result }
+    ensures called { Calls card.old card.new block.now (service_output registers.old table.old
+        len.old)
+        (service_output registers.new table.new len.new) result }
+    ensures bad { LeavesBad card.old card.new (service_output registers.old table.old len.old)
+        (service_output registers.new table.new len.new) result }
     ensures closed { LeavesClosed card.old card.new result }
-    ensures spared { Spares card.old (told registers.old table.old len.old)
-        (told registers.new table.new len.new) }
+    ensures spared { Spares card.old (service_output registers.old table.old len.old)
+        (service_output registers.new table.new len.new) }
 {
     on_open_card!(alloc, card, machine => call(alloc, machine, registers, block, table, len))
 }

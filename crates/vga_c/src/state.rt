@@ -1,6 +1,6 @@
 //! Reading the state of an open card.
 ghost use Rattle.std.specs.Prelude.{◌≡◌, ◌+◌, ◌<◌, ◌≤◌, length};
-ghost use Rattle.vga_c.specs.Cards.{Keeps, LeavesClosed, Spares, Tells};
+ghost use Rattle.vga_c.specs.Cards.{KeepsMachine, LeavesClosed, Spares, GivesValue};
 ghost use Rattle.vga_c.specs.State.{bda_in, beam_in, colour_in, component_number as number_of};
 ghost use Rattle.vga_c.specs.State.{IsPlanePart, IsPlaneRead, latches_in, registers_in};
 ghost use Rattle.vga_c.specs.State.{TellsPlane};
@@ -124,8 +124,8 @@ pub extern "C" fn zak_read_registers(
     card: &mut Handle,
     registers: &mut Registers,
 ) -> u32
-    ensures card { Keeps card.old card.new }
-    ensures registers { Tells registers_in card.old registers.new result }
+    ensures card { KeepsMachine card.old card.new }
+    ensures registers { GivesValue registers_in card.old registers.new result }
     ensures closed { LeavesClosed card.old card.new result }
     ensures spared { Spares card.old registers.old registers.new }
 {
@@ -151,8 +151,8 @@ pub extern "C" fn zak_read_colour(
     index: u8,
     colour: &mut Colour,
 ) -> u32
-    ensures card { Keeps card.old card.new }
-    ensures colour { Tells (colour_in index) card.old colour.new result }
+    ensures card { KeepsMachine card.old card.new }
+    ensures colour { GivesValue (colour_in index) card.old colour.new result }
     ensures closed { LeavesClosed card.old card.new result }
     ensures spared { Spares card.old colour.old colour.new }
 {
@@ -183,8 +183,8 @@ fn beam_of(machine: &Machine) -> Beam
 /// Reads the beam.
 #[unsafe(no_mangle)]
 pub extern "C" fn zak_read_beam(alloc: Global, card: &mut Handle, beam: &mut Beam) -> u32
-    ensures card { Keeps card.old card.new }
-    ensures beam { Tells beam_in card.old beam.new result }
+    ensures card { KeepsMachine card.old card.new }
+    ensures beam { GivesValue beam_in card.old beam.new result }
     ensures closed { LeavesClosed card.old card.new result }
     ensures spared { Spares card.old beam.old beam.new }
 {
@@ -212,8 +212,8 @@ fn latches_of(machine: &Machine) -> Latches
 /// Reads the four latches.
 #[unsafe(no_mangle)]
 pub extern "C" fn zak_read_latches(alloc: Global, card: &mut Handle, latches: &mut Latches) -> u32
-    ensures card { Keeps card.old card.new }
-    ensures latches { Tells latches_in card.old latches.new result }
+    ensures card { KeepsMachine card.old card.new }
+    ensures latches { GivesValue latches_in card.old latches.new result }
     ensures closed { LeavesClosed card.old card.new result }
     ensures spared { Spares card.old latches.old latches.new }
 {
@@ -257,8 +257,8 @@ fn bda_of(machine: &Machine) -> BiosDataArea
 /// Reads the BIOS data.
 #[unsafe(no_mangle)]
 pub extern "C" fn zak_read_bda(alloc: Global, card: &mut Handle, bda: &mut BiosDataArea) -> u32
-    ensures card { Keeps card.old card.new }
-    ensures bda { Tells bda_in card.old bda.new result }
+    ensures card { KeepsMachine card.old card.new }
+    ensures bda { GivesValue bda_in card.old bda.new result }
     ensures closed { LeavesClosed card.old card.new result }
     ensures spared { Spares card.old bda.old bda.new }
 {
@@ -299,7 +299,7 @@ pub extern "C" fn zak_read_plane(
     offset: u16,
     bytes: &mut [u8],
 ) -> u32
-    ensures card { Keeps card.old card.new }
+    ensures card { KeepsMachine card.old card.new }
     ensures bytes { TellsPlane plane offset card.old bytes.old bytes.new result }
     ensures closed { LeavesClosed card.old card.new result }
     ensures spared { Spares card.old bytes.old bytes.new }

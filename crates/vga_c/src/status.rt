@@ -1,7 +1,8 @@
 //! The status that a call returns.
 ghost use Rattle.std.specs.Prelude.{◌≡◌};
 ghost use Rattle.vga_run.specs.Answer.{of_write, of_byte, of_word, Short};
-ghost use Rattle.vga_c.specs.Status.{refusal_status as refusal_status_of, status_of, value_of};
+ghost use Rattle.vga_c.specs.Status.{refusal_status as refusal_status_of, status_of};
+ghost use Rattle.vga_c.specs.Status.{value_read_or_before};
 
 use vga_bits::Refusal;
 
@@ -63,7 +64,7 @@ pub(crate) fn refusal_status(refusal: Refusal) -> u32
 }
 
 /// The status of a step that reads nothing.
-pub(crate) fn write_status(outcome: Result<(), Refusal>) -> u32
+pub(crate) fn status_after_write(outcome: Result<(), Refusal>) -> u32
     ensures { result ≡ status_of (Short (of_write outcome)) }
 {
     match outcome {
@@ -73,9 +74,9 @@ pub(crate) fn write_status(outcome: Result<(), Refusal>) -> u32
 }
 
 /// The status of a step that reads a byte. The byte goes to the caller.
-pub(crate) fn byte_status(outcome: Result<u8, Refusal>, value: &mut u8) -> u32
+pub(crate) fn status_after_byte_read(outcome: Result<u8, Refusal>, value: &mut u8) -> u32
     ensures status { result ≡ status_of (Short (of_byte outcome)) }
-    ensures value { value.new ≡ value_of (Short (of_byte outcome)) value.old }
+    ensures value { value.new ≡ value_read_or_before (Short (of_byte outcome)) value.old }
 {
     match outcome {
         Ok(byte) => {
@@ -87,9 +88,9 @@ pub(crate) fn byte_status(outcome: Result<u8, Refusal>, value: &mut u8) -> u32
 }
 
 /// The status of a step that reads a word. The word goes to the caller.
-pub(crate) fn word_status(outcome: Result<u16, Refusal>, value: &mut u16) -> u32
+pub(crate) fn status_after_word_read(outcome: Result<u16, Refusal>, value: &mut u16) -> u32
     ensures status { result ≡ status_of (Short (of_word outcome)) }
-    ensures value { value.new ≡ value_of (Short (of_word outcome)) value.old }
+    ensures value { value.new ≡ value_read_or_before (Short (of_word outcome)) value.old }
 {
     match outcome {
         Ok(word) => {

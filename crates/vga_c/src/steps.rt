@@ -2,8 +2,8 @@
 ghost use Rattle.std.specs.Prelude.{◌≡◌, ◌+◌, ◌<◌, ◌≤◌, ◌^◌, ℕ, length, take};
 ghost use Rattle.bios_modes.specs.Valid.{IsValid};
 ghost use Rattle.vga_c.specs.Cards.{LeavesClosed, Spares};
-ghost use Rattle.vga_c.specs.Services.{IsLeftBad, LeavesBad};
-ghost use Rattle.vga_c.specs.Steps.{AreTakenOrCutOff, IsRunOn, RunsOn, told};
+ghost use Rattle.vga_c.specs.Services.{IsUnchangedIfDataBad, LeavesBad};
+ghost use Rattle.vga_c.specs.Steps.{AreTakenOrCutOff, IsRunOn, RunsOn, steps_output};
 
 use crate::buffer::copy_prefix;
 use crate::handle::{Handle, on_open_card};
@@ -29,7 +29,8 @@ fn take_steps(
     requires valid { IsValid machine.old.bda }
     requires numbers { number + length steps < 2 ^ 64 }
     ensures taken { (place : ℕ) → AreTakenOrCutOff (take most steps.entry) number machine.old
-        machine.new (told out.old len.old taken.old place) (told out.new len.new taken.new place)
+        machine.new (steps_output out.old len.old taken.old place) (steps_output out.new len.new
+        taken.new place)
         result }
     ensures valid { IsValid machine.new.bda }
 {
@@ -58,7 +59,8 @@ fn run_valid(
 ) -> u32
     requires { IsValid machine.old.bda }
     ensures run { IsRunOn script.now first most machine.old machine.new
-        (told out.old len.old taken.old place.old) (told out.new len.new taken.new place.new)
+        (steps_output out.old len.old taken.old place.old) (steps_output out.new len.new taken.new
+        place.new)
         result }
     ensures valid { IsValid machine.new.bda }
 {
@@ -95,11 +97,13 @@ fn run(
     place: &mut usize,
 ) -> u32
     ensures run { IsValid machine.old.bda → IsRunOn script.now first most machine.old machine.new
-        (told out.old len.old taken.old place.old) (told out.new len.new taken.new place.new)
+        (steps_output out.old len.old taken.old place.old) (steps_output out.new len.new taken.new
+        place.new)
         result }
     ensures valid { IsValid machine.old.bda → IsValid machine.new.bda }
-    ensures bad { IsLeftBad machine.old machine.new (told out.old len.old taken.old place.old)
-        (told out.new len.new taken.new place.new) result }
+    ensures bad { IsUnchangedIfDataBad machine.old machine.new (steps_output out.old len.old
+        taken.old place.old)
+        (steps_output out.new len.new taken.new place.new) result }
 {
     if !machine.bda.valid() {
         return BAD_CARD;
@@ -122,13 +126,14 @@ pub extern "C" fn zak_run_on(
     place: &mut usize,
 ) -> u32
     ensures run { RunsOn script.now first most card.old card.new
-        (told out.old len.old taken.old place.old) (told out.new len.new taken.new place.new)
+        (steps_output out.old len.old taken.old place.old) (steps_output out.new len.new taken.new
+        place.new)
         result }
-    ensures bad { LeavesBad card.old card.new (told out.old len.old taken.old place.old)
-        (told out.new len.new taken.new place.new) result }
+    ensures bad { LeavesBad card.old card.new (steps_output out.old len.old taken.old place.old)
+        (steps_output out.new len.new taken.new place.new) result }
     ensures closed { LeavesClosed card.old card.new result }
-    ensures spared { Spares card.old (told out.old len.old taken.old place.old)
-        (told out.new len.new taken.new place.new) }
+    ensures spared { Spares card.old (steps_output out.old len.old taken.old place.old)
+        (steps_output out.new len.new taken.new place.new) }
 {
     on_open_card!(alloc, card, machine => {
         run(alloc, machine, script, first, most, out, len, taken, place)

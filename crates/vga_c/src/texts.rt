@@ -1,8 +1,9 @@
 //! Assembling and printing a script.
 ghost use Rattle.std.specs.Prelude.{◌≡◌, IfErr, IfOk};
-ghost use Rattle.vga_c.specs.Outcome.{told};
-ghost use Rattle.vga_c.specs.Texts.{Assembles, IsAssembled, IsFaultOfBytes, IsFaultOfText};
-ghost use Rattle.vga_c.specs.Texts.{IsPrinted, Prints};
+ghost use Rattle.vga_c.specs.Outcome.{script_output};
+ghost use Rattle.vga_c.specs.Texts.{GivesAssembledBytes, IsAssembled, IsFaultOfBytes};
+ghost use Rattle.vga_c.specs.Texts.{IsFaultOfText};
+ghost use Rattle.vga_c.specs.Texts.{IsPrinted, GivesPrintedText};
 
 use crate::buffer::copy_prefix;
 use crate::outcome::status_and_place;
@@ -29,7 +30,8 @@ pub extern "C" fn zak_assemble(
     len: &mut usize,
     line: &mut usize,
 ) -> u32
-    ensures { Assembles text.now (told out.old len.old line.old) (told out.new len.new line.new)
+    ensures { GivesAssembledBytes text.now (script_output out.old len.old line.old)
+        (script_output out.new len.new line.new)
         result }
 {
     match bytes_of_text(alloc, text) {
@@ -57,7 +59,8 @@ pub extern "C" fn zak_print(
     len: &mut usize,
     place: &mut usize,
 ) -> u32
-    ensures { Prints script.now (told out.old len.old place.old) (told out.new len.new place.new)
+    ensures { GivesPrintedText script.now (script_output out.old len.old place.old)
+        (script_output out.new len.new place.new)
         result }
 {
     match text_of_bytes(alloc, script) {

@@ -1,9 +1,9 @@
 //! Runs of cycles over consecutive addresses, from or to the caller's bytes.
 ghost use Rattle.std.specs.Prelude.{◌≡◌, ◌+◌, ◌&&◌, length, slice_index};
-ghost use Rattle.vga_card.specs.Transfers.{decoded_by, AreRead};
+ghost use Rattle.vga_card.specs.Transfers.{decoded_count, AreRead};
 ghost use Rattle.vga_c.specs.Cards.{LeavesClosed, Spares};
 ghost use Rattle.vga_c.specs.Transfers.{are_addresses as are_addresses_of, bytes_put, bytes_got};
-ghost use Rattle.vga_c.specs.Transfers.{bytes_moved, IsTold, IsTransferred, ToldOf};
+ghost use Rattle.vga_c.specs.Transfers.{bytes_moved, IsOutputGiven, IsTransferred, OutputGivenOf};
 ghost use Rattle.vga_c.specs.Transfers.{Transfers};
 
 use crate::handle::{Handle, on_open_card};
@@ -28,8 +28,8 @@ fn put_bytes(
 ) -> u32
     ensures after { IsTransferred (are_addresses_of address (length bytes.now)) (bytes_put down
         address (slice_index bytes.now) (length bytes.now)) machine.old machine.new result }
-    ensures decoded { IsTold (are_addresses_of address (length bytes.now))
-        (λ card n. n ≡ decoded_by card address (length bytes.now)) machine.old.card decoded.old
+    ensures decoded { IsOutputGiven (are_addresses_of address (length bytes.now))
+        (λ card n. n ≡ decoded_count card address (length bytes.now)) machine.old.card decoded.old
         decoded.new }
 {
     if !are_addresses(address, bytes.len()) {
@@ -56,8 +56,8 @@ pub extern "C" fn zak_put_bytes(
 ) -> u32
     ensures card { Transfers (are_addresses_of address (length bytes.now)) (bytes_put down address
         (slice_index bytes.now) (length bytes.now)) card.old card.new result }
-    ensures decoded { ToldOf (are_addresses_of address (length bytes.now))
-        (λ card n. n ≡ decoded_by card address (length bytes.now)) card.old decoded.old
+    ensures decoded { OutputGivenOf (are_addresses_of address (length bytes.now))
+        (λ card n. n ≡ decoded_count card address (length bytes.now)) card.old decoded.old
         decoded.new }
     ensures closed { LeavesClosed card.old card.new result }
     ensures spared { Spares card.old decoded.old decoded.new }
@@ -76,8 +76,8 @@ fn fill_bytes(
 ) -> u32
     ensures after { IsTransferred (are_addresses_of address count) (bytes_put down address
         (λ i. value) count) machine.old machine.new result }
-    ensures decoded { IsTold (are_addresses_of address count)
-        (λ card n. n ≡ decoded_by card address count) machine.old.card decoded.old decoded.new }
+    ensures decoded { IsOutputGiven (are_addresses_of address count)
+        (λ card n. n ≡ decoded_count card address count) machine.old.card decoded.old decoded.new }
 {
     if !are_addresses(address, count) {
         return BAD_ARGUMENT;
@@ -104,8 +104,8 @@ pub extern "C" fn zak_fill_bytes(
 ) -> u32
     ensures card { Transfers (are_addresses_of address count) (bytes_put down address (λ i. value)
         count) card.old card.new result }
-    ensures decoded { ToldOf (are_addresses_of address count)
-        (λ card n. n ≡ decoded_by card address count) card.old decoded.old decoded.new }
+    ensures decoded { OutputGivenOf (are_addresses_of address count)
+        (λ card n. n ≡ decoded_count card address count) card.old decoded.old decoded.new }
     ensures closed { LeavesClosed card.old card.new result }
     ensures spared { Spares card.old decoded.old decoded.new }
 {
@@ -124,10 +124,10 @@ fn get_bytes(
 ) -> u32
     ensures after { IsTransferred (are_addresses_of address (length bytes.old)) (bytes_got down
         address (length bytes.old)) machine.old machine.new result }
-    ensures bytes { IsTold (are_addresses_of address (length bytes.old))
+    ensures bytes { IsOutputGiven (are_addresses_of address (length bytes.old))
         (λ card new. AreRead card address bytes.old new) machine.old.card bytes.old bytes.new }
-    ensures decoded { IsTold (are_addresses_of address (length bytes.old))
-        (λ card n. n ≡ decoded_by card address (length bytes.old)) machine.old.card decoded.old
+    ensures decoded { IsOutputGiven (are_addresses_of address (length bytes.old))
+        (λ card n. n ≡ decoded_count card address (length bytes.old)) machine.old.card decoded.old
         decoded.new }
 {
     if !are_addresses(address, bytes.len()) {
@@ -155,10 +155,10 @@ pub extern "C" fn zak_get_bytes(
 ) -> u32
     ensures card { Transfers (are_addresses_of address (length bytes.old)) (bytes_got down address
         (length bytes.old)) card.old card.new result }
-    ensures bytes { ToldOf (are_addresses_of address (length bytes.old))
+    ensures bytes { OutputGivenOf (are_addresses_of address (length bytes.old))
         (λ card new. AreRead card address bytes.old new) card.old bytes.old bytes.new }
-    ensures decoded { ToldOf (are_addresses_of address (length bytes.old))
-        (λ card n. n ≡ decoded_by card address (length bytes.old)) card.old decoded.old
+    ensures decoded { OutputGivenOf (are_addresses_of address (length bytes.old))
+        (λ card n. n ≡ decoded_count card address (length bytes.old)) card.old decoded.old
         decoded.new }
     ensures closed { LeavesClosed card.old card.new result }
     ensures spared { Spares card.old bytes.old bytes.new }
@@ -178,8 +178,8 @@ fn move_bytes(
 ) -> u32
     ensures after { IsTransferred (are_addresses_of from count && are_addresses_of to count)
         (bytes_moved down from to count) machine.old machine.new result }
-    ensures decoded { IsTold (are_addresses_of from count && are_addresses_of to count)
-        (λ card n. n ≡ decoded_by card from count + decoded_by card to count) machine.old.card
+    ensures decoded { IsOutputGiven (are_addresses_of from count && are_addresses_of to count)
+        (λ card n. n ≡ decoded_count card from count + decoded_count card to count) machine.old.card
         decoded.old decoded.new }
 {
     if !are_addresses(from, count) || !are_addresses(to, count) {
@@ -210,8 +210,9 @@ pub extern "C" fn zak_move_bytes(
 ) -> u32
     ensures card { Transfers (are_addresses_of from count && are_addresses_of to count)
         (bytes_moved down from to count) card.old card.new result }
-    ensures decoded { ToldOf (are_addresses_of from count && are_addresses_of to count)
-        (λ card n. n ≡ decoded_by card from count + decoded_by card to count) card.old decoded.old
+    ensures decoded { OutputGivenOf (are_addresses_of from count && are_addresses_of to count)
+        (λ card n. n ≡ decoded_count card from count + decoded_count card to count) card.old
+        decoded.old
         decoded.new }
     ensures closed { LeavesClosed card.old card.new result }
     ensures spared { Spares card.old decoded.old decoded.new }

@@ -10,16 +10,16 @@ use Rattle.vga_bits.specs.declared.refusal.Refusal.{Refusal}
 use Rattle.vga_bits.specs.declared.refusal.Refusal.TheVariants.{NotDecoded}
 use Rattle.vga_bits.specs.Bytes.{zeros}
 use Rattle.vga_bits.specs.Four.{of_plane}
-use Rattle.vga_bits.specs.RegFile.{AreKept}
+use Rattle.vga_bits.specs.RegFile.{AreWithinMasks}
 use Rattle.vga_bits.proofs.BitLemmas.{byte_small}
 use Rattle.vga_bits.proofs.ByteLemmas.{length-zeros, zeros_at}
 use Rattle.vga_bits.proofs.FourLemmas.{by_plane}
 use Rattle.vga_bits.proofs.RegisterLemmas.{kept_zeros, kept_set, kept_below}
-use Rattle.vga_planes.specs.Planes.{byte_at, bytes_at, zero_planes, IsMemory}
+use Rattle.vga_planes.specs.Planes.{byte_at, bytes_at, zero_planes, IsDisplayMemory}
 use Rattle.vga_host.specs.Host.{HostState, power_on_host}
 use Rattle.vga_host.specs.Graphics.{write_mode, is_set_reset_enabled, function_select}
 use Rattle.vga_host.specs.Memory.Address.{is_decoded, window_offset, plane_offset, is_reached}
-use Rattle.vga_host.specs.Memory.Write.{combined_by, data_bit, mask_bit, written_bit, combined_bit, written_byte, memory_after_put, after_put}
+use Rattle.vga_host.specs.Memory.Write.{combined_by_function, data_bit_of_write, mask_bit, written_bit, combined_bit, written_byte, memory_after_put, after_put}
 use Rattle.vga_host.specs.Memory.Read.{after_get, read_byte}
 use Rattle.vga_host.specs.Ports.{seq_masks, gfx_masks}
 use Rattle.vga_host.specs.Bounds.{IsHost}
@@ -27,12 +27,12 @@ use Rattle.vga_crtc.specs.declared.beam.Beam.{Beam}
 use Rattle.vga_crtc.specs.Crtc.{CrtcState}
 use Rattle.vga_crtc.specs.Fields.{horizontal_total, vertical_total, preset_row_scan, maximum_scan_line, line_compare, is_double_scan, overflow}
 use Rattle.vga_crtc.specs.Ports.{kept_bits, is_write_protected, protected_overflow, after_out as after_crtc}
-use Rattle.vga_crtc.specs.Beam.{characters, lines, IsBeam, is_first_dot, started, next_row, next_line, dot as beam_dot, after_dot}
+use Rattle.vga_crtc.specs.Beam.{characters, lines, IsBeam, is_first_dot, with_frame_start_taken, next_row, next_line, dot as beam_dot, after_dot}
 use Rattle.vga_crtc.specs.Bounds.{IsCrtc}
-use Rattle.vga_attr.specs.Attr.{AttrState, attr_masks, register_of, is_locked, after_write as after_attr, IsAttr}
+use Rattle.vga_attr.specs.Attr.{AttrState, attr_masks, selected_register, is_locked, after_write as after_attr, IsAttr}
 use Rattle.vga_dac.specs.declared.component.Component.{Component}
 use Rattle.vga_dac.specs.declared.component.Component.TheVariants.{Red, Green, Blue}
-use Rattle.vga_dac.specs.Dac.{DacState, with_component, after_read, IsDac}
+use Rattle.vga_dac.specs.Dac.{DacState, with_component_written, after_component_read, IsDac}
 use Rattle.vga_card.specs.declared.port.Port.{Port}
 use Rattle.vga_card.specs.declared.port.Port.TheVariants.{Attribute, AttributeRegister, MiscellaneousWrite, SubsystemEnable, SequencerIndex, SequencerData}
 use Rattle.vga_card.specs.declared.port.Port.TheVariants.{DacMask, DacReadIndex, DacWriteIndex, DacData, FeatureControl, MiscellaneousRead, GraphicsIndex}
@@ -40,9 +40,9 @@ use Rattle.vga_card.specs.declared.port.Port.TheVariants.{GraphicsData, CrtcInde
 use Rattle.vga_card.specs.Card.{CardState, power_on_card}
 use Rattle.vga_card.specs.Port.{port_of}
 use Rattle.vga_card.specs.Adapter.{AdapterState, adapter_of, with_adapter}
-use Rattle.vga_card.specs.Cycles.{written, answered, unless_refused, where_decoded, out_reached, inp_reached, out_at, inp_at, out_cycle, inp_cycle, put_cycle, get_cycle}
+use Rattle.vga_card.specs.Cycles.{card_after_write, card_after_read, unless_refused, if_decoded, out_reached, inp_reached, out_at, inp_at, out_cycle, inp_cycle, put_cycle, get_cycle}
 use Rattle.vga_card.specs.Cycles.{out_byte, inp_byte, put_byte, get_byte}
-use Rattle.vga_card.specs.WordCycles.{adapter_after, adapter_after_read, both_written, both_read, out_word_cycle, inp_word_cycle, put_word_cycle, get_word_cycle}
+use Rattle.vga_card.specs.WordCycles.{adapter_after_write, adapter_after_read, both_writes_or_neither, both_reads_or_neither, out_word_cycle, inp_word_cycle, put_word_cycle, get_word_cycle}
 use Rattle.vga_card.specs.Dots.{character_width, dot, dots}
 use Rattle.vga_card.specs.Bounds.{IsCard}
 
@@ -67,11 +67,11 @@ max_small x y n l k = omega arith
 sum_small : (x y : ℕ) → (x + y) % 2 < 2
 sum_small x y = omega arith
 
-combined_small : (f d l : ℕ) → d < 2 → l < 2 → combined_by f d l < 2
+combined_small : (f d l : ℕ) → d < 2 → l < 2 → combined_by_function f d l < 2
 combined_small f d l h k = if_small (f == 0) _ _ 2 h (if_small (f == 1) _ _ 2 (min_small d l 2 h)
     (if_small (f == 2) _ _ 2 (max_small d l 2 h k) (sum_small d l)))
 
-data_small : (h : HostState) (b p i : ℕ) → data_bit h b p i < 2
+data_small : (h : HostState) (b p i : ℕ) → data_bit_of_write h b p i < 2
 data_small h b p i =
     if_small (write_mode h == 0) _ _ 2 (if_small (is_set_reset_enabled h p) _ _ 2 (bit_small _ p) (bit_small b _))
     (if_small (write_mode h == 2) _ _ 2 (bit_small b p) (bit_small _ p))
@@ -101,7 +101,7 @@ bytes_kept true plane a x l h i = ⊎_elim
     (λ (n : i ≢ a). let q = get_or-set_other plane a i x 0 n in let y = h i in omega arith)
     (cases_eq i a)
 
-memory_kept : (h : HostState) (w v : ℕ) → IsMemory h.memory → IsMemory (memory_after_put h w v)
+memory_kept : (h : HostState) (w v : ℕ) → IsDisplayMemory h.memory → IsDisplayMemory (memory_after_put h w v)
 memory_kept h w v z =
     let m = memory_after_put h w v in
     let size_of : (p : ℕ) → p < 4 → length (plane_after h w v p) ≡ 65536 = λ p l.
@@ -216,11 +216,11 @@ where_below m n x y h k = by_test (nat_lt m n) refl
     by_test true e = h (ltb-true m n e)
     by_test false e = k
 
-few_characters : (r : List ℕ) → AreKept kept_bits r → characters r ≤ 260
+few_characters : (r : List ℕ) → AreWithinMasks kept_bits r → characters r ≤ 260
 unfolding horizontal_total
 few_characters r are = omega (arith, are.kept 0, and_le_r (slice_index r 0) 0xFF)
 
-few_lines : (r : List ℕ) → AreKept kept_bits r → lines r ≤ 1025
+few_lines : (r : List ℕ) → AreWithinMasks kept_bits r → lines r ≤ 1025
 unfolding vertical_total
 few_lines r are = omega (arith, are.kept 6, and_le_r (slice_index r 6) 0xFF, bit_small (slice_index r 7) 0, bit_small (slice_index r 7) 5)
 
@@ -232,7 +232,7 @@ last_scan_small : (r : List ℕ) → maximum_scan_line r < 32
 unfolding maximum_scan_line
 last_scan_small r = omega arith
 
-started_within : (r : List ℕ) (b : Beam) → IsBeam b → IsBeam (started r b)
+started_within : (r : List ℕ) (b : Beam) → IsBeam b → IsBeam (with_frame_start_taken r b)
 started_within r b z =
     if_beam (is_first_dot b) _ b (record { frame = z.frame; line = z.line; character = z.character; dot = z.dot; scan = first_scan_small r }) z
 
@@ -246,7 +246,7 @@ row_within r b z =
     (λ l. record { frame = z.frame; line = z.line; character = z.character; dot = z.dot; scan = omega (arith, l, last_scan_small r) })
     (record { frame = z.frame; line = z.line; character = z.character; dot = z.dot; scan = omega arith })))
 
-line_within : (r : List ℕ) (b : Beam) → AreKept kept_bits r → IsBeam b → IsBeam (next_line r b)
+line_within : (r : List ℕ) (b : Beam) → AreWithinMasks kept_bits r → IsBeam b → IsBeam (next_line r b)
 line_within r b are z =
     let begun : Beam = record b { character = 0; dot = 0 } in
     let y : IsBeam (next_row r begun) = row_within r begun (record {
@@ -260,9 +260,9 @@ line_within r b are z =
     (λ l. record { frame = y.frame; line = omega (arith, l, few_lines r are); character = y.character; dot = y.dot; scan = y.scan })
     (record { frame = omega arith; line = omega arith; character = omega arith; dot = omega arith; scan = omega arith })
 
-dot_within : (cw : ℕ) (r : List ℕ) (b : Beam) → cw ≤ 9 → AreKept kept_bits r → IsBeam b → IsBeam (beam_dot cw r b)
+dot_within : (cw : ℕ) (r : List ℕ) (b : Beam) → cw ≤ 9 → AreWithinMasks kept_bits r → IsBeam b → IsBeam (beam_dot cw r b)
 dot_within cw r b narrow are is =
-    let s = started r b in
+    let s = with_frame_start_taken r b in
     let z = started_within r b is in
     where_below (s.dot + 1) cw _ _ (λ l. record { frame = z.frame; line = z.line; character = z.character; dot = omega (arith, l, narrow); scan = z.scan })
     (where_below (s.character + 1) (characters r) _ _
@@ -275,23 +275,23 @@ if_attr : (t : Bool) (x y : AttrState) → IsAttr x → IsAttr y → IsAttr (if 
 if_attr true x y h k = h
 if_attr false x y h k = k
 
-attr_kept : (a : AttrState) → length a.registers ≡ 21 → AreKept attr_masks a.registers → IsAttr a
+attr_kept : (a : AttrState) → length a.registers ≡ 21 → AreWithinMasks attr_masks a.registers → IsAttr a
 attr_kept a size are = record { size = size; kept = are; palette = kept_below attr_masks a.registers 16 64 are refl }
 
 attr_write : (a : AttrState) (v : ℕ) → IsAttr a → IsAttr (after_attr a v)
 attr_write a v z =
-    let i = register_of a in
+    let i = selected_register a in
     if_attr a.is_data _ _ (by_lock (is_locked a i)) (record { size = z.size; kept = z.kept; palette = z.palette })
   where
     by_lock : (t : Bool) → IsAttr (record a {
-      registers = if t then a.registers else slice_set a.registers (register_of a)
-          (bit_and v (slice_index attr_masks (register_of a)));
+      registers = if t then a.registers else slice_set a.registers (selected_register a)
+          (bit_and v (slice_index attr_masks (selected_register a)));
       is_data = false;
     })
     by_lock true = attr_kept _ z.size z.kept
-    by_lock false = attr_kept _ (length-set a.registers (register_of a) _ ∙ z.size) (kept_set attr_masks a.registers (register_of a) v z.kept)
+    by_lock false = attr_kept _ (length-set a.registers (selected_register a) _ ∙ z.size) (kept_set attr_masks a.registers (selected_register a) v z.kept)
 
-dac_taken : (d : DacState) (k : Component) (v : ℕ) → IsDac d → IsDac (with_component d k v)
+dac_taken : (d : DacState) (k : Component) (v : ℕ) → IsDac d → IsDac (with_component_written d k v)
 dac_taken d Red v z = record { reds = z.reds; greens = z.greens; blues = z.blues }
 dac_taken d Green v z = record { reds = z.reds; greens = z.greens; blues = z.blues }
 dac_taken d Blue v z = record {
@@ -315,11 +315,11 @@ with_attr c a is z = record { host = z.host; crtc = z.crtc; attr = is; dac = z.d
 with_dac : (c : CardState) (d : DacState) → length d.reds ≡ 256 → length d.greens ≡ 256 → length d.blues ≡ 256 → IsCard c → IsCard (record c { dac = d })
 with_dac c d reds greens blues z = record { host = z.host; crtc = z.crtc; attr = z.attr; dac = record { reds = reds; greens = greens; blues = blues } }
 
-unless_within : (t : Bool) (c : CardState) (a : AdapterState) → IsCard c → IsCard (with_adapter c a) → IsCard (written c (unless_refused t a)).0
+unless_within : (t : Bool) (c : CardState) (a : AdapterState) → IsCard c → IsCard (with_adapter c a) → IsCard (card_after_write c (unless_refused t a)).0
 unless_within true c a z y = z
 unless_within false c a z y = y
 
-answered_within : (t : Bool) (c : CardState) (v : ℕ) → IsCard c → IsCard (answered c (unless_refused t (adapter_of c, v))).0
+answered_within : (t : Bool) (c : CardState) (v : ℕ) → IsCard c → IsCard (card_after_read c (unless_refused t (adapter_of c, v))).0
 answered_within true c v z = z
 answered_within false c v z = z
 
@@ -337,7 +337,7 @@ out_within c (Some DacReadIndex) v z = with_dac c _ z.dac.reds z.dac.greens z.da
 out_within c (Some DacWriteIndex) v z = with_dac c _ z.dac.reds z.dac.greens z.dac.blues z
 out_within c (Some DacData) v z =
     let d = dac_taken c.dac c.dac.component (bit_and v 0x3F) z.dac in
-    with_dac c (after_read (with_component c.dac c.dac.component (bit_and v 0x3F))) d.reds d.greens d.blues z
+    with_dac c (after_component_read (with_component_written c.dac c.dac.component (bit_and v 0x3F))) d.reds d.greens d.blues z
 out_within c (Some FeatureControl) v z = z
 out_within c (Some MiscellaneousRead) v z = z
 out_within c (Some GraphicsIndex) v z = with_host c _ (host_gfx_index c.host (bit_and v 0x0F) z.host) z
@@ -373,11 +373,11 @@ out_bounds c port v z = out_within c (port_of c.misc port) v z
 pub inp_bounds : (c : CardState) (port : ℕ) → IsCard c → IsCard (inp_cycle c port).0
 inp_bounds c port z = inp_within c (port_of c.misc port) z
 
-written_within : (t : Bool) (c : CardState) (a : AdapterState) → IsCard c → IsCard (with_adapter c a) → IsCard (written c (where_decoded t a)).0
+written_within : (t : Bool) (c : CardState) (a : AdapterState) → IsCard c → IsCard (with_adapter c a) → IsCard (card_after_write c (if_decoded t a)).0
 written_within true c a z y = y
 written_within false c a z y = z
 
-read_within : (t : Bool) (c : CardState) (a : AdapterState) (v : ℕ) → IsCard c → IsCard (with_adapter c a) → IsCard (answered c (where_decoded t (a, v))).0
+read_within : (t : Bool) (c : CardState) (a : AdapterState) (v : ℕ) → IsCard c → IsCard (with_adapter c a) → IsCard (card_after_read c (if_decoded t (a, v))).0
 read_within true c a v z y = y
 read_within false c a v z y = z
 
@@ -394,28 +394,28 @@ get_bounds c address z =
 -- ---- cycles of a word
 
 both_within : (c : CardState) (first second : Result AdapterState Refusal) → IsCard c
-    → (IsCard (with_adapter c (adapter_after (adapter_of c) first)) → IsCard (written (with_adapter c (adapter_after (adapter_of c) first)) second).0)
-    → IsCard (written c first).0 → IsCard (written c (both_written first second)).0
+    → (IsCard (with_adapter c (adapter_after_write (adapter_of c) first)) → IsCard (card_after_write (with_adapter c (adapter_after_write (adapter_of c) first)) second).0)
+    → IsCard (card_after_write c first).0 → IsCard (card_after_write c (both_writes_or_neither first second)).0
 both_within c (Ok mid) (Ok new) z next y = next y
 both_within c (Ok mid) (Err g) z next y = z
 both_within c (Err e) (Ok new) z next y = z
 both_within c (Err e) (Err g) z next y = z
 
 both_read_within : (c : CardState) (first second : Result (AdapterState × ℕ) Refusal) → IsCard c
-    → (IsCard (with_adapter c (adapter_after_read (adapter_of c) first)) → IsCard (answered (with_adapter c (adapter_after_read (adapter_of c) first)) second).0)
-    → IsCard (answered c first).0 → IsCard (answered c (both_read first second)).0
+    → (IsCard (with_adapter c (adapter_after_read (adapter_of c) first)) → IsCard (card_after_read (with_adapter c (adapter_after_read (adapter_of c) first)) second).0)
+    → IsCard (card_after_read c first).0 → IsCard (card_after_read c (both_reads_or_neither first second)).0
 both_read_within c (Ok (mid, low)) (Ok (new, high)) z next y = next y
 both_read_within c (Ok (mid, low)) (Err g) z next y = z
 both_read_within c (Err e) (Ok (new, high)) z next y = z
 both_read_within c (Err e) (Err g) z next y = z
 
-if_written : (t : Bool) (c : CardState) (r : Result AdapterState Refusal) → IsCard c → IsCard (written c r).0 →
-    IsCard (written c (if t then Err NotDecoded else r)).0
+if_written : (t : Bool) (c : CardState) (r : Result AdapterState Refusal) → IsCard c → IsCard (card_after_write c r).0 →
+    IsCard (card_after_write c (if t then Err NotDecoded else r)).0
 if_written true c r z y = z
 if_written false c r z y = y
 
-if_answered : (t : Bool) (c : CardState) (r : Result (AdapterState × ℕ) Refusal) → IsCard c → IsCard (answered c r).0 →
-    IsCard (answered c (if t then Err NotDecoded else r)).0
+if_answered : (t : Bool) (c : CardState) (r : Result (AdapterState × ℕ) Refusal) → IsCard c → IsCard (card_after_read c r).0 →
+    IsCard (card_after_read c (if t then Err NotDecoded else r)).0
 if_answered true c r z y = z
 if_answered false c r z y = y
 
@@ -423,7 +423,7 @@ pub out_word_bounds : (c : CardState) (port v : ℕ) → IsCard c → IsCard (ou
 out_word_bounds c port v z =
     let first = out_byte c.crtc.beam (adapter_of c) port (v % 256) in
     if_written (port == 0xFFFF) c _ z
-    (both_within c first _ z (out_bounds (with_adapter c (adapter_after (adapter_of c) first)) (port + 1) (v / 256)) (out_bounds c port (v % 256) z))
+    (both_within c first _ z (out_bounds (with_adapter c (adapter_after_write (adapter_of c) first)) (port + 1) (v / 256)) (out_bounds c port (v % 256) z))
 
 pub inp_word_bounds : (c : CardState) (port : ℕ) → IsCard c → IsCard (inp_word_cycle c port).0
 inp_word_bounds c port z =
@@ -435,7 +435,7 @@ pub put_word_bounds : (c : CardState) (address v : ℕ) → IsCard c → IsCard 
 put_word_bounds c address v z =
     let first = put_byte (adapter_of c) address (v % 256) in
     if_written (address == 0xFFFFFFFF) c _ z
-    (both_within c first _ z (put_bounds (with_adapter c (adapter_after (adapter_of c) first)) (address + 1) (v / 256)) (put_bounds c address (v % 256) z))
+    (both_within c first _ z (put_bounds (with_adapter c (adapter_after_write (adapter_of c) first)) (address + 1) (v / 256)) (put_bounds c address (v % 256) z))
 
 pub get_word_bounds : (c : CardState) (address : ℕ) → IsCard c → IsCard (get_word_cycle c address).0
 get_word_bounds c address z =

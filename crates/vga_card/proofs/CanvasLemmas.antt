@@ -10,64 +10,64 @@ use Rattle.vga_dots.specs.Display.{DisplayState}
 use Rattle.vga_dots.specs.Line.{shown_characters, IsLineDrawn}
 use Rattle.vga_card.specs.Line.{IsLineAppended}
 use Rattle.vga_bits.proofs.ByteLemmas.{zeros_at}
-use Rattle.vga_card.specs.Picture.{Dot, widest, highest, lines_of, lines_from}
-use Rattle.vga_card.specs.Canvas.{CanvasState, blank_canvas, dots_from, stored_dots, IsCanvas}
+use Rattle.vga_card.specs.Picture.{Dot, most_dots_of_a_line, most_lines_of_a_frame, lines_of_dots, lines_by_widths}
+use Rattle.vga_card.specs.Canvas.{CanvasState, blank_canvas, dots_of_bytes, stored_dots, IsCanvas}
 
 -- no later line has a dot
-pub no_lines : (u : ℕ) (ws : List ℕ) → ((j : ℕ) → slice_index ws j ≡ 0) → lines_from u ws ≡ []
-unfolding lines_from
+pub no_lines : (u : ℕ) (ws : List ℕ) → ((j : ℕ) → slice_index ws j ≡ 0) → lines_by_widths u ws ≡ []
+unfolding lines_by_widths
 no_lines u [] h = refl
-no_lines u (w ∷ ws) h = ap (λ n. replicate n u ++ lines_from (u + 1) ws) (h 0) ∙ no_lines (u + 1) ws (λ j. h (suc j))
+no_lines u (w ∷ ws) h = ap (λ n. replicate n u ++ lines_by_widths (u + 1) ws) (h 0) ∙ no_lines (u + 1) ws (λ j. h (suc j))
 
 -- n dots more on the last line
 lines_more : (u i n : ℕ) (ws : List ℕ) → i < length ws → ((j : ℕ) → i < j → slice_index ws j ≡ 0) →
-    lines_from u (slice_set ws i (slice_index ws i + n)) ≡ lines_from u ws ++ replicate n (u + i)
-unfolding lines_from
+    lines_by_widths u (slice_set ws i (slice_index ws i + n)) ≡ lines_by_widths u ws ++ replicate n (u + i)
+unfolding lines_by_widths
 lines_more u i n [] l h = absurd (omega arith)
 lines_more u zero n (w ∷ ws) l h =
     let none = no_lines (u + 1) ws (λ j. h (suc j) (omega arith)) in
     let z : u ≡ u + 0 = omega arith in
     ap (λ x. replicate (w + n) u ++ x) none ∙ append-nil (replicate (w + n) u) ∙ sym (replicate-append-replicate w n u)
     ∙ ap (λ x. x ++ replicate n u) (sym (append-nil (replicate w u)) ∙ ap (λ x. replicate w u ++ x) (sym none))
-    ∙ ap (λ x. (replicate w u ++ lines_from (u + 1) ws) ++ replicate n x) z
+    ∙ ap (λ x. (replicate w u ++ lines_by_widths (u + 1) ws) ++ replicate n x) z
 lines_more u (suc i) n (w ∷ ws) l h =
     let z : u + 1 + i ≡ u + suc i = omega arith in
     ap (λ x. replicate w u ++ x) (lines_more (u + 1) i n ws (omega arith) (λ j k. h (suc j) (omega arith)))
-    ∙ sym (append_assoc (replicate w u) (lines_from (u + 1) ws) (replicate n (u + 1 + i)))
-    ∙ ap (λ x. (replicate w u ++ lines_from (u + 1) ws) ++ replicate n x) z
+    ∙ sym (append_assoc (replicate w u) (lines_by_widths (u + 1) ws) (replicate n (u + 1 + i)))
+    ∙ ap (λ x. (replicate w u ++ lines_by_widths (u + 1) ws) ++ replicate n x) z
 
-pub length-dots_from : (vs bs : List ℕ) → length (dots_from vs bs) ≡ length vs
-unfolding dots_from
+pub length-dots_from : (vs bs : List ℕ) → length (dots_of_bytes vs bs) ≡ length vs
+unfolding dots_of_bytes
 length-dots_from [] bs = refl
 length-dots_from (v ∷ vs) bs = ap suc (length-dots_from vs (drop 3 bs))
 
-pub lines-dots_from : (vs bs : List ℕ) → lines_of (dots_from vs bs) ≡ vs
-unfolding dots_from
+pub lines-dots_from : (vs bs : List ℕ) → lines_of_dots (dots_of_bytes vs bs) ≡ vs
+unfolding dots_of_bytes
 lines-dots_from [] bs = refl
 lines-dots_from (v ∷ vs) bs = ap (λ x. v ∷ x) (lines-dots_from vs (drop 3 bs))
 
-dots-append : (vs us bs cs : List ℕ) → length bs ≡ 3 * length vs → dots_from (vs ++ us) (bs ++ cs) ≡ dots_from vs bs ++ dots_from us cs
-unfolding dots_from
+dots-append : (vs us bs cs : List ℕ) → length bs ≡ 3 * length vs → dots_of_bytes (vs ++ us) (bs ++ cs) ≡ dots_of_bytes vs bs ++ dots_of_bytes us cs
+unfolding dots_of_bytes
 dots-append [] us [] cs e = refl
 dots-append [] us (b ∷ bs) cs e = absurd (omega (arith, e))
 dots-append (v ∷ vs) us bs cs e =
     let few : 3 ≤ length bs = omega (arith, e) in
     let here : List ℕ → Dot = λ (c : List ℕ). record { line = v; colour = c } in
-    ap (λ (c : List ℕ). here c ∷ dots_from (vs ++ us) (drop 3 (bs ++ cs))) (take-append-le 3 bs cs few)
-    ∙ ap (λ (rest : List ℕ). here (take 3 bs) ∷ dots_from (vs ++ us) rest) (drop-append-le 3 bs cs few)
+    ap (λ (c : List ℕ). here c ∷ dots_of_bytes (vs ++ us) (drop 3 (bs ++ cs))) (take-append-le 3 bs cs few)
+    ∙ ap (λ (rest : List ℕ). here (take 3 bs) ∷ dots_of_bytes (vs ++ us) rest) (drop-append-le 3 bs cs few)
     ∙ ap (λ (dots : List Dot). here (take 3 bs) ∷ dots) (dots-append vs us (drop 3 bs) cs (omega (arith, e, length-drop 3 bs)))
 
 -- one dot more on line v
 pub stored_more : (ws buffer colour : List ℕ) (v : ℕ) → v < length ws → ((j : ℕ) → v < j → slice_index ws j ≡ 0) →
-    length buffer ≡ 3 * length (lines_from 0 ws) → length colour ≡ 3 → stored_dots (slice_set ws v (slice_index ws v + 1)) (buffer ++ colour)
+    length buffer ≡ 3 * length (lines_by_widths 0 ws) → length colour ≡ 3 → stored_dots (slice_set ws v (slice_index ws v + 1)) (buffer ++ colour)
     ≡ stored_dots ws buffer ++ (record { line = v; colour = colour }) ∷ []
-unfolding dots_from
+unfolding dots_of_bytes
 stored_more ws buffer colour v l h e three =
     let z : 0 + v ≡ v = omega arith in
     let here : List ℕ → Dot = λ (c : List ℕ). record { line = v; colour = c } in
-    ap (λ x. dots_from x (buffer ++ colour)) (lines_more 0 v 1 ws l h)
-    ∙ dots-append (lines_from 0 ws) (replicate 1 (0 + v)) buffer colour e
-    ∙ ap (λ k. stored_dots ws buffer ++ dots_from (k ∷ []) colour) z
+    ap (λ x. dots_of_bytes x (buffer ++ colour)) (lines_more 0 v 1 ws l h)
+    ∙ dots-append (lines_by_widths 0 ws) (replicate 1 (0 + v)) buffer colour e
+    ∙ ap (λ k. stored_dots ws buffer ++ dots_of_bytes (k ∷ []) colour) z
     ∙ ap (λ (c : List ℕ). stored_dots ws buffer ++ here c ∷ []) (take_all 3 colour (omega (arith, three)))
 
 -- a whole slice written back
@@ -81,12 +81,12 @@ later_stays ws line v n b h j l = get_or-set_other ws v j n 0 (omega arith) ∙ 
 pub record HasRoom (ws : List ℕ) (line v n : ℕ) : Type 0 where
   pub after : line ≤ v
   pub inside : v < 1024
-  pub few : n ≤ widest
-  pub beside : v ≡ line → slice_index ws line + n ≤ widest
+  pub few : n ≤ most_dots_of_a_line
+  pub beside : v ≡ line → slice_index ws line + n ≤ most_dots_of_a_line
 
 -- a canvas shows whether it has room for one dot more
 pub room_shown : (canvas : CanvasState) (dots : List Dot) (ws : List ℕ) (line v : ℕ) →
-    record { dots = dots; line = line; width = slice_index ws line } ≡ canvas → v < 1024 → canvas.line ≤ v → (v ≡ canvas.line → canvas.width < widest) →
+    record { dots = dots; line = line; width = slice_index ws line } ≡ canvas → v < 1024 → canvas.line ≤ v → (v ≡ canvas.line → canvas.width < most_dots_of_a_line) →
     HasRoom ws line v 1
 room_shown canvas dots ws line v shown inside after room =
     let last = ap (λ (s : CanvasState). s.line) shown in
@@ -98,8 +98,8 @@ room_shown canvas dots ws line v shown inside after room =
     }
 
 -- the width of a line before n dots more
-width_before : (capacity : ℕ) (buffer ws : List ℕ) (line v n : ℕ) → IsCanvas capacity buffer ws line → HasRoom ws line v n → (slice_index ws v + n ≤ widest)
-    × (length (lines_from 0 ws) + n ≤ widest * v + (slice_index ws v + n))
+width_before : (capacity : ℕ) (buffer ws : List ℕ) (line v n : ℕ) → IsCanvas capacity buffer ws line → HasRoom ws line v n → (slice_index ws v + n ≤ most_dots_of_a_line)
+    × (length (lines_by_widths 0 ws) + n ≤ most_dots_of_a_line * v + (slice_index ws v + n))
 width_before capacity buffer ws line v n is room =
     ⊎_elim
     (λ (same : v ≡ line).
@@ -117,8 +117,8 @@ bytes_fit capacity buffer ws line v n is room =
     let before = width_before capacity buffer ws line v n is room in
     omega (arith, before.0, before.1, room.inside, is.counted, is.room)
 
-narrow_stays : (ws : List ℕ) (v n : ℕ) → v < length ws → n ≤ widest → ((j : ℕ) → slice_index ws j ≤ widest) → (j : ℕ) →
-    slice_index (slice_set ws v n) j ≤ widest
+narrow_stays : (ws : List ℕ) (v n : ℕ) → v < length ws → n ≤ most_dots_of_a_line → ((j : ℕ) → slice_index ws j ≤ most_dots_of_a_line) → (j : ℕ) →
+    slice_index (slice_set ws v n) j ≤ most_dots_of_a_line
 narrow_stays ws v n l few h j =
     ⊎_elim
     (λ (same : j ≡ v). omega (arith, ap (slice_index (slice_set ws v n)) same, get_or-set_same ws v n 0 l, few))
@@ -132,9 +132,9 @@ canvas_more capacity buffer colours ws line v n is room e =
     let within : v < length ws = omega (arith, is.lines, room.inside) in
     let before = width_before capacity buffer ws line v n is room in
     let wider = slice_set ws v (slice_index ws v + n) in
-    let count : length (lines_from 0 wider) ≡ length (lines_from 0 ws) + n =
-    ap length (lines_more 0 v n ws within (λ j k. is.later j (omega (arith, room.after)))) ∙ length-append (lines_from 0 ws) (replicate n (0 + v))
-    ∙ ap (λ k. length (lines_from 0 ws) + k) (length-replicate n (0 + v)) in
+    let count : length (lines_by_widths 0 wider) ≡ length (lines_by_widths 0 ws) + n =
+    ap length (lines_more 0 v n ws within (λ j k. is.later j (omega (arith, room.after)))) ∙ length-append (lines_by_widths 0 ws) (replicate n (0 + v))
+    ∙ ap (λ k. length (lines_by_widths 0 ws) + k) (length-replicate n (0 + v)) in
     record {
       room = is.room;
       lines = length-set ws v (slice_index ws v + n) ∙ is.lines;
@@ -161,8 +161,8 @@ empty_canvas capacity ws line r l i h =
     }
 
 empty_dots : (buffer ws : List ℕ) → ((j : ℕ) → slice_index ws j ≡ 0) → stored_dots ws buffer ≡ []
-unfolding dots_from
-empty_dots buffer ws h = ap (λ x. dots_from x buffer) (no_lines 0 ws h)
+unfolding dots_of_bytes
+empty_dots buffer ws h = ap (λ x. dots_of_bytes x buffer) (no_lines 0 ws h)
 
 pub shows_none : (buffer ws : List ℕ) → ((j : ℕ) → slice_index ws j ≡ 0) → record { dots = stored_dots ws buffer; line = 0; width = slice_index ws 0 }
     ≡ blank_canvas
@@ -174,18 +174,18 @@ blank n ws e j = ap (λ x. slice_index x j) e ∙ zeros_at n j
 
 -- n dots more on line v, by the bytes of a row
 pub stored_line : (ws buffer colours : List ℕ) (v n : ℕ) → v < length ws → ((j : ℕ) → v < j → slice_index ws j ≡ 0) →
-    length buffer ≡ 3 * length (lines_from 0 ws)
-    → stored_dots (slice_set ws v (slice_index ws v + n)) (buffer ++ colours) ≡ stored_dots ws buffer ++ dots_from (replicate n v) colours
+    length buffer ≡ 3 * length (lines_by_widths 0 ws)
+    → stored_dots (slice_set ws v (slice_index ws v + n)) (buffer ++ colours) ≡ stored_dots ws buffer ++ dots_of_bytes (replicate n v) colours
 stored_line ws buffer colours v n l h e =
     let z : 0 + v ≡ v = omega arith in
-    ap (λ x. dots_from x (buffer ++ colours)) (lines_more 0 v n ws l h)
-    ∙ dots-append (lines_from 0 ws) (replicate n (0 + v)) buffer colours e
-    ∙ ap (λ k. stored_dots ws buffer ++ dots_from (replicate n k) colours) z
+    ap (λ x. dots_of_bytes x (buffer ++ colours)) (lines_more 0 v n ws l h)
+    ∙ dots-append (lines_by_widths 0 ws) (replicate n (0 + v)) buffer colours e
+    ∙ ap (λ k. stored_dots ws buffer ++ dots_of_bytes (replicate n k) colours) z
 
 -- a canvas shows whether it has room for n dots more
 pub line_shown : (canvas : CanvasState) (dots : List Dot) (ws : List ℕ) (line v n : ℕ) →
-    record { dots = dots; line = line; width = slice_index ws line } ≡ canvas → v < highest → canvas.line ≤ v → n ≤ widest →
-    (v ≡ canvas.line → canvas.width + n ≤ widest) → HasRoom ws line v n
+    record { dots = dots; line = line; width = slice_index ws line } ≡ canvas → v < most_lines_of_a_frame → canvas.line ≤ v → n ≤ most_dots_of_a_line →
+    (v ≡ canvas.line → canvas.width + n ≤ most_dots_of_a_line) → HasRoom ws line v n
 line_shown canvas dots ws line v n shown inside after few room =
     let last = ap (λ (s : CanvasState). s.line) shown in
     record {

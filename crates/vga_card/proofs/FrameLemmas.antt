@@ -12,11 +12,11 @@ use Rattle.vga_crtc.specs.Beam.{is_first_dot, after_start, after_dot, after_dots
 use Rattle.vga_crtc.specs.Raster.{IsFrameStart, FrameEnds}
 use Rattle.vga_attr.specs.Attr.{AttrState}
 use Rattle.vga_dac.specs.Dac.{DacState}
-use Rattle.vga_card.specs.Picture.{Dot, lines_of, lines_from, all_are, runs, shape, shape_of}
-use Rattle.vga_card.specs.Canvas.{positive}
+use Rattle.vga_card.specs.Picture.{Dot, lines_of_dots, lines_by_widths, all_equal_to, run_lengths, picture_shape, shape_of}
+use Rattle.vga_card.specs.Canvas.{nonzero_widths}
 use Rattle.vga_card.specs.Card.{CardState}
-use Rattle.vga_card.specs.Dots.{character_width, fresh, display_dot, dot, dots}
-use Rattle.vga_card.specs.Frames.{frame_count, frame, EndsFirst, collect, display_dot_at, DrawsPlaces}
+use Rattle.vga_card.specs.Dots.{character_width, dots_of_frame_so_far, display_dot, dot, dots}
+use Rattle.vga_card.specs.Frames.{frame_count, frame, EndsFirst, concatenated_dots, display_dot_at, DrawsDisplayDots}
 use Rattle.vga_card.proofs.DotLemmas.{dots_more, dots_split}
 use Rattle.vga_card.proofs.ShapeLemmas.{runs_are}
 
@@ -96,7 +96,7 @@ frame_goes_on ends_at c n within = sym (dots_split n (frame_count (dots n c)) c)
 
 -- ---- what is drawn on the way
 
-dot_drawn : (c : CardState) → (dot c).drawn ≡ fresh c ++ display_dot c.host (after_start c.crtc) c.attr c.dac
+dot_drawn : (c : CardState) → (dot c).drawn ≡ dots_of_frame_so_far c ++ display_dot c.host (after_start c.crtc) c.attr c.dac
 unfolding dot
 dot_drawn c = refl
 
@@ -120,11 +120,11 @@ is_away false h = refl
 start_is : (b : Beam) → is_first_dot b ≡ true → IsFrameStart b
 start_is b h = record { line = grind (arith, nat_tests); character = grind (arith, nat_tests); dot = grind (arith, nat_tests) }
 
-draws_more : FramesEnd → (c : CardState) (n : ℕ) → suc n ≤ frame_count c → (dots (suc n) c).drawn ≡ fresh c ++ collect (display_dot_at c) (suc n)
+draws_more : FramesEnd → (c : CardState) (n : ℕ) → suc n ≤ frame_count c → (dots (suc n) c).drawn ≡ dots_of_frame_so_far c ++ concatenated_dots (display_dot_at c) (suc n)
 draws_more ends_at c zero hi =
     let e : 1 ≡ 0 + 1 = omega arith in
     ap (λ k. (dots k c).drawn) e ∙ ap (λ (x : CardState). x.drawn) (dots_more 0 c ∙ ap dot (dots_none c)) ∙ dot_drawn c
-    ∙ ap (λ (x : CardState). fresh c ++ display_dot x.host (after_start x.crtc) x.attr x.dac) (sym (dots_none c)) ∙ ap (λ x. fresh c ++ x) (joins 0 c)
+    ∙ ap (λ (x : CardState). dots_of_frame_so_far c ++ display_dot x.host (after_start x.crtc) x.attr x.dac) (sym (dots_none c)) ∙ ap (λ x. dots_of_frame_so_far c ++ x) (joins 0 c)
 draws_more ends_at c (suc n) hi =
     let ends = frame_ends_first ends_at c in
     let e : suc (suc n) ≡ suc n + 1 = omega arith in
@@ -135,30 +135,30 @@ draws_more ends_at c (suc n) hi =
     ∙ ap (λ v. (if v then [] else d.drawn) ++ display_dot d.host (after_start d.crtc) d.attr d.dac) away
     ∙ ap (λ x. d.drawn ++ x) (joins (suc n) c)
     ∙ ap (λ x. x ++ display_dot_at c (suc n)) (draws_more ends_at c n (omega arith))
-    ∙ append_assoc (fresh c) (collect (display_dot_at c) (suc n)) (display_dot_at c (suc n))
+    ∙ append_assoc (dots_of_frame_so_far c) (concatenated_dots (display_dot_at c) (suc n)) (display_dot_at c (suc n))
 
-pub dots_are_places : FramesEnd → (c : CardState) → DrawsPlaces c
+pub dots_are_places : FramesEnd → (c : CardState) → DrawsDisplayDots c
 dots_are_places ends_at c zero lo hi = absurd (omega arith)
 dots_are_places ends_at c (suc n) lo hi = draws_more ends_at c n hi
 
 -- ---- rows of one width
 
-same_widths : (w h : ℕ) → all_are w (replicate h w) ≡ true
+same_widths : (w h : ℕ) → all_equal_to w (replicate h w) ≡ true
 same_widths w zero = refl
 same_widths w (suc h) =
     let t : (w == w) ≡ true = grind (arith, nat_tests) in
-    ap (λ v. v && all_are w (replicate h w)) t ∙ same_widths w h
+    ap (λ v. v && all_equal_to w (replicate h w)) t ∙ same_widths w h
 
-positive_widths : (w h : ℕ) → positive (replicate h (suc w)) ≡ replicate h (suc w)
+positive_widths : (w h : ℕ) → nonzero_widths (replicate h (suc w)) ≡ replicate h (suc w)
 positive_widths w zero = refl
 positive_widths w (suc h) = ap (λ x. suc w ∷ x) (positive_widths w h)
 
-pub regular_shape : (width height : ℕ) (drawn : List Dot) → 0 < width → 0 < height → lines_of drawn ≡ lines_from 0 (replicate height width) →
-    shape drawn ≡ Some (record { width = width; height = height })
+pub regular_shape : (width height : ℕ) (drawn : List Dot) → 0 < width → 0 < height → lines_of_dots drawn ≡ lines_by_widths 0 (replicate height width) →
+    picture_shape drawn ≡ Some (record { width = width; height = height })
 regular_shape zero height drawn p q e = absurd (omega arith)
 regular_shape (suc w) zero drawn p q e = absurd (omega arith)
 regular_shape (suc w) (suc h) drawn p q e =
     let z : length (replicate h (suc w)) + 1 ≡ suc h = omega (arith, length-replicate h (suc w)) in
-    ap (λ x. shape_of (runs x)) e ∙ ap shape_of (runs_are 0 (replicate (suc h) (suc w)) ∙ positive_widths w (suc h))
+    ap (λ x. shape_of (run_lengths x)) e ∙ ap shape_of (runs_are 0 (replicate (suc h) (suc w)) ∙ positive_widths w (suc h))
     ∙ ap (λ v. if v then Some (record { width = suc w; height = length (replicate h (suc w)) + 1 }) else None) (same_widths (suc w) h)
     ∙ ap (λ n. Some (record { width = suc w; height = n })) z

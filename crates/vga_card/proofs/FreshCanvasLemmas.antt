@@ -8,18 +8,18 @@ use Rattle.vga_crtc.specs.Raster.{dots_in_line, dots_in_frame}
 use Rattle.vga_card.specs.Picture.{Dot}
 use Rattle.vga_card.specs.Card.{CardState}
 use Rattle.vga_card.specs.Adapter.{AdapterState}
-use Rattle.vga_card.specs.Cycles.{written, answered}
-use Rattle.vga_card.specs.Dots.{character_width, fresh, display_dot, dot, dots}
+use Rattle.vga_card.specs.Cycles.{card_after_write, card_after_read}
+use Rattle.vga_card.specs.Dots.{character_width, dots_of_frame_so_far, display_dot, dot, dots}
 use Rattle.vga_card.specs.Frames.{frame_count, frame}
-use Rattle.vga_card.specs.FreshCanvas.{with_fresh_canvas, fresh_canvas_after, CannotBeTold}
+use Rattle.vga_card.specs.FreshCanvas.{with_fresh_canvas, fresh_canvas_after, FreshCanvasIsUnseen}
 
 -- ---- a cycle
 
-written_fresh : (c : CardState) (r : Result AdapterState Refusal) → written (with_fresh_canvas c) r ≡ fresh_canvas_after (written c r)
+written_fresh : (c : CardState) (r : Result AdapterState Refusal) → card_after_write (with_fresh_canvas c) r ≡ fresh_canvas_after (card_after_write c r)
 written_fresh c (Ok a) = refl
 written_fresh c (Err e) = refl
 
-answered_fresh : (c : CardState) (r : Result (AdapterState × ℕ) Refusal) → answered (with_fresh_canvas c) r ≡ fresh_canvas_after (answered c r)
+answered_fresh : (c : CardState) (r : Result (AdapterState × ℕ) Refusal) → card_after_read (with_fresh_canvas c) r ≡ fresh_canvas_after (card_after_read c r)
 answered_fresh c (Ok (a, v)) = refl
 answered_fresh c (Err e) = refl
 
@@ -29,7 +29,7 @@ twice_fresh : (v : Bool) (drawn : List Dot) → (let x : List Dot = (if v then [
 twice_fresh true drawn = refl
 twice_fresh false drawn = refl
 
-canvas_fresh : (c : CardState) → fresh (with_fresh_canvas c) ≡ fresh c
+canvas_fresh : (c : CardState) → dots_of_frame_so_far (with_fresh_canvas c) ≡ dots_of_frame_so_far c
 canvas_fresh c = twice_fresh (is_first_dot c.crtc.beam) c.drawn
 
 under_way_fresh : (c : CardState) → is_first_dot c.crtc.beam ≡ false → with_fresh_canvas c ≡ c
@@ -55,7 +55,7 @@ frame_some c = omega arith
 frame_fresh : (c : CardState) → frame (with_fresh_canvas c) ≡ frame c
 frame_fresh c = dots_fresh (frame_count c) c (frame_some c)
 
-pub cannot_be_told : CannotBeTold
+pub cannot_be_told : FreshCanvasIsUnseen
 cannot_be_told = record {
   under_way = under_way_fresh;
   fresh = canvas_fresh;

@@ -16,7 +16,7 @@ use Rattle.vga_crtc.specs.Status.{is_display}
 use Rattle.vga_attr.specs.Attr.{AttrState}
 use Rattle.vga_dac.specs.Dac.{DacState}
 use Rattle.vga_dots.specs.Colour.{dot_colour}
-use Rattle.vga_dots.specs.Seen.{AreSeenAlike}
+use Rattle.vga_dots.specs.Seen.{DotsSeeSameRegisters}
 use Rattle.vga_card.specs.declared.port.Port.{Port}
 use Rattle.vga_card.specs.declared.port.Port.TheVariants.{Attribute, AttributeRegister, MiscellaneousWrite, SubsystemEnable, SequencerIndex, SequencerData, DacMask}
 use Rattle.vga_card.specs.declared.port.Port.TheVariants.{DacReadIndex, DacWriteIndex, DacData, FeatureControl, MiscellaneousRead, GraphicsIndex, GraphicsData}
@@ -25,9 +25,9 @@ use Rattle.vga_card.specs.Picture.{Dot}
 use Rattle.vga_card.specs.Card.{CardState}
 use Rattle.vga_card.specs.Adapter.{AdapterState, adapter_of, with_adapter}
 use Rattle.vga_card.specs.Port.{port_of, crtc_port_of}
-use Rattle.vga_card.specs.Cycles.{Written, written, unless_refused, out_reached, out_byte, out_cycle}
-use Rattle.vga_card.specs.WordCycles.{adapter_after, both_written, bytes_written, unless_last, out_word_cycle}
-use Rattle.vga_card.specs.Dots.{character_width, fresh, display_dot, dot, dots}
+use Rattle.vga_card.specs.Cycles.{WriteResult, card_after_write, unless_refused, out_reached, out_byte, out_cycle}
+use Rattle.vga_card.specs.WordCycles.{adapter_after_write, both_writes_or_neither, after_two_byte_writes, unless_at_last_place, out_word_cycle}
+use Rattle.vga_card.specs.Dots.{character_width, dots_of_frame_so_far, display_dot, dot, dots}
 use Rattle.vga_card.specs.Owed.{IsHidden}
 use Rattle.vga_card.proofs.FrameLemmas.{dots_host, dots_keep}
 
@@ -35,7 +35,7 @@ use Rattle.vga_card.proofs.FrameLemmas.{dots_host, dots_keep}
 
 -- a dot's colour is the same over host paths that it sees alike
 abbrev pub SeesFourRegisters : Type 0
-SeesFourRegisters = (h other : HostState) (c : CrtcState) (a : AttrState) (d : DacState) → AreSeenAlike h other → dot_colour other c a d ≡ dot_colour h c a d
+SeesFourRegisters = (h other : HostState) (c : CrtcState) (a : AttrState) (d : DacState) → DotsSeeSameRegisters h other → dot_colour other c a d ≡ dot_colour h c a d
 
 abbrev with_host : CardState → HostState → CardState
 with_host c h = record c { host = h }
@@ -43,23 +43,23 @@ with_host c h = record c { host = h }
 abbrev around : CardState → HostState → AdapterState
 around c h = record (adapter_of c) { host = h }
 
-width_alike : (h other : HostState) → AreSeenAlike h other → host_width other ≡ host_width h
+width_alike : (h other : HostState) → DotsSeeSameRegisters h other → host_width other ≡ host_width h
 width_alike h other alike = ap (λ n. if is_set n 0 then 8 else 9) alike.clocking_mode
 
-alike_dot : SeesFourRegisters → (h other : HostState) (c : CrtcState) (a : AttrState) (d : DacState) → AreSeenAlike h other →
+alike_dot : SeesFourRegisters → (h other : HostState) (c : CrtcState) (a : AttrState) (d : DacState) → DotsSeeSameRegisters h other →
     display_dot other c a d ≡ display_dot h c a d
 unfolding display_dot
 alike_dot sees h other c a d alike = ap (λ x. if is_display c.registers c.beam then record { line = c.beam.line; colour = x } ∷ [] else []) (sees h other c a d alike)
 
-hidden_dot : SeesFourRegisters → (c : CardState) (h : HostState) → AreSeenAlike c.host h → dot (with_host c h) ≡ with_host (dot c) h
+hidden_dot : SeesFourRegisters → (c : CardState) (h : HostState) → DotsSeeSameRegisters c.host h → dot (with_host c h) ≡ with_host (dot c) h
 unfolding dot
 hidden_dot sees c h alike = λ j. record c {
   host = h;
   crtc = after_dot c.crtc (width_alike c.host h alike j);
-  drawn = fresh c ++ alike_dot sees c.host h (after_start c.crtc) c.attr c.dac alike j;
+  drawn = dots_of_frame_so_far c ++ alike_dot sees c.host h (after_start c.crtc) c.attr c.dac alike j;
 }
 
-hidden_dots : SeesFourRegisters → (n : ℕ) (c : CardState) (h : HostState) → AreSeenAlike c.host h → dots n (with_host c h) ≡ with_host (dots n c) h
+hidden_dots : SeesFourRegisters → (n : ℕ) (c : CardState) (h : HostState) → DotsSeeSameRegisters c.host h → dots n (with_host c h) ≡ with_host (dots n c) h
 unfolding dots dot
 hidden_dots sees zero c h alike = refl
 hidden_dots sees (suc n) c h alike = ap (dots n) (hidden_dot sees c h alike) ∙ hidden_dots sees n (dot c) h alike
@@ -93,14 +93,14 @@ unfolding after_dots
 same_adapter n c = ap adapter_of (dots_keep n c)
 
 -- an outcome that is hidden from dots is the same after n dots, or before them
-later : SeesFourRegisters → (n : ℕ) (c : CardState) (r : Result AdapterState Refusal) → IsHidden c (written c r).0 →
-    (let now : Written = (dots n (written c r).0, (written c r).1) in written (dots n c) r ≡ now)
+later : SeesFourRegisters → (n : ℕ) (c : CardState) (r : Result AdapterState Refusal) → IsHidden c (card_after_write c r).0 →
+    (let now : WriteResult = (dots n (card_after_write c r).0, (card_after_write c r).1) in card_after_write (dots n c) r ≡ now)
 later sees n c (Err e) hidden = refl
 later sees n c (Ok a) hidden =
     let d = dots n c in
     let h = a.host in
     let other : a ≡ around d h = ap (λ (x : CardState). around x h) hidden.rest ∙ ap (λ (x : AdapterState). record x { host = h }) (sym (same_adapter n c)) in
-    ap (λ (x : CardState). let now : Written = (x, Ok tt) in now)
+    ap (λ (x : CardState). let now : WriteResult = (x, Ok tt) in now)
     (ap (with_adapter d) other ∙ sym (hidden_dots sees n c h hidden.host) ∙ ap (dots n) (sym (ap (λ (x : CardState). with_host x h) hidden.rest)))
 
 byte_free : (n : ℕ) (c : CardState) (port v : ℕ) → out_byte (dots n c).crtc.beam (adapter_of (dots n c)) port v ≡ out_byte c.crtc.beam (adapter_of c) port v
@@ -112,25 +112,25 @@ byte_free n c port v =
 pub out_does_not_wait : SeesFourRegisters → (n : ℕ) (c : CardState) (port v : ℕ) → IsHidden c (out_cycle c port v).0 →
     out_cycle (dots n c) port v ≡ (dots n (out_cycle c port v).0, (out_cycle c port v).1)
 out_does_not_wait sees n c port v hidden =
-    ap (written (dots n c)) (byte_free n c port v) ∙ later sees n c (out_byte c.crtc.beam (adapter_of c) port v) hidden
+    ap (card_after_write (dots n c)) (byte_free n c port v) ∙ later sees n c (out_byte c.crtc.beam (adapter_of c) port v) hidden
 
-word_beam_free : (b other : Beam) (a : AdapterState) (port low high : ℕ) → bytes_written (out_byte b) a port low high ≡ bytes_written (out_byte other) a port low high
+word_beam_free : (b other : Beam) (a : AdapterState) (port low high : ℕ) → after_two_byte_writes (out_byte b) a port low high ≡ after_two_byte_writes (out_byte other) a port low high
 word_beam_free b other a port low high =
     let first = beam_free b other a (port_of a.misc port) low in
-    λ j. both_written (first j) (beam_free b other (adapter_after a (first j)) (port_of (adapter_after a (first j)).misc (port + 1)) high j)
+    λ j. both_writes_or_neither (first j) (beam_free b other (adapter_after_write a (first j)) (port_of (adapter_after_write a (first j)).misc (port + 1)) high j)
 
-word_free : (n : ℕ) (c : CardState) (port low high : ℕ) → bytes_written (out_byte (dots n c).crtc.beam) (adapter_of (dots n c)) port low high
-    ≡ bytes_written (out_byte c.crtc.beam) (adapter_of c) port low high
+word_free : (n : ℕ) (c : CardState) (port low high : ℕ) → after_two_byte_writes (out_byte (dots n c).crtc.beam) (adapter_of (dots n c)) port low high
+    ≡ after_two_byte_writes (out_byte c.crtc.beam) (adapter_of c) port low high
 word_free n c port low high =
     word_beam_free (dots n c).crtc.beam c.crtc.beam (adapter_of (dots n c)) port low high
-    ∙ ap (λ a. bytes_written (out_byte c.crtc.beam) a port low high) (same_adapter n c)
+    ∙ ap (λ a. after_two_byte_writes (out_byte c.crtc.beam) a port low high) (same_adapter n c)
 
 -- the same for a write of a word
 pub out_word_does_not_wait : SeesFourRegisters → (n : ℕ) (c : CardState) (port v : ℕ) → IsHidden c (out_word_cycle c port v).0 →
     out_word_cycle (dots n c) port v ≡ (dots n (out_word_cycle c port v).0, (out_word_cycle c port v).1)
 out_word_does_not_wait sees n c port v hidden =
-    ap (λ r. written (dots n c) (unless_last 0xFFFF port r)) (word_free n c port (v % 256) (v / 256))
-    ∙ later sees n c (unless_last 0xFFFF port (bytes_written (out_byte c.crtc.beam) (adapter_of c) port (v % 256) (v / 256))) hidden
+    ap (λ r. card_after_write (dots n c) (unless_at_last_place 0xFFFF port r)) (word_free n c port (v % 256) (v / 256))
+    ∙ later sees n c (unless_at_last_place 0xFFFF port (after_two_byte_writes (out_byte c.crtc.beam) (adapter_of c) port (v % 256) (v / 256))) hidden
 
 -- ---- which writes are hidden
 
@@ -148,7 +148,7 @@ IsBlindSequencer i = (not (i == 1) && not (i == 3)) ≡ true
 abbrev pub IsBlindGraphics : ℕ → Type 0
 IsBlindGraphics i = (not (i == 5) && not (i == 6)) ≡ true
 
-blind_sequencer : (h : HostState) (i x : ℕ) → IsBlindSequencer i → (let other : HostState = record h { seq_index = i; seq = slice_set h.seq i x } in AreSeenAlike h other)
+blind_sequencer : (h : HostState) (i x : ℕ) → IsBlindSequencer i → (let other : HostState = record h { seq_index = i; seq = slice_set h.seq i x } in DotsSeeSameRegisters h other)
 blind_sequencer h i x hidden = record {
   memory = refl;
   clocking_mode = get_or-set_other h.seq i 1 x 0 (apart i 1 3 hidden);
@@ -157,7 +157,7 @@ blind_sequencer h i x hidden = record {
   miscellaneous = refl;
 }
 
-blind_graphics : (h : HostState) (i x : ℕ) → IsBlindGraphics i → (let other : HostState = record h { gfx_index = i; gfx = slice_set h.gfx i x } in AreSeenAlike h other)
+blind_graphics : (h : HostState) (i x : ℕ) → IsBlindGraphics i → (let other : HostState = record h { gfx_index = i; gfx = slice_set h.gfx i x } in DotsSeeSameRegisters h other)
 blind_graphics h i x hidden = record {
   memory = refl;
   clocking_mode = refl;
@@ -166,17 +166,17 @@ blind_graphics h i x hidden = record {
   miscellaneous = get_or-set_other h.gfx i 6 x 0 (apart_too i 5 6 hidden);
 }
 
-seen_alike : (h : HostState) → AreSeenAlike h h
+seen_alike : (h : HostState) → DotsSeeSameRegisters h h
 seen_alike h = record { memory = refl; clocking_mode = refl; character_map_select = refl; graphics_mode = refl; miscellaneous = refl }
 
 -- a byte that is refused or written
-hidden_data : (c : CardState) (h : HostState) (refused : Bool) → AreSeenAlike c.host h → IsHidden c (written c (unless_refused refused (around c h))).0
+hidden_data : (c : CardState) (h : HostState) (refused : Bool) → DotsSeeSameRegisters c.host h → IsHidden c (card_after_write c (unless_refused refused (around c h))).0
 hidden_data c h true alike = record { rest = refl; host = seen_alike c.host }
 hidden_data c h false alike = record { rest = refl; host = alike }
 
 -- an index that is written, and then a byte that is refused or written
-hidden_both : (c : CardState) (mid h : HostState) (refused : Bool) → AreSeenAlike c.host h →
-    IsHidden c (written c (both_written (Ok (around c mid)) (unless_refused refused (around c h)))).0
+hidden_both : (c : CardState) (mid h : HostState) (refused : Bool) → DotsSeeSameRegisters c.host h →
+    IsHidden c (card_after_write c (both_writes_or_neither (Ok (around c mid)) (unless_refused refused (around c h)))).0
 hidden_both c mid h true alike = record { rest = refl; host = seen_alike c.host }
 hidden_both c mid h false alike = record { rest = refl; host = alike }
 

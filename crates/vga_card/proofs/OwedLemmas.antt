@@ -6,10 +6,10 @@ use Rattle.vga_planes.specs.Planes.{byte_at}
 use Rattle.vga_host.specs.Graphics.{is_graphics}
 use Rattle.vga_crtc.specs.declared.beam.Beam.{Beam}
 use Rattle.vga_crtc.specs.Fields.{horizontal_display_end}
-use Rattle.vga_crtc.specs.Beam.{started}
-use Rattle.vga_crtc.specs.Raster.{IsFrameStart, IsInLine, in_line, dot_number}
-use Rattle.vga_dots.specs.Line.{placed}
-use Rattle.vga_card.specs.Line.{line_count}
+use Rattle.vga_crtc.specs.Beam.{with_frame_start_taken}
+use Rattle.vga_crtc.specs.Raster.{IsFrameStart, IsWithinItsLine, beam_at_dot_of_line, dot_number_in_line}
+use Rattle.vga_dots.specs.Line.{with_beam_at}
+use Rattle.vga_card.specs.Line.{dots_to_next_line}
 use Rattle.vga_card.proofs.PartLemmas.{BeamGoes, LineWhole, is_shown_at}
 use Rattle.vga_bits.specs.Four.{Four}
 use Rattle.vga_host.specs.Host.{HostState}
@@ -18,22 +18,22 @@ use Rattle.vga_host.specs.Memory.Write.{after_put, memory_after_put, written_byt
 use Rattle.vga_crtc.specs.Crtc.{CrtcState}
 use Rattle.vga_crtc.specs.Beam.{after_start, after_dot, after_dots, dots as beam_dots}
 use Rattle.vga_crtc.specs.Status.{is_display, status}
-use Rattle.vga_attr.specs.Attr.{AttrState, after_reset}
+use Rattle.vga_attr.specs.Attr.{AttrState, after_flip_flop_reset}
 use Rattle.vga_dac.specs.Dac.{DacState}
 use Rattle.vga_dots.specs.SourceDot.{source_dot, panning_shift}
 use Rattle.vga_dots.specs.Text.{text_nibble, is_foreground, is_glyph_dot, is_blinked_away, is_underlined, glyph_row, cell_at}
 use Rattle.vga_dots.specs.Graphics.{planar_nibble, packed_byte, plane_bits}
 use Rattle.vga_host.specs.Memory.Read.{after_get, read_byte}
 use Rattle.vga_dots.specs.Colour.{nibble, colour_number, dot_colour}
-use Rattle.vga_dots.specs.Fetch.{IsSeenAlike, fetched_at}
+use Rattle.vga_dots.specs.Fetch.{DotSeesSameBytes, fetched_address}
 use Rattle.vga_card.specs.declared.port.Port.TheVariants.{InputStatus1}
 use Rattle.vga_card.specs.Picture.{Dot}
 use Rattle.vga_card.specs.Card.{CardState}
 use Rattle.vga_card.specs.Adapter.{AdapterState, adapter_of}
 use Rattle.vga_card.specs.Port.{port_of}
-use Rattle.vga_card.specs.Cycles.{inp_at, inp_reached, inp_cycle, put_cycle, get_cycle, written, answered, where_decoded, Written, Answered}
-use Rattle.vga_card.specs.Dots.{character_width, fresh, display_dot, dot, dots}
-use Rattle.vga_card.specs.Owed.{SeeAlike, at_dot}
+use Rattle.vga_card.specs.Cycles.{inp_at, inp_reached, inp_cycle, put_cycle, get_cycle, card_after_write, card_after_read, if_decoded, WriteResult, ReadResult}
+use Rattle.vga_card.specs.Dots.{character_width, dots_of_frame_so_far, display_dot, dot, dots}
+use Rattle.vga_card.specs.Owed.{SeeAlike, crtc_at_dot}
 use Rattle.vga_card.proofs.FrameLemmas.{dots_host, dots_keep}
 
 -- the adapter of a card around another host path
@@ -44,16 +44,16 @@ around c h = record (adapter_of c) { host = h }
 
 -- the card after the flip-flop is cleared
 abbrev pub cleared : CardState → CardState
-cleared c = record c { attr = after_reset c.attr }
+cleared c = record c { attr = after_flip_flop_reset c.attr }
 
 -- no dot sees the flip-flop
-same_dot : (h : HostState) (c : CrtcState) (a : AttrState) (d : DacState) → display_dot h c (after_reset a) d ≡ display_dot h c a d
+same_dot : (h : HostState) (c : CrtcState) (a : AttrState) (d : DacState) → display_dot h c (after_flip_flop_reset a) d ≡ display_dot h c a d
 unfolding display_dot dot_colour colour_number nibble source_dot panning_shift text_nibble is_foreground is_glyph_dot is_blinked_away is_underlined
 same_dot h c a d = refl
 
 cleared_dot : (c : CardState) → dot (cleared c) ≡ cleared (dot c)
 unfolding dot
-cleared_dot c = ap (λ (x : List Dot). record c { crtc = after_dot c.crtc (character_width c); attr = after_reset c.attr; drawn = fresh c ++ x })
+cleared_dot c = ap (λ (x : List Dot). record c { crtc = after_dot c.crtc (character_width c); attr = after_flip_flop_reset c.attr; drawn = dots_of_frame_so_far c ++ x })
     (same_dot c.host (after_start c.crtc) c.attr c.dac)
 
 pub cleared_dots : (n : ℕ) (c : CardState) → dots n (cleared c) ≡ cleared (dots n c)
@@ -83,14 +83,14 @@ status_does_not_wait n c port reached =
     ∙ status_read d
     ∙ ap (λ (x : CrtcState). (cleared d, Ok (status x))) (dots_crtc n c)
     ∙ ap (λ (x : CardState). (x, Ok (status (after_dots c.crtc (character_width c) n)))) (sym (cleared_dots n c))
-    ∙ ap (λ (x : Answered). (dots n x.0, Ok (status (after_dots c.crtc (character_width c) n)))) (sym (ap (λ p. inp_at c p) reached ∙ status_read c))
+    ∙ ap (λ (x : ReadResult). (dots n x.0, Ok (status (after_dots c.crtc (character_width c) n)))) (sym (ap (λ p. inp_at c p) reached ∙ status_read c))
 
 -- the flip-flop cleared at once and the status of n dots on are what a read after them leaves and answers
 pub status_now : (n : ℕ) (c : CardState) (port : ℕ) → port_of c.misc port ≡ Some InputStatus1 →
-    (let now : Answered = (dots n (cleared c), Ok (status (after_dots c.crtc (character_width c) n))) in now ≡ inp_cycle (dots n c) port)
+    (let now : ReadResult = (dots n (cleared c), Ok (status (after_dots c.crtc (character_width c) n))) in now ≡ inp_cycle (dots n c) port)
 status_now n c port reached =
     sym (status_does_not_wait n c port reached
-    ∙ ap (λ (x : Answered). let now : Answered = (dots n x.0, Ok (status (after_dots c.crtc (character_width c) n))) in now) (ap (λ p. inp_at c p) reached ∙ status_read c))
+    ∙ ap (λ (x : ReadResult). let now : ReadResult = (dots n x.0, Ok (status (after_dots c.crtc (character_width c) n))) in now) (ap (λ p. inp_at c p) reached ∙ status_read c))
 
 -- ---- a write of memory
 
@@ -99,7 +99,7 @@ with_memory c memory = record c { host = record c.host { memory = memory } }
 
 -- what the dots of a place promise of its colour
 abbrev pub SeesWhatItFetches : Type 0
-SeesWhatItFetches = (h : HostState) (c : CrtcState) (a : AttrState) (d : DacState) (memory : Four (List ℕ)) → IsSeenAlike h c a memory →
+SeesWhatItFetches = (h : HostState) (c : CrtcState) (a : AttrState) (d : DacState) (memory : Four (List ℕ)) → DotSeesSameBytes h c a memory →
     dot_colour (record h { memory = memory }) c a d ≡ dot_colour h c a d
 
 same_shown : (v : Bool) (x y : List Dot) → (v ≡ true → x ≡ y) → (if v then x else []) ≡ (if v then y else [])
@@ -107,26 +107,26 @@ same_shown true x y e = e refl
 same_shown false x y e = refl
 
 alike_dot : SeesWhatItFetches → (h : HostState) (c : CrtcState) (a : AttrState) (d : DacState) (memory : Four (List ℕ)) →
-    (is_display c.registers c.beam ≡ true → IsSeenAlike h c a memory) → display_dot (record h { memory = memory }) c a d ≡ display_dot h c a d
+    (is_display c.registers c.beam ≡ true → DotSeesSameBytes h c a memory) → display_dot (record h { memory = memory }) c a d ≡ display_dot h c a d
 unfolding display_dot
 alike_dot sees h c a d memory alike =
     same_shown (is_display c.registers c.beam) _ _ (λ shown.
     ap (λ (x : List ℕ). record { line = c.beam.line; colour = x } ∷ []) (sees h c a d memory (alike shown)))
 
-here : (c : CardState) → at_dot c 0 ≡ after_start c.crtc
+here : (c : CardState) → crtc_at_dot c 0 ≡ after_start c.crtc
 unfolding after_dots beam_dots
 here c = refl
 
 memory_dot : SeesWhatItFetches → (c : CardState) (memory : Four (List ℕ)) →
-    (is_display (after_start c.crtc).registers (after_start c.crtc).beam ≡ true → IsSeenAlike c.host (after_start c.crtc) c.attr memory) →
+    (is_display (after_start c.crtc).registers (after_start c.crtc).beam ≡ true → DotSeesSameBytes c.host (after_start c.crtc) c.attr memory) →
     dot (with_memory c memory) ≡ with_memory (dot c) memory
 unfolding dot
 memory_dot sees c memory alike =
-    ap (λ (x : List Dot). record (with_memory c memory) { crtc = after_dot c.crtc (character_width c); drawn = fresh c ++ x })
+    ap (λ (x : List Dot). record (with_memory c memory) { crtc = after_dot c.crtc (character_width c); drawn = dots_of_frame_so_far c ++ x })
     (alike_dot sees c.host (after_start c.crtc) c.attr c.dac memory alike)
 
 first_alike : (n : ℕ) (c : CardState) (memory : Four (List ℕ)) → SeeAlike (suc n) c memory →
-    is_display (after_start c.crtc).registers (after_start c.crtc).beam ≡ true → IsSeenAlike c.host (after_start c.crtc) c.attr memory
+    is_display (after_start c.crtc).registers (after_start c.crtc).beam ≡ true → DotSeesSameBytes c.host (after_start c.crtc) c.attr memory
 unfolding after_dots beam_dots
 first_alike n c memory alike = alike.each 0 (omega arith)
 
@@ -143,8 +143,8 @@ memory_dots sees (suc n) c memory alike =
     ap (dots n) (memory_dot sees c memory (first_alike n c memory alike)) ∙ memory_dots sees n (dot c) memory (rest_alike n c memory alike)
 
 written_later : SeesWhatItFetches → (decoded : Bool) (n : ℕ) (c : CardState) (memory : Four (List ℕ)) → SeeAlike n c memory →
-    written (dots n c) (where_decoded decoded (around (dots n c) (record c.host { memory = memory })))
-    ≡ (let now = written c (where_decoded decoded (around c (record c.host { memory = memory }))) in let later : Written = (dots n now.0, now.1) in later)
+    card_after_write (dots n c) (if_decoded decoded (around (dots n c) (record c.host { memory = memory })))
+    ≡ (let now = card_after_write c (if_decoded decoded (around c (record c.host { memory = memory }))) in let later : WriteResult = (dots n now.0, now.1) in later)
 written_later sees false n c memory alike = refl
 written_later sees true n c memory alike =
     ap (λ (x : CardState). (x, Ok tt))
@@ -155,8 +155,8 @@ pub put_does_not_wait : SeesWhatItFetches → (n : ℕ) (c : CardState) (address
     put_cycle (dots n c) address v ≡ (dots n (put_cycle c address v).0, (put_cycle c address v).1)
 put_does_not_wait sees n c address v alike =
     let d = dots n c in
-    ap (λ (h : HostState). written d (where_decoded (is_decoded h d.misc address) (around d (after_put h address v)))) (dots_host n c)
-    ∙ ap (λ (m : ℕ). written d (where_decoded (is_decoded c.host m address) (around d (after_put c.host address v)))) (dots_misc n c)
+    ap (λ (h : HostState). card_after_write d (if_decoded (is_decoded h d.misc address) (around d (after_put h address v)))) (dots_host n c)
+    ∙ ap (λ (m : ℕ). card_after_write d (if_decoded (is_decoded c.host m address) (around d (after_put c.host address v)))) (dots_misc n c)
     ∙ written_later sees (is_decoded c.host c.misc address) n c (memory_after_put c.host (window_offset c.host address) v) alike
 
 -- ---- which writes are not seen
@@ -178,10 +178,10 @@ never : (v : Bool) → v ≡ false → v ≡ true → ⊥
 never true a b = absurd (cc)
 never false a b = absurd (cc)
 
-seen_alike : (h : HostState) (c : CrtcState) (a : AttrState) (w v : ℕ) → (fetched_at h c a ≡ plane_offset h w → ⊥) →
-    (is_graphics h ≡ false → is_reached h w 2 ≡ false) → IsSeenAlike h c a (memory_after_put h w v)
+seen_alike : (h : HostState) (c : CrtcState) (a : AttrState) (w v : ℕ) → (fetched_address h c a ≡ plane_offset h w → ⊥) →
+    (is_graphics h ≡ false → is_reached h w 2 ≡ false) → DotSeesSameBytes h c a (memory_after_put h w v)
 seen_alike h c a w v away beside = record {
-  fetched = λ p l. byte_stays h w v (fetched_at h c a) p l (λ reached. away);
+  fetched = λ p l. byte_stays h w v (fetched_address h c a) p l (λ reached. away);
   glyphs = λ text i. byte_stays h w v i 2 (omega arith) (λ reached same. never _ (beside text) reached);
 }
 
@@ -191,35 +191,35 @@ not_both false a b = absurd (cc)
 
 -- what is promised of places that are apart from those of a line
 abbrev pub IsApart : CardState → ℕ → Type 0
-IsApart c place = (h : HostState) (a : AttrState) (x k : ℕ) → x ≤ horizontal_display_end c.crtc.registers → fetched_at h (placed c.crtc x k) a ≡ place → ⊥
+IsApart c place = (h : HostState) (a : AttrState) (x k : ℕ) → x ≤ horizontal_display_end c.crtc.registers → fetched_address h (with_beam_at c.crtc x k) a ≡ place → ⊥
 
 abbrev pub Elsewhere : Type 0
-Elsewhere = (r : List ℕ) (b : Beam) → ¬ IsFrameStart b → started r b ≡ b
+Elsewhere = (r : List ℕ) (b : Beam) → ¬ IsFrameStart b → with_frame_start_taken r b ≡ b
 
-in_line_dot : Elsewhere → BeamGoes → LineWhole → (n : ℕ) (c : CardState) → ¬ IsFrameStart c.crtc.beam → IsInLine (character_width c) c.crtc.registers c.crtc.beam →
-    n ≤ line_count c → (i : ℕ) → i < n → at_dot c i ≡ placed c.crtc ((dot_number (character_width c) c.crtc.beam + i) / character_width c)
-    ((dot_number (character_width c) c.crtc.beam + i) % character_width c)
+in_line_dot : Elsewhere → BeamGoes → LineWhole → (n : ℕ) (c : CardState) → ¬ IsFrameStart c.crtc.beam → IsWithinItsLine (character_width c) c.crtc.registers c.crtc.beam →
+    n ≤ dots_to_next_line c → (i : ℕ) → i < n → crtc_at_dot c i ≡ with_beam_at c.crtc ((dot_number_in_line (character_width c) c.crtc.beam + i) / character_width c)
+    ((dot_number_in_line (character_width c) c.crtc.beam + i) % character_width c)
 unfolding after_start after_dots
 in_line_dot elsewhere goes whole n c away inside few i l =
     let w = character_width c in
     let r = c.crtc.registers in
     let b = c.crtc.beam in
-    let q = dot_number w b + i in
-    ap (λ (x : Beam). record c.crtc { beam = x }) (goes w r b i inside (omega (arith, whole w r b inside, few, l)) ∙ ap (λ (x : Beam). in_line w x q) (elsewhere r b away))
+    let q = dot_number_in_line w b + i in
+    ap (λ (x : Beam). record c.crtc { beam = x }) (goes w r b i inside (omega (arith, whole w r b inside, few, l)) ∙ ap (λ (x : Beam). beam_at_dot_of_line w x q) (elsewhere r b away))
 
 -- the dots of a line see a write alike that is apart from all of the line's
 pub line_sees_alike : Elsewhere → BeamGoes → LineWhole → (n : ℕ) (c : CardState) (w v : ℕ) → ¬ IsFrameStart c.crtc.beam →
-    IsInLine (character_width c) c.crtc.registers c.crtc.beam → n ≤ line_count c → IsApart c (plane_offset c.host w) →
+    IsWithinItsLine (character_width c) c.crtc.registers c.crtc.beam → n ≤ dots_to_next_line c → IsApart c (plane_offset c.host w) →
     (is_graphics c.host ≡ false → is_reached c.host w 2 ≡ false) → SeeAlike n c (memory_after_put c.host w v)
 line_sees_alike elsewhere goes whole n c w v away inside few apart beside = record {
   each = λ i l shown.
       let cw = character_width c in
-      let q = dot_number cw c.crtc.beam + i in
-      let there : at_dot c i ≡ placed c.crtc (q / cw) (q % cw) = in_line_dot elsewhere goes whole n c away inside few i l in
-      subst (λ (x : CrtcState). IsSeenAlike c.host x c.attr (memory_after_put c.host w v)) (sym there)
-      (seen_alike c.host (placed c.crtc (q / cw) (q % cw)) c.attr w v
+      let q = dot_number_in_line cw c.crtc.beam + i in
+      let there : crtc_at_dot c i ≡ with_beam_at c.crtc (q / cw) (q % cw) = in_line_dot elsewhere goes whole n c away inside few i l in
+      subst (λ (x : CrtcState). DotSeesSameBytes c.host x c.attr (memory_after_put c.host w v)) (sym there)
+      (seen_alike c.host (with_beam_at c.crtc (q / cw) (q % cw)) c.attr w v
       (apart c.host c.attr (q / cw) (q % cw)
-      (is_shown_at c.crtc.registers (placed c.crtc (q / cw) (q % cw)).beam (ap (λ (x : CrtcState). is_display x.registers x.beam) (sym there) ∙ shown)))
+      (is_shown_at c.crtc.registers (with_beam_at c.crtc (q / cw) (q % cw)).beam (ap (λ (x : CrtcState). is_display x.registers x.beam) (sym there) ∙ shown)))
       beside);
 }
 
@@ -235,7 +235,7 @@ latched_dot h c a d latches = refl
 
 latches_dot : (c : CardState) (latches : Four ℕ) → dot (with_latches c latches) ≡ with_latches (dot c) latches
 unfolding dot
-latches_dot c latches = ap (λ (x : List Dot). record (with_latches c latches) { crtc = after_dot c.crtc (character_width c); drawn = fresh c ++ x })
+latches_dot c latches = ap (λ (x : List Dot). record (with_latches c latches) { crtc = after_dot c.crtc (character_width c); drawn = dots_of_frame_so_far c ++ x })
     (latched_dot c.host (after_start c.crtc) c.attr c.dac latches)
 
 latches_dots : (n : ℕ) (c : CardState) (latches : Four ℕ) → dots n (with_latches c latches) ≡ with_latches (dots n c) latches
@@ -244,8 +244,8 @@ latches_dots zero c latches = refl
 latches_dots (suc n) c latches = ap (dots n) (latches_dot c latches) ∙ latches_dots n (dot c) latches
 
 pub read_later : (decoded : Bool) (n : ℕ) (c : CardState) (latches : Four ℕ) (v : ℕ) →
-    answered (dots n c) (where_decoded decoded (around (dots n c) (record c.host { latches = latches }), v))
-    ≡ (let now = answered c (where_decoded decoded (around c (record c.host { latches = latches }), v)) in let later : Answered = (dots n now.0, now.1) in later)
+    card_after_read (dots n c) (if_decoded decoded (around (dots n c) (record c.host { latches = latches }), v))
+    ≡ (let now = card_after_read c (if_decoded decoded (around c (record c.host { latches = latches }), v)) in let later : ReadResult = (dots n now.0, now.1) in later)
 read_later false n c latches v = refl
 read_later true n c latches v =
     ap (λ (x : CardState). (x, Ok v))
@@ -254,6 +254,6 @@ read_later true n c latches v =
 pub get_does_not_wait : (n : ℕ) (c : CardState) (address : ℕ) → get_cycle (dots n c) address ≡ (dots n (get_cycle c address).0, (get_cycle c address).1)
 get_does_not_wait n c address =
     let d = dots n c in
-    ap (λ (h : HostState). answered d (where_decoded (is_decoded h d.misc address) (around d (after_get h address), read_byte h address))) (dots_host n c)
-    ∙ ap (λ (m : ℕ). answered d (where_decoded (is_decoded c.host m address) (around d (after_get c.host address), read_byte c.host address))) (dots_misc n c)
+    ap (λ (h : HostState). card_after_read d (if_decoded (is_decoded h d.misc address) (around d (after_get h address), read_byte h address))) (dots_host n c)
+    ∙ ap (λ (m : ℕ). card_after_read d (if_decoded (is_decoded c.host m address) (around d (after_get c.host address), read_byte c.host address))) (dots_misc n c)
     ∙ read_later (is_decoded c.host c.misc address) n c (after_get c.host address).latches (read_byte c.host address)

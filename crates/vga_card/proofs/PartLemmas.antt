@@ -12,18 +12,18 @@ use Rattle.vga_crtc.specs.declared.beam.Beam.{Beam}
 use Rattle.vga_crtc.specs.Crtc.{CrtcState}
 use Rattle.vga_crtc.specs.Status.{is_display}
 use Rattle.vga_crtc.specs.Fields.{horizontal_display_end, vertical_display_end}
-use Rattle.vga_crtc.specs.Beam.{is_first_dot, characters, started, after_start, after_dots, dots as beam_dots}
-use Rattle.vga_crtc.specs.Raster.{dots_in_line, in_line, line_dots as line_length, dot_number, IsInLine, LineEnds}
+use Rattle.vga_crtc.specs.Beam.{is_first_dot, characters, with_frame_start_taken, after_start, after_dots, dots as beam_dots}
+use Rattle.vga_crtc.specs.Raster.{dots_in_line, beam_at_dot_of_line, dots_per_line as line_length, dot_number_in_line, IsWithinItsLine, LineEnds}
 use Rattle.vga_dots.specs.Colour.{dot_colour}
 use Rattle.vga_dots.specs.Display.{DisplayState}
-use Rattle.vga_dots.specs.Line.{placed_at, shown_characters, IsPartDrawn}
-use Rattle.vga_card.specs.Picture.{Dot, widest}
-use Rattle.vga_card.specs.Canvas.{CanvasState, dots_from, width_more}
+use Rattle.vga_dots.specs.Line.{with_beam_at_dot_of_line, shown_characters, IsPartDrawn}
+use Rattle.vga_card.specs.Picture.{Dot, most_dots_of_a_line}
+use Rattle.vga_card.specs.Canvas.{CanvasState, dots_of_bytes, width_with_dots}
 use Rattle.vga_card.specs.Card.{CardState}
-use Rattle.vga_card.specs.Dots.{character_width, fresh, display_dot, dots}
-use Rattle.vga_card.specs.Frames.{collect, display_dot_at}
-use Rattle.vga_card.specs.Line.{started_display, part_dots, line_count, IsPartAppended}
-use Rattle.vga_card.specs.Valid.{fresh_count, IsDrawnTo}
+use Rattle.vga_card.specs.Dots.{character_width, dots_of_frame_so_far, display_dot, dots}
+use Rattle.vga_card.specs.Frames.{concatenated_dots, display_dot_at}
+use Rattle.vga_card.specs.Line.{started_display, displayed_part_dots, dots_to_next_line, IsPartAppended}
+use Rattle.vga_card.specs.Valid.{count_unless_frame_start, IsDrawnTo}
 use Rattle.vga_card.proofs.FrameLemmas.{FramesEnd, dots_are_places, dots_keep}
 use Rattle.vga_card.proofs.DotLemmas.{dots_split}
 use Rattle.vga_card.proofs.PlaceLemmas.{StartStays, decided}
@@ -32,11 +32,11 @@ use Rattle.vga_card.proofs.LineLemmas.{DotsBegin, LineMoves, line_moves, few_dot
 
 -- what the CRT controller promises of the dots of a line: where they are, and how many are left
 abbrev pub BeamGoes : Type 0
-BeamGoes = (cw : ℕ) (r : List ℕ) (b : Beam) (n : ℕ) → IsInLine cw r b → dot_number cw b + n < line_length cw r →
-    started r (beam_dots cw r n b) ≡ in_line cw (started r b) (dot_number cw b + n)
+BeamGoes = (cw : ℕ) (r : List ℕ) (b : Beam) (n : ℕ) → IsWithinItsLine cw r b → dot_number_in_line cw b + n < line_length cw r →
+    with_frame_start_taken r (beam_dots cw r n b) ≡ beam_at_dot_of_line cw (with_frame_start_taken r b) (dot_number_in_line cw b + n)
 
 abbrev pub LineWhole : Type 0
-LineWhole = (cw : ℕ) (r : List ℕ) (b : Beam) → IsInLine cw r b → dot_number cw b + dots_in_line cw r b ≡ line_length cw r
+LineWhole = (cw : ℕ) (r : List ℕ) (b : Beam) → IsWithinItsLine cw r b → dot_number_in_line cw b + dots_in_line cw r b ≡ line_length cw r
 
 abbrev pub LinesEnd : Type 0
 LinesEnd = (cw : ℕ) (r : List ℕ) (b : Beam) → 0 < cw → LineEnds cw r b
@@ -45,31 +45,31 @@ LinesEnd = (cw : ℕ) (r : List ℕ) (b : Beam) → 0 < cw → LineEnds cw r b
 
 module _ (d : DisplayState) (cw : ℕ) (wide : cw ≡ host_width d.host) (some : 0 < cw) where
   abbrev number : ℕ
-  number = dot_number cw d.crtc.beam
+  number = dot_number_in_line cw d.crtc.beam
 
   abbrev part_dot : ℕ → List Dot
-  part_dot i = display_dot d.host (placed_at d.crtc cw (number + i)) d.attr d.dac
+  part_dot i = display_dot d.host (with_beam_at_dot_of_line d.crtc cw (number + i)) d.attr d.dac
 
-  by_width : (n : ℕ) → part_dots n d ≡ collect part_dot n
-  unfolding part_dots
-  by_width n = ap (λ w. collect (λ i. display_dot d.host (placed_at d.crtc w (dot_number w d.crtc.beam + i)) d.attr d.dac) n) (sym wide)
+  by_width : (n : ℕ) → displayed_part_dots n d ≡ concatenated_dots part_dot n
+  unfolding displayed_part_dots
+  by_width n = ap (λ w. concatenated_dots (λ i. display_dot d.host (with_beam_at_dot_of_line d.crtc w (dot_number_in_line w d.crtc.beam + i)) d.attr d.dac) n) (sym wide)
 
   -- dots that are displayed are those that are drawn
   pub appended_part : (n v : ℕ) (row old : List ℕ) → d.crtc.beam.line ≤ vertical_display_end d.crtc.registers →
       number + n ≤ shown_characters d.crtc.registers * cw → v ≡ d.crtc.beam.line
-      → IsPartDrawn cw n d old row → 3 * n ≤ length row → dots_from (replicate n v) (take (3 * n) row) ≡ part_dots n d
+      → IsPartDrawn cw n d old row → 3 * n ≤ length row → dots_of_bytes (replicate n v) (take (3 * n) row) ≡ displayed_part_dots n d
   appended_part n v row old in_frame fits line drawn room =
       let r = d.crtc.registers in
       let bytes = take (3 * n) row in
       let long : length bytes ≡ 3 * n = omega (arith, length-take (3 * n) row) in
-      ap (λ (k : ℕ). dots_from (replicate n k) bytes) line ∙ sym (by_width n
+      ap (λ (k : ℕ). dots_of_bytes (replicate n k) bytes) line ∙ sym (by_width n
       ∙ collect_same part_dot (row_dot d.crtc.beam.line bytes) n (λ i l.
       let q = number + i in
       let x = div_below q cw (shown_characters r) some (omega (arith, fits)) in
-      let colour = dot_colour d.host (placed_at d.crtc cw q) d.attr d.dac in
+      let colour = dot_colour d.host (with_beam_at_dot_of_line d.crtc cw q) d.attr d.dac in
       shown_dot d (q / cw) (q % cw) (omega (arith, x)) in_frame
       ∙ ap (λ (q : List ℕ). (record { line = d.crtc.beam.line; colour = q }) ∷ [])
-      (sym (three_are (3 * i) bytes colour (omega (arith, long)) (three_bytes d.host (placed_at d.crtc cw q) d.attr d.dac)
+      (sym (three_are (3 * i) bytes colour (omega (arith, long)) (three_bytes d.host (with_beam_at_dot_of_line d.crtc cw q) d.attr d.dac)
       (λ j lj.
       let z : 3 * i + j ≡ 3 * (0 + i) + j = omega arith in
       get_or-take (3 * n) row (3 * i + j) 0 (omega arith) ∙ ap (slice_index row) z ∙ drawn.inside i j l lj))))
@@ -77,10 +77,10 @@ module _ (d : DisplayState) (cw : ℕ) (wide : cw ≡ host_width d.host) (some :
 
   -- those past the last displayed character add nothing
   pub part_cut : (m n : ℕ) → m ≡ min n (shown_characters d.crtc.registers * cw - number) → number + n ≤ characters d.crtc.registers * cw →
-      part_dots n d ≡ part_dots m d
+      displayed_part_dots n d ≡ displayed_part_dots m d
   part_cut m n e within =
       let whole : m + (n - m) ≡ n = omega (arith, e) in
-      by_width n ∙ ap (collect part_dot) (sym whole) ∙ collect_none part_dot m (n - m) (λ i lo hi.
+      by_width n ∙ ap (concatenated_dots part_dot) (sym whole) ∙ collect_none part_dot m (n - m) (λ i lo hi.
       let q = number + i in
       let past : shown_characters d.crtc.registers * cw ≤ q = omega (arith, e, lo, hi) in
       let x = div_below q cw (characters d.crtc.registers) some (omega (arith, within, lo, hi, e)) in
@@ -96,12 +96,12 @@ module _ (d : DisplayState) (cw : ℕ) (wide : cw ≡ host_width d.host) (some :
       (cases_lt (q / cw) (shown_characters d.crtc.registers)))
       ∙ sym (by_width m)
 
-  none : (n : ℕ) → ((i : ℕ) → i < n → part_dot i ≡ []) → part_dots n d ≡ []
-  none n f = let z : 0 + n ≡ n = omega arith in by_width n ∙ ap (collect part_dot) (sym z) ∙ collect_none part_dot 0 n (λ i lo hi. f i (omega arith))
+  none : (n : ℕ) → ((i : ℕ) → i < n → part_dot i ≡ []) → displayed_part_dots n d ≡ []
+  none n f = let z : 0 + n ≡ n = omega arith in by_width n ∙ ap (concatenated_dots part_dot) (sym z) ∙ collect_none part_dot 0 n (λ i lo hi. f i (omega arith))
 
   -- nor do those where nothing is displayed
   pub hidden_part : (n : ℕ) → (horizontal_display_end d.crtc.registers < d.crtc.beam.character) ⊎ (vertical_display_end d.crtc.registers < d.crtc.beam.line) →
-      part_dots n d ≡ []
+      displayed_part_dots n d ≡ []
   hidden_part n past = none n (λ i l.
       let q = number + i in
       ⊎_elim
@@ -148,7 +148,7 @@ same_line : (x y : ℕ) → (x == y) ≡ true → x ≡ y
 same_line x y e = grind (arith, nat_tests)
 
 pub drawn_part : (b : Beam) (old new : CanvasState) (n count : ℕ) → IsDrawnTo b 0 old.line old.width → count ≤ n → 9 * b.character + b.dot + count ≤ 2304 →
-    new.line ≡ b.line → new.width ≡ width_more old b.line count → IsDrawnTo b n new.line new.width
+    new.line ≡ b.line → new.width ≡ width_with_dots old b.line count → IsDrawnTo b n new.line new.width
 drawn_part b old new n count is few fits line width =
     let most = width_if b (b.line == old.line) old.width count (λ e. omega (arith, is.few (sym (same_line b.line old.line e)))) in
     record {
@@ -169,9 +169,9 @@ passed cw x k n y t few le e =
 
 module _ (stays : StartStays) (begin : DotsBegin) (goes : BeamGoes) (whole : LineWhole) (ends : LinesEnd) (leads : LineMoves) where
   -- the beam has passed the dots that are drawn
-  pub part_moves : (cw n : ℕ) (old new : CrtcState) (line width : ℕ) → (cw ≡ 8) ⊎ (cw ≡ 9) → IsInLine cw old.registers old.beam →
+  pub part_moves : (cw n : ℕ) (old new : CrtcState) (line width : ℕ) → (cw ≡ 8) ⊎ (cw ≡ 9) → IsWithinItsLine cw old.registers old.beam →
       n ≤ dots_in_line cw old.registers old.beam → new ≡ after_dots old cw n
-      → IsDrawnTo old.beam n line width → IsDrawnTo new.beam 0 (fresh_count new.beam line) (fresh_count new.beam width)
+      → IsDrawnTo old.beam n line width → IsDrawnTo new.beam 0 (count_unless_frame_start new.beam line) (count_unless_frame_start new.beam width)
   unfolding after_dots
   part_moves cw n old new line width which inside few by_dots is =
       let r = old.registers in
@@ -181,10 +181,10 @@ module _ (stays : StartStays) (begin : DotsBegin) (goes : BeamGoes) (whole : Lin
       let some : 0 < cw = ⊎_elim (λ (e : cw ≡ 8). omega (arith, e)) (λ (e : cw ≡ 9). omega (arith, e)) which in
       let at : m ≡ beam_dots cw r n b = ap (λ (x : CrtcState). x.beam) by_dots in
       let all = whole cw r b inside in
-      let q = dot_number cw b + n in
+      let q = dot_number_in_line cw b + n in
       ⊎_elim
       (λ (l : q < line_length cw r).
-      let there : started r m ≡ in_line cw (started r b) q = ap (started r) at ∙ goes cw r b n inside l in
+      let there : with_frame_start_taken r m ≡ beam_at_dot_of_line cw (with_frame_start_taken r b) q = ap (with_frame_start_taken r) at ∙ goes cw r b n inside l in
       let before = stays r b in
       let after = stays r m in
       let line_at : m.line ≡ b.line = sym after.line ∙ ap (λ (x : Beam). x.line) there ∙ before.line in
@@ -211,35 +211,35 @@ module _ (stays : StartStays) (begin : DotsBegin) (goes : BeamGoes) (whole : Lin
 
 module _ (stays : StartStays) (begin : DotsBegin) (goes : BeamGoes) (whole : LineWhole) (frames : FramesEnd) where
   -- the display dots of a part, one place after another
-  part_places : (n : ℕ) (c : CardState) → IsInLine (character_width c) c.crtc.registers c.crtc.beam → n ≤ line_count c →
-      collect (display_dot_at c) n ≡ part_dots n (started_display c)
-  unfolding part_dots after_start after_dots
+  part_places : (n : ℕ) (c : CardState) → IsWithinItsLine (character_width c) c.crtc.registers c.crtc.beam → n ≤ dots_to_next_line c →
+      concatenated_dots (display_dot_at c) n ≡ displayed_part_dots n (started_display c)
+  unfolding displayed_part_dots after_start after_dots
   part_places n c inside few =
       let w = character_width c in
       let r = c.crtc.registers in
       let b = c.crtc.beam in
       let place = stays r b in
-      let same : dot_number w (started r b) ≡ dot_number w b = ap (λ x. x * w + (started r b).dot) place.character ∙ ap (λ k. b.character * w + k) place.dot in
+      let same : dot_number_in_line w (with_frame_start_taken r b) ≡ dot_number_in_line w b = ap (λ x. x * w + (with_frame_start_taken r b).dot) place.character ∙ ap (λ k. b.character * w + k) place.dot in
       let all = whole w r b inside in
-      collect_same (display_dot_at c) (λ i. display_dot c.host (placed_at (after_start c.crtc) w (dot_number w (started r b) + i)) c.attr c.dac) n
+      collect_same (display_dot_at c) (λ i. display_dot c.host (with_beam_at_dot_of_line (after_start c.crtc) w (dot_number_in_line w (with_frame_start_taken r b) + i)) c.attr c.dac) n
       (λ i l. ap (λ (x : Beam). display_dot c.host (record c.crtc { beam = x }) c.attr c.dac) (goes w r b i inside (omega (arith, all, few)))
-      ∙ ap (λ q. display_dot c.host (placed_at (after_start c.crtc) w (q + i)) c.attr c.dac) (sym same))
+      ∙ ap (λ q. display_dot c.host (with_beam_at_dot_of_line (after_start c.crtc) w (q + i)) c.attr c.dac) (sym same))
 
   same_beam : (cw n : ℕ) (c new : CrtcState) → 0 < n → new ≡ after_dots (after_start c) cw n → new ≡ after_dots c cw n
   unfolding after_start after_dots
   same_beam cw n c new some e = e ∙ ap (λ (b : Beam). record c { beam = b }) (sym (begin cw c.registers n c.beam some))
 
   -- a part of a line, from the parts that it changes
-  pub part_is : (n : ℕ) (c : CardState) (crtc : CrtcState) (drawn : List Dot) → 0 < n → IsInLine (character_width c) c.crtc.registers c.crtc.beam →
-      n ≤ line_count c → crtc ≡ after_dots (after_start c.crtc) (character_width c) n
-      → drawn ≡ fresh c ++ part_dots n (started_display c) → record c { crtc = crtc; drawn = drawn } ≡ dots n c
+  pub part_is : (n : ℕ) (c : CardState) (crtc : CrtcState) (drawn : List Dot) → 0 < n → IsWithinItsLine (character_width c) c.crtc.registers c.crtc.beam →
+      n ≤ dots_to_next_line c → crtc ≡ after_dots (after_start c.crtc) (character_width c) n
+      → drawn ≡ dots_of_frame_so_far c ++ displayed_part_dots n (started_display c) → record c { crtc = crtc; drawn = drawn } ≡ dots n c
   part_is n c crtc drawn some inside few moves draws =
       ap (λ (x : CrtcState). record c { crtc = x; drawn = drawn }) (same_beam (character_width c) n c.crtc crtc some moves)
       ∙ ap (λ (x : List Dot). record c { crtc = after_dots c.crtc (character_width c) n; drawn = x })
-      (draws ∙ ap (λ x. fresh c ++ x) (sym (part_places n c inside few)) ∙ sym (dots_are_places frames c n some (omega (arith, few, (few_dots c).1))))
+      (draws ∙ ap (λ x. dots_of_frame_so_far c ++ x) (sym (part_places n c inside few)) ∙ sym (dots_are_places frames c n some (omega (arith, few, (few_dots c).1))))
       ∙ sym (dots_keep n c)
 
-pub inside_started : StartStays → (cw : ℕ) (c : CrtcState) → IsInLine cw c.registers c.beam → IsInLine cw (after_start c).registers (after_start c).beam
+pub inside_started : StartStays → (cw : ℕ) (c : CrtcState) → IsWithinItsLine cw c.registers c.beam → IsWithinItsLine cw (after_start c).registers (after_start c).beam
 unfolding after_start
 inside_started stays cw c inside =
     let place = stays c.registers c.beam in
@@ -289,7 +289,7 @@ is_hidden_by r b h = ⊎_elim
 
 -- the dots that are displayed fit the line
 pub count_fits : (h : HostState) (c : CrtcState) (n count : ℕ) → count ≡ min n (shown_characters c.registers * host_width h
-    - dot_number (host_width h) c.beam) → IsInLine (host_width h) c.registers c.beam
+    - dot_number_in_line (host_width h) c.beam) → IsWithinItsLine (host_width h) c.registers c.beam
     → c.beam.character ≤ horizontal_display_end c.registers → c.beam.character < 256 → shown_characters c.registers ≤ 256 →
     9 * c.beam.character + c.beam.dot + count ≤ 2304
 count_fits h c n count e inside shown few most =
@@ -300,7 +300,7 @@ count_fits h c n count e inside shown few most =
     part_fits w c.beam.character c.beam.dot count all (widths h) few most (omega (arith, e, room, inside.dot))
 
 pub room_for_part : (b : Beam) (line width count : ℕ) → IsDrawnTo b 0 line width → 9 * b.character + b.dot + count ≤ 2304 → b.line ≡ line →
-    width + count ≤ widest
+    width + count ≤ most_dots_of_a_line
 room_for_part b line width count is fits same = omega (arith, is.few (sym same), fits)
 
 -- ---- the dots that are left

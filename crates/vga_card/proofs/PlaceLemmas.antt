@@ -6,15 +6,15 @@ use Rattle.vga_bits.specs.declared.refusal.Refusal.{Refusal}
 use Rattle.vga_bits.specs.declared.refusal.Refusal.TheVariants.{NotInProfile}
 use Rattle.vga_crtc.specs.declared.beam.Beam.{Beam}
 use Rattle.vga_crtc.specs.Crtc.{CrtcState}
-use Rattle.vga_crtc.specs.Beam.{is_first_dot, started, dot, after_start, after_dot}
+use Rattle.vga_crtc.specs.Beam.{is_first_dot, with_frame_start_taken, dot, after_start, after_dot}
 use Rattle.vga_crtc.specs.Ports.{after_out}
 use Rattle.vga_crtc.proofs.Ports.{out_beam}
-use Rattle.vga_crtc.specs.Raster.{IsSamePlace, IsFrameStart, IsNextDot, IsNextCharacter, IsNextLine, IsNextPlace}
-use Rattle.vga_card.specs.Valid.{fresh_count, IsDrawnTo}
+use Rattle.vga_crtc.specs.Raster.{AreAtSamePlace, IsFrameStart, IsNextDot, IsNextCharacter, IsNextLine, IsNextPlace}
+use Rattle.vga_card.specs.Valid.{count_unless_frame_start, IsDrawnTo}
 
 -- what the CRT controller promises: taking the start of a frame does not move the beam, and where one dot leads
 abbrev pub StartStays : Type 0
-StartStays = (r : List ℕ) (b : Beam) → IsSamePlace b (started r b)
+StartStays = (r : List ℕ) (b : Beam) → AreAtSamePlace b (with_frame_start_taken r b)
 
 abbrev pub DotMoves : Type 0
 DotMoves = (cw : ℕ) (r : List ℕ) (b : Beam) → IsNextPlace cw r b (dot cw r b)
@@ -64,7 +64,7 @@ drawn_moves cw r b m line width within next is away =
     next
 
 pub card_moves : StartStays → DotMoves → (crtc : CrtcState) (cw line width : ℕ) → crtc.beam.dot < 9 → IsDrawnTo (after_start crtc).beam 1 line width →
-    IsDrawnTo (after_dot crtc cw).beam 0 (fresh_count (after_dot crtc cw).beam line) (fresh_count (after_dot crtc cw).beam width)
+    IsDrawnTo (after_dot crtc cw).beam 0 (count_unless_frame_start (after_dot crtc cw).beam line) (count_unless_frame_start (after_dot crtc cw).beam width)
 unfolding after_dot
 card_moves stays moves crtc cw line width within is =
     let r = crtc.registers in

@@ -19,14 +19,14 @@ use Rattle.vga_attr.specs.Attr.{AttrState}
 use Rattle.vga_dac.specs.Dac.{DacState}
 use Rattle.vga_dots.specs.Colour.{dot_colour}
 use Rattle.vga_dots.specs.Display.{DisplayState}
-use Rattle.vga_dots.specs.Line.{placed, shown_characters}
-use Rattle.vga_dots.specs.Repeat.{IsSameFetch}
+use Rattle.vga_dots.specs.Line.{with_beam_at, shown_characters}
+use Rattle.vga_dots.specs.Repeat.{BeginAtSameFetch}
 use Rattle.vga_card.specs.Picture.{Dot}
-use Rattle.vga_card.specs.Canvas.{dots_from}
-use Rattle.vga_card.specs.Dots.{display_dot, fresh_dots}
-use Rattle.vga_card.specs.Frames.{collect}
-use Rattle.vga_card.specs.Line.{line_dots}
-use Rattle.vga_card.specs.Repeat.{on_line, last_on_line, with_beam, EndsWithLine, ShowsAgain}
+use Rattle.vga_card.specs.Canvas.{dots_of_bytes}
+use Rattle.vga_card.specs.Dots.{display_dot, dots_unless_frame_start}
+use Rattle.vga_card.specs.Frames.{concatenated_dots}
+use Rattle.vga_card.specs.Line.{displayed_line_dots}
+use Rattle.vga_card.specs.Repeat.{dot_on_line, last_dots_on_line, with_beam, EndsWithLine, ShowsLineAgain}
 use Rattle.vga_card.proofs.CanvasLemmas.{length-dots_from}
 use Rattle.vga_card.proofs.FrameLemmas.{wide}
 use Rattle.vga_card.proofs.PlaceLemmas.{StartStays}
@@ -35,74 +35,74 @@ use Rattle.vga_card.proofs.RowLemmas.{collect_same, shown_dot, hidden_dot, shown
 -- ---- dots in a buffer
 
 -- to drop m dots is to drop their lines, and three bytes for each
-dropped_dots : (m : ℕ) (vs bs : List ℕ) → drop m (dots_from vs bs) ≡ dots_from (drop m vs) (drop (3 * m) bs)
-unfolding dots_from
+dropped_dots : (m : ℕ) (vs bs : List ℕ) → drop m (dots_of_bytes vs bs) ≡ dots_of_bytes (drop m vs) (drop (3 * m) bs)
+unfolding dots_of_bytes
 dropped_dots zero vs bs = refl
 dropped_dots (suc m) [] bs = refl
 dropped_dots (suc m) (v ∷ vs) bs =
     let z : 3 + 3 * m ≡ 3 * suc m = omega arith in
-    dropped_dots m vs (drop 3 bs) ∙ ap (dots_from (drop m vs)) (drop-drop (3 * m) 3 bs ∙ ap (λ (n : ℕ). drop n bs) z)
+    dropped_dots m vs (drop 3 bs) ∙ ap (dots_of_bytes (drop m vs)) (drop-drop (3 * m) 3 bs ∙ ap (λ (n : ℕ). drop n bs) z)
 
 -- dots on another line have the same bytes
-dots_on_line : (v : ℕ) (us bs : List ℕ) → map (on_line v) (dots_from us bs) ≡ dots_from (replicate (length us) v) bs
-unfolding dots_from
+dots_on_line : (v : ℕ) (us bs : List ℕ) → map (dot_on_line v) (dots_of_bytes us bs) ≡ dots_of_bytes (replicate (length us) v) bs
+unfolding dots_of_bytes
 dots_on_line v [] bs = refl
 dots_on_line v (u ∷ us) bs = ap (λ (x : List Dot). record { line = v; colour = take 3 bs } ∷ x) (dots_on_line v us (drop 3 bs))
 
 -- the last bytes are those of the last dots
 pub last_dots : (vs bs : List ℕ) (v n used : ℕ) → used ≡ 3 * length vs → n ≤ length vs →
-    dots_from (replicate n v) (drop (used - 3 * n) bs) ≡ last_on_line v n (dots_from vs bs)
+    dots_of_bytes (replicate n v) (drop (used - 3 * n) bs) ≡ last_dots_on_line v n (dots_of_bytes vs bs)
 last_dots vs bs v n used e l =
     let m = length vs - n in
     let count : length (drop m vs) ≡ n = omega (arith, length-drop m vs, l) in
     let bytes : used - 3 * n ≡ 3 * m = omega (arith, e, l) in
-    ap (λ (k : ℕ). dots_from (replicate n v) (drop k bs)) bytes
-    ∙ ap (λ (k : ℕ). dots_from (replicate k v) (drop (3 * m) bs)) (sym count)
+    ap (λ (k : ℕ). dots_of_bytes (replicate n v) (drop k bs)) bytes
+    ∙ ap (λ (k : ℕ). dots_of_bytes (replicate k v) (drop (3 * m) bs)) (sym count)
     ∙ sym (dots_on_line v (drop m vs) (drop (3 * m) bs))
-    ∙ ap (map (on_line v)) (sym (dropped_dots m vs bs) ∙ ap (λ (k : ℕ). drop (k - n) (dots_from vs bs)) (sym (length-dots_from vs bs)))
+    ∙ ap (map (dot_on_line v)) (sym (dropped_dots m vs bs) ∙ ap (λ (k : ℕ). drop (k - n) (dots_of_bytes vs bs)) (sym (length-dots_from vs bs)))
 
 -- ---- a line that shows what another showed
 
 -- what `vga_dots` promises of lines in graphics
 abbrev pub LinesRepeat : Type 0
-LinesRepeat = (h : HostState) (c : CrtcState) (b : Beam) (a : AttrState) (d : DacState) (x k : ℕ) → is_graphics h ≡ true → IsSameFetch b c.beam →
-    dot_colour h (placed (record c { beam = b }) x k) a d ≡ dot_colour h (placed c x k) a d
+LinesRepeat = (h : HostState) (c : CrtcState) (b : Beam) (a : AttrState) (d : DacState) (x k : ℕ) → is_graphics h ≡ true → BeginAtSameFetch b c.beam →
+    dot_colour h (with_beam_at (record c { beam = b }) x k) a d ≡ dot_colour h (with_beam_at c x k) a d
 
-map_collect : (g : Dot → Dot) (f : ℕ → List Dot) (n : ℕ) → map g (collect f n) ≡ collect (λ i. map g (f i)) n
+map_collect : (g : Dot → Dot) (f : ℕ → List Dot) (n : ℕ) → map g (concatenated_dots f n) ≡ concatenated_dots (λ i. map g (f i)) n
 map_collect g f zero = refl
-map_collect g f (suc n) = map-append g (collect f n) (f n) ∙ ap (λ (x : List Dot). x ++ map g (f n)) (map_collect g f n)
+map_collect g f (suc n) = map-append g (concatenated_dots f n) (f n) ∙ ap (λ (x : List Dot). x ++ map g (f n)) (map_collect g f n)
 
-length_singles : (f : ℕ → List Dot) (n : ℕ) → ((i : ℕ) → i < n → length (f i) ≡ 1) → length (collect f n) ≡ n
+length_singles : (f : ℕ → List Dot) (n : ℕ) → ((i : ℕ) → i < n → length (f i) ≡ 1) → length (concatenated_dots f n) ≡ n
 length_singles f zero h = refl
 length_singles f (suc n) h =
-    omega (arith, length-append (collect f n) (f n), length_singles f n (λ i l. h i (omega arith)), h n (omega arith))
+    omega (arith, length-append (concatenated_dots f n) (f n), length_singles f n (λ i l. h i (omega arith)), h n (omega arith))
 
-module _ (repeat : LinesRepeat) (d : DisplayState) (b : Beam) (again : ShowsAgain d b) (shown : d.crtc.beam.line ≤ vertical_display_end d.crtc.registers) where
+module _ (repeat : LinesRepeat) (d : DisplayState) (b : Beam) (again : ShowsLineAgain d b) (shown : d.crtc.beam.line ≤ vertical_display_end d.crtc.registers) where
   abbrev w : ℕ
   w = host_width d.host
 
   -- the same dot of the line before
-  same_dot : (x k : ℕ) → display_dot d.host (placed d.crtc x k) d.attr d.dac
-      ≡ map (on_line d.crtc.beam.line) (display_dot d.host (placed (with_beam d b).crtc x k) d.attr d.dac)
+  same_dot : (x k : ℕ) → display_dot d.host (with_beam_at d.crtc x k) d.attr d.dac
+      ≡ map (dot_on_line d.crtc.beam.line) (display_dot d.host (with_beam_at (with_beam d b).crtc x k) d.attr d.dac)
   same_dot x k =
       let v = d.crtc.beam.line in
       let before : b.line ≤ vertical_display_end d.crtc.registers = omega (arith, again.later, shown) in
       ⊎_elim
-      (λ (past : horizontal_display_end d.crtc.registers < x). hidden_dot d x k past ∙ sym (ap (map (on_line v)) (hidden_dot (with_beam d b) x k past)))
+      (λ (past : horizontal_display_end d.crtc.registers < x). hidden_dot d x k past ∙ sym (ap (map (dot_on_line v)) (hidden_dot (with_beam d b) x k past)))
       (λ (inside : x ≤ horizontal_display_end d.crtc.registers). shown_dot d x k inside shown
       ∙ ap (λ (c : List ℕ). record { line = v; colour = c } ∷ []) (sym (repeat d.host d.crtc b d.attr d.dac x k again.graphics again.fetch))
-      ∙ sym (ap (map (on_line v)) (shown_dot (with_beam d b) x k inside before)))
+      ∙ sym (ap (map (dot_on_line v)) (shown_dot (with_beam d b) x k inside before)))
       (cases_lt (horizontal_display_end d.crtc.registers) x)
 
-  same_line : map (on_line d.crtc.beam.line) (line_dots (with_beam d b)) ≡ line_dots d
-  unfolding line_dots
+  same_line : map (dot_on_line d.crtc.beam.line) (displayed_line_dots (with_beam d b)) ≡ displayed_line_dots d
+  unfolding displayed_line_dots
   same_line =
       let v = d.crtc.beam.line in
       let m = characters d.crtc.registers * w in
-      map_collect (on_line v) (λ i. display_dot d.host (placed (with_beam d b).crtc (i / w) (i % w)) d.attr d.dac) m
+      map_collect (dot_on_line v) (λ i. display_dot d.host (with_beam_at (with_beam d b).crtc (i / w) (i % w)) d.attr d.dac) m
       ∙ collect_same _ _ m (λ i l. sym (same_dot (i / w) (i % w)))
 
-  line_length : length (line_dots (with_beam d b)) ≡ shown_characters d.crtc.registers * w
+  line_length : length (displayed_line_dots (with_beam d b)) ≡ shown_characters d.crtc.registers * w
   line_length =
       let n = shown_characters d.crtc.registers in
       let before : b.line ≤ vertical_display_end d.crtc.registers = omega (arith, again.later, shown) in
@@ -113,13 +113,13 @@ module _ (repeat : LinesRepeat) (d : DisplayState) (b : Beam) (again : ShowsAgai
 
   -- a copy of the line before, which was drawn last
   pub line_again : (dots : List Dot) (n : ℕ) → EndsWithLine d dots b → n ≡ shown_characters d.crtc.registers * w →
-      (n ≤ length dots) × (last_on_line d.crtc.beam.line n dots ≡ line_dots d)
+      (n ≤ length dots) × (last_dots_on_line d.crtc.beam.line n dots ≡ displayed_line_dots d)
   line_again dots n ends count =
-      let line = line_dots (with_beam d b) in
+      let line = displayed_line_dots (with_beam d b) in
       let long = ap length ends.whole ∙ length-append ends.prefix line in
       let before : length dots - n ≡ length ends.prefix = omega (arith, long, line_length, count) in (
         omega (arith, long, line_length, count),
-        ap (map (on_line d.crtc.beam.line)) (ap (λ (k : ℕ). drop k dots) before ∙ ap (drop (length ends.prefix)) ends.whole
+        ap (map (dot_on_line d.crtc.beam.line)) (ap (λ (k : ℕ). drop k dots) before ∙ ap (drop (length ends.prefix)) ends.whole
             ∙ drop-append_seam ends.prefix line)
             ∙ same_line,
       )
@@ -136,7 +136,7 @@ fresh_ends d drawn b false away ends = ends
 
 -- past a frame's first line the dots are still there
 pub still_ends : StartStays → (d : DisplayState) (c : CrtcState) (drawn : List Dot) (b : Beam) → b.line < (after_start c).beam.line → EndsWithLine d drawn b →
-    EndsWithLine d (fresh_dots c.beam drawn) b
+    EndsWithLine d (dots_unless_frame_start c.beam drawn) b
 unfolding after_start
 still_ends stays d c drawn b later =
     let place = stays c.registers c.beam in
@@ -148,10 +148,10 @@ beam_back cw old new line = ap (λ (x : CrtcState). record (after_start x) { bea
 
 -- after a whole line its dots are the last
 pub line_drawn : (cw : ℕ) (h : HostState) (a : AttrState) (dac : DacState) (old new : CrtcState) (prefix drawn : List Dot) (b : Beam) → IsLineTaken cw old new →
-    b ≡ old.beam → drawn ≡ prefix ++ line_dots (record { host = h; crtc = old; attr = a; dac = dac })
+    b ≡ old.beam → drawn ≡ prefix ++ displayed_line_dots (record { host = h; crtc = old; attr = a; dac = dac })
     → EndsWithLine (record { host = h; crtc = after_start new; attr = a; dac = dac }) drawn b
 line_drawn cw h a dac old new prefix drawn b line e draws = record {
   prefix = prefix;
-  whole = draws ∙ ap (λ (x : CrtcState). prefix ++ line_dots (record { host = h; crtc = x; attr = a; dac = dac }))
+  whole = draws ∙ ap (λ (x : CrtcState). prefix ++ displayed_line_dots (record { host = h; crtc = x; attr = a; dac = dac }))
       (sym (ap (λ (y : Beam). record (after_start new) { beam = y }) e ∙ beam_back cw old new line));
 }

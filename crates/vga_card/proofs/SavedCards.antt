@@ -11,7 +11,7 @@ use Rattle.vga_attr.specs.Saved.{saved_attr, IsSavedAttr, attr_from}
 use Rattle.vga_dac.specs.Saved.{saved_dac, IsSavedDac, dac_from}
 use Rattle.vga_card.specs.Picture.{Dot}
 use Rattle.vga_card.specs.Card.{CardState}
-use Rattle.vga_card.specs.Dots.{fresh}
+use Rattle.vga_card.specs.Dots.{dots_of_frame_so_far}
 use Rattle.vga_card.specs.Saved.{saved_dots, saved_dots_from, AreSavedDots, saved_card, past_misc, past_crtc, past_attr, past_dac, past_host, IsSavedCard}
 use Rattle.vga_card.specs.Saved.{card_from}
 use Rattle.vga_card.specs.FreshCanvas.{with_fresh_canvas}
@@ -28,9 +28,9 @@ pub record IsWhole (c : CardState) : Type 0 where
   pub dac_back : dac_from (saved_dac c.dac) ≡ c.dac
   pub host : IsSavedHost (saved_host c.host)
   pub host_back : host_from (saved_host c.host) ≡ c.host
-  pub dots : AreSavedDots c.crtc.beam (saved_dots (fresh c))
-  pub dots_back : saved_dots_from (saved_dots (fresh c)) ≡ fresh c
-  pub dots_len : length (saved_dots (fresh c)) ≡ 2048 + 3 * length (fresh c)
+  pub dots : AreSavedDots c.crtc.beam (saved_dots (dots_of_frame_so_far c))
+  pub dots_back : saved_dots_from (saved_dots (dots_of_frame_so_far c)) ≡ dots_of_frame_so_far c
+  pub dots_len : length (saved_dots (dots_of_frame_so_far c)) ≡ 2048 + 3 * length (dots_of_frame_so_far c)
 
 -- at the first dot of a frame no dots are read back, and elsewhere those that are drawn
 pub fresh_saved : (v : Bool) (b : Beam) (drawn : List Dot) → (v ≡ false → AreSavedDots b (saved_dots drawn))
@@ -50,7 +50,7 @@ fresh_len false drawn len = len
 
 module _ (c : CardState) (is : IsWhole c) where
   abbrev from_host : List ℕ
-  from_host = saved_host c.host ++ saved_dots (fresh c)
+  from_host = saved_host c.host ++ saved_dots (dots_of_frame_so_far c)
 
   abbrev from_dac : List ℕ
   from_dac = saved_dac c.dac ++ from_host
@@ -71,8 +71,8 @@ module _ (c : CardState) (is : IsWhole c) where
   dac_past : past_dac (saved_card c) ≡ from_host
   dac_past = ap (drop 773) attr_past ∙ drop_at (saved_dac c.dac) from_host 773 is.dac.size
 
-  host_past : past_host (saved_card c) ≡ saved_dots (fresh c)
-  host_past = ap (drop 262164) dac_past ∙ drop_at (saved_host c.host) (saved_dots (fresh c)) 262164 is.host.size
+  host_past : past_host (saved_card c) ≡ saved_dots (dots_of_frame_so_far c)
+  host_past = ap (drop 262164) dac_past ∙ drop_at (saved_host c.host) (saved_dots (dots_of_frame_so_far c)) 262164 is.host.size
 
   crtc_are : take 37 (past_misc (saved_card c)) ≡ saved_crtc c.crtc
   crtc_are = ap (take 37) misc_past ∙ take_at (saved_crtc c.crtc) from_attr 37 is.crtc.size
@@ -84,13 +84,13 @@ module _ (c : CardState) (is : IsWhole c) where
   dac_are = ap (take 773) attr_past ∙ take_at (saved_dac c.dac) from_host 773 is.dac.size
 
   host_are : take 262164 (past_dac (saved_card c)) ≡ saved_host c.host
-  host_are = ap (take 262164) dac_past ∙ take_at (saved_host c.host) (saved_dots (fresh c)) 262164 is.host.size
+  host_are = ap (take 262164) dac_past ∙ take_at (saved_host c.host) (saved_dots (dots_of_frame_so_far c)) 262164 is.host.size
 
   misc_is : slice_index (saved_card c) 0 ≡ c.misc
   unfolding saved_card
   misc_is = refl
 
-  pub card_len : length (saved_card c) ≡ 265046 + 3 * length (fresh c)
+  pub card_len : length (saved_card c) ≡ 265046 + 3 * length (dots_of_frame_so_far c)
   unfolding saved_card
   card_len = omega (
     arith,
@@ -102,7 +102,7 @@ module _ (c : CardState) (is : IsWhole c) where
     length-append (saved_crtc c.crtc) from_attr,
     length-append (saved_attr c.attr) from_dac,
     length-append (saved_dac c.dac) from_host,
-    length-append (saved_host c.host) (saved_dots (fresh c)),
+    length-append (saved_host c.host) (saved_dots (dots_of_frame_so_far c)),
   )
 
   beam_is : (crtc_from (take 37 (past_misc (saved_card c)))).beam ≡ c.crtc.beam

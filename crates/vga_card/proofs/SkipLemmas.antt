@@ -6,7 +6,7 @@ use Rattle.vga_card.specs.Picture.{Dot}
 use Rattle.vga_card.specs.Card.{CardState}
 use Rattle.vga_card.specs.Dots.{character_width, dots}
 use Rattle.vga_card.specs.Frames.{frame_count, frame, EndsFirst}
-use Rattle.vga_card.specs.FreshCanvas.{with_fresh_canvas, CannotBeTold}
+use Rattle.vga_card.specs.FreshCanvas.{with_fresh_canvas, FreshCanvasIsUnseen}
 use Rattle.vga_card.proofs.DotLemmas.{dots_split}
 use Rattle.vga_card.proofs.FrameLemmas.{dots_keep}
 
@@ -22,7 +22,7 @@ skipped c moved ends is =
     ∙ sym (ap with_fresh_canvas (dots_keep n c))
 
 -- more dots than the frame's are those after the frame, which do not show whether it was drawn
-pub past_frame : CannotBeTold → (c new : CardState) (left count : ℕ) → count ≡ frame_count c → count < left → new ≡ with_fresh_canvas (frame c) →
+pub past_frame : FreshCanvasIsUnseen → (c new : CardState) (left count : ℕ) → count ≡ frame_count c → count < left → new ≡ with_fresh_canvas (frame c) →
     dots (left - count) new ≡ dots left c
 past_frame told c new left count is past skip =
     ap (dots (left - count)) (skip) ∙ told.dots (left - count) (frame c) (omega arith)

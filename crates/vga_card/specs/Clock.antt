@@ -39,8 +39,8 @@ abbrev pub lines_a_frame : CardState → ℕ
 lines_a_frame c = lines c.crtc.registers
 
 -- the sequencer halves the rate
-abbrev pub is_halved : CardState → Bool
-is_halved c = is_clock_halved c.host
+abbrev pub is_rate_halved : CardState → Bool
+is_rate_halved c = is_clock_halved c.host
 
 -- What a `Clock` contains: the dots to the end of the frame, as `EndsFirst` says; the dots to the
 -- next change of bit 0 of input status 1, the display, and of bit 3, the vertical retrace; the dots
@@ -53,4 +53,4 @@ pub record IsClock (c : CardState) (told : Clock) : Type 0 where
   pub whole : told.frame_dots ≡ told.line_dots * told.lines
   pub lines : told.lines ≡ lines_a_frame c
   pub rate : told.rate ≡ clock_rate c.misc
-  pub halved : told.is_halved ≡ is_halved c
+  pub halved : told.is_halved ≡ is_rate_halved c

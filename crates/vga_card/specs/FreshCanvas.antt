@@ -6,12 +6,12 @@ use Rattle.vga_card.specs.Card.{CardState}
 use Rattle.vga_card.specs.Cycles.{out_cycle, inp_cycle, put_cycle, get_cycle}
 use Rattle.vga_card.specs.WordCycles.{out_word_cycle, inp_word_cycle, put_word_cycle}
 use Rattle.vga_card.specs.WordCycles.{get_word_cycle}
-use Rattle.vga_card.specs.Dots.{fresh, dots}
+use Rattle.vga_card.specs.Dots.{dots_of_frame_so_far, dots}
 use Rattle.vga_card.specs.Frames.{frame}
 
 -- the card with only the dots of the frame under way: none at its first dot
 abbrev pub with_fresh_canvas : CardState → CardState
-with_fresh_canvas c = record c { drawn = fresh c }
+with_fresh_canvas c = record c { drawn = dots_of_frame_so_far c }
 
 -- what a cycle leaves, with a fresh canvas, and what it returns
 abbrev pub fresh_canvas_after : {A : Type 0} → CardState × A → CardState × A
@@ -20,9 +20,9 @@ fresh_canvas_after after = (with_fresh_canvas after.0, after.1)
 -- An adapter with a fresh canvas can never be told from the adapter itself. Past the first dot of a
 -- frame they are equal. A cycle has the same answer on both, and leaves the same state but for the
 -- canvas. One dot or more lead both to the same state, and so does a frame.
-pub record CannotBeTold : Type 0 where
+pub record FreshCanvasIsUnseen : Type 0 where
   pub under_way : (c : CardState) → is_first_dot c.crtc.beam ≡ false → with_fresh_canvas c ≡ c
-  pub fresh : (c : CardState) → fresh (with_fresh_canvas c) ≡ fresh c
+  pub fresh : (c : CardState) → dots_of_frame_so_far (with_fresh_canvas c) ≡ dots_of_frame_so_far c
   pub out : (c : CardState) (port v : ℕ) → out_cycle (with_fresh_canvas c) port v
       ≡ fresh_canvas_after (out_cycle c port v)
   pub inp : (c : CardState) (port : ℕ) → inp_cycle (with_fresh_canvas c) port

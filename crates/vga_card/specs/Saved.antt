@@ -4,17 +4,17 @@ use Rattle.std.specs.Prelude.{ℕ, ◌≡◌, ◌+◌, ◌*◌, ◌≤◌, ◌==
 use Rattle.std.specs.Prelude.{if◌then◌else◌, List, [], ◌∷◌, ◌++◌, length, take, drop, slice_index}
 use Rattle.std.specs.Prelude.{bit_and}
 use Rattle.std.specs.List.{flat_map}
-use Rattle.vga_bits.specs.Saved.{word_bytes, words_in}
+use Rattle.vga_bits.specs.Saved.{word_bytes, first_words}
 use Rattle.vga_host.specs.Saved.{saved_host, IsSavedHost, host_from}
 use Rattle.vga_crtc.specs.declared.beam.Beam.{Beam}
 use Rattle.vga_crtc.specs.Beam.{is_first_dot}
 use Rattle.vga_crtc.specs.Saved.{saved_crtc, IsSavedCrtc, crtc_from}
 use Rattle.vga_attr.specs.Saved.{saved_attr, IsSavedAttr, attr_from}
 use Rattle.vga_dac.specs.Saved.{saved_dac, IsSavedDac, dac_from}
-use Rattle.vga_card.specs.Picture.{Dot, widest, lines_from, bytes_of}
+use Rattle.vga_card.specs.Picture.{Dot, most_dots_of_a_line, lines_by_widths, bytes_of_dots}
 use Rattle.vga_card.specs.Canvas.{stored_dots}
 use Rattle.vga_card.specs.Card.{CardState}
-use Rattle.vga_card.specs.Dots.{fresh}
+use Rattle.vga_card.specs.Dots.{dots_of_frame_so_far}
 use Rattle.vga_card.specs.Lines.{line_widths}
 
 -- ---- the dots drawn
@@ -22,11 +22,11 @@ use Rattle.vga_card.specs.Lines.{line_widths}
 -- the bytes of the dots drawn: a word for each line that counts its dots, and then red, green and
 -- blue of each dot
 unfoldable pub saved_dots : List Dot → List ℕ
-saved_dots dots = flat_map word_bytes (line_widths dots) ++ bytes_of dots
+saved_dots dots = flat_map word_bytes (line_widths dots) ++ bytes_of_dots dots
 
 -- the width of each of the 1,024 lines
-unfoldable pub widths_in : List ℕ → List ℕ
-widths_in bytes = words_in 1024 bytes
+unfoldable pub saved_widths : List ℕ → List ℕ
+saved_widths bytes = first_words 1024 bytes
 
 -- the bytes after the widths
 abbrev pub past_widths : List ℕ → List ℕ
@@ -34,26 +34,26 @@ past_widths bytes = drop 2048 bytes
 
 -- the dots drawn that have these bytes
 unfoldable pub saved_dots_from : List ℕ → List Dot
-saved_dots_from bytes = stored_dots (widths_in bytes) (past_widths bytes)
+saved_dots_from bytes = stored_dots (saved_widths bytes) (past_widths bytes)
 
 -- the most dots that line v can have while the beam is at b: 2,304 on a line before the beam's; on
 -- its own line those before the beam, with nine dots counted for each character, but at most 2,304;
 -- and none on a later line
-abbrev pub most_on : Beam → ℕ → ℕ
-most_on b v =
-    if nat_lt v b.line then widest
-    else if v == b.line then min (9 * b.character + b.dot) widest
+abbrev pub most_dots_on_line : Beam → ℕ → ℕ
+most_dots_on_line b v =
+    if nat_lt v b.line then most_dots_of_a_line
+    else if v == b.line then min (9 * b.character + b.dot) most_dots_of_a_line
     else 0
 
 -- lines of these widths have no more dots than they can have while the beam is at b
-pub record AreFew (b : Beam) (widths : List ℕ) : Type 0 where
-  pub most : (v : ℕ) → slice_index widths v ≤ most_on b v
+pub record AreWidthsInBounds (b : Beam) (widths : List ℕ) : Type 0 where
+  pub most : (v : ℕ) → slice_index widths v ≤ most_dots_on_line b v
 
 -- bytes within the bounds of dots drawn where the beam is at b: no line has more dots than it can,
 -- each dot has three bytes, and at the first dot of a frame there is none
 pub record AreSavedDots (b : Beam) (bytes : List ℕ) : Type 0 where
-  pub few : AreFew b (widths_in bytes)
-  pub counted : length (past_widths bytes) ≡ 3 * length (lines_from 0 (widths_in bytes))
+  pub few : AreWidthsInBounds b (saved_widths bytes)
+  pub counted : length (past_widths bytes) ≡ 3 * length (lines_by_widths 0 (saved_widths bytes))
   pub first : is_first_dot b ≡ true → length (past_widths bytes) ≡ 0
 
 -- ---- the adapter
@@ -61,7 +61,7 @@ pub record AreSavedDots (b : Beam) (bytes : List ℕ) : Type 0 where
 -- the bytes of an adapter
 unfoldable pub saved_card : CardState → List ℕ
 saved_card c = (c.misc ∷ []) ++ (saved_crtc c.crtc ++ (saved_attr c.attr ++ (saved_dac c.dac
-    ++ (saved_host c.host ++ saved_dots (fresh c)))))
+    ++ (saved_host c.host ++ saved_dots (dots_of_frame_so_far c)))))
 
 -- the bytes after the miscellaneous output register
 abbrev pub past_misc : List ℕ → List ℕ

@@ -1,8 +1,8 @@
 //! A bus: it answers cycles of a byte at ports and addresses.
 ghost use Rattle.std.specs.Prelude.{◌≡◌, ◌<◌, ◌+◌, ◌^◌, length, slice_index};
-ghost use Rattle.vga_card.specs.Bus.{Meaning, AtPort, AtAddress, card_meaning, after_puts};
+ghost use Rattle.vga_card.specs.Bus.{BusMeaning, AtPort, AtAddress, card_meaning, after_puts};
 ghost use Rattle.vga_card.specs.Bus.{after_moves};
-ghost use Rattle.vga_host.specs.Memory.Runs.{in_turn};
+ghost use Rattle.vga_host.specs.Memory.Runs.{even_or_odd_byte};
 
 use crate::card::Card;
 use vga_bits::Refusal;
@@ -14,7 +14,7 @@ const REFUSED: u8 = 0xFF;
 /// takes its place.
 pub trait Bus {
     /// What a cycle does to the state, and what it returns.
-    ghost meaning: { Meaning Self };
+    ghost meaning: { BusMeaning Self };
 
     /// Writes a byte to a port. It fails where the bus refuses the cycle.
     fn out(&mut self, port: u16, value: u8) -> Result<(), Refusal>
@@ -35,7 +35,7 @@ pub trait Bus {
     /// Writes two bytes in turn to n addresses from the first on. A refused write does nothing.
     fn put_in_turn(&mut self, first: u32, n: u32, even: u8, odd: u8)
         requires { first + n < 2 ^ 32 }
-        ensures { self.new ≡ after_puts meaning first (in_turn even odd) n 0 self.old }
+        ensures { self.new ≡ after_puts meaning first (even_or_odd_byte even odd) n 0 self.old }
     {
         for i in 0..n {
             let byte = if i % 2 == 0 { even } else { odd };

@@ -5,12 +5,15 @@ ghost use Rattle.std.specs.Prelude.{IfOk, IfSome, IsOkUnless};
 ghost use Rattle.vga_bits.specs.Bytes.{zeros};
 ghost use Rattle.vga_host.specs.Sequencer.{character_width};
 ghost use Rattle.vga_crtc.specs.Fields.{vertical_display_end};
-ghost use Rattle.vga_crtc.specs.Raster.{dot_number};
+ghost use Rattle.vga_crtc.specs.Raster.{dot_number_in_line};
 ghost use Rattle.vga_dots.specs.Line.{shown_characters, IsLineDrawn, IsPartDrawn};
-ghost use Rattle.vga_card.specs.Picture.{Dot, widest, highest, bytes_of, shape, rows, IsPictureOf};
-ghost use Rattle.vga_card.specs.Frames.{IsSmall};
-ghost use Rattle.vga_card.specs.Canvas.{IsSmallShape, blank_canvas, width_with, width_more};
-ghost use Rattle.vga_card.specs.Line.{line_dots, part_dots, IsLineAppended, IsPartAppended};
+ghost use Rattle.vga_card.specs.Picture.{Dot, most_dots_of_a_line, most_lines_of_a_frame};
+ghost use Rattle.vga_card.specs.Picture.{bytes_of_dots, picture_shape, row_count, IsPictureOf};
+ghost use Rattle.vga_card.specs.Frames.{IsPictureInBounds};
+ghost use Rattle.vga_card.specs.Canvas.{IsShapeInBounds, blank_canvas, width_with_dot};
+ghost use Rattle.vga_card.specs.Canvas.{width_with_dots};
+ghost use Rattle.vga_card.specs.Line.{displayed_line_dots, displayed_part_dots, IsLineAppended};
+ghost use Rattle.vga_card.specs.Line.{IsPartAppended};
 ghost use Rattle.vga_card.specs.Lines.{line_widths, IsLinesOf};
 
 mod repeated;
@@ -108,7 +111,7 @@ fn push_colour(buffer: &mut Vec<u8>, colour: [u8; 3])
 }
 
 /// Lengthens a buffer to at least `len` bytes. It has memory for them.
-fn lengthen(buffer: &mut Vec<u8>, len: usize)
+fn lengthen_buffer(buffer: &mut Vec<u8>, len: usize)
     requires { len ≤ vec_capacity buffer.old }
     ensures prefix { take (length buffer.old.items) buffer.new.items ≡ buffer.old.items }
     ensures len { len ≤ length buffer.new.items }
@@ -123,7 +126,7 @@ fn lengthen(buffer: &mut Vec<u8>, len: usize)
 }
 
 /// Writes the displayed dots of the beam's line, three bytes each, over the bytes from `at` on.
-fn draw_at<const CW: usize>(display: &Display<'_>, bytes: &mut [u8], at: usize)
+fn draw_line_at<const CW: usize>(display: &Display<'_>, bytes: &mut [u8], at: usize)
     requires width { CW ≡ character_width display.now.host }
     requires room { at + 3 * (shown_characters display.now.crtc.registers * CW) ≤ length bytes.old }
     ensures prefix { take at bytes.new ≡ take at bytes.old }
@@ -157,8 +160,8 @@ fn append_line<const CW: usize>(
     ensures len { used + len ≤ length buffer.new.items }
     ensures capacity { vec_capacity buffer.old ≤ vec_capacity buffer.new }
 {
-    lengthen(buffer, used + len);
-    draw_at::<CW>(display, buffer.as_mut_slice(), used);
+    lengthen_buffer(buffer, used + len);
+    draw_line_at::<CW>(display, buffer.as_mut_slice(), used);
 }
 
 /// Writes the next `count` dots of the beam's line, three bytes each, from the beam's dot on, over
@@ -190,7 +193,7 @@ fn append_part<const CW: usize>(
     ensures len { used + 3 * count ≤ length buffer.new.items }
     ensures capacity { vec_capacity buffer.old ≤ vec_capacity buffer.new }
 {
-    lengthen(buffer, used + 3 * count);
+    lengthen_buffer(buffer, used + 3 * count);
     draw_part_at::<CW>(display, count, buffer.as_mut_slice(), used);
 }
 
@@ -214,13 +217,13 @@ impl Canvas {
     /// Adds a dot, in red, green and blue, to the last line or to one after it. A line is below
     /// 1,024 and has at most 2,304 dots.
     pub(crate) fn add(&mut self, line: u16, colour: [u8; 3])
-        requires lines { line < highest }
+        requires lines { line < most_lines_of_a_frame }
         requires after { self.old.line ≤ line }
-        requires room { line ≡ self.old.line → self.old.width < widest }
+        requires room { line ≡ self.old.line → self.old.width < most_dots_of_a_line }
         ensures dots { self.new.dots ≡ self.old.dots
             ++ (record { line = line; colour = colour }) ∷ [] }
         ensures line { self.new.line ≡ line }
-        ensures width { self.new.width ≡ width_with self.old line }
+        ensures width { self.new.width ≡ width_with_dot self.old line }
     {
         self.buffer.truncate(self.used);
         push_colour(&mut self.buffer, colour);
@@ -237,12 +240,12 @@ impl Canvas {
         requires count { count ≡ shown_characters display.now.crtc.registers }
         requires shown { display.now.crtc.beam.line
             ≤ vertical_display_end display.now.crtc.registers }
-        requires lines { display.now.crtc.beam.line < highest }
+        requires lines { display.now.crtc.beam.line < most_lines_of_a_frame }
         requires after { self.old.line ≤ display.now.crtc.beam.line }
-        requires few { count * CW ≤ widest }
+        requires few { count * CW ≤ most_dots_of_a_line }
         requires room { display.now.crtc.beam.line ≡ self.old.line →
-            self.old.width + count * CW ≤ widest }
-        ensures dots { self.new.dots ≡ self.old.dots ++ line_dots display.now }
+            self.old.width + count * CW ≤ most_dots_of_a_line }
+        ensures dots { self.new.dots ≡ self.old.dots ++ displayed_line_dots display.now }
         ensures line { self.new.line ≡ display.now.crtc.beam.line }
     {
         let line = display.beam().line;
@@ -261,15 +264,15 @@ impl Canvas {
         requires count { count ≤ 128 }
         requires shown { display.now.crtc.beam.line
             ≤ vertical_display_end display.now.crtc.registers }
-        requires inside { dot_number CW display.now.crtc.beam + count
+        requires inside { dot_number_in_line CW display.now.crtc.beam + count
             ≤ shown_characters display.now.crtc.registers * CW }
-        requires lines { display.now.crtc.beam.line < highest }
+        requires lines { display.now.crtc.beam.line < most_lines_of_a_frame }
         requires after { self.old.line ≤ display.now.crtc.beam.line }
         requires room { display.now.crtc.beam.line ≡ self.old.line →
-            self.old.width + count ≤ widest }
-        ensures dots { self.new.dots ≡ self.old.dots ++ part_dots count display.now }
+            self.old.width + count ≤ most_dots_of_a_line }
+        ensures dots { self.new.dots ≡ self.old.dots ++ displayed_part_dots count display.now }
         ensures line { self.new.line ≡ display.now.crtc.beam.line }
-        ensures width { self.new.width ≡ width_more self.old display.now.crtc.beam.line count }
+        ensures width { self.new.width ≡ width_with_dots self.old display.now.crtc.beam.line count }
     {
         let line = display.beam().line;
         append_part::<CW>(display, count, &mut self.buffer, self.used);
@@ -290,15 +293,15 @@ impl Canvas {
 
     /// How many rows there are: lines with a dot.
     pub(crate) fn rows(&self) -> u16
-        ensures { result ≡ rows self.now.dots }
+        ensures { result ≡ row_count self.now.dots }
     {
         count_rows(self.widths.as_slice())
     }
 
     /// The shape of the picture, at most 2,304 by 1,024, or `None` where two rows differ in width.
     fn shape(&self) -> Option<Shape>
-        ensures value { result ≡ shape self.now.dots }
-        ensures few { IfSome result IsSmallShape }
+        ensures value { result ≡ picture_shape self.now.dots }
+        ensures few { IfSome result IsShapeInBounds }
         ensures area { IfSome result (λ shape. length self.now.dots ≡ shape.width * shape.height) }
     {
         Shape::of_widths(self.widths.as_slice())
@@ -306,7 +309,7 @@ impl Canvas {
 
     /// Red, green and blue of each dot in turn.
     fn bytes(&self) -> &[u8]
-        ensures value { result.now ≡ bytes_of self.now.dots }
+        ensures value { result.now ≡ bytes_of_dots self.now.dots }
         ensures len { length result.now ≡ 3 * length self.now.dots }
     {
         &self.buffer[..self.used]
@@ -315,7 +318,7 @@ impl Canvas {
     /// The picture of the dots.
     pub(crate) fn picture(&self) -> Drawn<'_>
         ensures picture { IsPictureOf self.now.dots result }
-        ensures few { IsSmall result }
+        ensures few { IsPictureInBounds result }
     {
         match self.shape() {
             Some(shape) => Drawn::Picture(shape.width, shape.height, self.bytes()),
@@ -325,7 +328,7 @@ impl Canvas {
     /// How many dots each line has.
     fn widths(&self) -> &[u32]
         ensures value { result.now ≡ line_widths self.now.dots }
-        ensures count { length result.now ≡ highest }
+        ensures count { length result.now ≡ most_lines_of_a_frame }
     {
         self.widths.as_slice()
     }
@@ -333,7 +336,7 @@ impl Canvas {
     /// The dots, line by line.
     pub(crate) fn lines(&self) -> Lines<'_>
         ensures lines { IsLinesOf self.now.dots result }
-        ensures count { length result.widths.now ≡ highest }
+        ensures count { length result.widths.now ≡ most_lines_of_a_frame }
         ensures len { length result.bytes.now ≡ 3 * length self.now.dots }
     {
         Lines {

@@ -3,7 +3,7 @@ use Rattle.std.proofs.Common.{◌≡◌, ℕ, zero, suc, ◌+◌, ◌-◌, ◌*�
 use Rattle.std.specs.Prelude.{nat_lt, if◌then◌else◌}
 use Rattle.std.proofs.lemmas.Bool.{cases_lt, cases_order, lt-ltb, le-ltb}
 use Rattle.vga_crtc.specs.declared.beam.Beam.{Beam}
-use Rattle.vga_crtc.specs.Beam.{characters, lines, started, dot, dots}
+use Rattle.vga_crtc.specs.Beam.{characters, lines, with_frame_start_taken, dot, dots}
 use Rattle.vga_crtc.specs.Raster.{dots_in_line, dots_in_frame, IsLineStart, IsFrameStart}
 use Rattle.vga_crtc.specs.Clock.{dots_to_line}
 use Rattle.vga_crtc.proofs.Moves.{moved_in, moved_out, next_character, last_character, frame_follows, next_line_start, next_in_frame, started_place}
@@ -47,7 +47,7 @@ Leads cw r b c = ToDot cw b c ⊎ (ToCharacter cw r b c ⊎ (ToLine cw r b c ⊎
 
 pub dot_leads : (cw : ℕ) (r : List ℕ) (b : Beam) → Leads cw r b (dot cw r b)
 dot_leads cw r b =
-    let s : Beam = started r b in
+    let s : Beam = with_frame_start_taken r b in
     let place = started_place r b in
     ⊎_elim
     (λ (within : s.dot + 1 < cw).

@@ -2,7 +2,7 @@
 use Rattle.std.proofs.Common.{◌≡◌, ℕ, ◌+◌, ◌-◌, ◌*◌, ◌/◌, ◌%◌, ◌<◌, sym, ap, ◌∙◌, arith, List}
 use Rattle.std.proofs.lemmas.Nat.{mul-le, div_below, mod_below}
 use Rattle.vga_crtc.specs.Beam.{characters, lines}
-use Rattle.vga_crtc.specs.Raster.{dots_in_line, dots_in_frame, line_dots, beam_at}
+use Rattle.vga_crtc.specs.Raster.{dots_in_line, dots_in_frame, dots_per_line, beam_at_dot_of_frame}
 use Rattle.vga_crtc.proofs.Frames.{place_of}
 
 -- the dots before a place and those from it on, where a lines, e characters and z dots follow it
@@ -26,11 +26,11 @@ left_at w n l v c k in_character in_line in_frame =
     ∙ ap (λ i. (v + 1 + a) * (i * (k + 1 + z))) all_characters ∙ ap (λ i. (v + 1 + a) * (n * i)) all_dots_of_one ∙ ap (λ i. i * (n * w)) all_lines
 
 -- from dot n on the dots to the next frame are all but n
-pub frame_left : (cw : ℕ) (r : List ℕ) (start f n : ℕ) → 0 < cw → n < lines r * line_dots cw r →
-    n + dots_in_frame cw r (beam_at cw r start f n) ≡ lines r * line_dots cw r
+pub frame_left : (cw : ℕ) (r : List ℕ) (start f n : ℕ) → 0 < cw → n < lines r * dots_per_line cw r →
+    n + dots_in_frame cw r (beam_at_dot_of_frame cw r start f n) ≡ lines r * dots_per_line cw r
 unfolding dots_in_frame dots_in_line
 frame_left cw r start f n some in_frame =
-    let line = line_dots cw r in
+    let line = dots_per_line cw r in
     let wide : 0 < line = omega (arith, mul-le 1 1 (characters r) cw (omega arith) some) in
     let v = n / line in
     let c = n % line / cw in

@@ -3,7 +3,7 @@ use Rattle.std.proofs.Common.{◌≡◌, ℕ, zero, suc, ◌+◌, ◌-◌, ◌*�
 use Rattle.std.proofs.lemmas.Bool.{cases_order}
 use Rattle.vga_crtc.specs.declared.beam.Beam.{Beam}
 use Rattle.vga_crtc.specs.Crtc.{CrtcState, first_dot}
-use Rattle.vga_crtc.specs.Beam.{characters, lines, started, next_line, moved, dot, dots, after_dots}
+use Rattle.vga_crtc.specs.Beam.{characters, lines, with_frame_start_taken, next_line, beam_at_next_place, dot, dots, after_dots}
 use Rattle.vga_crtc.specs.Raster.{dots_in_line, dots_in_frame, IsLineStart, IsFrameStart, LineEnds, FrameEnds, IsLineTaken}
 use Rattle.vga_crtc.proofs.Moves.{character_ended, moved_in, moved_out, next_character, last_character, frame_follows, next_line_start, next_in_frame}
 use Rattle.vga_crtc.proofs.Moves.{not_started, started_again, started_place}
@@ -38,18 +38,18 @@ module _ (P : Beam → Type 0) (cw : ℕ) (r : List ℕ) where
       }
 
 -- up to the end of a character
-pub to_character_end : (cw : ℕ) (r : List ℕ) (j : ℕ) (b : Beam) → j ≡ cw - (b.dot + 1) → started r b ≡ b →
+pub to_character_end : (cw : ℕ) (r : List ℕ) (j : ℕ) (b : Beam) → j ≡ cw - (b.dot + 1) → with_frame_start_taken r b ≡ b →
     Leads IsLineStart cw r (j + 1) b (character_ended r b)
-to_character_end cw r zero b left by_dots = one_dot IsLineStart cw r b (character_ended r b) (ap (moved cw r) by_dots ∙ moved_out cw r b (omega arith))
+to_character_end cw r zero b left by_dots = one_dot IsLineStart cw r b (character_ended r b) (ap (beam_at_next_place cw r) by_dots ∙ moved_out cw r b (omega arith))
 to_character_end cw r (suc j) b left by_dots =
     let next : Beam = record b { dot = b.dot + 1 } in
-    let first = one_dot IsLineStart cw r b next (ap (moved cw r) by_dots ∙ moved_in cw r b (omega arith)) in
+    let first = one_dot IsLineStart cw r b next (ap (beam_at_next_place cw r) by_dots ∙ moved_in cw r b (omega arith)) in
     let rest = to_character_end cw r j next (omega arith) (not_started r next (inl (omega arith))) in
     counted IsLineStart cw r b (character_ended r b) (1 + (j + 1)) (suc j + 1) (omega arith)
     (then_leads IsLineStart cw r b next (character_ended r b) 1 (j + 1) first (λ (start : IsLineStart next). absurd (omega (arith, start.dot))) rest)
 
 -- up to the end of a line
-to_line_end : (cw : ℕ) (r : List ℕ) (i : ℕ) (b : Beam) → 0 < cw → i ≡ characters r - (b.character + 1) → started r b ≡ b →
+to_line_end : (cw : ℕ) (r : List ℕ) (i : ℕ) (b : Beam) → 0 < cw → i ≡ characters r - (b.character + 1) → with_frame_start_taken r b ≡ b →
     Leads IsLineStart cw r (i * cw + (cw - (b.dot + 1)) + 1) b (next_line r b)
 to_line_end cw r zero b some left by_dots =
     let j = cw - (b.dot + 1) in
@@ -67,15 +67,15 @@ to_line_end cw r (suc i) b some left by_dots =
     (λ (start : IsLineStart next). absurd (omega (arith, start.character))) rest)
 
 -- the line of the dots that are left, from a beam with the start taken
-pub whole_line : (cw : ℕ) (r : List ℕ) (b : Beam) → 0 < cw → started r b ≡ b → Leads IsLineStart cw r (dots_in_line cw r b) b (next_line r b)
+pub whole_line : (cw : ℕ) (r : List ℕ) (b : Beam) → 0 < cw → with_frame_start_taken r b ≡ b → Leads IsLineStart cw r (dots_in_line cw r b) b (next_line r b)
 unfolding dots_in_line
 whole_line cw r b some by_dots = to_line_end cw r (characters r - (b.character + 1)) b some refl by_dots
 
-pub same_count : (cw : ℕ) (r : List ℕ) (b : Beam) → dots_in_line cw r (started r b) ≡ dots_in_line cw r b
+pub same_count : (cw : ℕ) (r : List ℕ) (b : Beam) → dots_in_line cw r (with_frame_start_taken r b) ≡ dots_in_line cw r b
 unfolding dots_in_line
 same_count cw r b =
     let place = started_place r b in
-    ap (λ c. (characters r - (c + 1)) * cw + (cw - ((started r b).dot + 1)) + 1) place.character
+    ap (λ c. (characters r - (c + 1)) * cw + (cw - ((with_frame_start_taken r b).dot + 1)) + 1) place.character
     ∙ ap (λ k. (characters r - (b.character + 1)) * cw + (cw - (k + 1)) + 1) place.dot
 
 some_in_line : (cw : ℕ) (r : List ℕ) (b : Beam) → 0 < dots_in_line cw r b
@@ -87,7 +87,7 @@ unfolding dots_in_frame
 some_in_frame cw r b = omega (arith, some_in_line cw r b)
 
 -- the same way, whether the start is taken or not
-unstarted : (P : Beam → Type 0) (cw : ℕ) (r : List ℕ) (n : ℕ) (b c : Beam) → 0 < n → Leads P cw r n (started r b) c → Leads P cw r n b c
+unstarted : (P : Beam → Type 0) (cw : ℕ) (r : List ℕ) (n : ℕ) (b c : Beam) → 0 < n → Leads P cw r n (with_frame_start_taken r b) c → Leads P cw r n b c
 unstarted P cw r n b c some way = record {
   by_dots = dots_started cw r n b some ∙ way.by_dots;
   first = λ m lo hi p. way.first m lo hi (subst P (dots_started cw r m b lo) p);
@@ -95,7 +95,7 @@ unstarted P cw r n b c some way = record {
 
 pub line_ends : (cw : ℕ) (r : List ℕ) (b : Beam) → 0 < cw → LineEnds cw r b
 line_ends cw r b some =
-    let s : Beam = started r b in
+    let s : Beam = with_frame_start_taken r b in
     let n = dots_in_line cw r b in
     let way = unstarted IsLineStart cw r n b (next_line r s) (some_in_line cw r b)
     (counted IsLineStart cw r s (next_line r s) (dots_in_line cw r s) n (same_count cw r b) (whole_line cw r s some (started_again r b))) in
@@ -115,7 +115,7 @@ line_taken cw old new width by_dots = record {
 }
 
 -- the next line, come to at once
-pub line_left : (cw : ℕ) (old : CrtcState) (b : Beam) → (cw ≡ 8) ⊎ (cw ≡ 9) → b ≡ next_line old.registers (started old.registers old.beam) →
+pub line_left : (cw : ℕ) (old : CrtcState) (b : Beam) → (cw ≡ 8) ⊎ (cw ≡ 9) → b ≡ next_line old.registers (with_frame_start_taken old.registers old.beam) →
     IsLineTaken cw old (record old { beam = b })
 unfolding after_dots
 line_left cw old b width e =
@@ -144,7 +144,7 @@ from_line_start cw r b start some =
     ∙ whole_product (characters r) cw (omega arith) some
 
 -- up to the end of a frame, which is i lines after this one
-to_frame_end : (cw : ℕ) (r : List ℕ) (i : ℕ) (b : Beam) → 0 < cw → i ≡ lines r - (b.line + 1) → started r b ≡ b →
+to_frame_end : (cw : ℕ) (r : List ℕ) (i : ℕ) (b : Beam) → 0 < cw → i ≡ lines r - (b.line + 1) → with_frame_start_taken r b ≡ b →
     Leads IsFrameStart cw r (i * (characters r * cw) + dots_in_line cw r b) b (first_dot ((b.frame + 1) % 32))
 to_frame_end cw r zero b some left by_dots =
     let n = dots_in_line cw r b in
@@ -166,17 +166,17 @@ to_frame_end cw r (suc i) b some left by_dots =
     (then_leads IsFrameStart cw r b next (first_dot ((next.frame + 1) % 32)) n (i * line + dots_in_line cw r next) first
     (λ (start : IsFrameStart next). absurd (omega (arith, start.line, below))) rest))
 
-pub same_frame_count : (cw : ℕ) (r : List ℕ) (b : Beam) → dots_in_frame cw r (started r b) ≡ dots_in_frame cw r b
+pub same_frame_count : (cw : ℕ) (r : List ℕ) (b : Beam) → dots_in_frame cw r (with_frame_start_taken r b) ≡ dots_in_frame cw r b
 unfolding dots_in_frame
 same_frame_count cw r b =
     let place = started_place r b in
-    ap (λ v. (lines r - (v + 1)) * (characters r * cw) + dots_in_line cw r (started r b)) place.line
+    ap (λ v. (lines r - (v + 1)) * (characters r * cw) + dots_in_line cw r (with_frame_start_taken r b)) place.line
     ∙ ap (λ n. (lines r - (b.line + 1)) * (characters r * cw) + n) (same_count cw r b)
 
 pub frame_ends : (cw : ℕ) (r : List ℕ) (b : Beam) → 0 < cw → FrameEnds cw r b
 unfolding dots_in_frame
 frame_ends cw r b some =
-    let s : Beam = started r b in
+    let s : Beam = with_frame_start_taken r b in
     let n = dots_in_frame cw r b in
     let i = lines r - (s.line + 1) in
     let place = started_place r b in

@@ -2,7 +2,7 @@
 -- the frame, line and character, which are words, the dot, the counter of the line's first
 -- character, which is a word, the scan line, and the two flags.
 use Rattle.std.specs.Prelude.{ℕ, ◌≡◌, ◌<◌, List, [], ◌∷◌, ◌++◌, length, take, drop, slice_index}
-use Rattle.vga_bits.specs.RegFile.{AreKept}
+use Rattle.vga_bits.specs.RegFile.{AreWithinMasks}
 use Rattle.vga_bits.specs.Saved.{word_bytes, word_at, flag_byte, flag_at}
 use Rattle.vga_crtc.specs.declared.beam.Beam.{Beam}
 use Rattle.vga_crtc.specs.Crtc.{CrtcState}
@@ -50,7 +50,7 @@ past_index bytes = drop 1 (past_registers bytes)
 -- of five bits, and a beam
 pub record IsSavedCrtc (bytes : List ℕ) : Type 0 where
   pub size : length bytes ≡ 37
-  pub kept : AreKept kept_bits (take 25 bytes)
+  pub kept : AreWithinMasks kept_bits (take 25 bytes)
   pub index : slice_index (past_registers bytes) 0 < 32
   pub beam : IsSavedBeam (past_index bytes)
 

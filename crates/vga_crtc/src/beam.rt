@@ -1,6 +1,6 @@
 //! The beam, and how it moves.
 ghost use Rattle.std.specs.Prelude.{◌≡◌, ◌≤◌, ◌⊎◌};
-ghost use Rattle.vga_crtc.specs.Raster.{IsInLine, moved_in_line};
+ghost use Rattle.vga_crtc.specs.Raster.{IsWithinItsLine, beam_after_dots_of_line};
 
 mod clock;
 mod saved;
@@ -30,7 +30,8 @@ pub struct Beam {
 
 impl Beam {
     ghost use Rattle.vga_crtc.specs.Crtc.{first_dot};
-    ghost use Rattle.vga_crtc.specs.Beam.{IsBeam, is_first_dot, started, next_row, next_line, dot};
+    ghost use Rattle.vga_crtc.specs.Beam.{IsBeam, is_first_dot, with_frame_start_taken, next_row};
+    ghost use Rattle.vga_crtc.specs.Beam.{next_line, dot};
 
     /// The beam at the first dot of a frame, before the start of the frame is taken.
     pub(crate) fn first_dot(frame: u8) -> Beam
@@ -58,7 +59,7 @@ impl Beam {
     /// Takes the start address and the first scan line, if a frame begins here.
     pub(crate) fn take_start(&mut self, registers: &Registers)
         requires { IsBeam self.old }
-        ensures value { self.new ≡ started registers.now self.old }
+        ensures value { self.new ≡ with_frame_start_taken registers.now self.old }
         ensures place { IsBeam self.new }
     {
         if self.is_first_dot() {
@@ -70,7 +71,7 @@ impl Beam {
     }
 
     /// Counts a line that ends.
-    fn count_line(&mut self, registers: &Registers)
+    fn count_ended_line(&mut self, registers: &Registers)
         requires { IsBeam self.old }
         ensures value { self.new ≡ next_row registers.now self.old }
         ensures place { IsBeam self.new }
@@ -103,7 +104,7 @@ impl Beam {
         if self.line + 1 < registers.lines() {
             self.character = 0;
             self.dot = 0;
-            self.count_line(registers);
+            self.count_ended_line(registers);
             self.line += 1;
         } else {
             *self = Beam::first_dot((self.frame + 1) % 32);
@@ -131,7 +132,8 @@ impl Beam {
     /// Moves from any dot of a line to the first dot of the next.
     pub(crate) fn step_line(&mut self, registers: &Registers)
         requires { IsBeam self.old }
-        ensures value { self.new ≡ next_line registers.now (started registers.now self.old) }
+        ensures value { self.new ≡ next_line registers.now (with_frame_start_taken registers.now
+            self.old) }
         ensures place { IsBeam self.new }
     {
         self.take_start(registers);
@@ -143,10 +145,10 @@ impl Beam {
     pub(crate) fn step_dots(&mut self, registers: &Registers, cw: u8, n: u32)
         requires width { (cw ≡ 8) ⊎ (cw ≡ 9) }
         requires place { IsBeam self.old }
-        requires inside { IsInLine cw registers.now self.old }
+        requires inside { IsWithinItsLine cw registers.now self.old }
         requires few { n ≤ 2340 }
-        ensures value { self.new ≡ moved_in_line cw registers.now n
-            (started registers.now self.old) }
+        ensures value { self.new ≡ beam_after_dots_of_line cw registers.now n
+            (with_frame_start_taken registers.now self.old) }
         ensures place { IsBeam self.new }
     {
         self.take_start(registers);

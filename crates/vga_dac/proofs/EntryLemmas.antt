@@ -3,7 +3,7 @@ use Rattle.std.proofs.Common.{ℕ, ◌+◌, ◌<◌, ap, ◌∙◌, sym, arith, 
 use Rattle.std.specs.Prelude.{slice_index, slice_index_or, slice_set}
 use Rattle.std.proofs.lemmas.Bool.{cases_eq}
 use Rattle.std.proofs.lemmas.List.{get_or-set_same, get_or-set_other}
-use Rattle.vga_dac.specs.Dac.{AreEntries}
+use Rattle.vga_dac.specs.Dac.{ArePaddedEntries}
 
 -- four bytes
 abbrev four : ℕ → ℕ → ℕ → List ℕ
@@ -12,8 +12,8 @@ four r g b = r ∷ g ∷ b ∷ 0 ∷ []
 -- an entry is written with its components
 pub entries_set : (n : ℕ) (entries : List (List ℕ)) (reds greens blues : List ℕ) (i r g b : ℕ)
     → i < length entries → i < length reds → i < length greens → i < length blues
-    → AreEntries n entries reds greens blues
-    → AreEntries n (slice_set entries i (r ∷ g ∷ b ∷ 0 ∷ [])) (slice_set reds i r) (slice_set greens i g) (slice_set blues i b)
+    → ArePaddedEntries n entries reds greens blues
+    → ArePaddedEntries n (slice_set entries i (r ∷ g ∷ b ∷ 0 ∷ [])) (slice_set reds i r) (slice_set greens i g) (slice_set blues i b)
 entries_set n entries reds greens blues i r g b le lr lg lb are = record {
   each = λ j l. elim (cases_eq j i) [
     | inl same ↦ ap (λ k. slice_index_or (slice_set entries i (four r g b)) k []) same ∙ get_or-set_same entries i (four r g b) [] le
@@ -29,8 +29,8 @@ entries_set n entries reds greens blues i r g b le lr lg lb are = record {
 }
 
 -- one entry more
-pub entries_more : (n : ℕ) (entries : List (List ℕ)) (reds greens blues : List ℕ) → n < length entries → AreEntries n entries reds greens blues
-    → AreEntries (n + 1) (slice_set entries n (slice_index reds n ∷ slice_index greens n ∷ slice_index blues n ∷ 0 ∷ [])) reds greens blues
+pub entries_more : (n : ℕ) (entries : List (List ℕ)) (reds greens blues : List ℕ) → n < length entries → ArePaddedEntries n entries reds greens blues
+    → ArePaddedEntries (n + 1) (slice_set entries n (slice_index reds n ∷ slice_index greens n ∷ slice_index blues n ∷ 0 ∷ [])) reds greens blues
 entries_more n entries reds greens blues room are = record {
   each = λ j l. elim (cases_eq j n) [
     | inl same ↦ ap (λ k. slice_index_or (slice_set entries n (four (slice_index reds n) (slice_index greens n) (slice_index blues n))) k []) same

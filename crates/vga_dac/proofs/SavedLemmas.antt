@@ -9,18 +9,18 @@ use Rattle.vga_bits.proofs.ByteLemmas.{zeros_at}
 use Rattle.vga_dac.specs.declared.component.Component.{Component}
 use Rattle.vga_dac.specs.declared.component.Component.TheVariants.{Red, Green, Blue}
 use Rattle.vga_dac.specs.Dac.{DacState, IsDac}
-use Rattle.vga_dac.specs.Saved.{component_number, component_numbered, saved_counters, saved_dac, AreSmall, IsSavedDac, past_reds, past_greens, past_blues}
+use Rattle.vga_dac.specs.Saved.{component_number, component_numbered, saved_counters, saved_dac, AreSixBitValues, IsSavedDac, past_reds, past_greens, past_blues}
 use Rattle.vga_dac.specs.Saved.{dac_from}
 
 -- ---- values of six bits
 
-pub small_zeros : (n : ℕ) → AreSmall (zeros n)
+pub small_zeros : (n : ℕ) → AreSixBitValues (zeros n)
 small_zeros n = record { small = λ i. omega (arith, zeros_at n i) }
 
 pub small_and : (v : ℕ) → bit_and v 63 < 64
 small_and v = omega (arith, and_le_r v 63)
 
-pub small_set : (values : List ℕ) (i v : ℕ) → AreSmall values → v < 64 → AreSmall (slice_set values i v)
+pub small_set : (values : List ℕ) (i v : ℕ) → AreSixBitValues values → v < 64 → AreSixBitValues (slice_set values i v)
 small_set values i v are few = record {
   small = λ j. elim (cases_lt i (length values)) [
     | inl within ↦ elim (cases_eq j i) [
@@ -32,7 +32,7 @@ small_set values i v are few = record {
 }
 
 -- values are of six bits, where each that is there is
-pub small_within : (values : List ℕ) → ((k : ℕ) → k < length values → slice_index values k < 64) → AreSmall values
+pub small_within : (values : List ℕ) → ((k : ℕ) → k < length values → slice_index values k < 64) → AreSixBitValues values
 small_within values small = record {
   small = λ k. elim (cases_lt k (length values)) [
     | inl within ↦ small k within
@@ -85,7 +85,7 @@ module _ (d : DacState) (is : IsDac d) where
     length-append d.blues (saved_counters d),
   )
 
-  pub dac_is_saved : AreSmall d.reds → AreSmall d.greens → AreSmall d.blues → d.waiting_red < 64 → d.waiting_green < 64 → IsSavedDac (saved_dac d)
+  pub dac_is_saved : AreSixBitValues d.reds → AreSixBitValues d.greens → AreSixBitValues d.blues → d.waiting_red < 64 → d.waiting_green < 64 → IsSavedDac (saved_dac d)
   dac_is_saved reds greens blues red green = record {
     size = long;
     reds = rw reds_are reds;

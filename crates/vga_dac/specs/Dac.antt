@@ -45,13 +45,14 @@ entry_of d i = slice_index d.reds i ∷ slice_index d.greens i ∷ slice_index d
 
 -- The first n entries have these components, and one more byte, 0, each. They are kept in this form
 -- for speed alone.
-pub record AreEntries (n : ℕ) (entries : List (List ℕ)) (reds greens blues : List ℕ) : Type 0 where
+pub record ArePaddedEntries (n : ℕ) (entries : List (List ℕ)) (reds greens blues : List
+    ℕ) : Type 0 where
   pub each : (i : ℕ) → i < n → slice_index_or entries i []
       ≡ slice_index reds i ∷ slice_index greens i ∷ slice_index blues i ∷ 0 ∷ []
 
 -- an index is written, for writing or for reading: red is next
-abbrev pub after_index : DacState → ℕ → DacState
-after_index d v = record d { index = v; component = Red }
+abbrev pub after_index_write : DacState → ℕ → DacState
+after_index_write d v = record d { index = v; component = Red }
 
 -- the component after this one
 abbrev pub next_component : Component → Component
@@ -73,27 +74,28 @@ component_of d Blue i = slice_index d.blues i
 
 -- the byte that a read of a component returns: the next component of the entry that the index
 -- selects
-abbrev pub read_value : DacState → ℕ
-read_value d = component_of d d.component d.index
+abbrev pub component_value_read : DacState → ℕ
+component_value_read d = component_of d d.component d.index
 
 -- the DAC after a component is read or written: the component moves on, and after blue the index
 -- does too
-abbrev pub after_read : DacState → DacState
-after_read d = record d {
+abbrev pub after_component_read : DacState → DacState
+after_component_read d = record d {
   component = next_component d.component;
   index = next_index d.component d.index;
 }
 
 -- what a value does as this component: red and green wait, and blue stores all three in the entry
-abbrev pub with_component : DacState → Component → ℕ → DacState
-with_component d Red value = record d { waiting_red = value }
-with_component d Green value = record d { waiting_green = value }
-with_component d Blue value = record d {
+abbrev pub with_component_written : DacState → Component → ℕ → DacState
+with_component_written d Red value = record d { waiting_red = value }
+with_component_written d Green value = record d { waiting_green = value }
+with_component_written d Blue value = record d {
   reds = slice_set d.reds d.index d.waiting_red;
   greens = slice_set d.greens d.index d.waiting_green;
   blues = slice_set d.blues d.index value;
 }
 
 -- the DAC after a component is written, of which it keeps six bits
-abbrev pub after_write : DacState → ℕ → DacState
-after_write d v = after_read (with_component d d.component (bit_and v 0x3F))
+abbrev pub after_component_write : DacState → ℕ → DacState
+after_component_write d v =
+    after_component_read (with_component_written d d.component (bit_and v 0x3F))

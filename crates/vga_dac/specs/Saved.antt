@@ -28,11 +28,11 @@ unfoldable pub saved_dac : DacState → List ℕ
 saved_dac d = d.reds ++ (d.greens ++ (d.blues ++ saved_counters d))
 
 -- each value fits in six bits
-pub record AreSmall (values : List ℕ) : Type 0 where
+pub record AreSixBitValues (values : List ℕ) : Type 0 where
   pub small : (i : ℕ) → slice_index values i < 64
 
 -- a component and two values of six bits, among what follows the entries
-pub record AreCounters (bytes : List ℕ) : Type 0 where
+pub record AreSavedCounters (bytes : List ℕ) : Type 0 where
   pub component : slice_index bytes 1 < 3
   pub waiting_red : slice_index bytes 2 < 64
   pub waiting_green : slice_index bytes 3 < 64
@@ -52,10 +52,10 @@ past_blues bytes = drop 256 (past_greens bytes)
 -- bytes within the bounds of a DAC: values of six bits, and a component
 pub record IsSavedDac (bytes : List ℕ) : Type 0 where
   pub size : length bytes ≡ 773
-  pub reds : AreSmall (take 256 bytes)
-  pub greens : AreSmall (take 256 (past_reds bytes))
-  pub blues : AreSmall (take 256 (past_greens bytes))
-  pub counters : AreCounters (past_blues bytes)
+  pub reds : AreSixBitValues (take 256 bytes)
+  pub greens : AreSixBitValues (take 256 (past_reds bytes))
+  pub blues : AreSixBitValues (take 256 (past_greens bytes))
+  pub counters : AreSavedCounters (past_blues bytes)
 
 -- the DAC that has these bytes
 unfoldable pub dac_from : List ℕ → DacState

@@ -32,8 +32,8 @@ pub struct Dac {
 
 impl Model for Dac {
     ghost use Rattle.std.specs.Prelude.{◌<◌};
-    ghost use Rattle.vga_dac.specs.Saved.{AreSmall};
-    ghost use Rattle.vga_dac.specs.Dac.{DacState, AreEntries};
+    ghost use Rattle.vga_dac.specs.Saved.{AreSixBitValues};
+    ghost use Rattle.vga_dac.specs.Dac.{DacState, ArePaddedEntries};
 
     ghost Value = { DacState };
 
@@ -48,13 +48,14 @@ impl Model for Dac {
       mask = d.mask;
     } };
 
-    ghost invariant = { λ d. AreSmall d.reds × AreSmall d.greens × AreSmall d.blues
+    ghost invariant = { λ d. AreSixBitValues d.reds × AreSixBitValues d.greens × AreSixBitValues
+        d.blues
         × (d.waiting_red < 64) × (d.waiting_green < 64)
-        × AreEntries 256 d.entries d.reds d.greens d.blues };
+        × ArePaddedEntries 256 d.entries d.reds d.greens d.blues };
 }
 
 ghost use Rattle.vga_bits.specs.Bytes.{zeros as zeros_of};
-ghost use Rattle.vga_dac.specs.Dac.{AreEntries};
+ghost use Rattle.vga_dac.specs.Dac.{ArePaddedEntries};
 
 /// `N` values, each 0.
 #[tactic(auto, unfolding(vga_bits::specs::Bytes::zeros))]
@@ -65,8 +66,8 @@ fn zeros<const N: usize>() -> [u8; N]
 }
 
 /// The entries that have these components.
-fn entries_of(reds: &[u8; 256], greens: &[u8; 256], blues: &[u8; 256]) -> [[u8; 4]; 256]
-    ensures { AreEntries 256 result reds.now greens.now blues.now }
+fn padded_entries(reds: &[u8; 256], greens: &[u8; 256], blues: &[u8; 256]) -> [[u8; 4]; 256]
+    ensures { ArePaddedEntries 256 result reds.now greens.now blues.now }
 {
     let mut entries = [[0; 4]; ENTRIES];
     for i in 0..ENTRIES {
@@ -77,8 +78,9 @@ fn entries_of(reds: &[u8; 256], greens: &[u8; 256], blues: &[u8; 256]) -> [[u8; 
 
 impl Dac {
     ghost use Rattle.std.specs.Prelude.{[], ◌∷◌, ◌++◌};
-    ghost use Rattle.vga_dac.specs.Dac.{power_on_dac, after_index, after_write, read_value};
-    ghost use Rattle.vga_dac.specs.Dac.{after_read, entry_of};
+    ghost use Rattle.vga_dac.specs.Dac.{power_on_dac, after_index_write, after_component_write};
+    ghost use Rattle.vga_dac.specs.Dac.{component_value_read};
+    ghost use Rattle.vga_dac.specs.Dac.{after_component_read, entry_of};
     ghost use Rattle.vga_dac.specs.Dac.{IsDac};
 
     /// The DAC at power-on: all entries are black, the index is 0, the next component is red, the
@@ -91,7 +93,7 @@ impl Dac {
         let greens = zeros::<ENTRIES>();
         let blues = zeros::<ENTRIES>();
         Dac {
-            entries: entries_of(&reds, &greens, &blues),
+            entries: padded_entries(&reds, &greens, &blues),
             reds,
             greens,
             blues,
@@ -112,7 +114,7 @@ impl Dac {
 
     /// Sets the index for writing, and red as the next component.
     pub fn write_index(&mut self, v: u8)
-        ensures { self.new ≡ after_index self.old v }
+        ensures { self.new ≡ after_index_write self.old v }
     {
         self.index = v;
         self.component = Component::Red;
@@ -120,7 +122,7 @@ impl Dac {
 
     /// Sets the index for reading, and red as the next component. There is one index for both.
     pub fn set_read_index(&mut self, v: u8)
-        ensures { self.new ≡ after_index self.old v }
+        ensures { self.new ≡ after_index_write self.old v }
     {
         self.write_index(v);
     }
@@ -133,8 +135,8 @@ impl Dac {
     }
 
     /// Moves on to the next component, and after blue to the next entry. Entry 0 follows entry 255.
-    fn go_on(&mut self)
-        ensures { self.new ≡ after_read self.old }
+    fn advance_component(&mut self)
+        ensures { self.new ≡ after_component_read self.old }
     {
         if self.component == Component::Blue {
             self.index = self.index.wrapping_add(1);
@@ -146,7 +148,7 @@ impl Dac {
     /// three in the entry that the index selects.
     #[tactic(auto, using(crate::proofs::SavedLemmas::small_set, crate::proofs::SavedLemmas::small_and, crate::proofs::EntryLemmas::entries_set))]
     pub fn write_component(&mut self, v: u8)
-        ensures { self.new ≡ after_write self.old v }
+        ensures { self.new ≡ after_component_write self.old v }
     {
         let value = v & COMPONENT_MASK;
         match self.component {
@@ -160,13 +162,13 @@ impl Dac {
                 self.entries[at] = [self.waiting_red, self.waiting_green, value, 0];
             }
         }
-        self.go_on();
+        self.advance_component();
     }
 
     /// Reads the next component of the entry that the index selects.
     pub fn read_component(&mut self) -> u8
-        ensures value { result ≡ read_value self.old }
-        ensures after { self.new ≡ after_read self.old }
+        ensures value { result ≡ component_value_read self.old }
+        ensures after { self.new ≡ after_component_read self.old }
     {
         let at = self.index as usize;
         let value = match self.component {
@@ -174,7 +176,7 @@ impl Dac {
             Component::Green => self.greens[at],
             Component::Blue => self.blues[at],
         };
-        self.go_on();
+        self.advance_component();
         value
     }
 
@@ -202,7 +204,7 @@ impl Dac {
 
     /// Red, green and blue of entry `i`, and one more byte, 0. Four bytes are moved at once, three
     /// are not.
-    pub fn padded_entry(&self, i: u8) -> [u8; 4]
+    pub fn entry_and_zero_byte(&self, i: u8) -> [u8; 4]
         ensures { result ≡ entry_of self.now i ++ 0 ∷ [] }
     {
         self.entries[i as usize]

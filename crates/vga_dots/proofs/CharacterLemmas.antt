@@ -6,7 +6,7 @@ use Rattle.std.proofs.lemmas.Bool.{cases_lt, lt-ltb}
 use Rattle.std.proofs.lemmas.Nat.Bits.{bit_at-lt, bit_at-zero, bit_at_ones, bit_at_cat_low, bit_at_cat_high}
 use Rattle.vga_bits.specs.Bits.{is_set, field}
 use Rattle.vga_bits.specs.Four.{of_plane}
-use Rattle.vga_bits.specs.Words.{bytes_of, word_bit}
+use Rattle.vga_bits.specs.Words.{plane_bytes_of_word, plane_bit_in_word}
 use Rattle.vga_bits.proofs.WordLemmas.{word_bit_plane}
 use Rattle.vga_planes.specs.Planes.{byte_at, bytes_at}
 use Rattle.vga_host.specs.Host.{HostState}
@@ -21,13 +21,13 @@ use Rattle.vga_dots.specs.declared.text.Cell.{Cell}
 use Rattle.vga_dots.specs.SourceDot.{fetch_address}
 use Rattle.vga_dots.specs.Text.{text_nibble, cell_at, background, is_foreground, is_underlined, is_blinked_away, is_cursor_at, is_glyph_dot, glyph_row}
 use Rattle.vga_dots.specs.Graphics.{plane_bits, planar_nibble, packed_byte}
-use Rattle.vga_dots.specs.Row.{nibble_of, padded_colour}
+use Rattle.vga_dots.specs.Row.{plane_bits_in_word, colour_and_zero_byte}
 use Rattle.vga_dots.specs.Display.{DisplayState, ShowsText, ShowsPlanes, ShowsBytes}
-use Rattle.vga_dots.specs.Line.{masked_colour, colour_by_palette, padded_colour_by_palette, colours_by_palette, dot_of, source_colour}
+use Rattle.vga_dots.specs.Line.{masked_colour, colour_by_palette, palette_colour_and_zero_byte, sixteen_palette_colours, dot_of_counter, colour_of_source_dot}
 use Rattle.vga_dots.proofs.RowLemmas.{padded_byte}
 
-pub shades_at : (a : AttrState) (d : DacState) (n : ℕ) → n < 16 → slice_index_or (colours_by_palette a d) n [] ≡ padded_colour_by_palette a d n
-unfolding colours_by_palette
+pub shades_at : (a : AttrState) (d : DacState) (n : ℕ) → n < 16 → slice_index_or (sixteen_palette_colours a d) n [] ≡ palette_colour_and_zero_byte a d n
+unfolding sixteen_palette_colours
 shades_at a d zero l = refl
 shades_at a d (suc zero) l = refl
 shades_at a d (suc (suc zero)) l = refl
@@ -59,14 +59,14 @@ sixteen_of f a0 a1 a2 a3 a4 a5 a6 a7 a8 a9 a10 a11 a12 a13 a14 a15 e0 e1 e2 e3 e
     rw (e0, e1, e2, e3, e4, e5, e6, e7, e8, e9, e10, e11, e12, e13, e14, e15) refl
 
 -- a bit of each plane of a word is one of each byte that was fetched
-pub bits_are : (h : HostState) (address i word : ℕ) → i < 8 → bytes_of word ≡ bytes_at h.memory address → nibble_of word i ≡ plane_bits h address i
+pub bits_are : (h : HostState) (address i word : ℕ) → i < 8 → plane_bytes_of_word word ≡ bytes_at h.memory address → plane_bits_in_word word i ≡ plane_bits h address i
 unfolding plane_bits
 bits_are h address i word within e =
-    let bit : (p : ℕ) → p < 4 → word_bit word p i ≡ bit_at (of_plane (bytes_at h.memory address) p) i =
+    let bit : (p : ℕ) → p < 4 → plane_bit_in_word word p i ≡ bit_at (of_plane (bytes_at h.memory address) p) i =
     λ p plane. word_bit_plane word p i plane within ∙ ap (λ l. bit_at (of_plane l p) i) e in
-    ap (λ x. x + 2 * word_bit word 1 i + 4 * word_bit word 2 i + 8 * word_bit word 3 i) (bit 0 (omega arith))
-    ∙ ap (λ x. bit_at (byte_at h.memory 0 address) i + 2 * x + 4 * word_bit word 2 i + 8 * word_bit word 3 i) (bit 1 (omega arith))
-    ∙ ap (λ x. bit_at (byte_at h.memory 0 address) i + 2 * bit_at (byte_at h.memory 1 address) i + 4 * x + 8 * word_bit word 3 i) (bit 2 (omega arith))
+    ap (λ x. x + 2 * plane_bit_in_word word 1 i + 4 * plane_bit_in_word word 2 i + 8 * plane_bit_in_word word 3 i) (bit 0 (omega arith))
+    ∙ ap (λ x. bit_at (byte_at h.memory 0 address) i + 2 * x + 4 * plane_bit_in_word word 2 i + 8 * plane_bit_in_word word 3 i) (bit 1 (omega arith))
+    ∙ ap (λ x. bit_at (byte_at h.memory 0 address) i + 2 * bit_at (byte_at h.memory 1 address) i + 4 * x + 8 * plane_bit_in_word word 3 i) (bit 2 (omega arith))
     ∙ ap (λ x. bit_at (byte_at h.memory 0 address) i + 2 * bit_at (byte_at h.memory 1 address) i + 4 * bit_at (byte_at h.memory 2 address) i + 8 * x)
     (bit 3 (omega arith))
 
@@ -134,12 +134,12 @@ module _ (d : DisplayState) (s : SourceDot) where
       (masked_colour d.dac (packed_byte d.host d.crtc s)) (colour_by_palette d.attr d.dac (planar_nibble d.host d.crtc s))
       (colour_by_palette d.attr d.dac (text_nibble d.host d.crtc d.attr s))
 
-  pub off_colour : is_screen_off d.host ≡ true → 0 ∷ 0 ∷ 0 ∷ [] ≡ source_colour d s
-  unfolding source_colour
+  pub off_colour : is_screen_off d.host ≡ true → 0 ∷ 0 ∷ 0 ∷ [] ≡ colour_of_source_dot d s
+  unfolding colour_of_source_dot
   off_colour off = sym (ap (λ v. shown_by v (is_palette_shown d.attr)) off)
 
-  pub hidden_colour : is_screen_off d.host ≡ false → is_palette_shown d.attr ≡ false → masked_colour d.dac (overscan d.attr) ≡ source_colour d s
-  unfolding source_colour
+  pub hidden_colour : is_screen_off d.host ≡ false → is_palette_shown d.attr ≡ false → masked_colour d.dac (overscan d.attr) ≡ colour_of_source_dot d s
+  unfolding colour_of_source_dot
   hidden_colour off shown = sym (ap (λ v. shown_by v (is_palette_shown d.attr)) off ∙ ap (shown_by false) shown)
 
 module _ (d : DisplayState) (counter : ℕ) where
@@ -150,32 +150,32 @@ module _ (d : DisplayState) (counter : ℕ) where
   overscanned = masked_colour d.dac (overscan d.attr)
 
   abbrev packed_colour : ℕ → List ℕ
-  packed_colour i = masked_colour d.dac (packed_byte d.host d.crtc (dot_of counter i))
+  packed_colour i = masked_colour d.dac (packed_byte d.host d.crtc (dot_of_counter counter i))
 
   abbrev planar_colour : ℕ → List ℕ
-  planar_colour i = colour_by_palette d.attr d.dac (planar_nibble d.host d.crtc (dot_of counter i))
+  planar_colour i = colour_by_palette d.attr d.dac (planar_nibble d.host d.crtc (dot_of_counter counter i))
 
   abbrev text_colour : ℕ → List ℕ
-  text_colour i = colour_by_palette d.attr d.dac (text_nibble d.host d.crtc d.attr (dot_of counter i))
+  text_colour i = colour_by_palette d.attr d.dac (text_nibble d.host d.crtc d.attr (dot_of_counter counter i))
 
   abbrev colour_by : ℕ → Bool → Bool → Bool → Bool → List ℕ
   colour_by i off shown packed graphics = pick off shown packed graphics (0 ∷ 0 ∷ 0 ∷ []) overscanned (packed_colour i) (planar_colour i) (text_colour i)
 
-  packed_shown : (i : ℕ) → ShowsBytes d → packed_colour i ≡ source_colour d (dot_of counter i)
-  unfolding source_colour
+  packed_shown : (i : ℕ) → ShowsBytes d → packed_colour i ≡ colour_of_source_dot d (dot_of_counter counter i)
+  unfolding colour_of_source_dot
   packed_shown i shows = sym (ap (λ v. colour_by i v (is_palette_shown d.attr) (is_256_colours d.host) (is_graphics d.host)) shows.memory.on
       ∙ ap (λ v. colour_by i false v (is_256_colours d.host) (is_graphics d.host)) shows.memory.shown
       ∙ ap (λ v. colour_by i false true v (is_graphics d.host)) shows.many)
 
-  planar_shown : (i : ℕ) → ShowsPlanes d → planar_colour i ≡ source_colour d (dot_of counter i)
-  unfolding source_colour
+  planar_shown : (i : ℕ) → ShowsPlanes d → planar_colour i ≡ colour_of_source_dot d (dot_of_counter counter i)
+  unfolding colour_of_source_dot
   planar_shown i shows = sym (ap (λ v. colour_by i v (is_palette_shown d.attr) (is_256_colours d.host) (is_graphics d.host)) shows.memory.on
       ∙ ap (λ v. colour_by i false v (is_256_colours d.host) (is_graphics d.host)) shows.memory.shown
       ∙ ap (λ v. colour_by i false true v (is_graphics d.host)) shows.few
       ∙ ap (λ v. colour_by i false true false v) shows.graphics)
 
-  pub text_shown : (i : ℕ) → ShowsText d → text_colour i ≡ source_colour d (dot_of counter i)
-  unfolding source_colour
+  pub text_shown : (i : ℕ) → ShowsText d → text_colour i ≡ colour_of_source_dot d (dot_of_counter counter i)
+  unfolding colour_of_source_dot
   text_shown i shows = sym (ap (λ v. colour_by i v (is_palette_shown d.attr) (is_256_colours d.host) (is_graphics d.host)) shows.memory.on
       ∙ ap (λ v. colour_by i false v (is_256_colours d.host) (is_graphics d.host)) shows.memory.shown
       ∙ ap (λ v. colour_by i false true v (is_graphics d.host)) shows.few
@@ -185,27 +185,27 @@ module _ (d : DisplayState) (counter : ℕ) where
 
   -- each of the five colours of a character is at its dots
   pub packed_dot : (p0 p1 p2 p3 p4 : List ℕ) (i j : ℕ) → i < 9 → j < 3 → ShowsBytes d
-      → p0 ≡ padded_colour (masked_colour d.dac (byte_at d.host.memory 0 place)) → p1 ≡ padded_colour (masked_colour d.dac (byte_at d.host.memory 1 place)) →
-      p2 ≡ padded_colour (masked_colour d.dac (byte_at d.host.memory 2 place)) → p3 ≡ padded_colour (masked_colour d.dac (byte_at d.host.memory 3 place)) →
-      p4 ≡ padded_colour (masked_colour d.dac 0)
-      → slice_index (slice_index_or (p0 ∷ p1 ∷ p2 ∷ p3 ∷ p4 ∷ []) (i / 2) []) j ≡ slice_index (source_colour d (dot_of counter i)) j
+      → p0 ≡ colour_and_zero_byte (masked_colour d.dac (byte_at d.host.memory 0 place)) → p1 ≡ colour_and_zero_byte (masked_colour d.dac (byte_at d.host.memory 1 place)) →
+      p2 ≡ colour_and_zero_byte (masked_colour d.dac (byte_at d.host.memory 2 place)) → p3 ≡ colour_and_zero_byte (masked_colour d.dac (byte_at d.host.memory 3 place)) →
+      p4 ≡ colour_and_zero_byte (masked_colour d.dac 0)
+      → slice_index (slice_index_or (p0 ∷ p1 ∷ p2 ∷ p3 ∷ p4 ∷ []) (i / 2) []) j ≡ slice_index (colour_of_source_dot d (dot_of_counter counter i)) j
   unfolding packed_byte
   packed_dot p0 p1 p2 p3 p4 i j within below shows e0 e1 e2 e3 e4 =
       ap (λ c. slice_index c j)
-      (by_nine (λ n. slice_index_or (p0 ∷ p1 ∷ p2 ∷ p3 ∷ p4 ∷ []) (n / 2) [] ≡ padded_colour (packed_colour n)) e0 e0 e1 e1 e2 e2 e3 e3 e4 i within)
+      (by_nine (λ n. slice_index_or (p0 ∷ p1 ∷ p2 ∷ p3 ∷ p4 ∷ []) (n / 2) [] ≡ colour_and_zero_byte (packed_colour n)) e0 e0 e1 e1 e2 e2 e3 e3 e4 i within)
       ∙ padded_byte (packed_colour i) j below ∙ ap (λ c. slice_index c j) (packed_shown i shows)
 
   -- ---- 16 colours
 
   -- the bits of a word are those of the planes, looked up in the table
-  pub planar_dot : (table : List (List ℕ)) (word i j : ℕ) → j < 3 → table ≡ colours_by_palette d.attr d.dac → ShowsPlanes d
-      → bytes_of word ≡ bytes_at d.host.memory place
-      → slice_index (slice_index_or table (if nat_lt i 8 then nibble_of word (7 - i) else 0) []) j ≡ slice_index (source_colour d (dot_of counter i)) j
+  pub planar_dot : (table : List (List ℕ)) (word i j : ℕ) → j < 3 → table ≡ sixteen_palette_colours d.attr d.dac → ShowsPlanes d
+      → plane_bytes_of_word word ≡ bytes_at d.host.memory place
+      → slice_index (slice_index_or table (if nat_lt i 8 then plane_bits_in_word word (7 - i) else 0) []) j ≡ slice_index (colour_of_source_dot d (dot_of_counter counter i)) j
   unfolding planar_nibble
   planar_dot table word i j within is shows e =
-      let n = planar_nibble d.host d.crtc (dot_of counter i) in
-      ap (λ c. slice_index c j) (ap (λ t. slice_index_or t (if nat_lt i 8 then nibble_of word (7 - i) else 0) []) is
-      ∙ ap (λ m. slice_index_or (colours_by_palette d.attr d.dac) (if nat_lt i 8 then m else 0) []) (bits_are d.host place (7 - i) word (omega arith) e)
+      let n = planar_nibble d.host d.crtc (dot_of_counter counter i) in
+      ap (λ c. slice_index c j) (ap (λ t. slice_index_or t (if nat_lt i 8 then plane_bits_in_word word (7 - i) else 0) []) is
+      ∙ ap (λ m. slice_index_or (sixteen_palette_colours d.attr d.dac) (if nat_lt i 8 then m else 0) []) (bits_are d.host place (7 - i) word (omega arith) e)
       ∙ shades_at d.attr d.dac n (small_if (nat_lt i 8) _ (bits_small d.host place (7 - i))))
       ∙ padded_byte (colour_by_palette d.attr d.dac n) j within ∙ ap (λ c. slice_index c j) (planar_shown i shows)
 
@@ -221,14 +221,14 @@ module _ (d : DisplayState) (counter : ℕ) where
   -- a dot has the foreground or the background of its cell
   pub text_dot : (fore back : List ℕ) (lit : Bool) (i : ℕ) → ShowsText d
       → fore ≡ colour_by_palette d.attr d.dac (field cell.attribute 3 0) → back ≡ colour_by_palette d.attr d.dac (background d.attr cell) →
-      lit ≡ is_foreground d.host d.crtc d.attr (dot_of counter i) cell
-      → (if lit then fore else back) ≡ source_colour d (dot_of counter i)
+      lit ≡ is_foreground d.host d.crtc d.attr (dot_of_counter counter i) cell
+      → (if lit then fore else back) ≡ colour_of_source_dot d (dot_of_counter counter i)
   unfolding text_nibble
   text_dot fore back lit i shows is_fore is_back is_lit =
       ap (λ v. if v then fore else back) is_lit
-      ∙ ap (λ x. if is_foreground d.host d.crtc d.attr (dot_of counter i) cell then x else back) is_fore
-      ∙ ap (λ x. if is_foreground d.host d.crtc d.attr (dot_of counter i) cell then colour_by_palette d.attr d.dac (field cell.attribute 3 0) else x) is_back
-      ∙ shade_if (is_foreground d.host d.crtc d.attr (dot_of counter i) cell) (field cell.attribute 3 0) (background d.attr cell)
+      ∙ ap (λ x. if is_foreground d.host d.crtc d.attr (dot_of_counter counter i) cell then x else back) is_fore
+      ∙ ap (λ x. if is_foreground d.host d.crtc d.attr (dot_of_counter counter i) cell then colour_by_palette d.attr d.dac (field cell.attribute 3 0) else x) is_back
+      ∙ shade_if (is_foreground d.host d.crtc d.attr (dot_of_counter counter i) cell) (field cell.attribute 3 0) (background d.attr cell)
       ∙ text_shown i shows
 
 -- ---- what decides whether a dot has its cell's foreground
@@ -240,23 +240,23 @@ module _ (h : HostState) (c : CrtcState) (a : AttrState) (cell : Cell) (counter 
   abbrev glyph : ℕ → Bool
   glyph i = is_glyph_dot a cell.character (glyph_row h cell c.beam.scan) i
 
-  pub by_cursor : (i : ℕ) → is_cursor_at c counter ≡ true → is_foreground h c a (dot_of counter i) cell ≡ true
+  pub by_cursor : (i : ℕ) → is_cursor_at c counter ≡ true → is_foreground h c a (dot_of_counter counter i) cell ≡ true
   unfolding is_foreground
   by_cursor i e = ap (λ v. decided v (is_blinked_away c a cell) (is_underlined c a cell) (glyph i)) e
 
-  pub by_blinking : (i : ℕ) → is_cursor_at c counter ≡ false → is_blinked_away c a cell ≡ true → is_foreground h c a (dot_of counter i) cell ≡ false
+  pub by_blinking : (i : ℕ) → is_cursor_at c counter ≡ false → is_blinked_away c a cell ≡ true → is_foreground h c a (dot_of_counter counter i) cell ≡ false
   unfolding is_foreground
   by_blinking i e f = ap (λ v. decided v (is_blinked_away c a cell) (is_underlined c a cell) (glyph i)) e
       ∙ ap (λ v. decided false v (is_underlined c a cell) (glyph i)) f
 
   pub by_underline : (i : ℕ) → is_cursor_at c counter ≡ false → is_blinked_away c a cell ≡ false → is_underlined c a cell ≡ true →
-      is_foreground h c a (dot_of counter i) cell ≡ true
+      is_foreground h c a (dot_of_counter counter i) cell ≡ true
   unfolding is_foreground
   by_underline i e f g = ap (λ v. decided v (is_blinked_away c a cell) (is_underlined c a cell) (glyph i)) e
       ∙ ap (λ v. decided false v (is_underlined c a cell) (glyph i)) f ∙ ap (λ v. decided false false v (glyph i)) g
 
   pub by_glyph : (i : ℕ) → is_cursor_at c counter ≡ false → is_blinked_away c a cell ≡ false → is_underlined c a cell ≡ false →
-      is_foreground h c a (dot_of counter i) cell ≡ glyph i
+      is_foreground h c a (dot_of_counter counter i) cell ≡ glyph i
   unfolding is_foreground
   by_glyph i e f g = ap (λ v. decided v (is_blinked_away c a cell) (is_underlined c a cell) (glyph i)) e
       ∙ ap (λ v. decided false v (is_underlined c a cell) (glyph i)) f ∙ ap (λ v. decided false false v (glyph i)) g

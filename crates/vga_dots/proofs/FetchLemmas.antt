@@ -22,7 +22,7 @@ use Rattle.vga_dots.specs.Text.{is_cursor_at, is_blinked_away, is_underlined, is
 use Rattle.vga_bits.specs.Bits.{field}
 use Rattle.vga_dots.specs.Graphics.{planar_nibble, packed_byte, plane_bits}
 use Rattle.vga_dots.specs.Colour.{nibble, colour_number, dot_colour}
-use Rattle.vga_dots.specs.Fetch.{IsSeenAlike}
+use Rattle.vga_dots.specs.Fetch.{DotSeesSameBytes}
 
 -- two numbers that are the same where a test holds
 same_where : (v : Bool) (x y : ℕ) → (v ≡ true → x ≡ y) → (if v then x else 0) ≡ (if v then y else 0)
@@ -37,7 +37,7 @@ same_branch false x y t u e f = f refl
 half_small : (n : ℕ) → nat_lt n 8 ≡ true → n / 2 < 4
 half_small n l = grind (arith, nat_tests)
 
-module _ (h : HostState) (c : CrtcState) (a : AttrState) (memory : Four (List ℕ)) (alike : IsSeenAlike h c a memory) where
+module _ (h : HostState) (c : CrtcState) (a : AttrState) (memory : Four (List ℕ)) (alike : DotSeesSameBytes h c a memory) where
   abbrev there : HostState
   there = record h { memory = memory }
 
@@ -107,7 +107,7 @@ module _ (h : HostState) (c : CrtcState) (a : AttrState) (memory : Four (List �
       ∙ ap (λ (n : ℕ). if not (is_palette_shown a) then overscan a else if is_256_colours h then packed_byte h c source else colour_index a n) same_nibble
 
 -- the dot at the beam has the same colour over another memory that it sees alike
-pub same_colour : (h : HostState) (c : CrtcState) (a : AttrState) (d : DacState) (memory : Four (List ℕ)) → IsSeenAlike h c a memory →
+pub same_colour : (h : HostState) (c : CrtcState) (a : AttrState) (d : DacState) (memory : Four (List ℕ)) → DotSeesSameBytes h c a memory →
     dot_colour (record h { memory = memory }) c a d ≡ dot_colour h c a d
 unfolding dot_colour
 same_colour h c a d memory alike =

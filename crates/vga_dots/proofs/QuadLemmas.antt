@@ -6,14 +6,14 @@ use Rattle.std.proofs.lemmas.Bool.{cases_lt, agree_below_at, eqb-true}
 use Rattle.std.proofs.lemmas.Bool.Decides.{nat_tests}
 use Rattle.std.proofs.lemmas.Nat.Bits.{bit_at-zero}
 use Rattle.vga_bits.specs.Bits.{is_set}
-use Rattle.vga_bits.specs.Words.{byte_in, word_bit}
+use Rattle.vga_bits.specs.Words.{plane_byte_in_word, plane_bit_in_word}
 use Rattle.vga_bits.proofs.BitLemmas.{byte_from_bits, byte_bits, bit_at_shr, bit_at_cut, ones_byte}
 use Rattle.vga_bits.proofs.WordLemmas.{byte_below, word_bit_byte, word_bit_lt, word_bit_and, word_bit_xor}
 use Rattle.vga_dots.proofs.RowLemmas.{dots_alike}
 use Rattle.vga_dots.specs.declared.quads.Quad.{Quad}
 use Rattle.vga_dots.specs.declared.quads.TheConstants.{LOW_MASKS, HIGH_MASKS}
 use Rattle.vga_dots.specs.Row.{IsDotPut, AreDotsPut}
-use Rattle.vga_dots.specs.Quads.{IsQuad, AreBytesPut}
+use Rattle.vga_dots.specs.Quads.{IsFourDotsOfColour, AreBytesPut}
 
 -- ---- what a mask chooses
 
@@ -27,36 +27,36 @@ one_chosen x y m small few e = grind (arith, nat_tests)
 none_chosen : (x y m : ℕ) → x < 2 → y < 2 → m ≡ 0 → (y + min m ((x + y) % 2)) % 2 ≡ y
 none_chosen x y m small few e = grind (arith, nat_tests)
 
-bit_chosen : (m f b p i : ℕ) → word_bit (bit_xor b (bit_and m (bit_xor f b))) p i
-    ≡ (word_bit b p i + min (word_bit m p i) ((word_bit f p i + word_bit b p i) % 2)) % 2
+bit_chosen : (m f b p i : ℕ) → plane_bit_in_word (bit_xor b (bit_and m (bit_xor f b))) p i
+    ≡ (plane_bit_in_word b p i + min (plane_bit_in_word m p i) ((plane_bit_in_word f p i + plane_bit_in_word b p i) % 2)) % 2
 bit_chosen m f b p i =
     word_bit_xor b (bit_and m (bit_xor f b)) p i
-    ∙ ap (λ n. (word_bit b p i + n) % 2) (word_bit_and m (bit_xor f b) p i ∙ ap (min (word_bit m p i)) (word_bit_xor f b p i))
+    ∙ ap (λ n. (plane_bit_in_word b p i + n) % 2) (word_bit_and m (bit_xor f b) p i ∙ ap (min (plane_bit_in_word m p i)) (word_bit_xor f b p i))
 
-mask_bit : (m p i n : ℕ) → byte_in p m ≡ n → i < 8 → word_bit m p i ≡ bit_at n i
+mask_bit : (m p i n : ℕ) → plane_byte_in_word p m ≡ n → i < 8 → plane_bit_in_word m p i ≡ bit_at n i
 mask_bit m p i n e within = word_bit_byte m p i within ∙ ap (λ x. bit_at x i) e
 
 -- two numbers with the same bits in a byte have the same byte
-same_byte : (x y p : ℕ) → ((i : ℕ) → i < 8 → word_bit x p i ≡ word_bit y p i) → byte_in p x ≡ byte_in p y
+same_byte : (x y p : ℕ) → ((i : ℕ) → i < 8 → plane_bit_in_word x p i ≡ plane_bit_in_word y p i) → plane_byte_in_word p x ≡ plane_byte_in_word p y
 same_byte x y p same =
-    byte_from_bits (byte_in p x) (bit_at (byte_in p y)) (byte_below p x) (λ i l. sym (word_bit_byte x p i l) ∙ same i l ∙ word_bit_byte y p i l)
-    ∙ byte_bits (byte_in p y) (byte_below p y)
+    byte_from_bits (plane_byte_in_word p x) (bit_at (plane_byte_in_word p y)) (byte_below p x) (λ i l. sym (word_bit_byte x p i l) ∙ same i l ∙ word_bit_byte y p i l)
+    ∙ byte_bits (plane_byte_in_word p y) (byte_below p y)
 
-pub byte_chosen : (m f b p : ℕ) (v : Bool) → byte_in p m ≡ all_or_none v
-    → byte_in p (bit_xor b (bit_and m (bit_xor f b))) ≡ (if v then byte_in p f else byte_in p b)
+pub byte_chosen : (m f b p : ℕ) (v : Bool) → plane_byte_in_word p m ≡ all_or_none v
+    → plane_byte_in_word p (bit_xor b (bit_and m (bit_xor f b))) ≡ (if v then plane_byte_in_word p f else plane_byte_in_word p b)
 byte_chosen m f b p true e = same_byte (bit_xor b (bit_and m (bit_xor f b))) f p
-    (λ i l. bit_chosen m f b p i ∙ one_chosen (word_bit f p i) (word_bit b p i) (word_bit m p i) (word_bit_lt f p i) (word_bit_lt b p i)
+    (λ i l. bit_chosen m f b p i ∙ one_chosen (plane_bit_in_word f p i) (plane_bit_in_word b p i) (plane_bit_in_word m p i) (word_bit_lt f p i) (word_bit_lt b p i)
     (mask_bit m p i 255 e l ∙ ones_byte i l))
 byte_chosen m f b p false e = same_byte (bit_xor b (bit_and m (bit_xor f b))) b p
-    (λ i l. bit_chosen m f b p i ∙ none_chosen (word_bit f p i) (word_bit b p i) (word_bit m p i) (word_bit_lt f p i) (word_bit_lt b p i)
+    (λ i l. bit_chosen m f b p i ∙ none_chosen (plane_bit_in_word f p i) (plane_bit_in_word b p i) (plane_bit_in_word m p i) (word_bit_lt f p i) (word_bit_lt b p i)
     (mask_bit m p i 0 e l ∙ bit_at-zero i))
 
 -- ---- the masks
 
 abbrev low_byte : ℕ → ℕ → Bool
-low_byte n p = byte_in p (slice_index LOW_MASKS n) == all_or_none (is_set n (3 - p / 3))
+low_byte n p = plane_byte_in_word p (slice_index LOW_MASKS n) == all_or_none (is_set n (3 - p / 3))
 
-pub low_mask : (n p : ℕ) → n < 16 → p < 8 → byte_in p (slice_index LOW_MASKS n) ≡ all_or_none (is_set n (3 - p / 3))
+pub low_mask : (n p : ℕ) → n < 16 → p < 8 → plane_byte_in_word p (slice_index LOW_MASKS n) ≡ all_or_none (is_set n (3 - p / 3))
 low_mask n p few within =
     let row : (n * 8 + p) / 8 ≡ n = omega arith in
     let column : (n * 8 + p) % 8 ≡ p = omega arith in
@@ -64,9 +64,9 @@ low_mask n p few within =
     ∙ agree_below_at (λ k. low_byte (k / 8) (k % 8)) (λ _. true) 128 (n * 8 + p) refl (omega arith))
 
 abbrev high_byte : ℕ → ℕ → Bool
-high_byte n p = byte_in p (slice_index HIGH_MASKS n) == all_or_none (is_set n (3 - (8 + p) / 3))
+high_byte n p = plane_byte_in_word p (slice_index HIGH_MASKS n) == all_or_none (is_set n (3 - (8 + p) / 3))
 
-pub high_mask : (n p : ℕ) → n < 16 → p < 4 → byte_in p (slice_index HIGH_MASKS n) ≡ all_or_none (is_set n (3 - (8 + p) / 3))
+pub high_mask : (n p : ℕ) → n < 16 → p < 4 → plane_byte_in_word p (slice_index HIGH_MASKS n) ≡ all_or_none (is_set n (3 - (8 + p) / 3))
 high_mask n p few within =
     let row : (n * 4 + p) / 4 ≡ n = omega arith in
     let column : (n * 4 + p) % 4 ≡ p = omega arith in
@@ -96,10 +96,10 @@ either true x y f b j e g = e
 either false x y f b j e g = g
 
 -- twelve bytes are four dots
-pub quad_put : (dots at low high : ℕ) (fore back : Quad) (f b row0 row1 row2 : List ℕ) → IsQuad fore f → IsQuad back b
-    → ((p : ℕ) → p < 8 → byte_in p low ≡ (if is_set dots (3 - p / 3) then byte_in p fore.low else byte_in p back.low))
-    → ((p : ℕ) → p < 4 → byte_in p high ≡ (if is_set dots (3 - (8 + p) / 3) then byte_in p fore.high else byte_in p back.high))
-    → AreBytesPut 8 (3 * at) (λ p. byte_in p low) row0 row1 → AreBytesPut 4 (3 * at + 8) (λ p. byte_in p high) row1 row2
+pub quad_put : (dots at low high : ℕ) (fore back : Quad) (f b row0 row1 row2 : List ℕ) → IsFourDotsOfColour fore f → IsFourDotsOfColour back b
+    → ((p : ℕ) → p < 8 → plane_byte_in_word p low ≡ (if is_set dots (3 - p / 3) then plane_byte_in_word p fore.low else plane_byte_in_word p back.low))
+    → ((p : ℕ) → p < 4 → plane_byte_in_word p high ≡ (if is_set dots (3 - (8 + p) / 3) then plane_byte_in_word p fore.high else plane_byte_in_word p back.high))
+    → AreBytesPut 8 (3 * at) (λ p. plane_byte_in_word p low) row0 row1 → AreBytesPut 4 (3 * at + 8) (λ p. plane_byte_in_word p high) row1 row2
     → AreDotsPut 4 at (λ i. if is_set dots (3 - i) then f else b) row0 row2
 quad_put dots at low high fore back f b row0 row1 row2 is_fore is_back is_low is_high first last = record {
   inside = λ i j li lj. ⊎_elim
@@ -132,14 +132,14 @@ dot_of_nine lit s i within fits =
     ap (λ b. b == 1) (bit_at_cut (lit / 2 ^ (5 - s)) 4 (3 - i) (omega arith) ∙ bit_at_shr lit (5 - s) (3 - i) ∙ ap (bit_at lit) place)
 
 -- one dot of a quad's colour
-one_byte : (quad : Quad) (c : List ℕ) (j : ℕ) → j < 3 → IsQuad quad c
+one_byte : (quad : Quad) (c : List ℕ) (j : ℕ) → j < 3 → IsFourDotsOfColour quad c
     → slice_index (quad.low % 256 ∷ quad.low / 256 % 256 ∷ quad.low / 65536 % 256 ∷ []) j ≡ slice_index c j
-one_byte quad c zero l is = let e : quad.low % 256 ≡ byte_in 0 quad.low = omega arith in e ∙ is.low 0 (omega arith)
+one_byte quad c zero l is = let e : quad.low % 256 ≡ plane_byte_in_word 0 quad.low = omega arith in e ∙ is.low 0 (omega arith)
 one_byte quad c (suc zero) l is = is.low 1 (omega arith)
 one_byte quad c (suc (suc zero)) l is = is.low 2 (omega arith)
 one_byte quad c (suc (suc (suc j))) l is = absurd (omega arith)
 
-pub one_put : (quad : Quad) (c : List ℕ) (at : ℕ) (row0 row1 : List ℕ) → IsQuad quad c
+pub one_put : (quad : Quad) (c : List ℕ) (at : ℕ) (row0 row1 : List ℕ) → IsFourDotsOfColour quad c
     → IsDotPut row0 row1 at (quad.low % 256 ∷ quad.low / 256 % 256 ∷ quad.low / 65536 % 256 ∷ []) → AreDotsPut 1 at (λ i. c) row0 row1
 one_put quad c at row0 row1 is put = record {
   inside = λ i j li lj. let place : 3 * (at + i) + j ≡ 3 * at + j = omega arith in ap (slice_index row1) place ∙ put.inside j lj ∙ one_byte quad c j lj is;
@@ -153,27 +153,27 @@ dot_word x y z = x + 256 * y + 65536 * z
 
 low_bytes : (c : List ℕ) (w x y z p : ℕ) → x ≡ slice_index c 0 → y ≡ slice_index c 1 → z ≡ slice_index c 2 → x < 256 → y < 256 → z < 256
     → w ≡ x + 256 * y + 65536 * z + 16777216 * x + 4294967296 * y + 1099511627776 * z + 281474976710656 * x + 72057594037927936 * y
-    → p < 8 → byte_in p w ≡ slice_index c (p % 3)
-low_bytes c w x y z zero ex ey ez lx ly lz e l = let b : byte_in 0 w ≡ x = omega arith in b ∙ ex
-low_bytes c w x y z (suc zero) ex ey ez lx ly lz e l = let b : byte_in 1 w ≡ y = omega arith in b ∙ ey
-low_bytes c w x y z (suc (suc zero)) ex ey ez lx ly lz e l = let b : byte_in 2 w ≡ z = omega arith in b ∙ ez
-low_bytes c w x y z (suc (suc (suc zero))) ex ey ez lx ly lz e l = let b : byte_in 3 w ≡ x = omega arith in b ∙ ex
-low_bytes c w x y z (suc (suc (suc (suc zero)))) ex ey ez lx ly lz e l = let b : byte_in 4 w ≡ y = omega arith in b ∙ ey
-low_bytes c w x y z (suc (suc (suc (suc (suc zero))))) ex ey ez lx ly lz e l = let b : byte_in 5 w ≡ z = omega arith in b ∙ ez
-low_bytes c w x y z (suc (suc (suc (suc (suc (suc zero)))))) ex ey ez lx ly lz e l = let b : byte_in 6 w ≡ x = omega arith in b ∙ ex
-low_bytes c w x y z (suc (suc (suc (suc (suc (suc (suc zero))))))) ex ey ez lx ly lz e l = let b : byte_in 7 w ≡ y = omega arith in b ∙ ey
+    → p < 8 → plane_byte_in_word p w ≡ slice_index c (p % 3)
+low_bytes c w x y z zero ex ey ez lx ly lz e l = let b : plane_byte_in_word 0 w ≡ x = omega arith in b ∙ ex
+low_bytes c w x y z (suc zero) ex ey ez lx ly lz e l = let b : plane_byte_in_word 1 w ≡ y = omega arith in b ∙ ey
+low_bytes c w x y z (suc (suc zero)) ex ey ez lx ly lz e l = let b : plane_byte_in_word 2 w ≡ z = omega arith in b ∙ ez
+low_bytes c w x y z (suc (suc (suc zero))) ex ey ez lx ly lz e l = let b : plane_byte_in_word 3 w ≡ x = omega arith in b ∙ ex
+low_bytes c w x y z (suc (suc (suc (suc zero)))) ex ey ez lx ly lz e l = let b : plane_byte_in_word 4 w ≡ y = omega arith in b ∙ ey
+low_bytes c w x y z (suc (suc (suc (suc (suc zero))))) ex ey ez lx ly lz e l = let b : plane_byte_in_word 5 w ≡ z = omega arith in b ∙ ez
+low_bytes c w x y z (suc (suc (suc (suc (suc (suc zero)))))) ex ey ez lx ly lz e l = let b : plane_byte_in_word 6 w ≡ x = omega arith in b ∙ ex
+low_bytes c w x y z (suc (suc (suc (suc (suc (suc (suc zero))))))) ex ey ez lx ly lz e l = let b : plane_byte_in_word 7 w ≡ y = omega arith in b ∙ ey
 low_bytes c w x y z (suc (suc (suc (suc (suc (suc (suc (suc p)))))))) ex ey ez lx ly lz e l = absurd (omega arith)
 
 high_bytes : (c : List ℕ) (w x y z p : ℕ) → x ≡ slice_index c 0 → y ≡ slice_index c 1 → z ≡ slice_index c 2 → x < 256 → y < 256 → z < 256
-    → w ≡ z + 256 * x + 65536 * y + 16777216 * z → p < 4 → byte_in p w ≡ slice_index c ((8 + p) % 3)
-high_bytes c w x y z zero ex ey ez lx ly lz e l = let b : byte_in 0 w ≡ z = omega arith in b ∙ ez
-high_bytes c w x y z (suc zero) ex ey ez lx ly lz e l = let b : byte_in 1 w ≡ x = omega arith in b ∙ ex
-high_bytes c w x y z (suc (suc zero)) ex ey ez lx ly lz e l = let b : byte_in 2 w ≡ y = omega arith in b ∙ ey
-high_bytes c w x y z (suc (suc (suc zero))) ex ey ez lx ly lz e l = let b : byte_in 3 w ≡ z = omega arith in b ∙ ez
+    → w ≡ z + 256 * x + 65536 * y + 16777216 * z → p < 4 → plane_byte_in_word p w ≡ slice_index c ((8 + p) % 3)
+high_bytes c w x y z zero ex ey ez lx ly lz e l = let b : plane_byte_in_word 0 w ≡ z = omega arith in b ∙ ez
+high_bytes c w x y z (suc zero) ex ey ez lx ly lz e l = let b : plane_byte_in_word 1 w ≡ x = omega arith in b ∙ ex
+high_bytes c w x y z (suc (suc zero)) ex ey ez lx ly lz e l = let b : plane_byte_in_word 2 w ≡ y = omega arith in b ∙ ey
+high_bytes c w x y z (suc (suc (suc zero))) ex ey ez lx ly lz e l = let b : plane_byte_in_word 3 w ≡ z = omega arith in b ∙ ez
 high_bytes c w x y z (suc (suc (suc (suc p)))) ex ey ez lx ly lz e l = absurd (omega arith)
 
 pub quad_made : (c : List ℕ) (x y z : ℕ) → x ≡ slice_index c 0 → y ≡ slice_index c 1 → z ≡ slice_index c 2 → x < 256 → y < 256 → z < 256
-    → IsQuad (record {
+    → IsFourDotsOfColour (record {
       low = dot_word x y z + 16777216 * dot_word x y z + 281474976710656 * (dot_word x y z % 65536);
       high = dot_word x y z / 65536 + 256 * dot_word x y z;
     }) c

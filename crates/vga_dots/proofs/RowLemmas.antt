@@ -2,7 +2,7 @@
 use Rattle.std.proofs.Common.{◌≡◌, ℕ, zero, suc, ◌+◌, ◌*◌, ◌<◌, ◌≤◌, inl, inr, ⊎_elim, refl, sym, ap, ◌∙◌, arith, List, slice_index}
 use Rattle.std.proofs.lemmas.Bool.{cases_lt}
 use Rattle.std.proofs.lemmas.Nat.{row_fits}
-use Rattle.vga_dots.specs.Row.{padded_colour, dot_in, IsDotPut, IsNextPut, AreFirstPut, AreDotsPut, AreCharactersPut}
+use Rattle.vga_dots.specs.Row.{colour_and_zero_byte, bytes_of_dot, IsDotPut, IsCharacterDotPut, AreFirstDotsPut, AreDotsPut, AreCharactersPut}
 
 -- one dot more
 pub dots_more : (n at : ℕ) (f : ℕ → List ℕ) (row0 row1 row2 colour : List ℕ) → AreDotsPut n at f row0 row1 → IsDotPut row1 row2 (at + n) colour → colour ≡ f n →
@@ -19,8 +19,8 @@ dots_more n at f row0 row1 row2 colour before now e = record {
 }
 
 -- one dot more of a character
-pub first_more : (cw n at : ℕ) (f : ℕ → List ℕ) (row0 row1 row2 colour : List ℕ) → AreFirstPut cw n at f row0 row1
-    → IsNextPut cw at n colour row1 row2 → colour ≡ f n → AreFirstPut cw (n + 1) at f row0 row2
+pub first_more : (cw n at : ℕ) (f : ℕ → List ℕ) (row0 row1 row2 colour : List ℕ) → AreFirstDotsPut cw n at f row0 row1
+    → IsCharacterDotPut cw at n colour row1 row2 → colour ≡ f n → AreFirstDotsPut cw (n + 1) at f row0 row2
 first_more cw n at f row0 row1 row2 colour before now e = record {
   inside = λ i j li lj. ⊎_elim
       (λ (l : i < n). now.outside (3 * (at + i) + j) (inl (omega arith)) ∙ before.inside i j l lj)
@@ -32,11 +32,11 @@ first_more cw n at f row0 row1 row2 colour before now e = record {
 }
 
 -- all dots of a character
-pub all_put : (cw n at : ℕ) (f : ℕ → List ℕ) (row0 row1 : List ℕ) → cw ≤ n → AreFirstPut cw n at f row0 row1 → AreDotsPut cw at f row0 row1
+pub all_put : (cw n at : ℕ) (f : ℕ → List ℕ) (row0 row1 : List ℕ) → cw ≤ n → AreFirstDotsPut cw n at f row0 row1 → AreDotsPut cw at f row0 row1
 all_put cw n at f row0 row1 all put = record { inside = λ i j li lj. put.inside i j (omega (arith, li, all)) lj; outside = put.outside }
 
 -- three bytes of a colour with a byte more
-pub padded_byte : (c : List ℕ) (j : ℕ) → j < 3 → slice_index (padded_colour c) j ≡ slice_index c j
+pub padded_byte : (c : List ℕ) (j : ℕ) → j < 3 → slice_index (colour_and_zero_byte c) j ≡ slice_index c j
 padded_byte c zero l = refl
 padded_byte c (suc zero) l = refl
 padded_byte c (suc (suc zero)) l = refl
@@ -73,7 +73,7 @@ characters_more cw n f row0 row1 row2 before now = record {
 }
 
 -- a byte of a dot in a row
-pub dot_byte : (row : List ℕ) (n j : ℕ) → j < 3 → slice_index (dot_in row n) j ≡ slice_index row (3 * n + j)
+pub dot_byte : (row : List ℕ) (n j : ℕ) → j < 3 → slice_index (bytes_of_dot row n) j ≡ slice_index row (3 * n + j)
 dot_byte row n zero l = let z : 3 * n ≡ 3 * n + 0 = omega arith in ap (slice_index row) z
 dot_byte row n (suc zero) l = refl
 dot_byte row n (suc (suc zero)) l = refl

@@ -1,7 +1,7 @@
 -- A dot's colour depends on nothing of the host path except the memory and four registers.
 use Rattle.std.proofs.Common.{◌≡◌, ℕ, ◌∙◌, sym, refl, List, [], ◌∷◌}
 use Rattle.std.specs.Prelude.{slice_index}
-use Rattle.vga_bits.specs.Four.{Four, four}
+use Rattle.vga_bits.specs.Four.{Four, four_by_plane}
 use Rattle.vga_host.specs.Host.{HostState}
 use Rattle.vga_crtc.specs.Crtc.{CrtcState}
 use Rattle.vga_attr.specs.Attr.{AttrState}
@@ -10,13 +10,13 @@ use Rattle.vga_dots.specs.SourceDot.{panning_shift, source_dot}
 use Rattle.vga_dots.specs.Text.{text_nibble, cell_at, glyph_row, is_foreground, is_glyph_dot, is_blinked_away, is_underlined}
 use Rattle.vga_dots.specs.Graphics.{planar_nibble, packed_byte, plane_bits}
 use Rattle.vga_dots.specs.Colour.{nibble, colour_number, dot_colour}
-use Rattle.vga_dots.specs.Seen.{AreSeenAlike}
+use Rattle.vga_dots.specs.Seen.{DotsSeeSameRegisters}
 
 -- the host path with these registers, and 0 in all others
 abbrev seen : Four (List ℕ) → ℕ → ℕ → ℕ → ℕ → HostState
 seen memory clocking maps mode miscellaneous = record {
   memory = memory;
-  latches = four (λ p. 0);
+  latches = four_by_plane (λ p. 0);
   seq = 0 ∷ clocking ∷ 0 ∷ maps ∷ 0 ∷ [];
   gfx = 0 ∷ 0 ∷ 0 ∷ 0 ∷ 0 ∷ mode ∷ miscellaneous ∷ 0 ∷ 0 ∷ [];
   seq_index = 0;
@@ -29,7 +29,7 @@ unfolding dot_colour colour_number nibble source_dot panning_shift text_nibble i
     planar_nibble packed_byte plane_bits
 seen_colour h c a d = refl
 
-pub colour_alike : (h other : HostState) (c : CrtcState) (a : AttrState) (d : DacState) → AreSeenAlike h other → dot_colour other c a d ≡ dot_colour h c a d
+pub colour_alike : (h other : HostState) (c : CrtcState) (a : AttrState) (d : DacState) → DotsSeeSameRegisters h other → dot_colour other c a d ≡ dot_colour h c a d
 colour_alike h other c a d alike =
     seen_colour other c a d
     ∙ (λ j. dot_colour (seen (alike.memory j) (alike.clocking_mode j) (alike.character_map_select j) (alike.graphics_mode j) (alike.miscellaneous j)) c a d)

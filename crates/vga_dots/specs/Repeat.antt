@@ -7,6 +7,6 @@ use Rattle.vga_crtc.specs.declared.beam.Beam.{Beam}
 
 -- the lines of two beams begin at the same counter, and line compare was reached before both or
 -- before neither
-pub record IsSameFetch (b c : Beam) : Type 0 where
+pub record BeginAtSameFetch (b c : Beam) : Type 0 where
   pub base : c.base ≡ b.base
   pub split : c.split ≡ b.split

@@ -7,7 +7,7 @@ use Rattle.vga_host.specs.Host.{HostState}
 -- two host paths with the same memory, and the same in the registers that a dot sees: clocking mode
 -- and character map select of the sequencer, graphics mode and miscellaneous of the graphics
 -- controller
-pub record AreSeenAlike (h other : HostState) : Type 0 where
+pub record DotsSeeSameRegisters (h other : HostState) : Type 0 where
   pub memory : other.memory ≡ h.memory
   pub clocking_mode : slice_index other.seq 1 ≡ slice_index h.seq 1
   pub character_map_select : slice_index other.seq 3 ≡ slice_index h.seq 3

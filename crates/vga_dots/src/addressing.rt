@@ -6,8 +6,8 @@ ghost use Rattle.vga_crtc.specs.Fields.{horizontal_display_end};
 ghost use Rattle.vga_attr.specs.Attr.{AttrState};
 ghost use Rattle.vga_dots.specs.SourceDot.{fetch_address};
 ghost use Rattle.vga_dots.specs.Addressing.{addressing_of};
-ghost use Rattle.vga_dots.specs.Fetch.{fetched_at};
-ghost use Rattle.vga_dots.specs.Line.{placed};
+ghost use Rattle.vga_dots.specs.Fetch.{fetched_address};
+ghost use Rattle.vga_dots.specs.Line.{with_beam_at};
 
 use vga_crtc::{Crtc, Registers};
 
@@ -61,10 +61,10 @@ impl Addressing {
 /// True only if no displayed dot of the beam's line fetches an offset. The start of the frame must
 /// have been taken. An offset near the fetched ones may count as fetched.
 #[tactic(auto, unfolding(crate::specs::Addressing::addressing_of))]
-pub fn is_apart(crtc: &Crtc, offset: u16) -> bool
+pub fn is_not_fetched(crtc: &Crtc, offset: u16) -> bool
     ensures { result ≡ true → (h : HostState) (a : AttrState) (x k : ℕ) →
         x ≤ horizontal_display_end crtc.now.registers
-        → ¬ (fetched_at h (placed crtc.now x k) a ≡ offset) }
+        → ¬ (fetched_address h (with_beam_at crtc.now x k) a ≡ offset) }
 {
     let registers = crtc.fields();
     let step = Addressing::new(registers).step;

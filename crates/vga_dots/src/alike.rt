@@ -2,11 +2,11 @@
 //! file serves speed alone: each of these characters could be drawn by itself.
 ghost use Rattle.std.specs.Prelude.{◌≡◌, ℕ, List, ◌+◌, ◌-◌, ◌*◌, ◌<◌, ◌≤◌, length};
 ghost use Rattle.vga_dots.specs.SourceDot.{counter_of};
-ghost use Rattle.vga_dots.specs.Character.{DrawsText};
+ghost use Rattle.vga_dots.specs.Character.{AreTextCharactersOf};
 ghost use Rattle.vga_dots.specs.Display.{ShowsText};
 ghost use Rattle.vga_dots.specs.Line.{unpanned_colour};
-ghost use Rattle.vga_dots.specs.Row.{dot_in, AreDotsPut, AreCharactersPut};
-ghost use Rattle.vga_dots.specs.Alike.{HasPlainCell, RepeatTheOneBefore};
+ghost use Rattle.vga_dots.specs.Row.{bytes_of_dot, AreDotsPut, AreCharactersPut};
+ghost use Rattle.vga_dots.specs.Alike.{IsCursorlessCell, RepeatCharacterBefore};
 
 use crate::character::TextCharacters;
 use crate::display::Display;
@@ -23,18 +23,19 @@ pub(crate) fn characters_to_draw(
     first: usize,
     count: usize,
 ) -> usize
-    requires draws { DrawsText characters.now display.now }
+    requires draws { AreTextCharactersOf characters.now display.now }
     requires first { first ≤ 300 }
     requires some { 0 < count }
     requires count { count ≤ 257 }
     ensures some { 0 < result }
     ensures few { result ≤ count }
-    ensures alike { RepeatTheOneBefore result count (λ x. unpanned_colour display.now (first + x)) }
+    ensures alike { RepeatCharacterBefore result count (λ x. unpanned_colour display.now
+        (first + x)) }
 {
     let last = characters.cell(display, display.counter((first + count - 1) as u16));
     let mut drawn = count;
     while 0 < drawn
-        && characters.has_plain_cell(display, display.counter((first + drawn - 1) as u16), last)
+        && characters.is_cursorless_cell(display, display.counter((first + drawn - 1) as u16), last)
     {
         drawn -= 1;
     }
@@ -42,28 +43,28 @@ pub(crate) fn characters_to_draw(
 }
 
 /// Writes a character's dots, given in `dots`, into the row from dot `at` on.
-fn put_again<const CW: usize>(row: &mut [u8], at: usize, dots: &[u8; 27])
+fn copy_character_dots<const CW: usize>(row: &mut [u8], at: usize, dots: &[u8; 27])
     requires room { 3 * (at + CW) ≤ length row.old }
     requires width { CW < 10 }
-    ensures { AreDotsPut CW at (λ i. dot_in dots.now i) row.old row.new }
+    ensures { AreDotsPut CW at (λ i. bytes_of_dot dots.now i) row.old row.new }
 {
     row[3 * at..3 * (at + CW)].copy_from_slice(&dots[..3 * CW]);
 }
 
 /// Copies the dots of character `drawn - 1` to each character after it, up to `count` in all. In
 /// any picture in which these characters look alike, they are drawn then.
-pub(crate) fn repeat_last<const CW: usize>(row: &mut [u8], drawn: usize, count: usize)
+pub(crate) fn repeat_last_character<const CW: usize>(row: &mut [u8], drawn: usize, count: usize)
     requires some { 0 < drawn }
     requires more { drawn ≤ count }
     requires count { count ≤ 257 }
     requires width { CW < 10 }
     requires room { 3 * (count * CW) ≤ length row.old }
     ensures { (f : ℕ → ℕ → List ℕ) (old : List ℕ) → AreCharactersPut CW drawn f old row.old
-        → RepeatTheOneBefore drawn count f → AreCharactersPut CW count f old row.new }
+        → RepeatCharacterBefore drawn count f → AreCharactersPut CW count f old row.new }
 {
     let mut dots = [0; CHARACTER_BYTES];
     copy_dots(&mut dots, row, (drawn - 1) * CW, CW);
     for x in drawn..count {
-        put_again::<CW>(row, x * CW, &dots);
+        copy_character_dots::<CW>(row, x * CW, &dots);
     }
 }

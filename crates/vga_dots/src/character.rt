@@ -7,19 +7,21 @@ ghost use Rattle.vga_attr.specs.Fields.{is_line_graphics};
 ghost use Rattle.vga_dots.specs.Text.{is_glyph_dot as is_dot_of_glyph, is_foreground};
 ghost use Rattle.vga_dots.specs.Text.{cell_at as cell_at_place};
 ghost use Rattle.vga_dots.specs.TextLine.{text_line, HasGlyphs};
-ghost use Rattle.vga_dots.specs.Row.{AreDotsPut, padded_colour as padded_colour_of};
-ghost use Rattle.vga_dots.specs.Line.{masked_colour as masked_colour_of, colour_by_palette, colours_by_palette as colours_by_palette_of, dot_of};
-ghost use Rattle.vga_dots.specs.Line.{source_colour};
-ghost use Rattle.vga_dots.specs.Quads.{IsQuad};
+ghost use Rattle.vga_dots.specs.Row.{AreDotsPut, colour_and_zero_byte as colour_and_zero_byte_of};
+ghost use Rattle.vga_dots.specs.Line.{masked_colour as masked_colour_of, colour_by_palette};
+ghost use Rattle.vga_dots.specs.Line.{sixteen_palette_colours as colours_by_palette_of};
+ghost use Rattle.vga_dots.specs.Line.{dot_of_counter};
+ghost use Rattle.vga_dots.specs.Line.{colour_of_source_dot};
+ghost use Rattle.vga_dots.specs.Quads.{IsFourDotsOfColour};
 ghost use Rattle.vga_dots.specs.SourceDot.{fetch_address};
-ghost use Rattle.vga_dots.specs.Character.{HasColours};
+ghost use Rattle.vga_dots.specs.Character.{HasPaletteColours};
 ghost use Rattle.vga_dots.specs.Display.{ShowsText, ShowsPlanes};
-ghost use Rattle.vga_dots.specs.Alike.{HasPlainCell};
+ghost use Rattle.vga_dots.specs.Alike.{IsCursorlessCell};
 
 use crate::addressing::Addressing;
 use crate::display::Display;
 use crate::quads::{Quad, put_glyph};
-use crate::row::{PaletteColours, put_pixels, put_planes};
+use crate::row::{PaletteColours, put_packed_character, put_planar_character};
 use crate::text::{Cell, GLYPHS, cell_at};
 use crate::text_line::TextLine;
 use vga_attr::Attr;
@@ -36,43 +38,43 @@ pub(crate) fn masked_colour(dac: &Dac, n: u8) -> [u8; 3]
 }
 
 /// The colour of a number, with a byte more.
-fn padded_colour(dac: &Dac, n: u8) -> [u8; 4]
-    ensures { result ≡ padded_colour_of (masked_colour_of dac.now n) }
+fn colour_and_zero_byte(dac: &Dac, n: u8) -> [u8; 4]
+    ensures { result ≡ colour_and_zero_byte_of (masked_colour_of dac.now n) }
 {
-    dac.padded_entry(n & dac.mask())
+    dac.entry_and_zero_byte(n & dac.mask())
 }
 
 /// The colours of the 16 values of four bits, each with a byte more.
-fn colours_by_palette(attr: &Attr, dac: &Dac) -> PaletteColours
+fn sixteen_palette_colours(attr: &Attr, dac: &Dac) -> PaletteColours
     ensures { result ≡ colours_by_palette_of attr.now dac.now }
 {
     let numbers = attr.table();
     [
-        padded_colour(dac, numbers[0]),
-        padded_colour(dac, numbers[1]),
-        padded_colour(dac, numbers[2]),
-        padded_colour(dac, numbers[3]),
-        padded_colour(dac, numbers[4]),
-        padded_colour(dac, numbers[5]),
-        padded_colour(dac, numbers[6]),
-        padded_colour(dac, numbers[7]),
-        padded_colour(dac, numbers[8]),
-        padded_colour(dac, numbers[9]),
-        padded_colour(dac, numbers[10]),
-        padded_colour(dac, numbers[11]),
-        padded_colour(dac, numbers[12]),
-        padded_colour(dac, numbers[13]),
-        padded_colour(dac, numbers[14]),
-        padded_colour(dac, numbers[15]),
+        colour_and_zero_byte(dac, numbers[0]),
+        colour_and_zero_byte(dac, numbers[1]),
+        colour_and_zero_byte(dac, numbers[2]),
+        colour_and_zero_byte(dac, numbers[3]),
+        colour_and_zero_byte(dac, numbers[4]),
+        colour_and_zero_byte(dac, numbers[5]),
+        colour_and_zero_byte(dac, numbers[6]),
+        colour_and_zero_byte(dac, numbers[7]),
+        colour_and_zero_byte(dac, numbers[8]),
+        colour_and_zero_byte(dac, numbers[9]),
+        colour_and_zero_byte(dac, numbers[10]),
+        colour_and_zero_byte(dac, numbers[11]),
+        colour_and_zero_byte(dac, numbers[12]),
+        colour_and_zero_byte(dac, numbers[13]),
+        colour_and_zero_byte(dac, numbers[14]),
+        colour_and_zero_byte(dac, numbers[15]),
     ]
 }
 
 /// Four dots of the colour of four bits.
 #[tactic(auto, unfolding(crate::specs::Line::colour_by_palette))]
 fn quad_of(display: &Display<'_>, n: u8) -> Quad
-    ensures { IsQuad result (colour_by_palette display.now.attr display.now.dac n) }
+    ensures { IsFourDotsOfColour result (colour_by_palette display.now.attr display.now.dac n) }
 {
-    Quad::of(masked_colour(display.dac(), display.attr().colour_index(n)))
+    Quad::of_colour(masked_colour(display.dac(), display.attr().colour_index(n)))
 }
 
 /// The dots of one line of a glyph, as bits. Bit 8 is the leftmost dot.
@@ -88,11 +90,12 @@ fn glyph_dots(attr: &Attr, line: &TextLine, character: u8, row: u8) -> u16
 
 /// The dots of a counter's cell that have its foreground, as bits. Bit 8 is the leftmost dot.
 #[inline(always)]
-fn lit_dots(display: &Display<'_>, line: &TextLine, counter: u16, cell: Cell) -> u16
+fn foreground_dots(display: &Display<'_>, line: &TextLine, counter: u16, cell: Cell) -> u16
     requires line { line.now ≡ text_line display.now.host display.now.crtc display.now.attr }
     requires glyphs { HasGlyphs line.now }
     ensures dots { (i : ℕ) → i < 9 → is_set result (8 - i)
-        ≡ is_foreground display.now.host display.now.crtc display.now.attr (dot_of counter i) cell }
+        ≡ is_foreground display.now.host display.now.crtc display.now.attr (dot_of_counter counter
+        i) cell }
     ensures nine { result < 512 }
 {
     if line.has_cursor_at(counter) {
@@ -102,7 +105,7 @@ fn lit_dots(display: &Display<'_>, line: &TextLine, counter: u16, cell: Cell) ->
     } else if line.underlines(cell) {
         ALL_DOTS
     } else {
-        let row = display.planes().byte(GLYPHS, line.glyph_place(cell));
+        let row = display.planes().byte(GLYPHS, line.glyph_row_address(cell));
         glyph_dots(display.attr(), line, cell.character, row)
     }
 }
@@ -126,7 +129,8 @@ pub(crate) trait Characters<const CW: usize> {
         requires draws { draws self.now display.now }
         requires room { 3 * (at + CW) ≤ length row.old }
         requires width { CW < 10 }
-        ensures { AreDotsPut CW at (λ i. source_colour display.now (dot_of counter i)) row.old
+        ensures { AreDotsPut CW at (λ i. colour_of_source_dot display.now (dot_of_counter counter
+            i)) row.old
             row.new };
 }
 
@@ -138,12 +142,12 @@ pub(crate) struct TextCharacters {
 }
 
 impl TextCharacters {
-    ghost use Rattle.vga_dots.specs.Character.{DrawsText};
+    ghost use Rattle.vga_dots.specs.Character.{AreTextCharactersOf};
 
     /// Those of the beam's line.
     pub(crate) fn at_beam(display: &Display<'_>) -> TextCharacters
         requires { ShowsText display.now }
-        ensures { DrawsText result display.now }
+        ensures { AreTextCharactersOf result display.now }
     {
         TextCharacters {
             addressing: Addressing::new(display.crtc().fields()),
@@ -154,7 +158,7 @@ impl TextCharacters {
     /// The cell of a counter.
     #[inline(always)]
     pub(crate) fn cell(&self, display: &Display<'_>, counter: u16) -> Cell
-        requires { DrawsText self.now display.now }
+        requires { AreTextCharactersOf self.now display.now }
         ensures { result ≡ cell_at_place display.now.host
             (fetch_address display.now.crtc.registers counter) }
     {
@@ -163,17 +167,17 @@ impl TextCharacters {
 
     /// Whether a counter has this cell, and no cursor.
     #[inline(always)]
-    pub(crate) fn has_plain_cell(&self, display: &Display<'_>, counter: u16, cell: Cell) -> bool
-        requires { DrawsText self.now display.now }
-        ensures { result ≡ true → HasPlainCell display.now counter cell }
+    pub(crate) fn is_cursorless_cell(&self, display: &Display<'_>, counter: u16, cell: Cell) -> bool
+        requires { AreTextCharactersOf self.now display.now }
+        ensures { result ≡ true → IsCursorlessCell display.now counter cell }
     {
         self.cell(display, counter).is_same(cell) && !self.line.has_cursor_at(counter)
     }
 
     /// The colours of an attribute.
     pub(crate) fn colours(&self, display: &Display<'_>, attribute: u8) -> CellColours
-        requires { DrawsText self.now display.now }
-        ensures colours { HasColours result display.now }
+        requires { AreTextCharactersOf self.now display.now }
+        ensures colours { HasPaletteColours result display.now }
         ensures attribute { result.attribute ≡ attribute }
     {
         CellColours {
@@ -194,18 +198,19 @@ impl TextCharacters {
         row: &mut [u8],
         at: usize,
     )
-        requires draws { DrawsText self.now display.now }
+        requires draws { AreTextCharactersOf self.now display.now }
         requires cell { cell ≡ cell_at_place display.now.host
             (fetch_address display.now.crtc.registers counter) }
-        requires colours { HasColours colours display.now }
+        requires colours { HasPaletteColours colours display.now }
         requires attribute { colours.attribute ≡ cell.attribute }
         requires room { 3 * (at + CW) ≤ length row.old }
         requires width { CW < 10 }
         requires eight { 8 ≤ CW }
-        ensures { AreDotsPut CW at (λ i. source_colour display.now (dot_of counter i)) row.old
+        ensures { AreDotsPut CW at (λ i. colour_of_source_dot display.now (dot_of_counter counter
+            i)) row.old
             row.new }
     {
-        let lit = lit_dots(display, &self.line, counter, cell);
+        let lit = foreground_dots(display, &self.line, counter, cell);
         put_glyph::<CW>(row, at, lit, colours.fore, colours.back);
     }
 }
@@ -218,30 +223,30 @@ pub(crate) struct PlanarCharacters {
 }
 
 impl PlanarCharacters {
-    ghost use Rattle.vga_dots.specs.Character.{DrawsPlanes};
+    ghost use Rattle.vga_dots.specs.Character.{ArePlanarCharactersOf};
 
     /// Those of any line.
     #[inline(always)]
     pub(crate) fn new(display: &Display<'_>) -> PlanarCharacters
         requires { ShowsPlanes display.now }
-        ensures { DrawsPlanes result display.now }
+        ensures { ArePlanarCharactersOf result display.now }
     {
         PlanarCharacters {
             addressing: Addressing::new(display.crtc().fields()),
-            table: colours_by_palette(display.attr(), display.dac()),
+            table: sixteen_palette_colours(display.attr(), display.dac()),
         }
     }
 }
 
 impl<const CW: usize> Characters<CW> for PlanarCharacters {
-    ghost use Rattle.vga_dots.specs.Character.{DrawsPlanes};
+    ghost use Rattle.vga_dots.specs.Character.{ArePlanarCharactersOf};
 
-    ghost draws = { DrawsPlanes };
+    ghost draws = { ArePlanarCharactersOf };
 
     #[inline(always)]
     fn put(&self, display: &Display<'_>, counter: u16, row: &mut [u8], at: usize) {
         let address = self.addressing.address(counter);
-        put_planes::<CW>(row, at, display.planes().word(address), &self.table);
+        put_planar_character::<CW>(row, at, display.planes().word(address), &self.table);
     }
 }
 
@@ -252,13 +257,13 @@ pub(crate) struct PackedCharacters {
 }
 
 impl PackedCharacters {
-    ghost use Rattle.vga_dots.specs.Character.{DrawsBytes};
+    ghost use Rattle.vga_dots.specs.Character.{ArePackedCharactersOf};
     ghost use Rattle.vga_dots.specs.Display.{ShowsBytes};
 
     /// Those of any line.
     pub(crate) fn new(display: &Display<'_>) -> PackedCharacters
         requires { ShowsBytes display.now }
-        ensures { DrawsBytes result display.now }
+        ensures { ArePackedCharactersOf result display.now }
     {
         PackedCharacters {
             addressing: Addressing::new(display.crtc().fields()),
@@ -267,9 +272,9 @@ impl PackedCharacters {
 }
 
 impl<const CW: usize> Characters<CW> for PackedCharacters {
-    ghost use Rattle.vga_dots.specs.Character.{DrawsBytes};
+    ghost use Rattle.vga_dots.specs.Character.{ArePackedCharactersOf};
 
-    ghost draws = { DrawsBytes };
+    ghost draws = { ArePackedCharactersOf };
 
     #[inline(always)]
     fn put(&self, display: &Display<'_>, counter: u16, row: &mut [u8], at: usize) {
@@ -277,12 +282,12 @@ impl<const CW: usize> Characters<CW> for PackedCharacters {
         let fetched = display.planes().load(address);
         let dac = display.dac();
         let pixels = [
-            padded_colour(dac, fetched.byte(0)),
-            padded_colour(dac, fetched.byte(1)),
-            padded_colour(dac, fetched.byte(2)),
-            padded_colour(dac, fetched.byte(3)),
-            padded_colour(dac, 0),
+            colour_and_zero_byte(dac, fetched.byte(0)),
+            colour_and_zero_byte(dac, fetched.byte(1)),
+            colour_and_zero_byte(dac, fetched.byte(2)),
+            colour_and_zero_byte(dac, fetched.byte(3)),
+            colour_and_zero_byte(dac, 0),
         ];
-        put_pixels::<CW>(row, at, &pixels);
+        put_packed_character::<CW>(row, at, &pixels);
     }
 }

@@ -9,18 +9,19 @@ ghost use Rattle.vga_crtc.specs.Crtc.{CrtcState};
 ghost use Rattle.vga_attr.specs.Attr.{AttrState};
 ghost use Rattle.vga_dac.specs.Dac.{DacState};
 ghost use Rattle.vga_dots.specs.Colour.{dot_colour};
-ghost use Rattle.vga_dots.specs.Fetch.{IsSeenAlike};
-ghost use Rattle.vga_dots.specs.Line.{placed};
-ghost use Rattle.vga_dots.specs.Repeat.{IsSameFetch};
-ghost use Rattle.vga_dots.specs.Seen.{AreSeenAlike};
+ghost use Rattle.vga_dots.specs.Fetch.{DotSeesSameBytes};
+ghost use Rattle.vga_dots.specs.Line.{with_beam_at};
+ghost use Rattle.vga_dots.specs.Repeat.{BeginAtSameFetch};
+ghost use Rattle.vga_dots.specs.Seen.{DotsSeeSameRegisters};
 
 /// In graphics, two lines have the same colours if they begin at the same counter and line compare
 /// was reached before both or before neither. No colour depends on the scan line.
 #[tactic(auto, using(crate::proofs::RepeatLemmas::same_colour))]
 pub fn graphics_lines_repeat()
     ensures { (h : HostState) (c : CrtcState) (b : Beam) (a : AttrState) (d : DacState) (x k : ℕ) →
-        is_graphics h ≡ true → IsSameFetch b c.beam →
-        dot_colour h (placed (record c { beam = b }) x k) a d ≡ dot_colour h (placed c x k) a d }
+        is_graphics h ≡ true → BeginAtSameFetch b c.beam →
+        dot_colour h (with_beam_at (record c { beam = b }) x k) a d ≡ dot_colour h
+        (with_beam_at c x k) a d }
 {}
 
 /// A dot's colour depends only on the bytes of memory that the dot fetches and, in text, on the
@@ -28,7 +29,7 @@ pub fn graphics_lines_repeat()
 #[tactic(auto, using(crate::proofs::FetchLemmas::same_colour))]
 pub fn dots_see_what_they_fetch()
     ensures { (h : HostState) (c : CrtcState) (a : AttrState) (d : DacState)
-        (memory : Four (List ℕ)) → IsSeenAlike h c a memory →
+        (memory : Four (List ℕ)) → DotSeesSameBytes h c a memory →
         dot_colour (record h { memory = memory }) c a d ≡ dot_colour h c a d }
 {}
 
@@ -36,5 +37,5 @@ pub fn dots_see_what_they_fetch()
 #[tactic(auto, using(crate::proofs::SeenLemmas::colour_alike))]
 pub fn dots_see_four_registers()
     ensures { (h other : HostState) (c : CrtcState) (a : AttrState) (d : DacState) →
-        AreSeenAlike h other → dot_colour other c a d ≡ dot_colour h c a d }
+        DotsSeeSameRegisters h other → dot_colour other c a d ≡ dot_colour h c a d }
 {}

@@ -3,18 +3,18 @@ ghost use Rattle.std.specs.Prelude.{◌≡◌, ◌+◌, ◌*◌, ◌<◌, ◌≤
 ghost use Rattle.vga_host.specs.Sequencer.{character_width};
 ghost use Rattle.vga_dots.specs.SourceDot.{panning_shift as panning_shift_of};
 ghost use Rattle.vga_dots.specs.Display.{display_of, ShowsMemory, ShowsText};
-ghost use Rattle.vga_dots.specs.Character.{DrawsText};
+ghost use Rattle.vga_dots.specs.Character.{AreTextCharactersOf};
 ghost use Rattle.vga_dots.specs.Row.{AreCharactersPut};
 ghost use Rattle.vga_dots.specs.Line.{shown_characters as characters_shown, unpanned_colour};
 ghost use Rattle.vga_dots.specs.Line.{IsLineDrawn, IsPartDrawn};
 
-use crate::alike::{characters_to_draw, repeat_last};
+use crate::alike::{characters_to_draw, repeat_last_character};
 use crate::character::{
     Characters, PackedCharacters, PlanarCharacters, TextCharacters, masked_colour,
 };
 use crate::colour::BLACK;
 use crate::display::Display;
-use crate::row::{copy_dots, fill};
+use crate::row::{copy_dots, fill_characters};
 use crate::source_dot::panning_shift;
 use vga_attr::Attr;
 use vga_crtc::{Crtc, Registers};
@@ -50,7 +50,7 @@ pub fn shown_characters(registers: &Registers) -> u16
 
 /// Draws `count` characters of the beam's line from `first` on, all in one way, as if the line were
 /// not panned.
-fn draw_each<const CW: usize, C: Characters<CW>>(
+fn draw_characters_alike<const CW: usize, C: Characters<CW>>(
     display: &Display<'_>,
     characters: &C,
     first: usize,
@@ -81,7 +81,7 @@ fn draw_cells<const CW: usize>(
     count: usize,
     row: &mut [u8],
 )
-    requires draws { DrawsText characters.now display.now }
+    requires draws { AreTextCharactersOf characters.now display.now }
     requires first { first ≤ 300 }
     requires count { count ≤ 257 }
     requires width { CW < 10 }
@@ -119,7 +119,7 @@ fn draw_text<const CW: usize>(display: &Display<'_>, first: usize, count: usize,
     let characters = TextCharacters::at_beam(display);
     let drawn = characters_to_draw(display, &characters, first, count);
     draw_cells::<CW>(display, &characters, first, drawn, row);
-    repeat_last::<CW>(row, drawn, count);
+    repeat_last_character::<CW>(row, drawn, count);
 }
 
 /// Draws `count` characters of the beam's line, which shows memory, from `first` on, as if it were
@@ -140,7 +140,7 @@ fn draw_characters<const CW: usize>(
         row.new }
 {
     if display.host().is_256_colours() {
-        draw_each::<CW, PackedCharacters>(
+        draw_characters_alike::<CW, PackedCharacters>(
             display,
             &PackedCharacters::new(display),
             first,
@@ -148,7 +148,7 @@ fn draw_characters<const CW: usize>(
             row,
         );
     } else if display.host().is_graphics() {
-        draw_each::<CW, PlanarCharacters>(
+        draw_characters_alike::<CW, PlanarCharacters>(
             display,
             &PlanarCharacters::new(display),
             first,
@@ -184,7 +184,7 @@ fn draw_panned<const CW: usize>(
 }
 
 /// Draws the first `count` characters of the beam's line, which shows memory, panned or not.
-fn draw_shown<const CW: usize>(display: &Display<'_>, count: usize, row: &mut [u8])
+fn draw_displayed_characters<const CW: usize>(display: &Display<'_>, count: usize, row: &mut [u8])
     requires memory { ShowsMemory display.now }
     requires count { count ≤ 256 }
     requires width { CW ≡ character_width display.now.host }
@@ -200,7 +200,7 @@ fn draw_shown<const CW: usize>(display: &Display<'_>, count: usize, row: &mut [u
 }
 
 /// Writes red, green and blue of each displayed dot of the beam's line of a display.
-fn draw_line_of<const CW: usize>(display: &Display<'_>, row: &mut [u8])
+fn draw_display_line<const CW: usize>(display: &Display<'_>, row: &mut [u8])
     requires width { CW ≡ character_width display.now.host }
     requires room { 3 * (characters_shown display.now.crtc.registers * CW) ≤ length row.old }
     ensures { IsLineDrawn CW (characters_shown display.now.crtc.registers) display.now row.old
@@ -208,15 +208,15 @@ fn draw_line_of<const CW: usize>(display: &Display<'_>, row: &mut [u8])
 {
     let count = shown_characters(display.crtc().fields()) as usize;
     if display.host().is_screen_off() {
-        fill::<CW>(row, count, BLACK);
+        fill_characters::<CW>(row, count, BLACK);
     } else if !display.attr().is_palette_shown() {
-        fill::<CW>(
+        fill_characters::<CW>(
             row,
             count,
             masked_colour(display.dac(), display.attr().overscan()),
         );
     } else {
-        draw_shown::<CW>(display, count, row);
+        draw_displayed_characters::<CW>(display, count, row);
     }
 }
 
@@ -230,13 +230,13 @@ pub fn draw_line<const CW: usize>(host: &Host, crtc: &Crtc, attr: &Attr, dac: &D
     ensures { IsLineDrawn CW (characters_shown crtc.now.registers)
         (display_of host.now crtc.now attr.now dac.now) row.old row.new }
 {
-    draw_line_of::<CW>(&Display::new(host, crtc, attr, dac), row);
+    draw_display_line::<CW>(&Display::new(host, crtc, attr, dac), row);
 }
 
 /// Draws the next `count` dots of the beam's line, which shows memory, from the beam's dot on. It
 /// draws the whole characters that contain them into a buffer of `N` bytes, and copies the dots
 /// from there.
-fn draw_part_shown<const CW: usize, const N: usize>(
+fn draw_displayed_part<const CW: usize, const N: usize>(
     display: &Display<'_>,
     count: usize,
     row: &mut [u8],
@@ -270,16 +270,16 @@ pub fn draw_part<const CW: usize>(display: &Display<'_>, count: usize, row: &mut
     ensures { IsPartDrawn CW count display.now row.old row.new }
 {
     if display.host().is_screen_off() {
-        fill::<1>(row, count, BLACK);
+        fill_characters::<1>(row, count, BLACK);
     } else if !display.attr().is_palette_shown() {
-        fill::<1>(
+        fill_characters::<1>(
             row,
             count,
             masked_colour(display.dac(), display.attr().overscan()),
         );
     } else if count <= SMALL_PART {
-        draw_part_shown::<CW, SMALL_PART_BYTES>(display, count, row);
+        draw_displayed_part::<CW, SMALL_PART_BYTES>(display, count, row);
     } else {
-        draw_part_shown::<CW, PART_BYTES>(display, count, row);
+        draw_displayed_part::<CW, PART_BYTES>(display, count, row);
     }
 }

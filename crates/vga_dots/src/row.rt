@@ -1,7 +1,8 @@
 //! Dots in a row of bytes: red, green and blue of each in turn.
 ghost use Rattle.std.specs.Prelude.{◌≡◌, ◌+◌, ◌-◌, ◌*◌, ◌/◌, ◌<◌, ◌≤◌, if◌then◌else◌, length, []};
 ghost use Rattle.std.specs.Prelude.{nat_lt, slice_index_or};
-ghost use Rattle.vga_dots.specs.Row.{nibble_of, dot_in, IsDotPut, IsNextPut, AreDotsPut};
+ghost use Rattle.vga_dots.specs.Row.{plane_bits_in_word, bytes_of_dot, IsDotPut};
+ghost use Rattle.vga_dots.specs.Row.{IsCharacterDotPut, AreDotsPut};
 ghost use Rattle.vga_dots.specs.Row.{AreCharactersPut};
 
 /// The colours of the 16 values of four bits, each with a byte more. Four bytes are moved at once,
@@ -32,13 +33,13 @@ pub(crate) fn put_dot(row: &mut [u8], at: usize, colour: [u8; 3])
 pub(crate) fn copy_dots(row: &mut [u8], dots: &[u8], first: usize, count: usize)
     requires room { 3 * count ≤ length row.old }
     requires there { 3 * (first + count) ≤ length dots.now }
-    ensures { AreDotsPut count 0 (λ i. dot_in dots.now (first + i)) row.old row.new }
+    ensures { AreDotsPut count 0 (λ i. bytes_of_dot dots.now (first + i)) row.old row.new }
 {
     row[..3 * count].copy_from_slice(&dots[3 * first..3 * (first + count)]);
 }
 
 /// Writes the dots of a character in one colour.
-fn put_blank<const CW: usize>(row: &mut [u8], at: usize, colour: [u8; 3])
+fn put_one_colour_character<const CW: usize>(row: &mut [u8], at: usize, colour: [u8; 3])
     requires { 3 * (at + CW) ≤ length row.old }
     ensures { AreDotsPut CW at (λ i. colour) row.old row.new }
 {
@@ -48,14 +49,14 @@ fn put_blank<const CW: usize>(row: &mut [u8], at: usize, colour: [u8; 3])
 }
 
 /// Fills the first `count` characters of the row with one colour.
-pub(crate) fn fill<const CW: usize>(row: &mut [u8], count: usize, colour: [u8; 3])
+pub(crate) fn fill_characters<const CW: usize>(row: &mut [u8], count: usize, colour: [u8; 3])
     requires count { count ≤ 257 }
     requires width { CW < 10 }
     requires room { 3 * (count * CW) ≤ length row.old }
     ensures { AreCharactersPut CW count (λ x i. colour) row.old row.new }
 {
     for x in 0..count {
-        put_blank::<CW>(row, x * CW, colour);
+        put_one_colour_character::<CW>(row, x * CW, colour);
     }
 }
 
@@ -63,7 +64,7 @@ pub(crate) fn fill<const CW: usize>(row: &mut [u8], count: usize, colour: [u8; 3
 /// four bits are eight apart in the word; a product brings them together in its highest bits.
 fn nibble(word: u32, place: u32) -> u8
     requires { place < 8 }
-    ensures value { result ≡ nibble_of word place }
+    ensures value { result ≡ plane_bits_in_word word place }
     ensures small { result < 16 }
 {
     let bits = word & (LOWEST_BITS << place);
@@ -71,9 +72,9 @@ fn nibble(word: u32, place: u32) -> u8
 }
 
 /// Dot `i`, 0 to 8, of eight dots and a ninth, whose bits are in the planes of a word.
-fn plane_dot(word: u32, i: usize) -> u8
+fn dot_from_planes(word: u32, i: usize) -> u8
     requires { i < 9 }
-    ensures value { result ≡ (if nat_lt i 8 then nibble_of word (7 - i) else 0) }
+    ensures value { result ≡ (if nat_lt i 8 then plane_bits_in_word word (7 - i) else 0) }
     ensures small { result < 16 }
 {
     if i < 8 { nibble(word, 7 - i as u32) } else { 0 }
@@ -81,10 +82,10 @@ fn plane_dot(word: u32, i: usize) -> u8
 
 /// Writes dot `i` of a character, and with it a byte of the dot after it, where there is one.
 #[inline(always)]
-fn put_next<const CW: usize>(row: &mut [u8], at: usize, i: usize, colour: [u8; 4])
+fn put_padded_dot<const CW: usize>(row: &mut [u8], at: usize, i: usize, colour: [u8; 4])
     requires dot { i < CW }
     requires room { 3 * (at + CW) ≤ length row.old }
-    ensures { IsNextPut CW at i colour row.old row.new }
+    ensures { IsCharacterDotPut CW at i colour row.old row.new }
 {
     let from = 3 * (at + i);
     if i + 1 < CW {
@@ -95,7 +96,7 @@ fn put_next<const CW: usize>(row: &mut [u8], at: usize, i: usize, colour: [u8; 4
 }
 
 /// Writes the dots of a character in 16 colours, whose bits are in the planes of a word.
-pub(crate) fn put_planes<const CW: usize>(
+pub(crate) fn put_planar_character<const CW: usize>(
     row: &mut [u8],
     at: usize,
     word: u32,
@@ -104,20 +105,20 @@ pub(crate) fn put_planes<const CW: usize>(
     requires room { 3 * (at + CW) ≤ length row.old }
     requires width { CW < 10 }
     ensures { AreDotsPut CW at (λ i. slice_index_or table.now (if nat_lt i 8
-        then nibble_of word (7 - i) else 0) []) row.old row.new }
+        then plane_bits_in_word word (7 - i) else 0) []) row.old row.new }
 {
     for i in 0..CW {
-        put_next::<CW>(row, at, i, table[plane_dot(word, i) as usize]);
+        put_padded_dot::<CW>(row, at, i, table[dot_from_planes(word, i) as usize]);
     }
 }
 
 /// Writes the dots of a character in 256 colours, two for each of its four colours, and a ninth.
-pub(crate) fn put_pixels<const CW: usize>(row: &mut [u8], at: usize, pixels: &Pixels)
+pub(crate) fn put_packed_character<const CW: usize>(row: &mut [u8], at: usize, pixels: &Pixels)
     requires room { 3 * (at + CW) ≤ length row.old }
     requires width { CW < 10 }
     ensures { AreDotsPut CW at (λ i. slice_index_or pixels.now (i / 2) []) row.old row.new }
 {
     for i in 0..CW {
-        put_next::<CW>(row, at, i, pixels[i / 2]);
+        put_padded_dot::<CW>(row, at, i, pixels[i / 2]);
     }
 }

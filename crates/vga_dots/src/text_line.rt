@@ -77,7 +77,7 @@ fn has_cursor(crtc: &Crtc) -> bool
 }
 
 /// The counter at which the beam's line shows the cursor, or 65,536, which no counter equals.
-fn shown_cursor(crtc: &Crtc) -> u32
+fn shown_cursor_counter(crtc: &Crtc) -> u32
     ensures { result ≡ (if not (is_cursor_off crtc.now.registers)
         && nat_le (cursor_start crtc.now.registers) crtc.now.beam.scan
         && nat_le crtc.now.beam.scan (cursor_end crtc.now.registers)
@@ -152,7 +152,7 @@ impl TextLine {
         let attr = display.attr();
         let beam = crtc.beam();
         TextLine {
-            cursor: shown_cursor(crtc),
+            cursor: shown_cursor_counter(crtc),
             blinked_away: blinked_away(attr, beam.frame),
             underlined: underlined(display),
             map_a: map_start(host.character_map_a()) + beam.scan as u16,
@@ -188,7 +188,7 @@ impl TextLine {
 
     /// The address in its plane of the row of a cell's glyph.
     #[inline(always)]
-    pub(crate) fn glyph_place(&self, cell: Cell) -> u16
+    pub(crate) fn glyph_row_address(&self, cell: Cell) -> u16
         requires { HasGlyphs self.now }
         ensures { result ≡ (if is_set_of cell.attribute 3 then self.now.map_a else self.now.map_b)
             + 32 * cell.character }

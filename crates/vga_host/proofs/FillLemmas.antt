@@ -4,16 +4,16 @@ use Rattle.std.proofs.Common.{if◌then◌else◌}
 use Rattle.std.specs.Prelude.{not}
 use Rattle.std.proofs.lemmas.Bool.Decides.{nat_tests}
 use Rattle.vga_bits.proofs.FourLemmas.{by_plane}
-use Rattle.vga_bits.specs.Four.{Four, four, of_plane}
+use Rattle.vga_bits.specs.Four.{Four, four_by_plane, of_plane}
 use Rattle.vga_host.specs.declared.host.memory.access.MemoryAccess.{MemoryAccess}
 use Rattle.vga_host.specs.Host.{HostState}
 use Rattle.vga_host.specs.Memory.Address.{is_decoded, window_offset, plane_offset, is_reached}
 use Rattle.vga_host.specs.Sequencer.{is_in_map_mask, is_chain_four, is_odd_even_off}
 use Rattle.vga_host.specs.Graphics.{is_chain_odd_even}
 use Rattle.vga_host.specs.Memory.Write.{written_bit, combined_bit, written_byte, after_put, StoresByte}
-use Rattle.vga_host.specs.Memory.Runs.{put_where, after_puts, in_turn, with_memory}
+use Rattle.vga_host.specs.Memory.Runs.{after_put_if_decoded, after_puts, even_or_odd_byte, with_memory}
 use Rattle.vga_host.specs.Memory.Access.{IsAccess}
-use Rattle.vga_host.specs.Memory.PlaneWords.{word_put, alternating, grouped, ArePutWithin, FillsPlanes, FillsFours, FillsPairs, PutsWords}
+use Rattle.vga_host.specs.Memory.PlaneWords.{with_word_stored, alternating_plane_bytes, word_of_byte_group, AreWritesDecoded, FillsAllPlanes, FillsByFours, FillsByPairs, WritesStoreWords}
 use Rattle.vga_bits.proofs.BitLemmas.{byte_from_bits}
 use Rattle.vga_host.proofs.StoresByteLemmas.{plain_bit}
 use Rattle.vga_host.proofs.RunLemmas.{even_in_turn, odd_in_turn, Turns}
@@ -24,7 +24,7 @@ use Rattle.vga_host.proofs.WordLemmas.{plane_is, plane_alone, alone_is, and_turn
 -- a write to a decoded address puts a word, where the planes that it reaches get its bytes
 one_put : (h : HostState) (misc y v b : ℕ) (reach : ℕ → Bool) (w : Four ℕ) → is_decoded h misc y ≡ true → plane_offset h (window_offset h y) ≡ b
     → ((p : ℕ) → p < 4 → is_reached h (window_offset h y) p ≡ reach p) → ((p : ℕ) → p < 4 → reach p ≡ true → written_byte h v p ≡ of_plane w p)
-    → put_where h misc y v ≡ word_put h reach b w
+    → after_put_if_decoded h misc y v ≡ with_word_stored h reach b w
 one_put h misc y v b reach w dy eb reached own =
     let m = h.memory in
     let d = window_offset h y in
@@ -43,7 +43,7 @@ written_over h m v p = refl
 
 -- in a chain of four, a write puts its byte in one plane
 put_chained : (s : HostState) (misc y v b j : ℕ) (w : Four ℕ) → j < 4 → is_chain_four s ≡ true → is_decoded s misc y ≡ true
-    → window_offset s y ≡ b + j → b % 4 ≡ 0 → written_byte s v j ≡ of_plane w j → put_where s misc y v ≡ word_put s (plane_alone s j) b w
+    → window_offset s y ≡ b + j → b % 4 ≡ 0 → written_byte s v j ≡ of_plane w j → after_put_if_decoded s misc y v ≡ with_word_stored s (plane_alone s j) b w
 put_chained s misc y v b j w less chain dy py eb own =
     let oy : plane_offset s (window_offset s y) ≡ b =
     (λ t. if chain t then py t / 4 * 4 else if is_chain_odd_even s then py t / 2 * 2 else py t) ∙ in_four b j eb less in
@@ -68,7 +68,7 @@ number_is a b is = grind (arith, nat_tests)
 -- where odd and even addresses are apart, a write puts its bytes in two planes
 put_paired : (s : HostState) (misc y v b j : ℕ) (w : Four ℕ) → j < 2 → is_chain_four s ≡ false → is_chain_odd_even s ≡ true → is_odd_even_off s ≡ false
     → is_decoded s misc y ≡ true → window_offset s y ≡ b + j → b % 2 ≡ 0 → ((p : ℕ) → p < 4 → p % 2 ≡ j → written_byte s v p ≡ of_plane w p)
-    → put_where s misc y v ≡ word_put s (planes_apart s j) b w
+    → after_put_if_decoded s misc y v ≡ with_word_stored s (planes_apart s j) b w
 put_paired s misc y v b j w less chain pairs off dy py eb own =
     let oy : plane_offset s (window_offset s y) ≡ b =
     (λ t. if chain t then py t / 4 * 4 else if pairs t then py t / 2 * 2 else py t) ∙ in_two b j eb less in
@@ -82,15 +82,15 @@ put_paired s misc y v b j w less chain pairs off dy py eb own =
 -- ---- words
 
 -- in a chain of four, four writes put a word
-pub four_put : (h : HostState) (misc first n f i : ℕ) (g : ℕ → ℕ) (w : Four ℕ) → ArePutWithin h misc first n f → is_chain_four h ≡ true → f % 4 ≡ 0 → i % 4 ≡ 0
+pub four_put : (h : HostState) (misc first n f i : ℕ) (g : ℕ → ℕ) (w : Four ℕ) → AreWritesDecoded h misc first n f → is_chain_four h ≡ true → f % 4 ≡ 0 → i % 4 ≡ 0
     → i + 4 ≤ n → written_byte h (g i) 0 ≡ w.plane0 → written_byte h (g (i + 1)) 1 ≡ w.plane1 → written_byte h (g (i + 1 + 1)) 2 ≡ w.plane2
-    → written_byte h (g (i + 1 + 1 + 1)) 3 ≡ w.plane3 → after_puts misc first g 4 i h ≡ word_put h (is_in_map_mask h) ((f + i) % 65536) w
+    → written_byte h (g (i + 1 + 1 + 1)) 3 ≡ w.plane3 → after_puts misc first g 4 i h ≡ with_word_stored h (is_in_map_mask h) ((f + i) % 65536) w
 four_put h misc first n f i g w within chain ef ei room own0 own1 own2 own3 =
     let b = (f + i) % 65536 in
     let bf : b % 4 ≡ 0 = omega (arith, ef, ei) in
-    let s1 : HostState = word_put h (plane_alone h 0) b w in
-    let s2 : HostState = word_put s1 (plane_alone h 1) b w in
-    let s3 : HostState = word_put s2 (plane_alone h 2) b w in
+    let s1 : HostState = with_word_stored h (plane_alone h 0) b w in
+    let s2 : HostState = with_word_stored s1 (plane_alone h 1) b w in
+    let s3 : HostState = with_word_stored s2 (plane_alone h 2) b w in
     let in_window : (k j : ℕ) → k ≡ i + j → j < 4 → (f + k) % 65536 ≡ b + j =
     λ k j e l. ap (λ n. (f + n) % 65536) e ∙ next_place f i j (omega (arith, ef, ei)) l in
     let l0 : i < n = omega (arith, room) in
@@ -108,38 +108,38 @@ four_put h misc first n f i g w within chain ef ei room own0 own1 own2 own3 =
     ap (after_puts misc first g 3 (i + 1)) e0 ∙ ap (after_puts misc first g 2 (i + 1 + 1)) e1 ∙ ap (after_puts misc first g 1 (i + 1 + 1 + 1)) e2 ∙ e3
 
 -- and so do four writes of two bytes in turn
-four_filled : (h : HostState) (misc first n f even odd i : ℕ) → ArePutWithin h misc first n f → is_chain_four h ≡ true → f % 4 ≡ 0 → i % 4 ≡ 0 → i + 4 ≤ n
-    → after_puts misc first (in_turn even odd) 4 i h
-    ≡ word_put h (is_in_map_mask h) ((f + i) % 65536) (alternating (four (λ p. written_byte h even p)) (four (λ p. written_byte h odd p)))
+four_filled : (h : HostState) (misc first n f even odd i : ℕ) → AreWritesDecoded h misc first n f → is_chain_four h ≡ true → f % 4 ≡ 0 → i % 4 ≡ 0 → i + 4 ≤ n
+    → after_puts misc first (even_or_odd_byte even odd) 4 i h
+    ≡ with_word_stored h (is_in_map_mask h) ((f + i) % 65536) (alternating_plane_bytes (four_by_plane (λ p. written_byte h even p)) (four_by_plane (λ p. written_byte h odd p)))
 four_filled h misc first n f even odd i within chain ef ei room =
-    let w = alternating (four (λ p. written_byte h even p)) (four (λ p. written_byte h odd p)) in
-    four_put h misc first n f i (in_turn even odd) w within chain ef ei room
+    let w = alternating_plane_bytes (four_by_plane (λ p. written_byte h even p)) (four_by_plane (λ p. written_byte h odd p)) in
+    four_put h misc first n f i (even_or_odd_byte even odd) w within chain ef ei room
     (ap (λ v. written_byte h v 0) (sym (even_in_turn even odd i (omega (arith, ei)))))
     (ap (λ v. written_byte h v 1) (sym (odd_in_turn even odd (i + 1) (λ e. omega (arith, ei, e)))))
     (ap (λ v. written_byte h v 2) (sym (even_in_turn even odd (i + 1 + 1) (omega (arith, ei)))))
     (ap (λ v. written_byte h v 3) (sym (odd_in_turn even odd (i + 1 + 1 + 1) (λ e. omega (arith, ei, e)))))
 
 even_plane : (h : HostState) (even odd p : ℕ) → p < 4 → p % 2 ≡ 0
-    → written_byte h even p ≡ of_plane (alternating (four (λ p. written_byte h even p)) (four (λ p. written_byte h odd p))) p
+    → written_byte h even p ≡ of_plane (alternating_plane_bytes (four_by_plane (λ p. written_byte h even p)) (four_by_plane (λ p. written_byte h odd p))) p
 even_plane h even odd p l is =
-    by_plane (λ p. p % 2 ≡ 0 → written_byte h even p ≡ of_plane (alternating (four (λ p. written_byte h even p)) (four (λ p. written_byte h odd p))) p)
+    by_plane (λ p. p % 2 ≡ 0 → written_byte h even p ≡ of_plane (alternating_plane_bytes (four_by_plane (λ p. written_byte h even p)) (four_by_plane (λ p. written_byte h odd p))) p)
     (λ e. refl) (λ e. absurd (cc)) (λ e. refl) (λ e. absurd (cc)) p l is
 
 odd_plane : (h : HostState) (even odd p : ℕ) → p < 4 → p % 2 ≡ 1
-    → written_byte h odd p ≡ of_plane (alternating (four (λ p. written_byte h even p)) (four (λ p. written_byte h odd p))) p
+    → written_byte h odd p ≡ of_plane (alternating_plane_bytes (four_by_plane (λ p. written_byte h even p)) (four_by_plane (λ p. written_byte h odd p))) p
 odd_plane h even odd p l is =
-    by_plane (λ p. p % 2 ≡ 1 → written_byte h odd p ≡ of_plane (alternating (four (λ p. written_byte h even p)) (four (λ p. written_byte h odd p))) p)
+    by_plane (λ p. p % 2 ≡ 1 → written_byte h odd p ≡ of_plane (alternating_plane_bytes (four_by_plane (λ p. written_byte h even p)) (four_by_plane (λ p. written_byte h odd p))) p)
     (λ e. absurd (cc)) (λ e. refl) (λ e. absurd (cc)) (λ e. refl) p l is
 
 -- where odd and even addresses are apart, two writes put a word
-pub two_put : (h : HostState) (misc first n f i : ℕ) (g : ℕ → ℕ) (w : Four ℕ) → ArePutWithin h misc first n f → is_chain_four h ≡ false
+pub two_put : (h : HostState) (misc first n f i : ℕ) (g : ℕ → ℕ) (w : Four ℕ) → AreWritesDecoded h misc first n f → is_chain_four h ≡ false
     → is_chain_odd_even h ≡ true → is_odd_even_off h ≡ false → f % 2 ≡ 0 → i % 2 ≡ 0 → i + 2 ≤ n
     → ((p : ℕ) → p < 4 → p % 2 ≡ 0 → written_byte h (g i) p ≡ of_plane w p) → ((p : ℕ) → p < 4 → p % 2 ≡ 1 → written_byte h (g (i + 1)) p ≡ of_plane w p)
-    → after_puts misc first g 2 i h ≡ word_put h (is_in_map_mask h) ((f + i) % 65536) w
+    → after_puts misc first g 2 i h ≡ with_word_stored h (is_in_map_mask h) ((f + i) % 65536) w
 two_put h misc first n f i g w within chain pairs off ef ei room own0 own1 =
     let b = (f + i) % 65536 in
     let bf : b % 2 ≡ 0 = omega (arith, ef, ei) in
-    let s1 : HostState = word_put h (planes_apart h 0) b w in
+    let s1 : HostState = with_word_stored h (planes_apart h 0) b w in
     let l0 : i < n = omega (arith, room) in
     let l1 : i + 1 < n = omega (arith, room) in
     let place1 : (f + (i + 1)) % 65536 ≡ b + 1 = omega (arith, ef, ei) in
@@ -150,72 +150,72 @@ two_put h misc first n f i g w within chain pairs off ef ei room own0 own1 =
     ap (after_puts misc first g 1 (i + 1)) e0 ∙ e1
 
 -- and so do two writes of two bytes in turn
-two_filled : (h : HostState) (misc first n f even odd i : ℕ) → ArePutWithin h misc first n f → is_chain_four h ≡ false → is_chain_odd_even h ≡ true
+two_filled : (h : HostState) (misc first n f even odd i : ℕ) → AreWritesDecoded h misc first n f → is_chain_four h ≡ false → is_chain_odd_even h ≡ true
     → is_odd_even_off h ≡ false → f % 2 ≡ 0 → i % 2 ≡ 0 → i + 2 ≤ n
-    → after_puts misc first (in_turn even odd) 2 i h
-    ≡ word_put h (is_in_map_mask h) ((f + i) % 65536) (alternating (four (λ p. written_byte h even p)) (four (λ p. written_byte h odd p)))
+    → after_puts misc first (even_or_odd_byte even odd) 2 i h
+    ≡ with_word_stored h (is_in_map_mask h) ((f + i) % 65536) (alternating_plane_bytes (four_by_plane (λ p. written_byte h even p)) (four_by_plane (λ p. written_byte h odd p)))
 two_filled h misc first n f even odd i within chain pairs off ef ei room =
-    let w = alternating (four (λ p. written_byte h even p)) (four (λ p. written_byte h odd p)) in
-    two_put h misc first n f i (in_turn even odd) w within chain pairs off ef ei room
+    let w = alternating_plane_bytes (four_by_plane (λ p. written_byte h even p)) (four_by_plane (λ p. written_byte h odd p)) in
+    two_put h misc first n f i (even_or_odd_byte even odd) w within chain pairs off ef ei room
     (λ p l e. ap (λ v. written_byte h v p) (sym (even_in_turn even odd i ei)) ∙ even_plane h even odd p l e)
     (λ p l e. ap (λ v. written_byte h v p) (sym (odd_in_turn even odd (i + 1) (λ e. omega (arith, ei, e)))) ∙ odd_plane h even odd p l e)
 
 -- where no bit of an address picks a plane, a write puts a word
-one_filled : (h : HostState) (misc first n f v i : ℕ) → ArePutWithin h misc first n f → is_chain_four h ≡ false → is_chain_odd_even h ≡ false
-    → is_odd_even_off h ≡ true → i < n → put_where h misc (first + i) v ≡ word_put h (is_in_map_mask h) ((f + i) % 65536) (four (λ p. written_byte h v p))
+one_filled : (h : HostState) (misc first n f v i : ℕ) → AreWritesDecoded h misc first n f → is_chain_four h ≡ false → is_chain_odd_even h ≡ false
+    → is_odd_even_off h ≡ true → i < n → after_put_if_decoded h misc (first + i) v ≡ with_word_stored h (is_in_map_mask h) ((f + i) % 65536) (four_by_plane (λ p. written_byte h v p))
 one_filled h misc first n f v i within chain pairs off less =
     let d = window_offset h (first + i) in
     let offset : plane_offset h d ≡ (f + i) % 65536 = (λ s. if chain s then d / 4 * 4 else if pairs s then d / 2 * 2 else d) ∙ within.in_window i less in
     let all : (e : Bool) → (e && true) ≡ e = λ e. and_turned e true in
-    let w = four (λ p. written_byte h v p) in
+    let w = four_by_plane (λ p. written_byte h v p) in
     one_put h misc (first + i) v ((f + i) % 65536) (is_in_map_mask h) w (within.written i less) offset
     (λ p l. (λ s. is_in_map_mask h p && (if chain s then p == d % 4 else off s || (p % 2 == d % 2))) ∙ all (is_in_map_mask h p))
     (λ p l e. by_plane (λ p. written_byte h v p ≡ of_plane w p) refl refl refl refl p l)
 
 -- ---- runs
 
-put_within : (h : HostState) (m : Four (List ℕ)) (misc first n f : ℕ) → ArePutWithin h misc first n f →
-    (let s : HostState = record h { memory = m } in ArePutWithin s misc first n f)
+put_within : (h : HostState) (m : Four (List ℕ)) (misc first n f : ℕ) → AreWritesDecoded h misc first n f →
+    (let s : HostState = record h { memory = m } in AreWritesDecoded s misc first n f)
 put_within h m misc first n f is = record { written = is.written; in_window = is.in_window }
 
 -- a word of what the writes make over any memory
 word_over : (h : HostState) (m : Four (List ℕ)) (v : ℕ) → (let s : HostState = record h { memory = m } in
-    four (λ p. written_byte s v p) ≡ four (λ p. written_byte h v p))
-word_over h m v = λ j. four (λ p. written_over h m v p j)
+    four_by_plane (λ p. written_byte s v p) ≡ four_by_plane (λ p. written_byte h v p))
+word_over h m v = λ j. four_by_plane (λ p. written_over h m v p j)
 
-pub four_fills : (h : HostState) (misc first n f even odd : ℕ) → ArePutWithin h misc first n f → FillsFours h f →
-    PutsWords 4 h misc first n f (in_turn even odd) (λ i. alternating (four (λ p. written_byte h even p)) (four (λ p. written_byte h odd p)))
+pub four_fills : (h : HostState) (misc first n f even odd : ℕ) → AreWritesDecoded h misc first n f → FillsByFours h f →
+    WritesStoreWords 4 h misc first n f (even_or_odd_byte even odd) (λ i. alternating_plane_bytes (four_by_plane (λ p. written_byte h even p)) (four_by_plane (λ p. written_byte h odd p)))
 four_fills h misc first n f even odd within is = record {
   some = omega arith;
   next = λ i e. omega (arith, e);
   put = λ m i e room. let s : HostState = record h { memory = m } in
       four_filled s misc first n f even odd i (put_within h m misc first n f within) is.chain_four is.in_window e room
-      ∙ (λ j. word_put s (is_in_map_mask h) ((f + i) % 65536) (alternating (word_over h m even j) (word_over h m odd j)));
+      ∙ (λ j. with_word_stored s (is_in_map_mask h) ((f + i) % 65536) (alternating_plane_bytes (word_over h m even j) (word_over h m odd j)));
 }
 
-pub pair_fills : (h : HostState) (misc first n f even odd : ℕ) → ArePutWithin h misc first n f → FillsPairs h f →
-    PutsWords 2 h misc first n f (in_turn even odd) (λ i. alternating (four (λ p. written_byte h even p)) (four (λ p. written_byte h odd p)))
+pub pair_fills : (h : HostState) (misc first n f even odd : ℕ) → AreWritesDecoded h misc first n f → FillsByPairs h f →
+    WritesStoreWords 2 h misc first n f (even_or_odd_byte even odd) (λ i. alternating_plane_bytes (four_by_plane (λ p. written_byte h even p)) (four_by_plane (λ p. written_byte h odd p)))
 pair_fills h misc first n f even odd within is = record {
   some = omega arith;
   next = λ i e. omega (arith, e);
   put = λ m i e room. let s : HostState = record h { memory = m } in
       two_filled s misc first n f even odd i (put_within h m misc first n f within) is.chain_four is.chain_odd_even is.odd_even_off is.in_window e room
-      ∙ (λ j. word_put s (is_in_map_mask h) ((f + i) % 65536) (alternating (word_over h m even j) (word_over h m odd j)));
+      ∙ (λ j. with_word_stored s (is_in_map_mask h) ((f + i) % 65536) (alternating_plane_bytes (word_over h m even j) (word_over h m odd j)));
 }
 
 same_turn : (v i : ℕ) (d : Bool) → (if d then v else v) ≡ v
 same_turn v i true = refl
 same_turn v i false = refl
 
-pub plane_fills : (h : HostState) (misc first n f v : ℕ) → ArePutWithin h misc first n f → FillsPlanes h →
-    PutsWords 1 h misc first n f (in_turn v v) (λ i. four (λ p. written_byte h v p))
+pub plane_fills : (h : HostState) (misc first n f v : ℕ) → AreWritesDecoded h misc first n f → FillsAllPlanes h →
+    WritesStoreWords 1 h misc first n f (even_or_odd_byte v v) (λ i. four_by_plane (λ p. written_byte h v p))
 plane_fills h misc first n f v within is = record {
   some = omega arith;
   next = λ i e. omega (arith, e);
   put = λ m i e room. let s : HostState = record h { memory = m } in
-      ap (put_where s misc (first + i)) (same_turn v i (i % 2 == 0))
+      ap (after_put_if_decoded s misc (first + i)) (same_turn v i (i % 2 == 0))
       ∙ one_filled s misc first n f v i (put_within h m misc first n f within) is.chain_four is.chain_odd_even is.odd_even_off (omega (arith, room))
-      ∙ (λ j. word_put s (is_in_map_mask h) ((f + i) % 65536) (word_over h m v j));
+      ∙ (λ j. with_word_stored s (is_in_map_mask h) ((f + i) % 65536) (word_over h m v j));
 }
 
 -- writes one after another are all of them
@@ -228,18 +228,18 @@ puts_add misc first g zero r i h =
 puts_add misc first g (suc k) r i h =
     let e : suc k + r ≡ suc (k + r) = omega arith in
     let z : i + 1 + k ≡ i + suc k = omega arith in
-    ap (λ n. after_puts misc first g n i h) e ∙ puts_add misc first g k r (i + 1) (put_where h misc (first + i) (g i))
-    ∙ ap (λ n. after_puts misc first g r n (after_puts misc first g k (i + 1) (put_where h misc (first + i) (g i)))) z
+    ap (λ n. after_puts misc first g n i h) e ∙ puts_add misc first g k r (i + 1) (after_put_if_decoded h misc (first + i) (g i))
+    ∙ ap (λ n. after_puts misc first g r n (after_puts misc first g k (i + 1) (after_put_if_decoded h misc (first + i) (g i)))) z
 
 -- what a loop over words keeps
-pub words_go_on : (h s r : HostState) (per misc first n f done : ℕ) (g : ℕ → ℕ) (w : ℕ → Four ℕ) → PutsWords per h misc first n f g w → per ≤ n - done →
+pub words_go_on : (h s r : HostState) (per misc first n f done : ℕ) (g : ℕ → ℕ) (w : ℕ → Four ℕ) → WritesStoreWords per h misc first n f g w → per ≤ n - done →
     done ≤ n
     → done % per ≡ 0 → with_memory h s.memory ≡ s → after_puts misc first g done 0 h ≡ s
-    → r ≡ word_put s (is_in_map_mask h) ((f + done) % 65536) (w done)
+    → r ≡ with_word_stored s (is_in_map_mask h) ((f + done) % 65536) (w done)
     → (done + per ≤ n) × ((done + per) % per ≡ 0) × (with_memory h r.memory ≡ r) × (after_puts misc first g (done + per) 0 h ≡ r)
 words_go_on h s r per misc first n f done g w words room few whole same put is =
     let left : done + per ≤ n = omega (arith, room, few) in
-    let after : HostState = word_put s (is_in_map_mask h) ((f + done) % 65536) (w done) in
+    let after : HostState = with_word_stored s (is_in_map_mask h) ((f + done) % 65536) (w done) in
     let z : 0 + done ≡ done = omega arith in (
       left,
       words.next done whole,
@@ -247,7 +247,7 @@ words_go_on h s r per misc first n f done g w words room few whole same put is =
           (ap (λ (x : HostState). with_memory x after.memory) same),
       puts_add misc first g done per 0 h ∙ ap (λ (k : ℕ). after_puts misc first g per k (after_puts misc first g done 0 h)) z
           ∙ ap (after_puts misc first g per done) (put ∙ sym same) ∙ words.put s.memory done whole left
-          ∙ ap (λ (x : HostState). word_put x (is_in_map_mask h) ((f + done) % 65536) (w done)) same ∙ sym is,
+          ∙ ap (λ (x : HostState). with_word_stored x (is_in_map_mask h) ((f + done) % 65536) (w done)) same ∙ sym is,
     )
 
 -- the rest of n writes, after those that are done, leaves what all n writes leave
@@ -261,14 +261,14 @@ puts_rest misc first n done g h s few is =
 
 -- what the loop over the writes that are left begins with
 pub fill_leaves : (access : MemoryAccess) (bytes others : Four ℕ) (misc first even odd n done : ℕ) (h s : HostState) → IsAccess access h
-    → bytes ≡ four (λ p. written_byte h even p) → others ≡ four (λ p. written_byte h odd p) → done ≤ n → with_memory h s.memory ≡ s
-    → s ≡ after_puts misc first (in_turn even odd) done 0 h → Turns access bytes others misc first even odd n done s
-    (after_puts misc first (in_turn even odd) n 0 h)
+    → bytes ≡ four_by_plane (λ p. written_byte h even p) → others ≡ four_by_plane (λ p. written_byte h odd p) → done ≤ n → with_memory h s.memory ≡ s
+    → s ≡ after_puts misc first (even_or_odd_byte even odd) done 0 h → Turns access bytes others misc first even odd n done s
+    (after_puts misc first (even_or_odd_byte even odd) n 0 h)
 fill_leaves access bytes others misc first even odd n done h s is be bo few kept put = (
   subst (IsAccess access) kept (access_over access h s.memory h.latches is),
-  be ∙ sym (word_over h s.memory even) ∙ ap (λ (x : HostState). four (λ p. written_byte x even p)) kept,
-  bo ∙ sym (word_over h s.memory odd) ∙ ap (λ (x : HostState). four (λ p. written_byte x odd p)) kept,
-  puts_rest misc first n done (in_turn even odd) h s few put,
+  be ∙ sym (word_over h s.memory even) ∙ ap (λ (x : HostState). four_by_plane (λ p. written_byte x even p)) kept,
+  bo ∙ sym (word_over h s.memory odd) ∙ ap (λ (x : HostState). four_by_plane (λ p. written_byte x odd p)) kept,
+  puts_rest misc first n done (even_or_odd_byte even odd) h s few put,
 )
 
 -- ---- bytes of the caller's
@@ -280,36 +280,36 @@ plain_byte h v p plain l byte = sym (byte_from_bits v (λ i. written_bit h v p i
 plain_over : (h : HostState) (m : Four (List ℕ)) → StoresByte h → (let s : HostState = record h { memory = m } in StoresByte s)
 plain_over h m is = record { mode = is.mode; rotate = is.rotate; function = is.function; own = is.own; mask = is.mask }
 
-pub four_grouped : (h : HostState) (misc first n f : ℕ) (g : ℕ → ℕ) → ArePutWithin h misc first n f → FillsFours h f → StoresByte h → ((i : ℕ) → g i < 256) →
-    PutsWords 4 h misc first n f g (grouped 4 g)
+pub four_grouped : (h : HostState) (misc first n f : ℕ) (g : ℕ → ℕ) → AreWritesDecoded h misc first n f → FillsByFours h f → StoresByte h → ((i : ℕ) → g i < 256) →
+    WritesStoreWords 4 h misc first n f g (word_of_byte_group 4 g)
 four_grouped h misc first n f g within is plain bytes = record {
   some = omega arith;
   next = λ i e. omega (arith, e);
   put = λ m i e room. let s : HostState = record h { memory = m } in
       let own : (p k : ℕ) → p < 4 → k ≡ i + p → written_byte s (g k) p ≡ g (i + p) =
       λ p k l at. plain_byte s (g k) p (plain_over h m plain) l (bytes k) ∙ ap g at in
-      four_put s misc first n f i g (grouped 4 g i) (put_within h m misc first n f within) is.chain_four is.in_window e room
+      four_put s misc first n f i g (word_of_byte_group 4 g i) (put_within h m misc first n f within) is.chain_four is.in_window e room
       (own 0 i (omega arith) (omega arith)) (own 1 (i + 1) (omega arith) refl) (own 2 (i + 1 + 1) (omega arith) (omega arith))
       (own 3 (i + 1 + 1 + 1) (omega arith) (omega arith));
 }
 
-pub pair_grouped : (h : HostState) (misc first n f : ℕ) (g : ℕ → ℕ) → ArePutWithin h misc first n f → FillsPairs h f → StoresByte h → ((i : ℕ) → g i < 256) →
-    PutsWords 2 h misc first n f g (grouped 2 g)
+pub pair_grouped : (h : HostState) (misc first n f : ℕ) (g : ℕ → ℕ) → AreWritesDecoded h misc first n f → FillsByPairs h f → StoresByte h → ((i : ℕ) → g i < 256) →
+    WritesStoreWords 2 h misc first n f g (word_of_byte_group 2 g)
 pair_grouped h misc first n f g within is plain bytes = record {
   some = omega arith;
   next = λ i e. omega (arith, e);
   put = λ m i e room. let s : HostState = record h { memory = m } in
       let kept = plain_over h m plain in
       let zero_is : i ≡ i + 0 = omega arith in
-      two_put s misc first n f i g (grouped 2 g i) (put_within h m misc first n f within) is.chain_four is.chain_odd_even is.odd_even_off is.in_window e room
-      (λ p l odd. plain_byte s (g i) p kept l (bytes i) ∙ by_plane (λ q. q % 2 ≡ 0 → g i ≡ of_plane (grouped 2 g i) q)
+      two_put s misc first n f i g (word_of_byte_group 2 g i) (put_within h m misc first n f within) is.chain_four is.chain_odd_even is.odd_even_off is.in_window e room
+      (λ p l odd. plain_byte s (g i) p kept l (bytes i) ∙ by_plane (λ q. q % 2 ≡ 0 → g i ≡ of_plane (word_of_byte_group 2 g i) q)
       (λ x. ap g zero_is) (λ x. absurd (cc)) (λ x. ap g zero_is) (λ x. absurd (cc)) p l odd)
-      (λ p l odd. plain_byte s (g (i + 1)) p kept l (bytes (i + 1)) ∙ by_plane (λ q. q % 2 ≡ 1 → g (i + 1) ≡ of_plane (grouped 2 g i) q)
+      (λ p l odd. plain_byte s (g (i + 1)) p kept l (bytes (i + 1)) ∙ by_plane (λ q. q % 2 ≡ 1 → g (i + 1) ≡ of_plane (word_of_byte_group 2 g i) q)
       (λ x. absurd (cc)) (λ x. refl) (λ x. absurd (cc)) (λ x. refl) p l odd);
 }
 
-pub plane_grouped : (h : HostState) (misc first n f : ℕ) (g : ℕ → ℕ) → ArePutWithin h misc first n f → FillsPlanes h → StoresByte h → ((i : ℕ) → g i < 256) →
-    PutsWords 1 h misc first n f g (grouped 1 g)
+pub plane_grouped : (h : HostState) (misc first n f : ℕ) (g : ℕ → ℕ) → AreWritesDecoded h misc first n f → FillsAllPlanes h → StoresByte h → ((i : ℕ) → g i < 256) →
+    WritesStoreWords 1 h misc first n f g (word_of_byte_group 1 g)
 plane_grouped h misc first n f g within is plain bytes = record {
   some = omega arith;
   next = λ i e. omega (arith, e);
@@ -318,7 +318,7 @@ plane_grouped h misc first n f g within is plain bytes = record {
       let zero_is : i ≡ i + 0 = omega arith in
       let own : (p : ℕ) → p < 4 → written_byte s (g i) p ≡ g (i + 0) = λ p l. plain_byte s (g i) p kept l (bytes i) ∙ ap g zero_is in
       one_filled s misc first n f (g i) i (put_within h m misc first n f within) is.chain_four is.chain_odd_even is.odd_even_off (omega (arith, room))
-      ∙ (λ j. word_put s (is_in_map_mask h) ((f + i) % 65536) (record {
+      ∙ (λ j. with_word_stored s (is_in_map_mask h) ((f + i) % 65536) (record {
         plane0 = own 0 (omega arith) j;
         plane1 = own 1 (omega arith) j;
         plane2 = own 2 (omega arith) j;

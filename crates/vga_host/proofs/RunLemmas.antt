@@ -8,9 +8,9 @@ use Rattle.std.proofs.lemmas.Bool.Decides.{nat_tests}
 use Rattle.std.proofs.Common.{⊎_elim}
 use Rattle.std.proofs.lemmas.Bool.{cases_order, cases_lt}
 use Rattle.std.proofs.lemmas.List.{get_or-set_other, get_or-set_same}
-use Rattle.vga_bits.specs.Bits.{is_set, byte_of}
-use Rattle.vga_bits.specs.Four.{Four, four, of_plane}
-use Rattle.vga_planes.specs.Planes.{with_bytes, bytes_at, byte_at}
+use Rattle.vga_bits.specs.Bits.{is_set, byte_of_bits}
+use Rattle.vga_bits.specs.Four.{Four, four_by_plane, of_plane}
+use Rattle.vga_planes.specs.Planes.{with_bytes_at_offset, bytes_at, byte_at}
 use Rattle.vga_host.specs.declared.host.memory.access.MemoryAccess.{MemoryAccess}
 use Rattle.vga_host.specs.Host.{HostState}
 use Rattle.vga_host.specs.Memory.Address.{is_decoded, decoded_among, window_offset, plane_offset, is_reached, window_start, window_len}
@@ -19,7 +19,7 @@ use Rattle.vga_host.specs.Memory.Read.{loaded, compared_bit, picked_plane, read_
 use Rattle.std.specs.Int.{bit_at}
 use Rattle.vga_bits.proofs.BitLemmas.{byte_from_bits}
 use Rattle.vga_bits.proofs.FourLemmas.{by_plane}
-use Rattle.vga_host.specs.Memory.Runs.{put_where, put_bytes, get_where, byte_where, move_where, after_puts, after_gets, after_moves, in_turn}
+use Rattle.vga_host.specs.Memory.Runs.{after_put_if_decoded, after_put_of_plane_bytes, after_get_if_decoded, byte_read_or_ff, after_move_if_decoded, after_puts, after_gets, after_moves, even_or_odd_byte}
 use Rattle.vga_host.specs.Memory.Access.{IsAccess}
 use Rattle.vga_host.specs.Graphics.{write_mode, is_read_compare}
 use Rattle.vga_host.specs.Memory.Address.{is_memory_enabled}
@@ -41,22 +41,22 @@ access_where true access h misc a v is = record {
 access_where false access h misc a v is = is
 
 -- a write changes nothing that the registers say
-pub access_stays : (access : MemoryAccess) (h : HostState) (misc a v : ℕ) → IsAccess access h → IsAccess access (put_where h misc a v)
+pub access_stays : (access : MemoryAccess) (h : HostState) (misc a v : ℕ) → IsAccess access h → IsAccess access (after_put_if_decoded h misc a v)
 access_stays access h misc a v is = access_where (is_decoded h misc a) access h misc a v is
 
-written_where : (d : Bool) (bytes : Four ℕ) (h : HostState) (a v b : ℕ) → bytes ≡ four (λ p. written_byte h b p) →
-    bytes ≡ four (λ p. written_byte (if d then after_put h a v else h) b p)
+written_where : (d : Bool) (bytes : Four ℕ) (h : HostState) (a v b : ℕ) → bytes ≡ four_by_plane (λ p. written_byte h b p) →
+    bytes ≡ four_by_plane (λ p. written_byte (if d then after_put h a v else h) b p)
 unfolding written_bit combined_bit
 written_where true bytes h a v b e = e
 written_where false bytes h a v b e = e
 
 -- nor what a byte makes
-pub written_stays : (bytes : Four ℕ) (h : HostState) (misc a v b : ℕ) → bytes ≡ four (λ p. written_byte h b p) →
-    bytes ≡ four (λ p. written_byte (put_where h misc a v) b p)
+pub written_stays : (bytes : Four ℕ) (h : HostState) (misc a v b : ℕ) → bytes ≡ four_by_plane (λ p. written_byte h b p) →
+    bytes ≡ four_by_plane (λ p. written_byte (after_put_if_decoded h misc a v) b p)
 written_stays bytes h misc a v b e = written_where (is_decoded h misc a) bytes h a v b e
 
 -- a loop's step: what the writes from i on leave at h, those from i + 1 on leave at what write i left
-pub next_put : (misc first : ℕ) (f : ℕ → ℕ) (i n : ℕ) (h t r : HostState) → i < n → t ≡ put_where h misc (first + i) (f i) →
+pub next_put : (misc first : ℕ) (f : ℕ → ℕ) (i n : ℕ) (h t r : HostState) → i < n → t ≡ after_put_if_decoded h misc (first + i) (f i) →
     after_puts misc first f (n - i) i h ≡ r → after_puts misc first f (n - (i + 1)) (i + 1) t ≡ r
 next_put misc first f i n h t r less now before =
     let k : n - i ≡ suc (n - (i + 1)) = omega arith in
@@ -73,8 +73,8 @@ module _ (h : HostState) (misc a w o : ℕ) (decoded : IsTrue (is_decoded h misc
   there = place ∙ ap (plane_offset h) at
 
   pub planes_after : (set : ℕ) (bytes : Four ℕ) → (reach : (p : ℕ) → p < 4 → is_set set p ≡ is_reached h w p)
-      → with_bytes h.memory o bytes set
-      ≡ four (λ p. if is_reached h (window_offset h a) p then slice_set (of_plane h.memory p) (plane_offset h (window_offset h a)) (of_plane bytes p)
+      → with_bytes_at_offset h.memory o bytes set
+      ≡ four_by_plane (λ p. if is_reached h (window_offset h a) p then slice_set (of_plane h.memory p) (plane_offset h (window_offset h a)) (of_plane bytes p)
       else of_plane h.memory p)
   planes_after set bytes reach =
       let r : (p : ℕ) → p < 4 → is_set set p ≡ is_reached h (window_offset h a) p = λ p less. reach p less ∙ ap (λ x. is_reached h x p) at in
@@ -91,18 +91,18 @@ module _ (h : HostState) (misc a w o : ℕ) (decoded : IsTrue (is_decoded h misc
 
   -- four bytes that are stored there are a write of them
   pub put_at : (set : ℕ) (bytes : Four ℕ) → (reach : (p : ℕ) → p < 4 → is_set set p ≡ is_reached h w p)
-      → (let after : HostState = record h { memory = with_bytes h.memory o bytes set } in after ≡ put_bytes h misc a bytes)
+      → (let after : HostState = record h { memory = with_bytes_at_offset h.memory o bytes set } in after ≡ after_put_of_plane_bytes h misc a bytes)
   put_at set bytes reach = ap (λ m. let after : HostState = record h { memory = m } in after) (planes_after set bytes reach) ∙ if_true (is_decoded h misc a) _ h decoded
 
   -- four bytes that are loaded from there are a read's
-  pub get_at : (let after : HostState = record h { latches = bytes_at h.memory o } in after ≡ get_where h misc a)
+  pub get_at : (let after : HostState = record h { latches = bytes_at h.memory o } in after ≡ after_get_if_decoded h misc a)
   get_at = ap (λ o. let after : HostState = record h { latches = bytes_at h.memory o } in after) there ∙ if_true (is_decoded h misc a) (after_get h a) h decoded
 
   -- and so is the byte that they give
-  pub byte_got : byte_of (λ i. read_bit h w (bytes_at h.memory o) i) ≡ byte_where h misc a
+  pub byte_got : byte_of_bits (λ i. read_bit h w (bytes_at h.memory o) i) ≡ byte_read_or_ff h misc a
   byte_got =
-      ap (λ o. byte_of (λ i. read_bit h w (bytes_at h.memory o) i)) there
-      ∙ ap (λ x. byte_of (λ i. read_bit h x (loaded h a) i)) at
+      ap (λ o. byte_of_bits (λ i. read_bit h w (bytes_at h.memory o) i)) there
+      ∙ ap (λ x. byte_of_bits (λ i. read_bit h x (loaded h a) i)) at
       ∙ if_true (is_decoded h misc a) (read_byte h a) 0xFF decoded
 
 access_loaded : (d : Bool) (access : MemoryAccess) (h : HostState) (misc a : ℕ) → IsAccess access h → IsAccess access (if d then after_get h a else h)
@@ -120,7 +120,7 @@ access_loaded true access h misc a is = record {
 access_loaded false access h misc a is = is
 
 -- nor does a read change what the registers say
-pub access_read : (access : MemoryAccess) (h : HostState) (misc a : ℕ) → IsAccess access h → IsAccess access (get_where h misc a)
+pub access_read : (access : MemoryAccess) (h : HostState) (misc a : ℕ) → IsAccess access h → IsAccess access (after_get_if_decoded h misc a)
 access_read access h misc a is = access_loaded (is_decoded h misc a) access h misc a is
 
 mode_loaded : (d : Bool) (h : HostState) (a : ℕ) → write_mode (if d then after_get h a else h) ≡ write_mode h
@@ -128,16 +128,16 @@ mode_loaded true h a = refl
 mode_loaded false h a = refl
 
 -- and least the write mode
-pub mode_read : (h : HostState) (misc a : ℕ) → write_mode (get_where h misc a) ≡ write_mode h
+pub mode_read : (h : HostState) (misc a : ℕ) → write_mode (after_get_if_decoded h misc a) ≡ write_mode h
 mode_read h misc a = mode_loaded (is_decoded h misc a) h a
 
 -- what a loop of moves keeps
-pub move_kept : (access : MemoryAccess) (misc from to n i : ℕ) (h t r : HostState) → i < n → t ≡ move_where h misc (from + i) (to + i)
+pub move_kept : (access : MemoryAccess) (misc from to n i : ℕ) (h t r : HostState) → i < n → t ≡ after_move_if_decoded h misc (from + i) (to + i)
     → (IsAccess access h × (after_moves misc from to (n - i) i h ≡ r)) → (IsAccess access t × (after_moves misc from to (n - (i + 1)) (i + 1) t ≡ r))
 move_kept access misc from to n i h t r less now kept =
     let k : n - i ≡ suc (n - (i + 1)) = omega arith in
-    let u = get_where h misc (from + i) in (
-      subst (IsAccess access) (sym now) (access_stays access u misc (to + i) (byte_where h misc (from + i)) (access_read access h misc (from + i) kept.0)),
+    let u = after_get_if_decoded h misc (from + i) in (
+      subst (IsAccess access) (sym now) (access_stays access u misc (to + i) (byte_read_or_ff h misc (from + i)) (access_read access h misc (from + i) kept.0)),
       ap (after_moves misc from to (n - (i + 1)) (i + 1)) now ∙ sym (ap (λ k. after_moves misc from to k i h) k) ∙ kept.1,
     )
 
@@ -145,28 +145,28 @@ move_kept access misc from to n i h t r less now kept =
 abbrev pub Turns : MemoryAccess → Four ℕ → Four ℕ → ℕ → ℕ → ℕ → ℕ → ℕ → ℕ → HostState → HostState → Type 0
 Turns access bytes others misc first even odd n i h r =
     IsAccess access h
-    × (bytes ≡ four (λ p. written_byte h even p))
-    × (others ≡ four (λ p. written_byte h odd p))
-    × (after_puts misc first (in_turn even odd) (n - i) i h ≡ r)
+    × (bytes ≡ four_by_plane (λ p. written_byte h even p))
+    × (others ≡ four_by_plane (λ p. written_byte h odd p))
+    × (after_puts misc first (even_or_odd_byte even odd) (n - i) i h ≡ r)
 
-pub turn_kept : (access : MemoryAccess) (bytes others : Four ℕ) (misc first even odd n i v : ℕ) (h t r : HostState) → i < n → v ≡ in_turn even odd i →
-    t ≡ put_where h misc (first + i) v
+pub turn_kept : (access : MemoryAccess) (bytes others : Four ℕ) (misc first even odd n i v : ℕ) (h t r : HostState) → i < n → v ≡ even_or_odd_byte even odd i →
+    t ≡ after_put_if_decoded h misc (first + i) v
     → Turns access bytes others misc first even odd n i h r → Turns access bytes others misc first even odd n (i + 1) t r
 turn_kept access bytes others misc first even odd n i v h t r less which now kept =
-    let at : t ≡ put_where h misc (first + i) (in_turn even odd i) = now ∙ ap (put_where h misc (first + i)) which in (
+    let at : t ≡ after_put_if_decoded h misc (first + i) (even_or_odd_byte even odd i) = now ∙ ap (after_put_if_decoded h misc (first + i)) which in (
       subst (IsAccess access) (sym now) (access_stays access h misc (first + i) v kept.0),
-      subst (λ x. bytes ≡ four (λ p. written_byte x even p)) (sym now) (written_stays bytes h misc (first + i) v even kept.1),
-      subst (λ x. others ≡ four (λ p. written_byte x odd p)) (sym now) (written_stays others h misc (first + i) v odd kept.2),
-      next_put misc first (in_turn even odd) i n h t r less at kept.3,
+      subst (λ x. bytes ≡ four_by_plane (λ p. written_byte x even p)) (sym now) (written_stays bytes h misc (first + i) v even kept.1),
+      subst (λ x. others ≡ four_by_plane (λ p. written_byte x odd p)) (sym now) (written_stays others h misc (first + i) v odd kept.2),
+      next_put misc first (even_or_odd_byte even odd) i n h t r less at kept.3,
     )
 
 even_first : (m even odd : ℕ) → m ≡ 0 → even ≡ (if m == 0 then even else odd)
 even_first m even odd is = sym (ap (λ x. if x == 0 then even else odd) is)
 
-pub even_in_turn : (even odd i : ℕ) → i % 2 ≡ 0 → even ≡ in_turn even odd i
+pub even_in_turn : (even odd i : ℕ) → i % 2 ≡ 0 → even ≡ even_or_odd_byte even odd i
 even_in_turn even odd i is = even_first (i % 2) even odd is
 
-pub odd_in_turn : (even odd i : ℕ) → (i % 2 ≡ 0 → ⊥) → odd ≡ in_turn even odd i
+pub odd_in_turn : (even odd i : ℕ) → (i % 2 ≡ 0 → ⊥) → odd ≡ even_or_odd_byte even odd i
 odd_in_turn even odd i is =
     let one : i % 2 ≡ 1 = omega arith in
     sym (ap (λ x. if x == 0 then even else odd) one)
@@ -182,17 +182,17 @@ latches_where true h a = refl
 latches_where false h a = refl
 
 -- a read changes the latches alone
-pub latches_read : (h s : HostState) (misc a : ℕ) → with_latches h s.latches ≡ s → with_latches h (get_where s misc a).latches ≡ get_where s misc a
+pub latches_read : (h s : HostState) (misc a : ℕ) → with_latches h s.latches ≡ s → with_latches h (after_get_if_decoded s misc a).latches ≡ after_get_if_decoded s misc a
 latches_read h s misc a kept =
-    ap (λ (x : HostState). with_latches x (get_where s misc a).latches) kept ∙ latches_where (is_decoded s misc a) s a
+    ap (λ (x : HostState). with_latches x (after_get_if_decoded s misc a).latches) kept ∙ latches_where (is_decoded s misc a) s a
 
 -- and those change no byte that is read
-pub byte_over : (h s : HostState) (misc a : ℕ) → with_latches h s.latches ≡ s → byte_where s misc a ≡ byte_where h misc a
+pub byte_over : (h s : HostState) (misc a : ℕ) → with_latches h s.latches ≡ s → byte_read_or_ff s misc a ≡ byte_read_or_ff h misc a
 unfolding read_bit
-byte_over h s misc a kept = ap (λ (x : HostState). byte_where x misc a) (sym kept)
+byte_over h s misc a kept = ap (λ (x : HostState). byte_read_or_ff x misc a) (sym kept)
 
 -- a step of a loop of reads
-pub next_get : (misc first n i : ℕ) (h t r : HostState) → i < n → t ≡ get_where h misc (first + i) → after_gets misc first (n - i) i h ≡ r →
+pub next_get : (misc first n i : ℕ) (h t r : HostState) → i < n → t ≡ after_get_if_decoded h misc (first + i) → after_gets misc first (n - i) i h ≡ r →
     after_gets misc first (n - (i + 1)) (i + 1) t ≡ r
 next_get misc first n i h t r less now before =
     let k : n - i ≡ suc (n - (i + 1)) = omega arith in
@@ -254,7 +254,7 @@ among_window h misc first (suc n) on =
 
 -- the byte that a read in mode 0 of a decoded address answers is the picked plane's
 pub byte_there : (h : HostState) (misc a w k o : ℕ) → is_decoded h misc a ≡ true → window_offset h a ≡ w → is_read_compare h ≡ false → k ≡ picked_plane h w
-    → k < 4 → o ≡ plane_offset h w → byte_at h.memory k o < 256 → byte_at h.memory k o ≡ byte_where h misc a
+    → k < 4 → o ≡ plane_offset h w → byte_at h.memory k o < 256 → byte_at h.memory k o ≡ byte_read_or_ff h misc a
 unfolding read_bit
 byte_there h misc a w k o decoded in_window compare picked low at byte =
     let m = h.memory in
@@ -271,18 +271,18 @@ byte_there h misc a w k o decoded in_window compare picked low at byte =
     ∙ if_true (is_decoded h misc a) (read_byte h a) 0xFF decoded
 
 -- where all of some addresses are decoded, the latches are those of the last read
-get_over : (h s : HostState) (misc a : ℕ) → is_decoded h misc a ≡ true → with_latches h s.latches ≡ s → get_where s misc a ≡ get_where h misc a
-get_over h s misc a decoded kept = sym (ap (λ (x : HostState). get_where x misc a) kept)
+get_over : (h s : HostState) (misc a : ℕ) → is_decoded h misc a ≡ true → with_latches h s.latches ≡ s → after_get_if_decoded s misc a ≡ after_get_if_decoded h misc a
+get_over h s misc a decoded kept = sym (ap (λ (x : HostState). after_get_if_decoded x misc a) kept)
     ∙ (λ j. if decoded j then after_get (with_latches h s.latches) a else with_latches h s.latches)
     ∙ (λ j. if sym decoded j then after_get h a else h)
 
 pub last_get : (misc first n i : ℕ) (h s : HostState) → with_latches h s.latches ≡ s → ((k : ℕ) → i ≤ k → k < i + suc n → is_decoded h misc (first + k) ≡ true) →
-    after_gets misc first (suc n) i s ≡ get_where h misc (first + (i + n))
+    after_gets misc first (suc n) i s ≡ after_get_if_decoded h misc (first + (i + n))
 last_get misc first zero i h s kept decoded =
     let z : first + i ≡ first + (i + 0) = omega arith in
-    get_over h s misc (first + i) (decoded i (omega arith) (omega arith)) kept ∙ ap (get_where h misc) z
+    get_over h s misc (first + i) (decoded i (omega arith) (omega arith)) kept ∙ ap (after_get_if_decoded h misc) z
 last_get misc first (suc n) i h s kept decoded =
     let z : first + (i + 1 + n) ≡ first + (i + suc n) = omega arith in
-    last_get misc first n (i + 1) h (get_where s misc (first + i)) (latches_read h s misc (first + i) kept)
+    last_get misc first n (i + 1) h (after_get_if_decoded s misc (first + i)) (latches_read h s misc (first + i) kept)
     (λ k low high. decoded k (omega (arith, low)) (omega (arith, high)))
-    ∙ ap (get_where h misc) z
+    ∙ ap (after_get_if_decoded h misc) z

@@ -8,7 +8,7 @@ use Rattle.vga_bits.proofs.FourLemmas.{by_plane}
 use Rattle.vga_bits.specs.Bits.{is_set}
 use Rattle.vga_bits.specs.Four.{of_plane}
 use Rattle.vga_host.specs.Host.{HostState}
-use Rattle.vga_host.specs.Memory.Write.{written_bit, mask_bit, combined_bit, combined_by, StoresByte}
+use Rattle.vga_host.specs.Memory.Write.{written_bit, mask_bit, combined_bit, combined_by_function, StoresByte}
 use Rattle.vga_host.specs.Graphics.{write_mode, rotate_count, function_select, is_set_reset_enabled, set_reset, bit_mask}
 
 -- the registers of a plain write, by their numbers
@@ -32,7 +32,7 @@ plain_bit h v p i is lp li =
     let z : (i + 0) % 8 ≡ i = omega arith in
     (λ j. if is.mode j == 1 then latch
     else if (if is.mode j == 3 then min (is.mask i li j) (bit_at v ((i + is.rotate j) % 8)) else is.mask i li j) == 0 then latch
-    else combined_by (is.function j) (if is.mode j == 0 then (if is.own p lp j then set_reset h p else bit_at v ((i + is.rotate j) % 8))
+    else combined_by_function (is.function j) (if is.mode j == 0 then (if is.own p lp j then set_reset h p else bit_at v ((i + is.rotate j) % 8))
     else if is.mode j == 2 then bit_at v p else set_reset h p) latch)
     ∙ ap (bit_at v) z
 

@@ -7,7 +7,7 @@ use Rattle.std.proofs.lemmas.Bool.Decides.{nat_tests}
 use Rattle.std.proofs.lemmas.List.{set-get_or, get_or-set_other}
 use Rattle.vga_bits.proofs.BitLemmas.{byte_from_bits}
 use Rattle.vga_bits.proofs.FourLemmas.{by_plane}
-use Rattle.vga_bits.specs.Four.{Four, four, of_plane}
+use Rattle.vga_bits.specs.Four.{Four, four_by_plane, of_plane}
 use Rattle.vga_planes.specs.Planes.{byte_at, bytes_at}
 use Rattle.vga_host.specs.Host.{HostState}
 use Rattle.vga_host.specs.Memory.Address.{is_decoded, window_offset, plane_offset, is_reached}
@@ -16,10 +16,10 @@ use Rattle.vga_host.specs.Sequencer.{is_in_map_mask, is_chain_four, is_odd_even_
 use Rattle.vga_host.specs.Graphics.{read_map_pair, read_map_select}
 use Rattle.vga_host.specs.Memory.Read.{compared_bit, read_bit, read_byte, picked_plane, after_get, loaded}
 use Rattle.vga_host.specs.Memory.Write.{written_bit, written_byte, after_put, StoresByte}
-use Rattle.vga_host.specs.Memory.Runs.{put_where, move_where, after_moves}
+use Rattle.vga_host.specs.Memory.Runs.{after_put_if_decoded, after_move_if_decoded, after_moves}
 use Rattle.vga_host.specs.Memory.Access.{IsAccess}
 use Rattle.vga_host.specs.declared.host.memory.access.MemoryAccess.{MemoryAccess}
-use Rattle.vga_host.specs.Memory.PlaneWords.{word_moved, AreWithin, MovesLatches, MovesFours, MovesPairs, MovesWords}
+use Rattle.vga_host.specs.Memory.PlaneWords.{with_word_copied, AreMovesDecoded, MovesCopyLatches, MovesCopyByFours, MovesCopyByPairs, MovesCopyWords}
 use Rattle.vga_host.proofs.StoresByteLemmas.{plain_bit, latched_bit}
 
 -- ---- one move
@@ -35,7 +35,7 @@ pub one_move : (h : HostState) (misc x y a b : ℕ) (reach : ℕ → Bool) → i
     → plane_offset h (window_offset h x) ≡ a → plane_offset h (window_offset h y) ≡ b
     → ((p : ℕ) → p < 4 → is_reached h (window_offset h y) p ≡ reach p)
     → ((p : ℕ) → p < 4 → reach p ≡ true → written_byte (after_get h x) (read_byte h x) p ≡ byte_at h.memory p a)
-    → move_where h misc x y ≡ word_moved h reach a b
+    → after_move_if_decoded h misc x y ≡ with_word_copied h reach a b
 one_move h misc x y a b reach dx dy ea eb reached own =
     let g : HostState = after_get h x in
     let v = read_byte h x in
@@ -47,7 +47,7 @@ one_move h misc x y a b reach dx dy ea eb reached own =
     let p2 = plane_is (is_reached h w 2) (reach 2) m.plane2 o b (written_byte g v 2) (byte_at m 2 a) (reached 2 (omega arith)) eb (own 2 (omega arith)) in
     let p3 = plane_is (is_reached h w 3) (reach 3) m.plane3 o b (written_byte g v 3) (byte_at m 3 a) (reached 3 (omega arith)) eb (own 3 (omega arith)) in
     let after : Four ℕ → Four (List ℕ) → HostState = λ l n. record h { latches = l; memory = n } in
-    (λ j. put_where (if dx j then after_get h x else h) misc y (if dx j then read_byte h x else 0xFF))
+    (λ j. after_put_if_decoded (if dx j then after_get h x else h) misc y (if dx j then read_byte h x else 0xFF))
     ∙ (λ j. if dy j then after_put g y v else g)
     ∙ (λ j. after (bytes_at m (ea j)) (record { plane0 = p0 j; plane1 = p1 j; plane2 = p2 j; plane3 = p3 j }))
 
@@ -58,7 +58,7 @@ pub latches_moved : (h : HostState) (misc x y a b : ℕ) → write_mode h ≡ 1 
     → plane_offset h (window_offset h x) ≡ a → plane_offset h (window_offset h y) ≡ b
     → ((p : ℕ) → p < 4 → is_reached h (window_offset h y) p ≡ is_in_map_mask h p)
     → ((p : ℕ) → p < 4 → byte_at h.memory p a < 256)
-    → move_where h misc x y ≡ word_moved h (is_in_map_mask h) a b
+    → after_move_if_decoded h misc x y ≡ with_word_copied h (is_in_map_mask h) a b
 latches_moved h misc x y a b mode dx dy ea eb reached bytes =
     let own : (p : ℕ) → p < 4 → is_in_map_mask h p ≡ true → written_byte (after_get h x) (read_byte h x) p ≡ byte_at h.memory p a =
     λ p l e.
@@ -77,7 +77,7 @@ pub plane_moved : (h : HostState) (misc x y a b k : ℕ) (reach : ℕ → Bool) 
     → plane_offset h (window_offset h x) ≡ a → plane_offset h (window_offset h y) ≡ b → picked_plane h (window_offset h x) ≡ k
     → ((p : ℕ) → p < 4 → is_reached h (window_offset h y) p ≡ reach p) → ((p : ℕ) → p < 4 → reach p ≡ true → p ≡ k)
     → byte_at h.memory k a < 256
-    → move_where h misc x y ≡ word_moved h reach a b
+    → after_move_if_decoded h misc x y ≡ with_word_copied h reach a b
 unfolding read_bit
 plane_moved h misc x y a b k reach lk plain compare dx dy ea eb picked reached only byte =
     let m = h.memory in
@@ -151,7 +151,7 @@ next_place f i j even less = omega (arith, even, less)
 -- in a chain of four, the byte of place j of four moves alone
 chained : (s : HostState) (misc x y a b j : ℕ) → j < 4 → is_chain_four s ≡ true → StoresByte s → is_read_compare s ≡ false
     → is_decoded s misc x ≡ true → is_decoded s misc y ≡ true → window_offset s x ≡ a + j → window_offset s y ≡ b + j
-    → a % 4 ≡ 0 → b % 4 ≡ 0 → byte_at s.memory j a < 256 → move_where s misc x y ≡ word_moved s (plane_alone s j) a b
+    → a % 4 ≡ 0 → b % 4 ≡ 0 → byte_at s.memory j a < 256 → after_move_if_decoded s misc x y ≡ with_word_copied s (plane_alone s j) a b
 chained s misc x y a b j less four plain compare dx dy px py ea eb byte =
     let ox : plane_offset s (window_offset s x) ≡ a =
     (λ t. if four t then px t / 4 * 4 else if is_chain_odd_even s then px t / 2 * 2 else px t) ∙ in_four a j ea less in
@@ -169,7 +169,7 @@ chained s misc x y a b j less four plain compare dx dy px py ea eb byte =
 paired : (s : HostState) (misc x y a b j : ℕ) → j < 2 → is_chain_four s ≡ false → is_chain_odd_even s ≡ true → is_odd_even_off s ≡ false
     → is_odd_even_read s ≡ true → read_map_pair s ≡ 0 → is_in_map_mask s 2 ≡ false → is_in_map_mask s 3 ≡ false → StoresByte s → is_read_compare s ≡ false
     → is_decoded s misc x ≡ true → is_decoded s misc y ≡ true → window_offset s x ≡ a + j → window_offset s y ≡ b + j
-    → a % 2 ≡ 0 → b % 2 ≡ 0 → byte_at s.memory j a < 256 → move_where s misc x y ≡ word_moved s (plane_alone s j) a b
+    → a % 2 ≡ 0 → b % 2 ≡ 0 → byte_at s.memory j a < 256 → after_move_if_decoded s misc x y ≡ with_word_copied s (plane_alone s j) a b
 paired s misc x y a b j less four pairs off apart pair two three plain compare dx dy px py ea eb byte =
     let ox : plane_offset s (window_offset s x) ≡ a =
     (λ t. if four t then px t / 4 * 4 else if pairs t then px t / 2 * 2 else px t) ∙ in_two a j ea less in
@@ -188,23 +188,23 @@ paired s misc x y a b j less four pairs off apart pair two three plain compare d
 -- ---- words
 
 -- planes alone one after the other are a word in the planes of the map mask
-four_alone : (h : HostState) (a b : ℕ) → (let one : HostState = word_moved h (plane_alone h 0) a b in
-    let two : HostState = word_moved one (plane_alone h 1) a b in let three : HostState = word_moved two (plane_alone h 2) a b in
-    word_moved three (plane_alone h 3) a b ≡ word_moved h (is_in_map_mask h) a b)
+four_alone : (h : HostState) (a b : ℕ) → (let one : HostState = with_word_copied h (plane_alone h 0) a b in
+    let two : HostState = with_word_copied one (plane_alone h 1) a b in let three : HostState = with_word_copied two (plane_alone h 2) a b in
+    with_word_copied three (plane_alone h 3) a b ≡ with_word_copied h (is_in_map_mask h) a b)
 four_alone h a b =
     let m = h.memory in
     let k0 = byte_stays (is_in_map_mask h 0) m.plane0 a b in
     let k1 = byte_stays (is_in_map_mask h 1) m.plane1 a b in
     let k2 = byte_stays (is_in_map_mask h 2) m.plane2 a b in
-    let after : HostState = word_moved h (is_in_map_mask h) a b in
+    let after : HostState = with_word_copied h (is_in_map_mask h) a b in
     λ t. record after { latches = record { plane0 = k0 t; plane1 = k1 t; plane2 = k2 t; plane3 = slice_index m.plane3 a } }
 
-two_alone : (h : HostState) (a b : ℕ) → is_in_map_mask h 2 ≡ false → is_in_map_mask h 3 ≡ false → (let one : HostState = word_moved h (plane_alone h 0) a b in
-    word_moved one (plane_alone h 1) a b ≡ word_moved h (is_in_map_mask h) a b)
+two_alone : (h : HostState) (a b : ℕ) → is_in_map_mask h 2 ≡ false → is_in_map_mask h 3 ≡ false → (let one : HostState = with_word_copied h (plane_alone h 0) a b in
+    with_word_copied one (plane_alone h 1) a b ≡ with_word_copied h (is_in_map_mask h) a b)
 two_alone h a b two three =
     let m = h.memory in
     let k0 = byte_stays (is_in_map_mask h 0) m.plane0 a b in
-    let after : HostState = word_moved h (is_in_map_mask h) a b in
+    let after : HostState = with_word_copied h (is_in_map_mask h) a b in
     λ t. record after {
       latches = record { plane0 = k0 t; plane1 = slice_index m.plane1 a; plane2 = slice_index m.plane2 a; plane3 = slice_index m.plane3 a };
       memory = record {
@@ -219,21 +219,21 @@ two_alone h a b two three =
 abbrev pub AreBytes : HostState → ℕ → Type 0
 AreBytes h a = (p : ℕ) → p < 4 → byte_at h.memory p a < 256
 
-plain_kept : (h : HostState) (reach : ℕ → Bool) (a b : ℕ) → StoresByte h → StoresByte (word_moved h reach a b)
+plain_kept : (h : HostState) (reach : ℕ → Bool) (a b : ℕ) → StoresByte h → StoresByte (with_word_copied h reach a b)
 plain_kept h reach a b is = record { mode = is.mode; rotate = is.rotate; function = is.function; own = is.own; mask = is.mask }
 
 -- in a chain of four, four moves from a word's first byte on move the word
-pub four_moved : (h : HostState) (misc from to n f t i : ℕ) → AreWithin h misc from to n f t → is_chain_four h ≡ true → StoresByte h → is_read_compare h ≡ false
+pub four_moved : (h : HostState) (misc from to n f t i : ℕ) → AreMovesDecoded h misc from to n f t → is_chain_four h ≡ true → StoresByte h → is_read_compare h ≡ false
     → f % 4 ≡ 0 → t % 4 ≡ 0 → i % 4 ≡ 0 → i + 4 ≤ n → AreBytes h ((f + i) % 65536)
-    → after_moves misc from to 4 i h ≡ word_moved h (is_in_map_mask h) ((f + i) % 65536) ((t + i) % 65536)
+    → after_moves misc from to 4 i h ≡ with_word_copied h (is_in_map_mask h) ((f + i) % 65536) ((t + i) % 65536)
 four_moved h misc from to n f t i within chain plain compare ef et ei room bytes =
     let a = (f + i) % 65536 in
     let b = (t + i) % 65536 in
     let af : a % 4 ≡ 0 = omega (arith, ef, ei) in
     let bf : b % 4 ≡ 0 = omega (arith, et, ei) in
-    let s1 : HostState = word_moved h (plane_alone h 0) a b in
-    let s2 : HostState = word_moved s1 (plane_alone h 1) a b in
-    let s3 : HostState = word_moved s2 (plane_alone h 2) a b in
+    let s1 : HostState = with_word_copied h (plane_alone h 0) a b in
+    let s2 : HostState = with_word_copied s1 (plane_alone h 1) a b in
+    let s3 : HostState = with_word_copied s2 (plane_alone h 2) a b in
     let p1 = plain_kept h (plane_alone h 0) a b plain in
     let p2 = plain_kept s1 (plane_alone h 1) a b p1 in
     let p3 = plain_kept s2 (plane_alone h 2) a b p2 in
@@ -264,17 +264,17 @@ four_moved h misc from to n f t i within chain plain compare ef et ei room bytes
     ∙ e3 ∙ four_alone h a b
 
 -- where odd and even addresses are apart, two moves from an even address on move the word
-pub two_moved : (h : HostState) (misc from to n f t i : ℕ) → AreWithin h misc from to n f t → is_chain_four h ≡ false → is_chain_odd_even h ≡ true
+pub two_moved : (h : HostState) (misc from to n f t i : ℕ) → AreMovesDecoded h misc from to n f t → is_chain_four h ≡ false → is_chain_odd_even h ≡ true
     → is_odd_even_off h ≡ false → is_odd_even_read h ≡ true → read_map_pair h ≡ 0 → is_in_map_mask h 2 ≡ false → is_in_map_mask h 3 ≡ false
     → StoresByte h → is_read_compare h ≡ false
     → f % 2 ≡ 0 → t % 2 ≡ 0 → i % 2 ≡ 0 → i + 2 ≤ n → AreBytes h ((f + i) % 65536)
-    → after_moves misc from to 2 i h ≡ word_moved h (is_in_map_mask h) ((f + i) % 65536) ((t + i) % 65536)
+    → after_moves misc from to 2 i h ≡ with_word_copied h (is_in_map_mask h) ((f + i) % 65536) ((t + i) % 65536)
 two_moved h misc from to n f t i within chain pairs off apart pair two three plain compare ef et ei room bytes =
     let a = (f + i) % 65536 in
     let b = (t + i) % 65536 in
     let af : a % 2 ≡ 0 = omega (arith, ef, ei) in
     let bf : b % 2 ≡ 0 = omega (arith, et, ei) in
-    let s1 : HostState = word_moved h (plane_alone h 0) a b in
+    let s1 : HostState = with_word_copied h (plane_alone h 0) a b in
     let p1 = plain_kept h (plane_alone h 0) a b plain in
     let even_place : (x k j : ℕ) → k ≡ i + j → j < 2 → (x + i) % 2 ≡ 0 → (x + k) % 65536 ≡ (x + i) % 65536 + j = λ x k j e l m. omega (arith, e, l, m) in
     let fi : (f + i) % 2 ≡ 0 = omega (arith, ef, ei) in
@@ -291,9 +291,9 @@ two_moved h misc from to n f t i within chain pairs off apart pair two three pla
     ap (after_moves misc from to 1 (i + 1)) e0 ∙ e1 ∙ two_alone h a b two three
 
 -- in write mode 1, where no bit of an address picks a plane, a move moves a word
-pub latch_moved : (h : HostState) (misc from to n f t i : ℕ) → AreWithin h misc from to n f t → write_mode h ≡ 1 → is_chain_four h ≡ false
+pub latch_moved : (h : HostState) (misc from to n f t i : ℕ) → AreMovesDecoded h misc from to n f t → write_mode h ≡ 1 → is_chain_four h ≡ false
     → is_chain_odd_even h ≡ false → is_odd_even_off h ≡ true → i < n → AreBytes h ((f + i) % 65536)
-    → move_where h misc (from + i) (to + i) ≡ word_moved h (is_in_map_mask h) ((f + i) % 65536) ((t + i) % 65536)
+    → after_move_if_decoded h misc (from + i) (to + i) ≡ with_word_copied h (is_in_map_mask h) ((f + i) % 65536) ((t + i) % 65536)
 latch_moved h misc from to n f t i within mode chain pairs off less bytes =
     let offset : (w c : ℕ) → w ≡ c → plane_offset h w ≡ c =
     λ w c e. (λ s. if chain s then w / 4 * 4 else if pairs s then w / 2 * 2 else w) ∙ e in
@@ -305,11 +305,11 @@ latch_moved h misc from to n f t i within mode chain pairs off less bytes =
 
 -- ---- runs
 
-within_kept : (h : HostState) (m : Four (List ℕ)) (l : Four ℕ) (misc from to n f t : ℕ) → AreWithin h misc from to n f t →
-    (let s : HostState = record h { memory = m; latches = l } in AreWithin s misc from to n f t)
+within_kept : (h : HostState) (m : Four (List ℕ)) (l : Four ℕ) (misc from to n f t : ℕ) → AreMovesDecoded h misc from to n f t →
+    (let s : HostState = record h { memory = m; latches = l } in AreMovesDecoded s misc from to n f t)
 within_kept h m l misc from to n f t is = record { read = is.read; written = is.written; from_place = is.from_place; to_place = is.to_place }
 
-pub latch_words : (h : HostState) (misc from to n f t : ℕ) → AreWithin h misc from to n f t → MovesLatches h → MovesWords 1 h misc from to n f t
+pub latch_words : (h : HostState) (misc from to n f t : ℕ) → AreMovesDecoded h misc from to n f t → MovesCopyLatches h → MovesCopyWords 1 h misc from to n f t
 latch_words h misc from to n f t within is = record {
   some = omega arith;
   next = λ i e. omega (arith, e);
@@ -320,7 +320,7 @@ latch_words h misc from to n f t within is = record {
 plain_over : (h : HostState) (m : Four (List ℕ)) (l : Four ℕ) → StoresByte h → (let s : HostState = record h { memory = m; latches = l } in StoresByte s)
 plain_over h m l is = record { mode = is.mode; rotate = is.rotate; function = is.function; own = is.own; mask = is.mask }
 
-pub four_words : (h : HostState) (misc from to n f t : ℕ) → AreWithin h misc from to n f t → MovesFours h f t → MovesWords 4 h misc from to n f t
+pub four_words : (h : HostState) (misc from to n f t : ℕ) → AreMovesDecoded h misc from to n f t → MovesCopyByFours h f t → MovesCopyWords 4 h misc from to n f t
 four_words h misc from to n f t within is = record {
   some = omega arith;
   next = λ i e. omega (arith, e);
@@ -329,7 +329,7 @@ four_words h misc from to n f t within is = record {
       e room bytes;
 }
 
-pub pair_words : (h : HostState) (misc from to n f t : ℕ) → AreWithin h misc from to n f t → MovesPairs h f t → MovesWords 2 h misc from to n f t
+pub pair_words : (h : HostState) (misc from to n f t : ℕ) → AreMovesDecoded h misc from to n f t → MovesCopyByPairs h f t → MovesCopyWords 2 h misc from to n f t
 pair_words h misc from to n f t within is = record {
   some = omega arith;
   next = λ i e. omega (arith, e);
@@ -348,8 +348,8 @@ moves_add misc from to zero r i h =
 moves_add misc from to (suc k) r i h =
     let e : suc k + r ≡ suc (k + r) = omega arith in
     let z : i + 1 + k ≡ i + suc k = omega arith in
-    ap (λ n. after_moves misc from to n i h) e ∙ moves_add misc from to k r (i + 1) (move_where h misc (from + i) (to + i))
-    ∙ ap (λ n. after_moves misc from to r n (after_moves misc from to k (i + 1) (move_where h misc (from + i) (to + i)))) z
+    ap (λ n. after_moves misc from to n i h) e ∙ moves_add misc from to k r (i + 1) (after_move_if_decoded h misc (from + i) (to + i))
+    ∙ ap (λ n. after_moves misc from to r n (after_moves misc from to k (i + 1) (after_move_if_decoded h misc (from + i) (to + i)))) z
 
 -- a host with other memory and latches
 abbrev pub over : HostState → Four (List ℕ) → Four ℕ → HostState
@@ -369,20 +369,20 @@ access_over access h m l is = record {
 }
 
 -- what a loop over words keeps
-pub words_go_on : (h s r : HostState) (per misc from to n f t done : ℕ) → MovesWords per h misc from to n f t → per ≤ n - done → done ≤ n → done % per ≡ 0
+pub words_go_on : (h s r : HostState) (per misc from to n f t done : ℕ) → MovesCopyWords per h misc from to n f t → per ≤ n - done → done ≤ n → done % per ≡ 0
     → over h s.memory s.latches ≡ s → after_moves misc from to done 0 h ≡ s → AreBytes s ((f + done) % 65536)
-    → r ≡ word_moved s (is_in_map_mask h) ((f + done) % 65536) ((t + done) % 65536)
+    → r ≡ with_word_copied s (is_in_map_mask h) ((f + done) % 65536) ((t + done) % 65536)
     → (done + per ≤ n) × ((done + per) % per ≡ 0) × (over h r.memory r.latches ≡ r) × (after_moves misc from to (done + per) 0 h ≡ r)
 words_go_on h s r per misc from to n f t done words room few whole same moved bytes is =
     let left : done + per ≤ n = omega (arith, room, few) in
-    let after : HostState = word_moved s (is_in_map_mask h) ((f + done) % 65536) ((t + done) % 65536) in
+    let after : HostState = with_word_copied s (is_in_map_mask h) ((f + done) % 65536) ((t + done) % 65536) in
     let z : 0 + done ≡ done = omega arith in (
       left,
       words.next done whole,
       subst (λ (x : HostState). over h x.memory x.latches ≡ x) (sym is) (ap (λ (x : HostState). over x after.memory after.latches) same),
       moves_add misc from to done per 0 h ∙ ap (λ (k : ℕ). after_moves misc from to per k (after_moves misc from to done 0 h)) z
           ∙ ap (after_moves misc from to per done) (moved ∙ sym same) ∙ words.moved s.memory s.latches done whole left bytes
-          ∙ ap (λ (x : HostState). word_moved x (is_in_map_mask h) ((f + done) % 65536) ((t + done) % 65536)) same ∙ sym is,
+          ∙ ap (λ (x : HostState). with_word_copied x (is_in_map_mask h) ((f + done) % 65536) ((t + done) % 65536)) same ∙ sym is,
     )
 
 -- the rest of n moves, after those that are done, leaves what all n moves leave

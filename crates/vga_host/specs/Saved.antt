@@ -2,7 +2,7 @@
 -- controller, both indexes, and the display memory.
 use Rattle.std.specs.Prelude.{ℕ, ◌≡◌, ◌<◌, List, [], ◌∷◌, ◌++◌, length, take, drop, slice_index}
 use Rattle.vga_bits.specs.Four.{Four}
-use Rattle.vga_bits.specs.RegFile.{AreKept}
+use Rattle.vga_bits.specs.RegFile.{AreWithinMasks}
 use Rattle.vga_planes.specs.Saved.{saved_memory, memory_from}
 use Rattle.vga_host.specs.Host.{HostState}
 use Rattle.vga_host.specs.Ports.{seq_masks, gfx_masks}
@@ -45,8 +45,8 @@ past_indexes bytes = drop 2 (past_gfx bytes)
 -- three and of four bits; latches and memory may be any
 pub record IsSavedHost (bytes : List ℕ) : Type 0 where
   pub size : length bytes ≡ 262164
-  pub seq : AreKept seq_masks (take 5 (past_latches bytes))
-  pub gfx : AreKept gfx_masks (take 9 (past_seq bytes))
+  pub seq : AreWithinMasks seq_masks (take 5 (past_latches bytes))
+  pub gfx : AreWithinMasks gfx_masks (take 9 (past_seq bytes))
   pub seq_index : slice_index (past_gfx bytes) 0 < 8
   pub gfx_index : slice_index (past_gfx bytes) 1 < 16
 

@@ -7,38 +7,38 @@ use Rattle.std.proofs.lemmas.Nat.Bits.{bit_at-lt}
 use Rattle.std.proofs.lemmas.List.{get_or-map, length-map, map-set, set-get_or}
 use Rattle.vga_bits.specs.Bits.{is_set}
 use Rattle.vga_bits.specs.Bytes.{zeros}
-use Rattle.vga_bits.specs.Four.{Four, four, of_plane}
-use Rattle.vga_bits.specs.Words.{byte_in, bytes_of, word_bit}
+use Rattle.vga_bits.specs.Four.{Four, four_by_plane, of_plane}
+use Rattle.vga_bits.specs.Words.{plane_byte_in_word, plane_bytes_of_word, plane_bit_in_word}
 use Rattle.vga_bits.proofs.BitLemmas.{byte_from_bits}
 use Rattle.vga_bits.proofs.FourLemmas.{by_plane}
 use Rattle.vga_bits.proofs.WordLemmas.{byte_below, word_bit_byte}
-use Rattle.vga_planes.specs.Planes.{byte_at, with_bytes, zero_planes, IsMemory}
-use Rattle.vga_planes.specs.PlaneWords.{planes_of}
+use Rattle.vga_planes.specs.Planes.{byte_at, with_bytes_at_offset, zero_planes, IsDisplayMemory}
+use Rattle.vga_planes.specs.PlaneWords.{planes_of_words}
 
-read_below : (p : ℕ) (ws : List ℕ) (i : ℕ) → get_or (map (byte_in p) ws) i 0 < 256
+read_below : (p : ℕ) (ws : List ℕ) (i : ℕ) → get_or (map (plane_byte_in_word p) ws) i 0 < 256
 read_below p [] i = omega arith
 read_below p (w ∷ ws) zero = byte_below p w
 read_below p (w ∷ ws) (suc i) = read_below p ws i
 
 -- planes in 65,536 words are a memory
-pub words_are_memory : (ws : List ℕ) → length ws ≡ 65536 → IsMemory (planes_of ws)
+pub words_are_memory : (ws : List ℕ) → length ws ≡ 65536 → IsDisplayMemory (planes_of_words ws)
 words_are_memory ws size =
-    let all : (p : ℕ) → length (map (byte_in p) ws) ≡ 65536 = λ p. length-map ws (byte_in p) ∙ size in
+    let all : (p : ℕ) → length (map (plane_byte_in_word p) ws) ≡ 65536 = λ p. length-map ws (plane_byte_in_word p) ∙ size in
     record {
-      size = by_plane (λ p. length (of_plane (planes_of ws) p) ≡ 65536) (all 0) (all 1) (all 2) (all 3);
-      bytes = by_plane (λ p. (i : ℕ) → byte_at (planes_of ws) p i < 256) (read_below 0 ws) (read_below 1 ws) (read_below 2 ws) (read_below 3 ws);
+      size = by_plane (λ p. length (of_plane (planes_of_words ws) p) ≡ 65536) (all 0) (all 1) (all 2) (all 3);
+      bytes = by_plane (λ p. (i : ℕ) → byte_at (planes_of_words ws) p i < 256) (read_below 0 ws) (read_below 1 ws) (read_below 2 ws) (read_below 3 ws);
     }
 
 map_zeros : (f : ℕ → ℕ) (n : ℕ) → f 0 ≡ 0 → map f (replicate n 0) ≡ replicate n 0
 map_zeros f zero e = refl
 map_zeros f (suc n) e = ap (λ x. x ∷ map f (replicate n 0)) e ∙ ap (λ xs. 0 ∷ xs) (map_zeros f n e)
 
-blank_plane : (p n : ℕ) → byte_in p 0 ≡ 0 → map (byte_in p) (zeros n) ≡ zeros n
+blank_plane : (p n : ℕ) → plane_byte_in_word p 0 ≡ 0 → map (plane_byte_in_word p) (zeros n) ≡ zeros n
 unfolding zeros
-blank_plane p n e = map_zeros (byte_in p) n e
+blank_plane p n e = map_zeros (plane_byte_in_word p) n e
 
 -- over any size, so that no list of 65,536 is ever computed
-blank_all : (n : ℕ) → planes_of (zeros n) ≡ four (λ p. zeros n)
+blank_all : (n : ℕ) → planes_of_words (zeros n) ≡ four_by_plane (λ p. zeros n)
 blank_all n =
     let e0 = blank_plane 0 n refl in
     let e1 = blank_plane 1 n refl in
@@ -46,16 +46,16 @@ blank_all n =
     let e3 = blank_plane 3 n refl in
     λ j. record { plane0 = e0 j; plane1 = e1 j; plane2 = e2 j; plane3 = e3 j }
 
-pub blank_planes : (ws : List ℕ) → ws ≡ zeros 65536 → planes_of ws ≡ zero_planes
-blank_planes ws e = ap planes_of e ∙ blank_all 65536
+pub blank_planes : (ws : List ℕ) → ws ≡ zeros 65536 → planes_of_words ws ≡ zero_planes
+blank_planes ws e = ap planes_of_words e ∙ blank_all 65536
 
-same_byte : (v w p : ℕ) → ((i : ℕ) → i < 8 → word_bit v p i ≡ word_bit w p i) → byte_in p v ≡ byte_in p w
+same_byte : (v w p : ℕ) → ((i : ℕ) → i < 8 → plane_bit_in_word v p i ≡ plane_bit_in_word w p i) → plane_byte_in_word p v ≡ plane_byte_in_word p w
 same_byte v w p bits =
-    byte_from_bits (byte_in p v) (bit_at (byte_in p w)) (byte_below p v) (λ i h. sym (word_bit_byte v p i h) ∙ bits i h ∙ word_bit_byte w p i h)
-    ∙ sym (byte_from_bits (byte_in p w) (bit_at (byte_in p w)) (byte_below p w) (λ i h. refl))
+    byte_from_bits (plane_byte_in_word p v) (bit_at (plane_byte_in_word p w)) (byte_below p v) (λ i h. sym (word_bit_byte v p i h) ∙ bits i h ∙ word_bit_byte w p i h)
+    ∙ sym (byte_from_bits (plane_byte_in_word p w) (bit_at (plane_byte_in_word p w)) (byte_below p w) (λ i h. refl))
 
-byte_chosen : (b : ℕ) → b < 2 → (r source old p : ℕ) → ((i : ℕ) → i < 8 → word_bit r p i ≡ (if b == 0 then word_bit old p i else word_bit source p i))
-    → byte_in p r ≡ cond (b == 1) (byte_in p source) (byte_in p old)
+byte_chosen : (b : ℕ) → b < 2 → (r source old p : ℕ) → ((i : ℕ) → i < 8 → plane_bit_in_word r p i ≡ (if b == 0 then plane_bit_in_word old p i else plane_bit_in_word source p i))
+    → plane_byte_in_word p r ≡ cond (b == 1) (plane_byte_in_word p source) (plane_byte_in_word p old)
 byte_chosen zero bit r source old p bits = same_byte r old p bits
 byte_chosen (suc zero) bit r source old p bits = same_byte r source p bits
 byte_chosen (suc (suc b)) bit r source old p bits = absurd (omega arith)
@@ -65,20 +65,20 @@ set_or true xs o v = refl
 set_or false xs o v = set-get_or xs o 0
 
 module _ (ws : List ℕ) (o old r source s : ℕ) (within : o < length ws) (was : old ≡ get_or ws o 0)
-    (bits : (p i : ℕ) → p < 4 → i < 8 → word_bit r p i ≡ (if bit_at s p == 0 then word_bit old p i else word_bit source p i)) where
-  plane_stored : (p : ℕ) → p < 4 → map (byte_in p) (set ws o r) ≡ (if is_set s p then slice_set (map (byte_in p) ws) o (byte_in p source)
-      else map (byte_in p) ws)
+    (bits : (p i : ℕ) → p < 4 → i < 8 → plane_bit_in_word r p i ≡ (if bit_at s p == 0 then plane_bit_in_word old p i else plane_bit_in_word source p i)) where
+  plane_stored : (p : ℕ) → p < 4 → map (plane_byte_in_word p) (set ws o r) ≡ (if is_set s p then slice_set (map (plane_byte_in_word p) ws) o (plane_byte_in_word p source)
+      else map (plane_byte_in_word p) ws)
   plane_stored p plane =
-      map-set (byte_in p) ws o r
-      ∙ ap (set (map (byte_in p) ws) o) (byte_chosen (bit_at s p) (bit_at-lt s p) r source old p (λ i h. bits p i plane h)
-      ∙ ap (λ b. cond (is_set s p) (byte_in p source) b) (ap (byte_in p) was ∙ sym (get_or-map (byte_in p) ws o 0 0 within)))
-      ∙ set_or (is_set s p) (map (byte_in p) ws) o (byte_in p source)
+      map-set (plane_byte_in_word p) ws o r
+      ∙ ap (set (map (plane_byte_in_word p) ws) o) (byte_chosen (bit_at s p) (bit_at-lt s p) r source old p (λ i h. bits p i plane h)
+      ∙ ap (λ b. cond (is_set s p) (plane_byte_in_word p source) b) (ap (plane_byte_in_word p) was ∙ sym (get_or-map (plane_byte_in_word p) ws o 0 0 within)))
+      ∙ set_or (is_set s p) (map (plane_byte_in_word p) ws) o (plane_byte_in_word p source)
 
   -- one word whose bits are those of the source in the planes of a set, and as they were in the others
-  pub planes_stored : (latch : Four ℕ) → bytes_of source ≡ latch → planes_of (set ws o r) ≡ with_bytes (planes_of ws) o latch s
+  pub planes_stored : (latch : Four ℕ) → plane_bytes_of_word source ≡ latch → planes_of_words (set ws o r) ≡ with_bytes_at_offset (planes_of_words ws) o latch s
   planes_stored latch given =
       let e0 = plane_stored 0 (omega arith) in
       let e1 = plane_stored 1 (omega arith) in
       let e2 = plane_stored 2 (omega arith) in
       let e3 = plane_stored 3 (omega arith) in
-      (λ j. record { plane0 = e0 j; plane1 = e1 j; plane2 = e2 j; plane3 = e3 j }) ∙ ap (λ l. with_bytes (planes_of ws) o l s) given
+      (λ j. record { plane0 = e0 j; plane1 = e1 j; plane2 = e2 j; plane3 = e3 j }) ∙ ap (λ l. with_bytes_at_offset (planes_of_words ws) o l s) given

@@ -5,12 +5,13 @@ use Rattle.std.specs.Prelude.{slice_index, slice_set}
 use Rattle.std.proofs.lemmas.Bool.{cases_eq}
 use Rattle.std.proofs.lemmas.List.{take_at, drop_at, take_more, take_more_set, take_all, ext_get_or, get_or-map, length-map}
 use Rattle.std.proofs.lemmas.List.{get_or-set_same, get_or-set_other}
-use Rattle.vga_bits.specs.Four.{Four}
+use Rattle.vga_bits.specs.Four.{Four, of_plane}
+use Rattle.vga_bits.proofs.FourLemmas.{by_plane}
 use Rattle.vga_bits.specs.Saved.{IsPut}
-use Rattle.vga_bits.specs.Words.{byte_in, bytes_of}
-use Rattle.vga_planes.specs.Planes.{IsMemory}
-use Rattle.vga_planes.specs.PlaneWords.{planes_of}
-use Rattle.vga_planes.specs.Saved.{saved_memory, planes_from, memory_from}
+use Rattle.vga_bits.specs.Words.{plane_byte_in_word, plane_bytes_of_word}
+use Rattle.vga_planes.specs.Planes.{IsDisplayMemory}
+use Rattle.vga_planes.specs.PlaneWords.{planes_of_words}
+use Rattle.vga_planes.specs.Saved.{saved_memory, planes_cut_from, memory_from}
 
 -- one byte more of a list
 pub one_more : (out old plane : List ℕ) (at i v : ℕ) → take (at + i) out ≡ take at old ++ take i plane → at + i < length out → i < length plane
@@ -21,6 +22,25 @@ one_more out old plane at i v prefix room within value =
     ∙ ap (λ (l : List ℕ). l ++ v ∷ []) prefix ∙ ap (λ (x : ℕ). (take at old ++ take i plane) ++ x ∷ []) value
     ∙ append_assoc (take at old) (take i plane) (slice_index plane i ∷ [])
     ∙ ap (λ (l : List ℕ). take at old ++ l) (sym (take_more plane i 0 within))
+
+-- the same from the first byte on
+pub one_more_at_first : (out plane : List ℕ) (i v : ℕ) → take i out ≡ take i plane → i < length out → i < length plane → v ≡ slice_index plane i
+    → take (i + 1) (slice_set out i v) ≡ take (i + 1) plane
+one_more_at_first out plane i v prefix room within value =
+    take_more_set out i v room ∙ ap (λ (l : List ℕ). l ++ v ∷ []) prefix ∙ ap (λ (x : ℕ). take i plane ++ x ∷ []) value ∙ sym (take_more plane i 0 within)
+
+-- ---- a plane of words
+
+pub plane_len : (words : List ℕ) (p : ℕ) → p < 4 → length (of_plane (planes_of words) p) ≡ length words
+plane_len words =
+    let all : (p : ℕ) → length (map (byte_in p) words) ≡ length words = λ p. length-map words (byte_in p) in
+    by_plane (λ p. length (of_plane (planes_of words) p) ≡ length words) (all 0) (all 1) (all 2) (all 3)
+
+-- byte i of a plane is in word i
+pub plane_byte : (words : List ℕ) (i p : ℕ) → p < 4 → i < length words → of_plane (bytes_of (slice_index words i)) p ≡ slice_index (of_plane (planes_of words) p) i
+plane_byte words i p few within =
+    let all : (p : ℕ) → byte_in p (slice_index words i) ≡ slice_index (map (byte_in p) words) i = λ p. sym (get_or-map (byte_in p) words i 0 0 within) in
+    by_plane (λ p. of_plane (bytes_of (slice_index words i)) p ≡ slice_index (of_plane (planes_of words) p) i) (all 0) (all 1) (all 2) (all 3) p few
 
 -- all bytes of a list, and none after them
 pub all_put : (out old plane : List ℕ) (at n : ℕ) → length plane ≡ n → take (at + n) out ≡ take at old ++ take n plane
@@ -33,7 +53,7 @@ all_put out old plane at n size prefix back = record {
 
 -- the first n words have the bytes of their places
 pub AreJoined : List ℕ → Four (List ℕ) → ℕ → Type 0
-AreJoined words planes n = (k : ℕ) → k < n → bytes_of (slice_index words k) ≡ record {
+AreJoined words planes n = (k : ℕ) → k < n → plane_bytes_of_word (slice_index words k) ≡ record {
   plane0 = slice_index planes.plane0 k;
   plane1 = slice_index planes.plane1 k;
   plane2 = slice_index planes.plane2 k;
@@ -45,7 +65,7 @@ unfolding AreJoined
 none_joined words planes = λ k below. absurd (omega arith)
 
 pub one_joined : (words : List ℕ) (planes : Four (List ℕ)) (n w : ℕ) → n < length words → AreJoined words planes n
-    → bytes_of w ≡ record {
+    → plane_bytes_of_word w ≡ record {
       plane0 = slice_index planes.plane0 n;
       plane1 = slice_index planes.plane1 n;
       plane2 = slice_index planes.plane2 n;
@@ -53,25 +73,25 @@ pub one_joined : (words : List ℕ) (planes : Four (List ℕ)) (n w : ℕ) → n
     } → AreJoined (slice_set words n w) planes (n + 1)
 unfolding AreJoined
 one_joined words planes n w within before here = λ k below. elim (cases_eq k n) [
-  | inl same ↦ ap (λ (i : ℕ). bytes_of (slice_index (slice_set words n w) i)) same ∙ ap bytes_of (get_or-set_same words n w 0 within) ∙ here
+  | inl same ↦ ap (λ (i : ℕ). plane_bytes_of_word (slice_index (slice_set words n w) i)) same ∙ ap plane_bytes_of_word (get_or-set_same words n w 0 within) ∙ here
       ∙ ap (λ (i : ℕ). record {
         plane0 = slice_index planes.plane0 i;
         plane1 = slice_index planes.plane1 i;
         plane2 = slice_index planes.plane2 i;
         plane3 = slice_index planes.plane3 i;
       }) (sym same)
-  | inr other ↦ ap bytes_of (get_or-set_other words n k w 0 other) ∙ before k (omega arith)
+  | inr other ↦ ap plane_bytes_of_word (get_or-set_other words n k w 0 other) ∙ before k (omega arith)
 ]
 
 plane_joined : (words plane : List ℕ) (p : ℕ) → length plane ≡ length words
-    → ((k : ℕ) → k < length words → byte_in p (slice_index words k) ≡ slice_index plane k) → map (byte_in p) words ≡ plane
+    → ((k : ℕ) → k < length words → plane_byte_in_word p (slice_index words k) ≡ slice_index plane k) → map (plane_byte_in_word p) words ≡ plane
 plane_joined words plane p size each =
-    ext_get_or 0 (map (byte_in p) words) plane (length-map words (byte_in p) ∙ sym size)
-    (λ i within. let inside : i < length words = omega (arith, within, length-map words (byte_in p)) in
-    get_or-map (byte_in p) words i 0 0 inside ∙ each i inside)
+    ext_get_or 0 (map (plane_byte_in_word p) words) plane (length-map words (plane_byte_in_word p) ∙ sym size)
+    (λ i within. let inside : i < length words = omega (arith, within, length-map words (plane_byte_in_word p)) in
+    get_or-map (plane_byte_in_word p) words i 0 0 inside ∙ each i inside)
 
 pub all_joined : (words : List ℕ) (planes : Four (List ℕ)) → length planes.plane0 ≡ length words → length planes.plane1 ≡ length words
-    → length planes.plane2 ≡ length words → length planes.plane3 ≡ length words → AreJoined words planes (length words) → planes_of words ≡ planes
+    → length planes.plane2 ≡ length words → length planes.plane3 ≡ length words → AreJoined words planes (length words) → planes_of_words words ≡ planes
 unfolding AreJoined
 all_joined words planes len0 len1 len2 len3 each =
     let e0 = plane_joined words planes.plane0 0 len0 (λ k below. ap (λ (f : Four ℕ). f.plane0) (each k below)) in
@@ -90,7 +110,7 @@ module _ (n : ℕ) (planes : Four (List ℕ)) (len0 : length planes.plane0 ≡ n
   plane1_past : drop n (drop n (saved_memory planes)) ≡ planes.plane2 ++ planes.plane3
   plane1_past = ap (drop n) plane0_past ∙ drop_at planes.plane1 (planes.plane2 ++ planes.plane3) n len1
 
-  planes_are_back : planes_from n (saved_memory planes) ≡ planes
+  planes_are_back : planes_cut_from n (saved_memory planes) ≡ planes
   unfolding saved_memory
   planes_are_back =
       let e0 = take_at planes.plane0 (planes.plane1 ++ (planes.plane2 ++ planes.plane3)) n len0 in
@@ -99,11 +119,11 @@ module _ (n : ℕ) (planes : Four (List ℕ)) (len0 : length planes.plane0 ≡ n
       let e3 = ap (drop n) plane1_past ∙ drop_at planes.plane2 planes.plane3 n len2 in
       λ j. record { plane0 = e0 j; plane1 = e1 j; plane2 = e2 j; plane3 = e3 j }
 
-pub memory_is_back : (planes : Four (List ℕ)) → IsMemory planes → memory_from (saved_memory planes) ≡ planes
+pub memory_is_back : (planes : Four (List ℕ)) → IsDisplayMemory planes → memory_from (saved_memory planes) ≡ planes
 unfolding memory_from
 memory_is_back planes is = planes_are_back 65536 planes (is.size 0 (omega arith)) (is.size 1 (omega arith)) (is.size 2 (omega arith))
 
-pub memory_len : (planes : Four (List ℕ)) → IsMemory planes → length (saved_memory planes) ≡ 262144
+pub memory_len : (planes : Four (List ℕ)) → IsDisplayMemory planes → length (saved_memory planes) ≡ 262144
 unfolding saved_memory
 memory_len planes is = omega (
   arith,

@@ -8,8 +8,8 @@ saved_memory planes = planes.plane0 ++ (planes.plane1 ++ (planes.plane2 ++ plane
 
 -- four planes from one list of bytes: the first three take `size` bytes each, and the last takes
 -- the rest
-abbrev pub planes_from : ℕ → List ℕ → Four (List ℕ)
-planes_from size bytes = record {
+abbrev pub planes_cut_from : ℕ → List ℕ → Four (List ℕ)
+planes_cut_from size bytes = record {
   plane0 = take size bytes;
   plane1 = take size (drop size bytes);
   plane2 = take size (drop size (drop size bytes));
@@ -18,4 +18,4 @@ planes_from size bytes = record {
 
 -- the four planes with these bytes, 65,536 for each plane
 unfoldable pub memory_from : List ℕ → Four (List ℕ)
-memory_from bytes = planes_from 65536 bytes
+memory_from bytes = planes_cut_from 65536 bytes

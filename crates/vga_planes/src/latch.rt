@@ -1,8 +1,8 @@
 //! One byte for each plane.
 ghost use Rattle.std.specs.Prelude.{◌≡◌, ◌<◌, ℕ, slice_index};
 ghost use Rattle.std.specs.Int.{bit_at};
-ghost use Rattle.vga_bits.specs.Four.{four, of_plane};
-ghost use Rattle.vga_bits.specs.Words.{bytes_of, word_bit};
+ghost use Rattle.vga_bits.specs.Four.{four_by_plane, of_plane};
+ghost use Rattle.vga_bits.specs.Words.{plane_bytes_of_word, plane_bit_in_word};
 
 use std::marker::Model;
 
@@ -17,23 +17,24 @@ pub struct Latch {
 impl Model for Latch {
     ghost use Rattle.std.specs.Prelude.{ℕ, ◌<◌};
     ghost use Rattle.vga_bits.specs.Four.{Four};
-    ghost use Rattle.vga_bits.specs.Words.{bytes_of, word_of, word_back};
+    ghost use Rattle.vga_bits.specs.Words.{plane_bytes_of_word, word_of_plane_bytes};
+    ghost use Rattle.vga_bits.specs.Words.{word_of_its_plane_bytes};
 
     ghost Value = { Four ℕ };
 
-    ghost view = { λ l. bytes_of l.word };
+    ghost view = { λ l. plane_bytes_of_word l.word };
 
     ghost invariant = { λ l. l.word < 4294967296 };
 
-    ghost inverse = { λ f. record { word = word_of f } };
+    ghost inverse = { λ f. record { word = word_of_plane_bytes f } };
 
-    ghost inverse_ok = { λ l h i. record { word = word_back l.word h i } };
+    ghost inverse_ok = { λ l h i. record { word = word_of_its_plane_bytes l.word h i } };
 }
 
 impl Latch {
     /// The byte of plane p is `bytes[p]`.
     pub fn new(bytes: [u8; 4]) -> Latch
-        ensures { result ≡ four (λ p. slice_index bytes p) }
+        ensures { result ≡ four_by_plane (λ p. slice_index bytes p) }
     {
         let [byte0, byte1, byte2, byte3] = bytes;
         let low = byte0 as u32 + byte1 as u32 * 0x100;
@@ -44,7 +45,7 @@ impl Latch {
 
     /// The byte of plane p is bits 8p + 7 to 8p of the word.
     pub fn from_word(word: u32) -> Latch
-        ensures { result ≡ bytes_of word }
+        ensures { result ≡ plane_bytes_of_word word }
     {
         Latch { word }
     }
@@ -52,8 +53,8 @@ impl Latch {
     /// The four bytes as a word: bits 8p + 7 to 8p are the byte of plane p.
     #[tactic(auto, using(vga_bits::proofs::WordLemmas::word_bit_plane))]
     pub fn word(&self) -> u32
-        ensures bytes { bytes_of result ≡ self.now }
-        ensures bits { (p i : ℕ) → p < 4 → i < 8 → word_bit result p i
+        ensures bytes { plane_bytes_of_word result ≡ self.now }
+        ensures bits { (p i : ℕ) → p < 4 → i < 8 → plane_bit_in_word result p i
             ≡ bit_at (of_plane self.now p) i }
     {
         self.word

@@ -1,13 +1,14 @@
 //! Four planes of 65,536 bytes.
 ghost use Rattle.std.specs.Prelude.{◌≡◌, ◌<◌, vec_len, IfOk, IsOkUnless};
 ghost use Rattle.vga_bits.specs.Bytes.{zeros as zeros_of};
-ghost use Rattle.vga_planes.specs.Planes.{byte_at, bytes_at, with_bytes, zero_planes, IsMemory};
-ghost use Rattle.vga_bits.specs.Words.{bytes_of};
+ghost use Rattle.vga_planes.specs.Planes.{byte_at, bytes_at, with_bytes_at_offset, zero_planes};
+ghost use Rattle.vga_planes.specs.Planes.{IsDisplayMemory};
+ghost use Rattle.vga_bits.specs.Words.{plane_bytes_of_word};
 
 mod saved;
 
 use super::latch::Latch;
-use super::plane_words::{filled, selected};
+use super::plane_words::{mask_of_planes, merged_by_mask};
 use std::alloc::Global;
 use std::marker::Model;
 use vga_bits::Fault;
@@ -32,9 +33,9 @@ impl Model for Planes {
 
     ghost Value = { Four (List ℕ) };
 
-    ghost use Rattle.vga_planes.specs.PlaneWords.{planes_of};
+    ghost use Rattle.vga_planes.specs.PlaneWords.{planes_of_words};
 
-    ghost view = { λ p. planes_of p.words.items };
+    ghost view = { λ p. planes_of_words p.words.items };
 
     ghost invariant = { λ p. vec_len p.words ≡ 65536 };
 }
@@ -65,7 +66,7 @@ impl Planes {
     /// Each plane has 65,536 bytes, and each of them is below 256. The clause is for proofs:
     /// nothing runs.
     pub fn bounds(&self)
-        ensures { IsMemory self.now }
+        ensures { IsDisplayMemory self.now }
     {
         let _ = &self.words;
     }
@@ -80,7 +81,7 @@ impl Planes {
 
     /// The four bytes at an offset as a word: bits 8p + 7 to 8p are the byte of plane p.
     pub fn word(&self, offset: u16) -> u32
-        ensures { bytes_of result ≡ bytes_at self.now offset }
+        ensures { plane_bytes_of_word result ≡ bytes_at self.now offset }
     {
         self.words[offset as usize]
     }
@@ -94,11 +95,11 @@ impl Planes {
 
     /// Stores the latch's bytes at an offset, in the planes of the set. Nothing else changes.
     pub fn store(&mut self, offset: u16, latch: Latch, set: PlaneSet)
-        ensures { self.new ≡ with_bytes self.old offset latch set }
+        ensures { self.new ≡ with_bytes_at_offset self.old offset latch set }
     {
-        let mask = filled(set);
+        let mask = mask_of_planes(set);
         let source = latch.word();
         let at = &mut self.words[offset as usize];
-        *at = selected(source, mask, *at);
+        *at = merged_by_mask(source, mask, *at);
     }
 }

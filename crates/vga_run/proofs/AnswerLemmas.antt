@@ -14,7 +14,7 @@ use Rattle.vga_script.specs.Input.{InputHasFault, IsInput, IsReadingFault}
 use Rattle.vga_run.specs.declared.machine.Machine.{Machine}
 use Rattle.vga_run.specs.Machine.{power_on_machine}
 use Rattle.vga_run.specs.Report.{steps_until}
-use Rattle.vga_run.specs.Run.{Reports, ReportsSteps, RunAnswers, RunsGoodScripts, RunsScript, StopsIn, StopsRun, RunsOutOfMemory, WritesReport}
+use Rattle.vga_run.specs.Run.{Reports, ReportsSteps, RunAnswers, RunsGoodScripts, RunsScript, RunsOutOfMemoryIn, StopsRun, RunsOutOfMemory, WritesReport}
 use Rattle.vga_script.specs.Decoding.{IsSpellingFault, IsFault}
 
 -- what taking the steps of a script answers is what its run does
@@ -33,7 +33,7 @@ report_fails before after failed (Err e) machine n steps (inl (is, bad, prefix))
 report_fails before after failed (Err e) machine n steps (inr (is, sound, stops)) = sound ∙ ap (λ (f : Fault). is_write_fault {A = Unit} (Err f)) (sym is)
 
 pub report_stops : (before after : Option (List ℕ)) (failed : Bool) (result : Result Unit Fault) (machine : Machine) (n : ℕ) (steps : List Step)
-    → WritesReport before after failed result machine n steps → result ≡ Err OutOfMemory → StopsIn machine n steps before after
+    → WritesReport before after failed result machine n steps → result ≡ Err OutOfMemory → RunsOutOfMemoryIn machine n steps before after
 report_stops before after failed (Ok u) machine n steps w out = absurd (cc)
 report_stops before after failed (Err e) machine n steps (inl (is, bad, prefix)) out = absurd (cc)
 report_stops before after failed (Err e) machine n steps (inr (is, sound, stops)) out = stops

@@ -5,8 +5,8 @@ use Rattle.std.proofs.Common.{List, [], ◌∷◌, ◌++◌}
 use Rattle.vga_bits.specs.declared.refusal.Refusal.{Refusal}
 use Rattle.vga_bits.specs.declared.refusal.Refusal.TheVariants.{TooFar}
 use Rattle.vga_card.specs.Card.{CardState}
-use Rattle.vga_card.specs.Picture.{Dot, rows}
-use Rattle.vga_card.specs.Cycles.{Written, Answered}
+use Rattle.vga_card.specs.Picture.{Dot, row_count}
+use Rattle.vga_card.specs.Cycles.{WriteResult, ReadResult}
 use Rattle.vga_card.specs.Dots.{dots, most_dots}
 use Rattle.vga_card.specs.FreshCanvas.{with_fresh_canvas, fresh_canvas_after}
 use Rattle.vga_card.proofs.DotLemmas.{dots_none}
@@ -16,13 +16,13 @@ use Rattle.vga_script.specs.declared.dump_range.Shown.TheVariants as shown
 use Rattle.vga_script.specs.declared.step.Step.{Step}
 use Rattle.vga_script.specs.declared.step.Step.TheVariants.{Out, OutWord, In, InWord, Put, PutWord, Get, GetWord, Int, Advance, Frame, Show}
 use Rattle.bios_modes.specs.Bda.{BiosData}
-use Rattle.bios_services.specs.Service.{Answered as Served, service}
+use Rattle.bios_services.specs.Service.{CallOutcome as Served, service}
 use Rattle.bios_services.proofs.CardLemmas.{plan_fresh}
 use Rattle.vga_show.specs.Beam.{beam_line}
 use Rattle.vga_show.specs.Cells.{row_text, rows_text, cells_refusal, cells_text}
 use Rattle.vga_run.specs.declared.machine.Machine.{Machine}
 use Rattle.vga_run.specs.Answer.{StepAnswer, Short, of_write, of_byte, of_word, of_service, of_frame, of_dump}
-use Rattle.vga_run.specs.Step.{dump_text, dump_refusal, called, advance_cycle, answer_to, after_step}
+use Rattle.vga_run.specs.Step.{dump_text, dump_refusal, after_int10, advance_cycle, answer_to, after_step}
 use Rattle.vga_run.specs.Report.{line, report_from}
 use Rattle.vga_run.specs.Saved.{machine_with_fresh_canvas}
 
@@ -35,9 +35,9 @@ dots_twice : (n : ℕ) (c : CardState) → with_fresh_canvas (dots n (with_fresh
 dots_twice zero c = ap with_fresh_canvas (dots_none (with_fresh_canvas c)) ∙ twice c ∙ ap with_fresh_canvas (sym (dots_none c))
 dots_twice (suc n) c = ap with_fresh_canvas (cannot_be_told.dots (suc n) c (omega arith))
 
-answer_by : (few : Bool) (c : CardState) (count : ℕ) → (let x : Written = (if few then (dots count (with_fresh_canvas c), Ok tt) else
+answer_by : (few : Bool) (c : CardState) (count : ℕ) → (let x : WriteResult = (if few then (dots count (with_fresh_canvas c), Ok tt) else
     (with_fresh_canvas c, Err TooFar)) in x).1
-    ≡ (let x : Written = (if few then (dots count c, Ok tt) else (c, Err TooFar)) in x).1
+    ≡ (let x : WriteResult = (if few then (dots count c, Ok tt) else (c, Err TooFar)) in x).1
 answer_by true c count = refl
 answer_by false c count = refl
 
@@ -45,8 +45,8 @@ advance_same : (c : CardState) (count : ℕ) → (advance_cycle (with_fresh_canv
 advance_same c count = answer_by (nat_le count most_dots) c count
 
 after_by : (few : Bool) (c : CardState) (count : ℕ)
-    → with_fresh_canvas (let x : Written = (if few then (dots count (with_fresh_canvas c), Ok tt) else (with_fresh_canvas c, Err TooFar)) in x).0
-    ≡ with_fresh_canvas (let x : Written = (if few then (dots count c, Ok tt) else (c, Err TooFar)) in x).0
+    → with_fresh_canvas (let x : WriteResult = (if few then (dots count (with_fresh_canvas c), Ok tt) else (with_fresh_canvas c, Err TooFar)) in x).0
+    ≡ with_fresh_canvas (let x : WriteResult = (if few then (dots count c, Ok tt) else (c, Err TooFar)) in x).0
 after_by true c count = dots_twice count c
 after_by false c count = twice c
 
@@ -68,7 +68,7 @@ dump_same : (m : Machine) (what : Shown) → dump_text (machine_with_fresh_canva
 unfolding dump_text
 dump_same m shown.Registers = refl
 dump_same m (shown.Dac index) = refl
-dump_same m shown.Beam = ap (λ (drawn : List Dot). beam_line m.card.crtc.beam (rows drawn)) (cannot_be_told.fresh m.card)
+dump_same m shown.Beam = ap (λ (drawn : List Dot). beam_line m.card.crtc.beam (row_count drawn)) (cannot_be_told.fresh m.card)
 dump_same m shown.Latches = refl
 dump_same m (shown.Plane plane offset count) = refl
 dump_same m shown.BiosData = refl
@@ -87,21 +87,21 @@ refusal_same m shown.Cells = refl
 -- ---- steps
 
 -- a call of interrupt 10
-called_same : (m : Machine) (ax bx cx dx : ℕ) (block : List ℕ) → called (machine_with_fresh_canvas m) ax bx cx dx block
-    ≡ fresh_canvas_after (called m ax bx cx dx block)
-unfolding called
+called_same : (m : Machine) (ax bx cx dx : ℕ) (block : List ℕ) → after_int10 (machine_with_fresh_canvas m) ax bx cx dx block
+    ≡ fresh_canvas_after (after_int10 m ax bx cx dx block)
+unfolding after_int10
 called_same m ax bx cx dx block = plan_fresh (service m.fonts m.bda (record { ax = ax; bx = bx; cx = cx; dx = dx }) block) m.card
 
 pub answer_same : (m : Machine) (step : Step) → answer_to (machine_with_fresh_canvas m) step ≡ answer_to m step
 unfolding answer_to
-answer_same m (Out port value) = ap (λ (w : Written). Short (of_write w.1)) (cannot_be_told.out m.card port value)
-answer_same m (OutWord port value) = ap (λ (w : Written). Short (of_write w.1)) (cannot_be_told.out_word m.card port value)
-answer_same m (In port) = ap (λ (a : Answered). Short (of_byte a.1)) (cannot_be_told.inp m.card port)
-answer_same m (InWord port) = ap (λ (a : Answered). Short (of_word a.1)) (cannot_be_told.inp_word m.card port)
-answer_same m (Put address value) = ap (λ (w : Written). Short (of_write w.1)) (cannot_be_told.put m.card address value)
-answer_same m (PutWord address value) = ap (λ (w : Written). Short (of_write w.1)) (cannot_be_told.put_word m.card address value)
-answer_same m (Get address) = ap (λ (a : Answered). Short (of_byte a.1)) (cannot_be_told.get m.card address)
-answer_same m (GetWord address) = ap (λ (a : Answered). Short (of_word a.1)) (cannot_be_told.get_word m.card address)
+answer_same m (Out port value) = ap (λ (w : WriteResult). Short (of_write w.1)) (cannot_be_told.out m.card port value)
+answer_same m (OutWord port value) = ap (λ (w : WriteResult). Short (of_write w.1)) (cannot_be_told.out_word m.card port value)
+answer_same m (In port) = ap (λ (a : ReadResult). Short (of_byte a.1)) (cannot_be_told.inp m.card port)
+answer_same m (InWord port) = ap (λ (a : ReadResult). Short (of_word a.1)) (cannot_be_told.inp_word m.card port)
+answer_same m (Put address value) = ap (λ (w : WriteResult). Short (of_write w.1)) (cannot_be_told.put m.card address value)
+answer_same m (PutWord address value) = ap (λ (w : WriteResult). Short (of_write w.1)) (cannot_be_told.put_word m.card address value)
+answer_same m (Get address) = ap (λ (a : ReadResult). Short (of_byte a.1)) (cannot_be_told.get m.card address)
+answer_same m (GetWord address) = ap (λ (a : ReadResult). Short (of_word a.1)) (cannot_be_told.get_word m.card address)
 answer_same m (Int ax bx cx dx block) = ap (λ (s : CardState × Served). of_service s.1.0) (called_same m ax bx cx dx block)
 answer_same m (Advance count) = ap (λ (r : Result Unit Refusal). Short (of_write r)) (advance_same m.card count)
 answer_same m Frame = ap (λ (c : CardState). of_frame c.drawn) (cannot_be_told.frame m.card)
@@ -117,18 +117,18 @@ once m c = ap (λ (s : CardState). record m { card = s }) (twice c)
 pub after_same : (m : Machine) (step : Step) → machine_with_fresh_canvas (after_step (machine_with_fresh_canvas m) step)
     ≡ machine_with_fresh_canvas (after_step m step)
 unfolding after_step
-after_same m (Out port value) = ap (λ (w : Written). with_card m w.0) (cannot_be_told.out m.card port value) ∙ once m _
+after_same m (Out port value) = ap (λ (w : WriteResult). with_card m w.0) (cannot_be_told.out m.card port value) ∙ once m _
 after_same m (OutWord port value) =
-    ap (λ (w : Written). with_card m w.0) (cannot_be_told.out_word m.card port value) ∙ once m _
-after_same m (In port) = ap (λ (a : Answered). with_card m a.0) (cannot_be_told.inp m.card port) ∙ once m _
-after_same m (InWord port) = ap (λ (a : Answered). with_card m a.0) (cannot_be_told.inp_word m.card port) ∙ once m _
-after_same m (Put address value) = ap (λ (w : Written). with_card m w.0) (cannot_be_told.put m.card address value) ∙ once m _
+    ap (λ (w : WriteResult). with_card m w.0) (cannot_be_told.out_word m.card port value) ∙ once m _
+after_same m (In port) = ap (λ (a : ReadResult). with_card m a.0) (cannot_be_told.inp m.card port) ∙ once m _
+after_same m (InWord port) = ap (λ (a : ReadResult). with_card m a.0) (cannot_be_told.inp_word m.card port) ∙ once m _
+after_same m (Put address value) = ap (λ (w : WriteResult). with_card m w.0) (cannot_be_told.put m.card address value) ∙ once m _
 after_same m (PutWord address value) =
-    ap (λ (w : Written). with_card m w.0) (cannot_be_told.put_word m.card address value) ∙ once m _
-after_same m (Get address) = ap (λ (a : Answered). with_card m a.0) (cannot_be_told.get m.card address) ∙ once m _
-after_same m (GetWord address) = ap (λ (a : Answered). with_card m a.0) (cannot_be_told.get_word m.card address) ∙ once m _
+    ap (λ (w : WriteResult). with_card m w.0) (cannot_be_told.put_word m.card address value) ∙ once m _
+after_same m (Get address) = ap (λ (a : ReadResult). with_card m a.0) (cannot_be_told.get m.card address) ∙ once m _
+after_same m (GetWord address) = ap (λ (a : ReadResult). with_card m a.0) (cannot_be_told.get_word m.card address) ∙ once m _
 after_same m (Int ax bx cx dx block) =
-    let after = called m ax bx cx dx block in
+    let after = after_int10 m ax bx cx dx block in
     ap (λ (s : CardState × Served). record m { card = with_fresh_canvas s.0; bda = s.1.1 }) (called_same m ax bx cx dx block)
     ∙ ap (λ (c : CardState). record m { card = c; bda = after.1.1 }) (twice after.0)
 after_same m (Advance count) = ap (λ (c : CardState). record m { card = c }) (advance_after m.card count)

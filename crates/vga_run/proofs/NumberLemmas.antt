@@ -7,7 +7,7 @@ use Rattle.std.proofs.lemmas.Fmt.{decimal_step, decimal_digit, decimal_nonempty,
 use Rattle.std.proofs.lemmas.List.{take-append-le, take_all, take_more_set, set-append_left, set-append_right, length-set, length-take, length-drop}
 use Rattle.std.proofs.lemmas.List.{get_or_append_left}
 use Rattle.std.proofs.lemmas.List.{get_or-append-add}
-use Rattle.vga_run.specs.Report.{HasNumber, number_text}
+use Rattle.vga_run.specs.Report.{BeginsWithNumber, number_text}
 
 -- what stands before the last of some bytes
 before_last : (xs : List ℕ) (x : ℕ) → take (length (xs ++ x ∷ []) - 1) (xs ++ x ∷ []) ≡ xs
@@ -36,21 +36,21 @@ decimal_counted n small low = elim (cases_lt n 10) [
         decimal_step (n + 1) (omega arith) small ∙ rw (e, f, prefix) refl
 
 -- a number and a blank have two bytes or more
-pub prefix_is_long : (text : List ℕ) (prefix n : ℕ) → HasNumber text prefix n → n < 2 ^ 64 → 2 ≤ prefix
+pub prefix_is_long : (text : List ℕ) (prefix n : ℕ) → BeginsWithNumber text prefix n → n < 2 ^ 64 → 2 ≤ prefix
 unfolding number_text
 prefix_is_long text prefix n h small = omega (arith, h.whole, length-append (decimal n) (codes " "), decimal_nonempty n small)
 
 -- and 21 or less
-pub prefix_is_short : (text : List ℕ) (prefix n : ℕ) → HasNumber text prefix n → n < 2 ^ 64 → prefix ≤ 21
+pub prefix_is_short : (text : List ℕ) (prefix n : ℕ) → BeginsWithNumber text prefix n → n < 2 ^ 64 → prefix ≤ 21
 unfolding number_text
 prefix_is_short text prefix n h small = omega (arith, h.whole, length-append (decimal n) (codes " "), length-decimal-le 20 n (omega arith) (omega arith) small)
 
 -- a line is no shorter
-pub prefix_is_within : (text : List ℕ) (prefix n : ℕ) → HasNumber text prefix n → prefix ≤ length text
+pub prefix_is_within : (text : List ℕ) (prefix n : ℕ) → BeginsWithNumber text prefix n → prefix ≤ length text
 prefix_is_within text prefix n h = omega (arith, h.whole, ap length h.is, length-take prefix text)
 
 -- a line has its number
-pub number_first : (text : List ℕ) (prefix n : ℕ) → text ≡ number_text n → prefix ≡ length text → HasNumber text prefix n
+pub number_first : (text : List ℕ) (prefix n : ℕ) → text ≡ number_text n → prefix ≡ length text → BeginsWithNumber text prefix n
 number_first text prefix n e f = record { is = take_all prefix text (omega (arith, f)) ∙ e; whole = f ∙ ap length e }
 
 -- the last digit of a number
@@ -69,7 +69,7 @@ last_digit n small = elim (cases_lt n 10) [ inl few ↦ one_digit few | inr many
         ∙ ap (λ (i : ℕ). get_or (prefix ++ last) i 0) at ∙ get_or-append-add prefix last 0 0
 
 -- it stands before the blank
-pub digit_in_line : (text : List ℕ) (prefix n : ℕ) → HasNumber text prefix n → n < 2 ^ 64 → get_or text (prefix - 2) 0 ≡ 48 + n % 10
+pub digit_in_line : (text : List ℕ) (prefix n : ℕ) → BeginsWithNumber text prefix n → n < 2 ^ 64 → get_or text (prefix - 2) 0 ≡ 48 + n % 10
 unfolding number_text
 digit_in_line text prefix n h small =
     let digits = decimal n in
@@ -83,7 +83,7 @@ digit_in_line text prefix n h small =
     ∙ get_or_append_left digits (codes " ") 0 (length digits - 1) (omega arith) ∙ last_digit n small
 
 -- a line keeps its number, whatever is put after it
-pub number_behind : (text mid new rest : List ℕ) (prefix n : ℕ) → HasNumber text prefix n → mid ≡ take prefix text → new ≡ mid ++ rest → HasNumber new prefix n
+pub number_behind : (text mid new rest : List ℕ) (prefix n : ℕ) → BeginsWithNumber text prefix n → mid ≡ take prefix text → new ≡ mid ++ rest → BeginsWithNumber new prefix n
 number_behind text mid new rest prefix n h e f =
     let number : mid ≡ number_text n = e ∙ h.is in
     let len : prefix ≡ length mid = h.whole ∙ sym (ap length number) in
@@ -93,8 +93,8 @@ number_behind text mid new rest prefix n h e f =
     }
 
 -- the line with the next number, of which the last digit is written over
-pub number_counted : (text new : List ℕ) (prefix n : ℕ) → HasNumber text prefix n → n + 1 < 2 ^ 64 → n % 10 < 9
-    → new ≡ slice_set text (prefix - 2) (49 + n % 10) → HasNumber new prefix (n + 1)
+pub number_counted : (text new : List ℕ) (prefix n : ℕ) → BeginsWithNumber text prefix n → n + 1 < 2 ^ 64 → n % 10 < 9
+    → new ≡ slice_set text (prefix - 2) (49 + n % 10) → BeginsWithNumber new prefix (n + 1)
 unfolding number_text
 number_counted text new prefix n h small low e =
     let digits = decimal n in
@@ -122,8 +122,8 @@ number_counted text new prefix n h small low e =
     }
 
 -- the same by the byte of the last digit
-pub digit_counted : (text new : List ℕ) (prefix n digit : ℕ) → HasNumber text prefix n → n + 1 < 2 ^ 64 → digit ≡ get_or text (prefix - 2) 0 → digit < 57
-    → new ≡ slice_set text (prefix - 2) (digit + 1) → HasNumber new prefix (n + 1)
+pub digit_counted : (text new : List ℕ) (prefix n digit : ℕ) → BeginsWithNumber text prefix n → n + 1 < 2 ^ 64 → digit ≡ get_or text (prefix - 2) 0 → digit < 57
+    → new ≡ slice_set text (prefix - 2) (digit + 1) → BeginsWithNumber new prefix (n + 1)
 digit_counted text new prefix n digit h small is low e =
     let value : digit ≡ 48 + n % 10 = is ∙ digit_in_line text prefix n h (omega arith) in
     number_counted text new prefix n h small (omega (arith, value)) (e ∙ ap (λ (v : ℕ). slice_set text (prefix - 2) v) (omega (arith, value)))
@@ -170,9 +170,9 @@ nine_counted digits more rest v some e =
     ∙ ap (λ (k : ℕ). ((more ++ slice_set (57 ∷ []) k 48) ++ codes " ") ++ rest) zero
 
 -- after a digit below 9 a last 9 becomes 0, and the digit one more
-pub tens_counted : (text mid new : List ℕ) (prefix n digit : ℕ) → HasNumber text prefix n → n + 1 < 2 ^ 64 → 3 ≤ prefix → 57 ≤ get_or text (prefix - 2) 0 →
+pub tens_counted : (text mid new : List ℕ) (prefix n digit : ℕ) → BeginsWithNumber text prefix n → n + 1 < 2 ^ 64 → 3 ≤ prefix → 57 ≤ get_or text (prefix - 2) 0 →
     digit ≡ get_or text (prefix - 3) 0 → digit < 57
-    → mid ≡ slice_set text (prefix - 3) (digit + 1) → new ≡ slice_set mid (prefix - 2) 48 → HasNumber new prefix (n + 1)
+    → mid ≡ slice_set text (prefix - 3) (digit + 1) → new ≡ slice_set mid (prefix - 2) 48 → BeginsWithNumber new prefix (n + 1)
 unfolding number_text
 tens_counted text mid new prefix n digit h small long nine is low e_mid e_new =
     let q = n / 10 in

@@ -18,8 +18,8 @@ use Rattle.vga_script.specs.declared.step.Step.TheVariants.{Int}
 use Rattle.vga_script.specs.Step.{IsInRange, AreInRange}
 use Rattle.vga_run.specs.declared.machine.Machine.{Machine}
 use Rattle.bios_modes.specs.Valid.{IsValid}
-use Rattle.vga_run.specs.Step.{TakesMemory, answer_to, after_step, after_steps, called}
-use Rattle.vga_run.specs.Run.{WritesStep, StopsIn, WritesReport, IsTakenOrNot, IsOnTheWay}
+use Rattle.vga_run.specs.Step.{AllocatesMemory, answer_to, after_step, after_steps, after_int10}
+use Rattle.vga_run.specs.Run.{WritesStep, RunsOutOfMemoryIn, WritesReport, IsTakenOrNot, IsOnTheWay}
 use Rattle.vga_show.specs.Ppm.{ppm}
 use Rattle.vga_bits.proofs.WritingLemmas.{writes_after, writes_more, prefix_of_more}
 use Rattle.vga_card.specs.Card.{CardState}
@@ -28,7 +28,7 @@ use Rattle.bios_modes.specs.Bda.{BiosData}
 use Rattle.bios_services.specs.declared.reply.ServiceError.{ServiceError}
 use Rattle.bios_services.specs.declared.reply.ServiceError.TheVariants as service
 use Rattle.bios_services.specs.Tables.{table_bytes}
-use Rattle.bios_services.specs.Service.{Answered, MayAnswer}
+use Rattle.bios_services.specs.Service.{CallOutcome, MayAnswer}
 use Rattle.bios_services.specs.Service.{service as asked_service}
 use Rattle.vga_run.specs.declared.answer.Answer.TheVariants.{Refused}
 use Rattle.vga_run.specs.Answer.{Short, Served, Picture, of_service, of_dump}
@@ -79,22 +79,22 @@ Answers m ax bx cx dx block result next bios = MayAnswer card_meaning (asked_ser
 -- and so is what one answers that writes the line of a service
 pub reply_is_written : (before after : Option (List ℕ)) (failed : Bool) (result : Result Unit Fault) (machine : Machine) (n ax bx cx dx : ℕ) (block : List ℕ)
     (next : CardState) (bios : BiosData) (reply : ServiceReply)
-    → (next, (Ok reply, bios)) ≡ called machine ax bx cx dx block → Writes before after failed result (line n (Served reply.regs (table_bytes reply.table)))
+    → (next, (Ok reply, bios)) ≡ after_int10 machine ax bx cx dx block → Writes before after failed result (line n (Served reply.regs (table_bytes reply.table)))
     → WritesStep before after failed result machine n (Int ax bx cx dx block)
 unfolding answer_to
 reply_is_written before after failed result machine n ax bx cx dx block next bios reply is w =
     step_is_written before after failed result machine n (Int ax bx cx dx block) (subst
-    (λ (c : CardState × Answered). Writes before after failed result (line n (of_service c.1.0))) is w)
+    (λ (c : CardState × CallOutcome). Writes before after failed result (line n (of_service c.1.0))) is w)
 
 pub refusal_is_written : (before after : Option (List ℕ)) (failed : Bool) (result : Result Unit Fault) (machine : Machine) (n ax bx cx dx : ℕ) (block : List ℕ)
     (next : CardState) (bios : BiosData) (error : ServiceError) (why : Refusal)
     → error ≡ service.Refused why → Answers machine ax bx cx dx block (Err error) next bios → Writes before after failed result (line n (Short (Refused why)))
     → WritesStep before after failed result machine n (Int ax bx cx dx block)
-unfolding answer_to called
+unfolding answer_to after_int10
 refusal_is_written before after failed result machine n ax bx cx dx block next bios (service.Refused other) why e is w =
     let same : other ≡ why = cc in
     step_is_written before after failed result machine n (Int ax bx cx dx block)
-    (subst (λ (c : CardState × Answered). Writes before after failed result (line n (of_service c.1.0))) is
+    (subst (λ (c : CardState × CallOutcome). Writes before after failed result (line n (of_service c.1.0))) is
     (subst (λ (r : Refusal). Writes before after failed result (line n (Short (Refused r)))) (sym same) w))
 refusal_is_written before after failed result machine n ax bx cx dx block next bios service.OutOfMemory why e is w = absurd (cc)
 
@@ -131,21 +131,21 @@ prefix_behind old mid new first second a (prefix, back, parts, more) =
     (first ++ prefix, back, ap (λ (l : List ℕ). first ++ l) parts ∙ simp append_assoc, Appends-trans old mid new first prefix a more)
 
 -- memory that runs out among some steps runs out among more
-stops_in_prefix : (old new : Option (List ℕ)) (machine : Machine) (n : ℕ) (steps others : List Step) → StopsIn machine n steps old new →
-    StopsIn machine n (steps ++ others) old new
+stops_in_prefix : (old new : Option (List ℕ)) (machine : Machine) (n : ℕ) (steps others : List Step) → RunsOutOfMemoryIn machine n steps old new →
+    RunsOutOfMemoryIn machine n (steps ++ others) old new
 stops_in_prefix old new machine n steps others (done, step, rest, parts, takes, a) =
     (done, step, rest ++ others, ap (λ (l : List Step). l ++ others) parts ∙ append_assoc done (step ∷ rest) others, takes, a)
 
 -- and memory that runs out among the others does so after the first
 stops_behind : (old mid new : Option (List ℕ)) (machine : Machine) (n : ℕ) (steps others : List Step) → Appends old mid (report_from machine n steps)
-    → StopsIn (after_steps machine steps) (n + length steps) others mid new → StopsIn machine n (steps ++ others) old new
+    → RunsOutOfMemoryIn (after_steps machine steps) (n + length steps) others mid new → RunsOutOfMemoryIn machine n (steps ++ others) old new
 stops_behind old mid new machine n steps others a (done, step, rest, parts, takes, more) =
     let next = after_steps machine steps in (
       steps ++ done,
       step,
       rest,
       ap (λ (l : List Step). steps ++ l) parts ∙ sym (append_assoc steps done (step ∷ rest)),
-      subst (λ (m : Machine). TakesMemory m step) (sym (state_joined machine steps done)) takes,
+      subst (λ (m : Machine). AllocatesMemory m step) (sym (state_joined machine steps done)) takes,
       subst (Appends old new) (sym (report_joined machine n steps done)) (Appends-trans old mid new (report_from machine n steps)
           (report_from next (n + length steps) done) a more),
     )
@@ -287,7 +287,7 @@ err_reported old mid new was failed e start machine first steps i d step h withi
         step,
         drop (i + 1) steps,
         steps_around steps i d step within is,
-        subst (λ (m : Machine). TakesMemory m step) h.state takes,
+        subst (λ (m : Machine). AllocatesMemory m step) h.state takes,
         subst (λ (contents : Option (List ℕ)). Appends old contents (report_from start first (take i steps))) (sym same) h.appended,
       ),
     )

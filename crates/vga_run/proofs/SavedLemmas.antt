@@ -5,7 +5,7 @@ use Rattle.vga_card.specs.Saved.{saved_card, IsSavedCard, card_from}
 use Rattle.vga_card.specs.FreshCanvas.{with_fresh_canvas}
 use Rattle.bios_modes.specs.Saved.{saved_bda, IsSavedBda, bda_from}
 use Rattle.vga_run.specs.declared.machine.Machine.{Machine}
-use Rattle.vga_run.specs.Saved.{saved_mark, long_bytes, long_at, saved_parts, saved_machine, past_header, past_bda, IsSavedMachine, machine_from}
+use Rattle.vga_run.specs.Saved.{saved_mark, four_bytes_of_number, number_of_four_bytes, saved_parts, saved_machine, past_header, past_bda, IsSavedMachine, machine_from}
 use Rattle.vga_run.specs.Saved.{machine_with_fresh_canvas}
 
 long_back : (n : ℕ) → n % 65536 % 256 + 256 * (n % 65536 / 256) + 65536 * (n / 65536 % 256 + 256 * (n / 65536 / 256)) ≡ n
@@ -22,11 +22,11 @@ machine_len m bda = omega (arith, bda, header_counts m, length-append (saved_bda
 
 -- the bytes of a machine, part by part
 pub machine_bytes : (m : Machine) (len : ℕ) → len ≡ length (saved_machine m)
-    → (saved_mark ++ long_bytes len) ++ (saved_bda m.bda ++ saved_card m.card) ≡ saved_machine m
+    → (saved_mark ++ four_bytes_of_number len) ++ (saved_bda m.bda ++ saved_card m.card) ≡ saved_machine m
 unfolding saved_machine saved_parts
 machine_bytes m len e =
     let counted : len ≡ 9 + length (saved_parts m) = e ∙ header_counts m in
-    ap (λ (n : ℕ). (saved_mark ++ long_bytes n) ++ (saved_bda m.bda ++ saved_card m.card)) counted
+    ap (λ (n : ℕ). (saved_mark ++ four_bytes_of_number n) ++ (saved_bda m.bda ++ saved_card m.card)) counted
 
 -- where the slice is as long as the machine's bytes, there is room for the BIOS data after the header
 pub bda_fits : (slice left whole card next : ℕ) → left ≡ slice → slice ≡ whole → whole ≡ 40 + card → next ≡ 9 → next + 31 ≤ left
@@ -52,7 +52,7 @@ module _ (m : Machine) (size : length (saved_bda m.bda) ≡ 31) (card : IsSavedC
   bda_are : take 31 (past_header (saved_machine m)) ≡ saved_bda m.bda
   bda_are = ap (take 31) header_past ∙ take_at (saved_bda m.bda) (saved_card m.card) 31 size
 
-  len_is : long_at (saved_machine m) 5 ≡ length (saved_machine m)
+  len_is : number_of_four_bytes (saved_machine m) 5 ≡ length (saved_machine m)
   unfolding saved_machine
   len_is = long_back (9 + length (saved_parts m)) ∙ sym (header_counts m)
 

@@ -5,32 +5,32 @@ use Rattle.std.proofs.lemmas.Grind.{flat_map-append}
 use Rattle.std.specs.List.{flat_map}
 use Rattle.std.specs.Io.KnownBytes.{Appends}
 use Rattle.std.proofs.KnownBytes.{Appends-trans}
-use Rattle.vga_bits.specs.Hex.{hex_byte}
+use Rattle.vga_bits.specs.Hex.{two_hex_digits}
 use Rattle.vga_bits.specs.Tracked.{AppendsPrefix}
 use Rattle.vga_bits.proofs.WritingLemmas.{prefix_of_more}
 use Rattle.vga_run.proofs.ReportLemmas.{items_to, prefix_behind}
 
 -- the digits of some bytes
 abbrev pub digits : List ℕ → List ℕ
-digits bytes = flat_map hex_byte bytes
+digits bytes = flat_map two_hex_digits bytes
 
 -- the digits of the bytes up to byte i, and its own
-digits_to : (bytes : List ℕ) (i d byte : ℕ) → i < length bytes → byte ≡ get_or bytes i d → digits (take i bytes) ++ hex_byte byte ≡ digits (take (i + 1) bytes)
-digits_to bytes i d byte within is = flat_map_more hex_byte [] (take i bytes) byte ∙ ap digits (sym (items_to bytes i d byte within is))
+digits_to : (bytes : List ℕ) (i d byte : ℕ) → i < length bytes → byte ≡ get_or bytes i d → digits (take i bytes) ++ two_hex_digits byte ≡ digits (take (i + 1) bytes)
+digits_to bytes i d byte within is = flat_map_more two_hex_digits [] (take i bytes) byte ∙ ap digits (sym (items_to bytes i d byte within is))
 
 -- one more byte
 pub digits_more : (old mid new : Option (List ℕ)) (bytes : List ℕ) (i d byte : ℕ) → i < length bytes → byte ≡ get_or bytes i d
-    → Appends old mid (digits (take i bytes)) → Appends mid new (hex_byte byte) → Appends old new (digits (take (i + 1) bytes))
+    → Appends old mid (digits (take i bytes)) → Appends mid new (two_hex_digits byte) → Appends old new (digits (take (i + 1) bytes))
 digits_more old mid new bytes i d byte within is a more =
-    subst (Appends old new) (digits_to bytes i d byte within is) (Appends-trans old mid new (digits (take i bytes)) (hex_byte byte) a more)
+    subst (Appends old new) (digits_to bytes i d byte within is) (Appends-trans old mid new (digits (take i bytes)) (two_hex_digits byte) a more)
 
 -- a prefix of one more byte
 pub digits_prefix : (old mid new : Option (List ℕ)) (bytes : List ℕ) (i d byte : ℕ) → i < length bytes → byte ≡ get_or bytes i d
-    → Appends old mid (digits (take i bytes)) → AppendsPrefix mid new (hex_byte byte) → AppendsPrefix old new (digits bytes)
+    → Appends old mid (digits (take i bytes)) → AppendsPrefix mid new (two_hex_digits byte) → AppendsPrefix old new (digits bytes)
 digits_prefix old mid new bytes i d byte within is a more =
     let rest = digits (drop (i + 1) bytes) in
-    let prefix = subst (AppendsPrefix old new) (digits_to bytes i d byte within is) (prefix_behind old mid new (digits (take i bytes)) (hex_byte byte) a more) in
-    let whole : digits (take (i + 1) bytes) ++ rest ≡ digits bytes = sym (flat_map-append hex_byte (take (i + 1) bytes) (drop (i + 1) bytes))
+    let prefix = subst (AppendsPrefix old new) (digits_to bytes i d byte within is) (prefix_behind old mid new (digits (take i bytes)) (two_hex_digits byte) a more) in
+    let whole : digits (take (i + 1) bytes) ++ rest ≡ digits bytes = sym (flat_map-append two_hex_digits (take (i + 1) bytes) (drop (i + 1) bytes))
     ∙ ap digits (take-append-drop (i + 1) bytes) in
     subst (AppendsPrefix old new) whole (prefix_of_more old new (digits (take (i + 1) bytes)) rest prefix)
 

@@ -4,24 +4,24 @@ use Rattle.vga_bits.specs.declared.refusal.Refusal.{Refusal}
 use Rattle.vga_bits.specs.declared.refusal.Refusal.TheVariants.{TooFar}
 use Rattle.vga_card.specs.declared.shape.Shape.{Shape}
 use Rattle.vga_card.specs.Card.{CardState}
-use Rattle.vga_card.specs.Cycles.{Written, out_cycle, inp_cycle, put_cycle, get_cycle}
+use Rattle.vga_card.specs.Cycles.{WriteResult, out_cycle, inp_cycle, put_cycle, get_cycle}
 use Rattle.vga_card.specs.WordCycles.{out_word_cycle, inp_word_cycle, put_word_cycle, get_word_cycle}
 use Rattle.vga_card.specs.Dots.{dots, most_dots}
 use Rattle.vga_card.specs.Frames.{frame}
-use Rattle.vga_card.specs.Picture.{shape, bytes_of}
+use Rattle.vga_card.specs.Picture.{picture_shape, bytes_of_dots}
 use Rattle.vga_script.specs.declared.step.Step.{Step}
 use Rattle.vga_script.specs.declared.step.Step.TheVariants.{Out, OutWord, In, InWord, Put, PutWord, Get, GetWord, Int, Advance, Frame, Show}
 use Rattle.bios_modes.specs.Bda.{BiosData}
 use Rattle.bios_modes.specs.Fonts.{FontSet}
 use Rattle.bios_services.specs.declared.regs.Regs.{Regs}
 use Rattle.bios_services.specs.Plan.{run}
-use Rattle.bios_services.specs.Service.{Answered, service}
+use Rattle.bios_services.specs.Service.{CallOutcome, service}
 use Rattle.vga_card.specs.Bus.{card_meaning}
 use Rattle.vga_run.specs.declared.machine.Machine.{Machine}
 use Rattle.vga_run.specs.declared.answer.Answer.{Answer}
 use Rattle.vga_run.specs.declared.answer.Answer.TheVariants.{Refused}
 use Rattle.vga_run.specs.Answer.{Short, of_write, of_byte, of_word, of_service, of_shape}
-use Rattle.vga_run.specs.Step.{advance_cycle, answer_to, after_step, called}
+use Rattle.vga_run.specs.Step.{advance_cycle, answer_to, after_step, after_int10}
 
 -- the law that a refused cycle leaves the whole state
 pub record RefusedCyclesChangeNothing : Type 0 where
@@ -62,7 +62,7 @@ refused_word m next (Ok v) refusal law is = absurd (cc)
 refused_word m next (Err e) refusal law is = ap (with_card m) (law e refl)
 
 -- an advance, by whether its dots are few
-abbrev advanced : Bool → CardState → CardState → Written
+abbrev advanced : Bool → CardState → CardState → WriteResult
 advanced few card next = if few then (next, Ok tt) else (card, Err TooFar)
 
 -- an advance that is refused
@@ -71,10 +71,10 @@ refused_advance true card next e is = absurd (cc)
 refused_advance false card next e is = refl
 
 -- a service whose answer is a refusal
-refused_call : (m : Machine) (after : CardState × Answered) (refusal : Refusal) → ((e : Refusal) → after.1.0 ≡ Err e → after ≡ (m.card, (Err e, m.bda)))
+refused_call : (m : Machine) (after : CardState × CallOutcome) (refusal : Refusal) → ((e : Refusal) → after.1.0 ≡ Err e → after ≡ (m.card, (Err e, m.bda)))
     → of_service after.1.0 ≡ Short (Refused refusal) → record m { card = after.0; bda = after.1.1 } ≡ m
 refused_call m (card, (Ok reply, bda)) refusal law is = absurd (cc)
-refused_call m (card, (Err e, bda)) refusal law is = ap (λ (a : CardState × Answered). record m { card = a.0; bda = a.1.1 }) (law e refl)
+refused_call m (card, (Err e, bda)) refusal law is = ap (λ (a : CardState × CallOutcome). record m { card = a.0; bda = a.1.1 }) (law e refl)
 
 -- a frame has no such answer
 answered_frame : (s : Option Shape) (bytes : List ℕ) (answer : Answer) → of_shape s bytes ≡ Short answer → ⊥
@@ -84,7 +84,7 @@ answered_frame (Some s) bytes answer is = cc
 -- a step whose answer is a refusal
 pub refused_step : RefusedCyclesChangeNothing → RefusedServicesDoNothing → (m : Machine) (step : Step) (refusal : Refusal) →
     answer_to m step ≡ Short (Refused refusal) → after_step m step ≡ m
-unfolding answer_to after_step called
+unfolding answer_to after_step after_int10
 refused_step law services m (Out port v) refusal is = refused_write m (out_cycle m.card port v).0 (out_cycle m.card port v).1 refusal (law.out m.card port v) is
 refused_step law services m (OutWord port v) refusal is = refused_write m (out_word_cycle m.card port v).0 (out_word_cycle m.card port v).1 refusal
     (law.out_word m.card port v) is
@@ -104,5 +104,5 @@ refused_step law services m (Int ax bx cx dx block) refusal is =
     refused_call m (run card_meaning (service m.fonts m.bda asked block) m.card) refusal (services m.fonts m.bda asked block m.card) is
 refused_step law services m (Advance count) refusal is = refused_write m (advance_cycle m.card count).0 (advance_cycle m.card count).1 refusal
     (refused_advance (nat_le count most_dots) m.card (dots count m.card)) is
-refused_step law services m Frame refusal is = absurd (answered_frame (shape (frame m.card).drawn) (bytes_of (frame m.card).drawn) (Refused refusal) is)
+refused_step law services m Frame refusal is = absurd (answered_frame (picture_shape (frame m.card).drawn) (bytes_of_dots (frame m.card).drawn) (Refused refusal) is)
 refused_step law services m (Show what) refusal is = refl

@@ -8,22 +8,22 @@ use Rattle.bios_services.specs.declared.call.Call.TheVariants.{SetMode, ReadTabl
 use Rattle.bios_services.specs.Calls.{call_of}
 use Rattle.vga_script.specs.declared.step.Step.{Step}
 use Rattle.vga_script.specs.declared.step.Step.TheVariants.{Int, Frame}
-use Rattle.vga_run.specs.ScreenReport.{Clears, StaysOnScreens, registers_of, IsOfScreens, AreOfScreens}
-use Rattle.bios_screen.specs.Drawing.{Drawing, dots_a_frame, take_frame, columns_in}
-use Rattle.bios_screen.specs.Whole.{IsFrameTaken}
-use Rattle.vga_run.specs.DotReport.{drawing_after, power_on_drawing, StaysAt, AllOfDots, AreOfDots}
-use Rattle.bios_modes.specs.Kinds.{is_text_kind, is_packed_kind, kind_in}
+use Rattle.vga_run.specs.ScreenReport.{IsClearingModeSet, StaysOnScreens, registers_of, IsScreenReportStep, AreScreenReportSteps}
+use Rattle.bios_screen.specs.Drawing.{Drawing, dots_a_frame, take_frame, columns_of_row}
+use Rattle.bios_screen.specs.Whole.{FrameEndsAtDotZero}
+use Rattle.vga_run.specs.DotReport.{drawing_after, power_on_drawing, CallKeepsDrawing, AllDotReportSteps, AreDotReportSteps}
+use Rattle.bios_modes.specs.Kinds.{is_text_kind, is_packed_kind, kind_of_row}
 use Rattle.bios_modes.proofs.RowLemmas.{each_mode}
 use Rattle.bios_modes.specs.declared.modes.ModeRow.{ModeRow}
-use Rattle.bios_screen.specs.Picture.{lines_in}
+use Rattle.bios_screen.specs.Picture.{pixel_lines_of_row}
 
 -- ---- whole frames
 
 -- a frame of a mode with this row has dots
 abbrev HasDots : Option ModeRow → Type 0
 HasDots row =
-    0 < (if lines_in row == 480 then 525 else 449)
-    * (if is_text_kind (kind_in row) then 900 else 10 * ((if is_packed_kind (kind_in row) then 2 else 1) * columns_in row))
+    0 < (if pixel_lines_of_row row == 480 then 525 else 449)
+    * (if is_text_kind (kind_of_row row) then 900 else 10 * ((if is_packed_kind (kind_of_row row) then 2 else 1) * columns_of_row row))
 
 -- a frame has dots, whatever the mode
 some_dots : (mode : ℕ) → 0 < dots_a_frame mode
@@ -32,9 +32,9 @@ some_dots = each_mode (λ _ row. HasDots row) (omega arith) (omega arith) (omega
 
 -- the law of the plain screen's frames
 abbrev pub FramesEnd : Type 0
-FramesEnd = (b : Drawing) → b.dot < dots_a_frame b.screen.mode → IsFrameTaken b
+FramesEnd = (b : Drawing) → b.dot < dots_a_frame b.screen.mode → FrameEndsAtDotZero b
 
-stays_at : (b : Drawing) (len : ℕ) (call : Option Call) → b.dot ≡ 0 → StaysOnScreens call → StaysAt b len call
+stays_at : (b : Drawing) (len : ℕ) (call : Option Call) → b.dot ≡ 0 → StaysOnScreens call → CallKeepsDrawing b len call
 stays_at b len None e stays = tt
 stays_at b len (Some (SetMode mode keeps)) e (inl clears) = inl (clears, e)
 stays_at b len (Some (SetMode mode keeps)) e (inr none) = inr none
@@ -42,14 +42,14 @@ stays_at b len (Some (ReadTable service)) e stays = tt
 stays_at b len (Some (LoadGlyphs load)) e stays = inr e
 stays_at b len (Some (InMode service)) e stays = tt
 
-clears_at : (b : Drawing) (len : ℕ) (call : Option Call) → b.dot ≡ 0 → Clears call → StaysAt b len call
+clears_at : (b : Drawing) (len : ℕ) (call : Option Call) → b.dot ≡ 0 → IsClearingModeSet call → CallKeepsDrawing b len call
 clears_at b len None e clears = absurd clears
 clears_at b len (Some (SetMode mode keeps)) e clears = inl (clears, e)
 clears_at b len (Some (ReadTable service)) e clears = absurd clears
 clears_at b len (Some (LoadGlyphs load)) e clears = absurd clears
 clears_at b len (Some (InMode service)) e clears = absurd clears
 
-all_of_dots : FramesEnd → (fonts : FontSet) (b : Drawing) (steps : List Step) → b.dot ≡ 0 → AllByRecursion IsOfScreens steps → AllOfDots fonts b steps
+all_of_dots : FramesEnd → (fonts : FontSet) (b : Drawing) (steps : List Step) → b.dot ≡ 0 → AllByRecursion IsScreenReportStep steps → AllDotReportSteps fonts b steps
 unfolding drawing_after
 all_of_dots law fonts b [] e all = tt
 all_of_dots law fonts b (Int ax bx cx dx block ∷ steps) e all = (
@@ -62,7 +62,7 @@ all_of_dots law fonts b (Frame ∷ steps) e all =
     (tt, all_of_dots law fonts (take_frame b) steps (law b (omega arith)).dot all.1)
 all_of_dots law fonts b (step ∷ steps) e all = absurd all.0
 
-pub screens_are_dots : FramesEnd → (fonts : FontSet) (steps : List Step) → AreOfScreens steps → AreOfDots fonts steps
+pub screens_are_dots : FramesEnd → (fonts : FontSet) (steps : List Step) → AreScreenReportSteps steps → AreDotReportSteps fonts steps
 unfolding drawing_after
 screens_are_dots law fonts [] all = absurd all
 screens_are_dots law fonts (Int ax bx cx dx block ∷ steps) (clears, all) = (

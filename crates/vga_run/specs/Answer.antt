@@ -7,7 +7,7 @@ use Rattle.bios_services.specs.Tables.{table_bytes}
 use Rattle.vga_card.specs.declared.shape.Shape.{Shape}
 use Rattle.vga_card.specs.declared.drawn.Drawn.{Drawn}
 use Rattle.vga_card.specs.declared.drawn.Drawn.TheVariants as drawn
-use Rattle.vga_card.specs.Picture.{Dot, shape, bytes_of}
+use Rattle.vga_card.specs.Picture.{Dot, picture_shape, bytes_of_dots}
 use Rattle.vga_run.specs.declared.answer.Answer.{Answer}
 use Rattle.vga_run.specs.declared.answer.Answer.TheVariants.{Done, Byte, Word, Refused}
 
@@ -48,7 +48,7 @@ of_shape None bytes = Ragged
 
 -- what a frame answers that has drawn these dots
 abbrev pub of_frame : List Dot → StepAnswer
-of_frame dots = of_shape (shape dots) (bytes_of dots)
+of_frame dots = of_shape (picture_shape dots) (bytes_of_dots dots)
 
 -- what is answered for the picture that the code gives, or for a ragged frame
 abbrev pub of_drawn : Drawn → StepAnswer

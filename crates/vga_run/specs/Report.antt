@@ -4,7 +4,7 @@ use Rattle.std.specs.Prelude.{◌≡◌, ℕ, ◌+◌, ◌==◌, if◌then◌els
 use Rattle.std.specs.Prelude.{Option, None, Some, codes, decimal}
 use Rattle.std.specs.List.{flat_map}
 use Rattle.vga_bits.specs.Refusal.{refusal_name}
-use Rattle.vga_bits.specs.Hex.{hex_byte, hex_word}
+use Rattle.vga_bits.specs.Hex.{two_hex_digits, four_hex_digits}
 use Rattle.vga_script.specs.declared.step.Step.{Step}
 use Rattle.vga_script.specs.declared.step.Step.TheVariants.{Show}
 use Rattle.vga_script.specs.declared.dump_range.Shown.TheVariants as shown
@@ -20,20 +20,22 @@ use Rattle.vga_run.specs.Step.{answer_to, after_step}
 
 -- the text of four registers
 unfoldable pub registers_text : Regs → List ℕ
-registers_text r = codes "ax=" ++ (hex_word r.ax ++ (codes " bx="
-    ++ (hex_word r.bx ++ (codes " cx=" ++ (hex_word r.cx ++ (codes " dx=" ++ hex_word r.dx))))))
+registers_text r = codes "ax=" ++ (four_hex_digits r.ax ++ (codes " bx="
+    ++ (four_hex_digits r.bx ++ (codes " cx=" ++ (four_hex_digits r.cx
+    ++ (codes " dx=" ++ four_hex_digits r.dx))))))
 
 -- the text of a table after four registers: the word `block`, and two digits for each byte; an
 -- empty table has none
 abbrev pub table_text : List ℕ → List ℕ
-table_text table = if length table == 0 then [] else codes " block " ++ flat_map hex_byte table
+table_text table =
+    if length table == 0 then [] else codes " block " ++ flat_map two_hex_digits table
 
 -- the text of an answer: `ok`, the two digits of a byte, the four of a word, or the name of the
 -- refusal
 abbrev pub answer_text : Answer → List ℕ
 answer_text Done = codes "ok"
-answer_text (Byte value) = hex_byte value
-answer_text (Word value) = hex_word value
+answer_text (Byte value) = two_hex_digits value
+answer_text (Word value) = four_hex_digits value
 answer_text (Refused refusal) = refusal_name refusal
 
 -- the number of a step in decimal, and a blank
@@ -41,7 +43,7 @@ unfoldable pub number_text : ℕ → List ℕ
 number_text n = decimal n ++ codes " "
 
 -- a line begins with the number of step n and a blank, which are `prefix` bytes
-pub record HasNumber (text : List ℕ) (prefix n : ℕ) : Type 0 where
+pub record BeginsWithNumber (text : List ℕ) (prefix n : ℕ) : Type 0 where
   pub is : take prefix text ≡ number_text n
   pub whole : prefix ≡ length (number_text n)
 
@@ -68,14 +70,15 @@ report_from m n (step ∷ steps) = line n (answer_to m step)
     ++ report_from (after_step m step) (n + 1) steps
 
 -- the dumps after the last step of a limited run: registers, beam, latches and BIOS data
-abbrev pub last_dumps : List Step
-last_dumps = Show shown.Registers ∷ Show shown.Beam ∷ Show shown.Latches ∷ Show shown.BiosData ∷ []
+abbrev pub closing_dumps : List Step
+closing_dumps =
+    Show shown.Registers ∷ Show shown.Beam ∷ Show shown.Latches ∷ Show shown.BiosData ∷ []
 
 -- the steps of a run: all of a script; or with a limit the first ones, all if there are fewer, and
 -- then the last dumps
 abbrev pub steps_until : Option ℕ → List Step → List Step
 steps_until None steps = steps
-steps_until (Some most) steps = take most steps ++ last_dumps
+steps_until (Some most) steps = take most steps ++ closing_dumps
 
 -- the report of a script with these fonts: its steps run from power-on, and are numbered from 1
 abbrev pub report_of : FontSet → List Step → List ℕ

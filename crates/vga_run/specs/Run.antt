@@ -14,7 +14,7 @@ use Rattle.vga_script.specs.Spelled.{SpellsExpanded}
 use Rattle.vga_script.specs.Input.{InputHasFault, InputMeans, IsTooLong}
 use Rattle.vga_run.specs.declared.machine.Machine.{Machine}
 use Rattle.vga_run.specs.Machine.{power_on_machine}
-use Rattle.vga_run.specs.Step.{TakesMemory, answer_to, after_step, after_steps}
+use Rattle.vga_run.specs.Step.{AllocatesMemory, answer_to, after_step, after_steps}
 use Rattle.vga_run.specs.Report.{line, report_from, report_of, steps_until}
 
 -- What taking step n on this machine answers, over a writer whose contents are `before` and
@@ -26,15 +26,15 @@ WritesStep before after failed (Ok u) m n step = Appends before after (line n (a
     × (failed ≡ false)
 WritesStep before after failed (Err e) m n step =
     ((e ≡ WriteFault) × (failed ≡ true) × AppendsPrefix before after (line n (answer_to m step)))
-    ⊎ ((e ≡ OutOfMemory) × (failed ≡ false) × TakesMemory m step × (after ≡ before))
+    ⊎ ((e ≡ OutOfMemory) × (failed ≡ false) × AllocatesMemory m step × (after ≡ before))
 
 -- An allocation failed while these steps were taken from this machine on, the first with the number
 -- n. It failed in a step that allocates. The answers of the steps before it are written, each
 -- whole.
-abbrev pub StopsIn : Machine → ℕ → List Step → Option (List ℕ) → Option (List ℕ) → Type 0
-StopsIn m n steps before after =
+abbrev pub RunsOutOfMemoryIn : Machine → ℕ → List Step → Option (List ℕ) → Option (List ℕ) → Type 0
+RunsOutOfMemoryIn m n steps before after =
     (done : List Step) × (step : Step) × (others : List Step) × (steps ≡ done ++ step ∷ others)
-    × TakesMemory (after_steps m done) step × Appends before after (report_from m n done)
+    × AllocatesMemory (after_steps m done) step × Appends before after (report_from m n done)
 
 -- What taking these steps answers: their report is written; or a prefix of it, if the writer
 -- failed; or an allocation failed.
@@ -44,7 +44,7 @@ WritesReport before after failed (Ok u) m n steps = Appends before after (report
     × (failed ≡ false)
 WritesReport before after failed (Err e) m n steps =
     ((e ≡ WriteFault) × (failed ≡ true) × AppendsPrefix before after (report_from m n steps))
-    ⊎ ((e ≡ OutOfMemory) × (failed ≡ false) × StopsIn m n steps before after)
+    ⊎ ((e ≡ OutOfMemory) × (failed ≡ false) × RunsOutOfMemoryIn m n steps before after)
 
 -- a machine that has taken this step, or has not
 abbrev pub IsTakenOrNot : Machine → Step → Machine → Type 0
@@ -57,7 +57,7 @@ IsOnTheWay old steps new = (n : ℕ) × (new ≡ after_steps old (take n steps))
 -- an allocation failed in the run of some steps from power-on, after the report of the steps before
 -- it was written
 abbrev pub RunsOutOfMemory : Option ℕ → FontSet → List Step → Option (List ℕ) → Option (List ℕ) → Type 0
-RunsOutOfMemory until fonts steps before after = StopsIn (power_on_machine fonts) 1
+RunsOutOfMemory until fonts steps before after = RunsOutOfMemoryIn (power_on_machine fonts) 1
     (steps_until until steps) before after
 
 -- an allocation failed in the run of the script that an input spells

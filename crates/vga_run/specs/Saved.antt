@@ -18,12 +18,12 @@ abbrev pub saved_mark : List ℕ
 saved_mark = 0x5A ∷ 0x41 ∷ 0x4B ∷ 0x53 ∷ 1 ∷ []
 
 -- a number in four bytes, low byte first
-abbrev pub long_bytes : ℕ → List ℕ
-long_bytes n = word_bytes (n % 65536) ++ word_bytes (n / 65536)
+abbrev pub four_bytes_of_number : ℕ → List ℕ
+four_bytes_of_number n = word_bytes (n % 65536) ++ word_bytes (n / 65536)
 
 -- the number of four bytes at `at`, low byte first
-abbrev pub long_at : List ℕ → ℕ → ℕ
-long_at bytes at = word_at bytes at + 65536 * word_at bytes (at + 2)
+abbrev pub number_of_four_bytes : List ℕ → ℕ → ℕ
+number_of_four_bytes bytes at = word_at bytes at + 65536 * word_at bytes (at + 2)
 
 -- what follows the header: the BIOS data, and the adapter
 unfoldable pub saved_parts : Machine → List ℕ
@@ -31,7 +31,7 @@ saved_parts m = saved_bda m.bda ++ saved_card m.card
 
 -- the bytes of a saved machine; its header gives their number
 unfoldable pub saved_machine : Machine → List ℕ
-saved_machine m = (saved_mark ++ long_bytes (9 + length (saved_parts m))) ++ saved_parts m
+saved_machine m = (saved_mark ++ four_bytes_of_number (9 + length (saved_parts m))) ++ saved_parts m
 
 -- what follows the header
 abbrev pub past_header : List ℕ → List ℕ
@@ -54,7 +54,7 @@ pub record HasVersion (bytes : List ℕ) : Type 0 where
 
 -- bytes are as many as their header says, and no fewer than the smallest saved machine
 pub record HasLength (bytes : List ℕ) : Type 0 where
-  pub counted : length bytes ≡ long_at bytes 5
+  pub counted : length bytes ≡ number_of_four_bytes bytes 5
   pub least : 265086 ≤ length bytes
 
 -- bytes contain the parts of a machine

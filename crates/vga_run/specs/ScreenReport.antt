@@ -22,7 +22,7 @@ use Rattle.bios_screen.specs.Screen.{Screen}
 use Rattle.bios_screen.specs.Step.{refusal_on, next, answer_on}
 use Rattle.bios_screen.specs.Colours.{table_answer}
 use Rattle.bios_screen.specs.Loaded.{load_refusal_on, load_glyphs}
-use Rattle.bios_screen.specs.Called.{reply_unless, screen_unless, table_unless}
+use Rattle.bios_screen.specs.Called.{reply_unless, screen_unless, table_reply_unless}
 use Rattle.bios_screen.specs.Fresh.{fresh_screen}
 use Rattle.bios_screen.specs.Picture.{dot_at, picture_width, picture_height, next_frame}
 use Rattle.bios_screen.specs.Raster.{picture_bytes}
@@ -35,14 +35,14 @@ use Rattle.vga_run.specs.Report.{line}
 -- ---- which steps
 
 -- a mode set that clears the memory, of a mode that exists
-abbrev pub Clears : Option Call → Type 0
-Clears (Some (SetMode mode keeps)) = (mode_row mode ≢ None) × (keeps ≡ false)
-Clears call = ⊥
+abbrev pub IsClearingModeSet : Option Call → Type 0
+IsClearingModeSet (Some (SetMode mode keeps)) = (mode_row mode ≢ None) × (keeps ≡ false)
+IsClearingModeSet call = ⊥
 
 -- a call that leads from a screen to a screen: it sets no mode; or it clears the memory; or its
 -- mode does not exist
 abbrev pub StaysOnScreens : Option Call → Type 0
-StaysOnScreens (Some (SetMode mode keeps)) = Clears (Some (SetMode mode keeps))
+StaysOnScreens (Some (SetMode mode keeps)) = IsClearingModeSet (Some (SetMode mode keeps))
     ⊎ (mode_row mode ≡ None)
 StaysOnScreens call = Unit {0}
 
@@ -51,56 +51,58 @@ abbrev pub registers_of : ℕ → ℕ → ℕ → ℕ → Regs
 registers_of ax bx cx dx = record { ax = ax; bx = bx; cx = cx; dx = dx }
 
 -- such a call, or a whole frame
-abbrev pub IsOfScreens : Step → Type 0
-IsOfScreens (Int ax bx cx dx block) = StaysOnScreens (call_of (registers_of ax bx cx dx))
-IsOfScreens Frame = Unit {0}
-IsOfScreens step = ⊥
+abbrev pub IsScreenReportStep : Step → Type 0
+IsScreenReportStep (Int ax bx cx dx block) = StaysOnScreens (call_of (registers_of ax bx cx dx))
+IsScreenReportStep Frame = Unit {0}
+IsScreenReportStep step = ⊥
 
 -- all steps are such, and the first is a mode set that clears the memory
-abbrev pub AreOfScreens : List Step → Type 0
-AreOfScreens (Int ax bx cx dx block ∷ steps) = Clears (call_of (registers_of ax bx cx dx))
-    × AllByRecursion IsOfScreens steps
-AreOfScreens steps = ⊥
+abbrev pub AreScreenReportSteps : List Step → Type 0
+AreScreenReportSteps (Int ax bx cx dx block ∷ steps) =
+    IsClearingModeSet (call_of (registers_of ax bx cx dx))
+    × AllByRecursion IsScreenReportStep steps
+AreScreenReportSteps steps = ⊥
 
 -- ---- what a step answers, and the screen after it
 
 -- a mode set that clears the memory: the fresh screen, or the old one if the mode does not exist
-abbrev pub set_on : Option ModeRow → ℕ → FontSet → Regs → Screen → Screen
+abbrev pub screen_after_mode_set : Option ModeRow → ℕ → FontSet → Regs → Screen → Screen
     × Result ServiceReply Refusal
-set_on None mode fonts r s = (s, Err BadMode)
-set_on (Some row) mode fonts r s = (
+screen_after_mode_set None mode fonts r s = (s, Err BadMode)
+screen_after_mode_set (Some row) mode fonts r s = (
   fresh_screen mode row fonts.f16 s.frame,
   Ok (record { regs = r; table = Empty }),
 )
 
 -- the screen after a call
-abbrev pub called_on : Option Call → FontSet → Regs → List ℕ → Screen → Screen
+abbrev pub call_on_screen : Option Call → FontSet → Regs → List ℕ → Screen → Screen
     × Result ServiceReply Refusal
-called_on None fonts r block s = (s, Err BadFunction)
-called_on (Some (SetMode mode keeps)) fonts r block s = set_on (mode_row mode) mode fonts r s
-called_on (Some (ReadTable service)) fonts r block s =
-    (s, table_unless (table_refusal service) (table_answer s service) r)
-called_on (Some (LoadGlyphs load)) fonts r block s =
+call_on_screen None fonts r block s = (s, Err BadFunction)
+call_on_screen (Some (SetMode mode keeps)) fonts r block s =
+    screen_after_mode_set (mode_row mode) mode fonts r s
+call_on_screen (Some (ReadTable service)) fonts r block s =
+    (s, table_reply_unless (table_refusal service) (table_answer s service) r)
+call_on_screen (Some (LoadGlyphs load)) fonts r block s =
     let why = load_refusal_on s load (length block) in
     (screen_unless why s (load_glyphs fonts s load block), reply_unless why r)
-called_on (Some (InMode service)) fonts r block s =
+call_on_screen (Some (InMode service)) fonts r block s =
     let why = refusal_on s service (length block) in (
       screen_unless why s (next fonts s service block),
       reply_unless why (answer_on fonts s service r),
     )
 
 -- what a call answers, and a frame: the picture of the active page; there are no other steps
-unfoldable pub reply_on : FontSet → Screen → Step → StepAnswer
-reply_on fonts s (Int ax bx cx dx block) = let r = registers_of ax bx cx dx in
-    of_service (called_on (call_of r) fonts r block s).1
-reply_on fonts s Frame = Picture (picture_width s) (picture_height s)
+unfoldable pub answer_on_screen : FontSet → Screen → Step → StepAnswer
+answer_on_screen fonts s (Int ax bx cx dx block) = let r = registers_of ax bx cx dx in
+    of_service (call_on_screen (call_of r) fonts r block s).1
+answer_on_screen fonts s Frame = Picture (picture_width s) (picture_height s)
     (picture_bytes (picture_width s) (picture_height s) (dot_at s s.page))
-reply_on fonts s step = Ragged
+answer_on_screen fonts s step = Ragged
 
 -- the screen after a step
 unfoldable pub screen_after : FontSet → Screen → Step → Screen
 screen_after fonts s (Int ax bx cx dx block) = let r = registers_of ax bx cx dx in
-    (called_on (call_of r) fonts r block s).0
+    (call_on_screen (call_of r) fonts r block s).0
 screen_after fonts s Frame = next_frame s
 screen_after fonts s step = s
 
@@ -109,20 +111,20 @@ screen_after fonts s step = s
 -- the lines of these steps on this screen; the first has the number n
 abbrev pub screen_report_from : FontSet → Screen → ℕ → List Step → List ℕ
 screen_report_from fonts s n [] = []
-screen_report_from fonts s n (step ∷ steps) = line n (reply_on fonts s step)
+screen_report_from fonts s n (step ∷ steps) = line n (answer_on_screen fonts s step)
     ++ screen_report_from fonts (screen_after fonts s step) (n + 1) steps
 
 -- the line of the first step, which sets a mode, and those of the others on the fresh screen, in
 -- frame 0
-abbrev pub set_report : Option ModeRow → ℕ → FontSet → Regs → List Step → List ℕ
-set_report None mode fonts r steps = []
-set_report (Some row) mode fonts r steps = line 1 (Served r [])
+abbrev pub mode_set_report : Option ModeRow → ℕ → FontSet → Regs → List Step → List ℕ
+mode_set_report None mode fonts r steps = []
+mode_set_report (Some row) mode fonts r steps = line 1 (Served r [])
     ++ screen_report_from fonts (fresh_screen mode row fonts.f16 0) 2 steps
 
 -- the report whose first step is this call, which must set a mode
 abbrev pub first_report : Option Call → FontSet → Regs → List Step → List ℕ
 first_report (Some (SetMode mode keeps)) fonts r steps =
-    set_report (mode_row mode) mode fonts r steps
+    mode_set_report (mode_row mode) mode fonts r steps
 first_report call fonts r steps = []
 
 -- the report of these steps; the first sets a mode
@@ -134,14 +136,16 @@ screen_report fonts steps = []
 -- ---- a run
 
 -- What the run of such steps answers with these fonts: the plain screen's report.
-abbrev pub ReportsScreens : FontSet → List Step → Option (List ℕ) → Option (List ℕ) →
+abbrev pub WritesScreenReport : FontSet → List Step → Option (List ℕ) → Option (List ℕ) →
     Result Unit Fault → Type 0
-ReportsScreens fonts steps before after result =
+WritesScreenReport fonts steps before after result =
     ReportsAs (screen_report fonts steps) before after result
 
 -- What a run with a font file and without a limit answers: that report, if its input spells such
 -- steps.
-abbrev pub RunsScreens : Option ℕ → List ℕ → Option (List ℕ) → Option (List ℕ) → Option (List ℕ) →
+abbrev pub RunWritesScreenReport : Option ℕ → List ℕ → Option (List ℕ) → Option (List ℕ) → Option
+    (List ℕ) →
     Result Unit Fault → Type 0
-RunsScreens until file input before after result =
-    RunsAs (λ (fonts : FontSet). AreOfScreens) screen_report until file input before after result
+RunWritesScreenReport until file input before after result =
+    RunsAs (λ (fonts : FontSet). AreScreenReportSteps) screen_report until file input before after
+    result

@@ -6,14 +6,14 @@ use Rattle.vga_bits.specs.declared.refusal.Refusal.{Refusal}
 use Rattle.vga_bits.specs.declared.refusal.Refusal.TheVariants.{TooFar}
 use Rattle.vga_card.specs.Card.{CardState}
 use Rattle.vga_card.specs.Bus.{card_meaning}
-use Rattle.vga_card.specs.Cycles.{Written, out_cycle, inp_cycle, put_cycle, get_cycle}
+use Rattle.vga_card.specs.Cycles.{WriteResult, out_cycle, inp_cycle, put_cycle, get_cycle}
 use Rattle.vga_card.specs.WordCycles.{out_word_cycle, inp_word_cycle, put_word_cycle}
 use Rattle.vga_card.specs.WordCycles.{get_word_cycle}
 use Rattle.vga_card.specs.Dots.{dots, most_dots}
 use Rattle.vga_card.specs.Frames.{frame}
 use Rattle.bios_services.specs.Plan.{run}
 use Rattle.bios_services.specs.Calls.{call_of}
-use Rattle.bios_services.specs.Service.{Answered, service, takes_memory}
+use Rattle.bios_services.specs.Service.{CallOutcome, service, allocates_memory}
 use Rattle.vga_show.specs.Regs.{regs_text}
 use Rattle.vga_show.specs.Dac.{entry_text}
 use Rattle.vga_show.specs.Beam.{beam_text}
@@ -47,20 +47,20 @@ dump_refusal m shown.Cells = cells_refusal m.bda.mode
 dump_refusal m what = None
 
 -- a call of interrupt 10: its cycles on the adapter, what it answers, and the BIOS data afterwards
-unfoldable pub called : Machine → ℕ → ℕ → ℕ → ℕ → List ℕ → CardState × Answered
-called m ax bx cx dx block = run card_meaning (service m.fonts m.bda
+unfoldable pub after_int10 : Machine → ℕ → ℕ → ℕ → ℕ → List ℕ → CardState × CallOutcome
+after_int10 m ax bx cx dx block = run card_meaning (service m.fonts m.bda
     (record { ax = ax; bx = bx; cx = cx; dx = dx }) block) m.card
 
 -- an advance by `count` dots, which is refused if they are more than one step may take
-abbrev pub advance_cycle : CardState → ℕ → Written
+abbrev pub advance_cycle : CardState → ℕ → WriteResult
 advance_cycle card count = if nat_le count most_dots then (dots count card, Ok tt)
     else (card, Err TooFar)
 
 -- a step that allocates on this machine, which only a call of interrupt 10 does
-abbrev pub TakesMemory : Machine → Step → Type 0
-TakesMemory m (Int ax bx cx dx block) = takes_memory
+abbrev pub AllocatesMemory : Machine → Step → Type 0
+AllocatesMemory m (Int ax bx cx dx block) = allocates_memory
     (call_of (record { ax = ax; bx = bx; cx = cx; dx = dx })) m.bda ≡ true
-TakesMemory m _ = ⊥
+AllocatesMemory m _ = ⊥
 
 -- what a step answers
 unfoldable pub answer_to : Machine → Step → StepAnswer
@@ -72,7 +72,7 @@ answer_to m (Put address value) = Short (of_write (put_cycle m.card address valu
 answer_to m (PutWord address value) = Short (of_write (put_word_cycle m.card address value).1)
 answer_to m (Get address) = Short (of_byte (get_cycle m.card address).1)
 answer_to m (GetWord address) = Short (of_word (get_word_cycle m.card address).1)
-answer_to m (Int ax bx cx dx block) = of_service (called m ax bx cx dx block).1.0
+answer_to m (Int ax bx cx dx block) = of_service (after_int10 m ax bx cx dx block).1.0
 answer_to m (Advance count) = Short (of_write (advance_cycle m.card count).1)
 answer_to m Frame = of_frame (frame m.card).drawn
 answer_to m (Show what) = of_dump (dump_refusal m what) (dump_text m what)
@@ -87,7 +87,7 @@ after_step m (Put address value) = record m { card = (put_cycle m.card address v
 after_step m (PutWord address value) = record m { card = (put_word_cycle m.card address value).0 }
 after_step m (Get address) = record m { card = (get_cycle m.card address).0 }
 after_step m (GetWord address) = record m { card = (get_word_cycle m.card address).0 }
-after_step m (Int ax bx cx dx block) = let after = called m ax bx cx dx block in
+after_step m (Int ax bx cx dx block) = let after = after_int10 m ax bx cx dx block in
     record m { card = after.0; bda = after.1.1 }
 after_step m (Advance count) = record m { card = (advance_cycle m.card count).0 }
 after_step m Frame = record m { card = frame m.card }

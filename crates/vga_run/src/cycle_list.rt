@@ -2,7 +2,7 @@
 ghost use Rattle.std.specs.Prelude.{◌≡◌, ◌≤◌, ◌<◌, ℕ, IfErr, IfOk};
 ghost use Rattle.bios_modes.specs.Valid.{IsValid};
 ghost use Rattle.vga_script.specs.Spelling.{script_limit};
-ghost use Rattle.vga_run.specs.CycleList.{IsList, IsUnlisted};
+ghost use Rattle.vga_run.specs.CycleList.{IsCycleList, IsUnlisted};
 
 use crate::machine::Machine;
 use bios_services::{Regs, ServiceError, int10};
@@ -34,9 +34,9 @@ struct ListedCard {
 
 impl Model for ListedCard {
     ghost use Rattle.std.specs.Prelude.{true};
-    ghost use Rattle.vga_run.specs.CycleList.{Listed};
+    ghost use Rattle.vga_run.specs.CycleList.{ListingCard};
 
-    ghost Value = { Listed };
+    ghost Value = { ListingCard };
 
     ghost view = { λ c. record { card = c.card; script = c.script; fits = true } };
 }
@@ -71,13 +71,13 @@ impl Bus for ListedCard {
 impl ListedCard {
     ghost use Rattle.std.specs.Prelude.{true};
     ghost use Rattle.vga_card.specs.FreshCanvas.{with_fresh_canvas};
-    ghost use Rattle.vga_script.specs.ScriptBytes.{begun};
+    ghost use Rattle.vga_script.specs.ScriptBytes.{script_without_steps};
 
     /// A copy of an adapter without any cycle so far, and room for a script of `room` bytes.
     fn new(alloc: Global, card: &Card, room: usize) -> Result<ListedCard, Unlisted>
         ensures ok { IfOk result (λ c. c ≡ record {
           card = with_fresh_canvas card.now;
-          script = begun room;
+          script = script_without_steps room;
           fits = true;
         }) }
         ensures err { IfErr result (λ why. why ≡ Unlisted.OutOfMemory) }
@@ -108,7 +108,7 @@ impl ListedCard {
 }
 
 /// Room for `asked` bytes, but for no more than a script may have.
-fn room_for(asked: usize) -> usize
+fn room_within_limit(asked: usize) -> usize
     ensures { (n : ℕ) → n ≤ script_limit → n ≤ asked → n ≤ result }
 {
     asked.min(SCRIPT_LIMIT)
@@ -127,10 +127,10 @@ pub fn list_cycles(
     room: usize,
 ) -> Result<ScriptBytes, Unlisted>
     requires { IsValid machine.now.bda }
-    ensures list { IfOk result (λ script. IsList machine.now regs block.now room script) }
+    ensures list { IfOk result (λ script. IsCycleList machine.now regs block.now room script) }
     ensures err { IfErr result (λ why. IsUnlisted machine.now regs block.now why) }
 {
-    let mut listed = ListedCard::new(alloc, &machine.card, room_for(room))?;
+    let mut listed = ListedCard::new(alloc, &machine.card, room_within_limit(room))?;
     let mut bda = machine.bda.copy();
     match int10(alloc, &mut listed, &mut bda, &machine.fonts, regs, block) {
         Ok(_) => listed.into_script(),

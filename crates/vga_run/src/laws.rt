@@ -3,8 +3,9 @@ ghost use Rattle.std.specs.Prelude.{◌≡◌, ℕ, List};
 ghost use Rattle.vga_bits.specs.declared.refusal.Refusal.{Refusal};
 ghost use Rattle.vga_run.specs.declared.machine.Machine.{Machine};
 ghost use Rattle.vga_run.specs.Answer.{Short};
-ghost use Rattle.vga_run.specs.Step.{answer_to, after_step, after_steps, called};
-ghost use Rattle.vga_run.specs.CycleList.{cycles_of_call, bytes_read, answer_by};
+ghost use Rattle.vga_run.specs.Step.{answer_to, after_step, after_steps, after_int10};
+ghost use Rattle.vga_run.specs.CycleList.{cycles_of_call, bytes_read_by_steps};
+ghost use Rattle.vga_run.specs.CycleList.{plan_answer_from_bytes};
 ghost use Rattle.vga_run.specs.Report.{report_from};
 ghost use Rattle.vga_run.specs.Saved.{machine_with_fresh_canvas};
 ghost use Rattle.bios_services.specs.declared.regs.Regs.{Regs};
@@ -46,10 +47,10 @@ pub fn restored_machines_report_the_same()
 pub fn listed_cycles_are_the_call()
     ensures state { (machine : Machine) (regs : Regs) (block : List ℕ) →
         after_steps machine (cycles_of_call machine regs block) ≡ record machine {
-          card = (called machine regs.ax regs.bx regs.cx regs.dx block).0;
+          card = (after_int10 machine regs.ax regs.bx regs.cx regs.dx block).0;
         } }
     ensures answer { (machine : Machine) (regs : Regs) (block : List ℕ) →
-        answer_by (service machine.fonts machine.bda regs block)
-        (bytes_read machine (cycles_of_call machine regs block))
-        ≡ (called machine regs.ax regs.bx regs.cx regs.dx block).1 }
+        plan_answer_from_bytes (service machine.fonts machine.bda regs block)
+        (bytes_read_by_steps machine (cycles_of_call machine regs block))
+        ≡ (after_int10 machine regs.ax regs.bx regs.cx regs.dx block).1 }
 {}

@@ -5,7 +5,7 @@ ghost use Rattle.vga_run.specs.Answer.{Short};
 ghost use Rattle.vga_run.specs.Report.{line as line_of};
 
 use super::answer::Answer;
-use super::step_line::{Line, numbered, put_answer, put_number, write_text};
+use super::step_line::{Line, line_of_number, put_answer, put_number, write_text};
 use std::io::Write;
 use std::marker::Model;
 use vga_bits::{Fault, Tracked};
@@ -23,22 +23,22 @@ pub(crate) struct NumberedLine {
 
 impl Model for NumberedLine {
     ghost use Rattle.std.specs.Prelude.{ℕ};
-    ghost use Rattle.vga_run.specs.Report.{HasNumber};
+    ghost use Rattle.vga_run.specs.Report.{BeginsWithNumber};
 
     ghost Value = { ℕ };
 
     ghost view = { λ l. l.number };
 
-    ghost invariant = { λ l. HasNumber l.line l.prefix l.number };
+    ghost invariant = { λ l. BeginsWithNumber l.line l.prefix l.number };
 }
 
 impl NumberedLine {
     /// The line of the step with this number.
     #[tactic(auto, using(crate::proofs::NumberLemmas::number_first))]
-    pub(crate) fn of(number: usize) -> NumberedLine
+    pub(crate) fn of_step(number: usize) -> NumberedLine
         ensures { result ≡ number }
     {
-        let line = numbered(number);
+        let line = line_of_number(number);
         let prefix = line.len();
         NumberedLine {
             number,

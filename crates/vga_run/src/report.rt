@@ -4,8 +4,8 @@ ghost use Rattle.std.specs.Prelude.{codes, Ok, Some, IfOk, IfSome};
 ghost use Rattle.std.specs.Prelude.{decimal};
 ghost use Rattle.vga_bits.specs.Refusal.{refusal_name};
 ghost use Rattle.vga_bits.specs.Tracked.{inner_of, has_failed, Writes};
-ghost use Rattle.vga_card.specs.Frames.{IsSmall};
-ghost use Rattle.vga_card.specs.Picture.{widest, highest};
+ghost use Rattle.vga_card.specs.Frames.{IsPictureInBounds};
+ghost use Rattle.vga_card.specs.Picture.{most_dots_of_a_line, most_lines_of_a_frame};
 ghost use Rattle.vga_run.specs.Answer.{Picture, Ragged, of_drawn, of_dump};
 ghost use Rattle.vga_run.specs.Step.{after_step, after_steps, dump_refusal, dump_text};
 ghost use Rattle.vga_run.specs.Run.{IsTakenOrNot, WritesStep, WritesReport};
@@ -13,7 +13,7 @@ ghost use Rattle.vga_script.specs.Step.{IsInRange, AreInRange};
 ghost use Rattle.vga_script.specs.declared.step.Step.TheVariants.{Int};
 ghost use Rattle.vga_script.specs.DumpRange.{IsShownInRange};
 ghost use Rattle.vga_run.specs.Report.{line as line_of};
-ghost use Rattle.vga_run.specs.Report.{picture_line as picture_line_of, last_dumps};
+ghost use Rattle.vga_run.specs.Report.{picture_line as picture_line_of, closing_dumps};
 ghost use Rattle.vga_show.specs.Ppm.{ppm};
 ghost use Rattle.bios_modes.specs.Valid.{IsValid};
 
@@ -21,7 +21,7 @@ use super::answer::Answer;
 use super::machine::Machine;
 use super::numbered_line::NumberedLine;
 use super::served::write_reply;
-use super::step_line::{Line, numbered, put_answer};
+use super::step_line::{Line, line_of_number, put_answer};
 use bios_services::{Regs, ServiceError, int10};
 use std::alloc::Global;
 use std::io::Write;
@@ -38,7 +38,7 @@ use vga_show::{
 fn picture_line(n: usize, length: u32) -> Line
     ensures { result ≡ picture_line_of n length }
 {
-    let mut line = numbered(n);
+    let mut line = line_of_number(n);
     line.push(b"picture ");
     line.push_decimal(length);
     line.push(b"\n");
@@ -70,8 +70,8 @@ fn write_picture<W: Write>(
     bytes: &[u8],
 ) -> Result<(), Fault>
     requires writer { has_failed out.old ≡ false }
-    requires width { width ≤ widest }
-    requires height { height ≤ highest }
+    requires width { width ≤ most_dots_of_a_line }
+    requires height { height ≤ most_lines_of_a_frame }
     requires whole { length bytes.now ≡ 3 * (width * height) }
     ensures { Writes (W.contents (inner_of out.old)) (W.contents (inner_of out.new))
         (has_failed out.new) result (line_of n (Picture width height bytes.now)) }
@@ -88,7 +88,7 @@ fn write_ragged<W: Write>(out: &mut Tracked<W>, n: usize) -> Result<(), Fault>
     ensures { Writes (W.contents (inner_of out.old)) (W.contents (inner_of out.new))
         (has_failed out.new) result (line_of n Ragged) }
 {
-    let mut line = numbered(n);
+    let mut line = line_of_number(n);
     line.push(b"ragged\n");
     write_whole(out, line.as_slice())
 }
@@ -97,7 +97,7 @@ fn write_ragged<W: Write>(out: &mut Tracked<W>, n: usize) -> Result<(), Fault>
 #[inline(never)]
 fn write_drawn<W: Write>(out: &mut Tracked<W>, n: usize, drawn: Drawn<'_>) -> Result<(), Fault>
     requires writer { has_failed out.old ≡ false }
-    requires few { IsSmall drawn }
+    requires few { IsPictureInBounds drawn }
     ensures { Writes (W.contents (inner_of out.old)) (W.contents (inner_of out.new))
         (has_failed out.new) result (line_of n (of_drawn drawn.entry)) }
 {
@@ -167,7 +167,7 @@ fn write_shown<W: Write>(
         (has_failed out.new) result
         (line_of n (of_dump (dump_refusal machine.now shown) (dump_text machine.now shown))) }
 {
-    write_whole(out, numbered(n).as_slice())?;
+    write_whole(out, line_of_number(n).as_slice())?;
     match write_dump(out, machine, shown)? {
         None => Ok(()),
         Some(why) => write_refusal(out, why),
@@ -175,7 +175,7 @@ fn write_shown<W: Write>(
 }
 
 /// Calls the video BIOS, and writes what the call answers as the line of step n.
-#[tactic(auto, unfolding(crate::specs::Step::called, crate::specs::Step::answer_to, crate::specs::Step::after_step))]
+#[tactic(auto, unfolding(crate::specs::Step::after_int10, crate::specs::Step::answer_to, crate::specs::Step::after_step))]
 #[inline(never)]
 fn write_service<W: Write>(
     alloc: Global,
@@ -283,7 +283,7 @@ fn write_lines<W: Write>(
     ensures after { OnOk result (machine.new ≡ after_steps machine.old steps.now) }
     ensures valid { IsValid machine.new.bda }
 {
-    let mut line = NumberedLine::of(first);
+    let mut line = NumberedLine::of_step(first);
     for step in steps {
         write_step(alloc, out, &mut line, machine, step)?;
         line.count_up();
@@ -299,11 +299,11 @@ pub(crate) fn write_closing_dumps<W: Write>(
     first: usize,
 ) -> Result<(), Fault>
     requires writer { has_failed out.old ≡ false }
-    requires numbers { first + length last_dumps < 2 ^ 64 }
+    requires numbers { first + length closing_dumps < 2 ^ 64 }
     requires valid { IsValid machine.old.bda }
     ensures text { WritesReport (W.contents (inner_of out.old)) (W.contents (inner_of out.new))
-        (has_failed out.new) result machine.old first last_dumps }
-    ensures after { OnOk result (machine.new ≡ after_steps machine.old last_dumps) }
+        (has_failed out.new) result machine.old first closing_dumps }
+    ensures after { OnOk result (machine.new ≡ after_steps machine.old closing_dumps) }
     ensures valid { IsValid machine.new.bda }
 {
     let last_dumps = [

@@ -10,8 +10,9 @@ ghost use Rattle.vga_script.specs.Item.{expanded};
 ghost use Rattle.vga_script.specs.Spelling.{script_limit};
 ghost use Rattle.vga_run.specs.Run.{Reports, ReportsSteps, RunAnswers, RunsGoodScripts, RunsScript};
 ghost use Rattle.vga_run.specs.Run.{StopsRun, RunsOutOfMemory};
-ghost use Rattle.vga_run.specs.DotReport.{AreOfDots, ReportsDots, RunsDots};
-ghost use Rattle.vga_run.specs.ScreenReport.{AreOfScreens, ReportsScreens, RunsScreens};
+ghost use Rattle.vga_run.specs.DotReport.{AreDotReportSteps, WritesDotReport, RunWritesDotReport};
+ghost use Rattle.vga_run.specs.ScreenReport.{AreScreenReportSteps, WritesScreenReport};
+ghost use Rattle.vga_run.specs.ScreenReport.{RunWritesScreenReport};
 
 use super::machine::Machine;
 use super::screens::{bytes_fit, reports_are_dots, reports_are_screens};
@@ -19,7 +20,9 @@ use bios_modes::Fonts;
 use std::alloc::Global;
 use std::io::{Read, Write};
 use vga_bits::{Fault, Tracked};
-use vga_script::{Script, Steps, one_fault, one_list, read_script, steps_fit};
+use vga_script::{
+    Script, Steps, bytes_have_one_fault, bytes_mean_one_list, read_script, steps_are_in_range,
+};
 
 /// Runs a script from power-on, writes its report and nothing else, and flushes the writer. The
 /// reader and the writer must not have failed before.
@@ -56,10 +59,10 @@ pub fn run<R: Read, W: Write>(
     ensures runs { RunsGoodScripts fonts.now (R.remaining (inner_of script.old))
         (has_failed script.new) (has_failed out.new) result }
     // The report of only BIOS calls and whole frames is the plain screen's.
-    ensures screens { RunsScreens until fonts.now (R.remaining (inner_of script.old))
+    ensures screens { RunWritesScreenReport until fonts.now (R.remaining (inner_of script.old))
         (W.contents (inner_of out.old)) (W.contents (inner_of out.new)) result }
     // The report of BIOS calls, dots and frames is the plain screen's, dot by dot.
-    ensures dots { RunsDots until fonts.now (R.remaining (inner_of script.old))
+    ensures dots { RunWritesDotReport until fonts.now (R.remaining (inner_of script.old))
         (W.contents (inner_of out.old)) (W.contents (inner_of out.new)) result }
 
     // The reader and the writer fail exactly if the answer says so. At most 16,777,217 bytes are
@@ -74,9 +77,9 @@ pub fn run<R: Read, W: Write>(
         ⊎ StopsRun until (fonts_of fonts.now) (R.remaining (inner_of script.old))
         (W.contents (inner_of out.old)) (W.contents (inner_of out.new)) }
 {
-    one_fault(); // A script has no fault.
-    one_list();
-    steps_fit();
+    bytes_have_one_fault(); // A script has no fault.
+    bytes_mean_one_list();
+    steps_are_in_range();
     reports_are_screens();
     reports_are_dots();
     bytes_fit(fonts);
@@ -100,10 +103,10 @@ pub fn run_bytes<W: Write>(
     ensures answer { RunAnswers until fonts.now (Some script.now)
         (W.contents (inner_of out.old)) (W.contents (inner_of out.new)) result }
     // The report of only BIOS calls and whole frames is the plain screen's.
-    ensures screens { RunsScreens until fonts.now (Some script.now)
+    ensures screens { RunWritesScreenReport until fonts.now (Some script.now)
         (W.contents (inner_of out.old)) (W.contents (inner_of out.new)) result }
     // The report of BIOS calls, dots and frames is the plain screen's, dot by dot.
-    ensures dots { RunsDots until fonts.now (Some script.now)
+    ensures dots { RunWritesDotReport until fonts.now (Some script.now)
         (W.contents (inner_of out.old)) (W.contents (inner_of out.new)) result }
     ensures unread { is_read_fault result ≡ false }
     // The writer fails exactly if the answer says so. Any other fault leaves it unchanged, except
@@ -115,8 +118,8 @@ pub fn run_bytes<W: Write>(
         ⊎ StopsRun until (fonts_of fonts.now) (Some script.now)
         (W.contents (inner_of out.old)) (W.contents (inner_of out.new)) }
 {
-    one_list();
-    steps_fit();
+    bytes_mean_one_list();
+    steps_are_in_range();
     reports_are_screens();
     reports_are_dots();
     bytes_fit(fonts);
@@ -185,12 +188,13 @@ pub fn run_script<W: Write>(
     ensures answer { RunsScript until fonts.now (expanded script.now.items)
         (W.contents (inner_of out.old)) (W.contents (inner_of out.new)) result }
     // The report of only BIOS calls and whole frames is the plain screen's.
-    ensures screens { until ≡ None → AreOfScreens (expanded script.now.items) →
-        ReportsScreens (fonts_of fonts.now) (expanded script.now.items)
+    ensures screens { until ≡ None → AreScreenReportSteps (expanded script.now.items) →
+        WritesScreenReport (fonts_of fonts.now) (expanded script.now.items)
         (W.contents (inner_of out.old)) (W.contents (inner_of out.new)) result }
     // The report of BIOS calls, dots and frames is the plain screen's, dot by dot.
-    ensures dots { until ≡ None → AreOfDots (fonts_of fonts.now) (expanded script.now.items) →
-        ReportsDots (fonts_of fonts.now) (expanded script.now.items)
+    ensures dots { until ≡ None → AreDotReportSteps (fonts_of fonts.now) (expanded script.now.items)
+        →
+        WritesDotReport (fonts_of fonts.now) (expanded script.now.items)
         (W.contents (inner_of out.old)) (W.contents (inner_of out.new)) result }
     // The writer fails exactly if the answer says so. Any other fault leaves it unchanged, except
     // that if an allocation fails in a step, the answers of the steps before it are written, each

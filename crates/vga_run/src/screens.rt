@@ -5,8 +5,8 @@ ghost use Rattle.bios_modes.specs.Fonts.{FontSet};
 ghost use Rattle.vga_script.specs.Step.{AreInRange};
 ghost use Rattle.vga_script.specs.declared.step.Step.{Step};
 ghost use Rattle.vga_run.specs.Report.{report_of};
-ghost use Rattle.vga_run.specs.DotReport.{AreOfDots, dot_report};
-ghost use Rattle.vga_run.specs.ScreenReport.{AreOfScreens, screen_report};
+ghost use Rattle.vga_run.specs.DotReport.{AreDotReportSteps, dot_report};
+ghost use Rattle.vga_run.specs.ScreenReport.{AreScreenReportSteps, screen_report};
 
 use bios_screen::any_dot::{calls_follow_screens, dots_follow_screens, frames_are_dots};
 use bios_screen::frames::frame_draws_screen;
@@ -18,7 +18,7 @@ use vga_card::laws::bounds_stay;
 /// Their report is the plain screen's.
 pub fn reports_are_screens()
     ensures { (fonts : FontSet) (steps : List Step) → AreFonts fonts → AreInRange steps →
-        AreOfScreens steps →
+        AreScreenReportSteps steps →
         report_of fonts steps ≡ screen_report fonts steps }
 {
     bounds_stay();
@@ -34,7 +34,7 @@ pub fn reports_are_screens()
 /// anywhere.
 pub fn reports_are_dots()
     ensures { (fonts : FontSet) (steps : List Step) → AreFonts fonts → AreInRange steps →
-        AreOfDots fonts steps →
+        AreDotReportSteps fonts steps →
         report_of fonts steps ≡ dot_report fonts steps }
 {
     bounds_stay();
@@ -48,10 +48,10 @@ pub fn reports_are_dots()
 
 /// BIOS calls and whole frames are such steps, and their two reports are the same.
 pub fn whole_frames_are_dots()
-    ensures steps { (fonts : FontSet) (steps : List Step) → AreOfScreens steps →
-        AreOfDots fonts steps }
+    ensures steps { (fonts : FontSet) (steps : List Step) → AreScreenReportSteps steps →
+        AreDotReportSteps fonts steps }
     ensures reports { (fonts : FontSet) (steps : List Step) → AreFonts fonts → AreInRange steps →
-        AreOfScreens steps →
+        AreScreenReportSteps steps →
         screen_report fonts steps ≡ dot_report fonts steps }
 {
     frames_are_dots();

@@ -1,13 +1,13 @@
 //! Writing what a BIOS call answers.
 ghost use Rattle.std.specs.Prelude.{◌≡◌, ◌+◌, ◌≤◌, ◌++◌, length, false, codes};
 ghost use Rattle.std.specs.List.{flat_map};
-ghost use Rattle.vga_bits.specs.Hex.{hex_byte};
+ghost use Rattle.vga_bits.specs.Hex.{two_hex_digits};
 ghost use Rattle.vga_bits.specs.Tracked.{inner_of, has_failed, Writes};
 ghost use Rattle.bios_services.specs.Tables.{table_bytes};
 ghost use Rattle.vga_run.specs.Answer.{Served};
 ghost use Rattle.vga_run.specs.Report.{line, number_text, registers_text, table_text};
 
-use super::step_line::{Line, numbered};
+use super::step_line::{Line, line_of_number};
 use bios_services::{Regs, Reply};
 use std::io::Write;
 use vga_bits::{Fault, Tracked, write_whole};
@@ -33,7 +33,7 @@ fn push_registers(line: &mut Line, regs: Regs)
 fn write_digits<W: Write>(out: &mut Tracked<W>, bytes: &[u8]) -> Result<(), Fault>
     requires { has_failed out.old ≡ false }
     ensures { Writes (W.contents (inner_of out.old)) (W.contents (inner_of out.new))
-        (has_failed out.new) result (flat_map hex_byte bytes.now) }
+        (has_failed out.new) result (flat_map two_hex_digits bytes.now) }
 {
     for byte in bytes {
         let mut digits = Line::new();
@@ -48,7 +48,7 @@ fn write_digits<W: Write>(out: &mut Tracked<W>, bytes: &[u8]) -> Result<(), Faul
 fn write_block<W: Write>(out: &mut Tracked<W>, bytes: &[u8]) -> Result<(), Fault>
     requires { has_failed out.old ≡ false }
     ensures { Writes (W.contents (inner_of out.old)) (W.contents (inner_of out.new))
-        (has_failed out.new) result (codes " block " ++ flat_map hex_byte bytes.now) }
+        (has_failed out.new) result (codes " block " ++ flat_map two_hex_digits bytes.now) }
 {
     write_whole(out, b" block ")?;
     write_digits(out, bytes)
@@ -81,7 +81,7 @@ fn end_line<W: Write>(out: &mut Tracked<W>, bytes: &[u8]) -> Result<(), Fault>
 fn registers_line(n: usize, regs: Regs) -> Line
     ensures { result ≡ number_text n ++ registers_text regs }
 {
-    let mut line = numbered(n);
+    let mut line = line_of_number(n);
     push_registers(&mut line, regs);
     line
 }

@@ -19,7 +19,7 @@ pub(crate) type Line = TextBuffer<LINE_LEN>;
 /// three bytes already, and they are overwritten in place.
 #[tactic(auto, using(crate::proofs::NumberLemmas::three_put))]
 #[inline(always)]
-fn put_three(line: &mut Line, prefix: usize, bytes: [u8; 3])
+fn replace_by_three_bytes(line: &mut Line, prefix: usize, bytes: [u8; 3])
     requires within { prefix ≤ length line.old }
     requires short { prefix ≤ 21 }
     ensures { line.new ≡ take prefix line.old ++ bytes }
@@ -43,8 +43,8 @@ pub(crate) fn put_answer(line: &mut Line, prefix: usize, answer: Answer)
     ensures { line.new ≡ take prefix line.old ++ (answer_text answer ++ codes "\n") }
 {
     match answer {
-        Answer::Done => put_three(line, prefix, *b"ok\n"),
-        Answer::Byte(value) => put_three(
+        Answer::Done => replace_by_three_bytes(line, prefix, *b"ok\n"),
+        Answer::Byte(value) => replace_by_three_bytes(
             line,
             prefix,
             [hex_digit(value / 16), hex_digit(value % 16), b'\n'],
@@ -73,7 +73,7 @@ pub(crate) fn put_number(line: &mut Line, n: usize)
 }
 
 /// The line of a step's number and a blank.
-pub(crate) fn numbered(n: usize) -> Line
+pub(crate) fn line_of_number(n: usize) -> Line
     ensures items { result ≡ number_text n }
     ensures len { length result ≤ 21 }
 {

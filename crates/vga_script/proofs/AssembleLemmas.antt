@@ -7,16 +7,16 @@ use Rattle.std.proofs.lemmas.Grind.{flat_map-append}
 use Rattle.vga_bits.specs.declared.fault.Fault.{Fault}
 use Rattle.vga_bits.specs.declared.fault.Fault.TheVariants as fault
 use Rattle.vga_script.specs.declared.step.Step.{Step}
-use Rattle.vga_script.specs.Item.{Item, Once, Repeated, Listing, listing, repeated, expanded, step_limit}
+use Rattle.vga_script.specs.Item.{Item, Once, Repeated, Listing, script_of_items, repeated, expanded, step_limit}
 use Rattle.vga_script.specs.declared.version.Version.{Version}
 use Rattle.vga_script.specs.declared.version.Version.TheVariants.{One}
 use Rattle.vga_script.specs.Version.{AllowsRepeats, version_byte}
 use Rattle.byteorder.specs.Endian.{little_bytes}
 use Rattle.vga_script.specs.Spelling.{magic, opcode_repeat, opcode_end, header, spelling, item_spelling, encoding}
-use Rattle.vga_script.specs.Tokens.{lines, lines_left, left_len, words}
-use Rattle.vga_script.specs.Text.{SpellsLine, SpellsLines, SpellsRepeat, IsEnd, IsVersionTwo, Group, IsGroup, SpellsGroups, SaysVersionTwo, StandFrom}
-use Rattle.vga_script.specs.Text.{SpellsText, IsBadOutside, IsBadInside, OpensLines, IsGroupFault, IsBadLine, IsLineFault}
-use Rattle.vga_script.specs.Assembling.{HasBody, IsBodyFault, HasGroup, IsGroupFaultOf, AppendsLine, AppendsBody, AppendsRepeat, AppendsGroup}
+use Rattle.vga_script.specs.Tokens.{lines, lines_of_rest, rest_len, words}
+use Rattle.vga_script.specs.Text.{SpellsLine, SpellsLines, SpellsRepeat, IsRepeatEndLine, IsVersionTwo, Group, IsGroup, SpellsGroups, SaysVersionTwo, ItemsBeginAtLine}
+use Rattle.vga_script.specs.Text.{SpellsText, IsBadOutside, IsBadInside, StandsInRepeatLines, IsGroupFault, IsBadLine, IsLineFault}
+use Rattle.vga_script.specs.Assembling.{BeginsWithRepeatBody, IsBodyFault, BeginsWithGroup, IsFirstGroupFault, AppendsLine, AppendsBody, AppendsRepeat, AppendsGroup}
 use Rattle.vga_script.proofs.ItemLemmas.{length-expanded-append, steps_of_repeat}
 
 -- a test that failed did not pass
@@ -28,7 +28,7 @@ pub beyond : (n most : ℕ) (b : Bool) → b ≡ false → (n ≤ most → b ≡
 beyond n most b is fits = lt_of_not-le (λ h. never b is (fits h))
 
 -- what follows a line is shorter than the text
-pub left_shorter : (left : Option (Bor (List ℕ))) (len : ℕ) → IfSome left (λ rest. length rest.now < len) → left_len (option_copied left) ≤ len
+pub left_shorter : (left : Option (Bor (List ℕ))) (len : ℕ) → IfSome left (λ rest. length rest.now < len) → rest_len (option_copied left) ≤ len
 left_shorter None len h = omega arith
 left_shorter (Some rest) len h = omega arith
 
@@ -45,9 +45,9 @@ spells_more (b ∷ before) steps line here (first, after, e, is, more) new =
 pub record HasReadBody (start : Option (List ℕ)) (first : ℕ) (steps : List Step) (n : ℕ) (left : Option (List ℕ)) : Type 0 where
   pub body : List (List ℕ)
   pub good : SpellsLines body steps
-  pub whole : lines_left start ≡ body ++ lines_left left
+  pub whole : lines_of_rest start ≡ body ++ lines_of_rest left
   pub number : n ≡ first + length body + 1
-  pub shorter : n + left_len left ≤ first + 1 + left_len start
+  pub shorter : n + rest_len left ≤ first + 1 + rest_len start
 
 -- no line is read
 steps_begins : (start : Option (List ℕ)) (first : ℕ) → HasReadBody start first [] (first + 1) start
@@ -55,20 +55,20 @@ steps_begins start first = record { body = []; good = refl; whole = refl; number
 
 -- one more line of a step, or of no word
 steps_more : (start others : Option (List ℕ)) (rest line : List ℕ) (first n : ℕ) (steps here : List Step) → HasReadBody start first steps n (Some rest) →
-    lines rest ≡ line ∷ lines_left others → left_len others ≤ length rest
+    lines rest ≡ line ∷ lines_of_rest others → rest_len others ≤ length rest
     → SpellsLine (words line) here → HasReadBody start first (steps ++ here) (n + 1) others
 steps_more start others rest line first n steps here h e shorter is = record {
   body = h.body ++ line ∷ [];
   good = spells_more h.body steps line here h.good is;
-  whole = h.whole ∙ ap (λ (l : List (List ℕ)). h.body ++ l) e ∙ sym (append_assoc h.body (line ∷ []) (lines_left others));
+  whole = h.whole ∙ ap (λ (l : List (List ℕ)). h.body ++ l) e ∙ sym (append_assoc h.body (line ∷ []) (lines_of_rest others));
   number = let c = h.number in let l = length-append h.body (line ∷ []) in omega arith;
   shorter = let s = h.shorter in omega arith;
 }
 
 -- the line of its end
 steps_ends : (start others : Option (List ℕ)) (rest line : List ℕ) (first n : ℕ) (steps : List Step) → HasReadBody start first steps n (Some rest) →
-    lines rest ≡ line ∷ lines_left others → left_len others ≤ length rest
-    → IsEnd (words line) → HasBody (first + 1) start steps (n + 1) others
+    lines rest ≡ line ∷ lines_of_rest others → rest_len others ≤ length rest
+    → IsRepeatEndLine (words line) → BeginsWithRepeatBody (first + 1) start steps (n + 1) others
 steps_ends start others rest line first n steps h e shorter is = record {
   body = h.body;
   last = line;
@@ -81,10 +81,10 @@ steps_ends start others rest line first n steps h e shorter is = record {
 
 -- a bad line
 steps_bad : (start others : Option (List ℕ)) (rest line : List ℕ) (first n : ℕ) (steps : List Step) → HasReadBody start first steps n (Some rest) →
-    lines rest ≡ line ∷ lines_left others → IsBadInside line → IsBodyFault first start (fault.BadLine n)
+    lines rest ≡ line ∷ lines_of_rest others → IsBadInside line → IsBodyFault first start (fault.BadLine n)
 steps_bad start others rest line first n steps h e bad =
     let c = h.number in
-    inr (h.body, steps, line, lines_left others, omega arith, h.whole ∙ ap (λ (l : List (List ℕ)). h.body ++ l) e, h.good, bad)
+    inr (h.body, steps, line, lines_of_rest others, omega arith, h.whole ∙ ap (λ (l : List (List ℕ)). h.body ++ l) e, h.good, bad)
 
 -- no line is left
 steps_open : (start : Option (List ℕ)) (first n : ℕ) (steps : List Step) → HasReadBody start first steps n None → IsBodyFault first start (fault.BadLine first)
@@ -102,7 +102,7 @@ pub body_begins : (start : Option (List ℕ)) (before : List ℕ) (first : ℕ) 
 body_begins start before first = record { steps = []; read = steps_begins start first; count = refl; few = omega arith; bytes = sym (append-nil before) }
 
 pub body_more : (start others : Option (List ℕ)) (before now new rest line : List ℕ) (first len more n : ℕ) →
-    HasAppendedBody start before first len n (Some rest) now → lines rest ≡ line ∷ lines_left others → left_len others ≤ length rest
+    HasAppendedBody start before first len n (Some rest) now → lines rest ≡ line ∷ lines_of_rest others → rest_len others ≤ length rest
     → AppendsLine line now new more → HasAppendedBody start before first (len + more) (n + 1) others new
 body_more start others before now new rest line first len more n h e shorter a = record {
   steps = h.steps ++ a.steps;
@@ -114,8 +114,8 @@ body_more start others before now new rest line first len more n h e shorter a =
 }
 
 pub body_ends : (start others : Option (List ℕ)) (before now rest line : List ℕ) (first len n : ℕ) → HasAppendedBody start before first len n (Some rest) now →
-    lines rest ≡ line ∷ lines_left others → left_len others ≤ length rest
-    → IsEnd (words line) → AppendsBody (first + 1) start before now len (n + 1) others
+    lines rest ≡ line ∷ lines_of_rest others → rest_len others ≤ length rest
+    → IsRepeatEndLine (words line) → AppendsBody (first + 1) start before now len (n + 1) others
 body_ends start others before now rest line first len n h e shorter is = record {
   steps = h.steps;
   body = steps_ends start others rest line first n h.steps h.read e shorter is;
@@ -125,7 +125,7 @@ body_ends start others before now rest line first len n h e shorter is = record 
 }
 
 pub body_bad : (start others : Option (List ℕ)) (before now rest line : List ℕ) (first len n : ℕ) → HasAppendedBody start before first len n (Some rest) now →
-    lines rest ≡ line ∷ lines_left others → IsBadInside line → IsBodyFault first start (fault.BadLine n)
+    lines rest ≡ line ∷ lines_of_rest others → IsBadInside line → IsBodyFault first start (fault.BadLine n)
 body_bad start others before now rest line first len n h e bad = steps_bad start others rest line first n h.steps h.read e bad
 
 pub body_open : (start : Option (List ℕ)) (before now : List ℕ) (first len n : ℕ) → HasAppendedBody start before first len n None now →
@@ -160,7 +160,7 @@ spelled : (steps : List Step) → flat_map spelling steps ≡ flat_map item_spel
 spelled [] = refl
 spelled (s ∷ steps) = ap (λ (l : List ℕ). spelling s ++ l) (spelled steps)
 
-pub group_of_line : (version : Version) (n : ℕ) (text line before after : List ℕ) (others : Option (List ℕ)) (len : ℕ) → lines text ≡ line ∷ lines_left others →
+pub group_of_line : (version : Version) (n : ℕ) (text line before after : List ℕ) (others : Option (List ℕ)) (len : ℕ) → lines text ≡ line ∷ lines_of_rest others →
     AppendsLine line before after len
     → AppendsGroup version n (lines text) before after len (n + 1) others
 group_of_line version n text line before after others len e a = record {
@@ -178,7 +178,7 @@ group_of_line version n text line before after others len e a = record {
 
 -- a repeat
 pub group_of_repeat : (version : Version) (n : ℕ) (text line before after : List ℕ) (others behind : Option (List ℕ)) (count len next : ℕ) →
-    AllowsRepeats version → lines text ≡ line ∷ lines_left others → SpellsRepeat (words line) count
+    AllowsRepeats version → lines text ≡ line ∷ lines_of_rest others → SpellsRepeat (words line) count
     → AppendsRepeat (n + 1) others count before after len next behind → AppendsGroup version n (lines text) before after len next behind
 group_of_repeat version n text line before after others behind count len next allowed e begins a =
     let h = a.body in
@@ -189,7 +189,7 @@ group_of_repeat version n text line before after others behind count len next al
         group = record { lines = line ∷ (h.body ++ h.last ∷ []); items = items };
         good = inr (allowed, (line, count, h.body, a.steps, h.last, refl, refl, begins, h.good, h.ends));
         items_are = refl;
-        whole = e ∙ ap (λ (l : List (List ℕ)). line ∷ l) (h.whole ∙ sym (append_assoc h.body (h.last ∷ []) (lines_left behind)));
+        whole = e ∙ ap (λ (l : List (List ℕ)). line ∷ l) (h.whole ∙ sym (append_assoc h.body (h.last ∷ []) (lines_of_rest behind)));
         number = let c = h.number in let l = length-append h.body (h.last ∷ []) in omega arith;
       };
       means = a.means ∙ ap length (sym (append-nil (repeated count a.steps)));
@@ -197,31 +197,31 @@ group_of_repeat version n text line before after others behind count len next al
     }
 
 -- a bad line outside repeats
-pub group_bad : (version : Version) (n : ℕ) (text line : List ℕ) (others : Option (List ℕ)) → lines text ≡ line ∷ lines_left others →
-    IsBadOutside version line → IsGroupFaultOf version n (lines text) (fault.BadLine n)
-group_bad version n text line others e bad so_far = inl (refl, (line, lines_left others, e, bad))
+pub group_bad : (version : Version) (n : ℕ) (text line : List ℕ) (others : Option (List ℕ)) → lines text ≡ line ∷ lines_of_rest others →
+    IsBadOutside version line → IsFirstGroupFault version n (lines text) (fault.BadLine n)
+group_bad version n text line others e bad so_far = inl (refl, (line, lines_of_rest others, e, bad))
 
 -- the fault of a repeat
-repeat_open : (version : Version) (n place : ℕ) (ls : List (List ℕ)) → OpensLines version ls place [] → IsGroupFaultOf version n ls (fault.BadLine n)
+repeat_open : (version : Version) (n place : ℕ) (ls : List (List ℕ)) → StandsInRepeatLines version ls place [] → IsFirstGroupFault version n ls (fault.BadLine n)
 repeat_open version n place ls h so_far = inr (inr (inl (refl, (place, h))))
 
 pub repeat_bad : (version : Version) (n : ℕ) (text line : List ℕ) (others : Option (List ℕ)) (count : ℕ) (f : Fault) → AllowsRepeats version →
-    lines text ≡ line ∷ lines_left others → SpellsRepeat (words line) count
-    → IsBodyFault n others f → IsGroupFaultOf version n (lines text) f
+    lines text ≡ line ∷ lines_of_rest others → SpellsRepeat (words line) count
+    → IsBodyFault n others f → IsFirstGroupFault version n (lines text) f
 repeat_bad version n text line others count (fault.BadLine bad) allowed e begins (inl (is, (steps, good))) = λ so_far.
     inr (inr (inl (
       is,
       (
-        length (lines_left others) + 1,
+        length (lines_of_rest others) + 1,
         record {
           first = line;
           count = count;
-          body = lines_left others;
+          body = lines_of_rest others;
           steps = steps;
           allowed = allowed;
           begins = begins;
           good = good;
-          whole = e ∙ ap (λ (l : List (List ℕ)). line ∷ l) (sym (append-nil (lines_left others)));
+          whole = e ∙ ap (λ (l : List (List ℕ)). line ∷ l) (sym (append-nil (lines_of_rest others)));
           distance_is = refl;
         },
       ),
@@ -249,15 +249,15 @@ repeat_bad version n text line others count _ allowed e begins h = absurd h
 
 -- or memory ran out
 pub group_fault : (version : Version) (n : ℕ) (text line : List ℕ) (others : Option (List ℕ)) (count : ℕ) (f : Fault) → AllowsRepeats version →
-    lines text ≡ line ∷ lines_left others → SpellsRepeat (words line) count
-    → (f ≡ fault.OutOfMemory) ⊎ IsBodyFault n others f → (f ≡ fault.OutOfMemory) ⊎ IsGroupFaultOf version n (lines text) f
+    lines text ≡ line ∷ lines_of_rest others → SpellsRepeat (words line) count
+    → (f ≡ fault.OutOfMemory) ⊎ IsBodyFault n others f → (f ≡ fault.OutOfMemory) ⊎ IsFirstGroupFault version n (lines text) f
 group_fault version n text line others count f allowed e begins (inl memory) = inl memory
 group_fault version n text line others count f allowed e begins (inr h) = inr (repeat_bad version n text line others count f allowed e begins h)
 
 -- and where it has one
 pub group_faults : {A : Type 0} (version : Version) (n : ℕ) (text line : List ℕ) (others : Option (List ℕ)) (count : ℕ) (r : Result A Fault) →
-    AllowsRepeats version → lines text ≡ line ∷ lines_left others → SpellsRepeat (words line) count
-    → IfErr r (λ f. (f ≡ fault.OutOfMemory) ⊎ IsBodyFault n others f) → IfErr r (λ f. (f ≡ fault.OutOfMemory) ⊎ IsGroupFaultOf version n (lines text) f)
+    AllowsRepeats version → lines text ≡ line ∷ lines_of_rest others → SpellsRepeat (words line) count
+    → IfErr r (λ f. (f ≡ fault.OutOfMemory) ⊎ IsBodyFault n others f) → IfErr r (λ f. (f ≡ fault.OutOfMemory) ⊎ IsFirstGroupFault version n (lines text) f)
 group_faults version n text line others count (Ok x) allowed e begins h = tt
 group_faults version n text line others count (Err f) allowed e begins h = group_fault version n text line others count f allowed e begins h
 
@@ -267,9 +267,9 @@ group_faults version n text line others count (Err f) allowed e begins h = group
 pub record HasBlank (text : List ℕ) (n : ℕ) (left : Option (List ℕ)) : Type 0 where
   pub before : List (List ℕ)
   pub blank : AllByRecursion (λ line. words line ≡ []) before
-  pub whole : lines text ≡ before ++ lines_left left
+  pub whole : lines text ≡ before ++ lines_of_rest left
   pub number : n ≡ length before + 1
-  pub shorter : n + left_len left ≤ length text + 2
+  pub shorter : n + rest_len left ≤ length text + 2
 
 pub blank_none : (text : List ℕ) → HasBlank text 1 (Some text)
 blank_none text = record { before = []; blank = tt; whole = refl; number = refl; shorter = omega arith }
@@ -278,19 +278,19 @@ all_push : (ls : List (List ℕ)) (line : List ℕ) → AllByRecursion (λ l. wo
 all_push [] line all none = (none, tt)
 all_push (l ∷ ls) line (first, all) none = (first, all_push ls line all none)
 
-pub blank_more : (text rest line : List ℕ) (others : Option (List ℕ)) (n : ℕ) → HasBlank text n (Some rest) → lines rest ≡ line ∷ lines_left others →
-    left_len others ≤ length rest → words line ≡ [] → HasBlank text (n + 1) others
+pub blank_more : (text rest line : List ℕ) (others : Option (List ℕ)) (n : ℕ) → HasBlank text n (Some rest) → lines rest ≡ line ∷ lines_of_rest others →
+    rest_len others ≤ length rest → words line ≡ [] → HasBlank text (n + 1) others
 blank_more text rest line others n h e shorter none = record {
   before = h.before ++ line ∷ [];
   blank = all_push h.before line h.blank none;
-  whole = h.whole ∙ ap (λ (l : List (List ℕ)). h.before ++ l) e ∙ sym (append_assoc h.before (line ∷ []) (lines_left others));
+  whole = h.whole ∙ ap (λ (l : List (List ℕ)). h.before ++ l) e ∙ sym (append_assoc h.before (line ∷ []) (lines_of_rest others));
   number = let c = h.number in let l = length-append h.before (line ∷ []) in omega arith;
   shorter = let s = h.shorter in omega arith;
 }
 
 -- the next says version 2
-pub two_found : (text rest line : List ℕ) (others : Option (List ℕ)) (n : ℕ) → HasBlank text n (Some rest) → lines rest ≡ line ∷ lines_left others →
-    IsVersionTwo (words line) → SaysVersionTwo (lines text) (n + 1) (lines_left others)
+pub two_found : (text rest line : List ℕ) (others : Option (List ℕ)) (n : ℕ) → HasBlank text n (Some rest) → lines rest ≡ line ∷ lines_of_rest others →
+    IsVersionTwo (words line) → SaysVersionTwo (lines text) (n + 1) (lines_of_rest others)
 two_found text rest line others n h e is = record {
   before = h.before;
   line = line;
@@ -317,11 +317,11 @@ not_there (b ∷ bs) [] line second rest others (none, blank) blank' e some othe
 not_there (b ∷ bs) (o ∷ os) line second rest others (none, blank) (none', blank') e some other is =
     let tails : bs ++ line ∷ rest ≡ os ++ second ∷ others = cc in not_there bs os line second rest others blank blank' tails some other is
 
-pub not_two : (text rest line : List ℕ) (left : Option (List ℕ)) (n : ℕ) → HasBlank text n (Some rest) → lines rest ≡ line ∷ lines_left left → words line ≢ [] →
+pub not_two : (text rest line : List ℕ) (left : Option (List ℕ)) (n : ℕ) → HasBlank text n (Some rest) → lines rest ≡ line ∷ lines_of_rest left → words line ≢ [] →
     (IsVersionTwo (words line) → ⊥)
     → (m : ℕ) (others : List (List ℕ)) → SaysVersionTwo (lines text) m others → ⊥
 not_two text rest line left n h e some other m others says =
-    not_there h.before says.before line says.line (lines_left left) others h.blank says.blank (sym (ap (λ (l : List (List ℕ)). h.before ++ l) e) ∙ sym h.whole
+    not_there h.before says.before line says.line (lines_of_rest left) others h.blank says.blank (sym (ap (λ (l : List (List ℕ)). h.before ++ l) e) ∙ sym h.whole
     ∙ says.whole) some other says.version
 
 -- nor is there any line with a word
@@ -359,22 +359,22 @@ pub record HasRead (text : List ℕ) (version : Version) (items : List Item) (so
   pub start : ℕ
   pub rest : List (List ℕ)
   pub prefix : List (List ℕ)
-  pub from : StandFrom version (lines text) start rest
+  pub from : ItemsBeginAtLine version (lines text) start rest
   pub one : version ≡ One → (m : ℕ) (others : List (List ℕ)) → SaysVersionTwo (lines text) m others → ⊥
   pub good : SpellsGroups version prefix items
-  pub whole : rest ≡ prefix ++ lines_left left
+  pub whole : rest ≡ prefix ++ lines_of_rest left
   pub number : n ≡ start + length prefix
   pub count : so_far ≡ length (expanded items)
   pub few : so_far ≤ step_limit
-  pub short : n + left_len left ≤ length text + 2
+  pub short : n + rest_len left ≤ length text + 2
 
 -- no line is read
-pub read_none : (text : List ℕ) (version : Version) (n : ℕ) (left : Option (List ℕ)) → StandFrom version (lines text) n (lines_left left) →
+pub read_none : (text : List ℕ) (version : Version) (n : ℕ) (left : Option (List ℕ)) → ItemsBeginAtLine version (lines text) n (lines_of_rest left) →
     (version ≡ One → (m : ℕ) (others : List (List ℕ)) → SaysVersionTwo (lines text) m others → ⊥)
-    → n + left_len left ≤ length text + 2 → HasRead text version [] 0 n left
+    → n + rest_len left ≤ length text + 2 → HasRead text version [] 0 n left
 read_none text version n left from one short = record {
   start = n;
-  rest = lines_left left;
+  rest = lines_of_rest left;
   prefix = [];
   from = from;
   one = one;
@@ -388,8 +388,8 @@ read_none text version n left from one short = record {
 
 -- one more group is
 pub read_more : (text rest : List ℕ) (version : Version) (items here : List Item) (so_far more n next : ℕ) (behind : Option (List ℕ)) →
-    HasRead text version items so_far n (Some rest) → HasGroup version n (lines rest) here next behind
-    → more ≡ so_far + length (expanded here) → more ≤ step_limit → next + left_len behind ≤ n + (length rest + 1) →
+    HasRead text version items so_far n (Some rest) → BeginsWithGroup version n (lines rest) here next behind
+    → more ≡ so_far + length (expanded here) → more ≤ step_limit → next + rest_len behind ≤ n + (length rest + 1) →
     HasRead text version (items ++ here) more next behind
 read_more text rest version items here so_far more n next behind h g sum few shorter =
     let lens = length-append h.prefix g.group.lines in
@@ -406,7 +406,7 @@ read_more text rest version items here so_far more n next behind h g sum few sho
       one = h.one;
       good = subst (λ (l : List Item). SpellsGroups version (h.prefix ++ g.group.lines) (items ++ l)) g.items_are
           (groups_more version h.prefix items g.group h.good g.good);
-      whole = h.whole ∙ ap (λ (l : List (List ℕ)). h.prefix ++ l) g.whole ∙ sym (append_assoc h.prefix g.group.lines (lines_left behind));
+      whole = h.whole ∙ ap (λ (l : List (List ℕ)). h.prefix ++ l) g.whole ∙ sym (append_assoc h.prefix g.group.lines (lines_of_rest behind));
       number = omega arith;
       count = omega arith;
       few = few;
@@ -415,7 +415,7 @@ read_more text rest version items here so_far more n next behind h g sum few sho
 
 -- nothing is left
 pub read_all : (text : List ℕ) (version : Version) (items : List Item) (so_far n : ℕ) → HasRead text version items so_far n None →
-    SpellsText text (listing version items)
+    SpellsText text (script_of_items version items)
 read_all text version items so_far n h =
     let count = h.count in
     let few = h.few in
@@ -427,7 +427,7 @@ bad_line : (text rest : List ℕ) (version : Version) (items : List Item) (so_fa
 bad_line text rest version items so_far n bad h wrong =
     let count = h.count in
     let few = h.few in (
-      listing version items,
+      script_of_items version items,
       n,
       lines rest,
       record {
@@ -445,22 +445,22 @@ bad_line text rest version items so_far n bad h wrong =
     )
 
 pub read_bad : (text rest : List ℕ) (version : Version) (items : List Item) (so_far n : ℕ) (f : Fault) → HasRead text version items so_far n (Some rest) →
-    IsGroupFaultOf version n (lines rest) f → IsLineFault text f
+    IsFirstGroupFault version n (lines rest) f → IsLineFault text f
 read_bad text rest version items so_far n (fault.BadLine bad) h wrong = bad_line text rest version items so_far n bad h (wrong so_far)
 read_bad text rest version items so_far n _ h wrong = absurd wrong
 
 -- with the next group there are too many steps
 pub read_too_many : (text rest : List ℕ) (version : Version) (items here : List Item) (so_far n next : ℕ) (behind : Option (List ℕ)) (f : Fault) →
-    HasRead text version items so_far n (Some rest) → HasGroup version n (lines rest) here next behind
+    HasRead text version items so_far n (Some rest) → BeginsWithGroup version n (lines rest) here next behind
     → f ≡ fault.BadLine n → step_limit < so_far + length (expanded here) → IsLineFault text f
 read_too_many text rest version items here so_far n next behind f h g is long =
     let same = ap (λ (l : List Item). length (expanded l)) g.items_are in
     subst (IsLineFault text) (sym is)
-    (bad_line text rest version items so_far n n h (inr (inr (inr (refl, (g.group, lines_left behind, g.whole, g.good, omega arith))))))
+    (bad_line text rest version items so_far n n h (inr (inr (inr (refl, (g.group, lines_of_rest behind, g.whole, g.good, omega arith))))))
 
 -- or memory ran out
 pub text_fault : (text rest : List ℕ) (version : Version) (items : List Item) (so_far n : ℕ) (f : Fault) → HasRead text version items so_far n (Some rest) →
-    (f ≡ fault.OutOfMemory) ⊎ IsGroupFaultOf version n (lines rest) f
+    (f ≡ fault.OutOfMemory) ⊎ IsFirstGroupFault version n (lines rest) f
     → (f ≡ fault.OutOfMemory) ⊎ IsLineFault text f
 text_fault text rest version items so_far n f h (inl memory) = inl memory
 text_fault text rest version items so_far n f h (inr wrong) = inr (read_bad text rest version items so_far n f h wrong)
@@ -479,9 +479,9 @@ pub record HasAssembled (text : List ℕ) (version : Version) (so_far n : ℕ) (
   pub read : HasRead text version items so_far n left
   pub bytes : out ≡ header version ++ flat_map item_spelling items
 
-pub text_begins : (text out : List ℕ) (version : Version) (n : ℕ) (left : Option (List ℕ)) → StandFrom version (lines text) n (lines_left left) →
+pub text_begins : (text out : List ℕ) (version : Version) (n : ℕ) (left : Option (List ℕ)) → ItemsBeginAtLine version (lines text) n (lines_of_rest left) →
     (version ≡ One → (m : ℕ) (others : List (List ℕ)) → SaysVersionTwo (lines text) m others → ⊥)
-    → n + left_len left ≤ length text + 2 → out ≡ header version → HasAssembled text version 0 n left out
+    → n + rest_len left ≤ length text + 2 → out ≡ header version → HasAssembled text version 0 n left out
 text_begins text out version n left from one short is = record {
   items = [];
   read = read_none text version n left from one short;
@@ -491,7 +491,7 @@ text_begins text out version n left from one short is = record {
 
 pub text_more : (text rest now new : List ℕ) (version : Version) (so_far more n next : ℕ) (behind : Option (List ℕ)) →
     HasAssembled text version so_far n (Some rest) now → AppendsGroup version n (lines rest) now new more next behind
-    → more ≤ step_limit - so_far → next + left_len behind ≤ n + (length rest + 1) → HasAssembled text version (so_far + more) next behind new
+    → more ≤ step_limit - so_far → next + rest_len behind ≤ n + (length rest + 1) → HasAssembled text version (so_far + more) next behind new
 text_more text rest now new version so_far more n next behind h g few shorter =
     let m = g.means in
     let t = h.read.few in
@@ -506,7 +506,7 @@ text_more text rest now new version so_far more n next behind h g few shorter =
 pub text_all : (text out : List ℕ) (version : Version) (so_far n : ℕ) → HasAssembled text version so_far n None out
     → (script : Listing) × SpellsText text script
     × (out ≡ encoding script)
-text_all text out version so_far n h = (listing version h.items, read_all text version h.items so_far n h.read, h.bytes)
+text_all text out version so_far n h = (script_of_items version h.items, read_all text version h.items so_far n h.read, h.bytes)
 
 pub text_many : (text rest now new : List ℕ) (version : Version) (so_far more n next : ℕ) (behind : Option (List ℕ)) →
     HasAssembled text version so_far n (Some rest) now → AppendsGroup version n (lines rest) now new more next behind
@@ -517,6 +517,6 @@ text_many text rest now new version so_far more n next behind h g many =
     read_too_many text rest version h.items g.items so_far n next behind (fault.BadLine n) h.read g.group refl (omega arith)
 
 pub text_faulty : (text rest now : List ℕ) (version : Version) (so_far n : ℕ) (f : Fault) → HasAssembled text version so_far n (Some rest) now →
-    (f ≡ fault.OutOfMemory) ⊎ IsGroupFaultOf version n (lines rest) f
+    (f ≡ fault.OutOfMemory) ⊎ IsFirstGroupFault version n (lines rest) f
     → (f ≡ fault.OutOfMemory) ⊎ IsLineFault text f
 text_faulty text rest now version so_far n f h bad = text_fault text rest version h.items so_far n f h.read bad

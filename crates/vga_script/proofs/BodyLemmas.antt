@@ -12,7 +12,7 @@ use Rattle.vga_script.specs.Step.{IsInRange}
 use Rattle.vga_script.specs.Version.{AllowsRepeats}
 use Rattle.vga_script.specs.Beginning.{steps_in}
 use Rattle.vga_script.specs.Spelling.{opcode_repeat, opcode_end, spelling, StartsWithStep, StartsWithItem, SpellsSteps}
-use Rattle.vga_script.specs.Decoding.{HasStepsBefore, OpensRepeat, IsItemFault}
+use Rattle.vga_script.specs.Decoding.{HasStepsBefore, StandsInRepeat, IsItemFault}
 use Rattle.vga_script.proofs.GrammarLemmas.{steps_range, spelled_steps}
 use Rattle.vga_script.proofs.BeginningLemmas.{few_steps, steps_are, spells_in}
 
@@ -82,7 +82,7 @@ repeat_found version bytes fields body rest others prefix count len allowed e co
 -- the repeat is open where the steps end
 pub repeat_open : (version : Version) (bytes fields body rest : List ℕ) (count len place : ℕ) → AllowsRepeats version → bytes ≡ opcode_repeat ∷ fields →
     fields ≡ little_bytes 2 count ++ body
-    → 0 < count → count < 2 ^ 16 → HasStepsBefore body len rest → place ≡ length bytes - length rest → OpensRepeat version bytes place rest
+    → 0 < count → count < 2 ^ 16 → HasStepsBefore body len rest → place ≡ length bytes - length rest → StandsInRepeat version bytes place rest
 repeat_open version bytes fields body rest count len place allowed e counted some small h is =
     let within = body_within body rest len h in
     let whole : bytes ≡ opcode_repeat ∷ (little_bytes 2 count ++ body) = e ∙ ap (λ (l : List ℕ). opcode_repeat ∷ l) counted in
@@ -90,7 +90,7 @@ repeat_open version bytes fields body rest count len place allowed e counted som
     record { count = count; body = body; len = len; allowed = allowed; some = some; small = small; whole = whole; good = h; distance_is = omega arith }
 
 -- so where nothing is left, its fault is that of an item
-pub repeat_cut : (version : Version) (so_far offset place : ℕ) (bytes rest : List ℕ) → OpensRepeat version bytes place rest → rest ≡ [] →
+pub repeat_cut : (version : Version) (so_far offset place : ℕ) (bytes rest : List ℕ) → StandsInRepeat version bytes place rest → rest ≡ [] →
     IsItemFault version so_far offset bytes (fault.Truncated offset)
 repeat_cut version so_far offset place bytes rest h e =
-    inl (refl, inr (place, subst (λ (l : List ℕ). OpensRepeat version bytes place l) e h))
+    inl (refl, inr (place, subst (λ (l : List ℕ). StandsInRepeat version bytes place l) e h))

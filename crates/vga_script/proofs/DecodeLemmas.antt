@@ -6,13 +6,13 @@ use Rattle.vga_bits.specs.declared.fault.Fault.TheVariants as fault
 use Rattle.byteorder.specs.Endian.{little_bytes, little_number}
 use Rattle.vga_script.specs.declared.step.Step.{Step}
 use Rattle.vga_script.specs.declared.dump_range.Shown.TheVariants as shown
-use Rattle.vga_script.specs.Item.{Item, Listing, listing, expanded, step_limit, steps_of, IsItemOf, Once}
+use Rattle.vga_script.specs.Item.{Item, Listing, script_of_items, expanded, step_limit, steps_of_item, IsItemOf, Once}
 use Rattle.vga_script.specs.declared.version.Version.{Version}
 use Rattle.vga_script.specs.DumpRange.{IsShownInRange, kind_dac, kind_plane}
 use Rattle.vga_script.specs.Spelling.{StartsWithStep, header, opcode_out, opcode_out_word, opcode_in, opcode_in_word, opcode_put, opcode_put_word, opcode_get}
 use Rattle.vga_script.specs.Spelling.{opcode_get_word, opcode_int, opcode_advance, opcode_frame, opcode_show, item_spelling, StartsWithItem, SpellsItems}
 use Rattle.vga_script.specs.Spelling.{Spells}
-use Rattle.vga_script.specs.Decoding.{shown_len, fields_len, StartsWithPlaneOutOfRange, StartsWithBadStep, StartsWithCutStep, SpellsUpTo, IsItemFault, HasItemFault}
+use Rattle.vga_script.specs.Decoding.{dump_len, fields_len, StartsWithPlaneOutOfRange, StartsWithBadStep, StartsWithCutStep, SpellsUpTo, IsItemFault, HasItemFault}
 use Rattle.vga_script.specs.Decoding.{IsSpellingFault}
 use Rattle.vga_script.proofs.ItemLemmas.{length-expanded-push}
 
@@ -68,8 +68,8 @@ pub no_numeric_opcode : (fields : List ℕ) (opcode : ℕ) → (opcode ≢ opcod
 no_numeric_opcode fields opcode h int frame shown = no_opcode (opcode ∷ fields) fields opcode refl (h int frame shown)
 
 -- and a byte that is no kind
-pub no_kind : (fields rest : List ℕ) (kind : ℕ) → fields ≡ kind ∷ rest → shown_len (kind ∷ rest) ≡ None → StartsWithBadStep (opcode_show ∷ fields)
-no_kind fields rest kind e is = inl (opcode_show, fields, refl, ap shown_len e ∙ is)
+pub no_kind : (fields rest : List ℕ) (kind : ℕ) → fields ≡ kind ∷ rest → dump_len (kind ∷ rest) ≡ None → StartsWithBadStep (opcode_show ∷ fields)
+no_kind fields rest kind e is = inl (opcode_show, fields, refl, ap dump_len e ∙ is)
 
 -- bytes of a plane that are not there, or too many
 pub out_of_range : (fields rest : List ℕ) (plane offset count : ℕ) (b : Bool) → fields ≡ plane ∷ (little_bytes 2 offset ++ (little_bytes 2 count ++ rest)) →
@@ -96,7 +96,7 @@ items_more version prefix (j ∷ items) i (rest, (fits, whole), more) last = (
 -- the items so far, which mean `so_far` steps, stand before the rest of a script
 pub record HasDecoded (bytes : List ℕ) (version : Version) (items : List Item) (so_far : ℕ) (rest : List ℕ) : Type 0 where
   pub prefix : List ℕ
-  pub good : Spells prefix (listing version items)
+  pub good : Spells prefix (script_of_items version items)
   pub whole : bytes ≡ prefix ++ rest
   pub short : length rest ≤ length bytes
   pub count : so_far ≡ length (expanded items)
@@ -116,7 +116,7 @@ decoded_nothing bytes rest version e = record {
 -- one more is
 pub decoded_more : (bytes rest others : List ℕ) (version : Version) (items : List Item) (so_far more : ℕ) (i : Item) →
     HasDecoded bytes version items so_far rest → StartsWithItem version rest i others
-    → more ≡ so_far + length (steps_of i) → more ≤ step_limit → HasDecoded bytes version (items ++ i ∷ []) more others
+    → more ≡ so_far + length (steps_of_item i) → more ≤ step_limit → HasDecoded bytes version (items ++ i ∷ []) more others
 decoded_more bytes rest others version items so_far more i h (fits, e) sum few =
     let pushed = length-expanded-push items i in
     let counted = h.count in
@@ -141,13 +141,13 @@ nothing (x ∷ xs) e = absurd (omega arith)
 
 -- nothing is left
 pub decoded_all : (bytes rest : List ℕ) (version : Version) (items : List Item) (so_far : ℕ) → HasDecoded bytes version items so_far rest → rest ≡ [] →
-    Spells bytes (listing version items)
+    Spells bytes (script_of_items version items)
 decoded_all bytes rest version items so_far h none =
-    subst (λ (l : List ℕ). Spells l (listing version items)) (sym (h.whole ∙ ap (λ (l : List ℕ). h.prefix ++ l) none ∙ append-nil h.prefix)) h.good
+    subst (λ (l : List ℕ). Spells l (script_of_items version items)) (sym (h.whole ∙ ap (λ (l : List ℕ). h.prefix ++ l) none ∙ append-nil h.prefix)) h.good
 
 -- the rest stands where the items so far end
 up_to : (bytes rest : List ℕ) (version : Version) (items : List Item) (so_far offset : ℕ) → HasDecoded bytes version items so_far rest →
-    offset ≡ length bytes - length rest → SpellsUpTo bytes (listing version items) offset rest
+    offset ≡ length bytes - length rest → SpellsUpTo bytes (script_of_items version items) offset rest
 up_to bytes rest version items so_far offset h e = record {
   prefix = h.prefix;
   whole = h.whole;
@@ -167,7 +167,7 @@ pub decoded_fault : (bytes rest : List ℕ) (version : Version) (items : List It
     → IsItemFault version so_far offset rest f → IsSpellingFault bytes f
 decoded_fault bytes rest version items so_far offset f h e bad =
     item_fault bytes f (
-      listing version items,
+      script_of_items version items,
       offset,
       rest,
       up_to bytes rest version items so_far offset h e,
@@ -182,7 +182,7 @@ decoded_none bytes rest version e = ([], decoded_nothing bytes rest version e)
 -- one more item is passed over
 pub passed_more : (bytes rest others : List ℕ) (version : Version) (so_far more : ℕ) (i : Item) → (items : List Item)
     × HasDecoded bytes version items so_far rest → StartsWithItem version rest i others
-    → more ≡ so_far + length (steps_of i) → more ≤ step_limit → (items : List Item) × HasDecoded bytes version items more others
+    → more ≡ so_far + length (steps_of_item i) → more ≤ step_limit → (items : List Item) × HasDecoded bytes version items more others
 passed_more bytes rest others version so_far more i (items, h) starts sum few = (
   items ++ i ∷ [],
   decoded_more bytes rest others version items so_far more i h starts sum few,
@@ -206,4 +206,4 @@ many_steps bytes rest others version so_far offset step (items, h) e starts is =
 -- all items were passed over
 pub passed_all : (bytes rest : List ℕ) (version : Version) (so_far : ℕ) → (items : List Item) × HasDecoded bytes version items so_far rest → length rest ≡ 0 →
     (script : Listing) × Spells bytes script
-passed_all bytes rest version so_far (items, h) none = (listing version items, decoded_all bytes rest version items so_far h (nothing rest none))
+passed_all bytes rest version so_far (items, h) none = (script_of_items version items, decoded_all bytes rest version items so_far h (nothing rest none))

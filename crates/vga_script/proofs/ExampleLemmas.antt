@@ -3,7 +3,7 @@ use Rattle.std.proofs.Common.{◌≡◌, ℕ, zero, suc, ◌*◌, ◌≤◌, Lis
 use Rattle.std.specs.List.{flat_map}
 use Rattle.std.proofs.lemmas.List.{length-replicate}
 use Rattle.vga_script.specs.declared.step.Step.TheVariants.{Frame}
-use Rattle.vga_script.specs.Item.{Repeated, listing, repeated, step_limit}
+use Rattle.vga_script.specs.Item.{Repeated, script_of_items, repeated, step_limit}
 use Rattle.vga_script.specs.declared.version.Version.{Version}
 use Rattle.vga_script.specs.declared.version.Version.TheVariants.{Two}
 use Rattle.vga_script.specs.Step.{AreInRange}
@@ -13,7 +13,7 @@ use Rattle.vga_script.specs.Decoding.{SpellsUpTo}
 use Rattle.vga_script.proofs.ItemLemmas.{length-repeated, length-expanded-cons}
 
 -- no item stands before what follows the header
-pub begins : (version : Version) (rest : List ℕ) → SpellsUpTo (header version ++ rest) (listing version []) 5 rest
+pub begins : (version : Version) (rest : List ℕ) → SpellsUpTo (header version ++ rest) (script_of_items version []) 5 rest
 begins version rest = record { prefix = header version; whole = refl; good = ([], refl, refl, omega arith); place = refl }
 
 -- frames are in range, and spelled one after another

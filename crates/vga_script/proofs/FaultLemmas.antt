@@ -5,7 +5,7 @@ use Rattle.std.specs.Prelude.{IfErr, IsOkUnless}
 use Rattle.std.specs.List.{flat_map}
 use Rattle.vga_bits.specs.declared.fault.Fault.{Fault}
 use Rattle.vga_bits.specs.declared.fault.Fault.TheVariants as fault
-use Rattle.vga_script.specs.Item.{Item, Listing, expanded, step_limit, steps_of, IsItemOf, AreItemsOf}
+use Rattle.vga_script.specs.Item.{Item, Listing, expanded, step_limit, steps_of_item, IsItemOf, AreItemsOf}
 use Rattle.vga_script.specs.declared.version.Version.{Version}
 use Rattle.vga_script.specs.Version.{version_byte}
 use Rattle.vga_script.specs.Spelling.{script_limit, magic, header, item_spelling, Spells}
@@ -36,7 +36,7 @@ stands_at bytes script offset rest h = record {
 
 -- items that go on with one more stay within the limit with it
 within_limit : (items others : List Item) (i : Item) (longer : List Item) → longer ≡ items ++ i ∷ others → length (expanded longer) ≤ step_limit →
-    length (expanded items) + length (steps_of i) ≤ step_limit
+    length (expanded items) + length (steps_of_item i) ≤ step_limit
 within_limit items others i longer e few =
     let len = ap (λ (l : List Item). length (expanded l)) e in
     let whole = length-expanded-append items (i ∷ others) in

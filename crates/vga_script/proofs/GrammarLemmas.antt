@@ -8,7 +8,7 @@ use Rattle.vga_script.specs.declared.step.Step.TheVariants.{Out, OutWord, In, In
 use Rattle.vga_script.specs.declared.dump_range.Shown.TheVariants as shown
 use Rattle.vga_script.specs.Item.{Item, Once, Repeated, Listing, expanded, step_limit, IsItemOf, AreItemsOf}
 use Rattle.vga_script.specs.declared.version.Version.{Version}
-use Rattle.vga_script.specs.Beginning.{call_at, step_with, step_of}
+use Rattle.vga_script.specs.Beginning.{call_at, step_of_opcode, step_of}
 use Rattle.vga_script.specs.Step.{IsInRange, AreInRange}
 use Rattle.vga_script.specs.Version.{version_byte}
 use Rattle.vga_script.specs.Spelling.{header, opcode_repeat, opcode_end, spelling, item_spelling, encoding, SpellsSteps, SpellsItems, Spells}
@@ -80,7 +80,7 @@ pub some_byte : (s : Step) (x : List ℕ) → IsInRange s → spelling s ++ x �
 some_byte s x fits e = no_step (s, x) (sym (ap step_of e) ∙ step_back s x fits)
 
 -- no step begins with an opcode that is none
-pub no_step_of : (opcode : ℕ) (more : List ℕ) (s : Step) (x : List ℕ) → IsInRange s → step_with opcode more ≡ None → opcode ∷ more ≡ spelling s ++ x → ⊥
+pub no_step_of : (opcode : ℕ) (more : List ℕ) (s : Step) (x : List ℕ) → IsInRange s → step_of_opcode opcode more ≡ None → opcode ∷ more ≡ spelling s ++ x → ⊥
 no_step_of opcode more s x fits none e = not_both (step_of (spelling s ++ x)) (s, x) (step_back s x fits) (sym (ap step_of e) ∙ none)
 
 -- steps that bytes spell are in range, and the bytes are theirs

@@ -4,7 +4,7 @@ use Rattle.vga_script.specs.declared.step.Step.{Step}
 use Rattle.vga_script.specs.Item.{Item, Once, Repeated, expanded, step_limit}
 use Rattle.vga_script.specs.declared.version.Version.{Version}
 use Rattle.vga_script.specs.Tokens.{words}
-use Rattle.vga_script.specs.Text.{SpellsLine, SpellsLines, SpellsRepeat, IsEnd, Group, IsGroup, IsBadOutside, IsBadInside, OpensLines, IsGroupFault}
+use Rattle.vga_script.specs.Text.{SpellsLine, SpellsLines, SpellsRepeat, IsRepeatEndLine, Group, IsGroup, IsBadOutside, IsBadInside, StandsInRepeatLines, IsGroupFault}
 use Rattle.vga_script.proofs.LineLemmas.{one_line, one_lines}
 use Rattle.vga_script.proofs.RepeatLineLemmas.{one_count, step_or_repeat, step_or_end}
 
@@ -19,7 +19,7 @@ one_record g h p q = ap (λ (l : List (List ℕ)). group_of l g.items) p ∙ ap 
 
 -- neither a step nor the end of a repeat stands in the first of these lines, or there is none
 pub record StopsLines (ls : List (List ℕ)) : Type 0 where
-  pub no_end : (line : List ℕ) (others : List (List ℕ)) → ls ≡ line ∷ others → IsEnd (words line) → ⊥
+  pub no_end : (line : List ℕ) (others : List (List ℕ)) → ls ≡ line ∷ others → IsRepeatEndLine (words line) → ⊥
   pub no_start : (line : List ℕ) (others : List (List ℕ)) (steps : List Step) → ls ≡ line ∷ others → SpellsLine (words line) steps → ⊥
 
 first_is : (line other : List ℕ) (ls rest : List (List ℕ)) → line ∷ rest ≡ other ∷ ls → line ≡ other
@@ -27,7 +27,7 @@ first_is line other ls rest e = cc
 
 bad_stops : (line : List ℕ) (others : List (List ℕ)) → IsBadInside line → StopsLines (line ∷ others)
 bad_stops line others (none, no_end) = record {
-  no_end = λ other rest e is. no_end (subst (λ (l : List ℕ). IsEnd (words l)) (sym (first_is line other rest others e)) is);
+  no_end = λ other rest e is. no_end (subst (λ (l : List ℕ). IsRepeatEndLine (words l)) (sym (first_is line other rest others e)) is);
   no_start = λ other rest steps e is. none steps (subst (λ (l : List ℕ). SpellsLine (words l) steps) (sym (first_is line other rest others e)) is);
 }
 
@@ -39,16 +39,16 @@ end_stops = record { no_end = λ line rest e is. nothing line rest e; no_start =
 
 -- two bodies of repeats that end are one
 one_body : (body body' : List (List ℕ)) (steps steps' : List Step) (last last' : List ℕ) (x y : List (List ℕ)) → SpellsLines body steps →
-    SpellsLines body' steps' → IsEnd (words last) → IsEnd (words last')
+    SpellsLines body' steps' → IsRepeatEndLine (words last) → IsRepeatEndLine (words last')
     → body ++ last ∷ x ≡ body' ++ last' ∷ y → (body ≡ body') × (last ≡ last') × (x ≡ y)
 one_body [] [] steps steps' last last' x y p q ends ends' e =
     let same : last ≡ last' = cc in
     let rest : x ≡ y = cc in
     (refl, same, rest)
 one_body [] (b ∷ body') steps steps' last last' x y p (here, after, is, line, more) ends ends' e =
-    let same : last ≡ b = cc in absurd (step_or_end (words b) here line (subst (λ (l : List ℕ). IsEnd (words l)) same ends))
+    let same : last ≡ b = cc in absurd (step_or_end (words b) here line (subst (λ (l : List ℕ). IsRepeatEndLine (words l)) same ends))
 one_body (b ∷ body) [] steps steps' last last' x y (here, after, is, line, more) q ends ends' e =
-    let same : last' ≡ b = cc in absurd (step_or_end (words b) here line (subst (λ (l : List ℕ). IsEnd (words l)) same ends'))
+    let same : last' ≡ b = cc in absurd (step_or_end (words b) here line (subst (λ (l : List ℕ). IsRepeatEndLine (words l)) same ends'))
 one_body (b ∷ body) (c ∷ body') steps steps' last last' x y (here, after, is, line, more) (here', after', is', line', more') ends ends' e =
     let same : b ≡ c = cc in
     let tails : body ++ last ∷ x ≡ body' ++ last' ∷ y = cc in
@@ -57,12 +57,12 @@ one_body (b ∷ body) (c ∷ body') steps steps' last last' x y (here, after, is
 
 -- one that stops has no end
 stop_or_end : (body body' : List (List ℕ)) (steps steps' : List Step) (last : List ℕ) (rest x : List (List ℕ)) → SpellsLines body steps →
-    SpellsLines body' steps' → IsEnd (words last) → StopsLines rest
+    SpellsLines body' steps' → IsRepeatEndLine (words last) → StopsLines rest
     → body ++ rest ≡ body' ++ last ∷ x → ⊥
 stop_or_end [] [] steps steps' last rest x p q ends stops e = stops.no_end last x e ends
 stop_or_end [] (c ∷ body') steps steps' last rest x p (here, after, is, line, more) ends stops e = stops.no_start c (body' ++ last ∷ x) here e line
 stop_or_end (b ∷ body) [] steps steps' last rest x (here, after, is, line, more) q ends stops e =
-    let same : last ≡ b = cc in absurd (step_or_end (words b) here line (subst (λ (l : List ℕ). IsEnd (words l)) same ends))
+    let same : last ≡ b = cc in absurd (step_or_end (words b) here line (subst (λ (l : List ℕ). IsRepeatEndLine (words l)) same ends))
 stop_or_end (b ∷ body) (c ∷ body') steps steps' last rest x (here, after, is, line, more) (here', after', is', line', more') ends stops e =
     let tails : body ++ rest ≡ body' ++ last ∷ x = cc in stop_or_end body body' after after' last rest x more more' ends stops tails
 
@@ -128,7 +128,7 @@ some_line version g x (inr (allowed, (first, count, body, steps, last, ls, is, b
 -- ---- the faults of a group
 
 -- a repeat whose body stops
-opens_or_group : (version : Version) (ls rest x : List (List ℕ)) (place : ℕ) (g : Group) → OpensLines version ls place rest → StopsLines rest →
+opens_or_group : (version : Version) (ls rest x : List (List ℕ)) (place : ℕ) (g : Group) → StandsInRepeatLines version ls place rest → StopsLines rest →
     IsGroup version g → ls ≡ g.lines ++ x → ⊥
 opens_or_group version ls rest x place g h stops (inl (line, steps, is, items, good)) e =
     line_or_repeat line h.first x (h.body ++ rest) steps h.count (sym (goes g (line ∷ []) x ls is e) ∙ h.whole) good h.begins
@@ -148,13 +148,13 @@ bad_or_group version ls others x line g prefix (none, no_repeat) (inr (allowed, 
     let same : first ≡ line = cc in no_repeat allowed count (subst (λ (l : List ℕ). SpellsRepeat (words l) count) same begins)
 
 bad_or_open : (version : Version) (ls others rest : List (List ℕ)) (line : List ℕ) (place : ℕ) → ls ≡ line ∷ others → IsBadOutside version line →
-    OpensLines version ls place rest → ⊥
+    StandsInRepeatLines version ls place rest → ⊥
 bad_or_open version ls others rest line place prefix (none, no_repeat) h =
     let both : line ∷ others ≡ h.first ∷ (h.body ++ rest) = sym prefix ∙ h.whole in
     let same : h.first ≡ line = cc in no_repeat h.allowed h.count (subst (λ (l : List ℕ). SpellsRepeat (words l) h.count) same h.begins)
 
 -- two repeats that stop
-one_open : (version : Version) (ls rest rest' : List (List ℕ)) (place place' : ℕ) → OpensLines version ls place rest → OpensLines version ls place' rest' →
+one_open : (version : Version) (ls rest rest' : List (List ℕ)) (place place' : ℕ) → StandsInRepeatLines version ls place rest → StandsInRepeatLines version ls place' rest' →
     StopsLines rest → StopsLines rest' → (place ≡ place') × (rest ≡ rest')
 one_open version ls rest rest' place place' h h' stops stops' =
     let both : h.first ∷ (h.body ++ rest) ≡ h'.first ∷ (h'.body ++ rest') = sym h.whole ∙ h'.whole in

@@ -5,11 +5,11 @@ use Rattle.byteorder.specs.Endian.{little_bytes, little_number}
 use Rattle.vga_bits.specs.declared.fault.Fault.{Fault}
 use Rattle.vga_bits.specs.declared.fault.Fault.TheVariants as fault
 use Rattle.vga_script.specs.declared.step.Step.{Step}
-use Rattle.vga_script.specs.Item.{Item, Once, Repeated, step_limit, steps_of}
+use Rattle.vga_script.specs.Item.{Item, Once, Repeated, step_limit, steps_of_item}
 use Rattle.vga_script.specs.declared.version.Version.{Version}
 use Rattle.vga_script.specs.Step.{IsInRange}
 use Rattle.vga_script.specs.Spelling.{opcode_repeat, opcode_end, spelling, StartsWithItem}
-use Rattle.vga_script.specs.Decoding.{HasStepsBefore, OpensRepeat, StartsWithCutStep, StartsWithBadItem, StartsWithCutItem, StartsWithBadBody, IsItemFault}
+use Rattle.vga_script.specs.Decoding.{HasStepsBefore, StandsInRepeat, StartsWithCutStep, StartsWithBadItem, StartsWithCutItem, StartsWithBadBody, IsItemFault}
 use Rattle.vga_script.proofs.FieldLemmas.{two_back}
 use Rattle.vga_script.proofs.PrefixLemmas.{Compared, compare}
 use Rattle.vga_script.proofs.GrammarLemmas.{one_step, some_byte, no_step_of, steps_range, spelled_steps, one_item, some_item_byte}
@@ -64,11 +64,11 @@ InsideOf offset place rest f =
 
 -- a repeat that is open where its body stops
 abbrev pub Inside : Version → ℕ → List ℕ → Fault → Type 0
-Inside version offset bytes f = (place : ℕ) × (rest : List ℕ) × OpensRepeat version bytes place rest × InsideOf offset place rest f
+Inside version offset bytes f = (place : ℕ) × (rest : List ℕ) × StandsInRepeat version bytes place rest × InsideOf offset place rest f
 
 -- with an item there are more steps than a script may mean
 abbrev pub Exceeds : Version → ℕ → List ℕ → Type 0
-Exceeds version so_far bytes = (first : Item) × (rest : List ℕ) × StartsWithItem version bytes first rest × (step_limit < so_far + length (steps_of first))
+Exceeds version so_far bytes = (first : Item) × (rest : List ℕ) × StartsWithItem version bytes first rest × (step_limit < so_far + length (steps_of_item first))
 
 -- the four kinds of an item's fault
 abbrev pub Kinds : Version → ℕ → ℕ → List ℕ → Fault → Type 0
@@ -99,7 +99,7 @@ bad_or_cut version bytes (inl (bad, none)) (inr (allowed, (rest, e, short))) = n
 bad_or_cut version bytes (inr (allowed, (rest, e))) (inl cut) = not_cut_at opcode_repeat _ bytes refl e cut
 bad_or_cut version bytes (inr (allowed, (rest, e))) (inr (allowed', (rest', e', short))) = let l = ap length (sym e ∙ e') in absurd (omega arith)
 
-bad_or_open : (version : Version) (bytes rest : List ℕ) (place : ℕ) → StartsWithBadItem version bytes → OpensRepeat version bytes place rest → ⊥
+bad_or_open : (version : Version) (bytes rest : List ℕ) (place : ℕ) → StartsWithBadItem version bytes → StandsInRepeat version bytes place rest → ⊥
 bad_or_open version bytes rest place (inl (bad, none)) h = none (h.allowed, (_, h.whole))
 bad_or_open version bytes rest place (inr (allowed, (x, e))) h =
     let zero_is = count_back 0 x bytes (omega arith) e in
@@ -107,7 +107,7 @@ bad_or_open version bytes rest place (inr (allowed, (x, e))) h =
     let some = h.some in absurd (omega arith)
 
 -- and one that is cut off opens none
-cut_or_open : (version : Version) (bytes rest : List ℕ) (place : ℕ) → StartsWithCutItem version bytes → OpensRepeat version bytes place rest → ⊥
+cut_or_open : (version : Version) (bytes rest : List ℕ) (place : ℕ) → StartsWithCutItem version bytes → StandsInRepeat version bytes place rest → ⊥
 cut_or_open version bytes rest place (inl cut) h = not_cut_at opcode_repeat _ bytes refl h.whole cut
 cut_or_open version bytes rest place (inr (allowed, (x, e, short))) h = let l = ap length (sym e ∙ h.whole) in absurd (omega arith)
 
@@ -126,7 +126,7 @@ cut_or_item version bytes (Repeated n ss) x (inl cut) (fits, e) = not_cut_at opc
 cut_or_item version bytes (Once s) x (inr (allowed, (rest, prefix, short))) (fits, e) = no_step_of opcode_repeat _ s x fits refl (sym prefix ∙ e)
 cut_or_item version bytes (Repeated n ss) x (inr (allowed, (rest, prefix, short))) (fits, e) = let l = ap length (sym prefix ∙ e) in absurd (omega arith)
 
-open_or_item : (version : Version) (bytes rest : List ℕ) (place : ℕ) (i : Item) (x : List ℕ) → OpensRepeat version bytes place rest → StopsBody rest →
+open_or_item : (version : Version) (bytes rest : List ℕ) (place : ℕ) (i : Item) (x : List ℕ) → StandsInRepeat version bytes place rest → StopsBody rest →
     StartsWithItem version bytes i x → ⊥
 open_or_item version bytes rest place (Once s) x h stops (fits, e) = no_step_of opcode_repeat _ s x fits refl (sym h.whole ∙ e)
 open_or_item version bytes rest place (Repeated n ss) x h stops ((allowed, some, small, range), e) =
@@ -138,14 +138,14 @@ open_or_item version bytes rest place (Repeated n ss) x h stops ((allowed, some,
 -- so where an item begins, within the limit, there is no fault
 pub item_or_kind : (version : Version) (so_far offset : ℕ) (bytes : List ℕ) (f : Fault) (i : Item) (x : List ℕ) → Kinds version so_far offset bytes f →
     StartsWithItem version bytes i x
-    → so_far + length (steps_of i) ≤ step_limit → ⊥
+    → so_far + length (steps_of_item i) ≤ step_limit → ⊥
 item_or_kind version so_far offset bytes f i x (inl (is, bad)) starts few = bad_or_item version bytes i x bad starts
 item_or_kind version so_far offset bytes f i x (inr (inl (is, cut))) starts few = cut_or_item version bytes i x cut starts
 item_or_kind version so_far offset bytes f i x (inr (inr (inl (place, rest, h, inside)))) starts few =
     open_or_item version bytes rest place i x h (inside_stops offset place rest f inside) starts
 item_or_kind version so_far offset bytes f i x (inr (inr (inr (is, (first, rest, (fits', e'), long))))) (fits, e) few =
     let same = one_item version i first x rest fits fits' (sym e ∙ e') in
-    let len = ap (λ (j : Item). length (steps_of j)) same.0 in absurd (omega arith)
+    let len = ap (λ (j : Item). length (steps_of_item j)) same.0 in absurd (omega arith)
 
 -- two bodies that stop have one fault
 same_inside : (offset place place' : ℕ) (rest rest' : List ℕ) (f g : Fault) → place ≡ place' → rest ≡ rest' → InsideOf offset place rest f →

@@ -2,7 +2,7 @@
 use Rattle.std.proofs.Common.{◌≡◌, ℕ, zero, suc, ◌+◌, ◌*◌, ◌-◌, ◌<◌, List, [], ◌∷◌, ◌++◌, length, refl, sym, ap, ◌∙◌, arith, length-append, suc-mul}
 use Rattle.std.proofs.Common.{append_assoc}
 use Rattle.vga_script.specs.declared.step.Step.{Step}
-use Rattle.vga_script.specs.Item.{Item, Once, Repeated, Listing, listing, repeated, steps_of, expanded, IsItemOf, AreItemsOf}
+use Rattle.vga_script.specs.Item.{Item, Once, Repeated, Listing, script_of_items, repeated, steps_of_item, expanded, IsItemOf, AreItemsOf}
 use Rattle.vga_script.specs.declared.version.Version.{Version}
 use Rattle.vga_script.specs.declared.version.Version.TheVariants.{One, Two}
 use Rattle.vga_script.specs.Step.{AreInRange}
@@ -41,20 +41,20 @@ repeated_less (suc times) steps some = let e : suc times - 1 ≡ times = omega a
 -- items one after another
 pub expanded-append : (a b : List Item) → expanded (a ++ b) ≡ expanded a ++ expanded b
 expanded-append [] b = refl
-expanded-append (i ∷ a) b = ap (λ (l : List Step). steps_of i ++ l) (expanded-append a b) ∙ sym (append_assoc (steps_of i) (expanded a) (expanded b))
+expanded-append (i ∷ a) b = ap (λ (l : List Step). steps_of_item i ++ l) (expanded-append a b) ∙ sym (append_assoc (steps_of_item i) (expanded a) (expanded b))
 
 -- an item, and others after it
 pub length-expanded-append : (a b : List Item) → length (expanded (a ++ b)) ≡ length (expanded a) + length (expanded b)
 length-expanded-append a b = ap length (expanded-append a b) ∙ length-append (expanded a) (expanded b)
 
-pub length-expanded-cons : (i : Item) (b : List Item) → length (expanded (i ∷ b)) ≡ length (steps_of i) + length (expanded b)
-length-expanded-cons i b = length-append (steps_of i) (expanded b)
+pub length-expanded-cons : (i : Item) (b : List Item) → length (expanded (i ∷ b)) ≡ length (steps_of_item i) + length (expanded b)
+length-expanded-cons i b = length-append (steps_of_item i) (expanded b)
 
 -- the last item
-pub length-expanded-push : (a : List Item) (i : Item) → length (expanded (a ++ i ∷ [])) ≡ length (expanded a) + length (steps_of i)
+pub length-expanded-push : (a : List Item) (i : Item) → length (expanded (a ++ i ∷ [])) ≡ length (expanded a) + length (steps_of_item i)
 length-expanded-push a i =
     let whole = length-expanded-append a (i ∷ []) in
-    let last = length-append (steps_of i) [] in omega arith
+    let last = length-append (steps_of_item i) [] in omega arith
 
 -- ---- ranges
 
@@ -69,13 +69,13 @@ range_repeated zero steps all = tt
 range_repeated (suc times) steps all = range-append steps (repeated times steps) all (range_repeated times steps all)
 
 -- what an item means is in range
-range_of : (version : Version) (i : Item) → IsItemOf version i → AreInRange (steps_of i)
+range_of : (version : Version) (i : Item) → IsItemOf version i → AreInRange (steps_of_item i)
 range_of version (Once step) fits = (fits, tt)
 range_of version (Repeated count steps) (allowed, some, small, range) = range_repeated count steps range
 
 pub expanded_in_range : (version : Version) (items : List Item) → AreItemsOf version items → AreInRange (expanded items)
 expanded_in_range version [] all = tt
-expanded_in_range version (i ∷ items) (fits, others) = range-append (steps_of i) (expanded items) (range_of version i fits)
+expanded_in_range version (i ∷ items) (fits, others) = range-append (steps_of_item i) (expanded items) (range_of version i fits)
     (expanded_in_range version items others)
 
 -- ---- versions
@@ -99,4 +99,4 @@ one_version Two Two e = refl
 
 -- a listing is its version and its items
 pub one_listing : (first second : Listing) → first.version ≡ second.version → first.items ≡ second.items → first ≡ second
-one_listing first second p q = ap (λ (v : Version). listing v first.items) p ∙ ap (λ (i : List Item). listing second.version i) q
+one_listing first second p q = ap (λ (v : Version). script_of_items v first.items) p ∙ ap (λ (i : List Item). script_of_items second.version i) q

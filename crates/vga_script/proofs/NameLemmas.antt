@@ -2,10 +2,10 @@
 use Rattle.std.proofs.Common.{◌≡◌, ◌≢◌, ℕ, ◌↔◌, Bool, true, false, cond, List, [], ◌∷◌, IsTrue, Option, Some, None, refl, sym, ap, ◌∙◌, codes}
 use Rattle.std.specs.Str.{bytes_eq}
 use Rattle.std.proofs.lemmas.Slice.Eq.{bytes_eq-Decides}
-use Rattle.vga_script.specs.Tokens.{lowered}
+use Rattle.vga_script.specs.Tokens.{in_lower_case}
 use Rattle.vga_script.specs.declared.keyword.Keyword.{Keyword}
 use Rattle.vga_script.specs.declared.keyword.Keyword.TheVariants as keyword
-use Rattle.vga_script.specs.Text.{name_of}
+use Rattle.vga_script.specs.Text.{keyword_name}
 use Rattle.vga_script.proofs.OptionLemmas.{some_is}
 
 -- two tests that pass together are one
@@ -16,18 +16,18 @@ same_bool false true f g = g refl
 same_bool false false f g = refl
 
 -- a comparison without case is that of the words in lower case
-pub same_name : (word name : List ℕ) (r : Bool) → lowered name ≡ name → (IsTrue r ↔ (lowered word ≡ lowered name)) → r ≡ bytes_eq (lowered word) name
+pub same_name : (word name : List ℕ) (r : Bool) → in_lower_case name ≡ name → (IsTrue r ↔ (in_lower_case word ≡ in_lower_case name)) → r ≡ bytes_eq (in_lower_case word) name
 same_name word name r lower same =
-    same_bool r (bytes_eq (lowered word) name) (λ h. (bytes_eq-Decides (lowered word) name).1 (same.0 h ∙ lower)) (λ h.
-    same.1 ((bytes_eq-Decides (lowered word) name).0 h ∙ sym lower))
+    same_bool r (bytes_eq (in_lower_case word) name) (λ h. (bytes_eq-Decides (in_lower_case word) name).1 (same.0 h ∙ lower)) (λ h.
+    same.1 ((bytes_eq-Decides (in_lower_case word) name).0 h ∙ sym lower))
 
 -- a word that is this name
-pub named : (word name : List ℕ) → bytes_eq (lowered word) name ≡ true → lowered word ≡ name
-named word name e = (bytes_eq-Decides (lowered word) name).0 e
+pub named : (word name : List ℕ) → bytes_eq (in_lower_case word) name ≡ true → in_lower_case word ≡ name
+named word name e = (bytes_eq-Decides (in_lower_case word) name).0 e
 
 -- and one that is not
-pub unnamed : (word name : List ℕ) → bytes_eq (lowered word) name ≡ false → lowered word ≢ name
-unnamed word name e same = let yes = (bytes_eq-Decides (lowered word) name).1 same in absurd (cc)
+pub unnamed : (word name : List ℕ) → bytes_eq (in_lower_case word) name ≡ false → in_lower_case word ≢ name
+unnamed word name e same = let yes = (bytes_eq-Decides (in_lower_case word) name).1 same in absurd (cc)
 
 -- ---- what holds of each name of a step
 
@@ -49,26 +49,26 @@ each P h keyword.Show = h.11
 -- the keyword of a name
 keyword_at : List Keyword → List ℕ → Option Keyword
 keyword_at [] w = None
-keyword_at (k ∷ ks) w = cond (bytes_eq w (name_of k)) (Some k) (keyword_at ks w)
+keyword_at (k ∷ ks) w = cond (bytes_eq w (keyword_name k)) (Some k) (keyword_at ks w)
 
 all : List Keyword
 all = keyword.Out ∷ keyword.OutWord ∷ keyword.In ∷ keyword.InWord ∷ keyword.Put ∷ keyword.PutWord ∷ keyword.Get ∷ keyword.GetWord ∷ keyword.Int
     ∷ keyword.Advance ∷ keyword.Frame ∷ keyword.Show ∷ []
 
-keyword_back : (k : Keyword) → keyword_at all (name_of k) ≡ Some k
+keyword_back : (k : Keyword) → keyword_at all (keyword_name k) ≡ Some k
 unfolding keyword_at all
-keyword_back k = each (λ k. keyword_at all (name_of k) ≡ Some k) (refl, refl, refl, refl, refl, refl, refl, refl, refl, refl, refl, refl) k
+keyword_back k = each (λ k. keyword_at all (keyword_name k) ≡ Some k) (refl, refl, refl, refl, refl, refl, refl, refl, refl, refl, refl, refl) k
 
 -- no two keywords have one name
-pub one_name : (j k : Keyword) → name_of j ≡ name_of k → j ≡ k
+pub one_name : (j k : Keyword) → keyword_name j ≡ keyword_name k → j ≡ k
 one_name j k e = some_is j k (sym (keyword_back j) ∙ ap (keyword_at all) e ∙ keyword_back k)
 
 -- and none has the name of another line
-pub repeat_unnamed : (k : Keyword) → bytes_eq (name_of k) (codes "repeat") ≡ false
-repeat_unnamed k = each (λ k. bytes_eq (name_of k) (codes "repeat") ≡ false) (refl, refl, refl, refl, refl, refl, refl, refl, refl, refl, refl, refl) k
+pub repeat_unnamed : (k : Keyword) → bytes_eq (keyword_name k) (codes "repeat") ≡ false
+repeat_unnamed k = each (λ k. bytes_eq (keyword_name k) (codes "repeat") ≡ false) (refl, refl, refl, refl, refl, refl, refl, refl, refl, refl, refl, refl) k
 
-pub end_unnamed : (k : Keyword) → bytes_eq (name_of k) (codes "end") ≡ false
-end_unnamed k = each (λ k. bytes_eq (name_of k) (codes "end") ≡ false) (refl, refl, refl, refl, refl, refl, refl, refl, refl, refl, refl, refl) k
+pub end_unnamed : (k : Keyword) → bytes_eq (keyword_name k) (codes "end") ≡ false
+end_unnamed k = each (λ k. bytes_eq (keyword_name k) (codes "end") ≡ false) (refl, refl, refl, refl, refl, refl, refl, refl, refl, refl, refl, refl) k
 
-pub version_unnamed : (k : Keyword) → bytes_eq (name_of k) (codes "version") ≡ false
-version_unnamed k = each (λ k. bytes_eq (name_of k) (codes "version") ≡ false) (refl, refl, refl, refl, refl, refl, refl, refl, refl, refl, refl, refl) k
+pub version_unnamed : (k : Keyword) → bytes_eq (keyword_name k) (codes "version") ≡ false
+version_unnamed k = each (λ k. bytes_eq (keyword_name k) (codes "version") ≡ false) (refl, refl, refl, refl, refl, refl, refl, refl, refl, refl, refl, refl) k

@@ -8,7 +8,7 @@ use Rattle.std.proofs.Math.Nat.{le-mul_of_pos_right, pow-le-pow_right}
 use Rattle.vga_script.specs.Tokens.{IsNumeral, IsHex}
 use Rattle.vga_script.specs.Text.{SpellsHex, SpellsTwoHex}
 use Rattle.vga_script.proofs.OptionLemmas.{bind_ok, guard_ok, and_ok, and_true, some_is, le_test, le_passes, lt_test, lt_passes}
-use Rattle.vga_script.specs.StepReading.{◌>>=◌, number_from, number_of, hex_of, hex_at, one_hex, two_hex, one_decimal, ended}
+use Rattle.vga_script.specs.StepReading.{◌>>=◌, number_from, number_of_word, hex_number_of, next_hex_number, only_hex_number, only_two_hex_numbers, only_decimal_number, no_word_left}
 
 -- ---- digits after a number
 
@@ -53,13 +53,13 @@ spells_from radix most n (c ∷ cs) some all within =
 -- ---- words
 
 -- what is read of a word is spelled, and what is spelled is read
-pub number_reads : (radix most : ℕ) (w : List ℕ) (m : ℕ) → number_of radix most w ≡ Some m → IsNumeral radix w m × (m ≤ most)
-unfolding number_of
+pub number_reads : (radix most : ℕ) (w : List ℕ) (m : ℕ) → number_of_word radix most w ≡ Some m → IsNumeral radix w m × (m ≤ most)
+unfolding number_of_word
 number_reads radix most [] m e = absurd (cc)
 number_reads radix most (c ∷ cs) m e = let r = from_reads radix most 0 (c ∷ cs) m (omega arith) e in ((omega arith, r.0, r.1), r.2)
 
-pub spells_number : (radix most : ℕ) (w : List ℕ) (m : ℕ) → 0 < radix → IsNumeral radix w m → m ≤ most → number_of radix most w ≡ Some m
-unfolding number_of
+pub spells_number : (radix most : ℕ) (w : List ℕ) (m : ℕ) → 0 < radix → IsNumeral radix w m → m ≤ most → number_of_word radix most w ≡ Some m
+unfolding number_of_word
 spells_number radix most [] m some (has, all, value) within = absurd (omega arith)
 spells_number radix most (c ∷ cs) m some (has, all, value) within =
     spells_from radix most 0 (c ∷ cs) some all (rw (← value) within) ∙ ap (λ (n : ℕ). Some n) (sym value)
@@ -76,35 +76,35 @@ hex_below digits w n (short, (has, all, value)) =
     along n (digits_value 16 w) (16 ^ length w) (16 ^ digits) value below power
 
 -- the same of a hexadecimal number
-pub hex_reads : (digits most : ℕ) (w : List ℕ) (n : ℕ) → hex_of digits most w ≡ Some n → IsHex digits w n × (n ≤ most)
-unfolding hex_of
+pub hex_reads : (digits most : ℕ) (w : List ℕ) (n : ℕ) → hex_number_of digits most w ≡ Some n → IsHex digits w n × (n ≤ most)
+unfolding hex_number_of
 hex_reads digits most w n e =
-    let g = guard_ok (nat_le (length w) digits) (number_of 16 most w) n e in
+    let g = guard_ok (nat_le (length w) digits) (number_of_word 16 most w) n e in
     let r = number_reads 16 most w n g.1 in
     ((le_test _ _ g.0, r.0), r.1)
 
-pub spells_hex : (digits most : ℕ) (w : List ℕ) (n : ℕ) → IsHex digits w n → n ≤ most → hex_of digits most w ≡ Some n
-unfolding hex_of
+pub spells_hex : (digits most : ℕ) (w : List ℕ) (n : ℕ) → IsHex digits w n → n ≤ most → hex_number_of digits most w ≡ Some n
+unfolding hex_number_of
 spells_hex digits most w n (short, numeral) within =
-    ap (λ (b : Bool). cond b (number_of 16 most w) None) (le_passes _ _ short) ∙ spells_number 16 most w n (omega arith) numeral within
+    ap (λ (b : Bool). cond b (number_of_word 16 most w) None) (le_passes _ _ short) ∙ spells_number 16 most w n (omega arith) numeral within
 
 -- and of the first word of some
-pub hex_at_reads : (digits most : ℕ) (ws : List (List ℕ)) (x : ℕ × List (List ℕ)) → hex_at digits most ws ≡ Some x → (w : List ℕ) × (ws ≡ w ∷ x.1)
+pub hex_at_reads : (digits most : ℕ) (ws : List (List ℕ)) (x : ℕ × List (List ℕ)) → next_hex_number digits most ws ≡ Some x → (w : List ℕ) × (ws ≡ w ∷ x.1)
     × IsHex digits w x.0 × (x.0 ≤ most)
-unfolding hex_at
+unfolding next_hex_number
 hex_at_reads digits most [] x e = absurd (cc)
 hex_at_reads digits most (w ∷ ws) x e =
-    let b = bind_ok (hex_of digits most w) (λ n. Some (n, ws)) x e in
+    let b = bind_ok (hex_number_of digits most w) (λ n. Some (n, ws)) x e in
     let r = hex_reads digits most w b.0 b.1 in
     subst (λ (y : ℕ × List (List ℕ)). (v : List ℕ) × (w ∷ ws ≡ v ∷ y.1) × IsHex digits v y.0 × (y.0 ≤ most)) (some_is (b.0, ws) x b.2) (w, refl, r.0, r.1)
 
-pub spells_hex_at : (digits most : ℕ) (w : List ℕ) (n : ℕ) (ws : List (List ℕ)) → IsHex digits w n → n ≤ most → hex_at digits most (w ∷ ws) ≡ Some (n, ws)
-unfolding hex_at
+pub spells_hex_at : (digits most : ℕ) (w : List ℕ) (n : ℕ) (ws : List (List ℕ)) → IsHex digits w n → n ≤ most → next_hex_number digits most (w ∷ ws) ≡ Some (n, ws)
+unfolding next_hex_number
 spells_hex_at digits most w n ws hex within = rw (spells_hex digits most w n hex within) refl
 
 -- no word was left
-pub ended_ok : {A : Type 0} (ws : List (List ℕ)) (r : Option A) (y : A) → (ended ws >>= λ u. r) ≡ Some y → (ws ≡ []) × (r ≡ Some y)
-unfolding ended
+pub ended_ok : {A : Type 0} (ws : List (List ℕ)) (r : Option A) (y : A) → (no_word_left ws >>= λ u. r) ≡ Some y → (ws ≡ []) × (r ≡ Some y)
+unfolding no_word_left
 ended_ok [] r y e = (refl, e)
 ended_ok (w ∷ ws) r y e = absurd (cc)
 
@@ -115,27 +115,27 @@ pub then_words : (ws : List (List ℕ)) (word : List ℕ) (rest known : List (Li
 then_words ws word rest known e f = e ∙ ap (λ (l : List (List ℕ)). word ∷ l) f
 
 -- one number, and no other word
-pub one_hex_reads : (digits most : ℕ) (ws : List (List ℕ)) (n : ℕ) → one_hex digits most ws ≡ Some n → SpellsHex digits ws n
-unfolding one_hex
+pub one_hex_reads : (digits most : ℕ) (ws : List (List ℕ)) (n : ℕ) → only_hex_number digits most ws ≡ Some n → SpellsHex digits ws n
+unfolding only_hex_number
 one_hex_reads digits most ws n e =
-    let a = bind_ok (hex_at digits most ws) (λ x. ended x.1 >>= λ u. Some x.0) n e in
+    let a = bind_ok (next_hex_number digits most ws) (λ x. no_word_left x.1 >>= λ u. Some x.0) n e in
     let c = ended_ok a.0.1 (Some a.0.0) n a.2 in
     let p = hex_at_reads digits most ws a.0 a.1 in
     subst (SpellsHex digits ws) (some_is a.0.0 n c.1) (p.0, then_words ws p.0 a.0.1 [] p.1 c.0, p.2)
 
-pub spells_one_hex : (digits most : ℕ) (ws : List (List ℕ)) (n : ℕ) → SpellsHex digits ws n → 16 ^ digits ≤ most + 1 → one_hex digits most ws ≡ Some n
-unfolding one_hex ended
+pub spells_one_hex : (digits most : ℕ) (ws : List (List ℕ)) (n : ℕ) → SpellsHex digits ws n → 16 ^ digits ≤ most + 1 → only_hex_number digits most ws ≡ Some n
+unfolding only_hex_number no_word_left
 spells_one_hex digits most ws n (word, e, hex) room =
     let below = hex_below digits word n hex in
     rw (e, spells_hex_at digits most word n [] hex (fits n (16 ^ digits) most below room)) refl
 
 -- two numbers, and no other word
-pub two_hex_reads : (digits most digits' most' : ℕ) (ws : List (List ℕ)) (n : ℕ × ℕ) → two_hex digits most digits' most' ws ≡ Some n →
+pub two_hex_reads : (digits most digits' most' : ℕ) (ws : List (List ℕ)) (n : ℕ × ℕ) → only_two_hex_numbers digits most digits' most' ws ≡ Some n →
     SpellsTwoHex digits digits' ws n.0 n.1
-unfolding two_hex
+unfolding only_two_hex_numbers
 two_hex_reads digits most digits' most' ws n e =
-    let a = bind_ok (hex_at digits most ws) (λ x. hex_at digits' most' x.1 >>= λ y. ended y.1 >>= λ u. Some (x.0, y.0)) n e in
-    let b = bind_ok (hex_at digits' most' a.0.1) (λ y. ended y.1 >>= λ u. Some (a.0.0, y.0)) n a.2 in
+    let a = bind_ok (next_hex_number digits most ws) (λ x. next_hex_number digits' most' x.1 >>= λ y. no_word_left y.1 >>= λ u. Some (x.0, y.0)) n e in
+    let b = bind_ok (next_hex_number digits' most' a.0.1) (λ y. no_word_left y.1 >>= λ u. Some (a.0.0, y.0)) n a.2 in
     let c = ended_ok b.0.1 (Some (a.0.0, b.0.0)) n b.2 in
     let p = hex_at_reads digits most ws a.0 a.1 in
     let v = hex_at_reads digits' most' a.0.1 b.0 b.1 in
@@ -143,8 +143,8 @@ two_hex_reads digits most digits' most' ws n e =
     (p.0, v.0, then_words ws p.0 a.0.1 (v.0 ∷ []) p.1 (then_words a.0.1 v.0 b.0.1 [] v.1 c.0), p.2, v.2)
 
 pub spells_two_hex : (digits most digits' most' : ℕ) (ws : List (List ℕ)) (n m : ℕ) → SpellsTwoHex digits digits' ws n m → 16 ^ digits ≤ most + 1 →
-    16 ^ digits' ≤ most' + 1 → two_hex digits most digits' most' ws ≡ Some (n, m)
-unfolding two_hex ended
+    16 ^ digits' ≤ most' + 1 → only_two_hex_numbers digits most digits' most' ws ≡ Some (n, m)
+unfolding only_two_hex_numbers no_word_left
 spells_two_hex digits most digits' most' ws n m (word, other, e, hex, hex') room room' =
     let below = hex_below digits word n hex in
     let below' = hex_below digits' other m hex' in
@@ -155,13 +155,13 @@ spells_two_hex digits most digits' most' ws n m (word, other, e, hex, hex') room
     ) refl
 
 -- one decimal number, and no other word
-pub one_decimal_reads : (most : ℕ) (ws : List (List ℕ)) (n : ℕ) → one_decimal most ws ≡ Some n → (word : List ℕ) × (ws ≡ word ∷ []) × IsNumeral 10 word n
+pub one_decimal_reads : (most : ℕ) (ws : List (List ℕ)) (n : ℕ) → only_decimal_number most ws ≡ Some n → (word : List ℕ) × (ws ≡ word ∷ []) × IsNumeral 10 word n
     × (n ≤ most)
-unfolding one_decimal
+unfolding only_decimal_number
 one_decimal_reads most [] n e = absurd (cc)
 one_decimal_reads most (w ∷ ws) n e =
-    let x = bind_ok (number_of 10 most w >>= λ m. Some (m, ws)) (λ x. ended x.1 >>= λ u. Some x.0) n e in
-    let b = bind_ok (number_of 10 most w) (λ m. Some (m, ws)) x.0 x.1 in
+    let x = bind_ok (number_of_word 10 most w >>= λ m. Some (m, ws)) (λ x. no_word_left x.1 >>= λ u. Some x.0) n e in
+    let b = bind_ok (number_of_word 10 most w) (λ m. Some (m, ws)) x.0 x.1 in
     let same = some_is (b.0, ws) x.0 b.2 in
     let c = ended_ok x.0.1 (Some x.0.0) n x.2 in
     let r = number_reads 10 most w b.0 b.1 in
@@ -170,6 +170,6 @@ one_decimal_reads most (w ∷ ws) n e =
     subst (λ (x : ℕ). (word : List ℕ) × (w ∷ ws ≡ word ∷ []) × IsNumeral 10 word x × (x ≤ most)) value
     (w, then_words (w ∷ ws) w ws [] refl none, r.0, r.1)
 
-pub spells_one_decimal : (most : ℕ) (w : List ℕ) (n : ℕ) → IsNumeral 10 w n → n ≤ most → one_decimal most (w ∷ []) ≡ Some n
-unfolding one_decimal ended
+pub spells_one_decimal : (most : ℕ) (w : List ℕ) (n : ℕ) → IsNumeral 10 w n → n ≤ most → only_decimal_number most (w ∷ []) ≡ Some n
+unfolding only_decimal_number no_word_left
 spells_one_decimal most w n numeral within = rw (spells_number 10 most w n (omega arith) numeral within) refl

@@ -3,7 +3,7 @@ use Rattle.std.proofs.Common.{◌≡◌, ℕ, ◌<◌, ◌≤◌, List, [], ◌�
 use Rattle.std.specs.List.{join_with_byte}
 use Rattle.hex.specs.Hex.{encode_upper}
 use Rattle.vga_bits.specs.Hex.{hex}
-use Rattle.vga_script.specs.Printing.{line_of, printed_line}
+use Rattle.vga_script.specs.Printing.{line_of_words, printed_line}
 use Rattle.vga_script.specs.declared.step.Step.TheVariants.{Int}
 
 -- the text of the registers
@@ -18,14 +18,14 @@ regroup a b c d e = simp append_assoc
 -- the line of a call with no block
 pub call_line : (ax bx cx dx : ℕ) (block text : List ℕ) → length block ≤ 0
     → text ≡ registers ax bx cx dx → printed_line (Int ax bx cx dx block) ≡ text ++ 10 ∷ []
-unfolding line_of
+unfolding line_of_words
 call_line ax bx cx dx [] text none e = rw e refl
 call_line ax bx cx dx (b ∷ bs) text none e = absurd (omega arith)
 
 -- and of one with a block
 pub block_line : (ax bx cx dx : ℕ) (block text : List ℕ) → 0 < length block
     → text ≡ registers ax bx cx dx → printed_line (Int ax bx cx dx block) ≡ text ++ (codes " block " ++ (encode_upper block ++ 10 ∷ []))
-unfolding line_of
+unfolding line_of_words
 block_line ax bx cx dx [] text some e = absurd (omega arith)
 block_line ax bx cx dx (b ∷ bs) text some e =
     rw e

@@ -23,17 +23,17 @@ use Rattle.vga_script.specs.declared.step.Step.{Step}
 use Rattle.vga_script.specs.declared.step.Step.TheVariants.{Out, OutWord, In, InWord, Put, PutWord, Get, GetWord, Int, Advance, Frame, Show}
 use Rattle.vga_script.specs.declared.dump_range.Shown.{Shown}
 use Rattle.vga_script.specs.declared.dump_range.Shown.TheVariants as shown
-use Rattle.vga_script.specs.Tokens.{is_blank, is_semicolon, is_newline, has_bytes, words_in, words, lines, lowered, IsNumeral, IsHex}
-use Rattle.vga_script.specs.Text.{name_of, keyword_of, shown_name, SpellsHex, SpellsTwoHex, SpellsRegister, SpellsBlock, SpellsShown, SpellsFields, SpellsLine}
-use Rattle.vga_script.specs.Text.{SpellsLines, SpellsRepeat, IsEnd, IsVersionTwo, Group, IsGroup, SpellsGroups, SpellsText}
-use Rattle.vga_script.specs.Item.{Item, Once, Repeated, Listing, listing, expanded, step_limit, IsItemOf, AreItemsOf}
+use Rattle.vga_script.specs.Tokens.{is_blank, is_semicolon, is_newline, has_bytes, words_between_blanks, words, lines, in_lower_case, IsNumeral, IsHex}
+use Rattle.vga_script.specs.Text.{keyword_name, keyword_of, shown_name, SpellsHex, SpellsTwoHex, SpellsRegister, SpellsBlock, SpellsShown, SpellsFields, SpellsLine}
+use Rattle.vga_script.specs.Text.{SpellsLines, SpellsRepeat, IsRepeatEndLine, IsVersionTwo, Group, IsGroup, SpellsGroups, SpellsText}
+use Rattle.vga_script.specs.Item.{Item, Once, Repeated, Listing, script_of_items, expanded, step_limit, IsItemOf, AreItemsOf}
 use Rattle.vga_script.specs.declared.version.Version.{Version}
 use Rattle.vga_script.specs.declared.version.Version.TheVariants.{One, Two}
 use Rattle.vga_script.specs.DumpRange.{IsShownInRange}
 use Rattle.vga_script.specs.Step.{IsBlock, IsInRange, AreInRange}
 use Rattle.vga_bits.specs.Hex.{hex, hex_digit}
-use Rattle.vga_script.specs.Printing.{port_text, address_text, block_words, shown_field_words, words_after_name, printed_words, line_of, printed_line, printed_steps}
-use Rattle.vga_script.specs.Printing.{printed_item, version_line, printed}
+use Rattle.vga_script.specs.Printing.{port_text, address_text, block_words, shown_field_words, words_after_name, printed_words, line_of_words, printed_line, printed_steps}
+use Rattle.vga_script.specs.Printing.{printed_item, version_line, printed_script}
 
 -- ---- digits
 
@@ -194,7 +194,7 @@ before_none p xs none =
 words_join : (ws : List (List ℕ)) → AreWords ws → words (join_with_byte 32 ws) ≡ ws
 words_join [] h = refl
 words_join (w ∷ ws) h =
-    ap words_in (before_none is_semicolon (join_with_byte 32 (w ∷ ws)) (join_none is_semicolon no_semicolon refl (w ∷ ws) h))
+    ap words_between_blanks (before_none is_semicolon (join_with_byte 32 (w ∷ ws)) (join_none is_semicolon no_semicolon refl (w ∷ ws) h))
     ∙ ap (filter has_bytes) (split_join w ws h) ∙ keep_words (w ∷ ws) h
 
 -- and its line ends at its newline
@@ -271,7 +271,7 @@ register_word name v ws some within more =
     let l = length-append name (hex 4 v) in
     (omega arith, word-append name (hex 4 v) (word_by_test name within) (hex_of_word 4 v), more)
 
-register_text : (name : List ℕ) (v : ℕ) → lowered name ≡ name → v < 2 ^ 16 → SpellsRegister name ((name ++ hex 4 v) ∷ []) v
+register_text : (name : List ℕ) (v : ℕ) → in_lower_case name ≡ name → v < 2 ^ 16 → SpellsRegister name ((name ++ hex 4 v) ∷ []) v
 register_text name v lower small = inr (name, hex 4 v, refl, lower, spells_exact 4 v (omega arith) (omega arith))
 
 -- the words of a step's fields are words, and spell its fields
@@ -367,7 +367,7 @@ fields_print Frame h = (tt, refl)
 fields_print (Show what) h = shown_prints what h
 
 -- a name is a word, in lower case
-name_prints : (k : Keyword) → (0 < length (name_of k)) × (list_all is_word_byte (name_of k) ≡ true) × (lowered (name_of k) ≡ name_of k)
+name_prints : (k : Keyword) → (0 < length (keyword_name k)) × (list_all is_word_byte (keyword_name k) ≡ true) × (in_lower_case (keyword_name k) ≡ keyword_name k)
 name_prints keyword.Out = (omega arith, refl, refl)
 name_prints keyword.OutWord = (omega arith, refl, refl)
 name_prints keyword.In = (omega arith, refl, refl)
@@ -386,11 +386,11 @@ step_words : (s : Step) → IsInRange s → AreWords (printed_words s) × Spells
 step_words s fits =
     let n = name_prints (keyword_of s) in
     let f = fields_print s fits in
-    ((n.0, word_by_test (name_of (keyword_of s)) n.1, f.0), (s, refl, n.2, f.1))
+    ((n.0, word_by_test (keyword_name (keyword_of s)) n.1, f.0), (s, refl, n.2, f.1))
 
 -- the line of some words is theirs, and ends at its newline
-words_line : (ws : List (List ℕ)) (rest : List ℕ) → AreWords ws → lines (line_of ws ++ rest) ≡ join_with_byte 32 ws ∷ lines rest
-unfolding line_of
+words_line : (ws : List (List ℕ)) (rest : List ℕ) → AreWords ws → lines (line_of_words ws ++ rest) ≡ join_with_byte 32 ws ∷ lines rest
+unfolding line_of_words
 words_line ws rest h = lines_join ws rest h
 
 -- the line of a step, before its newline
@@ -428,7 +428,7 @@ repeat_prints count some small =
       (codes "repeat", decimal count, refl, refl, d.0, some, small),
     )
 
-end_prints : AreWords end_words × IsEnd end_words
+end_prints : AreWords end_words × IsRepeatEndLine end_words
 end_prints = ((omega arith, word_by_test (codes "end") refl, tt), (codes "end", refl, refl))
 
 -- the lines of an item
@@ -456,7 +456,7 @@ group_spells version (Repeated count steps) (allowed, some, small, range) =
         refl,
         subst (λ (l : List (List ℕ)). SpellsRepeat l count) (sym (words_join (repeat_words count) r.0)) r.1,
         steps_spelled steps range,
-        subst IsEnd (sym (words_join end_words end_prints.0)) end_prints.1,
+        subst IsRepeatEndLine (sym (words_join end_words end_prints.0)) end_prints.1,
       ),
     )
 
@@ -467,8 +467,8 @@ group_items (Repeated count steps) = refl
 item_lines : (version : Version) (i : Item) (rest : List ℕ) → IsItemOf version i → lines (printed_item i ++ rest) ≡ (printed_group i).lines ++ lines rest
 item_lines version (Once s) rest fits = words_line (printed_words s) rest (step_words s fits).0
 item_lines version (Repeated count steps) rest (allowed, some, small, range) =
-    let first = line_of (repeat_words count) in
-    let last = line_of end_words in
+    let first = line_of_words (repeat_words count) in
+    let last = line_of_words end_words in
     let body = printed_steps steps in
     ap lines (append_assoc first (body ++ last) rest ∙ ap (λ (l : List ℕ). first ++ l) (append_assoc body last rest))
     ∙ words_line (repeat_words count) (body ++ (last ++ rest)) (repeat_prints count some small).0
@@ -492,7 +492,7 @@ version_prints : AreWords (codes "version" ∷ codes "2" ∷ []) × IsVersionTwo
 version_prints = ((omega arith, word_by_test (codes "version") refl, (omega arith, word_by_test (codes "2") refl, tt)), (codes "version", refl, refl))
 
 printed_version : (version : Version) (items : List Item) → AreItemsOf version items → length (expanded items) ≤ step_limit →
-    SpellsText (version_line version ++ flat_map printed_item items) (listing version items)
+    SpellsText (version_line version ++ flat_map printed_item items) (script_of_items version items)
 printed_version One items all few = (1, lines (flat_map printed_item items), (refl, refl), printed_groups One items all, few)
 printed_version Two items all few = (
   2,
@@ -510,5 +510,5 @@ printed_version Two items all few = (
 )
 
 pub printed_spells : (script : Listing) → AreItemsOf script.version script.items → length (expanded script.items) ≤ step_limit →
-    SpellsText (printed script) script
+    SpellsText (printed_script script) script
 printed_spells script all few = printed_version script.version script.items all few

@@ -11,7 +11,7 @@ use Rattle.vga_script.specs.declared.version.Version.TheVariants.{Two}
 use Rattle.vga_script.specs.Decoding.{StartsWithBadStep, StartsWithCutStep}
 use Rattle.vga_script.specs.Beginning.{step_of, steps_in, behind_steps, items_in}
 use Rattle.vga_script.specs.Item.{Item, Once, Repeated, repeated, expanded, AreItemsOf}
-use Rattle.vga_script.specs.Progress.{steps_left, IsOutside, IsInside, Stands, BeginsWithStep, Reaches}
+use Rattle.vga_script.specs.Progress.{steps_left, IsOutside, IsInside, StandsInOrOutsideRepeat, IsEmptyOrBeginsWithStep, LeavesSameSteps}
 use Rattle.vga_script.specs.Spelling.{opcode_repeat, opcode_end, spelling, item_spelling, StartsWithStep}
 use Rattle.vga_script.specs.Step.{IsInRange, AreInRange}
 use Rattle.vga_script.proofs.FieldLemmas.{two_back}
@@ -131,8 +131,8 @@ done_more step body rest others h more e fs fit w = record {
   spelled = w;
 }
 
-pub step_taken : (left : ℕ) (body rest others : List ℕ) (step : Step) → Stands body rest → StartsWithStep rest step others →
-    (steps_left left body rest ≡ step ∷ steps_left left body others) × Stands body others
+pub step_taken : (left : ℕ) (body rest others : List ℕ) (step : Step) → StandsInOrOutsideRepeat body rest → StartsWithStep rest step others →
+    (steps_left left body rest ≡ step ∷ steps_left left body others) × StandsInOrOutsideRepeat body others
 unfolding done_more
 step_taken left body rest others step (inl h) starts =
     let o = outside_step rest others step h.items h.fit h.spelled starts in (
@@ -181,7 +181,7 @@ repeat_there rest others inner count (Repeated c ss ∷ items) (f, fs) e is w sm
     let same : c ≡ count = sym (two_back c body f.2) ∙ ap (little_number 2) fields ∙ two_back count inner small in
     (ss, items, ap (λ (n : ℕ). Repeated n ss ∷ items) same, (f, fs), fs, sym (ap (drop 2) fields))
 
-pub room_for_count : (body rest others : List ℕ) → Stands body rest → rest ≡ opcode_repeat ∷ others → 2 ≤ length others
+pub room_for_count : (body rest others : List ℕ) → StandsInOrOutsideRepeat body rest → rest ≡ opcode_repeat ∷ others → 2 ≤ length others
 room_for_count body rest others (inl h) is = room h.items h.fit h.spelled
   where
     room : (items : List Item) → AreItemsOf Two items → rest ≡ flat_map item_spelling items → 2 ≤ length others
@@ -191,9 +191,9 @@ room_for_count body rest others (inl h) is = room h.items h.fit h.spelled
 room_for_count body rest others (inr h) is = absurd (no_repeat_inside body rest others h is)
 
 -- a repeat of no steps is passed over
-pub empty_repeat : (left : ℕ) (body rest others inner after : List ℕ) (count : ℕ) → Stands body rest → rest ≡ opcode_repeat ∷ others →
+pub empty_repeat : (left : ℕ) (body rest others inner after : List ℕ) (count : ℕ) → StandsInOrOutsideRepeat body rest → rest ≡ opcode_repeat ∷ others →
     others ≡ little_bytes 2 count ++ inner → count < 2 ^ 16 → inner ≡ opcode_end ∷ after
-    → Reaches left body rest left body after
+    → LeavesSameSteps left body rest left body after
 empty_repeat left body rest others inner after count (inr h) is w small ends = absurd (no_repeat_inside body rest others h is)
 empty_repeat left body rest others inner after count (inl h) is w small ends =
     let b = repeat_there rest others inner count h.items h.fit h.spelled is w small in
@@ -214,7 +214,7 @@ some_steps (s ∷ steps) tail inner e other = omega arith
 
 -- a step stands before steps and an end
 step_first : (steps : List Step) (tail rest : List ℕ) → 0 < length steps → AreInRange steps → rest ≡ flat_map spelling steps ++ opcode_end ∷ tail →
-    BeginsWithStep rest
+    IsEmptyOrBeginsWithStep rest
 step_first [] tail rest some fit e = absurd (omega arith)
 step_first (s ∷ steps) tail rest some (f, fs) e = inr (
   s,
@@ -223,9 +223,9 @@ step_first (s ∷ steps) tail rest some (f, fs) e = inr (
 )
 
 -- a repeat of some steps begins
-pub repeat_begins : (left : ℕ) (body rest others inner : List ℕ) (count : ℕ) → Stands body rest → rest ≡ opcode_repeat ∷ others → others ≡ little_bytes 2 count
+pub repeat_begins : (left : ℕ) (body rest others inner : List ℕ) (count : ℕ) → StandsInOrOutsideRepeat body rest → rest ≡ opcode_repeat ∷ others → others ≡ little_bytes 2 count
     ++ inner → count < 2 ^ 16 → ((after : List ℕ) → inner ≢ opcode_end ∷ after)
-    → (0 < count) × Reaches left body rest (count - 1) inner inner × BeginsWithStep inner
+    → (0 < count) × LeavesSameSteps left body rest (count - 1) inner inner × IsEmptyOrBeginsWithStep inner
 repeat_begins left body rest others inner count (inr h) is w small other = absurd (no_repeat_inside body rest others h is)
 repeat_begins left body rest others inner count (inl h) is w small other =
     let b = repeat_there rest others inner count h.items h.fit h.spelled is w small in
@@ -264,7 +264,7 @@ no_end_outside (Once s ∷ items) rest others (f, fs) e is = no_end s _ others f
 no_end_outside (Repeated c ss ∷ items) rest others (f, fs) e is = apart _ others (sym (block_bytes c ss (flat_map item_spelling items)) ∙ sym e ∙ is)
 
 -- it was the last time
-pub repeat_ends : (body rest others none : List ℕ) → Stands body rest → rest ≡ opcode_end ∷ others → none ≡ [] → Reaches 0 body rest 0 none others
+pub repeat_ends : (body rest others none : List ℕ) → StandsInOrOutsideRepeat body rest → rest ≡ opcode_end ∷ others → none ≡ [] → LeavesSameSteps 0 body rest 0 none others
 repeat_ends body rest others none (inl h) is bare = absurd (no_end_outside h.items rest others h.fit h.spelled is)
 repeat_ends body rest others none (inr h) is bare =
     let d = all_done h.todo (flat_map item_spelling h.items) rest others h.todo_fit h.spelled is in
@@ -278,8 +278,8 @@ repeat_ends body rest others none (inr h) is bare =
     }
 
 -- it is taken again
-pub repeat_again : (left : ℕ) (body rest others : List ℕ) → Stands body rest → rest ≡ opcode_end ∷ others → 0 < left →
-    Reaches left body rest (left - 1) body body × BeginsWithStep body
+pub repeat_again : (left : ℕ) (body rest others : List ℕ) → StandsInOrOutsideRepeat body rest → rest ≡ opcode_end ∷ others → 0 < left →
+    LeavesSameSteps left body rest (left - 1) body body × IsEmptyOrBeginsWithStep body
 repeat_again left body rest others (inl h) is some = absurd (no_end_outside h.items rest others h.fit h.spelled is)
 repeat_again left body rest others (inr h) is some =
     let d = all_done h.todo (flat_map item_spelling h.items) rest others h.todo_fit h.spelled is in
@@ -313,18 +313,18 @@ repeat_again left body rest others (inr h) is some =
 
 -- nothing, or a step
 first_outside : (items : List Item) (rest : List ℕ) → AreItemsOf Two items → rest ≡ flat_map item_spelling items →
-    ((others : List ℕ) → rest ≢ opcode_repeat ∷ others) → BeginsWithStep rest
+    ((others : List ℕ) → rest ≢ opcode_repeat ∷ others) → IsEmptyOrBeginsWithStep rest
 first_outside [] rest fit e other = inl e
 first_outside (Once s ∷ items) rest (f, fs) e other = inr (s, flat_map item_spelling items, (f, e))
 first_outside (Repeated c ss ∷ items) rest (f, fs) e other = absurd (other _ (e ∙ block_bytes c ss (flat_map item_spelling items)))
 
 first_inside : (todo : List Step) (tail rest : List ℕ) → AreInRange todo → rest ≡ flat_map spelling todo ++ opcode_end ∷ tail →
-    ((others : List ℕ) → rest ≢ opcode_end ∷ others) → BeginsWithStep rest
+    ((others : List ℕ) → rest ≢ opcode_end ∷ others) → IsEmptyOrBeginsWithStep rest
 first_inside [] tail rest fit e other = absurd (other tail e)
 first_inside (s ∷ todo) tail rest (f, fs) e other = step_first (s ∷ todo) tail rest (omega arith) (f, fs) e
 
-pub no_mark : (body rest others : List ℕ) (opcode : ℕ) → Stands body rest → rest ≡ opcode ∷ others → opcode ≢ opcode_repeat → opcode ≢ opcode_end →
-    BeginsWithStep rest
+pub no_mark : (body rest others : List ℕ) (opcode : ℕ) → StandsInOrOutsideRepeat body rest → rest ≡ opcode ∷ others → opcode ≢ opcode_repeat → opcode ≢ opcode_end →
+    IsEmptyOrBeginsWithStep rest
 no_mark body rest others opcode (inl h) is no_repeat no_end =
     first_outside h.items rest h.fit h.spelled (λ x e. let both : opcode ∷ others ≡ opcode_repeat ∷ x = sym is
     ∙ e in let same : opcode ≡ opcode_repeat = cc in no_repeat same)
@@ -334,19 +334,19 @@ no_mark body rest others opcode (inr h) is no_repeat no_end =
 
 -- a place is reached through another
 pub through : (left : ℕ) (body rest : List ℕ) (left_then : ℕ) (body_then rest_then : List ℕ) (left_there : ℕ) (body_there rest_there : List ℕ) →
-    Reaches left body rest left_then body_then rest_then → Reaches left_then body_then rest_then left_there body_there rest_there
-    → Reaches left body rest left_there body_there rest_there
+    LeavesSameSteps left body rest left_then body_then rest_then → LeavesSameSteps left_then body_then rest_then left_there body_there rest_there
+    → LeavesSameSteps left body rest left_there body_there rest_there
 through left body rest left_then body_then rest_then left_there body_there rest_there p q = record { stands = q.stands; same = q.same ∙ p.same }
 
-pub stays : (left : ℕ) (body rest : List ℕ) → Stands body rest → Reaches left body rest left body rest
+pub stays : (left : ℕ) (body rest : List ℕ) → StandsInOrOutsideRepeat body rest → LeavesSameSteps left body rest left body rest
 stays left body rest h = record { stands = h; same = refl }
 
 -- a repeat is not taken again
-pub ends_last : (left : ℕ) (body rest others none : List ℕ) → left ≤ 0 → Stands body rest → rest ≡ opcode_end ∷ others → none ≡ [] →
-    Reaches left body rest left none others
+pub ends_last : (left : ℕ) (body rest others none : List ℕ) → left ≤ 0 → StandsInOrOutsideRepeat body rest → rest ≡ opcode_end ∷ others → none ≡ [] →
+    LeavesSameSteps left body rest left none others
 ends_last left body rest others none few h is bare =
     let e : 0 ≡ left = omega arith in
-    subst (λ (n : ℕ). Reaches n body rest n none others) e (repeat_ends body rest others none h is bare)
+    subst (λ (n : ℕ). LeavesSameSteps n body rest n none others) e (repeat_ends body rest others none h is bare)
 
 -- ---- nothing is left
 
@@ -355,7 +355,7 @@ no_items [] rest fit e none = refl
 no_items (i ∷ items) rest (f, fs) e none = let l = item_bytes i in let k = ap length e
     ∙ length-append (item_spelling i) (flat_map item_spelling items) in absurd (omega arith)
 
-pub none_left : (left : ℕ) (body rest : List ℕ) → Stands body rest → length rest ≡ 0 → steps_left left body rest ≡ []
+pub none_left : (left : ℕ) (body rest : List ℕ) → StandsInOrOutsideRepeat body rest → length rest ≡ 0 → steps_left left body rest ≡ []
 none_left left body rest (inl h) none = out_left left body rest h ∙ ap expanded (no_items h.items rest h.fit h.spelled none)
 none_left left body rest (inr h) none =
     let l = ap length h.spelled in
@@ -363,7 +363,7 @@ none_left left body rest (inr h) none =
     absurd (omega arith)
 
 -- a step that stands at the prefix is found
-pub is_found : (rest : List ℕ) (reason : NoStep) → BeginsWithStep rest → 0 < length rest → (reason ≡ no_step.Bad → StartsWithBadStep rest) →
+pub is_found : (rest : List ℕ) (reason : NoStep) → IsEmptyOrBeginsWithStep rest → 0 < length rest → (reason ≡ no_step.Bad → StartsWithBadStep rest) →
     (reason ≡ no_step.Cut → StartsWithCutStep rest) → ⊥
 is_found rest reason (inl none) some bad cut = let l = ap length none in absurd (omega arith)
 is_found rest no_step.Bad (inr (step, others, (fits, e))) some bad cut = step_starts step others rest fits e (inl (bad refl))

@@ -6,9 +6,9 @@ use Rattle.std.specs.Str.Parse.{digits_value}
 use Rattle.std.proofs.lemmas.Slice.Eq.{bytes_eq-Decides}
 use Rattle.vga_script.specs.declared.step.Step.{Step}
 use Rattle.vga_script.specs.declared.keyword.Keyword.{Keyword}
-use Rattle.vga_script.specs.Tokens.{lowered}
-use Rattle.vga_script.specs.Text.{name_of, keyword_of, SpellsLine, SpellsRepeat, IsEnd, IsVersionTwo}
-use Rattle.vga_script.specs.StepReading.{number_of}
+use Rattle.vga_script.specs.Tokens.{in_lower_case}
+use Rattle.vga_script.specs.Text.{keyword_name, keyword_of, SpellsLine, SpellsRepeat, IsRepeatEndLine, IsVersionTwo}
+use Rattle.vga_script.specs.StepReading.{number_of_word}
 use Rattle.vga_script.proofs.NameLemmas.{named, unnamed, repeat_unnamed, end_unnamed, version_unnamed}
 use Rattle.vga_script.proofs.OptionLemmas.{some_is}
 use Rattle.vga_script.proofs.NumberLemmas.{number_reads, spells_number}
@@ -50,8 +50,8 @@ one_byte (x ∷ []) b len is = ap (λ (y : ℕ). y ∷ []) is
 one_byte (x ∷ y ∷ xs) b len is = absurd (omega arith)
 
 -- a repeat's count that is read
-pub repeat_read : (ws : List (List ℕ)) (name word : List ℕ) (count : ℕ) → ws ≡ name ∷ word ∷ [] → bytes_eq (lowered name) (codes "repeat") ≡ true →
-    number_of 10 0xFFFF word ≡ Some count → count ≢ 0 → SpellsRepeat ws count
+pub repeat_read : (ws : List (List ℕ)) (name word : List ℕ) (count : ℕ) → ws ≡ name ∷ word ∷ [] → bytes_eq (in_lower_case name) (codes "repeat") ≡ true →
+    number_of_word 10 0xFFFF word ≡ Some count → count ≢ 0 → SpellsRepeat ws count
 repeat_read ws name word count e is read some =
     let r = number_reads 10 0xFFFF word count read in
     let most = r.1 in
@@ -68,24 +68,24 @@ same_words ws a b c d e f =
 pub not_repeat_words : (ws : List (List ℕ)) → ((word other : List ℕ) → ws ≢ word ∷ other ∷ []) → (count : ℕ) → SpellsRepeat ws count → ⊥
 not_repeat_words ws none count (first, number, e, is, numeral, some, small) = none first number e
 
-pub not_repeat_name : (ws : List (List ℕ)) (name word : List ℕ) → ws ≡ name ∷ word ∷ [] → bytes_eq (lowered name) (codes "repeat") ≡ false → (count : ℕ) →
+pub not_repeat_name : (ws : List (List ℕ)) (name word : List ℕ) → ws ≡ name ∷ word ∷ [] → bytes_eq (in_lower_case name) (codes "repeat") ≡ false → (count : ℕ) →
     SpellsRepeat ws count → ⊥
 not_repeat_name ws name word e not_so count (first, number, f, is, numeral, some, small) =
     let same = same_words ws name word first number e f in
-    unnamed name (codes "repeat") not_so (ap lowered same.0 ∙ is)
+    unnamed name (codes "repeat") not_so (ap in_lower_case same.0 ∙ is)
 
 -- what its number reads as
-reads_as : (ws : List (List ℕ)) (name word : List ℕ) (count : ℕ) → ws ≡ name ∷ word ∷ [] → SpellsRepeat ws count → (number_of 10 0xFFFF word ≡ Some count)
+reads_as : (ws : List (List ℕ)) (name word : List ℕ) (count : ℕ) → ws ≡ name ∷ word ∷ [] → SpellsRepeat ws count → (number_of_word 10 0xFFFF word ≡ Some count)
     × (0 < count)
 reads_as ws name word count e (first, number, f, is, numeral, some, small) =
     let same = same_words ws name word first number e f in
-    (ap (number_of 10 0xFFFF) same.1 ∙ spells_number 10 0xFFFF number count (omega arith) numeral (omega arith), some)
+    (ap (number_of_word 10 0xFFFF) same.1 ∙ spells_number 10 0xFFFF number count (omega arith) numeral (omega arith), some)
 
-pub not_repeat_number : (ws : List (List ℕ)) (name word : List ℕ) → ws ≡ name ∷ word ∷ [] → number_of 10 0xFFFF word ≡ None → (count : ℕ) →
+pub not_repeat_number : (ws : List (List ℕ)) (name word : List ℕ) → ws ≡ name ∷ word ∷ [] → number_of_word 10 0xFFFF word ≡ None → (count : ℕ) →
     SpellsRepeat ws count → ⊥
 not_repeat_number ws name word e none count h = let both = sym none ∙ (reads_as ws name word count e h).0 in absurd (cc)
 
-pub not_repeat_zero : (ws : List (List ℕ)) (name word : List ℕ) (n : ℕ) → ws ≡ name ∷ word ∷ [] → number_of 10 0xFFFF word ≡ Some n → n ≡ 0 → (count : ℕ) →
+pub not_repeat_zero : (ws : List (List ℕ)) (name word : List ℕ) (n : ℕ) → ws ≡ name ∷ word ∷ [] → number_of_word 10 0xFFFF word ≡ Some n → n ≡ 0 → (count : ℕ) →
     SpellsRepeat ws count → ⊥
 not_repeat_zero ws name word n e read nought count h =
     let r = reads_as ws name word count e h in
@@ -100,20 +100,20 @@ one_count ws n m (first, number, e, is, (has, all, value), some, small) (first',
 
 -- the line that says version 2
 pub version_two : (ws : List (List ℕ)) (name word : List ℕ) (r : Bool) → ws ≡ name ∷ word ∷ [] → word ≡ codes "2" →
-    r ≡ bytes_eq (lowered name) (codes "version") → IsTrue r ↔ IsVersionTwo ws
+    r ≡ bytes_eq (in_lower_case name) (codes "version") → IsTrue r ↔ IsVersionTwo ws
 version_two ws name word r e two is = (
   λ t. (name, e ∙ ap (λ (w : List ℕ). name ∷ w ∷ []) two, named name (codes "version") (sym is ∙ t)),
-  λ h. is ∙ (bytes_eq-Decides (lowered name) (codes "version")).1 (ap lowered (same_words ws name word h.0 (codes "2") e h.1).0 ∙ h.2),
+  λ h. is ∙ (bytes_eq-Decides (in_lower_case name) (codes "version")).1 (ap in_lower_case (same_words ws name word h.0 (codes "2") e h.1).0 ∙ h.2),
 )
 
 -- ---- a line is of one kind
 
 -- a line of a step does not begin with a word that is the name of none
 pub not_step_named : (ws : List (List ℕ)) (first : List ℕ) (fields : List (List ℕ)) (name : List ℕ) (steps : List Step) →
-    ((k : Keyword) → bytes_eq (name_of k) name ≡ false) → ws ≡ first ∷ fields → lowered first ≡ name → SpellsLine ws steps → ⊥
+    ((k : Keyword) → bytes_eq (keyword_name k) name ≡ false) → ws ≡ first ∷ fields → in_lower_case first ≡ name → SpellsLine ws steps → ⊥
 not_step_named ws first fields name steps other e is spelled =
     let h : SpellsLine (first ∷ fields) steps = subst (λ (l : List (List ℕ)). SpellsLine l steps) e spelled in
-    let same : name_of (keyword_of h.0) ≡ name = sym h.2 ∙ is in
+    let same : keyword_name (keyword_of h.0) ≡ name = sym h.2 ∙ is in
     let differ = other (keyword_of h.0) in
     let twice : bytes_eq name name ≡ false = ap (λ (w : List ℕ). bytes_eq w name) (sym same) ∙ differ in
     let whole : bytes_eq name name ≡ true = (bytes_eq-Decides name name).1 refl in
@@ -124,7 +124,7 @@ pub step_or_repeat : (ws : List (List ℕ)) (steps : List Step) (count : ℕ) �
 step_or_repeat ws steps count spelled (first, number, e, is, numeral, some, small) =
     not_step_named ws first (number ∷ []) (codes "repeat") steps repeat_unnamed e is spelled
 
-pub step_or_end : (ws : List (List ℕ)) (steps : List Step) → SpellsLine ws steps → IsEnd ws → ⊥
+pub step_or_end : (ws : List (List ℕ)) (steps : List Step) → SpellsLine ws steps → IsRepeatEndLine ws → ⊥
 step_or_end ws steps spelled (first, e, is) = not_step_named ws first [] (codes "end") steps end_unnamed e is spelled
 
 pub step_or_version : (ws : List (List ℕ)) (steps : List Step) → SpellsLine ws steps → IsVersionTwo ws → ⊥

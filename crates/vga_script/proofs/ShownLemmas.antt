@@ -6,9 +6,9 @@ use Rattle.std.proofs.lemmas.Slice.Eq.{bytes_eq-Decides}
 use Rattle.vga_script.specs.declared.dump_range.Shown.{Shown}
 use Rattle.vga_script.specs.declared.dump_range.Shown.TheVariants as shown
 use Rattle.vga_script.specs.DumpRange.{IsShownInRange}
-use Rattle.vga_script.specs.Tokens.{lowered}
+use Rattle.vga_script.specs.Tokens.{in_lower_case}
 use Rattle.vga_script.specs.Text.{shown_name, SpellsShownFields, SpellsShown}
-use Rattle.vga_script.specs.StepReading.{◌>>=◌, hex_at, one_hex, one_decimal, ended, alone, read_dac, read_plane, read_shown}
+use Rattle.vga_script.specs.StepReading.{◌>>=◌, next_hex_number, only_hex_number, only_decimal_number, no_word_left, shown_if_no_word_left, read_dac, read_plane, read_shown}
 use Rattle.vga_script.proofs.OptionLemmas.{bind_ok, guard_ok, and_ok, and_true, some_is, le_test, le_passes, lt_test, lt_passes}
 use Rattle.vga_script.proofs.NumberLemmas.{hex_at_reads, spells_hex_at, one_hex_reads, spells_one_hex, one_decimal_reads, spells_one_decimal, ended_ok}
 use Rattle.vga_script.proofs.NumberLemmas.{then_words}
@@ -52,8 +52,8 @@ plane_found : (ws : List (List ℕ)) (plane offset count : ℕ) (what : Shown) �
 plane_found ws plane offset count what e h = same_shown (codes "plane") ws (shown.Plane plane offset count) what e (refl, h)
 
 alone_reads : (name : List ℕ) (one : Shown) (ws : List (List ℕ)) (what : Shown) → shown_name one ≡ name → (ws ≡ [] → SpellsShownFields ws one) →
-    alone one ws ≡ Some what → Spelled name ws what
-unfolding alone
+    shown_if_no_word_left one ws ≡ Some what → Spelled name ws what
+unfolding shown_if_no_word_left
 alone_reads name one ws what named fits e =
     let c = ended_ok ws (Some one) what e in
     same_shown name ws one what (some_is one what c.1) (named, fits c.0)
@@ -61,17 +61,17 @@ alone_reads name one ws what named fits e =
 dac_reads : (ws : List (List ℕ)) (what : Shown) → read_dac ws ≡ Some what → Spelled (codes "dac") ws what
 unfolding read_dac
 dac_reads ws what e =
-    let r = bind_ok (one_hex 2 0xFF ws) (λ n. Some (shown.Dac n)) what e in
+    let r = bind_ok (only_hex_number 2 0xFF ws) (λ n. Some (shown.Dac n)) what e in
     same_shown (codes "dac") ws (shown.Dac r.0) what (some_is (shown.Dac r.0) what r.2) (refl, one_hex_reads 2 0xFF ws r.0 r.1)
 
 plane_reads : (ws : List (List ℕ)) (what : Shown) → read_plane ws ≡ Some what → Spelled (codes "plane") ws what
 unfolding read_plane
 plane_reads ws what e =
-    let p = bind_ok (hex_at 1 3 ws) (λ p. hex_at 4 0xFFFF p.1 >>= λ o. one_decimal 256 o.1
+    let p = bind_ok (next_hex_number 1 3 ws) (λ p. next_hex_number 4 0xFFFF p.1 >>= λ o. only_decimal_number 256 o.1
     >>= λ n. cond (nat_lt 0 n && nat_le (o.0 + n) 0x1_0000) (Some (shown.Plane p.0 o.0 n)) None) what e in
-    let o = bind_ok (hex_at 4 0xFFFF p.0.1) (λ o. one_decimal 256 o.1 >>= λ n. cond (nat_lt 0 n
+    let o = bind_ok (next_hex_number 4 0xFFFF p.0.1) (λ o. only_decimal_number 256 o.1 >>= λ n. cond (nat_lt 0 n
     && nat_le (o.0 + n) 0x1_0000) (Some (shown.Plane p.0.0 o.0 n)) None) what p.2 in
-    let n = bind_ok (one_decimal 256 o.0.1) (λ n. cond (nat_lt 0 n && nat_le (o.0.0 + n) 0x1_0000) (Some (shown.Plane p.0.0 o.0.0 n)) None) what o.2 in
+    let n = bind_ok (only_decimal_number 256 o.0.1) (λ n. cond (nat_lt 0 n && nat_le (o.0.0 + n) 0x1_0000) (Some (shown.Plane p.0.0 o.0.0 n)) None) what o.2 in
     let g = guard_ok (nat_lt 0 n.0 && nat_le (o.0.0 + n.0) 0x1_0000) (Some (shown.Plane p.0.0 o.0.0 n.0)) what n.2 in
     let wp = hex_at_reads 1 3 ws p.0 p.1 in
     let wo = hex_at_reads 4 0xFFFF p.0.1 o.0 o.1 in
@@ -93,8 +93,8 @@ either true x y what e f g = f refl e
 either false x y what e f g = g e
 
 -- a name and its fields
-named : (w : List ℕ) (ws : List (List ℕ)) (name : List ℕ) (what : Shown) → bytes_eq (lowered w) name ≡ true → Spelled name ws what → SpellsShown (w ∷ ws) what
-named w ws name what same h = (w, ws, refl, (bytes_eq-Decides (lowered w) name).0 same ∙ sym h.0, h.1)
+named : (w : List ℕ) (ws : List (List ℕ)) (name : List ℕ) (what : Shown) → bytes_eq (in_lower_case w) name ≡ true → Spelled name ws what → SpellsShown (w ∷ ws) what
+named w ws name what same h = (w, ws, refl, (bytes_eq-Decides (in_lower_case w) name).0 same ∙ sym h.0, h.1)
 
 pub shown_reads : (ws : List (List ℕ)) (what : Shown) → read_shown ws ≡ Some what → SpellsShown ws what
 unfolding read_shown
@@ -111,7 +111,7 @@ shown_reads (w ∷ ws) what e =
 
 -- and what is spelled is read
 pub spells_shown : (ws : List (List ℕ)) (what : Shown) → SpellsShown ws what → read_shown ws ≡ Some what
-unfolding read_shown alone read_dac read_plane ended
+unfolding read_shown shown_if_no_word_left read_dac read_plane no_word_left
 spells_shown ws shown.Registers (first, rest, e, named, none) = rw (e, named, none) refl
 spells_shown ws (shown.Dac index) (first, rest, e, named, hex) = rw (e, named, spells_one_hex 2 0xFF rest index hex (omega arith)) refl
 spells_shown ws shown.Beam (first, rest, e, named, none) = rw (e, named, none) refl

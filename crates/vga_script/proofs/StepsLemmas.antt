@@ -7,7 +7,7 @@ use Rattle.vga_script.specs.declared.version.Version.TheVariants.{One, Two}
 use Rattle.vga_script.specs.Version.{version_byte}
 use Rattle.vga_script.specs.Beginning.{items_in, listing_of}
 use Rattle.vga_script.specs.Item.{Listing, expanded, step_limit, AreItemsOf}
-use Rattle.vga_script.specs.Progress.{steps_left, Stands}
+use Rattle.vga_script.specs.Progress.{steps_left, StandsInOrOutsideRepeat}
 use Rattle.vga_script.specs.Spelled.{SpellsExpanded}
 use Rattle.vga_script.specs.Spelling.{encoding, SpellsItems, Spells}
 use Rattle.vga_script.specs.Step.{AreInRange}
@@ -34,7 +34,7 @@ fits : (bytes : List ℕ) (script : Listing) → Spells bytes script → AreItem
 fits bytes script h = all_widened script.version script.items (items_fit script.version (drop 5 bytes) script.items (items_of bytes script h))
 
 -- a place stands there
-pub items_stand : (bytes body : List ℕ) → body ≡ [] → Spells bytes (listing_of bytes) → Stands body (drop 5 bytes)
+pub items_stand : (bytes body : List ℕ) → body ≡ [] → Spells bytes (listing_of bytes) → StandsInOrOutsideRepeat body (drop 5 bytes)
 items_stand bytes body bare h =
     let script = listing_of bytes in
     inl (record {

@@ -10,7 +10,7 @@ use Rattle.vga_script.specs.Step.{IsInRange}
 use Rattle.vga_script.specs.Beginning.{step_of}
 use Rattle.vga_script.specs.Spelling.{opcode_out, opcode_out_word, opcode_in, opcode_in_word, opcode_put, opcode_put_word, opcode_get, opcode_get_word}
 use Rattle.vga_script.specs.Spelling.{opcode_int, opcode_advance, opcode_frame, opcode_show, spelling}
-use Rattle.vga_script.specs.Decoding.{shown_len, fields_len, StartsWithBadStep, StartsWithCutStep}
+use Rattle.vga_script.specs.Decoding.{dump_len, fields_len, StartsWithBadStep, StartsWithCutStep}
 use Rattle.vga_script.proofs.FieldLemmas.{two_back}
 use Rattle.vga_script.proofs.OptionLemmas.{just, some_is}
 use Rattle.vga_script.proofs.GrammarLemmas.{step_back, plane_back}
@@ -25,13 +25,13 @@ not_cut opcode rest needed (n, has, room) is short = let same : needed ≡ n = s
 
 -- what is shown is of a kind, and its fields are all there, in range or not
 has_shown : (what : Shown) (x rest : List ℕ) → rest ≡ shown_spelling what ++ x → HasFields opcode_show rest
-has_shown shown.Registers x rest e = (1, ap shown_len e, let l = ap length e in omega arith)
-has_shown (shown.Dac index) x rest e = (2, ap shown_len e, let l = ap length e in omega arith)
-has_shown shown.Beam x rest e = (1, ap shown_len e, let l = ap length e in omega arith)
-has_shown shown.Latches x rest e = (1, ap shown_len e, let l = ap length e in omega arith)
-has_shown (shown.Plane plane offset count) x rest e = (6, ap shown_len e, let l = ap length e in omega arith)
-has_shown shown.BiosData x rest e = (1, ap shown_len e, let l = ap length e in omega arith)
-has_shown shown.Cells x rest e = (1, ap shown_len e, let l = ap length e in omega arith)
+has_shown shown.Registers x rest e = (1, ap dump_len e, let l = ap length e in omega arith)
+has_shown (shown.Dac index) x rest e = (2, ap dump_len e, let l = ap length e in omega arith)
+has_shown shown.Beam x rest e = (1, ap dump_len e, let l = ap length e in omega arith)
+has_shown shown.Latches x rest e = (1, ap dump_len e, let l = ap length e in omega arith)
+has_shown (shown.Plane plane offset count) x rest e = (6, ap dump_len e, let l = ap length e in omega arith)
+has_shown shown.BiosData x rest e = (1, ap dump_len e, let l = ap length e in omega arith)
+has_shown shown.Cells x rest e = (1, ap dump_len e, let l = ap length e in omega arith)
 
 -- so is a dump of it
 has_dump : (what : Shown) (x : List ℕ) (opcode : ℕ) (rest : List ℕ) → spelling (Show what) ++ x ≡ opcode ∷ rest → HasFields opcode rest

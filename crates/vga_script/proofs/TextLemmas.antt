@@ -11,7 +11,7 @@ use Rattle.vga_script.specs.Item.{Item, Listing, expanded, step_limit}
 use Rattle.vga_script.specs.declared.version.Version.{Version}
 use Rattle.vga_script.specs.declared.version.Version.TheVariants.{One, Two}
 use Rattle.vga_script.specs.Tokens.{words, lines}
-use Rattle.vga_script.specs.Text.{SpellsLine, IsVersionTwo, Group, IsGroup, SpellsGroups, SaysVersionTwo, StandFrom, SpellsText, IsGroupFault, SpellsLinesUpTo}
+use Rattle.vga_script.specs.Text.{SpellsLine, IsVersionTwo, Group, IsGroup, SpellsGroups, SaysVersionTwo, ItemsBeginAtLine, SpellsText, IsGroupFault, SpellsLinesUpTo}
 use Rattle.vga_script.specs.Text.{IsBadLine}
 use Rattle.vga_script.specs.Spelling.{script_limit, encoding}
 use Rattle.vga_script.specs.Script.{IsScript, IsTextFault}
@@ -74,7 +74,7 @@ abbrev NotTwo : Version → List (List ℕ) → Type 0
 NotTwo version ls = version ≡ One → (m : ℕ) (others : List (List ℕ)) → SaysVersionTwo ls m others → ⊥
 
 -- so they begin at one line, in one version
-one_start : (v w : Version) (ls : List (List ℕ)) (n m : ℕ) (rest others : List (List ℕ)) → StandFrom v ls n rest → StandFrom w ls m others → NotTwo v ls →
+one_start : (v w : Version) (ls : List (List ℕ)) (n m : ℕ) (rest others : List (List ℕ)) → ItemsBeginAtLine v ls n rest → ItemsBeginAtLine w ls m others → NotTwo v ls →
     NotTwo w ls → (v ≡ w) × (n ≡ m) × (rest ≡ others)
 one_start One One ls n m rest others (is, e) (is', e') no_two no_two' = (refl, is ∙ sym is', e ∙ sym e')
 one_start One Two ls n m rest others from says no_two no_two' = absurd (no_two refl m others says)
@@ -129,7 +129,7 @@ one_list version rest a b (groups, e, is, all) (groups', e', is', all') =
     all_read version groups groups' (inr (inr (next, others, is, fits, rests))) = absurd (some_line version next _ fits rests)
 
 -- a text that spells a script of version 1 does not say version 2
-not_two : (text : List ℕ) (version : Version) (items : List Item) (n : ℕ) (rest : List (List ℕ)) → StandFrom version (lines text) n rest →
+not_two : (text : List ℕ) (version : Version) (items : List Item) (n : ℕ) (rest : List (List ℕ)) → ItemsBeginAtLine version (lines text) n rest →
     SpellsGroups version rest items → NotTwo version (lines text)
 not_two text One items n rest (is, e) h one m others says = no_version (lines text) items (subst (λ (l : List (List ℕ)). SpellsGroups One l items) e h) m others
     says

@@ -9,7 +9,7 @@ use Rattle.vga_script.specs.declared.version.Version.{Version}
 use Rattle.vga_script.specs.Decoding.{StartsWithBadStep, StartsWithCutStep, IsItemFault}
 use Rattle.vga_script.specs.Beginning.{steps_in, items_in}
 use Rattle.vga_script.specs.Item.{Item, Listing, expanded, step_limit}
-use Rattle.vga_script.specs.Printing.{printed_line, printed_steps, printed_item, version_line, printed}
+use Rattle.vga_script.specs.Printing.{printed_line, printed_steps, printed_item, version_line, printed_script}
 use Rattle.vga_script.specs.Spelling.{StartsWithStep, StartsWithItem, SpellsSteps, SpellsItems, Spells}
 use Rattle.vga_script.proofs.DecodeLemmas.{nothing}
 use Rattle.vga_script.proofs.BeginningLemmas.{steps_are, first_read, items_are, first_item}
@@ -101,7 +101,7 @@ never_faulty start now version bytes rest f h some bad = begin_with_item version
 -- the printed text of a script
 pub script_printed : (bytes empty first last text rest : List ℕ) (version : Version) (script : Listing) → Spells bytes script → version ≡ script.version →
     empty ≡ [] → first ≡ empty ++ text → text ≡ version_line version → rest ≡ drop 5 bytes
-    → last ≡ first ++ flat_map printed_item (items_in rest) → last ≡ printed script
+    → last ≡ first ++ flat_map printed_item (items_in rest) → last ≡ printed_script script
 script_printed bytes empty first last text rest version script h v e f t r l =
     let items : items_in rest ≡ script.items = ap items_in r ∙ (items_spelled bytes script h).0 in
     let line : first ≡ version_line script.version = f ∙ ap (λ (x : List ℕ). x ++ text) e ∙ t ∙ ap version_line v in

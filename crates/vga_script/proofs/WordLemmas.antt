@@ -6,7 +6,7 @@ use Rattle.std.specs.List.{slice_split, position_or_len, after_first}
 use Rattle.std.proofs.lemmas.List.Sums.{position_or_len_is, fails_before_first, passes_at_first}
 use Rattle.std.proofs.lemmas.List.Splits.{slice_split-cons_yes, slice_split_first, slice_split_none}
 use Rattle.std.proofs.lemmas.Bool.{cases_lt}
-use Rattle.vga_script.specs.Tokens.{is_blank, has_bytes, words_in, lines, is_newline}
+use Rattle.vga_script.specs.Tokens.{is_blank, has_bytes, words_between_blanks, lines, is_newline}
 
 -- a loop that stops at the first byte that passes, or at the end
 pub stops_at : (p : ℕ → Bool) (xs : List ℕ) (i : ℕ) → i < length xs → ((k : ℕ) → k < i → p (get_or xs k 0) ≡ false) → p (get_or xs i 0) ≡ true →
@@ -19,7 +19,7 @@ pub stops_after : (p : ℕ → Bool) (xs : List ℕ) (i : ℕ) → i ≤ length 
 stops_after p xs i within all none = sym (position_or_len_is p xs i 0 within none (λ h. absurd (omega arith)))
 
 -- a blank at the prefix parts no words
-pub skip_blank : (c : ℕ) (cs : List ℕ) → is_blank c ≡ true → words_in (c ∷ cs) ≡ words_in cs
+pub skip_blank : (c : ℕ) (cs : List ℕ) → is_blank c ≡ true → words_between_blanks (c ∷ cs) ≡ words_between_blanks cs
 skip_blank c cs blank = ap (filter has_bytes) (slice_split-cons_yes is_blank c cs blank)
 
 -- a word that isn't empty is kept
@@ -28,15 +28,15 @@ keep [] ws some = absurd (omega arith)
 keep (c ∷ cs) ws some = refl
 
 -- a blank after a word
-blank_next : (xs : List ℕ) → position_or_len is_blank xs < length xs → words_in (drop (position_or_len is_blank xs) xs) ≡ words_in (after_first is_blank xs)
+blank_next : (xs : List ℕ) → position_or_len is_blank xs < length xs → words_between_blanks (drop (position_or_len is_blank xs) xs) ≡ words_between_blanks (after_first is_blank xs)
 blank_next xs lt =
     rw (drop-cons xs (position_or_len is_blank xs) 0)
     (skip_blank (get_or xs (position_or_len is_blank xs) 0) (drop (suc (position_or_len is_blank xs)) xs) (passes_at_first is_blank xs 0 lt)
-    ∙ ap (λ n. words_in (drop n xs)) (sym (add-one (position_or_len is_blank xs))))
+    ∙ ap (λ n. words_between_blanks (drop n xs)) (sym (add-one (position_or_len is_blank xs))))
 
 -- a word with a blank after it, and one that ends with the text
 inside : (xs : List ℕ) → 0 < position_or_len is_blank xs → position_or_len is_blank xs < length xs →
-    words_in xs ≡ take (position_or_len is_blank xs) xs ∷ words_in (drop (position_or_len is_blank xs) xs)
+    words_between_blanks xs ≡ take (position_or_len is_blank xs) xs ∷ words_between_blanks (drop (position_or_len is_blank xs) xs)
 inside xs some lt =
     ap (filter has_bytes) (slice_split_first is_blank xs 0 lt)
     ∙ keep (take (position_or_len is_blank xs) xs) (slice_split is_blank (after_first is_blank xs))
@@ -48,7 +48,7 @@ has_some [] some = absurd (omega arith)
 has_some (x ∷ xs) some = omega arith
 
 last : (xs : List ℕ) → 0 < position_or_len is_blank xs → length xs ≤ position_or_len is_blank xs →
-    words_in xs ≡ take (position_or_len is_blank xs) xs ∷ words_in (drop (position_or_len is_blank xs) xs)
+    words_between_blanks xs ≡ take (position_or_len is_blank xs) xs ∷ words_between_blanks (drop (position_or_len is_blank xs) xs)
 last xs some le =
     let short : 0 < length xs = has_some xs some in
     ap (filter has_bytes) (slice_split_none is_blank xs (λ k d h. fails_before_first is_blank xs k d (omega arith)))
@@ -56,12 +56,12 @@ last xs some le =
     ∙ rw (take_all (position_or_len is_blank xs) xs le, drop_all (position_or_len is_blank xs) xs le) refl
 
 -- so in both cases
-words_prefix : (xs : List ℕ) → 0 < position_or_len is_blank xs → words_in xs ≡ take (position_or_len is_blank xs) xs
-    ∷ words_in (drop (position_or_len is_blank xs) xs)
+words_prefix : (xs : List ℕ) → 0 < position_or_len is_blank xs → words_between_blanks xs ≡ take (position_or_len is_blank xs) xs
+    ∷ words_between_blanks (drop (position_or_len is_blank xs) xs)
 words_prefix xs some = ⊎_elim (inside xs some) (last xs some) (cases_lt (position_or_len is_blank xs) (length xs))
 
 -- the word at the prefix, and the words of the rest
-pub words_prefix_at : (xs : List ℕ) (k : ℕ) → k ≡ position_or_len is_blank xs → 0 < position_or_len is_blank xs → words_in xs ≡ take k xs ∷ words_in (drop k xs)
+pub words_prefix_at : (xs : List ℕ) (k : ℕ) → k ≡ position_or_len is_blank xs → 0 < position_or_len is_blank xs → words_between_blanks xs ≡ take k xs ∷ words_between_blanks (drop k xs)
 words_prefix_at xs k is some = rw is (words_prefix xs some)
 
 -- ---- lines

@@ -7,46 +7,48 @@ use Rattle.vga_script.specs.Item.{Item, Repeated, repeated, expanded}
 use Rattle.vga_script.specs.Spelling.{spelling, item_spelling}
 use Rattle.vga_script.specs.declared.step.Step.{Step}
 use Rattle.vga_script.specs.declared.version.Version.{Version}
-use Rattle.vga_script.specs.Tokens.{words, lines_left, left_len}
-use Rattle.vga_script.specs.Text.{SpellsLine, SpellsLines, IsEnd, IsBadInside, Group, IsGroup}
+use Rattle.vga_script.specs.Tokens.{words, lines_of_rest, rest_len}
+use Rattle.vga_script.specs.Text.{SpellsLine, SpellsLines, IsRepeatEndLine, IsBadInside, Group}
+use Rattle.vga_script.specs.Text.{IsGroup}
 use Rattle.vga_script.specs.Text.{IsGroupFault}
 
 -- These lines, whose first has the number n, begin with the lines of some steps and the end of a
 -- repeat. The rest of the text begins with line `next`.
-pub record HasBody (n : ℕ) (left : Option (List ℕ)) (steps : List Step) (next : ℕ)
+pub record BeginsWithRepeatBody (n : ℕ) (left : Option (List ℕ)) (steps : List Step) (next : ℕ)
     (behind : Option (List ℕ)) : Type 0 where
   pub body : List (List ℕ)
   pub last : List ℕ
   pub good : SpellsLines body steps
-  pub ends : IsEnd (words last)
-  pub whole : lines_left left ≡ body ++ last ∷ lines_left behind
+  pub ends : IsRepeatEndLine (words last)
+  pub whole : lines_of_rest left ≡ body ++ last ∷ lines_of_rest behind
   pub number : next ≡ n + length body + 1
-  pub shorter : next + left_len behind ≤ n + left_len left
+  pub shorter : next + rest_len behind ≤ n + rest_len left
 
 -- The fault of the lines after the first of a repeat, which has this number: one of them is bad, or
 -- the repeat has no end.
 abbrev pub IsBodyFault : ℕ → Option (List ℕ) → Fault → Type 0
 IsBodyFault n left (BadLine bad) =
-    ((bad ≡ n) × ((steps : List Step) × SpellsLines (lines_left left) steps))
+    ((bad ≡ n) × ((steps : List Step) × SpellsLines (lines_of_rest left) steps))
     ⊎ ((body : List (List ℕ)) × (steps : List Step) × (line : List ℕ) × (others : List (List ℕ))
     × (bad ≡ n + (length body + 1))
-    × (lines_left left ≡ body ++ line ∷ others) × SpellsLines body steps × IsBadInside line)
+    × (lines_of_rest left ≡ body ++ line ∷ others) × SpellsLines body steps × IsBadInside line)
 IsBodyFault n left _ = ⊥
 
 -- These lines, whose first has the number n, begin with the lines of a group. The rest of the text
 -- begins with line `next`.
-pub record HasGroup (version : Version) (n : ℕ) (ls : List (List ℕ)) (items : List Item) (next : ℕ)
+pub record BeginsWithGroup (version : Version) (n : ℕ) (ls : List (List ℕ)) (items : List Item)
+    (next : ℕ)
     (behind : Option (List ℕ)) : Type 0 where
   pub group : Group
   pub good : IsGroup version group
   pub items_are : group.items ≡ items
-  pub whole : ls ≡ group.lines ++ lines_left behind
+  pub whole : ls ≡ group.lines ++ lines_of_rest behind
   pub number : next ≡ n + length group.lines
 
 -- the fault of the first group of these lines, whose first has this number
-abbrev pub IsGroupFaultOf : Version → ℕ → List (List ℕ) → Fault → Type 0
-IsGroupFaultOf version n ls (BadLine bad) = (so_far : ℕ) → IsGroupFault version so_far n ls bad
-IsGroupFaultOf version n ls _ = ⊥
+abbrev pub IsFirstGroupFault : Version → ℕ → List (List ℕ) → Fault → Type 0
+IsFirstGroupFault version n ls (BadLine bad) = (so_far : ℕ) → IsGroupFault version so_far n ls bad
+IsFirstGroupFault version n ls _ = ⊥
 
 -- The bytes afterwards are those before, followed by those of the `len` steps that a line spells.
 pub record AppendsLine (line before after : List ℕ) (len : ℕ) : Type 0 where
@@ -60,7 +62,7 @@ pub record AppendsLine (line before after : List ℕ) (len : ℕ) : Type 0 where
 pub record AppendsBody (n : ℕ) (left : Option (List ℕ)) (before after : List ℕ) (len next : ℕ)
     (behind : Option (List ℕ)) : Type 0 where
   pub steps : List Step
-  pub body : HasBody n left steps next behind
+  pub body : BeginsWithRepeatBody n left steps next behind
   pub count : len ≡ length steps
   pub few : len ≤ next
   pub bytes : after ≡ before ++ flat_map spelling steps
@@ -69,7 +71,7 @@ pub record AppendsBody (n : ℕ) (left : Option (List ℕ)) (before after : List
 pub record AppendsRepeat (n : ℕ) (left : Option (List ℕ)) (count : ℕ) (before after : List ℕ)
     (meant next : ℕ) (behind : Option (List ℕ)) : Type 0 where
   pub steps : List Step
-  pub body : HasBody n left steps next behind
+  pub body : BeginsWithRepeatBody n left steps next behind
   pub means : meant ≡ length (repeated count steps)
   pub bytes : after ≡ before ++ item_spelling (Repeated count steps)
 
@@ -77,6 +79,6 @@ pub record AppendsRepeat (n : ℕ) (left : Option (List ℕ)) (count : ℕ) (bef
 pub record AppendsGroup (version : Version) (n : ℕ) (ls : List (List ℕ)) (before after : List ℕ)
     (meant next : ℕ) (behind : Option (List ℕ)) : Type 0 where
   pub items : List Item
-  pub group : HasGroup version n ls items next behind
+  pub group : BeginsWithGroup version n ls items next behind
   pub means : meant ≡ length (expanded items)
   pub bytes : after ≡ before ++ flat_map item_spelling items

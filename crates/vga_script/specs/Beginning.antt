@@ -8,7 +8,7 @@ use Rattle.vga_script.specs.declared.step.Step.TheVariants.{Get, GetWord, Int, A
 use Rattle.vga_script.specs.declared.version.Version.{Version}
 use Rattle.vga_script.specs.declared.version.Version.TheVariants.{One, Two}
 use Rattle.vga_script.specs.Version.{version_byte}
-use Rattle.vga_script.specs.Item.{Listing, listing, Item, Once, Repeated}
+use Rattle.vga_script.specs.Item.{Listing, script_of_items, Item, Once, Repeated}
 use Rattle.vga_script.specs.declared.dump_range.Shown.TheVariants as shown
 use Rattle.vga_script.specs.DumpRange.{kind_registers, kind_dac, kind_beam, kind_latches}
 use Rattle.vga_script.specs.DumpRange.{kind_plane, kind_bios_data, kind_cells}
@@ -22,8 +22,8 @@ abbrev pub call_at : ℕ → ℕ → ℕ → ℕ → ℕ → List ℕ → Option
 call_at ax bx cx dx len rest = Some (Int ax bx cx dx (take len rest), drop len rest)
 
 -- a dump of this kind, with its fields and what follows them
-abbrev pub shown_at : ℕ → List ℕ → Option (Step × List ℕ)
-shown_at kind rest =
+abbrev pub dump_at : ℕ → List ℕ → Option (Step × List ℕ)
+dump_at kind rest =
     if kind == kind_registers then Some (Show shown.Registers, rest)
     else if kind == kind_dac then Some (Show (shown.Dac (get_or rest 0 0)), drop 1 rest)
     else if kind == kind_beam then Some (Show shown.Beam, rest)
@@ -38,8 +38,8 @@ shown_at kind rest =
     else None
 
 -- the step of an opcode and its fields, and what follows them
-abbrev pub step_with : ℕ → List ℕ → Option (Step × List ℕ)
-step_with opcode rest =
+abbrev pub step_of_opcode : ℕ → List ℕ → Option (Step × List ℕ)
+step_of_opcode opcode rest =
     if opcode == opcode_out then Some (Out (little_number 2 rest) (get_or rest 2 0), drop 3 rest)
     else if opcode == opcode_out_word then Some (
       OutWord (little_number 2 rest)
@@ -64,41 +64,42 @@ step_with opcode rest =
     (little_number 2 (drop 8 rest)) (drop 10 rest)
     else if opcode == opcode_advance then Some (Advance (little_number 4 rest), drop 4 rest)
     else if opcode == opcode_frame then Some (Frame, rest)
-    else if opcode == opcode_show then shown_at (get_or rest 0 0) (drop 1 rest)
+    else if opcode == opcode_show then dump_at (get_or rest 0 0) (drop 1 rest)
     else None
 
 -- the step that bytes begin with, and what follows it
 abbrev pub step_of : List ℕ → Option (Step × List ℕ)
 step_of [] = None
-step_of (opcode ∷ rest) = step_with opcode rest
+step_of (opcode ∷ rest) = step_of_opcode opcode rest
 
 -- a step that was read, followed by those of the rest; or none
-abbrev pub and_others : Option (Step × List ℕ) → (List ℕ → List Step) → List Step
-and_others None others = []
-and_others (Some read) others = read.0 ∷ others read.1
+abbrev pub step_and_others : Option (Step × List ℕ) → (List ℕ → List Step) → List Step
+step_and_others None others = []
+step_and_others (Some read) others = read.0 ∷ others read.1
 
 -- the steps that bytes begin with, at most `most` of them
 abbrev pub steps_from : ℕ → List ℕ → List Step
 steps_from zero bytes = []
-steps_from (suc most) bytes = and_others (step_of bytes) (steps_from most)
+steps_from (suc most) bytes = step_and_others (step_of bytes) (steps_from most)
 
 -- all steps that bytes begin with
 unfoldable pub steps_in : List ℕ → List Step
 steps_in bytes = steps_from (length bytes) bytes
 
 -- what follows a step that was read and those after it; or the bytes themselves, if none was read
-abbrev pub behind_others : Option (Step × List ℕ) → (List ℕ → List ℕ) → List ℕ → List ℕ
-behind_others None behind bytes = bytes
-behind_others (Some read) behind bytes = behind read.1
+abbrev pub rest_behind_others : Option (Step × List ℕ) → (List ℕ → List ℕ) → List ℕ → List ℕ
+rest_behind_others None behind bytes = bytes
+rest_behind_others (Some read) behind bytes = behind read.1
 
 -- what follows those steps
-abbrev pub behind_from : ℕ → List ℕ → List ℕ
-behind_from zero bytes = bytes
-behind_from (suc most) bytes = behind_others (step_of bytes) (behind_from most) bytes
+abbrev pub rest_behind_steps : ℕ → List ℕ → List ℕ
+rest_behind_steps zero bytes = bytes
+rest_behind_steps (suc most) bytes =
+    rest_behind_others (step_of bytes) (rest_behind_steps most) bytes
 
 -- what follows all steps that bytes begin with
 unfoldable pub behind_steps : List ℕ → List ℕ
-behind_steps bytes = behind_from (length bytes) bytes
+behind_steps bytes = rest_behind_steps (length bytes) bytes
 
 -- the item of a step that was read
 abbrev pub step_item : Option (Step × List ℕ) → Option (Item × List ℕ)
@@ -110,25 +111,25 @@ abbrev pub repeat_item : ℕ → List ℕ → Option (Item × List ℕ)
 repeat_item count bytes = Some (Repeated count (steps_in bytes), drop 1 (behind_steps bytes))
 
 -- the item of an opcode and of the bytes after it, and what follows the item
-abbrev pub item_with : ℕ → List ℕ → Option (Item × List ℕ)
-item_with opcode rest =
+abbrev pub item_of_opcode : ℕ → List ℕ → Option (Item × List ℕ)
+item_of_opcode opcode rest =
     if opcode == opcode_repeat then repeat_item (little_number 2 rest) (drop 2 rest)
-    else step_item (step_with opcode rest)
+    else step_item (step_of_opcode opcode rest)
 
 -- the item that bytes begin with, and what follows it
 abbrev pub item_of : List ℕ → Option (Item × List ℕ)
 item_of [] = None
-item_of (opcode ∷ rest) = item_with opcode rest
+item_of (opcode ∷ rest) = item_of_opcode opcode rest
 
 -- an item that was read, followed by those of the rest; or none
-abbrev pub and_items : Option (Item × List ℕ) → (List ℕ → List Item) → List Item
-and_items None others = []
-and_items (Some read) others = read.0 ∷ others read.1
+abbrev pub item_and_others : Option (Item × List ℕ) → (List ℕ → List Item) → List Item
+item_and_others None others = []
+item_and_others (Some read) others = read.0 ∷ others read.1
 
 -- the items that bytes begin with, at most `most` of them
 abbrev pub items_from : ℕ → List ℕ → List Item
 items_from zero bytes = []
-items_from (suc most) bytes = and_items (item_of bytes) (items_from most)
+items_from (suc most) bytes = item_and_others (item_of bytes) (items_from most)
 
 -- all items that bytes begin with
 unfoldable pub items_in : List ℕ → List Item
@@ -140,4 +141,4 @@ version_of byte = if byte == version_byte Two then Two else One
 
 -- The script that bytes spell: the version after the magic, and the items after the version.
 unfoldable pub listing_of : List ℕ → Listing
-listing_of bytes = listing (version_of (get_or bytes 4 0)) (items_in (drop 5 bytes))
+listing_of bytes = script_of_items (version_of (get_or bytes 4 0)) (items_in (drop 5 bytes))

@@ -8,7 +8,7 @@ use Rattle.vga_bits.specs.declared.fault.Fault.TheVariants.{Truncated, TooLong, 
 use Rattle.vga_script.specs.declared.step.Step.{Step}
 use Rattle.vga_script.specs.declared.step.Step.TheVariants.{Show}
 use Rattle.vga_script.specs.declared.dump_range.Shown.TheVariants as shown
-use Rattle.vga_script.specs.Item.{Item, Listing, expanded, step_limit, steps_of}
+use Rattle.vga_script.specs.Item.{Item, Listing, expanded, step_limit, steps_of_item}
 use Rattle.vga_script.specs.declared.version.Version.{Version}
 use Rattle.vga_script.specs.DumpRange.{IsShownInRange, kind_registers, kind_dac, kind_beam}
 use Rattle.vga_script.specs.DumpRange.{kind_latches, kind_plane, kind_bios_data, kind_cells}
@@ -21,9 +21,9 @@ use Rattle.vga_script.specs.Spelling.{Spells, StartsWithItem}
 
 -- How many bytes a dump has that begins with these: its kind and the fields of that kind, or None
 -- for an unknown kind. Without a byte of a kind it is 1.
-abbrev pub shown_len : List ℕ → Option ℕ
-shown_len [] = Some 1
-shown_len (kind ∷ rest) =
+abbrev pub dump_len : List ℕ → Option ℕ
+dump_len [] = Some 1
+dump_len (kind ∷ rest) =
     if kind == kind_registers then Some 1
     else if kind == kind_dac then Some 2
     else if kind == kind_beam then Some 1
@@ -48,7 +48,7 @@ fields_len opcode rest =
     else if opcode == opcode_int then Some (10 + little_number 2 (drop 8 rest))
     else if opcode == opcode_advance then Some 4
     else if opcode == opcode_frame then Some 0
-    else if opcode == opcode_show then shown_len rest
+    else if opcode == opcode_show then dump_len rest
     else None
 
 -- the bytes begin with no opcode, or with a dump of an unknown kind
@@ -115,7 +115,7 @@ pub record HasStepsBefore (bytes : List ℕ) (len : ℕ) (rest : List ℕ) : Typ
 
 -- The bytes begin with a repeat, and the rest stands in it, `distance` bytes after its opcode.
 -- Between the two are the count and good steps.
-pub record OpensRepeat (version : Version) (bytes : List ℕ) (distance : ℕ)
+pub record StandsInRepeat (version : Version) (bytes : List ℕ) (distance : ℕ)
     (rest : List ℕ) : Type 0 where
   pub count : ℕ
   pub body : List ℕ
@@ -135,17 +135,17 @@ abbrev pub IsItemFault : Version → ℕ → ℕ → List ℕ → Fault → Type
 IsItemFault version so_far offset bytes (BadStep at) =
     ((at ≡ offset) × StartsWithBadItem version bytes)
     ⊎ ((distance : ℕ) × (rest : List ℕ) × (at ≡ offset + distance)
-    × OpensRepeat version bytes distance rest
+    × StandsInRepeat version bytes distance rest
     × StartsWithBadBody rest)
 IsItemFault version so_far offset bytes (Truncated at) =
     ((at ≡ offset) × (StartsWithCutItem version bytes
-    ⊎ ((distance : ℕ) × OpensRepeat version bytes distance [])))
+    ⊎ ((distance : ℕ) × StandsInRepeat version bytes distance [])))
     ⊎ ((distance : ℕ) × (rest : List ℕ) × (at ≡ offset + distance)
-    × OpensRepeat version bytes distance rest
+    × StandsInRepeat version bytes distance rest
     × StartsWithCutStep rest)
 IsItemFault version so_far offset bytes (TooMany at) =
     (at ≡ offset) × ((first : Item) × (rest : List ℕ) × StartsWithItem version bytes first rest
-    × (step_limit < so_far + length (steps_of first)))
+    × (step_limit < so_far + length (steps_of_item first)))
 IsItemFault version so_far offset bytes _ = ⊥
 
 -- The bytes before this offset spell a script, and the rest begins at this offset.

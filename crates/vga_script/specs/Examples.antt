@@ -2,13 +2,13 @@
 use Rattle.std.specs.Prelude.{ℕ, List, [], ◌∷◌, ◌++◌, codes, replicate}
 use Rattle.vga_script.specs.declared.step.Step.{Step}
 use Rattle.vga_script.specs.declared.step.Step.TheVariants.{Out, Int, Frame}
-use Rattle.vga_script.specs.Item.{Once, Repeated, Listing, listing}
+use Rattle.vga_script.specs.Item.{Once, Repeated, Listing, script_of_items}
 use Rattle.vga_script.specs.declared.version.Version.TheVariants.{One, Two}
 use Rattle.vga_script.specs.Spelling.{header}
 
 -- a write of the sequencer's index, and a mode set
 abbrev pub two_steps : Listing
-two_steps = listing One (Once (Out 0x3C4 2) ∷ Once (Int 0x13 0 0 0 []) ∷ [])
+two_steps = script_of_items One (Once (Out 0x3C4 2) ∷ Once (Int 0x13 0 0 0 []) ∷ [])
 
 -- its bytes
 abbrev pub two_steps_bytes : List ℕ
@@ -17,7 +17,7 @@ two_steps_bytes = codes "VGAS" ++ 1 ∷ 1 ∷ 0xC4 ∷ 0x03 ∷ 0x02 ∷ 9 ∷ 0
 
 -- the same write three times
 abbrev pub three_times : Listing
-three_times = listing Two (Repeated 3 (Out 0x3C4 2 ∷ []) ∷ [])
+three_times = script_of_items Two (Repeated 3 (Out 0x3C4 2 ∷ []) ∷ [])
 
 -- its bytes
 abbrev pub three_times_bytes : List ℕ
@@ -25,7 +25,7 @@ three_times_bytes = codes "VGAS" ++ 2 ∷ 0x0D ∷ 3 ∷ 0 ∷ 1 ∷ 0xC4 ∷ 0x
 
 -- a repeat without steps, with the largest count
 abbrev pub nothing_repeated : Listing
-nothing_repeated = listing Two (Repeated 0xFFFF [] ∷ [])
+nothing_repeated = script_of_items Two (Repeated 0xFFFF [] ∷ [])
 
 -- n frames; opaque, as are their bytes, since every goal would write them out
 unfoldable pub frames : ℕ → List Step
@@ -37,7 +37,7 @@ frame_bytes n = replicate n 0x0B
 
 -- n frames in a repeat with the largest count
 abbrev pub frames_repeated : ℕ → Listing
-frames_repeated n = listing Two (Repeated 0xFFFF (frames n) ∷ [])
+frames_repeated n = script_of_items Two (Repeated 0xFFFF (frames n) ∷ [])
 
 -- its bytes
 abbrev pub frames_repeated_bytes : ℕ → List ℕ

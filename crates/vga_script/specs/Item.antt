@@ -18,8 +18,8 @@ pub record Listing : Type 0 where
   pub items : List Item
 
 -- a script of this version and these items
-abbrev pub listing : Version → List Item → Listing
-listing version items = record { version = version; items = items }
+abbrev pub script_of_items : Version → List Item → Listing
+script_of_items version items = record { version = version; items = items }
 
 -- The steps n times over. It is opaque, since n may be in the thousands.
 unfoldable pub repeated : ℕ → List Step → List Step
@@ -27,13 +27,13 @@ repeated zero steps = []
 repeated (suc times) steps = steps ++ repeated times steps
 
 -- the steps that an item means: the step itself, or those of a repeat as often as its count says
-abbrev pub steps_of : Item → List Step
-steps_of (Once step) = step ∷ []
-steps_of (Repeated count steps) = repeated count steps
+abbrev pub steps_of_item : Item → List Step
+steps_of_item (Once step) = step ∷ []
+steps_of_item (Repeated count steps) = repeated count steps
 
 -- the steps that items mean, item by item
 abbrev pub expanded : List Item → List Step
-expanded items = flat_map steps_of items
+expanded items = flat_map steps_of_item items
 
 -- how many steps a script may mean
 abbrev pub step_limit : ℕ

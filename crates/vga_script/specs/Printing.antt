@@ -12,7 +12,7 @@ use Rattle.vga_script.specs.declared.version.Version.{Version}
 use Rattle.vga_script.specs.declared.version.Version.TheVariants.{One, Two}
 use Rattle.vga_script.specs.declared.dump_range.Shown.{Shown}
 use Rattle.vga_script.specs.declared.dump_range.Shown.TheVariants as shown
-use Rattle.vga_script.specs.Text.{name_of, keyword_of, shown_name}
+use Rattle.vga_script.specs.Text.{keyword_name, keyword_of, shown_name}
 
 -- the digits of a port, at least three
 unfoldable pub port_text : ℕ → List ℕ
@@ -61,15 +61,15 @@ words_after_name (Show what) = shown_name what ∷ shown_field_words what
 
 -- the words of a step
 abbrev pub printed_words : Step → List (List ℕ)
-printed_words step = name_of (keyword_of step) ∷ words_after_name step
+printed_words step = keyword_name (keyword_of step) ∷ words_after_name step
 
 -- a line of these words, separated by one space each, and a newline
-unfoldable pub line_of : List (List ℕ) → List ℕ
-line_of words = join_with_byte 0x20 words ++ 0x0A ∷ []
+unfoldable pub line_of_words : List (List ℕ) → List ℕ
+line_of_words words = join_with_byte 0x20 words ++ 0x0A ∷ []
 
 -- the line of a step
 abbrev pub printed_line : Step → List ℕ
-printed_line step = line_of (printed_words step)
+printed_line step = line_of_words (printed_words step)
 
 -- the printed text of these steps
 abbrev pub printed_steps : List Step → List ℕ
@@ -80,14 +80,14 @@ printed_steps steps = flat_map printed_line steps
 abbrev pub printed_item : Item → List ℕ
 printed_item (Once step) = printed_line step
 printed_item (Repeated count steps) =
-    line_of (codes "repeat" ∷ decimal count ∷ []) ++ (printed_steps steps
-    ++ line_of (codes "end" ∷ []))
+    line_of_words (codes "repeat" ∷ decimal count ∷ []) ++ (printed_steps steps
+    ++ line_of_words (codes "end" ∷ []))
 
 -- the line that gives the version of a script, unless it is 1
 abbrev pub version_line : Version → List ℕ
 version_line One = []
-version_line Two = line_of (codes "version" ∷ codes "2" ∷ [])
+version_line Two = line_of_words (codes "version" ∷ codes "2" ∷ [])
 
 -- the printed text of a script
-abbrev pub printed : Listing → List ℕ
-printed script = version_line script.version ++ flat_map printed_item script.items
+abbrev pub printed_script : Listing → List ℕ
+printed_script script = version_line script.version ++ flat_map printed_item script.items

@@ -37,16 +37,16 @@ pub record IsInside (body rest : List ℕ) : Type 0 where
   pub spelled : rest ≡ flat_map spelling todo ++ opcode_end ∷ flat_map item_spelling items
 
 -- the rest stands in one of the two ways
-abbrev pub Stands : List ℕ → List ℕ → Type 0
-Stands body rest = IsOutside body rest ⊎ IsInside body rest
+abbrev pub StandsInOrOutsideRepeat : List ℕ → List ℕ → Type 0
+StandsInOrOutsideRepeat body rest = IsOutside body rest ⊎ IsInside body rest
 
 -- the bytes are empty, or begin with a step
-abbrev pub BeginsWithStep : List ℕ → Type 0
-BeginsWithStep rest = (rest ≡ []) ⊎ ((step : Step) × (others : List ℕ)
+abbrev pub IsEmptyOrBeginsWithStep : List ℕ → Type 0
+IsEmptyOrBeginsWithStep rest = (rest ≡ []) ⊎ ((step : Step) × (others : List ℕ)
     × StartsWithStep rest step others)
 
 -- The position moves on, and the steps that are left stay the same.
-pub record Reaches (left : ℕ) (body rest : List ℕ) (left_there : ℕ)
+pub record LeavesSameSteps (left : ℕ) (body rest : List ℕ) (left_there : ℕ)
     (body_there rest_there : List ℕ) : Type 0 where
-  pub stands : Stands body_there rest_there
+  pub stands : StandsInOrOutsideRepeat body_there rest_there
   pub same : steps_left left_there body_there rest_there ≡ steps_left left body rest

@@ -15,7 +15,7 @@ use Rattle.vga_script.specs.declared.keyword.Keyword.{Keyword}
 use Rattle.vga_script.specs.declared.keyword.Keyword.TheVariants as keyword
 use Rattle.vga_script.specs.declared.step_reading.Unread.{Unread}
 use Rattle.vga_script.specs.declared.step_reading.Unread.TheVariants as unread
-use Rattle.vga_script.specs.Tokens.{lowered}
+use Rattle.vga_script.specs.Tokens.{in_lower_case}
 
 -- the second reads after the first, if the first has read something
 infixl 10 ◌>>=◌
@@ -29,9 +29,9 @@ ReadsNothing unread.Bad read = read ≡ None
 ReadsNothing unread.OutOfMemory read = Unit {0}
 
 -- the code gives what is read, unless an allocation fails
-abbrev pub Gives : {X Y : Type 0} → (X → Y) → Result X Unread → Option Y → Type 0
-Gives view (Ok x) read = read ≡ Some (view x)
-Gives view (Err e) read = ReadsNothing e read
+abbrev pub ReadsAs : {X Y : Type 0} → (X → Y) → Result X Unread → Option Y → Type 0
+ReadsAs view (Ok x) read = read ≡ Some (view x)
+ReadsAs view (Err e) read = ReadsNothing e read
 
 -- the number that these digits spell after n, if it is at most `most`
 abbrev pub number_from : ℕ → ℕ → ℕ → List ℕ → Option ℕ
@@ -41,57 +41,59 @@ number_from radix most n (c ∷ cs) =
     then number_from radix most (n * radix + digit_value c) cs else None
 
 -- the number that a word spells, if it spells one of at most `most`
-unfoldable pub number_of : ℕ → ℕ → List ℕ → Option ℕ
-number_of radix most [] = None
-number_of radix most (c ∷ cs) = number_from radix most 0 (c ∷ cs)
+unfoldable pub number_of_word : ℕ → ℕ → List ℕ → Option ℕ
+number_of_word radix most [] = None
+number_of_word radix most (c ∷ cs) = number_from radix most 0 (c ∷ cs)
 
 -- a hexadecimal number of at most `digits` digits, itself at most `most`
-unfoldable pub hex_of : ℕ → ℕ → List ℕ → Option ℕ
-hex_of digits most word = if nat_le (length word) digits then number_of 16 most word else None
+unfoldable pub hex_number_of : ℕ → ℕ → List ℕ → Option ℕ
+hex_number_of digits most word =
+    if nat_le (length word) digits then number_of_word 16 most word else None
 
 -- the same of the first word, and the words after it
-unfoldable pub hex_at : ℕ → ℕ → List (List ℕ) → Option (ℕ × List (List ℕ))
-hex_at digits most [] = None
-hex_at digits most (w ∷ ws) = hex_of digits most w >>= λ n. Some (n, ws)
+unfoldable pub next_hex_number : ℕ → ℕ → List (List ℕ) → Option (ℕ × List (List ℕ))
+next_hex_number digits most [] = None
+next_hex_number digits most (w ∷ ws) = hex_number_of digits most w >>= λ n. Some (n, ws)
 
 -- no word is left
-unfoldable pub ended : List (List ℕ) → Option (Unit {0})
-ended [] = Some tt
-ended (w ∷ ws) = None
+unfoldable pub no_word_left : List (List ℕ) → Option (Unit {0})
+no_word_left [] = Some tt
+no_word_left (w ∷ ws) = None
 
 -- one hexadecimal number, and no other word
-unfoldable pub one_hex : ℕ → ℕ → List (List ℕ) → Option ℕ
-one_hex digits most ws = do
-  n ← hex_at digits most ws
-  e ← ended n.1
+unfoldable pub only_hex_number : ℕ → ℕ → List (List ℕ) → Option ℕ
+only_hex_number digits most ws = do
+  n ← next_hex_number digits most ws
+  e ← no_word_left n.1
   Some n.0
 
 -- two hexadecimal numbers, and no other word
-unfoldable pub two_hex : ℕ → ℕ → ℕ → ℕ → List (List ℕ) → Option (ℕ × ℕ)
-two_hex digits most other_digits other_most ws = do
-  n ← hex_at digits most ws
-  m ← hex_at other_digits other_most n.1
-  e ← ended m.1
+unfoldable pub only_two_hex_numbers : ℕ → ℕ → ℕ → ℕ → List (List ℕ) → Option (ℕ × ℕ)
+only_two_hex_numbers digits most other_digits other_most ws = do
+  n ← next_hex_number digits most ws
+  m ← next_hex_number other_digits other_most n.1
+  e ← no_word_left m.1
   Some (n.0, m.0)
 
 -- a decimal number, and the words after it
-abbrev pub decimal_at : ℕ → List (List ℕ) → Option (ℕ × List (List ℕ))
-decimal_at most [] = None
-decimal_at most (w ∷ ws) = number_of 10 most w >>= λ n. Some (n, ws)
+abbrev pub next_decimal_number : ℕ → List (List ℕ) → Option (ℕ × List (List ℕ))
+next_decimal_number most [] = None
+next_decimal_number most (w ∷ ws) = number_of_word 10 most w >>= λ n. Some (n, ws)
 
 -- one decimal number, and no other word
-unfoldable pub one_decimal : ℕ → List (List ℕ) → Option ℕ
-one_decimal most ws = do
-  n ← decimal_at most ws
-  e ← ended n.1
+unfoldable pub only_decimal_number : ℕ → List (List ℕ) → Option ℕ
+only_decimal_number most ws = do
+  n ← next_decimal_number most ws
+  e ← no_word_left n.1
   Some n.0
 
 -- the register of this name, if the first word is that register, and 0 otherwise; and the words
 -- after it
-unfoldable pub register_at : List ℕ → List (List ℕ) → Option (ℕ × List (List ℕ))
-register_at name [] = Some (0, [])
-register_at name (w ∷ ws) =
-    if bytes_eq (lowered (take 3 w)) name then (hex_of 4 0xFFFF (drop 3 w) >>= λ n. Some (n, ws))
+unfoldable pub next_register : List ℕ → List (List ℕ) → Option (ℕ × List (List ℕ))
+next_register name [] = Some (0, [])
+next_register name (w ∷ ws) =
+    if bytes_eq (in_lower_case (take 3 w)) name then (hex_number_of 4 0xFFFF (drop 3 w) >>= λ n.
+        Some (n, ws))
     else Some (0, w ∷ ws)
 
 -- the bytes that the digits of a block spell
@@ -100,73 +102,77 @@ decoded (Ok bytes) = Some bytes
 decoded (Err e) = None
 
 -- the bytes of a word that has the digits of 1 to 65,535 bytes
-unfoldable pub bytes_of : List ℕ → Option (List ℕ)
-bytes_of word = if nat_lt 0 (length word) && nat_le (length word) 131070
+unfoldable pub block_bytes_of_word : List ℕ → Option (List ℕ)
+block_bytes_of_word word = if nat_lt 0 (length word) && nat_le (length word) 131070
     then decoded (decode_of word) else None
 
 -- the bytes of the word after `block`, and no other word
-unfoldable pub digits_at : List (List ℕ) → Option (List ℕ)
-digits_at [] = None
-digits_at (w ∷ ws) = do
-  block ← bytes_of w
-  e ← ended ws
+unfoldable pub only_block_digits : List (List ℕ) → Option (List ℕ)
+only_block_digits [] = None
+only_block_digits (w ∷ ws) = do
+  block ← block_bytes_of_word w
+  e ← no_word_left ws
   Some block
 
 -- a block or none, and no other word
 unfoldable pub block_at : List (List ℕ) → Option (List ℕ)
 block_at [] = Some []
-block_at (w ∷ ws) = if bytes_eq (lowered w) (codes "block") then digits_at ws else None
+block_at (w ∷ ws) =
+    if bytes_eq (in_lower_case w) (codes "block") then only_block_digits ws else None
 
 -- a call of the BIOS
 unfoldable pub read_int : List (List ℕ) → Option Step
 read_int ws = do
-  a ← register_at (codes "ax=") ws
-  b ← register_at (codes "bx=") a.1
-  c ← register_at (codes "cx=") b.1
-  d ← register_at (codes "dx=") c.1
+  a ← next_register (codes "ax=") ws
+  b ← next_register (codes "bx=") a.1
+  c ← next_register (codes "cx=") b.1
+  d ← next_register (codes "dx=") c.1
   block ← block_at d.1
   Some (Int a.0 b.0 c.0 d.0 block)
 
 -- what is shown, if no word is left
-unfoldable pub alone : Shown → List (List ℕ) → Option Shown
-alone what ws = ended ws >>= λ e. Some what
+unfoldable pub shown_if_no_word_left : Shown → List (List ℕ) → Option Shown
+shown_if_no_word_left what ws = no_word_left ws >>= λ e. Some what
 
 -- the entry of the DAC that is shown
 unfoldable pub read_dac : List (List ℕ) → Option Shown
-read_dac ws = one_hex 2 0xFF ws >>= λ n. Some (shown.Dac n)
+read_dac ws = only_hex_number 2 0xFF ws >>= λ n. Some (shown.Dac n)
 
 -- the bytes of a plane that are shown: 1 to 256, none past its end
 unfoldable pub read_plane : List (List ℕ) → Option Shown
 read_plane ws = do
-  p ← hex_at 1 3 ws
-  o ← hex_at 4 0xFFFF p.1
-  n ← one_decimal 256 o.1
+  p ← next_hex_number 1 3 ws
+  o ← next_hex_number 4 0xFFFF p.1
+  n ← only_decimal_number 256 o.1
   if nat_lt 0 n && nat_le (o.0 + n) 0x1_0000 then Some (shown.Plane p.0 o.0 n) else None
 
 -- what is shown, by its name
 unfoldable pub read_shown : List (List ℕ) → Option Shown
 read_shown [] = None
 read_shown (w ∷ ws) =
-    if bytes_eq (lowered w) (codes "regs") then alone shown.Registers ws
-    else if bytes_eq (lowered w) (codes "dac") then read_dac ws
-    else if bytes_eq (lowered w) (codes "beam") then alone shown.Beam ws
-    else if bytes_eq (lowered w) (codes "latches") then alone shown.Latches ws
-    else if bytes_eq (lowered w) (codes "plane") then read_plane ws
-    else if bytes_eq (lowered w) (codes "bda") then alone shown.BiosData ws
-    else if bytes_eq (lowered w) (codes "cells") then alone shown.Cells ws
+    if bytes_eq (in_lower_case w) (codes "regs") then shown_if_no_word_left shown.Registers ws
+    else if bytes_eq (in_lower_case w) (codes "dac") then read_dac ws
+    else if bytes_eq (in_lower_case w) (codes "beam") then shown_if_no_word_left shown.Beam ws
+    else if bytes_eq (in_lower_case w) (codes "latches") then shown_if_no_word_left shown.Latches ws
+    else if bytes_eq (in_lower_case w) (codes "plane") then read_plane ws
+    else if bytes_eq (in_lower_case w) (codes "bda") then shown_if_no_word_left shown.BiosData ws
+    else if bytes_eq (in_lower_case w) (codes "cells") then shown_if_no_word_left shown.Cells ws
     else None
 
 -- the step that a keyword and the words after it spell
-unfoldable pub read_step : Keyword → List (List ℕ) → Option Step
-read_step keyword.Out ws = two_hex 4 0xFFFF 2 0xFF ws >>= λ n. Some (Out n.0 n.1)
-read_step keyword.OutWord ws = two_hex 4 0xFFFF 4 0xFFFF ws >>= λ n. Some (OutWord n.0 n.1)
-read_step keyword.In ws = one_hex 4 0xFFFF ws >>= λ n. Some (In n)
-read_step keyword.InWord ws = one_hex 4 0xFFFF ws >>= λ n. Some (InWord n)
-read_step keyword.Put ws = two_hex 8 0xFFFF_FFFF 2 0xFF ws >>= λ n. Some (Put n.0 n.1)
-read_step keyword.PutWord ws = two_hex 8 0xFFFF_FFFF 4 0xFFFF ws >>= λ n. Some (PutWord n.0 n.1)
-read_step keyword.Get ws = one_hex 8 0xFFFF_FFFF ws >>= λ n. Some (Get n)
-read_step keyword.GetWord ws = one_hex 8 0xFFFF_FFFF ws >>= λ n. Some (GetWord n)
-read_step keyword.Int ws = read_int ws
-read_step keyword.Advance ws = one_decimal 0xFFFF_FFFF ws >>= λ n. Some (Advance n)
-read_step keyword.Frame ws = ended ws >>= λ e. Some Frame
-read_step keyword.Show ws = read_shown ws >>= λ what. Some (Show what)
+unfoldable pub step_of_keyword : Keyword → List (List ℕ) → Option Step
+step_of_keyword keyword.Out ws = only_two_hex_numbers 4 0xFFFF 2 0xFF ws >>= λ n. Some (Out n.0 n.1)
+step_of_keyword keyword.OutWord ws =
+    only_two_hex_numbers 4 0xFFFF 4 0xFFFF ws >>= λ n. Some (OutWord n.0 n.1)
+step_of_keyword keyword.In ws = only_hex_number 4 0xFFFF ws >>= λ n. Some (In n)
+step_of_keyword keyword.InWord ws = only_hex_number 4 0xFFFF ws >>= λ n. Some (InWord n)
+step_of_keyword keyword.Put ws =
+    only_two_hex_numbers 8 0xFFFF_FFFF 2 0xFF ws >>= λ n. Some (Put n.0 n.1)
+step_of_keyword keyword.PutWord ws =
+    only_two_hex_numbers 8 0xFFFF_FFFF 4 0xFFFF ws >>= λ n. Some (PutWord n.0 n.1)
+step_of_keyword keyword.Get ws = only_hex_number 8 0xFFFF_FFFF ws >>= λ n. Some (Get n)
+step_of_keyword keyword.GetWord ws = only_hex_number 8 0xFFFF_FFFF ws >>= λ n. Some (GetWord n)
+step_of_keyword keyword.Int ws = read_int ws
+step_of_keyword keyword.Advance ws = only_decimal_number 0xFFFF_FFFF ws >>= λ n. Some (Advance n)
+step_of_keyword keyword.Frame ws = no_word_left ws >>= λ e. Some Frame
+step_of_keyword keyword.Show ws = read_shown ws >>= λ what. Some (Show what)

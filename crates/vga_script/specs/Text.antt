@@ -18,22 +18,22 @@ use Rattle.vga_bits.specs.declared.fault.Fault.{Fault}
 use Rattle.vga_bits.specs.declared.fault.Fault.TheVariants.{BadLine}
 use Rattle.vga_script.specs.Version.{AllowsRepeats}
 use Rattle.vga_script.specs.DumpRange.{IsShownInRange}
-use Rattle.vga_script.specs.Tokens.{lines, words, lowered, IsNumeral, IsHex}
+use Rattle.vga_script.specs.Tokens.{lines, words, in_lower_case, IsNumeral, IsHex}
 
 -- the word that a step's line begins with, in lower case
-abbrev pub name_of : Keyword → List ℕ
-name_of keyword.Out = codes "out"
-name_of keyword.OutWord = codes "outw"
-name_of keyword.In = codes "in"
-name_of keyword.InWord = codes "inw"
-name_of keyword.Put = codes "put"
-name_of keyword.PutWord = codes "putw"
-name_of keyword.Get = codes "get"
-name_of keyword.GetWord = codes "getw"
-name_of keyword.Int = codes "int"
-name_of keyword.Advance = codes "advance"
-name_of keyword.Frame = codes "frame"
-name_of keyword.Show = codes "show"
+abbrev pub keyword_name : Keyword → List ℕ
+keyword_name keyword.Out = codes "out"
+keyword_name keyword.OutWord = codes "outw"
+keyword_name keyword.In = codes "in"
+keyword_name keyword.InWord = codes "inw"
+keyword_name keyword.Put = codes "put"
+keyword_name keyword.PutWord = codes "putw"
+keyword_name keyword.Get = codes "get"
+keyword_name keyword.GetWord = codes "getw"
+keyword_name keyword.Int = codes "int"
+keyword_name keyword.Advance = codes "advance"
+keyword_name keyword.Frame = codes "frame"
+keyword_name keyword.Show = codes "show"
 
 -- the keyword of a step
 abbrev pub keyword_of : Step → Keyword
@@ -66,7 +66,7 @@ abbrev pub SpellsRegister : List ℕ → List (List ℕ) → ℕ → Type 0
 SpellsRegister name fields value =
     ((fields ≡ []) × (value ≡ 0))
     ⊎ ((prefix : List ℕ) × (digits : List ℕ) × (fields ≡ (prefix ++ digits) ∷ [])
-    × (lowered prefix ≡ name) × IsHex 4 digits value)
+    × (in_lower_case prefix ≡ name) × IsHex 4 digits value)
 
 -- two hexadecimal digits for each byte, the high one first
 abbrev pub SpellsBytes : List ℕ → List ℕ → Type 0
@@ -77,7 +77,7 @@ abbrev pub SpellsBlock : List (List ℕ) → List ℕ → Type 0
 SpellsBlock fields block =
     ((fields ≡ []) × (block ≡ []))
     ⊎ ((name : List ℕ) × (digits : List ℕ) × (fields ≡ name ∷ digits ∷ [])
-    × (lowered name ≡ codes "block")
+    × (in_lower_case name ≡ codes "block")
     × (0 < length block) × (length block < 2 ^ 16) × SpellsBytes digits block)
 
 -- the word that says what is shown, in lower case
@@ -107,7 +107,7 @@ SpellsShownFields fields shown.Cells = fields ≡ []
 abbrev pub SpellsShown : List (List ℕ) → Shown → Type 0
 SpellsShown fields what =
     (first : List ℕ) × (rest : List (List ℕ)) × (fields ≡ first ∷ rest)
-    × (lowered first ≡ shown_name what) × SpellsShownFields rest what
+    × (in_lower_case first ≡ shown_name what) × SpellsShownFields rest what
 
 -- the words that follow a step's name
 abbrev pub SpellsFields : List (List ℕ) → Step → Type 0
@@ -134,7 +134,7 @@ SpellsFields fields (Show what) = SpellsShown fields what
 abbrev pub SpellsLine : List (List ℕ) → List Step → Type 0
 SpellsLine [] steps = steps ≡ []
 SpellsLine (first ∷ fields) steps =
-    (step : Step) × (steps ≡ step ∷ []) × (lowered first ≡ name_of (keyword_of step))
+    (step : Step) × (steps ≡ step ∷ []) × (in_lower_case first ≡ keyword_name (keyword_of step))
     × SpellsFields fields step
 
 -- these lines spell these steps, in order
@@ -148,17 +148,18 @@ SpellsLines (line ∷ others) steps =
 abbrev pub SpellsRepeat : List (List ℕ) → ℕ → Type 0
 SpellsRepeat fields count =
     (first : List ℕ) × (number : List ℕ) × (fields ≡ first ∷ number ∷ [])
-    × (lowered first ≡ codes "repeat")
+    × (in_lower_case first ≡ codes "repeat")
     × IsNumeral 10 number count × (0 < count) × (count < 2 ^ 16)
 
 -- the word of a line that ends a repeat
-abbrev pub IsEnd : List (List ℕ) → Type 0
-IsEnd fields = (first : List ℕ) × (fields ≡ first ∷ []) × (lowered first ≡ codes "end")
+abbrev pub IsRepeatEndLine : List (List ℕ) → Type 0
+IsRepeatEndLine fields =
+    (first : List ℕ) × (fields ≡ first ∷ []) × (in_lower_case first ≡ codes "end")
 
 -- the words of the line that gives version 2
 abbrev pub IsVersionTwo : List (List ℕ) → Type 0
 IsVersionTwo fields = (first : List ℕ) × (fields ≡ first ∷ codes "2" ∷ [])
-    × (lowered first ≡ codes "version")
+    × (in_lower_case first ≡ codes "version")
 
 -- Some lines of a text, and the items that they spell together.
 pub record Group : Type 0 where
@@ -166,8 +167,8 @@ pub record Group : Type 0 where
   pub items : List Item
 
 -- one line, with a step or without a word
-abbrev pub IsLine : Group → Type 0
-IsLine group = (line : List ℕ) × (steps : List Step) × (group.lines ≡ line ∷ [])
+abbrev pub IsOneLineGroup : Group → Type 0
+IsOneLineGroup group = (line : List ℕ) × (steps : List Step) × (group.lines ≡ line ∷ [])
     × (group.items ≡ map Once steps) × SpellsLine (words line) steps
 
 -- the lines of a repeat: the one that begins it, those of its steps, and the one that ends it
@@ -175,11 +176,11 @@ abbrev pub IsRepeatOfLines : Group → Type 0
 IsRepeatOfLines group =
     (first : List ℕ) × (count : ℕ) × (body : List (List ℕ)) × (steps : List Step) × (last : List ℕ)
     × (group.lines ≡ first ∷ (body ++ last ∷ [])) × (group.items ≡ Repeated count steps ∷ [])
-    × SpellsRepeat (words first) count × SpellsLines body steps × IsEnd (words last)
+    × SpellsRepeat (words first) count × SpellsLines body steps × IsRepeatEndLine (words last)
 
 -- these lines together spell one item that this version allows, or none
 abbrev pub IsGroup : Version → Group → Type 0
-IsGroup version group = IsLine group ⊎ (AllowsRepeats version × IsRepeatOfLines group)
+IsGroup version group = IsOneLineGroup group ⊎ (AllowsRepeats version × IsRepeatOfLines group)
 
 -- these lines spell these items, group by group
 abbrev pub SpellsGroups : Version → List (List ℕ) → List Item → Type 0
@@ -200,14 +201,14 @@ pub record SaysVersionTwo (ls : List (List ℕ)) (n : ℕ) (rest : List (List �
 
 -- The lines of the items of a script of this version begin at this line of a text. In version 1
 -- they are all its lines, in version 2 those after the line that gives the version.
-abbrev pub StandFrom : Version → List (List ℕ) → ℕ → List (List ℕ) → Type 0
-StandFrom One ls n rest = (n ≡ 1) × (rest ≡ ls)
-StandFrom Two ls n rest = SaysVersionTwo ls n rest
+abbrev pub ItemsBeginAtLine : Version → List (List ℕ) → ℕ → List (List ℕ) → Type 0
+ItemsBeginAtLine One ls n rest = (n ≡ 1) × (rest ≡ ls)
+ItemsBeginAtLine Two ls n rest = SaysVersionTwo ls n rest
 
 -- the text spells a script that means no more steps than a script may
 abbrev pub SpellsText : List ℕ → Listing → Type 0
 SpellsText text script =
-    (n : ℕ) × (rest : List (List ℕ)) × StandFrom script.version (lines text) n rest
+    (n : ℕ) × (rest : List (List ℕ)) × ItemsBeginAtLine script.version (lines text) n rest
     × SpellsGroups script.version rest script.items
     × (length (expanded script.items) ≤ step_limit)
 
@@ -220,11 +221,11 @@ IsBadOutside version line =
 -- a line in a repeat that spells neither a step nor the repeat's end
 abbrev pub IsBadInside : List ℕ → Type 0
 IsBadInside line = ((steps : List Step) → SpellsLine (words line) steps → ⊥)
-    × (IsEnd (words line) → ⊥)
+    × (IsRepeatEndLine (words line) → ⊥)
 
 -- The lines begin with a repeat, and the rest stands in it, `distance` lines after its first.
 -- Between the two are lines of steps.
-pub record OpensLines (version : Version) (ls : List (List ℕ)) (distance : ℕ)
+pub record StandsInRepeatLines (version : Version) (ls : List (List ℕ)) (distance : ℕ)
     (rest : List (List ℕ)) : Type 0 where
   pub first : List ℕ
   pub count : ℕ
@@ -245,8 +246,8 @@ IsGroupFault version so_far n ls bad =
     ((bad ≡ n) × ((line : List ℕ) × (others : List (List ℕ)) × (ls ≡ line ∷ others)
     × IsBadOutside version line))
     ⊎ (((distance : ℕ) × (line : List ℕ) × (others : List (List ℕ)) × (bad ≡ n + distance)
-    × OpensLines version ls distance (line ∷ others) × IsBadInside line)
-    ⊎ (((bad ≡ n) × ((distance : ℕ) × OpensLines version ls distance []))
+    × StandsInRepeatLines version ls distance (line ∷ others) × IsBadInside line)
+    ⊎ (((bad ≡ n) × ((distance : ℕ) × StandsInRepeatLines version ls distance []))
     ⊎ ((bad ≡ n) × ((group : Group) × (others : List (List ℕ)) × (ls ≡ group.lines ++ others)
     × IsGroup version group × (step_limit < so_far + length (expanded group.items))))))
 
@@ -257,7 +258,7 @@ pub record SpellsLinesUpTo (text : List ℕ) (script : Listing) (n : ℕ)
   pub start : ℕ
   pub rest : List (List ℕ)
   pub prefix : List (List ℕ)
-  pub from : StandFrom script.version (lines text) start rest
+  pub from : ItemsBeginAtLine script.version (lines text) start rest
   pub one : script.version ≡ One → (m : ℕ) (others : List (List ℕ)) →
       SaysVersionTwo (lines text) m others → ⊥
   pub whole : rest ≡ prefix ++ left

@@ -29,16 +29,16 @@ abbrev pub lines : List ℕ → List (List ℕ)
 lines text = slice_split is_newline text
 
 -- the words of some bytes: what stands between blanks, if it has at least one byte
-abbrev pub words_in : List ℕ → List (List ℕ)
-words_in bytes = filter has_bytes (slice_split is_blank bytes)
+abbrev pub words_between_blanks : List ℕ → List (List ℕ)
+words_between_blanks bytes = filter has_bytes (slice_split is_blank bytes)
 
 -- the words of a line: those before its comment
 abbrev pub words : List ℕ → List (List ℕ)
-words line = words_in (before_first is_semicolon line)
+words line = words_between_blanks (before_first is_semicolon line)
 
 -- a word in lower case
-abbrev pub lowered : List ℕ → List ℕ
-lowered word = map to_ascii_lowercase word
+abbrev pub in_lower_case : List ℕ → List ℕ
+in_lower_case word = map to_ascii_lowercase word
 
 -- at least one digit of this radix, in either case, and the number that these digits spell
 abbrev pub IsNumeral : ℕ → List ℕ → ℕ → Type 0
@@ -49,17 +49,17 @@ abbrev pub IsHex : ℕ → List ℕ → ℕ → Type 0
 IsHex most word n = (length word ≤ most) × IsNumeral 16 word n
 
 -- the lines of the rest of a text, or none if there is no rest
-abbrev pub lines_left : Option (List ℕ) → List (List ℕ)
-lines_left None = []
-lines_left (Some text) = lines text
+abbrev pub lines_of_rest : Option (List ℕ) → List (List ℕ)
+lines_of_rest None = []
+lines_of_rest (Some text) = lines text
 
 -- the length of the rest of a text, plus 1 for its end; or 0 if there is no rest
-abbrev pub left_len : Option (List ℕ) → ℕ
-left_len None = 0
-left_len (Some text) = length text + 1
+abbrev pub rest_len : Option (List ℕ) → ℕ
+rest_len None = 0
+rest_len (Some text) = length text + 1
 
 -- which bytes end a piece of a text
-abbrev pub ends_at : End → ℕ → Bool
-ends_at end.Newline = is_newline
-ends_at end.Semicolon = is_semicolon
-ends_at end.Blank = is_blank
+abbrev pub is_end_of_piece : End → ℕ → Bool
+is_end_of_piece end.Newline = is_newline
+is_end_of_piece end.Semicolon = is_semicolon
+is_end_of_piece end.Blank = is_blank

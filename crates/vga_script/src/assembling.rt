@@ -4,18 +4,18 @@ ghost use Rattle.std.specs.Prelude.{IfOk, IfErr, IsOkUnless, Err};
 ghost use Rattle.std.specs.Option.{option_copied};
 ghost use Rattle.vga_script.specs.Assembling.{AppendsBody, AppendsGroup, AppendsLine};
 ghost use Rattle.vga_script.specs.Assembling.{AppendsRepeat};
-ghost use Rattle.vga_script.specs.Assembling.{IsBodyFault, IsGroupFaultOf};
+ghost use Rattle.vga_script.specs.Assembling.{IsBodyFault, IsFirstGroupFault};
 ghost use Rattle.vga_script.specs.Item.{Listing};
 ghost use Rattle.vga_script.specs.Script.{IsScript, IsTextFault};
 ghost use Rattle.vga_script.specs.Spelling.{script_limit, encoding};
-ghost use Rattle.vga_script.specs.Text.{SaysVersionTwo, SpellsLine, SpellsText, StandFrom};
+ghost use Rattle.vga_script.specs.Text.{SaysVersionTwo, SpellsLine, SpellsText, ItemsBeginAtLine};
 ghost use Rattle.vga_script.specs.Text.{IsLineFault};
-ghost use Rattle.vga_script.specs.Tokens.{left_len, lines, lines_left, words};
+ghost use Rattle.vga_script.specs.Tokens.{rest_len, lines, lines_of_rest, words};
 ghost use Rattle.vga_script.specs.declared.step.Step.{Step};
 
 use super::opcode;
 use super::output::{append, append_u16};
-use super::repeat_lines::{count_in, has_word, is_end, says_version_two};
+use super::repeat_lines::{has_word, is_repeat_end_line, repeat_count_in_version, says_version_two};
 use super::script::{SCRIPT_LIMIT, STEP_LIMIT, Script};
 use super::step_bytes::append_step;
 use super::step_reading::{Unread, step_of_line};
@@ -51,7 +51,7 @@ fn append_body<'a>(
     left: Option<&'a [u8]>,
     first: usize,
 ) -> Result<(usize, Option<&'a [u8]>, usize), Fault>
-    requires { first + left_len (option_copied left) ≤ script_limit + 2 }
+    requires { first + rest_len (option_copied left) ≤ script_limit + 2 }
     ensures found { IfOk result (λ x. AppendsBody (first + 1) (option_copied left.entry)
         out.old.items
         out.new.items x.0 x.2 (option_copied x.1)) }
@@ -63,7 +63,7 @@ fn append_body<'a>(
     let mut number = first + 1;
     while let Some(rest) = left {
         let (line, others) = first_line(rest);
-        if is_end(line) {
+        if is_repeat_end_line(line) {
             return Ok((len, others, number + 1));
         }
         match append_line(alloc, out, line) {
@@ -87,7 +87,7 @@ fn append_repeat<'a>(
     left: Option<&'a [u8]>,
     number: usize,
 ) -> Result<(usize, Option<&'a [u8]>, usize), Fault>
-    requires { number + left_len (option_copied left) ≤ script_limit + 2 }
+    requires { number + rest_len (option_copied left) ≤ script_limit + 2 }
     ensures found { IfOk result (λ x. AppendsRepeat (number + 1) (option_copied left.entry) count
         out.old.items
         out.new.items x.0 x.2 (option_copied x.1)) }
@@ -116,14 +116,14 @@ fn append_group<'a>(
     ensures found { IfOk result (λ x. AppendsGroup version number (lines text.now) out.old.items
         out.new.items x.0 x.2
         (option_copied x.1)) }
-    ensures shorter { IfOk result (λ x. x.2 + left_len (option_copied x.1) ≤ number
+    ensures shorter { IfOk result (λ x. x.2 + rest_len (option_copied x.1) ≤ number
         + (length text.now + 1)) }
     ensures later { IfOk result (λ x. number < x.2) }
     ensures fault { IfErr result (λ e. (e ≡ Fault.OutOfMemory)
-        ⊎ IsGroupFaultOf version number (lines text.now) e) }
+        ⊎ IsFirstGroupFault version number (lines text.now) e) }
 {
     let (line, others) = first_line(text);
-    if let Some(count) = count_in(line, version) {
+    if let Some(count) = repeat_count_in_version(line, version) {
         return append_repeat(alloc, out, count, others, number);
     }
     match append_line(alloc, out, line) {
@@ -138,11 +138,11 @@ fn append_group<'a>(
 #[tactic(auto, using(crate::proofs::AssembleLemmas::blank_none, crate::proofs::AssembleLemmas::two_found))]
 fn items_of_text(text: &[u8]) -> (Version, Option<&[u8]>, usize)
     requires { length text.now ≤ script_limit }
-    ensures from { StandFrom result.0 (lines text.now) result.2
-        (lines_left (option_copied result.1)) }
+    ensures from { ItemsBeginAtLine result.0 (lines text.now) result.2
+        (lines_of_rest (option_copied result.1)) }
     ensures one { result.0 ≡ Version.One → (n : ℕ) (others : List (List ℕ)) →
         SaysVersionTwo (lines text.now) n others → ⊥ }
-    ensures short { result.2 + left_len (option_copied result.1) ≤ length text.now + 2 }
+    ensures short { result.2 + rest_len (option_copied result.1) ≤ length text.now + 2 }
 {
     let mut left = Some(text);
     let mut number = 1usize;

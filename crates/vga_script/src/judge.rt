@@ -14,7 +14,7 @@ use vga_bits::Fault;
 
 /// Passes over the items after the header of a script, and finds the first fault among them.
 #[tactic(auto, using(crate::proofs::BeginningLemmas::item_shorter, crate::proofs::DecodeLemmas::decoded_none, crate::proofs::DecodeLemmas::passed_all))]
-fn pass_items(bytes: &[u8], spelled: &[u8], version: Version) -> Result<(), Fault>
+fn check_items(bytes: &[u8], spelled: &[u8], version: Version) -> Result<(), Fault>
     requires short { length bytes.now ≤ script_limit }
     requires prefix { bytes.now ≡ header version ++ spelled.now }
     ensures found { IfOk result (λ _. (script : Listing) × Spells bytes.now script) }
@@ -41,7 +41,7 @@ fn pass_items(bytes: &[u8], spelled: &[u8], version: Version) -> Result<(), Faul
 }
 
 /// Checks bytes of allowed length.
-fn judge_short(bytes: &[u8]) -> Result<(), Fault>
+fn check_bytes_within_limit(bytes: &[u8]) -> Result<(), Fault>
     requires { length bytes.now ≤ script_limit }
     ensures found { IfOk result (λ _. (script : Listing) × Spells bytes.now script) }
     ensures fault { IfErr result (λ e. IsSpellingFault bytes.now e) }
@@ -53,14 +53,14 @@ fn judge_short(bytes: &[u8]) -> Result<(), Fault>
         return Err(Fault::Truncated(opcode::MAGIC.len()));
     };
     match Version::of_byte(*byte) {
-        Some(version) => pass_items(bytes, spelled, version),
+        Some(version) => check_items(bytes, spelled, version),
         None => Err(Fault::BadVersion),
     }
 }
 
 /// Checks that bytes spell a script, or finds their first fault.
 #[tactic(auto, using(crate::proofs::BeginningLemmas::spells_itself))]
-pub(crate) fn judge(bytes: &[u8]) -> Result<(), Fault>
+pub(crate) fn check_script(bytes: &[u8]) -> Result<(), Fault>
     ensures short { IfOk result (λ _. length bytes.now ≤ script_limit) }
     ensures found { IfOk result (λ _. Spells bytes.now (listing_of bytes.now)) }
     ensures fault { IfErr result (λ e. IsFault bytes.now e) }
@@ -68,5 +68,5 @@ pub(crate) fn judge(bytes: &[u8]) -> Result<(), Fault>
     if bytes.len() > SCRIPT_LIMIT {
         return Err(Fault::TooLong);
     }
-    judge_short(bytes)
+    check_bytes_within_limit(bytes)
 }

@@ -1,8 +1,8 @@
 //! The names of steps in a text.
 ghost use Rattle.std.specs.Prelude.{◌≡◌, ◌≢◌, IfNone, IfSome};
 ghost use Rattle.std.specs.Str.{bytes_eq};
-ghost use Rattle.vga_script.specs.Text.{name_of};
-ghost use Rattle.vga_script.specs.Tokens.{lowered};
+ghost use Rattle.vga_script.specs.Text.{keyword_name};
+ghost use Rattle.vga_script.specs.Tokens.{in_lower_case};
 
 /// The step that a line names, by its first word.
 #[derive(Clone, Copy, PartialEq, Eq, Debug)]
@@ -36,8 +36,8 @@ pub(crate) enum Keyword {
 /// Whether a word is this name, in either case. The name is in lower case.
 #[tactic(auto, using(crate::proofs::NameLemmas::same_name))]
 pub(crate) fn is_name(word: &[u8], name: &[u8]) -> bool
-    requires { lowered name.now ≡ name.now }
-    ensures { result ≡ bytes_eq (lowered word.now) name.now }
+    requires { in_lower_case name.now ≡ name.now }
+    ensures { result ≡ bytes_eq (in_lower_case word.now) name.now }
 {
     word.eq_ignore_ascii_case(name)
 }
@@ -46,8 +46,9 @@ impl Keyword {
     /// The keyword that a word is, if it is one.
     #[tactic(auto, using(crate::proofs::NameLemmas::named, crate::proofs::NameLemmas::unnamed))]
     pub(crate) fn of_word(word: &[u8]) -> Option<Keyword>
-        ensures found { IfSome result (λ keyword. lowered word.now ≡ name_of keyword) }
-        ensures none { IfNone result ((keyword : Keyword) → lowered word.now ≢ name_of keyword) }
+        ensures found { IfSome result (λ keyword. in_lower_case word.now ≡ keyword_name keyword) }
+        ensures none { IfNone result ((keyword : Keyword) → in_lower_case word.now ≢ keyword_name
+            keyword) }
     {
         if is_name(word, b"out") {
             return Some(Keyword::Out);

@@ -35,8 +35,9 @@ pub use block::Block;
 pub use dump_range::Shown;
 pub use input::read_script;
 pub use laws::{
-    one_fault, one_list, one_script, one_script_of_text, one_spelling, one_text_fault,
-    printed_text_spells, steps_fit, written_steps_spell,
+    bytes_have_one_fault, bytes_mean_one_list, bytes_spell_one_script, printed_text_spells,
+    script_has_one_spelling, steps_are_in_range, text_has_one_fault, text_spells_one_script,
+    written_steps_spell,
 };
 pub use printing::print;
 pub use script::{SCRIPT_LIMIT, Script, decode, encode};

@@ -6,9 +6,9 @@ ghost use Rattle.hex.specs.Hex.{encode_upper};
 ghost use Rattle.vga_bits.specs.Hex.{hex};
 ghost use Rattle.vga_script.specs.Beginning.{items_in, steps_in};
 ghost use Rattle.vga_script.specs.Item.{expanded, step_limit};
-ghost use Rattle.vga_script.specs.Printing.{line_of, printed, printed_item};
+ghost use Rattle.vga_script.specs.Printing.{line_of_words, printed_script, printed_item};
 ghost use Rattle.vga_script.specs.Printing.{printed_line, printed_steps, version_line};
-ghost use Rattle.vga_script.specs.Spelled.{HasBody, spelled_item};
+ghost use Rattle.vga_script.specs.Spelled.{HasSpelledBody, spelled_item};
 ghost use Rattle.vga_script.specs.Spelling.{SpellsItems, SpellsSteps, script_limit};
 
 use super::dump_range::Shown;
@@ -49,19 +49,19 @@ fn end_with_value(out: &mut Vec<u8>, mut line: Line, value: u16, digits: usize) 
 }
 
 /// Prints a step that draws a frame. Its only error is `OutOfMemory`.
-#[tactic(auto, unfolding(crate::specs::Printing::line_of))]
+#[tactic(auto, unfolding(crate::specs::Printing::line_of_words))]
 fn print_frame(out: &mut Vec<u8>) -> Result<(), Fault>
-    ensures ok { OnOk result (out.new.items ≡ out.old.items ++ line_of (codes "frame" ∷ [])) }
+    ensures ok { OnOk result (out.new.items ≡ out.old.items ++ line_of_words (codes "frame" ∷ [])) }
     ensures err { IsOkUnless result Fault.OutOfMemory }
 {
     append(out, b"frame\n")
 }
 
 /// Prints an advance of the clock. Its only error is `OutOfMemory`.
-#[tactic(auto, unfolding(crate::specs::Printing::line_of))]
+#[tactic(auto, unfolding(crate::specs::Printing::line_of_words))]
 fn print_advance(out: &mut Vec<u8>, dots: u32) -> Result<(), Fault>
     ensures ok { OnOk result (out.new.items ≡ out.old.items
-        ++ line_of (codes "advance" ∷ decimal dots ∷ [])) }
+        ++ line_of_words (codes "advance" ∷ decimal dots ∷ [])) }
     ensures err { IsOkUnless result Fault.OutOfMemory }
 {
     let mut line = Line::new();
@@ -71,10 +71,10 @@ fn print_advance(out: &mut Vec<u8>, dots: u32) -> Result<(), Fault>
 }
 
 /// Prints a dump of an entry of the DAC. Its only error is `OutOfMemory`.
-#[tactic(auto, unfolding(crate::specs::Printing::line_of))]
+#[tactic(auto, unfolding(crate::specs::Printing::line_of_words))]
 fn print_dac(out: &mut Vec<u8>, index: u8) -> Result<(), Fault>
     ensures ok { OnOk result (out.new.items ≡ out.old.items
-        ++ line_of (codes "show" ∷ codes "dac" ∷ hex 2 index ∷ [])) }
+        ++ line_of_words (codes "show" ∷ codes "dac" ∷ hex 2 index ∷ [])) }
     ensures err { IsOkUnless result Fault.OutOfMemory }
 {
     let mut line = Line::new();
@@ -84,10 +84,10 @@ fn print_dac(out: &mut Vec<u8>, index: u8) -> Result<(), Fault>
 }
 
 /// Prints a dump of bytes of a plane. Its only error is `OutOfMemory`.
-#[tactic(auto, unfolding(crate::specs::Printing::line_of, vga_bits::specs::Hex::hex))]
+#[tactic(auto, unfolding(crate::specs::Printing::line_of_words, vga_bits::specs::Hex::hex))]
 fn print_plane(out: &mut Vec<u8>, plane: u8, offset: u16, count: u16) -> Result<(), Fault>
     ensures ok { OnOk result (out.new.items ≡ out.old.items
-        ++ line_of (codes "show" ∷ codes "plane" ∷ hex 1 plane ∷ hex 4 offset ∷ decimal count
+        ++ line_of_words (codes "show" ∷ codes "plane" ∷ hex 1 plane ∷ hex 4 offset ∷ decimal count
         ∷ [])) }
     ensures err { IsOkUnless result Fault.OutOfMemory }
 {
@@ -102,7 +102,7 @@ fn print_plane(out: &mut Vec<u8>, plane: u8, offset: u16, count: u16) -> Result<
 }
 
 /// Prints a dump of the adapter. Its only error is `OutOfMemory`.
-#[tactic(auto, unfolding(crate::specs::Printing::line_of))]
+#[tactic(auto, unfolding(crate::specs::Printing::line_of_words))]
 fn print_shown(out: &mut Vec<u8>, shown: Shown) -> Result<(), Fault>
     ensures ok { OnOk result (out.new.items ≡ out.old.items ++ printed_line (Step.Show shown)) }
     ensures err { IsOkUnless result Fault.OutOfMemory }
@@ -188,7 +188,7 @@ fn print_call(
 }
 
 /// Prints a step. Its only error is `OutOfMemory`.
-#[tactic(auto, unfolding(crate::specs::Printing::line_of))]
+#[tactic(auto, unfolding(crate::specs::Printing::line_of_words))]
 fn print_step(alloc: Global, out: &mut Vec<u8>, step: &Step<'_>) -> Result<(), Fault>
     ensures ok { OnOk result (out.new.items ≡ out.old.items ++ printed_line step.now) }
     ensures err { IsOkUnless result Fault.OutOfMemory }
@@ -248,10 +248,10 @@ fn print_steps(alloc: Global, out: &mut Vec<u8>, bytes: &[u8]) -> Result<(), Fau
 }
 
 /// Prints the beginning of a repeat. Its only error is `OutOfMemory`.
-#[tactic(auto, unfolding(crate::specs::Printing::line_of))]
+#[tactic(auto, unfolding(crate::specs::Printing::line_of_words))]
 fn print_repeat(out: &mut Vec<u8>, count: u16) -> Result<(), Fault>
     ensures ok { OnOk result (out.new.items ≡ out.old.items
-        ++ line_of (codes "repeat" ∷ decimal count ∷ [])) }
+        ++ line_of_words (codes "repeat" ∷ decimal count ∷ [])) }
     ensures err { IsOkUnless result Fault.OutOfMemory }
 {
     let mut line = Line::new();
@@ -261,9 +261,9 @@ fn print_repeat(out: &mut Vec<u8>, count: u16) -> Result<(), Fault>
 }
 
 /// Prints the end of a repeat. Its only error is `OutOfMemory`.
-#[tactic(auto, unfolding(crate::specs::Printing::line_of))]
+#[tactic(auto, unfolding(crate::specs::Printing::line_of_words))]
 fn print_end(out: &mut Vec<u8>) -> Result<(), Fault>
-    ensures ok { OnOk result (out.new.items ≡ out.old.items ++ line_of (codes "end" ∷ [])) }
+    ensures ok { OnOk result (out.new.items ≡ out.old.items ++ line_of_words (codes "end" ∷ [])) }
     ensures err { IsOkUnless result Fault.OutOfMemory }
 {
     append(out, b"end\n")
@@ -271,7 +271,7 @@ fn print_end(out: &mut Vec<u8>) -> Result<(), Fault>
 
 /// Prints an item. Its only error is `OutOfMemory`.
 fn print_item(alloc: Global, out: &mut Vec<u8>, item: &SpelledItem<'_>) -> Result<(), Fault>
-    requires { HasBody item.now }
+    requires { HasSpelledBody item.now }
     ensures ok { OnOk result (out.new.items ≡ out.old.items
         ++ printed_item (spelled_item item.now)) }
     ensures err { IsOkUnless result Fault.OutOfMemory }
@@ -287,7 +287,7 @@ fn print_item(alloc: Global, out: &mut Vec<u8>, item: &SpelledItem<'_>) -> Resul
 }
 
 /// The line that gives the version, or nothing for version 1.
-#[tactic(auto, unfolding(crate::specs::Printing::line_of))]
+#[tactic(auto, unfolding(crate::specs::Printing::line_of_words))]
 fn version_text(version: Version) -> &'static [u8]
     ensures { result.now ≡ version_line version }
 {
@@ -330,7 +330,7 @@ fn print_items(
 /// spells the script. The only error is `OutOfMemory`.
 #[tactic(auto, using(crate::proofs::StepsLemmas::behind_header, crate::proofs::StepsLemmas::items_spelled))]
 pub fn print(alloc: Global, script: &Script) -> Result<Vec<u8>, Fault>
-    ensures ok { IfOk result (λ text. text.items ≡ printed script.now) }
+    ensures ok { IfOk result (λ text. text.items ≡ printed_script script.now) }
     ensures err { IsOkUnless result Fault.OutOfMemory }
 {
     let version = script.version();

@@ -2,7 +2,8 @@
 ghost use Rattle.std.specs.Prelude.{ℕ, ◌≡◌, ◌≢◌, ◌<◌, ◌≤◌, ◌^◌, ◌++◌, ◌∷◌, List, length, IfNone};
 ghost use Rattle.std.specs.Prelude.{IfSome};
 ghost use Rattle.byteorder.specs.Endian.{little_bytes};
-ghost use Rattle.vga_script.specs.Progress.{BeginsWithStep, Reaches, Stands};
+ghost use Rattle.vga_script.specs.Progress.{IsEmptyOrBeginsWithStep, LeavesSameSteps};
+ghost use Rattle.vga_script.specs.Progress.{StandsInOrOutsideRepeat};
 ghost use Rattle.vga_script.specs.Spelling.{opcode_end};
 
 use super::fields::{u8_at, u16_at};
@@ -20,7 +21,7 @@ pub(crate) struct Progress<'a> {
 }
 
 /// Reads the count of a repeat, and returns it with what follows.
-fn count_at(fields: &[u8]) -> (u16, &[u8])
+fn repeat_count_at(fields: &[u8]) -> (u16, &[u8])
     requires { 2 ≤ length fields.now }
     ensures fields { fields.now ≡ little_bytes 2 result.0 ++ result.1.now }
     ensures small { result.0 < 2 ^ 16 }
@@ -45,10 +46,10 @@ fn behind_end(bytes: &[u8]) -> Option<&[u8]>
 /// Moves on to the next step, or to the end of the script. Repeats without steps are passed over.
 #[tactic(auto, using(crate::proofs::ProgressLemmas::stays, crate::proofs::ProgressLemmas::room_for_count))]
 pub(crate) fn skip_marks(progress: Progress<'_>) -> Progress<'_>
-    requires { Stands progress.body.now progress.rest.now }
-    ensures reached { Reaches progress.entry.left progress.entry.body.now
+    requires { StandsInOrOutsideRepeat progress.body.now progress.rest.now }
+    ensures reached { LeavesSameSteps progress.entry.left progress.entry.body.now
         progress.entry.rest.now result.left result.body.now result.rest.now }
-    ensures prefix { BeginsWithStep result.rest.now }
+    ensures prefix { IsEmptyOrBeginsWithStep result.rest.now }
 {
     let Progress {
         mut rest,
@@ -67,7 +68,7 @@ pub(crate) fn skip_marks(progress: Progress<'_>) -> Progress<'_>
             body = others.split_at(0).0;
             rest = others;
         } else if opcode == opcode::REPEAT {
-            let (count, inner) = count_at(others);
+            let (count, inner) = repeat_count_at(others);
             match behind_end(inner) {
                 Some(after) => rest = after,
                 None => {

@@ -1,12 +1,12 @@
 //! Reading the lines of a text that give its version, and those that begin and end a repeat.
 ghost use Rattle.std.specs.Prelude.{◌≡◌, ◌≢◌, ◌↔◌, ◌∷◌, [], ℕ, List, IfNone, IfSome, IsFalse};
 ghost use Rattle.std.specs.Prelude.{IsTrue};
-ghost use Rattle.vga_script.specs.Text.{IsEnd, IsVersionTwo, SpellsRepeat};
+ghost use Rattle.vga_script.specs.Text.{IsRepeatEndLine, IsVersionTwo, SpellsRepeat};
 ghost use Rattle.vga_script.specs.Version.{AllowsRepeats};
 ghost use Rattle.vga_script.specs.Tokens.{words};
 
 use super::keyword::is_name;
-use super::numbers::number;
+use super::numbers::number_of_word;
 use super::tokens::{before_comment, next_word};
 use super::version::Version;
 
@@ -77,7 +77,7 @@ fn count_of_line(line: &[u8]) -> Option<u16>
     if !is_name(name, b"repeat") {
         return None;
     }
-    let Some(count) = number(word, 10, 0xFFFF) else {
+    let Some(count) = number_of_word(word, 10, 0xFFFF) else {
         return None;
     };
     if count == 0 {
@@ -87,7 +87,7 @@ fn count_of_line(line: &[u8]) -> Option<u16>
 }
 
 /// The same in a script of this version. Version 1 has no repeats.
-pub(crate) fn count_in(line: &[u8], version: Version) -> Option<u16>
+pub(crate) fn repeat_count_in_version(line: &[u8], version: Version) -> Option<u16>
     ensures found { IfSome result (λ count. AllowsRepeats version
         × SpellsRepeat (words line.now) count) }
     ensures none { IfNone result (AllowsRepeats version → (count : ℕ) →
@@ -101,8 +101,8 @@ pub(crate) fn count_in(line: &[u8], version: Version) -> Option<u16>
 
 /// Whether a line ends a repeat.
 #[tactic(auto, using(crate::proofs::NameLemmas::named, crate::proofs::NameLemmas::unnamed))]
-pub(crate) fn is_end(line: &[u8]) -> bool
-    ensures { IsTrue result ↔ IsEnd (words line.now) }
+pub(crate) fn is_repeat_end_line(line: &[u8]) -> bool
+    ensures { IsTrue result ↔ IsRepeatEndLine (words line.now) }
 {
     match one_word(line) {
         Some(name) => is_name(name, b"end"),

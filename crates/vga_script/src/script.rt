@@ -6,7 +6,7 @@ ghost use Rattle.vga_script.specs.Item.{Listing, expanded, step_limit};
 ghost use Rattle.vga_script.specs.Spelling.{Spells, encoding, script_limit};
 ghost use Rattle.vga_script.specs.Step.{AreInRange};
 
-use super::judge::judge;
+use super::check_script::check_script;
 use super::opcode::MAGIC;
 use super::output::append;
 use super::steps::Steps;
@@ -93,7 +93,7 @@ fn decode_bytes(alloc: Global, bytes: &[u8]) -> Result<Script, Fault>
         × Spells bytes.now script) }
     ensures fault { IfErr result (λ e. (e ≡ Fault.OutOfMemory) ⊎ IsFault bytes.now e) }
 {
-    judge(bytes)?;
+    check_script(bytes)?;
     let mut copy = Vec::new(alloc);
     append(&mut copy, bytes)?;
     Ok(Script::of_bytes(copy))

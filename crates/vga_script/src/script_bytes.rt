@@ -23,10 +23,10 @@ pub struct ScriptBytes {
 
 impl Model for ScriptBytes {
     ghost use Rattle.std.specs.Prelude.{◌≤◌, ◌+◌, length, vec_capacity};
-    ghost use Rattle.vga_script.specs.ScriptBytes.{Written};
+    ghost use Rattle.vga_script.specs.ScriptBytes.{BytesWritten};
     ghost use Rattle.vga_script.specs.Spelling.{script_limit};
 
-    ghost Value = { Written };
+    ghost Value = { BytesWritten };
 
     ghost view = { λ s. record { bytes = s.bytes.items; len = s.len; room = s.room } };
 
@@ -35,12 +35,12 @@ impl Model for ScriptBytes {
 }
 
 impl ScriptBytes {
-    ghost use Rattle.vga_script.specs.ScriptBytes.{begun, with_bytes};
+    ghost use Rattle.vga_script.specs.ScriptBytes.{script_without_steps, with_bytes_appended};
 
     /// A script without steps, and room for `room` bytes in all, its header included. The only
     /// error is `OutOfMemory`.
     pub fn new(alloc: Global, room: usize) -> Result<ScriptBytes, Fault>
-        ensures ok { IfOk result (λ script. script ≡ begun room) }
+        ensures ok { IfOk result (λ script. script ≡ script_without_steps room) }
         ensures err { IsOkUnless result Fault.OutOfMemory }
     {
         let Ok(bytes) = Vec::with_capacity(alloc, room) else {
@@ -59,7 +59,7 @@ impl ScriptBytes {
     /// Appends bytes.
     fn push(&mut self, more: &[u8])
         requires { length more.now ≤ 8 }
-        ensures { self.new ≡ with_bytes self.old more.now }
+        ensures { self.new ≡ with_bytes_appended self.old more.now }
     {
         if self.len > SCRIPT_LIMIT {
             return;
@@ -72,7 +72,7 @@ impl ScriptBytes {
 
     /// Appends a write of a byte to a port.
     pub fn push_out(&mut self, port: u16, value: u8)
-        ensures { self.new ≡ with_bytes self.old (spelling (Out port value)) }
+        ensures { self.new ≡ with_bytes_appended self.old (spelling (Out port value)) }
     {
         let [low, high] = port.to_le_bytes();
         self.push(&[opcode::OUT, low, high, value]);
@@ -80,7 +80,7 @@ impl ScriptBytes {
 
     /// Appends a read of a byte from a port.
     pub fn push_in(&mut self, port: u16)
-        ensures { self.new ≡ with_bytes self.old (spelling (In port)) }
+        ensures { self.new ≡ with_bytes_appended self.old (spelling (In port)) }
     {
         let [low, high] = port.to_le_bytes();
         self.push(&[opcode::IN, low, high]);
@@ -88,7 +88,7 @@ impl ScriptBytes {
 
     /// Appends a write of a byte to an address.
     pub fn push_put(&mut self, address: u32, value: u8)
-        ensures { self.new ≡ with_bytes self.old (spelling (Put address value)) }
+        ensures { self.new ≡ with_bytes_appended self.old (spelling (Put address value)) }
     {
         let [a, b, c, d] = address.to_le_bytes();
         self.push(&[opcode::PUT, a, b, c, d, value]);
@@ -96,7 +96,7 @@ impl ScriptBytes {
 
     /// Appends a read of a byte from an address.
     pub fn push_get(&mut self, address: u32)
-        ensures { self.new ≡ with_bytes self.old (spelling (Get address)) }
+        ensures { self.new ≡ with_bytes_appended self.old (spelling (Get address)) }
     {
         let [a, b, c, d] = address.to_le_bytes();
         self.push(&[opcode::GET, a, b, c, d]);

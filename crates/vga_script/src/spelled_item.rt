@@ -1,7 +1,7 @@
 //! An item, borrowed from the bytes of a script.
 ghost use Rattle.std.specs.Prelude.{◌≡◌, ◌<◌, ◌^◌, length};
-ghost use Rattle.vga_script.specs.Item.{steps_of};
-ghost use Rattle.vga_script.specs.Spelled.{HasBody, spelled_item};
+ghost use Rattle.vga_script.specs.Item.{steps_of_item};
+ghost use Rattle.vga_script.specs.Spelled.{HasSpelledBody, spelled_item};
 
 use super::step::Step;
 
@@ -28,8 +28,8 @@ impl<'a> SpelledItem<'a> {
     /// How many steps the item means.
     #[tactic(auto, using(crate::proofs::ItemLemmas::steps_of_repeat))]
     pub(crate) fn meant(&self) -> usize
-        requires { HasBody self.now }
-        ensures value { result ≡ length (steps_of (spelled_item self.now)) }
+        requires { HasSpelledBody self.now }
+        ensures value { result ≡ length (steps_of_item (spelled_item self.now)) }
         ensures bound { result < 2 ^ 41 }
     {
         match self {

@@ -104,7 +104,7 @@ fn int_at(fields: &[u8]) -> Result<(Step<'_>, &[u8]), NoStep>
     let (dx, rest) = u16_at(rest)?;
     let (len, rest) = u16_at(rest)?;
     let (block, rest) = block_at(rest, len)?;
-    let block = Block::of(block);
+    let block = Block::of_slice(block);
     Ok((
         Step::Int {
             ax,
@@ -198,7 +198,7 @@ fn numeric_at(bytes: &[u8]) -> Result<(Step<'_>, &[u8]), NoStep>
 
 /// Reads the step of an opcode from the bytes after it, and returns it with what follows.
 #[inline(always)]
-fn step_with(opcode: u8, fields: &[u8]) -> Result<(Step<'_>, &[u8]), NoStep>
+fn step_of_opcode(opcode: u8, fields: &[u8]) -> Result<(Step<'_>, &[u8]), NoStep>
     ensures found { IfOk result (λ x. StartsWithStep (opcode ∷ fields.now) x.0 x.1.now) }
     ensures bad { result ≡ Err NoStep.Bad → StartsWithBadStep (opcode ∷ fields.now) }
     ensures cut { result ≡ Err NoStep.Cut → StartsWithCutStep (opcode ∷ fields.now) }
@@ -220,7 +220,7 @@ pub(crate) fn step_at(bytes: &[u8]) -> Result<(Step<'_>, &[u8]), NoStep>
     ensures cut { result ≡ Err NoStep.Cut → StartsWithCutStep bytes.now }
 {
     let (opcode, fields) = u8_at(bytes)?;
-    step_with(opcode, fields)
+    step_of_opcode(opcode, fields)
 }
 
 /// What follows the step that bytes begin with, if they begin with one. Most steps are numeric, and

@@ -7,7 +7,7 @@ ghost use Rattle.vga_script.specs.Spelled.{SpellsExpanded, TakesFirst};
 ghost use Rattle.vga_script.specs.Spelling.{Spells, script_limit};
 ghost use Rattle.vga_script.specs.Step.{IsInRange};
 
-use super::judge::judge;
+use super::check_script::check_script;
 use super::opcode::HEADER_LEN;
 use super::progress::{Progress, skip_marks};
 use super::step::Step;
@@ -29,14 +29,14 @@ pub struct Steps<'a> {
 
 impl<'a> Model for Steps<'a> {
     ghost use Rattle.std.specs.Prelude.{List};
-    ghost use Rattle.vga_script.specs.Progress.{Stands, steps_left};
+    ghost use Rattle.vga_script.specs.Progress.{StandsInOrOutsideRepeat, steps_left};
     ghost use Rattle.vga_script.specs.declared.step.Step.{Step};
 
     ghost Value = { List Step };
 
     ghost view = { λ s. steps_left s.left s.body.now s.rest.now };
 
-    ghost invariant = { λ s. Stands s.body.now s.rest.now };
+    ghost invariant = { λ s. StandsInOrOutsideRepeat s.body.now s.rest.now };
 }
 
 impl<'a> Steps<'a> {
@@ -65,7 +65,7 @@ impl<'a> Steps<'a> {
         ensures few { IfOk result (λ steps. length steps ≤ step_limit) }
         ensures fault { IfErr result (λ e. IsFault bytes.now e) }
     {
-        judge(bytes)?;
+        check_script(bytes)?;
         Ok(Steps::of_script(bytes))
     }
 

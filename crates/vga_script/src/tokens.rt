@@ -2,8 +2,9 @@
 ghost use Rattle.std.specs.Prelude.{◌≡◌, ◌∷◌, [], ◌<◌, ◌≤◌, length, IfNone, IfSome};
 ghost use Rattle.std.specs.List.{before_first, position_or_len};
 ghost use Rattle.std.specs.Option.{option_copied};
-ghost use Rattle.vga_script.specs.Tokens.{is_blank, is_semicolon, ends_at, lines, lines_left};
-ghost use Rattle.vga_script.specs.Tokens.{words_in};
+ghost use Rattle.vga_script.specs.Tokens.{is_blank, is_semicolon, is_end_of_piece, lines};
+ghost use Rattle.vga_script.specs.Tokens.{lines_of_rest};
+ghost use Rattle.vga_script.specs.Tokens.{words_between_blanks};
 
 /// A byte that ends a piece of a text.
 #[derive(Clone, Copy, PartialEq, Eq, Debug)]
@@ -19,7 +20,7 @@ enum End {
 impl End {
     /// Whether this byte ends such a piece.
     fn is_at(self, byte: u8) -> bool
-        ensures { result ≡ ends_at self byte }
+        ensures { result ≡ is_end_of_piece self byte }
     {
         match self {
             End::Newline => byte == b'\n',
@@ -30,8 +31,8 @@ impl End {
 
     /// The position of the first byte that ends such a piece of a text, or the text's length if
     /// none does.
-    fn place_in(self, text: &[u8]) -> usize
-        ensures position { result ≡ position_or_len (ends_at self) text.now }
+    fn position_in(self, text: &[u8]) -> usize
+        ensures position { result ≡ position_or_len (is_end_of_piece self) text.now }
         ensures within { result ≤ length text.now }
     {
         let mut position = 0;
@@ -45,10 +46,10 @@ impl End {
 /// The first line of a text, and what follows its newline if it has one.
 #[tactic(auto, using(crate::proofs::WordLemmas::line_between, crate::proofs::WordLemmas::line_last))]
 pub(crate) fn first_line(text: &[u8]) -> (&[u8], Option<&[u8]>)
-    ensures line { lines text.now ≡ result.0.now ∷ lines_left (option_copied result.1) }
+    ensures line { lines text.now ≡ result.0.now ∷ lines_of_rest (option_copied result.1) }
     ensures shorter { IfSome result.1 (λ rest. length rest.now < length text.now) }
 {
-    let end = End::Newline.place_in(text);
+    let end = End::Newline.position_in(text);
     if end == text.len() {
         return (text, None);
     }
@@ -59,13 +60,13 @@ pub(crate) fn first_line(text: &[u8]) -> (&[u8], Option<&[u8]>)
 pub(crate) fn before_comment(line: &[u8]) -> &[u8]
     ensures { result.now ≡ before_first is_semicolon line.now }
 {
-    line.split_at(End::Semicolon.place_in(line)).0
+    line.split_at(End::Semicolon.position_in(line)).0
 }
 
 /// Skips the blanks that a line begins with.
 #[tactic(auto, using(crate::proofs::WordLemmas::skip_blank))]
 fn after_blanks(line: &[u8]) -> &[u8]
-    ensures words { words_in result.now ≡ words_in line.now }
+    ensures words { words_between_blanks result.now ≡ words_between_blanks line.now }
     ensures prefix { 0 < length result.now → 0 < position_or_len is_blank result.now }
 {
     let mut rest = line;
@@ -80,12 +81,13 @@ fn after_blanks(line: &[u8]) -> &[u8]
 
 /// The first word of a line and what follows it, if the line has a word.
 pub(crate) fn next_word(line: &[u8]) -> Option<(&[u8], &[u8])>
-    ensures found { IfSome result (λ x. words_in line.now ≡ x.0.now ∷ words_in x.1.now) }
-    ensures none { IfNone result (words_in line.now ≡ []) }
+    ensures found { IfSome result (λ x. words_between_blanks line.now ≡ x.0.now
+        ∷ words_between_blanks x.1.now) }
+    ensures none { IfNone result (words_between_blanks line.now ≡ []) }
 {
     let rest = after_blanks(line);
     if rest.is_empty() {
         return None;
     }
-    Some(rest.split_at(End::Blank.place_in(rest)))
+    Some(rest.split_at(End::Blank.position_in(rest)))
 }

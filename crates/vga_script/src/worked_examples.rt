@@ -6,8 +6,8 @@ ghost use Rattle.vga_script.specs.Examples.{frames_repeated, frames_repeated_byt
 ghost use Rattle.vga_script.specs.Examples.{nothing_repeated};
 ghost use Rattle.vga_script.specs.Examples.{three_times, three_times_bytes, two_steps};
 ghost use Rattle.vga_script.specs.Examples.{two_steps_bytes};
-ghost use Rattle.vga_script.specs.Item.{expanded, listing};
-ghost use Rattle.vga_script.specs.Printing.{printed, printed_line};
+ghost use Rattle.vga_script.specs.Item.{expanded, script_of_items};
+ghost use Rattle.vga_script.specs.Printing.{printed_script, printed_line};
 ghost use Rattle.vga_script.specs.Script.{IsTextFault};
 ghost use Rattle.vga_script.specs.Spelling.{encoding, header, spelling, Spells};
 ghost use Rattle.vga_script.specs.Text.{SpellsText};
@@ -43,9 +43,10 @@ fn steps_in_bytes()
 {}
 
 /// The printed line of each step.
-#[tactic(auto, unfolding(crate::specs::Printing::line_of, vga_bits::specs::Hex::hex, crate::specs::Printing::port_text, crate::specs::Printing::address_text, hex::specs::Hex::encode_with))]
+#[tactic(auto, unfolding(crate::specs::Printing::line_of_words, vga_bits::specs::Hex::hex, crate::specs::Printing::port_text, crate::specs::Printing::address_text, hex::specs::Hex::encode_with))]
 fn steps_in_print()
-    ensures script { printed two_steps ≡ codes "out 3C4 02\nint ax=0013 bx=0000 cx=0000 dx=0000\n" }
+    ensures script { printed_script two_steps
+        ≡ codes "out 3C4 02\nint ax=0013 bx=0000 cx=0000 dx=0000\n" }
     ensures out_word { printed_line (Step.OutWord 0x1234 8) ≡ codes "outw 1234 0008\n" }
     ensures input { printed_line (Step.In 0x1F) ≡ codes "in 01F\n" }
     ensures input_word { printed_line (Step.InWord 0x3C4) ≡ codes "inw 3C4\n" }
@@ -89,17 +90,17 @@ fn bytes_faulty()
 {}
 
 /// Repeats in bytes and in print, and the steps that they mean.
-#[tactic(auto, unfolding(crate::specs::Item::repeated, crate::specs::Printing::line_of, vga_bits::specs::Hex::hex, crate::specs::Printing::port_text))]
+#[tactic(auto, unfolding(crate::specs::Item::repeated, crate::specs::Printing::line_of_words, vga_bits::specs::Hex::hex, crate::specs::Printing::port_text))]
 fn repeats()
     ensures bytes { encoding three_times ≡ three_times_bytes }
     ensures steps { expanded three_times.items ≡ Step.Out 0x3C4 2 ∷ Step.Out 0x3C4 2
         ∷ Step.Out 0x3C4 2 ∷ [] }
-    ensures text { printed three_times ≡ codes "version 2\nrepeat 3\nout 3C4 02\nend\n" }
+    ensures text { printed_script three_times ≡ codes "version 2\nrepeat 3\nout 3C4 02\nend\n" }
 {}
 
 /// Bytes that spell repeats.
 fn repeats_spelled()
-    ensures none { Spells (codes "VGAS" ++ 2 ∷ []) (listing Version.Two []) }
+    ensures none { Spells (codes "VGAS" ++ 2 ∷ []) (script_of_items Version.Two []) }
     ensures empty { Spells (codes "VGAS" ++ 2 ∷ 0x0D ∷ 0xFF ∷ 0xFF ∷ 0x0E ∷ []) nothing_repeated }
     ensures no_steps { expanded nothing_repeated.items ≡ [] }
     ensures frames { Spells (frames_repeated_bytes 256) (frames_repeated 256) }

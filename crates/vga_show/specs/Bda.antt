@@ -1,28 +1,31 @@
 -- The video BIOS's data as text.
 use Rattle.std.specs.Prelude.{ℕ, List, [], ◌∷◌, ◌++◌, slice_index, codes}
 use Rattle.bios_modes.specs.Bda.{BiosData}
-use Rattle.vga_bits.specs.Hex.{hex_byte, hex_word}
-use Rattle.vga_show.specs.Lines.{line, hex_words}
+use Rattle.vga_bits.specs.Hex.{two_hex_digits, four_hex_digits}
+use Rattle.vga_show.specs.Lines.{dump_line, four_hex_digits_each}
 
 -- the mode, its columns, the size of a page, and the start of the active page
 unfoldable pub mode_words : BiosData → List (List ℕ)
 mode_words bda =
-    codes "mode" ∷ hex_byte bda.mode ∷ codes "cols" ∷ hex_word bda.columns ∷ codes "size"
-    ∷ hex_word bda.size
-    ∷ codes "start" ∷ hex_word bda.start ∷ []
+    codes "mode" ∷ two_hex_digits bda.mode ∷ codes "cols" ∷ four_hex_digits bda.columns
+    ∷ codes "size"
+    ∷ four_hex_digits bda.size
+    ∷ codes "start" ∷ four_hex_digits bda.start ∷ []
 
 -- the cursor positions on the eight pages
-abbrev pub place_words : BiosData → List (List ℕ)
-place_words bda = codes "at" ∷ hex_words (slice_index bda.cursor_places) 0 8
+abbrev pub cursor_position_words : BiosData → List (List ℕ)
+cursor_position_words bda = codes "at" ∷ four_hex_digits_each (slice_index bda.cursor_places) 0 8
 
 -- the type of the cursor, the active page, the port of the CRT controller, the last row, and the
 -- height of a character
-unfoldable pub other_words : BiosData → List (List ℕ)
-other_words bda =
-    codes "type" ∷ hex_word bda.cursor_type ∷ codes "page" ∷ hex_byte bda.page ∷ codes "crtc"
-    ∷ hex_word bda.crtc_address
-    ∷ codes "last" ∷ hex_byte bda.last_row ∷ codes "height" ∷ hex_word bda.height ∷ []
+unfoldable pub remaining_data_words : BiosData → List (List ℕ)
+remaining_data_words bda =
+    codes "type" ∷ four_hex_digits bda.cursor_type ∷ codes "page" ∷ two_hex_digits bda.page
+    ∷ codes "crtc"
+    ∷ four_hex_digits bda.crtc_address
+    ∷ codes "last" ∷ two_hex_digits bda.last_row ∷ codes "height" ∷ four_hex_digits bda.height ∷ []
 
 -- the word bda, and each of the data after its name
 abbrev pub bda_text : BiosData → List ℕ
-bda_text bda = line (codes "bda") (mode_words bda ++ (place_words bda ++ other_words bda))
+bda_text bda = dump_line (codes "bda") (mode_words bda ++ (cursor_position_words bda
+    ++ remaining_data_words bda))

@@ -2,10 +2,10 @@
 use Rattle.std.specs.Prelude.{ℕ, List, ◌∷◌, ◌++◌, map, codes}
 use Rattle.vga_dac.specs.Dac.{entry_of}
 use Rattle.vga_card.specs.Card.{CardState}
-use Rattle.vga_bits.specs.Hex.{hex_byte}
-use Rattle.vga_show.specs.Lines.{line}
+use Rattle.vga_bits.specs.Hex.{two_hex_digits}
+use Rattle.vga_show.specs.Lines.{dump_line}
 
 -- the word entry, the index and a colon, and red, green and blue
 abbrev pub entry_text : CardState → ℕ → List ℕ
-entry_text card index = line (codes "entry") ((hex_byte index ++ codes ":")
-    ∷ map hex_byte (entry_of card.dac index))
+entry_text card index = dump_line (codes "entry") ((two_hex_digits index ++ codes ":")
+    ∷ map two_hex_digits (entry_of card.dac index))

@@ -7,17 +7,17 @@ use Rattle.vga_dac.specs.declared.component.Component.{Component}
 use Rattle.vga_dac.specs.declared.component.Component.TheVariants.{Red, Green, Blue}
 use Rattle.vga_dac.specs.Dac.{DacState}
 use Rattle.vga_card.specs.Card.{CardState}
-use Rattle.vga_bits.specs.Hex.{hex_byte}
-use Rattle.vga_show.specs.Lines.{line, hex_bytes}
+use Rattle.vga_bits.specs.Hex.{two_hex_digits}
+use Rattle.vga_show.specs.Lines.{dump_line, two_hex_digits_each}
 
 -- the word misc, and the miscellaneous output register
 unfoldable pub misc_line : ℕ → List ℕ
-misc_line misc = line (codes "misc") (hex_byte misc ∷ [])
+misc_line misc = dump_line (codes "misc") (two_hex_digits misc ∷ [])
 
 -- a group of n registers: its name, its index and a colon, and its registers
 abbrev pub group_line : List ℕ → ℕ → ℕ → List ℕ → List ℕ
-group_line name index n registers = line name ((hex_byte index ++ codes ":")
-    ∷ hex_bytes (slice_index registers) 0 n)
+group_line name index n registers = dump_line name ((two_hex_digits index ++ codes ":")
+    ∷ two_hex_digits_each (slice_index registers) 0 n)
 
 -- the five registers of the sequencer
 unfoldable pub seq_line : HostState → List ℕ
@@ -39,8 +39,8 @@ write_letter is_data = if is_data then codes "d" else codes "i"
 -- attribute controller
 unfoldable pub attr_line : AttrState → List ℕ
 attr_line attr =
-    line (codes "attr") (hex_byte attr.index ∷ (write_letter attr.is_data ++ codes ":")
-    ∷ hex_bytes (slice_index attr.registers) 0 21)
+    dump_line (codes "attr") (two_hex_digits attr.index ∷ (write_letter attr.is_data ++ codes ":")
+    ∷ two_hex_digits_each (slice_index attr.registers) 0 21)
 
 -- the first letter of a component
 abbrev pub component_letter : Component → List ℕ
@@ -52,9 +52,9 @@ component_letter Blue = codes "b"
 -- wait
 unfoldable pub dac_line : DacState → List ℕ
 dac_line dac =
-    line (codes "dac")
-    (hex_byte dac.index ∷ component_letter dac.component ∷ hex_byte dac.mask
-    ∷ hex_byte dac.waiting_red ∷ hex_byte dac.waiting_green ∷ [])
+    dump_line (codes "dac")
+    (two_hex_digits dac.index ∷ component_letter dac.component ∷ two_hex_digits dac.mask
+    ∷ two_hex_digits dac.waiting_red ∷ two_hex_digits dac.waiting_green ∷ [])
 
 -- six lines: the miscellaneous output register, the sequencer, the CRT controller, the graphics
 -- controller, the attribute controller, and the DAC

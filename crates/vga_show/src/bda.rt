@@ -1,8 +1,9 @@
 //! The video BIOS's data as text.
 ghost use Rattle.std.specs.Prelude.{◌≡◌, ◌+◌, ◌≤◌, ◌++◌, length, false};
 ghost use Rattle.vga_bits.specs.Tracked.{inner_of, has_failed, Writes};
-ghost use Rattle.vga_show.specs.Lines.{room, behind_blanks};
-ghost use Rattle.vga_show.specs.Bda.{mode_words, place_words, other_words, bda_text as bda_text_of};
+ghost use Rattle.vga_show.specs.Lines.{longest_dump_len, words_after_blanks};
+ghost use Rattle.vga_show.specs.Bda.{mode_words, cursor_position_words, remaining_data_words};
+ghost use Rattle.vga_show.specs.Bda.{bda_text as bda_text_of};
 
 use super::text::{DumpText, push_byte_field, push_spaced_word, push_word_field};
 use bios_modes::Bda;
@@ -12,8 +13,8 @@ use vga_bits::{Fault, Tracked, write_whole};
 /// Appends the mode, its columns, the size of a page, and the start of the active page.
 #[tactic(auto, using(crate::proofs::TextLemmas::joins), unfolding(crate::specs::Bda::mode_words))]
 fn push_mode(text: &mut DumpText, bda: &Bda)
-    requires { length text.old + 39 ≤ room }
-    ensures items { text.new ≡ text.old ++ behind_blanks (mode_words bda.now) }
+    requires { length text.old + 39 ≤ longest_dump_len }
+    ensures items { text.new ≡ text.old ++ words_after_blanks (mode_words bda.now) }
     ensures len { length text.new ≡ length text.old + 39 }
 {
     push_byte_field(text, b"mode", bda.mode());
@@ -24,9 +25,9 @@ fn push_mode(text: &mut DumpText, bda: &Bda)
 
 /// Appends the cursor positions on the eight pages.
 #[tactic(auto, using(crate::proofs::TextLemmas::listing))]
-fn push_places(text: &mut DumpText, bda: &Bda)
-    requires { length text.old + 43 ≤ room }
-    ensures items { text.new ≡ text.old ++ behind_blanks (place_words bda.now) }
+fn push_cursor_positions(text: &mut DumpText, bda: &Bda)
+    requires { length text.old + 43 ≤ longest_dump_len }
+    ensures items { text.new ≡ text.old ++ words_after_blanks (cursor_position_words bda.now) }
     ensures len { length text.new ≡ length text.old + 43 }
 {
     text.push(b" at");
@@ -36,10 +37,10 @@ fn push_places(text: &mut DumpText, bda: &Bda)
 }
 
 /// Appends the other data.
-#[tactic(auto, using(crate::proofs::TextLemmas::joins), unfolding(crate::specs::Bda::other_words))]
-fn push_others(text: &mut DumpText, bda: &Bda)
-    requires { length text.old + 48 ≤ room }
-    ensures items { text.new ≡ text.old ++ behind_blanks (other_words bda.now) }
+#[tactic(auto, using(crate::proofs::TextLemmas::joins), unfolding(crate::specs::Bda::remaining_data_words))]
+fn push_remaining_data(text: &mut DumpText, bda: &Bda)
+    requires { length text.old + 48 ≤ longest_dump_len }
+    ensures items { text.new ≡ text.old ++ words_after_blanks (remaining_data_words bda.now) }
     ensures len { length text.new ≡ length text.old + 48 }
 {
     push_word_field(text, b"type", bda.cursor_type());
@@ -57,8 +58,8 @@ fn bda_text(bda: &Bda) -> DumpText
     let mut text = DumpText::new();
     text.push(b"bda");
     push_mode(&mut text, bda);
-    push_places(&mut text, bda);
-    push_others(&mut text, bda);
+    push_cursor_positions(&mut text, bda);
+    push_remaining_data(&mut text, bda);
     text.push(b"\n");
     text
 }

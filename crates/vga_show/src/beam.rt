@@ -1,8 +1,9 @@
 //! The beam as text.
 ghost use Rattle.std.specs.Prelude.{◌≡◌, ◌+◌, ◌≤◌, ◌++◌, length, false};
 ghost use Rattle.vga_bits.specs.Tracked.{inner_of, has_failed, Writes};
-ghost use Rattle.vga_show.specs.Lines.{room, behind_blanks};
-ghost use Rattle.vga_show.specs.Beam.{place_words, count_words, beam_line as beam_line_of};
+ghost use Rattle.vga_show.specs.Lines.{longest_dump_len, words_after_blanks};
+ghost use Rattle.vga_show.specs.Beam.{beam_position_words, beam_counter_words};
+ghost use Rattle.vga_show.specs.Beam.{beam_line as beam_line_of};
 ghost use Rattle.vga_show.specs.Beam.{beam_text};
 
 use super::text::{DumpText, push_decimal_field, push_word_field};
@@ -12,10 +13,10 @@ use vga_card::Card;
 use vga_crtc::Beam;
 
 /// Appends the position of the beam.
-#[tactic(auto, using(crate::proofs::TextLemmas::joins), unfolding(crate::specs::Beam::place_words))]
-fn push_place(text: &mut DumpText, beam: &Beam)
-    requires { length text.old + 64 ≤ room }
-    ensures items { text.new ≡ text.old ++ behind_blanks (place_words beam.now) }
+#[tactic(auto, using(crate::proofs::TextLemmas::joins), unfolding(crate::specs::Beam::beam_position_words))]
+fn push_beam_position(text: &mut DumpText, beam: &Beam)
+    requires { length text.old + 64 ≤ longest_dump_len }
+    ensures items { text.new ≡ text.old ++ words_after_blanks (beam_position_words beam.now) }
     ensures len { length text.new ≤ length text.old + 64 }
 {
     push_decimal_field(text, b"frame", beam.frame as u32);
@@ -25,10 +26,10 @@ fn push_place(text: &mut DumpText, beam: &Beam)
 }
 
 /// Appends the counters of the beam.
-#[tactic(auto, using(crate::proofs::TextLemmas::joins), unfolding(crate::specs::Beam::count_words))]
-fn push_counts(text: &mut DumpText, beam: &Beam)
-    requires { length text.old + 65 ≤ room }
-    ensures items { text.new ≡ text.old ++ behind_blanks (count_words beam.now) }
+#[tactic(auto, using(crate::proofs::TextLemmas::joins), unfolding(crate::specs::Beam::beam_counter_words))]
+fn push_beam_counters(text: &mut DumpText, beam: &Beam)
+    requires { length text.old + 65 ≤ longest_dump_len }
+    ensures items { text.new ≡ text.old ++ words_after_blanks (beam_counter_words beam.now) }
     ensures len { length text.new ≤ length text.old + 65 }
 {
     push_word_field(text, b"base", beam.base);
@@ -44,8 +45,8 @@ pub(crate) fn beam_line(beam: &Beam, count: u16) -> DumpText
 {
     let mut text = DumpText::new();
     text.push(b"beam");
-    push_place(&mut text, beam);
-    push_counts(&mut text, beam);
+    push_beam_position(&mut text, beam);
+    push_beam_counters(&mut text, beam);
     push_decimal_field(&mut text, b"rows", count as u32);
     text.push(b"\n");
     text

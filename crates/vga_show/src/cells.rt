@@ -3,8 +3,8 @@ ghost use Rattle.std.specs.Prelude.{◌≡◌, ◌+◌, ◌*◌, ◌<◌, ◌≤
 ghost use Rattle.std.specs.Prelude.{Err};
 ghost use Rattle.vga_bits.specs.Tracked.{inner_of, has_failed, Writes};
 ghost use Rattle.bios_modes.specs.Valid.{IsValid};
-ghost use Rattle.vga_show.specs.Lines.{room, hex_words, behind_blanks};
-ghost use Rattle.vga_show.specs.Cells.{cells_refusal as cells_refusal_of, cell_word};
+ghost use Rattle.vga_show.specs.Lines.{longest_dump_len, four_hex_digits_each, words_after_blanks};
+ghost use Rattle.vga_show.specs.Cells.{cells_refusal as cells_refusal_of, cell_of_active_page};
 ghost use Rattle.vga_show.specs.Cells.{row_text as row_text_of, rows_text, cells_text};
 ghost use Rattle.vga_show.specs.Cells.{cells_answer, HasCells};
 
@@ -31,7 +31,7 @@ pub fn cells_refusal(bda: &Bda) -> Option<Refusal>
 /// Cell k of the active page: its character in the high byte, its attribute in the low byte.
 fn cell(card: &Card, bda: &Bda, k: u32) -> u16
     requires { bda.now.size * bda.now.page + 2 * k < 65536 }
-    ensures { result ≡ cell_word card.now bda.now k }
+    ensures { result ≡ cell_of_active_page card.now bda.now k }
 {
     let planes = card.planes();
     let offset = (bda.size() as u32 * bda.page() as u32 + 2 * k) as u16;
@@ -43,9 +43,10 @@ fn cell(card: &Card, bda: &Bda, k: u32) -> u16
 fn push_cells(text: &mut DumpText, card: &Card, bda: &Bda, row: u8)
     requires data { HasCells bda.now }
     requires row { row ≤ bda.now.last_row }
-    requires room { length text.old + 5 * bda.now.columns ≤ room }
-    ensures items { text.new ≡ text.old ++ behind_blanks
-        (hex_words (cell_word card.now bda.now) (bda.now.columns * row) bda.now.columns) }
+    requires room { length text.old + 5 * bda.now.columns ≤ longest_dump_len }
+    ensures items { text.new ≡ text.old ++ words_after_blanks
+        (four_hex_digits_each (cell_of_active_page card.now bda.now) (bda.now.columns * row)
+        bda.now.columns) }
     ensures len { length text.new ≡ length text.old + 5 * bda.now.columns }
 {
     let first = bda.columns() as u32 * row as u32;

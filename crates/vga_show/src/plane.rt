@@ -2,7 +2,7 @@
 ghost use Rattle.std.specs.Prelude.{◌≡◌, ◌+◌, ◌*◌, ◌<◌, ◌≤◌, ◌++◌, length, false};
 ghost use Rattle.vga_bits.specs.Tracked.{inner_of, has_failed, Writes};
 ghost use Rattle.vga_planes.specs.Planes.{byte_at};
-ghost use Rattle.vga_show.specs.Lines.{room, hex_bytes, behind_blanks};
+ghost use Rattle.vga_show.specs.Lines.{longest_dump_len, two_hex_digits_each, words_after_blanks};
 ghost use Rattle.vga_show.specs.Plane.{plane_text as plane_text_of};
 
 use super::text::{DumpText, push_spaced_byte, push_spaced_word};
@@ -16,9 +16,9 @@ use vga_planes::Planes;
 fn push_plane_bytes(text: &mut DumpText, planes: &Planes, plane: usize, offset: u16, count: u16)
     requires plane { plane < 4 }
     requires end { offset + count ≤ 65536 }
-    requires room { length text.old + 3 * count ≤ room }
-    ensures items { text.new ≡ text.old ++ behind_blanks
-        (hex_bytes (byte_at planes.now plane) offset count) }
+    requires room { length text.old + 3 * count ≤ longest_dump_len }
+    ensures items { text.new ≡ text.old ++ words_after_blanks
+        (two_hex_digits_each (byte_at planes.now plane) offset count) }
     ensures len { length text.new ≡ length text.old + 3 * count }
 {
     for i in 0..count {

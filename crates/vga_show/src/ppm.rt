@@ -1,7 +1,7 @@
 //! A picture as a Netpbm PPM.
 ghost use Rattle.std.specs.Prelude.{ℕ, List, ◌≡◌, ◌*◌, ◌≤◌, length, false};
 ghost use Rattle.vga_bits.specs.Tracked.{inner_of, has_failed, Writes};
-ghost use Rattle.vga_card.specs.Picture.{widest, highest};
+ghost use Rattle.vga_card.specs.Picture.{most_dots_of_a_line, most_lines_of_a_frame};
 ghost use Rattle.vga_show.specs.Ppm.{ppm_header, ppm};
 
 use super::text::DumpText;
@@ -44,8 +44,8 @@ pub fn write_ppm<W: Write>(
 
 /// How many bytes the PPM of a picture has. The picture is at most 2,304 dots wide and 1,024 high.
 pub fn ppm_length(width: u32, height: u32) -> u32
-    requires width { width ≤ widest }
-    requires height { height ≤ highest }
+    requires width { width ≤ most_dots_of_a_line }
+    requires height { height ≤ most_lines_of_a_frame }
     ensures { (bytes : List ℕ) → length bytes ≡ 3 * (width * height) →
         result ≡ length (ppm width height bytes) }
 {

@@ -1,7 +1,7 @@
 //! All registers as text.
 ghost use Rattle.std.specs.Prelude.{◌≡◌, ◌+◌, ◌*◌, ◌≤◌, [], ◌∷◌, ◌++◌, length, false};
 ghost use Rattle.vga_bits.specs.Tracked.{inner_of, has_failed, Writes};
-ghost use Rattle.vga_show.specs.Lines.{room};
+ghost use Rattle.vga_show.specs.Lines.{longest_dump_len};
 ghost use Rattle.vga_show.specs.Regs.{misc_line, group_line, attr_line};
 ghost use Rattle.vga_show.specs.Regs.{component_letter as component_letter_of, dac_line};
 ghost use Rattle.vga_show.specs.Regs.{regs_text as regs_text_of};
@@ -16,7 +16,7 @@ use vga_dac::{Component, Dac};
 /// Appends the line of the miscellaneous output register.
 #[tactic(auto, using(crate::proofs::TextLemmas::joins), unfolding(crate::specs::Regs::misc_line))]
 fn push_misc(text: &mut DumpText, misc: u8)
-    requires { length text.old + 8 ≤ room }
+    requires { length text.old + 8 ≤ longest_dump_len }
     ensures items { text.new ≡ text.old ++ misc_line misc }
     ensures len { length text.new ≡ length text.old + 8 }
 {
@@ -28,7 +28,7 @@ fn push_misc(text: &mut DumpText, misc: u8)
 /// Appends the line of a group: its name, its index, and its registers.
 #[tactic(auto, using(crate::proofs::TextLemmas::joins))]
 fn push_group(text: &mut DumpText, name: &[u8], index: u8, registers: &[u8])
-    requires { length text.old + length name.now + 3 * length registers.now + 5 ≤ room }
+    requires { length text.old + length name.now + 3 * length registers.now + 5 ≤ longest_dump_len }
     ensures items { text.new ≡ text.old
         ++ group_line name.now index (length registers.now) registers.now }
     ensures len { length text.new
@@ -44,7 +44,7 @@ fn push_group(text: &mut DumpText, name: &[u8], index: u8, registers: &[u8])
 /// Appends the line of the attribute controller.
 #[tactic(auto, using(crate::proofs::TextLemmas::joins), unfolding(crate::specs::Regs::attr_line))]
 fn push_attr(text: &mut DumpText, attr: &Attr)
-    requires { length text.old + 74 ≤ room }
+    requires { length text.old + 74 ≤ longest_dump_len }
     ensures items { text.new ≡ text.old ++ attr_line attr.now }
     ensures len { length text.new ≡ length text.old + 74 }
 {
@@ -69,7 +69,7 @@ fn component_letter(component: Component) -> u8
 /// Appends the line of the DAC.
 #[tactic(auto, using(crate::proofs::TextLemmas::joins), unfolding(crate::specs::Regs::dac_line))]
 fn push_dac(text: &mut DumpText, dac: &Dac)
-    requires { length text.old + 18 ≤ room }
+    requires { length text.old + 18 ≤ longest_dump_len }
     ensures items { text.new ≡ text.old ++ dac_line dac.now }
     ensures len { length text.new ≡ length text.old + 18 }
 {

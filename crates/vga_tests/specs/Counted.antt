@@ -1,7 +1,7 @@
 -- An adapter that counts the cycles that are issued on it.
 use Rattle.std.specs.Prelude.{ℕ, ◌+◌, ◌%◌, ◌^◌}
 use Rattle.vga_card.specs.Card.{CardState}
-use Rattle.vga_card.specs.Bus.{Meaning, card_write, card_read}
+use Rattle.vga_card.specs.Bus.{BusMeaning, card_write, card_read}
 
 -- The adapter, and how many cycles it has had, modulo 2 to the power of 32.
 pub record Counted : Type 0 where
@@ -13,7 +13,7 @@ abbrev pub with_cycle : Counted → CardState → Counted
 with_cycle counted card = record { card = card; cycles = (counted.cycles + 1) % 2 ^ 32 }
 
 -- each cycle is issued on the adapter, and counted
-abbrev pub counted_meaning : Meaning Counted
+abbrev pub counted_meaning : BusMeaning Counted
 counted_meaning = record {
   write = λ counted place v. (
     with_cycle counted (card_write counted.card place v).0,

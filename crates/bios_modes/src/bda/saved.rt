@@ -1,15 +1,16 @@
 //! The BIOS data as bytes.
 ghost use Rattle.std.specs.Prelude.{◌≡◌, ◌+◌, ◌≤◌, ◌↔◌, length, IsTrue};
 ghost use Rattle.std.specs.List.{flat_map};
-ghost use Rattle.vga_bits.specs.Saved.{word_bytes, words_in, IsPut};
+ghost use Rattle.vga_bits.specs.Saved.{word_bytes, first_words, IsPut};
 ghost use Rattle.bios_modes.specs.Valid.{IsValid};
-ghost use Rattle.bios_modes.specs.Saved.{saved_front, saved_back, saved_bda, bda_from, IsSavedBda};
+ghost use Rattle.bios_modes.specs.Saved.{saved_before_positions, saved_after_positions};
+ghost use Rattle.bios_modes.specs.Saved.{saved_bda, bda_from, IsSavedBda};
 
 use super::{Bda, PAGES};
 use vga_bits::{high_byte, low_byte, put_bytes, put_word, word_at};
 
 /// Puts the cursor positions into a slice from index `at` on, and gives the index after them.
-fn put_places(out: &mut [u8], at: usize, places: &[u16; PAGES]) -> usize
+fn put_cursor_positions(out: &mut [u8], at: usize, places: &[u16; PAGES]) -> usize
     requires { at + 16 ≤ length out.old }
     ensures put { IsPut out.old out.new at result (flat_map word_bytes places.now) }
     ensures end { result ≡ at + 16 }
@@ -22,9 +23,9 @@ fn put_places(out: &mut [u8], at: usize, places: &[u16; PAGES]) -> usize
 }
 
 /// The cursor positions that the first sixteen bytes spell.
-fn places_from(bytes: &[u8]) -> [u16; PAGES]
+fn cursor_positions_from(bytes: &[u8]) -> [u16; PAGES]
     requires { 16 ≤ length bytes.now }
-    ensures { result ≡ words_in 8 bytes.now }
+    ensures { result ≡ first_words 8 bytes.now }
 {
     let mut places = [0; PAGES];
     for page in 0..PAGES {
@@ -39,7 +40,7 @@ impl Bda {
 
     /// The bytes before the cursor positions.
     fn prefix(&self) -> [u8; 7]
-        ensures { result ≡ saved_front self.now }
+        ensures { result ≡ saved_before_positions self.now }
     {
         [
             self.mode,
@@ -54,7 +55,7 @@ impl Bda {
 
     /// The bytes after the cursor positions.
     fn back(&self) -> [u8; 8]
-        ensures { result ≡ saved_back self.now }
+        ensures { result ≡ saved_after_positions self.now }
     {
         [
             low_byte(self.cursor_type),
@@ -77,7 +78,7 @@ impl Bda {
         ensures end { result ≡ at + 31 }
     {
         let at = put_bytes(out, at, &self.prefix());
-        let at = put_places(out, at, &self.cursor_places);
+        let at = put_cursor_positions(out, at, &self.cursor_places);
         put_bytes(out, at, &self.back())
     }
 
@@ -94,7 +95,7 @@ impl Bda {
             columns: word_at(bytes, 1),
             size: word_at(bytes, 3),
             start: word_at(bytes, 5),
-            cursor_places: places_from(rest),
+            cursor_places: cursor_positions_from(rest),
             cursor_type: word_at(back, 0),
             page: back[2],
             crtc_address: word_at(back, 3),

@@ -1,10 +1,10 @@
 //! Whether BIOS data are valid.
 ghost use Rattle.std.specs.Prelude.{◌≡◌, ◌↔◌, IsTrue};
 ghost use Rattle.bios_modes.specs.Bda.{power_on_data};
-ghost use Rattle.bios_modes.specs.Valid.{IsOf, IsValid};
+ghost use Rattle.bios_modes.specs.Valid.{IsDataOfRow, IsValid};
 
 use super::{Bda, PAGES};
-use crate::heights::row_at;
+use crate::heights::mode_row_at_height;
 use crate::modes::ModeRow;
 
 impl Bda {
@@ -25,8 +25,8 @@ impl Bda {
     }
 
     /// Whether the data are those of this row, and the page is one of its pages.
-    fn fits(&self, row: &ModeRow) -> bool
-        ensures { IsTrue result ↔ IsOf row.now self.now }
+    fn fits_mode_row(&self, row: &ModeRow) -> bool
+        ensures { IsTrue result ↔ IsDataOfRow row.now self.now }
     {
         self.columns == row.columns
             && self.size == row.size
@@ -44,8 +44,8 @@ impl Bda {
     pub fn valid(&self) -> bool
         ensures { IsTrue result ↔ IsValid self.now }
     {
-        match row_at(self.mode, self.height) {
-            Some(row) => self.fits(&row),
+        match mode_row_at_height(self.mode, self.height) {
+            Some(row) => self.fits_mode_row(&row),
             None => self.is_unset(),
         }
     }

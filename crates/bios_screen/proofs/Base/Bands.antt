@@ -1,15 +1,15 @@
 -- Copying and filling the rows of a band, on any machine whose memory is flat.
 use Rattle.std.proofs.Common.{◌≡◌, ◌≢◌, ℕ, ◌+◌, ◌-◌, ◌*◌, ◌%◌, ◌<◌, ◌≤◌, sym, ap, ◌∙◌, subst, arith, Bool, true, false}
 use Rattle.std.specs.Prelude.{◌==◌, if◌then◌else◌}
-use Rattle.vga_card.specs.Bus.{Meaning}
+use Rattle.vga_card.specs.Bus.{BusMeaning}
 use Rattle.bios_modes.specs.declared.kind.Kind.{Kind}
 use Rattle.bios_screen.proofs.Prelude.{Planar, Band, Direction, Up, Down, Window, run, put}
 use Rattle.bios_modes.specs.declared.kind.Kind.TheVariants.{Text, Packed}
 use Rattle.bios_services.specs.declared.filling.Filling.{Filling}
 use Rattle.bios_services.specs.Kinds.{column_bytes}
 use Rattle.bios_services.specs.Plan.{move}
-use Rattle.bios_services.specs.Bands.{address_in, filling_byte, copy_line, copy_row, move_rows, fill_line, fill_row, fill_rows}
-use Rattle.bios_screen.specs.Step.{source}
+use Rattle.bios_services.specs.Bands.{byte_address_in_band, filling_byte, copy_line, copy_row, move_rows, fill_line, fill_row, fill_rows}
+use Rattle.bios_screen.specs.Step.{source_number}
 use Rattle.bios_screen.proofs.Base.Flat.{Edited, Moved, Turn, Leaves, set_cell}
 use Rattle.bios_screen.proofs.Base.Edits.{changed_edit, edits}
 use Rattle.bios_screen.proofs.Base.Moves.{one_move, moves_up, moves_down}
@@ -41,7 +41,7 @@ filled_small filling i e o = by_test (i % 2 == 0)
     by_test true = e
     by_test false = o
 
-module _ (S X : Type 0) (m : Meaning S) (base size : ℕ) (band : Band) (start rows : ℕ) (window : Window) (w : IsWindow base size band start rows window) where
+module _ (S X : Type 0) (m : BusMeaning S) (base size : ℕ) (band : Band) (start rows : ℕ) (window : Window) (w : IsWindow base size band start rows window) where
   -- a cell of a line, and a cell of a row
   abbrev pub Column : Type 0
   Column = Turn (λ _. Unit {0}) 0 band.width
@@ -52,7 +52,7 @@ module _ (S X : Type 0) (m : Meaning S) (base size : ℕ) (band : Band) (start r
   abbrev pub place : ℕ → ℕ → ℕ → ℕ
   place row line i = start + (band.pitch * (band.lines * row + line) + (band.left + i))
 
-  address_is : (row line i : ℕ) → address_in band row line i ≡ base + place row line i
+  address_is : (row line i : ℕ) → byte_address_in_band band row line i ≡ base + place row line i
   address_is row line i = let e = w.address in omega arith
 
   within : (row line i : ℕ) → row < rows → line < band.lines → i < band.width → place row line i < size
@@ -104,12 +104,12 @@ module _ (S X : Type 0) (m : Meaning S) (base size : ℕ) (band : Band) (start r
         Leaves S X R (run m (copy_line band from to line) s).0 (Moved X Column (λ h. place from line h.turn) (λ h. place to line h.turn) f)
     unfolding copy_line
     line_copied from to line s f lf lt ll o t =
-        moves_up S X m (λ i. move (address_in band from line i) (address_in band to line i)) R 0 band.width (λ _. Unit {0}) (λ k _. place from line k) (λ k _.
+        moves_up S X m (λ i. move (byte_address_in_band band from line i) (byte_address_in_band band to line i)) R 0 band.width (λ _. Unit {0}) (λ k _. place from line k) (λ k _.
         place to line k)
         (λ x y _ _ lb lo hi. omega arith)
         (λ k x g lb hi u. record {
           cells = set_cell g (place to line k) (g (place from line k));
-          shown = subst (λ a. R (run m (move a (address_in band to line k)) x).0 (set_cell g (place to line k) (g (place from line k))))
+          shown = subst (λ a. R (run m (move a (byte_address_in_band band to line k)) x).0 (set_cell g (place to line k) (g (place from line k))))
               (sym (address_is from line k))
               (subst (λ a. R (run m (move (base + place from line k) a) x).0 (set_cell g (place to line k) (g (place from line k))))
               (sym (address_is to line k))
@@ -133,7 +133,7 @@ module _ (S X : Type 0) (m : Meaning S) (base size : ℕ) (band : Band) (start r
     abbrev LeavesMoved : Direction → ℕ → S → (ℕ → X) → Type 0
     LeavesMoved direction n s f = Leaves S X R (run m (move_rows band direction n window.top (window.height - n)) s).0
         (Moved X (Turn (λ _. Line) (first_moved direction window n) (first_moved direction window n + (window.height - n)))
-        (λ h. place (source direction h.turn n) h.place.turn h.place.place.turn) (λ h. place h.turn h.place.turn h.place.place.turn) f)
+        (λ h. place (source_number direction h.turn n) h.place.turn h.place.place.turn) (λ h. place h.turn h.place.turn h.place.place.turn) f)
 
     pub rows_moved : (direction : Direction) (n : ℕ) (s : S) (f : ℕ → X) → 0 < n → n ≤ window.height → R s f → LeavesMoved direction n s f
     unfolding move_rows
@@ -168,7 +168,7 @@ module _ (S X : Type 0) (m : Meaning S) (base size : ℕ) (band : Band) (start r
         f)
     unfolding fill_line
     line_filled row line s f lr ll t =
-        edits S X m (λ i. put (address_in band row line i) (filling_byte filling i)) (λ _. R) 0 band.width (λ _. Unit {0}) (λ k _. place row line k) (λ k _ x.
+        edits S X m (λ i. put (byte_address_in_band band row line i) (filling_byte filling i)) (λ _. R) 0 band.width (λ _. Unit {0}) (λ k _. place row line k) (λ k _ x.
         made (filling_byte filling k) x)
         (λ x y _ _ lb lo hi. omega arith)
         (λ k x g lb hi u. record {

@@ -1,7 +1,7 @@
 -- A loop whose turns change cells of a flat memory, on any machine.
 use Rattle.std.proofs.Common.{◌≡◌, ◌≢◌, ℕ, zero, suc, ◌+◌, ◌<◌, ◌≤◌, ⊎_elim, refl, sym, ap, ◌∙◌, subst, arith}
 use Rattle.std.proofs.lemmas.Bool.{cases_eq}
-use Rattle.vga_card.specs.Bus.{Meaning}
+use Rattle.vga_card.specs.Bus.{BusMeaning}
 use Rattle.bios_services.specs.Plan.{Plan, run, each}
 use Rattle.bios_screen.proofs.Base.Plans.{run_bind}
 use Rattle.bios_screen.proofs.Base.Flat.{Leaves, set_same, set_other}
@@ -20,7 +20,7 @@ pub edited_twice : {X H : Type 0} (at : H → ℕ) (F G : H → X → X) (a b c 
     Edited X H at (λ h x. G h (F h x)) a c
 edited_twice at F G a b c p q = record { inside = λ h. q.inside h ∙ ap (G h) (p.inside h); outside = λ x o. q.outside x o ∙ p.outside x o }
 
-module _ (S X : Type 0) (m : Meaning S) (f : ℕ → Plan (Unit {0})) (R : ℕ → S → (ℕ → X) → Type 0) (b e : ℕ) (H : ℕ → Type 0) (from at : (r : ℕ) → H r → ℕ)
+module _ (S X : Type 0) (m : BusMeaning S) (f : ℕ → Plan (Unit {0})) (R : ℕ → S → (ℕ → X) → Type 0) (b e : ℕ) (H : ℕ → Type 0) (from at : (r : ℕ) → H r → ℕ)
     (F : (r : ℕ) → H r → X → X) (apart : (j k : ℕ) (g : H j) (h : H k) → b ≤ j → j < k → k < e → at j g ≢ at k h)
     (later : (j k : ℕ) (g : H j) (h : H k) → b ≤ j → j < k → k < e → from k h ≢ at j g)
     (turn : (r : ℕ) (s : S) (c : ℕ → X) → b ≤ r → r < e → R r s c → Leaves S X (R (r + 1)) (run m (f r) s).0 (Changed X (H r) (from r) (at r) (F r) c)) where
@@ -63,7 +63,7 @@ module _ (S X : Type 0) (m : Meaning S) (f : ℕ → Plan (Unit {0})) (R : ℕ �
       (sym (run_bind m (f i) (λ _. each f n (i + 1)) s)) all
 
 -- turns that each read only the cells they change
-module _ (S X : Type 0) (m : Meaning S) (f : ℕ → Plan (Unit {0})) (R : ℕ → S → (ℕ → X) → Type 0) (b e : ℕ) (H : ℕ → Type 0) (at : (r : ℕ) → H r → ℕ)
+module _ (S X : Type 0) (m : BusMeaning S) (f : ℕ → Plan (Unit {0})) (R : ℕ → S → (ℕ → X) → Type 0) (b e : ℕ) (H : ℕ → Type 0) (at : (r : ℕ) → H r → ℕ)
     (F : (r : ℕ) → H r → X → X) (apart : (j k : ℕ) (g : H j) (h : H k) → b ≤ j → j < k → k < e → at j g ≢ at k h)
     (turn : (r : ℕ) (s : S) (c : ℕ → X) → b ≤ r → r < e → R r s c → Leaves S X (R (r + 1)) (run m (f r) s).0 (Edited X (H r) (at r) (F r) c)) where
   pub edits : (n i : ℕ) (s : S) (c : ℕ → X) → b ≤ i → i + n ≡ e → R i s c → Leaves S X (R e) (run m (each f n i) s).0

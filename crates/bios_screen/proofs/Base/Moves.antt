@@ -1,6 +1,6 @@
 -- Loops that move cells of a flat memory, on any machine, in either order.
 use Rattle.std.proofs.Common.{◌≡◌, ◌≢◌, ℕ, zero, suc, ◌+◌, ◌-◌, ◌<◌, ◌≤◌, refl, sym, ap, ◌∙◌, subst, arith}
-use Rattle.vga_card.specs.Bus.{Meaning}
+use Rattle.vga_card.specs.Bus.{BusMeaning}
 use Rattle.bios_services.specs.Plan.{Plan, run, each, each_down, ◌>>=◌}
 use Rattle.bios_screen.proofs.Base.Edits.{changes}
 use Rattle.bios_screen.proofs.Base.Flat.{Leaves, set_same, set_other}
@@ -17,7 +17,7 @@ down_is f (suc n) i k t q =
     let e : i + n ≡ t - suc k = omega arith in
     ap (λ x. f x >>= λ _. each_down f n i) e ∙ ap (λ p. f (t - suc k) >>= λ _. p) (down_is f n i (k + 1) t (omega arith))
 
-module _ (S X : Type 0) (m : Meaning S) (f : ℕ → Plan (Unit {0})) (R : S → (ℕ → X) → Type 0) (b e : ℕ) (H : ℕ → Type 0) (from to : (r : ℕ) → H r → ℕ)
+module _ (S X : Type 0) (m : BusMeaning S) (f : ℕ → Plan (Unit {0})) (R : S → (ℕ → X) → Type 0) (b e : ℕ) (H : ℕ → Type 0) (from to : (r : ℕ) → H r → ℕ)
     (apart : (j k : ℕ) (g : H j) (h : H k) → b ≤ j → j < k → k < e → to j g ≢ to k h)
     (turn : (r : ℕ) (s : S) (c : ℕ → X) → b ≤ r → r < e → R s c → Leaves S X R (run m (f r) s).0 (Moved X (H r) (from r) (to r) c)) where
   -- in ascending order, if no later source is an earlier target

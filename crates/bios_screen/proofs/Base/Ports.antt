@@ -5,7 +5,7 @@ use Rattle.vga_card.specs.declared.port.Port.TheVariants.{CrtcIndex, CrtcData, I
 use Rattle.vga_card.specs.Port.{port_of, crtc_port_of}
 use Rattle.vga_card.specs.Cycles.{out_at, inp_at, out_reached, inp_reached}
 use Rattle.bios_services.specs.Plan.{out}
-use Rattle.bios_services.specs.Cycles.{crtc, expect_index}
+use Rattle.bios_services.specs.Cycles.{write_crtc, expect_index}
 use Rattle.bios_screen.proofs.Base.Plans.{run_bind}
 
 -- each of the three port numbers reaches its register
@@ -23,7 +23,7 @@ reached : (misc : ℕ) → Reached misc
 reached misc = reached_by misc (is_set misc 0) refl
 
 -- writing register i of the CRT controller
-pub crtc_runs : (c : CardState) (i v : ℕ) → (run card_meaning (crtc (crtc_port c.misc) i v) c).0 ≡ (out_at (out_at c (Some CrtcIndex) i).0 (Some CrtcData) v).0
+pub crtc_runs : (c : CardState) (i v : ℕ) → (run card_meaning (write_crtc (crtc_port c.misc) i v) c).0 ≡ (out_at (out_at c (Some CrtcIndex) i).0 (Some CrtcData) v).0
 unfolding out_reached
 crtc_runs c i v =
     ap (λ p. (run card_meaning (out (crtc_port c.misc + 1) v) (out_at c p i).0).0) (reached c.misc).index

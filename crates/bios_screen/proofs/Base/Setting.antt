@@ -7,8 +7,8 @@ use Rattle.vga_host.specs.Memory.Address.{is_decoded, window_offset}
 use Rattle.vga_host.specs.Memory.Write.{memory_after_put, after_put}
 use Rattle.vga_host.specs.Memory.Read.{loaded, read_byte, after_get}
 use Rattle.vga_card.specs.Adapter.{adapter_of}
-use Rattle.vga_card.specs.Cycles.{written, answered, where_decoded}
-use Rattle.bios_services.specs.Plan.{byte_of}
+use Rattle.vga_card.specs.Cycles.{card_after_write, card_after_read, if_decoded}
+use Rattle.bios_services.specs.Plan.{read_byte_or_ff}
 
 pub record Setting : Type 0 where
   pub misc : ℕ
@@ -43,7 +43,7 @@ pub put_decoded : (c : CardState) (s : Setting) (a v : ℕ) → setting c ≡ s 
 put_decoded c s a v e d =
     let memory = memory_after_put (host_at c.host s) (window_offset (host_at c.host s) a) v in
     ap (λ x. (run card_meaning (put a v) (card_at c x)).0) e
-    ∙ ap (λ b. (written (card_at c s) (where_decoded b (record (adapter_of (card_at c s)) { host = after_put (host_at c.host s) a v }))).0) d
+    ∙ ap (λ b. (card_after_write (card_at c s) (if_decoded b (record (adapter_of (card_at c s)) { host = after_put (host_at c.host s) a v }))).0) d
     ∙ ap (λ x. let y : CardState = record (card_at c x) { host = record (host_at c.host x) { memory = memory } } in y) (sym e)
 
 -- a Get at a decoded address, likewise
@@ -53,6 +53,6 @@ get_decoded c s a e d =
     let latches = loaded (host_at c.host s) a in
     let v = read_byte (host_at c.host s) a in
     ap (λ x. run card_meaning (get a) (card_at c x)) e
-    ∙ ap (λ b. let r = answered (card_at c s) (where_decoded b (record (adapter_of (card_at c s)) { host = after_get (host_at c.host s) a }, v)) in
-    let p : CardState × ℕ = (r.0, byte_of r.1) in p) d
+    ∙ ap (λ b. let r = card_after_read (card_at c s) (if_decoded b (record (adapter_of (card_at c s)) { host = after_get (host_at c.host s) a }, v)) in
+    let p : CardState × ℕ = (r.0, read_byte_or_ff r.1) in p) d
     ∙ ap (λ x. let p : CardState × ℕ = (record (card_at c x) { host = record (host_at c.host x) { latches = latches } }, v) in p) (sym e)

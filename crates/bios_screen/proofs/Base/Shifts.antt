@@ -1,13 +1,13 @@
 -- A window of a flat memory whose rows were moved and then filled, cell by cell, for any sizes.
 use Rattle.std.proofs.Common.{◌≡◌, ◌≢◌, ℕ, ◌+◌, ◌-◌, ◌*◌, ◌/◌, ◌%◌, ◌<◌, ◌≤◌, refl, sym, ap, ◌∙◌, subst, arith, Bool, true, false}
 use Rattle.std.proofs.Math.Nat.{mod-lt, div-lt_iff_lt-mul, le-div_iff_mul-le}
-use Rattle.vga_card.specs.Bus.{Meaning}
+use Rattle.vga_card.specs.Bus.{BusMeaning}
 use Rattle.bios_screen.proofs.Prelude.{Band, Direction, Up, Down, Window, run, put, get, ◌>>◌}
 use Rattle.bios_services.specs.declared.filling.Filling.{Filling}
 use Rattle.bios_services.specs.Bands.{filling_byte, move_rows, fill_rows}
 use Rattle.bios_services.specs.Kinds.{column_bytes}
 use Rattle.bios_services.specs.Plan.{move}
-use Rattle.bios_screen.specs.Step.{in_window, has_source, source}
+use Rattle.bios_screen.specs.Step.{is_in_window, has_source_row, source_number}
 use Rattle.bios_screen.proofs.Base.Flat.{Edited, Moved, Turn, Leaves, set_cell}
 use Rattle.bios_screen.proofs.Base.Plans.{run_bind}
 use Rattle.bios_screen.proofs.Base.Places.{row_and_column}
@@ -45,7 +45,7 @@ module _ (X : Type 0) (base size : ℕ) (band : Band) (start rows : ℕ) (window
 
   -- whether cell b of the page lies in the window
   abbrev pub in_this_window : ℕ → Bool
-  in_this_window b = in_window window (b / band.pitch / band.lines) (b % band.pitch / column_bytes band.kind)
+  in_this_window b = is_in_window window (b / band.pitch / band.lines) (b % band.pitch / column_bytes band.kind)
 
   record IsIn (b : ℕ) : Type 0 where
     above : window.top ≤ row b
@@ -125,8 +125,8 @@ module _ (X : Type 0) (base size : ℕ) (band : Band) (start rows : ℕ) (window
   shift r l i n = omega arith
 
   -- the number of the cell whose contents a cell gets
-  source_of : (direction : Direction) (b n : ℕ) → band.left ≤ column b → has_source direction window n (row b) ≡ true →
-      place (source direction (row b) n) (line b) (column b - band.left) ≡ start + source direction b (W * (H * n))
+  source_of : (direction : Direction) (b n : ℕ) → band.left ≤ column b → has_source_row direction window n (row b) ≡ true →
+      place (source_number direction (row b) n) (line b) (column b - band.left) ≡ start + source_number direction b (W * (H * n))
   source_of Up b n l t = let a = place_of b l in let s = shift (row b) (line b) (column b - band.left) n in omega arith
   source_of Down b n l t =
       let low = le_is (window.top + n) (row b) t in
@@ -137,8 +137,8 @@ module _ (X : Type 0) (base size : ℕ) (band : Band) (start rows : ℕ) (window
       omega arith
 
   -- that source cell is on the page
-  pub source_within : (direction : Direction) (b n : ℕ) → in_this_window b ≡ true → has_source direction window n (b / band.pitch / band.lines) ≡ true →
-      source direction b (band.pitch * (band.lines * n)) < band.pitch * (band.lines * rows)
+  pub source_within : (direction : Direction) (b n : ℕ) → in_this_window b ≡ true → has_source_row direction window n (b / band.pitch / band.lines) ≡ true →
+      source_number direction b (band.pitch * (band.lines * n)) < band.pitch * (band.lines * rows)
   source_within Up b n u t =
       let a = lt_is (row b + n) (window.top + window.height) t in
       let z = w.below in
@@ -153,9 +153,9 @@ module _ (X : Type 0) (base size : ℕ) (band : Band) (start rows : ℕ) (window
 
   -- the window has moved by n rows
   pub record IsScrolled (direction : Direction) (n : ℕ) (B : ℕ → X → X) (f g : ℕ → X) : Type 0 where
-    pub moved : (b : ℕ) → in_this_window b ≡ true → has_source direction window n (b / band.pitch / band.lines) ≡ true →
-        g (start + b) ≡ f (start + source direction b (band.pitch * (band.lines * n)))
-    pub filled : (b : ℕ) → in_this_window b ≡ true → has_source direction window n (b / band.pitch / band.lines) ≡ false → IsFilled B b (g (start + b))
+    pub moved : (b : ℕ) → in_this_window b ≡ true → has_source_row direction window n (b / band.pitch / band.lines) ≡ true →
+        g (start + b) ≡ f (start + source_number direction b (band.pitch * (band.lines * n)))
+    pub filled : (b : ℕ) → in_this_window b ≡ true → has_source_row direction window n (b / band.pitch / band.lines) ≡ false → IsFilled B b (g (start + b))
     pub outside : (o : ℕ) → ((b : ℕ) → start + b ≡ o → in_this_window b ≡ false) → g o ≡ f o
 
   -- rows that get another row's contents, and new ones
@@ -167,7 +167,7 @@ module _ (X : Type 0) (base size : ℕ) (band : Band) (start rows : ℕ) (window
 
   pub is_scrolled : (direction : Direction) (n : ℕ) → n ≤ window.height → (B : ℕ → X → X) (F : New direction n → X → X) →
       ((h : New direction n) (x : X) → F h x ≡ B h.place.place.turn x) → (f mid g : ℕ → X) →
-      Moved X (Taking direction n) (λ h. place (source direction h.turn n) h.place.turn h.place.place.turn) (λ h. at h) f mid →
+      Moved X (Taking direction n) (λ h. place (source_number direction h.turn n) h.place.turn h.place.place.turn) (λ h. at h) f mid →
       Edited X (New direction n) (λ h. at h) F mid g → IsScrolled direction n B f g
   unfolding turn_of
   is_scrolled direction n few B F same f mid g moves filling =
@@ -192,13 +192,13 @@ module _ (X : Type 0) (base size : ℕ) (band : Band) (start rows : ℕ) (window
       }
 
 -- a read of a byte answers it and leaves the cells unchanged
-pub record IsRead (S : Type 0) (m : Meaning S) (R : S → (ℕ → ℕ) → Type 0) (address : ℕ) (s : S) (f : ℕ → ℕ) (v : ℕ) : Type 0 where
+pub record IsRead (S : Type 0) (m : BusMeaning S) (R : S → (ℕ → ℕ) → Type 0) (address : ℕ) (s : S) (f : ℕ → ℕ) (v : ℕ) : Type 0 where
   pub still : R (run m (get address) s).0 f
   pub answer : (run m (get address) s).1 ≡ v
   pub small : v < 256
 
 -- if cells are bytes, filling makes new rows, whatever was there
-module _ (S : Type 0) (m : Meaning S) (base size : ℕ) (band : Band) (start rows : ℕ) (window : Window) (w : IsWindow base size band start rows window)
+module _ (S : Type 0) (m : BusMeaning S) (base size : ℕ) (band : Band) (start rows : ℕ) (window : Window) (w : IsWindow base size band start rows window)
     (R : S → (ℕ → ℕ) → Type 0) (read : (i : ℕ) (s : S) (f : ℕ → ℕ) → i < size → R s f → IsRead S m R (base + i) s f (f i))
     (stored : (j v : ℕ) (s : S) (f : ℕ → ℕ) → j < size → v < 256 → R s f → R (run m (put (base + j) v) s).0 (set_cell f j v))
     (filling : Filling) (even : filling.even < 256) (odd : filling.odd < 256) where

@@ -5,7 +5,7 @@ use Rattle.std.proofs.lemmas.Bool.Decides.{nat_tests}
 use Rattle.bios_screen.proofs.Prelude.{FontSet, Colouring, Screen}
 use Rattle.bios_services.specs.Cursor.{row_of, column_of}
 use Rattle.bios_services.specs.Teletype.{line_start}
-use Rattle.bios_screen.specs.Step.{last_colour, page_up, line_feed, cursor_advance, put_character, type_character}
+use Rattle.bios_screen.specs.Step.{last_row_attribute, page_up, after_line_feed, after_cursor_advance, put_character, type_character}
 use Rattle.bios_screen.proofs.Base.Tests.{lt_is}
 
 -- a position lies on a page with these numbers of rows and columns
@@ -15,7 +15,7 @@ pub record Inside (rows columns place : ℕ) : Type 0 where
 
 -- the screen after a line feed on the last row: the page has gone up by a row
 abbrev pub risen : Screen → ℕ → ℕ → Screen
-risen s p place = page_up s p (last_colour s p place)
+risen s p place = page_up s p (last_row_attribute s p place)
 
 module _ (rows columns : ℕ) (narrow : columns ≤ 80) where
   below_inside : (place : ℕ) → row_of place < rows - 1 → Inside rows columns place → Inside rows columns (place + 256)
@@ -38,28 +38,28 @@ module _ (rows columns : ℕ) (narrow : columns ≤ 80) where
           let c = i.column in
           subst (λ b. Inside rows columns (if b then place else place - 1)) (sym e) (record { row = omega arith; column = omega arith })
 
-  fed_inside : (s : Screen) (p place : ℕ) → s.layout.rows ≡ rows → Inside rows columns place → Inside rows columns (line_feed s p place).1
+  fed_inside : (s : Screen) (p place : ℕ) → s.layout.rows ≡ rows → Inside rows columns place → Inside rows columns (after_line_feed s p place).1
   fed_inside s p place e i = by_test (nat_lt (row_of place) (s.layout.rows - 1)) refl
     where
       either : Bool → ℕ
       either b = let x : Screen × ℕ = (if b then (s, place + 256) else (risen s p place, place)) in x.1
 
-      by_test : (b : Bool) → nat_lt (row_of place) (s.layout.rows - 1) ≡ b → Inside rows columns (line_feed s p place).1
+      by_test : (b : Bool) → nat_lt (row_of place) (s.layout.rows - 1) ≡ b → Inside rows columns (after_line_feed s p place).1
       by_test true t = let a = lt_is (row_of place) (s.layout.rows - 1) t in subst (Inside rows columns) (sym (ap either t))
           (below_inside place (omega arith) i)
       by_test false t = subst (Inside rows columns) (sym (ap either t)) i
 
   advanced_inside : (s : Screen) (p place : ℕ) → s.layout.rows ≡ rows → s.layout.columns ≡ columns → Inside rows columns place →
-      Inside rows columns (cursor_advance s p place).1
+      Inside rows columns (after_cursor_advance s p place).1
   advanced_inside s p place e w i = by_test (nat_lt (column_of place + 1) s.layout.columns) refl
     where
       either : Bool → ℕ
-      either b = let x : Screen × ℕ = (if b then (s, place + 1) else ((line_feed s p place).0, line_start (line_feed s p place).1)) in x.1
+      either b = let x : Screen × ℕ = (if b then (s, place + 1) else ((after_line_feed s p place).0, line_start (after_line_feed s p place).1)) in x.1
 
-      by_test : (b : Bool) → nat_lt (column_of place + 1) s.layout.columns ≡ b → Inside rows columns (cursor_advance s p place).1
+      by_test : (b : Bool) → nat_lt (column_of place + 1) s.layout.columns ≡ b → Inside rows columns (after_cursor_advance s p place).1
       by_test true t = let a = lt_is (column_of place + 1) s.layout.columns t in subst (Inside rows columns) (sym (ap either t))
           (next_inside place (omega arith) i)
-      by_test false t = subst (Inside rows columns) (sym (ap either t)) (start_inside (line_feed s p place).1 (fed_inside s p place e i))
+      by_test false t = subst (Inside rows columns) (sym (ap either t)) (start_inside (after_line_feed s p place).1 (fed_inside s p place e i))
 
   pub typed_inside : (fonts : FontSet) (s : Screen) (p place v : ℕ) (colouring : Colouring) → s.layout.rows ≡ rows → s.layout.columns ≡ columns →
       Inside rows columns place → Inside rows columns (type_character fonts s p place v colouring).1
@@ -70,9 +70,9 @@ module _ (rows columns : ℕ) (narrow : columns ≤ 80) where
       back = if column_of place == 0 then place else place - 1
 
       on : Screen × ℕ
-      on = cursor_advance (put_character fonts s p place v colouring) p place
+      on = after_cursor_advance (put_character fonts s p place v colouring) p place
 
-      by_tests : (a b g f : Bool) → Inside rows columns (let x : Screen × ℕ = (if a then (s, place) else if b then (s, back) else if g then line_feed s p place
+      by_tests : (a b g f : Bool) → Inside rows columns (let x : Screen × ℕ = (if a then (s, place) else if b then (s, back) else if g then after_line_feed s p place
           else if f then (s, line_start place) else on) in x.1)
       by_tests true b g f = i
       by_tests false true g f = back_inside place i

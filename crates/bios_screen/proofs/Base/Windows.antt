@@ -4,9 +4,9 @@ use Rattle.std.specs.Prelude.{◌==◌, ◌&&◌, ◌||◌, nat_lt, nat_le, if�
 use Rattle.std.proofs.lemmas.Bool.Decides.{nat_tests}
 use Rattle.bios_screen.proofs.Prelude.{Direction, Up, Down, Window}
 use Rattle.bios_services.specs.declared.scroll.Scroll.{Scroll}
-use Rattle.bios_services.specs.Bands.{new_row}
-use Rattle.bios_services.specs.Scroll.{IsOnPage, window_among, lines_of}
-use Rattle.bios_screen.specs.Step.{in_window, has_source}
+use Rattle.bios_services.specs.Bands.{first_row_to_fill}
+use Rattle.bios_services.specs.Scroll.{IsOnPage, window_among, rows_to_scroll}
+use Rattle.bios_screen.specs.Step.{is_in_window, has_source_row}
 use Rattle.bios_screen.proofs.Base.Tests.{both_true, both_are, if_some, lt_is, le_is, lt_not, le_not, lt_test, le_test}
 
 -- a window cut to the page lies on the page
@@ -25,7 +25,7 @@ cut_on_page rows columns asked w e =
     record { below = omega arith; after = omega arith; some = omega arith }
 
 -- a window moves by at least one row, and by no more rows than it has
-pub few_lines : (w : Window) (asked : ℕ) → lines_of w asked ≤ w.height
+pub few_lines : (w : Window) (asked : ℕ) → rows_to_scroll w asked ≤ w.height
 few_lines w asked = by_tests (asked == 0) (nat_lt w.height asked) refl
   where
     by_tests : (a b : Bool) → nat_lt w.height asked ≡ b → (if a || b then w.height else asked) ≤ w.height
@@ -33,7 +33,7 @@ few_lines w asked = by_tests (asked == 0) (nat_lt w.height asked) refl
     by_tests false true q = omega arith
     by_tests false false q = grind (arith, nat_tests)
 
-pub some_lines : (w : Window) (asked : ℕ) → 0 < w.height → 0 < lines_of w asked
+pub some_lines : (w : Window) (asked : ℕ) → 0 < w.height → 0 < rows_to_scroll w asked
 some_lines w asked l = by_tests (asked == 0) (nat_lt w.height asked) refl
   where
     by_tests : (a b : Bool) → (asked == 0) ≡ a → 0 < (if a || b then w.height else asked)
@@ -49,7 +49,7 @@ pub record IsInside (w : Window) (row column : ℕ) : Type 0 where
   pub before : w.left ≤ column
   pub after : column < w.left + w.width
 
-pub inside_of : (w : Window) (row column : ℕ) → in_window w row column ≡ true → IsInside w row column
+pub inside_of : (w : Window) (row column : ℕ) → is_in_window w row column ≡ true → IsInside w row column
 inside_of w row column t =
     let b = both_true (nat_le w.top row) _ t in
     let e = both_true (nat_lt row (w.top + w.height)) _ b.1 in
@@ -61,7 +61,7 @@ inside_of w row column t =
       after = lt_is column (w.left + w.width) g.1;
     }
 
-pub inside_test : (w : Window) (row column : ℕ) → IsInside w row column → in_window w row column ≡ true
+pub inside_test : (w : Window) (row column : ℕ) → IsInside w row column → is_in_window w row column ≡ true
 inside_test w row column i =
     both_are (nat_le w.top row) _ (le_test w.top row i.above)
     (both_are (nat_lt row (w.top + w.height)) _ (lt_test row (w.top + w.height) i.below)
@@ -86,7 +86,7 @@ first_moved Down w n = w.top + n
 
 -- the first of the new rows
 abbrev pub first_new : Direction → Window → ℕ → ℕ
-first_new direction w n = new_row direction w.top (w.height - n)
+first_new direction w n = first_row_to_fill direction w.top (w.height - n)
 
 pub record AreParts (direction : Direction) (w : Window) (n : ℕ) : Type 0 where
   pub moved_above : w.top ≤ first_moved direction w n
@@ -95,9 +95,9 @@ pub record AreParts (direction : Direction) (w : Window) (n : ℕ) : Type 0 wher
   pub new_below : first_new direction w n + n ≤ w.top + w.height
   pub apart : (row : ℕ) → first_moved direction w n ≤ row → row < first_moved direction w n + (w.height - n) → first_new direction w n ≤ row →
       row < first_new direction w n + n → ⊥
-  pub is_moved : (row : ℕ) → w.top ≤ row → row < w.top + w.height → has_source direction w n row ≡ true →
+  pub is_moved : (row : ℕ) → w.top ≤ row → row < w.top + w.height → has_source_row direction w n row ≡ true →
       (first_moved direction w n ≤ row) × (row < first_moved direction w n + (w.height - n))
-  pub is_new : (row : ℕ) → w.top ≤ row → row < w.top + w.height → has_source direction w n row ≡ false →
+  pub is_new : (row : ℕ) → w.top ≤ row → row < w.top + w.height → has_source_row direction w n row ≡ false →
       (first_new direction w n ≤ row) × (row < first_new direction w n + n)
 
 pub parts : (direction : Direction) (w : Window) (n : ℕ) → n ≤ w.height → AreParts direction w n

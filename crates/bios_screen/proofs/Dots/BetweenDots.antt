@@ -6,17 +6,17 @@ use Rattle.std.proofs.Common.{arith}
 use Rattle.std.proofs.lemmas.Nat.{mul-le}
 use Rattle.bios_screen.proofs.Prelude.{Beam, IsCard, CardState, Refusal, BiosData, FontSet, start_address, Screen, shown}
 use Rattle.vga_crtc.specs.Beam.{is_first_dot}
-use Rattle.vga_crtc.specs.Raster.{IsFrameStart, beam_at}
+use Rattle.vga_crtc.specs.Raster.{IsFrameStart, beam_at_dot_of_frame}
 use Rattle.vga_crtc.proofs.Moves.{first_dot_starts}
-use Rattle.vga_card.specs.Dots.{character_width, fresh, fresh_dots}
-use Rattle.vga_card.specs.Picture.{lines_of, bytes_of}
+use Rattle.vga_card.specs.Dots.{character_width, dots_of_frame_so_far, dots_unless_frame_start}
+use Rattle.vga_card.specs.Picture.{lines_of_dots, bytes_of_dots}
 use Rattle.bios_services.specs.declared.glyph_load.GlyphLoad.{GlyphLoad}
 use Rattle.bios_screen.specs.Loaded.{load_refusal_on, load_glyphs}
 use Rattle.bios_screen.specs.Called.{screen_unless}
 use Rattle.bios_screen.specs.Screen.{Layout}
-use Rattle.bios_screen.specs.Raster.{all_dots}
+use Rattle.bios_screen.specs.Raster.{dots_of_frame}
 use Rattle.bios_screen.specs.Drawing.{Drawing, dots_a_frame, is_of_picture, dots_a_line, MayLoad}
-use Rattle.bios_screen.specs.Follows.{BeamIsAt, lines_before, Follows}
+use Rattle.bios_screen.specs.Follows.{BeamIsAt, picture_lines_before, Follows}
 use Rattle.bios_screen.proofs.Dots.Any.{HasFrames, frames_of}
 use Rattle.bios_screen.proofs.Shows.Steady.{same_frames}
 use Rattle.bios_screen.proofs.Shows.CutAlike.{IsCutAs, uncut}
@@ -28,35 +28,35 @@ picture_kept s t same n =
     ap (λ m. is_of_picture (record t { mode = m }) n) same.mode
     ∙ ap (λ l. is_of_picture (record s { layout = l }) n) same.layout
 
-lines_kept : (s t : Screen) → IsCutAs s t → (n : ℕ) → lines_before t n ≡ lines_before s n
-unfolding lines_before
+lines_kept : (s t : Screen) → IsCutAs s t → (n : ℕ) → picture_lines_before t n ≡ picture_lines_before s n
+unfolding picture_lines_before
 lines_kept s t same zero = refl
 lines_kept s t same (suc n) =
     ap (λ l. l ++ (if is_of_picture t n then n / dots_a_line t.mode ∷ [] else [])) (lines_kept s t same n)
-    ∙ ap (λ v. lines_before s n ++ (if v then n / dots_a_line t.mode ∷ [] else [])) (picture_kept s t same n)
-    ∙ ap (λ m. lines_before s n ++ (if is_of_picture s n then n / dots_a_line m ∷ [] else [])) same.mode
+    ∙ ap (λ v. picture_lines_before s n ++ (if v then n / dots_a_line t.mode ∷ [] else [])) (picture_kept s t same n)
+    ∙ ap (λ m. picture_lines_before s n ++ (if is_of_picture s n then n / dots_a_line m ∷ [] else [])) same.mode
 
 -- if the frames are the same, an unchanged beam is at the same dot
-at_kept : (c y : CardState) (start n : ℕ) → ((a f k : ℕ) → beam_at (character_width c) c.crtc.registers a f k
-    ≡ beam_at (character_width y) y.crtc.registers a f k)
+at_kept : (c y : CardState) (start n : ℕ) → ((a f k : ℕ) → beam_at_dot_of_frame (character_width c) c.crtc.registers a f k
+    ≡ beam_at_dot_of_frame (character_width y) y.crtc.registers a f k)
     → y.crtc.beam ≡ c.crtc.beam → BeamIsAt c start n → BeamIsAt y start n
 at_kept c y start zero same e at = subst IsFrameStart (sym e) at
 at_kept c y start (suc n) same e at = e ∙ at ∙ same start c.crtc.beam.frame (suc n)
-    ∙ ap (λ (b : Beam). beam_at (character_width y) y.crtc.registers start b.frame (suc n)) (sym e)
+    ∙ ap (λ (b : Beam). beam_at_dot_of_frame (character_width y) y.crtc.registers start b.frame (suc n)) (sym e)
 
 -- the adapter follows another screen of the same mode and layout; beam and drawn dots stay
 pub screen_follows : (c y : CardState) (d after : BiosData) (b : Drawing) (t : Screen) → Follows c d b → IsCard y → shown y after ≡ Some t →
     y.crtc.beam ≡ c.crtc.beam → y.drawn ≡ c.drawn → IsCutAs b.screen t
     → Follows y after (record b { screen = t })
 screen_follows c y d after b t is z shows beam drawn same =
-    let fresh_same : fresh y ≡ fresh c = ap (λ (x : Beam). fresh_dots x y.drawn) beam ∙ ap (fresh_dots c.crtc.beam) drawn in
+    let fresh_same : dots_of_frame_so_far y ≡ dots_of_frame_so_far c = ap (λ (x : Beam). dots_unless_frame_start x y.drawn) beam ∙ ap (dots_unless_frame_start c.crtc.beam) drawn in
     record {
       shows = shows;
       within = subst (λ m. b.dot < dots_a_frame m) (sym same.mode) is.within;
       page = page_by (b.dot == 0) refl;
       at = at_by b.dot refl;
-      lines = ap lines_of fresh_same ∙ is.lines ∙ sym (lines_kept b.screen t same b.dot);
-      bytes = ap bytes_of fresh_same ∙ is.bytes;
+      lines = ap lines_of_dots fresh_same ∙ is.lines ∙ sym (lines_kept b.screen t same b.dot);
+      bytes = ap bytes_of_dots fresh_same ∙ is.bytes;
     }
   where
     page_by : (v : Bool) → (b.dot == 0) ≡ v → (if v then t.page else b.page) < t.layout.pages
@@ -81,7 +81,7 @@ screen_follows c y d after b t is z shows beam drawn same =
 
 -- a frame has at least one dot
 some_dots : (c : CardState) (d : BiosData) (s : Screen) → HasFrames c d s → 0 < dots_a_frame s.mode
-unfolding all_dots
+unfolding dots_of_frame
 some_dots c d s h =
     let m = h.raster in
     let r = h.has.raster in
@@ -96,18 +96,18 @@ some_dots c d s h =
 -- at the first dot of a frame, any shown screen is followed
 pub starts : (c : CardState) (d : BiosData) (b : Drawing) → IsCard c → shown c d ≡ Some b.screen → b.dot ≡ 0 → (is_first_dot c.crtc.beam ≡ true) →
     IsFrameStart c.crtc.beam → Follows c d b
-unfolding lines_before bytes_of
+unfolding picture_lines_before bytes_of_dots
 starts c d b z shows e first start =
     let h = frames_of c d b.screen z shows in
     let test = is_zero b.dot e in
-    let none : fresh c ≡ [] = ap (λ v. if v then [] else c.drawn) first in
+    let none : dots_of_frame_so_far c ≡ [] = ap (λ v. if v then [] else c.drawn) first in
     record {
       shows = shows;
       within = subst (λ n. n < dots_a_frame b.screen.mode) (sym e) (some_dots c d b.screen h);
       page = subst (λ v. (if v then b.screen.page else b.page) < b.screen.layout.pages) (sym test) h.page;
       at = subst (λ n. BeamIsAt c (start_address d (if n == 0 then b.screen.page else b.page)) n) (sym e) start;
-      lines = ap lines_of none ∙ sym (ap (lines_before b.screen) e);
-      bytes = ap bytes_of none ∙ sym (ap (λ v. if v then [] else b.picture) test);
+      lines = ap lines_of_dots none ∙ sym (ap (picture_lines_before b.screen) e);
+      bytes = ap bytes_of_dots none ∙ sym (ap (λ v. if v then [] else b.picture) test);
     }
 
 -- ---- a load of glyphs

@@ -11,10 +11,10 @@ use Rattle.vga_host.specs.Sequencer.{is_screen_off}
 use Rattle.vga_host.specs.Graphics.{is_256_colours}
 use Rattle.vga_attr.specs.Attr.{AttrState, IsAttr}
 use Rattle.vga_attr.specs.Fields.{is_colour_select_wide}
-use Rattle.vga_attr.specs.Colour.{picked, colour_index}
+use Rattle.vga_attr.specs.Colour.{palette_value_of_nibble, colour_index}
 use Rattle.vga_dac.specs.Dac.{entry_of}
 use Rattle.vga_dots.specs.Colour.{nibble, colour_number, dot_colour}
-use Rattle.bios_screen.specs.Shown.{palette_in}
+use Rattle.bios_screen.specs.Shown.{palette_of_card}
 use Rattle.bios_screen.proofs.Base.Lists.{listed_at, spelled}
 use Rattle.bios_screen.proofs.Base.Tests.{both_true, same}
 use Rattle.bios_screen.proofs.Base.Setting.{Setting}
@@ -86,13 +86,13 @@ same_nibble : (n : ℕ) → n < 16 → bit_and n 15 ≡ n
 same_nibble n l = let e = and_mask n 4 in omega (arith, e)
 
 module _ (c : CardState) (t : Coloured c) (z : IsCard c) where
-  value_is : (n : ℕ) → n < 16 → slice_index (palette_in c).values n ≡ slice_index c.attr.registers n
+  value_is : (n : ℕ) → n < 16 → slice_index (palette_of_card c).values n ≡ slice_index c.attr.registers n
   value_is n l = ap (λ r. slice_index (take 16 r) n) (spelled c.attr.registers 21 z.attr.size) ∙ listed_at (slice_index c.attr.registers) 16 n 0 l
 
-  index_is : (n : ℕ) → n < 16 → colour_index c.attr n ≡ slice_index (palette_in c).values n
+  index_is : (n : ℕ) → n < 16 → colour_index c.attr n ≡ slice_index (palette_of_card c).values n
   index_is n l =
       let p = slice_index c.attr.registers n in
-      let e : picked c.attr n ≡ p = ap (λ (i : ℕ). slice_index c.attr.registers (bit_and n (field i 3 0))) t.planes
+      let e : palette_value_of_nibble c.attr n ≡ p = ap (λ (i : ℕ). slice_index c.attr.registers (bit_and n (field i 3 0))) t.planes
       ∙ ap (slice_index c.attr.registers) (same_nibble n l) in
       rw (e, t.wide, t.select) (low_fields p (z.attr.palette n l) ∙ sym (value_is n l))
 
@@ -101,7 +101,7 @@ module _ (c : CardState) (t : Coloured c) (z : IsCard c) where
   number_is s = rw (t.shown, t.many) refl
 
   -- a dot of these four bits has their colour
-  pub dot_shade : (s : CrtcState) (n : ℕ) → nibble c.host s c.attr ≡ n → n < 16 → dot_colour c.host s c.attr c.dac ≡ colour_by_palette (palette_in c) n
+  pub dot_shade : (s : CrtcState) (n : ℕ) → nibble c.host s c.attr ≡ n → n < 16 → dot_colour c.host s c.attr c.dac ≡ colour_by_palette (palette_of_card c) n
   unfolding dot_colour
   dot_shade s n e l =
       ap (λ w. if w then 0 ∷ 0 ∷ 0 ∷ [] else entry_of c.dac (bit_and (colour_number c.host s c.attr) c.dac.mask)) t.on

@@ -4,23 +4,23 @@ use Rattle.std.specs.Prelude.{nat_lt, nat_le, if◌then◌else◌, ◌&&◌}
 use Rattle.std.proofs.lemmas.Bool.{cases_lt}
 use Rattle.std.proofs.lemmas.Bool.Decides.{nat_tests}
 use Rattle.std.proofs.lemmas.Nat.{div-add-mod', div_below, mod_below, row_fits, mul-add-lt, mul-le}
-use Rattle.bios_screen.proofs.Prelude.{Beam, CrtcState, first_counter, regular_beam, CardState, Raster, Draws}
+use Rattle.bios_screen.proofs.Prelude.{Beam, CrtcState, first_counter, regular_beam, CardState, Raster, DrawsDotColours}
 use Rattle.vga_crtc.specs.Fields.{horizontal_display_end, vertical_display_end}
-use Rattle.vga_crtc.specs.Beam.{characters, lines, started, after_start, after_dots, dots as beam_dots}
+use Rattle.vga_crtc.specs.Beam.{characters, lines, with_frame_start_taken, after_start, after_dots, dots as beam_dots}
 use Rattle.vga_crtc.specs.Status.{is_display}
-use Rattle.vga_crtc.specs.Raster.{dots_in_frame, IsFrameStart, IsRegular, beam_at}
+use Rattle.vga_crtc.specs.Raster.{dots_in_frame, IsFrameStart, IsRegularFrame, beam_at_dot_of_frame}
 use Rattle.vga_crtc.proofs.Counts.{frame_left as dots_left}
 use Rattle.vga_crtc.proofs.Dots.{dots_none}
 use Rattle.vga_crtc.proofs.Ends.{same_frame_count, frame_ends as frames_end}
 use Rattle.vga_crtc.proofs.Frames.{at_dot, started_goes_on}
 use Rattle.vga_crtc.proofs.Moves.{first_dot_starts, started_place}
 use Rattle.vga_dots.specs.Colour.{dot_colour}
-use Rattle.vga_card.specs.Picture.{Dot, lines_of, bytes_of}
-use Rattle.vga_card.specs.Dots.{character_width, fresh, display_dot, dots}
-use Rattle.vga_card.specs.Frames.{frame_count, frame, collect, display_dot_at}
+use Rattle.vga_card.specs.Picture.{Dot, lines_of_dots, bytes_of_dots}
+use Rattle.vga_card.specs.Dots.{character_width, dots_of_frame_so_far, display_dot, dots}
+use Rattle.vga_card.specs.Frames.{frame_count, frame, concatenated_dots, display_dot_at}
 use Rattle.vga_card.proofs.FrameLemmas.{dots_keep, frame_ends_first, dots_are_places, regular_shape}
-use Rattle.bios_screen.specs.Raster.{IsRaster, raster_of, HasRaster, Colours, width, line_dots, all_dots, colour_at, IsAtDot, picture_dot}
-use Rattle.bios_screen.specs.Raster.{PlacesDrawn, GoesOn, FrameEnded, IsPictureOf, picture_bytes, FrameDrawn}
+use Rattle.bios_screen.specs.Raster.{IsRaster, raster_of, HasRaster, Colours, shown_dots_of_line, all_dots_of_line, dots_of_frame, colour_at_beam_place, IsAtDot, picture_dot}
+use Rattle.bios_screen.specs.Raster.{PictureDotsDrawn, GoesOnWithinFrame, FrameEnded, IsPictureOf, picture_bytes, FrameDrawn}
 use Rattle.bios_screen.proofs.Base.Tests.{both_true, lt_is, le_is, lt_test, le_test, not_lt, not_le}
 use Rattle.bios_screen.proofs.Base.DotLists.{same_collected, dot_there, one_dot, row_dots, whole_picture, picture_lines, picture_bytes_are}
 
@@ -37,7 +37,7 @@ beamed s b = record s { beam = b }
 abbrev seen : CardState → Beam → List Dot
 seen c b = if is_display c.crtc.registers b then record { line = b.line; colour = dot_colour c.host (beamed c.crtc b) c.attr c.dac } ∷ [] else []
 
-seen_at : (c : CardState) (n : ℕ) → display_dot_at c n ≡ seen c (started c.crtc.registers (beam_dots (character_width c) c.crtc.registers n c.crtc.beam))
+seen_at : (c : CardState) (n : ℕ) → display_dot_at c n ≡ seen c (with_frame_start_taken c.crtc.registers (beam_dots (character_width c) c.crtc.registers n c.crtc.beam))
 unfolding display_dot after_start after_dots
 seen_at c n = refl
 
@@ -63,25 +63,25 @@ place_of : (n line cw : ℕ) → n / line * line + (n % line / cw * cw + n % lin
 place_of n line cw = ap (λ x. n / line * line + x) (div-add-mod' (n % line) cw) ∙ div-add-mod' n line
 
 -- at the first dot of a frame nothing has been drawn
-nothing_yet : (c : CardState) → IsFrameStart c.crtc.beam → fresh c ≡ []
+nothing_yet : (c : CardState) → IsFrameStart c.crtc.beam → dots_of_frame_so_far c ≡ []
 nothing_yet c s = ap (λ v. if v then [] else c.drawn) ((first_dot_starts c.crtc.beam).1 s)
 
 -- the beam, i dots after dot n
-beam_on : (c : CardState) (start n i : ℕ) → IsRegular c.crtc.registers → IsAtDot (raster_of c) c start n → n + i < all_dots (raster_of c)
-    → started c.crtc.registers (beam_dots (character_width c) c.crtc.registers i c.crtc.beam)
-    ≡ beam_at (character_width c) c.crtc.registers start c.crtc.beam.frame (n + i)
-unfolding all_dots
+beam_on : (c : CardState) (start n i : ℕ) → IsRegularFrame c.crtc.registers → IsAtDot (raster_of c) c start n → n + i < dots_of_frame (raster_of c)
+    → with_frame_start_taken c.crtc.registers (beam_dots (character_width c) c.crtc.registers i c.crtc.beam)
+    ≡ beam_at_dot_of_frame (character_width c) c.crtc.registers start c.crtc.beam.frame (n + i)
+unfolding dots_of_frame
 beam_on c start n i regular at l = started_goes_on (character_width c) c.crtc.registers c.crtc.beam start c.crtc.beam.frame n i regular (wide _) l at.beam
 
-frame_left : (c : CardState) (start n : ℕ) → IsAtDot (raster_of c) c start n → n + frame_count c ≡ all_dots (raster_of c)
-unfolding all_dots
+frame_left : (c : CardState) (start n : ℕ) → IsAtDot (raster_of c) c start n → n + frame_count c ≡ dots_of_frame (raster_of c)
+unfolding dots_of_frame
 frame_left c start n at =
     let w = character_width c in
     let r = c.crtc.registers in
     ap (λ k. n + k) (sym (same_frame_count w r c.crtc.beam) ∙ ap (dots_in_frame w r) at.beam)
     ∙ dots_left w r start c.crtc.beam.frame n (wide _) at.within
 
-module _ (c : CardState) (start : ℕ) (f : Colours) (draws : Draws (raster_of c) c start f) where
+module _ (c : CardState) (start : ℕ) (f : Colours) (draws : DrawsDotColours (raster_of c) c start f) where
   -- dot k of character x of line v is the picture's
   place_shows : (v x k : ℕ) → x < characters c.crtc.registers → k < character_width c
       → seen c (regular_beam c.crtc.registers start c.crtc.beam.frame v x k)
@@ -93,7 +93,7 @@ module _ (c : CardState) (start : ℕ) (f : Colours) (draws : Draws (raster_of c
       let hde = horizontal_display_end r in
       let vde = vertical_display_end r in
       let at = x * w + k in
-      let colour = colour_at c start v x k in
+      let colour = colour_at_beam_place c start v x k in
       let small : at < characters r * w = omega (arith, mul-add-lt x w k (characters r) lx lk) in
       ap (λ t. if t && nat_le v vde then record { line = v; colour = colour } ∷ [] else []) (shown_column w hde x k lk)
       ∙ ap (λ t. if nat_lt at ((hde + 1) * w) && t then record { line = v; colour = colour } ∷ [] else []) (shown_line vde v)
@@ -105,9 +105,9 @@ module _ (c : CardState) (start : ℕ) (f : Colours) (draws : Draws (raster_of c
       ∙ sym (dot_there m f v at small)
 
   -- the dot that comes i dots after dot n is the picture's
-  dot_shows : (n i : ℕ) → IsRegular c.crtc.registers → IsAtDot (raster_of c) c start n → n + i < all_dots (raster_of c) →
+  dot_shows : (n i : ℕ) → IsRegularFrame c.crtc.registers → IsAtDot (raster_of c) c start n → n + i < dots_of_frame (raster_of c) →
       display_dot_at c i ≡ picture_dot (raster_of c) f (n + i)
-  unfolding all_dots
+  unfolding dots_of_frame
   dot_shows n i regular at l =
       let r = c.crtc.registers in
       let w = character_width c in
@@ -121,14 +121,14 @@ module _ (c : CardState) (start : ℕ) (f : Colours) (draws : Draws (raster_of c
       seen_at c i ∙ ap (seen c) (beam_on c start n i regular at l)
       ∙ place_shows (j / line) (j % line / w) (j % line % w) lx lk ∙ ap (picture_dot (raster_of c) f) (place_of j line w)
 
-  places_drawn : (n : ℕ) → IsRegular c.crtc.registers → IsAtDot (raster_of c) c start n → PlacesDrawn (raster_of c) c n f
+  places_drawn : (n : ℕ) → IsRegularFrame c.crtc.registers → IsAtDot (raster_of c) c start n → PictureDotsDrawn (raster_of c) c n f
   places_drawn n regular at j lo hi =
       let total = frame_left c start n at in
       dots_are_places frames_end c j lo (omega (arith, total))
-      ∙ ap (λ l. fresh c ++ l) (same_collected (display_dot_at c) (λ i. picture_dot (raster_of c) f (n + i)) j (λ i h.
+      ∙ ap (λ l. dots_of_frame_so_far c ++ l) (same_collected (display_dot_at c) (λ i. picture_dot (raster_of c) f (n + i)) j (λ i h.
       dot_shows n i regular at (omega arith)))
 
-  frame_ended : (n : ℕ) → IsRegular c.crtc.registers → IsAtDot (raster_of c) c start n → FrameEnded (raster_of c) c n f
+  frame_ended : (n : ℕ) → IsRegularFrame c.crtc.registers → IsAtDot (raster_of c) c start n → FrameEnded (raster_of c) c n f
   unfolding after_dots
   frame_ended n regular at =
       let total = frame_left c start n at in
@@ -140,7 +140,7 @@ module _ (c : CardState) (start : ℕ) (f : Colours) (draws : Draws (raster_of c
             (sym (ap (λ (s : CardState). s.crtc.beam) kept) ∙ (frame_ends_first frames_end c).next);
       }
 
-goes_on_from : (c : CardState) (start n : ℕ) → IsRegular c.crtc.registers → IsAtDot (raster_of c) c start n → GoesOn (raster_of c) c start n
+goes_on_from : (c : CardState) (start n : ℕ) → IsRegularFrame c.crtc.registers → IsAtDot (raster_of c) c start n → GoesOnWithinFrame (raster_of c) c start n
 unfolding after_dots
 goes_on_from c start n regular at j l =
     let w = character_width c in
@@ -151,65 +151,65 @@ goes_on_from c start n regular at j l =
     let frame_is : c.crtc.beam.frame ≡ b.frame = sym (ap (λ (y : Beam). y.frame) on) ∙ (started_place r b).frame in
     record {
       at = subst (λ (s : CardState). IsAtDot (raster_of c) s start (n + j)) (sym kept)
-          (record { within = l; beam = on ∙ ap (λ f. beam_at w r start f (n + j)) frame_is });
+          (record { within = l; beam = on ∙ ap (λ f. beam_at_dot_of_frame w r start f (n + j)) frame_is });
       keeps = kept ∙ ap (λ (y : Beam). record c { crtc = record c.crtc { beam = y }; drawn = (dots j c).drawn })
           (sym (ap (λ (s : CardState). s.crtc.beam) kept));
       frame = ap (λ (s : CardState). s.crtc.beam.frame) kept ∙ sym frame_is;
     }
 
 -- at the first dot of a frame the adapter is at dot 0
-at_start : (c : CardState) → IsRegular c.crtc.registers → IsFrameStart c.crtc.beam → IsAtDot (raster_of c) c (first_counter c.crtc.registers) 0
-unfolding all_dots
+at_start : (c : CardState) → IsRegularFrame c.crtc.registers → IsFrameStart c.crtc.beam → IsAtDot (raster_of c) c (first_counter c.crtc.registers) 0
+unfolding dots_of_frame
 at_start c regular start =
     let w = character_width c in
     let r = c.crtc.registers in
     let some = mul-le 1 1 (lines r) (characters r * w) (omega arith) (mul-le 1 1 (characters r) w (omega arith) (wide _)) in
     record {
       within = omega (arith, some);
-      beam = ap (started r) (sym (dots_none w r c.crtc.beam)) ∙ at_dot w r c.crtc.beam 0 regular start (wide _) (omega (arith, some));
+      beam = ap (with_frame_start_taken r) (sym (dots_none w r c.crtc.beam)) ∙ at_dot w r c.crtc.beam 0 regular start (wide _) (omega (arith, some));
     }
 
 -- ---- by the numbers of a mode
 
-pub dots_are_picture : (m : Raster) (c : CardState) (start n : ℕ) (f : Colours) → HasRaster m c → IsAtDot m c start n → Draws m c start f →
-    PlacesDrawn m c n f
-dots_are_picture m c start n f has = subst (λ (k : Raster). IsAtDot k c start n → Draws k c start f →
-    PlacesDrawn k c n f) has.numbers (λ at draws. places_drawn c start f draws n has.regular at)
+pub dots_are_picture : (m : Raster) (c : CardState) (start n : ℕ) (f : Colours) → HasRaster m c → IsAtDot m c start n → DrawsDotColours m c start f →
+    PictureDotsDrawn m c n f
+dots_are_picture m c start n f has = subst (λ (k : Raster). IsAtDot k c start n → DrawsDotColours k c start f →
+    PictureDotsDrawn k c n f) has.numbers (λ at draws. places_drawn c start f draws n has.regular at)
 
-pub dots_go_on : (m : Raster) (c : CardState) (start n : ℕ) → HasRaster m c → IsAtDot m c start n → GoesOn m c start n
-dots_go_on m c start n has = subst (λ (k : Raster). IsAtDot k c start n → GoesOn k c start n) has.numbers (λ at. goes_on_from c start n has.regular at)
+pub dots_go_on : (m : Raster) (c : CardState) (start n : ℕ) → HasRaster m c → IsAtDot m c start n → GoesOnWithinFrame m c start n
+dots_go_on m c start n has = subst (λ (k : Raster). IsAtDot k c start n → GoesOnWithinFrame k c start n) has.numbers (λ at. goes_on_from c start n has.regular at)
 
-pub frame_is_ended : (m : Raster) (c : CardState) (start n : ℕ) (f : Colours) → HasRaster m c → IsAtDot m c start n → Draws m c start f → FrameEnded m c n f
-frame_is_ended m c start n f has = subst (λ (k : Raster). IsAtDot k c start n → Draws k c start f →
+pub frame_is_ended : (m : Raster) (c : CardState) (start n : ℕ) (f : Colours) → HasRaster m c → IsAtDot m c start n → DrawsDotColours m c start f → FrameEnded m c n f
+frame_is_ended m c start n f has = subst (λ (k : Raster). IsAtDot k c start n → DrawsDotColours k c start f →
     FrameEnded k c n f) has.numbers (λ at draws. frame_ended c start f draws n has.regular at)
 
 pub starts_at_0 : (m : Raster) (c : CardState) → HasRaster m c → IsFrameStart c.crtc.beam → IsAtDot m c (first_counter c.crtc.registers) 0
 starts_at_0 m c has start = subst (λ (k : Raster). IsAtDot k c (first_counter c.crtc.registers) 0) has.numbers (at_start c has.regular start)
 
 -- if all dots of a frame are drawn, they are the picture
-pub all_are_picture : (m : Raster) (drawn : List Dot) (f : Colours) → IsRaster m → drawn ≡ collect (picture_dot m f) (all_dots m) → IsPictureOf m drawn f
-unfolding picture_bytes all_dots
+pub all_are_picture : (m : Raster) (drawn : List Dot) (f : Colours) → IsRaster m → drawn ≡ concatenated_dots (picture_dot m f) (dots_of_frame m) → IsPictureOf m drawn f
+unfolding picture_bytes dots_of_frame
 all_are_picture m drawn f raster e =
-    let w = width m in
+    let w = shown_dots_of_line m in
     let h = m.height in
-    let narrow : w ≤ line_dots m = mul-le m.columns m.dots m.characters m.dots raster.narrow (omega arith) in
-    let rows : drawn ≡ collect (row_dots f w) h = e ∙ whole_picture m f narrow raster.low in
+    let narrow : w ≤ all_dots_of_line m = mul-le m.columns m.dots m.characters m.dots raster.narrow (omega arith) in
+    let rows : drawn ≡ concatenated_dots (row_dots f w) h = e ∙ whole_picture m f narrow raster.low in
     record {
-      shape = regular_shape w h drawn (mul-le 1 1 m.columns m.dots raster.some_columns raster.some_dots) raster.some_lines (ap lines_of rows
+      shape = regular_shape w h drawn (mul-le 1 1 m.columns m.dots raster.some_columns raster.some_dots) raster.some_lines (ap lines_of_dots rows
           ∙ picture_lines f w h);
-      bytes = ap bytes_of rows ∙ picture_bytes_are f w h;
+      bytes = ap bytes_of_dots rows ∙ picture_bytes_are f w h;
     }
 
-pub frame_is_picture : (m : Raster) (c : CardState) (f : Colours) → HasRaster m c → IsFrameStart c.crtc.beam → Draws m c (first_counter c.crtc.registers) f →
+pub frame_is_picture : (m : Raster) (c : CardState) (f : Colours) → HasRaster m c → IsFrameStart c.crtc.beam → DrawsDotColours m c (first_counter c.crtc.registers) f →
     FrameDrawn m c f
 frame_is_picture m c f has start draws =
     let ended = frame_is_ended m c (first_counter c.crtc.registers) 0 f has (starts_at_0 m c has start) draws in
     let none : 0 + frame_count c ≡ frame_count c = omega arith in
-    let all : frame_count c ≡ all_dots m = sym none ∙ ended.count in
+    let all : frame_count c ≡ dots_of_frame m = sym none ∙ ended.count in
     record {
       picture = all_are_picture m (frame c).drawn f has.raster (ended.drawn ∙ ap (λ l. l
-          ++ collect (λ i. picture_dot m f (0 + i)) (frame_count c)) (nothing_yet c start)
+          ++ concatenated_dots (λ i. picture_dot m f (0 + i)) (frame_count c)) (nothing_yet c start)
           ∙ same_collected (λ i. picture_dot m f (0 + i)) (picture_dot m f) (frame_count c) (λ i l. let z : 0 + i ≡ i = omega arith in ap (picture_dot m f) z)
-          ∙ ap (collect (picture_dot m f)) all);
+          ∙ ap (concatenated_dots (picture_dot m f)) all);
       leaves = ended.leaves;
     }

@@ -4,11 +4,11 @@ use Rattle.std.proofs.Common.{◌≡◌, ℕ, ◌+◌, ◌-◌, ◌%◌, ◌<◌
 use Rattle.std.specs.Prelude.{◌&&◌, if◌then◌else◌, slice_index}
 use Rattle.bios_screen.proofs.Prelude.{is_set, Beam, CrtcState, first_counter, regular_beam, IsCard, CardState, ModeRow, BiosData, start_address, Raster}
 use Rattle.vga_host.specs.Sequencer.{character_width as host_width}
-use Rattle.vga_crtc.specs.Raster.{IsRegular}
+use Rattle.vga_crtc.specs.Raster.{IsRegularFrame}
 use Rattle.vga_attr.specs.Fields.{is_panning_reset, panning}
 use Rattle.vga_dots.specs.declared.source_dot.SourceDot.{SourceDot}
 use Rattle.vga_dots.specs.SourceDot.{panning_shift, counter_of, source_at, source_dot, fetch_address}
-use Rattle.bios_screen.specs.Shown.{location_shown}
+use Rattle.bios_screen.specs.Shown.{cursor_location_shown}
 use Rattle.bios_screen.specs.Raster.{HasRaster}
 use Rattle.bios_screen.proofs.Base.Tests.{lt_test}
 use Rattle.bios_screen.proofs.Base.Setting.{Setting, setting}
@@ -21,7 +21,7 @@ module _ (m : Raster) (row : ModeRow) (f : IsFrame m row) (c : CardState) (d : B
   start = start_address d d.page
 
   abbrev location : ℕ
-  location = location_shown d c.crtc.registers
+  location = cursor_location_shown d c.crtc.registers
 
   set : setting c ≡ record { misc = row.misc; seq = row.sequencer; gfx = row.graphics }
   set = setting_by row c t.memory
@@ -29,7 +29,7 @@ module _ (m : Raster) (row : ModeRow) (f : IsFrame m row) (c : CardState) (d : B
   pub has_raster : HasRaster m c
   has_raster = record {
     raster = f.raster;
-    regular = subst IsRegular (sym t.crtc) (regular_stays row d.cursor_type start location f.regular);
+    regular = subst IsRegularFrame (sym t.crtc) (regular_stays row d.cursor_type start location f.regular);
     numbers =
         ap (λ (s : Setting). numbers_of (if is_set (slice_index s.seq 1) 0 then 8 else 9) c.crtc.registers) set
         ∙ ap (λ w. numbers_of w c.crtc.registers) f.clock

@@ -2,15 +2,15 @@
 use Rattle.std.proofs.Common.{◌≡◌, ℕ, ◌+◌, ◌*◌, ◌/◌, ◌%◌, ◌<◌, sym, ap, ◌∙◌, subst, arith, true, false}
 use Rattle.std.specs.Prelude.{if◌then◌else◌, ◌&&◌, slice_index}
 use Rattle.bios_screen.proofs.Prelude.{is_set, is_palette_shown, IsCard, CardState, bytes_320_by_200, is_packed, BiosData, planar_pixel, packed_pixel}
-use Rattle.bios_screen.proofs.Prelude.{pixel_screen, colour_by_palette, Draws}
+use Rattle.bios_screen.proofs.Prelude.{pixel_screen, colour_by_palette, DrawsDotColours}
 use Rattle.vga_planes.specs.Planes.{byte_at}
 use Rattle.vga_host.specs.Sequencer.{is_screen_off}
 use Rattle.vga_host.specs.Graphics.{is_256_colours}
 use Rattle.vga_dots.specs.SourceDot.{source_dot, fetch_address}
 use Rattle.vga_dots.specs.Graphics.{packed_byte}
 use Rattle.vga_dots.specs.Colour.{colour_number, dot_colour}
-use Rattle.bios_screen.specs.Shown.{palette_in}
-use Rattle.bios_screen.specs.Picture.{colour_of_value, pixel_width, pixel_height, pixel_dot}
+use Rattle.bios_screen.specs.Shown.{palette_of_card}
+use Rattle.bios_screen.specs.Picture.{colour_of_value, pixel_width, pixel_height, pixel_dot_colour}
 use Rattle.bios_screen.proofs.Base.Tests.{lt_test, both_true}
 use Rattle.bios_screen.proofs.Base.Setting.{Setting, setting}
 use Rattle.bios_screen.proofs.Shows.Screens.{setting_by}
@@ -61,12 +61,12 @@ module _ (c : CardState) (d : BiosData) (t : IsPacked c d) (z : IsCard c) (g : �
       ∙ ap (λ p. byte_at m p ((0xFA00 * g + q) / 4 * 4)) plane
       ∙ sym (ap (λ j. if is_packed j then packed_pixel m (0xFA00 * g + q) else planar_pixel m (0xFA00 * g) q) t.number)
 
-  pub draws : Draws t.raster c (0xFA00 * g) (pixel_dot (pixel_screen bytes_320_by_200 c d) g)
+  pub draws : DrawsDotColours t.raster c (0xFA00 * g) (pixel_dot_colour (pixel_screen bytes_320_by_200 c d) g)
   unfolding dot_colour colour_number
   draws v x i lv lx li =
       let s = pixel_screen bytes_320_by_200 c d in
       let li8 : i < 8 = subst (λ n. i < n) t.picture.dots li in
       let p = pixel bytes_320_by_200 c d t.graphics g v x i in
-      rw (screen_on, shown, many_colours) (ap (colour_of_value (palette_in c)) (byte_is v x i lv lx li li8))
+      rw (screen_on, shown, many_colours) (ap (colour_of_value (palette_of_card c)) (byte_is v x i lv lx li li8))
       ∙ sym (dot_is bytes_320_by_200 c d t.graphics g v x i lg lv lx li8 ∙ ap (λ j. if is_packed j then colour_of_value s.palette p else colour_by_palette s.palette p) t.number)
-      ∙ ap (λ n. pixel_dot s g (x * n + i) v) (sym t.picture.dots)
+      ∙ ap (λ n. pixel_dot_colour s g (x * n + i) v) (sym t.picture.dots)

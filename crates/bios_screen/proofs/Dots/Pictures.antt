@@ -3,7 +3,7 @@ use Rattle.std.proofs.Common.{◌≡◌, ◌+◌, ◌%◌, refl, sym, ap, subst,
 use Rattle.vga_crtc.specs.Crtc.{first_dot}
 use Rattle.vga_crtc.specs.Raster.{IsFrameStart}
 use Rattle.vga_card.specs.declared.shape.Shape.{Shape}
-use Rattle.bios_screen.proofs.Prelude.{IsCard, CardState, BiosData, Screen, shown, Draws}
+use Rattle.bios_screen.proofs.Prelude.{IsCard, CardState, BiosData, Screen, shown, DrawsDotColours}
 use Rattle.vga_card.specs.Frames.{frame}
 use Rattle.bios_screen.specs.Picture.{dot_at, picture_width}
 use Rattle.bios_screen.specs.Raster.{picture_bytes}
@@ -17,7 +17,7 @@ frame_drawn c d s z e start =
     let h = frames_of c d s z e in
     let m = h.raster in
     let f = dot_at s s.page in
-    let drawn = frame_is_picture m c f h.has start (subst (λ a. Draws m c a f) (sym h.first) (h.draws s.page h.page)) in
+    let drawn = frame_is_picture m c f h.has start (subst (λ a. DrawsDotColours m c a f) (sym h.first) (h.draws s.page h.page)) in
     record {
       size = drawn.picture.shape
           ∙ ap (λ n. let x : Shape = record { width = n; height = m.height } in Some x) h.wide

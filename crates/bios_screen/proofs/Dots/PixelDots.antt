@@ -6,7 +6,7 @@ use Rattle.bios_screen.proofs.Prelude.{pixel_in, pixel_screen, colour_by_palette
 use Rattle.vga_dots.specs.declared.source_dot.SourceDot.{SourceDot}
 use Rattle.vga_dots.specs.SourceDot.{source_dot, fetch_address}
 use Rattle.bios_screen.specs.Shown.{pixels_in, pixel_pages}
-use Rattle.bios_screen.specs.Picture.{colour_of_value, pixel_width, pixel_height, pixel_on, pixel_dot}
+use Rattle.bios_screen.specs.Picture.{colour_of_value, pixel_width, pixel_height, pixel_at_position, pixel_dot_colour}
 use Rattle.bios_screen.specs.Raster.{HasRaster}
 use Rattle.bios_screen.proofs.Base.Lists.{listed_at}
 use Rattle.bios_screen.proofs.Shows.Screens.{HasData, AllTests}
@@ -76,12 +76,12 @@ module _ (row : ModeRow) (c : CardState) (d : BiosData) (t : IsGraphics row c d)
   pixel g v x i = pixel_in d.mode c.host.memory (row.size * g) (number_of_pixel v x i)
 
   pixel_is : (g v x i : ℕ) → g < row.pages → v < t.raster.height → x < t.raster.columns → i < 8 →
-      pixel_on s g ((x * 8 + i) / pixel_width d.mode) (v / tall) ≡ pixel g v x i
+      pixel_at_position s g ((x * 8 + i) / pixel_width d.mode) (v / tall) ≡ pixel g v x i
   pixel_is g v x i lg lv lx li =
       rw (t.has.columns, t.has.height, t.has.last_row, t.has.size) (pixel_at d.mode c.host.memory row.size
       (pixels_of row) row.pages g (number_of_pixel v x i) lg (t.places.pixel v x i lv lx li))
 
   pub dot_is : (g v x i : ℕ) → g < row.pages → v < t.raster.height → x < t.raster.columns → i < 8 →
-      pixel_dot s g (x * 8 + i) v ≡ (if is_packed d.mode then colour_of_value s.palette (pixel g v x i) else colour_by_palette s.palette (pixel g v x i))
-  unfolding pixel_dot
+      pixel_dot_colour s g (x * 8 + i) v ≡ (if is_packed d.mode then colour_of_value s.palette (pixel g v x i) else colour_by_palette s.palette (pixel g v x i))
+  unfolding pixel_dot_colour
   dot_is g v x i lg lv lx li = ap (λ p. if is_packed d.mode then colour_of_value s.palette p else colour_by_palette s.palette p) (pixel_is g v x i lg lv lx li)

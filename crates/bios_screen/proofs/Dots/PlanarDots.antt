@@ -4,12 +4,12 @@ use Rattle.std.specs.Prelude.{if◌then◌else◌, slice_index}
 use Rattle.std.specs.Int.{bit_at}
 use Rattle.std.proofs.lemmas.Nat.{div-mul-add, mod-mul-add}
 use Rattle.std.proofs.lemmas.Nat.Bits.{bit_at-lt}
-use Rattle.bios_screen.proofs.Prelude.{is_set, HostState, IsCard, CardState, ModeRow, BiosData, planar_pixel, pixel_screen, colour_by_palette, Draws}
+use Rattle.bios_screen.proofs.Prelude.{is_set, HostState, IsCard, CardState, ModeRow, BiosData, planar_pixel, pixel_screen, colour_by_palette, DrawsDotColours}
 use Rattle.vga_planes.specs.Planes.{byte_at}
 use Rattle.vga_host.specs.Graphics.{is_graphics}
 use Rattle.vga_dots.specs.Graphics.{plane_bits, planar_nibble}
 use Rattle.vga_dots.specs.Colour.{nibble}
-use Rattle.bios_screen.specs.Picture.{colour_of_value, pixel_height, pixel_dot}
+use Rattle.bios_screen.specs.Picture.{colour_of_value, pixel_height, pixel_dot_colour}
 use Rattle.bios_screen.proofs.Base.Tests.{lt_test}
 use Rattle.bios_screen.proofs.Base.Setting.{Setting}
 use Rattle.bios_screen.proofs.Shows.Screens.{setting_by}
@@ -70,7 +70,7 @@ module _ (row : ModeRow) (c : CardState) (d : BiosData) (t : IsPlanar row c d) (
   pixel_bits : (v x i : ℕ) → i < 8 → pixel row c d t.graphics g v x i ≡ bits v x i
   pixel_bits v x i li = rw (t.packed, t.columns) (pixel_there c.host (row.size * g) row.columns (v / pixel_height d.mode) x i li)
 
-  pub draws : Draws t.raster c (row.size * g) (pixel_dot (pixel_screen row c d) g)
+  pub draws : DrawsDotColours t.raster c (row.size * g) (pixel_dot_colour (pixel_screen row c d) g)
   draws v x i lv lx li =
       let s = pixel_screen row c d in
       let li8 : i < 8 = subst (λ n. i < n) t.picture.dots li in
@@ -79,4 +79,4 @@ module _ (row : ModeRow) (c : CardState) (d : BiosData) (t : IsPlanar row c d) (
       (dot_bits v x i lv lx li li8) (plane_bits_small c.host (place row c d t.graphics g v x) (7 - i))
       ∙ ap (colour_by_palette s.palette) (sym (pixel_bits v x i li8))
       ∙ sym (dot_is row c d t.graphics g v x i lg lv lx li8 ∙ ap (λ b. if b then colour_of_value s.palette p else colour_by_palette s.palette p) t.packed)
-      ∙ ap (λ n. pixel_dot s g (x * n + i) v) (sym t.picture.dots)
+      ∙ ap (λ n. pixel_dot_colour s g (x * n + i) v) (sym t.picture.dots)

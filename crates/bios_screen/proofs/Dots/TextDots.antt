@@ -3,7 +3,7 @@ use Rattle.std.proofs.Common.{◌≡◌, ℕ, ◌+◌, ◌-◌, ◌*◌, ◌/◌
 use Rattle.std.specs.Prelude.{nat_lt, nat_le, not, if◌then◌else◌, ◌==◌, ◌&&◌, slice_index, bit_and}
 use Rattle.std.specs.Int.{bit_at}
 use Rattle.std.proofs.lemmas.Nat.{and_mask}
-use Rattle.bios_screen.proofs.Prelude.{is_set, Beam, CrtcState, regular_beam, IsCard, CardState, BiosData, start_address, Cell, Screen, cell_in, all_cells}
+use Rattle.bios_screen.proofs.Prelude.{is_set, Beam, CrtcState, regular_beam, IsCard, CardState, BiosData, start_address, Cell, Screen, cell_in, text_memory_cells}
 use Rattle.bios_screen.proofs.Prelude.{colour_by_palette}
 use Rattle.vga_bits.specs.Bits.{field}
 use Rattle.vga_planes.specs.Planes.{byte_at}
@@ -18,8 +18,8 @@ use Rattle.vga_dots.specs.Text.{cell_at, map_start, glyph_row as row_of_glyph, i
 use Rattle.vga_dots.specs.Text.{is_blinked_away as is_cell_blinked, is_cursor_at, is_foreground as is_cell_foreground, text_nibble}
 use Rattle.vga_dots.specs.Colour.{nibble as dot_nibble, dot_colour}
 use Rattle.bios_services.specs.Registers.{high, low}
-use Rattle.bios_services.specs.Cursor.{cursor_address, cell_number, position_of}
-use Rattle.bios_screen.specs.Screen.{cursor_cell}
+use Rattle.bios_services.specs.Cursor.{cursor_address, cell_number, cursor_position_of}
+use Rattle.bios_screen.specs.Screen.{cursor_cell_on_screen}
 use Rattle.bios_screen.specs.Shown.{glyph_byte, glyphs_in}
 use Rattle.bios_screen.specs.Step.{cell_on}
 use Rattle.bios_screen.specs.Picture.{glyph_row, is_glyph_dot, is_underlined, is_blinked_away, is_cursor, is_foreground, background, nibble}
@@ -180,7 +180,7 @@ module _ (c : CardState) (d : BiosData) (h : IsShown c d) (z : IsCard c) (g : �
       ap (cell_at c.host) (frames.fetch_is (text_raster h.row) h.row t.frame c d (all_of h.row c d h.tests) n ∙ t.fetch n ∙ address_is n (within q lq))
 
   on_screen : (q : ℕ) → q < columns * rows → cell_on s (half * g + q) ≡ there q
-  on_screen q lq = cells_at c.host.memory.plane0 c.host.memory.plane1 all_cells (half * g + q) (within q lq)
+  on_screen q lq = cells_at c.host.memory.plane0 c.host.memory.plane1 text_memory_cells (half * g + q) (within q lq)
 
   -- ---- the glyph
 
@@ -235,12 +235,12 @@ module _ (c : CardState) (d : BiosData) (h : IsShown c d) (z : IsCard c) (g : �
       three false b e = refl
 
   -- the cursor location is that of the screen's cursor cell
-  location_is : cursor_address d d.page ≡ cursor_cell s d.page
+  location_is : cursor_address d d.page ≡ cursor_cell_on_screen s d.page
   location_is =
       let e = (lies c d h).even d.page in
       let n = d.size / 2 * d.page in
       let halved : d.size * d.page / 2 ≡ n = omega arith in
-      ap (λ a. a + cell_number d (position_of d d.page)) halved
+      ap (λ a. a + cell_number d (cursor_position_of d d.page)) halved
 
   cursor_is : (n v x k : ℕ) → is_cursor_at (placed v x k) n ≡ is_cursor s n (v % height)
   unfolding is_cursor_at
@@ -252,7 +252,7 @@ module _ (c : CardState) (d : BiosData) (h : IsShown c d) (z : IsCard c) (g : �
       ap (λ l. (n == cursor_location l) && not (is_cursor_off l) && nat_le (cursor_start l) r && nat_le r (cursor_end l) && f) h.tests.crtc
       ∙ cursor_by h.row type (start_address d d.page) location n r f
       ∙ rw (two_bytes location, location_is, off_bit (high type), start_field (high type), end_field (low type))
-      (regrouped (n == cursor_cell s d.page) (not (is_set (high type) 5)) (nat_le (field (high type) 4 0) r) (nat_le r (field (low type) 4 0)) f)
+      (regrouped (n == cursor_cell_on_screen s d.page) (not (is_set (high type) 5)) (nat_le (field (high type) 4 0) r) (nat_le r (field (low type) 4 0)) f)
     where
       regrouped : (a b e q w : Bool) → (a && b && e && q && w) ≡ (a && (b && (e && (q && w))))
       regrouped true true true q w = refl

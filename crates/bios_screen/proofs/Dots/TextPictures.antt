@@ -2,10 +2,10 @@
 use Rattle.std.proofs.Common.{◌≡◌, ℕ, ◌+◌, ◌*◌, ◌/◌, ◌%◌, ◌<◌, sym, ap, ◌∙◌, arith}
 use Rattle.std.specs.Prelude.{if◌then◌else◌}
 use Rattle.std.proofs.lemmas.Nat.{div-mul-add, mod-mul-add}
-use Rattle.bios_screen.proofs.Prelude.{Beam, first_counter, IsCard, CardState, BiosData, start_address, Screen, colour_by_palette, Draws}
+use Rattle.bios_screen.proofs.Prelude.{Beam, first_counter, IsCard, CardState, BiosData, start_address, Screen, colour_by_palette, DrawsDotColours}
 use Rattle.vga_dots.specs.Colour.{dot_colour}
 use Rattle.bios_screen.specs.Screen.{page_start}
-use Rattle.bios_screen.specs.Picture.{nibble, text_dot, pixel_dot, dot_at}
+use Rattle.bios_screen.specs.Picture.{nibble, text_dot_colour, pixel_dot_colour, dot_at}
 use Rattle.bios_screen.proofs.Base.Places.{half_start, ends_before}
 use Rattle.bios_screen.proofs.Shows.Screens.{IsShown, screen_shown, all_of}
 use Rattle.bios_screen.proofs.Dots.Frames as frames
@@ -35,8 +35,8 @@ module _ (c : CardState) (d : BiosData) (h : IsShown c d) (z : IsCard c) where
       (let e = start_is d.page in let l = start_small in omega arith)
 
   -- a frame of page g draws the colours of the screen
-  pub draws : (g : ℕ) → g < h.row.pages → Draws (text_raster h.row) c (half * g) (dot_at s g)
-  unfolding text_dot
+  pub draws : (g : ℕ) → g < h.row.pages → DrawsDotColours (text_raster h.row) c (half * g) (dot_at s g)
+  unfolding text_dot_colour
   draws g lg v x k lv lx lk =
       ap (λ (b : Beam). dot_colour c.host (record c.crtc { beam = b }) c.attr c.dac) (beam_is c d h z g lg v x k lv)
       ∙ place_is c d h z g lg v x k lv lx lk
@@ -45,4 +45,4 @@ module _ (c : CardState) (d : BiosData) (h : IsShown c d) (z : IsCard c) where
       ∙ ap (λ n. colour_by_palette s.palette (nibble s (half * g + (h.row.columns * (v / n) + (x * 9 + k) / 9)) (v % n) ((x * 9 + k) % 9))) h.has.height
       ∙ ap (λ a. colour_by_palette s.palette (nibble s (half * g + (h.row.columns * (v / h.row.height) + a)) (v % h.row.height) ((x * 9 + k) % 9))) (div-mul-add x 9 k lk)
       ∙ ap (λ i. colour_by_palette s.palette (nibble s (half * g + (h.row.columns * (v / h.row.height) + x)) (v % h.row.height) i)) (mod-mul-add x 9 k lk))
-      ∙ sym (ap (λ b. if b then text_dot s g (x * 9 + k) v else pixel_dot s g (x * 9 + k) v) h.tests.is_text)
+      ∙ sym (ap (λ b. if b then text_dot_colour s g (x * 9 + k) v else pixel_dot_colour s g (x * 9 + k) v) h.tests.is_text)

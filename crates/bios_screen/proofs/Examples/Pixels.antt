@@ -1,17 +1,17 @@
 -- Pixels of small memories and of a screen of two lines of eight pixels, computed.
 use Rattle.std.proofs.Common.{◌≡◌, ℕ, refl, List, [], ◌∷◌, Some, None, true, false}
-use Rattle.bios_screen.proofs.Prelude.{Four, FontSet, listing, Screen, planar_pixel, packed_pixel}
+use Rattle.bios_screen.proofs.Prelude.{Four, FontSet, list_by_function, Screen, planar_pixel, packed_pixel}
 use Rattle.vga_bits.specs.declared.refusal.Refusal.TheVariants.{Outside}
 use Rattle.bios_services.specs.declared.scroll.Scroll.{Scroll}
 use Rattle.bios_services.specs.declared.cell_run.CellRun.{CellRun}
 use Rattle.bios_services.specs.declared.call.Service.TheVariants.{ScrollUp, ScrollDown, ReadCell, WriteCells, WritePixel, ReadPixel, Teletype, WriteString}
-use Rattle.vga_bits.specs.Bits.{byte_of}
+use Rattle.vga_bits.specs.Bits.{byte_of_bits}
 use Rattle.std.specs.Prelude.{◌==◌, if◌then◌else◌}
-use Rattle.bios_services.specs.Glyphs.{has_lines, first_character}
+use Rattle.bios_services.specs.Glyphs.{glyph_has_lines, first_character_with_lines}
 use Rattle.bios_screen.specs.Screen.{Pixels}
 use Rattle.bios_screen.specs.Parts.{cell_at, pixel_at}
 use Rattle.bios_screen.specs.Step.{pages_on, refusal_on, next, answer_on, type_character}
-use Rattle.bios_screen.specs.Picture.{pixel_dot, dot_at, picture_width, picture_height}
+use Rattle.bios_screen.specs.Picture.{pixel_dot_colour, dot_at, picture_width, picture_height}
 
 -- a byte of each plane at offset 0, and another byte of plane 1 at offset 4
 abbrev memory : Four (List ℕ)
@@ -56,25 +56,25 @@ shown mode = record {
 
 -- a pixel selects a palette value, which selects a DAC entry
 coloured : dot_at (shown 0x10) 0 1 0 ≡ 11 ∷ 21 ∷ 31 ∷ []
-unfolding pixel_dot
+unfolding pixel_dot_colour
 coloured = refl
 
 last : dot_at (shown 0x12) 0 7 1 ≡ 11 ∷ 21 ∷ 31 ∷ []
-unfolding pixel_dot
+unfolding pixel_dot_colour
 last = refl
 
 -- in mode 0D a pixel is two lines high
 two_lines : dot_at (shown 0x0D) 0 0 1 ≡ 13 ∷ 23 ∷ 33 ∷ []
-unfolding pixel_dot
+unfolding pixel_dot_colour
 two_lines = refl
 
 third_line : dot_at (shown 0x0D) 0 0 2 ≡ 12 ∷ 22 ∷ 32 ∷ []
-unfolding pixel_dot
+unfolding pixel_dot_colour
 third_line = refl
 
 -- in mode 13 a pixel is two dots by two lines, and selects a DAC entry itself
 entry : dot_at (shown 0x13) 0 3 1 ≡ 12 ∷ 22 ∷ 32 ∷ []
-unfolding pixel_dot
+unfolding pixel_dot_colour
 entry = refl
 
 wide : picture_width (shown 0x13) ≡ 16
@@ -162,9 +162,9 @@ unfolding answer_on
 answered = refl
 
 -- the pixels match the one glyph that has dots for just those that are not 0
-seen : answer_on (record { f8 = []; f14 = []; f16 = listing (λ i. if i == 0x10 then 0xE0 else if i == 0x11 then 0x81 else 0) 0 0x20 }) (shown 0x10) (ReadCell 0)
+seen : answer_on (record { f8 = []; f14 = []; f16 = list_by_function (λ i. if i == 0x10 then 0xE0 else if i == 0x11 then 0x81 else 0) 0 0x20 }) (shown 0x10) (ReadCell 0)
     (record { ax = 0x0D00; bx = 0; cx = 2; dx = 0 }) ≡ record { ax = 0x0D01; bx = 0; cx = 2; dx = 0 }
-unfolding answer_on first_character has_lines byte_of
+unfolding answer_on first_character_with_lines glyph_has_lines byte_of_bits
 seen = refl
 
 outside : refusal_on (shown 0x13) (ReadPixel 0 8 0) 0 ≡ Some Outside

@@ -11,7 +11,7 @@ use Rattle.vga_card.specs.Cycles.{out_reached}
 use Rattle.bios_modes.specs.declared.palette.Palette.{Palette}
 use Rattle.bios_modes.specs.declared.palette.Palette.TheVariants.{Colours16, Colours64, Colours256, Monochrome}
 use Rattle.bios_modes.specs.Palette.{palette_entry}
-use Rattle.bios_services.specs.ModeSet.{colour_plan}
+use Rattle.bios_services.specs.ModeSet.{write_dac_entry_plan}
 use Rattle.bios_screen.proofs.Base.Flat.{Edited, Turn, Leaves, set_cell, set_same, set_other}
 use Rattle.bios_screen.proofs.Base.Edits.{one_edit, edits}
 use Rattle.bios_screen.proofs.Base.Tests.{both_true, same}
@@ -60,14 +60,14 @@ stored d i x = record d {
 
 -- three writes set one entry
 three : (l : List ℕ) (i : ℕ) (c : CardState) → c.dac.component ≡ Red → c.dac.index ≡ i →
-    (run card_meaning (colour_plan l) c).0 ≡ record c { dac = stored c.dac i (colour_of l) }
-unfolding colour_plan port_of out_reached
+    (run card_meaning (write_dac_entry_plan l) c).0 ≡ record c { dac = stored c.dac i (colour_of l) }
+unfolding write_dac_entry_plan port_of out_reached
 three l i c e w =
-    ap (λ x. (run card_meaning (colour_plan l) (record c { dac = record c.dac { component = x } })).0) e
+    ap (λ x. (run card_meaning (write_dac_entry_plan l) (record c { dac = record c.dac { component = x } })).0) e
     ∙ ap (λ x. let t : CardState = record c { dac = stored c.dac x (colour_of l) } in t) w
 
 one_entry : (rest : CardState) (colour : List ℕ) (i : ℕ) (s : CardState) (c : ℕ → Colour) → i < 256 → HasEntries rest i s c →
-    Leaves CardState Colour (HasEntries rest (i + 1)) (run card_meaning (colour_plan colour) s).0
+    Leaves CardState Colour (HasEntries rest (i + 1)) (run card_meaning (write_dac_entry_plan colour) s).0
     (Edited Colour (Unit {0}) (λ _. i) (λ _ x. kept_colour (colour_of colour)) c)
 one_entry rest colour i s c l t =
     let new = kept_colour (colour_of colour) in
@@ -111,14 +111,14 @@ before_entry c i z l = record {
 
 -- n colours are written, from entry i on
 pub entries_written : (rest : CardState) (colour : ℕ → List ℕ) (i n : ℕ) (s : CardState) (c : ℕ → Colour) → i + n ≤ 256 → HasEntries rest i s c →
-    Leaves CardState Colour (HasEntries rest (i + n)) (run card_meaning (each (λ r. colour_plan (colour r)) n 0) s).0
+    Leaves CardState Colour (HasEntries rest (i + n)) (run card_meaning (each (λ r. write_dac_entry_plan (colour r)) n 0) s).0
     (Edited Colour (Turn (λ _. Unit {0}) 0 n) (λ h. i + h.turn) (λ h x. kept_colour (colour_of (colour h.turn))) c)
 entries_written rest colour i n s c l t =
     let z : i ≡ i + 0 = omega arith in
-    edits CardState Colour card_meaning (λ r. colour_plan (colour r)) (λ r. HasEntries rest (i + r)) 0 n (λ _. Unit {0}) (λ r h. i + r) (λ r h x.
+    edits CardState Colour card_meaning (λ r. write_dac_entry_plan (colour r)) (λ r. HasEntries rest (i + r)) 0 n (λ _. Unit {0}) (λ r h. i + r) (λ r h x.
     kept_colour (colour_of (colour r))) (λ j k a b lb lo hi q. absurd (omega arith))
     (λ r x g lb w there. let a : i + r + 1 ≡ i + (r + 1) = omega arith in
-    subst (λ k. Leaves CardState Colour (HasEntries rest k) (run card_meaning (colour_plan (colour r)) x).0
+    subst (λ k. Leaves CardState Colour (HasEntries rest k) (run card_meaning (write_dac_entry_plan (colour r)) x).0
     (Edited Colour (Unit {0}) (λ _. i + r) (λ _ y. kept_colour (colour_of (colour r))) g)) a (one_entry rest (colour r) (i + r) x g (omega arith) there))
     n 0 s c (omega arith) (omega arith) (subst (λ k. HasEntries rest k s c) z t)
 

@@ -9,7 +9,7 @@ use Rattle.vga_crtc.specs.Fields.{horizontal_total, horizontal_display_end, vert
 use Rattle.vga_crtc.specs.Fields.{start_address as address_of, vertical_display_end, offset, underline_location, is_double_word, is_address_wrap, is_byte_mode}
 use Rattle.vga_crtc.specs.Fields.{line_compare}
 use Rattle.vga_crtc.specs.Beam.{characters, lines}
-use Rattle.vga_crtc.specs.Raster.{IsRegular}
+use Rattle.vga_crtc.specs.Raster.{IsRegularFrame}
 use Rattle.vga_dots.specs.SourceDot.{fetch_address}
 use Rattle.bios_screen.specs.Raster.{IsRaster}
 use Rattle.bios_screen.proofs.Base.Tests.{le_is}
@@ -32,7 +32,7 @@ pub record IsFrame (m : Raster) (row : ModeRow) : Type 0 where
   pub raster : IsRaster m
   pub clock : (if is_set (slice_index row.sequencer 1) 0 then 8 else 9) ≡ m.dots
   pub numbers : numbers_of m.dots row.crtc ≡ m
-  pub regular : IsRegular row.crtc
+  pub regular : IsRegularFrame row.crtc
   pub whole : byte_panning row.crtc ≡ 0
   pub attributes : length row.attribute ≡ 21
   pub still : panned_by row.sequencer row.graphics (slice_index row.attribute 0x13) ≡ 0
@@ -125,7 +125,7 @@ module _ (row : ModeRow) (type start location : ℕ) where
   unfolding horizontal_total horizontal_display_end vertical_total vertical_display_end
   numbers_stay w = refl
 
-  pub regular_stays : IsRegular row.crtc → IsRegular l
+  pub regular_stays : IsRegularFrame row.crtc → IsRegularFrame l
   unfolding vertical_total line_compare preset_row_scan
   regular_stays r = record { uncut = r.uncut; unscrolled = r.unscrolled }
 

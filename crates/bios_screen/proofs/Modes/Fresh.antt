@@ -11,11 +11,11 @@ use Rattle.bios_modes.specs.declared.palette.Palette.{Palette as DefaultPalette}
 use Rattle.bios_modes.specs.Palette.{palette_entry}
 use Rattle.bios_services.specs.declared.call.Call.{Call}
 use Rattle.bios_services.specs.declared.call.Call.TheVariants.{SetMode}
-use Rattle.bios_services.specs.Service.{call_plan, set_mode_plan, answer_of, Answered, service as whole_service}
-use Rattle.bios_services.specs.ModeSet.{registers_plan, colour_plan, mask_and_palette_plan, mode_set_plan}
-use Rattle.bios_screen.specs.Shown.{palette_in}
+use Rattle.bios_services.specs.Service.{call_plan, set_mode_plan, answer_of_registers, CallOutcome, service as whole_service}
+use Rattle.bios_services.specs.ModeSet.{write_registers_plan, write_dac_entry_plan, mask_and_palette_plan, mode_set_plan}
+use Rattle.bios_screen.specs.Shown.{palette_of_card}
 use Rattle.bios_screen.specs.Fresh.{default_component, fresh_palette, fresh_screen}
-use Rattle.bios_screen.specs.AfterCall.{SetsFresh}
+use Rattle.bios_screen.specs.AfterCall.{ModeSetShowsFreshScreen}
 use Rattle.bios_screen.proofs.Base.Plans.{then_runs, then_answers}
 use Rattle.bios_screen.proofs.Base.Lists.{same_from_0, spelled}
 use Rattle.bios_services.proofs.CardLemmas.{plan_bounds, plan_beam}
@@ -39,7 +39,7 @@ abbrev unmasked : CardState → CardState
 unmasked c = record c { dac = record c.dac { mask = 0xFF; index = 0; component = Red } }
 
 masked_is : (palette : DefaultPalette) (c : CardState) (n : ℕ) → (run card_meaning (mask_and_palette_plan palette n) c).0
-    ≡ (run card_meaning (each (λ i. colour_plan (palette_entry palette i)) n 0) (unmasked c)).0
+    ≡ (run card_meaning (each (λ i. write_dac_entry_plan (palette_entry palette i)) n 0) (unmasked c)).0
 unfolding mask_and_palette_plan reached_by out_reached
 masked_is palette c n = refl
 
@@ -55,7 +55,7 @@ abbrev pub coloured : ModeRow → CardState → DacState → CardState
 coloured row c d = record (in_mode row c) { dac = d }
 
 -- with these colours the palette is the fresh screen's
-pub palette_is : (row : ModeRow) (c : CardState) (d : DacState) → HasColours row.palette d → palette_in (coloured row c d) ≡ fresh_palette row
+pub palette_is : (row : ModeRow) (c : CardState) (d : DacState) → HasColours row.palette d → palette_of_card (coloured row c d) ≡ fresh_palette row
 palette_is row c d t = rw (t.mask, t.reds, t.greens, t.blues) refl
 
 -- what a mode's registers and palette leave, before the rest of the plan
@@ -63,14 +63,14 @@ pub record Prepared (row : ModeRow) (c : CardState) : Type 0 where
   pub dac : DacState
   pub colours : HasColours row.palette dac
   pub bounds : IsCard (coloured row c dac)
-  pub runs : (rest : Plan (Unit {0})) → (run card_meaning (registers_plan row >> (mask_and_palette_plan row.palette 256 >> rest)) c).0
+  pub runs : (rest : Plan (Unit {0})) → (run card_meaning (write_registers_plan row >> (mask_and_palette_plan row.palette 256 >> rest)) c).0
       ≡ (run card_meaning rest (coloured row c dac)).0
 
 pub prepared : (mode : ℕ) (row : ModeRow) (c : CardState) → IsSet mode row → IsCard c → Prepared row c
 prepared mode row c is z =
-    let entries = each (λ i. colour_plan (palette_entry row.palette i)) 256 0 in
+    let entries = each (λ i. write_dac_entry_plan (palette_entry row.palette i)) 256 0 in
     let y0 = in_mode row c in
-    let z0 : IsCard y0 = subst IsCard (registers_set mode row c is z) (plan_bounds (registers_plan row) c z) in
+    let z0 : IsCard y0 = subst IsCard (registers_set mode row c is z) (plan_bounds (write_registers_plan row) c z) in
     let y1 = unmasked y0 in
     let z1 : IsCard y1 = record {
       host = z0.host;
@@ -96,7 +96,7 @@ prepared mode row c is z =
       };
       bounds = subst IsCard e (plan_bounds entries y1 z1);
       runs = λ rest.
-          then_runs (registers_plan row) (mask_and_palette_plan row.palette 256 >> rest) c
+          then_runs (write_registers_plan row) (mask_and_palette_plan row.palette 256 >> rest) c
           ∙ ap (λ x. (run card_meaning (mask_and_palette_plan row.palette 256 >> rest) x).0) (registers_set mode row c is z)
           ∙ then_runs (mask_and_palette_plan row.palette 256) rest y0
           ∙ ap (λ x. (run card_meaning rest x).0) (masked_is row.palette y0 256 ∙ e);
@@ -107,7 +107,7 @@ prepared mode row c is z =
 -- the call's plan is the mode's
 call_is : (mode : ℕ) (row : ModeRow) (fonts : FontSet) (r : Regs) (block : List ℕ) (d : BiosData) → mode_row mode ≡ Some row →
     call_plan (Some (SetMode mode false)) fonts d r block
-    ≡ (mode_set_plan row false fonts >> (let q : Plan Answered = Done (answer_of r (data_of_mode mode row)) in q))
+    ≡ (mode_set_plan row false fonts >> (let q : Plan CallOutcome = Done (answer_of_registers r (data_of_mode mode row)) in q))
 unfolding set_mode_plan
 call_is mode row fonts r block d e = ap (λ x. set_mode_plan x mode false fonts d r) e
 
@@ -116,18 +116,18 @@ abbrev pub ShowsFresh : ℕ → ModeRow → Type 0
 ShowsFresh mode row = (c : CardState) (fonts : FontSet) → IsCard c → AreBytes fonts.f16 →
     shown (run card_meaning (mode_set_plan row false fonts) c).0 (data_of_mode mode row) ≡ Some (fresh_screen mode row fonts.f16 c.crtc.beam.frame)
 
-pub sets_fresh : (mode : ℕ) (row : ModeRow) → IsSet mode row → ShowsFresh mode row → SetsFresh mode row
+pub sets_fresh : (mode : ℕ) (row : ModeRow) → IsSet mode row → ShowsFresh mode row → ModeSetShowsFreshScreen mode row
 sets_fresh mode row is shows_fresh fonts r block c d z small e =
     let plan = mode_set_plan row false fonts in
-    let done : Plan Answered = Done (answer_of r (data_of_mode mode row)) in
+    let done : Plan CallOutcome = Done (answer_of_registers r (data_of_mode mode row)) in
     let runs : run card_meaning (whole_service fonts d r block) c ≡ run card_meaning (plan >> done) c =
     ap (λ (x : Option Call). run card_meaning (call_plan x fonts d r block) c) e
     ∙ ap (λ p. run card_meaning p c) (call_is mode row fonts r block d is.table) in
     record {
-      answer = ap (λ x. x.1.0) runs ∙ ap (λ (x : Answered). x.0) (then_answers plan done c);
+      answer = ap (λ x. x.1.0) runs ∙ ap (λ (x : CallOutcome). x.0) (then_answers plan done c);
       shows = ap (λ x. shown x.0 x.1.1) runs
           ∙ ap (λ y. shown y (run card_meaning (plan >> done) c).1.1) (then_runs plan done c)
-          ∙ ap (λ (x : Answered). shown (run card_meaning plan c).0 x.1) (then_answers plan done c)
+          ∙ ap (λ (x : CallOutcome). shown (run card_meaning plan c).0 x.1) (then_answers plan done c)
           ∙ shows_fresh c fonts z small;
       beam = ap (λ x. x.0.crtc.beam) runs ∙ plan_beam (plan >> done) c;
     }

@@ -3,17 +3,17 @@ use Rattle.std.proofs.Common.{◌≡◌, ℕ, ◌+◌, ◌-◌, ◌*◌, ◌/◌
 use Rattle.std.specs.Prelude.{slice_index, if◌then◌else◌}
 use Rattle.std.specs.Int.{bit_at}
 use Rattle.std.proofs.lemmas.Nat.Bits.{bit_at-zero}
-use Rattle.vga_bits.specs.Bits.{byte_of}
+use Rattle.vga_bits.specs.Bits.{byte_of_bits}
 use Rattle.bios_screen.proofs.Prelude.{Four, bytes_at, IsCard, card_meaning, CardState, ModeRow, data_of_mode, bytes_320_by_200, Plan, run, put, Screen}
 use Rattle.bios_screen.proofs.Prelude.{planar_pixel, packed_pixel, pixel_in, shown}
-use Rattle.vga_bits.specs.Four.{four}
+use Rattle.vga_bits.specs.Four.{four_by_plane}
 use Rattle.vga_host.specs.Memory.Write.{written_bit, combined_bit}
-use Rattle.bios_modes.specs.Kinds.{kind_in, is_text_kind}
-use Rattle.bios_services.specs.ModeSet.{clear_plan, text_plan, memory_plan, mode_set_plan}
+use Rattle.bios_modes.specs.Kinds.{kind_of_row, is_text_kind}
+use Rattle.bios_services.specs.ModeSet.{clear_plan, write_text_plan, write_memory_plan, mode_set_plan}
 use Rattle.bios_screen.specs.Screen.{Pixels, Palette}
-use Rattle.bios_screen.specs.Shown.{pixels_in, pixel_pages, screen_by}
+use Rattle.bios_screen.specs.Shown.{pixels_in, pixel_pages, screen_with_contents}
 use Rattle.bios_screen.specs.Fresh.{blank_pixels, fresh_text, fresh_pixels}
-use Rattle.bios_screen.specs.AfterCall.{SetsFresh}
+use Rattle.bios_screen.specs.AfterCall.{ModeSetShowsFreshScreen}
 use Rattle.bios_screen.proofs.Base.Flat.{set_cell}
 use Rattle.bios_screen.proofs.Base.Edits.{one_edit, changed_edit, edits}
 use Rattle.bios_screen.proofs.Base.Lists.{blank_listing}
@@ -40,8 +40,8 @@ abbrev Clears : ℕ → ModeRow → Type 0
 Clears mode row = (c : CardState) → IsCard c → setting c ≡ setting_of row → IsCleared mode row c (cleared c)
 
 -- a Put of 0 stores 0 in all four planes
-stored_zero : (misc clocking : ℕ) (q x : Four ℕ) → stored (drawing misc clocking at_rest) 0x0F 0 q x ≡ four (λ _. 0)
-unfolding byte_of written_bit combined_bit
+stored_zero : (misc clocking : ℕ) (q x : Four ℕ) → stored (drawing misc clocking at_rest) 0x0F 0 q x ≡ four_by_plane (λ _. 0)
+unfolding byte_of_bits written_bit combined_bit
 stored_zero misc clocking q x = refl
 
 no_bits : (i : ℕ) → bit_at 0 i + 2 * bit_at 0 i + 4 * bit_at 0 i + 8 * bit_at 0 i ≡ 0
@@ -111,10 +111,10 @@ pages_blank mode row c y t =
     let x : 0 + q ≡ q = omega arith in
     ap (pixel_in mode f (row.size * p)) x ∙ t.pixel p q lp lq))
 
-memory_is : (mode : ℕ) (row : ModeRow) (font : List ℕ) → IsGraphicsRow mode row → memory_plan row false font ≡ clear_plan 0x10000
-unfolding memory_plan
-memory_is mode row font is = ap (λ b. let p : Plan (Unit {0}) = (if b then text_plan row false font else clear_plan 0x10000) in p)
-    (ap (λ r. is_text_kind (kind_in r)) (sym is.set.table) ∙ is.text)
+memory_is : (mode : ℕ) (row : ModeRow) (font : List ℕ) → IsGraphicsRow mode row → write_memory_plan row false font ≡ clear_plan 0x10000
+unfolding write_memory_plan
+memory_is mode row font is = ap (λ b. let p : Plan (Unit {0}) = (if b then write_text_plan row false font else clear_plan 0x10000) in p)
+    (ap (λ r. is_text_kind (kind_of_row r)) (sym is.set.table) ∙ is.text)
 
 shows_fresh : (mode : ℕ) (row : ModeRow) → IsGraphicsRow mode row → Clears mode row → ShowsFresh mode row
 unfolding mode_set_plan
@@ -126,14 +126,14 @@ shows_fresh mode row is clears c fonts z small =
     let t = clears y first.bounds refl in
     let new = fresh_pixels mode row c.crtc.beam.frame in
     let text = fresh_text mode row font c.crtc.beam.frame in
-    ap (λ x. shown x d) (first.runs (memory_plan row false font) ∙ ap (λ p. (run card_meaning p y).0) (memory_is mode row font is))
+    ap (λ x. shown x d) (first.runs (write_memory_plan row false font) ∙ ap (λ p. (run card_meaning p y).0) (memory_is mode row font is))
     ∙ redrawn row y (cleared y) d (is.there row.height) is.text (all_tests_of row y d (is.fresh c first.dac)) t.same t.others
-    ∙ ap (λ p. Some (screen_by row y d 0 (Pixels p) [])) (pages_blank mode row y (cleared y) t)
+    ∙ ap (λ p. Some (screen_with_contents row y d 0 (Pixels p) [])) (pages_blank mode row y (cleared y) t)
     ∙ ap (λ (p : Palette). let x : Screen = record new { palette = p } in Some x) (palette_is row c first.dac first.colours)
     ∙ sym (ap (λ b. let x : Screen = (if b then text else new) in Some x) is.text)
 
-pub planar_set_fresh : (mode : ℕ) (row : ModeRow) → IsPlanarRow mode row → SetsFresh mode row
+pub planar_set_fresh : (mode : ℕ) (row : ModeRow) → IsPlanarRow mode row → ModeSetShowsFreshScreen mode row
 planar_set_fresh mode row is = sets_fresh mode row is.graphics.set (shows_fresh mode row is.graphics (planes_clear mode row is))
 
-pub packed_set_fresh : IsGraphicsRow 0x13 bytes_320_by_200 → SetsFresh 0x13 bytes_320_by_200
+pub packed_set_fresh : IsGraphicsRow 0x13 bytes_320_by_200 → ModeSetShowsFreshScreen 0x13 bytes_320_by_200
 packed_set_fresh is = sets_fresh 0x13 bytes_320_by_200 is.set (shows_fresh 0x13 bytes_320_by_200 is bytes_clear)

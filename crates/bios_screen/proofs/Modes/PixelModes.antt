@@ -3,7 +3,7 @@
 use Rattle.std.proofs.Common.{◌≡◌, ℕ, ◌+◌, ◌*◌, ◌/◌, ◌%◌, ◌<◌, ◌≤◌, refl, arith, true, false, Some}
 use Rattle.std.specs.Prelude.{slice_index, IsTrue, ◌&&◌, nat_lt, nat_le}
 use Rattle.std.proofs.lemmas.Bool.Decides.{nat_tests}
-use Rattle.bios_screen.proofs.Prelude.{is_set, regular_beam, DacState, CardState, crtc_port, ModeRow, Planar, data_of_mode, row_at, bytes_320_by_200, is_text}
+use Rattle.bios_screen.proofs.Prelude.{is_set, regular_beam, DacState, CardState, crtc_port, ModeRow, Planar, data_of_mode, mode_row_at_height, bytes_320_by_200, is_text}
 use Rattle.bios_screen.proofs.Prelude.{is_packed, kind_of, page_base, Raster}
 use Rattle.vga_crtc.specs.Ports.{after_out as after_crtc}
 use Rattle.vga_crtc.specs.Fields.{horizontal_total, horizontal_display_end, vertical_total, preset_row_scan, byte_panning, maximum_scan_line, is_double_scan}
@@ -12,11 +12,11 @@ use Rattle.vga_card.specs.Port.{port_of, crtc_port_of}
 use Rattle.vga_card.specs.Cycles.{out_reached, inp_reached}
 use Rattle.vga_dots.specs.SourceDot.{fetch_address}
 use Rattle.bios_modes.specs.Modes.{planes_320_by_200, planes_640_by_350, planes_640_by_480}
-use Rattle.bios_services.specs.Cycles.{group, attribute_group}
-use Rattle.bios_services.specs.ModeSet.{registers_plan}
+use Rattle.bios_services.specs.Cycles.{write_registers_from_0, write_attribute_registers}
+use Rattle.bios_services.specs.ModeSet.{write_registers_plan}
 use Rattle.bios_screen.specs.Shown.{shows}
 use Rattle.bios_screen.specs.Picture.{pixel_width, pixel_height}
-use Rattle.bios_screen.specs.Raster.{width, line_dots}
+use Rattle.bios_screen.specs.Raster.{shown_dots_of_line, all_dots_of_line}
 use Rattle.bios_screen.specs.Drawing.{dots_a_line, lines_a_frame}
 use Rattle.bios_screen.proofs.Base.Places.{ends_before}
 use Rattle.bios_screen.proofs.Base.Setting.{Setting}
@@ -36,7 +36,7 @@ pixels_of row = 8 * row.columns * (row.height * (row.last_row + 1))
 
 -- it is the mode's row at any height, and after a mode set the test holds
 pub record IsListed (mode : ℕ) (row : ModeRow) : Type 0 where
-  pub there : (height : ℕ) → row_at mode height ≡ Some row
+  pub there : (height : ℕ) → mode_row_at_height mode height ≡ Some row
   pub text : is_text mode ≡ false
   pub port : row.crtc_address ≡ crtc_port row.misc
   pub whole : IsTrue (is_packed mode) → pixels_of row ≤ row.size
@@ -75,9 +75,9 @@ roomy row e = record {
 -- the size of its picture
 pub record IsPictured (mode : ℕ) (row : ModeRow) (m : Raster) : Type 0 where
   pub dots : m.dots ≡ 8
-  pub line : line_dots m ≡ dots_a_line mode
+  pub line : all_dots_of_line m ≡ dots_a_line mode
   pub lines : m.lines ≡ lines_a_frame mode
-  pub wide : width m ≡ pixel_width mode * (8 * row.columns)
+  pub wide : shown_dots_of_line m ≡ pixel_width mode * (8 * row.columns)
   pub high : m.height ≡ pixel_height mode * (row.height * (row.last_row + 1))
 
 -- where the dots of a frame come from: the counter at character x of line v of a page, and the
@@ -143,7 +143,7 @@ module _ (row : ModeRow) (is : HasRoom row) where
 row_registers : Unit {0}
 unfolding
     horizontal_total horizontal_display_end vertical_total vertical_display_end byte_panning line_compare preset_row_scan maximum_scan_line
-    is_double_scan offset registers_plan group attribute_group port_of crtc_port_of out_reached inp_reached after_crtc is_protected overflow shows
+    is_double_scan offset write_registers_plan write_registers_from_0 write_attribute_registers port_of crtc_port_of out_reached inp_reached after_crtc is_protected overflow shows
 row_registers = tt
 
 pub graphics_0d : IsGraphicsRow 0x0D planes_320_by_200

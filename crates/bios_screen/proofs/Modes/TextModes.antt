@@ -2,9 +2,9 @@
 use Rattle.std.proofs.Common.{◌≡◌, ℕ, ◌+◌, ◌*◌, ◌<◌, ◌≤◌, refl, subst, arith, List, [], ◌∷◌, length, Bool, true, false, Some, None}
 use Rattle.std.specs.Prelude.{slice_index, bit_and, nat_le, nat_lt, ◌==◌, ◌&&◌, if◌then◌else◌}
 use Rattle.std.proofs.lemmas.Bool.Decides.{nat_tests}
-use Rattle.bios_screen.proofs.Prelude.{crtc_port, ModeRow, row_at, is_text, page_base}
+use Rattle.bios_screen.proofs.Prelude.{crtc_port, ModeRow, mode_row_at_height, is_text, page_base}
 use Rattle.bios_modes.specs.declared.heights.TextRow.{TextRow as HeightRow}
-use Rattle.bios_modes.specs.Heights.{fifty_rows, twenty_eight_rows, twenty_five_rows, with_text, with_height}
+use Rattle.bios_modes.specs.Heights.{fifty_rows, twenty_eight_rows, twenty_five_rows, with_text_row, with_height_row}
 use Rattle.bios_modes.specs.Modes.{colour_text, monochrome_text}
 use Rattle.bios_screen.proofs.Base.Setting.{Setting}
 use Rattle.bios_screen.proofs.Modes.Frames.{Blinks}
@@ -109,7 +109,7 @@ lines_of Monochrome Fourteen = twenty_eight_rows 0x0D
 lines_of Monochrome Sixteen = twenty_five_rows 0x0F
 
 abbrev pub row_with : Display → Height → ModeRow
-row_with k height = with_text (row_of k) (lines_of k height)
+row_with k height = with_text_row (row_of k) (lines_of k height)
 
 pub text_blinks : (k : Display) (height : Height) → Blinks (row_with k height) 0 × Blinks (row_with k height) 1
 text_blinks Colour _ = ((refl, refl), (refl, refl))
@@ -158,7 +158,7 @@ record HasHeight (k : Display) (row : ModeRow) : Type 0 where
   height : Height
   is : row_with k height ≡ row
 
-with_lines : (k : Display) (row : ModeRow) (a b f : Bool) → with_height (row_of k) (if a then Some (lines_of k Eight) else if b
+with_lines : (k : Display) (row : ModeRow) (a b f : Bool) → with_height_row (row_of k) (if a then Some (lines_of k Eight) else if b
     then Some (lines_of k Fourteen) else if f then Some (lines_of k Sixteen) else None) ≡ Some row → HasHeight k row
 with_lines k row true b f h = record { height = Eight; is = some_same (row_with k Eight) row h }
 with_lines k row false true f h = record { height = Fourteen; is = some_same (row_with k Fourteen) row h }
@@ -168,6 +168,6 @@ with_lines k row false false false h = none_some row h
 of_height : (k : Display) (row : ModeRow) → HasHeight k row → TextRow (number_of k) row
 of_height k row h = subst (TextRow (number_of k)) h.is (record { display = k; height = h.height; is = row_by k h.height; row_is = refl; number = refl })
 
-pub row_of_text : (k : Display) (height : ℕ) (row : ModeRow) → row_at (number_of k) height ≡ Some row → TextRow (number_of k) row
+pub row_of_text : (k : Display) (height : ℕ) (row : ModeRow) → mode_row_at_height (number_of k) height ≡ Some row → TextRow (number_of k) row
 row_of_text Colour height row e = of_height Colour row (with_lines Colour row (height == 8) (height == 14) (height == 16) e)
 row_of_text Monochrome height row e = of_height Monochrome row (with_lines Monochrome row (height == 8) (height == 14) (height == 16) e)

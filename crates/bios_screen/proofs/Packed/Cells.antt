@@ -1,13 +1,13 @@
 -- Reading the character at the cursor in 256 colours: the first whose glyph matches the pixels.
 use Rattle.std.proofs.Common.{◌≡◌, ℕ, zero, suc, ◌+◌, ◌-◌, ◌*◌, ◌%◌, ◌<◌, refl, sym, ap, ◌∙◌, subst, arith, Bool, true, false}
 use Rattle.std.specs.Prelude.{◌==◌, if◌then◌else◌}
-use Rattle.vga_bits.specs.Bits.{byte_of}
-use Rattle.bios_screen.proofs.Prelude.{IsCard, card_meaning, CardState, bytes_320_by_200, BiosData, FontSet, Regs, cells_of, kind_of, Plan, run, get, Screen}
+use Rattle.vga_bits.specs.Bits.{byte_of_bits}
+use Rattle.bios_screen.proofs.Prelude.{IsCard, card_meaning, CardState, bytes_320_by_200, BiosData, FontSet, Regs, cells_per_page, kind_of, Plan, run, get, Screen}
 use Rattle.bios_screen.proofs.Prelude.{packed_pixel, pixel_screen, pixel_of}
 use Rattle.bios_modes.specs.declared.kind.Kind.TheVariants.{Packed}
-use Rattle.bios_services.specs.Cursor.{cursor_cell}
+use Rattle.bios_services.specs.Cursor.{cursor_cell_number}
 use Rattle.bios_services.specs.Plan.{fold}
-use Rattle.bios_services.specs.CharacterReading.{shift_dot, packed_line, line_plan}
+use Rattle.bios_services.specs.CharacterReading.{shift_dot, read_packed_line, read_line_plan}
 use Rattle.bios_screen.specs.Step.{cell_line}
 use Rattle.bios_screen.proofs.Base.Plans.{run_bind}
 use Rattle.bios_screen.proofs.Dots.PackedDots.{IsPacked}
@@ -38,8 +38,8 @@ horner : (b0 b1 b2 b3 b4 b5 b6 b7 : ℕ) → b0 < 2 → b1 < 2 → b2 < 2 → b3
     ≡ b7 + 2 * b6 + 4 * b5 + 8 * b4 + 16 * b3 + 32 * b2 + 64 * b1 + 128 * b0
 horner b0 b1 b2 b3 b4 b5 b6 b7 h0 h1 h2 h3 h4 h5 h6 h7 = omega arith
 
-byte_shifted : (f : ℕ → ℕ) → shifted f 8 0 0 ≡ byte_of (λ i. as_dot (f (7 - i)))
-unfolding byte_of
+byte_shifted : (f : ℕ → ℕ) → shifted f 8 0 0 ≡ byte_of_bits (λ i. as_dot (f (7 - i)))
+unfolding byte_of_bits
 byte_shifted f =
     horner (as_dot (f 0)) (as_dot (f 1)) (as_dot (f 2)) (as_dot (f 3)) (as_dot (f 4)) (as_dot (f 5)) (as_dot (f 6)) (as_dot (f 7))
     (dot_small (f 0)) (dot_small (f 1)) (dot_small (f 2)) (dot_small (f 3)) (dot_small (f 4)) (dot_small (f 5)) (dot_small (f 6)) (dot_small (f 7))
@@ -69,8 +69,8 @@ module _ (rest : CardState) where
       }
 
   line_seen : (a : ℕ) (c : CardState) (f : ℕ → ℕ) → a + 8 < 65536 → IsFlat rest c f →
-      IsSeen (λ y. IsFlat rest y f) (line_plan Packed (0xA0000 + a)) (byte_of (λ j. as_dot (f (a + (7 - j))))) c
-  unfolding line_plan packed_line
+      IsSeen (λ y. IsFlat rest y f) (read_line_plan Packed (0xA0000 + a)) (byte_of_bits (λ j. as_dot (f (a + (7 - j))))) c
+  unfolding read_line_plan read_packed_line
   line_seen a c f l t =
       let seen = dots_shifted a 8 0 0 c f (omega arith) t in
       record { still = seen.still; value = seen.value ∙ byte_shifted (λ j. f (a + j)) }
@@ -85,18 +85,18 @@ module _ (c : CardState) (d : BiosData) (t : IsPacked c d) (z : IsCard c) where
   abbrev old : ℕ → ℕ
   old = packed_pixel c.host.memory
 
-  line_is : (q r : ℕ) → q < cells_of d → r < d.height → byte_of (λ j. as_dot (old (place q r + (7 - j)))) ≡ cell_line s 0 q r
+  line_is : (q r : ℕ) → q < cells_per_page d → r < d.height → byte_of_bits (λ j. as_dot (old (place q r + (7 - j)))) ≡ cell_line s 0 q r
   line_is q r lq lr =
       let l = writes.strip_small c d t z q r lq lr in
       let all = screens.all_pixels c d t z in
       byte_same (λ j. as_dot (old (place q r + (7 - j)))) (λ j. as_dot (pixel_of s 0 (place q r + (7 - j)))) (λ j lj.
       ap as_dot (sym (screens.pixel_is c d t z (place q r + (7 - j)) (omega arith))))
 
-  pub cell_read : (fonts : FontSet) (r : Regs) (p : ℕ) → p < bytes_320_by_200.pages → cursor_cell d p < cells_of d → IsCellRead fonts r c d p s
+  pub cell_read : (fonts : FontSet) (r : Regs) (p : ℕ) → p < bytes_320_by_200.pages → cursor_cell_number d p < cells_per_page d → IsCellRead fonts r c d p s
   cell_read fonts r p lp lq =
       let first : p ≡ 0 = omega arith in
-      let q = cursor_cell d 0 in
-      let l : q < cells_of d = subst (λ i. cursor_cell d i < cells_of d) first lq in
+      let q = cursor_cell_number d 0 in
+      let l : q < cells_per_page d = subst (λ i. cursor_cell_number d i < cells_per_page d) first lq in
       let rest = without_host c in
       let sum : (n : ℕ) → 0xA0000 + (n + 0) ≡ 0xA0000 + n = λ n. omega arith in
       subst (λ i. IsCellRead fonts r c d i s) (sym first)

@@ -2,7 +2,7 @@
 use Rattle.std.proofs.Common.{◌≡◌, ℕ, ◌+◌, ◌*◌, ◌/◌, ◌%◌, ◌<◌, refl, sym, ap, ◌∙◌, subst, arith, List, length, true}
 use Rattle.std.specs.Prelude.{slice_index, slice_set, ◌==◌, ◌&&◌, if◌then◌else◌}
 use Rattle.std.proofs.lemmas.Bool.Decides.{nat_tests}
-use Rattle.vga_bits.specs.Bits.{byte_of}
+use Rattle.vga_bits.specs.Bits.{byte_of_bits}
 use Rattle.vga_bits.proofs.BitLemmas.{byte_bits}
 use Rattle.bios_screen.proofs.Prelude.{Four, bytes_at, HostState, card_meaning, CardState, bytes_320_by_200, run, put, packed_pixel}
 use Rattle.vga_bits.specs.Four.{of_plane}
@@ -21,7 +21,7 @@ window_is : (h : HostState) (n : ℕ) → n < 65536 → window_offset (host_at h
 window_is h n l = omega arith
 
 written : (h : HostState) (b : ℕ) → b < 256 → (p : ℕ) → p < 4 → written_byte (host_at h (setting_of bytes_320_by_200)) b p ≡ b
-unfolding byte_of written_bit combined_bit
+unfolding byte_of_bits written_bit combined_bit
 written h b l = by_plane (λ p. written_byte (host_at h (setting_of bytes_320_by_200)) b p ≡ b) (byte_bits b l) (byte_bits b l) (byte_bits b l) (byte_bits b l)
 
 -- the planes, of which plane n % 4 gets a new byte
@@ -74,7 +74,7 @@ byte_of_plane m o = by_plane (λ p. of_plane (bytes_at m o) p ≡ slice_index (o
 
 pub byte_read : (h : HostState) (n : ℕ) → n < 65536 → packed_pixel h.memory n < 256 →
     read_byte (host_at h (setting_of bytes_320_by_200)) (0xA0000 + n) ≡ packed_pixel h.memory n
-unfolding byte_of read_bit
+unfolding byte_of_bits read_bit
 byte_read h n l b =
     let w = window_offset (host_at h (setting_of bytes_320_by_200)) (0xA0000 + n) in
     let p : w % 4 < 4 = omega arith in

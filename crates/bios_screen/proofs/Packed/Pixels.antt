@@ -3,7 +3,7 @@ use Rattle.std.proofs.Common.{◌≡◌, ℕ, ◌+◌, ◌*◌, ◌/◌, ◌<◌
 use Rattle.std.specs.Prelude.{◌==◌, if◌then◌else◌}
 use Rattle.bios_screen.proofs.Prelude.{IsCard, card_meaning, CardState, bytes_320_by_200, BiosData, is_packed, page_base, Plan, run, put, get, Screen}
 use Rattle.bios_screen.proofs.Prelude.{packed_pixel, pixel_screen, shown, pixel_of, with_pixels}
-use Rattle.bios_services.specs.Pixels.{pixel_address, write_dot_plan, write_pixel_plan, read_dot_plan, read_pixel_plan}
+use Rattle.bios_services.specs.Pixels.{pixel_address, write_planar_pixel_plan, write_pixel_plan, read_planar_pixel_plan, read_pixel_plan}
 use Rattle.bios_screen.specs.Step.{colour_over, change_pixel}
 use Rattle.bios_screen.proofs.Base.Flat.{set_cell}
 use Rattle.bios_screen.proofs.Dots.PackedDots.{IsPacked}
@@ -41,7 +41,7 @@ module _ (c : CardState) (d : BiosData) (t : IsPacked c d) (z : IsCard c) where
   write_is : (x y colour : ℕ) → write_pixel_plan d 0 x y colour ≡ put (0xA0000 + number x y) colour
   unfolding write_pixel_plan
   write_is x y colour =
-      ap (λ m. let p : Plan (Unit {0}) = (if is_packed m then put (pixel_address d 0 x y) colour else write_dot_plan (pixel_address d 0 x y) x colour) in p)
+      ap (λ m. let p : Plan (Unit {0}) = (if is_packed m then put (pixel_address d 0 x y) colour else write_planar_pixel_plan (pixel_address d 0 x y) x colour) in p)
       t.number
       ∙ ap (λ a. put a colour) (address_is x y)
 
@@ -67,7 +67,7 @@ module _ (c : CardState) (d : BiosData) (t : IsPacked c d) (z : IsCard c) where
   read_is : (x y : ℕ) → read_pixel_plan d 0 x y ≡ get (0xA0000 + number x y)
   unfolding read_pixel_plan
   read_is x y =
-      ap (λ m. let p : Plan ℕ = (if is_packed m then get (pixel_address d 0 x y) else read_dot_plan (pixel_address d 0 x y) x) in p) t.number
+      ap (λ m. let p : Plan ℕ = (if is_packed m then get (pixel_address d 0 x y) else read_planar_pixel_plan (pixel_address d 0 x y) x) in p) t.number
       ∙ ap get (address_is x y)
 
   pub pixel_read : (p x y : ℕ) → p < bytes_320_by_200.pages → There d x y →

@@ -3,9 +3,9 @@ use Rattle.std.proofs.Common.{◌≡◌, ℕ, ◌+◌, ◌-◌, ◌*◌, ◌/◌
 use Rattle.bios_screen.proofs.Prelude.{IsCard, card_meaning, CardState, bytes_320_by_200, BiosData, Band, Direction, Window, page_base, kind_of, run, Screen}
 use Rattle.bios_screen.proofs.Prelude.{packed_pixel, page_pixels, pixel_screen, shown, pixel_of, with_pixels}
 use Rattle.bios_modes.specs.declared.kind.Kind.TheVariants.{Packed}
-use Rattle.bios_services.specs.Bands.{filling_byte, uniform, fill_plan, scroll_rows, band_by}
-use Rattle.bios_services.specs.Scroll.{IsOnPage, window_plan}
-use Rattle.bios_screen.specs.Step.{pixel_row, pixel_column, in_window, has_source, source, row_pixels, fill_pixel, scroll_pixels}
+use Rattle.bios_services.specs.Bands.{filling_byte, one_byte_filling, fill_plan, scroll_rows, band_of_kind}
+use Rattle.bios_services.specs.Scroll.{IsOnPage, scroll_window_plan}
+use Rattle.bios_screen.specs.Step.{pixel_row, pixel_column, is_in_window, has_source_row, source_number, row_pixels, fill_pixel, scroll_pixels}
 use Rattle.bios_screen.specs.Step.{scroll_window}
 use Rattle.bios_screen.proofs.Base.Flat.{Leaves}
 use Rattle.bios_screen.proofs.Base.Windows.{by_both_tests}
@@ -29,7 +29,7 @@ module _ (c : CardState) (d : BiosData) (t : IsPacked c d) (z : IsCard c) (p : �
   s = pixel_screen bytes_320_by_200 c d
 
   abbrev band : Band
-  band = band_by Packed d p w.left w.width
+  band = band_of_kind Packed d p w.left w.width
 
   page_is : p ≡ 0
   page_is = omega arith
@@ -48,7 +48,7 @@ module _ (c : CardState) (d : BiosData) (t : IsPacked c d) (z : IsCard c) (p : �
   }
 
   abbrev IsScrolled : (ℕ → ℕ) → (ℕ → ℕ) → Type 0
-  IsScrolled = shifts.IsScrolled ℕ 0xA0000 65536 band 0 (d.last_row + 1) w window direction n (λ i _. filling_byte (uniform colour) i)
+  IsScrolled = shifts.IsScrolled ℕ 0xA0000 65536 band 0 (d.last_row + 1) w window direction n (λ i _. filling_byte (one_byte_filling colour) i)
 
   abbrev old : ℕ → ℕ
   old = packed_pixel c.host.memory
@@ -57,7 +57,7 @@ module _ (c : CardState) (d : BiosData) (t : IsPacked c d) (z : IsCard c) (p : �
       (run card_meaning (scroll_rows band direction w.top w.height n colour) c).0 (IsScrolled old)
   unfolding scroll_rows fill_plan
   scrolls some few = shifts.filled_once CardState card_meaning 0xA0000 65536 band 0 (d.last_row + 1) w window (IsFlat (without_host c))
-      (pixel_read (without_host c)) (λ j v y f lj lv u. put_flat (without_host c) j v y f lj lv u) (uniform colour) lc lc direction n c old
+      (pixel_read (without_host c)) (λ j v y f lj lv u. put_flat (without_host c) j v y f lj lv u) (one_byte_filling colour) lc lc direction n c old
       some few (screens.begins c d t z)
 
   -- ---- the pixels
@@ -69,8 +69,8 @@ module _ (c : CardState) (d : BiosData) (t : IsPacked c d) (z : IsCard c) (p : �
   pixels_scrolled f is k lk =
       let row = pixel_row s k in
       let column = pixel_column s k in
-      let far = source direction k (row_pixels s n) in
-      by_both_tests (in_window w row column) (has_source direction w n row) (f k) (pixel_of s 0 far) (fill_pixel d.mode colour) (pixel_of s 0 k)
+      let far = source_number direction k (row_pixels s n) in
+      by_both_tests (is_in_window w row column) (has_source_row direction w n row) (f k) (pixel_of s 0 far) (fill_pixel d.mode colour) (pixel_of s 0 k)
       (λ u m.
       ap f (sym (none k)) ∙ is.moved k u m ∙ ap old (none far)
       ∙ sym (screens.pixel_is c d t z far (shifts.source_within ℕ 0xA0000 65536 band 0 (d.last_row + 1) w window direction k n u m)))
@@ -78,15 +78,15 @@ module _ (c : CardState) (d : BiosData) (t : IsPacked c d) (z : IsCard c) (p : �
       ap f (sym (none k)) ∙ (is.filled k u m).is ∙ filled_uniform colour (k % band.pitch - band.left)
       ∙ sym (ap (λ i. fill_pixel i colour) t.number))
       (λ u.
-      is.outside k (λ b q. let same : k ≡ b = omega arith in subst (λ i. in_window w (pixel_row s i) (pixel_column s i) ≡ false) same u)
+      is.outside k (λ b q. let same : k ≡ b = omega arith in subst (λ i. is_in_window w (pixel_row s i) (pixel_column s i) ≡ false) same u)
       ∙ sym (screens.pixel_is c d t z k lk))
 
-  pub window_shown : 0 < n → n ≤ w.height → shown (run card_meaning (window_plan d p w direction n colour) c).0 d
+  pub window_shown : 0 < n → n ≤ w.height → shown (run card_meaning (scroll_window_plan d p w direction n colour) c).0 d
       ≡ Some (scroll_window s p w direction n colour)
   window_shown some few =
       let done = scrolls some few in
       let change = scroll_pixels s w direction n colour in
-      ap (λ k. shown (run card_meaning (scroll_rows (band_by k d p w.left w.width) direction w.top w.height n colour) c).0 d) (ap kind_of t.number)
+      ap (λ k. shown (run card_meaning (scroll_rows (band_of_kind k d p w.left w.width) direction w.top w.height n colour) c).0 d) (ap kind_of t.number)
       ∙ screens.page_redrawn c d t z (run card_meaning (scroll_rows band direction w.top w.height n colour) c).0 done.cells change done.shown
       (pixels_scrolled done.cells done.fact)
       ∙ ap (λ i. Some (with_pixels s i change)) (sym page_is)

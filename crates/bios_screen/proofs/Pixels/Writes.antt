@@ -2,7 +2,7 @@
 -- in memory.
 use Rattle.std.proofs.Common.{◌≡◌, ◌≢◌, ℕ, ◌+◌, ◌-◌, ◌*◌, ◌/◌, ◌%◌, ◌<◌, ◌≤◌, sym, ap, ◌∙◌, arith, Some}
 use Rattle.std.proofs.Math.Nat.{mod-lt}
-use Rattle.bios_screen.proofs.Prelude.{is_set, card_meaning, CardState, ModeRow, BiosData, FontSet, Band, Colouring, cells_of, run, Screen, page_pixels}
+use Rattle.bios_screen.proofs.Prelude.{is_set, card_meaning, CardState, ModeRow, BiosData, FontSet, Band, Colouring, cells_per_page, run, Screen, page_pixels}
 use Rattle.bios_screen.proofs.Prelude.{pixel_screen, shown, pixel_of, with_pixels}
 use Rattle.bios_modes.specs.declared.kind.Kind.{Kind}
 use Rattle.bios_services.specs.Drawing.{character_plan, characters_plan}
@@ -10,13 +10,13 @@ use Rattle.bios_services.specs.Glyphs.{glyph_line}
 use Rattle.bios_screen.specs.Step.{pixel_cell, pixel_line, glyph_pixel, draw_characters}
 use Rattle.bios_screen.proofs.Base.Flat.{Edited, Turn, Leaves}
 use Rattle.bios_screen.proofs.Base.Edits.{edits}
-use Rattle.bios_services.specs.Bands.{band_by}
+use Rattle.bios_services.specs.Bands.{band_of_kind}
 use Rattle.bios_screen.proofs.Base.Tests.{of_run}
 use Rattle.bios_screen.proofs.Base.CellPlaces.{cell_of, line_of, strip_at, strip_of_cell, cell_of_strip, strip_within, pixel_cell_is, pixel_line_is}
 
 -- a band of one column of a page, in this kind of memory
 abbrev pub column_by : Kind → BiosData → ℕ → ℕ → Band
-column_by k d page left = band_by k d page left 1
+column_by k d page left = band_of_kind k d page left 1
 
 -- memory has each strip of eight pixels at some positions; pixel k is a shade of what is at the
 -- position that `dot` selects
@@ -56,13 +56,13 @@ module _ (row : ModeRow) (c : CardState) (d : BiosData) (wide : 0 < d.columns) (
   module _ (is : IsCanvas) (fonts : FontSet) (character : ℕ) (colouring : Colouring) (F : ℕ → D → X → X)
       (shaded : (k r : ℕ) (x : X) → shade (F r (dot k) x) k
       ≡ glyph_pixel d.mode colouring.colour (is_set (glyph_line fonts h character r) (7 - k % 8)) (shade x k))
-      (drawn : (q : ℕ) (y : CardState) (f : ℕ → X) → q < cells_of d → R y f
+      (drawn : (q : ℕ) (y : CardState) (f : ℕ → X) → q < cells_per_page d → R y f
       → Leaves CardState X R (run card_meaning (character_plan fonts d p q character colouring) y).0
       (Edited X Lines (λ x. at (strip_at w h q x.turn) x.place) (λ x. F x.turn x.place) f)) where
     abbrev AreDrawn : ℕ → ℕ → (ℕ → X) → Type 0
     AreDrawn q n f = Edited X (Cells n) (λ x. at (strip_at w h (q + x.turn) x.place.turn) x.place.place) (λ x. F x.place.turn x.place.place) old f
 
-    all_drawn : (q n : ℕ) → q + n ≤ cells_of d
+    all_drawn : (q n : ℕ) → q + n ≤ cells_per_page d
         → Leaves CardState X R (run card_meaning (characters_plan fonts d p q character colouring n) c).0 (AreDrawn q n)
     unfolding characters_plan
     all_drawn q n l =
@@ -76,7 +76,7 @@ module _ (row : ModeRow) (c : CardState) (d : BiosData) (wide : 0 < d.columns) (
         (λ i y f lb lo u. drawn (q + i) y f (omega arith) u)
         n 0 c old (omega arith) (omega arith) is.begins
 
-    pub characters_shown : (q n : ℕ) → q + n ≤ cells_of d → shown (run card_meaning (characters_plan fonts d p q character colouring n) c).0 d
+    pub characters_shown : (q n : ℕ) → q + n ≤ cells_per_page d → shown (run card_meaning (characters_plan fonts d p q character colouring n) c).0 d
         ≡ Some (with_pixels s p (draw_characters fonts s q n character colouring.colour))
     characters_shown q n l =
         let after = all_drawn q n l in

@@ -5,7 +5,7 @@ use Rattle.std.specs.Int.{bit_at}
 use Rattle.std.proofs.lemmas.Bool.{agree_below_at}
 use Rattle.std.proofs.lemmas.Bool.Decides.{nat_tests}
 use Rattle.std.proofs.lemmas.Nat.Bits.{bit_at-lt}
-use Rattle.vga_bits.specs.Bits.{byte_of}
+use Rattle.vga_bits.specs.Bits.{byte_of_bits}
 use Rattle.vga_bits.specs.Four.{Four, of_plane}
 use Rattle.vga_bits.proofs.FourLemmas.{by_plane}
 use Rattle.vga_host.specs.Memory.Write.{written_bit, combined_bit, written_byte}
@@ -59,11 +59,11 @@ by_eight P a b c d e f g h (suc (suc (suc (suc (suc (suc zero)))))) l = g
 by_eight P a b c d e f g h (suc (suc (suc (suc (suc (suc (suc zero))))))) l = h
 by_eight P a b c d e f g h (suc (suc (suc (suc (suc (suc (suc (suc j)))))))) l = absurd (omega arith)
 
-pub bit_of : (f : ℕ → ℕ) → ((i : ℕ) → f i < 2) → (j : ℕ) → j < 8 → bit_at (byte_of f) j ≡ f j
-unfolding byte_of
+pub bit_of : (f : ℕ → ℕ) → ((i : ℕ) → f i < 2) → (j : ℕ) → j < 8 → bit_at (byte_of_bits f) j ≡ f j
+unfolding byte_of_bits
 bit_of f h =
     let h0 = h 0 in let h1 = h 1 in let h2 = h 2 in let h3 = h 3 in let h4 = h 4 in let h5 = h 5 in let h6 = h 6 in let h7 = h 7 in
-    by_eight (λ j. bit_at (byte_of f) j ≡ f j) (omega arith) (omega arith) (omega arith) (omega arith) (omega arith) (omega arith) (omega arith) (omega arith)
+    by_eight (λ j. bit_at (byte_of_bits f) j ≡ f j) (omega arith) (omega arith) (omega arith) (omega arith) (omega arith) (omega arith) (omega arith) (omega arith)
 
 -- 80 shifted right by k has bit 7 - k set, and no other
 pub one_bit : (j k : ℕ) → j < 8 → k < 8 → (bit_at (0x80 / 2 ^ k) j == 0) ≡ (if 7 - k == j then false else true)

@@ -5,12 +5,12 @@ use Rattle.std.specs.Prelude.{◌==◌, if◌then◌else◌, bit_xor}
 use Rattle.std.specs.Int.{bit_at}
 use Rattle.std.proofs.lemmas.Bool.Decides.{nat_tests}
 use Rattle.std.proofs.lemmas.Nat.Bits.{bit_at-lt}
-use Rattle.bios_screen.proofs.Prelude.{is_set, Four, card_meaning, CardState, graphics, Plan, run, put, get, each, ◌>>◌}
-use Rattle.vga_bits.specs.Bits.{byte_of}
-use Rattle.vga_bits.specs.Four.{four, of_plane}
+use Rattle.bios_screen.proofs.Prelude.{is_set, Four, card_meaning, CardState, write_graphics, Plan, run, put, get, each, ◌>>◌}
+use Rattle.vga_bits.specs.Bits.{byte_of_bits}
+use Rattle.vga_bits.specs.Four.{four_by_plane, of_plane}
 use Rattle.vga_host.specs.Memory.Write.{written_bit, combined_bit}
-use Rattle.bios_services.specs.Cycles.{sequencer}
-use Rattle.bios_services.specs.Drawing.{put_over}
+use Rattle.bios_services.specs.Cycles.{write_sequencer}
+use Rattle.bios_services.specs.Drawing.{put_over_latches}
 use Rattle.bios_screen.proofs.Base.Flat.{Edited, Turn, Leaves, set_cell}
 use Rattle.bios_screen.proofs.Base.Edits.{one_edit, edited_twice, edits}
 use Rattle.bios_screen.proofs.Base.Plans.{run_bind}
@@ -21,18 +21,18 @@ use Rattle.bios_screen.proofs.Planar.Bits.{nibble, same_nibble, nibble_of, low_i
 
 -- a byte built from its bits, as a Put stores it
 abbrev pub byte : ℕ → ℕ
-byte v = byte_of (bit_at v)
+byte v = byte_of_bits (bit_at v)
 
 -- a byte is stored in the planes of a mask, and the other planes stay
 abbrev pub put_in_planes : ℕ → ℕ → Four ℕ → Four ℕ
-put_in_planes mask v old = four (λ p. if is_set mask p then byte v else of_plane old p)
+put_in_planes mask v old = four_by_plane (λ p. if is_set mask p then byte v else of_plane old p)
 
 -- the XOR of two bytes, and of a byte with each plane of a mask
 abbrev xor_byte : ℕ → ℕ → ℕ
-xor_byte a b = byte_of (λ i. (bit_at a i + bit_at b i) % 2)
+xor_byte a b = byte_of_bits (λ i. (bit_at a i + bit_at b i) % 2)
 
 abbrev pub turned : ℕ → ℕ → Four ℕ → Four ℕ
-turned mask v old = four (λ p. if is_set mask p then xor_byte v (of_plane old p) else of_plane old p)
+turned mask v old = four_by_plane (λ p. if is_set mask p then xor_byte v (of_plane old p) else of_plane old p)
 
 -- the planes after a line of a glyph: by XOR, or opaque over zeros
 abbrev pub lined : Bool → ℕ → ℕ → Four ℕ → Four ℕ
@@ -121,22 +121,22 @@ abbrev pub lines_plan : (ℕ → ℕ) → (ℕ → ℕ) → ℕ → Plan (Unit {
 lines_plan at g n = each (λ r. put (at r) (g r)) n 0
 
 abbrev pub turns_plan : (ℕ → ℕ) → (ℕ → ℕ) → ℕ → Plan (Unit {0})
-turns_plan at g n = each (λ r. put_over (at r) (g r)) n 0
+turns_plan at g n = each (λ r. put_over_latches (at r) (g r)) n 0
 
 abbrev pub opaque_by : (ℕ → ℕ) → (ℕ → ℕ) → ℕ → ℕ → Plan (Unit {0})
 opaque_by at g n mask = do
   lines_plan at (λ r. 0x00) n
-  sequencer 2 mask
+  write_sequencer 2 mask
   lines_plan at g n
-  sequencer 2 0x0F
+  write_sequencer 2 0x0F
 
 abbrev pub turned_by : (ℕ → ℕ) → (ℕ → ℕ) → ℕ → ℕ → Plan (Unit {0})
 turned_by at g n mask = do
-  graphics 3 0x18
-  sequencer 2 mask
+  write_graphics 3 0x18
+  write_sequencer 2 mask
   turns_plan at g n
-  sequencer 2 0x0F
-  graphics 3 0x00
+  write_sequencer 2 0x0F
+  write_graphics 3 0x00
 
 abbrev pub glyph_by : Bool → (ℕ → ℕ) → (ℕ → ℕ) → ℕ → ℕ → Plan (Unit {0})
 glyph_by b at g n mask = if b then turned_by at g n mask else opaque_by at g n mask
@@ -148,11 +148,11 @@ module _ (rest : CardState) (e d : ℕ) (on : is_set e 1 ≡ true) (at : ℕ →
 
   -- what a Put stores in each of the settings
   stores_byte : (v mask : ℕ) (q old : Four ℕ) → stored (drawing e d (opaque mask)) mask v q old ≡ put_in_planes mask v old
-  unfolding byte_of written_bit combined_bit
+  unfolding byte_of_bits written_bit combined_bit
   stores_byte v mask q old = refl
 
   by_xor : (mask v : ℕ) (q : Four ℕ) → stored (drawing e d (turning mask)) mask v q q ≡ turned mask v q
-  unfolding byte_of written_bit combined_bit
+  unfolding byte_of_bits written_bit combined_bit
   by_xor mask v q = refl
 
   lines_put : (mask : ℕ) (g : ℕ → ℕ) (c : CardState) (f : ℕ → Four ℕ) → Drawn rest e d (opaque mask) c f →
@@ -176,7 +176,7 @@ module _ (rest : CardState) (e d : ℕ) (on : is_set e 1 ≡ true) (at : ℕ →
       Leaves CardState (Four ℕ) (Drawn rest e d (turning mask)) (run card_meaning (turns_plan (λ r. 0xA0000 + at r) g height) c).0
       (Edited (Four ℕ) Line (λ h. at h.turn) (λ h x. turned mask (g h.turn) x) f)
   lines_turned mask g c f t =
-      edits CardState (Four ℕ) card_meaning (λ r. put_over (0xA0000 + at r) (g r)) (λ _. Drawn rest e d (turning mask)) 0 height (λ _. Unit {0}) (λ r _. at r)
+      edits CardState (Four ℕ) card_meaning (λ r. put_over_latches (0xA0000 + at r) (g r)) (λ _. Drawn rest e d (turning mask)) 0 height (λ _. Unit {0}) (λ r _. at r)
       (λ r _ x. turned mask (g r) x)
       (λ j k _ _ lb lo hi. apart j k lo hi)
       (λ r s x lb l u.
@@ -201,10 +201,10 @@ module _ (rest : CardState) (e d : ℕ) (on : is_set e 1 ≡ true) (at : ℕ →
   glyph_drawn false mask g c f lm t =
       let p1 = lines_plan (λ r. 0xA0000 + at r) (λ r. 0x00) height in
       let p3 = lines_plan (λ r. 0xA0000 + at r) g height in
-      let p4 = sequencer 2 0x0F in
+      let p4 = write_sequencer 2 0x0F in
       let c1 = (run card_meaning p1 c).0 in
       let m1 = lines_put 0x0F (λ r. 0x00) c f t in
-      let c2 = (run card_meaning (sequencer 2 mask) c1).0 in
+      let c2 = (run card_meaning (write_sequencer 2 mask) c1).0 in
       let m2 : Drawn rest e d (opaque mask) c2 m1.cells = record {
         latches = m1.shown.latches;
         is = mask_set rest e d mask (opaque 0x0F) m1.shown.latches c1 m1.cells lm m1.shown.is;
@@ -216,25 +216,25 @@ module _ (rest : CardState) (e d : ℕ) (on : is_set e 1 ≡ true) (at : ℕ →
         shown = record { latches = m3.shown.latches; is = mask_set rest e d 0x0F (opaque mask) m3.shown.latches c3 m3.cells (omega arith) m3.shown.is };
         fact = edited_twice (λ (h : Line). at h.turn) (λ h x. put_in_planes 0x0F 0x00 x) (λ h x. put_in_planes mask (g h.turn) x) f m1.cells m3.cells m1.fact m3.fact;
       } in
-      let e1 = run_bind card_meaning p1 (λ _. sequencer 2 mask >> (p3 >> p4)) c in
+      let e1 = run_bind card_meaning p1 (λ _. write_sequencer 2 mask >> (p3 >> p4)) c in
       let e2 = run_bind card_meaning p3 (λ _. p4) c2 in
       subst (λ r. Leaves CardState (Four ℕ) (Drawn rest e d at_rest) r.0 (Lined false g mask f)) (sym (e1 ∙ e2)) all
   glyph_drawn true mask g c f lm t =
       let h1 : Hand = record at_rest { turn = 0x18 } in
       let p3 = turns_plan (λ r. 0xA0000 + at r) g height in
-      let c1 = (run card_meaning (graphics 3 0x18) c).0 in
+      let c1 = (run card_meaning (write_graphics 3 0x18) c).0 in
       let t1 = function_set rest e d 0x18 at_rest t.latches c f refl t.is in
-      let c2 = (run card_meaning (sequencer 2 mask) c1).0 in
+      let c2 = (run card_meaning (write_sequencer 2 mask) c1).0 in
       let t2 = mask_set rest e d mask h1 t.latches c1 f lm t1 in
       let m3 = lines_turned mask g c2 f (record { latches = t.latches; is = t2 }) in
       let c3 = (run card_meaning p3 c2).0 in
       let q = m3.shown.latches in
-      let c4 = (run card_meaning (sequencer 2 0x0F) c3).0 in
+      let c4 = (run card_meaning (write_sequencer 2 0x0F) c3).0 in
       let t4 = mask_set rest e d 0x0F (turning mask) q c3 m3.cells (omega arith) m3.shown.is in
-      let all : Leaves CardState (Four ℕ) (Drawn rest e d at_rest) (run card_meaning (graphics 3 0x00) c4).0 (Lined true g mask f) = record {
+      let all : Leaves CardState (Four ℕ) (Drawn rest e d at_rest) (run card_meaning (write_graphics 3 0x00) c4).0 (Lined true g mask f) = record {
         cells = m3.cells;
         shown = record { latches = q; is = function_set rest e d 0x00 h1 q c4 m3.cells refl t4 };
         fact = m3.fact;
       } in
-      let e1 = run_bind card_meaning p3 (λ _. sequencer 2 0x0F >> graphics 3 0x00) c2 in
+      let e1 = run_bind card_meaning p3 (λ _. write_sequencer 2 0x0F >> write_graphics 3 0x00) c2 in
       subst (λ r. Leaves CardState (Four ℕ) (Drawn rest e d at_rest) r.0 (Lined true g mask f)) (sym e1) all

@@ -3,9 +3,9 @@ use Rattle.std.proofs.Common.{◌≡◌, ◌≢◌, ℕ, ◌+◌, ◌*◌, ◌/�
 use Rattle.std.specs.Prelude.{slice_index, bit_and, ◌==◌, if◌then◌else◌}
 use Rattle.std.proofs.lemmas.Bool.{cases_eq, agree_below_at}
 use Rattle.std.proofs.lemmas.Bool.Decides.{nat_tests}
-use Rattle.bios_screen.proofs.Prelude.{is_set, Four, bytes_at, IsCard, card_meaning, CardState, ModeRow, BiosData, graphics, Plan, run, put, get, Done, ◌>>=◌}
+use Rattle.bios_screen.proofs.Prelude.{is_set, Four, bytes_at, IsCard, card_meaning, CardState, ModeRow, BiosData, write_graphics, Plan, run, put, get, Done, ◌>>=◌}
 use Rattle.bios_screen.proofs.Prelude.{◌>>◌, Screen, page_pixels, pixel_screen, shown, pixel_of, with_pixels}
-use Rattle.bios_services.specs.Pixels.{pixel_address, write_dot_plan, write_pixel_plan}
+use Rattle.bios_services.specs.Pixels.{pixel_address, write_planar_pixel_plan, write_pixel_plan}
 use Rattle.bios_screen.specs.Step.{pixel_number, colour_over, change_pixel}
 use Rattle.bios_screen.proofs.Base.Flat.{set_cell, set_same, set_other}
 use Rattle.bios_screen.proofs.Base.Plans.{then_runs}
@@ -21,7 +21,7 @@ mask_kept k l = let t = agree_below_at (λ k. bit_and (0x80 / 2 ^ k) 0xFF == 0x8
 
 -- function and rotate is written only if bit 7 of the colour asks for XOR, before and after
 abbrev turn_plan : Bool → ℕ → Plan (Unit {0})
-turn_plan b v = if b then graphics 3 v else Done tt
+turn_plan b v = if b then write_graphics 3 v else Done tt
 
 turn_begun : (rest : CardState) (e d : ℕ) (h : Hand) (q : Four ℕ) (c : CardState) (f : ℕ → Four ℕ) (b : Bool) →
     Loaded rest e d (record h { turn = 0x00 }) c f q →
@@ -38,14 +38,14 @@ turn_ended rest e d h q c f false t = t
 -- the plan, if bit 7 of the colour is known
 abbrev dot_plan : Bool → ℕ → ℕ → ℕ → Plan (Unit {0})
 dot_plan b address k v = do
-  graphics 8 (0x80 / 2 ^ k)
+  write_graphics 8 (0x80 / 2 ^ k)
   turn_plan b 0x18
   get address
-  graphics 5 0x02
+  write_graphics 5 0x02
   put address v
-  graphics 5 0x00
+  write_graphics 5 0x00
   turn_plan b 0x00
-  graphics 8 0xFF
+  write_graphics 8 0xFF
 
 -- the four bytes at offset a are new, and only their pixel k has changed
 record IsDotted (rest : CardState) (e d a k : ℕ) (change : ℕ → ℕ) (y : CardState) (f : ℕ → Four ℕ) : Type 0 where
@@ -61,23 +61,23 @@ dot_drawn rest e d a k v b q c f on la lk t =
     let h1 : Hand = record h0 { turn = if b then 0x18 else 0x00 } in
     let begin : Plan (Unit {0}) = turn_plan b 0x18 in
     let end : Plan (Unit {0}) = turn_plan b 0x00 in
-    let c0 = (run card_meaning (graphics 8 bits) c).0 in
+    let c0 = (run card_meaning (write_graphics 8 bits) c).0 in
     let t0 = bits_set rest e d bits at_rest q c f (mask_kept k lk) t in
     let c1 = (run card_meaning begin c0).0 in
     let t1 = turn_begun rest e d h0 q c0 f b t0 in
     let c2 = (run card_meaning (get (0xA0000 + a)) c1).0 in
     let t2 = get_loads rest e d a h1 q c1 f on t1 la in
-    let c3 = (run card_meaning (graphics 5 0x02) c2).0 in
+    let c3 = (run card_meaning (write_graphics 5 0x02) c2).0 in
     let t3 = mode_set rest e d 0x02 h1 (f a) c2 f refl refl t2 in
     let c4 = (run card_meaning (put (0xA0000 + a) v) c3).0 in
     let new = stored (drawing e d (dot_hand b k)) 0x0F v (f a) (f a) in
     let t4 = put_draws rest e d a v (dot_hand b k) (f a) c3 f on t3 la in
-    let c5 = (run card_meaning (graphics 5 0x00) c4).0 in
+    let c5 = (run card_meaning (write_graphics 5 0x00) c4).0 in
     let t5 = mode_set rest e d 0x00 (dot_hand b k) (f a) c4 (set_cell f a new) refl refl t4 in
     let c6 = (run card_meaning end c5).0 in
     let t6 = turn_ended rest e d h0 (f a) c5 (set_cell f a new) b t5 in
-    let last : Plan (Unit {0}) = graphics 8 0xFF in
-    let runs = then_runs begin (get (0xA0000 + a) >>= λ _. graphics 5 0x02 >> (put (0xA0000 + a) v >> (graphics 5 0x00 >> (end >> last)))) c0
+    let last : Plan (Unit {0}) = write_graphics 8 0xFF in
+    let runs = then_runs begin (get (0xA0000 + a) >>= λ _. write_graphics 5 0x02 >> (put (0xA0000 + a) v >> (write_graphics 5 0x00 >> (end >> last)))) c0
     ∙ then_runs end last c5 in
     record {
       new = new;
@@ -85,8 +85,8 @@ dot_drawn rest e d a k v b q c f on la lk t =
       pixel = λ i li. pixel_dotted b e d k v i (f a) lk li;
     }
 
-plan_is : (address x v : ℕ) → write_dot_plan address x v ≡ dot_plan (is_set v 7) address (x % 8) v
-unfolding write_dot_plan
+plan_is : (address x v : ℕ) → write_planar_pixel_plan address x v ≡ dot_plan (is_set v 7) address (x % 8) v
+unfolding write_planar_pixel_plan
 plan_is address x v = refl
 
 -- two pixels of the same byte are equal exactly if their positions in it are
@@ -132,8 +132,8 @@ module _ (row : ModeRow) (c : CardState) (d : BiosData) (t : IsPlanar row c d) (
   write_is : (p x y v : ℕ) → write_pixel_plan d p x y v ≡ dot_plan (is_set v 7) (0xA0000 + (d.size * p + pixel_number s x y / 8)) (x % 8) v
   unfolding write_pixel_plan
   write_is p x y v =
-      ap (λ b. let q : Plan (Unit {0}) = (if b then put (pixel_address d p x y) v else write_dot_plan (pixel_address d p x y) x v) in q) t.packed
-      ∙ ap (λ a. write_dot_plan a x v) (reads.address_is row c d t z p x y)
+      ap (λ b. let q : Plan (Unit {0}) = (if b then put (pixel_address d p x y) v else write_planar_pixel_plan (pixel_address d p x y) x v) in q) t.packed
+      ∙ ap (λ a. write_planar_pixel_plan a x v) (reads.address_is row c d t z p x y)
       ∙ plan_is (0xA0000 + (d.size * p + pixel_number s x y / 8)) x v
 
   -- drawing the colour changes a pixel as it does on the screen

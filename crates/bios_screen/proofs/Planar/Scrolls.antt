@@ -4,10 +4,10 @@ use Rattle.std.specs.Prelude.{slice_index, ◌==◌, if◌then◌else◌}
 use Rattle.bios_screen.proofs.Prelude.{Four, bytes_at, IsCard, card_meaning, CardState, ModeRow, BiosData, Band, Planar, Direction, Up, Down, Window, run}
 use Rattle.bios_screen.proofs.Prelude.{Screen, page_pixels, pixel_screen, shown, pixel_of}
 use Rattle.vga_bits.proofs.BitLemmas.{ones_byte}
-use Rattle.bios_services.specs.Bands.{band_of, scroll_rows, band_by}
+use Rattle.bios_services.specs.Bands.{band_of, scroll_rows, band_of_kind}
 use Rattle.bios_services.specs.Cells.{page_address}
-use Rattle.bios_services.specs.Scroll.{IsOnPage, window_plan}
-use Rattle.bios_screen.specs.Step.{pixel_row, pixel_column, in_window, has_source, source, row_pixels, fill_pixel, scroll_pixels, scroll_window}
+use Rattle.bios_services.specs.Scroll.{IsOnPage, scroll_window_plan}
+use Rattle.bios_screen.specs.Step.{pixel_row, pixel_column, is_in_window, has_source_row, source_number, row_pixels, fill_pixel, scroll_pixels, scroll_window}
 use Rattle.bios_screen.proofs.Base.Tests.{le_is}
 use Rattle.bios_screen.proofs.Base.Windows.{inside_of, by_both_tests}
 use Rattle.bios_screen.proofs.Base.Bands.{IsWindow}
@@ -48,7 +48,7 @@ module _ (row : ModeRow) (c : CardState) (d : BiosData) (t : IsPlanar row c d) (
   band_is : band_of d p w.left w.width ≡ band
   band_is =
       let once : (x : ℕ) → 1 * x ≡ x = λ x. omega arith in
-      ap (λ k. band_by k d p w.left w.width) t.kind ∙ ap band_with (λ j x. once x j)
+      ap (λ k. band_of_kind k d p w.left w.width) t.kind ∙ ap band_with (λ j x. once x j)
 
   abbrev window : IsWindow 0xA0000 65536 band start rows w
   window = record {
@@ -79,16 +79,16 @@ module _ (row : ModeRow) (c : CardState) (d : BiosData) (t : IsPlanar row c d) (
   strip_row : (k : ℕ) → pixel_row s k ≡ k / 8 / W / H
   strip_row k = ap (λ x. x / H) (line_by_8 W k window.wide)
 
-  strip_test : (k : ℕ) → in_window w (k / 8 / W / H) (k / 8 % W / 1) ≡ in_window w (pixel_row s k) (pixel_column s k)
+  strip_test : (k : ℕ) → is_in_window w (k / 8 / W / H) (k / 8 % W / 1) ≡ is_in_window w (pixel_row s k) (pixel_column s k)
   strip_test k =
       let one : k / 8 % W / 1 ≡ k / 8 % W = omega arith in
-      ap (in_window w (k / 8 / W / H)) (one ∙ sym (column_by_8 W k window.wide)) ∙ ap (λ r. in_window w r (pixel_column s k)) (sym (strip_row k))
+      ap (is_in_window w (k / 8 / W / H)) (one ∙ sym (column_by_8 W k window.wide)) ∙ ap (λ r. is_in_window w r (pixel_column s k)) (sym (strip_row k))
 
   -- a byte outside the page is no strip of the window
-  no_other : (o : ℕ) → (o < d.size * p) ⊎ (d.size * p + d.size ≤ o) → (b : ℕ) → start + b ≡ o → in_window w (b / W / H) (b % W / 1) ≡ false
-  no_other o out b q = by_test (in_window w (b / W / H) (b % W / 1)) refl
+  no_other : (o : ℕ) → (o < d.size * p) ⊎ (d.size * p + d.size ≤ o) → (b : ℕ) → start + b ≡ o → is_in_window w (b / W / H) (b % W / 1) ≡ false
+  no_other o out b q = by_test (is_in_window w (b / W / H) (b % W / 1)) refl
     where
-      by_test : (u : Bool) → in_window w (b / W / H) (b % W / 1) ≡ u → u ≡ false
+      by_test : (u : Bool) → is_in_window w (b / W / H) (b % W / 1) ≡ u → u ≡ false
       by_test false u = refl
       by_test true u =
           let l = (inside_of w (b / W / H) (b % W / 1) u).below in
@@ -98,10 +98,10 @@ module _ (row : ModeRow) (c : CardState) (d : BiosData) (t : IsPlanar row c d) (
 
   -- the strip of the pixel whose value pixel k gets, and the position in it
   record IsTaken (way : Direction) (k : ℕ) : Type 0 where
-    strip : source way k (row_pixels s n) / 8 ≡ source way (k / 8) (W * (H * n))
-    dot : source way k (row_pixels s n) % 8 ≡ k % 8
+    strip : source_number way k (row_pixels s n) / 8 ≡ source_number way (k / 8) (W * (H * n))
+    dot : source_number way k (row_pixels s n) % 8 ≡ k % 8
 
-  source_of_dot : (way : Direction) (k : ℕ) → has_source way w n (k / 8 / W / H) ≡ true → IsTaken way k
+  source_of_dot : (way : Direction) (k : ℕ) → has_source_row way w n (k / 8 / W / H) ≡ true → IsTaken way k
   source_of_dot Up k u = let whole : 8 * W * (H * n) ≡ 8 * (W * (H * n)) = omega arith in record { strip = omega arith; dot = omega arith }
   source_of_dot Down k u =
       let l = le_is (w.top + n) (k / 8 / W / H) u in
@@ -125,9 +125,9 @@ module _ (row : ModeRow) (c : CardState) (d : BiosData) (t : IsPlanar row c d) (
       let line = pixel_row s k in
       let column = pixel_column s k in
       let j = k % 8 in
-      let far = source direction k (row_pixels s n) in
-      let tested = ap (has_source direction w n) (sym (strip_row k)) in
-      by_both_tests (in_window w line column) (has_source direction w n line) (nibble_of (f (start + k / 8)) j) (pixel_of s p far) (fill_pixel d.mode colour)
+      let far = source_number direction k (row_pixels s n) in
+      let tested = ap (has_source_row direction w n) (sym (strip_row k)) in
+      by_both_tests (is_in_window w line column) (has_source_row direction w n line) (nibble_of (f (start + k / 8)) j) (pixel_of s p far) (fill_pixel d.mode colour)
       (pixel_of s p k)
       (λ u v.
       let same = tested ∙ v in
@@ -138,14 +138,14 @@ module _ (row : ModeRow) (c : CardState) (d : BiosData) (t : IsPlanar row c d) (
       let less : far < page_pixels d = omega arith in
       ap (λ (y : Four ℕ). nibble_of y j) (is.moved (k / 8) (strip_test k ∙ u) same)
       ∙ sym (screens.pixel_is row c d t z p far lp less ∙ ap (λ y. nibble_of (old (start + y)) (far % 8)) x.strip
-      ∙ ap (nibble_of (old (start + source direction (k / 8) (W * (H * n))))) x.dot))
+      ∙ ap (nibble_of (old (start + source_number direction (k / 8) (W * (H * n))))) x.dot))
       (λ u v. filled j (k / 8) (f (start + k / 8)) (omega arith) (is.filled (k / 8) (strip_test k ∙ u) (tested ∙ v)))
       (λ u.
       ap (λ (y : Four ℕ). nibble_of y j) (is.outside (start + k / 8) (λ b q. let same : k / 8 ≡ b = omega arith in
-      subst (λ i. in_window w (i / W / H) (i % W / 1) ≡ false) same (strip_test k ∙ u)))
+      subst (λ i. is_in_window w (i / W / H) (i % W / 1) ≡ false) same (strip_test k ∙ u)))
       ∙ sym (screens.pixel_is row c d t z p k lp lk))
 
-  pub window_shown : 0 < n → n ≤ w.height → shown (run card_meaning (window_plan d p w direction n colour) c).0 d
+  pub window_shown : 0 < n → n ≤ w.height → shown (run card_meaning (scroll_window_plan d p w direction n colour) c).0 d
       ≡ Some (scroll_window s p w direction n colour)
   window_shown some few =
       let done = windows.scrolls (without_host c) row.misc (slice_index row.sequencer 1) t.enabled (page_address d p) W H w.left

@@ -5,16 +5,16 @@ use Rattle.std.specs.Prelude.{slice_index, slice_set, ◌==◌, ◌&&◌, if◌t
 use Rattle.std.proofs.lemmas.Bool.{cases_eq, agree_below_at}
 use Rattle.std.proofs.lemmas.Bool.Decides.{nat_tests}
 use Rattle.std.proofs.lemmas.List.{get_or-set_same, get_or-set_other}
-use Rattle.bios_screen.proofs.Prelude.{is_set, Four, bytes_at, HostState, IsCard, card_meaning, CardState, Plan, run, put, get, graphics}
-use Rattle.vga_bits.specs.Four.{four, of_plane}
+use Rattle.bios_screen.proofs.Prelude.{is_set, Four, bytes_at, HostState, IsCard, card_meaning, CardState, Plan, run, put, get, write_graphics}
+use Rattle.vga_bits.specs.Four.{four_by_plane, of_plane}
 use Rattle.vga_bits.proofs.FourLemmas.{by_plane, same_four}
 use Rattle.vga_host.specs.Memory.Address.{is_decoded, window_offset}
 use Rattle.vga_host.specs.Memory.Write.{written_bit, combined_bit, written_byte, memory_after_put}
 use Rattle.vga_host.specs.Memory.Read.{loaded}
 use Rattle.vga_card.specs.Port.{port_of}
 use Rattle.vga_card.specs.Adapter.{adapter_of}
-use Rattle.vga_card.specs.Cycles.{written, unless_refused, out_reached}
-use Rattle.bios_services.specs.Cycles.{sequencer}
+use Rattle.vga_card.specs.Cycles.{card_after_write, unless_refused, out_reached}
+use Rattle.bios_services.specs.Cycles.{write_sequencer}
 use Rattle.bios_screen.proofs.Base.Flat.{set_cell, set_same, set_other}
 use Rattle.bios_services.proofs.CardLemmas.{plan_bounds}
 use Rattle.bios_screen.proofs.Base.Setting.{Setting, setting, host_at, with_memory, reached, offset_is, put_decoded, get_decoded}
@@ -39,18 +39,18 @@ drawing misc clocking h = record {
 
 -- a host path without memory: registers and latches decide what a write stores
 abbrev pub bare : Setting → Four ℕ → HostState
-bare s latches = record { memory = four (λ p. []); latches = latches; seq = s.seq; gfx = s.gfx; seq_index = 0; gfx_index = 0 }
+bare s latches = record { memory = four_by_plane (λ p. []); latches = latches; seq = s.seq; gfx = s.gfx; seq_index = 0; gfx_index = 0 }
 
 -- the byte of each plane after a Put of v under a map mask, with these latches
 abbrev stored_in : Setting → ℕ → ℕ → Four ℕ → Four ℕ → ℕ → ℕ
 stored_in s mask v latches old p = if is_set mask p then written_byte (bare s latches) v p else of_plane old p
 
 abbrev pub stored : Setting → ℕ → ℕ → Four ℕ → Four ℕ → Four ℕ
-stored s mask v latches old = four (stored_in s mask v latches old)
+stored s mask v latches old = four_by_plane (stored_in s mask v latches old)
 
 -- all of an adapter except what drawing changes
 abbrev pub without_host : CardState → CardState
-without_host c = record c { host = record { memory = four (λ p. []); latches = four (λ p. 0); seq = []; gfx = []; seq_index = 0; gfx_index = 0 } }
+without_host c = record c { host = record { memory = four_by_plane (λ p. []); latches = four_by_plane (λ p. 0); seq = []; gfx = []; seq_index = 0; gfx_index = 0 } }
 
 -- the adapter is in this setting, its four planes are the cells f, and its latches are q
 pub record Loaded (rest : CardState) (misc clocking : ℕ) (h : Hand) (c : CardState) (f : ℕ → Four ℕ) (q : Four ℕ) : Type 0 where
@@ -91,7 +91,7 @@ four_put m a t0 t1 t2 t3 x0 x1 x2 x3 = record {
 
 -- the memory after a Put
 abbrev drawn_memory : Four (List ℕ) → Setting → ℕ → ℕ → ℕ → Four ℕ → Four (List ℕ)
-drawn_memory m s mask a v q = four (λ p. plane_put (is_set mask p) (of_plane m p) a (written_byte (bare s q) v p))
+drawn_memory m s mask a v q = four_by_plane (λ p. plane_put (is_set mask p) (of_plane m p) a (written_byte (bare s q) v p))
 
 memory_is : (h : HostState) (e d a v : ℕ) (k : Hand) → memory_after_put (host_at h (drawing e d k)) a v
     ≡ drawn_memory h.memory (drawing e d k) k.mask a v h.latches
@@ -204,35 +204,35 @@ with_gfx i v s = record s { gfx = slice_set s.gfx i v }
 
 -- the map mask is set
 pub mask_set : (rest : CardState) (e d m : ℕ) (k : Hand) (q : Four ℕ) (c : CardState) (f : ℕ → Four ℕ) → m < 16 → Loaded rest e d k c f q →
-    Loaded rest e d (record k { mask = m }) (run card_meaning (sequencer 2 m) c).0 f q
+    Loaded rest e d (record k { mask = m }) (run card_meaning (write_sequencer 2 m) c).0 f q
 unfolding port_of out_reached
 mask_set rest e d m k q c f l t =
-    hand_set rest e d k (record k { mask = m }) q c f (sequencer 2 m) (slice_set c.host.seq 2 (bit_and m 0x0F)) c.host.gfx 2 c.host.gfx_index refl
+    hand_set rest e d k (record k { mask = m }) q c f (write_sequencer 2 m) (slice_set c.host.seq 2 (bit_and m 0x0F)) c.host.gfx 2 c.host.gfx_index refl
     (ap (with_seq 2 (bit_and m 0x0F)) t.mode ∙ ap (λ x. drawing e d (record k { mask = x })) (and_15 m l)) t
 
 -- the function and the rotation are set
 pub function_set : (rest : CardState) (e d v : ℕ) (k : Hand) (q : Four ℕ) (c : CardState) (f : ℕ → Four ℕ) → bit_and v 0x1F ≡ v →
-    Loaded rest e d k c f q → Loaded rest e d (record k { turn = v }) (run card_meaning (graphics 3 v) c).0 f q
+    Loaded rest e d k c f q → Loaded rest e d (record k { turn = v }) (run card_meaning (write_graphics 3 v) c).0 f q
 unfolding port_of out_reached
 function_set rest e d v k q c f l t =
-    hand_set rest e d k (record k { turn = v }) q c f (graphics 3 v) c.host.seq (slice_set c.host.gfx 3 (bit_and v 0x1F)) c.host.seq_index 3 refl
+    hand_set rest e d k (record k { turn = v }) q c f (write_graphics 3 v) c.host.seq (slice_set c.host.gfx 3 (bit_and v 0x1F)) c.host.seq_index 3 refl
     (ap (with_gfx 3 (bit_and v 0x1F)) t.mode ∙ ap (λ x. drawing e d (record k { turn = x })) l) t
 
 -- read mode and write mode are set; bit 5 must be 0, for it is refused
 pub mode_set : (rest : CardState) (e d v : ℕ) (k : Hand) (q : Four ℕ) (c : CardState) (f : ℕ → Four ℕ) → bit_and v 0x7B ≡ v →
-    is_set v 5 ≡ false → Loaded rest e d k c f q → Loaded rest e d (record k { mode = v }) (run card_meaning (graphics 5 v) c).0 f q
+    is_set v 5 ≡ false → Loaded rest e d k c f q → Loaded rest e d (record k { mode = v }) (run card_meaning (write_graphics 5 v) c).0 f q
 unfolding port_of out_reached
 mode_set rest e d v k q c f l b t =
     let index : CardState = record c { host = record c.host { gfx_index = 5 } } in
     let next = record (adapter_of index) { host = record index.host { gfx = slice_set c.host.gfx 5 (bit_and v 0x7B) } } in
-    hand_set rest e d k (record k { mode = v }) q c f (graphics 5 v) c.host.seq (slice_set c.host.gfx 5 (bit_and v 0x7B)) c.host.seq_index 5
-    (ap (λ y. (written index (unless_refused y next)).0) b)
+    hand_set rest e d k (record k { mode = v }) q c f (write_graphics 5 v) c.host.seq (slice_set c.host.gfx 5 (bit_and v 0x7B)) c.host.seq_index 5
+    (ap (λ y. (card_after_write index (unless_refused y next)).0) b)
     (ap (with_gfx 5 (bit_and v 0x7B)) t.mode ∙ ap (λ x. drawing e d (record k { mode = x })) l) t
 
 -- the bit mask is set
 pub bits_set : (rest : CardState) (e d v : ℕ) (k : Hand) (q : Four ℕ) (c : CardState) (f : ℕ → Four ℕ) → bit_and v 0xFF ≡ v →
-    Loaded rest e d k c f q → Loaded rest e d (record k { bits = v }) (run card_meaning (graphics 8 v) c).0 f q
+    Loaded rest e d k c f q → Loaded rest e d (record k { bits = v }) (run card_meaning (write_graphics 8 v) c).0 f q
 unfolding port_of out_reached
 bits_set rest e d v k q c f l t =
-    hand_set rest e d k (record k { bits = v }) q c f (graphics 8 v) c.host.seq (slice_set c.host.gfx 8 (bit_and v 0xFF)) c.host.seq_index 8 refl
+    hand_set rest e d k (record k { bits = v }) q c f (write_graphics 8 v) c.host.seq (slice_set c.host.gfx 8 (bit_and v 0xFF)) c.host.seq_index 8 refl
     (ap (with_gfx 8 (bit_and v 0xFF)) t.mode ∙ ap (λ x. drawing e d (record k { bits = x })) l) t

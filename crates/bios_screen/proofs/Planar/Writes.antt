@@ -1,10 +1,10 @@
 -- Writing a run of characters in sixteen colours, from one screen to the next.
 use Rattle.std.proofs.Common.{◌≡◌, ℕ, ◌+◌, ◌-◌, ◌*◌, ◌/◌, ◌%◌, ◌<◌, ◌≤◌, ⊎_elim, refl, sym, ap, ◌∙◌, subst, arith, Some, Bool}
 use Rattle.std.specs.Prelude.{slice_index, ◌==◌, ◌&&◌, nat_le, nat_lt, min, not, if◌then◌else◌}
-use Rattle.bios_screen.proofs.Prelude.{is_set, Four, bytes_at, IsCard, card_meaning, CardState, ModeRow, BiosData, FontSet, Band, Colouring, Planar, cells_of}
+use Rattle.bios_screen.proofs.Prelude.{is_set, Four, bytes_at, IsCard, card_meaning, CardState, ModeRow, BiosData, FontSet, Band, Colouring, Planar, cells_per_page}
 use Rattle.bios_screen.proofs.Prelude.{run, Screen, pixel_screen, shown}
-use Rattle.bios_services.specs.Bands.{address_in, fill_line, fill_row}
-use Rattle.bios_services.specs.Drawing.{put_glyph, put_glyph_over, opaque_plan, xor_plan, planar_plan, character_by, character_plan, characters_plan}
+use Rattle.bios_services.specs.Bands.{byte_address_in_band, fill_line, fill_row}
+use Rattle.bios_services.specs.Drawing.{put_glyph, put_glyph_over, draw_over_zeros_plan, draw_by_xor_plan, draw_planar_plan, character_plan_of_kind, character_plan, characters_plan}
 use Rattle.bios_services.specs.Glyphs.{glyph_line}
 use Rattle.bios_screen.specs.Step.{glyph_pixel, put_characters}
 use Rattle.bios_screen.proofs.Base.Flat.{Edited, Turn, Leaves}
@@ -27,9 +27,9 @@ address_sum start w h row r left =
     sum n = omega arith
 
 -- the plan of a band that is one byte wide
-plan_is : (band : Band) (row : ℕ) (fonts : FontSet) (character colour : ℕ) → planar_plan (record band { width = 1 }) row fonts character colour
-    ≡ glyph_by (is_set colour 7) (λ r. address_in band row r 0) (glyph_line fonts band.lines character) band.lines (colour % 16)
-unfolding planar_plan opaque_plan xor_plan put_glyph put_glyph_over fill_row fill_line
+plan_is : (band : Band) (row : ℕ) (fonts : FontSet) (character colour : ℕ) → draw_planar_plan (record band { width = 1 }) row fonts character colour
+    ≡ glyph_by (is_set colour 7) (λ r. byte_address_in_band band row r 0) (glyph_line fonts band.lines character) band.lines (colour % 16)
+unfolding draw_planar_plan draw_over_zeros_plan draw_by_xor_plan put_glyph put_glyph_over fill_row fill_line
 plan_is band row fonts character colour = refl
 
 module _ (row : ModeRow) (c : CardState) (d : BiosData) (t : IsPlanar row c d) (z : IsCard c) where
@@ -58,26 +58,26 @@ module _ (row : ModeRow) (c : CardState) (d : BiosData) (t : IsPlanar row c d) (
   abbrev place : ℕ → ℕ → ℕ → ℕ
   place p q r = d.size * p + strip_at w h q r
 
-  pub address_is : (p q r : ℕ) → address_in (column_by Planar d p (q % w)) (q / w) r 0 ≡ 0xA0000 + place p q r
+  pub address_is : (p q r : ℕ) → byte_address_in_band (column_by Planar d p (q % w)) (q / w) r 0 ≡ 0xA0000 + place p q r
   address_is p q r = ap (λ n. n + d.size * p + 1 * w * (h * (q / w) + r) + 1 * (q % w) + 0) t.base
       ∙ address_sum (d.size * p) w h (q / w) r (q % w)
 
   character_is : (fonts : FontSet) (p q character : ℕ) (colouring : Colouring) → character_plan fonts d p q character colouring
       ≡ glyph_by (is_set colouring.colour 7) (λ r. 0xA0000 + place p q r) (glyph_line fonts h character) h (colouring.colour % 16)
-  unfolding character_by
+  unfolding character_plan_of_kind
   character_is fonts p q character colouring =
       let kind = t.kind in
       let left = q % w in
       let row = q / w in
       let band = column_by Planar d p left in
       let lines = glyph_line fonts h character in
-      ap (λ k. character_by k fonts d p q character colouring) kind
-      ∙ ap (λ k. planar_plan (column_by k d p left) row fonts character colouring.colour) kind
+      ap (λ k. character_plan_of_kind k fonts d p q character colouring) kind
+      ∙ ap (λ k. draw_planar_plan (column_by k d p left) row fonts character colouring.colour) kind
       ∙ plan_is band row fonts character colouring.colour
       ∙ ap (λ a. glyph_by (is_set colouring.colour 7) a lines h (colouring.colour % 16)) (λ j r. address_is p q r j)
 
   -- a line's byte lies within its page, and in memory
-  pub within : (p q r : ℕ) → p < row.pages → q < cells_of d → r < h → (strip_at w h q r < d.size) × (place p q r < 65536)
+  pub within : (p q r : ℕ) → p < row.pages → q < cells_per_page d → r < h → (strip_at w h q r < d.size) × (place p q r < 65536)
   within p q r lp lq lr =
       let b = strip_at w h q r in
       let l = strip_within w h (d.last_row + 1) q r wide lr lq in
@@ -102,7 +102,7 @@ module _ (row : ModeRow) (c : CardState) (d : BiosData) (t : IsPlanar row c d) (
   dot_is colour is_dot x = sym (ap (λ b. if is_dot then (if b then colour else if is_set colour 7 then Rattle.std.specs.Prelude.bit_xor x (colour % 16)
       else colour % 16) else if not b && is_set colour 7 then x else 0) t.packed)
 
-  pub characters_shown : (fonts : FontSet) (p q n character : ℕ) (colouring : Colouring) → p < row.pages → q + n ≤ cells_of d →
+  pub characters_shown : (fonts : FontSet) (p q n character : ℕ) (colouring : Colouring) → p < row.pages → q + n ≤ cells_per_page d →
       shown (run card_meaning (characters_plan fonts d p q character colouring n) c).0 d ≡ Some (put_characters fonts s p q n character colouring)
   characters_shown fonts p q n character colouring lp lq =
       let R = Drawn (without_host c) misc clocking at_rest in

@@ -2,15 +2,15 @@
 use Rattle.std.proofs.Common.{◌≡◌, ℕ, ◌+◌, ◌*◌, ◌<◌, refl, ap, ◌∙◌, List, [], ◌∷◌, ◌++◌, length, Bool, true, false}
 use Rattle.std.specs.Prelude.{◌==◌, ◌&&◌, nat_lt, if◌then◌else◌, slice_index, slice_set, take, bit_and, bit_or}
 use Rattle.std.proofs.lemmas.Bool.{agree_below_at}
-use Rattle.bios_screen.proofs.Prelude.{is_set, IsCard, card_meaning, CardState, crtc_port, Plan, run, Done, each, ◌>>=◌, ◌>>◌, listing}
+use Rattle.bios_screen.proofs.Prelude.{is_set, IsCard, card_meaning, CardState, crtc_port, Plan, run, Done, each, ◌>>=◌, ◌>>◌, list_by_function}
 use Rattle.vga_bits.specs.Bits.{field}
 use Rattle.vga_attr.specs.Attr.{attr_masks}
 use Rattle.vga_card.specs.Port.{port_of as reached_by}
 use Rattle.vga_card.specs.Adapter.{adapter_of}
-use Rattle.vga_card.specs.Cycles.{written, answered, unless_refused, out_reached, inp_reached}
-use Rattle.bios_services.specs.Plan.{out, inp, byte_of}
-use Rattle.bios_services.specs.Cycles.{attribute, attribute_group, expect_index, show_palette}
-use Rattle.bios_services.specs.Palette.{set_register_plan, set_palette_plan, set_blinking_plan, register_plan, read_register_plan}
+use Rattle.vga_card.specs.Cycles.{card_after_write, card_after_read, unless_refused, out_reached, inp_reached}
+use Rattle.bios_services.specs.Plan.{out, inp, read_byte_or_ff}
+use Rattle.bios_services.specs.Cycles.{write_attribute_register, write_attribute_registers, expect_index, show_palette}
+use Rattle.bios_services.specs.Palette.{set_register_plan, set_palette_plan, set_blinking_plan, read_register_at_index_plan, read_register_plan}
 use Rattle.bios_screen.specs.Colours.{six_bits}
 use Rattle.bios_screen.proofs.Base.Lists.{spelled}
 use Rattle.bios_screen.proofs.Base.Plans.{run_bind, then_runs}
@@ -38,7 +38,7 @@ names i l = record {
 -- ---- one register is written
 
 value_by : (s : CardState) (l : List ℕ) (i v : ℕ) → (run card_meaning (out 0x3C0 v) (with_attr s l i true)).0
-    ≡ (written (with_attr s l i true) (unless_refused (nat_lt 20 (field i 4 0)) (adapter_of (with_attr s (if nat_lt (field i 4 0) 16 && is_set i 5 then l
+    ≡ (card_after_write (with_attr s l i true) (unless_refused (nat_lt 20 (field i 4 0)) (adapter_of (with_attr s (if nat_lt (field i 4 0) 16 && is_set i 5 then l
     else slice_set l (field i 4 0) (bit_and v (slice_index attr_masks (field i 4 0)))) i false)))).0
 unfolding reached_by out_reached
 value_by s l i v = refl
@@ -60,7 +60,7 @@ register_set c i v l =
     let p = crtc_port c.misc in
     let old = c.attr.registers in
     let n = names i l in
-    ap (λ r. r.0) (expected_runs (attribute i v >> show_palette p) c)
+    ap (λ r. r.0) (expected_runs (write_attribute_register i v >> show_palette p) c)
     ∙ ap (λ k. (run card_meaning (out 0x3C0 v >> show_palette p) (with_attr c old k true)).0) n.kept
     ∙ then_runs (out 0x3C0 v) (show_palette p) (with_attr c old i true)
     ∙ ap (λ x. (run card_meaning (show_palette p) x).0) (value_written c old i v n)
@@ -87,27 +87,27 @@ blinking_set c b = ap (λ r. r.0) (expected_runs (then_blinking (crtc_port c.mis
 
 abbrev sixteen : ℕ → List ℕ → ℕ → Plan (Unit {0})
 sixteen port values v = do
-  each (λ i. attribute i (slice_index values i)) 16 0
-  attribute 0x11 v
+  each (λ i. write_attribute_register i (slice_index values i)) 16 0
+  write_attribute_register 0x11 v
   show_palette port
 
 -- the registers with these palette values and this overscan
 abbrev pub with_palette : List ℕ → List ℕ → ℕ → List ℕ
-with_palette l values v = listing (λ i. six_bits (slice_index values i)) 0 16 ++ slice_index l 16 ∷ bit_and v 0xFF ∷ slice_index l 18 ∷ slice_index l 19
+with_palette l values v = list_by_function (λ i. six_bits (slice_index values i)) 0 16 ++ slice_index l 16 ∷ bit_and v 0xFF ∷ slice_index l 18 ∷ slice_index l 19
     ∷ slice_index l 20 ∷ []
 
 -- setting all palette values and the overscan, when the registers are spelled out
 sixteen_by : (c : CardState) (values : List ℕ) (v : ℕ) → (let l = c.attr.registers in
-    (run card_meaning (sixteen (crtc_port c.misc) values v) (with_attr c (listing (slice_index l) 0 21) c.attr.index false)).0
+    (run card_meaning (sixteen (crtc_port c.misc) values v) (with_attr c (list_by_function (slice_index l) 0 21) c.attr.index false)).0
     ≡ with_attr c (with_palette l values v) 0x20 false)
 unfolding reached_by out_reached
 sixteen_by c values v = again c (with_palette c.attr.registers values v) 0x11
 
 group_is : (port : ℕ) (block : List ℕ) → length (take 16 block) ≡ 16 →
     set_palette_plan port block ≡ (expect_index port >> sixteen port (take 16 block) (slice_index block 16))
-unfolding set_palette_plan attribute_group
-group_is port block e = ap (λ n. let x : Plan (Unit {0}) = (expect_index port >> (each (λ i. attribute i (slice_index (take 16 block) i)) n 0
-    >> (attribute 0x11 (slice_index block 16) >> show_palette port))) in x) e
+unfolding set_palette_plan write_attribute_registers
+group_is port block e = ap (λ n. let x : Plan (Unit {0}) = (expect_index port >> (each (λ i. write_attribute_register i (slice_index (take 16 block) i)) n 0
+    >> (write_attribute_register 0x11 (slice_index block 16) >> show_palette port))) in x) e
 
 pub palette_set : (c : CardState) (block : List ℕ) → IsCard c → length (take 16 block) ≡ 16 →
     (run card_meaning (set_palette_plan (crtc_port c.misc) block) c).0 ≡ with_attr c (with_palette c.attr.registers (take 16 block) (slice_index block 16)) 0x20
@@ -142,8 +142,8 @@ pub index_shown : (i : ℕ) → i < 18 → is_set (0x20 + i) 5 ≡ true
 index_shown i l = (reads i l).shown
 
 value_read_by : (s : CardState) (l : List ℕ) (j : ℕ) → run card_meaning (inp 0x3C1) (with_attr s l j true)
-    ≡ (let r = answered (with_attr s l j true) (unless_refused (nat_lt 20 (field j 4 0)) (adapter_of (with_attr s l j true), slice_index l (field j 4 0))) in let p : CardState
-    × ℕ = (r.0, byte_of r.1) in p)
+    ≡ (let r = card_after_read (with_attr s l j true) (unless_refused (nat_lt 20 (field j 4 0)) (adapter_of (with_attr s l j true), slice_index l (field j 4 0))) in let p : CardState
+    × ℕ = (r.0, read_byte_or_ff r.1) in p)
 unfolding reached_by inp_reached
 value_read_by s l j = refl
 
@@ -153,8 +153,8 @@ value_read s l i n = value_read_by s l (0x20 + i) ∙ rw (n.number, n.there) ref
 
 -- register i is answered; the controller expects an index before and after
 pub value_of_register : (c : CardState) (l : List ℕ) (j i : ℕ) → i < 18 →
-    run card_meaning (register_plan (crtc_port c.misc) i) (with_attr c l j false) ≡ (with_attr c l (0x20 + i) false, slice_index l i)
-unfolding register_plan reached_by out_reached
+    run card_meaning (read_register_at_index_plan (crtc_port c.misc) i) (with_attr c l j false) ≡ (with_attr c l (0x20 + i) false, slice_index l i)
+unfolding read_register_at_index_plan reached_by out_reached
 value_of_register c l j i k =
     let n = reads i k in
     let rest : ℕ → Plan ℕ = λ value. (expect_index (crtc_port c.misc) >> Done value) in
@@ -166,4 +166,4 @@ value_of_register c l j i k =
 pub register_read : (c : CardState) (i : ℕ) → i < 18 →
     run card_meaning (read_register_plan (crtc_port c.misc) i) c ≡ (with_attr c c.attr.registers (0x20 + i) false, slice_index c.attr.registers i)
 unfolding read_register_plan
-register_read c i k = expected_runs (register_plan (crtc_port c.misc) i) c ∙ value_of_register c c.attr.registers c.attr.index i k
+register_read c i k = expected_runs (read_register_at_index_plan (crtc_port c.misc) i) c ∙ value_of_register c c.attr.registers c.attr.index i k

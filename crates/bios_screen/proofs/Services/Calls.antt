@@ -1,7 +1,7 @@
 -- Whole calls: each performs the service that the registers ask for.
 use Rattle.std.proofs.Common.{◌≡◌, ℕ, ◌<◌, refl, ap, ◌∙◌, subst, arith, List, length, Option, Some, None, Bool, true, false, Err}
 use Rattle.std.specs.Prelude.{◌==◌, ◌&&◌, nat_lt, if◌then◌else◌, IfSome}
-use Rattle.bios_screen.proofs.Prelude.{Refusal, IsCard, card_meaning, CardState, BiosData, FontSet, Regs, Plan, run, Done, Outcome, Screen, shown, IsServed}
+use Rattle.bios_screen.proofs.Prelude.{Refusal, IsCard, card_meaning, CardState, BiosData, FontSet, Regs, Plan, run, Done, ServiceOutcome, Screen, shown, IsServed}
 use Rattle.bios_screen.proofs.Prelude.{AreBytes}
 use Rattle.vga_bits.specs.declared.refusal.Refusal.TheVariants.{NoMode, BadFunction, BadMode}
 use Rattle.bios_modes.specs.Modes.{mode_row}
@@ -16,13 +16,13 @@ use Rattle.bios_services.specs.CellRuns.{cell_run_of}
 use Rattle.bios_services.specs.Strings.{string_of}
 use Rattle.bios_services.specs.declared.glyph_load.GlyphLoad.{GlyphLoad}
 use Rattle.bios_services.specs.GlyphLoads.{glyph_load_of}
-use Rattle.bios_services.specs.Calls.{scroll_of, colours, colour_call_of, service_of, in_mode, call_of, glyphs_or}
-use Rattle.bios_services.specs.Refusals.{on_page_named, refusal_in_mode}
-use Rattle.bios_services.specs.Service.{plan_of, set_mode_plan, Answered, answer_of, refuse, unless, in_mode_plan, call_plan}
+use Rattle.bios_services.specs.Calls.{scroll_of, colours_call, colour_call_of, service_of, call_in_mode, call_of, glyph_load_or}
+use Rattle.bios_services.specs.Refusals.{service_on_page_meant, refusal_in_mode}
+use Rattle.bios_services.specs.Service.{plan_of_service, set_mode_plan, CallOutcome, answer_of_registers, refusal_plan, unless_refused_plan, in_mode_plan, call_plan}
 use Rattle.bios_modes.specs.Bounds.{IsBda}
 use Rattle.bios_screen.specs.Step.{refusal_on, next, answer_on}
-use Rattle.bios_screen.specs.AfterCall.{Serves, after_call, card_after_service}
-use Rattle.bios_screen.specs.Called.{AreWords, reply_unless, screen_unless, IsCalled}
+use Rattle.bios_screen.specs.AfterCall.{ServiceLeadsToNextScreen, after_call, card_after_service}
+use Rattle.bios_screen.specs.Called.{AreRegistersWords, reply_unless, screen_unless, ServiceCallLeadsToScreen}
 use Rattle.bios_screen.proofs.Base.Plans.{run_bind}
 use Rattle.bios_services.proofs.CardLemmas.{plan_beam}
 use Rattle.bios_screen.proofs.Shows.Screens.{mode_of_shown}
@@ -30,7 +30,7 @@ use Rattle.bios_screen.proofs.Services.All as served
 
 -- ---- every service that registers can ask for is served
 
-choose : (b : Bool) (x y : Option Service) → IfSome x Serves → IfSome y Serves → IfSome (if b then x else y) Serves
+choose : (b : Bool) (x y : Option Service) → IfSome x ServiceLeadsToNextScreen → IfSome y ServiceLeadsToNextScreen → IfSome (if b then x else y) ServiceLeadsToNextScreen
 choose true x y f g = f
 choose false x y f g = g
 
@@ -40,7 +40,7 @@ high_small n l = omega arith
 low_small : (n : ℕ) → low n < 256
 low_small n = omega arith
 
-asked_is_served : (r : Regs) → AreWords r → IfSome (service_of r) Serves
+asked_is_served : (r : Regs) → AreRegistersWords r → IfSome (service_of r) ServiceLeadsToNextScreen
 asked_is_served r w =
     choose (high r.ax == 0x01) _ _ (served.set_cursor_type r.cx)
     (choose (high r.ax == 0x02) _ _ (served.set_cursor (high r.bx) r.dx w.dx)
@@ -61,7 +61,7 @@ asked_is_served r w =
 
 -- if a call asks for a service, that service is served
 abbrev IsServedCall : Option Call → Type 0
-IsServedCall (Some (InMode service)) = Serves service
+IsServedCall (Some (InMode service)) = ServiceLeadsToNextScreen service
 IsServedCall call = Unit {0}
 
 choose_call : (b : Bool) (x y : Option Call) → IsServedCall x → IsServedCall y → IsServedCall (if b then x else y)
@@ -69,7 +69,7 @@ choose_call true x y f g = f
 choose_call false x y f g = g
 
 -- the subfunctions of function 10; the overscan is a byte
-colours_are_served : (r : Regs) → AreWords r → IsServedCall (colour_call_of r)
+colours_are_served : (r : Regs) → AreRegistersWords r → IsServedCall (colour_call_of r)
 colours_are_served r w =
     let al = low r.ax in
     choose_call (al == 0x00) _ _ (served.set_colours (SetRegister (low r.bx) (high r.bx)) tt)
@@ -84,26 +84,26 @@ colours_are_served r w =
     (choose_call (al == 0x15) _ _ (served.set_colours (ReadEntry r.bx) tt)
     (choose_call (al == 0x17) _ _ tt
     (choose_call (al == 0x18) _ _ (served.set_colours (SetMask (low r.bx)) tt)
-    (choose_call (al == 0x19) (colours ReadMask) None (served.set_colours ReadMask tt) tt))))))))))))
+    (choose_call (al == 0x19) (colours_call ReadMask) None (served.set_colours ReadMask tt) tt))))))))))))
 
-call_is_served : (r : Regs) → AreWords r → IsServedCall (call_of r)
+call_is_served : (r : Regs) → AreRegistersWords r → IsServedCall (call_of r)
 call_is_served r w =
     choose_call (high r.ax == 0x00) _ _ tt
     (choose_call (high r.ax == 0x10) _ _ (colours_are_served r w)
     (or_glyphs (glyph_load_of r) _ (by_service (service_of r) (asked_is_served r w))))
   where
-    by_service : (x : Option Service) → IfSome x Serves → IsServedCall (in_mode x)
+    by_service : (x : Option Service) → IfSome x ServiceLeadsToNextScreen → IsServedCall (call_in_mode x)
     by_service None f = tt
     by_service (Some service) f = f
 
-    or_glyphs : (g : Option GlyphLoad) (x : Option Call) → IsServedCall x → IsServedCall (glyphs_or g x)
+    or_glyphs : (g : Option GlyphLoad) (x : Option Call) → IsServedCall x → IsServedCall (glyph_load_or g x)
     or_glyphs None x f = f
     or_glyphs (Some load) x f = tt
 
 -- ---- the call around a service
 
 -- a call's reply, and the screen that it leads to, unless it is refused
-pub record Leads (why : Option Refusal) (r : Regs) (s new : Screen) (x : CardState × Answered) : Type 0 where
+pub record Leads (why : Option Refusal) (r : Regs) (s new : Screen) (x : CardState × CallOutcome) : Type 0 where
   pub reply : x.1.0 ≡ reply_unless why r
   pub shows : shown x.0 x.1.1 ≡ Some (screen_unless why s new)
 
@@ -111,29 +111,29 @@ unless_leads : (why : Option Refusal) (service : Service) (fonts : FontSet) (r :
     shown c d ≡ Some s → (why ≡ None → (card_after_service service fonts r block c d).1.0 ≡ answer_on fonts s service r)
     → (why ≡ None → (let x = card_after_service service fonts r block c d in shown x.0 x.1.1) ≡ Some (next fonts s service block))
     → Leads why (answer_on fonts s service r) s (next fonts s service block) (run card_meaning
-    (unless why (on_page_named d service) fonts d r block) c)
-unfolding unless
+    (unless_refused_plan why (service_on_page_meant d service) fonts d r block) c)
+unfolding unless_refused_plan
 unless_leads (Some why) service fonts r block c d s old answer shows = record { reply = refl; shows = old }
 unless_leads None service fonts r block c d s old answer shows =
-    let done : Outcome → Plan Answered = λ outcome. Done (answer_of outcome.0 outcome.1) in
-    let bound = run_bind card_meaning (plan_of (on_page_named d service) fonts d r block) done c in
+    let done : ServiceOutcome → Plan CallOutcome = λ outcome. Done (answer_of_registers outcome.0 outcome.1) in
+    let bound = run_bind card_meaning (plan_of_service (service_on_page_meant d service) fonts d r block) done c in
     record {
       reply = ap (λ x. x.1.0) bound ∙ ap (reply_unless None) (answer refl);
       shows = ap (λ x. shown x.0 x.1.1) bound ∙ shows refl;
     }
 
 call_done : (service : Service) (fonts : FontSet) (r : Regs) (block : List ℕ) (c : CardState) (d : BiosData) (s : Screen) → call_of r ≡ Some (InMode service) →
-    shown c d ≡ Some s → IsServed service fonts r block c d s → IsCalled service fonts r block c d s
+    shown c d ≡ Some s → IsServed service fonts r block c d s → ServiceCallLeadsToScreen service fonts r block c d s
 unfolding in_mode_plan
 call_done service fonts r block c d s e old i =
     let why = refusal_on s service (length block) in
-    let plan = unless why (on_page_named d service) fonts d r block in
+    let plan = unless_refused_plan why (service_on_page_meant d service) fonts d r block in
     let runs : after_call fonts r block c d ≡ run card_meaning plan c =
     ap (λ (q : Option Call). run card_meaning (call_plan q fonts d r block) c) e
-    ∙ ap (λ b. run card_meaning (if b then refuse NoMode d else unless (refusal_in_mode (on_page_named d service) d (length block)) (on_page_named d service)
+    ∙ ap (λ b. run card_meaning (if b then refusal_plan NoMode d else unless_refused_plan (refusal_in_mode (service_on_page_meant d service) d (length block)) (service_on_page_meant d service)
     fonts d r block) c)
     (mode_of_shown c d s old).set
-    ∙ ap (λ q. run card_meaning (unless q (on_page_named d service) fonts d r block) c) i.refusal in
+    ∙ ap (λ q. run card_meaning (unless_refused_plan q (service_on_page_meant d service) fonts d r block) c) i.refusal in
     let t = unless_leads why service fonts r block c d s old i.answer i.shows in
     record {
       reply = ap (λ y. y.1.0) runs ∙ t.reply;
@@ -141,11 +141,11 @@ call_done service fonts r block c d s e old i =
       beam = ap (λ y. y.0.crtc.beam) runs ∙ plan_beam plan c;
     }
 
-served_if : (x : Option Call) (service : Service) → x ≡ Some (InMode service) → IsServedCall x → Serves service
+served_if : (x : Option Call) (service : Service) → x ≡ Some (InMode service) → IsServedCall x → ServiceLeadsToNextScreen service
 served_if x service e f = subst IsServedCall e f
 
 pub calls_lead : (service : Service) (fonts : FontSet) (r : Regs) (block : List ℕ) (c : CardState) (d : BiosData) (s : Screen) → IsCard c →
-    IsBda d → AreWords r → AreBytes block → shown c d ≡ Some s → call_of r ≡ Some (InMode service) → IsCalled service fonts r block c d s
+    IsBda d → AreRegistersWords r → AreBytes block → shown c d ≡ Some s → call_of r ≡ Some (InMode service) → ServiceCallLeadsToScreen service fonts r block c d s
 calls_lead service fonts r block c d s z bda w bytes old e =
     let serves = served_if (call_of r) service e (call_is_served r w) in
     call_done service fonts r block c d s e old (serves fonts r block c d s bytes z bda old)
@@ -155,7 +155,7 @@ pub unknown_refused : (fonts : FontSet) (r : Regs) (block : List ℕ) (c : CardS
     after_call fonts r block c d ≡ (c, (Err BadFunction, d))
 unknown_refused fonts r block c d s old e =
     ap (λ (q : Option Call). run card_meaning (call_plan q fonts d r block) c) e
-    ∙ ap (λ b. let y : CardState × Answered = (c, (Err (if b then NoMode else BadFunction), d)) in y) (mode_of_shown c d s old).set
+    ∙ ap (λ b. let y : CardState × CallOutcome = (c, (Err (if b then NoMode else BadFunction), d)) in y) (mode_of_shown c d s old).set
 
 -- a call for a mode that does not exist is refused
 pub mode_refused : (mode : ℕ) (keeps : Bool) (fonts : FontSet) (r : Regs) (block : List ℕ) (c : CardState) (d : BiosData) →

@@ -2,21 +2,21 @@
 use Rattle.std.proofs.Common.{◌≡◌, ℕ, ◌+◌, ◌≤◌, refl, sym, ap, ◌∙◌, arith, List, length, Option, Some, None, Bool, true, false, if◌then◌else◌}
 use Rattle.std.specs.Prelude.{◌==◌}
 use Rattle.std.proofs.lemmas.Bool.Decides.{nat_tests}
-use Rattle.bios_screen.proofs.Prelude.{Refusal, IsCard, card_meaning, CardState, ModeRow, row_at, BiosData, data_of_mode, AreBytes, FontSet, Regs, Plan, Done}
+use Rattle.bios_screen.proofs.Prelude.{Refusal, IsCard, card_meaning, CardState, ModeRow, mode_row_at_height, BiosData, data_of_mode, AreBytes, FontSet, Regs, Plan, Done}
 use Rattle.bios_screen.proofs.Prelude.{run, ◌>>◌, is_text, Screen, shown}
 use Rattle.vga_bits.specs.declared.refusal.Refusal.TheVariants.{NoMode, WrongKind, CountPast}
 use Rattle.bios_modes.specs.declared.heights.TextRow.{TextRow}
-use Rattle.bios_modes.specs.Heights.{fifty_rows, twenty_eight_rows, twenty_five_rows, text_row, with_height}
+use Rattle.bios_modes.specs.Heights.{fifty_rows, twenty_eight_rows, twenty_five_rows, text_row, with_height_row}
 use Rattle.bios_modes.specs.Bounds.{AreFonts}
 use Rattle.bios_services.specs.declared.glyph_load.GlyphLoad.{GlyphLoad}
 use Rattle.bios_services.specs.declared.call.Call.{Call}
 use Rattle.bios_services.specs.declared.call.Call.TheVariants.{LoadGlyphs}
 use Rattle.bios_services.specs.Reasons.{◌or◌, refuse_unless}
-use Rattle.bios_services.specs.GlyphLoads.{AreThere, glyphs_block, glyphs_len, load_reason, load_refusal, load_plan}
+use Rattle.bios_services.specs.GlyphLoads.{AreGlyphsThere, glyphs_block, glyphs_len, load_reason, load_refusal, load_plan}
 use Rattle.bios_services.specs.Calls.{call_of}
-use Rattle.bios_services.specs.Service.{Answered, answer_of, call_plan, refuse, load_at, load_unless, load_in_mode_plan}
+use Rattle.bios_services.specs.Service.{CallOutcome, answer_of_registers, call_plan, refusal_plan, load_if_height_exists, load_unless_refused_plan, load_in_mode_plan}
 use Rattle.bios_screen.specs.AfterCall.{after_call}
-use Rattle.bios_screen.specs.Called.{reply_unless, screen_unless, IsLoaded}
+use Rattle.bios_screen.specs.Called.{reply_unless, screen_unless, GlyphCallLeadsToScreen}
 use Rattle.bios_screen.specs.Loaded.{height_refusal_on, load_at_height, load_glyphs}
 use Rattle.bios_screen.proofs.Base.Tests.{le_is}
 use Rattle.bios_screen.proofs.Base.Reasons.{neither, holds, wrong_or}
@@ -60,7 +60,7 @@ lines_are disp height text e = by_display disp e
     by_display Monochrome h = by_tests Monochrome (height == 8) (height == 14) (height == 16) 0x07 0x0D 0x0F refl refl refl refl refl refl h
 
 -- the mode's row at a height takes its lines from the text-height table
-rows_agree : (disp : Display) (height : ℕ) → row_at (number_of disp) height ≡ with_height (row_of disp) (text_row (number_of disp) height)
+rows_agree : (disp : Display) (height : ℕ) → mode_row_at_height (number_of disp) height ≡ with_height_row (row_of disp) (text_row (number_of disp) height)
 rows_agree Colour height = refl
 rows_agree Monochrome height = refl
 
@@ -86,7 +86,7 @@ allowed_of load mode len e =
 -- ---- the call
 
 refused_leads : (why : Refusal) (r : Regs) (s new : Screen) (c : CardState) (d : BiosData) → shown c d ≡ Some s →
-    Leads (Some why) r s new (run card_meaning (refuse why d) c)
+    Leads (Some why) r s new (run card_meaning (refusal_plan why d) c)
 refused_leads why r s new c d e = record { reply = refl; shows = e }
 
 module _ (fonts : FontSet) (load : GlyphLoad) (r : Regs) (block : List ℕ) (bytes : AreBytes block) (are : AreFonts fonts) (c : CardState)
@@ -96,8 +96,8 @@ module _ (fonts : FontSet) (load : GlyphLoad) (r : Regs) (block : List ℕ) (byt
 
   -- an allowed load leads to the screen with the glyphs, if their height has a row
   row_leads : (a : IsAllowed load d.mode (length block)) (text : TextRow) → text_row d.mode load.height ≡ Some text →
-      Leads None r s (load_at_height (Some text) fonts s load block) (run card_meaning (load_at (row_at d.mode load.height) load fonts d r block) c)
-  unfolding load_at
+      Leads None r s (load_at_height (Some text) fonts s load block) (run card_meaning (load_if_height_exists (mode_row_at_height d.mode load.height) load fonts d r block) c)
+  unfolding load_if_height_exists
   row_leads a text e =
       let x = shown_is c d s a.text old in
       let h = x.is in
@@ -105,18 +105,18 @@ module _ (fonts : FontSet) (load : GlyphLoad) (r : Regs) (block : List ℕ) (byt
       let there_is : text_row (number_of disp) load.height ≡ Some text = ap (λ m. text_row m load.height) (sym h.number) ∙ e in
       let lines = lines_are disp load.height text there_is in
       let row = row_with disp lines.new in
-      let at : row_at d.mode load.height ≡ Some row = ap (λ m. row_at m load.height) h.number ∙ rows_agree disp load.height
-      ∙ ap (with_height (row_of disp)) there_is ∙ ap (λ (t : TextRow). with_height (row_of disp) (Some t)) lines.is in
-      let there : AreThere load (length block) = record { height = lines.few; last = a.last; whole = a.whole } in
+      let at : mode_row_at_height d.mode load.height ≡ Some row = ap (λ m. mode_row_at_height m load.height) h.number ∙ rows_agree disp load.height
+      ∙ ap (with_height_row (row_of disp)) there_is ∙ ap (λ (t : TextRow). with_height_row (row_of disp) (Some t)) lines.is in
+      let there : AreGlyphsThere load (length block) = record { height = lines.few; last = a.last; whole = a.whole } in
       let plan = load_plan fonts load block row in
-      let done : Plan Answered = Done (answer_of r (data_of_mode d.mode row)) in
-      let runs : run card_meaning (load_at (row_at d.mode load.height) load fonts d r block) c ≡ run card_meaning (plan >> done) c =
-      ap (λ q. run card_meaning (load_at q load fonts d r block) c) at in
+      let done : Plan CallOutcome = Done (answer_of_registers r (data_of_mode d.mode row)) in
+      let runs : run card_meaning (load_if_height_exists (mode_row_at_height d.mode load.height) load fonts d r block) c ≡ run card_meaning (plan >> done) c =
+      ap (λ q. run card_meaning (load_if_height_exists q load fonts d r block) c) at in
       record {
-        reply = ap (λ y. y.1.0) runs ∙ ap (λ (y : Answered). y.0) (then_answers plan done c);
+        reply = ap (λ y. y.1.0) runs ∙ ap (λ (y : CallOutcome). y.0) (then_answers plan done c);
         shows = ap (λ y. shown y.0 y.1.1) runs
             ∙ ap (λ y. shown y (run card_meaning (plan >> done) c).1.1) (then_runs plan done c)
-            ∙ ap (λ (y : Answered). shown (run card_meaning plan c).0 y.1) (then_answers plan done c)
+            ∙ ap (λ (y : CallOutcome). shown (run card_meaning plan c).0 y.1) (then_answers plan done c)
             ∙ load_shown fonts load block bytes are there c d h z lines.new
             ∙ ap (λ t. Some (load_at_height (Some t) fonts (screen_shown c d h) load block)) (sym lines.is)
             ∙ ap (λ q. Some (load_at_height (Some text) fonts q load block)) x.screen;
@@ -124,33 +124,33 @@ module _ (fonts : FontSet) (load : GlyphLoad) (r : Regs) (block : List ℕ) (byt
 
   -- if the height has no row, the call is refused
   height_leads : (a : IsAllowed load d.mode (length block)) (q : Option TextRow) → text_row d.mode load.height ≡ q →
-      Leads (height_refusal_on q) r s (load_at_height q fonts s load block) (run card_meaning (load_at (row_at d.mode load.height) load fonts d r block) c)
-  unfolding load_at
+      Leads (height_refusal_on q) r s (load_at_height q fonts s load block) (run card_meaning (load_if_height_exists (mode_row_at_height d.mode load.height) load fonts d r block) c)
+  unfolding load_if_height_exists
   height_leads a (Some text) e = row_leads a text e
   height_leads a None e =
       let x = shown_is c d s a.text old in
       let h = x.is in
-      let at : row_at d.mode load.height ≡ None = ap (λ m. row_at m load.height) h.number ∙ rows_agree h.display load.height
-      ∙ ap (with_height (row_of h.display)) (ap (λ m. text_row m load.height) (sym h.number) ∙ e) in
-      let runs = ap (λ (q : Option ModeRow). run card_meaning (load_at q load fonts d r block) c) at in
+      let at : mode_row_at_height d.mode load.height ≡ None = ap (λ m. mode_row_at_height m load.height) h.number ∙ rows_agree h.display load.height
+      ∙ ap (with_height_row (row_of h.display)) (ap (λ m. text_row m load.height) (sym h.number) ∙ e) in
+      let runs = ap (λ (q : Option ModeRow). run card_meaning (load_if_height_exists q load fonts d r block) c) at in
       record { reply = ap (λ y. y.1.0) runs; shows = ap (λ y. shown y.0 y.1.1) runs ∙ old }
 
   unless_leads : (why : Option Refusal) → load_refusal load d.mode (length block) ≡ why →
       Leads (why or height_refusal_on (text_row d.mode load.height)) r s (load_at_height (text_row d.mode load.height) fonts s load block)
-      (run card_meaning (load_unless why load fonts d r block) c)
-  unfolding load_unless
+      (run card_meaning (load_unless_refused_plan why load fonts d r block) c)
+  unfolding load_unless_refused_plan
   unless_leads (Some why) e = refused_leads why r s _ c d old
   unless_leads None e = height_leads (allowed_of load d.mode (length block) e) (text_row d.mode load.height) refl
 
-  pub load_leads : call_of r ≡ Some (LoadGlyphs load) → IsLoaded load fonts r block c d s
+  pub load_leads : call_of r ≡ Some (LoadGlyphs load) → GlyphCallLeadsToScreen load fonts r block c d s
   unfolding load_in_mode_plan load_glyphs
   load_leads e =
       let why = load_refusal load d.mode (length block) in
-      let plan = load_unless why load fonts d r block in
+      let plan = load_unless_refused_plan why load fonts d r block in
       let mode = mode_of_shown c d s old in
       let runs : after_call fonts r block c d ≡ run card_meaning plan c =
       ap (λ (q : Option Call). run card_meaning (call_plan q fonts d r block) c) e
-      ∙ ap (λ b. run card_meaning (if b then refuse NoMode d else plan) c) mode.set in
+      ∙ ap (λ b. run card_meaning (if b then refusal_plan NoMode d else plan) c) mode.set in
       let t = unless_leads why refl in
       let same = sym mode.is in
       record {

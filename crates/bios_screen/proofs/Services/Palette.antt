@@ -6,7 +6,7 @@ use Rattle.std.proofs.lemmas.Bool.{agree_below_at}
 use Rattle.std.proofs.lemmas.List.{get_or-set_same, get_or-set_other, get_or-take, length-take-le, take-set-le, drop-set-lt}
 use Rattle.std.proofs.Math.Seq.{take-set-lt}
 use Rattle.bios_screen.proofs.Prelude.{is_set, is_palette_shown, DacState, IsCard, card_meaning, CardState, crtc_port, BiosData, AreBytes, FontSet, Regs, Plan}
-use Rattle.bios_screen.proofs.Prelude.{run, Done, ◌>>=◌, ◌>>◌, Outcome, listing, Screen, shows_attribute, shown, IsServed}
+use Rattle.bios_screen.proofs.Prelude.{run, Done, ◌>>=◌, ◌>>◌, ServiceOutcome, list_by_function, Screen, shows_attribute, shown, IsServed}
 use Rattle.vga_bits.specs.declared.refusal.Refusal.TheVariants.{BadRegister}
 use Rattle.vga_attr.specs.Attr.{attr_masks}
 use Rattle.vga_dac.specs.declared.component.Component.TheVariants.{Red}
@@ -23,11 +23,11 @@ use Rattle.bios_services.specs.Dac.{set_entry_plan, set_entries_plan}
 use Rattle.bios_services.specs.Reasons.{refuse_unless, wrong_block}
 use Rattle.bios_services.specs.Colours.{colour_refusal, has_entries, no_register, no_entry, no_entries, read_register_in_bh, read_mask_in_bl, colours_plan}
 use Rattle.bios_services.specs.Refusals.{refusal_in_mode}
-use Rattle.bios_services.specs.Service.{plan_of}
-use Rattle.bios_screen.specs.Colours.{six_bits, with_value, with_palette_and_overscan, with_entries, with_colours, colours_answer}
+use Rattle.bios_services.specs.Service.{plan_of_service}
+use Rattle.bios_screen.specs.Colours.{six_bits, with_palette_value, with_palette_and_overscan, with_entries, with_colours, colours_answer}
 use Rattle.bios_screen.proofs.Base.Reasons.{neither, holds, block_fits}
 use Rattle.bios_screen.specs.Step.{refusal_on, next, answer_on}
-use Rattle.bios_screen.specs.AfterCall.{FitsBytes}
+use Rattle.bios_screen.specs.AfterCall.{OverscanFitsByte}
 use Rattle.bios_screen.proofs.Base.Plans.{run_bind, then_runs, then_answers}
 use Rattle.bios_screen.proofs.Base.Lists.{same_from_0, spelled}
 use Rattle.bios_screen.proofs.Base.Tests.{both_true, same, lt_is, le_is}
@@ -112,7 +112,7 @@ module _ (c : CardState) (d : BiosData) (h : IsAny c d) where
   masks_are : (i : ℕ) → i < 16 → slice_index attr_masks i ≡ 0x3F
   masks_are i l = same (agree_below_at (λ n. slice_index attr_masks n == 0x3F) (λ _. true) 16 i refl l)
 
-  value_shown : (i v : ℕ) → i < 16 → shown (run card_meaning (set_register_plan (crtc_port c.misc) i v) c).0 d ≡ Some (with_value s i v)
+  value_shown : (i v : ℕ) → i < 16 → shown (run card_meaning (set_register_plan (crtc_port c.misc) i v) c).0 d ≡ Some (with_palette_value s i v)
   value_shown i v l =
       let x = six_bits v in
       let new = slice_set registers i x in
@@ -144,7 +144,7 @@ module _ (c : CardState) (d : BiosData) (h : IsAny c d) where
       let last : drop 0x12 new ≡ drop 0x12 registers = sym (ap (drop 0x12) (spelled registers 21 z.attr.size)) in
       ap (λ y. shown y d) (palette_set c block z (length-take-le 16 block (omega arith)))
       ∙ attribute_shown new 0x20 refl refl last
-      (listing (λ i. six_bits (slice_index block i)) 0 16) v s.is_blink
+      (list_by_function (λ i. six_bits (slice_index block i)) 0 16) v s.is_blink
       (same_from_0 (λ i. six_bits (slice_index block i)) (λ i. six_bits (slice_index values i)) 16 (λ k l. ap six_bits (get_or-take 16 block k 0 l)))
       (and_255 v (bytes 16)) refl
 
@@ -204,7 +204,7 @@ module _ (c : CardState) (d : BiosData) (h : IsAny c d) where
 
   -- ---- each subfunction
 
-  pub is_coloured : (service : ColourService) (r : Regs) (block : List ℕ) → FitsBytes service → AreBytes block → IsCard c →
+  pub is_coloured : (service : ColourService) (r : Regs) (block : List ℕ) → OverscanFitsByte service → AreBytes block → IsCard c →
       colour_refusal service (length block) ≡ None → IsColoured service r block c d s
   unfolding colours_plan with_colours colours_answer
   is_coloured (SetRegister i v) r block fits bytes z e = setting_served (SetRegister i v) r block (λ p. set_register_plan p i v) refl refl
@@ -246,12 +246,12 @@ module _ (c : CardState) (d : BiosData) (h : IsAny c d) where
 
 -- ---- function 10
 
-pub set_colours : (service : ColourService) (fonts : FontSet) (r : Regs) (block : List ℕ) (c : CardState) (d : BiosData) (h : IsAny c d) → FitsBytes service →
+pub set_colours : (service : ColourService) (fonts : FontSet) (r : Regs) (block : List ℕ) (c : CardState) (d : BiosData) (h : IsAny c d) → OverscanFitsByte service →
     AreBytes block → IsCard c → IsServed (Colours service) fonts r block c d (any_screen c d h c)
-unfolding plan_of refusal_in_mode refusal_on next answer_on
+unfolding plan_of_service refusal_in_mode refusal_on next answer_on
 set_colours service fonts r block c d h fits bytes z =
     let plan = colours_plan service d.crtc_address r block in
-    let done : Regs → Plan Outcome = λ after. Done (after, d) in
+    let done : Regs → Plan ServiceOutcome = λ after. Done (after, d) in
     let runs = run_bind card_meaning plan done c in
     record {
       refusal = refl;

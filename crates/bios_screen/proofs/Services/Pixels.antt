@@ -2,14 +2,14 @@
 use Rattle.std.proofs.Common.{◌≡◌, ℕ, ◌+◌, ◌*◌, ◌<◌, refl, ap, ◌∙◌, List, Some, None, Bool, true, false}
 use Rattle.std.specs.Prelude.{nat_lt, not}
 use Rattle.vga_bits.specs.declared.refusal.Refusal.TheVariants.{Outside, WrongKind}
-use Rattle.bios_screen.proofs.Prelude.{IsCard, card_meaning, CardState, BiosData, FontSet, bytes_320_by_200, is_text, Regs, pages_of, Plan, run, Done, ◌>>=◌}
-use Rattle.bios_screen.proofs.Prelude.{◌>>◌, page_among, page_named, Outcome, Screen, shown, page_meant, pixel_of, with_pixels, IsServed}
+use Rattle.bios_screen.proofs.Prelude.{IsCard, card_meaning, CardState, BiosData, FontSet, bytes_320_by_200, is_text, Regs, page_count, Plan, run, Done, ◌>>=◌}
+use Rattle.bios_screen.proofs.Prelude.{◌>>◌, page_among, page_meant_by_number, ServiceOutcome, Screen, shown, page_meant, pixel_of, with_pixels, IsServed}
 use Rattle.bios_services.specs.declared.call.Service.TheVariants.{WritePixel, ReadPixel}
 use Rattle.bios_services.specs.Registers.{with_low}
-use Rattle.bios_services.specs.Pixels.{dots_across, dots_down, write_pixel_plan, read_pixel_plan}
+use Rattle.bios_services.specs.Pixels.{pixels_across, pixels_down, write_pixel_plan, read_pixel_plan}
 use Rattle.bios_services.specs.Reasons.{◌or◌, no_pixels, no_page, outside_pixels}
 use Rattle.bios_services.specs.Refusals.{refusal_in_mode}
-use Rattle.bios_services.specs.Service.{plan_of, read_pixel_service}
+use Rattle.bios_services.specs.Service.{plan_of_service, read_pixel_service}
 use Rattle.bios_screen.specs.Step.{refusal_on, next, answer_on, pixel_number, colour_over, change_pixel}
 use Rattle.bios_screen.proofs.Base.Plans.{run_bind}
 use Rattle.bios_screen.proofs.Base.Tests.{both_true, lt_is}
@@ -36,35 +36,35 @@ module _ (c : CardState) (d : BiosData) (h : IsAny c d) (page x y : ℕ) where
   -- a call that is not refused: the mode is graphics, and the pixel exists
   record IsAllowed : Type 0 where
     in_graphics : is_text d.mode ≡ false
-    on_page : p < pages_of d
+    on_page : p < page_count d
     there : There d x y
 
-  allowed : (no_pixels d.mode or no_page h.row.pages p or outside_pixels (dots_across d) (dots_down d) x y) ≡ None → IsAllowed
+  allowed : (no_pixels d.mode or no_page h.row.pages p or outside_pixels (pixels_across d) (pixels_down d) x y) ≡ None → IsAllowed
   allowed e =
-      let text = neither (no_pixels d.mode) (no_page h.row.pages p or outside_pixels (dots_across d) (dots_down d) x y) e in
-      let page = neither (no_page h.row.pages p) (outside_pixels (dots_across d) (dots_down d) x y) text.1 in
-      let inside = both_true (nat_lt x (dots_across d)) (nat_lt y (dots_down d)) (holds _ Outside page.1) in
+      let text = neither (no_pixels d.mode) (no_page h.row.pages p or outside_pixels (pixels_across d) (pixels_down d) x y) e in
+      let page = neither (no_page h.row.pages p) (outside_pixels (pixels_across d) (pixels_down d) x y) text.1 in
+      let inside = both_true (nat_lt x (pixels_across d)) (nat_lt y (pixels_down d)) (holds _ Outside page.1) in
       record {
         in_graphics = is_not (is_text d.mode) (holds (not (is_text d.mode)) WrongKind text.0);
         on_page = page_of h.row d p h.mode (page_allowed h.row.pages p page.0);
-        there = record { across = lt_is x (dots_across d) inside.0; down = lt_is y (dots_down d) inside.1 };
+        there = record { across = lt_is x (pixels_across d) inside.0; down = lt_is y (pixels_down d) inside.1 };
       }
     where
       is_not : (b : Bool) → not b ≡ true → b ≡ false
       is_not true q = absurd (cc)
       is_not false q = refl
 
-  pub write_by : (colour : ℕ) (fonts : FontSet) (r : Regs) (block : List ℕ) → (is_text d.mode ≡ false → p < pages_of d → There d x y →
+  pub write_by : (colour : ℕ) (fonts : FontSet) (r : Regs) (block : List ℕ) → (is_text d.mode ≡ false → p < page_count d → There d x y →
       shown (run card_meaning (write_pixel_plan d p x y colour) c).0 d
       ≡ Some (with_pixels s p (change_pixel (pixel_number s x y) (colour_over d.mode colour))))
       → IsServed (WritePixel page x y colour) fonts r block c d s
-  unfolding plan_of refusal_in_mode refusal_on next answer_on
+  unfolding plan_of_service refusal_in_mode refusal_on next answer_on
   write_by colour fonts r block drawn =
-      let plan = write_pixel_plan d (page_named d page) x y colour in
-      let done : Plan Outcome = Done (r, d) in
+      let plan = write_pixel_plan d (page_meant_by_number d page) x y colour in
+      let done : Plan ServiceOutcome = Done (r, d) in
       let runs = run_bind card_meaning plan (λ _. done) c in
       record {
-        refusal = ap (λ n. no_pixels d.mode or no_page n (page_among n page) or outside_pixels (dots_across d) (dots_down d) x y) (pages_are h.row d h.mode);
+        refusal = ap (λ n. no_pixels d.mode or no_page n (page_among n page) or outside_pixels (pixels_across d) (pixels_down d) x y) (pages_are h.row d h.mode);
         answer = λ _. ap (λ q. q.1.0) runs;
         shows = λ e.
             let a = allowed e in
@@ -74,21 +74,21 @@ module _ (c : CardState) (d : BiosData) (h : IsAny c d) (page x y : ℕ) where
         beam = plan_beam (plan >> done) c;
       }
 
-  pub read_by : (fonts : FontSet) (r : Regs) (block : List ℕ) → (is_text d.mode ≡ false → p < pages_of d → There d x y →
+  pub read_by : (fonts : FontSet) (r : Regs) (block : List ℕ) → (is_text d.mode ≡ false → p < page_count d → There d x y →
       IsSeen (λ y. shown y d ≡ Some s) (read_pixel_plan d p x y) (pixel_of s p (pixel_number s x y)) c) → IsServed (ReadPixel page x y) fonts r block c d s
-  unfolding plan_of read_pixel_service refusal_in_mode refusal_on next answer_on
+  unfolding plan_of_service read_pixel_service refusal_in_mode refusal_on next answer_on
   read_by fonts r block read =
       let after : ℕ → Plan Regs = λ colour. Done (record r { ax = with_low r.ax colour }) in
-      let done : Regs → Plan Outcome = λ q. Done (q, d) in
-      let dot = read_pixel_plan d (page_named d page) x y in
+      let done : Regs → Plan ServiceOutcome = λ q. Done (q, d) in
+      let dot = read_pixel_plan d (page_meant_by_number d page) x y in
       let plan = dot >>= after in
       let runs =
       run_bind card_meaning plan done c
       ∙ ap (λ (q : CardState × Regs). run card_meaning (done q.1) q.0) (run_bind card_meaning dot after c)
       ∙ ap (λ i. let q = run card_meaning (read_pixel_plan d i x y) c in let w : CardState
-      × Outcome = (q.0, (record r { ax = with_low r.ax q.1 }, d)) in w) (named_page h.row d h.mode page) in
+      × ServiceOutcome = (q.0, (record r { ax = with_low r.ax q.1 }, d)) in w) (named_page h.row d h.mode page) in
       record {
-        refusal = ap (λ n. no_pixels d.mode or no_page n (page_among n page) or outside_pixels (dots_across d) (dots_down d) x y) (pages_are h.row d h.mode);
+        refusal = ap (λ n. no_pixels d.mode or no_page n (page_among n page) or outside_pixels (pixels_across d) (pixels_down d) x y) (pages_are h.row d h.mode);
         answer = λ e.
             let a = allowed e in
             ap (λ q. q.1.0) runs ∙ ap (λ n. let w : Regs = record r { ax = with_low r.ax n } in w) (read a.in_graphics a.on_page a.there).value;

@@ -1,8 +1,8 @@
 -- Typing a string: from a state that shows a screen to one that shows the next.
 use Rattle.std.proofs.Common.{◌≡◌, ℕ, zero, suc, ◌+◌, ◌*◌, ◌<◌, refl, ap, ◌∙◌, List, length, Option, Some, None, Bool, true, false}
 use Rattle.std.specs.Prelude.{if◌then◌else◌, slice_index}
-use Rattle.bios_screen.proofs.Prelude.{Refusal, IsCard, card_meaning, CardState, BiosData, AreBytes, FontSet, Regs, Plan, run, Done, pages_of, page_among}
-use Rattle.bios_screen.proofs.Prelude.{page_named, Screen, shown, page_meant, IsServed}
+use Rattle.bios_screen.proofs.Prelude.{Refusal, IsCard, card_meaning, CardState, BiosData, AreBytes, FontSet, Regs, Plan, run, Done, page_count, page_among}
+use Rattle.bios_screen.proofs.Prelude.{page_meant_by_number, Screen, shown, page_meant, IsServed}
 use Rattle.bios_modes.specs.Bounds.{IsBda}
 use Rattle.bios_services.specs.declared.strings.StringCall.{StringCall}
 use Rattle.bios_services.specs.declared.call.Service.TheVariants.{WriteString}
@@ -12,7 +12,7 @@ use Rattle.bios_services.specs.Teletype.{type_plan}
 use Rattle.bios_services.specs.Strings.{string_len, character_at, colouring_of_character, type_string_plan, string_plan}
 use Rattle.bios_services.specs.Reasons.{◌or◌, no_page, outside_page, wrong_block}
 use Rattle.bios_services.specs.Refusals.{refusal_in_mode}
-use Rattle.bios_services.specs.Service.{plan_of}
+use Rattle.bios_services.specs.Service.{plan_of_service}
 use Rattle.bios_screen.specs.Step.{refusal_on, next, answer_on, type_character, type_characters, type_string, with_position as placed_on}
 use Rattle.bios_screen.proofs.Base.Plans.{run_bind}
 use Rattle.bios_services.proofs.CardLemmas.{plan_bounds, plan_beam}
@@ -27,7 +27,7 @@ use Rattle.bios_screen.proofs.Services.Teletypes.{moved}
 
 -- ---- characters one after another
 
-module _ (fonts : FontSet) (d : BiosData) (p : ℕ) (lp : p < pages_of d) (call : StringCall) (block : List ℕ) (bytes : AreBytes block)
+module _ (fonts : FontSet) (d : BiosData) (p : ℕ) (lp : p < page_count d) (call : StringCall) (block : List ℕ) (bytes : AreBytes block)
     (colour : call.colour < 256) where
   colouring_small : (i : ℕ) → (colouring_of_character call block i).colour < 256
   colouring_small i = by_test call.has_attributes
@@ -97,10 +97,10 @@ string_allowed pages p rows columns place wrong e =
 
 pub write_string : (call : StringCall) (fonts : FontSet) (r : Regs) (block : List ℕ) (c : CardState) (d : BiosData) (h : IsAny c d) →
     AreBytes block → call.colour < 256 → IsCard c → IsBda d → IsServed (WriteString call) fonts r block c d (any_screen c d h c)
-unfolding plan_of refusal_in_mode refusal_on next answer_on
+unfolding plan_of_service refusal_in_mode refusal_on next answer_on
 write_string call fonts r block c d h bytes colour z bda =
     let s = any_screen c d h c in
-    let p = page_named d call.page in
+    let p = page_meant_by_number d call.page in
     let q = page_meant s call.page in
     let runs = data_runs (string_plan fonts d (record call { page = p }) block) r c in
     record {

@@ -2,7 +2,7 @@
 use Rattle.std.proofs.Common.{◌≡◌, ℕ, zero, suc, ◌+◌, ◌*◌, ◌%◌, ◌<◌, ◌≤◌, refl, sym, ap, ◌∙◌, subst, arith, List, [], ◌∷◌, ◌++◌, Option, Some, None, false, Err}
 use Rattle.std.proofs.lemmas.Bool.Decides.{nat_tests}
 use Rattle.std.specs.Prelude.{if◌then◌else◌, slice_index, take}
-use Rattle.bios_screen.proofs.Prelude.{Refusal, IsCard, card_meaning, CardState, crtc_port, BiosData, FontSet, Regs, Plan, run, Done, ◌>>=◌, listing, Screen}
+use Rattle.bios_screen.proofs.Prelude.{Refusal, IsCard, card_meaning, CardState, crtc_port, BiosData, FontSet, Regs, Plan, run, Done, ◌>>=◌, list_by_function, Screen}
 use Rattle.bios_screen.proofs.Prelude.{shown}
 use Rattle.vga_bits.specs.declared.refusal.Refusal.TheVariants.{NoMode}
 use Rattle.vga_dac.specs.declared.component.Component.TheVariants.{Red}
@@ -15,14 +15,14 @@ use Rattle.bios_services.specs.declared.tables.TableService.TheVariants.{ReadPal
 use Rattle.bios_services.specs.declared.call.Call.{Call}
 use Rattle.bios_services.specs.declared.call.Call.TheVariants.{ReadTable}
 use Rattle.bios_services.specs.Plan.{out, inp, gather}
-use Rattle.bios_services.specs.Palette.{register_plan}
-use Rattle.bios_services.specs.Tables.{table_refusal, palette_register, registers_plan, read_palette_and_overscan_plan, read_components_plan, read_entries_plan, table_plan}
+use Rattle.bios_services.specs.Palette.{read_register_at_index_plan}
+use Rattle.bios_services.specs.Tables.{table_refusal, palette_register, read_palette_registers_plan, read_palette_and_overscan_plan, read_components_plan, read_entries_plan, table_plan}
 use Rattle.bios_services.specs.Calls.{call_of}
-use Rattle.bios_services.specs.Service.{Answered, answer_with, refuse, table_unless, table_in_mode_plan, call_plan}
-use Rattle.bios_screen.specs.Shown.{palette_in}
-use Rattle.bios_screen.specs.Colours.{entries_from, table_answer}
+use Rattle.bios_services.specs.Service.{CallOutcome, answer_with, refusal_plan, table_unless_refused_plan, table_in_mode_plan, call_plan}
+use Rattle.bios_screen.specs.Shown.{palette_of_card}
+use Rattle.bios_screen.specs.Colours.{entry_bytes_from, table_answer}
 use Rattle.bios_screen.specs.AfterCall.{after_call}
-use Rattle.bios_screen.specs.Called.{IsRead, WantsMemory, IsLeft, table_unless as replied_unless}
+use Rattle.bios_screen.specs.Called.{TableCallLeavesScreen, CallRunsOutOfMemory, ScreenStaysShown, table_reply_unless as replied_unless}
 use Rattle.bios_screen.proofs.Base.Plans.{run_bind}
 use Rattle.bios_screen.proofs.Base.Ports.{expected_runs}
 use Rattle.bios_screen.proofs.Base.Lists.{spelled}
@@ -51,12 +51,12 @@ register_small : (i : ℕ) → i < 17 → palette_register i < 18
 register_small i l = grind (arith, nat_tests)
 
 gathered : (c : CardState) (n i j : ℕ) → i + n ≤ 17 → (let l = c.attr.registers in
-    run card_meaning (gather (λ k. register_plan (crtc_port c.misc) (palette_register k)) n i) (with_attr c l j false)
-    ≡ (with_attr c l (index_after n i j) false, listing (λ k. slice_index l (palette_register k)) i n))
+    run card_meaning (gather (λ k. read_register_at_index_plan (crtc_port c.misc) (palette_register k)) n i) (with_attr c l j false)
+    ≡ (with_attr c l (index_after n i j) false, list_by_function (λ k. slice_index l (palette_register k)) i n))
 gathered c zero i j h = refl
 gathered c (suc n) i j h =
     let l = c.attr.registers in
-    let f : ℕ → Plan ℕ = λ k. register_plan (crtc_port c.misc) (palette_register k) in
+    let f : ℕ → Plan ℕ = λ k. read_register_at_index_plan (crtc_port c.misc) (palette_register k) in
     let rest : Plan (List ℕ) = gather f n (i + 1) in
     let x = slice_index l (palette_register i) in
     let c1 = with_attr c l (0x20 + palette_register i) false in
@@ -67,9 +67,9 @@ gathered c (suc n) i j h =
 
 palette_read : (c : CardState) → IsCard c → run card_meaning (read_palette_and_overscan_plan (crtc_port c.misc)) c
     ≡ (with_attr c c.attr.registers 0x31 false, values_of c.attr.registers)
-unfolding read_palette_and_overscan_plan registers_plan
+unfolding read_palette_and_overscan_plan read_palette_registers_plan
 palette_read c z =
-    expected_runs (registers_plan (crtc_port c.misc)) c
+    expected_runs (read_palette_registers_plan (crtc_port c.misc)) c
     ∙ gathered c 17 0 c.attr.index (omega arith)
     ∙ ap (λ k. let p : CardState × List ℕ = (with_attr c c.attr.registers 0x31 false, k) in p) (sym (ap values_of (spelled c.attr.registers 21 z.attr.size)))
 
@@ -97,7 +97,7 @@ entry_by c n i k = refl
 
 -- reading n entries from entry k on
 entries_by : (c : CardState) (n i k : ℕ) → k + n ≤ 256 → run card_meaning (gather next_byte (3 * n) i) (at_entry c (k % 256))
-    ≡ (at_entry c ((k + n) % 256), entries_from (palette_in c) k n)
+    ≡ (at_entry c ((k + n) % 256), entry_bytes_from (palette_of_card c) k n)
 entries_by c zero i k l = let z : k ≡ k + 0 = omega arith in ap (λ j. let p : CardState × List ℕ = (at_entry c (j % 256), []) in p) z
 entries_by c (suc n) i k l =
     let count : 3 * suc n ≡ suc (suc (suc (3 * n))) = omega arith in
@@ -111,14 +111,14 @@ entries_by c (suc n) i k l =
     ∙ entry_by c (3 * n) i k
     ∙ three_more (gather next_byte (3 * n) (i + 1 + 1 + 1)) red green blue (at_entry c ((k + 1) % 256))
     ∙ ap (λ (x : CardState × List ℕ). let p : CardState × List ℕ = (x.0, red ∷ green ∷ blue ∷ x.1) in p) (entries_by c n (i + 1 + 1 + 1) (k + 1) (omega arith))
-    ∙ ap (λ j. let p : CardState × List ℕ = (at_entry c (j % 256), entries_from (palette_in c) k (suc n)) in p) all
+    ∙ ap (λ j. let p : CardState × List ℕ = (at_entry c (j % 256), entry_bytes_from (palette_of_card c) k (suc n)) in p) all
 
 index_by : (c : CardState) (v : ℕ) → (run card_meaning (out 0x3C7 v) c).0 ≡ at_entry c v
 unfolding reached_by out_reached
 index_by c v = refl
 
 entries_read : (c : CardState) (first count : ℕ) → first < 256 → first + count ≤ 256 →
-    run card_meaning (read_entries_plan first count) c ≡ (at_entry c ((first + count) % 256), entries_from (palette_in c) first count)
+    run card_meaning (read_entries_plan first count) c ≡ (at_entry c ((first + count) % 256), entry_bytes_from (palette_of_card c) first count)
 unfolding read_entries_plan read_components_plan
 entries_read c first count begin few =
     let small : first ≡ first % 256 = omega arith in
@@ -158,25 +158,25 @@ is_table (ReadEntries first count) c d h z e =
 -- ---- the call
 
 call_read : (service : TableService) (fonts : FontSet) (r : Regs) (block : List ℕ) (c : CardState) (d : BiosData) (h : IsAny c d) → IsCard c →
-    shown c d ≡ Some (any_screen c d h c) → call_of r ≡ Some (ReadTable service) → IsRead service fonts r block c d (any_screen c d h c)
-unfolding table_in_mode_plan table_unless
+    shown c d ≡ Some (any_screen c d h c) → call_of r ≡ Some (ReadTable service) → TableCallLeavesScreen service fonts r block c d (any_screen c d h c)
+unfolding table_in_mode_plan table_unless_refused_plan
 call_read service fonts r block c d h z old e = by_refusal (table_refusal service) refl
   where
-    done : Table → Plan Answered
+    done : Table → Plan CallOutcome
     done table = Done (answer_with table r d)
 
-    runs : after_call fonts r block c d ≡ run card_meaning (table_unless (table_refusal service) service d r) c
+    runs : after_call fonts r block c d ≡ run card_meaning (table_unless_refused_plan (table_refusal service) service d r) c
     runs =
         ap (λ (q : Option Call). run card_meaning (call_plan q fonts d r block) c) e
-        ∙ ap (λ b. run card_meaning (if b then refuse NoMode d else table_unless (table_refusal service) service d r) c)
+        ∙ ap (λ b. run card_meaning (if b then refusal_plan NoMode d else table_unless_refused_plan (table_refusal service) service d r) c)
         (mode_of_shown c d (any_screen c d h c) old).set
 
     beam_is : (after_call fonts r block c d).0.crtc.beam ≡ c.crtc.beam
-    beam_is = ap (λ y. y.0.crtc.beam) runs ∙ plan_beam (table_unless (table_refusal service) service d r) c
+    beam_is = ap (λ y. y.0.crtc.beam) runs ∙ plan_beam (table_unless_refused_plan (table_refusal service) service d r) c
 
-    by_refusal : (x : Option Refusal) → table_refusal service ≡ x → IsRead service fonts r block c d (any_screen c d h c)
+    by_refusal : (x : Option Refusal) → table_refusal service ≡ x → TableCallLeavesScreen service fonts r block c d (any_screen c d h c)
     by_refusal (Some why) q =
-        let all : after_call fonts r block c d ≡ (c, (Err why, d)) = runs ∙ ap (λ x. run card_meaning (table_unless x service d r) c) q in
+        let all : after_call fonts r block c d ≡ (c, (Err why, d)) = runs ∙ ap (λ x. run card_meaning (table_unless_refused_plan x service d r) c) q in
         record {
           reply = ap (λ x. x.1.0) all ∙ sym (ap (λ x. replied_unless x (table_answer (any_screen c d h c) service) r) q);
           shows = ap (λ x. shown x.0 x.1.1) all ∙ old;
@@ -184,7 +184,7 @@ call_read service fonts r block c d h z old e = by_refusal (table_refusal servic
         }
     by_refusal None q =
         let t = is_table service c d h z q in
-        let all = runs ∙ ap (λ x. run card_meaning (table_unless x service d r) c) q ∙ run_bind card_meaning (table_plan service d.crtc_address) done c in
+        let all = runs ∙ ap (λ x. run card_meaning (table_unless_refused_plan x service d r) c) q ∙ run_bind card_meaning (table_plan service d.crtc_address) done c in
         record {
           reply = ap (λ x. x.1.0) all ∙ ap (λ k. replied_unless None k r) t.answer
               ∙ sym (ap (λ x. replied_unless x (table_answer (any_screen c d h c) service) r) q);
@@ -193,12 +193,12 @@ call_read service fonts r block c d h z old e = by_refusal (table_refusal servic
         }
 
 pub tables_read : (service : TableService) (fonts : FontSet) (r : Regs) (block : List ℕ) (c : CardState) (d : BiosData) (s : Screen) → IsCard c →
-    shown c d ≡ Some s → call_of r ≡ Some (ReadTable service) → IsRead service fonts r block c d s
+    shown c d ≡ Some s → call_of r ≡ Some (ReadTable service) → TableCallLeavesScreen service fonts r block c d s
 tables_read service fonts r block c d s z old e =
     let x = any_is c d s old in
-    subst (IsRead service fonts r block c d) x.screen (call_read service fonts r block c d x.is z (old ∙ ap Some (sym x.screen)) e)
+    subst (TableCallLeavesScreen service fonts r block c d) x.screen (call_read service fonts r block c d x.is z (old ∙ ap Some (sym x.screen)) e)
 
 -- after an allocation failure nothing has changed
 pub memory_wanted : (fonts : FontSet) (r : Regs) (block : List ℕ) (c y : CardState) (d after : BiosData) (s : Screen) → shown c d ≡ Some s →
-    WantsMemory fonts r block c d y after → IsLeft c s y after
+    CallRunsOutOfMemory fonts r block c d y after → ScreenStaysShown c s y after
 memory_wanted fonts r block c y d after s old h = record { shows = ap (λ x. shown x after) h.0 ∙ ap (shown c) h.1 ∙ old; beam = ap (λ x. x.crtc.beam) h.0 }

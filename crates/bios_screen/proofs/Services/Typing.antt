@@ -2,15 +2,15 @@
 -- the next.
 use Rattle.std.proofs.Common.{◌≡◌, ℕ, ◌+◌, ◌-◌, ◌*◌, ◌<◌, refl, sym, ap, ◌∙◌, subst, arith, Some, Bool, true, false}
 use Rattle.std.specs.Prelude.{◌==◌, nat_lt, if◌then◌else◌}
-use Rattle.bios_screen.proofs.Prelude.{IsCard, card_meaning, CardState, BiosData, FontSet, Colouring, pages_of, Plan, run, Done, get, ◌>>=◌, ◌>>◌, Screen}
+use Rattle.bios_screen.proofs.Prelude.{IsCard, card_meaning, CardState, BiosData, FontSet, Colouring, page_count, Plan, run, Done, get, ◌>>=◌, ◌>>◌, Screen}
 use Rattle.bios_screen.proofs.Prelude.{shown}
 use Rattle.bios_services.specs.Cells.{cell_address}
 use Rattle.bios_services.specs.Cursor.{row_of as text_row_of, column_of, cell_number}
 use Rattle.bios_services.specs.Drawing.{character_plan, characters_plan}
 use Rattle.bios_services.specs.Scroll.{page_up_plan}
-use Rattle.bios_services.specs.Teletype.{line_start, line_feed_fill, line_feed_plan, next_position_plan, show_plan, type_plan}
+use Rattle.bios_services.specs.Teletype.{line_start, line_feed_fill, line_feed_plan, next_position_plan, write_and_advance_plan, type_plan}
 use Rattle.bios_screen.specs.Screen.{page_start}
-use Rattle.bios_screen.specs.Step.{cell_on, last_colour, line_feed, cursor_advance, put_characters, put_character, type_character}
+use Rattle.bios_screen.specs.Step.{cell_on, last_row_attribute, after_line_feed, after_cursor_advance, put_characters, put_character, type_character}
 use Rattle.bios_screen.proofs.Base.Plans.{run_bind, then_runs, then_answers}
 use Rattle.bios_screen.proofs.Base.Places.{ends_before}
 use Rattle.bios_services.proofs.CardLemmas.{plan_bounds}
@@ -66,7 +66,7 @@ leads_after p q c d y second = record {
 abbrev pub rise_plan : BiosData → ℕ → ℕ → Plan ℕ
 rise_plan d p place = line_feed_fill d p place >>= λ colour. (page_up_plan d p colour >> Done place)
 
-module _ (fonts : FontSet) (d : BiosData) (p : ℕ) (lp : p < pages_of d) where
+module _ (fonts : FontSet) (d : BiosData) (p : ℕ) (lp : p < page_count d) where
   -- a character at a position is a run of one
   put : (c : CardState) (s : Screen) (place v : ℕ) (colouring : Colouring) → IsCard c → shown c d ≡ Some s → Inside (d.last_row + 1) d.columns place →
       v < 256 → colouring.colour < 256
@@ -84,8 +84,8 @@ module _ (fonts : FontSet) (d : BiosData) (p : ℕ) (lp : p < pages_of d) where
 
   -- the fill of a line feed's row: the attribute read from the last row in text, 0 in graphics
   record IsFilled (c : CardState) (place : ℕ) (s : Screen) : Type 0 where
-    leads : Leads (line_feed_fill d p place) c d (s, last_colour s p place)
-    small : last_colour s p place < 256
+    leads : Leads (line_feed_fill d p place) c d (s, last_row_attribute s p place)
+    small : last_row_attribute s p place < 256
 
   filled : (c : CardState) (s : Screen) (place : ℕ) → IsCard c → shown c d ≡ Some s → column_of place < d.columns → IsFilled c place s
   unfolding line_feed_fill
@@ -100,7 +100,7 @@ module _ (fonts : FontSet) (d : BiosData) (p : ℕ) (lp : p < pages_of d) where
       let last : d.last_row ≡ d.last_row + 1 - 1 = omega arith in
       let there = ap (λ n. (cell_on y (page_start y p + (d.columns * n + column_of place))).1) last in
       record {
-        leads = subst (λ b. Leads (fill b) c d (y, last_colour y p place)) (sym h.tests.is_text) (record {
+        leads = subst (λ b. Leads (fill b) c d (y, last_row_attribute y p place)) (sym h.tests.is_text) (record {
           answer = read.answer ∙ there;
           shows = read.shows;
         });
@@ -120,7 +120,7 @@ module _ (fonts : FontSet) (d : BiosData) (p : ℕ) (lp : p < pages_of d) where
   rises c s place z e lc =
       let fill = line_feed_fill d p place in
       let up : ℕ → Plan (Unit {0}) = page_up_plan d p in
-      let colour = last_colour s p place in
+      let colour = last_row_attribute s p place in
       let x = filled c s place z e lc in
       let c1 = (run card_meaning fill c).0 in
       leads_on fill (λ n. up n >> Done place) c d (s, colour) (risen s p place, place) x.leads
@@ -132,7 +132,7 @@ module _ (fonts : FontSet) (d : BiosData) (p : ℕ) (lp : p < pages_of d) where
   -- ---- typing
 
   feeds : (c : CardState) (s : Screen) (place : ℕ) → IsCard c → shown c d ≡ Some s → column_of place < d.columns →
-      Leads (line_feed_plan d p place) c d (line_feed s p place)
+      Leads (line_feed_plan d p place) c d (after_line_feed s p place)
   unfolding line_feed_plan
   feeds c s place z e lc =
       let cut = cut_is c d s e in
@@ -145,27 +145,27 @@ module _ (fonts : FontSet) (d : BiosData) (p : ℕ) (lp : p < pages_of d) where
       ) (record { answer = refl; shows = e }) (rises c s place z e lc))
 
   advances : (c : CardState) (s : Screen) (place : ℕ) → IsCard c → shown c d ≡ Some s → column_of place < d.columns →
-      Leads (next_position_plan d p place) c d (cursor_advance s p place)
+      Leads (next_position_plan d p place) c d (after_cursor_advance s p place)
   unfolding next_position_plan
   advances c s place z e lc =
       let below = feeds c s place z e lc in
       let start : ℕ → Plan ℕ = λ x. Done (line_start x) in
-      let next : Screen × ℕ = ((line_feed s p place).0, line_start (line_feed s p place).1) in
+      let next : Screen × ℕ = ((after_line_feed s p place).0, line_start (after_line_feed s p place).1) in
       subst (λ n. Leads (if nat_lt (column_of place + 1) d.columns then Done (place + 1)
       else (line_feed_plan d p place >>= start)) c d (if nat_lt (column_of place + 1) n then (s, place + 1) else next)) (sym (cut_is c d s e).columns)
       (leads_if (nat_lt (column_of place + 1) d.columns) (Done (place + 1)) (line_feed_plan d p place >>= start) c d (
         s,
         place + 1,
       ) next (record { answer = refl; shows = e })
-      (leads_on (line_feed_plan d p place) start c d (line_feed s p place) next below (record { answer = refl; shows = below.shows })))
+      (leads_on (line_feed_plan d p place) start c d (after_line_feed s p place) next below (record { answer = refl; shows = below.shows })))
 
   module _ (c : CardState) (s : Screen) (place v : ℕ) (colouring : Colouring) (z : IsCard c) (e : shown c d ≡ Some s)
       (i : Inside (d.last_row + 1) d.columns place) (lv : v < 256) (la : colouring.colour < 256) where
-    shows : Leads (show_plan fonts d p place v colouring) c d (cursor_advance (put_character fonts s p place v colouring) p place)
-    unfolding show_plan
+    shows : Leads (write_and_advance_plan fonts d p place v colouring) c d (after_cursor_advance (put_character fonts s p place v colouring) p place)
+    unfolding write_and_advance_plan
     shows =
         let write = character_plan fonts d p (cell_number d place) v colouring in
-        leads_after write (next_position_plan d p place) c d (cursor_advance (put_character fonts s p place v colouring) p place)
+        leads_after write (next_position_plan d p place) c d (after_cursor_advance (put_character fonts s p place v colouring) p place)
         (advances (run card_meaning write c).0 (put_character fonts s p place v colouring) place (plan_bounds write c z)
         (put c s place v colouring z e i lv la) i.column)
 
@@ -181,11 +181,11 @@ module _ (fonts : FontSet) (d : BiosData) (p : ℕ) (lp : p < pages_of d) where
         stays n = record { answer = refl; shows = e }
 
         on : Screen × ℕ
-        on = cursor_advance (put_character fonts s p place v colouring) p place
+        on = after_cursor_advance (put_character fonts s p place v colouring) p place
 
         by_tests : (a b f g : Bool) → Leads (if a then Done place else if b then Done back else if f then line_feed_plan d p place else if g
-            then Done (line_start place) else show_plan fonts d p place v colouring) c d (if a then (s, place) else if b then (s, back) else if f
-            then line_feed s p place else if g then (s, line_start place) else on)
+            then Done (line_start place) else write_and_advance_plan fonts d p place v colouring) c d (if a then (s, place) else if b then (s, back) else if f
+            then after_line_feed s p place else if g then (s, line_start place) else on)
         by_tests true b f g = stays place
         by_tests false true f g = stays back
         by_tests false false true g = feeds c s place z e i.column

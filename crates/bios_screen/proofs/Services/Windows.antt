@@ -1,13 +1,13 @@
 -- Functions 06 and 07, and moving a page up by a row, in any mode.
 use Rattle.std.proofs.Common.{◌≡◌, ℕ, ◌+◌, ◌<◌, ◌≤◌, refl, sym, ap, ◌∙◌, arith, Option, Some, None}
-use Rattle.bios_screen.proofs.Prelude.{IsCard, card_meaning, CardState, BiosData, bytes_320_by_200, Direction, Up, Down, Regs, Window, pages_of, Plan, run}
-use Rattle.bios_screen.proofs.Prelude.{Done, ◌>>◌, Outcome, Screen, shown}
+use Rattle.bios_screen.proofs.Prelude.{IsCard, card_meaning, CardState, BiosData, bytes_320_by_200, Direction, Up, Down, Regs, Window, page_count, Plan, run}
+use Rattle.bios_screen.proofs.Prelude.{Done, ◌>>◌, ServiceOutcome, Screen, shown}
 use Rattle.bios_services.specs.declared.call.Service.TheVariants.{ScrollUp, ScrollDown}
 use Rattle.bios_services.specs.declared.scroll.Scroll.{Scroll}
 use Rattle.bios_services.specs.Refusals.{refusal_in_mode}
-use Rattle.bios_services.specs.Scroll.{IsOnPage, window_among, whole_page, lines_of, window_plan, page_up_plan, scroll_within, scroll_plan}
-use Rattle.bios_services.specs.Service.{plan_of}
-use Rattle.bios_screen.specs.AfterCall.{Serves}
+use Rattle.bios_services.specs.Scroll.{IsOnPage, window_among, whole_page, rows_to_scroll, scroll_window_plan, page_up_plan, scroll_window_if_any, scroll_plan}
+use Rattle.bios_services.specs.Service.{plan_of_service}
+use Rattle.bios_screen.specs.AfterCall.{ServiceLeadsToNextScreen}
 use Rattle.bios_screen.specs.Step.{scroll_window, scroll_asked, scroll, page_up, refusal_on, next, answer_on}
 use Rattle.bios_services.proofs.CardLemmas.{plan_beam}
 use Rattle.bios_screen.proofs.Base.Plans.{run_bind}
@@ -20,17 +20,17 @@ use Rattle.bios_screen.proofs.Planar.Scrolls as planar
 use Rattle.bios_screen.proofs.Packed.Scrolls as packed
 
 module _ (c : CardState) (d : BiosData) (s : Screen) (z : IsCard c) (e : shown c d ≡ Some s) where
-  window_shown : (p : ℕ) → p < pages_of d → (w : Window) → IsOnPage (d.last_row + 1) d.columns w → (direction : Direction) (n colour : ℕ) → 0 < n →
+  window_shown : (p : ℕ) → p < page_count d → (w : Window) → IsOnPage (d.last_row + 1) d.columns w → (direction : Direction) (n colour : ℕ) → 0 < n →
       n ≤ w.height →
-      colour < 256 → shown (run card_meaning (window_plan d p w direction n colour) c).0 d ≡ Some (scroll_window s p w direction n colour)
+      colour < 256 → shown (run card_meaning (scroll_window_plan d p w direction n colour) c).0 d ≡ Some (scroll_window s p w direction n colour)
   window_shown p lp w on direction n colour some few lc =
-      by_modes c d (λ x. shown (run card_meaning (window_plan d p w direction n colour) c).0 d ≡ Some (scroll_window x p w direction n colour))
+      by_modes c d (λ x. shown (run card_meaning (scroll_window_plan d p w direction n colour) c).0 d ≡ Some (scroll_window x p w direction n colour))
       (λ h. text.window_shown c d h p (page_in h.row d p h.mode lp) w on direction n colour z some few lc)
       (λ row is. planar.window_shown row c d is z p (page_in row d p (is.there d.height) lp) w on direction n colour some few)
       (λ is. packed.window_shown c d is z p (page_in bytes_320_by_200 d p (is.there d.height) lp) w on direction n colour lc some few)
       s e
 
-  pub page_raised : (p colour : ℕ) → p < pages_of d → colour < 256 → shown (run card_meaning (page_up_plan d p colour) c).0 d
+  pub page_raised : (p colour : ℕ) → p < page_count d → colour < 256 → shown (run card_meaning (page_up_plan d p colour) c).0 d
       ≡ Some (page_up s p colour)
   page_raised p colour lp lc =
       let cut = cut_is c d s e in
@@ -50,25 +50,25 @@ module _ (c : CardState) (d : BiosData) (s : Screen) (z : IsCard c) (e : shown c
         cut : IsCut d s
         cut = cut_is c d s e
 
-        by_window : (o : Option Window) → window_among (d.last_row + 1) d.columns asked ≡ o → shown (run card_meaning (scroll_within d asked direction o) c).0 d
+        by_window : (o : Option Window) → window_among (d.last_row + 1) d.columns asked ≡ o → shown (run card_meaning (scroll_window_if_any d asked direction o) c).0 d
             ≡ Some (scroll_asked s asked direction o)
         by_window None q = e
         by_window (Some w) q =
             let on = cut_on_page (d.last_row + 1) d.columns asked w q in
-            let n = lines_of w asked.lines in
+            let n = rows_to_scroll w asked.lines in
             window_shown d.page cut.active w on direction n asked.fill (some_lines w asked.lines on.some) (few_lines w asked.lines) lc
             ∙ ap (λ p. Some (scroll_window s p w direction n asked.fill)) (sym cut.page)
 
     -- the service's answer and the screen after it; the beam stays where it is
     pub record IsPerformed (r : Regs) : Type 0 where
-      pub answer : (run card_meaning (scroll_plan d asked direction >> (let x : Plan Outcome = Done (r, d) in x)) c).1.0 ≡ r
-      pub shows : (let x = run card_meaning (scroll_plan d asked direction >> (let y : Plan Outcome = Done (r, d) in y)) c in shown x.0 x.1.1)
+      pub answer : (run card_meaning (scroll_plan d asked direction >> (let x : Plan ServiceOutcome = Done (r, d) in x)) c).1.0 ≡ r
+      pub shows : (let x = run card_meaning (scroll_plan d asked direction >> (let y : Plan ServiceOutcome = Done (r, d) in y)) c in shown x.0 x.1.1)
           ≡ Some (scroll s asked direction)
-      pub beam : (run card_meaning (scroll_plan d asked direction >> (let x : Plan Outcome = Done (r, d) in x)) c).0.crtc.beam ≡ c.crtc.beam
+      pub beam : (run card_meaning (scroll_plan d asked direction >> (let x : Plan ServiceOutcome = Done (r, d) in x)) c).0.crtc.beam ≡ c.crtc.beam
 
     pub is_performed : (r : Regs) → IsPerformed r
     is_performed r =
-        let done : Plan Outcome = Done (r, d) in
+        let done : Plan ServiceOutcome = Done (r, d) in
         let runs = run_bind card_meaning (scroll_plan d asked direction) (λ _. done) c in
         record {
           answer = ap (λ q. q.1.0) runs;
@@ -76,12 +76,12 @@ module _ (c : CardState) (d : BiosData) (s : Screen) (z : IsCard c) (e : shown c
           beam = plan_beam (scroll_plan d asked direction >> done) c;
         }
 
-pub scroll_up : (asked : Scroll) → asked.fill < 256 → Serves (ScrollUp asked)
-unfolding plan_of refusal_in_mode refusal_on next answer_on
+pub scroll_up : (asked : Scroll) → asked.fill < 256 → ServiceLeadsToNextScreen (ScrollUp asked)
+unfolding plan_of_service refusal_in_mode refusal_on next answer_on
 scroll_up asked lc fonts r block c d s bytes z bda e = let x = is_performed c d s z e asked lc Up r in
     record { refusal = refl; answer = λ _. x.answer; shows = λ _. x.shows; beam = x.beam }
 
-pub scroll_down : (asked : Scroll) → asked.fill < 256 → Serves (ScrollDown asked)
-unfolding plan_of refusal_in_mode refusal_on next answer_on
+pub scroll_down : (asked : Scroll) → asked.fill < 256 → ServiceLeadsToNextScreen (ScrollDown asked)
+unfolding plan_of_service refusal_in_mode refusal_on next answer_on
 scroll_down asked lc fonts r block c d s bytes z bda e = let x = is_performed c d s z e asked lc Down r in
     record { refusal = refl; answer = λ _. x.answer; shows = λ _. x.shows; beam = x.beam }

@@ -2,10 +2,10 @@
 use Rattle.std.proofs.Common.{◌≡◌, ℕ, ◌+◌, ◌<◌, ◌≤◌, refl, sym, ap, subst, ◌∙◌, arith, Bool, true, false, List, [], Some}
 use Rattle.std.specs.Prelude.{◌==◌, ◌&&◌, ◌*◌, ◌/◌, if◌then◌else◌, slice_index, bit_and}
 use Rattle.std.specs.Str.{bytes_eq}
-use Rattle.bios_screen.proofs.Prelude.{Four, is_palette_shown, CardState, crtc_port, ModeRow, row_at, BiosData, is_text, pages_of, start_address, Screen}
-use Rattle.bios_screen.proofs.Prelude.{shows_attribute, all_cells, page_pixels, shown}
+use Rattle.bios_screen.proofs.Prelude.{Four, is_palette_shown, CardState, crtc_port, ModeRow, mode_row_at_height, BiosData, is_text, page_count, start_address, Screen}
+use Rattle.bios_screen.proofs.Prelude.{shows_attribute, text_memory_cells, page_pixels, shown}
 use Rattle.bios_screen.specs.Screen.{Contents, Cells, Pixels}
-use Rattle.bios_screen.specs.Shown.{cells_in, glyphs_in, pixel_pages, crtc_shown, screen_by, screen_of}
+use Rattle.bios_screen.specs.Shown.{cells_in, glyphs_in, pixel_pages, crtc_registers_shown, screen_with_contents, screen_of}
 use Rattle.bios_screen.proofs.Base.Tests.{both_true, same}
 use Rattle.bios_screen.proofs.Base.Places.{half_start, ends_before}
 use Rattle.bios_screen.proofs.Base.Setting.{Setting, setting}
@@ -23,7 +23,7 @@ with_cursors d type places page start = record d { cursor_type = type; cursor_pl
 -- what is known of a shown screen in any mode; contents and glyphs depend on memory alone
 pub record IsAny (c : CardState) (d : BiosData) : Type 0 where
   pub row : ModeRow
-  pub mode : row_at d.mode d.height ≡ Some row
+  pub mode : mode_row_at_height d.mode d.height ≡ Some row
   pub port : d.crtc_address ≡ crtc_port c.misc
   pub steady : Blinks row 0
   pub blinks : Blinks row 1
@@ -37,10 +37,10 @@ pub record IsAny (c : CardState) (d : BiosData) : Type 0 where
   pub contents : Four (List ℕ) → Contents
   pub glyphs : Four (List ℕ) → List ℕ
   pub screen : (y : CardState) (type : ℕ) (places : List ℕ) (page start : ℕ) → (let e = with_cursors d type places page start in
-      screen_of row y e ≡ screen_by row y e distance (contents y.host.memory) (glyphs y.host.memory))
+      screen_of row y e ≡ screen_with_contents row y e distance (contents y.host.memory) (glyphs y.host.memory))
 
 abbrev pub any_screen : (c : CardState) (d : BiosData) → IsAny c d → (y : CardState) → Screen
-any_screen c d h y = screen_by h.row y d h.distance (h.contents y.host.memory) (h.glyphs y.host.memory)
+any_screen c d h y = screen_with_contents h.row y d h.distance (h.contents y.host.memory) (h.glyphs y.host.memory)
 
 -- the test holds in another state too, if its memory-cycle and CRT controller registers are the
 -- same and its attribute controller passes
@@ -49,7 +49,7 @@ pub same_tests : (row : ModeRow) (c y : CardState) (d : BiosData) → setting y 
 same_tests row c y d s e a t = record {
   memory = ap (λ (x : Setting). (x.misc == row.misc) && (bytes_eq x.seq row.sequencer && bytes_eq x.gfx row.graphics)) s ∙ t.memory;
   data_test = t.data_test;
-  crtc = e ∙ t.crtc ∙ ap (crtc_shown row d) (sym e);
+  crtc = e ∙ t.crtc ∙ ap (crtc_registers_shown row d) (sym e);
   attribute = a;
 }
 
@@ -101,7 +101,7 @@ any_is c d s h = by_kind (is_text d.mode) refl
             few = λ u page lp. start_few page lp;
             tests = all_of y.row c d y.tests;
             distance = d.size / 2;
-            contents = λ m. Cells (cells_in m.plane0 m.plane1 all_cells);
+            contents = λ m. Cells (cells_in m.plane0 m.plane1 text_memory_cells);
             glyphs = λ m. glyphs_in m.plane2 4096;
             screen = λ z type places page start. screen_is_text y.row z (with_cursors d type places page start) t;
           };
@@ -140,7 +140,7 @@ pub record IsCut (d : BiosData) (s : Screen) : Type 0 where
   pub narrow : d.columns ≤ 80
   pub low : d.last_row + 1 ≤ 255
   pub page : s.page ≡ d.page
-  pub active : d.page < pages_of d
+  pub active : d.page < page_count d
 
 pub cut_is : (c : CardState) (d : BiosData) (s : Screen) → shown c d ≡ Some s → IsCut d s
 cut_is c d s e =

@@ -11,13 +11,13 @@ use Rattle.bios_services.specs.declared.call.Service.TheVariants.{SetCursorType,
 use Rattle.bios_services.specs.declared.call.Service.TheVariants.{WritePixel, ReadPixel, Teletype, ReadMode, Colours, ReadAdapter, WriteString, ReadDisplay}
 use Rattle.bios_services.specs.declared.scroll.Scroll.{Scroll}
 use Rattle.bios_services.specs.Scroll.{window_among}
-use Rattle.bios_services.specs.Teletype.{line_start, dots_in}
+use Rattle.bios_services.specs.Teletype.{line_start, pixel_colouring}
 use Rattle.bios_services.specs.Strings.{character_at, colouring_of_character}
 use Rattle.bios_services.specs.Cursor.{row_of, column_of}
 use Rattle.bios_screen.specs.Screen.{cursor_position}
 use Rattle.bios_screen.specs.Colours.{with_colours}
 use Rattle.bios_screen.specs.Called.{screen_unless}
-use Rattle.bios_screen.specs.Step.{scroll_asked, last_colour, page_up, line_feed, cursor_advance, put_character, type_character, type_characters}
+use Rattle.bios_screen.specs.Step.{scroll_asked, last_row_attribute, page_up, after_line_feed, after_cursor_advance, put_character, type_character, type_characters}
 use Rattle.bios_screen.specs.Step.{with_position, next}
 
 -- t has the mode and the layout of s
@@ -39,16 +39,16 @@ cut_either : (s : Screen) (b : Bool) (x y : Screen) → IsCutAs s x → IsCutAs 
 cut_either s true x y h k = h
 cut_either s false x y h k = k
 
-fed_cut : (s : Screen) (page place : ℕ) → IsCutAs s (line_feed s page place).0
+fed_cut : (s : Screen) (page place : ℕ) → IsCutAs s (after_line_feed s page place).0
 fed_cut s page place = cut_if s (nat_lt (row_of place) (s.layout.rows - 1)) (s, place + 256) (
-  page_up s page (last_colour s page place),
+  page_up s page (last_row_attribute s page place),
   place,
 ) (uncut s) (record { mode = refl; layout = refl })
 
-advanced_cut : (s : Screen) (page place : ℕ) → IsCutAs s (cursor_advance s page place).0
+advanced_cut : (s : Screen) (page place : ℕ) → IsCutAs s (after_cursor_advance s page place).0
 advanced_cut s page place = cut_if s (nat_lt (column_of place + 1) s.layout.columns) (s, place + 1) (
-  (line_feed s page place).0,
-  line_start (line_feed s page place).1,
+  (after_line_feed s page place).0,
+  line_start (after_line_feed s page place).1,
 ) (uncut s) (fed_cut s page place)
 
 typed_cut : (fonts : FontSet) (s : Screen) (page place character : ℕ) (colouring : Colouring) →
@@ -59,8 +59,8 @@ typed_cut fonts s page place character colouring =
     let is_put : IsCutAs s put = record { mode = refl; layout = refl } in
     cut_if s (character == 0x07) (s, place) _ (uncut s)
     (cut_if s (character == 0x08) (s, if column_of place == 0 then place else place - 1) _ (uncut s)
-    (cut_if s (character == 0x0A) (line_feed s page place) _ (fed_cut s page place)
-    (cut_if s (character == 0x0D) (s, line_start place) (cursor_advance put page place) (uncut s) (cut_on is_put (advanced_cut put page place)))))
+    (cut_if s (character == 0x0A) (after_line_feed s page place) _ (fed_cut s page place)
+    (cut_if s (character == 0x0D) (s, line_start place) (after_cursor_advance put page place) (uncut s) (cut_on is_put (advanced_cut put page place)))))
 
 string_cut : (fonts : FontSet) (call : StringCall) (block : List ℕ) (page n i : ℕ) (at : Screen × ℕ) →
     IsCutAs at.0 (type_characters fonts call block page n i at).0
@@ -101,8 +101,8 @@ next_cut fonts s (WriteCells cells) block = record { mode = refl; layout = refl 
 next_cut fonts s (WritePixel page x y colour) block = record { mode = refl; layout = refl }
 next_cut fonts s (ReadPixel page x y) block = uncut s
 next_cut fonts s (Teletype character colour) block =
-    let after = type_character fonts s s.page (cursor_position s s.page) character (dots_in colour) in
-    let is : IsCutAs s after.0 = typed_cut fonts s s.page (cursor_position s s.page) character (dots_in colour) in
+    let after = type_character fonts s s.page (cursor_position s s.page) character (pixel_colouring colour) in
+    let is : IsCutAs s after.0 = typed_cut fonts s s.page (cursor_position s s.page) character (pixel_colouring colour) in
     cut_either s (character == 0x07) s (with_position after.0 s.page after.1) (uncut s) (record { mode = is.mode; layout = is.layout })
 next_cut fonts s ReadMode block = uncut s
 next_cut fonts s (Colours service) block = coloured_cut s service block

@@ -1,14 +1,14 @@
 -- What a shown screen of pixels implies for registers and data.
 use Rattle.std.proofs.Common.{◌≡◌, sym, ap, ◌∙◌, false, Some}
 use Rattle.std.specs.Prelude.{if◌then◌else◌}
-use Rattle.bios_screen.proofs.Prelude.{CardState, ModeRow, row_at, BiosData, is_text, Screen, pixel_screen, shown}
+use Rattle.bios_screen.proofs.Prelude.{CardState, ModeRow, mode_row_at_height, BiosData, is_text, Screen, pixel_screen, shown}
 use Rattle.bios_screen.specs.Shown.{text_screen, screen_of}
 use Rattle.bios_screen.proofs.Shows.Screens.{HasData, data_is, AllTests, row_shown, shown_by_row}
 
 -- what is known when a screen of pixels is shown
 pub record IsPixels (c : CardState) (d : BiosData) : Type 0 where
   pub row : ModeRow
-  pub mode : row_at d.mode d.height ≡ Some row
+  pub mode : mode_row_at_height d.mode d.height ≡ Some row
   pub text : is_text d.mode ≡ false
   pub tests : AllTests row c d
   pub has : HasData row d
@@ -33,6 +33,6 @@ pixels_of_shown c d s t h =
     }
 
 -- conversely, if the tests hold in graphics, the screen of pixels is shown
-pub pixels_shown_of : (c : CardState) (d : BiosData) (row : ModeRow) → row_at d.mode d.height ≡ Some row → is_text d.mode ≡ false → AllTests row c d →
+pub pixels_shown_of : (c : CardState) (d : BiosData) (row : ModeRow) → mode_row_at_height d.mode d.height ≡ Some row → is_text d.mode ≡ false → AllTests row c d →
     shown c d ≡ Some (pixel_screen row c d)
 pixels_shown_of c d row e t tests = shown_by_row c d row e tests ∙ ap (λ (x : Screen). Some x) (screen_is_pixels row c d t)

@@ -4,13 +4,13 @@ use Rattle.std.proofs.Common.{append_assoc, get_or, Bool, true, false, Some, Non
 use Rattle.std.specs.Prelude.{slice_index, slice_set, bit_and, nat_lt, ◌&&◌, if◌then◌else◌}
 use Rattle.std.proofs.lemmas.Bool.{cases_lt}
 use Rattle.std.proofs.lemmas.List.{get_or_append_left, get_or-append-add, get_or_default, append-nil, length-append}
-use Rattle.bios_screen.proofs.Prelude.{Four, CardState, ModeRow, row_at, BiosData, is_text, is_packed, start_address, listing, Cell, Screen, cell_in, pixel_in}
+use Rattle.bios_screen.proofs.Prelude.{Four, CardState, ModeRow, mode_row_at_height, BiosData, is_text, is_packed, start_address, list_by_function, Cell, Screen, cell_in, pixel_in}
 use Rattle.bios_screen.proofs.Prelude.{page_pixels, pixel_screen, crtc_registers}
-use Rattle.bios_screen.specs.Screen.{Contents, Cells, Pixels, Layout, no_cell, cell_of}
+use Rattle.bios_screen.specs.Screen.{Contents, Cells, Pixels, Layout, missing_cell, cell_of}
 use Rattle.bios_screen.specs.Parts.{text_cell, page_pixel, cut_pages, pixel_count, contents_of, IsLaidOut}
-use Rattle.bios_screen.specs.Shown.{cells_in, glyph_byte, glyphs_in, pixels_in, pixel_pages, layout_of, screen_by}
-use Rattle.bios_screen.specs.Shown.{crtc_shown, location_shown, shows}
-use Rattle.bios_screen.specs.Raster.{join}
+use Rattle.bios_screen.specs.Shown.{cells_in, glyph_byte, glyphs_in, pixels_in, pixel_pages, layout_of, screen_with_contents}
+use Rattle.bios_screen.specs.Shown.{crtc_registers_shown, cursor_location_shown, shows}
+use Rattle.bios_screen.specs.Raster.{concatenated_lists}
 use Rattle.bios_screen.proofs.Base.Lists.{spelled, same_from_0, length_listing, listed_at}
 use Rattle.bios_screen.proofs.Base.Places.{ends_before}
 use Rattle.bios_screen.proofs.Base.Tests.{lt_test}
@@ -19,15 +19,15 @@ use Rattle.bios_screen.proofs.Shows.Screens.{data_is, all_tests_of, tests_of}
 use Rattle.bios_screen.proofs.Modes.PixelModes.{pixels_of}
 
 -- a listing that is one element longer
-listing_more : {Y : Type 0} (f : ℕ → Y) (i n : ℕ) → listing f i (n + 1) ≡ listing f i n ++ f (i + n) ∷ []
+listing_more : {Y : Type 0} (f : ℕ → Y) (i n : ℕ) → list_by_function f i (n + 1) ≡ list_by_function f i n ++ f (i + n) ∷ []
 listing_more f i zero = let z : i ≡ i + 0 = omega arith in ap (λ k. f k ∷ []) z
 listing_more f i (suc n) =
     let s : suc n + 1 ≡ suc (n + 1) = omega arith in
     let z : i + 1 + n ≡ i + suc n = omega arith in
-    ap (listing f i) s ∙ ap (λ l. f i ∷ l) (listing_more f (i + 1) n ∙ ap (λ k. listing f (i + 1) n ++ f k ∷ []) z)
+    ap (list_by_function f i) s ∙ ap (λ l. f i ∷ l) (listing_more f (i + 1) n ∙ ap (λ k. list_by_function f (i + 1) n ++ f k ∷ []) z)
 
-listed_more : {Y : Type 0} (f : ℕ → Y) (n : ℕ) → listing f 0 (n + 1) ≡ listing f 0 n ++ f n ∷ []
-listed_more f n = let z : 0 + n ≡ n = omega arith in listing_more f 0 n ∙ ap (λ k. listing f 0 n ++ f k ∷ []) z
+listed_more : {Y : Type 0} (f : ℕ → Y) (n : ℕ) → list_by_function f 0 (n + 1) ≡ list_by_function f 0 n ++ f n ∷ []
+listed_more f n = let z : 0 + n ≡ n = omega arith in listing_more f 0 n ∙ ap (λ k. list_by_function f 0 n ++ f k ∷ []) z
 
 pub no_cells : (a b : List ℕ) → [] ≡ cells_in a b 0
 unfolding cells_in
@@ -47,42 +47,42 @@ more_glyphs a n = listed_more (glyph_byte a) n
 
 -- ---- the pixels of all pages in one list
 
-joined_length : (f : ℕ → List ℕ) (n m : ℕ) → ((q : ℕ) → q < m → length (f q) ≡ n) → length (join f m) ≡ n * m
-unfolding join
+joined_length : (f : ℕ → List ℕ) (n m : ℕ) → ((q : ℕ) → q < m → length (f q) ≡ n) → length (concatenated_lists f m) ≡ n * m
+unfolding concatenated_lists
 joined_length f n zero h = let z : 0 ≡ n * 0 = omega arith in z
 joined_length f n (suc m) h =
     let z : n * m + n ≡ n * suc m = omega arith in
-    length-append (join f m) (f m) ∙ ap (λ k. k + length (f m)) (joined_length f n m (λ q l. h q (omega arith))) ∙ ap (λ k. n * m + k) (h m (omega arith)) ∙ z
+    length-append (concatenated_lists f m) (f m) ∙ ap (λ k. k + length (f m)) (joined_length f n m (λ q l. h q (omega arith))) ∙ ap (λ k. n * m + k) (h m (omega arith)) ∙ z
 
 -- pixel k of page p, in the joined list; each page has n pixels
 joined_at : (f : ℕ → List ℕ) (n pages p k : ℕ) → ((q : ℕ) → q < pages → length (f q) ≡ n) → p < pages → k < n →
-    slice_index (join f pages) (n * p + k) ≡ slice_index (f p) k
-unfolding join
+    slice_index (concatenated_lists f pages) (n * p + k) ≡ slice_index (f p) k
+unfolding concatenated_lists
 joined_at f n zero p k size lp lk = absurd (omega arith)
 joined_at f n (suc m) p k size lp lk = ⊎_elim
     (λ (l : p < m).
     let z = ends_before n p m l in
     let all = joined_length f n m (λ q h. size q (omega arith)) in
-    get_or_append_left (join f m) (f m) 0 (n * p + k) (omega arith) ∙ joined_at f n m p k (λ q h. size q (omega arith)) l lk)
+    get_or_append_left (concatenated_lists f m) (f m) 0 (n * p + k) (omega arith) ∙ joined_at f n m p k (λ q h. size q (omega arith)) l lk)
     (λ (l : m ≤ p).
     let e : p ≡ m = omega arith in
     let all = joined_length f n m (λ q h. size q (omega arith)) in
-    let at : n * p + k ≡ length (join f m) + k = ap (λ q. n * q + k) e ∙ ap (λ q. q + k) (sym all) in
-    ap (slice_index (join f m ++ f m)) at ∙ get_or-append-add (join f m) (f m) k 0 ∙ ap (λ q. slice_index (f q) k) (sym e))
+    let at : n * p + k ≡ length (concatenated_lists f m) + k = ap (λ q. n * q + k) e ∙ ap (λ q. q + k) (sym all) in
+    ap (slice_index (concatenated_lists f m ++ f m)) at ∙ get_or-append-add (concatenated_lists f m) (f m) k 0 ∙ ap (λ q. slice_index (f q) k) (sym e))
     (cases_lt p m)
 
-pub cut_joined : (f : ℕ → List ℕ) (n pages : ℕ) → ((q : ℕ) → q < pages → length (f q) ≡ n) → cut_pages (join f pages) n pages ≡ listing f 0 pages
+pub cut_joined : (f : ℕ → List ℕ) (n pages : ℕ) → ((q : ℕ) → q < pages → length (f q) ≡ n) → cut_pages (concatenated_lists f pages) n pages ≡ list_by_function f 0 pages
 unfolding cut_pages
 cut_joined f n pages size =
-    same_from_0 f (λ p. listing (λ k. slice_index (join f pages) (n * p + k)) 0 n) pages
-    (λ p lp. same_from_0 (slice_index (f p)) (λ k. slice_index (join f pages) (n * p + k)) n (λ k lk. joined_at f n pages p k size lp lk)
+    same_from_0 f (λ p. list_by_function (λ k. slice_index (concatenated_lists f pages) (n * p + k)) 0 n) pages
+    (λ p lp. same_from_0 (slice_index (f p)) (λ k. slice_index (concatenated_lists f pages) (n * p + k)) n (λ k lk. joined_at f n pages p k size lp lk)
     ∙ sym (spelled (f p) n (size p lp)))
 
 -- conversely, pixel k of page p after the list is cut into pages
 pub cut_at : (pixels : List ℕ) (n pages p k : ℕ) → p < pages → k < n → slice_index (get_or (cut_pages pixels n pages) p []) k ≡ slice_index pixels (n * p + k)
 unfolding cut_pages
 cut_at pixels n pages p k lp lk =
-    ap (λ l. slice_index l k) (listed_at (λ q. listing (λ j. slice_index pixels (n * q + j)) 0 n) pages p [] lp)
+    ap (λ l. slice_index l k) (listed_at (λ q. list_by_function (λ j. slice_index pixels (n * q + j)) 0 n) pages p [] lp)
     ∙ listed_at (λ j. slice_index pixels (n * p + j)) n k 0 lk
 
 pub no_pixels : (mode : ℕ) (m : Four (List ℕ)) (z : ℕ) (l : List ℕ) → l ≡ l ++ pixels_in mode m z 0
@@ -100,12 +100,12 @@ pixel_pushed mode m z n old items e =
     ∙ append_assoc old (pixels_in mode m z n) (pixel_in mode m z n ∷ [])
     ∙ ap (λ l. old ++ l) (sym (more_pixels mode m z n))
 
-pages_length : (mode : ℕ) (m : Four (List ℕ)) (size n pages : ℕ) → length (join (λ p. pixels_in mode m (size * p) n) pages) ≡ n * pages
+pages_length : (mode : ℕ) (m : Four (List ℕ)) (size n pages : ℕ) → length (concatenated_lists (λ p. pixels_in mode m (size * p) n) pages) ≡ n * pages
 unfolding pixels_in
 pages_length mode m size n pages = joined_length (λ p. pixels_in mode m (size * p) n) n pages (λ q l. length_listing (pixel_in mode m (size * q)) 0 n)
 
 -- the joined pixels, cut into pages again, are the pages of the memory
-pub pages_are : (mode : ℕ) (m : Four (List ℕ)) (size n pages : ℕ) → cut_pages (join (λ p. pixels_in mode m (size * p) n) pages) n pages
+pub pages_are : (mode : ℕ) (m : Four (List ℕ)) (size n pages : ℕ) → cut_pages (concatenated_lists (λ p. pixels_in mode m (size * p) n) pages) n pages
     ≡ pixel_pages mode m size n pages
 unfolding pixels_in pixel_pages
 pages_are mode m size n pages = cut_joined (λ p. pixels_in mode m (size * p) n) n pages (λ q l. length_listing (pixel_in mode m (size * q)) 0 n)
@@ -137,7 +137,7 @@ pub cell_there : (mode : ℕ) (l : Layout) (cells : List Cell) (pixels : List �
 cell_there mode l cells pixels page row column x t lp lr lc within e =
     let k = l.distance * page + (l.columns * row + column) in
     let q = text_cell (contents_of mode l cells pixels) k in
-    ap (λ (y : Cell). Some y) (e ∙ get_or_default cells k x no_cell within) ∙ sym (
+    ap (λ (y : Cell). Some y) (e ∙ get_or_default cells k x missing_cell within) ∙ sym (
     there_if (nat_lt page l.pages) (nat_lt row l.rows) (nat_lt column l.columns) q None (lt_test page l.pages lp) (lt_test row l.rows lr)
     (lt_test column l.columns lc) ∙ text_cell_is mode l cells pixels k t)
 
@@ -171,7 +171,7 @@ pixel_inside w v page pages x y lp lx ly = let a = ends_before (w * v) page page
 is_both : {Y : Type 0} (b : Bool) → b ≡ true → b ≡ false → Y
 is_both b t f = absurd (cc)
 
-pub text_laid_out : (row : ModeRow) (c : CardState) (d : BiosData) → row_at d.mode d.height ≡ Some row → is_text d.mode ≡ true → shows row c d ≡ true →
+pub text_laid_out : (row : ModeRow) (c : CardState) (d : BiosData) → mode_row_at_height d.mode d.height ≡ Some row → is_text d.mode ≡ true → shows row c d ≡ true →
     (mode : ℕ) (l : Layout) (n m : ℕ) → mode ≡ d.mode → l.columns ≡ d.columns → l.rows ≡ d.last_row + 1 → l.distance ≡ d.size / 2 → l.pages ≡ row.pages →
     n ≡ 16384 → IsLaidOut mode l n m
 text_laid_out row c d e t h mode l n m em ec er ed ep en =
@@ -195,7 +195,7 @@ pub record PixelNumbers (row : ModeRow) (mode columns height size n : ℕ) : Typ
   pub page : (n + 7) / 8 ≤ size
   pub packed : IsTrue (is_packed mode) → n ≤ size
 
-pub pixel_numbers : (row : ModeRow) (c : CardState) (d : BiosData) → row_at d.mode d.height ≡ Some row → is_text d.mode ≡ false → shows row c d ≡ true →
+pub pixel_numbers : (row : ModeRow) (c : CardState) (d : BiosData) → mode_row_at_height d.mode d.height ≡ Some row → is_text d.mode ≡ false → shows row c d ≡ true →
     PixelNumbers row d.mode d.columns d.height d.size (page_pixels d)
 pixel_numbers row c d e t h =
     let has = data_is row d (all_tests_of row c d h).data_test in
@@ -210,7 +210,7 @@ pixel_numbers row c d e t h =
     (subst (PixelNumbers row d.mode row.columns row.height row.size) n at)))
 
 pub pixels_laid_out : (d : BiosData) (f : Four (List ℕ)) (mode : ℕ) (l : Layout) (n m size count pages : ℕ) (pixels : List ℕ) → is_text d.mode ≡ false →
-    mode ≡ d.mode → count ≡ pixel_count l → pages ≡ l.pages → m ≡ length pixels → pixels ≡ join (λ p. pixels_in mode f (size * p) count) pages →
+    mode ≡ d.mode → count ≡ pixel_count l → pages ≡ l.pages → m ≡ length pixels → pixels ≡ concatenated_lists (λ p. pixels_in mode f (size * p) count) pages →
     IsLaidOut mode l n m
 pixels_laid_out d f mode l n m size count pages pixels t em ec ep el e = record {
   page = λ f. is_both (is_text mode) f (ap is_text em ∙ t);
@@ -220,14 +220,14 @@ pixels_laid_out d f mode l n m size count pages pixels t em ec ep el e = record 
 
 -- the screen read in graphics is the screen of pixels
 pub pixel_screen_is : (row : ModeRow) (c : CardState) (d : BiosData) (cells : List Cell) (pixels : List ℕ) (s : Screen) → is_text d.mode ≡ false →
-    pixels ≡ join (λ p. pixels_in d.mode c.host.memory (d.size * p) (page_pixels d)) row.pages →
-    s ≡ screen_by row c d 0 (contents_of d.mode (layout_of row d 0) cells pixels) [] → s ≡ pixel_screen row c d
+    pixels ≡ concatenated_lists (λ p. pixels_in d.mode c.host.memory (d.size * p) (page_pixels d)) row.pages →
+    s ≡ screen_with_contents row c d 0 (contents_of d.mode (layout_of row d 0) cells pixels) [] → s ≡ pixel_screen row c d
 pixel_screen_is row c d cells pixels s t e h =
     let n = page_pixels d in
     h
-    ∙ ap (λ b. let x : Contents = (if b then Cells cells else Pixels (cut_pages pixels n row.pages)) in screen_by row c d 0 x []) t
-    ∙ ap (λ l. screen_by row c d 0 (Pixels (cut_pages l n row.pages)) []) e
-    ∙ ap (λ l. screen_by row c d 0 (Pixels l) []) (pages_are d.mode c.host.memory d.size n row.pages)
+    ∙ ap (λ b. let x : Contents = (if b then Cells cells else Pixels (cut_pages pixels n row.pages)) in screen_with_contents row c d 0 x []) t
+    ∙ ap (λ l. screen_with_contents row c d 0 (Pixels (cut_pages l n row.pages)) []) e
+    ∙ ap (λ l. screen_with_contents row c d 0 (Pixels l) []) (pages_are d.mode c.host.memory d.size n row.pages)
 
 -- a mode's CRT controller registers with six set: cursor type, start address, cursor location
 abbrev pub set_registers : List ℕ → ℕ → ℕ → ℕ → List ℕ
@@ -240,7 +240,7 @@ pub set_is : (row : ModeRow) (type start location : ℕ) → length row.crtc ≡
 set_is row type start location e = ap (λ l. set_registers l type start location) (spelled row.crtc 25 e)
 
 pub wanted_is : (row : ModeRow) (d : BiosData) (l : List ℕ) (type start location : ℕ) → length row.crtc ≡ 25 → type ≡ d.cursor_type →
-    start ≡ start_address d d.page → location ≡ location_shown d l → set_registers row.crtc type start location ≡ crtc_shown row d l
+    start ≡ start_address d d.page → location ≡ cursor_location_shown d l → set_registers row.crtc type start location ≡ crtc_registers_shown row d l
 wanted_is row d l type start location e et es el =
     set_is row type start location e
     ∙ ap (λ n. crtc_registers row n start location) et

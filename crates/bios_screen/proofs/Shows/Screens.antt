@@ -3,15 +3,15 @@ use Rattle.std.proofs.Common.{◌≡◌, ℕ, ◌+◌, ◌*◌, ◌<◌, refl, s
 use Rattle.std.specs.Prelude.{slice_index, bit_and, ◌==◌, ◌&&◌, if◌then◌else◌}
 use Rattle.std.specs.Str.{bytes_eq}
 use Rattle.std.proofs.lemmas.Slice.Eq.{bytes_eq-Decides}
-use Rattle.bios_screen.proofs.Prelude.{is_palette_shown, CardState, ModeRow, row_at, BiosData, Planar, pages_of, page_among, page_named, is_text, kind_of}
+use Rattle.bios_screen.proofs.Prelude.{is_palette_shown, CardState, ModeRow, mode_row_at_height, BiosData, Planar, page_count, page_among, page_meant_by_number, is_text, kind_of}
 use Rattle.bios_screen.proofs.Prelude.{start_address, Screen, crtc_registers, shows_attribute, pixel_screen, shown}
 use Rattle.bios_modes.specs.declared.kind.Kind.{Kind}
 use Rattle.bios_modes.specs.declared.kind.Kind.TheVariants.{Text, Packed}
-use Rattle.bios_services.specs.Bounds.{pages_in}
+use Rattle.bios_services.specs.Bounds.{pages_of_row}
 use Rattle.bios_modes.specs.Kinds.{is_text_kind}
 use Rattle.bios_services.specs.Cursor.{cursor_address}
-use Rattle.bios_screen.specs.Shown.{shows_memory, crtc_shown, shows_data, shows, text_screen, screen_of}
-use Rattle.bios_screen.specs.Shown.{shown_by}
+use Rattle.bios_screen.specs.Shown.{shows_memory, crtc_registers_shown, shows_data, shows, text_screen, screen_of}
+use Rattle.bios_screen.specs.Shown.{screen_shown_in_mode}
 use Rattle.bios_screen.proofs.Base.Tests.{both_true, if_some, none_some, same, lt_is}
 use Rattle.bios_screen.proofs.Base.Setting.{Setting, setting}
 use Rattle.bios_screen.proofs.Modes.TextModes.{Display, text_setting, text_sequencer, misc_of, IsTextRow, Height, row_with, number_of, control_of}
@@ -29,16 +29,16 @@ pub record HasData (row : ModeRow) (d : BiosData) : Type 0 where
   pub page : d.page < row.pages
 
 -- a mode has as many pages as its row, and a call's page number means one of these
-pub pages_are : (row : ModeRow) (d : BiosData) → row_at d.mode d.height ≡ Some row → pages_of d ≡ row.pages
-pages_are row d e = ap pages_in e
+pub pages_are : (row : ModeRow) (d : BiosData) → mode_row_at_height d.mode d.height ≡ Some row → page_count d ≡ row.pages
+pages_are row d e = ap pages_of_row e
 
-pub page_in : (row : ModeRow) (d : BiosData) (p : ℕ) → row_at d.mode d.height ≡ Some row → p < pages_of d → p < row.pages
+pub page_in : (row : ModeRow) (d : BiosData) (p : ℕ) → mode_row_at_height d.mode d.height ≡ Some row → p < page_count d → p < row.pages
 page_in row d p e l = subst (λ n. p < n) (pages_are row d e) l
 
-pub page_of : (row : ModeRow) (d : BiosData) (p : ℕ) → row_at d.mode d.height ≡ Some row → p < row.pages → p < pages_of d
+pub page_of : (row : ModeRow) (d : BiosData) (p : ℕ) → mode_row_at_height d.mode d.height ≡ Some row → p < row.pages → p < page_count d
 page_of row d p e l = subst (λ n. p < n) (sym (pages_are row d e)) l
 
-pub named_page : (row : ModeRow) (d : BiosData) → row_at d.mode d.height ≡ Some row → (page : ℕ) → page_named d page ≡ page_among row.pages page
+pub named_page : (row : ModeRow) (d : BiosData) → mode_row_at_height d.mode d.height ≡ Some row → (page : ℕ) → page_meant_by_number d page ≡ page_among row.pages page
 named_page row d e page = ap (λ n. page_among n page) (pages_are row d e)
 
 pub data_is : (row : ModeRow) (d : BiosData) → shows_data row d ≡ true → HasData row d
@@ -55,13 +55,13 @@ data_is row d h =
 pub record AllTests (row : ModeRow) (c : CardState) (d : BiosData) : Type 0 where
   pub memory : shows_memory row c ≡ true
   pub data_test : shows_data row d ≡ true
-  pub crtc : c.crtc.registers ≡ crtc_shown row d c.crtc.registers
+  pub crtc : c.crtc.registers ≡ crtc_registers_shown row d c.crtc.registers
   pub attribute : shows_attribute row c.attr ≡ true
 
 pub all_tests_of : (row : ModeRow) (c : CardState) (d : BiosData) → shows row c d ≡ true → AllTests row c d
 unfolding shows
 all_tests_of row c d h =
-    let wanted = crtc_shown row d c.crtc.registers in
+    let wanted = crtc_registers_shown row d c.crtc.registers in
     let a = both_true (shows_memory row c) (shows_data row d && (bytes_eq c.crtc.registers wanted && shows_attribute row c.attr)) h in
     let b = both_true (shows_data row d) (bytes_eq c.crtc.registers wanted && shows_attribute row c.attr) a.1 in
     let e = both_true (bytes_eq c.crtc.registers wanted) (shows_attribute row c.attr) b.1 in
@@ -70,7 +70,7 @@ all_tests_of row c d h =
 pub shows_by : (row : ModeRow) (c : CardState) (d : BiosData) → AllTests row c d → shows row c d ≡ true
 unfolding shows
 shows_by row c d t =
-    let wanted = crtc_shown row d c.crtc.registers in
+    let wanted = crtc_registers_shown row d c.crtc.registers in
     ap (λ b. b && (shows_data row d && (bytes_eq c.crtc.registers wanted && shows_attribute row c.attr))) t.memory
     ∙ ap (λ b. b && (bytes_eq c.crtc.registers wanted && shows_attribute row c.attr)) t.data_test
     ∙ ap (λ b. b && shows_attribute row c.attr) ((bytes_eq-Decides c.crtc.registers wanted).1 t.crtc)
@@ -79,23 +79,23 @@ shows_by row c d t =
 -- the row of a shown screen, whose tests hold
 pub record ShowsRow (c : CardState) (d : BiosData) (s : Screen) : Type 0 where
   pub row : ModeRow
-  pub mode : row_at d.mode d.height ≡ Some row
+  pub mode : mode_row_at_height d.mode d.height ≡ Some row
   pub tests : AllTests row c d
   pub screen : screen_of row c d ≡ s
 
 pub row_shown : (c : CardState) (d : BiosData) (s : Screen) → shown c d ≡ Some s → ShowsRow c d s
-row_shown c d s h = by_row (row_at d.mode d.height) refl h
+row_shown c d s h = by_row (mode_row_at_height d.mode d.height) refl h
   where
-    by_row : (x : Option ModeRow) → row_at d.mode d.height ≡ x → shown_by x c d ≡ Some s → ShowsRow c d s
+    by_row : (x : Option ModeRow) → mode_row_at_height d.mode d.height ≡ x → screen_shown_in_mode x c d ≡ Some s → ShowsRow c d s
     by_row None e g = none_some s g
     by_row (Some row) e g =
         let parts = if_some (shows row c d) (screen_of row c d) s g in
         record { row = row; mode = e; tests = all_tests_of row c d parts.0; screen = parts.1 }
 
 -- conversely, if a row's tests hold, its screen is shown
-pub shown_by_row : (c : CardState) (d : BiosData) (row : ModeRow) → row_at d.mode d.height ≡ Some row → AllTests row c d → shown c d ≡ Some (screen_of row c d)
+pub shown_by_row : (c : CardState) (d : BiosData) (row : ModeRow) → mode_row_at_height d.mode d.height ≡ Some row → AllTests row c d → shown c d ≡ Some (screen_of row c d)
 shown_by_row c d row e t =
-    ap (λ x. shown_by x c d) e ∙ ap (λ b. if b then Some (screen_of row c d) else None) (shows_by row c d t)
+    ap (λ x. screen_shown_in_mode x c d) e ∙ ap (λ b. if b then Some (screen_of row c d) else None) (shows_by row c d t)
 
 -- the test determines the registers that memory cycles depend on
 pub setting_by : (row : ModeRow) (c : CardState) → shows_memory row c ≡ true → setting c ≡ record { misc = row.misc; seq = row.sequencer; gfx = row.graphics }
@@ -112,7 +112,7 @@ setting_by row c h =
 abbrev pub text_crtc : ModeRow → BiosData → List ℕ
 text_crtc row d = crtc_registers row d.cursor_type (start_address d d.page) (cursor_address d d.page)
 
-text_crtc_is : (row : ModeRow) (d : BiosData) (l : List ℕ) → is_text d.mode ≡ true → crtc_shown row d l ≡ text_crtc row d
+text_crtc_is : (row : ModeRow) (d : BiosData) (l : List ℕ) → is_text d.mode ≡ true → crtc_registers_shown row d l ≡ text_crtc row d
 text_crtc_is row d l t = ap (λ b. crtc_registers row d.cursor_type (start_address d d.page) (if b then cursor_address d d.page
     else 256 * slice_index l 0x0E + slice_index l 0x0F)) t
 
@@ -151,7 +151,7 @@ setting_is disp mode row c text h =
 -- what is known when a text screen is shown
 pub record IsShown (c : CardState) (d : BiosData) : Type 0 where
   pub row : ModeRow
-  pub mode : row_at d.mode d.height ≡ Some row
+  pub mode : mode_row_at_height d.mode d.height ≡ Some row
   pub display : Display
   pub height : Height
   pub text : IsTextRow display d.mode row
@@ -194,7 +194,7 @@ shown_is c d s t h =
     }
 
 -- conversely, if the tests hold in text, the text screen is shown
-pub shown_of : (c : CardState) (d : BiosData) (row : ModeRow) → row_at d.mode d.height ≡ Some row → Tests row c d → shown c d ≡ Some (text_screen row c d)
+pub shown_of : (c : CardState) (d : BiosData) (row : ModeRow) → mode_row_at_height d.mode d.height ≡ Some row → Tests row c d → shown c d ≡ Some (text_screen row c d)
 shown_of c d row e t = shown_by_row c d row e (all_of row c d t) ∙ ap (λ (x : Screen). Some x) (screen_is_text row c d t.is_text)
 
 -- ---- any mode
@@ -213,8 +213,8 @@ mode_of_shown c d s h =
     by_kind true row = refl
     by_kind false row = refl
 
-    not_0 : (b : Bool) (row : ModeRow) → (d.mode == 0) ≡ b → row_at d.mode d.height ≡ Some row → (d.mode == 0) ≡ false
-    not_0 true row e g = none_some row (sym (ap (λ m. row_at m d.height) (same e)) ∙ g)
+    not_0 : (b : Bool) (row : ModeRow) → (d.mode == 0) ≡ b → mode_row_at_height d.mode d.height ≡ Some row → (d.mode == 0) ≡ false
+    not_0 true row e g = none_some row (sym (ap (λ m. mode_row_at_height m d.height) (same e)) ∙ g)
     not_0 false row e g = e
 
 -- if the shown screen is text, so is the mode of the data

@@ -3,12 +3,12 @@ use Rattle.std.proofs.Common.{◌≡◌, ℕ, ◌+◌, ◌*◌, ◌<◌, ◌≤�
 use Rattle.std.specs.Prelude.{slice_index, slice_set, ◌==◌, if◌then◌else◌}
 use Rattle.std.proofs.lemmas.Bool.Decides.{nat_tests}
 use Rattle.std.proofs.lemmas.List.{length-set}
-use Rattle.vga_bits.specs.Bits.{byte_of}
+use Rattle.vga_bits.specs.Bits.{byte_of_bits}
 use Rattle.vga_bits.proofs.BitLemmas.{byte_bits}
 use Rattle.bios_screen.proofs.Prelude.{Four, HostState, card_meaning, CardState, run, put}
 use Rattle.vga_host.specs.Memory.Address.{is_decoded, window_offset}
 use Rattle.vga_host.specs.Memory.Write.{written_bit, combined_bit, written_byte, memory_after_put}
-use Rattle.bios_services.specs.ModeSet.{glyph_plan, glyphs_plan}
+use Rattle.bios_services.specs.ModeSet.{write_glyph_plan, write_glyphs_plan}
 use Rattle.bios_screen.proofs.Base.Flat.{Edited, Turn, Leaves, set_cell, list_put}
 use Rattle.bios_screen.proofs.Base.Edits.{one_edit, edits}
 use Rattle.bios_screen.proofs.Base.Setting.{Setting, setting, host_at, with_memory, put_decoded}
@@ -38,7 +38,7 @@ glyph_window : (disp : Display) (h : HostState) (a : ℕ) → a < 65536 → wind
 glyph_window disp h a l = omega arith
 
 glyph_byte : (disp : Display) (h : HostState) (v : ℕ) → v < 256 → written_byte (host_at h (glyph_setting disp)) v 2 ≡ v
-unfolding byte_of written_bit combined_bit
+unfolding byte_of_bits written_bit combined_bit
 glyph_byte disp h v l = byte_bits v l
 
 -- a Put reaches plane 2 alone, by computation
@@ -64,9 +64,9 @@ glyph_put disp rest c g a v l h t =
     still
 
 glyph_loaded : (disp : Display) (rest c : CardState) (g : ℕ → ℕ) (line : ℕ → ℕ → ℕ) (height ch : ℕ) → ch < 256 → height ≤ 16 → ((r : ℕ) → line ch r < 256) →
-    IsLoading disp rest c g → Leaves CardState ℕ (IsLoading disp rest) (run card_meaning (glyph_plan line height ch) c).0
+    IsLoading disp rest c g → Leaves CardState ℕ (IsLoading disp rest) (run card_meaning (write_glyph_plan line height ch) c).0
     (Edited ℕ (Turn (λ _. Unit {0}) 0 height) (λ h. 32 * ch + h.turn) (λ h x. line ch h.turn) g)
-unfolding glyph_plan
+unfolding write_glyph_plan
 glyph_loaded disp rest c g line height ch lc lh small t =
     edits CardState ℕ card_meaning (λ r. put (0xA0000 + 32 * ch + r) (line ch r)) (λ _. IsLoading disp rest) 0 height (λ _. Unit {0}) (λ r _. 32 * ch + r)
     (λ r _ x. line ch r)
@@ -85,11 +85,11 @@ glyph_loaded disp rest c g line height ch lc lh small t =
 -- the lines of n glyphs are written, from character `first` on
 pub glyphs_loaded : (disp : Display) (rest c : CardState) (g : ℕ → ℕ) (line : ℕ → ℕ → ℕ) (height n first : ℕ) → first + n ≤ 256 → height ≤ 16 →
     ((ch r : ℕ) → line ch r < 256) → IsLoading disp rest c g
-    → Leaves CardState ℕ (IsLoading disp rest) (run card_meaning (glyphs_plan line height n first) c).0
+    → Leaves CardState ℕ (IsLoading disp rest) (run card_meaning (write_glyphs_plan line height n first) c).0
     (Edited ℕ (Turn (λ _. Turn (λ _. Unit {0}) 0 height) first (first + n)) (λ h. 32 * h.turn + h.place.turn) (λ h x. line h.turn h.place.turn) g)
-unfolding glyphs_plan
+unfolding write_glyphs_plan
 glyphs_loaded disp rest c g line height n first lc lh small t =
-    edits CardState ℕ card_meaning (glyph_plan line height) (λ _. IsLoading disp rest) first (first + n) (λ _. Turn (λ _. Unit {0}) 0 height) (λ ch h.
+    edits CardState ℕ card_meaning (write_glyph_plan line height) (λ _. IsLoading disp rest) first (first + n) (λ _. Turn (λ _. Unit {0}) 0 height) (λ ch h.
     32 * ch + h.turn) (λ ch h x. line ch h.turn)
     (λ a b g h lb lo hi. let x = g.before in let y = h.before in omega arith)
     (λ ch s x lb w u. glyph_loaded disp rest s x line height ch (omega arith) lh (small ch) u)

@@ -4,25 +4,25 @@ use Rattle.std.proofs.Common.{◌≡◌, ℕ, ◌+◌, ◌*◌, ◌/◌, ◌%◌
 use Rattle.std.specs.Prelude.{slice_index, nat_le, nat_lt, ◌&&◌, replicate}
 use Rattle.std.proofs.lemmas.Bool.Decides.{nat_tests}
 use Rattle.vga_crtc.specs.Ports.{after_out as after_crtc}
-use Rattle.bios_screen.proofs.Prelude.{IsCard, card_meaning, CardState, ModeRow, row_at, BiosData, data_of_mode, AreBytes, FontSet, Plan, run, ◌>>◌}
-use Rattle.bios_screen.proofs.Prelude.{start_address, Screen, is_palette_shown, crtc_registers, shows_attribute, shown, listing}
+use Rattle.bios_screen.proofs.Prelude.{IsCard, card_meaning, CardState, ModeRow, mode_row_at_height, BiosData, data_of_mode, AreBytes, FontSet, Plan, run, ◌>>◌}
+use Rattle.bios_screen.proofs.Prelude.{start_address, Screen, is_palette_shown, crtc_registers, shows_attribute, shown, list_by_function}
 use Rattle.vga_card.specs.Port.{port_of as reached_by, crtc_port_of}
 use Rattle.vga_card.specs.Cycles.{out_reached}
 use Rattle.bios_modes.specs.declared.heights.TextRow.{TextRow}
-use Rattle.bios_modes.specs.Heights.{with_text}
+use Rattle.bios_modes.specs.Heights.{with_text_row}
 use Rattle.bios_modes.specs.Bounds.{AreFonts}
 use Rattle.bios_modes.specs.Fonts.{glyph_row}
 use Rattle.bios_services.specs.declared.glyph_load.GlyphLoad.{GlyphLoad}
-use Rattle.bios_services.specs.Cycles.{crtc}
-use Rattle.bios_services.specs.ModeSet.{glyphs_plan, font_plan}
-use Rattle.bios_services.specs.Cursor.{word_plan, cursor_address}
+use Rattle.bios_services.specs.Cycles.{write_crtc}
+use Rattle.bios_services.specs.ModeSet.{write_glyphs_plan, write_font_plan}
+use Rattle.bios_services.specs.Cursor.{write_crtc_word_plan, cursor_address}
 use Rattle.bios_services.specs.Glyphs.{glyph_line}
-use Rattle.bios_services.specs.GlyphLoads.{AreThere, loaded_line, load_plan}
+use Rattle.bios_services.specs.GlyphLoads.{AreGlyphsThere, loaded_line, load_plan}
 use Rattle.std.specs.Str.{bytes_eq}
 use Rattle.std.specs.Prelude.{◌-◌, ◌==◌, bit_and, drop}
 use Rattle.vga_attr.specs.Attr.{AttrState}
 use Rattle.bios_screen.specs.Shown.{shows_data, text_screen, glyph_byte, glyphs_in}
-use Rattle.bios_screen.specs.Loaded.{load_byte, load_at_height}
+use Rattle.bios_screen.specs.Loaded.{glyph_byte_after_load, load_at_height}
 use Rattle.bios_screen.proofs.Base.Flat.{Edited, Turn}
 use Rattle.bios_screen.proofs.Base.Plans.{then_runs}
 use Rattle.bios_screen.proofs.Base.Lists.{same_from_0, length_listing, listed_at}
@@ -45,15 +45,15 @@ through c s = record c { host = record c.host { seq = s.seq; gfx = s.gfx; seq_in
 -- the plan that sets the CRT controller registers which depend on the height
 abbrev height_plan : ℕ → ModeRow → Plan (Unit {0})
 height_plan port row =
-    crtc port 0x09 (slice_index row.crtc 0x09) >> (word_plan port 0x0A row.cursor_type
-    >> (crtc port 0x12 (slice_index row.crtc 0x12) >> (crtc port 0x14 (slice_index row.crtc 0x14)
-    >> (word_plan port 0x0C 0 >> word_plan port 0x0E 0))))
+    write_crtc port 0x09 (slice_index row.crtc 0x09) >> (write_crtc_word_plan port 0x0A row.cursor_type
+    >> (write_crtc port 0x12 (slice_index row.crtc 0x12) >> (write_crtc port 0x14 (slice_index row.crtc 0x14)
+    >> (write_crtc_word_plan port 0x0C 0 >> write_crtc_word_plan port 0x0E 0))))
 
 height_by : (disp : Display) (new : Height) (old : TextRow) (c : CardState) (type start location : ℕ)
     → (run card_meaning (height_plan (port_of disp) (row_with disp new)) (card_at
-    (with_crtc c (crtc_registers (with_text (row_of disp) old) type start location) c.crtc.index) (text_setting disp))).0
+    (with_crtc c (crtc_registers (with_text_row (row_of disp) old) type start location) c.crtc.index) (text_setting disp))).0
     ≡ with_crtc (card_at c (text_setting disp)) (crtc_registers (row_with disp new) (row_with disp new).cursor_type 0 0) 0x0F
-unfolding word_plan reached_by crtc_port_of out_reached after_crtc
+unfolding write_crtc_word_plan reached_by crtc_port_of out_reached after_crtc
 height_by Colour Eight old c type start location = refl
 height_by Colour Fourteen old c type start location = refl
 height_by Colour Sixteen old c type start location = refl
@@ -64,9 +64,9 @@ height_by Monochrome Sixteen old c type start location = refl
 -- the two parts of the plan
 load_is : (fonts : FontSet) (load : GlyphLoad) (block : List ℕ) (row : ModeRow) (c : CardState)
     → (run card_meaning (load_plan fonts load block row) c).0 ≡ (run card_meaning (height_plan row.crtc_address row)
-    (run card_meaning (font_plan (loaded_line fonts load block) load.height load.count load.first (slice_index row.graphics 6)) c).0).0
+    (run card_meaning (write_font_plan (loaded_line fonts load block) load.height load.count load.first (slice_index row.graphics 6)) c).0).0
 unfolding load_plan
-load_is fonts load block row c = then_runs (font_plan (loaded_line fonts load block) load.height load.count load.first (slice_index row.graphics 6))
+load_is fonts load block row c = then_runs (write_font_plan (loaded_line fonts load block) load.height load.count load.first (slice_index row.graphics 6))
     (height_plan row.crtc_address row) c
 
 -- ---- the glyphs
@@ -78,7 +78,7 @@ AreLoaded fonts load block old new = Edited ℕ (Turn (λ _. Turn (λ _. Unit {0
 
 -- a byte of the glyphs is the new one if it was loaded, else the old one
 glyph_is : (fonts : FontSet) (load : GlyphLoad) (block : List ℕ) (old new : ℕ → ℕ) (i : ℕ) → load.height ≤ 16 → AreLoaded fonts load block old new
-    → new (32 * (i / 16) + i % 16) ≡ load_byte fonts load block (λ k. old (32 * (k / 16) + k % 16)) i
+    → new (32 * (i / 16) + i % 16) ≡ glyph_byte_after_load fonts load block (λ k. old (32 * (k / 16) + k % 16)) i
 glyph_is fonts load block old new i few edited =
     by_test (nat_le load.first (i / 16)) (nat_lt (i / 16) (load.first + load.count)) (nat_lt (i % 16) load.height) refl refl refl
   where
@@ -97,15 +97,15 @@ glyph_is fonts load block old new i few edited =
 -- so are all bytes of the glyphs
 glyphs_are : (fonts : FontSet) (load : GlyphLoad) (block old new : List ℕ) (cells : ℕ → ℕ) → load.height ≤ 16 →
     AreLoaded fonts load block (slice_index old) cells → ((o : ℕ) → o < 65536 → slice_index new o ≡ cells o)
-    → glyphs_in new 4096 ≡ listing (load_byte fonts load block (slice_index (glyphs_in old 4096))) 0 (length (glyphs_in old 4096))
+    → glyphs_in new 4096 ≡ list_by_function (glyph_byte_after_load fonts load block (slice_index (glyphs_in old 4096))) 0 (length (glyphs_in old 4096))
 unfolding glyphs_in
 glyphs_are fonts load block old new cells few edited row =
-    same_from_0 (load_byte fonts load block (slice_index (listing (glyph_byte old) 0 4096))) (glyph_byte new) 4096 (λ i l.
+    same_from_0 (glyph_byte_after_load fonts load block (slice_index (list_by_function (glyph_byte old) 0 4096))) (glyph_byte new) 4096 (λ i l.
     row (32 * (i / 16) + i % 16) (omega arith)
     ∙ glyph_is fonts load block (slice_index old) cells i few edited
     ∙ ap (λ x. if nat_le load.first (i / 16) && (nat_lt (i / 16) (load.first + load.count) && nat_lt (i % 16) load.height)
     then loaded_line fonts load block (i / 16) (i % 16) else x) (sym (listed_at (glyph_byte old) 4096 i 0 l)))
-    ∙ ap (listing (load_byte fonts load block (slice_index (listing (glyph_byte old) 0 4096))) 0) (sym (length_listing (glyph_byte old) 0 4096))
+    ∙ ap (list_by_function (glyph_byte_after_load fonts load block (slice_index (list_by_function (glyph_byte old) 0 4096))) 0) (sym (length_listing (glyph_byte old) 0 4096))
 
 -- ---- what the plan leaves
 
@@ -149,7 +149,7 @@ line_small fonts load block bytes are ch r = by_source load.is_block
     by_source false = by_height (load.height == 8) (load.height == 14)
 
 module _ (fonts : FontSet) (load : GlyphLoad) (block : List ℕ) (bytes : AreBytes block) (are : AreFonts fonts)
-    (there : AreThere load (length block)) (c : CardState) (d : BiosData) (h : IsShown c d) (z : IsCard c) (new : Height) where
+    (there : AreGlyphsThere load (length block)) (c : CardState) (d : BiosData) (h : IsShown c d) (z : IsCard c) (new : Height) where
   abbrev pub disp : Display
   disp = h.display
 
@@ -161,7 +161,7 @@ module _ (fonts : FontSet) (load : GlyphLoad) (block : List ℕ) (bytes : AreByt
 
   pub loaded_card : IsLoadedCard fonts load block disp row c (run card_meaning (load_plan fonts load block row) c).0
   loaded_card =
-      let loading = glyphs_plan line load.height load.count load.first in
+      let loading = write_glyphs_plan line load.height load.count load.first in
       let window = slice_index row.graphics 6 in
       let c1 = through c (glyph_setting disp) in
       let e1 : (run card_meaning glyphs_on c).0 ≡ c1 =
@@ -187,7 +187,7 @@ module _ (fonts : FontSet) (load : GlyphLoad) (block : List ℕ) (bytes : AreByt
       ∙ ap (λ x. through (card_at c2 x) (text_setting disp)) (sym at1) in
       let at3 : setting c3 ≡ text_setting disp = ap (λ (x : Setting). let q : Setting =
       record { misc = x.misc; seq = (text_setting disp).seq; gfx = (text_setting disp).gfx } in q) h.setting in
-      let registers : c3.crtc.registers ≡ crtc_registers (with_text (row_of disp) (lines_of disp h.height)) d.cursor_type (start_address d d.page)
+      let registers : c3.crtc.registers ≡ crtc_registers (with_text_row (row_of disp) (lines_of disp h.height)) d.cursor_type (start_address d d.page)
       (cursor_address d d.page) =
       h.tests.crtc ∙ ap (λ r. crtc_registers r d.cursor_type (start_address d d.page) (cursor_address d d.page)) h.row_is in
       let plan = height_plan row.crtc_address row in
@@ -197,7 +197,7 @@ module _ (fonts : FontSet) (load : GlyphLoad) (block : List ℕ) (bytes : AreByt
       ∙ ap (λ x. (run card_meaning (height_plan (port_of disp) row) (card_at (with_crtc c3 x c3.crtc.index) (text_setting disp))).0) registers
       ∙ height_by disp new (lines_of disp h.height) c3 d.cursor_type (start_address d d.page) (cursor_address d d.page)
       ∙ ap (λ x. with_crtc (card_at c3 x) (crtc_registers row row.cursor_type 0 0) 0x0F) (sym at3) in
-      let fonted : (run card_meaning (font_plan line load.height load.count load.first window) c).0 ≡ c3 =
+      let fonted : (run card_meaning (write_font_plan line load.height load.count load.first window) c).0 ≡ c3 =
       font_is line load.height load.count load.first window c ∙ then_runs glyphs_on (loading >> glyphs_off window) c
       ∙ ap (λ x. (run card_meaning (loading >> glyphs_off window) x).0) e1
       ∙ then_runs loading (glyphs_off window) c1
@@ -215,7 +215,7 @@ module _ (fonts : FontSet) (load : GlyphLoad) (block : List ℕ) (bytes : AreByt
 
 -- the row of a display at a height is the mode's, and passes the test with its own data; by cases
 record IsOwn (disp : Display) (new : Height) : Type 0 where
-  row_is : row_at (number_of disp) (row_with disp new).height ≡ Some (row_with disp new)
+  row_is : mode_row_at_height (number_of disp) (row_with disp new).height ≡ Some (row_with disp new)
   data_test : (mode : ℕ) → shows_data (row_with disp new) (data_of_mode mode (row_with disp new)) ≡ true
   crtc : crtc_registers (row_with disp new) (row_with disp new).cursor_type 0 0
       ≡ text_crtc (row_with disp new) (data_of_mode (number_of disp) (row_with disp new))
@@ -234,7 +234,7 @@ attribute_stays old new a e t =
     sym (ap (λ (l : List ℕ). is_palette_shown a && ((bit_and (slice_index a.registers 0x10) 0xF7 == bit_and (slice_index l 0x10) 0xF7)
     && bytes_eq (drop 0x12 a.registers) (drop 0x12 l))) e) ∙ t
 
-pub load_shown : (fonts : FontSet) (load : GlyphLoad) (block : List ℕ) → AreBytes block → AreFonts fonts → AreThere load (length block) →
+pub load_shown : (fonts : FontSet) (load : GlyphLoad) (block : List ℕ) → AreBytes block → AreFonts fonts → AreGlyphsThere load (length block) →
     (c : CardState) (d : BiosData) (h : IsShown c d) → IsCard c → (new : Height)
     → (let row = row_with h.display new in shown (run card_meaning (load_plan fonts load block row) c).0 (data_of_mode d.mode row)
     ≡ Some (load_at_height (Some (lines_of h.display new)) fonts (screen_shown c d h) load block))
@@ -249,7 +249,7 @@ load_shown fonts load block bytes are there c d h z new =
     let set : setting y ≡ text_setting disp = ap (λ (x : Setting). let q : Setting =
     record { misc = x.misc; seq = (text_setting disp).seq; gfx = (text_setting disp).gfx } in q) h.setting in
     let by = own_by disp new in
-    let own : row_at d.mode row.height ≡ Some row = ap (λ m. row_at m row.height) h.number ∙ by.row_is in
+    let own : mode_row_at_height d.mode row.height ≡ Some row = ap (λ m. mode_row_at_height m row.height) h.number ∙ by.row_is in
     let tests : Tests row y after = record {
       is_text = h.tests.is_text;
       memory = ap (λ (x : Setting). (x.misc == row.misc) && (bytes_eq x.seq row.sequencer && bytes_eq x.gfx row.graphics)) set ∙ (reaches_glyphs disp).memory;
@@ -273,5 +273,5 @@ load_shown fonts load block bytes are there c d h z new =
       places = replicate 8 0;
       cursor_type = row.cursor_type;
       page = 0;
-      glyphs = listing (load_byte fonts load block (slice_index s.glyphs)) 0 (length s.glyphs);
+      glyphs = list_by_function (glyph_byte_after_load fonts load block (slice_index s.glyphs)) 0 (length s.glyphs);
     } in Some x) columns

@@ -5,7 +5,7 @@ use Rattle.std.proofs.lemmas.Bool.{cases_eq}
 use Rattle.std.proofs.lemmas.Bool.Decides.{nat_tests}
 use Rattle.std.proofs.lemmas.List.{length-set}
 use Rattle.std.specs.Int.{bit_at}
-use Rattle.vga_bits.specs.Bits.{byte_of}
+use Rattle.vga_bits.specs.Bits.{byte_of_bits}
 use Rattle.vga_bits.proofs.BitLemmas.{byte_bits}
 use Rattle.bios_screen.proofs.Prelude.{Four, HostState, card_meaning, CardState, run, put}
 use Rattle.vga_host.specs.Memory.Address.{is_decoded, window_offset}
@@ -17,7 +17,7 @@ use Rattle.bios_screen.proofs.Modes.TextModes.Display.{Colour, Monochrome}
 
 -- a byte built from its bits
 abbrev pub bits_of : ℕ → ℕ
-bits_of b = byte_of (bit_at b)
+bits_of b = byte_of_bits (bit_at b)
 
 -- all of an adapter except the planes of characters and attributes, and the latches
 abbrev pub without_text : CardState → CardState
@@ -44,7 +44,7 @@ decoded Monochrome h w l = grind (arith, nat_tests)
 
 -- what a Put stores in plane 0 or 1
 written : (disp : Display) (h : HostState) (b p : ℕ) → p < 2 → b < 256 → written_byte (host_at h (text_setting disp)) b p ≡ b
-unfolding byte_of written_bit combined_bit
+unfolding byte_of_bits written_bit combined_bit
 written disp h b zero k l = byte_bits b l
 written disp h b (suc zero) k l = byte_bits b l
 written disp h b (suc (suc p)) k l = absurd (omega arith)

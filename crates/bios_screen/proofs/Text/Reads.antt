@@ -1,7 +1,7 @@
 -- What a read of text memory answers, and what it leaves.
 use Rattle.std.proofs.Common.{◌≡◌, ◌≢◌, ℕ, ◌+◌, ◌*◌, ◌/◌, ◌%◌, ◌<◌, ⊎_elim, refl, sym, ap, ◌∙◌, subst, arith}
 use Rattle.std.proofs.lemmas.Bool.{cases_eq}
-use Rattle.vga_bits.specs.Bits.{byte_of}
+use Rattle.vga_bits.specs.Bits.{byte_of_bits}
 use Rattle.vga_bits.proofs.BitLemmas.{byte_bits}
 use Rattle.vga_bits.specs.Four.{of_plane}
 use Rattle.bios_screen.proofs.Prelude.{bytes_at, HostState, card_meaning, CardState, run, get}
@@ -13,15 +13,15 @@ use Rattle.bios_screen.proofs.Modes.TextModes.Display.{Colour, Monochrome}
 use Rattle.bios_screen.proofs.Text.Memory.{bits_of, IsTextual, decoded, window_is}
 
 -- the byte that a read answers, by computation
-read_at : (disp : Display) (h : HostState) (w : ℕ) → byte_of (λ i. read_bit (host_at h (text_setting disp)) w
+read_at : (disp : Display) (h : HostState) (w : ℕ) → byte_of_bits (λ i. read_bit (host_at h (text_setting disp)) w
     (bytes_at h.memory (plane_offset (host_at h (text_setting disp)) w)) i) ≡ bits_of (of_plane (bytes_at h.memory (w / 2 * 2)) (0 + w % 2))
-unfolding byte_of read_bit
+unfolding byte_of_bits read_bit
 read_at Colour h w = refl
 read_at Monochrome h w = refl
 
 read_is : (disp : Display) (h : HostState) (w : ℕ) → w < 32768 → read_byte (host_at h (text_setting disp)) (base_of disp + w)
     ≡ bits_of (of_plane (bytes_at h.memory (w / 2 * 2)) (0 + w % 2))
-read_is disp h w l = ap (λ o. byte_of (λ i. read_bit (host_at h (text_setting disp)) o (bytes_at h.memory (plane_offset (host_at h (text_setting disp)) o)) i))
+read_is disp h w l = ap (λ o. byte_of_bits (λ i. read_bit (host_at h (text_setting disp)) o (bytes_at h.memory (plane_offset (host_at h (text_setting disp)) o)) i))
     (window_is disp h w l) ∙ read_at disp h w
 
 -- that byte of plane 0 or 1 is the one at offset w of the window

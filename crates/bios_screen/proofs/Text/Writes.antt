@@ -2,10 +2,10 @@
 use Rattle.std.proofs.Common.{◌≡◌, ℕ, ◌+◌, ◌-◌, ◌*◌, ◌/◌, ◌<◌, ◌≤◌, refl, sym, ap, ◌∙◌, arith, Some}
 use Rattle.std.specs.Prelude.{if◌then◌else◌}
 use Rattle.bios_screen.proofs.Prelude.{IsCard, card_meaning, CardState, BiosData, FontSet, Regs, Colouring, Plan, run, Done, get, each, ◌>>=◌, page_base}
-use Rattle.bios_screen.proofs.Prelude.{cells_of, Cell, Screen, cell_in, all_cells, shown}
+use Rattle.bios_screen.proofs.Prelude.{cells_per_page, Cell, Screen, cell_in, text_memory_cells, shown}
 use Rattle.bios_services.specs.Cells.{cell_address, read_cell_plan, write_cell_plan}
-use Rattle.bios_services.specs.Cursor.{cursor_cell}
-use Rattle.bios_services.specs.Drawing.{cell_band, cell_row, character_by, characters_plan}
+use Rattle.bios_services.specs.Cursor.{cursor_cell_number}
+use Rattle.bios_services.specs.Drawing.{cell_band, cell_row, character_plan_of_kind, characters_plan}
 use Rattle.bios_services.specs.CharacterReading.{read_character_plan}
 use Rattle.bios_services.specs.Registers.{with_low}
 use Rattle.bios_services.specs.Service.{read_cell_service}
@@ -63,7 +63,7 @@ address_is d disp pages p q w =
 -- ---- a run of cells of a page is written
 
 module _ (fonts : FontSet) (c : CardState) (d : BiosData) (h : IsShown c d) (z : IsCard c) (p q n v : ℕ) (colouring : Colouring) (lp : p < h.row.pages)
-    (lq : q + n ≤ cells_of d) (lv : v < 256) (la : colouring.colour < 256) where
+    (lq : q + n ≤ cells_per_page d) (lv : v < 256) (la : colouring.colour < 256) where
   abbrev first : ℕ
   first = d.size / 2 * p + q
 
@@ -72,8 +72,8 @@ module _ (fonts : FontSet) (c : CardState) (d : BiosData) (h : IsShown c d) (z :
 
   -- in text the plan of a run of characters writes its cells one by one
   characters_are : characters_plan fonts d p q v colouring n ≡ each plan n 0
-  unfolding characters_plan character_by
-  characters_are = ap (λ k. each (λ i. character_by k fonts d p (q + i) v colouring) n 0) (kind_is c d h)
+  unfolding characters_plan character_plan_of_kind
+  characters_are = ap (λ k. each (λ i. character_plan_of_kind k fonts d p (q + i) v colouring) n 0) (kind_is c d h)
 
   pub characters_shown : shown (run card_meaning (characters_plan fonts d p q v colouring n) c).0 d
       ≡ Some (put_characters fonts (screen_shown c d h) p q n v colouring)
@@ -97,7 +97,7 @@ module _ (fonts : FontSet) (c : CardState) (d : BiosData) (h : IsShown c d) (z :
       ap (λ x. shown (run card_meaning x c).0 d) characters_are
       ∙ renewed_shown disp rest c (run card_meaning (each plan n 0) c).0 d h (write_characters first n v colouring) new done.shown.is.others done.shown
       (λ k l.
-      let same = cells_at m.plane0 m.plane1 all_cells k l in
+      let same = cells_at m.plane0 m.plane1 text_memory_cells k l in
       let old = cell_on (screen_shown c d h) in
       of_run first n k (new k) (character_over v colouring (old k)) (old k)
       (λ lo hi.
@@ -108,7 +108,7 @@ module _ (fonts : FontSet) (c : CardState) (d : BiosData) (h : IsShown c d) (z :
 
 -- ---- a cell is read
 
-module _ (c : CardState) (d : BiosData) (h : IsShown c d) (z : IsCard c) (p q : ℕ) (lp : p < h.row.pages) (lq : q < cells_of d) where
+module _ (c : CardState) (d : BiosData) (h : IsShown c d) (z : IsCard c) (p q : ℕ) (lp : p < h.row.pages) (lq : q < cells_per_page d) where
   abbrev cell : ℕ
   cell = d.size / 2 * p + q
 
@@ -122,7 +122,7 @@ module _ (c : CardState) (d : BiosData) (h : IsShown c d) (z : IsCard c) (p q : 
   there = address_is d h.display h.row.pages p q (lies c d h)
 
   cell_is : cell_on (screen_shown c d h) cell ≡ all cell
-  cell_is = cells_at c.host.memory.plane0 c.host.memory.plane1 all_cells cell within
+  cell_is = cells_at c.host.memory.plane0 c.host.memory.plane1 text_memory_cells cell within
 
   begins : IsCells h.display (without_text c) c all
   begins = has_cells h.display c h.setting z.host
@@ -166,10 +166,10 @@ pub record IsCellRead (fonts : FontSet) (r : Regs) (c : CardState) (d : BiosData
   pub shows : shown (run card_meaning (read_cell_service fonts p d r) c).0 d ≡ Some s
 
 pub cell_read : (fonts : FontSet) (r : Regs) (c : CardState) (d : BiosData) (h : IsShown c d) (p : ℕ) → IsCard c → p < h.row.pages →
-    cursor_cell d p < cells_of d → IsCellRead fonts r c d p (screen_shown c d h)
+    cursor_cell_number d p < cells_per_page d → IsCellRead fonts r c d p (screen_shown c d h)
 unfolding read_cell_service
 cell_read fonts r c d h p z lp lq =
-    let q = cursor_cell d p in
+    let q = cursor_cell_number d p in
     let answered : ℕ → Regs = λ ax. record r { ax = ax } in
     let plan : Plan Regs = read_cell_plan (cell_address d p q) >>= λ ax. Done (answered ax) in
     let dots : Plan Regs = read_character_plan (cell_band d p q) (cell_row d q) fonts >>= λ character. Done (record r { ax = with_low r.ax character }) in

@@ -3,9 +3,9 @@ ghost use Rattle.std.specs.Prelude.{◌≡◌, ◌+◌, ◌≤◌, ◌↔◌, le
 ghost use Rattle.vga_bits.specs.Saved.{IsPut};
 ghost use Rattle.vga_attr.specs.Saved.{saved_attr, IsSavedAttr, attr_from};
 
-use super::fields::numbers_of;
+use super::fields::colour_numbers_of;
 use super::{Attr, INDEX_MASK, MASKS};
-use vga_bits::{are_kept, flag_byte, put_bytes};
+use vga_bits::{are_within_masks, flag_byte, put_bytes};
 
 impl Attr {
     /// How many bytes an attribute controller has when it is saved.
@@ -33,7 +33,7 @@ impl Attr {
             return false;
         }
         let (registers, rest) = bytes.split_at(MASKS.len());
-        are_kept(&MASKS, registers) && rest[0] <= INDEX_MASK && rest[1] <= 1
+        are_within_masks(&MASKS, registers) && rest[0] <= INDEX_MASK && rest[1] <= 1
     }
 
     /// Restores registers, index and flip-flop from the bytes of an attribute controller.
@@ -44,7 +44,7 @@ impl Attr {
     {
         let (registers, rest) = bytes.split_at(MASKS.len());
         self.registers.restore(registers);
-        self.numbers = numbers_of(&self.registers);
+        self.numbers = colour_numbers_of(&self.registers);
         self.index = rest[0];
         self.is_data = rest[1] == 1;
     }

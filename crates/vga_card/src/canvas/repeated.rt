@@ -1,13 +1,13 @@
 //! Rows that are copied. This file serves speed alone: a row could be drawn again.
 ghost use Rattle.std.specs.Prelude.{◌≡◌, ◌+◌, ◌-◌, ◌*◌, ◌<◌, ◌≤◌, ◌++◌, length, take, drop};
 ghost use Rattle.std.specs.Prelude.{vec_capacity};
-ghost use Rattle.vga_card.specs.Picture.{widest, highest};
-ghost use Rattle.vga_card.specs.Repeat.{last_on_line};
+ghost use Rattle.vga_card.specs.Picture.{most_dots_of_a_line, most_lines_of_a_frame};
+ghost use Rattle.vga_card.specs.Repeat.{last_dots_on_line};
 
-use super::{Canvas, lengthen};
+use super::{Canvas, lengthen_buffer};
 
 /// Copies the last `len` of the first `used` bytes over the bytes after those.
-fn copy_last(bytes: &mut [u8], used: usize, len: usize)
+fn copy_last_bytes(bytes: &mut [u8], used: usize, len: usize)
     requires few { len ≤ used }
     requires room { used + len ≤ length bytes.old }
     ensures len { length bytes.new ≡ length bytes.old }
@@ -20,7 +20,7 @@ fn copy_last(bytes: &mut [u8], used: usize, len: usize)
 
 /// Appends the last `len` of the first `used` bytes of a buffer to these `used` bytes once more.
 /// The buffer has memory for that.
-fn put_again(buffer: &mut Vec<u8>, used: usize, len: usize)
+fn append_again(buffer: &mut Vec<u8>, used: usize, len: usize)
     requires used { used ≤ length buffer.old.items }
     requires few { len ≤ used }
     requires room { used + len ≤ vec_capacity buffer.old }
@@ -29,8 +29,8 @@ fn put_again(buffer: &mut Vec<u8>, used: usize, len: usize)
     ensures len { used + len ≤ length buffer.new.items }
     ensures capacity { vec_capacity buffer.old ≤ vec_capacity buffer.new }
 {
-    lengthen(buffer, used + len);
-    copy_last(buffer.as_mut_slice(), used, len);
+    lengthen_buffer(buffer, used + len);
+    copy_last_bytes(buffer.as_mut_slice(), used, len);
 }
 
 impl Canvas {
@@ -38,14 +38,14 @@ impl Canvas {
     /// below 1,024 and has at most 2,304 dots.
     pub(crate) fn repeat(&mut self, line: u16, count: usize)
         requires all { count ≤ length self.old.dots }
-        requires lines { line < highest }
+        requires lines { line < most_lines_of_a_frame }
         requires after { self.old.line ≤ line }
-        requires few { count ≤ widest }
-        requires room { line ≡ self.old.line → self.old.width + count ≤ widest }
-        ensures dots { self.new.dots ≡ self.old.dots ++ last_on_line line count self.old.dots }
+        requires few { count ≤ most_dots_of_a_line }
+        requires room { line ≡ self.old.line → self.old.width + count ≤ most_dots_of_a_line }
+        ensures dots { self.new.dots ≡ self.old.dots ++ last_dots_on_line line count self.old.dots }
         ensures line { self.new.line ≡ line }
     {
-        put_again(&mut self.buffer, self.used, 3 * count);
+        append_again(&mut self.buffer, self.used, 3 * count);
         self.used += 3 * count;
         let width = &mut self.widths[line as usize];
         *width += count as u32;

@@ -5,13 +5,15 @@ ghost use Rattle.std.specs.Prelude.{[], take, IfSome, IfNone, vec_capacity, fals
 ghost use Rattle.std.specs.List.{flat_map};
 ghost use Rattle.vga_bits.specs.Bytes.{zeros};
 ghost use Rattle.vga_bits.specs.Saved.{word_bytes, IsPut};
-ghost use Rattle.vga_card.specs.Picture.{widest, highest, lines_from};
+ghost use Rattle.vga_card.specs.Picture.{most_dots_of_a_line, most_lines_of_a_frame};
+ghost use Rattle.vga_card.specs.Picture.{lines_by_widths};
 ghost use Rattle.vga_card.specs.Valid.{IsDrawn};
 ghost use Rattle.vga_crtc.specs.Beam.{is_first_dot};
-ghost use Rattle.vga_card.specs.Saved.{saved_dots, saved_dots_from, widths_in, past_widths};
-ghost use Rattle.vga_card.specs.Saved.{most_on as most_dots_on, AreFew, AreSavedDots};
+ghost use Rattle.vga_card.specs.Saved.{saved_dots, saved_dots_from, saved_widths, past_widths};
+ghost use Rattle.vga_card.specs.Saved.{most_dots_on_line as most_dots_on, AreWidthsInBounds};
+ghost use Rattle.vga_card.specs.Saved.{AreSavedDots};
 
-use super::{Canvas, HIGHEST, WIDEST, lengthen};
+use super::{Canvas, HIGHEST, WIDEST, lengthen_buffer};
 use vga_bits::{put_bytes, put_word, word_at};
 use vga_crtc::Beam;
 
@@ -21,8 +23,8 @@ pub(crate) const WIDTHS_LEN: usize = 2 * HIGHEST;
 /// Puts a word for each width, at most 2,304, into a slice from index `at` on. It returns the index
 /// after them.
 fn put_widths(out: &mut [u8], at: usize, widths: &[u32]) -> usize
-    requires narrow { (j : ℕ) → slice_index widths.now j ≤ widest }
-    requires few { length widths.now ≡ highest }
+    requires narrow { (j : ℕ) → slice_index widths.now j ≤ most_dots_of_a_line }
+    requires few { length widths.now ≡ most_lines_of_a_frame }
     requires room { at + 2048 ≤ length out.old }
     ensures put { IsPut out.old out.new at result (flat_map word_bytes widths.now) }
     ensures end { result ≡ at + 2048 }
@@ -44,7 +46,7 @@ fn blank_widths<const N: usize>() -> [u32; N]
 
 /// Puts the bytes of a canvas without dots into a slice from index `at` on. It returns the index
 /// after them.
-pub(crate) fn put_no_dots(out: &mut [u8], at: usize) -> usize
+pub(crate) fn put_zero_widths(out: &mut [u8], at: usize) -> usize
     requires { at + 2048 ≤ length out.old }
     ensures put { IsPut out.old out.new at result (saved_dots []) }
     ensures end { result ≡ at + 2048 }
@@ -53,7 +55,7 @@ pub(crate) fn put_no_dots(out: &mut [u8], at: usize) -> usize
 }
 
 /// The most dots that a line can have while the beam is at `beam`.
-fn most_on(beam: Beam, line: usize) -> u32
+fn most_dots_on_line(beam: Beam, line: usize) -> u32
     ensures { result ≡ most_dots_on beam line }
 {
     if line < beam.line as usize {
@@ -66,16 +68,16 @@ fn most_on(beam: Beam, line: usize) -> u32
 }
 
 /// How many dots all lines have together, or `None` if a line has more than it can have.
-fn count_dots(beam: Beam, bytes: &[u8]) -> Option<u32>
+fn count_saved_dots(beam: Beam, bytes: &[u8]) -> Option<u32>
     requires { 2048 ≤ length bytes.now }
-    ensures some { IfSome result (λ n. AreFew beam (widths_in bytes.now)
-        × (n ≡ length (lines_from 0 (widths_in bytes.now)))) }
-    ensures none { IfNone result (¬ AreFew beam (widths_in bytes.now)) }
+    ensures some { IfSome result (λ n. AreWidthsInBounds beam (saved_widths bytes.now)
+        × (n ≡ length (lines_by_widths 0 (saved_widths bytes.now)))) }
+    ensures none { IfNone result (¬ AreWidthsInBounds beam (saved_widths bytes.now)) }
 {
     let mut count = 0;
     for line in 0..HIGHEST {
         let width = word_at(bytes, 2 * line) as u32;
-        if width > most_on(beam, line) {
+        if width > most_dots_on_line(beam, line) {
             return None;
         }
         count += width;
@@ -91,7 +93,7 @@ pub(crate) fn are_saved_dots(beam: Beam, bytes: &[u8]) -> bool
     ensures { IsTrue result ↔ AreSavedDots beam bytes.now }
 {
     let rest = bytes.split_at(WIDTHS_LEN).1;
-    match count_dots(beam, bytes) {
+    match count_saved_dots(beam, bytes) {
         Some(count) => {
             rest.len() == 3 * count as usize && (rest.is_empty() || !beam.is_first_dot())
         }
@@ -101,9 +103,9 @@ pub(crate) fn are_saved_dots(beam: Beam, bytes: &[u8]) -> bool
 
 /// Sets the widths to those in some bytes.
 fn restore_widths(widths: &mut [u32], bytes: &[u8])
-    requires lines { length widths.old ≡ highest }
+    requires lines { length widths.old ≡ most_lines_of_a_frame }
     requires all { 2048 ≤ length bytes.now }
-    ensures { widths.new ≡ widths_in bytes.now }
+    ensures { widths.new ≡ saved_widths bytes.now }
 {
     for line in 0..widths.len() {
         widths[line] = word_at(bytes, 2 * line) as u32;
@@ -117,7 +119,7 @@ fn restore_bytes(buffer: &mut Vec<u8>, bytes: &[u8])
     ensures len { length bytes.now ≤ length buffer.new.items }
     ensures capacity { vec_capacity buffer.old ≤ vec_capacity buffer.new }
 {
-    lengthen(buffer, bytes.len());
+    lengthen_buffer(buffer, bytes.len());
     put_bytes(buffer.as_mut_slice(), 0, bytes);
 }
 

@@ -4,13 +4,16 @@ ghost use Rattle.std.specs.Prelude.{IsOk, OnOk, IfErr, IfSome};
 ghost use Rattle.vga_host.specs.Sequencer.{character_width as host_width};
 ghost use Rattle.vga_crtc.specs.Beam.{after_start, after_dot};
 ghost use Rattle.vga_crtc.specs.Fields.{horizontal_display_end};
-ghost use Rattle.vga_crtc.specs.Raster.{IsLineStart, IsInLine, dot_number, dots_in_line};
+ghost use Rattle.vga_crtc.specs.Raster.{IsLineStart, IsWithinItsLine, dot_number_in_line};
+ghost use Rattle.vga_crtc.specs.Raster.{dots_in_line};
 ghost use Rattle.vga_dots.specs.Line.{shown_characters as characters_shown};
-ghost use Rattle.vga_card.specs.Dots.{character_width, fresh_dots, display_dot, dot, dots};
+ghost use Rattle.vga_card.specs.Dots.{character_width, dots_unless_frame_start, display_dot, dot};
+ghost use Rattle.vga_card.specs.Dots.{dots};
 ghost use Rattle.vga_card.specs.Dots.{most_dots};
-ghost use Rattle.vga_card.specs.Line.{line_dots, part_dots, line_count, started_display};
+ghost use Rattle.vga_card.specs.Line.{displayed_line_dots, displayed_part_dots};
+ghost use Rattle.vga_card.specs.Line.{dots_to_next_line, started_display};
 ghost use Rattle.vga_card.specs.Repeat.{EndsWithLine};
-ghost use Rattle.vga_card.specs.Valid.{fresh_count, IsDrawnTo};
+ghost use Rattle.vga_card.specs.Valid.{count_unless_frame_start, IsDrawnTo};
 
 use super::Card;
 use super::repeats::add_row;
@@ -18,8 +21,8 @@ use crate::canvas::Canvas;
 use vga_attr::Attr;
 use vga_bits::Refusal;
 use vga_crtc::laws::{
-    beam_goes_in_line, beam_in_line, dot_moves, frame_ends, line_ends, line_moves,
-    start_is_taken_once,
+    beam_place_in_line, dot_leads_to_next_place, dots_move_beam_in_line, frame_ends_with_its_dots,
+    line_ends_with_its_dots, line_leads_to_next_line, start_is_taken_once,
 };
 use vga_crtc::{Beam, Crtc};
 use vga_dac::Dac;
@@ -34,9 +37,9 @@ const LONGEST_LINE: u32 = 2340;
 
 /// Removes the dots of the frame before, where a frame begins.
 fn clear_at_first_dot(beam: Beam, canvas: &mut Canvas)
-    ensures dots { canvas.new.dots ≡ fresh_dots beam canvas.old.dots }
-    ensures line { canvas.new.line ≡ fresh_count beam canvas.old.line }
-    ensures width { canvas.new.width ≡ fresh_count beam canvas.old.width }
+    ensures dots { canvas.new.dots ≡ dots_unless_frame_start beam canvas.old.dots }
+    ensures line { canvas.new.line ≡ count_unless_frame_start beam canvas.old.line }
+    ensures width { canvas.new.width ≡ count_unless_frame_start beam canvas.old.width }
 {
     if beam.is_first_dot() {
         canvas.clear();
@@ -67,7 +70,7 @@ fn draw_dot(host: &Host, crtc: &mut Crtc, attr: &Attr, dac: &Dac, canvas: &mut C
 pub(super) fn draw_row(display: &Display<'_>, canvas: &mut Canvas)
     requires place { IsDrawnTo display.now.crtc.beam 0 canvas.old.line canvas.old.width }
     requires start { IsLineStart display.now.crtc.beam }
-    ensures dots { canvas.new.dots ≡ canvas.old.dots ++ line_dots display.now }
+    ensures dots { canvas.new.dots ≡ canvas.old.dots ++ displayed_line_dots display.now }
     ensures below { canvas.new.line ≤ display.now.crtc.beam.line }
 {
     let crtc = display.crtc();
@@ -82,15 +85,15 @@ pub(super) fn draw_row(display: &Display<'_>, canvas: &mut Canvas)
 }
 
 /// How many of the next `n` dots are displayed. The beam is at a displayed character.
-fn shown_count(display: &Display<'_>, n: u32) -> usize
-    requires inside { IsInLine (host_width display.now.host) display.now.crtc.registers
+fn displayed_dot_count(display: &Display<'_>, n: u32) -> usize
+    requires inside { IsWithinItsLine (host_width display.now.host) display.now.crtc.registers
         display.now.crtc.beam }
     requires shown { display.now.crtc.beam.character
         ≤ horizontal_display_end display.now.crtc.registers }
     ensures few { characters_shown display.now.crtc.registers ≤ 256 }
     ensures value { result ≡ min n (characters_shown display.now.crtc.registers
         * host_width display.now.host
-        - dot_number (host_width display.now.host) display.now.crtc.beam) }
+        - dot_number_in_line (host_width display.now.host) display.now.crtc.beam) }
 {
     let width = display.host().character_width() as u32;
     let beam = display.beam();
@@ -103,18 +106,18 @@ fn shown_count(display: &Display<'_>, n: u32) -> usize
 /// taken already.
 fn draw_dots(display: &Display<'_>, canvas: &mut Canvas, n: u32)
     requires place { IsDrawnTo display.now.crtc.beam 0 canvas.old.line canvas.old.width }
-    requires inside { IsInLine (host_width display.now.host) display.now.crtc.registers
+    requires inside { IsWithinItsLine (host_width display.now.host) display.now.crtc.registers
         display.now.crtc.beam }
     requires few { n ≤ dots_in_line (host_width display.now.host) display.now.crtc.registers
         display.now.crtc.beam }
     requires at_most { n ≤ 128 }
-    ensures dots { canvas.new.dots ≡ canvas.old.dots ++ part_dots n display.now }
+    ensures dots { canvas.new.dots ≡ canvas.old.dots ++ displayed_part_dots n display.now }
     ensures place { IsDrawnTo display.now.crtc.beam n canvas.new.line canvas.new.width }
 {
-    beam_goes_in_line();
+    dots_move_beam_in_line();
     let crtc = display.crtc();
     if crtc.is_display() {
-        let count = shown_count(display, n);
+        let count = displayed_dot_count(display, n);
         if display.host().is_eight_dots() {
             canvas.add_part::<8>(display, count);
         } else {
@@ -130,13 +133,13 @@ impl Card {
     fn take_line(&mut self, before: Option<Beam>) -> Beam
         requires start { IsLineStart self.old.crtc.beam }
         requires before { IfSome before (EndsWithLine (started_display self.old) self.old.drawn) }
-        ensures by_dots { self.new ≡ dots (line_count self.old) self.old }
+        ensures by_dots { self.new ≡ dots (dots_to_next_line self.old) self.old }
         ensures ends { EndsWithLine (started_display self.new) self.new.drawn result }
     {
         start_is_taken_once();
-        beam_in_line();
-        line_moves();
-        frame_ends();
+        beam_place_in_line();
+        line_leads_to_next_line();
+        frame_ends_with_its_dots();
         let width = self.host.character_width();
         clear_at_first_dot(self.crtc.beam(), &mut self.canvas);
         self.crtc.take_start();
@@ -150,17 +153,17 @@ impl Card {
     /// Takes the next `n` dots of the beam's line, which has at least `n` dots left.
     fn take_part(&mut self, n: u32)
         requires some { 0 < n }
-        requires inside { IsInLine (character_width self.old) self.old.crtc.registers
+        requires inside { IsWithinItsLine (character_width self.old) self.old.crtc.registers
             self.old.crtc.beam }
-        requires few { n ≤ line_count self.old }
+        requires few { n ≤ dots_to_next_line self.old }
         requires at_most { n ≤ 128 }
         ensures { self.new ≡ dots n self.old }
     {
         start_is_taken_once();
-        beam_goes_in_line();
-        line_ends();
-        line_moves();
-        frame_ends();
+        dots_move_beam_in_line();
+        line_ends_with_its_dots();
+        line_leads_to_next_line();
+        frame_ends_with_its_dots();
         let width = self.host.character_width();
         clear_at_first_dot(self.crtc.beam(), &mut self.canvas);
         self.crtc.take_start();
@@ -174,7 +177,7 @@ impl Card {
         ensures { self.new ≡ dot self.old }
     {
         start_is_taken_once();
-        dot_moves();
+        dot_leads_to_next_place();
         let width = self.host.character_width();
         clear_at_first_dot(self.crtc.beam(), &mut self.canvas);
         draw_dot(

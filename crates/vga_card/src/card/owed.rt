@@ -5,7 +5,7 @@ ghost use Rattle.std.specs.Prelude.{◌≡◌, ◌≤◌, ◌==◌, ◌&&◌, �
 ghost use Rattle.vga_card.specs.Dots.{character_width, dots};
 ghost use Rattle.vga_card.specs.Port.{port_of};
 ghost use Rattle.vga_card.specs.declared.port.Port.TheVariants.{InputStatus1};
-ghost use Rattle.vga_crtc.specs.Raster.{IsInLine, dots_in_line};
+ghost use Rattle.vga_crtc.specs.Raster.{IsWithinItsLine, dots_in_line};
 ghost use Rattle.vga_card.specs.Cycles.{out_cycle, inp_cycle, put_cycle, get_cycle};
 ghost use Rattle.vga_card.specs.WordCycles.{out_word_cycle, put_word_cycle, get_word_cycle};
 ghost use Rattle.vga_host.specs.Memory.Address.{window_offset};
@@ -20,8 +20,8 @@ use crate::laws::{
 };
 use crate::port::{Port, port_reached};
 use vga_bits::Refusal;
-use vga_crtc::laws::{beam_goes_in_line, start_is_taken_once};
-use vga_dots::is_apart;
+use vga_crtc::laws::{dots_move_beam_in_line, start_is_taken_once};
+use vga_dots::is_not_fetched;
 use vga_host::{GRAPHICS_DATA, GRAPHICS_INDEX, SEQUENCER_DATA, SEQUENCER_INDEX};
 
 /// Whether no dot sees the sequencer's register with this index. Dots see clocking mode and
@@ -44,7 +44,8 @@ impl Card {
     /// Whether the next n dots are dots of the beam's line.
     fn is_within_line(&self, n: u32) -> bool
         ensures inside { result ≡ true
-            → IsInLine (character_width self.now) self.now.crtc.registers self.now.crtc.beam }
+            → IsWithinItsLine (character_width self.now) self.now.crtc.registers
+            self.now.crtc.beam }
         ensures few { result ≡ true → n ≤ dots_in_line (character_width self.now)
             self.now.crtc.registers self.now.crtc.beam }
         ensures at_most { result ≡ true → n ≤ 2340 }
@@ -61,12 +62,12 @@ impl Card {
             (memory_after_put self.now.host (window_offset self.now.host address) v) }
     {
         start_is_taken_once();
-        beam_goes_in_line();
+        dots_move_beam_in_line();
         if self.crtc.beam().is_first_dot() || !self.is_within_line(n) {
             return false;
         }
         match self.host.offset_beside_glyphs(address, self.misc) {
-            Some(offset) => is_apart(&self.crtc, offset),
+            Some(offset) => is_not_fetched(&self.crtc, offset),
             None => false,
         }
     }
@@ -113,7 +114,8 @@ impl Card {
     }
 
     /// Writes a byte to an address n dots on. It returns how many of these dots remain to be taken
-    /// after the write. They do not see it.
+    /// after the write. They do not see it. It is inlined, because a put is the most frequent cycle.
+    #[inline(always)]
     pub fn put_after(&mut self, n: u32, address: u32, v: u8) -> (u32, Result<(), Refusal>)
         ensures left { result.0 ≤ n }
         ensures put { (dots result.0 self.new, result.1) ≡ put_cycle (dots n self.old) address v }
@@ -158,7 +160,7 @@ impl Card {
     /// takes its next write as an index; no dot sees that.
     fn read_status_after(&mut self, n: u32) -> u8
         requires some { 0 < n }
-        requires inside { IsInLine (character_width self.old) self.old.crtc.registers
+        requires inside { IsWithinItsLine (character_width self.old) self.old.crtc.registers
             self.old.crtc.beam }
         requires few { n ≤ dots_in_line (character_width self.old) self.old.crtc.registers
             self.old.crtc.beam }

@@ -3,8 +3,8 @@
 //! lines of a doubled line, because the profile leaves out the row scan as a bit of the address.
 ghost use Rattle.std.specs.Prelude.{◌≡◌, ◌<◌, ◌≤◌, ◌++◌, true, IfSome};
 ghost use Rattle.vga_crtc.specs.Raster.{IsLineStart};
-ghost use Rattle.vga_card.specs.Line.{line_dots};
-ghost use Rattle.vga_card.specs.Repeat.{EndsWithLine, ShowsAgain};
+ghost use Rattle.vga_card.specs.Line.{displayed_line_dots};
+ghost use Rattle.vga_card.specs.Repeat.{EndsWithLine, ShowsLineAgain};
 ghost use Rattle.vga_card.specs.Valid.{IsDrawnTo};
 
 use super::dots::draw_row;
@@ -15,8 +15,8 @@ use vga_dots::{Display, shown_characters};
 
 /// Whether the beam's line, in graphics, shows the same as an earlier line of the frame. That line
 /// was drawn with the beam `before`.
-fn shows_again(display: &Display<'_>, before: Beam) -> bool
-    ensures { result ≡ true → ShowsAgain display.now before }
+fn shows_line_again(display: &Display<'_>, before: Beam) -> bool
+    ensures { result ≡ true → ShowsLineAgain display.now before }
 {
     let beam = display.beam();
     display.host().is_graphics()
@@ -31,9 +31,9 @@ fn shows_again(display: &Display<'_>, before: Beam) -> bool
 fn copy_row(display: &Display<'_>, canvas: &mut Canvas, before: Beam)
     requires place { IsDrawnTo display.now.crtc.beam 0 canvas.old.line canvas.old.width }
     requires start { IsLineStart display.now.crtc.beam }
-    requires again { ShowsAgain display.now before }
+    requires again { ShowsLineAgain display.now before }
     requires ends { EndsWithLine display.now canvas.old.dots before }
-    ensures dots { canvas.new.dots ≡ canvas.old.dots ++ line_dots display.now }
+    ensures dots { canvas.new.dots ≡ canvas.old.dots ++ displayed_line_dots display.now }
     ensures below { canvas.new.line ≤ display.now.crtc.beam.line }
 {
     graphics_lines_repeat();
@@ -53,11 +53,11 @@ pub(super) fn add_row(display: &Display<'_>, canvas: &mut Canvas, before: Option
     requires start { IsLineStart display.now.crtc.beam }
     requires before { IfSome before (λ b. b.line < display.now.crtc.beam.line →
         EndsWithLine display.now canvas.old.dots b) }
-    ensures dots { canvas.new.dots ≡ canvas.old.dots ++ line_dots display.now }
+    ensures dots { canvas.new.dots ≡ canvas.old.dots ++ displayed_line_dots display.now }
     ensures below { canvas.new.line ≤ display.now.crtc.beam.line }
 {
     match before {
-        Some(before) if shows_again(display, before) => copy_row(display, canvas, before),
+        Some(before) if shows_line_again(display, before) => copy_row(display, canvas, before),
         _ => draw_row(display, canvas),
     }
 }

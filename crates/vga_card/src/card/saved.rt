@@ -2,14 +2,14 @@
 ghost use Rattle.std.specs.Prelude.{◌≡◌, ◌+◌, ◌*◌, ◌≤◌, ◌↔◌, IsTrue, length, take, slice_index};
 ghost use Rattle.std.specs.Prelude.{IfOk, IsOkUnless};
 ghost use Rattle.vga_bits.specs.Saved.{IsPut};
-ghost use Rattle.vga_card.specs.Dots.{fresh};
+ghost use Rattle.vga_card.specs.Dots.{dots_of_frame_so_far};
 ghost use Rattle.vga_card.specs.Saved.{saved_card, past_misc, past_crtc, past_attr, past_dac};
 ghost use Rattle.vga_card.specs.Saved.{past_host, IsSavedCard, card_from};
 ghost use Rattle.vga_card.specs.FreshCanvas.{with_fresh_canvas};
 
 use super::Card;
 use super::cycles::MISCELLANEOUS_MASK;
-use crate::canvas::saved::{WIDTHS_LEN, are_saved_dots, put_no_dots};
+use crate::canvas::saved::{WIDTHS_LEN, are_saved_dots, put_zero_widths};
 use std::alloc::Global;
 use vga_attr::Attr;
 use vga_bits::{Fault, put_byte};
@@ -67,7 +67,7 @@ impl Card {
     /// How many bytes the adapter has if you save it now.
     pub fn saved_len(&self) -> usize
         ensures value { result ≡ length (saved_card self.now) }
-        ensures dots { result ≡ 265046 + 3 * length (fresh self.now) }
+        ensures dots { result ≡ 265046 + 3 * length (dots_of_frame_so_far self.now) }
         ensures few { result ≤ 7342934 }
     {
         self.saves_whole();
@@ -85,7 +85,7 @@ impl Card {
     /// under way. At the frame's first dot there are no dots.
     #[tactic(auto, unfolding(crate::specs::Saved::saved_card))]
     pub fn save(&self, out: &mut [u8], at: usize) -> usize
-        requires { at + (265046 + 3 * length (fresh self.now)) ≤ length out.old }
+        requires { at + (265046 + 3 * length (dots_of_frame_so_far self.now)) ≤ length out.old }
         ensures { IsPut out.old out.new at result (saved_card self.now) }
     {
         let at = put_byte(out, at, self.misc);
@@ -94,7 +94,7 @@ impl Card {
         let at = self.dac.save(out, at);
         let at = self.host.save(out, at);
         if self.crtc.beam().is_first_dot() {
-            put_no_dots(out, at)
+            put_zero_widths(out, at)
         } else {
             self.canvas.save(out, at)
         }
@@ -177,7 +177,8 @@ impl Card {
     pub fn saves_whole(&self)
         ensures saved { IsSavedCard (saved_card self.now) }
         ensures back { card_from (saved_card self.now) ≡ with_fresh_canvas self.now }
-        ensures len { length (saved_card self.now) ≡ 265046 + 3 * length (fresh self.now) }
+        ensures len { length (saved_card self.now) ≡ 265046 + 3 * length (dots_of_frame_so_far
+            self.now) }
     {
         self.crtc.saves_whole();
         self.attr.saves_whole();

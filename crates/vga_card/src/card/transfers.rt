@@ -3,7 +3,7 @@
 ghost use Rattle.std.specs.Prelude.{◌≡◌, ◌<◌, ◌≤◌, ◌+◌, ◌^◌, ℕ, length, slice_index};
 ghost use Rattle.vga_card.specs.Bus.{after_puts, card_meaning, AtAddress};
 ghost use Rattle.vga_card.specs.Transfers.{after_gets, after_puts_down, after_gets_down};
-ghost use Rattle.vga_card.specs.Transfers.{after_moves_down, byte_at, decoded_by, AreRead};
+ghost use Rattle.vga_card.specs.Transfers.{after_moves_down, byte_at_or_ff, decoded_count, AreRead};
 
 use super::Card;
 
@@ -14,7 +14,7 @@ impl Card {
     /// How many of the n addresses from the first on are decoded by the display memory.
     pub fn decoded_among(&self, first: u32, n: u32) -> u32
         requires { first + n < 2 ^ 32 }
-        ensures value { result ≡ decoded_by self.now first n }
+        ensures value { result ≡ decoded_count self.now first n }
         ensures few { result ≤ n }
     {
         self.host.decoded_among(first, n, self.misc)
@@ -67,7 +67,7 @@ impl Card {
     /// The byte that a read of an address returns, or FF where the read is refused.
     fn get_or_refused(&mut self, address: u32) -> u8
         ensures after { self.new ≡ (card_meaning.read self.old (AtAddress address)).0 }
-        ensures byte { result ≡ byte_at self.old address }
+        ensures byte { result ≡ byte_at_or_ff self.old address }
     {
         match self.get(address) {
             Ok(byte) => byte,

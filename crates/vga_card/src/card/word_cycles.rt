@@ -4,7 +4,8 @@ ghost use Rattle.std.specs.Prelude.{◌≡◌, ◌+◌, ◌*◌, ◌/◌, ◌%�
 ghost use Rattle.vga_host.specs.Memory.Address.{is_decoded};
 ghost use Rattle.vga_card.specs.Cycles.{out_cycle, inp_cycle};
 ghost use Rattle.vga_card.specs.Port.{crtc_port};
-ghost use Rattle.vga_card.specs.WordCycles.{IsQuiet, out_bytes, inp_bytes, out_word_cycle};
+ghost use Rattle.vga_card.specs.WordCycles.{IsReadWithoutEffect, out_bytes, inp_bytes};
+ghost use Rattle.vga_card.specs.WordCycles.{out_word_cycle};
 ghost use Rattle.vga_card.specs.WordCycles.{inp_word_cycle};
 ghost use Rattle.vga_card.specs.WordCycles.{put_word_cycle, get_word_cycle};
 
@@ -32,7 +33,7 @@ impl Card {
     /// Writes a byte to a port, and then one to the next port. The second write is not refused once
     /// the first is done.
     #[tactic(auto, using(crate::proofs::CycleLemmas::written_refused))]
-    fn out_pair(&mut self, port: u16, low: u8, high: u8) -> Result<(), Refusal>
+    fn out_two_bytes(&mut self, port: u16, low: u8, high: u8) -> Result<(), Refusal>
         requires few { port < 65535 }
         requires second { IsOk (out_cycle (out_cycle self.old port low).0 (port + 1) high).1 }
         ensures { (self.new, result) ≡ out_bytes self.old port low high }
@@ -94,10 +95,10 @@ impl Card {
             Port::GraphicsIndex => self.out_graphics(low, high),
             Port::CrtcIndex => self.out_crtc(low, high),
             // The second byte is for the DAC, which refuses none.
-            Port::SequencerData => self.out_pair(port, low, high),
-            Port::DacMask => self.out_pair(port, low, high),
-            Port::DacReadIndex => self.out_pair(port, low, high),
-            Port::DacWriteIndex => self.out_pair(port, low, high),
+            Port::SequencerData => self.out_two_bytes(port, low, high),
+            Port::DacMask => self.out_two_bytes(port, low, high),
+            Port::DacReadIndex => self.out_two_bytes(port, low, high),
+            Port::DacWriteIndex => self.out_two_bytes(port, low, high),
             // One of the two bytes is for video subsystem enable.
             Port::MiscellaneousWrite | Port::SubsystemEnable => Err(Refusal::NotInProfile),
             // One of the two bytes is at a port that cannot be written, or at no port.
@@ -114,9 +115,9 @@ impl Card {
 
     /// Reads a word from a port and the next. Reading its first byte has no effect, and is not
     /// refused.
-    fn inp_quiet(&mut self, port: u16) -> Result<u16, Refusal>
+    fn inp_without_effect(&mut self, port: u16) -> Result<u16, Refusal>
         requires few { port < 65535 }
-        requires quiet { IsQuiet self.old port }
+        requires quiet { IsReadWithoutEffect self.old port }
         ensures { (self.new, result) ≡ inp_bytes self.old port }
     {
         match self.inp(port) {
@@ -139,17 +140,17 @@ impl Card {
         };
         match reached {
             // An index, and then the register or the data that it selects.
-            Port::Attribute => self.inp_quiet(port),
-            Port::SequencerIndex => self.inp_quiet(port),
-            Port::DacWriteIndex => self.inp_quiet(port),
-            Port::GraphicsIndex => self.inp_quiet(port),
-            Port::CrtcIndex => self.inp_quiet(port),
+            Port::Attribute => self.inp_without_effect(port),
+            Port::SequencerIndex => self.inp_without_effect(port),
+            Port::DacWriteIndex => self.inp_without_effect(port),
+            Port::GraphicsIndex => self.inp_without_effect(port),
+            Port::CrtcIndex => self.inp_without_effect(port),
             // The next port is the DAC's mask, whose reading is not refused.
             Port::SequencerData => {
                 if self.host.refuses_inp(SEQUENCER_DATA) {
                     return Err(Refusal::NotInProfile);
                 }
-                self.inp_quiet(port)
+                self.inp_without_effect(port)
             }
             // One of the two bytes is left out of the profile.
             Port::AttributeRegister => Err(Refusal::NotInProfile),

@@ -108,7 +108,7 @@ impl Beam {
 
     /// The line at whose first dot the vertical retrace begins next, or ends if the beam is in it;
     /// `None` if the retrace is at no line of a frame, or at every line.
-    fn retrace_change(self, registers: &Registers, cw: u8) -> Option<u16>
+    fn next_retrace_change_line(self, registers: &Registers, cw: u8) -> Option<u16>
         requires { (cw ≡ 8) ⊎ (cw ≡ 9) }
         ensures few { IfSome result (λ v. v < 1026) }
         ensures change { MatchOption result
@@ -141,14 +141,14 @@ impl Beam {
             (ChangesAfter (is_retrace registers.now) cw registers.now self) }
         ensures at_most { IfSome result (λ n. n ≤ 4800000) }
     {
-        match self.retrace_change(registers, cw) {
+        match self.next_retrace_change_line(registers, cw) {
             Some(line) => Some(self.dots_to_line(registers, cw, line)),
             None => None,
         }
     }
 
     /// The line at whose first dot the display begins next; the beam is at no display dot.
-    fn display_begin(self, registers: &Registers, cw: u8) -> u16
+    fn next_display_line(self, registers: &Registers, cw: u8) -> u16
         requires width { (cw ≡ 8) ⊎ (cw ≡ 9) }
         requires place { IsBeam self }
         requires hidden { is_display registers.now self ≡ false }
@@ -175,7 +175,7 @@ impl Beam {
         ensures at_most { IfSome result (λ n. n ≤ 4800000) }
     {
         if !self.is_display(registers) {
-            let line = self.display_begin(registers, cw);
+            let line = self.next_display_line(registers, cw);
             return Some(self.dots_to_line(registers, cw, line));
         }
         let character = registers.horizontal_display_end() as u16 + 1;

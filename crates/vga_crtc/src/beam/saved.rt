@@ -48,7 +48,7 @@ impl Beam {
     }
 
     /// Whether what the beam counts is within its bounds.
-    fn is_within(self) -> bool
+    fn is_beam_in_bounds(self) -> bool
         ensures { IsTrue result ↔ IsBeam self }
     {
         self.frame < 32
@@ -63,6 +63,6 @@ impl Beam {
         requires { length bytes.now ≡ 11 }
         ensures { IsTrue result ↔ IsSavedBeam bytes.now }
     {
-        bytes[9] <= 1 && bytes[10] <= 1 && Beam::from_saved(bytes).is_within()
+        bytes[9] <= 1 && bytes[10] <= 1 && Beam::from_saved(bytes).is_beam_in_bounds()
     }
 }

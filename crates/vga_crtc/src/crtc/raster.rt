@@ -4,7 +4,7 @@ ghost use Rattle.std.specs.Prelude.{IfSome, MatchOption};
 ghost use Rattle.vga_crtc.specs.Clock.{ChangesAfter, NeverChanges};
 ghost use Rattle.vga_crtc.specs.Status.{is_display, is_retrace};
 ghost use Rattle.vga_crtc.specs.Beam.{after_start, after_dot, after_dots};
-ghost use Rattle.vga_crtc.specs.Raster.{dots_in_line, dots_in_frame, IsLineTaken, IsInLine};
+ghost use Rattle.vga_crtc.specs.Raster.{dots_in_line, dots_in_frame, IsLineTaken, IsWithinItsLine};
 
 use super::Crtc;
 use crate::beam::Beam;
@@ -96,7 +96,7 @@ impl Crtc {
     /// Whether the beam is at a dot that its line has. Lowering a register can leave the beam past
     /// those dots. A character is `cw` dots wide.
     pub fn is_in_line(&self, cw: u8) -> bool
-        ensures { (result ≡ true) ↔ IsInLine cw self.now.registers self.now.beam }
+        ensures { (result ≡ true) ↔ IsWithinItsLine cw self.now.registers self.now.beam }
     {
         self.beam.character < self.registers.characters() && self.beam.dot < cw
     }
@@ -106,7 +106,7 @@ impl Crtc {
     /// `cw` dots wide, 8 or 9.
     pub fn step_dots(&mut self, cw: u8, n: u32)
         requires width { (cw ≡ 8) ⊎ (cw ≡ 9) }
-        requires inside { IsInLine cw self.old.registers self.old.beam }
+        requires inside { IsWithinItsLine cw self.old.registers self.old.beam }
         requires some { 0 < n }
         requires few { n ≤ dots_in_line cw self.old.registers self.old.beam }
         requires at_most { n ≤ 2340 }

@@ -7,7 +7,7 @@ use super::Crtc;
 use super::ports::INDEX_MASK;
 use crate::beam::Beam;
 use crate::registers::{COUNT, KEPT_BITS};
-use vga_bits::{are_kept, put_byte, put_bytes};
+use vga_bits::{are_within_masks, put_byte, put_bytes};
 
 impl Crtc {
     /// How many bytes a CRT controller has when it is saved.
@@ -36,7 +36,7 @@ impl Crtc {
         }
         let (registers, rest) = bytes.split_at(COUNT);
         let (index, beam) = rest.split_at(1);
-        are_kept(&KEPT_BITS, registers) && index[0] <= INDEX_MASK && Beam::is_saved(beam)
+        are_within_masks(&KEPT_BITS, registers) && index[0] <= INDEX_MASK && Beam::is_saved(beam)
     }
 
     /// The beam of the CRT controller with these 37 bytes.

@@ -2,10 +2,10 @@
 ghost use Rattle.std.specs.Prelude.{◌≡◌, ◌+◌, ◌<◌, ◌≤◌, ◌↔◌, length, IsTrue};
 ghost use Rattle.vga_bits.specs.Saved.{IsPut};
 ghost use Rattle.vga_dac.specs.Saved.{component_number as number_of, component_numbered};
-ghost use Rattle.vga_dac.specs.Saved.{saved_dac, AreSmall, AreCounters};
+ghost use Rattle.vga_dac.specs.Saved.{saved_dac, AreSixBitValues, AreSavedCounters};
 ghost use Rattle.vga_dac.specs.Saved.{IsSavedDac, dac_from};
 
-use super::{COMPONENT_MASK, Dac, ENTRIES, entries_of};
+use super::{COMPONENT_MASK, Dac, ENTRIES, padded_entries};
 use crate::component::Component;
 use vga_bits::put_bytes;
 
@@ -33,8 +33,8 @@ fn component_of_number(number: u8) -> Component
 
 /// Whether each value fits in six bits.
 #[tactic(auto, using(crate::proofs::SavedLemmas::small_within))]
-fn are_small(values: &[u8]) -> bool
-    ensures { IsTrue result ↔ AreSmall values.now }
+fn are_six_bit_values(values: &[u8]) -> bool
+    ensures { IsTrue result ↔ AreSixBitValues values.now }
 {
     for i in 0..values.len() {
         if values[i] > COMPONENT_MASK {
@@ -46,9 +46,9 @@ fn are_small(values: &[u8]) -> bool
 
 /// Whether the bytes after the entries are within bounds: the number of a component, and the two
 /// values of six bits.
-fn are_counters(bytes: &[u8]) -> bool
+fn are_saved_counters(bytes: &[u8]) -> bool
     requires { length bytes.now ≡ 5 }
-    ensures { IsTrue result ↔ AreCounters bytes.now }
+    ensures { IsTrue result ↔ AreSavedCounters bytes.now }
 {
     bytes[1] <= 2 && bytes[2] <= COMPONENT_MASK && bytes[3] <= COMPONENT_MASK
 }
@@ -91,7 +91,10 @@ impl Dac {
         let (reds, rest) = bytes.split_at(ENTRIES);
         let (greens, rest) = rest.split_at(ENTRIES);
         let (blues, rest) = rest.split_at(ENTRIES);
-        are_small(reds) && are_small(greens) && are_small(blues) && are_counters(rest)
+        are_six_bit_values(reds)
+            && are_six_bit_values(greens)
+            && are_six_bit_values(blues)
+            && are_saved_counters(rest)
     }
 
     /// Restores entries, index, component, waiting values and mask from the bytes of a DAC.
@@ -106,7 +109,7 @@ impl Dac {
         self.reds.copy_from_slice(reds);
         self.greens.copy_from_slice(greens);
         self.blues.copy_from_slice(blues);
-        self.entries = entries_of(&self.reds, &self.greens, &self.blues);
+        self.entries = padded_entries(&self.reds, &self.greens, &self.blues);
         self.index = rest[0];
         self.component = component_of_number(rest[1]);
         self.waiting_red = rest[2];

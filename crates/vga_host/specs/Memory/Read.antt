@@ -4,7 +4,7 @@
 -- Care Register".
 use Rattle.std.specs.Prelude.{ℕ, ◌+◌, ◌*◌, ◌%◌, ◌==◌, ◌&&◌, ◌||◌, not, if◌then◌else◌, Bool}
 use Rattle.std.specs.Int.{bit_at}
-use Rattle.vga_bits.specs.Bits.{byte_of}
+use Rattle.vga_bits.specs.Bits.{byte_of_bits}
 use Rattle.vga_bits.specs.Four.{Four, of_plane}
 use Rattle.vga_planes.specs.Planes.{bytes_at}
 use Rattle.vga_host.specs.Host.{HostState}
@@ -27,13 +27,14 @@ picked_plane h w =
 
 -- whether bit i of plane p agrees in read mode 1: it equals the compare bit, or the plane is not
 -- compared
-abbrev pub agrees : HostState → Four ℕ → ℕ → ℕ → Bool
-agrees h bytes p i = not (is_compared h p) || (bit_at (of_plane bytes p) i == colour_compare h p)
+abbrev pub agrees_with_compare : HostState → Four ℕ → ℕ → ℕ → Bool
+agrees_with_compare h bytes p i =
+    not (is_compared h p) || (bit_at (of_plane bytes p) i == colour_compare h p)
 
 -- bit i of the byte read in read mode 1: 1 if all four planes agree
 abbrev pub compared_bit : HostState → Four ℕ → ℕ → ℕ
-compared_bit h bytes i = if agrees h bytes 0 i && (agrees h bytes 1 i
-    && (agrees h bytes 2 i && agrees h bytes 3 i)) then 1 else 0
+compared_bit h bytes i = if agrees_with_compare h bytes 0 i && (agrees_with_compare h bytes 1 i
+    && (agrees_with_compare h bytes 2 i && agrees_with_compare h bytes 3 i)) then 1 else 0
 
 -- bit i of the byte that a read at an offset in the window returns, from the four bytes loaded
 unfoldable pub read_bit : HostState → ℕ → Four ℕ → ℕ → ℕ
@@ -42,7 +43,7 @@ read_bit h w bytes i = if is_read_compare h then compared_bit h bytes i
 
 -- the byte that a read of a decoded address returns
 abbrev pub read_byte : HostState → ℕ → ℕ
-read_byte h address = byte_of (λ i. read_bit h (window_offset h address) (loaded h address) i)
+read_byte h address = byte_of_bits (λ i. read_bit h (window_offset h address) (loaded h address) i)
 
 -- the host path after a read of a decoded address: the latches hold the bytes loaded, and
 -- everything else stays the same

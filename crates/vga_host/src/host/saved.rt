@@ -7,7 +7,7 @@ ghost use Rattle.vga_host.specs.Saved.{host_from};
 use super::Host;
 use super::graphics::{self, GFX_MASKS};
 use super::sequencer::{self, SEQ_MASKS};
-use vga_bits::{are_kept, put_bytes};
+use vga_bits::{are_within_masks, put_bytes};
 use vga_planes::Latch;
 
 /// The bytes of the latches, from plane 0.
@@ -56,8 +56,8 @@ impl Host {
         let rest = bytes.split_at(4).1;
         let (seq, rest) = rest.split_at(SEQ_MASKS.len());
         let (gfx, indexes) = rest.split_at(GFX_MASKS.len());
-        are_kept(&SEQ_MASKS, seq)
-            && are_kept(&GFX_MASKS, gfx)
+        are_within_masks(&SEQ_MASKS, seq)
+            && are_within_masks(&GFX_MASKS, gfx)
             && indexes[0] <= sequencer::INDEX_MASK
             && indexes[1] <= graphics::INDEX_MASK
     }

@@ -3,7 +3,7 @@ ghost use Rattle.std.specs.Prelude.{◌≡◌, ◌+◌, ◌<◌, ◌≤◌, leng
 ghost use Rattle.vga_bits.specs.Four.{of_plane};
 ghost use Rattle.vga_bits.specs.Saved.{IsPut};
 ghost use Rattle.vga_planes.specs.Saved.{saved_memory, memory_from};
-ghost use Rattle.vga_planes.specs.PlaneWords.{planes_of};
+ghost use Rattle.vga_planes.specs.PlaneWords.{planes_of_words};
 
 use super::{PLANE_LEN, Planes};
 use crate::latch::Latch;
@@ -14,7 +14,7 @@ fn join_planes(words: &mut [u32], plane0: &[u8], plane1: &[u8], plane2: &[u8], p
     requires len1 { length plane1.now ≡ length words.old }
     requires len2 { length plane2.now ≡ length words.old }
     requires len3 { length plane3.now ≡ length words.old }
-    ensures { planes_of words.new ≡ record {
+    ensures { planes_of_words words.new ≡ record {
       plane0 = plane0.now;
       plane1 = plane1.now;
       plane2 = plane2.now;
@@ -23,6 +23,17 @@ fn join_planes(words: &mut [u32], plane0: &[u8], plane1: &[u8], plane2: &[u8], p
 {
     for i in 0..words.len() {
         words[i] = Latch::new([plane0[i], plane1[i], plane2[i], plane3[i]]).word();
+    }
+}
+
+/// Takes the byte of a plane, 0 to 3, out of each word.
+fn split_plane(words: &[u32], plane: usize, out: &mut [u8])
+    requires plane { plane < 4 }
+    requires len { length out.old ≡ length words.now }
+    ensures { out.new ≡ of_plane (planes_of words.now) plane }
+{
+    for i in 0..words.len() {
+        out[i] = Latch::from_word(words[i]).byte(plane);
     }
 }
 
@@ -38,11 +49,9 @@ impl Planes {
         ensures put { IsPut out.old out.new at result (of_plane self.now plane) }
         ensures end { result ≡ at + 65536 }
     {
-        self.bounds();
-        for offset in 0..PLANE_LEN {
-            out[at + offset] = self.byte(plane, offset as u16);
-        }
-        at + PLANE_LEN
+        let end = at + PLANE_LEN;
+        split_plane(self.words.as_slice(), plane, &mut out[at..end]);
+        end
     }
 
     /// Puts the bytes of all planes, one plane after another, into a slice from index `at` on. It

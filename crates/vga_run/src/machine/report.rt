@@ -18,7 +18,7 @@ use vga_bits::{Fault, Tracked, flush};
 use vga_script::Steps;
 
 /// Takes the first `most` steps, or all if there are fewer, and writes a line for each.
-fn write_first<W: Write>(
+fn write_first_steps<W: Write>(
     alloc: Global,
     out: &mut Tracked<W>,
     line: &mut NumberedLine,
@@ -64,8 +64,8 @@ fn write_until<W: Write>(
         (machine.new ≡ after_steps machine.old (steps_until (Some most) steps.entry)) }
     ensures valid { IsValid machine.new.bda }
 {
-    let mut line = NumberedLine::of(1);
-    write_first(alloc, out, &mut line, machine, steps, most as usize)?;
+    let mut line = NumberedLine::of_step(1);
+    write_first_steps(alloc, out, &mut line, machine, steps, most as usize)?;
     write_closing_dumps(alloc, out, machine, line.number())
 }
 
@@ -90,8 +90,8 @@ fn write_steps<W: Write>(
     match until {
         Some(most) => write_until(alloc, out, machine, steps, most),
         None => {
-            let mut line = NumberedLine::of(1);
-            write_first(alloc, out, &mut line, machine, steps, usize::MAX)
+            let mut line = NumberedLine::of_step(1);
+            write_first_steps(alloc, out, &mut line, machine, steps, usize::MAX)
         }
     }
 }
@@ -153,8 +153,8 @@ impl Machine {
         ensures way { IsOnTheWay self.old (take most steps.entry) self.new }
         ensures valid { IsValid self.new.bda }
     {
-        let mut line = NumberedLine::of(*number);
-        write_first(alloc, out, &mut line, self, steps, most)?;
+        let mut line = NumberedLine::of_step(*number);
+        write_first_steps(alloc, out, &mut line, self, steps, most)?;
         *number = line.number();
         Ok(())
     }

@@ -4,7 +4,8 @@ ghost use Rattle.std.specs.Prelude.{IsTrue, IsOk, OnOk, IfErr};
 ghost use Rattle.vga_bits.specs.Saved.{IsPut};
 ghost use Rattle.vga_card.specs.Bounds.{IsCard};
 ghost use Rattle.bios_modes.specs.Valid.{IsValid};
-ghost use Rattle.vga_run.specs.Saved.{saved_mark, long_bytes, long_at as long_of, saved_machine};
+ghost use Rattle.vga_run.specs.Saved.{saved_mark, four_bytes_of_number};
+ghost use Rattle.vga_run.specs.Saved.{number_of_four_bytes as long_of, saved_machine};
 ghost use Rattle.vga_run.specs.Saved.{HasMagic, HasVersion, HasLength, HasParts, IsSavedMachine};
 ghost use Rattle.vga_run.specs.Saved.{IsStateFault, machine_from, machine_with_fresh_canvas};
 
@@ -23,7 +24,7 @@ const HEADER_LEN: usize = 9;
 fn put_header(out: &mut [u8], len: usize) -> usize
     requires few { len < 4294967296 }
     requires room { 9 ≤ length out.old }
-    ensures put { IsPut out.old out.new 0 result (saved_mark ++ long_bytes len) }
+    ensures put { IsPut out.old out.new 0 result (saved_mark ++ four_bytes_of_number len) }
     ensures end { result ≡ 9 }
 {
     let at = put_bytes(out, 0, &MARK);
@@ -50,7 +51,7 @@ fn has_version(bytes: &[u8]) -> bool
 }
 
 /// The number of four bytes at `at`, low byte first.
-fn long_at(bytes: &[u8], at: usize) -> usize
+fn number_of_four_bytes(bytes: &[u8], at: usize) -> usize
     requires { at + 4 ≤ length bytes.now }
     ensures { result ≡ long_of bytes.now at }
 {
@@ -62,7 +63,7 @@ fn long_at(bytes: &[u8], at: usize) -> usize
 fn has_length(bytes: &[u8]) -> bool
     ensures { IsTrue result ↔ HasLength bytes.now }
 {
-    bytes.len() >= Machine::SAVED_LEN && bytes.len() == long_at(bytes, 5)
+    bytes.len() >= Machine::SAVED_LEN && bytes.len() == number_of_four_bytes(bytes, 5)
 }
 
 /// Whether some bytes, no fewer than the smallest saved machine, contain the parts of a machine.
@@ -76,7 +77,7 @@ fn has_parts(bytes: &[u8]) -> bool
 }
 
 /// Checks that some bytes are a saved machine.
-fn judge(bytes: &[u8]) -> Result<(), StateFault>
+fn check_saved_machine(bytes: &[u8]) -> Result<(), StateFault>
     ensures ok { IsOk result ↔ IsSavedMachine bytes.now }
     ensures err { IfErr result (λ e. IsStateFault e bytes.now) }
 {
@@ -143,7 +144,7 @@ impl Machine {
         ensures bounds { OnOk result (IsCard self.new.card × IsValid self.new.bda) }
         ensures err { IfErr result (λ e. IsStateFault e bytes.now × (self.new ≡ self.old)) }
     {
-        judge(bytes)?;
+        check_saved_machine(bytes)?;
         self.take_parts(bytes);
         Ok(())
     }

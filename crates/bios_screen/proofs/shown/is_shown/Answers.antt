@@ -2,7 +2,7 @@ use Rattle.std.proofs.Common.{◌≡◌, Bool, true, false, refl, ap, sym, ◌�
 use Rattle.std.specs.Prelude.{◌&&◌}
 use Rattle.std.specs.Str.{bytes_eq}
 use Rattle.bios_screen.proofs.Prelude.{CrtcState, CardState, ModeRow, BiosData, shows_attribute}
-use Rattle.bios_screen.specs.Shown.{shows, shows_memory, shows_data, crtc_shown}
+use Rattle.bios_screen.specs.Shown.{shows, shows_memory, shows_data, crtc_registers_shown}
 use Rattle.bios_screen.proofs.shown.is_shown.Goals as goal
 
 third_fails : (m d p a : Bool) → p ≡ false → false ≡ (m && (d && (p && a)))
@@ -13,12 +13,12 @@ third_fails true true false a e = refl
 
 -- if the CRT controller does not show the page, no screen is shown
 page_not_shown : (row : ModeRow) (c : CardState) (d : BiosData) (x : CrtcState) (r : Bool) → x ≡ c.crtc
-    → r ≡ bytes_eq x.registers (crtc_shown row d x.registers) → r ≡ false → r ≡ shows row c d
+    → r ≡ bytes_eq x.registers (crtc_registers_shown row d x.registers) → r ≡ false → r ≡ shows row c d
 unfolding shows
 page_not_shown row c d x r same page fails =
     fails
-    ∙ third_fails (shows_memory row c) (shows_data row d) (bytes_eq c.crtc.registers (crtc_shown row d c.crtc.registers)) (shows_attribute row c.attr)
-    (sym (page ∙ ap (λ (y : CrtcState). bytes_eq y.registers (crtc_shown row d y.registers)) same) ∙ fails)
+    ∙ third_fails (shows_memory row c) (shows_data row d) (bytes_eq c.crtc.registers (crtc_registers_shown row d c.crtc.registers)) (shows_attribute row c.attr)
+    (sym (page ∙ ap (λ (y : CrtcState). bytes_eq y.registers (crtc_registers_shown row d y.registers)) same) ∙ fails)
 
 pub returns-else-shows_page : goal.returns-else-shows_page
 returns-else-shows_page c =

@@ -9,13 +9,13 @@ returns-in_err-matches c =
     refusal_answers _ _ _ _ c.in_ok-line.ensures e.kinds c.from_residual-in_err-matches.ensures.1
 
 -- the number of steps is none
-pub returns-then-has_bad_count : goal.returns-then-has_bad_count
-returns-then-has_bad_count c =
+pub returns-then-matches_have_bad_limit : goal.returns-then-matches_have_bad_limit
+returns-then-matches_have_bad_limit c =
     let e = c.in_ok-matches.ensures in
-    bad_count_answers _ _ _ _ c.in_ok-line.ensures e.kinds e.ok.2 (sym c.if-has_bad_count.ensures) c.refuse_count.ensures
+    bad_count_answers _ _ _ _ c.in_ok-line.ensures e.kinds e.ok.2 (sym c.if-matches_have_bad_limit.ensures) c.refuse_count.ensures
 
 -- the parser takes the words
 pub returns : goal.returns
 returns c =
     let e = c.in_ok-matches.ensures in
-    matches_answer _ _ _ _ c.in_ok-line.ensures e.kinds e.ok.2 (sym c.if-has_bad_count.ensures) c.matched_job.ensures
+    matches_answer _ _ _ _ c.in_ok-line.ensures e.kinds e.ok.2 (sym c.if-matches_have_bad_limit.ensures) c.matched_job.ensures

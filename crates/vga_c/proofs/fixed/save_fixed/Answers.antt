@@ -1,7 +1,7 @@
 use Rattle.std.proofs.Common.{◌≡◌, ◌∙◌, ◌+◌, ◌-◌, ◌++◌, ℕ, List, length, ap, refl, arith}
 use Rattle.vga_bits.specs.Bytes.{zeros}
-use Rattle.vga_run.specs.Saved.{long_bytes, saved_machine}
-use Rattle.vga_c.specs.Fixed.{adler_32, body_of}
+use Rattle.vga_run.specs.Saved.{four_bytes_of_number, saved_machine}
+use Rattle.vga_c.specs.Fixed.{adler_32, state_and_zeros}
 use Rattle.vga_c.proofs.fixed.save_fixed.Goals as goal
 
 pub returns : goal.returns
@@ -11,9 +11,9 @@ returns c =
     let size = c.saved_len-size.ensures.value in
     let rest : length c.split_at_mut-state.result.1.now ≡ len - (4 + length state) =
     omega (arith, size, c.split_at_mut-state.ensures.back_len, c.split_at_mut-body.ensures.front_len) in
-    let body : c.save.new.out ++ c.clear.new.bytes ≡ body_of state len =
+    let body : c.save.new.out ++ c.clear.new.bytes ≡ state_and_zeros state len =
     ap (λ (x : List ℕ). x ++ c.clear.new.bytes) c.save.ensures ∙ ap (λ (x : List ℕ). state ++ x) (c.clear.ensures ∙ ap zeros rest) in
-    let sum = c.write_sum.ensures ∙ ap (λ (b : List ℕ). long_bytes (adler_32 b)) body in (
-      λ enough. (ap (λ (b : List ℕ). b ++ c.write_sum.new.tail) body ∙ ap (λ (t : List ℕ). body_of state len ++ t) sum, refl),
+    let sum = c.write_checksum.ensures ∙ ap (λ (b : List ℕ). four_bytes_of_number (adler_32 b)) body in (
+      λ enough. (ap (λ (b : List ℕ). b ++ c.write_checksum.new.tail) body ∙ ap (λ (t : List ℕ). state_and_zeros state len ++ t) sum, refl),
       λ few. absurd (omega (arith, few, size, c.if-bytes-size.false)),
     )

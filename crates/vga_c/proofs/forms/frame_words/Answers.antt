@@ -1,7 +1,7 @@
 use Rattle.std.proofs.Common.{arith, subst}
 use Rattle.vga_script.specs.declared.step.Step.TheVariants.{Frame}
 use Rattle.vga_run.specs.Step.{answer_to}
-use Rattle.vga_c.specs.Forms.{HasForm}
+use Rattle.vga_c.specs.Forms.{HasPictureInForm}
 use Rattle.vga_c.specs.declared.forms.Form.{Form}
 use Rattle.vga_c.proofs.forms.frame_words.Goals as goal
 
@@ -9,7 +9,7 @@ pub returns : goal.returns
 returns c = (
   λ few. (
     c.frame_form.ensures.after,
-    subst (λ (form : Form). HasForm form (answer_to c.args.machine.now Frame) c.args.pitch c.args.picture.now c.frame_form.new.picture
+    subst (λ (form : Form). HasPictureInForm form (answer_to c.args.machine.now Frame) c.args.pitch c.args.picture.now c.frame_form.new.picture
         c.args.pixels.now c.frame_form.new.pixels c.frame_form.result) c.form_of-form.ensures.value c.frame_form.ensures.picture,
   ),
   λ past. absurd (omega (arith, past, c.if-flags-ge4.false)),

@@ -1,13 +1,13 @@
-use Rattle.vga_c.specs.Runs.{IsOutcome}
+use Rattle.vga_c.specs.Runs.{IsReportOrFault}
 use Rattle.vga_c.proofs.OutcomeLemmas.{has_bytes, has_fault}
 use Rattle.vga_c.proofs.runs.zak_run.Goals as goal
 
 -- the report
 pub returns-in-Ok : goal.returns-in-Ok
-returns-in-Ok c = has_bytes (IsOutcome c.args.fonts.now c.args.script.now) c.in-Ok.report.items _ c.args.out.now _ c.args.len.now _ c.args.place.now _
+returns-in-Ok c = has_bytes (IsReportOrFault c.args.fonts.now c.args.script.now) c.in-Ok.report.items _ c.args.out.now _ c.args.len.now _ c.args.place.now _
     c.in-Ok.ensures.ok c.as_slice.ensures.value c.copy_prefix.ensures
 
 -- or the first fault
 pub returns-in-Err : goal.returns-in-Err
-returns-in-Err c = has_fault (IsOutcome c.args.fonts.now c.args.script.now) c.args.out.now c.args.len.now c.args.place.now _ _ c.in-Err.fault
+returns-in-Err c = has_fault (IsReportOrFault c.args.fonts.now c.args.script.now) c.args.out.now c.args.len.now c.args.place.now _ _ c.in-Err.fault
     c.in-Err.ensures.err c.status_and_place.ensures.status c.status_and_place.ensures.place

@@ -5,12 +5,12 @@ use Rattle.vga_card.proofs.canvas.append_part.Goals as goal
 
 pub returns-clause-part : goal.returns-clause-part
 returns-clause-part g c =
-    let mid = c.lengthen.new.buffer in
+    let mid = c.lengthen_buffer.new.buffer in
     let new = c.draw_part_at.new.bytes in
     let whole : length new ≡ mid.len = omega arith in
     let same = c.as_mut_slice.ensures.value in
     let lines : length new ≡ length mid.items = omega (arith, ap length same) in
     rw (written_back mid.len new mid.items whole)
     (part_appended g.row.CW c.args.count c.args.display.now c.args.buffer.now.items mid.items new c.args.used
-    c.requires.used c.lengthen.ensures.prefix (omega (arith, lines, c.lengthen.ensures.len)) (rw same at c.draw_part_at.ensures.prefix)
+    c.requires.used c.lengthen_buffer.ensures.prefix (omega (arith, lines, c.lengthen_buffer.ensures.len)) (rw same at c.draw_part_at.ensures.prefix)
     (rw same at c.draw_part_at.ensures.drawn))

@@ -1,8 +1,8 @@
 use Rattle.std.proofs.Common.{◌+◌, ◌*◌, sym, subst}
 use Rattle.vga_dots.specs.declared.character.CellColours.{CellColours}
 use Rattle.vga_dots.specs.Row.{AreDotsPut}
-use Rattle.vga_dots.specs.Line.{dot_of, source_colour, unpanned_colour}
-use Rattle.vga_dots.specs.Character.{HasColours}
+use Rattle.vga_dots.specs.Line.{dot_of_counter, colour_of_source_dot, unpanned_colour}
+use Rattle.vga_dots.specs.Character.{HasPaletteColours}
 use Rattle.vga_dots.proofs.RowLemmas.{characters_more}
 use Rattle.vga_dots.proofs.line.draw_cells.Goals as goal
 use Rattle.vga_dots.proofs.line.draw_cells.Goals.{then-cell-colours, else-cell-colours}
@@ -13,10 +13,10 @@ loop-x-preserved g c =
     let x = c.loop-x.x in
     let first = c.args.first in (
       characters_more g.row.CW x (λ x. unpanned_colour d (first + x)) c.args.row.now c.loop-x.row c.put.new.row c.loop-x.invariant.0
-          (subst (λ counter. AreDotsPut g.row.CW (x * g.row.CW) (λ i. source_colour d (dot_of counter i)) c.loop-x.row c.put.new.row)
+          (subst (λ counter. AreDotsPut g.row.CW (x * g.row.CW) (λ i. colour_of_source_dot d (dot_of_counter counter i)) c.loop-x.row c.put.new.row)
           c.counter-counter.ensures c.put.ensures),
       elim c.if-cell-colours.branch [
-        | then-cell-colours w ↦ subst (λ (colours : CellColours). HasColours colours d) (sym w.colours-is) w.colours-colours-then-cell-colours.ensures.colours
-        | else-cell-colours w ↦ subst (λ (colours : CellColours). HasColours colours d) (sym w.colours-is) c.loop-x.invariant.1
+        | then-cell-colours w ↦ subst (λ (colours : CellColours). HasPaletteColours colours d) (sym w.colours-is) w.colours-colours-then-cell-colours.ensures.colours
+        | else-cell-colours w ↦ subst (λ (colours : CellColours). HasPaletteColours colours d) (sym w.colours-is) c.loop-x.invariant.1
       ],
     )

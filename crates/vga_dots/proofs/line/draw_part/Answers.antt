@@ -12,13 +12,13 @@ pub returns-then-is_screen_off : goal.returns-then-is_screen_off
 returns-then-is_screen_off g c =
     let d = c.args.display.now in
     let off = sym (c.is_screen_off.ensures ∙ ap is_screen_off c.host.ensures) ∙ c.if-is_screen_off.true in
-    part_filled g.row.CW d c.requires.width c.args.count _ c.args.row.now c.fill.new.row c.fill.ensures (λ s. off_colour d s off)
+    part_filled g.row.CW d c.requires.width c.args.count _ c.args.row.now c.fill_characters.new.row c.fill_characters.ensures (λ s. off_colour d s off)
 
 pub returns-then-not-is_palette_shown : goal.returns-then-not-is_palette_shown
 returns-then-not-is_palette_shown g c =
     let d = c.args.display.now in
     let off = sym (c.is_screen_off.ensures ∙ ap is_screen_off c.host.ensures) ∙ c.if-is_screen_off.false in
     let shown = sym (c.is_palette_shown.ensures ∙ ap is_palette_shown c.attr.ensures) ∙ c.if-not-is_palette_shown.true in
-    part_filled g.row.CW d c.requires.width c.args.count _ c.args.row.now c.fill-then-not-is_palette_shown.new.row c.fill-then-not-is_palette_shown.ensures
+    part_filled g.row.CW d c.requires.width c.args.count _ c.args.row.now c.fill_characters-then-not-is_palette_shown.new.row c.fill_characters-then-not-is_palette_shown.ensures
     (λ s. c.masked_colour.ensures ∙ ap (λ (x : DacState). masked_colour x c.overscan.result) c.dac.ensures
     ∙ ap (masked_colour d.dac) (c.overscan.ensures ∙ ap overscan c.attr-then-not-is_palette_shown.ensures) ∙ hidden_colour d s off shown)

@@ -2,7 +2,7 @@
 use Rattle.std.proofs.Common.{◌≡◌, ◌-◌, sym, subst, arith, if◌then◌else◌}
 use Rattle.vga_bits.specs.Bits.{is_set}
 use Rattle.vga_dots.specs.Row.{AreDotsPut}
-use Rattle.vga_dots.specs.Quads.{IsQuad}
+use Rattle.vga_dots.specs.Quads.{IsFourDotsOfColour}
 use Rattle.vga_dots.specs.declared.quads.Quad.{Quad}
 use Rattle.vga_dots.proofs.QuadLemmas.{eight_put, nine_put, last_lit, last_unlit}
 use Rattle.vga_dots.proofs.quads.put_glyph.Goals as goal
@@ -14,15 +14,15 @@ returns-after-lit-eq1 g c = λ f b is_fore is_back.
     let at = c.args.at in
     let row = c.args.row.now in
     let middle = c.put_quad-2.new.row in
-    let last = c.put_one.new.row in
+    let last = c.put_dot_of_quad.new.row in
     let eight = eight_put lit at f b row c.put_quad.new.row middle c.requires.dots (c.put_quad.ensures f b is_fore is_back)
     (c.put_quad-2.ensures f b is_fore is_back) in
     subst (λ n. AreDotsPut n at (λ i. if is_set lit (8 - i) then f else b) row last) (sym c.if-this-eq9.true)
     (elim c.if-lit-eq1.branch [
       | then-lit-eq1 w ↦ nine_put lit at f b f row middle last eight
-          (c.put_one.ensures f (subst (λ (q : Quad). IsQuad q f) (sym w.put_one-is) is_fore)) (last_lit lit f b (omega (arith, w.if-lit-eq1)))
+          (c.put_dot_of_quad.ensures f (subst (λ (q : Quad). IsFourDotsOfColour q f) (sym w.put_dot_of_quad-is) is_fore)) (last_lit lit f b (omega (arith, w.if-lit-eq1)))
       | else-lit-eq1 w ↦ nine_put lit at f b b row middle last eight
-          (c.put_one.ensures b (subst (λ (q : Quad). IsQuad q b) (sym w.put_one-is) is_back)) (last_unlit lit f b (omega (arith, w.if-lit-eq1)))
+          (c.put_dot_of_quad.ensures b (subst (λ (q : Quad). IsFourDotsOfColour q b) (sym w.put_dot_of_quad-is) is_back)) (last_unlit lit f b (omega (arith, w.if-lit-eq1)))
     ])
 
 pub returns-else-this-eq9 : goal.returns-else-this-eq9

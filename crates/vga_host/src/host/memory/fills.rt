@@ -2,63 +2,72 @@
 //! writes of two bytes in turn may amount to storing one word.
 ghost use Rattle.std.specs.Prelude.{◌≡◌, ◌<◌, ◌≤◌, ◌+◌, ◌-◌, ◌^◌, true};
 ghost use Rattle.vga_bits.specs.Bits.{is_set};
-ghost use Rattle.vga_bits.specs.Four.{four};
+ghost use Rattle.vga_bits.specs.Four.{four_by_plane};
 ghost use Rattle.vga_host.specs.Memory.Write.{written_byte};
-ghost use Rattle.vga_host.specs.Memory.Runs.{after_puts, in_turn, with_memory};
+ghost use Rattle.vga_host.specs.Memory.Runs.{after_puts, even_or_odd_byte, with_memory};
 ghost use Rattle.vga_host.specs.Memory.Access.{IsAccess};
-ghost use Rattle.vga_host.specs.Memory.PlaneWords.{alternating, word_put, written_in_turn, ArePutWithin};
-ghost use Rattle.vga_host.specs.Memory.PlaneWords.{FillsPlanes, FillsFours, FillsPairs, PutsWords};
+ghost use Rattle.vga_host.specs.Memory.PlaneWords.{alternating_plane_bytes, with_word_stored};
+ghost use Rattle.vga_host.specs.Memory.PlaneWords.{word_of_writes_in_turn, AreWritesDecoded};
+ghost use Rattle.vga_host.specs.Memory.PlaneWords.{FillsAllPlanes, FillsByFours, FillsByPairs};
+ghost use Rattle.vga_host.specs.Memory.PlaneWords.{WritesStoreWords};
 
 use super::access::MemoryAccess;
 use crate::host::Host;
 use vga_planes::{Latch, PlaneSet};
 
 /// The bytes of two words in turn: planes 0 and 2 of `even`, and planes 1 and 3 of `odd`.
-fn alternate(even: Latch, odd: Latch) -> Latch
-    ensures { result ≡ alternating even odd }
+fn alternating_latch(even: Latch, odd: Latch) -> Latch
+    ensures { result ≡ alternating_plane_bytes even odd }
 {
     Latch::new([even.byte(0), odd.byte(1), even.byte(2), odd.byte(3)])
 }
 
 impl Host {
     /// Whether all addresses of n writes are decoded.
-    pub(super) fn is_put_within(&self, access: MemoryAccess, first: u32, n: u32, misc: u8) -> bool
+    pub(super) fn are_writes_decoded(
+        &self,
+        access: MemoryAccess,
+        first: u32,
+        n: u32,
+        misc: u8,
+    ) -> bool
         requires access { IsAccess access self.now }
         requires small { access.start + access.len < 2 ^ 32 }
         requires few { first + n < 2 ^ 32 }
         ensures start { result ≡ true → access.start ≤ first }
-        ensures within { result ≡ true → ArePutWithin self.now misc first n (first - access.start) }
+        ensures within { result ≡ true → AreWritesDecoded self.now misc first n
+            (first - access.start) }
     {
         access.covers(first, n, misc)
     }
 
     /// Whether no bit of an address picks a plane.
-    pub(super) fn fills_planes(&self, access: MemoryAccess) -> bool
+    pub(super) fn fills_all_planes(&self, access: MemoryAccess) -> bool
         requires { IsAccess access self.now }
-        ensures { result ≡ true → FillsPlanes self.now }
+        ensures { result ≡ true → FillsAllPlanes self.now }
     {
         access.odd_even_off && !access.chain_four && !access.chain_odd_even
     }
 
     /// Whether the two low bits of an address pick the plane, and the offset in the window is a
     /// multiple of four.
-    pub(super) fn fills_fours(&self, access: MemoryAccess, in_window: u32) -> bool
+    pub(super) fn fills_by_fours(&self, access: MemoryAccess, in_window: u32) -> bool
         requires { IsAccess access self.now }
-        ensures { result ≡ true → FillsFours self.now in_window }
+        ensures { result ≡ true → FillsByFours self.now in_window }
     {
         access.chain_four && in_window % 4 == 0
     }
 
     /// Whether the lowest bit of an address picks planes, and the offset in the window is even.
-    pub(super) fn fills_pairs(&self, access: MemoryAccess, in_window: u32) -> bool
+    pub(super) fn fills_by_pairs(&self, access: MemoryAccess, in_window: u32) -> bool
         requires { IsAccess access self.now }
-        ensures { result ≡ true → FillsPairs self.now in_window }
+        ensures { result ≡ true → FillsByPairs self.now in_window }
     {
         access.chain_odd_even && !access.odd_even_off && !access.chain_four && in_window % 2 == 0
     }
 
     /// How many writes amount to storing a word: 1, 2 or 4, or 0 if no number is known to.
-    fn puts_of_word(
+    fn writes_for_a_word(
         &self,
         access: MemoryAccess,
         first: u32,
@@ -69,16 +78,16 @@ impl Host {
     ) -> u32
         requires access { IsAccess access self.now }
         requires start { access.start ≤ first }
-        requires within { ArePutWithin self.now misc first n (first - access.start) }
-        ensures { 0 < result → PutsWords result self.now misc first n (first - access.start)
-            (in_turn even odd) (λ i. written_in_turn self.now even odd) }
+        requires within { AreWritesDecoded self.now misc first n (first - access.start) }
+        ensures { 0 < result → WritesStoreWords result self.now misc first n (first - access.start)
+            (even_or_odd_byte even odd) (λ i. word_of_writes_in_turn self.now even odd) }
     {
         let in_window = first - access.start;
-        if even == odd && self.fills_planes(access) {
+        if even == odd && self.fills_all_planes(access) {
             1
-        } else if self.fills_fours(access, in_window) {
+        } else if self.fills_by_fours(access, in_window) {
             4
-        } else if self.fills_pairs(access, in_window) {
+        } else if self.fills_by_pairs(access, in_window) {
             2
         } else {
             0
@@ -87,14 +96,14 @@ impl Host {
 
     /// Stores a word at an offset, in the planes of a set.
     pub(super) fn put_word(&mut self, at: u16, word: Latch, set: PlaneSet)
-        ensures { self.new ≡ word_put self.old (is_set set) at word }
+        ensures { self.new ≡ with_word_stored self.old (is_set set) at word }
     {
         self.planes.store(at, word, set);
     }
 
     /// Stores a word once for each whole group of `per` writes among n writes. It returns how many
     /// writes that covers.
-    fn put_words(
+    fn store_words(
         &mut self,
         access: MemoryAccess,
         per: u32,
@@ -108,11 +117,12 @@ impl Host {
         requires access { IsAccess access self.old }
         requires start { access.start ≤ first }
         requires few { first + n < 2 ^ 32 }
-        requires words { PutsWords per self.old misc first n (first - access.start)
-            (in_turn even odd) (λ i. word) }
+        requires words { WritesStoreWords per self.old misc first n (first - access.start)
+            (even_or_odd_byte even odd) (λ i. word) }
         ensures few { result ≤ n }
         ensures kept { with_memory self.old self.new.memory ≡ self.new }
-        ensures put { self.new ≡ after_puts misc first (in_turn even odd) result 0 self.old }
+        ensures put { self.new ≡ after_puts misc first (even_or_odd_byte even odd) result 0
+            self.old }
     {
         let start = first - access.start;
         let mut done = 0;
@@ -140,21 +150,22 @@ impl Host {
     ) -> u32
         requires access { IsAccess access self.old }
         requires small { access.start + access.len < 2 ^ 32 }
-        requires bytes { bytes ≡ four (λ p. written_byte self.old even p) }
-        requires others { others ≡ four (λ p. written_byte self.old odd p) }
+        requires bytes { bytes ≡ four_by_plane (λ p. written_byte self.old even p) }
+        requires others { others ≡ four_by_plane (λ p. written_byte self.old odd p) }
         requires few { first + n < 2 ^ 32 }
         ensures few { result ≤ n }
         ensures kept { with_memory self.old self.new.memory ≡ self.new }
-        ensures put { self.new ≡ after_puts misc first (in_turn even odd) result 0 self.old }
+        ensures put { self.new ≡ after_puts misc first (even_or_odd_byte even odd) result 0
+            self.old }
     {
-        if !self.is_put_within(access, first, n, misc) {
+        if !self.are_writes_decoded(access, first, n, misc) {
             return 0;
         }
-        let per = self.puts_of_word(access, first, n, even, odd, misc);
+        let per = self.writes_for_a_word(access, first, n, even, odd, misc);
         if per == 0 {
             return 0;
         }
-        let word = alternate(bytes, others);
-        self.put_words(access, per, word, first, n, even, odd, misc)
+        let word = alternating_latch(bytes, others);
+        self.store_words(access, per, word, first, n, even, odd, misc)
     }
 }

@@ -1,18 +1,19 @@
 //! A read of a byte of display memory.
 ghost use Rattle.std.specs.Prelude.{◌≡◌, ◌<◌, ◌↔◌, ℕ, if◌then◌else◌, IsTrue, IfOk, IfErr, IsOk};
 ghost use Rattle.std.specs.Int.{bit_at};
-ghost use Rattle.vga_bits.specs.Bits.{byte_of};
+ghost use Rattle.vga_bits.specs.Bits.{byte_of_bits};
 ghost use Rattle.vga_bits.specs.Four.{of_plane};
-ghost use Rattle.vga_bits.specs.Words.{word_bit};
+ghost use Rattle.vga_bits.specs.Words.{plane_bit_in_word};
 ghost use Rattle.vga_host.specs.Memory.Address.{is_decoded};
-ghost use Rattle.vga_host.specs.Memory.Read.{agrees, compared_bit, read_bit, picked_plane};
+ghost use Rattle.vga_host.specs.Memory.Read.{agrees_with_compare, compared_bit, read_bit};
+ghost use Rattle.vga_host.specs.Memory.Read.{picked_plane};
 ghost use Rattle.vga_host.specs.Memory.Read.{read_byte, after_get};
 
-use crate::bytes::clear_in_all;
+use crate::bytes::bits_clear_in_all_planes;
 use crate::host::Host;
 use vga_bits::Refusal;
 use vga_planes::Latch;
-use vga_planes::plane_words::filled;
+use vga_planes::plane_words::mask_of_planes;
 
 impl Host {
     /// The plane that read mode 0 picks for an offset in the window.
@@ -32,12 +33,12 @@ impl Host {
 
     /// In read mode 1, the bits in which each compared plane differs from its compare bit.
     fn differing(&self, bytes: Latch) -> u32
-        ensures { (p i : ℕ) → p < 4 → i < 8 → word_bit result p i
-            ≡ (if agrees self.now bytes p i then 0 else 1) }
+        ensures { (p i : ℕ) → p < 4 → i < 8 → plane_bit_in_word result p i
+            ≡ (if agrees_with_compare self.now bytes p i then 0 else 1) }
     {
         let word = bytes.word();
-        let wanted = filled(self.colour_compare());
-        let compared = filled(self.compared_planes());
+        let wanted = mask_of_planes(self.colour_compare());
+        let compared = mask_of_planes(self.compared_planes());
         (word ^ wanted) & compared
     }
 
@@ -45,7 +46,7 @@ impl Host {
     fn compared(&self, bytes: Latch) -> u8
         ensures { (i : ℕ) → i < 8 → bit_at result i ≡ compared_bit self.now bytes i }
     {
-        clear_in_all(self.differing(bytes))
+        bits_clear_in_all_planes(self.differing(bytes))
     }
 
     /// The byte that a read at an offset in the window returns, from the bytes loaded. The contract
@@ -63,7 +64,7 @@ impl Host {
 
     /// The byte that a read at an offset in the window returns, from the bytes loaded.
     pub(super) fn read_byte(&self, in_window: u16, bytes: Latch) -> u8
-        ensures { result ≡ byte_of (λ i. read_bit self.now in_window bytes i) }
+        ensures { result ≡ byte_of_bits (λ i. read_bit self.now in_window bytes i) }
     {
         self.read_bits(in_window, bytes)
     }

@@ -3,8 +3,9 @@
 ghost use Rattle.std.specs.Prelude.{◌≡◌, ◌<◌, ◌+◌, ◌-◌, ◌/◌, ◌%◌, ◌^◌, ◌==◌};
 ghost use Rattle.std.specs.Prelude.{if◌then◌else◌};
 ghost use Rattle.vga_host.specs.Graphics.{write_mode};
-ghost use Rattle.vga_host.specs.Memory.Runs.{put_bytes, get_where, byte_where, move_where, after_puts};
-ghost use Rattle.vga_host.specs.Memory.Runs.{after_moves, in_turn};
+ghost use Rattle.vga_host.specs.Memory.Runs.{after_put_of_plane_bytes, after_get_if_decoded};
+ghost use Rattle.vga_host.specs.Memory.Runs.{byte_read_or_ff, after_move_if_decoded, after_puts};
+ghost use Rattle.vga_host.specs.Memory.Runs.{after_moves, even_or_odd_byte};
 ghost use Rattle.vga_host.specs.Memory.Access.{IsAccess};
 
 use super::access::MemoryAccess;
@@ -25,7 +26,7 @@ impl Host {
         misc: u8,
     )
         requires access { IsAccess access self.old }
-        ensures { self.new ≡ put_bytes self.old misc address bytes }
+        ensures { self.new ≡ after_put_of_plane_bytes self.old misc address bytes }
     {
         if let Some(in_window) = access.in_window(address, misc) {
             self.planes
@@ -37,7 +38,7 @@ impl Host {
     /// registers say of every cycle.
     pub(super) fn byte_by_access(&self, access: MemoryAccess, address: u32, misc: u8) -> u8
         requires access { IsAccess access self.now }
-        ensures { result ≡ byte_where self.now misc address }
+        ensures { result ≡ byte_read_or_ff self.now misc address }
     {
         match access.in_window(address, misc) {
             Some(in_window) => {
@@ -52,7 +53,7 @@ impl Host {
     /// every cycle.
     pub(super) fn load_by_access(&mut self, access: MemoryAccess, address: u32, misc: u8)
         requires access { IsAccess access self.old }
-        ensures { self.new ≡ get_where self.old misc address }
+        ensures { self.new ≡ after_get_if_decoded self.old misc address }
     {
         if let Some(in_window) = access.in_window(address, misc) {
             self.latch = self.planes.load(access.offset(in_window));
@@ -64,7 +65,7 @@ impl Host {
     fn move_latches(&mut self, access: MemoryAccess, from: u32, to: u32, misc: u8)
         requires access { IsAccess access self.old }
         requires mode { write_mode self.old ≡ 1 }
-        ensures { self.new ≡ move_where self.old misc from to }
+        ensures { self.new ≡ after_move_if_decoded self.old misc from to }
     {
         self.load_by_access(access, from, misc);
         let bytes = self.stored_latches();
@@ -74,7 +75,7 @@ impl Host {
     /// Reads a byte from an address, and writes it to another.
     fn move_byte(&mut self, access: MemoryAccess, from: u32, to: u32, misc: u8)
         requires access { IsAccess access self.old }
-        ensures { self.new ≡ move_where self.old misc from to }
+        ensures { self.new ≡ after_move_if_decoded self.old misc from to }
     {
         let byte = self.byte_by_access(access, from, misc);
         self.load_by_access(access, from, misc);
@@ -85,7 +86,7 @@ impl Host {
     /// Moves a byte from an address to another, as the write mode says.
     fn move_by_access(&mut self, access: MemoryAccess, from: u32, to: u32, misc: u8)
         requires access { IsAccess access self.old }
-        ensures { self.new ≡ move_where self.old misc from to }
+        ensures { self.new ≡ after_move_if_decoded self.old misc from to }
     {
         if access.stores_latches {
             self.move_latches(access, from, to, misc);
@@ -112,7 +113,7 @@ impl Host {
     /// `misc` is the miscellaneous output register.
     pub fn put_in_turn(&mut self, first: u32, n: u32, even: u8, odd: u8, misc: u8)
         requires { first + n < 2 ^ 32 }
-        ensures { self.new ≡ after_puts misc first (in_turn even odd) n 0 self.old }
+        ensures { self.new ≡ after_puts misc first (even_or_odd_byte even odd) n 0 self.old }
     {
         let access = self.access();
         let bytes = self.written(even);

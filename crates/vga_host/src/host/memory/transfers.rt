@@ -8,8 +8,9 @@ ghost use Rattle.vga_host.specs.Graphics.{is_read_compare};
 ghost use Rattle.vga_host.specs.Memory.Read.{picked_plane};
 ghost use Rattle.vga_host.specs.Memory.Address.{plane_offset};
 ghost use Rattle.vga_host.specs.Memory.Access.{IsAccess};
-ghost use Rattle.vga_host.specs.Memory.Runs.{after_puts, after_gets, byte_where, with_memory};
-ghost use Rattle.vga_host.specs.Memory.PlaneWords.{grouped as grouped_of, ArePutWithin, PutsWords};
+ghost use Rattle.vga_host.specs.Memory.Runs.{after_puts, after_gets, byte_read_or_ff, with_memory};
+ghost use Rattle.vga_host.specs.Memory.PlaneWords.{word_of_byte_group as word_of_byte_group_of};
+ghost use Rattle.vga_host.specs.Memory.PlaneWords.{AreWritesDecoded, WritesStoreWords};
 
 use super::access::MemoryAccess;
 use crate::host::Host;
@@ -18,10 +19,10 @@ use vga_planes::Latch;
 /// The bytes from index i on as a word: four of them, two that each go to two planes, or one that
 /// goes to all four.
 #[inline(always)]
-fn grouped(per: u32, bytes: &[u8], i: usize) -> Latch
+fn word_of_byte_group(per: u32, bytes: &[u8], i: usize) -> Latch
     requires per { (per ≡ 1) ⊎ ((per ≡ 2) ⊎ (per ≡ 4)) }
     requires room { i + per ≤ length bytes.now }
-    ensures { result ≡ grouped_of per (slice_index bytes.now) i }
+    ensures { result ≡ word_of_byte_group_of per (slice_index bytes.now) i }
 {
     match per {
         4 => Latch::new([bytes[i], bytes[i + 1], bytes[i + 2], bytes[i + 3]]),
@@ -33,24 +34,24 @@ fn grouped(per: u32, bytes: &[u8], i: usize) -> Latch
 impl Host {
     /// How many of these bytes make a word of the planes when they are written: 1, 2 or 4, or 0 if
     /// no number is known to. Writes must store bytes unchanged and begin at a word's first offset.
-    fn bytes_of_word(&self, access: MemoryAccess, first: u32, bytes: &[u8], misc: u8) -> u32
+    fn bytes_for_a_word(&self, access: MemoryAccess, first: u32, bytes: &[u8], misc: u8) -> u32
         requires access { IsAccess access self.now }
         requires start { access.start ≤ first }
-        requires within { ArePutWithin self.now misc first (length bytes.now)
+        requires within { AreWritesDecoded self.now misc first (length bytes.now)
             (first - access.start) }
         ensures known { 0 < result → (result ≡ 1) ⊎ ((result ≡ 2) ⊎ (result ≡ 4)) }
-        ensures words { 0 < result → PutsWords result self.now misc first (length bytes.now)
+        ensures words { 0 < result → WritesStoreWords result self.now misc first (length bytes.now)
             (first - access.start) (slice_index bytes.now)
-            (grouped_of result (slice_index bytes.now)) }
+            (word_of_byte_group_of result (slice_index bytes.now)) }
     {
         let in_window = first - access.start;
         if !access.stores_byte {
             0
-        } else if self.fills_planes(access) {
+        } else if self.fills_all_planes(access) {
             1
-        } else if self.fills_fours(access, in_window) {
+        } else if self.fills_by_fours(access, in_window) {
             4
-        } else if self.fills_pairs(access, in_window) {
+        } else if self.fills_by_pairs(access, in_window) {
             2
         } else {
             0
@@ -59,7 +60,7 @@ impl Host {
 
     /// Stores one word for each whole group of `per` bytes. It returns how many bytes that covers.
     #[inline(always)]
-    fn put_groups(
+    fn store_byte_groups(
         &mut self,
         access: MemoryAccess,
         per: u32,
@@ -71,8 +72,9 @@ impl Host {
         requires start { access.start ≤ first }
         requires few { first + length bytes.now < 2 ^ 32 }
         requires per { (per ≡ 1) ⊎ ((per ≡ 2) ⊎ (per ≡ 4)) }
-        requires words { PutsWords per self.old misc first (length bytes.now) (first - access.start)
-            (slice_index bytes.now) (grouped_of per (slice_index bytes.now)) }
+        requires words { WritesStoreWords per self.old misc first (length bytes.now)
+            (first - access.start)
+            (slice_index bytes.now) (word_of_byte_group_of per (slice_index bytes.now)) }
         ensures few { result ≤ length bytes.now }
         ensures kept { with_memory self.old self.new.memory ≡ self.new }
         ensures put { self.new ≡ after_puts misc first (slice_index bytes.now) result 0 self.old }
@@ -84,7 +86,7 @@ impl Host {
             let in_window = ((start + done) % 65_536) as u16;
             self.put_word(
                 in_window,
-                grouped(per, bytes, done as usize),
+                word_of_byte_group(per, bytes, done as usize),
                 access.map_mask,
             );
             done += per;
@@ -95,7 +97,7 @@ impl Host {
     /// Stores whole words where writes of the first of these bytes amount to that. It returns how
     /// many bytes that covers.
     #[inline(never)]
-    fn put_whole_words(&mut self, access: MemoryAccess, first: u32, bytes: &[u8], misc: u8) -> u32
+    fn store_whole_words(&mut self, access: MemoryAccess, first: u32, bytes: &[u8], misc: u8) -> u32
         requires access { IsAccess access self.old }
         requires small { access.start + access.len < 2 ^ 32 }
         requires few { first + length bytes.now < 2 ^ 32 }
@@ -103,14 +105,14 @@ impl Host {
         ensures kept { with_memory self.old self.new.memory ≡ self.new }
         ensures put { self.new ≡ after_puts misc first (slice_index bytes.now) result 0 self.old }
     {
-        if !self.is_put_within(access, first, bytes.len() as u32, misc) {
+        if !self.are_writes_decoded(access, first, bytes.len() as u32, misc) {
             return 0;
         }
         // Each number of bytes has a loop of its own.
-        match self.bytes_of_word(access, first, bytes, misc) {
-            1 => self.put_groups(access, 1, first, bytes, misc),
-            2 => self.put_groups(access, 2, first, bytes, misc),
-            4 => self.put_groups(access, 4, first, bytes, misc),
+        match self.bytes_for_a_word(access, first, bytes, misc) {
+            1 => self.store_byte_groups(access, 1, first, bytes, misc),
+            2 => self.store_byte_groups(access, 2, first, bytes, misc),
+            4 => self.store_byte_groups(access, 4, first, bytes, misc),
             _ => 0,
         }
     }
@@ -124,7 +126,7 @@ impl Host {
     {
         let access = self.access();
         let n = bytes.len() as u32;
-        let done = self.put_whole_words(access, first, bytes, misc);
+        let done = self.store_whole_words(access, first, bytes, misc);
         for i in done..n {
             let word = self.written_as(access.stores_byte, bytes[i as usize]);
             self.put_by_access(access, word, first + i, misc);
@@ -147,7 +149,7 @@ impl Host {
         requires access { IsAccess access self.now }
         requires start { access.start ≤ first }
         requires few { first + length bytes.old < 2 ^ 32 }
-        requires within { ArePutWithin self.now misc first (length bytes.old)
+        requires within { AreWritesDecoded self.now misc first (length bytes.old)
             (first - access.start) }
         requires byte { is_read_compare self.now ≡ false }
         requires span { 0 < span }
@@ -156,7 +158,7 @@ impl Host {
         requires unit { 0 < unit }
         requires offset { (w : ℕ) → w / unit * unit ≡ plane_offset self.now w }
         ensures bytes { (i : ℕ) → i < length bytes.old →
-            slice_index bytes.new i ≡ byte_where self.now misc (first + i) }
+            slice_index bytes.new i ≡ byte_read_or_ff self.now misc (first + i) }
         ensures size { length bytes.new ≡ length bytes.old }
     {
         let start = first - access.start;
@@ -170,15 +172,15 @@ impl Host {
     /// Reads addresses that are all decoded, in read mode 0. Each way to pick a plane and an offset
     /// has a loop of its own.
     #[inline(never)]
-    fn read_within(&self, access: MemoryAccess, first: u32, bytes: &mut [u8], misc: u8)
+    fn read_decoded_range(&self, access: MemoryAccess, first: u32, bytes: &mut [u8], misc: u8)
         requires access { IsAccess access self.now }
         requires start { access.start ≤ first }
         requires few { first + length bytes.old < 2 ^ 32 }
-        requires within { ArePutWithin self.now misc first (length bytes.old)
+        requires within { AreWritesDecoded self.now misc first (length bytes.old)
             (first - access.start) }
         requires byte { is_read_compare self.now ≡ false }
         ensures bytes { (i : ℕ) → i < length bytes.old →
-            slice_index bytes.new i ≡ byte_where self.now misc (first + i) }
+            slice_index bytes.new i ≡ byte_read_or_ff self.now misc (first + i) }
         ensures size { length bytes.new ≡ length bytes.old }
     {
         if self.is_chain_four() {
@@ -196,13 +198,13 @@ impl Host {
     }
 
     /// Reads the addresses from the first on, one after another.
-    fn read_each(&mut self, access: MemoryAccess, first: u32, bytes: &mut [u8], misc: u8)
+    fn read_one_by_one(&mut self, access: MemoryAccess, first: u32, bytes: &mut [u8], misc: u8)
         requires access { IsAccess access self.old }
         requires small { access.start + access.len < 2 ^ 32 }
         requires few { first + length bytes.old < 2 ^ 32 }
         ensures latches { self.new ≡ after_gets misc first (length bytes.old) 0 self.old }
         ensures bytes { (i : ℕ) → i < length bytes.old →
-            slice_index bytes.new i ≡ byte_where self.old misc (first + i) }
+            slice_index bytes.new i ≡ byte_read_or_ff self.old misc (first + i) }
         ensures size { length bytes.new ≡ length bytes.old }
     {
         for i in 0..bytes.len() {
@@ -219,16 +221,16 @@ impl Host {
         requires { first + length bytes.old < 2 ^ 32 }
         ensures latches { self.new ≡ after_gets misc first (length bytes.old) 0 self.old }
         ensures bytes { (i : ℕ) → i < length bytes.old →
-            slice_index bytes.new i ≡ byte_where self.old misc (first + i) }
+            slice_index bytes.new i ≡ byte_read_or_ff self.old misc (first + i) }
         ensures size { length bytes.new ≡ length bytes.old }
     {
         let access = self.access();
         let n = bytes.len() as u32;
-        if n == 0 || self.is_read_compare() || !self.is_put_within(access, first, n, misc) {
-            self.read_each(access, first, bytes, misc);
+        if n == 0 || self.is_read_compare() || !self.are_writes_decoded(access, first, n, misc) {
+            self.read_one_by_one(access, first, bytes, misc);
             return;
         }
-        self.read_within(access, first, bytes, misc);
+        self.read_decoded_range(access, first, bytes, misc);
         // The latches are those of the last read.
         self.load_by_access(access, first + (n - 1), misc);
     }

@@ -6,8 +6,10 @@ ghost use Rattle.vga_planes.specs.Planes.{byte_at};
 ghost use Rattle.vga_host.specs.Sequencer.{is_in_map_mask};
 ghost use Rattle.vga_host.specs.Memory.Runs.{after_moves};
 ghost use Rattle.vga_host.specs.Memory.Access.{IsAccess};
-ghost use Rattle.vga_host.specs.Memory.PlaneWords.{word_moved, AreWithin, ReadsPairs, WritesPairs};
-ghost use Rattle.vga_host.specs.Memory.PlaneWords.{MovesLatches, MovesPairs, MovesFours, MovesWords};
+ghost use Rattle.vga_host.specs.Memory.PlaneWords.{with_word_copied, AreMovesDecoded};
+ghost use Rattle.vga_host.specs.Memory.PlaneWords.{ReadsPlanePairs, WritesPlanePairs};
+ghost use Rattle.vga_host.specs.Memory.PlaneWords.{MovesCopyLatches, MovesCopyByPairs};
+ghost use Rattle.vga_host.specs.Memory.PlaneWords.{MovesCopyByFours, MovesCopyWords};
 
 use super::access::MemoryAccess;
 use crate::host::Host;
@@ -19,31 +21,32 @@ const ALL_PLANES: PlaneSet = 0b1111;
 
 impl Host {
     /// Whether all addresses of n moves are decoded.
-    fn are_within(&self, access: MemoryAccess, from: u32, to: u32, n: u32, misc: u8) -> bool
+    fn are_moves_decoded(&self, access: MemoryAccess, from: u32, to: u32, n: u32, misc: u8) -> bool
         requires access { IsAccess access self.now }
         requires small { access.start + access.len < 2 ^ 32 }
         requires from { from + n < 2 ^ 32 }
         requires to { to + n < 2 ^ 32 }
         ensures starts { result ≡ true → (access.start ≤ from) × (access.start ≤ to) }
-        ensures within { result ≡ true → AreWithin self.now misc from to n (from - access.start)
+        ensures within { result ≡ true → AreMovesDecoded self.now misc from to n
+            (from - access.start)
             (to - access.start) }
     {
         access.covers(from, n, misc) && access.covers(to, n, misc)
     }
 
     /// Whether moves store the latches, and no bit of an address picks a plane.
-    fn moves_latches(&self, access: MemoryAccess) -> bool
+    fn moves_copy_latches(&self, access: MemoryAccess) -> bool
         requires { IsAccess access self.now }
-        ensures { result ≡ true → MovesLatches self.now }
+        ensures { result ≡ true → MovesCopyLatches self.now }
     {
         access.stores_latches && access.odd_even_off && !access.chain_four && !access.chain_odd_even
     }
 
     /// Whether moves store bytes unchanged, the two low bits of an address pick the plane, and both
     /// offsets in the window are multiples of four.
-    fn moves_fours(&self, access: MemoryAccess, first: u32, target: u32) -> bool
+    fn moves_copy_by_fours(&self, access: MemoryAccess, first: u32, target: u32) -> bool
         requires { IsAccess access self.now }
-        ensures { result ≡ true → MovesFours self.now first target }
+        ensures { result ≡ true → MovesCopyByFours self.now first target }
     {
         access.stores_byte
             && access.chain_four
@@ -53,8 +56,8 @@ impl Host {
     }
 
     /// Whether a read picks plane 0 or 1 by the lowest bit of an address.
-    fn reads_pairs(&self) -> bool
-        ensures { result ≡ true → ReadsPairs self.now }
+    fn reads_plane_pairs(&self) -> bool
+        ensures { result ≡ true → ReadsPlanePairs self.now }
     {
         self.is_odd_even_read() && self.read_map_pair() == 0 && !self.is_read_compare()
     }
@@ -79,9 +82,9 @@ impl Host {
 
     /// Whether writes store bytes unchanged, the lowest bit of an address picks plane 0 or 1, and
     /// no other plane is written.
-    fn writes_pairs(&self, access: MemoryAccess) -> bool
+    fn writes_plane_pairs(&self, access: MemoryAccess) -> bool
         requires { IsAccess access self.now }
-        ensures { result ≡ true → WritesPairs self.now }
+        ensures { result ≡ true → WritesPlanePairs self.now }
     {
         access.stores_byte
             && access.chain_odd_even
@@ -92,29 +95,32 @@ impl Host {
 
     /// Whether moves store bytes unchanged, read and write only planes 0 and 1, and go from an even
     /// offset in the window to an even one.
-    fn moves_pairs(&self, access: MemoryAccess, first: u32, target: u32) -> bool
+    fn moves_copy_by_pairs(&self, access: MemoryAccess, first: u32, target: u32) -> bool
         requires { IsAccess access self.now }
-        ensures { result ≡ true → MovesPairs self.now first target }
+        ensures { result ≡ true → MovesCopyByPairs self.now first target }
     {
-        self.writes_pairs(access) && self.reads_pairs() && first % 2 == 0 && target % 2 == 0
+        self.writes_plane_pairs(access)
+            && self.reads_plane_pairs()
+            && first % 2 == 0
+            && target % 2 == 0
     }
 
     /// How many moves amount to copying a word: 1, 2 or 4, or 0 if no number is known to.
-    fn moves_of_word(&self, access: MemoryAccess, from: u32, to: u32, n: u32, misc: u8) -> u32
+    fn moves_for_a_word(&self, access: MemoryAccess, from: u32, to: u32, n: u32, misc: u8) -> u32
         requires access { IsAccess access self.now }
         requires starts { (access.start ≤ from) × (access.start ≤ to) }
-        requires within { AreWithin self.now misc from to n (from - access.start)
+        requires within { AreMovesDecoded self.now misc from to n (from - access.start)
             (to - access.start) }
-        ensures { 0 < result → MovesWords result self.now misc from to n (from - access.start)
+        ensures { 0 < result → MovesCopyWords result self.now misc from to n (from - access.start)
             (to - access.start) }
     {
         let first = from - access.start;
         let target = to - access.start;
-        if self.moves_latches(access) {
+        if self.moves_copy_latches(access) {
             1
-        } else if self.moves_fours(access, first, target) {
+        } else if self.moves_copy_by_fours(access, first, target) {
             4
-        } else if self.moves_pairs(access, first, target) {
+        } else if self.moves_copy_by_pairs(access, first, target) {
             2
         } else {
             0
@@ -124,7 +130,7 @@ impl Host {
     /// Loads the latches with the word at an offset, and copies it to another, in the planes of a
     /// set.
     fn move_word(&mut self, from: u16, to: u16, set: PlaneSet)
-        ensures moved { self.new ≡ word_moved self.old (is_set_of set) from to }
+        ensures moved { self.new ≡ with_word_copied self.old (is_set_of set) from to }
         ensures bytes { (p : ℕ) → p < 4 → byte_at self.old.memory p from < 256 }
     {
         self.planes.bounds();
@@ -151,7 +157,7 @@ impl Host {
         requires starts { (access.start ≤ from) × (access.start ≤ to) }
         requires from { from + n < 2 ^ 32 }
         requires to { to + n < 2 ^ 32 }
-        requires words { MovesWords per self.old misc from to n (from - access.start)
+        requires words { MovesCopyWords per self.old misc from to n (from - access.start)
             (to - access.start) }
         ensures few { result ≤ n }
         ensures access { IsAccess access self.new }
@@ -188,10 +194,10 @@ impl Host {
         ensures access { IsAccess access self.new }
         ensures moved { self.new ≡ after_moves misc from to result 0 self.old }
     {
-        if !self.are_within(access, from, to, n, misc) {
+        if !self.are_moves_decoded(access, from, to, n, misc) {
             return 0;
         }
-        let per = self.moves_of_word(access, from, to, n, misc);
+        let per = self.moves_for_a_word(access, from, to, n, misc);
         if per == 0 {
             return 0;
         }

@@ -2,47 +2,49 @@
 ghost use Rattle.std.specs.Prelude.{◌≡◌, ◌<◌, ◌↔◌, ℕ, if◌then◌else◌, IsTrue, OnOk, IfErr, IsOk};
 ghost use Rattle.std.specs.Prelude.{true};
 ghost use Rattle.std.specs.Int.{bit_at};
-ghost use Rattle.vga_bits.specs.Four.{four};
+ghost use Rattle.vga_bits.specs.Four.{four_by_plane};
 ghost use Rattle.vga_host.specs.Memory.Address.{is_decoded};
 ghost use Rattle.vga_host.specs.Graphics.{bit_mask, set_reset, is_set_reset_enabled, write_mode};
-ghost use Rattle.vga_bits.specs.Words.{word_bit};
-ghost use Rattle.vga_host.specs.Memory.Write.{rotated_bit, data_bit, mask_bit, combined_bit};
+ghost use Rattle.vga_bits.specs.Words.{plane_bit_in_word};
+ghost use Rattle.vga_host.specs.Memory.Write.{rotated_write_bit, data_bit_of_write, mask_bit};
+ghost use Rattle.vga_host.specs.Memory.Write.{combined_bit};
 ghost use Rattle.vga_host.specs.Memory.Write.{written_bit, written_byte, after_put, StoresByte};
 
-use crate::bytes::{combined, rotated};
+use crate::bytes::{combined, rotated_right};
 use crate::host::Host;
 use vga_bits::Refusal;
 use vga_planes::Latch;
-use vga_planes::plane_words::{filled, selected, spread};
+use vga_planes::plane_words::{byte_in_all_planes, mask_of_planes, merged_by_mask};
 
 impl Host {
     /// The rotated byte of a write.
     fn rotated(&self, v: u8) -> u8
-        ensures { (i : ℕ) → i < 8 → bit_at result i ≡ rotated_bit self.now v i }
+        ensures { (i : ℕ) → i < 8 → bit_at result i ≡ rotated_write_bit self.now v i }
     {
-        rotated(v, self.rotate_count())
+        rotated_right(v, self.rotate_count())
     }
 
     /// The data of the four planes in write mode 0, before the function and the mask.
     fn data_in_mode_0(&self, v: u8) -> u32
-        ensures { (p i : ℕ) → p < 4 → i < 8 → word_bit result p i
+        ensures { (p i : ℕ) → p < 4 → i < 8 → plane_bit_in_word result p i
             ≡ (if is_set_reset_enabled self.now p then set_reset self.now p
-            else rotated_bit self.now v i) }
+            else rotated_write_bit self.now v i) }
     {
-        let fill = filled(self.set_reset());
-        let enabled = filled(self.set_reset_enabled());
-        let bytes = spread(self.rotated(v));
-        selected(fill, enabled, bytes)
+        let fill = mask_of_planes(self.set_reset());
+        let enabled = mask_of_planes(self.set_reset_enabled());
+        let bytes = byte_in_all_planes(self.rotated(v));
+        merged_by_mask(fill, enabled, bytes)
     }
 
     /// The data of the four planes in the write modes 0, 2 and 3, before the function and the mask.
     fn data(&self, v: u8) -> u32
-        ensures { (p i : ℕ) → p < 4 → i < 8 → word_bit result p i ≡ data_bit self.now v p i }
+        ensures { (p i : ℕ) → p < 4 → i < 8 → plane_bit_in_word result p i ≡ data_bit_of_write
+            self.now v p i }
     {
         match self.write_mode() {
             0 => self.data_in_mode_0(v),
-            2 => filled(v),
-            _ => filled(self.set_reset()),
+            2 => mask_of_planes(v),
+            _ => mask_of_planes(self.set_reset()),
         }
     }
 
@@ -60,15 +62,16 @@ impl Host {
 
     /// The mask of a write in the write modes 0, 2 and 3, for the four planes.
     fn mask(&self, v: u8) -> u32
-        ensures { (p i : ℕ) → p < 4 → i < 8 → word_bit result p i ≡ mask_bit self.now v i }
+        ensures { (p i : ℕ) → p < 4 → i < 8 → plane_bit_in_word result p i ≡ mask_bit self.now v i }
     {
-        spread(self.mask_byte(v))
+        byte_in_all_planes(self.mask_byte(v))
     }
 
     /// The data of the four planes, combined with their latches by the function.
     #[tactic(auto, unfolding(crate::specs::Memory::Write::combined_bit))]
     fn combined(&self, v: u8) -> u32
-        ensures { (p i : ℕ) → p < 4 → i < 8 → word_bit result p i ≡ combined_bit self.now v p i }
+        ensures { (p i : ℕ) → p < 4 → i < 8 → plane_bit_in_word result p i ≡ combined_bit self.now v
+            p i }
     {
         let data = self.data(v);
         let latch = self.latch.word();
@@ -78,7 +81,8 @@ impl Host {
     /// The word that a write stores in the planes that it reaches. The contract says it bit by bit.
     #[tactic(auto, unfolding(crate::specs::Memory::Write::written_bit))]
     fn written_bits(&self, v: u8) -> u32
-        ensures { (p i : ℕ) → p < 4 → i < 8 → word_bit result p i ≡ written_bit self.now v p i }
+        ensures { (p i : ℕ) → p < 4 → i < 8 → plane_bit_in_word result p i ≡ written_bit self.now v
+            p i }
     {
         let latch = self.latch.word();
         if self.write_mode() == 1 {
@@ -86,7 +90,7 @@ impl Host {
         } else {
             let source = self.combined(v);
             let mask = self.mask(v);
-            selected(source, mask, latch)
+            merged_by_mask(source, mask, latch)
         }
     }
 
@@ -94,10 +98,10 @@ impl Host {
     /// alone: it may always be false.
     pub(super) fn written_as(&self, stores_byte: bool, v: u8) -> Latch
         requires { stores_byte ≡ true → StoresByte self.now }
-        ensures { result ≡ four (λ p. written_byte self.now v p) }
+        ensures { result ≡ four_by_plane (λ p. written_byte self.now v p) }
     {
         if stores_byte {
-            return Latch::from_word(spread(v));
+            return Latch::from_word(byte_in_all_planes(v));
         }
         let word = self.written_bits(v);
         Latch::from_word(word)
@@ -107,7 +111,7 @@ impl Host {
     /// whatever byte is written.
     pub(super) fn stored_latches(&self) -> Latch
         requires { write_mode self.now ≡ 1 }
-        ensures { (v : ℕ) → result ≡ four (λ p. written_byte self.now v p) }
+        ensures { (v : ℕ) → result ≡ four_by_plane (λ p. written_byte self.now v p) }
     {
         let word = self.latch.word();
         Latch::from_word(word)
@@ -115,7 +119,7 @@ impl Host {
 
     /// The bytes that a write stores in the planes that it reaches.
     pub(super) fn written(&self, v: u8) -> Latch
-        ensures { result ≡ four (λ p. written_byte self.now v p) }
+        ensures { result ≡ four_by_plane (λ p. written_byte self.now v p) }
     {
         self.written_as(self.access().stores_byte, v)
     }

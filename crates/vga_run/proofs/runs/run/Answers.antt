@@ -3,8 +3,8 @@ use Rattle.std.proofs.lemmas.Result.{err_from_is_err_and}
 use Rattle.vga_bits.specs.Tracked.{inner_of}
 use Rattle.bios_modes.specs.Fonts.{FontSet}
 use Rattle.vga_script.specs.Input.{IsInput}
-use Rattle.vga_run.specs.DotReport.{AreOfDots, dot_report}
-use Rattle.vga_run.specs.ScreenReport.{AreOfScreens, screen_report}
+use Rattle.vga_run.specs.DotReport.{AreDotReportSteps, dot_report}
+use Rattle.vga_run.specs.ScreenReport.{AreScreenReportSteps, screen_report}
 use Rattle.vga_run.proofs.AnswerLemmas.{font_answers, input_answers, input_stops, runs_good_scripts, unread_answers}
 use Rattle.vga_run.proofs.KnownReports.{run_known, unread_known}
 use Rattle.vga_run.proofs.runs.run.Goals as goal
@@ -16,7 +16,7 @@ returns-clause-runs g c =
     let before = g.W.Write.contents (inner_of c.args.out.now) in
     let after = g.W.Write.contents (inner_of c.run_bytes_over.new.out) in
     let over = c.run_bytes_over in
-    runs_good_scripts c.one_fault.ensures.none c.args.until c.args.fonts.now input before after _ _ over.result
+    runs_good_scripts c.bytes_have_one_fault.ensures.none c.args.until c.args.fonts.now input before after _ _ over.result
     (input_answers c.args.until c.args.fonts.now c.in_ok-fonts.fonts input before after c.as_slice.result.now over.result c.in_ok-fonts.ensures.ok
     (subst (IsInput input) (sym c.as_slice.ensures.value) c.in_ok-bytes.ensures.input) over.ensures.answer)
     (c.in_ok-bytes.ensures.reading.0 ∙ sym over.ensures.unread) over.ensures.write_failed
@@ -28,7 +28,7 @@ returns-clause-screens g c =
     let before = g.W.Write.contents (inner_of c.args.out.now) in
     let after = g.W.Write.contents (inner_of c.run_bytes_over.new.out) in
     let over = c.run_bytes_over in
-    run_known (λ (fonts : FontSet). AreOfScreens) screen_report c.reports_are_screens.ensures c.one_list.ensures c.steps_fit.ensures
+    run_known (λ (fonts : FontSet). AreScreenReportSteps) screen_report c.reports_are_screens.ensures c.bytes_mean_one_list.ensures c.steps_are_in_range.ensures
     c.args.until c.args.fonts.now input before after over.result c.bytes_fit.ensures
     (input_answers c.args.until c.args.fonts.now c.in_ok-fonts.fonts input before after c.as_slice.result.now over.result c.in_ok-fonts.ensures.ok
     (subst (IsInput input) (sym c.as_slice.ensures.value) c.in_ok-bytes.ensures.input) over.ensures.answer)
@@ -40,7 +40,7 @@ returns-clause-dots g c =
     let before = g.W.Write.contents (inner_of c.args.out.now) in
     let after = g.W.Write.contents (inner_of c.run_bytes_over.new.out) in
     let over = c.run_bytes_over in
-    run_known AreOfDots dot_report c.reports_are_dots.ensures c.one_list.ensures c.steps_fit.ensures c.args.until c.args.fonts.now
+    run_known AreDotReportSteps dot_report c.reports_are_dots.ensures c.bytes_mean_one_list.ensures c.steps_are_in_range.ensures c.args.until c.args.fonts.now
     input before after over.result c.bytes_fit.ensures
     (input_answers c.args.until c.args.fonts.now c.in_ok-fonts.fonts input before after c.as_slice.result.now over.result c.in_ok-fonts.ensures.ok
     (subst (IsInput input) (sym c.as_slice.ensures.value) c.in_ok-bytes.ensures.input) over.ensures.answer)
@@ -52,14 +52,14 @@ returns-in_err-bytes-clause-screens g c =
     let before = g.W.Write.contents (inner_of c.args.out.now) in
     let p = err_from_is_err_and c.from_residual-in_err-bytes.result c.from_residual-in_err-bytes.ensures.1 in
     rw (p.1, p.2)
-    (unread_known (λ (fonts : FontSet). AreOfScreens) screen_report c.args.until c.args.fonts.now input before before _ c.in_err-bytes.ensures.fault)
+    (unread_known (λ (fonts : FontSet). AreScreenReportSteps) screen_report c.args.until c.args.fonts.now input before before _ c.in_err-bytes.ensures.fault)
 
 pub returns-in_err-bytes-clause-dots : goal.returns-in_err-bytes-clause-dots
 returns-in_err-bytes-clause-dots g c =
     let input = g.R.Read.remaining (inner_of c.args.script.now) in
     let before = g.W.Write.contents (inner_of c.args.out.now) in
     let p = err_from_is_err_and c.from_residual-in_err-bytes.result c.from_residual-in_err-bytes.ensures.1 in
-    rw (p.1, p.2) (unread_known AreOfDots dot_report c.args.until c.args.fonts.now input before before _ c.in_err-bytes.ensures.fault)
+    rw (p.1, p.2) (unread_known AreDotReportSteps dot_report c.args.until c.args.fonts.now input before before _ c.in_err-bytes.ensures.fault)
 
 pub returns-in_err-fonts-clause-unread : goal.returns-in_err-fonts-clause-unread
 returns-in_err-fonts-clause-unread c = search rules

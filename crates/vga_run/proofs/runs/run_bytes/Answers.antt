@@ -1,8 +1,8 @@
 use Rattle.std.proofs.Common.{Some}
 use Rattle.vga_bits.specs.Tracked.{inner_of}
 use Rattle.bios_modes.specs.Fonts.{FontSet}
-use Rattle.vga_run.specs.DotReport.{AreOfDots, dot_report}
-use Rattle.vga_run.specs.ScreenReport.{AreOfScreens, screen_report}
+use Rattle.vga_run.specs.DotReport.{AreDotReportSteps, dot_report}
+use Rattle.vga_run.specs.ScreenReport.{AreScreenReportSteps, screen_report}
 use Rattle.vga_run.proofs.AnswerLemmas.{file_answers}
 use Rattle.vga_run.proofs.KnownReports.{run_known}
 use Rattle.vga_run.proofs.runs.run_bytes.Goals as goal
@@ -13,7 +13,7 @@ returns-clause-screens g c =
     let before = g.W.Write.contents (inner_of c.args.out.now) in
     let after = g.W.Write.contents (inner_of c.run_bytes_over.new.out) in
     let over = c.run_bytes_over in
-    run_known (λ (fonts : FontSet). AreOfScreens) screen_report c.reports_are_screens.ensures c.one_list.ensures c.steps_fit.ensures
+    run_known (λ (fonts : FontSet). AreScreenReportSteps) screen_report c.reports_are_screens.ensures c.bytes_mean_one_list.ensures c.steps_are_in_range.ensures
     c.args.until c.args.fonts.now (Some c.args.script.now) before after over.result c.bytes_fit.ensures
     (file_answers c.args.until c.args.fonts.now c.in_ok-fonts.fonts (Some c.args.script.now) before after over.result c.in_ok-fonts.ensures.ok
     over.ensures.answer)
@@ -24,7 +24,7 @@ returns-clause-dots g c =
     let before = g.W.Write.contents (inner_of c.args.out.now) in
     let after = g.W.Write.contents (inner_of c.run_bytes_over.new.out) in
     let over = c.run_bytes_over in
-    run_known AreOfDots dot_report c.reports_are_dots.ensures c.one_list.ensures c.steps_fit.ensures c.args.until c.args.fonts.now
+    run_known AreDotReportSteps dot_report c.reports_are_dots.ensures c.bytes_mean_one_list.ensures c.steps_are_in_range.ensures c.args.until c.args.fonts.now
     (Some c.args.script.now) before after over.result c.bytes_fit.ensures
     (file_answers c.args.until c.args.fonts.now c.in_ok-fonts.fonts (Some c.args.script.now) before after over.result c.in_ok-fonts.ensures.ok
     over.ensures.answer)

@@ -3,8 +3,8 @@ use Rattle.vga_bits.specs.Tracked.{inner_of}
 use Rattle.bios_modes.specs.Fonts.{FontSet}
 use Rattle.vga_script.specs.Step.{AreInRange}
 use Rattle.vga_script.specs.Item.{expanded}
-use Rattle.vga_run.specs.DotReport.{AreOfDots, dot_report}
-use Rattle.vga_run.specs.ScreenReport.{AreOfScreens, screen_report}
+use Rattle.vga_run.specs.DotReport.{AreDotReportSteps, dot_report}
+use Rattle.vga_run.specs.ScreenReport.{AreScreenReportSteps, screen_report}
 use Rattle.vga_run.proofs.AnswerLemmas.{steps_answers}
 use Rattle.vga_run.proofs.KnownReports.{script_known}
 use Rattle.vga_run.proofs.runs.run_script.Goals as goal
@@ -18,7 +18,7 @@ returns-clause-screens g c =
     let steps = expanded c.args.script.now.items in
     let range = subst AreInRange c.steps-steps.ensures.steps c.steps-steps.ensures.range in
     let answer = rw c.steps-steps.ensures.steps at over.ensures.answer in
-    script_known (λ (fonts : FontSet). AreOfScreens) screen_report c.reports_are_screens.ensures c.args.until c.args.fonts.now steps before after over.result
+    script_known (λ (fonts : FontSet). AreScreenReportSteps) screen_report c.reports_are_screens.ensures c.args.until c.args.fonts.now steps before after over.result
     c.bytes_fit.ensures range
     (steps_answers c.args.until c.args.fonts.now c.in_ok-fonts.fonts steps before after over.result c.in_ok-fonts.ensures.ok answer)
 
@@ -31,6 +31,6 @@ returns-clause-dots g c =
     let steps = expanded c.args.script.now.items in
     let range = subst AreInRange c.steps-steps.ensures.steps c.steps-steps.ensures.range in
     let answer = rw c.steps-steps.ensures.steps at over.ensures.answer in
-    script_known AreOfDots dot_report c.reports_are_dots.ensures c.args.until c.args.fonts.now steps before after over.result
+    script_known AreDotReportSteps dot_report c.reports_are_dots.ensures c.args.until c.args.fonts.now steps before after over.result
     c.bytes_fit.ensures range
     (steps_answers c.args.until c.args.fonts.now c.in_ok-fonts.fonts steps before after over.result c.in_ok-fonts.ensures.ok answer)

@@ -23,26 +23,26 @@ loop-opcode-preserved-then-opcode-eq-END c =
 pub loop-opcode-preserved : goal.loop-opcode-preserved
 loop-opcode-preserved c =
     let is = c.in-Ok.ensures.found ∙ ap (λ (o : ℕ). o ∷ c.in-Ok.others.now) c.if-opcode-eq-REPEAT.true in
-    through _ _ _ _ _ _ _ _ _ c.loop-opcode.invariant (empty_repeat _ _ _ _ _ _ _ c.loop-opcode.invariant.stands is c.count_at-count.ensures.fields
-    c.count_at-count.ensures.small c.in-Some.ensures.found)
+    through _ _ _ _ _ _ _ _ _ c.loop-opcode.invariant (empty_repeat _ _ _ _ _ _ _ c.loop-opcode.invariant.stands is c.repeat_count_at-count.ensures.fields
+    c.repeat_count_at-count.ensures.small c.in-Some.ensures.found)
 
 -- one of some steps
 pub overflow_sub-result-in-None : goal.overflow_sub-result-in-None
 overflow_sub-result-in-None c =
     let is = c.in-Ok.ensures.found ∙ ap (λ (o : ℕ). o ∷ c.in-Ok.others.now) c.if-opcode-eq-REPEAT.true in
-    (repeat_begins c.args.progress.left _ _ _ _ _ c.loop-opcode.invariant.stands is c.count_at-count.ensures.fields c.count_at-count.ensures.small
+    (repeat_begins c.args.progress.left _ _ _ _ _ c.loop-opcode.invariant.stands is c.repeat_count_at-count.ensures.fields c.repeat_count_at-count.ensures.small
     c.in-None.ensures.none).0
 
 pub returns-in-None-clause-reached : goal.returns-in-None-clause-reached
 returns-in-None-clause-reached c =
     let is = c.in-Ok.ensures.found ∙ ap (λ (o : ℕ). o ∷ c.in-Ok.others.now) c.if-opcode-eq-REPEAT.true in
-    through _ _ _ _ _ _ _ _ _ c.loop-opcode.invariant (repeat_begins _ _ _ _ _ _ c.loop-opcode.invariant.stands is c.count_at-count.ensures.fields
-    c.count_at-count.ensures.small c.in-None.ensures.none).1
+    through _ _ _ _ _ _ _ _ _ c.loop-opcode.invariant (repeat_begins _ _ _ _ _ _ c.loop-opcode.invariant.stands is c.repeat_count_at-count.ensures.fields
+    c.repeat_count_at-count.ensures.small c.in-None.ensures.none).1
 
 pub returns-in-None-clause-prefix : goal.returns-in-None-clause-prefix
 returns-in-None-clause-prefix c =
     let is = c.in-Ok.ensures.found ∙ ap (λ (o : ℕ). o ∷ c.in-Ok.others.now) c.if-opcode-eq-REPEAT.true in
-    (repeat_begins c.args.progress.left _ _ _ _ _ c.loop-opcode.invariant.stands is c.count_at-count.ensures.fields c.count_at-count.ensures.small
+    (repeat_begins c.args.progress.left _ _ _ _ _ c.loop-opcode.invariant.stands is c.repeat_count_at-count.ensures.fields c.repeat_count_at-count.ensures.small
     c.in-None.ensures.none).2
 
 -- a step

@@ -2,7 +2,7 @@ use Rattle.std.proofs.Common.{◌≡◌, ℕ, List, [], ◌∷◌, get_or, refl,
 use Rattle.vga_script.specs.declared.version.Version.{Version}
 use Rattle.vga_script.specs.declared.version.Version.TheVariants.{One, Two}
 use Rattle.vga_script.specs.Version.{version_byte}
-use Rattle.vga_script.specs.Item.{listing}
+use Rattle.vga_script.specs.Item.{script_of_items}
 use Rattle.vga_script.specs.Decoding.{StartsWithRepeat}
 use Rattle.vga_script.proofs.ExampleLemmas.{begins}
 use Rattle.vga_script.proofs.worked_examples.bytes_faulty.Goals as goal
@@ -29,22 +29,22 @@ returns-clause-version c = inr (omega arith, (9, [], refl, nine))
 pub returns-clause-cut : goal.returns-clause-cut
 returns-clause-cut c =
     let rest : List ℕ = 1 ∷ 0xC4 ∷ 0x03 ∷ [] in
-    inr (omega arith, inr (listing One [], 5, rest, begins One rest, inl (refl, inl (inl (1, 0xC4 ∷ 0x03 ∷ [], 3, refl, refl, omega arith)))))
+    inr (omega arith, inr (script_of_items One [], 5, rest, begins One rest, inl (refl, inl (inl (1, 0xC4 ∷ 0x03 ∷ [], 3, refl, refl, omega arith)))))
 
 pub returns-clause-unknown : goal.returns-clause-unknown
 returns-clause-unknown c =
     let rest : List ℕ = 0xFF ∷ [] in
-    inr (omega arith, (listing One [], 5, rest, begins One rest, inl (refl, inl (inl (0xFF, [], refl, refl), no_repeats rest))))
+    inr (omega arith, (script_of_items One [], 5, rest, begins One rest, inl (refl, inl (inl (0xFF, [], refl, refl), no_repeats rest))))
 
 pub returns-clause-no_kind : goal.returns-clause-no_kind
 returns-clause-no_kind c =
     let rest : List ℕ = 0x0C ∷ [] in
-    inr (omega arith, inr (listing One [], 5, rest, begins One rest, inl (refl, inl (inl (0x0C, [], 1, refl, refl, omega arith)))))
+    inr (omega arith, inr (script_of_items One [], 5, rest, begins One rest, inl (refl, inl (inl (0x0C, [], 1, refl, refl, omega arith)))))
 
 pub returns-clause-other_kind : goal.returns-clause-other_kind
 returns-clause-other_kind c =
     let rest : List ℕ = 0x0C ∷ 0x07 ∷ [] in
-    inr (omega arith, (listing One [], 5, rest, begins One rest, inl (refl, inl (inl (0x0C, 0x07 ∷ [], refl, refl), no_repeats rest))))
+    inr (omega arith, (script_of_items One [], 5, rest, begins One rest, inl (refl, inl (inl (0x0C, 0x07 ∷ [], refl, refl), no_repeats rest))))
 
 pub returns-clause-past_the_end : goal.returns-clause-past_the_end
 returns-clause-past_the_end c =
@@ -52,7 +52,7 @@ returns-clause-past_the_end c =
     inr (
       omega arith,
       (
-        listing One [],
+        script_of_items One [],
         5,
         rest,
         begins One rest,
@@ -78,4 +78,4 @@ returns-clause-past_the_end c =
 pub returns-clause-no_repeat : goal.returns-clause-no_repeat
 returns-clause-no_repeat c =
     let rest : List ℕ = 0x0D ∷ 1 ∷ 0 ∷ 0x0E ∷ [] in
-    inr (omega arith, (listing One [], 5, rest, begins One rest, inl (refl, inl (inl (0x0D, 1 ∷ 0 ∷ 0x0E ∷ [], refl, refl), no_repeats rest))))
+    inr (omega arith, (script_of_items One [], 5, rest, begins One rest, inl (refl, inl (inl (0x0D, 1 ∷ 0 ∷ 0x0E ∷ [], refl, refl), no_repeats rest))))

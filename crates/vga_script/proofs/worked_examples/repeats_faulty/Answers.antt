@@ -1,6 +1,6 @@
 use Rattle.std.proofs.Common.{◌≡◌, ℕ, List, [], ◌∷◌, ◌++◌, get_or, refl, ap, arith, inl, inr}
 use Rattle.vga_script.specs.declared.step.Step.TheVariants.{Out}
-use Rattle.vga_script.specs.Item.{Repeated, listing}
+use Rattle.vga_script.specs.Item.{Repeated, script_of_items}
 use Rattle.vga_script.specs.declared.version.Version.TheVariants.{Two}
 use Rattle.vga_script.specs.Examples.{frames, frame_bytes}
 use Rattle.vga_script.proofs.ExampleLemmas.{begins, few_bytes, frames_start, many_frames}
@@ -15,7 +15,7 @@ returns-clause-open c =
     inr (
       omega arith,
       inr (
-        listing Two [],
+        script_of_items Two [],
         5,
         0x0D ∷ 3 ∷ 0 ∷ 1 ∷ 0xC4 ∷ 0x03 ∷ 0x02 ∷ [],
         begins Two (0x0D ∷ 3 ∷ 0 ∷ 1 ∷ 0xC4 ∷ 0x03 ∷ 0x02 ∷ []),
@@ -47,18 +47,18 @@ returns-clause-open c =
 
 pub returns-clause-no_count : goal.returns-clause-no_count
 returns-clause-no_count c =
-    inr (omega arith, inr (listing Two [], 5, 0x0D ∷ 3 ∷ [], begins Two (0x0D ∷ 3 ∷ []), inl (refl, inl (inr (tt, (3 ∷ [], refl, omega arith))))))
+    inr (omega arith, inr (script_of_items Two [], 5, 0x0D ∷ 3 ∷ [], begins Two (0x0D ∷ 3 ∷ []), inl (refl, inl (inr (tt, (3 ∷ [], refl, omega arith))))))
 
 pub returns-clause-zero : goal.returns-clause-zero
 returns-clause-zero c =
-    inr (omega arith, (listing Two [], 5, 0x0D ∷ 0 ∷ 0 ∷ 0x0E ∷ [], begins Two (0x0D ∷ 0 ∷ 0 ∷ 0x0E ∷ []), inl (refl, inr (tt, (0x0E ∷ [], refl)))))
+    inr (omega arith, (script_of_items Two [], 5, 0x0D ∷ 0 ∷ 0 ∷ 0x0E ∷ [], begins Two (0x0D ∷ 0 ∷ 0 ∷ 0x0E ∷ []), inl (refl, inr (tt, (0x0E ∷ [], refl)))))
 
 pub returns-clause-end : goal.returns-clause-end
 returns-clause-end c =
     inr (
       omega arith,
       (
-        listing Two [],
+        script_of_items Two [],
         5,
         0x0E ∷ [],
         begins Two (0x0E ∷ []),
@@ -71,7 +71,7 @@ returns-clause-inner c =
     inr (
       omega arith,
       (
-        listing Two [],
+        script_of_items Two [],
         5,
         0x0D ∷ 1 ∷ 0 ∷ 0x0D ∷ 1 ∷ 0 ∷ 0x0E ∷ 0x0E ∷ [],
         begins Two (0x0D ∷ 1 ∷ 0 ∷ 0x0D ∷ 1 ∷ 0 ∷ 0x0E ∷ 0x0E ∷ []),
@@ -100,7 +100,7 @@ returns-clause-inner_cut c =
     inr (
       omega arith,
       inr (
-        listing Two [],
+        script_of_items Two [],
         5,
         0x0D ∷ 1 ∷ 0 ∷ 3 ∷ 0xDA ∷ [],
         begins Two (0x0D ∷ 1 ∷ 0 ∷ 3 ∷ 0xDA ∷ []),
@@ -129,7 +129,7 @@ returns-clause-many c =
     inr (
       few_bytes 257 (omega arith),
       (
-        listing Two [],
+        script_of_items Two [],
         5,
         0x0D ∷ 0xFF ∷ 0xFF ∷ (frame_bytes 257 ++ 0x0E ∷ []),
         begins Two (0x0D ∷ 0xFF ∷ 0xFF ∷ (frame_bytes 257 ++ 0x0E ∷ [])),

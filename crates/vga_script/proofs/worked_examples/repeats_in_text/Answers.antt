@@ -1,6 +1,6 @@
 use Rattle.std.proofs.Common.{◌≡◌, ℕ, ◌≤◌, List, [], ◌∷◌, Some, length, get_or, codes, refl, ap, arith, inl, inr}
 use Rattle.vga_script.specs.declared.step.Step.TheVariants.{Out, Frame}
-use Rattle.vga_script.specs.Item.{Repeated, listing, expanded, step_limit}
+use Rattle.vga_script.specs.Item.{Repeated, script_of_items, expanded, step_limit}
 use Rattle.vga_script.specs.declared.version.Version.TheVariants.{One, Two}
 use Rattle.vga_script.specs.Examples.{three_times}
 use Rattle.vga_script.specs.Tokens.{words, lines}
@@ -79,7 +79,7 @@ repeat_three : SpellsRepeat (words (codes "repeat 3")) 3
 repeat_three = (codes "repeat", codes "3", refl, refl, (omega arith, (lt_test _ _ refl, tt), refl), omega arith, omega arith)
 
 -- no group stands before what follows the line of version 2
-behind_version : (text : List ℕ) (left : List (List ℕ)) → lines text ≡ codes "version 2" ∷ left → SpellsLinesUpTo text (listing Two []) 2 left
+behind_version : (text : List ℕ) (left : List (List ℕ)) → lines text ≡ codes "version 2" ∷ left → SpellsLinesUpTo text (script_of_items Two []) 2 left
 behind_version text left whole = record {
   start = 2;
   rest = left;
@@ -96,7 +96,7 @@ pub returns-clause-no_end : goal.returns-clause-no_end
 returns-clause-no_end c = (
   omega arith,
   (
-    listing Two [],
+    script_of_items Two [],
     2,
     codes "repeat 3" ∷ codes "frame" ∷ [],
     behind_version (codes "version 2\nrepeat 3\nframe") (codes "repeat 3" ∷ codes "frame" ∷ []) refl,
@@ -128,7 +128,7 @@ pub returns-clause-inner : goal.returns-clause-inner
 returns-clause-inner c = (
   omega arith,
   (
-    listing Two [],
+    script_of_items Two [],
     2,
     codes "repeat 3" ∷ codes "end 3" ∷ [],
     behind_version (codes "version 2\nrepeat 3\nend 3") (codes "repeat 3" ∷ codes "end 3" ∷ []) refl,
@@ -165,7 +165,7 @@ returns-clause-no_version c =
     let text : List ℕ = codes "repeat 3\nend" in (
       omega arith,
       (
-        listing One [],
+        script_of_items One [],
         1,
         codes "repeat 3" ∷ codes "end" ∷ [],
         record {

@@ -1,11 +1,11 @@
 use Rattle.std.proofs.Common.{◌≡◌, ℕ, List, [], ◌∷◌, None, length, get_or, codes, refl, ap, arith, inl, inr}
 use Rattle.vga_script.specs.declared.step.Step.TheVariants.{Out, Int}
-use Rattle.vga_script.specs.Item.{Once, listing}
+use Rattle.vga_script.specs.Item.{Once, script_of_items}
 use Rattle.vga_script.specs.declared.keyword.Keyword.TheVariants as keyword
 use Rattle.vga_script.specs.declared.version.Version.TheVariants.{One}
 use Rattle.vga_script.specs.Tokens.{words, lines}
 use Rattle.vga_script.specs.Text.{IsVersionTwo}
-use Rattle.vga_script.specs.StepReading.{read_step, two_hex, hex_at, hex_of, number_of}
+use Rattle.vga_script.specs.StepReading.{step_of_keyword, only_two_hex_numbers, next_hex_number, hex_number_of, number_of_word}
 use Rattle.vga_script.proofs.OptionLemmas.{lt_test}
 use Rattle.vga_script.proofs.LineLemmas.{line_bad}
 use Rattle.vga_script.proofs.AssembleLemmas.{blank_none, not_two}
@@ -89,12 +89,12 @@ says_nothing : IsVersionTwo (words (codes "out 3C4")) → ⊥
 says_nothing (first, e, named) = let second = ap (λ (ws : List (List ℕ)). length (get_or ws 1 [])) e in absurd (omega arith)
 
 pub returns-clause-bad : goal.returns-clause-bad
-unfolding read_step two_hex hex_at hex_of number_of
+unfolding step_of_keyword only_two_hex_numbers next_hex_number hex_number_of number_of_word
 returns-clause-bad c =
     let line = codes "out 3C4" in (
       omega arith,
       (
-        listing One [],
+        script_of_items One [],
         1,
         line ∷ [],
         record {

@@ -1,5 +1,5 @@
 use Rattle.std.proofs.Common.{◌∙◌, ap, List, ℕ, drop, slice_index}
-use Rattle.vga_bits.specs.Saved.{word_at, words_in}
+use Rattle.vga_bits.specs.Saved.{word_at, first_words}
 use Rattle.bios_modes.specs.Saved.{bda_from}
 use Rattle.bios_modes.proofs.bda.Bda.from_saved.Goals as goal
 
@@ -11,7 +11,7 @@ returns c =
     let e1 = c.word_at.ensures in
     let e2 = c.word_at-2.ensures in
     let e3 = c.word_at-3.ensures in
-    let e4 = c.places_from.ensures ∙ ap (words_in 8) rest in
+    let e4 = c.cursor_positions_from.ensures ∙ ap (first_words 8) rest in
     let e5 = c.word_at-4.ensures ∙ ap (λ (l : List ℕ). word_at l 0) back in
     let e6 = ap (λ (l : List ℕ). slice_index l 2) back in
     let e7 = c.word_at-5.ensures ∙ ap (λ (l : List ℕ). word_at l 3) back in

@@ -9,5 +9,5 @@ unfolding saved_bda
 returns-clause-put c = record {
   end = grind (arith, common_steps);
   prefix = grind (arith, common_steps);
-  back = (put_after c.put_bytes-at.ensures.put (put_after c.put_places-at.ensures.put c.put_bytes.ensures.put)).back;
+  back = (put_after c.put_bytes-at.ensures.put (put_after c.put_cursor_positions-at.ensures.put c.put_bytes.ensures.put)).back;
 }

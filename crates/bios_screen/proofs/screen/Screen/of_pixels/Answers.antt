@@ -1,7 +1,7 @@
 use Rattle.std.proofs.Common.{rules, sym, ap, subst, ◌∙◌, ◌≤◌, ◌*◌, ◌+◌, ◌/◌, IsTrue}
 use Rattle.bios_modes.specs.Kinds.{is_packed}
 use Rattle.bios_screen.proofs.Shows.Reading.{pixel_numbers, pixels_laid_out, pixel_screen_is}
-use Rattle.bios_screen.specs.Raster.{join}
+use Rattle.bios_screen.specs.Raster.{concatenated_lists}
 use Rattle.bios_screen.specs.Shown.{pixels_in}
 use Rattle.bios_screen.proofs.screen.Screen.of_pixels.Goals as goal
 
@@ -37,7 +37,7 @@ invariant_of-result c =
     let count = c.page_pixels-count.ensures ∙ sym (ap (λ x. 8 * x.columns * (x.height * x.rows)) l) in
     pixels_laid_out c.args.bda.now c.planes.result.now _ _ _ _ c.size.result c.page_pixels-count.result c.args.row.now.pages v.items c.requires.pixels
     c.mode.ensures count (sym (ap (λ x. x.pages) l)) v.ok.0
-    (c.in_ok-read_pixels.ensures.ok ∙ ap (λ m. join (λ p. pixels_in m c.planes.result.now (c.size.result * p) c.page_pixels-count.result) c.args.row.now.pages)
+    (c.in_ok-read_pixels.ensures.ok ∙ ap (λ m. concatenated_lists (λ p. pixels_in m c.planes.result.now (c.size.result * p) c.page_pixels-count.result) c.args.row.now.pages)
     (c.mode-2.ensures ∙ sym c.mode.ensures))
 
 pub returns-clause-ok : goal.returns-clause-ok
@@ -47,8 +47,8 @@ returns-clause-ok c =
     let pages = c.args.row.now.pages in
     let pixels =
     c.in_ok-read_pixels.ensures.ok
-    ∙ ap (λ m. join (λ p. pixels_in m f (c.size.result * p) c.page_pixels-count.result) pages) c.mode-2.ensures
-    ∙ ap (λ g. join (λ p. pixels_in d.mode g (c.size.result * p) c.page_pixels-count.result) pages) c.planes.ensures
-    ∙ ap (λ n. join (λ p. pixels_in d.mode c.args.card.now.host.memory (n * p) c.page_pixels-count.result) pages) c.size.ensures
-    ∙ ap (λ n. join (λ p. pixels_in d.mode c.args.card.now.host.memory (d.size * p) n) pages) c.page_pixels-count.ensures in
+    ∙ ap (λ m. concatenated_lists (λ p. pixels_in m f (c.size.result * p) c.page_pixels-count.result) pages) c.mode-2.ensures
+    ∙ ap (λ g. concatenated_lists (λ p. pixels_in d.mode g (c.size.result * p) c.page_pixels-count.result) pages) c.planes.ensures
+    ∙ ap (λ n. concatenated_lists (λ p. pixels_in d.mode c.args.card.now.host.memory (n * p) c.page_pixels-count.result) pages) c.size.ensures
+    ∙ ap (λ n. concatenated_lists (λ p. pixels_in d.mode c.args.card.now.host.memory (d.size * p) n) pages) c.page_pixels-count.ensures in
     pixel_screen_is c.args.row.now c.args.card.now d c.new.result.items c.in_ok-read_pixels.field-0.items _ c.requires.pixels pixels (search rules)

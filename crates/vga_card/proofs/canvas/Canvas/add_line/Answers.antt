@@ -3,7 +3,7 @@ use Rattle.std.proofs.lemmas.List.{get_or_read, length-take}
 use Rattle.vga_crtc.specs.declared.beam.Beam.{Beam}
 use Rattle.vga_host.specs.Sequencer.{character_width}
 use Rattle.vga_card.specs.Picture.{Dot}
-use Rattle.vga_card.specs.Canvas.{CanvasState, dots_from}
+use Rattle.vga_card.specs.Canvas.{CanvasState, dots_of_bytes}
 use Rattle.vga_card.proofs.CanvasLemmas.{line_shown, stored_line, canvas_more, roomier, bytes_fit}
 use Rattle.vga_card.proofs.FrameLemmas.{wide}
 use Rattle.vga_card.proofs.RowLemmas.{appended_line}
@@ -62,7 +62,7 @@ returns-clause-dots g c =
     let some : 0 < g.row.CW = omega (arith, width, c.requires.width) in
     rw (whole, was)
     (stored_line a.widths.items bytes row v n within later c.self.invariant.1.counted
-    ∙ ap (λ (s : CanvasState). s.dots ++ dots_from (replicate n v) row) c.self.view_is
-    ∙ ap (λ m. old ++ dots_from (replicate n v) (take m drawn.row)) count
+    ∙ ap (λ (s : CanvasState). s.dots ++ dots_of_bytes (replicate n v) row) c.self.view_is
+    ∙ ap (λ m. old ++ dots_of_bytes (replicate n v) (take m drawn.row)) count
     ∙ ap (λ (x : List Dot). old ++ x) (appended_line c.args.display.now g.row.CW n v drawn.row drawn.blank c.requires.width some c.requires.shown
     (ap (λ m. m * g.row.CW) c.requires.count) here drawn.drawn drawn.long))

@@ -3,7 +3,7 @@ use Rattle.std.proofs.lemmas.List.{get_or_read, length-take}
 use Rattle.vga_crtc.specs.declared.beam.Beam.{Beam}
 use Rattle.vga_host.specs.Sequencer.{character_width}
 use Rattle.vga_card.specs.Picture.{Dot}
-use Rattle.vga_card.specs.Canvas.{CanvasState, dots_from}
+use Rattle.vga_card.specs.Canvas.{CanvasState, dots_of_bytes}
 use Rattle.vga_card.proofs.CanvasLemmas.{line_shown, stored_line, canvas_more, roomier, bytes_fit}
 use Rattle.vga_card.proofs.FrameLemmas.{wide}
 use Rattle.vga_card.proofs.PartLemmas.{appended_part}
@@ -60,6 +60,6 @@ returns-clause-dots g c =
     let some : 0 < g.row.CW = omega (arith, width, c.requires.width) in
     rw (whole, was)
     (stored_line a.widths.items bytes row v n within later c.self.invariant.1.counted
-    ∙ ap (λ (s : CanvasState). s.dots ++ dots_from (replicate n v) row) c.self.view_is
+    ∙ ap (λ (s : CanvasState). s.dots ++ dots_of_bytes (replicate n v) row) c.self.view_is
     ∙ ap (λ (x : List Dot). old ++ x) (appended_part c.args.display.now g.row.CW c.requires.width some n v drawn.row drawn.blank c.requires.shown
     c.requires.inside here drawn.drawn drawn.long))

@@ -4,7 +4,7 @@ use Rattle.vga_card.proofs.canvas.saved.restore_bytes.Goals as goal
 
 pub returns-clause-prefix : goal.returns-clause-prefix
 returns-clause-prefix c =
-    let mid = c.lengthen.new.buffer in
+    let mid = c.lengthen_buffer.new.buffer in
     let new = c.put_bytes.new.out in
     let whole : length new ≡ mid.len = omega (arith, ap length c.as_mut_slice.ensures.value) in
     let end : length c.args.bytes.now ≡ c.put_bytes.result = omega arith in

@@ -1,19 +1,19 @@
 use Rattle.std.proofs.Common.{rules}
-use Rattle.vga_card.specs.Picture.{runs}
+use Rattle.vga_card.specs.Picture.{run_lengths}
 use Rattle.vga_card.proofs.card.Card.beam.Goals as goal
 
 pub returns-then-is_first_dot-clause-beam : goal.returns-then-is_first_dot-clause-beam
-unfolding runs
+unfolding run_lengths
 returns-then-is_first_dot-clause-beam c = search rules
 
 pub returns-then-is_first_dot-clause-rows : goal.returns-then-is_first_dot-clause-rows
-unfolding runs
+unfolding run_lengths
 returns-then-is_first_dot-clause-rows c = search rules
 
 pub returns-else-is_first_dot-clause-beam : goal.returns-else-is_first_dot-clause-beam
-unfolding runs
+unfolding run_lengths
 returns-else-is_first_dot-clause-beam c = search rules
 
 pub returns-else-is_first_dot-clause-rows : goal.returns-else-is_first_dot-clause-rows
-unfolding runs
+unfolding run_lengths
 returns-else-is_first_dot-clause-rows c = search rules

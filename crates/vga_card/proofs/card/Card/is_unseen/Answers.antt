@@ -2,9 +2,9 @@ use Rattle.std.proofs.Common.{ℕ, ◌≤◌, sym, ap, subst, ◌∙◌}
 use Rattle.vga_host.specs.Memory.Address.{window_offset, plane_offset}
 use Rattle.vga_host.specs.Memory.Write.{memory_after_put}
 use Rattle.vga_crtc.specs.Beam.{is_first_dot}
-use Rattle.vga_crtc.specs.Raster.{IsFrameStart, IsInLine}
+use Rattle.vga_crtc.specs.Raster.{IsFrameStart, IsWithinItsLine}
 use Rattle.vga_card.specs.Card.{CardState}
-use Rattle.vga_card.specs.Line.{line_count}
+use Rattle.vga_card.specs.Line.{dots_to_next_line}
 use Rattle.vga_card.specs.Dots.{character_width}
 use Rattle.vga_card.specs.Owed.{SeeAlike}
 use Rattle.vga_card.proofs.OwedLemmas.{line_sees_alike, IsApart, not_both}
@@ -16,13 +16,13 @@ returns-in-Some c test v =
     let card : CardState = record { host = a.host; crtc = a.crtc; attr = a.attr; dac = a.dac; misc = a.misc; drawn = a.canvas.dots } in
     let n = c.args.n in
     let w = window_offset a.host c.args.address in
-    let laws = c.beam_goes_in_line.ensures in
+    let laws = c.dots_move_beam_in_line.ensures in
     let away : ¬ IsFrameStart a.crtc.beam = λ start. not_both (is_first_dot a.crtc.beam) ((c.start_is_taken_once.ensures.there a.crtc.beam).1 start)
     (c.if-is_first_dot.ensures ∙ ap is_first_dot c.beam.ensures.value) in
     let line = c.is_within_line.ensures in
-    let inside : IsInLine (character_width card) a.crtc.registers a.crtc.beam =
-    subst (λ (x : CardState). IsInLine (character_width x) x.crtc.registers x.crtc.beam) (sym c.self.view_is) (line.inside c.if-not-is_within_line.false) in
-    let few : n ≤ line_count card = subst (λ (x : CardState). n ≤ line_count x) (sym c.self.view_is) (line.few c.if-not-is_within_line.false) in
-    let apart : IsApart card (plane_offset a.host w) = subst (λ (o : ℕ). IsApart card o) c.in-Some.ensures.offset (c.is_apart.ensures test) in
+    let inside : IsWithinItsLine (character_width card) a.crtc.registers a.crtc.beam =
+    subst (λ (x : CardState). IsWithinItsLine (character_width x) x.crtc.registers x.crtc.beam) (sym c.self.view_is) (line.inside c.if-not-is_within_line.false) in
+    let few : n ≤ dots_to_next_line card = subst (λ (x : CardState). n ≤ dots_to_next_line x) (sym c.self.view_is) (line.few c.if-not-is_within_line.false) in
+    let apart : IsApart card (plane_offset a.host w) = subst (λ (o : ℕ). IsApart card o) c.in-Some.ensures.offset (c.is_not_fetched.ensures test) in
     subst (λ (x : CardState). SeeAlike n x (memory_after_put x.host (window_offset x.host c.args.address) v)) c.self.view_is
     (line_sees_alike c.start_is_taken_once.ensures.elsewhere laws.place laws.count n card w v away inside few apart c.in-Some.ensures.beside)

@@ -2,7 +2,7 @@
 use Rattle.std.proofs.Common.{◌≡◌, ◌==◌, ◌&&◌, ◌+◌, ◌%◌, ◌∙◌, sym, ap, rules, ℕ, true, false, Ok}
 use Rattle.vga_host.specs.Memory.Address.{is_decoded}
 use Rattle.vga_card.specs.Adapter.{AdapterState}
-use Rattle.vga_card.specs.Cycles.{Written, put_cycle}
+use Rattle.vga_card.specs.Cycles.{WriteResult, put_cycle}
 use Rattle.vga_card.specs.Dots.{dots}
 use Rattle.vga_card.proofs.HiddenLemmas.{same_adapter}
 use Rattle.vga_card.proofs.WordWriteLemmas.{both_hold, word_put}
@@ -20,7 +20,7 @@ returns-in-Ok-clause-put c =
     let both = both_hold (is_decoded s.host s.misc address) (is_decoded s.host s.misc (address + 1)) decoded in
     let later : (place : ℕ) → is_decoded start.host start.misc place ≡ is_decoded s.host s.misc place =
     λ place. ap (λ (a : AdapterState). is_decoded a.host a.misc place) (same_adapter c.args.n s) in
-    let low : (let w : Written = (mid, Ok tt) in w) ≡ put_cycle start address (c.args.v % 256) =
-    ap (λ r. let w : Written = (mid, r) in w) (sym c.in-Ok.is) ∙ c.put_after-left.ensures.put ∙ ap (put_cycle start address) c.bytes_of-low.ensures.low in
+    let low : (let w : WriteResult = (mid, Ok tt) in w) ≡ put_cycle start address (c.args.v % 256) =
+    ap (λ r. let w : WriteResult = (mid, r) in w) (sym c.in-Ok.is) ∙ c.put_after-left.ensures.put ∙ ap (put_cycle start address) c.bytes_of-low.ensures.low in
     word_put start mid new c.put_after.result.1 address c.args.v few (later address ∙ both.0) (later (address + 1) ∙ both.1) low
     (c.put_after.ensures.put ∙ ap (put_cycle mid (address + 1)) c.bytes_of-low.ensures.high)

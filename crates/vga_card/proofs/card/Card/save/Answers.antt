@@ -10,7 +10,7 @@ returns-then-is_first_dot c = record {
   end = grind (arith, common_steps);
   prefix = grind (arith, common_steps);
   back = (put_after c.put_byte-at.ensures.put (put_after c.save-at.ensures.put (put_after c.save-at-2.ensures.put
-      (put_after c.save-at-3.ensures.put (put_after c.save-at-4.ensures.put (c.put_no_dots.ensures.put)))))).back;
+      (put_after c.save-at-3.ensures.put (put_after c.save-at-4.ensures.put (c.put_zero_widths.ensures.put)))))).back;
 }
 
 pub returns-else-is_first_dot : goal.returns-else-is_first_dot

@@ -2,7 +2,7 @@ use Rattle.std.proofs.Common.{◌≡◌, ◌<◌, ◌≤◌, sym, ap, ◌∙◌,
 use Rattle.vga_crtc.specs.Raster.{dots_in_line}
 use Rattle.vga_card.specs.Card.{CardState}
 use Rattle.vga_card.specs.Dots.{character_width, dot, dots}
-use Rattle.vga_card.specs.Line.{line_count}
+use Rattle.vga_card.specs.Line.{dots_to_next_line}
 use Rattle.vga_card.proofs.DotLemmas.{dots_none}
 use Rattle.vga_card.proofs.LineLemmas.{line_went, dot_went, width_kept, width_kept_dot, some_taken, few_dots}
 use Rattle.vga_card.proofs.PartLemmas.{part_went}
@@ -12,7 +12,7 @@ pub loop-left-smaller-then-dots_in_line-left : goal.loop-left-smaller-then-dots_
 loop-left-smaller-then-dots_in_line-left c =
     let a = c.self-in-loop-left.inside in
     let s = c.loop-left.self in
-    let count : c.dots_in_line-left.result ≡ line_count s = c.dots_in_line-left.ensures.value
+    let count : c.dots_in_line-left.result ≡ dots_to_next_line s = c.dots_in_line-left.ensures.value
     ∙ ap (λ w. dots_in_line w a.crtc.registers a.crtc.beam) c.loop-left.invariant.1
     ∙ ap (λ (x : CardState). dots_in_line (character_width s) x.crtc.registers x.crtc.beam) c.self-in-loop-left.view_is in
     some_taken c.loop-left.left c.dots_in_line-left.result s count (omega arith)
@@ -22,12 +22,12 @@ loop-left-preserved-then-dots_in_line-left c =
     let a = c.self-in-loop-left.inside in
     let s = c.loop-left.self in
     let same : c.dots_in_line-left.result ≡ c.dots_in_line.result = c.dots_in_line-left.ensures.value ∙ sym c.dots_in_line.ensures.value in
-    let count : c.dots_in_line-left.result ≡ line_count s = c.dots_in_line-left.ensures.value
+    let count : c.dots_in_line-left.result ≡ dots_to_next_line s = c.dots_in_line-left.ensures.value
     ∙ ap (λ w. dots_in_line w a.crtc.registers a.crtc.beam) c.loop-left.invariant.1
     ∙ ap (λ (x : CardState). dots_in_line (character_width s) x.crtc.registers x.crtc.beam) c.self-in-loop-left.view_is in
-    let by_dots : c.take_line.new.self ≡ dots (line_count s) s = c.take_line.ensures.by_dots in (
+    let by_dots : c.take_line.new.self ≡ dots (dots_to_next_line s) s = c.take_line.ensures.by_dots in (
       line_went c.loop-left.left c.dots_in_line-left.result s c.take_line.new.self _ (omega (arith, same)) count by_dots c.loop-left.invariant.0,
-      c.loop-left.invariant.1 ∙ width_kept (line_count s) s c.take_line.new.self by_dots,
+      c.loop-left.invariant.1 ∙ width_kept (dots_to_next_line s) s c.take_line.new.self by_dots,
       c.take_line.ensures.ends,
     )
 
@@ -38,7 +38,7 @@ pub take_part-requires-clause-some : goal.take_part-requires-clause-some
 take_part-requires-clause-some c =
     let a = c.self-in-loop-left.inside in
     let s = c.loop-left.self in
-    let count : c.dots_in_line-then-is_in_line.result ≡ line_count s = c.dots_in_line-then-is_in_line.ensures.value
+    let count : c.dots_in_line-then-is_in_line.result ≡ dots_to_next_line s = c.dots_in_line-then-is_in_line.ensures.value
     ∙ ap (λ w. dots_in_line w a.crtc.registers a.crtc.beam) c.loop-left.invariant.1
     ∙ ap (λ (x : CardState). dots_in_line (character_width s) x.crtc.registers x.crtc.beam) c.self-in-loop-left.view_is in
     let line = few_dots s in
@@ -49,7 +49,7 @@ pub loop-left-smaller-then-is_in_line : goal.loop-left-smaller-then-is_in_line
 loop-left-smaller-then-is_in_line c =
     let a = c.self-in-loop-left.inside in
     let s = c.loop-left.self in
-    let count : c.dots_in_line-then-is_in_line.result ≡ line_count s = c.dots_in_line-then-is_in_line.ensures.value
+    let count : c.dots_in_line-then-is_in_line.result ≡ dots_to_next_line s = c.dots_in_line-then-is_in_line.ensures.value
     ∙ ap (λ w. dots_in_line w a.crtc.registers a.crtc.beam) c.loop-left.invariant.1
     ∙ ap (λ (x : CardState). dots_in_line (character_width s) x.crtc.registers x.crtc.beam) c.self-in-loop-left.view_is in
     let line = few_dots s in

@@ -1,6 +1,6 @@
 -- A read by what the registers say is a read.
 use Rattle.std.proofs.Common.{◌∙◌, ap, List, ℕ}
-use Rattle.vga_bits.specs.Bits.{byte_of}
+use Rattle.vga_bits.specs.Bits.{byte_of_bits}
 use Rattle.vga_bits.specs.Four.{Four}
 use Rattle.vga_planes.specs.Planes.{bytes_at}
 use Rattle.vga_host.specs.Memory.Read.{read_bit}
@@ -13,5 +13,5 @@ returns-in-Some c =
     let is = c.requires.access in
     let d = c.in-Some.ensures h is in
     c.read_byte.ensures
-    ∙ ap (λ b. byte_of (λ i. read_bit h c.in-Some.in_window b i)) (c.load-bytes.ensures ∙ ap (λ (m : Four (List ℕ)). bytes_at m c.offset.result) c.planes.ensures)
+    ∙ ap (λ b. byte_of_bits (λ i. read_bit h c.in-Some.in_window b i)) (c.load-bytes.ensures ∙ ap (λ (m : Four (List ℕ)). bytes_at m c.offset.result) c.planes.ensures)
     ∙ byte_got h c.args.misc c.args.address c.in-Some.in_window c.offset.result d.0 d.1 (c.offset.ensures h is)

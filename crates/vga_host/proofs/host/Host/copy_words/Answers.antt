@@ -2,7 +2,7 @@ use Rattle.std.proofs.Common.{◌+◌, ◌-◌, ◌%◌, ◌∙◌, ap, sym, sub
 use Rattle.std.proofs.Math.Nat.{zero-mod}
 use Rattle.vga_bits.specs.Bits.{is_set}
 use Rattle.vga_host.specs.Memory.Access.{IsAccess}
-use Rattle.vga_host.specs.Memory.PlaneWords.{word_moved}
+use Rattle.vga_host.specs.Memory.PlaneWords.{with_word_copied}
 use Rattle.vga_host.proofs.WordLemmas.{access_over, words_go_on}
 use Rattle.vga_host.proofs.host.Host.copy_words.Goals as goal
 
@@ -24,7 +24,7 @@ loop-done-preserved c =
     let kept = c.loop-done.invariant in
     words_go_on c.args.self.now s c.move_word.new.self c.args.per c.args.misc c.args.from c.args.to c.args.n f t done c.requires.words (omega arith)
     kept.0 kept.1 kept.2 kept.3 c.move_word.ensures.bytes
-    (c.move_word.ensures.moved ∙ ap (λ (reach : ℕ → Bool). word_moved s reach ((f + done) % 65536) ((t + done) % 65536)) (λ j p.
+    (c.move_word.ensures.moved ∙ ap (λ (reach : ℕ → Bool). with_word_copied s reach ((f + done) % 65536) ((t + done) % 65536)) (λ j p.
     (ap (λ (m : ℕ). is_set m p) c.requires.set ∙ c.requires.access.map_mask p) j))
 
 pub returns-clause-few : goal.returns-clause-few

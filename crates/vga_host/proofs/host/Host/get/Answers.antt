@@ -1,6 +1,6 @@
 -- A read that is decoded loads the bytes at the place of the address.
 use Rattle.std.proofs.Common.{rules, ◌≡◌, ◌∙◌, ap, sym, subst, refl}
-use Rattle.vga_bits.specs.Bits.{byte_of}
+use Rattle.vga_bits.specs.Bits.{byte_of_bits}
 use Rattle.vga_planes.specs.Planes.{bytes_at}
 use Rattle.vga_host.specs.Host.{HostState}
 use Rattle.vga_host.specs.Memory.Access.{IsAccess}
@@ -36,8 +36,8 @@ returns-clause-ok c =
     let w = c.in-Some.in_window in
     let place = there h c.args.misc c.args.address w c.offset.result d.0 d.1 (c.offset.ensures h is) in
     let bytes : c.load-bytes.result ≡ loaded h c.args.address = c.load-bytes.ensures ∙ ap (λ o. bytes_at h.memory o) place in (
-      c.read_byte-answer.ensures ∙ ap (λ x. byte_of (λ i. read_bit x w c.load-bytes.result i)) (sym same)
-          ∙ ap (λ b. byte_of (λ i. read_bit h w b i)) bytes ∙ ap (λ x. byte_of (λ i. read_bit h x (loaded h c.args.address) i)) d.1
+      c.read_byte-answer.ensures ∙ ap (λ x. byte_of_bits (λ i. read_bit x w c.load-bytes.result i)) (sym same)
+          ∙ ap (λ b. byte_of_bits (λ i. read_bit h w b i)) bytes ∙ ap (λ x. byte_of_bits (λ i. read_bit h x (loaded h c.args.address) i)) d.1
           ∙ ap (λ x. read_byte x c.args.address) same,
       ap (λ l. let after : HostState = record h { latches = l } in after) bytes ∙ ap (λ x. after_get x c.args.address) same,
     )

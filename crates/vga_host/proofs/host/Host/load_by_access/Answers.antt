@@ -1,7 +1,7 @@
 -- A load by what the registers say is a read.
 use Rattle.std.proofs.Common.{◌≡◌, ◌∙◌, ap, sym, subst}
 use Rattle.vga_host.specs.Host.{HostState}
-use Rattle.vga_host.specs.Memory.Runs.{get_where}
+use Rattle.vga_host.specs.Memory.Runs.{after_get_if_decoded}
 use Rattle.vga_host.specs.Memory.Access.{IsAccess}
 use Rattle.vga_host.proofs.RunLemmas.{get_at}
 use Rattle.vga_host.proofs.host.Host.load_by_access.Goals as goal
@@ -21,4 +21,4 @@ returns-in-Some c =
     let d = c.in-Some.ensures h is in
     ap (λ l. let after : HostState = record h { latches = l } in after) c.load-self-inside.ensures
     ∙ get_at h c.args.misc c.args.address c.in-Some.in_window c.offset.result d.0 d.1 (c.offset.ensures h is)
-    ∙ ap (λ x. get_where x c.args.misc c.args.address) same
+    ∙ ap (λ x. after_get_if_decoded x c.args.misc c.args.address) same

@@ -1,8 +1,8 @@
 -- A load keeps what the registers say; what is read is written.
 use Rattle.std.proofs.Common.{◌∙◌, ap, sym, subst}
-use Rattle.vga_bits.specs.Four.{four}
+use Rattle.vga_bits.specs.Four.{four_by_plane}
 use Rattle.vga_host.specs.Memory.Write.{written_byte}
-use Rattle.vga_host.specs.Memory.Runs.{put_where, put_bytes, byte_where}
+use Rattle.vga_host.specs.Memory.Runs.{after_put_if_decoded, after_put_of_plane_bytes, byte_read_or_ff}
 use Rattle.vga_host.specs.Memory.Access.{IsAccess}
 use Rattle.vga_host.proofs.RunLemmas.{access_read}
 use Rattle.vga_host.proofs.host.Host.move_byte.Goals as goal
@@ -14,7 +14,7 @@ put_by_access-requires c =
 pub returns : goal.returns
 returns c =
     let h = c.load_by_access.new.self in
-    let v = byte_where c.args.self.now c.args.misc c.args.from in
+    let v = byte_read_or_ff c.args.self.now c.args.misc c.args.from in
     c.put_by_access.ensures
-    ∙ ap (put_bytes h c.args.misc c.args.to) (c.written-bytes.ensures ∙ ap (λ b. four (λ p. written_byte h b p)) c.byte_by_access-byte.ensures)
-    ∙ ap (λ x. put_where x c.args.misc c.args.to v) c.load_by_access.ensures
+    ∙ ap (after_put_of_plane_bytes h c.args.misc c.args.to) (c.written-bytes.ensures ∙ ap (λ b. four_by_plane (λ p. written_byte h b p)) c.byte_by_access-byte.ensures)
+    ∙ ap (λ x. after_put_if_decoded x c.args.misc c.args.to v) c.load_by_access.ensures

@@ -1,7 +1,7 @@
 -- A load keeps what the registers say; whatever is read, the latches are stored.
 use Rattle.std.proofs.Common.{◌∙◌, ap, sym, subst}
 use Rattle.vga_host.specs.Graphics.{write_mode}
-use Rattle.vga_host.specs.Memory.Runs.{put_where, put_bytes, byte_where}
+use Rattle.vga_host.specs.Memory.Runs.{after_put_if_decoded, after_put_of_plane_bytes, byte_read_or_ff}
 use Rattle.vga_host.specs.Memory.Access.{IsAccess}
 use Rattle.vga_host.proofs.RunLemmas.{access_read, mode_read}
 use Rattle.vga_host.proofs.host.Host.move_latches.Goals as goal
@@ -15,7 +15,7 @@ put_by_access-requires c =
 
 pub returns : goal.returns
 returns c =
-    let v = byte_where c.args.self.now c.args.misc c.args.from in
+    let v = byte_read_or_ff c.args.self.now c.args.misc c.args.from in
     c.put_by_access.ensures
-    ∙ ap (put_bytes c.load_by_access.new.self c.args.misc c.args.to) (c.stored_latches-bytes.ensures v)
-    ∙ ap (λ x. put_where x c.args.misc c.args.to v) c.load_by_access.ensures
+    ∙ ap (after_put_of_plane_bytes c.load_by_access.new.self c.args.misc c.args.to) (c.stored_latches-bytes.ensures v)
+    ∙ ap (λ x. after_put_if_decoded x c.args.misc c.args.to v) c.load_by_access.ensures

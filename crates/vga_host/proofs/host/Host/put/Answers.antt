@@ -1,7 +1,7 @@
 -- A write that is decoded stores its bytes at the place of the address.
 use Rattle.std.proofs.Common.{rules, ◌≡◌, ◌∙◌, ap, sym, subst, refl, ℕ}
-use Rattle.vga_planes.specs.Planes.{with_bytes}
-use Rattle.vga_bits.specs.Four.{Four, four}
+use Rattle.vga_planes.specs.Planes.{with_bytes_at_offset}
+use Rattle.vga_bits.specs.Four.{Four, four_by_plane}
 use Rattle.vga_host.specs.Host.{HostState}
 use Rattle.vga_host.specs.Memory.Access.{IsAccess}
 use Rattle.vga_host.specs.Memory.Write.{written_byte, after_put}
@@ -35,12 +35,12 @@ returns-clause-ok c =
     let d = c.in-Some.ensures h is in
     let set = c.reached-set.result in
     let o = c.offset-offset.result in
-    let after : Four ℕ → HostState = λ bytes. record h { memory = with_bytes h.memory o bytes set } in
-    let bytes : c.written_as-bytes.result ≡ four (λ p. written_byte h c.args.v p) = c.written_as-bytes.ensures ∙ ap (λ x. four (λ p. written_byte x c.args.v p)) (sym same) in
+    let after : Four ℕ → HostState = λ bytes. record h { memory = with_bytes_at_offset h.memory o bytes set } in
+    let bytes : c.written_as-bytes.result ≡ four_by_plane (λ p. written_byte h c.args.v p) = c.written_as-bytes.ensures ∙ ap (λ x. four_by_plane (λ p. written_byte x c.args.v p)) (sym same) in
     ap (λ m. let w : HostState = record h { memory = m } in w) c.store.ensures
     ∙ ap after bytes
     ∙ ap (λ m. let w : HostState = record h { memory = m } in w) (planes_after h c.args.misc c.args.address c.in-Some.in_window o d.0 d.1 (c.offset-offset.ensures h is)
-    set (four (λ p. written_byte h c.args.v p)) (λ p less. c.reached-set.ensures h p is less))
+    set (four_by_plane (λ p. written_byte h c.args.v p)) (λ p less. c.reached-set.ensures h p is less))
     ∙ ap (λ x. after_put x c.args.address c.args.v) same
 
 pub returns-clause-refused : goal.returns-clause-refused

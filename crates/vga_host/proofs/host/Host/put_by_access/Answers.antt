@@ -1,7 +1,7 @@
 -- A write by what the registers say is a write.
 use Rattle.std.proofs.Common.{◌≡◌, ◌∙◌, ap, sym, subst}
 use Rattle.vga_host.specs.Host.{HostState}
-use Rattle.vga_host.specs.Memory.Runs.{put_bytes}
+use Rattle.vga_host.specs.Memory.Runs.{after_put_of_plane_bytes}
 use Rattle.vga_host.specs.Memory.Access.{IsAccess}
 use Rattle.vga_host.proofs.RunLemmas.{put_at}
 use Rattle.vga_host.proofs.host.Host.put_by_access.Goals as goal
@@ -22,4 +22,4 @@ returns-in-Some c =
     let set = c.reached.result in
     ap (λ m. let after : HostState = record h { memory = m } in after) c.store.ensures
     ∙ put_at h c.args.misc c.args.address c.in-Some.in_window c.offset.result d.0 d.1 (c.offset.ensures h is) set c.args.bytes (λ p less. c.reached.ensures h p is less)
-    ∙ ap (λ x. put_bytes x c.args.misc c.args.address c.args.bytes) same
+    ∙ ap (λ x. after_put_of_plane_bytes x c.args.misc c.args.address c.args.bytes) same

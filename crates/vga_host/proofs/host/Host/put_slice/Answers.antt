@@ -1,14 +1,14 @@
 use Rattle.std.proofs.Common.{arith, ◌∙◌, ◌+◌, ap, sym, subst, length}
 use Rattle.std.specs.Prelude.{slice_index}
 use Rattle.vga_host.specs.Memory.Access.{IsAccess}
-use Rattle.vga_host.specs.Memory.Runs.{put_bytes}
+use Rattle.vga_host.specs.Memory.Runs.{after_put_of_plane_bytes}
 use Rattle.vga_host.proofs.RunLemmas.{next_put, access_stays}
 use Rattle.vga_host.proofs.FillLemmas.{access_kept, puts_rest}
 use Rattle.vga_host.proofs.host.Host.put_slice.Goals as goal
 
 pub loop-i-init : goal.loop-i-init
 loop-i-init c =
-    let done = c.put_whole_words-done in (
+    let done = c.store_whole_words-done in (
       access_kept c.access-access.result c.args.self.now _ c.access-access.ensures.access done.ensures.kept,
       puts_rest c.args.misc c.args.first (length c.args.bytes.now) done.result (slice_index c.args.bytes.now) c.args.self.now _ done.ensures.few
           done.ensures.put,
@@ -22,7 +22,7 @@ loop-i-preserved c =
     let first = c.args.first in
     let g = slice_index c.args.bytes.now in
     let kept = c.loop-i.invariant in
-    let now = c.put_by_access.ensures ∙ ap (put_bytes s misc (first + i)) c.written_as-word.ensures in (
+    let now = c.put_by_access.ensures ∙ ap (after_put_of_plane_bytes s misc (first + i)) c.written_as-word.ensures in (
       subst (IsAccess c.access-access.result) (sym now) (access_stays c.access-access.result s misc (first + i) (g i) kept.0),
       next_put misc first g i (length c.args.bytes.now) s _ _ (omega arith) now kept.1,
     )

@@ -2,7 +2,7 @@ use Rattle.std.proofs.Common.{rules, arith, ◌≡◌, ◌<◌, ◌∙◌, ◌+�
 use Rattle.std.proofs.lemmas.Nat.{mod_below}
 use Rattle.vga_bits.specs.Four.{Four}
 use Rattle.vga_planes.specs.Planes.{byte_at}
-use Rattle.vga_host.specs.Memory.Runs.{byte_where}
+use Rattle.vga_host.specs.Memory.Runs.{byte_read_or_ff}
 use Rattle.vga_host.proofs.RunLemmas.{byte_there, byte_set}
 use Rattle.vga_host.proofs.host.Host.read_picked.Goals as goal
 
@@ -21,6 +21,6 @@ loop-i-preserved c =
     let read = byte ∙ byte_there h c.args.misc (c.args.first + i) w k o (c.requires.within.written i c.loop-i-test.true)
     (c.requires.within.in_window i c.loop-i-test.true) c.requires.byte (c.requires.picked w) low (c.requires.offset w) small in (
       search rules,
-      λ n few. byte_set c.loop-i.bytes i n c.byte.result (λ n. byte_where h c.args.misc (c.args.first + n)) (omega (arith, c.loop-i-test.true, kept.0)) few
+      λ n few. byte_set c.loop-i.bytes i n c.byte.result (λ n. byte_read_or_ff h c.args.misc (c.args.first + n)) (omega (arith, c.loop-i-test.true, kept.0)) few
           kept.1 read,
     )

@@ -10,7 +10,7 @@ returns-then-stores_byte c =
     let h = c.args.self.now in
     let v = c.args.v in
     c.from_word.ensures
-    ∙ bytes_from_bits c.spread.result (λ p i. written_bit h v p i) (λ p i lp li. c.spread.ensures p i lp li
+    ∙ bytes_from_bits c.byte_in_all_planes.result (λ p i. written_bit h v p i) (λ p i lp li. c.byte_in_all_planes.ensures p i lp li
     ∙ sym (plain_bit h v p i (c.requires c.if-stores_byte.true) lp li))
 
 pub returns : goal.returns

@@ -1,17 +1,8 @@
-use Rattle.std.proofs.Common.{◌∙◌, ◌+◌, arith}
-use Rattle.std.proofs.lemmas.List.{drop-set-lt}
-use Rattle.vga_bits.specs.Four.{of_plane}
-use Rattle.vga_planes.proofs.SavedLemmas.{one_more}
+use Rattle.std.proofs.Common.{arith}
+use Rattle.std.proofs.lemmas.Grind.{common_steps}
+use Rattle.std.proofs.lemmas.Slice.{drop-put_mid}
+use Rattle.vga_planes.proofs.SavedLemmas.{plane_len}
 use Rattle.vga_planes.proofs.planes.Planes.save_plane.Goals as goal
 
-pub loop-offset-preserved : goal.loop-offset-preserved
-loop-offset-preserved c =
-    let plane = of_plane c.args.self.now c.args.plane in
-    let size = c.bounds.ensures.size c.args.plane c.requires.plane in
-    let out = c.loop-offset.out in
-    let i = c.args.at + c.loop-offset.offset in
-    record {
-      prefix = one_more out c.args.out.now plane c.args.at c.loop-offset.offset c.byte.result c.loop-offset.invariant.prefix (omega arith)
-          (omega (arith, size)) c.byte.ensures;
-      back = drop-set-lt (c.args.at + 65536) out i c.byte.result (omega arith) ∙ c.loop-offset.invariant.back;
-    }
+pub returns-clause-put : goal.returns-clause-put
+returns-clause-put c = grind (arith, common_steps, drop-put_mid, plane_len c.self.inside.words.items c.args.plane c.requires.plane)

@@ -5,7 +5,7 @@ use Rattle.vga_run.proofs.machine.report.write_steps.Goals as goal
 -- there are not more steps than that
 pub returns-in-None-clause-text : goal.returns-in-None-clause-text
 returns-in-None-clause-text g c =
-    let w = rw c.of-line.ensures at c.write_first.ensures.text in
+    let w = rw c.of_step-line.ensures at c.write_first_steps.ensures.text in
     let few = c.requires.few in
     let all : take 18446744073709551615 c.args.steps ≡ c.args.steps = take_all 18446744073709551615 c.args.steps (omega arith) in
     rw c.in-None.is (rw all at w)
@@ -14,4 +14,4 @@ pub returns-in-None-clause-after : goal.returns-in-None-clause-after
 returns-in-None-clause-after g c =
     let few = c.requires.few in
     let all : take 18446744073709551615 c.args.steps ≡ c.args.steps = take_all 18446744073709551615 c.args.steps (omega arith) in
-    rw c.in-None.is (rw all at c.write_first.ensures.after)
+    rw c.in-None.is (rw all at c.write_first_steps.ensures.after)

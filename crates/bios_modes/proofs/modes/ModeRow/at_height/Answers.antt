@@ -1,5 +1,0 @@
-use Rattle.std.proofs.Common.{rules}
-use Rattle.bios_modes.proofs.modes.ModeRow.at_height.Goals as goal
-
-pub returns : goal.returns
-returns c = search rules

@@ -1,5 +1,0 @@
-use Rattle.std.proofs.Common.{rules}
-use Rattle.bios_services.proofs.drawing.put_over.Goals as goal
-
-pub returns : goal.returns
-returns c = search rules

@@ -1,5 +1,0 @@
-use Rattle.std.proofs.Common.{rules}
-use Rattle.vga_attr.proofs.attr.fields.number_of.Goals as goal
-
-pub returns : goal.returns
-returns c = search rules

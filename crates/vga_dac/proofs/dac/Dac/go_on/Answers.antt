@@ -1,5 +1,0 @@
-use Rattle.std.proofs.Common.{rules}
-use Rattle.vga_dac.proofs.dac.Dac.go_on.Goals as goal
-
-pub returns : goal.returns
-returns c = search rules

@@ -1,9 +1,0 @@
-use Rattle.std.proofs.Common.{ℕ, List}
-use Rattle.vga_dots.specs.Row.{AreCharactersPut}
-use Rattle.vga_dots.specs.Alike.{RepeatTheOneBefore}
-use Rattle.vga_dots.proofs.alike.repeat_last.Given as goal
-
--- of any such picture, the characters so far are drawn
-abbrev pub invariant-loop-x : goal.invariant-loop-x
-invariant-loop-x g l = (f : ℕ → ℕ → List ℕ) (old : List ℕ) → AreCharactersPut g.row.CW l.drawn f old l.fn.row → RepeatTheOneBefore l.drawn l.count f
-    → AreCharactersPut g.row.CW l.x f old l.row

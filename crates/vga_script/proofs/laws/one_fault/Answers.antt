@@ -1,5 +1,0 @@
-use Rattle.vga_script.proofs.FaultLemmas.{one_fault_lem, no_other_fault}
-use Rattle.vga_script.proofs.laws.one_fault.Goals as goal
-
-pub returns : goal.returns
-returns c = record { single = one_fault_lem; none = no_other_fault }

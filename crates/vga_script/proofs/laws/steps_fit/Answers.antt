@@ -1,5 +1,0 @@
-use Rattle.vga_script.proofs.StepsLemmas.{meaning_fits}
-use Rattle.vga_script.proofs.laws.steps_fit.Goals as goal
-
-pub returns : goal.returns
-returns c = meaning_fits
