@@ -51,7 +51,11 @@ fn component_of_two_bits(n: u8, strong: u32, weak: u32) -> u8
 fn colour_of_six_bits(n: u8) -> [u8; 3]
     ensures { result ≡ six_bits_of n }
 {
-    [component_of_two_bits(n, 2, 5), component_of_two_bits(n, 1, 4), component_of_two_bits(n, 0, 3)]
+    [
+        component_of_two_bits(n, 2, 5),
+        component_of_two_bits(n, 1, 4),
+        component_of_two_bits(n, 0, 3),
+    ]
 }
 
 /// One of 16 colours, with a bit for each component and one for brightness.
@@ -65,7 +69,11 @@ fn colour_with_bright_bit(n: u8, bright: u32) -> [u8; 3]
     } else {
         component_of_two_bits(n, 1, bright)
     };
-    [component_of_two_bits(n, 2, bright), green, component_of_two_bits(n, 0, bright)]
+    [
+        component_of_two_bits(n, 2, bright),
+        green,
+        component_of_two_bits(n, 0, bright),
+    ]
 }
 
 /// Black, or one of two greys.

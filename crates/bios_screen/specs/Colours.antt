@@ -37,8 +37,10 @@ with_palette_value s i v = record s {
 -- the screen with a palette from the first sixteen bytes of a block, and the overscan from the next
 abbrev pub with_palette_and_overscan : Screen → List ℕ → Screen
 with_palette_and_overscan s block = record s {
-  palette = record s.palette { values = list_by_function (λ i. six_bits (slice_index block i)) 0
-      16 };
+  palette = record s.palette {
+    values = list_by_function (λ i. six_bits (slice_index block i)) 0
+        16;
+  };
   overscan = slice_index block 16;
 }
 

@@ -28,7 +28,7 @@ BeamIsAt c start (suc n) =
 abbrev pub DotsJoinPicture : CardState → Screen → ℕ → ℕ → Type 0
 DotsJoinPicture c s page n = (j : ℕ) → 0 < j → n + j ≤ dots_a_frame s.mode →
     bytes_of_dots (dots j c).drawn ≡ bytes_of_dots (dots_of_frame_so_far c) ++ concatenated_lists
-        (λ i. colour_of_frame_dot s page (n + i)) j
+    (λ i. colour_of_frame_dot s page (n + i)) j
 
 -- the line of each dot of the picture among the first n dots of a frame
 unfoldable pub picture_lines_before : Screen → ℕ → List ℕ

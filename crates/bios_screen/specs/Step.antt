@@ -304,7 +304,7 @@ type_character fonts s page position character colouring =
     else if character == 0x0A then after_line_feed s page position
     else if character == 0x0D then (s, line_start position)
     else after_cursor_advance (put_character fonts s page position character colouring) page
-        position
+    position
 
 -- a screen with the cursor of a page at another position
 abbrev pub with_position : Screen → ℕ → ℕ → Screen

@@ -44,7 +44,7 @@ cursor_address d page = d.size * page / 2 + cell_number d (cursor_position_of d 
 unfoldable pub show_cursor_plan : BiosData → ℕ → Plan (Unit {0})
 show_cursor_plan d page =
     if is_text d.mode then (if page == d.page then write_crtc_word_plan d.crtc_address
-        cursor_address_high_index
+    cursor_address_high_index
     (cursor_address d page) else Done tt) else Done tt
 
 -- the data with the cursor of a page at another position

@@ -70,7 +70,8 @@ fn draw_over_zeros<B: Bus>(bus: &mut B, cell: DotCell, fonts: &Fonts, character:
         colour)
         bus.old).0 }
 {
-    cell.band.fill_row(bus, Filling::one_byte_everywhere(0x00), cell.row);
+    cell.band
+        .fill_row(bus, Filling::one_byte_everywhere(0x00), cell.row);
     write_sequencer(bus, MAP_MASK, colour % 16);
     put_glyph(bus, cell, fonts, character);
     write_sequencer(bus, MAP_MASK, ALL_PLANES);
@@ -126,7 +127,11 @@ fn put_dots<B: Bus>(bus: &mut B, cell: DotCell, line: u32, dots: u8, colour: u8)
         bus.old).0 }
 {
     for i in 0..8 {
-        put(bus, cell.address(line, i), glyph_dot_colour(dots, colour, i));
+        put(
+            bus,
+            cell.address(line, i),
+            glyph_dot_colour(dots, colour, i),
+        );
     }
 }
 

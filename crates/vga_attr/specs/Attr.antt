@@ -50,7 +50,7 @@ abbrev pub registers_after_data : AttrState → ℕ → List ℕ
 registers_after_data a v =
     if is_locked a (selected_register a) then a.registers
     else slice_set a.registers (selected_register a)
-        (bit_and v (slice_index attr_masks (selected_register a)))
+    (bit_and v (slice_index attr_masks (selected_register a)))
 
 -- the attribute controller after a write: data for the register that the index selects, or a new
 -- index. After an index, the next write is data; after data, it is an index.

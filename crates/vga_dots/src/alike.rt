@@ -35,7 +35,11 @@ pub(crate) fn characters_to_draw(
     let last = characters.cell(display, display.counter((first + count - 1) as u16));
     let mut drawn = count;
     while 0 < drawn
-        && characters.is_cursorless_cell(display, display.counter((first + drawn - 1) as u16), last)
+        && characters.is_cursorless_cell(
+            display,
+            display.counter((first + drawn - 1) as u16),
+            last,
+        )
     {
         drawn -= 1;
     }

@@ -129,7 +129,11 @@ fn put_quad(row: &mut [u8], at: usize, dots: u8, fore: Quad, back: Quad)
         → AreDotsPut 4 at (λ i. if is_set_of dots (3 - i) then f else b) row.old row.new }
 {
     write_eight_bytes(row, 3 * at, low_bytes_of_dots(dots, fore.low, back.low));
-    write_four_bytes(row, 3 * at + 8, high_bytes_of_dots(dots, fore.high, back.high));
+    write_four_bytes(
+        row,
+        3 * at + 8,
+        high_bytes_of_dots(dots, fore.high, back.high),
+    );
 }
 
 /// Writes the dots of a line of a glyph: in the one colour where `lit` has a bit, of which bit 8 is

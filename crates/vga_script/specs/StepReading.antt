@@ -93,7 +93,7 @@ unfoldable pub next_register : List ℕ → List (List ℕ) → Option (ℕ × L
 next_register name [] = Some (0, [])
 next_register name (w ∷ ws) =
     if bytes_eq (in_lower_case (take 3 w)) name then (hex_number_of 4 0xFFFF (drop 3 w) >>= λ n.
-        Some (n, ws))
+    Some (n, ws))
     else Some (0, w ∷ ws)
 
 -- the bytes that the digits of a block spell

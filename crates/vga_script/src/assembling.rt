@@ -15,7 +15,9 @@ ghost use Rattle.vga_script.specs.declared.step.Step.{Step};
 
 use super::opcode;
 use super::output::{append, append_u16};
-use super::repeat_lines::{has_word, is_repeat_end_line, repeat_count_in_version, says_version_two};
+use super::repeat_lines::{
+    has_word, is_repeat_end_line, repeat_count_in_version, says_version_two,
+};
 use super::script::{SCRIPT_LIMIT, STEP_LIMIT, Script};
 use super::step_bytes::append_step;
 use super::step_reading::{Unread, step_of_line};
