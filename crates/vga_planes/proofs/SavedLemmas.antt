@@ -31,16 +31,16 @@ one_more_at_first out plane i v prefix room within value =
 
 -- ---- a plane of words
 
-pub plane_len : (words : List ℕ) (p : ℕ) → p < 4 → length (of_plane (planes_of words) p) ≡ length words
+pub plane_len : (words : List ℕ) (p : ℕ) → p < 4 → length (of_plane (planes_of_words words) p) ≡ length words
 plane_len words =
-    let all : (p : ℕ) → length (map (byte_in p) words) ≡ length words = λ p. length-map words (byte_in p) in
-    by_plane (λ p. length (of_plane (planes_of words) p) ≡ length words) (all 0) (all 1) (all 2) (all 3)
+    let all : (p : ℕ) → length (map (plane_byte_in_word p) words) ≡ length words = λ p. length-map words (plane_byte_in_word p) in
+    by_plane (λ p. length (of_plane (planes_of_words words) p) ≡ length words) (all 0) (all 1) (all 2) (all 3)
 
 -- byte i of a plane is in word i
-pub plane_byte : (words : List ℕ) (i p : ℕ) → p < 4 → i < length words → of_plane (bytes_of (slice_index words i)) p ≡ slice_index (of_plane (planes_of words) p) i
+pub plane_byte : (words : List ℕ) (i p : ℕ) → p < 4 → i < length words → of_plane (plane_bytes_of_word (slice_index words i)) p ≡ slice_index (of_plane (planes_of_words words) p) i
 plane_byte words i p few within =
-    let all : (p : ℕ) → byte_in p (slice_index words i) ≡ slice_index (map (byte_in p) words) i = λ p. sym (get_or-map (byte_in p) words i 0 0 within) in
-    by_plane (λ p. of_plane (bytes_of (slice_index words i)) p ≡ slice_index (of_plane (planes_of words) p) i) (all 0) (all 1) (all 2) (all 3) p few
+    let all : (p : ℕ) → plane_byte_in_word p (slice_index words i) ≡ slice_index (map (plane_byte_in_word p) words) i = λ p. sym (get_or-map (plane_byte_in_word p) words i 0 0 within) in
+    by_plane (λ p. of_plane (plane_bytes_of_word (slice_index words i)) p ≡ slice_index (of_plane (planes_of_words words) p) i) (all 0) (all 1) (all 2) (all 3) p few
 
 -- all bytes of a list, and none after them
 pub all_put : (out old plane : List ℕ) (at n : ℕ) → length plane ≡ n → take (at + n) out ≡ take at old ++ take n plane

@@ -30,7 +30,7 @@ fn join_planes(words: &mut [u32], plane0: &[u8], plane1: &[u8], plane2: &[u8], p
 fn split_plane(words: &[u32], plane: usize, out: &mut [u8])
     requires plane { plane < 4 }
     requires len { length out.old ≡ length words.now }
-    ensures { out.new ≡ of_plane (planes_of words.now) plane }
+    ensures { out.new ≡ of_plane (planes_of_words words.now) plane }
 {
     for i in 0..words.len() {
         out[i] = Latch::from_word(words[i]).byte(plane);
