@@ -6,6 +6,7 @@ pub mod FrameLemmas
 pub mod RowLemmas
 pub mod OutcomeLemmas
 pub mod SavedLemmas
+pub mod ChecksumLemmas
 pub mod FixedLemmas
 pub mod ScreenLemmas
 pub mod CardsMove

@@ -4,20 +4,10 @@ use Rattle.std.specs.Prelude.{take, min, nat_lt, if◌then◌else◌}
 use Rattle.vga_bits.specs.Bytes.{zeros}
 use Rattle.vga_run.specs.declared.machine.Machine.{Machine}
 use Rattle.vga_run.specs.Saved.{number_of_four_bytes, four_bytes_of_number, saved_machine}
+use Rattle.vga_c.specs.Checksum.{adler_32}
 use Rattle.vga_c.specs.Handle.{HandleState, machine_of}
 use Rattle.vga_c.specs.Saved.{IsRestored}
 use Rattle.vga_c.specs.Status.{no_room_status}
-
--- Adler-32, the checksum of zlib (RFC 1950), from these two sums on: the sum of the bytes, plus 1,
--- and the sum of those sums, each modulo the largest prime below 65,536
-unfoldable pub adler_from : ℕ → ℕ → List ℕ → ℕ
-adler_from sum sums [] = 65536 * sums + sum
-adler_from sum sums (b ∷ bytes) =
-    adler_from ((sum + b) % 65521) ((sums + (sum + b) % 65521) % 65521) bytes
-
--- the Adler-32 checksum of some bytes
-abbrev pub adler_32 : List ℕ → ℕ
-adler_32 bytes = adler_from 1 0 bytes
 
 -- a state and zeros, which with the checksum make `len` bytes
 abbrev pub state_and_zeros : List ℕ → ℕ → List ℕ

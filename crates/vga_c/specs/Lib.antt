@@ -14,6 +14,7 @@ pub mod Dumps
 pub mod State
 pub mod Screens
 pub mod Saved
+pub mod Checksum
 pub mod Fixed
 pub mod Outcome
 pub mod Runs

@@ -4,10 +4,12 @@ ghost use Rattle.vga_bits.specs.Bytes.{zeros};
 ghost use Rattle.vga_run.specs.Saved.{number_of_four_bytes as long_of, four_bytes_of_number};
 ghost use Rattle.vga_run.specs.Saved.{saved_machine};
 ghost use Rattle.vga_c.specs.Cards.{KeepsMachine, LeavesClosed, Spares};
-ghost use Rattle.vga_c.specs.Fixed.{adler_32, IsRestoredFixed, IsSavedFixed, RestoresFixed};
-ghost use Rattle.vga_c.specs.Fixed.{SavesFixed, state_in as state_of};
+ghost use Rattle.vga_c.specs.Checksum.{adler_32};
+ghost use Rattle.vga_c.specs.Fixed.{IsRestoredFixed, IsSavedFixed, RestoresFixed, SavesFixed};
+ghost use Rattle.vga_c.specs.Fixed.{state_in as state_of};
 ghost use Rattle.vga_c.specs.Saved.{IsRestored};
 
+use crate::checksum::checksum;
 use crate::handle::{Handle, on_open_card};
 use crate::saved::restore;
 use crate::status::{DONE, NO_ROOM, STATE_CHECKSUM};
@@ -15,24 +17,8 @@ use std::alloc::Global;
 use vga_bits::{put_word, word_at};
 use vga_run::machine::Machine;
 
-/// The largest prime below 65,536.
-const PRIME: u32 = 65_521;
-
 /// How many bytes the checksum has.
 const SUM_LEN: usize = 4;
-
-/// The Adler-32 checksum of some bytes.
-fn checksum(bytes: &[u8]) -> u32
-    ensures { result ≡ adler_32 bytes.now }
-{
-    let mut sum = 1;
-    let mut sums = 0;
-    for i in 0..bytes.len() {
-        sum = (sum + bytes[i] as u32) % PRIME;
-        sums = (sums + sum) % PRIME;
-    }
-    65_536 * sums + sum
-}
 
 /// The number of four bytes at `at`, low byte first.
 fn number_of_four_bytes(bytes: &[u8], at: usize) -> u32

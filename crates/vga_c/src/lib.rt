@@ -11,6 +11,7 @@ mod blocks;
 mod box_parts;
 mod buffer;
 mod call_cycles;
+mod checksum;
 mod cycles;
 mod dumps;
 mod fixed;

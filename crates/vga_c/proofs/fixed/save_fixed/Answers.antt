@@ -1,7 +1,8 @@
 use Rattle.std.proofs.Common.{◌≡◌, ◌∙◌, ◌+◌, ◌-◌, ◌++◌, ℕ, List, length, ap, refl, arith}
 use Rattle.vga_bits.specs.Bytes.{zeros}
 use Rattle.vga_run.specs.Saved.{four_bytes_of_number, saved_machine}
-use Rattle.vga_c.specs.Fixed.{adler_32, state_and_zeros}
+use Rattle.vga_c.specs.Checksum.{adler_32}
+use Rattle.vga_c.specs.Fixed.{state_and_zeros}
 use Rattle.vga_c.proofs.fixed.save_fixed.Goals as goal
 
 pub returns : goal.returns
