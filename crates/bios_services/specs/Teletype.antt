@@ -67,8 +67,8 @@ pixel_colouring colour = record { colour = colour; is_attribute = false }
 -- afterwards; for a bell nothing happens
 unfoldable pub teletype_plan : FontSet → BiosData → ℕ → ℕ → Plan BiosData
 teletype_plan fonts d character colour =
+    let cursor = cursor_position_of d d.page in
     if character == 0x07 then Done d
     else (do
-      position ← type_plan fonts d d.page (cursor_position_of d d.page) character
-      (pixel_colouring colour)
+      position ← type_plan fonts d d.page cursor character (pixel_colouring colour)
       move_cursor_plan d d.page position)
