@@ -1,6 +1,7 @@
 pub mod Sealed
 pub mod Handle
 pub mod Status
+pub mod StatusText
 pub mod Cards
 pub mod Buffers
 pub mod CallCycles

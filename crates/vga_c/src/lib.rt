@@ -28,6 +28,7 @@ mod sealed;
 mod services;
 mod state;
 mod status;
+mod status_text;
 mod steps;
 mod texts;
 mod timing;

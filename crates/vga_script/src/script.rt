@@ -6,7 +6,7 @@ ghost use Rattle.vga_script.specs.Item.{Listing, expanded, step_limit};
 ghost use Rattle.vga_script.specs.Spelling.{Spells, encoding, script_limit};
 ghost use Rattle.vga_script.specs.Step.{AreInRange};
 
-use super::check_script::check_script;
+use super::judge::check_script;
 use super::opcode::MAGIC;
 use super::output::append;
 use super::steps::Steps;

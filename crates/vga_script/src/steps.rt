@@ -7,7 +7,7 @@ ghost use Rattle.vga_script.specs.Spelled.{SpellsExpanded, TakesFirst};
 ghost use Rattle.vga_script.specs.Spelling.{Spells, script_limit};
 ghost use Rattle.vga_script.specs.Step.{IsInRange};
 
-use super::check_script::check_script;
+use super::judge::check_script;
 use super::opcode::HEADER_LEN;
 use super::progress::{Progress, skip_marks};
 use super::step::Step;
