@@ -18,6 +18,7 @@ pub mod SavedCards
 pub mod FreshCanvasLemmas
 pub mod RepeatLemmas
 pub mod ClockLemmas
+pub mod WindowLemmas
 pub mod TransferLemmas
 pub mod OwedLemmas
 pub mod HiddenLemmas

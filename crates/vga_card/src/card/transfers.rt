@@ -10,6 +10,28 @@ use super::Card;
 /// What a refused read gives when its byte is moved, or when it is one of many reads.
 const REFUSED: u8 = 0xFF;
 
+/// The first address past all windows of the display memory.
+const END_OF_WINDOWS: u32 = 0xC_0000;
+
+/// How many of n addresses from the first on come before the end of all windows. Cycles at the
+/// others do nothing.
+fn count_before_end(first: u32, n: u32) -> u32
+    ensures few { result ≤ n }
+    ensures past { result < n → 0xC0000 ≤ first + result }
+{
+    n.min(END_OF_WINDOWS.saturating_sub(first))
+}
+
+/// How many of n moves come before the end of all windows, with the one address or the other.
+/// The other moves do nothing.
+pub fn moves_before_end(from: u32, to: u32, n: u32) -> u32
+    ensures few { result ≤ n }
+    ensures past_from { result < n → 0xC0000 ≤ from + result }
+    ensures past_to { result < n → 0xC0000 ≤ to + result }
+{
+    count_before_end(from, n).max(count_before_end(to, n))
+}
+
 impl Card {
     /// How many of the n addresses from the first on are decoded by the display memory.
     pub fn decoded_among(&self, first: u32, n: u32) -> u32
@@ -45,12 +67,11 @@ impl Card {
     }
 
     /// Writes a byte to n addresses from the first on. A refused write does nothing.
-    #[tactic(auto, using(crate::proofs::TransferLemmas::one_in_turn))]
     pub fn fill(&mut self, first: u32, n: u32, value: u8)
         requires { first + n < 2 ^ 32 }
         ensures { self.new ≡ after_puts card_meaning first (λ i. value) n 0 self.old }
     {
-        self.put_in_turn(first, n, value, value);
+        self.put_in_turn(first, count_before_end(first, n), value, value);
     }
 
     /// Writes a byte to n addresses from the first on, the last address first. A refused write does
@@ -59,8 +80,9 @@ impl Card {
         requires { first + n < 2 ^ 32 }
         ensures { self.new ≡ after_puts_down card_meaning first (λ i. value) n self.old }
     {
-        for i in 0..n {
-            let _ = self.put(first + (n - 1 - i), value);
+        let kept = count_before_end(first, n);
+        for i in 0..kept {
+            let _ = self.put(first + (kept - 1 - i), value);
         }
     }
 
@@ -108,8 +130,9 @@ impl Card {
         requires to { to + n < 2 ^ 32 }
         ensures { self.new ≡ after_moves_down card_meaning from to n self.old }
     {
-        for i in 0..n {
-            let at = n - 1 - i;
+        let kept = moves_before_end(from, to, n);
+        for i in 0..kept {
+            let at = kept - 1 - i;
             let byte = self.get_or_refused(from + at);
             let _ = self.put(to + at, byte);
         }

@@ -6,4 +6,4 @@ use Rattle.vga_card.proofs.card.Card.fill_down.Given as goal
 -- what the writes that are left leave is what all leave
 abbrev pub invariant-loop-i : goal.invariant-loop-i
 invariant-loop-i l =
-    after_puts_down card_meaning l.first (λ k. l.value) (l.n - l.i) l.self ≡ after_puts_down card_meaning l.first (λ k. l.value) l.n l.fn.self
+    after_puts_down card_meaning l.first (λ k. l.value) (l.kept - l.i) l.self ≡ after_puts_down card_meaning l.first (λ k. l.value) l.kept l.fn.self

@@ -6,4 +6,4 @@ use Rattle.vga_card.proofs.card.Card.move_bytes_down.Given as goal
 -- what the moves that are left leave is what all leave
 abbrev pub invariant-loop-i : goal.invariant-loop-i
 invariant-loop-i l =
-    after_moves_down card_meaning l.from l.to (l.n - l.i) l.self ≡ after_moves_down card_meaning l.from l.to l.n l.fn.self
+    after_moves_down card_meaning l.from l.to (l.kept - l.i) l.self ≡ after_moves_down card_meaning l.from l.to l.kept l.fn.self
