@@ -21,12 +21,22 @@
 
 namespace zaklimot {
 
-/* The status of a call that failed, and the place of the fault in a script, or 0. */
+/* What a status means: its name and a sentence, such as "ZAK_NO_MODE: No mode is set yet.". */
+inline std::string status_text(zak_status status)
+{
+    char text[ZAK_MOST_STATUS_TEXT];
+    std::size_t len = 0;
+    if (zak_status_text(status, reinterpret_cast<std::uint8_t *>(text), sizeof text, &len) != ZAK_OK)
+        return "status " + std::to_string(status); /* the portable file needs memory for it */
+    return std::string(text, len);
+}
+
+/* The status of a call that failed, and the place of the fault in a script, or 0. what() says both. */
 class error : public std::runtime_error {
 public:
     error(zak_status status, std::size_t place = 0)
-        : std::runtime_error("zaklimot: status " + std::to_string(status) +
-                             (place ? ", at " + std::to_string(place) : std::string())),
+        : std::runtime_error((place ? "at " + std::to_string(place) + ": " : std::string()) +
+                             status_text(status)),
           status_(status), place_(place) {}
     zak_status status() const noexcept { return status_; }
     std::size_t place() const noexcept { return place_; }

@@ -7,7 +7,7 @@ import ctypes
 import unittest
 
 import header
-from zaklimot import _calls, _errors, _state, _structs, _version, format
+from zaklimot import _calls, _errors, _library, _state, _structs, _version, format
 
 KINDS = {
     "bool": ctypes.c_bool,
@@ -72,6 +72,19 @@ class Header(unittest.TestCase):
             for number, name in wanted.items()
         }
         self.assertEqual(own, named)
+
+    def test_sentences(self) -> None:
+        """Each exception says what the library says of its status."""
+        names = {number: name for name, number in header.statuses().items()}
+        for number in _errors.BY_NUMBER:
+            text = (_structs.U8 * _structs.MOST_STATUS_TEXT)()
+            length = _structs.SIZE()
+            status = _library.loaded().calls["status_text"](
+                number, text, len(text), ctypes.byref(length)
+            )
+            self.assertEqual(status, 0)
+            told = bytes(text[: length.value]).decode()
+            self.assertEqual(told, f"ZAK_{names[number]}: {_errors.error_of(number)}")
 
     def test_kinds_of_statuses(self) -> None:
         for number, kind in _errors.BY_NUMBER.items():

@@ -284,7 +284,7 @@ class Examples(unittest.TestCase):
             png = Path(name) / "palette.png"
             self.run_example("palette.py", "13", png)
             self.assertTrue(png.read_bytes().startswith(b"\x89PNG\r\n\x1a\n"))
-            with self.assertRaisesRegex(AssertionError, "mode 99: There is no such mode"):
+            with self.assertRaisesRegex(AssertionError, "mode 99: The video BIOS has no such mode"):
                 self.run_example("palette.py", "99", png)
 
     def test_the_drivers_tests_pass(self) -> None:

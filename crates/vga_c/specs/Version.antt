@@ -7,4 +7,4 @@ api_major = 1
 
 -- grows when calls, structs or statuses are added
 abbrev pub api_minor : ℕ
-api_minor = 7
+api_minor = 6

@@ -6,7 +6,7 @@ ghost use Rattle.vga_c.specs.Version.{api_major, api_minor};
 const API_MAJOR: u32 = 1;
 
 /// Grows when calls, structs or statuses are added.
-const API_MINOR: u32 = 7;
+const API_MINOR: u32 = 6;
 
 /// The interface's version: 65,536 times the major number, plus the minor number.
 #[unsafe(no_mangle)]

@@ -30,6 +30,7 @@ ROOM = (BYTES, SIZE, COUNT)
 # The parameters of each call. Calls with a card have it first.
 CALLS: dict[str, tuple[Any, ...]] = {
     "version": (),
+    "status_text": (U32, *ROOM),
     "open": (CARD, In, SIZE),
     "close": (CARD,),
     "out": (CARD, U16, U8),

@@ -37,7 +37,7 @@ class NotDecoded(Refusal):
 
 
 class NotInProfile(Refusal):
-    """A register, value or port that docs/PROFILE.md leaves out."""
+    """docs/PROFILE.md leaves out this register, value or port."""
 
     number = 2
 
@@ -55,13 +55,13 @@ class BadFunction(Refusal):
 
 
 class BadMode(Refusal):
-    """There is no such mode."""
+    """The video BIOS has no such mode."""
 
     number = 5
 
 
 class WrongKind(Refusal):
-    """A call of text in a graphics mode, or of pixels in a text mode."""
+    """The call is for pixels in a text mode, or for text in graphics."""
 
     number = 6
 
@@ -73,13 +73,13 @@ class BadPage(Refusal):
 
 
 class Outside(Refusal):
-    """A pixel or a cursor position outside the screen."""
+    """The pixel or the cursor position is outside the screen."""
 
     number = 8
 
 
 class CountPast(Refusal):
-    """Characters past the page's last cell, or glyphs past the last character."""
+    """Characters pass the page's last cell, or glyphs the last character."""
 
     number = 9
 
@@ -91,25 +91,25 @@ class BadRegister(Refusal):
 
 
 class BadBlock(Refusal):
-    """A block of another length than the function takes."""
+    """The block does not have the length that the function takes."""
 
     number = 11
 
 
 class TooFar(Refusal):
-    """An advance by more than 16,777,216 dots."""
+    """An advance takes at most 16,777,216 dots."""
 
     number = 12
 
 
 class BadHeight(Refusal):
-    """Glyphs of another height than 8, 14 or 16 scan lines."""
+    """Glyphs have 8, 14 or 16 scan lines."""
 
     number = 13
 
 
 class Closed(Error):
-    """The card is closed."""
+    """The card is not open."""
 
     number = 20
 
@@ -127,45 +127,56 @@ class FontSize(Error, ValueError):
 
 
 class OutOfMemory(Error, MemoryError):
-    """An allocation failed. After `Card.run_on` with `most` 1 the step may have been taken."""
+    """An allocation failed.
+
+    After `Card.run_on` with `most` 1 the step may have been taken.
+    """
 
     number = 23
 
 
 class Ragged(Error):
-    """Two rows of the frame differ in width, so it has no picture. It has passed. `Card.lines`
-    gives its dots."""
+    """Two rows of the frame differ in width, so there is no picture.
+
+    The frame has passed. `Card.lines` gives its dots.
+    """
 
     number = 24
 
 
 class NoRoom(Error, ValueError):
-    """Your buffer is too short: nothing was written there. A frame has passed."""
+    """The buffer is too short, and nothing was written there.
+
+    A frame has passed.
+    """
 
     number = 25
 
 
 class BadArgument(Error, ValueError):
-    """There is no such page, row, column, x or y; or bytes go past the end of a plane, or past the
-    last address."""
+    """An argument is out of the range that the call names.
+
+    There is no such page, row, column, x or y; or bytes go past the end of a plane, or past the
+    last address.
+    """
 
     number = 26
 
 
 class BadCard(Error):
-    """Corrupt BIOS data: the card's memory was overwritten."""
+    """The BIOS data are corrupt: the card's memory was overwritten."""
 
     number = 27
 
 
 class NoScreen(Error):
-    """The adapter shows no plain screen (docs/SCREENS.md)."""
+    """The adapter shows no plain screen."""
 
     number = 28
 
 
 class Broken(Error):
-    """The portable library was compiled wrongly, and the card is closed.
+    """The library was compiled wrongly, and the card is closed.
 
     It did what the proofs exclude. Try another compiler, or a lower level of optimisation. With the
     proved library you never get this exception.
@@ -179,31 +190,31 @@ class StateError(Error, ValueError):
 
 
 class StateMagic(StateError):
-    """The bytes are not a saved state."""
+    """The bytes are no saved state."""
 
     number = 30
 
 
 class StateVersion(StateError):
-    """A saved state of another version of the format."""
+    """The state has another version of the format."""
 
     number = 31
 
 
 class StateLength(StateError):
-    """A saved state that is cut off or too long."""
+    """The state is cut off, or bytes follow it."""
 
     number = 32
 
 
 class StatePart(StateError):
-    """A part of the saved state is out of its bounds."""
+    """A part of the state is out of its bounds."""
 
     number = 33
 
 
 class StateChecksum(StateError):
-    """A state of a fixed length whose checksum is wrong."""
+    """The checksum of the state is wrong."""
 
     number = 34
 
@@ -214,19 +225,19 @@ class ScriptError(Error, ValueError):
 
 
 class BadMagic(ScriptError):
-    """The bytes are no script: they don't begin with `VGAS`."""
+    """The bytes are no script: they don't begin with VGAS."""
 
     number = 102
 
 
 class BadVersion(ScriptError):
-    """A script of another version."""
+    """The script has another version."""
 
     number = 103
 
 
 class BadStep(ScriptError):
-    """Here stands no step, or a step out of range.
+    """No step stands here, or it is out of range.
 
     `place` is its offset in the script.
     """
@@ -259,7 +270,7 @@ class BadLine(ScriptError):
 
 
 class TooMany(ScriptError):
-    """The block or step here makes the script mean more than 16,777,216 steps.
+    """The script means more than 16,777,216 steps from here on.
 
     `place` is its offset in the script.
     """

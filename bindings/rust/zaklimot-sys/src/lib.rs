@@ -233,10 +233,17 @@ pub const ZAK_OPAQUE: u32 = 1;
 pub const ZAK_ONCE: u32 = 2;
 pub const ZAK_MOST_TABLE: u32 = 768;
 pub const ZAK_MOST_TEXT: u32 = 32768;
+pub const ZAK_MOST_STATUS_TEXT: u32 = 128;
 pub const ZAK_FIRST_STATE: u32 = 265086;
 pub const ZAK_MOST_STATE: u32 = 7342974;
 extern "C" {
     pub fn zak_version() -> u32;
+    pub fn zak_status_text(
+        status: zak_status,
+        text: *mut u8,
+        text_cap: usize,
+        text_len: *mut usize,
+    ) -> zak_status;
     pub fn zak_open(card: *mut zak_card, fonts: *const u8, fonts_len: usize) -> zak_status;
     pub fn zak_close(card: *mut zak_card) -> zak_status;
     pub fn zak_out(card: *mut zak_card, port: u16, value: u8) -> zak_status;

@@ -133,19 +133,33 @@ impl Error {
     }
 }
 
+/// What a status means, in a sentence: the library's text without the name in C.
+fn sentence_of(status: u32) -> String {
+    let (mut text, mut len) = ([0; sys::ZAK_MOST_STATUS_TEXT as usize], 0);
+    let told = unsafe { sys::zak_status_text(status, text.as_mut_ptr(), text.len(), &mut len) };
+    match text.get(..len) {
+        Some(text) if told == sys::ZAK_OK => {
+            let text = String::from_utf8_lossy(text);
+            text.split_once(": ").map_or(&*text, |(_, sentence)| sentence).to_string()
+        }
+        // The portable library needs memory for a text.
+        _ => format!("status {status}"),
+    }
+}
+
 impl fmt::Display for Error {
     fn fmt(&self, f: &mut fmt::Formatter<'_>) -> fmt::Result {
-        let number = self.number();
+        let name = format!("{self:?}");
+        f.write_str(name.split('(').next().unwrap_or_default())?;
         match self {
-            Error::BadLine(line) => write!(f, "line {line} of the script is bad"),
+            Error::BadLine(line) => write!(f, " {line}")?,
             Error::BadStep(place) | Error::Truncated(place) | Error::TooMany(place) => {
-                let name = format!("{self:?}");
-                let name = name.split('(').next().unwrap_or_default();
-                write!(f, "{name}, at the offset {place} of the script")
+                write!(f, " at {place}")?
             }
-            _ if self.is_refusal() => write!(f, "the adapter refuses it: E{number} {self:?}"),
-            _ => write!(f, "{self:?}, status {number}"),
+            Error::Unknown(status) => write!(f, " {status}")?,
+            _ => {}
         }
+        write!(f, ": {}", sentence_of(self.number()))
     }
 }
 
@@ -198,5 +212,19 @@ mod tests {
         assert_eq!(count, NAMES.len());
         assert_eq!(Error::at(107, 3), Error::BadLine(3));
         assert_eq!(Error::at(999, 3), Error::Unknown(999));
+    }
+
+    #[test]
+    fn an_error_says_what_its_status_means() {
+        let told = |status| Error::at(status, 7).to_string();
+        assert_eq!(told(3), "NoMode: No mode is set yet.");
+        assert_eq!(told(107), "BadLine 7: This line of the text is bad.");
+        assert_eq!(told(105), "Truncated at 7: The step that begins here is cut off.");
+        assert_eq!(told(999), "Unknown 999: No status has this number.");
+        for (name, status) in NAMES {
+            let text = told(*status);
+            assert!(text.starts_with(name) && text.ends_with('.'), "{text}");
+            assert_ne!(sentence_of(*status), sentence_of(999));
+        }
     }
 }

@@ -111,3 +111,13 @@ zak_status zak_print(const uint8_t *script, size_t script_len, uint8_t *text, si
     zak_status status = module_zak_print(self, DESK, len, OUTSIDE, text_cap, TOLD, TOLD + PLACE);
     return end_script_module(self, status, text_len, place);
 }
+
+zak_status zak_status_text(zak_status status, uint8_t *text, size_t text_cap, size_t *text_len)
+{
+    module *self = new_script_module(NULL, 0, 0);
+    if (!self)
+        return ZAK_OUT_OF_MEMORY;
+    self->outside = text;
+    zak_status told = module_zak_status_text(self, status, OUTSIDE, text_cap, TOLD);
+    return end_script_module(self, told, text_len, NULL);
+}

@@ -745,6 +745,73 @@ static void states_of_slices(void)
     free(after);
 }
 
+/* Whether the text of a status begins with its name and ends as a sentence. */
+static bool is_told(zak_status status, const char *name)
+{
+    size_t len = 0, name_len = strlen(name);
+    uint8_t *text = buffer(ZAK_MOST_STATUS_TEXT);
+    bool is_right = zak_status_text(status, text, ZAK_MOST_STATUS_TEXT, &len) == ZAK_OK &&
+                    len > name_len + 3 && memcmp(text, name, name_len) == 0 &&
+                    memcmp(text + name_len, ": ", 2) == 0 && text[len - 1] == '.';
+    free(text);
+    return is_right;
+}
+
+#define TELLS(status) SHOW(is_told(status, #status))
+
+/* What statuses mean. */
+static void statuses(void)
+{
+    const char mode[] = "ZAK_NO_MODE: No mode is set yet.", none_such[] = "No status has this number.";
+    size_t len = 999;
+    uint8_t *text = buffer(sizeof mode - 1);
+    SHOW(zak_status_text(ZAK_NO_MODE, text, sizeof mode - 2, &len));
+    SHOW(len == sizeof mode - 1 && text[0] == UNTOUCHED);
+    SHOW(zak_status_text(ZAK_NO_MODE, text, sizeof mode - 1, &len));
+    SHOW(len == sizeof mode - 1 && memcmp(text, mode, len) == 0);
+    SHOW(zak_status_text(19, text, sizeof mode - 1, &len));
+    SHOW(len == sizeof none_such - 1 && memcmp(text, none_such, len) == 0);
+    SHOW(zak_status_text(0xFFFFFFFF, NULL, 0, &len));
+    SHOW(len == sizeof none_such - 1);
+    free(text);
+    TELLS(ZAK_OK);
+    TELLS(ZAK_NOT_DECODED);
+    TELLS(ZAK_NOT_IN_PROFILE);
+    TELLS(ZAK_NO_MODE);
+    TELLS(ZAK_BAD_FUNCTION);
+    TELLS(ZAK_BAD_MODE);
+    TELLS(ZAK_WRONG_KIND);
+    TELLS(ZAK_BAD_PAGE);
+    TELLS(ZAK_OUTSIDE);
+    TELLS(ZAK_COUNT_PAST);
+    TELLS(ZAK_BAD_REGISTER);
+    TELLS(ZAK_BAD_BLOCK);
+    TELLS(ZAK_TOO_FAR);
+    TELLS(ZAK_BAD_HEIGHT);
+    TELLS(ZAK_NO_CARD);
+    TELLS(ZAK_OPEN_ALREADY);
+    TELLS(ZAK_FONT_SIZE);
+    TELLS(ZAK_OUT_OF_MEMORY);
+    TELLS(ZAK_RAGGED);
+    TELLS(ZAK_NO_ROOM);
+    TELLS(ZAK_BAD_ARGUMENT);
+    TELLS(ZAK_BAD_CARD);
+    TELLS(ZAK_NO_SCREEN);
+    TELLS(ZAK_BROKEN);
+    TELLS(ZAK_STATE_MAGIC);
+    TELLS(ZAK_STATE_VERSION);
+    TELLS(ZAK_STATE_LENGTH);
+    TELLS(ZAK_STATE_PART);
+    TELLS(ZAK_STATE_CHECKSUM);
+    TELLS(ZAK_BAD_MAGIC);
+    TELLS(ZAK_BAD_VERSION);
+    TELLS(ZAK_BAD_STEP);
+    TELLS(ZAK_TRUNCATED);
+    TELLS(ZAK_TOO_LONG);
+    TELLS(ZAK_BAD_LINE);
+    TELLS(ZAK_TOO_MANY);
+}
+
 int main(int argc, char **argv)
 {
     FILE *file = argc == 2 ? fopen(argv[1], "rb") : NULL;
@@ -752,6 +819,7 @@ int main(int argc, char **argv)
         return 2;
     fclose(file);
     SHOW(zak_version() == ZAK_API_VERSION);
+    statuses();
     cycles_of_closed();
     transfers_of_closed();
     calls_of_closed();
