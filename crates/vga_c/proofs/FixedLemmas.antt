@@ -1,6 +1,6 @@
 -- Bytes that are all 0.
-use Rattle.std.proofs.Common.{◌≡◌, ◌∙◌, ◌+◌, ◌*◌, ◌%◌, ◌<◌, ◌≤◌, ℕ, List, length, drop, replicate, ap, sym, subst}
-use Rattle.std.proofs.lemmas.List.{drop_all, drop_more, ext_get_or, get_or-replicate, length-replicate}
+use Rattle.std.proofs.Common.{◌≡◌, ◌∙◌, ◌<◌, ℕ, List, length, replicate, sym, subst}
+use Rattle.std.proofs.lemmas.List.{ext_get_or, get_or-replicate, length-replicate}
 use Rattle.std.specs.Prelude.{slice_index}
 use Rattle.vga_bits.specs.Bytes.{zeros}
 

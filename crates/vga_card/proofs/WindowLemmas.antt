@@ -4,7 +4,7 @@ use Rattle.std.specs.Prelude.{◌==◌, ◌&&◌, nat_lt, nat_le, if◌then◌el
 use Rattle.std.proofs.lemmas.Bool.{cases_lt, le-ltb}
 use Rattle.vga_host.specs.Host.{HostState}
 use Rattle.vga_host.specs.Graphics.{memory_map}
-use Rattle.vga_host.specs.Memory.Address.{is_decoded, is_memory_enabled, window_start, window_len}
+use Rattle.vga_host.specs.Memory.Address.{is_decoded}
 use Rattle.vga_card.specs.Card.{CardState}
 use Rattle.vga_host.specs.Memory.Read.{after_get, read_byte}
 use Rattle.vga_host.specs.Memory.Write.{after_put}
