@@ -20,7 +20,8 @@ const blocks = [...tutorial.matchAll(/^```(\w*)\n([^]*?)^```$/gm)]
   .filter(([, language]) => !language).map(([, , script]) => script);
 const { browser, folder } = await begun(), seen = [];
 
-const text = id => browser.value(`document.getElementById("${id}").innerText`);
+/** The text of an element. WebKit ends that of some with an empty line. */
+const text = id => browser.value(`document.getElementById("${id}").innerText.trimEnd()`);
 const wrong = () => browser.value("document.querySelector('.answer.wrong').textContent");
 const ready = () => browser.until(IDLE);
 const pause = () => browser.value("new Promise(done => setTimeout(done, 60))");
