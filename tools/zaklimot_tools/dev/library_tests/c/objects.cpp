@@ -1,10 +1,15 @@
 /* Calls a card by zaklimot.hpp: objects FONTS. Ends with status 0 where all is as it should be, and
  * else names the line. */
+#include <array>
 #include <cstdio>
 #include <cstring>
 #include <fstream>
 #include <iterator>
+#include <string_view>
 #include <type_traits>
+#if __cplusplus >= 202002L
+#include <span>
+#endif
 
 #include "zaklimot.hpp"
 
@@ -16,10 +21,53 @@
         } \
     } while (0)
 
+using zaklimot::bytes;
 using zaklimot::card;
+using room = zaklimot::span<std::uint8_t>;
+using words = zaklimot::span<std::uint32_t>;
 
 static_assert(!std::is_copy_constructible<card>::value && !std::is_copy_assignable<card>::value, "it is one card");
 static_assert(std::is_nothrow_move_constructible<card>::value && std::is_nothrow_move_assignable<card>::value, "it moves");
+
+/* What converts to a span of constant bytes, to one of bytes that are written, and to one of words. */
+template <typename From, bool IsRead, bool IsWritten, bool AreWords> static constexpr bool converts()
+{
+    static_assert(std::is_convertible_v<From, bytes> == IsRead, "to bytes that are read");
+    static_assert(std::is_convertible_v<From, room> == IsWritten, "to bytes that are written");
+    static_assert(std::is_convertible_v<From, words> == AreWords, "to words");
+    return true;
+}
+static_assert(converts<std::vector<std::uint8_t> &, true, true, false>(), "bytes");
+static_assert(converts<const std::vector<std::uint8_t> &, true, false, false>(), "they are constants");
+static_assert(converts<std::vector<std::uint8_t>, true, false, false>(), "it is gone after the call");
+static_assert(converts<std::vector<char> &, true, true, false>(), "bytes of another name");
+static_assert(converts<std::vector<signed char> &, true, true, false>(), "and of a third");
+static_assert(converts<std::array<std::byte, 4> &, true, true, false>(), "and of a fourth");
+static_assert(converts<std::array<const std::byte, 4> &, true, false, false>(), "constants");
+static_assert(converts<std::string &, true, true, false>(), "a string has bytes");
+static_assert(converts<const std::string &, true, false, false>(), "constants");
+static_assert(converts<std::string_view, true, false, false>(), "a view has constants");
+static_assert(converts<std::uint8_t (&)[4], true, true, false>(), "an array of C");
+static_assert(converts<const std::uint8_t (&)[4], true, false, false>(), "one of constants");
+static_assert(converts<char (&)[4], true, true, false>(), "a buffer of C");
+static_assert(converts<decltype("abc"), false, false, false>(), "it has a 0 at its end");
+static_assert(converts<std::vector<int> &, false, false, false>(), "int is no byte");
+static_assert(converts<std::vector<bool> &, false, false, false>(), "it has no memory of bool");
+static_assert(converts<std::vector<std::string> &, false, false, false>(), "strings are no bytes");
+static_assert(converts<int (&)[4], false, false, false>(), "nor are int in an array");
+static_assert(converts<int, false, false, false>(), "a number is no memory");
+static_assert(converts<std::uint8_t *, false, false, false>(), "nobody knows how long it is");
+static_assert(converts<std::vector<std::uint32_t> &, false, false, true>(), "words");
+static_assert(converts<std::uint32_t (&)[4], false, false, true>(), "an array of words");
+static_assert(converts<const std::uint32_t (&)[4], false, false, false>(), "they are constants");
+static_assert(converts<room, true, true, false>(), "what is written can be read");
+static_assert(converts<const room &, true, true, false>(), "the span is constant, and its bytes are not");
+static_assert(converts<bytes, true, false, false>(), "what is read can't be written");
+#if __cplusplus >= 202002L
+static_assert(converts<std::span<std::uint8_t>, true, true, false>(), "a span of the standard's");
+static_assert(converts<std::span<const char>, true, false, false>(), "one of constants");
+#endif
+static_assert(std::is_trivially_copyable_v<bytes>, "it is two numbers");
 
 /* The status that a call throws, or 0. */
 template <typename Call> static zak_status thrown(Call call)
@@ -103,6 +151,32 @@ static int example(zaklimot::bytes fonts)
     return 0;
 }
 
+/* Memory of each kind, in both directions. */
+static int spans(card &vga)
+{
+    zak_regs regs = {0x0013, 0, 0, 0};
+    vga.int10(regs);
+    const std::string text = "ab";
+    const std::vector<char> more = {'c', 'd'};
+    const std::uint8_t array[] = {'e', 'f'};
+    const std::array<std::byte, 2> last = {std::byte{'g'}, std::byte{'h'}};
+    HOLDS(vga.put_bytes(0xA0000, text) == 2 && vga.put_bytes(0xA0002, more) == 2);
+    HOLDS(vga.put_bytes(0xA0004, array) == 2 && vga.put_bytes(0xA0006, last) == 2);
+    HOLDS(vga.put_bytes(0xA0008, std::string_view("ij")) == 2);
+    std::string read(4, '-');
+    char buffer[3] = {'-', '-', '-'};
+    std::array<signed char, 3> others{};
+    HOLDS(vga.get_bytes(0xA0000, read) == 4 && read == "abcd");
+    HOLDS(vga.get_bytes(0xA0004, buffer) == 3 && std::memcmp(buffer, "efg", 3) == 0);
+    HOLDS(vga.get_bytes(0xA0007, others) == 3 && others[0] == 'h' && others[2] == 'j');
+    static std::uint32_t pixels[320 * 200];
+    HOLDS(vga.frame_words(pixels, 320).width == 320 && pixels[0] != pixels[10]);
+    HOLDS(words(pixels).size() == 64000 && words(pixels).end() == pixels + 64000);
+    const std::vector<std::uint8_t> empty;
+    HOLDS(bytes(empty).size() == 0 && bytes(empty).data() != nullptr);
+    return 0;
+}
+
 static int scripts(zaklimot::bytes fonts)
 {
     std::vector<std::uint8_t> script = zaklimot::assemble("int ax=3\nin 3CC");
@@ -126,7 +200,9 @@ int main(int argc, char **argv)
     const std::vector<std::uint8_t> glyphs(fonts.begin(), fonts.end());
     HOLDS(thrown([] { card none{zaklimot::bytes()}; }) == ZAK_FONT_SIZE);
     card first(glyphs), another(glyphs);
-    if (draw(first) || scripts(glyphs) || example(glyphs) || transfer(another))
+    card written(fonts);
+    HOLDS(written.save() == first.save());
+    if (draw(first) || scripts(glyphs) || example(glyphs) || transfer(another) || spans(written))
         return 1;
     std::vector<std::uint8_t> state = first.save();
     card second(std::move(first));
