@@ -476,11 +476,14 @@ class Card:
     def line(self, *, opaque: bool = False) -> ScanLine:
         """Lets the clock run to the end of the line under way, and returns its dots as words.
 
-            while not (line := card.line()).ends_frame:
+            while True:
+                line = card.line()
                 show(line.number, line.words)             # 32-bit numbers 00RRGGBB
+                if line.ends_frame:
+                    break
 
-        With `opaque` they are FFRRGGBB. They lie in the card's memory, until its next `line`,
-        `frame_xrgb` or `frame_words`.
+        A line without dots has no words. With `opaque` they are FFRRGGBB. They lie in the card's
+        memory, until its next `line`, `frame_xrgb` or `frame_words`.
         """
         told, room = s.zak_scan_line(), self._room(4 * s.WIDEST * s.HIGHEST, "xrgb")
         pointer = ctypes.cast(room.pointer, ctypes.POINTER(s.U32))
