@@ -242,14 +242,21 @@ public:
 
     std::vector<std::uint8_t> save()
     {
-        std::size_t len = 0;
-        check(zak_save_size(&raw_, &len));
-        std::vector<std::uint8_t> state(len);
-        check(zak_save(&raw_, state.data(), state.size(), &len));
+        std::vector<std::uint8_t> state(save_size());
+        save_into(state);
         return state;
     }
+    std::size_t save_size() { return read<std::size_t>(zak_save_size); }
+    /* Writes the state to the beginning of the span, and returns how many bytes it has. ZAK_MOST_STATE
+     * bytes are always enough, and ZAK_FIRST_STATE at the first dot of a frame. Allocates nothing. */
+    std::size_t save_into(span<std::uint8_t> into)
+    {
+        std::size_t len = 0;
+        check(zak_save(&raw_, into.data(), into.size(), &len));
+        return len;
+    }
     void restore(bytes state) { check(zak_restore(&raw_, state.data(), state.size())); }
-    /* Fills the span with the state, zeros, and a checksum at the end. */
+    /* Fills the whole span with the state, zeros, and a checksum at the end. Allocates nothing. */
     void save_fixed(span<std::uint8_t> into) { check(zak_save_fixed(&raw_, into.data(), into.size())); }
     void restore_fixed(bytes state) { check(zak_restore_fixed(&raw_, state.data(), state.size())); }
 

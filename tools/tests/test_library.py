@@ -215,7 +215,7 @@ class Page(unittest.TestCase):
         lines = "".join(re.findall(r"^  ```cpp\n(.*?)^  ```$", text, re.M | re.S)).splitlines()
         tried = [line.strip() for line in checks.OBJECTS.read_text("ascii").splitlines()]
         self.assertEqual(
-            (len(lines), [line for line in lines if line.strip() not in tried]), (5, [])
+            (len(lines), [line for line in lines if line.strip() not in tried]), (56, [])
         )
 
     def test_its_version_is_the_header_s(self) -> None:
@@ -787,7 +787,7 @@ class Bindings(Folder):
                 self.assertRegex(check(TOP, self.folder), "^(9|20) tests")
                 self.assertRaises(Wrong, check, TOP, self.folder)
         self.assertEqual(
-            list(bindings.programs_of_page()), [f"program_{number}" for number in range(3)]
+            list(bindings.programs_of_page()), [f"program_{number}" for number in range(4)]
         )
 
     def test_libraries_and_their_kinds(self) -> None:

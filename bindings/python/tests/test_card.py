@@ -13,14 +13,8 @@ from random import Random
 from typing import Callable
 
 import zaklimot
+from cards import card_in
 from zaklimot import Card
-
-
-def card_in(mode: int) -> Card:
-    """A card in a mode."""
-    card = Card()
-    card.int10(ax=mode)
-    return card
 
 
 class Cycles(unittest.TestCase):
@@ -613,68 +607,6 @@ class State(unittest.TestCase):
                 zaklimot.run("int ax=12\n" + script)[2:] if mode == 3 else zaklimot.run(script)[1:]
             )
             self.assertEqual([step.answer + "\n" for step in told][-len(dumps) :], dumps)
-
-
-class Snapshots(unittest.TestCase):
-    def setUp(self) -> None:
-        self.card = card_in(0x13)
-        self.addCleanup(self.card.__exit__)
-
-    def test_another_card_goes_on(self) -> None:
-        self.card.put(0xA0000, 0x0F)
-        self.card.advance(12_345)
-        state = self.card.save()
-        self.assertGreater(len(state), 265_086)
-        self.assertEqual(self.card.save_size(), len(state))
-        with Card() as other:
-            other.restore(bytearray(state))
-            self.assertEqual(other.save(), state)
-            self.assertEqual(other.frame().copy(), self.card.frame())
-            self.assertEqual(len(other.save()), 265_086)
-
-    def test_states_of_one_size(self) -> None:
-        self.card.put(0xA0000, 0x0F)
-        states = []
-        for dots in (0, 12_345, 100_000):
-            self.card.advance(dots)
-            states.append((self.card.save(), self.card.save_fixed(1_100_000)))
-        with Card() as other:
-            for state, fixed in states:
-                self.assertEqual((len(fixed), fixed[: len(state)]), (1_100_000, state))
-                self.assertEqual(zlib.adler32(fixed[:-4]), int.from_bytes(fixed[-4:], "little"))
-                other.restore_fixed(bytearray(fixed))
-                self.assertEqual(other.save(), state)
-            for at in (0, 40, 1_099_995, 1_099_999):
-                damaged = bytearray(fixed)
-                damaged[at] ^= 4
-                with self.assertRaises(zaklimot.StateChecksum) as caught:
-                    other.restore_fixed(damaged)
-                self.assertEqual((caught.exception.number, other.save()), (34, state))
-        with self.assertRaises(zaklimot.NoRoom):
-            self.card.save_fixed(len(self.card.save()) + 3)
-        self.assertEqual(
-            len(self.card.save_fixed(len(self.card.save()) + 4)), len(self.card.save()) + 4
-        )
-
-    def test_other_bytes_are_refused(self) -> None:
-        state = self.card.save()
-
-        def damaged(at: int, value: int) -> bytes:
-            return state[:at] + bytes((value,)) + state[at + 1 :]
-
-        for kind, number, given in (
-            (zaklimot.StateMagic, 30, b""),
-            (zaklimot.StateMagic, 30, zaklimot.default_fonts()),
-            (zaklimot.StateVersion, 31, damaged(4, 2)),
-            (zaklimot.StateLength, 32, state[:-1]),
-            (zaklimot.StateLength, 32, state + b"\0"),
-            (zaklimot.StatePart, 33, damaged(40, 0xFF)),
-        ):
-            with self.subTest(kind), self.assertRaises(kind) as caught:
-                self.card.restore(given)
-            self.assertEqual(caught.exception.number, number)
-            self.assertIsInstance(caught.exception, (zaklimot.StateError, ValueError))
-        self.assertEqual(self.card.save(), state)
 
 
 class Opening(unittest.TestCase):

@@ -369,13 +369,13 @@ class Pages(unittest.TestCase):
                     with contextlib.redirect_stdout(io.StringIO()):
                         exec(block, names)
                 tried.add(name)
-        self.assertLessEqual({"line", "clock", "frame_words"}, tried)
+        self.assertLessEqual({"line", "save_into", "clock", "frame_words"}, tried)
         # The line that ends the frame is shown too.
         self.assertEqual(shown, list(range(449)))
 
     def test_programs_of_the_page_run(self) -> None:
         blocks = re.findall(r"^```python\n(.*?)^```$", PAGE.read_text("utf-8"), re.M | re.S)
-        self.assertEqual(len(blocks), 5)
+        self.assertEqual(len(blocks), 6)
         with tempfile.TemporaryDirectory() as name:
             for block in blocks:
                 told = run(

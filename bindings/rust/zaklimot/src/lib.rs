@@ -51,6 +51,10 @@ pub const MOST_DOTS: u32 = sys::ZAK_MOST_DOTS;
 pub const WIDEST: usize = sys::ZAK_WIDEST as usize;
 /// Rows of a picture, at most.
 pub const HIGHEST: usize = sys::ZAK_HIGHEST as usize;
+/// Bytes of a state at the first dot of a frame.
+pub const FIRST_STATE: usize = sys::ZAK_FIRST_STATE as usize;
+/// Bytes of a state at any dot, at most. [`Card::save_fixed`] takes four more.
+pub const MOST_STATE: usize = sys::ZAK_MOST_STATE as usize;
 
 /// The project's font, [`FONTS_SIZE`] bytes: the glyphs of the text modes in 8, 14 and 16 scan
 /// lines. It was beside the library when the crate was built.

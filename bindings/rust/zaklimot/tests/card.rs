@@ -4,7 +4,7 @@ use std::thread;
 
 use zaklimot::Direction::{Down, Up};
 use zaklimot::{assemble, fonts, run, Card, Cell, Error, Form, Position, Regs, Source};
-use zaklimot::{FONTS_SIZE, MOST_DOTS};
+use zaklimot::{FIRST_STATE, FONTS_SIZE, MOST_DOTS, MOST_STATE};
 
 fn card_in(mode: u16) -> Card {
     let mut card = Card::new().unwrap();
@@ -304,6 +304,31 @@ fn a_restored_card_goes_on() {
     damaged[4] = 1;
     damaged[40] = 0xFF;
     assert_eq!(other.restore(&damaged), Err(Error::StatePart));
+}
+
+#[test]
+fn states_go_into_the_callers_bytes() {
+    let mut card = card_in(0x0013);
+    card.put(0xA0000, 0x0F).unwrap();
+    for dots in [0, 640] {
+        card.advance(dots).unwrap();
+        let len = FIRST_STATE + 3 * dots as usize;
+        let (known, mut state) = (card.save().unwrap(), vec![0xEE; len + 5]);
+        assert_eq!((known.len(), card.save_size()), (len, Ok(len)));
+        assert_eq!(card.save_into(&mut state[..len - 1]), Err(Error::NoRoom));
+        assert_eq!(card.save_into(&mut []), Err(Error::NoRoom));
+        assert_eq!(card.save_fixed(&mut state[..len + 3]), Err(Error::NoRoom));
+        assert_eq!(card.save_fixed(&mut []), Err(Error::NoRoom));
+        assert!(state.iter().all(|&byte| byte == 0xEE));
+        assert_eq!(card.save_into(&mut state), Ok(len));
+        assert!(state[..len] == known && state[len..] == [0xEE; 5]);
+        card.save_fixed(&mut state).unwrap();
+        assert!(state[..len] == known && state[len] == 0);
+        let mut other = Card::new().unwrap();
+        other.restore_fixed(&state).unwrap();
+        assert!(other.save().unwrap() == known);
+    }
+    assert!(card.save_into(&mut vec![0; MOST_STATE]).is_ok());
 }
 
 #[test]

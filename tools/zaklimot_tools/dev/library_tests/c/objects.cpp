@@ -1,10 +1,13 @@
 /* Calls a card by zaklimot.hpp: objects FONTS. Ends with status 0 where all is as it should be, and
  * else names the line. */
+#include <algorithm>
 #include <array>
 #include <cstdio>
+#include <cstdlib>
 #include <cstring>
 #include <fstream>
 #include <iterator>
+#include <new>
 #include <string_view>
 #include <type_traits>
 #if __cplusplus >= 202002L
@@ -68,6 +71,19 @@ static_assert(converts<std::span<std::uint8_t>, true, true, false>(), "a span of
 static_assert(converts<std::span<const char>, true, false, false>(), "one of constants");
 #endif
 static_assert(std::is_trivially_copyable_v<bytes>, "it is two numbers");
+
+/* How often memory was asked for by new. */
+static std::size_t news;
+
+void *operator new(std::size_t size)
+{
+    news++;
+    if (void *made = std::malloc(size ? size : 1))
+        return made;
+    throw std::bad_alloc();
+}
+void operator delete(void *made) noexcept { std::free(made); }
+void operator delete(void *made, std::size_t) noexcept { std::free(made); }
 
 /* The status that a call throws, or 0. */
 template <typename Call> static zak_status thrown(Call call)
@@ -151,6 +167,124 @@ static int example(zaklimot::bytes fonts)
     return 0;
 }
 
+/* The core of docs/LIBRARY.md. */
+struct core {
+    zaklimot::card vga;
+    std::uint32_t left, owed = 0; // dots to the frame's end, and dots to let pass
+    std::size_t frames = 0;
+    zak_picture picture = {};
+    std::vector<std::uint32_t> pixels = std::vector<std::uint32_t>(ZAK_WIDEST * ZAK_HIGHEST);
+    std::vector<std::array<std::uint8_t, ZAK_FIRST_STATE>> states{60};
+
+    explicit core(zaklimot::bytes fonts) : vga(fonts), left(vga.clock().to_frame) {}
+
+    void settle() // before each cycle
+    {
+        while (owed >= left) {
+            owed -= left;
+            take_frame();
+        }
+        vga.advance(owed);
+        left -= owed;
+        owed = 0;
+    }
+
+    void take_frame()
+    {
+        try {
+            picture = vga.frame_words(pixels, ZAK_WIDEST);
+        } catch (const zaklimot::error &error) {
+            if (error.status() != ZAK_RAGGED)
+                throw;
+        }
+        vga.save_into(states[++frames % states.size()]);
+        left = vga.clock().to_frame;
+    }
+
+    void out(std::uint16_t port, std::uint8_t value)
+    {
+        settle();
+        try {
+            vga.out(port, value);
+        } catch (const zaklimot::error &) { // an open bus: the write is lost
+        }
+        left = vga.clock().to_frame;
+    }
+
+    void rewind(std::size_t count) // frames, fewer than there are states
+    {
+        frames -= count;
+        vga.restore(states[frames % states.size()]);
+        left = vga.clock().to_frame;
+        owed = 0;
+    }
+};
+
+static int emulate(zaklimot::bytes fonts)
+{
+    core machine(fonts);
+    zak_regs regs = {0x0013, 0, 0, 0};
+    machine.vga.int10(regs);
+    machine.left = machine.vga.clock().to_frame;
+    for (std::uint8_t value = 1; value <= 100; value++) {
+        machine.owed += 359200 / 2 + 7;
+        machine.settle();
+        machine.vga.put(0xA0000, value);
+        machine.out(0x60, 1);
+        machine.owed += 359200 / 2;
+    }
+    machine.settle();
+    HOLDS(machine.frames == 100 && machine.vga.beam().line == 0 && machine.vga.beam().dot == 4);
+    HOLDS(machine.left == 359200 - 700 && machine.picture.width == 320 && machine.picture.across == 2);
+    /* The byte was written when its dot had passed, so that the frame shows the one before. */
+    const zak_colour colour = machine.vga.colour(99);
+    HOLDS((machine.pixels[0] >> 18 & 63) == colour.red && (machine.pixels[0] >> 2 & 63) == colour.blue);
+    const std::size_t before = news;
+    machine.rewind(59);
+    HOLDS(machine.frames == 41 && machine.vga.get(0xA0000) == 41 && machine.left == 359200);
+    machine.take_frame();
+    HOLDS(news == before);
+    /* A frame whose rows differ in width passes, and the last picture stays. */
+    machine.vga.out_word(0x3D4, 0x0011);
+    machine.vga.out_word(0x3D4, 0x4F01);
+    machine.vga.advance(100000);
+    machine.vga.out_word(0x3D4, 0x2001);
+    machine.take_frame();
+    HOLDS(machine.frames == 43 && machine.picture.width == 320);
+    return 0;
+}
+
+/* A snapshot a frame, in memory that was asked for once. */
+static int snapshots(card &vga, card &other)
+{
+    std::vector<std::uint8_t> state(ZAK_FIRST_STATE + 4), known;
+    for (std::uint8_t value = 1; value < 4; value++) {
+        vga.put(0xA0000, value);
+        vga.skip_frame();
+        known = vga.save();
+        const std::size_t before = news;
+        HOLDS(vga.save_size() == ZAK_FIRST_STATE && vga.save_into(state) == ZAK_FIRST_STATE);
+        HOLDS(std::memcmp(state.data(), known.data(), known.size()) == 0);
+        other.restore({state.data(), ZAK_FIRST_STATE});
+        HOLDS(other.get(0xA0000) == value);
+        vga.save_fixed(state);
+        other.restore_fixed(state);
+        HOLDS(news == before);
+        HOLDS(other.save() == known);
+    }
+    /* At any other dot the state is longer, and what is too short stays as it was. */
+    vga.advance(640);
+    HOLDS(vga.save_size() == ZAK_FIRST_STATE + 3 * 640);
+    state.assign(vga.save_size() + 3, 0xEE);
+    known = state;
+    HOLDS(thrown([&] { vga.save_into({state.data(), state.size() - 4}); }) == ZAK_NO_ROOM);
+    HOLDS(thrown([&] { vga.save_into({}); }) == ZAK_NO_ROOM);
+    HOLDS(thrown([&] { vga.save_fixed(state); }) == ZAK_NO_ROOM && state == known);
+    HOLDS(vga.save_into(state) == state.size() - 3 && state[state.size() - 3] == 0xEE);
+    HOLDS(std::equal(state.begin(), state.end() - 3, vga.save().begin()));
+    return 0;
+}
+
 /* Memory of each kind, in both directions. */
 static int spans(card &vga)
 {
@@ -202,7 +336,8 @@ int main(int argc, char **argv)
     card first(glyphs), another(glyphs);
     card written(fonts);
     HOLDS(written.save() == first.save());
-    if (draw(first) || scripts(glyphs) || example(glyphs) || transfer(another) || spans(written))
+    if (draw(first) || scripts(glyphs) || example(glyphs) || transfer(another) || spans(written) ||
+        snapshots(another, written) || emulate(glyphs))
         return 1;
     std::vector<std::uint8_t> state = first.save();
     card second(std::move(first));
