@@ -316,6 +316,43 @@ class Frames(unittest.TestCase):
         self.card.close()
         self.assertEqual(second[0, 0], (63, 63, 63))
 
+    def test_copies_are_pickled(self) -> None:
+        lent = self.card.frame()
+        for picture in (lent, lent.copy()):
+            for other in (pickle.loads(pickle.dumps(picture)), copy.deepcopy(picture)):
+                self.assertEqual((other, other[639, 399]), (lent, (63, 63, 21)))
+        words = self.card.frame_words(bytearray(4 * 330 * 200), pitch=330, opaque=True)
+        rows = [list(row) for row in words.rows()]
+        for kept in (words.copy(), pickle.loads(pickle.dumps(words)), copy.copy(words.copy())):
+            self.assertEqual([list(row) for row in kept.rows()], rows)
+            told = (kept.width, kept.height, kept.pitch, kept.across, kept.down)
+            self.assertEqual((*told, kept[319, 199]), (320, 200, 320, 2, 2, 0xFFFF_FF55))
+        # The steps of a report keep their pictures.
+        report = zaklimot.run("int ax=13\nframe")
+        self.assertEqual(report[1].picture, self.card_at_power_on())
+        other = pickle.loads(pickle.dumps(report))
+        self.assertEqual((other.raw, other[1]), (report.raw, report[1]))
+
+    def card_at_power_on(self) -> zaklimot.Picture:
+        """The picture of a card in which mode 13 (hexadecimal) is set and nothing is drawn."""
+        with card_in(0x13) as card:
+            return card.frame().copy()
+
+    def test_copies_of_words_stay(self) -> None:
+        lent = self.card.frame_words()
+        kept = lent.copy()
+        self.card.put(0xA0000, 0x0F)
+        self.card.frame_words()
+        self.assertEqual((lent[0, 0], kept[0, 0], kept[319, 199]), (0x00FF_FFFF, 0, 0x00FF_FF55))
+
+    def test_x_and_y(self) -> None:
+        picture = self.card.frame()
+        place, other = (639, 399), (637, 399)
+        for x, y in (place, other):
+            red_green_blue = tuple(picture.pixels[y, x, part] for part in range(3))
+            self.assertEqual(picture[x, y], red_green_blue)
+        self.assertNotEqual(picture[place], picture[other])
+
     def test_a_buffer_of_the_callers(self) -> None:
         buffer = bytearray(b"\xee" * 768_001)
         picture = self.card.frame(into=buffer)
