@@ -245,6 +245,8 @@ fn main() {
     if !found.is_made {
         println!("cargo:rerun-if-changed={}", found.libraries.display());
     }
-    // For the build of crates that name this one: DEP_ZAKLIMOT_FONTS.
+    // For the build of crates that name this one: DEP_ZAKLIMOT_FONTS and DEP_ZAKLIMOT_HEADER.
     println!("cargo:fonts={}", found.fonts.display());
+    let own = PathBuf::from(of_cargo("CARGO_MANIFEST_DIR"));
+    println!("cargo:header={}", own.join("portable").join("zaklimot.h").display());
 }

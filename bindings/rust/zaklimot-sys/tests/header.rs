@@ -2,7 +2,8 @@
 
 use std::collections::BTreeSet;
 
-const HEADER: &str = include_str!("../../../../include/zaklimot.h");
+// The crate's own copy, so that the test runs in a packed crate too.
+const HEADER: &str = include_str!("../portable/zaklimot.h");
 const SOURCE: &str = include_str!("../src/lib.rs");
 
 /// The header without its comments.
