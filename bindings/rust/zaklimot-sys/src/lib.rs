@@ -8,6 +8,10 @@
 
 use core::ffi::c_void;
 
+#[cfg(doctest)]
+#[doc = include_str!("../README.md")]
+struct Readme;
+
 /// The kind of library that this crate was built with: `proved`, `portable`, or `unknown` if no
 /// file beside the library says it.
 pub const KIND: &str = match option_env!("ZAKLIMOT_KIND") {

@@ -26,6 +26,10 @@
 //! the repository is the guide, and `docs/LIBRARY.md` says what is proved.
 #![warn(missing_docs)]
 
+#[cfg(doctest)]
+#[doc = include_str!("../README.md")]
+struct Readme;
+
 mod card;
 mod error;
 mod picture;
