@@ -5,6 +5,8 @@
 //! of its caller. `tests/header.rs` compares these declarations with the header.
 #![no_std]
 #![allow(non_camel_case_types, missing_docs)]
+// The header writes its numbers without separators, and so does this crate.
+#![allow(clippy::unreadable_literal)]
 
 use core::ffi::c_void;
 

@@ -543,14 +543,12 @@ impl Card {
                     &mut len,
                 )
             };
-            match status {
-                sys::ZAK_NO_ROOM => script = vec![0; len],
-                _ => {
-                    done(status)?;
-                    script.truncate(len);
-                    return Ok(script);
-                }
+            if status != sys::ZAK_NO_ROOM {
+                done(status)?;
+                script.truncate(len);
+                return Ok(script);
             }
+            script = vec![0; len];
         }
     }
 

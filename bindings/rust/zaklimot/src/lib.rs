@@ -62,6 +62,7 @@ pub const MOST_STATE: usize = sys::ZAK_MOST_STATE as usize;
 
 /// The project's font, [`FONTS_SIZE`] bytes: the glyphs of the text modes in 8, 14 and 16 scan
 /// lines. It was beside the library when the crate was built.
+#[must_use]
 pub fn fonts() -> &'static [u8] {
     FONTS
 }
@@ -89,6 +90,7 @@ pub enum Library {
 /// ```
 /// println!("{:?}", zaklimot::library()); // Portable
 /// ```
+#[must_use]
 pub fn library() -> Library {
     match sys::KIND {
         "proved" => Library::Proved,
@@ -102,6 +104,7 @@ pub fn library() -> Library {
 /// ```
 /// assert_eq!(zaklimot::version().0, 1);
 /// ```
+#[must_use]
 pub fn version() -> (u32, u32) {
     // SAFETY: the call takes no arguments.
     let version = unsafe { sys::zak_version() };

@@ -85,10 +85,10 @@ fn cycles_of_a_call_are_the_call() {
 #[test]
 fn transfers_are_their_cycles() {
     let (mut card, mut other) = (card_in(0x0013), card_in(0x0013));
-    let screen: Vec<u8> = (0..64_000u32).map(|at| (at * 7 / 3) as u8).collect();
+    let screen: Vec<u8> = (0..64_000u32).map(|at| (at * 7 / 3).to_le_bytes()[0]).collect();
     assert_eq!(card.put_bytes(0xA0000, &screen, Up), Ok(64_000));
-    for (at, &value) in screen.iter().enumerate() {
-        other.put(0xA0000 + at as u32, value).unwrap();
+    for (address, &value) in (0xA0000..).zip(&screen) {
+        other.put(address, value).unwrap();
     }
     assert!(card.save() == other.save());
     let mut read = vec![0; 64_000];
@@ -148,6 +148,8 @@ fn transfers_end_at_the_last_address() {
 }
 
 #[test]
+// Rates are exact numbers.
+#[allow(clippy::float_cmp)]
 fn the_clock_tells_what_comes() {
     let mut card = card_in(0x0013);
     let clock = card.clock().unwrap();
@@ -187,7 +189,7 @@ fn what_is_refused_has_its_name() {
     assert_eq!(card.screen(), Err(Error::NoScreen));
     assert_eq!(card.show_cells(), Err(Error::NoMode));
     assert_eq!(card.plane(4, 0, &mut [0]), Err(Error::BadArgument));
-    assert_eq!(card.plane(0, 1, &mut [0; 65536]), Err(Error::BadArgument));
+    assert_eq!(card.plane(0, 1, &mut vec![0; 65536]), Err(Error::BadArgument));
     assert_eq!(card.show_plane(0, 0, 257), Err(Error::BadArgument));
     assert!(Error::TooFar.is_refusal() && !Error::NoScreen.is_refusal());
     assert_eq!(Card::open(&[]).map(|_| ()), Err(Error::FontSize));
