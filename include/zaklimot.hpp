@@ -52,13 +52,50 @@ inline void check(zak_status status, std::size_t place = 0)
         throw error(status, place);
 }
 
-/* Elements of somebody else's memory. Vectors, strings and arrays convert to a span. */
+namespace detail {
+template <typename U>
+inline constexpr bool is_byte = std::is_same_v<U, char> || std::is_same_v<U, signed char> ||
+                                std::is_same_v<U, unsigned char> || std::is_same_v<U, std::byte>;
+
+/* Whether memory of elements U may be lent as memory of elements T. */
+template <typename U, typename T>
+inline constexpr bool fits =
+    (std::is_same_v<std::remove_const_t<U>, std::remove_const_t<T>> ||
+     (is_byte<std::remove_const_t<U>> && std::is_same_v<std::remove_const_t<T>, std::uint8_t>)) &&
+    (std::is_const_v<T> || !std::is_const_v<U>);
+
+/* The same of the memory of a container: data() leads to it, and size() counts its elements. */
+template <typename C, typename T, typename = void> inline constexpr bool lends = false;
+template <typename C, typename T>
+inline constexpr bool
+    lends<C, T, std::enable_if_t<std::is_pointer_v<decltype(std::declval<C &>().data())> &&
+                                 std::is_convertible_v<decltype(std::declval<C &>().size()), std::size_t>>> =
+        fits<std::remove_pointer_t<decltype(std::declval<C &>().data())>, T>;
+} // namespace detail
+
+/* Elements of somebody else's memory. Arrays of C convert to a span, and so does what has data() and
+ * size(), such as std::vector, std::array, std::string and other spans. The elements are of the
+ * span's type. For bytes, they may also be char, signed char or std::byte. A span that a call writes
+ * to takes neither constants nor temporary containers. A literal "text" does not convert, since an
+ * array of it has a 0 at its end: write std::string_view("text"). */
 template <typename T> class span {
 public:
     span() noexcept : data_(&nothing()), size_(0) {}
     span(T *data, std::size_t size) noexcept : data_(data ? data : &nothing()), size_(data ? size : 0) {}
-    template <typename C, typename = decltype(std::declval<C &>().data())>
-    span(C &&from) noexcept : span(from.data(), from.size()) {}
+    template <typename U, std::size_t N, typename = std::enable_if_t<detail::fits<U, T>>>
+    span(U (&from)[N]) noexcept : span(reinterpret_cast<T *>(from), N)
+    {
+    }
+    template <std::size_t N> span(const char (&)[N]) = delete;
+    template <typename C, typename = std::enable_if_t<detail::lends<C, T>>>
+    span(C &from) noexcept : span(reinterpret_cast<T *>(from.data()), static_cast<std::size_t>(from.size()))
+    {
+    }
+    template <typename C, typename = std::enable_if_t<detail::lends<const C, T>>>
+    span(const C &from) noexcept
+        : span(reinterpret_cast<T *>(from.data()), static_cast<std::size_t>(from.size()))
+    {
+    }
     T *data() const noexcept { return data_; }
     std::size_t size() const noexcept { return size_; }
     T *begin() const noexcept { return data_; }
@@ -215,14 +252,21 @@ public:
 
     std::vector<std::uint8_t> save()
     {
-        std::size_t len = 0;
-        check(zak_save_size(&raw_, &len));
-        std::vector<std::uint8_t> state(len);
-        check(zak_save(&raw_, state.data(), state.size(), &len));
+        std::vector<std::uint8_t> state(save_size());
+        save_into(state);
         return state;
     }
+    std::size_t save_size() { return read<std::size_t>(zak_save_size); }
+    /* Writes the state to the beginning of the span, and returns how many bytes it has. ZAK_MOST_STATE
+     * bytes are always enough, and ZAK_FIRST_STATE at the first dot of a frame. Allocates nothing. */
+    std::size_t save_into(span<std::uint8_t> into)
+    {
+        std::size_t len = 0;
+        check(zak_save(&raw_, into.data(), into.size(), &len));
+        return len;
+    }
     void restore(bytes state) { check(zak_restore(&raw_, state.data(), state.size())); }
-    /* Fills the span with the state, zeros, and a checksum at the end. */
+    /* Fills the whole span with the state, zeros, and a checksum at the end. Allocates nothing. */
     void save_fixed(span<std::uint8_t> into) { check(zak_save_fixed(&raw_, into.data(), into.size())); }
     void restore_fixed(bytes state) { check(zak_restore_fixed(&raw_, state.data(), state.size())); }
 

@@ -215,7 +215,7 @@ class Page(unittest.TestCase):
         lines = "".join(re.findall(r"^  ```cpp\n(.*?)^  ```$", text, re.M | re.S)).splitlines()
         tried = [line.strip() for line in checks.OBJECTS.read_text("ascii").splitlines()]
         self.assertEqual(
-            (len(lines), [line for line in lines if line.strip() not in tried]), (5, [])
+            (len(lines), [line for line in lines if line.strip() not in tried]), (56, [])
         )
 
     def test_its_version_is_the_header_s(self) -> None:
@@ -510,15 +510,16 @@ class Whole(Folder):
         self.assertIn(
             "add_subdirectory(portable)", (self.folder / "CMakeLists.txt").read_text("ascii")
         )
-        crate, source = (
-            "bindings/rust/zaklimot-sys/portable",
-            self.folder / "portable" / "zaklimot.c",
-        )
+        crate, source = "bindings/rust/zaklimot-sys", self.folder / "portable" / "zaklimot.c"
         for copy, file in (
-            ("zaklimot.c", source),
-            ("zaklimot.h", self.folder / "include/zaklimot.h"),
+            (f"{crate}/portable/zaklimot.c", "portable/zaklimot.c"),
+            (f"{crate}/portable/zaklimot.h", "include/zaklimot.h"),
+            (f"{crate}/portable/zaklimot.fnt", "fonts/zaklimot.fnt"),
+            (f"{crate}/LICENSE", "LICENSE"),
+            ("bindings/rust/zaklimot/LICENSE", "LICENSE"),
         ):
-            self.assertTrue((self.folder / crate / copy).read_bytes() == file.read_bytes(), copy)
+            copied, own = ((self.folder / place).read_bytes() for place in (copy, file))
+            self.assertTrue(copied == own, copy)
         backend = self.folder / "bindings" / "python" / "building.py"
         asking = f"import runpy; print(runpy.run_path({str(backend)!r})['part']('zaklimot.c'))"
         self.assertEqual(ended(sys.executable, "-c", asking), (0, f"{source}\n", ""))
@@ -787,7 +788,7 @@ class Bindings(Folder):
                 self.assertRegex(check(TOP, self.folder), "^(9|20) tests")
                 self.assertRaises(Wrong, check, TOP, self.folder)
         self.assertEqual(
-            list(bindings.programs_of_page()), [f"program_{number}" for number in range(3)]
+            list(bindings.programs_of_page()), [f"program_{number}" for number in range(4)]
         )
 
     def test_libraries_and_their_kinds(self) -> None:
@@ -845,30 +846,49 @@ class OneFile(Folder):
                 self.assertRaisesRegex(Wrong, told, portable._check_options, self.folder)
 
     def test_a_crate_without_a_file_and_another_library(self) -> None:
-        names = [
-            "portable/zaklimot.c",
-            "portable/zaklimot.h",
-            "portable/zaklimot.fnt",
-            "src/lib.rs",
-        ]
-        told = f"portable {portable.number()}\n"
-        for packed, said, wrong in (
-            (names, told, None),
-            (names[1:], told, "has no file portable/zaklimot.c$"),
-            (names, "proved 65541\n", "writes proved 65541$"),
-            (names, "portable 65540\n", "writes portable 65540$"),
+        told, tested = (
+            f"portable {portable.number()}\n",
+            "test result: ok. {} passed; 0 failed; 0 ignored\n",
+        )
+        for cargo, without, said, count, wrong in (
+            ("1.95.0", "", told, 20, None),
+            ("1.65.0", "", told, 4, None),
+            ("1.95.0", "portable/zaklimot.c", told, 20, "has no file portable/zaklimot.c$"),
+            ("1.65.0", "portable/zaklimot.fnt", told, 4, "has no file portable/zaklimot.fnt$"),
+            ("1.95.0", "LICENSE", told, 20, "has no file LICENSE$"),
+            ("1.95.0", "examples/slices.rs", told, 20, "has no file examples/slices.rs$"),
+            ("1.95.0", "tests/header.rs", told, 20, "has no file tests/header.rs$"),
+            ("1.95.0", "", "proved 65541\n", 20, "writes proved 65541$"),
+            ("1.95.0", "", "portable 65540\n", 20, "writes portable 65540$"),
+            ("1.95.0", "", told, 19, "19 tests run"),
+            ("1.65.0", "", told, 3, "3 tests run"),
         ):
             folder = self.folder / f"crate-{len(list(self.folder.iterdir()))}"
-            package = folder / "packing" / "package"
-            package.mkdir(parents=True)
-            with tarfile.open(package / "zaklimot-sys-1.6.0.crate", "w:gz") as archive:
-                for name in packed:
-                    archive.addfile(tarfile.TarInfo(f"zaklimot-sys-1.6.0/{name}"))
-            with mock.patch.object(portable, "run", mock.Mock(return_value=said)):
+            answers = {
+                "--version": f"cargo {cargo} (x)\n",
+                "run": said,
+                "test": tested.format(count),
+            }
+            crates = [portable.SYS, portable.SAFE][: 2 if "1.95" in cargo else 1]
+            self.pack(folder, crates, without)
+            with self.subTest(wrong or cargo), mock.patch.object(
+                portable, "run", lambda words, **_: answers.get(words[1], "")
+            ):
                 if wrong is None:
-                    self.assertIn("outside the repository", portable.check_crate(TOP, folder))
+                    came = portable.check_crate(TOP, folder)
+                    self.assertIn(f"outside the repository: {count} tests", came)
+                    self.assertEqual("zaklimot is left out" in came, len(crates) == 1)
                 else:
                     self.assertRaisesRegex(Wrong, wrong, portable.check_crate, TOP, folder)
+
+    def pack(self, folder: Path, crates: list[str], without: str) -> None:
+        """Lays packed crates whose files are empty, without one."""
+        package = folder / "packing" / "package"
+        package.mkdir(parents=True)
+        for crate in crates:
+            with tarfile.open(package / f"{crate}-1.6.0.crate", "w:gz") as archive:
+                for name in {*portable.HAVING, *portable.PACKED[crate]} - {without}:
+                    archive.addfile(tarfile.TarInfo(f"{crate}-1.6.0/{name}"))
 
 
 @unittest.skipUnless(shutil.which("rustc"), "rustc isn't installed")

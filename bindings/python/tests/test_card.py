@@ -13,14 +13,8 @@ from random import Random
 from typing import Callable
 
 import zaklimot
+from cards import card_in
 from zaklimot import Card
-
-
-def card_in(mode: int) -> Card:
-    """A card in a mode."""
-    card = Card()
-    card.int10(ax=mode)
-    return card
 
 
 class Cycles(unittest.TestCase):
@@ -322,6 +316,43 @@ class Frames(unittest.TestCase):
         self.card.close()
         self.assertEqual(second[0, 0], (63, 63, 63))
 
+    def test_copies_are_pickled(self) -> None:
+        lent = self.card.frame()
+        for picture in (lent, lent.copy()):
+            for other in (pickle.loads(pickle.dumps(picture)), copy.deepcopy(picture)):
+                self.assertEqual((other, other[639, 399]), (lent, (63, 63, 21)))
+        words = self.card.frame_words(bytearray(4 * 330 * 200), pitch=330, opaque=True)
+        rows = [list(row) for row in words.rows()]
+        for kept in (words.copy(), pickle.loads(pickle.dumps(words)), copy.copy(words.copy())):
+            self.assertEqual([list(row) for row in kept.rows()], rows)
+            told = (kept.width, kept.height, kept.pitch, kept.across, kept.down)
+            self.assertEqual((*told, kept[319, 199]), (320, 200, 320, 2, 2, 0xFFFF_FF55))
+        # The steps of a report keep their pictures.
+        report = zaklimot.run("int ax=13\nframe")
+        self.assertEqual(report[1].picture, self.card_at_power_on())
+        other = pickle.loads(pickle.dumps(report))
+        self.assertEqual((other.raw, other[1]), (report.raw, report[1]))
+
+    def card_at_power_on(self) -> zaklimot.Picture:
+        """The picture of a card in which mode 13 (hexadecimal) is set and nothing is drawn."""
+        with card_in(0x13) as card:
+            return card.frame().copy()
+
+    def test_copies_of_words_stay(self) -> None:
+        lent = self.card.frame_words()
+        kept = lent.copy()
+        self.card.put(0xA0000, 0x0F)
+        self.card.frame_words()
+        self.assertEqual((lent[0, 0], kept[0, 0], kept[319, 199]), (0x00FF_FFFF, 0, 0x00FF_FF55))
+
+    def test_x_and_y(self) -> None:
+        picture = self.card.frame()
+        place, other = (639, 399), (637, 399)
+        for x, y in (place, other):
+            red_green_blue = tuple(picture.pixels[y, x, part] for part in range(3))
+            self.assertEqual(picture[x, y], red_green_blue)
+        self.assertNotEqual(picture[place], picture[other])
+
     def test_a_buffer_of_the_callers(self) -> None:
         buffer = bytearray(b"\xee" * 768_001)
         picture = self.card.frame(into=buffer)
@@ -613,68 +644,6 @@ class State(unittest.TestCase):
                 zaklimot.run("int ax=12\n" + script)[2:] if mode == 3 else zaklimot.run(script)[1:]
             )
             self.assertEqual([step.answer + "\n" for step in told][-len(dumps) :], dumps)
-
-
-class Snapshots(unittest.TestCase):
-    def setUp(self) -> None:
-        self.card = card_in(0x13)
-        self.addCleanup(self.card.__exit__)
-
-    def test_another_card_goes_on(self) -> None:
-        self.card.put(0xA0000, 0x0F)
-        self.card.advance(12_345)
-        state = self.card.save()
-        self.assertGreater(len(state), 265_086)
-        self.assertEqual(self.card.save_size(), len(state))
-        with Card() as other:
-            other.restore(bytearray(state))
-            self.assertEqual(other.save(), state)
-            self.assertEqual(other.frame().copy(), self.card.frame())
-            self.assertEqual(len(other.save()), 265_086)
-
-    def test_states_of_one_size(self) -> None:
-        self.card.put(0xA0000, 0x0F)
-        states = []
-        for dots in (0, 12_345, 100_000):
-            self.card.advance(dots)
-            states.append((self.card.save(), self.card.save_fixed(1_100_000)))
-        with Card() as other:
-            for state, fixed in states:
-                self.assertEqual((len(fixed), fixed[: len(state)]), (1_100_000, state))
-                self.assertEqual(zlib.adler32(fixed[:-4]), int.from_bytes(fixed[-4:], "little"))
-                other.restore_fixed(bytearray(fixed))
-                self.assertEqual(other.save(), state)
-            for at in (0, 40, 1_099_995, 1_099_999):
-                damaged = bytearray(fixed)
-                damaged[at] ^= 4
-                with self.assertRaises(zaklimot.StateChecksum) as caught:
-                    other.restore_fixed(damaged)
-                self.assertEqual((caught.exception.number, other.save()), (34, state))
-        with self.assertRaises(zaklimot.NoRoom):
-            self.card.save_fixed(len(self.card.save()) + 3)
-        self.assertEqual(
-            len(self.card.save_fixed(len(self.card.save()) + 4)), len(self.card.save()) + 4
-        )
-
-    def test_other_bytes_are_refused(self) -> None:
-        state = self.card.save()
-
-        def damaged(at: int, value: int) -> bytes:
-            return state[:at] + bytes((value,)) + state[at + 1 :]
-
-        for kind, number, given in (
-            (zaklimot.StateMagic, 30, b""),
-            (zaklimot.StateMagic, 30, zaklimot.default_fonts()),
-            (zaklimot.StateVersion, 31, damaged(4, 2)),
-            (zaklimot.StateLength, 32, state[:-1]),
-            (zaklimot.StateLength, 32, state + b"\0"),
-            (zaklimot.StatePart, 33, damaged(40, 0xFF)),
-        ):
-            with self.subTest(kind), self.assertRaises(kind) as caught:
-                self.card.restore(given)
-            self.assertEqual(caught.exception.number, number)
-            self.assertIsInstance(caught.exception, (zaklimot.StateError, ValueError))
-        self.assertEqual(self.card.save(), state)
 
 
 class Opening(unittest.TestCase):

@@ -63,9 +63,11 @@ CALLS: dict[str, tuple[Any, ...]] = {
     "show_dac": (0,),
     "show_plane": (0, 0, 1),
     "save": (),
+    "save_into": (bytearray(1),),
     "save_size": (),
     "restore": (b"",),
     "save_fixed": (1,),
+    "save_fixed_into": (bytearray(1),),
     "restore_fixed": (b"",),
     "run_on": ("frame",),
     "close": (),
@@ -275,6 +277,8 @@ class Numbers(unittest.TestCase):
             for call in (self.card.frame, self.card.frame_xrgb, self.card.frame_words):
                 with self.subTest(wrong), self.assertRaises(TypeError):
                     call(into=wrong)
+            for name in ("save_into", "save_fixed_into"):
+                self.assert_raises(TypeError, name, (wrong,))
             if wrong != 5:
                 self.assert_raises(TypeError, "get_bytes", (0xA0000, wrong))
         odd = memoryview(bytearray(4 * 640 * 400 + 1))[1:]

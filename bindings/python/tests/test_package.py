@@ -3,7 +3,9 @@
 from __future__ import annotations
 
 import ast
+import contextlib
 import inspect
+import io
 import os
 import re
 import shutil
@@ -354,9 +356,26 @@ class Pages(unittest.TestCase):
             told = run(sys.executable, "-B", "-c", f"{begin}{block}\n{shown}")
             self.assertEqual(told.split(), [value for _, value in names])
 
+    def test_examples_of_methods_run(self) -> None:
+        """Each example of a method of Card, on a card in mode 13 (hexadecimal)."""
+        shown: list[int] = []
+        tried = set()
+        for name, method in inspect.getmembers(Card, inspect.isfunction):
+            for block in self.programs(inspect.cleandoc(method.__doc__ or "")):
+                with Card() as card:
+                    card.int10(ax=0x13)
+                    names = {"card": card, "zaklimot": zaklimot, "buffer": bytearray(320)}
+                    names["show"] = lambda number, words: shown.append(number)
+                    with contextlib.redirect_stdout(io.StringIO()):
+                        exec(block, names)
+                tried.add(name)
+        self.assertLessEqual({"line", "save_into", "clock", "frame_words"}, tried)
+        # The line that ends the frame is shown too.
+        self.assertEqual(shown, list(range(449)))
+
     def test_programs_of_the_page_run(self) -> None:
         blocks = re.findall(r"^```python\n(.*?)^```$", PAGE.read_text("utf-8"), re.M | re.S)
-        self.assertEqual(len(blocks), 5)
+        self.assertEqual(len(blocks), 6)
         with tempfile.TemporaryDirectory() as name:
             for block in blocks:
                 told = run(

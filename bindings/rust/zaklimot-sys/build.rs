@@ -38,7 +38,7 @@ fn fail(reason: &str) -> ! {
     std::process::exit(1);
 }
 
-/// What the folder has that ZAKLIMOT_DIR names.
+/// What the folder has that `ZAKLIMOT_DIR` names.
 fn in_folder(folder: &Path) -> Found {
     // Cargo builds each crate in its own folder, so a path from here on would name another one.
     if folder.is_relative() {
@@ -81,7 +81,8 @@ fn variable(text: &str, folder: &Path, name: &str) -> Option<String> {
 /// Of which kind a library is, as the file for `pkg-config` beside it tells.
 fn kind_in(text: &str, folder: &Path) -> String {
     let told = variable(text, folder, "kind").unwrap_or_default();
-    ["proved", "portable"].iter().find(|kind| **kind == told).unwrap_or(&UNKNOWN).to_string()
+    let known = ["proved", "portable"].into_iter().find(|kind| *kind == told);
+    known.unwrap_or(UNKNOWN).to_string()
 }
 
 /// Where files for `pkg-config` lie that a package installs.
@@ -245,6 +246,8 @@ fn main() {
     if !found.is_made {
         println!("cargo:rerun-if-changed={}", found.libraries.display());
     }
-    // For the build of crates that name this one: DEP_ZAKLIMOT_FONTS.
+    // For the build of crates that name this one: DEP_ZAKLIMOT_FONTS and DEP_ZAKLIMOT_HEADER.
     println!("cargo:fonts={}", found.fonts.display());
+    let own = PathBuf::from(of_cargo("CARGO_MANIFEST_DIR"));
+    println!("cargo:header={}", own.join("portable").join("zaklimot.h").display());
 }

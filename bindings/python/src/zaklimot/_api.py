@@ -66,7 +66,7 @@ from ._state import (
     Source,
     Timing,
 )
-from ._structs import FONTS_SIZE, HIGHEST, MOST_DOTS, WIDEST
+from ._structs import FIRST_STATE, FONTS_SIZE, HIGHEST, MOST_DOTS, MOST_STATE, WIDEST
 from ._version import VERSION
 
 __version__ = VERSION
@@ -143,6 +143,7 @@ __all__ = [
     "Colour",
     "CountPast",
     "Error",
+    "FIRST_STATE",
     "FONTS_SIZE",
     "FontSize",
     "GFX",
@@ -152,6 +153,7 @@ __all__ = [
     "LibraryMissing",
     "Lines",
     "MOST_DOTS",
+    "MOST_STATE",
     "NoMode",
     "NoRoom",
     "NoScreen",

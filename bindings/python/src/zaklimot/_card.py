@@ -14,7 +14,7 @@ from . import _structs as s
 from ._calls import Call
 from ._errors import BadArgument, Closed, error_of
 from ._library import default_fonts, loaded, read_fonts
-from ._memory import Room
+from ._memory import Room, given, lent, writable
 from ._numbers import BYTE, LONG, WORD, in_range
 from ._pictures import Colour, Lines, Picture, ScanLine, XrgbPicture
 from ._report import Report
@@ -53,19 +53,6 @@ def font_bytes(fonts: Fonts) -> bytes:
     if isinstance(fonts, (str, os.PathLike)):
         return read_fonts(fonts)  # type: ignore[arg-type]
     return bytes(memoryview(fonts))
-
-
-def _writable(buffer: Any, size: int) -> memoryview:
-    """A caller's buffer as bytes. TypeError if it is read-only or not contiguous, ValueError if it
-    is not aligned."""
-    view = memoryview(buffer)
-    if view.readonly or not view.c_contiguous:
-        raise TypeError("a buffer is to be writable and contiguous")
-    bytes_of = view.cast("B") if view.format != "B" or view.ndim != 1 else view
-    address = ctypes.addressof(ctypes.c_uint8.from_buffer(bytes_of)) if len(bytes_of) else 0
-    if address % size:
-        raise ValueError(f"a buffer is to begin at an address divisible by {size}")
-    return bytes_of
 
 
 @lru_cache(maxsize=8)
@@ -320,8 +307,8 @@ class Card:
         if `down` is true, the last byte first, like `rep movsb` of a processor with its direction
         flag set. Raises BadArgument if `address + len(data)` is above FFFFFFFF (hexadecimal).
         """
-        begin, given = in_range("address", address, LONG), bytes(memoryview(data))
-        return self._transfer("put_bytes", begin, given, len(given), bool(down))
+        begin = in_range("address", address, LONG)
+        return self._transfer("put_bytes", begin, *given(data), bool(down))
 
     def fill(self, address: int, value: int, count: int, down: bool = False) -> int:
         """Writes a byte, 0 to FF, to `count` addresses, and returns how many of them the adapter
@@ -360,9 +347,7 @@ class Card:
         try:
             count = index(count_or_buffer)
         except TypeError:
-            view = _writable(count_or_buffer, 1)
-            read = (s.U8 * len(view)).from_buffer(view)
-            return self._transfer("get_bytes", begin, read, len(view), bool(down))
+            return self._transfer("get_bytes", begin, *lent(count_or_buffer), bool(down))
         if not self._struct.is_open:
             raise Closed("the card is closed")
         if begin + in_range("count", count, LONG) > LONG:
@@ -476,11 +461,14 @@ class Card:
     def line(self, *, opaque: bool = False) -> ScanLine:
         """Lets the clock run to the end of the line under way, and returns its dots as words.
 
-            while not (line := card.line()).ends_frame:
+            while True:
+                line = card.line()
                 show(line.number, line.words)             # 32-bit numbers 00RRGGBB
+                if line.ends_frame:
+                    break
 
-        With `opaque` they are FFRRGGBB. They lie in the card's memory, until its next `line`,
-        `frame_xrgb` or `frame_words`.
+        A line without dots has no words. With `opaque` they are FFRRGGBB. They lie in the card's
+        memory, until its next `line`, `frame_xrgb` or `frame_words`.
         """
         told, room = s.zak_scan_line(), self._room(4 * s.WIDEST * s.HIGHEST, "xrgb")
         pointer = ctypes.cast(room.pointer, ctypes.POINTER(s.U32))
@@ -519,7 +507,7 @@ class Card:
         if into is None:
             room = self._room(size, name)
             return room.view, ctypes.cast(room.pointer, ctypes.POINTER(kind)), room.size
-        view = _writable(into, ctypes.sizeof(kind))
+        view = writable(into, ctypes.sizeof(kind))
         pointer = (kind * (len(view) // ctypes.sizeof(kind))).from_buffer(view)
         return view, pointer, len(view)
 
@@ -543,8 +531,8 @@ class Card:
         docs/SERVICES.md describes the functions. Raises NoMode to BadBlock, and BadHeight.
         """
         regs = _registers(ax, bx, cx, dx)
-        given, table, length = bytes(memoryview(block)), (s.U8 * s.MOST_TABLE)(), s.SIZE()
-        self._call("int10", _byref(regs), given, len(given), table, s.MOST_TABLE, _byref(length))
+        table, length = (s.U8 * s.MOST_TABLE)(), s.SIZE()
+        self._call("int10", _byref(regs), *given(block), table, s.MOST_TABLE, _byref(length))
         return Answer(regs.ax, regs.bx, regs.cx, regs.dx, bytes(table[: length.value]))
 
     def cycles(self, ax: int, bx: int = 0, cx: int = 0, dx: int = 0, block: Bytes = b"") -> bytes:
@@ -557,11 +545,11 @@ class Card:
         it gets the registers and the memory that `int10` leaves, but keeps its BIOS data. Raises
         what `int10` raises, and TooLong for more than 16,777,216 bytes.
         """
-        regs, given = _registers(ax, bx, cx, dx), bytes(memoryview(block))
+        regs, read = _registers(ax, bx, cx, dx), given(block)
         length, size = s.SIZE(), FIRST_CYCLES
         while True:
             script = (s.U8 * size)()
-            words = (_byref(regs), given, len(given), script, size, _byref(length))
+            words = (_byref(regs), *read, script, size, _byref(length))
             status = self._calls["cycles"](self._card, *words)
             if not status:
                 return bytes(memoryview(script)[: length.value])
@@ -713,6 +701,22 @@ class Card:
         self._call("save", room.pointer, room.size, _byref(length))
         return bytes(room.view[: length.value])
 
+    def save_into(self, buffer: Any) -> int:
+        """Writes the state to the beginning of your writable buffer, and returns how many bytes it
+        has.
+
+            buffer = bytearray(zaklimot.MOST_STATE)       # long enough at any dot
+            length = card.save_into(buffer)
+            card.restore(memoryview(buffer)[:length])     # the state that was saved
+
+        The buffer may be a bytearray, a memoryview or an array of numpy. No memory is allocated for
+        the state. Right after a frame it has `zaklimot.FIRST_STATE` bytes. Raises NoRoom if the
+        buffer is too short, and nothing is written there.
+        """
+        length = s.SIZE()
+        self._call("save", *lent(buffer), _byref(length))
+        return length.value
+
     def save_size(self) -> int:
         """How many bytes the state has now."""
         length = s.SIZE()
@@ -722,8 +726,7 @@ class Card:
     def restore(self, state: Bytes) -> None:
         """Restores a saved state. For other bytes it raises a StateError, and the card is
         unchanged."""
-        given = bytes(memoryview(state))
-        self._call("restore", given, len(given))
+        self._call("restore", *given(state))
 
     def save_fixed(self, length: int) -> bytes:
         """The state in `length` bytes: the state, zeros and a checksum, so that all states have one
@@ -735,11 +738,21 @@ class Card:
         self._call("save_fixed", into, length)
         return bytes(into)[:length]
 
+    def save_fixed_into(self, buffer: Any) -> int:
+        """Fills your writable buffer with the state, zeros and a checksum, as `save_fixed` returns
+        them, and returns how many bytes the buffer has.
+
+        No memory is allocated for them. Raises NoRoom if the buffer is too short, and nothing is
+        written there.
+        """
+        pointer, length = lent(buffer)
+        self._call("save_fixed", pointer, length)
+        return length
+
     def restore_fixed(self, state: Bytes) -> None:
         """Restores a state of `save_fixed`. For other bytes it raises a StateError, and the card is
         unchanged."""
-        given = bytes(memoryview(state))
-        self._call("restore_fixed", given, len(given))
+        self._call("restore_fixed", *given(state))
 
     def run_on(self, script: Any, first: int = 0, most: int = LONG) -> Report:
         """Skips the first `first` steps of a script, and takes at most `most` steps after them.

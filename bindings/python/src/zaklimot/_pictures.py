@@ -36,12 +36,14 @@ def _png(width: int, height: int, rgb: bytes) -> bytes:
 class Picture:
     """The picture of a frame: `height` rows of `width` dots, three bytes per dot, 0 to 63 each.
 
-    `data` is a memoryview of 3 * width * height bytes, rows from the top, dots from the left, red,
-    green and blue. `pixels` is the same memory with the shape (height, width, 3), so
-    `picture.pixels[y, x, 0]` is a red. With numpy, `numpy.asarray(picture)` is an array over the
-    same memory, without a copy.
+    `picture[x, y]` is the colour of a dot, x from the left first, as on a screen. `data` is a
+    memoryview of 3 * width * height bytes, rows from the top, dots from the left, red, green and
+    blue. `pixels` is the same memory with the shape (height, width, 3), as arrays of numpy have it:
+    there y comes first, and `picture.pixels[y, x, 0]` is the red of `picture[x, y]`. With numpy,
+    `numpy.asarray(picture)` is such an array over the same memory, without a copy.
 
-    A picture that `Card.frame` lends is valid until the card's next frame; `copy()` keeps it.
+    A picture that `Card.frame` lends is valid until the card's next frame; `copy()` keeps it. You
+    can also pickle a picture, and send it to another process: that makes a copy too.
     """
 
     def __init__(self, width: int, height: int, data: memoryview) -> None:
@@ -49,7 +51,7 @@ class Picture:
 
     @property
     def pixels(self) -> memoryview:
-        """The dots as a memoryview of the shape (height, width, 3)."""
+        """The dots as a memoryview of the shape (height, width, 3): `pixels[y, x, 0]` is a red."""
         return self.data.cast("B", shape=[self.height, self.width, 3])
 
     @property
@@ -59,7 +61,7 @@ class Picture:
 
     def __getitem__(self, place: tuple[int, int]) -> Colour:
         """`picture[x, y]` is the colour of the dot x from the left, y from the top. IndexError
-        outside."""
+        outside. `pixels` takes y first."""
         x, y = place
         if not (0 <= x < self.width and 0 <= y < self.height):
             raise IndexError(
@@ -76,7 +78,10 @@ class Picture:
 
     def copy(self) -> Picture:
         """A copy of the picture in memory of its own."""
-        return Picture(self.width, self.height, memoryview(bytes(self.data)))
+        return _picture_of(self.width, self.height, bytes(self.data))
+
+    def __reduce__(self) -> tuple[Any, ...]:
+        return _picture_of, (self.width, self.height, bytes(self.data))
 
     def __eq__(self, other: object) -> bool:
         if not isinstance(other, Picture):
@@ -97,15 +102,22 @@ class Picture:
         return _png(self.width, self.height, bytes(self.data).translate(_WIDENED))
 
 
+def _picture_of(width: int, height: int, rgb: bytes) -> Picture:
+    """A picture in memory of its own."""
+    return Picture(width, height, memoryview(rgb))
+
+
 class XrgbPicture:
     """The picture of a frame: a word 00RRGGBB or FFRRGGBB per pixel, eight bits per component.
 
     Each word stands for `across` dots of a line and `down` scan lines. Both are 1 in `frame_xrgb`.
 
-    `words` is a memoryview of 32-bit numbers; row y begins at `words[pitch * y]` and has `width` of
-    them. With numpy, `numpy.asarray(picture)` has the shape (height, width), without a copy.
+    `picture[x, y]` is the word of a pixel. `words` is a memoryview of 32-bit numbers; row y begins
+    at `words[pitch * y]` and has `width` of them. With numpy, `numpy.asarray(picture)` has the
+    shape (height, width), without a copy, and takes y first.
 
-    A picture in the card's own memory is valid until its next `frame_xrgb` or `frame_words`.
+    A picture in the card's own memory is valid until its next `frame_xrgb`, `frame_words` or
+    `line`; `copy()` keeps it. You can also pickle a picture, which makes a copy too.
     """
 
     def __init__(
@@ -126,7 +138,8 @@ class XrgbPicture:
         }
 
     def __getitem__(self, place: tuple[int, int]) -> int:
-        """`picture[x, y]` is the word of a dot. IndexError outside."""
+        """`picture[x, y]` is the word of a pixel, x from the left, y from the top. IndexError
+        outside."""
         x, y = place
         if not (0 <= x < self.width and 0 <= y < self.height):
             raise IndexError(
@@ -139,8 +152,24 @@ class XrgbPicture:
         for y in range(self.height):
             yield self.words[self.pitch * y : self.pitch * y + self.width]
 
+    def copy(self) -> XrgbPicture:
+        """A copy of the picture in memory of its own, with `width` words in a row."""
+        return _words_of(*self._parts())
+
+    def _parts(self) -> tuple[int, int, bytes, int, int]:
+        """What a copy is made of."""
+        return self.width, self.height, b"".join(self.rows()), self.across, self.down
+
+    def __reduce__(self) -> tuple[Any, ...]:
+        return _words_of, self._parts()
+
     def __repr__(self) -> str:
         return f"<XrgbPicture of {self.width} by {self.height} dots>"
+
+
+def _words_of(width: int, height: int, words: bytes, across: int, down: int) -> XrgbPicture:
+    """A picture in memory of its own."""
+    return XrgbPicture(width, height, width, memoryview(words).cast("I"), across, down)
 
 
 class ScanLine(NamedTuple):

@@ -5,8 +5,14 @@
 //! of its caller. `tests/header.rs` compares these declarations with the header.
 #![no_std]
 #![allow(non_camel_case_types, missing_docs)]
+// The header writes its numbers without separators, and so does this crate.
+#![allow(clippy::unreadable_literal)]
 
 use core::ffi::c_void;
+
+#[cfg(doctest)]
+#[doc = include_str!("../README.md")]
+struct Readme;
 
 /// The kind of library that this crate was built with: `proved`, `portable`, or `unknown` if no
 /// file beside the library says it.

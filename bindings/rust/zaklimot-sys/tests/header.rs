@@ -1,8 +1,10 @@
 //! The declarations of this crate against the header, text against text.
 
 use std::collections::BTreeSet;
+use std::fmt::Write;
 
-const HEADER: &str = include_str!("../../../../include/zaklimot.h");
+// The crate's own copy, so that the test runs in a packed crate too.
+const HEADER: &str = include_str!("../portable/zaklimot.h");
 const SOURCE: &str = include_str!("../src/lib.rs");
 
 /// The header without its comments.
@@ -94,10 +96,11 @@ fn fields(body: &str) -> String {
         for word in words.split(',').map(str::trim) {
             match word.split_once('[') {
                 Some((word, count)) => {
-                    text += &format!("pub {word}: [{name}; {}], ", count.trim_end_matches(']'))
+                    write!(text, "pub {word}: [{name}; {}], ", count.trim_end_matches(']'))
                 }
-                None => text += &format!("pub {word}: {name}, "),
+                None => write!(text, "pub {word}: {name}, "),
             }
+            .expect("a text takes more");
         }
     }
     text
@@ -195,14 +198,12 @@ fn product(known: &[(String, u32)], text: &str) -> Option<u32> {
 }
 
 fn number(known: &[(String, u32)], word: &str) -> Option<u32> {
-    match word.strip_prefix("ZAK_") {
-        Some(name) => known.iter().find(|(own, _)| own == name).map(|(_, value)| *value),
-        None => {
-            let digits = word.trim_end_matches('u');
-            match digits.strip_prefix("0x") {
-                Some(digits) => u32::from_str_radix(digits, 16).ok(),
-                None => digits.parse().ok(),
-            }
-        }
+    if let Some(name) = word.strip_prefix("ZAK_") {
+        return known.iter().find(|(own, _)| own == name).map(|(_, value)| *value);
+    }
+    let digits = word.trim_end_matches('u');
+    match digits.strip_prefix("0x") {
+        Some(digits) => u32::from_str_radix(digits, 16).ok(),
+        None => digits.parse().ok(),
     }
 }

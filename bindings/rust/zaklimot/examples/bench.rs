@@ -31,7 +31,7 @@ fn main() -> Result<(), Error> {
         card.int10(Regs::ax(mode), &[])?;
         println!("mode {mode:02X}");
         if mode != 0x03 {
-            best("put", 1_000_000, |at| card.put(0xA0000 + (at & 0x7FFF), at as u8))?;
+            best("put", 1_000_000, |at| card.put(0xA0000 + (at & 0x7FFF), at.to_le_bytes()[0]))?;
             best("get", 1_000_000, |at| card.get(0xA0000 + (at & 0x7FFF)).map(|_| ()))?;
         }
         best("frame", 200, |_| card.frame().map(|_| ()))?;

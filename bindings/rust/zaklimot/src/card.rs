@@ -543,14 +543,12 @@ impl Card {
                     &mut len,
                 )
             };
-            match status {
-                sys::ZAK_NO_ROOM => script = vec![0; len],
-                _ => {
-                    done(status)?;
-                    script.truncate(len);
-                    return Ok(script);
-                }
+            if status != sys::ZAK_NO_ROOM {
+                done(status)?;
+                script.truncate(len);
+                return Ok(script);
             }
+            script = vec![0; len];
         }
     }
 
@@ -719,12 +717,44 @@ impl Card {
     ///
     /// A card of this crate never returns one.
     pub fn save(&mut self) -> Result<Vec<u8>, Error> {
-        let mut len = 0;
-        done(unsafe { sys::zak_save_size(&mut self.raw, &mut len) })?;
-        let mut state = vec![0; len];
-        // SAFETY: `state` has as many bytes as its length says.
-        done(unsafe { sys::zak_save(&mut self.raw, state.as_mut_ptr(), state.len(), &mut len) })?;
+        let mut state = vec![0; self.save_size()?];
+        self.save_into(&mut state)?;
         Ok(state)
+    }
+
+    /// How many bytes the state has now: [`FIRST_STATE`](crate::FIRST_STATE) at the first dot of a
+    /// frame, and three more for each dot drawn since.
+    ///
+    /// # Errors
+    ///
+    /// A card of this crate never returns one.
+    pub fn save_size(&mut self) -> Result<usize, Error> {
+        read!(self, zak_save_size)
+    }
+
+    /// Writes the state to the beginning of the caller's bytes, and returns how many bytes it has.
+    /// [`MOST_STATE`](crate::MOST_STATE) bytes are always enough. Nothing is allocated.
+    ///
+    /// ```
+    /// use zaklimot::{Card, Regs, FIRST_STATE};
+    ///
+    /// let (mut card, mut state) = (Card::new()?, vec![0; FIRST_STATE]);
+    /// card.int10(Regs::ax(0x0013), &[])?;
+    /// card.frame()?;
+    /// let len = card.save_into(&mut state)?;
+    /// assert_eq!(len, FIRST_STATE); // right after a frame
+    /// card.restore(&state[..len])?;
+    /// # Ok::<(), zaklimot::Error>(())
+    /// ```
+    ///
+    /// # Errors
+    ///
+    /// [`Error::NoRoom`] if they are too few. Nothing is written then.
+    pub fn save_into(&mut self, state: &mut [u8]) -> Result<usize, Error> {
+        let (to, room, mut len) = (state.as_mut_ptr(), state.len(), 0);
+        // SAFETY: `state` has as many bytes as its length says.
+        done(unsafe { sys::zak_save(&mut self.raw, to, room, &mut len) })?;
+        Ok(len)
     }
 
     /// Restores a saved state.
@@ -737,7 +767,7 @@ impl Card {
     }
 
     /// Fills the caller's bytes with the state, zeros and a checksum, so that all states have one
-    /// size.
+    /// size. Nothing is allocated.
     ///
     /// ```
     /// use zaklimot::{Card, Error, Regs};
@@ -753,7 +783,7 @@ impl Card {
     ///
     /// # Errors
     ///
-    /// [`Error::NoRoom`] if they are too few.
+    /// [`Error::NoRoom`] if they are too few. Nothing is written then.
     pub fn save_fixed(&mut self, state: &mut [u8]) -> Result<(), Error> {
         done(unsafe { sys::zak_save_fixed(&mut self.raw, state.as_mut_ptr(), state.len()) })
     }

@@ -183,7 +183,7 @@ pub(crate) fn done_at(status: u32, place: usize) -> Result<(), Error> {
 mod tests {
     use super::*;
 
-    const HEADER: &str = include_str!("../../../../include/zaklimot.h");
+    const HEADER: &str = include_str!(env!("ZAKLIMOT_HEADER"));
 
     /// The Rust name of a status that has this name in the header.
     fn camel(name: &str) -> String {

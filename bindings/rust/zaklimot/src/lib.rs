@@ -26,6 +26,10 @@
 //! the repository is the guide, and `docs/LIBRARY.md` says what is proved.
 #![warn(missing_docs)]
 
+#[cfg(doctest)]
+#[doc = include_str!("../README.md")]
+struct Readme;
+
 mod card;
 mod error;
 mod picture;
@@ -51,9 +55,14 @@ pub const MOST_DOTS: u32 = sys::ZAK_MOST_DOTS;
 pub const WIDEST: usize = sys::ZAK_WIDEST as usize;
 /// Rows of a picture, at most.
 pub const HIGHEST: usize = sys::ZAK_HIGHEST as usize;
+/// Bytes of a state at the first dot of a frame.
+pub const FIRST_STATE: usize = sys::ZAK_FIRST_STATE as usize;
+/// Bytes of a state at any dot, at most. [`Card::save_fixed`] takes four more.
+pub const MOST_STATE: usize = sys::ZAK_MOST_STATE as usize;
 
 /// The project's font, [`FONTS_SIZE`] bytes: the glyphs of the text modes in 8, 14 and 16 scan
 /// lines. It was beside the library when the crate was built.
+#[must_use]
 pub fn fonts() -> &'static [u8] {
     FONTS
 }
@@ -81,6 +90,7 @@ pub enum Library {
 /// ```
 /// println!("{:?}", zaklimot::library()); // Portable
 /// ```
+#[must_use]
 pub fn library() -> Library {
     match sys::KIND {
         "proved" => Library::Proved,
@@ -94,6 +104,7 @@ pub fn library() -> Library {
 /// ```
 /// assert_eq!(zaklimot::version().0, 1);
 /// ```
+#[must_use]
 pub fn version() -> (u32, u32) {
     // SAFETY: the call takes no arguments.
     let version = unsafe { sys::zak_version() };

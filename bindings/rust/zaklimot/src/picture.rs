@@ -47,16 +47,19 @@ impl<'a> Picture<'a> {
     }
 
     /// Dots of a row.
+    #[must_use]
     pub fn width(&self) -> usize {
         self.size.width
     }
 
     /// Rows.
+    #[must_use]
     pub fn height(&self) -> usize {
         self.size.height
     }
 
     /// All bytes: rows from the top, dots from the left.
+    #[must_use]
     pub fn rgb(&self) -> &'a [u8] {
         self.rgb
     }
@@ -71,6 +74,7 @@ impl<'a> Picture<'a> {
     /// # Panics
     ///
     /// If the dot is outside the picture.
+    #[must_use]
     pub fn dot(&self, x: usize, y: usize) -> [u8; 3] {
         assert!(x < self.size.width && y < self.size.height, "({x}, {y}) is outside the picture");
         let at = 3 * (self.size.width * y + x);
@@ -78,6 +82,7 @@ impl<'a> Picture<'a> {
     }
 
     /// The picture as a Netpbm PPM (P6, at most 63), as reports have it.
+    #[must_use]
     pub fn ppm(&self) -> Vec<u8> {
         let mut ppm = format!("P6\n{} {}\n63\n", self.size.width, self.size.height).into_bytes();
         ppm.extend_from_slice(self.rgb);
@@ -102,32 +107,38 @@ impl<'a> XrgbPicture<'a> {
     }
 
     /// Dots of a line that a word stands for, 1 or 2.
+    #[must_use]
     pub fn across(&self) -> usize {
         self.across
     }
 
     /// Scan lines that a word stands for, 1 to 64.
+    #[must_use]
     pub fn down(&self) -> usize {
         self.down
     }
 
     /// Dots of a row.
+    #[must_use]
     pub fn width(&self) -> usize {
         self.size.width
     }
 
     /// Rows.
+    #[must_use]
     pub fn height(&self) -> usize {
         self.size.height
     }
 
     /// Words from the beginning of a row to the beginning of the next.
+    #[must_use]
     pub fn pitch(&self) -> usize {
         WIDEST
     }
 
     /// The words of all rows. Each row has [`pitch`](XrgbPicture::pitch) words, and the first
     /// `width` of them are the picture's.
+    #[must_use]
     pub fn pixels(&self) -> &'a [u32] {
         self.pixels
     }
@@ -163,11 +174,13 @@ impl<'a> Lines<'a> {
     }
 
     /// How many dots each of 1,024 lines has, 0 to 2,304.
+    #[must_use]
     pub fn widths(&self) -> &'a [u32] {
         self.widths
     }
 
     /// All dots, those of line 0 first.
+    #[must_use]
     pub fn rgb(&self) -> &'a [u8] {
         self.rgb
     }

@@ -19,10 +19,10 @@ fn other_form(call: OtherForm, given: &[u8]) -> Result<Vec<u8>, Error> {
         let status = unsafe {
             call(given.as_ptr(), given.len(), made.as_mut_ptr(), made.len(), &mut len, &mut place)
         };
-        match status {
-            sys::ZAK_NO_ROOM => made = vec![0; len],
-            _ => return done_at(status, place).map(|()| made),
+        if status != sys::ZAK_NO_ROOM {
+            return done_at(status, place).map(|()| made);
         }
+        made = vec![0; len];
     }
 }
 
@@ -94,13 +94,11 @@ pub fn run(script: &[u8], fonts: &[u8]) -> Result<Vec<u8>, Error> {
                 &mut place,
             )
         };
-        match status {
-            sys::ZAK_NO_ROOM => report = vec![0; len],
-            _ => {
-                done_at(status, place)?;
-                report.truncate(len);
-                return Ok(report);
-            }
+        if status != sys::ZAK_NO_ROOM {
+            done_at(status, place)?;
+            report.truncate(len);
+            return Ok(report);
         }
+        report = vec![0; len];
     }
 }

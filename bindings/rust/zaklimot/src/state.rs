@@ -140,6 +140,7 @@ read! {
 
 impl Timing {
     /// The exact number of dots per second.
+    #[must_use]
     pub fn dots_per_second(&self) -> f64 {
         f64::from(self.rate) / f64::from(self.rate_divisor)
     }
@@ -254,6 +255,7 @@ pub struct Regs {
 
 impl Regs {
     /// Registers with this AX; the others are 0.
+    #[must_use]
     pub fn ax(ax: u16) -> Regs {
         Regs { ax, ..Regs::default() }
     }

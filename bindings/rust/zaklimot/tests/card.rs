@@ -4,7 +4,7 @@ use std::thread;
 
 use zaklimot::Direction::{Down, Up};
 use zaklimot::{assemble, fonts, run, Card, Cell, Error, Form, Position, Regs, Source};
-use zaklimot::{FONTS_SIZE, MOST_DOTS};
+use zaklimot::{FIRST_STATE, FONTS_SIZE, MOST_DOTS, MOST_STATE};
 
 fn card_in(mode: u16) -> Card {
     let mut card = Card::new().unwrap();
@@ -85,10 +85,10 @@ fn cycles_of_a_call_are_the_call() {
 #[test]
 fn transfers_are_their_cycles() {
     let (mut card, mut other) = (card_in(0x0013), card_in(0x0013));
-    let screen: Vec<u8> = (0..64_000u32).map(|at| (at * 7 / 3) as u8).collect();
+    let screen: Vec<u8> = (0..64_000u32).map(|at| (at * 7 / 3).to_le_bytes()[0]).collect();
     assert_eq!(card.put_bytes(0xA0000, &screen, Up), Ok(64_000));
-    for (at, &value) in screen.iter().enumerate() {
-        other.put(0xA0000 + at as u32, value).unwrap();
+    for (address, &value) in (0xA0000..).zip(&screen) {
+        other.put(address, value).unwrap();
     }
     assert!(card.save() == other.save());
     let mut read = vec![0; 64_000];
@@ -148,6 +148,8 @@ fn transfers_end_at_the_last_address() {
 }
 
 #[test]
+// Rates are exact numbers.
+#[allow(clippy::float_cmp)]
 fn the_clock_tells_what_comes() {
     let mut card = card_in(0x0013);
     let clock = card.clock().unwrap();
@@ -187,7 +189,7 @@ fn what_is_refused_has_its_name() {
     assert_eq!(card.screen(), Err(Error::NoScreen));
     assert_eq!(card.show_cells(), Err(Error::NoMode));
     assert_eq!(card.plane(4, 0, &mut [0]), Err(Error::BadArgument));
-    assert_eq!(card.plane(0, 1, &mut [0; 65536]), Err(Error::BadArgument));
+    assert_eq!(card.plane(0, 1, &mut vec![0; 65536]), Err(Error::BadArgument));
     assert_eq!(card.show_plane(0, 0, 257), Err(Error::BadArgument));
     assert!(Error::TooFar.is_refusal() && !Error::NoScreen.is_refusal());
     assert_eq!(Card::open(&[]).map(|_| ()), Err(Error::FontSize));
@@ -304,6 +306,31 @@ fn a_restored_card_goes_on() {
     damaged[4] = 1;
     damaged[40] = 0xFF;
     assert_eq!(other.restore(&damaged), Err(Error::StatePart));
+}
+
+#[test]
+fn states_go_into_the_callers_bytes() {
+    let mut card = card_in(0x0013);
+    card.put(0xA0000, 0x0F).unwrap();
+    for dots in [0, 640] {
+        card.advance(dots).unwrap();
+        let len = FIRST_STATE + 3 * dots as usize;
+        let (known, mut state) = (card.save().unwrap(), vec![0xEE; len + 5]);
+        assert_eq!((known.len(), card.save_size()), (len, Ok(len)));
+        assert_eq!(card.save_into(&mut state[..len - 1]), Err(Error::NoRoom));
+        assert_eq!(card.save_into(&mut []), Err(Error::NoRoom));
+        assert_eq!(card.save_fixed(&mut state[..len + 3]), Err(Error::NoRoom));
+        assert_eq!(card.save_fixed(&mut []), Err(Error::NoRoom));
+        assert!(state.iter().all(|&byte| byte == 0xEE));
+        assert_eq!(card.save_into(&mut state), Ok(len));
+        assert!(state[..len] == known && state[len..] == [0xEE; 5]);
+        card.save_fixed(&mut state).unwrap();
+        assert!(state[..len] == known && state[len] == 0);
+        let mut other = Card::new().unwrap();
+        other.restore_fixed(&state).unwrap();
+        assert!(other.save().unwrap() == known);
+    }
+    assert!(card.save_into(&mut vec![0; MOST_STATE]).is_ok());
 }
 
 #[test]

@@ -36,7 +36,7 @@ RAN, SKIPPED = re.compile(r"^Ran (\d+) tests", re.M), re.compile(r"skipped '(.*)
 MAY_BE_SKIPPED = "numpy is not here"
 CRATES = "bindings/rust"
 # The crates, and what they name outside.
-COPIED = (CRATES, "examples/rust", "include", "portable", "fonts")
+COPIED = (CRATES, "include", "portable", "fonts")
 DONE = re.compile(r"^test result: ok\. (\d+) passed; 0 failed; 0 ignored", re.M)
 # The programs of the page, and the project that they become.
 PROGRAM = re.compile(r"^```rust\n(.*?)^```$", re.M | re.S)

@@ -9,6 +9,7 @@ import re
 import shutil
 import tarfile
 from pathlib import Path
+from typing import Mapping
 
 from zaklimot._file import PORTABLE
 from zaklimot_tools import TOP
@@ -27,21 +28,43 @@ QUICK = "-O0"
 BELOW = Path(__file__).resolve().parent / "below"
 # How a project takes it, and whether it asks for shared libraries.
 WAYS = {"add_subdirectory": "OFF", "FetchContent": "ON"}
-SYS = "zaklimot-sys"
-# A project that has the packed crate alone, and calls it.
+SYS, SAFE = "zaklimot-sys", "zaklimot"
+# What each packed crate has, beside its sources.
+HAVING = ("Cargo.toml", "LICENSE", "README.md", "build.rs")
+PACKED = {
+    SYS: (*(f"portable/zaklimot.{ending}" for ending in ("c", "h", "fnt")), "tests/header.rs"),
+    SAFE: (
+        *(f"examples/{name}.rs" for name in ("bench", "picture", "slices")),
+        *(f"tests/{name}.rs" for name in ("allocations", "card")),
+    ),
+}
+# From this version on cargo packs a crate with another of the workspace that nobody has published.
+WITH_OTHERS = (1, 90)
+# A workspace of the packed crates alone, with a program of its own.
+OUTSIDE = """[workspace]
+resolver = "2"
+members = [{members}, "using"]
+
+[patch.crates-io]
+{patches}
+
+[profile.test]
+opt-level = 1
+"""
 USING = """[package]
 name = "using"
 version = "0.1.0"
 edition = "2021"
 
 [dependencies]
-zaklimot-sys = { path = "../FOLDER" }
+zaklimot-sys = "{version}"
 """
 CALLING = """fn main() {
     // SAFETY: it takes nothing.
     println!("{} {}", zaklimot_sys::KIND, unsafe { zaklimot_sys::zak_version() });
 }
 """
+TESTED = re.compile(r"^test result: ok\. (\d+) passed; 0 failed; 0 ignored", re.M)
 
 
 def portable_library(folder: Path) -> Path:
@@ -62,33 +85,69 @@ def number() -> int:
     return 65536 * version().major + version().minor
 
 
+def _packs_with_others() -> bool:
+    """Whether this cargo packs both crates."""
+    told = re.match(r"cargo (\d+)\.(\d+)\.", run(["cargo", "--version"]))
+    return told is not None and (int(told[1]), int(told[2])) >= WITH_OTHERS
+
+
+def _unpacked(packed: Path, outside: Path) -> str:
+    """Unpacks a crate, which is to have all that its users read and test: the folder's name."""
+    with tarfile.open(packed) as archive:
+        members = {member.name.partition("/")[2]: member for member in archive.getmembers()}
+        crate = SYS if packed.name.startswith(SYS) else SAFE
+        for name in (*HAVING, *PACKED[crate]):
+            if name not in members or not members[name].isfile():
+                raise Wrong(f"{packed.name} has no file {name}")
+        for member in members.values():
+            archive.extract(member, outside)
+    return packed.name[: -len(".crate")]
+
+
+def _lay_outside(outside: Path, crates: Mapping[str, str]) -> None:
+    """Lays a workspace of the crates, whose folders are told by their names."""
+    members = ", ".join(f'"{folder}"' for folder in crates.values())
+    patches = "\n".join(f'{name} = {{ path = "{folder}" }}' for name, folder in crates.items())
+    using = outside / "using"
+    (using / "src").mkdir(parents=True)
+    (outside / "Cargo.toml").write_text(OUTSIDE.format(members=members, patches=patches), "ascii")
+    (using / "Cargo.toml").write_text(USING.format(version=version()), "ascii")
+    (using / "src" / "main.rs").write_text(CALLING, "ascii")
+
+
 def check_crate(tree: Path, folder: Path) -> str:
-    """What `cargo package` packs of the low crate is compiled and called outside the repository."""
+    """What `cargo package` packs of the crates is compiled, tested and called outside the
+    repository."""
     quick = {
         "ZAKLIMOT_DIR": "",
         "ZAKLIMOT_PORTABLE": "1",
         "CFLAGS": QUICK,
         "CARGO_TARGET_DIR": str(folder / "packing"),
+        "RUSTFLAGS": "-D warnings",
     }
-    words = ["--offline", "--allow-dirty", "--no-verify", "--package", SYS]
-    run(["cargo", "package", *words], folder=tree, environment=quick)
-    (packed,) = (folder / "packing" / "package").glob(f"{SYS}-*.crate")
-    with tarfile.open(packed) as archive:
-        members = {member.name.partition("/")[2]: member for member in archive.getmembers()}
-        for name in ("zaklimot.c", "zaklimot.h", "zaklimot.fnt"):
-            member = members.get(f"portable/{name}")
-            if member is None or not member.isfile():
-                raise Wrong(f"{packed.name} has no file portable/{name}")
-        for member in members.values():
-            archive.extract(member, folder / "outside")
-    using = folder / "outside" / "using"
-    (using / "src").mkdir(parents=True)
-    (using / "Cargo.toml").write_text(USING.replace("FOLDER", packed.stem), "ascii")
-    (using / "src" / "main.rs").write_text(CALLING, "ascii")
-    told = run(["cargo", "run", "--offline", "--quiet"], folder=using, environment=quick).strip()
+    which = ["--workspace"] if _packs_with_others() else ["--package", SYS]
+    words = ["--offline", "--allow-dirty", "--no-verify"]
+    run(["cargo", "package", *words, *which], folder=tree, environment=quick)
+    outside = folder / "outside"
+    packed = sorted((folder / "packing" / "package").glob("*.crate"))
+    crates = {
+        SYS if path.name.startswith(SYS) else SAFE: _unpacked(path, outside) for path in packed
+    }
+    _lay_outside(outside, crates)
+    program = ["cargo", "run", "--offline", "--quiet", "--package", "using"]
+    told = run(program, folder=outside, environment=quick).strip()
     if told != f"{PORTABLE} {number()}":
-        raise Wrong(f"a program with {packed.name} writes {told}")
-    return f"{packed.name} is compiled and called outside the repository"
+        raise Wrong(f"a program with {crates[SYS]} writes {told}")
+    output = run(
+        ["cargo", "test", "--offline", "--workspace", "--all-targets"],
+        folder=outside,
+        environment=quick,
+    )
+    count = sum(map(int, TESTED.findall(output)))
+    if count < (20 if SAFE in crates else 4):
+        raise Wrong(f"in the packed crates {count} tests run:\n{output[-2000:]}")
+    left = "" if SAFE in crates else f"; {SAFE} is left out, which cargo packs from 1.90 on"
+    return f"{' and '.join(crates.values())} outside the repository: {count} tests{left}"
 
 
 def check_cmake(_: Path, folder: Path) -> str:

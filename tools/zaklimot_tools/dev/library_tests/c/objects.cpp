@@ -1,10 +1,18 @@
 /* Calls a card by zaklimot.hpp: objects FONTS. Ends with status 0 where all is as it should be, and
  * else names the line. */
+#include <algorithm>
+#include <array>
 #include <cstdio>
+#include <cstdlib>
 #include <cstring>
 #include <fstream>
 #include <iterator>
+#include <new>
+#include <string_view>
 #include <type_traits>
+#if __cplusplus >= 202002L
+#include <span>
+#endif
 
 #include "zaklimot.hpp"
 
@@ -16,10 +24,66 @@
         } \
     } while (0)
 
+using zaklimot::bytes;
 using zaklimot::card;
+using room = zaklimot::span<std::uint8_t>;
+using words = zaklimot::span<std::uint32_t>;
 
 static_assert(!std::is_copy_constructible<card>::value && !std::is_copy_assignable<card>::value, "it is one card");
 static_assert(std::is_nothrow_move_constructible<card>::value && std::is_nothrow_move_assignable<card>::value, "it moves");
+
+/* What converts to a span of constant bytes, to one of bytes that are written, and to one of words. */
+template <typename From, bool IsRead, bool IsWritten, bool AreWords> static constexpr bool converts()
+{
+    static_assert(std::is_convertible_v<From, bytes> == IsRead, "to bytes that are read");
+    static_assert(std::is_convertible_v<From, room> == IsWritten, "to bytes that are written");
+    static_assert(std::is_convertible_v<From, words> == AreWords, "to words");
+    return true;
+}
+static_assert(converts<std::vector<std::uint8_t> &, true, true, false>(), "bytes");
+static_assert(converts<const std::vector<std::uint8_t> &, true, false, false>(), "they are constants");
+static_assert(converts<std::vector<std::uint8_t>, true, false, false>(), "it is gone after the call");
+static_assert(converts<std::vector<char> &, true, true, false>(), "bytes of another name");
+static_assert(converts<std::vector<signed char> &, true, true, false>(), "and of a third");
+static_assert(converts<std::array<std::byte, 4> &, true, true, false>(), "and of a fourth");
+static_assert(converts<std::array<const std::byte, 4> &, true, false, false>(), "constants");
+static_assert(converts<std::string &, true, true, false>(), "a string has bytes");
+static_assert(converts<const std::string &, true, false, false>(), "constants");
+static_assert(converts<std::string_view, true, false, false>(), "a view has constants");
+static_assert(converts<std::uint8_t (&)[4], true, true, false>(), "an array of C");
+static_assert(converts<const std::uint8_t (&)[4], true, false, false>(), "one of constants");
+static_assert(converts<char (&)[4], true, true, false>(), "a buffer of C");
+static_assert(converts<decltype("abc"), false, false, false>(), "it has a 0 at its end");
+static_assert(converts<std::vector<int> &, false, false, false>(), "int is no byte");
+static_assert(converts<std::vector<bool> &, false, false, false>(), "it has no memory of bool");
+static_assert(converts<std::vector<std::string> &, false, false, false>(), "strings are no bytes");
+static_assert(converts<int (&)[4], false, false, false>(), "nor are int in an array");
+static_assert(converts<int, false, false, false>(), "a number is no memory");
+static_assert(converts<std::uint8_t *, false, false, false>(), "nobody knows how long it is");
+static_assert(converts<std::vector<std::uint32_t> &, false, false, true>(), "words");
+static_assert(converts<std::uint32_t (&)[4], false, false, true>(), "an array of words");
+static_assert(converts<const std::uint32_t (&)[4], false, false, false>(), "they are constants");
+static_assert(converts<room, true, true, false>(), "what is written can be read");
+static_assert(converts<const room &, true, true, false>(), "the span is constant, and its bytes are not");
+static_assert(converts<bytes, true, false, false>(), "what is read can't be written");
+#if __cplusplus >= 202002L
+static_assert(converts<std::span<std::uint8_t>, true, true, false>(), "a span of the standard's");
+static_assert(converts<std::span<const char>, true, false, false>(), "one of constants");
+#endif
+static_assert(std::is_trivially_copyable_v<bytes>, "it is two numbers");
+
+/* How often memory was asked for by new. */
+static std::size_t news;
+
+void *operator new(std::size_t size)
+{
+    news++;
+    if (void *made = std::malloc(size ? size : 1))
+        return made;
+    throw std::bad_alloc();
+}
+void operator delete(void *made) noexcept { std::free(made); }
+void operator delete(void *made, std::size_t) noexcept { std::free(made); }
 
 /* The status that a call throws, or 0. */
 template <typename Call> static zak_status thrown(Call call)
@@ -103,6 +167,150 @@ static int example(zaklimot::bytes fonts)
     return 0;
 }
 
+/* The core of docs/LIBRARY.md. */
+struct core {
+    zaklimot::card vga;
+    std::uint32_t left, owed = 0; // dots to the frame's end, and dots to let pass
+    std::size_t frames = 0;
+    zak_picture picture = {};
+    std::vector<std::uint32_t> pixels = std::vector<std::uint32_t>(ZAK_WIDEST * ZAK_HIGHEST);
+    std::vector<std::array<std::uint8_t, ZAK_FIRST_STATE>> states{60};
+
+    explicit core(zaklimot::bytes fonts) : vga(fonts), left(vga.clock().to_frame) {}
+
+    void settle() // before each cycle
+    {
+        while (owed >= left) {
+            owed -= left;
+            take_frame();
+        }
+        vga.advance(owed);
+        left -= owed;
+        owed = 0;
+    }
+
+    void take_frame()
+    {
+        try {
+            picture = vga.frame_words(pixels, ZAK_WIDEST);
+        } catch (const zaklimot::error &error) {
+            if (error.status() != ZAK_RAGGED)
+                throw;
+        }
+        vga.save_into(states[++frames % states.size()]);
+        left = vga.clock().to_frame;
+    }
+
+    void out(std::uint16_t port, std::uint8_t value)
+    {
+        settle();
+        try {
+            vga.out(port, value);
+        } catch (const zaklimot::error &) { // an open bus: the write is lost
+        }
+        left = vga.clock().to_frame;
+    }
+
+    void rewind(std::size_t count) // frames, fewer than there are states
+    {
+        frames -= count;
+        vga.restore(states[frames % states.size()]);
+        left = vga.clock().to_frame;
+        owed = 0;
+    }
+};
+
+static int emulate(zaklimot::bytes fonts)
+{
+    core machine(fonts);
+    zak_regs regs = {0x0013, 0, 0, 0};
+    machine.vga.int10(regs);
+    machine.left = machine.vga.clock().to_frame;
+    for (std::uint8_t value = 1; value <= 100; value++) {
+        machine.owed += 359200 / 2 + 7;
+        machine.settle();
+        machine.vga.put(0xA0000, value);
+        machine.out(0x60, 1);
+        machine.owed += 359200 / 2;
+    }
+    machine.settle();
+    HOLDS(machine.frames == 100 && machine.vga.beam().line == 0 && machine.vga.beam().dot == 4);
+    HOLDS(machine.left == 359200 - 700 && machine.picture.width == 320 && machine.picture.across == 2);
+    /* The byte was written when its dot had passed, so that the frame shows the one before. */
+    const zak_colour colour = machine.vga.colour(99);
+    HOLDS((machine.pixels[0] >> 18 & 63) == colour.red && (machine.pixels[0] >> 2 & 63) == colour.blue);
+    const std::size_t before = news;
+    machine.rewind(59);
+    HOLDS(machine.frames == 41 && machine.vga.get(0xA0000) == 41 && machine.left == 359200);
+    machine.take_frame();
+    HOLDS(news == before);
+    /* A frame whose rows differ in width passes, and the last picture stays. */
+    machine.vga.out_word(0x3D4, 0x0011);
+    machine.vga.out_word(0x3D4, 0x4F01);
+    machine.vga.advance(100000);
+    machine.vga.out_word(0x3D4, 0x2001);
+    machine.take_frame();
+    HOLDS(machine.frames == 43 && machine.picture.width == 320);
+    return 0;
+}
+
+/* A snapshot a frame, in memory that was asked for once. */
+static int snapshots(card &vga, card &other)
+{
+    std::vector<std::uint8_t> state(ZAK_FIRST_STATE + 4), known;
+    for (std::uint8_t value = 1; value < 4; value++) {
+        vga.put(0xA0000, value);
+        vga.skip_frame();
+        known = vga.save();
+        const std::size_t before = news;
+        HOLDS(vga.save_size() == ZAK_FIRST_STATE && vga.save_into(state) == ZAK_FIRST_STATE);
+        HOLDS(std::memcmp(state.data(), known.data(), known.size()) == 0);
+        other.restore({state.data(), ZAK_FIRST_STATE});
+        HOLDS(other.get(0xA0000) == value);
+        vga.save_fixed(state);
+        other.restore_fixed(state);
+        HOLDS(news == before);
+        HOLDS(other.save() == known);
+    }
+    /* At any other dot the state is longer, and what is too short stays as it was. */
+    vga.advance(640);
+    HOLDS(vga.save_size() == ZAK_FIRST_STATE + 3 * 640);
+    state.assign(vga.save_size() + 3, 0xEE);
+    known = state;
+    HOLDS(thrown([&] { vga.save_into({state.data(), state.size() - 4}); }) == ZAK_NO_ROOM);
+    HOLDS(thrown([&] { vga.save_into({}); }) == ZAK_NO_ROOM);
+    HOLDS(thrown([&] { vga.save_fixed(state); }) == ZAK_NO_ROOM && state == known);
+    HOLDS(vga.save_into(state) == state.size() - 3 && state[state.size() - 3] == 0xEE);
+    HOLDS(std::equal(state.begin(), state.end() - 3, vga.save().begin()));
+    return 0;
+}
+
+/* Memory of each kind, in both directions. */
+static int spans(card &vga)
+{
+    zak_regs regs = {0x0013, 0, 0, 0};
+    vga.int10(regs);
+    const std::string text = "ab";
+    const std::vector<char> more = {'c', 'd'};
+    const std::uint8_t array[] = {'e', 'f'};
+    const std::array<std::byte, 2> last = {std::byte{'g'}, std::byte{'h'}};
+    HOLDS(vga.put_bytes(0xA0000, text) == 2 && vga.put_bytes(0xA0002, more) == 2);
+    HOLDS(vga.put_bytes(0xA0004, array) == 2 && vga.put_bytes(0xA0006, last) == 2);
+    HOLDS(vga.put_bytes(0xA0008, std::string_view("ij")) == 2);
+    std::string read(4, '-');
+    char buffer[3] = {'-', '-', '-'};
+    std::array<signed char, 3> others{};
+    HOLDS(vga.get_bytes(0xA0000, read) == 4 && read == "abcd");
+    HOLDS(vga.get_bytes(0xA0004, buffer) == 3 && std::memcmp(buffer, "efg", 3) == 0);
+    HOLDS(vga.get_bytes(0xA0007, others) == 3 && others[0] == 'h' && others[2] == 'j');
+    static std::uint32_t pixels[320 * 200];
+    HOLDS(vga.frame_words(pixels, 320).width == 320 && pixels[0] != pixels[10]);
+    HOLDS(words(pixels).size() == 64000 && words(pixels).end() == pixels + 64000);
+    const std::vector<std::uint8_t> empty;
+    HOLDS(bytes(empty).size() == 0 && bytes(empty).data() != nullptr);
+    return 0;
+}
+
 static int scripts(zaklimot::bytes fonts)
 {
     std::vector<std::uint8_t> script = zaklimot::assemble("int ax=3\nin 3CC");
@@ -126,7 +334,10 @@ int main(int argc, char **argv)
     const std::vector<std::uint8_t> glyphs(fonts.begin(), fonts.end());
     HOLDS(thrown([] { card none{zaklimot::bytes()}; }) == ZAK_FONT_SIZE);
     card first(glyphs), another(glyphs);
-    if (draw(first) || scripts(glyphs) || example(glyphs) || transfer(another))
+    card written(fonts);
+    HOLDS(written.save() == first.save());
+    if (draw(first) || scripts(glyphs) || example(glyphs) || transfer(another) || spans(written) ||
+        snapshots(another, written) || emulate(glyphs))
         return 1;
     std::vector<std::uint8_t> state = first.save();
     card second(std::move(first));

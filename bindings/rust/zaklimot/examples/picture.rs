@@ -1,6 +1,9 @@
 //! Sets mode 13, draws its 256 colours in another thread, and writes a picture:
 //! `picture PICTURE.ppm`.
 
+// `let .. else` would need Rust 1.65.
+#![allow(clippy::single_match_else)]
+
 use std::error::Error;
 use std::process::ExitCode;
 use std::{env, fs, thread};
@@ -9,7 +12,8 @@ use zaklimot::{Card, Direction::Up, Regs};
 
 fn draw(mut card: Card) -> Result<Vec<u8>, zaklimot::Error> {
     card.int10(Regs::ax(0x0013), &[])?;
-    let pixel = |at: u32| (at % 320 / 20 + 16 * (2 * (at / 320) / 25)) as u8;
+    let colour = |at: u32| at % 320 / 20 + 16 * (2 * (at / 320) / 25);
+    let pixel = |at| u8::try_from(colour(at)).expect("there are 256 colours");
     let screen: Vec<u8> = (0..64_000).map(pixel).collect();
     card.put_bytes(0xA0000, &screen, Up)?;
     Ok(card.frame()?.ppm())

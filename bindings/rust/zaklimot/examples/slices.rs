@@ -3,6 +3,9 @@
 //! Writes the printed text, and then the report of each slice of so many steps. After every
 //! slice it goes back and takes it once more, as a debugger does.
 
+// `let .. else` would need Rust 1.65.
+#![allow(clippy::single_match_else)]
+
 use std::error::Error;
 use std::io::{stdout, Write};
 use std::num::NonZeroU32;
@@ -26,7 +29,7 @@ fn slices(
         let again = card.run_on(script, first, steps)?;
         assert!(once == again);
         write(&again.report);
-        first += again.taken as u32;
+        first += u32::try_from(again.taken).expect("at most `steps` are taken");
         if again.taken < steps as usize {
             return Ok(());
         }
