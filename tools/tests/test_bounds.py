@@ -20,7 +20,9 @@ from zaklimot_tools.floppy import image
 from zaklimot_tools.floppy.table import HEADER, NAME, VERSION, Table, table_for
 from zaklimot_tools.images import holding, reading
 from zaklimot_tools.images.reading import image_of, size_of
-from zaklimot_tools.picture.mode import MODES, Fit, check_size
+from zaklimot_tools.picture.asked import Fit
+from zaklimot_tools.picture.fitting import check_size
+from zaklimot_tools.picture.mode import MODES
 from zaklimot_tools.report.cases import MOST_LISTED, read_cases
 from zaklimot_tools.report.report import Expected, Report
 

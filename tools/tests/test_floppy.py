@@ -20,12 +20,13 @@ from unittest import mock
 
 from zaklimot.format import Script
 from zaklimot_tools.core.processes import started
-from zaklimot_tools.dev.emulators.command import main as emulators
+from zaklimot_tools.dev.emulators.words import main as emulators
 from zaklimot_tools.dev.emulators.table_page import FIRST_MARK, LAST_MARK
 from zaklimot_tools.explain.faults import script_of
 from zaklimot_tools.floppy import image as images, running
 from zaklimot_tools.floppy.image import CODE, Run, image_for, read_image, read_record, report_lines
-from zaklimot_tools.floppy.running import DOSBOX, MACHINES
+from zaklimot_tools.floppy.asked import DOSBOX
+from zaklimot_tools.floppy.running import MACHINES
 from zaklimot_tools.floppy.table import reset_steps, table_for
 from zaklimot_tools.report.cases import read_cases
 from zaklimot_tools.report.places import SUITE

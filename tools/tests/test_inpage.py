@@ -17,7 +17,7 @@ from unittest import mock
 
 from zaklimot_tools.report.debugging import PAGE
 from zaklimot_tools.trace import inpage
-from zaklimot_tools.trace.recording import Deed
+from zaklimot_tools.trace.asked import SPEEDS, Deed
 
 from .tools import (
     PROGRAM as TESTED,
@@ -182,14 +182,14 @@ class Recorded(Folder):
 
     def test_speeds(self) -> None:
         file, cycles = self.write("a.com", bytes.fromhex("B800B88EC0 26A20000 FEC0 EBF8")), []
-        for speed in inpage.SPEEDS:
+        for speed in SPEEDS:
             self.record(file, "--seconds", "0.01", "--speed", speed, into=speed)
             cycles.append(self.trace(speed).count(" w m "))
         self.assertEqual(cycles, sorted(set(cycles)), "a faster processor makes more cycles")
         source = (PAGE.parent / "machine" / "machine.js").read_text("utf-8")
         table = re.search(r"export const SPEEDS = \{ (.*?) \};", source)
         assert table is not None
-        self.assertEqual(tuple(re.findall(r"(\w+): \d+", table[1])), inpage.SPEEDS)
+        self.assertEqual(tuple(re.findall(r"(\w+): \d+", table[1])), SPEEDS)
         self.assertIn(f'USUAL_SPEED = "{inpage.USUAL_SPEED}"', source)
 
     def test_wrong_files(self) -> None:

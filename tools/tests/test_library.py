@@ -32,7 +32,7 @@ from zaklimot_tools.core.version import (
     version_of,
     without_comments,
 )
-from zaklimot_tools.dev.library import command, making
+from zaklimot_tools.dev.library import making
 from zaklimot_tools.dev.library.making import (
     AARCH64,
     HEAP,
@@ -62,7 +62,7 @@ from zaklimot_tools.report.places import SUITE
 from zaklimot_tools.script import crates
 
 from .test_pages import broken
-from .tools import Folder, call, ended, hold, hold_undone, refused
+from .tools import Folder, call, ended, hold, hold_undone, refused, main_of
 
 
 TEXT = HEADER.read_text("ascii")
@@ -315,7 +315,7 @@ class Parts(Folder):
         }
         with mock.patch.multiple(release, **made):
             words = ["--program", given, "--archive", given, "--archive-aarch64", given]
-            status, output, said = call(release.main, self.folder, *words)
+            status, output, said = call(main_of("vga-release"), self.folder, *words)
         archive, sums, portable, others = map(Path, output.splitlines())
         self.assertEqual((status, said), (0, ""))
         for path, told in ((archive, sums), (portable, others)):
@@ -367,14 +367,14 @@ class Parts(Folder):
             "release_entries": ran,
         }
         with mock.patch.multiple(release, **made):
-            status, output, said = call(release.main, self.folder, "--portable")
-            again = call(release.main, self.folder / "again", "--portable")[1]
+            status, output, said = call(main_of("vga-release"), self.folder, "--portable")
+            again = call(main_of("vga-release"), self.folder / "again", "--portable")[1]
         self.assertEqual((status, said, len(output.splitlines())), (0, "", 2))
         first, second = (Path(told.splitlines()[0]).read_bytes() for told in (output, again))
         self.assertEqual(first, second)
         told = "^vga-release: --portable takes nothing that is built\n"
         words = ["--portable", "--program", self.write("given", "")]
-        hold_undone(self, call(release.main, self.folder, *words), told)
+        hold_undone(self, call(main_of("vga-release"), self.folder, *words), told)
 
     def test_links_of_a_commit_stay_links(self) -> None:
         with tempfile.TemporaryFile() as stream:
@@ -453,7 +453,7 @@ class Parts(Folder):
             told = (
                 "^vga-release: a release is made from a commit, and this is changed: M README.md\n$"
             )
-            hold_undone(self, call(release.main, "release"), told)
+            hold_undone(self, call(main_of("vga-release"), "release"), told)
 
 
 def sources() -> dict[str, Entry]:
@@ -646,7 +646,9 @@ class OtherProcessors(Folder):
 
     def make(self, name: str, *words: str) -> tuple[int, str, str]:
         """How the library for the other processor is made in a folder."""
-        return call(command.main, "make", self.folder / name, "--target", "aarch64", *words)
+        return call(
+            main_of("vga-library"), "make", self.folder / name, "--target", "aarch64", *words
+        )
 
     def test_what_is_run_and_what_is_laid(self) -> None:
         progress = mock.create_autospec(Progress, instance=True)
@@ -695,7 +697,7 @@ class OtherProcessors(Folder):
             "--target",
             "aarch64",
         ]
-        self.assertEqual(call(command.main, *words)[0], 0)
+        self.assertEqual(call(main_of("vga-library"), *words)[0], 0)
         self.assertEqual({words[0] for words in self.noted()}, set(AARCH64.programs()))
         self.assertIsNotNone(making.kept("llvm", AARCH64))
         with mock.patch.object(making, "HEAP", Path(__file__)):
@@ -809,8 +811,10 @@ class Bindings(Folder):
     def test_words_that_cannot_be_meant_and_what_is_lacking(self) -> None:
         with mock.patch.object(bindings, "lacking", lambda: []):
             for words in (["--proof", "folder"], ["--library", "no-such-folder"]):
-                hold_undone(self, call(bindings.main, *words), "^vga-bindings-tests: ")
-            self.assertEqual(call(bindings.main, "--ready"), (0, "", ""))
+                hold_undone(
+                    self, call(main_of("vga-bindings-tests"), *words), "^vga-bindings-tests: "
+                )
+            self.assertEqual(call(main_of("vga-bindings-tests"), "--ready"), (0, "", ""))
         with mock.patch("shutil.which", lambda name: None if "cargo" in name else name):
             told = (
                 "  cargo: install the package cargo\n  cargo-clippy: install the package"
@@ -818,7 +822,7 @@ class Bindings(Folder):
             )
             hold_undone(
                 self,
-                call(bindings.main, "--ready"),
+                call(main_of("vga-bindings-tests"), "--ready"),
                 f"^vga-bindings-tests: this machine lacks\n{told}",
             )
 

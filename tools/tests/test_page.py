@@ -47,7 +47,19 @@ from zaklimot_tools.report.debugging import DOCS, PAGE, data_element, page_data
 
 from .test_command import PICTURE, run
 from .test_run import Fake
-from .tools import BLACK, RED, Folder, call, hold, hold_refused, hold_undone, png_rows, ppm, refused
+from .tools import (
+    BLACK,
+    RED,
+    Folder,
+    call,
+    hold,
+    hold_refused,
+    hold_undone,
+    png_rows,
+    ppm,
+    refused,
+    main_of,
+)
 
 
 FRAME = f"<!DOCTYPE html>\n{MADE}\n{STYLE}\n{DATA}\n{SCRIPT}\n"
@@ -234,7 +246,7 @@ class Pages(Folder):
 
     def test_the_words_that_the_page_shares_with_the_tools(self) -> None:
         made = self.folder / "wordings.js"
-        status, _, said = call(command.main, "wordings", made)
+        status, _, said = call(main_of("vga-page"), "wordings", made)
         self.assertEqual((status, said), (0, ""))
         self.assertEqual(made.read_bytes(), (page.SOURCES / "script" / "wordings.js").read_bytes())
 
@@ -439,7 +451,7 @@ class Tests(Folder):
             Path(self.write("module", with_kit(module_of(Modules.right), "kit 1"))),
             self.folder / "page",
         )
-        status, output, _ = call(command.main, "make", made, "--module", module)
+        status, output, _ = call(main_of("vga-page"), "make", made, "--module", module)
         self.assertEqual(
             (status, tests_command.module_in(made.read_bytes())), (0, module.read_bytes())
         )
@@ -558,7 +570,7 @@ class Tests(Folder):
     def test_node_that_is_lacking_or_too_old(self) -> None:
         with mock.patch("shutil.which", return_value=None):
             told = "^vga-page-tests: node: it is not in the path: install the package nodejs\n"
-            hold_undone(self, call(tests_command.main), told)
+            hold_undone(self, call(main_of("vga-page-tests")), told)
         with mock.patch.multiple(tests_command, shutil=mock.Mock(), _answer=lambda _: "v16.20.2"):
             told = refused(tests_command.node_words)
         wanted = "node: it is v16.20.2, and the tests need 18 or newer: the package nodejs"

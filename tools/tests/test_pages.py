@@ -22,6 +22,7 @@ from zaklimot_tools.report.places import SUITE
 from zaklimot_tools.script.words import FONTS
 
 from .tools import (
+    main_of,
     EXAMPLES,
     TOOLS,
     TOP,
@@ -339,16 +340,16 @@ class Tutorial(unittest.TestCase):
         which = mock.Mock()
         with mock.patch.multiple(command, **fakes), mock.patch("shutil.which", which):
             which.side_effect = there.__contains__
-            status, output, said = call(command.main, "--browser")
+            status, output, said = call(main_of("vga-page-tests"), "--browser")
             self.assertEqual((status, said), (0, ""))
             told = "firefox: not tried: install firefox-esr\nwebkit: not tried: install xvfb\n"
             self.assertIn(told + "chromium: as it says in", output)
             there.clear()
             told = "no browser .*: for chromium install chromium; .* webkit2gtk-driver and xvfb\n$"
-            hold_undone(self, call(command.main, "--browser"), told)
+            hold_undone(self, call(main_of("vga-page-tests"), "--browser"), told)
             with mock.patch.object(command, "check_browser", side_effect=Wrong("the console")):
                 there.add("firefox")
-                self.assertEqual(call(command.main, "--browser")[0], 1)
+                self.assertEqual(call(main_of("vga-page-tests"), "--browser")[0], 1)
 
     def test_the_program_writes_the_script(self) -> None:
         environment = {**os.environ, "PYTHONPATH": str(TOP / "bindings" / "python" / "src")}

@@ -26,7 +26,7 @@ from zaklimot_tools.picture.colours import (
     middle_colours,
     outer_colours,
 )
-from zaklimot_tools.picture.command import main
+from zaklimot_tools.picture.words import main
 from zaklimot_tools.picture.mode import MODES
 from zaklimot_tools.picture.screen import MASKS, least_writes
 from zaklimot_tools.script.words import FONTS

@@ -23,7 +23,8 @@ from zaklimot_tools.dev.emulators.traces import row as row_of
 from zaklimot_tools.images.reading import image_of
 from zaklimot_tools.trace import recording
 from zaklimot_tools.trace.converting import Checked, Clocked, Written
-from zaklimot_tools.trace.recording import PHASES, Deed, Keeper, QemuMachine, Session
+from zaklimot_tools.trace.asked import Deed
+from zaklimot_tools.trace.recording import PHASES, Keeper, QemuMachine, Session
 from zaklimot_tools.trace.replaying import ALLOWED, PAGE, SEEN, Replay, Screen, whole_rows
 from zaklimot_tools.trace.state import State
 from zaklimot_tools.trace.step import ADVANCE, FRAME, IN, PUT, TraceStep

@@ -9,7 +9,7 @@ from unittest import mock
 
 from zaklimot_tools.dev.testing import style
 
-from .tools import TOP, Folder, call, hold_undone
+from .tools import TOP, Folder, call, hold_undone, main_of
 
 
 NOTING = 'printf "%s\\n" "${0##*/}" "$@" >> "$NOTES"\n'
@@ -24,7 +24,7 @@ class Style(Folder):
         given = {"PATH": path, "NOTES": str(self.folder / "notes")}
         system = mock.patch.object(style, "SYSTEM", str(self.folder / "bin"))
         with mock.patch.dict(os.environ, given), system:
-            return call(style.main, *words)
+            return call(main_of("vga-style"), *words)
 
     def test_each_judge_reads_all_python(self) -> None:
         done = self.judged(black="exit 0", flake8="exit 0", mypy="exit 0")

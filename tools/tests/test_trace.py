@@ -16,7 +16,7 @@ from unittest import mock
 
 from zaklimot_tools.core.trouble import Trouble
 from zaklimot_tools.trace import converting
-from zaklimot_tools.trace.command import main
+from zaklimot_tools.trace.words import main
 from zaklimot_tools.trace.converting import Listing, Pauses, Written, count, folded, with_flips
 from zaklimot_tools.trace.step import (
     ADVANCE,

@@ -50,6 +50,14 @@ PROGRAM = Path(os.environ.get(TESTED) or BUILT_PROGRAM)
 UNBUILT = "there is no program to test: tools/tests-of-tools compiles one, if there is a C compiler"
 
 
+# All tools but the one that is the program itself.
+NAMES = sorted(
+    path.name
+    for path in TOOLS.glob("*")
+    if path.is_file() and b"python3" in path.read_bytes()[:30] and path.name != "vga"
+)
+
+
 def main_of(name: str) -> Callable[[Sequence[str]], int]:
     """The `main` of a tool."""
     found = MAIN.search((TOOLS / name).read_text("utf-8"))

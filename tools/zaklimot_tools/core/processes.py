@@ -32,6 +32,7 @@ from typing import (
 )
 
 from .trouble import Trouble, Wrong
+from .words import MEBIBYTE
 
 
 IS_POSIX, IS_LINUX = os.name == "posix", sys.platform.startswith("linux")
@@ -41,7 +42,6 @@ FIRST_PAUSE, LONGEST_PAUSE = 0.0005, 0.05
 DRAINING = 5
 # Seconds for a program to end what it has started in groups of its own, once it is asked to.
 ENDING = 5
-MEBIBYTE = 1 << 20
 # So much of what a program says at last is told, in lines and as one line; and so much of its
 # output is kept at most.
 MOST_SAID, MOST_IN_LINE, MOST_KEPT = 2000, 600, 1 << 28

@@ -15,7 +15,7 @@ from typing import Iterator, Optional, Sequence
 
 from zaklimot.format import FAULT, MOST_BYTES, Answer, Picture
 from zaklimot_tools.core.files import name_of
-from zaklimot_tools.core.processes import MEBIBYTE, Limits, in_parallel, run_command
+from zaklimot_tools.core.processes import Limits, in_parallel, run_command
 from zaklimot_tools.core.progress import Progress
 from zaklimot_tools.core.streams import (
     bytes_of,
@@ -27,6 +27,7 @@ from zaklimot_tools.core.streams import (
     write_name,
 )
 from zaklimot_tools.core.trouble import AGREED, DIFFERED, TROUBLE, Trouble
+from zaklimot_tools.core.words import MEBIBYTE
 from zaklimot_tools.images.png import save_png
 
 from .cases import Case, printable, read_cases

@@ -6,7 +6,7 @@ Rows of equal steps, and of equal groups of steps, become blocks.
 from collections import Counter
 from dataclasses import dataclass, field
 from itertools import islice
-from typing import BinaryIO, Callable, Iterable, Iterator, NamedTuple, Optional, Sequence, Union
+from typing import BinaryIO, Callable, Iterable, Iterator, NamedTuple, Optional, Sequence
 
 from zaklimot import format
 from zaklimot.format import (
@@ -30,6 +30,7 @@ from zaklimot_tools.explain.registers import (
     bytes_written,
 )
 
+from .asked import CLOCK, END, FLIP, SCREENS, Frames
 from .state import State, rebuilt
 from .step import (
     ADVANCE,
@@ -48,10 +49,6 @@ from .step import (
 )
 from .trace import MEMORY, PORT, Cycle, Trace
 
-# When a script has a frame: at its end alone, before each page flip, where a screen was taken, once
-# in each frame of the dot clock in which something was written, or every so many seconds.
-END, FLIP, SCREENS, CLOCK = "end", "flip", "screens", "clock"
-Frames = Union[str, float]
 # Bytes that are kept free, as text: for the steps at the end, and for a row that is no block once
 # it is cut there.
 FOR_THE_END = 1024

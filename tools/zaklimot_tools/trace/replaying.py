@@ -30,7 +30,8 @@ from zaklimot_tools.report.report import Report
 from zaklimot_tools.report.reports import delays_of
 from zaklimot_tools.script.program import BuiltProgram, fault_of
 
-from .converting import SCREENS, Checked, Listing, Written, check, convert
+from .asked import SCREENS
+from .converting import Checked, Listing, Written, check, convert
 from .recording import PHASES, TRACE, dump
 from .state import State
 from .step import TraceStep

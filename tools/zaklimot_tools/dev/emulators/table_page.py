@@ -3,6 +3,7 @@ around them."""
 
 from __future__ import annotations
 
+import argparse
 import json
 import re
 from typing import Any, Iterator, NamedTuple, Sequence
@@ -59,6 +60,11 @@ def _read(path: str) -> Results:
     if on is None or on[1] not in MACHINES:
         raise Trouble("its command is no `vga-floppy run --on` of an emulator", name)
     return Results(on[1], MACHINES[on[1]].full_version(bios[1] if bios else None), cases)
+
+
+def write_results(words: argparse.Namespace, _: object) -> None:
+    """Writes the suite's results, as the command line names them, into a page."""
+    write_tables(words.page, words.results)
 
 
 def write_tables(page: str, paths: Sequence[str]) -> None:
