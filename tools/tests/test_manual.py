@@ -1,7 +1,6 @@
 """The manual page and the completions in `share/` tell what the program's helps tell, and shells
 complete by them."""
 
-import os
 import re
 import shutil
 import unittest
@@ -9,8 +8,9 @@ from pathlib import Path
 
 from zaklimot_tools.core.version import version
 
+from .completing import IN_BASH, IN_FISH, IN_ZSH, WITH_FISH, WITH_ZSH, Completing
 from .test_edges import HELP
-from .tools import TOP, Folder, ended, hold
+from .tools import TOP, ended
 
 
 PAGE, BASH, ZSH, FISH = (
@@ -97,15 +97,11 @@ class Files(unittest.TestCase):
         self.assertEqual(len(listed), len(names_of(OPTIONS)))
 
 
-class Shells(Folder):
-    """What shells offer for lines, in a folder with files and with no setting of the user."""
-
+class Shells(Completing):
     def setUp(self) -> None:
         super().setUp()
         for name in (*BARS, "one two.vga", FONT, "fonts/other.fnt"):
             self.write(f"files/{name}", "")
-        # Fish completes a command that there is.
-        self.program("bin/vga", "#!/bin/sh\n")
 
     def assert_offered(self, words: tuple[str, ...], completion: Path, **more: list[str]) -> None:
         """What a shell that is started by these words offers, in any order; more than one offer for
@@ -128,31 +124,18 @@ class Shells(Folder):
             "vga run x --fonts b": BARS,
             "vga go --until ": [],
         }
-        path = f"{self.folder / 'bin'}:{os.environ['PATH']}"
-        environment = {"HOME": str(self.folder), "PATH": path, "LANG": "C.UTF-8"}
-        script = Path(__file__).with_name("manual") / f"completing.{words[0]}"
-        status, output, said = ended(
-            *words, script, completion, *offered, cwd=self.folder / "files", env=environment
-        )
-        self.assertEqual((status, said), (0, ""))
-        lines = output.replace("\\", "").replace("/", "").splitlines()
-        found = [sorted(filter(None, line.split("|"))) for line in lines]
-        hold(
-            self,
-            dict(zip(offered, found)).get,
-            ((line, sorted(more.get(line, offered[line]))) for line in offered),
-        )
+        self.hold_offered(words, completion, {**offered, **more})
 
     def test_bash(self) -> None:
-        self.assert_offered(("bash", "--norc", "--noprofile"), BASH)
+        self.assert_offered(IN_BASH, BASH)
 
-    @unittest.skipUnless(shutil.which("zsh"), "zsh isn't installed")
+    @WITH_ZSH
     def test_zsh(self) -> None:
-        self.assert_offered(("zsh", "-f"), ZSH)
+        self.assert_offered(IN_ZSH, ZSH)
 
-    @unittest.skipUnless(shutil.which("fish"), "fish isn't installed")
+    @WITH_FISH
     def test_fish(self) -> None:
         # Files without the ending come behind those with it.
         self.assert_offered(
-            ("fish",), FISH, **{line: FILES for line in ("vga run --fonts ", "vga go x --fonts ")}
+            IN_FISH, FISH, **{line: FILES for line in ("vga run --fonts ", "vga go x --fonts ")}
         )

@@ -18,6 +18,7 @@ import building
 
 from zaklimot_tools import PARTS
 from zaklimot_tools.core.version import version
+from zaklimot_tools.dev.completions.command import completions, tools
 
 from .tools import PROGRAM, TOOLS, Folder, ended, want_program
 
@@ -138,6 +139,10 @@ class Installed(Folder):
                 self.run_installed(name, "--version"), (0, f"{name} {version()}\n", "")
             )
         self.assertFalse((self.site / "zaklimot_tools" / "dev").exists())
+        (data,) = self.site.glob("*.data/data/share")
+        made = {place for tool in tools() for place in completions(tool)}
+        laid = {str(path.relative_to(data)) for path in data.rglob("*") if path.is_file()}
+        self.assertEqual(laid, made)
         status, told, said = self.run_installed("vga-report", "scripts", "cases", "--only", "dots/")
         self.assertEqual((status, said), (0, ""))
         self.assertTrue((self.folder / told.split("\n")[0]).is_file())

@@ -60,19 +60,19 @@ def _add_run(commands: Any) -> None:
     _add_report(made)
 
 
-def _parser() -> argparse.ArgumentParser:
-    parser = cli.tool_parser(
+def parser() -> argparse.ArgumentParser:
+    tool = cli.tool_parser(
         "vga-floppy",
         "Runs scripts on machines: by a floppy on a PC, or on an emulator.",
         "tools/vga-floppy run --on dosbox examples/asked-of-machines.vga",
         "docs/REAL-MACHINES.md",
     )
-    commands = parser.add_subparsers(required=True, metavar="COMMAND")
+    commands = tool.add_subparsers(required=True, metavar="COMMAND")
     _add_make(commands)
     _add_read(commands)
     _add_run(commands)
-    return parser
+    return tool
 
 
 # Runs a command line, and answers its exit status.
-main = cli.runner(_parser)
+main = cli.runner(parser)

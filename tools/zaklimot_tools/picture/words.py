@@ -59,11 +59,11 @@ def _add_text(parser: argparse.ArgumentParser) -> None:
         rule(parser, name, lambda words: MODES[words.mode].kind is not Kind.CELLS, told)
 
 
-def _parser() -> argparse.ArgumentParser:
+def parser() -> argparse.ArgumentParser:
     example = "tools/vga-picture script card.png card.vga --mode 12"
     told = "Makes scripts that draw an image. `-` is standard input, or standard output."
-    parser = cli.tool_parser("vga-picture", told, example, "docs/PICTURES.md")
-    commands = parser.add_subparsers(required=True, metavar="COMMAND")
+    tool = cli.tool_parser("vga-picture", told, example, "docs/PICTURES.md")
+    commands = tool.add_subparsers(required=True, metavar="COMMAND")
     job = later("zaklimot_tools.picture.command", "write_drawing")
     told = "makes a script that draws an image"
     made = cli.command(commands, "script", job, told, example)
@@ -76,8 +76,8 @@ def _parser() -> argparse.ArgumentParser:
     _add_colours(made)
     _add_text(made)
     add(made, "--picture FILE", "writes the picture that it should draw as PNG", type=Output)
-    return parser
+    return tool
 
 
 # Runs a command line, and answers its exit status.
-main = cli.runner(_parser)
+main = cli.runner(parser)

@@ -162,11 +162,11 @@ def _add_conversions(commands: Any) -> None:
     _add_trace(cli.command(commands, "kinds", _job("count_kinds"), told, example))
 
 
-def _parser(qemu: Sequence[str] = ()) -> argparse.ArgumentParser:
+def parser(qemu: Sequence[str] = ()) -> argparse.ArgumentParser:
     """The parser; the words for qemu, behind `--`, are none of its own."""
     told = "Makes scripts of what software did to a VGA."
-    parser = cli.tool_parser("vga-trace", told, CONVERTING, "docs/TRACES.md", cli.DIFFERS)
-    commands = parser.add_subparsers(required=True, metavar="COMMAND")
+    tool = cli.tool_parser("vga-trace", told, CONVERTING, "docs/TRACES.md", cli.DIFFERS)
+    commands = tool.add_subparsers(required=True, metavar="COMMAND")
     _add_conversions(commands)
     told = "makes the pictures of a trace, in real time"
     example = "tools/vga-trace pictures examples/typed-line.trace --apng typed-line.png"
@@ -184,7 +184,7 @@ def _parser(qemu: Sequence[str] = ()) -> argparse.ArgumentParser:
     made = cli.command(commands, "record", job, told, example, note, usage=usage)
     made.set_defaults(qemu=list(qemu) or None)
     _add_record(made)
-    return parser
+    return tool
 
 
 def main(words: Optional[Sequence[str]] = None) -> int:
@@ -192,4 +192,4 @@ def main(words: Optional[Sequence[str]] = None) -> int:
     qemu."""
     given = sys.argv[1:] if words is None else list(words)
     end = given.index("--") if given[:1] == ["record"] and "--" in given else len(given)
-    return cli.runner(lambda: _parser(given[end + 1 :]))(given[:end])
+    return cli.runner(lambda: parser(given[end + 1 :]))(given[:end])
