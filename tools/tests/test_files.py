@@ -212,12 +212,24 @@ class Recordings(Folder):
         begun = self.folder / "begun"
         self.program("bin/qemu-system-x86_64", f"#!/bin/sh\ntouch {begun}\n")
         self.program("says", "#!/bin/sh\necho 'vga: F3 FontSize' >&2\nexit 1\n")
+        self.program("other", "#!/bin/sh\necho '1 01'\n")
+        self.program("more", "#!/bin/sh\nprintf '1 00\\n2 00\\n'\n")
+        self.program("fails", "#!/bin/sh\necho '1 00'\nexit 3\n")
         path = f"{self.folder / 'bin'}:{os.environ['PATH']}"
         for words, told in (
             (("--vga", "/none/vga"), "/none/vga: No such file or directory"),
             (("--vga", str(self.folder)), "it is a folder, and no program"),
             (("--vga", "/bin/true"), "/bin/true: it runs no script with .*: it says nothing"),
             (("--vga", str(self.folder / "says"), "--fonts", "f"), "no script with f: F3 FontSize"),
+            (
+                ("--vga", str(self.folder / "other")),
+                "other: it runs no script .*: it writes '1 01'",
+            ),
+            (("--vga", str(self.folder / "more")), "more: it runs no script .*: it writes '1 00'"),
+            (
+                ("--vga", str(self.folder / "fails")),
+                "fails: it runs no script .*: it writes '1 00'",
+            ),
         ):
             made = self.folder / "made"
             done = ended(

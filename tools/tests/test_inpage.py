@@ -123,7 +123,7 @@ class Recorded(Folder):
         places = [found.start(1) for found in re.finditer(rb"^\d+ (0[0-9A-F])$", answers, re.M)]
         other = bytearray(answers)
         other[places[-1] + 1] ^= 1
-        program = self.program("vga", f"#!/bin/sh\ncat {self.write('other', bytes(other))}\n")
+        program = self.writing(self.write("other", bytes(other)))
         status, lines, _ = self.record(file, *options, "--vga", program, into="three")
         self.assertEqual(
             (status, [line for line in lines if " differ " in line and "port" in line]),

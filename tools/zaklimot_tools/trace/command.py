@@ -124,11 +124,12 @@ def _write_moving(
 
 def record_software(words: argparse.Namespace, progress: Progress) -> int:
     """Records software, replays what was recorded, and compares the screens of both."""
-    program, folder = found_program(words.vga), Path(words.folder)
-    check_program_runs(program, words.fonts)
+    folder = Path(words.folder)
     check_folder(words.folder)
     if folder.exists() and any(folder.iterdir()):
         raise Trouble("it has files: name a new folder", words.folder)
+    program = found_program(words.vga)
+    check_program_runs(program, words.fonts)
     # A screen is taken at the end at least.
     deeds = words.deeds if words.deeds and not words.deeds[-1].keys else [*words.deeds, Deed()]
     folder.mkdir(parents=True, exist_ok=True)
