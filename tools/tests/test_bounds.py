@@ -247,7 +247,9 @@ class Floppies(unittest.TestCase):
 
     def test_tables_at_random(self) -> None:
         made = table_for({"one": parse_text(self.TEXT), "two": parse_text("get a0000\n")})
-        first, random, told = HEADER.unpack_from(made)[2], Random(4711), 0
+        first = HEADER.unpack_from(made)[2]
+        random = Random(4711)
+        told = 0
         for _ in range(3000):
             steps = bytearray(made[HEADER.size :])
             for _ in range(random.randint(1, 3)):

@@ -66,10 +66,8 @@ class Reports(Folder):
 
     def test_as_text(self) -> None:
         # The frame at power-on; the sum is that of `md5sum` over its 37 bytes.
-        text, red = (
-            b"1 ok\n2 picture 37 9x1 8f4a7758d19428aa7b8da8bb8fc0c974\n",
-            hashlib.md5(PICTURE).hexdigest(),
-        )
+        text = b"1 ok\n2 picture 37 9x1 8f4a7758d19428aa7b8da8bb8fc0c974\n"
+        red = hashlib.md5(PICTURE).hexdigest()
         front = "vga-report: standard input:2: "
         lacking = f"{front}the picture is shown by its digest, and its dots are not in the file\n"
         differs = (
@@ -136,10 +134,8 @@ class Reports(Folder):
 
     def test_compared(self) -> None:
         first = b"step 2 differs\n  read:2: E1 (read)\n  refused:2: E1 NotDecoded (refused)\n"
-        both, agree = (
-            first + b"step 3 differs\n  read:3: 00\n  refused:3: 01\n",
-            b"red and standard input agree: ",
-        )
+        both = first + b"step 3 differs\n  read:3: 00\n  refused:3: 01\n"
+        agree = b"red and standard input agree: "
         none = "vga-report: no pictures differ, so m.png isn't written\n"
         hold(
             self,
@@ -198,7 +194,8 @@ class Streams(Folder):
     @unittest.skipIf(sys.platform in ("win32", "darwin"), "names of any bytes are of Linux")
     def test_names_of_any_bytes(self) -> None:
         folder = bytes(self.folder) + b"/\xff\xfe "
-        path, run = self.report("r", PICTURE), partial(ended, sys.executable, PROGRAM, text=False)
+        path = self.report("r", PICTURE)
+        run = partial(ended, sys.executable, PROGRAM, text=False)
         self.assertEqual(run("pictures", path, folder), (0, folder + b"/0001.png\n", b""))
         os.rename(path, folder + b"/r")
         self.assertEqual(run("text", folder + b"/r", folder)[0], 2)
@@ -377,11 +374,9 @@ DUMPS, EDGES = (
     "show regs\nshow beam\nshow latches\nshow bda\n",
     "; Comment\n\nout 3C2 01 ; more\n\t\r\n  frame\nframe",
 )
-BLOCK, BIG, LISTED = (
-    "version 2 ; a block\nrepeat 2\nget A0000\nend\n",
-    "\0" * 16_777_217,
-    "{folder}/list:2: ",
-)
+BLOCK = "version 2 ; a block\nrepeat 2\nget A0000\nend\n"
+BIG = "\0" * 16_777_217
+LISTED = "{folder}/list:2: "
 HANDED: list[tuple[str, dict[str, str], str, dict[str, str] | str]] = [
     (
         (
@@ -734,7 +729,8 @@ class Suite(Folder):
             "frame\nframe\n",
             f"1 picture 37 9x1\n3F0000*9\n2 picture 37 9x1 {hashlib.md5(PICTURE).hexdigest()}\n",
         )
-        path, folder = self.write("list.txt", "\n".join(self.lines) + "\n"), self.folder / "p"
+        path = self.write("list.txt", "\n".join(self.lines) + "\n")
+        folder = self.folder / "p"
         written = (0, f"{folder}/a/one-0001.png\n".encode(), "")
         self.assertEqual(run("suite", "pictures", folder, "--list", path), written)
         self.assertEqual(

@@ -95,7 +95,8 @@ class Reports(unittest.TestCase):
         self.assertEqual([found.number for found in Comparison().differences(steps, others)], [2])
 
     def test_as_expected_and_otherwise(self) -> None:
-        digest, other = hashlib.md5(PICTURE).hexdigest(), 32 * "0"
+        digest = hashlib.md5(PICTURE).hexdigest()
+        other = 32 * "0"
         hold(
             self,
             lambda answers, expected: against(report(*answers), expected),

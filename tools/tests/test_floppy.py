@@ -113,7 +113,9 @@ class Interpreting(unittest.TestCase):
             (b"int ax=3\n", 0x03),
             (b"version 2\nrepeat 2\nint ax=3\nend\n", 0x03),
         ):
-            found, wanted, state = machine(script).cycles, State(), State()
+            found = machine(script).cycles
+            wanted = State()
+            state = State()
             self.assertEqual(found[0], ("int", 3, 0, 0, 0, 0, b""))
             # Two registers are left otherwise; and before, all have another value.
             wanted.misc, wanted.seq.registers[0] = last, 3
@@ -184,12 +186,10 @@ class Images(Folder):
         return self.folder / "scripts"
 
     def test_each_has_a_report(self) -> None:
-        folder, image = (
-            self.folder_of_scripts(
-                one="in 3CC\nframe\n", two="int ax=300\n", three="put A0000 1\n"
-            ),
-            self.folder / "image",
+        folder = self.folder_of_scripts(
+            one="in 3CC\nframe\n", two="int ax=300\n", three="put A0000 1\n"
         )
+        image = self.folder / "image"
         self.assertEqual(run("make", folder, image), (0, b"", ""))
         booted = Machine(image.read_bytes())
         image.write_bytes(booted.image)
@@ -199,7 +199,8 @@ class Images(Folder):
             if after == ("begin",)
         ]
         self.assertEqual(outputs, [0, 3, 0])
-        reports, texts = self.folder / "reports", {
+        reports = self.folder / "reports"
+        texts = {
             "one.report": b"1 CC\n2 skipped\n",
             "two.report": b"1 ax=0300 bx=0000 cx=1234 dx=1234\n",
             "three.report": b"1 ok\n",
@@ -275,7 +276,8 @@ class Images(Folder):
             self.assertFalse((self.folder / "reports").exists())
 
     def test_an_image_is_made_and_read(self) -> None:
-        script, image = self.write("script.vga", SCRIPT), self.folder / "image"
+        script = self.write("script.vga", SCRIPT)
+        image = self.folder / "image"
         self.assertEqual(run("make", script, image), (0, b"", ""))
         for options, byte in ((), 0x00), (("--disk",), 0x80):
             made = run("make", *options, "-", "-", given=SCRIPT)[1]

@@ -181,7 +181,8 @@ class Recorded(Folder):
             )
 
     def test_speeds(self) -> None:
-        file, cycles = self.write("a.com", bytes.fromhex("B800B88EC0 26A20000 FEC0 EBF8")), []
+        file = self.write("a.com", bytes.fromhex("B800B88EC0 26A20000 FEC0 EBF8"))
+        cycles = []
         for speed in SPEEDS:
             self.record(file, "--seconds", "0.01", "--speed", speed, into=speed)
             cycles.append(self.trace(speed).count(" w m "))
@@ -230,7 +231,8 @@ class Recorded(Folder):
             )
 
     def test_words_that_do_not_go_together(self) -> None:
-        file, into = self.write("a.com", PROGRAM), self.folder / "into"
+        file = self.write("a.com", PROGRAM)
+        into = self.folder / "into"
         for words, told in (
             (("--in-page", file, "--chain-4"), "--chain-4 is for qemu, and not for --in-page"),
             (("--in-page", file, "--card", "VGA"), "--card is for qemu"),
@@ -248,7 +250,8 @@ class Recorded(Folder):
 
     def test_a_signal_ends_node_too(self) -> None:
         # A program without an end, for an hour of its time.
-        file, into = self.write("a.com", bytes.fromhex("EBFE")), self.folder / "into"
+        file = self.write("a.com", bytes.fromhex("EBFE"))
+        into = self.folder / "into"
         for number in (signal.SIGINT, signal.SIGTERM):
             process = begin("vga-trace", "record", into, "--in-page", file, "--seconds", "3600")
             nodes: set[int] = set()
@@ -280,7 +283,8 @@ def recorders_of(parent: int) -> list[int]:
 
 class WithoutNode(Folder):
     def test_node_is_lacking_or_too_old(self) -> None:
-        file, into = self.write("a.com", ENDING), self.folder / "into"
+        file = self.write("a.com", ENDING)
+        into = self.folder / "into"
         program = self.answering("ok")
         for version, told in (
             ("", "node: it is not in the path: install the package nodejs"),

@@ -227,7 +227,8 @@ class Page(unittest.TestCase):
             self.assertEqual(told, {str(version())}, page.name)
 
     def test_each_call_is_named_and_has_its_function_in_cpp(self) -> None:
-        page, functions = PAGE.read_text("utf-8"), HEADER.with_suffix(".hpp").read_text("ascii")
+        page = PAGE.read_text("utf-8")
+        functions = HEADER.with_suffix(".hpp").read_text("ascii")
         self.assertEqual([name for name in calls_of(TEXT) if name not in page], [])
         # Dumps, slices, lines and the print of a script are the C header's alone.
         lacking = {name for name in calls_of(TEXT) if not re.search(rf"\b{name}\b", functions)}
@@ -260,9 +261,8 @@ class Checks(Folder):
         self.assertRaises(Wrong, checks.expect, "threads", wanted.replace("alike", "differ", 1))
 
     def test_cases_that_do_not_agree(self) -> None:
-        count, built = len(read_cases(str(SUITE))), compilers.Built(
-            "given", Path("kit"), Path("crates.a"), AARCH64
-        )
+        count = len(read_cases(str(SUITE)))
+        built = compilers.Built("given", Path("kit"), Path("crates.a"), AARCH64)
         captured, running = mock.Mock(), mock.Mock()
         self.patch(
             mock.patch.object(checks, "captured", captured),
@@ -382,7 +382,8 @@ class Parts(Folder):
                 kinds = {"a/f": tarfile.REGTYPE, "a/l": tarfile.SYMTYPE, "a": tarfile.DIRTYPE}
                 for name, kind in kinds.items():
                     member = tarfile.TarInfo(name)
-                    member.type, member.linkname = kind, "../x" if kind == tarfile.SYMTYPE else ""
+                    member.type = kind
+                    member.linkname = "../x" if kind == tarfile.SYMTYPE else ""
                     archive.addfile(member)
             stream.seek(0)
             with mock.patch.object(release, "_git", lambda *_: stream.read()):
@@ -397,7 +398,8 @@ class Parts(Folder):
         )
         self.assertEqual(self.packed(dict(reversed(ENTRIES.items()))), (archive, told))
         with tarfile.open(archive) as opened:
-            members, content = opened.getmembers(), opened.extractfile(f"{front}/z/bin/vga")
+            members = opened.getmembers()
+            content = opened.extractfile(f"{front}/z/bin/vga")
             assert content is not None
             self.assertEqual(content.read(), b"program")
         names = ["", "/z", "/z/a", "/z/bin", "/z/bin/vga", "/z/lib", "/z/lib/b.so", "/z/lib/b.so.1"]
@@ -420,7 +422,8 @@ class Parts(Folder):
         self.assertIn(f"## {version()}\n", (TOP / "CHANGELOG.md").read_text("utf-8"))
 
     def test_the_links_of_pages(self) -> None:
-        front, others = release.PAGE, {"docs/A.md": File(b""), "src/low/x.rs": File(b"")}
+        front = release.PAGE
+        others = {"docs/A.md": File(b""), "src/low/x.rs": File(b"")}
         hold(
             self,
             lambda page, text: settled({**others, page: File(text)})[
@@ -510,10 +513,8 @@ class Whole(Folder):
         self.assertIn(
             "add_subdirectory(portable)", (self.folder / "CMakeLists.txt").read_text("ascii")
         )
-        crate, source = (
-            "bindings/rust/zaklimot-sys/portable",
-            self.folder / "portable" / "zaklimot.c",
-        )
+        crate = "bindings/rust/zaklimot-sys/portable"
+        source = self.folder / "portable" / "zaklimot.c"
         for copy, file in (
             ("zaklimot.c", source),
             ("zaklimot.h", self.folder / "include/zaklimot.h"),
@@ -660,9 +661,8 @@ class OtherProcessors(Folder):
         )
         self.assertEqual((status, said), (0, ""))
         self.assertIn(f"{self.folder}/kit-for-arm/lib/libzaklimot.so.{version()}\n", told)
-        calls, front = [
-            words for words in self.noted() if words != ["rt", "doc"]
-        ], "aarch64-linux-gnu-"
+        calls = [words for words in self.noted() if words != ["rt", "doc"]]
+        front = "aarch64-linux-gnu-"
         self.assertEqual(
             [words[0] for words in calls],
             [
@@ -800,7 +800,8 @@ class Bindings(Folder):
             told = f"the library is {kind}, and the package tells that it is {other}$"
             self.assertRaisesRegex(Wrong, told, bindings.check_kind, self.folder / "kit", other)
         # The suites run over both libraries, and over a given one alone if that is portable.
-        kit, made = library.parents[1], mock.Mock(return_value=TOP)
+        kit = library.parents[1]
+        made = mock.Mock(return_value=TOP)
         given = mock.Mock(library=kit)
         with mock.patch.object(bindings, "portable_library", made):
             self.assertEqual(bindings._libraries(given, TOP, mock.Mock()), {"portable": kit})
@@ -991,7 +992,9 @@ class Finding(unittest.TestCase):
         self.crate()
         target = {"TARGET": "aarch64-unknown-linux-gnu"}
         other = {**target, "CC": "no-cc"}
-        own, cross, path = "bin/cc -std", "bin/aarch64-linux-gnu-", str(self.folder / "bin" / "cc")
+        own = "bin/cc -std"
+        cross = "bin/aarch64-linux-gnu-"
+        path = str(self.folder / "bin" / "cc")
         for names, *wanted in (
             (target, f"{cross}gcc -std", f"{cross}ar crs"),
             ({**target, "CC": "cc -march=x", "AR": "ar"}, "bin/cc -march=x -std", "bin/ar crs"),
@@ -1009,13 +1012,15 @@ class Finding(unittest.TestCase):
         self.assertNotIn("-fPIC", lines[0])
 
     def test_without_a_library_each_way_to_one_is_told(self) -> None:
-        empty, ways = str(self.folder / "empty"), (
+        empty = str(self.folder / "empty")
+        ways = (
             "a release",
             "./install.sh",
             "tools/vga-library install",
             "PKG_CONFIG_PATH",
         )
-        folder, packages = self.crate(), {"PKG_CONFIG_PATH": f"{empty}/lib/pkgconfig"}
+        folder = self.crate()
+        packages = {"PKG_CONFIG_PATH": f"{empty}/lib/pkgconfig"}
         for names, begins in (
             ({**packages, "ZAKLIMOT_PORTABLE": "0"}, "there is no library libzaklimot.\n"),
             (

@@ -27,7 +27,9 @@ PAGE, BASH, ZSH, FISH = (
 HELPS = {path.stem: path.read_text("utf-8") for path in HELP.glob("*.txt")}
 WHOLE = HELPS.pop("vga")
 COMMANDS = dict(re.findall(r"^  (\w+) +(\S.*)$", WHOLE.partition("\n\nOptions:")[0], re.M))
-BARS, FONT, FONTS = ["bars.bin", "bars.vga"], "zaklimot.fnt", ["fonts", "zaklimot.fnt"]
+BARS = ["bars.bin", "bars.vga"]
+FONT = "zaklimot.fnt"
+FONTS = ["fonts", "zaklimot.fnt"]
 FILES = [*BARS, "fonts", "one two.vga", FONT]
 # An option as a help lists it: its names, what its value is, if it has one, and what it does.
 Option = tuple[tuple[str, ...], str, str]
@@ -82,7 +84,8 @@ class Files(unittest.TestCase):
         self.assertEqual(ended("groff", "-man", "-Tascii", "-ww", PAGE)[::2], (0, ""))
 
     def test_zsh_and_fish(self) -> None:
-        zsh, fish = ZSH.read_text("ascii"), FISH.read_text("ascii")
+        zsh = ZSH.read_text("ascii")
+        fish = FISH.read_text("ascii")
         for name, told in COMMANDS.items():
             self.assertIn(f"\n        '{name}:{told}'\n", zsh)
             self.assertIn(f"\n        {name} '{told}'", fish)

@@ -28,7 +28,8 @@ PACKAGE = TOOLS / "zaklimot_tools"
 
 def used_parts(path: Path) -> set[str]:
     """The parts of the tools' package that a module imports from."""
-    package, found = path.relative_to(TOOLS).parts[:-1], set()
+    package = path.relative_to(TOOLS).parts[:-1]
+    found = set()
     for node in ast.walk(ast.parse(path.read_text("utf-8"))):
         names = [name.name for name in node.names] if isinstance(node, ast.Import) else []
         if isinstance(node, ast.ImportFrom):

@@ -161,7 +161,8 @@ class Editors(Folder):
             self.assertEqual(editor.joined_editor(page.TARGETS), made)
 
     def test_an_editor_that_other_versions_made(self) -> None:
-        built, module = tests_command.built_page(), b""
+        built = tests_command.built_page()
+        module = b""
         text = built.decode("utf-8")
         self.assertEqual(editor_in(text), editor.joined_editor(page.TARGETS))
         module = tests_command.module_in(built)
@@ -447,10 +448,8 @@ class Tests(Folder):
         self.patch(mock.patch.object(command, "read_sources", small_sources))
         self.patch(mock.patch.object(page, "programs", list))
         self.patch(mock.patch.object(command, "made_or_kept", lambda *_: MACHINE))
-        module, made = (
-            Path(self.write("module", with_kit(module_of(Modules.right), "kit 1"))),
-            self.folder / "page",
-        )
+        module = Path(self.write("module", with_kit(module_of(Modules.right), "kit 1")))
+        made = self.folder / "page"
         status, output, _ = call(main_of("vga-page"), "make", made, "--module", module)
         self.assertEqual(
             (status, tests_command.module_in(made.read_bytes())), (0, module.read_bytes())
@@ -465,9 +464,8 @@ class Tests(Folder):
         self.assertRegex(
             tests_command.check_built(other, made), "of another kit, one: the suite judges that$"
         )
-        data, empty = page_data(made.decode("utf-8")), base64.b64encode(packed(b"[]")).decode(
-            "ascii"
-        )
+        data = page_data(made.decode("utf-8"))
+        empty = base64.b64encode(packed(b"[]")).decode("ascii")
         hold_refused(
             self,
             tests_command.check_built,
@@ -525,9 +523,8 @@ class Tests(Folder):
         self.assertEqual(told, ["the machine stays as it was built before: no network"])
 
     def test_what_is_wrong(self) -> None:
-        ways, wrong = {"bytes": 2, tests_command.STEPS: 2}, [
-            {"name": "n", "way": "w", "reason": "r"}
-        ]
+        ways = {"bytes": 2, tests_command.STEPS: 2}
+        wrong = [{"name": "n", "way": "w", "reason": "r"}]
         told = f"by bytes 2; by {tests_command.STEPS} 2; of 2 cases"
         self.assertEqual(tests_command.judged({"ways": ways, "wrong": []}, 2), told)
         hold_refused(
@@ -581,7 +578,8 @@ class Tests(Folder):
 class Opened(Fake):
     def setUp(self) -> None:
         super().setUp()
-        self.script, self.made = self.write("script.vga", TEXT), self.folder / "debug.html"
+        self.script = self.write("script.vga", TEXT)
+        self.made = self.folder / "debug.html"
 
     def opened(self, page: str) -> dict[str, Any]:
         """What a page is told to open. Nothing else of it is otherwise than the page as built."""
@@ -595,7 +593,9 @@ class Opened(Fake):
 
     def test_what_is_opened(self) -> None:
         self.write("fonts", OTHER_FONTS)
-        own, given, coded = ("--fonts", "fonts"), b"VGAS\x01\x0b\xff", base64.b64encode
+        own = ("--fonts", "fonts")
+        given = b"VGAS\x01\x0b\xff"
+        coded = base64.b64encode
         for words, data, wanted in (
             (("-",), TEXT.encode(), {"text": TEXT, "fonts": None}),
             # Bytes of a text that are no text.
@@ -731,10 +731,8 @@ class Listings(Fake):
         return json.loads(found)
 
     def test_a_run(self) -> None:
-        page, told = (
-            self.folder / "page.html",
-            "6 steps, 1 refused, 1 picture, 4 of 4 answers as expected\n",
-        )
+        page = self.folder / "page.html"
+        told = "6 steps, 1 refused, 1 picture, 4 of 4 answers as expected\n"
         self.assertEqual(self.run_script("--html", str(page)), (0, told, ""))
         text = page.read_text(encoding="utf-8")
         self.assertEqual(self.run_script("--html", "-"), (0, text, told))

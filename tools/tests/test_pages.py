@@ -110,7 +110,8 @@ def anchors(text: str) -> set[str]:
             plain = (
                 re.sub(r"\[([^\]]*)\]\([^)]*\)", r"\1", heading.group(1)).replace("`", "").lower()
             )
-            name, more = re.sub(r"[^\w\- ]", "", plain).replace(" ", "-"), 0
+            name = re.sub(r"[^\w\- ]", "", plain).replace(" ", "-")
+            more = 0
             while name + (f"-{more}" if more else "") in found:
                 more += 1
             found.add(name + (f"-{more}" if more else ""))
@@ -200,7 +201,8 @@ class Touched(unittest.TestCase):
             .partition("\n## What a change touches\n")[2]
             .partition("\n## ")[0]
         )
-        named, listed = set(named_files(text)), files()
+        named = set(named_files(text))
+        listed = files()
         self.assertGreater(len(named), 100)
         for folder, name in sorted(named):
             # A module of proofs may be named without its end.
@@ -268,7 +270,8 @@ class References(unittest.TestCase):
                 if title in apart:
                     continue
                 with self.subTest(page=name, section=title):
-                    defined, shown = DEFINED.findall(body), SHOWN.findall(body)
+                    defined = DEFINED.findall(body)
+                    shown = SHOWN.findall(body)
                     self.assertTrue(defined and shown)
                     self.assertEqual([case for case in shown if case not in cases], [])
                     for word, file in defined:
@@ -289,7 +292,8 @@ def printed(text: str | bytes) -> list[str]:
 
 def unpacked(png: bytes) -> list[bytes]:
     """The header of a PNG, and the dots of each of its frames, however they are packed."""
-    header, packed = b"", [b""]
+    header = b""
+    packed = [b""]
     for kind, data in png_chunks(png):
         if kind == b"IHDR":
             header = data
@@ -405,12 +409,14 @@ class Pictures(Folder):
             with self.subTest(picture):
                 ran = run_program("go", TOP / script, *stop.split(), "--fonts", FONTS)
                 self.assertEqual((ran.status, ran.said), (0, ""))
-                made, shown = self.made(words.split(), ran.report), (TOP / picture).read_bytes()
+                made = self.made(words.split(), ran.report)
+                shown = (TOP / picture).read_bytes()
                 self.assertTrue(unpacked(made) == unpacked(shown), "another picture")
 
     def made(self, words: list[str], report: bytes) -> bytes:
         """What `vga-report pictures` makes of a report."""
-        moves, path = "--apng" in words, self.folder / "picture.png"
+        moves = "--apng" in words
+        path = self.folder / "picture.png"
         words = [*words, str(path)] if moves else words
         status, output, said = run_tool("vga-report", "pictures", *words, given=report)
         self.assertEqual(status, 0, said)
@@ -539,7 +545,8 @@ class Modules(unittest.TestCase):
             self.assertEqual(sorted(named), sorted(there), name)
 
     def test_each_is_there(self) -> None:
-        ends, seen = ("mjs", "js", "py", "md"), 0
+        ends = ("mjs", "js", "py", "md")
+        seen = 0
         # Neither crates, tools themselves, nor what is hidden.
         files = [path for end in ends for path in TOP.glob(f"[!.ct]*/**/*.{end}")]
         for path in files:

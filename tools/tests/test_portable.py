@@ -107,7 +107,8 @@ class Cache(Folder):
 
     def setUp(self) -> None:
         super().setUp()
-        self.cache, self.notes = self.folder / "cache" / "zaklimot", self.folder / "notes"
+        self.cache = self.folder / "cache" / "zaklimot"
+        self.notes = self.folder / "notes"
         self.notes.write_text("")
         self.environment = {"XDG_CACHE_HOME": str(self.folder / "cache"), "CC": self.compiler("cc")}
         self.patch(mock.patch.dict(os.environ, self.environment))
@@ -184,7 +185,8 @@ class Compiled(Cache):
         self.assertEqual(self.noted(), 1)
 
     def test_one_that_is_ended_leaves_nothing_and_no_lock(self) -> None:
-        child, good = self.folder / "child", self.environment["CC"]
+        child = self.folder / "child"
+        good = self.environment["CC"]
         slow = self.compiler("slow", SLEEPS.format(child, child))
         for number, status in (*SIGNALS, (signal.SIGKILL, -9)):
             with self.subTest(number):
@@ -269,7 +271,8 @@ class Found(Cache):
         built, released, in_path = (
             self.program(f"{name}/vga", "#!/bin/sh\n") for name in ("built", "released", "path")
         )
-        named, none = self.program("named", "#!/bin/sh\n"), self.folder / "none"
+        named = self.program("named", "#!/bin/sh\n")
+        none = self.folder / "none"
         places = {"PROGRAM": Path(built), "RELEASED": Path(released)}
         # The command `tools/vga` in the path is no program: it looks for one.
         path = os.pathsep.join([str(TOP / "tools"), str(Path(in_path).parent)])

@@ -160,9 +160,8 @@ class Recorded(Folder):
             qemu(f"write {cycle} 2") for cycle in ("3ce 106", "3d4 107", "3d4 109", "3d4 218")
         )
         vbe = qemu("write 1ce 4 2", "vbe") + qemu("write 1cf 41 2", "vbe")
-        chained, memory = qemu("write 3c4 f02 2") + qemu("write 3c4 e04 2"), qemu(
-            "write a0000 1 1", "vga-chain4"
-        )
+        chained = qemu("write 3c4 f02 2") + qemu("write 3c4 e04 2")
+        memory = qemu("write a0000 1 1", "vga-chain4")
         rows, whole = (
             qemu("write 3d4 209 2") + qemu("write 3c0 20 1"),
             RED * 3 + WHITE * 3 + RED * 3,
@@ -276,7 +275,8 @@ class Recorded(Folder):
         self.assertEqual((status, lines[1]), (1, "2 steps, 0 refused, 0 reads answered, 0 differ"))
 
     def test_machines_that_are_given_up(self) -> None:
-        front, usual = "qemu-system-x86_64: ", ("MOST_LINES", 1 << 20)
+        front = "qemu-system-x86_64: "
+        usual = ("MOST_LINES", 1 << 20)
         begins, first = f"{front}it doesn't begin: there is no such disc\n", "qmp_capabilities"
         for words, limit, told, last in (
             (("-ends",), usual, begins, ""),
@@ -562,7 +562,8 @@ class Traces(unittest.TestCase):
     def test_rows_and_whether_they_are_as_known(self) -> None:
         verdict = Namespace(held=Namespace(count=0))
         written = Written(False, Counter({"out": 10, "frame": 1}), script_bytes=30)
-        checked, listing = Checked(reads=Counter(a=4, b=3)), Namespace(trace=Namespace(count=1000))
+        checked = Checked(reads=Counter(a=4, b=3))
+        listing = Namespace(trace=Namespace(count=1000))
         replayed = Replay(written, listing, Path(), (), checked, screens={0: verdict})
         front = "| name | 1,000 | 11 | 30 | 46 | 7 | 0 | 0 |"
         for dots, picture in ((0, "the same"), (8, "8 dots differ"), (None, "another size")):

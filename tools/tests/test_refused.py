@@ -382,7 +382,8 @@ class Refused(Folder):
                     other.unlink()
 
     def test_memory_holds_one_picture(self) -> None:
-        path, program = self.write("many.vga", "frame\n" * PICTURES), self.program("many", MANY)
+        path = self.write("many.vga", "frame\n" * PICTURES)
+        program = self.program("many", MANY)
         done = run_tool(
             "vga-report",
             "run",

@@ -257,7 +257,8 @@ class Listings(Fake):
         )
 
     def test_scripts_and_fonts_of_any_name(self) -> None:
-        listed, pipe = self.run_script(), self.folder / "pipe"
+        listed = self.run_script()
+        pipe = self.folder / "pipe"
         os.mkfifo(pipe)
         with ThreadPoolExecutor(1) as pool:
             pool.submit(pipe.write_text, TEXT)
@@ -346,7 +347,8 @@ class Listings(Fake):
                 )
 
     def test_programs_that_do_not_do_it(self) -> None:
-        good, fault = self.vga.read_text(), "t.vga:2: F7 BadLine(2): refused"
+        good = self.vga.read_text()
+        fault = "t.vga:2: F7 BadLine(2): refused"
         for text, script, told in (
             (
                 good + "sys.exit('the script can\\'t be read')\n",
@@ -724,10 +726,8 @@ class Several(Fake):
         rt = self.program(
             "bin/rt", f'#!/bin/sh\nwords=$*; echo "${{words%% --data*}}" >> asked; {build}\n'
         )
-        crate, told = (
-            Path(self.write("crate/src/main.rt", "")).parents[1],
-            self.run_script()[1].encode(),
-        )
+        crate = Path(self.write("crate/src/main.rt", "")).parents[1]
+        told = self.run_script()[1].encode()
         path = {"PATH": f"{Path(rt).parent}{os.pathsep}{os.environ['PATH']}"}
         limits = "60 seconds and 1 MiB of output, which two pictures of text fill"
         with mock.patch.dict(os.environ, path), mock.patch.multiple(
@@ -751,16 +751,15 @@ class Several(Fake):
 
     def test_what_stands_before_the_limit_of_a_try(self) -> None:
         # A toolchain that runs no script past its first picture.
-        two, crate = (
-            self.write("two.vga", "frame\nget 0\nframe\nframe\n"),
-            Path(self.write("crate/src/main.rt", "")).parents[1],
-        )
+        two = self.write("two.vga", "frame\nget 0\nframe\nframe\n")
+        crate = Path(self.write("crate/src/main.rt", "")).parents[1]
         tries = f"{self.vga} go {two} --fonts - --until 2; echo run=ended status=0 >&2"
         ends = "(head -c 99999 /dev/zero; echo; echo checked: too much; echo run=no-answer) >&2"
         rt = self.program(
             "bin/rt", f'#!/bin/sh\ncase "$*" in *"--until 2") {tries};; *) {ends};; esac\n'
         )
-        told, path = self.folder / "told", f"{Path(rt).parent}{os.pathsep}{os.environ['PATH']}"
+        told = self.folder / "told"
+        path = f"{Path(rt).parent}{os.pathsep}{os.environ['PATH']}"
         with mock.patch.dict(os.environ, {"PATH": path}), mock.patch.object(
             program, "CRATE", crate
         ):

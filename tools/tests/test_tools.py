@@ -274,7 +274,8 @@ class Commands(Folder):
             ("while True: sys.stdout.buffer.write(bytes(1 << 16))", Limits(60, MEBIBYTE), too_much),
         ):
             with self.subTest(behind):
-                child, text = self.folder / "child", PARENT + behind
+                child = self.folder / "child"
+                text = PARENT + behind
                 child.unlink(missing_ok=True)
                 made = self.within(
                     lambda seconds: self.run_python(text, limits or Limits(seconds)), child
@@ -360,7 +361,8 @@ class Writing(Folder):
         self.assertEqual((self.names(), (self.folder / "a").read_text()), (["a"], "new"))
 
     def test_what_a_file_has_been_to_others_it_stays(self) -> None:
-        path, link = self.write("a", "old"), self.folder / "link"
+        path = self.write("a", "old")
+        link = self.folder / "link"
         link.symlink_to("a")
         os.chmod(path, 0o640)
         with open(path, encoding="ascii") as stream:
@@ -382,7 +384,8 @@ class Lines(Folder):
     def setUp(self) -> None:
         super().setUp()
         # A terminal that keeps what is written on it.
-        self.terminal, self.now = io.StringIO(), 100.0
+        self.terminal = io.StringIO()
+        self.now = 100.0
         self.patch(
             mock.patch.object(self.terminal, "isatty", return_value=True),
             mock.patch("sys.stderr", self.terminal),
@@ -578,7 +581,8 @@ class Checking(Folder):
     def test_the_suite_over_a_program(self) -> None:
         # A program that knows two of the cases.
         faults = "case $2 in *.bin|*bytes*) echo 'vga: F2 BadMagic' >&2;; esac; exit 1"
-        bad, output = self.program("bad", f"#!/bin/sh\n{faults}\n"), io.StringIO()
+        bad = self.program("bad", f"#!/bin/sh\n{faults}\n")
+        output = io.StringIO()
         with contextlib.redirect_stdout(output):
             checked = checking.check_suite(bad, "--only", "examples/cut-script-0")
         self.assertEqual((checked.passed + checked.failed, checked.skipped), (10, 0))
@@ -604,7 +608,8 @@ class Gate(Folder):
     def run_gate(self, tests: str, memory: str = "", prover: str = NOTING) -> tuple[int, str, str]:
         """Status of the gate over these programs and others that note their words; the notes; its
         standard error."""
-        gate, notes = self.folder / "gate", Path(self.write("notes", ""))
+        gate = self.folder / "gate"
+        notes = Path(self.write("notes", ""))
         shutil.copytree(TOP / ".ci", gate / ".ci")
         names = ("page-tests", "bindings-tests", "library-tests", "style")
         fakes = dict.fromkeys((f"vga-{name}" for name in names), NOTING)

@@ -72,11 +72,9 @@ def _become(
     streams."""
     for number, stream in enumerate(streams):
         os.dup2(stream.fileno(), number)
-    sys.stdin, sys.stdout, sys.stderr = (
-        open(0),
-        open(1, "w"),
-        open(2, "w", errors="backslashreplace"),
-    )
+    sys.stdin = open(0)
+    sys.stdout = open(1, "w")
+    sys.stderr = open(2, "w", errors="backslashreplace")
     warnings.simplefilter("ignore")
     tempfile.tempdir = None
     _heed_signals()
@@ -339,7 +337,8 @@ def stream(data: bytes) -> io.BufferedReader:
 def png_chunks(data: bytes) -> list[tuple[bytes, bytes]]:
     """The chunks of a PNG, each of whose checks must hold: their kinds and data."""
     assert data[:8] == b"\x89PNG\r\n\x1a\n"
-    at, chunks = 8, []
+    at = 8
+    chunks = []
     while at < len(data):
         (length,) = struct.unpack_from(">I", data, at)
         kind, body = data[at + 4 : at + 8], data[at + 8 : at + 8 + length]
@@ -356,10 +355,8 @@ def png_rows(data: bytes) -> tuple[int, int, list[bytes]]:
     assert chunks[0][0] == b"IHDR" and chunks[-1] == (b"IEND", b"")
     width, height, *form = struct.unpack(">IIBBBBB", chunks[0][1])
     assert form == [8, 2, 0, 0, 0]
-    lines, length = (
-        zlib.decompress(b"".join(body for kind, body in chunks if kind == b"IDAT")),
-        3 * width + 1,
-    )
+    lines = zlib.decompress(b"".join(body for kind, body in chunks if kind == b"IDAT"))
+    length = 3 * width + 1
     assert len(lines) == length * height
     assert not any(lines[::length]), "a row with a filter"
     return width, height, [lines[at + 1 : at + length] for at in range(0, len(lines), length)]

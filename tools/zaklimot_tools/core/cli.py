@@ -116,7 +116,8 @@ class later:
     tool needs none of them."""
 
     def __init__(self, module: str, name: str) -> None:
-        self._module, self._name = module, name
+        self._module = module
+        self._name = name
 
     def __call__(self, words: argparse.Namespace, progress: Progress) -> Optional[int]:
         job: Job = getattr(importlib.import_module(self._module), self._name)
@@ -250,7 +251,8 @@ def runner(made: Callable[[], argparse.ArgumentParser]) -> Callable[[Optional[Se
     """
 
     def main(words: Optional[Sequence[str]] = None) -> int:
-        progress, parser = Progress(), made()
+        progress = Progress()
+        parser = made()
 
         def work() -> int:
             try:

@@ -87,7 +87,8 @@ def read_run(words: argparse.Namespace, _: Progress) -> None:
 
 def run_script(words: argparse.Namespace, _: Progress) -> None:
     """Runs a script on an emulator, and gives the report."""
-    scripts, name = scripts_of(words.script), name_of(words.script)
+    scripts = scripts_of(words.script)
+    name = name_of(words.script)
     if [*scripts] == [""]:
         check_file(words.report)
     run, shown = run_on(

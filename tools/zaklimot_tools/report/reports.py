@@ -205,7 +205,8 @@ def compare_picture(words: argparse.Namespace, progress: Progress) -> int:
     """Compares the picture of a step with an image, PNG or PPM."""
     with _steps(words.report, progress) as steps:
         _, picture = next(wanted_pictures(steps, [words.step], name_of(words.report)))
-    name, data = name_of(words.image), image_bytes(words.image)
+    name = name_of(words.image)
+    data = image_bytes(words.image)
     # An image of another size is told before it is unpacked, which takes long.
     found = held_size(picture, *size_of(data, name))
     if found is None:

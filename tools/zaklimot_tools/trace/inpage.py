@@ -35,7 +35,8 @@ from .asked import USUAL_SPEED, Deed
 from .recording import LOOK, TRACE, Keeper, Say
 
 
-NODE, OLDEST = "node", 18
+NODE = "node"
+OLDEST = 18
 SOURCES = TOP / "page" / "machine"
 # A file of the page has so many bytes at most.
 MOST_FILE = 1 << 28

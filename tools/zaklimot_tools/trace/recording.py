@@ -79,7 +79,9 @@ class Keeper(Thread):
 
     def __init__(self, source: BinaryIO, target: BinaryIO, name: str = QEMU) -> None:
         super().__init__(daemon=True)
-        self._source, self._target, self._name = source, target, name
+        self._source = source
+        self._target = target
+        self._name = name
         self.size = 0
         self.last = time.monotonic()
         self.trouble: Optional[Trouble] = None

@@ -64,12 +64,14 @@ class Screen:
     is_own: bool = False
 
     def __post_init__(self) -> None:
-        self.part, self.held = self.picture, held(self.picture, self.image)
+        self.part = self.picture
+        self.held = held(self.picture, self.image)
         if self.held.count is None and not self.is_own:
             front = whole_rows(self.state, self.picture)
             found = held(front, self.image)
             if found.count is not None:
-                self.part, self.held = front, found
+                self.part = front
+                self.held = found
         # The state goes on from here: what it tells is asked now.
         self.names = {} if self.is_equal or self.is_own else _known(self)
 

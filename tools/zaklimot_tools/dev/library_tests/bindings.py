@@ -32,7 +32,8 @@ from .portable import check_cmake, check_crate, portable_library
 
 PACKAGE = TOP / "bindings" / "python"
 # How unittest ends, and what a test may be skipped for.
-RAN, SKIPPED = re.compile(r"^Ran (\d+) tests", re.M), re.compile(r"skipped '(.*)'")
+RAN = re.compile(r"^Ran (\d+) tests", re.M)
+SKIPPED = re.compile(r"skipped '(.*)'")
 MAY_BE_SKIPPED = "numpy is not here"
 CRATES = "bindings/rust"
 # The crates, and what they name outside.
@@ -87,7 +88,8 @@ def check_python(library: Path, _: Path) -> str:
     words = [sys.executable, "-B", "-m", "unittest", "discover", "--verbose"]
     words += ["--start-directory", str(PACKAGE / "tests")]
     said = tested(words, environment=environment).errors.decode("utf-8", "replace")
-    ran, skipped = RAN.search(said), SKIPPED.findall(said)
+    ran = RAN.search(said)
+    skipped = SKIPPED.findall(said)
     if ran is None or set(skipped) - {MAY_BE_SKIPPED}:
         raise Wrong(f"tests were skipped: {', '.join(sorted(set(skipped)))}")
     return f"{ran[1]} tests, the suite among them" + ("; numpy is not here" if skipped else "")

@@ -298,7 +298,8 @@ def _member(name: str, entry: Optional[Entry], time: int) -> tarfile.TarInfo:
     """What an archive tells of a file, a link, or a folder, which has no entry: no owner, and the
     commit's time."""
     made = tarfile.TarInfo(name)
-    made.mtime, made.mode = time, RUN
+    made.mtime = time
+    made.mode = RUN
     if isinstance(entry, File):
         made.size = len(entry.content)
         made.mode = RUN if entry.is_executable else PLAIN

@@ -174,7 +174,8 @@ def _told(name: str, done: Done) -> Counts:
 def run_modules(modules: Sequence[str], program: str, is_built: bool = False) -> Counts:
     """Runs the tests of these modules, or of all, over a program; each module in a process of its
     own, some at a time."""
-    counts, is_ended = Counts(), Event()
+    counts = Counts()
+    is_ended = Event()
     paths = sorted(HERE.glob("test_*.py"), key=lambda path: path.stat().st_size, reverse=True)
     names = modules or [f"{HERE.name}.{path.stem}" for path in paths]
     with tempfile.TemporaryDirectory(prefix="vga-tests-") as compiled:
