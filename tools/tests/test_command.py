@@ -146,17 +146,17 @@ class Reports(Folder):
                 ("compare read refused --all", (1, both, "")),
                 ("compare read refused --picture m.png", (1, first, none)),
                 (
-                    "check three -",
+                    "compare three - --expected",
                     b"1-2 ok\n3 55\n",
                     (0, b"three is as expected: 3 steps, 0 pictures\n", ""),
                 ),
                 (
-                    "check three -",
+                    "compare three - --expected",
                     b"1-2 ok\n3 54\n",
                     (1, b"three:3: step 3: 55, not 54 (standard input:2)\n", ""),
                 ),
                 (
-                    "check three -",
+                    "compare three - --expected",
                     b"1-2 ok\n",
                     (1, b"three:3: step 3: 55, not the end (standard input)\n", ""),
                 ),
@@ -732,7 +732,7 @@ class Suite(Folder):
         path = self.write("list.txt", "\n".join(self.lines) + "\n")
         folder = self.folder / "p"
         written = (0, f"{folder}/a/one-0001.png\n".encode(), "")
-        self.assertEqual(run("suite", "pictures", folder, "--list", path), written)
+        self.assertEqual(run("expected", folder, "--list", path), written)
         self.assertEqual(
             png_rows((folder / "a/one-0001.png").read_bytes()), (9, 1, [b"\xff\0\0" * 9])
         )

@@ -141,9 +141,9 @@ class Tools(Fake):
         self.begin_program(f"open({str(self.folder / 'begun')!r}, 'w')\n")
         run = f"vga-report run t.vga --vga {self.vga}"
         for words, name in (
-            (f"{run} --html o --json o", "o"),
+            (f"{run} --junit o --json o", "o"),
             (f"{run} --json o --junit o", "o"),
-            (f"{run} --html - --json -", "standard output"),
+            (f"{run} --junit - --json -", "standard output"),
             ("vga-report compare r s --picture o --html o", "o"),
             ("vga-floppy run --on qemu t.vga o --picture o", "o"),
             ("vga-floppy run --on qemu t.vga --picture -", "standard output"),

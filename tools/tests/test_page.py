@@ -643,31 +643,10 @@ class Opened(Fake):
             )
         self.assertFalse(self.made.exists())
 
-    def test_the_listing_links_to_it(self) -> None:
-        (self.folder / "x y").mkdir()
-        html, made = self.folder / "page.html", self.folder / "x y" / "debug.html"
-        for path in (self.path, "-"):
-            with self.subTest(path):
-                words = ("--html", str(html), "--debug", str(made))
-                status, output, said = self.run_script(
-                    *words, path=path, given=Path(self.path).read_bytes()
-                )
-                self.assertEqual((status, said), (0, ""))
-                self.assertTrue(
-                    output.endswith("\n6 steps, 1 refused, 1 picture, 4 of 4 answers as expected\n")
-                )
-                self.assertIn(
-                    '<a href="x%20y/debug.html">Run it step by step</a>', html.read_text("utf-8")
-                )
-                self.assertEqual(
-                    self.opened(made.read_text("utf-8"))["text"], Path(self.path).read_text()
-                )
-
     def test_the_page_of_a_script_with_a_mistake(self) -> None:
-        status, _, said = self.run_text(
-            "frame\nmove 1\n", "--debug", str(self.made), "--html", "page.html"
-        )
-        self.assertEqual((status, "F7 BadLine(2)" in said), (2, True), said)
+        path = self.write("bad.vga", "frame\nmove 1\n")
+        status, _, said = self.debugged(path, made=str(self.made))
+        self.assertEqual((status, said), (0, ""))
         self.assertEqual(self.opened(self.made.read_text("utf-8"))["text"], "frame\nmove 1\n")
 
 
@@ -730,33 +709,15 @@ class Listings(Fake):
         (found,) = re.findall(r'<script type="application/json" id="frames">(.*?)</script>', page)
         return json.loads(found)
 
-    def test_a_run(self) -> None:
-        page = self.folder / "page.html"
-        told = "6 steps, 1 refused, 1 picture, 4 of 4 answers as expected\n"
-        self.assertEqual(self.run_script("--html", str(page)), (0, told, ""))
-        text = page.read_text(encoding="utf-8")
-        self.assertEqual(self.run_script("--html", "-"), (0, text, told))
-        self.assertEqual(self.frames(text), [{"step": 4, "title": "step 4, 9x1", "images": ["p1"]}])
-        images = [
-            attributes
-            for tag, attributes in self.assert_stands_alone(text).elements
-            if tag == "img"
-        ]
-        self.assertEqual([image["id"] for image in images], ["p1"])
-        data = base64.b64decode((images[0]["src"] or "").partition(",")[2])
-        self.assertEqual(png_rows(data), (9, 1, [b"\xff\0\0" * 4 + bytes(15)]))
-        self.assertIn(
-            '<tr class="refused"><td class="number">5</td><td class="number">3</td><td>IN 3DA</td>',
-            text,
-        )
-
-    def test_what_a_script_says_is_no_part_of_the_page(self) -> None:
-        path = self.write("<b>&.vga", 'get <script>alert(1)</script> ; = <i>"&\n')
-        status, text, _ = self.run_script("--html", "-", path=path)
+    def test_what_a_report_says_is_no_part_of_the_page(self) -> None:
+        path = self.report("<b>&", "ax=0000 bx=0000 cx=0000 dx=0000")
+        other = self.report('"<script>', "ax=0001 bx=0000 cx=0000 dx=0000")
+        status, text, _ = self.run_tool("compare", path, other, "--html", "-")
         self.assertEqual(status, 1)
         self.assert_stands_alone(text)
-        self.assertIn("GET &lt;SCRIPT&gt;", text)
-        self.assertIn('<tr class="differs">', text)
+        self.assertIn("/&lt;b&gt;&amp;</th>", text)
+        self.assertIn("/&quot;&lt;script&gt;</th>", text)
+        self.assertIn("<td>ax=0001 bx=0000 cx=0000 dx=0000</td>", text)
 
     def test_two_reports(self) -> None:
         path, other = self.report("a", "00", PICTURE), self.report(

@@ -127,7 +127,7 @@ RUNS: list[tuple[str, str, int, list[str]]] = [
             "\n3 steps, 3 refused, 0 pictures, 0 of 1 answers as expected\n",
         ],
     ),
-    ("in 60\nin 60\n", "--html -", 0, [f"{DECODED(60).strip()}</td></tr>\n<tr"]),
+    ("in 60\nin 60\n", "--json -", 0, [f'"why": "{DECODED(60).strip()}"}},\n']),
     ("in 60\nin 61 ; = E1 NotDecoded\n", "--quiet", 0, []),
     (
         "in 60\n",
@@ -410,16 +410,27 @@ class Listings(Fake):
             " ax=0003\n"
         )
         told = "t.vga:2: nothing -> E6\nt.vga:3: 55 -> E6\nt.vga:6: nothing -> E1 NotDecoded\n"
-        told += "t.vga:7: nothing -> ax=0003 bx=0000 cx=0000 dx=0000\nt.vga: 4 answers "
+        told += "t.vga:7: nothing -> ax=0003 bx=0000 cx=0000 dx=0000\nt.vga: 4 answers written\n"
         hold(
             self,
             self.blessed,
             (
-                (text, "--dry-run", (0, f"{told}would be written\n", text)),
-                (text, (0, f"{told}written\n", whole)),
+                (text, (0, told, whole)),
                 *((good, (0, "t.vga: 0 answers written\n", good)) for good in (whole, met)),
             ),
         )
+
+    def test_what_would_be_written_in_is_shown_as_a_diff(self) -> None:
+        text = "get 0\nget 1 ; = 55\nget 2 ; = *\n"
+        status, told, left = self.blessed(text, "--diff")
+        self.assertEqual((status, left), (0, text))
+        changes = [line for line in told.splitlines()[3:] if line[0] in "+-"]
+        wanted = ["-get 0", "-get 1 ; = 55", "+get 0 ; = E6", "+get 1 ; = E6"]
+        self.assertEqual(changes, wanted)
+        # Without --bless an answer that nothing expects is none that differs.
+        status, told, _ = self.run_text(text, "--diff")
+        self.assertEqual(status, 1)
+        self.assertNotIn("get 0 ; = E6", told)
 
     def test_a_step_that_answers_otherwise_when_it_is_repeated(self) -> None:
         blessing = Blessing(b"version 2\nrepeat 2\nget 0\nend\n", True)
@@ -792,8 +803,8 @@ class Several(Fake):
             self.vga,
             "--quiet",
             "--watch",
-            "--html",
-            page := self.folder / "page",
+            "--json",
+            told_in := self.folder / "page",
         ]
         words += ["--fonts", fonts := self.write("fonts", "1")]
         process = begin("vga-report", *words, text=True)
@@ -808,7 +819,8 @@ class Several(Fake):
             self.assertEqual(
                 told, (f"{self.path} has changed\n", f"{self.path}: 1 step, 1 picture\n")
             )
-            self.assertIn("1 step, 1 picture", page.read_text("utf-8"))
+            # The file takes its place once all is told.
+            self.wait_until(lambda: '"steps": 1, ' in told_in.read_text("utf-8"))
             self.write("fonts", "2")
             self.assertEqual(
                 process.stdout.readline() + process.stdout.readline(),

@@ -21,9 +21,9 @@ function __vga_report_commands
         pictures 'writes the pictures of a report as files' \
         compare 'tells the first step in which two reports differ' \
         compare-picture 'compares the picture of a step with an image, PNG or PPM' \
-        check 'compares a report with the one that is expected' \
-        suite 'holds a command to the suite; `suite pictures FOLDER` writes the pictures that it expects' \
-        scripts 'writes the scripts of the suite\'s cases into a folder, as `suite` hands them to a command'
+        suite 'holds a command to the suite' \
+        scripts 'writes the scripts of the suite\'s cases into a folder, as `suite` hands them to a command' \
+        expected 'writes the pictures that the suite expects into a folder'
 end
 
 # Offers files, those with an ending first. Of --option=value it completes the value alone.
@@ -43,13 +43,11 @@ complete -c vga-report -n '__vga_report_command run' -l until -x -d 'stops after
 complete -c vga-report -n '__vga_report_command run' -l only -x -d 'shows only these steps, as 10-20,refused; also read, pictures, dumps, differs'
 complete -c vga-report -n '__vga_report_command run' -l pictures -x -a '(__fish_complete_directories)' -d 'writes the pictures of the steps that --only names, or of all, as NNNN.png'
 complete -c vga-report -n '__vga_report_command run' -l show -d 'shows pictures as blocks of colour'
-complete -c vga-report -n '__vga_report_command run' -l html -x -a '(__fish_complete_path)' -d 'writes the listing as a page, with its pictures'
 complete -c vga-report -n '__vga_report_command run' -l debug -x -a '(__fish_complete_path)' -d 'writes a page that runs the script in a browser, step by step; nothing is run here'
 complete -c vga-report -n '__vga_report_command run' -l bless -d 'writes answers that are not as expected into the script'
-complete -c vga-report -n '__vga_report_command run' -l dry-run -d 'with --bless: lists its changes, and writes nothing'
 complete -c vga-report -n '__vga_report_command run' -l strict -d 'counts a refusal that is not expected as a difference'
 complete -c vga-report -n '__vga_report_command run' -l quiet -d 'shows only the answers that differ, and the last line'
-complete -c vga-report -n '__vga_report_command run' -l diff -d 'shows what differs as a unified diff of the script instead'
+complete -c vga-report -n '__vga_report_command run' -l diff -d 'shows what differs as a unified diff of the script; with --bless what that would write'
 complete -c vga-report -n '__vga_report_command run' -l json -x -a '(__fish_complete_path)' -d 'writes steps, answers, digests and refusals as JSON'
 complete -c vga-report -n '__vga_report_command run' -l junit -x -a '(__fish_complete_path)' -d 'writes the result of each script as XML for test runners'
 complete -c vga-report -n '__vga_report_command run' -l jobs -x -d 'runs N scripts of a folder at a time (default: 1)'
@@ -72,6 +70,7 @@ complete -c vga-report -n '__vga_report_command compare' -s h -l help -d 'show t
 complete -c vga-report -n '__vga_report_command compare' -l all -d 'tells all steps that differ, and not only the first'
 complete -c vga-report -n '__vga_report_command compare' -l picture -x -a '(__fish_complete_path)' -d 'writes the first picture that differs as PNG, with its differing dots marked'
 complete -c vga-report -n '__vga_report_command compare' -l html -x -a '(__fish_complete_path)' -d 'writes all steps that differ as one page'
+complete -c vga-report -n '__vga_report_command compare' -l expected -d 'OTHER is an expected report, as the suite has them'
 complete -c vga-report -n '__vga_report_command compare' -l scale -x -d 'makes each dot N times as wide and as high'
 complete -c vga-report -n '__vga_report_command compare' -l aspect -d 'stretches pictures to 4:3, the shape of a monitor'
 complete -c vga-report -n '__vga_report_command compare' -F
@@ -81,8 +80,6 @@ complete -c vga-report -n '__vga_report_command compare-picture' -l picture -x -
 complete -c vga-report -n '__vga_report_command compare-picture' -l scale -x -d 'makes each dot N times as wide and as high'
 complete -c vga-report -n '__vga_report_command compare-picture' -l aspect -d 'stretches pictures to 4:3, the shape of a monitor'
 complete -c vga-report -n '__vga_report_command compare-picture' -F
-complete -c vga-report -n '__vga_report_command check' -s h -l help -d 'show this help message and exit'
-complete -c vga-report -n '__vga_report_command check' -F
 complete -c vga-report -n '__vga_report_command suite' -s h -l help -d 'show this help message and exit'
 complete -c vga-report -n '__vga_report_command suite' -l keep -x -a '(__fish_complete_directories)' -d 'keeps the reports and pictures of cases that don\'t agree'
 complete -c vga-report -n '__vga_report_command suite' -l bytes -x -d 'the command for scripts as bytes; without it they are skipped'
@@ -95,10 +92,15 @@ complete -c vga-report -n '__vga_report_command suite' -l timeout -x -d 'the tim
 complete -c vga-report -n '__vga_report_command suite' -l output -x -d 'the most that a case\'s report may have (default: 256)'
 complete -c vga-report -n '__vga_report_command suite' -l jobs -x -d 'runs N commands at a time (default: 1)'
 complete -c vga-report -n '__vga_report_command suite' -l json -d 'prints the table as JSON'
-complete -c vga-report -n '__vga_report_command suite' -a '(__fish_complete_directories)'
 complete -c vga-report -n '__vga_report_command scripts' -s h -l help -d 'show this help message and exit'
 complete -c vga-report -n '__vga_report_command scripts' -l list -x -a '(__fish_complete_path)' -d 'reads this list of cases (default: the project\'s)'
 complete -c vga-report -n '__vga_report_command scripts' -l only -x -d 'takes only cases whose names begin with PREFIX; may be repeated'
 complete -c vga-report -n '__vga_report_command scripts' -l except -x -d 'leaves out cases whose names begin with PREFIX; may be repeated'
 complete -c vga-report -n '__vga_report_command scripts' -l machine -d 'for a machine, which refuses nothing: cases that it can answer, each up to the first refused step'
 complete -c vga-report -n '__vga_report_command scripts' -a '(__fish_complete_directories)'
+complete -c vga-report -n '__vga_report_command expected' -s h -l help -d 'show this help message and exit'
+complete -c vga-report -n '__vga_report_command expected' -l list -x -a '(__fish_complete_path)' -d 'reads this list of cases (default: the project\'s)'
+complete -c vga-report -n '__vga_report_command expected' -l only -x -d 'takes only cases whose names begin with PREFIX; may be repeated'
+complete -c vga-report -n '__vga_report_command expected' -l except -x -d 'leaves out cases whose names begin with PREFIX; may be repeated'
+complete -c vga-report -n '__vga_report_command expected' -l machine -d 'for a machine, which refuses nothing: cases that it can answer, each up to the first refused step'
+complete -c vga-report -n '__vga_report_command expected' -a '(__fish_complete_directories)'

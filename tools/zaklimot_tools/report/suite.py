@@ -40,8 +40,6 @@ AGREES, SKIPPED, DIFFERS, FAILED = "agrees", "skipped", "differs", "failed"
 # cases.
 COUNTED = {AGREES: "agree", SKIPPED: "skipped", DIFFERS: "differ", FAILED: "failed"}
 ANSWERS = tuple(COUNTED)
-# The word in the place of a command that asks for the expected pictures.
-PICTURES = "pictures"
 # What messages call the report of a case.
 REPORT_NAME = "its report"
 PLACE = re.compile(r"\{(script|fonts|name)\}")
@@ -112,11 +110,7 @@ class Command:
 
 
 def suite(words: argparse.Namespace, progress: Progress) -> int:
-    """Holds a command to the suite; `suite pictures FOLDER` writes the pictures that it expects."""
-    if words.command == PICTURES and words.folder is not None:
-        return _write_expected(words)
-    if words.folder is not None:
-        raise Trouble(f"the command is one word of the shell: '{words.command} {words.folder}'")
+    """Holds a command to the suite."""
     if words.keep is not None:
         empty_folder(words.keep)
     results = _results(words, _chosen(words), progress)
@@ -146,7 +140,8 @@ def _status(counts: dict[str, int]) -> int:
     return DIFFERED if counts[DIFFERS] or not counts[AGREES] else AGREED
 
 
-def _write_expected(words: argparse.Namespace) -> int:
+def expected(words: argparse.Namespace, progress: Progress) -> int:
+    """Writes the pictures that the suite expects into a folder."""
     folder = empty_folder(words.folder)
     for case in _chosen(words):
         for number, picture in _pictures_in(case.expected_steps()):
