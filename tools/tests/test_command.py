@@ -38,7 +38,7 @@ run = partial(run_tool, PROGRAM.name)
 class Reports(Folder):
     """Reports that are shown, cut into pictures and compared, in a folder that has some."""
 
-    REPORTS = {
+    REPORTS: dict[str, tuple[str | bytes, ...]] = {
         "black": ("ok", ppm(9, 1, BLACK * 9)),
         "red": ("ok", PICTURE),
         "two": (PICTURE, "ok", ppm(1, 1, WHITE)),
@@ -377,6 +377,7 @@ DUMPS, EDGES = (
 BLOCK = "version 2 ; a block\nrepeat 2\nget A0000\nend\n"
 BIG = "\0" * 16_777_217
 LISTED = "{folder}/list:2: "
+OUTSIDE = f"{LISTED}a case outside the list's folder"
 HANDED: list[tuple[str, dict[str, str], str, dict[str, str] | str]] = [
     (
         (
@@ -463,11 +464,11 @@ HANDED: list[tuple[str, dict[str, str], str, dict[str, str] | str]] = [
     ),
     # What can't be meant.
     *(
-        (f"fonts zero.fnt\n{line}\n", {}, "", f"{LISTED}no case: '{line}'")
+        (f"fonts zero.fnt\n{line}\n", dict[str, str](), "", f"{LISTED}no case: '{line}'")
         for line in ("a b", "a until", "a until x", "bytes a b")
     ),
     *(
-        (f"fonts zero.fnt\n{name}\n", {}, "", f"{LISTED}a case outside the list's folder: '{name}'")
+        (f"fonts zero.fnt\n{name}\n", dict[str, str](), "", f"{OUTSIDE}: '{name}'")
         for name in ("../one", "/one", "a/../../one")
     ),
     *(

@@ -21,7 +21,7 @@ from .tools import TOP, run_tool
 
 FILES = ["bars.vga", "kept", "report.txt", "zaklimot.fnt"]
 # Lines, each with what is offered at its end.
-LINES = {
+LINES: dict[str, list[str]] = {
     "vga-report run ": FILES,
     "vga-report run --fonts z": ["zaklimot.fnt"],
     "vga-report run --jobs ": [],
@@ -61,7 +61,7 @@ class Made(Completing):
 
     def offered(self) -> dict[str, list[str]]:
         """What is offered of each tool by its parser: all commands, and the options of each."""
-        offered = {}
+        offered: dict[str, list[str]] = {}
         for tool in tools():
             offered[f"{tool.name} "] = [command.name for command in tool.commands]
             for command in tool.commands:

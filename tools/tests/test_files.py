@@ -156,9 +156,9 @@ class Tools(Fake):
                 done = run_tool(tool, *rest, prepare=lambda: os.chdir(self.folder))
                 self.assertEqual(done, (2, b"", f"{tool}: {name}: {BOTH}"))
                 self.assertEqual(self.names(), before)
-        words = f"{run} --pictures d --json d/0003.png".split()[1:]
+        given = f"{run} --pictures d --json d/0003.png".split()[1:]
         (self.folder / "d").mkdir()
-        done = run_tool("vga-report", *words, prepare=lambda: os.chdir(self.folder))
+        done = run_tool("vga-report", *given, prepare=lambda: os.chdir(self.folder))
         hold_undone(self, done, "^vga-report: d/0003.png: a picture of d would have this name\n$")
         self.assertFalse((self.folder / "begun").exists())
 
@@ -173,11 +173,12 @@ class Tools(Fake):
     def test_folders_of_runs_that_fail(self) -> None:
         self.write("bad", "1 picture 9\n")
         self.write("bad.vga", "move\n")
-        for words in (
+        ways: tuple[tuple[str | Path, ...], ...] = (
             ("pictures", "bad", "a/b"),
             ("run", "bad.vga", "--pictures", "a", "--vga", self.vga),
             ("scripts", "a", "--list", "none"),
-        ):
+        )
+        for words in ways:
             done = run_tool("vga-report", *words, prepare=lambda: os.chdir(self.folder))
             self.assertEqual((done[0], (self.folder / "a").exists()), (2, False), words)
 
@@ -251,8 +252,8 @@ class Recordings(Folder):
         for name in ("tools/zaklimot_tools", "bindings", "fonts", "include"):
             (self.folder / name).symlink_to(TOOLS.parent / name)
         (self.folder / "tools" / "zaklimot_tools").unlink()
-        copy = ["cp", "-r", TOOLS / "zaklimot_tools", TOOLS / "vga-trace", TOOLS / "vga"]
-        self.assertEqual(ended(*copy, self.folder / "tools")[0], 0)
+        copied = (TOOLS / name for name in ("zaklimot_tools", "vga-trace", "vga"))
+        self.assertEqual(ended("cp", "-r", *copied, self.folder / "tools")[0], 0)
         given = {**os.environ, "PATH": "/nowhere"}
         trace = self.folder / "tools" / "vga-trace"
         words = ("record", self.folder / "made", "--", "-cdrom", "disc")

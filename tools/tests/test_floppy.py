@@ -120,7 +120,8 @@ class Interpreting(unittest.TestCase):
             # Two registers are left otherwise; and before, all have another value.
             wanted.misc, wanted.seq.registers[0] = last, 3
             state.memory.words[:], state.dac.components[:] = [0x12345678] * 0x10000, [0x15] * 768
-            state.misc = state.dac.mask = state.memory.latches = state.is_data = 0x54
+            state.misc = state.dac.mask = state.memory.latches = 0x54
+            state.is_data = True
             banks = [part for part in vars(state).values() if isinstance(part, Bank)]
             for bank, index in (
                 (bank, index) for bank in banks for index in range(len(bank.registers))

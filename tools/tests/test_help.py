@@ -86,7 +86,9 @@ class Words(unittest.TestCase):
         told = "; print('loaded', *(name for name in sys.modules if name.startswith('zaklimot')))"
         environment = {**os.environ, "PYTHONPATH": str(TOOLS)}
         for name in NAMES:
-            module = MAIN.search((TOOLS / name).read_text("utf-8"))[1]
+            found = MAIN.search((TOOLS / name).read_text("utf-8"))
+            assert found is not None, name
+            module = found[1]
             command = f"import sys; from {module} import main; main(['--help']){told}"
             status, output, said = ended(*PYTHON, "-c", command, env=environment)
             self.assertEqual((status, said), (0, ""))

@@ -17,7 +17,7 @@ from unittest import mock
 
 from zaklimot_tools.report.debugging import PAGE
 from zaklimot_tools.trace import inpage
-from zaklimot_tools.trace.asked import SPEEDS, Deed
+from zaklimot_tools.trace.asked import SPEEDS, USUAL_SPEED, Deed
 
 from .tools import (
     PROGRAM as TESTED,
@@ -89,9 +89,8 @@ class Recorded(Folder):
         for folder in (self.folder / "one", self.folder / "two"):
             self.assertEqual(sorted(path.name for path in folder.iterdir()), names)
         for name in names:
-            self.assertEqual(
-                *((self.folder / into / name).read_bytes() for into in ("one", "two")), name
-            )
+            one, other = ((self.folder / into / name).read_bytes() for into in ("one", "two"))
+            self.assertEqual(one, other, name)
         trace = self.trace("one")
         self.assertEqual(
             re.findall(r"^\d+\+\d+ w m A0000 (..) 1$", trace, re.M), ["61", "42", "20"]
@@ -191,7 +190,7 @@ class Recorded(Folder):
         table = re.search(r"export const SPEEDS = \{ (.*?) \};", source)
         assert table is not None
         self.assertEqual(tuple(re.findall(r"(\w+): \d+", table[1])), SPEEDS)
-        self.assertIn(f'USUAL_SPEED = "{inpage.USUAL_SPEED}"', source)
+        self.assertIn(f'USUAL_SPEED = "{USUAL_SPEED}"', source)
 
     def test_wrong_files(self) -> None:
         for name, data, told in (
@@ -255,10 +254,13 @@ class Recorded(Folder):
         for number in (signal.SIGINT, signal.SIGTERM):
             process = begin("vga-trace", "record", into, "--in-page", file, "--seconds", "3600")
             nodes: set[int] = set()
+
+            def has_begun() -> bool:
+                nodes.update(recorders_of(process.pid))
+                return bool(nodes)
+
             with process:
-                self.wait_until(
-                    lambda: bool(nodes.update(recorders_of(process.pid)) or nodes), process
-                )
+                self.wait_until(has_begun, process)
                 process.send_signal(number)
                 output, said = process.communicate()
             self.assertEqual((process.returncode, output), (128 + number, b""), said)

@@ -62,7 +62,7 @@ from zaklimot_tools.report.places import SUITE
 from zaklimot_tools.script import crates
 
 from .test_pages import broken
-from .tools import Folder, call, ended, hold, hold_undone, refused, main_of
+from .tools import Folder, call, ended, hold, hold_undone, main_of, patched, refused
 
 
 TEXT = HEADER.read_text("ascii")
@@ -301,6 +301,12 @@ class Checks(Folder):
         )
 
 
+def content_of(entry: Entry) -> bytes:
+    """What a file of a release has in it."""
+    assert isinstance(entry, File)
+    return entry.content
+
+
 class Parts(Folder):
     """The archive, and what goes into it."""
 
@@ -313,7 +319,7 @@ class Parts(Folder):
             "check_program": lambda _: None,
             "portable_entries": lambda _: {"zaklimot.c": File(b"code")},
         }
-        with mock.patch.multiple(release, **made):
+        with patched(release, made):
             words = ["--program", given, "--archive", given, "--archive-aarch64", given]
             status, output, said = call(main_of("vga-release"), self.folder, *words)
         archive, sums, portable, others = map(Path, output.splitlines())
@@ -366,7 +372,7 @@ class Parts(Folder):
             "portable_entries": lambda _: ENTRIES,
             "release_entries": ran,
         }
-        with mock.patch.multiple(release, **made):
+        with patched(release, made):
             status, output, said = call(main_of("vga-release"), self.folder, "--portable")
             again = call(main_of("vga-release"), self.folder / "again", "--portable")[1]
         self.assertEqual((status, said, len(output.splitlines())), (0, "", 2))
@@ -426,9 +432,9 @@ class Parts(Folder):
         others = {"docs/A.md": File(b""), "src/low/x.rs": File(b"")}
         hold(
             self,
-            lambda page, text: settled({**others, page: File(text)})[
-                release.MOVED.get(page, page)
-            ].content,
+            lambda page, text: content_of(
+                settled({**others, page: File(text)})[release.MOVED.get(page, page)]
+            ),
             (
                 ("docs/C.md", b"[a](A.md#c) ![b](../src/low)", b"[a](A.md#c) ![b](../src/low)"),
                 # Links to what is not there are words.
@@ -785,7 +791,7 @@ class Bindings(Folder):
                 "check_kind": mock.Mock(),
                 "_project": lambda *_: self.folder,
             }
-            with self.subTest(right), mock.patch.multiple(bindings, **faked):
+            with self.subTest(right), patched(bindings, faked):
                 self.assertRegex(check(TOP, self.folder), "^(9|20) tests")
                 self.assertRaises(Wrong, check, TOP, self.folder)
         self.assertEqual(
@@ -880,14 +886,16 @@ class OneFile(Folder):
 class Finding(unittest.TestCase):
     """What the build of the crate for Rust finds, and what it says where there is no library."""
 
+    folder: Path
+
     @classmethod
     def setUpClass(cls) -> None:
         folder = tempfile.TemporaryDirectory()
         cls.addClassCleanup(folder.cleanup)
         cls.folder = Path(folder.name)
         source = TOP / "bindings" / "rust" / "zaklimot-sys" / "build.rs"
-        words = ["rustc", "--edition", "2021", "-D", "warnings", "-o", cls.folder / "build", source]
-        subprocess.run(words, check=True, timeout=120)
+        words = ["rustc", "--edition", "2021", "-D", "warnings"]
+        subprocess.run([*words, "-o", cls.folder / "build", source], check=True, timeout=120)
         # Each of them has a file for pkg-config; the library of `empty` is not there.
         for name in ("full", "empty"):
             package = cls.folder / name / "lib" / "pkgconfig" / "zaklimot.pc"

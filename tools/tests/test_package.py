@@ -29,7 +29,7 @@ PACKAGE = TOOLS / "zaklimot_tools"
 def used_parts(path: Path) -> set[str]:
     """The parts of the tools' package that a module imports from."""
     package = path.relative_to(TOOLS).parts[:-1]
-    found = set()
+    found: set[str] = set()
     for node in ast.walk(ast.parse(path.read_text("utf-8"))):
         names = [name.name for name in node.names] if isinstance(node, ast.Import) else []
         if isinstance(node, ast.ImportFrom):
@@ -97,9 +97,9 @@ class Parts(Folder):
         for name in ("vga-report", "vga-trace", "vga-picture", "vga-floppy"):
             (self.folder / name).symlink_to(TOOLS / name)
             (self.folder / "there" / name).symlink_to(f"../{name}")
-            for words in ([TOOLS / name], [f"./{name}"], [f"there/{name}"]):
-                with self.subTest(words):
-                    done = ended(sys.executable, "-S", *words, "--version", cwd=self.folder)
+            for path in (str(TOOLS / name), f"./{name}", f"there/{name}"):
+                with self.subTest(path):
+                    done = ended(sys.executable, "-S", path, "--version", cwd=self.folder)
                     self.assertEqual(done, (0, f"{name} {version()}\n", ""))
 
 

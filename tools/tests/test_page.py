@@ -28,17 +28,17 @@ from zaklimot_tools.dev.page.making import (
     retargeted,
     with_kit,
 )
+from zaklimot_tools.dev.page.packing import about, packed
+from zaklimot_tools.dev.page.words import MOST_BYTES
 from zaklimot_tools.dev.page.page import (
     DATA,
     MADE,
     SCRIPT,
     STYLE,
     Sources,
-    about,
     editor_in,
     joined,
     make_page,
-    packed,
     page_text,
 )
 from zaklimot_tools.dev.page_tests import command as tests_command
@@ -238,8 +238,8 @@ class Pages(Folder):
 
     def test_a_page_that_is_too_large(self) -> None:
         length = len(small_page(b"", small_sources("")))
-        fits = "x" * (page.MOST_BYTES - length)
-        self.assertEqual(len(small_page(b"", small_sources(fits))), page.MOST_BYTES)
+        fits = "x" * (MOST_BYTES - length)
+        self.assertEqual(len(small_page(b"", small_sources(fits))), MOST_BYTES)
         told = refused(small_page, b"", small_sources(f"{fits}x"))
         self.assertEqual(
             told, "zaklimot.html: it would have 800,001 bytes, and 800,000 are the most"
@@ -596,7 +596,7 @@ class Opened(Fake):
         own = ("--fonts", "fonts")
         given = b"VGAS\x01\x0b\xff"
         coded = base64.b64encode
-        for words, data, wanted in (
+        rows: tuple[tuple[tuple[str, ...], bytes, dict[str, Any]], ...] = (
             (("-",), TEXT.encode(), {"text": TEXT, "fonts": None}),
             # Bytes of a text that are no text.
             (("-",), b"frame ; \xff\n\0\n", {"text": "frame ; \ufffd\n\0\n", "fonts": None}),
@@ -605,7 +605,8 @@ class Opened(Fake):
                 given,
                 {"bytes": coded(given).decode(), "fonts": coded(OTHER_FONTS).decode()},
             ),
-        ):
+        )
+        for words, data, wanted in rows:
             status, page, said = self.debugged(*words, given=data)
             self.assertEqual((status, said), (0, ""))
             self.assertEqual(self.opened(page), {"name": "standard input", **wanted})
@@ -707,7 +708,8 @@ class Listings(Fake):
 
     def frames(self, page: str) -> list[dict[str, object]]:
         (found,) = re.findall(r'<script type="application/json" id="frames">(.*?)</script>', page)
-        return json.loads(found)
+        frames: list[dict[str, object]] = json.loads(found)
+        return frames
 
     def test_what_a_report_says_is_no_part_of_the_page(self) -> None:
         path = self.report("<b>&", "ax=0000 bx=0000 cx=0000 dx=0000")

@@ -22,6 +22,7 @@ from zaklimot_tools.report.places import SUITE
 from zaklimot_tools.script.words import FONTS
 
 from .tools import (
+    patched,
     main_of,
     EXAMPLES,
     TOOLS,
@@ -247,7 +248,7 @@ class Front(unittest.TestCase):
 
 
 # The reference pages, and their sections that are examples and no rules.
-REFERENCE = {
+REFERENCE: dict[str, set[str]] = {
     "REGISTERS": set(),
     "HOST-PATH": {"Worked example"},
     "RASTER": {"Two examples"},
@@ -342,7 +343,7 @@ class Tutorial(unittest.TestCase):
         there = {"chromium-browser", "WebKitWebDriver", "node"}
         fakes = {"check_browser": lambda engine: f"as it says in {engine}", "node_words": list}
         which = mock.Mock()
-        with mock.patch.multiple(command, **fakes), mock.patch("shutil.which", which):
+        with patched(command, fakes), mock.patch("shutil.which", which):
             which.side_effect = there.__contains__
             status, output, said = call(main_of("vga-page-tests"), "--browser")
             self.assertEqual((status, said), (0, ""))

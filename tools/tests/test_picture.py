@@ -16,10 +16,10 @@ from typing import Iterator, NamedTuple, Sequence
 
 from zaklimot.format import Picture, encode, parse_text
 from zaklimot_tools.images.png import write_png
+from zaklimot_tools.picture.asked import Fewer
 from zaklimot_tools.picture.cells import FONTS_AT, Chooser, Chosen
 from zaklimot_tools.picture.colours import (
     Colour,
-    Fewer,
     Nearest,
     distance,
     indexed,

@@ -6,6 +6,7 @@ from __future__ import annotations
 import contextlib
 import io
 import json
+import fcntl
 import os
 import re
 import signal
@@ -21,9 +22,10 @@ from zaklimot_tools.dev.testing.discovering import BUILT
 from zaklimot_tools.script import portable, program
 from zaklimot_tools.script.portable import portable_program
 from zaklimot_tools.script.program import found_program
+from zaklimot_tools.script.program import PROGRAM as BUILT_PROGRAM
 
 from . import commands
-from .tools import BUILT_PROGRAM, SIGNALS, TOP, Folder, begin, hold_refused, refused
+from .tools import SIGNALS, TOP, Folder, begin, hold_refused, patched, refused
 
 
 SOURCE = (TOP / "portable" / "vga.c").read_text("ascii")
@@ -212,7 +214,7 @@ class Compiled(Cache):
     def test_a_lock_that_somebody_keeps_is_waited_for_no_longer_than_that(self) -> None:
         self.cache.mkdir(parents=True)
         with open(self.cache / portable.LOCK, "wb") as file:
-            self.assertTrue(portable._is_locked(file, portable.fcntl.LOCK_EX))
+            self.assertTrue(portable._is_locked(file, fcntl.LOCK_EX))
             with mock.patch.object(portable, "MOST_WAITING", 0.3):
                 _, said = self.found()
         self.assertEqual((said.startswith(portable.WAITS), self.noted()), (True, 1))
@@ -276,7 +278,7 @@ class Found(Cache):
         places = {"PROGRAM": Path(built), "RELEASED": Path(released)}
         # The command `tools/vga` in the path is no program: it looks for one.
         path = os.pathsep.join([str(TOP / "tools"), str(Path(in_path).parent)])
-        with mock.patch.multiple(program, **places), mock.patch.dict(os.environ, PATH=path):
+        with patched(program, places), mock.patch.dict(os.environ, PATH=path):
             self.assertEqual((found_program(named), found_program()), (named, built))
             with mock.patch.object(program, "PROGRAM", none):
                 self.assertEqual(found_program(), released)

@@ -15,7 +15,7 @@ from collections import Counter
 from functools import partial
 from pathlib import Path
 from types import SimpleNamespace as Namespace
-from typing import Sequence
+from typing import Any, Sequence
 from unittest import mock
 
 from zaklimot.format import Picture
@@ -178,7 +178,7 @@ class Recorded(Folder):
             "it lacks the last 1 of 4 lines; ",
         )
         size = "another size: they have {} dots, and neither is the other with dots repeated".format
-        for count, lines, picture, screen, *told in (
+        rows_of_screens: tuple[tuple[Any, ...], ...] = (
             (
                 1,
                 b"",
@@ -224,7 +224,8 @@ class Recorded(Folder):
                 last,
                 line,
             ),
-        ):
+        )
+        for count, lines, picture, screen, *told in rows_of_screens:
             with self.subTest(told):
                 status, shown, said = self.record(
                     lines=lines, screen=screen, picture=picture, steps=(count,)
@@ -560,10 +561,10 @@ class Keeping(Folder):
 
 class Traces(unittest.TestCase):
     def test_rows_and_whether_they_are_as_known(self) -> None:
-        verdict = Namespace(held=Namespace(count=0))
+        verdict: Any = Namespace(held=Namespace(count=0))
         written = Written(False, Counter({"out": 10, "frame": 1}), script_bytes=30)
         checked = Checked(reads=Counter(a=4, b=3))
-        listing = Namespace(trace=Namespace(count=1000))
+        listing: Any = Namespace(trace=Namespace(count=1000))
         replayed = Replay(written, listing, Path(), (), checked, screens={0: verdict})
         front = "| name | 1,000 | 11 | 30 | 46 | 7 | 0 | 0 |"
         for dots, picture in ((0, "the same"), (8, "8 dots differ"), (None, "another size")):

@@ -5,7 +5,7 @@ import json
 import re
 import unittest
 from pathlib import Path
-from typing import Sequence
+from typing import Callable, Sequence
 
 from zaklimot.format import REFUSALS, Answer
 from zaklimot_tools import TOP
@@ -200,11 +200,12 @@ class Faults(Folder):
     def test_files_that_cannot_be_read(self) -> None:
         script = self.folder / "s"
         fonts = Path(self.write("f", bytes(9728)))
-        for make, path, reason in (
+        ways: tuple[tuple[Callable[[], object], Path, str], ...] = (
             (bool, script, "the script can't be read: No such file or directory"),
             (script.mkdir, script, "the script can't be read: Is a directory"),
             (fonts.unlink, fonts, "the font file can't be read: No such file or directory"),
-        ):
+        )
+        for make, path, reason in ways:
             make()
             told = explained("vga: F8 ReadFault", str(script), str(fonts))
             self.assertEqual(told, f"{path}: F8 ReadFault: {reason}")

@@ -8,6 +8,7 @@ import sys
 import unittest
 from functools import partial
 from pathlib import Path
+from typing import Any, Callable
 
 from zaklimot_tools.dev.emulators.table_page import FIRST_MARK, LAST_MARK
 
@@ -259,7 +260,7 @@ REFUSED = {
 }
 GOOD = png(1, 1, bytes(4))
 # What is said of images that are none, or can't be read.
-for told, *images in (
+BAD_IMAGES: tuple[tuple[Any, ...], ...] = (
     ("this is neither a PNG nor a PPM of the kind P6", b"", b"GIF89a"),
     ("the PNG is damaged", GOOD[:-1], GOOD[:20], GOOD[:40], png(1, 2, bytes(4))),
     ("the PNG is damaged", GOOD.replace(b"IDAT", b"IDAX"), GOOD.replace(b"IDAT", b"iDAT")),
@@ -281,7 +282,8 @@ for told, *images in (
     ),
     ("the image has 5000x5000 dots, and 16,777,216 are the most", png(5000, 5000, b"")),
     ("the image has 9999999x2 dots, and 16,777,216 are the most", b"P6 9999999 2 255\n"),
-):
+)
+for told, *images in BAD_IMAGES:
     for image in images:
         name = f"image{len(FILES)}"
         FILES[name] = image
@@ -289,7 +291,7 @@ for told, *images in (
         REFUSED[words] = f"vga-picture: {{{name}}}: {told}\n"
 # Words of the tools, in which the file {in} is read, what it has, and the other name of it in the
 # folder, which would be written.
-READ_AND_WRITTEN = [
+READ_AND_WRITTEN: list[tuple[str, str | bytes, str]] = [
     ("report run {s} --vga {p} --fonts {in} --json {out}", "font", "out"),
     ("report run {in} --vga {p} --json {out}", "frame\n", "out"),
     ("report run {in} --vga {p} --junit {out}", "frame\n", "out"),
@@ -362,11 +364,12 @@ class Refused(Folder):
 
     def test_what_is_read_is_not_written_under_whatever_name(self) -> None:
         for words, content, name in READ_AND_WRITTEN:
-            for link in (os.link, os.symlink):
+            links: tuple[Callable[[Path, Path], None], ...] = (os.link, os.symlink)
+            for link in links:
                 with self.subTest(words, link=link.__name__):
                     (self.folder / "in").unlink(missing_ok=True)
-                    write = self.program if content == PROGRAM else self.write
-                    path = Path(write("in", content))
+                    path = Path(self.write("in", content))
+                    path.chmod(0o755 if content == PROGRAM else 0o644)
                     other = self.folder / name
                     other.parent.mkdir(parents=True, exist_ok=True)
                     link(path, other)

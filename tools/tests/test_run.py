@@ -606,7 +606,7 @@ class Calls(Fake):
             # A tool's process ends at once, and closes its files so.
             warnings.simplefilter("ignore", ResourceWarning)
             profile.runcall(words.job, words, Progress(False))
-        return sum(entry.callcount for entry in profile.getstats())
+        return sum(entry.callcount for entry in profile.getstats())  # type: ignore[attr-defined]
 
     def test_of_a_step(self) -> None:
         with mock.patch("zaklimot_tools.report.listing._wait_for") as waited:
@@ -796,7 +796,7 @@ class Several(Fake):
             self.assertEqual((crate / "asked").read_text(), "\n")
 
     def test_it_runs_again_when_the_script_changes(self) -> None:
-        words = [
+        words: list[str | Path] = [
             "run",
             self.path,
             "--vga",

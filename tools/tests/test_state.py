@@ -7,6 +7,7 @@ from itertools import product
 from random import Random
 from typing import Iterable, Iterator
 
+from zaklimot.format import Picture
 from zaklimot_tools.report.report import Report
 from zaklimot_tools.trace.state import State, rebuilt
 from zaklimot_tools.trace.step import ADVANCE, FRAME, OUT, OUTW, PUTW, READS, WORDS, TraceStep
@@ -122,7 +123,7 @@ class Program(unittest.TestCase):
             name: steps_listed(noise(seed, 1200), first=first, has_time=True, frames=3.0)[:-2]
             for name, (seed, first) in cuts.items()
         }
-        ends: dict[int, list[object]] = {}
+        ends: dict[int, list[tuple[str, ...]]] = {}
         texts = {
             name: b"".join(map(TraceStep.text, steps)) + SHOWN for name, steps in scripts.items()
         }
@@ -133,9 +134,9 @@ class Program(unittest.TestCase):
                 state = self.followed(scripts[name], [answer.answer for answer in answers])
                 # The frame under way is another, and so is what the beam takes from it; the frame
                 # after it is the same.
-                shown = [
+                shown: list[tuple[str, ...]] = [
                     (
-                        answer.picture and answer.picture.sum,
+                        answer.picture.sum if isinstance(answer.picture, Picture) else "",
                         *(line.partition(" base ")[0] for line in answer.lines),
                     )
                     for answer in (*answers[count:-2], answers[-1])

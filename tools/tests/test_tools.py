@@ -22,7 +22,6 @@ from unittest import mock
 from zaklimot_tools.core import cli
 from zaklimot_tools.core.processes import (
     IS_LINUX,
-    MEBIBYTE,
     Failed,
     Limits,
     Outcome,
@@ -34,6 +33,7 @@ from zaklimot_tools.core.processes import (
 from zaklimot_tools.core.progress import DELAY, Progress
 from zaklimot_tools.core.streams import write_file, writing
 from zaklimot_tools.core.trouble import TROUBLE, Trouble
+from zaklimot_tools.core.words import MEBIBYTE
 from zaklimot_tools.dev.library.making import AARCH64
 from zaklimot_tools.dev.testing import checking, discovering
 from zaklimot_tools.dev.testing.discovering import TESTED
@@ -41,6 +41,7 @@ from zaklimot_tools.report.listing import _wait_for
 from zaklimot_tools.script.crates import phases
 
 from .tools import (
+    patched,
     main_of,
     NAMES,
     PYTHON,
@@ -548,15 +549,11 @@ class Checking(Folder):
         modules have these tests."""
         for name, line in lines.items():
             self.write(f"{name}.py", TEST.format(line))
-        found = {
-            "portable_program": lambda: "portable",
-            "check_suite": mock.Mock(return_value=suite),
-        }
-        with mock.patch.multiple(checking, **found), mock.patch.dict(
-            os.environ, PYTHONPATH=str(self.folder)
-        ):
+        check_suite = mock.Mock(return_value=suite)
+        found = {"portable_program": lambda: "portable", "check_suite": check_suite}
+        with patched(checking, found), mock.patch.dict(os.environ, PYTHONPATH=str(self.folder)):
             status, output, said = call(main_of("vga-check"), *lines)
-            found["check_suite"].assert_called_once_with("portable")
+            check_suite.assert_called_once_with("portable")
         self.assertEqual(said, "")
         return status, output.splitlines()
 

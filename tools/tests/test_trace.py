@@ -11,8 +11,7 @@ import subprocess
 import unittest
 from functools import partial
 from itertools import product
-from typing import Iterable
-from unittest import mock
+from typing import Any, Iterable
 
 from zaklimot_tools.core.trouble import Trouble
 from zaklimot_tools.trace import converting
@@ -33,6 +32,7 @@ from zaklimot_tools.trace.step import (
 from zaklimot_tools.trace.trace import MEMORY, PORT, SCREEN, VBE, Cycle, Trace
 
 from .tools import (
+    patched,
     EXAMPLES,
     Folder,
     begin,
@@ -459,7 +459,8 @@ class Passing(unittest.TestCase):
         self.assertEqual(list(Pauses().steps(steps)), steps)
 
     def test_time_that_is_asked_for_and_not_there(self) -> None:
-        for wanted in ({"has_time": True}, {"frames": 0.5}):
+        ways: tuple[dict[str, Any], ...] = ({"has_time": True}, {"frames": 0.5})
+        for wanted in ways:
             with self.subTest(wanted), self.assertRaisesRegex(
                 Trouble, "^trace:1: the first cycle has no time, and time"
             ):
@@ -561,7 +562,7 @@ class Converting(Folder):
         ):
             path = self.write("trace", data)
             ways = f"`--to {last}` ends before that, and `--from {last + 1}` goes on after it"
-            with self.subTest(most), mock.patch.multiple(converting, **limits):
+            with self.subTest(most), patched(converting, limits):
                 told = f"vga-trace: {path}: the script has more than {most}; {ways}\n"
                 self.assertEqual(call(main, "convert", path, script), (2, "", told))
                 self.assertFalse(os.path.exists(script))
@@ -634,7 +635,7 @@ class Checking(Folder):
         BEGIN
         + b"- w p 3C4 2 1\n- r p 3C5 F 1\n- r p 3DA 4 1\n- r m A0000 E1 1\n- r m A0002 1234 2\n"
     )
-    GOOD = ("ok", "ok", "0F", "04", "E1", "1234", PICTURE)
+    GOOD: tuple[str | bytes, ...] = ("ok", "ok", "0F", "04", "E1", "1234", PICTURE)
 
     def check(
         self, *answers: str | bytes, given: bytes = TRACE, options: tuple[str, ...] = ()
@@ -645,7 +646,7 @@ class Checking(Folder):
         )
         return status, out.decode().split("\n")[:-1], said
 
-    def changed(self, **answers: str) -> tuple[str | bytes, ...]:
+    def changed(self, **answers: str | bytes) -> tuple[str | bytes, ...]:
         """The good answers, but of the steps `s1`, `s2` and so on."""
         return tuple(
             answers.get(f"s{number}", answer) for number, answer in enumerate(self.GOOD, 1)

@@ -21,6 +21,7 @@ import zlib
 from functools import partial
 from pathlib import Path
 from typing import Any, BinaryIO, Callable, Iterable, Mapping, NamedTuple, Optional, Sequence
+from unittest import mock
 
 from zaklimot_tools.core.trouble import Trouble
 from zaklimot_tools.dev.testing.discovering import BUILT, TESTED
@@ -62,7 +63,8 @@ def main_of(name: str) -> Callable[[Sequence[str]], int]:
     """The `main` of a tool."""
     found = MAIN.search((TOOLS / name).read_text("utf-8"))
     assert found is not None, name
-    return importlib.import_module(found[1]).main
+    main: Callable[[Sequence[str]], int] = importlib.import_module(found[1]).main
+    return main
 
 
 def _become(
@@ -110,6 +112,7 @@ def run_tool(
                 process.join()
         written.seek(0)
         said.seek(0)
+        assert process.exitcode is not None
         return process.exitcode, written.read(), said.read().decode()
 
 
@@ -124,7 +127,7 @@ def call(main: Callable[[list[str]], int], *words: str | Path) -> tuple[int, str
 def ended(*words: str | bytes | Path, **options: Any) -> tuple[int, Any, Any]:
     """The same of any command; `options` go to `subprocess.run`, and `text=False` among them asks
     for bytes."""
-    given = {
+    given: dict[str, Any] = {
         "stdout": subprocess.PIPE,
         "stderr": subprocess.PIPE,
         "text": True,
@@ -163,6 +166,11 @@ def run_texts(texts: Mapping[str, bytes]) -> dict[str, Ran]:
     want_program()
     words = ("go", "/dev/stdin", "--fonts", FONTS)
     return {name: run_program(*words, given=text) for name, text in texts.items()}
+
+
+def patched(target: Any, faked: Mapping[str, Any]) -> Any:
+    """A patch of some names of a module."""
+    return mock.patch.multiple(target, **faked)
 
 
 def hold(
@@ -210,9 +218,9 @@ def _heed_signals() -> None:
     signal.alarm(MOST_SECONDS)
 
 
-def begin(name: str, *words: str | Path, **options: Any) -> subprocess.Popen[bytes]:
+def begin(name: str, *words: str | Path, **options: Any) -> subprocess.Popen[Any]:
     """A tool that has begun, with pipes for its streams; `options` go to `subprocess.Popen`."""
-    given = {
+    given: dict[str, Any] = {
         "stdout": subprocess.PIPE,
         "stderr": subprocess.PIPE,
         "preexec_fn": _heed_signals,
