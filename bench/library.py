@@ -109,7 +109,7 @@ CALLS = (
 def instructions(program: Path, call: Call, times: int, folder: Path) -> int:
     """How many instructions a run takes that makes a call so often."""
     tool = ["valgrind", "--tool=callgrind", f"--callgrind-out-file={folder / 'counted'}"]
-    words = [*tool, program, FONTS, call.mode, call.name, str(times)]
+    words = [*tool, str(program), str(FONTS), call.mode, call.name, str(times)]
     said = subprocess.run(words, capture_output=True, check=True).stderr.decode("ascii", "replace")
     counted = COUNTED.search(said)
     assert counted is not None, said
@@ -145,8 +145,8 @@ def main() -> int:
     with tempfile.TemporaryDirectory(prefix="bench-library-") as name:
         folder = Path(name)
         program = folder / "calls"
-        words = ["gcc", "-std=c99", "-O2", "-I", TOP / "include", SOURCE, part]
-        subprocess.run([*words, "-o", program], check=True)
+        words = ["gcc", "-std=c99", "-O2", "-I", str(TOP / "include"), str(SOURCE), str(part)]
+        subprocess.run([*words, "-o", str(program)], check=True)
         for call in (call for call in CALLS if call.name in wanted):
             counts = [instructions(program, call, times, folder) for times in (0, call.counted)]
             took = seconds(program, call, call.timed) - seconds(program, call, 0)

@@ -3,7 +3,8 @@ alone.
 
 A wheel has the parts of the package that users need, and below `carried` what these read of the
 project, where it lies in the repository: the program's sources in C, its font, the page, the suite,
-and the package for Python that has the format of scripts.
+and the package for Python that has the format of scripts. Shells find the completions of the
+commands in the environment's `share`.
 """
 
 from __future__ import annotations
@@ -28,6 +29,12 @@ CARRIED = (
     "page/zaklimot.html",
     "portable/vga.c",
     "portable/zaklimot.c",
+)
+# Where shells look for the completions of a command, below `share`.
+COMPLETIONS = (
+    "bash-completion/completions/{}",
+    "zsh/site-functions/_{}",
+    "fish/vendor_completions.d/{}.fish",
 )
 # What a run or a build leaves among the sources, and never goes into a wheel.
 MADE = {"__pycache__", "carried"}
@@ -71,13 +78,17 @@ def _sources() -> dict[str, bytes]:
     """The files of a wheel, by their places in it."""
     files: dict[str, bytes] = {}
     for path in _files(HERE / PACKAGE):
-        place = path.relative_to(HERE)
-        if place.parts[1] != LEFT_OUT:
-            files[place.as_posix()] = path.read_bytes()
+        module = path.relative_to(HERE)
+        if module.parts[1] != LEFT_OUT:
+            files[module.as_posix()] = path.read_bytes()
     for name in CARRIED:
         for path in _files(TOP / name):
             carried = path.relative_to(TOP).as_posix()
             files[f"{PACKAGE}/carried/{carried}"] = path.read_bytes()
+    for command in _section("project.scripts"):
+        for form in COMPLETIONS:
+            place = f"share/{form.format(command)}"
+            files[f"{_stem()}.data/data/{place}"] = (TOP / place).read_bytes()
     return files
 
 

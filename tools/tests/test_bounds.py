@@ -20,7 +20,10 @@ from zaklimot_tools.floppy import image
 from zaklimot_tools.floppy.table import HEADER, NAME, VERSION, Table, table_for
 from zaklimot_tools.images import holding, reading
 from zaklimot_tools.images.reading import image_of, size_of
-from zaklimot_tools.picture.mode import MODES, Fit, check_size
+from zaklimot_tools.images.words import Within
+from zaklimot_tools.picture.asked import Fit
+from zaklimot_tools.picture.fitting import check_size
+from zaklimot_tools.picture.mode import MODES
 from zaklimot_tools.report.cases import MOST_LISTED, read_cases
 from zaklimot_tools.report.report import Expected, Report
 
@@ -105,13 +108,14 @@ class Cases(Folder):
         return self.write("list.txt", text)
 
     def test_lists(self) -> None:
-        for text, told in (
+        lists: tuple[tuple[str | bytes, str], ...] = (
             (b"a\0b\n", "1: the line has a byte 00"),
             (b"fonts x\0\na\n", "1: the line has a byte 00"),
             (b"\nfront \0\na\n", "2: the line has a byte 00"),
             (f"a until {MANY}\n", "1: a run is stopped after at most 4,294,967,295 steps"),
             ("a until 4294967296\n", "1: a run is stopped after at most 4,294,967,295 steps"),
-        ):
+        )
+        for text, told in lists:
             self.assertRegex(refused(read_cases, self.listed(text)), told)
         self.assertEqual(read_cases(self.listed(f"a until {'0' * 5000}7\n"))[0].until, 7)
 
@@ -193,12 +197,14 @@ class Images(Folder):
         )
         picture = Picture.of_dots(2, 1, dots)
         image_at = partial(image_of, b"P6\n2 1\n255\n" + drawn, "it")
-        for tolerance, count in ((0, 2), ("5-6-5", 0), (1, 0), (63, 0)):
+        counts: tuple[tuple[Within, int], ...] = ((0, 2), ("5-6-5", 0), (1, 0), (63, 0))
+        for tolerance, count in counts:
             found = holding.held(picture, image_at(), tolerance)
             self.assertEqual(found.count, count, tolerance)
         self.assertTrue(holding.held(picture, image_at(), "5-6-5").how.endswith("within 5-6-5"))
         other = Picture.of_dots(2, 1, bytes([0x3F, 0x14, 0x01, 0x1D, 0x3F, 0x1F]))
-        for tolerance, count in (("5-6-5", 2), (1, 1), (3, 1), (4, 0)):
+        other_counts: tuple[tuple[Within, int], ...] = (("5-6-5", 2), (1, 1), (3, 1), (4, 0))
+        for tolerance, count in other_counts:
             self.assertEqual(holding.held(other, image_at(), tolerance).count, count, tolerance)
 
     def test_the_words_of_a_tolerance(self) -> None:
@@ -207,9 +213,9 @@ class Images(Folder):
         words = ("compare-picture", report, "1", path)
         for given, status in (((), 1), (("--within", "5-6-5"), 0), (("--within", "1"), 0)):
             self.assertEqual(run_tool("vga-report", *words, *given)[0], status, given)
-        for given in ("64", "-1", "5-5-5", "x"):
-            done = run_tool("vga-report", *words, f"--within={given}")
-            hold_undone(self, done, f"'{given}' is no number from 0 to 63, and not 5-6-5")
+        for word in ("64", "-1", "5-5-5", "x"):
+            done = run_tool("vga-report", *words, f"--within={word}")
+            hold_undone(self, done, f"'{word}' is no number from 0 to 63, and not 5-6-5")
 
 
 class Floppies(unittest.TestCase):
@@ -245,7 +251,9 @@ class Floppies(unittest.TestCase):
 
     def test_tables_at_random(self) -> None:
         made = table_for({"one": parse_text(self.TEXT), "two": parse_text("get a0000\n")})
-        first, random, told = HEADER.unpack_from(made)[2], Random(4711), 0
+        first = HEADER.unpack_from(made)[2]
+        random = Random(4711)
+        told = 0
         for _ in range(3000):
             steps = bytearray(made[HEADER.size :])
             for _ in range(random.randint(1, 3)):

@@ -38,7 +38,7 @@ run = partial(run_tool, PROGRAM.name)
 class Reports(Folder):
     """Reports that are shown, cut into pictures and compared, in a folder that has some."""
 
-    REPORTS = {
+    REPORTS: dict[str, tuple[str | bytes, ...]] = {
         "black": ("ok", ppm(9, 1, BLACK * 9)),
         "red": ("ok", PICTURE),
         "two": (PICTURE, "ok", ppm(1, 1, WHITE)),
@@ -66,10 +66,8 @@ class Reports(Folder):
 
     def test_as_text(self) -> None:
         # The frame at power-on; the sum is that of `md5sum` over its 37 bytes.
-        text, red = (
-            b"1 ok\n2 picture 37 9x1 8f4a7758d19428aa7b8da8bb8fc0c974\n",
-            hashlib.md5(PICTURE).hexdigest(),
-        )
+        text = b"1 ok\n2 picture 37 9x1 8f4a7758d19428aa7b8da8bb8fc0c974\n"
+        red = hashlib.md5(PICTURE).hexdigest()
         front = "vga-report: standard input:2: "
         lacking = f"{front}the picture is shown by its digest, and its dots are not in the file\n"
         differs = (
@@ -136,10 +134,8 @@ class Reports(Folder):
 
     def test_compared(self) -> None:
         first = b"step 2 differs\n  read:2: E1 (read)\n  refused:2: E1 NotDecoded (refused)\n"
-        both, agree = (
-            first + b"step 3 differs\n  read:3: 00\n  refused:3: 01\n",
-            b"red and standard input agree: ",
-        )
+        both = first + b"step 3 differs\n  read:3: 00\n  refused:3: 01\n"
+        agree = b"red and standard input agree: "
         none = "vga-report: no pictures differ, so m.png isn't written\n"
         hold(
             self,
@@ -150,17 +146,17 @@ class Reports(Folder):
                 ("compare read refused --all", (1, both, "")),
                 ("compare read refused --picture m.png", (1, first, none)),
                 (
-                    "check three -",
+                    "compare three - --expected",
                     b"1-2 ok\n3 55\n",
                     (0, b"three is as expected: 3 steps, 0 pictures\n", ""),
                 ),
                 (
-                    "check three -",
+                    "compare three - --expected",
                     b"1-2 ok\n3 54\n",
                     (1, b"three:3: step 3: 55, not 54 (standard input:2)\n", ""),
                 ),
                 (
-                    "check three -",
+                    "compare three - --expected",
                     b"1-2 ok\n",
                     (1, b"three:3: step 3: 55, not the end (standard input)\n", ""),
                 ),
@@ -198,7 +194,8 @@ class Streams(Folder):
     @unittest.skipIf(sys.platform in ("win32", "darwin"), "names of any bytes are of Linux")
     def test_names_of_any_bytes(self) -> None:
         folder = bytes(self.folder) + b"/\xff\xfe "
-        path, run = self.report("r", PICTURE), partial(ended, sys.executable, PROGRAM, text=False)
+        path = self.report("r", PICTURE)
+        run = partial(ended, sys.executable, PROGRAM, text=False)
         self.assertEqual(run("pictures", path, folder), (0, folder + b"/0001.png\n", b""))
         os.rename(path, folder + b"/r")
         self.assertEqual(run("text", folder + b"/r", folder)[0], 2)
@@ -377,11 +374,10 @@ DUMPS, EDGES = (
     "show regs\nshow beam\nshow latches\nshow bda\n",
     "; Comment\n\nout 3C2 01 ; more\n\t\r\n  frame\nframe",
 )
-BLOCK, BIG, LISTED = (
-    "version 2 ; a block\nrepeat 2\nget A0000\nend\n",
-    "\0" * 16_777_217,
-    "{folder}/list:2: ",
-)
+BLOCK = "version 2 ; a block\nrepeat 2\nget A0000\nend\n"
+BIG = "\0" * 16_777_217
+LISTED = "{folder}/list:2: "
+OUTSIDE = f"{LISTED}a case outside the list's folder"
 HANDED: list[tuple[str, dict[str, str], str, dict[str, str] | str]] = [
     (
         (
@@ -468,11 +464,11 @@ HANDED: list[tuple[str, dict[str, str], str, dict[str, str] | str]] = [
     ),
     # What can't be meant.
     *(
-        (f"fonts zero.fnt\n{line}\n", {}, "", f"{LISTED}no case: '{line}'")
+        (f"fonts zero.fnt\n{line}\n", dict[str, str](), "", f"{LISTED}no case: '{line}'")
         for line in ("a b", "a until", "a until x", "bytes a b")
     ),
     *(
-        (f"fonts zero.fnt\n{name}\n", {}, "", f"{LISTED}a case outside the list's folder: '{name}'")
+        (f"fonts zero.fnt\n{name}\n", dict[str, str](), "", f"{OUTSIDE}: '{name}'")
         for name in ("../one", "/one", "a/../../one")
     ),
     *(
@@ -734,9 +730,10 @@ class Suite(Folder):
             "frame\nframe\n",
             f"1 picture 37 9x1\n3F0000*9\n2 picture 37 9x1 {hashlib.md5(PICTURE).hexdigest()}\n",
         )
-        path, folder = self.write("list.txt", "\n".join(self.lines) + "\n"), self.folder / "p"
+        path = self.write("list.txt", "\n".join(self.lines) + "\n")
+        folder = self.folder / "p"
         written = (0, f"{folder}/a/one-0001.png\n".encode(), "")
-        self.assertEqual(run("suite", "pictures", folder, "--list", path), written)
+        self.assertEqual(run("expected", folder, "--list", path), written)
         self.assertEqual(
             png_rows((folder / "a/one-0001.png").read_bytes()), (9, 1, [b"\xff\0\0" * 9])
         )

@@ -91,11 +91,12 @@ class Reports(unittest.TestCase):
         self.assertEqual([difference.number for difference in found], [1, 5])
         self.assertEqual(comparison.text(), "5 steps, 1 picture, 2 skipped")
         # What follows the shorter report is one.
-        steps, others = (iter(steps_of(report(*answers))) for answers in (("ok",), ("ok",) * 3))
-        self.assertEqual([found.number for found in Comparison().differences(steps, others)], [2])
+        short, long = (iter(steps_of(report(*answers))) for answers in (("ok",), ("ok",) * 3))
+        self.assertEqual([found.number for found in Comparison().differences(short, long)], [2])
 
     def test_as_expected_and_otherwise(self) -> None:
-        digest, other = hashlib.md5(PICTURE).hexdigest(), 32 * "0"
+        digest = hashlib.md5(PICTURE).hexdigest()
+        other = 32 * "0"
         hold(
             self,
             lambda answers, expected: against(report(*answers), expected),
@@ -239,7 +240,7 @@ class Damage(unittest.TestCase):
     def damage(self, data: bytes) -> tuple[str, int]:
         """What is told of a damaged report, and how many good steps there are before."""
         steps = Report(stream(data), "r").steps()
-        seen = []
+        seen: list[Answer] = []
         return refused(lambda: seen.extend(steps)), len(seen)
 
     def test_what_is_told(self) -> None:

@@ -14,10 +14,10 @@ from itertools import product
 from pathlib import Path
 from typing import Callable, Optional
 
+from zaklimot_tools.script.program import PROGRAM as BUILT_PROGRAM
 from zaklimot_tools.script.words import FONTS
 
 from .tools import (
-    BUILT_PROGRAM,
     MOST_SECONDS,
     PROGRAM,
     Folder,
@@ -37,7 +37,10 @@ REPORT = b"1 ok\n2 ok\n3 63\n"
 JOBS = (("run", "script"), ("go", "text"))
 # What reads a file and writes to standard output: the command, the file, its options, and what it
 # writes.
-WAYS = (("dis", "script", (), PRINTED), *((*job, ("--fonts", "fonts"), REPORT) for job in JOBS))
+WAYS: tuple[tuple[str, str, tuple[str, ...], bytes], ...] = (
+    ("dis", "script", (), PRINTED),
+    *((job, name, ("--fonts", "fonts"), REPORT) for job, name in JOBS),
+)
 # Each command's help. It is the interface, so a change of a letter is to be seen.
 HELP = Path(__file__).resolve().parent / "help"
 
@@ -316,10 +319,8 @@ class Streams(Program):
     def test_a_file_that_is_full_has_a_front(self) -> None:
         for job, name, options, output in WAYS:
             with self.subTest(job), open(self.folder / "full", "wb") as full:
-                words = (PROGRAM, job, name, *options)
-                done = ended(
-                    *words, cwd=self.folder, stdout=full, preexec_fn=lambda: limit_files(7)
-                )
+                given = {"stdout": full, "preexec_fn": lambda: limit_files(7)}
+                done = ended(PROGRAM, job, name, *options, cwd=self.folder, **given)
                 self.assertEqual((done[0], done[2]), (1, "vga: F9 WriteFault\n"))
                 self.assertEqual((self.folder / "full").read_bytes(), output[:7])
 

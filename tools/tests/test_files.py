@@ -141,9 +141,9 @@ class Tools(Fake):
         self.begin_program(f"open({str(self.folder / 'begun')!r}, 'w')\n")
         run = f"vga-report run t.vga --vga {self.vga}"
         for words, name in (
-            (f"{run} --html o --json o", "o"),
+            (f"{run} --junit o --json o", "o"),
             (f"{run} --json o --junit o", "o"),
-            (f"{run} --html - --json -", "standard output"),
+            (f"{run} --junit - --json -", "standard output"),
             ("vga-report compare r s --picture o --html o", "o"),
             ("vga-floppy run --on qemu t.vga o --picture o", "o"),
             ("vga-floppy run --on qemu t.vga --picture -", "standard output"),
@@ -156,9 +156,9 @@ class Tools(Fake):
                 done = run_tool(tool, *rest, prepare=lambda: os.chdir(self.folder))
                 self.assertEqual(done, (2, b"", f"{tool}: {name}: {BOTH}"))
                 self.assertEqual(self.names(), before)
-        words = f"{run} --pictures d --json d/0003.png".split()[1:]
+        given = f"{run} --pictures d --json d/0003.png".split()[1:]
         (self.folder / "d").mkdir()
-        done = run_tool("vga-report", *words, prepare=lambda: os.chdir(self.folder))
+        done = run_tool("vga-report", *given, prepare=lambda: os.chdir(self.folder))
         hold_undone(self, done, "^vga-report: d/0003.png: a picture of d would have this name\n$")
         self.assertFalse((self.folder / "begun").exists())
 
@@ -173,11 +173,12 @@ class Tools(Fake):
     def test_folders_of_runs_that_fail(self) -> None:
         self.write("bad", "1 picture 9\n")
         self.write("bad.vga", "move\n")
-        for words in (
+        ways: tuple[tuple[str | Path, ...], ...] = (
             ("pictures", "bad", "a/b"),
             ("run", "bad.vga", "--pictures", "a", "--vga", self.vga),
             ("scripts", "a", "--list", "none"),
-        ):
+        )
+        for words in ways:
             done = run_tool("vga-report", *words, prepare=lambda: os.chdir(self.folder))
             self.assertEqual((done[0], (self.folder / "a").exists()), (2, False), words)
 
@@ -212,12 +213,24 @@ class Recordings(Folder):
         begun = self.folder / "begun"
         self.program("bin/qemu-system-x86_64", f"#!/bin/sh\ntouch {begun}\n")
         self.program("says", "#!/bin/sh\necho 'vga: F3 FontSize' >&2\nexit 1\n")
+        self.program("other", "#!/bin/sh\necho '1 01'\n")
+        self.program("more", "#!/bin/sh\nprintf '1 00\\n2 00\\n'\n")
+        self.program("fails", "#!/bin/sh\necho '1 00'\nexit 3\n")
         path = f"{self.folder / 'bin'}:{os.environ['PATH']}"
         for words, told in (
             (("--vga", "/none/vga"), "/none/vga: No such file or directory"),
             (("--vga", str(self.folder)), "it is a folder, and no program"),
             (("--vga", "/bin/true"), "/bin/true: it runs no script with .*: it says nothing"),
             (("--vga", str(self.folder / "says"), "--fonts", "f"), "no script with f: F3 FontSize"),
+            (
+                ("--vga", str(self.folder / "other")),
+                "other: it runs no script .*: it writes '1 01'",
+            ),
+            (("--vga", str(self.folder / "more")), "more: it runs no script .*: it writes '1 00'"),
+            (
+                ("--vga", str(self.folder / "fails")),
+                "fails: it runs no script .*: it writes '1 00'",
+            ),
         ):
             made = self.folder / "made"
             done = ended(
@@ -239,8 +252,8 @@ class Recordings(Folder):
         for name in ("tools/zaklimot_tools", "bindings", "fonts", "include"):
             (self.folder / name).symlink_to(TOOLS.parent / name)
         (self.folder / "tools" / "zaklimot_tools").unlink()
-        copy = ["cp", "-r", TOOLS / "zaklimot_tools", TOOLS / "vga-trace", TOOLS / "vga"]
-        self.assertEqual(ended(*copy, self.folder / "tools")[0], 0)
+        copied = (TOOLS / name for name in ("zaklimot_tools", "vga-trace", "vga"))
+        self.assertEqual(ended("cp", "-r", *copied, self.folder / "tools")[0], 0)
         given = {**os.environ, "PATH": "/nowhere"}
         trace = self.folder / "tools" / "vga-trace"
         words = ("record", self.folder / "made", "--", "-cdrom", "disc")

@@ -20,12 +20,13 @@ from unittest import mock
 
 from zaklimot.format import Script
 from zaklimot_tools.core.processes import started
-from zaklimot_tools.dev.emulators.command import main as emulators
+from zaklimot_tools.dev.emulators.words import main as emulators
 from zaklimot_tools.dev.emulators.table_page import FIRST_MARK, LAST_MARK
 from zaklimot_tools.explain.faults import script_of
 from zaklimot_tools.floppy import image as images, running
 from zaklimot_tools.floppy.image import CODE, Run, image_for, read_image, read_record, report_lines
-from zaklimot_tools.floppy.running import DOSBOX, MACHINES
+from zaklimot_tools.floppy.asked import DOSBOX
+from zaklimot_tools.floppy.running import MACHINES
 from zaklimot_tools.floppy.table import reset_steps, table_for
 from zaklimot_tools.report.cases import read_cases
 from zaklimot_tools.report.places import SUITE
@@ -112,12 +113,15 @@ class Interpreting(unittest.TestCase):
             (b"int ax=3\n", 0x03),
             (b"version 2\nrepeat 2\nint ax=3\nend\n", 0x03),
         ):
-            found, wanted, state = machine(script).cycles, State(), State()
+            found = machine(script).cycles
+            wanted = State()
+            state = State()
             self.assertEqual(found[0], ("int", 3, 0, 0, 0, 0, b""))
             # Two registers are left otherwise; and before, all have another value.
             wanted.misc, wanted.seq.registers[0] = last, 3
             state.memory.words[:], state.dac.components[:] = [0x12345678] * 0x10000, [0x15] * 768
-            state.misc = state.dac.mask = state.memory.latches = state.is_data = 0x54
+            state.misc = state.dac.mask = state.memory.latches = 0x54
+            state.is_data = True
             banks = [part for part in vars(state).values() if isinstance(part, Bank)]
             for bank, index in (
                 (bank, index) for bank in banks for index in range(len(bank.registers))
@@ -183,12 +187,10 @@ class Images(Folder):
         return self.folder / "scripts"
 
     def test_each_has_a_report(self) -> None:
-        folder, image = (
-            self.folder_of_scripts(
-                one="in 3CC\nframe\n", two="int ax=300\n", three="put A0000 1\n"
-            ),
-            self.folder / "image",
+        folder = self.folder_of_scripts(
+            one="in 3CC\nframe\n", two="int ax=300\n", three="put A0000 1\n"
         )
+        image = self.folder / "image"
         self.assertEqual(run("make", folder, image), (0, b"", ""))
         booted = Machine(image.read_bytes())
         image.write_bytes(booted.image)
@@ -198,7 +200,8 @@ class Images(Folder):
             if after == ("begin",)
         ]
         self.assertEqual(outputs, [0, 3, 0])
-        reports, texts = self.folder / "reports", {
+        reports = self.folder / "reports"
+        texts = {
             "one.report": b"1 CC\n2 skipped\n",
             "two.report": b"1 ax=0300 bx=0000 cx=1234 dx=1234\n",
             "three.report": b"1 ok\n",
@@ -274,7 +277,8 @@ class Images(Folder):
             self.assertFalse((self.folder / "reports").exists())
 
     def test_an_image_is_made_and_read(self) -> None:
-        script, image = self.write("script.vga", SCRIPT), self.folder / "image"
+        script = self.write("script.vga", SCRIPT)
+        image = self.folder / "image"
         self.assertEqual(run("make", script, image), (0, b"", ""))
         for options, byte in ((), 0x00), (("--disk",), 0x80):
             made = run("make", *options, "-", "-", given=SCRIPT)[1]

@@ -35,9 +35,8 @@ from zaklimot.format import (
 from zaklimot.format.table import CODES
 from zaklimot_tools.report.cases import read_cases
 from zaklimot_tools.report.places import SUITE
-from zaklimot_tools.script.program import TOP
 
-from .tools import hold, stream
+from .tools import TOP, hold, stream
 
 
 DOCS, CRATES = TOP / "docs", TOP / "crates"

@@ -29,7 +29,7 @@ from zaklimot_tools.dev.fuzz import command
 from zaklimot_tools.dev.fuzz.feeding import Fed, Program, check, meant_by
 from zaklimot_tools.dev.fuzz.making import Feed, block, make, spelled, step
 
-from .tools import Folder, begin, call, hold, hold_undone
+from .tools import Folder, begin, call, hold, hold_undone, main_of
 
 # A program that takes each text as the same script, prints bytes as they are, and answers each
 # script alike.
@@ -203,7 +203,7 @@ class Fuzzing(Folder):
 
     def run_command(self, *words: str) -> tuple[int, list[str], str]:
         """Exit status, lines and what is said of the command."""
-        status, output, said = call(command.main, *words, "--seed", "3", "--inputs", "4")
+        status, output, said = call(main_of("vga-fuzz"), *words, "--seed", "3", "--inputs", "4")
         return status, output.split("\n"), said
 
     def test_figures_where_nothing_is_wrong(self) -> None:
@@ -230,7 +230,9 @@ class Fuzzing(Folder):
         )
         self.assertEqual(sorted(file.stem for file in keep.iterdir()), ["1", "2", "3", "4"])
         before = {file: file.read_bytes() for file in keep.iterdir()}
-        done = call(command.main, self.program_that("sys.exit(3)"), "--seed", "2", "--keep", keep)
+        done = call(
+            main_of("vga-fuzz"), self.program_that("sys.exit(3)"), "--seed", "2", "--keep", keep
+        )
         hold_undone(self, done, "the folder has files, and none of them is to be lost")
         self.assertEqual({file: file.read_bytes() for file in keep.iterdir()}, before)
 

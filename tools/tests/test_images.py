@@ -80,7 +80,8 @@ class Filters(unittest.TestCase):
 class ComparePicture(Folder):
     def compared(self, image: bytes, *words: str, picture: bytes = PICTURE) -> tuple[int, str]:
         """The status, and what is said of an image beside a picture, without the names."""
-        path, shot = self.report("r", "ok", picture), self.write("shot", image)
+        path = self.report("r", "ok", picture)
+        shot = self.write("shot", image)
         status, output, message = run("compare-picture", path, "2", shot, *words)
         self.assertEqual(message, "")
         return status, output.decode().replace(f"step 2 and {shot} ", "")
@@ -111,9 +112,8 @@ class ComparePicture(Folder):
         )
 
     def test_differing(self) -> None:
-        marked, fewer = self.folder / "marked.png", png(
-            18, 1, b"\0" + b"\xff\0\0" * 7 + b"\x80\0\0" + bytes(30)
-        )
+        marked = self.folder / "marked.png"
+        fewer = png(18, 1, b"\0" + b"\xff\0\0" * 7 + b"\x80\0\0" + bytes(30))
         sizes = (
             "differ: they have {} and {} dots, and neither is the other with dots repeated\n".format
         )
@@ -135,10 +135,8 @@ class ComparePicture(Folder):
 
 class Animations(Folder):
     def test_frames_with_their_times(self) -> None:
-        path, moving = (
-            self.report("r", "ok", PICTURE, "ok", ppm(9, 1, BLACK * 9)),
-            self.folder / "m.png",
-        )
+        path = self.report("r", "ok", PICTURE, "ok", ppm(9, 1, BLACK * 9))
+        moving = self.folder / "m.png"
         calls = [b"\x09" + bytes([mode]) + bytes(9) for mode in (3, 0x12)]
         # A script of bytes has the times of its text.
         for script in (
@@ -161,7 +159,8 @@ class Animations(Folder):
         self.assertEqual(zlib.decompress(chunks[6][1][4:]), b"\0" + bytes(27))
 
     def test_advances_pass_between_frames(self) -> None:
-        path, moving = self.report("r", "ok", PICTURE, "ok", PICTURE), str(self.folder / "m.png")
+        path = self.report("r", "ok", PICTURE, "ok", PICTURE)
+        moving = str(self.folder / "m.png")
         for dots, seconds in (
             (0, 0.029),
             (404_099, 0.029),

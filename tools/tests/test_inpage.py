@@ -17,7 +17,7 @@ from unittest import mock
 
 from zaklimot_tools.report.debugging import PAGE
 from zaklimot_tools.trace import inpage
-from zaklimot_tools.trace.recording import Deed
+from zaklimot_tools.trace.asked import SPEEDS, USUAL_SPEED, Deed
 
 from .tools import (
     PROGRAM as TESTED,
@@ -89,9 +89,8 @@ class Recorded(Folder):
         for folder in (self.folder / "one", self.folder / "two"):
             self.assertEqual(sorted(path.name for path in folder.iterdir()), names)
         for name in names:
-            self.assertEqual(
-                *((self.folder / into / name).read_bytes() for into in ("one", "two")), name
-            )
+            one, other = ((self.folder / into / name).read_bytes() for into in ("one", "two"))
+            self.assertEqual(one, other, name)
         trace = self.trace("one")
         self.assertEqual(
             re.findall(r"^\d+\+\d+ w m A0000 (..) 1$", trace, re.M), ["61", "42", "20"]
@@ -123,7 +122,7 @@ class Recorded(Folder):
         places = [found.start(1) for found in re.finditer(rb"^\d+ (0[0-9A-F])$", answers, re.M)]
         other = bytearray(answers)
         other[places[-1] + 1] ^= 1
-        program = self.program("vga", f"#!/bin/sh\ncat {self.write('other', bytes(other))}\n")
+        program = self.writing(self.write("other", bytes(other)))
         status, lines, _ = self.record(file, *options, "--vga", program, into="three")
         self.assertEqual(
             (status, [line for line in lines if " differ " in line and "port" in line]),
@@ -181,16 +180,17 @@ class Recorded(Folder):
             )
 
     def test_speeds(self) -> None:
-        file, cycles = self.write("a.com", bytes.fromhex("B800B88EC0 26A20000 FEC0 EBF8")), []
-        for speed in inpage.SPEEDS:
+        file = self.write("a.com", bytes.fromhex("B800B88EC0 26A20000 FEC0 EBF8"))
+        cycles = []
+        for speed in SPEEDS:
             self.record(file, "--seconds", "0.01", "--speed", speed, into=speed)
             cycles.append(self.trace(speed).count(" w m "))
         self.assertEqual(cycles, sorted(set(cycles)), "a faster processor makes more cycles")
         source = (PAGE.parent / "machine" / "machine.js").read_text("utf-8")
         table = re.search(r"export const SPEEDS = \{ (.*?) \};", source)
         assert table is not None
-        self.assertEqual(tuple(re.findall(r"(\w+): \d+", table[1])), inpage.SPEEDS)
-        self.assertIn(f'USUAL_SPEED = "{inpage.USUAL_SPEED}"', source)
+        self.assertEqual(tuple(re.findall(r"(\w+): \d+", table[1])), SPEEDS)
+        self.assertIn(f'USUAL_SPEED = "{USUAL_SPEED}"', source)
 
     def test_wrong_files(self) -> None:
         for name, data, told in (
@@ -230,7 +230,8 @@ class Recorded(Folder):
             )
 
     def test_words_that_do_not_go_together(self) -> None:
-        file, into = self.write("a.com", PROGRAM), self.folder / "into"
+        file = self.write("a.com", PROGRAM)
+        into = self.folder / "into"
         for words, told in (
             (("--in-page", file, "--chain-4"), "--chain-4 is for qemu, and not for --in-page"),
             (("--in-page", file, "--card", "VGA"), "--card is for qemu"),
@@ -248,14 +249,18 @@ class Recorded(Folder):
 
     def test_a_signal_ends_node_too(self) -> None:
         # A program without an end, for an hour of its time.
-        file, into = self.write("a.com", bytes.fromhex("EBFE")), self.folder / "into"
+        file = self.write("a.com", bytes.fromhex("EBFE"))
+        into = self.folder / "into"
         for number in (signal.SIGINT, signal.SIGTERM):
             process = begin("vga-trace", "record", into, "--in-page", file, "--seconds", "3600")
             nodes: set[int] = set()
+
+            def has_begun() -> bool:
+                nodes.update(recorders_of(process.pid))
+                return bool(nodes)
+
             with process:
-                self.wait_until(
-                    lambda: bool(nodes.update(recorders_of(process.pid)) or nodes), process
-                )
+                self.wait_until(has_begun, process)
                 process.send_signal(number)
                 output, said = process.communicate()
             self.assertEqual((process.returncode, output), (128 + number, b""), said)
@@ -280,7 +285,8 @@ def recorders_of(parent: int) -> list[int]:
 
 class WithoutNode(Folder):
     def test_node_is_lacking_or_too_old(self) -> None:
-        file, into = self.write("a.com", ENDING), self.folder / "into"
+        file = self.write("a.com", ENDING)
+        into = self.folder / "into"
         program = self.answering("ok")
         for version, told in (
             ("", "node: it is not in the path: install the package nodejs"),

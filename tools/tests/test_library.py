@@ -32,7 +32,7 @@ from zaklimot_tools.core.version import (
     version_of,
     without_comments,
 )
-from zaklimot_tools.dev.library import command, making
+from zaklimot_tools.dev.library import making
 from zaklimot_tools.dev.library.making import (
     AARCH64,
     HEAP,
@@ -62,7 +62,7 @@ from zaklimot_tools.report.places import SUITE
 from zaklimot_tools.script import crates
 
 from .test_pages import broken
-from .tools import Folder, call, ended, hold, hold_undone, refused
+from .tools import Folder, call, ended, hold, hold_undone, main_of, patched, refused
 
 
 TEXT = HEADER.read_text("ascii")
@@ -227,7 +227,8 @@ class Page(unittest.TestCase):
             self.assertEqual(told, {str(version())}, page.name)
 
     def test_each_call_is_named_and_has_its_function_in_cpp(self) -> None:
-        page, functions = PAGE.read_text("utf-8"), HEADER.with_suffix(".hpp").read_text("ascii")
+        page = PAGE.read_text("utf-8")
+        functions = HEADER.with_suffix(".hpp").read_text("ascii")
         self.assertEqual([name for name in calls_of(TEXT) if name not in page], [])
         # Dumps, slices, lines and the print of a script are the C header's alone.
         lacking = {name for name in calls_of(TEXT) if not re.search(rf"\b{name}\b", functions)}
@@ -260,9 +261,8 @@ class Checks(Folder):
         self.assertRaises(Wrong, checks.expect, "threads", wanted.replace("alike", "differ", 1))
 
     def test_cases_that_do_not_agree(self) -> None:
-        count, built = len(read_cases(str(SUITE))), compilers.Built(
-            "given", Path("kit"), Path("crates.a"), AARCH64
-        )
+        count = len(read_cases(str(SUITE)))
+        built = compilers.Built("given", Path("kit"), Path("crates.a"), AARCH64)
         captured, running = mock.Mock(), mock.Mock()
         self.patch(
             mock.patch.object(checks, "captured", captured),
@@ -301,6 +301,12 @@ class Checks(Folder):
         )
 
 
+def content_of(entry: Entry) -> bytes:
+    """What a file of a release has in it."""
+    assert isinstance(entry, File)
+    return entry.content
+
+
 class Parts(Folder):
     """The archive, and what goes into it."""
 
@@ -313,9 +319,9 @@ class Parts(Folder):
             "check_program": lambda _: None,
             "portable_entries": lambda _: {"zaklimot.c": File(b"code")},
         }
-        with mock.patch.multiple(release, **made):
+        with patched(release, made):
             words = ["--program", given, "--archive", given, "--archive-aarch64", given]
-            status, output, said = call(release.main, self.folder, *words)
+            status, output, said = call(main_of("vga-release"), self.folder, *words)
         archive, sums, portable, others = map(Path, output.splitlines())
         self.assertEqual((status, said), (0, ""))
         for path, told in ((archive, sums), (portable, others)):
@@ -366,15 +372,15 @@ class Parts(Folder):
             "portable_entries": lambda _: ENTRIES,
             "release_entries": ran,
         }
-        with mock.patch.multiple(release, **made):
-            status, output, said = call(release.main, self.folder, "--portable")
-            again = call(release.main, self.folder / "again", "--portable")[1]
+        with patched(release, made):
+            status, output, said = call(main_of("vga-release"), self.folder, "--portable")
+            again = call(main_of("vga-release"), self.folder / "again", "--portable")[1]
         self.assertEqual((status, said, len(output.splitlines())), (0, "", 2))
         first, second = (Path(told.splitlines()[0]).read_bytes() for told in (output, again))
         self.assertEqual(first, second)
         told = "^vga-release: --portable takes nothing that is built\n"
         words = ["--portable", "--program", self.write("given", "")]
-        hold_undone(self, call(release.main, self.folder, *words), told)
+        hold_undone(self, call(main_of("vga-release"), self.folder, *words), told)
 
     def test_links_of_a_commit_stay_links(self) -> None:
         with tempfile.TemporaryFile() as stream:
@@ -382,7 +388,8 @@ class Parts(Folder):
                 kinds = {"a/f": tarfile.REGTYPE, "a/l": tarfile.SYMTYPE, "a": tarfile.DIRTYPE}
                 for name, kind in kinds.items():
                     member = tarfile.TarInfo(name)
-                    member.type, member.linkname = kind, "../x" if kind == tarfile.SYMTYPE else ""
+                    member.type = kind
+                    member.linkname = "../x" if kind == tarfile.SYMTYPE else ""
                     archive.addfile(member)
             stream.seek(0)
             with mock.patch.object(release, "_git", lambda *_: stream.read()):
@@ -397,7 +404,8 @@ class Parts(Folder):
         )
         self.assertEqual(self.packed(dict(reversed(ENTRIES.items()))), (archive, told))
         with tarfile.open(archive) as opened:
-            members, content = opened.getmembers(), opened.extractfile(f"{front}/z/bin/vga")
+            members = opened.getmembers()
+            content = opened.extractfile(f"{front}/z/bin/vga")
             assert content is not None
             self.assertEqual(content.read(), b"program")
         names = ["", "/z", "/z/a", "/z/bin", "/z/bin/vga", "/z/lib", "/z/lib/b.so", "/z/lib/b.so.1"]
@@ -420,12 +428,13 @@ class Parts(Folder):
         self.assertIn(f"## {version()}\n", (TOP / "CHANGELOG.md").read_text("utf-8"))
 
     def test_the_links_of_pages(self) -> None:
-        front, others = release.PAGE, {"docs/A.md": File(b""), "src/low/x.rs": File(b"")}
+        front = release.PAGE
+        others = {"docs/A.md": File(b""), "src/low/x.rs": File(b"")}
         hold(
             self,
-            lambda page, text: settled({**others, page: File(text)})[
-                release.MOVED.get(page, page)
-            ].content,
+            lambda page, text: content_of(
+                settled({**others, page: File(text)})[release.MOVED.get(page, page)]
+            ),
             (
                 ("docs/C.md", b"[a](A.md#c) ![b](../src/low)", b"[a](A.md#c) ![b](../src/low)"),
                 # Links to what is not there are words.
@@ -453,7 +462,7 @@ class Parts(Folder):
             told = (
                 "^vga-release: a release is made from a commit, and this is changed: M README.md\n$"
             )
-            hold_undone(self, call(release.main, "release"), told)
+            hold_undone(self, call(main_of("vga-release"), "release"), told)
 
 
 def sources() -> dict[str, Entry]:
@@ -510,7 +519,8 @@ class Whole(Folder):
         self.assertIn(
             "add_subdirectory(portable)", (self.folder / "CMakeLists.txt").read_text("ascii")
         )
-        crate, source = "bindings/rust/zaklimot-sys", self.folder / "portable" / "zaklimot.c"
+        crate = "bindings/rust/zaklimot-sys"
+        source = self.folder / "portable" / "zaklimot.c"
         for copy, file in (
             (f"{crate}/portable/zaklimot.c", "portable/zaklimot.c"),
             (f"{crate}/portable/zaklimot.h", "include/zaklimot.h"),
@@ -647,7 +657,9 @@ class OtherProcessors(Folder):
 
     def make(self, name: str, *words: str) -> tuple[int, str, str]:
         """How the library for the other processor is made in a folder."""
-        return call(command.main, "make", self.folder / name, "--target", "aarch64", *words)
+        return call(
+            main_of("vga-library"), "make", self.folder / name, "--target", "aarch64", *words
+        )
 
     def test_what_is_run_and_what_is_laid(self) -> None:
         progress = mock.create_autospec(Progress, instance=True)
@@ -659,9 +671,8 @@ class OtherProcessors(Folder):
         )
         self.assertEqual((status, said), (0, ""))
         self.assertIn(f"{self.folder}/kit-for-arm/lib/libzaklimot.so.{version()}\n", told)
-        calls, front = [
-            words for words in self.noted() if words != ["rt", "doc"]
-        ], "aarch64-linux-gnu-"
+        calls = [words for words in self.noted() if words != ["rt", "doc"]]
+        front = "aarch64-linux-gnu-"
         self.assertEqual(
             [words[0] for words in calls],
             [
@@ -696,7 +707,7 @@ class OtherProcessors(Folder):
             "--target",
             "aarch64",
         ]
-        self.assertEqual(call(command.main, *words)[0], 0)
+        self.assertEqual(call(main_of("vga-library"), *words)[0], 0)
         self.assertEqual({words[0] for words in self.noted()}, set(AARCH64.programs()))
         self.assertIsNotNone(making.kept("llvm", AARCH64))
         with mock.patch.object(making, "HEAP", Path(__file__)):
@@ -784,7 +795,7 @@ class Bindings(Folder):
                 "check_kind": mock.Mock(),
                 "_project": lambda *_: self.folder,
             }
-            with self.subTest(right), mock.patch.multiple(bindings, **faked):
+            with self.subTest(right), patched(bindings, faked):
                 self.assertRegex(check(TOP, self.folder), "^(9|20) tests")
                 self.assertRaises(Wrong, check, TOP, self.folder)
         self.assertEqual(
@@ -799,7 +810,8 @@ class Bindings(Folder):
             told = f"the library is {kind}, and the package tells that it is {other}$"
             self.assertRaisesRegex(Wrong, told, bindings.check_kind, self.folder / "kit", other)
         # The suites run over both libraries, and over a given one alone if that is portable.
-        kit, made = library.parents[1], mock.Mock(return_value=TOP)
+        kit = library.parents[1]
+        made = mock.Mock(return_value=TOP)
         given = mock.Mock(library=kit)
         with mock.patch.object(bindings, "portable_library", made):
             self.assertEqual(bindings._libraries(given, TOP, mock.Mock()), {"portable": kit})
@@ -810,8 +822,10 @@ class Bindings(Folder):
     def test_words_that_cannot_be_meant_and_what_is_lacking(self) -> None:
         with mock.patch.object(bindings, "lacking", lambda: []):
             for words in (["--proof", "folder"], ["--library", "no-such-folder"]):
-                hold_undone(self, call(bindings.main, *words), "^vga-bindings-tests: ")
-            self.assertEqual(call(bindings.main, "--ready"), (0, "", ""))
+                hold_undone(
+                    self, call(main_of("vga-bindings-tests"), *words), "^vga-bindings-tests: "
+                )
+            self.assertEqual(call(main_of("vga-bindings-tests"), "--ready"), (0, "", ""))
         with mock.patch("shutil.which", lambda name: None if "cargo" in name else name):
             told = (
                 "  cargo: install the package cargo\n  cargo-clippy: install the package"
@@ -819,7 +833,7 @@ class Bindings(Folder):
             )
             hold_undone(
                 self,
-                call(bindings.main, "--ready"),
+                call(main_of("vga-bindings-tests"), "--ready"),
                 f"^vga-bindings-tests: this machine lacks\n{told}",
             )
 
@@ -895,14 +909,16 @@ class OneFile(Folder):
 class Finding(unittest.TestCase):
     """What the build of the crate for Rust finds, and what it says where there is no library."""
 
+    folder: Path
+
     @classmethod
     def setUpClass(cls) -> None:
         folder = tempfile.TemporaryDirectory()
         cls.addClassCleanup(folder.cleanup)
         cls.folder = Path(folder.name)
         source = TOP / "bindings" / "rust" / "zaklimot-sys" / "build.rs"
-        words = ["rustc", "--edition", "2021", "-D", "warnings", "-o", cls.folder / "build", source]
-        subprocess.run(words, check=True, timeout=120)
+        words = ["rustc", "--edition", "2021", "-D", "warnings"]
+        subprocess.run([*words, "-o", cls.folder / "build", source], check=True, timeout=120)
         # Each of them has a file for pkg-config; the library of `empty` is not there.
         for name in ("full", "empty"):
             package = cls.folder / name / "lib" / "pkgconfig" / "zaklimot.pc"
@@ -1007,7 +1023,9 @@ class Finding(unittest.TestCase):
         self.crate()
         target = {"TARGET": "aarch64-unknown-linux-gnu"}
         other = {**target, "CC": "no-cc"}
-        own, cross, path = "bin/cc -std", "bin/aarch64-linux-gnu-", str(self.folder / "bin" / "cc")
+        own = "bin/cc -std"
+        cross = "bin/aarch64-linux-gnu-"
+        path = str(self.folder / "bin" / "cc")
         for names, *wanted in (
             (target, f"{cross}gcc -std", f"{cross}ar crs"),
             ({**target, "CC": "cc -march=x", "AR": "ar"}, "bin/cc -march=x -std", "bin/ar crs"),
@@ -1025,13 +1043,15 @@ class Finding(unittest.TestCase):
         self.assertNotIn("-fPIC", lines[0])
 
     def test_without_a_library_each_way_to_one_is_told(self) -> None:
-        empty, ways = str(self.folder / "empty"), (
+        empty = str(self.folder / "empty")
+        ways = (
             "a release",
             "./install.sh",
             "tools/vga-library install",
             "PKG_CONFIG_PATH",
         )
-        folder, packages = self.crate(), {"PKG_CONFIG_PATH": f"{empty}/lib/pkgconfig"}
+        folder = self.crate()
+        packages = {"PKG_CONFIG_PATH": f"{empty}/lib/pkgconfig"}
         for names, begins in (
             ({**packages, "ZAKLIMOT_PORTABLE": "0"}, "there is no library libzaklimot.\n"),
             (

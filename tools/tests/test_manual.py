@@ -1,7 +1,6 @@
 """The manual page and the completions in `share/` tell what the program's helps tell, and shells
 complete by them."""
 
-import os
 import re
 import shutil
 import unittest
@@ -9,8 +8,9 @@ from pathlib import Path
 
 from zaklimot_tools.core.version import version
 
+from .completing import IN_BASH, IN_FISH, IN_ZSH, WITH_FISH, WITH_ZSH, Completing
 from .test_edges import HELP
-from .tools import TOP, Folder, ended, hold
+from .tools import TOP, ended
 
 
 PAGE, BASH, ZSH, FISH = (
@@ -27,7 +27,9 @@ PAGE, BASH, ZSH, FISH = (
 HELPS = {path.stem: path.read_text("utf-8") for path in HELP.glob("*.txt")}
 WHOLE = HELPS.pop("vga")
 COMMANDS = dict(re.findall(r"^  (\w+) +(\S.*)$", WHOLE.partition("\n\nOptions:")[0], re.M))
-BARS, FONT, FONTS = ["bars.bin", "bars.vga"], "zaklimot.fnt", ["fonts", "zaklimot.fnt"]
+BARS = ["bars.bin", "bars.vga"]
+FONT = "zaklimot.fnt"
+FONTS = ["fonts", "zaklimot.fnt"]
 FILES = [*BARS, "fonts", "one two.vga", FONT]
 # An option as a help lists it: its names, what its value is, if it has one, and what it does.
 Option = tuple[tuple[str, ...], str, str]
@@ -82,7 +84,8 @@ class Files(unittest.TestCase):
         self.assertEqual(ended("groff", "-man", "-Tascii", "-ww", PAGE)[::2], (0, ""))
 
     def test_zsh_and_fish(self) -> None:
-        zsh, fish = ZSH.read_text("ascii"), FISH.read_text("ascii")
+        zsh = ZSH.read_text("ascii")
+        fish = FISH.read_text("ascii")
         for name, told in COMMANDS.items():
             self.assertIn(f"\n        '{name}:{told}'\n", zsh)
             self.assertIn(f"\n        {name} '{told}'", fish)
@@ -97,15 +100,11 @@ class Files(unittest.TestCase):
         self.assertEqual(len(listed), len(names_of(OPTIONS)))
 
 
-class Shells(Folder):
-    """What shells offer for lines, in a folder with files and with no setting of the user."""
-
+class Shells(Completing):
     def setUp(self) -> None:
         super().setUp()
         for name in (*BARS, "one two.vga", FONT, "fonts/other.fnt"):
             self.write(f"files/{name}", "")
-        # Fish completes a command that there is.
-        self.program("bin/vga", "#!/bin/sh\n")
 
     def assert_offered(self, words: tuple[str, ...], completion: Path, **more: list[str]) -> None:
         """What a shell that is started by these words offers, in any order; more than one offer for
@@ -128,31 +127,18 @@ class Shells(Folder):
             "vga run x --fonts b": BARS,
             "vga go --until ": [],
         }
-        path = f"{self.folder / 'bin'}:{os.environ['PATH']}"
-        environment = {"HOME": str(self.folder), "PATH": path, "LANG": "C.UTF-8"}
-        script = Path(__file__).with_name("manual") / f"completing.{words[0]}"
-        status, output, said = ended(
-            *words, script, completion, *offered, cwd=self.folder / "files", env=environment
-        )
-        self.assertEqual((status, said), (0, ""))
-        lines = output.replace("\\", "").replace("/", "").splitlines()
-        found = [sorted(filter(None, line.split("|"))) for line in lines]
-        hold(
-            self,
-            dict(zip(offered, found)).get,
-            ((line, sorted(more.get(line, offered[line]))) for line in offered),
-        )
+        self.hold_offered(words, completion, {**offered, **more})
 
     def test_bash(self) -> None:
-        self.assert_offered(("bash", "--norc", "--noprofile"), BASH)
+        self.assert_offered(IN_BASH, BASH)
 
-    @unittest.skipUnless(shutil.which("zsh"), "zsh isn't installed")
+    @WITH_ZSH
     def test_zsh(self) -> None:
-        self.assert_offered(("zsh", "-f"), ZSH)
+        self.assert_offered(IN_ZSH, ZSH)
 
-    @unittest.skipUnless(shutil.which("fish"), "fish isn't installed")
+    @WITH_FISH
     def test_fish(self) -> None:
         # Files without the ending come behind those with it.
         self.assert_offered(
-            ("fish",), FISH, **{line: FILES for line in ("vga run --fonts ", "vga go x --fonts ")}
+            IN_FISH, FISH, **{line: FILES for line in ("vga run --fonts ", "vga go x --fonts ")}
         )

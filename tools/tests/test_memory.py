@@ -1,11 +1,9 @@
 """The refusals of memory: what `rt try` writes, and that each wrong answer is found."""
 
-import contextlib
-import io
 import unittest
 from itertools import chain, repeat
 
-from zaklimot_tools.dev.memory.command import (
+from .allocations import (
     CALLS,
     CRATES,
     ENDING,
@@ -15,7 +13,6 @@ from zaklimot_tools.dev.memory.command import (
     RIGHT,
     CallAnswer,
     Job,
-    Wrong,
     answers_of,
     calls_ending,
     growing,
@@ -24,7 +21,7 @@ from zaklimot_tools.dev.memory.command import (
     judge,
 )
 
-from .tools import hold, hold_refused
+from .tools import hold, hold_refused, refused
 
 
 JOB = Job((), 0, CallAnswer(0, b"1 ok\n2 ok\n", ""))
@@ -56,9 +53,8 @@ class Trying(unittest.TestCase):
         )
 
     def test_the_main_of_the_program_grows_first(self) -> None:
-        source, main = (
-            CRATES / "vga" / "src" / "main.rt"
-        ).read_text(), "    ExitCode::from(status_of_job(&rt))\n"
+        source = (CRATES / "vga" / "src" / "main.rt").read_text()
+        main = "    ExitCode::from(status_of_job(&rt))\n"
         changed = growing(source)
         self.assertIn("    let _ = grow(&rt);\n" + main, changed)
         self.assertTrue(changed.startswith(source[: source.index("    ExitCode::from(")]))
@@ -122,9 +118,7 @@ class Endings(unittest.TestCase):
     def test_endings_that_are_others_are_told(self) -> None:
         for name, known in ENDINGS.items():
             endings = list(chain.from_iterable(repeat(*one) for one in known))
-            with contextlib.redirect_stdout(io.StringIO()) as output:
-                judge(name, endings)
-            self.assertTrue(output.getvalue().startswith(f"{name}: {known[0][1]} {known[0][0]}, "))
+            judge(name, endings)
             for other in (
                 endings[1:],
                 endings[:-1],
@@ -132,4 +126,5 @@ class Endings(unittest.TestCase):
                 ["done", *endings],
                 [*endings[:-1], "else"],
             ):
-                self.assertRaises(Wrong, judge, name, other)
+                told = refused(judge, name, other)
+                self.assertRegex(told, f"^{name}: (?s:.*)\nand not {known[0][1]} {known[0][0]}, ")

@@ -173,8 +173,9 @@ class Made(unittest.TestCase):
             one_file(WRITTEN.replace(more, more * 200_000))
 
     def test_another_file_is_told(self) -> None:
-        self.addCleanup(setattr, checks, "written_by_wasm2c", checks.written_by_wasm2c)
-        checks.written_by_wasm2c = lambda module: WRITTEN
+        written = mock.patch.object(checks, "written_by_wasm2c", lambda module: WRITTEN)
+        written.start()
+        self.addCleanup(written.stop)
         self.assertRaisesRegex(
             Wrong, "is not the file that the crate makes", checks.check_file, b""
         )

@@ -18,6 +18,7 @@ import building
 
 from zaklimot_tools import PARTS
 from zaklimot_tools.core.version import version
+from zaklimot_tools.dev.completions.command import completions, tools
 
 from .tools import PROGRAM, TOOLS, Folder, ended, want_program
 
@@ -27,7 +28,8 @@ PACKAGE = TOOLS / "zaklimot_tools"
 
 def used_parts(path: Path) -> set[str]:
     """The parts of the tools' package that a module imports from."""
-    package, found = path.relative_to(TOOLS).parts[:-1], set()
+    package = path.relative_to(TOOLS).parts[:-1]
+    found: set[str] = set()
     for node in ast.walk(ast.parse(path.read_text("utf-8"))):
         names = [name.name for name in node.names] if isinstance(node, ast.Import) else []
         if isinstance(node, ast.ImportFrom):
@@ -95,9 +97,9 @@ class Parts(Folder):
         for name in ("vga-report", "vga-trace", "vga-picture", "vga-floppy"):
             (self.folder / name).symlink_to(TOOLS / name)
             (self.folder / "there" / name).symlink_to(f"../{name}")
-            for words in ([TOOLS / name], [f"./{name}"], [f"there/{name}"]):
-                with self.subTest(words):
-                    done = ended(sys.executable, "-S", *words, "--version", cwd=self.folder)
+            for path in (str(TOOLS / name), f"./{name}", f"there/{name}"):
+                with self.subTest(path):
+                    done = ended(sys.executable, "-S", path, "--version", cwd=self.folder)
                     self.assertEqual(done, (0, f"{name} {version()}\n", ""))
 
 
@@ -138,6 +140,10 @@ class Installed(Folder):
                 self.run_installed(name, "--version"), (0, f"{name} {version()}\n", "")
             )
         self.assertFalse((self.site / "zaklimot_tools" / "dev").exists())
+        (data,) = self.site.glob("*.data/data/share")
+        made = {place for tool in tools() for place in completions(tool)}
+        laid = {str(path.relative_to(data)) for path in data.rglob("*") if path.is_file()}
+        self.assertEqual(laid, made)
         status, told, said = self.run_installed("vga-report", "scripts", "cases", "--only", "dots/")
         self.assertEqual((status, said), (0, ""))
         self.assertTrue((self.folder / told.split("\n")[0]).is_file())

@@ -28,17 +28,17 @@ from zaklimot_tools.dev.page.making import (
     retargeted,
     with_kit,
 )
+from zaklimot_tools.dev.page.packing import about, packed
+from zaklimot_tools.dev.page.words import MOST_BYTES
 from zaklimot_tools.dev.page.page import (
     DATA,
     MADE,
     SCRIPT,
     STYLE,
     Sources,
-    about,
     editor_in,
     joined,
     make_page,
-    packed,
     page_text,
 )
 from zaklimot_tools.dev.page_tests import command as tests_command
@@ -47,7 +47,19 @@ from zaklimot_tools.report.debugging import DOCS, PAGE, data_element, page_data
 
 from .test_command import PICTURE, run
 from .test_run import Fake
-from .tools import BLACK, RED, Folder, call, hold, hold_refused, hold_undone, png_rows, ppm, refused
+from .tools import (
+    BLACK,
+    RED,
+    Folder,
+    call,
+    hold,
+    hold_refused,
+    hold_undone,
+    png_rows,
+    ppm,
+    refused,
+    main_of,
+)
 
 
 FRAME = f"<!DOCTYPE html>\n{MADE}\n{STYLE}\n{DATA}\n{SCRIPT}\n"
@@ -149,7 +161,8 @@ class Editors(Folder):
             self.assertEqual(editor.joined_editor(page.TARGETS), made)
 
     def test_an_editor_that_other_versions_made(self) -> None:
-        built, module = tests_command.built_page(), b""
+        built = tests_command.built_page()
+        module = b""
         text = built.decode("utf-8")
         self.assertEqual(editor_in(text), editor.joined_editor(page.TARGETS))
         module = tests_command.module_in(built)
@@ -225,8 +238,8 @@ class Pages(Folder):
 
     def test_a_page_that_is_too_large(self) -> None:
         length = len(small_page(b"", small_sources("")))
-        fits = "x" * (page.MOST_BYTES - length)
-        self.assertEqual(len(small_page(b"", small_sources(fits))), page.MOST_BYTES)
+        fits = "x" * (MOST_BYTES - length)
+        self.assertEqual(len(small_page(b"", small_sources(fits))), MOST_BYTES)
         told = refused(small_page, b"", small_sources(f"{fits}x"))
         self.assertEqual(
             told, "zaklimot.html: it would have 800,001 bytes, and 800,000 are the most"
@@ -234,7 +247,7 @@ class Pages(Folder):
 
     def test_the_words_that_the_page_shares_with_the_tools(self) -> None:
         made = self.folder / "wordings.js"
-        status, _, said = call(command.main, "wordings", made)
+        status, _, said = call(main_of("vga-page"), "wordings", made)
         self.assertEqual((status, said), (0, ""))
         self.assertEqual(made.read_bytes(), (page.SOURCES / "script" / "wordings.js").read_bytes())
 
@@ -435,11 +448,9 @@ class Tests(Folder):
         self.patch(mock.patch.object(command, "read_sources", small_sources))
         self.patch(mock.patch.object(page, "programs", list))
         self.patch(mock.patch.object(command, "made_or_kept", lambda *_: MACHINE))
-        module, made = (
-            Path(self.write("module", with_kit(module_of(Modules.right), "kit 1"))),
-            self.folder / "page",
-        )
-        status, output, _ = call(command.main, "make", made, "--module", module)
+        module = Path(self.write("module", with_kit(module_of(Modules.right), "kit 1")))
+        made = self.folder / "page"
+        status, output, _ = call(main_of("vga-page"), "make", made, "--module", module)
         self.assertEqual(
             (status, tests_command.module_in(made.read_bytes())), (0, module.read_bytes())
         )
@@ -453,9 +464,8 @@ class Tests(Folder):
         self.assertRegex(
             tests_command.check_built(other, made), "of another kit, one: the suite judges that$"
         )
-        data, empty = page_data(made.decode("utf-8")), base64.b64encode(packed(b"[]")).decode(
-            "ascii"
-        )
+        data = page_data(made.decode("utf-8"))
+        empty = base64.b64encode(packed(b"[]")).decode("ascii")
         hold_refused(
             self,
             tests_command.check_built,
@@ -513,9 +523,8 @@ class Tests(Folder):
         self.assertEqual(told, ["the machine stays as it was built before: no network"])
 
     def test_what_is_wrong(self) -> None:
-        ways, wrong = {"bytes": 2, tests_command.STEPS: 2}, [
-            {"name": "n", "way": "w", "reason": "r"}
-        ]
+        ways = {"bytes": 2, tests_command.STEPS: 2}
+        wrong = [{"name": "n", "way": "w", "reason": "r"}]
         told = f"by bytes 2; by {tests_command.STEPS} 2; of 2 cases"
         self.assertEqual(tests_command.judged({"ways": ways, "wrong": []}, 2), told)
         hold_refused(
@@ -558,7 +567,7 @@ class Tests(Folder):
     def test_node_that_is_lacking_or_too_old(self) -> None:
         with mock.patch("shutil.which", return_value=None):
             told = "^vga-page-tests: node: it is not in the path: install the package nodejs\n"
-            hold_undone(self, call(tests_command.main), told)
+            hold_undone(self, call(main_of("vga-page-tests")), told)
         with mock.patch.multiple(tests_command, shutil=mock.Mock(), _answer=lambda _: "v16.20.2"):
             told = refused(tests_command.node_words)
         wanted = "node: it is v16.20.2, and the tests need 18 or newer: the package nodejs"
@@ -569,7 +578,8 @@ class Tests(Folder):
 class Opened(Fake):
     def setUp(self) -> None:
         super().setUp()
-        self.script, self.made = self.write("script.vga", TEXT), self.folder / "debug.html"
+        self.script = self.write("script.vga", TEXT)
+        self.made = self.folder / "debug.html"
 
     def opened(self, page: str) -> dict[str, Any]:
         """What a page is told to open. Nothing else of it is otherwise than the page as built."""
@@ -583,8 +593,10 @@ class Opened(Fake):
 
     def test_what_is_opened(self) -> None:
         self.write("fonts", OTHER_FONTS)
-        own, given, coded = ("--fonts", "fonts"), b"VGAS\x01\x0b\xff", base64.b64encode
-        for words, data, wanted in (
+        own = ("--fonts", "fonts")
+        given = b"VGAS\x01\x0b\xff"
+        coded = base64.b64encode
+        rows: tuple[tuple[tuple[str, ...], bytes, dict[str, Any]], ...] = (
             (("-",), TEXT.encode(), {"text": TEXT, "fonts": None}),
             # Bytes of a text that are no text.
             (("-",), b"frame ; \xff\n\0\n", {"text": "frame ; \ufffd\n\0\n", "fonts": None}),
@@ -593,7 +605,8 @@ class Opened(Fake):
                 given,
                 {"bytes": coded(given).decode(), "fonts": coded(OTHER_FONTS).decode()},
             ),
-        ):
+        )
+        for words, data, wanted in rows:
             status, page, said = self.debugged(*words, given=data)
             self.assertEqual((status, said), (0, ""))
             self.assertEqual(self.opened(page), {"name": "standard input", **wanted})
@@ -631,31 +644,10 @@ class Opened(Fake):
             )
         self.assertFalse(self.made.exists())
 
-    def test_the_listing_links_to_it(self) -> None:
-        (self.folder / "x y").mkdir()
-        html, made = self.folder / "page.html", self.folder / "x y" / "debug.html"
-        for path in (self.path, "-"):
-            with self.subTest(path):
-                words = ("--html", str(html), "--debug", str(made))
-                status, output, said = self.run_script(
-                    *words, path=path, given=Path(self.path).read_bytes()
-                )
-                self.assertEqual((status, said), (0, ""))
-                self.assertTrue(
-                    output.endswith("\n6 steps, 1 refused, 1 picture, 4 of 4 answers as expected\n")
-                )
-                self.assertIn(
-                    '<a href="x%20y/debug.html">Run it step by step</a>', html.read_text("utf-8")
-                )
-                self.assertEqual(
-                    self.opened(made.read_text("utf-8"))["text"], Path(self.path).read_text()
-                )
-
     def test_the_page_of_a_script_with_a_mistake(self) -> None:
-        status, _, said = self.run_text(
-            "frame\nmove 1\n", "--debug", str(self.made), "--html", "page.html"
-        )
-        self.assertEqual((status, "F7 BadLine(2)" in said), (2, True), said)
+        path = self.write("bad.vga", "frame\nmove 1\n")
+        status, _, said = self.debugged(path, made=str(self.made))
+        self.assertEqual((status, said), (0, ""))
         self.assertEqual(self.opened(self.made.read_text("utf-8"))["text"], "frame\nmove 1\n")
 
 
@@ -716,37 +708,18 @@ class Listings(Fake):
 
     def frames(self, page: str) -> list[dict[str, object]]:
         (found,) = re.findall(r'<script type="application/json" id="frames">(.*?)</script>', page)
-        return json.loads(found)
+        frames: list[dict[str, object]] = json.loads(found)
+        return frames
 
-    def test_a_run(self) -> None:
-        page, told = (
-            self.folder / "page.html",
-            "6 steps, 1 refused, 1 picture, 4 of 4 answers as expected\n",
-        )
-        self.assertEqual(self.run_script("--html", str(page)), (0, told, ""))
-        text = page.read_text(encoding="utf-8")
-        self.assertEqual(self.run_script("--html", "-"), (0, text, told))
-        self.assertEqual(self.frames(text), [{"step": 4, "title": "step 4, 9x1", "images": ["p1"]}])
-        images = [
-            attributes
-            for tag, attributes in self.assert_stands_alone(text).elements
-            if tag == "img"
-        ]
-        self.assertEqual([image["id"] for image in images], ["p1"])
-        data = base64.b64decode((images[0]["src"] or "").partition(",")[2])
-        self.assertEqual(png_rows(data), (9, 1, [b"\xff\0\0" * 4 + bytes(15)]))
-        self.assertIn(
-            '<tr class="refused"><td class="number">5</td><td class="number">3</td><td>IN 3DA</td>',
-            text,
-        )
-
-    def test_what_a_script_says_is_no_part_of_the_page(self) -> None:
-        path = self.write("<b>&.vga", 'get <script>alert(1)</script> ; = <i>"&\n')
-        status, text, _ = self.run_script("--html", "-", path=path)
+    def test_what_a_report_says_is_no_part_of_the_page(self) -> None:
+        path = self.report("<b>&", "ax=0000 bx=0000 cx=0000 dx=0000")
+        other = self.report('"<script>', "ax=0001 bx=0000 cx=0000 dx=0000")
+        status, text, _ = self.run_tool("compare", path, other, "--html", "-")
         self.assertEqual(status, 1)
         self.assert_stands_alone(text)
-        self.assertIn("GET &lt;SCRIPT&gt;", text)
-        self.assertIn('<tr class="differs">', text)
+        self.assertIn("/&lt;b&gt;&amp;</th>", text)
+        self.assertIn("/&quot;&lt;script&gt;</th>", text)
+        self.assertIn("<td>ax=0001 bx=0000 cx=0000 dx=0000</td>", text)
 
     def test_two_reports(self) -> None:
         path, other = self.report("a", "00", PICTURE), self.report(

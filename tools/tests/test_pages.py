@@ -22,6 +22,8 @@ from zaklimot_tools.report.places import SUITE
 from zaklimot_tools.script.words import FONTS
 
 from .tools import (
+    patched,
+    main_of,
     EXAMPLES,
     TOOLS,
     TOP,
@@ -109,7 +111,8 @@ def anchors(text: str) -> set[str]:
             plain = (
                 re.sub(r"\[([^\]]*)\]\([^)]*\)", r"\1", heading.group(1)).replace("`", "").lower()
             )
-            name, more = re.sub(r"[^\w\- ]", "", plain).replace(" ", "-"), 0
+            name = re.sub(r"[^\w\- ]", "", plain).replace(" ", "-")
+            more = 0
             while name + (f"-{more}" if more else "") in found:
                 more += 1
             found.add(name + (f"-{more}" if more else ""))
@@ -199,7 +202,8 @@ class Touched(unittest.TestCase):
             .partition("\n## What a change touches\n")[2]
             .partition("\n## ")[0]
         )
-        named, listed = set(named_files(text)), files()
+        named = set(named_files(text))
+        listed = files()
         self.assertGreater(len(named), 100)
         for folder, name in sorted(named):
             # A module of proofs may be named without its end.
@@ -244,7 +248,7 @@ class Front(unittest.TestCase):
 
 
 # The reference pages, and their sections that are examples and no rules.
-REFERENCE = {
+REFERENCE: dict[str, set[str]] = {
     "REGISTERS": set(),
     "HOST-PATH": {"Worked example"},
     "RASTER": {"Two examples"},
@@ -267,7 +271,8 @@ class References(unittest.TestCase):
                 if title in apart:
                     continue
                 with self.subTest(page=name, section=title):
-                    defined, shown = DEFINED.findall(body), SHOWN.findall(body)
+                    defined = DEFINED.findall(body)
+                    shown = SHOWN.findall(body)
                     self.assertTrue(defined and shown)
                     self.assertEqual([case for case in shown if case not in cases], [])
                     for word, file in defined:
@@ -288,7 +293,8 @@ def printed(text: str | bytes) -> list[str]:
 
 def unpacked(png: bytes) -> list[bytes]:
     """The header of a PNG, and the dots of each of its frames, however they are packed."""
-    header, packed = b"", [b""]
+    header = b""
+    packed = [b""]
     for kind, data in png_chunks(png):
         if kind == b"IHDR":
             header = data
@@ -337,18 +343,18 @@ class Tutorial(unittest.TestCase):
         there = {"chromium-browser", "WebKitWebDriver", "node"}
         fakes = {"check_browser": lambda engine: f"as it says in {engine}", "node_words": list}
         which = mock.Mock()
-        with mock.patch.multiple(command, **fakes), mock.patch("shutil.which", which):
+        with patched(command, fakes), mock.patch("shutil.which", which):
             which.side_effect = there.__contains__
-            status, output, said = call(command.main, "--browser")
+            status, output, said = call(main_of("vga-page-tests"), "--browser")
             self.assertEqual((status, said), (0, ""))
             told = "firefox: not tried: install firefox-esr\nwebkit: not tried: install xvfb\n"
             self.assertIn(told + "chromium: as it says in", output)
             there.clear()
             told = "no browser .*: for chromium install chromium; .* webkit2gtk-driver and xvfb\n$"
-            hold_undone(self, call(command.main, "--browser"), told)
+            hold_undone(self, call(main_of("vga-page-tests"), "--browser"), told)
             with mock.patch.object(command, "check_browser", side_effect=Wrong("the console")):
                 there.add("firefox")
-                self.assertEqual(call(command.main, "--browser")[0], 1)
+                self.assertEqual(call(main_of("vga-page-tests"), "--browser")[0], 1)
 
     def test_the_program_writes_the_script(self) -> None:
         environment = {**os.environ, "PYTHONPATH": str(TOP / "bindings" / "python" / "src")}
@@ -404,12 +410,14 @@ class Pictures(Folder):
             with self.subTest(picture):
                 ran = run_program("go", TOP / script, *stop.split(), "--fonts", FONTS)
                 self.assertEqual((ran.status, ran.said), (0, ""))
-                made, shown = self.made(words.split(), ran.report), (TOP / picture).read_bytes()
+                made = self.made(words.split(), ran.report)
+                shown = (TOP / picture).read_bytes()
                 self.assertTrue(unpacked(made) == unpacked(shown), "another picture")
 
     def made(self, words: list[str], report: bytes) -> bytes:
         """What `vga-report pictures` makes of a report."""
-        moves, path = "--apng" in words, self.folder / "picture.png"
+        moves = "--apng" in words
+        path = self.folder / "picture.png"
         words = [*words, str(path)] if moves else words
         status, output, said = run_tool("vga-report", "pictures", *words, given=report)
         self.assertEqual(status, 0, said)
@@ -538,7 +546,8 @@ class Modules(unittest.TestCase):
             self.assertEqual(sorted(named), sorted(there), name)
 
     def test_each_is_there(self) -> None:
-        ends, seen = ("mjs", "js", "py", "md"), 0
+        ends = ("mjs", "js", "py", "md")
+        seen = 0
         # Neither crates, tools themselves, nor what is hidden.
         files = [path for end in ends for path in TOP.glob(f"[!.ct]*/**/*.{end}")]
         for path in files:

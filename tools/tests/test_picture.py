@@ -16,17 +16,17 @@ from typing import Iterator, NamedTuple, Sequence
 
 from zaklimot.format import Picture, encode, parse_text
 from zaklimot_tools.images.png import write_png
+from zaklimot_tools.picture.asked import Fewer
 from zaklimot_tools.picture.cells import FONTS_AT, Chooser, Chosen
 from zaklimot_tools.picture.colours import (
     Colour,
-    Fewer,
     Nearest,
     distance,
     indexed,
     middle_colours,
     outer_colours,
 )
-from zaklimot_tools.picture.command import main
+from zaklimot_tools.picture.words import main
 from zaklimot_tools.picture.mode import MODES
 from zaklimot_tools.picture.screen import MASKS, least_writes
 from zaklimot_tools.script.words import FONTS
@@ -94,16 +94,15 @@ def text_dots(height: int = 16, own: int = 0) -> list[list[Colour]]:
     """
     chance = random.Random(3 if height == 16 else 5)
     colours = [(at * 4, 63 - at * 4, at * 9 & 63) for at in range(16)]
-    rows, start = 400 // height, FONTS_AT[height]
+    rows = 400 // height
+    start = FONTS_AT[height]
     font = bytearray(FONT[start : start + 256 * height])
     font[height * 0x80 : height * (0x80 + own)] = chance.randbytes(height * own)
     dots: list[list[Colour]] = [[] for _ in range(rows * height)]
     for row, column in product(range(rows), range(80)):
-        character, front, back = (
-            chance.choice([0x20, 0x41, chance.randrange(256)]),
-            chance.randrange(16),
-            chance.randrange(16),
-        )
+        character = chance.choice([0x20, 0x41, chance.randrange(256)])
+        front = chance.randrange(16)
+        back = chance.randrange(16)
         if chance.random() < 0.3:
             character, back = 0x20, 5
         if (row, column) == (rows - 1, 79):
@@ -179,7 +178,8 @@ def of_other_sizes() -> Iterator[Case]:
     A screen is four wide and three high: eight by three take half its height, one by one three
     quarters of its width.
     """
-    few, bar = [[(at // 60, 0, 0) for at in range(960)]] * 2, (32, 0, 63)
+    few = [[(at // 60, 0, 0) for at in range(960)]] * 2
+    bar = (32, 0, 63)
     for mode, words, dots, told, rows in (
         (
             "0D",
@@ -220,7 +220,8 @@ def of_other_sizes() -> Iterator[Case]:
 
 def of_text() -> Iterator[Case]:
     """Text of each number of rows, with and without glyphs of its own."""
-    whole, cells = ppm_of(text_dots()), "2,000 of 2,000 cells fit"
+    whole = ppm_of(text_dots())
+    cells = "2,000 of 2,000 cells fit"
     yield Case(
         whole,
         "--mode 3",
@@ -261,7 +262,8 @@ def of_text() -> Iterator[Case]:
     yield Case(image, "--mode 3 --own-glyphs", told, ppm_of([line * 80] * 400))
     # In C0 to DF the ninth dot is the eighth, so these characters keep their glyphs, and so does
     # the blank.
-    chance, ink = random.Random(6), [BLACK, (63, 63, 0)]
+    chance = random.Random(6)
+    ink = [BLACK, (63, 63, 0)]
     dots = [
         [ink[x % 9 < 8 and chance.randrange(2)] if y < 48 else BLACK for x in range(720)]
         for y in range(400)
@@ -318,7 +320,8 @@ class Drawing(Folder):
             self.assertEqual((data, data[:5]), (encode(parse_text(text)), b"VGAS" + version))
 
     def test_the_picture_as_a_file(self) -> None:
-        dots, path = some_dots(320, 200, 16), self.folder / "p.png"
+        dots = some_dots(320, 200, 16)
+        path = self.folder / "p.png"
         made_of(png_of(dots), "--mode", "0D", "--picture", str(path))
         rows = [row for row in png_rows(png_of(dots))[2] for _ in "12"]
         self.assertEqual(png_rows(path.read_bytes()), (320, 400, rows))
@@ -336,7 +339,8 @@ class Writes(unittest.TestCase):
         """How many writes make one word another: a letter a plane, of the low bytes and then of the
         high ones."""
         have, want = (tuple(map(bytes, zip(*map(str.encode, word.split())))) for word in words)
-        made, planes = least_writes(have, want), list(map(bytearray, have))
+        made = least_writes(have, want)
+        planes = list(map(bytearray, have))
         self.assertEqual(
             [mask for mask, *_ in made], sorted({mask for mask, *_ in made}, key=MASKS.index)
         )
@@ -458,11 +462,9 @@ class Colours(unittest.TestCase):
 
 class Text(unittest.TestCase):
     def test_no_other_cell_is_nearer(self) -> None:
-        chance, colours, font = (
-            random.Random(4),
-            [BLACK, (20, 5, 30), (50, 60, 10), (63, 63, 63)],
-            FONT[FONTS_AT[16] :],
-        )
+        chance = random.Random(4)
+        colours = [BLACK, (20, 5, 30), (50, 60, 10), (63, 63, 63)]
+        font = FONT[FONTS_AT[16] :]
         cell = bytes(chance.randrange(4) for _ in range(144))
         chooser = Chooser(font, MODES["3"], colours)
 
@@ -473,7 +475,8 @@ class Text(unittest.TestCase):
                 for bit, dot in zip(bits, cell)
             )
 
-        found, every = chooser.chosen(cell), product(range(256), range(4), range(4))
+        found = chooser.chosen(cell)
+        every = product(range(256), range(4), range(4))
         self.assertEqual(
             found.error, error(found.character, found.attribute & 15, found.attribute >> 4)
         )

@@ -6,6 +6,7 @@ from __future__ import annotations
 import contextlib
 import io
 import json
+import fcntl
 import os
 import re
 import signal
@@ -21,9 +22,10 @@ from zaklimot_tools.dev.testing.discovering import BUILT
 from zaklimot_tools.script import portable, program
 from zaklimot_tools.script.portable import portable_program
 from zaklimot_tools.script.program import found_program
+from zaklimot_tools.script.program import PROGRAM as BUILT_PROGRAM
 
 from . import commands
-from .tools import BUILT_PROGRAM, SIGNALS, TOP, Folder, begin, hold_refused, refused
+from .tools import SIGNALS, TOP, Folder, begin, hold_refused, patched, refused
 
 
 SOURCE = (TOP / "portable" / "vga.c").read_text("ascii")
@@ -107,7 +109,8 @@ class Cache(Folder):
 
     def setUp(self) -> None:
         super().setUp()
-        self.cache, self.notes = self.folder / "cache" / "zaklimot", self.folder / "notes"
+        self.cache = self.folder / "cache" / "zaklimot"
+        self.notes = self.folder / "notes"
         self.notes.write_text("")
         self.environment = {"XDG_CACHE_HOME": str(self.folder / "cache"), "CC": self.compiler("cc")}
         self.patch(mock.patch.dict(os.environ, self.environment))
@@ -184,7 +187,8 @@ class Compiled(Cache):
         self.assertEqual(self.noted(), 1)
 
     def test_one_that_is_ended_leaves_nothing_and_no_lock(self) -> None:
-        child, good = self.folder / "child", self.environment["CC"]
+        child = self.folder / "child"
+        good = self.environment["CC"]
         slow = self.compiler("slow", SLEEPS.format(child, child))
         for number, status in (*SIGNALS, (signal.SIGKILL, -9)):
             with self.subTest(number):
@@ -210,7 +214,7 @@ class Compiled(Cache):
     def test_a_lock_that_somebody_keeps_is_waited_for_no_longer_than_that(self) -> None:
         self.cache.mkdir(parents=True)
         with open(self.cache / portable.LOCK, "wb") as file:
-            self.assertTrue(portable._is_locked(file, portable.fcntl.LOCK_EX))
+            self.assertTrue(portable._is_locked(file, fcntl.LOCK_EX))
             with mock.patch.object(portable, "MOST_WAITING", 0.3):
                 _, said = self.found()
         self.assertEqual((said.startswith(portable.WAITS), self.noted()), (True, 1))
@@ -269,11 +273,12 @@ class Found(Cache):
         built, released, in_path = (
             self.program(f"{name}/vga", "#!/bin/sh\n") for name in ("built", "released", "path")
         )
-        named, none = self.program("named", "#!/bin/sh\n"), self.folder / "none"
+        named = self.program("named", "#!/bin/sh\n")
+        none = self.folder / "none"
         places = {"PROGRAM": Path(built), "RELEASED": Path(released)}
         # The command `tools/vga` in the path is no program: it looks for one.
         path = os.pathsep.join([str(TOP / "tools"), str(Path(in_path).parent)])
-        with mock.patch.multiple(program, **places), mock.patch.dict(os.environ, PATH=path):
+        with patched(program, places), mock.patch.dict(os.environ, PATH=path):
             self.assertEqual((found_program(named), found_program()), (named, built))
             with mock.patch.object(program, "PROGRAM", none):
                 self.assertEqual(found_program(), released)

@@ -15,7 +15,7 @@ from collections import Counter
 from functools import partial
 from pathlib import Path
 from types import SimpleNamespace as Namespace
-from typing import Sequence
+from typing import Any, Sequence
 from unittest import mock
 
 from zaklimot.format import Picture
@@ -23,7 +23,8 @@ from zaklimot_tools.dev.emulators.traces import row as row_of
 from zaklimot_tools.images.reading import image_of
 from zaklimot_tools.trace import recording
 from zaklimot_tools.trace.converting import Checked, Clocked, Written
-from zaklimot_tools.trace.recording import PHASES, Deed, Keeper, QemuMachine, Session
+from zaklimot_tools.trace.asked import Deed
+from zaklimot_tools.trace.recording import PHASES, Keeper, QemuMachine, Session
 from zaklimot_tools.trace.replaying import ALLOWED, PAGE, SEEN, Replay, Screen, whole_rows
 from zaklimot_tools.trace.state import State
 from zaklimot_tools.trace.step import ADVANCE, FRAME, IN, PUT, TraceStep
@@ -159,9 +160,8 @@ class Recorded(Folder):
             qemu(f"write {cycle} 2") for cycle in ("3ce 106", "3d4 107", "3d4 109", "3d4 218")
         )
         vbe = qemu("write 1ce 4 2", "vbe") + qemu("write 1cf 41 2", "vbe")
-        chained, memory = qemu("write 3c4 f02 2") + qemu("write 3c4 e04 2"), qemu(
-            "write a0000 1 1", "vga-chain4"
-        )
+        chained = qemu("write 3c4 f02 2") + qemu("write 3c4 e04 2")
+        memory = qemu("write a0000 1 1", "vga-chain4")
         rows, whole = (
             qemu("write 3d4 209 2") + qemu("write 3c0 20 1"),
             RED * 3 + WHITE * 3 + RED * 3,
@@ -178,7 +178,7 @@ class Recorded(Folder):
             "it lacks the last 1 of 4 lines; ",
         )
         size = "another size: they have {} dots, and neither is the other with dots repeated".format
-        for count, lines, picture, screen, *told in (
+        rows_of_screens: tuple[tuple[Any, ...], ...] = (
             (
                 1,
                 b"",
@@ -224,7 +224,8 @@ class Recorded(Folder):
                 last,
                 line,
             ),
-        ):
+        )
+        for count, lines, picture, screen, *told in rows_of_screens:
             with self.subTest(told):
                 status, shown, said = self.record(
                     lines=lines, screen=screen, picture=picture, steps=(count,)
@@ -275,7 +276,8 @@ class Recorded(Folder):
         self.assertEqual((status, lines[1]), (1, "2 steps, 0 refused, 0 reads answered, 0 differ"))
 
     def test_machines_that_are_given_up(self) -> None:
-        front, usual = "qemu-system-x86_64: ", ("MOST_LINES", 1 << 20)
+        front = "qemu-system-x86_64: "
+        usual = ("MOST_LINES", 1 << 20)
         begins, first = f"{front}it doesn't begin: there is no such disc\n", "qmp_capabilities"
         for words, limit, told, last in (
             (("-ends",), usual, begins, ""),
@@ -559,9 +561,10 @@ class Keeping(Folder):
 
 class Traces(unittest.TestCase):
     def test_rows_and_whether_they_are_as_known(self) -> None:
-        verdict = Namespace(held=Namespace(count=0))
+        verdict: Any = Namespace(held=Namespace(count=0))
         written = Written(False, Counter({"out": 10, "frame": 1}), script_bytes=30)
-        checked, listing = Checked(reads=Counter(a=4, b=3)), Namespace(trace=Namespace(count=1000))
+        checked = Checked(reads=Counter(a=4, b=3))
+        listing: Any = Namespace(trace=Namespace(count=1000))
         replayed = Replay(written, listing, Path(), (), checked, screens={0: verdict})
         front = "| name | 1,000 | 11 | 30 | 46 | 7 | 0 | 0 |"
         for dots, picture in ((0, "the same"), (8, "8 dots differ"), (None, "another size")):

@@ -5,7 +5,7 @@ import json
 import re
 import unittest
 from pathlib import Path
-from typing import Sequence
+from typing import Callable, Sequence
 
 from zaklimot.format import REFUSALS, Answer
 from zaklimot_tools import TOP
@@ -25,7 +25,8 @@ CASES = json.loads((HERE / "refusals.json").read_text("utf-8"))
 # same.
 TABLE = json.loads((HERE / "mistakes.json").read_text("utf-8"))
 # A word of the table that stands for this many digits.
-LONG, DIGITS = "LONG", "0" * 131_072
+LONG = "LONG"
+DIGITS = "0" * 131_072
 # A bad line, the part of it that is marked (nothing: the place behind it), and what is said.
 LINES = [
     (row["line"].replace(LONG, DIGITS), row["part"].replace(LONG, DIGITS), row["reason"])
@@ -81,7 +82,8 @@ class Refusals(unittest.TestCase):
             ],
         )
         # The same step is refused for another reason once the state is another.
-        words, answer = "in 3B4", Answer(1, 1, "E1 NotDecoded")
+        words = "in 3B4"
+        answer = Answer(1, 1, "E1 NotDecoded")
         told = [
             behind.why_of(words, answer),
             behind.why_of("out 3C2 66", DONE),
@@ -196,12 +198,14 @@ class Faults(Folder):
         )
 
     def test_files_that_cannot_be_read(self) -> None:
-        script, fonts = self.folder / "s", Path(self.write("f", bytes(9728)))
-        for make, path, reason in (
+        script = self.folder / "s"
+        fonts = Path(self.write("f", bytes(9728)))
+        ways: tuple[tuple[Callable[[], object], Path, str], ...] = (
             (bool, script, "the script can't be read: No such file or directory"),
             (script.mkdir, script, "the script can't be read: Is a directory"),
             (fonts.unlink, fonts, "the font file can't be read: No such file or directory"),
-        ):
+        )
+        for make, path, reason in ways:
             make()
             told = explained("vga: F8 ReadFault", str(script), str(fonts))
             self.assertEqual(told, f"{path}: F8 ReadFault: {reason}")

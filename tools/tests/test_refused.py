@@ -8,6 +8,7 @@ import sys
 import unittest
 from functools import partial
 from pathlib import Path
+from typing import Any, Callable
 
 from zaklimot_tools.dev.emulators.table_page import FIRST_MARK, LAST_MARK
 
@@ -67,7 +68,7 @@ REFUSED = {
     ),
     "report pictures {r} --apng {o} --script /dev/zero": "F6 TooLong: ",
     "report compare-picture {r} 1 /dev/zero": "/dev/zero: it has more than 67,108,864 bytes",
-    "report check {r} /dev/zero": "/dev/zero:1: ",
+    "report compare {r} /dev/zero --expected": "/dev/zero:1: ",
     "report suite true{{script}} --list /dev/zero": "/dev/zero: it has more than 16,777,216 bytes",
     "picture script /dev/zero {o} --mode 13": "/dev/zero: it has more than 67,108,864 bytes",
     "picture script {i} {o} --mode 3 --scale --fonts /dev/zero": (
@@ -106,7 +107,7 @@ REFUSED = {
     ),
     "report run {s} --pictures {r} --try": "r: it is not a folder",
     "report run {s} --pictures {s}": "it is not a folder",
-    "report run {s} --html {s}/page --try": "there is no such folder",
+    "report run {s} --json {s}/page --try": "there is no such folder",
     "report scripts {d}/empty": "the folder has files, and none of them is to be lost",
     "report run {d}/empty": "it has no script: their names end with .vga or .bin",
     "report pictures {r} {r}": "vga-report: {r}: it is not a folder\n",
@@ -151,11 +152,11 @@ REFUSED = {
     "trace check - -": "vga-trace: standard input can be read once\n",
     # Words that contradict one another, or lack something.
     "report run {d} --vga {p} --bless": "a folder of scripts, and --junit, want none of --bless",
-    "report run {s} --vga {p} --dry-run": "--dry-run tells what --bless would write",
     "report run - --vga {p} --bless": "--bless writes into the script, whole: it wants a file",
     "report run - --vga {p} --watch": "--watch wants a file that changes",
     "report run - --vga {p} --junit {o}": "--junit wants a file or a folder",
-    "report run {s} --html - --show": "--html writes a page that has the pictures",
+    "report run {s} --debug - --show": "--debug writes a page that runs the script",
+    "report compare {r} {r2} --expected --all": "--expected tells the first step that differs",
     **{
         f"report run {{s}} --debug {{o}} {words}": f"vga-report: --debug {told}: "
         for told, options in (
@@ -164,8 +165,7 @@ REFUSED = {
         )
         for words in options
     },
-    "report run {s} --debug {o} --html -": "both want files",
-    "report run {s} --debug {o} --html {o}": "vga-report: {o}: two outputs have this name, "
+    "report run {s} --debug {o} --json {o}": "vga-report: {o}: two outputs have this name, "
     "and one would be lost\n",
     "report run {s} --fonts {font} --debug {o}": (
         "vga-report: {font}: the font file has 9,727 bytes, and 9,728 are right\n"
@@ -260,7 +260,7 @@ REFUSED = {
 }
 GOOD = png(1, 1, bytes(4))
 # What is said of images that are none, or can't be read.
-for told, *images in (
+BAD_IMAGES: tuple[tuple[Any, ...], ...] = (
     ("this is neither a PNG nor a PPM of the kind P6", b"", b"GIF89a"),
     ("the PNG is damaged", GOOD[:-1], GOOD[:20], GOOD[:40], png(1, 2, bytes(4))),
     ("the PNG is damaged", GOOD.replace(b"IDAT", b"IDAX"), GOOD.replace(b"IDAT", b"iDAT")),
@@ -282,7 +282,8 @@ for told, *images in (
     ),
     ("the image has 5000x5000 dots, and 16,777,216 are the most", png(5000, 5000, b"")),
     ("the image has 9999999x2 dots, and 16,777,216 are the most", b"P6 9999999 2 255\n"),
-):
+)
+for told, *images in BAD_IMAGES:
     for image in images:
         name = f"image{len(FILES)}"
         FILES[name] = image
@@ -290,14 +291,12 @@ for told, *images in (
         REFUSED[words] = f"vga-picture: {{{name}}}: {told}\n"
 # Words of the tools, in which the file {in} is read, what it has, and the other name of it in the
 # folder, which would be written.
-READ_AND_WRITTEN = [
-    ("report run {s} --vga {p} --fonts {in} --html {out}", "font", "out"),
+READ_AND_WRITTEN: list[tuple[str, str | bytes, str]] = [
+    ("report run {s} --vga {p} --fonts {in} --json {out}", "font", "out"),
     ("report run {in} --vga {p} --json {out}", "frame\n", "out"),
     ("report run {in} --vga {p} --junit {out}", "frame\n", "out"),
     ("report run {in} --vga {p} --pictures {d}", "frame\n", "0001.png"),
-    ("report run {s} --vga {in} --html {out}", PROGRAM, "out"),
-    ("report run {s} --vga {in} --debug {out} --html {o}", PROGRAM, "out"),
-    ("report run {in} --vga {p} --html {out}", "frame\n", "out"),
+    ("report run {s} --vga {in} --json {out}", PROGRAM, "out"),
     ("report run {in} --debug {out}", "frame\n", "out"),
     ("report run {s} --fonts {in} --debug {out}", bytes(9728), "out"),
     ("report pictures {r} --apng {out} --script {in}", "frame\n", "out"),
@@ -365,11 +364,12 @@ class Refused(Folder):
 
     def test_what_is_read_is_not_written_under_whatever_name(self) -> None:
         for words, content, name in READ_AND_WRITTEN:
-            for link in (os.link, os.symlink):
+            links: tuple[Callable[[Path, Path], None], ...] = (os.link, os.symlink)
+            for link in links:
                 with self.subTest(words, link=link.__name__):
                     (self.folder / "in").unlink(missing_ok=True)
-                    write = self.program if content == PROGRAM else self.write
-                    path = Path(write("in", content))
+                    path = Path(self.write("in", content))
+                    path.chmod(0o755 if content == PROGRAM else 0o644)
                     other = self.folder / name
                     other.parent.mkdir(parents=True, exist_ok=True)
                     link(path, other)
@@ -382,7 +382,8 @@ class Refused(Folder):
                     other.unlink()
 
     def test_memory_holds_one_picture(self) -> None:
-        path, program = self.write("many.vga", "frame\n" * PICTURES), self.program("many", MANY)
+        path = self.write("many.vga", "frame\n" * PICTURES)
+        program = self.program("many", MANY)
         done = run_tool(
             "vga-report",
             "run",

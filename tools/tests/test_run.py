@@ -127,7 +127,7 @@ RUNS: list[tuple[str, str, int, list[str]]] = [
             "\n3 steps, 3 refused, 0 pictures, 0 of 1 answers as expected\n",
         ],
     ),
-    ("in 60\nin 60\n", "--html -", 0, [f"{DECODED(60).strip()}</td></tr>\n<tr"]),
+    ("in 60\nin 60\n", "--json -", 0, [f'"why": "{DECODED(60).strip()}"}},\n']),
     ("in 60\nin 61 ; = E1 NotDecoded\n", "--quiet", 0, []),
     (
         "in 60\n",
@@ -257,7 +257,8 @@ class Listings(Fake):
         )
 
     def test_scripts_and_fonts_of_any_name(self) -> None:
-        listed, pipe = self.run_script(), self.folder / "pipe"
+        listed = self.run_script()
+        pipe = self.folder / "pipe"
         os.mkfifo(pipe)
         with ThreadPoolExecutor(1) as pool:
             pool.submit(pipe.write_text, TEXT)
@@ -346,7 +347,8 @@ class Listings(Fake):
                 )
 
     def test_programs_that_do_not_do_it(self) -> None:
-        good, fault = self.vga.read_text(), "t.vga:2: F7 BadLine(2): refused"
+        good = self.vga.read_text()
+        fault = "t.vga:2: F7 BadLine(2): refused"
         for text, script, told in (
             (
                 good + "sys.exit('the script can\\'t be read')\n",
@@ -408,16 +410,27 @@ class Listings(Fake):
             " ax=0003\n"
         )
         told = "t.vga:2: nothing -> E6\nt.vga:3: 55 -> E6\nt.vga:6: nothing -> E1 NotDecoded\n"
-        told += "t.vga:7: nothing -> ax=0003 bx=0000 cx=0000 dx=0000\nt.vga: 4 answers "
+        told += "t.vga:7: nothing -> ax=0003 bx=0000 cx=0000 dx=0000\nt.vga: 4 answers written\n"
         hold(
             self,
             self.blessed,
             (
-                (text, "--dry-run", (0, f"{told}would be written\n", text)),
-                (text, (0, f"{told}written\n", whole)),
+                (text, (0, told, whole)),
                 *((good, (0, "t.vga: 0 answers written\n", good)) for good in (whole, met)),
             ),
         )
+
+    def test_what_would_be_written_in_is_shown_as_a_diff(self) -> None:
+        text = "get 0\nget 1 ; = 55\nget 2 ; = *\n"
+        status, told, left = self.blessed(text, "--diff")
+        self.assertEqual((status, left), (0, text))
+        changes = [line for line in told.splitlines()[3:] if line[0] in "+-"]
+        wanted = ["-get 0", "-get 1 ; = 55", "+get 0 ; = E6", "+get 1 ; = E6"]
+        self.assertEqual(changes, wanted)
+        # Without --bless an answer that nothing expects is none that differs.
+        status, told, _ = self.run_text(text, "--diff")
+        self.assertEqual(status, 1)
+        self.assertNotIn("get 0 ; = E6", told)
 
     def test_a_step_that_answers_otherwise_when_it_is_repeated(self) -> None:
         blessing = Blessing(b"version 2\nrepeat 2\nget 0\nend\n", True)
@@ -593,7 +606,7 @@ class Calls(Fake):
             # A tool's process ends at once, and closes its files so.
             warnings.simplefilter("ignore", ResourceWarning)
             profile.runcall(words.job, words, Progress(False))
-        return sum(entry.callcount for entry in profile.getstats())
+        return sum(entry.callcount for entry in profile.getstats())  # type: ignore[attr-defined]
 
     def test_of_a_step(self) -> None:
         with mock.patch("zaklimot_tools.report.listing._wait_for") as waited:
@@ -724,10 +737,8 @@ class Several(Fake):
         rt = self.program(
             "bin/rt", f'#!/bin/sh\nwords=$*; echo "${{words%% --data*}}" >> asked; {build}\n'
         )
-        crate, told = (
-            Path(self.write("crate/src/main.rt", "")).parents[1],
-            self.run_script()[1].encode(),
-        )
+        crate = Path(self.write("crate/src/main.rt", "")).parents[1]
+        told = self.run_script()[1].encode()
         path = {"PATH": f"{Path(rt).parent}{os.pathsep}{os.environ['PATH']}"}
         limits = "60 seconds and 1 MiB of output, which two pictures of text fill"
         with mock.patch.dict(os.environ, path), mock.patch.multiple(
@@ -751,16 +762,15 @@ class Several(Fake):
 
     def test_what_stands_before_the_limit_of_a_try(self) -> None:
         # A toolchain that runs no script past its first picture.
-        two, crate = (
-            self.write("two.vga", "frame\nget 0\nframe\nframe\n"),
-            Path(self.write("crate/src/main.rt", "")).parents[1],
-        )
+        two = self.write("two.vga", "frame\nget 0\nframe\nframe\n")
+        crate = Path(self.write("crate/src/main.rt", "")).parents[1]
         tries = f"{self.vga} go {two} --fonts - --until 2; echo run=ended status=0 >&2"
         ends = "(head -c 99999 /dev/zero; echo; echo checked: too much; echo run=no-answer) >&2"
         rt = self.program(
             "bin/rt", f'#!/bin/sh\ncase "$*" in *"--until 2") {tries};; *) {ends};; esac\n'
         )
-        told, path = self.folder / "told", f"{Path(rt).parent}{os.pathsep}{os.environ['PATH']}"
+        told = self.folder / "told"
+        path = f"{Path(rt).parent}{os.pathsep}{os.environ['PATH']}"
         with mock.patch.dict(os.environ, {"PATH": path}), mock.patch.object(
             program, "CRATE", crate
         ):
@@ -786,15 +796,15 @@ class Several(Fake):
             self.assertEqual((crate / "asked").read_text(), "\n")
 
     def test_it_runs_again_when_the_script_changes(self) -> None:
-        words = [
+        words: list[str | Path] = [
             "run",
             self.path,
             "--vga",
             self.vga,
             "--quiet",
             "--watch",
-            "--html",
-            page := self.folder / "page",
+            "--json",
+            told_in := self.folder / "page",
         ]
         words += ["--fonts", fonts := self.write("fonts", "1")]
         process = begin("vga-report", *words, text=True)
@@ -809,7 +819,8 @@ class Several(Fake):
             self.assertEqual(
                 told, (f"{self.path} has changed\n", f"{self.path}: 1 step, 1 picture\n")
             )
-            self.assertIn("1 step, 1 picture", page.read_text("utf-8"))
+            # The file takes its place once all is told.
+            self.wait_until(lambda: '"steps": 1, ' in told_in.read_text("utf-8"))
             self.write("fonts", "2")
             self.assertEqual(
                 process.stdout.readline() + process.stdout.readline(),

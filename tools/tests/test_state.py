@@ -7,6 +7,7 @@ from itertools import product
 from random import Random
 from typing import Iterable, Iterator
 
+from zaklimot.format import Picture
 from zaklimot_tools.report.report import Report
 from zaklimot_tools.trace.state import State, rebuilt
 from zaklimot_tools.trace.step import ADVANCE, FRAME, OUT, OUTW, PUTW, READS, WORDS, TraceStep
@@ -35,7 +36,8 @@ REGISTERS = (
 )
 SHOWN = "".join(f"{line}\n" for line in (*MEMORY, *REGISTERS, "frame", "frame")).encode()
 # Traces at random, and the cycles with which scripts of them begin.
-SEEDS, FIRSTS = range(12), (1, 2, 400, 1000)
+SEEDS = range(12)
+FIRSTS = (1, 2, 400, 1000)
 # Ports that cycles at random go to, such as software uses and such as none would, and how many
 # indexes some have.
 INDEXES = {0x3C4: 8, 0x3CE: 12, 0x3D4: 0x1C, 0x3B4: 0x1C}
@@ -79,10 +81,13 @@ def hexed(numbers: Iterable[int]) -> str:
 
 def noise(seed: int, count: int) -> bytes:
     """A trace of so many cycles."""
-    random, time, lines = Random(seed), 0, [f"0 w p 3C2 {('63', '66', '67')[seed % 3]} 1\n"]
+    random = Random(seed)
+    time = 0
+    lines = [f"0 w p 3C2 {('63', '66', '67')[seed % 3]} 1\n"]
     for _ in range(count - 1):
         time += random.choice((0, 1, 5, 20, 100, 3000, 30_000))
-        address, size = random.choice(PLACES) + random.randrange(24), random.choice((1, 1, 2, 4))
+        address = random.choice(PLACES) + random.randrange(24)
+        size = random.choice((1, 1, 2, 4))
         memory = f"{random.choice('wwr')} m {address:X} {random.randrange(1 << 8 * size):X} {size}"
         lines.append(f"{time} {memory if random.random() < 0.43 else of_port(random)}\n")
     return "".join(lines).encode()
@@ -90,7 +95,8 @@ def noise(seed: int, count: int) -> bytes:
 
 def of_port(random: Random) -> str:
     """A cycle of a port; mostly a word for an index and its register."""
-    port, value = random.choice(PORTS), random.randrange(256)
+    port = random.choice(PORTS)
+    value = random.randrange(256)
     if port in INDEXES:
         index = random.randrange(INDEXES[port])
         if index == 0x17 and random.random() < 0.8:
@@ -117,19 +123,20 @@ class Program(unittest.TestCase):
             name: steps_listed(noise(seed, 1200), first=first, has_time=True, frames=3.0)[:-2]
             for name, (seed, first) in cuts.items()
         }
-        ends: dict[int, list[object]] = {}
+        ends: dict[int, list[tuple[str, ...]]] = {}
         texts = {
             name: b"".join(map(TraceStep.text, steps)) + SHOWN for name, steps in scripts.items()
         }
         for name, run in run_texts(texts).items():
             with self.subTest(name):
-                answers, count = list(Report(stream(run.report), name).steps()), len(scripts[name])
+                answers = list(Report(stream(run.report), name).steps())
+                count = len(scripts[name])
                 state = self.followed(scripts[name], [answer.answer for answer in answers])
                 # The frame under way is another, and so is what the beam takes from it; the frame
                 # after it is the same.
-                shown = [
+                shown: list[tuple[str, ...]] = [
                     (
-                        answer.picture and answer.picture.sum,
+                        answer.picture.sum if isinstance(answer.picture, Picture) else "",
                         *(line.partition(" base ")[0] for line in answer.lines),
                     )
                     for answer in (*answers[count:-2], answers[-1])
@@ -158,9 +165,9 @@ class Program(unittest.TestCase):
             yield f"plane {plane} {offset:04X}:" + hexed(word >> 8 * plane & 0xFF for word in words)
         named = ((name, vars(state)[name]) for name in ("seq", "crtc", "gfx"))
         banks = [f"{name} {bank.index:02X}:{hexed(bank.registers)}" for name, bank in named]
-        dac, attributes = (
-            state.dac,
-            f"attr {state.attr.index:02X} {'id'[state.is_data]}:{hexed(state.attr.registers)}",
+        dac = state.dac
+        attributes = (
+            f"attr {state.attr.index:02X} {'id'[state.is_data]}:{hexed(state.attr.registers)}"
         )
         next_one = f"dac {dac.index:02X} {'rgb'[dac.next]} {dac.mask:02X}{hexed(dac.waiting)}"
         yield "\n".join([f"misc {state.misc:02X}", *banks, attributes, next_one])

@@ -3,13 +3,14 @@
 from __future__ import annotations
 
 import os
+import re
 import subprocess
 from pathlib import Path
 from unittest import mock
 
 from zaklimot_tools.dev.testing import style
 
-from .tools import TOP, Folder, call, hold_undone
+from .tools import TOP, Folder, call, hold_undone, main_of
 
 
 NOTING = 'printf "%s\\n" "${0##*/}" "$@" >> "$NOTES"\n'
@@ -24,7 +25,7 @@ class Style(Folder):
         given = {"PATH": path, "NOTES": str(self.folder / "notes")}
         system = mock.patch.object(style, "SYSTEM", str(self.folder / "bin"))
         with mock.patch.dict(os.environ, given), system:
-            return call(style.main, *words)
+            return call(main_of("vga-style"), *words)
 
     def test_each_judge_reads_all_python(self) -> None:
         done = self.judged(black="exit 0", flake8="exit 0", mypy="exit 0")
@@ -41,6 +42,23 @@ class Style(Folder):
         self.assertEqual(status, 1)
         found = "passed  black\nfailed  flake8\na.py:1\nfailed  mypy\nit ended with status 2\n"
         self.assertEqual(told, found)
+
+    def test_all_settings_say_the_same(self) -> None:
+        settings = (TOP / style.SETTINGS).read_text("utf-8")
+        width = re.findall(r"^line-length = (\d+)$", settings, re.M)
+        flake8 = re.findall(
+            r"^max-line-length = (\d+)$", (TOP / ".flake8").read_text("utf-8"), re.M
+        )
+        editors = (TOP / ".editorconfig").read_text("utf-8").partition("\n[*.py]\n")[2]
+        self.assertEqual(width, flake8)
+        self.assertEqual(f"max_line_length = {width[0]}", editors.split("\n")[0])
+        judged = re.findall(r'^    "\$MYPY_CONFIG_FILE_DIR/(?:\.\./)?(\w+)",$', settings, re.M)
+        told = " ".join((TOP / "CONTRIBUTING.md").read_text("utf-8").split())
+        self.assertIn(f"at most {width[0]} columns, as `black`", told)
+        named = ", ".join(f"`{folder}/`" for folder in style.FOLDERS).rpartition(", ")
+        self.assertIn(f"of all Python in {named[0]} and {named[2]}, and `mypy --strict`", told)
+        of_mypy = {*style.FOLDERS} - {"bindings"}
+        self.assertEqual({*judged}, of_mypy - {"tools"} | {"zaklimot_tools", "tests"})
 
     def test_what_is_missing_is_told(self) -> None:
         for words in ((), ("--ready",)):

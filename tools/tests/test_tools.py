@@ -22,7 +22,6 @@ from unittest import mock
 from zaklimot_tools.core import cli
 from zaklimot_tools.core.processes import (
     IS_LINUX,
-    MEBIBYTE,
     Failed,
     Limits,
     Outcome,
@@ -34,7 +33,7 @@ from zaklimot_tools.core.processes import (
 from zaklimot_tools.core.progress import DELAY, Progress
 from zaklimot_tools.core.streams import write_file, writing
 from zaklimot_tools.core.trouble import TROUBLE, Trouble
-from zaklimot_tools.core.version import version
+from zaklimot_tools.core.words import MEBIBYTE
 from zaklimot_tools.dev.library.making import AARCH64
 from zaklimot_tools.dev.testing import checking, discovering
 from zaklimot_tools.dev.testing.discovering import TESTED
@@ -42,6 +41,9 @@ from zaklimot_tools.report.listing import _wait_for
 from zaklimot_tools.script.crates import phases
 
 from .tools import (
+    patched,
+    main_of,
+    NAMES,
     PYTHON,
     SIGNALS,
     TOOLS,
@@ -52,7 +54,6 @@ from .tools import (
     ended,
     hold,
     hold_undone,
-    main_of,
     refused,
     run_tool,
 )
@@ -115,7 +116,6 @@ class Sleeping(unittest.TestCase):
 STARTING = (
     "vga-report suite {harness} --list {list}",
     "vga-report run {script} --try",
-    "vga-memory",
     "vga-library make {made}",
     "vga-release {made}",
     "vga-page module {made}",
@@ -142,69 +142,6 @@ BAD = {
 }
 
 
-class Words(unittest.TestCase):
-    # All but the one that is the program itself.
-    NAMES = sorted(
-        path.name
-        for path in TOOLS.glob("*")
-        if path.is_file() and b"python3" in path.read_bytes()[:30] and path.name != "vga"
-    )
-
-    def test_each_tool_is_there(self) -> None:
-        self.assertGreaterEqual(len(self.NAMES), 12)
-
-    def test_help_has_an_example_and_names_a_page(self) -> None:
-        for name in self.NAMES:
-            with self.subTest(name):
-                status, output, _ = call(main_of(name), "--help")
-                self.assertEqual(status, 0)
-                self.assertRegex(
-                    output,
-                    (
-                        rf"Example:\n  tools/{name}\b(?s:.*)\nExit status: 0 .*; 2 the work can't"
-                        r" be done\.\n"
-                    ),
-                )
-                page = re.search(r"^(\S+\.md) tells more\.$", output, re.M)
-                assert page is not None
-                self.assertTrue((TOP / page[1]).exists(), page[1])
-                self.assertIn(name, (TOP / page[1]).read_text("utf-8"))
-
-    def test_each_command_has_an_example_and_tells_its_words(self) -> None:
-        for name in ("vga-report", "vga-trace", "vga-picture", "vga-floppy"):
-            told = call(main_of(name), "--help")[1]
-            commands = re.findall(r"^    ([a-z-]+)(?:  |$)", told, re.M)
-            self.assertTrue(commands, told)
-            for command in commands:
-                with self.subTest(name, command=command):
-                    status, told, said = call(main_of(name), command, "--help")
-                    self.assertEqual((status, said), (0, ""))
-                    self.assertRegex(told, rf"\nExample:\n  tools/{name} {command} ")
-                    given = re.findall(r"^  ([A-Z]+)(  .*|)\n(?=  |\n)( {4}.*|)", told, re.M)
-                    self.assertTrue(given, told)
-                    for word, beside, below in given:
-                        self.assertTrue(beside.strip() or below.strip(), word)
-
-    def test_the_suite_tells_the_places_of_its_command(self) -> None:
-        told = call(main_of("vga-report"), "suite", "--help")[1]
-        for place in ("{script}", "{fonts}", "{until}", "{name}"):
-            self.assertIn(place, told)
-
-    def test_a_help_needs_none_of_what_does_the_work(self) -> None:
-        command = "import sys; from zaklimot_tools.report.words import main; main(['--help']); "
-        command += "print(sorted(name for name in sys.modules if name.startswith('zaklimot')))"
-        environment = {**os.environ, "PYTHONPATH": str(TOOLS)}
-        status, told, said = ended(*PYTHON, "-c", command, env=environment)
-        self.assertEqual((status, said), (0, ""))
-        for name in ("zaklimot.format", "core.processes", "images.png", "report.runs"):
-            self.assertNotIn(name, told.splitlines()[-1])
-
-    def test_the_version_of_the_header_and_words_that_mean_nothing(self) -> None:
-        for name in self.NAMES:
-            self.assertEqual(call(main_of(name), "--version"), (0, f"{name} {version()}\n", ""))
-            hold_undone(self, call(main_of(name), "--no-such-word"), f"{name}: error: ")
-
-
 class Endings(unittest.TestCase):
     """What it writes may find no room, no reader, and no open stream."""
 
@@ -223,7 +160,7 @@ class Endings(unittest.TestCase):
             self.told,
             (
                 (name, rest, (TROUBLE, f"{name}: standard output: {told}\n"))
-                for name in Words.NAMES
+                for name in NAMES
                 for rest, told in ways
             ),
         )
@@ -233,7 +170,7 @@ class Endings(unittest.TestCase):
         self.assertEqual(done, (TROUBLE, "", f"tool: {cli.NO_MEMORY}\n"))
 
     def test_a_reader_that_has_gone(self) -> None:
-        for name in Words.NAMES:
+        for name in NAMES:
             with self.subTest(name):
                 reader, writer = os.pipe()
                 os.close(reader)
@@ -338,7 +275,8 @@ class Commands(Folder):
             ("while True: sys.stdout.buffer.write(bytes(1 << 16))", Limits(60, MEBIBYTE), too_much),
         ):
             with self.subTest(behind):
-                child, text = self.folder / "child", PARENT + behind
+                child = self.folder / "child"
+                text = PARENT + behind
                 child.unlink(missing_ok=True)
                 made = self.within(
                     lambda seconds: self.run_python(text, limits or Limits(seconds)), child
@@ -424,7 +362,8 @@ class Writing(Folder):
         self.assertEqual((self.names(), (self.folder / "a").read_text()), (["a"], "new"))
 
     def test_what_a_file_has_been_to_others_it_stays(self) -> None:
-        path, link = self.write("a", "old"), self.folder / "link"
+        path = self.write("a", "old")
+        link = self.folder / "link"
         link.symlink_to("a")
         os.chmod(path, 0o640)
         with open(path, encoding="ascii") as stream:
@@ -446,7 +385,8 @@ class Lines(Folder):
     def setUp(self) -> None:
         super().setUp()
         # A terminal that keeps what is written on it.
-        self.terminal, self.now = io.StringIO(), 100.0
+        self.terminal = io.StringIO()
+        self.now = 100.0
         self.patch(
             mock.patch.object(self.terminal, "isatty", return_value=True),
             mock.patch("sys.stderr", self.terminal),
@@ -609,15 +549,11 @@ class Checking(Folder):
         modules have these tests."""
         for name, line in lines.items():
             self.write(f"{name}.py", TEST.format(line))
-        found = {
-            "portable_program": lambda: "portable",
-            "check_suite": mock.Mock(return_value=suite),
-        }
-        with mock.patch.multiple(checking, **found), mock.patch.dict(
-            os.environ, PYTHONPATH=str(self.folder)
-        ):
-            status, output, said = call(checking.main, *lines)
-            found["check_suite"].assert_called_once_with("portable")
+        check_suite = mock.Mock(return_value=suite)
+        found = {"portable_program": lambda: "portable", "check_suite": check_suite}
+        with patched(checking, found), mock.patch.dict(os.environ, PYTHONPATH=str(self.folder)):
+            status, output, said = call(main_of("vga-check"), *lines)
+            check_suite.assert_called_once_with("portable")
         self.assertEqual(said, "")
         return status, output.splitlines()
 
@@ -642,7 +578,8 @@ class Checking(Folder):
     def test_the_suite_over_a_program(self) -> None:
         # A program that knows two of the cases.
         faults = "case $2 in *.bin|*bytes*) echo 'vga: F2 BadMagic' >&2;; esac; exit 1"
-        bad, output = self.program("bad", f"#!/bin/sh\n{faults}\n"), io.StringIO()
+        bad = self.program("bad", f"#!/bin/sh\n{faults}\n")
+        output = io.StringIO()
         with contextlib.redirect_stdout(output):
             checked = checking.check_suite(bad, "--only", "examples/cut-script-0")
         self.assertEqual((checked.passed + checked.failed, checked.skipped), (10, 0))
@@ -658,7 +595,9 @@ class Checking(Folder):
 
     def test_what_ends_it_at_once(self) -> None:
         with mock.patch.dict(os.environ, CC="no-such-compiler"):
-            hold_undone(self, call(checking.main), "^vga-check: no-such-compiler: CC names it ")
+            hold_undone(
+                self, call(main_of("vga-check")), "^vga-check: no-such-compiler: CC names it "
+            )
 
 
 @unittest.skipIf(sys.platform == "win32", "a script is a program on POSIX")
@@ -666,11 +605,15 @@ class Gate(Folder):
     def run_gate(self, tests: str, memory: str = "", prover: str = NOTING) -> tuple[int, str, str]:
         """Status of the gate over these programs and others that note their words; the notes; its
         standard error."""
-        gate, notes = self.folder / "gate", Path(self.write("notes", ""))
+        gate = self.folder / "gate"
+        notes = Path(self.write("notes", ""))
         shutil.copytree(TOP / ".ci", gate / ".ci")
         names = ("page-tests", "bindings-tests", "library-tests", "style")
-        fakes = dict.fromkeys((*(f"vga-{name}" for name in names), "tests-of-tools"), NOTING)
-        for name, text in {**fakes, "vga-memory": memory, "vga-check": tests, "rt": prover}.items():
+        fakes = dict.fromkeys((f"vga-{name}" for name in names), NOTING)
+        refusing = self.program("refusing", memory)
+        beside = f'[ "$1" = tests.allocations ] && exec {refusing}\n'
+        fakes["tests-of-tools"] = NOTING.replace("\n", f"\n{beside}", 1)
+        for name, text in {**fakes, "vga-check": tests, "rt": prover}.items():
             self.program(f"gate/tools/{name}", text)
         # The gate fetches these where they are lacking.
         for name in ("wasm-opt", "wasm2c"):

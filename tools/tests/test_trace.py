@@ -11,12 +11,11 @@ import subprocess
 import unittest
 from functools import partial
 from itertools import product
-from typing import Iterable
-from unittest import mock
+from typing import Any, Iterable
 
 from zaklimot_tools.core.trouble import Trouble
 from zaklimot_tools.trace import converting
-from zaklimot_tools.trace.command import main
+from zaklimot_tools.trace.words import main
 from zaklimot_tools.trace.converting import Listing, Pauses, Written, count, folded, with_flips
 from zaklimot_tools.trace.step import (
     ADVANCE,
@@ -33,6 +32,7 @@ from zaklimot_tools.trace.step import (
 from zaklimot_tools.trace.trace import MEMORY, PORT, SCREEN, VBE, Cycle, Trace
 
 from .tools import (
+    patched,
     EXAMPLES,
     Folder,
     begin,
@@ -51,7 +51,8 @@ run = partial(run_tool, "vga-trace")
 # What a trace from power-on begins with.
 BEGIN = b"0 w p 3C2 67 1\n"
 PICTURE = ppm(9, 1, bytes(27))
-POLL, WRITE = TraceStep(IN, 0x3DA), TraceStep(OUT, 0x3C0, 0x20)
+POLL = TraceStep(IN, 0x3DA)
+WRITE = TraceStep(OUT, 0x3C0, 0x20)
 
 
 def trace(data: bytes) -> Trace:
@@ -458,7 +459,8 @@ class Passing(unittest.TestCase):
         self.assertEqual(list(Pauses().steps(steps)), steps)
 
     def test_time_that_is_asked_for_and_not_there(self) -> None:
-        for wanted in ({"has_time": True}, {"frames": 0.5}):
+        ways: tuple[dict[str, Any], ...] = ({"has_time": True}, {"frames": 0.5})
+        for wanted in ways:
             with self.subTest(wanted), self.assertRaisesRegex(
                 Trouble, "^trace:1: the first cycle has no time, and time"
             ):
@@ -510,11 +512,10 @@ class Passing(unittest.TestCase):
 
 class Converting(Folder):
     def test_traces_of_each_form(self) -> None:
-        data, lacking = BEGIN + b"5 r p 3CC 67 1\n", b"- w p 3C4 1 1\n"
-        script, text = (
-            b"VGAS\x01" + bytes.fromhex("01 C2 03 67 03 CC 03 0B"),
-            b"out 3C2 67\nin 3CC ; = 67\nframe\n",
-        )
+        data = BEGIN + b"5 r p 3CC 67 1\n"
+        lacking = b"- w p 3C4 1 1\n"
+        script = b"VGAS\x01" + bytes.fromhex("01 C2 03 67 03 CC 03 0B")
+        text = b"out 3C2 67\nin 3CC ; = 67\nframe\n"
         figures = "2 cycles, 3 steps, {} bytes: 1 out, 1 in, 1 frame\n".format
         begins = "cycle 1 writes first, and not port 3C2: the trace doesn't begin at power-on\n"
         kind = b"           1 %s port %s size 1\n"
@@ -543,9 +544,8 @@ class Converting(Folder):
 
     def test_too_long_is_told_with_a_number_of_cycles_that_fit(self) -> None:
         long = BEGIN + b"".join(b"- w p 3C4 %X 1\n" % at for at in range(50))
-        many, script = BEGIN + 300 * b"- r p 3DA 0 1\n" + b"- w p 3C4 0 1\n", str(
-            self.folder / "script"
-        )
+        many = BEGIN + 300 * b"- r p 3DA 0 1\n" + b"- w p 3C4 0 1\n"
+        script = str(self.folder / "script")
         for data, limits, most, last in (
             (
                 long,
@@ -560,11 +560,9 @@ class Converting(Folder):
                 1,
             ),
         ):
-            path, ways = (
-                self.write("trace", data),
-                f"`--to {last}` ends before that, and `--from {last + 1}` goes on after it",
-            )
-            with self.subTest(most), mock.patch.multiple(converting, **limits):
+            path = self.write("trace", data)
+            ways = f"`--to {last}` ends before that, and `--from {last + 1}` goes on after it"
+            with self.subTest(most), patched(converting, limits):
                 told = f"vga-trace: {path}: the script has more than {most}; {ways}\n"
                 self.assertEqual(call(main, "convert", path, script), (2, "", told))
                 self.assertFalse(os.path.exists(script))
@@ -637,7 +635,7 @@ class Checking(Folder):
         BEGIN
         + b"- w p 3C4 2 1\n- r p 3C5 F 1\n- r p 3DA 4 1\n- r m A0000 E1 1\n- r m A0002 1234 2\n"
     )
-    GOOD = ("ok", "ok", "0F", "04", "E1", "1234", PICTURE)
+    GOOD: tuple[str | bytes, ...] = ("ok", "ok", "0F", "04", "E1", "1234", PICTURE)
 
     def check(
         self, *answers: str | bytes, given: bytes = TRACE, options: tuple[str, ...] = ()
@@ -648,7 +646,7 @@ class Checking(Folder):
         )
         return status, out.decode().split("\n")[:-1], said
 
-    def changed(self, **answers: str) -> tuple[str | bytes, ...]:
+    def changed(self, **answers: str | bytes) -> tuple[str | bytes, ...]:
         """The good answers, but of the steps `s1`, `s2` and so on."""
         return tuple(
             answers.get(f"s{number}", answer) for number, answer in enumerate(self.GOOD, 1)
@@ -848,7 +846,8 @@ def lines(steps: Iterable[TraceStep]) -> list[str]:
 class Folding(unittest.TestCase):
     def test_rows_of_equal_steps_and_groups(self) -> None:
         nine = [TraceStep(PUT, 0xA0000 + at, at) for at in range(9)] * 3
-        group, other = nine[:8], [TraceStep(IN, 0x3C9, value) for value in range(20)]
+        group = nine[:8]
+        other = [TraceStep(IN, 0x3C9, value) for value in range(20)]
         hold(
             self,
             lines,

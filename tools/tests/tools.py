@@ -21,6 +21,7 @@ import zlib
 from functools import partial
 from pathlib import Path
 from typing import Any, BinaryIO, Callable, Iterable, Mapping, NamedTuple, Optional, Sequence
+from unittest import mock
 
 from zaklimot_tools.core.trouble import Trouble
 from zaklimot_tools.dev.testing.discovering import BUILT, TESTED
@@ -50,11 +51,20 @@ PROGRAM = Path(os.environ.get(TESTED) or BUILT_PROGRAM)
 UNBUILT = "there is no program to test: tools/tests-of-tools compiles one, if there is a C compiler"
 
 
+# All tools but the one that is the program itself.
+NAMES = sorted(
+    path.name
+    for path in TOOLS.glob("*")
+    if path.is_file() and b"python3" in path.read_bytes()[:30] and path.name != "vga"
+)
+
+
 def main_of(name: str) -> Callable[[Sequence[str]], int]:
     """The `main` of a tool."""
     found = MAIN.search((TOOLS / name).read_text("utf-8"))
     assert found is not None, name
-    return importlib.import_module(found[1]).main
+    main: Callable[[Sequence[str]], int] = importlib.import_module(found[1]).main
+    return main
 
 
 def _become(
@@ -64,11 +74,9 @@ def _become(
     streams."""
     for number, stream in enumerate(streams):
         os.dup2(stream.fileno(), number)
-    sys.stdin, sys.stdout, sys.stderr = (
-        open(0),
-        open(1, "w"),
-        open(2, "w", errors="backslashreplace"),
-    )
+    sys.stdin = open(0)
+    sys.stdout = open(1, "w")
+    sys.stderr = open(2, "w", errors="backslashreplace")
     warnings.simplefilter("ignore")
     tempfile.tempdir = None
     _heed_signals()
@@ -104,6 +112,7 @@ def run_tool(
                 process.join()
         written.seek(0)
         said.seek(0)
+        assert process.exitcode is not None
         return process.exitcode, written.read(), said.read().decode()
 
 
@@ -118,7 +127,7 @@ def call(main: Callable[[list[str]], int], *words: str | Path) -> tuple[int, str
 def ended(*words: str | bytes | Path, **options: Any) -> tuple[int, Any, Any]:
     """The same of any command; `options` go to `subprocess.run`, and `text=False` among them asks
     for bytes."""
-    given = {
+    given: dict[str, Any] = {
         "stdout": subprocess.PIPE,
         "stderr": subprocess.PIPE,
         "text": True,
@@ -157,6 +166,11 @@ def run_texts(texts: Mapping[str, bytes]) -> dict[str, Ran]:
     want_program()
     words = ("go", "/dev/stdin", "--fonts", FONTS)
     return {name: run_program(*words, given=text) for name, text in texts.items()}
+
+
+def patched(target: Any, faked: Mapping[str, Any]) -> Any:
+    """A patch of some names of a module."""
+    return mock.patch.multiple(target, **faked)
 
 
 def hold(
@@ -204,9 +218,9 @@ def _heed_signals() -> None:
     signal.alarm(MOST_SECONDS)
 
 
-def begin(name: str, *words: str | Path, **options: Any) -> subprocess.Popen[bytes]:
+def begin(name: str, *words: str | Path, **options: Any) -> subprocess.Popen[Any]:
     """A tool that has begun, with pipes for its streams; `options` go to `subprocess.Popen`."""
-    given = {
+    given: dict[str, Any] = {
         "stdout": subprocess.PIPE,
         "stderr": subprocess.PIPE,
         "preexec_fn": _heed_signals,
@@ -252,7 +266,13 @@ class Folder(unittest.TestCase):
 
     def answering(self, *answers: str | bytes) -> str:
         """A program in the place of `vga` that writes a report of these answers."""
-        return self.program("vga", f"#!/bin/sh\n/bin/cat {self.report('given', *answers)}\n")
+        return self.writing(self.report("given", *answers))
+
+    def writing(self, report: str) -> str:
+        """A program in the place of `vga` that writes this file; of the script by which it is
+        tried, the right report."""
+        tried = '[ "$(/bin/cat "$2")" = "in 3CC" ] && echo "1 00" && exit'
+        return self.program("vga", f"#!/bin/sh\n{tried}\n/bin/cat {report}\n")
 
     def temporary(self) -> str:
         """A folder for temporary files, of which none may be left when the test ends."""
@@ -325,7 +345,8 @@ def stream(data: bytes) -> io.BufferedReader:
 def png_chunks(data: bytes) -> list[tuple[bytes, bytes]]:
     """The chunks of a PNG, each of whose checks must hold: their kinds and data."""
     assert data[:8] == b"\x89PNG\r\n\x1a\n"
-    at, chunks = 8, []
+    at = 8
+    chunks = []
     while at < len(data):
         (length,) = struct.unpack_from(">I", data, at)
         kind, body = data[at + 4 : at + 8], data[at + 8 : at + 8 + length]
@@ -342,10 +363,8 @@ def png_rows(data: bytes) -> tuple[int, int, list[bytes]]:
     assert chunks[0][0] == b"IHDR" and chunks[-1] == (b"IEND", b"")
     width, height, *form = struct.unpack(">IIBBBBB", chunks[0][1])
     assert form == [8, 2, 0, 0, 0]
-    lines, length = (
-        zlib.decompress(b"".join(body for kind, body in chunks if kind == b"IDAT")),
-        3 * width + 1,
-    )
+    lines = zlib.decompress(b"".join(body for kind, body in chunks if kind == b"IDAT"))
+    length = 3 * width + 1
     assert len(lines) == length * height
     assert not any(lines[::length]), "a row with a filter"
     return width, height, [lines[at + 1 : at + length] for at in range(0, len(lines), length)]

@@ -22,12 +22,12 @@ def start(module: str) -> int:
 
 def vga_floppy() -> int:
     """The command `vga-floppy`."""
-    return start("zaklimot_tools.floppy.command")
+    return start("zaklimot_tools.floppy.words")
 
 
 def vga_picture() -> int:
     """The command `vga-picture`."""
-    return start("zaklimot_tools.picture.command")
+    return start("zaklimot_tools.picture.words")
 
 
 def vga_report() -> int:
@@ -37,4 +37,4 @@ def vga_report() -> int:
 
 def vga_trace() -> int:
     """The command `vga-trace`."""
-    return start("zaklimot_tools.trace.command")
+    return start("zaklimot_tools.trace.words")

@@ -5,6 +5,6 @@ for line in "$@"; do
     IFS=' ' read -r -a COMP_WORDS <<< "$line"
     [[ $line == *' ' ]] && COMP_WORDS+=('')
     COMP_CWORD=$((${#COMP_WORDS[@]} - 1))
-    _vga
+    "_${COMP_WORDS[0]//-/_}"
     (IFS='|' && printf '%s\n' "${COMPREPLY[*]}")
 done

@@ -12,6 +12,8 @@ if [[ ! -o interactive ]]; then
     done
     exit
 fi
+# A list that is longer than the screen would ask first.
+unsetopt autolist
 fpath=($FUNCTIONS $fpath)
 autoload -Uz compinit && compinit -D -u
 _record() {

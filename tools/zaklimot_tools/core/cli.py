@@ -75,7 +75,7 @@ def tool_parser(
 
 class Rule(NamedTuple):
     """What an option asks of the words beside it: where it is given and the words break the rule,
-    the reason ends the work."""
+    the reason ends the work. A reason may have words in it, by their names in braces."""
 
     name: str
     is_broken: Callable[[argparse.Namespace], object]
@@ -84,7 +84,7 @@ class Rule(NamedTuple):
     def check(self, words: argparse.Namespace) -> None:
         """Ends the work where the rule is broken."""
         if getattr(words, self.name) not in (None, False) and self.is_broken(words):
-            raise Trouble(self.reason)
+            raise Trouble(self.reason.format_map(vars(words)))
 
 
 def rule(
@@ -116,7 +116,8 @@ class later:
     tool needs none of them."""
 
     def __init__(self, module: str, name: str) -> None:
-        self._module, self._name = module, name
+        self._module = module
+        self._name = name
 
     def __call__(self, words: argparse.Namespace, progress: Progress) -> Optional[int]:
         job: Job = getattr(importlib.import_module(self._module), self._name)
@@ -124,14 +125,17 @@ class later:
 
 
 def command(
-    commands: Any, name: str, job: Job, told: str, example: str = "", **given: Any
+    commands: Any, name: str, job: Job, told: str, example: str, note: str = "", **given: Any
 ) -> argparse.ArgumentParser:
-    """Adds a command, which does a job, to those of a tool. Its help has an example of its use."""
-    if example:
-        raw = argparse.RawDescriptionHelpFormatter
-        given = {"formatter_class": raw, "epilog": f"Example:\n  {example}", **given}
+    """Adds a command, which does a job, to those of a tool. Its help ends with a note, if there is
+    one, and an example of its use."""
     made: argparse.ArgumentParser = commands.add_parser(
-        name, help=told, **{"description": told[0].upper() + told[1:] + ".", **given}
+        name,
+        help=told,
+        description=told[0].upper() + told[1:] + ".",
+        formatter_class=argparse.RawDescriptionHelpFormatter,
+        epilog=f"{note}\n\nExample:\n  {example}".lstrip(),
+        **given,
     )
     made.set_defaults(job=job)
     return made
@@ -247,7 +251,8 @@ def runner(made: Callable[[], argparse.ArgumentParser]) -> Callable[[Optional[Se
     """
 
     def main(words: Optional[Sequence[str]] = None) -> int:
-        progress, parser = Progress(), made()
+        progress = Progress()
+        parser = made()
 
         def work() -> int:
             try:

@@ -32,16 +32,17 @@ from typing import (
 )
 
 from .trouble import Trouble, Wrong
+from .words import MEBIBYTE
 
 
-IS_POSIX, IS_LINUX = os.name == "posix", sys.platform.startswith("linux")
+IS_POSIX = os.name == "posix"
+IS_LINUX = sys.platform.startswith("linux")
 # Seconds between two looks whether a command has ended: the first of them, and the longest.
 FIRST_PAUSE, LONGEST_PAUSE = 0.0005, 0.05
 # Seconds for what stands in a pipe once all that could write into it has ended.
 DRAINING = 5
 # Seconds for a program to end what it has started in groups of its own, once it is asked to.
 ENDING = 5
-MEBIBYTE = 1 << 20
 # So much of what a program says at last is told, in lines and as one line; and so much of its
 # output is kept at most.
 MOST_SAID, MOST_IN_LINE, MOST_KEPT = 2000, 600, 1 << 28
@@ -50,7 +51,8 @@ MOST_STREAMED = 1 << 16
 TOO_LONG = "the command took too long"
 # Where each program comes from that may be lacking: the toolchain's, and those of Debian's
 # packages.
-BINUTILS, CROSS = ("ld", "objcopy", "objdump", "ar", "nm", "readelf"), "aarch64-linux-gnu"
+BINUTILS = ("ld", "objcopy", "objdump", "ar", "nm", "readelf")
+CROSS = "aarch64-linux-gnu"
 PACKAGES = {
     **dict.fromkeys(BINUTILS, "binutils"),
     **{f"{CROSS}-{name}": f"binutils-{CROSS}" for name in BINUTILS},

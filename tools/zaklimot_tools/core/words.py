@@ -4,6 +4,7 @@ import argparse
 import math
 from typing import Callable
 
+MEBIBYTE = 1 << 20
 # The largest numbers of options: enlargements, commands at a time, MiB, steps, and a day of
 # seconds.
 MOST_SCALE = 1000

@@ -62,7 +62,9 @@ class Mistake(Exception):
 
     def __init__(self, at: int, width: int, reason: str) -> None:
         super().__init__(reason)
-        self.at, self.width, self.reason = at, width, reason
+        self.at = at
+        self.width = width
+        self.reason = reason
 
 
 def _wrong(word: Word, reason: str) -> Mistake:

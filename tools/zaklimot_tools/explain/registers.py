@@ -27,7 +27,8 @@ CLOCKS = {0: 25_175_000, 1: 28_322_000}
 # The seconds of a frame where a script doesn't tell.
 USUAL = 1 / 70
 # The end of vertical retrace, with the bit that protects the registers 0 to 7 before it.
-PROTECTING, PROTECT = (CRT, 0x11), 0x80
+PROTECTING = (CRT, 0x11)
+PROTECT = 0x80
 # The registers that shape a frame: clocking mode, horizontal total, vertical total and overflow.
 CLOCKING, TOTAL, LINES, OVERFLOW = (SEQUENCER, 1), (CRT, 0), (CRT, 6), (CRT, 7)
 # The memory map, in bits 3 and 2.
@@ -229,7 +230,8 @@ def _cycles(step: Step) -> Iterator[tuple[bool, int, Optional[int], Optional[int
 def _not_decoded(
     state: Registers, is_memory: bool, place: int, value: Optional[int], _: Optional[int]
 ) -> str:
-    misc, (first, last) = state.misc or 0, WINDOWS[state.map]
+    misc = state.misc or 0
+    (first, last) = WINDOWS[state.map]
     if is_memory and not misc & 2:
         return _why("memory off")
     if is_memory:

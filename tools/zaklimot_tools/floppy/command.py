@@ -1,13 +1,10 @@
-"""The words of the command line, what each command does, and how it ends."""
+"""What each command of `vga-floppy` does."""
 
 import argparse
 import os
-from typing import Any
 
 from zaklimot.format import MOST_BYTES, Script
-from zaklimot_tools.core import cli
-from zaklimot_tools.core.cli import add
-from zaklimot_tools.core.files import STANDARD, Input, Output, OutputOrFolder, name_of
+from zaklimot_tools.core.files import STANDARD, name_of
 from zaklimot_tools.core.progress import Progress
 from zaklimot_tools.core.streams import (
     check_file,
@@ -18,74 +15,15 @@ from zaklimot_tools.core.streams import (
     writing,
 )
 from zaklimot_tools.core.trouble import Trouble
-from zaklimot_tools.core.words import seconds
 from zaklimot_tools.explain.faults import script_of
 from zaklimot_tools.images.png import save_png
 from zaklimot_tools.report.places import LIST
 
 from .image import IMAGE_SIZE, Run, image_for, read_image, read_record, report_lines, reports
-from .running import LGPL, MACHINES, SEABIOS, run_on
+from .running import MACHINES, run_on
 
 # A longer file is no image and no record.
 MOST_READ = 1 << 26
-
-
-def _add_script(parser: argparse.ArgumentParser) -> None:
-    told = "the script, as text or bytes, or a folder of `vga-report scripts`; - is standard input"
-    add(parser, "SCRIPT", told, type=Input)
-
-
-def _add_report(parser: argparse.ArgumentParser) -> None:
-    told = "the report, or a folder for the reports of several scripts (default: standard output)"
-    add(parser, "REPORT", told, nargs="?", default=STANDARD, type=OutputOrFolder)
-    told = "tells all registers that a call leaves, and not only those in which the service answers"
-    add(parser, "--all-registers", told)
-
-
-def _add_make(commands: Any) -> None:
-    told = "makes the image of a floppy or a stick that runs a script, or many"
-    example = "tools/vga-floppy make examples/asked-of-machines.vga floppy.img"
-    made = cli.command(commands, "make", _make, told, example)
-    _add_script(made)
-    add(made, "--disk", "writes a partition table, for a stick or a hard disk (default: a floppy)")
-    add(made, "IMAGE", "the image, of 1,474,560 bytes; - is standard output", type=Output)
-
-
-def _add_read(commands: Any) -> None:
-    told, example = "gives the report of what a run has left", "tools/vga-floppy read floppy.img"
-    made = cli.command(commands, "read", _read, told, example)
-    add(made, "FILE", "the image, or with --serial the record; - is standard input", type=Input)
-    add(made, "--serial", "FILE is what came over the serial port")
-    add(made, "--part", "takes a record that ends too early: gives the report up to there")
-    _add_report(made)
-
-
-def _add_run(commands: Any) -> None:
-    told = "runs a script on an emulator, and gives the report"
-    example = "tools/vga-floppy run --on qemu examples/asked-of-machines.vga"
-    made = cli.command(commands, "run", _run, told, example)
-    add(made, "--on", "the emulator", required=True, choices=list(MACHINES))
-    told = "the video BIOS (default: sea on qemu, lgpl on bochs)"
-    add(made, "--bios", told, choices=[SEABIOS, LGPL])
-    told = "how long it may take, without the time that it waits for a processor (default: 30)"
-    add(made, "--seconds N", told, type=seconds, default=30)
-    add(made, "--picture FILE", "writes the last screen as PNG", type=Output)
-    _add_script(made)
-    _add_report(made)
-
-
-def _parser() -> argparse.ArgumentParser:
-    parser = cli.tool_parser(
-        "vga-floppy",
-        "Runs scripts on machines: by a floppy on a PC, or on an emulator.",
-        "tools/vga-floppy run --on dosbox examples/asked-of-machines.vga",
-        "docs/REAL-MACHINES.md",
-    )
-    commands = parser.add_subparsers(required=True, metavar="COMMAND")
-    _add_make(commands)
-    _add_read(commands)
-    _add_run(commands)
-    return parser
 
 
 def _script(path: str) -> Script:
@@ -126,13 +64,15 @@ def _write_report(words: argparse.Namespace, run: Run, name: str) -> None:
             stream.writelines(lines)
 
 
-def _make(words: argparse.Namespace, _: Progress) -> None:
+def make_image(words: argparse.Namespace, _: Progress) -> None:
+    """Makes the image of a drive that runs a script, or many."""
     write_file(
         words.image, image_for(scripts_of(words.script), name_of(words.script), is_disk=words.disk)
     )
 
 
-def _read(words: argparse.Namespace, _: Progress) -> None:
+def read_run(words: argparse.Namespace, _: Progress) -> None:
+    """Gives the report of what a run has left."""
     name = name_of(words.file)
     with reading(words.file) as stream:
         data = stream.read(MOST_READ if words.serial else IMAGE_SIZE)
@@ -145,8 +85,10 @@ def _read(words: argparse.Namespace, _: Progress) -> None:
     _write_report(words, run, name)
 
 
-def _run(words: argparse.Namespace, _: Progress) -> None:
-    scripts, name = scripts_of(words.script), name_of(words.script)
+def run_script(words: argparse.Namespace, _: Progress) -> None:
+    """Runs a script on an emulator, and gives the report."""
+    scripts = scripts_of(words.script)
+    name = name_of(words.script)
     if [*scripts] == [""]:
         check_file(words.report)
     run, shown = run_on(
@@ -156,7 +98,3 @@ def _run(words: argparse.Namespace, _: Progress) -> None:
         # In the six bits of a component that the DAC has.
         save_png(words.picture, shown.picture(2 if shown.most == 255 else 0))
     _write_report(words, run, words.on)
-
-
-# Runs a command line, and answers its exit status.
-main = cli.runner(_parser)

@@ -26,15 +26,20 @@ IMAGE_SIZE = 2880 * SECTOR
 CODE = Path(__file__).with_name("boot.bin")
 # The boot sector and the interpreter, behind which the table stands.
 CODE_SIZE = SECTOR + 2048
-OEM_NAME, OEM_AT = b"VGAFLOPY", 3
+OEM_NAME = b"VGAFLOPY"
+OEM_AT = 3
 # What is written into the boot sector: how many sectors are loaded, and how the run ends.
-LOADED_AT, LOADED = 62, struct.Struct("<HB")
+LOADED_AT = 62
+LOADED = struct.Struct("<HB")
 WAIT_FOR_KEY, LEAVE_EMULATOR, STAND_STILL = range(3)
 # What a disk has and a floppy has not: a signature, which keeps others from writing one, and one
 # partition, from sector 1 to the image's end. It is the one to boot; its kind says that it holds no
 # file system. Then three that are empty.
-PARTITIONS_AT, PARTITIONS = 440, struct.Struct("<4sH4B4BII48x")
-SIGNATURE, ACTIVE, NO_FILES = b"VGAF", 0x80, 0xDA
+PARTITIONS_AT = 440
+PARTITIONS = struct.Struct("<4sH4B4BII48x")
+SIGNATURE = b"VGAF"
+ACTIVE = 0x80
+NO_FILES = 0xDA
 # The form of a floppy in its boot sector, which a disk has not: a machine would take the disk for a
 # floppy.
 FORM = slice(11, 62)

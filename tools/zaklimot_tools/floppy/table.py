@@ -52,7 +52,8 @@ BEHIND = (INT, SCRIPT)
 # The header before the steps: a name, the version of the forms, where the first script stands,
 # behind the steps that reset the adapter; the length of all steps, and their check.
 HEADER = struct.Struct("<4sHHII")
-NAME, VERSION = b"VGAT", 1
+NAME = b"VGAT"
+VERSION = 1
 
 # Ports that a machine may be asked for: those of the adapter, without the printer's between them
 # (3BC to 3BF), and without 3C3, by which a machine turns the adapter off.
@@ -112,7 +113,8 @@ def _packed_item(step: Item) -> bytes:
             _packed(INT, *step.numbers, place, _table_length(step.numbers) or 0, len(step.block))
             + step.block
         )
-    opcode, (place, *value) = STEPS[step.name], step.numbers
+    opcode = STEPS[step.name]
+    (place, *value) = step.numbers
     if opcode in (IN, INW) and STATUS_PORTS & {place, place + (opcode == INW)}:
         return _packed(LOOK_AWAY, place, opcode == INW)
     if opcode in (OUT, OUTW, IN, INW):

@@ -20,7 +20,8 @@ COMPRESSION = 6
 MOST_NUMBER = 0xFFFF
 SHORT, LONG = 50_000, 100
 # Blocks show a picture as if it had this shape.
-UPPER_HALF, MONITOR = "\u2580", 4 / 3
+UPPER_HALF = "\u2580"
+MONITOR = 4 / 3
 # An enlarged picture has at most so many dots.
 MOST_DOTS = 100_000_000
 
@@ -94,7 +95,8 @@ def _rows(picture: Picture) -> Iterator[bytes]:
 def _marked_row(picture: Picture, other: Picture, width: int, y: int) -> bytes:
     if y >= picture.height or y >= other.height:
         return MARK * width
-    row, other_row = picture.row(y), other.row(y)
+    row = picture.row(y)
+    other_row = other.row(y)
     shared = 3 * min(picture.width, other.width)
     dark = row[:shared].translate(WIDENED).translate(DARKENED)
     if row != other_row:
@@ -151,7 +153,8 @@ class Animation:
                 f"{name} has a picture of another size than {self._first}: --step picks those of"
                 " one size"
             )
-        self._size, self._first = size, self._first or name
+        self._size = size
+        self._first = self._first or name
         packed = b"".join(_packed(_rows(picture), given, size))
         part = SHORT if seconds < 1 else LONG
         self.frames.append((packed, min(MOST_NUMBER, round(seconds * part)), part))

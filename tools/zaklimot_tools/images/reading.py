@@ -26,7 +26,8 @@ HEAD_AT = len(SIGNATURE) + 8
 MOST_BYTES = 1 << 26
 # Samples of a dot, by the colour type of a PNG, and the colour type whose dots name entries of a
 # palette.
-SAMPLES, PALETTE = {0: 1, 2: 3, 3: 1, 4: 2, 6: 4}, 3
+SAMPLES = {0: 1, 2: 3, 3: 1, 4: 2, 6: 4}
+PALETTE = 3
 
 
 class Image(NamedTuple):
@@ -120,7 +121,8 @@ def _ppm(data: bytes, name: str, most_dots: int) -> Image:
 
 
 def _chunks(data: bytes, name: str) -> dict[bytes, bytes]:
-    at, parts = len(SIGNATURE), defaultdict(list)
+    at = len(SIGNATURE)
+    parts = defaultdict(list)
     while b"IEND" not in parts:
         kind = data[at + 4 : at + 8]
         end = at + 8 + int.from_bytes(data[at : at + 4], "big")

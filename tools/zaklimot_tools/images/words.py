@@ -8,7 +8,8 @@ from zaklimot_tools.core.words import MOST_SCALE, number_to
 
 # What a tolerance may be: so much in each of the six bits of a component, or colours of five, six
 # and five bits.
-MOST_WITHIN, FIVE_SIX_FIVE = 63, "5-6-5"
+MOST_WITHIN = 63
+FIVE_SIX_FIVE = "5-6-5"
 Within = Union[int, str]
 
 

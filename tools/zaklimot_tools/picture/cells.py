@@ -19,7 +19,8 @@ from .steps import Item, runs, service
 WINDOW = 0xB8000
 GLYPHS = 256
 # The font file, and where it has the glyphs of so many lines.
-FONTS_LENGTH, FONTS_AT = 9728, {8: 0, 14: 256 * 8, 16: 256 * (8 + 14)}
+FONTS_LENGTH = 9728
+FONTS_AT = {8: 0, 14: 256 * 8, 16: 256 * (8 + 14)}
 # Characters whose ninth dot is the eighth once more.
 LINE_CHARACTERS = range(0xC0, 0xE0)
 BLANK, BLANK_ATTRIBUTE = 0x20, 0x07

@@ -4,12 +4,13 @@ from __future__ import annotations
 
 from collections import Counter
 from dataclasses import dataclass
-from enum import Enum
 from itertools import chain
 from typing import Callable, Iterable, Iterator, Sequence
 
 from zaklimot_tools.core.trouble import Trouble
 from zaklimot_tools.images.reading import Image
+
+from .asked import Fewer
 
 # Red, green and blue, six bits each.
 Colour = tuple[int, int, int]
@@ -245,15 +246,6 @@ def _exchanged(chosen: Sequence[Colour], boxes: Sequence[Box], lost: Sequence[in
             touched |= {number, other, cut}
             made[cut], made[number] = middles
     return made
-
-
-class Fewer(Enum):
-    """What is done to an image of more colours than a mode has."""
-
-    REFUSED = "refused"
-    NEAREST = "nearest"
-    FLOYD = "floyd"
-    ORDERED = "ordered"
 
 
 @dataclass(frozen=True)

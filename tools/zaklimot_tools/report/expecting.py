@@ -19,7 +19,9 @@ from zaklimot_tools.explain.wordings import WORDINGS
 from zaklimot_tools.script.reading import text_of
 
 # What a comment begins with that tells the answer which is expected; and what any answer meets.
-MARK, MARK_BYTE, ANY = "=", ord("="), "*"
+MARK = "="
+MARK_BYTE = ord("=")
+ANY = "*"
 # What a line begins with that has a line of a dump, below the step that is to answer it.
 DUMPED = ";|"
 # The lines of blocks, and what a line without a step may begin with.
@@ -159,7 +161,8 @@ def _in_line(line: str | None, wanted: str | None) -> Iterator[str]:
     if line is None or wanted is None:
         yield f"no line, not '{wanted}'" if line is None else f"'{line}', not the end"
         return
-    words, others = line.split(" "), wanted.split(" ")
+    words = line.split(" ")
+    others = wanted.split(" ")
     row = _ROW.match(line)
     if len(words) != len(others) or len(words) == 1 or bool(row) != bool(_ROW.match(wanted)):
         yield f"'{line}', not '{wanted}'"

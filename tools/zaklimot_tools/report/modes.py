@@ -8,23 +8,16 @@ from typing import Callable
 from zaklimot.format import Picture
 from zaklimot_tools.core.files import STANDARD, files
 from zaklimot_tools.core.progress import Progress
-from zaklimot_tools.core.streams import counted, write, write_file, write_over
+from zaklimot_tools.core.streams import counted, write, write_over
 from zaklimot_tools.core.trouble import Trouble
 from zaklimot_tools.images.png import Shape, block_lines, save_png
 
-from .debugging import link_to
 from .listing import Blessing, Row, RunScript, Tally, chosen, heading, listed
-from .page import Page
 
 # What takes text that is told.
 Tell = Callable[[str], object]
 # So many reasons of refusals are told once each, and then again.
 MOST_WHYS = 1000
-
-
-def fragment(words: argparse.Namespace) -> str:
-    """What names the step of --until in the address of a page."""
-    return "" if words.until is None else f"#step={words.until}"
 
 
 class Summary:
@@ -113,36 +106,14 @@ class StepList(Summary):
         return why
 
 
-class PageOfSteps(Summary):
-    """The same as a page."""
-
-    tells_why = True
-
-    def __init__(self, words: argparse.Namespace, tell: Tell) -> None:
-        super().__init__(words, tell)
-        self._words = words
-        self._page = Page([""], ["line", "step", "step as understood", "answer"])
-
-    def end(self, tally: Tally) -> bool:
-        words = self._words
-        link = None if words.debug is None else link_to(words.debug, words.html) + fragment(words)
-        text = self._page.text(tally.shown, tally.text(), link)
-        write_file(words.html, text.encode("utf-8", "replace"))
-        return super().end(tally)
-
-    def take(self, row: Row, is_wrong: bool) -> None:
-        if self._is_shown(row):
-            self._page.add_row(row)
-
-
 class Differences(Summary):
-    """What differs from the expected answers, as a unified diff of the script."""
-
-    is_all = False
+    """What differs from the expected answers, or all that --bless would write, as a unified diff of
+    the script."""
 
     def __init__(self, words: argparse.Namespace, tell: Tell, data: bytes) -> None:
         super().__init__(words, tell)
-        self._blessing = Blessing(data, self.is_all)
+        self._is_blessed = words.bless
+        self._blessing = Blessing(data, self._is_blessed)
         self._name = words.script
 
     def check(self, script: RunScript) -> None:
@@ -155,38 +126,32 @@ class Differences(Summary):
 
     def end(self, tally: Tally) -> bool:
         self._tell(self._blessing.difference(tally.shown))
-        return True
+        return not self._is_blessed
 
 
 class Blessed(Differences):
     """The answers that are not as expected, which are written into the script."""
 
-    is_all = True
-
     def __init__(self, words: argparse.Namespace, tell: Tell, data: bytes) -> None:
         super().__init__(words, tell, data)
         self._data = data
-        self._is_dry = words.dry_run
 
     def end(self, tally: Tally) -> bool:
         changes = list(self._blessing.changes())
         for number, before, after in changes:
             self._tell(f"{self._name}:{number}: {before or 'nothing'} -> {after}\n")
-        if changes and not self._is_dry:
+        if changes:
             text = self._blessing.text().encode("utf-8", "surrogateescape")
             write_over(self._name, text, self._data)
-        done = "would be written" if self._is_dry else "written"
-        self._tell(f"{self._name}: {counted(len(changes), 'answer')} {done}\n")
+        self._tell(f"{self._name}: {counted(len(changes), 'answer')} written\n")
         return False
 
 
 def mode_of(words: argparse.Namespace, tell: Tell, data: bytes, progress: Progress) -> Summary:
     """The way in which these words have a run shown."""
-    if words.bless:
-        return Blessed(words, tell, data)
     if words.diff:
         return Differences(words, tell, data)
-    if words.html is not None:
-        return PageOfSteps(words, tell)
+    if words.bless:
+        return Blessed(words, tell, data)
     is_listed = not words.quiet and words.json != STANDARD
     return StepList(words, tell, progress) if is_listed else Summary(words, tell)

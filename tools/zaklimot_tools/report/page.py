@@ -1,5 +1,4 @@
-"""A run, or two reports that differ, as a page that stands alone: nothing of it comes from
-elsewhere."""
+"""Two reports that differ, as a page that stands alone: nothing of it comes from elsewhere."""
 
 import base64
 import io
@@ -13,8 +12,6 @@ from zaklimot_tools.core.streams import filled
 from zaklimot_tools.core.trouble import Trouble
 from zaklimot_tools.images.png import write_png
 
-from .expecting import answer_of
-from .listing import Row
 from .report import Difference
 
 
@@ -41,49 +38,13 @@ class Page:
         differing dots marked."""
         self._images += 1
         if self._images > MOST_PICTURES:
-            raise Trouble(
-                f"the page would have more than {MOST_PICTURES} pictures: --only takes some steps"
-            )
+            raise Trouble(f"the page would have more than {MOST_PICTURES} pictures")
         stream = io.BytesIO()
         write_png(stream, picture, other=other)
         data = base64.b64encode(stream.getvalue()).decode("ascii")
         name = f"p{self._images}"
         place = f'data-frame="{len(self._frames)}" alt="{picture.size}"'
         return name, f'<img id="{name}" {place} src="data:image/png;base64,{data}">'
-
-    def _add(self, cells: Sequence[str], kind: str) -> None:
-        if len(self._rows) == MOST_ROWS:
-            raise Trouble(
-                f"the page would have more than {MOST_ROWS:,} rows: --only takes some steps"
-            )
-        marked = f' class="{kind}"' if kind else ""
-        self._rows.append(f"<tr{marked}>{''.join(cells)}</tr>")
-
-    def add_row(self, row: Row) -> None:
-        """Adds a step of a run."""
-        picture = row.step.picture
-        text = escape(answer_of(row.step) if picture is not None else "\n".join(row.step.lines))
-        if row.is_wrong:
-            text += f"\nnot {escape(row.expected or '')}"
-        if row.why:
-            text += f"\n{escape(row.why)}"
-        if isinstance(picture, Picture):
-            name, image = self._image(picture)
-            title = f"step {row.step.number}, {picture.size}"
-            self._frames.append({"step": row.step.number, "title": title, "images": [name]})
-            text += image
-        number = '<td class="number">{}</td>'.format
-        kind = "differs" if row.is_wrong else "refused" if row.step.is_refused else ""
-        line = "" if row.line is None else str(row.line)
-        self._add(
-            [
-                number(line),
-                number(row.step.number),
-                f"<td>{escape(row.words)}</td>",
-                f"<td>{text}</td>",
-            ],
-            kind,
-        )
 
     def add_difference(self, difference: Difference) -> None:
         """Adds a step in which two reports differ."""
@@ -97,28 +58,24 @@ class Page:
             self._frames.append({"step": difference.number, "title": title, "images": names})
             texts = [f"{text}{image}" for text, (_, image) in zip(texts, images)]
             dots += images[2][1]
-        cells = [
-            f'<td class="number">{difference.number}</td>',
-            *(f"<td>{text}</td>" for text in (*texts, dots)),
-        ]
-        self._add(cells, "differs")
+        if len(self._rows) == MOST_ROWS:
+            raise Trouble(f"the page would have more than {MOST_ROWS:,} rows")
+        told = "".join(f"<td>{text}</td>" for text in (*texts, dots))
+        self._rows.append(f'<tr><td class="number">{difference.number}</td>{told}</tr>')
 
-    def text(self, title: str, said: str, link: Optional[str] = None) -> str:
-        """The whole page, with a link to the one that runs the script, where there is one."""
+    def text(self, title: str, said: str) -> str:
+        """The whole page."""
         frames = json.dumps(self._frames).replace("<", "\\u003c")
         captions = (f"<figcaption>{escape(caption)}</figcaption>" for caption in self._captions)
         figures = "".join(f"<figure><canvas></canvas>{caption}</figure>" for caption in captions)
         heads = "".join(f"<th>{escape(column)}</th>" for column in self._columns)
-        told = escape(said) + (
-            "" if link is None else f' <a href="{escape(link)}">Run it step by step</a>'
-        )
         style, script = ((HERE / name).read_text("utf-8") for name in ("page.css", "page.js"))
         return filled(
             HERE / "page.html",
             POLICY=escape(POLICY),
             TITLE=escape(title),
             STYLE=style,
-            TOLD=told,
+            TOLD=escape(said),
             SIZES=SIZES,
             FIGURES=figures,
             HEADS=heads,

@@ -138,7 +138,9 @@ def _write_picture(words: argparse.Namespace, stem: str, picture: Picture, shape
 
 
 def compare(words: argparse.Namespace, progress: Progress) -> int:
-    """Tells the first step in which two reports differ."""
+    """Tells the first step in which two reports differ, or a report and an expected one."""
+    if words.expected:
+        return _compare_expected(words, progress)
     names = name, other_name = name_of(words.report), name_of(words.other)
     comparison = Comparison()
     count = 0
@@ -175,19 +177,11 @@ def compare(words: argparse.Namespace, progress: Progress) -> int:
     return DIFFERED if count else AGREED
 
 
-def _difference_text(difference: Difference, names: tuple[str, str]) -> str:
-    lines = [f"{difference.place} differs"]
-    for name, step, answer in zip(names, difference, difference.answers()):
-        lines.append(f"  {name}: {answer}" if step is None else f"  {name}:{step.line}: {answer}")
-    dots = difference.dots()
-    return "\n".join(lines + ([f"  {dots}"] if dots else [])) + "\n"
-
-
-def check(words: argparse.Namespace, progress: Progress) -> int:
-    """Compares a report with the one that is expected."""
-    name, expected_name = name_of(words.report), name_of(words.expected)
+def _compare_expected(words: argparse.Namespace, progress: Progress) -> int:
+    name = name_of(words.report)
+    expected_name = name_of(words.other)
     comparison = Comparison()
-    with _steps(words.report, progress) as steps, _steps(words.expected, kind=Expected) as expected:
+    with _steps(words.report, progress) as steps, _steps(words.other, kind=Expected) as expected:
         difference = next(comparison.differences(steps, expected), None)
     progress.clear()
     if difference is None:
@@ -201,11 +195,20 @@ def check(words: argparse.Namespace, progress: Progress) -> int:
     return DIFFERED
 
 
+def _difference_text(difference: Difference, names: tuple[str, str]) -> str:
+    lines = [f"{difference.place} differs"]
+    for name, step, answer in zip(names, difference, difference.answers()):
+        lines.append(f"  {name}: {answer}" if step is None else f"  {name}:{step.line}: {answer}")
+    dots = difference.dots()
+    return "\n".join(lines + ([f"  {dots}"] if dots else [])) + "\n"
+
+
 def compare_picture(words: argparse.Namespace, progress: Progress) -> int:
     """Compares the picture of a step with an image, PNG or PPM."""
     with _steps(words.report, progress) as steps:
         _, picture = next(wanted_pictures(steps, [words.step], name_of(words.report)))
-    name, data = name_of(words.image), image_bytes(words.image)
+    name = name_of(words.image)
+    data = image_bytes(words.image)
     # An image of another size is told before it is unpacked, which takes long.
     found = held_size(picture, *size_of(data, name))
     if found is None:

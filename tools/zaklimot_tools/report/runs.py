@@ -20,7 +20,7 @@ from zaklimot_tools.script.program import BuiltProgram, Tried, build_program, fo
 from .debugging import debug_page
 from .folders import run_several, scripts_in
 from .listing import RunScript, tallied
-from .modes import Tell, fragment, mode_of
+from .modes import Tell, mode_of
 from .words import is_several
 
 # Seconds between two looks whether a file has changed.
@@ -70,7 +70,8 @@ def _is_text(name: str) -> bool:
 def _write_debug_page(words: argparse.Namespace, data: bytes) -> None:
     write_file(words.debug, debug_page(name_of(words.script), data, words.fonts, words.debug))
     if words.debug != STANDARD:
-        address = Path(words.debug).absolute().as_uri() + fragment(words)
+        step = "" if words.until is None else f"#step={words.until}"
+        address = Path(words.debug).absolute().as_uri() + step
         write(f"{words.debug}: open it in a browser, for instance as {address}\n")
 
 
@@ -83,7 +84,7 @@ def run(words: argparse.Namespace, progress: Progress) -> int:
 
 
 def _run(words: argparse.Namespace, progress: Progress) -> int:
-    if words.debug is not None and words.html is None:
+    if words.debug is not None:
         _write_debug_page(words, read_script(words.script))
         return AGREED
     program: Program = Tried() if words.try_ else BuiltProgram(found_program(words.vga, BUILD_ONE))
@@ -93,7 +94,7 @@ def _run(words: argparse.Namespace, progress: Progress) -> int:
 
     if is_several(words):
         return run_several(words, run_one, progress)
-    return run_script(words, program, progress, teller(words.html, words.json), say)
+    return run_script(words, program, progress, teller(words.json), say)
 
 
 def run_script(
@@ -110,8 +111,6 @@ def run_script(
     with tallied(shown, json or words.json) as tally:
         with _files(words.script, words.fonts) as found, tempfile.TemporaryFile() as printed:
             path, data, fonts = found
-            if words.debug is not None and os.path.isfile(path):
-                _write_debug_page(words, data)
             script = RunScript(path, data, program, shown, cast(BinaryIO, printed))
             # What is lost where a script is bytes.
             if script.is_bytes and shown.endswith(TEXT_NAME):

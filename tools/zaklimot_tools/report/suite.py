@@ -15,7 +15,7 @@ from typing import Iterator, Optional, Sequence
 
 from zaklimot.format import FAULT, MOST_BYTES, Answer, Picture
 from zaklimot_tools.core.files import name_of
-from zaklimot_tools.core.processes import MEBIBYTE, Limits, in_parallel, run_command
+from zaklimot_tools.core.processes import Limits, in_parallel, run_command
 from zaklimot_tools.core.progress import Progress
 from zaklimot_tools.core.streams import (
     bytes_of,
@@ -27,6 +27,7 @@ from zaklimot_tools.core.streams import (
     write_name,
 )
 from zaklimot_tools.core.trouble import AGREED, DIFFERED, TROUBLE, Trouble
+from zaklimot_tools.core.words import MEBIBYTE
 from zaklimot_tools.images.png import save_png
 
 from .cases import Case, printable, read_cases
@@ -39,8 +40,6 @@ AGREES, SKIPPED, DIFFERS, FAILED = "agrees", "skipped", "differs", "failed"
 # cases.
 COUNTED = {AGREES: "agree", SKIPPED: "skipped", DIFFERS: "differ", FAILED: "failed"}
 ANSWERS = tuple(COUNTED)
-# The word in the place of a command that asks for the expected pictures.
-PICTURES = "pictures"
 # What messages call the report of a case.
 REPORT_NAME = "its report"
 PLACE = re.compile(r"\{(script|fonts|name)\}")
@@ -111,11 +110,7 @@ class Command:
 
 
 def suite(words: argparse.Namespace, progress: Progress) -> int:
-    """Holds a command to the suite; `suite pictures FOLDER` writes the pictures that it expects."""
-    if words.command == PICTURES and words.folder is not None:
-        return _write_expected(words)
-    if words.folder is not None:
-        raise Trouble(f"the command is one word of the shell: '{words.command} {words.folder}'")
+    """Holds a command to the suite."""
     if words.keep is not None:
         empty_folder(words.keep)
     results = _results(words, _chosen(words), progress)
@@ -145,7 +140,8 @@ def _status(counts: dict[str, int]) -> int:
     return DIFFERED if counts[DIFFERS] or not counts[AGREES] else AGREED
 
 
-def _write_expected(words: argparse.Namespace) -> int:
+def expected(words: argparse.Namespace, progress: Progress) -> int:
+    """Writes the pictures that the suite expects into a folder."""
     folder = empty_folder(words.folder)
     for case in _chosen(words):
         for number, picture in _pictures_in(case.expected_steps()):

@@ -19,7 +19,6 @@ FILES: dict[str, tuple[str, Callable[[str], object]]] = {
     "SCRIPT": ("the script, as text or bytes, or a folder of scripts", Input),
     "REPORT": ("the report of a run", Input),
     "OTHER": ("the report that it is compared with, such as that of another adapter", Input),
-    "EXPECTED": ("the expected report, as the suite has them", Input),
     "STEP": ("the number of the step", number_to(MOST_STEP)),
     "IMAGE": ("a PNG, or a PPM of the kind P6", Input),
 }
@@ -51,7 +50,10 @@ def _add_cases(parser: argparse.ArgumentParser) -> None:
 
 def _add_suite(parser: argparse.ArgumentParser) -> None:
     add(parser, "COMMAND", COMMAND)
-    add(parser, "FOLDER", "the folder for expected pictures, after the word `pictures`", nargs="?")
+    # What stands behind a command that isn't quoted is told.
+    parser.add_argument("rest", nargs="*", help=argparse.SUPPRESS)
+    told = "the command is one word of the shell: '{command} {rest[0]}'"
+    rule(parser, "rest", lambda words: words.rest, told)
     add(parser, "--keep FOLDER", "keeps the reports and pictures of cases that don't agree")
     add(parser, "--bytes COMMAND", "the command for scripts as bytes; without it they are skipped")
     _add_cases(parser)
@@ -67,7 +69,7 @@ def _add_suite(parser: argparse.ArgumentParser) -> None:
     add(parser, "--json", "prints the table as JSON")
 
 
-def _add_scripts(parser: argparse.ArgumentParser) -> None:
+def _add_folder_of_cases(parser: argparse.ArgumentParser) -> None:
     add(parser, "FOLDER", "a new folder, or an empty one")
     _add_cases(parser)
 
@@ -83,11 +85,12 @@ def _add_run(parser: argparse.ArgumentParser) -> None:
     told = "writes the pictures of the steps that --only names, or of all, as NNNN.png"
     add(parser, "--pictures FOLDER", told, type=PictureFolder)
     add(parser, "--show", "shows pictures as blocks of colour")
-    _add_pages(parser)
+    _add_page(parser)
     _add_blessing(parser)
     add(parser, "--strict", "counts a refusal that is not expected as a difference")
     add(parser, "--quiet", "shows only the answers that differ, and the last line")
-    add(parser, "--diff", "shows what differs as a unified diff of the script instead")
+    told = "shows what differs as a unified diff of the script; with --bless what that would write"
+    add(parser, "--diff", told)
     add(parser, "--json FILE", "writes steps, answers, digests and refusals as JSON", type=Output)
     _add_folders(parser)
     add(parser, "--watch", "runs again when the script or the font file changes")
@@ -97,25 +100,14 @@ def _add_run(parser: argparse.ArgumentParser) -> None:
     add_shape(parser)
 
 
-def _add_pages(parser: argparse.ArgumentParser) -> None:
+def _add_page(parser: argparse.ArgumentParser) -> None:
     wanted = partial(rule, parser)
-    add(parser, "--html FILE", "writes the listing as a page, with its pictures", type=Output)
-    told = "--html writes a page that has the pictures: without --bless, --pictures and --show"
-    wanted("html", _has_pictures, told)
     told = "writes a page that runs the script in a browser, step by step; nothing is run here"
     add(parser, "--debug FILE", told, type=Output)
     told = "--debug writes a page that runs the script: without --bless, --pictures and --show"
     wanted("debug", _has_pictures, told)
-    wanted(
-        "debug",
-        lambda words: words.html is None and (words.only or words.try_ or words.vga),
-        "--debug runs nothing here: without --only, --try and --vga, unless --html is there too",
-    )
-    wanted(
-        "debug",
-        lambda words: words.html is not None and STANDARD in (words.html, words.debug),
-        "the page of --html links to that of --debug: both want files",
-    )
+    told = "--debug runs nothing here: without --only, --try and --vga"
+    wanted("debug", lambda words: words.only or words.try_ or words.vga, told)
 
 
 def _add_blessing(parser: argparse.ArgumentParser) -> None:
@@ -126,14 +118,8 @@ def _add_blessing(parser: argparse.ArgumentParser) -> None:
         lambda words: words.script == STANDARD or words.until is not None,
         "--bless writes into the script, whole: it wants a file, and no --until",
     )
-    wanted(
-        "bless",
-        lambda words: words.diff or words.json is not None,
-        "--bless lists its changes: without --diff and --json",
-    )
-    add(parser, "--dry-run", "with --bless: lists its changes, and writes nothing")
-    told = "--dry-run tells what --bless would write: it wants --bless"
-    wanted("dry_run", lambda words: not words.bless, told)
+    told = "--bless lists its changes: without --json"
+    wanted("bless", lambda words: words.json is not None, told)
 
 
 def _add_folders(parser: argparse.ArgumentParser) -> None:
@@ -144,10 +130,9 @@ def _add_folders(parser: argparse.ArgumentParser) -> None:
     rule(
         parser,
         "script",
-        lambda words: is_several(words)
-        and (_has_pictures(words) or words.html or words.debug or words.only),
-        "a folder of scripts, and --junit, want none of --bless, --only, --pictures, --show, "
-        "--html and --debug",
+        lambda words: is_several(words) and (_has_pictures(words) or words.debug or words.only),
+        "a folder of scripts, and --junit, want none of --bless, --only, --pictures, --show and "
+        "--debug",
     )
 
 
@@ -177,6 +162,13 @@ def _add_compare(parser: argparse.ArgumentParser) -> None:
     told = "writes the first picture that differs as PNG, with its differing dots marked"
     add(parser, "--picture FILE", told, type=Output)
     add(parser, "--html FILE", "writes all steps that differ as one page", type=Output)
+    add(parser, "--expected", "OTHER is an expected report, as the suite has them")
+    rule(
+        parser,
+        "expected",
+        lambda words: words.all or words.picture is not None or words.html is not None,
+        "--expected tells the first step that differs: without --all, --picture and --html",
+    )
     add_shape(parser)
 
 
@@ -229,23 +221,23 @@ COMMANDS: dict[str, tuple[str, str, Callable[[argparse.ArgumentParser], object],
         _add_compare_picture,
         "report.txt 198 screenshots/0198.png --within 5-6-5",
     ),
-    "check": (
-        "reports",
-        "compares a report with the one that is expected",
-        lambda parser: _add_files(parser, "REPORT", "EXPECTED"),
-        "report.txt crates/vga_suite/data/dots/cursor-off.txt",
-    ),
     "suite": (
         "suite",
-        "holds a command to the suite; `suite pictures FOLDER` writes the pictures that it expects",
+        "holds a command to the suite",
         _add_suite,
         "'tools/vga go {script} --fonts {fonts} {until}' --only host/",
     ),
     "scripts": (
         "suite",
         "writes the scripts of the suite's cases into a folder, as `suite` hands them to a command",
-        _add_scripts,
+        _add_folder_of_cases,
         "cases --only dots/",
+    ),
+    "expected": (
+        "suite",
+        "writes the pictures that the suite expects into a folder",
+        _add_folder_of_cases,
+        "expected --only dots/",
     ),
 }
 

@@ -30,7 +30,9 @@ FLAGS = ("-std=c99", "-O2")
 COMPILERS = ("cc", "gcc", "clang")
 # The program's name, in a folder that its digest names; and the names beside that: of folders in
 # which a program is being made, and of the lock.
-NAME, MAKING, LOCK = "vga.exe" if os.name == "nt" else "vga", "making-", "lock"
+NAME = "vga.exe" if os.name == "nt" else "vga"
+MAKING = "making-"
+LOCK = "lock"
 # So many seconds may a compilation take, and a run wait for that of another run; and between two
 # looks.
 MOST_SECONDS, MOST_WAITING, PAUSE = 900, 1000, 0.1
@@ -62,7 +64,8 @@ def portable_program() -> str:
 
     A Trouble tells what is lacking: a compiler, or a folder that can be written.
     """
-    compiler, folder = _compiler(), _cache()
+    compiler = _compiler()
+    folder = _cache()
     path = folder / _digest(compiler) / NAME
     if not os.access(path, os.X_OK):
         try:

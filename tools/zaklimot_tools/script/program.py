@@ -30,8 +30,10 @@ RELEASED, LAUNCHER = TOP / "bin" / "vga", TOP / "tools" / "vga"
 # its bytes.
 MOST_PRINTED = 7 << 24
 CHUNK = 1 << 16
-# A script of a step, and how its report begins.
-ONE_STEP, FIRST_ANSWER = b"in 3CC\n", b"1 "
+# So much of a first line is told that is none of a report.
+MOST_SHOWN = 60
+# A script of a step, and its report: miscellaneous output as it is at power-on.
+ONE_STEP, ITS_REPORT = b"in 3CC\n", b"1 00\n"
 # What a run without proofs may take.
 LIMITS = "60 seconds and 1 MiB of output, which two pictures of text fill"
 NO_SOURCES = (
@@ -158,17 +160,17 @@ def _steps_before_second(script: Path, until: Optional[int]) -> int:
 
 
 def check_program_runs(program: str, fonts: str) -> None:
-    """Ends the work where a program runs no script, or not with this font file, before it is
-    long."""
+    """Ends the work, before it is long, where a program doesn't run a script of one step as `vga`
+    does, or not with this font file."""
     with tempfile.TemporaryDirectory(prefix="vga-trying-") as name:
         script = Path(name) / "script"
         script.write_bytes(ONE_STEP)
         with BuiltProgram(program).running(script, fonts, None, False) as outcome:
             report = outcome.report.read(CHUNK)
-    if not report.startswith(FIRST_ANSWER):
-        raise Trouble(
-            f"it runs no script with {fonts}: {fault_of(outcome) or 'it says nothing'}", program
-        )
+    if outcome.status or report != ITS_REPORT:
+        written = report.split(b"\n")[0].decode("ascii", "replace")[:MOST_SHOWN]
+        told = fault_of(outcome) or (f"it writes {written!r}" if report else "it says nothing")
+        raise Trouble(f"it runs no script with {fonts}: {told}", program)
 
 
 class Limited(Trouble):

@@ -1,226 +1,42 @@
-"""The words of the command line, what each command does, and how it ends."""
+"""What each command of `vga-trace` does, and how it ends."""
 
 import argparse
-import re
 import sys
 from itertools import islice
 from pathlib import Path
 from tempfile import TemporaryDirectory
-from typing import Any, ContextManager, Iterator, Optional, Sequence, Union
+from typing import ContextManager, Iterator, Union
 
 from zaklimot.format import Picture
-from zaklimot_tools.core import cli
-from zaklimot_tools.core.cli import add
-from zaklimot_tools.core.files import (
-    STANDARD,
-    Input,
-    Output,
-    PictureFolder,
-    check_folder,
-    files,
-    name_of,
-)
+from zaklimot_tools.core.files import STANDARD, check_folder, files, name_of
 from zaklimot_tools.core.progress import Progress
 from zaklimot_tools.core.streams import reading, write_name, writing
 from zaklimot_tools.core.trouble import AGREED, DIFFERED, Trouble
-from zaklimot_tools.core.words import number_to, seconds
 from zaklimot_tools.images.png import Animation, Shape, save_png
-from zaklimot_tools.images.words import add_shape
 from zaklimot_tools.report.report import Report
 from zaklimot_tools.script.program import check_program_runs, found_program
-from zaklimot_tools.script.words import add_program
 
 from . import inpage
-from .converting import CLOCK, END, FLIP, SCREENS, Listing, check, convert, count
-from .recording import TRACE, Deed, QemuMachine, chain_4, record
+from .asked import CLOCK, KEEP, Deed
+from .converting import Listing, check, convert, count
+from .recording import TRACE, QemuMachine, chain_4, record
 from .replaying import replay, shown
 from .trace import Trace, opened
 
 
-CONVERTING = "tools/vga-trace convert examples/typed-line.trace script.bin"
-KEEP, FIRST, QUIET = "keep", "first", "quiet"
-MOST_CYCLES, MOST_KINDS = 1 << 40, 1 << 20
 # So many kinds of refusals, of reads and of differing reads are told of a recording.
 MOST_TOLD = 10
 # Pictures that move have so many bytes at most.
 MOST_PACKED = 1 << 29
 
 
-def _add_trace(parser: argparse.ArgumentParser) -> None:
-    told = "qemu's log or lines of the plain form, also compressed by gzip; - is standard input"
-    add(parser, "TRACE", told, type=Input)
-    add(
-        parser,
-        "--to N",
-        "takes only the first N cycles (default: all)",
-        type=number_to(MOST_CYCLES),
-    )
-    add(
-        parser,
-        "--from N",
-        "begins with the Nth cycle (default: 1)",
-        dest="from_",
-        type=number_to(MOST_CYCLES),
-        default=1,
-    )
-
-
-def _add_listing(parser: argparse.ArgumentParser) -> None:
-    add(parser, "--text", "makes a script as text, with the trace's reads as expected answers")
-    told = "makes a script of version 1 (default: equal steps become repeats of version 2)"
-    add(parser, "--no-repeat", told, dest="repeat", action="store_false")
-    told = "keeps all reads of input status 1, or only the first of several (default: keep)"
-    add(parser, "--polls", told, choices=[KEEP, FIRST], default=KEEP)
-    add(parser, "--time", "lets the clock run by the trace's times, at most a frame for each pause")
-    told = (
-        "adds frames: only at the end, before each change of the start address, where `record` took"
-        " a screen, in each frame of the dot clock with a write, or every SECONDS by the trace's"
-        " times"
-    )
-    frames = {
-        "default": END,
-        "type": lambda word: word if word in (END, FLIP, SCREENS, CLOCK) else seconds(word),
-    }
-    add(parser, "--frames end|flip|screens|clock|SECONDS", told, **frames)
-    _add_longest(parser)
-
-
-def _add_longest(parser: argparse.ArgumentParser) -> None:
-    told = "with frames by the clock: the longest time without writes (default: 1)"
-    add(parser, "--longest SECONDS", told, type=seconds, default=1)
-
-
-def _deed(word: str) -> Deed:
-    """Reads keys, with their time or without: `2.5:ret`, `c,l,s,ret`."""
-    time, colon, keys = word.rpartition(":")
-    if not re.fullmatch("[a-z0-9_]+([-,][a-z0-9_]+)*", keys):
-        raise argparse.ArgumentTypeError(
-            f"'{word}' is no key of qemu's, as `ret`, `2.5:down,ret` or `ctrl-c`"
-        )
-    return Deed(seconds(time) if colon else None, tuple(keys.split(",")))
-
-
-def _add_record(parser: argparse.ArgumentParser) -> None:
-    add(parser, "FOLDER", "a new folder, or an empty one")
-    _add_deeds(parser)
-    _add_page_machine(parser)
-    told = "takes the software as quiet after so long without a cycle (default: 3)"
-    add(parser, "--quiet SECONDS", told, type=seconds, default=3)
-    told = "ends the machine after so many seconds (default: 60)"
-    add(parser, "--seconds SECONDS", told, type=seconds, default=60)
-    add(parser, "--chain-4", "records mode 13 too, by a plugin for qemu 7.2 that gcc builds")
-    add(parser, "--card DEVICE", "takes this VGA of qemu's devices (default: VGA)")
-    add_program(parser)
-
-
-def _add_deeds(parser: argparse.ArgumentParser) -> None:
-    told = (
-        "presses keys so many seconds after power-on, or once the software is quiet; may be"
-        " repeated"
-    )
-    many: dict[str, Any] = {"dest": "deeds", "action": "append"}
-    add(parser, "--key [SECONDS:]KEY,..", told, type=_deed, default=[], **many)
-    told = (
-        "dumps the screen, among the keys in the order of the words (default: at the end, once it"
-        " is quiet)"
-    )
-
-    def screen(word: str) -> Deed:
-        return Deed(None if word == QUIET else seconds(word))
-
-    add(parser, "--screen quiet|SECONDS", told, type=screen, **many)
-
-
-def _add_page_machine(parser: argparse.ArgumentParser) -> None:
-    told = (
-        "runs this file on the machine of the page, in node, instead of on qemu: a program for DOS,"
-        " a floppy, a disk, a ZIP, or a run that the page has saved, whose keys come again. Seconds"
-        " are the machine's then, and not the clock's"
-    )
-    add(parser, "--in-page FILE", told, type=Input)
-    speeds = f"{', '.join(inpage.SPEEDS)} (default: {inpage.USUAL_SPEED})"
-    told = f"the processor's speed in the page's machine: {speeds}"
-    add(parser, "--speed NAME", told, choices=inpage.SPEEDS)
-    told = "the ROM of a video BIOS, which serves interrupt 10 of the page's machine"
-    add(parser, "--rom FILE", told, type=Input)
-    told = "what the page's machine runs of a ZIP in which several files can run"
-    add(parser, "--start NAME", told)
-
-
-def _add_pictures(parser: argparse.ArgumentParser) -> None:
-    add(
-        parser,
-        "FOLDER",
-        "the folder for PNG files, which are named by the second of each",
-        nargs="?",
-        type=PictureFolder,
-    )
-    add(parser, "--apng FILE", "writes one picture that moves, in real time", type=Output)
-    add_shape(parser)
-    _add_longest(parser)
-    add_program(parser)
-
-
-def _add_conversions(commands: Any) -> None:
-    told = "makes a script of a trace"
-    made = cli.command(commands, "convert", _convert, told, CONVERTING)
-    _add_trace(made)
-    add(made, "SCRIPT", "the script; - is standard output", type=Output)
-    _add_listing(made)
-    told = "compares a script's report with the trace; takes the options of convert"
-    example = "tools/vga-trace check examples/typed-line.trace report.txt"
-    made = cli.command(commands, "check", _check, told, example)
-    _add_trace(made)
-    add(made, "REPORT", "the report; - is standard input", type=Input)
-    told = "tells at most N kinds of refusals, of reads, and of reads that differ (default: 40)"
-    add(made, "--most N", told, type=number_to(MOST_KINDS), default=40)
-    _add_listing(made)
-    told = "counts a trace's cycles by kind"
-    example = "tools/vga-trace kinds examples/typed-line.trace"
-    _add_trace(cli.command(commands, "kinds", _kinds, told, example))
-
-
-def _parser(qemu: Sequence[str] = ()) -> argparse.ArgumentParser:
-    """The parser; the words for qemu, behind `--`, are none of its own."""
-    told = "Makes scripts of what software did to a VGA."
-    parser = cli.tool_parser("vga-trace", told, CONVERTING, "docs/TRACES.md", cli.DIFFERS)
-    commands = parser.add_subparsers(required=True, metavar="COMMAND")
-    _add_conversions(commands)
-    told = "makes the pictures of a trace, in real time"
-    example = "tools/vga-trace pictures examples/typed-line.trace --apng typed-line.png"
-    made = cli.command(commands, "pictures", _pictures, told, example)
-    _add_trace(made)
-    _add_pictures(made)
-    told = "records on qemu or on the page's machine, replays, and compares the screens of both"
-    made = cli.command(
-        commands,
-        "record",
-        _record,
-        told,
-        usage=(
-            "vga-trace record [OPTION..] FOLDER -- QEMU-WORD..\n       vga-trace record [OPTION..]"
-            " FOLDER --in-page FILE"
-        ),
-        epilog="After `--` stand qemu's words for what it boots.\n\nExample:\n"
-        "  tools/vga-trace record recorded --key 2:ret -- -cdrom disc.iso",
-        formatter_class=argparse.RawDescriptionHelpFormatter,
-    )
-    made.set_defaults(qemu=qemu)
-    _add_record(made)
-    return parser
-
-
 def _listing(trace: Trace, words: argparse.Namespace) -> Listing:
-    if words.time and words.frames == CLOCK:
-        raise Trouble("frames by the clock have the time already: without --time")
     return Listing(
         trace, words.polls == KEEP, words.time, words.frames, words.to, words.from_, words.longest
     )
 
 
 def _opened(words: argparse.Namespace) -> ContextManager[Trace]:
-    if words.to is not None and words.from_ > words.to:
-        raise Trouble(f"--from {words.from_} is after --to {words.to}: no cycle is both")
     return opened(words.trace, is_whole=words.to is None)
 
 
@@ -229,7 +45,8 @@ def _warn(lacking: Union[Listing, Trace], name: str) -> None:
         print(f"vga-trace: warning: {name}: {line}", file=sys.stderr)
 
 
-def _convert(words: argparse.Namespace, _: Progress) -> None:
+def convert_trace(words: argparse.Namespace, _: Progress) -> None:
+    """Makes a script of a trace."""
     with _opened(words) as trace, writing(words.script) as stream:
         listing = _listing(trace, words)
         written = convert(listing, stream, words.text, words.repeat)
@@ -237,7 +54,8 @@ def _convert(words: argparse.Namespace, _: Progress) -> None:
     print(written.line(listing), file=sys.stderr if words.script == STANDARD else sys.stdout)
 
 
-def _check(words: argparse.Namespace, _: Progress) -> int:
+def check_report(words: argparse.Namespace, _: Progress) -> int:
+    """Compares a script's report with a trace; whether they agree."""
     name = name_of(words.report)
     with _opened(words) as trace, reading(words.report) as stream:
         listing = _listing(trace, words)
@@ -247,16 +65,16 @@ def _check(words: argparse.Namespace, _: Progress) -> int:
     return AGREED if checked.agrees else DIFFERED
 
 
-def _kinds(words: argparse.Namespace, _: Progress) -> None:
+def count_kinds(words: argparse.Namespace, _: Progress) -> None:
+    """Counts a trace's cycles by kind."""
     with _opened(words) as trace:
         found = count(islice(trace.cycles(words.to), words.from_ - 1, None))
     _warn(trace, name_of(words.trace))
     print("\n".join(f"{number:12,} {kind}" for kind, number in found.most_common()))
 
 
-def _pictures(words: argparse.Namespace, _: Progress) -> None:
-    if words.folder is None and words.apng is None:
-        raise Trouble("the pictures want a folder, or --apng a file")
+def make_pictures(words: argparse.Namespace, _: Progress) -> None:
+    """Makes the pictures of a trace, in real time."""
     program = found_program(words.vga)
     shape = Shape(words.scale, words.aspect)
     found = _opened(words)
@@ -304,32 +122,14 @@ def _write_moving(
     print(told, file=sys.stderr if path == STANDARD else sys.stdout)
 
 
-# The options of a recording by the one machine that mean nothing to the other.
-OF_QEMU, OF_PAGE = ("qemu", "chain_4", "card"), ("speed", "rom", "start")
-
-
-def _check_record(words: argparse.Namespace) -> None:
-    is_own = words.in_page is not None
-    if not is_own and not words.qemu:
-        raise Trouble(
-            "qemu needs words after `--`, as `-- -cdrom disc.iso`; and the page's machine,"
-            " --in-page FILE"
-        )
-    for name in OF_QEMU if is_own else OF_PAGE:
-        if getattr(words, name):
-            called = "what stands behind `--`" if name == "qemu" else f"--{name.replace('_', '-')}"
-            raise Trouble(
-                f"{called} is for {'qemu, and not for --in-page' if is_own else '--in-page alone'}"
-            )
-
-
-def _record(words: argparse.Namespace, progress: Progress) -> int:
-    _check_record(words)
-    program, folder = found_program(words.vga), Path(words.folder)
-    check_program_runs(program, words.fonts)
+def record_software(words: argparse.Namespace, progress: Progress) -> int:
+    """Records software, replays what was recorded, and compares the screens of both."""
+    folder = Path(words.folder)
     check_folder(words.folder)
     if folder.exists() and any(folder.iterdir()):
         raise Trouble("it has files: name a new folder", words.folder)
+    program = found_program(words.vga)
+    check_program_runs(program, words.fonts)
     # A screen is taken at the end at least.
     deeds = words.deeds if words.deeds and not words.deeds[-1].keys else [*words.deeds, Deed()]
     folder.mkdir(parents=True, exist_ok=True)
@@ -394,11 +194,3 @@ def _judge(
         screen.write(folder, number)
     print("\n".join(lines))
     return AGREED if are_equal else DIFFERED
-
-
-def main(words: Optional[Sequence[str]] = None) -> int:
-    """Runs a command line, and answers its exit status. What stands behind `--` of `record` is for
-    qemu."""
-    given = sys.argv[1:] if words is None else list(words)
-    end = given.index("--") if given[:1] == ["record"] and "--" in given else len(given)
-    return cli.runner(lambda: _parser(given[end + 1 :]))(given[:end])

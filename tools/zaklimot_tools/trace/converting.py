@@ -6,7 +6,7 @@ Rows of equal steps, and of equal groups of steps, become blocks.
 from collections import Counter
 from dataclasses import dataclass, field
 from itertools import islice
-from typing import BinaryIO, Callable, Iterable, Iterator, NamedTuple, Optional, Sequence, Union
+from typing import BinaryIO, Callable, Iterable, Iterator, NamedTuple, Optional, Sequence
 
 from zaklimot import format
 from zaklimot.format import (
@@ -30,6 +30,7 @@ from zaklimot_tools.explain.registers import (
     bytes_written,
 )
 
+from .asked import CLOCK, END, FLIP, SCREENS, Frames
 from .state import State, rebuilt
 from .step import (
     ADVANCE,
@@ -48,15 +49,12 @@ from .step import (
 )
 from .trace import MEMORY, PORT, Cycle, Trace
 
-# When a script has a frame: at its end alone, before each page flip, where a screen was taken, once
-# in each frame of the dot clock in which something was written, or every so many seconds.
-END, FLIP, SCREENS, CLOCK = "end", "flip", "screens", "clock"
-Frames = Union[str, float]
 # Bytes that are kept free, as text: for the steps at the end, and for a row that is no block once
 # it is cut there.
 FOR_THE_END = 1024
 # The bytes of a block but its steps, and the most steps that are looked at as one group.
-BLOCK_BYTES, MOST_GROUP = format.Block(1, ()).size, 8
+BLOCK_BYTES = format.Block(1, ()).size
+MOST_GROUP = 8
 # Steps that are looked at ahead: as many as the shortest row that is worth a block may have. More
 # are fetched at once.
 AHEAD, FETCHED = 64, 4096
@@ -229,9 +227,12 @@ class Listing:
         longest: float = 1,
     ) -> None:
         self.trace = trace
-        self._keeps_polls, self._has_time, self._frames = keeps_polls, has_time, frames
+        self._keeps_polls = keeps_polls
+        self._has_time = has_time
+        self._frames = frames
         self._is_timed = has_time or frames == CLOCK or isinstance(frames, float)
-        self._most, self._first = most, first
+        self._most = most
+        self._first = first
         self.has_time = has_time
         self._pauses = Pauses()
         self._clocked = Clocked(longest)
@@ -359,7 +360,8 @@ class _Ahead:
     """The steps that come next, from a place on, and their codes."""
 
     def __init__(self, rest: Iterator[TraceStep], code: Code) -> None:
-        self._rest, self._code = rest, code
+        self._rest = rest
+        self._code = code
         self.steps: list[TraceStep] = []
         self.codes: list[bytes] = []
         self.at = 0
@@ -368,9 +370,8 @@ class _Ahead:
         """Whether there is a step. So many are fetched, if there are."""
         if len(self.steps) - self.at < wanted:
             more = list(islice(self._rest, FETCHED))
-            self.steps, self.codes = self.steps[self.at :] + more, self.codes[self.at :] + list(
-                map(self._code, more)
-            )
+            self.steps = self.steps[self.at :] + more
+            self.codes = self.codes[self.at :] + list(map(self._code, more))
             self.at = 0
         return self.at < len(self.steps)
 
@@ -566,7 +567,8 @@ def check(
 
     Where time has passed by the dots of the trace, the beam is where it was.
     """
-    checked, registers = Checked(), Registers()
+    checked = Checked()
+    registers = Registers()
     for number, step in enumerate(steps, 1):
         answer = _judged(step, number, next(answers, None), name)
         is_exact = has_time and step.dots is not None

@@ -31,15 +31,14 @@ from zaklimot_tools.core.progress import Progress
 from zaklimot_tools.core.streams import bytes_of, writing
 from zaklimot_tools.core.trouble import Trouble
 
-from .recording import LOOK, TRACE, Deed, Keeper, Say
+from .asked import USUAL_SPEED, Deed
+from .recording import LOOK, TRACE, Keeper, Say
 
 
-NODE, OLDEST = "node", 18
+NODE = "node"
+OLDEST = 18
 SOURCES = TOP / "page" / "machine"
-# The speeds of the page's list, and the one that it begins with; a file of the page has so many
-# bytes at most.
-SPEEDS = ("8088", "286", "386", "fastest")
-USUAL_SPEED = "386"
+# A file of the page has so many bytes at most.
 MOST_FILE = 1 << 28
 MOST_ROM = 1 << 16
 # What a browser calls the keys that qemu names otherwise: their places, and what they type with

@@ -9,7 +9,7 @@ from contextlib import ExitStack, contextmanager, suppress
 from dataclasses import dataclass, field
 from pathlib import Path
 from threading import Thread
-from typing import BinaryIO, Callable, Iterator, NamedTuple, Optional, Sequence
+from typing import BinaryIO, Callable, Iterator, Optional, Sequence
 
 from zaklimot_tools.core.processes import (
     DRAINING,
@@ -23,6 +23,7 @@ from zaklimot_tools.core.progress import Progress
 from zaklimot_tools.core.streams import writing
 from zaklimot_tools.core.trouble import Trouble
 
+from .asked import Deed
 from .monitor import ANSWERING, Monitor, monitor_at
 from .trace import SCREEN
 
@@ -57,20 +58,6 @@ MOST_LINES, CHUNK = 1 << 31, 1 << 16
 Say = Callable[[str], None]
 
 
-class Deed(NamedTuple):
-    """Keys that are pressed one after the other, or the screen taken where there are none.
-
-    It is done so many seconds after power-on, or once the software is quiet. Keys have qemu's
-    names, `ctrl-c` two of them.
-    """
-
-    at: Optional[float] = None
-    keys: tuple[str, ...] = ()
-
-    def __str__(self) -> str:
-        return f"the keys {','.join(self.keys)}" if self.keys else "a screen"
-
-
 @dataclass(frozen=True)
 class QemuMachine:
     """What a machine is made of, what is done to it in this order, and how long its software is
@@ -92,7 +79,9 @@ class Keeper(Thread):
 
     def __init__(self, source: BinaryIO, target: BinaryIO, name: str = QEMU) -> None:
         super().__init__(daemon=True)
-        self._source, self._target, self._name = source, target, name
+        self._source = source
+        self._target = target
+        self._name = name
         self.size = 0
         self.last = time.monotonic()
         self.trouble: Optional[Trouble] = None

@@ -30,7 +30,8 @@ from zaklimot_tools.report.report import Report
 from zaklimot_tools.report.reports import delays_of
 from zaklimot_tools.script.program import BuiltProgram, fault_of
 
-from .converting import SCREENS, Checked, Listing, Written, check, convert
+from .asked import SCREENS
+from .converting import Checked, Listing, Written, check, convert
 from .recording import PHASES, TRACE, dump
 from .state import State
 from .step import TraceStep
@@ -63,12 +64,14 @@ class Screen:
     is_own: bool = False
 
     def __post_init__(self) -> None:
-        self.part, self.held = self.picture, held(self.picture, self.image)
+        self.part = self.picture
+        self.held = held(self.picture, self.image)
         if self.held.count is None and not self.is_own:
             front = whole_rows(self.state, self.picture)
             found = held(front, self.image)
             if found.count is not None:
-                self.part, self.held = front, found
+                self.part = front
+                self.held = found
         # The state goes on from here: what it tells is asked now.
         self.names = {} if self.is_equal or self.is_own else _known(self)
 

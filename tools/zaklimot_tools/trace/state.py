@@ -213,7 +213,8 @@ class Memory:
     """
 
     def __init__(self, seq: Sequence[int], gfx: Sequence[int]) -> None:
-        self._seq, self._gfx = seq, gfx
+        self._seq = seq
+        self._gfx = gfx
         self.words = [0] * PLANE_BYTES
         self.latches = 0
 
@@ -329,7 +330,9 @@ class Dac:
 
     def __init__(self) -> None:
         self.components = [0] * (COMPONENTS * ENTRIES)
-        self.mask, self.index, self.next = 0xFF, 0, 0
+        self.mask = 0xFF
+        self.index = 0
+        self.next = 0
         self.waiting = [0, 0]
 
     def choose(self, index: int) -> None:
@@ -386,11 +389,9 @@ class Beam:
         """Goes on by so many dots. The line and the character stay as they are, inside or outside,
         until they end."""
         _, characters, dots = shape
-        (line, character, dot), was_at_begin, begin = (
-            self.place,
-            self.is_at_begin,
-            self.drawn(shape),
-        )
+        (line, character, dot) = self.place
+        was_at_begin = self.is_at_begin
+        begin = self.drawn(shape)
         end = begin + count
         frames = 0
         if end // dots == begin // dots:

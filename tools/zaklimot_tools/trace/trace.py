@@ -118,7 +118,8 @@ class Trace:
     cycles."""
 
     def __init__(self, stream: BinaryIO, name: str) -> None:
-        self._stream, self.name = stream, name
+        self._stream = stream
+        self.name = name
         self._is_plain: Optional[bool] = None
         self._first_other = 0
         self.line = 0

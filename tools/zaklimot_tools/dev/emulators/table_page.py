@@ -3,6 +3,7 @@ around them."""
 
 from __future__ import annotations
 
+import argparse
 import json
 import re
 from typing import Any, Iterator, NamedTuple, Sequence
@@ -55,10 +56,16 @@ def _read(path: str) -> Results:
             int(case["answers"]) + int(case["differing"]) + len(case["answer"])
     except (ValueError, KeyError, TypeError) as error:
         raise Trouble("it isn't what `vga-report suite --json` prints", name) from error
-    on, bios = ON.search(command), BIOS.search(command)
+    on = ON.search(command)
+    bios = BIOS.search(command)
     if on is None or on[1] not in MACHINES:
         raise Trouble("its command is no `vga-floppy run --on` of an emulator", name)
     return Results(on[1], MACHINES[on[1]].full_version(bios[1] if bios else None), cases)
+
+
+def write_results(words: argparse.Namespace, _: object) -> None:
+    """Writes the suite's results, as the command line names them, into a page."""
+    write_tables(words.page, words.results)
 
 
 def write_tables(page: str, paths: Sequence[str]) -> None:
@@ -141,7 +148,8 @@ def _rule_cell(cases: Sequence[dict[str, Any]]) -> str:
 
 
 def _difference(answered: str, expected: str) -> str:
-    words, others = answered.split(), expected.split()
+    words = answered.split()
+    others = expected.split()
     if len(words) == len(others) > 1:
         answered, expected = next(
             ((one, other) for one, other in zip(words, others) if one != other), ("", "")

@@ -1,4 +1,4 @@
-"""The words of the command line, and the figures at the end."""
+"""Inputs one after the other, and the figures at the end."""
 
 import argparse
 import os
@@ -11,13 +11,11 @@ from random import Random
 
 from zaklimot.format import ScriptFault, encode, parse_text
 from zaklimot_tools import TOP
-from zaklimot_tools.core import cli
-from zaklimot_tools.core.files import Input
-from zaklimot_tools.core.processes import MEBIBYTE, Limits
+from zaklimot_tools.core.processes import Limits
 from zaklimot_tools.core.progress import Progress
 from zaklimot_tools.core.streams import empty_folder, write_file
 from zaklimot_tools.core.trouble import AGREED, DIFFERED, Trouble, Wrong
-from zaklimot_tools.core.words import number_to, seconds
+from zaklimot_tools.core.words import MEBIBYTE
 from zaklimot_tools.script.program import found_program
 from zaklimot_tools.script.words import FONTS
 
@@ -30,49 +28,8 @@ TEXTS = (TOP / "examples", TOP / "crates" / "vga_suite" / "data")
 MOST_TEXT = 1 << 14
 # What each program is asked first.
 FIRST_TEXT = b"in 3DA\n"
-# The largest numbers of options: MiB that a run may take, and inputs.
-MOST_MEBIBYTES, MOST_NUMBER = 1 << 16, 1 << 62
 # What stands for the answer of a run with which something is wrong.
 WRONG = "wrong"
-
-
-def _parser() -> argparse.ArgumentParser:
-    parser = cli.tool_parser(
-        "vga-fuzz",
-        "Feeds vga with scripts and texts made at random.",
-        "tools/vga-fuzz --seed 1 --seconds 300 --keep found",
-        "tools/README.md",
-        cli.JUDGES,
-    )
-    told = (
-        "the program (default: one built here, a release's, vga in the path, or one that is"
-        " compiled)"
-    )
-    parser.add_argument("program", nargs="?", type=Input, help=told)
-    numbers = {
-        "seed": (1, 0, "where the random numbers begin (default: 1)"),
-        "inputs": (0, 0, "how many inputs are made at most (default: any number)"),
-        "first": (1, 1, "the number of the first input, to make one again"),
-        "memory": (256, 1, "how many MiB one run may take (default: 256)"),
-        "output": (64, 1, "how many MiB one run may write (default: 64)"),
-    }
-    for name, (usual, least, told) in numbers.items():
-        most = MOST_MEBIBYTES if name in ("memory", "output") else MOST_NUMBER
-        cli.add(parser, f"--{name} N", told, type=number_to(most, least), default=usual)
-    for name, told in (
-        ("seconds", "how long to make inputs"),
-        ("timeout", "how long one run may take"),
-    ):
-        cli.add(
-            parser,
-            f"--{name} SECONDS",
-            f"{told}, in seconds (default: 60)",
-            type=seconds,
-            default=60,
-        )
-    cli.add(parser, "--keep FOLDER", "keeps the inputs that show something wrong in this folder")
-    parser.set_defaults(job=_run)
-    return parser
 
 
 def _at_hand() -> tuple[list[bytes], list[bytes]]:
@@ -159,7 +116,8 @@ def _fuzz(words: argparse.Namespace, folder: Path) -> int:
     return DIFFERED if answers[WRONG] else AGREED
 
 
-def _run(words: argparse.Namespace, _: Progress) -> int:
+def feed_program(words: argparse.Namespace, _: Progress) -> int:
+    """Feeds a program with inputs at random; whether one shows something wrong."""
     if not os.path.isfile(words.program) or not os.access(words.program, os.X_OK):
         raise Trouble(
             "it is no program; (cd crates/vga && rt run -- --help) builds it", words.program
@@ -168,7 +126,3 @@ def _run(words: argparse.Namespace, _: Progress) -> int:
         empty_folder(words.keep)
     with tempfile.TemporaryDirectory(prefix="vga-fuzz-") as folder:
         return _fuzz(words, Path(folder))
-
-
-# Runs a command line, and answers its exit status.
-main = cli.runner(_parser)

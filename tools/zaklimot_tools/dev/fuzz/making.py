@@ -68,7 +68,8 @@ DUMPED = FORMS["show plane"].fields[-1]
 CYCLES = [form for form in FORMS.values() if form.opcode < FORMS["int"].opcode]
 # How often a block that has steps is taken; and so many short steps mean more than a script may,
 # taken as often as can be.
-COUNTS, TOO_MANY = (1, 2, 3, 7), 257
+COUNTS = (1, 2, 3, 7)
+TOO_MANY = 257
 
 BYTES = (0x00, 0xFF, 0x01, 0x80, 0x55, 0x20)
 PORTS = (

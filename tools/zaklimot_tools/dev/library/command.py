@@ -1,4 +1,4 @@
-"""The words of the command line, what the command does, and how it ends."""
+"""What each command of `vga-library` does."""
 
 import argparse
 import os
@@ -6,23 +6,18 @@ import tempfile
 from pathlib import Path
 from typing import Optional
 
-from zaklimot_tools.core import cli
-from zaklimot_tools.core.cli import add
-from zaklimot_tools.core.files import Input, Output, check_folder
+from zaklimot_tools.core.files import check_folder
 from zaklimot_tools.core.processes import check_program
 from zaklimot_tools.core.progress import Progress
 from zaklimot_tools.core.streams import write_file
 from zaklimot_tools.core.trouble import Trouble
 from zaklimot_tools.dev.page.making import made_for_c
-from zaklimot_tools.dev.words import add_proof, refuse_to_check
+from zaklimot_tools.dev.words import refuse_to_check
 from zaklimot_tools.script.crates import phases
 
 from .making import (
-    ARCHIVE,
-    BACKENDS,
     MOVING,
     TARGETS,
-    X86_64,
     Place,
     Target,
     built_archive,
@@ -32,9 +27,7 @@ from .making import (
     memory_part,
 )
 from .one_file import TRANSLATORS, one_file, written_by_wasm2c
-
-# Where files go that a package names no other place for.
-USUAL_PREFIX = "/usr/local"
+from .words import USUAL_PREFIX
 
 
 def check_given(*paths: Optional[str]) -> None:
@@ -42,66 +35,6 @@ def check_given(*paths: Optional[str]) -> None:
     for path in filter(None, paths):
         if not os.path.isfile(path):
             raise Trouble("there is no such file", path)
-
-
-def _add_archive(parser: argparse.ArgumentParser) -> None:
-    add(
-        parser,
-        "--target",
-        "the processor, with Linux (default: x86_64)",
-        choices=[*TARGETS],
-        default=X86_64.name,
-    )
-    told = "the compiler: llvm, or rattle, which is written in Rattle (default: llvm)"
-    add(parser, "--backend", told, choices=BACKENDS, default=BACKENDS[0])
-    told = (
-        f"takes this archive of the crate, as {ARCHIVE.name} (default: `rt lib` proves and"
-        " builds it)"
-    )
-    add(parser, "--archive FILE", told, type=Input)
-
-
-def _parser() -> argparse.ArgumentParser:
-    parser = cli.tool_parser(
-        "vga-library", "Makes the library for C.", "tools/vga-library make kit", "docs/LIBRARY.md"
-    )
-    commands = parser.add_subparsers(required=True, metavar="COMMAND")
-    made = cli.command(commands, "make", _make, "makes it in a folder, which you may move")
-    add(made, "FOLDER", "gets include/, lib/ and lib/pkgconfig/")
-    _add_archive(made)
-    made = cli.command(
-        commands,
-        "install",
-        _install,
-        "installs it below a prefix, as packagers do; takes what `make` has made",
-        epilog="PREFIX and DESTDIR of the environment are the defaults of --prefix and --destdir.",
-    )
-    add(made, "--prefix FOLDER", f"the prefix (default: {USUAL_PREFIX})")
-    add(
-        made,
-        "--destdir FOLDER",
-        "stands before the prefix while files are installed (default: nothing)",
-    )
-    add(
-        made,
-        "--libdir NAME",
-        "the folder of libraries below the prefix (default: lib)",
-        default="lib",
-    )
-    _add_archive(made)
-    made = cli.command(
-        commands,
-        "one-file",
-        _one_file,
-        "makes it as one C file, portable/zaklimot.c in the repository",
-        description=(
-            "Makes the library as one C file, which any C compiler takes. "
-            "It is made of the proved crate, by programs that no proof covers."
-        ),
-    )
-    add(made, "FILE", "the C file", type=Output)
-    add_proof(made, usually=" (default: `rt check` proves)")
-    return parser
 
 
 def _parts(
@@ -143,11 +76,13 @@ def _lay(
             print(path)
 
 
-def _make(words: argparse.Namespace, progress: Progress) -> None:
+def make(words: argparse.Namespace, progress: Progress) -> None:
+    """Makes the library in a folder."""
     _lay(words, Place(words.folder), MOVING, progress)
 
 
-def _install(words: argparse.Namespace, progress: Progress) -> None:
+def install(words: argparse.Namespace, progress: Progress) -> None:
+    """Installs the library below a prefix."""
     prefix = words.prefix or os.environ.get("PREFIX") or USUAL_PREFIX
     if not os.path.isabs(prefix):
         raise Trouble("a prefix begins with a slash", prefix)
@@ -157,14 +92,11 @@ def _install(words: argparse.Namespace, progress: Progress) -> None:
     _lay(words, Place(prefix, words.libdir, stage), prefix, progress, takes_made=True)
 
 
-def _one_file(words: argparse.Namespace, progress: Progress) -> None:
+def make_one_file(words: argparse.Namespace, progress: Progress) -> None:
+    """Makes the library as one C file."""
     refuse_to_check(words)
     for name in TRANSLATORS:
         check_program(name)
     made = one_file(written_by_wasm2c(made_for_c(words, progress))).encode("ascii")
     write_file(words.file, made)
     print(f"{words.file}: {len(made):,} bytes")
-
-
-# Runs a command line, and answers its exit status.
-main = cli.runner(_parser)

@@ -18,9 +18,11 @@ from zaklimot_tools.core.trouble import Trouble
 from zaklimot_tools.core.version import HEADER, Version, version
 from zaklimot_tools.script.crates import below, uses
 
+from .words import ARCHIVE_NAME, BACKENDS, PROCESSORS
+
 
 CRATE = TOP / "crates" / "vga_c"
-ARCHIVE = CRATE / "out" / "libvga_c.a"
+ARCHIVE = CRATE / "out" / ARCHIVE_NAME
 # A build that was stopped takes a library away, and what `rt ci` has kept hides that it is lacking.
 AGAIN = (
     ". If rt ci has passed, a build was stopped since: remove the folders crates/*/out, and run it"
@@ -33,8 +35,6 @@ HEAP = Path(__file__).resolve().parent / "heap.c"
 HEAP_OPTIONS = ("-std=c99", "-O2", "-fPIC", "-Wall", "-Wextra", "-Werror")
 # Where `rt check` keeps its work.
 KEPT = CRATE / "out" / "incremental"
-# Rattle's compilers: LLVM, and one that is written in Rattle.
-BACKENDS = ("llvm", "rattle")
 NAME = "zaklimot"
 # The name by which CMake finds it, and the files that it reads, with places for what is made.
 CMAKE_NAME = "Zaklimot"
@@ -80,8 +80,8 @@ class Target(NamedTuple):
         return [self.compiler(), *map(self.tool, ("ld", "objcopy", "ar"))]
 
 
-X86_64 = Target("x86_64", "x86_64-unknown-linux-gnu", BACKENDS)
-AARCH64 = Target("aarch64", "aarch64-unknown-linux-gnu", BACKENDS[:1], "aarch64-linux-gnu-")
+X86_64 = Target(PROCESSORS[0], "x86_64-unknown-linux-gnu", BACKENDS)
+AARCH64 = Target(PROCESSORS[1], "aarch64-unknown-linux-gnu", BACKENDS[:1], "aarch64-linux-gnu-")
 TARGETS = {target.name: target for target in (X86_64, AARCH64)}
 
 

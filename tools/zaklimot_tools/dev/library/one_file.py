@@ -241,7 +241,8 @@ def _start(text: str) -> Iterator[str]:
 
 def _constants(text: str) -> str:
     globals_of = GLOBAL.findall(text)
-    pages, heap = PAGES.findall(text), HEAP.findall(text)
+    pages = PAGES.findall(text)
+    heap = HEAP.findall(text)
     loaded = {name for _, name, _ in LOADED.findall(text)}
     if (
         not globals_of

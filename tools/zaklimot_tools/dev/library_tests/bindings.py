@@ -17,12 +17,12 @@ from typing import Callable
 
 from zaklimot._file import FILE, PORTABLE, PROVED, kind_of
 from zaklimot_tools import TOP
-from zaklimot_tools.core import cli
 from zaklimot_tools.core.processes import Word, captured, tested
 from zaklimot_tools.core.progress import Progress
 from zaklimot_tools.core.trouble import Trouble, Wrong
-from zaklimot_tools.dev.library.making import BACKENDS, X86_64
-from zaklimot_tools.dev.words import add_checks, refuse_to_check
+from zaklimot_tools.dev.library.making import X86_64
+from zaklimot_tools.dev.library.words import BACKENDS
+from zaklimot_tools.dev.words import refuse_to_check
 from zaklimot_tools.script.crates import phases
 
 from .checks import PRINTED, REPORT, TEXT
@@ -32,7 +32,8 @@ from .portable import check_cmake, check_crate, portable_library
 
 PACKAGE = TOP / "bindings" / "python"
 # How unittest ends, and what a test may be skipped for.
-RAN, SKIPPED = re.compile(r"^Ran (\d+) tests", re.M), re.compile(r"skipped '(.*)'")
+RAN = re.compile(r"^Ran (\d+) tests", re.M)
+SKIPPED = re.compile(r"skipped '(.*)'")
 MAY_BE_SKIPPED = "numpy is not here"
 CRATES = "bindings/rust"
 # The crates, and what they name outside.
@@ -87,7 +88,8 @@ def check_python(library: Path, _: Path) -> str:
     words = [sys.executable, "-B", "-m", "unittest", "discover", "--verbose"]
     words += ["--start-directory", str(PACKAGE / "tests")]
     said = tested(words, environment=environment).errors.decode("utf-8", "replace")
-    ran, skipped = RAN.search(said), SKIPPED.findall(said)
+    ran = RAN.search(said)
+    skipped = SKIPPED.findall(said)
     if ran is None or set(skipped) - {MAY_BE_SKIPPED}:
         raise Wrong(f"tests were skipped: {', '.join(sorted(set(skipped)))}")
     return f"{ran[1]} tests, the suite among them" + ("; numpy is not here" if skipped else "")
@@ -224,27 +226,6 @@ CHECKS: dict[str, Callable[[Path, Path], str]] = {
 }
 
 
-def _parser() -> argparse.ArgumentParser:
-    parser = cli.tool_parser(
-        "vga-bindings-tests",
-        "Tests the packages for Python and Rust.",
-        "tools/vga-bindings-tests --library kit --only python",
-        "docs/LIBRARY-TESTS.md",
-        cli.JUDGES,
-    )
-    parser.set_defaults(job=_run, archive=None)
-    given = parser.add_mutually_exclusive_group()
-    cli.add(
-        given,
-        "--library FOLDER",
-        "takes a folder of `vga-library make` (default: makes one)",
-        type=Path,
-    )
-    add_checks(parser, CHECKS, given)
-    cli.add(parser, "--ready", "tests nothing, and tells what this machine lacks")
-    return parser
-
-
 def lacking() -> list[str]:
     """What this machine lacks, each with the package to install."""
     # What makes an environment of Python's has this in it.
@@ -278,7 +259,8 @@ def _libraries(words: argparse.Namespace, folder: Path, progress: Progress) -> d
     return libraries
 
 
-def _run(words: argparse.Namespace, progress: Progress) -> None:
+def run_checks(words: argparse.Namespace, progress: Progress) -> None:
+    """Makes the checks, and tells what each finds."""
     refuse_to_check(words, lacking())
     if words.ready:
         return
@@ -289,7 +271,3 @@ def _run(words: argparse.Namespace, progress: Progress) -> None:
                 # What one of Rust's checks has built, the next takes.
                 told = f"{check}, {kind}" if check in EACH else check
                 make_check(told, partial(CHECKS[check], library, Path(name)))
-
-
-# Runs a command line, and answers its exit status.
-main = cli.runner(_parser)

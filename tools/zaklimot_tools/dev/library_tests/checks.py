@@ -59,12 +59,17 @@ ROMS = [
 LOOPS, HALTS = "B8{mode:02X}00 CD10 EBFE", "FA BA0600 B9FFFF E2FE 4A 75F8 F4 EBFE"
 # What the second one runs until it halts: six times 65,535 rounds of a loop are longer than a tick.
 TO_HALT = 2 + 6 * (0xFFFF + 3) + 1
-SECTOR, FLOPPY, BOOTS = 512, 1_474_560, b"\x55\xaa"
+SECTOR = 512
+FLOPPY = 1_474_560
+BOOTS = b"\x55\xaa"
 # Each of these modes has 70.1 frames a second, and so has the mode that the BIOS begins with.
-MODES, SECONDS, FRAMES = (0x03, 0x0D, 0x13), 3, range(209, 212)
+MODES = (0x03, 0x0D, 0x13)
+SECONDS = 3
+FRAMES = range(209, 212)
 TOLD = re.compile(r"^(\d+) instructions, (\d+) frames were shown$")
 # A white bar at the end of mode 12, the first screen of the floppy, and its size.
-BAR, SIZE = 640 * 30 * b"\xff\xff\xff", b"P6\n640 480\n255\n"
+BAR = 640 * 30 * b"\xff\xff\xff"
+SIZE = b"P6\n640 480\n255\n"
 # The sizes of its screens: mode 12, 13 and 3.
 SCREENS = [SIZE, b"P6\n640 400\n255\n", b"P6\n720 400\n255\n"]
 

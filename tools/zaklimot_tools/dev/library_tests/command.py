@@ -1,4 +1,4 @@
-"""The words of the command line, and the checks one after the other."""
+"""The checks of the library, one after the other."""
 
 import argparse
 import tempfile
@@ -7,13 +7,12 @@ from functools import partial
 from pathlib import Path
 from typing import Any, Callable, Sequence
 
-from zaklimot_tools.core import cli
 from zaklimot_tools.core.progress import Progress
 from zaklimot_tools.core.trouble import Trouble
 from zaklimot_tools.dev.library.making import TARGETS, X86_64, Target
 from zaklimot_tools.dev.library.one_file import TRANSLATORS
 from zaklimot_tools.dev.page.making import made_for_c
-from zaklimot_tools.dev.words import add_checks, refuse_to_check
+from zaklimot_tools.dev.words import refuse_to_check
 from zaklimot_tools.script.crates import phases
 
 from .checks import (
@@ -40,7 +39,7 @@ from .compilers import (
     make_check,
     not_there,
 )
-from .one_file import HOST, Maker, check_file, checks_for, lacking_for, windows_in
+from .one_file import Maker, check_file, checks_for, lacking_for, windows_in
 
 
 Check = Callable[[Built, Path], str]
@@ -64,33 +63,6 @@ ONCE: dict[str, Check] = {
 OWN = ("installing", "pc")
 # That the repository's C file is the one that the crate makes.
 OF_FILE = "file"
-
-
-def _parser() -> argparse.ArgumentParser:
-    parser = cli.tool_parser(
-        "vga-library-tests",
-        "Tests the library for C, as both compilers of Rattle build it.",
-        "tools/vga-library-tests --only header",
-        "docs/LIBRARY-TESTS.md",
-        cli.JUDGES,
-    )
-    parser.set_defaults(job=_run)
-    told = (
-        f"the processor; programs of another one than {X86_64.name} run in QEMU, and those for"
-        " Windows in Wine"
-    )
-    cli.add(parser, "--target", told, choices=[*PORTABLE_TARGETS], default=X86_64.name)
-    told = (
-        "tests the library as one C file instead; with --gated also that it is the file that the"
-        " crate makes"
-    )
-    cli.add(parser, "--portable", told)
-    cli.add(parser, "--ready", "tests nothing, and tells what this machine lacks for both")
-    cli.add(
-        parser, "--archive FILE", "takes this archive instead of those of both compilers", type=Path
-    )
-    add_checks(parser, dict.fromkeys([*ONCE, *EACH, *HOST, OF_FILE, "one"]))
-    return parser
 
 
 def _chosen(only: Sequence[str], there: dict[str, Any], target: Target) -> dict[str, Any]:
@@ -127,7 +99,8 @@ def _wanted(only: Sequence[str], target: Target) -> dict[str, Check]:
     return _chosen(only, there, target)
 
 
-def _run(words: argparse.Namespace, progress: Progress) -> None:
+def run_checks(words: argparse.Namespace, progress: Progress) -> None:
+    """Makes the checks, and tells what each finds."""
     if words.ready:
         refuse_to_check(words, [*lacking(X86_64), *not_there(TRANSLATORS)])
         return
@@ -152,7 +125,3 @@ def _run(words: argparse.Namespace, progress: Progress) -> None:
             with tempfile.TemporaryDirectory(prefix="vga-library-tests-") as folder:
                 work = partial(wanted[name], built, Path(folder))
                 make_check(f"{name}, {built.name}" if name in EACH else name, work)
-
-
-# Runs a command line, and answers its exit status.
-main = cli.runner(_parser)

@@ -38,7 +38,8 @@ from .compilers import COMPILERS, RUNNERS, SANITIZED, Built, Compiler, build, no
 
 # All that a compiler may find in the file, but for conversions in what was generated, is an error.
 STRICT = ("-std=c99", "-Wall", "-Wextra", "-Wpedantic", "-Werror")
-USUAL, LEVELS = "-O2", ("-O0", "-O1", "-O3")
+USUAL = "-O2"
+LEVELS = ("-O0", "-O1", "-O3")
 # What the file may take of the C library.
 OUTSIDE = frozenset(("calloc", "realloc", "free", "memcpy", "memmove", "memset", "memcmp"))
 # Names that compilers may ask for on some processors.

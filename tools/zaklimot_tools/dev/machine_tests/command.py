@@ -14,24 +14,21 @@ from threading import Event
 from typing import Optional
 
 from zaklimot_tools import TOP
-from zaklimot_tools.core import cli
 from zaklimot_tools.core.processes import Word, captured, check_program, in_parallel, run
 from zaklimot_tools.core.progress import Progress
 from zaklimot_tools.core.trouble import Trouble, Wrong
-from zaklimot_tools.core.words import number_to
 from zaklimot_tools.dev.library_tests.compilers import make_check
 from zaklimot_tools.dev.page.machine import DEFINED, MACHINE, PROCESSOR, patched
 
 from .manual import cases as manual_cases
+from .words import CHECKS, OF_DESCRIPTORS, OF_MANUAL, OF_UNICORN
 
 
 HERE = Path(__file__).resolve().parent
 COMPILER = "cc"
-OF_MANUAL, OF_UNICORN, OF_DESCRIPTORS = "manual", "unicorn", "descriptors"
-CHECKS = OF_MANUAL, OF_UNICORN, OF_DESCRIPTORS
-# What is compared once makes so many cases, of which one process makes so many: a process may end
-# amid them.
-USUAL, CHUNK, MOST_CASES, DESCRIBED = 20_000, 2000, 10_000_000, 2000
+# One process makes so many cases, since it may end amid them; and of descriptors so many are
+# compared.
+CHUNK, DESCRIBED = 2000, 2000
 SECONDS = 600
 COUNT = re.compile(
     r"^([0-9]+) cases: ([0-9]+) differ, ([0-9]+) lacking, ([0-9]+) beyond a segment's end$", re.M
@@ -150,36 +147,8 @@ def check_descriptors(program: Path, python: str, folder: Path, seed: int) -> st
     return f"{counts[0]:,} loads of segments and far jumps as Unicorn does them"
 
 
-def _parser() -> argparse.ArgumentParser:
-    parser = cli.tool_parser(
-        "vga-machine-tests",
-        "Tests the processor of the page's machine, an instruction at a time.",
-        "tools/vga-machine-tests --cases 200000",
-        "tools/README.md",
-        cli.JUDGES,
-    )
-    parser.set_defaults(job=_run)
-    cli.add(
-        parser,
-        "--only",
-        "this check alone; again and again",
-        action="append",
-        default=[],
-        choices=CHECKS,
-    )
-    told = f"compares so many instructions with Unicorn's (default: {USUAL:,})"
-    cli.add(parser, "--cases N", told, type=number_to(MOST_CASES), default=USUAL)
-    cli.add(
-        parser,
-        "--seed N",
-        "makes other instructions (default: 1)",
-        type=number_to(MOST_CASES),
-        default=1,
-    )
-    return parser
-
-
-def _run(words: argparse.Namespace, _: Progress) -> None:
+def run_checks(words: argparse.Namespace, _: Progress) -> None:
+    """Makes the checks, and tells what each finds."""
     wanted = words.only or CHECKS
     of_unicorn = [name for name in (OF_UNICORN, OF_DESCRIPTORS) if name in wanted]
     python = python_with_unicorn() if of_unicorn else None
@@ -199,7 +168,3 @@ def _run(words: argparse.Namespace, _: Progress) -> None:
                 )
             else:
                 make_check(name, partial(check_descriptors, program, python, folder, words.seed))
-
-
-# Runs a command line, and answers its exit status.
-main = cli.runner(_parser)

@@ -177,7 +177,8 @@ class Segmented:
 
     def case(self, rnd: random.Random) -> Sample | None:
         """A case; None where Unicorn leaves it to its caller."""
-        tables, one = table(rnd), Instructions(rnd)
+        tables = table(rnd)
+        one = Instructions(rnd)
         if one.count > 1 and one.selector & ~7 < len(tables):
             # The pattern comes again each 65,536 bytes: what is read is to be one of its kind.
             one.given.append((_base(tables, one.selector) + one.registers[7], rnd.randbytes(4)))

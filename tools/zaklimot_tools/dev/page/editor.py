@@ -48,7 +48,8 @@ def _source(name: str) -> str:
 def licence() -> str:
     """The licence's text, with who holds the copyright."""
     text = Path(to_read(str(COPYRIGHT))).read_text("utf-8")
-    holder, terms = HOLDER.search(text), TERMS.search(text)
+    holder = HOLDER.search(text)
+    terms = TERMS.search(text)
     if not holder or not terms:
         raise Trouble("it has no copyright or no licence of all files", str(COPYRIGHT))
     lines = [line[1:].removeprefix(".") for line in terms[1].splitlines()]

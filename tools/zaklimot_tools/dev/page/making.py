@@ -26,7 +26,8 @@ from zaklimot_tools.script.crates import phases
 
 MAGIC = b"\0asm\1\0\0\0"
 # A section for tools, and the name of the one that tells the kit.
-CUSTOM, KIT = 0, b"kit"
+CUSTOM = 0
+KIT = b"kit"
 IMPORTS, TABLES, MEMORIES, EXPORTS, ELEMENTS = 2, 4, 5, 7, 9
 FUNCTION = 0
 # What the module exports besides the header's calls: its memory, where the heap begins, and how the
@@ -279,7 +280,9 @@ class Shown:
         if None in read:
             raise Trouble(f"the parameters of {name} are not read: {parameters}", NAME)
         self._parameters = [(word[1], word[2], word[0]) for word in read if word is not None]
-        self._result, self._name, self._form = result, name, form
+        self._result = result
+        self._name = name
+        self._form = form
 
     def _is_widened(self, kind: str) -> bool:
         return self._form.is_narrow and kind in WIDE

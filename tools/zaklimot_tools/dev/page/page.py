@@ -26,6 +26,7 @@ from .editor import Editor, joined_editor
 from .machine import NOTICE, MachineModules, programs
 from .packing import about, in_base64, packed
 from .sections import quoted_sections
+from .words import MOST_BYTES
 
 
 SOURCES = PAGE.parent
@@ -34,8 +35,6 @@ TUTORIAL = DOCS / "TUTORIAL.md"
 SCRIPT, STYLE, DATA, MADE = (
     f"<!-- zaklimot:{name} -->" for name in ("script", "style", "data", "made")
 )
-# The page as built has at most so many bytes.
-MOST_BYTES = 800_000
 # From the page as built, where the documentation's pages lie.
 PAGES = "../docs/"
 ENTRY, FIRST_STYLE, TESTS = "main.js", "style.css", "tests"

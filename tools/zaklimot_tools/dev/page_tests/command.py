@@ -15,9 +15,7 @@ from pathlib import Path
 from threading import Event
 from typing import Any, Callable, Iterator, Mapping, Optional, Sequence
 
-from zaklimot_tools.core import cli
 from zaklimot_tools.core.processes import (
-    MEBIBYTE,
     Limits,
     Word,
     captured,
@@ -28,28 +26,24 @@ from zaklimot_tools.core.processes import (
 from zaklimot_tools.core.progress import Progress
 from zaklimot_tools.core.streams import read_at_most
 from zaklimot_tools.core.trouble import Trouble, Wrong
+from zaklimot_tools.core.words import MEBIBYTE
 from zaklimot_tools.dev.library.making import kit_line
 from zaklimot_tools.dev.library_tests.compilers import make_check, run
 from zaklimot_tools.dev.page.machine import is_of_this_compiler, machine_in, made_machine
 from zaklimot_tools.dev.page.making import MOST_MODULE, check_module, kit_of, made_modules
 from zaklimot_tools.dev.page.packing import unzipped
-from zaklimot_tools.dev.page.page import MOST_BYTES, data_of, editor_in, page_text, read_sources
-from zaklimot_tools.dev.words import add_checks, refuse_to_check
+from zaklimot_tools.dev.page.page import data_of, editor_in, page_text, read_sources
+from zaklimot_tools.dev.page.words import MOST_BYTES
+from zaklimot_tools.dev.words import refuse_to_check
 from zaklimot_tools.report.cases import Case, read_cases
 from zaklimot_tools.report.debugging import MOST_PAGE, PAGE, page_data
 from zaklimot_tools.report.places import SUITE
 from zaklimot_tools.report.suite import said_lines
 from zaklimot_tools.script.program import PROGRAM
 
+from .words import CHECKS, OF_HEAP, OF_MODULE, OF_OWN, OF_PAGE, OF_SCRIPTS, OF_SUITE
 
-CHECKS = OF_MODULE, OF_PAGE, OF_SUITE, OF_HEAP, OF_SCRIPTS, OF_OWN = (
-    "module",
-    "page",
-    "suite",
-    "heap",
-    "scripts",
-    "own",
-)
+
 NAME = f"page/{PAGE.name}"
 PACKED = ("examples", "tutorial", "sections", "module")
 ANEW = f"`tools/vga-page make {NAME}` makes it anew"
@@ -381,22 +375,6 @@ def judged(answer: dict[str, Any], count: int) -> str:
     return "; ".join(f"by {way} {number}" for way, number in ways.items()) + f"; of {count} cases"
 
 
-def _parser() -> argparse.ArgumentParser:
-    parser = cli.tool_parser(
-        "vga-page-tests",
-        "Tests the page that runs scripts in a browser, and its module.",
-        "tools/vga-page-tests --only page",
-        "tools/README.md",
-        cli.JUDGES,
-    )
-    parser.set_defaults(job=_run)
-    cli.add(parser, "--module FILE", "takes this module (default: makes one)")
-    add_checks(parser, CHECKS)
-    cli.add(parser, "--ready", "tests nothing, and tells what this machine lacks")
-    cli.add(parser, "--browser", "tests only the page as built, in Chromium, Firefox and WebKit")
-    return parser
-
-
 def _checks(
     words: argparse.Namespace, progress: Progress, folder: Path
 ) -> Iterator[tuple[str, Callable[[], str]]]:
@@ -436,7 +414,8 @@ def _checks(
             yield name, partial(check, files["page"], files.get("small"))
 
 
-def _run(words: argparse.Namespace, progress: Progress) -> None:
+def run_checks(words: argparse.Namespace, progress: Progress) -> None:
+    """Makes the checks, and tells what each finds."""
     refuse_to_check(words)
     node_words()
     if words.ready:
@@ -445,7 +424,3 @@ def _run(words: argparse.Namespace, progress: Progress) -> None:
         checks = _browser_checks() if words.browser else _checks(words, progress, Path(name))
         for check, work in checks:
             make_check(check, work)
-
-
-# Runs a command line, and answers its exit status.
-main = cli.runner(_parser)

@@ -1,4 +1,4 @@
-"""The words of the command line, and what a release holds: files of the commit, what is built, the
+"""What a release holds: files of the commit, what is built, the
 wheel, and pages.
 
 Their links lead to what is in it. The archive hangs on nothing but its files and the commit's time.
@@ -29,8 +29,7 @@ from typing import (
 )
 
 from zaklimot_tools import PARTS, TOP
-from zaklimot_tools.core import cli
-from zaklimot_tools.core.files import Input, check_folder
+from zaklimot_tools.core.files import check_folder
 from zaklimot_tools.core.processes import check_program, ended_well, run
 from zaklimot_tools.core.progress import Progress
 from zaklimot_tools.core.streams import write_file, writing
@@ -39,7 +38,6 @@ from zaklimot_tools.core.version import version
 from zaklimot_tools.dev.library.command import check_given
 from zaklimot_tools.dev.library.making import (
     AARCH64,
-    BACKENDS,
     MOVING,
     X86_64,
     Place,
@@ -49,11 +47,14 @@ from zaklimot_tools.dev.library.making import (
     make_library,
     memory_part,
 )
+from zaklimot_tools.dev.library.words import BACKENDS
 from zaklimot_tools.script.crates import phases
+
+from .words import PORTABLE
 
 
 PROGRAM = TOP / "crates" / "vga"
-MACHINE, PORTABLE = "x86_64-linux", "portable"
+MACHINE = "x86_64-linux"
 MODULES = "zaklimot_tools"
 # The file beside the archive, which `sha256sum --check` reads.
 SUM = "sha256"
@@ -297,7 +298,8 @@ def _member(name: str, entry: Optional[Entry], time: int) -> tarfile.TarInfo:
     """What an archive tells of a file, a link, or a folder, which has no entry: no owner, and the
     commit's time."""
     made = tarfile.TarInfo(name)
-    made.mtime, made.mode = time, RUN
+    made.mtime = time
+    made.mode = RUN
     if isinstance(entry, File):
         made.size = len(entry.content)
         made.mode = RUN if entry.is_executable else PLAIN
@@ -321,38 +323,6 @@ def pack(stream: BinaryIO, entries: Mapping[str, Entry], time: int) -> None:
                 entry = entries.get(name)
                 content = io.BytesIO(entry.content) if isinstance(entry, File) else None
                 archive.addfile(_member(name, entry, time), content)
-
-
-def _parser() -> argparse.ArgumentParser:
-    parser = cli.tool_parser(
-        "vga-release",
-        "Packs a release of what is checked out.",
-        "tools/vga-release release",
-        "docs/RELEASES.md",
-    )
-    parser.add_argument("folder", type=Path, metavar="FOLDER", help="where the archive goes")
-    cli.add(
-        parser,
-        "--program FILE",
-        "takes this program (default: `rt run` proves and builds one)",
-        type=Input,
-    )
-    cli.add(
-        parser,
-        "--archive FILE",
-        "takes this archive of the library (default: `rt lib` builds one)",
-        type=Input,
-    )
-    cli.add(
-        parser,
-        f"--archive-{AARCH64.name} FILE",
-        f"the same of the library for {AARCH64.name}",
-        type=Input,
-    )
-    told = f"packs the archive of {PORTABLE}/zaklimot.c alone, for which nothing is built"
-    cli.add(parser, f"--{PORTABLE}", told)
-    parser.set_defaults(job=_release)
-    return parser
 
 
 def _built(words: argparse.Namespace, progress: Progress) -> tuple[Path, dict[Target, Path]]:
@@ -383,7 +353,8 @@ def write_archive(folder: Path, kind: str, entries: Mapping[str, Entry], time: i
     print(path, sums, sep="\n")
 
 
-def _release(words: argparse.Namespace, progress: Progress) -> None:
+def release(words: argparse.Namespace, progress: Progress) -> None:
+    """Packs a release of what is checked out."""
     given = (words.program, words.archive, words.archive_aarch64)
     if words.portable and any(given):
         raise Trouble(f"--{PORTABLE} takes nothing that is built")
@@ -398,7 +369,3 @@ def _release(words: argparse.Namespace, progress: Progress) -> None:
     words.folder.mkdir(parents=True, exist_ok=True)
     for kind in sorted(archives, reverse=True):
         write_archive(words.folder, kind, archives[kind], commit.time)
-
-
-# Runs a command line, and answers its exit status.
-main = cli.runner(_parser)

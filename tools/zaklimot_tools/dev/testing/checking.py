@@ -11,7 +11,6 @@ import sys
 import time
 from typing import NamedTuple
 
-from zaklimot_tools.core import cli
 from zaklimot_tools.core.processes import captured
 from zaklimot_tools.core.progress import Progress
 from zaklimot_tools.core.trouble import AGREED as PASSED, DIFFERED as FAILED, TROUBLE, Trouble
@@ -56,7 +55,8 @@ def check_suite(program: str, *chosen: str) -> Counted:
     return Counted(counts["agrees"], counts["differs"] + counts["failed"], counts["skipped"])
 
 
-def _check(words: argparse.Namespace, progress: Progress) -> int:
+def check(words: argparse.Namespace, progress: Progress) -> int:
+    """Runs the suite and the tests over the portable program, and tells what they find."""
     begun = time.monotonic()
     program = portable_program()
     suite = check_suite(program)
@@ -71,24 +71,3 @@ def _check(words: argparse.Namespace, progress: Progress) -> int:
     )
     print(both.text())
     return FAILED if both.failed or not both.passed else PASSED
-
-
-def _parser() -> argparse.ArgumentParser:
-    parser = cli.tool_parser(
-        "vga-check",
-        (
-            "Runs the suite and the tests of the tools over the portable program, which it compiles"
-            " once."
-        ),
-        "tools/vga-check",
-        "CONTRIBUTING.md",
-        cli.JUDGES,
-    )
-    told = "of the tests these modules alone, such as tests.test_trace (default: all)"
-    parser.add_argument("modules", nargs="*", metavar="MODULE", help=told)
-    parser.set_defaults(job=_check)
-    return parser
-
-
-# Runs a command line, and answers its exit status.
-main = cli.runner(_parser)

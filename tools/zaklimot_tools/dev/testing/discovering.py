@@ -13,7 +13,7 @@ import time
 import unittest
 from functools import partial
 from threading import Event
-from typing import Any, Mapping, NamedTuple, Sequence
+from typing import Any, Iterator, Mapping, NamedTuple, Sequence
 
 from zaklimot_tools import TOP
 from zaklimot_tools.core import cli
@@ -69,18 +69,32 @@ class TookTooLong(Exception):
     """A test that hasn't ended in its time."""
 
 
-def _end_test(*_: object) -> None:
-    raise TookTooLong(f"the test takes more than {MOST_OF_TEST} seconds")
+def _seconds_of(test: unittest.TestCase) -> float:
+    """How many seconds a test may take: its own `most_seconds`, or else as many as others."""
+    return getattr(test, "most_seconds", MOST_OF_TEST)
 
 
-def _limit() -> None:
+def _limit(most: int) -> None:
     """Limits the memory of this process and of those that tests start, which become its children
     where their own parent ends."""
     if IS_LINUX:
         import resource
 
-        resource.setrlimit(resource.RLIMIT_DATA, (MOST_MEMORY, MOST_MEMORY))
+        resource.setrlimit(resource.RLIMIT_DATA, (most, most))
         adopt_orphans()
+
+
+def _tests_in(suite: unittest.TestSuite) -> Iterator[unittest.TestCase]:
+    """The tests of a suite and of those in it."""
+    for test in suite:
+        if isinstance(test, unittest.TestSuite):
+            yield from _tests_in(test)
+        else:
+            yield test
+
+
+def _end_test(seconds: float, *_: object) -> None:
+    raise TookTooLong(f"the test takes more than {seconds:g} seconds")
 
 
 class _Result(unittest.TextTestResult):
@@ -92,8 +106,8 @@ class _Result(unittest.TextTestResult):
     def startTest(self, test: unittest.TestCase) -> None:
         super().startTest(test)
         if hasattr(signal, "setitimer"):
-            signal.signal(signal.SIGALRM, _end_test)
-            signal.setitimer(signal.ITIMER_REAL, MOST_OF_TEST)
+            signal.signal(signal.SIGALRM, partial(_end_test, _seconds_of(test)))
+            signal.setitimer(signal.ITIMER_REAL, _seconds_of(test))
 
     def stopTest(self, test: unittest.TestCase) -> None:
         if hasattr(signal, "setitimer"):
@@ -119,8 +133,9 @@ def _run_apart(name: str, variables: Mapping[str, str], is_ended: Event) -> Done
 
 
 def _run_here(names: Sequence[str]) -> int:
-    _limit()
     tests = unittest.defaultTestLoader.loadTestsFromNames(names)
+    # A class of tests may need more than others: it has a `most_memory` then.
+    _limit(max([MOST_MEMORY, *(getattr(test, "most_memory", 0) for test in _tests_in(tests))]))
     result = unittest.TextTestRunner(resultclass=_Result).run(tests)
     for test, reason in result.skipped:
         print(f"{SKIPS}{test.id()}: {reason}")
@@ -159,7 +174,8 @@ def _told(name: str, done: Done) -> Counts:
 def run_modules(modules: Sequence[str], program: str, is_built: bool = False) -> Counts:
     """Runs the tests of these modules, or of all, over a program; each module in a process of its
     own, some at a time."""
-    counts, is_ended = Counts(), Event()
+    counts = Counts()
+    is_ended = Event()
     paths = sorted(HERE.glob("test_*.py"), key=lambda path: path.stat().st_size, reverse=True)
     names = modules or [f"{HERE.name}.{path.stem}" for path in paths]
     with tempfile.TemporaryDirectory(prefix="vga-tests-") as compiled:
@@ -190,7 +206,8 @@ def _tested(parsed: argparse.Namespace) -> str:
         return str(PROGRAM)
 
 
-def _run(parsed: argparse.Namespace, _: object) -> int:
+def run_tests(parsed: argparse.Namespace, _: object) -> int:
+    """Runs tests, and tells how many ran and which failed."""
     if parsed.here:
         return _run_here(parsed.modules)
     begun = time.monotonic()
@@ -203,27 +220,3 @@ def _run(parsed: argparse.Namespace, _: object) -> int:
     print(f"Ran {counts.ran} tests in {time.monotonic() - begun:.0f} seconds\n")
     print(("FAILED" if counts.modules else "OK") + (f" ({told})" if told else ""))
     return FAILED if counts.modules else PASSED
-
-
-def _parser() -> argparse.ArgumentParser:
-    parser = cli.tool_parser(
-        "tests-of-tools",
-        "Runs the tests of the tools, some modules at a time.",
-        "tools/tests-of-tools tests.test_trace",
-        "tools/README.md",
-        cli.JUDGES,
-    )
-    told = "these modules alone, such as tests.test_trace (default: all)"
-    parser.add_argument("modules", nargs="*", metavar="MODULE", help=told)
-    cli.add(
-        parser,
-        "--built",
-        "fails where the proved program isn't built; else the portable one is tested there",
-    )
-    parser.add_argument("--here", action="store_true", help=argparse.SUPPRESS)
-    parser.set_defaults(job=_run)
-    return parser
-
-
-# Runs a command line, and answers its exit status.
-main = cli.runner(_parser)

@@ -1,4 +1,4 @@
-"""The command `vga-style`: how the repository's Python is laid out, and whether its types fit."""
+"""How the repository's Python is laid out, and whether its types fit."""
 
 import argparse
 import os
@@ -7,7 +7,6 @@ from pathlib import Path
 from typing import NamedTuple, Optional
 
 from zaklimot_tools import TOP
-from zaklimot_tools.core import cli
 from zaklimot_tools.core.processes import Word, captured
 from zaklimot_tools.core.progress import Progress
 from zaklimot_tools.core.trouble import AGREED as PASSED, DIFFERED as FAILED, Trouble
@@ -63,7 +62,8 @@ def judged(judge: Judge) -> str:
     return done.said() or f"it ended with status {done.status}\n" if done.status else ""
 
 
-def _judge(words: argparse.Namespace, progress: Progress) -> int:
+def judge(words: argparse.Namespace, progress: Progress) -> int:
+    """Judges the Python of the repository, and tells what is wrong."""
     missing = lacking()
     if missing:
         raise Trouble(f"this machine lacks {', '.join(missing)}: install Debian's packages")
@@ -73,20 +73,3 @@ def _judge(words: argparse.Namespace, progress: Progress) -> int:
         print(f"{'failed' if told else 'passed'}  {judge.name}\n{told}", end="", flush=True)
         status = FAILED if told else status
     return status
-
-
-def _parser() -> argparse.ArgumentParser:
-    parser = cli.tool_parser(
-        "vga-style",
-        "Judges how the repository's Python is written: by black, flake8 and mypy.",
-        "tools/vga-style",
-        "CONTRIBUTING.md",
-        cli.JUDGES,
-    )
-    cli.add(parser, "--ready", "judges nothing, and says which of the three are missing")
-    parser.set_defaults(job=_judge)
-    return parser
-
-
-# Runs a command line, and answers its exit status.
-main = cli.runner(_parser)

@@ -4,15 +4,24 @@ import argparse
 from pathlib import Path
 
 from zaklimot_tools.core import cli
-from zaklimot_tools.core.cli import add
+from zaklimot_tools.core.cli import add, later
 from zaklimot_tools.core.files import Input
 
-from .table_page import write_tables
-from .traces import SOFTWARE, replay_all
 
-
-def _table(words: argparse.Namespace, _: object) -> None:
-    write_tables(words.page, words.results)
+# The modes in which a video BIOS draws, and the software that is recorded.
+MODES = ("03", "07", "0d", "10", "12", "13")
+SOFTWARE = (
+    "grub-text",
+    "grub-planar",
+    "grub-planar-keys",
+    *(f"calls-{mode}-{bios}" for bios in ("sea", "lgpl") for mode in MODES),
+    "calls-13-cirrus",
+    "linux",
+    "linux-font",
+    "memtest",
+)
+# What jobs of the command line are functions of.
+JOBS = "zaklimot_tools.dev.emulators"
 
 
 def _parser() -> argparse.ArgumentParser:
@@ -25,11 +34,16 @@ def _parser() -> argparse.ArgumentParser:
     )
     commands = parser.add_subparsers(required=True, metavar="COMMAND")
     told = "records software on qemu, replays it, and prints a row for each"
-    made = cli.command(commands, "record", replay_all, told)
+    job = later(f"{JOBS}.traces", "replay_all")
+    example = "tools/vga-emulators record recordings grub-text"
+    made = cli.command(commands, "record", job, told, example)
     add(made, "FOLDER", "where the recordings are, or go", type=Path)
     add(made, "NAMES", f"of {', '.join(SOFTWARE)} (default: all)", metavar="NAME", nargs="*")
     add(made, "--unpacked FOLDER", "packages of Debian, unpacked", type=Path)
-    made = cli.command(commands, "table", _table, "writes the suite's results into a page")
+    told = "writes the suite's results into a page"
+    job = later(f"{JOBS}.table_page", "write_results")
+    example = "tools/vga-emulators table docs/EMULATORS-TABLE.md kept/*.json"
+    made = cli.command(commands, "table", job, told, example)
     add(made, "PAGE", "the page, with the marks between which they stand", type=Input)
     told = "what `vga-report suite --json` printed of `vga-floppy run`"
     add(made, "RESULTS", told, nargs="+", type=Input)

@@ -1,17 +1,19 @@
-"""Refuses allocations to the calls of `vga_tests` and to the program `vga`, and tells how many were
-refused."""
+"""Each allocation in turn fails, in the calls of `vga_tests` and in the program `vga`, and what
+they then answer is judged.
 
-import argparse
+This takes minutes, and needs `rt`, so it runs where it is named alone, as `tests.allocations`.
+"""
+
 import re
 import shutil
 import tempfile
+import unittest
 from functools import partial
 from itertools import groupby, islice
 from pathlib import Path
 from typing import Iterable, NamedTuple, Sequence
 
 from zaklimot_tools import TOP
-from zaklimot_tools.core import cli
 from zaklimot_tools.core.processes import captured, check_program
 from zaklimot_tools.core.trouble import Wrong
 
@@ -177,14 +179,14 @@ def job_ending(job: Job, answer: CallAnswer) -> str:
 
 
 def judge(name: str, endings: Iterable[str]) -> None:
-    """Tells how runs end, one after the other; a Wrong where it is otherwise than it was."""
+    """A Wrong where runs end, one after the other, otherwise than they did."""
     found = [(ending, len(list(alike))) for ending, alike in groupby(endings)]
-    told = f"{name}: " + ", ".join(f"{count} {ending}" for ending, count in found)
     if found != ENDINGS[name]:
-        raise Wrong(
-            f"{told}\nand not {', '.join(f'{count} {ending}' for ending, count in ENDINGS[name])}"
+        told, known = (
+            ", ".join(f"{count} {ending}" for ending, count in row)
+            for row in (found, ENDINGS[name])
         )
-    print(told, flush=True)
+        raise Wrong(f"{name}: {told}\nand not {known}")
 
 
 def answers_of(output: bytes, errors: str) -> list[CallAnswer]:
@@ -229,45 +231,31 @@ def growing(source: str) -> str:
     return source.replace(MAIN, FIRST + MAIN) + GROW
 
 
-def _refuse_program() -> None:
-    """Refuses each allocation of the program in each job, from the reading of its first word on.
+class Allocations(unittest.TestCase):
+    # `rt try` builds the program anew for this many seconds and in this many bytes.
+    most_seconds = 800
+    most_memory = 1 << 33
 
-    It runs a `vga` that makes allocations first, in a copy of the crates.
-    """
-    runs = {
-        name: [(first * "x", job.words) for first in range(job.first, ALLOCATION)]
-        for name, job in jobs().items()
-    }
-    with tempfile.TemporaryDirectory(prefix="vga-memory-") as name:
-        shutil.copy(TOP / "crates.txt", name)
-        shutil.copytree(CRATES, Path(name, "crates"), ignore=shutil.ignore_patterns(*UNREAD))
-        crate = Path(name, "crates", "vga")
-        root = crate / "src" / "main.rt"
-        root.write_text(growing(root.read_text()))
-        answers = iter(try_cases(crate, [case for some in runs.values() for case in some]))
-    for name, job in jobs().items():
-        judge(name, map(partial(job_ending, job), islice(answers, len(runs[name]))))
+    def test_the_calls(self) -> None:
+        # Allocations that are made first move the one that is refused.
+        cases = [("", ("memory", str(first))) for first in range(ALLOCATION)]
+        judge("the calls", map(calls_ending, try_cases(CRATES / "vga_tests", cases)))
 
-
-def _refuse(*_: object) -> None:
-    # Of the calls that take memory, allocations that are made first move the one that is refused.
-    cases = [("", ("memory", str(first))) for first in range(ALLOCATION)]
-    judge("the calls", map(calls_ending, try_cases(CRATES / "vga_tests", cases)))
-    _refuse_program()
-
-
-def _parser() -> argparse.ArgumentParser:
-    parser = cli.tool_parser(
-        "vga-memory",
-        "Refuses each allocation in turn, and judges what the calls and the program then answer.\n"
-        "It takes minutes, and needs `rt`.",
-        "tools/vga-memory",
-        "tools/README.md",
-        cli.JUDGES,
-    )
-    parser.set_defaults(job=_refuse)
-    return parser
-
-
-# Runs a command line, and answers its exit status.
-main = cli.runner(_parser)
+    def test_the_program(self) -> None:
+        """From the reading of its first word on: a `vga` that makes allocations first runs in a
+        copy of the crates."""
+        runs = {
+            name: [(first * "x", job.words) for first in range(job.first, ALLOCATION)]
+            for name, job in jobs().items()
+        }
+        with tempfile.TemporaryDirectory(prefix="vga-memory-") as name:
+            shutil.copy(TOP / "crates.txt", name)
+            shutil.copytree(CRATES, Path(name, "crates"), ignore=shutil.ignore_patterns(*UNREAD))
+            crate = Path(name, "crates", "vga")
+            root = crate / "src" / "main.rt"
+            root.write_text(growing(root.read_text()))
+            answers = iter(try_cases(crate, [case for some in runs.values() for case in some]))
+        for name, job in jobs().items():
+            with self.subTest(name):
+                endings = map(partial(job_ending, job), islice(answers, len(runs[name])))
+                judge(name, endings)

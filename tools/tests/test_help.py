@@ -1,0 +1,103 @@
+"""The helps of the tools: what each tells, and how little it takes."""
+
+import os
+import re
+import unittest
+
+from zaklimot_tools.core.version import version
+from zaklimot_tools.dev.emulators import traces, words as recorded
+from zaklimot_tools.dev.library_tests import (
+    binding_words,
+    bindings,
+    command as library,
+    one_file,
+    words as tested,
+)
+from zaklimot_tools.dev.library_tests.compilers import I386, PORTABLE_TARGETS
+from zaklimot_tools.floppy.asked import EMULATORS
+from zaklimot_tools.floppy.running import MACHINES
+
+from .tools import MAIN, NAMES, PYTHON, TOOLS, TOP, call, ended, hold_undone, main_of
+
+
+# What may be loaded for a help: what all tools have in common, and modules of words alone.
+LIGHT = re.compile(
+    r"^zaklimot_tools(\.(starting|core(\.(cli|files|progress|trouble|version|words))?"
+    r"|(script|images|report|trace|picture|floppy|dev(\.\w+)?)(\.(\w*words|asked|places|mode))?))?$"
+)
+
+
+class Words(unittest.TestCase):
+    def test_each_tool_is_there(self) -> None:
+        self.assertGreaterEqual(len(NAMES), 12)
+
+    def test_help_has_an_example_and_names_a_page(self) -> None:
+        for name in NAMES:
+            with self.subTest(name):
+                status, output, _ = call(main_of(name), "--help")
+                self.assertEqual(status, 0)
+                self.assertRegex(
+                    output,
+                    (
+                        rf"Example:\n  tools/{name}\b(?s:.*)\nExit status: 0 .*; 2 the work can't"
+                        r" be done\.\n"
+                    ),
+                )
+                page = re.search(r"^(\S+\.md) tells more\.$", output, re.M)
+                assert page is not None
+                self.assertTrue((TOP / page[1]).exists(), page[1])
+                self.assertIn(name, (TOP / page[1]).read_text("utf-8"))
+
+    def test_each_command_has_an_example_and_tells_its_words(self) -> None:
+        for name in NAMES:
+            told = call(main_of(name), "--help")[1]
+            self.assert_told(told)
+            commands = re.findall(r"^    ([a-z-]+)(?:  |$)", told, re.M)
+            self.assertEqual(bool(commands), " COMMAND ..." in told, told)
+            for command in commands:
+                with self.subTest(name, command=command):
+                    status, told, said = call(main_of(name), command, "--help")
+                    self.assertEqual((status, said), (0, ""))
+                    self.assertRegex(told, rf"\nExample:\n  tools/{name} {command} ")
+                    self.assert_told(told)
+
+    def assert_told(self, told: str) -> None:
+        """That a help has a text beside or below each word and each option that it lists."""
+        listed = told.partition("\n\n")[2].partition("\nExample:")[0]
+        given = re.findall(r"^  ([A-Z]+|-.*?)((?:  .*|)\n(?: {4}.*\n)?)", listed, re.M)
+        self.assertTrue(given, told)
+        for word, text in given:
+            self.assertTrue(text.strip(), word)
+
+    def test_words_and_what_does_the_work_have_the_same_names(self) -> None:
+        self.assertEqual(EMULATORS, tuple(MACHINES))
+        self.assertEqual(recorded.SOFTWARE, tuple(traces.SOFTWARE))
+        self.assertEqual(tested.PORTABLE_PROCESSORS, tuple(PORTABLE_TARGETS))
+        checks = {*library.ONCE, *library.EACH, *one_file.HOST, *one_file.checks_for(I386)}
+        self.assertEqual(set(tested.CHECKS), {*checks, library.OF_FILE})
+        self.assertEqual(binding_words.CHECKS, tuple(bindings.CHECKS))
+
+    def test_the_suite_tells_the_places_of_its_command(self) -> None:
+        told = call(main_of("vga-report"), "suite", "--help")[1]
+        for place in ("{script}", "{fonts}", "{until}", "{name}"):
+            self.assertIn(place, told)
+
+    def test_a_help_needs_none_of_what_does_the_work(self) -> None:
+        told = "; print('loaded', *(name for name in sys.modules if name.startswith('zaklimot')))"
+        environment = {**os.environ, "PYTHONPATH": str(TOOLS)}
+        for name in NAMES:
+            found = MAIN.search((TOOLS / name).read_text("utf-8"))
+            assert found is not None, name
+            module = found[1]
+            command = f"import sys; from {module} import main; main(['--help']){told}"
+            status, output, said = ended(*PYTHON, "-c", command, env=environment)
+            self.assertEqual((status, said), (0, ""))
+            loaded = output.splitlines()[-1].split()
+            self.assertIn(module, loaded)
+            for work in loaded[1:]:
+                self.assertRegex(work, LIGHT, name)
+
+    def test_the_version_of_the_header_and_words_that_mean_nothing(self) -> None:
+        for name in NAMES:
+            self.assertEqual(call(main_of(name), "--version"), (0, f"{name} {version()}\n", ""))
+            hold_undone(self, call(main_of(name), "--no-such-word"), f"{name}: error: ")

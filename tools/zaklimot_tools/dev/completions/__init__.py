@@ -1,0 +1,1 @@
+"""The command `vga-completions`: how shells complete the words of the tools."""

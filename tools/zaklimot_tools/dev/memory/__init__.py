@@ -1,1 +1,0 @@
-"""Refuses each allocation in turn, and judges what the calls and the program then answer."""

@@ -1,0 +1,52 @@
+"""The words of the command line."""
+
+import argparse
+from functools import partial
+from pathlib import Path
+
+from zaklimot_tools.core import cli
+from zaklimot_tools.core.cli import later
+from zaklimot_tools.core.files import Input
+from zaklimot_tools.dev.library.words import PROCESSORS
+
+
+# The archive of the C file has this name.
+PORTABLE = "portable"
+# What jobs of the command line are functions of.
+_job = partial(later, "zaklimot_tools.dev.release.command")
+
+
+def _parser() -> argparse.ArgumentParser:
+    parser = cli.tool_parser(
+        "vga-release",
+        "Packs a release of what is checked out.",
+        "tools/vga-release release",
+        "docs/RELEASES.md",
+    )
+    parser.add_argument("folder", type=Path, metavar="FOLDER", help="where the archive goes")
+    cli.add(
+        parser,
+        "--program FILE",
+        "takes this program (default: `rt run` proves and builds one)",
+        type=Input,
+    )
+    cli.add(
+        parser,
+        "--archive FILE",
+        "takes this archive of the library (default: `rt lib` builds one)",
+        type=Input,
+    )
+    cli.add(
+        parser,
+        f"--archive-{PROCESSORS[1]} FILE",
+        f"the same of the library for {PROCESSORS[1]}",
+        type=Input,
+    )
+    told = f"packs the archive of {PORTABLE}/zaklimot.c alone, for which nothing is built"
+    cli.add(parser, f"--{PORTABLE}", told)
+    parser.set_defaults(job=_job("release"))
+    return parser
+
+
+# Runs a command line, and answers its exit status.
+main = cli.runner(_parser)

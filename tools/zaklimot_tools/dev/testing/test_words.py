@@ -1,0 +1,35 @@
+"""The words of the command line."""
+
+import argparse
+from functools import partial
+
+from zaklimot_tools.core import cli
+from zaklimot_tools.core.cli import later
+
+
+# What jobs of the command line are functions of.
+_job = partial(later, "zaklimot_tools.dev.testing.discovering")
+
+
+def _parser() -> argparse.ArgumentParser:
+    parser = cli.tool_parser(
+        "tests-of-tools",
+        "Runs the tests of the tools, some modules at a time.",
+        "tools/tests-of-tools tests.test_trace",
+        "tools/README.md",
+        cli.JUDGES,
+    )
+    told = "these modules alone, such as tests.test_trace (default: all)"
+    parser.add_argument("modules", nargs="*", metavar="MODULE", help=told)
+    cli.add(
+        parser,
+        "--built",
+        "fails where the proved program isn't built; else the portable one is tested there",
+    )
+    parser.add_argument("--here", action="store_true", help=argparse.SUPPRESS)
+    parser.set_defaults(job=_job("run_tests"))
+    return parser
+
+
+# Runs a command line, and answers its exit status.
+main = cli.runner(_parser)
