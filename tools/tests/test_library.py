@@ -414,7 +414,7 @@ class Parts(Folder):
     def test_its_page_and_the_news_tell_of_it(self) -> None:
         name = f"zaklimot-{version()}"
         page = (TOP / release.PAGE).read_text("utf-8")
-        for end in ("x86_64-linux.tar.gz", "py3-none-linux_x86_64.whl"):
+        for end in ("x86_64-linux.tar.gz", "py3-none-manylinux"):
             self.assertIn(f"{name}-{end}", page)
         self.assertEqual([path for path in PATHS if not (TOP / path).exists()], [])
         self.assertIn(f"## {version()}\n", (TOP / "CHANGELOG.md").read_text("utf-8"))
@@ -517,6 +517,7 @@ class Whole(Folder):
             (f"{crate}/portable/zaklimot.fnt", "fonts/zaklimot.fnt"),
             (f"{crate}/LICENSE", "LICENSE"),
             ("bindings/rust/zaklimot/LICENSE", "LICENSE"),
+            ("bindings/python/LICENSE", "LICENSE"),
         ):
             copied, own = ((self.folder / place).read_bytes() for place in (copy, file))
             self.assertTrue(copied == own, copy)
