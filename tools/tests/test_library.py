@@ -599,6 +599,19 @@ class Installing(Folder):
         self.assertEqual(self.install("--destdir=stage", "--prefix=/usr")[0], 0)
         self.assertEqual((self.folder / "stage/usr/share/z/f.fnt").read_text(), "font")
 
+    def test_where_the_font_is_used(self) -> None:
+        self.write("a release/share/zaklimot/zaklimot.fnt", "font")
+        for words, prefix in (
+            (("--prefix", f"{self.folder}/in here"), f"{self.folder}/in here"),
+            (("--destdir=stage", "--prefix=/usr"), "/usr"),
+        ):
+            status, told, said = self.install(*words)
+            path = f"{prefix}/share/zaklimot/zaklimot.fnt"
+            self.assertEqual(
+                (status, said), (0, f"install.sh: vga takes the font by --fonts {path}\n")
+            )
+            self.assertIn(f"{path}\n", told)
+
     def test_what_it_refuses(self) -> None:
         (self.folder / "full" / "bin" / "vga").mkdir(parents=True)
         (self.release / "kit").mkdir()
