@@ -11,6 +11,7 @@ from __future__ import annotations
 import base64
 import gzip
 import hashlib
+import importlib.util
 import io
 import os
 import platform
@@ -26,7 +27,7 @@ import tarfile
 import tempfile
 import zipfile
 from pathlib import Path
-from typing import Any, Mapping, Optional
+from typing import Any, BinaryIO, Callable, Mapping, Optional, cast
 
 HERE = Path(__file__).resolve().parent
 SOURCES, PACKAGE = HERE / "src", "zaklimot"
@@ -35,11 +36,18 @@ FILES = runpy.run_path(str(SOURCES / PACKAGE / "_file.py"))
 LIBRARY: str = FILES["FILE"]
 FONTS: str = FILES["FONTS"]
 NOTE: str = FILES["NOTE"]
+# What tells which glibc a library needs, and what a wheel's name says of it.
+NEEDS = runpy.run_path(str(HERE / "needs.py"))
+Version = tuple[int, int]
+GLIBC_OF: Callable[[bytes], Optional[Version]] = NEEDS["glibc_of"]
+PLATFORMS: Callable[[str, Optional[Version]], str] = NEEDS["platforms"]
 # What a library is made of: the folder of each file in the repository. A source distribution has
 # all of them in one folder.
 PARTS = {"zaklimot.c": "portable", "zaklimot.h": "include", FONTS: "fonts"}
 TOGETHER = "library"
-FIELD = re.compile(r'^([a-z-]+) = "(.*)"$', re.M)
+LICENCE = "LICENSE"
+FIELD, ITEM = re.compile(r'^([a-z-]+) = "(.*)"$', re.M), re.compile(r'"(.*?)"')
+LIST = re.compile(r"^([a-z-]+) = \[(.*?)\]$", re.M | re.S)
 # The time of files in a wheel, the first that a ZIP can tell: the same sources make the same bytes.
 TIME = (1980, 1, 1, 0, 0, 0)
 OPTIONS = ("-std=c99", "-O2", "-fPIC", "-shared")
@@ -62,6 +70,12 @@ def project() -> dict[str, str]:
     return {**fields, "version": f"{major}.{minor}"}
 
 
+def listed(name: str) -> list[str]:
+    """The values of a list of pyproject.toml."""
+    lists = dict(LIST.findall((HERE / "pyproject.toml").read_text("utf-8")))
+    return ITEM.findall(lists[name])
+
+
 def numbers() -> tuple[int, int]:
     """The version of the interface that the package is written for."""
     told = (SOURCES / PACKAGE / "_version.py").read_text("utf-8")
@@ -73,16 +87,19 @@ def numbers() -> tuple[int, int]:
 def metadata() -> str:
     """What a wheel tells of the package."""
     fields = project()
-    head = {
-        "Metadata-Version": "2.1",
-        "Name": fields["name"],
-        "Version": fields["version"],
-        "Summary": fields["description"],
-        "License": "MIT",
-        "Requires-Python": fields["requires-python"],
-        "Description-Content-Type": "text/markdown",
-    }
-    lines = "".join(f"{name}: {value}\n" for name, value in head.items())
+    head = [
+        ("Metadata-Version", "2.4"),
+        ("Name", fields["name"]),
+        ("Version", fields["version"]),
+        ("Summary", fields["description"]),
+        ("Keywords", ",".join(listed("keywords"))),
+        ("License-Expression", fields["license"]),
+        ("License-File", LICENCE),
+        *(("Classifier", one) for one in listed("classifiers")),
+        ("Requires-Python", fields["requires-python"]),
+        ("Description-Content-Type", "text/markdown"),
+    ]
+    lines = "".join(f"{name}: {value}\n" for name, value in head)
     return f"{lines}\n{(HERE / fields['readme']).read_text('utf-8')}"
 
 
@@ -99,8 +116,29 @@ def part(name: str) -> Path:
 
 
 def machines() -> str:
-    """The word of a wheel's name for the machines that a library is for."""
+    """The word for the machines that are built for."""
     return machine_word(sysconfig.get_platform(), platform.machine(), 8 * struct.calcsize("P"))
+
+
+def platforms(library: bytes) -> str:
+    """The part of a wheel's name for the machines that a library is for: the glibc that it needs,
+    if pip takes wheels for one here."""
+    version = GLIBC_OF(library)
+    return PLATFORMS(machines(), version if version and takes(version) else None)
+
+
+def takes(version: Version) -> bool:
+    """Whether this Python's pip takes a wheel for a glibc, as PEP 600 says."""
+    if os.environ.get(OTHER_MACHINE):
+        return True
+    # A system has this module whose libraries lie where no wheel expects them.
+    if importlib.util.find_spec("_manylinux") is not None:
+        return False
+    try:
+        told = re.match(r"glibc (\d+)\.(\d+)", os.confstr("CS_GNU_LIBC_VERSION") or "")
+    except (AttributeError, OSError, ValueError):
+        return False
+    return told is not None and (int(told[1]), int(told[2])) >= version
 
 
 def machine_word(told: str, machine: str, bits: int) -> str:
@@ -218,9 +256,12 @@ def _information() -> str:
 def _write_wheel(folder: str, files: Mapping[str, bytes], kind: str) -> str:
     """Writes a wheel of these files, and answers its name."""
     pure = "true" if kind.endswith("-any") else "false"
-    told = f"Wheel-Version: 1.0\nGenerator: zaklimot\nRoot-Is-Purelib: {pure}\nTag: {kind}\n"
+    told = f"Wheel-Version: 1.0\nGenerator: zaklimot\nRoot-Is-Purelib: {pure}\n"
+    before, _, names = kind.rpartition("-")
+    told += "".join(f"Tag: {before}-{name}\n" for name in names.split("."))
     whole = {
         **files,
+        f"{_information()}/licenses/{LICENCE}": (HERE / LICENCE).read_bytes(),
         f"{_information()}/METADATA": metadata().encode("utf-8"),
         f"{_information()}/WHEEL": told.encode("ascii"),
     }
@@ -240,7 +281,7 @@ def build_wheel(
 ) -> str:
     """PEP 517: a wheel of the package, with a library and its font."""
     own = carried()
-    kind = f"py3-none-{machines() if LIBRARY in own else 'any'}"
+    kind = f"py3-none-{platforms(own[LIBRARY]) if LIBRARY in own else 'any'}"
     files = {**sources(), **{f"{PACKAGE}/carried/{name}": data for name, data in own.items()}}
     return _write_wheel(wheel_directory, files, kind)
 
@@ -277,14 +318,15 @@ prepare_metadata_for_build_editable = prepare_metadata_for_build_wheel
 def build_sdist(sdist_directory: str, config_settings: Any = None) -> str:
     """PEP 517: the sources, with all that a wheel is made of."""
     stem = f"{PACKAGE}-{project()['version']}"
-    own = ("pyproject.toml", "building.py", "README.md")
+    own = ("pyproject.toml", "building.py", "needs.py", "README.md", LICENCE)
     files = {name: (HERE / name).read_bytes() for name in own}
     files.update({f"src/{place}": data for place, data in sources().items()})
     files.update({f"{TOGETHER}/{name}": part(name).read_bytes() for name in PARTS})
     files["PKG-INFO"] = metadata().encode("utf-8")
     with open(Path(sdist_directory) / f"{stem}.tar.gz", "wb") as stream:
         with gzip.GzipFile(filename="", mode="wb", fileobj=stream, mtime=0) as packed:
-            with tarfile.open(fileobj=packed, mode="w", format=tarfile.PAX_FORMAT) as archive:
+            written = cast(BinaryIO, packed)
+            with tarfile.open(fileobj=written, mode="w", format=tarfile.PAX_FORMAT) as archive:
                 for place, data in files.items():
                     entry = tarfile.TarInfo(f"{stem}/{place}")
                     entry.size = len(data)

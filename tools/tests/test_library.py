@@ -215,7 +215,7 @@ class Page(unittest.TestCase):
         lines = "".join(re.findall(r"^  ```cpp\n(.*?)^  ```$", text, re.M | re.S)).splitlines()
         tried = [line.strip() for line in checks.OBJECTS.read_text("ascii").splitlines()]
         self.assertEqual(
-            (len(lines), [line for line in lines if line.strip() not in tried]), (56, [])
+            (len(lines), [line for line in lines if line.strip() not in tried]), (62, [])
         )
 
     def test_its_version_is_the_header_s(self) -> None:
@@ -422,7 +422,7 @@ class Parts(Folder):
     def test_its_page_and_the_news_tell_of_it(self) -> None:
         name = f"zaklimot-{version()}"
         page = (TOP / release.PAGE).read_text("utf-8")
-        for end in ("x86_64-linux.tar.gz", "py3-none-linux_x86_64.whl"):
+        for end in ("x86_64-linux.tar.gz", "py3-none-manylinux"):
             self.assertIn(f"{name}-{end}", page)
         self.assertEqual([path for path in PATHS if not (TOP / path).exists()], [])
         self.assertIn(f"## {version()}\n", (TOP / "CHANGELOG.md").read_text("utf-8"))
@@ -527,6 +527,7 @@ class Whole(Folder):
             (f"{crate}/portable/zaklimot.fnt", "fonts/zaklimot.fnt"),
             (f"{crate}/LICENSE", "LICENSE"),
             ("bindings/rust/zaklimot/LICENSE", "LICENSE"),
+            ("bindings/python/LICENSE", "LICENSE"),
         ):
             copied, own = ((self.folder / place).read_bytes() for place in (copy, file))
             self.assertTrue(copied == own, copy)
@@ -607,6 +608,19 @@ class Installing(Folder):
         # A stage stands before the prefix.
         self.assertEqual(self.install("--destdir=stage", "--prefix=/usr")[0], 0)
         self.assertEqual((self.folder / "stage/usr/share/z/f.fnt").read_text(), "font")
+
+    def test_where_the_font_is_used(self) -> None:
+        self.write("a release/share/zaklimot/zaklimot.fnt", "font")
+        for words, prefix in (
+            (("--prefix", f"{self.folder}/in here"), f"{self.folder}/in here"),
+            (("--destdir=stage", "--prefix=/usr"), "/usr"),
+        ):
+            status, told, said = self.install(*words)
+            path = f"{prefix}/share/zaklimot/zaklimot.fnt"
+            self.assertEqual(
+                (status, said), (0, f"install.sh: vga takes the font by --fonts {path}\n")
+            )
+            self.assertIn(f"{path}\n", told)
 
     def test_what_it_refuses(self) -> None:
         (self.folder / "full" / "bin" / "vga").mkdir(parents=True)

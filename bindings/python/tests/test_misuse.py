@@ -291,6 +291,27 @@ class Numbers(unittest.TestCase):
         with self.assertRaises(TypeError):
             self.card.frame_xrgb(pitch=1.5)  # type: ignore[arg-type]
 
+    def test_buffers_grow_where_an_error_is_handled(self) -> None:
+        calls: dict[str, tuple[Any, ...]] = {
+            "save_into": (),
+            "save_fixed_into": (),
+            "restore": (),
+            "restore_fixed": (),
+            "get_bytes": (0xFFFF_FFFF,),
+            "put_bytes": (0xFFFF_FFFF,),
+            "frame": (),
+            "frame_xrgb": (),
+            "frame_words": (),
+        }
+        for name, front in calls.items():
+            room = bytearray(8)
+            with self.subTest(name):
+                try:
+                    getattr(self.card, name)(*front, room)
+                    self.fail("it is too short")
+                except zaklimot.Error:
+                    room.extend(b"more")
+
     def test_slices_out_of_range(self) -> None:
         for first, most in ((-1, 1), (0, -1), (2**32, 1), (0, 2**32)):
             self.assert_raises(ValueError, "run_on", ("frame", first, most))

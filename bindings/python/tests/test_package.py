@@ -4,6 +4,7 @@ from __future__ import annotations
 
 import ast
 import contextlib
+import email
 import inspect
 import io
 import os
@@ -11,6 +12,7 @@ import re
 import shutil
 import subprocess
 import sys
+import tarfile
 import tempfile
 import unittest
 import zipfile
@@ -45,6 +47,8 @@ def build(folder: str, what: str = "wheel", project: Path = HERE, /, **names: st
     return Path(folder) / run(sys.executable, "-B", "-c", program, env={**kept, **names}).strip()
 
 
+# The name of a wheel with a library, which tells the glibc that it needs, or the system alone.
+NAME = r"^zaklimot-\d+\.\d+-py3-none-(manylinux_\d+_\d+|linux)_\w+(\.manylinux\w+)?\.whl$"
 # How the names begin by which the environment tells of libraries and compilers.
 OWN = ("ZAKLIMOT_", "CC", "CFLAGS")
 # Compilers in the shell. Their last word is where the library goes.
@@ -85,7 +89,7 @@ class Wheel(unittest.TestCase):
             self.skipTest("ZAKLIMOT_DIR is not set")
         with tempfile.TemporaryDirectory() as name:
             wheel = build(name, ZAKLIMOT_DIR=folder)
-            self.assertRegex(wheel.name, r"^zaklimot-\d+\.\d+-py3-none-linux_\w+\.whl$")
+            self.assertRegex(wheel.name, NAME)
             told = used(wheel)
             self.assertIn(f"/zaklimot/carried/libzaklimot.so {zaklimot.library().kind} 103", told)
             self.assertTrue(told.startswith(str(environment().parent)))
@@ -142,7 +146,7 @@ class Compiled(unittest.TestCase):
         words = ("--no-index", "--no-deps", "--quiet", "--wheel-dir", self.folder / "made", archive)
         run(sys.executable, "-m", "pip", "wheel", *words, env=quick)
         (wheel,) = (self.folder / "made").iterdir()
-        self.assertRegex(wheel.name, r"^zaklimot-\d+\.\d+-py3-none-linux_\w+\.whl$")
+        self.assertRegex(wheel.name, NAME)
         told = used(wheel)
         self.assertTrue(told.endswith("/zaklimot/carried/libzaklimot.so portable 103\n"), told)
         self.assertTrue(told.startswith(str(environment().parent)))
@@ -235,6 +239,37 @@ class Compiled(unittest.TestCase):
             words = building.compiler_words("macosx_11_0_arm64")
         self.assertEqual((words[:2], words[-2:]), (["ccache", "my cc"], ["-O3", "-g"]))
         self.assertIn("-arch arm64 -mmacosx-version-min=11.0", " ".join(words))
+
+    def test_what_it_tells_of_itself(self) -> None:
+        """The licence, and a tag for each of the platforms in the name."""
+        copying = self.compiler(COPYING)
+        archive = build(str(self.folder), "sdist")
+        with tarfile.open(archive) as opened:
+            names = {name.partition("/")[2] for name in opened.getnames()}
+        self.assertLessEqual({"LICENSE", "README.md", "needs.py", "building.py"}, names)
+        wheel = build(str(self.folder), **copying)
+        with zipfile.ZipFile(wheel) as files:
+            (folder,) = {name.partition("/")[0] for name in files.namelist() if "-info/" in name}
+            licence, told, kinds, record = (
+                files.read(f"{folder}/{name}").decode("utf-8")
+                for name in ("licenses/LICENSE", "METADATA", "WHEEL", "RECORD")
+            )
+        self.assertEqual(licence, (header.TOP / "LICENSE").read_text("utf-8"))
+        self.assertIn(f"{folder}/licenses/LICENSE,sha256=", record)
+        fields = email.message_from_string(told)
+        self.assertEqual((fields["License-Expression"], fields["License-File"]), ("MIT", "LICENSE"))
+        self.assertIn("vga", fields["Keywords"].split(","))
+        self.assertIn("Topic :: System :: Emulators", fields.get_all("Classifier"))
+        platforms = wheel.stem.rpartition("-")[2].split(".")
+        tags = email.message_from_string(kinds).get_all("Tag")
+        self.assertEqual(tags, [f"py3-none-{name}" for name in platforms])
+
+    def test_the_platform_where_pip_takes_no_glibc(self) -> None:
+        """A module of this name keeps pip from wheels for other machines, as on NixOS."""
+        copying = self.compiler(COPYING)
+        (self.folder / "_manylinux.py").write_text("manylinux1_compatible = False\n")
+        wheel = build(str(self.folder), **copying, PYTHONPATH=str(self.folder))
+        self.assertRegex(wheel.name, r"-py3-none-linux_\w+\.whl$")
 
     def test_what_pip_asks_first_needs_no_compiler(self) -> None:
         folder = build(str(self.folder), "wheel", ZAKLIMOT_PORTABLE="0")

@@ -115,6 +115,12 @@ class Snapshots(unittest.TestCase):
         self.assertEqual(self.card.save_into(bytearray(length)), length)
         self.assertEqual(self.card.save_fixed_into(bytearray(length + 4)), length + 4)
 
+    def test_buffers_that_are_no_room(self) -> None:
+        for wrong in (b"", bytes(300_000), memoryview(bytearray(600_000))[::2]):
+            for call in (self.card.save_into, self.card.save_fixed_into):
+                with self.assertRaisesRegex(TypeError, "^a buffer is to be writable and contig"):
+                    call(wrong)
+
     def test_a_snapshot_a_frame_allocates_nothing(self) -> None:
         rooms = [bytearray(zaklimot.FIRST_STATE), bytearray(zaklimot.FIRST_STATE + 4)]
 

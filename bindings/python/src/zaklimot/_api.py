@@ -4,7 +4,7 @@ from __future__ import annotations
 
 from typing import NamedTuple
 
-from ._card import Card, Fonts, font_bytes
+from ._card import Card
 from ._errors import (
     BadArgument,
     BadBlock,
@@ -48,7 +48,7 @@ from ._errors import (
     WrongKind,
 )
 from ._file import kind_of
-from ._library import default_fonts, loaded
+from ._library import Fonts, default_fonts, font_bytes, loaded
 from ._names import CRTC, GFX, SEQ, Indexed
 from ._pictures import Colour, Lines, Picture, ScanLine, XrgbPicture
 from ._report import Report, Step

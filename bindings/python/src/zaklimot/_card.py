@@ -3,7 +3,6 @@
 from __future__ import annotations
 
 import ctypes
-import os
 import weakref
 from fractions import Fraction
 from functools import lru_cache
@@ -13,7 +12,7 @@ from typing import Any, Callable, NoReturn, Optional, Union, overload
 from . import _structs as s
 from ._calls import Call
 from ._errors import BadArgument, Closed, error_of
-from ._library import default_fonts, loaded, read_fonts
+from ._library import Bytes, Fonts, font_bytes, loaded
 from ._memory import Room, given, lent, writable
 from ._numbers import BYTE, LONG, WORD, in_range
 from ._pictures import Colour, Lines, Picture, ScanLine, XrgbPicture
@@ -32,9 +31,6 @@ from ._state import (
     Timing,
 )
 
-Bytes = Union[bytes, bytearray, memoryview]
-Fonts = Union[Bytes, str, "os.PathLike[str]", None]
-
 NO_ROOM = 25
 # Room for the report of one step.
 STEP_ROOM = s.MOST_RGB + 100
@@ -44,15 +40,6 @@ _byref, _U8, _U16 = ctypes.byref, s.U8, s.U16
 # Code page 437 shows characters below 20 (hexadecimal) as these.
 _LOW = "\0☺☻♥♦♣♠•◘○◙♂♀♪♫☼►◄↕‼¶§▬↨↑↓→←∟↔▲▼"
 _GLYPHS = str.maketrans({code: glyph for code, glyph in enumerate(_LOW) if code})
-
-
-def font_bytes(fonts: Fonts) -> bytes:
-    """A font file's bytes, from its bytes or its path. None means the project's font."""
-    if fonts is None:
-        return default_fonts()
-    if isinstance(fonts, (str, os.PathLike)):
-        return read_fonts(fonts)  # type: ignore[arg-type]
-    return bytes(memoryview(fonts))
 
 
 @lru_cache(maxsize=8)
@@ -111,10 +98,12 @@ class Card:
         self._advance = calls["advance"]
         self._rooms: dict[str, Room] = {}
 
-    # How calls are made.
+    # How calls are made. A traceback keeps the frames of functions, and a buffer that one of them
+    # has lent can't be made longer where the error is handled. So none keeps one.
 
     def _call(self, name: str, *values: Any) -> None:
         status = self._calls[name](self._card, *values)
+        del values
         if status:
             raise error_of(status)
 
@@ -140,7 +129,10 @@ class Card:
     def _transfer(self, name: str, *values: Any) -> int:
         """Makes a call for many bytes, and returns how many addresses the adapter decodes."""
         decoded = s.SIZE()
-        self._call(name, *values, _byref(decoded))
+        status = self._calls[name](self._card, *values, _byref(decoded))
+        del values
+        if status:
+            raise error_of(status)
         return decoded.value
 
     def _text(self, name: str, *places: int) -> str:
@@ -414,10 +406,9 @@ class Card:
         width, and NoRoom if `into` is too short. With either the frame has passed.
         """
         size = s.zak_size()
-        view, pointer, room = self._target(into, "rgb", s.MOST_RGB, s.U8)
-        self._call("frame", _byref(size), pointer, room)
+        self._call("frame", _byref(size), *self._target(into, "rgb", s.MOST_RGB, s.U8))
         width, height = size.width, size.height
-        return Picture(width, height, view[: 3 * width * height])
+        return Picture(width, height, self._view(into, "rgb")[: 3 * width * height])
 
     def frame_xrgb(self, into: Optional[Any] = None, pitch: int = s.WIDEST) -> XrgbPicture:
         """Lets the clock run to the end of the frame, and returns a word 00RRGGBB per dot.
@@ -429,9 +420,9 @@ class Card:
         """
         size = s.zak_size()
         in_range("pitch", pitch, s.WIDEST if into is None else LONG)
-        view, pointer, room = self._target(into, "xrgb", 4 * s.WIDEST * s.HIGHEST, s.U32)
-        self._call("frame_xrgb", _byref(size), pointer, room // 4, pitch)
-        return XrgbPicture(size.width, size.height, pitch, view[: room // 4 * 4].cast("I"))
+        target = (into, "xrgb", 4 * s.WIDEST * s.HIGHEST, s.U32)
+        self._call("frame_xrgb", _byref(size), *self._target(*target), pitch)
+        return XrgbPicture(size.width, size.height, pitch, self._words(into))
 
     def frame_words(
         self,
@@ -452,11 +443,11 @@ class Card:
         """
         told = s.zak_picture()
         in_range("pitch", pitch, s.WIDEST if into is None else LONG)
-        view, pointer, room = self._target(into, "xrgb", 4 * s.WIDEST * s.HIGHEST, s.U32)
+        target = (into, "xrgb", 4 * s.WIDEST * s.HIGHEST, s.U32)
         flags = s.ONCE * bool(once) + s.OPAQUE * bool(opaque)
-        self._call("frame_words", flags, _byref(told), pointer, room // 4, pitch)
-        words = view[: room // 4 * 4].cast("I")
-        return XrgbPicture(told.width, told.height, pitch, words, told.across, told.down)
+        self._call("frame_words", flags, _byref(told), *self._target(*target), pitch)
+        width, height, across, down = told.width, told.height, told.across, told.down
+        return XrgbPicture(width, height, pitch, self._words(into), across, down)
 
     def line(self, *, opaque: bool = False) -> ScanLine:
         """Lets the clock run to the end of the line under way, and returns its dots as words.
@@ -500,16 +491,24 @@ class Card:
         """
         self._call("skip_frame")
 
-    def _target(
-        self, into: Optional[Any], name: str, size: int, kind: Any
-    ) -> tuple[memoryview, Any, int]:
-        """Where a picture goes: the memory as bytes, a pointer to it, and its length in bytes."""
+    def _target(self, into: Optional[Any], name: str, size: int, kind: Any) -> tuple[Any, int]:
+        """A pointer to the memory that a picture goes to, and how many elements it has."""
         if into is None:
             room = self._room(size, name)
-            return room.view, ctypes.cast(room.pointer, ctypes.POINTER(kind)), room.size
+            pointer = ctypes.cast(room.pointer, ctypes.POINTER(kind))
+            return pointer, room.size // ctypes.sizeof(kind)
         view = writable(into, ctypes.sizeof(kind))
-        pointer = (kind * (len(view) // ctypes.sizeof(kind))).from_buffer(view)
-        return view, pointer, len(view)
+        count = len(view) // ctypes.sizeof(kind)
+        return (kind * count).from_buffer(view), count
+
+    def _view(self, into: Optional[Any], name: str) -> memoryview:
+        """The same memory as bytes."""
+        return self._rooms[name].view if into is None else writable(into, 1)
+
+    def _words(self, into: Optional[Any]) -> memoryview:
+        """The same memory as words."""
+        view = self._view(into, "xrgb")
+        return view[: len(view) // 4 * 4].cast("I")
 
     # The video BIOS.
 
@@ -745,9 +744,8 @@ class Card:
         No memory is allocated for them. Raises NoRoom if the buffer is too short, and nothing is
         written there.
         """
-        pointer, length = lent(buffer)
-        self._call("save_fixed", pointer, length)
-        return length
+        self._call("save_fixed", *lent(buffer))
+        return memoryview(buffer).nbytes
 
     def restore_fixed(self, state: Bytes) -> None:
         """Restores a state of `save_fixed`. For other bytes it raises a StateError, and the card is

@@ -6,13 +6,17 @@ import os
 import sys
 from functools import lru_cache
 from pathlib import Path
-from typing import Iterator, Mapping, NamedTuple, Optional
+from typing import Iterator, Mapping, NamedTuple, Optional, Union
 
 from ._calls import Call, bind_all
 from ._errors import LibraryMissing
 from ._file import FILE, FONTS
 from ._structs import FONTS_SIZE
 from ._version import API_MAJOR, API_MINOR
+
+Bytes = Union[bytes, bytearray, memoryview]
+# A font file's bytes, or its path; None means the project's font.
+Fonts = Union[Bytes, str, "os.PathLike[str]", None]
 
 # What the system's loader is asked for.
 SONAME = {"darwin": f"libzaklimot.{API_MAJOR}.dylib", "win32": FILE}.get(
@@ -133,3 +137,12 @@ def default_fonts() -> bytes:
         if path.is_file():
             return read_fonts(path)
     raise LibraryMissing(f"there is no {FONTS}: hand over the bytes of a font file as `fonts`")
+
+
+def font_bytes(fonts: Fonts) -> bytes:
+    """A font file's bytes, from its bytes or its path. None means the project's font."""
+    if fonts is None:
+        return default_fonts()
+    if isinstance(fonts, (str, os.PathLike)):
+        return read_fonts(fonts)  # type: ignore[arg-type]
+    return bytes(memoryview(fonts))

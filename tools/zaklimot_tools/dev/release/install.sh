@@ -6,7 +6,7 @@ umask 022
 usage() {
     cat <<'END'
 Lays what a release has in bin/, include/, lib/ and share/ below a prefix, and
-prints each file.
+prints each file. On standard error it says how vga takes the font that was laid.
 
 Usage: ./install.sh [--prefix FOLDER] [--destdir FOLDER]
 
@@ -38,6 +38,7 @@ lay() {
     printf '%s\n' "$target"
 }
 
+font=share/zaklimot/zaklimot.fnt
 prefix=/usr/local
 destdir=
 while [ $# -gt 0 ]; do
@@ -75,3 +76,6 @@ done
 find bin include lib share ! -type d | LC_ALL=C sort | while IFS= read -r file; do
     lay "$file"
 done
+if [ -f "$font" ]; then
+    printf 'install.sh: vga takes the font by --fonts %s\n' "$prefix/$font" >&2
+fi

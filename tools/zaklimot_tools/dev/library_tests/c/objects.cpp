@@ -176,7 +176,10 @@ struct core {
     std::vector<std::uint32_t> pixels = std::vector<std::uint32_t>(ZAK_WIDEST * ZAK_HIGHEST);
     std::vector<std::array<std::uint8_t, ZAK_FIRST_STATE>> states{60};
 
-    explicit core(zaklimot::bytes fonts) : vga(fonts), left(vga.clock().to_frame) {}
+    explicit core(zaklimot::bytes fonts) : vga(fonts), left(vga.clock().to_frame)
+    {
+        vga.save_into(states[0]);
+    }
 
     void settle() // before each cycle
     {
@@ -206,7 +209,10 @@ struct core {
         settle();
         try {
             vga.out(port, value);
-        } catch (const zaklimot::error &) { // an open bus: the write is lost
+        } catch (const zaklimot::error &error) {
+            if (error.status() > ZAK_BAD_HEIGHT)
+                throw;
+            // The adapter has refused it. On an open bus the write is lost.
         }
         left = vga.clock().to_frame;
     }
@@ -223,6 +229,9 @@ struct core {
 static int emulate(zaklimot::bytes fonts)
 {
     core machine(fonts);
+    machine.vga.out(0x3C4, 2);
+    machine.rewind(0);
+    HOLDS(machine.vga.in(0x3C4) == 0 && machine.left == machine.vga.clock().frame_dots);
     zak_regs regs = {0x0013, 0, 0, 0};
     machine.vga.int10(regs);
     machine.left = machine.vga.clock().to_frame;
