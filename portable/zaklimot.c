@@ -19,7 +19,7 @@
  */
 
 #define FIRST_PAGES 17u
-#define HEAP_BASE 1049856u
+#define HEAP_BASE 1051968u
 #define MODULE_GLOBALS u64 g0;
 
 #include <stdlib.h>
@@ -252,28 +252,27 @@ static void f75(module *, u64, u64, u64, u64, u32);
 static void f76(module *, u64, u64, u64);
 static void f77(module *, u64, u32, u64);
 static void f78(module *, u64, u64, u32);
-static void f79(module *, u64, u64, u32, u32, u32);
+static u32 f79(module *, u64, u32, u32);
 static u32 f80(module *, u64, u32, u32);
-static u32 f81(module *, u64, u32, u32);
-static u32 f82(module *, u64, u64, u32, u64, u64, u32);
-static u32 f83(module *, u64, u64, u64);
-static void f84(module *, u64, u64);
-static u32 f85(module *, u64, u64, u64);
-static void f86(module *, u64, u64, u64, u64, u64, u64, u64);
-static void f87(module *, u64, u64);
-static u32 f88(module *, u64, u64);
-static void f89(module *, u64, u64, u64, u64);
-static void f90(module *, u64, u64, u64, u64, u64);
-static void f91(module *, u64, u64, u64, u64);
-static void f92(module *, u64, u64, u64, u32, u64, u64);
-static void f93(module *, u64, u64, u64, u32);
-static void f94(module *, u64, u64, u64, u64, u64, u64);
+static u32 f81(module *, u64, u64, u32, u64, u64, u32);
+static u32 f82(module *, u64, u64, u64);
+static void f83(module *, u64, u64);
+static u32 f84(module *, u64, u64, u64);
+static void f85(module *, u64, u64, u64, u64, u64, u64, u64);
+static void f86(module *, u64, u64);
+static u32 f87(module *, u64, u64);
+static void f88(module *, u64, u64, u64, u64);
+static void f89(module *, u64, u64, u64, u64, u64);
+static void f90(module *, u64, u64, u64, u64);
+static void f91(module *, u64, u64, u64, u32, u64, u64);
+static void f92(module *, u64, u64, u64, u32);
+static void f93(module *, u64, u64, u64, u64, u64, u64);
+static void f94(module *, u64, u64);
 static void f95(module *, u64, u64);
-static void f96(module *, u64, u64);
-static void f97(module *, u64, u64, u64);
+static void f96(module *, u64, u64, u64);
+static u32 f97(module *, u64);
 static u32 f98(module *, u64);
-static u32 f99(module *, u64);
-static u32 f100(module *, u64, u64, u64, u64, u64);
+static u32 f99(module *, u64, u64, u64, u64, u64);
 static u32 module_zak_advance(module *, u64, u32);
 static u32 module_zak_assemble(module *, u64, u64, u64, u64, u64, u64);
 static u32 module_zak_block(module *, u64, u64, u64);
@@ -325,6 +324,7 @@ static u32 module_zak_show_latches(module *, u64, u64, u64, u64);
 static u32 module_zak_show_plane(module *, u64, u32, u32, u32, u64, u64, u64);
 static u32 module_zak_show_regs(module *, u64, u64, u64, u64);
 static u32 module_zak_skip_frame(module *, u64);
+static u32 module_zak_status_text(module *, u32, u64, u64, u64);
 static u32 module_zak_version(module *);
 static u64 module_page_take(module *, u64);
 static u32 module_page_give(module *, u64);
@@ -25678,64 +25678,111 @@ static void f21(module *self, u64 p0, u64 p1, u64 p2) {
   i1 = (u32)(j1);
   i1 = i32_load16_u(j1);
   i32_store16(j0, i1);
-  j0 = l4;
-  j1 = 857ull;
+  j0 = p0;
+  j1 = 8ull;
+  j0 += j1;
+  i0 = (u32)(j0);
+  j0 = i64_load(j0);
+  l5 = j0;
+  i0 = !(j0);
+  if (i0) {goto B20;}
+  j0 = p0;
+  i0 = (u32)(j0);
+  j0 = i64_load(j0);
+  l10 = j0;
+  j0 = l5;
+  j1 = 3ull;
+  j0 &= j1;
+  l7 = j0;
+  j0 = 0ull;
+  l8 = j0;
+  j0 = l5;
+  j1 = 4ull;
+  i0 = j0 < j1;
+  if (i0) {goto B22;}
+  j0 = l5;
+  j1 = 18446744073709551612ull;
+  j0 &= j1;
+  l9 = j0;
+  j0 = 0ull;
+  l8 = j0;
+  j0 = l10;
+  l5 = j0;
+  L23: 
+    j0 = l4;
+    j1 = l8;
+    j0 += j1;
+    l6 = j0;
+    j1 = 854ull;
+    j0 += j1;
+    i0 = (u32)(j0);
+    j1 = l5;
+    i1 = (u32)(j1);
+    i1 = i32_load(j1);
+    i32_store8(j0, i1);
+    j0 = l6;
+    j1 = 855ull;
+    j0 += j1;
+    i0 = (u32)(j0);
+    j1 = l5;
+    j2 = 4ull;
+    j1 += j2;
+    i1 = (u32)(j1);
+    i1 = i32_load(j1);
+    i32_store8(j0, i1);
+    j0 = l6;
+    j1 = 856ull;
+    j0 += j1;
+    i0 = (u32)(j0);
+    j1 = l5;
+    j2 = 8ull;
+    j1 += j2;
+    i1 = (u32)(j1);
+    i1 = i32_load(j1);
+    i32_store8(j0, i1);
+    j0 = l6;
+    j1 = 857ull;
+    j0 += j1;
+    i0 = (u32)(j0);
+    j1 = l5;
+    j2 = 12ull;
+    j1 += j2;
+    i1 = (u32)(j1);
+    i1 = i32_load(j1);
+    i32_store8(j0, i1);
+    j0 = l5;
+    j1 = 16ull;
+    j0 += j1;
+    l5 = j0;
+    j0 = l9;
+    j1 = l8;
+    j2 = 4ull;
+    j1 += j2;
+    l8 = j1;
+    i0 = j0 != j1;
+    if (i0) {goto L23;}
+  j0 = l7;
+  i0 = !(j0);
+  if (i0) {goto B21;}
+  B22:;
+  j0 = l10;
+  j1 = l8;
+  j2 = 2ull;
+  j1 <<= (j2 & 63);
   j0 += j1;
   l5 = j0;
-  j0 = 18446744073709289472ull;
+  j0 = l8;
+  j1 = p2;
+  j0 += j1;
+  j1 = p1;
+  j0 += j1;
+  j1 = 854ull;
+  j0 += j1;
   l6 = j0;
-  L17: 
-    j0 = l5;
-    j1 = 18446744073709551613ull;
-    j0 += j1;
+  L24: 
+    j0 = l6;
     i0 = (u32)(j0);
-    j1 = p0;
-    i1 = (u32)(j1);
-    j1 = i64_load(j1);
-    j2 = l6;
-    j1 += j2;
-    j2 = 262144ull;
-    j1 += j2;
-    i1 = (u32)(j1);
-    i1 = i32_load(j1);
-    i32_store8(j0, i1);
-    j0 = l5;
-    j1 = 18446744073709551614ull;
-    j0 += j1;
-    i0 = (u32)(j0);
-    j1 = p0;
-    i1 = (u32)(j1);
-    j1 = i64_load(j1);
-    j2 = l6;
-    j1 += j2;
-    j2 = 262148ull;
-    j1 += j2;
-    i1 = (u32)(j1);
-    i1 = i32_load(j1);
-    i32_store8(j0, i1);
-    j0 = l5;
-    j1 = 18446744073709551615ull;
-    j0 += j1;
-    i0 = (u32)(j0);
-    j1 = p0;
-    i1 = (u32)(j1);
-    j1 = i64_load(j1);
-    j2 = l6;
-    j1 += j2;
-    j2 = 262152ull;
-    j1 += j2;
-    i1 = (u32)(j1);
-    i1 = i32_load(j1);
-    i32_store8(j0, i1);
-    j0 = l5;
-    i0 = (u32)(j0);
-    j1 = p0;
-    i1 = (u32)(j1);
-    j1 = i64_load(j1);
-    j2 = l6;
-    j1 += j2;
-    j2 = 262156ull;
-    j1 += j2;
+    j1 = l5;
     i1 = (u32)(j1);
     i1 = i32_load(j1);
     i32_store8(j0, i1);
@@ -25743,41 +25790,74 @@ static void f21(module *self, u64 p0, u64 p1, u64 p2) {
     j1 = 4ull;
     j0 += j1;
     l5 = j0;
-    j0 = 0ull;
-    l7 = j0;
     j0 = l6;
-    j1 = 16ull;
+    j1 = 1ull;
     j0 += j1;
     l6 = j0;
-    j1 = 0ull;
-    i0 = j0 != j1;
-    if (i0) {goto L17;}
-  j0 = l4;
-  j1 = 66391ull;
-  j0 += j1;
-  l5 = j0;
-  L18: 
-    j0 = l5;
+    j0 = l7;
     j1 = 18446744073709551615ull;
     j0 += j1;
+    l7 = j0;
+    j1 = 0ull;
+    i0 = j0 != j1;
+    if (i0) {goto L24;}
+  B21:;
+  j0 = p0;
+  j1 = 8ull;
+  j0 += j1;
+  i0 = (u32)(j0);
+  j0 = i64_load(j0);
+  l5 = j0;
+  i0 = !(j0);
+  i0 = !(i0);
+  if (i0) {goto B25;}
+  j0 = p2;
+  j1 = 66390ull;
+  j0 += j1;
+  l4 = j0;
+  goto B19;
+  B25:;
+  j0 = p0;
+  i0 = (u32)(j0);
+  j0 = i64_load(j0);
+  l10 = j0;
+  j0 = l5;
+  j1 = 3ull;
+  j0 &= j1;
+  l7 = j0;
+  j0 = 0ull;
+  l8 = j0;
+  j0 = l5;
+  j1 = 4ull;
+  i0 = j0 < j1;
+  if (i0) {goto B27;}
+  j0 = l5;
+  j1 = 18446744073709551612ull;
+  j0 &= j1;
+  l9 = j0;
+  j0 = 0ull;
+  l8 = j0;
+  j0 = l10;
+  l5 = j0;
+  L28: 
+    j0 = l4;
+    j1 = l8;
+    j0 += j1;
+    l6 = j0;
+    j1 = 66390ull;
+    j0 += j1;
     i0 = (u32)(j0);
-    j1 = p0;
-    i1 = (u32)(j1);
-    j1 = i64_load(j1);
-    j2 = l7;
-    j1 += j2;
+    j1 = l5;
     i1 = (u32)(j1);
     i1 = i32_load(j1);
     i2 = 8u;
     i1 >>= (i2 & 31);
     i32_store8(j0, i1);
-    j0 = l5;
+    j0 = l6;
+    j1 = 66391ull;
+    j0 += j1;
     i0 = (u32)(j0);
-    j1 = p0;
-    i1 = (u32)(j1);
-    j1 = i64_load(j1);
-    j2 = l7;
-    j1 += j2;
+    j1 = l5;
     j2 = 4ull;
     j1 += j2;
     i1 = (u32)(j1);
@@ -25785,113 +25865,366 @@ static void f21(module *self, u64 p0, u64 p1, u64 p2) {
     i2 = 8u;
     i1 >>= (i2 & 31);
     i32_store8(j0, i1);
-    j0 = l5;
-    j1 = 2ull;
-    j0 += j1;
-    l5 = j0;
-    j0 = l7;
-    j1 = 8ull;
-    j0 += j1;
-    l7 = j0;
-    j1 = 262144ull;
-    i0 = j0 != j1;
-    if (i0) {goto L18;}
-  j0 = l4;
-  j1 = 131927ull;
-  j0 += j1;
-  l5 = j0;
-  j0 = 0ull;
-  l6 = j0;
-  L19: 
-    j0 = l5;
-    j1 = 18446744073709551615ull;
+    j0 = l6;
+    j1 = 66392ull;
     j0 += j1;
     i0 = (u32)(j0);
-    j1 = p0;
-    i1 = (u32)(j1);
-    j1 = i64_load(j1);
-    j2 = l6;
+    j1 = l5;
+    j2 = 8ull;
     j1 += j2;
+    i1 = (u32)(j1);
+    i1 = i32_load(j1);
+    i2 = 8u;
+    i1 >>= (i2 & 31);
+    i32_store8(j0, i1);
+    j0 = l6;
+    j1 = 66393ull;
+    j0 += j1;
+    i0 = (u32)(j0);
+    j1 = l5;
+    j2 = 12ull;
+    j1 += j2;
+    i1 = (u32)(j1);
+    i1 = i32_load(j1);
+    i2 = 8u;
+    i1 >>= (i2 & 31);
+    i32_store8(j0, i1);
+    j0 = l5;
+    j1 = 16ull;
+    j0 += j1;
+    l5 = j0;
+    j0 = l9;
+    j1 = l8;
+    j2 = 4ull;
+    j1 += j2;
+    l8 = j1;
+    i0 = j0 != j1;
+    if (i0) {goto L28;}
+  j0 = l7;
+  i0 = !(j0);
+  if (i0) {goto B26;}
+  B27:;
+  j0 = l10;
+  j1 = l8;
+  j2 = 2ull;
+  j1 <<= (j2 & 63);
+  j0 += j1;
+  l5 = j0;
+  j0 = l8;
+  j1 = p2;
+  j0 += j1;
+  j1 = p1;
+  j0 += j1;
+  j1 = 66390ull;
+  j0 += j1;
+  l6 = j0;
+  L29: 
+    j0 = l6;
+    i0 = (u32)(j0);
+    j1 = l5;
+    i1 = (u32)(j1);
+    i1 = i32_load(j1);
+    i2 = 8u;
+    i1 >>= (i2 & 31);
+    i32_store8(j0, i1);
+    j0 = l5;
+    j1 = 4ull;
+    j0 += j1;
+    l5 = j0;
+    j0 = l6;
+    j1 = 1ull;
+    j0 += j1;
+    l6 = j0;
+    j0 = l7;
+    j1 = 18446744073709551615ull;
+    j0 += j1;
+    l7 = j0;
+    j1 = 0ull;
+    i0 = j0 != j1;
+    if (i0) {goto L29;}
+  B26:;
+  j0 = p0;
+  j1 = 8ull;
+  j0 += j1;
+  i0 = (u32)(j0);
+  j0 = i64_load(j0);
+  l5 = j0;
+  i0 = !(j0);
+  if (i0) {goto B18;}
+  j0 = p0;
+  i0 = (u32)(j0);
+  j0 = i64_load(j0);
+  l10 = j0;
+  j0 = l5;
+  j1 = 3ull;
+  j0 &= j1;
+  l7 = j0;
+  j0 = 0ull;
+  l8 = j0;
+  j0 = l5;
+  j1 = 4ull;
+  i0 = j0 < j1;
+  if (i0) {goto B31;}
+  j0 = l5;
+  j1 = 18446744073709551612ull;
+  j0 &= j1;
+  l9 = j0;
+  j0 = 0ull;
+  l8 = j0;
+  j0 = l10;
+  l5 = j0;
+  L32: 
+    j0 = l4;
+    j1 = l8;
+    j0 += j1;
+    l6 = j0;
+    j1 = 131926ull;
+    j0 += j1;
+    i0 = (u32)(j0);
+    j1 = l5;
     i1 = (u32)(j1);
     i1 = i32_load16_u(j1 + 2u);
     i32_store8(j0, i1);
-    j0 = l5;
+    j0 = l6;
+    j1 = 131927ull;
+    j0 += j1;
     i0 = (u32)(j0);
-    j1 = p0;
-    i1 = (u32)(j1);
-    j1 = i64_load(j1);
-    j2 = l6;
-    j1 += j2;
+    j1 = l5;
     j2 = 6ull;
     j1 += j2;
     i1 = (u32)(j1);
     i1 = i32_load16_u(j1);
     i32_store8(j0, i1);
+    j0 = l6;
+    j1 = 131928ull;
+    j0 += j1;
+    i0 = (u32)(j0);
+    j1 = l5;
+    j2 = 10ull;
+    j1 += j2;
+    i1 = (u32)(j1);
+    i1 = i32_load16_u(j1);
+    i32_store8(j0, i1);
+    j0 = l6;
+    j1 = 131929ull;
+    j0 += j1;
+    i0 = (u32)(j0);
+    j1 = l5;
+    j2 = 14ull;
+    j1 += j2;
+    i1 = (u32)(j1);
+    i1 = i32_load16_u(j1);
+    i32_store8(j0, i1);
     j0 = l5;
-    j1 = 2ull;
+    j1 = 16ull;
+    j0 += j1;
+    l5 = j0;
+    j0 = l9;
+    j1 = l8;
+    j2 = 4ull;
+    j1 += j2;
+    l8 = j1;
+    i0 = j0 != j1;
+    if (i0) {goto L32;}
+  j0 = l7;
+  i0 = !(j0);
+  if (i0) {goto B30;}
+  B31:;
+  j0 = l10;
+  j1 = l8;
+  j2 = 2ull;
+  j1 <<= (j2 & 63);
+  j0 += j1;
+  l5 = j0;
+  j0 = l8;
+  j1 = p2;
+  j0 += j1;
+  j1 = p1;
+  j0 += j1;
+  j1 = 131926ull;
+  j0 += j1;
+  l6 = j0;
+  L33: 
+    j0 = l6;
+    i0 = (u32)(j0);
+    j1 = l5;
+    i1 = (u32)(j1);
+    i1 = i32_load16_u(j1 + 2u);
+    i32_store8(j0, i1);
+    j0 = l5;
+    j1 = 4ull;
     j0 += j1;
     l5 = j0;
     j0 = l6;
-    j1 = 8ull;
+    j1 = 1ull;
     j0 += j1;
     l6 = j0;
-    j1 = 262144ull;
-    i0 = j0 != j1;
-    if (i0) {goto L19;}
-  j0 = l4;
-  j1 = 197463ull;
-  j0 += j1;
-  l5 = j0;
-  j0 = 0ull;
-  l6 = j0;
-  L20: 
-    j0 = l5;
+    j0 = l7;
     j1 = 18446744073709551615ull;
     j0 += j1;
+    l7 = j0;
+    j1 = 0ull;
+    i0 = j0 != j1;
+    if (i0) {goto L33;}
+  B30:;
+  j0 = p2;
+  j1 = 197462ull;
+  j0 += j1;
+  l10 = j0;
+  j0 = p0;
+  j1 = 8ull;
+  j0 += j1;
+  i0 = (u32)(j0);
+  j0 = i64_load(j0);
+  l5 = j0;
+  i0 = !(j0);
+  if (i0) {goto B17;}
+  j0 = p0;
+  i0 = (u32)(j0);
+  j0 = i64_load(j0);
+  l11 = j0;
+  j0 = l5;
+  j1 = 3ull;
+  j0 &= j1;
+  l7 = j0;
+  j0 = 0ull;
+  l8 = j0;
+  j0 = l5;
+  j1 = 4ull;
+  i0 = j0 < j1;
+  if (i0) {goto B34;}
+  j0 = l5;
+  j1 = 18446744073709551612ull;
+  j0 &= j1;
+  l9 = j0;
+  j0 = 0ull;
+  l8 = j0;
+  j0 = l11;
+  l5 = j0;
+  L35: 
+    j0 = l4;
+    j1 = l8;
+    j0 += j1;
+    l6 = j0;
+    j1 = 197462ull;
+    j0 += j1;
     i0 = (u32)(j0);
-    j1 = p0;
-    i1 = (u32)(j1);
-    j1 = i64_load(j1);
-    j2 = l6;
-    j1 += j2;
+    j1 = l5;
     i1 = (u32)(j1);
     i1 = i32_load8_u(j1 + 3u);
     i32_store8(j0, i1);
-    j0 = l5;
+    j0 = l6;
+    j1 = 197463ull;
+    j0 += j1;
     i0 = (u32)(j0);
-    j1 = p0;
-    i1 = (u32)(j1);
-    j1 = i64_load(j1);
-    j2 = l6;
-    j1 += j2;
+    j1 = l5;
     j2 = 7ull;
     j1 += j2;
     i1 = (u32)(j1);
     i1 = i32_load8_u(j1);
     i32_store8(j0, i1);
+    j0 = l6;
+    j1 = 197464ull;
+    j0 += j1;
+    i0 = (u32)(j0);
+    j1 = l5;
+    j2 = 11ull;
+    j1 += j2;
+    i1 = (u32)(j1);
+    i1 = i32_load8_u(j1);
+    i32_store8(j0, i1);
+    j0 = l6;
+    j1 = 197465ull;
+    j0 += j1;
+    i0 = (u32)(j0);
+    j1 = l5;
+    j2 = 15ull;
+    j1 += j2;
+    i1 = (u32)(j1);
+    i1 = i32_load8_u(j1);
+    i32_store8(j0, i1);
     j0 = l5;
-    j1 = 2ull;
+    j1 = 16ull;
     j0 += j1;
     l5 = j0;
-    j0 = l6;
-    j1 = 8ull;
-    j0 += j1;
-    l6 = j0;
-    j1 = 262144ull;
+    j0 = l9;
+    j1 = l8;
+    j2 = 4ull;
+    j1 += j2;
+    l8 = j1;
     i0 = j0 != j1;
-    if (i0) {goto L20;}
+    if (i0) {goto L35;}
+  j0 = l7;
+  i0 = !(j0);
+  if (i0) {goto B17;}
+  B34:;
+  j0 = l11;
+  j1 = l8;
+  j2 = 2ull;
+  j1 <<= (j2 & 63);
+  j0 += j1;
+  l4 = j0;
+  j0 = l8;
+  j1 = p2;
+  j0 += j1;
+  j1 = p1;
+  j0 += j1;
+  j1 = 197462ull;
+  j0 += j1;
+  l5 = j0;
+  L36: 
+    j0 = l5;
+    i0 = (u32)(j0);
+    j1 = l4;
+    i1 = (u32)(j1);
+    i1 = i32_load8_u(j1 + 3u);
+    i32_store8(j0, i1);
+    j0 = l4;
+    j1 = 4ull;
+    j0 += j1;
+    l4 = j0;
+    j0 = l5;
+    j1 = 1ull;
+    j0 += j1;
+    l5 = j0;
+    j0 = l7;
+    j1 = 18446744073709551615ull;
+    j0 += j1;
+    l7 = j0;
+    j1 = 0ull;
+    i0 = j0 != j1;
+    if (i0) {goto L36;}
+    goto B17;
+  { self->is_broken = true; return; }
+  B20:;
+  j0 = p2;
+  j1 = 66390ull;
+  j0 += j1;
+  l4 = j0;
+  B19:;
+  j0 = l4;
+  j1 = 131072ull;
+  j0 += j1;
+  l10 = j0;
+  goto B17;
+  B18:;
+  j0 = p2;
+  j1 = 197462ull;
+  j0 += j1;
+  l10 = j0;
+  B17:;
   j0 = p0;
   j1 = 136ull;
   j0 += j1;
   i0 = (u32)(j0);
   i0 = i32_load16_u(j0);
-  if (i0) {goto B22;}
+  if (i0) {goto B38;}
   j0 = p0;
   j1 = 138ull;
   j0 += j1;
   i0 = (u32)(j0);
   i0 = i32_load8_u(j0);
-  if (i0) {goto B22;}
+  if (i0) {goto B38;}
   j0 = p0;
   j1 = 134ull;
   j0 += j1;
@@ -25899,215 +26232,219 @@ static void f21(module *self, u64 p0, u64 p1, u64 p2) {
   i0 = i32_load16_u(j0);
   i1 = 65535u;
   i0 &= i1;
-  if (i0) {goto B22;}
+  if (i0) {goto B38;}
   j0 = l3;
   i0 = (u32)(j0);
   i1 = 0u;
   j2 = 4096ull;
   i2 = (u32)(j2);
   memory_fill(j0, i1, j2);
-  j0 = 18446744073709549568ull;
+  j0 = p1;
+  j1 = l10;
+  j0 += j1;
   l6 = j0;
+  j0 = 18446744073709549568ull;
+  l5 = j0;
   j0 = l3;
-  p0 = j0;
-  L23: 
-    j0 = l4;
-    j1 = l6;
+  l4 = j0;
+  L39: 
+    j0 = l6;
+    j1 = l5;
     j0 += j1;
-    l5 = j0;
-    j1 = 265046ull;
+    p0 = j0;
+    j1 = 67584ull;
     j0 += j1;
     i0 = (u32)(j0);
-    j1 = p0;
+    j1 = l4;
     i1 = (u32)(j1);
     i1 = i32_load(j1);
     i32_store16(j0, i1);
-    j0 = l5;
-    j1 = 265048ull;
+    j0 = p0;
+    j1 = 67586ull;
     j0 += j1;
     i0 = (u32)(j0);
-    j1 = p0;
+    j1 = l4;
     j2 = 4ull;
-    j1 += j2;
-    i1 = (u32)(j1);
-    i1 = i32_load(j1);
-    i32_store16(j0, i1);
-    j0 = l5;
-    j1 = 265050ull;
-    j0 += j1;
-    i0 = (u32)(j0);
-    j1 = p0;
-    j2 = 8ull;
-    j1 += j2;
-    i1 = (u32)(j1);
-    i1 = i32_load(j1);
-    i32_store16(j0, i1);
-    j0 = l5;
-    j1 = 265052ull;
-    j0 += j1;
-    i0 = (u32)(j0);
-    j1 = p0;
-    j2 = 12ull;
     j1 += j2;
     i1 = (u32)(j1);
     i1 = i32_load(j1);
     i32_store16(j0, i1);
     j0 = p0;
-    j1 = 16ull;
-    j0 += j1;
-    p0 = j0;
-    j0 = l6;
-    j1 = 8ull;
-    j0 += j1;
-    l6 = j0;
-    j1 = 0ull;
-    i0 = j0 != j1;
-    if (i0) {goto L23;}
-    goto B21;
-  { self->is_broken = true; return; }
-  B22:;
-  j0 = p2;
-  j1 = 262998ull;
-  j0 += j1;
-  l5 = j0;
-  j0 = p0;
-  j1 = 2048ull;
-  j0 += j1;
-  i0 = (u32)(j0);
-  j0 = i64_load(j0);
-  l6 = j0;
-  i0 = !(j0);
-  if (i0) {goto B24;}
-  j0 = p0;
-  j1 = 2040ull;
-  j0 += j1;
-  i0 = (u32)(j0);
-  j0 = i64_load(j0);
-  l10 = j0;
-  j0 = l6;
-  j1 = 3ull;
-  j0 &= j1;
-  l7 = j0;
-  j0 = 0ull;
-  l8 = j0;
-  j0 = l6;
-  j1 = 4ull;
-  i0 = j0 < j1;
-  if (i0) {goto B25;}
-  j0 = l6;
-  j1 = 18446744073709551612ull;
-  j0 &= j1;
-  l11 = j0;
-  j0 = 0ull;
-  l8 = j0;
-  j0 = 18446744073709288618ull;
-  l9 = j0;
-  j0 = l10;
-  l5 = j0;
-  j0 = p1;
-  l4 = j0;
-  L26: 
-    j0 = l4;
-    j1 = p2;
-    j0 += j1;
-    l6 = j0;
-    j1 = 262998ull;
+    j1 = 67588ull;
     j0 += j1;
     i0 = (u32)(j0);
-    j1 = l5;
-    i1 = (u32)(j1);
-    i1 = i32_load(j1);
-    i32_store16(j0, i1);
-    j0 = l6;
-    j1 = 263000ull;
-    j0 += j1;
-    i0 = (u32)(j0);
-    j1 = l5;
-    j2 = 4ull;
-    j1 += j2;
-    i1 = (u32)(j1);
-    i1 = i32_load(j1);
-    i32_store16(j0, i1);
-    j0 = l6;
-    j1 = 263002ull;
-    j0 += j1;
-    i0 = (u32)(j0);
-    j1 = l5;
+    j1 = l4;
     j2 = 8ull;
     j1 += j2;
     i1 = (u32)(j1);
     i1 = i32_load(j1);
     i32_store16(j0, i1);
-    j0 = l6;
-    j1 = 263004ull;
+    j0 = p0;
+    j1 = 67590ull;
     j0 += j1;
     i0 = (u32)(j0);
-    j1 = l5;
+    j1 = l4;
     j2 = 12ull;
     j1 += j2;
     i1 = (u32)(j1);
     i1 = i32_load(j1);
     i32_store16(j0, i1);
-    j0 = l5;
+    j0 = l4;
     j1 = 16ull;
     j0 += j1;
+    l4 = j0;
+    j0 = l5;
+    j1 = 8ull;
+    j0 += j1;
     l5 = j0;
+    j1 = 0ull;
+    i0 = j0 != j1;
+    if (i0) {goto L39;}
+    goto B37;
+  { self->is_broken = true; return; }
+  B38:;
+  j0 = l10;
+  j1 = 65536ull;
+  j0 += j1;
+  l4 = j0;
+  j0 = p0;
+  j1 = 2048ull;
+  j0 += j1;
+  i0 = (u32)(j0);
+  j0 = i64_load(j0);
+  l5 = j0;
+  i0 = !(j0);
+  if (i0) {goto B40;}
+  j0 = p0;
+  j1 = 2040ull;
+  j0 += j1;
+  i0 = (u32)(j0);
+  j0 = i64_load(j0);
+  l11 = j0;
+  j0 = l5;
+  j1 = 3ull;
+  j0 &= j1;
+  l6 = j0;
+  j0 = 0ull;
+  l8 = j0;
+  j0 = l5;
+  j1 = 4ull;
+  i0 = j0 < j1;
+  if (i0) {goto B41;}
+  j0 = l5;
+  j1 = 18446744073709551612ull;
+  j0 &= j1;
+  p2 = j0;
+  j0 = 0ull;
+  l8 = j0;
+  j0 = 18446744073709486080ull;
+  l9 = j0;
+  j0 = l11;
+  l4 = j0;
+  j0 = p1;
+  l7 = j0;
+  L42: 
+    j0 = l7;
+    j1 = l10;
+    j0 += j1;
+    l5 = j0;
+    j1 = 65536ull;
+    j0 += j1;
+    i0 = (u32)(j0);
+    j1 = l4;
+    i1 = (u32)(j1);
+    i1 = i32_load(j1);
+    i32_store16(j0, i1);
+    j0 = l5;
+    j1 = 65538ull;
+    j0 += j1;
+    i0 = (u32)(j0);
+    j1 = l4;
+    j2 = 4ull;
+    j1 += j2;
+    i1 = (u32)(j1);
+    i1 = i32_load(j1);
+    i32_store16(j0, i1);
+    j0 = l5;
+    j1 = 65540ull;
+    j0 += j1;
+    i0 = (u32)(j0);
+    j1 = l4;
+    j2 = 8ull;
+    j1 += j2;
+    i1 = (u32)(j1);
+    i1 = i32_load(j1);
+    i32_store16(j0, i1);
+    j0 = l5;
+    j1 = 65542ull;
+    j0 += j1;
+    i0 = (u32)(j0);
+    j1 = l4;
+    j2 = 12ull;
+    j1 += j2;
+    i1 = (u32)(j1);
+    i1 = i32_load(j1);
+    i32_store16(j0, i1);
+    j0 = l4;
+    j1 = 16ull;
+    j0 += j1;
+    l4 = j0;
     j0 = l9;
     j1 = 18446744073709551608ull;
     j0 += j1;
     l9 = j0;
-    j0 = l4;
+    j0 = l7;
     j1 = 8ull;
     j0 += j1;
-    l4 = j0;
-    j0 = l11;
+    l7 = j0;
+    j0 = p2;
     j1 = l8;
     j2 = 4ull;
     j1 += j2;
     l8 = j1;
     i0 = j0 != j1;
-    if (i0) {goto L26;}
-  j0 = p2;
+    if (i0) {goto L42;}
+  j0 = l10;
   j1 = l9;
   j0 -= j1;
-  l5 = j0;
-  j0 = l7;
+  l4 = j0;
+  j0 = l6;
   i0 = !(j0);
-  if (i0) {goto B24;}
-  B25:;
-  j0 = l10;
+  if (i0) {goto B40;}
+  B41:;
+  j0 = l11;
   j1 = l8;
   j2 = 2ull;
   j1 <<= (j2 & 63);
   j0 += j1;
-  l6 = j0;
-  L27: 
+  l5 = j0;
+  L43: 
     j0 = p1;
-    j1 = l5;
+    j1 = l4;
     j0 += j1;
     i0 = (u32)(j0);
-    j1 = l6;
+    j1 = l5;
     i1 = (u32)(j1);
     i1 = i32_load(j1);
     i32_store16(j0, i1);
-    j0 = l6;
+    j0 = l5;
     j1 = 4ull;
     j0 += j1;
-    l6 = j0;
-    j0 = l5;
+    l5 = j0;
+    j0 = l4;
     j1 = 2ull;
     j0 += j1;
-    l5 = j0;
-    j0 = l7;
+    l4 = j0;
+    j0 = l6;
     j1 = 18446744073709551615ull;
     j0 += j1;
-    l7 = j0;
+    l6 = j0;
     j1 = 0ull;
     i0 = j0 != j1;
-    if (i0) {goto L27;}
-  B24:;
+    if (i0) {goto L43;}
+  B40:;
   j0 = p1;
-  j1 = l5;
+  j1 = l4;
   j0 += j1;
   l9 = j0;
   j1 = p0;
@@ -26124,33 +26461,33 @@ static void f21(module *self, u64 p0, u64 p1, u64 p2) {
   j1 = i64_load(j1);
   p0 = j1;
   i0 = j0 >= j1;
-  if (i0) {goto B28;}
+  if (i0) {goto B44;}
   j0 = p0;
   j1 = 3ull;
   j0 &= j1;
-  l4 = j0;
+  l7 = j0;
   j0 = 0ull;
-  l6 = j0;
+  l5 = j0;
   j0 = p0;
   j1 = 4ull;
   i0 = j0 < j1;
-  if (i0) {goto B29;}
+  if (i0) {goto B45;}
   j0 = p0;
   j1 = 18446744073709551612ull;
   j0 &= j1;
-  p2 = j0;
+  l10 = j0;
   j0 = 0ull;
-  l6 = j0;
-  L30: 
+  l5 = j0;
+  L46: 
     j0 = l9;
-    j1 = l6;
+    j1 = l5;
     j0 += j1;
     p0 = j0;
     i0 = (u32)(j0);
     j1 = l8;
-    j2 = l6;
+    j2 = l5;
     j1 += j2;
-    l7 = j1;
+    l6 = j1;
     i1 = (u32)(j1);
     i1 = i32_load8_u(j1);
     i32_store8(j0, i1);
@@ -26158,7 +26495,7 @@ static void f21(module *self, u64 p0, u64 p1, u64 p2) {
     j1 = 1ull;
     j0 += j1;
     i0 = (u32)(j0);
-    j1 = l7;
+    j1 = l6;
     j2 = 1ull;
     j1 += j2;
     i1 = (u32)(j1);
@@ -26168,7 +26505,7 @@ static void f21(module *self, u64 p0, u64 p1, u64 p2) {
     j1 = 2ull;
     j0 += j1;
     i0 = (u32)(j0);
-    j1 = l7;
+    j1 = l6;
     j2 = 2ull;
     j1 += j2;
     i1 = (u32)(j1);
@@ -26178,61 +26515,61 @@ static void f21(module *self, u64 p0, u64 p1, u64 p2) {
     j1 = 3ull;
     j0 += j1;
     i0 = (u32)(j0);
-    j1 = l7;
+    j1 = l6;
     j2 = 3ull;
     j1 += j2;
     i1 = (u32)(j1);
     i1 = i32_load8_u(j1);
     i32_store8(j0, i1);
-    j0 = p2;
-    j1 = l6;
+    j0 = l10;
+    j1 = l5;
     j2 = 4ull;
     j1 += j2;
-    l6 = j1;
+    l5 = j1;
     i0 = j0 != j1;
-    if (i0) {goto L30;}
-  j0 = l4;
+    if (i0) {goto L46;}
+  j0 = l7;
   i0 = !(j0);
-  if (i0) {goto B21;}
-  B29:;
+  if (i0) {goto B37;}
+  B45:;
   j0 = l8;
-  j1 = l6;
+  j1 = l5;
   j0 += j1;
   p0 = j0;
   j0 = p1;
-  j1 = l5;
-  j2 = l6;
+  j1 = l4;
+  j2 = l5;
   j1 += j2;
   j0 += j1;
-  l5 = j0;
-  L31: 
-    j0 = l5;
+  l4 = j0;
+  L47: 
+    j0 = l4;
     i0 = (u32)(j0);
     j1 = p0;
     i1 = (u32)(j1);
     i1 = i32_load8_u(j1);
     i32_store8(j0, i1);
-    j0 = l5;
+    j0 = l4;
     j1 = 1ull;
     j0 += j1;
-    l5 = j0;
+    l4 = j0;
     j0 = p0;
     j1 = 1ull;
     j0 += j1;
     p0 = j0;
-    j0 = l4;
+    j0 = l7;
     j1 = 18446744073709551615ull;
     j0 += j1;
-    l4 = j0;
+    l7 = j0;
     j1 = 0ull;
     i0 = j0 != j1;
-    if (i0) {goto L31;}
-    goto B21;
+    if (i0) {goto L47;}
+    goto B37;
   { self->is_broken = true; return; }
-  B28:;
+  B44:;
   j0 = p0;
   i0 = !(j0);
-  if (i0) {goto B21;}
+  if (i0) {goto B37;}
   j0 = l9;
   i0 = (u32)(j0);
   j1 = l8;
@@ -26240,7 +26577,7 @@ static void f21(module *self, u64 p0, u64 p1, u64 p2) {
   j2 = p0;
   i2 = (u32)(j2);
   memory_copy(j0, j1, j2);
-  B21:;
+  B37:;
   j0 = l3;
   j1 = 4096ull;
   j0 += j1;
@@ -29007,7 +29344,7 @@ static void f24(module *self, u64 p0, u64 p1, u64 p2) {
   j1 <<= (j2 & 63);
   l4 = j1;
   i1 = (u32)(j1);
-  i1 = i32_load(j1 + 1049548u);
+  i1 = i32_load(j1 + 1051664u);
   i32_store(j0, i1);
   j0 = p0;
   j1 = 60ull;
@@ -29015,7 +29352,7 @@ static void f24(module *self, u64 p0, u64 p1, u64 p2) {
   i0 = (u32)(j0);
   j1 = l4;
   i1 = (u32)(j1);
-  i1 = i32_load(j1 + 1049532u);
+  i1 = i32_load(j1 + 1051648u);
   i32_store(j0, i1);
   j0 = p0;
   j1 = 72ull;
@@ -38277,7 +38614,7 @@ static void f25(module *self, u64 p0, u64 p1, u64 p2, u64 p3, u64 p4, u64 p5, u6
     j1 <<= (j2 & 63);
     p6 = j1;
     i1 = (u32)(j1);
-    i1 = i32_load(j1 + 1049548u);
+    i1 = i32_load(j1 + 1051664u);
     i32_store(j0, i1);
     j0 = p1;
     j1 = 60ull;
@@ -38285,7 +38622,7 @@ static void f25(module *self, u64 p0, u64 p1, u64 p2, u64 p3, u64 p4, u64 p5, u6
     i0 = (u32)(j0);
     j1 = p6;
     i1 = (u32)(j1);
-    i1 = i32_load(j1 + 1049532u);
+    i1 = i32_load(j1 + 1051648u);
     i32_store(j0, i1);
     j0 = p1;
     j1 = 72ull;
@@ -42272,7 +42609,7 @@ static void f29(module *self, u64 p0, u32 p1, u32 p2) {
   j1 = 65535ull;
   j0 &= j1;
   i0 = (u32)(j0);
-  i0 = i32_load8_u(j0 + 1049776u);
+  i0 = i32_load8_u(j0 + 1051888u);
   l11 = i0;
   B3:;
   j0 = l3;
@@ -44465,7 +44802,7 @@ static void f35(module *self, u64 p0, u32 p1, u32 p2) {
   j1 <<= (j2 & 63);
   l4 = j1;
   i1 = (u32)(j1);
-  i1 = i32_load(j1 + 1049532u);
+  i1 = i32_load(j1 + 1051648u);
   i32_store(j0, i1);
   j0 = p0;
   j1 = 64ull;
@@ -44473,7 +44810,7 @@ static void f35(module *self, u64 p0, u32 p1, u32 p2) {
   i0 = (u32)(j0);
   j1 = l4;
   i1 = (u32)(j1);
-  i1 = i32_load(j1 + 1049548u);
+  i1 = i32_load(j1 + 1051664u);
   i32_store(j0, i1);
   j0 = p0;
   j1 = 72ull;
@@ -48771,7 +49108,7 @@ static void f44(module *self, u64 p0, u64 p1, u32 p2, u32 p3) {
   j1 <<= (j2 & 63);
   l5 = j1;
   i1 = (u32)(j1);
-  i1 = i32_load(j1 + 1049548u);
+  i1 = i32_load(j1 + 1051664u);
   i32_store(j0, i1);
   j0 = p1;
   j1 = 60ull;
@@ -48779,7 +49116,7 @@ static void f44(module *self, u64 p0, u64 p1, u32 p2, u32 p3) {
   i0 = (u32)(j0);
   j1 = l5;
   i1 = (u32)(j1);
-  i1 = i32_load(j1 + 1049532u);
+  i1 = i32_load(j1 + 1051648u);
   i32_store(j0, i1);
   j0 = p1;
   j1 = 72ull;
@@ -55825,7 +56162,7 @@ static void f57(module *self, u64 p0, u64 p1, u64 p2, u64 p3, u64 p4, u64 p5, u6
   j1 <<= (j2 & 63);
   p5 = j1;
   i1 = (u32)(j1);
-  i1 = i32_load(j1 + 1049548u);
+  i1 = i32_load(j1 + 1051664u);
   i32_store(j0, i1);
   j0 = p1;
   j1 = 60ull;
@@ -55834,7 +56171,7 @@ static void f57(module *self, u64 p0, u64 p1, u64 p2, u64 p3, u64 p4, u64 p5, u6
   i0 = (u32)(j0);
   j1 = p5;
   i1 = (u32)(j1);
-  i1 = i32_load(j1 + 1049532u);
+  i1 = i32_load(j1 + 1051648u);
   i32_store(j0, i1);
   j0 = p1;
   j1 = 72ull;
@@ -56001,13 +56338,13 @@ static void f57(module *self, u64 p0, u64 p1, u64 p2, u64 p3, u64 p4, u64 p5, u6
   j1 <<= (j2 & 63);
   p1 = j1;
   i1 = (u32)(j1);
-  i1 = i32_load(j1 + 1049548u);
+  i1 = i32_load(j1 + 1051664u);
   i32_store(j0, i1);
   j0 = l15;
   i0 = (u32)(j0);
   j1 = p1;
   i1 = (u32)(j1);
-  i1 = i32_load(j1 + 1049532u);
+  i1 = i32_load(j1 + 1051648u);
   i32_store(j0, i1);
   j0 = l16;
   i0 = (u32)(j0);
@@ -56670,7 +57007,7 @@ static void f57(module *self, u64 p0, u64 p1, u64 p2, u64 p3, u64 p4, u64 p5, u6
   j1 <<= (j2 & 63);
   l8 = j1;
   i1 = (u32)(j1);
-  i1 = i32_load(j1 + 1049548u);
+  i1 = i32_load(j1 + 1051664u);
   i32_store(j0, i1);
   j0 = p1;
   j1 = 60ull;
@@ -56679,7 +57016,7 @@ static void f57(module *self, u64 p0, u64 p1, u64 p2, u64 p3, u64 p4, u64 p5, u6
   i0 = (u32)(j0);
   j1 = l8;
   i1 = (u32)(j1);
-  i1 = i32_load(j1 + 1049532u);
+  i1 = i32_load(j1 + 1051648u);
   i32_store(j0, i1);
   i0 = l48;
   i1 = 4294967295u;
@@ -56693,13 +57030,13 @@ static void f57(module *self, u64 p0, u64 p1, u64 p2, u64 p3, u64 p4, u64 p5, u6
   i0 = (u32)(j0);
   j1 = l8;
   i1 = (u32)(j1);
-  i1 = i32_load(j1 + 1049548u);
+  i1 = i32_load(j1 + 1051664u);
   i32_store(j0, i1);
   j0 = p3;
   i0 = (u32)(j0);
   j1 = l8;
   i1 = (u32)(j1);
-  i1 = i32_load(j1 + 1049532u);
+  i1 = i32_load(j1 + 1051648u);
   i32_store(j0, i1);
   j0 = p1;
   j1 = 50ull;
@@ -56788,14 +57125,14 @@ static void f57(module *self, u64 p0, u64 p1, u64 p2, u64 p3, u64 p4, u64 p5, u6
   j1 <<= (j2 & 63);
   p6 = j1;
   i1 = (u32)(j1);
-  i1 = i32_load(j1 + 1049548u);
+  i1 = i32_load(j1 + 1051664u);
   l56 = i1;
   i32_store(j0, i1);
   j0 = p3;
   i0 = (u32)(j0);
   j1 = p6;
   i1 = (u32)(j1);
-  i1 = i32_load(j1 + 1049532u);
+  i1 = i32_load(j1 + 1051648u);
   l57 = i1;
   i32_store(j0, i1);
   j0 = l10;
@@ -57057,7 +57394,7 @@ static void f57(module *self, u64 p0, u64 p1, u64 p2, u64 p3, u64 p4, u64 p5, u6
   j1 <<= (j2 & 63);
   p6 = j1;
   i1 = (u32)(j1);
-  i1 = i32_load(j1 + 1049548u);
+  i1 = i32_load(j1 + 1051664u);
   i32_store(j0, i1);
   j0 = p1;
   j1 = 60ull;
@@ -57065,7 +57402,7 @@ static void f57(module *self, u64 p0, u64 p1, u64 p2, u64 p3, u64 p4, u64 p5, u6
   i0 = (u32)(j0);
   j1 = p6;
   i1 = (u32)(j1);
-  i1 = i32_load(j1 + 1049532u);
+  i1 = i32_load(j1 + 1051648u);
   i32_store(j0, i1);
   j0 = p1;
   j1 = 72ull;
@@ -57258,7 +57595,7 @@ static void f57(module *self, u64 p0, u64 p1, u64 p2, u64 p3, u64 p4, u64 p5, u6
   j1 <<= (j2 & 63);
   l14 = j1;
   i1 = (u32)(j1);
-  i1 = i32_load(j1 + 1049548u);
+  i1 = i32_load(j1 + 1051664u);
   i32_store(j0, i1);
   j0 = p1;
   j1 = 60ull;
@@ -57267,7 +57604,7 @@ static void f57(module *self, u64 p0, u64 p1, u64 p2, u64 p3, u64 p4, u64 p5, u6
   i0 = (u32)(j0);
   j1 = l14;
   i1 = (u32)(j1);
-  i1 = i32_load(j1 + 1049532u);
+  i1 = i32_load(j1 + 1051648u);
   i32_store(j0, i1);
   j0 = p1;
   j1 = 72ull;
@@ -57392,13 +57729,13 @@ static void f57(module *self, u64 p0, u64 p1, u64 p2, u64 p3, u64 p4, u64 p5, u6
   j1 <<= (j2 & 63);
   l19 = j1;
   i1 = (u32)(j1);
-  i1 = i32_load(j1 + 1049548u);
+  i1 = i32_load(j1 + 1051664u);
   i32_store(j0, i1);
   j0 = l13;
   i0 = (u32)(j0);
   j1 = l19;
   i1 = (u32)(j1);
-  i1 = i32_load(j1 + 1049532u);
+  i1 = i32_load(j1 + 1051648u);
   i32_store(j0, i1);
   j0 = l14;
   i0 = (u32)(j0);
@@ -57508,13 +57845,13 @@ static void f57(module *self, u64 p0, u64 p1, u64 p2, u64 p3, u64 p4, u64 p5, u6
   j1 <<= (j2 & 63);
   l19 = j1;
   i1 = (u32)(j1);
-  i1 = i32_load(j1 + 1049548u);
+  i1 = i32_load(j1 + 1051664u);
   i32_store(j0, i1);
   j0 = l13;
   i0 = (u32)(j0);
   j1 = l19;
   i1 = (u32)(j1);
-  i1 = i32_load(j1 + 1049532u);
+  i1 = i32_load(j1 + 1051648u);
   i32_store(j0, i1);
   j0 = l14;
   i0 = (u32)(j0);
@@ -57624,13 +57961,13 @@ static void f57(module *self, u64 p0, u64 p1, u64 p2, u64 p3, u64 p4, u64 p5, u6
   j1 <<= (j2 & 63);
   l18 = j1;
   i1 = (u32)(j1);
-  i1 = i32_load(j1 + 1049548u);
+  i1 = i32_load(j1 + 1051664u);
   i32_store(j0, i1);
   j0 = l13;
   i0 = (u32)(j0);
   j1 = l18;
   i1 = (u32)(j1);
-  i1 = i32_load(j1 + 1049532u);
+  i1 = i32_load(j1 + 1051648u);
   i32_store(j0, i1);
   j0 = l14;
   i0 = (u32)(j0);
@@ -57736,13 +58073,13 @@ static void f57(module *self, u64 p0, u64 p1, u64 p2, u64 p3, u64 p4, u64 p5, u6
   j1 <<= (j2 & 63);
   p1 = j1;
   i1 = (u32)(j1);
-  i1 = i32_load(j1 + 1049548u);
+  i1 = i32_load(j1 + 1051664u);
   i32_store(j0, i1);
   j0 = l13;
   i0 = (u32)(j0);
   j1 = p1;
   i1 = (u32)(j1);
-  i1 = i32_load(j1 + 1049532u);
+  i1 = i32_load(j1 + 1051648u);
   i32_store(j0, i1);
   j0 = l14;
   i0 = (u32)(j0);
@@ -59949,7 +60286,7 @@ static void f57(module *self, u64 p0, u64 p1, u64 p2, u64 p3, u64 p4, u64 p5, u6
     j1 <<= (j2 & 63);
     l8 = j1;
     i1 = (u32)(j1);
-    i1 = i32_load(j1 + 1049548u);
+    i1 = i32_load(j1 + 1051664u);
     i32_store(j0, i1);
     j0 = p1;
     j1 = 60ull;
@@ -59957,7 +60294,7 @@ static void f57(module *self, u64 p0, u64 p1, u64 p2, u64 p3, u64 p4, u64 p5, u6
     i0 = (u32)(j0);
     j1 = l8;
     i1 = (u32)(j1);
-    i1 = i32_load(j1 + 1049532u);
+    i1 = i32_load(j1 + 1051648u);
     i32_store(j0, i1);
     j0 = p1;
     j1 = 72ull;
@@ -61285,13 +61622,13 @@ static void f58(module *self, u64 p0, u64 p1, u64 p2, u64 p3, u32 p4) {
   j1 <<= (j2 & 63);
   p1 = j1;
   i1 = (u32)(j1);
-  i1 = i32_load(j1 + 1049548u);
+  i1 = i32_load(j1 + 1051664u);
   i32_store(j0, i1);
   j0 = l10;
   i0 = (u32)(j0);
   j1 = p1;
   i1 = (u32)(j1);
-  i1 = i32_load(j1 + 1049532u);
+  i1 = i32_load(j1 + 1051648u);
   i32_store(j0, i1);
 }
 
@@ -61373,7 +61710,7 @@ static void f59(module *self, u64 p0, u32 p1, u32 p2, u32 p3) {
   j1 = 65535ull;
   j0 &= j1;
   i0 = (u32)(j0);
-  i0 = i32_load8_u(j0 + 1049776u);
+  i0 = i32_load8_u(j0 + 1051888u);
   l6 = i0;
   B1:;
   j0 = l4;
@@ -61451,7 +61788,7 @@ static void f59(module *self, u64 p0, u32 p1, u32 p2, u32 p3) {
   j1 = 65535ull;
   j0 &= j1;
   i0 = (u32)(j0);
-  i0 = i32_load8_u(j0 + 1049776u);
+  i0 = i32_load8_u(j0 + 1051888u);
   l6 = i0;
   B5:;
   j0 = l4;
@@ -61672,7 +62009,7 @@ static void f60(module *self, u64 p0, u64 p1, u64 p2, u32 p3, u64 p4) {
   j1 <<= (j2 & 63);
   p2 = j1;
   i1 = (u32)(j1);
-  i1 = i32_load(j1 + 1049548u);
+  i1 = i32_load(j1 + 1051664u);
   i32_store(j0, i1);
   j0 = p1;
   j1 = 60ull;
@@ -61680,7 +62017,7 @@ static void f60(module *self, u64 p0, u64 p1, u64 p2, u32 p3, u64 p4) {
   i0 = (u32)(j0);
   j1 = p2;
   i1 = (u32)(j1);
-  i1 = i32_load(j1 + 1049532u);
+  i1 = i32_load(j1 + 1051648u);
   i32_store(j0, i1);
   j0 = p1;
   j1 = 72ull;
@@ -62007,7 +62344,7 @@ static void f60(module *self, u64 p0, u64 p1, u64 p2, u32 p3, u64 p4) {
   j1 <<= (j2 & 63);
   l28 = j1;
   i1 = (u32)(j1);
-  i1 = i32_load(j1 + 1049548u);
+  i1 = i32_load(j1 + 1051664u);
   i32_store(j0, i1);
   j0 = p1;
   j1 = 60ull;
@@ -62015,7 +62352,7 @@ static void f60(module *self, u64 p0, u64 p1, u64 p2, u32 p3, u64 p4) {
   i0 = (u32)(j0);
   j1 = l28;
   i1 = (u32)(j1);
-  i1 = i32_load(j1 + 1049532u);
+  i1 = i32_load(j1 + 1051648u);
   i32_store(j0, i1);
   j0 = p1;
   j1 = 72ull;
@@ -63102,7 +63439,7 @@ static void f61(module *self, u64 p0, u64 p1, u32 p2, u32 p3, u32 p4, u32 p5) {
   j1 <<= (j2 & 63);
   p1 = j1;
   i1 = (u32)(j1);
-  i1 = i32_load(j1 + 1049548u);
+  i1 = i32_load(j1 + 1051664u);
   i32_store(j0, i1);
   j0 = p0;
   j1 = 60ull;
@@ -63111,7 +63448,7 @@ static void f61(module *self, u64 p0, u64 p1, u32 p2, u32 p3, u32 p4, u32 p5) {
   i0 = (u32)(j0);
   j1 = p1;
   i1 = (u32)(j1);
-  i1 = i32_load(j1 + 1049532u);
+  i1 = i32_load(j1 + 1051648u);
   i32_store(j0, i1);
   j0 = p0;
   j1 = 72ull;
@@ -63521,13 +63858,13 @@ static void f61(module *self, u64 p0, u64 p1, u32 p2, u32 p3, u32 p4, u32 p5) {
   j1 <<= (j2 & 63);
   p0 = j1;
   i1 = (u32)(j1);
-  i1 = i32_load(j1 + 1049548u);
+  i1 = i32_load(j1 + 1051664u);
   i32_store(j0, i1);
   j0 = l19;
   i0 = (u32)(j0);
   j1 = p0;
   i1 = (u32)(j1);
-  i1 = i32_load(j1 + 1049532u);
+  i1 = i32_load(j1 + 1051648u);
   i32_store(j0, i1);
   j0 = l20;
   i0 = (u32)(j0);
@@ -65348,7 +65685,8 @@ static void f66(module *self, u64 p0, u32 p1, u32 p2, u32 p3) {
       l14 = 0, l15 = 0, l16 = 0;
   u64 l4 = 0, l5 = 0;
   u8 *m = self->memory;
-  u32 i0, i1, i2, i3, i4, i5, i6;
+  u32 i0, i1, i2, i3, i4, i5, i6, i7, 
+      i8;
   u64 j0, j1, j2, j3;
   j0 = self->g0;
   j1 = 16ull;
@@ -65377,26 +65715,62 @@ static void f66(module *self, u64 p0, u32 p1, u32 p2, u32 p3) {
   i1 = (u32)(j1);
   j1 = i64_load(j1);
   i64_store(j0, j1);
-  i0 = p3;
-  j1 = p0;
-  j2 = l4;
-  i3 = p1;
-  i4 = p2;
+  j0 = p0;
+  j1 = l4;
+  i2 = p1;
+  i3 = p2;
+  i4 = 0u;
+  i5 = 786432u;
+  i6 = p2;
+  i5 -= i6;
+  l7 = i5;
+  i6 = l7;
+  i7 = 786432u;
+  i6 = i6 > i7;
+  i4 = i6 ? i4 : i5;
+  l7 = i4;
   i5 = p3;
-  i6 = l6;
-  i1 = f67(self, j1, j2, i3, i4, i5, i6);
-  l7 = i1;
-  i0 = i0 <= i1;
-  if (i0) {goto B0;}
-  i0 = p3;
-  i1 = l7;
-  i0 -= i1;
+  i6 = l7;
+  i7 = p3;
+  i6 = i6 < i7;
+  i4 = i6 ? i4 : i5;
+  l7 = i4;
+  i5 = 0u;
+  i6 = 786432u;
+  i7 = p1;
+  i6 -= i7;
+  l8 = i6;
+  i7 = l8;
+  i8 = 786432u;
+  i7 = i7 > i8;
+  i5 = i7 ? i5 : i6;
+  l8 = i5;
+  i6 = p3;
+  i7 = l8;
+  i8 = p3;
+  i7 = i7 < i8;
+  i5 = i7 ? i5 : i6;
+  p3 = i5;
+  i6 = l7;
+  i7 = p3;
+  i6 = i6 > i7;
+  i4 = i6 ? i4 : i5;
+  p3 = i4;
+  i5 = l6;
+  i0 = f67(self, j0, j1, i2, i3, i4, i5);
   l8 = i0;
+  i1 = p3;
+  i0 = i0 >= i1;
+  if (i0) {goto B0;}
+  i0 = l8;
+  i1 = p3;
+  i0 -= i1;
+  l7 = i0;
   i0 = l6;
   i1 = 2u;
   i0 &= i1;
   l6 = i0;
-  i0 = l7;
+  i0 = l8;
   i1 = p1;
   i0 += i1;
   j1 = l4;
@@ -65405,15 +65779,15 @@ static void f66(module *self, u64 p0, u32 p1, u32 p2, u32 p3) {
   p1 = i1;
   i0 -= i1;
   p3 = i0;
-  i0 = l7;
+  i0 = l8;
   i1 = p2;
   i0 += i1;
   i1 = p1;
   i0 -= i1;
-  p2 = i0;
+  p1 = i0;
   i1 = 3u;
   i0 <<= (i1 & 31);
-  p1 = i0;
+  p2 = i0;
   j0 = l4;
   i0 = (u32)(j0);
   i0 = i32_load8_u(j0 + 13u);
@@ -65446,20 +65820,20 @@ static void f66(module *self, u64 p0, u32 p1, u32 p2, u32 p3) {
     i2 = l14;
     i1 = i1 < i2;
     i0 &= i1;
-    l7 = i0;
+    l8 = i0;
     i0 = l9;
     i1 = 1u;
     i0 &= i1;
     i0 = !(i0);
     if (i0) {goto B3;}
-    i0 = l7;
+    i0 = l8;
     if (i0) {goto B5;}
     j0 = p0;
     j1 = 24ull;
     j0 += j1;
     i0 = (u32)(j0);
     i0 = i32_load(j0);
-    l7 = i0;
+    l8 = i0;
     goto B4;
     B5:;
     j0 = p0;
@@ -65492,23 +65866,23 @@ static void f66(module *self, u64 p0, u32 p1, u32 p2, u32 p3) {
     j1 += j2;
     i1 = (u32)(j1);
     i1 = i32_load(j1);
-    l7 = i1;
+    l8 = i1;
     i32_store(j0, i1);
     B4:;
     i0 = l6;
     i0 = !(i0);
     if (i0) {goto B2;}
-    i0 = p2;
+    i0 = p1;
     i1 = l14;
     i0 = i0 >= i1;
     if (i0) {goto B2;}
-    i0 = p2;
+    i0 = p1;
     i1 = 4294967292u;
     i0 &= i1;
-    i1 = p2;
+    i1 = p1;
     i2 = 4294967294u;
     i1 &= i2;
-    i2 = p2;
+    i2 = p1;
     i3 = l12;
     i4 = 1u;
     i3 &= i4;
@@ -65523,7 +65897,7 @@ static void f66(module *self, u64 p0, u32 p1, u32 p2, u32 p3) {
     i0 = !(i0);
     if (i0) {goto B7;}
     i0 = 134480385u;
-    i1 = p1;
+    i1 = p2;
     i2 = 24u;
     i1 &= i2;
     i0 >>= (i1 & 31);
@@ -65533,7 +65907,7 @@ static void f66(module *self, u64 p0, u32 p1, u32 p2, u32 p3) {
     i0 = 15u;
     i1 = 10u;
     i2 = 5u;
-    i3 = p2;
+    i3 = p1;
     i4 = 1u;
     i3 &= i4;
     i1 = i3 ? i1 : i2;
@@ -65555,7 +65929,7 @@ static void f66(module *self, u64 p0, u32 p1, u32 p2, u32 p3) {
     j0 += j1;
     l5 = j0;
     i0 = (u32)(j0);
-    i1 = l7;
+    i1 = l8;
     j2 = l5;
     i2 = (u32)(j2);
     i2 = i32_load(j2);
@@ -65581,7 +65955,7 @@ static void f66(module *self, u64 p0, u32 p1, u32 p2, u32 p3) {
     B3:;
     i0 = 255u;
     l15 = i0;
-    i0 = l7;
+    i0 = l8;
     i0 = !(i0);
     if (i0) {goto B8;}
     j0 = p0;
@@ -65610,7 +65984,7 @@ static void f66(module *self, u64 p0, u32 p1, u32 p2, u32 p3) {
     j0 += j1;
     i0 = (u32)(j0);
     i0 = i32_load(j0);
-    l7 = i0;
+    l8 = i0;
     j0 = p0;
     j1 = 52ull;
     j0 += j1;
@@ -65635,7 +66009,7 @@ static void f66(module *self, u64 p0, u32 p1, u32 p2, u32 p3) {
     j0 += j1;
     i0 = (u32)(j0);
     i0 = i32_load(j0);
-    i1 = l7;
+    i1 = l8;
     i0 ^= i1;
     j1 = p0;
     j2 = 54ull;
@@ -65708,7 +66082,7 @@ static void f66(module *self, u64 p0, u32 p1, u32 p2, u32 p3) {
     i0 &= i1;
     l15 = i0;
     B11:;
-    i0 = l7;
+    i0 = l8;
     i1 = l15;
     i2 = 3u;
     i1 <<= (i2 & 31);
@@ -65719,7 +66093,7 @@ static void f66(module *self, u64 p0, u32 p1, u32 p2, u32 p3) {
     j1 = 24ull;
     j0 += j1;
     i0 = (u32)(j0);
-    i1 = l7;
+    i1 = l8;
     i32_store(j0, i1);
     B8:;
     j0 = p0;
@@ -65730,21 +66104,21 @@ static void f66(module *self, u64 p0, u32 p1, u32 p2, u32 p3) {
     i1 = i32_load8_u(j1);
     i2 = l15;
     i0 = f46(self, j0, i1, i2);
-    l7 = i0;
+    l8 = i0;
     i0 = l6;
     i0 = !(i0);
     if (i0) {goto B2;}
-    i0 = p2;
+    i0 = p1;
     i1 = l14;
     i0 = i0 >= i1;
     if (i0) {goto B2;}
-    i0 = p2;
+    i0 = p1;
     i1 = 4294967292u;
     i0 &= i1;
-    i1 = p2;
+    i1 = p1;
     i2 = 4294967294u;
     i1 &= i2;
-    i2 = p2;
+    i2 = p1;
     i3 = l12;
     i4 = 1u;
     i3 &= i4;
@@ -65759,7 +66133,7 @@ static void f66(module *self, u64 p0, u32 p1, u32 p2, u32 p3) {
     i0 = !(i0);
     if (i0) {goto B15;}
     i0 = 134480385u;
-    i1 = p1;
+    i1 = p2;
     i2 = 24u;
     i1 &= i2;
     i0 >>= (i1 & 31);
@@ -65769,7 +66143,7 @@ static void f66(module *self, u64 p0, u32 p1, u32 p2, u32 p3) {
     i0 = 15u;
     i1 = 10u;
     i2 = 5u;
-    i3 = p2;
+    i3 = p1;
     i4 = 1u;
     i3 &= i4;
     i1 = i3 ? i1 : i2;
@@ -65791,7 +66165,7 @@ static void f66(module *self, u64 p0, u32 p1, u32 p2, u32 p3) {
     j0 += j1;
     l5 = j0;
     i0 = (u32)(j0);
-    i1 = l7;
+    i1 = l8;
     j2 = l5;
     i2 = (u32)(j2);
     i2 = i32_load(j2);
@@ -65814,22 +66188,22 @@ static void f66(module *self, u64 p0, u32 p1, u32 p2, u32 p3) {
     i1 ^= i2;
     i32_store(j0, i1);
     B2:;
-    i0 = p2;
+    i0 = p1;
     i1 = 1u;
     i0 += i1;
-    p2 = i0;
-    i0 = p1;
+    p1 = i0;
+    i0 = p2;
     i1 = 8u;
     i0 += i1;
-    p1 = i0;
+    p2 = i0;
     i0 = p3;
     i1 = 1u;
     i0 += i1;
     p3 = i0;
-    i0 = l8;
-    i1 = 4294967295u;
+    i0 = l7;
+    i1 = 1u;
     i0 += i1;
-    l8 = i0;
+    l7 = i0;
     if (i0) {goto L1;}
   B0:;
   j0 = l4;
@@ -67736,7 +68110,7 @@ static void f71(module *self, u64 p0, u64 p1, u32 p2, u32 p3) {
   j1 <<= (j2 & 63);
   l5 = j1;
   i1 = (u32)(j1);
-  i1 = i32_load(j1 + 1049532u);
+  i1 = i32_load(j1 + 1051648u);
   i32_store(j0, i1);
   j0 = p1;
   j1 = 64ull;
@@ -67744,7 +68118,7 @@ static void f71(module *self, u64 p0, u64 p1, u32 p2, u32 p3) {
   i0 = (u32)(j0);
   j1 = l5;
   i1 = (u32)(j1);
-  i1 = i32_load(j1 + 1049548u);
+  i1 = i32_load(j1 + 1051664u);
   i32_store(j0, i1);
   j0 = p1;
   j1 = 72ull;
@@ -68081,7 +68455,7 @@ static void f72(module *self, u64 p0, u64 p1, u32 p2, u32 p3, u32 p4) {
   j1 = 65535ull;
   j0 &= j1;
   i0 = (u32)(j0);
-  i0 = i32_load8_u(j0 + 1049776u);
+  i0 = i32_load8_u(j0 + 1051888u);
   l8 = i0;
   B1:;
   j0 = l5;
@@ -68175,7 +68549,7 @@ static void f72(module *self, u64 p0, u64 p1, u32 p2, u32 p3, u32 p4) {
   j1 = 65535ull;
   j0 &= j1;
   i0 = (u32)(j0);
-  i0 = i32_load8_u(j0 + 1049776u);
+  i0 = i32_load8_u(j0 + 1051888u);
   l8 = i0;
   B5:;
   j0 = l5;
@@ -77060,315 +77434,7 @@ static void f78(module *self, u64 p0, u64 p1, u32 p2) {
   i64_store(j0, j1);
 }
 
-static void f79(module *self, u64 p0, u64 p1, u32 p2, u32 p3, u32 p4) {
-  u32 l5 = 0, l6 = 0, l7 = 0, l8 = 0;
-  u8 *m = self->memory;
-  u32 i0, i1, i2, i3, i4, i5;
-  u64 j0, j1, j2, j3;
-  i0 = p2;
-  i0 = !(i0);
-  if (i0) {goto B3;}
-  j0 = p1;
-  i1 = p2;
-  i2 = p3;
-  i0 = f80(self, j0, i1, i2);
-  i0 = !(i0);
-  if (i0) {goto B2;}
-  B3:;
-  i0 = 1u;
-  l5 = i0;
-  j0 = p1;
-  j1 = 2003ull;
-  j0 += j1;
-  i0 = (u32)(j0);
-  i0 = i32_load8_u(j0);
-  i1 = 2u;
-  i0 &= i1;
-  i0 = !(i0);
-  if (i0) {goto B0;}
-  i0 = p3;
-  j1 = p1;
-  j2 = 60ull;
-  j1 += j2;
-  i1 = (u32)(j1);
-  i1 = i32_load(j1);
-  i0 -= i1;
-  p3 = i0;
-  j1 = p1;
-  j2 = 64ull;
-  j1 += j2;
-  i1 = (u32)(j1);
-  i1 = i32_load(j1);
-  i0 = i0 >= i1;
-  if (i0) {goto B0;}
-  j0 = p1;
-  j1 = 71ull;
-  j0 += j1;
-  i0 = (u32)(j0);
-  i0 = i32_load8_u(j0);
-  l5 = i0;
-  j0 = p1;
-  j1 = 70ull;
-  j0 += j1;
-  i0 = (u32)(j0);
-  i0 = i32_load8_u(j0);
-  l6 = i0;
-  j0 = p1;
-  j1 = 69ull;
-  j0 += j1;
-  i0 = (u32)(j0);
-  i0 = i32_load8_u(j0);
-  l7 = i0;
-  j0 = p1;
-  j1 = p1;
-  j2 = 72ull;
-  j1 += j2;
-  i1 = (u32)(j1);
-  i1 = i32_load8_u(j1);
-  i2 = p4;
-  i0 = f46(self, j0, i1, i2);
-  p4 = i0;
-  j0 = p1;
-  j1 = 68ull;
-  j0 += j1;
-  i0 = (u32)(j0);
-  i0 = i32_load8_u(j0);
-  l8 = i0;
-  i1 = 1u;
-  i0 &= i1;
-  i0 = !(i0);
-  if (i0) {goto B5;}
-  i0 = 134480385u;
-  i1 = p3;
-  i2 = 3u;
-  i1 <<= (i2 & 31);
-  i0 >>= (i1 & 31);
-  l6 = i0;
-  goto B4;
-  B5:;
-  i0 = 15u;
-  i1 = 10u;
-  i2 = 5u;
-  i3 = p3;
-  i4 = 1u;
-  i3 &= i4;
-  i1 = i3 ? i1 : i2;
-  i2 = l6;
-  i3 = 1u;
-  i2 &= i3;
-  i0 = i2 ? i0 : i1;
-  l6 = i0;
-  B4:;
-  j0 = p1;
-  i0 = (u32)(j0);
-  j0 = i64_load(j0);
-  i1 = p3;
-  i2 = 65532u;
-  i1 &= i2;
-  i2 = p3;
-  i3 = 65534u;
-  i2 &= i3;
-  i3 = p3;
-  i4 = l7;
-  i5 = 1u;
-  i4 &= i5;
-  i2 = i4 ? i2 : i3;
-  i3 = l8;
-  i4 = 1u;
-  i3 &= i4;
-  i1 = i3 ? i1 : i2;
-  j1 = (u64)(i1);
-  j2 = 65535ull;
-  j1 &= j2;
-  j2 = 2ull;
-  j1 <<= (j2 & 63);
-  j0 += j1;
-  p1 = j0;
-  i0 = (u32)(j0);
-  i1 = p4;
-  j2 = p1;
-  i2 = (u32)(j2);
-  i2 = i32_load(j2);
-  p3 = i2;
-  i1 ^= i2;
-  i2 = l6;
-  i3 = l5;
-  i2 &= i3;
-  i3 = 2u;
-  i2 <<= (i3 & 31);
-  j2 = (u64)(i2);
-  j3 = 60ull;
-  j2 &= j3;
-  j3 = 1048844ull;
-  j2 += j3;
-  i2 = (u32)(j2);
-  i2 = i32_load(j2);
-  i1 &= i2;
-  i2 = p3;
-  i1 ^= i2;
-  i32_store(j0, i1);
-  goto B1;
-  B2:;
-  j0 = p1;
-  i1 = p2;
-  i2 = p3;
-  i0 = f81(self, j0, i1, i2); m = self->memory; if (NEVER(self->is_broken)) return;
-  p2 = i0;
-  i0 = 1u;
-  l5 = i0;
-  j0 = p1;
-  j1 = 2003ull;
-  j0 += j1;
-  i0 = (u32)(j0);
-  i0 = i32_load8_u(j0);
-  i1 = 2u;
-  i0 &= i1;
-  i0 = !(i0);
-  if (i0) {goto B0;}
-  i0 = p3;
-  j1 = p1;
-  j2 = 60ull;
-  j1 += j2;
-  i1 = (u32)(j1);
-  i1 = i32_load(j1);
-  i0 -= i1;
-  p3 = i0;
-  j1 = p1;
-  j2 = 64ull;
-  j1 += j2;
-  i1 = (u32)(j1);
-  i1 = i32_load(j1);
-  i0 = i0 >= i1;
-  if (i0) {goto B0;}
-  j0 = p1;
-  j1 = 71ull;
-  j0 += j1;
-  i0 = (u32)(j0);
-  i0 = i32_load8_u(j0);
-  l5 = i0;
-  j0 = p1;
-  j1 = 70ull;
-  j0 += j1;
-  i0 = (u32)(j0);
-  i0 = i32_load8_u(j0);
-  l6 = i0;
-  j0 = p1;
-  j1 = 69ull;
-  j0 += j1;
-  i0 = (u32)(j0);
-  i0 = i32_load8_u(j0);
-  l7 = i0;
-  j0 = p1;
-  j1 = p1;
-  j2 = 72ull;
-  j1 += j2;
-  i1 = (u32)(j1);
-  i1 = i32_load8_u(j1);
-  i2 = p4;
-  i0 = f46(self, j0, i1, i2);
-  p4 = i0;
-  j0 = p1;
-  j1 = 68ull;
-  j0 += j1;
-  i0 = (u32)(j0);
-  i0 = i32_load8_u(j0);
-  l8 = i0;
-  i1 = 1u;
-  i0 &= i1;
-  i0 = !(i0);
-  if (i0) {goto B7;}
-  i0 = 134480385u;
-  i1 = p3;
-  i2 = 3u;
-  i1 <<= (i2 & 31);
-  i0 >>= (i1 & 31);
-  l6 = i0;
-  goto B6;
-  B7:;
-  i0 = 15u;
-  i1 = 10u;
-  i2 = 5u;
-  i3 = p3;
-  i4 = 1u;
-  i3 &= i4;
-  i1 = i3 ? i1 : i2;
-  i2 = l6;
-  i3 = 1u;
-  i2 &= i3;
-  i0 = i2 ? i0 : i1;
-  l6 = i0;
-  B6:;
-  j0 = p1;
-  i0 = (u32)(j0);
-  j0 = i64_load(j0);
-  i1 = p3;
-  i2 = 65532u;
-  i1 &= i2;
-  i2 = p3;
-  i3 = 65534u;
-  i2 &= i3;
-  i3 = p3;
-  i4 = l7;
-  i5 = 1u;
-  i4 &= i5;
-  i2 = i4 ? i2 : i3;
-  i3 = l8;
-  i4 = 1u;
-  i3 &= i4;
-  i1 = i3 ? i1 : i2;
-  j1 = (u64)(i1);
-  j2 = 65535ull;
-  j1 &= j2;
-  j2 = 2ull;
-  j1 <<= (j2 & 63);
-  j0 += j1;
-  p1 = j0;
-  i0 = (u32)(j0);
-  i1 = p4;
-  j2 = p1;
-  i2 = (u32)(j2);
-  i2 = i32_load(j2);
-  p3 = i2;
-  i1 ^= i2;
-  i2 = l6;
-  i3 = l5;
-  i2 &= i3;
-  i3 = 2u;
-  i2 <<= (i3 & 31);
-  j2 = (u64)(i2);
-  j3 = 60ull;
-  j2 &= j3;
-  j3 = 1048844ull;
-  j2 += j3;
-  i2 = (u32)(j2);
-  i2 = i32_load(j2);
-  i1 &= i2;
-  i2 = p3;
-  i1 ^= i2;
-  i32_store(j0, i1);
-  B1:;
-  i0 = 0u;
-  l5 = i0;
-  B0:;
-  j0 = p0;
-  i0 = (u32)(j0);
-  i1 = p2;
-  i32_store(j0, i1);
-  j0 = p0;
-  j1 = 5ull;
-  j0 += j1;
-  i0 = (u32)(j0);
-  i1 = 0u;
-  i32_store8(j0, i1);
-  j0 = p0;
-  j1 = 4ull;
-  j0 += j1;
-  i0 = (u32)(j0);
-  i1 = l5;
-  i32_store8(j0, i1);
-}
-
-static u32 f80(module *self, u64 p0, u32 p1, u32 p2) {
+static u32 f79(module *self, u64 p0, u32 p1, u32 p2) {
   u32 l3 = 0, l4 = 0, l5 = 0, l6 = 0, l7 = 0;
   u64 l8 = 0;
   u8 *m = self->memory;
@@ -77621,7 +77687,7 @@ static u32 f80(module *self, u64 p0, u32 p1, u32 p2) {
   return i0;
 }
 
-static u32 f81(module *self, u64 p0, u32 p1, u32 p2) {
+static u32 f80(module *self, u64 p0, u32 p1, u32 p2) {
   u32 l3 = 0, l4 = 0, l5 = 0, l6 = 0, l7 = 0;
   u8 *m = self->memory;
   u32 i0, i1, i2, i3, i4, i5;
@@ -77719,7 +77785,7 @@ static u32 f81(module *self, u64 p0, u32 p1, u32 p2) {
   j0 = p0;
   i1 = l3;
   i2 = p2;
-  i0 = f80(self, j0, i1, i2);
+  i0 = f79(self, j0, i1, i2);
   if (i0) {goto B3;}
   j0 = p0;
   i1 = l3;
@@ -77731,7 +77797,7 @@ static u32 f81(module *self, u64 p0, u32 p1, u32 p2) {
   return i0;
 }
 
-static u32 f82(module *self, u64 p0, u64 p1, u32 p2, u64 p3, u64 p4, u32 p5) {
+static u32 f81(module *self, u64 p0, u64 p1, u32 p2, u64 p3, u64 p4, u32 p5) {
   u32 l6 = 0, l7 = 0, l8 = 0, l9 = 0, l10 = 0, l11 = 0, l12 = 0;
   u8 *m = self->memory;
   u32 i0, i1, i2, i3;
@@ -78075,7 +78141,7 @@ static u32 f82(module *self, u64 p0, u64 p1, u32 p2, u64 p3, u64 p4, u32 p5) {
   return i0;
 }
 
-static u32 f83(module *self, u64 p0, u64 p1, u64 p2) {
+static u32 f82(module *self, u64 p0, u64 p1, u64 p2) {
   u32 l10 = 0, l11 = 0, l12 = 0, l13 = 0, l14 = 0, l15 = 0, l16 = 0, l17 = 0, 
       l18 = 0, l19 = 0, l20 = 0, l21 = 0, l22 = 0, l23 = 0, l24 = 0, l25 = 0, 
       l26 = 0, l27 = 0;
@@ -78923,13 +78989,13 @@ static u32 f83(module *self, u64 p0, u64 p1, u64 p2) {
   j1 = 14ull;
   j0 += j1;
   j1 = l7;
-  f84(self, j0, j1);
+  f83(self, j0, j1);
   j0 = l3;
   j1 = 14ull;
   j0 += j1;
   j1 = l6;
   j2 = l5;
-  i0 = f85(self, j0, j1, j2);
+  i0 = f84(self, j0, j1, j2);
   i0 = !(i0);
   if (i0) {goto B0;}
   j0 = p0;
@@ -79069,7 +79135,7 @@ static u32 f83(module *self, u64 p0, u64 p1, u64 p2) {
   return i0;
 }
 
-static void f84(module *self, u64 p0, u64 p1) {
+static void f83(module *self, u64 p0, u64 p1) {
   u32 l2 = 0, l3 = 0, l4 = 0, l5 = 0, l6 = 0, l7 = 0, l8 = 0;
   u8 *m = self->memory;
   u32 i0, i1, i2;
@@ -79162,7 +79228,7 @@ static void f84(module *self, u64 p0, u64 p1) {
   i32_store8(j0 + 11, i1);
 }
 
-static u32 f85(module *self, u64 p0, u64 p1, u64 p2) {
+static u32 f84(module *self, u64 p0, u64 p1, u64 p2) {
   u32 l3 = 0, l4 = 0, l5 = 0, l6 = 0, l7 = 0, l8 = 0, l9 = 0, l10 = 0;
   u64 l11 = 0;
   u8 *m = self->memory;
@@ -79296,7 +79362,7 @@ static u32 f85(module *self, u64 p0, u64 p1, u64 p2) {
   return i0;
 }
 
-static void f86(module *self, u64 p0, u64 p1, u64 p2, u64 p3, u64 p4, u64 p5, u64 p6) {
+static void f85(module *self, u64 p0, u64 p1, u64 p2, u64 p3, u64 p4, u64 p5, u64 p6) {
   u32 l15 = 0, l16 = 0, l17 = 0, l18 = 0, l19 = 0;
   u64 l7 = 0, l8 = 0, l9 = 0, l10 = 0, l11 = 0, l12 = 0, l13 = 0, l14 = 0;
   u8 *m = self->memory;
@@ -79497,7 +79563,7 @@ static void f86(module *self, u64 p0, u64 p1, u64 p2, u64 p3, u64 p4, u64 p5, u6
   j1 = 208ull;
   j0 += j1;
   j1 = p3;
-  f87(self, j0, j1); if (NEVER(self->is_broken)) return;
+  f86(self, j0, j1); if (NEVER(self->is_broken)) return;
   j0 = l7;
   i0 = (u32)(j0);
   j0 = i64_load(j0 + 264u);
@@ -80134,7 +80200,7 @@ static void f86(module *self, u64 p0, u64 p1, u64 p2, u64 p3, u64 p4, u64 p5, u6
   if (i0) {goto B19;}
   j0 = p1;
   j1 = p3;
-  i0 = f88(self, j0, j1); m = self->memory; if (NEVER(self->is_broken)) return;
+  i0 = f87(self, j0, j1); m = self->memory; if (NEVER(self->is_broken)) return;
   i0 = !(i0);
   if (i0) {goto B6;}
   j0 = p1;
@@ -80278,7 +80344,7 @@ static void f86(module *self, u64 p0, u64 p1, u64 p2, u64 p3, u64 p4, u64 p5, u6
   if (i0) {goto B27;}
   j0 = p1;
   j1 = 7ull;
-  i0 = f88(self, j0, j1); m = self->memory; if (NEVER(self->is_broken)) return;
+  i0 = f87(self, j0, j1); m = self->memory; if (NEVER(self->is_broken)) return;
   i0 = !(i0);
   if (i0) {goto B26;}
   j0 = l10;
@@ -80362,7 +80428,7 @@ static void f86(module *self, u64 p0, u64 p1, u64 p2, u64 p3, u64 p4, u64 p5, u6
     if (i0) {goto B32;}
     j0 = p1;
     j1 = 2ull;
-    i0 = f88(self, j0, j1); m = self->memory; if (NEVER(self->is_broken)) return;
+    i0 = f87(self, j0, j1); m = self->memory; if (NEVER(self->is_broken)) return;
     i0 = !(i0);
     if (i0) {goto B30;}
     j0 = p1;
@@ -80493,11 +80559,11 @@ static void f86(module *self, u64 p0, u64 p1, u64 p2, u64 p3, u64 p4, u64 p5, u6
   j0 <<= (j1 & 63);
   p3 = j0;
   i0 = (u32)(j0);
-  j0 = i64_load(j0 + 1049672u);
+  j0 = i64_load(j0 + 1051784u);
   p4 = j0;
   j0 = p3;
   i0 = (u32)(j0);
-  j0 = i64_load(j0 + 1049568u);
+  j0 = i64_load(j0 + 1051680u);
   l13 = j0;
   j1 = p2;
   j2 = 72ull;
@@ -80904,7 +80970,7 @@ static void f86(module *self, u64 p0, u64 p1, u64 p2, u64 p3, u64 p4, u64 p5, u6
   if (i0) {goto B51;}
   j0 = p1;
   j1 = 10ull;
-  i0 = f88(self, j0, j1); m = self->memory; if (NEVER(self->is_broken)) return;
+  i0 = f87(self, j0, j1); m = self->memory; if (NEVER(self->is_broken)) return;
   i0 = !(i0);
   if (i0) {goto B50;}
   j0 = p1;
@@ -81090,7 +81156,7 @@ static void f86(module *self, u64 p0, u64 p1, u64 p2, u64 p3, u64 p4, u64 p5, u6
   if (i0) {goto B55;}
   j0 = p1;
   j1 = 11ull;
-  i0 = f88(self, j0, j1); m = self->memory; if (NEVER(self->is_broken)) return;
+  i0 = f87(self, j0, j1); m = self->memory; if (NEVER(self->is_broken)) return;
   i0 = !(i0);
   if (i0) {goto B54;}
   j0 = p1;
@@ -81292,7 +81358,7 @@ static void f86(module *self, u64 p0, u64 p1, u64 p2, u64 p3, u64 p4, u64 p5, u6
   if (i0) {goto B59;}
   j0 = p1;
   j1 = 12ull;
-  i0 = f88(self, j0, j1); m = self->memory; if (NEVER(self->is_broken)) return;
+  i0 = f87(self, j0, j1); m = self->memory; if (NEVER(self->is_broken)) return;
   i0 = !(i0);
   if (i0) {goto B58;}
   j0 = p1;
@@ -81494,7 +81560,7 @@ static void f86(module *self, u64 p0, u64 p1, u64 p2, u64 p3, u64 p4, u64 p5, u6
   if (i0) {goto B63;}
   j0 = p1;
   j1 = p3;
-  i0 = f88(self, j0, j1); m = self->memory; if (NEVER(self->is_broken)) return;
+  i0 = f87(self, j0, j1); m = self->memory; if (NEVER(self->is_broken)) return;
   i0 = !(i0);
   if (i0) {goto B62;}
   j0 = p1;
@@ -81695,7 +81761,7 @@ static void f86(module *self, u64 p0, u64 p1, u64 p2, u64 p3, u64 p4, u64 p5, u6
   if (i0) {goto B70;}
   j0 = p1;
   j1 = 1ull;
-  i0 = f88(self, j0, j1); m = self->memory; if (NEVER(self->is_broken)) return;
+  i0 = f87(self, j0, j1); m = self->memory; if (NEVER(self->is_broken)) return;
   i0 = !(i0);
   if (i0) {goto B69;}
   j0 = l10;
@@ -81808,7 +81874,7 @@ static void f86(module *self, u64 p0, u64 p1, u64 p2, u64 p3, u64 p4, u64 p5, u6
   self->g0 = j0;
 }
 
-static void f87(module *self, u64 p0, u64 p1) {
+static void f86(module *self, u64 p0, u64 p1) {
   u32 l6 = 0, l7 = 0;
   u64 l2 = 0, l3 = 0, l4 = 0, l5 = 0;
   u8 *m = self->memory;
@@ -82088,7 +82154,7 @@ static void f87(module *self, u64 p0, u64 p1) {
   B8:;
 }
 
-static u32 f88(module *self, u64 p0, u64 p1) {
+static u32 f87(module *self, u64 p0, u64 p1) {
   u32 l6 = 0;
   u64 l2 = 0, l3 = 0, l4 = 0, l5 = 0;
   u8 *m = self->memory;
@@ -82210,7 +82276,7 @@ static u32 f88(module *self, u64 p0, u64 p1) {
   return i0;
 }
 
-static void f89(module *self, u64 p0, u64 p1, u64 p2, u64 p3) {
+static void f88(module *self, u64 p0, u64 p1, u64 p2, u64 p3) {
   u32 l14 = 0, l15 = 0, l16 = 0;
   u64 l4 = 0, l5 = 0, l6 = 0, l7 = 0, l8 = 0, l9 = 0, l10 = 0, l11 = 0, 
       l12 = 0, l13 = 0;
@@ -82396,7 +82462,7 @@ static void f89(module *self, u64 p0, u64 p1, u64 p2, u64 p3) {
   j1 = 1792ull;
   j0 += j1;
   j1 = p2;
-  f87(self, j0, j1); if (NEVER(self->is_broken)) return;
+  f86(self, j0, j1); if (NEVER(self->is_broken)) return;
   i0 = l15;
   i1 = l14;
   i0 *= i1;
@@ -82644,7 +82710,7 @@ static void f89(module *self, u64 p0, u64 p1, u64 p2, u64 p3) {
   if (i0) {goto B14;}
   j0 = p1;
   j1 = p3;
-  i0 = f88(self, j0, j1); m = self->memory; if (NEVER(self->is_broken)) return;
+  i0 = f87(self, j0, j1); m = self->memory; if (NEVER(self->is_broken)) return;
   i0 = !(i0);
   if (i0) {goto B4;}
   j0 = p1;
@@ -82947,7 +83013,7 @@ static void f89(module *self, u64 p0, u64 p1, u64 p2, u64 p3) {
   if (i0) {goto B23;}
   j0 = p1;
   j1 = p3;
-  i0 = f88(self, j0, j1); m = self->memory; if (NEVER(self->is_broken)) return;
+  i0 = f87(self, j0, j1); m = self->memory; if (NEVER(self->is_broken)) return;
   i0 = !(i0);
   if (i0) {goto B3;}
   j0 = p1;
@@ -83018,7 +83084,7 @@ static void f89(module *self, u64 p0, u64 p1, u64 p2, u64 p3) {
   if (i0) {goto B27;}
   j0 = p1;
   j1 = l5;
-  i0 = f88(self, j0, j1); m = self->memory; if (NEVER(self->is_broken)) return;
+  i0 = f87(self, j0, j1); m = self->memory; if (NEVER(self->is_broken)) return;
   i0 = !(i0);
   if (i0) {goto B2;}
   j0 = p1;
@@ -83196,7 +83262,7 @@ static void f89(module *self, u64 p0, u64 p1, u64 p2, u64 p3) {
   if (i0) {goto B34;}
   j0 = p1;
   j1 = 1ull;
-  i0 = f88(self, j0, j1); m = self->memory; if (NEVER(self->is_broken)) return;
+  i0 = f87(self, j0, j1); m = self->memory; if (NEVER(self->is_broken)) return;
   i0 = !(i0);
   if (i0) {goto B33;}
   j0 = p1;
@@ -83293,7 +83359,7 @@ static void f89(module *self, u64 p0, u64 p1, u64 p2, u64 p3) {
   j1 = 1792ull;
   j0 += j1;
   j1 = p2;
-  f87(self, j0, j1); if (NEVER(self->is_broken)) return;
+  f86(self, j0, j1); if (NEVER(self->is_broken)) return;
   j0 = l4;
   i0 = (u32)(j0);
   j0 = i64_load(j0 + 1848u);
@@ -83353,7 +83419,7 @@ static void f89(module *self, u64 p0, u64 p1, u64 p2, u64 p3) {
   if (i0) {goto B37;}
   j0 = p1;
   j1 = p3;
-  i0 = f88(self, j0, j1); m = self->memory; if (NEVER(self->is_broken)) return;
+  i0 = f87(self, j0, j1); m = self->memory; if (NEVER(self->is_broken)) return;
   i0 = !(i0);
   if (i0) {goto B36;}
   j0 = p1;
@@ -83474,7 +83540,7 @@ static void f89(module *self, u64 p0, u64 p1, u64 p2, u64 p3) {
   self->g0 = j0;
 }
 
-static void f90(module *self, u64 p0, u64 p1, u64 p2, u64 p3, u64 p4) {
+static void f89(module *self, u64 p0, u64 p1, u64 p2, u64 p3, u64 p4) {
   u32 l8 = 0;
   u64 l5 = 0, l6 = 0, l7 = 0;
   u8 *m = self->memory;
@@ -83547,7 +83613,7 @@ static void f90(module *self, u64 p0, u64 p1, u64 p2, u64 p3, u64 p4) {
   j1 = 32ull;
   j0 += j1;
   j1 = p2;
-  f87(self, j0, j1); if (NEVER(self->is_broken)) return;
+  f86(self, j0, j1); if (NEVER(self->is_broken)) return;
   j0 = l5;
   i0 = (u32)(j0);
   j0 = i64_load(j0 + 88u);
@@ -83573,7 +83639,7 @@ static void f90(module *self, u64 p0, u64 p1, u64 p2, u64 p3, u64 p4) {
   if (i0) {goto B6;}
   j0 = p1;
   j1 = p4;
-  i0 = f88(self, j0, j1); m = self->memory; if (NEVER(self->is_broken)) return;
+  i0 = f87(self, j0, j1); m = self->memory; if (NEVER(self->is_broken)) return;
   i0 = !(i0);
   if (i0) {goto B4;}
   j0 = p1;
@@ -83632,7 +83698,7 @@ static void f90(module *self, u64 p0, u64 p1, u64 p2, u64 p3, u64 p4) {
   j3 = l5;
   j4 = 26ull;
   j3 += j4;
-  f91(self, j0, j1, j2, j3); m = self->memory; if (NEVER(self->is_broken)) return;
+  f90(self, j0, j1, j2, j3); m = self->memory; if (NEVER(self->is_broken)) return;
   j0 = l5;
   i0 = (u32)(j0);
   i0 = i32_load8_u(j0);
@@ -83730,7 +83796,7 @@ static void f90(module *self, u64 p0, u64 p1, u64 p2, u64 p3, u64 p4) {
   j0 <<= (j1 & 63);
   p2 = j0;
   i0 = (u32)(j0);
-  j0 = i64_load(j0 + 1049568u);
+  j0 = i64_load(j0 + 1051680u);
   p4 = j0;
   i0 = !(j0);
   if (i0) {goto B8;}
@@ -83740,7 +83806,7 @@ static void f90(module *self, u64 p0, u64 p1, u64 p2, u64 p3, u64 p4) {
   i0 = (u32)(j0);
   j1 = p2;
   i1 = (u32)(j1);
-  j1 = i64_load(j1 + 1049672u);
+  j1 = i64_load(j1 + 1051784u);
   i1 = (u32)(j1);
   j2 = p4;
   i2 = (u32)(j2);
@@ -83779,7 +83845,7 @@ static void f90(module *self, u64 p0, u64 p1, u64 p2, u64 p3, u64 p4) {
   if (i0) {goto B10;}
   j0 = p1;
   j1 = p2;
-  i0 = f88(self, j0, j1); m = self->memory; if (NEVER(self->is_broken)) return;
+  i0 = f87(self, j0, j1); m = self->memory; if (NEVER(self->is_broken)) return;
   i0 = !(i0);
   if (i0) {goto B9;}
   j0 = p1;
@@ -83872,7 +83938,7 @@ static void f90(module *self, u64 p0, u64 p1, u64 p2, u64 p3, u64 p4) {
   self->g0 = j0;
 }
 
-static void f91(module *self, u64 p0, u64 p1, u64 p2, u64 p3) {
+static void f90(module *self, u64 p0, u64 p1, u64 p2, u64 p3) {
   u32 l13 = 0, l14 = 0, l15 = 0, l16 = 0, l17 = 0, l18 = 0, l19 = 0, l20 = 0, 
       l21 = 0;
   u64 l4 = 0, l5 = 0, l6 = 0, l7 = 0, l8 = 0, l9 = 0, l10 = 0, l11 = 0, 
@@ -84016,7 +84082,7 @@ static void f91(module *self, u64 p0, u64 p1, u64 p2, u64 p3) {
   j5 = 33ull;
   j4 += j5;
   j5 = 5ull;
-  f92(self, j0, j1, j2, i3, j4, j5);
+  f91(self, j0, j1, j2, i3, j4, j5);
   j0 = l4;
   j1 = 2552ull;
   j0 += j1;
@@ -84031,7 +84097,7 @@ static void f91(module *self, u64 p0, u64 p1, u64 p2, u64 p3) {
   j5 = 105ull;
   j4 += j5;
   j5 = 25ull;
-  f92(self, j0, j1, j2, i3, j4, j5);
+  f91(self, j0, j1, j2, i3, j4, j5);
   j0 = l4;
   j1 = 2552ull;
   j0 += j1;
@@ -84046,7 +84112,7 @@ static void f91(module *self, u64 p0, u64 p1, u64 p2, u64 p3) {
   j5 = 47ull;
   j4 += j5;
   j5 = 9ull;
-  f92(self, j0, j1, j2, i3, j4, j5);
+  f91(self, j0, j1, j2, i3, j4, j5);
   j0 = l4;
   i0 = (u32)(j0);
   j0 = i64_load(j0 + 3336u);
@@ -84584,7 +84650,7 @@ static void f91(module *self, u64 p0, u64 p1, u64 p2, u64 p3) {
   if (i0) {goto B32;}
   j0 = p1;
   j1 = 19ull;
-  i0 = f88(self, j0, j1); m = self->memory; if (NEVER(self->is_broken)) return;
+  i0 = f87(self, j0, j1); m = self->memory; if (NEVER(self->is_broken)) return;
   i0 = !(i0);
   if (i0) {goto B31;}
   j0 = p1;
@@ -86039,7 +86105,7 @@ static void f91(module *self, u64 p0, u64 p1, u64 p2, u64 p3) {
   j1 = 1049312ull;
   j2 = 4ull;
   i3 = l21;
-  f93(self, j0, j1, j2, i3);
+  f92(self, j0, j1, j2, i3);
   j0 = l4;
   i0 = (u32)(j0);
   j0 = i64_load(j0 + 3336u);
@@ -87129,7 +87195,7 @@ static void f91(module *self, u64 p0, u64 p1, u64 p2, u64 p3) {
   if (i0) {goto B119;}
   j0 = p1;
   j1 = p3;
-  i0 = f88(self, j0, j1); m = self->memory; if (NEVER(self->is_broken)) return;
+  i0 = f87(self, j0, j1); m = self->memory; if (NEVER(self->is_broken)) return;
   i0 = !(i0);
   if (i0) {goto B118;}
   j0 = p1;
@@ -87239,7 +87305,7 @@ static void f91(module *self, u64 p0, u64 p1, u64 p2, u64 p3) {
   if (i0) {goto B122;}
   j0 = p1;
   j1 = 20ull;
-  i0 = f88(self, j0, j1); m = self->memory; if (NEVER(self->is_broken)) return;
+  i0 = f87(self, j0, j1); m = self->memory; if (NEVER(self->is_broken)) return;
   i0 = !(i0);
   if (i0) {goto B121;}
   j0 = p1;
@@ -87791,7 +87857,7 @@ static void f91(module *self, u64 p0, u64 p1, u64 p2, u64 p3) {
   if (i0) {goto B129;}
   j0 = p1;
   j1 = p3;
-  i0 = f88(self, j0, j1); m = self->memory; if (NEVER(self->is_broken)) return;
+  i0 = f87(self, j0, j1); m = self->memory; if (NEVER(self->is_broken)) return;
   i0 = !(i0);
   if (i0) {goto B128;}
   j0 = p1;
@@ -87994,7 +88060,7 @@ static void f91(module *self, u64 p0, u64 p1, u64 p2, u64 p3) {
   j3 += j4;
   i3 = (u32)(j3);
   i3 = i32_load16_u(j3);
-  f93(self, j0, j1, j2, i3);
+  f92(self, j0, j1, j2, i3);
   j0 = l4;
   j1 = 2552ull;
   j0 += j1;
@@ -88005,7 +88071,7 @@ static void f91(module *self, u64 p0, u64 p1, u64 p2, u64 p3) {
   j3 += j4;
   i3 = (u32)(j3);
   i3 = i32_load16_u(j3);
-  f93(self, j0, j1, j2, i3);
+  f92(self, j0, j1, j2, i3);
   j0 = l4;
   j1 = 2552ull;
   j0 += j1;
@@ -88016,7 +88082,7 @@ static void f91(module *self, u64 p0, u64 p1, u64 p2, u64 p3) {
   j3 += j4;
   i3 = (u32)(j3);
   i3 = i32_load16_u(j3);
-  f93(self, j0, j1, j2, i3);
+  f92(self, j0, j1, j2, i3);
   j0 = l4;
   i0 = (u32)(j0);
   j0 = i64_load(j0 + 3336u);
@@ -88215,7 +88281,7 @@ static void f91(module *self, u64 p0, u64 p1, u64 p2, u64 p3) {
   j3 += j4;
   i3 = (u32)(j3);
   i3 = i32_load16_u(j3);
-  f93(self, j0, j1, j2, i3);
+  f92(self, j0, j1, j2, i3);
   j0 = l4;
   i0 = (u32)(j0);
   j0 = i64_load(j0 + 3336u);
@@ -88361,7 +88427,7 @@ static void f91(module *self, u64 p0, u64 p1, u64 p2, u64 p3) {
   j3 += j4;
   i3 = (u32)(j3);
   i3 = i32_load16_u(j3);
-  f93(self, j0, j1, j2, i3);
+  f92(self, j0, j1, j2, i3);
   j0 = l4;
   i0 = (u32)(j0);
   j0 = i64_load(j0 + 3336u);
@@ -88507,7 +88573,7 @@ static void f91(module *self, u64 p0, u64 p1, u64 p2, u64 p3) {
   j3 += j4;
   i3 = (u32)(j3);
   i3 = i32_load16_u(j3);
-  f93(self, j0, j1, j2, i3);
+  f92(self, j0, j1, j2, i3);
   j0 = l4;
   i0 = (u32)(j0);
   j0 = i64_load(j0 + 3336u);
@@ -88577,7 +88643,7 @@ static void f91(module *self, u64 p0, u64 p1, u64 p2, u64 p3) {
   if (i0) {goto B149;}
   j0 = p1;
   j1 = p3;
-  i0 = f88(self, j0, j1); m = self->memory; if (NEVER(self->is_broken)) return;
+  i0 = f87(self, j0, j1); m = self->memory; if (NEVER(self->is_broken)) return;
   i0 = !(i0);
   if (i0) {goto B148;}
   j0 = p1;
@@ -88998,7 +89064,7 @@ static void f91(module *self, u64 p0, u64 p1, u64 p2, u64 p3) {
     if (i0) {goto B163;}
     j0 = p1;
     j1 = p3;
-    i0 = f88(self, j0, j1); m = self->memory; if (NEVER(self->is_broken)) return;
+    i0 = f87(self, j0, j1); m = self->memory; if (NEVER(self->is_broken)) return;
     i0 = !(i0);
     if (i0) {goto B151;}
     j0 = p1;
@@ -89463,7 +89529,7 @@ static void f91(module *self, u64 p0, u64 p1, u64 p2, u64 p3) {
   if (i0) {goto B171;}
   j0 = p1;
   j1 = p3;
-  i0 = f88(self, j0, j1); m = self->memory; if (NEVER(self->is_broken)) return;
+  i0 = f87(self, j0, j1); m = self->memory; if (NEVER(self->is_broken)) return;
   i0 = !(i0);
   if (i0) {goto B170;}
   j0 = p1;
@@ -89576,7 +89642,7 @@ static void f91(module *self, u64 p0, u64 p1, u64 p2, u64 p3) {
   self->g0 = j0;
 }
 
-static void f92(module *self, u64 p0, u64 p1, u64 p2, u32 p3, u64 p4, u64 p5) {
+static void f91(module *self, u64 p0, u64 p1, u64 p2, u32 p3, u64 p4, u64 p5) {
   u32 l8 = 0;
   u64 l6 = 0, l7 = 0;
   u8 *m = self->memory;
@@ -89864,7 +89930,7 @@ static void f92(module *self, u64 p0, u64 p1, u64 p2, u32 p3, u64 p4, u64 p5) {
   B3:;
 }
 
-static void f93(module *self, u64 p0, u64 p1, u64 p2, u32 p3) {
+static void f92(module *self, u64 p0, u64 p1, u64 p2, u32 p3) {
   u32 l7 = 0, l8 = 0;
   u64 l4 = 0, l5 = 0, l6 = 0;
   u8 *m = self->memory;
@@ -90086,7 +90152,7 @@ static void f93(module *self, u64 p0, u64 p1, u64 p2, u32 p3) {
   B4:;
 }
 
-static void f94(module *self, u64 p0, u64 p1, u64 p2, u64 p3, u64 p4, u64 p5) {
+static void f93(module *self, u64 p0, u64 p1, u64 p2, u64 p3, u64 p4, u64 p5) {
   u32 l37 = 0, l38 = 0, l39 = 0, l40 = 0, l41 = 0, l42 = 0, l43 = 0, l44 = 0, 
       l45 = 0, l46 = 0;
   u64 l6 = 0, l7 = 0, l8 = 0, l9 = 0, l10 = 0, l11 = 0, l12 = 0, l13 = 0, 
@@ -91776,7 +91842,7 @@ static void f94(module *self, u64 p0, u64 p1, u64 p2, u64 p3, u64 p4, u64 p5) {
     j1 = l6;
     j2 = 48ull;
     j1 += j2;
-    f95(self, j0, j1); if (NEVER(self->is_broken)) return;
+    f94(self, j0, j1); if (NEVER(self->is_broken)) return;
     j0 = l6;
     i0 = (u32)(j0);
     j0 = i64_load(j0 + 96u);
@@ -93437,7 +93503,7 @@ static void f94(module *self, u64 p0, u64 p1, u64 p2, u64 p3, u64 p4, u64 p5) {
     j1 = 65535ull;
     j0 &= j1;
     i0 = (u32)(j0);
-    i0 = i32_load8_u(j0 + 1049776u);
+    i0 = i32_load8_u(j0 + 1051888u);
     l46 = i0;
     B98:;
     j0 = l6;
@@ -94057,7 +94123,7 @@ static void f94(module *self, u64 p0, u64 p1, u64 p2, u64 p3, u64 p4, u64 p5) {
     j4 |= j5;
     j5 = l28;
     j6 = p4;
-    f86(self, j0, j1, j2, j3, j4, j5, j6); m = self->memory; if (NEVER(self->is_broken)) return;
+    f85(self, j0, j1, j2, j3, j4, j5, j6); m = self->memory; if (NEVER(self->is_broken)) return;
     goto B78;
     B90:;
     i0 = l40;
@@ -94089,7 +94155,7 @@ static void f94(module *self, u64 p0, u64 p1, u64 p2, u64 p3, u64 p4, u64 p5) {
     j3 = l6;
     j4 = 152ull;
     j3 += j4;
-    f89(self, j0, j1, j2, j3); m = self->memory; if (NEVER(self->is_broken)) return;
+    f88(self, j0, j1, j2, j3); m = self->memory; if (NEVER(self->is_broken)) return;
     goto B78;
     B88:;
     j0 = l6;
@@ -94125,7 +94191,7 @@ static void f94(module *self, u64 p0, u64 p1, u64 p2, u64 p3, u64 p4, u64 p5) {
     j4 = l6;
     j5 = 48ull;
     j4 += j5;
-    f90(self, j0, j1, j2, j3, j4); m = self->memory; if (NEVER(self->is_broken)) return;
+    f89(self, j0, j1, j2, j3, j4); m = self->memory; if (NEVER(self->is_broken)) return;
     goto B78;
     B87:;
     j0 = p3;
@@ -95077,7 +95143,7 @@ static void f94(module *self, u64 p0, u64 p1, u64 p2, u64 p3, u64 p4, u64 p5) {
     if (i0) {goto B151;}
     j0 = p1;
     j1 = 10ull;
-    i0 = f88(self, j0, j1); m = self->memory; if (NEVER(self->is_broken)) return;
+    i0 = f87(self, j0, j1); m = self->memory; if (NEVER(self->is_broken)) return;
     i0 = !(i0);
     if (i0) {goto B150;}
     j0 = p1;
@@ -95262,7 +95328,7 @@ static void f94(module *self, u64 p0, u64 p1, u64 p2, u64 p3, u64 p4, u64 p5) {
     if (i0) {goto B155;}
     j0 = p1;
     j1 = 11ull;
-    i0 = f88(self, j0, j1); m = self->memory; if (NEVER(self->is_broken)) return;
+    i0 = f87(self, j0, j1); m = self->memory; if (NEVER(self->is_broken)) return;
     i0 = !(i0);
     if (i0) {goto B154;}
     j0 = p1;
@@ -95463,7 +95529,7 @@ static void f94(module *self, u64 p0, u64 p1, u64 p2, u64 p3, u64 p4, u64 p5) {
     if (i0) {goto B159;}
     j0 = p1;
     j1 = 12ull;
-    i0 = f88(self, j0, j1); m = self->memory; if (NEVER(self->is_broken)) return;
+    i0 = f87(self, j0, j1); m = self->memory; if (NEVER(self->is_broken)) return;
     i0 = !(i0);
     if (i0) {goto B158;}
     j0 = p1;
@@ -95664,7 +95730,7 @@ static void f94(module *self, u64 p0, u64 p1, u64 p2, u64 p3, u64 p4, u64 p5) {
     if (i0) {goto B163;}
     j0 = p1;
     j1 = p4;
-    i0 = f88(self, j0, j1); m = self->memory; if (NEVER(self->is_broken)) return;
+    i0 = f87(self, j0, j1); m = self->memory; if (NEVER(self->is_broken)) return;
     i0 = !(i0);
     if (i0) {goto B162;}
     j0 = p1;
@@ -95942,7 +96008,7 @@ static void f94(module *self, u64 p0, u64 p1, u64 p2, u64 p3, u64 p4, u64 p5) {
     B171:;
     j0 = l7;
     j1 = l28;
-    f87(self, j0, j1); if (NEVER(self->is_broken)) return;
+    f86(self, j0, j1); if (NEVER(self->is_broken)) return;
     j0 = p2;
     j1 = 72ull;
     j0 += j1;
@@ -96006,7 +96072,7 @@ static void f94(module *self, u64 p0, u64 p1, u64 p2, u64 p3, u64 p4, u64 p5) {
   self->g0 = j0;
 }
 
-static void f95(module *self, u64 p0, u64 p1) {
+static void f94(module *self, u64 p0, u64 p1) {
   u32 l9 = 0, l10 = 0;
   u64 l2 = 0, l3 = 0, l4 = 0, l5 = 0, l6 = 0, l7 = 0, l8 = 0;
   u8 *m = self->memory;
@@ -96321,7 +96387,7 @@ static void f95(module *self, u64 p0, u64 p1) {
   Bfunc:;
 }
 
-static void f96(module *self, u64 p0, u64 p1) {
+static void f95(module *self, u64 p0, u64 p1) {
   u32 l2 = 0, l3 = 0, l4 = 0, l5 = 0;
   u8 *m = self->memory;
   u32 i0, i1, i2;
@@ -96593,7 +96659,7 @@ static void f96(module *self, u64 p0, u64 p1) {
   f21(self, j0, j1, j2); if (NEVER(self->is_broken)) return;
 }
 
-static void f97(module *self, u64 p0, u64 p1, u64 p2) {
+static void f96(module *self, u64 p0, u64 p1, u64 p2) {
   u32 l16 = 0, l17 = 0, l18 = 0, l19 = 0, l20 = 0, l21 = 0, l22 = 0, l23 = 0, 
       l24 = 0, l25 = 0, l26 = 0, l27 = 0, l28 = 0, l29 = 0;
   u64 l3 = 0, l4 = 0, l5 = 0, l6 = 0, l7 = 0, l8 = 0, l9 = 0, l10 = 0, 
@@ -97528,7 +97594,7 @@ static void f97(module *self, u64 p0, u64 p1, u64 p2) {
     j0 = l3;
     j1 = 1744ull;
     j0 += j1;
-    i0 = f98(self, j0); m = self->memory; if (NEVER(self->is_broken)) return;
+    i0 = f97(self, j0); m = self->memory; if (NEVER(self->is_broken)) return;
     i0 = !(i0);
     if (i0) {goto B7;}
     j0 = l3;
@@ -97722,7 +97788,7 @@ static void f97(module *self, u64 p0, u64 p1, u64 p2) {
     j0 = l3;
     j1 = 1744ull;
     j0 += j1;
-    i0 = f99(self, j0); m = self->memory; if (NEVER(self->is_broken)) return;
+    i0 = f98(self, j0); m = self->memory; if (NEVER(self->is_broken)) return;
     i0 = !(i0);
     if (i0) {goto B14;}
     j0 = l3;
@@ -97984,7 +98050,7 @@ static void f97(module *self, u64 p0, u64 p1, u64 p2) {
       j0 = l3;
       j1 = 1744ull;
       j0 += j1;
-      i0 = f99(self, j0); m = self->memory; if (NEVER(self->is_broken)) return;
+      i0 = f98(self, j0); m = self->memory; if (NEVER(self->is_broken)) return;
       i0 = !(i0);
       if (i0) {goto B17;}
       j0 = l3;
@@ -98119,7 +98185,7 @@ static void f97(module *self, u64 p0, u64 p1, u64 p2) {
       j0 = l3;
       j1 = 1744ull;
       j0 += j1;
-      i0 = f99(self, j0); m = self->memory; if (NEVER(self->is_broken)) return;
+      i0 = f98(self, j0); m = self->memory; if (NEVER(self->is_broken)) return;
       i0 = !(i0);
       if (i0) {goto B17;}
       j0 = l3;
@@ -98583,7 +98649,7 @@ static void f97(module *self, u64 p0, u64 p1, u64 p2) {
   self->g0 = j0;
 }
 
-static u32 f98(module *self, u64 p0) {
+static u32 f97(module *self, u64 p0) {
   u32 l6 = 0;
   u64 l1 = 0, l2 = 0, l3 = 0, l4 = 0, l5 = 0;
   u8 *m = self->memory;
@@ -98708,7 +98774,7 @@ static u32 f98(module *self, u64 p0) {
   return i0;
 }
 
-static u32 f99(module *self, u64 p0) {
+static u32 f98(module *self, u64 p0) {
   u32 l6 = 0;
   u64 l1 = 0, l2 = 0, l3 = 0, l4 = 0, l5 = 0;
   u8 *m = self->memory;
@@ -98827,7 +98893,7 @@ static u32 f99(module *self, u64 p0) {
   return i0;
 }
 
-static u32 f100(module *self, u64 p0, u64 p1, u64 p2, u64 p3, u64 p4) {
+static u32 f99(module *self, u64 p0, u64 p1, u64 p2, u64 p3, u64 p4) {
   u32 l11 = 0, l12 = 0, l13 = 0, l14 = 0;
   u64 l5 = 0, l6 = 0, l7 = 0, l8 = 0, l9 = 0, l10 = 0;
   u8 *m = self->memory;
@@ -98957,7 +99023,7 @@ static u32 f100(module *self, u64 p0, u64 p1, u64 p2, u64 p3, u64 p4) {
   j3 = l5;
   j4 = 72ull;
   j3 += j4;
-  f91(self, j0, j1, j2, j3); m = self->memory; if (NEVER(self->is_broken)) return ZAK_BROKEN;
+  f90(self, j0, j1, j2, j3); m = self->memory; if (NEVER(self->is_broken)) return ZAK_BROKEN;
   j0 = l5;
   i0 = (u32)(j0);
   i0 = i32_load8_u(j0 + 8u);
@@ -101626,7 +101692,7 @@ static u32 module_zak_assemble(module *self, u64 p0, u64 p1, u64 p2, u64 p3, u64
   j0 = (u64)(s64)(s8)(u8)(j0);
   j1 = 2ull;
   j0 <<= (j1 & 63);
-  j1 = 1049796ull;
+  j1 = 1051908ull;
   j0 += j1;
   i0 = (u32)(j0);
   i0 = i32_load(j0);
@@ -104042,15 +104108,31 @@ static u32 module_zak_fill_bytes(module *self, u64 p0, u32 p1, u32 p2, u64 p3, u
   i0 = (u32)(j0);
   j1 = l15;
   i64_store(j0, j1);
+  i0 = 0u;
+  l6 = i0;
+  i0 = 0u;
+  i1 = 786432u;
+  i2 = p1;
+  i1 -= i2;
+  l8 = i1;
+  i2 = l8;
+  i3 = 786432u;
+  i2 = i2 > i3;
+  i0 = i2 ? i0 : i1;
+  l8 = i0;
+  i1 = l7;
+  i2 = l8;
+  i3 = l7;
+  i2 = i2 < i3;
+  i0 = i2 ? i0 : i1;
+  l7 = i0;
   i0 = p4;
   i1 = 1u;
   i0 &= i1;
   i0 = !(i0);
   if (i0) {goto B4;}
-  i0 = 0u;
-  l6 = i0;
-  j0 = p3;
-  i0 = !(j0);
+  i0 = l7;
+  i0 = !(i0);
   if (i0) {goto B2;}
   i0 = p1;
   i1 = 4294967295u;
@@ -104221,8 +104303,6 @@ static u32 module_zak_fill_bytes(module *self, u64 p0, u32 p1, u32 p2, u64 p3, u
   i3 = p2;
   i4 = p2;
   f50(self, j0, i1, i2, i3, i4);
-  i0 = 0u;
-  l6 = i0;
   B2:;
   j0 = p0;
   i0 = (u32)(j0);
@@ -107485,9 +107565,9 @@ static u32 module_zak_line(module *self, u64 p0, u32 p1, u64 p2, u64 p3, u64 p4)
 }
 
 static u32 module_zak_move_bytes(module *self, u64 p0, u32 p1, u32 p2, u64 p3, u32 p4, u64 p5) {
-  u32 l9 = 0, l10 = 0, l11 = 0, l12 = 0, l13 = 0, l14 = 0, l15 = 0, l16 = 0, 
-      l17 = 0;
-  u64 l6 = 0, l7 = 0, l8 = 0;
+  u32 l8 = 0, l9 = 0, l10 = 0, l11 = 0, l12 = 0, l13 = 0, l14 = 0, l15 = 0, 
+      l16 = 0;
+  u64 l6 = 0, l7 = 0;
   u8 *m = self->memory;
   u32 i0, i1, i2, i3, i4, i5, i6;
   u64 j0, j1, j2, j3, j4;
@@ -107497,7 +107577,7 @@ static u32 module_zak_move_bytes(module *self, u64 p0, u32 p1, u32 p2, u64 p3, u
   l6 = j0;
   self->g0 = j0;
   i0 = 20u;
-  l9 = i0;
+  l8 = i0;
   j0 = p0;
   i0 = (u32)(j0);
   i0 = i32_load8_u(j0);
@@ -107527,7 +107607,7 @@ static u32 module_zak_move_bytes(module *self, u64 p0, u32 p1, u32 p2, u64 p3, u
   j1 = 0ull;
   i64_store(j0 + 8, j1);
   i0 = 26u;
-  l9 = i0;
+  l8 = i0;
   j0 = p3;
   j1 = 4294967296ull;
   i2 = p1;
@@ -107544,9 +107624,9 @@ static u32 module_zak_move_bytes(module *self, u64 p0, u32 p1, u32 p2, u64 p3, u
   if (i0) {goto B2;}
   j0 = p3;
   i0 = (u32)(j0);
-  l10 = i0;
+  l9 = i0;
   j0 = 0ull;
-  l8 = j0;
+  p3 = j0;
   j0 = l7;
   j1 = 2003ull;
   j0 += j1;
@@ -107562,66 +107642,66 @@ static u32 module_zak_move_bytes(module *self, u64 p0, u32 p1, u32 p2, u64 p3, u
   j1 += j2;
   i1 = (u32)(j1);
   i1 = i32_load(j1);
-  l9 = i1;
+  l8 = i1;
   j2 = l7;
   j3 = 64ull;
   j2 += j3;
   i2 = (u32)(j2);
   i2 = i32_load(j2);
   i1 += i2;
-  l11 = i1;
+  l10 = i1;
   i2 = p2;
-  i3 = l10;
+  i3 = l9;
   i2 += i3;
-  l12 = i2;
-  i3 = l11;
-  i4 = l12;
+  l11 = i2;
+  i3 = l10;
+  i4 = l11;
   i3 = i3 < i4;
   i1 = i3 ? i1 : i2;
-  l12 = i1;
-  i2 = l9;
+  l11 = i1;
+  i2 = l8;
   i3 = p2;
-  i4 = l9;
+  i4 = l8;
   i5 = p2;
   i4 = i4 > i5;
   i2 = i4 ? i2 : i3;
   i1 -= i2;
-  l13 = i1;
-  i2 = l13;
-  i3 = l12;
+  l12 = i1;
+  i2 = l12;
+  i3 = l11;
   i2 = i2 > i3;
   i0 = i2 ? i0 : i1;
   j0 = (u64)(i0);
   i1 = 0u;
-  i2 = l11;
+  i2 = l10;
   i3 = p1;
-  i4 = l10;
+  i4 = l9;
   i3 += i4;
-  l12 = i3;
-  i4 = l11;
-  i5 = l12;
+  l11 = i3;
+  i4 = l10;
+  i5 = l11;
   i4 = i4 < i5;
   i2 = i4 ? i2 : i3;
-  l11 = i2;
-  i3 = l9;
+  l10 = i2;
+  i3 = l8;
   i4 = p1;
-  i5 = l9;
+  i5 = l8;
   i6 = p1;
   i5 = i5 > i6;
   i3 = i5 ? i3 : i4;
   i2 -= i3;
-  l9 = i2;
-  i3 = l9;
-  i4 = l11;
+  l8 = i2;
+  i3 = l8;
+  i4 = l10;
   i3 = i3 > i4;
   i1 = i3 ? i1 : i2;
   j1 = (u64)(i1);
   j0 += j1;
-  l8 = j0;
+  p3 = j0;
   B3:;
   j0 = p5;
   i0 = (u32)(j0);
-  j1 = l8;
+  j1 = p3;
   i64_store(j0, j1);
   i0 = p4;
   i1 = 1u;
@@ -107629,20 +107709,56 @@ static u32 module_zak_move_bytes(module *self, u64 p0, u32 p1, u32 p2, u64 p3, u
   i0 = !(i0);
   if (i0) {goto B4;}
   i0 = 0u;
-  l9 = i0;
-  j0 = p3;
-  i0 = !(j0);
+  l8 = i0;
+  i0 = 0u;
+  i1 = 786432u;
+  i2 = p2;
+  i1 -= i2;
+  p4 = i1;
+  i2 = p4;
+  i3 = 786432u;
+  i2 = i2 > i3;
+  i0 = i2 ? i0 : i1;
+  p4 = i0;
+  i1 = l9;
+  i2 = p4;
+  i3 = l9;
+  i2 = i2 < i3;
+  i0 = i2 ? i0 : i1;
+  p4 = i0;
+  i1 = 0u;
+  i2 = 786432u;
+  i3 = p1;
+  i2 -= i3;
+  l10 = i2;
+  i3 = l10;
+  i4 = 786432u;
+  i3 = i3 > i4;
+  i1 = i3 ? i1 : i2;
+  l10 = i1;
+  i2 = l9;
+  i3 = l10;
+  i4 = l9;
+  i3 = i3 < i4;
+  i1 = i3 ? i1 : i2;
+  l9 = i1;
+  i2 = p4;
+  i3 = l9;
+  i2 = i2 > i3;
+  i0 = i2 ? i0 : i1;
+  p4 = i0;
+  i0 = !(i0);
   if (i0) {goto B2;}
   i0 = p1;
   i1 = 4294967295u;
   i0 += i1;
-  p4 = i0;
+  l9 = i0;
   i0 = p2;
   i1 = 4294967295u;
   i0 += i1;
-  l14 = i0;
+  l13 = i0;
   i0 = p2;
-  i1 = l10;
+  i1 = p4;
   i0 += i1;
   i1 = 3u;
   i0 <<= (i1 & 31);
@@ -107654,8 +107770,8 @@ static u32 module_zak_move_bytes(module *self, u64 p0, u32 p1, u32 p2, u64 p3, u
     j1 = 8ull;
     j0 += j1;
     j1 = l7;
-    i2 = p4;
-    i3 = l10;
+    i2 = l9;
+    i3 = p4;
     i2 += i3;
     f34(self, j0, j1, i2);
     j0 = l7;
@@ -107667,15 +107783,15 @@ static u32 module_zak_move_bytes(module *self, u64 p0, u32 p1, u32 p2, u64 p3, u
     i0 &= i1;
     i0 = !(i0);
     if (i0) {goto B6;}
-    i0 = l14;
-    i1 = l10;
+    i0 = l13;
+    i1 = p4;
     i0 += i1;
     j1 = l7;
     j2 = 60ull;
     j1 += j2;
     i1 = (u32)(j1);
     i1 = i32_load(j1);
-    l11 = i1;
+    l10 = i1;
     i0 -= i1;
     p1 = i0;
     j1 = l7;
@@ -107690,19 +107806,19 @@ static u32 module_zak_move_bytes(module *self, u64 p0, u32 p1, u32 p2, u64 p3, u
     j0 += j1;
     i0 = (u32)(j0);
     i0 = i32_load8_u(j0);
-    l12 = i0;
+    l11 = i0;
     j0 = l7;
     j1 = 70ull;
     j0 += j1;
     i0 = (u32)(j0);
     i0 = i32_load8_u(j0);
-    l15 = i0;
+    l14 = i0;
     j0 = l7;
     j1 = 69ull;
     j0 += j1;
     i0 = (u32)(j0);
     i0 = i32_load8_u(j0);
-    l13 = i0;
+    l12 = i0;
     j0 = l7;
     j1 = l7;
     j2 = 72ull;
@@ -107720,27 +107836,27 @@ static u32 module_zak_move_bytes(module *self, u64 p0, u32 p1, u32 p2, u64 p3, u
     i4 &= i5;
     i2 = i4 ? i2 : i3;
     i0 = f46(self, j0, i1, i2);
-    l16 = i0;
+    l15 = i0;
     j0 = l7;
     j1 = 68ull;
     j0 += j1;
     i0 = (u32)(j0);
     i0 = i32_load8_u(j0);
-    l17 = i0;
+    l16 = i0;
     i1 = 1u;
     i0 &= i1;
     i0 = !(i0);
     if (i0) {goto B8;}
     i0 = 134480385u;
     i1 = p2;
-    i2 = l11;
+    i2 = l10;
     i3 = 3u;
     i2 <<= (i3 & 31);
     i1 -= i2;
     i2 = 24u;
     i1 &= i2;
     i0 >>= (i1 & 31);
-    l11 = i0;
+    l10 = i0;
     goto B7;
     B8:;
     i0 = 15u;
@@ -107750,11 +107866,11 @@ static u32 module_zak_move_bytes(module *self, u64 p0, u32 p1, u32 p2, u64 p3, u
     i4 = 1u;
     i3 &= i4;
     i1 = i3 ? i1 : i2;
-    i2 = l15;
+    i2 = l14;
     i3 = 1u;
     i2 &= i3;
     i0 = i2 ? i0 : i1;
-    l11 = i0;
+    l10 = i0;
     B7:;
     j0 = l7;
     i0 = (u32)(j0);
@@ -107766,11 +107882,11 @@ static u32 module_zak_move_bytes(module *self, u64 p0, u32 p1, u32 p2, u64 p3, u
     i3 = 65534u;
     i2 &= i3;
     i3 = p1;
-    i4 = l13;
+    i4 = l12;
     i5 = 1u;
     i4 &= i5;
     i2 = i4 ? i2 : i3;
-    i3 = l17;
+    i3 = l16;
     i4 = 1u;
     i3 &= i4;
     i1 = i3 ? i1 : i2;
@@ -107782,14 +107898,14 @@ static u32 module_zak_move_bytes(module *self, u64 p0, u32 p1, u32 p2, u64 p3, u
     j0 += j1;
     p3 = j0;
     i0 = (u32)(j0);
-    i1 = l16;
+    i1 = l15;
     j2 = p3;
     i2 = (u32)(j2);
     i2 = i32_load(j2);
     p1 = i2;
     i1 ^= i2;
-    i2 = l11;
-    i3 = l12;
+    i2 = l10;
+    i3 = l11;
     i2 &= i3;
     i3 = 2u;
     i2 <<= (i3 & 31);
@@ -107809,10 +107925,10 @@ static u32 module_zak_move_bytes(module *self, u64 p0, u32 p1, u32 p2, u64 p3, u
     i1 = 4294967288u;
     i0 += i1;
     p2 = i0;
-    i0 = l10;
+    i0 = p4;
     i1 = 4294967295u;
     i0 += i1;
-    l10 = i0;
+    p4 = i0;
     if (i0) {goto L5;}
     goto B2;
   { self->is_broken = true; return ZAK_BROKEN; }
@@ -107820,10 +107936,10 @@ static u32 module_zak_move_bytes(module *self, u64 p0, u32 p1, u32 p2, u64 p3, u
   j0 = l7;
   i1 = p1;
   i2 = p2;
-  i3 = l10;
+  i3 = l9;
   f66(self, j0, i1, i2, i3);
   i0 = 0u;
-  l9 = i0;
+  l8 = i0;
   B2:;
   j0 = p0;
   i0 = (u32)(j0);
@@ -107846,7 +107962,7 @@ static u32 module_zak_move_bytes(module *self, u64 p0, u32 p1, u32 p2, u64 p3, u
   j1 = 16ull;
   j0 += j1;
   self->g0 = j0;
-  i0 = l9;
+  i0 = l8;
   return i0;
 }
 
@@ -108698,7 +108814,7 @@ static u32 module_zak_out(module *self, u64 p0, u32 p1, u32 p2) {
   j1 = 65535ull;
   j0 &= j1;
   i0 = (u32)(j0);
-  i0 = i32_load8_u(j0 + 1049792u);
+  i0 = i32_load8_u(j0 + 1051904u);
   l7 = i0;
   B5:;
   j0 = l3;
@@ -111723,7 +111839,7 @@ static u32 module_zak_print(module *self, u64 p0, u64 p1, u64 p2, u64 p3, u64 p4
   j0 = (u64)(s64)(s8)(u8)(j0);
   j1 = 2ull;
   j0 <<= (j1 & 63);
-  j1 = 1049796ull;
+  j1 = 1051908ull;
   j0 += j1;
   i0 = (u32)(j0);
   i0 = i32_load(j0);
@@ -111758,18 +111874,13 @@ static u32 module_zak_print(module *self, u64 p0, u64 p1, u64 p2, u64 p3, u64 p4
 }
 
 static u32 module_zak_put(module *self, u64 p0, u32 p1, u32 p2) {
-  u32 l5 = 0;
-  u64 l3 = 0, l4 = 0;
+  u32 l3 = 0, l4 = 0, l5 = 0, l6 = 0, l7 = 0;
+  u64 l8 = 0, l9 = 0;
   u8 *m = self->memory;
-  u32 i0, i1, i2, i3, i4;
-  u64 j0, j1;
-  j0 = self->g0;
-  j1 = 16ull;
-  j0 -= j1;
-  l3 = j0;
-  self->g0 = j0;
+  u32 i0, i1, i2, i3, i4, i5;
+  u64 j0, j1, j2, j3;
   i0 = 20u;
-  l5 = i0;
+  l3 = i0;
   j0 = p0;
   i0 = (u32)(j0);
   i0 = i32_load8_u(j0);
@@ -111781,10 +111892,10 @@ static u32 module_zak_put(module *self, u64 p0, u32 p1, u32 p2) {
   j0 += j1;
   i0 = (u32)(j0);
   i0 = i32_load(j0);
-  l5 = i0;
+  l4 = i0;
   i1 = 16777217u;
   i0 = i0 < i1;
-  if (i0) {goto B2;}
+  if (i0) {goto B5;}
   j0 = p0;
   f1(self, j0); m = self->memory; if (NEVER(self->is_broken)) return ZAK_BROKEN;
   j0 = p0;
@@ -111794,15 +111905,15 @@ static u32 module_zak_put(module *self, u64 p0, u32 p1, u32 p2) {
   j0 = p0;
   i0 = (u32)(j0);
   j0 = i64_load(j0 + 8u);
-  l4 = j0;
+  l8 = j0;
   j0 = p0;
   i0 = (u32)(j0);
   j1 = 0ull;
   i64_store(j0 + 8, j1);
   i0 = 0u;
-  l5 = i0;
-  goto B1;
-  B2:;
+  l4 = i0;
+  goto B4;
+  B5:;
   j0 = p0;
   i0 = (u32)(j0);
   j1 = 0ull;
@@ -111810,36 +111921,299 @@ static u32 module_zak_put(module *self, u64 p0, u32 p1, u32 p2) {
   j0 = p0;
   i0 = (u32)(j0);
   j0 = i64_load(j0 + 8u);
-  l4 = j0;
+  l8 = j0;
   j0 = p0;
   i0 = (u32)(j0);
   j1 = 0ull;
   i64_store(j0 + 8, j1);
-  B1:;
-  j0 = l3;
-  i0 = (u32)(j0);
-  j1 = 0ull;
-  i64_store(j0 + 8, j1);
-  j0 = l3;
-  j1 = 8ull;
+  i0 = l4;
+  if (i0) {goto B6;}
+  i0 = 0u;
+  l4 = i0;
+  goto B4;
+  B6:;
+  j0 = l8;
+  i1 = l4;
+  i2 = p1;
+  i0 = f79(self, j0, i1, i2);
+  i0 = !(i0);
+  if (i0) {goto B3;}
+  B4:;
+  i0 = 1u;
+  l3 = i0;
+  j0 = l8;
+  j1 = 2003ull;
   j0 += j1;
-  j1 = l4;
-  i2 = l5;
-  i3 = p1;
-  i4 = p2;
-  f79(self, j0, j1, i2, i3, i4); m = self->memory; if (NEVER(self->is_broken)) return ZAK_BROKEN;
-  j0 = l3;
   i0 = (u32)(j0);
-  i0 = i32_load8_u(j0 + 12u);
-  l5 = i0;
-  j0 = l3;
-  i0 = (u32)(j0);
-  i0 = i32_load8_u(j0 + 13u);
-  p2 = i0;
-  j0 = l3;
-  i0 = (u32)(j0);
-  i0 = i32_load(j0 + 8u);
+  i0 = i32_load8_u(j0);
+  i1 = 2u;
+  i0 &= i1;
+  i0 = !(i0);
+  if (i0) {goto B1;}
+  i0 = p1;
+  j1 = l8;
+  j2 = 60ull;
+  j1 += j2;
+  i1 = (u32)(j1);
+  i1 = i32_load(j1);
+  i0 -= i1;
   p1 = i0;
+  j1 = l8;
+  j2 = 64ull;
+  j1 += j2;
+  i1 = (u32)(j1);
+  i1 = i32_load(j1);
+  i0 = i0 >= i1;
+  if (i0) {goto B1;}
+  j0 = l8;
+  j1 = 71ull;
+  j0 += j1;
+  i0 = (u32)(j0);
+  i0 = i32_load8_u(j0);
+  l3 = i0;
+  j0 = l8;
+  j1 = 70ull;
+  j0 += j1;
+  i0 = (u32)(j0);
+  i0 = i32_load8_u(j0);
+  l5 = i0;
+  j0 = l8;
+  j1 = 69ull;
+  j0 += j1;
+  i0 = (u32)(j0);
+  i0 = i32_load8_u(j0);
+  l6 = i0;
+  j0 = l8;
+  j1 = l8;
+  j2 = 72ull;
+  j1 += j2;
+  i1 = (u32)(j1);
+  i1 = i32_load8_u(j1);
+  i2 = p2;
+  i0 = f46(self, j0, i1, i2);
+  p2 = i0;
+  j0 = l8;
+  j1 = 68ull;
+  j0 += j1;
+  i0 = (u32)(j0);
+  i0 = i32_load8_u(j0);
+  l7 = i0;
+  i1 = 1u;
+  i0 &= i1;
+  i0 = !(i0);
+  if (i0) {goto B8;}
+  i0 = 134480385u;
+  i1 = p1;
+  i2 = 3u;
+  i1 <<= (i2 & 31);
+  i0 >>= (i1 & 31);
+  l5 = i0;
+  goto B7;
+  B8:;
+  i0 = 15u;
+  i1 = 10u;
+  i2 = 5u;
+  i3 = p1;
+  i4 = 1u;
+  i3 &= i4;
+  i1 = i3 ? i1 : i2;
+  i2 = l5;
+  i3 = 1u;
+  i2 &= i3;
+  i0 = i2 ? i0 : i1;
+  l5 = i0;
+  B7:;
+  j0 = l8;
+  i0 = (u32)(j0);
+  j0 = i64_load(j0);
+  i1 = p1;
+  i2 = 65532u;
+  i1 &= i2;
+  i2 = p1;
+  i3 = 65534u;
+  i2 &= i3;
+  i3 = p1;
+  i4 = l6;
+  i5 = 1u;
+  i4 &= i5;
+  i2 = i4 ? i2 : i3;
+  i3 = l7;
+  i4 = 1u;
+  i3 &= i4;
+  i1 = i3 ? i1 : i2;
+  j1 = (u64)(i1);
+  j2 = 65535ull;
+  j1 &= j2;
+  j2 = 2ull;
+  j1 <<= (j2 & 63);
+  j0 += j1;
+  l9 = j0;
+  i0 = (u32)(j0);
+  i1 = p2;
+  j2 = l9;
+  i2 = (u32)(j2);
+  i2 = i32_load(j2);
+  p1 = i2;
+  i1 ^= i2;
+  i2 = l5;
+  i3 = l3;
+  i2 &= i3;
+  i3 = 2u;
+  i2 <<= (i3 & 31);
+  j2 = (u64)(i2);
+  j3 = 60ull;
+  j2 &= j3;
+  j3 = 1048844ull;
+  j2 += j3;
+  i2 = (u32)(j2);
+  i2 = i32_load(j2);
+  i1 &= i2;
+  i2 = p1;
+  i1 ^= i2;
+  i32_store(j0, i1);
+  goto B2;
+  B3:;
+  j0 = l8;
+  i1 = l4;
+  i2 = p1;
+  i0 = f80(self, j0, i1, i2); m = self->memory; if (NEVER(self->is_broken)) return ZAK_BROKEN;
+  l4 = i0;
+  i0 = 1u;
+  l3 = i0;
+  j0 = l8;
+  j1 = 2003ull;
+  j0 += j1;
+  i0 = (u32)(j0);
+  i0 = i32_load8_u(j0);
+  i1 = 2u;
+  i0 &= i1;
+  i0 = !(i0);
+  if (i0) {goto B1;}
+  i0 = p1;
+  j1 = l8;
+  j2 = 60ull;
+  j1 += j2;
+  i1 = (u32)(j1);
+  i1 = i32_load(j1);
+  i0 -= i1;
+  p1 = i0;
+  j1 = l8;
+  j2 = 64ull;
+  j1 += j2;
+  i1 = (u32)(j1);
+  i1 = i32_load(j1);
+  i0 = i0 >= i1;
+  if (i0) {goto B1;}
+  j0 = l8;
+  j1 = 71ull;
+  j0 += j1;
+  i0 = (u32)(j0);
+  i0 = i32_load8_u(j0);
+  l3 = i0;
+  j0 = l8;
+  j1 = 70ull;
+  j0 += j1;
+  i0 = (u32)(j0);
+  i0 = i32_load8_u(j0);
+  l5 = i0;
+  j0 = l8;
+  j1 = 69ull;
+  j0 += j1;
+  i0 = (u32)(j0);
+  i0 = i32_load8_u(j0);
+  l6 = i0;
+  j0 = l8;
+  j1 = l8;
+  j2 = 72ull;
+  j1 += j2;
+  i1 = (u32)(j1);
+  i1 = i32_load8_u(j1);
+  i2 = p2;
+  i0 = f46(self, j0, i1, i2);
+  p2 = i0;
+  j0 = l8;
+  j1 = 68ull;
+  j0 += j1;
+  i0 = (u32)(j0);
+  i0 = i32_load8_u(j0);
+  l7 = i0;
+  i1 = 1u;
+  i0 &= i1;
+  i0 = !(i0);
+  if (i0) {goto B10;}
+  i0 = 134480385u;
+  i1 = p1;
+  i2 = 3u;
+  i1 <<= (i2 & 31);
+  i0 >>= (i1 & 31);
+  l5 = i0;
+  goto B9;
+  B10:;
+  i0 = 15u;
+  i1 = 10u;
+  i2 = 5u;
+  i3 = p1;
+  i4 = 1u;
+  i3 &= i4;
+  i1 = i3 ? i1 : i2;
+  i2 = l5;
+  i3 = 1u;
+  i2 &= i3;
+  i0 = i2 ? i0 : i1;
+  l5 = i0;
+  B9:;
+  j0 = l8;
+  i0 = (u32)(j0);
+  j0 = i64_load(j0);
+  i1 = p1;
+  i2 = 65532u;
+  i1 &= i2;
+  i2 = p1;
+  i3 = 65534u;
+  i2 &= i3;
+  i3 = p1;
+  i4 = l6;
+  i5 = 1u;
+  i4 &= i5;
+  i2 = i4 ? i2 : i3;
+  i3 = l7;
+  i4 = 1u;
+  i3 &= i4;
+  i1 = i3 ? i1 : i2;
+  j1 = (u64)(i1);
+  j2 = 65535ull;
+  j1 &= j2;
+  j2 = 2ull;
+  j1 <<= (j2 & 63);
+  j0 += j1;
+  l9 = j0;
+  i0 = (u32)(j0);
+  i1 = p2;
+  j2 = l9;
+  i2 = (u32)(j2);
+  i2 = i32_load(j2);
+  p1 = i2;
+  i1 ^= i2;
+  i2 = l5;
+  i3 = l3;
+  i2 &= i3;
+  i3 = 2u;
+  i2 <<= (i3 & 31);
+  j2 = (u64)(i2);
+  j3 = 60ull;
+  j2 &= j3;
+  j3 = 1048844ull;
+  j2 += j3;
+  i2 = (u32)(j2);
+  i2 = i32_load(j2);
+  i1 &= i2;
+  i2 = p1;
+  i1 ^= i2;
+  i32_store(j0, i1);
+  B2:;
+  i0 = 0u;
+  l3 = i0;
+  B1:;
   j0 = p0;
   i0 = (u32)(j0);
   i1 = 0u;
@@ -111854,27 +112228,16 @@ static u32 module_zak_put(module *self, u64 p0, u32 p1, u32 p2) {
   i32_store8(j0 + 3, i1);
   j0 = p0;
   i0 = (u32)(j0);
-  j1 = l4;
+  j1 = l8;
   i64_store(j0 + 8, j1);
   j0 = p0;
   j1 = 4ull;
   j0 += j1;
   i0 = (u32)(j0);
-  i1 = p1;
+  i1 = l4;
   i32_store(j0, i1);
-  i0 = p2;
-  i1 = 1u;
-  i0 += i1;
-  i1 = 0u;
-  i2 = l5;
-  i0 = i2 ? i0 : i1;
-  l5 = i0;
   B0:;
-  j0 = l3;
-  j1 = 16ull;
-  j0 += j1;
-  self->g0 = j0;
-  i0 = l5;
+  i0 = l3;
   return i0;
 }
 
@@ -112205,7 +112568,7 @@ static u32 module_zak_put_bytes(module *self, u64 p0, u32 p1, u64 p2, u64 p3, u3
   j4 = l10;
   j5 = p3;
   i6 = p4;
-  i1 = f82(self, j1, j2, i3, j4, j5, i6);
+  i1 = f81(self, j1, j2, i3, j4, j5, i6);
   l16 = i1;
   i0 = i0 <= i1;
   if (i0) {goto B9;}
@@ -112636,18 +112999,13 @@ static u32 module_zak_put_bytes(module *self, u64 p0, u32 p1, u64 p2, u64 p3, u3
 }
 
 static u32 module_zak_put_word(module *self, u64 p0, u32 p1, u32 p2) {
-  u32 l5 = 0, l6 = 0, l7 = 0, l8 = 0;
-  u64 l3 = 0, l4 = 0;
+  u32 l3 = 0, l4 = 0, l5 = 0, l6 = 0, l7 = 0, l8 = 0, l9 = 0, l10 = 0;
+  u64 l11 = 0, l12 = 0;
   u8 *m = self->memory;
   u32 i0, i1, i2, i3, i4, i5;
-  u64 j0, j1, j2;
-  j0 = self->g0;
-  j1 = 16ull;
-  j0 -= j1;
-  l3 = j0;
-  self->g0 = j0;
+  u64 j0, j1, j2, j3;
   i0 = 20u;
-  l5 = i0;
+  l3 = i0;
   j0 = p0;
   i0 = (u32)(j0);
   i0 = i32_load8_u(j0);
@@ -112659,7 +113017,7 @@ static u32 module_zak_put_word(module *self, u64 p0, u32 p1, u32 p2) {
   j0 += j1;
   i0 = (u32)(j0);
   i0 = i32_load(j0);
-  l6 = i0;
+  l4 = i0;
   i1 = 16777217u;
   i0 = i0 < i1;
   if (i0) {goto B2;}
@@ -112672,13 +113030,13 @@ static u32 module_zak_put_word(module *self, u64 p0, u32 p1, u32 p2) {
   j0 = p0;
   i0 = (u32)(j0);
   j0 = i64_load(j0 + 8u);
-  l4 = j0;
+  l11 = j0;
   j0 = p0;
   i0 = (u32)(j0);
   j1 = 0ull;
   i64_store(j0 + 8, j1);
   i0 = 0u;
-  l6 = i0;
+  l4 = i0;
   goto B1;
   B2:;
   j0 = p0;
@@ -112688,27 +113046,23 @@ static u32 module_zak_put_word(module *self, u64 p0, u32 p1, u32 p2) {
   j0 = p0;
   i0 = (u32)(j0);
   j0 = i64_load(j0 + 8u);
-  l4 = j0;
+  l11 = j0;
   j0 = p0;
   i0 = (u32)(j0);
   j1 = 0ull;
   i64_store(j0 + 8, j1);
   B1:;
-  j0 = l3;
-  i0 = (u32)(j0);
-  j1 = 0ull;
-  i64_store(j0 + 8, j1);
-  j0 = l3;
-  i0 = (u32)(j0);
-  j1 = 0ull;
-  i64_store(j0, j1);
-  i0 = 1u;
-  l5 = i0;
   i0 = p1;
   i1 = 4294967295u;
-  i0 = i0 == i1;
-  if (i0) {goto B3;}
-  j0 = l4;
+  i0 = i0 != i1;
+  if (i0) {goto B4;}
+  i0 = 1u;
+  l3 = i0;
+  goto B3;
+  B4:;
+  i0 = 1u;
+  l3 = i0;
+  j0 = l11;
   j1 = 2003ull;
   j0 += j1;
   i0 = (u32)(j0);
@@ -112717,22 +113071,23 @@ static u32 module_zak_put_word(module *self, u64 p0, u32 p1, u32 p2) {
   i0 &= i1;
   i0 = !(i0);
   if (i0) {goto B3;}
-  j0 = l4;
-  j1 = 60ull;
-  j0 += j1;
-  i0 = (u32)(j0);
-  i0 = i32_load(j0);
-  l7 = i0;
-  i1 = p1;
-  i0 = i0 > i1;
+  i0 = p1;
+  j1 = l11;
+  j2 = 60ull;
+  j1 += j2;
+  i1 = (u32)(j1);
+  i1 = i32_load(j1);
+  l5 = i1;
+  i0 = i0 < i1;
   if (i0) {goto B3;}
   i0 = p1;
-  j1 = l4;
+  j1 = l11;
   j2 = 64ull;
   j1 += j2;
   i1 = (u32)(j1);
   i1 = i32_load(j1);
-  i2 = l7;
+  l6 = i1;
+  i2 = l5;
   i1 += i2;
   l7 = i1;
   i0 = i0 >= i1;
@@ -112744,58 +113099,553 @@ static u32 module_zak_put_word(module *self, u64 p0, u32 p1, u32 p2) {
   i1 = l7;
   i0 = i0 >= i1;
   if (i0) {goto B3;}
-  j0 = l3;
-  j1 = 8ull;
-  j0 += j1;
-  j1 = l4;
-  i2 = l6;
-  i3 = p1;
-  i4 = p2;
-  f79(self, j0, j1, i2, i3, i4); m = self->memory; if (NEVER(self->is_broken)) return ZAK_BROKEN;
-  j0 = l3;
-  i0 = (u32)(j0);
-  i0 = i32_load(j0 + 8u);
-  l6 = i0;
-  j0 = l3;
-  i0 = (u32)(j0);
-  i0 = i32_load8_u(j0 + 12u);
+  i0 = l4;
   i0 = !(i0);
-  if (i0) {goto B4;}
-  j0 = l3;
+  if (i0) {goto B7;}
+  j0 = l11;
+  i1 = l4;
+  i2 = p1;
+  i0 = f79(self, j0, i1, i2);
+  i0 = !(i0);
+  if (i0) {goto B6;}
+  B7:;
+  i0 = p1;
+  i1 = l5;
+  i0 -= i1;
+  p1 = i0;
+  i1 = l6;
+  i0 = i0 >= i1;
+  if (i0) {goto B3;}
+  j0 = l11;
+  j1 = 71ull;
+  j0 += j1;
   i0 = (u32)(j0);
-  i0 = i32_load8_u(j0 + 13u);
-  i1 = 1u;
-  i0 += i1;
+  i0 = i32_load8_u(j0);
   l5 = i0;
-  goto B3;
-  B4:;
-  j0 = l3;
-  j1 = l4;
-  i2 = l6;
-  i3 = l8;
-  i4 = p2;
-  i5 = 65280u;
-  i4 &= i5;
-  i5 = 8u;
-  i4 >>= (i5 & 31);
-  f79(self, j0, j1, i2, i3, i4); m = self->memory; if (NEVER(self->is_broken)) return ZAK_BROKEN;
-  j0 = l3;
+  j0 = l11;
+  j1 = 70ull;
+  j0 += j1;
   i0 = (u32)(j0);
-  i0 = i32_load8_u(j0 + 5u);
+  i0 = i32_load8_u(j0);
+  l9 = i0;
+  j0 = l11;
+  j1 = 69ull;
+  j0 += j1;
+  i0 = (u32)(j0);
+  i0 = i32_load8_u(j0);
+  l7 = i0;
+  j0 = l11;
+  j1 = l11;
+  j2 = 72ull;
+  j1 += j2;
+  i1 = (u32)(j1);
+  i1 = i32_load8_u(j1);
+  i2 = p2;
+  i0 = f46(self, j0, i1, i2);
+  l6 = i0;
+  j0 = l11;
+  j1 = 68ull;
+  j0 += j1;
+  i0 = (u32)(j0);
+  i0 = i32_load8_u(j0);
+  l10 = i0;
   i1 = 1u;
-  i0 += i1;
-  i1 = 0u;
-  j2 = l3;
-  i2 = (u32)(j2);
-  i2 = i32_load8_u(j2 + 4u);
-  i3 = 255u;
+  i0 &= i1;
+  i0 = !(i0);
+  if (i0) {goto B9;}
+  i0 = 134480385u;
+  i1 = p1;
+  i2 = 3u;
+  i1 <<= (i2 & 31);
+  i0 >>= (i1 & 31);
+  l9 = i0;
+  goto B8;
+  B9:;
+  i0 = 15u;
+  i1 = 10u;
+  i2 = 5u;
+  i3 = p1;
+  i4 = 1u;
+  i3 &= i4;
+  i1 = i3 ? i1 : i2;
+  i2 = l9;
+  i3 = 1u;
   i2 &= i3;
   i0 = i2 ? i0 : i1;
-  l5 = i0;
-  j0 = l3;
+  l9 = i0;
+  B8:;
+  j0 = l11;
   i0 = (u32)(j0);
-  i0 = i32_load(j0);
+  j0 = i64_load(j0);
+  i1 = p1;
+  i2 = 65532u;
+  i1 &= i2;
+  i2 = p1;
+  i3 = 65534u;
+  i2 &= i3;
+  i3 = p1;
+  i4 = l7;
+  i5 = 1u;
+  i4 &= i5;
+  i2 = i4 ? i2 : i3;
+  i3 = l10;
+  i4 = 1u;
+  i3 &= i4;
+  i1 = i3 ? i1 : i2;
+  j1 = (u64)(i1);
+  j2 = 65535ull;
+  j1 &= j2;
+  j2 = 2ull;
+  j1 <<= (j2 & 63);
+  j0 += j1;
+  l12 = j0;
+  i0 = (u32)(j0);
+  i1 = l6;
+  j2 = l12;
+  i2 = (u32)(j2);
+  i2 = i32_load(j2);
+  p1 = i2;
+  i1 ^= i2;
+  i2 = l9;
+  i3 = l5;
+  i2 &= i3;
+  i3 = 2u;
+  i2 <<= (i3 & 31);
+  j2 = (u64)(i2);
+  j3 = 60ull;
+  j2 &= j3;
+  j3 = 1048844ull;
+  j2 += j3;
+  i2 = (u32)(j2);
+  i2 = i32_load(j2);
+  i1 &= i2;
+  i2 = p1;
+  i1 ^= i2;
+  i32_store(j0, i1);
+  goto B5;
+  B6:;
+  j0 = l11;
+  i1 = l4;
+  i2 = p1;
+  i0 = f80(self, j0, i1, i2); m = self->memory; if (NEVER(self->is_broken)) return ZAK_BROKEN;
+  l4 = i0;
+  j0 = l11;
+  j1 = 2003ull;
+  j0 += j1;
+  i0 = (u32)(j0);
+  i0 = i32_load8_u(j0);
+  i1 = 2u;
+  i0 &= i1;
+  i0 = !(i0);
+  if (i0) {goto B3;}
+  i0 = p1;
+  j1 = l11;
+  j2 = 60ull;
+  j1 += j2;
+  i1 = (u32)(j1);
+  i1 = i32_load(j1);
+  i0 -= i1;
+  p1 = i0;
+  j1 = l11;
+  j2 = 64ull;
+  j1 += j2;
+  i1 = (u32)(j1);
+  i1 = i32_load(j1);
+  i0 = i0 >= i1;
+  if (i0) {goto B3;}
+  j0 = l11;
+  j1 = 71ull;
+  j0 += j1;
+  i0 = (u32)(j0);
+  i0 = i32_load8_u(j0);
+  l5 = i0;
+  j0 = l11;
+  j1 = 70ull;
+  j0 += j1;
+  i0 = (u32)(j0);
+  i0 = i32_load8_u(j0);
+  l9 = i0;
+  j0 = l11;
+  j1 = 69ull;
+  j0 += j1;
+  i0 = (u32)(j0);
+  i0 = i32_load8_u(j0);
+  l7 = i0;
+  j0 = l11;
+  j1 = l11;
+  j2 = 72ull;
+  j1 += j2;
+  i1 = (u32)(j1);
+  i1 = i32_load8_u(j1);
+  i2 = p2;
+  i0 = f46(self, j0, i1, i2);
   l6 = i0;
+  j0 = l11;
+  j1 = 68ull;
+  j0 += j1;
+  i0 = (u32)(j0);
+  i0 = i32_load8_u(j0);
+  l10 = i0;
+  i1 = 1u;
+  i0 &= i1;
+  i0 = !(i0);
+  if (i0) {goto B11;}
+  i0 = 134480385u;
+  i1 = p1;
+  i2 = 3u;
+  i1 <<= (i2 & 31);
+  i0 >>= (i1 & 31);
+  l9 = i0;
+  goto B10;
+  B11:;
+  i0 = 15u;
+  i1 = 10u;
+  i2 = 5u;
+  i3 = p1;
+  i4 = 1u;
+  i3 &= i4;
+  i1 = i3 ? i1 : i2;
+  i2 = l9;
+  i3 = 1u;
+  i2 &= i3;
+  i0 = i2 ? i0 : i1;
+  l9 = i0;
+  B10:;
+  j0 = l11;
+  i0 = (u32)(j0);
+  j0 = i64_load(j0);
+  i1 = p1;
+  i2 = 65532u;
+  i1 &= i2;
+  i2 = p1;
+  i3 = 65534u;
+  i2 &= i3;
+  i3 = p1;
+  i4 = l7;
+  i5 = 1u;
+  i4 &= i5;
+  i2 = i4 ? i2 : i3;
+  i3 = l10;
+  i4 = 1u;
+  i3 &= i4;
+  i1 = i3 ? i1 : i2;
+  j1 = (u64)(i1);
+  j2 = 65535ull;
+  j1 &= j2;
+  j2 = 2ull;
+  j1 <<= (j2 & 63);
+  j0 += j1;
+  l12 = j0;
+  i0 = (u32)(j0);
+  i1 = l6;
+  j2 = l12;
+  i2 = (u32)(j2);
+  i2 = i32_load(j2);
+  p1 = i2;
+  i1 ^= i2;
+  i2 = l9;
+  i3 = l5;
+  i2 &= i3;
+  i3 = 2u;
+  i2 <<= (i3 & 31);
+  j2 = (u64)(i2);
+  j3 = 60ull;
+  j2 &= j3;
+  j3 = 1048844ull;
+  j2 += j3;
+  i2 = (u32)(j2);
+  i2 = i32_load(j2);
+  i1 &= i2;
+  i2 = p1;
+  i1 ^= i2;
+  i32_store(j0, i1);
+  B5:;
+  i0 = p2;
+  i1 = 65280u;
+  i0 &= i1;
+  i1 = 8u;
+  i0 >>= (i1 & 31);
+  p2 = i0;
+  i0 = l4;
+  i0 = !(i0);
+  if (i0) {goto B14;}
+  j0 = l11;
+  i1 = l4;
+  i2 = l8;
+  i0 = f79(self, j0, i1, i2);
+  i0 = !(i0);
+  if (i0) {goto B13;}
+  B14:;
+  j0 = l11;
+  j1 = 2003ull;
+  j0 += j1;
+  i0 = (u32)(j0);
+  i0 = i32_load8_u(j0);
+  i1 = 2u;
+  i0 &= i1;
+  i0 = !(i0);
+  if (i0) {goto B3;}
+  i0 = l8;
+  j1 = l11;
+  j2 = 60ull;
+  j1 += j2;
+  i1 = (u32)(j1);
+  i1 = i32_load(j1);
+  i0 -= i1;
+  p1 = i0;
+  j1 = l11;
+  j2 = 64ull;
+  j1 += j2;
+  i1 = (u32)(j1);
+  i1 = i32_load(j1);
+  i0 = i0 >= i1;
+  if (i0) {goto B3;}
+  j0 = l11;
+  j1 = 71ull;
+  j0 += j1;
+  i0 = (u32)(j0);
+  i0 = i32_load8_u(j0);
+  l3 = i0;
+  j0 = l11;
+  j1 = 70ull;
+  j0 += j1;
+  i0 = (u32)(j0);
+  i0 = i32_load8_u(j0);
+  l6 = i0;
+  j0 = l11;
+  j1 = 69ull;
+  j0 += j1;
+  i0 = (u32)(j0);
+  i0 = i32_load8_u(j0);
+  l5 = i0;
+  j0 = l11;
+  j1 = l11;
+  j2 = 72ull;
+  j1 += j2;
+  i1 = (u32)(j1);
+  i1 = i32_load8_u(j1);
+  i2 = p2;
+  i0 = f46(self, j0, i1, i2);
+  p2 = i0;
+  j0 = l11;
+  j1 = 68ull;
+  j0 += j1;
+  i0 = (u32)(j0);
+  i0 = i32_load8_u(j0);
+  l7 = i0;
+  i1 = 1u;
+  i0 &= i1;
+  i0 = !(i0);
+  if (i0) {goto B16;}
+  i0 = 134480385u;
+  i1 = p1;
+  i2 = 3u;
+  i1 <<= (i2 & 31);
+  i0 >>= (i1 & 31);
+  l6 = i0;
+  goto B15;
+  B16:;
+  i0 = 15u;
+  i1 = 10u;
+  i2 = 5u;
+  i3 = p1;
+  i4 = 1u;
+  i3 &= i4;
+  i1 = i3 ? i1 : i2;
+  i2 = l6;
+  i3 = 1u;
+  i2 &= i3;
+  i0 = i2 ? i0 : i1;
+  l6 = i0;
+  B15:;
+  j0 = l11;
+  i0 = (u32)(j0);
+  j0 = i64_load(j0);
+  i1 = p1;
+  i2 = 65532u;
+  i1 &= i2;
+  i2 = p1;
+  i3 = 65534u;
+  i2 &= i3;
+  i3 = p1;
+  i4 = l5;
+  i5 = 1u;
+  i4 &= i5;
+  i2 = i4 ? i2 : i3;
+  i3 = l7;
+  i4 = 1u;
+  i3 &= i4;
+  i1 = i3 ? i1 : i2;
+  j1 = (u64)(i1);
+  j2 = 65535ull;
+  j1 &= j2;
+  j2 = 2ull;
+  j1 <<= (j2 & 63);
+  j0 += j1;
+  l12 = j0;
+  i0 = (u32)(j0);
+  i1 = p2;
+  j2 = l12;
+  i2 = (u32)(j2);
+  i2 = i32_load(j2);
+  p1 = i2;
+  i1 ^= i2;
+  i2 = l6;
+  i3 = l3;
+  i2 &= i3;
+  i3 = 2u;
+  i2 <<= (i3 & 31);
+  j2 = (u64)(i2);
+  j3 = 60ull;
+  j2 &= j3;
+  j3 = 1048844ull;
+  j2 += j3;
+  i2 = (u32)(j2);
+  i2 = i32_load(j2);
+  i1 &= i2;
+  i2 = p1;
+  i1 ^= i2;
+  i32_store(j0, i1);
+  goto B12;
+  B13:;
+  j0 = l11;
+  i1 = l4;
+  i2 = l8;
+  i0 = f80(self, j0, i1, i2); m = self->memory; if (NEVER(self->is_broken)) return ZAK_BROKEN;
+  l4 = i0;
+  j0 = l11;
+  j1 = 2003ull;
+  j0 += j1;
+  i0 = (u32)(j0);
+  i0 = i32_load8_u(j0);
+  i1 = 2u;
+  i0 &= i1;
+  i0 = !(i0);
+  if (i0) {goto B3;}
+  i0 = l8;
+  j1 = l11;
+  j2 = 60ull;
+  j1 += j2;
+  i1 = (u32)(j1);
+  i1 = i32_load(j1);
+  i0 -= i1;
+  p1 = i0;
+  j1 = l11;
+  j2 = 64ull;
+  j1 += j2;
+  i1 = (u32)(j1);
+  i1 = i32_load(j1);
+  i0 = i0 >= i1;
+  if (i0) {goto B3;}
+  j0 = l11;
+  j1 = 71ull;
+  j0 += j1;
+  i0 = (u32)(j0);
+  i0 = i32_load8_u(j0);
+  l3 = i0;
+  j0 = l11;
+  j1 = 70ull;
+  j0 += j1;
+  i0 = (u32)(j0);
+  i0 = i32_load8_u(j0);
+  l6 = i0;
+  j0 = l11;
+  j1 = 69ull;
+  j0 += j1;
+  i0 = (u32)(j0);
+  i0 = i32_load8_u(j0);
+  l5 = i0;
+  j0 = l11;
+  j1 = l11;
+  j2 = 72ull;
+  j1 += j2;
+  i1 = (u32)(j1);
+  i1 = i32_load8_u(j1);
+  i2 = p2;
+  i0 = f46(self, j0, i1, i2);
+  p2 = i0;
+  j0 = l11;
+  j1 = 68ull;
+  j0 += j1;
+  i0 = (u32)(j0);
+  i0 = i32_load8_u(j0);
+  l7 = i0;
+  i1 = 1u;
+  i0 &= i1;
+  i0 = !(i0);
+  if (i0) {goto B18;}
+  i0 = 134480385u;
+  i1 = p1;
+  i2 = 3u;
+  i1 <<= (i2 & 31);
+  i0 >>= (i1 & 31);
+  l6 = i0;
+  goto B17;
+  B18:;
+  i0 = 15u;
+  i1 = 10u;
+  i2 = 5u;
+  i3 = p1;
+  i4 = 1u;
+  i3 &= i4;
+  i1 = i3 ? i1 : i2;
+  i2 = l6;
+  i3 = 1u;
+  i2 &= i3;
+  i0 = i2 ? i0 : i1;
+  l6 = i0;
+  B17:;
+  j0 = l11;
+  i0 = (u32)(j0);
+  j0 = i64_load(j0);
+  i1 = p1;
+  i2 = 65532u;
+  i1 &= i2;
+  i2 = p1;
+  i3 = 65534u;
+  i2 &= i3;
+  i3 = p1;
+  i4 = l5;
+  i5 = 1u;
+  i4 &= i5;
+  i2 = i4 ? i2 : i3;
+  i3 = l7;
+  i4 = 1u;
+  i3 &= i4;
+  i1 = i3 ? i1 : i2;
+  j1 = (u64)(i1);
+  j2 = 65535ull;
+  j1 &= j2;
+  j2 = 2ull;
+  j1 <<= (j2 & 63);
+  j0 += j1;
+  l12 = j0;
+  i0 = (u32)(j0);
+  i1 = p2;
+  j2 = l12;
+  i2 = (u32)(j2);
+  i2 = i32_load(j2);
+  p1 = i2;
+  i1 ^= i2;
+  i2 = l6;
+  i3 = l3;
+  i2 &= i3;
+  i3 = 2u;
+  i2 <<= (i3 & 31);
+  j2 = (u64)(i2);
+  j3 = 60ull;
+  j2 &= j3;
+  j3 = 1048844ull;
+  j2 += j3;
+  i2 = (u32)(j2);
+  i2 = i32_load(j2);
+  i1 &= i2;
+  i2 = p1;
+  i1 ^= i2;
+  i32_store(j0, i1);
+  B12:;
+  i0 = 0u;
+  l3 = i0;
   B3:;
   j0 = p0;
   i0 = (u32)(j0);
@@ -112811,20 +113661,16 @@ static u32 module_zak_put_word(module *self, u64 p0, u32 p1, u32 p2) {
   i32_store8(j0 + 3, i1);
   j0 = p0;
   i0 = (u32)(j0);
-  j1 = l4;
+  j1 = l11;
   i64_store(j0 + 8, j1);
   j0 = p0;
   j1 = 4ull;
   j0 += j1;
   i0 = (u32)(j0);
-  i1 = l6;
+  i1 = l4;
   i32_store(j0, i1);
   B0:;
-  j0 = l3;
-  j1 = 16ull;
-  j0 += j1;
-  self->g0 = j0;
-  i0 = l5;
+  i0 = l3;
   return i0;
 }
 
@@ -114009,7 +114855,7 @@ static u32 module_zak_restore(module *self, u64 p0, u64 p1, u64 p2) {
   j0 = p1;
   j1 = l4;
   j2 = p2;
-  i0 = f83(self, j0, j1, j2); m = self->memory; if (NEVER(self->is_broken)) return ZAK_BROKEN;
+  i0 = f82(self, j0, j1, j2); m = self->memory; if (NEVER(self->is_broken)) return ZAK_BROKEN;
   l3 = i0;
   j0 = p0;
   i0 = (u32)(j0);
@@ -114033,10 +114879,10 @@ static u32 module_zak_restore(module *self, u64 p0, u64 p1, u64 p2) {
 }
 
 static u32 module_zak_restore_fixed(module *self, u64 p0, u64 p1, u64 p2) {
-  u32 l3 = 0, l4 = 0, l5 = 0, l6 = 0, l7 = 0;
-  u64 l8 = 0, l9 = 0, l10 = 0, l11 = 0, l12 = 0;
+  u32 l3 = 0, l4 = 0, l5 = 0, l6 = 0, l7 = 0, l8 = 0, l9 = 0;
+  u64 l10 = 0, l11 = 0, l12 = 0, l13 = 0, l14 = 0, l15 = 0;
   u8 *m = self->memory;
-  u32 i0, i1, i2, i3;
+  u32 i0, i1, i2, i3, i4;
   u64 j0, j1, j2, j3;
   i0 = 20u;
   l3 = i0;
@@ -114063,7 +114909,7 @@ static u32 module_zak_restore_fixed(module *self, u64 p0, u64 p1, u64 p2) {
   j0 = p0;
   i0 = (u32)(j0);
   j0 = i64_load(j0 + 8u);
-  l8 = j0;
+  l10 = j0;
   j0 = p0;
   i0 = (u32)(j0);
   j1 = 0ull;
@@ -114081,136 +114927,239 @@ static u32 module_zak_restore_fixed(module *self, u64 p0, u64 p1, u64 p2) {
   i3 = !(j3);
   j1 = i3 ? j1 : j2;
   j0 += j1;
-  l9 = j0;
+  l11 = j0;
   j1 = p2;
   j2 = 18446744073709551612ull;
   j1 += j2;
-  l10 = j1;
+  l12 = j1;
   j0 += j1;
   i0 = (u32)(j0);
   i0 = i32_load(j0);
   l4 = i0;
-  j0 = l10;
-  i0 = !(j0);
+  j0 = l12;
+  j1 = 2049ull;
+  i0 = j0 >= j1;
   if (i0) {goto B4;}
-  j0 = p2;
-  j1 = 5ull;
-  i0 = j0 != j1;
-  if (i0) {goto B7;}
-  j0 = 0ull;
-  p2 = j0;
-  i0 = 0u;
-  l5 = i0;
   i0 = 1u;
-  l6 = i0;
-  goto B6;
-  B7:;
-  j0 = p2;
-  j1 = 1ull;
-  j0 &= j1;
-  l11 = j0;
-  j0 = l10;
-  j1 = 18446744073709551614ull;
-  j0 &= j1;
-  l12 = j0;
-  j0 = 0ull;
-  p2 = j0;
-  i0 = 0u;
   l5 = i0;
-  i0 = 1u;
+  i0 = 0u;
   l6 = i0;
-  L8: 
+  j0 = l11;
+  l13 = j0;
+  j0 = l12;
+  l14 = j0;
+  goto B3;
+  B4:;
+  i0 = 0u;
+  l6 = i0;
+  i0 = 1u;
+  l5 = i0;
+  j0 = l12;
+  l14 = j0;
+  j0 = l11;
+  l13 = j0;
+  L5: 
+    j0 = 0ull;
+    p1 = j0;
+    L6: 
+      i0 = l5;
+      j1 = l13;
+      j2 = p1;
+      j1 += j2;
+      p2 = j1;
+      i1 = (u32)(j1);
+      i1 = i32_load8_u(j1);
+      i0 += i1;
+      l7 = i0;
+      j1 = p2;
+      j2 = 1ull;
+      j1 += j2;
+      i1 = (u32)(j1);
+      i1 = i32_load8_u(j1);
+      i0 += i1;
+      l8 = i0;
+      j1 = p2;
+      j2 = 2ull;
+      j1 += j2;
+      i1 = (u32)(j1);
+      i1 = i32_load8_u(j1);
+      i0 += i1;
+      l9 = i0;
+      j1 = p2;
+      j2 = 3ull;
+      j1 += j2;
+      i1 = (u32)(j1);
+      i1 = i32_load8_u(j1);
+      i0 += i1;
+      l5 = i0;
+      i1 = l9;
+      i2 = l8;
+      i3 = l7;
+      i4 = l6;
+      i3 += i4;
+      i2 += i3;
+      i1 += i2;
+      i0 += i1;
+      l6 = i0;
+      j0 = p1;
+      j1 = 4ull;
+      j0 += j1;
+      p1 = j0;
+      j1 = 2048ull;
+      i0 = j0 != j1;
+      if (i0) {goto L6;}
     i0 = l6;
-    j1 = l9;
-    j2 = p2;
+    i1 = 65521u;
+    if (i1 == 0) { self->is_broken = true; return ZAK_BROKEN; } i0 = i0 % i1;
+    l6 = i0;
+    i0 = l5;
+    i1 = 65521u;
+    if (i1 == 0) { self->is_broken = true; return ZAK_BROKEN; } i0 = i0 % i1;
+    l5 = i0;
+    j0 = l13;
+    j1 = 2048ull;
+    j0 += j1;
+    l13 = j0;
+    j0 = l14;
+    j1 = 18446744073709549568ull;
+    j0 += j1;
+    l14 = j0;
+    j1 = 2048ull;
+    i0 = j0 > j1;
+    if (i0) {goto L5;}
+  B3:;
+  j0 = l14;
+  i0 = !(j0);
+  if (i0) {goto B7;}
+  j0 = l14;
+  j1 = 3ull;
+  j0 &= j1;
+  p1 = j0;
+  j0 = 0ull;
+  l15 = j0;
+  j0 = l14;
+  j1 = 4ull;
+  i0 = j0 < j1;
+  if (i0) {goto B9;}
+  j0 = l14;
+  j1 = 4092ull;
+  j0 &= j1;
+  l14 = j0;
+  j0 = 0ull;
+  l15 = j0;
+  L10: 
+    i0 = l5;
+    j1 = l13;
+    j2 = l15;
     j1 += j2;
-    p1 = j1;
+    p2 = j1;
     i1 = (u32)(j1);
     i1 = i32_load8_u(j1);
     i0 += i1;
-    i1 = 65521u;
-    if (i1 == 0) { self->is_broken = true; return ZAK_BROKEN; } i0 = i0 % i1;
     l7 = i0;
-    j1 = p1;
+    j1 = p2;
     j2 = 1ull;
     j1 += j2;
     i1 = (u32)(j1);
     i1 = i32_load8_u(j1);
     i0 += i1;
-    i1 = 65521u;
-    if (i1 == 0) { self->is_broken = true; return ZAK_BROKEN; } i0 = i0 % i1;
-    l6 = i0;
-    i1 = l7;
-    i2 = l5;
-    i1 += i2;
-    i2 = 65521u;
-    if (i2 == 0) { self->is_broken = true; return ZAK_BROKEN; } i1 = i1 % i2;
-    i0 += i1;
-    i1 = 65521u;
-    if (i1 == 0) { self->is_broken = true; return ZAK_BROKEN; } i0 = i0 % i1;
-    l5 = i0;
-    j0 = l12;
+    l8 = i0;
     j1 = p2;
     j2 = 2ull;
     j1 += j2;
-    p2 = j1;
+    i1 = (u32)(j1);
+    i1 = i32_load8_u(j1);
+    i0 += i1;
+    l9 = i0;
+    j1 = p2;
+    j2 = 3ull;
+    j1 += j2;
+    i1 = (u32)(j1);
+    i1 = i32_load8_u(j1);
+    i0 += i1;
+    l5 = i0;
+    i1 = l9;
+    i2 = l8;
+    i3 = l7;
+    i4 = l6;
+    i3 += i4;
+    i2 += i3;
+    i1 += i2;
+    i0 += i1;
+    l6 = i0;
+    j0 = l14;
+    j1 = l15;
+    j2 = 4ull;
+    j1 += j2;
+    l15 = j1;
     i0 = j0 != j1;
-    if (i0) {goto L8;}
-  j0 = l11;
+    if (i0) {goto L10;}
+  j0 = p1;
   i0 = !(j0);
-  if (i0) {goto B5;}
-  B6:;
+  if (i0) {goto B8;}
+  B9:;
+  j0 = l13;
+  j1 = l15;
+  j0 += j1;
+  p2 = j0;
+  L11: 
+    i0 = l5;
+    j1 = p2;
+    i1 = (u32)(j1);
+    i1 = i32_load8_u(j1);
+    i0 += i1;
+    l5 = i0;
+    i1 = l6;
+    i0 += i1;
+    l6 = i0;
+    j0 = p2;
+    j1 = 1ull;
+    j0 += j1;
+    p2 = j0;
+    j0 = p1;
+    j1 = 18446744073709551615ull;
+    j0 += j1;
+    p1 = j0;
+    j1 = 0ull;
+    i0 = j0 != j1;
+    if (i0) {goto L11;}
+  B8:;
   i0 = l6;
-  j1 = l9;
-  j2 = p2;
-  j1 += j2;
-  i1 = (u32)(j1);
-  i1 = i32_load8_u(j1);
-  i0 += i1;
   i1 = 65521u;
   if (i1 == 0) { self->is_broken = true; return ZAK_BROKEN; } i0 = i0 % i1;
   l6 = i0;
-  i1 = l5;
-  i0 += i1;
+  i0 = l5;
   i1 = 65521u;
   if (i1 == 0) { self->is_broken = true; return ZAK_BROKEN; } i0 = i0 % i1;
   l5 = i0;
-  B5:;
+  B7:;
   i0 = l4;
-  i1 = l5;
+  i1 = l6;
   i2 = 16u;
   i1 <<= (i2 & 31);
-  i2 = l6;
+  i2 = l5;
   i1 |= i2;
   i0 = i0 != i1;
   if (i0) {goto B2;}
-  j0 = l10;
+  j0 = l12;
   j1 = 9ull;
   i0 = j0 < j1;
-  if (i0) {goto B3;}
-  j0 = l10;
-  j1 = l9;
+  if (i0) {goto B12;}
+  j0 = l12;
+  j1 = l11;
   i1 = (u32)(j1);
   j1 = i64_load32_u(j1 + 5u);
   p2 = j1;
-  j2 = l10;
+  j2 = l12;
   j3 = p2;
   i2 = j2 < j3;
   j0 = i2 ? j0 : j1;
-  l10 = j0;
-  goto B3;
-  B4:;
-  j0 = 0ull;
-  l10 = j0;
-  i0 = l4;
-  i1 = 1u;
-  i0 = i0 != i1;
-  if (i0) {goto B2;}
-  B3:;
-  j0 = l8;
-  j1 = l9;
-  j2 = l10;
-  i0 = f83(self, j0, j1, j2); m = self->memory; if (NEVER(self->is_broken)) return ZAK_BROKEN;
+  l12 = j0;
+  B12:;
+  j0 = l10;
+  j1 = l11;
+  j2 = l12;
+  i0 = f82(self, j0, j1, j2); m = self->memory; if (NEVER(self->is_broken)) return ZAK_BROKEN;
   l3 = i0;
   B2:;
   j0 = p0;
@@ -114227,7 +115176,7 @@ static u32 module_zak_restore_fixed(module *self, u64 p0, u64 p1, u64 p2) {
   i32_store(j0 + 4, i1);
   j0 = p0;
   i0 = (u32)(j0);
-  j1 = l8;
+  j1 = l10;
   i64_store(j0 + 8, j1);
   B0:;
   i0 = l3;
@@ -114522,7 +115471,7 @@ static u32 module_zak_run(module *self, u64 p0, u64 p1, u64 p2, u64 p3, u64 p4, 
   j1 = 4616ull;
   j0 += j1;
   j1 = 1ull;
-  f87(self, j0, j1); if (NEVER(self->is_broken)) return ZAK_BROKEN;
+  f86(self, j0, j1); if (NEVER(self->is_broken)) return ZAK_BROKEN;
   j0 = l8;
   i0 = (u32)(j0);
   j1 = l8;
@@ -114594,7 +115543,7 @@ static u32 module_zak_run(module *self, u64 p0, u64 p1, u64 p2, u64 p3, u64 p4, 
   j5 = 4472ull;
   j4 += j5;
   j5 = 18446744073709551615ull;
-  f94(self, j0, j1, j2, j3, j4, j5); m = self->memory; if (NEVER(self->is_broken)) return ZAK_BROKEN;
+  f93(self, j0, j1, j2, j3, j4, j5); m = self->memory; if (NEVER(self->is_broken)) return ZAK_BROKEN;
   j0 = l8;
   i0 = (u32)(j0);
   j0 = i64_load(j0 + 4528u);
@@ -115032,7 +115981,7 @@ static u32 module_zak_run(module *self, u64 p0, u64 p1, u64 p2, u64 p3, u64 p4, 
   j0 = (u64)(s64)(s8)(u8)(j0);
   j1 = 2ull;
   j0 <<= (j1 & 63);
-  j1 = 1049796ull;
+  j1 = 1051908ull;
   j0 += j1;
   i0 = (u32)(j0);
   i0 = i32_load(j0);
@@ -115511,7 +116460,7 @@ static u32 module_zak_run_on(module *self, u64 p0, u64 p1, u64 p2, u32 p3, u32 p
     j1 = l10;
     j2 = 56ull;
     j1 += j2;
-    f95(self, j0, j1); if (NEVER(self->is_broken)) return ZAK_BROKEN;
+    f94(self, j0, j1); if (NEVER(self->is_broken)) return ZAK_BROKEN;
     j0 = l10;
     i0 = (u32)(j0);
     i0 = i32_load16_u(j0 + 232u);
@@ -115908,7 +116857,7 @@ static u32 module_zak_run_on(module *self, u64 p0, u64 p1, u64 p2, u32 p3, u32 p
   j2 = 1ull;
   j1 += j2;
   p1 = j1;
-  f87(self, j0, j1); if (NEVER(self->is_broken)) return ZAK_BROKEN;
+  f86(self, j0, j1); if (NEVER(self->is_broken)) return ZAK_BROKEN;
   j0 = l10;
   i0 = (u32)(j0);
   j1 = l10;
@@ -115981,7 +116930,7 @@ static u32 module_zak_run_on(module *self, u64 p0, u64 p1, u64 p2, u32 p3, u32 p
   j4 += j5;
   i5 = p4;
   j5 = (u64)(i5);
-  f94(self, j0, j1, j2, j3, j4, j5); m = self->memory; if (NEVER(self->is_broken)) return ZAK_BROKEN;
+  f93(self, j0, j1, j2, j3, j4, j5); m = self->memory; if (NEVER(self->is_broken)) return ZAK_BROKEN;
   j0 = l10;
   i0 = (u32)(j0);
   i0 = i32_load8_u(j0 + 96u);
@@ -116212,7 +117161,7 @@ static u32 module_zak_run_on(module *self, u64 p0, u64 p1, u64 p2, u32 p3, u32 p
   j0 = (u64)(s64)(s8)(u8)(j0);
   j1 = 2ull;
   j0 <<= (j1 & 63);
-  j1 = 1049796ull;
+  j1 = 1051908ull;
   j0 += j1;
   i0 = (u32)(j0);
   i0 = i32_load(j0);
@@ -116350,7 +117299,7 @@ static u32 module_zak_save(module *self, u64 p0, u64 p1, u64 p2, u64 p3) {
   i4 = !(j4);
   j2 = i4 ? j2 : j3;
   j1 += j2;
-  f96(self, j0, j1); if (NEVER(self->is_broken)) return ZAK_BROKEN;
+  f95(self, j0, j1); if (NEVER(self->is_broken)) return ZAK_BROKEN;
   i0 = 0u;
   l4 = i0;
   B4:;
@@ -116376,10 +117325,10 @@ static u32 module_zak_save(module *self, u64 p0, u64 p1, u64 p2, u64 p3) {
 }
 
 static u32 module_zak_save_fixed(module *self, u64 p0, u64 p1, u64 p2) {
-  u32 l3 = 0, l4 = 0, l5 = 0;
-  u64 l6 = 0, l7 = 0, l8 = 0, l9 = 0, l10 = 0;
+  u32 l3 = 0, l4 = 0, l5 = 0, l6 = 0, l7 = 0;
+  u64 l8 = 0, l9 = 0, l10 = 0, l11 = 0, l12 = 0;
   u8 *m = self->memory;
-  u32 i0, i1, i2, i4;
+  u32 i0, i1, i2, i3, i4;
   u64 j0, j1, j2, j3, j4;
   i0 = 20u;
   l3 = i0;
@@ -116406,26 +117355,26 @@ static u32 module_zak_save_fixed(module *self, u64 p0, u64 p1, u64 p2) {
   j0 = p0;
   i0 = (u32)(j0);
   j0 = i64_load(j0 + 8u);
-  l6 = j0;
+  l8 = j0;
   j0 = p0;
   i0 = (u32)(j0);
   j1 = 0ull;
   i64_store(j0 + 8, j1);
-  j0 = l6;
+  j0 = l8;
   j1 = 136ull;
   j0 += j1;
   i0 = (u32)(j0);
   i0 = i32_load16_u(j0);
   if (i0) {goto B3;}
-  j0 = l6;
+  j0 = l8;
   j1 = 138ull;
   j0 += j1;
   i0 = (u32)(j0);
   i0 = i32_load8_u(j0);
   if (i0) {goto B3;}
   j0 = 265086ull;
-  l7 = j0;
-  j0 = l6;
+  l9 = j0;
+  j0 = l8;
   j1 = 134ull;
   j0 += j1;
   i0 = (u32)(j0);
@@ -116435,24 +117384,24 @@ static u32 module_zak_save_fixed(module *self, u64 p0, u64 p1, u64 p2) {
   i0 = !(i0);
   if (i0) {goto B2;}
   B3:;
-  j0 = l6;
+  j0 = l8;
   j1 = 2032ull;
   j0 += j1;
   i0 = (u32)(j0);
   j0 = i64_load(j0);
   j1 = 265086ull;
   j0 += j1;
-  l7 = j0;
+  l9 = j0;
   B2:;
   i0 = 25u;
   l3 = i0;
   j0 = p2;
-  j1 = l7;
+  j1 = l9;
   j2 = 4ull;
   j1 += j2;
   i0 = j0 < j1;
   if (i0) {goto B4;}
-  j0 = l6;
+  j0 = l8;
   j1 = p1;
   j2 = 4096ull;
   j3 = 0ull;
@@ -116460,136 +117409,241 @@ static u32 module_zak_save_fixed(module *self, u64 p0, u64 p1, u64 p2) {
   i4 = !(j4);
   j2 = i4 ? j2 : j3;
   j1 += j2;
-  l8 = j1;
-  f96(self, j0, j1); if (NEVER(self->is_broken)) return ZAK_BROKEN;
+  l10 = j1;
+  f95(self, j0, j1); if (NEVER(self->is_broken)) return ZAK_BROKEN;
   j0 = p2;
   j1 = 18446744073709551612ull;
   j0 += j1;
-  p1 = j0;
-  j1 = l7;
+  l11 = j0;
+  j1 = l9;
   i0 = j0 == j1;
   if (i0) {goto B5;}
-  j0 = p1;
-  j1 = l7;
+  j0 = l11;
+  j1 = l9;
   j0 -= j1;
-  l9 = j0;
+  p2 = j0;
   i0 = !(j0);
   if (i0) {goto B5;}
-  j0 = l8;
-  j1 = l7;
+  j0 = l10;
+  j1 = l9;
   j0 += j1;
   i0 = (u32)(j0);
   i1 = 0u;
-  j2 = l9;
+  j2 = p2;
   i2 = (u32)(j2);
   memory_fill(j0, i1, j2);
   B5:;
-  j0 = l8;
-  j1 = p1;
-  j0 += j1;
-  l9 = j0;
-  j0 = p1;
-  i0 = !(j0);
-  i0 = !(i0);
+  j0 = l11;
+  j1 = 2049ull;
+  i0 = j0 >= j1;
   if (i0) {goto B7;}
   i0 = 1u;
   l3 = i0;
+  i0 = 0u;
+  l4 = i0;
+  j0 = l10;
+  l9 = j0;
+  j0 = l11;
+  l12 = j0;
   goto B6;
   B7:;
-  j0 = p2;
-  j1 = 5ull;
-  i0 = j0 != j1;
-  if (i0) {goto B10;}
-  j0 = 0ull;
-  p2 = j0;
   i0 = 0u;
-  l3 = i0;
-  i0 = 1u;
   l4 = i0;
-  goto B9;
-  B10:;
-  j0 = p2;
-  j1 = 1ull;
-  j0 &= j1;
-  l10 = j0;
-  j0 = p1;
-  j1 = 18446744073709551614ull;
-  j0 &= j1;
-  l7 = j0;
-  j0 = 0ull;
-  p2 = j0;
-  i0 = 0u;
-  l3 = i0;
   i0 = 1u;
-  l4 = i0;
-  L11: 
+  l3 = i0;
+  j0 = l11;
+  l12 = j0;
+  j0 = l10;
+  l9 = j0;
+  L8: 
+    j0 = 0ull;
+    p1 = j0;
+    L9: 
+      i0 = l3;
+      j1 = l9;
+      j2 = p1;
+      j1 += j2;
+      p2 = j1;
+      i1 = (u32)(j1);
+      i1 = i32_load8_u(j1);
+      i0 += i1;
+      l5 = i0;
+      j1 = p2;
+      j2 = 1ull;
+      j1 += j2;
+      i1 = (u32)(j1);
+      i1 = i32_load8_u(j1);
+      i0 += i1;
+      l6 = i0;
+      j1 = p2;
+      j2 = 2ull;
+      j1 += j2;
+      i1 = (u32)(j1);
+      i1 = i32_load8_u(j1);
+      i0 += i1;
+      l7 = i0;
+      j1 = p2;
+      j2 = 3ull;
+      j1 += j2;
+      i1 = (u32)(j1);
+      i1 = i32_load8_u(j1);
+      i0 += i1;
+      l3 = i0;
+      i1 = l7;
+      i2 = l6;
+      i3 = l5;
+      i4 = l4;
+      i3 += i4;
+      i2 += i3;
+      i1 += i2;
+      i0 += i1;
+      l4 = i0;
+      j0 = p1;
+      j1 = 4ull;
+      j0 += j1;
+      p1 = j0;
+      j1 = 2048ull;
+      i0 = j0 != j1;
+      if (i0) {goto L9;}
     i0 = l4;
-    j1 = l8;
-    j2 = p2;
+    i1 = 65521u;
+    if (i1 == 0) { self->is_broken = true; return ZAK_BROKEN; } i0 = i0 % i1;
+    l4 = i0;
+    i0 = l3;
+    i1 = 65521u;
+    if (i1 == 0) { self->is_broken = true; return ZAK_BROKEN; } i0 = i0 % i1;
+    l3 = i0;
+    j0 = l9;
+    j1 = 2048ull;
+    j0 += j1;
+    l9 = j0;
+    j0 = l12;
+    j1 = 18446744073709549568ull;
+    j0 += j1;
+    l12 = j0;
+    j1 = 2048ull;
+    i0 = j0 > j1;
+    if (i0) {goto L8;}
+  B6:;
+  j0 = l10;
+  j1 = l11;
+  j0 += j1;
+  l10 = j0;
+  j0 = l12;
+  i0 = !(j0);
+  if (i0) {goto B10;}
+  j0 = l12;
+  j1 = 3ull;
+  j0 &= j1;
+  p1 = j0;
+  j0 = 0ull;
+  l11 = j0;
+  j0 = l12;
+  j1 = 4ull;
+  i0 = j0 < j1;
+  if (i0) {goto B12;}
+  j0 = l12;
+  j1 = 4092ull;
+  j0 &= j1;
+  l12 = j0;
+  j0 = 0ull;
+  l11 = j0;
+  L13: 
+    i0 = l3;
+    j1 = l9;
+    j2 = l11;
     j1 += j2;
-    p1 = j1;
+    p2 = j1;
     i1 = (u32)(j1);
     i1 = i32_load8_u(j1);
     i0 += i1;
-    i1 = 65521u;
-    if (i1 == 0) { self->is_broken = true; return ZAK_BROKEN; } i0 = i0 % i1;
     l5 = i0;
-    j1 = p1;
+    j1 = p2;
     j2 = 1ull;
     j1 += j2;
     i1 = (u32)(j1);
     i1 = i32_load8_u(j1);
     i0 += i1;
-    i1 = 65521u;
-    if (i1 == 0) { self->is_broken = true; return ZAK_BROKEN; } i0 = i0 % i1;
-    l4 = i0;
-    i1 = l5;
-    i2 = l3;
-    i1 += i2;
-    i2 = 65521u;
-    if (i2 == 0) { self->is_broken = true; return ZAK_BROKEN; } i1 = i1 % i2;
-    i0 += i1;
-    i1 = 65521u;
-    if (i1 == 0) { self->is_broken = true; return ZAK_BROKEN; } i0 = i0 % i1;
-    l3 = i0;
-    j0 = l7;
+    l6 = i0;
     j1 = p2;
     j2 = 2ull;
     j1 += j2;
-    p2 = j1;
+    i1 = (u32)(j1);
+    i1 = i32_load8_u(j1);
+    i0 += i1;
+    l7 = i0;
+    j1 = p2;
+    j2 = 3ull;
+    j1 += j2;
+    i1 = (u32)(j1);
+    i1 = i32_load8_u(j1);
+    i0 += i1;
+    l3 = i0;
+    i1 = l7;
+    i2 = l6;
+    i3 = l5;
+    i4 = l4;
+    i3 += i4;
+    i2 += i3;
+    i1 += i2;
+    i0 += i1;
+    l4 = i0;
+    j0 = l12;
+    j1 = l11;
+    j2 = 4ull;
+    j1 += j2;
+    l11 = j1;
     i0 = j0 != j1;
-    if (i0) {goto L11;}
-  j0 = l10;
+    if (i0) {goto L13;}
+  j0 = p1;
   i0 = !(j0);
-  if (i0) {goto B8;}
-  B9:;
+  if (i0) {goto B11;}
+  B12:;
+  j0 = l9;
+  j1 = l11;
+  j0 += j1;
+  p2 = j0;
+  L14: 
+    i0 = l3;
+    j1 = p2;
+    i1 = (u32)(j1);
+    i1 = i32_load8_u(j1);
+    i0 += i1;
+    l3 = i0;
+    i1 = l4;
+    i0 += i1;
+    l4 = i0;
+    j0 = p2;
+    j1 = 1ull;
+    j0 += j1;
+    p2 = j0;
+    j0 = p1;
+    j1 = 18446744073709551615ull;
+    j0 += j1;
+    p1 = j0;
+    j1 = 0ull;
+    i0 = j0 != j1;
+    if (i0) {goto L14;}
+  B11:;
   i0 = l4;
-  j1 = l8;
-  j2 = p2;
-  j1 += j2;
-  i1 = (u32)(j1);
-  i1 = i32_load8_u(j1);
-  i0 += i1;
   i1 = 65521u;
   if (i1 == 0) { self->is_broken = true; return ZAK_BROKEN; } i0 = i0 % i1;
   l4 = i0;
-  i1 = l3;
-  i0 += i1;
+  i0 = l3;
   i1 = 65521u;
   if (i1 == 0) { self->is_broken = true; return ZAK_BROKEN; } i0 = i0 % i1;
   l3 = i0;
-  B8:;
-  i0 = l3;
-  i1 = 16u;
-  i0 <<= (i1 & 31);
-  i1 = l4;
-  i0 |= i1;
-  l3 = i0;
-  B6:;
-  j0 = l9;
+  B10:;
+  j0 = l10;
   i0 = (u32)(j0);
   i1 = l3;
-  i32_store(j0, i1);
+  i32_store16(j0, i1);
+  j0 = l10;
+  j1 = 2ull;
+  j0 += j1;
+  i0 = (u32)(j0);
+  i1 = l4;
+  i32_store16(j0, i1);
   i0 = 0u;
   l3 = i0;
   B4:;
@@ -116607,7 +117661,7 @@ static u32 module_zak_save_fixed(module *self, u64 p0, u64 p1, u64 p2) {
   i32_store(j0 + 4, i1);
   j0 = p0;
   i0 = (u32)(j0);
-  j1 = l6;
+  j1 = l8;
   i64_store(j0 + 8, j1);
   B0:;
   i0 = l3;
@@ -116766,7 +117820,7 @@ static u32 module_zak_screen_cell(module *self, u64 p0, u32 p1, u32 p2, u32 p3, 
   j2 = l6;
   j3 = 2072ull;
   j2 += j3;
-  f97(self, j0, j1, j2); m = self->memory; if (NEVER(self->is_broken)) return ZAK_BROKEN;
+  f96(self, j0, j1, j2); m = self->memory; if (NEVER(self->is_broken)) return ZAK_BROKEN;
   j0 = l5;
   i0 = (u32)(j0);
   i0 = i32_load8_u(j0 + 8u);
@@ -116979,7 +118033,7 @@ static u32 module_zak_screen_cursor(module *self, u64 p0, u32 p1, u64 p2) {
   j2 = l4;
   j3 = 2072ull;
   j2 += j3;
-  f97(self, j0, j1, j2); m = self->memory; if (NEVER(self->is_broken)) return ZAK_BROKEN;
+  f96(self, j0, j1, j2); m = self->memory; if (NEVER(self->is_broken)) return ZAK_BROKEN;
   j0 = l3;
   i0 = (u32)(j0);
   i0 = i32_load8_u(j0);
@@ -117154,7 +118208,7 @@ static u32 module_zak_screen_pixel(module *self, u64 p0, u32 p1, u32 p2, u32 p3,
   j2 = l6;
   j3 = 2072ull;
   j2 += j3;
-  f97(self, j0, j1, j2); m = self->memory; if (NEVER(self->is_broken)) return ZAK_BROKEN;
+  f96(self, j0, j1, j2); m = self->memory; if (NEVER(self->is_broken)) return ZAK_BROKEN;
   j0 = l5;
   i0 = (u32)(j0);
   i0 = i32_load8_u(j0 + 8u);
@@ -117362,7 +118416,7 @@ static u32 module_zak_screen_read(module *self, u64 p0, u64 p1) {
   j2 = l3;
   j3 = 2072ull;
   j2 += j3;
-  f97(self, j0, j1, j2); m = self->memory; if (NEVER(self->is_broken)) return ZAK_BROKEN;
+  f96(self, j0, j1, j2); m = self->memory; if (NEVER(self->is_broken)) return ZAK_BROKEN;
   j0 = l2;
   i0 = (u32)(j0);
   i0 = i32_load8_u(j0);
@@ -117585,7 +118639,7 @@ static u32 module_zak_show_bda(module *self, u64 p0, u64 p1, u64 p2, u64 p3) {
   j2 += j3;
   j3 = p2;
   j4 = p3;
-  i0 = f100(self, j0, j1, j2, j3, j4); m = self->memory; if (NEVER(self->is_broken)) return ZAK_BROKEN;
+  i0 = f99(self, j0, j1, j2, j3, j4); m = self->memory; if (NEVER(self->is_broken)) return ZAK_BROKEN;
   l5 = i0;
   j0 = l4;
   j1 = 16ull;
@@ -117631,7 +118685,7 @@ static u32 module_zak_show_beam(module *self, u64 p0, u64 p1, u64 p2, u64 p3) {
   j2 += j3;
   j3 = p2;
   j4 = p3;
-  i0 = f100(self, j0, j1, j2, j3, j4); m = self->memory; if (NEVER(self->is_broken)) return ZAK_BROKEN;
+  i0 = f99(self, j0, j1, j2, j3, j4); m = self->memory; if (NEVER(self->is_broken)) return ZAK_BROKEN;
   l5 = i0;
   j0 = l4;
   j1 = 16ull;
@@ -117677,7 +118731,7 @@ static u32 module_zak_show_cells(module *self, u64 p0, u64 p1, u64 p2, u64 p3) {
   j2 += j3;
   j3 = p2;
   j4 = p3;
-  i0 = f100(self, j0, j1, j2, j3, j4); m = self->memory; if (NEVER(self->is_broken)) return ZAK_BROKEN;
+  i0 = f99(self, j0, j1, j2, j3, j4); m = self->memory; if (NEVER(self->is_broken)) return ZAK_BROKEN;
   l5 = i0;
   j0 = l4;
   j1 = 16ull;
@@ -117722,7 +118776,7 @@ static u32 module_zak_show_dac(module *self, u64 p0, u32 p1, u64 p2, u64 p3, u64
   j2 += j3;
   j3 = p3;
   j4 = p4;
-  i0 = f100(self, j0, j1, j2, j3, j4); m = self->memory; if (NEVER(self->is_broken)) return ZAK_BROKEN;
+  i0 = f99(self, j0, j1, j2, j3, j4); m = self->memory; if (NEVER(self->is_broken)) return ZAK_BROKEN;
   p1 = i0;
   j0 = l5;
   j1 = 16ull;
@@ -117768,7 +118822,7 @@ static u32 module_zak_show_latches(module *self, u64 p0, u64 p1, u64 p2, u64 p3)
   j2 += j3;
   j3 = p2;
   j4 = p3;
-  i0 = f100(self, j0, j1, j2, j3, j4); m = self->memory; if (NEVER(self->is_broken)) return ZAK_BROKEN;
+  i0 = f99(self, j0, j1, j2, j3, j4); m = self->memory; if (NEVER(self->is_broken)) return ZAK_BROKEN;
   l5 = i0;
   j0 = l4;
   j1 = 16ull;
@@ -117852,7 +118906,7 @@ static u32 module_zak_show_plane(module *self, u64 p0, u32 p1, u32 p2, u32 p3, u
   j2 += j3;
   j3 = p5;
   j4 = p6;
-  i0 = f100(self, j0, j1, j2, j3, j4); m = self->memory; if (NEVER(self->is_broken)) return ZAK_BROKEN;
+  i0 = f99(self, j0, j1, j2, j3, j4); m = self->memory; if (NEVER(self->is_broken)) return ZAK_BROKEN;
   l8 = i0;
   B0:;
   j0 = l7;
@@ -117895,7 +118949,7 @@ static u32 module_zak_show_regs(module *self, u64 p0, u64 p1, u64 p2, u64 p3) {
   j2 += j3;
   j3 = p2;
   j4 = p3;
-  i0 = f100(self, j0, j1, j2, j3, j4); m = self->memory; if (NEVER(self->is_broken)) return ZAK_BROKEN;
+  i0 = f99(self, j0, j1, j2, j3, j4); m = self->memory; if (NEVER(self->is_broken)) return ZAK_BROKEN;
   l5 = i0;
   j0 = l4;
   j1 = 16ull;
@@ -118159,6 +119213,486 @@ static u32 module_zak_skip_frame(module *self, u64 p0) {
   return i0;
 }
 
+static u32 module_zak_status_text(module *self, u32 p0, u64 p1, u64 p2, u64 p3) {
+  u64 l4 = 0, l5 = 0, l6 = 0, l7 = 0;
+  u8 *m = self->memory;
+  u32 i0, i1, i2, i3;
+  u64 j0, j1, j2, j3;
+  j0 = 1049531ull;
+  l4 = j0;
+  j0 = 25ull;
+  l5 = j0;
+  i0 = p0;
+  switch (i0) {
+    case 0: goto B0;
+    case 1: goto B36;
+    case 2: goto B35;
+    case 3: goto B34;
+    case 4: goto B33;
+    case 5: goto B32;
+    case 6: goto B31;
+    case 7: goto B30;
+    case 8: goto B29;
+    case 9: goto B28;
+    case 10: goto B27;
+    case 11: goto B26;
+    case 12: goto B25;
+    case 13: goto B24;
+    case 14: goto B1;
+    case 15: goto B1;
+    case 16: goto B1;
+    case 17: goto B1;
+    case 18: goto B1;
+    case 19: goto B1;
+    case 20: goto B23;
+    case 21: goto B22;
+    case 22: goto B21;
+    case 23: goto B20;
+    case 24: goto B19;
+    case 25: goto B18;
+    case 26: goto B17;
+    case 27: goto B16;
+    case 28: goto B15;
+    case 29: goto B14;
+    case 30: goto B13;
+    case 31: goto B12;
+    case 32: goto B11;
+    case 33: goto B10;
+    case 34: goto B9;
+    case 35: goto B1;
+    case 36: goto B1;
+    case 37: goto B1;
+    case 38: goto B1;
+    case 39: goto B1;
+    case 40: goto B1;
+    case 41: goto B1;
+    case 42: goto B1;
+    case 43: goto B1;
+    case 44: goto B1;
+    case 45: goto B1;
+    case 46: goto B1;
+    case 47: goto B1;
+    case 48: goto B1;
+    case 49: goto B1;
+    case 50: goto B1;
+    case 51: goto B1;
+    case 52: goto B1;
+    case 53: goto B1;
+    case 54: goto B1;
+    case 55: goto B1;
+    case 56: goto B1;
+    case 57: goto B1;
+    case 58: goto B1;
+    case 59: goto B1;
+    case 60: goto B1;
+    case 61: goto B1;
+    case 62: goto B1;
+    case 63: goto B1;
+    case 64: goto B1;
+    case 65: goto B1;
+    case 66: goto B1;
+    case 67: goto B1;
+    case 68: goto B1;
+    case 69: goto B1;
+    case 70: goto B1;
+    case 71: goto B1;
+    case 72: goto B1;
+    case 73: goto B1;
+    case 74: goto B1;
+    case 75: goto B1;
+    case 76: goto B1;
+    case 77: goto B1;
+    case 78: goto B1;
+    case 79: goto B1;
+    case 80: goto B1;
+    case 81: goto B1;
+    case 82: goto B1;
+    case 83: goto B1;
+    case 84: goto B1;
+    case 85: goto B1;
+    case 86: goto B1;
+    case 87: goto B1;
+    case 88: goto B1;
+    case 89: goto B1;
+    case 90: goto B1;
+    case 91: goto B1;
+    case 92: goto B1;
+    case 93: goto B1;
+    case 94: goto B1;
+    case 95: goto B1;
+    case 96: goto B1;
+    case 97: goto B1;
+    case 98: goto B1;
+    case 99: goto B1;
+    case 100: goto B1;
+    case 101: goto B1;
+    case 102: goto B8;
+    case 103: goto B7;
+    case 104: goto B6;
+    case 105: goto B5;
+    case 106: goto B4;
+    case 107: goto B3;
+    case 108: goto B1;
+    case 109: goto B1;
+    case 110: goto B1;
+    case 111: goto B2;
+    default: goto B1;
+  }
+  B36:;
+  j0 = 1049556ull;
+  l4 = j0;
+  j0 = 72ull;
+  l5 = j0;
+  goto B0;
+  B35:;
+  j0 = 1049628ull;
+  l4 = j0;
+  j0 = 76ull;
+  l5 = j0;
+  goto B0;
+  B34:;
+  j0 = 1049704ull;
+  l4 = j0;
+  j0 = 32ull;
+  l5 = j0;
+  goto B0;
+  B33:;
+  j0 = 1049736ull;
+  l4 = j0;
+  j0 = 69ull;
+  l5 = j0;
+  goto B0;
+  B32:;
+  j0 = 1049805ull;
+  l4 = j0;
+  j0 = 46ull;
+  l5 = j0;
+  goto B0;
+  B31:;
+  j0 = 1049851ull;
+  l4 = j0;
+  j0 = 79ull;
+  l5 = j0;
+  goto B0;
+  B30:;
+  j0 = 1049930ull;
+  l4 = j0;
+  j0 = 40ull;
+  l5 = j0;
+  goto B0;
+  B29:;
+  j0 = 1049970ull;
+  l4 = j0;
+  j0 = 68ull;
+  l5 = j0;
+  goto B0;
+  B28:;
+  j0 = 1050038ull;
+  l4 = j0;
+  j0 = 83ull;
+  l5 = j0;
+  goto B0;
+  B27:;
+  j0 = 1050121ull;
+  l4 = j0;
+  j0 = 59ull;
+  l5 = j0;
+  goto B0;
+  B26:;
+  j0 = 1050180ull;
+  l4 = j0;
+  j0 = 74ull;
+  l5 = j0;
+  goto B0;
+  B25:;
+  j0 = 1050254ull;
+  l4 = j0;
+  j0 = 54ull;
+  l5 = j0;
+  goto B0;
+  B24:;
+  j0 = 1050308ull;
+  l4 = j0;
+  j0 = 51ull;
+  l5 = j0;
+  goto B0;
+  B23:;
+  j0 = 1050359ull;
+  l4 = j0;
+  j0 = 34ull;
+  l5 = j0;
+  goto B0;
+  B22:;
+  j0 = 1050393ull;
+  l4 = j0;
+  j0 = 43ull;
+  l5 = j0;
+  goto B0;
+  B21:;
+  j0 = 1050436ull;
+  l4 = j0;
+  j0 = 55ull;
+  l5 = j0;
+  goto B0;
+  B20:;
+  j0 = 1050491ull;
+  l4 = j0;
+  j0 = 40ull;
+  l5 = j0;
+  goto B0;
+  B19:;
+  j0 = 1050531ull;
+  l4 = j0;
+  j0 = 74ull;
+  l5 = j0;
+  goto B0;
+  B18:;
+  j0 = 1050605ull;
+  l4 = j0;
+  j0 = 68ull;
+  l5 = j0;
+  goto B0;
+  B17:;
+  j0 = 1050673ull;
+  l4 = j0;
+  j0 = 70ull;
+  l5 = j0;
+  goto B0;
+  B16:;
+  j0 = 1050743ull;
+  l4 = j0;
+  j0 = 75ull;
+  l5 = j0;
+  goto B0;
+  B15:;
+  j0 = 1050818ull;
+  l4 = j0;
+  j0 = 49ull;
+  l5 = j0;
+  goto B0;
+  B14:;
+  j0 = 1050867ull;
+  l4 = j0;
+  j0 = 69ull;
+  l5 = j0;
+  goto B0;
+  B13:;
+  j0 = 1050936ull;
+  l4 = j0;
+  j0 = 46ull;
+  l5 = j0;
+  goto B0;
+  B12:;
+  j0 = 1050982ull;
+  l4 = j0;
+  j0 = 63ull;
+  l5 = j0;
+  goto B0;
+  B11:;
+  j0 = 1051045ull;
+  l4 = j0;
+  j0 = 59ull;
+  l5 = j0;
+  goto B0;
+  B10:;
+  j0 = 1051104ull;
+  l4 = j0;
+  j0 = 57ull;
+  l5 = j0;
+  goto B0;
+  B9:;
+  j0 = 1051161ull;
+  l4 = j0;
+  j0 = 55ull;
+  l5 = j0;
+  goto B0;
+  B8:;
+  j0 = 1051216ull;
+  l4 = j0;
+  j0 = 67ull;
+  l5 = j0;
+  goto B0;
+  B7:;
+  j0 = 1051283ull;
+  l4 = j0;
+  j0 = 48ull;
+  l5 = j0;
+  goto B0;
+  B6:;
+  j0 = 1051331ull;
+  l4 = j0;
+  j0 = 57ull;
+  l5 = j0;
+  goto B0;
+  B5:;
+  j0 = 1051388ull;
+  l4 = j0;
+  j0 = 52ull;
+  l5 = j0;
+  goto B0;
+  B4:;
+  j0 = 1051440ull;
+  l4 = j0;
+  j0 = 68ull;
+  l5 = j0;
+  goto B0;
+  B3:;
+  j0 = 1051508ull;
+  l4 = j0;
+  j0 = 43ull;
+  l5 = j0;
+  goto B0;
+  B2:;
+  j0 = 1051551ull;
+  l4 = j0;
+  j0 = 71ull;
+  l5 = j0;
+  goto B0;
+  B1:;
+  j0 = 1051622ull;
+  l4 = j0;
+  j0 = 26ull;
+  l5 = j0;
+  B0:;
+  j0 = p3;
+  i0 = (u32)(j0);
+  j1 = l5;
+  i64_store(j0, j1);
+  i0 = 25u;
+  p0 = i0;
+  j0 = p2;
+  j1 = l5;
+  i0 = j0 < j1;
+  if (i0) {goto B37;}
+  j0 = p1;
+  j1 = 4096ull;
+  j2 = 0ull;
+  j3 = p1;
+  i3 = !(j3);
+  j1 = i3 ? j1 : j2;
+  j0 += j1;
+  l6 = j0;
+  j1 = l4;
+  j0 -= j1;
+  j1 = l5;
+  i0 = j0 >= j1;
+  if (i0) {goto B38;}
+  j0 = l5;
+  j1 = 124ull;
+  j0 &= j1;
+  l7 = j0;
+  j0 = l5;
+  j1 = 3ull;
+  j0 &= j1;
+  p2 = j0;
+  j0 = 0ull;
+  l5 = j0;
+  L39: 
+    j0 = l6;
+    j1 = l5;
+    j0 += j1;
+    p1 = j0;
+    i0 = (u32)(j0);
+    j1 = l4;
+    j2 = l5;
+    j1 += j2;
+    p3 = j1;
+    i1 = (u32)(j1);
+    i1 = i32_load8_u(j1);
+    i32_store8(j0, i1);
+    j0 = p1;
+    j1 = 1ull;
+    j0 += j1;
+    i0 = (u32)(j0);
+    j1 = p3;
+    j2 = 1ull;
+    j1 += j2;
+    i1 = (u32)(j1);
+    i1 = i32_load8_u(j1);
+    i32_store8(j0, i1);
+    j0 = p1;
+    j1 = 2ull;
+    j0 += j1;
+    i0 = (u32)(j0);
+    j1 = p3;
+    j2 = 2ull;
+    j1 += j2;
+    i1 = (u32)(j1);
+    i1 = i32_load8_u(j1);
+    i32_store8(j0, i1);
+    j0 = p1;
+    j1 = 3ull;
+    j0 += j1;
+    i0 = (u32)(j0);
+    j1 = p3;
+    j2 = 3ull;
+    j1 += j2;
+    i1 = (u32)(j1);
+    i1 = i32_load8_u(j1);
+    i32_store8(j0, i1);
+    j0 = l7;
+    j1 = l5;
+    j2 = 4ull;
+    j1 += j2;
+    l5 = j1;
+    i0 = j0 != j1;
+    if (i0) {goto L39;}
+  i0 = 0u;
+  p0 = i0;
+  j0 = p2;
+  i0 = !(j0);
+  if (i0) {goto B37;}
+  j0 = l4;
+  j1 = l5;
+  j0 += j1;
+  p1 = j0;
+  j0 = l6;
+  j1 = l5;
+  j0 += j1;
+  l5 = j0;
+  L40: 
+    j0 = l5;
+    i0 = (u32)(j0);
+    j1 = p1;
+    i1 = (u32)(j1);
+    i1 = i32_load8_u(j1);
+    i32_store8(j0, i1);
+    j0 = l5;
+    j1 = 1ull;
+    j0 += j1;
+    l5 = j0;
+    j0 = p1;
+    j1 = 1ull;
+    j0 += j1;
+    p1 = j0;
+    j0 = p2;
+    j1 = 18446744073709551615ull;
+    j0 += j1;
+    p2 = j0;
+    j1 = 0ull;
+    i0 = j0 != j1;
+    if (i0) {goto L40;}
+    goto B37;
+  { self->is_broken = true; return ZAK_BROKEN; }
+  B38:;
+  j0 = l5;
+  i0 = !(j0);
+  if (i0) {goto B41;}
+  j0 = l6;
+  i0 = (u32)(j0);
+  j1 = l4;
+  i1 = (u32)(j1);
+  j2 = l5;
+  i2 = (u32)(j2);
+  memory_copy(j0, j1, j2);
+  B41:;
+  i0 = 0u;
+  p0 = i0;
+  B37:;
+  i0 = p0;
+  return i0;
+}
+
 static u32 module_zak_version(module *self) {
   u32 i0;
   i0 = 65542u;
@@ -118264,11 +119798,11 @@ static u64 f156(module *self, u64 p0) {
   l1 = j0;
   j0 = 0ull;
   i0 = (u32)(j0);
-  j0 = i64_load(j0 + 1049840u);
+  j0 = i64_load(j0 + 1051952u);
   l2 = j0;
   i0 = !(j0);
   if (i0) {goto B10;}
-  j0 = 1049840ull;
+  j0 = 1051952ull;
   l3 = j0;
   j0 = l2;
   i0 = (u32)(j0);
@@ -118306,7 +119840,7 @@ static u64 f156(module *self, u64 p0) {
   l5 = j0;
   j0 = 0ull;
   i0 = (u32)(j0);
-  i0 = i32_load8_u(j0 + 1049848u);
+  i0 = i32_load8_u(j0 + 1051960u);
   if (i0) {goto B5;}
   i0 = self->pages;
   j0 = (u64)(i0);
@@ -118316,12 +119850,12 @@ static u64 f156(module *self, u64 p0) {
   j0 = 0ull;
   i0 = (u32)(j0);
   i1 = 1u;
-  i32_store8(j0 + 1049848, i1);
+  i32_store8(j0 + 1051960, i1);
   j0 = l2;
   j1 = 16ull;
   j0 <<= (j1 & 63);
   l3 = j0;
-  j1 = 1049856ull;
+  j1 = 1051968ull;
   j2 = 15ull;
   j1 += j2;
   j2 = 18446744073709551600ull;
@@ -118338,7 +119872,7 @@ static u64 f156(module *self, u64 p0) {
   j1 -= j2;
   l6 = j1;
   i64_store(j0, j1);
-  j0 = 1049840ull;
+  j0 = 1051952ull;
   l3 = j0;
   L13: 
     j0 = p0;
@@ -118447,7 +119981,7 @@ static u64 f156(module *self, u64 p0) {
   j0 = 0ull;
   i0 = (u32)(j0);
   j1 = l2;
-  i64_store(j0 + 1049840, j1);
+  i64_store(j0 + 1051952, j1);
   goto B3;
   B16:;
   j0 = l7;
@@ -118515,7 +120049,7 @@ static u64 f156(module *self, u64 p0) {
     i0 = (u32)(j0);
     j1 = l5;
     i64_store(j0, j1);
-    j0 = 1049840ull;
+    j0 = 1051952ull;
     l3 = j0;
     j0 = 0ull;
     p0 = j0;
@@ -118586,7 +120120,7 @@ static u64 f156(module *self, u64 p0) {
     j0 = 0ull;
     i0 = (u32)(j0);
     j1 = l2;
-    i64_store(j0 + 1049840, j1);
+    i64_store(j0 + 1051952, j1);
     goto B21;
     B29:;
     j0 = l7;
@@ -118621,7 +120155,7 @@ static u64 f156(module *self, u64 p0) {
     B22:;
     j0 = 0ull;
     i0 = (u32)(j0);
-    j0 = i64_load(j0 + 1049840u);
+    j0 = i64_load(j0 + 1051952u);
     l2 = j0;
     i0 = !(j0);
     if (i0) {goto B19;}
@@ -118637,7 +120171,7 @@ static u64 f156(module *self, u64 p0) {
     j1 = l1;
     i0 = j0 < j1;
     if (i0) {goto B33;}
-    j0 = 1049840ull;
+    j0 = 1051952ull;
     l3 = j0;
     goto B32;
     B33:;
@@ -118769,7 +120303,7 @@ static void f157(module *self, u64 p0, u64 p1, u64 p2, u64 p3, u64 p4) {
   i2 = (u32)(j2);
   memory_copy(j0, j1, j2);
   B3:;
-  j0 = 1049840ull;
+  j0 = 1051952ull;
   p4 = j0;
   j0 = 0ull;
   p3 = j0;
@@ -118839,7 +120373,7 @@ static void f157(module *self, u64 p0, u64 p1, u64 p2, u64 p3, u64 p4) {
   j0 = 0ull;
   i0 = (u32)(j0);
   j1 = l5;
-  i64_store(j0 + 1049840, j1);
+  i64_store(j0 + 1051952, j1);
   goto B8;
   B9:;
   j0 = l6;
@@ -118894,7 +120428,7 @@ static void f158(module *self, u64 p0) {
   j1 = 18446744073709551600ull;
   j0 += j1;
   l1 = j0;
-  j0 = 1049840ull;
+  j0 = 1051952ull;
   l2 = j0;
   j0 = 0ull;
   l3 = j0;
@@ -118964,7 +120498,7 @@ static void f158(module *self, u64 p0) {
   j0 = 0ull;
   i0 = (u32)(j0);
   j1 = l1;
-  i64_store(j0 + 1049840, j1);
+  i64_store(j0 + 1051952, j1);
   goto Bfunc;
   B4:;
   j0 = l4;
@@ -119081,10 +120615,186 @@ static const u8 d0[] = {
   0x52, 0x65, 0x67, 0x69, 0x73, 0x74, 0x65, 0x72, 0x45, 0x31, 0x31, 0x20,
   0x42, 0x61, 0x64, 0x42, 0x6c, 0x6f, 0x63, 0x6b, 0x45, 0x31, 0x32, 0x20,
   0x54, 0x6f, 0x6f, 0x46, 0x61, 0x72, 0x45, 0x31, 0x33, 0x20, 0x42, 0x61,
-  0x64, 0x48, 0x65, 0x69, 0x67, 0x68, 0x74, 0x00, 0x00, 0x00, 0x0a, 0x00,
-  0x00, 0x00, 0x0a, 0x00, 0x00, 0x00, 0x0b, 0x00, 0x00, 0x80, 0x0b, 0x00,
-  0x00, 0x00, 0x02, 0x00, 0x00, 0x00, 0x01, 0x00, 0x00, 0x80, 0x00, 0x00,
-  0x00, 0x80, 0x00, 0x00, 0x00, 0x00, 0x00, 0x00, 0x0d, 0x00, 0x00, 0x00,
+  0x64, 0x48, 0x65, 0x69, 0x67, 0x68, 0x74, 0x5a, 0x41, 0x4b, 0x5f, 0x4f,
+  0x4b, 0x3a, 0x20, 0x54, 0x68, 0x65, 0x20, 0x63, 0x61, 0x6c, 0x6c, 0x20,
+  0x69, 0x73, 0x20, 0x64, 0x6f, 0x6e, 0x65, 0x2e, 0x5a, 0x41, 0x4b, 0x5f,
+  0x4e, 0x4f, 0x54, 0x5f, 0x44, 0x45, 0x43, 0x4f, 0x44, 0x45, 0x44, 0x3a,
+  0x20, 0x4e, 0x6f, 0x20, 0x70, 0x61, 0x72, 0x74, 0x20, 0x6f, 0x66, 0x20,
+  0x74, 0x68, 0x65, 0x20, 0x61, 0x64, 0x61, 0x70, 0x74, 0x65, 0x72, 0x20,
+  0x64, 0x65, 0x63, 0x6f, 0x64, 0x65, 0x73, 0x20, 0x74, 0x68, 0x65, 0x20,
+  0x70, 0x6f, 0x72, 0x74, 0x20, 0x6f, 0x72, 0x20, 0x74, 0x68, 0x65, 0x20,
+  0x61, 0x64, 0x64, 0x72, 0x65, 0x73, 0x73, 0x2e, 0x5a, 0x41, 0x4b, 0x5f,
+  0x4e, 0x4f, 0x54, 0x5f, 0x49, 0x4e, 0x5f, 0x50, 0x52, 0x4f, 0x46, 0x49,
+  0x4c, 0x45, 0x3a, 0x20, 0x64, 0x6f, 0x63, 0x73, 0x2f, 0x50, 0x52, 0x4f,
+  0x46, 0x49, 0x4c, 0x45, 0x2e, 0x6d, 0x64, 0x20, 0x6c, 0x65, 0x61, 0x76,
+  0x65, 0x73, 0x20, 0x6f, 0x75, 0x74, 0x20, 0x74, 0x68, 0x69, 0x73, 0x20,
+  0x72, 0x65, 0x67, 0x69, 0x73, 0x74, 0x65, 0x72, 0x2c, 0x20, 0x76, 0x61,
+  0x6c, 0x75, 0x65, 0x20, 0x6f, 0x72, 0x20, 0x70, 0x6f, 0x72, 0x74, 0x2e,
+  0x5a, 0x41, 0x4b, 0x5f, 0x4e, 0x4f, 0x5f, 0x4d, 0x4f, 0x44, 0x45, 0x3a,
+  0x20, 0x4e, 0x6f, 0x20, 0x6d, 0x6f, 0x64, 0x65, 0x20, 0x69, 0x73, 0x20,
+  0x73, 0x65, 0x74, 0x20, 0x79, 0x65, 0x74, 0x2e, 0x5a, 0x41, 0x4b, 0x5f,
+  0x42, 0x41, 0x44, 0x5f, 0x46, 0x55, 0x4e, 0x43, 0x54, 0x49, 0x4f, 0x4e,
+  0x3a, 0x20, 0x54, 0x68, 0x65, 0x20, 0x76, 0x69, 0x64, 0x65, 0x6f, 0x20,
+  0x42, 0x49, 0x4f, 0x53, 0x20, 0x68, 0x61, 0x73, 0x20, 0x6e, 0x6f, 0x20,
+  0x73, 0x75, 0x63, 0x68, 0x20, 0x66, 0x75, 0x6e, 0x63, 0x74, 0x69, 0x6f,
+  0x6e, 0x20, 0x6f, 0x72, 0x20, 0x73, 0x75, 0x62, 0x66, 0x75, 0x6e, 0x63,
+  0x74, 0x69, 0x6f, 0x6e, 0x2e, 0x5a, 0x41, 0x4b, 0x5f, 0x42, 0x41, 0x44,
+  0x5f, 0x4d, 0x4f, 0x44, 0x45, 0x3a, 0x20, 0x54, 0x68, 0x65, 0x20, 0x76,
+  0x69, 0x64, 0x65, 0x6f, 0x20, 0x42, 0x49, 0x4f, 0x53, 0x20, 0x68, 0x61,
+  0x73, 0x20, 0x6e, 0x6f, 0x20, 0x73, 0x75, 0x63, 0x68, 0x20, 0x6d, 0x6f,
+  0x64, 0x65, 0x2e, 0x5a, 0x41, 0x4b, 0x5f, 0x57, 0x52, 0x4f, 0x4e, 0x47,
+  0x5f, 0x4b, 0x49, 0x4e, 0x44, 0x3a, 0x20, 0x54, 0x68, 0x65, 0x20, 0x63,
+  0x61, 0x6c, 0x6c, 0x20, 0x69, 0x73, 0x20, 0x66, 0x6f, 0x72, 0x20, 0x70,
+  0x69, 0x78, 0x65, 0x6c, 0x73, 0x20, 0x69, 0x6e, 0x20, 0x61, 0x20, 0x74,
+  0x65, 0x78, 0x74, 0x20, 0x6d, 0x6f, 0x64, 0x65, 0x2c, 0x20, 0x6f, 0x72,
+  0x20, 0x66, 0x6f, 0x72, 0x20, 0x74, 0x65, 0x78, 0x74, 0x20, 0x69, 0x6e,
+  0x20, 0x67, 0x72, 0x61, 0x70, 0x68, 0x69, 0x63, 0x73, 0x2e, 0x5a, 0x41,
+  0x4b, 0x5f, 0x42, 0x41, 0x44, 0x5f, 0x50, 0x41, 0x47, 0x45, 0x3a, 0x20,
+  0x54, 0x68, 0x65, 0x20, 0x6d, 0x6f, 0x64, 0x65, 0x20, 0x68, 0x61, 0x73,
+  0x20, 0x6e, 0x6f, 0x20, 0x73, 0x75, 0x63, 0x68, 0x20, 0x70, 0x61, 0x67,
+  0x65, 0x2e, 0x5a, 0x41, 0x4b, 0x5f, 0x4f, 0x55, 0x54, 0x53, 0x49, 0x44,
+  0x45, 0x3a, 0x20, 0x54, 0x68, 0x65, 0x20, 0x70, 0x69, 0x78, 0x65, 0x6c,
+  0x20, 0x6f, 0x72, 0x20, 0x74, 0x68, 0x65, 0x20, 0x63, 0x75, 0x72, 0x73,
+  0x6f, 0x72, 0x20, 0x70, 0x6f, 0x73, 0x69, 0x74, 0x69, 0x6f, 0x6e, 0x20,
+  0x69, 0x73, 0x20, 0x6f, 0x75, 0x74, 0x73, 0x69, 0x64, 0x65, 0x20, 0x74,
+  0x68, 0x65, 0x20, 0x73, 0x63, 0x72, 0x65, 0x65, 0x6e, 0x2e, 0x5a, 0x41,
+  0x4b, 0x5f, 0x43, 0x4f, 0x55, 0x4e, 0x54, 0x5f, 0x50, 0x41, 0x53, 0x54,
+  0x3a, 0x20, 0x43, 0x68, 0x61, 0x72, 0x61, 0x63, 0x74, 0x65, 0x72, 0x73,
+  0x20, 0x70, 0x61, 0x73, 0x73, 0x20, 0x74, 0x68, 0x65, 0x20, 0x70, 0x61,
+  0x67, 0x65, 0x27, 0x73, 0x20, 0x6c, 0x61, 0x73, 0x74, 0x20, 0x63, 0x65,
+  0x6c, 0x6c, 0x2c, 0x20, 0x6f, 0x72, 0x20, 0x67, 0x6c, 0x79, 0x70, 0x68,
+  0x73, 0x20, 0x74, 0x68, 0x65, 0x20, 0x6c, 0x61, 0x73, 0x74, 0x20, 0x63,
+  0x68, 0x61, 0x72, 0x61, 0x63, 0x74, 0x65, 0x72, 0x2e, 0x5a, 0x41, 0x4b,
+  0x5f, 0x42, 0x41, 0x44, 0x5f, 0x52, 0x45, 0x47, 0x49, 0x53, 0x54, 0x45,
+  0x52, 0x3a, 0x20, 0x54, 0x68, 0x65, 0x72, 0x65, 0x20, 0x69, 0x73, 0x20,
+  0x6e, 0x6f, 0x20, 0x73, 0x75, 0x63, 0x68, 0x20, 0x70, 0x61, 0x6c, 0x65,
+  0x74, 0x74, 0x65, 0x20, 0x6f, 0x72, 0x20, 0x44, 0x41, 0x43, 0x20, 0x72,
+  0x65, 0x67, 0x69, 0x73, 0x74, 0x65, 0x72, 0x2e, 0x5a, 0x41, 0x4b, 0x5f,
+  0x42, 0x41, 0x44, 0x5f, 0x42, 0x4c, 0x4f, 0x43, 0x4b, 0x3a, 0x20, 0x54,
+  0x68, 0x65, 0x20, 0x62, 0x6c, 0x6f, 0x63, 0x6b, 0x20, 0x64, 0x6f, 0x65,
+  0x73, 0x20, 0x6e, 0x6f, 0x74, 0x20, 0x68, 0x61, 0x76, 0x65, 0x20, 0x74,
+  0x68, 0x65, 0x20, 0x6c, 0x65, 0x6e, 0x67, 0x74, 0x68, 0x20, 0x74, 0x68,
+  0x61, 0x74, 0x20, 0x74, 0x68, 0x65, 0x20, 0x66, 0x75, 0x6e, 0x63, 0x74,
+  0x69, 0x6f, 0x6e, 0x20, 0x74, 0x61, 0x6b, 0x65, 0x73, 0x2e, 0x5a, 0x41,
+  0x4b, 0x5f, 0x54, 0x4f, 0x4f, 0x5f, 0x46, 0x41, 0x52, 0x3a, 0x20, 0x41,
+  0x6e, 0x20, 0x61, 0x64, 0x76, 0x61, 0x6e, 0x63, 0x65, 0x20, 0x74, 0x61,
+  0x6b, 0x65, 0x73, 0x20, 0x61, 0x74, 0x20, 0x6d, 0x6f, 0x73, 0x74, 0x20,
+  0x31, 0x36, 0x2c, 0x37, 0x37, 0x37, 0x2c, 0x32, 0x31, 0x36, 0x20, 0x64,
+  0x6f, 0x74, 0x73, 0x2e, 0x5a, 0x41, 0x4b, 0x5f, 0x42, 0x41, 0x44, 0x5f,
+  0x48, 0x45, 0x49, 0x47, 0x48, 0x54, 0x3a, 0x20, 0x47, 0x6c, 0x79, 0x70,
+  0x68, 0x73, 0x20, 0x68, 0x61, 0x76, 0x65, 0x20, 0x38, 0x2c, 0x20, 0x31,
+  0x34, 0x20, 0x6f, 0x72, 0x20, 0x31, 0x36, 0x20, 0x73, 0x63, 0x61, 0x6e,
+  0x20, 0x6c, 0x69, 0x6e, 0x65, 0x73, 0x2e, 0x5a, 0x41, 0x4b, 0x5f, 0x4e,
+  0x4f, 0x5f, 0x43, 0x41, 0x52, 0x44, 0x3a, 0x20, 0x54, 0x68, 0x65, 0x20,
+  0x63, 0x61, 0x72, 0x64, 0x20, 0x69, 0x73, 0x20, 0x6e, 0x6f, 0x74, 0x20,
+  0x6f, 0x70, 0x65, 0x6e, 0x2e, 0x5a, 0x41, 0x4b, 0x5f, 0x4f, 0x50, 0x45,
+  0x4e, 0x5f, 0x41, 0x4c, 0x52, 0x45, 0x41, 0x44, 0x59, 0x3a, 0x20, 0x54,
+  0x68, 0x65, 0x20, 0x63, 0x61, 0x72, 0x64, 0x20, 0x69, 0x73, 0x20, 0x6f,
+  0x70, 0x65, 0x6e, 0x20, 0x61, 0x6c, 0x72, 0x65, 0x61, 0x64, 0x79, 0x2e,
+  0x5a, 0x41, 0x4b, 0x5f, 0x46, 0x4f, 0x4e, 0x54, 0x5f, 0x53, 0x49, 0x5a,
+  0x45, 0x3a, 0x20, 0x54, 0x68, 0x65, 0x20, 0x66, 0x6f, 0x6e, 0x74, 0x20,
+  0x66, 0x69, 0x6c, 0x65, 0x20, 0x64, 0x6f, 0x65, 0x73, 0x20, 0x6e, 0x6f,
+  0x74, 0x20, 0x68, 0x61, 0x76, 0x65, 0x20, 0x39, 0x2c, 0x37, 0x32, 0x38,
+  0x20, 0x62, 0x79, 0x74, 0x65, 0x73, 0x2e, 0x5a, 0x41, 0x4b, 0x5f, 0x4f,
+  0x55, 0x54, 0x5f, 0x4f, 0x46, 0x5f, 0x4d, 0x45, 0x4d, 0x4f, 0x52, 0x59,
+  0x3a, 0x20, 0x41, 0x6e, 0x20, 0x61, 0x6c, 0x6c, 0x6f, 0x63, 0x61, 0x74,
+  0x69, 0x6f, 0x6e, 0x20, 0x66, 0x61, 0x69, 0x6c, 0x65, 0x64, 0x2e, 0x5a,
+  0x41, 0x4b, 0x5f, 0x52, 0x41, 0x47, 0x47, 0x45, 0x44, 0x3a, 0x20, 0x54,
+  0x77, 0x6f, 0x20, 0x72, 0x6f, 0x77, 0x73, 0x20, 0x6f, 0x66, 0x20, 0x74,
+  0x68, 0x65, 0x20, 0x66, 0x72, 0x61, 0x6d, 0x65, 0x20, 0x64, 0x69, 0x66,
+  0x66, 0x65, 0x72, 0x20, 0x69, 0x6e, 0x20, 0x77, 0x69, 0x64, 0x74, 0x68,
+  0x2c, 0x20, 0x73, 0x6f, 0x20, 0x74, 0x68, 0x65, 0x72, 0x65, 0x20, 0x69,
+  0x73, 0x20, 0x6e, 0x6f, 0x20, 0x70, 0x69, 0x63, 0x74, 0x75, 0x72, 0x65,
+  0x2e, 0x5a, 0x41, 0x4b, 0x5f, 0x4e, 0x4f, 0x5f, 0x52, 0x4f, 0x4f, 0x4d,
+  0x3a, 0x20, 0x54, 0x68, 0x65, 0x20, 0x62, 0x75, 0x66, 0x66, 0x65, 0x72,
+  0x20, 0x69, 0x73, 0x20, 0x74, 0x6f, 0x6f, 0x20, 0x73, 0x68, 0x6f, 0x72,
+  0x74, 0x2c, 0x20, 0x61, 0x6e, 0x64, 0x20, 0x6e, 0x6f, 0x74, 0x68, 0x69,
+  0x6e, 0x67, 0x20, 0x77, 0x61, 0x73, 0x20, 0x77, 0x72, 0x69, 0x74, 0x74,
+  0x65, 0x6e, 0x20, 0x74, 0x68, 0x65, 0x72, 0x65, 0x2e, 0x5a, 0x41, 0x4b,
+  0x5f, 0x42, 0x41, 0x44, 0x5f, 0x41, 0x52, 0x47, 0x55, 0x4d, 0x45, 0x4e,
+  0x54, 0x3a, 0x20, 0x41, 0x6e, 0x20, 0x61, 0x72, 0x67, 0x75, 0x6d, 0x65,
+  0x6e, 0x74, 0x20, 0x69, 0x73, 0x20, 0x6f, 0x75, 0x74, 0x20, 0x6f, 0x66,
+  0x20, 0x74, 0x68, 0x65, 0x20, 0x72, 0x61, 0x6e, 0x67, 0x65, 0x20, 0x74,
+  0x68, 0x61, 0x74, 0x20, 0x74, 0x68, 0x65, 0x20, 0x63, 0x61, 0x6c, 0x6c,
+  0x20, 0x6e, 0x61, 0x6d, 0x65, 0x73, 0x2e, 0x5a, 0x41, 0x4b, 0x5f, 0x42,
+  0x41, 0x44, 0x5f, 0x43, 0x41, 0x52, 0x44, 0x3a, 0x20, 0x54, 0x68, 0x65,
+  0x20, 0x42, 0x49, 0x4f, 0x53, 0x20, 0x64, 0x61, 0x74, 0x61, 0x20, 0x61,
+  0x72, 0x65, 0x20, 0x63, 0x6f, 0x72, 0x72, 0x75, 0x70, 0x74, 0x3a, 0x20,
+  0x74, 0x68, 0x65, 0x20, 0x63, 0x61, 0x72, 0x64, 0x27, 0x73, 0x20, 0x6d,
+  0x65, 0x6d, 0x6f, 0x72, 0x79, 0x20, 0x77, 0x61, 0x73, 0x20, 0x6f, 0x76,
+  0x65, 0x72, 0x77, 0x72, 0x69, 0x74, 0x74, 0x65, 0x6e, 0x2e, 0x5a, 0x41,
+  0x4b, 0x5f, 0x4e, 0x4f, 0x5f, 0x53, 0x43, 0x52, 0x45, 0x45, 0x4e, 0x3a,
+  0x20, 0x54, 0x68, 0x65, 0x20, 0x61, 0x64, 0x61, 0x70, 0x74, 0x65, 0x72,
+  0x20, 0x73, 0x68, 0x6f, 0x77, 0x73, 0x20, 0x6e, 0x6f, 0x20, 0x70, 0x6c,
+  0x61, 0x69, 0x6e, 0x20, 0x73, 0x63, 0x72, 0x65, 0x65, 0x6e, 0x2e, 0x5a,
+  0x41, 0x4b, 0x5f, 0x42, 0x52, 0x4f, 0x4b, 0x45, 0x4e, 0x3a, 0x20, 0x54,
+  0x68, 0x65, 0x20, 0x6c, 0x69, 0x62, 0x72, 0x61, 0x72, 0x79, 0x20, 0x77,
+  0x61, 0x73, 0x20, 0x63, 0x6f, 0x6d, 0x70, 0x69, 0x6c, 0x65, 0x64, 0x20,
+  0x77, 0x72, 0x6f, 0x6e, 0x67, 0x6c, 0x79, 0x2c, 0x20, 0x61, 0x6e, 0x64,
+  0x20, 0x74, 0x68, 0x65, 0x20, 0x63, 0x61, 0x72, 0x64, 0x20, 0x69, 0x73,
+  0x20, 0x63, 0x6c, 0x6f, 0x73, 0x65, 0x64, 0x2e, 0x5a, 0x41, 0x4b, 0x5f,
+  0x53, 0x54, 0x41, 0x54, 0x45, 0x5f, 0x4d, 0x41, 0x47, 0x49, 0x43, 0x3a,
+  0x20, 0x54, 0x68, 0x65, 0x20, 0x62, 0x79, 0x74, 0x65, 0x73, 0x20, 0x61,
+  0x72, 0x65, 0x20, 0x6e, 0x6f, 0x20, 0x73, 0x61, 0x76, 0x65, 0x64, 0x20,
+  0x73, 0x74, 0x61, 0x74, 0x65, 0x2e, 0x5a, 0x41, 0x4b, 0x5f, 0x53, 0x54,
+  0x41, 0x54, 0x45, 0x5f, 0x56, 0x45, 0x52, 0x53, 0x49, 0x4f, 0x4e, 0x3a,
+  0x20, 0x54, 0x68, 0x65, 0x20, 0x73, 0x74, 0x61, 0x74, 0x65, 0x20, 0x68,
+  0x61, 0x73, 0x20, 0x61, 0x6e, 0x6f, 0x74, 0x68, 0x65, 0x72, 0x20, 0x76,
+  0x65, 0x72, 0x73, 0x69, 0x6f, 0x6e, 0x20, 0x6f, 0x66, 0x20, 0x74, 0x68,
+  0x65, 0x20, 0x66, 0x6f, 0x72, 0x6d, 0x61, 0x74, 0x2e, 0x5a, 0x41, 0x4b,
+  0x5f, 0x53, 0x54, 0x41, 0x54, 0x45, 0x5f, 0x4c, 0x45, 0x4e, 0x47, 0x54,
+  0x48, 0x3a, 0x20, 0x54, 0x68, 0x65, 0x20, 0x73, 0x74, 0x61, 0x74, 0x65,
+  0x20, 0x69, 0x73, 0x20, 0x63, 0x75, 0x74, 0x20, 0x6f, 0x66, 0x66, 0x2c,
+  0x20, 0x6f, 0x72, 0x20, 0x62, 0x79, 0x74, 0x65, 0x73, 0x20, 0x66, 0x6f,
+  0x6c, 0x6c, 0x6f, 0x77, 0x20, 0x69, 0x74, 0x2e, 0x5a, 0x41, 0x4b, 0x5f,
+  0x53, 0x54, 0x41, 0x54, 0x45, 0x5f, 0x50, 0x41, 0x52, 0x54, 0x3a, 0x20,
+  0x41, 0x20, 0x70, 0x61, 0x72, 0x74, 0x20, 0x6f, 0x66, 0x20, 0x74, 0x68,
+  0x65, 0x20, 0x73, 0x74, 0x61, 0x74, 0x65, 0x20, 0x69, 0x73, 0x20, 0x6f,
+  0x75, 0x74, 0x20, 0x6f, 0x66, 0x20, 0x69, 0x74, 0x73, 0x20, 0x62, 0x6f,
+  0x75, 0x6e, 0x64, 0x73, 0x2e, 0x5a, 0x41, 0x4b, 0x5f, 0x53, 0x54, 0x41,
+  0x54, 0x45, 0x5f, 0x43, 0x48, 0x45, 0x43, 0x4b, 0x53, 0x55, 0x4d, 0x3a,
+  0x20, 0x54, 0x68, 0x65, 0x20, 0x63, 0x68, 0x65, 0x63, 0x6b, 0x73, 0x75,
+  0x6d, 0x20, 0x6f, 0x66, 0x20, 0x74, 0x68, 0x65, 0x20, 0x73, 0x74, 0x61,
+  0x74, 0x65, 0x20, 0x69, 0x73, 0x20, 0x77, 0x72, 0x6f, 0x6e, 0x67, 0x2e,
+  0x5a, 0x41, 0x4b, 0x5f, 0x42, 0x41, 0x44, 0x5f, 0x4d, 0x41, 0x47, 0x49,
+  0x43, 0x3a, 0x20, 0x54, 0x68, 0x65, 0x20, 0x62, 0x79, 0x74, 0x65, 0x73,
+  0x20, 0x61, 0x72, 0x65, 0x20, 0x6e, 0x6f, 0x20, 0x73, 0x63, 0x72, 0x69,
+  0x70, 0x74, 0x3a, 0x20, 0x74, 0x68, 0x65, 0x79, 0x20, 0x64, 0x6f, 0x6e,
+  0x27, 0x74, 0x20, 0x62, 0x65, 0x67, 0x69, 0x6e, 0x20, 0x77, 0x69, 0x74,
+  0x68, 0x20, 0x56, 0x47, 0x41, 0x53, 0x2e, 0x5a, 0x41, 0x4b, 0x5f, 0x42,
+  0x41, 0x44, 0x5f, 0x56, 0x45, 0x52, 0x53, 0x49, 0x4f, 0x4e, 0x3a, 0x20,
+  0x54, 0x68, 0x65, 0x20, 0x73, 0x63, 0x72, 0x69, 0x70, 0x74, 0x20, 0x68,
+  0x61, 0x73, 0x20, 0x61, 0x6e, 0x6f, 0x74, 0x68, 0x65, 0x72, 0x20, 0x76,
+  0x65, 0x72, 0x73, 0x69, 0x6f, 0x6e, 0x2e, 0x5a, 0x41, 0x4b, 0x5f, 0x42,
+  0x41, 0x44, 0x5f, 0x53, 0x54, 0x45, 0x50, 0x3a, 0x20, 0x4e, 0x6f, 0x20,
+  0x73, 0x74, 0x65, 0x70, 0x20, 0x73, 0x74, 0x61, 0x6e, 0x64, 0x73, 0x20,
+  0x68, 0x65, 0x72, 0x65, 0x2c, 0x20, 0x6f, 0x72, 0x20, 0x69, 0x74, 0x20,
+  0x69, 0x73, 0x20, 0x6f, 0x75, 0x74, 0x20, 0x6f, 0x66, 0x20, 0x72, 0x61,
+  0x6e, 0x67, 0x65, 0x2e, 0x5a, 0x41, 0x4b, 0x5f, 0x54, 0x52, 0x55, 0x4e,
+  0x43, 0x41, 0x54, 0x45, 0x44, 0x3a, 0x20, 0x54, 0x68, 0x65, 0x20, 0x73,
+  0x74, 0x65, 0x70, 0x20, 0x74, 0x68, 0x61, 0x74, 0x20, 0x62, 0x65, 0x67,
+  0x69, 0x6e, 0x73, 0x20, 0x68, 0x65, 0x72, 0x65, 0x20, 0x69, 0x73, 0x20,
+  0x63, 0x75, 0x74, 0x20, 0x6f, 0x66, 0x66, 0x2e, 0x5a, 0x41, 0x4b, 0x5f,
+  0x54, 0x4f, 0x4f, 0x5f, 0x4c, 0x4f, 0x4e, 0x47, 0x3a, 0x20, 0x54, 0x68,
+  0x65, 0x20, 0x74, 0x65, 0x78, 0x74, 0x20, 0x6f, 0x72, 0x20, 0x74, 0x68,
+  0x65, 0x20, 0x73, 0x63, 0x72, 0x69, 0x70, 0x74, 0x20, 0x68, 0x61, 0x73,
+  0x20, 0x6d, 0x6f, 0x72, 0x65, 0x20, 0x74, 0x68, 0x61, 0x6e, 0x20, 0x31,
+  0x36, 0x2c, 0x37, 0x37, 0x37, 0x2c, 0x32, 0x31, 0x36, 0x20, 0x62, 0x79,
+  0x74, 0x65, 0x73, 0x2e, 0x5a, 0x41, 0x4b, 0x5f, 0x42, 0x41, 0x44, 0x5f,
+  0x4c, 0x49, 0x4e, 0x45, 0x3a, 0x20, 0x54, 0x68, 0x69, 0x73, 0x20, 0x6c,
+  0x69, 0x6e, 0x65, 0x20, 0x6f, 0x66, 0x20, 0x74, 0x68, 0x65, 0x20, 0x74,
+  0x65, 0x78, 0x74, 0x20, 0x69, 0x73, 0x20, 0x62, 0x61, 0x64, 0x2e, 0x5a,
+  0x41, 0x4b, 0x5f, 0x54, 0x4f, 0x4f, 0x5f, 0x4d, 0x41, 0x4e, 0x59, 0x3a,
+  0x20, 0x54, 0x68, 0x65, 0x20, 0x73, 0x63, 0x72, 0x69, 0x70, 0x74, 0x20,
+  0x6d, 0x65, 0x61, 0x6e, 0x73, 0x20, 0x6d, 0x6f, 0x72, 0x65, 0x20, 0x74,
+  0x68, 0x61, 0x6e, 0x20, 0x31, 0x36, 0x2c, 0x37, 0x37, 0x37, 0x2c, 0x32,
+  0x31, 0x36, 0x20, 0x73, 0x74, 0x65, 0x70, 0x73, 0x20, 0x66, 0x72, 0x6f,
+  0x6d, 0x20, 0x68, 0x65, 0x72, 0x65, 0x20, 0x6f, 0x6e, 0x2e, 0x4e, 0x6f,
+  0x20, 0x73, 0x74, 0x61, 0x74, 0x75, 0x73, 0x20, 0x68, 0x61, 0x73, 0x20,
+  0x74, 0x68, 0x69, 0x73, 0x20, 0x6e, 0x75, 0x6d, 0x62, 0x65, 0x72, 0x2e,
+  0x00, 0x00, 0x0a, 0x00, 0x00, 0x00, 0x0a, 0x00, 0x00, 0x00, 0x0b, 0x00,
+  0x00, 0x80, 0x0b, 0x00, 0x00, 0x00, 0x02, 0x00, 0x00, 0x00, 0x01, 0x00,
+  0x00, 0x80, 0x00, 0x00, 0x00, 0x80, 0x00, 0x00, 0x0d, 0x00, 0x00, 0x00,
   0x00, 0x00, 0x00, 0x00, 0x0f, 0x00, 0x00, 0x00, 0x00, 0x00, 0x00, 0x00,
   0x09, 0x00, 0x00, 0x00, 0x00, 0x00, 0x00, 0x00, 0x0e, 0x00, 0x00, 0x00,
   0x00, 0x00, 0x00, 0x00, 0x0a, 0x00, 0x00, 0x00, 0x00, 0x00, 0x00, 0x00,
@@ -119112,7 +120822,7 @@ static const u8 d0[] = {
 
 static void start(module *self)
 {
-    memcpy(self->memory + 1048576u, d0, 1264);
+    memcpy(self->memory + 1048576u, d0, 3376);
     self->g0 = 1048576ull;
 }
 
@@ -119980,4 +121690,14 @@ zak_status zak_print(const uint8_t *script, size_t script_len, uint8_t *text, si
     self->outside = text;
     zak_status status = module_zak_print(self, DESK, len, OUTSIDE, text_cap, TOLD, TOLD + PLACE);
     return end_script_module(self, status, text_len, place);
+}
+
+zak_status zak_status_text(zak_status status, uint8_t *text, size_t text_cap, size_t *text_len)
+{
+    module *self = new_script_module(NULL, 0, 0);
+    if (!self)
+        return ZAK_OUT_OF_MEMORY;
+    self->outside = text;
+    zak_status told = module_zak_status_text(self, status, OUTSIDE, text_cap, TOLD);
+    return end_script_module(self, told, text_len, NULL);
 }

@@ -90,6 +90,7 @@ enum {
 #define ZAK_MOST_RGB (3u * ZAK_WIDEST * ZAK_HIGHEST)   /* bytes of a picture */
 #define ZAK_MOST_TABLE 768u                            /* bytes of a table of zak_int10 */
 #define ZAK_MOST_TEXT 32768u                           /* bytes of a zak_show_.. */
+#define ZAK_MOST_STATUS_TEXT 128u                      /* bytes of zak_status_text */
 #define ZAK_OPAQUE 1u                                  /* zak_frame_words: words FFRRGGBB */
 #define ZAK_ONCE 2u                                    /* zak_frame_words: each pixel once */
 #define ZAK_FIRST_STATE 265086u                        /* bytes of a state at a frame's first dot */
@@ -107,6 +108,11 @@ typedef struct zak_card {
 /* The interface of the linked library: 65,536 times its major number, plus its minor number. It
  * fits the header if the major numbers are equal and its minor number is not lower. */
 uint32_t zak_version(void);
+
+/* Says what a status means: its name and a sentence, such as "ZAK_NO_MODE: No mode is set yet.". No
+ * NUL ends it. A number that is no status gets a sentence that says so. ZAK_NO_ROOM: *text_len is
+ * the number of bytes needed, and text is unchanged. */
+zak_status zak_status_text(zak_status status, uint8_t *text, size_t text_cap, size_t *text_len);
 
 /* Opens a machine in its power-on state, with the glyphs of a font file, such as
  * fonts/zaklimot.fnt. It allocates 7.4 MB with malloc, which zak_close frees. Few other calls
