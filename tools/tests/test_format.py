@@ -152,7 +152,7 @@ class Table(unittest.TestCase):
         refusals = re.findall(r'=> "E(\d+) (\w+)"', (bits / "refusal.rt").read_text("utf-8"))
         self.assertEqual([(int(number), name) for number, name in refusals], list(REFUSALS.items()))
         faults = re.findall(
-            r'(?:plain|with_number)\("F(\d+) (\w+)(\(?)"', (bits / "fault.rt").read_text("utf-8")
+            r'name_with(?:out)?_number\("F(\d+) (\w+)(\(?)"', (bits / "fault.rt").read_text("utf-8")
         )
         self.assertEqual(
             [(int(number), name, bool(place)) for number, name, place in faults],
