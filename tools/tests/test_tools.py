@@ -616,7 +616,7 @@ class Gate(Folder):
         for name, text in {**fakes, "vga-check": tests, "rt": prover}.items():
             self.program(f"gate/tools/{name}", text)
         # The gate fetches these where they are lacking.
-        for name in ("wasm-opt", "wasm2c"):
+        for name in ("wasm-opt", "wasm2c", "apt-get"):
             self.program(f"gate/tools/{name}", NOTING)
         given = {
             "NOTES": str(notes),

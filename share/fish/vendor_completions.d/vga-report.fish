@@ -20,7 +20,7 @@ function __vga_report_commands
         text 'writes a report as text' \
         pictures 'writes the pictures of a report as files' \
         compare 'tells the first step in which two reports differ' \
-        compare-picture 'compares the picture of a step with an image, PNG or PPM' \
+        compare-picture 'compares the picture of a step with an image' \
         suite 'holds a command to the suite' \
         scripts 'writes the scripts of the suite\'s cases into a folder, as `suite` hands them to a command' \
         expected 'writes the pictures that the suite expects into a folder'

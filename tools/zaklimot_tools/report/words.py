@@ -9,7 +9,7 @@ from zaklimot_tools.core import cli
 from zaklimot_tools.core.cli import add, later, rule
 from zaklimot_tools.core.files import STANDARD, Input, Output, PictureFolder
 from zaklimot_tools.core.words import MOST_JOBS, MOST_OUTPUT, MOST_STEP, number_to, seconds
-from zaklimot_tools.images.words import add_shape, within
+from zaklimot_tools.images.words import IMAGES, add_shape, within
 from zaklimot_tools.script.words import add_program
 
 from .places import SUITE
@@ -20,7 +20,7 @@ FILES: dict[str, tuple[str, Callable[[str], object]]] = {
     "REPORT": ("the report of a run", Input),
     "OTHER": ("the report that it is compared with, such as that of another adapter", Input),
     "STEP": ("the number of the step", number_to(MOST_STEP)),
-    "IMAGE": ("a PNG, or a PPM of the kind P6", Input),
+    "IMAGE": (IMAGES, Input),
 }
 COMMAND = """the command that runs a case, as one word of the shell. In it these places are filled:
 {script} the file of the case's script, {fonts} the font file, {name} the case's name, and {until},
@@ -217,7 +217,7 @@ COMMANDS: dict[str, tuple[str, str, Callable[[argparse.ArgumentParser], object],
     ),
     "compare-picture": (
         "reports",
-        "compares the picture of a step with an image, PNG or PPM",
+        "compares the picture of a step with an image",
         _add_compare_picture,
         "report.txt 198 screenshots/0198.png --within 5-6-5",
     ),
