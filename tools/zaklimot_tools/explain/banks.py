@@ -64,6 +64,7 @@ class Bank:
         self._opened = opened
         self.index_kept = index_kept
         self.registers = [0] * len(self._kept)
+        self.count = len(self._kept)
         self.index = 0
 
     @property
@@ -84,6 +85,16 @@ class Bank:
     def is_open(self) -> bool:
         """Whether a write changes all bits of the register of the index now."""
         return self._opened is None or self._opened(self) == 0xFF
+
+    def offer(self, value: int) -> bool:
+        """Writes the register of the index if it takes the value; whether it does."""
+        number = self.index & 0x1F
+        if number >= self.count:
+            return False
+        if number in self._wanted and value & self._wanted[number][0] != self._wanted[number][1]:
+            return False
+        self.write(value)
+        return True
 
     def write(self, value: int) -> None:
         """Writes the register of the index, which is there."""
@@ -148,24 +159,27 @@ class Banks:
             bank = self._indexes.get(port - 1)
             if bank is None:
                 return self.takes(port, value) and self.put(port, value)
-            is_taken = bank.takes(bank.index, value)
-            if is_taken:
-                bank.write(value)
-            return is_taken
+            return bank.offer(value)
         low = value & 0xFF
-        index = None if bank is None else low & bank.index_kept
-        if not (self.takes(port, low) and self.takes(port + 1, value >> 8, index)):
+        high = value >> 8
+        if bank is not None:
+            is_taken = bank.takes(low & bank.index_kept, high)
+            if is_taken:
+                bank.index = low & bank.index_kept
+                bank.write(high)
+            return is_taken
+        if not (self.takes(port, low) and self.takes(port + 1, high)):
             return False
-        return self.put(port, low) and self.put(port + 1, value >> 8)
+        return self.put(port, low) and self.put(port + 1, high)
 
-    def takes(self, port: int, value: int, index: Optional[int] = None) -> bool:
-        """Whether a port takes a byte, where its index may be another then."""
+    def takes(self, port: int, value: int) -> bool:
+        """Whether a port takes a byte."""
         if port == ATTRIBUTE:
             return not self.is_data or self.attr.has_register
         if port == MISC or port in DAC_PORTS or port in self._indexes:
             return True
         bank = self._indexes.get(port - 1)
-        return bank is not None and bank.takes(bank.index if index is None else index, value)
+        return bank is not None and bank.takes(bank.number, value)
 
     def put(self, port: int, value: int) -> bool:
         """Writes a byte that the port takes; True."""

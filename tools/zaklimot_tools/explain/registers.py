@@ -115,11 +115,12 @@ class Registers:
         name = step.name
         if name in ("out", "outw"):
             port, value = step.numbers
-            self.banks.write(port, value, name == "outw")
-            last = port + (name == "outw")
-            if last in TOLD_PORTS or port in TOLD_PORTS:
+            is_word = name == "outw"
+            self.banks.write(port, value, is_word)
+            if port in TOLD_PORTS:
                 self._note(port)
-                self._note(last)
+            if is_word and port + 1 in TOLD_PORTS:
+                self._note(port + 1)
         elif name in ("in", "inw"):
             # A read of input status 1 makes the next write to the attribute controller an index.
             if self.banks.controller + STATUS - step.numbers[0] in range(1 + (name == "inw")):
