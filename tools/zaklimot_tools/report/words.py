@@ -44,6 +44,9 @@ def _add_cases(parser: argparse.ArgumentParser) -> None:
     add(parser, "--only PREFIX", told, **MANY)
     told = "leaves out cases whose names begin with PREFIX; may be repeated"
     add(parser, "--except PREFIX", told, dest="except_", **MANY)
+
+
+def _add_machine(parser: argparse.ArgumentParser) -> None:
     told = "cases that it can answer, each up to the first refused step"
     add(parser, "--machine", f"for a machine, which refuses nothing: {told}")
 
@@ -57,6 +60,7 @@ def _add_suite(parser: argparse.ArgumentParser) -> None:
     add(parser, "--keep FOLDER", "keeps the reports and pictures of cases that don't agree")
     add(parser, "--bytes COMMAND", "the command for scripts as bytes; without it they are skipped")
     _add_cases(parser)
+    _add_machine(parser)
     told = "counts steps that are to be refused as skipped"
     add(parser, "--no-refusals", told, dest="refusals", action="store_false")
     add(
@@ -69,7 +73,12 @@ def _add_suite(parser: argparse.ArgumentParser) -> None:
     add(parser, "--json", "prints the table as JSON")
 
 
-def _add_folder_of_cases(parser: argparse.ArgumentParser) -> None:
+def _add_scripts(parser: argparse.ArgumentParser) -> None:
+    _add_expected(parser)
+    _add_machine(parser)
+
+
+def _add_expected(parser: argparse.ArgumentParser) -> None:
     add(parser, "FOLDER", "a new folder, or an empty one")
     _add_cases(parser)
 
@@ -230,13 +239,13 @@ COMMANDS: dict[str, tuple[str, str, Callable[[argparse.ArgumentParser], object],
     "scripts": (
         "suite",
         "writes the scripts of the suite's cases into a folder, as `suite` hands them to a command",
-        _add_folder_of_cases,
+        _add_scripts,
         "cases --only dots/",
     ),
     "expected": (
         "suite",
         "writes the pictures that the suite expects into a folder",
-        _add_folder_of_cases,
+        _add_expected,
         "expected --only dots/",
     ),
 }
