@@ -38,6 +38,7 @@ COMPLETIONS = (
 )
 # What a run or a build leaves among the sources, and never goes into a wheel.
 MADE = {"__pycache__", "carried"}
+EXTRA = re.compile(r"^([a-z]+) = \[(.*)\]$", re.M)
 FIELD = re.compile(r'^([a-z-]+) = "(.*)"$', re.M)
 NUMBER = re.compile(r"^#define ZAK_API_(?:MAJOR|MINOR) (\d+)$", re.M)
 # The time of files in a wheel, the first that a ZIP can tell: the same sources make the same bytes.
@@ -45,11 +46,15 @@ TIME = (1980, 1, 1, 0, 0, 0)
 KIND = "py3-none-any"
 
 
+def _text(name: str) -> str:
+    """The text of a section of pyproject.toml."""
+    text = (HERE / "pyproject.toml").read_text("utf-8")
+    return text.partition(f"[{name}]\n")[2].partition("\n[")[0]
+
+
 def _section(name: str) -> dict[str, str]:
     """The values of a section of pyproject.toml that are single strings."""
-    text = (HERE / "pyproject.toml").read_text("utf-8")
-    _, _, rest = text.partition(f"[{name}]\n")
-    return dict(FIELD.findall(rest.partition("\n[")[0]))
+    return dict(FIELD.findall(_text(name)))
 
 
 def _stem() -> str:
@@ -61,10 +66,16 @@ def _stem() -> str:
 def _metadata() -> str:
     """What a wheel tells of the package."""
     fields = _section("project")
+    extras = EXTRA.findall(_text("project.optional-dependencies"))
+    wanted = ((name, package) for name, packages in extras for package in packages.split(", "))
     return (
         f"Metadata-Version: 2.1\nName: {fields['name']}\nVersion: {_stem().partition('-')[2]}\n"
         f"Summary: {fields['description']}\nLicense: MIT\n"
         f"Requires-Python: {fields['requires-python']}\n"
+        + "".join(f"Provides-Extra: {name}\n" for name, _ in extras)
+        + "".join(
+            f"Requires-Dist: {package[1:-1]}; extra == '{name}'\n" for name, package in wanted
+        )
     )
 
 

@@ -18,7 +18,7 @@ from zaklimot_tools.core.trouble import Trouble
 from zaklimot_tools.explain.mistakes import mistake_in
 from zaklimot_tools.floppy import image
 from zaklimot_tools.floppy.table import HEADER, NAME, VERSION, Table, table_for
-from zaklimot_tools.images import holding, reading
+from zaklimot_tools.images import holding, others, reading
 from zaklimot_tools.images.reading import image_of, size_of
 from zaklimot_tools.images.words import Within
 from zaklimot_tools.picture.asked import Fit
@@ -184,9 +184,11 @@ class Images(Folder):
         for data, told in (
             (b"\x89PNG\r\n\x1a\n" + bytes(9), "it: the PNG is damaged"),
             (b"P6 x", "it: the header of the PPM is damaged"),
-            (b"GIF", "it: this is neither a PNG nor a PPM of the kind P6"),
         ):
             self.assertEqual(refused(size_of, data, "it"), told)
+        with mock.patch.object(others, "pillow", lambda: None):
+            told = f"it: this is neither a PNG nor a PPM of the kind P6; {others.WITHOUT}"
+            self.assertEqual(refused(size_of, b"GIF", "it"), told)
 
     def test_a_tolerance(self) -> None:
         # Red and blue of five bits, green of six, as an emulator widens them to eight.

@@ -1,5 +1,7 @@
 """The helps of the tools: what each tells, and how little it takes."""
 
+import argparse
+import importlib
 import os
 import re
 import unittest
@@ -25,6 +27,13 @@ LIGHT = re.compile(
     r"^zaklimot_tools(\.(starting|core(\.(cli|files|progress|trouble|version|words))?"
     r"|(script|images|report|trace|picture|floppy|dev(\.\w+)?)(\.(\w*words|asked|places|mode))?))?$"
 )
+
+
+def words_of(name: str) -> str:
+    """The module that has the words of a tool."""
+    found = MAIN.search((TOOLS / name).read_text("utf-8"))
+    assert found is not None, name
+    return found[1]
 
 
 class Words(unittest.TestCase):
@@ -86,9 +95,7 @@ class Words(unittest.TestCase):
         told = "; print('loaded', *(name for name in sys.modules if name.startswith('zaklimot')))"
         environment = {**os.environ, "PYTHONPATH": str(TOOLS)}
         for name in NAMES:
-            found = MAIN.search((TOOLS / name).read_text("utf-8"))
-            assert found is not None, name
-            module = found[1]
+            module = words_of(name)
             command = f"import sys; from {module} import main; main(['--help']){told}"
             status, output, said = ended(*PYTHON, "-c", command, env=environment)
             self.assertEqual((status, said), (0, ""))
@@ -96,6 +103,18 @@ class Words(unittest.TestCase):
             self.assertIn(module, loaded)
             for work in loaded[1:]:
                 self.assertRegex(work, LIGHT, name)
+
+    def test_each_command_has_a_job(self) -> None:
+        for name in NAMES:
+            module = importlib.import_module(words_of(name))
+            made = getattr(module, "parser", None) or getattr(module, "_parser")
+            parsers = [made()]
+            for action in parsers[0]._actions:
+                if isinstance(action, argparse._SubParsersAction):
+                    parsers = list(action.choices.values())
+            for parser in parsers:
+                with self.subTest(parser.prog):
+                    self.assertTrue(callable(parser.get_default("job").found()))
 
     def test_the_version_of_the_header_and_words_that_mean_nothing(self) -> None:
         for name in NAMES:

@@ -10,6 +10,7 @@ from functools import partial
 from pathlib import Path
 from typing import Any, Callable
 
+from zaklimot_tools.images import others
 from zaklimot_tools.dev.emulators.table_page import FIRST_MARK, LAST_MARK
 
 from .floppy import machine
@@ -259,9 +260,15 @@ REFUSED = {
     },
 }
 GOOD = png(1, 1, bytes(4))
-# What is said of images that are none, or can't be read.
+# What is said of images that are none, or can't be read, without pillow and with it.
+NO_IMAGE = f"this is neither a PNG nor a PPM of the kind P6; {others.WITHOUT}"
+NO_INTERLACE = f"an interlaced PNG can't be read: save it without interlace; {others.WITHOUT}"
+INTERLACED = [(NO_INTERLACE, png(1, 1, bytes(4), interlace=1))]
+if others.pillow() is not None:
+    NO_IMAGE = "pillow can't read it: cannot identify image file"
+    INTERLACED = []
 BAD_IMAGES: tuple[tuple[Any, ...], ...] = (
-    ("this is neither a PNG nor a PPM of the kind P6", b"", b"GIF89a"),
+    (NO_IMAGE, b"", b"GIF89a"),
     ("the PNG is damaged", GOOD[:-1], GOOD[:20], GOOD[:40], png(1, 2, bytes(4))),
     ("the PNG is damaged", GOOD.replace(b"IDAT", b"IDAX"), GOOD.replace(b"IDAT", b"iDAT")),
     ("the header of the PPM is damaged", b"P6\n320 200\n", b"P6 1"),
@@ -276,10 +283,7 @@ BAD_IMAGES: tuple[tuple[Any, ...], ...] = (
     ("a row of the PNG has filter 255, and the filters are 0 to 4", png(1, 1, b"\xff" + bytes(3))),
     ("the PNG names a colour that it does not have", png(1, 1, b"\0\0", colour=3)),
     ("a PNG of this form can't be read: 1x1, depth 8, colour type 5", png(1, 1, b"\0", colour=5)),
-    (
-        "an interlaced PNG can't be read: save it without interlace",
-        png(1, 1, bytes(4), interlace=1),
-    ),
+    *INTERLACED,
     ("the image has 5000x5000 dots, and 16,777,216 are the most", png(5000, 5000, b"")),
     ("the image has 9999999x2 dots, and 16,777,216 are the most", b"P6 9999999 2 255\n"),
 )

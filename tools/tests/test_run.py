@@ -683,6 +683,16 @@ class Several(Fake):
         output = self.run_script("--until", "1", "--fonts", "f", path=str(self.tests))[1]
         self.assertEqual(output.count(": 5 steps, "), 2)
 
+    def test_json_is_made_where_it_is_wanted_alone(self) -> None:
+        # For each step it takes as long as all else.
+        wrong = mock.patch("zaklimot_tools.report.listing._told", side_effect=MemoryError)
+        with wrong:
+            status, output, said = self.run_script(path=str(self.tests))
+            self.assertEqual((status, said), (1, ""))
+            self.assertIn("2 scripts, 1 differs", output)
+            told = str(self.folder / "told.json")
+            self.assertEqual(self.run_script("--json", told, path=str(self.tests))[0], 2)
+
     def test_no_script_is_written_over(self) -> None:
         script = str(self.tests / "a.vga")
         for words in (

@@ -511,6 +511,27 @@ class Running(Folder):
         self.assertEqual((result.testsRun, len(result.errors)), (2, 1))
         self.assertIn("the test takes more than 0.2 seconds", result.errors[0][1])
 
+    @unittest.skipUnless(IS_LINUX, "limits are those of Linux")
+    def test_a_class_of_tests_may_need_more_memory(self) -> None:
+        more = "bytes(3 << 30)\n    most_memory = 1 << 32"
+        status, said = self.run_tests(takes=more, good="pass")
+        self.assertEqual((status, said.splitlines()[-1]), (0, "OK"))
+
+    def test_a_class_of_tests_may_need_more_time(self) -> None:
+        class Patient(unittest.TestCase):
+            most_seconds = 60
+
+            def test_one(self) -> None:
+                time.sleep(0.4)
+
+        before = signal.getsignal(signal.SIGALRM)
+        self.addCleanup(signal.signal, signal.SIGALRM, before)
+        tests = unittest.defaultTestLoader.loadTestsFromTestCase(Patient)
+        with mock.patch.object(discovering, "MOST_OF_TEST", 0.2):
+            runner = unittest.TextTestRunner(io.StringIO(), resultclass=discovering._Result)
+            with mock.patch.object(discovering, "end_children"):
+                self.assertTrue(runner.run(tests).wasSuccessful())
+
     def test_one_that_is_skipped_is_told_with_the_reason(self) -> None:
         status, said = self.run_tests(skips="self.skipTest('it is Sunday')", good="pass")
         self.assertEqual((status, said.splitlines()[-1]), (0, "OK (skipped=1)"))
@@ -616,7 +637,7 @@ class Gate(Folder):
         for name, text in {**fakes, "vga-check": tests, "rt": prover}.items():
             self.program(f"gate/tools/{name}", text)
         # The gate fetches these where they are lacking.
-        for name in ("wasm-opt", "wasm2c"):
+        for name in ("wasm-opt", "wasm2c", "apt-get"):
             self.program(f"gate/tools/{name}", NOTING)
         given = {
             "NOTES": str(notes),

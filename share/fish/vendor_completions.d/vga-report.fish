@@ -20,7 +20,7 @@ function __vga_report_commands
         text 'writes a report as text' \
         pictures 'writes the pictures of a report as files' \
         compare 'tells the first step in which two reports differ' \
-        compare-picture 'compares the picture of a step with an image, PNG or PPM' \
+        compare-picture 'compares the picture of a step with an image' \
         suite 'holds a command to the suite' \
         scripts 'writes the scripts of the suite\'s cases into a folder, as `suite` hands them to a command' \
         expected 'writes the pictures that the suite expects into a folder'
@@ -102,5 +102,4 @@ complete -c vga-report -n '__vga_report_command expected' -s h -l help -d 'show 
 complete -c vga-report -n '__vga_report_command expected' -l list -x -a '(__fish_complete_path)' -d 'reads this list of cases (default: the project\'s)'
 complete -c vga-report -n '__vga_report_command expected' -l only -x -d 'takes only cases whose names begin with PREFIX; may be repeated'
 complete -c vga-report -n '__vga_report_command expected' -l except -x -d 'leaves out cases whose names begin with PREFIX; may be repeated'
-complete -c vga-report -n '__vga_report_command expected' -l machine -d 'for a machine, which refuses nothing: cases that it can answer, each up to the first refused step'
 complete -c vga-report -n '__vga_report_command expected' -a '(__fish_complete_directories)'

@@ -119,9 +119,13 @@ class later:
         self._module = module
         self._name = name
 
-    def __call__(self, words: argparse.Namespace, progress: Progress) -> Optional[int]:
+    def found(self) -> Job:
+        """The function."""
         job: Job = getattr(importlib.import_module(self._module), self._name)
-        return job(words, progress)
+        return job
+
+    def __call__(self, words: argparse.Namespace, progress: Progress) -> Optional[int]:
+        return self.found()(words, progress)
 
 
 def command(

@@ -4,7 +4,7 @@ import argparse
 from pathlib import Path
 from typing import Iterable, Optional, Sequence
 
-from zaklimot_tools.core.cli import add
+from zaklimot_tools.core.cli import add, rule
 from zaklimot_tools.core.trouble import Trouble
 
 
@@ -25,6 +25,7 @@ def add_proof(
         "with --gated: keeps the crate's proof there, or takes it from there",
         type=Path,
     )
+    rule(parser, "proof", lambda words: not words.gated, "--proof keeps a proof of --gated")
 
 
 def add_checks(
@@ -44,9 +45,7 @@ def add_checks(
     )
 
 
-def refuse_to_check(words: argparse.Namespace, lacking: Sequence[str] = ()) -> None:
-    """Ends the work where these options contradict one another, or the machine lacks something."""
-    if words.proof is not None and not words.gated:
-        raise Trouble("--proof keeps a proof of --gated")
+def refuse_to_check(lacking: Sequence[str]) -> None:
+    """Ends the work where the machine lacks something."""
     if lacking:
         raise Trouble("this machine lacks\n" + "\n".join(f"  {line}" for line in lacking))

@@ -11,30 +11,38 @@ from typing import Callable, Iterator, NamedTuple, Optional
 
 from zaklimot.format import MOST_ADVANCE, REGISTERS, Answer, Step, parse_line
 
+from .banks import (
+    ATTRIBUTE,
+    CLOCKING,
+    COLOUR,
+    ENABLE_MEMORY,
+    GRAPHICS,
+    LINES,
+    MAP,
+    MISC,
+    MONOCHROME,
+    OVERFLOW,
+    SEQUENCER,
+    STATUS,
+    TOTAL,
+    Banks,
+)
 from .wordings import WORDINGS, said
 
 
-SEQUENCER = "sequencer"
-GRAPHICS = "graphics controller"
-CRT = "CRT controller"
-ATTRIBUTES = "attribute controller"
-# How many registers a group has, and the bits of its index.
-COUNTS = {SEQUENCER: (5, 7), GRAPHICS: (9, 15), CRT: (25, 31), ATTRIBUTES: (21, 31)}
-INDEX_PORTS = {0x3C4: SEQUENCER, 0x3CE: GRAPHICS, 0x3B4: CRT, 0x3D4: CRT}
-ATTRIBUTE, MISC = 0x3C0, 0x3C2
+INDEX_PORTS = (SEQUENCER, GRAPHICS, MONOCHROME, COLOUR)
+# The ports by which a script tells how long a frame lasts.
+TOLD_PORTS = {MISC, *(port + 1 for port in INDEX_PORTS)}
 # Dots a second, by bits 3 and 2 of miscellaneous output.
 CLOCKS = {0: 25_175_000, 1: 28_322_000}
 # The seconds of a frame where a script doesn't tell.
 USUAL = 1 / 70
-# The end of vertical retrace, with the bit that protects the registers 0 to 7 before it.
-PROTECTING = (CRT, 0x11)
-PROTECT = 0x80
-# The registers that shape a frame: clocking mode, horizontal total, vertical total and overflow.
-CLOCKING, TOTAL, LINES, OVERFLOW = (SEQUENCER, 1), (CRT, 0), (CRT, 6), (CRT, 7)
-# The memory map, in bits 3 and 2.
-MAP = (GRAPHICS, 6)
+# The registers that shape a frame, by the port of their index, which is one of two for the CRT
+# controller; and those of them that a script tells where no mode set does.
+SHAPING = {(SEQUENCER, CLOCKING), (COLOUR, TOTAL), (COLOUR, LINES), (COLOUR, OVERFLOW)}
+TELLING = {(COLOUR, TOTAL), (COLOUR, LINES), (COLOUR, OVERFLOW)}
 _PORTS = WORDINGS["ports"]
-WINDOWS = [(int(first, 16), int(last, 16)) for first, last in _PORTS["windows"]]
+SHOWN_WINDOWS = [(int(first, 16), int(last, 16)) for first, last in _PORTS["windows"]]
 READ_ALONE, READ_AND_WRITTEN, CRT_PORTS = (
     {int(port, 16) for port in _PORTS[name]}
     for name in ("read alone", "read and written", "of the CRT controller")
@@ -42,10 +50,10 @@ READ_ALONE, READ_AND_WRITTEN, CRT_PORTS = (
 LEFT_OUT = {int(port, 16): name for port, name in _PORTS["left out"].items()}
 # Why a step is refused; the page says the same.
 _why = partial(said, "refusals")
-# Registers whose bit 5 is left out.
+# Registers whose bit 5 is left out, by the port of their index.
 LEFT_OUT_BITS = {
     (GRAPHICS, 5): "graphics mode, shift register mode",
-    (CRT, 0x14): "underline location, count by four",
+    (COLOUR, 0x14): "underline location, count by four",
 }
 CYCLES = {name + width for name in ("out", "in", "put", "get") for width in ("", "w")}
 # How the steps begin that may change what refusals hang on: `out`, `in` and `int`.
@@ -82,77 +90,60 @@ def bytes_written(step: Step) -> tuple[tuple[int, int], ...]:
     )
 
 
-def shape_of(clocking: int, total: int, lines: int, overflow: int) -> tuple[int, int, int]:
-    """The lines of a frame, the characters of a line and the dots of a character, by the registers
-    that say so."""
-    return (
-        lines + ((overflow & 1) << 8) + ((overflow >> 5 & 1) << 9) + 2,
-        total + 5,
-        8 if clocking & 1 else 9,
-    )
-
-
 class Registers:
-    """What steps leave of the registers."""
+    """What steps that were done leave of the registers, as far as a script tells it."""
 
     def __init__(self) -> None:
-        # Miscellaneous output and the mode; None before a script has told them.
-        self.misc: Optional[int] = None
+        self.banks = Banks()
+        # The mode; None before a script has told it.
         self.mode: Optional[int] = None
-        self.indexes = dict.fromkeys(COUNTS, 0)
-        self._values: dict[tuple[str, int], int] = {}
-        self._is_data = False
+        # The registers of SHAPING that a script has told itself.
+        self._told: set[tuple[int, int]] = set()
+        self._has_clock = False
         # Whether the frame has the shape that the mode set gave it.
         self._is_of_mode = False
         # Why a step is refused now: the same steps come again and again.
         self.why = lru_cache(1000)(partial(why_refused, state=self))
 
     @property
-    def base(self) -> int:
-        """The port of the CRT controller's index."""
-        return 0x3D4 if (self.misc or 0) & 1 else 0x3B4
-
-    @property
     def map(self) -> int:
         """The memory map."""
-        return self._values.get(MAP, 0) >> 2 & 3
+        return self.banks.gfx.registers[MAP] >> 2 & 3
 
     def take(self, step: Step) -> None:
         """Takes a step that was done."""
-        name, numbers, _ = step
-        for port, value in bytes_written(step):
-            self._write(port, value)
-        if name in ("in", "inw") and self.base + 6 in (numbers[0], numbers[0] + (name == "inw")):
+        name = step.name
+        if name in ("out", "outw"):
+            port, value = step.numbers
+            is_word = name == "outw"
+            self.banks.write(port, value, is_word)
+            if port in TOLD_PORTS:
+                self._note(port)
+            if is_word and port + 1 in TOLD_PORTS:
+                self._note(port + 1)
+        elif name in ("in", "inw"):
             # A read of input status 1 makes the next write to the attribute controller an index.
-            self._is_data = False
-        elif name == "int" and numbers[0] >> 8 == 0 and numbers[0] & 0x7F in MODES:
-            self.mode = numbers[0] & 0x7F
-            self._is_data = False
+            if self.banks.controller + STATUS - step.numbers[0] in range(1 + (name == "inw")):
+                self.banks.read_status()
+        elif name == "int" and step.numbers[0] >> 8 == 0 and step.numbers[0] & 0x7F in MODES:
+            self.mode = step.numbers[0] & 0x7F
+            self.banks.misc = MODES[self.mode].misc
+            self.banks.gfx.registers[MAP] = MODES[self.mode].map << 2
+            self.banks.is_data = False
+            self._has_clock = True
             self._is_of_mode = True
-            self.misc, self._values[MAP] = MODES[self.mode].misc, MODES[self.mode].map << 2
 
-    def _write(self, port: int, value: int) -> None:
-        group = INDEX_PORTS.get(port)
-        if group is not None:
-            self.indexes[group] = value & COUNTS[group][1]
-        elif port == MISC:
-            self.misc = value
-        elif port == ATTRIBUTE:
-            if not self._is_data:
-                self.indexes[ATTRIBUTES] = value & COUNTS[ATTRIBUTES][1]
-            self._is_data = not self._is_data
-        elif port - 1 in INDEX_PORTS:
-            group = INDEX_PORTS[port - 1]
-            register = group, self.indexes[group]
-            # A register that shapes the frame takes the place of a mode's, unless it is protected.
-            if not (group == CRT and register[1] < 8 and self._values.get(PROTECTING, 0) & PROTECT):
-                self._values[register] = value
-                self._is_of_mode = self._is_of_mode and register not in (
-                    CLOCKING,
-                    TOTAL,
-                    LINES,
-                    OVERFLOW,
-                )
+    def _note(self, port: int) -> None:
+        """Notes what a write to a port has told."""
+        bank = self.banks.bank(port - 1)
+        if port == MISC:
+            self._has_clock = True
+        elif bank is not None:
+            register = (COLOUR if bank is self.banks.crtc else port - 1, bank.index & 0x1F)
+            # It takes the place of a mode's, unless it is protected.
+            if register in SHAPING and bank.is_open():
+                self._told.add(register)
+                self._is_of_mode = False
 
     def why_of(self, words: str, answer: Answer) -> str:
         """Why a step was refused, by its answer; nothing of a step that was done, which is
@@ -175,16 +166,15 @@ class Registers:
     def speed(self) -> Optional[tuple[int, float]]:
         """The dots of a frame, and the dots that pass in a second; None where the script doesn't
         tell."""
-        clock = None if self.misc is None else CLOCKS.get(self.misc >> 2 & 3)
-        values = self._values
-        if clock is None or not (self._is_of_mode or {TOTAL, LINES, OVERFLOW} <= values.keys()):
+        clock = CLOCKS.get(self.banks.misc >> 2 & 3) if self._has_clock else None
+        if clock is None or not (self._is_of_mode or TELLING <= self._told):
             return None
         if self._is_of_mode and self.mode is not None:
-            dots, is_halved = MODES[self.mode].dots, MODES[self.mode].is_halved
+            dots = MODES[self.mode].dots
+            is_halved = MODES[self.mode].is_halved
         else:
-            clocking = values.get(CLOCKING, 0)
-            dots = prod(shape_of(clocking, values[TOTAL], values[LINES], values[OVERFLOW]))
-            is_halved = bool(clocking & 8)
+            dots = prod(self.banks.shape)
+            is_halved = bool(self.banks.seq.registers[CLOCKING] & 8)
         return dots, clock / (2 if is_halved else 1)
 
 
@@ -230,9 +220,10 @@ def _cycles(step: Step) -> Iterator[tuple[bool, int, Optional[int], Optional[int
 def _not_decoded(
     state: Registers, is_memory: bool, place: int, value: Optional[int], _: Optional[int]
 ) -> str:
-    misc = state.misc or 0
-    (first, last) = WINDOWS[state.map]
-    if is_memory and not misc & 2:
+    banks = state.banks
+    misc = banks.misc
+    first, last = SHOWN_WINDOWS[state.map]
+    if is_memory and not misc & ENABLE_MEMORY:
         return _why("memory off")
     if is_memory:
         is_inside = first <= place <= last
@@ -242,8 +233,8 @@ def _not_decoded(
             else _why("outside", map=state.map, first=first, last=last, address=place)
         )
     if place in CRT_PORTS:
-        is_here = place & 0xFF0 == state.base & 0xFF0
-        told = partial(_why, "CRT controller elsewhere", base=state.base, bit=misc & 1)
+        is_here = place & 0xFF0 == banks.controller & 0xFF0
+        told = partial(_why, "CRT controller elsewhere", base=banks.controller, bit=misc & 1)
         return "" if is_here else told(port=place, other=place ^ 0x60)
     if place in READ_ALONE:
         return "" if value is None else _why("read alone", port=place)
@@ -257,24 +248,17 @@ def _not_in_profile(
         return _why("feature control")
     if port in LEFT_OUT and (value is None or port == 0x3C3):
         return _why("left out", port=port, name=LEFT_OUT[port])
-    # The group of the registers that a data port is for.
-    groups = {
-        0x3C5: SEQUENCER,
-        0x3CF: GRAPHICS,
-        state.base + 1: CRT,
-        0x3C0: ATTRIBUTES,
-        0x3C1: ATTRIBUTES,
-    }
-    if port not in groups:
+    banks = state.banks
+    bank = banks.attr if port in (ATTRIBUTE, ATTRIBUTE + 1) else banks.bank(port - 1)
+    if bank is None:
         return ""
-    group = groups[port]
-    count, bits = COUNTS[group]
-    index = state.indexes[group] if picked is None else picked & bits
-    if index >= count:
-        return _why("index", group=group, index=index, last=count - 1)
-    if value is not None and (group, index) == (CRT, 0x17):
+    index = bank.number if picked is None else picked & bank.index_kept & 0x1F
+    if index >= len(bank.registers):
+        return _why("index", group=bank.name, index=index, last=len(bank.registers) - 1)
+    if value is not None and bank is banks.crtc and index == 0x17:
         return _why("mode control")
-    name = LEFT_OUT_BITS.get((group, index)) if value is not None and value & 32 else None
+    place = (COLOUR if bank is banks.crtc else port - 1, index)
+    name = LEFT_OUT_BITS.get(place) if value is not None and value & 32 else None
     return _why("bit 5", name=name) if name else ""
 
 

@@ -166,16 +166,15 @@ def read_record(data: bytes, name: str) -> Run:
     first = data.count(b"\n", 0, begin) + 1
     parts = {TABLE: bytearray(), ANSWERS: bytearray()}
     end: Optional[tuple[int, bytes]] = None
-    for line, letter, number, listed in _lines(data[begin:], first, name):
-        if letter in parts:
-            part = parts[letter]
-            if number != len(part):
-                raise Trouble(
-                    f"bytes from {len(part)} on are to come, and not from {number} on", name, line
-                )
-            part += listed
-        elif letter == END:
-            end = number, listed
+    for line in _lines(data[begin:], first, name):
+        part = parts.get(line.letter)
+        if part is not None:
+            if line.number != len(part):
+                told = f"bytes from {len(part)} on are to come, and not from {line.number} on"
+                raise Trouble(told, name, line.place)
+            part += line.listed
+        elif line.letter == END:
+            end = line.number, line.listed
             break
     answers = bytes(parts[ANSWERS])
     table = Table(bytes(parts[TABLE]), name)
@@ -186,9 +185,17 @@ def read_record(data: bytes, name: str) -> Run:
     return Run(table, answers)
 
 
-def _lines(data: bytes, first: int, name: str) -> Iterator[tuple[int, bytes, int, bytes]]:
-    """The lines of a record up to one that is cut off: each line's place in the file, its letter,
-    number and bytes."""
+class RecordLine(NamedTuple):
+    """A line of a record: its place in the file, its letter, its number and its bytes."""
+
+    place: int
+    letter: bytes
+    number: int
+    listed: bytes
+
+
+def _lines(data: bytes, first: int, name: str) -> Iterator[RecordLine]:
+    """The lines of a record up to one that is cut off."""
     lines = data.split(b"\n")
     for number, line in enumerate(lines[1:-1], first + 1):
         found = LINE.fullmatch(line.strip(b"\r"))
@@ -202,7 +209,7 @@ def _lines(data: bytes, first: int, name: str) -> Iterator[tuple[int, bytes, int
         listed = bytes.fromhex((found[3] or b"").decode())
         if sum(numbered + listed) & 0xFF != int(found[4], 16):
             raise Trouble("the line's sum is wrong: bytes were lost on their way", name, number)
-        yield number, found[1], int.from_bytes(numbered, "big"), listed
+        yield RecordLine(number, found[1], int.from_bytes(numbered, "big"), listed)
 
 
 def reports(

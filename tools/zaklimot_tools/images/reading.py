@@ -7,18 +7,20 @@ import struct
 import zlib
 from collections import defaultdict
 from contextlib import suppress
-from typing import Callable, Iterator, NamedTuple, Sequence
+from typing import Any, Callable, Iterator, NamedTuple, Sequence
 
 from zaklimot.format import Picture
 from zaklimot_tools.core.streams import read_at_most
 from zaklimot_tools.core.trouble import Trouble
 
+from . import others
 from .png import MOST_DOTS, SIGNATURE, stretched
 
 
 PPM = re.compile(
     rb"P6(?:\s|#[^\n]*\n)+(\d{1,7})(?:\s|#[^\n]*\n)+(\d{1,7})(?:\s|#[^\n]*\n)+(\d{1,5})\s"
 )
+PPM_BEGINS = b"P6"
 DAMAGED = "the PNG is damaged"
 # Where the head of a PNG begins: behind its length and its kind.
 HEAD_AT = len(SIGNATURE) + 8
@@ -63,10 +65,15 @@ def image_bytes(path: str) -> bytes:
 
 
 def image_of(data: bytes, name: str, most: int = MOST_DOTS) -> Image:
-    """The image that a file holds. One of more dots than the most is told before it is unpacked."""
+    """The image that a file holds. One of more dots than the most is told before it is unpacked.
+
+    What is neither a PNG nor a PPM of the kind P6 is read by Pillow, and so is an interlaced PNG.
+    """
     if data.startswith(SIGNATURE):
         return _png(data, name, most)
-    return _ppm(data, name, most)
+    if data.startswith(PPM_BEGINS):
+        return _ppm(data, name, most)
+    return _other(data, name, most)
 
 
 def size_of(data: bytes, name: str) -> tuple[int, int]:
@@ -77,15 +84,15 @@ def size_of(data: bytes, name: str) -> tuple[int, int]:
             raise Trouble(DAMAGED, name)
         width, height = struct.unpack_from(">II", data, HEAD_AT)
         return int(width), int(height)
-    width, height, _ = _ppm_head(data, name)[0]
-    return width, height
+    if data.startswith(PPM_BEGINS):
+        width, height, _ = _ppm_head(data, name)[0]
+        return width, height
+    return others.size_of(others.opened(_pillow(name), data, name))
 
 
 def _ppm_head(data: bytes, name: str) -> tuple[tuple[int, int, int], int]:
     """Width, height and the most of a component of a PPM, and where its dots begin."""
     found = PPM.match(data)
-    if found is None and not data.startswith(b"P6"):
-        raise Trouble("this is neither a PNG nor a PPM of the kind P6", name)
     if found is None:
         raise Trouble("the header of the PPM is damaged", name)
     width, height, most = (int(number) for number in found.groups())
@@ -102,6 +109,22 @@ def _spread(parts: Sequence[bytes]) -> bytes:
     for at, part in enumerate(parts):
         row[at::3] = part
     return bytes(row)
+
+
+def _pillow(name: str, told: str = "this is neither a PNG nor a PPM of the kind P6") -> Any:
+    """Pillow, for an image that can't be read without it; a Trouble where Python has none."""
+    found = others.pillow()
+    if found is None:
+        raise Trouble(f"{told}; {others.WITHOUT}", name)
+    return found
+
+
+def _other(data: bytes, name: str, most: int, told: str = "") -> Image:
+    module = _pillow(name, told) if told else _pillow(name)
+    image = others.opened(module, data, name)
+    width, height = others.size_of(image)
+    _check_dots(width, height, most, name)
+    return Image(width, height, others.rows_of(image, name), 255)
 
 
 def _ppm(data: bytes, name: str, most_dots: int) -> Image:
@@ -149,7 +172,9 @@ def _png(data: bytes, name: str, most: int) -> Image:
             name,
         )
     if interlace:
-        raise Trouble("an interlaced PNG can't be read: save it without interlace", name)
+        return _other(
+            data, name, most, "an interlaced PNG can't be read: save it without interlace"
+        )
     bits = depth * SAMPLES[colour]
     lines = b""
     length = (width * bits + 7) // 8

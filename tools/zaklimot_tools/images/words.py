@@ -11,6 +11,8 @@ from zaklimot_tools.core.words import MOST_SCALE, number_to
 MOST_WITHIN = 63
 FIVE_SIX_FIVE = "5-6-5"
 Within = Union[int, str]
+# What is told of a word that names an image.
+IMAGES = "a PNG, or a PPM of the kind P6; any image where Python has pillow"
 
 
 def within(word: str) -> Within:

@@ -4,13 +4,17 @@ from __future__ import annotations
 
 from collections import Counter
 from dataclasses import dataclass
+from functools import lru_cache
 from itertools import chain
-from typing import Callable, Iterable, Iterator, Sequence
+from typing import TYPE_CHECKING, Callable, Iterable, Iterator, Optional, Sequence
 
 from zaklimot_tools.core.trouble import Trouble
 from zaklimot_tools.images.reading import Image
 
 from .asked import Fewer
+
+if TYPE_CHECKING:
+    from .arrays import Arrays
 
 # Red, green and blue, six bits each.
 Colour = tuple[int, int, int]
@@ -31,8 +35,24 @@ MOST = 63
 # Colours for a dither are tried on so many dots at most, and judged by areas of so many dots across
 # and down.
 TRIED, AREA = 16384, 4
+# Below so many dots it takes longer to import numpy than to do without.
+FEW = 1 << 13
 # An ordered dither of four by four dots: the order in which they become brighter.
 ORDERED = ((0, 8, 2, 10), (12, 4, 14, 6), (3, 11, 1, 9), (15, 7, 13, 5))
+
+
+def arrays_for(dots: int) -> Optional[Arrays]:
+    """What works so many dots out by numpy, where Python has it and they are many; else None."""
+    return None if dots < FEW else _arrays()
+
+
+@lru_cache(1)
+def _arrays() -> Optional[Arrays]:
+    try:
+        from .arrays import Arrays
+    except ImportError:
+        return None
+    return Arrays(WEIGHTS, MOST)
 
 
 def distance(one: Sequence[int], other: Sequence[int]) -> int:
@@ -183,10 +203,13 @@ def _cut_boxes(counts: Counter[Colour], most: int) -> list[Box]:
 
 
 def _boxes_of(counts: Counter[Colour], chosen: Sequence[Colour]) -> list[Box]:
-    nearest = Nearest(chosen)
+    arrays = arrays_for(len(counts) * len(chosen))
+    numbers: Iterable[int] = (
+        map(Nearest(chosen), counts) if arrays is None else arrays.nearest(list(counts), chosen)
+    )
     boxes: list[Box] = [[] for _ in chosen]
-    for colour, count in counts.items():
-        boxes[nearest(colour)].append((colour, count))
+    for number, entry in zip(numbers, counts.items()):
+        boxes[number].append(entry)
     return boxes
 
 
@@ -292,11 +315,16 @@ def _spread(colours: Sequence[Colour]) -> float:
 def _ordered(rows: Sequence[Row], colours: Sequence[Colour]) -> Iterator[bytes]:
     """Rows by the ordered dither: a dot is made brighter or darker by its place, as far as colours
     lie apart."""
+    spread = _spread(colours)
+    pattern = [[round(((2 * order + 1) / 32 - 0.5) * spread) for order in row] for row in ORDERED]
+    arrays = arrays_for(len(rows) * len(rows[0]))
+    if arrays is not None:
+        yield from arrays.ordered_rows(rows, colours, pattern)
+        return
     nearest = Nearest(colours)
     own = {colour: number for number, colour in enumerate(colours)}
-    spread = _spread(colours)
     for y, row in enumerate(rows):
-        steps = [round(((2 * order + 1) / 32 - 0.5) * spread) for order in ORDERED[y % 4]]
+        steps = pattern[y % 4]
         made = bytearray(len(row))
         for x, dot in enumerate(row):
             # A dot whose colour is there keeps it.
@@ -314,6 +342,10 @@ def _ordered(rows: Sequence[Row], colours: Sequence[Colour]) -> Iterator[bytes]:
 def _floyd(rows: Sequence[Row], colours: Sequence[Colour]) -> Iterator[bytes]:
     """Rows by the dither of Floyd and Steinberg: what a dot is off goes to those behind and below,
     in sixteenths."""
+    arrays = arrays_for(len(rows) * len(rows[0]))
+    if arrays is not None:
+        yield from arrays.floyd_rows(rows, colours)
+        return
     nearest = Nearest(colours)
     width = len(rows[0])
     below = [[0, 0, 0] for _ in range(width + 2)]
@@ -338,6 +370,9 @@ def _floyd(rows: Sequence[Row], colours: Sequence[Colour]) -> Iterator[bytes]:
 
 
 def _nearest(rows: Sequence[Row], colours: Sequence[Colour]) -> Iterator[bytes]:
+    arrays = arrays_for(len(rows) * len(rows[0]))
+    if arrays is not None:
+        return arrays.nearest_rows(rows, colours)
     nearest = Nearest(colours)
     return (bytes(map(nearest, row)) for row in rows)
 
@@ -372,6 +407,9 @@ def _chosen(rows: Sequence[Row], counts: Counter[Colour], most: int, fewer: Fewe
 def _seen(rows: Sequence[Row], colours: Sequence[Colour], made: Iterable[bytes]) -> int:
     """How far an image is from the one that it stands for: by its dots, times by areas of dots that
     are seen as one."""
+    arrays = arrays_for(len(rows) * len(rows[0]))
+    if arrays is not None:
+        return arrays.seen(rows, colours, list(made), AREA)
     by_dots = 1
     by_areas = 1
     width = len(rows[0])

@@ -7,6 +7,7 @@ from typing import Any
 from zaklimot_tools.core import cli
 from zaklimot_tools.core.cli import add, later, rule
 from zaklimot_tools.core.files import Input, Output
+from zaklimot_tools.images.words import IMAGES
 from zaklimot_tools.script.words import FONTS
 
 from .asked import Fewer, Fit
@@ -67,7 +68,7 @@ def parser() -> argparse.ArgumentParser:
     job = later("zaklimot_tools.picture.command", "write_drawing")
     told = "makes a script that draws an image"
     made = cli.command(commands, "script", job, told, example)
-    add(made, "IMAGE", "a PNG, or a PPM of the kind P6", type=Input)
+    add(made, "IMAGE", IMAGES, type=Input)
     add(made, "SCRIPT", "the script", type=Output)
     add(made, "--mode", "the mode; 3 is text", required=True, type=str.upper, choices=list(MODES))
     add(made, "--bytes", "writes the script as bytes (default: as text)")

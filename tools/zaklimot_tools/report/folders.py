@@ -6,9 +6,10 @@ import shutil
 import sys
 import tempfile
 import time
+from contextlib import nullcontext
 from pathlib import Path
 from threading import Event
-from typing import BinaryIO, Callable, Iterator, NamedTuple
+from typing import BinaryIO, Callable, ContextManager, Iterator, NamedTuple, Optional
 from xml.etree.ElementTree import Element, SubElement, indent, tostring
 
 from zaklimot_tools.core.cli import ended_by, say
@@ -26,20 +27,20 @@ ENDINGS = (".vga", ".bin")
 # So much of what is told of a script is kept for a report of all.
 MOST_LINES = 1 << 16
 # Runs a script by its words: with what takes its output and its warnings, and the stream of its
-# JSON.
-RunOne = Callable[[argparse.Namespace, Tell, Tell, BinaryIO], int]
+# JSON, if that is wanted.
+RunOne = Callable[[argparse.Namespace, Tell, Tell, Optional[BinaryIO]], int]
 
 
 class Ran(NamedTuple):
     """A script that was run: its exit status, what was written and said, its seconds, and the file
-    of its JSON."""
+    of its JSON, if there is one."""
 
     script: Path
     status: int
     output: str
     said: str
     seconds: float
-    json: Path
+    json: Optional[Path]
 
 
 def scripts_in(folder: str) -> list[Path]:
@@ -92,7 +93,9 @@ def _runs(
 
     def run(number: int) -> Ran:
         one = {**vars(words), "script": str(paths[number]), "quiet": True, "json": None}
-        return _ran(paths[number], argparse.Namespace(**one), run_one, folder / str(number))
+        # The JSON of a step takes as long as all else of it.
+        json = None if words.json is None else folder / str(number)
+        return _ran(paths[number], argparse.Namespace(**one), run_one, json)
 
     with in_parallel(run, range(len(paths)), words.jobs, is_ended, end_all) as found:
         for count, ran in enumerate(found, 1):
@@ -101,12 +104,15 @@ def _runs(
             yield ran
 
 
-def _ran(path: Path, words: argparse.Namespace, run_one: RunOne, json: Path) -> Ran:
+def _ran(path: Path, words: argparse.Namespace, run_one: RunOne, json: Optional[Path]) -> Ran:
     """Runs a script. What keeps it from being run is told, as of a run of its own."""
     begun = time.monotonic()
     output: list[str] = []
     said: list[str] = []
-    with open(json, "wb") as stream:
+    opened: ContextManager[Optional[BinaryIO]] = nullcontext()
+    if json is not None:
+        opened = open(json, "wb")
+    with opened as stream:
         try:
             status = run_one(words, output.append, said.append, stream)
         except (Trouble, OSError, MemoryError) as error:
@@ -121,6 +127,7 @@ def _write_json(path: str, ran: list[Ran]) -> None:
     with writing(path) as stream:
         for number, one in enumerate(ran):
             stream.write(b",\n" if number else b"[\n")
+            assert one.json is not None
             if not one.json.stat().st_size:
                 stream.write(b"null")
             with open(one.json, "rb") as told:

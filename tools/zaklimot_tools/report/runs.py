@@ -89,7 +89,7 @@ def _run(words: argparse.Namespace, progress: Progress) -> int:
         return AGREED
     program: Program = Tried() if words.try_ else BuiltProgram(found_program(words.vga, BUILD_ONE))
 
-    def run_one(one: argparse.Namespace, tell: Tell, warn: Tell, json: BinaryIO) -> int:
+    def run_one(one: argparse.Namespace, tell: Tell, warn: Tell, json: Optional[BinaryIO]) -> int:
         return run_script(one, program, Progress(False), tell, warn, json)
 
     if is_several(words):

@@ -9,7 +9,7 @@ from zaklimot_tools.core import cli
 from zaklimot_tools.core.cli import add, later, rule
 from zaklimot_tools.core.files import STANDARD, Input, Output, PictureFolder
 from zaklimot_tools.core.words import MOST_JOBS, MOST_OUTPUT, MOST_STEP, number_to, seconds
-from zaklimot_tools.images.words import add_shape, within
+from zaklimot_tools.images.words import IMAGES, add_shape, within
 from zaklimot_tools.script.words import add_program
 
 from .places import SUITE
@@ -20,7 +20,7 @@ FILES: dict[str, tuple[str, Callable[[str], object]]] = {
     "REPORT": ("the report of a run", Input),
     "OTHER": ("the report that it is compared with, such as that of another adapter", Input),
     "STEP": ("the number of the step", number_to(MOST_STEP)),
-    "IMAGE": ("a PNG, or a PPM of the kind P6", Input),
+    "IMAGE": (IMAGES, Input),
 }
 COMMAND = """the command that runs a case, as one word of the shell. In it these places are filled:
 {script} the file of the case's script, {fonts} the font file, {name} the case's name, and {until},
@@ -44,6 +44,9 @@ def _add_cases(parser: argparse.ArgumentParser) -> None:
     add(parser, "--only PREFIX", told, **MANY)
     told = "leaves out cases whose names begin with PREFIX; may be repeated"
     add(parser, "--except PREFIX", told, dest="except_", **MANY)
+
+
+def _add_machine(parser: argparse.ArgumentParser) -> None:
     told = "cases that it can answer, each up to the first refused step"
     add(parser, "--machine", f"for a machine, which refuses nothing: {told}")
 
@@ -57,6 +60,7 @@ def _add_suite(parser: argparse.ArgumentParser) -> None:
     add(parser, "--keep FOLDER", "keeps the reports and pictures of cases that don't agree")
     add(parser, "--bytes COMMAND", "the command for scripts as bytes; without it they are skipped")
     _add_cases(parser)
+    _add_machine(parser)
     told = "counts steps that are to be refused as skipped"
     add(parser, "--no-refusals", told, dest="refusals", action="store_false")
     add(
@@ -69,7 +73,12 @@ def _add_suite(parser: argparse.ArgumentParser) -> None:
     add(parser, "--json", "prints the table as JSON")
 
 
-def _add_folder_of_cases(parser: argparse.ArgumentParser) -> None:
+def _add_scripts(parser: argparse.ArgumentParser) -> None:
+    _add_expected(parser)
+    _add_machine(parser)
+
+
+def _add_expected(parser: argparse.ArgumentParser) -> None:
     add(parser, "FOLDER", "a new folder, or an empty one")
     _add_cases(parser)
 
@@ -217,7 +226,7 @@ COMMANDS: dict[str, tuple[str, str, Callable[[argparse.ArgumentParser], object],
     ),
     "compare-picture": (
         "reports",
-        "compares the picture of a step with an image, PNG or PPM",
+        "compares the picture of a step with an image",
         _add_compare_picture,
         "report.txt 198 screenshots/0198.png --within 5-6-5",
     ),
@@ -230,13 +239,13 @@ COMMANDS: dict[str, tuple[str, str, Callable[[argparse.ArgumentParser], object],
     "scripts": (
         "suite",
         "writes the scripts of the suite's cases into a folder, as `suite` hands them to a command",
-        _add_folder_of_cases,
+        _add_scripts,
         "cases --only dots/",
     ),
     "expected": (
         "suite",
         "writes the pictures that the suite expects into a folder",
-        _add_folder_of_cases,
+        _add_expected,
         "expected --only dots/",
     ),
 }

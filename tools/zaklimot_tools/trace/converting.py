@@ -6,7 +6,7 @@ Rows of equal steps, and of equal groups of steps, become blocks.
 from collections import Counter
 from dataclasses import dataclass, field
 from itertools import islice
-from typing import BinaryIO, Callable, Iterable, Iterator, NamedTuple, Optional, Sequence
+from typing import BinaryIO, Callable, Iterable, Iterator, Mapping, NamedTuple, Optional, Sequence
 
 from zaklimot import format
 from zaklimot.format import (
@@ -22,13 +22,8 @@ from zaklimot.format.picture import Digest
 from zaklimot.format.report import REFUSAL, SKIPPED, VALUE
 from zaklimot_tools.core.streams import counted
 from zaklimot_tools.core.trouble import Trouble
-from zaklimot_tools.explain.registers import (
-    ATTRIBUTE,
-    ATTRIBUTES,
-    INDEX_PORTS,
-    Registers,
-    bytes_written,
-)
+from zaklimot_tools.explain.banks import ATTRIBUTE, STATUS, Banks
+from zaklimot_tools.explain.registers import INDEX_PORTS, Registers, bytes_written
 
 from .asked import CLOCK, END, FLIP, SCREENS, Frames
 from .state import State, rebuilt
@@ -36,7 +31,9 @@ from .step import (
     ADVANCE,
     BEAM_BITS,
     FRAME,
+    IN,
     INT,
+    INW,
     NAMES,
     OUT,
     OUTW,
@@ -568,12 +565,18 @@ def check(
     Where time has passed by the dots of the trace, the beam is where it was.
     """
     checked = Checked()
-    registers = Registers()
+    banks = Banks()
+    # The last byte that each port was given, also by a step that was refused.
+    given: dict[int, int] = {}
     for number, step in enumerate(steps, 1):
         answer = _judged(step, number, next(answers, None), name)
         is_exact = has_time and step.dots is not None
-        checked.take(step, answer, f"{NAMES[step.opcode]} {_place(step, registers)}", is_exact)
-        registers.take(step.step)
+        checked.take(step, answer, f"{NAMES[step.opcode]} {_place(step, banks, given)}", is_exact)
+        for port, value in bytes_written(step.step):
+            given[port] = value
+            banks.write(port, value)
+        if step.opcode in (IN, INW) and step.address == banks.controller + STATUS:
+            banks.read_status()
     if next(answers, None) is not None:
         raise Trouble(
             f"it has more than the {checked.steps:,} steps of the trace: it is of another script",
@@ -604,14 +607,18 @@ def count(cycles: Iterable[Cycle]) -> Counter[str]:
     return found
 
 
-def _place(step: TraceStep, registers: Registers) -> str:
+def _place(step: TraceStep, banks: Banks, given: Mapping[int, int]) -> str:
     """What a step is about: a function of the BIOS, a window of memory, or a port, of data with its
     register's index."""
     if step.call is not None:
         return f"AH {step.call.registers[0] >> 8:02X}"
     if step.opcode not in PORTS:
         return place_of(step.address)
-    group = ATTRIBUTES if step.address == ATTRIBUTE + 1 else INDEX_PORTS.get(step.address - 1)
-    return f"{PORT} {step.address:03X}" + (
-        "" if group is None else f" index {registers.indexes[group]:02X}"
-    )
+    index = ""
+    if step.address == ATTRIBUTE + 1:
+        index = f" index {banks.attr.number:02X}"
+    elif step.address - 1 in INDEX_PORTS:
+        bank = banks.bank(step.address - 1)
+        number = given.get(step.address - 1, 0) & 0x1F if bank is None else bank.number
+        index = f" index {number:02X}"
+    return f"{PORT} {step.address:03X}{index}"

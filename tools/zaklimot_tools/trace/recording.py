@@ -9,10 +9,11 @@ from contextlib import ExitStack, contextmanager, suppress
 from dataclasses import dataclass, field
 from pathlib import Path
 from threading import Thread
-from typing import BinaryIO, Callable, Iterator, Optional, Sequence
+from typing import Any, BinaryIO, Callable, Iterator, Optional, Sequence, cast
 
 from zaklimot_tools.core.processes import (
     DRAINING,
+    Word,
     check_program,
     end_with_parent,
     run,
@@ -250,32 +251,35 @@ def _reached(folder: Path, process: subprocess.Popen[bytes]) -> Iterator[tuple[M
         yield do, log
 
 
+@contextmanager
+def _filtered(folder: Path, target: BinaryIO) -> Iterator[tuple["subprocess.Popen[bytes]", Keeper]]:
+    """What takes the VGA's lines out of a machine's log, and what keeps them in a file."""
+    words = [word for name in KEPT for word in ("-e", name)]
+    os.mkfifo(folder / "log")
+    filtering: list[Word] = ["grep", "--line-buffered", "-F", *words, folder / "log"]
+    # The keeper ends after the program whose lines it keeps.
+    with ExitStack() as kept_lines:
+        given: dict[str, Any] = {"stdout": subprocess.PIPE, "preexec_fn": end_with_parent}
+        with started(filtering, **given) as process:
+            keeper = Keeper(cast(BinaryIO, process.stdout), target)
+            kept_lines.callback(keeper.end)
+            process.stdout = None
+            keeper.start()
+            yield process, keeper
+
+
 def record(machine: QemuMachine, kept: Path, say: Say, progress: Progress) -> list[float]:
     """Leaves a trace and the dumps of screens in a folder; answers the seconds of each screen.
 
     `say` tells what may spoil them.
     """
     check_program(QEMU)
-    words = [word for name in KEPT for word in ("-e", name)]
     with ExitStack() as stack:
         folder = Path(stack.enter_context(tempfile.TemporaryDirectory(prefix="vga-recording-")))
-        os.mkfifo(folder / "log")
         target = stack.enter_context(
             gzip.open(stack.enter_context(writing(str(kept / TRACE))), "wb", 6)
         )
-        # It ends after the program whose lines it keeps.
-        kept_lines = stack.enter_context(ExitStack())
-        filtering = stack.enter_context(
-            started(
-                ["grep", "--line-buffered", "-F", *words, folder / "log"],
-                stdout=subprocess.PIPE,
-                preexec_fn=end_with_parent,
-            )
-        )
-        keeper = Keeper(filtering.stdout, target)  # type: ignore[arg-type]
-        kept_lines.callback(keeper.end)
-        filtering.stdout = None
-        keeper.start()
+        filtering, keeper = stack.enter_context(_filtered(folder, cast(BinaryIO, target)))
         said = stack.enter_context(open(folder / "said", "wb"))
         process = stack.enter_context(
             started(_qemu(machine, folder), stdout=said, stderr=said, preexec_fn=end_with_parent)

@@ -8,22 +8,30 @@ from __future__ import annotations
 from functools import partial
 from math import prod
 from operator import and_, or_, xor
-from typing import Callable, Iterable, Iterator, Mapping, Optional, Sequence, TypeVar
+from typing import Callable, Iterable, Iterator, Optional, Sequence, TypeVar
 
-from zaklimot_tools.explain.registers import shape_of
+from zaklimot_tools.explain.banks import (
+    ATTRIBUTE,
+    DAC_DATA,
+    DAC_PORTS,
+    DAC_WRITE,
+    ENABLE_MEMORY,
+    GRAPHICS,
+    MASK,
+    MISC,
+    PROTECT,
+    RETRACE_END,
+    SEQUENCER,
+    STATUS,
+    WINDOWS,
+    Banks,
+    Shape,
+)
 
 from .step import ADVANCE, FRAME, GET, GETW, IN, INW, OUT, OUTW, PUT, PUTW, READS, WORDS, TraceStep
 
 
-ATTRIBUTE, ATTRIBUTE_READ, MISC, SEQUENCER, MASK = 0x3C0, 0x3C1, 0x3C2, 0x3C4, 0x3C6
-DAC_READ, DAC_WRITE, DAC_DATA, MISC_READ, GRAPHICS = 0x3C7, 0x3C8, 0x3C9, 0x3CC, 0x3CE
-COLOUR, MONOCHROME = 0x3D4, 0x3B4
-# From the port of the CRT controller's index to that of input status 1.
-STATUS = 6
-# Bits of miscellaneous output.
-IS_COLOUR, ENABLE_MEMORY, MISC_KEPT = 0x01, 0x02, 0xEF
-# First address and bytes of the window, by the memory map.
-WINDOWS = ((0xA0000, 0x20000), (0xA0000, 0x10000), (0xB0000, 0x8000), (0xB8000, 0x8000))
+ATTRIBUTE_READ, MISC_READ = 0x3C1, 0x3CC
 FIRST_ADDRESS, PLANE_BYTES, PLANES, ALL_PLANES = 0xA0000, 1 << 16, 4, 0x0F
 # A byte in each of the four bytes of a word, and words of which the bytes of some planes are FF.
 EACH = 0x01010101
@@ -34,12 +42,6 @@ EVEN, ODD = 0b0101, 0b1010
 # What is done with data and the latches, by the function of data rotate.
 FUNCTIONS: tuple[Callable[[int, int], int], ...] = (lambda data, _: data, and_, or_, xor)
 COMPONENTS, ENTRIES = 3, 256
-# The index of the attribute controller: the palette address source; and how many registers are the
-# palette.
-SOURCE, PALETTE = 0x20, 0x10
-# Bits of the end of vertical retrace and of overflow: what protects registers 0 to 7, and what is
-# never protected.
-PROTECT, COMPARE_8 = 0x80, 0x10
 # Frames are counted modulo so many: the cursor and blinking text go by this number.
 FRAMES = 32
 # The CRT controller's registers that are taken at a frame's first dot: preset row scan, start
@@ -53,44 +55,19 @@ PLANAR = (
     (GRAPHICS, 0x06, 0x04),
     (GRAPHICS, 0x08, 0xFF),
 )
-MAP_MASK, RETRACE_END = 0x02, 0x11
-# The lines of a frame, the characters of a line, and the dots of a character.
-Shape = tuple[int, int, int]
+MAP_MASK = 0x02
 Value = TypeVar("Value")
 
 
-class State:
+class State(Banks):
     """The state at power-on, and as steps leave it. A step that the adapter refuses changes
     nothing."""
 
     def __init__(self) -> None:
-        self.misc = 0
-        self.seq = Bank("033D0F3F0E", 0x07)
-        self.gfx = Bank("0F0F0F1F037B0F0FFF", 0x0F, {5: (0x20, 0)})
-        crtc_kept = "FF" * 8 + "7FFF3F7F" + "FF" * 8 + "7FFFFFEFFF"
-        crtc_wanted = {
-            0x14: (0x20, 0),
-            0x17: (0x0F, 0x03),
-        }
-        self.crtc = Bank(crtc_kept, 0x1F, crtc_wanted, _unprotected)
-        self.crtc.registers[0x17] = 0x03
-        self.attr = Bank("3F" * PALETTE + "EFFF3F0F0F", 0x3F, {}, _unlocked)
-        # Whether the next write to the attribute controller is data.
-        self.is_data = False
+        super().__init__()
         self.dac = Dac()
         self.memory = Memory(self.seq.registers, self.gfx.registers)
         self.beam = Beam()
-
-    @property
-    def controller(self) -> int:
-        """The port of the CRT controller's index."""
-        return COLOUR if self.misc & IS_COLOUR else MONOCHROME
-
-    @property
-    def shape(self) -> Shape:
-        """The shape of the frame."""
-        crtc = self.crtc.registers
-        return shape_of(self.seq.registers[1], crtc[0], crtc[6], crtc[7])
 
     def take(self, step: TraceStep) -> Optional[int]:
         """Takes a step, and answers what it reads; None of a write and of a refusal. Of input
@@ -101,7 +78,7 @@ class State:
             for place, byte in zip(self._places(address, size), value.to_bytes(2, "little")):
                 self.memory.put(place, byte)
         elif opcode in (OUT, OUTW):
-            self._write(address, value.to_bytes(size, "little"))
+            self.write(address, value, is_word=size == 2)
         elif opcode == ADVANCE:
             self.beam.advance(address, self.shape, self.crtc.registers)
         elif opcode == FRAME:
@@ -130,65 +107,28 @@ class State:
             return ()
         return [place + at & 0xFFFF for at in range(count)]
 
-    def _bank(self, port: int) -> Optional[Bank]:
-        if port == self.controller:
-            return self.crtc
-        return self.seq if port == SEQUENCER else self.gfx if port == GRAPHICS else None
-
-    def _write(self, port: int, data: bytes) -> None:
-        """Writes a byte or a word: whole, or not at all. The first byte decides on the second where
-        it is its index."""
-        bank = self._bank(port)
-        writers = [self._writer(port, data[0], None)]
-        if len(data) > 1:
-            writers.append(
-                self._writer(port + 1, data[1], None if bank is None else data[0] & bank.index_kept)
-            )
-        if None not in writers:
-            for writer in writers:
-                writer()  # type: ignore[misc]
-
-    def _writer(self, port: int, value: int, index: Optional[int]) -> Optional[Callable[[], None]]:
-        """What writes a value to a port, whose index may be another then; None where that is
-        refused."""
-        bank = self._bank(port)
-        bank_of_data = self._bank(port - 1)
-        if bank is not None:
-            return partial(setattr, bank, "index", value & bank.index_kept)
-        if bank_of_data is not None:
-            is_taken = bank_of_data.takes(bank_of_data.index if index is None else index, value)
-            return partial(bank_of_data.write, value) if is_taken else None
-        if port == ATTRIBUTE:
-            return (
-                None
-                if self.is_data and not self.attr.has_register
-                else partial(self._write_attribute, value)
-            )
-        if port == MISC:
-            return partial(setattr, self, "misc", value & MISC_KEPT)
+    def put(self, port: int, value: int) -> bool:
+        """Writes a byte that the port takes; True."""
         if port == MASK:
-            return partial(setattr, self.dac, "mask", value)
-        if port == DAC_DATA:
-            return partial(self.dac.write, value)
-        return partial(self.dac.choose, value) if port in (DAC_READ, DAC_WRITE) else None
-
-    def _write_attribute(self, value: int) -> None:
-        if self.is_data:
-            self.attr.write(value)
+            self.dac.mask = value
+        elif port == DAC_DATA:
+            self.dac.write(value)
+        elif port in DAC_PORTS:
+            self.dac.choose(value)
         else:
-            self.attr.index = value & self.attr.index_kept
-        self.is_data = not self.is_data
+            super().put(port, value)
+        return True
 
     def _reader(self, port: int) -> Optional[Callable[[], int]]:
-        bank = self._bank(port)
-        bank_of_data = self.attr if port == ATTRIBUTE_READ else self._bank(port - 1)
+        bank = self.bank(port)
+        bank_of_data = self.attr if port == ATTRIBUTE_READ else self.bank(port - 1)
         if bank is not None:
             return partial(getattr, bank, "index")
         if bank_of_data is not None:
             read = partial(bank_of_data.registers.__getitem__, bank_of_data.number)
             return read if bank_of_data.has_register else None
         if port == self.controller + STATUS:
-            return self._read_status
+            return self.read_status
         if port == DAC_DATA:
             return self.dac.read
         values = {
@@ -198,10 +138,6 @@ class State:
             MISC_READ: self.misc,
         }
         return partial(values.__getitem__, port) if port in values else None
-
-    def _read_status(self) -> int:
-        self.is_data = False
-        return 0
 
 
 class Memory:
@@ -267,62 +203,6 @@ class Memory:
         data = FUNCTIONS[self._gfx[3] >> 3](data, latches)
         mask = mask * EACH
         return data & mask | latches & ~mask
-
-
-def _unprotected(crtc: Bank) -> int:
-    """The bits of the register that may be written: the first eight may be protected, but for line
-    compare."""
-    if not crtc.registers[RETRACE_END] & PROTECT or crtc.number > 7:
-        return 0xFF
-    return COMPARE_8 if crtc.number == 7 else 0
-
-
-def _unlocked(attributes: Bank) -> int:
-    # While the palette is looked at, it isn't written.
-    return 0 if attributes.index & SOURCE and attributes.number < PALETTE else 0xFF
-
-
-class Bank:
-    """Registers behind an index.
-
-    `kept` has the bits that each register keeps, `index_kept` those of the index. `wanted` has, of
-    some registers, bits and the value that these must have, or a write is refused. `opened` tells
-    which bits a write changes now.
-    """
-
-    def __init__(
-        self,
-        kept: str,
-        index_kept: int,
-        wanted: Mapping[int, tuple[int, int]] = {},
-        opened: Callable[[Bank], int] = lambda _: 0xFF,
-    ) -> None:
-        self._kept = bytes.fromhex(kept)
-        self._wanted = wanted
-        self._opened = opened
-        self.index_kept = index_kept
-        self.registers = [0] * len(self._kept)
-        self.index = 0
-
-    @property
-    def number(self) -> int:
-        """The number of the register that the index names."""
-        return self.index & 0x1F
-
-    @property
-    def has_register(self) -> bool:
-        """Whether there is such a register."""
-        return self.number < len(self.registers)
-
-    def takes(self, index: int, value: int) -> bool:
-        """Whether the register of an index takes a value."""
-        bits, value_wanted = self._wanted.get(index, (0, 0))
-        return index < len(self.registers) and value & bits == value_wanted
-
-    def write(self, value: int) -> None:
-        """Writes the register of the index, which is there."""
-        bits = self._kept[self.number] & self._opened(self)
-        self.registers[self.number] = self.registers[self.number] & ~bits | value & bits
 
 
 class Dac:

@@ -12,7 +12,6 @@ from zaklimot_tools.core.progress import Progress
 from zaklimot_tools.core.streams import write_file
 from zaklimot_tools.core.trouble import Trouble
 from zaklimot_tools.dev.page.making import made_for_c
-from zaklimot_tools.dev.words import refuse_to_check
 from zaklimot_tools.script.crates import phases
 
 from .making import (
@@ -94,7 +93,6 @@ def install(words: argparse.Namespace, progress: Progress) -> None:
 
 def make_one_file(words: argparse.Namespace, progress: Progress) -> None:
     """Makes the library as one C file."""
-    refuse_to_check(words)
     for name in TRANSLATORS:
         check_program(name)
     made = one_file(written_by_wasm2c(made_for_c(words, progress))).encode("ascii")

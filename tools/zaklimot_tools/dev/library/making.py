@@ -8,7 +8,7 @@ import os
 import shutil
 import tempfile
 from pathlib import Path, PurePosixPath
-from typing import Iterable, Iterator, NamedTuple, Optional
+from typing import Iterable, Iterator, Mapping, NamedTuple, Optional
 
 from zaklimot._file import PROVED
 from zaklimot_tools import TOP
@@ -298,15 +298,21 @@ def make_library(
             **{path: Path(name) / path.name for path in texts},
             share / FONTS.name: FONTS,
         }
-        for path, source in laid.items():
-            to_read(str(source))
-            refuse_input(str(path))
         # All is made now, so that nothing is laid where something can't be made.
-        for path, source in laid.items():
-            path.parent.mkdir(parents=True, exist_ok=True)
-            path.unlink(missing_ok=True)
-            shutil.copyfile(source, path, follow_symlinks=False)
+        _lay(laid)
     return list(laid)
+
+
+def _lay(laid: Mapping[Path, Path]) -> None:
+    """Copies files to their places, each in the place of what has its name; none over another of
+    them."""
+    for path, source in laid.items():
+        to_read(str(source))
+        refuse_input(str(path))
+    for path, source in laid.items():
+        path.parent.mkdir(parents=True, exist_ok=True)
+        path.unlink(missing_ok=True)
+        shutil.copyfile(source, path, follow_symlinks=False)
 
 
 def _sources() -> Iterator[Path]:

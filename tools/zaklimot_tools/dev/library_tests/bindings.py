@@ -261,7 +261,7 @@ def _libraries(words: argparse.Namespace, folder: Path, progress: Progress) -> d
 
 def run_checks(words: argparse.Namespace, progress: Progress) -> None:
     """Makes the checks, and tells what each finds."""
-    refuse_to_check(words, lacking())
+    refuse_to_check(lacking())
     if words.ready:
         return
     with tempfile.TemporaryDirectory(prefix="vga-bindings-tests-") as name:

@@ -76,7 +76,7 @@ def _run_portable(words: argparse.Namespace, progress: Progress) -> None:
     target = PORTABLE_TARGETS[words.target]
     there: dict[str, Any] = {**({OF_FILE: None} if words.gated else {}), **checks_for(target)}
     wanted = _chosen(words.only, there, target)
-    refuse_to_check(words, lacking_for(target) + (not_there(TRANSLATORS) if words.gated else []))
+    refuse_to_check(lacking_for(target) + (not_there(TRANSLATORS) if words.gated else []))
     with tempfile.TemporaryDirectory(prefix="vga-library-tests-") as folder, ExitStack() as stack:
         if target == WINDOWS:
             stack.enter_context(windows_in(Path(folder)))
@@ -102,7 +102,7 @@ def _wanted(only: Sequence[str], target: Target) -> dict[str, Check]:
 def run_checks(words: argparse.Namespace, progress: Progress) -> None:
     """Makes the checks, and tells what each finds."""
     if words.ready:
-        refuse_to_check(words, [*lacking(X86_64), *not_there(TRANSLATORS)])
+        refuse_to_check([*lacking(X86_64), *not_there(TRANSLATORS)])
         return
     if words.portable:
         _run_portable(words, progress)
@@ -113,7 +113,7 @@ def run_checks(words: argparse.Namespace, progress: Progress) -> None:
         )
     target = TARGETS[words.target]
     wanted = _wanted(words.only, target)
-    refuse_to_check(words, lacking(target))
+    refuse_to_check(lacking(target))
     with tempfile.TemporaryDirectory(prefix="vga-library-tests-") as top:
         heard = phases(progress)("proving and building the library")
         backends = target.backends[:1] if words.archive else target.backends

@@ -9,8 +9,6 @@ from typing import Optional
 from zaklimot_tools.core.files import STANDARD
 from zaklimot_tools.core.progress import Progress
 from zaklimot_tools.core.streams import read_at_most, refuse_input, write_file
-from zaklimot_tools.core.trouble import Trouble
-from zaklimot_tools.dev.words import refuse_to_check
 from zaklimot_tools.report.debugging import PAGE
 
 from .machine import made_or_kept
@@ -21,9 +19,6 @@ from .page import make_page, protect_sources, read_sources, wordings_module
 def _given_module(words: argparse.Namespace) -> Optional[bytes]:
     """The module that the words name; none where one is to be made. Here all is refused that can be
     at once."""
-    refuse_to_check(words)
-    if words.module is not None and words.gated:
-        raise Trouble("--module takes a module as it is, so --gated proves nothing")
     # By now the sources of the page are read too.
     refuse_input(words.file)
     if words.module is None:

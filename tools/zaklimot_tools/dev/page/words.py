@@ -4,7 +4,7 @@ import argparse
 from functools import partial
 
 from zaklimot_tools.core import cli
-from zaklimot_tools.core.cli import later
+from zaklimot_tools.core.cli import later, rule
 from zaklimot_tools.core.files import Input, Output
 from zaklimot_tools.core.words import MEBIBYTE, number_to
 from zaklimot_tools.dev.words import add_proof
@@ -31,6 +31,8 @@ def _parser() -> argparse.ArgumentParser:
     made = cli.command(commands, "make", _job("make"), told, example)
     cli.add(made, "FILE", "the page, page/zaklimot.html in the repository", type=Output)
     cli.add(made, "--module FILE", "takes this module (default: makes one)", type=Input)
+    told = "--module takes a module as it is, so --gated proves nothing"
+    rule(made, "module", lambda words: words.gated, told)
     add_proof(made, usually=usually)
     made.set_defaults(memory=None)
     told = "proves the library's crate, and makes a WebAssembly module of it alone"

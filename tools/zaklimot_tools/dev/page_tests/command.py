@@ -34,7 +34,6 @@ from zaklimot_tools.dev.page.making import MOST_MODULE, check_module, kit_of, ma
 from zaklimot_tools.dev.page.packing import unzipped
 from zaklimot_tools.dev.page.page import data_of, editor_in, page_text, read_sources
 from zaklimot_tools.dev.page.words import MOST_BYTES
-from zaklimot_tools.dev.words import refuse_to_check
 from zaklimot_tools.report.cases import Case, read_cases
 from zaklimot_tools.report.debugging import MOST_PAGE, PAGE, page_data
 from zaklimot_tools.report.places import SUITE
@@ -416,7 +415,6 @@ def _checks(
 
 def run_checks(words: argparse.Namespace, progress: Progress) -> None:
     """Makes the checks, and tells what each finds."""
-    refuse_to_check(words)
     node_words()
     if words.ready:
         return

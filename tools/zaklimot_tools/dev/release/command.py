@@ -355,10 +355,7 @@ def write_archive(folder: Path, kind: str, entries: Mapping[str, Entry], time: i
 
 def release(words: argparse.Namespace, progress: Progress) -> None:
     """Packs a release of what is checked out."""
-    given = (words.program, words.archive, words.archive_aarch64)
-    if words.portable and any(given):
-        raise Trouble(f"--{PORTABLE} takes nothing that is built")
-    check_given(*given)
+    check_given(words.program, words.archive, words.archive_aarch64)
     check_folder(words.folder)
     commit = clean_commit()
     archives = {PORTABLE: portable_entries(commit)}

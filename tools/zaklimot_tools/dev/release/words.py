@@ -5,7 +5,7 @@ from functools import partial
 from pathlib import Path
 
 from zaklimot_tools.core import cli
-from zaklimot_tools.core.cli import later
+from zaklimot_tools.core.cli import later, rule
 from zaklimot_tools.core.files import Input
 from zaklimot_tools.dev.library.words import PROCESSORS
 
@@ -44,6 +44,11 @@ def _parser() -> argparse.ArgumentParser:
     )
     told = f"packs the archive of {PORTABLE}/zaklimot.c alone, for which nothing is built"
     cli.add(parser, f"--{PORTABLE}", told)
+
+    def is_given(words: argparse.Namespace) -> bool:
+        return any((words.program, words.archive, words.archive_aarch64))
+
+    rule(parser, PORTABLE, is_given, f"--{PORTABLE} takes nothing that is built")
     parser.set_defaults(job=_job("release"))
     return parser
 

@@ -80,7 +80,10 @@ def _limit(most: int) -> None:
     if IS_LINUX:
         import resource
 
-        resource.setrlimit(resource.RLIMIT_DATA, (most, most))
+        # The limit of the system stays: tests that need more may raise this one.
+        _, hard = resource.getrlimit(resource.RLIMIT_DATA)
+        soft = most if hard == resource.RLIM_INFINITY else min(most, hard)
+        resource.setrlimit(resource.RLIMIT_DATA, (soft, hard))
         adopt_orphans()
 
 

@@ -1,0 +1,154 @@
+"""What the tools do with numpy and Pillow, where a Python has them: the same dots, more images."""
+
+import os
+import random
+import struct
+import subprocess
+import sys
+import unittest
+from pathlib import Path
+from typing import Optional
+
+from .test_images import png
+from .test_picture import Dots
+from .tools import PYTHON, TOOLS, Folder, ended, hold_undone, ppm
+
+
+def python_with_both() -> Optional[str]:
+    """A Python that has both packages: this one, or Debian's."""
+    for python in (sys.executable, "/usr/bin/python3"):
+        words = [python, "-c", "import numpy, PIL"]
+        if Path(python).exists() and not subprocess.run(words, capture_output=True).returncode:
+            return python
+    return None
+
+
+BOTH = python_with_both()
+# Compares what numpy works out with what is worked out without it, for images of many sizes.
+COMPARING = """
+import random
+from zaklimot_tools.picture import colours
+from zaklimot_tools.picture.asked import Fewer
+chance = random.Random(1)
+with_numpy = colours._arrays()
+same = 0
+for width, height in ((1, 1), (1, 40), (40, 1), (2, 9), (9, 2), (67, 41)):
+    for count in (2, 16, 200):
+        dots = [[tuple(chance.choices(range(64), k=3)) for _ in range(width)] for _ in [0] * height]
+        chosen = {tuple(chance.choices(range(64), k=3)) for _ in range(count)}
+        # A dot whose colour is there keeps it.
+        chosen = sorted(chosen | {row[0] for row in dots[::5]})
+        found = []
+        for arrays in (with_numpy, None):
+            colours.arrays_for = lambda dots: arrays
+            made = {way: list(colours.WAYS[way](dots, chosen)) for way in colours.WAYS}
+            seen = [colours._seen(dots, chosen, rows) for rows in made.values()]
+            found.append((made, seen))
+        assert with_numpy is not None and found[0] == found[1], (width, height, count)
+        same += 2
+print(same, "the same")
+"""
+TOOL = TOOLS / "vga-picture"
+
+
+def photo(width: int, height: int, colours: int) -> Dots:
+    """Dots that go from one colour to another, with a grain, in so many steps of a component."""
+    chance = random.Random(f"{width}x{height}")
+    step = 256 // colours
+    return [
+        [
+            (
+                (255 * x // width + chance.randrange(24)) // step * step & 255,
+                (255 * y // height + chance.randrange(24)) // step * step & 255,
+                (255 * (x + y) // (width + height) + chance.randrange(24)) // step * step & 255,
+            )
+            for x in range(width)
+        ]
+        for y in range(height)
+    ]
+
+
+def png_of(dots: Dots) -> bytes:
+    """A PNG of dots of eight bits a component."""
+    rows = (b"\0" + b"".join(map(bytes, row)) for row in dots)
+    return png(len(dots[0]), len(dots), b"".join(rows))
+
+
+def bmp(dots: Dots, size: Optional[tuple[int, int]] = None) -> bytes:
+    """A BMP of dots, whose rows stand from the last to the first, blue before green and red."""
+    width, height = size or (len(dots[0]), len(dots))
+    head = struct.pack("<IiiHHIIiiII", 40, width, height, 1, 24, 0, 0, 0, 0, 0, 0)
+    rows = (b"".join(bytes(dot[::-1]) for dot in row) for row in reversed(dots))
+    body = b"".join(row + bytes(-len(row) % 4) for row in rows)
+    return struct.pack("<2sIHHI", b"BM", 54 + len(body), 0, 0, 54) + head + body
+
+
+@unittest.skipIf(BOTH is None, "no Python has numpy and Pillow: install python3-numpy, python3-pil")
+class Beside(Folder):
+    def drawn(self, image: str, *words: str) -> bytes:
+        """The script of an image, the same whether Python has the packages or not."""
+        made: list[bytes] = []
+        for python in ((str(BOTH),), PYTHON):
+            script = self.folder / f"{len(made)}.vga"
+            done = ended(*python, TOOL, "script", image, script, *words)
+            self.assertEqual((done[0], done[2]), (0, ""))
+            made.append(script.read_bytes())
+        self.assertEqual(made[0], made[1])
+        return made[0]
+
+    def test_a_dither_has_the_same_dots(self) -> None:
+        path = self.write("photo.png", png_of(photo(320, 200, 12)))
+        whole = self.drawn(path, "--mode", "0D", "--dither", "floyd")
+        self.assertGreater(len(whole), 100_000)
+
+    def test_images_of_odd_sizes(self) -> None:
+        environment = {"PYTHONPATH": str(TOOLS)}
+        done = ended(str(BOTH), "-c", COMPARING, env={**os.environ, **environment})
+        self.assertEqual(done, (0, "36 the same\n", ""))
+
+    def read(self, name: str, data: bytes, *words: str) -> tuple[int, str, str]:
+        """Exit status, output and standard error for an image that wants Pillow."""
+        path = self.write(name, data)
+        return ended(str(BOTH), TOOL, "script", path, self.folder / "out.vga", *words)
+
+    def test_another_format(self) -> None:
+        dots = photo(320, 200, 4)
+        whole = self.drawn(self.write("one.png", png_of(dots)), "--mode", "13")
+        data = bmp(dots)
+        done = self.read("one.bmp", data, "--mode", "13")
+        self.assertEqual((done[0], done[2]), (0, ""))
+        self.assertEqual((self.folder / "out.vga").read_bytes(), whole)
+        done = self.read("one.png", png(1, 1, bytes(4), interlace=1), "--mode", "13", "--scale")
+        self.assertEqual((done[0], done[2]), (0, ""))
+
+    def test_a_picture_against_another_format(self) -> None:
+        dots = photo(9, 5, 4)
+        dark = b"".join(bytes(value >> 2 for value in dot) for row in dots for dot in row)
+        report = self.report("r", ppm(9, 5, dark))
+        path = self.write("shot.bmp", bmp(dots))
+        tool = TOOLS / "vga-report"
+        done = ended(str(BOTH), tool, "compare-picture", report, "1", path)
+        self.assertEqual((done[0], done[2]), (0, ""))
+        self.assertIn("agree: 9x5, eight bits a component", done[1])
+        hold_undone(
+            self,
+            ended(*PYTHON, tool, "compare-picture", report, "1", path),
+            "shot.bmp: this is neither a PNG nor a PPM of the kind P6; the package pillow reads ",
+        )
+
+    def test_what_pillow_cannot_read(self) -> None:
+        (self.folder / "out.vga").write_text("kept")
+        big = bmp([[(0, 0, 0)]], (5000, 5000))
+        for data, told in (
+            (b"GIF89a", "cannot identify image file"),
+            (b"%!PS-Adobe-3.0 EPSF-3.0\n%%BoundingBox: 0 0 9 9\n", "cannot identify image file"),
+            (bmp(photo(320, 200, 4))[:-400], "image file is truncated"),
+        ):
+            done = self.read("image", data, "--mode", "13", "--scale")
+            hold_undone(
+                self, done, f"^vga-picture: {self.folder}/image: pillow can't read it: {told}"
+            )
+        hold_undone(
+            self, self.read("image", big, "--mode", "13", "--scale"), "16,777,216 are the most"
+        )
+        self.assertEqual((self.folder / "out.vga").read_text(), "kept")
