@@ -232,9 +232,10 @@ def growing(source: str) -> str:
 
 
 class Allocations(unittest.TestCase):
-    # `rt try` builds the program anew for this many seconds and in this many bytes.
-    most_seconds = 800
-    most_memory = 1 << 33
+    # `rt try` builds the program anew, and runs it many times. Its address sanitizer reserves
+    # terabytes of addresses.
+    most_seconds = 1500
+    most_memory = 1 << 47
 
     def test_the_calls(self) -> None:
         # Allocations that are made first move the one that is refused.
