@@ -38,7 +38,7 @@ TOOL = TOOLS / "tests-of-tools"
 TESTED = "ZAKLIMOT_TESTED_PROGRAM"
 BUILT = "ZAKLIMOT_PROGRAM_IS_BUILT"
 # So many modules run at a time at most, and so many seconds may one take.
-MOST_WORKERS, MOST_SECONDS = 4, 900
+MOST_WORKERS, MOST_SECONDS = 4, 2400
 # So many seconds may a test take, and so much memory each process of it.
 MOST_OF_TEST, MOST_MEMORY = 300, 1 << 31
 # What unittest says of tests that have passed; nothing else stands there where no test has printed
