@@ -16,6 +16,7 @@ KINDS = {
     "uint8_t": ctypes.c_uint8,
     "uint16_t": ctypes.c_uint16,
     "uint32_t": ctypes.c_uint32,
+    "zak_status": ctypes.c_uint32,
 }
 # Where the objects of the package have other names than the structs.
 OBJECTS = {
