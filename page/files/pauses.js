@@ -3,7 +3,12 @@
 // page/tests/traces.mjs holds both to the same text.
 import { frameSpeed } from "../module/state.js";
 
-const SEQUENCER_INDEX = 0x3c4, CRTC_INDEXES = [0x3b4, 0x3d4], MISC_OUTPUT = 0x3c2;
+const SEQUENCER_INDEX = 0x3c4, MISC_OUTPUT = 0x3c2;
+// The port of the CRT controller's index, by the lowest bit of miscellaneous output.
+const CRTC_INDEXES = [0x3b4, 0x3d4];
+// How many registers the sequencer and the CRT controller have. Of some of the latter, bits and the
+// value that these must have.
+const SEQUENCER_COUNT = 5, CRTC_COUNT = 25, WANTED = { 20: [0x20, 0], 23: [0x0f, 3] };
 // Horizontal total, vertical total and overflow, which shape a frame; vertical retrace end, whose
 // bit protects the registers below 8.
 const SHAPE = [0, 6, 7], RETRACE_END = 17, PROTECTS = 0x80, PROTECTED_BELOW = 8;
@@ -31,8 +36,38 @@ export class TimingRegisters {
   take({ name, isWord, address, value, mode }) {
     if (name === "int") this.call(mode);
     if (name !== "out") return;
-    this.write(address, value & 255);
-    if (isWord) this.write(address + 1, value >> 8);
+    if (!isWord) this.write(address, value);
+    else if (this.takesWord(address, value)) {
+      this.write(address, value & 255);
+      this.write(address + 1, value >> 8);
+    }
+  }
+
+  /** The port of the CRT controller's index. */
+  get crtcPort() {
+    return CRTC_INDEXES[this.misc & 1];
+  }
+
+  /**
+   * Whether a word is written that may change one of these registers: an index with its register, or
+   * a sequencer's register with the DAC's mask. The adapter refuses a word as a whole.
+   */
+  takesWord(port, word) {
+    const low = word & 255, high = word >> 8;
+    if (port === SEQUENCER_INDEX) return this.hasSequencer(low & 7);
+    if (port === SEQUENCER_INDEX + 1) return this.hasSequencer(this.seqIndex);
+    return port === this.crtcPort && this.takesCrtc(low & 31, high);
+  }
+
+  /** Whether the sequencer has this register. */
+  hasSequencer(index) {
+    return index < SEQUENCER_COUNT;
+  }
+
+  /** Whether the CRT controller has this register, and the register takes the value. */
+  takesCrtc(index, value) {
+    const [bits, wanted] = WANTED[index] ?? [0, 0];
+    return index < CRTC_COUNT && (value & bits) === wanted;
   }
 
   /** Takes a call of interrupt 10, by its AX. */
@@ -46,18 +81,20 @@ export class TimingRegisters {
   write(port, value) {
     if (port === MISC_OUTPUT) this.misc = value;
     else if (port === SEQUENCER_INDEX) this.seqIndex = value & 7;
-    else if (CRTC_INDEXES.includes(port)) this.crtcIndex = value & 31;
+    else if (port === this.crtcPort) this.crtcIndex = value & 31;
     else if (port === SEQUENCER_INDEX + 1) this.writeSequencer(value);
-    else if (CRTC_INDEXES.includes(port - 1)) this.writeCrtc(value);
+    else if (port === this.crtcPort + 1) this.writeCrtc(value);
   }
 
   writeSequencer(value) {
+    if (!this.hasSequencer(this.seqIndex)) return;
     this.seq[this.seqIndex] = value;
     if (this.seqIndex === CLOCKING) this.#frame = null;
   }
 
   writeCrtc(value) {
     const { crtc, crtcIndex, written } = this;
+    if (!this.takesCrtc(crtcIndex, value)) return;
     if (crtcIndex < PROTECTED_BELOW && crtc[RETRACE_END] & PROTECTS) return;
     crtc[crtcIndex] = value;
     written.add(crtcIndex);
