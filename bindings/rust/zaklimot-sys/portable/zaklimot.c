@@ -121694,7 +121694,8 @@ zak_status zak_print(const uint8_t *script, size_t script_len, uint8_t *text, si
 
 zak_status zak_status_text(zak_status status, uint8_t *text, size_t text_cap, size_t *text_len)
 {
-    module *self = new_script_module(NULL, 0, 0);
+    const uint8_t none[1] = {0};
+    module *self = new_script_module(none, 0, 0);
     if (!self)
         return ZAK_OUT_OF_MEMORY;
     self->outside = text;
