@@ -62,7 +62,7 @@ RUNS = (
         (TEXT, f"slices {{script}} {steps}", 0, "\n".join((*PRINTED, *REPORT, "")))
         for steps in (1, 4, 6, 1000)
     ),
-    (b"frame\n\nmove 3C4 02\n", "slices {script} 1", 1, "line 3 of the script is bad"),
+    (b"frame\n\nmove 3C4 02\n", "slices {script} 1", 1, "BadLine 3: This line of the text is bad."),
     (TEXT, "slices {script} 0", 2, "0: a slice has one step or more"),
     (
         TEXT,
