@@ -225,6 +225,12 @@ static zak_status do_frame_lines(uint32_t i)
     return zak_frame_lines(&card, widths, rgb, sizeof rgb, &len);
 }
 
+static zak_status do_peek(uint32_t i)
+{
+    (void)i;
+    return zak_peek(&card, widths, rgb, sizeof rgb, &len);
+}
+
 static zak_status do_save(uint32_t i)
 {
     (void)i;
@@ -379,6 +385,7 @@ static const struct call {
     {"frame_once", do_frame_once, NULL},
     {"block", do_block, NULL},
     {"frame_lines", do_frame_lines, NULL},
+    {"peek", do_peek, NULL},
     {"lines", do_lines, NULL},
     {"teletype", do_teletype, NULL},
     {"cycles", do_cycles, NULL},

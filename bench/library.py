@@ -80,6 +80,7 @@ CALLS = (
     Call("frame_once", "3", 10, 500),
     Call("frame_once", "12", 10, 500),
     Call("frame_lines", "12", 10, 500),
+    Call("peek", "12", 10, 500),
     Call("lines", "12", 10, 500),
     Call("lines", "13", 10, 500),
     Call("block", "13", 1000, 1_000_000),

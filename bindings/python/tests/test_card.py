@@ -434,6 +434,17 @@ class Frames(unittest.TestCase):
         with self.assertRaises(IndexError):
             lines.line(1024)
 
+    def test_what_is_drawn_until_now_is_the_beginning_of_the_frame(self) -> None:
+        self.card.frame()
+        self.card.advance(100_000)
+        before = self.card.save()
+        drawn = self.card.peek()
+        self.assertEqual((drawn.widths[0], drawn.widths[399]), (640, 0))
+        bytes_so_far = b"".join(drawn)
+        self.assertEqual(self.card.save(), before)
+        self.assertTrue(bytes_so_far)
+        self.assertTrue(b"".join(self.card.lines()).startswith(bytes_so_far))
+
     def test_a_skipped_frame_leaves_what_a_frame_leaves(self) -> None:
         with card_in(0x13) as other:
             other.put(0xA0000 + 320 * 199 + 319, 0x0E)

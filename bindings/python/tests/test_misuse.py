@@ -39,6 +39,7 @@ CALLS: dict[str, tuple[Any, ...]] = {
     "line": (),
     "lines": (),
     "skip_frame": (),
+    "peek": (),
     "block": (0x1301,),
     "cycles": (0x0E41,),
     "int10": (0x13,),

@@ -8,10 +8,10 @@ use Rattle.vga_bits.proofs.SavedLemmas.{word_is_back, words_are_back, length-wor
 use Rattle.bios_modes.specs.Bda.{BiosData}
 use Rattle.bios_modes.specs.Bounds.{IsBda}
 use Rattle.bios_modes.specs.Valid.{IsValid}
-use Rattle.bios_modes.specs.Saved.{saved_after_positions, saved_bda, past_prefix, bytes_after_positions, bda_from, IsSavedBda}
+use Rattle.bios_modes.specs.Saved.{saved_after_positions, saved_bda, bytes_from_positions_on, bytes_after_positions, bda_from, IsSavedBda}
 
 module _ (d : BiosData) (is : IsBda d) where
-  prefix_past : past_prefix (saved_bda d) ≡ flat_map word_bytes d.cursor_places ++ saved_after_positions d
+  prefix_past : bytes_from_positions_on (saved_bda d) ≡ flat_map word_bytes d.cursor_places ++ saved_after_positions d
   unfolding saved_bda
   prefix_past = refl
 
@@ -21,7 +21,7 @@ module _ (d : BiosData) (is : IsBda d) where
   places_past : bytes_after_positions (saved_bda d) ≡ saved_after_positions d
   places_past = ap (drop 16) prefix_past ∙ drop_at (flat_map word_bytes d.cursor_places) (saved_after_positions d) 16 places_len
 
-  places_are : first_words 8 (past_prefix (saved_bda d)) ≡ d.cursor_places
+  places_are : first_words 8 (bytes_from_positions_on (saved_bda d)) ≡ d.cursor_places
   places_are =
       ap (first_words 8) prefix_past ∙ ap (λ (n : ℕ). first_words n (flat_map word_bytes d.cursor_places ++ saved_after_positions d)) (sym is.places)
       ∙ words_are_back d.cursor_places (saved_after_positions d)

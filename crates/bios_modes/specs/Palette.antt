@@ -61,12 +61,12 @@ default_palette_of_row None = Colours64
 default_palette_of_row (Some row) = row.palette
 
 -- the palette of a mode, by its number
-abbrev pub palette_of : ℕ → Palette
-palette_of mode = default_palette_of_row (mode_row mode)
+abbrev pub default_palette_of_mode : ℕ → Palette
+default_palette_of_mode mode = default_palette_of_row (mode_row mode)
 
 -- entry n of a mode's palette
 abbrev pub dac_entry : ℕ → ℕ → List ℕ
-dac_entry mode n = palette_entry (palette_of mode) n
+dac_entry mode n = palette_entry (default_palette_of_mode mode) n
 
 -- whether a palette has only black and greys
 abbrev pub is_grey_palette : Palette → Bool
@@ -77,4 +77,4 @@ is_grey_palette Colours256 = false
 
 -- whether a mode is monochrome
 abbrev pub is_monochrome_mode : ℕ → Bool
-is_monochrome_mode mode = is_grey_palette (palette_of mode)
+is_monochrome_mode mode = is_grey_palette (default_palette_of_mode mode)

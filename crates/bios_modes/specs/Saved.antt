@@ -22,12 +22,12 @@ saved_bda d =
     saved_before_positions d ++ (flat_map word_bytes d.cursor_places ++ saved_after_positions d)
 
 -- the bytes that follow the prefix
-abbrev pub past_prefix : List ℕ → List ℕ
-past_prefix bytes = drop 7 bytes
+abbrev pub bytes_from_positions_on : List ℕ → List ℕ
+bytes_from_positions_on bytes = drop 7 bytes
 
 -- the bytes that follow the cursor positions
 abbrev pub bytes_after_positions : List ℕ → List ℕ
-bytes_after_positions bytes = drop 16 (past_prefix bytes)
+bytes_after_positions bytes = drop 16 (bytes_from_positions_on bytes)
 
 -- the BIOS data that these bytes spell
 unfoldable pub bda_from : List ℕ → BiosData
@@ -36,7 +36,7 @@ bda_from bytes = record {
   columns = word_at bytes 1;
   size = word_at bytes 3;
   start = word_at bytes 5;
-  cursor_places = first_words 8 (past_prefix bytes);
+  cursor_places = first_words 8 (bytes_from_positions_on bytes);
   cursor_type = word_at (bytes_after_positions bytes) 0;
   page = slice_index (bytes_after_positions bytes) 2;
   crtc_address = word_at (bytes_after_positions bytes) 3;

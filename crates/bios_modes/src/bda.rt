@@ -5,7 +5,7 @@ mod saved;
 mod valid;
 mod writers;
 
-use crate::bounds::words_fit;
+use crate::bounds::words_are_below_65536;
 use std::marker::Model;
 
 /// How many pages have a cursor position.
@@ -92,7 +92,7 @@ impl Bda {
     pub fn bounds(&self)
         ensures { IsBda self.now }
     {
-        words_fit(&self.cursor_places);
+        words_are_below_65536(&self.cursor_places);
     }
 
     /// The mode, at offset 49; 0 before a mode is set.

@@ -11,7 +11,7 @@ pub(crate) fn bytes_fit(bytes: &[u8])
 }
 
 /// Words are below 65,536.
-pub(crate) fn words_fit(words: &[u16])
+pub(crate) fn words_are_below_65536(words: &[u16])
     ensures { (i : ℕ) → slice_index words.now i < 65536 }
 {
     let _ = words;

@@ -7,7 +7,7 @@ ghost use Rattle.bios_modes.specs.Palette.{colour_with_bright_bit as bright_bit_
 ghost use Rattle.bios_modes.specs.Palette.{grey_of_intensity as intensity_of};
 ghost use Rattle.bios_modes.specs.Palette.{colour_of_byte as byte_of};
 ghost use Rattle.bios_modes.specs.Palette.{palette_entry, is_monochrome_mode};
-ghost use Rattle.bios_modes.specs.Palette.{palette_of as palette_of_mode, dac_entry as entry_of};
+ghost use Rattle.bios_modes.specs.Palette.{default_palette_of_mode as palette_of_mode, dac_entry as entry_of};
 
 use super::modes::mode_row;
 
@@ -114,7 +114,7 @@ impl Palette {
 }
 
 /// The default palette of a mode; a number without a mode gives that of mode 3.
-pub fn palette_of(mode: u8) -> Palette
+pub fn default_palette_of_mode(mode: u8) -> Palette
     ensures { result ≡ palette_of_mode mode }
 {
     match mode_row(mode) {
@@ -127,12 +127,12 @@ pub fn palette_of(mode: u8) -> Palette
 pub fn dac_entry(mode: u8, n: u8) -> [u8; 3]
     ensures { result ≡ entry_of mode n }
 {
-    palette_of(mode).entry(n)
+    default_palette_of_mode(mode).entry(n)
 }
 
 /// Whether a mode is monochrome.
 pub fn is_monochrome(mode: u8) -> bool
     ensures { result ≡ is_monochrome_mode mode }
 {
-    palette_of(mode) == Palette::Monochrome
+    default_palette_of_mode(mode) == Palette::Monochrome
 }

@@ -12,9 +12,9 @@ pub use Rattle.bios_screen.specs.Listing.{list_by_function}
 pub use Rattle.bios_screen.specs.Picture.{colour_by_palette}
 pub use Rattle.bios_screen.specs.Raster.{DrawsDotColours, Raster}
 pub use Rattle.bios_screen.specs.Screen.{Cell, Screen}
-pub use Rattle.bios_screen.specs.AfterCall.{IsServed}
+pub use Rattle.bios_screen.specs.AfterCall.{ServiceActsAsOnScreen}
 pub use Rattle.bios_screen.specs.Shown.{text_memory_cells, cell_in, crtc_registers, packed_pixel, page_pixels, pixel_in, pixel_screen, planar_pixel, shown}
-pub use Rattle.bios_screen.specs.Shown.{shows_attribute}
+pub use Rattle.bios_screen.specs.Shown.{has_attribute_registers_of_mode}
 pub use Rattle.bios_screen.specs.Step.{page_meant, pixel_of, with_pixels}
 pub use Rattle.bios_services.specs.Bounds.{page_count}
 pub use Rattle.bios_services.specs.Cells.{cells_per_page, page_base}
@@ -23,7 +23,7 @@ pub use Rattle.bios_services.specs.Cycles.{write_graphics}
 pub use Rattle.bios_services.specs.Plan.{Done, Plan, each, get, put, run, ◌>>=◌, ◌>>◌}
 pub use Rattle.bios_services.specs.Refusals.{page_among, page_meant_by_number}
 pub use Rattle.bios_services.specs.Service.{ServiceOutcome}
-pub use Rattle.bios_services.specs.declared.band.Band.{Band}
+pub use Rattle.bios_services.specs.declared.band.ColumnBand.{ColumnBand}
 pub use Rattle.bios_services.specs.declared.direction.Direction.{Direction}
 pub use Rattle.bios_services.specs.declared.direction.Direction.TheVariants.{Down, Up}
 pub use Rattle.bios_services.specs.declared.colouring.Colouring.{Colouring}

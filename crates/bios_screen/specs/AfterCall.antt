@@ -34,7 +34,7 @@ card_after_service service fonts r block c d =
 
 -- a service is refused for the screen's reason, or else gives the screen's answer and the next
 -- screen; it leaves the beam
-pub record IsServed (service : Service) (fonts : FontSet) (r : Regs) (block : List ℕ)
+pub record ServiceActsAsOnScreen (service : Service) (fonts : FontSet) (r : Regs) (block : List ℕ)
     (c : CardState) (d : BiosData) (s : Screen) : Type 0 where
   pub refusal : refusal_in_mode (service_on_page_meant d service) d (length block)
       ≡ refusal_on s service (length block)
@@ -55,14 +55,15 @@ abbrev pub ServiceLeadsToNextScreen : Service → Type 0
 ServiceLeadsToNextScreen service =
     (fonts : FontSet) (r : Regs) (block : List ℕ) (c : CardState) (d : BiosData)
     (s : Screen) → AreBytes block → IsCard c → IsBda d → shown c d ≡ Some s →
-    IsServed service fonts r block c d s
+    ServiceActsAsOnScreen service fonts r block c d s
 
--- the same from every state that shows a screen of text
+-- from every state that shows a screen of text, the service leads to a state that shows the next
+-- screen
 abbrev pub TextServiceLeadsToNext : Service → Type 0
 TextServiceLeadsToNext service =
     (fonts : FontSet) (r : Regs) (block : List ℕ) (c : CardState) (d : BiosData)
     (s : Screen) → AreBytes block → IsCard c → IsBda d → shown c d ≡ Some s →
-    is_text s.mode ≡ true → IsServed service fonts r block c d s
+    is_text s.mode ≡ true → ServiceActsAsOnScreen service fonts r block c d s
 
 -- ---- a clearing mode set
 

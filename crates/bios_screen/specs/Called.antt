@@ -32,27 +32,27 @@ pub record AreRegistersWords (r : Regs) : Type 0 where
   pub dx : r.dx < 65536
 
 -- the reply of registers and a table, unless the call is refused
-abbrev pub table_reply_unless : Option Refusal → Table → Regs → Result Reply Refusal
-table_reply_unless None table r = Ok (record { regs = r; table = table })
-table_reply_unless (Some why) table r = Err why
+abbrev pub table_reply_unless_refused : Option Refusal → Table → Regs → Result Reply Refusal
+table_reply_unless_refused None table r = Ok (record { regs = r; table = table })
+table_reply_unless_refused (Some why) table r = Err why
 
 -- the reply of registers alone, unless the call is refused
-abbrev pub reply_unless : Option Refusal → Regs → Result Reply Refusal
-reply_unless refusal r = table_reply_unless refusal Empty r
+abbrev pub reply_unless_refused : Option Refusal → Regs → Result Reply Refusal
+reply_unless_refused refusal r = table_reply_unless_refused refusal Empty r
 
 -- the next screen, unless the call is refused; then the old one
-abbrev pub screen_unless : Option Refusal → Screen → Screen → Screen
-screen_unless None old new = new
-screen_unless (Some why) old new = old
+abbrev pub screen_unless_refused : Option Refusal → Screen → Screen → Screen
+screen_unless_refused None old new = new
+screen_unless_refused (Some why) old new = old
 
 -- a call for a service gives the screen's reply, leads to the next screen and leaves the beam
 pub record ServiceCallLeadsToScreen (service : Service) (fonts : FontSet) (r : Regs)
     (block : List ℕ)
     (c : CardState) (d : BiosData) (s : Screen) : Type 0 where
-  pub reply : (after_call fonts r block c d).1.0 ≡ reply_unless
+  pub reply : (after_call fonts r block c d).1.0 ≡ reply_unless_refused
       (refusal_on s service (length block)) (answer_on fonts s service r)
   pub shows : shown (after_call fonts r block c d).0 (after_call fonts r block c d).1.1
-      ≡ Some (screen_unless (refusal_on s service (length block)) s (next fonts s service block))
+      ≡ Some (screen_unless_refused (refusal_on s service (length block)) s (next fonts s service block))
   pub beam : (after_call fonts r block c d).0.crtc.beam ≡ c.crtc.beam
 
 -- a call that loads glyphs replies with its registers and leads to the screen with these glyphs,
@@ -60,10 +60,10 @@ pub record ServiceCallLeadsToScreen (service : Service) (fonts : FontSet) (r : R
 pub record GlyphCallLeadsToScreen (load : GlyphLoad) (fonts : FontSet) (r : Regs) (block : List ℕ)
     (c : CardState)
     (d : BiosData) (s : Screen) : Type 0 where
-  pub reply : (after_call fonts r block c d).1.0 ≡ reply_unless
+  pub reply : (after_call fonts r block c d).1.0 ≡ reply_unless_refused
       (load_refusal_on s load (length block)) r
   pub shows : shown (after_call fonts r block c d).0 (after_call fonts r block c d).1.1
-      ≡ Some (screen_unless (load_refusal_on s load (length block)) s
+      ≡ Some (screen_unless_refused (load_refusal_on s load (length block)) s
       (load_glyphs fonts s load block))
   pub beam : (after_call fonts r block c d).0.crtc.beam ≡ c.crtc.beam
 
@@ -72,7 +72,7 @@ pub record GlyphCallLeadsToScreen (load : GlyphLoad) (fonts : FontSet) (r : Regs
 pub record TableCallLeavesScreen (service : TableService) (fonts : FontSet) (r : Regs)
     (block : List ℕ)
     (c : CardState) (d : BiosData) (s : Screen) : Type 0 where
-  pub reply : (after_call fonts r block c d).1.0 ≡ table_reply_unless (table_refusal service)
+  pub reply : (after_call fonts r block c d).1.0 ≡ table_reply_unless_refused (table_refusal service)
       (table_answer s service) r
   pub shows : shown (after_call fonts r block c d).0 (after_call fonts r block c d).1.1 ≡ Some s
   pub beam : (after_call fonts r block c d).0.crtc.beam ≡ c.crtc.beam

@@ -10,7 +10,7 @@ use Rattle.bios_modes.specs.Modes.{mode_row}
 use Rattle.bios_modes.specs.declared.modes.ModeRow.{ModeRow}
 use Rattle.bios_screen.specs.Screen.{Screen}
 use Rattle.bios_screen.specs.Loaded.{load_refusal_on}
-use Rattle.bios_screen.specs.Picture.{dot_at, pixel_lines_of_mode, pixel_width, picture_width}
+use Rattle.bios_screen.specs.Picture.{dot_colour_at, pixel_lines_of_mode, pixel_width, picture_width}
 use Rattle.bios_screen.specs.Picture.{picture_height}
 use Rattle.bios_screen.specs.Picture.{next_frame}
 
@@ -53,13 +53,13 @@ abbrev pub picture_so_far : Drawing → List ℕ
 picture_so_far b = if b.dot == 0 then [] else b.picture
 
 -- whether dot n of a frame belongs to the picture
-abbrev pub is_of_picture : Screen → ℕ → Bool
-is_of_picture s n = nat_lt (n % dots_a_line s.mode) (picture_width s)
+abbrev pub is_picture_dot : Screen → ℕ → Bool
+is_picture_dot s n = nat_lt (n % dots_a_line s.mode) (picture_width s)
     && nat_lt (n / dots_a_line s.mode) (picture_height s)
 
 -- the colour of dot n of a frame that shows this page of the screen; nothing if it is outside
 abbrev pub colour_of_frame_dot : Screen → ℕ → ℕ → List ℕ
-colour_of_frame_dot s page n = if is_of_picture s n then dot_at s page (n % dots_a_line s.mode)
+colour_of_frame_dot s page n = if is_picture_dot s n then dot_colour_at s page (n % dots_a_line s.mode)
     (n / dots_a_line s.mode) else []
 
 -- whether the next dot is the last one of its frame
@@ -87,5 +87,5 @@ take_frame b = take_dots (dots_a_frame b.screen.mode - b.dot) b
 -- ---- calls between dots
 
 -- a load of glyphs lays text out anew, so it comes at dot 0, or is refused
-abbrev pub MayLoad : Drawing → GlyphLoad → ℕ → Type 0
-MayLoad b load len = (load_refusal_on b.screen load len ≢ None) ⊎ (b.dot ≡ 0)
+abbrev pub MayLoadGlyphs : Drawing → GlyphLoad → ℕ → Type 0
+MayLoadGlyphs b load len = (load_refusal_on b.screen load len ≢ None) ⊎ (b.dot ≡ 0)

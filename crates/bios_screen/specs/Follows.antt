@@ -15,7 +15,7 @@ use Rattle.bios_screen.specs.Picture.{picture_width, picture_height}
 use Rattle.bios_screen.specs.Raster.{concatenated_lists}
 use Rattle.bios_screen.specs.Drawing.{Drawing, dots_a_line, dots_a_frame, page_shown}
 use Rattle.bios_screen.specs.Drawing.{picture_so_far}
-use Rattle.bios_screen.specs.Drawing.{is_of_picture, colour_of_frame_dot, take_frame}
+use Rattle.bios_screen.specs.Drawing.{is_picture_dot, colour_of_frame_dot, take_frame}
 
 -- the beam is at dot n of a frame whose counter began at `start`; at dot 0, the frame has not begun
 abbrev pub BeamIsAt : CardState → ℕ → ℕ → Type 0
@@ -34,12 +34,12 @@ DotsJoinPicture c s page n = (j : ℕ) → 0 < j → n + j ≤ dots_a_frame s.mo
 unfoldable pub picture_lines_before : Screen → ℕ → List ℕ
 picture_lines_before s zero = []
 picture_lines_before s (suc n) =
-    picture_lines_before s n ++ (if is_of_picture s n then n / dots_a_line s.mode ∷ []
+    picture_lines_before s n ++ (if is_picture_dot s n then n / dots_a_line s.mode ∷ []
     else [])
 
 -- the adapter shows the screen, its beam is at the next dot of a frame of the page, and it has
 -- drawn the picture so far
-pub record Follows (c : CardState) (d : BiosData) (b : Drawing) : Type 0 where
+pub record CardFollowsDrawing (c : CardState) (d : BiosData) (b : Drawing) : Type 0 where
   pub shows : shown c d ≡ Some b.screen
   pub within : b.dot < dots_a_frame b.screen.mode
   pub page : page_shown b < b.screen.layout.pages
@@ -54,4 +54,4 @@ pub record EndsFrame (c : CardState) (d : BiosData) (b : Drawing) : Type 0 where
     height = picture_height b.screen;
   })
   pub bytes : bytes_of_dots (frame c).drawn ≡ (take_frame b).picture
-  pub follows : Follows (frame c) d (take_frame b)
+  pub follows : CardFollowsDrawing (frame c) d (take_frame b)

@@ -7,7 +7,7 @@ use Rattle.vga_card.specs.Frames.{frame}
 use Rattle.bios_modes.specs.Bda.{BiosData}
 use Rattle.bios_screen.specs.Screen.{Screen}
 use Rattle.bios_screen.specs.Shown.{shown}
-use Rattle.bios_screen.specs.Picture.{dot_at, picture_width, picture_height, next_frame}
+use Rattle.bios_screen.specs.Picture.{dot_colour_at, picture_width, picture_height, next_frame}
 use Rattle.bios_screen.specs.Raster.{picture_bytes}
 
 -- a frame draws the picture of the screen's active page, and leaves the screen with the next frame
@@ -18,6 +18,6 @@ pub record FrameDrawsScreen (c : CardState) (d : BiosData) (s : Screen) : Type 0
     height = picture_height s;
   })
   pub colours : bytes_of_dots (frame c).drawn ≡ picture_bytes (picture_width s) (picture_height s)
-      (dot_at s s.page)
+      (dot_colour_at s s.page)
   pub next : shown (frame c) d ≡ Some (next_frame s)
   pub start : IsFrameStart (frame c).crtc.beam

@@ -113,8 +113,8 @@ pixel_dot_colour s page x y =
 -- ---- the picture
 
 -- the colour of the dot at column x of line y of a page
-abbrev pub dot_at : Screen → ℕ → ℕ → ℕ → List ℕ
-dot_at s page x y =
+abbrev pub dot_colour_at : Screen → ℕ → ℕ → ℕ → List ℕ
+dot_colour_at s page x y =
     if is_text s.mode then text_dot_colour s page x y else pixel_dot_colour s page x y
 
 -- how many dots wide the picture is, without the overscan

@@ -18,13 +18,13 @@ use Rattle.bios_modes.specs.Kinds.{is_text, is_packed}
 use Rattle.bios_services.specs.Cursor.{cursor_address, start_address}
 use Rattle.bios_services.specs.Pixels.{pixels_across, pixels_down}
 use Rattle.bios_screen.specs.Listing.{list_by_function}
-use Rattle.bios_screen.specs.Screen.{Cell, Contents, Cells, Pixels, Layout, Palette, Screen}
+use Rattle.bios_screen.specs.Screen.{Cell, Contents, Cells, PackedPixelColours, Layout, Palette, Screen}
 
 -- ---- the test
 
 -- whether the registers that memory cycles depend on are the mode's
-abbrev pub shows_memory : ModeRow → CardState → Bool
-shows_memory row c = (c.misc == row.misc) && (bytes_eq c.host.seq row.sequencer
+abbrev pub has_memory_registers_of_mode : ModeRow → CardState → Bool
+has_memory_registers_of_mode row c = (c.misc == row.misc) && (bytes_eq c.host.seq row.sequencer
     && bytes_eq c.host.gfx row.graphics)
 
 -- register i of the CRT controller for this cursor type, start address and cursor location; the
@@ -57,15 +57,15 @@ crtc_registers_shown row d registers = crtc_registers row d.cursor_type (start_a
 
 -- whether the attribute controller shows its palette, and its registers from mode control on are
 -- the mode's, except for bit 3 of mode control, which is blinking, and for overscan
-abbrev pub shows_attribute : ModeRow → AttrState → Bool
-shows_attribute row a =
+abbrev pub has_attribute_registers_of_mode : ModeRow → AttrState → Bool
+has_attribute_registers_of_mode row a =
     is_palette_shown a && ((bit_and (slice_index a.registers 0x10) 0xF7
     == bit_and (slice_index row.attribute 0x10) 0xF7)
     && bytes_eq (drop 0x12 a.registers) (drop 0x12 row.attribute))
 
 -- whether the data are those of the mode, with one of its pages
-abbrev pub shows_data : ModeRow → BiosData → Bool
-shows_data row d =
+abbrev pub has_bios_data_of_mode : ModeRow → BiosData → Bool
+has_bios_data_of_mode row d =
     (d.columns == row.columns) && ((d.size == row.size)
     && ((d.last_row == row.last_row) && ((d.height == row.height)
     && ((d.crtc_address == row.crtc_address) && ((d.start == d.size * d.page)
@@ -74,8 +74,8 @@ shows_data row d =
 -- whether the adapter and the data show a screen of the mode
 unfoldable pub shows : ModeRow → CardState → BiosData → Bool
 shows row c d =
-    shows_memory row c && (shows_data row d && (bytes_eq c.crtc.registers
-    (crtc_registers_shown row d c.crtc.registers) && shows_attribute row c.attr))
+    has_memory_registers_of_mode row c && (has_bios_data_of_mode row d && (bytes_eq c.crtc.registers
+    (crtc_registers_shown row d c.crtc.registers) && has_attribute_registers_of_mode row c.attr))
 
 -- ---- the reading
 
@@ -181,7 +181,7 @@ text_screen row c d =
 -- the screen of pixels of the adapter and the data
 abbrev pub pixel_screen : ModeRow → CardState → BiosData → Screen
 pixel_screen row c d =
-    screen_with_contents row c d 0 (Pixels (pixel_pages d.mode c.host.memory d.size
+    screen_with_contents row c d 0 (PackedPixelColours (pixel_pages d.mode c.host.memory d.size
     (page_pixels d) row.pages)) []
 
 -- the screen of the mode's kind: text or pixels

@@ -27,15 +27,15 @@ use Rattle.bios_services.specs.Registers.{low, with_low}
 use Rattle.bios_services.specs.Scroll.{window_among, whole_page, rows_to_scroll}
 use Rattle.bios_services.specs.Teletype.{line_start, pixel_colouring}
 use Rattle.bios_services.specs.Strings.{character_at, colouring_of_character}
-use Rattle.bios_services.specs.Colours.{colour_reason}
+use Rattle.bios_services.specs.Colours.{colour_refusal_besides_block}
 use Rattle.bios_services.specs.Reasons.{◌or◌, no_pixels, no_page, outside_cells, outside_page}
-use Rattle.bios_services.specs.Reasons.{outside_pixels, past_cells, or_wrong_block}
-use Rattle.bios_services.specs.Refusals.{page_among, service_block}
+use Rattle.bios_services.specs.Reasons.{outside_pixels, past_cells, refuse_or_wrong_block}
+use Rattle.bios_services.specs.Refusals.{page_among, service_block_len}
 use Rattle.bios_services.specs.Cursor.{row_of, column_of}
 use Rattle.bios_services.specs.Glyphs.{glyph_line, first_character_with_lines}
 use Rattle.bios_screen.specs.Listing.{list_by_function}
 use Rattle.bios_screen.specs.Colours.{with_colours, colours_answer}
-use Rattle.bios_screen.specs.Screen.{Cell, Contents, Cells, Pixels, Screen, cell_of, page_cells}
+use Rattle.bios_screen.specs.Screen.{Cell, Contents, Cells, PackedPixelColours, Screen, cell_of, page_cells}
 use Rattle.bios_screen.specs.Screen.{page_start, cell_number_of_position, cursor_position}
 use Rattle.bios_screen.specs.Screen.{cursor_cell_on_screen}
 
@@ -46,8 +46,8 @@ abbrev pub page_meant : Screen → ℕ → ℕ
 page_meant s page = page_among s.layout.pages page
 
 -- the number of the cell at the cursor of a page, counted along the rows of that page
-abbrev pub cursor_number : Screen → ℕ → ℕ
-cursor_number s page = cell_number_of_position s (cursor_position s page)
+abbrev pub cursor_cell_on_page : Screen → ℕ → ℕ
+cursor_cell_on_page s page = cell_number_of_position s (cursor_position s page)
 
 -- why a service is refused on a screen whatever its block: the first of its reasons
 abbrev pub refusal_reason_on : Screen → Service → Option Refusal
@@ -59,11 +59,11 @@ refusal_reason_on s (ScrollUp window) = None
 refusal_reason_on s (ScrollDown window) = None
 refusal_reason_on s (ReadCell page) =
     no_page s.layout.pages (page_meant s page)
-    or outside_cells (page_cells s) (cursor_number s (page_meant s page))
+    or outside_cells (page_cells s) (cursor_cell_on_page s (page_meant s page))
 refusal_reason_on s (WriteCells cells) =
     no_page s.layout.pages (page_meant s cells.page)
-    or outside_cells (page_cells s) (cursor_number s (page_meant s cells.page))
-    or past_cells (page_cells s) (cursor_number s (page_meant s cells.page)) cells.count
+    or outside_cells (page_cells s) (cursor_cell_on_page s (page_meant s cells.page))
+    or past_cells (page_cells s) (cursor_cell_on_page s (page_meant s cells.page)) cells.count
 refusal_reason_on s (WritePixel page x y colour) =
     no_pixels s.mode
     or no_page s.layout.pages (page_meant s page)
@@ -75,7 +75,7 @@ refusal_reason_on s (ReadPixel page x y) =
 refusal_reason_on s (Teletype character colour) = outside_page s.layout.rows s.layout.columns
     (cursor_position s s.page)
 refusal_reason_on s ReadMode = None
-refusal_reason_on s (Colours service) = colour_reason service
+refusal_reason_on s (Colours service) = colour_refusal_besides_block service
 refusal_reason_on s ReadAdapter = None
 refusal_reason_on s (WriteString call) =
     no_page s.layout.pages (page_meant s call.page)
@@ -84,14 +84,14 @@ refusal_reason_on s ReadDisplay = None
 
 -- why a service is refused on a screen with a block of this length
 unfoldable pub refusal_on : Screen → Service → ℕ → Option Refusal
-refusal_on s service len = or_wrong_block (refusal_reason_on s service) (service_block service) len
+refusal_on s service len = refuse_or_wrong_block (refusal_reason_on s service) (service_block_len service) len
 
 -- ---- what it does to the cells
 
 -- the cells of a screen; pixels have none
 abbrev pub cells_on : Contents → List Cell
 cells_on (Cells cells) = cells
-cells_on (Pixels pages) = []
+cells_on (PackedPixelColours pages) = []
 
 -- cell k of a screen; if there is none, the character 00 in attribute 00
 abbrev pub cell_on : Screen → ℕ → Cell
@@ -100,7 +100,7 @@ cell_on s k = cell_of (cells_on s.contents) k
 -- new cells, each given by its number and all the old ones; pixels stay
 abbrev pub change_cells : ((ℕ → Cell) → ℕ → Cell) → Contents → Contents
 change_cells new (Cells cells) = Cells (list_by_function (new (cell_of cells)) 0 (length cells))
-change_cells new (Pixels pages) = Pixels pages
+change_cells new (PackedPixelColours pages) = PackedPixelColours pages
 
 -- a screen with new cells, each given by its number and all the old ones
 abbrev pub with_cells : Screen → ((ℕ → Cell) → ℕ → Cell) → Screen
@@ -159,7 +159,7 @@ scroll_cells s page w direction n attribute old k =
 -- the pixels of a screen, page after page; text has none
 abbrev pub pages_on : Contents → List (List ℕ)
 pages_on (Cells cells) = []
-pages_on (Pixels pages) = pages
+pages_on (PackedPixelColours pages) = pages
 
 -- pixel k of a page
 abbrev pub pixel_of : Screen → ℕ → ℕ → ℕ
@@ -172,7 +172,7 @@ pixel_number s x y = 8 * s.layout.columns * y + x
 -- new pixels on a page, each given by its number and all the old ones; cells stay
 abbrev pub change_pixels : ℕ → ((ℕ → ℕ) → ℕ → ℕ) → Contents → Contents
 change_pixels page new (Cells cells) = Cells cells
-change_pixels page new (Pixels pages) = Pixels (set pages page
+change_pixels page new (PackedPixelColours pages) = PackedPixelColours (set pages page
     (list_by_function (new (slice_index (get_or pages page []))) 0 (length (get_or pages page []))))
 
 -- a screen with new pixels on a page, each given by its number and all the old ones
@@ -228,12 +228,12 @@ put_characters fonts s page first count character colouring =
 
 -- a run of cells gets a character, from the cursor of a page on
 abbrev pub write_at_cursor : FontSet → Screen → ℕ → CellRun → Screen
-write_at_cursor fonts s page cells = put_characters fonts s page (cursor_number s page) cells.count
+write_at_cursor fonts s page cells = put_characters fonts s page (cursor_cell_on_page s page) cells.count
     cells.character cells.colouring
 
 -- how far the number of a pixel is from that of the pixel some rows of characters below it
-abbrev pub row_pixels : Screen → ℕ → ℕ
-row_pixels s rows = 8 * s.layout.columns * (s.layout.height * rows)
+abbrev pub pixel_distance_of_rows : Screen → ℕ → ℕ
+pixel_distance_of_rows s rows = 8 * s.layout.columns * (s.layout.height * rows)
 
 -- the pixel with which a window is filled
 abbrev pub fill_pixel : ℕ → ℕ → ℕ
@@ -245,7 +245,7 @@ abbrev pub scroll_pixels : Screen → Window → Direction → ℕ → ℕ → (
 scroll_pixels s w direction n colour old k =
     if is_in_window w (pixel_row s k) (pixel_column s k)
     then (if has_source_row direction w n (pixel_row s k)
-    then old (source_number direction k (row_pixels s n)) else fill_pixel s.mode colour)
+    then old (source_number direction k (pixel_distance_of_rows s n)) else fill_pixel s.mode colour)
     else old k
 
 -- a window of a page moves by n rows, with its cells or its pixels
@@ -284,8 +284,8 @@ after_line_feed s page position =
     else (page_up s page (last_row_attribute s page position), position)
 
 -- the position after one: the next column, or the first column of the row below
-abbrev pub after_cursor_advance : Screen → ℕ → ℕ → Screen × ℕ
-after_cursor_advance s page position =
+abbrev pub screen_and_next_position : Screen → ℕ → ℕ → Screen × ℕ
+screen_and_next_position s page position =
     if nat_lt (column_of position + 1) s.layout.columns then (s, position + 1)
     else ((after_line_feed s page position).0, line_start (after_line_feed s page position).1)
 
@@ -303,7 +303,7 @@ type_character fonts s page position character colouring =
     else if character == 0x08 then (s, if column_of position == 0 then position else position - 1)
     else if character == 0x0A then after_line_feed s page position
     else if character == 0x0D then (s, line_start position)
-    else after_cursor_advance (put_character fonts s page position character colouring) page
+    else screen_and_next_position (put_character fonts s page position character colouring) page
     position
 
 -- a screen with the cursor of a page at another position
@@ -361,8 +361,8 @@ cursor_cell_word s page = (cell_on s (cursor_cell_on_screen s page)).0 + 256 * (
 
 -- line r of cell q of a page of pixels as a byte: a bit is 1 if its pixel is not 0, and the first
 -- pixel is the highest bit
-abbrev pub cell_line : Screen → ℕ → ℕ → ℕ → ℕ
-cell_line s page q r =
+abbrev pub pixel_line_as_byte : Screen → ℕ → ℕ → ℕ → ℕ
+pixel_line_as_byte s page q r =
     byte_of_bits (λ i. if pixel_of s page (8 * (s.layout.columns
     * (s.layout.height * (q / s.layout.columns) + r) + q % s.layout.columns) + (7 - i)) == 0
     then 0 else 1)
@@ -371,12 +371,12 @@ cell_line s page q r =
 -- of a page, and no other dot, else 0
 abbrev pub character_at_cursor : FontSet → Screen → ℕ → ℕ
 character_at_cursor fonts s page = first_character_with_lines fonts s.layout.height
-    (list_by_function (cell_line s page (cursor_number s page)) 0 s.layout.height) 256
+    (list_by_function (pixel_line_as_byte s page (cursor_cell_on_page s page)) 0 s.layout.height) 256
 
 -- 08: a cell of text is answered in AX, and a character of pixels in AL
 abbrev pub cell_answer : Contents → FontSet → Screen → ℕ → Regs → Regs
 cell_answer (Cells cells) fonts s page r = record r { ax = cursor_cell_word s page }
-cell_answer (Pixels pages) fonts s page r = record r {
+cell_answer (PackedPixelColours pages) fonts s page r = record r {
   ax =
       with_low r.ax (character_at_cursor fonts s page);
 }

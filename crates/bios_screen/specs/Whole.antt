@@ -1,13 +1,13 @@
 -- What frames of a plain screen are, whichever adapter shows it.
 use Rattle.std.specs.Prelude.{ℕ, ◌≡◌, ◌+◌, ◌-◌, ◌<◌, ◌≤◌, ◌++◌}
 use Rattle.bios_screen.specs.Screen.{Screen}
-use Rattle.bios_screen.specs.Picture.{dot_at, picture_width, picture_height, next_frame}
+use Rattle.bios_screen.specs.Picture.{dot_colour_at, picture_width, picture_height, next_frame}
 use Rattle.bios_screen.specs.Raster.{concatenated_lists, picture_bytes}
 use Rattle.bios_screen.specs.Drawing.{Drawing, dots_a_line, lines_a_frame, dots_a_frame, page_shown}
 use Rattle.bios_screen.specs.Drawing.{picture_so_far, colour_of_frame_dot, take_dots, take_frame}
 
 -- the picture lies within the lines of a frame
-pub record FitsFrame (s : Screen) : Type 0 where
+pub record PictureFitsFrame (s : Screen) : Type 0 where
   pub narrow : picture_width s ≤ dots_a_line s.mode
   pub low : picture_height s ≤ lines_a_frame s.mode
 
@@ -23,4 +23,4 @@ pub record FrameEndsAtDotZero (b : Drawing) : Type 0 where
 -- a frame from dot 0 on is the picture of the active page
 abbrev pub FrameIsWholePicture : Drawing → Type 0
 FrameIsWholePicture b = (take_frame b).picture ≡ picture_bytes (picture_width b.screen)
-    (picture_height b.screen) (dot_at b.screen b.screen.page)
+    (picture_height b.screen) (dot_colour_at b.screen b.screen.page)

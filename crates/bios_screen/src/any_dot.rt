@@ -20,10 +20,10 @@ ghost use Rattle.bios_screen.specs.Shown.{shown};
 ghost use Rattle.bios_screen.specs.AfterCall.{after_call};
 ghost use Rattle.bios_screen.specs.Step.{next, refusal_on};
 ghost use Rattle.bios_screen.specs.Loaded.{load_refusal_on, load_glyphs};
-ghost use Rattle.bios_screen.specs.Called.{AreRegistersWords, screen_unless};
-ghost use Rattle.bios_screen.specs.Drawing.{Drawing, dots_a_frame, take_dots, MayLoad};
-ghost use Rattle.bios_screen.specs.Whole.{FitsFrame, FrameEndsAtDotZero, FrameIsWholePicture};
-ghost use Rattle.bios_screen.specs.Follows.{BeamIsAt, DotsJoinPicture, Follows, EndsFrame};
+ghost use Rattle.bios_screen.specs.Called.{AreRegistersWords, screen_unless_refused};
+ghost use Rattle.bios_screen.specs.Drawing.{Drawing, dots_a_frame, take_dots, MayLoadGlyphs};
+ghost use Rattle.bios_screen.specs.Whole.{PictureFitsFrame, FrameEndsAtDotZero, FrameIsWholePicture};
+ghost use Rattle.bios_screen.specs.Follows.{BeamIsAt, DotsJoinPicture, CardFollowsDrawing, EndsFrame};
 
 /// A service that sets no mode leaves the mode and the layout of a screen.
 pub fn services_keep_the_layout()
@@ -39,7 +39,7 @@ pub fn services_keep_the_layout()
 pub fn frames_are_dots()
     ensures split { (m n : ℕ) (b : Drawing) → take_dots (m + n) b ≡ take_dots n (take_dots m b) }
     ensures frame { (b : Drawing) → b.dot < dots_a_frame b.screen.mode → FrameEndsAtDotZero b }
-    ensures whole { (b : Drawing) → FitsFrame b.screen → b.dot ≡ 0 →
+    ensures whole { (b : Drawing) → PictureFitsFrame b.screen → b.dot ≡ 0 →
         b.dot < dots_a_frame b.screen.mode → FrameIsWholePicture b }
 {}
 
@@ -49,15 +49,15 @@ pub fn frames_are_dots()
 /// each screen that it shows.
 pub fn dots_follow_screens()
     ensures begins { (c : CardState) (d : BiosData) (b : Drawing) → IsCard c →
-        shown c d ≡ Some b.screen → b.dot ≡ 0 → IsFrameStart c.crtc.beam → Follows c d b }
-    ensures starts { (c : CardState) (d : BiosData) (b : Drawing) → Follows c d b → b.dot ≡ 0 →
+        shown c d ≡ Some b.screen → b.dot ≡ 0 → IsFrameStart c.crtc.beam → CardFollowsDrawing c d b }
+    ensures starts { (c : CardState) (d : BiosData) (b : Drawing) → CardFollowsDrawing c d b → b.dot ≡ 0 →
         IsFrameStart c.crtc.beam }
     ensures joins { (c : CardState) (d : BiosData) (s : Screen) (page n : ℕ) → IsCard c →
         shown c d ≡ Some s → page < s.layout.pages → n < dots_a_frame s.mode →
         (n ≡ 0 → page ≡ s.page) → BeamIsAt c (start_address d page) n → DotsJoinPicture c s page n }
-    ensures dots { (n : ℕ) (c : CardState) (d : BiosData) (b : Drawing) → IsCard c → Follows c d b →
-        Follows (dots n c) d (take_dots n b) }
-    ensures frame { (c : CardState) (d : BiosData) (b : Drawing) → IsCard c → Follows c d b →
+    ensures dots { (n : ℕ) (c : CardState) (d : BiosData) (b : Drawing) → IsCard c → CardFollowsDrawing c d b →
+        CardFollowsDrawing (dots n c) d (take_dots n b) }
+    ensures frame { (c : CardState) (d : BiosData) (b : Drawing) → IsCard c → CardFollowsDrawing c d b →
         EndsFrame c d b }
 {}
 
@@ -66,24 +66,24 @@ pub fn dots_follow_screens()
 pub fn calls_follow_screens()
     ensures served { (service : Service) (fonts : FontSet) (r : Regs) (block : List ℕ)
         (c : CardState) (d : BiosData) (b : Drawing) →
-        IsCard c → IsBda d → AreRegistersWords r → AreBytes block → Follows c d b →
+        IsCard c → IsBda d → AreRegistersWords r → AreBytes block → CardFollowsDrawing c d b →
         call_of r ≡ Some (InMode service) →
-        Follows (after_call fonts r block c d).0 (after_call fonts r block c d).1.1
+        CardFollowsDrawing (after_call fonts r block c d).0 (after_call fonts r block c d).1.1
         (record b {
-          screen = screen_unless (refusal_on b.screen service (length block)) b.screen
+          screen = screen_unless_refused (refusal_on b.screen service (length block)) b.screen
               (next fonts b.screen service block);
         }) }
     ensures loaded { (load : GlyphLoad) (fonts : FontSet) (r : Regs) (block : List ℕ)
         (c : CardState) (d : BiosData) (b : Drawing) →
-        IsCard c → AreBytes block → AreFonts fonts → Follows c d b → MayLoad b load (length block) →
+        IsCard c → AreBytes block → AreFonts fonts → CardFollowsDrawing c d b → MayLoadGlyphs b load (length block) →
         call_of r ≡ Some (LoadGlyphs load) →
-        Follows (after_call fonts r block c d).0 (after_call fonts r block c d).1.1
+        CardFollowsDrawing (after_call fonts r block c d).0 (after_call fonts r block c d).1.1
         (record b {
-          screen = screen_unless (load_refusal_on b.screen load (length block))
+          screen = screen_unless_refused (load_refusal_on b.screen load (length block))
               b.screen (load_glyphs fonts b.screen load block);
         }) }
     ensures table { (service : TableService) (fonts : FontSet) (r : Regs) (block : List ℕ)
         (c : CardState) (d : BiosData) (b : Drawing) →
-        IsCard c → Follows c d b → call_of r ≡ Some (ReadTable service) →
-        Follows (after_call fonts r block c d).0 (after_call fonts r block c d).1.1 b }
+        IsCard c → CardFollowsDrawing c d b → call_of r ≡ Some (ReadTable service) →
+        CardFollowsDrawing (after_call fonts r block c d).0 (after_call fonts r block c d).1.1 b }
 {}

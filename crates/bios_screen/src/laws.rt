@@ -42,13 +42,13 @@ ghost use Rattle.bios_screen.specs.Called.{ScreenStaysShown};
 
 /// Function 00, with the memory cleared: in every mode of the table, it leads from any state to one
 /// that shows the fresh screen of the mode's row.
-pub fn mode_set_is_fresh()
+pub fn mode_set_shows_fresh_screen()
     ensures { (mode : ℕ) (row : ModeRow) → mode_row mode ≡ Some row → ModeSetShowsFreshScreen mode
         row }
 {}
 
 /// Functions 03, 0F, 12 and 1A: cursor, mode, adapter and display are answered.
-pub fn readers_are_served()
+pub fn reading_services_lead_to_screens()
     ensures cursor { (page : ℕ) → ServiceLeadsToNextScreen (ReadCursor page) }
     ensures mode { ServiceLeadsToNextScreen ReadMode }
     ensures adapter { ServiceLeadsToNextScreen ReadAdapter }
@@ -56,7 +56,7 @@ pub fn readers_are_served()
 {}
 
 /// Functions 01, 02 and 05: the cursor's type, its position on a page, and the active page are set.
-pub fn cursor_is_served()
+pub fn cursor_services_lead_to_screens()
     ensures kind { (cursor_type : ℕ) → ServiceLeadsToNextScreen (SetCursorType cursor_type) }
     ensures position { (page position : ℕ) → position < 65536 → ServiceLeadsToNextScreen
         (SetCursor page position) }
@@ -65,14 +65,14 @@ pub fn cursor_is_served()
 
 /// Functions 08, 09 and 0A: the cell at the cursor is read, and cells from it on are written, in
 /// graphics as pixels.
-pub fn cells_are_served()
+pub fn cell_services_lead_to_screens()
     ensures read { (page : ℕ) → ServiceLeadsToNextScreen (ReadCell page) }
     ensures written { (cells : CellRun) → cells.character < 256 → cells.colouring.colour < 256 →
         ServiceLeadsToNextScreen (WriteCells cells) }
 {}
 
 /// Functions 06 and 07: a window of the active page goes up or down, in graphics by its pixels.
-pub fn windows_are_served()
+pub fn scroll_services_lead_to_screens()
     ensures up { (window : Scroll) → window.fill < 256 → ServiceLeadsToNextScreen
         (ScrollUp window) }
     ensures down { (window : Scroll) → window.fill < 256 → ServiceLeadsToNextScreen
@@ -81,7 +81,7 @@ pub fn windows_are_served()
 
 /// Functions 0E and 13: a character is typed at the cursor of the active page, and a string from a
 /// position on.
-pub fn typing_is_served()
+pub fn typing_services_lead_to_screens()
     ensures character { (character colour : ℕ) → character < 256 → colour < 256 →
         ServiceLeadsToNextScreen (Teletype character colour) }
     ensures string { (call : StringCall) → call.colour < 256 → ServiceLeadsToNextScreen
@@ -101,7 +101,7 @@ pub fn pixel_calls_are_refused()
 {}
 
 /// Functions 0C and 0D in graphics: a pixel is written and read.
-pub fn pixel_calls_are_served()
+pub fn pixel_services_lead_to_screens()
     ensures written { (page x y colour : ℕ) → colour < 256 → ServiceLeadsToNextScreen
         (WritePixel page x y colour) }
     ensures read { (page x y : ℕ) → ServiceLeadsToNextScreen (ReadPixel page x y) }

@@ -43,7 +43,7 @@ pub struct Screen {
 impl Model for Screen {
     ghost use Rattle.std.specs.Prelude.{vec_len};
     ghost use Rattle.bios_screen.specs.Screen.{Screen as PlainScreen};
-    ghost use Rattle.bios_screen.specs.Parts.{contents_of, IsLaidOut};
+    ghost use Rattle.bios_screen.specs.Parts.{cells_or_pixels_of_mode, LayoutFitsContents};
 
     ghost Value = { PlainScreen };
 
@@ -56,7 +56,7 @@ impl Model for Screen {
         distance = s.layout.distance;
         pages = s.layout.pages;
       };
-      contents = contents_of s.mode (record {
+      contents = cells_or_pixels_of_mode s.mode (record {
         columns = s.layout.columns;
         rows = s.layout.rows;
         height = s.layout.height;
@@ -80,7 +80,7 @@ impl Model for Screen {
       frame = s.frame;
     } };
 
-    ghost invariant = { λ s. IsLaidOut s.mode (record {
+    ghost invariant = { λ s. LayoutFitsContents s.mode (record {
       columns = s.layout.columns;
       rows = s.layout.rows;
       height = s.layout.height;

@@ -62,7 +62,7 @@ fn read_glyphs(alloc: Global, planes: &Planes, n: usize) -> Result<Vec<u8>, Faul
 }
 
 /// The cursor positions.
-fn read_places(bda: &Bda) -> [u16; 8]
+fn read_cursor_positions(bda: &Bda) -> [u16; 8]
     ensures { result ≡ bda.now.cursor_places }
 {
     bda.bounds();
@@ -120,7 +120,13 @@ fn pixel(planes: &Planes, is_byte: bool, z: u32, k: u32) -> u8
 
 /// Appends the first n pixels of a page that begins at byte z.
 #[tactic(auto, using(crate::proofs::Shows::Reading::no_pixels, crate::proofs::Shows::Reading::pixel_pushed))]
-fn read_page(planes: &Planes, mode: u8, z: u32, n: u32, pixels: &mut Vec<u8>) -> Result<(), Fault>
+fn append_pixels_of_page(
+    planes: &Planes,
+    mode: u8,
+    z: u32,
+    n: u32,
+    pixels: &mut Vec<u8>,
+) -> Result<(), Fault>
     requires planar { z + (n + 7) / 8 ≤ 65536 }
     requires packed { IsTrue (is_packed_of mode) → z + n ≤ 65536 }
     ensures ok { OnOk result (pixels.new.items ≡ pixels.old.items
@@ -155,7 +161,7 @@ fn read_pixels(
 {
     let mut pixels = Vec::new(alloc);
     for page in 0..pages {
-        read_page(planes, mode, size as u32 * page as u32, n, &mut pixels)?;
+        append_pixels_of_page(planes, mode, size as u32 * page as u32, n, &mut pixels)?;
     }
     Ok(pixels)
 }
@@ -204,7 +210,7 @@ impl Screen {
             layout: layout_of(bda, row, bda.size() / 2),
             cells: read_cells(alloc, card.planes(), CELLS)?,
             pixels: Vec::new(alloc),
-            places: read_places(bda),
+            places: read_cursor_positions(bda),
             cursor_type: bda.cursor_type(),
             page: bda.page(),
             palette: Palette::read(regs.attr, regs.dac),
@@ -238,7 +244,7 @@ impl Screen {
                 count,
                 row.pages,
             )?,
-            places: read_places(bda),
+            places: read_cursor_positions(bda),
             cursor_type: bda.cursor_type(),
             page: bda.page(),
             palette: Palette::read(regs.attr, regs.dac),

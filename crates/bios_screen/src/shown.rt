@@ -3,9 +3,9 @@ ghost use Rattle.std.specs.Prelude.{◌≡◌, ◌≤◌, ◌<◌, ◌*◌, true
 ghost use Rattle.std.specs.Str.{bytes_eq};
 ghost use Rattle.bios_modes.specs.Heights.{mode_row_at_height};
 ghost use Rattle.bios_services.specs.Cursor.{start_address};
-ghost use Rattle.bios_screen.specs.Shown.{shows_memory as shows_memory_of};
-ghost use Rattle.bios_screen.specs.Shown.{shows_data as shows_data_of};
-ghost use Rattle.bios_screen.specs.Shown.{shows_attribute as shows_attribute_of, shows};
+ghost use Rattle.bios_screen.specs.Shown.{has_memory_registers_of_mode as shows_memory_of};
+ghost use Rattle.bios_screen.specs.Shown.{has_bios_data_of_mode as shows_data_of};
+ghost use Rattle.bios_screen.specs.Shown.{has_attribute_registers_of_mode as shows_attribute_of, shows};
 ghost use Rattle.bios_screen.specs.Shown.{cursor_location_shown, crtc_registers_shown};
 
 use bios_modes::{Bda, ModeRow, is_text};
@@ -14,7 +14,7 @@ use vga_card::Card;
 use vga_crtc::Crtc;
 
 /// Whether the registers that memory cycles depend on are the mode's.
-fn shows_memory(card: &Card, row: &ModeRow) -> bool
+fn has_memory_registers_of_mode(card: &Card, row: &ModeRow) -> bool
     ensures { result ≡ shows_memory_of row.now card.now }
 {
     let regs = card.regs();
@@ -22,7 +22,7 @@ fn shows_memory(card: &Card, row: &ModeRow) -> bool
 }
 
 /// Whether the data are those of the mode, with one of its pages.
-fn shows_data(bda: &Bda, row: &ModeRow) -> bool
+fn has_bios_data_of_mode(bda: &Bda, row: &ModeRow) -> bool
     ensures { result ≡ shows_data_of row.now bda.now }
 {
     bda.columns() == row.columns
@@ -67,7 +67,7 @@ fn cursor_location_of(bda: &Bda, crtc: &Crtc) -> u32
 }
 
 /// The registers of the CRT controller that show the active page, in text with its cursor.
-fn wanted_registers(bda: &Bda, crtc: &Crtc, row: &ModeRow) -> [u8; 25]
+fn registers_that_show_page(bda: &Bda, crtc: &Crtc, row: &ModeRow) -> [u8; 25]
     requires all { length row.now.crtc ≡ 25 }
     requires columns { bda.now.columns ≤ 80 }
     requires start { bda.now.size * bda.now.page < 65536 }
@@ -96,7 +96,7 @@ fn after_overscan(registers: &[u8; 21]) -> &[u8]
 
 /// Whether the attribute controller shows its palette, and its registers from mode control on are
 /// the mode's, except for blinking and overscan.
-fn shows_attribute(attr: &Attr, row: &ModeRow) -> bool
+fn has_attribute_registers_of_mode(attr: &Attr, row: &ModeRow) -> bool
     ensures { result ≡ shows_attribute_of row.now attr.now }
 {
     let registers = attr.regs();
@@ -112,7 +112,7 @@ fn shows_page(crtc: &Crtc, bda: &Bda, row: &ModeRow) -> bool
     ensures { result ≡ bytes_eq crtc.now.registers (crtc_registers_shown row.now bda.now
         crtc.now.registers) }
 {
-    *crtc.regs() == wanted_registers(bda, crtc, row)
+    *crtc.regs() == registers_that_show_page(bda, crtc, row)
 }
 
 /// Whether the adapter and the data show a screen of the mode.
@@ -121,9 +121,9 @@ pub(crate) fn is_shown(card: &Card, bda: &Bda, row: &ModeRow) -> bool
     requires { mode_row_at_height bda.now.mode bda.now.height ≡ Some row.now }
     ensures { result ≡ shows row.now card.now bda.now }
 {
-    if !shows_memory(card, row) || !shows_data(bda, row) {
+    if !has_memory_registers_of_mode(card, row) || !has_bios_data_of_mode(bda, row) {
         return false;
     }
     let regs = card.regs();
-    shows_page(regs.crtc, bda, row) && shows_attribute(regs.attr, row)
+    shows_page(regs.crtc, bda, row) && has_attribute_registers_of_mode(regs.attr, row)
 }

@@ -27,13 +27,13 @@ use Rattle.bios_services.specs.Cells.{cells_per_page}
 use Rattle.bios_services.specs.Cursor.{cursor_cell_number, cursor_position_of, row_of, column_of}
 use Rattle.bios_services.specs.Pixels.{pixels_across, pixels_down}
 use Rattle.bios_services.specs.Plan.{run}
-use Rattle.bios_services.specs.Reasons.{◌or◌, refuse_unless, wrong_block, or_wrong_block, no_page, no_pixels, outside_cells, outside_page, outside_pixels}
-use Rattle.bios_services.specs.Colours.{colour_reason, has_entries}
+use Rattle.bios_services.specs.Reasons.{◌or◌, refuse_unless, wrong_block, refuse_or_wrong_block, no_page, no_pixels, outside_cells, outside_page, outside_pixels}
+use Rattle.bios_services.specs.Colours.{colour_refusal_besides_block, has_entries}
 use Rattle.bios_services.specs.Calls.{call_of}
-use Rattle.bios_services.specs.GlyphLoads.{load_reason, load_refusal, glyphs_block}
-use Rattle.bios_services.specs.Refusals.{service_on_page_meant, reason_in_mode, refusal_in_mode, service_block}
+use Rattle.bios_services.specs.GlyphLoads.{load_refusal_besides_block, load_refusal, glyphs_block_len}
+use Rattle.bios_services.specs.Refusals.{service_on_page_meant, refusal_in_mode_besides_block, refusal_in_mode, service_block_len}
 use Rattle.bios_services.specs.Tables.{table_refusal}
-use Rattle.bios_services.specs.Blocks.{BlocksFit, OthersAreRefused, block_len}
+use Rattle.bios_services.specs.Blocks.{FittingBlocksAreAccepted, OtherBlockLengthsAreRefused, block_len}
 use Rattle.bios_services.specs.Service.{CallOutcome, service}
 use Rattle.bios_services.proofs.ReasonLemmas.{neither, holds}
 use Rattle.bios_services.proofs.RefusedLemmas.{no_row, in_mode, refusal_of, Ends, call_ends}
@@ -84,7 +84,7 @@ dot_other d page x y =
 register_other : (holds : Bool) → IsOther (refuse_unless holds BadRegister)
 register_other holds = other_unless holds BadRegister (λ e. cc)
 
-colour_other : (asked : ColourService) → IsOther (colour_reason asked)
+colour_other : (asked : ColourService) → IsOther (colour_refusal_besides_block asked)
 colour_other (SetRegister register value) = register_other (nat_lt register 0x10)
 colour_other (SetOverscan value) = λ e. cc
 colour_other SetPalette = λ e. cc
@@ -97,7 +97,7 @@ colour_other (ReadEntry entry) = register_other (nat_lt entry 0x100)
 colour_other (SetMask mask) = λ e. cc
 colour_other ReadMask = λ e. cc
 
-service_other : (asked : Service) (d : BiosData) → IsOther (reason_in_mode asked d)
+service_other : (asked : Service) (d : BiosData) → IsOther (refusal_in_mode_besides_block asked d)
 service_other (SetCursorType cursor_type) d = λ e. cc
 service_other (SetCursor page position) d = page_other d page
 service_other (ReadCursor page) d = page_other d page
@@ -122,7 +122,7 @@ table_other : (asked : TableService) → IsOther (table_refusal asked)
 table_other ReadPalette = λ e. cc
 table_other (ReadEntries first count) = register_other (has_entries first count)
 
-load_other : (load : GlyphLoad) (mode : ℕ) → IsOther (load_reason load mode)
+load_other : (load : GlyphLoad) (mode : ℕ) → IsOther (load_refusal_besides_block load mode)
 load_other load mode =
     other_or (refuse_unless (is_text mode) WrongKind) _ (other_unless (is_text mode) WrongKind (λ e. cc))
     (other_unless (nat_le (load.first + load.count) 256) CountPast (λ e. cc))
@@ -130,7 +130,7 @@ load_other load mode =
 -- ---- a block is wrong if it has another length than is read
 
 -- a block of the length that is read is no reason
-block_other : (why : Option Refusal) (size : Option ℕ) (len : ℕ) → IsOther why → len ≡ unwrap_or size 0 → IsOther (or_wrong_block why size len)
+block_other : (why : Option Refusal) (size : Option ℕ) (len : ℕ) → IsOther why → len ≡ unwrap_or size 0 → IsOther (refuse_or_wrong_block why size len)
 block_other why None len h is = h
 block_other why (Some size) len h is =
     let same : (len == size) ≡ true = grind (arith, nat_tests) in
@@ -140,7 +140,7 @@ block_other why (Some size) len h is =
     none_other x is e = let both = sym is ∙ e in cc
 
 -- if a call reads some bytes and the block is no reason, it has that length
-block_whole : (why : Option Refusal) (size : Option ℕ) (len : ℕ) → 0 < unwrap_or size 0 → or_wrong_block why size len ≡ None → len ≡ unwrap_or size 0
+block_whole : (why : Option Refusal) (size : Option ℕ) (len : ℕ) → 0 < unwrap_or size 0 → refuse_or_wrong_block why size len ≡ None → len ≡ unwrap_or size 0
 block_whole why None len some none = absurd (omega (arith, some))
 block_whole why (Some size) len some none =
     let same : (len == size) ≡ true = holds (len == size) BadBlock (neither why (wrong_block size len) none).1 in
@@ -149,7 +149,7 @@ block_whole why (Some size) len some none =
 -- ---- calls
 
 -- the page does not change the block
-same_block : (d : BiosData) (asked : Service) → service_block (service_on_page_meant d asked) ≡ service_block asked
+same_block : (d : BiosData) (asked : Service) → service_block_len (service_on_page_meant d asked) ≡ service_block_len asked
 same_block d (SetCursorType cursor_type) = refl
 same_block d (SetCursor page position) = refl
 same_block d (ReadCursor page) = refl
@@ -177,12 +177,12 @@ call_other None d len is = other_unless false _ (unknown_other (d.mode == 0))
 call_other (Some (SetMode mode keeps)) d len is = other_row BadMode (mode_row mode) (λ e. cc)
 call_other (Some (ReadTable asked)) d len is = other_set d (table_refusal asked) (table_other asked)
 call_other (Some (LoadGlyphs load)) d len is =
-    other_set d _ (other_or (load_refusal load d.mode len) _ (block_other (load_reason load d.mode) (glyphs_block load) len (load_other load d.mode) is)
+    other_set d _ (other_or (load_refusal load d.mode len) _ (block_other (load_refusal_besides_block load d.mode) (glyphs_block_len load) len (load_other load d.mode) is)
     (other_row BadHeight (mode_row_at_height d.mode load.height) (λ e. cc)))
 call_other (Some (InMode asked)) d len is =
     let there = service_on_page_meant d asked in
-    let fits : len ≡ unwrap_or (service_block there) 0 = is ∙ ap (λ size. unwrap_or size 0) (sym (same_block d asked)) in
-    other_set d _ (block_other (reason_in_mode there d) (service_block there) len (service_other there d) fits)
+    let fits : len ≡ unwrap_or (service_block_len there) 0 = is ∙ ap (λ size. unwrap_or size 0) (sym (same_block d asked)) in
+    other_set d _ (block_other (refusal_in_mode_besides_block there d) (service_block_len there) len (service_other there d) fits)
 
 allowed_set : (d : BiosData) (why : Option Refusal) → in_mode d why ≡ None → why ≡ None
 allowed_set d why e = by_test (d.mode == 0) e
@@ -197,13 +197,13 @@ call_whole None d len some none = absurd (omega (arith, some))
 call_whole (Some (SetMode mode keeps)) d len some none = absurd (omega (arith, some))
 call_whole (Some (ReadTable asked)) d len some none = absurd (omega (arith, some))
 call_whole (Some (LoadGlyphs load)) d len some none =
-    block_whole (load_reason load d.mode) (glyphs_block load) len some (neither (load_refusal load d.mode len) _ (allowed_set d _ none)).0
+    block_whole (load_refusal_besides_block load d.mode) (glyphs_block_len load) len some (neither (load_refusal load d.mode len) _ (allowed_set d _ none)).0
 call_whole (Some (InMode asked)) d len some none =
     let there = service_on_page_meant d asked in
     let same = ap (λ size. unwrap_or size 0) (same_block d asked) in
-    block_whole (reason_in_mode there d) (service_block there) len (subst (λ n. 0 < n) (sym same) some) (allowed_set d _ none) ∙ same
+    block_whole (refusal_in_mode_besides_block there d) (service_block_len there) len (subst (λ n. 0 < n) (sym same) some) (allowed_set d _ none) ∙ same
 
-pub blocks_fit : {S : Type 0} (m : BusMeaning S) → BlocksFit m
+pub blocks_fit : {S : Type 0} (m : BusMeaning S) → FittingBlocksAreAccepted m
 blocks_fit {S} m fonts d r block s is e =
     by_reason (refusal_of (call_of r) d (length block)) (call_other (call_of r) d (length block) is) (call_ends m (call_of r) fonts d r block s)
   where
@@ -214,7 +214,7 @@ blocks_fit {S} m fonts d r block s is e =
     by_reason (Some why) other ends = other (same why (sym (ap (λ (x : S × CallOutcome). x.1.0) ends) ∙ e))
     by_reason None other ends = let both = sym ends.1 ∙ e in cc
 
-pub others_are_refused : {S : Type 0} (m : BusMeaning S) → OthersAreRefused m
+pub others_are_refused : {S : Type 0} (m : BusMeaning S) → OtherBlockLengthsAreRefused m
 others_are_refused {S} m fonts d r block s reply some other e =
     by_reason (refusal_of (call_of r) d (length block)) refl (call_ends m (call_of r) fonts d r block s)
   where

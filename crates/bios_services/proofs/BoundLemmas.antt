@@ -17,7 +17,7 @@ use Rattle.bios_services.specs.declared.glyph_load.GlyphLoad.{GlyphLoad}
 use Rattle.bios_modes.specs.Kinds.{is_text, is_text_kind, kind_of_row}
 use Rattle.bios_services.specs.Cells.{page_base_of_row, page_base}
 use Rattle.bios_services.specs.Reasons.{refuse_unless}
-use Rattle.bios_services.specs.GlyphLoads.{AreGlyphsThere, glyphs_block, glyphs_len, load_reason, load_refusal}
+use Rattle.bios_services.specs.GlyphLoads.{AreGlyphsThere, glyphs_block_len, glyphs_len, load_refusal_besides_block, load_refusal}
 use Rattle.bios_services.specs.Bounds.{IsModeSet, StaysInMode, pages_of_row, ports_bound}
 use Rattle.bios_services.proofs.ReasonLemmas.{neither, holds, wrong_or}
 
@@ -211,7 +211,7 @@ text_height mode height row =
 -- the glyphs of a load that is not refused, at a height that the mode has, are there
 pub there_of : (load : GlyphLoad) (mode len : ℕ) (row : ModeRow) → load_refusal load mode len ≡ None → mode_row_at_height mode load.height ≡ Some row → AreGlyphsThere load len
 there_of load mode len row allowed e =
-    let block = wrong_or (load_reason load mode) (glyphs_block load) len allowed in
+    let block = wrong_or (load_refusal_besides_block load mode) (glyphs_block_len load) len allowed in
     let reason = neither (refuse_unless (is_text mode) WrongKind) _ block.0 in
     let fits = holds (nat_le (load.first + load.count) 256) CountPast reason.1 in
     record {

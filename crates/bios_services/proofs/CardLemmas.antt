@@ -6,7 +6,7 @@ use Rattle.vga_card.specs.Bus.{Place, AtPort, AtAddress, card_meaning, card_writ
 use Rattle.vga_card.specs.Card.{CardState}
 use Rattle.vga_card.specs.Adapter.{adapter_of}
 use Rattle.vga_card.specs.Cycles.{WriteResult, ReadResult, out_byte, inp_byte, put_byte, get_byte}
-use Rattle.vga_card.specs.FreshCanvas.{with_fresh_canvas, fresh_canvas_after}
+use Rattle.vga_card.specs.FreshCanvas.{without_unseen_dots, outcome_without_unseen_dots}
 use Rattle.vga_card.proofs.BoundLemmas.{out_bounds, inp_bounds, put_bounds, get_bounds}
 use Rattle.vga_card.proofs.DrawnLemmas.{IsStill, still, still_after, written_still, answered_still}
 use Rattle.vga_card.proofs.FreshCanvasLemmas.{cannot_be_told}
@@ -42,15 +42,15 @@ plan_drawn p c = (plan_still p c).drawn
 pub plan_beam : {A : Type 0} (p : Plan A) (c : CardState) → (run card_meaning p c).0.crtc.beam ≡ c.crtc.beam
 plan_beam p c = (plan_still p c).beam
 
-pub write_fresh : (c : CardState) (place : Place) (v : ℕ) → card_write (with_fresh_canvas c) place v ≡ fresh_canvas_after (card_write c place v)
+pub write_fresh : (c : CardState) (place : Place) (v : ℕ) → card_write (without_unseen_dots c) place v ≡ outcome_without_unseen_dots (card_write c place v)
 write_fresh c (AtPort port) v = cannot_be_told.out c port v
 write_fresh c (AtAddress address) v = cannot_be_told.put c address v
 
-pub read_fresh : (c : CardState) (place : Place) → card_read (with_fresh_canvas c) place ≡ fresh_canvas_after (card_read c place)
+pub read_fresh : (c : CardState) (place : Place) → card_read (without_unseen_dots c) place ≡ outcome_without_unseen_dots (card_read c place)
 read_fresh c (AtPort port) = cannot_be_told.inp c port
 read_fresh c (AtAddress address) = cannot_be_told.get c address
 
-pub plan_fresh : {A : Type 0} (p : Plan A) (c : CardState) → run card_meaning p (with_fresh_canvas c) ≡ fresh_canvas_after (run card_meaning p c)
+pub plan_fresh : {A : Type 0} (p : Plan A) (c : CardState) → run card_meaning p (without_unseen_dots c) ≡ outcome_without_unseen_dots (run card_meaning p c)
 plan_fresh (Done a) c = refl
 plan_fresh (Write place v rest) c =
     ap (λ (w : WriteResult). run card_meaning rest w.0) (write_fresh c place v) ∙ plan_fresh rest (card_write c place v).0

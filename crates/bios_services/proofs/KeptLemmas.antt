@@ -42,10 +42,10 @@ use Rattle.bios_services.specs.Reasons.{no_page, outside_page, wrong_block}
 use Rattle.bios_services.specs.Colours.{colours_plan}
 use Rattle.bios_services.specs.Tables.{table_refusal, table_plan}
 use Rattle.bios_services.specs.GlyphLoads.{glyph_load_of, load_refusal, load_plan}
-use Rattle.bios_services.specs.Refusals.{service_on_page_meant, reason_in_mode, refusal_in_mode}
+use Rattle.bios_services.specs.Refusals.{service_on_page_meant, refusal_in_mode_besides_block, refusal_in_mode}
 use Rattle.bios_services.specs.declared.colours.ColourService.TheVariants.{ReadMask}
 use Rattle.bios_services.specs.Calls.{colours_call, colour_call_of, service_of, call_in_mode, call_of, glyph_load_or}
-use Rattle.bios_services.specs.Service.{ServiceOutcome, CallOutcome, answer_of_registers, answer_with, call_plan, in_mode_plan, load_if_height_exists, load_unless_refused_plan, load_in_mode_plan, plan_of_service}
+use Rattle.bios_services.specs.Service.{ServiceOutcome, CallOutcome, answer_of_registers, answer_with, call_plan, service_in_mode_plan, load_if_height_exists, load_unless_refused_plan, load_in_mode_plan, plan_of_service}
 use Rattle.bios_services.specs.Service.{read_cell_service, read_pixel_service, service, set_mode_plan, table_in_mode_plan, table_unless_refused_plan, unless_refused_plan}
 use Rattle.bios_services.proofs.ReasonLemmas.{neither, holds}
 use Rattle.bios_services.proofs.BoundLemmas.{set_of_valid, stays_valid, begins_valid, begins_valid_at}
@@ -247,7 +247,7 @@ inside_near d position few h =
 string_near : (d : BiosData) (s : StringCall) (len : ℕ) → d.last_row < 50 → refusal_in_mode (WriteString s) d len ≡ None → IsNear s.position
 unfolding refusal_in_mode
 string_near d s len few h =
-    let reason = neither (reason_in_mode (WriteString s) d) (wrong_block (string_len s) len) h in
+    let reason = neither (refusal_in_mode_besides_block (WriteString s) d) (wrong_block (string_len s) len) h in
     inside_near d s.position few (neither (no_page (page_count d) s.page) (outside_page (d.last_row + 1) d.columns s.position) reason.0).1
 
 -- the position that a service names is a word
@@ -321,8 +321,8 @@ mode_is_set : (mode : ℕ) → (mode == 0) ≡ false → mode ≢ 0
 mode_is_set mode e f = grind (arith, nat_tests)
 
 in_mode_keeps : (asked_for : Service) (fonts : FontSet) (d : BiosData) (r : Regs) (block : List ℕ) → FitsWords asked_for → AreValidData d →
-    Always AnswerKept (in_mode_plan asked_for fonts d r block)
-unfolding in_mode_plan unless_refused_plan
+    Always AnswerKept (service_in_mode_plan asked_for fonts d r block)
+unfolding service_in_mode_plan unless_refused_plan
 in_mode_keeps asked_for fonts d r block fits a =
     on_if AnswerKept (d.mode == 0) _ (unless_refused_plan (refusal_in_mode there d (length block)) there fonts d r block) (λ _. a) (λ e.
     by_refusal (mode_is_set d.mode e) (refusal_in_mode there d (length block)) refl)

@@ -23,9 +23,9 @@ use Rattle.bios_services.specs.Calls.{call_of}
 use Rattle.bios_services.specs.ModeSet.{mode_set_plan}
 use Rattle.bios_services.specs.Reasons.{◌or◌}
 use Rattle.bios_services.specs.GlyphLoads.{load_refusal, load_plan}
-use Rattle.bios_services.specs.Refusals.{service_on_page_meant, refusal_in_mode, unknown_refusal}
+use Rattle.bios_services.specs.Refusals.{service_on_page_meant, refusal_in_mode, refusal_of_unknown_call}
 use Rattle.bios_services.specs.Tables.{table_plan, table_refusal}
-use Rattle.bios_services.specs.Service.{RefusedDoNothing, CallOutcome, answer_with, call_plan, in_mode_plan, load_if_height_exists, load_unless_refused_plan, load_in_mode_plan, plan_of_service}
+use Rattle.bios_services.specs.Service.{RefusedCallsDoNothing, CallOutcome, answer_with, call_plan, service_in_mode_plan, load_if_height_exists, load_unless_refused_plan, load_in_mode_plan, plan_of_service}
 use Rattle.bios_services.specs.Service.{refusal_plan, service, set_mode_plan, table_in_mode_plan, table_unless_refused_plan, unless_refused_plan}
 use Rattle.bios_services.proofs.PlanRuns.{run_bind}
 
@@ -40,7 +40,7 @@ in_mode d why = if d.mode == 0 then Some NoMode else why
 
 -- why a call is refused with a block of this length
 abbrev pub refusal_of : Option Call → BiosData → ℕ → Option Refusal
-refusal_of None d len = Some (unknown_refusal d)
+refusal_of None d len = Some (refusal_of_unknown_call d)
 refusal_of (Some (SetMode mode keeps)) d len = no_row BadMode (mode_row mode)
 refusal_of (Some (ReadTable asked)) d len = in_mode d (table_refusal asked)
 refusal_of (Some (LoadGlyphs load)) d len = in_mode d (load_refusal load d.mode len or no_row BadHeight (mode_row_at_height d.mode load.height))
@@ -99,7 +99,7 @@ load_ends m None load fonts d r block s = load_at_ends m (mode_row_at_height d.m
 -- each call ends as its reason says
 pub call_ends : {S : Type 0} (m : BusMeaning S) (call : Option Call) (fonts : FontSet) (d : BiosData) (r : Regs) (block : List ℕ) →
     EndsBy m (refusal_of call d (length block)) (call_plan call fonts d r block) d
-unfolding table_in_mode_plan load_in_mode_plan in_mode_plan
+unfolding table_in_mode_plan load_in_mode_plan service_in_mode_plan
 call_ends m None fonts d r block s = refl
 call_ends m (Some (SetMode mode keeps)) fonts d r block s = set_mode_ends m (mode_row mode) mode keeps fonts d r s
 call_ends m (Some (ReadTable asked)) fonts d r block s =
@@ -114,7 +114,7 @@ call_ends m (Some (InMode asked)) fonts d r block s =
     if_set m (d.mode == 0) why (unless_refused_plan why there fonts d r block) d (unless_ends m why there fonts d r block) s
 
 -- so a refused service leaves the bus and the BIOS data
-pub refused_service : {S : Type 0} (m : BusMeaning S) → RefusedDoNothing m
+pub refused_service : {S : Type 0} (m : BusMeaning S) → RefusedCallsDoNothing m
 refused_service {S} m fonts d r block s e is =
     by_reason (refusal_of (call_of r) d (length block)) (call_ends m (call_of r) fonts d r block s)
   where

@@ -13,15 +13,15 @@ use Rattle.bios_services.specs.declared.call.Call.{Call}
 use Rattle.bios_services.specs.declared.call.Call.TheVariants.{LoadGlyphs, InMode}
 use Rattle.bios_services.specs.Registers.{high}
 use Rattle.bios_services.specs.Calls.{call_of}
-use Rattle.bios_services.specs.GlyphLoads.{glyphs_block}
-use Rattle.bios_services.specs.Refusals.{service_block}
+use Rattle.bios_services.specs.GlyphLoads.{glyphs_block_len}
+use Rattle.bios_services.specs.Refusals.{service_block_len}
 use Rattle.bios_services.specs.Plan.{run}
 use Rattle.bios_services.specs.Service.{service}
 
 -- how many bytes the block of a call has; None if it reads no block
 abbrev pub block_len_if_any : Option Call → Option ℕ
-block_len_if_any (Some (InMode service)) = service_block service
-block_len_if_any (Some (LoadGlyphs load)) = glyphs_block load
+block_len_if_any (Some (InMode service)) = service_block_len service
+block_len_if_any (Some (LoadGlyphs load)) = glyphs_block_len load
 block_len_if_any other = None
 
 -- how many bytes a call reads
@@ -33,14 +33,14 @@ abbrev pub is_block_at_dx : Regs → Bool
 is_block_at_dx r = high r.ax == 0x10
 
 -- no call is refused for a block of exactly the length that it reads
-abbrev pub BlocksFit : {S : Type 0} → BusMeaning S → Type 0
-BlocksFit {S} m = (fonts : FontSet) (d : BiosData) (r : Regs) (block : List ℕ) (s : S) →
+abbrev pub FittingBlocksAreAccepted : {S : Type 0} → BusMeaning S → Type 0
+FittingBlocksAreAccepted {S} m = (fonts : FontSet) (d : BiosData) (r : Regs) (block : List ℕ) (s : S) →
     length block ≡ block_len (call_of r) →
     ¬ ((run m (service fonts d r block) s).1.0 ≡ Err BadBlock)
 
 -- a call that reads some bytes is refused with a block of any other length
-abbrev pub OthersAreRefused : {S : Type 0} → BusMeaning S → Type 0
-OthersAreRefused {S} m = (fonts : FontSet) (d : BiosData) (r : Regs) (block : List ℕ) (s : S)
+abbrev pub OtherBlockLengthsAreRefused : {S : Type 0} → BusMeaning S → Type 0
+OtherBlockLengthsAreRefused {S} m = (fonts : FontSet) (d : BiosData) (r : Regs) (block : List ℕ) (s : S)
     (reply : Reply) →
     0 < block_len (call_of r) → ¬ (length block ≡ block_len (call_of r)) →
     ¬ ((run m (service fonts d r block) s).1.0 ≡ Ok reply)

@@ -15,10 +15,10 @@ use Rattle.bios_services.specs.declared.colours.ColourService.TheVariants.{SetEn
 use Rattle.bios_services.specs.declared.colours.ColourService.TheVariants.{SetMask, ReadMask}
 use Rattle.bios_services.specs.Plan.{Plan, Done, ◌>>=◌, ◌>>◌, out, inp}
 use Rattle.bios_services.specs.Registers.{with_high, with_low}
-use Rattle.bios_services.specs.Palette.{set_register_plan, set_palette_plan, set_blinking_plan}
-use Rattle.bios_services.specs.Palette.{read_register_plan}
+use Rattle.bios_services.specs.Palette.{set_attribute_register_plan, set_palette_plan, set_blinking_plan}
+use Rattle.bios_services.specs.Palette.{read_attribute_register_plan}
 use Rattle.bios_services.specs.Dac.{set_entry_plan, set_entries_plan}
-use Rattle.bios_services.specs.Reasons.{refuse_unless, or_wrong_block}
+use Rattle.bios_services.specs.Reasons.{refuse_unless, refuse_or_wrong_block}
 use Rattle.bios_services.specs.VideoRegisters.{dac_mask_port, dac_read_index_port, dac_data_port}
 
 -- a number is none of the 16 palette registers
@@ -39,28 +39,28 @@ no_entries first count = refuse_unless (has_entries first count) BadRegister
 
 -- how many bytes the block of a subfunction has: the palette registers and the overscan colour, or
 -- three of each entry; None if it reads no block
-abbrev pub colour_block : ColourService → Option ℕ
-colour_block SetPalette = Some 17
-colour_block (SetEntries first count) = Some (3 * count)
-colour_block other = None
+abbrev pub colour_block_len : ColourService → Option ℕ
+colour_block_len SetPalette = Some 17
+colour_block_len (SetEntries first count) = Some (3 * count)
+colour_block_len other = None
 
 -- why a subfunction is refused whatever its block
-abbrev pub colour_reason : ColourService → Option Refusal
-colour_reason (SetRegister register value) = no_register register
-colour_reason (SetOverscan value) = None
-colour_reason SetPalette = None
-colour_reason (SetBlinking blinking) = refuse_unless (nat_le blinking 1) BadRegister
-colour_reason (ReadRegister register) = no_register register
-colour_reason ReadOverscan = None
-colour_reason (SetEntry entry red green blue) = no_entry entry
-colour_reason (SetEntries first count) = no_entries first count
-colour_reason (ReadEntry entry) = no_entry entry
-colour_reason (SetMask mask) = None
-colour_reason ReadMask = None
+abbrev pub colour_refusal_besides_block : ColourService → Option Refusal
+colour_refusal_besides_block (SetRegister register value) = no_register register
+colour_refusal_besides_block (SetOverscan value) = None
+colour_refusal_besides_block SetPalette = None
+colour_refusal_besides_block (SetBlinking blinking) = refuse_unless (nat_le blinking 1) BadRegister
+colour_refusal_besides_block (ReadRegister register) = no_register register
+colour_refusal_besides_block ReadOverscan = None
+colour_refusal_besides_block (SetEntry entry red green blue) = no_entry entry
+colour_refusal_besides_block (SetEntries first count) = no_entries first count
+colour_refusal_besides_block (ReadEntry entry) = no_entry entry
+colour_refusal_besides_block (SetMask mask) = None
+colour_refusal_besides_block ReadMask = None
 
 -- why a subfunction is refused with a block of this length
 abbrev pub colour_refusal : ColourService → ℕ → Option Refusal
-colour_refusal service len = or_wrong_block (colour_reason service) (colour_block service) len
+colour_refusal service len = refuse_or_wrong_block (colour_refusal_besides_block service) (colour_block_len service) len
 
 -- 15: an entry of the DAC is read, red into DH, green into CH and blue into CL
 unfoldable pub read_entry_plan : ℕ → Regs → Plan Regs
@@ -74,7 +74,7 @@ read_entry_plan entry r = do
 -- 07 and 08: a register of the attribute controller is read into BH
 unfoldable pub read_register_in_bh : ℕ → ℕ → Regs → Plan Regs
 read_register_in_bh port register r = do
-  value ← read_register_plan port register
+  value ← read_attribute_register_plan port register
   Done (record r { bx = with_high r.bx value })
 
 -- 19: the DAC's mask is read into BL
@@ -86,9 +86,9 @@ read_mask_in_bl r = do
 -- what a subfunction that is not refused does and answers; the CRT controller's index is at this
 -- port
 unfoldable pub colours_plan : ColourService → ℕ → Regs → List ℕ → Plan Regs
-colours_plan (SetRegister register value) port r block = set_register_plan port register value
+colours_plan (SetRegister register value) port r block = set_attribute_register_plan port register value
     >> Done r
-colours_plan (SetOverscan value) port r block = set_register_plan port 0x11 value >> Done r
+colours_plan (SetOverscan value) port r block = set_attribute_register_plan port 0x11 value >> Done r
 colours_plan SetPalette port r block = set_palette_plan port block >> Done r
 colours_plan (SetBlinking blinking) port r block = set_blinking_plan port blinking >> Done r
 colours_plan (ReadRegister register) port r block = read_register_in_bh port register r

@@ -42,12 +42,12 @@ write_attribute_registers values =
 
 -- input status 1 is read, so that the attribute controller expects an index; the CRT controller's
 -- index is at this port
-abbrev pub expect_index : ℕ → Plan ℕ
-expect_index port = inp (port + 6)
+abbrev pub reset_attribute_flip_flop : ℕ → Plan ℕ
+reset_attribute_flip_flop port = inp (port + 6)
 
 -- the palette is shown again
 abbrev pub show_palette : ℕ → Plan (Unit {0})
 show_palette port = do
   out attribute_port palette_shown_bit
-  expect_index port
+  reset_attribute_flip_flop port
   Done tt

@@ -6,7 +6,7 @@ use Rattle.vga_bits.specs.Bits.{is_set}
 use Rattle.bios_modes.specs.Bda.{BiosData}
 use Rattle.bios_modes.specs.Fonts.{FontSet}
 use Rattle.bios_services.specs.declared.colouring.Colouring.{Colouring}
-use Rattle.bios_services.specs.declared.band.Band.{Band}
+use Rattle.bios_services.specs.declared.band.ColumnBand.{ColumnBand}
 use Rattle.bios_modes.specs.declared.kind.Kind.{Kind}
 use Rattle.bios_modes.specs.declared.kind.Kind.TheVariants.{Text, Planar, Packed}
 use Rattle.bios_services.specs.Plan.{Plan, ◌>>◌, put, get, each}
@@ -19,7 +19,7 @@ use Rattle.bios_services.specs.VideoRegisters.{map_mask_index, all_planes, data_
 use Rattle.bios_services.specs.VideoRegisters.{xor_function, replace_function}
 
 -- the column of cell q of a page of pixels, as a band
-abbrev pub cell_band : BiosData → ℕ → ℕ → Band
+abbrev pub cell_band : BiosData → ℕ → ℕ → ColumnBand
 cell_band d page q = band_of d page (q % d.columns) 1
 
 -- the row of characters in which cell q lies
@@ -27,7 +27,7 @@ abbrev pub cell_row : BiosData → ℕ → ℕ
 cell_row d q = q / d.columns
 
 -- a glyph goes to a cell in 16 colours, line by line
-unfoldable pub put_glyph : Band → ℕ → FontSet → ℕ → Plan (Unit {0})
+unfoldable pub put_glyph : ColumnBand → ℕ → FontSet → ℕ → Plan (Unit {0})
 put_glyph cell row fonts character = each (λ r. put (byte_address_in_band cell row r 0)
     (glyph_line fonts cell.lines character r)) cell.lines 0
 
@@ -38,13 +38,13 @@ put_over_latches address dots = do
   put address dots
 
 -- a glyph goes to a cell in 16 colours, each line over what was read there
-unfoldable pub put_glyph_over : Band → ℕ → FontSet → ℕ → Plan (Unit {0})
+unfoldable pub put_glyph_over : ColumnBand → ℕ → FontSet → ℕ → Plan (Unit {0})
 put_glyph_over cell row fonts character = each (λ r.
     put_over_latches (byte_address_in_band cell row r 0) (glyph_line fonts cell.lines character r))
     cell.lines 0
 
 -- a character in 16 colours: the cell becomes 0, and the planes of the colour's bits get the glyph
-unfoldable pub draw_over_zeros_plan : Band → ℕ → FontSet → ℕ → ℕ → Plan (Unit {0})
+unfoldable pub draw_over_zeros_plan : ColumnBand → ℕ → FontSet → ℕ → ℕ → Plan (Unit {0})
 draw_over_zeros_plan cell row fonts character colour = do
   fill_row cell (one_byte_filling 0x00) row
   write_sequencer map_mask_index (colour % 16)
@@ -53,7 +53,7 @@ draw_over_zeros_plan cell row fonts character colour = do
 
 -- a character in 16 colours by XOR: where the glyph has dots, the planes of the colour's bits are
 -- inverted
-unfoldable pub draw_by_xor_plan : Band → ℕ → FontSet → ℕ → ℕ → Plan (Unit {0})
+unfoldable pub draw_by_xor_plan : ColumnBand → ℕ → FontSet → ℕ → ℕ → Plan (Unit {0})
 draw_by_xor_plan cell row fonts character colour = do
   write_graphics data_rotate_index xor_function
   write_sequencer map_mask_index (colour % 16)
@@ -62,7 +62,7 @@ draw_by_xor_plan cell row fonts character colour = do
   write_graphics data_rotate_index replace_function
 
 -- a character in 16 colours; bit 7 of the colour asks for XOR
-unfoldable pub draw_planar_plan : Band → ℕ → FontSet → ℕ → ℕ → Plan (Unit {0})
+unfoldable pub draw_planar_plan : ColumnBand → ℕ → FontSet → ℕ → ℕ → Plan (Unit {0})
 draw_planar_plan cell row fonts character colour =
     if is_set colour 7 then draw_by_xor_plan cell row fonts character colour
     else draw_over_zeros_plan cell row fonts character colour
@@ -72,12 +72,12 @@ abbrev pub glyph_dot_colour : ℕ → ℕ → ℕ → ℕ
 glyph_dot_colour dots colour i = if is_set dots (7 - i) then colour else 0
 
 -- a line of a glyph in 256 colours, dot by dot
-unfoldable pub put_dots : Band → ℕ → ℕ → ℕ → ℕ → Plan (Unit {0})
+unfoldable pub put_dots : ColumnBand → ℕ → ℕ → ℕ → ℕ → Plan (Unit {0})
 put_dots cell row line dots colour = each (λ i. put (byte_address_in_band cell row line i)
     (glyph_dot_colour dots colour i)) 8 0
 
 -- a character in 256 colours, line by line
-unfoldable pub draw_packed_plan : Band → ℕ → FontSet → ℕ → ℕ → Plan (Unit {0})
+unfoldable pub draw_packed_plan : ColumnBand → ℕ → FontSet → ℕ → ℕ → Plan (Unit {0})
 draw_packed_plan cell row fonts character colour = each (λ r.
     put_dots cell row r (glyph_line fonts cell.lines character r) colour) cell.lines 0
 

@@ -16,7 +16,7 @@ use Rattle.bios_modes.specs.Kinds.{is_text}
 use Rattle.bios_services.specs.ModeSet.{write_font_plan}
 use Rattle.bios_services.specs.Cursor.{write_crtc_word_plan}
 use Rattle.bios_services.specs.Glyphs.{glyph_line}
-use Rattle.bios_services.specs.Reasons.{◌or◌, refuse_unless, or_wrong_block}
+use Rattle.bios_services.specs.Reasons.{◌or◌, refuse_unless, refuse_or_wrong_block}
 use Rattle.bios_services.specs.VideoRegisters.{miscellaneous_index, maximum_scan_line_index}
 use Rattle.bios_services.specs.VideoRegisters.{cursor_start_index}
 use Rattle.bios_services.specs.VideoRegisters.{vertical_display_end_index, underline_location_index}
@@ -57,18 +57,18 @@ pub record AreGlyphsThere (load : GlyphLoad) (len : ℕ) : Type 0 where
   pub whole : load.is_block ≡ true → len ≡ glyphs_len load
 
 -- how many bytes the block of a load has; None if it reads no block
-abbrev pub glyphs_block : GlyphLoad → Option ℕ
-glyphs_block load = if load.is_block then Some (glyphs_len load) else None
+abbrev pub glyphs_block_len : GlyphLoad → Option ℕ
+glyphs_block_len load = if load.is_block then Some (glyphs_len load) else None
 
 -- why a load is refused whatever its block: the mode is graphics, or a character is above FF
-abbrev pub load_reason : GlyphLoad → ℕ → Option Refusal
-load_reason load mode =
+abbrev pub load_refusal_besides_block : GlyphLoad → ℕ → Option Refusal
+load_refusal_besides_block load mode =
     refuse_unless (is_text mode) WrongKind
     or refuse_unless (nat_le (load.first + load.count) 256) CountPast
 
 -- why a load is refused with a block of this length
 abbrev pub load_refusal : GlyphLoad → ℕ → ℕ → Option Refusal
-load_refusal load mode len = or_wrong_block (load_reason load mode) (glyphs_block load) len
+load_refusal load mode len = refuse_or_wrong_block (load_refusal_besides_block load mode) (glyphs_block_len load) len
 
 -- scan line r of character c: a byte of the block or of the font
 abbrev pub loaded_line : FontSet → GlyphLoad → List ℕ → ℕ → ℕ → ℕ

@@ -11,7 +11,7 @@ use Rattle.bios_modes.specs.Fonts.{FontSet, glyph_row}
 use Rattle.bios_services.specs.Plan.{Plan, Done, ◌>>◌, out, put, each}
 use Rattle.bios_services.specs.Cycles.{write_sequencer, write_graphics, write_crtc}
 use Rattle.bios_services.specs.Cycles.{write_registers_from_0, write_attribute_registers}
-use Rattle.bios_services.specs.Cycles.{expect_index, show_palette}
+use Rattle.bios_services.specs.Cycles.{reset_attribute_flip_flop, show_palette}
 use Rattle.bios_services.specs.VideoRegisters.{miscellaneous_output_port, sequencer_port}
 use Rattle.bios_services.specs.VideoRegisters.{graphics_port}
 use Rattle.bios_services.specs.VideoRegisters.{dac_mask_port, dac_write_index_port}
@@ -34,7 +34,7 @@ write_registers_plan row = do
       0x7F)
   write_registers_from_0 row.crtc_address row.crtc
   write_registers_from_0 graphics_port row.graphics
-  expect_index row.crtc_address
+  reset_attribute_flip_flop row.crtc_address
   write_attribute_registers row.attribute
   show_palette row.crtc_address
 
@@ -83,25 +83,25 @@ unfoldable pub write_blanks_plan : ℕ → ℕ → Plan (Unit {0})
 write_blanks_plan base n = each (λ w. put (base + w) (blank_byte w)) n 0
 
 -- n bytes of 0 are written from A0000 on
-unfoldable pub clear_plan : ℕ → Plan (Unit {0})
-clear_plan n = each (λ w. put (0xA0000 + w) 0) n 0
+unfoldable pub clear_graphics_memory_plan : ℕ → Plan (Unit {0})
+clear_graphics_memory_plan n = each (λ w. put (0xA0000 + w) 0) n 0
 
 -- what a text mode writes besides registers and palette: the font, and blank cells
-unfoldable pub write_text_plan : ModeRow → Bool → List ℕ → Plan (Unit {0})
-write_text_plan row keeps font = do
+unfoldable pub write_text_memory_plan : ModeRow → Bool → List ℕ → Plan (Unit {0})
+write_text_memory_plan row keeps font = do
   write_font_plan (glyph_row 16 font) 16 256 0 (slice_index row.graphics miscellaneous_index)
   if keeps then Done tt else write_blanks_plan row.base 0x8000
 
 -- what a mode writes besides registers and palette; a graphics mode clears its memory
-unfoldable pub write_memory_plan : ModeRow → Bool → List ℕ → Plan (Unit {0})
-write_memory_plan row keeps font =
-    if is_text_kind row.kind then write_text_plan row keeps font
+unfoldable pub write_mode_memory_plan : ModeRow → Bool → List ℕ → Plan (Unit {0})
+write_mode_memory_plan row keeps font =
+    if is_text_kind row.kind then write_text_memory_plan row keeps font
     else if keeps then Done tt
-    else clear_plan 0x10000
+    else clear_graphics_memory_plan 0x10000
 
 -- a mode is set; bit 7 of AL keeps the memory
 unfoldable pub mode_set_plan : ModeRow → Bool → FontSet → Plan (Unit {0})
 mode_set_plan row keeps fonts = do
   write_registers_plan row
   mask_and_palette_plan row.palette 256
-  write_memory_plan row keeps fonts.f16
+  write_mode_memory_plan row keeps fonts.f16

@@ -10,7 +10,7 @@ pub record PageState : Type 0 where
   pub bda : BiosData
   pub number : ℕ
 
--- these three together
+-- a page: the fonts of its characters, the data of its mode, and its number
 abbrev pub page_of : FontSet → BiosData → ℕ → PageState
 page_of fonts bda number = record { fonts = fonts; bda = bda; number = number }
 

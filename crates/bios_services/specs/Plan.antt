@@ -57,7 +57,7 @@ abbrev pub each : (ℕ → Plan (Unit {0})) → ℕ → ℕ → Plan (Unit {0})
 each f zero i = Done tt
 each f (suc n) i = f i >>= λ _. each f n (i + 1)
 
--- the same, in descending order
+-- a plan for each of n numbers from i on, the last number first
 abbrev pub each_down : (ℕ → Plan (Unit {0})) → ℕ → ℕ → Plan (Unit {0})
 each_down f zero i = Done tt
 each_down f (suc n) i = f (i + n) >>= λ _. each_down f n i

@@ -56,6 +56,6 @@ wrong_block size len = refuse_unless (len == size) BadBlock
 
 -- a reason, or else that the block is wrong; a call that reads none may be given a block of any
 -- length
-abbrev pub or_wrong_block : Option Refusal → Option ℕ → ℕ → Option Refusal
-or_wrong_block why None len = why
-or_wrong_block why (Some size) len = why or wrong_block size len
+abbrev pub refuse_or_wrong_block : Option Refusal → Option ℕ → ℕ → Option Refusal
+refuse_or_wrong_block why None len = why
+refuse_or_wrong_block why (Some size) len = why or wrong_block size len

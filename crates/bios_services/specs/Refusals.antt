@@ -17,9 +17,9 @@ use Rattle.bios_services.specs.Cursor.{cursor_cell_number, cursor_position_of}
 use Rattle.bios_services.specs.Cells.{cells_per_page}
 use Rattle.bios_services.specs.Pixels.{pixels_across, pixels_down}
 use Rattle.bios_services.specs.Strings.{string_len}
-use Rattle.bios_services.specs.Colours.{colour_block, colour_reason}
+use Rattle.bios_services.specs.Colours.{colour_block_len, colour_refusal_besides_block}
 use Rattle.bios_services.specs.Reasons.{◌or◌, no_pixels, no_page, outside_cells, outside_page}
-use Rattle.bios_services.specs.Reasons.{outside_pixels, past_cells, or_wrong_block}
+use Rattle.bios_services.specs.Reasons.{outside_pixels, past_cells, refuse_or_wrong_block}
 
 -- the page that a number means in a mode of this many pages; a mode of one page means page 0 by any
 -- number
@@ -45,49 +45,49 @@ service_on_page_meant d (WriteString s) =
 service_on_page_meant d service = service
 
 -- how many bytes the block of a service has; None if it reads no block
-abbrev pub service_block : Service → Option ℕ
-service_block (Colours service) = colour_block service
-service_block (WriteString string) = Some (string_len string)
-service_block other = None
+abbrev pub service_block_len : Service → Option ℕ
+service_block_len (Colours service) = colour_block_len service
+service_block_len (WriteString string) = Some (string_len string)
+service_block_len other = None
 
 -- why a service is refused whatever its block: the first of its reasons
-abbrev pub reason_in_mode : Service → BiosData → Option Refusal
-reason_in_mode (SetCursorType cursor_type) d = None
-reason_in_mode (SetCursor page position) d = no_page (page_count d) page
-reason_in_mode (ReadCursor page) d = no_page (page_count d) page
-reason_in_mode (SelectPage page) d = no_page (page_count d) page
-reason_in_mode (ScrollUp scroll) d = None
-reason_in_mode (ScrollDown scroll) d = None
-reason_in_mode (ReadCell page) d =
+abbrev pub refusal_in_mode_besides_block : Service → BiosData → Option Refusal
+refusal_in_mode_besides_block (SetCursorType cursor_type) d = None
+refusal_in_mode_besides_block (SetCursor page position) d = no_page (page_count d) page
+refusal_in_mode_besides_block (ReadCursor page) d = no_page (page_count d) page
+refusal_in_mode_besides_block (SelectPage page) d = no_page (page_count d) page
+refusal_in_mode_besides_block (ScrollUp scroll) d = None
+refusal_in_mode_besides_block (ScrollDown scroll) d = None
+refusal_in_mode_besides_block (ReadCell page) d =
     no_page (page_count d) page
     or outside_cells (cells_per_page d) (cursor_cell_number d page)
-reason_in_mode (WriteCells cells) d =
+refusal_in_mode_besides_block (WriteCells cells) d =
     no_page (page_count d) cells.page
     or outside_cells (cells_per_page d) (cursor_cell_number d cells.page)
     or past_cells (cells_per_page d) (cursor_cell_number d cells.page) cells.count
-reason_in_mode (WritePixel page x y colour) d =
+refusal_in_mode_besides_block (WritePixel page x y colour) d =
     no_pixels d.mode
     or no_page (page_count d) page
     or outside_pixels (pixels_across d) (pixels_down d) x y
-reason_in_mode (ReadPixel page x y) d =
+refusal_in_mode_besides_block (ReadPixel page x y) d =
     no_pixels d.mode
     or no_page (page_count d) page
     or outside_pixels (pixels_across d) (pixels_down d) x y
-reason_in_mode (Teletype character colour) d =
+refusal_in_mode_besides_block (Teletype character colour) d =
     outside_page (d.last_row + 1) d.columns (cursor_position_of d d.page)
-reason_in_mode ReadMode d = None
-reason_in_mode (Colours service) d = colour_reason service
-reason_in_mode ReadAdapter d = None
-reason_in_mode (WriteString string) d =
+refusal_in_mode_besides_block ReadMode d = None
+refusal_in_mode_besides_block (Colours service) d = colour_refusal_besides_block service
+refusal_in_mode_besides_block ReadAdapter d = None
+refusal_in_mode_besides_block (WriteString string) d =
     no_page (page_count d) string.page
     or outside_page (d.last_row + 1) d.columns string.position
-reason_in_mode ReadDisplay d = None
+refusal_in_mode_besides_block ReadDisplay d = None
 
 -- why a service is refused with a block of this length
 unfoldable pub refusal_in_mode : Service → BiosData → ℕ → Option Refusal
 refusal_in_mode service d len =
-    or_wrong_block (reason_in_mode service d) (service_block service) len
+    refuse_or_wrong_block (refusal_in_mode_besides_block service d) (service_block_len service) len
 
 -- why a call that asks for no service is refused
-abbrev pub unknown_refusal : BiosData → Refusal
-unknown_refusal d = if d.mode == 0 then NoMode else BadFunction
+abbrev pub refusal_of_unknown_call : BiosData → Refusal
+refusal_of_unknown_call d = if d.mode == 0 then NoMode else BadFunction

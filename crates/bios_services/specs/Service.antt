@@ -50,7 +50,7 @@ use Rattle.bios_services.specs.Strings.{string_plan}
 use Rattle.bios_services.specs.GlyphLoads.{load_refusal, load_plan}
 use Rattle.bios_services.specs.Registers.{low, with_low}
 use Rattle.bios_services.specs.Calls.{call_of}
-use Rattle.bios_services.specs.Refusals.{service_on_page_meant, refusal_in_mode, unknown_refusal}
+use Rattle.bios_services.specs.Refusals.{service_on_page_meant, refusal_in_mode, refusal_of_unknown_call}
 
 -- the registers that a service answers, and the BIOS data after it
 abbrev pub ServiceOutcome : Type 0
@@ -155,8 +155,8 @@ unless_refused_plan None service fonts d r block = do
   Done (answer_of_registers outcome.0 outcome.1)
 
 -- a service that needs a mode, with the page that its number means
-unfoldable pub in_mode_plan : Service → FontSet → BiosData → Regs → List ℕ → Plan CallOutcome
-in_mode_plan service fonts d r block = if d.mode == 0 then refusal_plan NoMode d
+unfoldable pub service_in_mode_plan : Service → FontSet → BiosData → Regs → List ℕ → Plan CallOutcome
+service_in_mode_plan service fonts d r block = if d.mode == 0 then refusal_plan NoMode d
     else (let there = service_on_page_meant d service in
     unless_refused_plan (refusal_in_mode there d (length block)) there fonts d r block)
 
@@ -197,12 +197,12 @@ load_in_mode_plan load fonts d r block = if d.mode == 0 then refusal_plan NoMode
 
 -- the plan of a call; one that asks for no service is refused
 abbrev pub call_plan : Option Call → FontSet → BiosData → Regs → List ℕ → Plan CallOutcome
-call_plan None fonts d r block = refusal_plan (unknown_refusal d) d
+call_plan None fonts d r block = refusal_plan (refusal_of_unknown_call d) d
 call_plan (Some (SetMode mode keeps)) fonts d r block =
     set_mode_plan (mode_row mode) mode keeps fonts d r
 call_plan (Some (ReadTable service)) fonts d r block = table_in_mode_plan service d r
 call_plan (Some (LoadGlyphs load)) fonts d r block = load_in_mode_plan load fonts d r block
-call_plan (Some (InMode service)) fonts d r block = in_mode_plan service fonts d r block
+call_plan (Some (InMode service)) fonts d r block = service_in_mode_plan service fonts d r block
 
 -- the plan of the call that the registers ask for
 abbrev pub service : FontSet → BiosData → Regs → List ℕ → Plan CallOutcome
@@ -223,8 +223,8 @@ MayAnswer m plan s d (Err (Refused why)) t after = (t, (Err why, after)) ≡ run
 MayAnswer m plan s d (Err OutOfMemory) t after = (t ≡ s) × (after ≡ d)
 
 -- on this bus a refused call leaves the bus and the BIOS data
-abbrev pub RefusedDoNothing : {S : Type 0} → BusMeaning S → Type 0
-RefusedDoNothing {S} m = (fonts : FontSet) (d : BiosData) (r : Regs) (block : List ℕ) (s : S)
+abbrev pub RefusedCallsDoNothing : {S : Type 0} → BusMeaning S → Type 0
+RefusedCallsDoNothing {S} m = (fonts : FontSet) (d : BiosData) (r : Regs) (block : List ℕ) (s : S)
     (e : Refusal)
     → (run m (service fonts d r block) s).1.0 ≡ Err e →
     run m (service fonts d r block) s ≡ (s, (Err e, d))

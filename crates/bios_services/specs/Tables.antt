@@ -9,7 +9,7 @@ use Rattle.bios_services.specs.declared.reply.Table.TheVariants.{Empty, Palette,
 use Rattle.bios_services.specs.declared.tables.TableService.{TableService}
 use Rattle.bios_services.specs.declared.tables.TableService.TheVariants.{ReadPalette, ReadEntries}
 use Rattle.bios_services.specs.Plan.{Plan, Done, ◌>>=◌, ◌>>◌, out, inp, gather}
-use Rattle.bios_services.specs.Cycles.{expect_index}
+use Rattle.bios_services.specs.Cycles.{reset_attribute_flip_flop}
 use Rattle.bios_services.specs.Palette.{read_register_at_index_plan}
 use Rattle.bios_services.specs.Colours.{has_entries, no_entries}
 use Rattle.bios_services.specs.VideoRegisters.{dac_read_index_port, dac_data_port}
@@ -39,7 +39,7 @@ read_palette_registers_plan port =
 -- this port
 unfoldable pub read_palette_and_overscan_plan : ℕ → Plan (List ℕ)
 read_palette_and_overscan_plan port = do
-  expect_index port
+  reset_attribute_flip_flop port
   read_palette_registers_plan port
 
 -- n bytes are read from the DAC's data

@@ -92,7 +92,8 @@ graphics_mode_index = 0x05
 abbrev pub write_and_read_mode_0 : ℕ
 write_and_read_mode_0 = 0x00
 
--- graphics mode: the same, but even and odd addresses are read from different planes
+-- graphics mode: write mode 0 and read mode 0, and even and odd addresses are read from different
+-- planes
 abbrev pub odd_and_even_access : ℕ
 odd_and_even_access = 0x10
 

@@ -6,16 +6,16 @@ ghost use Rattle.bios_services.specs.Bands.{IsBand, byte_address_in_band, band_o
 ghost use Rattle.bios_services.specs.Bands.{copy_line as copy_line_plan, copy_row as copy_row_plan};
 ghost use Rattle.bios_services.specs.Bands.{move_rows as move_rows_plan};
 ghost use Rattle.bios_services.specs.Bands.{fill_line as fill_line_plan, fill_row as fill_row_plan};
-ghost use Rattle.bios_services.specs.Bands.{fill_rows as fill_rows_plan, set_access_plan};
+ghost use Rattle.bios_services.specs.Bands.{fill_rows as fill_rows_plan, set_read_write_mode_plan};
 ghost use Rattle.bios_services.specs.Bands.{fill_plan};
 ghost use Rattle.bios_services.specs.Bands.{scroll_rows as scroll_rows_plan};
 
 use crate::cells::page_address;
 use crate::cycles::{move_bytes, put_in_turn, write_graphics, write_sequencer};
 use crate::direction::Direction;
-use crate::filling::Filling;
+use crate::filling::AlternatingBytes;
 use crate::kind::{Kind, by_kind, column_bytes, kind_of, row_lines};
-use crate::shift::Shift;
+use crate::shift::RowShift;
 use crate::video_registers::{
     ALL_BITS, ALL_PLANES, BYTE_ACCESS, COPY_LATCHES, GRAPHICS_MODE, MAP_MASK,
 };
@@ -24,7 +24,7 @@ use vga_card::Bus;
 
 /// Neighbouring columns of a page, as bytes of its lines.
 #[derive(Clone, Copy)]
-pub struct Band {
+pub struct ColumnBand {
     /// How the mode uses the memory.
     pub kind: Kind,
     /// The address of the page.
@@ -40,15 +40,15 @@ pub struct Band {
 }
 
 /// Sets the graphics controller's read and write mode, in 16 colours only.
-pub(crate) fn set_access<B: Bus>(bus: &mut B, kind: Kind, mode: u8)
-    ensures { bus.new ≡ (run B.meaning (set_access_plan kind mode) bus.old).0 }
+pub(crate) fn set_read_write_mode<B: Bus>(bus: &mut B, kind: Kind, mode: u8)
+    ensures { bus.new ≡ (run B.meaning (set_read_write_mode_plan kind mode) bus.old).0 }
 {
     by_kind!(kind, Text => {}, Planar => write_graphics(bus, GRAPHICS_MODE, mode), Packed => {})
 }
 
-impl Band {
+impl ColumnBand {
     /// `width` columns of a page, from column `left` on.
-    pub(crate) fn of_columns(bda: &Bda, page: u8, left: u32, width: u32) -> Band
+    pub(crate) fn of_columns(bda: &Bda, page: u8, left: u32, width: u32) -> ColumnBand
         requires data { IsModeSet bda.now }
         requires page { page < page_count bda.now }
         requires columns { left + width ≤ 80 }
@@ -57,7 +57,7 @@ impl Band {
     {
         let kind = kind_of(bda.mode());
         let bytes = column_bytes(kind);
-        Band {
+        ColumnBand {
             kind,
             start: page_address(bda, page),
             pitch: bytes * bda.columns() as u32,
@@ -106,10 +106,10 @@ impl Band {
         }
     }
 
-    /// Makes `count` rows from `top` on copies of the rows n below them, the highest row first; or
-    /// copies them n rows down, the lowest row first.
+    /// Copies the rows n below to `count` rows from `top` on, the highest row first; or copies
+    /// these rows to those n below them, the lowest row first.
     #[tactic(auto, using(crate::proofs::PlanRuns::run_bind), unfolding(crate::specs::Bands::move_rows))]
-    fn move_rows<B: Bus>(self, bus: &mut B, shift: Shift, top: u32, count: u32)
+    fn move_rows<B: Bus>(self, bus: &mut B, shift: RowShift, top: u32, count: u32)
         requires band { IsBand self }
         requires rows { top + count + shift.rows ≤ rows_bound }
         ensures { bus.new ≡ (run B.meaning (move_rows_plan self shift.direction shift.rows top
@@ -131,7 +131,7 @@ impl Band {
 
     /// Fills a line of a row.
     #[tactic(auto, using(crate::proofs::PlanRuns::run_bind), unfolding(crate::specs::Bands::fill_line))]
-    fn fill_line<B: Bus>(self, bus: &mut B, filling: Filling, row: u32, line: u32)
+    fn fill_line<B: Bus>(self, bus: &mut B, filling: AlternatingBytes, row: u32, line: u32)
         requires band { IsBand self }
         requires row { row < cells_bound }
         requires line { line ≤ 16 }
@@ -143,7 +143,7 @@ impl Band {
 
     /// Fills a row.
     #[tactic(auto, using(crate::proofs::PlanRuns::run_bind), unfolding(crate::specs::Bands::fill_row))]
-    pub(crate) fn fill_row<B: Bus>(self, bus: &mut B, filling: Filling, row: u32)
+    pub(crate) fn fill_row<B: Bus>(self, bus: &mut B, filling: AlternatingBytes, row: u32)
         requires band { IsBand self }
         requires row { row < cells_bound }
         ensures { bus.new ≡ (run B.meaning (fill_row_plan self filling row) bus.old).0 }
@@ -155,7 +155,7 @@ impl Band {
 
     /// Fills `count` rows from `top` on.
     #[tactic(auto, using(crate::proofs::PlanRuns::run_bind), unfolding(crate::specs::Bands::fill_rows))]
-    fn fill_rows<B: Bus>(self, bus: &mut B, filling: Filling, top: u32, count: u32)
+    fn fill_rows<B: Bus>(self, bus: &mut B, filling: AlternatingBytes, top: u32, count: u32)
         requires band { IsBand self }
         requires rows { top + count ≤ rows_bound }
         ensures { bus.new ≡ (run B.meaning (fill_rows_plan self filling top count) bus.old).0 }
@@ -174,21 +174,21 @@ impl Band {
     {
         by_kind!(
             self.kind,
-            Text => self.fill_rows(bus, Filling::blank_cells(colour), top, count),
+            Text => self.fill_rows(bus, AlternatingBytes::blank_cells(colour), top, count),
             Planar => {
-                self.fill_rows(bus, Filling::one_byte_everywhere(0x00), top, count);
+                self.fill_rows(bus, AlternatingBytes::one_byte_everywhere(0x00), top, count);
                 write_sequencer(bus, MAP_MASK, colour % 16);
-                self.fill_rows(bus, Filling::one_byte_everywhere(ALL_BITS), top, count);
+                self.fill_rows(bus, AlternatingBytes::one_byte_everywhere(ALL_BITS), top, count);
                 write_sequencer(bus, MAP_MASK, ALL_PLANES);
             },
-            Packed => self.fill_rows(bus, Filling::one_byte_everywhere(colour), top, count),
+            Packed => self.fill_rows(bus, AlternatingBytes::one_byte_everywhere(colour), top, count),
         )
     }
 
     /// Moves rows up or down, and fills the rows that they leave: the last ones after a move up,
     /// the first ones after a move down.
     #[tactic(auto, using(crate::proofs::PlanRuns::run_bind), unfolding(crate::specs::Bands::scroll_rows))]
-    pub(crate) fn scroll_rows<B: Bus>(self, bus: &mut B, shift: Shift, top: u32, height: u32)
+    pub(crate) fn scroll_rows<B: Bus>(self, bus: &mut B, shift: RowShift, top: u32, height: u32)
         requires band { IsBand self }
         requires rows { top + height ≤ rows_bound }
         requires few { shift.rows ≤ height }
@@ -196,9 +196,9 @@ impl Band {
             shift.rows shift.colour) bus.old).0 }
     {
         let stay = height - shift.rows;
-        set_access(bus, self.kind, COPY_LATCHES);
+        set_read_write_mode(bus, self.kind, COPY_LATCHES);
         self.move_rows(bus, shift, top, stay);
-        set_access(bus, self.kind, BYTE_ACCESS);
+        set_read_write_mode(bus, self.kind, BYTE_ACCESS);
         let first_new = shift.direction.first_row_to_fill(top, stay);
         self.fill(bus, shift.colour, first_new, shift.rows);
     }

@@ -5,13 +5,13 @@ ghost use Rattle.bios_services.specs.Plan.{run};
 ghost use Rattle.bios_services.specs.Reasons.{reason_of};
 ghost use Rattle.bios_services.specs.Colours.{no_register as no_register_of};
 ghost use Rattle.bios_services.specs.Colours.{no_entry as no_entry_of, no_entries as no_entries_of};
-ghost use Rattle.bios_services.specs.Colours.{colour_block, colour_reason as colour_reason_of};
+ghost use Rattle.bios_services.specs.Colours.{colour_block_len, colour_refusal_besides_block as colour_reason_of};
 ghost use Rattle.bios_services.specs.Colours.{colour_refusal, read_entry_plan};
 ghost use Rattle.bios_services.specs.Colours.{read_register_in_bh, read_mask_in_bl, colours_plan};
 
 use crate::cycles::{inp, out};
 use crate::dac::{set_entries, set_entry};
-use crate::palette::{read_register, set_blinking, set_palette, set_register};
+use crate::palette::{read_register, set_attribute_register, set_blinking, set_palette};
 use crate::reasons::refuse_unless;
 use crate::regs::{Regs, with_high, with_low};
 use crate::video_registers::{DAC_DATA, DAC_MASK, DAC_READ_INDEX, OVERSCAN};
@@ -93,7 +93,7 @@ pub(crate) fn no_entries(first: u16, count: u16) -> Result<(), Refusal>
 impl ColourService {
     /// How many bytes the block of a subfunction has, if it reads one.
     pub(crate) fn block(self) -> Option<usize>
-        ensures { result ≡ colour_block self }
+        ensures { result ≡ colour_block_len self }
     {
         match self {
             ColourService::SetPalette => Some(17),
@@ -104,7 +104,7 @@ impl ColourService {
 }
 
 /// Refuses a subfunction, whatever its block, if there is a reason.
-pub(crate) fn colour_reason(service: ColourService) -> Result<(), Refusal>
+pub(crate) fn colour_refusal_besides_block(service: ColourService) -> Result<(), Refusal>
     ensures { reason_of result ≡ colour_reason_of service }
 {
     match service {
@@ -160,7 +160,7 @@ fn answer_mask<B: Bus>(bus: &mut B, regs: &mut Regs)
     regs.bx = with_low(regs.bx, mask);
 }
 
-/// Does a subfunction that is not refused.
+/// Does a subfunction of function 10 that is not refused, and answers its registers.
 #[tactic(auto, using(crate::proofs::PlanRuns::run_bind), unfolding(crate::specs::Colours::colours_plan))]
 pub(crate) fn perform_colours<B: Bus>(
     bus: &mut B,
@@ -175,8 +175,10 @@ pub(crate) fn perform_colours<B: Bus>(
         bus.old }
 {
     match service {
-        ColourService::SetRegister { register, value } => set_register(bus, port, register, value),
-        ColourService::SetOverscan { value } => set_register(bus, port, OVERSCAN, value),
+        ColourService::SetRegister { register, value } => set_attribute_register(
+            bus, port, register, value,
+        ),
+        ColourService::SetOverscan { value } => set_attribute_register(bus, port, OVERSCAN, value),
         ColourService::SetPalette => set_palette(bus, port, block),
         ColourService::SetBlinking { blinking } => set_blinking(bus, port, blinking),
         ColourService::ReadRegister { register } => answer_register(bus, port, register, regs),

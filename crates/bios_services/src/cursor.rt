@@ -35,7 +35,7 @@ pub(crate) fn cursor_cell_number(bda: &Bda, page: u8) -> u32
 
 /// Writes a word to two registers of the CRT controller, the high byte to register i.
 #[tactic(auto, using(crate::proofs::PlanRuns::run_bind), unfolding(crate::specs::Cursor::write_crtc_word_plan))]
-pub(crate) fn write_word<B: Bus>(bus: &mut B, port: u16, i: u8, n: u16)
+pub(crate) fn write_crtc_word<B: Bus>(bus: &mut B, port: u16, i: u8, n: u16)
     requires port { port < ports_bound }
     requires register { i < 255 }
     ensures { bus.new ≡ (run B.meaning (write_crtc_word_plan port i n) bus.old).0 }
@@ -63,7 +63,7 @@ pub(crate) fn show_cursor<B: Bus>(bus: &mut B, bda: &Bda, page: u8)
     ensures { bus.new ≡ (run B.meaning (show_cursor_plan bda.now page) bus.old).0 }
 {
     if is_text(bda.mode()) && page == bda.page() {
-        write_word(
+        write_crtc_word(
             bus,
             bda.crtc_address(),
             CURSOR_ADDRESS,
@@ -113,7 +113,7 @@ pub(crate) fn show_page<B: Bus>(bus: &mut B, bda: &mut Bda, page: u8)
     } else {
         start
     };
-    write_word(bus, bda.crtc_address(), START_ADDRESS, address as u16);
+    write_crtc_word(bus, bda.crtc_address(), START_ADDRESS, address as u16);
     bda.set_page(page);
     bda.set_start(start as u16);
     show_cursor(bus, bda, page);

@@ -10,7 +10,7 @@ ghost use Rattle.bios_services.specs.Cycles.{write_graphics as graphics_plan};
 ghost use Rattle.bios_services.specs.Cycles.{write_attribute_register as attribute_plan};
 ghost use Rattle.bios_services.specs.Cycles.{write_registers_from_0 as group_plan};
 ghost use Rattle.bios_services.specs.Cycles.{write_attribute_registers as attribute_group_plan};
-ghost use Rattle.bios_services.specs.Cycles.{expect_index as expect_index_plan};
+ghost use Rattle.bios_services.specs.Cycles.{reset_attribute_flip_flop as expect_index_plan};
 ghost use Rattle.bios_services.specs.Cycles.{show_palette as show_palette_plan};
 
 use crate::video_registers::{ATTRIBUTE, GRAPHICS, PALETTE_SHOWN, SEQUENCER};
@@ -130,7 +130,7 @@ pub(crate) fn write_attribute_registers<B: Bus>(bus: &mut B, values: &[u8])
 }
 
 /// Reads input status 1, so that the attribute controller expects an index.
-pub(crate) fn expect_index<B: Bus>(bus: &mut B, crtc_address: u16)
+pub(crate) fn reset_attribute_flip_flop<B: Bus>(bus: &mut B, crtc_address: u16)
     requires { crtc_address < ports_bound }
     ensures { bus.new ≡ (run B.meaning (expect_index_plan crtc_address) bus.old).0 }
 {
@@ -143,5 +143,5 @@ pub(crate) fn show_palette<B: Bus>(bus: &mut B, crtc_address: u16)
     ensures { bus.new ≡ (run B.meaning (show_palette_plan crtc_address) bus.old).0 }
 {
     out(bus, ATTRIBUTE, PALETTE_SHOWN);
-    expect_index(bus, crtc_address);
+    reset_attribute_flip_flop(bus, crtc_address);
 }

@@ -4,21 +4,21 @@ ghost use Rattle.bios_services.specs.Bounds.{IsModeSet, page_count, cells_bound}
 ghost use Rattle.bios_services.specs.Bands.{IsBand, byte_address_in_band};
 ghost use Rattle.bios_services.specs.Drawing.{cell_band, cell_row};
 
-use crate::band::Band;
+use crate::band::ColumnBand;
 use bios_modes::Bda;
 
 /// A cell of a page of pixels.
 #[derive(Clone, Copy)]
-pub struct DotCell {
+pub struct GraphicsCell {
     /// Its column, as a band of the page.
-    pub band: Band,
+    pub band: ColumnBand,
     /// The row of characters in which it lies.
     pub row: u32,
 }
 
-impl DotCell {
+impl GraphicsCell {
     /// Cell q of a page.
-    pub(crate) fn of_columns(bda: &Bda, page: u8, q: u32) -> DotCell
+    pub(crate) fn of_columns(bda: &Bda, page: u8, q: u32) -> GraphicsCell
         requires data { IsModeSet bda.now }
         requires page { page < page_count bda.now }
         requires cell { q < cells_bound }
@@ -28,8 +28,8 @@ impl DotCell {
         ensures row { result.row < cells_bound }
     {
         let columns = bda.columns() as u32;
-        DotCell {
-            band: Band::of_columns(bda, page, q % columns, 1),
+        GraphicsCell {
+            band: ColumnBand::of_columns(bda, page, q % columns, 1),
             row: q / columns,
         }
     }

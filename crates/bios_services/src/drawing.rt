@@ -15,8 +15,8 @@ ghost use Rattle.bios_services.specs.Page.{IsPage};
 use crate::cells::{cell_address, write_cell};
 use crate::colouring::Colouring;
 use crate::cycles::{get, put, write_graphics, write_sequencer};
-use crate::dot_cell::DotCell;
-use crate::filling::Filling;
+use crate::dot_cell::GraphicsCell;
+use crate::filling::AlternatingBytes;
 use crate::glyphs::glyph_line;
 use crate::kind::{by_kind, kind_of};
 use crate::page::Page;
@@ -27,7 +27,7 @@ use vga_card::Bus;
 
 /// Writes a glyph to a cell in 16 colours, line by line.
 #[tactic(auto, using(crate::proofs::PlanRuns::run_bind), unfolding(crate::specs::Drawing::put_glyph))]
-fn put_glyph<B: Bus>(bus: &mut B, cell: DotCell, fonts: &Fonts, character: u8)
+fn put_glyph<B: Bus>(bus: &mut B, cell: GraphicsCell, fonts: &Fonts, character: u8)
     requires band { IsBand cell.band }
     requires row { cell.row < cells_bound }
     ensures { bus.new ≡ (run B.meaning (put_glyph_plan cell.band cell.row fonts.now character)
@@ -49,7 +49,7 @@ fn put_over_latches<B: Bus>(bus: &mut B, address: u32, dots: u8)
 
 /// Writes a glyph to a cell in 16 colours, each line over what was read there.
 #[tactic(auto, using(crate::proofs::PlanRuns::run_bind), unfolding(crate::specs::Drawing::put_glyph_over))]
-fn put_glyph_over<B: Bus>(bus: &mut B, cell: DotCell, fonts: &Fonts, character: u8)
+fn put_glyph_over<B: Bus>(bus: &mut B, cell: GraphicsCell, fonts: &Fonts, character: u8)
     requires band { IsBand cell.band }
     requires row { cell.row < cells_bound }
     ensures { bus.new ≡ (run B.meaning (put_glyph_over_plan cell.band cell.row fonts.now character)
@@ -63,7 +63,13 @@ fn put_glyph_over<B: Bus>(bus: &mut B, cell: DotCell, fonts: &Fonts, character: 
 
 /// Draws a character in 16 colours over pixels 0.
 #[tactic(auto, using(crate::proofs::PlanRuns::run_bind), unfolding(crate::specs::Drawing::draw_over_zeros_plan))]
-fn draw_over_zeros<B: Bus>(bus: &mut B, cell: DotCell, fonts: &Fonts, character: u8, colour: u8)
+fn draw_over_zeros<B: Bus>(
+    bus: &mut B,
+    cell: GraphicsCell,
+    fonts: &Fonts,
+    character: u8,
+    colour: u8,
+)
     requires band { IsBand cell.band }
     requires row { cell.row < cells_bound }
     ensures { bus.new ≡ (run B.meaning (draw_over_zeros_plan cell.band cell.row fonts.now character
@@ -71,7 +77,7 @@ fn draw_over_zeros<B: Bus>(bus: &mut B, cell: DotCell, fonts: &Fonts, character:
         bus.old).0 }
 {
     cell.band
-        .fill_row(bus, Filling::one_byte_everywhere(0x00), cell.row);
+        .fill_row(bus, AlternatingBytes::one_byte_everywhere(0x00), cell.row);
     write_sequencer(bus, MAP_MASK, colour % 16);
     put_glyph(bus, cell, fonts, character);
     write_sequencer(bus, MAP_MASK, ALL_PLANES);
@@ -79,7 +85,7 @@ fn draw_over_zeros<B: Bus>(bus: &mut B, cell: DotCell, fonts: &Fonts, character:
 
 /// Draws a character in 16 colours by XOR.
 #[tactic(auto, using(crate::proofs::PlanRuns::run_bind), unfolding(crate::specs::Drawing::draw_by_xor_plan))]
-fn draw_by_xor<B: Bus>(bus: &mut B, cell: DotCell, fonts: &Fonts, character: u8, colour: u8)
+fn draw_by_xor<B: Bus>(bus: &mut B, cell: GraphicsCell, fonts: &Fonts, character: u8, colour: u8)
     requires band { IsBand cell.band }
     requires row { cell.row < cells_bound }
     ensures { bus.new ≡ (run B.meaning (draw_by_xor_plan cell.band cell.row fonts.now character
@@ -95,7 +101,7 @@ fn draw_by_xor<B: Bus>(bus: &mut B, cell: DotCell, fonts: &Fonts, character: u8,
 
 /// Draws a character in 16 colours, by XOR if bit 7 of the colour is 1.
 #[tactic(auto, unfolding(crate::specs::Drawing::draw_planar_plan))]
-fn draw_planar<B: Bus>(bus: &mut B, cell: DotCell, fonts: &Fonts, character: u8, colour: u8)
+fn draw_planar<B: Bus>(bus: &mut B, cell: GraphicsCell, fonts: &Fonts, character: u8, colour: u8)
     requires band { IsBand cell.band }
     requires row { cell.row < cells_bound }
     ensures { bus.new ≡ (run B.meaning (draw_planar_plan cell.band cell.row fonts.now character
@@ -119,7 +125,7 @@ fn glyph_dot_colour(dots: u8, colour: u8, i: u32) -> u8
 
 /// Draws a line of a glyph in 256 colours.
 #[tactic(auto, using(crate::proofs::PlanRuns::run_bind), unfolding(crate::specs::Drawing::put_dots))]
-fn put_dots<B: Bus>(bus: &mut B, cell: DotCell, line: u32, dots: u8, colour: u8)
+fn put_dots<B: Bus>(bus: &mut B, cell: GraphicsCell, line: u32, dots: u8, colour: u8)
     requires band { IsBand cell.band }
     requires row { cell.row < cells_bound }
     requires line { line ≤ 16 }
@@ -137,7 +143,7 @@ fn put_dots<B: Bus>(bus: &mut B, cell: DotCell, line: u32, dots: u8, colour: u8)
 
 /// Draws a character in 256 colours.
 #[tactic(auto, using(crate::proofs::PlanRuns::run_bind), unfolding(crate::specs::Drawing::draw_packed_plan))]
-fn draw_packed<B: Bus>(bus: &mut B, cell: DotCell, fonts: &Fonts, character: u8, colour: u8)
+fn draw_packed<B: Bus>(bus: &mut B, cell: GraphicsCell, fonts: &Fonts, character: u8, colour: u8)
     requires band { IsBand cell.band }
     requires row { cell.row < cells_bound }
     ensures { bus.new ≡ (run B.meaning (draw_packed_plan cell.band cell.row fonts.now character
@@ -169,7 +175,7 @@ pub(crate) fn write_character<B: Bus>(
     by_kind!(
         kind_of(bda.mode()),
         Text => write_cell(bus, cell_address(bda, number, q), character, colouring),
-        Planar => draw_planar(bus, DotCell::of_columns(bda, number, q), fonts, character, colour),
-        Packed => draw_packed(bus, DotCell::of_columns(bda, number, q), fonts, character, colour),
+        Planar => draw_planar(bus, GraphicsCell::of_columns(bda, number, q), fonts, character, colour),
+        Packed => draw_packed(bus, GraphicsCell::of_columns(bda, number, q), fonts, character, colour),
     )
 }

@@ -6,14 +6,14 @@ ghost use Rattle.bios_services.specs.Plan.{run};
 ghost use Rattle.bios_services.specs.ModeSet.{write_font_plan, write_glyph_plan, write_glyphs_plan};
 ghost use Rattle.bios_services.specs.Reasons.{reason_of};
 ghost use Rattle.bios_services.specs.GlyphLoads.{AreGlyphsThere, whole_font, glyph_load_of};
-ghost use Rattle.bios_services.specs.GlyphLoads.{glyphs_block, load_reason, load_refusal};
+ghost use Rattle.bios_services.specs.GlyphLoads.{glyphs_block_len, load_refusal_besides_block, load_refusal};
 ghost use Rattle.bios_services.specs.GlyphLoads.{loaded_line, load_plan};
 
 use crate::cells::GRAPHICS_BASE;
-use crate::cursor::write_word;
+use crate::cursor::write_crtc_word;
 use crate::cycles::{put, write_graphics, write_indexed, write_sequencer};
 use crate::glyphs::glyph_line;
-use crate::reasons::{or_wrong_block, refuse_unless};
+use crate::reasons::{refuse_or_wrong_block, refuse_unless};
 use crate::regs::{Regs, high, low};
 use crate::video_registers::{
     ALL_ADDRESSES, BYTE_ACCESS, BYTE_ACCESS_ODD_AND_EVEN, CURSOR_ADDRESS, CURSOR_START,
@@ -74,7 +74,7 @@ impl GlyphLoad {
 
     /// How many bytes the block of a load has, if it reads one.
     pub(crate) fn block(self) -> Option<usize>
-        ensures { result ≡ glyphs_block self }
+        ensures { result ≡ glyphs_block_len self }
     {
         if self.is_block {
             Some(self.height as usize * self.count as usize)
@@ -85,7 +85,7 @@ impl GlyphLoad {
 
     /// Refuses the glyphs in a mode, whatever their block, for the first of the reasons.
     fn reason(self, mode: u8) -> Result<(), Refusal>
-        ensures { reason_of result ≡ load_reason self mode }
+        ensures { reason_of result ≡ load_refusal_besides_block self mode }
     {
         refuse_unless(is_text(mode), Refusal::WrongKind)?;
         let end = self.first as u32 + self.count as u32;
@@ -96,7 +96,7 @@ impl GlyphLoad {
     pub(crate) fn refusal(self, mode: u8, len: usize) -> Result<(), Refusal>
         ensures { reason_of result ≡ load_refusal self mode len }
     {
-        or_wrong_block(self.reason(mode), self.block(), len)
+        refuse_or_wrong_block(self.reason(mode), self.block(), len)
     }
 
     /// Scan line r of character c.
@@ -187,7 +187,7 @@ impl GlyphLoad {
             MAXIMUM_SCAN_LINE,
             row.crtc[MAXIMUM_SCAN_LINE as usize],
         );
-        write_word(bus, port, CURSOR_START, row.cursor_type);
+        write_crtc_word(bus, port, CURSOR_START, row.cursor_type);
         write_indexed(
             bus,
             port,
@@ -200,7 +200,7 @@ impl GlyphLoad {
             UNDERLINE_LOCATION,
             row.crtc[UNDERLINE_LOCATION as usize],
         );
-        write_word(bus, port, START_ADDRESS, 0);
-        write_word(bus, port, CURSOR_ADDRESS, 0);
+        write_crtc_word(bus, port, START_ADDRESS, 0);
+        write_crtc_word(bus, port, CURSOR_ADDRESS, 0);
     }
 }

@@ -13,7 +13,7 @@ ghost use Rattle.bios_services.specs.declared.reply.ServiceError.TheVariants.{Ou
 ghost use Rattle.bios_services.specs.declared.call.Call.TheVariants.{ReadTable};
 ghost use Rattle.bios_services.specs.Service.{set_mode_plan, load_if_height_exists};
 ghost use Rattle.bios_services.specs.Service.{load_in_mode_plan};
-ghost use Rattle.bios_services.specs.Service.{in_mode_plan, read_cursor_of, read_mode_of};
+ghost use Rattle.bios_services.specs.Service.{service_in_mode_plan, read_cursor_of, read_mode_of};
 ghost use Rattle.bios_services.specs.Service.{read_adapter_of, read_display_of, read_cell_service};
 ghost use Rattle.bios_services.specs.Service.{read_pixel_service, plan_of_service};
 ghost use Rattle.bios_services.specs.Service.{table_in_mode_plan};
@@ -25,11 +25,11 @@ use crate::character_reading::read_character;
 use crate::colours::perform_colours;
 use crate::cursor::{cursor_cell_number, move_cursor, set_cursor_type, show_page};
 use crate::direction::Direction;
-use crate::dot_cell::DotCell;
+use crate::dot_cell::GraphicsCell;
 use crate::glyph_load::GlyphLoad;
 use crate::mode_set;
 use crate::pixels::{Pixel, read_pixel, write_pixel};
-use crate::refusals::{refusal_in_mode, unknown_refusal};
+use crate::refusals::{refusal_in_mode, refusal_of_unknown_call};
 use crate::regs::{Regs, with_low};
 use crate::reply::{Reply, ServiceError, Table};
 use crate::tables::{TableService, read_table, table_refusal};
@@ -61,7 +61,7 @@ fn read_cursor_cell<B: Bus>(bus: &mut B, fonts: &Fonts, bda: &Bda, page: u8, reg
         regs.ax = read_cell(bus, cell_address(bda, page, q));
         return;
     }
-    let character = read_character(bus, DotCell::of_columns(bda, page, q), fonts);
+    let character = read_character(bus, GraphicsCell::of_columns(bda, page, q), fonts);
     regs.ax = with_low(regs.ax, character);
 }
 
@@ -150,7 +150,7 @@ fn perform<B: Bus>(
 
 /// Does a service that is not refused, over valid data of a mode, and leaves them valid.
 #[tactic(auto, using(crate::proofs::BoundLemmas::set_of_valid, crate::proofs::BoundLemmas::stays_valid))]
-fn perform_allowed<B: Bus>(
+fn perform_allowed_service<B: Bus>(
     bus: &mut B,
     bda: &mut Bda,
     fonts: &Fonts,
@@ -205,7 +205,7 @@ fn set_mode<B: Bus>(
 
 /// Loads glyphs, if the mode has a row of their height; no other reason refuses them.
 #[tactic(auto, using(crate::proofs::PlanRuns::run_bind, crate::proofs::BoundLemmas::begins_valid_at, crate::proofs::BoundLemmas::there_of, crate::proofs::BoundLemmas::port_small), unfolding(crate::specs::Service::load_if_height_exists))]
-fn load_allowed<B: Bus>(
+fn load_allowed_glyphs<B: Bus>(
     bus: &mut B,
     bda: &mut Bda,
     fonts: &Fonts,
@@ -232,7 +232,7 @@ fn load_allowed<B: Bus>(
 
 /// Loads glyphs of text, unless they are refused.
 #[tactic(auto, unfolding(crate::specs::Service::load_in_mode_plan, crate::specs::Service::load_unless_refused_plan))]
-fn load_in_mode<B: Bus>(
+fn load_glyphs_in_mode<B: Bus>(
     bus: &mut B,
     bda: &mut Bda,
     fonts: &Fonts,
@@ -249,11 +249,11 @@ fn load_in_mode<B: Bus>(
         return Err(Refusal::NoMode);
     }
     load.refusal(bda.mode(), block.len())?;
-    load_allowed(bus, bda, fonts, load, regs, block)
+    load_allowed_glyphs(bus, bda, fonts, load, regs, block)
 }
 
 /// Does a service that needs a mode, unless it is refused.
-#[tactic(auto, using(crate::proofs::PlanRuns::run_bind, crate::proofs::BoundLemmas::set_of_valid), unfolding(crate::specs::Service::in_mode_plan, crate::specs::Service::unless_refused_plan))]
+#[tactic(auto, using(crate::proofs::PlanRuns::run_bind, crate::proofs::BoundLemmas::set_of_valid), unfolding(crate::specs::Service::service_in_mode_plan, crate::specs::Service::unless_refused_plan))]
 fn in_mode<B: Bus>(
     bus: &mut B,
     bda: &mut Bda,
@@ -264,7 +264,7 @@ fn in_mode<B: Bus>(
 ) -> Result<Reply, Refusal>
     requires { IsValid bda.old }
     ensures answer { (bus.new, (result, bda.new)) ≡ run B.meaning
-        (in_mode_plan service fonts.now bda.old regs block.now) bus.old }
+        (service_in_mode_plan service fonts.now bda.old regs block.now) bus.old }
     ensures valid { IsValid bda.new }
 {
     if bda.mode() == 0 {
@@ -272,12 +272,12 @@ fn in_mode<B: Bus>(
     }
     let service = service.service_on_page_meant(bda);
     refusal_in_mode(service, bda, block.len())?;
-    answer_of_registers(perform_allowed(bus, bda, fonts, service, regs, block))
+    answer_of_registers(perform_allowed_service(bus, bda, fonts, service, regs, block))
 }
 
 /// Answers a table, unless that is refused.
 #[tactic(auto, using(crate::proofs::PlanRuns::run_bind, crate::proofs::BoundLemmas::set_of_valid), unfolding(crate::specs::Service::table_in_mode_plan, crate::specs::Service::table_unless_refused_plan))]
-fn table_in_mode<B: Bus>(
+fn answer_table_in_mode<B: Bus>(
     alloc: Global,
     bus: &mut B,
     bda: &Bda,
@@ -332,10 +332,12 @@ pub fn int10<B: Bus>(
     ensures valid { IsValid bda.new }
 {
     let outcome = match decode(regs) {
-        None => Err(unknown_refusal(bda)),
+        None => Err(refusal_of_unknown_call(bda)),
         Some(Call::SetMode { mode, keeps }) => set_mode(bus, bda, fonts, mode, keeps, regs),
-        Some(Call::ReadTable(service)) => return table_in_mode(alloc, bus, bda, service, regs),
-        Some(Call::LoadGlyphs(load)) => load_in_mode(bus, bda, fonts, load, regs, block),
+        Some(Call::ReadTable(service)) => return answer_table_in_mode(
+            alloc, bus, bda, service, regs,
+        ),
+        Some(Call::LoadGlyphs(load)) => load_glyphs_in_mode(bus, bda, fonts, load, regs, block),
         Some(Call::InMode(service)) => in_mode(bus, bda, fonts, service, regs, block),
     };
     outcome.map_err(ServiceError::Refused)

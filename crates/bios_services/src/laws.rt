@@ -3,27 +3,27 @@ ghost use Rattle.std.specs.Prelude.{◌≡◌, ◌<◌, ℕ, List};
 ghost use Rattle.vga_card.specs.Bounds.{IsCard};
 ghost use Rattle.vga_card.specs.Bus.{card_meaning};
 ghost use Rattle.vga_card.specs.Card.{CardState};
-ghost use Rattle.vga_card.specs.FreshCanvas.{with_fresh_canvas, fresh_canvas_after};
+ghost use Rattle.vga_card.specs.FreshCanvas.{without_unseen_dots, outcome_without_unseen_dots};
 ghost use Rattle.bios_modes.specs.Bda.{BiosData, power_on_data};
 ghost use Rattle.bios_modes.specs.Fonts.{FontSet};
 ghost use Rattle.bios_services.specs.declared.regs.Regs.{Regs};
 ghost use Rattle.bios_services.specs.Data.{AreValidData};
 ghost use Rattle.bios_services.specs.Plan.{run};
-ghost use Rattle.bios_services.specs.Service.{service, RefusedDoNothing};
-ghost use Rattle.bios_services.specs.Blocks.{BlocksFit, OthersAreRefused};
+ghost use Rattle.bios_services.specs.Service.{service, RefusedCallsDoNothing};
+ghost use Rattle.bios_services.specs.Blocks.{FittingBlocksAreAccepted, OtherBlockLengthsAreRefused};
 
 use vga_card::Bus;
 
 /// A refused service leaves the bus, whichever it is, and the BIOS data.
 pub fn refused_services_do_nothing<B: Bus>()
-    ensures { RefusedDoNothing B.meaning }
+    ensures { RefusedCallsDoNothing B.meaning }
 {}
 
 /// No call is refused for a block of exactly the length that it reads; and a call that reads some
 /// bytes is refused with a block of any other length.
 pub fn blocks_fit<B: Bus>()
-    ensures fit { BlocksFit B.meaning }
-    ensures others { OthersAreRefused B.meaning }
+    ensures fit { FittingBlocksAreAccepted B.meaning }
+    ensures others { OtherBlockLengthsAreRefused B.meaning }
 {}
 
 /// BIOS data are valid, and their cursor positions words, at power-on and after every call; and
@@ -45,8 +45,8 @@ pub fn calls_draw_nothing()
 
 /// No call distinguishes an adapter that was saved and restored from the original: it answers the
 /// same, and leaves the same except for what is not saved.
-pub fn calls_cannot_tell()
+pub fn calls_treat_restored_cards_alike()
     ensures { (fonts : FontSet) (d : BiosData) (r : Regs) (block : List ℕ) (c : CardState) →
-        run card_meaning (service fonts d r block) (with_fresh_canvas c)
-        ≡ fresh_canvas_after (run card_meaning (service fonts d r block) c) }
+        run card_meaning (service fonts d r block) (without_unseen_dots c)
+        ≡ outcome_without_unseen_dots (run card_meaning (service fonts d r block) c) }
 {}

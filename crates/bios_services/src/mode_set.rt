@@ -4,13 +4,13 @@ ghost use Rattle.bios_services.specs.Bounds.{ports_bound};
 ghost use Rattle.bios_services.specs.Plan.{run};
 ghost use Rattle.bios_services.specs.ModeSet.{write_registers_plan, write_dac_entry_plan};
 ghost use Rattle.bios_services.specs.ModeSet.{mask_and_palette_plan};
-ghost use Rattle.bios_services.specs.ModeSet.{write_blanks_plan, clear_plan};
-ghost use Rattle.bios_services.specs.ModeSet.{write_text_plan, write_memory_plan, mode_set_plan};
+ghost use Rattle.bios_services.specs.ModeSet.{write_blanks_plan, clear_graphics_memory_plan};
+ghost use Rattle.bios_services.specs.ModeSet.{write_text_memory_plan, write_mode_memory_plan, mode_set_plan};
 
 use crate::cells::GRAPHICS_BASE;
 use crate::cycles::{
-    expect_index, out, put_in_turn, show_palette, write_attribute_registers, write_indexed,
-    write_registers_from_0,
+    out, put_in_turn, reset_attribute_flip_flop, show_palette, write_attribute_registers,
+    write_indexed, write_registers_from_0,
 };
 use crate::glyph_load::GlyphLoad;
 use crate::video_registers::{
@@ -38,7 +38,7 @@ fn write_registers<B: Bus>(bus: &mut B, row: &ModeRow)
     write_indexed(bus, row.crtc_address, VERTICAL_RETRACE_END, unprotected);
     write_registers_from_0(bus, row.crtc_address, &row.crtc);
     write_registers_from_0(bus, GRAPHICS, &row.graphics);
-    expect_index(bus, row.crtc_address);
+    reset_attribute_flip_flop(bus, row.crtc_address);
     write_attribute_registers(bus, &row.attribute);
     show_palette(bus, row.crtc_address);
 }
@@ -82,19 +82,19 @@ fn write_blanks<B: Bus>(bus: &mut B, base: u32, n: u32)
 }
 
 /// Writes n bytes of 0 to the memory of a graphics mode.
-#[tactic(auto, using(crate::proofs::PlanRuns::puts_same), unfolding(crate::specs::ModeSet::clear_plan))]
+#[tactic(auto, using(crate::proofs::PlanRuns::puts_same), unfolding(crate::specs::ModeSet::clear_graphics_memory_plan))]
 fn clear<B: Bus>(bus: &mut B, n: u32)
     requires { n ≤ 65536 }
-    ensures { bus.new ≡ (run B.meaning (clear_plan n) bus.old).0 }
+    ensures { bus.new ≡ (run B.meaning (clear_graphics_memory_plan n) bus.old).0 }
 {
     put_in_turn(bus, GRAPHICS_BASE, n, 0, 0);
 }
 
 /// Writes what a text mode needs besides registers and palette: the font, and blank cells.
-#[tactic(auto, using(crate::proofs::PlanRuns::run_bind), unfolding(crate::specs::ModeSet::write_text_plan))]
+#[tactic(auto, using(crate::proofs::PlanRuns::run_bind), unfolding(crate::specs::ModeSet::write_text_memory_plan))]
 fn write_text<B: Bus>(bus: &mut B, row: &ModeRow, keeps: bool, fonts: &Fonts)
     requires { row.now.base < 2 ^ 20 }
-    ensures { bus.new ≡ (run B.meaning (write_text_plan row.now keeps fonts.now.f16) bus.old).0 }
+    ensures { bus.new ≡ (run B.meaning (write_text_memory_plan row.now keeps fonts.now.f16) bus.old).0 }
 {
     GlyphLoad::write_font_of_16(bus, fonts, row.graphics[MISCELLANEOUS as usize]);
     if !keeps {
@@ -103,10 +103,10 @@ fn write_text<B: Bus>(bus: &mut B, row: &ModeRow, keeps: bool, fonts: &Fonts)
 }
 
 /// Writes what a mode needs besides registers and palette.
-#[tactic(auto, using(crate::proofs::PlanRuns::run_bind), unfolding(crate::specs::ModeSet::write_memory_plan))]
-fn write_memory<B: Bus>(bus: &mut B, row: &ModeRow, keeps: bool, fonts: &Fonts)
+#[tactic(auto, using(crate::proofs::PlanRuns::run_bind), unfolding(crate::specs::ModeSet::write_mode_memory_plan))]
+fn write_mode_memory<B: Bus>(bus: &mut B, row: &ModeRow, keeps: bool, fonts: &Fonts)
     requires { row.now.base < 2 ^ 20 }
-    ensures { bus.new ≡ (run B.meaning (write_memory_plan row.now keeps fonts.now.f16) bus.old).0 }
+    ensures { bus.new ≡ (run B.meaning (write_mode_memory_plan row.now keeps fonts.now.f16) bus.old).0 }
 {
     if row.kind == Kind::Text {
         write_text(bus, row, keeps, fonts);
@@ -124,5 +124,5 @@ pub(crate) fn set_mode<B: Bus>(bus: &mut B, row: &ModeRow, keeps: bool, fonts: &
 {
     write_registers(bus, row);
     write_mask_and_palette(bus, row.palette, 256);
-    write_memory(bus, row, keeps, fonts);
+    write_mode_memory(bus, row, keeps, fonts);
 }

@@ -49,7 +49,7 @@ impl<'a> Page<'a> {
         self.bda
     }
 
-    /// Its number.
+    /// The page's number, from 0.
     pub(crate) fn number(&self) -> u8
         ensures { result ≡ self.now.number }
     {

@@ -2,12 +2,13 @@
 ghost use Rattle.std.specs.Prelude.{◌≡◌, ◌<◌, ◌≤◌, length};
 ghost use Rattle.bios_services.specs.Bounds.{ports_bound};
 ghost use Rattle.bios_services.specs.Plan.{run};
-ghost use Rattle.bios_services.specs.Palette.{set_register_plan, set_palette_plan};
+ghost use Rattle.bios_services.specs.Palette.{set_attribute_register_plan, set_palette_plan};
 ghost use Rattle.bios_services.specs.Palette.{set_blinking_plan, read_register_at_index_plan};
-ghost use Rattle.bios_services.specs.Palette.{read_register_plan};
+ghost use Rattle.bios_services.specs.Palette.{read_attribute_register_plan};
 
 use crate::cycles::{
-    expect_index, inp, out, show_palette, write_attribute_register, write_attribute_registers,
+    inp, out, reset_attribute_flip_flop, show_palette, write_attribute_register,
+    write_attribute_registers,
 };
 use crate::video_registers::{
     ATTRIBUTE, ATTRIBUTE_DATA, MODE_CONTROL, NOT_BLINKING, OVERSCAN, PALETTE_SHOWN,
@@ -18,12 +19,12 @@ use vga_card::Bus;
 const PALETTE_LEN: usize = 16;
 
 /// 00 and 01: writes a register of the attribute controller.
-#[tactic(auto, using(crate::proofs::PlanRuns::run_bind), unfolding(crate::specs::Palette::set_register_plan))]
-pub(crate) fn set_register<B: Bus>(bus: &mut B, port: u16, i: u8, value: u8)
+#[tactic(auto, using(crate::proofs::PlanRuns::run_bind), unfolding(crate::specs::Palette::set_attribute_register_plan))]
+pub(crate) fn set_attribute_register<B: Bus>(bus: &mut B, port: u16, i: u8, value: u8)
     requires { port < ports_bound }
-    ensures { bus.new ≡ (run B.meaning (set_register_plan port i value) bus.old).0 }
+    ensures { bus.new ≡ (run B.meaning (set_attribute_register_plan port i value) bus.old).0 }
 {
-    expect_index(bus, port);
+    reset_attribute_flip_flop(bus, port);
     write_attribute_register(bus, i, value);
     show_palette(bus, port);
 }
@@ -36,7 +37,7 @@ pub(crate) fn set_palette<B: Bus>(bus: &mut B, port: u16, block: &[u8])
     ensures { bus.new ≡ (run B.meaning (set_palette_plan port block.now) bus.old).0 }
 {
     let (palette, _) = block.split_at(PALETTE_LEN);
-    expect_index(bus, port);
+    reset_attribute_flip_flop(bus, port);
     write_attribute_registers(bus, palette);
     write_attribute_register(bus, OVERSCAN, block[PALETTE_LEN]);
     show_palette(bus, port);
@@ -49,7 +50,7 @@ pub(crate) fn set_blinking<B: Bus>(bus: &mut B, port: u16, blinking: u8)
     requires blinking { blinking ≤ 1 }
     ensures { bus.new ≡ (run B.meaning (set_blinking_plan port blinking) bus.old).0 }
 {
-    expect_index(bus, port);
+    reset_attribute_flip_flop(bus, port);
     out(bus, ATTRIBUTE, PALETTE_SHOWN + MODE_CONTROL);
     let control = inp(bus, ATTRIBUTE_DATA);
     out(bus, ATTRIBUTE, (control & NOT_BLINKING) | (8 * blinking));
@@ -65,17 +66,17 @@ pub(crate) fn read_register_at_index<B: Bus>(bus: &mut B, port: u16, i: u8) -> u
 {
     out(bus, ATTRIBUTE, PALETTE_SHOWN + i);
     let value = inp(bus, ATTRIBUTE_DATA);
-    expect_index(bus, port);
+    reset_attribute_flip_flop(bus, port);
     value
 }
 
 /// 07 and 08: reads a register of the attribute controller, whatever that expects.
-#[tactic(auto, using(crate::proofs::PlanRuns::run_bind), unfolding(crate::specs::Palette::read_register_plan))]
+#[tactic(auto, using(crate::proofs::PlanRuns::run_bind), unfolding(crate::specs::Palette::read_attribute_register_plan))]
 pub(crate) fn read_register<B: Bus>(bus: &mut B, port: u16, i: u8) -> u8
     requires port { port < ports_bound }
     requires register { i < 32 }
-    ensures { (bus.new, result) ≡ run B.meaning (read_register_plan port i) bus.old }
+    ensures { (bus.new, result) ≡ run B.meaning (read_attribute_register_plan port i) bus.old }
 {
-    expect_index(bus, port);
+    reset_attribute_flip_flop(bus, port);
     read_register_at_index(bus, port, i)
 }

@@ -6,7 +6,7 @@ ghost use Rattle.bios_services.specs.Reasons.{outside_cells as outside_cells_of}
 ghost use Rattle.bios_services.specs.Reasons.{outside_page as outside_page_of};
 ghost use Rattle.bios_services.specs.Reasons.{outside_pixels as outside_pixels_of};
 ghost use Rattle.bios_services.specs.Reasons.{past_cells as past_cells_of};
-ghost use Rattle.bios_services.specs.Reasons.{or_wrong_block as or_wrong_block_of};
+ghost use Rattle.bios_services.specs.Reasons.{refuse_or_wrong_block as or_wrong_block_of};
 
 use bios_modes::is_text;
 use vga_bits::Refusal;
@@ -68,7 +68,7 @@ pub(crate) fn past_cells(cells: u32, first: u32, count: u16) -> Result<(), Refus
 
 /// Refuses for another reason, if there is one, or else a block of another length than is read. A
 /// call that reads no block may be given one of any length.
-pub(crate) fn or_wrong_block(
+pub(crate) fn refuse_or_wrong_block(
     other: Result<(), Refusal>,
     size: Option<usize>,
     len: usize,

@@ -3,18 +3,19 @@ ghost use Rattle.std.specs.Prelude.{◌≡◌};
 ghost use Rattle.bios_services.specs.Bounds.{IsModeSet, page_count};
 ghost use Rattle.bios_services.specs.Reasons.{reason_of};
 ghost use Rattle.bios_services.specs.Refusals.{page_meant_by_number as page_meant_by_number_of};
-ghost use Rattle.bios_services.specs.Refusals.{reason_in_mode as reason_in_mode_of};
+ghost use Rattle.bios_services.specs.Refusals.{refusal_in_mode_besides_block as reason_in_mode_of};
 ghost use Rattle.bios_services.specs.Refusals.{refusal_in_mode as refusal_in_mode_of};
-ghost use Rattle.bios_services.specs.Refusals.{unknown_refusal as unknown_refusal_of};
+ghost use Rattle.bios_services.specs.Refusals.{refusal_of_unknown_call as unknown_refusal_of};
 
 use crate::call::Service;
 use crate::cell_run::CellRun;
 use crate::cells::cells;
-use crate::colours::colour_reason;
+use crate::colours::colour_refusal_besides_block;
 use crate::cursor::cursor_cell_number;
 use crate::pixels::{pixels_across, pixels_down};
 use crate::reasons::{
-    no_page, no_pixels, or_wrong_block, outside_cells, outside_page, outside_pixels, past_cells,
+    no_page, no_pixels, outside_cells, outside_page, outside_pixels, past_cells,
+    refuse_or_wrong_block,
 };
 use crate::strings::StringCall;
 use bios_modes::{Bda, mode_row_at_height};
@@ -38,12 +39,12 @@ fn page_meant_by_number(bda: &Bda, page: u8) -> u8
 }
 
 impl Service {
-    ghost use Rattle.bios_services.specs.Refusals.{service_block};
+    ghost use Rattle.bios_services.specs.Refusals.{service_block_len};
     ghost use Rattle.bios_services.specs.Refusals.{service_on_page_meant as on_page_named_of};
 
     /// How many bytes the block of a service has, if it reads one.
     pub(crate) fn block(self) -> Option<usize>
-        ensures { result ≡ service_block self }
+        ensures { result ≡ service_block_len self }
     {
         match self {
             Service::Colours(colours) => colours.block(),
@@ -89,7 +90,7 @@ impl Service {
 }
 
 /// Refuses a service in a mode, whatever its block, for the first of its reasons.
-fn reason_in_mode(service: Service, bda: &Bda) -> Result<(), Refusal>
+fn refusal_in_mode_besides_block(service: Service, bda: &Bda) -> Result<(), Refusal>
     requires { IsModeSet bda.now }
     ensures { reason_of result ≡ reason_in_mode_of service bda.now }
 {
@@ -119,7 +120,7 @@ fn reason_in_mode(service: Service, bda: &Bda) -> Result<(), Refusal>
             no_page(pages(bda), string.page)?;
             outside_page(rows, bda.columns(), string.position)
         }
-        Service::Colours(service) => colour_reason(service),
+        Service::Colours(service) => colour_refusal_besides_block(service),
         Service::SetCursorType { .. }
         | Service::ScrollUp { .. }
         | Service::ScrollDown { .. }
@@ -135,11 +136,15 @@ pub(crate) fn refusal_in_mode(service: Service, bda: &Bda, len: usize) -> Result
     requires { IsModeSet bda.now }
     ensures { reason_of result ≡ refusal_in_mode_of service bda.now len }
 {
-    or_wrong_block(reason_in_mode(service, bda), service.block(), len)
+    refuse_or_wrong_block(
+        refusal_in_mode_besides_block(service, bda),
+        service.block(),
+        len,
+    )
 }
 
 /// Why a call that asks for no service is refused.
-pub(crate) fn unknown_refusal(bda: &Bda) -> Refusal
+pub(crate) fn refusal_of_unknown_call(bda: &Bda) -> Refusal
     ensures { result ≡ unknown_refusal_of bda.now }
 {
     if bda.mode() == 0 {

@@ -6,9 +6,9 @@ ghost use Rattle.bios_services.specs.Scroll.{IsOnPage, window_among, rows_to_scr
 ghost use Rattle.bios_services.specs.Scroll.{whole_page as whole_page_of};
 ghost use Rattle.bios_services.specs.Scroll.{scroll_window_plan, scroll_plan};
 
-use crate::band::Band;
+use crate::band::ColumnBand;
 use crate::direction::Direction;
-use crate::shift::Shift;
+use crate::shift::RowShift;
 use bios_modes::Bda;
 use vga_card::Bus;
 
@@ -62,7 +62,7 @@ impl Window {
     }
 
     /// Scrolls the window on a page.
-    pub(crate) fn scroll<B: Bus>(self, bus: &mut B, bda: &Bda, page: u8, shift: Shift)
+    pub(crate) fn scroll<B: Bus>(self, bus: &mut B, bda: &Bda, page: u8, shift: RowShift)
         requires data { IsModeSet bda.now }
         requires page { page < page_count bda.now }
         requires window { IsOnPage (bda.now.last_row + 1) bda.now.columns self }
@@ -71,7 +71,7 @@ impl Window {
             shift.rows
             shift.colour) bus.old).0 }
     {
-        let band = Band::of_columns(bda, page, self.left, self.width);
+        let band = ColumnBand::of_columns(bda, page, self.left, self.width);
         band.scroll_rows(bus, shift, self.top, self.height);
     }
 }
@@ -105,7 +105,7 @@ impl Scroll {
         ensures { bus.new ≡ (run B.meaning (scroll_plan bda.now self direction) bus.old).0 }
     {
         if let Some(window) = self.window(bda) {
-            let shift = Shift {
+            let shift = RowShift {
                 direction,
                 rows: window.lines(self.lines),
                 colour: self.fill,

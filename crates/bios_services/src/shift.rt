@@ -2,9 +2,10 @@
 
 use crate::direction::Direction;
 
-/// How rows move: in which direction, by how many rows, and what fills the rows that they leave.
+/// How rows of characters move: up or down, by how many rows, and the attribute or colour of the
+/// rows that they leave.
 #[derive(Clone, Copy)]
-pub struct Shift {
+pub struct RowShift {
     pub direction: Direction,
     pub rows: u32,
     /// The attribute in text, the colour in graphics.

@@ -11,7 +11,7 @@ ghost use Rattle.bios_services.specs.Tables.{read_components_plan, read_entries_
 ghost use Rattle.bios_services.specs.Tables.{table_allocates_memory};
 
 use crate::colours::no_entries;
-use crate::cycles::{expect_index, inp, out};
+use crate::cycles::{inp, out, reset_attribute_flip_flop};
 use crate::palette::read_register_at_index;
 use crate::reply::Table;
 use crate::video_registers::{DAC_DATA, DAC_READ_INDEX, OVERSCAN};
@@ -69,7 +69,7 @@ fn read_palette<B: Bus>(bus: &mut B, port: u16) -> [u8; PALETTE_BYTES]
     ensures { (bus.new, result) ≡ run B.meaning (read_palette_and_overscan_plan port) bus.old }
 {
     let mut values = [0u8; PALETTE_BYTES];
-    expect_index(bus, port);
+    reset_attribute_flip_flop(bus, port);
     read_registers(bus, port, &mut values);
     values
 }
@@ -107,7 +107,9 @@ fn read_entries<B: Bus>(
     Ok(values)
 }
 
-/// Does a subfunction that is not refused. Only 17 allocates memory, if there is an entry to read.
+/// Reads the table that a subfunction of function 10 answers: the palette registers with the
+/// overscan colour, or entries of the DAC. The subfunction is not refused. Only 17 allocates
+/// memory, if there is an entry to read.
 #[tactic(auto, using(crate::proofs::PlanRuns::run_bind), unfolding(crate::specs::Tables::table_plan))]
 pub(crate) fn read_table<B: Bus>(
     alloc: Global,

@@ -16,7 +16,7 @@ use crate::direction::Direction;
 use crate::drawing::write_character;
 use crate::page::Page;
 use crate::scroll::Window;
-use crate::shift::Shift;
+use crate::shift::RowShift;
 use bios_modes::{Bda, Fonts, is_text};
 use vga_card::Bus;
 
@@ -60,7 +60,7 @@ fn position_after_line_feed<B: Bus>(bus: &mut B, bda: &Bda, page: u8, position: 
     if position / 256 < bda.last_row() as u16 {
         return position + 256;
     }
-    let shift = Shift {
+    let shift = RowShift {
         direction: Direction::Up,
         rows: 1,
         colour: line_feed_fill(bus, bda, page, position),

@@ -66,7 +66,8 @@ pub(crate) const GRAPHICS_MODE: u8 = 0x05;
 /// Graphics mode: write mode 0 and read mode 0, with which bytes go to planes and come from one.
 pub(crate) const BYTE_ACCESS: u8 = 0x00;
 
-/// Graphics mode: the same, but even and odd addresses are read from different planes.
+/// Graphics mode: write mode 0 and read mode 0, and even and odd addresses are read from different
+/// planes.
 pub(crate) const BYTE_ACCESS_ODD_AND_EVEN: u8 = 0x10;
 
 /// Graphics mode: write mode 1, which copies the latches.

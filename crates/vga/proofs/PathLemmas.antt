@@ -14,7 +14,7 @@ use Rattle.clap.specs.declared.parser.matches.ValueSource.TheVariants.{CommandLi
 use Rattle.clap.proofs.OnLiterals.{clap_on_literals}
 use Rattle.vga.specs.CommandLine.{asm_command, command_line, dis_command, go_command, run_command}
 use Rattle.vga.specs.Job.{Request, request_of, asm, dis, run, go}
-use Rattle.vga.specs.Arguments.{HasPlainPaths, JobAnswers, NamesPaths, request_of_words, asm_asked, has_bad_limit_word, begins_with_hyphen, count_of, dis_asked, go_asked, is_bad_count}
+use Rattle.vga.specs.Arguments.{HasPlainPaths, JobAnswers, WordsGiveJobOfRequest, request_of_words, asm_asked, has_bad_limit_word, begins_with_hyphen, count_of, dis_asked, go_asked, is_bad_count}
 use Rattle.vga.specs.Arguments.{run_asked, until_in, until_words, words_of}
 use Rattle.vga.proofs.CountLemmas.{count_is_plain, good_count}
 use Rattle.vga_bits.specs.declared.fault.Fault.TheVariants.{OutOfMemory}
@@ -484,7 +484,7 @@ request_passes program request count sound =
 -- ---- what `job` answers
 
 -- the request, unless memory runs out
-pub names_paths : (words : List Text) (result : Result Job Failure) → JobAnswers words result → NamesPaths words result
+pub names_paths : (words : List Text) (result : Result Job Failure) → JobAnswers words result → WordsGiveJobOfRequest words result
 names_paths words result answer program request count are plain is =
     let sound : IsSound request count = (plain, is) in
     go_on result (subst (λ (ws : List Text). JobAnswers ws result) are answer) (request_asked program request count sound)

@@ -1,11 +1,11 @@
 -- From what is read of a script, or of a text that spells one, to what a command answers.
 use Rattle.std.proofs.Common.{◌≡◌, ◌⊎◌, inl, inr, ℕ, Bool, false, List, Option, IfOk, IsOkUnless, Result, Ok, Err, Vec, arith, sym, subst}
 use Rattle.std.specs.declared.alloc.Global.{Global}
-use Rattle.vga_bits.specs.Tracked.{Writes, is_write_fault}
+use Rattle.vga_bits.specs.Tracked.{WritesWholeOrPrefix, is_write_fault}
 use Rattle.vga_bits.specs.declared.fault.Fault.{Fault}
 use Rattle.vga_bits.specs.declared.fault.Fault.TheVariants.{FontSize, BadMagic, BadVersion, BadStep, Truncated, TooLong, BadLine, WriteFault, OutOfMemory}
 use Rattle.vga_bits.specs.declared.fault.Fault.TheVariants.{TooMany}
-use Rattle.vga_script.specs.Item.{Listing, expanded}
+use Rattle.vga_script.specs.Item.{ScriptItems, expanded}
 use Rattle.vga_script.specs.Decoding.{IsFault, IsSpellingFault}
 use Rattle.vga_script.specs.Input.{IsInput, IsReadingFault}
 use Rattle.vga_script.specs.Printing.{printed_script}
@@ -14,7 +14,7 @@ use Rattle.vga_script.specs.Spelling.{Spells, encoding}
 use Rattle.vga_script.specs.Text.{SpellsText}
 use Rattle.bios_modes.specs.Fonts.{FontSet}
 use Rattle.vga_run.specs.Run.{RunsScript, RunsOutOfMemory}
-use Rattle.vga.specs.Scripts.{AssembleAnswers, FindsScript, DisassembleAnswers, RunsText, StopsText}
+use Rattle.vga.specs.Scripts.{AssembleAnswers, FindsScript, DisassembleAnswers, RunsText, TextRunsOutOfMemory}
 
 -- ---- a text
 
@@ -33,12 +33,12 @@ bad_text input text (BadLine n) read (inr (short, bad)) = (text, read, bad)
 bad_text input text _ read (inr bad) = absurd bad
 
 -- a text that is assembled
-pub good_text : (input : Option (List ℕ)) (text : List ℕ) (script : Listing) → IsInput input text → SpellsText text script → IsScript script →
+pub good_text : (input : Option (List ℕ)) (text : List ℕ) (script : ScriptItems) → IsInput input text → SpellsText text script → IsScript script →
     FindsScript input (Ok script)
 good_text input text script read spelled good = (text, read, spelled, good)
 
 -- and its bytes
-pub assembled : (input : Option (List ℕ)) (script : Listing) (result : Result (Vec ℕ Global) Fault) → FindsScript input (Ok script)
+pub assembled : (input : Option (List ℕ)) (script : ScriptItems) (result : Result (Vec ℕ Global) Fault) → FindsScript input (Ok script)
     → IfOk result (λ bytes. bytes.items ≡ encoding script) → IsOkUnless result OutOfMemory → AssembleAnswers input result
 assembled input script (Ok bytes) found are only = (script, found, are)
 assembled input script (Err f) found are only = subst (λ (x : Fault). AssembleAnswers input (Err x)) (sym only) tt
@@ -59,7 +59,7 @@ no_write_fault input failed WriteFault h sound = absurd h
 no_write_fault input failed _ h sound = sound
 
 -- a text whose script is run
-pub script_is_run : (until : Option ℕ) (file : List ℕ) (input before after : Option (List ℕ)) (script : Listing) (result : Result Unit Fault) →
+pub script_is_run : (until : Option ℕ) (file : List ℕ) (input before after : Option (List ℕ)) (script : ScriptItems) (result : Result Unit Fault) →
     FindsScript input (Ok script)
     → RunsScript until file (expanded script.items) before after result → RunsText until file input before after result
 script_is_run until file input before after script (Ok u) found (size, written) = (size, (script, found, written))
@@ -69,8 +69,8 @@ script_is_run until file input before after script (Err OutOfMemory) found h = t
 script_is_run until file input before after script (Err _) found h = absurd h.1
 
 -- and where its run stops
-pub script_stops : (until : Option ℕ) (fonts : FontSet) (input before after : Option (List ℕ)) (script : Listing) → FindsScript input (Ok script)
-    → RunsOutOfMemory until fonts (expanded script.items) before after → StopsText until fonts input before after
+pub script_stops : (until : Option ℕ) (fonts : FontSet) (input before after : Option (List ℕ)) (script : ScriptItems) → FindsScript input (Ok script)
+    → RunsOutOfMemory until fonts (expanded script.items) before after → TextRunsOutOfMemory until fonts input before after
 script_stops until fonts input before after script found stops = (script, found, stops)
 
 -- ---- a script in bytes
@@ -102,8 +102,8 @@ pub unprinted_script : (input before after : Option (List ℕ)) (f : Fault) → 
 unprinted_script input before after f is = subst (λ (x : Fault). DisassembleAnswers input before after (Err x)) (sym is) tt
 
 -- a script that is printed
-pub good_script : (input before after : Option (List ℕ)) (bytes : List ℕ) (script : Listing) (failed : Bool) (result : Result Unit Fault) → IsInput input bytes
-    → Spells bytes script → Writes before after failed result (printed_script script) → DisassembleAnswers input before after result
+pub good_script : (input before after : Option (List ℕ)) (bytes : List ℕ) (script : ScriptItems) (failed : Bool) (result : Result Unit Fault) → IsInput input bytes
+    → Spells bytes script → WritesWholeOrPrefix before after failed result (printed_script script) → DisassembleAnswers input before after result
 good_script input before after bytes script failed (Ok u) read spelled w = (script, (bytes, read, spelled), w.0)
 good_script input before after bytes script failed (Err f) read spelled w =
     subst (λ (x : Fault). DisassembleAnswers input before after (Err x)) (sym w.0) (script, (bytes, read, spelled), w.2)

@@ -78,12 +78,12 @@ abbrev pub is_bad_count : Option Text → Bool
 is_bad_count None = false
 is_bad_count (Some word) = not (is_count word)
 
--- the matches of a command have such a word
+-- the matches of a command have a word for the limit that is not a number of steps
 abbrev pub matches_have_bad_limit : Option (Text × List Row) → Bool
 matches_have_bad_limit None = false
 matches_have_bad_limit (Some command) = is_bad_count (first_of (codes "until") command.1)
 
--- words on the program's command line have such a word
+-- words on the program's command line have a word for the limit that is not a number of steps
 abbrev pub has_bad_limit_word : List Text → Bool
 has_bad_limit_word words = matches_have_bad_limit (subcommand_of command_line words)
 
@@ -95,8 +95,8 @@ RefusesCount (Fault fault) = fault ≡ OutOfMemory
 
 -- Words are refused with an error of this kind: the command line finds this fault in them; or it
 -- finds none, and their word for the limit is not a number of steps.
-abbrev pub Refuses : List Text → ErrorKind → Type 0
-Refuses words found = IsAmong found (fault_of command_line words)
+abbrev pub RefusesWords : List Text → ErrorKind → Type 0
+RefusesWords words found = IsAmong found (fault_of command_line words)
     ⊎ ((fault_of command_line words ≡ []) × (has_bad_limit_word words ≡ true)
     × (found ≡ kind.ValueValidation))
 
@@ -111,7 +111,7 @@ abbrev pub JobAnswers : List Text → Result Job Failure → Type 0
 JobAnswers words (Ok job) = (fault_of command_line words ≡ []) × (has_bad_limit_word words ≡ false)
     × (request_of_words words ≡ Some (request_of job))
 JobAnswers words (Err (Words (Refused error))) = (kind_of error ≢ kind.OutOfMemory)
-    × Refuses words (kind_of error)
+    × RefusesWords words (kind_of error)
 JobAnswers words (Err (Words Missing)) = (fault_of command_line words ≡ [])
     × (has_bad_limit_word words ≡ false) × (request_of_words words ≡ None)
 JobAnswers words (Err (Fault fault)) = fault ≡ OutOfMemory
@@ -154,8 +154,8 @@ HasPlainPaths (go text fonts until) = (begins_with_hyphen text ≡ false)
 
 -- The words of a request, after the program's name, give the job with the same command, paths and
 -- limit, unless an allocation fails.
-abbrev pub NamesPaths : List Text → Result Job Failure → Type 0
-NamesPaths words result =
+abbrev pub WordsGiveJobOfRequest : List Text → Result Job Failure → Type 0
+WordsGiveJobOfRequest words result =
     (program : Text) (request : Request) (count : Text) → words ≡ program ∷ words_of request count →
     HasPlainPaths request
     → IfSome (until_in request) (λ n. count_of count ≡ Some n)

@@ -7,7 +7,7 @@ use Rattle.vga_bits.specs.Tracked.{AppendsPrefix}
 use Rattle.vga_bits.specs.declared.fault.Fault.{Fault}
 use Rattle.vga_bits.specs.declared.fault.Fault.TheVariants.{FontSize, TooLong, BadLine, ReadFault}
 use Rattle.vga_bits.specs.declared.fault.Fault.TheVariants.{WriteFault, OutOfMemory}
-use Rattle.vga_script.specs.Item.{Listing, expanded}
+use Rattle.vga_script.specs.Item.{ScriptItems, expanded}
 use Rattle.vga_script.specs.Input.{InputHasFault, InputSpells, InputSpellsText, IsInput, IsTooLong}
 use Rattle.vga_script.specs.Printing.{printed_script}
 use Rattle.vga_script.specs.Script.{SpellsTooLongScript}
@@ -28,13 +28,13 @@ IsAssemblingFault input OutOfMemory = ⊤
 IsAssemblingFault input _ = ⊥
 
 -- What reading a text answers: the script that it spells, or why there is none.
-abbrev pub FindsScript : Option (List ℕ) → Result (Listing) Fault → Type 0
+abbrev pub FindsScript : Option (List ℕ) → Result (ScriptItems) Fault → Type 0
 FindsScript input (Ok script) = InputSpellsText input script
 FindsScript input (Err fault) = IsAssemblingFault input fault
 
 -- What assembling answers: the bytes of the script that the text spells, or why there is none.
 abbrev pub AssembleAnswers : Option (List ℕ) → Result (Vec ℕ Global) Fault → Type 0
-AssembleAnswers input (Ok bytes) = (script : Listing) × InputSpellsText input script
+AssembleAnswers input (Ok bytes) = (script : ScriptItems) × InputSpellsText input script
     × (bytes.items ≡ encoding script)
 AssembleAnswers input (Err fault) = IsAssemblingFault input fault
 
@@ -43,10 +43,10 @@ AssembleAnswers input (Err fault) = IsAssemblingFault input fault
 -- bytes.
 abbrev pub DisassembleAnswers : Option (List ℕ) → Option (List ℕ) → Option (List ℕ) → Result Unit
     Fault → Type 0
-DisassembleAnswers input before after (Ok done) = (script : Listing) × InputSpells input script
+DisassembleAnswers input before after (Ok done) = (script : ScriptItems) × InputSpells input script
     × Appends before after (printed_script script)
 DisassembleAnswers input before after (Err WriteFault) =
-    (script : Listing) × InputSpells input script
+    (script : ScriptItems) × InputSpells input script
     × AppendsPrefix before after (printed_script script)
 DisassembleAnswers input before after (Err TooLong) = IsTooLong input
 DisassembleAnswers input before after (Err ReadFault) = ⊤
@@ -60,18 +60,18 @@ DisassembleAnswers input before after (Err fault) = InputHasFault input fault
 abbrev pub RunsText : Option ℕ → List ℕ → Option (List ℕ) → Option (List ℕ) → Option (List ℕ) →
     Result Unit Fault → Type 0
 RunsText until file input before after (Ok done) = (length file ≡ font_file_len)
-    × ((script : Listing) × InputSpellsText input script
+    × ((script : ScriptItems) × InputSpellsText input script
     × Appends before after (report_of (fonts_of file) (steps_until until (expanded script.items))))
 RunsText until file input before after (Err WriteFault) = (length file ≡ font_file_len)
-    × ((script : Listing) × InputSpellsText input script
+    × ((script : ScriptItems) × InputSpellsText input script
     × AppendsPrefix before after (report_of (fonts_of file)
     (steps_until until (expanded script.items))))
 RunsText until file input before after (Err FontSize) = (length file ≢ font_file_len)
-    × ((script : Listing) × InputSpellsText input script)
+    × ((script : ScriptItems) × InputSpellsText input script)
 RunsText until file input before after (Err fault) = IsAssemblingFault input fault
 
 -- an allocation failed in the run of the script that a text spells
-abbrev pub StopsText : Option ℕ → FontSet → Option (List ℕ) → Option (List ℕ) → Option (List ℕ) →
+abbrev pub TextRunsOutOfMemory : Option ℕ → FontSet → Option (List ℕ) → Option (List ℕ) → Option (List ℕ) →
     Type 0
-StopsText until fonts input before after = (script : Listing) × InputSpellsText input script
+TextRunsOutOfMemory until fonts input before after = (script : ScriptItems) × InputSpellsText input script
     × RunsOutOfMemory until fonts (expanded script.items) before after

@@ -3,7 +3,7 @@ ghost use Rattle.std.specs.Prelude.{◌≡◌, ◌==◌, codes, map, slice_index
 ghost use Rattle.std.specs.IoError.{error_kind};
 ghost use Rattle.clap.specs.Words.{first_of, found_of, rows_of, subcommand_rows_of};
 ghost use Rattle.vga.specs.Failure.{unread_failure};
-ghost use Rattle.vga.specs.Arguments.{FindsJob, JobAnswers, NamesPaths, RefusesCount, asked_of};
+ghost use Rattle.vga.specs.Arguments.{FindsJob, JobAnswers, WordsGiveJobOfRequest, RefusesCount, asked_of};
 ghost use Rattle.vga.specs.Arguments.{asm_asked};
 ghost use Rattle.vga.specs.Arguments.{count_of, dis_asked, go_asked, matches_have_bad_limit};
 ghost use Rattle.vga.specs.Arguments.{is_bad_count};
@@ -61,7 +61,8 @@ fn is_bad_count(command: &ArgMatches) -> bool
     }
 }
 
-/// The same of the command that the matches name.
+/// Whether the command that the matches name has a word after `--until` that is not a number of
+/// steps.
 #[tactic(auto, using(crate::proofs::WordsLemmas::rows_are_judged))]
 fn matches_have_bad_limit(matches: &ArgMatches) -> bool
     ensures { result ≡ matches_have_bad_limit (subcommand_rows_of matches.now) }
@@ -183,7 +184,7 @@ pub fn job<'a>(alloc: Global, words: &'a [String]) -> Result<Job<'a>, Failure>
     ensures answer { JobAnswers (map string_bytes words.now) result }
     // A command with its paths and its limit, in the order of its usage, gives the job with the
     // same.
-    ensures paths { NamesPaths (map string_bytes words.now) result }
+    ensures paths { WordsGiveJobOfRequest (map string_bytes words.now) result }
 {
     parsed_job(alloc, words)
 }

@@ -85,7 +85,8 @@ fn do_job<R: Env + Files + Print + AllocGlobal>(rt: &R) -> Result<(), Failure> {
     Ok(())
 }
 
-/// Writes why the job was not done.
+/// Writes why the job was not done, as one line on standard error, or as the text of the command
+/// line's error.
 fn explain<R: Print + Eprint>(rt: &R, failure: &Failure) -> io::Result<()> {
     match failure {
         Failure::Words(WordsError::Refused(error)) => error.print(rt),
@@ -96,7 +97,7 @@ fn explain<R: Print + Eprint>(rt: &R, failure: &Failure) -> io::Result<()> {
 
 /// Does the job that the words of the command line name, or writes why it was not done. Returns the
 /// exit status.
-fn status_of_job<R: Env + Files + Print + Eprint + AllocGlobal>(rt: &R) -> u8 {
+fn do_job_with_status<R: Env + Files + Print + Eprint + AllocGlobal>(rt: &R) -> u8 {
     let outcome = do_job(rt);
     if let Err(failure) = &outcome {
         let _ = explain(rt, failure);
@@ -105,5 +106,5 @@ fn status_of_job<R: Env + Files + Print + Eprint + AllocGlobal>(rt: &R) -> u8 {
 }
 
 fn main(rt: HostRuntime) -> ExitCode {
-    ExitCode::from(status_of_job(&rt))
+    ExitCode::from(do_job_with_status(&rt))
 }

@@ -1,7 +1,7 @@
 //! Files and output.
 ghost use Rattle.std.specs.Prelude.{◌≡◌, false, [], IfOk, IsOkUnless};
 ghost use Rattle.std.specs.Io.Buffered.{writer_buffer, writer_capacity, writer_inner};
-ghost use Rattle.vga_bits.specs.Tracked.{inner_of, has_failed, Writes};
+ghost use Rattle.vga_bits.specs.Tracked.{inner_of, has_failed, WritesWholeOrPrefix};
 
 use std::alloc::Global;
 use std::fs;
@@ -52,7 +52,7 @@ pub fn buffered<W: Write + Drop>(alloc: Global, writer: W) -> Result<Tracked<Buf
 #[tactic(auto, using(vga_bits::proofs::WritingLemmas::writes_more))]
 pub fn write_all<W: Write>(out: &mut Tracked<W>, bytes: &[u8]) -> Result<(), Fault>
     requires { has_failed out.old ≡ false }
-    ensures { Writes (W.contents (inner_of out.old)) (W.contents (inner_of out.new))
+    ensures { WritesWholeOrPrefix (W.contents (inner_of out.old)) (W.contents (inner_of out.new))
         (has_failed out.new) result bytes.now }
 {
     write_whole(out, bytes)?;

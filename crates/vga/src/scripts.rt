@@ -5,7 +5,7 @@ ghost use Rattle.vga_bits.specs.Tracked.{inner_of, has_failed, is_write_fault};
 ghost use Rattle.bios_modes.specs.Fonts.{fonts_of};
 ghost use Rattle.vga_script.specs.Input.{ReadsScript};
 ghost use Rattle.vga.specs.Scripts.{AssembleAnswers, FindsScript, DisassembleAnswers, RunsText};
-ghost use Rattle.vga.specs.Scripts.{StopsText};
+ghost use Rattle.vga.specs.Scripts.{TextRunsOutOfMemory};
 
 use super::output_files::write_all;
 use std::alloc::Global;
@@ -94,7 +94,7 @@ pub fn run_text<R: Read, W: Write>(
     ensures write_failed { has_failed out.new ≡ is_write_fault result }
     ensures unwritten { IfErr result (λ e. e ≢ WriteFault → e ≢ OutOfMemory → out.new ≡ out.old) }
     ensures stopped { result ≡ Err OutOfMemory → (out.new ≡ out.old)
-        ⊎ StopsText until (fonts_of fonts.now) (R.remaining (inner_of text.old))
+        ⊎ TextRunsOutOfMemory until (fonts_of fonts.now) (R.remaining (inner_of text.old))
         (W.contents (inner_of out.old)) (W.contents (inner_of out.new)) }
 {
     let script = read_and_assemble(alloc, text)?;

@@ -5,7 +5,7 @@ use Rattle.std.proofs.lemmas.Bool.Decides.{nat_tests}
 use Rattle.std.specs.Io.KnownBytes.{Appends, Keeps}
 use Rattle.std.proofs.KnownBytes.{Appends-nil, Appends-trans, Appends-kept}
 use Rattle.vga_bits.specs.declared.fault.Fault.{Fault}
-use Rattle.vga_bits.specs.Tracked.{AppendsPrefix, Writes}
+use Rattle.vga_bits.specs.Tracked.{AppendsPrefix, WritesWholeOrPrefix}
 
 -- of all the bytes the rest is still to be written
 pub record Written (old new : Option (List ℕ)) (failed : Bool) (all rest : List ℕ) : Type 0 where
@@ -68,7 +68,7 @@ prefix_of_more old new first second (prefix, back, parts, a) = (prefix, back ++ 
 
 -- after the first text, a call writes the second
 pub writes_after : {U : Type 0} (old mid new : Option (List ℕ)) (failed : Bool) (result : Result U Fault) (first second : List ℕ)
-    → Appends old mid first → Writes mid new failed result second → Writes old new failed result (first ++ second)
+    → Appends old mid first → WritesWholeOrPrefix mid new failed result second → WritesWholeOrPrefix old new failed result (first ++ second)
 writes_after old mid new failed (Ok u) first second a w = (Appends-trans old mid new first second a w.0, w.1)
 writes_after old mid new failed (Err e) first second a (is, bad, (prefix, back, parts, more)) = (
   is,
@@ -78,13 +78,13 @@ writes_after old mid new failed (Err e) first second a (is, bad, (prefix, back, 
 
 -- a first call writes n of the bytes, and later calls write the rest
 pub writes_rest : {U : Type 0} (old mid new : Option (List ℕ)) (failed : Bool) (result : Result U Fault) (all rest : List ℕ) (n : ℕ)
-    → Appends old mid (take n all) → rest ≡ drop n all → Writes mid new failed result rest → Writes old new failed result all
-writes_rest old mid new failed result all rest n a e w = subst (Writes old new failed result) (take-append-drop n all)
-    (writes_after old mid new failed result (take n all) (drop n all) a (subst (Writes mid new failed result) e w))
+    → Appends old mid (take n all) → rest ≡ drop n all → WritesWholeOrPrefix mid new failed result rest → WritesWholeOrPrefix old new failed result all
+writes_rest old mid new failed result all rest n a e w = subst (WritesWholeOrPrefix old new failed result) (take-append-drop n all)
+    (writes_after old mid new failed result (take n all) (drop n all) a (subst (WritesWholeOrPrefix mid new failed result) e w))
 
 -- after some bytes, a call writes nothing more
 pub writes_more : {U : Type 0} (old mid new : Option (List ℕ)) (failed : Bool) (result : Result U Fault) (bytes : List ℕ) → Appends old mid bytes →
-    Writes mid new failed result [] → Writes old new failed result bytes
+    WritesWholeOrPrefix mid new failed result [] → WritesWholeOrPrefix old new failed result bytes
 writes_more old mid new failed (Ok u) bytes a w = (subst (Appends old new) (append-nil bytes) (Appends-trans old mid new bytes [] a w.0), w.1)
 writes_more old mid new failed (Err e) bytes a (is, bad, ([], back, parts, more)) =
     (is, bad, (bytes ++ [], [], sym (simp append-nil), Appends-trans old mid new bytes [] a more))

@@ -42,10 +42,10 @@ AppendsPrefix old new bytes = (prefix : List ℕ) × (back : List ℕ) × (bytes
 
 -- What a call that writes bytes returns: it has written all of them, or the writer has failed and
 -- has a prefix of them.
-abbrev pub Writes : {U : Type 0} → Option (List ℕ) → Option (List ℕ) → Bool → Result U Fault →
+abbrev pub WritesWholeOrPrefix : {U : Type 0} → Option (List ℕ) → Option (List ℕ) → Bool → Result U Fault →
     List ℕ → Type 0
-Writes old new failed (Ok u) bytes = Appends old new bytes × (failed ≡ false)
-Writes old new failed (Err e) bytes = (e ≡ WriteFault) × (failed ≡ true)
+WritesWholeOrPrefix old new failed (Ok u) bytes = Appends old new bytes × (failed ≡ false)
+WritesWholeOrPrefix old new failed (Err e) bytes = (e ≡ WriteFault) × (failed ≡ true)
     × AppendsPrefix old new bytes
 
 -- the answer is WriteFault

@@ -74,7 +74,7 @@ impl Bytes {
         }
     }
 
-    /// The bytes.
+    /// The bytes, borrowed as a slice.
     pub fn as_slice(&self) -> &[u8]
         ensures { result.now ≡ self.now }
     {

@@ -25,6 +25,6 @@ pub use saved::{
     are_within_masks, flag_byte, high_byte, low_byte, put_byte, put_bytes, put_word, word_at,
 };
 pub use state_fault::StateFault;
-pub use tally::Tally;
+pub use tally::ComparisonTally;
 pub use text_buffer::{TextBuffer, hex_digit};
 pub use tracked::{Tracked, flush, write_whole};

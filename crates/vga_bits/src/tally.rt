@@ -4,20 +4,21 @@ ghost use Rattle.vga_bits.specs.Tally.{saturating_increment};
 
 use std::fmt;
 
-/// How many comparisons passed and failed. It is printed as in `12 passed, 0 failed`.
+/// How many comparisons of a test passed and how many failed. It is printed as in `12 passed, 0
+/// failed`.
 #[derive(Clone, Copy)]
-pub struct Tally {
+pub struct ComparisonTally {
     pub passed: u64,
     pub failed: u64,
 }
 
-impl Tally {
+impl ComparisonTally {
     /// No comparison yet.
-    pub fn new() -> Tally
+    pub fn new() -> ComparisonTally
         ensures passed { result.passed ≡ 0 }
         ensures failed { result.failed ≡ 0 }
     {
-        Tally {
+        ComparisonTally {
             passed: 0,
             failed: 0,
         }
@@ -45,7 +46,7 @@ impl Tally {
     }
 }
 
-impl fmt::Display for Tally {
+impl fmt::Display for ComparisonTally {
     fn fmt<W: fmt::Write>(&self, f: &mut fmt::Formatter<W>) -> fmt::Result {
         let passed = self.passed;
         let failed = self.failed;

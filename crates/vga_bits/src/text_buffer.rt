@@ -150,7 +150,7 @@ impl<const ROOM: usize> TextBuffer<ROOM> {
         ]);
     }
 
-    /// The bytes.
+    /// The text's bytes, borrowed as a slice.
     pub fn as_slice(&self) -> &[u8]
         ensures { result.now ≡ self.now }
     {

@@ -3,7 +3,7 @@ ghost use Rattle.std.specs.Prelude.{◌≡◌, ◌||◌, [], is_err, false};
 ghost use Rattle.std.specs.Io.{ReadsAtMost, WritesAtMost};
 ghost use Rattle.std.specs.Io.KnownBytes.{ReadConsumes, WriteAppends, Keeps};
 ghost use Rattle.vga_bits.specs.Tracked.{inner_of, has_failed, read_count_after, read_count_of};
-ghost use Rattle.vga_bits.specs.Tracked.{write_fails, Writes};
+ghost use Rattle.vga_bits.specs.Tracked.{write_fails, WritesWholeOrPrefix};
 
 use super::fault::Fault;
 use std::io;
@@ -133,7 +133,7 @@ impl<T: Write> Write for Tracked<T> {
 #[inline(never)]
 fn write_rest<W: Write>(out: &mut Tracked<W>, bytes: &[u8]) -> Result<(), Fault>
     requires { has_failed out.old ≡ false }
-    ensures { Writes (W.contents (inner_of out.old)) (W.contents (inner_of out.new))
+    ensures { WritesWholeOrPrefix (W.contents (inner_of out.old)) (W.contents (inner_of out.new))
         (has_failed out.new) result bytes.now }
 {
     let mut rest = bytes;
@@ -153,7 +153,7 @@ fn write_rest<W: Write>(out: &mut Tracked<W>, bytes: &[u8]) -> Result<(), Fault>
 #[inline(always)]
 pub fn write_whole<W: Write>(out: &mut Tracked<W>, bytes: &[u8]) -> Result<(), Fault>
     requires { has_failed out.old ≡ false }
-    ensures { Writes (W.contents (inner_of out.old)) (W.contents (inner_of out.new))
+    ensures { WritesWholeOrPrefix (W.contents (inner_of out.old)) (W.contents (inner_of out.new))
         (has_failed out.new) result bytes.now }
 {
     if bytes.is_empty() {
@@ -171,7 +171,7 @@ pub fn write_whole<W: Write>(out: &mut Tracked<W>, bytes: &[u8]) -> Result<(), F
 #[tactic(auto, using(crate::proofs::WritingLemmas::kept_is_nothing))]
 pub fn flush<W: Write>(out: &mut Tracked<W>) -> Result<(), Fault>
     requires { has_failed out.old ≡ false }
-    ensures { Writes (W.contents (inner_of out.old)) (W.contents (inner_of out.new))
+    ensures { WritesWholeOrPrefix (W.contents (inner_of out.old)) (W.contents (inner_of out.new))
         (has_failed out.new) result [] }
 {
     match out.flush() {

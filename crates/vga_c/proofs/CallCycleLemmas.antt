@@ -6,16 +6,16 @@ use Rattle.vga_run.specs.declared.machine.Machine.{Machine}
 use Rattle.vga_run.specs.CycleList.{listed_bytes, IsCycleList, IsUnlisted}
 use Rattle.vga_c.specs.declared.services.CallRegisters.{CallRegisters}
 use Rattle.vga_c.specs.Buffers.{IsCopied}
-use Rattle.vga_c.specs.CallCycles.{regs_of, list_output, unlisted_status, AreListed}
+use Rattle.vga_c.specs.CallCycles.{regs_of, list_output, unlisted_status, AreCyclesListed}
 
 pub listed : (m : Machine) (registers : CallRegisters) (block bytes new : List ℕ) (len after status : ℕ) (script : BytesWritten) →
     IsCycleList m (regs_of registers) block (length bytes) script →
     ((all : List ℕ) → script.len ≡ length all → (script.len ≤ length bytes → script.bytes ≡ all) → IsCopied all bytes new after status) →
-    AreListed m registers block (list_output bytes len) (list_output new after) status
+    AreCyclesListed m registers block (list_output bytes len) (list_output new after) status
 listed m registers block bytes new len after status script is copied =
     (Ok (listed_bytes m (regs_of registers) block), (refl, is.spelled, is.done), copied (listed_bytes m (regs_of registers) block) is.counted is.kept)
 
 pub unlisted : (m : Machine) (registers : CallRegisters) (block bytes : List ℕ) (len status : ℕ) (why : Unlisted) →
     IsUnlisted m (regs_of registers) block why → status ≡ unlisted_status why →
-    AreListed m registers block (list_output bytes len) (list_output bytes len) status
+    AreCyclesListed m registers block (list_output bytes len) (list_output bytes len) status
 unlisted m registers block bytes len status why is told = (Err why, is, (told, refl))

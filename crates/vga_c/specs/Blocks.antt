@@ -27,7 +27,8 @@ abbrev pub IsBlockEnough : Machine → CallRegisters → ℕ → Type 0
 IsBlockEnough m r len = (block : List ℕ) → length block ≡ len →
     ¬ (answer_to m (call_step r block) ≡ Short (Refused BadBlock))
 
--- an open card answers that
+-- an open card answers how many bytes a call reads, and where; with a block of that length the call
+-- is not refused for its block
 abbrev pub TellsBlock : HandleState → CallRegisters → BlockPlace → ℕ → Type 0
 TellsBlock old r told status = old.is_open ≡ true →
     IsBlockPlace r told × (IsBlockEnough (machine_of old) r told.len × (status ≡ 0))

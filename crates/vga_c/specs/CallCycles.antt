@@ -41,18 +41,20 @@ IsOutcomeOfList m regs block (Ok bytes) = (bytes ≡ listed_bytes m regs block)
     × IsOk (after_int10 m regs.ax regs.bx regs.cx regs.dx block).1.0
 IsOutcomeOfList m regs block (Err why) = IsUnlisted m regs block why
 
--- the output has the bytes; or the status says why there are none
-abbrev pub HasCycles : Result (List ℕ) Unlisted → ListOutput → ListOutput → ℕ → Type 0
-HasCycles (Ok bytes) before after status = IsCopied bytes before.bytes after.bytes after.len status
-HasCycles (Err why) before after status = (status ≡ unlisted_status why) × (after ≡ before)
+-- the output has the bytes that list the cycles; or the status says why there are none, and the
+-- output is unchanged
+abbrev pub OutputHasCycles : Result (List ℕ) Unlisted → ListOutput → ListOutput → ℕ → Type 0
+OutputHasCycles (Ok bytes) before after status = IsCopied bytes before.bytes after.bytes after.len status
+OutputHasCycles (Err why) before after status = (status ≡ unlisted_status why) × (after ≡ before)
 
--- that holds for the cycles of a call on a machine
-abbrev pub AreListed : Machine → CallRegisters → List ℕ → ListOutput → ListOutput → ℕ → Type 0
-AreListed m registers block before after status = (outcome : Result (List ℕ) Unlisted)
-    × IsOutcomeOfList m (regs_of registers) block outcome × HasCycles outcome before after status
+-- the output lists the cycles of a call on a machine, or the status says why there is no list
+abbrev pub AreCyclesListed : Machine → CallRegisters → List ℕ → ListOutput → ListOutput → ℕ → Type 0
+AreCyclesListed m registers block before after status = (outcome : Result (List ℕ) Unlisted)
+    × IsOutcomeOfList m (regs_of registers) block outcome × OutputHasCycles outcome before after status
 
--- and on an open card with valid BIOS data
-abbrev pub Lists : HandleState → CallRegisters → List ℕ → ListOutput → ListOutput → ℕ → Type 0
-Lists old registers block before after status = old.is_open ≡ true →
+-- the cycles of a call on an open card with valid BIOS data are listed to the output, or the status
+-- says why not
+abbrev pub OpenCardListsCycles : HandleState → CallRegisters → List ℕ → ListOutput → ListOutput → ℕ → Type 0
+OpenCardListsCycles old registers block before after status = old.is_open ≡ true →
     IsValid (machine_of old).bda →
-    AreListed (machine_of old) registers block before after status
+    AreCyclesListed (machine_of old) registers block before after status

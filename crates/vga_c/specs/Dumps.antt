@@ -9,7 +9,7 @@ use Rattle.vga_run.specs.declared.machine.Machine.{Machine}
 use Rattle.vga_run.specs.Step.{dump_refusal, dump_text}
 use Rattle.vga_c.specs.Handle.{HandleState, machine_of}
 use Rattle.vga_c.specs.Buffers.{IsCopied}
-use Rattle.vga_c.specs.Cards.{KeepsMachine, LeavesClosed, Spares}
+use Rattle.vga_c.specs.Cards.{OpenCardKeepsMachine, ClosedCardStaysUnchanged, ClosedCardLeavesOutput}
 use Rattle.vga_c.specs.Status.{bad_argument_status, bad_data_status, out_of_memory_status}
 use Rattle.vga_c.specs.Status.{refusal_status}
 
@@ -27,35 +27,37 @@ abbrev pub IsUnchangedOutput : ℕ → DumpOutput → DumpOutput → ℕ → Typ
 IsUnchangedOutput why before after status = (after ≡ before) × (status ≡ why)
 
 -- the output has a text, unless the dump is refused or an allocation failed
-abbrev pub IsDumped : Option Refusal → List ℕ → DumpOutput → DumpOutput → ℕ → Type 0
-IsDumped None text before after status = IsUnchangedOutput out_of_memory_status before after status
+abbrev pub OutputHasDump : Option Refusal → List ℕ → DumpOutput → DumpOutput → ℕ → Type 0
+OutputHasDump None text before after status = IsUnchangedOutput out_of_memory_status before after status
     ⊎ IsCopied text before.text after.text after.len status
-IsDumped (Some why) text before after status =
+OutputHasDump (Some why) text before after status =
     IsUnchangedOutput (refusal_status why) before after status
 
--- that holds for the dump of a machine with valid BIOS data; with others the status says so
-abbrev pub Dumps : Machine → Shown → DumpOutput → DumpOutput → ℕ → Type 0
-Dumps m what before after status =
-    (IsValid m.bda → IsDumped (dump_refusal m what) (dump_text m what) before after status)
+-- the output has the dump of a machine with valid BIOS data; if the data are not valid, the output
+-- is unchanged and the status says so
+abbrev pub DumpsMachine : Machine → Shown → DumpOutput → DumpOutput → ℕ → Type 0
+DumpsMachine m what before after status =
+    (IsValid m.bda → OutputHasDump (dump_refusal m what) (dump_text m what) before after status)
     × ((IsValid m.bda → ⊥) → IsUnchangedOutput bad_data_status before after status)
 
 -- a call that reads a card: the card stays as it is, and the output of one that is not open does
 -- too
 abbrev pub LeavesCardUnchanged : HandleState → HandleState → DumpOutput → DumpOutput → ℕ → Type 0
-LeavesCardUnchanged old new before after status = KeepsMachine old new
-    × (LeavesClosed old new status × Spares old before after)
+LeavesCardUnchanged old new before after status = OpenCardKeepsMachine old new
+    × (ClosedCardStaysUnchanged old new status × ClosedCardLeavesOutput old before after)
 
--- such a call dumps an open card
+-- a call dumps this part of an open card; the card stays as it is
 abbrev pub Shows : Shown → HandleState → HandleState → DumpOutput → DumpOutput → ℕ → Type 0
 Shows what old new before after status = LeavesCardUnchanged old new before after status
-    × (old.is_open ≡ true → Dumps (machine_of old) what before after status)
+    × (old.is_open ≡ true → DumpsMachine (machine_of old) what before after status)
 
 -- bytes of a plane: 1 to 256, none past its end
 abbrev pub is_plane_part : ℕ → ℕ → ℕ → Bool
 is_plane_part plane offset count = nat_lt plane 4 && (nat_lt 0 count && (nat_le count 256
     && nat_le (offset + count) 0x1_0000))
 
--- such a call dumps these bytes of a plane; other ranges are refused
+-- a call dumps these bytes of a plane of an open card; a range that is not 1 to 256 bytes within a
+-- plane is refused
 abbrev pub DumpsPlanePart : ℕ → ℕ → ℕ → HandleState → HandleState → DumpOutput → DumpOutput → ℕ
     → Type 0
 DumpsPlanePart plane offset count old new before after status =

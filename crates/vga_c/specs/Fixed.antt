@@ -13,7 +13,7 @@ use Rattle.vga_c.specs.Status.{no_room_status}
 abbrev pub state_and_zeros : List ℕ → ℕ → List ℕ
 state_and_zeros state len = state ++ zeros (len - (4 + length state))
 
--- those bytes, and their checksum
+-- a state of a fixed length: the state, zeros, and the checksum of both
 abbrev pub fixed_bytes : List ℕ → ℕ → List ℕ
 fixed_bytes state len =
     state_and_zeros state len ++ four_bytes_of_number (adler_32 (state_and_zeros state len))
@@ -24,22 +24,24 @@ IsSavedFixed state old new status =
     (4 + length state ≤ length old → (new ≡ fixed_bytes state (length old)) × (status ≡ 0))
     × (length old < 4 + length state → (new ≡ old) × (status ≡ no_room_status))
 
--- that holds for the state of an open card
+-- the caller's whole buffer has the state of an open card, with zeros and a checksum; or it is too
+-- short, and stays as it is
 abbrev pub SavesFixed : HandleState → List ℕ → List ℕ → ℕ → Type 0
 SavesFixed card old new status = card.is_open ≡ true →
     IsSavedFixed (saved_machine (machine_of card)) old new status
 
--- the status for a wrong checksum
-abbrev pub state_checksum : ℕ
-state_checksum = 34
+-- the status that says that the checksum of a state of a fixed length is wrong
+abbrev pub wrong_checksum_status : ℕ
+wrong_checksum_status = 34
 
 -- the bytes before the checksum
 abbrev pub bytes_before_checksum : List ℕ → List ℕ
 bytes_before_checksum bytes = take (length bytes - 4) bytes
 
--- the state at the beginning of those bytes, as long as it says
-abbrev pub state_in : List ℕ → List ℕ
-state_in body =
+-- the state at the beginning of the bytes before the checksum, as long as its header says; the
+-- zeros after it are left out
+abbrev pub state_without_padding : List ℕ → List ℕ
+state_without_padding body =
     if nat_lt (length body) 9 then body else take (min (number_of_four_bytes body 5) (length body))
     body
 
@@ -52,10 +54,11 @@ HasRightChecksum bytes = (4 ≤ length bytes) × (number_of_four_bytes bytes (le
 -- otherwise the machine stays as it is
 abbrev pub IsRestoredFixed : Machine → Machine → List ℕ → ℕ → Type 0
 IsRestoredFixed old new bytes status =
-    (HasRightChecksum bytes → IsRestored old new (state_in (bytes_before_checksum bytes)) status)
-    × (¬ HasRightChecksum bytes → (new ≡ old) × (status ≡ state_checksum))
+    (HasRightChecksum bytes → IsRestored old new (state_without_padding (bytes_before_checksum bytes)) status)
+    × (¬ HasRightChecksum bytes → (new ≡ old) × (status ≡ wrong_checksum_status))
 
--- that holds for an open card
+-- an open card stays open, and is restored from a state of a fixed length if its checksum is right;
+-- otherwise it stays as it is
 abbrev pub RestoresFixed : HandleState → HandleState → List ℕ → ℕ → Type 0
 RestoresFixed old new bytes status = old.is_open ≡ true → (new.is_open ≡ true)
     × IsRestoredFixed (machine_of old) (machine_of new) bytes status

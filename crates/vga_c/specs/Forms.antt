@@ -37,8 +37,8 @@ abbrev pub has_room : ℕ → ℕ → ℕ → ℕ → Bool
 has_room width height pitch len = nat_le width pitch && nat_le (pitch * height) len
 
 -- the words are in the buffer, if it has room for them
-abbrev pub AreInRows : ℕ → ℕ → ℕ → (ℕ → ℕ → ℕ) → List ℕ → List ℕ → ℕ → Type 0
-AreInRows width height pitch word old new status =
+abbrev pub AreRowsInBuffer : ℕ → ℕ → ℕ → (ℕ → ℕ → ℕ) → List ℕ → List ℕ → ℕ → Type 0
+AreRowsInBuffer width height pitch word old new status =
     (has_room width height pitch (length old) ≡ true →
     AreRowsOfWords width height pitch word old new × (status ≡ 0))
     × (has_room width height pitch (length old) ≡ false → (new ≡ old) × (status ≡ no_room_status))
@@ -94,7 +94,7 @@ abbrev pub HasPictureInForm : Form → StepAnswer → ℕ → WordPicture → Wo
     → ℕ →
     Type 0
 HasPictureInForm form (Picture width height bytes) pitch told_old told old new status =
-    (told ≡ picture_description form width height) × AreInRows (div_ceil width form.across)
+    (told ≡ picture_description form width height) × AreRowsInBuffer (div_ceil width form.across)
     (div_ceil height form.down) pitch (form_word form width bytes) old new status
 HasPictureInForm form Ragged pitch told_old told old new status =
     (told ≡ told_old) × ((new ≡ old) × (status ≡ ragged_status))
@@ -102,17 +102,18 @@ HasPictureInForm form reply pitch told_old told old new status = ⊥
 
 -- Known flags: the machine comes to the end of the frame under way, and the output has its picture
 -- in that form. With other flags, machine and output are unchanged.
-abbrev pub DrawsForm : ℕ → Machine → Machine → ℕ → WordPicture → WordPicture → List ℕ → List ℕ →
+abbrev pub DrawsFrameInForm : ℕ → Machine → Machine → ℕ → WordPicture → WordPicture → List ℕ → List ℕ →
     ℕ → Type 0
-DrawsForm flags old_machine new_machine pitch told_old told old new status =
+DrawsFrameInForm flags old_machine new_machine pitch told_old told old new status =
     (flags < 4 → (new_machine ≡ after_step old_machine Frame) × HasPictureInForm (form_of flags
     old_machine.card) (answer_to old_machine Frame) pitch told_old told old new status)
     × (4 ≤ flags → (new_machine ≡ old_machine) × ((told ≡ told_old) × ((new ≡ old)
     × (status ≡ bad_argument_status))))
 
--- that holds for an open card
-abbrev pub DrawsFormOf : ℕ → HandleState → HandleState → ℕ → WordPicture → WordPicture → List ℕ →
+-- an open card draws the frame under way in the form that the flags ask for; with unknown flags
+-- nothing changes
+abbrev pub DrawsOpenCardInForm : ℕ → HandleState → HandleState → ℕ → WordPicture → WordPicture → List ℕ →
     List ℕ → ℕ → Type 0
-DrawsFormOf flags card_old card pitch told_old told old new status = card_old.is_open ≡ true →
-    (card.is_open ≡ true) × DrawsForm flags (machine_of card_old) (machine_of card) pitch told_old
+DrawsOpenCardInForm flags card_old card pitch told_old told old new status = card_old.is_open ≡ true →
+    (card.is_open ≡ true) × DrawsFrameInForm flags (machine_of card_old) (machine_of card) pitch told_old
     told old new status

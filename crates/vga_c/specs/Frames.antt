@@ -8,10 +8,10 @@ use Rattle.vga_script.specs.declared.step.Step.TheVariants.{Frame}
 use Rattle.vga_run.specs.declared.machine.Machine.{Machine}
 use Rattle.vga_run.specs.Answer.{StepAnswer, Picture, Ragged}
 use Rattle.vga_run.specs.Step.{after_step, answer_to}
-use Rattle.vga_run.specs.Saved.{machine_with_fresh_canvas}
+use Rattle.vga_run.specs.Saved.{machine_without_unseen_dots}
 use Rattle.vga_c.specs.declared.frames.Size.{Size}
 use Rattle.vga_c.specs.Handle.{HandleState, machine_of}
-use Rattle.vga_c.specs.Forms.{AreInRows, rgb_word_of_dot}
+use Rattle.vga_c.specs.Forms.{AreRowsInBuffer, rgb_word_of_dot}
 use Rattle.vga_c.specs.Buffers.{IsCopied, room_status, with_prefix}
 use Rattle.vga_c.specs.Cards.{HoldsMachine}
 use Rattle.vga_c.specs.Status.{ragged_status}
@@ -24,7 +24,7 @@ EndsFrame old new = old.is_open ≡ true → HoldsMachine new (after_step (machi
 -- no step can see any more.
 abbrev pub SkipsFrame : HandleState → HandleState → ℕ → Type 0
 SkipsFrame old new status = old.is_open ≡ true →
-    HoldsMachine new (machine_with_fresh_canvas (after_step (machine_of old) Frame)) × (status ≡ 0)
+    HoldsMachine new (machine_without_unseen_dots (after_step (machine_of old) Frame)) × (status ≡ 0)
 
 -- how large a picture is
 abbrev pub size_of : ℕ → ℕ → Size
@@ -42,7 +42,8 @@ HasDotBytes Ragged size_old size old new status =
     (size ≡ size_old) × ((new ≡ old) × (status ≡ ragged_status))
 HasDotBytes reply size_old size old new status = ⊥
 
--- that holds for the frame of an open card
+-- the output has the picture of an open card's frame, a word for each dot, or only its size if
+-- there was no room
 abbrev pub DrawsBytes : HandleState → Size → Size → List ℕ → List ℕ → ℕ → Type 0
 DrawsBytes card size_old size old new status = card.is_open ≡ true →
     HasDotBytes (answer_to (machine_of card) Frame) size_old size old new status
@@ -53,13 +54,14 @@ DrawsBytes card size_old size old new status = card.is_open ≡ true →
 -- in width, the status says so, and the output is unchanged.
 abbrev pub HasDotWords : StepAnswer → ℕ → Size → Size → List ℕ → List ℕ → ℕ → Type 0
 HasDotWords (Picture width height bytes) pitch size_old size old new status =
-    (size ≡ size_of width height) × AreInRows width height pitch
+    (size ≡ size_of width height) × AreRowsInBuffer width height pitch
     (λ x y. rgb_word_of_dot bytes (width * y + x)) old new status
 HasDotWords Ragged pitch size_old size old new status =
     (size ≡ size_old) × ((new ≡ old) × (status ≡ ragged_status))
 HasDotWords reply pitch size_old size old new status = ⊥
 
--- that holds for the frame of an open card
+-- the output has the picture of an open card's frame, three bytes for each dot, or only its size if
+-- there was no room
 abbrev pub DrawsWords : HandleState → ℕ → Size → Size → List ℕ → List ℕ → ℕ → Type 0
 DrawsWords card pitch size_old size old new status = card.is_open ≡ true →
     HasDotWords (answer_to (machine_of card) Frame) pitch size_old size old new status
@@ -71,8 +73,8 @@ abbrev pub frame_dots : Machine → List Dot
 frame_dots m = (frame m.card).drawn
 
 -- the output has the number of dots of each line of an open card's frame
-abbrev pub CountsLines : HandleState → List ℕ → Type 0
-CountsLines card widths = card.is_open ≡ true →
+abbrev pub CountsDotsOfLines : HandleState → List ℕ → Type 0
+CountsDotsOfLines card widths = card.is_open ≡ true →
     widths ≡ line_widths (frame_dots (machine_of card))
 
 -- the output has the colours of the dots, and how many bytes they are; or there was no room for
@@ -80,3 +82,16 @@ CountsLines card widths = card.is_open ≡ true →
 abbrev pub GivesDotBytes : HandleState → List ℕ → List ℕ → ℕ → ℕ → Type 0
 GivesDotBytes card old new len status = card.is_open ≡ true →
     IsCopied (bytes_of_dots (frame_dots (machine_of card))) old new len status
+
+-- ---- what is drawn until now
+
+-- the output has the number of dots of each line that an open card has drawn until now
+abbrev pub CountsDrawnLines : HandleState → List ℕ → Type 0
+CountsDrawnLines card widths = card.is_open ≡ true →
+    widths ≡ line_widths (machine_of card).card.drawn
+
+-- the output has the colours of these dots, and how many bytes they are; or there was no room for
+-- them
+abbrev pub GivesDrawnBytes : HandleState → List ℕ → List ℕ → ℕ → ℕ → Type 0
+GivesDrawnBytes card old new len status = card.is_open ≡ true →
+    IsCopied (bytes_of_dots (machine_of card).card.drawn) old new len status

@@ -26,8 +26,8 @@ RefusesFile file old new status = old.is_open ≡ false → length file ≢ font
     IsUnchangedCard font_size_status old new status
 
 -- a card that is open stays as it is
-abbrev pub LeavesOpen : HandleState → HandleState → ℕ → Type 0
-LeavesOpen old new status = old.is_open ≡ true → IsUnchangedCard open_already_status old new status
+abbrev pub OpenCardStaysUnchanged : HandleState → HandleState → ℕ → Type 0
+OpenCardStaysUnchanged old new status = old.is_open ≡ true → IsUnchangedCard open_already_status old new status
 
 -- an open card is closed
 abbrev pub Closes : HandleState → HandleState → ℕ → Type 0

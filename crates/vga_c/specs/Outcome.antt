@@ -45,8 +45,9 @@ HasScriptOutcome (Ok bytes) before after status = (after.place ≡ before.place)
 HasScriptOutcome (Err why) before after status = (status ≡ fault_status why)
     × (after ≡ script_output before.bytes before.len (fault_place why before.place))
 
--- that holds for an outcome with this property
-abbrev pub GivesOutcome : (Result (List ℕ) Fault → Type 0) → ScriptOutput → ScriptOutput → ℕ
+-- some outcome has this property, and the output has that outcome: the bytes, or the status and the
+-- place of a fault
+abbrev pub HasOutcomeWithProperty : (Result (List ℕ) Fault → Type 0) → ScriptOutput → ScriptOutput → ℕ
     → Type 0
-GivesOutcome IsThis before after status = (outcome : Result (List ℕ) Fault)
+HasOutcomeWithProperty IsThis before after status = (outcome : Result (List ℕ) Fault)
     × IsThis outcome × HasScriptOutcome outcome before after status

@@ -6,7 +6,7 @@ use Rattle.bios_modes.specs.Fonts.{font_file_len, fonts_of}
 use Rattle.vga_script.specs.declared.step.Step.{Step}
 use Rattle.vga_script.specs.Input.{InputHasFault, InputMeans, IsTooLong}
 use Rattle.vga_run.specs.Report.{report_of}
-use Rattle.vga_c.specs.Outcome.{ScriptOutput, GivesOutcome}
+use Rattle.vga_c.specs.Outcome.{ScriptOutput, HasOutcomeWithProperty}
 
 -- the first fault of a font file and the bytes of a script; or an allocation failed, with a font
 -- file of the right size
@@ -28,6 +28,6 @@ abbrev pub IsReportOrFault : List ℕ → List ℕ → Result (List ℕ) Fault �
 IsReportOrFault file script (Ok report) = IsReport file script report
 IsReportOrFault file script (Err why) = IsFirstFault file script why
 
--- the output has that
+-- the output has the report of a script, or the status and the place of the first fault
 abbrev pub GivesReport : List ℕ → List ℕ → ScriptOutput → ScriptOutput → ℕ → Type 0
-GivesReport file script = GivesOutcome (IsReportOrFault file script)
+GivesReport file script = HasOutcomeWithProperty (IsReportOrFault file script)

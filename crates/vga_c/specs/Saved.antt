@@ -31,7 +31,8 @@ IsRestored old new bytes status =
     (IsSavedMachine bytes × (new ≡ machine_from old.fonts bytes) × (status ≡ 0))
     ⊎ ((why : StateFault) × IsStateFault why bytes × (new ≡ old) × (status ≡ state_status why))
 
--- that holds for the machine of an open card, which stays open
+-- an open card has the state of some bytes, keeps its fonts and stays open; or the bytes are no
+-- state, and it stays as it is
 abbrev pub Restores : HandleState → HandleState → List ℕ → ℕ → Type 0
 Restores old new bytes status = old.is_open ≡ true → (new.is_open ≡ true)
     × IsRestored (machine_of old) (machine_of new) bytes status

@@ -15,14 +15,14 @@ use Rattle.vga_c.specs.State.{flag}
 use Rattle.vga_c.specs.Status.{bad_argument_status, no_screen_status, out_of_memory_status}
 
 -- this number of pixels in a graphics mode, or 0 in text
-abbrev pub count_unless_text : ℕ → ℕ → ℕ
-count_unless_text mode count = if is_text mode then 0 else count
+abbrev pub pixel_count_unless_text : ℕ → ℕ → ℕ
+pixel_count_unless_text mode count = if is_text mode then 0 else count
 
 -- mode, page and sizes of a screen
 abbrev pub layout_in : Screen → ScreenLayout
 layout_in s = record {
-  width = count_unless_text s.mode (8 * s.layout.columns);
-  height = count_unless_text s.mode (s.layout.height * s.layout.rows);
+  width = pixel_count_unless_text s.mode (8 * s.layout.columns);
+  height = pixel_count_unless_text s.mode (s.layout.height * s.layout.rows);
   columns = s.layout.columns;
   rows = s.layout.rows;
   mode = s.mode;
@@ -31,12 +31,12 @@ layout_in s = record {
   pages = s.layout.pages;
 }
 
--- the same by the BIOS data, if the mode has this row
-abbrev pub layout_by : Option ModeRow → BiosData → Option ScreenLayout
-layout_by None d = None
-layout_by (Some row) d = Some (record {
-  width = count_unless_text d.mode (8 * d.columns);
-  height = count_unless_text d.mode (d.height * (d.last_row + 1));
+-- mode, page and sizes of the screen, by the BIOS data, if there is a row of their mode
+abbrev pub layout_by_bios_data : Option ModeRow → BiosData → Option ScreenLayout
+layout_by_bios_data None d = None
+layout_by_bios_data (Some row) d = Some (record {
+  width = pixel_count_unless_text d.mode (8 * d.columns);
+  height = pixel_count_unless_text d.mode (d.height * (d.last_row + 1));
   columns = d.columns;
   rows = d.last_row + 1;
   mode = d.mode;
@@ -60,20 +60,22 @@ abbrev pub IsAnswered : {A : Type 0} → Option A → A → A → ℕ → Type 0
 IsAnswered None before after status = (after ≡ before) × (status ≡ bad_argument_status)
 IsAnswered (Some value) before after status = (after ≡ value) × (status ≡ 0)
 
--- that holds for the screen that is shown, if there is one
+-- the output has what was asked of the screen that is shown; if none is shown, the output is
+-- unchanged and the status says so
 abbrev pub IsScreenAnswer : {A : Type 0} → Option Screen → (Screen → Option A) → A → A → ℕ → Type 0
 IsScreenAnswer None ask before after status = (after ≡ before) × (status ≡ no_screen_status)
 IsScreenAnswer (Some screen) ask before after status = IsAnswered (ask screen) before after status
 
--- and for the one that a machine shows; or an allocation failed
-abbrev pub HasOfScreen : {A : Type 0} → Machine → (Screen → Option A) → A → A → ℕ → Type 0
-HasOfScreen m ask before after status = ((after ≡ before) × (status ≡ out_of_memory_status))
+-- the output has what was asked of the screen that a machine shows; or an allocation failed, and
+-- the output is unchanged
+abbrev pub MachineAnswersFromScreen : {A : Type 0} → Machine → (Screen → Option A) → A → A → ℕ → Type 0
+MachineAnswersFromScreen m ask before after status = ((after ≡ before) × (status ≡ out_of_memory_status))
     ⊎ IsScreenAnswer (shown m.card m.bda) ask before after status
 
--- that holds for an open card
-abbrev pub AnswersFromScreen : {A : Type 0} → (Screen → Option A) → HandleState → A → A → ℕ → Type 0
-AnswersFromScreen ask card before after status = card.is_open ≡ true →
-    HasOfScreen (machine_of card) ask before after status
+-- the output has what was asked of the screen that an open card shows
+abbrev pub OpenCardAnswersFromScreen : {A : Type 0} → (Screen → Option A) → HandleState → A → A → ℕ → Type 0
+OpenCardAnswersFromScreen ask card before after status = card.is_open ≡ true →
+    MachineAnswersFromScreen (machine_of card) ask before after status
 
 -- asks a screen for its layout
 abbrev pub ask_layout : Screen → Option ScreenLayout

@@ -13,9 +13,9 @@ abbrev pub sealed_owns : Global → Ptr → the_row.Denot → Fml
 sealed_owns alloc = box_owns (ghosts.dealloc_token alloc) the_row
 
 -- a machine if there is one, and otherwise nothing
-unfoldable pub owns_if : Bool → Global → Ptr → the_row.Denot → Fml
-owns_if true alloc p m = sealed_owns alloc p m
-owns_if false alloc p m = ftrue
+unfoldable pub owns_machine_if : Bool → Global → Ptr → the_row.Denot → Fml
+owns_machine_if true alloc p m = sealed_owns alloc p m
+owns_machine_if false alloc p m = ftrue
 
 -- machines as values of a ghost field
 abbrev pub machine_coded : Coded the_row.Denot

@@ -37,44 +37,46 @@ registers_of r = record { ax = r.ax; bx = r.bx; cx = r.cx; dx = r.dx }
 
 -- the output has the registers and the table of an answer; or the status is that of a refusal, and
 -- the output is unchanged
-abbrev pub HasAnswer : StepAnswer → ServiceOutput → ServiceOutput → ℕ → Type 0
-HasAnswer (Served regs table) before after status = (after.registers ≡ registers_of regs)
+abbrev pub HasServiceAnswer : StepAnswer → ServiceOutput → ServiceOutput → ℕ → Type 0
+HasServiceAnswer (Served regs table) before after status = (after.registers ≡ registers_of regs)
     × IsCopied table before.table after.table after.len status
-HasAnswer (Short (Refused why)) before after status = (status ≡ refusal_status why)
+HasServiceAnswer (Short (Refused why)) before after status = (status ≡ refusal_status why)
     × (after ≡ before)
-HasAnswer reply before after status = ⊥
+HasServiceAnswer reply before after status = ⊥
 
 -- the output has what `int10` answers; or an allocation failed, and it is unchanged
 abbrev pub HasServiceOutcome : Result ServiceReply ServiceError → ServiceOutput → ServiceOutput → ℕ
     → Type 0
 HasServiceOutcome (Ok reply) before after status =
-    HasAnswer (of_service (Ok reply)) before after status
+    HasServiceAnswer (of_service (Ok reply)) before after status
 HasServiceOutcome (Err (ServiceRefused why)) before after status =
-    HasAnswer (of_service (Err why)) before after status
+    HasServiceAnswer (of_service (Err why)) before after status
 HasServiceOutcome (Err OutOfMemory) before after status =
     (status ≡ out_of_memory_status) × (after ≡ before)
 
--- the step is taken; or it allocates, the allocation failed, and nothing has changed
-abbrev pub IsCalled : Machine → Machine → Step → ServiceOutput → ServiceOutput → ℕ → Type 0
-IsCalled old new step before after status =
+-- a machine has taken the step of a call, and the output has its answer; or the allocation for its
+-- table failed, and nothing has changed
+abbrev pub IsCallTaken : Machine → Machine → Step → ServiceOutput → ServiceOutput → ℕ → Type 0
+IsCallTaken old new step before after status =
     ((status ≡ out_of_memory_status) × (AllocatesMemory old step
     × ((after ≡ before) × (new ≡ old))))
-    ⊎ ((new ≡ after_step old step) × HasAnswer (answer_to old step) before after status)
+    ⊎ ((new ≡ after_step old step) × HasServiceAnswer (answer_to old step) before after status)
 
--- that holds for an open card with valid BIOS data, which stay valid
-abbrev pub Calls : HandleState → HandleState → List ℕ → ServiceOutput → ServiceOutput → ℕ → Type 0
-Calls old new block before after status = old.is_open ≡ true → IsValid (machine_of old).bda →
+-- an open card with valid BIOS data takes the step of a call, and the output has its answer; the
+-- data stay valid
+abbrev pub OpenCardTakesCall : HandleState → HandleState → List ℕ → ServiceOutput → ServiceOutput → ℕ → Type 0
+OpenCardTakesCall old new block before after status = old.is_open ≡ true → IsValid (machine_of old).bda →
     (new.is_open ≡ true) × (IsValid (machine_of new).bda
-    × IsCalled (machine_of old) (machine_of new) (call_step before.registers block) before after
+    × IsCallTaken (machine_of old) (machine_of new) (call_step before.registers block) before after
     status)
 
--- a machine with other data stays as it is, and so does the output
-abbrev pub IsUnchangedIfDataBad : {A : Type 0} → Machine → Machine → A → A → ℕ → Type 0
-IsUnchangedIfDataBad old new before after status = (IsValid old.bda → ⊥) →
+-- a machine whose BIOS data are not valid stays as it is, the output too, and the status says so
+abbrev pub InvalidDataChangeNothing : {A : Type 0} → Machine → Machine → A → A → ℕ → Type 0
+InvalidDataChangeNothing old new before after status = (IsValid old.bda → ⊥) →
     (new ≡ old) × ((after ≡ before) × (status ≡ bad_data_status))
 
--- that holds for the machine of an open card
-abbrev pub LeavesBad : {A : Type 0} → HandleState → HandleState → A → A → ℕ → Type 0
-LeavesBad old new before after status = old.is_open ≡ true →
-    (new.is_open ≡ true) × IsUnchangedIfDataBad (machine_of old) (machine_of new) before after
+-- an open card whose BIOS data are not valid stays as it is, the output too, and the status says so
+abbrev pub InvalidDataChangeNoCard : {A : Type 0} → HandleState → HandleState → A → A → ℕ → Type 0
+InvalidDataChangeNoCard old new before after status = old.is_open ≡ true →
+    (new.is_open ≡ true) × InvalidDataChangeNothing (machine_of old) (machine_of new) before after
     status

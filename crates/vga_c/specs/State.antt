@@ -99,14 +99,15 @@ pub record IsPlanePart (memory : Four (List ℕ)) (plane offset : ℕ) (old new 
 abbrev pub is_in_plane : ℕ → ℕ → ℕ → Bool
 is_in_plane plane offset count = nat_lt plane 4 && nat_le (offset + count) 0x1_0000
 
--- the output has bytes of a plane, if they lie within it
-abbrev pub IsPlaneRead : Four (List ℕ) → ℕ → ℕ → List ℕ → List ℕ → ℕ → Type 0
-IsPlaneRead memory plane offset old new status =
+-- the output has bytes of a plane, if they lie within it; otherwise it is unchanged and the status
+-- says so
+abbrev pub ReadsPlanePartOrRefuses : Four (List ℕ) → ℕ → ℕ → List ℕ → List ℕ → ℕ → Type 0
+ReadsPlanePartOrRefuses memory plane offset old new status =
     (is_in_plane plane offset (length old) ≡ true →
     IsPlanePart memory plane offset old new × (status ≡ 0))
     × (is_in_plane plane offset (length old) ≡ false → (new ≡ old) × (status ≡ bad_argument_status))
 
--- that holds for an open card's memory
-abbrev pub TellsPlane : ℕ → ℕ → HandleState → List ℕ → List ℕ → ℕ → Type 0
-TellsPlane plane offset card old new status = card.is_open ≡ true →
-    IsPlaneRead (machine_of card).card.host.memory plane offset old new status
+-- the output has bytes of a plane of an open card's memory, if they lie within the plane
+abbrev pub OpenCardTellsPlanePart : ℕ → ℕ → HandleState → List ℕ → List ℕ → ℕ → Type 0
+OpenCardTellsPlanePart plane offset card old new status = card.is_open ≡ true →
+    ReadsPlanePartOrRefuses (machine_of card).card.host.memory plane offset old new status

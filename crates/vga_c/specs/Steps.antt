@@ -8,7 +8,7 @@ use Rattle.vga_script.specs.Spelled.{SpellsExpanded}
 use Rattle.vga_script.specs.Spelling.{script_limit}
 use Rattle.vga_run.specs.declared.machine.Machine.{Machine}
 use Rattle.vga_run.specs.Report.{report_from}
-use Rattle.vga_run.specs.Run.{IsOnTheWay}
+use Rattle.vga_run.specs.Run.{HasTakenFirstSteps}
 use Rattle.vga_run.specs.Step.{after_steps}
 use Rattle.vga_c.specs.Handle.{HandleState, machine_of}
 use Rattle.vga_c.specs.Buffers.{IsCopied}
@@ -41,10 +41,10 @@ AreStepsTaken steps number old new before after status = (new ≡ after_steps ol
 
 -- an allocation failed: some of the first steps are taken, and the output is unchanged
 abbrev pub AreStepsCutOff : List Step → Machine → Machine → StepsOutput → StepsOutput → ℕ → Type 0
-AreStepsCutOff steps old new before after status = IsOnTheWay old steps new × (after ≡ before)
+AreStepsCutOff steps old new before after status = HasTakenFirstSteps old steps new × (after ≡ before)
     × (status ≡ out_of_memory_status)
 
--- either holds
+-- the steps are taken and the output has their report; or an allocation failed in one of them
 abbrev pub AreTakenOrCutOff : List Step → ℕ → Machine → Machine → StepsOutput → StepsOutput → ℕ
     → Type 0
 AreTakenOrCutOff steps number old new before after status =
@@ -52,26 +52,28 @@ AreTakenOrCutOff steps number old new before after status =
     ⊎ AreStepsCutOff steps old new before after status
 
 -- the bytes spell a script, and these of its steps are taken
-abbrev pub TakesSteps : List ℕ → ℕ → ℕ → Machine → Machine → StepsOutput → StepsOutput → ℕ → Type 0
-TakesSteps script first most old new before after status = (length script ≤ script_limit)
+abbrev pub TakesStepsOfScript : List ℕ → ℕ → ℕ → Machine → Machine → StepsOutput → StepsOutput → ℕ → Type 0
+TakesStepsOfScript script first most old new before after status = (length script ≤ script_limit)
     × ((steps : List Step) × SpellsExpanded script steps
     × AreTakenOrCutOff (asked_steps first most steps) (first + 1) old new before after status)
 
 -- the bytes spell no script, the machine stays as it is, and the caller learns the first fault
-abbrev pub IsRefused : List ℕ → Machine → Machine → StepsOutput → StepsOutput → ℕ → Type 0
-IsRefused script old new before after status = (why : Fault) × IsFault script why × (new ≡ old)
+abbrev pub IsScriptRefused : List ℕ → Machine → Machine → StepsOutput → StepsOutput → ℕ → Type 0
+IsScriptRefused script old new before after status = (why : Fault) × IsFault script why × (new ≡ old)
     × (status ≡ fault_status why)
     × (after ≡ steps_output before.report before.len before.taken (fault_place why before.place))
 
--- one of the two holds
-abbrev pub IsRunOn : List ℕ → ℕ → ℕ → Machine → Machine → StepsOutput → StepsOutput → ℕ → Type 0
-IsRunOn script first most old new before after status =
-    TakesSteps script first most old new before after status
-    ⊎ IsRefused script old new before after status
+-- the bytes spell a script, and some of its steps are taken; or they spell none, and the caller
+-- learns the first fault
+abbrev pub IsScriptRunOrRefused : List ℕ → ℕ → ℕ → Machine → Machine → StepsOutput → StepsOutput → ℕ → Type 0
+IsScriptRunOrRefused script first most old new before after status =
+    TakesStepsOfScript script first most old new before after status
+    ⊎ IsScriptRefused script old new before after status
 
--- that holds for an open card with valid BIOS data, which stay valid
-abbrev pub RunsOn : List ℕ → ℕ → ℕ → HandleState → HandleState → StepsOutput → StepsOutput → ℕ
+-- an open card with valid BIOS data takes some steps of a script, or learns its first fault; the
+-- data stay valid
+abbrev pub OpenCardRunsScript : List ℕ → ℕ → ℕ → HandleState → HandleState → StepsOutput → StepsOutput → ℕ
     → Type 0
-RunsOn script first most old new before after status = old.is_open ≡ true →
+OpenCardRunsScript script first most old new before after status = old.is_open ≡ true →
     IsValid (machine_of old).bda → (new.is_open ≡ true) × (IsValid (machine_of new).bda
-    × IsRunOn script first most (machine_of old) (machine_of new) before after status)
+    × IsScriptRunOrRefused script first most (machine_of old) (machine_of new) before after status)

@@ -3,17 +3,17 @@ use Rattle.std.specs.Prelude.{◌≡◌, ◌⊎◌, ◌≤◌, ℕ, List, Result
 use Rattle.vga_bits.specs.declared.fault.Fault.{Fault}
 use Rattle.vga_bits.specs.declared.fault.Fault.TheVariants.{OutOfMemory}
 use Rattle.vga_script.specs.Decoding.{IsFault}
-use Rattle.vga_script.specs.Item.{Listing}
+use Rattle.vga_script.specs.Item.{ScriptItems}
 use Rattle.vga_script.specs.Printing.{printed_script}
 use Rattle.vga_script.specs.Script.{IsTextFault}
 use Rattle.vga_script.specs.Spelling.{script_limit, encoding, Spells}
 use Rattle.vga_script.specs.Text.{SpellsText}
-use Rattle.vga_c.specs.Outcome.{ScriptOutput, GivesOutcome}
+use Rattle.vga_c.specs.Outcome.{ScriptOutput, HasOutcomeWithProperty}
 
 -- the text spells a script, and these are its bytes
 abbrev pub IsAssembled : List ℕ → List ℕ → Type 0
 IsAssembled text bytes = (length text ≤ script_limit)
-    × ((script : Listing) × SpellsText text script × (bytes ≡ encoding script))
+    × ((script : ScriptItems) × SpellsText text script × (bytes ≡ encoding script))
 
 -- the first fault of a text; or an allocation failed
 abbrev pub IsFaultOfText : List ℕ → Fault → Type 0
@@ -24,14 +24,15 @@ abbrev pub IsOutcomeOfText : List ℕ → Result (List ℕ) Fault → Type 0
 IsOutcomeOfText text (Ok bytes) = IsAssembled text bytes
 IsOutcomeOfText text (Err why) = IsFaultOfText text why
 
--- the output has that
+-- the output has the printed text of the script that bytes spell, or the status and the place of
+-- the first fault
 abbrev pub GivesAssembledBytes : List ℕ → ScriptOutput → ScriptOutput → ℕ → Type 0
-GivesAssembledBytes text = GivesOutcome (IsOutcomeOfText text)
+GivesAssembledBytes text = HasOutcomeWithProperty (IsOutcomeOfText text)
 
 -- the bytes spell a script, and this is its printed text
 abbrev pub IsPrinted : List ℕ → List ℕ → Type 0
 IsPrinted bytes text = (length bytes ≤ script_limit)
-    × ((script : Listing) × Spells bytes script × (text ≡ printed_script script))
+    × ((script : ScriptItems) × Spells bytes script × (text ≡ printed_script script))
 
 -- the first fault of some bytes; or an allocation failed
 abbrev pub IsFaultOfBytes : List ℕ → Fault → Type 0
@@ -42,6 +43,6 @@ abbrev pub IsOutcomeOfBytes : List ℕ → Result (List ℕ) Fault → Type 0
 IsOutcomeOfBytes bytes (Ok text) = IsPrinted bytes text
 IsOutcomeOfBytes bytes (Err why) = IsFaultOfBytes bytes why
 
--- the output has that
+-- the output has the bytes of a text's script, or the status and the place of the first fault
 abbrev pub GivesPrintedText : List ℕ → ScriptOutput → ScriptOutput → ℕ → Type 0
-GivesPrintedText bytes = GivesOutcome (IsOutcomeOfBytes bytes)
+GivesPrintedText bytes = HasOutcomeWithProperty (IsOutcomeOfBytes bytes)

@@ -1,7 +1,7 @@
 //! What a call of interrupt 10 reads from the caller's memory.
 ghost use Rattle.std.specs.Prelude.{◌≡◌};
 ghost use Rattle.vga_c.specs.Blocks.{IsBlockPlace, IsBlockEnough, TellsBlock};
-ghost use Rattle.vga_c.specs.Cards.{KeepsMachine, LeavesClosed, Spares};
+ghost use Rattle.vga_c.specs.Cards.{OpenCardKeepsMachine, ClosedCardStaysUnchanged, ClosedCardLeavesOutput};
 
 use crate::handle::{Handle, on_open_card};
 use crate::services::CallRegisters;
@@ -46,10 +46,10 @@ pub extern "C" fn zak_block(
     registers: &CallRegisters,
     block: &mut BlockPlace,
 ) -> u32
-    ensures card { KeepsMachine card.old card.new }
+    ensures card { OpenCardKeepsMachine card.old card.new }
     ensures block { TellsBlock card.old registers.now block.new result }
-    ensures closed { LeavesClosed card.old card.new result }
-    ensures spared { Spares card.old block.old block.new }
+    ensures closed { ClosedCardStaysUnchanged card.old card.new result }
+    ensures spared { ClosedCardLeavesOutput card.old block.old block.new }
 {
     on_open_card!(alloc, card, machine => {
         *block = block_of(machine, registers);

@@ -17,7 +17,8 @@ pub(crate) fn write_prefix(to: &mut [u8], bytes: &[u8]) -> u32
     DONE
 }
 
-/// The same, and answers how many bytes they are.
+/// Writes bytes to the beginning of the caller's buffer, if there is room. With or without room, it
+/// writes to `len` how many they are.
 pub(crate) fn copy_prefix(to: &mut [u8], len: &mut usize, bytes: &[u8]) -> u32
     ensures { IsCopied bytes.now to.old to.new len.new result }
 {

@@ -2,10 +2,10 @@
 ghost use Rattle.std.specs.Prelude.{◌≡◌, ◌≤◌, ℕ, List, length};
 ghost use Rattle.bios_modes.specs.Valid.{IsValid};
 ghost use Rattle.vga_c.specs.Buffers.{IsCopied};
-ghost use Rattle.vga_c.specs.CallCycles.{list_output, AreListed, Lists};
+ghost use Rattle.vga_c.specs.CallCycles.{list_output, AreCyclesListed, OpenCardListsCycles};
 ghost use Rattle.vga_c.specs.CallCycles.{unlisted_status as unlisted_status_of};
-ghost use Rattle.vga_c.specs.Cards.{KeepsMachine, LeavesClosed, Spares};
-ghost use Rattle.vga_c.specs.Services.{LeavesBad};
+ghost use Rattle.vga_c.specs.Cards.{OpenCardKeepsMachine, ClosedCardStaysUnchanged, ClosedCardLeavesOutput};
+ghost use Rattle.vga_c.specs.Services.{InvalidDataChangeNoCard};
 ghost use Rattle.vga_c.specs.Status.{bad_data_status};
 
 use crate::buffer::write_prefix;
@@ -44,7 +44,7 @@ fn copy_script(script: &ScriptBytes, out: &mut [u8], len: &mut usize) -> u32
 }
 
 /// Lists the cycles of a call on a machine with valid BIOS data.
-fn list_valid(
+fn list_cycles_with_valid_data(
     alloc: Global,
     machine: &Machine,
     registers: &CallRegisters,
@@ -53,7 +53,7 @@ fn list_valid(
     len: &mut usize,
 ) -> u32
     requires { IsValid machine.now.bda }
-    ensures { AreListed machine.now registers.now block.now (list_output out.old len.old)
+    ensures { AreCyclesListed machine.now registers.now block.now (list_output out.old len.old)
         (list_output out.new len.new) result }
 {
     let regs = Regs {
@@ -77,7 +77,7 @@ fn list(
     out: &mut [u8],
     len: &mut usize,
 ) -> u32
-    ensures listed { IsValid machine.now.bda → AreListed machine.now registers.now block.now
+    ensures listed { IsValid machine.now.bda → AreCyclesListed machine.now registers.now block.now
         (list_output out.old len.old) (list_output out.new len.new) result }
     ensures bad { (IsValid machine.now.bda → ⊥) → (list_output out.new len.new ≡ list_output out.old
         len.old)
@@ -86,7 +86,7 @@ fn list(
     if !machine.bda.valid() {
         return BAD_CARD;
     }
-    list_valid(alloc, machine, registers, block, out, len)
+    list_cycles_with_valid_data(alloc, machine, registers, block, out, len)
 }
 
 /// Lists the cycles that `zak_int10` with these registers would make on the card as it is, as the
@@ -100,14 +100,14 @@ pub extern "C" fn zak_cycles(
     out: &mut [u8],
     len: &mut usize,
 ) -> u32
-    ensures card { KeepsMachine card.old card.new }
-    ensures listed { Lists card.old registers.now block.now (list_output out.old len.old)
+    ensures card { OpenCardKeepsMachine card.old card.new }
+    ensures listed { OpenCardListsCycles card.old registers.now block.now (list_output out.old len.old)
         (list_output out.new len.new) result }
-    ensures bad { LeavesBad card.old card.new (list_output out.old len.old)
+    ensures bad { InvalidDataChangeNoCard card.old card.new (list_output out.old len.old)
         (list_output out.new len.new)
         result }
-    ensures closed { LeavesClosed card.old card.new result }
-    ensures spared { Spares card.old (list_output out.old len.old) (list_output out.new len.new) }
+    ensures closed { ClosedCardStaysUnchanged card.old card.new result }
+    ensures spared { ClosedCardLeavesOutput card.old (list_output out.old len.old) (list_output out.new len.new) }
 {
     on_open_card!(alloc, card, machine => list(alloc, machine, registers, block, out, len))
 }

@@ -6,10 +6,10 @@ ghost use Rattle.vga_c.specs.Checksum.{adler_32, BringSumsTo};
 const PRIME: u32 = 65_521;
 
 /// How many bytes are summed before the sums are reduced: so few that no sum leaves 32 bits.
-const RUN: usize = 2048;
+const MOST_BYTES_SUMMED: usize = 2048;
 
-/// Adds some bytes, at most `RUN`, to the two sums of Adler-32.
-fn add_run(mut sum: u32, mut sums: u32, bytes: &[u8]) -> (u32, u32)
+/// Adds some bytes, at most `MOST_BYTES_SUMMED`, to the two sums of Adler-32.
+fn add_bytes_to_sums(mut sum: u32, mut sums: u32, bytes: &[u8]) -> (u32, u32)
     requires sum { sum < 65521 }
     requires sums { sums < 65521 }
     requires len { length bytes.now ≤ 2048 }
@@ -30,11 +30,11 @@ pub fn checksum(bytes: &[u8]) -> u32
 {
     let mut sums = (1, 0);
     let mut rest = bytes;
-    while rest.len() > RUN {
-        let (run, after) = rest.split_at(RUN);
-        sums = add_run(sums.0, sums.1, run);
+    while rest.len() > MOST_BYTES_SUMMED {
+        let (run, after) = rest.split_at(MOST_BYTES_SUMMED);
+        sums = add_bytes_to_sums(sums.0, sums.1, run);
         rest = after;
     }
-    let (sum, sums) = add_run(sums.0, sums.1, rest);
+    let (sum, sums) = add_bytes_to_sums(sums.0, sums.1, rest);
     65_536 * sums + sum
 }

@@ -5,7 +5,7 @@ ghost use Rattle.vga_script.specs.declared.step.Step.TheVariants.{Out, OutWord, 
 ghost use Rattle.vga_script.specs.declared.step.Step.TheVariants.{PutWord, Get, GetWord, Advance};
 ghost use Rattle.vga_run.specs.Step.{after_step, answer_to};
 ghost use Rattle.vga_c.specs.Status.{status_of, value_read_or_before};
-ghost use Rattle.vga_c.specs.Cards.{LeavesClosed, Reads, Spares, Takes};
+ghost use Rattle.vga_c.specs.Cards.{ClosedCardStaysUnchanged, Reads, ClosedCardLeavesOutput, OpenCardTakesStep};
 
 use crate::handle::{Handle, on_open_card, on_owing_card};
 use crate::status::{DONE, status_after_byte_read, status_after_word_read, status_after_write};
@@ -28,8 +28,8 @@ fn out(machine: &mut Machine, owed: u32, port: u16, value: u8) -> (u32, u32)
 /// Writes a byte to a port.
 #[unsafe(no_mangle)]
 pub extern "C" fn zak_out(alloc: Global, card: &mut Handle, port: u16, value: u8) -> u32
-    ensures step { Takes (Out port value) card.old card.new result }
-    ensures closed { LeavesClosed card.old card.new result }
+    ensures step { OpenCardTakesStep (Out port value) card.old card.new result }
+    ensures closed { ClosedCardStaysUnchanged card.old card.new result }
 {
     on_owing_card!(alloc, card, machine, owed => out(machine, owed, port, value))
 }
@@ -51,8 +51,8 @@ fn out_word(machine: &mut Machine, owed: u32, port: u16, value: u16) -> (u32, u3
 /// Writes a word to a port and the next port.
 #[unsafe(no_mangle)]
 pub extern "C" fn zak_out_word(alloc: Global, card: &mut Handle, port: u16, value: u16) -> u32
-    ensures step { Takes (OutWord port value) card.old card.new result }
-    ensures closed { LeavesClosed card.old card.new result }
+    ensures step { OpenCardTakesStep (OutWord port value) card.old card.new result }
+    ensures closed { ClosedCardStaysUnchanged card.old card.new result }
 {
     on_owing_card!(alloc, card, machine, owed => out_word(machine, owed, port, value))
 }
@@ -76,10 +76,10 @@ fn inp(machine: &mut Machine, owed: u32, port: u16, value: &mut u8) -> (u32, u32
 /// Reads a byte from a port.
 #[unsafe(no_mangle)]
 pub extern "C" fn zak_in(alloc: Global, card: &mut Handle, port: u16, value: &mut u8) -> u32
-    ensures step { Takes (In port) card.old card.new result }
+    ensures step { OpenCardTakesStep (In port) card.old card.new result }
     ensures value { Reads (In port) card.old value.old value.new }
-    ensures closed { LeavesClosed card.old card.new result }
-    ensures spared { Spares card.old value.old value.new }
+    ensures closed { ClosedCardStaysUnchanged card.old card.new result }
+    ensures spared { ClosedCardLeavesOutput card.old value.old value.new }
 {
     on_owing_card!(alloc, card, machine, owed => inp(machine, owed, port, value))
 }
@@ -98,10 +98,10 @@ fn inp_word(machine: &mut Machine, port: u16, value: &mut u16) -> u32
 /// Reads a word from a port and the next port.
 #[unsafe(no_mangle)]
 pub extern "C" fn zak_in_word(alloc: Global, card: &mut Handle, port: u16, value: &mut u16) -> u32
-    ensures step { Takes (InWord port) card.old card.new result }
+    ensures step { OpenCardTakesStep (InWord port) card.old card.new result }
     ensures value { Reads (InWord port) card.old value.old value.new }
-    ensures closed { LeavesClosed card.old card.new result }
-    ensures spared { Spares card.old value.old value.new }
+    ensures closed { ClosedCardStaysUnchanged card.old card.new result }
+    ensures spared { ClosedCardLeavesOutput card.old value.old value.new }
 {
     on_open_card!(alloc, card, machine => inp_word(machine, port, value))
 }
@@ -123,8 +123,8 @@ fn put(machine: &mut Machine, owed: u32, address: u32, value: u8) -> (u32, u32)
 /// Writes a byte to an address.
 #[unsafe(no_mangle)]
 pub extern "C" fn zak_put(alloc: Global, card: &mut Handle, address: u32, value: u8) -> u32
-    ensures step { Takes (Put address value) card.old card.new result }
-    ensures closed { LeavesClosed card.old card.new result }
+    ensures step { OpenCardTakesStep (Put address value) card.old card.new result }
+    ensures closed { ClosedCardStaysUnchanged card.old card.new result }
 {
     on_owing_card!(alloc, card, machine, owed => put(machine, owed, address, value))
 }
@@ -146,8 +146,8 @@ fn put_word(machine: &mut Machine, owed: u32, address: u32, value: u16) -> (u32,
 /// Writes a word to an address and the next address.
 #[unsafe(no_mangle)]
 pub extern "C" fn zak_put_word(alloc: Global, card: &mut Handle, address: u32, value: u16) -> u32
-    ensures step { Takes (PutWord address value) card.old card.new result }
-    ensures closed { LeavesClosed card.old card.new result }
+    ensures step { OpenCardTakesStep (PutWord address value) card.old card.new result }
+    ensures closed { ClosedCardStaysUnchanged card.old card.new result }
 {
     on_owing_card!(alloc, card, machine, owed => put_word(machine, owed, address, value))
 }
@@ -172,10 +172,10 @@ fn get(machine: &mut Machine, owed: u32, address: u32, value: &mut u8) -> (u32, 
 /// Reads a byte from an address.
 #[unsafe(no_mangle)]
 pub extern "C" fn zak_get(alloc: Global, card: &mut Handle, address: u32, value: &mut u8) -> u32
-    ensures step { Takes (Get address) card.old card.new result }
+    ensures step { OpenCardTakesStep (Get address) card.old card.new result }
     ensures value { Reads (Get address) card.old value.old value.new }
-    ensures closed { LeavesClosed card.old card.new result }
-    ensures spared { Spares card.old value.old value.new }
+    ensures closed { ClosedCardStaysUnchanged card.old card.new result }
+    ensures spared { ClosedCardLeavesOutput card.old value.old value.new }
 {
     on_owing_card!(alloc, card, machine, owed => get(machine, owed, address, value))
 }
@@ -205,10 +205,10 @@ pub extern "C" fn zak_get_word(
     address: u32,
     value: &mut u16,
 ) -> u32
-    ensures step { Takes (GetWord address) card.old card.new result }
+    ensures step { OpenCardTakesStep (GetWord address) card.old card.new result }
     ensures value { Reads (GetWord address) card.old value.old value.new }
-    ensures closed { LeavesClosed card.old card.new result }
-    ensures spared { Spares card.old value.old value.new }
+    ensures closed { ClosedCardStaysUnchanged card.old card.new result }
+    ensures spared { ClosedCardLeavesOutput card.old value.old value.new }
 {
     on_owing_card!(alloc, card, machine, owed => get_word(machine, owed, address, value))
 }
@@ -225,8 +225,8 @@ pub(crate) fn advance(machine: &mut Machine, dots: u32) -> u32
 /// Lets the clock run for `dots` dots. They are drawn before the next call that is not an advance.
 #[unsafe(no_mangle)]
 pub extern "C" fn zak_advance(alloc: Global, card: &mut Handle, dots: u32) -> u32
-    ensures step { Takes (Advance dots) card.old card.new result }
-    ensures closed { LeavesClosed card.old card.new result }
+    ensures step { OpenCardTakesStep (Advance dots) card.old card.new result }
+    ensures closed { ClosedCardStaysUnchanged card.old card.new result }
 {
     if card.is_open() && card.owe(dots) {
         return DONE;

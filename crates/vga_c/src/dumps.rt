@@ -3,7 +3,7 @@ ghost use Rattle.std.specs.Prelude.{◌≡◌};
 ghost use Rattle.bios_modes.specs.Valid.{IsValid};
 ghost use Rattle.vga_script.specs.DumpRange.{IsShownInRange};
 ghost use Rattle.vga_script.specs.declared.dump_range.Shown.TheVariants as shown_as;
-ghost use Rattle.vga_c.specs.Dumps.{Dumps, is_plane_part as is_plane_part_of, Shows};
+ghost use Rattle.vga_c.specs.Dumps.{DumpsMachine, is_plane_part as is_plane_part_of, Shows};
 ghost use Rattle.vga_c.specs.Dumps.{DumpsPlanePart};
 ghost use Rattle.vga_c.specs.Dumps.{dump_output};
 
@@ -19,7 +19,7 @@ use vga_script::Shown;
 /// Writes the text of a dump to the caller, or answers the status of its refusal.
 fn dump(alloc: Global, machine: &Machine, shown: Shown, text: &mut [u8], len: &mut usize) -> u32
     requires { IsShownInRange shown }
-    ensures { Dumps machine.now shown (dump_output text.old len.old) (dump_output text.new len.new)
+    ensures { DumpsMachine machine.now shown (dump_output text.old len.old) (dump_output text.new len.new)
         result }
 {
     if !machine.bda.valid() {

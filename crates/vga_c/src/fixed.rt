@@ -3,10 +3,10 @@ ghost use Rattle.std.specs.Prelude.{◌≡◌, ◌+◌, ◌≤◌, length};
 ghost use Rattle.vga_bits.specs.Bytes.{zeros};
 ghost use Rattle.vga_run.specs.Saved.{number_of_four_bytes as long_of, four_bytes_of_number};
 ghost use Rattle.vga_run.specs.Saved.{saved_machine};
-ghost use Rattle.vga_c.specs.Cards.{KeepsMachine, LeavesClosed, Spares};
+ghost use Rattle.vga_c.specs.Cards.{OpenCardKeepsMachine, ClosedCardStaysUnchanged, ClosedCardLeavesOutput};
 ghost use Rattle.vga_c.specs.Checksum.{adler_32};
 ghost use Rattle.vga_c.specs.Fixed.{IsRestoredFixed, IsSavedFixed, RestoresFixed, SavesFixed};
-ghost use Rattle.vga_c.specs.Fixed.{state_in as state_of};
+ghost use Rattle.vga_c.specs.Fixed.{state_without_padding as state_of};
 ghost use Rattle.vga_c.specs.Saved.{IsRestored};
 
 use crate::checksum::checksum;
@@ -64,7 +64,7 @@ fn save_fixed(machine: &Machine, bytes: &mut [u8]) -> u32
 }
 
 /// The state at the beginning of the bytes before the checksum.
-fn state_in(body: &[u8]) -> &[u8]
+fn state_without_padding(body: &[u8]) -> &[u8]
     ensures { result.now ≡ state_of body.now }
 {
     if body.len() < 9 {
@@ -86,16 +86,16 @@ fn restore_fixed(machine: &mut Machine, bytes: &[u8]) -> u32
     if number_of_four_bytes(bytes, end) != checksum(body) {
         return STATE_CHECKSUM;
     }
-    restore(machine, state_in(body))
+    restore(machine, state_without_padding(body))
 }
 
 /// Writes the state to the caller's whole buffer: the state, zeros, and a checksum at the end.
 #[unsafe(no_mangle)]
 pub extern "C" fn zak_save_fixed(alloc: Global, card: &mut Handle, bytes: &mut [u8]) -> u32
-    ensures card { KeepsMachine card.old card.new }
+    ensures card { OpenCardKeepsMachine card.old card.new }
     ensures bytes { SavesFixed card.old bytes.old bytes.new result }
-    ensures closed { LeavesClosed card.old card.new result }
-    ensures spared { Spares card.old bytes.old bytes.new }
+    ensures closed { ClosedCardStaysUnchanged card.old card.new result }
+    ensures spared { ClosedCardLeavesOutput card.old bytes.old bytes.new }
 {
     on_open_card!(alloc, card, machine => save_fixed(machine, bytes))
 }
@@ -104,7 +104,7 @@ pub extern "C" fn zak_save_fixed(alloc: Global, card: &mut Handle, bytes: &mut [
 #[unsafe(no_mangle)]
 pub extern "C" fn zak_restore_fixed(alloc: Global, card: &mut Handle, bytes: &[u8]) -> u32
     ensures card { RestoresFixed card.old card.new bytes.now result }
-    ensures closed { LeavesClosed card.old card.new result }
+    ensures closed { ClosedCardStaysUnchanged card.old card.new result }
 {
     on_open_card!(alloc, card, machine => restore_fixed(machine, bytes))
 }

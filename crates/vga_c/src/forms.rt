@@ -5,11 +5,11 @@ ghost use Rattle.vga_card.specs.Picture.{most_dots_of_a_line, most_lines_of_a_fr
 ghost use Rattle.vga_run.specs.Answer.{of_drawn};
 ghost use Rattle.vga_run.specs.Step.{after_step, answer_to};
 ghost use Rattle.vga_script.specs.declared.step.Step.TheVariants.{Frame};
-ghost use Rattle.vga_c.specs.Cards.{LeavesClosed, Spares};
+ghost use Rattle.vga_c.specs.Cards.{ClosedCardStaysUnchanged, ClosedCardLeavesOutput};
 ghost use Rattle.vga_c.specs.Forms.{AreRowsOfWords, IsForm, div_ceil as div_ceil_of};
 ghost use Rattle.vga_c.specs.Forms.{rgb_word_of_dot as rgb_word_of_dot_of};
 ghost use Rattle.vga_c.specs.Forms.{widened_to_eight_bits as eight_bits_of};
-ghost use Rattle.vga_c.specs.Forms.{form_of as form_of_flags, form_word, DrawsForm, DrawsFormOf};
+ghost use Rattle.vga_c.specs.Forms.{form_of as form_of_flags, form_word, DrawsFrameInForm, DrawsOpenCardInForm};
 ghost use Rattle.vga_c.specs.Forms.{HasPictureInForm, has_room as has_room_of};
 
 use crate::handle::{Handle, on_open_card};
@@ -58,7 +58,7 @@ fn rgb_word_of_dot(bytes: &[u8], i: usize) -> u32
 /// Writes a row of words to the caller's, from `at` on: the words of `count` dots, every
 /// `across`-th from dot `first` on.
 #[inline(always)]
-pub(crate) fn write_row(
+pub(crate) fn write_row_of_words(
     bytes: &[u8],
     first: usize,
     form: Form,
@@ -122,7 +122,7 @@ pub(crate) fn write_rows(
     let count = div_ceil(width, form.across) as usize;
     for y in 0..div_ceil(height, form.down) as usize {
         let first = width as usize * (form.down as usize * y);
-        write_row(bytes, first, form, count, pixels, pitch * y);
+        write_row_of_words(bytes, first, form, count, pixels, pitch * y);
     }
 }
 
@@ -141,7 +141,7 @@ fn form_of(flags: u32, card: &Card) -> Form
 }
 
 /// Writes a picture to the caller's words, in a form.
-fn write_form(
+fn write_picture_in_form(
     drawn: Drawn<'_>,
     form: Form,
     picture: &mut WordPicture,
@@ -175,7 +175,7 @@ fn write_form(
 /// Lets the clock of a machine run to the end of the frame under way, and writes its picture in a
 /// form.
 #[tactic(auto, using(crate::proofs::FrameLemmas::form_of_frame), unfolding(vga_run::specs::Step::after_step, vga_run::specs::Step::answer_to))]
-fn frame_form(
+fn draw_frame_in_form(
     machine: &mut Machine,
     form: Form,
     picture: &mut WordPicture,
@@ -188,10 +188,11 @@ fn frame_form(
         picture.new
         pixels.old pixels.new result }
 {
-    write_form(machine.card.frame(), form, picture, pixels, pitch)
+    write_picture_in_form(machine.card.frame(), form, picture, pixels, pitch)
 }
 
-/// The same, unless an unknown flag is set: then nothing changes.
+/// Lets the clock of a machine run to the end of the frame under way, and writes its picture in the
+/// form that the flags ask for. If an unknown flag is set, nothing changes.
 fn frame_words(
     machine: &mut Machine,
     flags: u32,
@@ -199,14 +200,14 @@ fn frame_words(
     pixels: &mut [u32],
     pitch: usize,
 ) -> u32
-    ensures { DrawsForm flags machine.old machine.new pitch picture.old picture.new pixels.old
+    ensures { DrawsFrameInForm flags machine.old machine.new pitch picture.old picture.new pixels.old
         pixels.new result }
 {
     if flags >= 4 {
         return BAD_ARGUMENT;
     }
     let form = form_of(flags, &machine.card);
-    frame_form(machine, form, picture, pixels, pitch)
+    draw_frame_in_form(machine, form, picture, pixels, pitch)
 }
 
 /// Lets the clock run to the end of the frame under way, and writes its picture as words, in the
@@ -220,11 +221,11 @@ pub extern "C" fn zak_frame_words(
     pixels: &mut [u32],
     pitch: usize,
 ) -> u32
-    ensures picture { DrawsFormOf flags card.old card.new pitch picture.old picture.new pixels.old
+    ensures picture { DrawsOpenCardInForm flags card.old card.new pitch picture.old picture.new pixels.old
         pixels.new result }
-    ensures closed { LeavesClosed card.old card.new result }
-    ensures spared { Spares card.old picture.old picture.new }
-    ensures pixels { Spares card.old pixels.old pixels.new }
+    ensures closed { ClosedCardStaysUnchanged card.old card.new result }
+    ensures spared { ClosedCardLeavesOutput card.old picture.old picture.new }
+    ensures pixels { ClosedCardLeavesOutput card.old pixels.old pixels.new }
 {
     on_open_card!(alloc, card, machine => frame_words(machine, flags, picture, pixels, pitch))
 }

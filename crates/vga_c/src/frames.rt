@@ -3,16 +3,16 @@ ghost use Rattle.std.specs.Prelude.{◌≡◌, ◌+◌, ◌*◌, ◌<◌, ◌≤
 ghost use Rattle.vga_card.specs.Dots.{most_dots};
 ghost use Rattle.vga_card.specs.Frames.{IsPictureInBounds};
 ghost use Rattle.vga_run.specs.Answer.{of_drawn};
-ghost use Rattle.vga_run.specs.Saved.{machine_with_fresh_canvas};
+ghost use Rattle.vga_run.specs.Saved.{machine_without_unseen_dots};
 ghost use Rattle.vga_run.specs.Step.{after_step, answer_to};
 ghost use Rattle.vga_script.specs.declared.step.Step.TheVariants.{Advance, Frame};
-ghost use Rattle.vga_c.specs.Cards.{LeavesClosed, Spares};
+ghost use Rattle.vga_c.specs.Cards.{OpenCardKeepsMachine, ClosedCardStaysUnchanged, ClosedCardLeavesOutput};
 ghost use Rattle.vga_card.specs.Lines.{line_widths};
 ghost use Rattle.vga_card.specs.Picture.{bytes_of_dots};
 ghost use Rattle.vga_c.specs.Buffers.{IsCopied};
-ghost use Rattle.vga_c.specs.Frames.{GivesDotBytes, CountsLines, frame_dots};
+ghost use Rattle.vga_c.specs.Frames.{GivesDotBytes, CountsDotsOfLines, frame_dots};
 ghost use Rattle.vga_c.specs.Frames.{DrawsBytes, DrawsWords, EndsFrame, HasDotBytes, HasDotWords};
-ghost use Rattle.vga_c.specs.Frames.{SkipsFrame};
+ghost use Rattle.vga_c.specs.Frames.{CountsDrawnLines, GivesDrawnBytes, SkipsFrame};
 
 use crate::buffer::{copy_prefix, write_prefix};
 use crate::forms::{Form, has_room, write_rows};
@@ -72,9 +72,9 @@ pub extern "C" fn zak_frame(
 ) -> u32
     ensures frame { EndsFrame card.old card.new }
     ensures picture { DrawsBytes card.old size.old size.new rgb.old rgb.new result }
-    ensures closed { LeavesClosed card.old card.new result }
-    ensures size { Spares card.old size.old size.new }
-    ensures rgb { Spares card.old rgb.old rgb.new }
+    ensures closed { ClosedCardStaysUnchanged card.old card.new result }
+    ensures size { ClosedCardLeavesOutput card.old size.old size.new }
+    ensures rgb { ClosedCardLeavesOutput card.old rgb.old rgb.new }
 {
     on_open_card!(alloc, card, machine => frame(machine, size, rgb))
 }
@@ -121,9 +121,9 @@ pub extern "C" fn zak_frame_xrgb(
 ) -> u32
     ensures frame { EndsFrame card.old card.new }
     ensures picture { DrawsWords card.old pitch size.old size.new pixels.old pixels.new result }
-    ensures closed { LeavesClosed card.old card.new result }
-    ensures size { Spares card.old size.old size.new }
-    ensures pixels { Spares card.old pixels.old pixels.new }
+    ensures closed { ClosedCardStaysUnchanged card.old card.new result }
+    ensures size { ClosedCardLeavesOutput card.old size.old size.new }
+    ensures pixels { ClosedCardLeavesOutput card.old pixels.old pixels.new }
 {
     on_open_card!(alloc, card, machine => frame_words(machine, size, pixels, pitch))
 }
@@ -157,14 +157,45 @@ pub extern "C" fn zak_frame_lines(
     len: &mut usize,
 ) -> u32
     ensures frame { EndsFrame card.old card.new }
-    ensures widths { CountsLines card.old widths.new }
+    ensures widths { CountsDotsOfLines card.old widths.new }
     ensures dots { GivesDotBytes card.old rgb.old rgb.new len.new result }
-    ensures closed { LeavesClosed card.old card.new result }
-    ensures spared { Spares card.old widths.old widths.new }
-    ensures rgb { Spares card.old rgb.old rgb.new }
-    ensures len { Spares card.old len.old len.new }
+    ensures closed { ClosedCardStaysUnchanged card.old card.new result }
+    ensures spared { ClosedCardLeavesOutput card.old widths.old widths.new }
+    ensures rgb { ClosedCardLeavesOutput card.old rgb.old rgb.new }
+    ensures len { ClosedCardLeavesOutput card.old len.old len.new }
 {
     on_open_card!(alloc, card, machine => frame_lines(machine, widths, rgb, len))
+}
+
+/// Writes the lines that a machine has drawn until now.
+fn peek(machine: &Machine, widths: &mut [u32; 1024], rgb: &mut [u8], len: &mut usize) -> u32
+    ensures widths { widths.new ≡ line_widths machine.now.card.drawn }
+    ensures dots { IsCopied (bytes_of_dots machine.now.card.drawn) rgb.old rgb.new len.new result }
+{
+    let lines = machine.card.drawn_lines();
+    widths.copy_from_slice(lines.widths);
+    copy_prefix(rgb, len, lines.bytes)
+}
+
+/// Writes what is drawn until now of the frame under way, as `zak_frame_lines` writes a whole frame.
+/// The clock stands still. At the first dot of a frame, it is the frame before.
+#[unsafe(no_mangle)]
+pub extern "C" fn zak_peek(
+    alloc: Global,
+    card: &mut Handle,
+    widths: &mut [u32; 1024],
+    rgb: &mut [u8],
+    len: &mut usize,
+) -> u32
+    ensures card { OpenCardKeepsMachine card.old card.new }
+    ensures widths { CountsDrawnLines card.old widths.new }
+    ensures dots { GivesDrawnBytes card.old rgb.old rgb.new len.new result }
+    ensures closed { ClosedCardStaysUnchanged card.old card.new result }
+    ensures spared { ClosedCardLeavesOutput card.old widths.old widths.new }
+    ensures rgb { ClosedCardLeavesOutput card.old rgb.old rgb.new }
+    ensures len { ClosedCardLeavesOutput card.old len.old len.new }
+{
+    on_open_card!(alloc, card, machine => peek(machine, widths, rgb, len))
 }
 
 /// Lets the clock of a machine run for the dots that are owed, and then to the end of the frame
@@ -172,7 +203,7 @@ pub extern "C" fn zak_frame_lines(
 #[tactic(auto, unfolding(vga_run::specs::Step::after_step))]
 fn skip_frame(machine: &mut Machine, owed: u32) -> (u32, u32)
     requires { owed ≤ most_dots }
-    ensures after { after_step machine.new (Advance result.0) ≡ machine_with_fresh_canvas
+    ensures after { after_step machine.new (Advance result.0) ≡ machine_without_unseen_dots
         (after_step (after_step machine.old (Advance owed)) Frame) }
     ensures status { result.1 ≡ 0 }
 {
@@ -186,7 +217,7 @@ fn skip_frame(machine: &mut Machine, owed: u32) -> (u32, u32)
 #[unsafe(no_mangle)]
 pub extern "C" fn zak_skip_frame(alloc: Global, card: &mut Handle) -> u32
     ensures frame { SkipsFrame card.old card.new result }
-    ensures closed { LeavesClosed card.old card.new result }
+    ensures closed { ClosedCardStaysUnchanged card.old card.new result }
 {
     on_owing_card!(alloc, card, machine, owed => skip_frame(machine, owed))
 }

@@ -106,8 +106,8 @@ macro_rules! on_owing_card {
 pub(crate) use on_open_card;
 pub(crate) use on_owing_card;
 
-/// Takes the machine out of an open card, without the dots that the card owes. The handle is empty
-/// afterwards.
+/// Takes the machine out of an open card as it is kept: the dots that the card owes are not drawn.
+/// The handle is empty afterwards.
 fn unseal(alloc: Global, card: &mut Handle) -> Box<Machine>
     requires { card.old.is_open ≡ true }
     ensures machine { result.value ≡ card.old.kept.machine }

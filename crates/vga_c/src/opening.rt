@@ -2,8 +2,8 @@
 ghost use Rattle.std.specs.Prelude.{◌≡◌, IfErr, IfOk, length};
 ghost use Rattle.bios_modes.specs.Fonts.{fonts_of, font_file_len, IsFontFault};
 ghost use Rattle.vga_run.specs.Machine.{power_on_machine};
-ghost use Rattle.vga_c.specs.Cards.{LeavesClosed};
-ghost use Rattle.vga_c.specs.Opening.{Closes, LeavesOpen, Opens, RefusesFile};
+ghost use Rattle.vga_c.specs.Cards.{ClosedCardStaysUnchanged};
+ghost use Rattle.vga_c.specs.Opening.{Closes, OpenCardStaysUnchanged, Opens, RefusesFile};
 
 use crate::handle::{Handle, give, take};
 use crate::status::{DONE, FONT_SIZE, NO_CARD, OPEN_ALREADY, OUT_OF_MEMORY};
@@ -27,7 +27,7 @@ fn power_on(alloc: Global, file: &[u8]) -> Result<Machine, Fault>
 pub extern "C" fn zak_open(alloc: Global, card: &mut Handle, fonts: &[u8]) -> u32
     ensures opened { Opens fonts.now card.old card.new result }
     ensures file { RefusesFile fonts.now card.old card.new result }
-    ensures open { LeavesOpen card.old card.new result }
+    ensures open { OpenCardStaysUnchanged card.old card.new result }
 {
     if card.is_open() {
         return OPEN_ALREADY;
@@ -51,7 +51,7 @@ pub extern "C" fn zak_open(alloc: Global, card: &mut Handle, fonts: &[u8]) -> u3
 #[unsafe(no_mangle)]
 pub extern "C" fn zak_close(alloc: Global, card: &mut Handle) -> u32
     ensures open { Closes card.old card.new result }
-    ensures closed { LeavesClosed card.old card.new result }
+    ensures closed { ClosedCardStaysUnchanged card.old card.new result }
 {
     if !card.is_open() {
         return NO_CARD;

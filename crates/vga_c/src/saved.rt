@@ -2,7 +2,7 @@
 ghost use Rattle.std.specs.Prelude.{◌≡◌};
 ghost use Rattle.vga_run.specs.Saved.{saved_machine};
 ghost use Rattle.vga_c.specs.Buffers.{IsCopied};
-ghost use Rattle.vga_c.specs.Cards.{KeepsMachine, LeavesClosed, Spares, GivesValue};
+ghost use Rattle.vga_c.specs.Cards.{OpenCardKeepsMachine, ClosedCardStaysUnchanged, ClosedCardLeavesOutput, OpenCardGivesValue};
 ghost use Rattle.vga_c.specs.Saved.{IsRestored, Restores, saved_size, Saves};
 ghost use Rattle.vga_c.specs.Saved.{state_status as state_status_of};
 
@@ -15,10 +15,10 @@ use vga_run::machine::Machine;
 /// Answers how many bytes the state has now.
 #[unsafe(no_mangle)]
 pub extern "C" fn zak_save_size(alloc: Global, card: &mut Handle, len: &mut usize) -> u32
-    ensures card { KeepsMachine card.old card.new }
-    ensures len { GivesValue saved_size card.old len.new result }
-    ensures closed { LeavesClosed card.old card.new result }
-    ensures spared { Spares card.old len.old len.new }
+    ensures card { OpenCardKeepsMachine card.old card.new }
+    ensures len { OpenCardGivesValue saved_size card.old len.new result }
+    ensures closed { ClosedCardStaysUnchanged card.old card.new result }
+    ensures spared { ClosedCardLeavesOutput card.old len.old len.new }
 {
     on_open_card!(alloc, card, machine => {
         *len = machine.saved_len();
@@ -48,11 +48,11 @@ pub extern "C" fn zak_save(
     bytes: &mut [u8],
     len: &mut usize,
 ) -> u32
-    ensures card { KeepsMachine card.old card.new }
+    ensures card { OpenCardKeepsMachine card.old card.new }
     ensures bytes { Saves card.old bytes.old bytes.new len.new result }
-    ensures closed { LeavesClosed card.old card.new result }
-    ensures spared { Spares card.old bytes.old bytes.new }
-    ensures len { Spares card.old len.old len.new }
+    ensures closed { ClosedCardStaysUnchanged card.old card.new result }
+    ensures spared { ClosedCardLeavesOutput card.old bytes.old bytes.new }
+    ensures len { ClosedCardLeavesOutput card.old len.old len.new }
 {
     on_open_card!(alloc, card, machine => save(machine, bytes, len))
 }
@@ -84,7 +84,7 @@ pub(crate) fn restore(machine: &mut Machine, bytes: &[u8]) -> u32
 #[unsafe(no_mangle)]
 pub extern "C" fn zak_restore(alloc: Global, card: &mut Handle, bytes: &[u8]) -> u32
     ensures card { Restores card.old card.new bytes.now result }
-    ensures closed { LeavesClosed card.old card.new result }
+    ensures closed { ClosedCardStaysUnchanged card.old card.new result }
 {
     on_open_card!(alloc, card, machine => restore(machine, bytes))
 }

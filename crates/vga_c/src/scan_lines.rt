@@ -1,14 +1,14 @@
 //! Scan lines of the frame under way, drawn to their ends.
 ghost use Rattle.std.specs.Prelude.{◌≡◌, ◌+◌, ◌*◌, ◌≤◌, ◌<◌, ℕ, length, slice_index, bit_or};
-ghost use Rattle.vga_c.specs.Cards.{LeavesClosed, Spares};
-ghost use Rattle.vga_c.specs.Forms.{AreInRows, rgb_word_of_dot as rgb_word_of_dot_of};
-ghost use Rattle.vga_c.specs.ScanLines.{DrawsLine, DrawsLineOf};
+ghost use Rattle.vga_c.specs.Cards.{ClosedCardStaysUnchanged, ClosedCardLeavesOutput};
+ghost use Rattle.vga_c.specs.Forms.{AreRowsInBuffer, rgb_word_of_dot as rgb_word_of_dot_of};
+ghost use Rattle.vga_c.specs.ScanLines.{DrawsLine, DrawsLineOfOpenCard};
 
-use crate::forms::{Form, write_row};
+use crate::forms::{Form, write_row_of_words};
 use crate::handle::{Handle, on_open_card};
 use crate::status::{BAD_ARGUMENT, DONE, NO_ROOM};
 use std::alloc::Global;
-use vga_card::Lines;
+use vga_card::DrawnLines;
 use vga_run::machine::Machine;
 
 /// A scan line of a frame: its number, how many dots it has, and whether the frame ends with it.
@@ -24,7 +24,7 @@ pub struct ScanLine {
 /// if there is room.
 fn write_words(bytes: &[u8], first: usize, count: usize, above: u32, pixels: &mut [u32]) -> u32
     requires { 3 * (first + count) ≤ length bytes.now }
-    ensures { AreInRows count 1 count
+    ensures { AreRowsInBuffer count 1 count
         (λ x y. bit_or above (rgb_word_of_dot_of bytes.now (first + x))) pixels.old pixels.new
         result }
 {
@@ -36,7 +36,7 @@ fn write_words(bytes: &[u8], first: usize, count: usize, above: u32, pixels: &mu
         down: 1,
         above,
     };
-    write_row(bytes, first, form, count, pixels, 0);
+    write_row_of_words(bytes, first, form, count, pixels, 0);
     DONE
 }
 
@@ -50,7 +50,7 @@ fn draw_line(machine: &mut Machine, flags: u32, scan_line: &mut ScanLine, pixels
         return BAD_ARGUMENT;
     }
     let (number, ends_frame) = machine.card.end_line();
-    let Lines { widths, bytes } = machine.card.drawn_lines();
+    let DrawnLines { widths, bytes } = machine.card.drawn_lines();
     let width = if number < 1024 {
         widths[number as usize]
     } else {
@@ -75,11 +75,11 @@ pub extern "C" fn zak_line(
     scan_line: &mut ScanLine,
     pixels: &mut [u32],
 ) -> u32
-    ensures line { DrawsLineOf flags card.old card.new scan_line.old scan_line.new pixels.old
+    ensures line { DrawsLineOfOpenCard flags card.old card.new scan_line.old scan_line.new pixels.old
         pixels.new result }
-    ensures closed { LeavesClosed card.old card.new result }
-    ensures spared { Spares card.old scan_line.old scan_line.new }
-    ensures pixels { Spares card.old pixels.old pixels.new }
+    ensures closed { ClosedCardStaysUnchanged card.old card.new result }
+    ensures spared { ClosedCardLeavesOutput card.old scan_line.old scan_line.new }
+    ensures pixels { ClosedCardLeavesOutput card.old pixels.old pixels.new }
 {
     on_open_card!(alloc, card, machine => draw_line(machine, flags, scan_line, pixels))
 }

@@ -2,10 +2,10 @@
 ghost use Rattle.std.specs.Prelude.{◌≡◌};
 ghost use Rattle.bios_modes.specs.Heights.{mode_row_at_height as mode_row_at_height_of};
 ghost use Rattle.bios_screen.specs.Parts.{cell_at, cursor_at};
-ghost use Rattle.vga_c.specs.Cards.{KeepsMachine, LeavesClosed, Spares};
+ghost use Rattle.vga_c.specs.Cards.{OpenCardKeepsMachine, ClosedCardStaysUnchanged, ClosedCardLeavesOutput};
 ghost use Rattle.vga_c.specs.Screens.{ask_cell, ask_cursor, ask_layout, ask_pixel};
-ghost use Rattle.vga_c.specs.Screens.{AnswersFromScreen, cell_of};
-ghost use Rattle.vga_c.specs.Screens.{HasOfScreen, IsAnswered, layout_by, count_unless_text as pixels_in};
+ghost use Rattle.vga_c.specs.Screens.{OpenCardAnswersFromScreen, cell_of};
+ghost use Rattle.vga_c.specs.Screens.{MachineAnswersFromScreen, IsAnswered, layout_by_bios_data, pixel_count_unless_text as pixels_in};
 ghost use Rattle.vga_c.specs.Screens.{place_of};
 
 use crate::handle::{Handle, on_open_card};
@@ -71,7 +71,7 @@ fn write_found<T: Copy>(found: Option<T>, to: &mut T) -> u32
 }
 
 /// A number of pixels, or 0 in text.
-fn count_unless_text(mode: u8, count: u32) -> u32
+fn pixel_count_unless_text(mode: u8, count: u32) -> u32
     ensures { result ≡ pixels_in mode count }
 {
     if is_text(mode) { 0 } else { count }
@@ -79,13 +79,13 @@ fn count_unless_text(mode: u8, count: u32) -> u32
 
 /// The layout of the screen that a card with these BIOS data shows.
 fn layout_of(bda: &Bda) -> Option<ScreenLayout>
-    ensures { result ≡ layout_by (mode_row_at_height_of bda.now.mode bda.now.height) bda.now }
+    ensures { result ≡ layout_by_bios_data (mode_row_at_height_of bda.now.mode bda.now.height) bda.now }
 {
     let row = mode_row_at_height(bda.mode(), bda.height())?;
     let rows = bda.last_row() as u16 + 1;
     Some(ScreenLayout {
-        width: count_unless_text(bda.mode(), 8 * bda.columns() as u32),
-        height: count_unless_text(bda.mode(), bda.height() as u32 * rows as u32),
+        width: pixel_count_unless_text(bda.mode(), 8 * bda.columns() as u32),
+        height: pixel_count_unless_text(bda.mode(), bda.height() as u32 * rows as u32),
         columns: bda.columns(),
         rows,
         mode: bda.mode(),
@@ -98,7 +98,7 @@ fn layout_of(bda: &Bda) -> Option<ScreenLayout>
 /// Reads the layout of a machine's screen.
 #[tactic(auto, using(crate::proofs::ScreenLemmas::layout_shown))]
 fn read_layout(alloc: Global, machine: &Machine, layout: &mut ScreenLayout) -> u32
-    ensures { HasOfScreen machine.now ask_layout layout.old layout.new result }
+    ensures { MachineAnswersFromScreen machine.now ask_layout layout.old layout.new result }
 {
     on_screen!(alloc, machine, _screen => layout_of(&machine.bda), layout)
 }
@@ -110,10 +110,10 @@ pub extern "C" fn zak_screen_read(
     card: &mut Handle,
     layout: &mut ScreenLayout,
 ) -> u32
-    ensures card { KeepsMachine card.old card.new }
-    ensures layout { AnswersFromScreen ask_layout card.old layout.old layout.new result }
-    ensures closed { LeavesClosed card.old card.new result }
-    ensures spared { Spares card.old layout.old layout.new }
+    ensures card { OpenCardKeepsMachine card.old card.new }
+    ensures layout { OpenCardAnswersFromScreen ask_layout card.old layout.old layout.new result }
+    ensures closed { ClosedCardStaysUnchanged card.old card.new result }
+    ensures spared { ClosedCardLeavesOutput card.old layout.old layout.new }
 {
     on_open_card!(alloc, card, machine => read_layout(alloc, machine, layout))
 }
@@ -138,7 +138,7 @@ fn read_cell(
     column: u8,
     cell: &mut Cell,
 ) -> u32
-    ensures { HasOfScreen machine.now (ask_cell page row column) cell.old cell.new result }
+    ensures { MachineAnswersFromScreen machine.now (ask_cell page row column) cell.old cell.new result }
 {
     on_screen!(alloc, machine, screen => cell_in(&screen, page, row, column), cell)
 }
@@ -153,17 +153,17 @@ pub extern "C" fn zak_screen_cell(
     column: u8,
     cell: &mut Cell,
 ) -> u32
-    ensures card { KeepsMachine card.old card.new }
-    ensures cell { AnswersFromScreen (ask_cell page row column) card.old cell.old cell.new result }
-    ensures closed { LeavesClosed card.old card.new result }
-    ensures spared { Spares card.old cell.old cell.new }
+    ensures card { OpenCardKeepsMachine card.old card.new }
+    ensures cell { OpenCardAnswersFromScreen (ask_cell page row column) card.old cell.old cell.new result }
+    ensures closed { ClosedCardStaysUnchanged card.old card.new result }
+    ensures spared { ClosedCardLeavesOutput card.old cell.old cell.new }
 {
     on_open_card!(alloc, card, machine => read_cell(alloc, machine, page, row, column, cell))
 }
 
 /// Reads a pixel of a machine's screen.
 fn read_pixel(alloc: Global, machine: &Machine, page: u8, x: u16, y: u16, pixel: &mut u8) -> u32
-    ensures { HasOfScreen machine.now (ask_pixel page x y) pixel.old pixel.new result }
+    ensures { MachineAnswersFromScreen machine.now (ask_pixel page x y) pixel.old pixel.new result }
 {
     on_screen!(alloc, machine, screen => screen.pixel(page, x, y), pixel)
 }
@@ -178,10 +178,10 @@ pub extern "C" fn zak_screen_pixel(
     y: u16,
     pixel: &mut u8,
 ) -> u32
-    ensures card { KeepsMachine card.old card.new }
-    ensures pixel { AnswersFromScreen (ask_pixel page x y) card.old pixel.old pixel.new result }
-    ensures closed { LeavesClosed card.old card.new result }
-    ensures spared { Spares card.old pixel.old pixel.new }
+    ensures card { OpenCardKeepsMachine card.old card.new }
+    ensures pixel { OpenCardAnswersFromScreen (ask_pixel page x y) card.old pixel.old pixel.new result }
+    ensures closed { ClosedCardStaysUnchanged card.old card.new result }
+    ensures spared { ClosedCardLeavesOutput card.old pixel.old pixel.new }
 {
     on_open_card!(alloc, card, machine => read_pixel(alloc, machine, page, x, y, pixel))
 }
@@ -196,7 +196,7 @@ fn cursor_in(screen: &Screen, page: u8) -> Option<Place>
 
 /// Reads the cursor position on a page of a machine's screen.
 fn read_cursor(alloc: Global, machine: &Machine, page: u8, place: &mut Place) -> u32
-    ensures { HasOfScreen machine.now (ask_cursor page) place.old place.new result }
+    ensures { MachineAnswersFromScreen machine.now (ask_cursor page) place.old place.new result }
 {
     on_screen!(alloc, machine, screen => cursor_in(&screen, page), place)
 }
@@ -209,10 +209,10 @@ pub extern "C" fn zak_screen_cursor(
     page: u8,
     place: &mut Place,
 ) -> u32
-    ensures card { KeepsMachine card.old card.new }
-    ensures place { AnswersFromScreen (ask_cursor page) card.old place.old place.new result }
-    ensures closed { LeavesClosed card.old card.new result }
-    ensures spared { Spares card.old place.old place.new }
+    ensures card { OpenCardKeepsMachine card.old card.new }
+    ensures place { OpenCardAnswersFromScreen (ask_cursor page) card.old place.old place.new result }
+    ensures closed { ClosedCardStaysUnchanged card.old card.new result }
+    ensures spared { ClosedCardLeavesOutput card.old place.old place.new }
 {
     on_open_card!(alloc, card, machine => read_cursor(alloc, machine, page, place))
 }

@@ -1,7 +1,7 @@
 //! A machine in the memory of a C program.
 ghost use Rattle.std.specs.Prelude.{◌≡◌, true, false, Bool};
 ghost use Rattle.vga_run.specs.declared.machine.Machine.{Machine};
-ghost use Rattle.vga_c.specs.Sealed.{owns_if, machine_coded};
+ghost use Rattle.vga_c.specs.Sealed.{owns_machine_if, machine_coded};
 
 use crate::box_parts::BoxParts;
 use std::alloc::Global;
@@ -19,11 +19,11 @@ pub struct Sealed {
 }
 
 impl Model for Sealed {
-    ghost also_owns = { λ s. owns_if s.full s.alloc s.ptr s.machine };
+    ghost also_owns = { λ s. owns_machine_if s.full s.alloc s.ptr s.machine };
 }
 
 impl Sealed {
-    /// Nothing.
+    /// A pointer to no machine.
     pub(crate) fn empty(alloc: Global) -> Sealed
         ensures { result.full ≡ false }
     {
@@ -44,7 +44,7 @@ impl Sealed {
         }
     }
 
-    /// The parts of the machine.
+    /// The machine's pointer and its allocator.
     pub(crate) fn into_parts(self) -> BoxParts<Machine, Global>
         requires { self.full ≡ true }
         ensures { result.value ≡ self.machine }

@@ -1,10 +1,10 @@
 //! Interrupt 10.
 ghost use Rattle.std.specs.Prelude.{◌≡◌};
 ghost use Rattle.bios_modes.specs.Valid.{IsValid};
-ghost use Rattle.vga_c.specs.Cards.{LeavesClosed, Spares};
-ghost use Rattle.vga_c.specs.Services.{call_step, Calls, HasServiceOutcome, IsCalled};
-ghost use Rattle.vga_c.specs.Services.{IsUnchangedIfDataBad};
-ghost use Rattle.vga_c.specs.Services.{LeavesBad, service_output};
+ghost use Rattle.vga_c.specs.Cards.{ClosedCardStaysUnchanged, ClosedCardLeavesOutput};
+ghost use Rattle.vga_c.specs.Services.{call_step, OpenCardTakesCall, HasServiceOutcome, IsCallTaken};
+ghost use Rattle.vga_c.specs.Services.{InvalidDataChangeNothing};
+ghost use Rattle.vga_c.specs.Services.{InvalidDataChangeNoCard, service_output};
 
 use crate::buffer::copy_prefix;
 use crate::handle::{Handle, on_open_card};
@@ -46,7 +46,7 @@ fn write_answer(
 
 /// Calls the video BIOS of a machine with valid BIOS data.
 #[tactic(auto, using(crate::proofs::ServiceLemmas::told_service))]
-fn call_valid(
+fn call_with_valid_data(
     alloc: Global,
     machine: &mut Machine,
     registers: &mut CallRegisters,
@@ -55,7 +55,7 @@ fn call_valid(
     len: &mut usize,
 ) -> u32
     requires { IsValid machine.old.bda }
-    ensures called { IsCalled machine.old machine.new (call_step registers.old block.now)
+    ensures called { IsCallTaken machine.old machine.new (call_step registers.old block.now)
         (service_output registers.old table.old len.old) (service_output registers.new table.new
         len.new) result }
     ensures valid { IsValid machine.new.bda }
@@ -86,18 +86,18 @@ fn call(
     table: &mut [u8],
     len: &mut usize,
 ) -> u32
-    ensures called { IsValid machine.old.bda → IsCalled machine.old machine.new
+    ensures called { IsValid machine.old.bda → IsCallTaken machine.old machine.new
         (call_step registers.old block.now) (service_output registers.old table.old len.old)
         (service_output registers.new table.new len.new) result }
     ensures valid { IsValid machine.old.bda → IsValid machine.new.bda }
-    ensures bad { IsUnchangedIfDataBad machine.old machine.new (service_output registers.old
+    ensures bad { InvalidDataChangeNothing machine.old machine.new (service_output registers.old
         table.old len.old)
         (service_output registers.new table.new len.new) result }
 {
     if !machine.bda.valid() {
         return BAD_CARD;
     }
-    call_valid(alloc, machine, registers, block, table, len)
+    call_with_valid_data(alloc, machine, registers, block, table, len)
 }
 
 /// Calls the video BIOS: AX, BX, CX and DX are those of interrupt 10.
@@ -110,13 +110,13 @@ pub extern "C" fn zak_int10(
     table: &mut [u8],
     len: &mut usize,
 ) -> u32
-    ensures called { Calls card.old card.new block.now (service_output registers.old table.old
+    ensures called { OpenCardTakesCall card.old card.new block.now (service_output registers.old table.old
         len.old)
         (service_output registers.new table.new len.new) result }
-    ensures bad { LeavesBad card.old card.new (service_output registers.old table.old len.old)
+    ensures bad { InvalidDataChangeNoCard card.old card.new (service_output registers.old table.old len.old)
         (service_output registers.new table.new len.new) result }
-    ensures closed { LeavesClosed card.old card.new result }
-    ensures spared { Spares card.old (service_output registers.old table.old len.old)
+    ensures closed { ClosedCardStaysUnchanged card.old card.new result }
+    ensures spared { ClosedCardLeavesOutput card.old (service_output registers.old table.old len.old)
         (service_output registers.new table.new len.new) }
 {
     on_open_card!(alloc, card, machine => call(alloc, machine, registers, block, table, len))

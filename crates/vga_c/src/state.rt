@@ -1,9 +1,9 @@
 //! Reading the state of an open card.
 ghost use Rattle.std.specs.Prelude.{◌≡◌, ◌+◌, ◌<◌, ◌≤◌, length};
-ghost use Rattle.vga_c.specs.Cards.{KeepsMachine, LeavesClosed, Spares, GivesValue};
+ghost use Rattle.vga_c.specs.Cards.{OpenCardKeepsMachine, ClosedCardStaysUnchanged, ClosedCardLeavesOutput, OpenCardGivesValue};
 ghost use Rattle.vga_c.specs.State.{bda_in, beam_in, colour_in, component_number as number_of};
-ghost use Rattle.vga_c.specs.State.{IsPlanePart, IsPlaneRead, latches_in, registers_in};
-ghost use Rattle.vga_c.specs.State.{TellsPlane};
+ghost use Rattle.vga_c.specs.State.{IsPlanePart, ReadsPlanePartOrRefuses, latches_in, registers_in};
+ghost use Rattle.vga_c.specs.State.{OpenCardTellsPlanePart};
 
 use crate::handle::{Handle, on_open_card};
 use crate::status::{BAD_ARGUMENT, DONE};
@@ -124,10 +124,10 @@ pub extern "C" fn zak_read_registers(
     card: &mut Handle,
     registers: &mut Registers,
 ) -> u32
-    ensures card { KeepsMachine card.old card.new }
-    ensures registers { GivesValue registers_in card.old registers.new result }
-    ensures closed { LeavesClosed card.old card.new result }
-    ensures spared { Spares card.old registers.old registers.new }
+    ensures card { OpenCardKeepsMachine card.old card.new }
+    ensures registers { OpenCardGivesValue registers_in card.old registers.new result }
+    ensures closed { ClosedCardStaysUnchanged card.old card.new result }
+    ensures spared { ClosedCardLeavesOutput card.old registers.old registers.new }
 {
     on_open_card!(alloc, card, machine => {
         *registers = registers_of(machine);
@@ -151,10 +151,10 @@ pub extern "C" fn zak_read_colour(
     index: u8,
     colour: &mut Colour,
 ) -> u32
-    ensures card { KeepsMachine card.old card.new }
-    ensures colour { GivesValue (colour_in index) card.old colour.new result }
-    ensures closed { LeavesClosed card.old card.new result }
-    ensures spared { Spares card.old colour.old colour.new }
+    ensures card { OpenCardKeepsMachine card.old card.new }
+    ensures colour { OpenCardGivesValue (colour_in index) card.old colour.new result }
+    ensures closed { ClosedCardStaysUnchanged card.old card.new result }
+    ensures spared { ClosedCardLeavesOutput card.old colour.old colour.new }
 {
     on_open_card!(alloc, card, machine => {
         *colour = colour_of(machine, index);
@@ -183,10 +183,10 @@ fn beam_of(machine: &Machine) -> Beam
 /// Reads the beam.
 #[unsafe(no_mangle)]
 pub extern "C" fn zak_read_beam(alloc: Global, card: &mut Handle, beam: &mut Beam) -> u32
-    ensures card { KeepsMachine card.old card.new }
-    ensures beam { GivesValue beam_in card.old beam.new result }
-    ensures closed { LeavesClosed card.old card.new result }
-    ensures spared { Spares card.old beam.old beam.new }
+    ensures card { OpenCardKeepsMachine card.old card.new }
+    ensures beam { OpenCardGivesValue beam_in card.old beam.new result }
+    ensures closed { ClosedCardStaysUnchanged card.old card.new result }
+    ensures spared { ClosedCardLeavesOutput card.old beam.old beam.new }
 {
     on_open_card!(alloc, card, machine => {
         *beam = beam_of(machine);
@@ -212,10 +212,10 @@ fn latches_of(machine: &Machine) -> Latches
 /// Reads the four latches.
 #[unsafe(no_mangle)]
 pub extern "C" fn zak_read_latches(alloc: Global, card: &mut Handle, latches: &mut Latches) -> u32
-    ensures card { KeepsMachine card.old card.new }
-    ensures latches { GivesValue latches_in card.old latches.new result }
-    ensures closed { LeavesClosed card.old card.new result }
-    ensures spared { Spares card.old latches.old latches.new }
+    ensures card { OpenCardKeepsMachine card.old card.new }
+    ensures latches { OpenCardGivesValue latches_in card.old latches.new result }
+    ensures closed { ClosedCardStaysUnchanged card.old card.new result }
+    ensures spared { ClosedCardLeavesOutput card.old latches.old latches.new }
 {
     on_open_card!(alloc, card, machine => {
         *latches = latches_of(machine);
@@ -257,10 +257,10 @@ fn bda_of(machine: &Machine) -> BiosDataArea
 /// Reads the BIOS data.
 #[unsafe(no_mangle)]
 pub extern "C" fn zak_read_bda(alloc: Global, card: &mut Handle, bda: &mut BiosDataArea) -> u32
-    ensures card { KeepsMachine card.old card.new }
-    ensures bda { GivesValue bda_in card.old bda.new result }
-    ensures closed { LeavesClosed card.old card.new result }
-    ensures spared { Spares card.old bda.old bda.new }
+    ensures card { OpenCardKeepsMachine card.old card.new }
+    ensures bda { OpenCardGivesValue bda_in card.old bda.new result }
+    ensures closed { ClosedCardStaysUnchanged card.old card.new result }
+    ensures spared { ClosedCardLeavesOutput card.old bda.old bda.new }
 {
     on_open_card!(alloc, card, machine => {
         *bda = bda_of(machine);
@@ -281,7 +281,7 @@ fn copy_plane(planes: &Planes, plane: usize, offset: usize, bytes: &mut [u8])
 
 /// Copies bytes of a plane, from an offset on, unless they go past its end.
 fn read_plane(planes: &Planes, plane: u8, offset: u16, bytes: &mut [u8]) -> u32
-    ensures { IsPlaneRead planes.now plane offset bytes.old bytes.new result }
+    ensures { ReadsPlanePartOrRefuses planes.now plane offset bytes.old bytes.new result }
 {
     if plane >= 4 || bytes.len() > 0x1_0000 - offset as usize {
         return BAD_ARGUMENT;
@@ -299,10 +299,10 @@ pub extern "C" fn zak_read_plane(
     offset: u16,
     bytes: &mut [u8],
 ) -> u32
-    ensures card { KeepsMachine card.old card.new }
-    ensures bytes { TellsPlane plane offset card.old bytes.old bytes.new result }
-    ensures closed { LeavesClosed card.old card.new result }
-    ensures spared { Spares card.old bytes.old bytes.new }
+    ensures card { OpenCardKeepsMachine card.old card.new }
+    ensures bytes { OpenCardTellsPlanePart plane offset card.old bytes.old bytes.new result }
+    ensures closed { ClosedCardStaysUnchanged card.old card.new result }
+    ensures spared { ClosedCardLeavesOutput card.old bytes.old bytes.new }
 {
     on_open_card!(alloc, card, machine => read_plane(machine.card.planes(), plane, offset, bytes))
 }

@@ -1,9 +1,9 @@
 //! Steps of a script on an open card.
 ghost use Rattle.std.specs.Prelude.{◌≡◌, ◌+◌, ◌<◌, ◌≤◌, ◌^◌, ℕ, length, take};
 ghost use Rattle.bios_modes.specs.Valid.{IsValid};
-ghost use Rattle.vga_c.specs.Cards.{LeavesClosed, Spares};
-ghost use Rattle.vga_c.specs.Services.{IsUnchangedIfDataBad, LeavesBad};
-ghost use Rattle.vga_c.specs.Steps.{AreTakenOrCutOff, IsRunOn, RunsOn, steps_output};
+ghost use Rattle.vga_c.specs.Cards.{ClosedCardStaysUnchanged, ClosedCardLeavesOutput};
+ghost use Rattle.vga_c.specs.Services.{InvalidDataChangeNothing, InvalidDataChangeNoCard};
+ghost use Rattle.vga_c.specs.Steps.{AreTakenOrCutOff, IsScriptRunOrRefused, OpenCardRunsScript, steps_output};
 
 use crate::buffer::copy_prefix;
 use crate::handle::{Handle, on_open_card};
@@ -46,7 +46,7 @@ fn take_steps(
 }
 
 /// Takes steps of a script on a machine with valid BIOS data.
-fn run_valid(
+fn run_with_valid_data(
     alloc: Global,
     machine: &mut Machine,
     script: &[u8],
@@ -58,7 +58,7 @@ fn run_valid(
     place: &mut usize,
 ) -> u32
     requires { IsValid machine.old.bda }
-    ensures run { IsRunOn script.now first most machine.old machine.new
+    ensures run { IsScriptRunOrRefused script.now first most machine.old machine.new
         (steps_output out.old len.old taken.old place.old) (steps_output out.new len.new taken.new
         place.new)
         result }
@@ -96,19 +96,19 @@ fn run(
     taken: &mut usize,
     place: &mut usize,
 ) -> u32
-    ensures run { IsValid machine.old.bda → IsRunOn script.now first most machine.old machine.new
+    ensures run { IsValid machine.old.bda → IsScriptRunOrRefused script.now first most machine.old machine.new
         (steps_output out.old len.old taken.old place.old) (steps_output out.new len.new taken.new
         place.new)
         result }
     ensures valid { IsValid machine.old.bda → IsValid machine.new.bda }
-    ensures bad { IsUnchangedIfDataBad machine.old machine.new (steps_output out.old len.old
+    ensures bad { InvalidDataChangeNothing machine.old machine.new (steps_output out.old len.old
         taken.old place.old)
         (steps_output out.new len.new taken.new place.new) result }
 {
     if !machine.bda.valid() {
         return BAD_CARD;
     }
-    run_valid(alloc, machine, script, first, most, out, len, taken, place)
+    run_with_valid_data(alloc, machine, script, first, most, out, len, taken, place)
 }
 
 /// Skips the first `first` steps of a script, takes the next `most`, or all if there are fewer, and
@@ -125,14 +125,14 @@ pub extern "C" fn zak_run_on(
     taken: &mut usize,
     place: &mut usize,
 ) -> u32
-    ensures run { RunsOn script.now first most card.old card.new
+    ensures run { OpenCardRunsScript script.now first most card.old card.new
         (steps_output out.old len.old taken.old place.old) (steps_output out.new len.new taken.new
         place.new)
         result }
-    ensures bad { LeavesBad card.old card.new (steps_output out.old len.old taken.old place.old)
+    ensures bad { InvalidDataChangeNoCard card.old card.new (steps_output out.old len.old taken.old place.old)
         (steps_output out.new len.new taken.new place.new) result }
-    ensures closed { LeavesClosed card.old card.new result }
-    ensures spared { Spares card.old (steps_output out.old len.old taken.old place.old)
+    ensures closed { ClosedCardStaysUnchanged card.old card.new result }
+    ensures spared { ClosedCardLeavesOutput card.old (steps_output out.old len.old taken.old place.old)
         (steps_output out.new len.new taken.new place.new) }
 {
     on_open_card!(alloc, card, machine => {

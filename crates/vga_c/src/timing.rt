@@ -1,7 +1,7 @@
 //! When the frame ends and input status 1 changes next, and how fast dots come.
 ghost use Rattle.std.specs.Prelude.{◌≡◌, ◌≤◌, IfSome, MatchOption};
-ghost use Rattle.vga_c.specs.Cards.{KeepsMachine, LeavesClosed, Spares};
-ghost use Rattle.vga_c.specs.Timing.{never_changes, IsTiming, AnswersTiming};
+ghost use Rattle.vga_c.specs.Cards.{OpenCardKeepsMachine, ClosedCardStaysUnchanged, ClosedCardLeavesOutput};
+ghost use Rattle.vga_c.specs.Timing.{never_instead_of_dots, IsTiming, AnswersTiming};
 
 use crate::handle::{Handle, on_open_card};
 use crate::status::DONE;
@@ -29,7 +29,7 @@ pub struct Timing {
 /// A number of dots, or `NEVER`.
 fn dots_or_never(dots: Option<u32>) -> u32
     requires { IfSome dots (λ n. n ≤ 4800000) }
-    ensures { MatchOption dots (result ≡ never_changes) (λ n. result ≡ n) }
+    ensures { MatchOption dots (result ≡ never_instead_of_dots) (λ n. result ≡ n) }
 {
     match dots {
         Some(dots) => dots,
@@ -58,10 +58,10 @@ fn timing_of(machine: &Machine) -> Timing
 /// then.
 #[unsafe(no_mangle)]
 pub extern "C" fn zak_clock(alloc: Global, card: &mut Handle, timing: &mut Timing) -> u32
-    ensures card { KeepsMachine card.old card.new }
+    ensures card { OpenCardKeepsMachine card.old card.new }
     ensures timing { AnswersTiming card.old timing.new result }
-    ensures closed { LeavesClosed card.old card.new result }
-    ensures spared { Spares card.old timing.old timing.new }
+    ensures closed { ClosedCardStaysUnchanged card.old card.new result }
+    ensures spared { ClosedCardLeavesOutput card.old timing.old timing.new }
 {
     on_open_card!(alloc, card, machine => {
         *timing = timing_of(machine);

@@ -1,10 +1,10 @@
 //! Runs of cycles over consecutive addresses, from or to the caller's bytes.
 ghost use Rattle.std.specs.Prelude.{◌≡◌, ◌+◌, ◌&&◌, length, slice_index};
-ghost use Rattle.vga_card.specs.Transfers.{decoded_count, AreRead};
-ghost use Rattle.vga_c.specs.Cards.{LeavesClosed, Spares};
-ghost use Rattle.vga_c.specs.Transfers.{are_addresses as are_addresses_of, bytes_put, bytes_got};
-ghost use Rattle.vga_c.specs.Transfers.{bytes_moved, IsOutputGiven, IsTransferred, OutputGivenOf};
-ghost use Rattle.vga_c.specs.Transfers.{Transfers};
+ghost use Rattle.vga_card.specs.Transfers.{decoded_count, AreBytesRead};
+ghost use Rattle.vga_c.specs.Cards.{ClosedCardStaysUnchanged, ClosedCardLeavesOutput};
+ghost use Rattle.vga_c.specs.Transfers.{addresses_fit_32_bits as are_addresses_of, card_after_puts, card_after_gets};
+ghost use Rattle.vga_c.specs.Transfers.{card_after_moves, OutputDescribesCardBefore, IsTransferred, OutputDescribesOpenCardBefore};
+ghost use Rattle.vga_c.specs.Transfers.{OpenCardTransfers};
 
 use crate::handle::{Handle, on_open_card};
 use crate::status::{BAD_ARGUMENT, DONE};
@@ -12,7 +12,7 @@ use std::alloc::Global;
 use vga_run::machine::Machine;
 
 /// Whether n addresses from `first` on, and the next one too, have 32 bits.
-fn are_addresses(first: u32, n: usize) -> bool
+fn addresses_fit_32_bits(first: u32, n: usize) -> bool
     ensures { result ≡ are_addresses_of first n }
 {
     n < 0x1_0000_0000 - first as usize
@@ -26,18 +26,18 @@ fn put_bytes(
     down: bool,
     decoded: &mut usize,
 ) -> u32
-    ensures after { IsTransferred (are_addresses_of address (length bytes.now)) (bytes_put down
+    ensures after { IsTransferred (are_addresses_of address (length bytes.now)) (card_after_puts down
         address (slice_index bytes.now) (length bytes.now)) machine.old machine.new result }
-    ensures decoded { IsOutputGiven (are_addresses_of address (length bytes.now))
+    ensures decoded { OutputDescribesCardBefore (are_addresses_of address (length bytes.now))
         (λ card n. n ≡ decoded_count card address (length bytes.now)) machine.old.card decoded.old
         decoded.new }
 {
-    if !are_addresses(address, bytes.len()) {
+    if !addresses_fit_32_bits(address, bytes.len()) {
         return BAD_ARGUMENT;
     }
     *decoded = machine.card.decoded_among(address, bytes.len() as u32) as usize;
     if down {
-        machine.card.put_slice_down(address, bytes);
+        machine.card.put_slice_last_first(address, bytes);
     } else {
         machine.card.put_slice(address, bytes);
     }
@@ -54,13 +54,13 @@ pub extern "C" fn zak_put_bytes(
     down: bool,
     decoded: &mut usize,
 ) -> u32
-    ensures card { Transfers (are_addresses_of address (length bytes.now)) (bytes_put down address
+    ensures card { OpenCardTransfers (are_addresses_of address (length bytes.now)) (card_after_puts down address
         (slice_index bytes.now) (length bytes.now)) card.old card.new result }
-    ensures decoded { OutputGivenOf (are_addresses_of address (length bytes.now))
+    ensures decoded { OutputDescribesOpenCardBefore (are_addresses_of address (length bytes.now))
         (λ card n. n ≡ decoded_count card address (length bytes.now)) card.old decoded.old
         decoded.new }
-    ensures closed { LeavesClosed card.old card.new result }
-    ensures spared { Spares card.old decoded.old decoded.new }
+    ensures closed { ClosedCardStaysUnchanged card.old card.new result }
+    ensures spared { ClosedCardLeavesOutput card.old decoded.old decoded.new }
 {
     on_open_card!(alloc, card, machine => put_bytes(machine, address, bytes, down, decoded))
 }
@@ -74,17 +74,17 @@ fn fill_bytes(
     down: bool,
     decoded: &mut usize,
 ) -> u32
-    ensures after { IsTransferred (are_addresses_of address count) (bytes_put down address
+    ensures after { IsTransferred (are_addresses_of address count) (card_after_puts down address
         (λ i. value) count) machine.old machine.new result }
-    ensures decoded { IsOutputGiven (are_addresses_of address count)
+    ensures decoded { OutputDescribesCardBefore (are_addresses_of address count)
         (λ card n. n ≡ decoded_count card address count) machine.old.card decoded.old decoded.new }
 {
-    if !are_addresses(address, count) {
+    if !addresses_fit_32_bits(address, count) {
         return BAD_ARGUMENT;
     }
     *decoded = machine.card.decoded_among(address, count as u32) as usize;
     if down {
-        machine.card.fill_down(address, count as u32, value);
+        machine.card.fill_last_first(address, count as u32, value);
     } else {
         machine.card.fill(address, count as u32, value);
     }
@@ -102,12 +102,12 @@ pub extern "C" fn zak_fill_bytes(
     down: bool,
     decoded: &mut usize,
 ) -> u32
-    ensures card { Transfers (are_addresses_of address count) (bytes_put down address (λ i. value)
+    ensures card { OpenCardTransfers (are_addresses_of address count) (card_after_puts down address (λ i. value)
         count) card.old card.new result }
-    ensures decoded { OutputGivenOf (are_addresses_of address count)
+    ensures decoded { OutputDescribesOpenCardBefore (are_addresses_of address count)
         (λ card n. n ≡ decoded_count card address count) card.old decoded.old decoded.new }
-    ensures closed { LeavesClosed card.old card.new result }
-    ensures spared { Spares card.old decoded.old decoded.new }
+    ensures closed { ClosedCardStaysUnchanged card.old card.new result }
+    ensures spared { ClosedCardLeavesOutput card.old decoded.old decoded.new }
 {
     on_open_card!(alloc, card, machine => {
         fill_bytes(machine, address, value, count, down, decoded)
@@ -122,20 +122,20 @@ fn get_bytes(
     down: bool,
     decoded: &mut usize,
 ) -> u32
-    ensures after { IsTransferred (are_addresses_of address (length bytes.old)) (bytes_got down
+    ensures after { IsTransferred (are_addresses_of address (length bytes.old)) (card_after_gets down
         address (length bytes.old)) machine.old machine.new result }
-    ensures bytes { IsOutputGiven (are_addresses_of address (length bytes.old))
-        (λ card new. AreRead card address bytes.old new) machine.old.card bytes.old bytes.new }
-    ensures decoded { IsOutputGiven (are_addresses_of address (length bytes.old))
+    ensures bytes { OutputDescribesCardBefore (are_addresses_of address (length bytes.old))
+        (λ card new. AreBytesRead card address bytes.old new) machine.old.card bytes.old bytes.new }
+    ensures decoded { OutputDescribesCardBefore (are_addresses_of address (length bytes.old))
         (λ card n. n ≡ decoded_count card address (length bytes.old)) machine.old.card decoded.old
         decoded.new }
 {
-    if !are_addresses(address, bytes.len()) {
+    if !addresses_fit_32_bits(address, bytes.len()) {
         return BAD_ARGUMENT;
     }
     *decoded = machine.card.decoded_among(address, bytes.len() as u32) as usize;
     if down {
-        machine.card.get_slice_down(address, bytes);
+        machine.card.get_slice_last_first(address, bytes);
     } else {
         machine.card.get_slice(address, bytes);
     }
@@ -153,16 +153,16 @@ pub extern "C" fn zak_get_bytes(
     down: bool,
     decoded: &mut usize,
 ) -> u32
-    ensures card { Transfers (are_addresses_of address (length bytes.old)) (bytes_got down address
+    ensures card { OpenCardTransfers (are_addresses_of address (length bytes.old)) (card_after_gets down address
         (length bytes.old)) card.old card.new result }
-    ensures bytes { OutputGivenOf (are_addresses_of address (length bytes.old))
-        (λ card new. AreRead card address bytes.old new) card.old bytes.old bytes.new }
-    ensures decoded { OutputGivenOf (are_addresses_of address (length bytes.old))
+    ensures bytes { OutputDescribesOpenCardBefore (are_addresses_of address (length bytes.old))
+        (λ card new. AreBytesRead card address bytes.old new) card.old bytes.old bytes.new }
+    ensures decoded { OutputDescribesOpenCardBefore (are_addresses_of address (length bytes.old))
         (λ card n. n ≡ decoded_count card address (length bytes.old)) card.old decoded.old
         decoded.new }
-    ensures closed { LeavesClosed card.old card.new result }
-    ensures spared { Spares card.old bytes.old bytes.new }
-    ensures count { Spares card.old decoded.old decoded.new }
+    ensures closed { ClosedCardStaysUnchanged card.old card.new result }
+    ensures spared { ClosedCardLeavesOutput card.old bytes.old bytes.new }
+    ensures count { ClosedCardLeavesOutput card.old decoded.old decoded.new }
 {
     on_open_card!(alloc, card, machine => get_bytes(machine, address, bytes, down, decoded))
 }
@@ -177,19 +177,19 @@ fn move_bytes(
     decoded: &mut usize,
 ) -> u32
     ensures after { IsTransferred (are_addresses_of from count && are_addresses_of to count)
-        (bytes_moved down from to count) machine.old machine.new result }
-    ensures decoded { IsOutputGiven (are_addresses_of from count && are_addresses_of to count)
+        (card_after_moves down from to count) machine.old machine.new result }
+    ensures decoded { OutputDescribesCardBefore (are_addresses_of from count && are_addresses_of to count)
         (λ card n. n ≡ decoded_count card from count + decoded_count card to count) machine.old.card
         decoded.old decoded.new }
 {
-    if !are_addresses(from, count) || !are_addresses(to, count) {
+    if !addresses_fit_32_bits(from, count) || !addresses_fit_32_bits(to, count) {
         return BAD_ARGUMENT;
     }
     let n = count as u32;
     let read = machine.card.decoded_among(from, n) as usize;
     *decoded = read + machine.card.decoded_among(to, n) as usize;
     if down {
-        machine.card.move_bytes_down(from, to, n);
+        machine.card.move_bytes_last_first(from, to, n);
     } else {
         machine.card.move_bytes(from, to, n);
     }
@@ -208,14 +208,14 @@ pub extern "C" fn zak_move_bytes(
     down: bool,
     decoded: &mut usize,
 ) -> u32
-    ensures card { Transfers (are_addresses_of from count && are_addresses_of to count)
-        (bytes_moved down from to count) card.old card.new result }
-    ensures decoded { OutputGivenOf (are_addresses_of from count && are_addresses_of to count)
+    ensures card { OpenCardTransfers (are_addresses_of from count && are_addresses_of to count)
+        (card_after_moves down from to count) card.old card.new result }
+    ensures decoded { OutputDescribesOpenCardBefore (are_addresses_of from count && are_addresses_of to count)
         (λ card n. n ≡ decoded_count card from count + decoded_count card to count) card.old
         decoded.old
         decoded.new }
-    ensures closed { LeavesClosed card.old card.new result }
-    ensures spared { Spares card.old decoded.old decoded.new }
+    ensures closed { ClosedCardStaysUnchanged card.old card.new result }
+    ensures spared { ClosedCardLeavesOutput card.old decoded.old decoded.new }
 {
     on_open_card!(alloc, card, machine => move_bytes(machine, from, to, count, down, decoded))
 }

@@ -27,7 +27,7 @@ use Rattle.vga_crtc.specs.declared.beam.Beam.{Beam}
 use Rattle.vga_crtc.specs.Crtc.{CrtcState}
 use Rattle.vga_crtc.specs.Fields.{horizontal_total, vertical_total, preset_row_scan, maximum_scan_line, line_compare, is_double_scan, overflow}
 use Rattle.vga_crtc.specs.Ports.{kept_bits, is_write_protected, protected_overflow, after_out as after_crtc}
-use Rattle.vga_crtc.specs.Beam.{characters, lines, IsBeam, is_first_dot, with_frame_start_taken, next_row, next_line, dot as beam_dot, after_dot}
+use Rattle.vga_crtc.specs.Beam.{characters, lines, IsBeam, is_first_dot, with_frame_start_taken, counters_after_line, next_line, dot as beam_dot, after_dot}
 use Rattle.vga_crtc.specs.Bounds.{IsCrtc}
 use Rattle.vga_attr.specs.Attr.{AttrState, attr_masks, selected_register, is_locked, after_write as after_attr, IsAttr}
 use Rattle.vga_dac.specs.declared.component.Component.{Component}
@@ -236,7 +236,7 @@ started_within : (r : List ℕ) (b : Beam) → IsBeam b → IsBeam (with_frame_s
 started_within r b z =
     if_beam (is_first_dot b) _ b (record { frame = z.frame; line = z.line; character = z.character; dot = z.dot; scan = first_scan_small r }) z
 
-row_within : (r : List ℕ) (b : Beam) → IsBeam b → IsBeam (next_row r b)
+row_within : (r : List ℕ) (b : Beam) → IsBeam b → IsBeam (counters_after_line r b)
 row_within r b z =
     let top : IsBeam (record b { base = 0; scan = 0; half = false; split = true }) =
     record { frame = z.frame; line = z.line; character = z.character; dot = z.dot; scan = omega arith } in
@@ -249,7 +249,7 @@ row_within r b z =
 line_within : (r : List ℕ) (b : Beam) → AreWithinMasks kept_bits r → IsBeam b → IsBeam (next_line r b)
 line_within r b are z =
     let begun : Beam = record b { character = 0; dot = 0 } in
-    let y : IsBeam (next_row r begun) = row_within r begun (record {
+    let y : IsBeam (counters_after_line r begun) = row_within r begun (record {
       frame = z.frame;
       line = z.line;
       character = omega arith;

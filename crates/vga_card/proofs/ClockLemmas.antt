@@ -9,7 +9,7 @@ use Rattle.vga_crtc.specs.Status.{is_display, is_retrace, status}
 use Rattle.vga_crtc.specs.Clock.{ChangesAfter, NeverChanges}
 use Rattle.vga_card.specs.Card.{CardState}
 use Rattle.vga_card.specs.Dots.{character_width, dots}
-use Rattle.vga_card.specs.Clock.{status_bit, BitChanges, BitStays}
+use Rattle.vga_card.specs.Clock.{status_bit, StatusBitChanges, StatusBitNeverChanges}
 use Rattle.vga_card.proofs.FrameLemmas.{dots_keep}
 
 -- ---- the two bits
@@ -57,13 +57,13 @@ now i test c tests = tests 0
 
 -- a bit changes and stays with its test
 bit_changes : (i : ℕ) (test : Beam → Bool) (c : CardState) (n : ℕ) → Tests i test c →
-    ChangesAfter test (character_width c) c.crtc.registers c.crtc.beam n → BitChanges i c n
+    ChangesAfter test (character_width c) c.crtc.registers c.crtc.beam n → StatusBitChanges i c n
 bit_changes i test c n tests is = record {
   changed = tests n ∙ is.changed ∙ ap not (sym (now i test c tests));
   first = λ m few. tests m ∙ is.first m few ∙ sym (now i test c tests);
 }
 
-bit_stays : (i : ℕ) (test : Beam → Bool) (c : CardState) → Tests i test c → NeverChanges test (character_width c) c.crtc.registers c.crtc.beam → BitStays i c
+bit_stays : (i : ℕ) (test : Beam → Bool) (c : CardState) → Tests i test c → NeverChanges test (character_width c) c.crtc.registers c.crtc.beam → StatusBitNeverChanges i c
 bit_stays i test c tests is = λ m. tests m ∙ is m ∙ sym (now i test c tests)
 
 -- a test and its opposite change together
@@ -74,7 +74,7 @@ opposite test cw r b n is = record { changed = ap not is.changed; first = λ m f
 
 display_of : (c : CardState) (told : Option ℕ) →
     MatchOption told (NeverChanges (is_display c.crtc.registers) (character_width c) c.crtc.registers c.crtc.beam)
-    (ChangesAfter (is_display c.crtc.registers) (character_width c) c.crtc.registers c.crtc.beam) → MatchOption told (BitStays 0 c) (BitChanges 0 c)
+    (ChangesAfter (is_display c.crtc.registers) (character_width c) c.crtc.registers c.crtc.beam) → MatchOption told (StatusBitNeverChanges 0 c) (StatusBitChanges 0 c)
 display_of c None is =
     bit_stays 0 (λ b. not (is_display c.crtc.registers b)) c (display_tests c) (λ m. ap not (is m))
 display_of c (Some n) is =
@@ -83,13 +83,13 @@ display_of c (Some n) is =
 
 retrace_of : (c : CardState) (told : Option ℕ) →
     MatchOption told (NeverChanges (is_retrace c.crtc.registers) (character_width c) c.crtc.registers c.crtc.beam)
-    (ChangesAfter (is_retrace c.crtc.registers) (character_width c) c.crtc.registers c.crtc.beam) → MatchOption told (BitStays 3 c) (BitChanges 3 c)
+    (ChangesAfter (is_retrace c.crtc.registers) (character_width c) c.crtc.registers c.crtc.beam) → MatchOption told (StatusBitNeverChanges 3 c) (StatusBitChanges 3 c)
 retrace_of c None is = bit_stays 3 (is_retrace c.crtc.registers) c (retrace_tests c) is
 retrace_of c (Some n) is = bit_changes 3 (is_retrace c.crtc.registers) c n (retrace_tests c) is
 
 pub display_told : (c : CardState) (told : Option ℕ) (cw : ℕ) (x : CrtcState) → cw ≡ character_width c → x ≡ c.crtc →
     MatchOption told (NeverChanges (is_display x.registers) cw x.registers x.beam) (ChangesAfter (is_display x.registers) cw x.registers x.beam) →
-    MatchOption told (BitStays 0 c) (BitChanges 0 c)
+    MatchOption told (StatusBitNeverChanges 0 c) (StatusBitChanges 0 c)
 display_told c told cw x width same is =
     display_of c told (subst (λ w. MatchOption told (NeverChanges (is_display c.crtc.registers) w c.crtc.registers c.crtc.beam)
     (ChangesAfter (is_display c.crtc.registers) w c.crtc.registers c.crtc.beam)) width
@@ -98,7 +98,7 @@ display_told c told cw x width same is =
 
 pub retrace_told : (c : CardState) (told : Option ℕ) (cw : ℕ) (x : CrtcState) → cw ≡ character_width c → x ≡ c.crtc →
     MatchOption told (NeverChanges (is_retrace x.registers) cw x.registers x.beam) (ChangesAfter (is_retrace x.registers) cw x.registers x.beam) →
-    MatchOption told (BitStays 3 c) (BitChanges 3 c)
+    MatchOption told (StatusBitNeverChanges 3 c) (StatusBitChanges 3 c)
 retrace_told c told cw x width same is =
     retrace_of c told (subst (λ w. MatchOption told (NeverChanges (is_retrace c.crtc.registers) w c.crtc.registers c.crtc.beam)
     (ChangesAfter (is_retrace c.crtc.registers) w c.crtc.registers c.crtc.beam)) width

@@ -8,7 +8,7 @@ use Rattle.std.proofs.lemmas.List.{length-replicate}
 use Rattle.vga_host.specs.Host.{HostState}
 use Rattle.vga_crtc.specs.declared.beam.Beam.{Beam}
 use Rattle.vga_crtc.specs.Crtc.{CrtcState}
-use Rattle.vga_crtc.specs.Beam.{is_first_dot, after_start, after_dot, after_dots, dots as beam_dots}
+use Rattle.vga_crtc.specs.Beam.{is_first_dot, crtc_with_start_taken, after_dot, after_dots, dots as beam_dots}
 use Rattle.vga_crtc.specs.Raster.{IsFrameStart, FrameEnds}
 use Rattle.vga_attr.specs.Attr.{AttrState}
 use Rattle.vga_dac.specs.Dac.{DacState}
@@ -16,7 +16,7 @@ use Rattle.vga_card.specs.Picture.{Dot, lines_of_dots, lines_by_widths, all_equa
 use Rattle.vga_card.specs.Canvas.{nonzero_widths}
 use Rattle.vga_card.specs.Card.{CardState}
 use Rattle.vga_card.specs.Dots.{character_width, dots_of_frame_so_far, display_dot, dot, dots}
-use Rattle.vga_card.specs.Frames.{frame_count, frame, EndsFirst, concatenated_dots, display_dot_at, DrawsDisplayDots}
+use Rattle.vga_card.specs.Frames.{card_dots_to_frame_end, frame, FrameTakesFewestDots, concatenated_dots, display_dot_at, DrawsDisplayDots}
 use Rattle.vga_card.proofs.DotLemmas.{dots_more, dots_split}
 use Rattle.vga_card.proofs.ShapeLemmas.{runs_are}
 
@@ -63,21 +63,21 @@ pub wide : (v : Bool) → 0 < (if v then 8 else 9)
 wide true = omega arith
 wide false = omega arith
 
-pub frame_ends_first : FramesEnd → (c : CardState) → EndsFirst c
+pub frame_ends_first : FramesEnd → (c : CardState) → FrameTakesFewestDots c
 frame_ends_first ends_at c =
     let ends = ends_at (character_width c) c.crtc.registers c.crtc.beam (wide _) in
     record {
       some = ends.some;
-      next = beam_after (frame_count c) c ∙ ends.next;
-      there = subst IsFrameStart (sym (beam_after (frame_count c) c)) ends.there;
+      next = beam_after (card_dots_to_frame_end c) c ∙ ends.next;
+      there = subst IsFrameStart (sym (beam_after (card_dots_to_frame_end c) c)) ends.there;
       first = λ m lo hi start. ends.first m lo hi (subst IsFrameStart (beam_after m c) start);
     }
 
 -- the dots that are left after n dots of a frame, with these, are the frame's
-frame_left : FramesEnd → (c : CardState) (n : ℕ) → n < frame_count c → n + frame_count (dots n c) ≡ frame_count c
+frame_left : FramesEnd → (c : CardState) (n : ℕ) → n < card_dots_to_frame_end c → n + card_dots_to_frame_end (dots n c) ≡ card_dots_to_frame_end c
 frame_left ends_at c n within =
-    let all = frame_count c in
-    let left = frame_count (dots n c) in
+    let all = card_dots_to_frame_end c in
+    let left = card_dots_to_frame_end (dots n c) in
     let ends = frame_ends_first ends_at c in
     let later = frame_ends_first ends_at (dots n c) in
     let at : (m : ℕ) → (dots (n + m) c).crtc.beam ≡ (dots m (dots n c)).crtc.beam = λ m. ap (λ (x : CardState). x.crtc.beam) (dots_split n m c) in
@@ -91,23 +91,23 @@ frame_left ends_at c n within =
     (cases_order (n + left) all)
 
 -- a frame goes on after some of its dots
-pub frame_goes_on : FramesEnd → (c : CardState) (n : ℕ) → n < frame_count c → frame (dots n c) ≡ frame c
-frame_goes_on ends_at c n within = sym (dots_split n (frame_count (dots n c)) c) ∙ ap (λ k. dots k c) (frame_left ends_at c n within)
+pub frame_goes_on : FramesEnd → (c : CardState) (n : ℕ) → n < card_dots_to_frame_end c → frame (dots n c) ≡ frame c
+frame_goes_on ends_at c n within = sym (dots_split n (card_dots_to_frame_end (dots n c)) c) ∙ ap (λ k. dots k c) (frame_left ends_at c n within)
 
 -- ---- what is drawn on the way
 
-dot_drawn : (c : CardState) → (dot c).drawn ≡ dots_of_frame_so_far c ++ display_dot c.host (after_start c.crtc) c.attr c.dac
+dot_drawn : (c : CardState) → (dot c).drawn ≡ dots_of_frame_so_far c ++ display_dot c.host (crtc_with_start_taken c.crtc) c.attr c.dac
 unfolding dot
 dot_drawn c = refl
 
 -- the dot that joins after n others
-joins : (n : ℕ) (c : CardState) → display_dot (dots n c).host (after_start (dots n c).crtc) (dots n c).attr (dots n c).dac ≡ display_dot_at c n
+joins : (n : ℕ) (c : CardState) → display_dot (dots n c).host (crtc_with_start_taken (dots n c).crtc) (dots n c).attr (dots n c).dac ≡ display_dot_at c n
 joins n c =
     let d = dots n c in
-    ap (λ (x : HostState). display_dot x (after_start d.crtc) d.attr d.dac) (dots_host n c)
-    ∙ ap (λ (x : CrtcState). display_dot c.host (after_start x) d.attr d.dac) (dots_crtc n c)
-    ∙ ap (λ (x : AttrState). display_dot c.host (after_start (after_dots c.crtc (character_width c) n)) x d.dac) (dots_attr n c)
-    ∙ ap (λ (x : DacState). display_dot c.host (after_start (after_dots c.crtc (character_width c) n)) c.attr x) (dots_dac n c)
+    ap (λ (x : HostState). display_dot x (crtc_with_start_taken d.crtc) d.attr d.dac) (dots_host n c)
+    ∙ ap (λ (x : CrtcState). display_dot c.host (crtc_with_start_taken x) d.attr d.dac) (dots_crtc n c)
+    ∙ ap (λ (x : AttrState). display_dot c.host (crtc_with_start_taken (after_dots c.crtc (character_width c) n)) x d.dac) (dots_attr n c)
+    ∙ ap (λ (x : DacState). display_dot c.host (crtc_with_start_taken (after_dots c.crtc (character_width c) n)) c.attr x) (dots_dac n c)
 
 dots_none : (c : CardState) → dots 0 c ≡ c
 unfolding dots
@@ -120,11 +120,11 @@ is_away false h = refl
 start_is : (b : Beam) → is_first_dot b ≡ true → IsFrameStart b
 start_is b h = record { line = grind (arith, nat_tests); character = grind (arith, nat_tests); dot = grind (arith, nat_tests) }
 
-draws_more : FramesEnd → (c : CardState) (n : ℕ) → suc n ≤ frame_count c → (dots (suc n) c).drawn ≡ dots_of_frame_so_far c ++ concatenated_dots (display_dot_at c) (suc n)
+draws_more : FramesEnd → (c : CardState) (n : ℕ) → suc n ≤ card_dots_to_frame_end c → (dots (suc n) c).drawn ≡ dots_of_frame_so_far c ++ concatenated_dots (display_dot_at c) (suc n)
 draws_more ends_at c zero hi =
     let e : 1 ≡ 0 + 1 = omega arith in
     ap (λ k. (dots k c).drawn) e ∙ ap (λ (x : CardState). x.drawn) (dots_more 0 c ∙ ap dot (dots_none c)) ∙ dot_drawn c
-    ∙ ap (λ (x : CardState). dots_of_frame_so_far c ++ display_dot x.host (after_start x.crtc) x.attr x.dac) (sym (dots_none c)) ∙ ap (λ x. dots_of_frame_so_far c ++ x) (joins 0 c)
+    ∙ ap (λ (x : CardState). dots_of_frame_so_far c ++ display_dot x.host (crtc_with_start_taken x.crtc) x.attr x.dac) (sym (dots_none c)) ∙ ap (λ x. dots_of_frame_so_far c ++ x) (joins 0 c)
 draws_more ends_at c (suc n) hi =
     let ends = frame_ends_first ends_at c in
     let e : suc (suc n) ≡ suc n + 1 = omega arith in
@@ -132,7 +132,7 @@ draws_more ends_at c (suc n) hi =
     let away : is_first_dot d.crtc.beam ≡ false = is_away (is_first_dot d.crtc.beam) (λ h.
     ends.first (suc n) (omega arith) (omega arith) (start_is d.crtc.beam h)) in
     ap (λ k. (dots k c).drawn) e ∙ ap (λ (x : CardState). x.drawn) (dots_more (suc n) c) ∙ dot_drawn d
-    ∙ ap (λ v. (if v then [] else d.drawn) ++ display_dot d.host (after_start d.crtc) d.attr d.dac) away
+    ∙ ap (λ v. (if v then [] else d.drawn) ++ display_dot d.host (crtc_with_start_taken d.crtc) d.attr d.dac) away
     ∙ ap (λ x. d.drawn ++ x) (joins (suc n) c)
     ∙ ap (λ x. x ++ display_dot_at c (suc n)) (draws_more ends_at c n (omega arith))
     ∙ append_assoc (dots_of_frame_so_far c) (concatenated_dots (display_dot_at c) (suc n)) (display_dot_at c (suc n))

@@ -11,7 +11,7 @@ use Rattle.vga_host.specs.Ports.{is_refused_out, after_out, sequencer_data, grap
 use Rattle.vga_crtc.specs.declared.beam.Beam.{Beam}
 use Rattle.vga_crtc.specs.Crtc.{CrtcState}
 use Rattle.vga_crtc.specs.Ports.{after_out as after_crtc}
-use Rattle.vga_crtc.specs.Beam.{after_start, after_dot, after_dots}
+use Rattle.vga_crtc.specs.Beam.{crtc_with_start_taken, after_dot, after_dots}
 use Rattle.vga_crtc.specs.Status.{is_display}
 use Rattle.vga_attr.specs.Attr.{AttrState}
 use Rattle.vga_dac.specs.Dac.{DacState}
@@ -28,7 +28,7 @@ use Rattle.vga_card.specs.Port.{port_of, crtc_port_of}
 use Rattle.vga_card.specs.Cycles.{WriteResult, card_after_write, unless_refused, out_reached, out_byte, out_cycle}
 use Rattle.vga_card.specs.WordCycles.{adapter_after_write, both_writes_or_neither, after_two_byte_writes, unless_at_last_place, out_word_cycle}
 use Rattle.vga_card.specs.Dots.{character_width, dots_of_frame_so_far, display_dot, dot, dots}
-use Rattle.vga_card.specs.Owed.{IsHidden}
+use Rattle.vga_card.specs.Owed.{IsChangeHiddenFromDots}
 use Rattle.vga_card.proofs.FrameLemmas.{dots_host, dots_keep}
 
 -- ---- dots over a host path that they see alike
@@ -56,7 +56,7 @@ unfolding dot
 hidden_dot sees c h alike = λ j. record c {
   host = h;
   crtc = after_dot c.crtc (width_alike c.host h alike j);
-  drawn = dots_of_frame_so_far c ++ alike_dot sees c.host h (after_start c.crtc) c.attr c.dac alike j;
+  drawn = dots_of_frame_so_far c ++ alike_dot sees c.host h (crtc_with_start_taken c.crtc) c.attr c.dac alike j;
 }
 
 hidden_dots : SeesFourRegisters → (n : ℕ) (c : CardState) (h : HostState) → DotsSeeSameRegisters c.host h → dots n (with_host c h) ≡ with_host (dots n c) h
@@ -93,7 +93,7 @@ unfolding after_dots
 same_adapter n c = ap adapter_of (dots_keep n c)
 
 -- an outcome that is hidden from dots is the same after n dots, or before them
-later : SeesFourRegisters → (n : ℕ) (c : CardState) (r : Result AdapterState Refusal) → IsHidden c (card_after_write c r).0 →
+later : SeesFourRegisters → (n : ℕ) (c : CardState) (r : Result AdapterState Refusal) → IsChangeHiddenFromDots c (card_after_write c r).0 →
     (let now : WriteResult = (dots n (card_after_write c r).0, (card_after_write c r).1) in card_after_write (dots n c) r ≡ now)
 later sees n c (Err e) hidden = refl
 later sees n c (Ok a) hidden =
@@ -109,7 +109,7 @@ byte_free n c port v =
     ∙ ap (λ a. out_byte c.crtc.beam a port v) (same_adapter n c)
 
 -- n dots and then a write that is hidden from them are the write and then the dots
-pub out_does_not_wait : SeesFourRegisters → (n : ℕ) (c : CardState) (port v : ℕ) → IsHidden c (out_cycle c port v).0 →
+pub out_does_not_wait : SeesFourRegisters → (n : ℕ) (c : CardState) (port v : ℕ) → IsChangeHiddenFromDots c (out_cycle c port v).0 →
     out_cycle (dots n c) port v ≡ (dots n (out_cycle c port v).0, (out_cycle c port v).1)
 out_does_not_wait sees n c port v hidden =
     ap (card_after_write (dots n c)) (byte_free n c port v) ∙ later sees n c (out_byte c.crtc.beam (adapter_of c) port v) hidden
@@ -126,7 +126,7 @@ word_free n c port low high =
     ∙ ap (λ a. after_two_byte_writes (out_byte c.crtc.beam) a port low high) (same_adapter n c)
 
 -- the same for a write of a word
-pub out_word_does_not_wait : SeesFourRegisters → (n : ℕ) (c : CardState) (port v : ℕ) → IsHidden c (out_word_cycle c port v).0 →
+pub out_word_does_not_wait : SeesFourRegisters → (n : ℕ) (c : CardState) (port v : ℕ) → IsChangeHiddenFromDots c (out_word_cycle c port v).0 →
     out_word_cycle (dots n c) port v ≡ (dots n (out_word_cycle c port v).0, (out_word_cycle c port v).1)
 out_word_does_not_wait sees n c port v hidden =
     ap (λ r. card_after_write (dots n c) (unless_at_last_place 0xFFFF port r)) (word_free n c port (v % 256) (v / 256))
@@ -170,42 +170,42 @@ seen_alike : (h : HostState) → DotsSeeSameRegisters h h
 seen_alike h = record { memory = refl; clocking_mode = refl; character_map_select = refl; graphics_mode = refl; miscellaneous = refl }
 
 -- a byte that is refused or written
-hidden_data : (c : CardState) (h : HostState) (refused : Bool) → DotsSeeSameRegisters c.host h → IsHidden c (card_after_write c (unless_refused refused (around c h))).0
+hidden_data : (c : CardState) (h : HostState) (refused : Bool) → DotsSeeSameRegisters c.host h → IsChangeHiddenFromDots c (card_after_write c (unless_refused refused (around c h))).0
 hidden_data c h true alike = record { rest = refl; host = seen_alike c.host }
 hidden_data c h false alike = record { rest = refl; host = alike }
 
 -- an index that is written, and then a byte that is refused or written
 hidden_both : (c : CardState) (mid h : HostState) (refused : Bool) → DotsSeeSameRegisters c.host h →
-    IsHidden c (card_after_write c (both_writes_or_neither (Ok (around c mid)) (unless_refused refused (around c h)))).0
+    IsChangeHiddenFromDots c (card_after_write c (both_writes_or_neither (Ok (around c mid)) (unless_refused refused (around c h)))).0
 hidden_both c mid h true alike = record { rest = refl; host = seen_alike c.host }
 hidden_both c mid h false alike = record { rest = refl; host = alike }
 
-pub sequencer_index_hidden : (c : CardState) (v : ℕ) → IsHidden c (out_cycle c 0x3C4 v).0
+pub sequencer_index_hidden : (c : CardState) (v : ℕ) → IsChangeHiddenFromDots c (out_cycle c 0x3C4 v).0
 unfolding out_reached port_of crtc_port_of
 sequencer_index_hidden c v = record { rest = refl; host = record { memory = refl; clocking_mode = refl; character_map_select = refl; graphics_mode = refl; miscellaneous = refl } }
 
-pub graphics_index_hidden : (c : CardState) (v : ℕ) → IsHidden c (out_cycle c 0x3CE v).0
+pub graphics_index_hidden : (c : CardState) (v : ℕ) → IsChangeHiddenFromDots c (out_cycle c 0x3CE v).0
 unfolding out_reached port_of crtc_port_of
 graphics_index_hidden c v = record { rest = refl; host = record { memory = refl; clocking_mode = refl; character_map_select = refl; graphics_mode = refl; miscellaneous = refl } }
 
-pub sequencer_data_hidden : (c : CardState) (v : ℕ) → IsBlindSequencer c.host.seq_index → IsHidden c (out_cycle c 0x3C5 v).0
+pub sequencer_data_hidden : (c : CardState) (v : ℕ) → IsBlindSequencer c.host.seq_index → IsChangeHiddenFromDots c (out_cycle c 0x3C5 v).0
 unfolding out_reached port_of crtc_port_of
 sequencer_data_hidden c v hidden =
     hidden_data c (after_out c.host sequencer_data v) (is_refused_out c.host sequencer_data v) (blind_sequencer c.host c.host.seq_index _ hidden)
 
-pub graphics_data_hidden : (c : CardState) (v : ℕ) → IsBlindGraphics c.host.gfx_index → IsHidden c (out_cycle c 0x3CF v).0
+pub graphics_data_hidden : (c : CardState) (v : ℕ) → IsBlindGraphics c.host.gfx_index → IsChangeHiddenFromDots c (out_cycle c 0x3CF v).0
 unfolding out_reached port_of crtc_port_of
 graphics_data_hidden c v hidden =
     hidden_data c (after_out c.host graphics_data v) (is_refused_out c.host graphics_data v) (blind_graphics c.host c.host.gfx_index _ hidden)
 
-pub sequencer_word_hidden : (c : CardState) (v : ℕ) → IsBlindSequencer (bit_and (v % 256) 0x07) → IsHidden c (out_word_cycle c 0x3C4 v).0
+pub sequencer_word_hidden : (c : CardState) (v : ℕ) → IsBlindSequencer (bit_and (v % 256) 0x07) → IsChangeHiddenFromDots c (out_word_cycle c 0x3C4 v).0
 unfolding out_reached port_of crtc_port_of
 sequencer_word_hidden c v hidden =
     let i = bit_and (v % 256) 0x07 in
     let mid : HostState = record c.host { seq_index = i } in
     hidden_both c mid (after_out mid sequencer_data (v / 256)) (is_refused_out mid sequencer_data (v / 256)) (blind_sequencer c.host i _ hidden)
 
-pub graphics_word_hidden : (c : CardState) (v : ℕ) → IsBlindGraphics (bit_and (v % 256) 0x0F) → IsHidden c (out_word_cycle c 0x3CE v).0
+pub graphics_word_hidden : (c : CardState) (v : ℕ) → IsBlindGraphics (bit_and (v % 256) 0x0F) → IsChangeHiddenFromDots c (out_word_cycle c 0x3CE v).0
 unfolding out_reached port_of crtc_port_of
 graphics_word_hidden c v hidden =
     let i = bit_and (v % 256) 0x0F in

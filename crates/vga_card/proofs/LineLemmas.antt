@@ -4,15 +4,15 @@ use Rattle.vga_host.specs.Host.{HostState}
 use Rattle.vga_host.specs.Sequencer.{character_width as host_width}
 use Rattle.vga_crtc.specs.declared.beam.Beam.{Beam}
 use Rattle.vga_crtc.specs.Crtc.{CrtcState}
-use Rattle.vga_crtc.specs.Beam.{is_first_dot, characters, with_frame_start_taken, next_line, after_start, after_dots, dots as beam_dots}
-use Rattle.vga_crtc.specs.Raster.{dots_in_line, dots_in_frame, IsLineStart, IsFrameStart, IsNextLine, IsLineTaken, beam_at_dot_of_line, dots_per_line as line_length}
+use Rattle.vga_crtc.specs.Beam.{is_first_dot, characters, with_frame_start_taken, next_line, crtc_with_start_taken, after_dots, dots as beam_dots}
+use Rattle.vga_crtc.specs.Raster.{dots_to_line_end, dots_to_frame_end, IsLineStart, IsFrameStart, IsNextLine, IsLineTaken, beam_at_dot_of_line, dots_per_line as line_length}
 use Rattle.vga_dots.specs.Line.{with_beam_at}
 use Rattle.vga_card.specs.Picture.{Dot}
 use Rattle.vga_card.specs.Card.{CardState}
 use Rattle.vga_card.specs.Dots.{character_width, dots_of_frame_so_far, display_dot, dot, dots}
-use Rattle.vga_card.specs.Frames.{frame_count, concatenated_dots, display_dot_at}
-use Rattle.vga_card.specs.Line.{displayed_line_dots, started_display, dots_to_next_line}
-use Rattle.vga_card.specs.Valid.{count_unless_frame_start, IsDrawnTo}
+use Rattle.vga_card.specs.Frames.{card_dots_to_frame_end, concatenated_dots, display_dot_at}
+use Rattle.vga_card.specs.Line.{displayed_line_dots, display_with_start_taken, card_dots_to_line_end}
+use Rattle.vga_card.specs.Valid.{count_unless_frame_start, IsLineDrawnToBeam}
 use Rattle.vga_card.proofs.DotLemmas.{dots_split, dots_more, dots_none}
 use Rattle.vga_card.proofs.FrameLemmas.{FramesEnd, dots_are_places, dots_host, dots_keep, wide}
 use Rattle.vga_card.proofs.PlaceLemmas.{StartStays, decided, elsewhere}
@@ -28,7 +28,7 @@ BeamInLine = (cw : ℕ) (r : List ℕ) (b : Beam) (n : ℕ) → IsLineStart b �
     with_frame_start_taken r (beam_dots cw r n b) ≡ beam_at_dot_of_line cw (with_frame_start_taken r b) n
 
 abbrev pub LineCounts : Type 0
-LineCounts = (cw : ℕ) (r : List ℕ) (b : Beam) → IsLineStart b → 0 < cw → dots_in_line cw r b ≡ line_length cw r
+LineCounts = (cw : ℕ) (r : List ℕ) (b : Beam) → IsLineStart b → 0 < cw → dots_to_line_end cw r b ≡ line_length cw r
 
 abbrev pub LineMoves : Type 0
 LineMoves = (r : List ℕ) (b : Beam) → IsNextLine r b (next_line r b) ⊎ IsFrameStart (next_line r b)
@@ -36,44 +36,44 @@ LineMoves = (r : List ℕ) (b : Beam) → IsNextLine r b (next_line r b) ⊎ IsF
 start_stays : StartStays → (r : List ℕ) (b : Beam) → IsLineStart b → IsLineStart (with_frame_start_taken r b)
 start_stays stays r b start = let place = stays r b in record { character = place.character ∙ start.character; dot = place.dot ∙ start.dot }
 
-pub started_start : StartStays → (c : CrtcState) → IsLineStart c.beam → IsLineStart (after_start c).beam
-unfolding after_start
+pub started_start : StartStays → (c : CrtcState) → IsLineStart c.beam → IsLineStart (crtc_with_start_taken c).beam
+unfolding crtc_with_start_taken
 started_start stays c start = start_stays stays c.registers c.beam start
 
-pub few_dots : (c : CardState) → (0 < dots_to_next_line c) × (dots_to_next_line c ≤ frame_count c)
-unfolding dots_in_frame dots_in_line
+pub few_dots : (c : CardState) → (0 < card_dots_to_line_end c) × (card_dots_to_line_end c ≤ card_dots_to_frame_end c)
+unfolding dots_to_frame_end dots_to_line_end
 few_dots c = (omega arith, omega arith)
 
 module _ (stays : StartStays) (begin : DotsBegin) (places : BeamInLine) (counts : LineCounts) (frames : FramesEnd) where
   -- the display dots of a line, one place after another
-  line_places : (c : CardState) → IsLineStart c.crtc.beam → concatenated_dots (display_dot_at c) (dots_to_next_line c) ≡ displayed_line_dots (started_display c)
-  unfolding displayed_line_dots after_start after_dots
+  line_places : (c : CardState) → IsLineStart c.crtc.beam → concatenated_dots (display_dot_at c) (card_dots_to_line_end c) ≡ displayed_line_dots (display_with_start_taken c)
+  unfolding displayed_line_dots crtc_with_start_taken after_dots
   line_places c start =
       let w = character_width c in
       let r = c.crtc.registers in
       let b = c.crtc.beam in
       let some : 0 < w = wide _ in
       ap (concatenated_dots (display_dot_at c)) (counts w r b start some)
-      ∙ collect_same (display_dot_at c) (λ i. display_dot c.host (with_beam_at (after_start c.crtc) (i / w) (i % w)) c.attr c.dac) (characters r * w)
+      ∙ collect_same (display_dot_at c) (λ i. display_dot c.host (with_beam_at (crtc_with_start_taken c.crtc) (i / w) (i % w)) c.attr c.dac) (characters r * w)
       (λ i l. ap (λ (x : Beam). display_dot c.host (record c.crtc { beam = x }) c.attr c.dac) (places w r b i start some l))
 
-  same_beam : (cw : ℕ) (c new : CrtcState) → 0 < cw → IsLineStart c.beam → IsLineTaken cw (after_start c) new →
-      new ≡ after_dots c cw (dots_in_line cw c.registers c.beam)
-  unfolding after_start after_dots
+  same_beam : (cw : ℕ) (c new : CrtcState) → 0 < cw → IsLineStart c.beam → IsLineTaken cw (crtc_with_start_taken c) new →
+      new ≡ after_dots c cw (dots_to_line_end cw c.registers c.beam)
+  unfolding crtc_with_start_taken after_dots
   same_beam cw c new some start line =
       let r = c.registers in
       let s : Beam = with_frame_start_taken r c.beam in
-      let n = dots_in_line cw r c.beam in
-      let e : dots_in_line cw r s ≡ n = counts cw r s (start_stays stays r c.beam start) some ∙ sym (counts cw r c.beam start some) in
+      let n = dots_to_line_end cw r c.beam in
+      let e : dots_to_line_end cw r s ≡ n = counts cw r s (start_stays stays r c.beam start) some ∙ sym (counts cw r c.beam start some) in
       let more : 0 < n = omega (arith, e, line.ends.some) in
       line.by_dots ∙ ap (λ m. record c { beam = beam_dots cw r m s }) e ∙ ap (λ (b : Beam). record c { beam = b }) (sym (begin cw r n c.beam more))
 
   -- a whole line, from the parts that it changes
-  pub line_is : (c : CardState) (crtc : CrtcState) (drawn : List Dot) → IsLineStart c.crtc.beam → IsLineTaken (character_width c) (after_start c.crtc) crtc →
-      drawn ≡ dots_of_frame_so_far c ++ displayed_line_dots (started_display c)
-      → record c { crtc = crtc; drawn = drawn } ≡ dots (dots_to_next_line c) c
+  pub line_is : (c : CardState) (crtc : CrtcState) (drawn : List Dot) → IsLineStart c.crtc.beam → IsLineTaken (character_width c) (crtc_with_start_taken c.crtc) crtc →
+      drawn ≡ dots_of_frame_so_far c ++ displayed_line_dots (display_with_start_taken c)
+      → record c { crtc = crtc; drawn = drawn } ≡ dots (card_dots_to_line_end c) c
   line_is c crtc drawn start moves draws =
-      let n = dots_to_next_line c in
+      let n = card_dots_to_line_end c in
       let count = few_dots c in
       ap (λ (x : CrtcState). record c { crtc = x; drawn = drawn }) (same_beam (character_width c) c.crtc crtc (wide _) start moves)
       ∙ ap (λ (x : List Dot). record c { crtc = after_dots c.crtc (character_width c) n; drawn = x }) (draws
@@ -82,7 +82,7 @@ module _ (stays : StartStays) (begin : DotsBegin) (places : BeamInLine) (counts 
 
 -- after a line nothing is drawn of the beam's
 pub line_moves : StartStays → LineMoves → (cw : ℕ) (old new : CrtcState) (line width : ℕ) → IsLineTaken cw old new → line ≤ old.beam.line →
-    IsDrawnTo new.beam 0 (count_unless_frame_start new.beam line) (count_unless_frame_start new.beam width)
+    IsLineDrawnToBeam new.beam 0 (count_unless_frame_start new.beam line) (count_unless_frame_start new.beam width)
 unfolding after_dots
 line_moves stays leads cw old new line width by_dots below =
     let r = old.registers in
@@ -97,7 +97,7 @@ line_moves stays leads cw old new line width by_dots below =
     (λ (start : IsFrameStart (next_line r s)). absurd (elsewhere m away (subst IsFrameStart (sym e) start)))
     (leads r s))
 
-pub line_went : (left line : ℕ) (s new r : CardState) → line ≤ left → line ≡ dots_to_next_line s → new ≡ dots (dots_to_next_line s) s → dots left s ≡ r →
+pub line_went : (left line : ℕ) (s new r : CardState) → line ≤ left → line ≡ card_dots_to_line_end s → new ≡ dots (card_dots_to_line_end s) s → dots left s ≡ r →
     dots (left - line) new ≡ r
 line_went left line s new r l e n h =
     let z : line + (left - line) ≡ left = omega arith in
@@ -117,5 +117,5 @@ pub width_kept_dot : (s new : CardState) → new ≡ dot s → character_width s
 unfolding dot
 width_kept_dot s new e = ap character_width (sym e)
 
-pub some_taken : (left line : ℕ) (s : CardState) → line ≡ dots_to_next_line s → 0 < left → left - line < left
+pub some_taken : (left line : ℕ) (s : CardState) → line ≡ card_dots_to_line_end s → 0 < left → left - line < left
 some_taken left line s e some = let count = few_dots s in omega (arith, e, count.0, some)

@@ -9,14 +9,14 @@ use Rattle.vga_crtc.specs.Fields.{horizontal_display_end}
 use Rattle.vga_crtc.specs.Beam.{with_frame_start_taken}
 use Rattle.vga_crtc.specs.Raster.{IsFrameStart, IsWithinItsLine, beam_at_dot_of_line, dot_number_in_line}
 use Rattle.vga_dots.specs.Line.{with_beam_at}
-use Rattle.vga_card.specs.Line.{dots_to_next_line}
+use Rattle.vga_card.specs.Line.{card_dots_to_line_end}
 use Rattle.vga_card.proofs.PartLemmas.{BeamGoes, LineWhole, is_shown_at}
 use Rattle.vga_bits.specs.Four.{Four}
 use Rattle.vga_host.specs.Host.{HostState}
 use Rattle.vga_host.specs.Memory.Address.{is_decoded, window_offset, is_reached, plane_offset}
 use Rattle.vga_host.specs.Memory.Write.{after_put, memory_after_put, written_byte}
 use Rattle.vga_crtc.specs.Crtc.{CrtcState}
-use Rattle.vga_crtc.specs.Beam.{after_start, after_dot, after_dots, dots as beam_dots}
+use Rattle.vga_crtc.specs.Beam.{crtc_with_start_taken, after_dot, after_dots, dots as beam_dots}
 use Rattle.vga_crtc.specs.Status.{is_display, status}
 use Rattle.vga_attr.specs.Attr.{AttrState, after_flip_flop_reset}
 use Rattle.vga_dac.specs.Dac.{DacState}
@@ -25,7 +25,7 @@ use Rattle.vga_dots.specs.Text.{text_nibble, is_foreground, is_glyph_dot, is_bli
 use Rattle.vga_dots.specs.Graphics.{planar_nibble, packed_byte, plane_bits}
 use Rattle.vga_host.specs.Memory.Read.{after_get, read_byte}
 use Rattle.vga_dots.specs.Colour.{nibble, colour_number, dot_colour}
-use Rattle.vga_dots.specs.Fetch.{DotSeesSameBytes, fetched_address}
+use Rattle.vga_dots.specs.Fetch.{DotSeesSameBytes, address_fetched_at_beam}
 use Rattle.vga_card.specs.declared.port.Port.TheVariants.{InputStatus1}
 use Rattle.vga_card.specs.Picture.{Dot}
 use Rattle.vga_card.specs.Card.{CardState}
@@ -33,7 +33,7 @@ use Rattle.vga_card.specs.Adapter.{AdapterState, adapter_of}
 use Rattle.vga_card.specs.Port.{port_of}
 use Rattle.vga_card.specs.Cycles.{inp_at, inp_reached, inp_cycle, put_cycle, get_cycle, card_after_write, card_after_read, if_decoded, WriteResult, ReadResult}
 use Rattle.vga_card.specs.Dots.{character_width, dots_of_frame_so_far, display_dot, dot, dots}
-use Rattle.vga_card.specs.Owed.{SeeAlike, crtc_at_dot}
+use Rattle.vga_card.specs.Owed.{DotsSeeSameMemory, crtc_at_dot}
 use Rattle.vga_card.proofs.FrameLemmas.{dots_host, dots_keep}
 
 -- the adapter of a card around another host path
@@ -54,7 +54,7 @@ same_dot h c a d = refl
 cleared_dot : (c : CardState) → dot (cleared c) ≡ cleared (dot c)
 unfolding dot
 cleared_dot c = ap (λ (x : List Dot). record c { crtc = after_dot c.crtc (character_width c); attr = after_flip_flop_reset c.attr; drawn = dots_of_frame_so_far c ++ x })
-    (same_dot c.host (after_start c.crtc) c.attr c.dac)
+    (same_dot c.host (crtc_with_start_taken c.crtc) c.attr c.dac)
 
 pub cleared_dots : (n : ℕ) (c : CardState) → dots n (cleared c) ≡ cleared (dots n c)
 unfolding dots
@@ -113,36 +113,36 @@ alike_dot sees h c a d memory alike =
     same_shown (is_display c.registers c.beam) _ _ (λ shown.
     ap (λ (x : List ℕ). record { line = c.beam.line; colour = x } ∷ []) (sees h c a d memory (alike shown)))
 
-here : (c : CardState) → crtc_at_dot c 0 ≡ after_start c.crtc
+here : (c : CardState) → crtc_at_dot c 0 ≡ crtc_with_start_taken c.crtc
 unfolding after_dots beam_dots
 here c = refl
 
 memory_dot : SeesWhatItFetches → (c : CardState) (memory : Four (List ℕ)) →
-    (is_display (after_start c.crtc).registers (after_start c.crtc).beam ≡ true → DotSeesSameBytes c.host (after_start c.crtc) c.attr memory) →
+    (is_display (crtc_with_start_taken c.crtc).registers (crtc_with_start_taken c.crtc).beam ≡ true → DotSeesSameBytes c.host (crtc_with_start_taken c.crtc) c.attr memory) →
     dot (with_memory c memory) ≡ with_memory (dot c) memory
 unfolding dot
 memory_dot sees c memory alike =
     ap (λ (x : List Dot). record (with_memory c memory) { crtc = after_dot c.crtc (character_width c); drawn = dots_of_frame_so_far c ++ x })
-    (alike_dot sees c.host (after_start c.crtc) c.attr c.dac memory alike)
+    (alike_dot sees c.host (crtc_with_start_taken c.crtc) c.attr c.dac memory alike)
 
-first_alike : (n : ℕ) (c : CardState) (memory : Four (List ℕ)) → SeeAlike (suc n) c memory →
-    is_display (after_start c.crtc).registers (after_start c.crtc).beam ≡ true → DotSeesSameBytes c.host (after_start c.crtc) c.attr memory
+first_alike : (n : ℕ) (c : CardState) (memory : Four (List ℕ)) → DotsSeeSameMemory (suc n) c memory →
+    is_display (crtc_with_start_taken c.crtc).registers (crtc_with_start_taken c.crtc).beam ≡ true → DotSeesSameBytes c.host (crtc_with_start_taken c.crtc) c.attr memory
 unfolding after_dots beam_dots
 first_alike n c memory alike = alike.each 0 (omega arith)
 
-rest_alike : (n : ℕ) (c : CardState) (memory : Four (List ℕ)) → SeeAlike (suc n) c memory → SeeAlike n (dot c) memory
+rest_alike : (n : ℕ) (c : CardState) (memory : Four (List ℕ)) → DotsSeeSameMemory (suc n) c memory → DotsSeeSameMemory n (dot c) memory
 unfolding dot after_dot after_dots beam_dots
 rest_alike n c memory alike = record { each = λ i l. alike.each (suc i) (omega (arith, l)) }
 
 -- dots that see two memories alike are drawn alike
-pub memory_dots : SeesWhatItFetches → (n : ℕ) (c : CardState) (memory : Four (List ℕ)) → SeeAlike n c memory →
+pub memory_dots : SeesWhatItFetches → (n : ℕ) (c : CardState) (memory : Four (List ℕ)) → DotsSeeSameMemory n c memory →
     dots n (with_memory c memory) ≡ with_memory (dots n c) memory
 unfolding dots
 memory_dots sees zero c memory alike = refl
 memory_dots sees (suc n) c memory alike =
     ap (dots n) (memory_dot sees c memory (first_alike n c memory alike)) ∙ memory_dots sees n (dot c) memory (rest_alike n c memory alike)
 
-written_later : SeesWhatItFetches → (decoded : Bool) (n : ℕ) (c : CardState) (memory : Four (List ℕ)) → SeeAlike n c memory →
+written_later : SeesWhatItFetches → (decoded : Bool) (n : ℕ) (c : CardState) (memory : Four (List ℕ)) → DotsSeeSameMemory n c memory →
     card_after_write (dots n c) (if_decoded decoded (around (dots n c) (record c.host { memory = memory })))
     ≡ (let now = card_after_write c (if_decoded decoded (around c (record c.host { memory = memory }))) in let later : WriteResult = (dots n now.0, now.1) in later)
 written_later sees false n c memory alike = refl
@@ -151,7 +151,7 @@ written_later sees true n c memory alike =
     (ap (λ (h : HostState). record (dots n c) { host = record h { memory = memory } }) (sym (dots_host n c)) ∙ sym (memory_dots sees n c memory alike))
 
 -- n dots and then a write that they do not see are the write and then the dots
-pub put_does_not_wait : SeesWhatItFetches → (n : ℕ) (c : CardState) (address v : ℕ) → SeeAlike n c (memory_after_put c.host (window_offset c.host address) v) →
+pub put_does_not_wait : SeesWhatItFetches → (n : ℕ) (c : CardState) (address v : ℕ) → DotsSeeSameMemory n c (memory_after_put c.host (window_offset c.host address) v) →
     put_cycle (dots n c) address v ≡ (dots n (put_cycle c address v).0, (put_cycle c address v).1)
 put_does_not_wait sees n c address v alike =
     let d = dots n c in
@@ -178,10 +178,10 @@ never : (v : Bool) → v ≡ false → v ≡ true → ⊥
 never true a b = absurd (cc)
 never false a b = absurd (cc)
 
-seen_alike : (h : HostState) (c : CrtcState) (a : AttrState) (w v : ℕ) → (fetched_address h c a ≡ plane_offset h w → ⊥) →
+seen_alike : (h : HostState) (c : CrtcState) (a : AttrState) (w v : ℕ) → (address_fetched_at_beam h c a ≡ plane_offset h w → ⊥) →
     (is_graphics h ≡ false → is_reached h w 2 ≡ false) → DotSeesSameBytes h c a (memory_after_put h w v)
 seen_alike h c a w v away beside = record {
-  fetched = λ p l. byte_stays h w v (fetched_address h c a) p l (λ reached. away);
+  fetched = λ p l. byte_stays h w v (address_fetched_at_beam h c a) p l (λ reached. away);
   glyphs = λ text i. byte_stays h w v i 2 (omega arith) (λ reached same. never _ (beside text) reached);
 }
 
@@ -191,15 +191,15 @@ not_both false a b = absurd (cc)
 
 -- what is promised of places that are apart from those of a line
 abbrev pub IsApart : CardState → ℕ → Type 0
-IsApart c place = (h : HostState) (a : AttrState) (x k : ℕ) → x ≤ horizontal_display_end c.crtc.registers → fetched_address h (with_beam_at c.crtc x k) a ≡ place → ⊥
+IsApart c place = (h : HostState) (a : AttrState) (x k : ℕ) → x ≤ horizontal_display_end c.crtc.registers → address_fetched_at_beam h (with_beam_at c.crtc x k) a ≡ place → ⊥
 
 abbrev pub Elsewhere : Type 0
 Elsewhere = (r : List ℕ) (b : Beam) → ¬ IsFrameStart b → with_frame_start_taken r b ≡ b
 
 in_line_dot : Elsewhere → BeamGoes → LineWhole → (n : ℕ) (c : CardState) → ¬ IsFrameStart c.crtc.beam → IsWithinItsLine (character_width c) c.crtc.registers c.crtc.beam →
-    n ≤ dots_to_next_line c → (i : ℕ) → i < n → crtc_at_dot c i ≡ with_beam_at c.crtc ((dot_number_in_line (character_width c) c.crtc.beam + i) / character_width c)
+    n ≤ card_dots_to_line_end c → (i : ℕ) → i < n → crtc_at_dot c i ≡ with_beam_at c.crtc ((dot_number_in_line (character_width c) c.crtc.beam + i) / character_width c)
     ((dot_number_in_line (character_width c) c.crtc.beam + i) % character_width c)
-unfolding after_start after_dots
+unfolding crtc_with_start_taken after_dots
 in_line_dot elsewhere goes whole n c away inside few i l =
     let w = character_width c in
     let r = c.crtc.registers in
@@ -209,8 +209,8 @@ in_line_dot elsewhere goes whole n c away inside few i l =
 
 -- the dots of a line see a write alike that is apart from all of the line's
 pub line_sees_alike : Elsewhere → BeamGoes → LineWhole → (n : ℕ) (c : CardState) (w v : ℕ) → ¬ IsFrameStart c.crtc.beam →
-    IsWithinItsLine (character_width c) c.crtc.registers c.crtc.beam → n ≤ dots_to_next_line c → IsApart c (plane_offset c.host w) →
-    (is_graphics c.host ≡ false → is_reached c.host w 2 ≡ false) → SeeAlike n c (memory_after_put c.host w v)
+    IsWithinItsLine (character_width c) c.crtc.registers c.crtc.beam → n ≤ card_dots_to_line_end c → IsApart c (plane_offset c.host w) →
+    (is_graphics c.host ≡ false → is_reached c.host w 2 ≡ false) → DotsSeeSameMemory n c (memory_after_put c.host w v)
 line_sees_alike elsewhere goes whole n c w v away inside few apart beside = record {
   each = λ i l shown.
       let cw = character_width c in
@@ -236,7 +236,7 @@ latched_dot h c a d latches = refl
 latches_dot : (c : CardState) (latches : Four ℕ) → dot (with_latches c latches) ≡ with_latches (dot c) latches
 unfolding dot
 latches_dot c latches = ap (λ (x : List Dot). record (with_latches c latches) { crtc = after_dot c.crtc (character_width c); drawn = dots_of_frame_so_far c ++ x })
-    (latched_dot c.host (after_start c.crtc) c.attr c.dac latches)
+    (latched_dot c.host (crtc_with_start_taken c.crtc) c.attr c.dac latches)
 
 latches_dots : (n : ℕ) (c : CardState) (latches : Four ℕ) → dots n (with_latches c latches) ≡ with_latches (dots n c) latches
 unfolding dots

@@ -12,8 +12,8 @@ use Rattle.vga_crtc.specs.declared.beam.Beam.{Beam}
 use Rattle.vga_crtc.specs.Crtc.{CrtcState}
 use Rattle.vga_crtc.specs.Status.{is_display}
 use Rattle.vga_crtc.specs.Fields.{horizontal_display_end, vertical_display_end}
-use Rattle.vga_crtc.specs.Beam.{is_first_dot, characters, with_frame_start_taken, after_start, after_dots, dots as beam_dots}
-use Rattle.vga_crtc.specs.Raster.{dots_in_line, beam_at_dot_of_line, dots_per_line as line_length, dot_number_in_line, IsWithinItsLine, LineEnds}
+use Rattle.vga_crtc.specs.Beam.{is_first_dot, characters, with_frame_start_taken, crtc_with_start_taken, after_dots, dots as beam_dots}
+use Rattle.vga_crtc.specs.Raster.{dots_to_line_end, beam_at_dot_of_line, dots_per_line as line_length, dot_number_in_line, IsWithinItsLine, LineEnds}
 use Rattle.vga_dots.specs.Colour.{dot_colour}
 use Rattle.vga_dots.specs.Display.{DisplayState}
 use Rattle.vga_dots.specs.Line.{with_beam_at_dot_of_line, shown_characters, IsPartDrawn}
@@ -22,8 +22,8 @@ use Rattle.vga_card.specs.Canvas.{CanvasState, dots_of_bytes, width_with_dots}
 use Rattle.vga_card.specs.Card.{CardState}
 use Rattle.vga_card.specs.Dots.{character_width, dots_of_frame_so_far, display_dot, dots}
 use Rattle.vga_card.specs.Frames.{concatenated_dots, display_dot_at}
-use Rattle.vga_card.specs.Line.{started_display, displayed_part_dots, dots_to_next_line, IsPartAppended}
-use Rattle.vga_card.specs.Valid.{count_unless_frame_start, IsDrawnTo}
+use Rattle.vga_card.specs.Line.{display_with_start_taken, displayed_part_dots, card_dots_to_line_end, IsPartAppended}
+use Rattle.vga_card.specs.Valid.{count_unless_frame_start, IsLineDrawnToBeam}
 use Rattle.vga_card.proofs.FrameLemmas.{FramesEnd, dots_are_places, dots_keep}
 use Rattle.vga_card.proofs.DotLemmas.{dots_split}
 use Rattle.vga_card.proofs.PlaceLemmas.{StartStays, decided}
@@ -36,7 +36,7 @@ BeamGoes = (cw : ℕ) (r : List ℕ) (b : Beam) (n : ℕ) → IsWithinItsLine cw
     with_frame_start_taken r (beam_dots cw r n b) ≡ beam_at_dot_of_line cw (with_frame_start_taken r b) (dot_number_in_line cw b + n)
 
 abbrev pub LineWhole : Type 0
-LineWhole = (cw : ℕ) (r : List ℕ) (b : Beam) → IsWithinItsLine cw r b → dot_number_in_line cw b + dots_in_line cw r b ≡ line_length cw r
+LineWhole = (cw : ℕ) (r : List ℕ) (b : Beam) → IsWithinItsLine cw r b → dot_number_in_line cw b + dots_to_line_end cw r b ≡ line_length cw r
 
 abbrev pub LinesEnd : Type 0
 LinesEnd = (cw : ℕ) (r : List ℕ) (b : Beam) → 0 < cw → LineEnds cw r b
@@ -147,8 +147,8 @@ width_if b false width count h = omega arith
 same_line : (x y : ℕ) → (x == y) ≡ true → x ≡ y
 same_line x y e = grind (arith, nat_tests)
 
-pub drawn_part : (b : Beam) (old new : CanvasState) (n count : ℕ) → IsDrawnTo b 0 old.line old.width → count ≤ n → 9 * b.character + b.dot + count ≤ 2304 →
-    new.line ≡ b.line → new.width ≡ width_with_dots old b.line count → IsDrawnTo b n new.line new.width
+pub drawn_part : (b : Beam) (old new : CanvasState) (n count : ℕ) → IsLineDrawnToBeam b 0 old.line old.width → count ≤ n → 9 * b.character + b.dot + count ≤ 2304 →
+    new.line ≡ b.line → new.width ≡ width_with_dots old b.line count → IsLineDrawnToBeam b n new.line new.width
 drawn_part b old new n count is few fits line width =
     let most = width_if b (b.line == old.line) old.width count (λ e. omega (arith, is.few (sym (same_line b.line old.line e)))) in
     record {
@@ -156,7 +156,7 @@ drawn_part b old new n count is few fits line width =
       few = λ e. omega (arith, width, most, few, fits);
     }
 
-pub drawn_none : (b : Beam) (line width n : ℕ) → IsDrawnTo b 0 line width → IsDrawnTo b n line width
+pub drawn_none : (b : Beam) (line width n : ℕ) → IsLineDrawnToBeam b 0 line width → IsLineDrawnToBeam b n line width
 drawn_none b line width n is = record { below = is.below; few = λ e. omega (arith, is.few e) }
 
 -- where 9 dots are counted for a character, those of a line that are passed are at least as many
@@ -170,8 +170,8 @@ passed cw x k n y t few le e =
 module _ (stays : StartStays) (begin : DotsBegin) (goes : BeamGoes) (whole : LineWhole) (ends : LinesEnd) (leads : LineMoves) where
   -- the beam has passed the dots that are drawn
   pub part_moves : (cw n : ℕ) (old new : CrtcState) (line width : ℕ) → (cw ≡ 8) ⊎ (cw ≡ 9) → IsWithinItsLine cw old.registers old.beam →
-      n ≤ dots_in_line cw old.registers old.beam → new ≡ after_dots old cw n
-      → IsDrawnTo old.beam n line width → IsDrawnTo new.beam 0 (count_unless_frame_start new.beam line) (count_unless_frame_start new.beam width)
+      n ≤ dots_to_line_end cw old.registers old.beam → new ≡ after_dots old cw n
+      → IsLineDrawnToBeam old.beam n line width → IsLineDrawnToBeam new.beam 0 (count_unless_frame_start new.beam line) (count_unless_frame_start new.beam width)
   unfolding after_dots
   part_moves cw n old new line width which inside few by_dots is =
       let r = old.registers in
@@ -189,7 +189,7 @@ module _ (stays : StartStays) (begin : DotsBegin) (goes : BeamGoes) (whole : Lin
       let after = stays r m in
       let line_at : m.line ≡ b.line = sym after.line ∙ ap (λ (x : Beam). x.line) there ∙ before.line in
       let character_at : m.character ≡ q / cw = sym after.character ∙ ap (λ (x : Beam). x.character) there in
-      let dot_at : m.dot ≡ q % cw = sym after.dot ∙ ap (λ (x : Beam). x.dot) there in
+      let dot_colour_at : m.dot ≡ q % cw = sym after.dot ∙ ap (λ (x : Beam). x.dot) there in
       let on : b.character ≤ q / cw = ⊎_elim
       (λ (w : q / cw < b.character). absurd (omega (
         arith,
@@ -202,18 +202,18 @@ module _ (stays : StartStays) (begin : DotsBegin) (goes : BeamGoes) (whole : Lin
       let far = passed cw b.character b.dot n (q / cw) (q % cw) narrow on (sym (div-add-mod' q cw)) in
       decided (is_first_dot m) m line width (λ away. record {
         below = omega (arith, is.below, line_at);
-        few = λ e. omega (arith, is.few (e ∙ line_at), far, character_at, dot_at);
+        few = λ e. omega (arith, is.few (e ∙ line_at), far, character_at, dot_colour_at);
       }))
       (λ (g : line_length cw r ≤ q).
-      let count : n ≡ dots_in_line cw r b = omega (arith, all, few, g) in
+      let count : n ≡ dots_to_line_end cw r b = omega (arith, all, few, g) in
       line_moves stays leads cw old new line width (record { by_dots = by_dots ∙ ap (after_dots old cw) count; ends = ends cw r b some }) is.below)
       (cases_lt q (line_length cw r))
 
 module _ (stays : StartStays) (begin : DotsBegin) (goes : BeamGoes) (whole : LineWhole) (frames : FramesEnd) where
   -- the display dots of a part, one place after another
-  part_places : (n : ℕ) (c : CardState) → IsWithinItsLine (character_width c) c.crtc.registers c.crtc.beam → n ≤ dots_to_next_line c →
-      concatenated_dots (display_dot_at c) n ≡ displayed_part_dots n (started_display c)
-  unfolding displayed_part_dots after_start after_dots
+  part_places : (n : ℕ) (c : CardState) → IsWithinItsLine (character_width c) c.crtc.registers c.crtc.beam → n ≤ card_dots_to_line_end c →
+      concatenated_dots (display_dot_at c) n ≡ displayed_part_dots n (display_with_start_taken c)
+  unfolding displayed_part_dots crtc_with_start_taken after_dots
   part_places n c inside few =
       let w = character_width c in
       let r = c.crtc.registers in
@@ -221,33 +221,33 @@ module _ (stays : StartStays) (begin : DotsBegin) (goes : BeamGoes) (whole : Lin
       let place = stays r b in
       let same : dot_number_in_line w (with_frame_start_taken r b) ≡ dot_number_in_line w b = ap (λ x. x * w + (with_frame_start_taken r b).dot) place.character ∙ ap (λ k. b.character * w + k) place.dot in
       let all = whole w r b inside in
-      collect_same (display_dot_at c) (λ i. display_dot c.host (with_beam_at_dot_of_line (after_start c.crtc) w (dot_number_in_line w (with_frame_start_taken r b) + i)) c.attr c.dac) n
+      collect_same (display_dot_at c) (λ i. display_dot c.host (with_beam_at_dot_of_line (crtc_with_start_taken c.crtc) w (dot_number_in_line w (with_frame_start_taken r b) + i)) c.attr c.dac) n
       (λ i l. ap (λ (x : Beam). display_dot c.host (record c.crtc { beam = x }) c.attr c.dac) (goes w r b i inside (omega (arith, all, few)))
-      ∙ ap (λ q. display_dot c.host (with_beam_at_dot_of_line (after_start c.crtc) w (q + i)) c.attr c.dac) (sym same))
+      ∙ ap (λ q. display_dot c.host (with_beam_at_dot_of_line (crtc_with_start_taken c.crtc) w (q + i)) c.attr c.dac) (sym same))
 
-  same_beam : (cw n : ℕ) (c new : CrtcState) → 0 < n → new ≡ after_dots (after_start c) cw n → new ≡ after_dots c cw n
-  unfolding after_start after_dots
+  same_beam : (cw n : ℕ) (c new : CrtcState) → 0 < n → new ≡ after_dots (crtc_with_start_taken c) cw n → new ≡ after_dots c cw n
+  unfolding crtc_with_start_taken after_dots
   same_beam cw n c new some e = e ∙ ap (λ (b : Beam). record c { beam = b }) (sym (begin cw c.registers n c.beam some))
 
   -- a part of a line, from the parts that it changes
   pub part_is : (n : ℕ) (c : CardState) (crtc : CrtcState) (drawn : List Dot) → 0 < n → IsWithinItsLine (character_width c) c.crtc.registers c.crtc.beam →
-      n ≤ dots_to_next_line c → crtc ≡ after_dots (after_start c.crtc) (character_width c) n
-      → drawn ≡ dots_of_frame_so_far c ++ displayed_part_dots n (started_display c) → record c { crtc = crtc; drawn = drawn } ≡ dots n c
+      n ≤ card_dots_to_line_end c → crtc ≡ after_dots (crtc_with_start_taken c.crtc) (character_width c) n
+      → drawn ≡ dots_of_frame_so_far c ++ displayed_part_dots n (display_with_start_taken c) → record c { crtc = crtc; drawn = drawn } ≡ dots n c
   part_is n c crtc drawn some inside few moves draws =
       ap (λ (x : CrtcState). record c { crtc = x; drawn = drawn }) (same_beam (character_width c) n c.crtc crtc some moves)
       ∙ ap (λ (x : List Dot). record c { crtc = after_dots c.crtc (character_width c) n; drawn = x })
       (draws ∙ ap (λ x. dots_of_frame_so_far c ++ x) (sym (part_places n c inside few)) ∙ sym (dots_are_places frames c n some (omega (arith, few, (few_dots c).1))))
       ∙ sym (dots_keep n c)
 
-pub inside_started : StartStays → (cw : ℕ) (c : CrtcState) → IsWithinItsLine cw c.registers c.beam → IsWithinItsLine cw (after_start c).registers (after_start c).beam
-unfolding after_start
+pub inside_started : StartStays → (cw : ℕ) (c : CrtcState) → IsWithinItsLine cw c.registers c.beam → IsWithinItsLine cw (crtc_with_start_taken c).registers (crtc_with_start_taken c).beam
+unfolding crtc_with_start_taken
 inside_started stays cw c inside =
     let place = stays c.registers c.beam in
     record { character = omega (arith, inside.character, place.character); dot = omega (arith, inside.dot, place.dot) }
 
-pub few_started : StartStays → (cw n : ℕ) (c : CrtcState) → n ≤ dots_in_line cw c.registers c.beam →
-    n ≤ dots_in_line cw (after_start c).registers (after_start c).beam
-unfolding after_start dots_in_line
+pub few_started : StartStays → (cw n : ℕ) (c : CrtcState) → n ≤ dots_to_line_end cw c.registers c.beam →
+    n ≤ dots_to_line_end cw (crtc_with_start_taken c).registers (crtc_with_start_taken c).beam
+unfolding crtc_with_start_taken dots_to_line_end
 few_started stays cw n c few =
     let place = stays c.registers c.beam in
     let e = ap (λ x. (characters c.registers - (x + 1)) * cw) place.character in
@@ -299,7 +299,7 @@ count_fits h c n count e inside shown few most =
     let room = mul-le (c.beam.character + 1) w all w before (omega arith) in
     part_fits w c.beam.character c.beam.dot count all (widths h) few most (omega (arith, e, room, inside.dot))
 
-pub room_for_part : (b : Beam) (line width count : ℕ) → IsDrawnTo b 0 line width → 9 * b.character + b.dot + count ≤ 2304 → b.line ≡ line →
+pub room_for_part : (b : Beam) (line width count : ℕ) → IsLineDrawnToBeam b 0 line width → 9 * b.character + b.dot + count ≤ 2304 → b.line ≡ line →
     width + count ≤ most_dots_of_a_line
 room_for_part b line width count is fits same = omega (arith, is.few (sym same), fits)
 

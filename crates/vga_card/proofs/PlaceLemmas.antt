@@ -6,11 +6,11 @@ use Rattle.vga_bits.specs.declared.refusal.Refusal.{Refusal}
 use Rattle.vga_bits.specs.declared.refusal.Refusal.TheVariants.{NotInProfile}
 use Rattle.vga_crtc.specs.declared.beam.Beam.{Beam}
 use Rattle.vga_crtc.specs.Crtc.{CrtcState}
-use Rattle.vga_crtc.specs.Beam.{is_first_dot, with_frame_start_taken, dot, after_start, after_dot}
+use Rattle.vga_crtc.specs.Beam.{is_first_dot, with_frame_start_taken, dot, crtc_with_start_taken, after_dot}
 use Rattle.vga_crtc.specs.Ports.{after_out}
 use Rattle.vga_crtc.proofs.Ports.{out_beam}
 use Rattle.vga_crtc.specs.Raster.{AreAtSamePlace, IsFrameStart, IsNextDot, IsNextCharacter, IsNextLine, IsNextPlace}
-use Rattle.vga_card.specs.Valid.{count_unless_frame_start, IsDrawnTo}
+use Rattle.vga_card.specs.Valid.{count_unless_frame_start, IsLineDrawnToBeam}
 
 -- what the CRT controller promises: taking the start of a frame does not move the beam, and where one dot leads
 abbrev pub StartStays : Type 0
@@ -19,9 +19,9 @@ StartStays = (r : List ℕ) (b : Beam) → AreAtSamePlace b (with_frame_start_ta
 abbrev pub DotMoves : Type 0
 DotMoves = (cw : ℕ) (r : List ℕ) (b : Beam) → IsNextPlace cw r b (dot cw r b)
 
-pub drawn_started : StartStays → (crtc : CrtcState) (more line width : ℕ) → IsDrawnTo crtc.beam more line width →
-    IsDrawnTo (after_start crtc).beam more line width
-unfolding after_start
+pub drawn_started : StartStays → (crtc : CrtcState) (more line width : ℕ) → IsLineDrawnToBeam crtc.beam more line width →
+    IsLineDrawnToBeam (crtc_with_start_taken crtc).beam more line width
+unfolding crtc_with_start_taken
 drawn_started stays crtc more line width is =
     let place = stays crtc.registers crtc.beam in
     record {
@@ -29,9 +29,9 @@ drawn_started stays crtc more line width is =
       few = λ e. omega (arith, is.few (e ∙ place.line), place.character, place.dot);
     }
 
-drawn_unstarted : StartStays → (crtc : CrtcState) (more line width : ℕ) → IsDrawnTo (after_start crtc).beam more line width →
-    IsDrawnTo crtc.beam more line width
-unfolding after_start
+drawn_unstarted : StartStays → (crtc : CrtcState) (more line width : ℕ) → IsLineDrawnToBeam (crtc_with_start_taken crtc).beam more line width →
+    IsLineDrawnToBeam crtc.beam more line width
+unfolding crtc_with_start_taken
 drawn_unstarted stays crtc more line width is =
     let place = stays crtc.registers crtc.beam in
     record {
@@ -43,7 +43,7 @@ drawn_unstarted stays crtc more line width is =
 is_first : (b : Beam) → IsFrameStart b → is_first_dot b ≡ true
 is_first b start = let line = start.line in let character = start.character in let dot = start.dot in grind (arith, nat_tests)
 
-pub decided : (v : Bool) (b : Beam) (line width : ℕ) → (v ≡ false → IsDrawnTo b 0 line width) → IsDrawnTo b 0 (if v then 0 else line) (if v then 0 else width)
+pub decided : (v : Bool) (b : Beam) (line width : ℕ) → (v ≡ false → IsLineDrawnToBeam b 0 line width) → IsLineDrawnToBeam b 0 (if v then 0 else line) (if v then 0 else width)
 decided true b line width h = record { below = omega arith; few = λ e. omega arith }
 decided false b line width h = h refl
 
@@ -51,8 +51,8 @@ pub elsewhere : (b : Beam) → is_first_dot b ≡ false → ¬ IsFrameStart b
 elsewhere b away start = let here = is_first b start in absurd (cc)
 
 -- one dot more is drawn, and the beam moves past it
-drawn_moves : (cw : ℕ) (r : List ℕ) (b m : Beam) (line width : ℕ) → b.dot < 9 → IsNextPlace cw r b m → IsDrawnTo b 1 line width → is_first_dot m ≡ false →
-    IsDrawnTo m 0 line width
+drawn_moves : (cw : ℕ) (r : List ℕ) (b m : Beam) (line width : ℕ) → b.dot < 9 → IsNextPlace cw r b m → IsLineDrawnToBeam b 1 line width → is_first_dot m ≡ false →
+    IsLineDrawnToBeam m 0 line width
 drawn_moves cw r b m line width within next is away =
     ⊎_elim
     (λ (a : IsNextDot cw b m). record { below = omega (arith, a.line, is.below); few = λ e. omega (arith, is.few (e ∙ a.line), a.character, a.dot) })
@@ -63,8 +63,8 @@ drawn_moves cw r b m line width within next is away =
     (λ (start : IsFrameStart m). absurd (elsewhere m away start))))
     next
 
-pub card_moves : StartStays → DotMoves → (crtc : CrtcState) (cw line width : ℕ) → crtc.beam.dot < 9 → IsDrawnTo (after_start crtc).beam 1 line width →
-    IsDrawnTo (after_dot crtc cw).beam 0 (count_unless_frame_start (after_dot crtc cw).beam line) (count_unless_frame_start (after_dot crtc cw).beam width)
+pub card_moves : StartStays → DotMoves → (crtc : CrtcState) (cw line width : ℕ) → crtc.beam.dot < 9 → IsLineDrawnToBeam (crtc_with_start_taken crtc).beam 1 line width →
+    IsLineDrawnToBeam (after_dot crtc cw).beam 0 (count_unless_frame_start (after_dot crtc cw).beam line) (count_unless_frame_start (after_dot crtc cw).beam width)
 unfolding after_dot
 card_moves stays moves crtc cw line width within is =
     let r = crtc.registers in

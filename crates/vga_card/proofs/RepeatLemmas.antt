@@ -12,7 +12,7 @@ use Rattle.vga_host.specs.Sequencer.{character_width as host_width}
 use Rattle.vga_host.specs.Graphics.{is_graphics}
 use Rattle.vga_crtc.specs.declared.beam.Beam.{Beam}
 use Rattle.vga_crtc.specs.Crtc.{CrtcState}
-use Rattle.vga_crtc.specs.Beam.{characters, is_first_dot, after_start, after_dots}
+use Rattle.vga_crtc.specs.Beam.{characters, is_first_dot, crtc_with_start_taken, after_dots}
 use Rattle.vga_crtc.specs.Raster.{IsLineTaken}
 use Rattle.vga_crtc.specs.Fields.{horizontal_display_end, vertical_display_end}
 use Rattle.vga_attr.specs.Attr.{AttrState}
@@ -135,23 +135,23 @@ fresh_ends d drawn b true away ends = absurd (away refl)
 fresh_ends d drawn b false away ends = ends
 
 -- past a frame's first line the dots are still there
-pub still_ends : StartStays → (d : DisplayState) (c : CrtcState) (drawn : List Dot) (b : Beam) → b.line < (after_start c).beam.line → EndsWithLine d drawn b →
+pub still_ends : StartStays → (d : DisplayState) (c : CrtcState) (drawn : List Dot) (b : Beam) → b.line < (crtc_with_start_taken c).beam.line → EndsWithLine d drawn b →
     EndsWithLine d (dots_unless_frame_start c.beam drawn) b
-unfolding after_start
+unfolding crtc_with_start_taken
 still_ends stays d c drawn b later =
     let place = stays c.registers c.beam in
     fresh_ends d drawn b (is_first_dot c.beam) (λ first. omega (arith, later, place.line, first_line c.beam first))
 
-beam_back : (cw : ℕ) (old new : CrtcState) → IsLineTaken cw old new → record (after_start new) { beam = old.beam } ≡ old
-unfolding after_start after_dots
-beam_back cw old new line = ap (λ (x : CrtcState). record (after_start x) { beam = old.beam }) line.by_dots
+beam_back : (cw : ℕ) (old new : CrtcState) → IsLineTaken cw old new → record (crtc_with_start_taken new) { beam = old.beam } ≡ old
+unfolding crtc_with_start_taken after_dots
+beam_back cw old new line = ap (λ (x : CrtcState). record (crtc_with_start_taken x) { beam = old.beam }) line.by_dots
 
 -- after a whole line its dots are the last
 pub line_drawn : (cw : ℕ) (h : HostState) (a : AttrState) (dac : DacState) (old new : CrtcState) (prefix drawn : List Dot) (b : Beam) → IsLineTaken cw old new →
     b ≡ old.beam → drawn ≡ prefix ++ displayed_line_dots (record { host = h; crtc = old; attr = a; dac = dac })
-    → EndsWithLine (record { host = h; crtc = after_start new; attr = a; dac = dac }) drawn b
+    → EndsWithLine (record { host = h; crtc = crtc_with_start_taken new; attr = a; dac = dac }) drawn b
 line_drawn cw h a dac old new prefix drawn b line e draws = record {
   prefix = prefix;
   whole = draws ∙ ap (λ (x : CrtcState). prefix ++ displayed_line_dots (record { host = h; crtc = x; attr = a; dac = dac }))
-      (sym (ap (λ (y : Beam). record (after_start new) { beam = y }) e ∙ beam_back cw old new line));
+      (sym (ap (λ (y : Beam). record (crtc_with_start_taken new) { beam = y }) e ∙ beam_back cw old new line));
 }

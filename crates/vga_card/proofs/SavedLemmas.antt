@@ -15,7 +15,7 @@ use Rattle.vga_crtc.specs.declared.beam.Beam.{Beam}
 use Rattle.vga_crtc.specs.Beam.{is_first_dot}
 use Rattle.vga_card.specs.Picture.{Dot, most_dots_of_a_line, lines_by_widths, bytes_of_dots}
 use Rattle.vga_card.specs.Canvas.{dots_of_bytes, stored_dots, IsCanvas}
-use Rattle.vga_card.specs.Valid.{count_unless_frame_start, IsDrawnTo}
+use Rattle.vga_card.specs.Valid.{count_unless_frame_start, IsLineDrawnToBeam}
 use Rattle.vga_card.specs.Lines.{dot_counts_of_lines, line_widths}
 use Rattle.vga_card.specs.Saved.{saved_dots, saved_widths, past_widths, saved_dots_from, most_dots_on_line, AreWidthsInBounds, AreSavedDots}
 use Rattle.vga_card.proofs.CanvasLemmas.{no_lines, length-dots_from}
@@ -165,10 +165,10 @@ all_counted b bytes n count all are =
 
 -- ---- a canvas that is drawn up to the beam
 
-away : (b : Beam) (line width : ℕ) → is_first_dot b ≡ false → IsDrawnTo b 0 (count_unless_frame_start b line) (count_unless_frame_start b width) → IsDrawnTo b 0 line width
-away b line width there is = subst (λ (v : Bool). IsDrawnTo b 0 (if v then 0 else line) (if v then 0 else width)) there is
+away : (b : Beam) (line width : ℕ) → is_first_dot b ≡ false → IsLineDrawnToBeam b 0 (count_unless_frame_start b line) (count_unless_frame_start b width) → IsLineDrawnToBeam b 0 line width
+away b line width there is = subst (λ (v : Bool). IsLineDrawnToBeam b 0 (if v then 0 else line) (if v then 0 else width)) there is
 
-few_drawn : (capacity : ℕ) (buffer ws : List ℕ) (b : Beam) (line : ℕ) → IsCanvas capacity buffer ws line → IsDrawnTo b 0 line (slice_index ws line)
+few_drawn : (capacity : ℕ) (buffer ws : List ℕ) (b : Beam) (line : ℕ) → IsCanvas capacity buffer ws line → IsLineDrawnToBeam b 0 line (slice_index ws line)
     → AreWidthsInBounds b ws
 few_drawn capacity buffer ws b line is drawn = record {
   most = λ v. elim (cases_lt v b.line) [
@@ -187,7 +187,7 @@ few_drawn capacity buffer ws b line is drawn = record {
 
 -- the bytes of a canvas that is drawn up to the beam are those that dots can have
 pub canvas_saved : (capacity : ℕ) (buffer ws : List ℕ) (b : Beam) (line : ℕ) → IsCanvas capacity buffer ws line
-    → IsDrawnTo b 0 (count_unless_frame_start b line) (count_unless_frame_start b (slice_index ws line)) → is_first_dot b ≡ false → AreSavedDots b (saved_dots (stored_dots ws buffer))
+    → IsLineDrawnToBeam b 0 (count_unless_frame_start b line) (count_unless_frame_start b (slice_index ws line)) → is_first_dot b ≡ false → AreSavedDots b (saved_dots (stored_dots ws buffer))
 canvas_saved capacity buffer ws b line is drawn there =
     subst (λ (l : List ℕ). AreSavedDots b l) (canvas_bytes ws buffer is.lines is.counted) (record {
       few = rw (widths_back ws buffer is.lines) (few_drawn capacity buffer ws b line is (away b line (slice_index ws line) there drawn));
@@ -255,7 +255,7 @@ canvas_restored capacity bytes ws b line room lines are counted last =
     }
 
 pub drawn_restored : (ws : List ℕ) (b : Beam) (line : ℕ) → AreWidthsInBounds b ws → line ≡ min b.line 1023
-    → IsDrawnTo b 0 (count_unless_frame_start b line) (count_unless_frame_start b (slice_index ws line))
+    → IsLineDrawnToBeam b 0 (count_unless_frame_start b line) (count_unless_frame_start b (slice_index ws line))
 drawn_restored ws b line are last = decided (is_first_dot b) b line (slice_index ws line) (λ there. record {
   below = omega (arith, last);
   few = λ here. omega (arith, are.most line, most_here b line here);

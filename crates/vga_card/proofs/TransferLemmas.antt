@@ -13,31 +13,31 @@ use Rattle.vga_card.specs.Adapter.{AdapterState, adapter_of}
 use Rattle.vga_card.specs.Cycles.{card_after_read, if_decoded, get_cycle}
 use Rattle.vga_card.specs.Bus.{BusMeaning, AtAddress, byte_or_ff, even_or_odd_byte, after_puts, after_move, card_meaning}
 use Rattle.vga_card.proofs.CycleLemmas.{with_host}
-use Rattle.vga_card.specs.Transfers.{after_gets, after_puts_down, after_gets_down, after_moves_down, byte_at_or_ff}
+use Rattle.vga_card.specs.Transfers.{after_gets, after_puts_last_first, after_gets_last_first, after_moves_last_first, byte_at_or_ff}
 
 -- ---- steps of loops
 
 pub next_put_down : {S : Type 0} (m : BusMeaning S) (first : ℕ) (f : ℕ → ℕ) (i n : ℕ) (s t r : S) → i < n →
     t ≡ (m.write s (AtAddress (first + (n - 1 - i))) (f (n - 1 - i))).0 →
-    after_puts_down m first f (n - i) s ≡ r → after_puts_down m first f (n - (i + 1)) t ≡ r
+    after_puts_last_first m first f (n - i) s ≡ r → after_puts_last_first m first f (n - (i + 1)) t ≡ r
 next_put_down m first f i n s t r less now before =
     let k : n - i ≡ suc (n - 1 - i) = omega arith in
     let z : n - (i + 1) ≡ n - 1 - i = omega arith in
-    ap (λ j. after_puts_down m first f j t) z ∙ ap (after_puts_down m first f (n - 1 - i)) now ∙ sym (ap (λ j. after_puts_down m first f j s) k) ∙ before
+    ap (λ j. after_puts_last_first m first f j t) z ∙ ap (after_puts_last_first m first f (n - 1 - i)) now ∙ sym (ap (λ j. after_puts_last_first m first f j s) k) ∙ before
 
 pub next_get_down : {S : Type 0} (m : BusMeaning S) (first i n : ℕ) (s t r : S) → i < n → t ≡ (m.read s (AtAddress (first + (n - 1 - i)))).0 →
-    after_gets_down m first (n - i) s ≡ r → after_gets_down m first (n - (i + 1)) t ≡ r
+    after_gets_last_first m first (n - i) s ≡ r → after_gets_last_first m first (n - (i + 1)) t ≡ r
 next_get_down m first i n s t r less now before =
     let k : n - i ≡ suc (n - 1 - i) = omega arith in
     let z : n - (i + 1) ≡ n - 1 - i = omega arith in
-    ap (λ j. after_gets_down m first j t) z ∙ ap (after_gets_down m first (n - 1 - i)) now ∙ sym (ap (λ j. after_gets_down m first j s) k) ∙ before
+    ap (λ j. after_gets_last_first m first j t) z ∙ ap (after_gets_last_first m first (n - 1 - i)) now ∙ sym (ap (λ j. after_gets_last_first m first j s) k) ∙ before
 
 pub next_move_down : {S : Type 0} (m : BusMeaning S) (from to i n : ℕ) (s t r : S) → i < n → t ≡ after_move m (from + (n - 1 - i)) (to + (n - 1 - i)) s →
-    after_moves_down m from to (n - i) s ≡ r → after_moves_down m from to (n - (i + 1)) t ≡ r
+    after_moves_last_first m from to (n - i) s ≡ r → after_moves_last_first m from to (n - (i + 1)) t ≡ r
 next_move_down m from to i n s t r less now before =
     let k : n - i ≡ suc (n - 1 - i) = omega arith in
     let z : n - (i + 1) ≡ n - 1 - i = omega arith in
-    ap (λ j. after_moves_down m from to j t) z ∙ ap (after_moves_down m from to (n - 1 - i)) now ∙ sym (ap (λ j. after_moves_down m from to j s) k) ∙ before
+    ap (λ j. after_moves_last_first m from to j t) z ∙ ap (after_moves_last_first m from to (n - 1 - i)) now ∙ sym (ap (λ j. after_moves_last_first m from to j s) k) ∙ before
 
 -- a byte in turn with itself is that byte
 same_turn : (v : ℕ) (even : Bool) → (if even then v else v) ≡ v

@@ -11,7 +11,7 @@ use Rattle.vga_host.specs.Memory.Write.{after_put}
 use Rattle.vga_card.specs.Adapter.{AdapterState, adapter_of}
 use Rattle.vga_card.specs.Cycles.{card_after_read, card_after_write, if_decoded, get_cycle, put_cycle}
 use Rattle.vga_card.specs.Bus.{after_move, after_moves, after_puts, byte_or_ff, card_meaning}
-use Rattle.vga_card.specs.Transfers.{after_moves_down, after_puts_down}
+use Rattle.vga_card.specs.Transfers.{after_moves_last_first, after_puts_last_first}
 
 -- no window reaches C0000
 window_end : (map address : ℕ) → map < 4 → 0xC0000 ≤ address
@@ -62,12 +62,12 @@ puts_end first (suc k) (suc n) i f c few past =
 -- ---- writes, from the last address down
 
 pub puts_down_end : (first k n : ℕ) (f : ℕ → ℕ) (c : CardState) → k ≤ n → (k < n → 0xC0000 ≤ first + k)
-    → after_puts_down card_meaning first f k c ≡ after_puts_down card_meaning first f n c
-puts_down_end first k zero f c few past = let same : k ≡ 0 = omega (arith, few) in ap (λ (m : ℕ). after_puts_down card_meaning first f m c) same
+    → after_puts_last_first card_meaning first f k c ≡ after_puts_last_first card_meaning first f n c
+puts_down_end first k zero f c few past = let same : k ≡ 0 = omega (arith, few) in ap (λ (m : ℕ). after_puts_last_first card_meaning first f m c) same
 puts_down_end first k (suc n) f c few past = ⊎_elim
     (λ (less : k < suc n). puts_down_end first k n f c (omega (arith, less)) (λ smaller. past less)
-    ∙ sym (ap (after_puts_down card_meaning first f n) (put_past c (first + n) (f n) (omega (arith, past less, less)))))
-    (λ (all : suc n ≤ k). let same : k ≡ suc n = omega (arith, few, all) in ap (λ (m : ℕ). after_puts_down card_meaning first f m c) same)
+    ∙ sym (ap (after_puts_last_first card_meaning first f n) (put_past c (first + n) (f n) (omega (arith, past less, less)))))
+    (λ (all : suc n ≤ k). let same : k ≡ suc n = omega (arith, few, all) in ap (λ (m : ℕ). after_puts_last_first card_meaning first f m c) same)
     (cases_lt k (suc n))
 
 -- ---- moves, from the first address up
@@ -92,10 +92,10 @@ moves_end from to (suc k) (suc n) i c few past_from past_to =
 -- ---- moves, from the last address down
 
 pub moves_down_end : (from to k n : ℕ) (c : CardState) → k ≤ n → (k < n → 0xC0000 ≤ from + k) → (k < n → 0xC0000 ≤ to + k)
-    → after_moves_down card_meaning from to k c ≡ after_moves_down card_meaning from to n c
-moves_down_end from to k zero c few past_from past_to = let same : k ≡ 0 = omega (arith, few) in ap (λ (m : ℕ). after_moves_down card_meaning from to m c) same
+    → after_moves_last_first card_meaning from to k c ≡ after_moves_last_first card_meaning from to n c
+moves_down_end from to k zero c few past_from past_to = let same : k ≡ 0 = omega (arith, few) in ap (λ (m : ℕ). after_moves_last_first card_meaning from to m c) same
 moves_down_end from to k (suc n) c few past_from past_to = ⊎_elim
     (λ (less : k < suc n). moves_down_end from to k n c (omega (arith, less)) (λ smaller. past_from less) (λ smaller. past_to less)
-    ∙ sym (ap (after_moves_down card_meaning from to n) (move_past c (from + n) (to + n) (omega (arith, past_from less, less)) (omega (arith, past_to less, less)))))
-    (λ (all : suc n ≤ k). let same : k ≡ suc n = omega (arith, few, all) in ap (λ (m : ℕ). after_moves_down card_meaning from to m c) same)
+    ∙ sym (ap (after_moves_last_first card_meaning from to n) (move_past c (from + n) (to + n) (omega (arith, past_from less, less)) (omega (arith, past_to less, less)))))
+    (λ (all : suc n ≤ k). let same : k ≡ suc n = omega (arith, few, all) in ap (λ (m : ℕ). after_moves_last_first card_meaning from to m c) same)
     (cases_lt k (suc n))

@@ -7,7 +7,8 @@ use Rattle.vga_attr.specs.Attr.{AttrState}
 use Rattle.vga_dac.specs.Dac.{DacState}
 use Rattle.vga_card.specs.Card.{CardState}
 
--- `registers` and `index` are those of the CRT controller
+-- the parts of a card that cycles read and change: all but the beam and the dots drawn; `registers`
+-- and `index` are those of the CRT controller
 pub record AdapterState : Type 0 where
   pub host : HostState
   pub registers : List ℕ

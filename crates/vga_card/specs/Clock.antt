@@ -8,23 +8,23 @@ use Rattle.vga_bits.specs.Bits.{is_set, field}
 use Rattle.vga_host.specs.Sequencer.{is_clock_halved}
 use Rattle.vga_crtc.specs.Beam.{characters, lines}
 use Rattle.vga_crtc.specs.Status.{status}
-use Rattle.vga_card.specs.declared.clock.Clock.{Clock}
+use Rattle.vga_card.specs.declared.clock.RasterTiming.{RasterTiming}
 use Rattle.vga_card.specs.Card.{CardState}
 use Rattle.vga_card.specs.Dots.{character_width, dots}
-use Rattle.vga_card.specs.Frames.{frame_count}
+use Rattle.vga_card.specs.Frames.{card_dots_to_frame_end}
 
 -- a bit of input status 1 after n dots
 abbrev pub status_bit : ℕ → CardState → ℕ → Bool
 status_bit i c n = is_set (status (dots n c).crtc) i
 
--- n dots change a bit of input status 1, and no fewer do
-pub record BitChanges (i : ℕ) (c : CardState) (n : ℕ) : Type 0 where
+-- n dots change this bit of input status 1, and no smaller number of dots does
+pub record StatusBitChanges (i : ℕ) (c : CardState) (n : ℕ) : Type 0 where
   pub changed : status_bit i c n ≡ not (status_bit i c 0)
   pub first : (m : ℕ) → m < n → status_bit i c m ≡ status_bit i c 0
 
--- no number of dots changes it
-abbrev pub BitStays : ℕ → CardState → Type 0
-BitStays i c = (m : ℕ) → status_bit i c m ≡ status_bit i c 0
+-- no number of dots changes this bit of input status 1
+abbrev pub StatusBitNeverChanges : ℕ → CardState → Type 0
+StatusBitNeverChanges i c = (m : ℕ) → status_bit i c m ≡ status_bit i c 0
 
 -- dots a second, as the miscellaneous output register's bits 3 and 2 select the clock
 abbrev pub clock_rate : ℕ → ℕ
@@ -42,13 +42,13 @@ lines_a_frame c = lines c.crtc.registers
 abbrev pub is_rate_halved : CardState → Bool
 is_rate_halved c = is_clock_halved c.host
 
--- What a `Clock` contains: the dots to the end of the frame, as `EndsFirst` says; the dots to the
+-- What a `RasterTiming` contains: the dots to the end of the frame, as `FrameTakesFewestDots` says; the dots to the
 -- next change of bit 0 of input status 1, the display, and of bit 3, the vertical retrace; the dots
 -- of a line and of a frame, and a frame's lines; the rate, and whether it is halved.
-pub record IsClock (c : CardState) (told : Clock) : Type 0 where
-  pub frame : told.to_frame ≡ frame_count c
-  pub display : MatchOption told.to_display (BitStays 0 c) (BitChanges 0 c)
-  pub retrace : MatchOption told.to_retrace (BitStays 3 c) (BitChanges 3 c)
+pub record IsRasterTiming (c : CardState) (told : RasterTiming) : Type 0 where
+  pub frame : told.to_frame ≡ card_dots_to_frame_end c
+  pub display : MatchOption told.to_display (StatusBitNeverChanges 0 c) (StatusBitChanges 0 c)
+  pub retrace : MatchOption told.to_retrace (StatusBitNeverChanges 3 c) (StatusBitChanges 3 c)
   pub line : told.line_dots ≡ dots_a_line c
   pub whole : told.frame_dots ≡ told.line_dots * told.lines
   pub lines : told.lines ≡ lines_a_frame c

@@ -1,7 +1,7 @@
 -- The dots of a frame line by line, where lines may differ in width.
 use Rattle.std.specs.Prelude.{ℕ, zero, suc, ◌≡◌, ◌+◌, ◌==◌, List, [], ◌∷◌}
 use Rattle.std.specs.List.{count_by}
-use Rattle.vga_card.specs.declared.lines.Lines.{Lines}
+use Rattle.vga_card.specs.declared.lines.DrawnLines.{DrawnLines}
 use Rattle.vga_card.specs.Picture.{Dot, lines_of_dots, bytes_of_dots}
 
 -- how many numbers of a list are v
@@ -19,6 +19,6 @@ unfoldable pub line_widths : List Dot → List ℕ
 line_widths dots = dot_counts_of_lines (lines_of_dots dots) 0 1024
 
 -- what was drawn of these dots: how many each line has, and the colour of each in turn
-abbrev pub IsLinesOf : List Dot → Lines → Type 0
+abbrev pub IsLinesOf : List Dot → DrawnLines → Type 0
 IsLinesOf dots lines =
     (lines.widths.now ≡ line_widths dots) × (lines.bytes.now ≡ bytes_of_dots dots)

@@ -2,7 +2,7 @@
 use Rattle.std.specs.Prelude.{◌≡◌, ℕ, ◌<◌, true, List}
 use Rattle.vga_bits.specs.Four.{Four}
 use Rattle.vga_crtc.specs.Crtc.{CrtcState}
-use Rattle.vga_crtc.specs.Beam.{after_start, after_dots}
+use Rattle.vga_crtc.specs.Beam.{crtc_with_start_taken, after_dots}
 use Rattle.vga_crtc.specs.Status.{is_display}
 use Rattle.vga_dots.specs.Fetch.{DotSeesSameBytes}
 use Rattle.vga_dots.specs.Seen.{DotsSeeSameRegisters}
@@ -11,16 +11,16 @@ use Rattle.vga_card.specs.Dots.{character_width}
 
 -- the beam after n dots, with the start of its frame taken
 abbrev pub crtc_at_dot : CardState → ℕ → CrtcState
-crtc_at_dot c n = after_start (after_dots c.crtc (character_width c) n)
+crtc_at_dot c n = crtc_with_start_taken (after_dots c.crtc (character_width c) n)
 
 -- each display dot among the next n sees the same in another memory as in the card's
-pub record SeeAlike (n : ℕ) (c : CardState) (memory : Four (List ℕ)) : Type 0 where
+pub record DotsSeeSameMemory (n : ℕ) (c : CardState) (memory : Four (List ℕ)) : Type 0 where
   pub each : (i : ℕ) → i < n → is_display (crtc_at_dot c i).registers (crtc_at_dot c i).beam ≡ true
       →
       DotSeesSameBytes c.host (crtc_at_dot c i) c.attr memory
 
 -- What a cycle changes is hidden from dots. It is in the host path, and is neither the memory nor a
 -- register that a dot sees.
-pub record IsHidden (c new : CardState) : Type 0 where
+pub record IsChangeHiddenFromDots (c new : CardState) : Type 0 where
   pub rest : record new { host = c.host } ≡ c
   pub host : DotsSeeSameRegisters c.host new.host

@@ -84,8 +84,8 @@ abbrev pub past_host : List ℕ → List ℕ
 past_host bytes = drop 262164 (past_dac bytes)
 
 -- the beam of these bytes
-abbrev pub saved_beam_in : List ℕ → Beam
-saved_beam_in bytes = (crtc_from (take 37 (past_misc bytes))).beam
+abbrev pub beam_of_saved_card : List ℕ → Beam
+beam_of_saved_card bytes = (crtc_from (take 37 (past_misc bytes))).beam
 
 -- bytes within the bounds of an adapter: each part's are within its own, and the miscellaneous
 -- output register holds bits that it keeps
@@ -96,7 +96,7 @@ pub record IsSavedCard (bytes : List ℕ) : Type 0 where
   pub attr : IsSavedAttr (take 23 (past_crtc bytes))
   pub dac : IsSavedDac (take 773 (past_attr bytes))
   pub host : IsSavedHost (take 262164 (past_dac bytes))
-  pub dots : AreSavedDots (saved_beam_in bytes) (past_host bytes)
+  pub dots : AreSavedDots (beam_of_saved_card bytes) (past_host bytes)
 
 -- the adapter that has these bytes
 unfoldable pub card_from : List ℕ → CardState

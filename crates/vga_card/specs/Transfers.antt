@@ -13,21 +13,21 @@ after_gets m first zero i s = s
 after_gets m first (suc n) i s = after_gets m first n (i + 1) (m.read s (AtAddress (first + i))).0
 
 -- n writes, the last first: write i is of byte f i, to the address i after the first
-abbrev pub after_puts_down : {S : Type 0} → BusMeaning S → ℕ → (ℕ → ℕ) → ℕ → S → S
-after_puts_down m first f zero s = s
-after_puts_down m first f (suc n) s = after_puts_down m first f n
+abbrev pub after_puts_last_first : {S : Type 0} → BusMeaning S → ℕ → (ℕ → ℕ) → ℕ → S → S
+after_puts_last_first m first f zero s = s
+after_puts_last_first m first f (suc n) s = after_puts_last_first m first f n
     (m.write s (AtAddress (first + n)) (f n)).0
 
 -- n reads, the last first
-abbrev pub after_gets_down : {S : Type 0} → BusMeaning S → ℕ → ℕ → S → S
-after_gets_down m first zero s = s
-after_gets_down m first (suc n) s = after_gets_down m first n
+abbrev pub after_gets_last_first : {S : Type 0} → BusMeaning S → ℕ → ℕ → S → S
+after_gets_last_first m first zero s = s
+after_gets_last_first m first (suc n) s = after_gets_last_first m first n
     (m.read s (AtAddress (first + n))).0
 
 -- n moves, the last first
-abbrev pub after_moves_down : {S : Type 0} → BusMeaning S → ℕ → ℕ → ℕ → S → S
-after_moves_down m from to zero s = s
-after_moves_down m from to (suc n) s = after_moves_down m from to n
+abbrev pub after_moves_last_first : {S : Type 0} → BusMeaning S → ℕ → ℕ → ℕ → S → S
+after_moves_last_first m from to zero s = s
+after_moves_last_first m from to (suc n) s = after_moves_last_first m from to n
     (after_move m (from + n) (to + n) s)
 
 -- how many of n addresses from the first on are decoded
@@ -40,6 +40,6 @@ byte_at_or_ff c address = byte_or_ff (card_meaning.read c (AtAddress address)).1
 
 -- Byte i is what a read of the address i after the first returns. No read changes what another
 -- returns, as `reads_change_no_byte` says.
-pub record AreRead (c : CardState) (first : ℕ) (old new : List ℕ) : Type 0 where
+pub record AreBytesRead (c : CardState) (first : ℕ) (old new : List ℕ) : Type 0 where
   pub bytes : (i : ℕ) → i < length old → slice_index new i ≡ byte_at_or_ff c (first + i)
   pub size : length new ≡ length old

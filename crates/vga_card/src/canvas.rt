@@ -20,7 +20,7 @@ mod repeated;
 pub(crate) mod saved;
 
 use crate::drawn::Drawn;
-use crate::lines::Lines;
+use crate::lines::DrawnLines;
 use crate::shape::{Shape, count_rows};
 use std::alloc::Global;
 use std::marker::Model;
@@ -31,7 +31,7 @@ use vga_dots::{Display, draw_line, draw_part};
 const WIDEST: usize = 2_304;
 
 /// How many lines of a frame can have a dot.
-const HIGHEST: usize = 1_024;
+const MOST_LINES_WITH_DOTS: usize = 1_024;
 
 /// The dots in order in one buffer, three bytes each, and the number of dots on each line. The
 /// buffer keeps its memory when it is cleared.
@@ -204,8 +204,8 @@ impl Canvas {
         ensures ok { IfOk result (λ canvas. canvas ≡ blank_canvas) }
         ensures err { IsOkUnless result Fault.OutOfMemory }
     {
-        let buffer = room_for(alloc, 3 * WIDEST * HIGHEST)?;
-        let widths = zero_widths(alloc, HIGHEST)?;
+        let buffer = room_for(alloc, 3 * WIDEST * MOST_LINES_WITH_DOTS)?;
+        let widths = zero_widths(alloc, MOST_LINES_WITH_DOTS)?;
         Ok(Canvas {
             buffer,
             used: 0,
@@ -334,12 +334,12 @@ impl Canvas {
     }
 
     /// The dots, line by line.
-    pub(crate) fn lines(&self) -> Lines<'_>
+    pub(crate) fn lines(&self) -> DrawnLines<'_>
         ensures lines { IsLinesOf self.now.dots result }
         ensures count { length result.widths.now ≡ most_lines_of_a_frame }
         ensures len { length result.bytes.now ≡ 3 * length self.now.dots }
     {
-        Lines {
+        DrawnLines {
             widths: self.widths(),
             bytes: self.bytes(),
         }

@@ -1,13 +1,14 @@
 //! What the clock reaches next, and how fast it runs.
 ghost use Rattle.std.specs.Prelude.{◌≡◌, ◌≤◌, IfSome};
-ghost use Rattle.vga_card.specs.Clock.{clock_rate as clock_rate_of, IsClock};
+ghost use Rattle.vga_card.specs.Clock.{clock_rate as clock_rate_of, IsRasterTiming};
 
 use crate::card::Card;
 
-/// How many dots lead to the next events, if no register is written meanwhile, and how fast dots
-/// come.
+/// How many dots lead to the end of the frame and to the next changes of input status 1, if no
+/// register is written meanwhile; how many dots a line and a frame have; and how many dots come a
+/// second.
 #[derive(Clone, Copy, Debug, PartialEq, Eq)]
-pub struct Clock {
+pub struct RasterTiming {
     /// How many dots lead to the end of the frame under way.
     pub to_frame: u32,
     /// How many lead to the next change of bit 0 of input status 1, which is 0 at a display dot;
@@ -40,9 +41,10 @@ fn clock_rate(misc: u8) -> u32
 }
 
 impl Card {
-    /// What the clock reaches next, and how fast it runs, by the registers as they are.
-    pub fn clock(&self) -> Clock
-        ensures clock { IsClock self.now result }
+    /// The dots to the end of the frame and to the next changes of input status 1, and the rate of
+    /// the dot clock, by the registers as they are.
+    pub fn clock(&self) -> RasterTiming
+        ensures clock { IsRasterTiming self.now result }
         ensures display { IfSome result.to_display (λ n. n ≤ 4800000) }
         ensures retrace { IfSome result.to_retrace (λ n. n ≤ 4800000) }
     {
@@ -50,8 +52,8 @@ impl Card {
         let width = regs.host.character_width();
         let line_dots = regs.crtc.fields().characters() as u32 * width as u32;
         let lines = regs.crtc.fields().lines();
-        Clock {
-            to_frame: regs.crtc.dots_in_frame(width),
+        RasterTiming {
+            to_frame: regs.crtc.dots_to_frame_end(width),
             to_display: regs.crtc.dots_to_display_change(width),
             to_retrace: regs.crtc.dots_to_retrace_change(width),
             line_dots,

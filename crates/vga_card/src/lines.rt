@@ -2,7 +2,7 @@
 
 /// What was drawn of a frame.
 #[derive(Clone, Copy, Debug, PartialEq, Eq)]
-pub struct Lines<'a> {
+pub struct DrawnLines<'a> {
     /// How many dots each of the 1,024 lines has that can have dots, at most 2,304. A line without
     /// dots has 0.
     pub widths: &'a [u32],

@@ -14,13 +14,13 @@ use Rattle.vga_crtc.proofs.Countdowns.{IsAtLine, some_to_line, to_line_counts, i
 -- ---- tests that are known
 
 -- a test that is known up to the end of a countdown, and is otherwise there, changes then
-changes : (test : Beam → Bool) (v : Bool) (Known End : Beam → Type 0) (left : Beam → ℕ) (cw : ℕ) (r : List ℕ) → CountsDown Known End left cw r →
-    ((c : Beam) → Known c → test c ≡ v) → ((c : Beam) → End c → test c ≡ not v) → (n : ℕ) (b : Beam) → Known b → left b ≡ n → 0 < n →
+changes : (test : Beam → Bool) (v : Bool) (Known PieceEnd : Beam → Type 0) (left : Beam → ℕ) (cw : ℕ) (r : List ℕ) → CountsDown Known PieceEnd left cw r →
+    ((c : Beam) → Known c → test c ≡ v) → ((c : Beam) → PieceEnd c → test c ≡ not v) → (n : ℕ) (b : Beam) → Known b → left b ≡ n → 0 < n →
     ChangesAfter test cw r b n
-changes test v Known End left cw r counts is flips zero b known e some = absurd (omega arith)
-changes test v Known End left cw r counts is flips (suc n) b known e some = record {
-  changed = flips (dots cw r (suc n) b) (count_ends Known End left cw r counts n b known e) ∙ ap not (sym (is b known));
-  first = λ m few. is (dots cw r m b) (count_keeps Known End left cw r counts m b known (omega (arith, few, e))) ∙ sym (is b known);
+changes test v Known PieceEnd left cw r counts is flips zero b known e some = absurd (omega arith)
+changes test v Known PieceEnd left cw r counts is flips (suc n) b known e some = record {
+  changed = flips (dots cw r (suc n) b) (count_ends Known PieceEnd left cw r counts n b known e) ∙ ap not (sym (is b known));
+  first = λ m few. is (dots cw r m b) (count_keeps Known PieceEnd left cw r counts m b known (omega (arith, few, e))) ∙ sym (is b known);
 }
 
 -- a test that each dot keeps never changes

@@ -4,7 +4,7 @@ use Rattle.std.specs.Prelude.{nat_lt, if◌then◌else◌}
 use Rattle.std.proofs.lemmas.Bool.{cases_lt, cases_order, lt-ltb, le-ltb}
 use Rattle.vga_crtc.specs.declared.beam.Beam.{Beam}
 use Rattle.vga_crtc.specs.Beam.{characters, lines, with_frame_start_taken, dot, dots}
-use Rattle.vga_crtc.specs.Raster.{dots_in_line, dots_in_frame, IsLineStart, IsFrameStart}
+use Rattle.vga_crtc.specs.Raster.{dots_to_line_end, dots_to_frame_end, IsLineStart, IsFrameStart}
 use Rattle.vga_crtc.specs.Clock.{dots_to_line}
 use Rattle.vga_crtc.proofs.Moves.{moved_in, moved_out, next_character, last_character, frame_follows, next_line_start, next_in_frame, started_place}
 use Rattle.vga_crtc.proofs.Dots.{dots_none, dots_one, dots_next}
@@ -102,26 +102,26 @@ dot_leads cw r b =
 -- ---- countdowns
 
 -- what is known of the beam is kept by each dot while a count is above one, which the dot lowers; the last one leads to an end
-pub record CountsDown (Known End : Beam → Type 0) (left : Beam → ℕ) (cw : ℕ) (r : List ℕ) : Type 0 where
+pub record CountsDown (Known PieceEnd : Beam → Type 0) (left : Beam → ℕ) (cw : ℕ) (r : List ℕ) : Type 0 where
   pub step : (b : Beam) → Known b → 1 < left b → Known (dot cw r b) × (left b ≡ left (dot cw r b) + 1)
-  pub last : (b : Beam) → Known b → left b ≡ 1 → End (dot cw r b)
+  pub last : (b : Beam) → Known b → left b ≡ 1 → PieceEnd (dot cw r b)
 
 -- a count of n + 1 ends after n + 1 dots
-pub count_ends : (Known End : Beam → Type 0) (left : Beam → ℕ) (cw : ℕ) (r : List ℕ) → CountsDown Known End left cw r → (n : ℕ) (b : Beam) → Known b →
-    left b ≡ suc n → End (dots cw r (suc n) b)
-count_ends Known End left cw r counts zero b known e =
-    subst End (sym (dots_one cw r b)) (counts.last b known (omega (arith, e)))
-count_ends Known End left cw r counts (suc n) b known e =
+pub count_ends : (Known PieceEnd : Beam → Type 0) (left : Beam → ℕ) (cw : ℕ) (r : List ℕ) → CountsDown Known PieceEnd left cw r → (n : ℕ) (b : Beam) → Known b →
+    left b ≡ suc n → PieceEnd (dots cw r (suc n) b)
+count_ends Known PieceEnd left cw r counts zero b known e =
+    subst PieceEnd (sym (dots_one cw r b)) (counts.last b known (omega (arith, e)))
+count_ends Known PieceEnd left cw r counts (suc n) b known e =
     let step = counts.step b known (omega (arith, e)) in
-    subst End (sym (dots_next cw r (suc n) b)) (count_ends Known End left cw r counts n (dot cw r b) step.0 (omega (arith, e, step.1)))
+    subst PieceEnd (sym (dots_next cw r (suc n) b)) (count_ends Known PieceEnd left cw r counts n (dot cw r b) step.0 (omega (arith, e, step.1)))
 
 -- what is known is known up to there
-pub count_keeps : (Known End : Beam → Type 0) (left : Beam → ℕ) (cw : ℕ) (r : List ℕ) → CountsDown Known End left cw r → (m : ℕ) (b : Beam) → Known b →
+pub count_keeps : (Known PieceEnd : Beam → Type 0) (left : Beam → ℕ) (cw : ℕ) (r : List ℕ) → CountsDown Known PieceEnd left cw r → (m : ℕ) (b : Beam) → Known b →
     m < left b → Known (dots cw r m b)
-count_keeps Known End left cw r counts zero b known few = subst Known (sym (dots_none cw r b)) known
-count_keeps Known End left cw r counts (suc m) b known few =
+count_keeps Known PieceEnd left cw r counts zero b known few = subst Known (sym (dots_none cw r b)) known
+count_keeps Known PieceEnd left cw r counts (suc m) b known few =
     let step = counts.step b known (omega (arith, few)) in
-    subst Known (sym (dots_next cw r m b)) (count_keeps Known End left cw r counts m (dot cw r b) step.0 (omega (arith, few, step.1)))
+    subst Known (sym (dots_next cw r m b)) (count_keeps Known PieceEnd left cw r counts m (dot cw r b) step.0 (omega (arith, few, step.1)))
 
 -- what each dot keeps is known after any number of them
 pub always_known : (Known : Beam → Type 0) (cw : ℕ) (r : List ℕ) → ((b : Beam) → Known b → Known (dot cw r b)) → (m : ℕ) (b : Beam) → Known b →
@@ -229,7 +229,7 @@ IsAtLine t c = IsAt c t 0 0
 
 -- the count in numbers
 in_numbers : (cw : ℕ) (r : List ℕ) (t : ℕ) (b : Beam) → dots_to_line cw r t b ≡ to_line t (lines r) (characters r) cw b.line b.character b.dot
-unfolding dots_to_line dots_in_line dots_in_frame
+unfolding dots_to_line dots_to_line_end dots_to_frame_end
 in_numbers cw r t b = refl
 
 -- the count at a place

@@ -2,7 +2,7 @@
 use Rattle.std.proofs.Common.{◌≡◌, ℕ, ◌+◌, ◌-◌, ◌*◌, ◌/◌, ◌%◌, ◌<◌, sym, ap, ◌∙◌, arith, List}
 use Rattle.std.proofs.lemmas.Nat.{mul-le, div_below, mod_below}
 use Rattle.vga_crtc.specs.Beam.{characters, lines}
-use Rattle.vga_crtc.specs.Raster.{dots_in_line, dots_in_frame, dots_per_line, beam_at_dot_of_frame}
+use Rattle.vga_crtc.specs.Raster.{dots_to_line_end, dots_to_frame_end, dots_per_line, beam_at_dot_of_frame}
 use Rattle.vga_crtc.proofs.Frames.{place_of}
 
 -- the dots before a place and those from it on, where a lines, e characters and z dots follow it
@@ -27,8 +27,8 @@ left_at w n l v c k in_character in_line in_frame =
 
 -- from dot n on the dots to the next frame are all but n
 pub frame_left : (cw : ℕ) (r : List ℕ) (start f n : ℕ) → 0 < cw → n < lines r * dots_per_line cw r →
-    n + dots_in_frame cw r (beam_at_dot_of_frame cw r start f n) ≡ lines r * dots_per_line cw r
-unfolding dots_in_frame dots_in_line
+    n + dots_to_frame_end cw r (beam_at_dot_of_frame cw r start f n) ≡ lines r * dots_per_line cw r
+unfolding dots_to_frame_end dots_to_line_end
 frame_left cw r start f n some in_frame =
     let line = dots_per_line cw r in
     let wide : 0 < line = omega (arith, mul-le 1 1 (characters r) cw (omega arith) some) in

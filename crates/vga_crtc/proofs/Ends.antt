@@ -4,7 +4,7 @@ use Rattle.std.proofs.lemmas.Bool.{cases_order}
 use Rattle.vga_crtc.specs.declared.beam.Beam.{Beam}
 use Rattle.vga_crtc.specs.Crtc.{CrtcState, first_dot}
 use Rattle.vga_crtc.specs.Beam.{characters, lines, with_frame_start_taken, next_line, beam_at_next_place, dot, dots, after_dots}
-use Rattle.vga_crtc.specs.Raster.{dots_in_line, dots_in_frame, IsLineStart, IsFrameStart, LineEnds, FrameEnds, IsLineTaken}
+use Rattle.vga_crtc.specs.Raster.{dots_to_line_end, dots_to_frame_end, IsLineStart, IsFrameStart, LineEnds, FrameEnds, IsLineTaken}
 use Rattle.vga_crtc.proofs.Moves.{character_ended, moved_in, moved_out, next_character, last_character, frame_follows, next_line_start, next_in_frame}
 use Rattle.vga_crtc.proofs.Moves.{not_started, started_again, started_place}
 use Rattle.vga_crtc.proofs.Dots.{dots_one, dots_split, dots_started}
@@ -67,23 +67,23 @@ to_line_end cw r (suc i) b some left by_dots =
     (λ (start : IsLineStart next). absurd (omega (arith, start.character))) rest)
 
 -- the line of the dots that are left, from a beam with the start taken
-pub whole_line : (cw : ℕ) (r : List ℕ) (b : Beam) → 0 < cw → with_frame_start_taken r b ≡ b → Leads IsLineStart cw r (dots_in_line cw r b) b (next_line r b)
-unfolding dots_in_line
+pub whole_line : (cw : ℕ) (r : List ℕ) (b : Beam) → 0 < cw → with_frame_start_taken r b ≡ b → Leads IsLineStart cw r (dots_to_line_end cw r b) b (next_line r b)
+unfolding dots_to_line_end
 whole_line cw r b some by_dots = to_line_end cw r (characters r - (b.character + 1)) b some refl by_dots
 
-pub same_count : (cw : ℕ) (r : List ℕ) (b : Beam) → dots_in_line cw r (with_frame_start_taken r b) ≡ dots_in_line cw r b
-unfolding dots_in_line
+pub same_count : (cw : ℕ) (r : List ℕ) (b : Beam) → dots_to_line_end cw r (with_frame_start_taken r b) ≡ dots_to_line_end cw r b
+unfolding dots_to_line_end
 same_count cw r b =
     let place = started_place r b in
     ap (λ c. (characters r - (c + 1)) * cw + (cw - ((with_frame_start_taken r b).dot + 1)) + 1) place.character
     ∙ ap (λ k. (characters r - (b.character + 1)) * cw + (cw - (k + 1)) + 1) place.dot
 
-some_in_line : (cw : ℕ) (r : List ℕ) (b : Beam) → 0 < dots_in_line cw r b
-unfolding dots_in_line
+some_in_line : (cw : ℕ) (r : List ℕ) (b : Beam) → 0 < dots_to_line_end cw r b
+unfolding dots_to_line_end
 some_in_line cw r b = omega arith
 
-some_in_frame : (cw : ℕ) (r : List ℕ) (b : Beam) → 0 < dots_in_frame cw r b
-unfolding dots_in_frame
+some_in_frame : (cw : ℕ) (r : List ℕ) (b : Beam) → 0 < dots_to_frame_end cw r b
+unfolding dots_to_frame_end
 some_in_frame cw r b = omega (arith, some_in_line cw r b)
 
 -- the same way, whether the start is taken or not
@@ -96,9 +96,9 @@ unstarted P cw r n b c some way = record {
 pub line_ends : (cw : ℕ) (r : List ℕ) (b : Beam) → 0 < cw → LineEnds cw r b
 line_ends cw r b some =
     let s : Beam = with_frame_start_taken r b in
-    let n = dots_in_line cw r b in
+    let n = dots_to_line_end cw r b in
     let way = unstarted IsLineStart cw r n b (next_line r s) (some_in_line cw r b)
-    (counted IsLineStart cw r s (next_line r s) (dots_in_line cw r s) n (same_count cw r b) (whole_line cw r s some (started_again r b))) in
+    (counted IsLineStart cw r s (next_line r s) (dots_to_line_end cw r s) n (same_count cw r b) (whole_line cw r s some (started_again r b))) in
     record {
       some = some_in_line cw r b;
       next = way.by_dots;
@@ -107,7 +107,7 @@ line_ends cw r b some =
     }
 
 -- the dots of a line, taken
-pub line_taken : (cw : ℕ) (old new : CrtcState) → (cw ≡ 8) ⊎ (cw ≡ 9) → new ≡ after_dots old cw (dots_in_line cw old.registers old.beam) →
+pub line_taken : (cw : ℕ) (old new : CrtcState) → (cw ≡ 8) ⊎ (cw ≡ 9) → new ≡ after_dots old cw (dots_to_line_end cw old.registers old.beam) →
     IsLineTaken cw old new
 line_taken cw old new width by_dots = record {
   by_dots = by_dots;
@@ -136,8 +136,8 @@ whole_product : (n cw : ℕ) → 0 < n → 0 < cw → (n - (0 + 1)) * cw + (cw -
 whole_product zero cw some wide = absurd (omega arith)
 whole_product (suc n) cw some wide = let e : suc n - (0 + 1) ≡ n = omega arith in ap (λ m. m * cw + (cw - (0 + 1)) + 1) e ∙ omega arith
 
-pub from_line_start : (cw : ℕ) (r : List ℕ) (b : Beam) → IsLineStart b → 0 < cw → dots_in_line cw r b ≡ characters r * cw
-unfolding dots_in_line
+pub from_line_start : (cw : ℕ) (r : List ℕ) (b : Beam) → IsLineStart b → 0 < cw → dots_to_line_end cw r b ≡ characters r * cw
+unfolding dots_to_line_end
 from_line_start cw r b start some =
     ap (λ c. (characters r - (c + 1)) * cw + (cw - (b.dot + 1)) + 1) start.character
     ∙ ap (λ k. (characters r - (0 + 1)) * cw + (cw - (k + 1)) + 1) start.dot
@@ -145,45 +145,45 @@ from_line_start cw r b start some =
 
 -- up to the end of a frame, which is i lines after this one
 to_frame_end : (cw : ℕ) (r : List ℕ) (i : ℕ) (b : Beam) → 0 < cw → i ≡ lines r - (b.line + 1) → with_frame_start_taken r b ≡ b →
-    Leads IsFrameStart cw r (i * (characters r * cw) + dots_in_line cw r b) b (first_dot ((b.frame + 1) % 32))
+    Leads IsFrameStart cw r (i * (characters r * cw) + dots_to_line_end cw r b) b (first_dot ((b.frame + 1) % 32))
 to_frame_end cw r zero b some left by_dots =
-    let n = dots_in_line cw r b in
+    let n = dots_to_line_end cw r b in
     let e : n ≡ 0 * (characters r * cw) + n = omega arith in
     counted IsFrameStart cw r b (first_dot ((b.frame + 1) % 32)) n (0 * (characters r * cw) + n) e
     (subst (Leads IsFrameStart cw r n b) (frame_follows r b (omega arith)) (away_from_frame cw r n b (next_line r b) (whole_line cw r b some by_dots)))
 to_frame_end cw r (suc i) b some left by_dots =
     let next : Beam = next_line r b in
     let place = next_in_frame r b (omega arith) in
-    let n = dots_in_line cw r b in
+    let n = dots_to_line_end cw r b in
     let line = characters r * cw in
     let first = away_from_frame cw r n b next (whole_line cw r b some by_dots) in
     let below : 0 < next.line = omega (arith, place.0) in
     let rest = to_frame_end cw r i next some (omega (arith, place.0)) (not_started r next (inr (inr below))) in
     let full = from_line_start cw r next (next_line_start r b) some in
-    let e : n + (i * line + dots_in_line cw r next) ≡ suc i * line + n = omega (arith, full) in
+    let e : n + (i * line + dots_to_line_end cw r next) ≡ suc i * line + n = omega (arith, full) in
     subst (λ f. Leads IsFrameStart cw r (suc i * line + n) b (first_dot ((f + 1) % 32))) place.1
-    (counted IsFrameStart cw r b (first_dot ((next.frame + 1) % 32)) (n + (i * line + dots_in_line cw r next)) (suc i * line + n) e
-    (then_leads IsFrameStart cw r b next (first_dot ((next.frame + 1) % 32)) n (i * line + dots_in_line cw r next) first
+    (counted IsFrameStart cw r b (first_dot ((next.frame + 1) % 32)) (n + (i * line + dots_to_line_end cw r next)) (suc i * line + n) e
+    (then_leads IsFrameStart cw r b next (first_dot ((next.frame + 1) % 32)) n (i * line + dots_to_line_end cw r next) first
     (λ (start : IsFrameStart next). absurd (omega (arith, start.line, below))) rest))
 
-pub same_frame_count : (cw : ℕ) (r : List ℕ) (b : Beam) → dots_in_frame cw r (with_frame_start_taken r b) ≡ dots_in_frame cw r b
-unfolding dots_in_frame
+pub same_frame_count : (cw : ℕ) (r : List ℕ) (b : Beam) → dots_to_frame_end cw r (with_frame_start_taken r b) ≡ dots_to_frame_end cw r b
+unfolding dots_to_frame_end
 same_frame_count cw r b =
     let place = started_place r b in
-    ap (λ v. (lines r - (v + 1)) * (characters r * cw) + dots_in_line cw r (with_frame_start_taken r b)) place.line
+    ap (λ v. (lines r - (v + 1)) * (characters r * cw) + dots_to_line_end cw r (with_frame_start_taken r b)) place.line
     ∙ ap (λ n. (lines r - (b.line + 1)) * (characters r * cw) + n) (same_count cw r b)
 
 pub frame_ends : (cw : ℕ) (r : List ℕ) (b : Beam) → 0 < cw → FrameEnds cw r b
-unfolding dots_in_frame
+unfolding dots_to_frame_end
 frame_ends cw r b some =
     let s : Beam = with_frame_start_taken r b in
-    let n = dots_in_frame cw r b in
+    let n = dots_to_frame_end cw r b in
     let i = lines r - (s.line + 1) in
     let place = started_place r b in
     let new : Beam = first_dot ((s.frame + 1) % 32) in
     let e = same_frame_count cw r b in
     let way = unstarted IsFrameStart cw r n b new (some_in_frame cw r b)
-    (counted IsFrameStart cw r s new (i * (characters r * cw) + dots_in_line cw r s) n e (to_frame_end cw r i s some refl (started_again r b))) in
+    (counted IsFrameStart cw r s new (i * (characters r * cw) + dots_to_line_end cw r s) n e (to_frame_end cw r i s some refl (started_again r b))) in
     let next : dots cw r n b ≡ first_dot ((b.frame + 1) % 32) = way.by_dots ∙ ap (λ f. first_dot ((f + 1) % 32)) place.frame in
     record {
       some = some_in_frame cw r b;

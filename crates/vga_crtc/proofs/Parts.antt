@@ -6,7 +6,7 @@ use Rattle.std.proofs.lemmas.Nat.{div-add-mod', div_below, mod_below, div-mul-ad
 use Rattle.vga_crtc.specs.declared.beam.Beam.{Beam}
 use Rattle.vga_crtc.specs.Crtc.{CrtcState}
 use Rattle.vga_crtc.specs.Beam.{characters, with_frame_start_taken, next_line, beam_at_next_place, dots, after_dots}
-use Rattle.vga_crtc.specs.Raster.{beam_at_dot_of_line, dots_per_line, dots_in_line, dot_number_in_line, IsWithinItsLine, beam_after_dots_of_line}
+use Rattle.vga_crtc.specs.Raster.{beam_at_dot_of_line, dots_per_line, dots_to_line_end, dot_number_in_line, IsWithinItsLine, beam_after_dots_of_line}
 use Rattle.vga_crtc.proofs.Moves.{moved_in, moved_out, next_character, not_started, started_again, started_place}
 use Rattle.vga_crtc.proofs.Dots.{dots_none, dots_more, dots_started}
 use Rattle.vga_crtc.proofs.Lines.{start_first}
@@ -85,8 +85,8 @@ beam_goes cw r b n inside within =
     ∙ ap (λ i. beam_at_dot_of_line cw (with_frame_start_taken r b) (i + n)) e
 
 -- the dots before the beam and from it on
-pub line_whole : (cw : ℕ) (r : List ℕ) (b : Beam) → IsWithinItsLine cw r b → dot_number_in_line cw b + dots_in_line cw r b ≡ dots_per_line cw r
-unfolding dots_in_line
+pub line_whole : (cw : ℕ) (r : List ℕ) (b : Beam) → IsWithinItsLine cw r b → dot_number_in_line cw b + dots_to_line_end cw r b ≡ dots_per_line cw r
+unfolding dots_to_line_end
 line_whole cw r b inside =
     let e = characters r - (b.character + 1) in
     let z = cw - (b.dot + 1) in
@@ -96,7 +96,7 @@ line_whole cw r b inside =
     sum ∙ ap (λ i. i * cw) all
 
 -- the beam after n dots of its line
-pub goes : (cw : ℕ) (r : List ℕ) (b : Beam) (n : ℕ) → IsWithinItsLine cw r b → 0 < n → n ≤ dots_in_line cw r b → beam_after_dots_of_line cw r n (with_frame_start_taken r b) ≡ dots cw r n b
+pub goes : (cw : ℕ) (r : List ℕ) (b : Beam) (n : ℕ) → IsWithinItsLine cw r b → 0 < n → n ≤ dots_to_line_end cw r b → beam_after_dots_of_line cw r n (with_frame_start_taken r b) ≡ dots cw r n b
 goes cw r b zero inside some few = absurd (omega arith)
 goes cw r b (suc n) inside some few =
     let s : Beam = with_frame_start_taken r b in
@@ -108,12 +108,12 @@ goes cw r b (suc n) inside some few =
     ap (λ v. if v then beam_at_dot_of_line cw s q else next_line r s) (lt-ltb q (dots_per_line cw r) l)
     ∙ sym (dots_started cw r (suc n) b some ∙ after_some cw r s (started_again r b) (started_inside cw r b inside) n l))
     (λ (g : dots_per_line cw r ≤ q).
-    let whole : dots_in_line cw r b ≡ suc n = omega (arith, e, all, few, g) in
+    let whole : dots_to_line_end cw r b ≡ suc n = omega (arith, e, all, few, g) in
     ap (λ v. if v then beam_at_dot_of_line cw s q else next_line r s) (le-ltb q (dots_per_line cw r) g)
     ∙ sym (ap (λ i. dots cw r i b) (sym whole) ∙ (line_ends cw r b (omega (arith, inside.dot))).next))
     (cases_lt q (dots_per_line cw r))
 
-pub part_taken : (cw n : ℕ) (old : CrtcState) (b : Beam) → IsWithinItsLine cw old.registers old.beam → 0 < n → n ≤ dots_in_line cw old.registers old.beam
+pub part_taken : (cw n : ℕ) (old : CrtcState) (b : Beam) → IsWithinItsLine cw old.registers old.beam → 0 < n → n ≤ dots_to_line_end cw old.registers old.beam
     → b ≡ beam_after_dots_of_line cw old.registers n (with_frame_start_taken old.registers old.beam) → record old { beam = b } ≡ after_dots old cw n
 unfolding after_dots
 part_taken cw n old b inside some few e = ap (λ (x : Beam). record old { beam = x }) (e ∙ goes cw old.registers old.beam n inside some few)

@@ -5,7 +5,7 @@
 use Rattle.std.specs.Prelude.{◌≡◌, ℕ, ◌+◌, ◌-◌, ◌*◌, ◌<◌, Bool, not, nat_lt, if◌then◌else◌, List}
 use Rattle.vga_crtc.specs.declared.beam.Beam.{Beam}
 use Rattle.vga_crtc.specs.Beam.{characters, dots}
-use Rattle.vga_crtc.specs.Raster.{dots_in_line, dots_in_frame}
+use Rattle.vga_crtc.specs.Raster.{dots_to_line_end, dots_to_frame_end}
 
 -- a test of the beam, such as one bit of input status 1, changes its result after n dots, and not
 -- before
@@ -21,8 +21,8 @@ NeverChanges test cw r b = (m : ℕ) → test (dots cw r m b) ≡ test b
 -- else of the next frame
 unfoldable pub dots_to_line : ℕ → List ℕ → ℕ → Beam → ℕ
 dots_to_line cw r v b =
-    if nat_lt b.line v then (v - (b.line + 1)) * (characters r * cw) + dots_in_line cw r b
-    else v * (characters r * cw) + dots_in_frame cw r b
+    if nat_lt b.line v then (v - (b.line + 1)) * (characters r * cw) + dots_to_line_end cw r b
+    else v * (characters r * cw) + dots_to_frame_end cw r b
 
 -- how many dots lead to the first dot of character c, which is still to come in the line
 unfoldable pub dots_to_character : ℕ → ℕ → Beam → ℕ

@@ -30,7 +30,7 @@ pub struct Beam {
 
 impl Beam {
     ghost use Rattle.vga_crtc.specs.Crtc.{first_dot};
-    ghost use Rattle.vga_crtc.specs.Beam.{IsBeam, is_first_dot, with_frame_start_taken, next_row};
+    ghost use Rattle.vga_crtc.specs.Beam.{IsBeam, is_first_dot, with_frame_start_taken, counters_after_line};
     ghost use Rattle.vga_crtc.specs.Beam.{next_line, dot};
 
     /// The beam at the first dot of a frame, before the start of the frame is taken.
@@ -70,10 +70,11 @@ impl Beam {
         }
     }
 
-    /// Counts a line that ends.
+    /// Moves the counters on from a line that ends: to the next scan line, to the next row of
+    /// characters, or to 0 at line compare. Under double scan every other line leaves them.
     fn count_ended_line(&mut self, registers: &Registers)
         requires { IsBeam self.old }
-        ensures value { self.new ≡ next_row registers.now self.old }
+        ensures value { self.new ≡ counters_after_line registers.now self.old }
         ensures place { IsBeam self.new }
     {
         if self.line == registers.line_compare() {

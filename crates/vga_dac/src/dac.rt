@@ -127,7 +127,7 @@ impl Dac {
         self.write_index(v);
     }
 
-    /// The index.
+    /// The index of the entry whose component is read or written next.
     pub fn read_index(&self) -> u8
         ensures { result ≡ self.now.index }
     {
@@ -187,7 +187,7 @@ impl Dac {
         self.mask = v;
     }
 
-    /// The mask.
+    /// The mask, which is ANDed with each colour number.
     pub fn mask(&self) -> u8
         ensures { result ≡ self.now.mask }
     {

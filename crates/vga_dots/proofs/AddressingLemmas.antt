@@ -10,7 +10,7 @@ use Rattle.vga_crtc.specs.Crtc.{CrtcState}
 use Rattle.vga_attr.specs.Attr.{AttrState}
 use Rattle.vga_dots.specs.declared.source_dot.SourceDot.{SourceDot}
 use Rattle.vga_dots.specs.SourceDot.{source_dot, panning_shift}
-use Rattle.vga_dots.specs.Fetch.{fetched_address}
+use Rattle.vga_dots.specs.Fetch.{address_fetched_at_beam}
 use Rattle.vga_dots.specs.Line.{with_beam_at}
 use Rattle.vga_crtc.specs.Fields.{is_double_word, is_byte_mode, is_address_wrap}
 use Rattle.vga_dots.specs.declared.addressing.Addressing.{Addressing}
@@ -77,7 +77,7 @@ chosen false s t r place f g = g
 
 apart : (h : HostState) (c : CrtcState) (a : AttrState) (x k last place : ℕ) → last < 256 → x ≤ last →
     (last + 2) * (addressing_of c.registers).step ≤ (place + (65536 - c.beam.base * (addressing_of c.registers).step % 65536)) % 65536
-    → fetched_address h (with_beam_at c x k) a ≡ place → ⊥
+    → address_fetched_at_beam h (with_beam_at c x k) a ≡ place → ⊥
 unfolding source_dot
 apart h c a x k last place small l far =
     let dot = k + panning_shift h (with_beam_at c x k) a in
@@ -91,5 +91,5 @@ far_of x y h = grind (arith, nat_tests)
 
 pub tested_apart : (h : HostState) (c : CrtcState) (a : AttrState) (x k last place : ℕ) → last < 256 → x ≤ last →
     nat_le ((last + 2) * (addressing_of c.registers).step) ((place + (65536 - c.beam.base * (addressing_of c.registers).step % 65536)) % 65536) ≡ true
-    → fetched_address h (with_beam_at c x k) a ≡ place → ⊥
+    → address_fetched_at_beam h (with_beam_at c x k) a ≡ place → ⊥
 tested_apart h c a x k last place small l test = apart h c a x k last place small l (far_of _ _ test)

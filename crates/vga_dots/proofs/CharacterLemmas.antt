@@ -1,6 +1,6 @@
 -- The dots of a character, by what is shown.
-use Rattle.std.proofs.Common.{◌≡◌, ℕ, zero, suc, ◌+◌, ◌-◌, ◌*◌, ◌/◌, ◌%◌, ◌<◌, ◌≤◌, ⊎_elim, refl, sym, ap, ◌∙◌, arith, Bool, true, false, List, [], ◌∷◌}
-use Rattle.std.specs.Prelude.{◌^◌, ◌==◌, ◌&&◌, not, nat_lt, nat_le, slice_index, slice_index_or, if◌then◌else◌}
+use Rattle.std.proofs.Common.{◌≡◌, ℕ, zero, suc, ◌+◌, ◌-◌, ◌*◌, ◌/◌, ◌%◌, ◌<◌, ◌≤◌, ⊎_elim, refl, sym, ap, subst, ◌∙◌, arith, Bool, true, false, List, [], ◌∷◌}
+use Rattle.std.specs.Prelude.{◌^◌, ◌==◌, ◌&&◌, ◌||◌, not, nat_lt, nat_le, slice_index, slice_index_or, if◌then◌else◌}
 use Rattle.std.specs.Int.{bit_at}
 use Rattle.std.proofs.lemmas.Bool.{cases_lt, lt-ltb}
 use Rattle.std.proofs.lemmas.Nat.Bits.{bit_at-lt, bit_at-zero, bit_at_ones, bit_at_cat_low, bit_at_cat_high}
@@ -17,12 +17,15 @@ use Rattle.vga_attr.specs.Attr.{AttrState}
 use Rattle.vga_attr.specs.Fields.{is_palette_shown, overscan, is_line_graphics}
 use Rattle.vga_dac.specs.Dac.{DacState}
 use Rattle.vga_dots.specs.declared.source_dot.SourceDot.{SourceDot}
+use Rattle.vga_dots.specs.declared.quads.Quad.{Quad}
 use Rattle.vga_dots.specs.declared.text.Cell.{Cell}
 use Rattle.vga_dots.specs.SourceDot.{fetch_address}
 use Rattle.vga_dots.specs.Text.{text_nibble, cell_at, background, is_foreground, is_underlined, is_blinked_away, is_cursor_at, is_glyph_dot, glyph_row}
 use Rattle.vga_dots.specs.Graphics.{plane_bits, planar_nibble, packed_byte}
 use Rattle.vga_dots.specs.Row.{plane_bits_in_word, colour_and_zero_byte}
 use Rattle.vga_dots.specs.Display.{DisplayState, ShowsText, ShowsPlanes, ShowsBytes}
+use Rattle.vga_dots.specs.Quads.{IsFourDotsOfColour}
+use Rattle.vga_dots.specs.Character.{cursorless_nibble}
 use Rattle.vga_dots.specs.Line.{masked_colour, colour_by_palette, palette_colour_and_zero_byte, sixteen_palette_colours, dot_of_counter, colour_of_source_dot}
 use Rattle.vga_dots.proofs.RowLemmas.{padded_byte}
 
@@ -122,6 +125,55 @@ all_dots v i within e = ap (λ b. b == 1) (bit_at_ones 9 (8 - i) (omega arith)) 
 
 pub no_dots : (v : Bool) (i : ℕ) → v ≡ false → is_set 0 (8 - i) ≡ v
 no_dots v i e = ap (λ b. b == 1) (bit_at-zero (8 - i)) ∙ sym e
+
+-- ---- what decides whether a dot has its cell's foreground
+
+abbrev decided : Bool → Bool → Bool → Bool → Bool
+decided cursor blinked underlined dot = if cursor then true else if blinked then false else if underlined then true else dot
+
+pub same_either : (v : Bool) (colour : List ℕ) → (if v then colour else colour) ≡ colour
+same_either true colour = refl
+same_either false colour = refl
+
+-- blinking and underline decide for the dots of a glyph and for the others
+by_look : (blinked underlined dot : Bool) (fore back : ℕ)
+    → (if dot then (if blinked then back else if underlined || true then fore else back) else (if blinked then back else if underlined || false then fore else back))
+    ≡ (if decided false blinked underlined dot then fore else back)
+by_look true underlined true fore back = refl
+by_look true underlined false fore back = refl
+by_look false true true fore back = refl
+by_look false true false fore back = refl
+by_look false false true fore back = refl
+by_look false false false fore back = refl
+
+-- so do they for their colours, four dots of each
+module _ (fore back : Quad) (colour : ℕ → List ℕ) (x y : ℕ) (is_fore : IsFourDotsOfColour fore (colour x)) (is_back : IsFourDotsOfColour back (colour y)) where
+  abbrev both : Bool → Bool → Quad × Quad
+  both blinked underlined = if blinked then (back, back) else if underlined then (fore, fore) else (fore, back)
+
+  pub glyph_colour : (blinked underlined : Bool) (q : Quad × Quad) → q ≡ both blinked underlined
+      → IsFourDotsOfColour q.0 (colour (if blinked then y else if underlined || true then x else y))
+  glyph_colour true underlined q e = subst (λ (r : Quad × Quad). IsFourDotsOfColour r.0 (colour y)) (sym e) is_back
+  glyph_colour false true q e = subst (λ (r : Quad × Quad). IsFourDotsOfColour r.0 (colour x)) (sym e) is_fore
+  glyph_colour false false q e = subst (λ (r : Quad × Quad). IsFourDotsOfColour r.0 (colour x)) (sym e) is_fore
+
+  pub ground_colour : (blinked underlined : Bool) (q : Quad × Quad) → q ≡ both blinked underlined
+      → IsFourDotsOfColour q.1 (colour (if blinked then y else if underlined || false then x else y))
+  ground_colour true underlined q e = subst (λ (r : Quad × Quad). IsFourDotsOfColour r.1 (colour y)) (sym e) is_back
+  ground_colour false true q e = subst (λ (r : Quad × Quad). IsFourDotsOfColour r.1 (colour x)) (sym e) is_fore
+  ground_colour false false q e = subst (λ (r : Quad × Quad). IsFourDotsOfColour r.1 (colour y)) (sym e) is_back
+
+module _ (h : HostState) (c : CrtcState) (a : AttrState) (cell : Cell) (counter : ℕ) where
+  pub by_cursor : (i : ℕ) → is_cursor_at c counter ≡ true → is_foreground h c a (dot_of_counter counter i) cell ≡ true
+  unfolding is_foreground
+  by_cursor i e =
+      ap (λ v. decided v (is_blinked_away c a cell) (is_underlined c a cell) (is_glyph_dot a cell.character (glyph_row h cell c.beam.scan) i)) e
+
+  by_glyph : (i : ℕ) → is_cursor_at c counter ≡ false → is_foreground h c a (dot_of_counter counter i) cell
+      ≡ decided false (is_blinked_away c a cell) (is_underlined c a cell) (is_glyph_dot a cell.character (glyph_row h cell c.beam.scan) i)
+  unfolding is_foreground
+  by_glyph i e =
+      ap (λ v. decided v (is_blinked_away c a cell) (is_underlined c a cell) (is_glyph_dot a cell.character (glyph_row h cell c.beam.scan) i)) e
 
 -- ---- the colours of dots by what is shown
 
@@ -231,32 +283,23 @@ module _ (d : DisplayState) (counter : ℕ) where
       ∙ shade_if (is_foreground d.host d.crtc d.attr (dot_of_counter counter i) cell) (field cell.attribute 3 0) (background d.attr cell)
       ∙ text_shown i shows
 
--- ---- what decides whether a dot has its cell's foreground
-
-abbrev decided : Bool → Bool → Bool → Bool → Bool
-decided cursor blinked underlined dot = if cursor then true else if blinked then false else if underlined then true else dot
-
-module _ (h : HostState) (c : CrtcState) (a : AttrState) (cell : Cell) (counter : ℕ) where
-  abbrev glyph : ℕ → Bool
-  glyph i = is_glyph_dot a cell.character (glyph_row h cell c.beam.scan) i
-
-  pub by_cursor : (i : ℕ) → is_cursor_at c counter ≡ true → is_foreground h c a (dot_of_counter counter i) cell ≡ true
-  unfolding is_foreground
-  by_cursor i e = ap (λ v. decided v (is_blinked_away c a cell) (is_underlined c a cell) (glyph i)) e
-
-  pub by_blinking : (i : ℕ) → is_cursor_at c counter ≡ false → is_blinked_away c a cell ≡ true → is_foreground h c a (dot_of_counter counter i) cell ≡ false
-  unfolding is_foreground
-  by_blinking i e f = ap (λ v. decided v (is_blinked_away c a cell) (is_underlined c a cell) (glyph i)) e
-      ∙ ap (λ v. decided false v (is_underlined c a cell) (glyph i)) f
-
-  pub by_underline : (i : ℕ) → is_cursor_at c counter ≡ false → is_blinked_away c a cell ≡ false → is_underlined c a cell ≡ true →
-      is_foreground h c a (dot_of_counter counter i) cell ≡ true
-  unfolding is_foreground
-  by_underline i e f g = ap (λ v. decided v (is_blinked_away c a cell) (is_underlined c a cell) (glyph i)) e
-      ∙ ap (λ v. decided false v (is_underlined c a cell) (glyph i)) f ∙ ap (λ v. decided false false v (glyph i)) g
-
-  pub by_glyph : (i : ℕ) → is_cursor_at c counter ≡ false → is_blinked_away c a cell ≡ false → is_underlined c a cell ≡ false →
-      is_foreground h c a (dot_of_counter counter i) cell ≡ glyph i
-  unfolding is_foreground
-  by_glyph i e f g = ap (λ v. decided v (is_blinked_away c a cell) (is_underlined c a cell) (glyph i)) e
-      ∙ ap (λ v. decided false v (is_underlined c a cell) (glyph i)) f ∙ ap (λ v. decided false false v (glyph i)) g
+  -- without the cursor a dot has the colour of the glyph or of the others
+  pub cursorless_dot : (glyph ground : List ℕ) (lit : Bool) (i : ℕ) → ShowsText d
+      → glyph ≡ colour_by_palette d.attr d.dac (cursorless_nibble d.crtc d.attr cell true)
+      → ground ≡ colour_by_palette d.attr d.dac (cursorless_nibble d.crtc d.attr cell false)
+      → is_cursor_at d.crtc counter ≡ false → lit ≡ is_glyph_dot d.attr cell.character (glyph_row d.host cell d.crtc.beam.scan) i
+      → (if lit then glyph else ground) ≡ colour_of_source_dot d (dot_of_counter counter i)
+  unfolding text_nibble
+  cursorless_dot glyph ground lit i shows is_glyph is_ground no_cursor is_lit =
+      let fore = field cell.attribute 3 0 in
+      let back = background d.attr cell in
+      let colour = colour_by_palette d.attr d.dac in
+      let blinked = is_blinked_away d.crtc d.attr cell in
+      let underlined = is_underlined d.crtc d.attr cell in
+      ap (λ x. if lit then x else ground) is_glyph
+      ∙ ap (λ x. if lit then colour (cursorless_nibble d.crtc d.attr cell true) else x) is_ground
+      ∙ shade_if lit (cursorless_nibble d.crtc d.attr cell true) (cursorless_nibble d.crtc d.attr cell false)
+      ∙ ap colour (by_look blinked underlined lit fore back)
+      ∙ ap (λ v. colour (if decided false blinked underlined v then fore else back)) is_lit
+      ∙ ap (λ v. colour (if v then fore else back)) (sym (by_glyph d.host d.crtc d.attr cell counter i no_cursor))
+      ∙ text_shown i shows

@@ -12,7 +12,7 @@ use Rattle.vga_attr.specs.Fields.{is_palette_shown, overscan}
 use Rattle.vga_attr.specs.Colour.{colour_index}
 use Rattle.vga_dac.specs.Dac.{DacState}
 use Rattle.vga_dots.specs.declared.source_dot.SourceDot.{SourceDot}
-use Rattle.vga_dots.specs.SourceDot.{panning_shift, counter_of, source_at, source_dot}
+use Rattle.vga_dots.specs.SourceDot.{panning_shift, counter_of, source_dot_of_number, source_dot}
 use Rattle.vga_dots.specs.Text.{text_nibble, is_foreground, is_underlined, is_blinked_away, is_cursor_at}
 use Rattle.vga_dots.specs.Graphics.{planar_nibble, packed_byte}
 use Rattle.vga_dots.specs.Colour.{dot_colour, colour_number, nibble}
@@ -34,12 +34,12 @@ distribute false false false false a d n1 n2 n3 n4 = refl
 
 -- the colour of a dot of the line, by where it comes from
 line_source : (d : DisplayState) (x k : ℕ) → dot_colour d.host (with_beam_at d.crtc x k) d.attr d.dac
-    ≡ colour_of_source_dot d (source_at (with_beam_at d.crtc x k) (character_width d.host) (k + panning_shift d.host d.crtc d.attr))
+    ≡ colour_of_source_dot d (source_dot_of_number (with_beam_at d.crtc x k) (character_width d.host) (k + panning_shift d.host d.crtc d.attr))
 unfolding dot_colour colour_number nibble source_dot panning_shift colour_of_source_dot text_nibble is_foreground is_underlined is_blinked_away is_cursor_at
     planar_nibble
     packed_byte
 line_source d x k =
-    let s : SourceDot = source_at (with_beam_at d.crtc x k) (character_width d.host) (k + panning_shift d.host d.crtc d.attr) in
+    let s : SourceDot = source_dot_of_number (with_beam_at d.crtc x k) (character_width d.host) (k + panning_shift d.host d.crtc d.attr) in
     distribute (is_screen_off d.host) (not (is_palette_shown d.attr)) (is_256_colours d.host) (is_graphics d.host) d.attr d.dac (overscan d.attr)
     (packed_byte d.host d.crtc s) (planar_nibble d.host d.crtc s) (text_nibble d.host d.crtc d.attr s)
 

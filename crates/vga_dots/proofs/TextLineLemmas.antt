@@ -1,5 +1,5 @@
 -- What is looked up once for a line is what each of its characters asks for.
-use Rattle.std.proofs.Common.{◌≡◌, ℕ, ◌+◌, ◌*◌, ◌/◌, ◌%◌, ◌<◌, refl, sym, ap, ◌∙◌, arith, Bool, true, false}
+use Rattle.std.proofs.Common.{◌≡◌, ℕ, ◌+◌, ◌*◌, ◌/◌, ◌%◌, ◌<◌, ◌≤◌, refl, sym, ap, ◌∙◌, arith, Bool, true, false}
 use Rattle.std.specs.Prelude.{◌==◌, ◌&&◌, not, nat_lt, nat_le, bit_and, if◌then◌else◌}
 use Rattle.std.specs.Int.{bit_at}
 use Rattle.std.proofs.lemmas.Bool.{ne_eqb}
@@ -15,7 +15,7 @@ use Rattle.vga_crtc.specs.Fields.{cursor_start, is_cursor_off, cursor_end, curso
 use Rattle.vga_attr.specs.Attr.{AttrState}
 use Rattle.vga_attr.specs.Fields.{is_monochrome, is_line_graphics, is_blink}
 use Rattle.vga_dots.specs.declared.text.Cell.{Cell}
-use Rattle.vga_dots.specs.declared.text_line.TextLine.{TextLine}
+use Rattle.vga_dots.specs.declared.text_line.TextLineSettings.{TextLineSettings}
 use Rattle.vga_dots.specs.Text.{map_start, glyph_row, is_glyph_dot, is_underlined, is_blinked_away, is_cursor_at, background}
 use Rattle.vga_dots.specs.TextLine.{text_line}
 
@@ -107,27 +107,32 @@ module _ (h : HostState) (c : CrtcState) (a : AttrState) where
   unfolding text_line
   graphics = refl
 
+-- one of two addresses of glyphs is as low as both
+pub glyphs_bound : (which : Bool) (x y place : ℕ) → x ≤ 57375 → y ≤ 57375 → place ≡ (if which then x else y) → place ≤ 57375
+glyphs_bound true x y place below_x below_y e = omega (arith, e, below_x)
+glyphs_bound false x y place below_x below_y e = omega (arith, e, below_y)
+
 -- what the settings of the beam's line say of a cell, from what a function answered
-module _ (h : HostState) (c : CrtcState) (a : AttrState) (line : TextLine) (is : line ≡ text_line h c a) (cell : Cell) where
+module _ (h : HostState) (c : CrtcState) (a : AttrState) (line : TextLineSettings) (is : line ≡ text_line h c a) (cell : Cell) where
   pub cursor_at : (n : ℕ) (v : Bool) → n < 65536 → v ≡ (n == line.cursor) → is_cursor_at c n ≡ v
-  cursor_at n v below e = sym (e ∙ ap (λ (x : TextLine). n == x.cursor) is ∙ cursor h c a n below)
+  cursor_at n v below e = sym (e ∙ ap (λ (x : TextLineSettings). n == x.cursor) is ∙ cursor h c a n below)
 
   pub blinked_away : (v : Bool) → cell.attribute < 256 → v ≡ not (bit_and cell.attribute line.blinked_away == 0) → is_blinked_away c a cell ≡ v
-  blinked_away v below e = sym (e ∙ ap (λ (x : TextLine). not (bit_and cell.attribute x.blinked_away == 0)) is ∙ blinked h c a cell below)
+  blinked_away v below e = sym (e ∙ ap (λ (x : TextLineSettings). not (bit_and cell.attribute x.blinked_away == 0)) is ∙ blinked h c a cell below)
 
   pub underlined : (v : Bool) → v ≡ (bit_and cell.attribute 0x77 == line.underlined) → is_underlined c a cell ≡ v
-  underlined v e = sym (e ∙ ap (λ (x : TextLine). bit_and cell.attribute 0x77 == x.underlined) is ∙ underline h c a cell)
+  underlined v e = sym (e ∙ ap (λ (x : TextLineSettings). bit_and cell.attribute 0x77 == x.underlined) is ∙ underline h c a cell)
 
   pub row_of_glyph : (place : ℕ) → place ≡ (if is_set cell.attribute 3 then line.map_a else line.map_b) + 32 * cell.character →
       byte_at h.memory 2 place ≡ glyph_row h cell c.beam.scan
-  row_of_glyph place e = ap (byte_at h.memory 2) (e ∙ ap (λ (x : TextLine). (if is_set cell.attribute 3 then x.map_a else x.map_b) + 32 * cell.character) is)
+  row_of_glyph place e = ap (byte_at h.memory 2) (e ∙ ap (λ (x : TextLineSettings). (if is_set cell.attribute 3 then x.map_a else x.map_b) + 32 * cell.character) is)
       ∙ row h c a cell
 
   pub background_of : (v : ℕ) → v ≡ bit_and (cell.attribute / 16) line.background_mask → v ≡ background a cell
-  background_of v e = e ∙ ap (λ (x : TextLine). bit_and (cell.attribute / 16) x.background_mask) is ∙ blinking h c a cell
+  background_of v e = e ∙ ap (λ (x : TextLineSettings). bit_and (cell.attribute / 16) x.background_mask) is ∙ blinking h c a cell
 
   pub line_graphics : line.nine_dot_block ≡ (if is_line_graphics a then 6 else 8)
-  line_graphics = ap (λ (x : TextLine). x.nine_dot_block) is ∙ graphics h c a
+  line_graphics = ap (λ (x : TextLineSettings). x.nine_dot_block) is ∙ graphics h c a
 
 -- the ninth dot of a row
 pub ninth_dot : (a : AttrState) (block character row v : ℕ) → character < 256 → block ≡ (if is_line_graphics a then 6 else 8) →

@@ -16,7 +16,8 @@ pub record DisplayState : Type 0 where
   pub attr : AttrState
   pub dac : DacState
 
--- these four parts together
+-- the display of these four parts: its host path, its CRT controller, its attribute controller and
+-- its DAC
 abbrev pub display_of : HostState → CrtcState → AttrState → DacState → DisplayState
 display_of host crtc attr dac = record { host = host; crtc = crtc; attr = attr; dac = dac }
 
@@ -25,19 +26,19 @@ pub record ShowsMemory (display : DisplayState) : Type 0 where
   pub on : is_screen_off display.host ≡ false
   pub shown : is_palette_shown display.attr ≡ true
 
--- it is shown as text
+-- memory is shown as text
 pub record ShowsText (display : DisplayState) : Type 0 where
   pub memory : ShowsMemory display
   pub few : is_256_colours display.host ≡ false
   pub text : is_graphics display.host ≡ false
 
--- it is shown as dots of 16 colours: each plane has one bit of a dot
+-- memory is shown as dots of 16 colours: each plane has one bit of a dot
 pub record ShowsPlanes (display : DisplayState) : Type 0 where
   pub memory : ShowsMemory display
   pub few : is_256_colours display.host ≡ false
   pub graphics : is_graphics display.host ≡ true
 
--- it is shown as dots of 256 colours: each byte is two dots
+-- memory is shown as dots of 256 colours: each byte is two dots
 pub record ShowsBytes (display : DisplayState) : Type 0 where
   pub memory : ShowsMemory display
   pub many : is_256_colours display.host ≡ true

@@ -12,13 +12,13 @@ use Rattle.vga_attr.specs.Attr.{AttrState}
 use Rattle.vga_dots.specs.SourceDot.{source_dot, fetch_address}
 
 -- the address in each plane that the dot at the beam fetches
-abbrev pub fetched_address : HostState → CrtcState → AttrState → ℕ
-fetched_address h c a = fetch_address c.registers (source_dot h c a).counter
+abbrev pub address_fetched_at_beam : HostState → CrtcState → AttrState → ℕ
+address_fetched_at_beam h c a = fetch_address c.registers (source_dot h c a).counter
 
 -- another memory has the same bytes where the dot at the beam fetches them and, in text, the same
 -- glyphs
 pub record DotSeesSameBytes (h : HostState) (c : CrtcState) (a : AttrState)
     (memory : Four (List ℕ)) : Type 0 where
   pub fetched : (p : ℕ) → p < 4 →
-      byte_at memory p (fetched_address h c a) ≡ byte_at h.memory p (fetched_address h c a)
+      byte_at memory p (address_fetched_at_beam h c a) ≡ byte_at h.memory p (address_fetched_at_beam h c a)
   pub glyphs : is_graphics h ≡ false → (i : ℕ) → byte_at memory 2 i ≡ byte_at h.memory 2 i

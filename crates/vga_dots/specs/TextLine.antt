@@ -11,7 +11,7 @@ use Rattle.vga_crtc.specs.Fields.{cursor_start, is_cursor_off, cursor_end, curso
 use Rattle.vga_crtc.specs.Fields.{underline_location}
 use Rattle.vga_attr.specs.Attr.{AttrState}
 use Rattle.vga_attr.specs.Fields.{is_monochrome, is_line_graphics, is_blink}
-use Rattle.vga_dots.specs.declared.text_line.TextLine.{TextLine}
+use Rattle.vga_dots.specs.declared.text_line.TextLineSettings.{TextLineSettings}
 use Rattle.vga_dots.specs.Text.{map_start}
 
 -- What the registers and the beam's line and frame say of every character: where this line has the
@@ -19,7 +19,7 @@ use Rattle.vga_dots.specs.Text.{map_start}
 -- here, where the glyphs' rows begin, which block of 32 characters has a ninth dot, and which bits
 -- the background has. 65536 is no counter, bits 0x77 are never 0xFF, and no block of 32 characters
 -- is 8.
-unfoldable pub text_line : HostState → CrtcState → AttrState → TextLine
+unfoldable pub text_line : HostState → CrtcState → AttrState → TextLineSettings
 text_line h c a = record {
   cursor = if not (is_cursor_off c.registers) && nat_le (cursor_start c.registers) c.beam.scan
       && nat_le c.beam.scan (cursor_end c.registers) && nat_lt (c.beam.frame % 16) 8
@@ -33,6 +33,6 @@ text_line h c a = record {
 }
 
 -- the rows of all glyphs of a line are in their plane, in either map
-pub record HasGlyphs (line : TextLine) : Type 0 where
+pub record GlyphRowsLieInPlane (line : TextLineSettings) : Type 0 where
   pub map_a : line.map_a ≤ 57375
   pub map_b : line.map_b ≤ 57375

@@ -6,7 +6,7 @@ ghost use Rattle.vga_crtc.specs.Fields.{horizontal_display_end};
 ghost use Rattle.vga_attr.specs.Attr.{AttrState};
 ghost use Rattle.vga_dots.specs.SourceDot.{fetch_address};
 ghost use Rattle.vga_dots.specs.Addressing.{addressing_of};
-ghost use Rattle.vga_dots.specs.Fetch.{fetched_address};
+ghost use Rattle.vga_dots.specs.Fetch.{address_fetched_at_beam};
 ghost use Rattle.vga_dots.specs.Line.{with_beam_at};
 
 use vga_crtc::{Crtc, Registers};
@@ -14,7 +14,7 @@ use vga_crtc::{Crtc, Registers};
 /// A bit that no counter has.
 const NO_BIT: u32 = 16;
 
-/// What the registers say of every fetch address.
+/// How a counter becomes a fetch address: by what it is multiplied, and which of its bits is added.
 #[derive(Clone, Copy)]
 pub(crate) struct Addressing {
     /// How far apart in each plane the addresses of two adjacent counters are.
@@ -64,7 +64,7 @@ impl Addressing {
 pub fn is_not_fetched(crtc: &Crtc, offset: u16) -> bool
     ensures { result ≡ true → (h : HostState) (a : AttrState) (x k : ℕ) →
         x ≤ horizontal_display_end crtc.now.registers
-        → ¬ (fetched_address h (with_beam_at crtc.now x k) a ≡ offset) }
+        → ¬ (address_fetched_at_beam h (with_beam_at crtc.now x k) a ≡ offset) }
 {
     let registers = crtc.fields();
     let step = Addressing::new(registers).step;

@@ -17,7 +17,7 @@ const CHARACTER_BYTES: usize = 27;
 
 /// How many of the `count` characters of text from `first` on must be drawn. Each character after
 /// these looks like the last that is drawn.
-pub(crate) fn characters_to_draw(
+pub(crate) fn count_characters_to_draw(
     display: &Display<'_>,
     characters: &TextCharacters,
     first: usize,

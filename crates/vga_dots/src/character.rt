@@ -1,12 +1,12 @@
 //! The characters of a line in text, 16 colours and 256 colours. What a character needs is fetched
 //! once for all its dots.
-ghost use Rattle.std.specs.Prelude.{◌≡◌, true, ℕ, ◌+◌, ◌-◌, ◌*◌, ◌<◌, ◌≤◌, length};
+ghost use Rattle.std.specs.Prelude.{◌≡◌, true, not, ℕ, ◌+◌, ◌-◌, ◌*◌, ◌==◌, ◌<◌, ◌≤◌, length};
+ghost use Rattle.std.specs.Prelude.{bit_and};
 ghost use Rattle.std.specs.Prelude.{if◌then◌else◌};
 ghost use Rattle.vga_bits.specs.Bits.{is_set};
 ghost use Rattle.vga_attr.specs.Fields.{is_line_graphics};
-ghost use Rattle.vga_dots.specs.Text.{is_glyph_dot as is_dot_of_glyph, is_foreground};
+ghost use Rattle.vga_dots.specs.Text.{is_glyph_dot as is_dot_of_glyph, is_cursor_at};
 ghost use Rattle.vga_dots.specs.Text.{cell_at as cell_at_place};
-ghost use Rattle.vga_dots.specs.TextLine.{text_line, HasGlyphs};
 ghost use Rattle.vga_dots.specs.Row.{AreDotsPut, colour_and_zero_byte as colour_and_zero_byte_of};
 ghost use Rattle.vga_dots.specs.Line.{masked_colour as masked_colour_of, colour_by_palette};
 ghost use Rattle.vga_dots.specs.Line.{sixteen_palette_colours as colours_by_palette_of};
@@ -14,7 +14,7 @@ ghost use Rattle.vga_dots.specs.Line.{dot_of_counter};
 ghost use Rattle.vga_dots.specs.Line.{colour_of_source_dot};
 ghost use Rattle.vga_dots.specs.Quads.{IsFourDotsOfColour};
 ghost use Rattle.vga_dots.specs.SourceDot.{fetch_address};
-ghost use Rattle.vga_dots.specs.Character.{HasPaletteColours};
+ghost use Rattle.vga_dots.specs.Character.{IsLookOfItsCells};
 ghost use Rattle.vga_dots.specs.Display.{ShowsText, ShowsPlanes};
 ghost use Rattle.vga_dots.specs.Alike.{IsCursorlessCell};
 
@@ -22,8 +22,8 @@ use crate::addressing::Addressing;
 use crate::display::Display;
 use crate::quads::{Quad, put_glyph};
 use crate::row::{PaletteColours, put_packed_character, put_planar_character};
-use crate::text::{Cell, GLYPHS, cell_at};
-use crate::text_line::TextLine;
+use crate::text::{Cell, GLYPH_BYTES, PLANE_OF_GLYPHS, cell_at};
+use crate::text_line::TextLineSettings;
 use vga_attr::Attr;
 use vga_dac::Dac;
 
@@ -79,7 +79,7 @@ fn quad_of(display: &Display<'_>, n: u8) -> Quad
 
 /// The dots of one line of a glyph, as bits. Bit 8 is the leftmost dot.
 #[inline(always)]
-fn glyph_dots(attr: &Attr, line: &TextLine, character: u8, row: u8) -> u16
+fn glyph_dots(attr: &Attr, line: &TextLineSettings, character: u8, row: u8) -> u16
     requires line { line.now.nine_dot_block ≡ (if is_line_graphics attr.now then 6 else 8) }
     ensures dots { (i : ℕ) → i < 9 → is_set result (8 - i)
         ≡ is_dot_of_glyph attr.now character row i }
@@ -88,38 +88,35 @@ fn glyph_dots(attr: &Attr, line: &TextLine, character: u8, row: u8) -> u16
     2 * row as u16 + line.ninth_dot(character, row) as u16
 }
 
-/// The dots of a counter's cell that have its foreground, as bits. Bit 8 is the leftmost dot.
-#[inline(always)]
-fn foreground_dots(display: &Display<'_>, line: &TextLine, counter: u16, cell: Cell) -> u16
-    requires line { line.now ≡ text_line display.now.host display.now.crtc display.now.attr }
-    requires glyphs { HasGlyphs line.now }
-    ensures dots { (i : ℕ) → i < 9 → is_set result (8 - i)
-        ≡ is_foreground display.now.host display.now.crtc display.now.attr (dot_of_counter counter
-        i) cell }
-    ensures nine { result < 512 }
+/// Which of foreground and background the dots of a glyph have without the cursor, and which the
+/// others.
+fn glyph_and_ground(line: &TextLineSettings, attribute: u8, fore: Quad, back: Quad) -> (Quad, Quad)
+    ensures { result ≡ (if not (bit_and attribute line.now.blinked_away == 0) then (back, back)
+        else if bit_and attribute 0x77 == line.now.underlined then (fore, fore) else (fore, back)) }
 {
-    if line.has_cursor_at(counter) {
-        ALL_DOTS
-    } else if line.blinks_away(cell) {
-        0
-    } else if line.underlines(cell) {
-        ALL_DOTS
+    if line.blinks_away(attribute) {
+        (back, back)
+    } else if line.underlines(attribute) {
+        (fore, fore)
     } else {
-        let row = display.planes().byte(GLYPHS, line.glyph_row_address(cell));
-        glyph_dots(display.attr(), line, cell.character, row)
+        (fore, back)
     }
 }
 
-/// The two colours of the cells of an attribute, four dots of each.
+/// How the cells of an attribute look on a line without the cursor: four dots of the colour of a
+/// glyph's dots, four of the colour of the others, and where the glyphs are. If the cells are
+/// blinked away or underlined, both colours are the same.
 #[derive(Clone, Copy)]
-pub(crate) struct CellColours {
+pub(crate) struct CellLook {
     pub attribute: u8,
-    pub fore: Quad,
-    pub back: Quad,
+    pub glyph: Quad,
+    pub ground: Quad,
+    /// The address in its plane of the beam's line of the first glyph.
+    pub glyphs: u16,
 }
 
 /// A way to draw the characters of a line of graphics, which are `CW` dots wide.
-pub(crate) trait Characters<const CW: usize> {
+pub(crate) trait CharacterDrawing<const CW: usize> {
     ghost use Rattle.vga_dots.specs.Display.{DisplayState};
 
     ghost draws: { Self → DisplayState → Type 0 };
@@ -138,20 +135,20 @@ pub(crate) trait Characters<const CW: usize> {
 #[derive(Drop)]
 pub(crate) struct TextCharacters {
     addressing: Addressing,
-    line: TextLine,
+    line: TextLineSettings,
 }
 
 impl TextCharacters {
     ghost use Rattle.vga_dots.specs.Character.{AreTextCharactersOf};
 
-    /// Those of the beam's line.
+    /// The characters of text of the beam's line.
     pub(crate) fn at_beam(display: &Display<'_>) -> TextCharacters
         requires { ShowsText display.now }
         ensures { AreTextCharactersOf result display.now }
     {
         TextCharacters {
             addressing: Addressing::new(display.crtc().fields()),
-            line: TextLine::at_beam(display),
+            line: TextLineSettings::at_beam(display),
         }
     }
 
@@ -174,35 +171,37 @@ impl TextCharacters {
         self.cell(display, counter).is_same(cell) && !self.line.has_cursor_at(counter)
     }
 
-    /// The colours of an attribute.
-    pub(crate) fn colours(&self, display: &Display<'_>, attribute: u8) -> CellColours
+    /// How the cells of an attribute look.
+    pub(crate) fn look(&self, display: &Display<'_>, attribute: u8) -> CellLook
         requires { AreTextCharactersOf self.now display.now }
-        ensures colours { HasPaletteColours result display.now }
+        ensures look { IsLookOfItsCells result display.now }
         ensures attribute { result.attribute ≡ attribute }
     {
-        CellColours {
+        let fore = quad_of(display, attribute % 16);
+        let back = quad_of(display, self.line.background(attribute));
+        let (glyph, ground) = glyph_and_ground(&self.line, attribute, fore, back);
+        CellLook {
             attribute,
-            fore: quad_of(display, attribute % 16),
-            back: quad_of(display, self.line.background(attribute)),
+            glyph,
+            ground,
+            glyphs: self.line.glyphs_of(attribute),
         }
     }
 
-    /// Writes the dots of a counter's character. It has this cell, with these colours.
-    #[inline(always)]
-    pub(crate) fn put<const CW: usize>(
+    /// Writes the dots of a counter's character, which has the cursor.
+    #[inline(never)]
+    fn put_cursor<const CW: usize>(
         &self,
         display: &Display<'_>,
         counter: u16,
         cell: Cell,
-        colours: CellColours,
         row: &mut [u8],
         at: usize,
     )
         requires draws { AreTextCharactersOf self.now display.now }
         requires cell { cell ≡ cell_at_place display.now.host
             (fetch_address display.now.crtc.registers counter) }
-        requires colours { HasPaletteColours colours display.now }
-        requires attribute { colours.attribute ≡ cell.attribute }
+        requires cursor { is_cursor_at display.now.crtc counter ≡ true }
         requires room { 3 * (at + CW) ≤ length row.old }
         requires width { CW < 10 }
         requires eight { 8 ≤ CW }
@@ -210,8 +209,41 @@ impl TextCharacters {
             i)) row.old
             row.new }
     {
-        let lit = foreground_dots(display, &self.line, counter, cell);
-        put_glyph::<CW>(row, at, lit, colours.fore, colours.back);
+        let fore = quad_of(display, cell.attribute % 16);
+        put_glyph::<CW>(row, at, ALL_DOTS, fore, fore);
+    }
+
+    /// Writes the dots of a counter's character. It has this cell, which looks like this.
+    #[inline(always)]
+    pub(crate) fn put<const CW: usize>(
+        &self,
+        display: &Display<'_>,
+        counter: u16,
+        cell: Cell,
+        look: CellLook,
+        row: &mut [u8],
+        at: usize,
+    )
+        requires draws { AreTextCharactersOf self.now display.now }
+        requires cell { cell ≡ cell_at_place display.now.host
+            (fetch_address display.now.crtc.registers counter) }
+        requires look { IsLookOfItsCells look display.now }
+        requires attribute { look.attribute ≡ cell.attribute }
+        requires room { 3 * (at + CW) ≤ length row.old }
+        requires width { CW < 10 }
+        requires eight { 8 ≤ CW }
+        ensures { AreDotsPut CW at (λ i. colour_of_source_dot display.now (dot_of_counter counter
+            i)) row.old
+            row.new }
+    {
+        if self.line.has_cursor_at(counter) {
+            self.put_cursor::<CW>(display, counter, cell, row, at);
+            return;
+        }
+        let place = look.glyphs + GLYPH_BYTES * cell.character as u16;
+        let byte = display.planes().byte(PLANE_OF_GLYPHS, place);
+        let dots = glyph_dots(display.attr(), &self.line, cell.character, byte);
+        put_glyph::<CW>(row, at, dots, look.glyph, look.ground);
     }
 }
 
@@ -225,7 +257,7 @@ pub(crate) struct PlanarCharacters {
 impl PlanarCharacters {
     ghost use Rattle.vga_dots.specs.Character.{ArePlanarCharactersOf};
 
-    /// Those of any line.
+    /// The characters of a line in 256 colours. They are the same for every line.
     #[inline(always)]
     pub(crate) fn new(display: &Display<'_>) -> PlanarCharacters
         requires { ShowsPlanes display.now }
@@ -238,7 +270,7 @@ impl PlanarCharacters {
     }
 }
 
-impl<const CW: usize> Characters<CW> for PlanarCharacters {
+impl<const CW: usize> CharacterDrawing<CW> for PlanarCharacters {
     ghost use Rattle.vga_dots.specs.Character.{ArePlanarCharactersOf};
 
     ghost draws = { ArePlanarCharactersOf };
@@ -260,7 +292,7 @@ impl PackedCharacters {
     ghost use Rattle.vga_dots.specs.Character.{ArePackedCharactersOf};
     ghost use Rattle.vga_dots.specs.Display.{ShowsBytes};
 
-    /// Those of any line.
+    /// The characters of a line in 16 colours. They are the same for every line.
     pub(crate) fn new(display: &Display<'_>) -> PackedCharacters
         requires { ShowsBytes display.now }
         ensures { ArePackedCharactersOf result display.now }
@@ -271,7 +303,7 @@ impl PackedCharacters {
     }
 }
 
-impl<const CW: usize> Characters<CW> for PackedCharacters {
+impl<const CW: usize> CharacterDrawing<CW> for PackedCharacters {
     ghost use Rattle.vga_dots.specs.Character.{ArePackedCharactersOf};
 
     ghost draws = { ArePackedCharactersOf };

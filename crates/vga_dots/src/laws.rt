@@ -17,7 +17,7 @@ ghost use Rattle.vga_dots.specs.Seen.{DotsSeeSameRegisters};
 /// In graphics, two lines have the same colours if they begin at the same counter and line compare
 /// was reached before both or before neither. No colour depends on the scan line.
 #[tactic(auto, using(crate::proofs::RepeatLemmas::same_colour))]
-pub fn graphics_lines_repeat()
+pub fn graphics_lines_depend_on_counter()
     ensures { (h : HostState) (c : CrtcState) (b : Beam) (a : AttrState) (d : DacState) (x k : ℕ) →
         is_graphics h ≡ true → BeginAtSameFetch b c.beam →
         dot_colour h (with_beam_at (record c { beam = b }) x k) a d ≡ dot_colour h

@@ -18,4 +18,4 @@ mod text_line;
 pub use addressing::is_not_fetched;
 pub use colour::dot_colour;
 pub use display::Display;
-pub use line::{MOST_PART, draw_line, draw_part, shown_characters};
+pub use line::{MOST_DOTS_OF_PART, draw_line, draw_part, shown_characters};

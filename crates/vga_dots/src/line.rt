@@ -8,9 +8,9 @@ ghost use Rattle.vga_dots.specs.Row.{AreCharactersPut};
 ghost use Rattle.vga_dots.specs.Line.{shown_characters as characters_shown, unpanned_colour};
 ghost use Rattle.vga_dots.specs.Line.{IsLineDrawn, IsPartDrawn};
 
-use crate::alike::{characters_to_draw, repeat_last_character};
+use crate::alike::{count_characters_to_draw, repeat_last_character};
 use crate::character::{
-    Characters, PackedCharacters, PlanarCharacters, TextCharacters, masked_colour,
+    CharacterDrawing, PackedCharacters, PlanarCharacters, TextCharacters, masked_colour,
 };
 use crate::colour::BLACK;
 use crate::display::Display;
@@ -26,7 +26,7 @@ use vga_host::Host;
 const UNPANNED_BYTES: usize = 6_939;
 
 /// The most dots of a part of a line.
-pub const MOST_PART: usize = 128;
+pub const MOST_DOTS_OF_PART: usize = 128;
 
 /// The attribute of most text: grey on black.
 const USUAL_ATTRIBUTE: u8 = 0x07;
@@ -50,7 +50,7 @@ pub fn shown_characters(registers: &Registers) -> u16
 
 /// Draws `count` characters of the beam's line from `first` on, all in one way, as if the line were
 /// not panned.
-fn draw_characters_alike<const CW: usize, C: Characters<CW>>(
+fn draw_graphics_characters<const CW: usize, C: CharacterDrawing<CW>>(
     display: &Display<'_>,
     characters: &C,
     first: usize,
@@ -65,15 +65,15 @@ fn draw_characters_alike<const CW: usize, C: Characters<CW>>(
     ensures { AreCharactersPut CW count (λ x. unpanned_colour display.now (first + x)) row.old
         row.new }
 {
+    let start = display.counter(first as u16);
     for x in 0..count {
-        let counter = display.counter((first + x) as u16);
-        characters.put(display, counter, row, x * CW);
+        characters.put(display, start.wrapping_add(x as u16), row, x * CW);
     }
 }
 
 /// Draws `count` characters of text one by one, from `first` on, as if the line were not panned.
-/// Most of them have the attribute of the one before, so colours are looked up only where the
-/// attribute changes.
+/// Most of them have the attribute of the one before, so what an attribute decides is looked up
+/// only where it changes.
 fn draw_cells<const CW: usize>(
     display: &Display<'_>,
     characters: &TextCharacters,
@@ -90,20 +90,26 @@ fn draw_cells<const CW: usize>(
     ensures { AreCharactersPut CW count (λ x. unpanned_colour display.now (first + x)) row.old
         row.new }
 {
-    let mut colours = characters.colours(display, USUAL_ATTRIBUTE);
+    let mut look = characters.look(display, USUAL_ATTRIBUTE);
+    let start = display.counter(first as u16);
     for x in 0..count {
-        let counter = display.counter((first + x) as u16);
+        let counter = start.wrapping_add(x as u16);
         let cell = characters.cell(display, counter);
-        if cell.attribute != colours.attribute {
-            colours = characters.colours(display, cell.attribute);
+        if cell.attribute != look.attribute {
+            look = characters.look(display, cell.attribute);
         }
-        characters.put::<CW>(display, counter, cell, colours, row, x * CW);
+        characters.put::<CW>(display, counter, cell, look, row, x * CW);
     }
 }
 
 /// Draws `count` characters of the beam's line, which shows text, from `first` on, as if it were
 /// not panned.
-fn draw_text<const CW: usize>(display: &Display<'_>, first: usize, count: usize, row: &mut [u8])
+fn draw_unpanned_text<const CW: usize>(
+    display: &Display<'_>,
+    first: usize,
+    count: usize,
+    row: &mut [u8],
+)
     requires text { ShowsText display.now }
     requires first { first ≤ 300 }
     requires count { count ≤ 257 }
@@ -117,7 +123,7 @@ fn draw_text<const CW: usize>(display: &Display<'_>, first: usize, count: usize,
         return;
     }
     let characters = TextCharacters::at_beam(display);
-    let drawn = characters_to_draw(display, &characters, first, count);
+    let drawn = count_characters_to_draw(display, &characters, first, count);
     draw_cells::<CW>(display, &characters, first, drawn, row);
     repeat_last_character::<CW>(row, drawn, count);
 }
@@ -140,7 +146,7 @@ fn draw_characters<const CW: usize>(
         row.new }
 {
     if display.host().is_256_colours() {
-        draw_characters_alike::<CW, PackedCharacters>(
+        draw_graphics_characters::<CW, PackedCharacters>(
             display,
             &PackedCharacters::new(display),
             first,
@@ -148,7 +154,7 @@ fn draw_characters<const CW: usize>(
             row,
         );
     } else if display.host().is_graphics() {
-        draw_characters_alike::<CW, PlanarCharacters>(
+        draw_graphics_characters::<CW, PlanarCharacters>(
             display,
             &PlanarCharacters::new(display),
             first,
@@ -156,14 +162,14 @@ fn draw_characters<const CW: usize>(
             row,
         );
     } else {
-        draw_text::<CW>(display, first, count, row);
+        draw_unpanned_text::<CW>(display, first, count, row);
     }
 }
 
 /// Draws the first `count` characters of the beam's line, which shows memory shifted left by
 /// `panning_shift` dots. It draws one character more than it shows into a buffer of its own, and
 /// copies the shown dots from there.
-fn draw_panned<const CW: usize>(
+fn draw_panned_characters<const CW: usize>(
     display: &Display<'_>,
     count: usize,
     panning_shift: usize,
@@ -195,7 +201,7 @@ fn draw_displayed_characters<const CW: usize>(display: &Display<'_>, count: usiz
     if panning_shift == 0 {
         draw_characters::<CW>(display, 0, count, row);
     } else {
-        draw_panned::<CW>(display, count, panning_shift, row);
+        draw_panned_characters::<CW>(display, count, panning_shift, row);
     }
 }
 

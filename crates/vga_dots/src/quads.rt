@@ -30,7 +30,8 @@ const LOW_MASKS: [u64; 16] = [
     0xFFFF_FFFF_FFFF_FFFF,
 ];
 
-/// The last four of the twelve bytes.
+/// For each set of four dots, a word with all bits 1 in the bytes of its dots: the last four of the
+/// twelve bytes.
 const HIGH_MASKS: [u32; 16] = [
     0x0000_0000,
     0xFFFF_FF00,

@@ -11,13 +11,13 @@ pub(crate) type PaletteColours = [[u8; 4]; 16];
 
 /// The four colours of a character in 256 colours, and the colour of its ninth dot, each with a
 /// byte more.
-pub(crate) type Pixels = [[u8; 4]; 5];
+pub(crate) type PackedPixelColours = [[u8; 4]; 5];
 
 /// The lowest bit of each plane of a word.
 const LOWEST_BITS: u32 = 0x0101_0101;
 
 /// The factor that brings the lowest bits of the four planes together in the highest four bits.
-const TOGETHER: u32 = 0x1020_4080;
+const GATHERING_FACTOR: u32 = 0x1020_4080;
 
 /// Writes the three bytes of a dot.
 pub(crate) fn put_dot(row: &mut [u8], at: usize, colour: [u8; 3])
@@ -68,7 +68,7 @@ fn nibble(word: u32, place: u32) -> u8
     ensures small { result < 16 }
 {
     let bits = word & (LOWEST_BITS << place);
-    (bits.wrapping_mul(TOGETHER >> place) >> 28) as u8
+    (bits.wrapping_mul(GATHERING_FACTOR >> place) >> 28) as u8
 }
 
 /// Dot `i`, 0 to 8, of eight dots and a ninth, whose bits are in the planes of a word.
@@ -113,7 +113,11 @@ pub(crate) fn put_planar_character<const CW: usize>(
 }
 
 /// Writes the dots of a character in 256 colours, two for each of its four colours, and a ninth.
-pub(crate) fn put_packed_character<const CW: usize>(row: &mut [u8], at: usize, pixels: &Pixels)
+pub(crate) fn put_packed_character<const CW: usize>(
+    row: &mut [u8],
+    at: usize,
+    pixels: &PackedPixelColours,
+)
     requires room { 3 * (at + CW) ≤ length row.old }
     requires width { CW < 10 }
     ensures { AreDotsPut CW at (λ i. slice_index_or pixels.now (i / 2) []) row.old row.new }

@@ -18,12 +18,13 @@ use vga_bits::is_set;
 use vga_crtc::Crtc;
 use vga_host::Host;
 
-/// The planes of text.
+/// The number of the plane with the characters of text. Attributes and glyphs are in the next two
+/// planes.
 const CHARACTERS: usize = 0;
 
-const ATTRIBUTES: usize = 1;
+const PLANE_OF_ATTRIBUTES: usize = 1;
 
-pub(crate) const GLYPHS: usize = 2;
+pub(crate) const PLANE_OF_GLYPHS: usize = 2;
 
 /// How many bytes a glyph has in its map.
 pub(crate) const GLYPH_BYTES: u16 = 32;
@@ -55,7 +56,7 @@ pub(crate) fn cell_at(host: &Host, address: u16) -> Cell
     let planes = host.planes();
     Cell {
         character: planes.byte(CHARACTERS, address),
-        attribute: planes.byte(ATTRIBUTES, address),
+        attribute: planes.byte(PLANE_OF_ATTRIBUTES, address),
     }
 }
 
@@ -87,7 +88,7 @@ pub(crate) fn glyph_row(host: &Host, cell: Cell, scan: u8) -> u8
 {
     let start = map_start(character_map(host, cell));
     let place = start + GLYPH_BYTES * cell.character as u16 + scan as u16;
-    host.planes().byte(GLYPHS, place)
+    host.planes().byte(PLANE_OF_GLYPHS, place)
 }
 
 /// Whether dot `i` of a row belongs to the glyph.

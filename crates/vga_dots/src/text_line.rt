@@ -5,10 +5,10 @@ ghost use Rattle.vga_bits.specs.Bits.{is_set as is_set_of};
 ghost use Rattle.vga_crtc.specs.Fields.{is_cursor_off, cursor_start, cursor_end, cursor_location};
 ghost use Rattle.vga_crtc.specs.Fields.{underline_location};
 ghost use Rattle.vga_attr.specs.Fields.{is_monochrome, is_line_graphics, is_blink};
-ghost use Rattle.vga_dots.specs.TextLine.{text_line, HasGlyphs};
+ghost use Rattle.vga_dots.specs.TextLine.{text_line, GlyphRowsLieInPlane};
 
 use crate::display::Display;
-use crate::text::{Cell, GLYPH_BYTES, UNDERLINE_BITS, map_start};
+use crate::text::{UNDERLINE_BITS, map_start};
 use vga_attr::Attr;
 use vga_bits::is_set;
 use vga_crtc::Crtc;
@@ -42,7 +42,7 @@ const ALL_BACKGROUNDS: u8 = 0x0F;
 /// field is a number that never matches, or a mask without bits. So a character needs one
 /// comparison for it.
 #[derive(Clone, Copy)]
-pub struct TextLine {
+pub struct TextLineSettings {
     /// The counter of the cursor if this line shows it, else 65,536, which no counter equals.
     pub cursor: u32,
     /// The attribute bit whose characters are blinked away, or 0 if none are.
@@ -62,7 +62,7 @@ pub struct TextLine {
 }
 
 /// Whether the beam's line shows the cursor in the beam's frame.
-fn has_cursor(crtc: &Crtc) -> bool
+fn beam_line_has_cursor(crtc: &Crtc) -> bool
     ensures { result ≡ (not (is_cursor_off crtc.now.registers)
         && nat_le (cursor_start crtc.now.registers) crtc.now.beam.scan
         && nat_le crtc.now.beam.scan (cursor_end crtc.now.registers)
@@ -84,7 +84,7 @@ fn shown_cursor_counter(crtc: &Crtc) -> u32
         && nat_lt (crtc.now.beam.frame % 16) 8 then cursor_location crtc.now.registers
         else 65536) }
 {
-    if has_cursor(crtc) {
+    if beam_line_has_cursor(crtc) {
         crtc.fields().cursor_location() as u32
     } else {
         NO_COUNTER
@@ -138,20 +138,20 @@ fn background_mask(attr: &Attr) -> u8
     }
 }
 
-impl TextLine {
+impl TextLineSettings {
     /// What the beam's line decides. It is never inlined into the loop that draws: a compiler that
     /// saw how the numbers are made would compute them again for each character.
     #[inline(never)]
     #[tactic(auto, unfolding(crate::specs::TextLine::text_line))]
-    pub(crate) fn at_beam(display: &Display<'_>) -> TextLine
+    pub(crate) fn at_beam(display: &Display<'_>) -> TextLineSettings
         ensures value { result ≡ text_line display.now.host display.now.crtc display.now.attr }
-        ensures glyphs { HasGlyphs result }
+        ensures glyphs { GlyphRowsLieInPlane result }
     {
         let host = display.host();
         let crtc = display.crtc();
         let attr = display.attr();
         let beam = crtc.beam();
-        TextLine {
+        TextLineSettings {
             cursor: shown_cursor_counter(crtc),
             blinked_away: blinked_away(attr, beam.frame),
             underlined: underlined(display),
@@ -170,35 +170,29 @@ impl TextLine {
         counter as u32 == self.cursor
     }
 
-    /// Whether a cell is blinked away.
-    #[inline(always)]
-    pub(crate) fn blinks_away(&self, cell: Cell) -> bool
-        ensures { result ≡ not (bit_and cell.attribute self.now.blinked_away == 0) }
+    /// Whether the cells of an attribute are blinked away.
+    pub(crate) fn blinks_away(&self, attribute: u8) -> bool
+        ensures { result ≡ not (bit_and attribute self.now.blinked_away == 0) }
     {
-        cell.attribute & self.blinked_away != 0
+        attribute & self.blinked_away != 0
     }
 
-    /// Whether a cell has its underline here.
-    #[inline(always)]
-    pub(crate) fn underlines(&self, cell: Cell) -> bool
-        ensures { result ≡ (bit_and cell.attribute 0x77 == self.now.underlined) }
+    /// Whether the cells of an attribute have their underline here.
+    pub(crate) fn underlines(&self, attribute: u8) -> bool
+        ensures { result ≡ (bit_and attribute 0x77 == self.now.underlined) }
     {
-        cell.attribute & UNDERLINE_BITS == self.underlined
+        attribute & UNDERLINE_BITS == self.underlined
     }
 
-    /// The address in its plane of the row of a cell's glyph.
-    #[inline(always)]
-    pub(crate) fn glyph_row_address(&self, cell: Cell) -> u16
-        requires { HasGlyphs self.now }
-        ensures { result ≡ (if is_set_of cell.attribute 3 then self.now.map_a else self.now.map_b)
-            + 32 * cell.character }
+    /// The address in its plane of this line of the first glyph for an attribute.
+    pub(crate) fn glyphs_of(&self, attribute: u8) -> u16
+        ensures { result ≡ (if is_set_of attribute 3 then self.now.map_a else self.now.map_b) }
     {
-        let map = if is_set(cell.attribute, 3) {
+        if is_set(attribute, 3) {
             self.map_a
         } else {
             self.map_b
-        };
-        map + GLYPH_BYTES * cell.character as u16
+        }
     }
 
     /// The ninth dot of a row of a character's glyph, 1 where it is lit.

@@ -10,10 +10,10 @@ use Rattle.vga_host.specs.Host.{HostState}
 use Rattle.vga_host.specs.Memory.Address.{is_decoded, window_offset, plane_offset, is_reached}
 use Rattle.vga_host.specs.Sequencer.{is_in_map_mask, is_chain_four, is_odd_even_off}
 use Rattle.vga_host.specs.Graphics.{is_chain_odd_even}
-use Rattle.vga_host.specs.Memory.Write.{written_bit, combined_bit, written_byte, after_put, StoresByte}
+use Rattle.vga_host.specs.Memory.Write.{written_bit, combined_bit, written_byte, after_put, StoresByteUnchanged}
 use Rattle.vga_host.specs.Memory.Runs.{after_put_if_decoded, after_puts, even_or_odd_byte, with_memory}
 use Rattle.vga_host.specs.Memory.Access.{IsAccess}
-use Rattle.vga_host.specs.Memory.PlaneWords.{with_word_stored, alternating_plane_bytes, word_of_byte_group, AreWritesDecoded, FillsAllPlanes, FillsByFours, FillsByPairs, WritesStoreWords}
+use Rattle.vga_host.specs.Memory.PlaneWords.{with_word_stored, alternating_plane_bytes, word_of_byte_group, AreWritesDecoded, AddressPicksNoPlane, FillsByFours, FillsByPairs, WritesStoreWords}
 use Rattle.vga_bits.proofs.BitLemmas.{byte_from_bits}
 use Rattle.vga_host.proofs.StoresByteLemmas.{plain_bit}
 use Rattle.vga_host.proofs.RunLemmas.{even_in_turn, odd_in_turn, Turns}
@@ -207,7 +207,7 @@ same_turn : (v i : ℕ) (d : Bool) → (if d then v else v) ≡ v
 same_turn v i true = refl
 same_turn v i false = refl
 
-pub plane_fills : (h : HostState) (misc first n f v : ℕ) → AreWritesDecoded h misc first n f → FillsAllPlanes h →
+pub plane_fills : (h : HostState) (misc first n f v : ℕ) → AreWritesDecoded h misc first n f → AddressPicksNoPlane h →
     WritesStoreWords 1 h misc first n f (even_or_odd_byte v v) (λ i. four_by_plane (λ p. written_byte h v p))
 plane_fills h misc first n f v within is = record {
   some = omega arith;
@@ -274,13 +274,13 @@ fill_leaves access bytes others misc first even odd n done h s is be bo few kept
 -- ---- bytes of the caller's
 
 -- a plain write leaves its byte in each plane
-plain_byte : (h : HostState) (v p : ℕ) → StoresByte h → p < 4 → v < 256 → written_byte h v p ≡ v
+plain_byte : (h : HostState) (v p : ℕ) → StoresByteUnchanged h → p < 4 → v < 256 → written_byte h v p ≡ v
 plain_byte h v p plain l byte = sym (byte_from_bits v (λ i. written_bit h v p i) byte (λ i li. sym (plain_bit h v p i plain l li)))
 
-plain_over : (h : HostState) (m : Four (List ℕ)) → StoresByte h → (let s : HostState = record h { memory = m } in StoresByte s)
+plain_over : (h : HostState) (m : Four (List ℕ)) → StoresByteUnchanged h → (let s : HostState = record h { memory = m } in StoresByteUnchanged s)
 plain_over h m is = record { mode = is.mode; rotate = is.rotate; function = is.function; own = is.own; mask = is.mask }
 
-pub four_grouped : (h : HostState) (misc first n f : ℕ) (g : ℕ → ℕ) → AreWritesDecoded h misc first n f → FillsByFours h f → StoresByte h → ((i : ℕ) → g i < 256) →
+pub four_grouped : (h : HostState) (misc first n f : ℕ) (g : ℕ → ℕ) → AreWritesDecoded h misc first n f → FillsByFours h f → StoresByteUnchanged h → ((i : ℕ) → g i < 256) →
     WritesStoreWords 4 h misc first n f g (word_of_byte_group 4 g)
 four_grouped h misc first n f g within is plain bytes = record {
   some = omega arith;
@@ -293,7 +293,7 @@ four_grouped h misc first n f g within is plain bytes = record {
       (own 3 (i + 1 + 1 + 1) (omega arith) (omega arith));
 }
 
-pub pair_grouped : (h : HostState) (misc first n f : ℕ) (g : ℕ → ℕ) → AreWritesDecoded h misc first n f → FillsByPairs h f → StoresByte h → ((i : ℕ) → g i < 256) →
+pub pair_grouped : (h : HostState) (misc first n f : ℕ) (g : ℕ → ℕ) → AreWritesDecoded h misc first n f → FillsByPairs h f → StoresByteUnchanged h → ((i : ℕ) → g i < 256) →
     WritesStoreWords 2 h misc first n f g (word_of_byte_group 2 g)
 pair_grouped h misc first n f g within is plain bytes = record {
   some = omega arith;
@@ -308,7 +308,7 @@ pair_grouped h misc first n f g within is plain bytes = record {
       (λ x. absurd (cc)) (λ x. refl) (λ x. absurd (cc)) (λ x. refl) p l odd);
 }
 
-pub plane_grouped : (h : HostState) (misc first n f : ℕ) (g : ℕ → ℕ) → AreWritesDecoded h misc first n f → FillsAllPlanes h → StoresByte h → ((i : ℕ) → g i < 256) →
+pub plane_grouped : (h : HostState) (misc first n f : ℕ) (g : ℕ → ℕ) → AreWritesDecoded h misc first n f → AddressPicksNoPlane h → StoresByteUnchanged h → ((i : ℕ) → g i < 256) →
     WritesStoreWords 1 h misc first n f g (word_of_byte_group 1 g)
 plane_grouped h misc first n f g within is plain bytes = record {
   some = omega arith;

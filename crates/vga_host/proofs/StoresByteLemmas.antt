@@ -8,12 +8,12 @@ use Rattle.vga_bits.proofs.FourLemmas.{by_plane}
 use Rattle.vga_bits.specs.Bits.{is_set}
 use Rattle.vga_bits.specs.Four.{of_plane}
 use Rattle.vga_host.specs.Host.{HostState}
-use Rattle.vga_host.specs.Memory.Write.{written_bit, mask_bit, combined_bit, combined_by_function, StoresByte}
+use Rattle.vga_host.specs.Memory.Write.{written_bit, mask_bit, combined_bit, combined_by_function, StoresByteUnchanged}
 use Rattle.vga_host.specs.Graphics.{write_mode, rotate_count, function_select, is_set_reset_enabled, set_reset, bit_mask}
 
 -- the registers of a plain write, by their numbers
 pub plain_by : (h : HostState) (own mask : ℕ) → write_mode h ≡ 0 → rotate_count h ≡ 0 → function_select h ≡ 0
-    → own ≡ 0 → ((p : ℕ) → is_set own p ≡ is_set_reset_enabled h p) → (mask == 255) ≡ true → ((i : ℕ) → bit_at mask i ≡ bit_mask h i) → StoresByte h
+    → own ≡ 0 → ((p : ℕ) → is_set own p ≡ is_set_reset_enabled h p) → (mask == 255) ≡ true → ((i : ℕ) → bit_at mask i ≡ bit_mask h i) → StoresByteUnchanged h
 plain_by h own mask mode rotate function none owns all masks =
     let whole : mask ≡ 255 = grind (arith, nat_tests) in
     record {
@@ -25,7 +25,7 @@ plain_by h own mask mode rotate function none owns all masks =
     }
 
 -- such a write leaves the bits of its byte in each plane
-pub plain_bit : (h : HostState) (v p i : ℕ) → StoresByte h → p < 4 → i < 8 → written_bit h v p i ≡ bit_at v i
+pub plain_bit : (h : HostState) (v p i : ℕ) → StoresByteUnchanged h → p < 4 → i < 8 → written_bit h v p i ≡ bit_at v i
 unfolding written_bit combined_bit
 plain_bit h v p i is lp li =
     let latch = bit_at (of_plane h.latches p) i in

@@ -15,7 +15,7 @@ use Rattle.vga_host.specs.Graphics.{write_mode, is_chain_odd_even, is_odd_even_r
 use Rattle.vga_host.specs.Sequencer.{is_in_map_mask, is_chain_four, is_odd_even_off}
 use Rattle.vga_host.specs.Graphics.{read_map_pair, read_map_select}
 use Rattle.vga_host.specs.Memory.Read.{compared_bit, read_bit, read_byte, picked_plane, after_get, loaded}
-use Rattle.vga_host.specs.Memory.Write.{written_bit, written_byte, after_put, StoresByte}
+use Rattle.vga_host.specs.Memory.Write.{written_bit, written_byte, after_put, StoresByteUnchanged}
 use Rattle.vga_host.specs.Memory.Runs.{after_put_if_decoded, after_move_if_decoded, after_moves}
 use Rattle.vga_host.specs.Memory.Access.{IsAccess}
 use Rattle.vga_host.specs.declared.host.memory.access.MemoryAccess.{MemoryAccess}
@@ -72,7 +72,7 @@ latches_moved h misc x y a b mode dx dy ea eb reached bytes =
 -- ---- plain moves of a byte
 
 -- a plain move of the byte of plane k moves it
-pub plane_moved : (h : HostState) (misc x y a b k : ℕ) (reach : ℕ → Bool) → k < 4 → StoresByte h → is_read_compare h ≡ false
+pub plane_moved : (h : HostState) (misc x y a b k : ℕ) (reach : ℕ → Bool) → k < 4 → StoresByteUnchanged h → is_read_compare h ≡ false
     → is_decoded h misc x ≡ true → is_decoded h misc y ≡ true
     → plane_offset h (window_offset h x) ≡ a → plane_offset h (window_offset h y) ≡ b → picked_plane h (window_offset h x) ≡ k
     → ((p : ℕ) → p < 4 → is_reached h (window_offset h y) p ≡ reach p) → ((p : ℕ) → p < 4 → reach p ≡ true → p ≡ k)
@@ -88,7 +88,7 @@ plane_moved h misc x y a b k reach lk plain compare dx dy ea eb picked reached o
     λ i. (λ j. if compare j then compared_bit h (loaded h x) i else bit_at (of_plane (loaded h x) (picked j)) i) ∙ ap (λ n. bit_at n i) (at k lk) in
     let v : read_byte h x ≡ byte_at m k a =
     sym (byte_from_bits (byte_at m k a) (λ i. read_bit h w (loaded h x) i) byte (λ i li. sym (read i))) in
-    let kept : StoresByte (after_get h x) = record { mode = plain.mode; rotate = plain.rotate; function = plain.function; own = plain.own; mask = plain.mask } in
+    let kept : StoresByteUnchanged (after_get h x) = record { mode = plain.mode; rotate = plain.rotate; function = plain.function; own = plain.own; mask = plain.mask } in
     let own : (p : ℕ) → p < 4 → reach p ≡ true → written_byte (after_get h x) (read_byte h x) p ≡ byte_at m p a =
     λ p l e.
     sym (byte_from_bits (byte_at m k a) (λ i. written_bit (after_get h x) (read_byte h x) p i) byte
@@ -149,7 +149,7 @@ pub next_place : (f i j : ℕ) → (f + i) % 4 ≡ 0 → j < 4 → (f + (i + j))
 next_place f i j even less = omega (arith, even, less)
 
 -- in a chain of four, the byte of place j of four moves alone
-chained : (s : HostState) (misc x y a b j : ℕ) → j < 4 → is_chain_four s ≡ true → StoresByte s → is_read_compare s ≡ false
+chained : (s : HostState) (misc x y a b j : ℕ) → j < 4 → is_chain_four s ≡ true → StoresByteUnchanged s → is_read_compare s ≡ false
     → is_decoded s misc x ≡ true → is_decoded s misc y ≡ true → window_offset s x ≡ a + j → window_offset s y ≡ b + j
     → a % 4 ≡ 0 → b % 4 ≡ 0 → byte_at s.memory j a < 256 → after_move_if_decoded s misc x y ≡ with_word_copied s (plane_alone s j) a b
 chained s misc x y a b j less four plain compare dx dy px py ea eb byte =
@@ -167,7 +167,7 @@ chained s misc x y a b j less four plain compare dx dy px py ea eb byte =
 
 -- where odd and even addresses are apart, and the first pair of planes is read and the second not written, a byte of one of two places moves alone
 paired : (s : HostState) (misc x y a b j : ℕ) → j < 2 → is_chain_four s ≡ false → is_chain_odd_even s ≡ true → is_odd_even_off s ≡ false
-    → is_odd_even_read s ≡ true → read_map_pair s ≡ 0 → is_in_map_mask s 2 ≡ false → is_in_map_mask s 3 ≡ false → StoresByte s → is_read_compare s ≡ false
+    → is_odd_even_read s ≡ true → read_map_pair s ≡ 0 → is_in_map_mask s 2 ≡ false → is_in_map_mask s 3 ≡ false → StoresByteUnchanged s → is_read_compare s ≡ false
     → is_decoded s misc x ≡ true → is_decoded s misc y ≡ true → window_offset s x ≡ a + j → window_offset s y ≡ b + j
     → a % 2 ≡ 0 → b % 2 ≡ 0 → byte_at s.memory j a < 256 → after_move_if_decoded s misc x y ≡ with_word_copied s (plane_alone s j) a b
 paired s misc x y a b j less four pairs off apart pair two three plain compare dx dy px py ea eb byte =
@@ -219,11 +219,11 @@ two_alone h a b two three =
 abbrev pub AreBytes : HostState → ℕ → Type 0
 AreBytes h a = (p : ℕ) → p < 4 → byte_at h.memory p a < 256
 
-plain_kept : (h : HostState) (reach : ℕ → Bool) (a b : ℕ) → StoresByte h → StoresByte (with_word_copied h reach a b)
+plain_kept : (h : HostState) (reach : ℕ → Bool) (a b : ℕ) → StoresByteUnchanged h → StoresByteUnchanged (with_word_copied h reach a b)
 plain_kept h reach a b is = record { mode = is.mode; rotate = is.rotate; function = is.function; own = is.own; mask = is.mask }
 
 -- in a chain of four, four moves from a word's first byte on move the word
-pub four_moved : (h : HostState) (misc from to n f t i : ℕ) → AreMovesDecoded h misc from to n f t → is_chain_four h ≡ true → StoresByte h → is_read_compare h ≡ false
+pub four_moved : (h : HostState) (misc from to n f t i : ℕ) → AreMovesDecoded h misc from to n f t → is_chain_four h ≡ true → StoresByteUnchanged h → is_read_compare h ≡ false
     → f % 4 ≡ 0 → t % 4 ≡ 0 → i % 4 ≡ 0 → i + 4 ≤ n → AreBytes h ((f + i) % 65536)
     → after_moves misc from to 4 i h ≡ with_word_copied h (is_in_map_mask h) ((f + i) % 65536) ((t + i) % 65536)
 four_moved h misc from to n f t i within chain plain compare ef et ei room bytes =
@@ -266,7 +266,7 @@ four_moved h misc from to n f t i within chain plain compare ef et ei room bytes
 -- where odd and even addresses are apart, two moves from an even address on move the word
 pub two_moved : (h : HostState) (misc from to n f t i : ℕ) → AreMovesDecoded h misc from to n f t → is_chain_four h ≡ false → is_chain_odd_even h ≡ true
     → is_odd_even_off h ≡ false → is_odd_even_read h ≡ true → read_map_pair h ≡ 0 → is_in_map_mask h 2 ≡ false → is_in_map_mask h 3 ≡ false
-    → StoresByte h → is_read_compare h ≡ false
+    → StoresByteUnchanged h → is_read_compare h ≡ false
     → f % 2 ≡ 0 → t % 2 ≡ 0 → i % 2 ≡ 0 → i + 2 ≤ n → AreBytes h ((f + i) % 65536)
     → after_moves misc from to 2 i h ≡ with_word_copied h (is_in_map_mask h) ((f + i) % 65536) ((t + i) % 65536)
 two_moved h misc from to n f t i within chain pairs off apart pair two three plain compare ef et ei room bytes =
@@ -317,7 +317,7 @@ latch_words h misc from to n f t within is = record {
       latch_moved s misc from to n f t i (within_kept h m l misc from to n f t within) is.mode is.chain_four is.chain_odd_even is.odd_even_off (omega (arith, room)) bytes;
 }
 
-plain_over : (h : HostState) (m : Four (List ℕ)) (l : Four ℕ) → StoresByte h → (let s : HostState = record h { memory = m; latches = l } in StoresByte s)
+plain_over : (h : HostState) (m : Four (List ℕ)) (l : Four ℕ) → StoresByteUnchanged h → (let s : HostState = record h { memory = m; latches = l } in StoresByteUnchanged s)
 plain_over h m l is = record { mode = is.mode; rotate = is.rotate; function = is.function; own = is.own; mask = is.mask }
 
 pub four_words : (h : HostState) (misc from to n f t : ℕ) → AreMovesDecoded h misc from to n f t → MovesCopyByFours h f t → MovesCopyWords 4 h misc from to n f t

@@ -30,13 +30,13 @@ use anyhow::Result;
 use cut_frames::compare_cut_frames;
 use screens_outcome::ScreensOutcome;
 use std::process::ExitCode;
-use vga_bits::Tally;
+use vga_bits::ComparisonTally;
 use whole_frames::compare_whole_frames;
 
 /// Prints the result of a comparison, and counts it.
 fn print_outcome<R: Print>(
     rt: &R,
-    tally: &mut Tally,
+    tally: &mut ComparisonTally,
     name: &str,
     outcome: ScreensOutcome,
 ) -> Result<()> {
@@ -47,7 +47,7 @@ fn print_outcome<R: Print>(
 
 fn main(rt: HostRuntime) -> Result<ExitCode> {
     let alloc = rt.alloc();
-    let mut tally = Tally::new();
+    let mut tally = ComparisonTally::new();
     print_outcome(
         &rt,
         &mut tally,

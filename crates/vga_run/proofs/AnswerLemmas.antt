@@ -5,7 +5,7 @@ use Rattle.vga_bits.specs.declared.fault.Fault.TheVariants.{FontSize, BadMagic, 
 use Rattle.vga_bits.specs.declared.fault.Fault.TheVariants.{TooMany}
 use Rattle.bios_modes.specs.Fonts.{FontSet, IsFontFault, font_file_len, fonts_of}
 use Rattle.vga_script.specs.declared.step.Step.{Step}
-use Rattle.vga_script.specs.Item.{Listing}
+use Rattle.vga_script.specs.Item.{ScriptItems}
 use Rattle.vga_script.specs.Spelled.{SpellsExpanded}
 use Rattle.vga_script.specs.Spelling.{Spells, script_limit}
 use Rattle.vga_bits.specs.LimitedReading.{is_read_fault}
@@ -14,7 +14,7 @@ use Rattle.vga_script.specs.Input.{InputHasFault, IsInput, IsReadingFault}
 use Rattle.vga_run.specs.declared.machine.Machine.{Machine}
 use Rattle.vga_run.specs.Machine.{power_on_machine}
 use Rattle.vga_run.specs.Report.{steps_until}
-use Rattle.vga_run.specs.Run.{Reports, ReportsSteps, RunAnswers, RunsGoodScripts, RunsScript, RunsOutOfMemoryIn, StopsRun, RunsOutOfMemory, WritesReport}
+use Rattle.vga_run.specs.Run.{ReportsInput, ReportsSteps, RunAnswers, RunsGoodScripts, RunsScript, RunsOutOfMemoryIn, InputRunsOutOfMemory, RunsOutOfMemory, WritesReport}
 use Rattle.vga_script.specs.Decoding.{IsSpellingFault, IsFault}
 
 -- what taking the steps of a script answers is what its run does
@@ -40,13 +40,13 @@ report_stops before after failed (Err e) machine n steps (inr (is, sound, stops)
 
 -- where memory runs out in the run of a script, it does in that of bytes that spell it
 pub stops_of_steps : (until : Option ℕ) (fonts : FontSet) (bytes : List ℕ) (before after : Option (List ℕ)) (steps : List Step)
-    → length bytes ≤ script_limit → SpellsExpanded bytes steps → RunsOutOfMemory until fonts steps before after → StopsRun until fonts (Some bytes) before after
+    → length bytes ≤ script_limit → SpellsExpanded bytes steps → RunsOutOfMemory until fonts steps before after → InputRunsOutOfMemory until fonts (Some bytes) before after
 stops_of_steps until fonts bytes before after steps few spelled stops = (steps, (bytes, (refl, few), spelled), stops)
 
 -- what the run of a script answers is the answer for bytes that spell it
 pub reports_of_steps : (until : Option ℕ) (fonts : FontSet) (bytes : List ℕ) (before after : Option (List ℕ)) (result : Result Unit Fault) (steps : List Step)
     → length bytes ≤ script_limit → SpellsExpanded bytes steps → ReportsSteps until fonts steps before after result →
-    Reports until fonts (Some bytes) before after result
+    ReportsInput until fonts (Some bytes) before after result
 reports_of_steps until fonts bytes before after (Ok u) steps few spelled written = (steps, (bytes, (refl, few), spelled), written)
 reports_of_steps until fonts bytes before after (Err WriteFault) steps few spelled written = (steps, (bytes, (refl, few), spelled), written)
 reports_of_steps until fonts bytes before after (Err OutOfMemory) steps few spelled h = tt
@@ -54,7 +54,7 @@ reports_of_steps until fonts bytes before after (Err _) steps few spelled h = ab
 
 -- so is a fault of the bytes, none of which is want of a reader
 spelling_answers : (until : Option ℕ) (fonts : FontSet) (bytes : List ℕ) (before after : Option (List ℕ)) (f : Fault)
-    → length bytes ≤ script_limit → IsSpellingFault bytes f → Reports until fonts (Some bytes) before after (Err f)
+    → length bytes ≤ script_limit → IsSpellingFault bytes f → ReportsInput until fonts (Some bytes) before after (Err f)
 spelling_answers until fonts bytes before after BadMagic few bad = (bytes, (refl, few), bad)
 spelling_answers until fonts bytes before after BadVersion few bad = (bytes, (refl, few), bad)
 spelling_answers until fonts bytes before after (BadStep at) few bad = (bytes, (refl, few), bad)
@@ -63,8 +63,8 @@ spelling_answers until fonts bytes before after (TooMany at) few bad = (bytes, (
 spelling_answers until fonts bytes before after _ few bad = absurd bad
 
 pub fault_answers : (until : Option ℕ) (fonts : FontSet) (bytes : List ℕ) (before after : Option (List ℕ)) (f : Fault)
-    → IsFault bytes f → Reports until fonts (Some bytes) before after (Err f)
-fault_answers until fonts bytes before after f (inl (is, many)) = subst (λ (x : Fault). Reports until fonts (Some bytes) before after (Err x)) (sym is) many
+    → IsFault bytes f → ReportsInput until fonts (Some bytes) before after (Err f)
+fault_answers until fonts bytes before after f (inl (is, many)) = subst (λ (x : Fault). ReportsInput until fonts (Some bytes) before after (Err x)) (sym is) many
 fault_answers until fonts bytes before after f (inr (few, bad)) = spelling_answers until fonts bytes before after f few bad
 
 -- what a script in memory answers to its run is the answer where these bytes were read
@@ -73,7 +73,7 @@ read_bytes None bytes others read same = (tt, same.1)
 read_bytes (Some all) bytes others read same = (read.0 ∙ same.0, same.1)
 
 input_reports : (until : Option ℕ) (fonts : FontSet) (input before after : Option (List ℕ)) (bytes : List ℕ) (result : Result Unit Fault)
-    → IsInput input bytes → Reports until fonts (Some bytes) before after result → Reports until fonts input before after result
+    → IsInput input bytes → ReportsInput until fonts (Some bytes) before after result → ReportsInput until fonts input before after result
 input_reports until fonts input before after bytes (Ok u) read (steps, (others, same, spelled), written) =
     (steps, (others, read_bytes input bytes others read same, spelled), written)
 input_reports until fonts input before after bytes (Err FontSize) read h = h
@@ -85,24 +85,24 @@ input_reports until fonts input before after bytes (Err OutOfMemory) read h = h
 input_reports until fonts input before after bytes (Err _) read (others, same, bad) = (others, read_bytes input bytes others read same, bad)
 
 pub input_stops : (until : Option ℕ) (fonts : FontSet) (input before after : Option (List ℕ)) (bytes : List ℕ)
-    → IsInput input bytes → StopsRun until fonts (Some bytes) before after → StopsRun until fonts input before after
+    → IsInput input bytes → InputRunsOutOfMemory until fonts (Some bytes) before after → InputRunsOutOfMemory until fonts input before after
 input_stops until fonts input before after bytes read (steps, (others, same, spelled), stops) =
     (steps, (others, read_bytes input bytes others read same, spelled), stops)
 
 -- what a run over the fonts of a file answers is what one over the file does
 of_file : (until : Option ℕ) (file : List ℕ) (input before after : Option (List ℕ)) (result : Result Unit Fault)
-    → length file ≡ font_file_len → Reports until (fonts_of file) input before after result → RunAnswers until file input before after result
+    → length file ≡ font_file_len → ReportsInput until (fonts_of file) input before after result → RunAnswers until file input before after result
 of_file until file input before after (Ok u) size h = (size, h)
 of_file until file input before after (Err FontSize) size h = absurd h
 of_file until file input before after (Err f) size h = (size, h)
 
 pub file_answers : (until : Option ℕ) (file : List ℕ) (fonts : FontSet) (input before after : Option (List ℕ)) (result : Result Unit Fault)
-    → (length file ≡ font_file_len) × (fonts ≡ fonts_of file) → Reports until fonts input before after result → RunAnswers until file input before after result
+    → (length file ≡ font_file_len) × (fonts ≡ fonts_of file) → ReportsInput until fonts input before after result → RunAnswers until file input before after result
 file_answers until file fonts input before after result (size, are) h =
-    of_file until file input before after result size (subst (λ (f : FontSet). Reports until f input before after result) are h)
+    of_file until file input before after result size (subst (λ (f : FontSet). ReportsInput until f input before after result) are h)
 
 pub input_answers : (until : Option ℕ) (file : List ℕ) (fonts : FontSet) (input before after : Option (List ℕ)) (bytes : List ℕ) (result : Result Unit Fault)
-    → (length file ≡ font_file_len) × (fonts ≡ fonts_of file) → IsInput input bytes → Reports until fonts (Some bytes) before after result →
+    → (length file ≡ font_file_len) × (fonts ≡ fonts_of file) → IsInput input bytes → ReportsInput until fonts (Some bytes) before after result →
     RunAnswers until file input before after result
 input_answers until file fonts input before after bytes result (size, are) read h =
     file_answers until file fonts input before after result (size, are) (input_reports until fonts input before after bytes result read h)
@@ -142,7 +142,7 @@ unread_answers until file input before after f size (inr (inr is)) = subst (λ (
 
 -- the law that no bytes that spell a script have a fault but that they are too long
 abbrev pub NoFault : Type 0
-NoFault = (bytes : List ℕ) (script : Listing) (fault : Fault) → Spells bytes script → IsFault bytes fault → fault ≡ TooLong
+NoFault = (bytes : List ℕ) (script : ScriptItems) (fault : Fault) → Spells bytes script → IsFault bytes fault → fault ≡ TooLong
 
 -- so an input that spells a script has no fault
 no_input_fault : NoFault → (input : Option (List ℕ)) (f : Fault) (bytes : List ℕ) (steps : List Step) → input ≡ Some bytes → SpellsExpanded bytes steps →

@@ -9,7 +9,7 @@ use Rattle.vga_card.specs.Bounds.{IsCard}
 use Rattle.vga_card.specs.Card.{CardState, power_on_card}
 use Rattle.vga_card.specs.Cycles.{WriteResult}
 use Rattle.vga_card.specs.Dots.{dots, most_dots}
-use Rattle.vga_card.specs.Frames.{frame, frame_count}
+use Rattle.vga_card.specs.Frames.{frame, card_dots_to_frame_end}
 use Rattle.vga_card.specs.Picture.{bytes_of_dots}
 use Rattle.bios_modes.specs.declared.modes.ModeRow.{ModeRow}
 use Rattle.bios_modes.specs.Modes.{mode_row}
@@ -31,7 +31,7 @@ use Rattle.bios_screen.specs.Shown.{shown}
 use Rattle.bios_screen.specs.AfterCall.{after_call}
 use Rattle.bios_screen.specs.Step.{refusal_on, next}
 use Rattle.bios_screen.specs.Loaded.{load_refusal_on, load_glyphs}
-use Rattle.bios_screen.specs.Called.{AreRegistersWords, screen_unless}
+use Rattle.bios_screen.specs.Called.{AreRegistersWords, screen_unless_refused}
 use Rattle.bios_screen.specs.Fresh.{fresh_screen}
 use Rattle.bios_screen.specs.Picture.{picture_width, picture_height}
 use Rattle.vga_script.specs.declared.step.Step.{Step}
@@ -45,41 +45,41 @@ use Rattle.vga_run.specs.Step.{answer_to, after_step, after_int10}
 use Rattle.vga_run.specs.Report.{line, report_from, report_of}
 use Rattle.vga_run.proofs.ScreenLemmas.{Laws as ScreenLaws, row_of_mode, block_bytes, frame_shown}
 use Rattle.vga_run.specs.ScreenReport.{IsClearingModeSet, registers_of, screen_after_mode_set, call_on_screen}
-use Rattle.bios_screen.specs.Drawing.{Drawing, take_dots, MayLoad}
-use Rattle.bios_screen.specs.Follows.{Follows, EndsFrame}
-use Rattle.vga_run.specs.DotReport.{answer_on_drawing, drawing_after, dot_report_from, power_on_drawing, dot_report, CallKeepsDrawing, IsDotReportStep, AllDotReportSteps, AreDotReportSteps}
+use Rattle.bios_screen.specs.Drawing.{Drawing, take_dots, MayLoadGlyphs}
+use Rattle.bios_screen.specs.Follows.{CardFollowsDrawing, EndsFrame}
+use Rattle.vga_run.specs.DotReport.{answer_on_drawing, drawing_after, dot_report_from, power_on_drawing, dot_report, IsDotReportCall, IsDotReportStep, AllDotReportSteps, AreDotReportSteps}
 
 -- the laws of the crates below: those of screens, and what they say of dots
 pub record Laws : Type 0 where
   pub screens : ScreenLaws
   pub served : (asked_for : Service) (fonts : FontSet) (r : Regs) (block : List ℕ) (c : CardState) (d : BiosData) (b : Drawing)
-      → IsCard c → IsBda d → AreRegistersWords r → AreBytes block → Follows c d b → call_of r ≡ Some (InMode asked_for)
-      → Follows (after_call fonts r block c d).0 (after_call fonts r block c d).1.1
-      (record b { screen = screen_unless (refusal_on b.screen asked_for (length block)) b.screen (next fonts b.screen asked_for block) })
+      → IsCard c → IsBda d → AreRegistersWords r → AreBytes block → CardFollowsDrawing c d b → call_of r ≡ Some (InMode asked_for)
+      → CardFollowsDrawing (after_call fonts r block c d).0 (after_call fonts r block c d).1.1
+      (record b { screen = screen_unless_refused (refusal_on b.screen asked_for (length block)) b.screen (next fonts b.screen asked_for block) })
   pub loads : (load : GlyphLoad) (fonts : FontSet) (r : Regs) (block : List ℕ) (c : CardState) (d : BiosData) (b : Drawing)
-      → IsCard c → AreBytes block → AreFonts fonts → Follows c d b → MayLoad b load (length block) → call_of r ≡ Some (LoadGlyphs load)
-      → Follows (after_call fonts r block c d).0 (after_call fonts r block c d).1.1
-      (record b { screen = screen_unless (load_refusal_on b.screen load (length block)) b.screen (load_glyphs fonts b.screen load block) })
+      → IsCard c → AreBytes block → AreFonts fonts → CardFollowsDrawing c d b → MayLoadGlyphs b load (length block) → call_of r ≡ Some (LoadGlyphs load)
+      → CardFollowsDrawing (after_call fonts r block c d).0 (after_call fonts r block c d).1.1
+      (record b { screen = screen_unless_refused (load_refusal_on b.screen load (length block)) b.screen (load_glyphs fonts b.screen load block) })
   pub table : (asked_for : TableService) (fonts : FontSet) (r : Regs) (block : List ℕ) (c : CardState) (d : BiosData) (b : Drawing)
-      → IsCard c → Follows c d b → call_of r ≡ Some (ReadTable asked_for) → Follows (after_call fonts r block c d).0 (after_call fonts r block c d).1.1 b
-  pub begins : (c : CardState) (d : BiosData) (b : Drawing) → IsCard c → shown c d ≡ Some b.screen → b.dot ≡ 0 → IsFrameStart c.crtc.beam → Follows c d b
-  pub starts : (c : CardState) (d : BiosData) (b : Drawing) → Follows c d b → b.dot ≡ 0 → IsFrameStart c.crtc.beam
-  pub dots_follow : (n : ℕ) (c : CardState) (d : BiosData) (b : Drawing) → IsCard c → Follows c d b → Follows (dots n c) d (take_dots n b)
-  pub frame_follows : (c : CardState) (d : BiosData) (b : Drawing) → IsCard c → Follows c d b → EndsFrame c d b
+      → IsCard c → CardFollowsDrawing c d b → call_of r ≡ Some (ReadTable asked_for) → CardFollowsDrawing (after_call fonts r block c d).0 (after_call fonts r block c d).1.1 b
+  pub begins : (c : CardState) (d : BiosData) (b : Drawing) → IsCard c → shown c d ≡ Some b.screen → b.dot ≡ 0 → IsFrameStart c.crtc.beam → CardFollowsDrawing c d b
+  pub starts : (c : CardState) (d : BiosData) (b : Drawing) → CardFollowsDrawing c d b → b.dot ≡ 0 → IsFrameStart c.crtc.beam
+  pub dots_follow : (n : ℕ) (c : CardState) (d : BiosData) (b : Drawing) → IsCard c → CardFollowsDrawing c d b → CardFollowsDrawing (dots n c) d (take_dots n b)
+  pub frame_follows : (c : CardState) (d : BiosData) (b : Drawing) → IsCard c → CardFollowsDrawing c d b → EndsFrame c d b
 
 -- ---- one call
 
 -- what a call answers, and that the adapter follows the screen that it leads to
 record CallFollows (x : CardState × CallOutcome) (to : Screen × Result Reply Refusal) (b : Drawing) : Type 0 where
   reply : x.1.0 ≡ to.1
-  follows : Follows x.0 x.1.1 (record b { screen = to.0 })
+  follows : CardFollowsDrawing x.0 x.1.1 (record b { screen = to.0 })
 
 -- a call that is refused and does nothing
-refused_follows : (x : CardState × CallOutcome) (why : Refusal) (c : CardState) (d : BiosData) (b : Drawing) → x ≡ (c, (Err why, d)) → Follows c d b →
+refused_follows : (x : CardState × CallOutcome) (why : Refusal) (c : CardState) (d : BiosData) (b : Drawing) → x ≡ (c, (Err why, d)) → CardFollowsDrawing c d b →
     CallFollows x (b.screen, Err why) b
 refused_follows x why c d b e is = record {
   reply = ap (λ (y : CardState × CallOutcome). y.1.0) e;
-  follows = subst (λ (y : CardState × CallOutcome). Follows y.0 y.1.1 b) (sym e) is;
+  follows = subst (λ (y : CardState × CallOutcome). CardFollowsDrawing y.0 y.1.1 b) (sym e) is;
 }
 
 -- a mode set that clears the memory, at dot 0
@@ -105,10 +105,10 @@ record Stands (fonts : FontSet) (m : Machine) (b : Drawing) : Type 0 where
   card : IsCard m.card
   bda : AreValidData m.bda
   same : m.fonts ≡ fonts
-  follows : Follows m.card m.bda b
+  follows : CardFollowsDrawing m.card m.bda b
 
 call_follows : Laws → (call : Option Call) (fonts : FontSet) (r : Regs) (block : List ℕ) (m : Machine) (b : Drawing) → call_of r ≡ call →
-    CallKeepsDrawing b (length block) call → AreRegistersWords r → AreBytes block → AreFonts fonts → Stands fonts m b
+    IsDotReportCall b (length block) call → AreRegistersWords r → AreBytes block → AreFonts fonts → Stands fonts m b
     → CallFollows (after_call fonts r block m.card m.bda) (call_on_screen call fonts r block b.screen) b
 call_follows law None fonts r block m b e stays words bytes glyphs is =
     refused_follows _ BadFunction m.card m.bda b (law.screens.unknown fonts r block m.card m.bda b.screen is.follows.shows e) is.follows
@@ -178,7 +178,7 @@ step_follows law fonts m b Frame glyphs range stays is =
     record {
       answer = ap (λ x. of_shape x (bytes_of_dots (frame m.card).drawn)) f.size ∙ ap (λ bytes.
           of_shape (Some (record { width = picture_width b.screen; height = picture_height b.screen })) bytes) f.bytes;
-      stands = record { card = law.screens.dots (frame_count m.card) m.card is.card; bda = is.bda; same = is.same; follows = f.follows };
+      stands = record { card = law.screens.dots (card_dots_to_frame_end m.card) m.card is.card; bda = is.bda; same = is.same; follows = f.follows };
     }
 step_follows law fonts m b step glyphs range stays is = absurd stays
 

@@ -8,7 +8,7 @@ use Rattle.vga_card.specs.Card.{CardState}
 use Rattle.vga_card.specs.Picture.{Dot, row_count}
 use Rattle.vga_card.specs.Cycles.{WriteResult, ReadResult}
 use Rattle.vga_card.specs.Dots.{dots, most_dots}
-use Rattle.vga_card.specs.FreshCanvas.{with_fresh_canvas, fresh_canvas_after}
+use Rattle.vga_card.specs.FreshCanvas.{without_unseen_dots, outcome_without_unseen_dots}
 use Rattle.vga_card.proofs.DotLemmas.{dots_none}
 use Rattle.vga_card.proofs.FreshCanvasLemmas.{cannot_be_told}
 use Rattle.vga_script.specs.declared.dump_range.Shown.{Shown}
@@ -24,47 +24,47 @@ use Rattle.vga_run.specs.declared.machine.Machine.{Machine}
 use Rattle.vga_run.specs.Answer.{StepAnswer, Short, of_write, of_byte, of_word, of_service, of_frame, of_dump}
 use Rattle.vga_run.specs.Step.{dump_text, dump_refusal, after_int10, advance_cycle, answer_to, after_step}
 use Rattle.vga_run.specs.Report.{line, report_from}
-use Rattle.vga_run.specs.Saved.{machine_with_fresh_canvas}
+use Rattle.vga_run.specs.Saved.{machine_without_unseen_dots}
 
 -- ---- what is not saved
 
-twice : (c : CardState) → with_fresh_canvas (with_fresh_canvas c) ≡ with_fresh_canvas c
+twice : (c : CardState) → without_unseen_dots (without_unseen_dots c) ≡ without_unseen_dots c
 twice c = ap (λ (drawn : List Dot). record c { drawn = drawn }) (cannot_be_told.fresh c)
 
-dots_twice : (n : ℕ) (c : CardState) → with_fresh_canvas (dots n (with_fresh_canvas c)) ≡ with_fresh_canvas (dots n c)
-dots_twice zero c = ap with_fresh_canvas (dots_none (with_fresh_canvas c)) ∙ twice c ∙ ap with_fresh_canvas (sym (dots_none c))
-dots_twice (suc n) c = ap with_fresh_canvas (cannot_be_told.dots (suc n) c (omega arith))
+dots_twice : (n : ℕ) (c : CardState) → without_unseen_dots (dots n (without_unseen_dots c)) ≡ without_unseen_dots (dots n c)
+dots_twice zero c = ap without_unseen_dots (dots_none (without_unseen_dots c)) ∙ twice c ∙ ap without_unseen_dots (sym (dots_none c))
+dots_twice (suc n) c = ap without_unseen_dots (cannot_be_told.dots (suc n) c (omega arith))
 
-answer_by : (few : Bool) (c : CardState) (count : ℕ) → (let x : WriteResult = (if few then (dots count (with_fresh_canvas c), Ok tt) else
-    (with_fresh_canvas c, Err TooFar)) in x).1
+answer_by : (few : Bool) (c : CardState) (count : ℕ) → (let x : WriteResult = (if few then (dots count (without_unseen_dots c), Ok tt) else
+    (without_unseen_dots c, Err TooFar)) in x).1
     ≡ (let x : WriteResult = (if few then (dots count c, Ok tt) else (c, Err TooFar)) in x).1
 answer_by true c count = refl
 answer_by false c count = refl
 
-advance_same : (c : CardState) (count : ℕ) → (advance_cycle (with_fresh_canvas c) count).1 ≡ (advance_cycle c count).1
+advance_same : (c : CardState) (count : ℕ) → (advance_cycle (without_unseen_dots c) count).1 ≡ (advance_cycle c count).1
 advance_same c count = answer_by (nat_le count most_dots) c count
 
 after_by : (few : Bool) (c : CardState) (count : ℕ)
-    → with_fresh_canvas (let x : WriteResult = (if few then (dots count (with_fresh_canvas c), Ok tt) else (with_fresh_canvas c, Err TooFar)) in x).0
-    ≡ with_fresh_canvas (let x : WriteResult = (if few then (dots count c, Ok tt) else (c, Err TooFar)) in x).0
+    → without_unseen_dots (let x : WriteResult = (if few then (dots count (without_unseen_dots c), Ok tt) else (without_unseen_dots c, Err TooFar)) in x).0
+    ≡ without_unseen_dots (let x : WriteResult = (if few then (dots count c, Ok tt) else (c, Err TooFar)) in x).0
 after_by true c count = dots_twice count c
 after_by false c count = twice c
 
-advance_after : (c : CardState) (count : ℕ) → with_fresh_canvas (advance_cycle (with_fresh_canvas c) count).0 ≡ with_fresh_canvas (advance_cycle c count).0
+advance_after : (c : CardState) (count : ℕ) → without_unseen_dots (advance_cycle (without_unseen_dots c) count).0 ≡ without_unseen_dots (advance_cycle c count).0
 advance_after c count = after_by (nat_le count most_dots) c count
 
 -- ---- dumps
 
-rows_same : (c : CardState) (bda : BiosData) (n row : ℕ) → rows_text (with_fresh_canvas c) bda n row ≡ rows_text c bda n row
+rows_same : (c : CardState) (bda : BiosData) (n row : ℕ) → rows_text (without_unseen_dots c) bda n row ≡ rows_text c bda n row
 unfolding rows_text
 rows_same c bda zero row = refl
 rows_same c bda (suc n) row = ap (λ (l : List ℕ). row_text c bda row ++ l) (rows_same c bda n (row + 1))
 
-cells_same : (why : Option Refusal) (c : CardState) (bda : BiosData) → cells_text why (with_fresh_canvas c) bda ≡ cells_text why c bda
+cells_same : (why : Option Refusal) (c : CardState) (bda : BiosData) → cells_text why (without_unseen_dots c) bda ≡ cells_text why c bda
 cells_same None c bda = rows_same c bda (bda.last_row + 1) 0
 cells_same (Some why) c bda = refl
 
-dump_same : (m : Machine) (what : Shown) → dump_text (machine_with_fresh_canvas m) what ≡ dump_text m what
+dump_same : (m : Machine) (what : Shown) → dump_text (machine_without_unseen_dots m) what ≡ dump_text m what
 unfolding dump_text
 dump_same m shown.Registers = refl
 dump_same m (shown.Dac index) = refl
@@ -74,7 +74,7 @@ dump_same m (shown.Plane plane offset count) = refl
 dump_same m shown.BiosData = refl
 dump_same m shown.Cells = cells_same (cells_refusal m.bda.mode) m.card m.bda
 
-refusal_same : (m : Machine) (what : Shown) → dump_refusal (machine_with_fresh_canvas m) what ≡ dump_refusal m what
+refusal_same : (m : Machine) (what : Shown) → dump_refusal (machine_without_unseen_dots m) what ≡ dump_refusal m what
 unfolding dump_refusal
 refusal_same m shown.Registers = refl
 refusal_same m (shown.Dac index) = refl
@@ -87,12 +87,12 @@ refusal_same m shown.Cells = refl
 -- ---- steps
 
 -- a call of interrupt 10
-called_same : (m : Machine) (ax bx cx dx : ℕ) (block : List ℕ) → after_int10 (machine_with_fresh_canvas m) ax bx cx dx block
-    ≡ fresh_canvas_after (after_int10 m ax bx cx dx block)
+called_same : (m : Machine) (ax bx cx dx : ℕ) (block : List ℕ) → after_int10 (machine_without_unseen_dots m) ax bx cx dx block
+    ≡ outcome_without_unseen_dots (after_int10 m ax bx cx dx block)
 unfolding after_int10
 called_same m ax bx cx dx block = plan_fresh (service m.fonts m.bda (record { ax = ax; bx = bx; cx = cx; dx = dx }) block) m.card
 
-pub answer_same : (m : Machine) (step : Step) → answer_to (machine_with_fresh_canvas m) step ≡ answer_to m step
+pub answer_same : (m : Machine) (step : Step) → answer_to (machine_without_unseen_dots m) step ≡ answer_to m step
 unfolding answer_to
 answer_same m (Out port value) = ap (λ (w : WriteResult). Short (of_write w.1)) (cannot_be_told.out m.card port value)
 answer_same m (OutWord port value) = ap (λ (w : WriteResult). Short (of_write w.1)) (cannot_be_told.out_word m.card port value)
@@ -109,13 +109,13 @@ answer_same m (Show what) = ap₂ of_dump (refusal_same m what) (dump_same m wha
 
 -- a machine with this adapter, without the dots that no step can see any more
 abbrev with_card : Machine → CardState → Machine
-with_card m c = record m { card = with_fresh_canvas c }
+with_card m c = record m { card = without_unseen_dots c }
 
-once : (m : Machine) (c : CardState) → with_card m (with_fresh_canvas c) ≡ with_card m c
+once : (m : Machine) (c : CardState) → with_card m (without_unseen_dots c) ≡ with_card m c
 once m c = ap (λ (s : CardState). record m { card = s }) (twice c)
 
-pub after_same : (m : Machine) (step : Step) → machine_with_fresh_canvas (after_step (machine_with_fresh_canvas m) step)
-    ≡ machine_with_fresh_canvas (after_step m step)
+pub after_same : (m : Machine) (step : Step) → machine_without_unseen_dots (after_step (machine_without_unseen_dots m) step)
+    ≡ machine_without_unseen_dots (after_step m step)
 unfolding after_step
 after_same m (Out port value) = ap (λ (w : WriteResult). with_card m w.0) (cannot_be_told.out m.card port value) ∙ once m _
 after_same m (OutWord port value) =
@@ -129,7 +129,7 @@ after_same m (Get address) = ap (λ (a : ReadResult). with_card m a.0) (cannot_b
 after_same m (GetWord address) = ap (λ (a : ReadResult). with_card m a.0) (cannot_be_told.get_word m.card address) ∙ once m _
 after_same m (Int ax bx cx dx block) =
     let after = after_int10 m ax bx cx dx block in
-    ap (λ (s : CardState × Served). record m { card = with_fresh_canvas s.0; bda = s.1.1 }) (called_same m ax bx cx dx block)
+    ap (λ (s : CardState × Served). record m { card = without_unseen_dots s.0; bda = s.1.1 }) (called_same m ax bx cx dx block)
     ∙ ap (λ (c : CardState). record m { card = c; bda = after.1.1 }) (twice after.0)
 after_same m (Advance count) = ap (λ (c : CardState). record m { card = c }) (advance_after m.card count)
 after_same m Frame = ap (with_card m) (cannot_be_told.frame m.card)
@@ -138,14 +138,14 @@ after_same m (Show what) = once m m.card
 -- ---- reports
 
 -- two machines that are equal without those dots
-alike : (m other : Machine) (n : ℕ) (steps : List Step) → machine_with_fresh_canvas m ≡ machine_with_fresh_canvas other
+alike : (m other : Machine) (n : ℕ) (steps : List Step) → machine_without_unseen_dots m ≡ machine_without_unseen_dots other
     → report_from m n steps ≡ report_from other n steps
 alike m other n [] same = refl
 alike m other n (step ∷ steps) same =
     let answers = sym (answer_same m step) ∙ ap (λ (x : Machine). answer_to x step) same ∙ answer_same other step in
-    let leaves = sym (after_same m step) ∙ ap (λ (x : Machine). machine_with_fresh_canvas (after_step x step)) same ∙ after_same other step in
+    let leaves = sym (after_same m step) ∙ ap (λ (x : Machine). machine_without_unseen_dots (after_step x step)) same ∙ after_same other step in
     ap (λ (r : StepAnswer). line n r ++ report_from (after_step m step) (n + 1) steps) answers
     ∙ ap (λ (l : List ℕ). line n (answer_to other step) ++ l) (alike (after_step m step) (after_step other step) (n + 1) steps leaves)
 
-pub report_same : (m : Machine) (n : ℕ) (steps : List Step) → report_from (machine_with_fresh_canvas m) n steps ≡ report_from m n steps
-report_same m n steps = alike (machine_with_fresh_canvas m) m n steps (once m m.card)
+pub report_same : (m : Machine) (n : ℕ) (steps : List Step) → report_from (machine_without_unseen_dots m) n steps ≡ report_from m n steps
+report_same m n steps = alike (machine_without_unseen_dots m) m n steps (once m m.card)

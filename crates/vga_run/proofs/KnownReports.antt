@@ -10,7 +10,7 @@ use Rattle.vga_script.specs.declared.step.Step.{Step}
 use Rattle.vga_script.specs.Input.{IsReadingFault}
 use Rattle.vga_script.specs.Spelled.{SpellsExpanded}
 use Rattle.vga_script.specs.Step.{AreInRange}
-use Rattle.vga_run.specs.KnownReport.{ReportsAs, RunsAs}
+use Rattle.vga_run.specs.KnownReport.{WritesReportOrPrefix, RunWritesKnownReport}
 use Rattle.vga_run.specs.Report.{report_of, steps_until}
 use Rattle.vga_run.specs.Run.{RunAnswers, ReportsSteps, RunsScript}
 use Rattle.vga_run.proofs.ScreenLemmas.{glyph_bytes}
@@ -37,7 +37,7 @@ module _ (Are : FontSet → List Step → Type 0) (report : FontSet → List Ste
 
   steps_known : ReportsAlike → (until : Option ℕ) (fonts : FontSet) (steps : List Step) (before after : Option (List ℕ)) (result : Result Unit Fault)
       → AreFonts fonts → AreInRange steps → until ≡ None → Are fonts steps → ReportsSteps until fonts steps before after result
-      → ReportsAs (report fonts steps) before after result
+      → WritesReportOrPrefix (report fonts steps) before after result
   steps_known law until fonts steps before after (Ok u) glyphs range whole are w =
       subst (Appends before after) (ap (λ (n : Option ℕ). report_of fonts (steps_until n steps)) whole ∙ law fonts steps glyphs range are) w
   steps_known law until fonts steps before after (Err WriteFault) glyphs range whole are w =
@@ -46,7 +46,7 @@ module _ (Are : FontSet → List Step → Type 0) (report : FontSet → List Ste
 
   pub script_known : ReportsAlike → (until : Option ℕ) (file : List ℕ) (steps : List Step) (before after : Option (List ℕ)) (result : Result Unit Fault)
       → AreBytes file → AreInRange steps → RunsScript until file steps before after result → until ≡ None → Are (fonts_of file) steps
-      → ReportsAs (report (fonts_of file) steps) before after result
+      → WritesReportOrPrefix (report (fonts_of file) steps) before after result
   script_known law until file steps before after (Err FontSize) bytes range w whole are = tt
   script_known law until file steps before after (Ok u) bytes range w whole are =
       steps_known law until (fonts_of file) steps before after (Ok u) (glyph_bytes file bytes) range whole are w.1
@@ -55,7 +55,7 @@ module _ (Are : FontSet → List Step → Type 0) (report : FontSet → List Ste
   script_known law until file steps before after (Err _) bytes range w whole are = tt
 
   pub run_known : ReportsAlike → OneList → StepsFit → (until : Option ℕ) (file : List ℕ) (input before after : Option (List ℕ)) (result : Result Unit Fault)
-      → AreBytes file → RunAnswers until file input before after result → RunsAs Are report until file input before after result
+      → AreBytes file → RunAnswers until file input before after result → RunWritesKnownReport Are report until file input before after result
   run_known law one fit until file input before after (Ok u) glyphs (size, (found, (read, is, others), w)) =
       λ bytes steps whole e spelled are.
       let same = input_script one input bytes read steps found e is.0 spelled others in
@@ -70,10 +70,10 @@ module _ (Are : FontSet → List Step → Type 0) (report : FontSet → List Ste
 
   -- an unread input has no such report
   pub unread_known : (until : Option ℕ) (file : List ℕ) (input before after : Option (List ℕ)) (f : Fault) → IsReadingFault input f
-      → RunsAs Are report until file input before after (Err f)
+      → RunWritesKnownReport Are report until file input before after (Err f)
   unread_known until file input before after f (inl is) =
-      subst (λ (x : Fault). RunsAs Are report until file input before after (Err x)) (sym is) (λ bytes steps whole e spelled are. tt)
+      subst (λ (x : Fault). RunWritesKnownReport Are report until file input before after (Err x)) (sym is) (λ bytes steps whole e spelled are. tt)
   unread_known until file input before after f (inr (inl (is, long))) =
-      subst (λ (x : Fault). RunsAs Are report until file input before after (Err x)) (sym is) (λ bytes steps whole e spelled are. tt)
+      subst (λ (x : Fault). RunWritesKnownReport Are report until file input before after (Err x)) (sym is) (λ bytes steps whole e spelled are. tt)
   unread_known until file input before after f (inr (inr is)) =
-      subst (λ (x : Fault). RunsAs Are report until file input before after (Err x)) (sym is) (λ bytes steps whole e spelled are. tt)
+      subst (λ (x : Fault). RunWritesKnownReport Are report until file input before after (Err x)) (sym is) (λ bytes steps whole e spelled are. tt)

@@ -6,7 +6,7 @@ use Rattle.std.proofs.lemmas.List.{take_all, length-take-le}
 use Rattle.std.specs.Prelude.{OnOk}
 use Rattle.std.specs.Io.KnownBytes.{Appends}
 use Rattle.std.proofs.KnownBytes.{Appends-nil, Appends-trans}
-use Rattle.vga_bits.specs.Tracked.{AppendsPrefix, Writes}
+use Rattle.vga_bits.specs.Tracked.{AppendsPrefix, WritesWholeOrPrefix}
 use Rattle.vga_bits.specs.declared.fault.Fault.{Fault}
 use Rattle.vga_bits.specs.Refusal.{refusal_name}
 use Rattle.vga_bits.specs.declared.refusal.Refusal.{Refusal}
@@ -19,7 +19,7 @@ use Rattle.vga_script.specs.Step.{IsInRange, AreInRange}
 use Rattle.vga_run.specs.declared.machine.Machine.{Machine}
 use Rattle.bios_modes.specs.Valid.{IsValid}
 use Rattle.vga_run.specs.Step.{AllocatesMemory, answer_to, after_step, after_steps, after_int10}
-use Rattle.vga_run.specs.Run.{WritesStep, RunsOutOfMemoryIn, WritesReport, IsTakenOrNot, IsOnTheWay}
+use Rattle.vga_run.specs.Run.{WritesStep, RunsOutOfMemoryIn, WritesReport, IsTakenOrNot, HasTakenFirstSteps}
 use Rattle.vga_show.specs.Ppm.{ppm}
 use Rattle.vga_bits.proofs.WritingLemmas.{writes_after, writes_more, prefix_of_more}
 use Rattle.vga_card.specs.Card.{CardState}
@@ -67,7 +67,7 @@ prefix_of_dump old new n why text a =
 
 -- what a call that writes the line of a step answers is what taking the step does
 pub step_is_written : (before after : Option (List ℕ)) (failed : Bool) (result : Result Unit Fault) (machine : Machine) (n : ℕ) (step : Step)
-    → Writes before after failed result (line n (answer_to machine step)) → WritesStep before after failed result machine n step
+    → WritesWholeOrPrefix before after failed result (line n (answer_to machine step)) → WritesStep before after failed result machine n step
 step_is_written before after failed (Ok u) machine n step w = w
 step_is_written before after failed (Err e) machine n step w = inl w
 
@@ -79,23 +79,23 @@ Answers m ax bx cx dx block result next bios = MayAnswer card_meaning (asked_ser
 -- and so is what one answers that writes the line of a service
 pub reply_is_written : (before after : Option (List ℕ)) (failed : Bool) (result : Result Unit Fault) (machine : Machine) (n ax bx cx dx : ℕ) (block : List ℕ)
     (next : CardState) (bios : BiosData) (reply : ServiceReply)
-    → (next, (Ok reply, bios)) ≡ after_int10 machine ax bx cx dx block → Writes before after failed result (line n (Served reply.regs (table_bytes reply.table)))
+    → (next, (Ok reply, bios)) ≡ after_int10 machine ax bx cx dx block → WritesWholeOrPrefix before after failed result (line n (Served reply.regs (table_bytes reply.table)))
     → WritesStep before after failed result machine n (Int ax bx cx dx block)
 unfolding answer_to
 reply_is_written before after failed result machine n ax bx cx dx block next bios reply is w =
     step_is_written before after failed result machine n (Int ax bx cx dx block) (subst
-    (λ (c : CardState × CallOutcome). Writes before after failed result (line n (of_service c.1.0))) is w)
+    (λ (c : CardState × CallOutcome). WritesWholeOrPrefix before after failed result (line n (of_service c.1.0))) is w)
 
 pub refusal_is_written : (before after : Option (List ℕ)) (failed : Bool) (result : Result Unit Fault) (machine : Machine) (n ax bx cx dx : ℕ) (block : List ℕ)
     (next : CardState) (bios : BiosData) (error : ServiceError) (why : Refusal)
-    → error ≡ service.Refused why → Answers machine ax bx cx dx block (Err error) next bios → Writes before after failed result (line n (Short (Refused why)))
+    → error ≡ service.Refused why → Answers machine ax bx cx dx block (Err error) next bios → WritesWholeOrPrefix before after failed result (line n (Short (Refused why)))
     → WritesStep before after failed result machine n (Int ax bx cx dx block)
 unfolding answer_to after_int10
 refusal_is_written before after failed result machine n ax bx cx dx block next bios (service.Refused other) why e is w =
     let same : other ≡ why = cc in
     step_is_written before after failed result machine n (Int ax bx cx dx block)
-    (subst (λ (c : CardState × CallOutcome). Writes before after failed result (line n (of_service c.1.0))) is
-    (subst (λ (r : Refusal). Writes before after failed result (line n (Short (Refused r)))) (sym same) w))
+    (subst (λ (c : CardState × CallOutcome). WritesWholeOrPrefix before after failed result (line n (of_service c.1.0))) is
+    (subst (λ (r : Refusal). WritesWholeOrPrefix before after failed result (line n (Short (Refused r)))) (sym same) w))
 refusal_is_written before after failed result machine n ax bx cx dx block next bios service.OutOfMemory why e is w = absurd (cc)
 
 -- ---- some steps and others
@@ -234,7 +234,7 @@ state_more start machine next steps i d step state within is en =
 
 -- whether it is taken or not, some of the first steps are
 pub way_more : (start machine next : Machine) (steps : List Step) (i : ℕ) (d step : Step) → machine ≡ after_steps start (take i steps) → i < length steps
-    → step ≡ get_or steps i d → IsTakenOrNot machine step next → IsOnTheWay start steps next
+    → step ≡ get_or steps i d → IsTakenOrNot machine step next → HasTakenFirstSteps start steps next
 way_more start machine next steps i d step state within is (inl same) = (i, same ∙ state)
 way_more start machine next steps i d step state within is (inr en) = (i + 1, state_more start machine next steps i d step state within is en)
 
@@ -310,7 +310,7 @@ reported_all old new failed start machine first steps i h past =
 
 -- a report is written where, after it, nothing more is
 pub report_is_flushed : (old mid new : Option (List ℕ)) (failed : Bool) (result : Result Unit Fault) (machine : Machine) (n : ℕ) (steps : List Step)
-    → Appends old mid (report_from machine n steps) → Writes mid new failed result [] → WritesReport old new failed result machine n steps
+    → Appends old mid (report_from machine n steps) → WritesWholeOrPrefix mid new failed result [] → WritesReport old new failed result machine n steps
 report_is_flushed old mid new failed (Ok u) machine n steps a w = writes_more {U = Unit} old mid new failed (Ok u) (report_from machine n steps) a w
 report_is_flushed old mid new failed (Err e) machine n steps a w = inl (writes_more {U = Unit} old mid new failed (Err e) (report_from machine n steps) a w)
 
@@ -330,8 +330,8 @@ first_in_range (s ∷ steps) (suc n) all = (all.0, first_in_range steps n all.1)
 
 -- after its line a call writes the picture of a step
 pub writes_picture : {U : Type 0} (old mid new : Option (List ℕ)) (failed : Bool) (result : Result U Fault) (n width height len : ℕ) (bytes : List ℕ)
-    → len ≡ length (ppm width height bytes) → Appends old mid (picture_line n len) → Writes mid new failed result (ppm width height bytes ++ codes "\n")
-    → Writes old new failed result (line n (Picture width height bytes))
+    → len ≡ length (ppm width height bytes) → Appends old mid (picture_line n len) → WritesWholeOrPrefix mid new failed result (ppm width height bytes ++ codes "\n")
+    → WritesWholeOrPrefix old new failed result (line n (Picture width height bytes))
 unfolding line
 writes_picture {U} old mid new failed result n width height len bytes whole a w =
     let head = subst (λ (k : ℕ). Appends old mid (picture_line n k)) whole a in

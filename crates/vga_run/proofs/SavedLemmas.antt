@@ -2,11 +2,11 @@
 use Rattle.std.proofs.Common.{◌≡◌, ℕ, ◌+◌, ◌*◌, ◌/◌, ◌%◌, ◌≤◌, refl, sym, ap, ◌∙◌, subst, arith, List, ◌++◌, length, take, drop, length-append}
 use Rattle.std.proofs.lemmas.List.{take_at, drop_at}
 use Rattle.vga_card.specs.Saved.{saved_card, IsSavedCard, card_from}
-use Rattle.vga_card.specs.FreshCanvas.{with_fresh_canvas}
+use Rattle.vga_card.specs.FreshCanvas.{without_unseen_dots}
 use Rattle.bios_modes.specs.Saved.{saved_bda, IsSavedBda, bda_from}
 use Rattle.vga_run.specs.declared.machine.Machine.{Machine}
 use Rattle.vga_run.specs.Saved.{saved_mark, four_bytes_of_number, number_of_four_bytes, saved_parts, saved_machine, past_header, past_bda, IsSavedMachine, machine_from}
-use Rattle.vga_run.specs.Saved.{machine_with_fresh_canvas}
+use Rattle.vga_run.specs.Saved.{machine_without_unseen_dots}
 
 long_back : (n : ℕ) → n % 65536 % 256 + 256 * (n % 65536 / 256) + 65536 * (n / 65536 % 256 + 256 * (n / 65536 / 256)) ≡ n
 long_back n = omega arith
@@ -68,8 +68,8 @@ module _ (m : Machine) (size : length (saved_bda m.bda) ≡ 31) (card : IsSavedC
     };
   }
 
-  pub machine_is_back : bda_from (saved_bda m.bda) ≡ m.bda → card_from (saved_card m.card) ≡ with_fresh_canvas m.card
-      → machine_from m.fonts (saved_machine m) ≡ machine_with_fresh_canvas m
+  pub machine_is_back : bda_from (saved_bda m.bda) ≡ m.bda → card_from (saved_card m.card) ≡ without_unseen_dots m.card
+      → machine_from m.fonts (saved_machine m) ≡ machine_without_unseen_dots m
   unfolding machine_from
   machine_is_back bios adapter =
       let d = ap bda_from bda_are ∙ bios in

@@ -11,7 +11,7 @@ use Rattle.vga_card.specs.Bounds.{IsCard}
 use Rattle.vga_card.specs.Bus.{card_meaning}
 use Rattle.vga_card.specs.Card.{CardState, power_on_card}
 use Rattle.vga_card.specs.Dots.{dots}
-use Rattle.vga_card.specs.Frames.{frame, frame_count}
+use Rattle.vga_card.specs.Frames.{frame, card_dots_to_frame_end}
 use Rattle.vga_card.specs.Picture.{bytes_of_dots}
 use Rattle.bios_modes.specs.declared.modes.ModeRow.{ModeRow}
 use Rattle.bios_modes.specs.Heights.{mode_row_at_height}
@@ -46,7 +46,7 @@ use Rattle.vga_run.specs.Machine.{power_on_machine}
 use Rattle.vga_run.specs.Answer.{Served, of_service, of_shape}
 use Rattle.vga_run.specs.Step.{answer_to, after_step, after_int10}
 use Rattle.vga_run.specs.Report.{line, report_from, report_of}
-use Rattle.vga_run.specs.ScreenReport.{IsClearingModeSet, StaysOnScreens, registers_of, IsScreenReportStep, AreScreenReportSteps, screen_after_mode_set, call_on_screen, answer_on_screen, screen_after}
+use Rattle.vga_run.specs.ScreenReport.{IsClearingModeSet, IsScreenReportCall, registers_of, IsScreenReportStep, AreScreenReportSteps, screen_after_mode_set, call_on_screen, answer_on_screen, screen_after}
 use Rattle.vga_run.specs.ScreenReport.{screen_report_from, mode_set_report, first_report, screen_report}
 
 -- the laws of the crates below
@@ -174,7 +174,7 @@ set_leads law mode keeps fonts r block c d s (has, clears) e glyphs z number =
     } in
     subst (λ (row : Option ModeRow). CallLeads (after_call fonts r block c d) (screen_after_mode_set row mode fonts r s) c) (sym h.is) fresh
 
-call_leads : Laws → (call : Option Call) (fonts : FontSet) (r : Regs) (block : List ℕ) (m : Machine) (s : Screen) → call_of r ≡ call → StaysOnScreens call →
+call_leads : Laws → (call : Option Call) (fonts : FontSet) (r : Regs) (block : List ℕ) (m : Machine) (s : Screen) → call_of r ≡ call → IsScreenReportCall call →
     AreRegistersWords r → AreBytes block → AreFonts fonts → Stands fonts m s
     → CallLeads (after_call fonts r block m.card m.bda) (call_on_screen call fonts r block s) m.card
 call_leads law None fonts r block m s e stays words bytes glyphs is = refused_leads _ BadFunction m.card m.bda s
@@ -218,7 +218,7 @@ call_stands law fonts ax bx cx dx block m s small z a same start shows beam = re
 frame_stands : Laws → (fonts : FontSet) (m : Machine) (s : Screen) → Stands fonts m s → FrameDrawsScreen m.card m.bda s →
     Stands fonts (after_step m Frame) (screen_after fonts s Frame)
 unfolding after_step screen_after
-frame_stands law fonts m s is f = record { card = law.dots (frame_count m.card) m.card is.card; bda = is.bda; same = is.same; shows = f.next; start = f.start }
+frame_stands law fonts m s is f = record { card = law.dots (card_dots_to_frame_end m.card) m.card is.card; bda = is.bda; same = is.same; shows = f.next; start = f.start }
 
 step_leads : Laws → (fonts : FontSet) (m : Machine) (s : Screen) (step : Step) → AreFonts fonts → IsInRange step → IsScreenReportStep step → Stands fonts m s →
     StepLeads fonts m s step

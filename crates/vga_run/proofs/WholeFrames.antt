@@ -8,10 +8,10 @@ use Rattle.bios_services.specs.declared.call.Call.TheVariants.{SetMode, ReadTabl
 use Rattle.bios_services.specs.Calls.{call_of}
 use Rattle.vga_script.specs.declared.step.Step.{Step}
 use Rattle.vga_script.specs.declared.step.Step.TheVariants.{Int, Frame}
-use Rattle.vga_run.specs.ScreenReport.{IsClearingModeSet, StaysOnScreens, registers_of, IsScreenReportStep, AreScreenReportSteps}
+use Rattle.vga_run.specs.ScreenReport.{IsClearingModeSet, IsScreenReportCall, registers_of, IsScreenReportStep, AreScreenReportSteps}
 use Rattle.bios_screen.specs.Drawing.{Drawing, dots_a_frame, take_frame, columns_of_row}
 use Rattle.bios_screen.specs.Whole.{FrameEndsAtDotZero}
-use Rattle.vga_run.specs.DotReport.{drawing_after, power_on_drawing, CallKeepsDrawing, AllDotReportSteps, AreDotReportSteps}
+use Rattle.vga_run.specs.DotReport.{drawing_after, power_on_drawing, IsDotReportCall, AllDotReportSteps, AreDotReportSteps}
 use Rattle.bios_modes.specs.Kinds.{is_text_kind, is_packed_kind, kind_of_row}
 use Rattle.bios_modes.proofs.RowLemmas.{each_mode}
 use Rattle.bios_modes.specs.declared.modes.ModeRow.{ModeRow}
@@ -34,7 +34,7 @@ some_dots = each_mode (λ _ row. HasDots row) (omega arith) (omega arith) (omega
 abbrev pub FramesEnd : Type 0
 FramesEnd = (b : Drawing) → b.dot < dots_a_frame b.screen.mode → FrameEndsAtDotZero b
 
-stays_at : (b : Drawing) (len : ℕ) (call : Option Call) → b.dot ≡ 0 → StaysOnScreens call → CallKeepsDrawing b len call
+stays_at : (b : Drawing) (len : ℕ) (call : Option Call) → b.dot ≡ 0 → IsScreenReportCall call → IsDotReportCall b len call
 stays_at b len None e stays = tt
 stays_at b len (Some (SetMode mode keeps)) e (inl clears) = inl (clears, e)
 stays_at b len (Some (SetMode mode keeps)) e (inr none) = inr none
@@ -42,7 +42,7 @@ stays_at b len (Some (ReadTable service)) e stays = tt
 stays_at b len (Some (LoadGlyphs load)) e stays = inr e
 stays_at b len (Some (InMode service)) e stays = tt
 
-clears_at : (b : Drawing) (len : ℕ) (call : Option Call) → b.dot ≡ 0 → IsClearingModeSet call → CallKeepsDrawing b len call
+clears_at : (b : Drawing) (len : ℕ) (call : Option Call) → b.dot ≡ 0 → IsClearingModeSet call → IsDotReportCall b len call
 clears_at b len None e clears = absurd clears
 clears_at b len (Some (SetMode mode keeps)) e clears = inl (clears, e)
 clears_at b len (Some (ReadTable service)) e clears = absurd clears

@@ -11,7 +11,7 @@ use Rattle.bios_modes.specs.Fonts.{FontSet}
 use Rattle.bios_services.specs.declared.call.Call.{Call}
 use Rattle.bios_services.specs.declared.call.Call.TheVariants.{SetMode, LoadGlyphs}
 use Rattle.bios_services.specs.Calls.{call_of}
-use Rattle.bios_screen.specs.Drawing.{Drawing, take_dots, take_frame, MayLoad}
+use Rattle.bios_screen.specs.Drawing.{Drawing, take_dots, take_frame, MayLoadGlyphs}
 use Rattle.bios_screen.specs.Fresh.{fresh_text}
 use Rattle.bios_screen.specs.Picture.{picture_width, picture_height}
 use Rattle.vga_script.specs.declared.step.Step.{Step}
@@ -19,7 +19,7 @@ use Rattle.vga_script.specs.declared.step.Step.TheVariants.{Int, Advance, Frame}
 use Rattle.vga_run.specs.declared.answer.Answer.TheVariants.{Done, Refused}
 use Rattle.vga_run.specs.Answer.{StepAnswer, Short, Picture, Ragged, of_service}
 use Rattle.vga_run.specs.ScreenReport.{IsClearingModeSet, registers_of, call_on_screen}
-use Rattle.vga_run.specs.KnownReport.{ReportsAs, RunsAs}
+use Rattle.vga_run.specs.KnownReport.{WritesReportOrPrefix, RunWritesKnownReport}
 use Rattle.vga_run.specs.Report.{line}
 
 -- what a step answers: a call answers as on the screen at that moment, and a frame with the picture
@@ -66,29 +66,29 @@ dot_report fonts steps = dot_report_from fonts (power_on_drawing fonts) 1 steps
 -- A call, with a block of this length, that leads from a screen to a screen: a mode set that clears
 -- the memory at dot 0, or of a mode that does not exist; a load of glyphs at dot 0, or one that is
 -- refused; or any other call, at any dot.
-abbrev pub CallKeepsDrawing : Drawing → ℕ → Option Call → Type 0
-CallKeepsDrawing b len (Some (SetMode mode keeps)) =
+abbrev pub IsDotReportCall : Drawing → ℕ → Option Call → Type 0
+IsDotReportCall b len (Some (SetMode mode keeps)) =
     (IsClearingModeSet (Some (SetMode mode keeps)) × (b.dot ≡ 0))
     ⊎ (mode_row mode ≡ None)
-CallKeepsDrawing b len (Some (LoadGlyphs load)) = MayLoad b load len
-CallKeepsDrawing b len call = Unit {0}
+IsDotReportCall b len (Some (LoadGlyphs load)) = MayLoadGlyphs b load len
+IsDotReportCall b len call = Unit {0}
 
--- such a call, an advance, or a frame
+-- a call that a dot report may have, an advance, or a frame
 abbrev pub IsDotReportStep : Drawing → Step → Type 0
 IsDotReportStep b (Int ax bx cx dx block) =
-    CallKeepsDrawing b (length block) (call_of (registers_of ax bx cx dx))
+    IsDotReportCall b (length block) (call_of (registers_of ax bx cx dx))
 IsDotReportStep b (Advance count) = Unit {0}
 IsDotReportStep b Frame = Unit {0}
 IsDotReportStep b step = ⊥
 
--- all steps are such
+-- all steps may stand in a dot report
 abbrev pub AllDotReportSteps : FontSet → Drawing → List Step → Type 0
 AllDotReportSteps fonts b [] = Unit {0}
 AllDotReportSteps fonts b (step ∷ steps) =
     IsDotReportStep b step × AllDotReportSteps fonts (drawing_after fonts b step)
     steps
 
--- all steps are such, and the first is a mode set that clears the memory
+-- all steps may stand in a dot report, and the first is a mode set that clears the memory
 abbrev pub AreDotReportSteps : FontSet → List Step → Type 0
 AreDotReportSteps fonts (Int ax bx cx dx block ∷ steps) =
     IsClearingModeSet (call_of (registers_of ax bx cx dx))
@@ -101,7 +101,7 @@ AreDotReportSteps fonts steps = ⊥
 abbrev pub WritesDotReport : FontSet → List Step → Option (List ℕ) → Option (List ℕ) →
     Result Unit Fault → Type 0
 WritesDotReport fonts steps before after result =
-    ReportsAs (dot_report fonts steps) before after result
+    WritesReportOrPrefix (dot_report fonts steps) before after result
 
 -- What a run with a font file and without a limit answers: that report, if its input spells such
 -- steps.
@@ -109,4 +109,4 @@ abbrev pub RunWritesDotReport : Option ℕ → List ℕ → Option (List ℕ) �
     (List ℕ) →
     Result Unit Fault → Type 0
 RunWritesDotReport until file input before after result =
-    RunsAs AreDotReportSteps dot_report until file input before after result
+    RunWritesKnownReport AreDotReportSteps dot_report until file input before after result

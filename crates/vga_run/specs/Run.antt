@@ -51,8 +51,8 @@ abbrev pub IsTakenOrNot : Machine → Step → Machine → Type 0
 IsTakenOrNot old step new = (new ≡ old) ⊎ (new ≡ after_step old step)
 
 -- a machine that has taken some of the first of these steps, none of them in part
-abbrev pub IsOnTheWay : Machine → List Step → Machine → Type 0
-IsOnTheWay old steps new = (n : ℕ) × (new ≡ after_steps old (take n steps))
+abbrev pub HasTakenFirstSteps : Machine → List Step → Machine → Type 0
+HasTakenFirstSteps old steps new = (n : ℕ) × (new ≡ after_steps old (take n steps))
 
 -- an allocation failed in the run of some steps from power-on, after the report of the steps before
 -- it was written
@@ -61,9 +61,9 @@ RunsOutOfMemory until fonts steps before after = RunsOutOfMemoryIn (power_on_mac
     (steps_until until steps) before after
 
 -- an allocation failed in the run of the script that an input spells
-abbrev pub StopsRun : Option ℕ → FontSet → Option (List ℕ) → Option (List ℕ) → Option (List ℕ) →
+abbrev pub InputRunsOutOfMemory : Option ℕ → FontSet → Option (List ℕ) → Option (List ℕ) → Option (List ℕ) →
     Type 0
-StopsRun until fonts input before after = (steps : List Step) × InputMeans input steps
+InputRunsOutOfMemory until fonts input before after = (steps : List Step) × InputMeans input steps
     × RunsOutOfMemory until fonts steps before after
 
 -- What the run of these steps with these fonts answers, with a limit or without, over a writer
@@ -90,18 +90,18 @@ RunsScript until file steps before after result = (length file ≡ font_file_len
 -- input and a writer whose contents are `before` and `after`. It has written the report of the
 -- input's script, or a prefix of it if the writer failed; or it returns the first fault of the
 -- input.
-abbrev pub Reports : Option ℕ → FontSet → Option (List ℕ) → Option (List ℕ) → Option (List ℕ) →
+abbrev pub ReportsInput : Option ℕ → FontSet → Option (List ℕ) → Option (List ℕ) → Option (List ℕ) →
     Result Unit Fault → Type 0
-Reports until fonts input before after (Ok u) = (steps : List Step) × InputMeans input steps
+ReportsInput until fonts input before after (Ok u) = (steps : List Step) × InputMeans input steps
     × Appends before after (report_of fonts (steps_until until steps))
-Reports until fonts input before after (Err WriteFault) = (steps : List Step)
+ReportsInput until fonts input before after (Err WriteFault) = (steps : List Step)
     × InputMeans input steps
     × AppendsPrefix before after (report_of fonts (steps_until until steps))
-Reports until fonts input before after (Err FontSize) = ⊥
-Reports until fonts input before after (Err ReadFault) = ⊤
-Reports until fonts input before after (Err TooLong) = IsTooLong input
-Reports until fonts input before after (Err OutOfMemory) = ⊤
-Reports until fonts input before after (Err fault) = InputHasFault input fault
+ReportsInput until fonts input before after (Err FontSize) = ⊥
+ReportsInput until fonts input before after (Err ReadFault) = ⊤
+ReportsInput until fonts input before after (Err TooLong) = IsTooLong input
+ReportsInput until fonts input before after (Err OutOfMemory) = ⊤
+ReportsInput until fonts input before after (Err fault) = InputHasFault input fault
 
 -- What a run with a font file answers: what the run with its fonts does, or that the file has the
 -- wrong size.
@@ -109,7 +109,7 @@ abbrev pub RunAnswers : Option ℕ → List ℕ → Option (List ℕ) → Option
     Result Unit Fault → Type 0
 RunAnswers until file input before after (Err FontSize) = length file ≢ font_file_len
 RunAnswers until file input before after result = (length file ≡ font_file_len)
-    × Reports until (fonts_of file) input before after result
+    × ReportsInput until (fonts_of file) input before after result
 
 -- With a font file of the right size, bytes that spell a script are run, unless an allocation, the
 -- reader or the writer fails.

@@ -22,13 +22,13 @@ use Rattle.bios_screen.specs.Screen.{Screen}
 use Rattle.bios_screen.specs.Step.{refusal_on, next, answer_on}
 use Rattle.bios_screen.specs.Colours.{table_answer}
 use Rattle.bios_screen.specs.Loaded.{load_refusal_on, load_glyphs}
-use Rattle.bios_screen.specs.Called.{reply_unless, screen_unless, table_reply_unless}
+use Rattle.bios_screen.specs.Called.{reply_unless_refused, screen_unless_refused, table_reply_unless_refused}
 use Rattle.bios_screen.specs.Fresh.{fresh_screen}
-use Rattle.bios_screen.specs.Picture.{dot_at, picture_width, picture_height, next_frame}
+use Rattle.bios_screen.specs.Picture.{dot_colour_at, picture_width, picture_height, next_frame}
 use Rattle.bios_screen.specs.Raster.{picture_bytes}
 use Rattle.vga_script.specs.declared.step.Step.{Step}
 use Rattle.vga_script.specs.declared.step.Step.TheVariants.{Int, Frame}
-use Rattle.vga_run.specs.KnownReport.{ReportsAs, RunsAs}
+use Rattle.vga_run.specs.KnownReport.{WritesReportOrPrefix, RunWritesKnownReport}
 use Rattle.vga_run.specs.Answer.{StepAnswer, Served, Picture, Ragged, of_service}
 use Rattle.vga_run.specs.Report.{line}
 
@@ -41,22 +41,22 @@ IsClearingModeSet call = ⊥
 
 -- a call that leads from a screen to a screen: it sets no mode; or it clears the memory; or its
 -- mode does not exist
-abbrev pub StaysOnScreens : Option Call → Type 0
-StaysOnScreens (Some (SetMode mode keeps)) = IsClearingModeSet (Some (SetMode mode keeps))
+abbrev pub IsScreenReportCall : Option Call → Type 0
+IsScreenReportCall (Some (SetMode mode keeps)) = IsClearingModeSet (Some (SetMode mode keeps))
     ⊎ (mode_row mode ≡ None)
-StaysOnScreens call = Unit {0}
+IsScreenReportCall call = Unit {0}
 
 -- the registers of a call
 abbrev pub registers_of : ℕ → ℕ → ℕ → ℕ → Regs
 registers_of ax bx cx dx = record { ax = ax; bx = bx; cx = cx; dx = dx }
 
--- such a call, or a whole frame
+-- a call that a screen report may have, or a whole frame
 abbrev pub IsScreenReportStep : Step → Type 0
-IsScreenReportStep (Int ax bx cx dx block) = StaysOnScreens (call_of (registers_of ax bx cx dx))
+IsScreenReportStep (Int ax bx cx dx block) = IsScreenReportCall (call_of (registers_of ax bx cx dx))
 IsScreenReportStep Frame = Unit {0}
 IsScreenReportStep step = ⊥
 
--- all steps are such, and the first is a mode set that clears the memory
+-- all steps may stand in a screen report, and the first is a mode set that clears the memory
 abbrev pub AreScreenReportSteps : List Step → Type 0
 AreScreenReportSteps (Int ax bx cx dx block ∷ steps) =
     IsClearingModeSet (call_of (registers_of ax bx cx dx))
@@ -81,14 +81,14 @@ call_on_screen None fonts r block s = (s, Err BadFunction)
 call_on_screen (Some (SetMode mode keeps)) fonts r block s =
     screen_after_mode_set (mode_row mode) mode fonts r s
 call_on_screen (Some (ReadTable service)) fonts r block s =
-    (s, table_reply_unless (table_refusal service) (table_answer s service) r)
+    (s, table_reply_unless_refused (table_refusal service) (table_answer s service) r)
 call_on_screen (Some (LoadGlyphs load)) fonts r block s =
     let why = load_refusal_on s load (length block) in
-    (screen_unless why s (load_glyphs fonts s load block), reply_unless why r)
+    (screen_unless_refused why s (load_glyphs fonts s load block), reply_unless_refused why r)
 call_on_screen (Some (InMode service)) fonts r block s =
     let why = refusal_on s service (length block) in (
-      screen_unless why s (next fonts s service block),
-      reply_unless why (answer_on fonts s service r),
+      screen_unless_refused why s (next fonts s service block),
+      reply_unless_refused why (answer_on fonts s service r),
     )
 
 -- what a call answers, and a frame: the picture of the active page; there are no other steps
@@ -96,7 +96,7 @@ unfoldable pub answer_on_screen : FontSet → Screen → Step → StepAnswer
 answer_on_screen fonts s (Int ax bx cx dx block) = let r = registers_of ax bx cx dx in
     of_service (call_on_screen (call_of r) fonts r block s).1
 answer_on_screen fonts s Frame = Picture (picture_width s) (picture_height s)
-    (picture_bytes (picture_width s) (picture_height s) (dot_at s s.page))
+    (picture_bytes (picture_width s) (picture_height s) (dot_colour_at s s.page))
 answer_on_screen fonts s step = Ragged
 
 -- the screen after a step
@@ -139,7 +139,7 @@ screen_report fonts steps = []
 abbrev pub WritesScreenReport : FontSet → List Step → Option (List ℕ) → Option (List ℕ) →
     Result Unit Fault → Type 0
 WritesScreenReport fonts steps before after result =
-    ReportsAs (screen_report fonts steps) before after result
+    WritesReportOrPrefix (screen_report fonts steps) before after result
 
 -- What a run with a font file and without a limit answers: that report, if its input spells such
 -- steps.
@@ -147,5 +147,5 @@ abbrev pub RunWritesScreenReport : Option ℕ → List ℕ → Option (List ℕ)
     (List ℕ) →
     Result Unit Fault → Type 0
 RunWritesScreenReport until file input before after result =
-    RunsAs (λ (fonts : FontSet). AreScreenReportSteps) screen_report until file input before after
+    RunWritesKnownReport (λ (fonts : FontSet). AreScreenReportSteps) screen_report until file input before after
     result

@@ -70,13 +70,13 @@ impl Bus for ListedCard {
 
 impl ListedCard {
     ghost use Rattle.std.specs.Prelude.{true};
-    ghost use Rattle.vga_card.specs.FreshCanvas.{with_fresh_canvas};
+    ghost use Rattle.vga_card.specs.FreshCanvas.{without_unseen_dots};
     ghost use Rattle.vga_script.specs.ScriptBytes.{script_without_steps};
 
     /// A copy of an adapter without any cycle so far, and room for a script of `room` bytes.
     fn new(alloc: Global, card: &Card, room: usize) -> Result<ListedCard, Unlisted>
         ensures ok { IfOk result (λ c. c ≡ record {
-          card = with_fresh_canvas card.now;
+          card = without_unseen_dots card.now;
           script = script_without_steps room;
           fits = true;
         }) }

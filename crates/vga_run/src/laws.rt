@@ -7,7 +7,7 @@ ghost use Rattle.vga_run.specs.Step.{answer_to, after_step, after_steps, after_i
 ghost use Rattle.vga_run.specs.CycleList.{cycles_of_call, bytes_read_by_steps};
 ghost use Rattle.vga_run.specs.CycleList.{plan_answer_from_bytes};
 ghost use Rattle.vga_run.specs.Report.{report_from};
-ghost use Rattle.vga_run.specs.Saved.{machine_with_fresh_canvas};
+ghost use Rattle.vga_run.specs.Saved.{machine_without_unseen_dots};
 ghost use Rattle.bios_services.specs.declared.regs.Regs.{Regs};
 ghost use Rattle.bios_services.specs.Service.{service};
 ghost use Rattle.vga_script.specs.declared.step.Step.{Step};
@@ -34,12 +34,12 @@ pub fn refused_steps_change_nothing()
 #[tactic(auto, using(crate::proofs::FreshCanvasLemmas::answer_same, crate::proofs::FreshCanvasLemmas::after_same, crate::proofs::FreshCanvasLemmas::report_same))]
 pub fn restored_machines_report_the_same()
     ensures answer { (machine : Machine) (step : Step) →
-        answer_to (machine_with_fresh_canvas machine) step ≡ answer_to machine step }
+        answer_to (machine_without_unseen_dots machine) step ≡ answer_to machine step }
     ensures after { (machine : Machine) (step : Step) →
-        machine_with_fresh_canvas (after_step (machine_with_fresh_canvas machine) step)
-        ≡ machine_with_fresh_canvas (after_step machine step) }
+        machine_without_unseen_dots (after_step (machine_without_unseen_dots machine) step)
+        ≡ machine_without_unseen_dots (after_step machine step) }
     ensures report { (machine : Machine) (n : ℕ) (steps : List Step) →
-        report_from (machine_with_fresh_canvas machine) n steps ≡ report_from machine n steps }
+        report_from (machine_without_unseen_dots machine) n steps ≡ report_from machine n steps }
 {}
 
 /// The cycles that are listed of a call are the call. Taken as steps, one after another, they leave

@@ -19,4 +19,4 @@ pub use laws::{
 };
 pub use report::write_dump;
 pub use runs::{run, run_bytes, run_script};
-pub use screens::{reports_are_dots, reports_are_screens, whole_frames_are_dots};
+pub use screens::{run_writes_dot_report, run_writes_screen_report, screen_report_is_dot_report};

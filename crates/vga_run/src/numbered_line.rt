@@ -1,6 +1,6 @@
 //! The line of a step, whose number is counted up from step to step.
 ghost use Rattle.std.specs.Prelude.{◌≡◌, ◌+◌, ◌<◌, ◌^◌, false};
-ghost use Rattle.vga_bits.specs.Tracked.{inner_of, has_failed, Writes};
+ghost use Rattle.vga_bits.specs.Tracked.{inner_of, has_failed, WritesWholeOrPrefix};
 ghost use Rattle.vga_run.specs.Answer.{Short};
 ghost use Rattle.vga_run.specs.Report.{line as line_of};
 
@@ -83,7 +83,7 @@ impl NumberedLine {
         answer: Answer,
     ) -> Result<(), Fault>
         requires { has_failed out.old ≡ false }
-        ensures text { Writes (W.contents (inner_of out.old)) (W.contents (inner_of out.new))
+        ensures text { WritesWholeOrPrefix (W.contents (inner_of out.old)) (W.contents (inner_of out.new))
             (has_failed out.new) result (line_of self.old (Short answer)) }
         ensures number { self.new ≡ self.old }
     {

@@ -3,7 +3,7 @@ ghost use Rattle.std.specs.Prelude.{◌≡◌, ◌+◌, ◌*◌, ◌<◌, ◌≤
 ghost use Rattle.std.specs.Prelude.{codes, Ok, Some, IfOk, IfSome};
 ghost use Rattle.std.specs.Prelude.{decimal};
 ghost use Rattle.vga_bits.specs.Refusal.{refusal_name};
-ghost use Rattle.vga_bits.specs.Tracked.{inner_of, has_failed, Writes};
+ghost use Rattle.vga_bits.specs.Tracked.{inner_of, has_failed, WritesWholeOrPrefix};
 ghost use Rattle.vga_card.specs.Frames.{IsPictureInBounds};
 ghost use Rattle.vga_card.specs.Picture.{most_dots_of_a_line, most_lines_of_a_frame};
 ghost use Rattle.vga_run.specs.Answer.{Picture, Ragged, of_drawn, of_dump};
@@ -54,7 +54,7 @@ fn write_ppm_line<W: Write>(
     bytes: &[u8],
 ) -> Result<(), Fault>
     requires { has_failed out.old ≡ false }
-    ensures { Writes (W.contents (inner_of out.old)) (W.contents (inner_of out.new))
+    ensures { WritesWholeOrPrefix (W.contents (inner_of out.old)) (W.contents (inner_of out.new))
         (has_failed out.new) result (ppm width height bytes.now ++ codes "\n") }
 {
     write_ppm(out, width, height, bytes)?;
@@ -73,7 +73,7 @@ fn write_picture<W: Write>(
     requires width { width ≤ most_dots_of_a_line }
     requires height { height ≤ most_lines_of_a_frame }
     requires whole { length bytes.now ≡ 3 * (width * height) }
-    ensures { Writes (W.contents (inner_of out.old)) (W.contents (inner_of out.new))
+    ensures { WritesWholeOrPrefix (W.contents (inner_of out.old)) (W.contents (inner_of out.new))
         (has_failed out.new) result (line_of n (Picture width height bytes.now)) }
 {
     let line = picture_line(n, ppm_length(width, height));
@@ -85,7 +85,7 @@ fn write_picture<W: Write>(
 #[tactic(auto, unfolding(crate::specs::Report::line, crate::specs::Report::number_text), using(std::proofs::lemmas::List::append_assoc))]
 fn write_ragged<W: Write>(out: &mut Tracked<W>, n: usize) -> Result<(), Fault>
     requires { has_failed out.old ≡ false }
-    ensures { Writes (W.contents (inner_of out.old)) (W.contents (inner_of out.new))
+    ensures { WritesWholeOrPrefix (W.contents (inner_of out.old)) (W.contents (inner_of out.new))
         (has_failed out.new) result (line_of n Ragged) }
 {
     let mut line = line_of_number(n);
@@ -98,7 +98,7 @@ fn write_ragged<W: Write>(out: &mut Tracked<W>, n: usize) -> Result<(), Fault>
 fn write_drawn<W: Write>(out: &mut Tracked<W>, n: usize, drawn: Drawn<'_>) -> Result<(), Fault>
     requires writer { has_failed out.old ≡ false }
     requires few { IsPictureInBounds drawn }
-    ensures { Writes (W.contents (inner_of out.old)) (W.contents (inner_of out.new))
+    ensures { WritesWholeOrPrefix (W.contents (inner_of out.old)) (W.contents (inner_of out.new))
         (has_failed out.new) result (line_of n (of_drawn drawn.entry)) }
 {
     match drawn {
@@ -118,7 +118,7 @@ pub fn write_dump<W: Write>(
     requires writer { has_failed out.old ≡ false }
     requires range { IsShownInRange shown }
     requires valid { IsValid machine.now.bda }
-    ensures text { Writes (W.contents (inner_of out.old)) (W.contents (inner_of out.new))
+    ensures text { WritesWholeOrPrefix (W.contents (inner_of out.old)) (W.contents (inner_of out.new))
         (has_failed out.new) result (dump_text machine.now shown) }
     ensures answer { IfOk result (λ refusal. refusal ≡ dump_refusal machine.now shown) }
     ensures refused { IfSome (dump_refusal machine.now shown) (λ why. (result ≡ Ok (Some why))
@@ -143,7 +143,7 @@ pub fn write_dump<W: Write>(
 /// Writes the end of a line that has its number already: why the step is refused.
 fn write_refusal<W: Write>(out: &mut Tracked<W>, why: Refusal) -> Result<(), Fault>
     requires { has_failed out.old ≡ false }
-    ensures { Writes (W.contents (inner_of out.old)) (W.contents (inner_of out.new))
+    ensures { WritesWholeOrPrefix (W.contents (inner_of out.old)) (W.contents (inner_of out.new))
         (has_failed out.new) result (refusal_name why ++ codes "\n") }
 {
     let mut text = Line::new();
@@ -163,7 +163,7 @@ fn write_shown<W: Write>(
     requires writer { has_failed out.old ≡ false }
     requires range { IsShownInRange shown }
     requires valid { IsValid machine.now.bda }
-    ensures { Writes (W.contents (inner_of out.old)) (W.contents (inner_of out.new))
+    ensures { WritesWholeOrPrefix (W.contents (inner_of out.old)) (W.contents (inner_of out.new))
         (has_failed out.new) result
         (line_of n (of_dump (dump_refusal machine.now shown) (dump_text machine.now shown))) }
 {
@@ -177,7 +177,7 @@ fn write_shown<W: Write>(
 /// Calls the video BIOS, and writes what the call answers as the line of step n.
 #[tactic(auto, unfolding(crate::specs::Step::after_int10, crate::specs::Step::answer_to, crate::specs::Step::after_step))]
 #[inline(never)]
-fn write_service<W: Write>(
+fn call_bios_and_write_answer<W: Write>(
     alloc: Global,
     out: &mut Tracked<W>,
     line: &mut NumberedLine,
@@ -215,7 +215,7 @@ fn write_service<W: Write>(
 /// Takes a step, and writes what it answers as the line with its number.
 #[tactic(auto, using(crate::proofs::ReportLemmas::step_is_written), unfolding(crate::specs::Step::answer_to, crate::specs::Step::after_step))]
 #[inline(always)]
-pub(crate) fn write_step<W: Write>(
+pub(crate) fn take_and_write_step<W: Write>(
     alloc: Global,
     out: &mut Tracked<W>,
     line: &mut NumberedLine,
@@ -256,7 +256,7 @@ pub(crate) fn write_step<W: Write>(
                 cx: *cx,
                 dx: *dx,
             };
-            return write_service(alloc, out, line, machine, regs, block.as_slice());
+            return call_bios_and_write_answer(alloc, out, line, machine, regs, block.as_slice());
         }
         Step::Advance { dots } => Answer::of_write(machine.card.advance(*dots)),
         Step::Frame => return write_drawn(out, line.number(), machine.card.frame()),
@@ -267,7 +267,7 @@ pub(crate) fn write_step<W: Write>(
 
 /// Takes the steps on this machine, and writes a line for each. The first has the number n.
 #[tactic(auto, using(crate::proofs::ReportLemmas::reported_none, crate::proofs::ReportLemmas::reported_all))]
-fn write_lines<W: Write>(
+fn take_and_write_steps<W: Write>(
     alloc: Global,
     out: &mut Tracked<W>,
     machine: &mut Machine,
@@ -285,7 +285,7 @@ fn write_lines<W: Write>(
 {
     let mut line = NumberedLine::of_step(first);
     for step in steps {
-        write_step(alloc, out, &mut line, machine, step)?;
+        take_and_write_step(alloc, out, &mut line, machine, step)?;
         line.count_up();
     }
     Ok(())
@@ -318,5 +318,5 @@ pub(crate) fn write_closing_dumps<W: Write>(
             shown: Shown::BiosData,
         },
     ];
-    write_lines(alloc, out, machine, first, &last_dumps)
+    take_and_write_steps(alloc, out, machine, first, &last_dumps)
 }

@@ -8,14 +8,14 @@ ghost use Rattle.bios_modes.specs.Fonts.{font_file_len, fonts_of};
 ghost use Rattle.vga_script.specs.Input.{ReadsScript};
 ghost use Rattle.vga_script.specs.Item.{expanded};
 ghost use Rattle.vga_script.specs.Spelling.{script_limit};
-ghost use Rattle.vga_run.specs.Run.{Reports, ReportsSteps, RunAnswers, RunsGoodScripts, RunsScript};
-ghost use Rattle.vga_run.specs.Run.{StopsRun, RunsOutOfMemory};
+ghost use Rattle.vga_run.specs.Run.{ReportsInput, ReportsSteps, RunAnswers, RunsGoodScripts, RunsScript};
+ghost use Rattle.vga_run.specs.Run.{InputRunsOutOfMemory, RunsOutOfMemory};
 ghost use Rattle.vga_run.specs.DotReport.{AreDotReportSteps, WritesDotReport, RunWritesDotReport};
 ghost use Rattle.vga_run.specs.ScreenReport.{AreScreenReportSteps, WritesScreenReport};
 ghost use Rattle.vga_run.specs.ScreenReport.{RunWritesScreenReport};
 
 use super::machine::Machine;
-use super::screens::{bytes_fit, reports_are_dots, reports_are_screens};
+use super::screens::{bytes_fit, run_writes_dot_report, run_writes_screen_report};
 use bios_modes::Fonts;
 use std::alloc::Global;
 use std::io::{Read, Write};
@@ -74,18 +74,18 @@ pub fn run<R: Read, W: Write>(
     // whole answers.
     ensures unwritten { IfErr result (λ e. e ≢ WriteFault → e ≢ OutOfMemory → out.new ≡ out.old) }
     ensures stopped { result ≡ Err OutOfMemory → (out.new ≡ out.old)
-        ⊎ StopsRun until (fonts_of fonts.now) (R.remaining (inner_of script.old))
+        ⊎ InputRunsOutOfMemory until (fonts_of fonts.now) (R.remaining (inner_of script.old))
         (W.contents (inner_of out.old)) (W.contents (inner_of out.new)) }
 {
     bytes_have_one_fault(); // A script has no fault.
     bytes_mean_one_list();
     steps_are_in_range();
-    reports_are_screens();
-    reports_are_dots();
+    run_writes_screen_report();
+    run_writes_dot_report();
     bytes_fit(fonts);
     let fonts = Fonts::from_bytes(alloc, fonts)?; // Nothing is read before.
     let bytes = read_script(alloc, script)?;
-    run_bytes_over(alloc, bytes.as_slice(), fonts, out, until)
+    run_bytes_with_fonts(alloc, bytes.as_slice(), fonts, out, until)
 }
 
 /// Runs a script whose bytes are at hand, as `run` does. The faults are those of `run`, without
@@ -115,21 +115,21 @@ pub fn run_bytes<W: Write>(
     ensures write_failed { has_failed out.new ≡ is_write_fault result }
     ensures unwritten { IfErr result (λ e. e ≢ WriteFault → e ≢ OutOfMemory → out.new ≡ out.old) }
     ensures stopped { result ≡ Err OutOfMemory → (out.new ≡ out.old)
-        ⊎ StopsRun until (fonts_of fonts.now) (Some script.now)
+        ⊎ InputRunsOutOfMemory until (fonts_of fonts.now) (Some script.now)
         (W.contents (inner_of out.old)) (W.contents (inner_of out.new)) }
 {
     bytes_mean_one_list();
     steps_are_in_range();
-    reports_are_screens();
-    reports_are_dots();
+    run_writes_screen_report();
+    run_writes_dot_report();
     bytes_fit(fonts);
     let fonts = Fonts::from_bytes(alloc, fonts)?; // Nothing is decoded before.
-    run_bytes_over(alloc, script, fonts, out, until)
+    run_bytes_with_fonts(alloc, script, fonts, out, until)
 }
 
 /// Runs a script whose bytes are at hand, with these fonts.
 #[tactic(auto, using(crate::proofs::AnswerLemmas::reports_of_steps, crate::proofs::AnswerLemmas::stops_of_steps, crate::proofs::AnswerLemmas::fault_answers))]
-fn run_bytes_over<W: Write>(
+fn run_bytes_with_fonts<W: Write>(
     alloc: Global,
     script: &[u8],
     fonts: Fonts,
@@ -137,22 +137,22 @@ fn run_bytes_over<W: Write>(
     until: Option<u32>,
 ) -> Result<(), Fault>
     requires { has_failed out.old ≡ false }
-    ensures answer { Reports until fonts (Some script.now)
+    ensures answer { ReportsInput until fonts (Some script.now)
         (W.contents (inner_of out.old)) (W.contents (inner_of out.new)) result }
     ensures unread { is_read_fault result ≡ false }
     ensures write_failed { has_failed out.new ≡ is_write_fault result }
     ensures unwritten { IfErr result (λ e. e ≢ WriteFault → e ≢ OutOfMemory → out.new ≡ out.old) }
     ensures stopped { result ≡ Err OutOfMemory → (out.new ≡ out.old)
-        ⊎ StopsRun until fonts (Some script.now)
+        ⊎ InputRunsOutOfMemory until fonts (Some script.now)
         (W.contents (inner_of out.old)) (W.contents (inner_of out.new)) }
 {
     let steps = Steps::of(script)?;
-    run_steps_over(alloc, steps, fonts, out, until)
+    run_steps_with_fonts(alloc, steps, fonts, out, until)
 }
 
 /// Runs steps that are read from the bytes of a script, with these fonts.
 #[tactic(auto, using(crate::proofs::AnswerLemmas::report_answers, crate::proofs::AnswerLemmas::report_fails, crate::proofs::AnswerLemmas::report_stops))]
-fn run_steps_over<W: Write>(
+fn run_steps_with_fonts<W: Write>(
     alloc: Global,
     steps: Steps<'_>,
     fonts: Fonts,
@@ -205,10 +205,10 @@ pub fn run_script<W: Write>(
         ⊎ RunsOutOfMemory until (fonts_of fonts.now) (expanded script.now.items)
         (W.contents (inner_of out.old)) (W.contents (inner_of out.new)) }
 {
-    reports_are_screens();
-    reports_are_dots();
+    run_writes_screen_report();
+    run_writes_dot_report();
     bytes_fit(fonts);
     let steps = script.steps();
     let fonts = Fonts::from_bytes(alloc, fonts)?;
-    run_steps_over(alloc, steps, fonts, out, until)
+    run_steps_with_fonts(alloc, steps, fonts, out, until)
 }

@@ -10,13 +10,13 @@ ghost use Rattle.vga_run.specs.ScreenReport.{AreScreenReportSteps, screen_report
 
 use bios_screen::any_dot::{calls_follow_screens, dots_follow_screens, frames_are_dots};
 use bios_screen::frames::frame_draws_screen;
-use bios_screen::laws::{calls_lead_to_screens, mode_set_is_fresh};
+use bios_screen::laws::{calls_lead_to_screens, mode_set_shows_fresh_screen};
 use bios_services::laws::calls_keep_bounds;
 use vga_card::laws::bounds_stay;
 
 /// The steps are BIOS calls and whole frames, and the first is a mode set that clears the memory.
 /// Their report is the plain screen's.
-pub fn reports_are_screens()
+pub fn run_writes_screen_report()
     ensures { (fonts : FontSet) (steps : List Step) → AreFonts fonts → AreInRange steps →
         AreScreenReportSteps steps →
         report_of fonts steps ≡ screen_report fonts steps }
@@ -24,7 +24,7 @@ pub fn reports_are_screens()
     bounds_stay();
     calls_keep_bounds();
     calls_lead_to_screens();
-    mode_set_is_fresh();
+    mode_set_shows_fresh_screen();
     frame_draws_screen();
 }
 
@@ -32,7 +32,7 @@ pub fn reports_are_screens()
 /// Their report is the plain screen's, dot by dot. Each later mode set clears the memory too and
 /// stands at dot 0 of a frame, and so does a load of glyphs. Those that are refused may stand
 /// anywhere.
-pub fn reports_are_dots()
+pub fn run_writes_dot_report()
     ensures { (fonts : FontSet) (steps : List Step) → AreFonts fonts → AreInRange steps →
         AreDotReportSteps fonts steps →
         report_of fonts steps ≡ dot_report fonts steps }
@@ -40,14 +40,14 @@ pub fn reports_are_dots()
     bounds_stay();
     calls_keep_bounds();
     calls_lead_to_screens();
-    mode_set_is_fresh();
+    mode_set_shows_fresh_screen();
     frame_draws_screen();
     calls_follow_screens();
     dots_follow_screens();
 }
 
 /// BIOS calls and whole frames are such steps, and their two reports are the same.
-pub fn whole_frames_are_dots()
+pub fn screen_report_is_dot_report()
     ensures steps { (fonts : FontSet) (steps : List Step) → AreScreenReportSteps steps →
         AreDotReportSteps fonts steps }
     ensures reports { (fonts : FontSet) (steps : List Step) → AreFonts fonts → AreInRange steps →
@@ -55,8 +55,8 @@ pub fn whole_frames_are_dots()
         screen_report fonts steps ≡ dot_report fonts steps }
 {
     frames_are_dots();
-    reports_are_screens();
-    reports_are_dots();
+    run_writes_screen_report();
+    run_writes_dot_report();
 }
 
 /// The bytes of a file are below 256.

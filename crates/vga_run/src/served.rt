@@ -2,7 +2,7 @@
 ghost use Rattle.std.specs.Prelude.{◌≡◌, ◌+◌, ◌≤◌, ◌++◌, length, false, codes};
 ghost use Rattle.std.specs.List.{flat_map};
 ghost use Rattle.vga_bits.specs.Hex.{two_hex_digits};
-ghost use Rattle.vga_bits.specs.Tracked.{inner_of, has_failed, Writes};
+ghost use Rattle.vga_bits.specs.Tracked.{inner_of, has_failed, WritesWholeOrPrefix};
 ghost use Rattle.bios_services.specs.Tables.{table_bytes};
 ghost use Rattle.vga_run.specs.Answer.{Served};
 ghost use Rattle.vga_run.specs.Report.{line, number_text, registers_text, table_text};
@@ -32,7 +32,7 @@ fn push_registers(line: &mut Line, regs: Regs)
 /// Writes the two digits of each byte.
 fn write_digits<W: Write>(out: &mut Tracked<W>, bytes: &[u8]) -> Result<(), Fault>
     requires { has_failed out.old ≡ false }
-    ensures { Writes (W.contents (inner_of out.old)) (W.contents (inner_of out.new))
+    ensures { WritesWholeOrPrefix (W.contents (inner_of out.old)) (W.contents (inner_of out.new))
         (has_failed out.new) result (flat_map two_hex_digits bytes.now) }
 {
     for byte in bytes {
@@ -47,7 +47,7 @@ fn write_digits<W: Write>(out: &mut Tracked<W>, bytes: &[u8]) -> Result<(), Faul
 #[tactic(auto, using(vga_bits::proofs::WritingLemmas::writes_after, vga_bits::proofs::WritingLemmas::prefix_of_more))]
 fn write_block<W: Write>(out: &mut Tracked<W>, bytes: &[u8]) -> Result<(), Fault>
     requires { has_failed out.old ≡ false }
-    ensures { Writes (W.contents (inner_of out.old)) (W.contents (inner_of out.new))
+    ensures { WritesWholeOrPrefix (W.contents (inner_of out.old)) (W.contents (inner_of out.new))
         (has_failed out.new) result (codes " block " ++ flat_map two_hex_digits bytes.now) }
 {
     write_whole(out, b" block ")?;
@@ -57,7 +57,7 @@ fn write_block<W: Write>(out: &mut Tracked<W>, bytes: &[u8]) -> Result<(), Fault
 /// Writes a table, unless it is empty.
 fn write_table<W: Write>(out: &mut Tracked<W>, bytes: &[u8]) -> Result<(), Fault>
     requires { has_failed out.old ≡ false }
-    ensures { Writes (W.contents (inner_of out.old)) (W.contents (inner_of out.new))
+    ensures { WritesWholeOrPrefix (W.contents (inner_of out.old)) (W.contents (inner_of out.new))
         (has_failed out.new) result (table_text bytes.now) }
 {
     if bytes.is_empty() {
@@ -70,7 +70,7 @@ fn write_table<W: Write>(out: &mut Tracked<W>, bytes: &[u8]) -> Result<(), Fault
 #[tactic(auto, using(vga_bits::proofs::WritingLemmas::writes_after, vga_bits::proofs::WritingLemmas::prefix_of_more))]
 fn end_line<W: Write>(out: &mut Tracked<W>, bytes: &[u8]) -> Result<(), Fault>
     requires { has_failed out.old ≡ false }
-    ensures { Writes (W.contents (inner_of out.old)) (W.contents (inner_of out.new))
+    ensures { WritesWholeOrPrefix (W.contents (inner_of out.old)) (W.contents (inner_of out.new))
         (has_failed out.new) result (table_text bytes.now ++ codes "\n") }
 {
     write_table(out, bytes)?;
@@ -94,7 +94,7 @@ pub(crate) fn write_reply<W: Write>(
     reply: &Reply,
 ) -> Result<(), Fault>
     requires { has_failed out.old ≡ false }
-    ensures { Writes (W.contents (inner_of out.old)) (W.contents (inner_of out.new))
+    ensures { WritesWholeOrPrefix (W.contents (inner_of out.old)) (W.contents (inner_of out.new))
         (has_failed out.new) result (line n (Served reply.now.regs (table_bytes reply.now.table))) }
 {
     write_whole(out, registers_line(n, reply.regs).as_slice())?;

@@ -1,6 +1,6 @@
 //! The line of a step.
 ghost use Rattle.std.specs.Prelude.{◌≡◌, ◌+◌, ◌≤◌, ◌++◌, length, take, false, codes};
-ghost use Rattle.vga_bits.specs.Tracked.{inner_of, has_failed, Writes};
+ghost use Rattle.vga_bits.specs.Tracked.{inner_of, has_failed, WritesWholeOrPrefix};
 ghost use Rattle.vga_run.specs.Answer.{Short};
 ghost use Rattle.vga_run.specs.Report.{answer_text, line, number_text};
 
@@ -88,7 +88,7 @@ pub(crate) fn line_of_number(n: usize) -> Line
 fn write_exact<const LEN: usize, W: Write>(out: &mut Tracked<W>, text: &[u8]) -> Result<(), Fault>
     requires writer { has_failed out.old ≡ false }
     requires len { length text.now ≡ LEN }
-    ensures { Writes (W.contents (inner_of out.old)) (W.contents (inner_of out.new))
+    ensures { WritesWholeOrPrefix (W.contents (inner_of out.old)) (W.contents (inner_of out.new))
         (has_failed out.new) result text.now }
 {
     write_whole(out, text.split_at(LEN).0)
@@ -98,7 +98,7 @@ fn write_exact<const LEN: usize, W: Write>(out: &mut Tracked<W>, text: &[u8]) ->
 #[inline(always)]
 pub(crate) fn write_text<W: Write>(out: &mut Tracked<W>, text: &[u8]) -> Result<(), Fault>
     requires { has_failed out.old ≡ false }
-    ensures { Writes (W.contents (inner_of out.old)) (W.contents (inner_of out.new))
+    ensures { WritesWholeOrPrefix (W.contents (inner_of out.old)) (W.contents (inner_of out.new))
         (has_failed out.new) result text.now }
 {
     match text.len() {

@@ -7,15 +7,15 @@ use Rattle.std.proofs.lemmas.Grind.{flat_map-append}
 use Rattle.vga_bits.specs.declared.fault.Fault.{Fault}
 use Rattle.vga_bits.specs.declared.fault.Fault.TheVariants as fault
 use Rattle.vga_script.specs.declared.step.Step.{Step}
-use Rattle.vga_script.specs.Item.{Item, Once, Repeated, Listing, script_of_items, repeated, expanded, step_limit}
+use Rattle.vga_script.specs.Item.{Item, Once, Repeated, ScriptItems, script_of_items, repeated, expanded, step_limit}
 use Rattle.vga_script.specs.declared.version.Version.{Version}
 use Rattle.vga_script.specs.declared.version.Version.TheVariants.{One}
 use Rattle.vga_script.specs.Version.{AllowsRepeats, version_byte}
 use Rattle.byteorder.specs.Endian.{little_bytes}
 use Rattle.vga_script.specs.Spelling.{magic, opcode_repeat, opcode_end, header, spelling, item_spelling, encoding}
 use Rattle.vga_script.specs.Tokens.{lines, lines_of_rest, rest_len, words}
-use Rattle.vga_script.specs.Text.{SpellsLine, SpellsLines, SpellsRepeat, IsRepeatEndLine, IsVersionTwo, Group, IsGroup, SpellsGroups, SaysVersionTwo, ItemsBeginAtLine}
-use Rattle.vga_script.specs.Text.{SpellsText, IsBadOutside, IsBadInside, StandsInRepeatLines, IsGroupFault, IsBadLine, IsLineFault}
+use Rattle.vga_script.specs.Text.{SpellsLine, SpellsLines, SpellsRepeat, IsRepeatEndLine, IsVersionTwo, LineGroup, IsLineGroup, SpellsGroups, SaysVersionTwo, ItemsBeginAtLine}
+use Rattle.vga_script.specs.Text.{SpellsText, IsBadLineOutsideRepeats, IsBadLineInRepeat, StandsInRepeatLines, IsGroupFault, IsBadLine, IsLineFault}
 use Rattle.vga_script.specs.Assembling.{BeginsWithRepeatBody, IsBodyFault, BeginsWithGroup, IsFirstGroupFault, AppendsLine, AppendsBody, AppendsRepeat, AppendsGroup}
 use Rattle.vga_script.proofs.ItemLemmas.{length-expanded-append, steps_of_repeat}
 
@@ -81,7 +81,7 @@ steps_ends start others rest line first n steps h e shorter is = record {
 
 -- a bad line
 steps_bad : (start others : Option (List ℕ)) (rest line : List ℕ) (first n : ℕ) (steps : List Step) → HasReadBody start first steps n (Some rest) →
-    lines rest ≡ line ∷ lines_of_rest others → IsBadInside line → IsBodyFault first start (fault.BadLine n)
+    lines rest ≡ line ∷ lines_of_rest others → IsBadLineInRepeat line → IsBodyFault first start (fault.BadLine n)
 steps_bad start others rest line first n steps h e bad =
     let c = h.number in
     inr (h.body, steps, line, lines_of_rest others, omega arith, h.whole ∙ ap (λ (l : List (List ℕ)). h.body ++ l) e, h.good, bad)
@@ -125,7 +125,7 @@ body_ends start others before now rest line first len n h e shorter is = record 
 }
 
 pub body_bad : (start others : Option (List ℕ)) (before now rest line : List ℕ) (first len n : ℕ) → HasAppendedBody start before first len n (Some rest) now →
-    lines rest ≡ line ∷ lines_of_rest others → IsBadInside line → IsBodyFault first start (fault.BadLine n)
+    lines rest ≡ line ∷ lines_of_rest others → IsBadLineInRepeat line → IsBodyFault first start (fault.BadLine n)
 body_bad start others before now rest line first len n h e bad = steps_bad start others rest line first n h.steps h.read e bad
 
 pub body_open : (start : Option (List ℕ)) (before now : List ℕ) (first len n : ℕ) → HasAppendedBody start before first len n None now →
@@ -198,7 +198,7 @@ group_of_repeat version n text line before after others behind count len next al
 
 -- a bad line outside repeats
 pub group_bad : (version : Version) (n : ℕ) (text line : List ℕ) (others : Option (List ℕ)) → lines text ≡ line ∷ lines_of_rest others →
-    IsBadOutside version line → IsFirstGroupFault version n (lines text) (fault.BadLine n)
+    IsBadLineOutsideRepeats version line → IsFirstGroupFault version n (lines text) (fault.BadLine n)
 group_bad version n text line others e bad so_far = inl (refl, (line, lines_of_rest others, e, bad))
 
 -- the fault of a repeat
@@ -338,19 +338,19 @@ none_two text n h m others says = all_blank h.before says.before says.line other
 -- ---- the groups of a text
 
 -- groups one after another
-all_groups : (version : Version) (groups : List Group) (group : Group) → AllByRecursion (IsGroup version) groups → IsGroup version group →
-    AllByRecursion (IsGroup version) (groups ++ group ∷ [])
+all_groups : (version : Version) (groups : List LineGroup) (group : LineGroup) → AllByRecursion (IsLineGroup version) groups → IsLineGroup version group →
+    AllByRecursion (IsLineGroup version) (groups ++ group ∷ [])
 all_groups version [] group all good = (good, tt)
 all_groups version (g ∷ groups) group (first, all) good = (first, all_groups version groups group all good)
 
-groups_more : (version : Version) (prefix : List (List ℕ)) (items : List Item) (group : Group) → SpellsGroups version prefix items → IsGroup version group →
+groups_more : (version : Version) (prefix : List (List ℕ)) (items : List Item) (group : LineGroup) → SpellsGroups version prefix items → IsLineGroup version group →
     SpellsGroups version (prefix ++ group.lines) (items ++ group.items)
 groups_more version prefix items group (groups, e, f, all) good = (
   groups ++ group ∷ [],
-  ap (λ (l : List (List ℕ)). l ++ group.lines) e ∙ ap (λ (l : List (List ℕ)). flat_map (λ (g : Group). g.lines) groups ++ l) (sym (append-nil group.lines))
-      ∙ sym (flat_map-append (λ (g : Group). g.lines) groups (group ∷ [])),
-  ap (λ (l : List Item). l ++ group.items) f ∙ ap (λ (l : List Item). flat_map (λ (g : Group). g.items) groups ++ l) (sym (append-nil group.items))
-      ∙ sym (flat_map-append (λ (g : Group). g.items) groups (group ∷ [])),
+  ap (λ (l : List (List ℕ)). l ++ group.lines) e ∙ ap (λ (l : List (List ℕ)). flat_map (λ (g : LineGroup). g.lines) groups ++ l) (sym (append-nil group.lines))
+      ∙ sym (flat_map-append (λ (g : LineGroup). g.lines) groups (group ∷ [])),
+  ap (λ (l : List Item). l ++ group.items) f ∙ ap (λ (l : List Item). flat_map (λ (g : LineGroup). g.items) groups ++ l) (sym (append-nil group.items))
+      ∙ sym (flat_map-append (λ (g : LineGroup). g.items) groups (group ∷ [])),
   all_groups version groups group all good,
 )
 
@@ -504,7 +504,7 @@ text_more text rest now new version so_far more n next behind h g few shorter =
     }
 
 pub text_all : (text out : List ℕ) (version : Version) (so_far n : ℕ) → HasAssembled text version so_far n None out
-    → (script : Listing) × SpellsText text script
+    → (script : ScriptItems) × SpellsText text script
     × (out ≡ encoding script)
 text_all text out version so_far n h = (script_of_items version h.items, read_all text version h.items so_far n h.read, h.bytes)
 

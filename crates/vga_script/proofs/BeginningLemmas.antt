@@ -5,13 +5,13 @@ use Rattle.std.specs.List.{flat_map}
 use Rattle.byteorder.specs.Endian.{little_bytes, little_number}
 use Rattle.vga_script.specs.declared.step.Step.{Step}
 use Rattle.vga_script.specs.declared.step.Step.TheVariants.{Out, OutWord, In, InWord, Put, PutWord, Get, GetWord, Int, Advance, Frame, Show}
-use Rattle.vga_script.specs.Item.{Item, Once, Repeated, IsItemOf, Listing, script_of_items}
+use Rattle.vga_script.specs.Item.{Item, Once, Repeated, IsItemOf, ScriptItems, script_of_items}
 use Rattle.vga_script.specs.declared.version.Version.{Version}
 use Rattle.vga_script.specs.declared.version.Version.TheVariants.{One, Two}
 use Rattle.vga_script.specs.Version.{version_byte}
 use Rattle.vga_script.specs.Step.{AreInRange}
-use Rattle.vga_script.specs.Beginning.{step_of, step_and_others, steps_from, steps_in, rest_behind_others, rest_behind_steps, behind_steps, step_item, repeat_item, item_of}
-use Rattle.vga_script.specs.Beginning.{item_and_others, items_from, items_in, version_of, listing_of}
+use Rattle.vga_script.specs.Beginning.{step_of, step_followed_by_rest, steps_from, steps_in, rest_after_step_and_others, rest_behind_steps, behind_steps, step_item, repeat_item, item_of}
+use Rattle.vga_script.specs.Beginning.{item_followed_by_rest, items_from, items_in, version_of, script_of_bytes}
 use Rattle.vga_script.specs.Spelling.{opcode_end, spelling, item_spelling, StartsWithStep, StartsWithItem, SpellsSteps, SpellsItems, Spells}
 use Rattle.vga_script.proofs.FieldLemmas.{two_back}
 use Rattle.vga_script.proofs.OptionLemmas.{just}
@@ -51,10 +51,10 @@ step_shorter bytes others s (fits, whole) =
 -- the steps that bytes spell are read back from them
 read_back : (most : ℕ) (bytes : List ℕ) (steps : List Step) → SpellsSteps bytes steps → length steps ≤ most → steps_from most bytes ≡ steps
 read_back zero bytes [] e few = refl
-read_back (suc most) bytes [] e few = ap (λ (l : List ℕ). step_and_others (step_of l) (steps_from most)) e
+read_back (suc most) bytes [] e few = ap (λ (l : List ℕ). step_followed_by_rest (step_of l) (steps_from most)) e
 read_back zero bytes (s ∷ steps) h few = absurd (omega arith)
 read_back (suc most) bytes (s ∷ steps) (rest, (fits, whole), more) few =
-    ap (λ (read : Option (Step × List ℕ)). step_and_others read (steps_from most)) (ap step_of whole ∙ step_back s rest fits)
+    ap (λ (read : Option (Step × List ℕ)). step_followed_by_rest read (steps_from most)) (ap step_of whole ∙ step_back s rest fits)
     ∙ ap (λ (l : List Step). s ∷ l) (read_back most rest steps more (omega arith))
 
 pub steps_are : (bytes : List ℕ) (steps : List Step) → SpellsSteps bytes steps → steps_in bytes ≡ steps
@@ -80,7 +80,7 @@ first_read bytes others (s ∷ steps) step (rest, (fits', whole'), more) (fits, 
 -- ---- items
 
 behind_read : (most : ℕ) (bytes : List ℕ) (read : Step × List ℕ) → step_of bytes ≡ just read → rest_behind_steps (suc most) bytes ≡ rest_behind_steps most read.1
-behind_read most bytes read e = ap (λ (r : Option (Step × List ℕ)). rest_behind_others r (rest_behind_steps most) bytes) e
+behind_read most bytes read e = ap (λ (r : Option (Step × List ℕ)). rest_after_step_and_others r (rest_behind_steps most) bytes) e
 
 -- the steps of a repeat are read back up to its end, and so is what follows them
 body_from : (most : ℕ) (steps : List Step) (x : List ℕ) → AreInRange steps → length steps ≤ most
@@ -93,7 +93,7 @@ body_from (suc most) (s ∷ steps) x (fits, all) few =
     let others = body_from most steps x all (omega arith) in
     let whole = append_assoc (spelling s) (flat_map spelling steps) (opcode_end ∷ x) in
     let read = ap step_of whole ∙ step_back s rest fits in (
-      ap (λ (r : Option (Step × List ℕ)). step_and_others r (steps_from most)) read ∙ ap (λ (l : List Step). s ∷ l) others.0,
+      ap (λ (r : Option (Step × List ℕ)). step_followed_by_rest r (steps_from most)) read ∙ ap (λ (l : List Step). s ∷ l) others.0,
       behind_read most ((spelling s ++ flat_map spelling steps) ++ opcode_end ∷ x) (s, rest) read ∙ others.1,
     )
 
@@ -164,10 +164,10 @@ few_items version bytes (i ∷ items) (rest, (fits, whole), more) =
 items_back : (version : Version) (most : ℕ) (bytes : List ℕ) (items : List Item) → SpellsItems version bytes items → length items ≤ most →
     items_from most bytes ≡ items
 items_back version zero bytes [] e few = refl
-items_back version (suc most) bytes [] e few = ap (λ (l : List ℕ). item_and_others (item_of l) (items_from most)) e
+items_back version (suc most) bytes [] e few = ap (λ (l : List ℕ). item_followed_by_rest (item_of l) (items_from most)) e
 items_back version zero bytes (i ∷ items) h few = absurd (omega arith)
 items_back version (suc most) bytes (i ∷ items) (rest, (fits, whole), more) few =
-    ap (λ (read : Option (Item × List ℕ)). item_and_others read (items_from most)) (ap item_of whole ∙ item_back version i rest fits)
+    ap (λ (read : Option (Item × List ℕ)). item_followed_by_rest read (items_from most)) (ap item_of whole ∙ item_back version i rest fits)
     ∙ ap (λ (l : List Item). i ∷ l) (items_back version most rest items more (omega arith))
 
 pub items_are : (version : Version) (bytes : List ℕ) (items : List Item) → SpellsItems version bytes items → items_in bytes ≡ items
@@ -198,13 +198,13 @@ version_back One = refl
 version_back Two = refl
 
 -- the bytes of a script tell it
-pub listing_back : (bytes : List ℕ) (script : Listing) → Spells bytes script → listing_of bytes ≡ script
-unfolding listing_of
+pub listing_back : (bytes : List ℕ) (script : ScriptItems) → Spells bytes script → script_of_bytes bytes ≡ script
+unfolding script_of_bytes
 listing_back bytes script (rest, whole, good, few) =
     ap (λ (l : List ℕ). script_of_items (version_of (get_or l 4 0)) (items_in (drop 5 l))) whole
     ∙ ap (λ (v : Version). script_of_items v (items_in rest)) (version_back script.version)
     ∙ ap (script_of_items script.version) (items_are script.version rest script.items good)
 
 -- so they spell what they are read as
-pub spells_itself : (bytes : List ℕ) → (script : Listing) × Spells bytes script → Spells bytes (listing_of bytes)
+pub spells_itself : (bytes : List ℕ) → (script : ScriptItems) × Spells bytes script → Spells bytes (script_of_bytes bytes)
 spells_itself bytes (script, h) = subst (Spells bytes) (sym (listing_back bytes script h)) h

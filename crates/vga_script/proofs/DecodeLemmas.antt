@@ -6,7 +6,7 @@ use Rattle.vga_bits.specs.declared.fault.Fault.TheVariants as fault
 use Rattle.byteorder.specs.Endian.{little_bytes, little_number}
 use Rattle.vga_script.specs.declared.step.Step.{Step}
 use Rattle.vga_script.specs.declared.dump_range.Shown.TheVariants as shown
-use Rattle.vga_script.specs.Item.{Item, Listing, script_of_items, expanded, step_limit, steps_of_item, IsItemOf, Once}
+use Rattle.vga_script.specs.Item.{Item, ScriptItems, script_of_items, expanded, step_limit, steps_of_item, IsItemOf, Once}
 use Rattle.vga_script.specs.declared.version.Version.{Version}
 use Rattle.vga_script.specs.DumpRange.{IsShownInRange, kind_dac, kind_plane}
 use Rattle.vga_script.specs.Spelling.{StartsWithStep, header, opcode_out, opcode_out_word, opcode_in, opcode_in_word, opcode_put, opcode_put_word, opcode_get}
@@ -205,5 +205,5 @@ many_steps bytes rest others version so_far offset step (items, h) e starts is =
 
 -- all items were passed over
 pub passed_all : (bytes rest : List ℕ) (version : Version) (so_far : ℕ) → (items : List Item) × HasDecoded bytes version items so_far rest → length rest ≡ 0 →
-    (script : Listing) × Spells bytes script
+    (script : ScriptItems) × Spells bytes script
 passed_all bytes rest version so_far (items, h) none = (script_of_items version items, decoded_all bytes rest version items so_far h (nothing rest none))

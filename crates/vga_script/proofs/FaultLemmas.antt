@@ -5,7 +5,7 @@ use Rattle.std.specs.Prelude.{IfErr, IsOkUnless}
 use Rattle.std.specs.List.{flat_map}
 use Rattle.vga_bits.specs.declared.fault.Fault.{Fault}
 use Rattle.vga_bits.specs.declared.fault.Fault.TheVariants as fault
-use Rattle.vga_script.specs.Item.{Item, Listing, expanded, step_limit, steps_of_item, IsItemOf, AreItemsOf}
+use Rattle.vga_script.specs.Item.{Item, ScriptItems, expanded, step_limit, steps_of_item, IsItemOf, AreItemsOf}
 use Rattle.vga_script.specs.declared.version.Version.{Version}
 use Rattle.vga_script.specs.Version.{version_byte}
 use Rattle.vga_script.specs.Spelling.{script_limit, magic, header, item_spelling, Spells}
@@ -24,7 +24,7 @@ record StandsAt (bytes : List ℕ) (version : Version) (items : List Item) (offs
   few : length (expanded items) ≤ step_limit
   place : offset + length rest ≡ length bytes
 
-stands_at : (bytes : List ℕ) (script : Listing) (offset : ℕ) (rest : List ℕ) → SpellsUpTo bytes script offset rest →
+stands_at : (bytes : List ℕ) (script : ScriptItems) (offset : ℕ) (rest : List ℕ) → SpellsUpTo bytes script offset rest →
     StandsAt bytes script.version script.items offset rest
 stands_at bytes script offset rest h = record {
   whole = h.whole ∙ ap (λ (l : List ℕ). l ++ rest) (h.good.1 ∙ ap (λ (l : List ℕ). header script.version
@@ -157,7 +157,7 @@ no_item_fault bytes version version' items items' offset rest f h h' k' =
         item_or_kind version (length (expanded items')) offset rest f next _ k (fits, rests) (within_limit items' others next items is h.few)
 
 -- the whole of a script stands before its end
-stands_whole : (bytes : List ℕ) (script : Listing) → Spells bytes script → StandsAt bytes script.version script.items (length bytes) []
+stands_whole : (bytes : List ℕ) (script : ScriptItems) → Spells bytes script → StandsAt bytes script.version script.items (length bytes) []
 stands_whole bytes script (rest, whole, good, few) = record {
   whole = whole ∙ ap (λ (l : List ℕ). header script.version ++ l) (spelled_items script.version rest script.items good
       ∙ sym (append-nil (flat_map item_spelling script.items)));
@@ -167,7 +167,7 @@ stands_whole bytes script (rest, whole, good, few) = record {
 }
 
 -- so no bytes that spell a script have a fault
-no_fault_of : (bytes : List ℕ) (script : Listing) (f : Fault) → Spells bytes script → Faults bytes f → ⊥
+no_fault_of : (bytes : List ℕ) (script : ScriptItems) (f : Fault) → Spells bytes script → Faults bytes f → ⊥
 no_fault_of bytes script f (r, w, m, few) (inl (is, none)) = none (version_byte script.version ∷ r) w
 no_fault_of bytes script f (r, w, m, few) (inr (inl (is, (other, rest, e, unknown)))) = no_version bytes rest r other script.version e unknown w
 no_fault_of bytes script f (r, w, m, few) (inr (inr (inl (is, short)))) = goes_on bytes r (version_byte script.version) w short
@@ -186,17 +186,17 @@ one_fault_lem bytes f g (inr (short, bad)) (inl (is, long)) = absurd (omega arit
 one_fault_lem bytes f g (inr (short, bad)) (inr (short', bad')) = one_of_faults bytes f g (faults bytes f bad) (faults bytes g bad')
 
 -- bytes that spell a script have no other fault than that they are too long
-pub no_other_fault : (bytes : List ℕ) (script : Listing) (f : Fault) → Spells bytes script → IsFault bytes f → f ≡ fault.TooLong
+pub no_other_fault : (bytes : List ℕ) (script : ScriptItems) (f : Fault) → Spells bytes script → IsFault bytes f → f ≡ fault.TooLong
 no_other_fault bytes script f good (inl (is, long)) = is
 no_other_fault bytes script f good (inr (short, bad)) = absurd (no_fault_of bytes script f good (faults bytes f bad))
 
-no_fault : (bytes : List ℕ) (script : Listing) (f : Fault) → length bytes ≤ script_limit → Spells bytes script → IsFault bytes f → ⊥
+no_fault : (bytes : List ℕ) (script : ScriptItems) (f : Fault) → length bytes ≤ script_limit → Spells bytes script → IsFault bytes f → ⊥
 no_fault bytes script f small good (inl (is, long)) = absurd (omega arith)
 no_fault bytes script f small good (inr (short, bad)) = no_fault_of bytes script f good (faults bytes f bad)
 
 -- so a script of allowed length decodes, unless memory runs out
 pub decodes : {X : Type 0} (bytes : List ℕ) (r : Result X Fault) → IfErr r (λ e. (e ≡ fault.OutOfMemory) ⊎ IsFault bytes e)
-    → (script : Listing) → length bytes ≤ script_limit → Spells bytes script → IsOkUnless r fault.OutOfMemory
+    → (script : ScriptItems) → length bytes ≤ script_limit → Spells bytes script → IsOkUnless r fault.OutOfMemory
 decodes bytes (Ok x) h script small good = tt
 decodes bytes (Err e) (inl memory) script small good = memory
 decodes bytes (Err e) (inr bad) script small good = absurd (no_fault bytes script e small good bad)

@@ -6,7 +6,7 @@ use Rattle.byteorder.specs.Endian.{little_bytes, little_number}
 use Rattle.vga_script.specs.declared.step.Step.{Step}
 use Rattle.vga_script.specs.declared.step.Step.TheVariants.{Out, OutWord, In, InWord, Put, PutWord, Get, GetWord, Int, Advance, Frame, Show}
 use Rattle.vga_script.specs.declared.dump_range.Shown.TheVariants as shown
-use Rattle.vga_script.specs.Item.{Item, Once, Repeated, Listing, expanded, step_limit, IsItemOf, AreItemsOf}
+use Rattle.vga_script.specs.Item.{Item, Once, Repeated, ScriptItems, expanded, step_limit, IsItemOf, AreItemsOf}
 use Rattle.vga_script.specs.declared.version.Version.{Version}
 use Rattle.vga_script.specs.Beginning.{call_at, step_of_opcode, step_of}
 use Rattle.vga_script.specs.Step.{IsInRange, AreInRange}
@@ -158,7 +158,7 @@ one_header v w x y e =
     (one_version v w byte, rests)
 
 -- no bytes spell two scripts
-pub one_script_lem : (bytes : List ℕ) (first second : Listing) → Spells bytes first → Spells bytes second → first ≡ second
+pub one_script_lem : (bytes : List ℕ) (first second : ScriptItems) → Spells bytes first → Spells bytes second → first ≡ second
 one_script_lem bytes first second (r, w, m, few) (r', w', m', few') =
     let both = one_header first.version second.version r r' (sym w ∙ w') in
     let same : SpellsItems first.version r second.items = subst₂ (λ (v : Version) (l : List ℕ). SpellsItems v l second.items) (sym both.0) (sym both.1) m' in
@@ -167,14 +167,14 @@ one_script_lem bytes first second (r, w, m, few) (r', w', m', few') =
 -- ---- one spelling
 
 -- the bytes that spell a script are its encoding
-pub spelled : (bytes : List ℕ) (script : Listing) → Spells bytes script → bytes ≡ encoding script
+pub spelled : (bytes : List ℕ) (script : ScriptItems) → Spells bytes script → bytes ≡ encoding script
 spelled bytes script (rest, whole, good, few) = whole ∙ ap (λ (l : List ℕ). header script.version ++ l) (spelled_items script.version rest script.items good)
 
 -- so no script has two spellings
-pub one_spelling_lem : (x y : List ℕ) (script : Listing) → Spells x script → Spells y script → x ≡ y
+pub one_spelling_lem : (x y : List ℕ) (script : ScriptItems) → Spells x script → Spells y script → x ≡ y
 one_spelling_lem x y script p q = spelled x script p ∙ sym (spelled y script q)
 
 -- and each has one
-pub encoding_spells : (script : Listing) → AreItemsOf script.version script.items → length (expanded script.items) ≤ step_limit →
+pub encoding_spells : (script : ScriptItems) → AreItemsOf script.version script.items → length (expanded script.items) ≤ step_limit →
     Spells (encoding script) script
 encoding_spells script all few = (flat_map item_spelling script.items, refl, encoded_items script.version script.items all, few)

@@ -4,15 +4,15 @@ use Rattle.vga_script.specs.declared.step.Step.{Step}
 use Rattle.vga_script.specs.Item.{Item, Once, Repeated, expanded, step_limit}
 use Rattle.vga_script.specs.declared.version.Version.{Version}
 use Rattle.vga_script.specs.Tokens.{words}
-use Rattle.vga_script.specs.Text.{SpellsLine, SpellsLines, SpellsRepeat, IsRepeatEndLine, Group, IsGroup, IsBadOutside, IsBadInside, StandsInRepeatLines, IsGroupFault}
+use Rattle.vga_script.specs.Text.{SpellsLine, SpellsLines, SpellsRepeat, IsRepeatEndLine, LineGroup, IsLineGroup, IsBadLineOutsideRepeats, IsBadLineInRepeat, StandsInRepeatLines, IsGroupFault}
 use Rattle.vga_script.proofs.LineLemmas.{one_line, one_lines}
 use Rattle.vga_script.proofs.RepeatLineLemmas.{one_count, step_or_repeat, step_or_end}
 
 -- a group is its lines and its items
-abbrev group_of : List (List ℕ) → List Item → Group
+abbrev group_of : List (List ℕ) → List Item → LineGroup
 group_of l i = record { lines = l; items = i }
 
-one_record : (g h : Group) → g.lines ≡ h.lines → g.items ≡ h.items → g ≡ h
+one_record : (g h : LineGroup) → g.lines ≡ h.lines → g.items ≡ h.items → g ≡ h
 one_record g h p q = ap (λ (l : List (List ℕ)). group_of l g.items) p ∙ ap (λ (i : List Item). group_of h.lines i) q
 
 -- ---- what stops the body of a repeat
@@ -25,7 +25,7 @@ pub record StopsLines (ls : List (List ℕ)) : Type 0 where
 first_is : (line other : List ℕ) (ls rest : List (List ℕ)) → line ∷ rest ≡ other ∷ ls → line ≡ other
 first_is line other ls rest e = cc
 
-bad_stops : (line : List ℕ) (others : List (List ℕ)) → IsBadInside line → StopsLines (line ∷ others)
+bad_stops : (line : List ℕ) (others : List (List ℕ)) → IsBadLineInRepeat line → StopsLines (line ∷ others)
 bad_stops line others (none, no_end) = record {
   no_end = λ other rest e is. no_end (subst (λ (l : List ℕ). IsRepeatEndLine (words l)) (sym (first_is line other rest others e)) is);
   no_start = λ other rest steps e is. none steps (subst (λ (l : List ℕ). SpellsLine (words l) steps) (sym (first_is line other rest others e)) is);
@@ -81,7 +81,7 @@ both_stop (b ∷ body) (c ∷ body') steps steps' rest rest' (here, after, is, l
 -- ---- one group
 
 -- the lines of a group, and what follows them
-goes : (g : Group) (ls x y : List (List ℕ)) → g.lines ≡ ls → y ≡ g.lines ++ x → y ≡ ls ++ x
+goes : (g : LineGroup) (ls x y : List (List ℕ)) → g.lines ≡ ls → y ≡ g.lines ++ x → y ≡ ls ++ x
 goes g ls x y is e = e ∙ ap (λ (l : List (List ℕ)). l ++ x) is
 
 -- a line and a repeat begin differently
@@ -91,7 +91,7 @@ line_or_repeat line first x y steps count e good begins =
     let same : first ≡ line = cc in step_or_repeat (words line) steps count good (subst (λ (l : List ℕ). SpellsRepeat (words l) count) same begins)
 
 -- the prefix of some lines determines the group that it spells
-pub one_group : (version : Version) (g h : Group) (x y : List (List ℕ)) → IsGroup version g → IsGroup version h → g.lines ++ x ≡ h.lines ++ y → (g ≡ h)
+pub one_group : (version : Version) (g h : LineGroup) (x y : List (List ℕ)) → IsLineGroup version g → IsLineGroup version h → g.lines ++ x ≡ h.lines ++ y → (g ≡ h)
     × (x ≡ y)
 one_group version g h x y (inl (line, steps, ls, is, good)) (inl (line', steps', ls', is', good')) e =
     let both : line ∷ x ≡ line' ∷ y = ap (λ (l : List (List ℕ)). l ++ x) (sym ls) ∙ e ∙ ap (λ (l : List (List ℕ)). l ++ y) ls' in
@@ -120,7 +120,7 @@ one_group version g h x y (inr (allowed, (first, count, body, steps, last, ls, i
     (one_record g h (ls ∙ lines_are ∙ sym ls') (is ∙ items_are ∙ sym is'), bodies.2)
 
 -- a group has at least one line
-pub some_line : (version : Version) (g : Group) (x : List (List ℕ)) → IsGroup version g → [] ≡ g.lines ++ x → ⊥
+pub some_line : (version : Version) (g : LineGroup) (x : List (List ℕ)) → IsLineGroup version g → [] ≡ g.lines ++ x → ⊥
 some_line version g x (inl (line, steps, ls, is, good)) e = nothing line x (goes g (line ∷ []) x [] ls e)
 some_line version g x (inr (allowed, (first, count, body, steps, last, ls, is, begins, good, ends))) e =
     nothing first ((body ++ last ∷ []) ++ x) (goes g (first ∷ (body ++ last ∷ [])) x [] ls e)
@@ -128,8 +128,8 @@ some_line version g x (inr (allowed, (first, count, body, steps, last, ls, is, b
 -- ---- the faults of a group
 
 -- a repeat whose body stops
-opens_or_group : (version : Version) (ls rest x : List (List ℕ)) (place : ℕ) (g : Group) → StandsInRepeatLines version ls place rest → StopsLines rest →
-    IsGroup version g → ls ≡ g.lines ++ x → ⊥
+opens_or_group : (version : Version) (ls rest x : List (List ℕ)) (place : ℕ) (g : LineGroup) → StandsInRepeatLines version ls place rest → StopsLines rest →
+    IsLineGroup version g → ls ≡ g.lines ++ x → ⊥
 opens_or_group version ls rest x place g h stops (inl (line, steps, is, items, good)) e =
     line_or_repeat line h.first x (h.body ++ rest) steps h.count (sym (goes g (line ∷ []) x ls is e) ∙ h.whole) good h.begins
 opens_or_group version ls rest x place g h stops (inr (allowed, (first, count, body, steps, last, is, items, begins, good, ends))) e =
@@ -138,8 +138,8 @@ opens_or_group version ls rest x place g h stops (inr (allowed, (first, count, b
     stop_or_end h.body body h.steps steps last rest x h.good good ends stops (tails ∙ append_assoc body (last ∷ []) x)
 
 -- a bad line
-bad_or_group : (version : Version) (ls others x : List (List ℕ)) (line : List ℕ) (g : Group) → ls ≡ line ∷ others → IsBadOutside version line →
-    IsGroup version g → ls ≡ g.lines ++ x → ⊥
+bad_or_group : (version : Version) (ls others x : List (List ℕ)) (line : List ℕ) (g : LineGroup) → ls ≡ line ∷ others → IsBadLineOutsideRepeats version line →
+    IsLineGroup version g → ls ≡ g.lines ++ x → ⊥
 bad_or_group version ls others x line g prefix (none, no_repeat) (inl (other, steps, is, items, good)) e =
     let both : line ∷ others ≡ other ∷ x = sym prefix ∙ goes g (other ∷ []) x ls is e in
     let same : other ≡ line = cc in none steps (subst (λ (l : List ℕ). SpellsLine (words l) steps) same good)
@@ -147,7 +147,7 @@ bad_or_group version ls others x line g prefix (none, no_repeat) (inr (allowed, 
     let both : line ∷ others ≡ first ∷ ((body ++ last ∷ []) ++ x) = sym prefix ∙ goes g (first ∷ (body ++ last ∷ [])) x ls is e in
     let same : first ≡ line = cc in no_repeat allowed count (subst (λ (l : List ℕ). SpellsRepeat (words l) count) same begins)
 
-bad_or_open : (version : Version) (ls others rest : List (List ℕ)) (line : List ℕ) (place : ℕ) → ls ≡ line ∷ others → IsBadOutside version line →
+bad_or_open : (version : Version) (ls others rest : List (List ℕ)) (line : List ℕ) (place : ℕ) → ls ≡ line ∷ others → IsBadLineOutsideRepeats version line →
     StandsInRepeatLines version ls place rest → ⊥
 bad_or_open version ls others rest line place prefix (none, no_repeat) h =
     let both : line ∷ others ≡ h.first ∷ (h.body ++ rest) = sym prefix ∙ h.whole in
@@ -166,7 +166,7 @@ one_open version ls rest rest' place place' h h' stops stops' =
     (omega arith, same.1)
 
 -- where a group begins, within the limit, there is no fault
-pub group_or_fault : (version : Version) (so_far n bad : ℕ) (ls x : List (List ℕ)) (g : Group) → IsGroupFault version so_far n ls bad → IsGroup version g →
+pub group_or_fault : (version : Version) (so_far n bad : ℕ) (ls x : List (List ℕ)) (g : LineGroup) → IsGroupFault version so_far n ls bad → IsLineGroup version g →
     ls ≡ g.lines ++ x → so_far + length (expanded g.items) ≤ step_limit → ⊥
 group_or_fault version so_far n bad ls x g (inl (is, (line, others, prefix, wrong))) good e few = bad_or_group version ls others x line g prefix wrong good e
 group_or_fault version so_far n bad ls x g (inr (inl (place, line, others, is, h, wrong))) good e few =
@@ -174,7 +174,7 @@ group_or_fault version so_far n bad ls x g (inr (inl (place, line, others, is, h
 group_or_fault version so_far n bad ls x g (inr (inr (inl (is, (place, h))))) good e few = opens_or_group version ls [] x place g h end_stops good e
 group_or_fault version so_far n bad ls x g (inr (inr (inr (is, (other, rest, prefix, good', long))))) good e few =
     let same = one_group version g other x rest good good' (sym e ∙ prefix) in
-    let len = ap (λ (h : Group). length (expanded h.items)) same.0 in absurd (omega arith)
+    let len = ap (λ (h : LineGroup). length (expanded h.items)) same.0 in absurd (omega arith)
 
 -- no lines have two first faults
 pub one_group_fault : (version : Version) (so_far n m k : ℕ) (ls : List (List ℕ)) → IsGroupFault version so_far n ls m → IsGroupFault version so_far n ls k

@@ -2,7 +2,7 @@
 use Rattle.std.proofs.Common.{◌≡◌, ℕ, zero, suc, ◌+◌, ◌*◌, ◌-◌, ◌<◌, List, [], ◌∷◌, ◌++◌, length, refl, sym, ap, ◌∙◌, arith, length-append, suc-mul}
 use Rattle.std.proofs.Common.{append_assoc}
 use Rattle.vga_script.specs.declared.step.Step.{Step}
-use Rattle.vga_script.specs.Item.{Item, Once, Repeated, Listing, script_of_items, repeated, steps_of_item, expanded, IsItemOf, AreItemsOf}
+use Rattle.vga_script.specs.Item.{Item, Once, Repeated, ScriptItems, script_of_items, repeated, steps_of_item, expanded, IsItemOf, AreItemsOf}
 use Rattle.vga_script.specs.declared.version.Version.{Version}
 use Rattle.vga_script.specs.declared.version.Version.TheVariants.{One, Two}
 use Rattle.vga_script.specs.Step.{AreInRange}
@@ -98,5 +98,5 @@ one_version Two One e = absurd (omega arith)
 one_version Two Two e = refl
 
 -- a listing is its version and its items
-pub one_listing : (first second : Listing) → first.version ≡ second.version → first.items ≡ second.items → first ≡ second
+pub one_listing : (first second : ScriptItems) → first.version ≡ second.version → first.items ≡ second.items → first ≡ second
 one_listing first second p q = ap (λ (v : Version). script_of_items v first.items) p ∙ ap (λ (i : List Item). script_of_items second.version i) q

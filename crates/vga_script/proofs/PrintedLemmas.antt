@@ -25,8 +25,8 @@ use Rattle.vga_script.specs.declared.dump_range.Shown.{Shown}
 use Rattle.vga_script.specs.declared.dump_range.Shown.TheVariants as shown
 use Rattle.vga_script.specs.Tokens.{is_blank, is_semicolon, is_newline, has_bytes, words_between_blanks, words, lines, in_lower_case, IsNumeral, IsHex}
 use Rattle.vga_script.specs.Text.{keyword_name, keyword_of, shown_name, SpellsHex, SpellsTwoHex, SpellsRegister, SpellsBlock, SpellsShown, SpellsFields, SpellsLine}
-use Rattle.vga_script.specs.Text.{SpellsLines, SpellsRepeat, IsRepeatEndLine, IsVersionTwo, Group, IsGroup, SpellsGroups, SpellsText}
-use Rattle.vga_script.specs.Item.{Item, Once, Repeated, Listing, script_of_items, expanded, step_limit, IsItemOf, AreItemsOf}
+use Rattle.vga_script.specs.Text.{SpellsLines, SpellsRepeat, IsRepeatEndLine, IsVersionTwo, LineGroup, IsLineGroup, SpellsGroups, SpellsText}
+use Rattle.vga_script.specs.Item.{Item, Once, Repeated, ScriptItems, script_of_items, expanded, step_limit, IsItemOf, AreItemsOf}
 use Rattle.vga_script.specs.declared.version.Version.{Version}
 use Rattle.vga_script.specs.declared.version.Version.TheVariants.{One, Two}
 use Rattle.vga_script.specs.DumpRange.{IsShownInRange}
@@ -432,7 +432,7 @@ end_prints : AreWords end_words × IsRepeatEndLine end_words
 end_prints = ((omega arith, word_by_test (codes "end") refl, tt), (codes "end", refl, refl))
 
 -- the lines of an item
-abbrev printed_group : Item → Group
+abbrev printed_group : Item → LineGroup
 printed_group (Once s) = record { lines = line_text s ∷ []; items = Once s ∷ [] }
 printed_group (Repeated count steps) = record {
   lines = join_with_byte 32 (repeat_words count) ∷ (map line_text steps ++ join_with_byte 32 end_words ∷ []);
@@ -440,7 +440,7 @@ printed_group (Repeated count steps) = record {
 }
 
 -- are a group that spells it
-group_spells : (version : Version) (i : Item) → IsItemOf version i → IsGroup version (printed_group i)
+group_spells : (version : Version) (i : Item) → IsItemOf version i → IsLineGroup version (printed_group i)
 group_spells version (Once s) fits = inl (line_text s, s ∷ [], refl, refl, line_spells s fits)
 group_spells version (Repeated count steps) (allowed, some, small, range) =
     let r = repeat_prints count some small in
@@ -483,7 +483,7 @@ printed_groups version (i ∷ items) (first, others) =
     let r = printed_groups version items others in (
       printed_group i ∷ r.0,
       item_lines version i (flat_map printed_item items) first ∙ ap (λ (l : List (List ℕ)). (printed_group i).lines ++ l) r.1,
-      ap (λ (l : List Item). i ∷ l) r.2 ∙ ap (λ (l : List Item). l ++ flat_map (λ (g : Group). g.items) r.0) (sym (group_items i)),
+      ap (λ (l : List Item). i ∷ l) r.2 ∙ ap (λ (l : List Item). l ++ flat_map (λ (g : LineGroup). g.items) r.0) (sym (group_items i)),
       (group_spells version i first, r.3),
     )
 
@@ -509,6 +509,6 @@ printed_version Two items all few = (
   few,
 )
 
-pub printed_spells : (script : Listing) → AreItemsOf script.version script.items → length (expanded script.items) ≤ step_limit →
+pub printed_spells : (script : ScriptItems) → AreItemsOf script.version script.items → length (expanded script.items) ≤ step_limit →
     SpellsText (printed_script script) script
 printed_spells script all few = printed_version script.version script.items all few

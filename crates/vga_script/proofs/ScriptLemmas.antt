@@ -6,10 +6,10 @@ use Rattle.vga_script.specs.declared.step.Step.{Step}
 use Rattle.vga_script.specs.declared.step.Step.TheVariants.{Out, OutWord, In, InWord, Put, PutWord, Get, GetWord, Int, Advance, Frame, Show}
 use Rattle.vga_script.specs.declared.dump_range.Shown.{Shown}
 use Rattle.vga_script.specs.declared.dump_range.Shown.TheVariants as shown
-use Rattle.vga_script.specs.Item.{Item, Once, Listing, AreItemsOf}
+use Rattle.vga_script.specs.Item.{Item, Once, ScriptItems, AreItemsOf}
 use Rattle.vga_script.specs.declared.version.Version.{Version}
 use Rattle.vga_script.specs.Tokens.{words}
-use Rattle.vga_script.specs.Text.{SpellsHex, SpellsTwoHex, SpellsRegister, SpellsBlock, SpellsShown, SpellsFields, SpellsLine, SpellsLines, Group, IsGroup}
+use Rattle.vga_script.specs.Text.{SpellsHex, SpellsTwoHex, SpellsRegister, SpellsBlock, SpellsShown, SpellsFields, SpellsLine, SpellsLines, LineGroup, IsLineGroup}
 use Rattle.vga_script.specs.Text.{SpellsText}
 use Rattle.vga_script.specs.DumpRange.{IsShownInRange}
 use Rattle.vga_script.specs.Step.{IsBlock, IsInRange, AreInRange}
@@ -19,7 +19,7 @@ use Rattle.vga_script.proofs.NumberLemmas.{hex_below}
 use Rattle.vga_script.proofs.FieldLemmas.{all_bytes}
 use Rattle.vga_script.proofs.ItemLemmas.{range-append}
 use Rattle.vga_script.proofs.GrammarLemmas.{encoding_spells}
-use Rattle.vga_script.specs.Beginning.{listing_of}
+use Rattle.vga_script.specs.Beginning.{script_of_bytes}
 use Rattle.vga_script.proofs.BeginningLemmas.{listing_back, spells_itself}
 
 -- ---- what a text spells is in range
@@ -91,15 +91,15 @@ items-append version [] b p q = q
 items-append version (i ∷ a) b (p, ps) q = (p, items-append version a b ps q)
 
 -- the items of a group, and of groups
-group_range : (version : Version) (group : Group) → IsGroup version group → AreItemsOf version group.items
+group_range : (version : Version) (group : LineGroup) → IsLineGroup version group → AreItemsOf version group.items
 group_range version group (inl (line, steps, ls, is, good)) = subst (AreItemsOf version) (sym is) (steps_fit version steps (line_range (words line) steps good))
 group_range version group (inr (allowed, (first, count, body, steps, last, ls, is, (name, number, e, named, numeral, some, small), good, ends))) =
     subst (AreItemsOf version) (sym is) ((allowed, some, small, lines_range body steps good), tt)
 
-groups_range : (version : Version) (groups : List Group) → AllByRecursion (IsGroup version) groups →
-    AreItemsOf version (flat_map (λ (g : Group). g.items) groups)
+groups_range : (version : Version) (groups : List LineGroup) → AllByRecursion (IsLineGroup version) groups →
+    AreItemsOf version (flat_map (λ (g : LineGroup). g.items) groups)
 groups_range version [] all = tt
-groups_range version (g ∷ groups) (good, all) = items-append version g.items (flat_map (λ (h : Group). h.items) groups) (group_range version g good)
+groups_range version (g ∷ groups) (good, all) = items-append version g.items (flat_map (λ (h : LineGroup). h.items) groups) (group_range version g good)
     (groups_range version groups all)
 
 -- the step of a line
@@ -107,28 +107,28 @@ pub line_in_range : (ws : List (List ℕ)) (step : Step) → SpellsLine ws (step
 line_in_range ws step h = (line_range ws (step ∷ []) h).0
 
 -- the items that a text spells are those of a script of its version
-text_range : (text : List ℕ) (script : Listing) → SpellsText text script → AreItemsOf script.version script.items
+text_range : (text : List ℕ) (script : ScriptItems) → SpellsText text script → AreItemsOf script.version script.items
 text_range text script (n, rest, from, (groups, e, is, all), few) = subst (AreItemsOf script.version) (sym is) (groups_range script.version groups all)
 
 -- so their bytes spell the script
-pub text_bytes : (text bytes : List ℕ) (script : Listing) → SpellsText text script → bytes ≡ encoding script → Spells bytes script
+pub text_bytes : (text bytes : List ℕ) (script : ScriptItems) → SpellsText text script → bytes ≡ encoding script → Spells bytes script
 text_bytes text bytes script h e = subst (λ (l : List ℕ). Spells l script) (sym e) (encoding_spells script (text_range text script h) h.4)
 
 -- and are read as it
-pub text_is_script : (text bytes : List ℕ) → (script : Listing) × SpellsText text script × (bytes ≡ encoding script) → Spells bytes (listing_of bytes)
+pub text_is_script : (text bytes : List ℕ) → (script : ScriptItems) × SpellsText text script × (bytes ≡ encoding script) → Spells bytes (script_of_bytes bytes)
 text_is_script text bytes (script, h, e) = spells_itself bytes (script, text_bytes text bytes script h e)
 
-pub text_reads : (text bytes : List ℕ) → (script : Listing) × SpellsText text script × (bytes ≡ encoding script) → SpellsText text (listing_of bytes)
+pub text_reads : (text bytes : List ℕ) → (script : ScriptItems) × SpellsText text script × (bytes ≡ encoding script) → SpellsText text (script_of_bytes bytes)
 text_reads text bytes (script, h, e) = subst (SpellsText text) (sym (listing_back bytes script (text_bytes text bytes script h e))) h
 
 -- which is no longer than a script may be
-pub text_fits : (text bytes : List ℕ) → (script : Listing) × SpellsText text script × (bytes ≡ encoding script) → length bytes ≤ script_limit →
-    IsScript (listing_of bytes)
+pub text_fits : (text bytes : List ℕ) → (script : ScriptItems) × SpellsText text script × (bytes ≡ encoding script) → length bytes ≤ script_limit →
+    IsScript (script_of_bytes bytes)
 text_fits text bytes (script, h, e) short =
     subst IsScript (sym (listing_back bytes script (text_bytes text bytes script h e)))
     (record { range = text_range text script h; few = h.4; short = subst (λ (l : List ℕ). length l ≤ script_limit) e short })
 
 -- a text whose script has too many bytes
-pub too_long : (text bytes : List ℕ) → (script : Listing) × SpellsText text script × (bytes ≡ encoding script) → script_limit < length bytes →
+pub too_long : (text bytes : List ℕ) → (script : ScriptItems) × SpellsText text script × (bytes ≡ encoding script) → script_limit < length bytes →
     SpellsTooLongScript text
 too_long text bytes (script, h, e) long = (script, h, subst (λ (l : List ℕ). script_limit < length l) e long)

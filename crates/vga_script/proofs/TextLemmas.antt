@@ -7,11 +7,11 @@ use Rattle.std.proofs.lemmas.Grind.{flat_map-append}
 use Rattle.vga_bits.specs.declared.fault.Fault.{Fault}
 use Rattle.vga_bits.specs.declared.fault.Fault.TheVariants as fault
 use Rattle.vga_script.specs.declared.step.Step.{Step}
-use Rattle.vga_script.specs.Item.{Item, Listing, expanded, step_limit}
+use Rattle.vga_script.specs.Item.{Item, ScriptItems, expanded, step_limit}
 use Rattle.vga_script.specs.declared.version.Version.{Version}
 use Rattle.vga_script.specs.declared.version.Version.TheVariants.{One, Two}
 use Rattle.vga_script.specs.Tokens.{words, lines}
-use Rattle.vga_script.specs.Text.{SpellsLine, IsVersionTwo, Group, IsGroup, SpellsGroups, SaysVersionTwo, ItemsBeginAtLine, SpellsText, IsGroupFault, SpellsLinesUpTo}
+use Rattle.vga_script.specs.Text.{SpellsLine, IsVersionTwo, LineGroup, IsLineGroup, SpellsGroups, SaysVersionTwo, ItemsBeginAtLine, SpellsText, IsGroupFault, SpellsLinesUpTo}
 use Rattle.vga_script.specs.Text.{IsBadLine}
 use Rattle.vga_script.specs.Spelling.{script_limit, encoding}
 use Rattle.vga_script.specs.Script.{IsScript, IsTextFault}
@@ -23,19 +23,19 @@ use Rattle.vga_script.proofs.GroupLemmas.{one_group, some_line, group_or_fault, 
 -- ---- where the items of a text begin
 
 -- each line of a script of version 1 is that of a step, or has no word
-line_spells : (groups : List Group) (before : List (List ℕ)) (line : List ℕ) (after : List (List ℕ)) → AllByRecursion (IsGroup One) groups →
-    flat_map (λ (g : Group). g.lines) groups ≡ before ++ line ∷ after → (steps : List Step) × SpellsLine (words line) steps
+line_spells : (groups : List LineGroup) (before : List (List ℕ)) (line : List ℕ) (after : List (List ℕ)) → AllByRecursion (IsLineGroup One) groups →
+    flat_map (λ (g : LineGroup). g.lines) groups ≡ before ++ line ∷ after → (steps : List Step) × SpellsLine (words line) steps
 line_spells [] [] line after all e = absurd (cc)
 line_spells [] (b ∷ before) line after all e = absurd (cc)
 line_spells (g ∷ groups) before line after (inr (allowed, block), all) e = absurd allowed
 line_spells (g ∷ groups) [] line after (inl (first, steps, is, items, good), all) e =
-    let both : first ∷ flat_map (λ (h : Group). h.lines) groups ≡ line ∷ after = ap (λ (l : List (List ℕ)). l
-    ++ flat_map (λ (h : Group). h.lines) groups) (sym is) ∙ e in
+    let both : first ∷ flat_map (λ (h : LineGroup). h.lines) groups ≡ line ∷ after = ap (λ (l : List (List ℕ)). l
+    ++ flat_map (λ (h : LineGroup). h.lines) groups) (sym is) ∙ e in
     let same : first ≡ line = cc in (steps, subst (λ (l : List ℕ). SpellsLine (words l) steps) same good)
 line_spells (g ∷ groups) (b ∷ before) line after (inl (first, steps, is, items, good), all) e =
-    let both : first ∷ flat_map (λ (h : Group). h.lines) groups ≡ b ∷ (before ++ line ∷ after) =
-    ap (λ (l : List (List ℕ)). l ++ flat_map (λ (h : Group). h.lines) groups) (sym is) ∙ e in
-    let tails : flat_map (λ (h : Group). h.lines) groups ≡ before ++ line ∷ after = cc in line_spells groups before line after all tails
+    let both : first ∷ flat_map (λ (h : LineGroup). h.lines) groups ≡ b ∷ (before ++ line ∷ after) =
+    ap (λ (l : List (List ℕ)). l ++ flat_map (λ (h : LineGroup). h.lines) groups) (sym is) ∙ e in
+    let tails : flat_map (λ (h : LineGroup). h.lines) groups ≡ before ++ line ∷ after = cc in line_spells groups before line after all tails
 
 -- so none says version 2
 pub no_version : (ls : List (List ℕ)) (items : List Item) → SpellsGroups One ls items → (n : ℕ) (rest : List (List ℕ)) → SaysVersionTwo ls n rest → ⊥
@@ -85,10 +85,10 @@ one_start Two Two ls n m rest others says says' no_two no_two' = let same = one_
 
 -- the groups before these lines, and what they spell
 record StandsBefore (version : Version) (rest : List (List ℕ)) (items : List Item) (left : List (List ℕ)) (count : ℕ) : Type 0 where
-  groups : List Group
-  all : AllByRecursion (IsGroup version) groups
-  whole : rest ≡ flat_map (λ (g : Group). g.lines) groups ++ left
-  items_are : items ≡ flat_map (λ (g : Group). g.items) groups
+  groups : List LineGroup
+  all : AllByRecursion (IsLineGroup version) groups
+  whole : rest ≡ flat_map (λ (g : LineGroup). g.lines) groups ++ left
+  items_are : items ≡ flat_map (λ (g : LineGroup). g.items) groups
   few : length (expanded items) ≤ step_limit
   count_is : count + length left ≡ length rest
 
@@ -104,26 +104,26 @@ stands version rest prefix left items (groups, e, is, good) whole few = record {
 }
 
 -- groups that go on with one more stay within the limit with it
-within_limit : (groups others longer : List Group) (g : Group) (items wider : List Item) → longer ≡ groups ++ g ∷ others →
-    items ≡ flat_map (λ (h : Group). h.items) groups → wider ≡ flat_map (λ (h : Group). h.items) longer → length (expanded wider) ≤ step_limit
+within_limit : (groups others longer : List LineGroup) (g : LineGroup) (items wider : List Item) → longer ≡ groups ++ g ∷ others →
+    items ≡ flat_map (λ (h : LineGroup). h.items) groups → wider ≡ flat_map (λ (h : LineGroup). h.items) longer → length (expanded wider) ≤ step_limit
     → length (expanded items) + length (expanded g.items) ≤ step_limit
 within_limit groups others longer g items wider e is is' few =
-    let whole : wider ≡ flat_map (λ (h : Group). h.items) groups ++ (g.items ++ flat_map (λ (h : Group). h.items) others) =
-    is' ∙ ap (flat_map (λ (h : Group). h.items)) e ∙ flat_map-append (λ (h : Group). h.items) groups (g ∷ others) in
+    let whole : wider ≡ flat_map (λ (h : LineGroup). h.items) groups ++ (g.items ++ flat_map (λ (h : LineGroup). h.items) others) =
+    is' ∙ ap (flat_map (λ (h : LineGroup). h.items)) e ∙ flat_map-append (λ (h : LineGroup). h.items) groups (g ∷ others) in
     let len = ap (λ (l : List Item). length (expanded l)) whole in
-    let first = length-expanded-append (flat_map (λ (h : Group). h.items) groups) (g.items ++ flat_map (λ (h : Group). h.items) others) in
-    let second = length-expanded-append g.items (flat_map (λ (h : Group). h.items) others) in
+    let first = length-expanded-append (flat_map (λ (h : LineGroup). h.items) groups) (g.items ++ flat_map (λ (h : LineGroup). h.items) others) in
+    let second = length-expanded-append g.items (flat_map (λ (h : LineGroup). h.items) others) in
     let same = ap (λ (l : List Item). length (expanded l)) is in omega arith
 
 -- no lines spell two lists of items
 one_list : (version : Version) (rest : List (List ℕ)) (a b : List Item) → SpellsGroups version rest a → SpellsGroups version rest b → a ≡ b
 one_list version rest a b (groups, e, is, all) (groups', e', is', all') =
-    let both : flat_map (λ (g : Group). g.lines) groups ++ [] ≡ flat_map (λ (g : Group). g.lines) groups'
+    let both : flat_map (λ (g : LineGroup). g.lines) groups ++ [] ≡ flat_map (λ (g : LineGroup). g.lines) groups'
     ++ [] = ap (λ (l : List (List ℕ)). l ++ []) (sym e ∙ e') in
-    is ∙ ap (flat_map (λ (g : Group). g.items)) (all_read version groups groups' (compare (λ (g : Group). g.lines) (IsGroup version) (one_group version) groups
+    is ∙ ap (flat_map (λ (g : LineGroup). g.items)) (all_read version groups groups' (compare (λ (g : LineGroup). g.lines) (IsLineGroup version) (one_group version) groups
     groups' [] [] all all' both)) ∙ sym is'
   where
-    all_read : (version : Version) (groups groups' : List Group) → Compared (λ (g : Group). g.lines) (IsGroup version) groups groups' [] [] → groups ≡ groups'
+    all_read : (version : Version) (groups groups' : List LineGroup) → Compared (λ (g : LineGroup). g.lines) (IsLineGroup version) groups groups' [] [] → groups ≡ groups'
     all_read version groups groups' (inl (same, rests)) = same
     all_read version groups groups' (inr (inl (next, others, is, fits, rests))) = absurd (some_line version next _ fits rests)
     all_read version groups groups' (inr (inr (next, others, is, fits, rests))) = absurd (some_line version next _ fits rests)
@@ -136,7 +136,7 @@ not_two text One items n rest (is, e) h one m others says = no_version (lines te
 not_two text Two items n rest from h one m others says = absurd (cc)
 
 -- no text spells two scripts
-pub one_text : (text : List ℕ) (a b : Listing) → SpellsText text a → SpellsText text b → a ≡ b
+pub one_text : (text : List ℕ) (a b : ScriptItems) → SpellsText text a → SpellsText text b → a ≡ b
 one_text text a b (n, rest, from, h, few) (n', rest', from', h', few') =
     let same = one_start a.version b.version (lines text) n n' rest rest' from from' (not_two text a.version a.items n rest from h)
     (not_two text b.version b.items n' rest' from' h') in
@@ -150,9 +150,9 @@ one_text text a b (n, rest, from, h, few) (n', rest', from', h', few') =
 same_place : (version : Version) (rest left left' : List (List ℕ)) (items items' : List Item) (start count count' bad bad' : ℕ)
     (h : StandsBefore version rest items left count) (k : StandsBefore version rest items' left' count')
     → IsGroupFault version (length (expanded items)) (start + count) left bad → IsGroupFault version (length (expanded items')) (start + count') left' bad'
-    → Compared (λ (g : Group). g.lines) (IsGroup version) h.groups k.groups left left' → bad ≡ bad'
+    → Compared (λ (g : LineGroup). g.lines) (IsLineGroup version) h.groups k.groups left left' → bad ≡ bad'
 same_place version rest left left' items items' start count count' bad bad' h k wrong wrong' (inl (same, rests)) =
-    let items_same : items' ≡ items = k.items_are ∙ ap (flat_map (λ (g : Group). g.items)) (sym same) ∙ sym h.items_are in
+    let items_same : items' ≡ items = k.items_are ∙ ap (flat_map (λ (g : LineGroup). g.items)) (sym same) ∙ sym h.items_are in
     let len = ap length rests in
     let is = h.count_is in
     let is' = k.count_is in
@@ -169,7 +169,7 @@ same_place version rest left left' items items' start count count' bad bad' h k 
     (within_limit k.groups others h.groups next items' items is k.items_are h.items_are h.few))
 
 -- the fault at a line whose number is counted from the first of the items
-counted : (text : List ℕ) (script : Listing) (n bad : ℕ) (left : List (List ℕ)) (up : SpellsLinesUpTo text script n left) →
+counted : (text : List ℕ) (script : ScriptItems) (n bad : ℕ) (left : List (List ℕ)) (up : SpellsLinesUpTo text script n left) →
     IsGroupFault script.version (length (expanded script.items)) n left bad
     → IsGroupFault script.version (length (expanded script.items)) (up.start + length up.prefix) left bad
 counted text script n bad left up wrong = subst (λ (m : ℕ). IsGroupFault script.version (length (expanded script.items)) m left bad) up.number wrong
@@ -188,13 +188,13 @@ one_bad_line text bad bad' (script, n, left, up, wrong) (script', n', left', up'
     (counted text script' n' bad' left' up' wrong')) in
     same_place version up.rest left left' script.items script'.items up.start (length up.prefix) (length up'.prefix) bad bad' stand there
     (counted text script n bad left up wrong) wrong_there
-    (compare (λ (g : Group). g.lines) (IsGroup version) (one_group version) stand.groups there.groups left left' stand.all there.all (sym stand.whole
+    (compare (λ (g : LineGroup). g.lines) (IsLineGroup version) (one_group version) stand.groups there.groups left left' stand.all there.all (sym stand.whole
     ∙ there.whole))
 
 -- a text that spells a script has no bad line
 nowhere : (version : Version) (rest left : List (List ℕ)) (items items' : List Item) (n count count' bad : ℕ) (h : StandsBefore version rest items [] count)
     (k : StandsBefore version rest items' left count')
-    → IsGroupFault version (length (expanded items')) n left bad → Compared (λ (g : Group). g.lines) (IsGroup version) h.groups k.groups [] left → ⊥
+    → IsGroupFault version (length (expanded items')) n left bad → Compared (λ (g : LineGroup). g.lines) (IsLineGroup version) h.groups k.groups [] left → ⊥
 nowhere version rest left items items' n count count' bad h k wrong (inl (same, rests)) =
     fault_at_end version (length (expanded items')) n bad left (sym rests) wrong
 nowhere version rest left items items' n count count' bad h k wrong (inr (inl (next, others, is, fits, rests))) = some_line version next _ fits rests
@@ -202,7 +202,7 @@ nowhere version rest left items items' n count count' bad h k wrong (inr (inr (n
     group_or_fault version (length (expanded items')) n bad left _ next wrong fits rests
     (within_limit k.groups others h.groups next items' items is k.items_are h.items_are h.few)
 
-no_bad_line : (text : List ℕ) (script : Listing) (bad : ℕ) → SpellsText text script → IsBadLine text bad → ⊥
+no_bad_line : (text : List ℕ) (script : ScriptItems) (bad : ℕ) → SpellsText text script → IsBadLine text bad → ⊥
 no_bad_line text script bad (n, rest, from, h, few) (script', n', left', up', wrong') =
     let version = script.version in
     let same = one_start version script'.version (lines text) n up'.start rest up'.rest from up'.from (not_two text version script.items n rest from h)
@@ -213,7 +213,7 @@ no_bad_line text script bad (n, rest, from, h, few) (script', n', left', up', wr
     let wrong_there : IsGroupFault version (length (expanded script'.items)) n' left' bad =
     subst (λ (v : Version). IsGroupFault v (length (expanded script'.items)) n' left' bad) (sym same.0) wrong' in
     nowhere version rest left' script.items script'.items n' (length rest) (length up'.prefix) bad stand there wrong_there
-    (compare (λ (g : Group). g.lines) (IsGroup version) (one_group version) stand.groups there.groups [] left' stand.all there.all (sym stand.whole
+    (compare (λ (g : LineGroup). g.lines) (IsLineGroup version) (one_group version) stand.groups there.groups [] left' stand.all there.all (sym stand.whole
     ∙ there.whole))
 
 -- ---- the faults of a text
@@ -231,7 +231,7 @@ one_text_fault_lem text (fault.BadLine n) _ h k = absurd k
 one_text_fault_lem text _ g h k = absurd h
 
 -- a text that spells a script of allowed length has no other fault than its own length
-pub no_other_fault : (text : List ℕ) (script : Listing) (f : Fault) → SpellsText text script → IsScript script → IsTextFault text f → f ≡ fault.TooLong
+pub no_other_fault : (text : List ℕ) (script : ScriptItems) (f : Fault) → SpellsText text script → IsScript script → IsTextFault text f → f ≡ fault.TooLong
 no_other_fault text script fault.TooLong h fits bad = refl
 no_other_fault text script (fault.BadLine n) h fits (small, bad) = absurd (no_bad_line text script n h bad)
 no_other_fault text script _ h fits bad = absurd bad
@@ -239,17 +239,17 @@ no_other_fault text script _ h fits bad = absurd bad
 along : (a b : ℕ) → a ≡ b → a ≤ script_limit → script_limit < b → ⊥
 along a b e p q = absurd (omega arith)
 
-no_fault : (text : List ℕ) (script : Listing) (f : Fault) → length text ≤ script_limit → SpellsText text script → length (encoding script) ≤ script_limit →
+no_fault : (text : List ℕ) (script : ScriptItems) (f : Fault) → length text ≤ script_limit → SpellsText text script → length (encoding script) ≤ script_limit →
     IsTextFault text f → ⊥
 no_fault text script fault.TooLong small h short (inl long) = absurd (omega arith)
 no_fault text script fault.TooLong small h short (inr (small', (other, spelled, long))) =
-    let same = ap (λ (s : Listing). length (encoding s)) (one_text text script other h spelled) in along _ _ same short long
+    let same = ap (λ (s : ScriptItems). length (encoding s)) (one_text text script other h spelled) in along _ _ same short long
 no_fault text script (fault.BadLine n) small h short (fits, bad) = no_bad_line text script n h bad
 no_fault text script _ small h short bad = bad
 
 -- so it assembles, where the text has an allowed length too, unless memory runs out
 pub assembles : {X : Type 0} (text : List ℕ) (r : Result X Fault) → IfErr r (λ e. (e ≡ fault.OutOfMemory) ⊎ IsTextFault text e)
-    → (script : Listing) → length text ≤ script_limit → SpellsText text script → length (encoding script) ≤ script_limit → IsOkUnless r fault.OutOfMemory
+    → (script : ScriptItems) → length text ≤ script_limit → SpellsText text script → length (encoding script) ≤ script_limit → IsOkUnless r fault.OutOfMemory
 assembles text (Ok x) h script small spelled short = tt
 assembles text (Err e) (inl memory) script small spelled short = memory
 assembles text (Err e) (inr bad) script small spelled short = absurd (no_fault text script e small spelled short bad)

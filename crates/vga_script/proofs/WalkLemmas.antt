@@ -8,7 +8,7 @@ use Rattle.vga_script.specs.declared.fields.NoStep.TheVariants as no_step
 use Rattle.vga_script.specs.declared.version.Version.{Version}
 use Rattle.vga_script.specs.Decoding.{StartsWithBadStep, StartsWithCutStep, IsItemFault}
 use Rattle.vga_script.specs.Beginning.{steps_in, items_in}
-use Rattle.vga_script.specs.Item.{Item, Listing, expanded, step_limit}
+use Rattle.vga_script.specs.Item.{Item, ScriptItems, expanded, step_limit}
 use Rattle.vga_script.specs.Printing.{printed_line, printed_steps, printed_item, version_line, printed_script}
 use Rattle.vga_script.specs.Spelling.{StartsWithStep, StartsWithItem, SpellsSteps, SpellsItems, Spells}
 use Rattle.vga_script.proofs.DecodeLemmas.{nothing}
@@ -99,7 +99,7 @@ pub never_faulty : (start now : List ℕ) (version : Version) (bytes rest : List
 never_faulty start now version bytes rest f h some bad = begin_with_item version rest (items_in rest) f some h.good h.few (bad 0)
 
 -- the printed text of a script
-pub script_printed : (bytes empty first last text rest : List ℕ) (version : Version) (script : Listing) → Spells bytes script → version ≡ script.version →
+pub script_printed : (bytes empty first last text rest : List ℕ) (version : Version) (script : ScriptItems) → Spells bytes script → version ≡ script.version →
     empty ≡ [] → first ≡ empty ++ text → text ≡ version_line version → rest ≡ drop 5 bytes
     → last ≡ first ++ flat_map printed_item (items_in rest) → last ≡ printed_script script
 script_printed bytes empty first last text rest version script h v e f t r l =

@@ -8,8 +8,8 @@ use Rattle.vga_script.specs.Spelling.{spelling, item_spelling}
 use Rattle.vga_script.specs.declared.step.Step.{Step}
 use Rattle.vga_script.specs.declared.version.Version.{Version}
 use Rattle.vga_script.specs.Tokens.{words, lines_of_rest, rest_len}
-use Rattle.vga_script.specs.Text.{SpellsLine, SpellsLines, IsRepeatEndLine, IsBadInside, Group}
-use Rattle.vga_script.specs.Text.{IsGroup}
+use Rattle.vga_script.specs.Text.{SpellsLine, SpellsLines, IsRepeatEndLine, IsBadLineInRepeat, LineGroup}
+use Rattle.vga_script.specs.Text.{IsLineGroup}
 use Rattle.vga_script.specs.Text.{IsGroupFault}
 
 -- These lines, whose first has the number n, begin with the lines of some steps and the end of a
@@ -31,7 +31,7 @@ IsBodyFault n left (BadLine bad) =
     ((bad ≡ n) × ((steps : List Step) × SpellsLines (lines_of_rest left) steps))
     ⊎ ((body : List (List ℕ)) × (steps : List Step) × (line : List ℕ) × (others : List (List ℕ))
     × (bad ≡ n + (length body + 1))
-    × (lines_of_rest left ≡ body ++ line ∷ others) × SpellsLines body steps × IsBadInside line)
+    × (lines_of_rest left ≡ body ++ line ∷ others) × SpellsLines body steps × IsBadLineInRepeat line)
 IsBodyFault n left _ = ⊥
 
 -- These lines, whose first has the number n, begin with the lines of a group. The rest of the text
@@ -39,8 +39,8 @@ IsBodyFault n left _ = ⊥
 pub record BeginsWithGroup (version : Version) (n : ℕ) (ls : List (List ℕ)) (items : List Item)
     (next : ℕ)
     (behind : Option (List ℕ)) : Type 0 where
-  pub group : Group
-  pub good : IsGroup version group
+  pub group : LineGroup
+  pub good : IsLineGroup version group
   pub items_are : group.items ≡ items
   pub whole : ls ≡ group.lines ++ lines_of_rest behind
   pub number : next ≡ n + length group.lines
@@ -58,7 +58,8 @@ pub record AppendsLine (line before after : List ℕ) (len : ℕ) : Type 0 where
   pub few : len ≤ 1
   pub bytes : after ≡ before ++ flat_map spelling steps
 
--- The same of the lines of a repeat after its first.
+-- The bytes afterwards are those before, followed by those of the `len` steps that the lines of a
+-- repeat after its first spell.
 pub record AppendsBody (n : ℕ) (left : Option (List ℕ)) (before after : List ℕ) (len next : ℕ)
     (behind : Option (List ℕ)) : Type 0 where
   pub steps : List Step
@@ -67,7 +68,8 @@ pub record AppendsBody (n : ℕ) (left : Option (List ℕ)) (before after : List
   pub few : len ≤ next
   pub bytes : after ≡ before ++ flat_map spelling steps
 
--- The same of a repeat of this count that means `meant` steps, with its opcodes and its count.
+-- The bytes afterwards are those before, followed by those of a repeat of this count: its opcodes,
+-- its count and its steps. It means `meant` steps.
 pub record AppendsRepeat (n : ℕ) (left : Option (List ℕ)) (count : ℕ) (before after : List ℕ)
     (meant next : ℕ) (behind : Option (List ℕ)) : Type 0 where
   pub steps : List Step
@@ -75,7 +77,8 @@ pub record AppendsRepeat (n : ℕ) (left : Option (List ℕ)) (count : ℕ) (bef
   pub means : meant ≡ length (repeated count steps)
   pub bytes : after ≡ before ++ item_spelling (Repeated count steps)
 
--- The same of a group, whose items mean `meant` steps.
+-- The bytes afterwards are those before, followed by those of the items that a group spells. They
+-- mean `meant` steps.
 pub record AppendsGroup (version : Version) (n : ℕ) (ls : List (List ℕ)) (before after : List ℕ)
     (meant next : ℕ) (behind : Option (List ℕ)) : Type 0 where
   pub items : List Item

@@ -8,7 +8,7 @@ use Rattle.vga_script.specs.declared.step.Step.TheVariants.{Get, GetWord, Int, A
 use Rattle.vga_script.specs.declared.version.Version.{Version}
 use Rattle.vga_script.specs.declared.version.Version.TheVariants.{One, Two}
 use Rattle.vga_script.specs.Version.{version_byte}
-use Rattle.vga_script.specs.Item.{Listing, script_of_items, Item, Once, Repeated}
+use Rattle.vga_script.specs.Item.{ScriptItems, script_of_items, Item, Once, Repeated}
 use Rattle.vga_script.specs.declared.dump_range.Shown.TheVariants as shown
 use Rattle.vga_script.specs.DumpRange.{kind_registers, kind_dac, kind_beam, kind_latches}
 use Rattle.vga_script.specs.DumpRange.{kind_plane, kind_bios_data, kind_cells}
@@ -73,29 +73,29 @@ step_of [] = None
 step_of (opcode ∷ rest) = step_of_opcode opcode rest
 
 -- a step that was read, followed by those of the rest; or none
-abbrev pub step_and_others : Option (Step × List ℕ) → (List ℕ → List Step) → List Step
-step_and_others None others = []
-step_and_others (Some read) others = read.0 ∷ others read.1
+abbrev pub step_followed_by_rest : Option (Step × List ℕ) → (List ℕ → List Step) → List Step
+step_followed_by_rest None others = []
+step_followed_by_rest (Some read) others = read.0 ∷ others read.1
 
 -- the steps that bytes begin with, at most `most` of them
 abbrev pub steps_from : ℕ → List ℕ → List Step
 steps_from zero bytes = []
-steps_from (suc most) bytes = step_and_others (step_of bytes) (steps_from most)
+steps_from (suc most) bytes = step_followed_by_rest (step_of bytes) (steps_from most)
 
 -- all steps that bytes begin with
 unfoldable pub steps_in : List ℕ → List Step
 steps_in bytes = steps_from (length bytes) bytes
 
 -- what follows a step that was read and those after it; or the bytes themselves, if none was read
-abbrev pub rest_behind_others : Option (Step × List ℕ) → (List ℕ → List ℕ) → List ℕ → List ℕ
-rest_behind_others None behind bytes = bytes
-rest_behind_others (Some read) behind bytes = behind read.1
+abbrev pub rest_after_step_and_others : Option (Step × List ℕ) → (List ℕ → List ℕ) → List ℕ → List ℕ
+rest_after_step_and_others None behind bytes = bytes
+rest_after_step_and_others (Some read) behind bytes = behind read.1
 
 -- what follows those steps
 abbrev pub rest_behind_steps : ℕ → List ℕ → List ℕ
 rest_behind_steps zero bytes = bytes
 rest_behind_steps (suc most) bytes =
-    rest_behind_others (step_of bytes) (rest_behind_steps most) bytes
+    rest_after_step_and_others (step_of bytes) (rest_behind_steps most) bytes
 
 -- what follows all steps that bytes begin with
 unfoldable pub behind_steps : List ℕ → List ℕ
@@ -122,14 +122,14 @@ item_of [] = None
 item_of (opcode ∷ rest) = item_of_opcode opcode rest
 
 -- an item that was read, followed by those of the rest; or none
-abbrev pub item_and_others : Option (Item × List ℕ) → (List ℕ → List Item) → List Item
-item_and_others None others = []
-item_and_others (Some read) others = read.0 ∷ others read.1
+abbrev pub item_followed_by_rest : Option (Item × List ℕ) → (List ℕ → List Item) → List Item
+item_followed_by_rest None others = []
+item_followed_by_rest (Some read) others = read.0 ∷ others read.1
 
 -- the items that bytes begin with, at most `most` of them
 abbrev pub items_from : ℕ → List ℕ → List Item
 items_from zero bytes = []
-items_from (suc most) bytes = item_and_others (item_of bytes) (items_from most)
+items_from (suc most) bytes = item_followed_by_rest (item_of bytes) (items_from most)
 
 -- all items that bytes begin with
 unfoldable pub items_in : List ℕ → List Item
@@ -140,5 +140,5 @@ abbrev pub version_of : ℕ → Version
 version_of byte = if byte == version_byte Two then Two else One
 
 -- The script that bytes spell: the version after the magic, and the items after the version.
-unfoldable pub listing_of : List ℕ → Listing
-listing_of bytes = script_of_items (version_of (get_or bytes 4 0)) (items_in (drop 5 bytes))
+unfoldable pub script_of_bytes : List ℕ → ScriptItems
+script_of_bytes bytes = script_of_items (version_of (get_or bytes 4 0)) (items_in (drop 5 bytes))

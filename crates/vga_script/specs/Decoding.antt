@@ -8,7 +8,7 @@ use Rattle.vga_bits.specs.declared.fault.Fault.TheVariants.{Truncated, TooLong, 
 use Rattle.vga_script.specs.declared.step.Step.{Step}
 use Rattle.vga_script.specs.declared.step.Step.TheVariants.{Show}
 use Rattle.vga_script.specs.declared.dump_range.Shown.TheVariants as shown
-use Rattle.vga_script.specs.Item.{Item, Listing, expanded, step_limit, steps_of_item}
+use Rattle.vga_script.specs.Item.{Item, ScriptItems, expanded, step_limit, steps_of_item}
 use Rattle.vga_script.specs.declared.version.Version.{Version}
 use Rattle.vga_script.specs.DumpRange.{IsShownInRange, kind_registers, kind_dac, kind_beam}
 use Rattle.vga_script.specs.DumpRange.{kind_latches, kind_plane, kind_bios_data, kind_cells}
@@ -149,7 +149,7 @@ IsItemFault version so_far offset bytes (TooMany at) =
 IsItemFault version so_far offset bytes _ = ⊥
 
 -- The bytes before this offset spell a script, and the rest begins at this offset.
-pub record SpellsUpTo (bytes : List ℕ) (script : Listing) (offset : ℕ)
+pub record SpellsUpTo (bytes : List ℕ) (script : ScriptItems) (offset : ℕ)
     (rest : List ℕ) : Type 0 where
   pub prefix : List ℕ
   pub whole : bytes ≡ prefix ++ rest
@@ -159,7 +159,7 @@ pub record SpellsUpTo (bytes : List ℕ) (script : Listing) (offset : ℕ)
 -- after good items the next one has this fault
 abbrev pub HasItemFault : List ℕ → Fault → Type 0
 HasItemFault bytes fault =
-    (script : Listing) × (offset : ℕ) × (rest : List ℕ) × SpellsUpTo bytes script offset rest
+    (script : ScriptItems) × (offset : ℕ) × (rest : List ℕ) × SpellsUpTo bytes script offset rest
     × IsItemFault script.version (length (expanded script.items)) offset rest fault
 
 -- The first fault of bytes that spell no script, in the order of reading: they do not begin with

@@ -7,7 +7,7 @@ use Rattle.vga_bits.specs.Tracked.{TrackedState}
 use Rattle.vga_bits.specs.declared.fault.Fault.{Fault}
 use Rattle.vga_bits.specs.declared.fault.Fault.TheVariants.{TooLong, ReadFault, OutOfMemory}
 use Rattle.vga_script.specs.declared.step.Step.{Step}
-use Rattle.vga_script.specs.Item.{Listing}
+use Rattle.vga_script.specs.Item.{ScriptItems}
 use Rattle.vga_script.specs.Spelled.{SpellsExpanded}
 use Rattle.vga_script.specs.Decoding.{IsSpellingFault}
 use Rattle.vga_script.specs.Script.{IsScript}
@@ -28,7 +28,7 @@ IsReadingFault input fault = (fault ≡ ReadFault) ⊎ (((fault ≡ TooLong) × 
     ⊎ (fault ≡ OutOfMemory))
 
 -- the input spells this script
-abbrev pub InputSpells : Option (List ℕ) → Listing → Type 0
+abbrev pub InputSpells : Option (List ℕ) → ScriptItems → Type 0
 InputSpells input script = (bytes : List ℕ) × IsInput input bytes × Spells bytes script
 
 -- the input spells a script which means these steps
@@ -40,7 +40,7 @@ abbrev pub InputHasFault : Option (List ℕ) → Fault → Type 0
 InputHasFault input fault = (bytes : List ℕ) × IsInput input bytes × IsSpellingFault bytes fault
 
 -- the input is a text that spells this script
-abbrev pub InputSpellsText : Option (List ℕ) → Listing → Type 0
+abbrev pub InputSpellsText : Option (List ℕ) → ScriptItems → Type 0
 InputSpellsText input script = (text : List ℕ) × IsInput input text × SpellsText text script
     × IsScript script
 

@@ -13,12 +13,12 @@ pub data Item : Type 0 where
   Repeated : ℕ → List Step → Item
 
 -- A script: its version, and its items in order.
-pub record Listing : Type 0 where
+pub record ScriptItems : Type 0 where
   pub version : Version
   pub items : List Item
 
 -- a script of this version and these items
-abbrev pub script_of_items : Version → List Item → Listing
+abbrev pub script_of_items : Version → List Item → ScriptItems
 script_of_items version items = record { version = version; items = items }
 
 -- The steps n times over. It is opaque, since n may be in the thousands.

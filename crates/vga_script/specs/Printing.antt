@@ -7,7 +7,7 @@ use Rattle.vga_bits.specs.Hex.{hex}
 use Rattle.vga_script.specs.declared.step.Step.{Step}
 use Rattle.vga_script.specs.declared.step.Step.TheVariants.{Out, OutWord, In, InWord, Put, PutWord}
 use Rattle.vga_script.specs.declared.step.Step.TheVariants.{Get, GetWord, Int, Advance, Frame, Show}
-use Rattle.vga_script.specs.Item.{Item, Once, Repeated, Listing}
+use Rattle.vga_script.specs.Item.{Item, Once, Repeated, ScriptItems}
 use Rattle.vga_script.specs.declared.version.Version.{Version}
 use Rattle.vga_script.specs.declared.version.Version.TheVariants.{One, Two}
 use Rattle.vga_script.specs.declared.dump_range.Shown.{Shown}
@@ -89,5 +89,5 @@ version_line One = []
 version_line Two = line_of_words (codes "version" ∷ codes "2" ∷ [])
 
 -- the printed text of a script
-abbrev pub printed_script : Listing → List ℕ
+abbrev pub printed_script : ScriptItems → List ℕ
 printed_script script = version_line script.version ++ flat_map printed_item script.items

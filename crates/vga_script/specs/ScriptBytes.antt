@@ -3,11 +3,11 @@ use Rattle.std.specs.Prelude.{ℕ, ◌≡◌, ◌≤◌, ◌<◌, ◌+◌, nat_l
 use Rattle.std.specs.Prelude.{◌++◌, map, length}
 use Rattle.vga_script.specs.declared.step.Step.{Step}
 use Rattle.vga_script.specs.declared.version.Version.TheVariants.{One}
-use Rattle.vga_script.specs.Item.{Once, Listing, script_of_items}
+use Rattle.vga_script.specs.Item.{Once, ScriptItems, script_of_items}
 use Rattle.vga_script.specs.Spelling.{script_limit, header, spelling}
 
 -- the script of version 1 that has these steps
-abbrev pub script_of_steps : List Step → Listing
+abbrev pub script_of_steps : List Step → ScriptItems
 script_of_steps steps = script_of_items One (map Once steps)
 
 -- The bytes that are kept, how many bytes the script has so far, and how many there is room for.

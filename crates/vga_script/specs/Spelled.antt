@@ -4,7 +4,7 @@ use Rattle.vga_script.specs.declared.step.Step.{Step}
 use Rattle.vga_script.specs.declared.spelled_item.SpelledItem.{SpelledItem}
 use Rattle.vga_script.specs.declared.spelled_item.SpelledItem.TheVariants as spelled
 use Rattle.vga_script.specs.Beginning.{steps_in}
-use Rattle.vga_script.specs.Item.{Item, Once, Repeated, Listing, expanded}
+use Rattle.vga_script.specs.Item.{Item, Once, Repeated, ScriptItems, expanded}
 use Rattle.vga_script.specs.Spelling.{script_limit, SpellsSteps, Spells}
 
 -- the item that stands there
@@ -20,10 +20,10 @@ HasSpelledBody (spelled.Block count len steps) = SpellsSteps steps.now (steps_in
 
 -- bytes that spell a script which means these steps
 abbrev pub SpellsExpanded : List ℕ → List Step → Type 0
-SpellsExpanded bytes steps = (script : Listing) × Spells bytes script
+SpellsExpanded bytes steps = (script : ScriptItems) × Spells bytes script
     × (steps ≡ expanded script.items)
 
 -- the first of these steps is taken, if there is one, and the others are left
-abbrev pub TakesFirst : List Step → List Step → Option Step → Type 0
-TakesFirst steps left None = (steps ≡ []) × (left ≡ [])
-TakesFirst steps left (Some step) = steps ≡ step ∷ left
+abbrev pub TakesFirstStep : List Step → List Step → Option Step → Type 0
+TakesFirstStep steps left None = (steps ≡ []) × (left ≡ [])
+TakesFirstStep steps left (Some step) = steps ≡ step ∷ left

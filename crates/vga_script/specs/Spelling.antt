@@ -5,7 +5,7 @@ use Rattle.byteorder.specs.Endian.{little_bytes}
 use Rattle.vga_script.specs.declared.step.Step.{Step}
 use Rattle.vga_script.specs.declared.step.Step.TheVariants.{Out, OutWord, In, InWord, Put, PutWord}
 use Rattle.vga_script.specs.declared.step.Step.TheVariants.{Get, GetWord, Int, Advance, Frame, Show}
-use Rattle.vga_script.specs.Item.{Item, Once, Repeated, Listing, expanded, step_limit, IsItemOf}
+use Rattle.vga_script.specs.Item.{Item, Once, Repeated, ScriptItems, expanded, step_limit, IsItemOf}
 use Rattle.vga_script.specs.declared.version.Version.{Version}
 use Rattle.vga_script.specs.DumpRange.{shown_spelling}
 use Rattle.vga_script.specs.Step.{IsInRange}
@@ -106,7 +106,7 @@ item_spelling (Repeated count steps) = opcode_repeat ∷ (little_bytes 2 count
     ++ (flat_map spelling steps ++ opcode_end ∷ []))
 
 -- the bytes of a script
-abbrev pub encoding : Listing → List ℕ
+abbrev pub encoding : ScriptItems → List ℕ
 encoding script = header script.version ++ flat_map item_spelling script.items
 
 -- the bytes begin with this step, and the rest follows it
@@ -131,7 +131,7 @@ SpellsItems version bytes (first ∷ others) = (rest : List ℕ)
     × StartsWithItem version bytes first rest × SpellsItems version rest others
 
 -- the bytes spell a script that means no more steps than a script may
-abbrev pub Spells : List ℕ → Listing → Type 0
+abbrev pub Spells : List ℕ → ScriptItems → Type 0
 Spells bytes script =
     (rest : List ℕ) × (bytes ≡ header script.version ++ rest)
     × SpellsItems script.version rest script.items

@@ -29,9 +29,9 @@ ReadsNothing unread.Bad read = read ≡ None
 ReadsNothing unread.OutOfMemory read = Unit {0}
 
 -- the code gives what is read, unless an allocation fails
-abbrev pub ReadsAs : {X Y : Type 0} → (X → Y) → Result X Unread → Option Y → Type 0
-ReadsAs view (Ok x) read = read ≡ Some (view x)
-ReadsAs view (Err e) read = ReadsNothing e read
+abbrev pub GivesWhatIsRead : {X Y : Type 0} → (X → Y) → Result X Unread → Option Y → Type 0
+GivesWhatIsRead view (Ok x) read = read ≡ Some (view x)
+GivesWhatIsRead view (Err e) read = ReadsNothing e read
 
 -- the number that these digits spell after n, if it is at most `most`
 abbrev pub number_from : ℕ → ℕ → ℕ → List ℕ → Option ℕ
@@ -50,7 +50,8 @@ unfoldable pub hex_number_of : ℕ → ℕ → List ℕ → Option ℕ
 hex_number_of digits most word =
     if nat_le (length word) digits then number_of_word 16 most word else None
 
--- the same of the first word, and the words after it
+-- the hexadecimal number that the first word spells, of at most `digits` digits and at most `most`,
+-- and the words after it
 unfoldable pub next_hex_number : ℕ → ℕ → List (List ℕ) → Option (ℕ × List (List ℕ))
 next_hex_number digits most [] = None
 next_hex_number digits most (w ∷ ws) = hex_number_of digits most w >>= λ n. Some (n, ws)

@@ -7,7 +7,7 @@ use Rattle.hex.specs.Hex.{decode_of}
 use Rattle.vga_script.specs.declared.step.Step.{Step}
 use Rattle.vga_script.specs.declared.step.Step.TheVariants.{Out, OutWord, In, InWord, Put, PutWord}
 use Rattle.vga_script.specs.declared.step.Step.TheVariants.{Get, GetWord, Int, Advance, Frame, Show}
-use Rattle.vga_script.specs.Item.{Item, Once, Repeated, Listing, expanded, step_limit}
+use Rattle.vga_script.specs.Item.{Item, Once, Repeated, ScriptItems, expanded, step_limit}
 use Rattle.vga_script.specs.declared.version.Version.{Version}
 use Rattle.vga_script.specs.declared.version.Version.TheVariants.{One, Two}
 use Rattle.vga_script.specs.declared.dump_range.Shown.{Shown}
@@ -162,32 +162,32 @@ IsVersionTwo fields = (first : List ℕ) × (fields ≡ first ∷ codes "2" ∷ 
     × (in_lower_case first ≡ codes "version")
 
 -- Some lines of a text, and the items that they spell together.
-pub record Group : Type 0 where
+pub record LineGroup : Type 0 where
   pub lines : List (List ℕ)
   pub items : List Item
 
 -- one line, with a step or without a word
-abbrev pub IsOneLineGroup : Group → Type 0
+abbrev pub IsOneLineGroup : LineGroup → Type 0
 IsOneLineGroup group = (line : List ℕ) × (steps : List Step) × (group.lines ≡ line ∷ [])
     × (group.items ≡ map Once steps) × SpellsLine (words line) steps
 
 -- the lines of a repeat: the one that begins it, those of its steps, and the one that ends it
-abbrev pub IsRepeatOfLines : Group → Type 0
+abbrev pub IsRepeatOfLines : LineGroup → Type 0
 IsRepeatOfLines group =
     (first : List ℕ) × (count : ℕ) × (body : List (List ℕ)) × (steps : List Step) × (last : List ℕ)
     × (group.lines ≡ first ∷ (body ++ last ∷ [])) × (group.items ≡ Repeated count steps ∷ [])
     × SpellsRepeat (words first) count × SpellsLines body steps × IsRepeatEndLine (words last)
 
 -- these lines together spell one item that this version allows, or none
-abbrev pub IsGroup : Version → Group → Type 0
-IsGroup version group = IsOneLineGroup group ⊎ (AllowsRepeats version × IsRepeatOfLines group)
+abbrev pub IsLineGroup : Version → LineGroup → Type 0
+IsLineGroup version group = IsOneLineGroup group ⊎ (AllowsRepeats version × IsRepeatOfLines group)
 
 -- these lines spell these items, group by group
 abbrev pub SpellsGroups : Version → List (List ℕ) → List Item → Type 0
 SpellsGroups version ls items =
-    (groups : List Group) × (ls ≡ flat_map (λ group. group.lines) groups)
+    (groups : List LineGroup) × (ls ≡ flat_map (λ group. group.lines) groups)
     × (items ≡ flat_map (λ group. group.items) groups)
-    × AllByRecursion (IsGroup version) groups
+    × AllByRecursion (IsLineGroup version) groups
 
 -- The first of these lines with a word gives version 2. The rest stands after it, and its first
 -- line has the number n.
@@ -206,21 +206,21 @@ ItemsBeginAtLine One ls n rest = (n ≡ 1) × (rest ≡ ls)
 ItemsBeginAtLine Two ls n rest = SaysVersionTwo ls n rest
 
 -- the text spells a script that means no more steps than a script may
-abbrev pub SpellsText : List ℕ → Listing → Type 0
+abbrev pub SpellsText : List ℕ → ScriptItems → Type 0
 SpellsText text script =
     (n : ℕ) × (rest : List (List ℕ)) × ItemsBeginAtLine script.version (lines text) n rest
     × SpellsGroups script.version rest script.items
     × (length (expanded script.items) ≤ step_limit)
 
 -- a line outside repeats that spells neither a step nor, in this version, the beginning of a repeat
-abbrev pub IsBadOutside : Version → List ℕ → Type 0
-IsBadOutside version line =
+abbrev pub IsBadLineOutsideRepeats : Version → List ℕ → Type 0
+IsBadLineOutsideRepeats version line =
     ((steps : List Step) → SpellsLine (words line) steps → ⊥)
     × (AllowsRepeats version → (count : ℕ) → SpellsRepeat (words line) count → ⊥)
 
 -- a line in a repeat that spells neither a step nor the repeat's end
-abbrev pub IsBadInside : List ℕ → Type 0
-IsBadInside line = ((steps : List Step) → SpellsLine (words line) steps → ⊥)
+abbrev pub IsBadLineInRepeat : List ℕ → Type 0
+IsBadLineInRepeat line = ((steps : List Step) → SpellsLine (words line) steps → ⊥)
     × (IsRepeatEndLine (words line) → ⊥)
 
 -- The lines begin with a repeat, and the rest stands in it, `distance` lines after its first.
@@ -244,16 +244,16 @@ pub record StandsInRepeatLines (version : Version) (ls : List (List ℕ)) (dista
 abbrev pub IsGroupFault : Version → ℕ → ℕ → List (List ℕ) → ℕ → Type 0
 IsGroupFault version so_far n ls bad =
     ((bad ≡ n) × ((line : List ℕ) × (others : List (List ℕ)) × (ls ≡ line ∷ others)
-    × IsBadOutside version line))
+    × IsBadLineOutsideRepeats version line))
     ⊎ (((distance : ℕ) × (line : List ℕ) × (others : List (List ℕ)) × (bad ≡ n + distance)
-    × StandsInRepeatLines version ls distance (line ∷ others) × IsBadInside line)
+    × StandsInRepeatLines version ls distance (line ∷ others) × IsBadLineInRepeat line)
     ⊎ (((bad ≡ n) × ((distance : ℕ) × StandsInRepeatLines version ls distance []))
-    ⊎ ((bad ≡ n) × ((group : Group) × (others : List (List ℕ)) × (ls ≡ group.lines ++ others)
-    × IsGroup version group × (step_limit < so_far + length (expanded group.items))))))
+    ⊎ ((bad ≡ n) × ((group : LineGroup) × (others : List (List ℕ)) × (ls ≡ group.lines ++ others)
+    × IsLineGroup version group × (step_limit < so_far + length (expanded group.items))))))
 
 -- The lines of a text before line n, counted from 1, spell a script, and the rest begins with line
 -- n. If the first line with a word does not give version 2, the text is of version 1.
-pub record SpellsLinesUpTo (text : List ℕ) (script : Listing) (n : ℕ)
+pub record SpellsLinesUpTo (text : List ℕ) (script : ScriptItems) (n : ℕ)
     (left : List (List ℕ)) : Type 0 where
   pub start : ℕ
   pub rest : List (List ℕ)
@@ -269,7 +269,7 @@ pub record SpellsLinesUpTo (text : List ℕ) (script : Listing) (n : ℕ)
 -- line n is the first bad line: the groups before it are good, and it makes the next one bad
 abbrev pub IsBadLine : List ℕ → ℕ → Type 0
 IsBadLine text bad =
-    (script : Listing) × (n : ℕ) × (left : List (List ℕ)) × SpellsLinesUpTo text script n left
+    (script : ScriptItems) × (n : ℕ) × (left : List (List ℕ)) × SpellsLinesUpTo text script n left
     × IsGroupFault script.version (length (expanded script.items)) n left bad
 
 -- the fault of a text whose first bad line has this number

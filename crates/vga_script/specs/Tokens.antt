@@ -4,8 +4,8 @@ use Rattle.std.specs.Prelude.{length, filter, map, Option, Some, None}
 use Rattle.std.specs.Char.{to_ascii_lowercase}
 use Rattle.std.specs.List.{slice_split, before_first}
 use Rattle.std.specs.Str.Parse.{AllDigits, digits_value}
-use Rattle.vga_script.specs.declared.tokens.End.{End}
-use Rattle.vga_script.specs.declared.tokens.End.TheVariants as end
+use Rattle.vga_script.specs.declared.tokens.PieceEnd.{PieceEnd}
+use Rattle.vga_script.specs.declared.tokens.PieceEnd.TheVariants as end
 
 -- a newline, which ends a line
 abbrev pub is_newline : ℕ → Bool
@@ -59,7 +59,7 @@ rest_len None = 0
 rest_len (Some text) = length text + 1
 
 -- which bytes end a piece of a text
-abbrev pub is_end_of_piece : End → ℕ → Bool
+abbrev pub is_end_of_piece : PieceEnd → ℕ → Bool
 is_end_of_piece end.Newline = is_newline
 is_end_of_piece end.Semicolon = is_semicolon
 is_end_of_piece end.Blank = is_blank

@@ -5,7 +5,7 @@ ghost use Rattle.std.specs.Option.{option_copied};
 ghost use Rattle.vga_script.specs.Assembling.{AppendsBody, AppendsGroup, AppendsLine};
 ghost use Rattle.vga_script.specs.Assembling.{AppendsRepeat};
 ghost use Rattle.vga_script.specs.Assembling.{IsBodyFault, IsFirstGroupFault};
-ghost use Rattle.vga_script.specs.Item.{Listing};
+ghost use Rattle.vga_script.specs.Item.{ScriptItems};
 ghost use Rattle.vga_script.specs.Script.{IsScript, IsTextFault};
 ghost use Rattle.vga_script.specs.Spelling.{script_limit, encoding};
 ghost use Rattle.vga_script.specs.Text.{SaysVersionTwo, SpellsLine, SpellsText, ItemsBeginAtLine};
@@ -47,7 +47,7 @@ fn append_line(alloc: Global, out: &mut Vec<u8>, line: &[u8]) -> Result<usize, U
 /// Appends the bytes of the steps of a repeat, whose first line has the number `first`. It returns
 /// the number of steps, what follows the line of its end, and the number of the line after that.
 #[tactic(auto, using(crate::proofs::AssembleLemmas::body_begins, crate::proofs::AssembleLemmas::body_more, crate::proofs::AssembleLemmas::body_ends, crate::proofs::AssembleLemmas::body_bad, crate::proofs::AssembleLemmas::body_open))]
-fn append_body<'a>(
+fn append_repeat_body<'a>(
     alloc: Global,
     out: &mut Vec<u8>,
     left: Option<&'a [u8]>,
@@ -98,7 +98,7 @@ fn append_repeat<'a>(
 {
     append(out, &[opcode::REPEAT])?;
     append_u16(out, count)?;
-    let (len, left, next) = append_body(alloc, out, left, number)?;
+    let (len, left, next) = append_repeat_body(alloc, out, left, number)?;
     append(out, &[opcode::END])?;
     Ok((count as usize * len, left, next))
 }
@@ -167,7 +167,7 @@ fn items_of_text(text: &[u8]) -> (Version, Option<&[u8]>, usize)
 #[tactic(auto, using(crate::proofs::AssembleLemmas::read_none, crate::proofs::AssembleLemmas::read_more, crate::proofs::AssembleLemmas::read_all))]
 fn assemble_items(alloc: Global, text: &[u8]) -> Result<Vec<u8>, Fault>
     requires { length text.now ≤ script_limit }
-    ensures found { IfOk result (λ bytes. (script : Listing) × SpellsText text.now script
+    ensures found { IfOk result (λ bytes. (script : ScriptItems) × SpellsText text.now script
         × (bytes.items ≡ encoding script)) }
     ensures fault { IfErr result (λ e. (e ≡ Fault.OutOfMemory) ⊎ IsLineFault text.now e) }
 {
@@ -229,7 +229,7 @@ pub fn assemble(alloc: Global, text: &[u8]) -> Result<Script, Fault>
         × SpellsText text.now script) }
     ensures script { IfOk result (λ script. IsScript script) }
     ensures fault { IfErr result (λ e. (e ≡ Fault.OutOfMemory) ⊎ IsTextFault text.now e) }
-    ensures runs { (script : Listing) → length text.now ≤ script_limit →
+    ensures runs { (script : ScriptItems) → length text.now ≤ script_limit →
         SpellsText text.now script →
         length (encoding script) ≤ script_limit → IsOkUnless result Fault.OutOfMemory }
 {

@@ -25,7 +25,7 @@ impl<'a> Block<'a> {
         Block { bytes }
     }
 
-    /// The bytes.
+    /// The block's bytes, borrowed as a slice.
     pub fn as_slice(&self) -> &'a [u8]
         ensures { result.now ≡ self.now }
     {

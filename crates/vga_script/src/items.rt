@@ -1,7 +1,7 @@
 //! Reading an item from the bytes of a script.
 ghost use Rattle.std.specs.Prelude.{◌≡◌, ◌+◌, ◌<◌, ◌≤◌, ◌∷◌, ℕ, length, IfNone, IfOk, IfErr};
 ghost use Rattle.std.specs.Prelude.{IfSome};
-ghost use Rattle.vga_script.specs.Body.{StandsBehind};
+ghost use Rattle.vga_script.specs.Body.{StandsAfterRepeatBody};
 ghost use Rattle.vga_script.specs.Decoding.{HasStepsBefore, IsItemFault, StartsWithRepeat};
 ghost use Rattle.vga_script.specs.Item.{step_limit, steps_of_item};
 ghost use Rattle.vga_script.specs.Spelled.{HasSpelledBody, spelled_item};
@@ -18,45 +18,45 @@ use vga_bits::Fault;
 
 /// What stands after the steps of a repeat.
 #[derive(Drop)]
-enum Behind<'a> {
+enum AfterRepeatBody<'a> {
     /// The repeat's end, and these bytes.
-    End {
+    PieceEnd {
         /// What follows the end.
         rest: &'a [u8],
     },
     /// Nothing.
     Nothing,
-    /// No step, nor the end.
-    Bad,
     /// An opcode of neither a step nor an end, or a step out of range.
+    Bad,
+    /// A step that is cut off.
     Cut,
 }
 
 /// Counts the steps that the bytes after a repeat's count begin with, and finds what follows them.
 #[tactic(auto, using(crate::proofs::BeginningLemmas::step_shorter, crate::proofs::BodyLemmas::body_within, crate::proofs::BodyLemmas::body_begins, crate::proofs::BodyLemmas::body_goes_on))]
-fn behind_steps(bytes: &[u8]) -> (usize, &[u8], Behind<'_>)
+fn behind_steps(bytes: &[u8]) -> (usize, &[u8], AfterRepeatBody<'_>)
     requires { length bytes.now ≤ script_limit }
     ensures good { HasStepsBefore bytes.now result.0 result.1.now }
-    ensures stop { StandsBehind result.2 result.1.now }
+    ensures stop { StandsAfterRepeatBody result.2 result.1.now }
 {
     let mut rest = bytes;
     let mut len = 0;
     while let [first, others @ ..] = rest {
         if *first == opcode::END {
-            return (len, rest, Behind::End { rest: others });
+            return (len, rest, AfterRepeatBody::PieceEnd { rest: others });
         }
         match step_at(rest) {
             Ok((_, behind)) => rest = behind,
-            Err(NoStep::Bad) => return (len, rest, Behind::Bad),
-            Err(NoStep::Cut) => return (len, rest, Behind::Cut),
+            Err(NoStep::Bad) => return (len, rest, AfterRepeatBody::Bad),
+            Err(NoStep::Cut) => return (len, rest, AfterRepeatBody::Cut),
         }
         len += 1;
     }
-    (len, rest, Behind::Nothing)
+    (len, rest, AfterRepeatBody::Nothing)
 }
 
 /// What follows the opcode of a repeat, if bytes of a script of this version begin with one.
-fn behind_repeat(bytes: &[u8], version: Version) -> Option<&[u8]>
+fn bytes_after_repeat_opcode(bytes: &[u8], version: Version) -> Option<&[u8]>
     ensures found { IfSome result (λ fields. AllowsRepeats version
         × (bytes.now ≡ opcode_repeat ∷ fields.now)) }
     ensures none { IfNone result (StartsWithRepeat version bytes.now → ⊥) }
@@ -92,13 +92,13 @@ fn repeat_at<'a>(
     }
     let (len, rest, behind) = behind_steps(body);
     match behind {
-        Behind::End { rest: others } => {
+        AfterRepeatBody::PieceEnd { rest: others } => {
             let (steps, _) = body.split_at(body.len() - rest.len());
             Ok((SpelledItem::Block { count, len, steps }, others))
         }
-        Behind::Nothing => Err(Fault::Truncated(offset)),
-        Behind::Bad => Err(Fault::BadStep(offset + (bytes.len() - rest.len()))),
-        Behind::Cut => Err(Fault::Truncated(offset + (bytes.len() - rest.len()))),
+        AfterRepeatBody::Nothing => Err(Fault::Truncated(offset)),
+        AfterRepeatBody::Bad => Err(Fault::BadStep(offset + (bytes.len() - rest.len()))),
+        AfterRepeatBody::Cut => Err(Fault::Truncated(offset + (bytes.len() - rest.len()))),
     }
 }
 
@@ -116,7 +116,7 @@ pub(crate) fn item_at(
     ensures fault { IfErr result (λ e. (so_far : ℕ)
         → IsItemFault version so_far offset bytes.now e) }
 {
-    if let Some(fields) = behind_repeat(bytes, version) {
+    if let Some(fields) = bytes_after_repeat_opcode(bytes, version) {
         return repeat_at(bytes, fields, offset, version);
     }
     match step_at(bytes) {
@@ -126,9 +126,10 @@ pub(crate) fn item_at(
     }
 }
 
-/// The same after items that mean `so_far` steps. It also returns how many steps those and this
-/// item mean together.
-pub(crate) fn item_within(
+/// Reads the item that stands at `offset` in a script, after items that mean `so_far` steps. It
+/// returns the item, what follows it, and how many steps those and this item mean together. More
+/// steps than a script may mean are a fault.
+pub(crate) fn item_within_limit(
     bytes: &[u8],
     offset: usize,
     version: Version,

@@ -1,11 +1,11 @@
 //! Checking that bytes spell a script, or finding their first fault.
 ghost use Rattle.std.specs.Prelude.{◌≡◌, ◌≤◌, ◌++◌, ◌∷◌, length, List, IfOk, IfErr};
 ghost use Rattle.vga_script.specs.Decoding.{IsFault, IsSpellingFault};
-ghost use Rattle.vga_script.specs.Beginning.{listing_of};
-ghost use Rattle.vga_script.specs.Item.{Item, Listing, expanded, step_limit};
+ghost use Rattle.vga_script.specs.Beginning.{script_of_bytes};
+ghost use Rattle.vga_script.specs.Item.{Item, ScriptItems, expanded, step_limit};
 ghost use Rattle.vga_script.specs.Spelling.{script_limit, header, Spells, SpellsItems};
 
-use super::items::item_within;
+use super::items::item_within_limit;
 use super::opcode;
 use super::script::{SCRIPT_LIMIT, STEP_LIMIT};
 use super::step_bytes::behind_step;
@@ -17,7 +17,7 @@ use vga_bits::Fault;
 fn check_items(bytes: &[u8], spelled: &[u8], version: Version) -> Result<(), Fault>
     requires short { length bytes.now ≤ script_limit }
     requires prefix { bytes.now ≡ header version ++ spelled.now }
-    ensures found { IfOk result (λ _. (script : Listing) × Spells bytes.now script) }
+    ensures found { IfOk result (λ _. (script : ScriptItems) × Spells bytes.now script) }
     ensures fault { IfErr result (λ e. IsSpellingFault bytes.now e) }
 {
     let mut rest = spelled;
@@ -32,7 +32,7 @@ fn check_items(bytes: &[u8], spelled: &[u8], version: Version) -> Result<(), Fau
             so_far += 1;
             rest = others;
         } else {
-            let (_, others, more) = item_within(rest, offset, version, so_far)?;
+            let (_, others, more) = item_within_limit(rest, offset, version, so_far)?;
             so_far = more;
             rest = others;
         }
@@ -40,10 +40,11 @@ fn check_items(bytes: &[u8], spelled: &[u8], version: Version) -> Result<(), Fau
     Ok(())
 }
 
-/// Checks bytes of allowed length.
-fn check_bytes_within_limit(bytes: &[u8]) -> Result<(), Fault>
+/// Checks that bytes of allowed length spell a script: the magic, the version and the items. It
+/// returns their first fault.
+fn check_header_and_items(bytes: &[u8]) -> Result<(), Fault>
     requires { length bytes.now ≤ script_limit }
-    ensures found { IfOk result (λ _. (script : Listing) × Spells bytes.now script) }
+    ensures found { IfOk result (λ _. (script : ScriptItems) × Spells bytes.now script) }
     ensures fault { IfErr result (λ e. IsSpellingFault bytes.now e) }
 {
     let Some(versioned) = bytes.strip_prefix(&opcode::MAGIC) else {
@@ -62,11 +63,11 @@ fn check_bytes_within_limit(bytes: &[u8]) -> Result<(), Fault>
 #[tactic(auto, using(crate::proofs::BeginningLemmas::spells_itself))]
 pub(crate) fn check_script(bytes: &[u8]) -> Result<(), Fault>
     ensures short { IfOk result (λ _. length bytes.now ≤ script_limit) }
-    ensures found { IfOk result (λ _. Spells bytes.now (listing_of bytes.now)) }
+    ensures found { IfOk result (λ _. Spells bytes.now (script_of_bytes bytes.now)) }
     ensures fault { IfErr result (λ e. IsFault bytes.now e) }
 {
     if bytes.len() > SCRIPT_LIMIT {
         return Err(Fault::TooLong);
     }
-    check_bytes_within_limit(bytes)
+    check_header_and_items(bytes)
 }

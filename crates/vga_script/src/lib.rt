@@ -35,9 +35,9 @@ pub use block::Block;
 pub use dump_range::Shown;
 pub use input::read_script;
 pub use laws::{
-    bytes_have_one_fault, bytes_mean_one_list, bytes_spell_one_script, printed_text_spells,
-    script_has_one_spelling, steps_are_in_range, text_has_one_fault, text_spells_one_script,
-    written_steps_spell,
+    appended_steps_spell_script, bytes_have_one_fault, bytes_mean_one_list, bytes_spell_one_script,
+    printed_text_spells, script_has_one_spelling, steps_are_in_range, text_has_one_fault,
+    text_spells_one_script,
 };
 pub use printing::print;
 pub use script::{SCRIPT_LIMIT, Script, decode, encode};

@@ -11,7 +11,7 @@ use super::opcode;
 
 /// A position in the bytes of a script.
 #[derive(Clone, Copy)]
-pub(crate) struct Progress<'a> {
+pub(crate) struct ScriptPosition<'a> {
     /// What follows.
     pub(crate) rest: &'a [u8],
     /// In a repeat, the bytes from its first step on; outside repeats, nothing.
@@ -45,13 +45,13 @@ fn behind_end(bytes: &[u8]) -> Option<&[u8]>
 
 /// Moves on to the next step, or to the end of the script. Repeats without steps are passed over.
 #[tactic(auto, using(crate::proofs::ProgressLemmas::stays, crate::proofs::ProgressLemmas::room_for_count))]
-pub(crate) fn skip_marks(progress: Progress<'_>) -> Progress<'_>
+pub(crate) fn move_to_next_step(progress: ScriptPosition<'_>) -> ScriptPosition<'_>
     requires { StandsInOrOutsideRepeat progress.body.now progress.rest.now }
     ensures reached { LeavesSameSteps progress.entry.left progress.entry.body.now
         progress.entry.rest.now result.left result.body.now result.rest.now }
     ensures prefix { IsEmptyOrBeginsWithStep result.rest.now }
 {
-    let Progress {
+    let ScriptPosition {
         mut rest,
         mut body,
         left,
@@ -59,7 +59,7 @@ pub(crate) fn skip_marks(progress: Progress<'_>) -> Progress<'_>
     while let Ok((opcode, others)) = u8_at(rest) {
         if opcode == opcode::END {
             if left > 0 {
-                return Progress {
+                return ScriptPosition {
                     rest: body,
                     body,
                     left: left - 1,
@@ -72,7 +72,7 @@ pub(crate) fn skip_marks(progress: Progress<'_>) -> Progress<'_>
             match behind_end(inner) {
                 Some(after) => rest = after,
                 None => {
-                    return Progress {
+                    return ScriptPosition {
                         rest: inner,
                         body: inner,
                         left: count - 1,
@@ -80,8 +80,8 @@ pub(crate) fn skip_marks(progress: Progress<'_>) -> Progress<'_>
                 }
             }
         } else {
-            return Progress { rest, body, left };
+            return ScriptPosition { rest, body, left };
         }
     }
-    Progress { rest, body, left }
+    ScriptPosition { rest, body, left }
 }

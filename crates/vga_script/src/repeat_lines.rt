@@ -86,7 +86,8 @@ fn count_of_line(line: &[u8]) -> Option<u16>
     Some(count as u16)
 }
 
-/// The same in a script of this version. Version 1 has no repeats.
+/// The count of the repeat that a line begins in a script of this version. Version 1 has no
+/// repeats.
 pub(crate) fn repeat_count_in_version(line: &[u8], version: Version) -> Option<u16>
     ensures found { IfSome result (λ count. AllowsRepeats version
         × SpellsRepeat (words line.now) count) }

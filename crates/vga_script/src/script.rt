@@ -1,8 +1,8 @@
 //! A script, kept as the bytes that spell it.
 ghost use Rattle.std.specs.Prelude.{◌≡◌, ◌⊎◌, ◌≤◌, length, IfErr, IfOk, IsOkUnless};
 ghost use Rattle.vga_script.specs.Decoding.{IsFault};
-ghost use Rattle.vga_script.specs.Beginning.{listing_of};
-ghost use Rattle.vga_script.specs.Item.{Listing, expanded, step_limit};
+ghost use Rattle.vga_script.specs.Beginning.{script_of_bytes};
+ghost use Rattle.vga_script.specs.Item.{ScriptItems, expanded, step_limit};
 ghost use Rattle.vga_script.specs.Spelling.{Spells, encoding, script_limit};
 ghost use Rattle.vga_script.specs.Step.{AreInRange};
 
@@ -30,24 +30,24 @@ pub struct Script {
 
 impl Model for Script {
     ghost use Rattle.std.specs.Prelude.{◌≤◌, length};
-    ghost use Rattle.vga_script.specs.Beginning.{listing_of};
-    ghost use Rattle.vga_script.specs.Item.{Listing};
+    ghost use Rattle.vga_script.specs.Beginning.{script_of_bytes};
+    ghost use Rattle.vga_script.specs.Item.{ScriptItems};
     ghost use Rattle.vga_script.specs.Spelling.{Spells, script_limit};
 
-    ghost Value = { Listing };
+    ghost Value = { ScriptItems };
 
-    ghost view = { λ script. listing_of script.bytes.items };
+    ghost view = { λ script. script_of_bytes script.bytes.items };
 
     ghost invariant = { λ script. (length script.bytes.items ≤ script_limit)
-        × Spells script.bytes.items (listing_of script.bytes.items) };
+        × Spells script.bytes.items (script_of_bytes script.bytes.items) };
 }
 
 impl Script {
     /// The script that these bytes spell.
     pub(crate) fn of_bytes(bytes: Vec<u8>) -> Script
         requires short { length bytes.items ≤ script_limit }
-        requires spelled { Spells bytes.items (listing_of bytes.items) }
-        ensures { result ≡ listing_of bytes.items }
+        requires spelled { Spells bytes.items (script_of_bytes bytes.items) }
+        ensures { result ≡ script_of_bytes bytes.items }
     {
         Script { bytes }
     }
@@ -56,7 +56,7 @@ impl Script {
     pub(crate) fn as_bytes(&self) -> &[u8]
         ensures short { length result.now ≤ script_limit }
         ensures spelled { Spells result.now self.now }
-        ensures script { self.now ≡ listing_of result.now }
+        ensures script { self.now ≡ script_of_bytes result.now }
     {
         self.bytes.as_slice()
     }
@@ -125,7 +125,7 @@ pub fn decode(alloc: Global, bytes: &[u8]) -> Result<Script, Fault>
     ensures found { IfOk result (λ script. (length bytes.now ≤ script_limit)
         × Spells bytes.now script) }
     ensures fault { IfErr result (λ e. (e ≡ Fault.OutOfMemory) ⊎ IsFault bytes.now e) }
-    ensures runs { (script : Listing) → length bytes.now ≤ script_limit → Spells bytes.now script →
+    ensures runs { (script : ScriptItems) → length bytes.now ≤ script_limit → Spells bytes.now script →
         IsOkUnless result Fault.OutOfMemory }
 {
     decode_bytes(alloc, bytes)

@@ -68,7 +68,7 @@ macro_rules! write_field {
 }
 
 /// Writes a step field by field.
-macro_rules! write_steps {
+macro_rules! take_steps_with_limit {
     (
         $out:ident, $from:ident,
         $($name:ident => $step:ident { $($field:ident: $kind:ident),* },)*
@@ -178,7 +178,7 @@ fn shown_at(fields: &[u8]) -> Result<(Step<'_>, &[u8]), NoStep>
 /// Reads the numeric step of an opcode from the bytes after it, and returns it with what follows.
 #[tactic(auto, using(crate::proofs::DecodeLemmas::no_numeric_opcode, crate::proofs::DecodeLemmas::cut_out, crate::proofs::DecodeLemmas::cut_out_word, crate::proofs::DecodeLemmas::cut_in, crate::proofs::DecodeLemmas::cut_in_word, crate::proofs::DecodeLemmas::cut_put, crate::proofs::DecodeLemmas::cut_put_word, crate::proofs::DecodeLemmas::cut_get, crate::proofs::DecodeLemmas::cut_get_word, crate::proofs::DecodeLemmas::cut_advance))]
 #[inline(always)]
-fn numeric_with(opcode: u8, fields: &[u8]) -> Result<(Step<'_>, &[u8]), NoStep>
+fn numeric_step_of_opcode(opcode: u8, fields: &[u8]) -> Result<(Step<'_>, &[u8]), NoStep>
     ensures found { IfOk result (λ x. StartsWithStep (opcode ∷ fields.now) x.0 x.1.now) }
     ensures bad { result ≡ Err NoStep.Bad → opcode ≢ opcode_int → opcode ≢ opcode_frame
         → opcode ≢ opcode_show → StartsWithBadStep (opcode ∷ fields.now) }
@@ -189,11 +189,11 @@ fn numeric_with(opcode: u8, fields: &[u8]) -> Result<(Step<'_>, &[u8]), NoStep>
 
 /// Reads the numeric step that bytes begin with, and returns it with what follows.
 #[inline(always)]
-fn numeric_at(bytes: &[u8]) -> Result<(Step<'_>, &[u8]), NoStep>
+fn numeric_step_at(bytes: &[u8]) -> Result<(Step<'_>, &[u8]), NoStep>
     ensures found { IfOk result (λ x. StartsWithStep bytes.now x.0 x.1.now) }
 {
     let (opcode, fields) = u8_at(bytes)?;
-    numeric_with(opcode, fields)
+    numeric_step_of_opcode(opcode, fields)
 }
 
 /// Reads the step of an opcode from the bytes after it, and returns it with what follows.
@@ -207,7 +207,7 @@ fn step_of_opcode(opcode: u8, fields: &[u8]) -> Result<(Step<'_>, &[u8]), NoStep
         opcode::INT => int_at(fields),
         opcode::FRAME => Ok((Step::Frame, fields)),
         opcode::SHOW => shown_at(fields),
-        _ => numeric_with(opcode, fields),
+        _ => numeric_step_of_opcode(opcode, fields),
     }
 }
 
@@ -230,7 +230,7 @@ pub(crate) fn behind_step(bytes: &[u8]) -> Option<&[u8]>
     requires { 0 < length bytes.now }
     ensures { IfSome result (λ others. (step : Step) × StartsWithStep bytes.now step others.now) }
 {
-    if let Ok((_, others)) = numeric_at(bytes) {
+    if let Ok((_, others)) = numeric_step_at(bytes) {
         return Some(others);
     }
     match step_at(bytes) {
@@ -286,5 +286,5 @@ pub(crate) fn append_step(out: &mut Vec<u8>, step: &Step<'_>) -> Result<(), Faul
     ensures ok { OnOk result (out.new.items ≡ out.old.items ++ spelling step.now) }
     ensures err { IsOkUnless result Fault.OutOfMemory }
 {
-    numeric_steps!(write_steps, out, step)
+    numeric_steps!(take_steps_with_limit, out, step)
 }

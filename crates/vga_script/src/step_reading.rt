@@ -1,6 +1,6 @@
 //! Reading the step that a line spells.
 ghost use Rattle.std.specs.Prelude.{◌≡◌, ◌≢◌, ◌≤◌, IfOk, Some, take, drop, option_to_list, List, Err};
-ghost use Rattle.vga_script.specs.StepReading.{ReadsAs, hex_number_of, next_hex_number};
+ghost use Rattle.vga_script.specs.StepReading.{GivesWhatIsRead, hex_number_of, next_hex_number};
 ghost use Rattle.vga_script.specs.StepReading.{no_word_left, only_hex_number};
 ghost use Rattle.vga_script.specs.StepReading.{next_decimal_number, only_decimal_number};
 ghost use Rattle.vga_script.specs.StepReading.{next_register, block_bytes_of_word};
@@ -37,7 +37,7 @@ pub(crate) enum Unread {
 /// Reads the hexadecimal number that a word spells, of at most `digits` digits and at most `most`.
 #[tactic(auto, unfolding(crate::specs::StepReading::hex_number_of))]
 fn hex_number_of(word: &[u8], digits: usize, most: u32) -> Result<u32, Unread>
-    ensures read { ReadsAs (λ n. n) result (hex_number_of digits most word.now) }
+    ensures read { GivesWhatIsRead (λ n. n) result (hex_number_of digits most word.now) }
     ensures bound { IfOk result (λ n. n ≤ most) }
 {
     if word.len() > digits {
@@ -49,10 +49,11 @@ fn hex_number_of(word: &[u8], digits: usize, most: u32) -> Result<u32, Unread>
     }
 }
 
-/// The same of the first word. It returns the number with what follows the word.
+/// Reads the hexadecimal number that the first word spells, of at most `digits` digits and at most
+/// `most`, and returns it with what follows the word.
 #[tactic(auto, unfolding(crate::specs::StepReading::next_hex_number))]
 fn next_hex_number(fields: &[u8], digits: usize, most: u32) -> Result<(u32, &[u8]), Unread>
-    ensures read { ReadsAs (λ x. (x.0, words_between_blanks x.1.now)) result
+    ensures read { GivesWhatIsRead (λ x. (x.0, words_between_blanks x.1.now)) result
         (next_hex_number digits most (words_between_blanks fields.now)) }
     ensures bound { IfOk result (λ x. x.0 ≤ most) }
 {
@@ -66,7 +67,7 @@ fn next_hex_number(fields: &[u8], digits: usize, most: u32) -> Result<(u32, &[u8
 /// Checks that no word follows.
 #[tactic(auto, unfolding(crate::specs::StepReading::no_word_left))]
 fn no_word_left(rest: &[u8]) -> Result<(), Unread>
-    ensures { ReadsAs (λ u. tt) result (no_word_left (words_between_blanks rest.now)) }
+    ensures { GivesWhatIsRead (λ u. tt) result (no_word_left (words_between_blanks rest.now)) }
 {
     match next_word(rest) {
         None => Ok(()),
@@ -77,7 +78,7 @@ fn no_word_left(rest: &[u8]) -> Result<(), Unread>
 /// Reads one hexadecimal number, and checks that no other word follows.
 #[tactic(auto, unfolding(crate::specs::StepReading::only_hex_number))]
 fn only_hex_number(fields: &[u8], digits: usize, most: u32) -> Result<u32, Unread>
-    ensures read { ReadsAs (λ n. n) result (only_hex_number digits most (words_between_blanks
+    ensures read { GivesWhatIsRead (λ n. n) result (only_hex_number digits most (words_between_blanks
         fields.now)) }
     ensures bound { IfOk result (λ n. n ≤ most) }
 {
@@ -89,7 +90,7 @@ fn only_hex_number(fields: &[u8], digits: usize, most: u32) -> Result<u32, Unrea
 /// Reads the decimal number that the first word spells, at most `most`, and returns it with what
 /// follows.
 fn next_decimal_number(fields: &[u8], most: u32) -> Result<(u32, &[u8]), Unread>
-    ensures read { ReadsAs (λ x. (x.0, words_between_blanks x.1.now)) result
+    ensures read { GivesWhatIsRead (λ x. (x.0, words_between_blanks x.1.now)) result
         (next_decimal_number most (words_between_blanks fields.now)) }
     ensures bound { IfOk result (λ x. x.0 ≤ most) }
 {
@@ -105,7 +106,7 @@ fn next_decimal_number(fields: &[u8], most: u32) -> Result<(u32, &[u8]), Unread>
 /// Reads one decimal number, at most `most`, and checks that no other word follows.
 #[tactic(auto, unfolding(crate::specs::StepReading::only_decimal_number))]
 fn only_decimal_number(fields: &[u8], most: u32) -> Result<u32, Unread>
-    ensures read { ReadsAs (λ n. n) result (only_decimal_number most (words_between_blanks
+    ensures read { GivesWhatIsRead (λ n. n) result (only_decimal_number most (words_between_blanks
         fields.now)) }
     ensures bound { IfOk result (λ n. n ≤ most) }
 {
@@ -128,7 +129,7 @@ fn name_and_rest(word: &[u8]) -> (&[u8], &[u8])
 #[tactic(auto, unfolding(crate::specs::StepReading::next_register))]
 fn next_register<'a>(fields: &'a [u8], name: &[u8]) -> Result<(u16, &'a [u8]), Unread>
     requires { in_lower_case name.now ≡ name.now }
-    ensures { ReadsAs (λ x. (x.0, words_between_blanks x.1.now)) result
+    ensures { GivesWhatIsRead (λ x. (x.0, words_between_blanks x.1.now)) result
         (next_register name.now (words_between_blanks fields.now)) }
 {
     let Some((word, rest)) = next_word(fields) else {
@@ -146,7 +147,7 @@ fn next_register<'a>(fields: &'a [u8], name: &[u8]) -> Result<(u16, &'a [u8]), U
 /// Decodes the digits of a block into bytes.
 #[tactic(auto, unfolding(crate::specs::StepReading::block_bytes_of_word))]
 fn block_bytes_of_word(alloc: Global, word: &[u8]) -> Result<Vec<u8>, Unread>
-    ensures { ReadsAs (λ bytes. bytes.items) result (block_bytes_of_word word.now) }
+    ensures { GivesWhatIsRead (λ bytes. bytes.items) result (block_bytes_of_word word.now) }
 {
     if word.is_empty() || word.len() > MOST_DIGITS {
         return Err(Unread::Bad);
@@ -161,7 +162,7 @@ fn block_bytes_of_word(alloc: Global, word: &[u8]) -> Result<Vec<u8>, Unread>
 /// Reads the digits after the word `block` as bytes, and checks that no other word follows.
 #[tactic(auto, unfolding(crate::specs::StepReading::only_block_digits))]
 fn only_block_digits(alloc: Global, fields: &[u8]) -> Result<Vec<u8>, Unread>
-    ensures { ReadsAs (λ bytes. bytes.items) result
+    ensures { GivesWhatIsRead (λ bytes. bytes.items) result
         (only_block_digits (words_between_blanks fields.now)) }
 {
     let Some((word, rest)) = next_word(fields) else {
@@ -175,7 +176,7 @@ fn only_block_digits(alloc: Global, fields: &[u8]) -> Result<Vec<u8>, Unread>
 /// Reads a block, which is empty if no word is left, and checks that no other word follows.
 #[tactic(auto, unfolding(crate::specs::StepReading::block_at))]
 fn block_at(alloc: Global, fields: &[u8]) -> Result<Vec<u8>, Unread>
-    ensures { ReadsAs (λ bytes. bytes.items) result (block_at (words_between_blanks fields.now)) }
+    ensures { GivesWhatIsRead (λ bytes. bytes.items) result (block_at (words_between_blanks fields.now)) }
 {
     let Some((word, rest)) = next_word(fields) else {
         return Ok(Vec::new(alloc));
@@ -189,7 +190,7 @@ fn block_at(alloc: Global, fields: &[u8]) -> Result<Vec<u8>, Unread>
 /// Reads a call of the BIOS. Its block is kept in `kept`.
 #[tactic(auto, unfolding(crate::specs::StepReading::read_int))]
 fn read_int<'a>(alloc: Global, kept: &'a mut Vec<u8>, fields: &[u8]) -> Result<Step<'a>, Unread>
-    ensures { ReadsAs (λ step. step) result (read_int (words_between_blanks fields.now)) }
+    ensures { GivesWhatIsRead (λ step. step) result (read_int (words_between_blanks fields.now)) }
 {
     let (ax, rest) = next_register(fields, b"ax=")?;
     let (bx, rest) = next_register(rest, b"bx=")?;
@@ -208,7 +209,7 @@ fn read_int<'a>(alloc: Global, kept: &'a mut Vec<u8>, fields: &[u8]) -> Result<S
 
 /// Reads a number of one byte, and returns it with what follows.
 fn u8_at(fields: &[u8]) -> Result<(u8, &[u8]), Unread>
-    ensures { ReadsAs (λ x. (x.0, words_between_blanks x.1.now)) result (next_hex_number 2 0xFF
+    ensures { GivesWhatIsRead (λ x. (x.0, words_between_blanks x.1.now)) result (next_hex_number 2 0xFF
         (words_between_blanks fields.now)) }
 {
     let (n, rest) = next_hex_number(fields, 2, 0xFF)?;
@@ -217,7 +218,7 @@ fn u8_at(fields: &[u8]) -> Result<(u8, &[u8]), Unread>
 
 /// Reads a number of two bytes, and returns it with what follows.
 fn u16_at(fields: &[u8]) -> Result<(u16, &[u8]), Unread>
-    ensures { ReadsAs (λ x. (x.0, words_between_blanks x.1.now)) result (next_hex_number 4 0xFFFF
+    ensures { GivesWhatIsRead (λ x. (x.0, words_between_blanks x.1.now)) result (next_hex_number 4 0xFFFF
         (words_between_blanks fields.now)) }
 {
     let (n, rest) = next_hex_number(fields, 4, 0xFFFF)?;
@@ -227,7 +228,7 @@ fn u16_at(fields: &[u8]) -> Result<(u16, &[u8]), Unread>
 /// Checks that no word follows, and returns what is shown.
 #[tactic(auto, unfolding(crate::specs::StepReading::shown_if_no_word_left))]
 fn shown_if_no_word_left(what: Shown, fields: &[u8]) -> Result<Shown, Unread>
-    ensures { ReadsAs (λ shown. shown) result (shown_if_no_word_left what (words_between_blanks
+    ensures { GivesWhatIsRead (λ shown. shown) result (shown_if_no_word_left what (words_between_blanks
         fields.now)) }
 {
     no_word_left(fields)?;
@@ -237,7 +238,7 @@ fn shown_if_no_word_left(what: Shown, fields: &[u8]) -> Result<Shown, Unread>
 /// Reads which entry of the DAC is shown.
 #[tactic(auto, unfolding(crate::specs::StepReading::read_dac))]
 fn read_dac(fields: &[u8]) -> Result<Shown, Unread>
-    ensures { ReadsAs (λ what. what) result (read_dac (words_between_blanks fields.now)) }
+    ensures { GivesWhatIsRead (λ what. what) result (read_dac (words_between_blanks fields.now)) }
 {
     let index = only_hex_number(fields, 2, 0xFF)?;
     let index = index as u8;
@@ -247,7 +248,7 @@ fn read_dac(fields: &[u8]) -> Result<Shown, Unread>
 /// Reads which bytes of a plane are shown.
 #[tactic(auto, unfolding(crate::specs::StepReading::read_plane), using(crate::proofs::ShownLemmas::tests_pass, crate::proofs::ShownLemmas::tests_fail))]
 fn read_plane(fields: &[u8]) -> Result<Shown, Unread>
-    ensures { ReadsAs (λ what. what) result (read_plane (words_between_blanks fields.now)) }
+    ensures { GivesWhatIsRead (λ what. what) result (read_plane (words_between_blanks fields.now)) }
 {
     let (plane, rest) = next_hex_number(fields, 1, 3)?;
     let (offset, rest) = next_hex_number(rest, 4, 0xFFFF)?;
@@ -266,7 +267,7 @@ fn read_plane(fields: &[u8]) -> Result<Shown, Unread>
 /// Reads what is shown, by its name.
 #[tactic(auto, unfolding(crate::specs::StepReading::read_shown))]
 fn read_shown(fields: &[u8]) -> Result<Shown, Unread>
-    ensures { ReadsAs (λ what. what) result (read_shown (words_between_blanks fields.now)) }
+    ensures { GivesWhatIsRead (λ what. what) result (read_shown (words_between_blanks fields.now)) }
 {
     let Some((name, rest)) = next_word(fields) else {
         return Err(Unread::Bad);
@@ -331,11 +332,11 @@ macro_rules! read_steps {
 
 /// Reads the numeric step of this name from the words after it.
 #[tactic(auto, unfolding(crate::specs::StepReading::step_of_keyword, crate::specs::StepReading::only_hex_number, crate::specs::StepReading::only_two_hex_numbers, crate::specs::StepReading::only_decimal_number, crate::specs::StepReading::no_word_left))]
-fn read_numeric(keyword: Keyword, fields: &[u8]) -> Result<Step<'static>, Unread>
+fn read_numeric_step(keyword: Keyword, fields: &[u8]) -> Result<Step<'static>, Unread>
     requires int { keyword ≢ Keyword.Int }
     requires frame { keyword ≢ Keyword.Frame }
     requires show { keyword ≢ Keyword.Show }
-    ensures { ReadsAs (λ step. step) result (step_of_keyword keyword (words_between_blanks
+    ensures { GivesWhatIsRead (λ step. step) result (step_of_keyword keyword (words_between_blanks
         fields.now)) }
 {
     numeric_steps!(read_steps, keyword, fields)
@@ -349,7 +350,7 @@ fn step_of_keyword<'a>(
     keyword: Keyword,
     fields: &[u8],
 ) -> Result<Step<'a>, Unread>
-    ensures { ReadsAs (λ step. step) result (step_of_keyword keyword (words_between_blanks
+    ensures { GivesWhatIsRead (λ step. step) result (step_of_keyword keyword (words_between_blanks
         fields.now)) }
 {
     match keyword {
@@ -362,7 +363,7 @@ fn step_of_keyword<'a>(
             let shown = read_shown(fields)?;
             Ok(Step::Show { shown })
         }
-        _ => read_numeric(keyword, fields),
+        _ => read_numeric_step(keyword, fields),
     }
 }
 

@@ -1,15 +1,15 @@
 //! The steps that a script means, read one after another from its bytes.
 ghost use Rattle.std.specs.Prelude.{◌≡◌, ◌≤◌, length, drop, IfErr, IfOk, IfSome};
 ghost use Rattle.vga_script.specs.Decoding.{IsFault};
-ghost use Rattle.vga_script.specs.Beginning.{listing_of};
+ghost use Rattle.vga_script.specs.Beginning.{script_of_bytes};
 ghost use Rattle.vga_script.specs.Item.{expanded, step_limit};
-ghost use Rattle.vga_script.specs.Spelled.{SpellsExpanded, TakesFirst};
+ghost use Rattle.vga_script.specs.Spelled.{SpellsExpanded, TakesFirstStep};
 ghost use Rattle.vga_script.specs.Spelling.{Spells, script_limit};
 ghost use Rattle.vga_script.specs.Step.{IsInRange};
 
 use super::judge::check_script;
 use super::opcode::HEADER_LEN;
-use super::progress::{Progress, skip_marks};
+use super::progress::{ScriptPosition, move_to_next_step};
 use super::step::Step;
 use super::step_bytes::step_at;
 use std::marker::Model;
@@ -43,8 +43,8 @@ impl<'a> Steps<'a> {
     /// The steps of a script that these bytes spell.
     #[tactic(auto, using(crate::proofs::StepsLemmas::behind_header, crate::proofs::StepsLemmas::items_stand, crate::proofs::StepsLemmas::items_left))]
     pub(crate) fn of_script(bytes: &'a [u8]) -> Steps<'a>
-        requires { Spells bytes.now (listing_of bytes.now) }
-        ensures { result ≡ expanded (listing_of bytes.now).items }
+        requires { Spells bytes.now (script_of_bytes bytes.now) }
+        ensures { result ≡ expanded (script_of_bytes bytes.now).items }
     {
         let (header, items) = bytes.split_at(HEADER_LEN);
         Steps {
@@ -73,7 +73,7 @@ impl<'a> Steps<'a> {
     #[tactic(auto, using(crate::proofs::ProgressLemmas::step_taken))]
     #[inline(always)]
     pub fn next(&mut self) -> Option<Step<'a>>
-        ensures first { TakesFirst self.old self.new result }
+        ensures first { TakesFirstStep self.old self.new result }
         ensures range { IfSome result (λ step. IsInRange step) }
     {
         if self.rest.is_empty() {
@@ -83,7 +83,7 @@ impl<'a> Steps<'a> {
             self.rest = others;
             return Some(step);
         }
-        let progress = skip_marks(Progress {
+        let progress = move_to_next_step(ScriptPosition {
             rest: self.rest,
             body: self.body,
             left: self.left,

@@ -8,7 +8,7 @@ ghost use Rattle.vga_script.specs.Tokens.{words_between_blanks};
 
 /// A byte that ends a piece of a text.
 #[derive(Clone, Copy, PartialEq, Eq, Debug)]
-enum End {
+enum PieceEnd {
     /// A newline, which ends a line.
     Newline,
     /// A semicolon, which begins a comment.
@@ -17,15 +17,15 @@ enum End {
     Blank,
 }
 
-impl End {
+impl PieceEnd {
     /// Whether this byte ends such a piece.
     fn is_at(self, byte: u8) -> bool
         ensures { result ≡ is_end_of_piece self byte }
     {
         match self {
-            End::Newline => byte == b'\n',
-            End::Semicolon => byte == b';',
-            End::Blank => byte == b' ' || byte == b'\t' || byte == b'\r',
+            PieceEnd::Newline => byte == b'\n',
+            PieceEnd::Semicolon => byte == b';',
+            PieceEnd::Blank => byte == b' ' || byte == b'\t' || byte == b'\r',
         }
     }
 
@@ -49,7 +49,7 @@ pub(crate) fn first_line(text: &[u8]) -> (&[u8], Option<&[u8]>)
     ensures line { lines text.now ≡ result.0.now ∷ lines_of_rest (option_copied result.1) }
     ensures shorter { IfSome result.1 (λ rest. length rest.now < length text.now) }
 {
-    let end = End::Newline.position_in(text);
+    let end = PieceEnd::Newline.position_in(text);
     if end == text.len() {
         return (text, None);
     }
@@ -60,7 +60,7 @@ pub(crate) fn first_line(text: &[u8]) -> (&[u8], Option<&[u8]>)
 pub(crate) fn before_comment(line: &[u8]) -> &[u8]
     ensures { result.now ≡ before_first is_semicolon line.now }
 {
-    line.split_at(End::Semicolon.position_in(line)).0
+    line.split_at(PieceEnd::Semicolon.position_in(line)).0
 }
 
 /// Skips the blanks that a line begins with.
@@ -71,7 +71,7 @@ fn after_blanks(line: &[u8]) -> &[u8]
 {
     let mut rest = line;
     while let [first, others @ ..] = rest {
-        if !End::Blank.is_at(*first) {
+        if !PieceEnd::Blank.is_at(*first) {
             return rest;
         }
         rest = others;
@@ -89,5 +89,5 @@ pub(crate) fn next_word(line: &[u8]) -> Option<(&[u8], &[u8])>
     if rest.is_empty() {
         return None;
     }
-    Some(rest.split_at(End::Blank.position_in(rest)))
+    Some(rest.split_at(PieceEnd::Blank.position_in(rest)))
 }

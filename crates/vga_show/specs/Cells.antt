@@ -42,7 +42,7 @@ cells_answer None = Ok tt
 cells_answer (Some why) = Err why
 
 -- the cells of the active page lie within the planes
-pub record HasCells (bda : BiosData) : Type 0 where
+pub record CellsLieWithinPlanes (bda : BiosData) : Type 0 where
   pub columns : bda.columns ≤ 80
   pub cells : 2 * (bda.columns * (bda.last_row + 1)) ≤ bda.size
   pub memory : bda.size * bda.page + bda.size ≤ 32768

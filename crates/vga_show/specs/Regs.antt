@@ -32,14 +32,14 @@ unfoldable pub gfx_line : HostState → List ℕ
 gfx_line host = group_line (codes "gfx") host.gfx_index 9 host.gfx
 
 -- the kind of the next write to the attribute controller: i for an index, d for data
-abbrev pub write_letter : Bool → List ℕ
-write_letter is_data = if is_data then codes "d" else codes "i"
+abbrev pub next_write_letter : Bool → List ℕ
+next_write_letter is_data = if is_data then codes "d" else codes "i"
 
 -- the word attr, the index, the kind of the next write and a colon, and the 21 registers of the
 -- attribute controller
 unfoldable pub attr_line : AttrState → List ℕ
 attr_line attr =
-    dump_line (codes "attr") (two_hex_digits attr.index ∷ (write_letter attr.is_data ++ codes ":")
+    dump_line (codes "attr") (two_hex_digits attr.index ∷ (next_write_letter attr.is_data ++ codes ":")
     ∷ two_hex_digits_each (slice_index attr.registers) 0 21)
 
 -- the first letter of a component

@@ -1,6 +1,6 @@
 //! The video BIOS's data as text.
 ghost use Rattle.std.specs.Prelude.{◌≡◌, ◌+◌, ◌≤◌, ◌++◌, length, false};
-ghost use Rattle.vga_bits.specs.Tracked.{inner_of, has_failed, Writes};
+ghost use Rattle.vga_bits.specs.Tracked.{inner_of, has_failed, WritesWholeOrPrefix};
 ghost use Rattle.vga_show.specs.Lines.{longest_dump_len, words_after_blanks};
 ghost use Rattle.vga_show.specs.Bda.{mode_words, cursor_position_words, remaining_data_words};
 ghost use Rattle.vga_show.specs.Bda.{bda_text as bda_text_of};
@@ -71,7 +71,7 @@ fn bda_text(bda: &Bda) -> DumpText
 /// The only error is `WriteFault`: the writer failed, and has a prefix of the text.
 pub fn dump_bda<W: Write>(out: &mut Tracked<W>, bda: &Bda) -> Result<(), Fault>
     requires { has_failed out.old ≡ false }
-    ensures { Writes (W.contents (inner_of out.old)) (W.contents (inner_of out.new))
+    ensures { WritesWholeOrPrefix (W.contents (inner_of out.old)) (W.contents (inner_of out.new))
         (has_failed out.new) result (bda_text_of bda.now) }
 {
     write_whole(out, bda_text(bda).as_slice())

@@ -1,6 +1,6 @@
 //! The beam as text.
 ghost use Rattle.std.specs.Prelude.{◌≡◌, ◌+◌, ◌≤◌, ◌++◌, length, false};
-ghost use Rattle.vga_bits.specs.Tracked.{inner_of, has_failed, Writes};
+ghost use Rattle.vga_bits.specs.Tracked.{inner_of, has_failed, WritesWholeOrPrefix};
 ghost use Rattle.vga_show.specs.Lines.{longest_dump_len, words_after_blanks};
 ghost use Rattle.vga_show.specs.Beam.{beam_position_words, beam_counter_words};
 ghost use Rattle.vga_show.specs.Beam.{beam_line as beam_line_of};
@@ -59,7 +59,7 @@ pub(crate) fn beam_line(beam: &Beam, count: u16) -> DumpText
 /// The only error is `WriteFault`: the writer failed, and has a prefix of the text.
 pub fn dump_beam<W: Write>(out: &mut Tracked<W>, card: &Card) -> Result<(), Fault>
     requires { has_failed out.old ≡ false }
-    ensures { Writes (W.contents (inner_of out.old)) (W.contents (inner_of out.new))
+    ensures { WritesWholeOrPrefix (W.contents (inner_of out.old)) (W.contents (inner_of out.new))
         (has_failed out.new) result (beam_text card.now) }
 {
     let (beam, count) = card.beam();

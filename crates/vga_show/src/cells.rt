@@ -1,12 +1,12 @@
 //! The cells of the active page as text.
 ghost use Rattle.std.specs.Prelude.{◌≡◌, ◌+◌, ◌*◌, ◌<◌, ◌≤◌, ◌++◌, length, false, IfOk, IfSome, Ok};
 ghost use Rattle.std.specs.Prelude.{Err};
-ghost use Rattle.vga_bits.specs.Tracked.{inner_of, has_failed, Writes};
+ghost use Rattle.vga_bits.specs.Tracked.{inner_of, has_failed, WritesWholeOrPrefix};
 ghost use Rattle.bios_modes.specs.Valid.{IsValid};
 ghost use Rattle.vga_show.specs.Lines.{longest_dump_len, four_hex_digits_each, words_after_blanks};
 ghost use Rattle.vga_show.specs.Cells.{cells_refusal as cells_refusal_of, cell_of_active_page};
 ghost use Rattle.vga_show.specs.Cells.{row_text as row_text_of, rows_text, cells_text};
-ghost use Rattle.vga_show.specs.Cells.{cells_answer, HasCells};
+ghost use Rattle.vga_show.specs.Cells.{cells_answer, CellsLieWithinPlanes};
 
 use super::text::{DumpText, push_spaced_word};
 use bios_modes::{Bda, is_text};
@@ -41,7 +41,7 @@ fn cell(card: &Card, bda: &Bda, k: u32) -> u16
 /// Appends the cells of a row.
 #[tactic(auto, using(crate::proofs::TextLemmas::listing))]
 fn push_cells(text: &mut DumpText, card: &Card, bda: &Bda, row: u8)
-    requires data { HasCells bda.now }
+    requires data { CellsLieWithinPlanes bda.now }
     requires row { row ≤ bda.now.last_row }
     requires room { length text.old + 5 * bda.now.columns ≤ longest_dump_len }
     ensures items { text.new ≡ text.old ++ words_after_blanks
@@ -58,7 +58,7 @@ fn push_cells(text: &mut DumpText, card: &Card, bda: &Bda, row: u8)
 /// The line of a row.
 #[tactic(auto, using(crate::proofs::TextLemmas::joins))]
 fn row_text(card: &Card, bda: &Bda, row: u8) -> DumpText
-    requires data { HasCells bda.now }
+    requires data { CellsLieWithinPlanes bda.now }
     requires row { row ≤ bda.now.last_row }
     ensures { result ≡ row_text_of card.now bda.now row }
 {
@@ -74,9 +74,9 @@ fn row_text(card: &Card, bda: &Bda, row: u8) -> DumpText
 /// Writes the lines of all rows.
 fn write_rows<W: Write>(out: &mut Tracked<W>, card: &Card, bda: &Bda) -> Result<(), Fault>
     requires writer { has_failed out.old ≡ false }
-    requires data { HasCells bda.now }
+    requires data { CellsLieWithinPlanes bda.now }
     requires rows { bda.now.last_row < 255 }
-    ensures { Writes (W.contents (inner_of out.old)) (W.contents (inner_of out.new))
+    ensures { WritesWholeOrPrefix (W.contents (inner_of out.old)) (W.contents (inner_of out.new))
         (has_failed out.new) result (rows_text card.now bda.now (bda.now.last_row + 1) 0) }
 {
     for row in 0..bda.last_row() + 1 {
@@ -99,7 +99,7 @@ pub fn dump_cells<W: Write>(
     requires writer { has_failed out.old ≡ false }
     requires data { IsValid bda.now }
     // The text is written, or nothing if the dump is refused.
-    ensures written { Writes (W.contents (inner_of out.old)) (W.contents (inner_of out.new))
+    ensures written { WritesWholeOrPrefix (W.contents (inner_of out.old)) (W.contents (inner_of out.new))
         (has_failed out.new) result (cells_text (cells_refusal_of bda.now.mode) card.now bda.now) }
     ensures answer { IfOk result (λ answer. answer ≡ cells_answer (cells_refusal_of bda.now.mode)) }
     // If the dump is refused, the writer is unchanged.

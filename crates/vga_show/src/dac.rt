@@ -1,6 +1,6 @@
 //! An entry of the DAC as text.
 ghost use Rattle.std.specs.Prelude.{◌≡◌, false};
-ghost use Rattle.vga_bits.specs.Tracked.{inner_of, has_failed, Writes};
+ghost use Rattle.vga_bits.specs.Tracked.{inner_of, has_failed, WritesWholeOrPrefix};
 ghost use Rattle.vga_show.specs.Dac.{entry_text as entry_text_of};
 
 use super::text::{DumpText, push_spaced_byte};
@@ -32,7 +32,7 @@ fn entry_text(card: &Card, index: u8) -> DumpText
 /// The only error is `WriteFault`: the writer failed, and has a prefix of the text.
 pub fn dump_dac<W: Write>(out: &mut Tracked<W>, card: &Card, index: u8) -> Result<(), Fault>
     requires { has_failed out.old ≡ false }
-    ensures { Writes (W.contents (inner_of out.old)) (W.contents (inner_of out.new))
+    ensures { WritesWholeOrPrefix (W.contents (inner_of out.old)) (W.contents (inner_of out.new))
         (has_failed out.new) result (entry_text_of card.now index) }
 {
     write_whole(out, entry_text(card, index).as_slice())

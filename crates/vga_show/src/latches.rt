@@ -1,6 +1,6 @@
 //! The latches as text.
 ghost use Rattle.std.specs.Prelude.{◌≡◌, false};
-ghost use Rattle.vga_bits.specs.Tracked.{inner_of, has_failed, Writes};
+ghost use Rattle.vga_bits.specs.Tracked.{inner_of, has_failed, WritesWholeOrPrefix};
 ghost use Rattle.vga_show.specs.Latches.{latches_text as latches_text_of};
 
 use super::text::{DumpText, push_spaced_byte};
@@ -30,7 +30,7 @@ fn latches_text(card: &Card) -> DumpText
 /// The only error is `WriteFault`: the writer failed, and has a prefix of the text.
 pub fn dump_latches<W: Write>(out: &mut Tracked<W>, card: &Card) -> Result<(), Fault>
     requires { has_failed out.old ≡ false }
-    ensures { Writes (W.contents (inner_of out.old)) (W.contents (inner_of out.new))
+    ensures { WritesWholeOrPrefix (W.contents (inner_of out.old)) (W.contents (inner_of out.new))
         (has_failed out.new) result (latches_text_of card.now) }
 {
     write_whole(out, latches_text(card).as_slice())

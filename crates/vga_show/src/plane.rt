@@ -1,6 +1,6 @@
 //! Bytes of a plane as text.
 ghost use Rattle.std.specs.Prelude.{◌≡◌, ◌+◌, ◌*◌, ◌<◌, ◌≤◌, ◌++◌, length, false};
-ghost use Rattle.vga_bits.specs.Tracked.{inner_of, has_failed, Writes};
+ghost use Rattle.vga_bits.specs.Tracked.{inner_of, has_failed, WritesWholeOrPrefix};
 ghost use Rattle.vga_planes.specs.Planes.{byte_at};
 ghost use Rattle.vga_show.specs.Lines.{longest_dump_len, two_hex_digits_each, words_after_blanks};
 ghost use Rattle.vga_show.specs.Plane.{plane_text as plane_text_of};
@@ -60,7 +60,7 @@ pub fn dump_plane<W: Write>(
     requires some { 1 ≤ count }
     requires count { count ≤ 256 }
     requires end { offset + count ≤ 65536 }
-    ensures { Writes (W.contents (inner_of out.old)) (W.contents (inner_of out.new))
+    ensures { WritesWholeOrPrefix (W.contents (inner_of out.old)) (W.contents (inner_of out.new))
         (has_failed out.new) result (plane_text_of card.now plane offset count) }
 {
     write_whole(out, plane_text(card, plane, offset, count).as_slice())

@@ -1,6 +1,6 @@
 //! A picture as a Netpbm PPM.
 ghost use Rattle.std.specs.Prelude.{ℕ, List, ◌≡◌, ◌*◌, ◌≤◌, length, false};
-ghost use Rattle.vga_bits.specs.Tracked.{inner_of, has_failed, Writes};
+ghost use Rattle.vga_bits.specs.Tracked.{inner_of, has_failed, WritesWholeOrPrefix};
 ghost use Rattle.vga_card.specs.Picture.{most_dots_of_a_line, most_lines_of_a_frame};
 ghost use Rattle.vga_show.specs.Ppm.{ppm_header, ppm};
 
@@ -35,7 +35,7 @@ pub fn write_ppm<W: Write>(
     bytes: &[u8],
 ) -> Result<(), Fault>
     requires { has_failed out.old ≡ false }
-    ensures { Writes (W.contents (inner_of out.old)) (W.contents (inner_of out.new))
+    ensures { WritesWholeOrPrefix (W.contents (inner_of out.old)) (W.contents (inner_of out.new))
         (has_failed out.new) result (ppm width height bytes.now) }
 {
     write_whole(out, header(width, height).as_slice())?;

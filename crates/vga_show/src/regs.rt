@@ -1,6 +1,6 @@
 //! All registers as text.
 ghost use Rattle.std.specs.Prelude.{◌≡◌, ◌+◌, ◌*◌, ◌≤◌, [], ◌∷◌, ◌++◌, length, false};
-ghost use Rattle.vga_bits.specs.Tracked.{inner_of, has_failed, Writes};
+ghost use Rattle.vga_bits.specs.Tracked.{inner_of, has_failed, WritesWholeOrPrefix};
 ghost use Rattle.vga_show.specs.Lines.{longest_dump_len};
 ghost use Rattle.vga_show.specs.Regs.{misc_line, group_line, attr_line};
 ghost use Rattle.vga_show.specs.Regs.{component_letter as component_letter_of, dac_line};
@@ -116,7 +116,7 @@ fn regs_text(card: &Card) -> DumpText
 /// The only error is `WriteFault`: the writer failed, and has a prefix of the text.
 pub fn dump_regs<W: Write>(out: &mut Tracked<W>, card: &Card) -> Result<(), Fault>
     requires { has_failed out.old ≡ false }
-    ensures { Writes (W.contents (inner_of out.old)) (W.contents (inner_of out.new))
+    ensures { WritesWholeOrPrefix (W.contents (inner_of out.old)) (W.contents (inner_of out.new))
         (has_failed out.new) result (regs_text_of card.now) }
 {
     write_whole(out, regs_text(card).as_slice())

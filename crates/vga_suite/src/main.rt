@@ -25,7 +25,7 @@ use std::process::ExitCode;
 use std::rt::{Env, Files};
 use std::str::from_utf8;
 use std::{env, fs};
-use vga_bits::Tally;
+use vga_bits::ComparisonTally;
 
 /// The path of the list, from the command line.
 fn list_path<R: Env + AllocGlobal>(rt: &R) -> Result<String> {
@@ -134,7 +134,7 @@ fn check_cut<R: Files + Print + AllocGlobal>(
     case: &Case,
     cut: Cut,
     setting: &Setting,
-    tally: &mut Tally,
+    tally: &mut ComparisonTally,
 ) -> Result<()> {
     let name = case.name;
     let text = text_of(rt, case, setting)?;
@@ -158,7 +158,7 @@ fn take_item<R: Files + Print + AllocGlobal>(
     rt: &R,
     item: Item,
     setting: &mut Setting,
-    tally: &mut Tally,
+    tally: &mut ComparisonTally,
 ) -> Result<()> {
     let alloc = rt.alloc();
     match item {
@@ -182,10 +182,10 @@ fn take_item<R: Files + Print + AllocGlobal>(
 }
 
 /// Checks the cases of the list at this path.
-fn check_list<R: Files + Print + AllocGlobal>(rt: &R, list: &str) -> Result<Tally> {
+fn check_list<R: Files + Print + AllocGlobal>(rt: &R, list: &str) -> Result<ComparisonTally> {
     let text = read_text(rt, list)?;
     let mut setting = Setting::beside(rt.alloc(), list)?;
-    let mut tally = Tally::new();
+    let mut tally = ComparisonTally::new();
     for line in text.lines() {
         let item = Item::of_line(line).context(format_args!("no item of a list: {line}"))?;
         take_item(rt, item, &mut setting, &mut tally)?;

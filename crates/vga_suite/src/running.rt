@@ -3,7 +3,7 @@ ghost use Rattle.std.specs.Prelude.{◌≡◌, List, IfOk};
 ghost use Rattle.bios_modes.specs.Fonts.{fonts_of};
 ghost use Rattle.vga_run.specs.Report.{report_of, steps_until};
 ghost use Rattle.vga_script.specs.declared.step.Step.{Step};
-ghost use Rattle.vga_script.specs.Item.{Listing, expanded};
+ghost use Rattle.vga_script.specs.Item.{ScriptItems, expanded};
 ghost use Rattle.vga_script.specs.Spelled.{SpellsExpanded};
 ghost use Rattle.vga_script.specs.Text.{SpellsText};
 
@@ -34,7 +34,7 @@ pub fn run_text(
     fonts: &[u8],
     until: Option<u32>,
 ) -> Result<Vec<u8>, Fault>
-    ensures { IfOk result (λ report. (script : Listing) × SpellsText text.now script
+    ensures { IfOk result (λ report. (script : ScriptItems) × SpellsText text.now script
         × (report.items ≡ report_of (fonts_of fonts.now)
         (steps_until until (expanded script.items)))) }
 {

@@ -55,7 +55,7 @@ use std::env;
 use std::process::ExitCode;
 use std::rt::Env;
 use tracking::check_tracking;
-use vga_bits::Tally;
+use vga_bits::ComparisonTally;
 
 /// The kinds of dots that are compared, each with its own stream of pseudo-random numbers.
 const KINDS: [(&str, DotSource, u64); 3] = [
@@ -65,14 +65,23 @@ const KINDS: [(&str, DotSource, u64); 3] = [
 ];
 
 /// Prints the result of a group of checks, and counts the group.
-fn print_checks<R: Print>(rt: &R, tally: &mut Tally, group: &str, checks: Checks) -> Result<()> {
+fn print_checks<R: Print>(
+    rt: &R,
+    tally: &mut ComparisonTally,
+    group: &str,
+    checks: Checks,
+) -> Result<()> {
     println!(rt; "{group}: {checks}")?;
     tally.count(checks.have_passed());
     Ok(())
 }
 
 /// Compares memory cycles with the model, and prints the result.
-fn compare_host<R: Print + AllocGlobal>(rt: &R, tally: &mut Tally, settings: u32) -> Result<()> {
+fn compare_host<R: Print + AllocGlobal>(
+    rt: &R,
+    tally: &mut ComparisonTally,
+    settings: u32,
+) -> Result<()> {
     let path = compare_host_path(rt.alloc(), settings)?;
     println!(rt; "host path: {path}")?;
     tally.count(path.is_alike());
@@ -80,7 +89,11 @@ fn compare_host<R: Print + AllocGlobal>(rt: &R, tally: &mut Tally, settings: u32
 }
 
 /// Compares dots of each kind with the model, and prints the result.
-fn compare_kinds<R: Print + AllocGlobal>(rt: &R, tally: &mut Tally, settings: u32) -> Result<()> {
+fn compare_kinds<R: Print + AllocGlobal>(
+    rt: &R,
+    tally: &mut ComparisonTally,
+    settings: u32,
+) -> Result<()> {
     for (name, source, stream) in KINDS {
         let dots = compare_dots(rt.alloc(), source, stream, settings)?;
         println!(rt; "{name}: {dots}")?;
@@ -90,7 +103,7 @@ fn compare_kinds<R: Print + AllocGlobal>(rt: &R, tally: &mut Tally, settings: u3
 }
 
 /// Checks what the other crates build on, and prints the result of each group.
-fn check_bases<R: Print + AllocGlobal>(rt: &R, tally: &mut Tally) -> Result<()> {
+fn check_bases<R: Print + AllocGlobal>(rt: &R, tally: &mut ComparisonTally) -> Result<()> {
     let alloc = rt.alloc();
     print_checks(
         rt,
@@ -105,7 +118,7 @@ fn check_bases<R: Print + AllocGlobal>(rt: &R, tally: &mut Tally) -> Result<()> 
 }
 
 /// Checks what is written, and prints the result of each group.
-fn check_written<R: Print + AllocGlobal>(rt: &R, tally: &mut Tally) -> Result<()> {
+fn check_written<R: Print + AllocGlobal>(rt: &R, tally: &mut ComparisonTally) -> Result<()> {
     let alloc = rt.alloc();
     print_checks(rt, tally, "dumps", check_dumps(alloc)?)?;
     print_checks(rt, tally, "cells", check_cells(alloc)?)?;
@@ -114,7 +127,7 @@ fn check_written<R: Print + AllocGlobal>(rt: &R, tally: &mut Tally) -> Result<()
 }
 
 /// Checks the crates, a group for each part, and prints the result of each.
-fn check_crates<R: Print + AllocGlobal>(rt: &R, tally: &mut Tally) -> Result<()> {
+fn check_crates<R: Print + AllocGlobal>(rt: &R, tally: &mut ComparisonTally) -> Result<()> {
     let alloc = rt.alloc();
     check_bases(rt, tally)?;
     check_written(rt, tally)?;
@@ -165,14 +178,14 @@ fn wanted_job<R: Env + AllocGlobal>(rt: &R) -> Result<Job> {
 }
 
 /// Makes all comparisons and checks.
-fn check_everything<R: Print + AllocGlobal>(rt: &R, tally: &mut Tally) -> Result<()> {
+fn check_everything<R: Print + AllocGlobal>(rt: &R, tally: &mut ComparisonTally) -> Result<()> {
     compare_host(rt, tally, host_path::SETTINGS)?;
     compare_kinds(rt, tally, dots::SETTINGS)?;
     check_crates(rt, tally)
 }
 
 fn main(rt: HostRuntime) -> Result<ExitCode> {
-    let mut tally = Tally::new();
+    let mut tally = ComparisonTally::new();
     match wanted_job(&rt)? {
         Job::Everything => check_everything(&rt, &mut tally)?,
         Job::Host(settings) => compare_host(&rt, &mut tally, settings)?,

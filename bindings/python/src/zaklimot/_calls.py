@@ -53,6 +53,7 @@ CALLS: dict[str, tuple[Any, ...]] = {
     "line": (CARD, U32, _to(s.zak_scan_line), _to(U32), SIZE),
     "frame_lines": (CARD, _to(U32), BYTES, SIZE, COUNT),
     "skip_frame": (CARD,),
+    "peek": (CARD, _to(U32), BYTES, SIZE, COUNT),
     "int10": (CARD, _to(s.zak_regs), In, SIZE, *ROOM),
     "block": (CARD, _to(s.zak_regs), _to(s.zak_source)),
     "cycles": (CARD, _to(s.zak_regs), In, SIZE, *ROOM),

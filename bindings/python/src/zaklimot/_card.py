@@ -471,10 +471,26 @@ class Card:
         """Lets the clock run to the end of the frame, and returns its dots line by line.
 
         The lines may differ in width, for which `frame` raises Ragged. The dots lie in the card's
-        memory, until its next `frame` or `lines`.
+        memory, until its next `frame`, `lines` or `peek`.
         """
+        return self._lines("frame_lines")
+
+    def peek(self) -> Lines:
+        """Returns what is drawn until now of the frame under way, line by line. The clock stands
+        still.
+
+            card.advance(100_000)
+            rows = sum(width > 0 for width in card.peek().widths)
+
+        At the first dot of a frame it is the frame before, unless that was skipped. The dots lie in
+        the card's memory, until its next `frame`, `lines` or `peek`.
+        """
+        return self._lines("peek")
+
+    def _lines(self, name: str) -> Lines:
+        """The dots that a call writes line by line."""
         room, widths, used = self._room(s.MOST_RGB, "rgb"), (s.U32 * s.HIGHEST)(), s.SIZE()
-        self._call("frame_lines", widths, room.pointer, room.size, _byref(used))
+        self._call(name, widths, room.pointer, room.size, _byref(used))
         # A memoryview hands over all numbers at once; ctypes does so one by one.
         return Lines(
             tuple(memoryview(widths).cast("B").cast("I").tolist()), room.view[: used.value]

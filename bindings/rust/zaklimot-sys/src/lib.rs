@@ -330,6 +330,13 @@ extern "C" {
         rgb_used: *mut usize,
     ) -> zak_status;
     pub fn zak_skip_frame(card: *mut zak_card) -> zak_status;
+    pub fn zak_peek(
+        card: *mut zak_card,
+        widths: *mut u32,
+        rgb: *mut u8,
+        rgb_cap: usize,
+        rgb_used: *mut usize,
+    ) -> zak_status;
     pub fn zak_block(
         card: *mut zak_card,
         regs: *const zak_regs,

@@ -17,6 +17,15 @@ use crate::{fonts, HIGHEST, WIDEST};
 const MOST_RGB: usize = sys::ZAK_MOST_RGB as usize;
 const MOST_TABLE: usize = sys::ZAK_MOST_TABLE as usize;
 const MOST_TEXT: usize = sys::ZAK_MOST_TEXT as usize;
+/// A call of the library that writes dots line by line.
+type LinesCall = unsafe extern "C" fn(
+    *mut sys::zak_card,
+    *mut u32,
+    *mut u8,
+    usize,
+    *mut usize,
+) -> sys::zak_status;
+
 /// Room for the report of one step.
 const STEP_ROOM: usize = MOST_RGB + 100;
 /// Room for the cycles of most calls.
@@ -435,18 +444,36 @@ impl Card {
     ///
     /// A card of this crate never returns one.
     pub fn lines(&mut self) -> Result<Lines<'_>, Error> {
+        self.lines_by(sys::zak_frame_lines)
+    }
+
+    /// Lends what is drawn until now of the frame under way, line by line. The clock stands still.
+    /// At the first dot of a frame it is the frame before, unless that was skipped.
+    ///
+    /// ```
+    /// use zaklimot::{Card, Regs};
+    ///
+    /// let mut card = Card::new()?;
+    /// card.int10(Regs::ax(0x0013), &[])?;
+    /// card.advance(800)?;
+    /// assert_eq!(card.peek()?.widths()[..2], [640, 0]);
+    /// # Ok::<(), zaklimot::Error>(())
+    /// ```
+    ///
+    /// # Errors
+    ///
+    /// A card of this crate never returns one.
+    pub fn peek(&mut self) -> Result<Lines<'_>, Error> {
+        self.lines_by(sys::zak_peek)
+    }
+
+    /// The dots that a call writes line by line.
+    fn lines_by(&mut self, call: LinesCall) -> Result<Lines<'_>, Error> {
         let rgb = kept(&mut self.rgb, MOST_RGB);
         let (widths, mut used) = (kept(&mut self.widths, HIGHEST), 0);
+        let (to, len) = (rgb.as_mut_ptr(), rgb.len());
         // SAFETY: there are ZAK_HIGHEST widths, and as many bytes as the length says.
-        done(unsafe {
-            sys::zak_frame_lines(
-                &mut self.raw,
-                widths.as_mut_ptr(),
-                rgb.as_mut_ptr(),
-                rgb.len(),
-                &mut used,
-            )
-        })?;
+        done(unsafe { call(&mut self.raw, widths.as_mut_ptr(), to, len, &mut used) })?;
         Ok(Lines::new(widths, &rgb[..used]))
     }
 

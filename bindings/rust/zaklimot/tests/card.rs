@@ -218,6 +218,21 @@ fn a_frame_has_its_picture() {
 }
 
 #[test]
+fn what_is_drawn_until_now_is_the_beginning_of_the_frame() {
+    let mut card = card_in(0x0013);
+    card.frame().unwrap();
+    card.advance(100_000).unwrap();
+    let before = card.save().unwrap();
+    let drawn = card.peek().unwrap();
+    let (rows, bytes) =
+        (drawn.widths().to_vec(), drawn.iter().flatten().copied().collect::<Vec<u8>>());
+    assert!(rows[0] == 640 && rows[399] == 0 && !bytes.is_empty());
+    assert_eq!(card.save().unwrap(), before);
+    let whole: Vec<u8> = card.lines().unwrap().iter().flatten().copied().collect();
+    assert_eq!(whole[..bytes.len()], bytes[..]);
+}
+
+#[test]
 fn a_skipped_frame_leaves_what_a_frame_leaves() {
     let mut card = card_in(0x0013);
     let mut other = card_in(0x0013);

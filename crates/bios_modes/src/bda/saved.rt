@@ -122,7 +122,7 @@ impl Bda {
     /// Saved data are restored completely, and the bytes of valid data are valid. The clauses are
     /// for proofs: the function does nothing.
     #[tactic(auto, using(crate::proofs::SavedLemmas::bda_is_saved, crate::proofs::SavedLemmas::bda_is_back, crate::proofs::SavedLemmas::bda_len))]
-    pub fn saves_whole(&self)
+    pub fn restore_gives_what_was_saved(&self)
         ensures saved { IsValid self.now → IsSavedBda (saved_bda self.now) }
         ensures back { bda_from (saved_bda self.now) ≡ self.now }
         ensures len { length (saved_bda self.now) ≡ 31 }

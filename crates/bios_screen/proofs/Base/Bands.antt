@@ -3,9 +3,9 @@ use Rattle.std.proofs.Common.{◌≡◌, ◌≢◌, ℕ, ◌+◌, ◌-◌, ◌*�
 use Rattle.std.specs.Prelude.{◌==◌, if◌then◌else◌}
 use Rattle.vga_card.specs.Bus.{BusMeaning}
 use Rattle.bios_modes.specs.declared.kind.Kind.{Kind}
-use Rattle.bios_screen.proofs.Prelude.{Planar, Band, Direction, Up, Down, Window, run, put}
+use Rattle.bios_screen.proofs.Prelude.{Planar, ColumnBand, Direction, Up, Down, Window, run, put}
 use Rattle.bios_modes.specs.declared.kind.Kind.TheVariants.{Text, Packed}
-use Rattle.bios_services.specs.declared.filling.Filling.{Filling}
+use Rattle.bios_services.specs.declared.filling.AlternatingBytes.{AlternatingBytes}
 use Rattle.bios_services.specs.Kinds.{column_bytes}
 use Rattle.bios_services.specs.Plan.{move}
 use Rattle.bios_services.specs.Bands.{byte_address_in_band, filling_byte, copy_line, copy_row, move_rows, fill_line, fill_row, fill_rows}
@@ -24,7 +24,7 @@ some_bytes Packed = omega arith
 -- a window of a page, whose memory has `size` cells from address `base` on: the page has `rows`
 -- rows of characters from cell `start` on. On each line the band covers the window's columns, with
 -- a fixed number of cells for a column
-pub record IsWindow (base size : ℕ) (band : Band) (start rows : ℕ) (window : Window) : Type 0 where
+pub record IsWindow (base size : ℕ) (band : ColumnBand) (start rows : ℕ) (window : Window) : Type 0 where
   pub address : band.start ≡ base + start
   pub memory : start + band.pitch * (band.lines * rows) ≤ size
   pub below : window.top + window.height ≤ rows
@@ -34,14 +34,14 @@ pub record IsWindow (base size : ℕ) (band : Band) (start rows : ℕ) (window :
   pub wide : 0 < band.pitch
   pub high : 0 < band.lines
 
-filled_small : (filling : Filling) (i : ℕ) → filling.even < 256 → filling.odd < 256 → filling_byte filling i < 256
+filled_small : (filling : AlternatingBytes) (i : ℕ) → filling.even < 256 → filling.odd < 256 → filling_byte filling i < 256
 filled_small filling i e o = by_test (i % 2 == 0)
   where
     by_test : (b : Bool) → (if b then filling.even else filling.odd) < 256
     by_test true = e
     by_test false = o
 
-module _ (S X : Type 0) (m : BusMeaning S) (base size : ℕ) (band : Band) (start rows : ℕ) (window : Window) (w : IsWindow base size band start rows window) where
+module _ (S X : Type 0) (m : BusMeaning S) (base size : ℕ) (band : ColumnBand) (start rows : ℕ) (window : Window) (w : IsWindow base size band start rows window) where
   -- a cell of a line, and a cell of a row
   abbrev pub Column : Type 0
   Column = Turn (λ _. Unit {0}) 0 band.width
@@ -162,7 +162,7 @@ module _ (S X : Type 0) (m : BusMeaning S) (base size : ℕ) (band : Band) (star
   -- ---- rows are filled, on a machine where storing a byte changes one cell
 
   module _ (R : S → (ℕ → X) → Type 0) (made : ℕ → X → X) (stored : (j v : ℕ) (s : S) (f : ℕ → X) → j < size → v < 256 → R s f →
-      R (run m (put (base + j) v) s).0 (set_cell f j (made v (f j)))) (filling : Filling) (even : filling.even < 256) (odd : filling.odd < 256) where
+      R (run m (put (base + j) v) s).0 (set_cell f j (made v (f j)))) (filling : AlternatingBytes) (even : filling.even < 256) (odd : filling.odd < 256) where
     line_filled : (row line : ℕ) (s : S) (f : ℕ → X) → row < rows → line < band.lines → R s f →
         Leaves S X R (run m (fill_line band filling row line) s).0 (Edited X Column (λ h. place row line h.turn) (λ h x. made (filling_byte filling h.turn) x)
         f)

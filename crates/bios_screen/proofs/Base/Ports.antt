@@ -5,7 +5,7 @@ use Rattle.vga_card.specs.declared.port.Port.TheVariants.{CrtcIndex, CrtcData, I
 use Rattle.vga_card.specs.Port.{port_of, crtc_port_of}
 use Rattle.vga_card.specs.Cycles.{out_at, inp_at, out_reached, inp_reached}
 use Rattle.bios_services.specs.Plan.{out}
-use Rattle.bios_services.specs.Cycles.{write_crtc, expect_index}
+use Rattle.bios_services.specs.Cycles.{write_crtc, reset_attribute_flip_flop}
 use Rattle.bios_screen.proofs.Base.Plans.{run_bind}
 
 -- each of the three port numbers reaches its register
@@ -29,10 +29,10 @@ crtc_runs c i v =
     ap (λ p. (run card_meaning (out (crtc_port c.misc + 1) v) (out_at c p i).0).0) (reached c.misc).index
     ∙ ap (λ p. (out_at (out_at c (Some CrtcIndex) i).0 p v).0) (reached c.misc).value
 
--- after `expect_index` the attribute controller expects an index, and the plan goes on
-pub expected_runs : {A : Type 0} (rest : Plan A) (c : CardState) → run card_meaning (expect_index (crtc_port c.misc) >> rest) c
+-- after `reset_attribute_flip_flop` the attribute controller expects an index, and the plan goes on
+pub expected_runs : {A : Type 0} (rest : Plan A) (c : CardState) → run card_meaning (reset_attribute_flip_flop (crtc_port c.misc) >> rest) c
     ≡ run card_meaning rest (record c { attr = record c.attr { is_data = false } })
 unfolding inp_reached
 expected_runs rest c =
-    run_bind card_meaning (expect_index (crtc_port c.misc)) (λ _. rest) c
+    run_bind card_meaning (reset_attribute_flip_flop (crtc_port c.misc)) (λ _. rest) c
     ∙ ap (λ p. run card_meaning rest (inp_at c p).0) (reached c.misc).status

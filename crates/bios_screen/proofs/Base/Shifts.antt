@@ -2,8 +2,8 @@
 use Rattle.std.proofs.Common.{◌≡◌, ◌≢◌, ℕ, ◌+◌, ◌-◌, ◌*◌, ◌/◌, ◌%◌, ◌<◌, ◌≤◌, refl, sym, ap, ◌∙◌, subst, arith, Bool, true, false}
 use Rattle.std.proofs.Math.Nat.{mod-lt, div-lt_iff_lt-mul, le-div_iff_mul-le}
 use Rattle.vga_card.specs.Bus.{BusMeaning}
-use Rattle.bios_screen.proofs.Prelude.{Band, Direction, Up, Down, Window, run, put, get, ◌>>◌}
-use Rattle.bios_services.specs.declared.filling.Filling.{Filling}
+use Rattle.bios_screen.proofs.Prelude.{ColumnBand, Direction, Up, Down, Window, run, put, get, ◌>>◌}
+use Rattle.bios_services.specs.declared.filling.AlternatingBytes.{AlternatingBytes}
 use Rattle.bios_services.specs.Bands.{filling_byte, move_rows, fill_rows}
 use Rattle.bios_services.specs.Kinds.{column_bytes}
 use Rattle.bios_services.specs.Plan.{move}
@@ -18,7 +18,7 @@ use Rattle.bios_screen.proofs.Base.Bands.{IsWindow, some_bytes}
 use Rattle.bios_screen.proofs.Base.Bands as bands
 
 -- W cells make a line, and H lines a row; the window has `width` cells of each line from `left` on
-module _ (X : Type 0) (base size : ℕ) (band : Band) (start rows : ℕ) (window : Window) (w : IsWindow base size band start rows window) where
+module _ (X : Type 0) (base size : ℕ) (band : ColumnBand) (start rows : ℕ) (window : Window) (w : IsWindow base size band start rows window) where
   abbrev W : ℕ
   W = band.pitch
 
@@ -198,10 +198,10 @@ pub record IsRead (S : Type 0) (m : BusMeaning S) (R : S → (ℕ → ℕ) → T
   pub small : v < 256
 
 -- if cells are bytes, filling makes new rows, whatever was there
-module _ (S : Type 0) (m : BusMeaning S) (base size : ℕ) (band : Band) (start rows : ℕ) (window : Window) (w : IsWindow base size band start rows window)
+module _ (S : Type 0) (m : BusMeaning S) (base size : ℕ) (band : ColumnBand) (start rows : ℕ) (window : Window) (w : IsWindow base size band start rows window)
     (R : S → (ℕ → ℕ) → Type 0) (read : (i : ℕ) (s : S) (f : ℕ → ℕ) → i < size → R s f → IsRead S m R (base + i) s f (f i))
     (stored : (j v : ℕ) (s : S) (f : ℕ → ℕ) → j < size → v < 256 → R s f → R (run m (put (base + j) v) s).0 (set_cell f j v))
-    (filling : Filling) (even : filling.even < 256) (odd : filling.odd < 256) where
+    (filling : AlternatingBytes) (even : filling.even < 256) (odd : filling.odd < 256) where
   moved : (i j : ℕ) (s : S) (f : ℕ → ℕ) → i < size → j < size → R s f → R (run m (move (base + i) (base + j)) s).0 (set_cell f j (f i))
   moved i j s f li lj t =
       let x = read i s f li t in

@@ -5,7 +5,7 @@ use Rattle.std.proofs.lemmas.Bool.Decides.{nat_tests}
 use Rattle.bios_screen.proofs.Prelude.{FontSet, Colouring, Screen}
 use Rattle.bios_services.specs.Cursor.{row_of, column_of}
 use Rattle.bios_services.specs.Teletype.{line_start}
-use Rattle.bios_screen.specs.Step.{last_row_attribute, page_up, after_line_feed, after_cursor_advance, put_character, type_character}
+use Rattle.bios_screen.specs.Step.{last_row_attribute, page_up, after_line_feed, screen_and_next_position, put_character, type_character}
 use Rattle.bios_screen.proofs.Base.Tests.{lt_is}
 
 -- a position lies on a page with these numbers of rows and columns
@@ -50,13 +50,13 @@ module _ (rows columns : ℕ) (narrow : columns ≤ 80) where
       by_test false t = subst (Inside rows columns) (sym (ap either t)) i
 
   advanced_inside : (s : Screen) (p place : ℕ) → s.layout.rows ≡ rows → s.layout.columns ≡ columns → Inside rows columns place →
-      Inside rows columns (after_cursor_advance s p place).1
+      Inside rows columns (screen_and_next_position s p place).1
   advanced_inside s p place e w i = by_test (nat_lt (column_of place + 1) s.layout.columns) refl
     where
       either : Bool → ℕ
       either b = let x : Screen × ℕ = (if b then (s, place + 1) else ((after_line_feed s p place).0, line_start (after_line_feed s p place).1)) in x.1
 
-      by_test : (b : Bool) → nat_lt (column_of place + 1) s.layout.columns ≡ b → Inside rows columns (after_cursor_advance s p place).1
+      by_test : (b : Bool) → nat_lt (column_of place + 1) s.layout.columns ≡ b → Inside rows columns (screen_and_next_position s p place).1
       by_test true t = let a = lt_is (column_of place + 1) s.layout.columns t in subst (Inside rows columns) (sym (ap either t))
           (next_inside place (omega arith) i)
       by_test false t = subst (Inside rows columns) (sym (ap either t)) (start_inside (after_line_feed s p place).1 (fed_inside s p place e i))
@@ -70,7 +70,7 @@ module _ (rows columns : ℕ) (narrow : columns ≤ 80) where
       back = if column_of place == 0 then place else place - 1
 
       on : Screen × ℕ
-      on = after_cursor_advance (put_character fonts s p place v colouring) p place
+      on = screen_and_next_position (put_character fonts s p place v colouring) p place
 
       by_tests : (a b g f : Bool) → Inside rows columns (let x : Screen × ℕ = (if a then (s, place) else if b then (s, back) else if g then after_line_feed s p place
           else if f then (s, line_start place) else on) in x.1)

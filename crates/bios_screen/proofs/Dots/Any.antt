@@ -3,7 +3,7 @@ use Rattle.std.proofs.Common.{◌≡◌, ℕ, ◌+◌, ◌*◌, ◌<◌, refl, s
 use Rattle.std.specs.Prelude.{if◌then◌else◌, Some}
 use Rattle.bios_screen.proofs.Prelude.{first_counter, IsCard, CardState, ModeRow, bytes_320_by_200, BiosData, start_address, Screen, pixel_screen, shown}
 use Rattle.bios_screen.proofs.Prelude.{Raster, DrawsDotColours}
-use Rattle.bios_screen.specs.Picture.{text_dot_colour, pixel_dot_colour, dot_at, pixel_width, picture_width, picture_height}
+use Rattle.bios_screen.specs.Picture.{text_dot_colour, pixel_dot_colour, dot_colour_at, pixel_width, picture_width, picture_height}
 use Rattle.bios_screen.specs.Raster.{HasRaster, shown_dots_of_line, all_dots_of_line as dots_of_line}
 use Rattle.bios_screen.specs.Drawing.{dots_a_line, lines_a_frame, columns_of}
 use Rattle.bios_screen.proofs.Modes.TextModes.{Display, number_of as text_number}
@@ -28,7 +28,7 @@ pub record HasFrames (c : CardState) (d : BiosData) (s : Screen) : Type 0 where
   pub wide : shown_dots_of_line raster ≡ picture_width s
   pub high : raster.height ≡ picture_height s
   pub page : s.page < s.layout.pages
-  pub draws : (g : ℕ) → g < s.layout.pages → DrawsDotColours raster c (start_address d g) (dot_at s g)
+  pub draws : (g : ℕ) → g < s.layout.pages → DrawsDotColours raster c (start_address d g) (dot_colour_at s g)
   pub first : first_counter c.crtc.registers ≡ start_address d s.page
 
 -- ---- text
@@ -50,7 +50,7 @@ text_frames c d h z =
       wide = rw (t.is_text, h.has.columns) (omega arith);
       high = rw (t.is_text, h.has.height, h.has.last_row) refl;
       page = h.has.page;
-      draws = λ g lg. subst (λ a. DrawsDotColours (text_raster row) c a (dot_at s g)) (sym (text.start_is c d h z g)) (text.draws c d h z g lg);
+      draws = λ g lg. subst (λ a. DrawsDotColours (text_raster row) c a (dot_colour_at s g)) (sym (text.start_is c d h z g)) (text.draws c d h z g lg);
       first = text.first_is c d h z;
     }
 
@@ -69,7 +69,7 @@ pixel_frames row c d t draws =
       wide = rw (t.text, t.has.columns) t.picture.wide;
       high = rw (t.text, t.has.height, t.has.last_row) t.picture.high;
       page = t.has.page;
-      draws = λ g lg. subst (λ a. DrawsDotColours m c a (dot_at s g)) (sym (pixels.start_is row c d t g)) (λ v x i lv lx li.
+      draws = λ g lg. subst (λ a. DrawsDotColours m c a (dot_colour_at s g)) (sym (pixels.start_is row c d t g)) (λ v x i lv lx li.
           draws g lg v x i lv lx li
           ∙ sym (ap (λ b. if b then text_dot_colour s g (x * m.dots + i) v else pixel_dot_colour s g (x * m.dots + i) v) t.text));
       first = pixels.first_is row c d t;

@@ -12,29 +12,29 @@ use Rattle.vga_card.specs.Dots.{character_width, dots_of_frame_so_far, dots_unle
 use Rattle.vga_card.specs.Picture.{lines_of_dots, bytes_of_dots}
 use Rattle.bios_services.specs.declared.glyph_load.GlyphLoad.{GlyphLoad}
 use Rattle.bios_screen.specs.Loaded.{load_refusal_on, load_glyphs}
-use Rattle.bios_screen.specs.Called.{screen_unless}
+use Rattle.bios_screen.specs.Called.{screen_unless_refused}
 use Rattle.bios_screen.specs.Screen.{Layout}
 use Rattle.bios_screen.specs.Raster.{dots_of_frame}
-use Rattle.bios_screen.specs.Drawing.{Drawing, dots_a_frame, is_of_picture, dots_a_line, MayLoad}
-use Rattle.bios_screen.specs.Follows.{BeamIsAt, picture_lines_before, Follows}
+use Rattle.bios_screen.specs.Drawing.{Drawing, dots_a_frame, is_picture_dot, dots_a_line, MayLoadGlyphs}
+use Rattle.bios_screen.specs.Follows.{BeamIsAt, picture_lines_before, CardFollowsDrawing}
 use Rattle.bios_screen.proofs.Dots.Any.{HasFrames, frames_of}
 use Rattle.bios_screen.proofs.Shows.Steady.{same_frames}
 use Rattle.bios_screen.proofs.Shows.CutAlike.{IsCutAs, uncut}
 use Rattle.bios_screen.proofs.Dots.OneDot.{not_zero, is_zero, all_is}
 
 -- whether dot n belongs to the picture depends only on the mode and the layout
-picture_kept : (s t : Screen) → IsCutAs s t → (n : ℕ) → is_of_picture t n ≡ is_of_picture s n
+picture_kept : (s t : Screen) → IsCutAs s t → (n : ℕ) → is_picture_dot t n ≡ is_picture_dot s n
 picture_kept s t same n =
-    ap (λ m. is_of_picture (record t { mode = m }) n) same.mode
-    ∙ ap (λ l. is_of_picture (record s { layout = l }) n) same.layout
+    ap (λ m. is_picture_dot (record t { mode = m }) n) same.mode
+    ∙ ap (λ l. is_picture_dot (record s { layout = l }) n) same.layout
 
 lines_kept : (s t : Screen) → IsCutAs s t → (n : ℕ) → picture_lines_before t n ≡ picture_lines_before s n
 unfolding picture_lines_before
 lines_kept s t same zero = refl
 lines_kept s t same (suc n) =
-    ap (λ l. l ++ (if is_of_picture t n then n / dots_a_line t.mode ∷ [] else [])) (lines_kept s t same n)
+    ap (λ l. l ++ (if is_picture_dot t n then n / dots_a_line t.mode ∷ [] else [])) (lines_kept s t same n)
     ∙ ap (λ v. picture_lines_before s n ++ (if v then n / dots_a_line t.mode ∷ [] else [])) (picture_kept s t same n)
-    ∙ ap (λ m. picture_lines_before s n ++ (if is_of_picture s n then n / dots_a_line m ∷ [] else [])) same.mode
+    ∙ ap (λ m. picture_lines_before s n ++ (if is_picture_dot s n then n / dots_a_line m ∷ [] else [])) same.mode
 
 -- if the frames are the same, an unchanged beam is at the same dot
 at_kept : (c y : CardState) (start n : ℕ) → ((a f k : ℕ) → beam_at_dot_of_frame (character_width c) c.crtc.registers a f k
@@ -45,9 +45,9 @@ at_kept c y start (suc n) same e at = e ∙ at ∙ same start c.crtc.beam.frame 
     ∙ ap (λ (b : Beam). beam_at_dot_of_frame (character_width y) y.crtc.registers start b.frame (suc n)) (sym e)
 
 -- the adapter follows another screen of the same mode and layout; beam and drawn dots stay
-pub screen_follows : (c y : CardState) (d after : BiosData) (b : Drawing) (t : Screen) → Follows c d b → IsCard y → shown y after ≡ Some t →
+pub screen_follows : (c y : CardState) (d after : BiosData) (b : Drawing) (t : Screen) → CardFollowsDrawing c d b → IsCard y → shown y after ≡ Some t →
     y.crtc.beam ≡ c.crtc.beam → y.drawn ≡ c.drawn → IsCutAs b.screen t
-    → Follows y after (record b { screen = t })
+    → CardFollowsDrawing y after (record b { screen = t })
 screen_follows c y d after b t is z shows beam drawn same =
     let fresh_same : dots_of_frame_so_far y ≡ dots_of_frame_so_far c = ap (λ (x : Beam). dots_unless_frame_start x y.drawn) beam ∙ ap (dots_unless_frame_start c.crtc.beam) drawn in
     record {
@@ -95,7 +95,7 @@ some_dots c d s h =
 
 -- at the first dot of a frame, any shown screen is followed
 pub starts : (c : CardState) (d : BiosData) (b : Drawing) → IsCard c → shown c d ≡ Some b.screen → b.dot ≡ 0 → (is_first_dot c.crtc.beam ≡ true) →
-    IsFrameStart c.crtc.beam → Follows c d b
+    IsFrameStart c.crtc.beam → CardFollowsDrawing c d b
 unfolding picture_lines_before bytes_of_dots
 starts c d b z shows e first start =
     let h = frames_of c d b.screen z shows in
@@ -113,27 +113,27 @@ starts c d b z shows e first start =
 -- ---- a load of glyphs
 
 -- the same, with one premise less
-pub begins : (c : CardState) (d : BiosData) (b : Drawing) → IsCard c → shown c d ≡ Some b.screen → b.dot ≡ 0 → IsFrameStart c.crtc.beam → Follows c d b
+pub begins : (c : CardState) (d : BiosData) (b : Drawing) → IsCard c → shown c d ≡ Some b.screen → b.dot ≡ 0 → IsFrameStart c.crtc.beam → CardFollowsDrawing c d b
 begins c d b z shows e start = starts c d b z shows e ((first_dot_starts c.crtc.beam).1 start) start
 
 -- if the drawing is at dot 0, the beam is at the first dot of a frame
-pub start_of : (c : CardState) (d : BiosData) (b : Drawing) → Follows c d b → b.dot ≡ 0 → IsFrameStart c.crtc.beam
+pub start_of : (c : CardState) (d : BiosData) (b : Drawing) → CardFollowsDrawing c d b → b.dot ≡ 0 → IsFrameStart c.crtc.beam
 start_of c d b is e = subst (λ n. BeamIsAt c (start_address d (if n == 0 then b.screen.page else b.page)) n) e is.at
 
 -- a refused call keeps the mode and the layout
-refused_cut : (why : Option Refusal) (s t : Screen) → why ≢ None → IsCutAs s (screen_unless why s t)
+refused_cut : (why : Option Refusal) (s t : Screen) → why ≢ None → IsCutAs s (screen_unless_refused why s t)
 refused_cut None s t some = absurd (some refl)
 refused_cut (Some why) s t some = uncut s
 
 -- the screen after a load, also if the load is refused
 abbrev pub loaded_on : FontSet → Screen → GlyphLoad → List ℕ → Screen
-loaded_on fonts s load block = screen_unless (load_refusal_on s load (length block)) s (load_glyphs fonts s load block)
+loaded_on fonts s load block = screen_unless_refused (load_refusal_on s load (length block)) s (load_glyphs fonts s load block)
 
 -- the adapter follows that screen
 pub load_follows : (fonts : FontSet) (load : GlyphLoad) (block : List ℕ) (c y : CardState) (d after : BiosData) (b : Drawing) →
-    MayLoad b load (length block) → Follows c d b → IsCard y
+    MayLoadGlyphs b load (length block) → CardFollowsDrawing c d b → IsCard y
     → shown y after ≡ Some (loaded_on fonts b.screen load block) → y.crtc.beam ≡ c.crtc.beam → y.drawn ≡ c.drawn →
-    Follows y after (record b { screen = loaded_on fonts b.screen load block })
+    CardFollowsDrawing y after (record b { screen = loaded_on fonts b.screen load block })
 load_follows fonts load block c y d after b (inl refused) is z shows beam drawn =
     screen_follows c y d after b _ is z shows beam drawn (refused_cut (load_refusal_on b.screen load (length block)) b.screen
     (load_glyphs fonts b.screen load block) refused)

@@ -4,7 +4,7 @@ use Rattle.std.specs.Prelude.{◌==◌, ◌&&◌, if◌then◌else◌, slice_ind
 use Rattle.std.specs.Str.{bytes_eq}
 use Rattle.std.proofs.lemmas.Slice.Eq.{bytes_eq-Decides}
 use Rattle.std.proofs.lemmas.Nat.{and_mask}
-use Rattle.bios_screen.proofs.Prelude.{is_set, CrtcState, is_palette_shown, IsCard, CardState, ModeRow, BiosData, shows_attribute, colour_by_palette}
+use Rattle.bios_screen.proofs.Prelude.{is_set, CrtcState, is_palette_shown, IsCard, CardState, ModeRow, BiosData, has_attribute_registers_of_mode, colour_by_palette}
 use Rattle.vga_bits.specs.Bits.{field}
 use Rattle.vga_bits.proofs.BitLemmas.{is_set_and}
 use Rattle.vga_host.specs.Sequencer.{is_screen_off}
@@ -30,7 +30,7 @@ pub record HasAttribute (row : ModeRow) (a : AttrState) : Type 0 where
   pub panning : slice_index a.registers 0x13 ≡ slice_index row.attribute 0x13
   pub select : slice_index a.registers 0x14 ≡ slice_index row.attribute 0x14
 
-pub attribute_is : (row : ModeRow) (a : AttrState) → IsAttr a → length row.attribute ≡ 21 → shows_attribute row a ≡ true → HasAttribute row a
+pub attribute_is : (row : ModeRow) (a : AttrState) → IsAttr a → length row.attribute ≡ 21 → has_attribute_registers_of_mode row a ≡ true → HasAttribute row a
 attribute_is row a z size h =
     let first = both_true (is_palette_shown a) _ h in
     let second = both_true (bit_and (slice_index a.registers 0x10) 0xF7 == bit_and (slice_index row.attribute 0x10) 0xF7)

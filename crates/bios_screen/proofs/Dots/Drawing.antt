@@ -6,9 +6,9 @@ use Rattle.std.proofs.lemmas.Bool.Decides.{nat_tests}
 use Rattle.std.proofs.lemmas.Nat.{div-add-mod', div_below, mod_below, row_fits, mul-add-lt, mul-le}
 use Rattle.bios_screen.proofs.Prelude.{Beam, CrtcState, first_counter, regular_beam, CardState, Raster, DrawsDotColours}
 use Rattle.vga_crtc.specs.Fields.{horizontal_display_end, vertical_display_end}
-use Rattle.vga_crtc.specs.Beam.{characters, lines, with_frame_start_taken, after_start, after_dots, dots as beam_dots}
+use Rattle.vga_crtc.specs.Beam.{characters, lines, with_frame_start_taken, crtc_with_start_taken, after_dots, dots as beam_dots}
 use Rattle.vga_crtc.specs.Status.{is_display}
-use Rattle.vga_crtc.specs.Raster.{dots_in_frame, IsFrameStart, IsRegularFrame, beam_at_dot_of_frame}
+use Rattle.vga_crtc.specs.Raster.{dots_to_frame_end, IsFrameStart, IsRegularFrame, beam_at_dot_of_frame}
 use Rattle.vga_crtc.proofs.Counts.{frame_left as dots_left}
 use Rattle.vga_crtc.proofs.Dots.{dots_none}
 use Rattle.vga_crtc.proofs.Ends.{same_frame_count, frame_ends as frames_end}
@@ -17,7 +17,7 @@ use Rattle.vga_crtc.proofs.Moves.{first_dot_starts, started_place}
 use Rattle.vga_dots.specs.Colour.{dot_colour}
 use Rattle.vga_card.specs.Picture.{Dot, lines_of_dots, bytes_of_dots}
 use Rattle.vga_card.specs.Dots.{character_width, dots_of_frame_so_far, display_dot, dots}
-use Rattle.vga_card.specs.Frames.{frame_count, frame, concatenated_dots, display_dot_at}
+use Rattle.vga_card.specs.Frames.{card_dots_to_frame_end, frame, concatenated_dots, display_dot_at}
 use Rattle.vga_card.proofs.FrameLemmas.{dots_keep, frame_ends_first, dots_are_places, regular_shape}
 use Rattle.bios_screen.specs.Raster.{IsRaster, raster_of, HasRaster, Colours, shown_dots_of_line, all_dots_of_line, dots_of_frame, colour_at_beam_place, IsAtDot, picture_dot}
 use Rattle.bios_screen.specs.Raster.{PictureDotsDrawn, GoesOnWithinFrame, FrameEnded, IsPictureOf, picture_bytes, FrameDrawn}
@@ -38,7 +38,7 @@ abbrev seen : CardState → Beam → List Dot
 seen c b = if is_display c.crtc.registers b then record { line = b.line; colour = dot_colour c.host (beamed c.crtc b) c.attr c.dac } ∷ [] else []
 
 seen_at : (c : CardState) (n : ℕ) → display_dot_at c n ≡ seen c (with_frame_start_taken c.crtc.registers (beam_dots (character_width c) c.crtc.registers n c.crtc.beam))
-unfolding display_dot after_start after_dots
+unfolding display_dot crtc_with_start_taken after_dots
 seen_at c n = refl
 
 -- a character is shown exactly if its dots are
@@ -73,12 +73,12 @@ beam_on : (c : CardState) (start n i : ℕ) → IsRegularFrame c.crtc.registers 
 unfolding dots_of_frame
 beam_on c start n i regular at l = started_goes_on (character_width c) c.crtc.registers c.crtc.beam start c.crtc.beam.frame n i regular (wide _) l at.beam
 
-frame_left : (c : CardState) (start n : ℕ) → IsAtDot (raster_of c) c start n → n + frame_count c ≡ dots_of_frame (raster_of c)
+frame_left : (c : CardState) (start n : ℕ) → IsAtDot (raster_of c) c start n → n + card_dots_to_frame_end c ≡ dots_of_frame (raster_of c)
 unfolding dots_of_frame
 frame_left c start n at =
     let w = character_width c in
     let r = c.crtc.registers in
-    ap (λ k. n + k) (sym (same_frame_count w r c.crtc.beam) ∙ ap (dots_in_frame w r) at.beam)
+    ap (λ k. n + k) (sym (same_frame_count w r c.crtc.beam) ∙ ap (dots_to_frame_end w r) at.beam)
     ∙ dots_left w r start c.crtc.beam.frame n (wide _) at.within
 
 module _ (c : CardState) (start : ℕ) (f : Colours) (draws : DrawsDotColours (raster_of c) c start f) where
@@ -132,10 +132,10 @@ module _ (c : CardState) (start : ℕ) (f : Colours) (draws : DrawsDotColours (r
   unfolding after_dots
   frame_ended n regular at =
       let total = frame_left c start n at in
-      let kept = dots_keep (frame_count c) c in
+      let kept = dots_keep (card_dots_to_frame_end c) c in
       record {
         count = total;
-        drawn = places_drawn n regular at (frame_count c) (frame_ends_first frames_end c).some (omega (arith, total));
+        drawn = places_drawn n regular at (card_dots_to_frame_end c) (frame_ends_first frames_end c).some (omega (arith, total));
         leaves = kept ∙ ap (λ (b : Beam). record c { crtc = record c.crtc { beam = b }; drawn = (frame c).drawn })
             (sym (ap (λ (s : CardState). s.crtc.beam) kept) ∙ (frame_ends_first frames_end c).next);
       }
@@ -204,12 +204,12 @@ pub frame_is_picture : (m : Raster) (c : CardState) (f : Colours) → HasRaster 
     FrameDrawn m c f
 frame_is_picture m c f has start draws =
     let ended = frame_is_ended m c (first_counter c.crtc.registers) 0 f has (starts_at_0 m c has start) draws in
-    let none : 0 + frame_count c ≡ frame_count c = omega arith in
-    let all : frame_count c ≡ dots_of_frame m = sym none ∙ ended.count in
+    let none : 0 + card_dots_to_frame_end c ≡ card_dots_to_frame_end c = omega arith in
+    let all : card_dots_to_frame_end c ≡ dots_of_frame m = sym none ∙ ended.count in
     record {
       picture = all_are_picture m (frame c).drawn f has.raster (ended.drawn ∙ ap (λ l. l
-          ++ concatenated_dots (λ i. picture_dot m f (0 + i)) (frame_count c)) (nothing_yet c start)
-          ∙ same_collected (λ i. picture_dot m f (0 + i)) (picture_dot m f) (frame_count c) (λ i l. let z : 0 + i ≡ i = omega arith in ap (picture_dot m f) z)
+          ++ concatenated_dots (λ i. picture_dot m f (0 + i)) (card_dots_to_frame_end c)) (nothing_yet c start)
+          ∙ same_collected (λ i. picture_dot m f (0 + i)) (picture_dot m f) (card_dots_to_frame_end c) (λ i l. let z : 0 + i ≡ i = omega arith in ap (picture_dot m f) z)
           ∙ ap (concatenated_dots (picture_dot m f)) all);
       leaves = ended.leaves;
     }

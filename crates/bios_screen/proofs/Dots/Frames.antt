@@ -7,7 +7,7 @@ use Rattle.vga_host.specs.Sequencer.{character_width as host_width}
 use Rattle.vga_crtc.specs.Raster.{IsRegularFrame}
 use Rattle.vga_attr.specs.Fields.{is_panning_reset, panning}
 use Rattle.vga_dots.specs.declared.source_dot.SourceDot.{SourceDot}
-use Rattle.vga_dots.specs.SourceDot.{panning_shift, counter_of, source_at, source_dot, fetch_address}
+use Rattle.vga_dots.specs.SourceDot.{panning_shift, counter_of, source_dot_of_number, source_dot, fetch_address}
 use Rattle.bios_screen.specs.Shown.{cursor_location_shown}
 use Rattle.bios_screen.specs.Raster.{HasRaster}
 use Rattle.bios_screen.proofs.Base.Tests.{lt_test}
@@ -66,9 +66,9 @@ module _ (m : Raster) (row : ModeRow) (f : IsFrame m row) (c : CardState) (d : B
   source_is z b unsplit l =
       let at : CrtcState = record c.crtc { beam = b } in
       let none : b.dot + 0 ≡ b.dot = omega arith in
-      ap (λ p. source_at at (host_width c.host) (b.dot + p)) (panned_is z b unsplit)
-      ∙ ap (source_at at (host_width c.host)) none
-      ∙ ap (λ (s : Setting). source_at at (if is_set (slice_index s.seq 1) 0 then 8 else 9) b.dot) set
-      ∙ ap (λ w. source_at at w b.dot) f.clock
+      ap (λ p. source_dot_of_number at (host_width c.host) (b.dot + p)) (panned_is z b unsplit)
+      ∙ ap (source_dot_of_number at (host_width c.host)) none
+      ∙ ap (λ (s : Setting). source_dot_of_number at (if is_set (slice_index s.seq 1) 0 then 8 else 9) b.dot) set
+      ∙ ap (λ w. source_dot_of_number at w b.dot) f.clock
       ∙ ap (λ w. if w then (let q : SourceDot = record { counter = counter_of at b.character; dot = b.dot } in q)
       else record { counter = counter_of at (b.character + 1); dot = b.dot - m.dots }) (lt_test b.dot m.dots l)

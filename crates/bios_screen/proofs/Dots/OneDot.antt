@@ -13,21 +13,21 @@ use Rattle.vga_crtc.specs.Beam.{is_first_dot, with_frame_start_taken, after_dot,
 use Rattle.vga_crtc.specs.Raster.{IsFrameStart, beam_at_dot_of_frame}
 use Rattle.vga_card.specs.Picture.{Dot, line_of_dot, lines_of_dots, lines_by_widths, bytes_of_dots}
 use Rattle.vga_card.specs.Dots.{character_width, dots_of_frame_so_far, dot, dots}
-use Rattle.vga_card.specs.Frames.{frame_count, frame, concatenated_dots}
+use Rattle.vga_card.specs.Frames.{card_dots_to_frame_end, frame, concatenated_dots}
 use Rattle.vga_crtc.proofs.Ends.{frame_ends as frames_end}
 use Rattle.vga_crtc.proofs.Frames.{past_start, beam_goes_on}
 use Rattle.vga_crtc.proofs.Moves.{first_dot_starts}
 use Rattle.vga_card.proofs.BoundLemmas.{dots_bounds}
 use Rattle.vga_card.proofs.DotLemmas.{dots_split}
 use Rattle.vga_card.proofs.FrameLemmas.{frame_ends_first, regular_shape}
-use Rattle.bios_screen.specs.Picture.{dot_at, picture_width, picture_height, next_frame}
+use Rattle.bios_screen.specs.Picture.{dot_colour_at, picture_width, picture_height, next_frame}
 use Rattle.bios_screen.specs.Raster.{Colours, raster_of, HasRaster, shown_dots_of_line, all_dots_of_line as dots_of_line, dots_of_frame, picture_dot, IsAtDot as AtDot}
 use Rattle.bios_screen.specs.Raster.{IsDotsFurther, FrameEnded}
 use Rattle.bios_screen.proofs.Base.DotLists.{bytes_append, no_bytes, bytes_joined, same_joined, whole_picture, picture_lines}
 use Rattle.bios_screen.proofs.Dots.Drawing.{wide, dots_are_picture, dots_go_on, frame_is_ended, starts_at_0}
-use Rattle.bios_screen.specs.Drawing.{dots_a_line, lines_a_frame, dots_a_frame, Drawing, page_shown, picture_so_far, is_of_picture, colour_of_frame_dot, is_last_dot_of_frame, take_dot}
+use Rattle.bios_screen.specs.Drawing.{dots_a_line, lines_a_frame, dots_a_frame, Drawing, page_shown, picture_so_far, is_picture_dot, colour_of_frame_dot, is_last_dot_of_frame, take_dot}
 use Rattle.bios_screen.specs.Drawing.{take_dots, take_frame}
-use Rattle.bios_screen.specs.Follows.{BeamIsAt, DotsJoinPicture, picture_lines_before, Follows, EndsFrame}
+use Rattle.bios_screen.specs.Follows.{BeamIsAt, DotsJoinPicture, picture_lines_before, CardFollowsDrawing, EndsFrame}
 use Rattle.bios_screen.proofs.Dots.Any.{HasFrames, frames_of}
 use Rattle.bios_screen.proofs.Shows.Steady.{shown_moved, frame_shown}
 
@@ -133,11 +133,11 @@ module _ (c : CardState) (d : BiosData) (s : Screen) (h : HasFrames c d s) where
   dot_is : (f : Colours) (n : ℕ) → picture_dot h.raster f n ≡ dot_by (dots_a_line s.mode) (picture_width s) (picture_height s) f n
   dot_is f n = rw (h.line, h.wide, h.high) refl
 
-  dot_line : (f : Colours) (n : ℕ) → lines_of_dots (picture_dot h.raster f n) ≡ (if is_of_picture s n then n / dots_a_line s.mode ∷ [] else [])
-  dot_line f n = ap lines_of_dots (dot_is f n) ∙ lines_if (is_of_picture s n) _
+  dot_line : (f : Colours) (n : ℕ) → lines_of_dots (picture_dot h.raster f n) ≡ (if is_picture_dot s n then n / dots_a_line s.mode ∷ [] else [])
+  dot_line f n = ap lines_of_dots (dot_is f n) ∙ lines_if (is_picture_dot s n) _
 
-  dot_bytes : (g n : ℕ) → bytes_of_dots (picture_dot h.raster (dot_at s g) n) ≡ colour_of_frame_dot s g n
-  dot_bytes g n = ap bytes_of_dots (dot_is (dot_at s g) n) ∙ bytes_if (is_of_picture s n) _
+  dot_bytes : (g n : ℕ) → bytes_of_dots (picture_dot h.raster (dot_colour_at s g) n) ≡ colour_of_frame_dot s g n
+  dot_bytes g n = ap bytes_of_dots (dot_is (dot_colour_at s g) n) ∙ bytes_if (is_picture_dot s n) _
 
   pub all_is : dots_of_frame h.raster ≡ dots_a_frame s.mode
   unfolding dots_of_frame dots_a_frame
@@ -148,7 +148,7 @@ module _ (c : CardState) (d : BiosData) (s : Screen) (h : HasFrames c d s) where
   unfolding picture_lines_before
   lines_collected f zero = refl
   lines_collected f (suc n) =
-      ap (λ l. l ++ (if is_of_picture s n then n / dots_a_line s.mode ∷ [] else [])) (lines_collected f n)
+      ap (λ l. l ++ (if is_picture_dot s n then n / dots_a_line s.mode ∷ [] else [])) (lines_collected f n)
       ∙ ap (λ l. lines_of_dots (concatenated_dots (picture_dot h.raster f) n) ++ l) (sym (dot_line f n))
       ∙ sym (map-append line_of_dot (concatenated_dots (picture_dot h.raster f) n) (picture_dot h.raster f n))
 
@@ -156,7 +156,7 @@ module _ (c : CardState) (d : BiosData) (s : Screen) (h : HasFrames c d s) where
   unfolding dots_of_frame
   all_lines =
       let m = h.raster in
-      let f = dot_at s 0 in
+      let f = dot_colour_at s 0 in
       let some = h.has.raster.some_dots in
       let narrow : shown_dots_of_line m ≤ dots_of_line m = mul-le m.columns m.dots m.characters m.dots h.has.raster.narrow (omega arith) in
       ap (picture_lines_before s) (sym all_is)
@@ -183,7 +183,7 @@ pub rows_join : (c : CardState) (d : BiosData) (s : Screen) (page n : ℕ) → I
 rows_join c d s page n z shows lp within first at j some few =
     let h = frames_of c d s z shows in
     let m = h.raster in
-    let f = dot_at s page in
+    let f = dot_colour_at s page in
     let all = all_is c d s h in
     let here = at_of m c (start_address d page) n h.has (omega arith) (λ e. h.first ∙ ap (start_address d) (sym (first e))) at in
     let one : ℕ → List Dot = λ i. picture_dot m f (n + i) in
@@ -196,9 +196,9 @@ rows_join c d s page n z shows lp within first at j some few =
 pub record DotTaken (c : CardState) (d : BiosData) (b : Drawing) : Type 0 where
   pub lines : lines_of_dots (dot c).drawn ≡ picture_lines_before b.screen (suc b.dot)
   pub bytes : bytes_of_dots (dot c).drawn ≡ (take_dot b).picture
-  pub follows : Follows (dot c) d (take_dot b)
+  pub follows : CardFollowsDrawing (dot c) d (take_dot b)
 
-module _ (c : CardState) (d : BiosData) (b : Drawing) (z : IsCard c) (is : Follows c d b) where
+module _ (c : CardState) (d : BiosData) (b : Drawing) (z : IsCard c) (is : CardFollowsDrawing c d b) where
   abbrev s : Screen
   s = b.screen
 
@@ -223,12 +223,12 @@ module _ (c : CardState) (d : BiosData) (b : Drawing) (z : IsCard c) (is : Follo
   at : AtDot h.raster c start n
   at = at_of h.raster c start n h.has within begins is.at
 
-  ended : FrameEnded h.raster c n (dot_at s g)
-  ended = frame_is_ended h.raster c start n (dot_at s g) h.has at (h.draws g is.page)
+  ended : FrameEnded h.raster c n (dot_colour_at s g)
+  ended = frame_is_ended h.raster c start n (dot_colour_at s g) h.has at (h.draws g is.page)
 
-  drawn_is : (dot c).drawn ≡ dots_of_frame_so_far c ++ picture_dot h.raster (dot_at s g) n
+  drawn_is : (dot c).drawn ≡ dots_of_frame_so_far c ++ picture_dot h.raster (dot_colour_at s g) n
   drawn_is =
-      let f = dot_at s g in
+      let f = dot_colour_at s g in
       let none : n + 0 ≡ n = omega arith in
       let l = within in
       ap (λ (x : CardState). x.drawn) (sym (dot_is_one c))
@@ -238,14 +238,14 @@ module _ (c : CardState) (d : BiosData) (b : Drawing) (z : IsCard c) (is : Follo
   lines_are : lines_of_dots (dot c).drawn ≡ picture_lines_before s (suc n)
   unfolding picture_lines_before
   lines_are =
-      let one = picture_dot h.raster (dot_at s g) n in
+      let one = picture_dot h.raster (dot_colour_at s g) n in
       ap lines_of_dots drawn_is ∙ map-append line_of_dot (dots_of_frame_so_far c) one
       ∙ ap (λ l. l ++ lines_of_dots one) is.lines
-      ∙ ap (λ l. picture_lines_before s n ++ l) (dot_line c d s h (dot_at s g) n)
+      ∙ ap (λ l. picture_lines_before s n ++ l) (dot_line c d s h (dot_colour_at s g) n)
 
   bytes_are : bytes_of_dots (dot c).drawn ≡ picture_so_far b ++ colour_of_frame_dot s g n
   bytes_are =
-      let one = picture_dot h.raster (dot_at s g) n in
+      let one = picture_dot h.raster (dot_colour_at s g) n in
       ap bytes_of_dots drawn_is ∙ bytes_append (dots_of_frame_so_far c) one
       ∙ ap (λ l. l ++ bytes_of_dots one) is.bytes
       ∙ ap (λ l. picture_so_far b ++ l) (dot_bytes c d s h g n)
@@ -285,7 +285,7 @@ module _ (c : CardState) (d : BiosData) (b : Drawing) (z : IsCard c) (is : Follo
     unfolding dot after_dot
     at_next = moved ∙ ap (λ f. beam_at_dot_of_frame (character_width c) c.crtc.registers start f (suc n)) (sym frame_stays)
 
-    follows_on : Follows (dot c) d (onward b)
+    follows_on : CardFollowsDrawing (dot c) d (onward b)
     follows_on = record {
       shows = ap (λ (x : CardState). shown x d) keeps ∙ shown_moved c d s (dot c).crtc.beam (dot c).drawn is.shows
           ∙ ap (λ f. Some (record s { frame = f })) (frame_stays ∙ sym (frame_shown c d s is.shows));
@@ -303,7 +303,7 @@ module _ (c : CardState) (d : BiosData) (b : Drawing) (z : IsCard c) (is : Follo
     ends_here =
         let count = ended.count in
         let all = all_is c d s h in
-        let one : frame_count c ≡ 1 = omega arith in
+        let one : card_dots_to_frame_end c ≡ 1 = omega arith in
         ap (λ k. dots k c) one ∙ dot_is_one c
 
     leaves : dot c ≡ record c { crtc = record c.crtc { beam = first_dot ((c.crtc.beam.frame + 1) % 32) }; drawn = (dot c).drawn }
@@ -316,7 +316,7 @@ module _ (c : CardState) (d : BiosData) (b : Drawing) (z : IsCard c) (is : Follo
     nothing : dots_of_frame_so_far (dot c) ≡ []
     nothing = ap (λ v. if v then [] else (dot c).drawn) ((first_dot_starts (dot c).crtc.beam).1 starts)
 
-    follows_renewed : Follows (dot c) d (renewed b)
+    follows_renewed : CardFollowsDrawing (dot c) d (renewed b)
     follows_renewed = record {
       shows = ap (λ (x : CardState). shown x d) leaves ∙ shown_moved c d s (first_dot ((c.crtc.beam.frame + 1) % 32)) (dot c).drawn is.shows
           ∙ ap (λ f. Some (record s { frame = (f + 1) % 32 })) (sym (frame_shown c d s is.shows));
@@ -333,22 +333,22 @@ module _ (c : CardState) (d : BiosData) (b : Drawing) (z : IsCard c) (is : Follo
     lines = lines_are;
     bytes = bytes_are;
     follows = ⊎_elim
-        (λ (l : n + 1 < dots_a_frame s.mode). subst (Follows (dot c) d) (sym (taken_on b l)) (follows_on l))
+        (λ (l : n + 1 < dots_a_frame s.mode). subst (CardFollowsDrawing (dot c) d) (sym (taken_on b l)) (follows_on l))
         (λ (l : dots_a_frame s.mode ≤ n + 1). let e : n + 1 ≡ dots_a_frame s.mode = omega (arith, is.within) in
-        subst (Follows (dot c) d) (sym (taken_last b e)) (follows_renewed e))
+        subst (CardFollowsDrawing (dot c) d) (sym (taken_last b e)) (follows_renewed e))
         (cases_lt (n + 1) (dots_a_frame s.mode));
   }
 
 -- ---- any number of dots
 
-pub dots_follow : (n : ℕ) (c : CardState) (d : BiosData) (b : Drawing) → IsCard c → Follows c d b → Follows (dots n c) d (take_dots n b)
+pub dots_follow : (n : ℕ) (c : CardState) (d : BiosData) (b : Drawing) → IsCard c → CardFollowsDrawing c d b → CardFollowsDrawing (dots n c) d (take_dots n b)
 unfolding dots take_dots
 dots_follow zero c d b z is = is
 dots_follow (suc n) c d b z is = dots_follow n (dot c) d (take_dot b) (dots_bounds 1 c z) (dot_taken c d b z is).follows
 
 -- ---- the end of a frame
 
-pub frame_follows : (c : CardState) (d : BiosData) (b : Drawing) → IsCard c → Follows c d b → EndsFrame c d b
+pub frame_follows : (c : CardState) (d : BiosData) (b : Drawing) → IsCard c → CardFollowsDrawing c d b → EndsFrame c d b
 frame_follows c d b z is =
     let s = b.screen in
     let n = b.dot in
@@ -363,7 +363,7 @@ frame_follows c d b z is =
     let last = dot_taken c' d b' (dots_bounds k c z) (dots_follow k c d b z is) in
     let total = (ended c d b z is).count in
     let numbers = all_is c d s f in
-    let count : frame_count c ≡ k + 1 = omega arith in
+    let count : card_dots_to_frame_end c ≡ k + 1 = omega arith in
     let frame_is : frame c ≡ dot c' = ap (λ j. dots j c) count ∙ dots_split k 1 c ∙ dot_is_one c' in
     let taken_is : take_frame b ≡ take_dot b' = ap (λ j. take_dots j b) left ∙ taken_more k b in
     let whole : suc (n + k) ≡ all = omega arith in
@@ -374,5 +374,5 @@ frame_follows c d b z is =
     record {
       size = regular_shape (picture_width s) (picture_height s) (frame c).drawn w v lines;
       bytes = ap (λ (x : CardState). bytes_of_dots x.drawn) frame_is ∙ last.bytes ∙ ap (λ (x : Drawing). x.picture) (sym taken_is);
-      follows = subst (λ (x : CardState). Follows x d (take_frame b)) (sym frame_is) (subst (Follows (dot c') d) (sym taken_is) last.follows);
+      follows = subst (λ (x : CardState). CardFollowsDrawing x d (take_frame b)) (sym frame_is) (subst (CardFollowsDrawing (dot c') d) (sym taken_is) last.follows);
     }

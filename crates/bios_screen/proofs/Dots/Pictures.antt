@@ -5,7 +5,7 @@ use Rattle.vga_crtc.specs.Raster.{IsFrameStart}
 use Rattle.vga_card.specs.declared.shape.Shape.{Shape}
 use Rattle.bios_screen.proofs.Prelude.{IsCard, CardState, BiosData, Screen, shown, DrawsDotColours}
 use Rattle.vga_card.specs.Frames.{frame}
-use Rattle.bios_screen.specs.Picture.{dot_at, picture_width}
+use Rattle.bios_screen.specs.Picture.{dot_colour_at, picture_width}
 use Rattle.bios_screen.specs.Raster.{picture_bytes}
 use Rattle.bios_screen.specs.Framed.{FrameDrawsScreen}
 use Rattle.bios_screen.proofs.Shows.Steady.{shown_moved, frame_shown}
@@ -16,7 +16,7 @@ pub frame_drawn : (c : CardState) (d : BiosData) (s : Screen) → IsCard c → s
 frame_drawn c d s z e start =
     let h = frames_of c d s z e in
     let m = h.raster in
-    let f = dot_at s s.page in
+    let f = dot_colour_at s s.page in
     let drawn = frame_is_picture m c f h.has start (subst (λ a. DrawsDotColours m c a f) (sym h.first) (h.draws s.page h.page)) in
     record {
       size = drawn.picture.shape

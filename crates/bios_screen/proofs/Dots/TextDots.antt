@@ -12,7 +12,7 @@ use Rattle.vga_host.specs.Graphics.{is_graphics}
 use Rattle.vga_crtc.specs.Fields.{cursor_start, is_cursor_off, cursor_end, cursor_location, underline_location}
 use Rattle.vga_attr.specs.Fields.{is_monochrome, is_line_graphics}
 use Rattle.vga_dots.specs.declared.source_dot.SourceDot.{SourceDot}
-use Rattle.vga_dots.specs.declared.text.Cell.{Cell as DotCell}
+use Rattle.vga_dots.specs.declared.text.Cell.{Cell as GraphicsCell}
 use Rattle.vga_dots.specs.SourceDot.{source_dot, fetch_address}
 use Rattle.vga_dots.specs.Text.{cell_at, map_start, glyph_row as row_of_glyph, is_glyph_dot as is_dot_of_glyph, is_underlined as is_cell_underlined}
 use Rattle.vga_dots.specs.Text.{is_blinked_away as is_cell_blinked, is_cursor_at, is_foreground as is_cell_foreground, text_nibble}
@@ -170,7 +170,7 @@ module _ (c : CardState) (d : BiosData) (h : IsShown c d) (z : IsCard c) (g : �
   abbrev there : ℕ → Cell
   there q = cell_in c.host.memory.plane0 c.host.memory.plane1 (half * g + q)
 
-  abbrev dot_cell : ℕ → DotCell
+  abbrev dot_cell : ℕ → GraphicsCell
   dot_cell q = record { character = (there q).0; attribute = (there q).1 }
 
   cell_is : (q : ℕ) → q < columns * rows → cell_at c.host (fetch_address c.crtc.registers (half * g + q)) ≡ dot_cell q

@@ -5,7 +5,7 @@ use Rattle.std.proofs.lemmas.Nat.{div-mul-add, mod-mul-add}
 use Rattle.bios_screen.proofs.Prelude.{Beam, first_counter, IsCard, CardState, BiosData, start_address, Screen, colour_by_palette, DrawsDotColours}
 use Rattle.vga_dots.specs.Colour.{dot_colour}
 use Rattle.bios_screen.specs.Screen.{page_start}
-use Rattle.bios_screen.specs.Picture.{nibble, text_dot_colour, pixel_dot_colour, dot_at}
+use Rattle.bios_screen.specs.Picture.{nibble, text_dot_colour, pixel_dot_colour, dot_colour_at}
 use Rattle.bios_screen.proofs.Base.Places.{half_start, ends_before}
 use Rattle.bios_screen.proofs.Shows.Screens.{IsShown, screen_shown, all_of}
 use Rattle.bios_screen.proofs.Dots.Frames as frames
@@ -35,7 +35,7 @@ module _ (c : CardState) (d : BiosData) (h : IsShown c d) (z : IsCard c) where
       (let e = start_is d.page in let l = start_small in omega arith)
 
   -- a frame of page g draws the colours of the screen
-  pub draws : (g : ℕ) → g < h.row.pages → DrawsDotColours (text_raster h.row) c (half * g) (dot_at s g)
+  pub draws : (g : ℕ) → g < h.row.pages → DrawsDotColours (text_raster h.row) c (half * g) (dot_colour_at s g)
   unfolding text_dot_colour
   draws g lg v x k lv lx lk =
       ap (λ (b : Beam). dot_colour c.host (record c.crtc { beam = b }) c.attr c.dac) (beam_is c d h z g lg v x k lv)

@@ -6,12 +6,12 @@ use Rattle.std.proofs.Common.{zero-add, suc-add}
 use Rattle.vga_card.specs.Picture.{bytes_of_dots}
 use Rattle.vga_card.specs.Frames.{concatenated_dots}
 use Rattle.bios_screen.specs.Screen.{Screen}
-use Rattle.bios_screen.specs.Picture.{dot_at, picture_width, picture_height, next_frame}
+use Rattle.bios_screen.specs.Picture.{dot_colour_at, picture_width, picture_height, next_frame}
 use Rattle.bios_screen.specs.Raster.{Raster, all_dots_of_line as dots_of_line, picture_dot, concatenated_lists, picture_bytes}
 use Rattle.bios_screen.proofs.Base.DotLists.{bytes_joined, same_joined, whole_picture, picture_bytes_are, row_dots}
-use Rattle.bios_screen.specs.Drawing.{dots_a_line, lines_a_frame, dots_a_frame, Drawing, page_shown, picture_so_far, is_of_picture, colour_of_frame_dot, take_dot, take_dots}
+use Rattle.bios_screen.specs.Drawing.{dots_a_line, lines_a_frame, dots_a_frame, Drawing, page_shown, picture_so_far, is_picture_dot, colour_of_frame_dot, take_dot, take_dots}
 use Rattle.bios_screen.specs.Drawing.{take_frame}
-use Rattle.bios_screen.specs.Whole.{FitsFrame, FrameEndsAtDotZero, FrameIsWholePicture}
+use Rattle.bios_screen.specs.Whole.{PictureFitsFrame, FrameEndsAtDotZero, FrameIsWholePicture}
 use Rattle.bios_screen.proofs.Dots.OneDot.{not_zero, is_zero, bytes_if, renewed, taken_on, taken_last, dots_on, taken_more}
 
 pub taken_split : (a b : ℕ) (x : Drawing) → take_dots (a + b) x ≡ take_dots b (take_dots a x)
@@ -97,16 +97,16 @@ raster_of s = record { dots = 1; columns = picture_width s; height = picture_hei
 once : (n : ℕ) → n * 1 ≡ n
 once n = omega arith
 
-dot_bytes : (s : Screen) (g n : ℕ) → bytes_of_dots (picture_dot (raster_of s) (dot_at s g) n) ≡ colour_of_frame_dot s g n
+dot_bytes : (s : Screen) (g n : ℕ) → bytes_of_dots (picture_dot (raster_of s) (dot_colour_at s g) n) ≡ colour_of_frame_dot s g n
 dot_bytes s g n =
-    rw (once (dots_a_line s.mode), once (picture_width s)) (bytes_if (is_of_picture s n) _)
+    rw (once (dots_a_line s.mode), once (picture_width s)) (bytes_if (is_picture_dot s n) _)
 
-whole_colours : (s : Screen) (g : ℕ) → FitsFrame s → concatenated_lists (colour_of_frame_dot s g) (dots_a_frame s.mode)
-    ≡ picture_bytes (picture_width s) (picture_height s) (dot_at s g)
+whole_colours : (s : Screen) (g : ℕ) → PictureFitsFrame s → concatenated_lists (colour_of_frame_dot s g) (dots_a_frame s.mode)
+    ≡ picture_bytes (picture_width s) (picture_height s) (dot_colour_at s g)
 unfolding dots_a_frame picture_bytes
 whole_colours s g fits =
     let m = raster_of s in
-    let f = dot_at s g in
+    let f = dot_colour_at s g in
     let narrow = fits.narrow in
     let line = once (dots_a_line s.mode) in
     let w = once (picture_width s) in
@@ -117,7 +117,7 @@ whole_colours s g fits =
     ∙ ap (λ j. bytes_of_dots (concatenated_dots (row_dots f j) (picture_height s))) w
     ∙ picture_bytes_are f (picture_width s) (picture_height s)
 
-pub whole_taken : (b : Drawing) → FitsFrame b.screen → b.dot ≡ 0 → b.dot < dots_a_frame b.screen.mode → FrameIsWholePicture b
+pub whole_taken : (b : Drawing) → PictureFitsFrame b.screen → b.dot ≡ 0 → b.dot < dots_a_frame b.screen.mode → FrameIsWholePicture b
 whole_taken b fits e within =
     let s = b.screen in
     let test = is_zero b.dot e in

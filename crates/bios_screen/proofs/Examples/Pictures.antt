@@ -1,7 +1,7 @@
 -- Dots of a screen with two pages of two cells each, computed.
 use Rattle.std.proofs.Common.{◌≡◌, ℕ, refl, List, [], ◌∷◌, Bool, true, false}
 use Rattle.bios_screen.specs.Screen.{Cells, Screen}
-use Rattle.bios_screen.specs.Picture.{is_glyph_dot, is_foreground, nibble, colour_of_value, text_dot_colour, dot_at}
+use Rattle.bios_screen.specs.Picture.{is_glyph_dot, is_foreground, nibble, colour_of_value, text_dot_colour, dot_colour_at}
 
 -- character 0 has no dot, and character 1 has the outer dots of its top row
 abbrev two_glyphs : List ℕ
@@ -106,6 +106,6 @@ masked : colour_of_value (shown 3 0 0 true 0).palette 3 ≡ 11 ∷ 21 ∷ 31 ∷
 masked = refl
 
 -- column 9 of line 13 of page 1 is a dot of the cursor
-place : dot_at (shown 3 0 0 true 7) 1 9 13 ≡ 11 ∷ 21 ∷ 31 ∷ []
+place : dot_colour_at (shown 3 0 0 true 7) 1 9 13 ≡ 11 ∷ 21 ∷ 31 ∷ []
 unfolding text_dot_colour nibble is_foreground
 place = refl

@@ -9,8 +9,8 @@ use Rattle.bios_screen.proofs.Prelude.{planar_pixel, packed_pixel, pixel_in, sho
 use Rattle.vga_bits.specs.Four.{four_by_plane}
 use Rattle.vga_host.specs.Memory.Write.{written_bit, combined_bit}
 use Rattle.bios_modes.specs.Kinds.{kind_of_row, is_text_kind}
-use Rattle.bios_services.specs.ModeSet.{clear_plan, write_text_plan, write_memory_plan, mode_set_plan}
-use Rattle.bios_screen.specs.Screen.{Pixels, Palette}
+use Rattle.bios_services.specs.ModeSet.{clear_graphics_memory_plan, write_text_memory_plan, write_mode_memory_plan, mode_set_plan}
+use Rattle.bios_screen.specs.Screen.{PackedPixelColours, Palette}
 use Rattle.bios_screen.specs.Shown.{pixels_in, pixel_pages, screen_with_contents}
 use Rattle.bios_screen.specs.Fresh.{blank_pixels, fresh_text, fresh_pixels}
 use Rattle.bios_screen.specs.AfterCall.{ModeSetShowsFreshScreen}
@@ -29,7 +29,7 @@ use Rattle.bios_screen.proofs.Packed.Screens.{IsFlat, put_flat}
 -- ---- what clearing leaves: all pixels are 0, and no register has changed
 
 abbrev cleared : CardState → CardState
-cleared c = (run card_meaning (clear_plan 0x10000) c).0
+cleared c = (run card_meaning (clear_graphics_memory_plan 0x10000) c).0
 
 record IsCleared (mode : ℕ) (row : ModeRow) (c y : CardState) : Type 0 where
   same : setting y ≡ setting c
@@ -48,7 +48,7 @@ no_bits : (i : ℕ) → bit_at 0 i + 2 * bit_at 0 i + 4 * bit_at 0 i + 8 * bit_a
 no_bits i = ap (λ b. b + 2 * b + 4 * b + 8 * b) (bit_at-zero i)
 
 planes_clear : (mode : ℕ) (row : ModeRow) → IsPlanarRow mode row → Clears mode row
-unfolding clear_plan
+unfolding clear_graphics_memory_plan
 planes_clear mode row is c z e =
     let rest = without_host c in
     let misc = row.misc in
@@ -81,7 +81,7 @@ planes_clear mode row is c z e =
 
 -- in 256 colours a Put of 0 clears the pixel at its address
 bytes_clear : Clears 0x13 bytes_320_by_200
-unfolding clear_plan
+unfolding clear_graphics_memory_plan
 bytes_clear c z e =
     let rest = without_host c in
     let done = edits CardState ℕ card_meaning (λ w. put (0xA0000 + w) 0) (λ _. IsFlat rest) 0 65536 (λ _. Unit {0}) (λ w _. w) (λ w _ x. 0)
@@ -111,9 +111,9 @@ pages_blank mode row c y t =
     let x : 0 + q ≡ q = omega arith in
     ap (pixel_in mode f (row.size * p)) x ∙ t.pixel p q lp lq))
 
-memory_is : (mode : ℕ) (row : ModeRow) (font : List ℕ) → IsGraphicsRow mode row → write_memory_plan row false font ≡ clear_plan 0x10000
-unfolding write_memory_plan
-memory_is mode row font is = ap (λ b. let p : Plan (Unit {0}) = (if b then write_text_plan row false font else clear_plan 0x10000) in p)
+memory_is : (mode : ℕ) (row : ModeRow) (font : List ℕ) → IsGraphicsRow mode row → write_mode_memory_plan row false font ≡ clear_graphics_memory_plan 0x10000
+unfolding write_mode_memory_plan
+memory_is mode row font is = ap (λ b. let p : Plan (Unit {0}) = (if b then write_text_memory_plan row false font else clear_graphics_memory_plan 0x10000) in p)
     (ap (λ r. is_text_kind (kind_of_row r)) (sym is.set.table) ∙ is.text)
 
 shows_fresh : (mode : ℕ) (row : ModeRow) → IsGraphicsRow mode row → Clears mode row → ShowsFresh mode row
@@ -126,9 +126,9 @@ shows_fresh mode row is clears c fonts z small =
     let t = clears y first.bounds refl in
     let new = fresh_pixels mode row c.crtc.beam.frame in
     let text = fresh_text mode row font c.crtc.beam.frame in
-    ap (λ x. shown x d) (first.runs (write_memory_plan row false font) ∙ ap (λ p. (run card_meaning p y).0) (memory_is mode row font is))
+    ap (λ x. shown x d) (first.runs (write_mode_memory_plan row false font) ∙ ap (λ p. (run card_meaning p y).0) (memory_is mode row font is))
     ∙ redrawn row y (cleared y) d (is.there row.height) is.text (all_tests_of row y d (is.fresh c first.dac)) t.same t.others
-    ∙ ap (λ p. Some (screen_with_contents row y d 0 (Pixels p) [])) (pages_blank mode row y (cleared y) t)
+    ∙ ap (λ p. Some (screen_with_contents row y d 0 (PackedPixelColours p) [])) (pages_blank mode row y (cleared y) t)
     ∙ ap (λ (p : Palette). let x : Screen = record new { palette = p } in Some x) (palette_is row c first.dac first.colours)
     ∙ sym (ap (λ b. let x : Screen = (if b then text else new) in Some x) is.text)
 

@@ -10,7 +10,7 @@ use Rattle.vga_card.specs.Port.{port_of as reached_by, crtc_port_of}
 use Rattle.vga_card.specs.Cycles.{out_reached, inp_reached}
 use Rattle.bios_modes.specs.Fonts.{glyph_row}
 use Rattle.bios_services.specs.Cycles.{write_sequencer, write_registers_from_0, write_attribute_registers}
-use Rattle.bios_services.specs.ModeSet.{write_registers_plan, write_glyphs_plan, write_font_plan, blank_byte, write_blanks_plan, write_text_plan, write_memory_plan, mode_set_plan}
+use Rattle.bios_services.specs.ModeSet.{write_registers_plan, write_glyphs_plan, write_font_plan, blank_byte, write_blanks_plan, write_text_memory_plan, write_mode_memory_plan, mode_set_plan}
 use Rattle.bios_screen.specs.Screen.{Palette}
 use Rattle.bios_screen.specs.Shown.{cells_in, glyph_byte, glyphs_in, shows, text_screen_with_cells, screen_of, screen_shown_in_mode}
 use Rattle.bios_screen.specs.Fresh.{fresh_cells, font_bytes, fresh_text, fresh_pixels}
@@ -127,10 +127,10 @@ pub font_is : (line : ℕ → ℕ → ℕ) (height n first window : ℕ) (c : Ca
 unfolding write_font_plan
 font_is line height n first window c = refl
 
-memory_is : (disp : Display) (font : List ℕ) (c : CardState) → (run card_meaning (write_memory_plan (row_of disp) false font) c).0
+memory_is : (disp : Display) (font : List ℕ) (c : CardState) → (run card_meaning (write_mode_memory_plan (row_of disp) false font) c).0
     ≡ (run card_meaning (write_blanks_plan (base_of disp) 0x8000) (run card_meaning (write_font_plan (glyph_row 16 font) 16 256 0 (slice_index (row_of disp).graphics 6))
     c).0).0
-unfolding write_memory_plan write_text_plan
+unfolding write_mode_memory_plan write_text_memory_plan
 memory_is Colour font c = then_runs (write_font_plan (glyph_row 16 font) 16 256 0 0x0E) (write_blanks_plan 0xB8000 0x8000) c
 memory_is Monochrome font c = then_runs (write_font_plan (glyph_row 16 font) 16 256 0 0x0A) (write_blanks_plan 0xB0000 0x8000) c
 
@@ -143,7 +143,7 @@ record FreshMemory (disp : Display) (font : List ℕ) (y s : CardState) : Type 0
 
 fresh_memory : (disp : Display) (c : CardState) (d : DacState) (font : List ℕ) → IsCard (coloured (row_of disp) c d) → AreBytes font →
     FreshMemory disp font (coloured (row_of disp) c d)
-    (run card_meaning (write_memory_plan (row_of disp) false font) (coloured (row_of disp) c d)).0
+    (run card_meaning (write_mode_memory_plan (row_of disp) false font) (coloured (row_of disp) c d)).0
 fresh_memory disp c d font z2 small =
     let window = slice_index (row_of disp).graphics 6 in
     let y2 = coloured (row_of disp) c d in
@@ -171,7 +171,7 @@ fresh_memory disp c d font z2 small =
     ∙ then_runs load (glyphs_off window) y3
     ∙ ap (λ x. (run card_meaning (glyphs_off window) x).0) e4
     ∙ off_is disp c d l4 in
-    let whole : (run card_meaning (write_memory_plan (row_of disp) false font) y2).0 ≡ s6 = memory_is disp font y2
+    let whole : (run card_meaning (write_mode_memory_plan (row_of disp) false font) y2).0 ≡ s6 = memory_is disp font y2
     ∙ ap (λ x. (run card_meaning blank x).0) fonted in
     let state : FreshMemory disp font y2 s6 = record {
       plane2 = l4;
@@ -209,12 +209,12 @@ shows_fresh disp c fonts z small =
     let d = data_of_mode mode row in
     let first = prepared mode row c (set_by disp) z in
     let t = fresh_memory disp c first.dac font first.bounds small in
-    let s = (run card_meaning (write_memory_plan row false font) (coloured row c first.dac)).0 in
+    let s = (run card_meaning (write_mode_memory_plan row false font) (coloured row c first.dac)).0 in
     let y = in_text disp (with_glyphs (in_glyphs disp (coloured row c first.dac)) t.plane2) in
     let new = fresh_text mode row font c.crtc.beam.frame in
     let pixels = fresh_pixels mode row c.crtc.beam.frame in
     let blank = fresh_cells text_memory_cells in
-    ap (λ x. shown x d) (first.runs (write_memory_plan row false font))
+    ap (λ x. shown x d) (first.runs (write_mode_memory_plan row false font))
     ∙ ap (λ x. screen_shown_in_mode x s d) (row_is disp)
     ∙ ap (λ b. if b then Some (screen_of row s d) else None) (test_stays row y s d t.others ∙ test_is disp c first.dac t.plane2)
     ∙ ap (λ (x : Screen). Some x) (screen_is_text row s d (text_by disp))

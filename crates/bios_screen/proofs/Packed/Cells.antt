@@ -7,8 +7,8 @@ use Rattle.bios_screen.proofs.Prelude.{packed_pixel, pixel_screen, pixel_of}
 use Rattle.bios_modes.specs.declared.kind.Kind.TheVariants.{Packed}
 use Rattle.bios_services.specs.Cursor.{cursor_cell_number}
 use Rattle.bios_services.specs.Plan.{fold}
-use Rattle.bios_services.specs.CharacterReading.{shift_dot, read_packed_line, read_line_plan}
-use Rattle.bios_screen.specs.Step.{cell_line}
+use Rattle.bios_services.specs.CharacterReading.{shift_pixel_into_line, read_packed_line, read_nonzero_pixels_plan}
+use Rattle.bios_screen.specs.Step.{pixel_line_as_byte}
 use Rattle.bios_screen.proofs.Base.Plans.{run_bind}
 use Rattle.bios_screen.proofs.Dots.PackedDots.{IsPacked}
 use Rattle.bios_screen.proofs.Packed.Screens as screens
@@ -46,11 +46,11 @@ byte_shifted f =
 
 module _ (rest : CardState) where
   abbrev one : ℕ → ℕ → ℕ → Plan ℕ
-  one a i x = shift_dot (0xA0000 + a + i) x
+  one a i x = shift_pixel_into_line (0xA0000 + a + i) x
 
   dots_shifted : (a n i x : ℕ) (c : CardState) (f : ℕ → ℕ) → a + i + n < 65536 → IsFlat rest c f →
       IsSeen (λ y. IsFlat rest y f) (fold (one a) n i x) (shifted (λ j. f (a + j)) n i x) c
-  unfolding shift_dot
+  unfolding shift_pixel_into_line
   dots_shifted a zero i x c f l t = record { still = t; value = refl }
   dots_shifted a (suc n) i x c f l t =
       let at : 0xA0000 + a + i ≡ 0xA0000 + (a + i) = omega arith in
@@ -69,8 +69,8 @@ module _ (rest : CardState) where
       }
 
   line_seen : (a : ℕ) (c : CardState) (f : ℕ → ℕ) → a + 8 < 65536 → IsFlat rest c f →
-      IsSeen (λ y. IsFlat rest y f) (read_line_plan Packed (0xA0000 + a)) (byte_of_bits (λ j. as_dot (f (a + (7 - j))))) c
-  unfolding read_line_plan read_packed_line
+      IsSeen (λ y. IsFlat rest y f) (read_nonzero_pixels_plan Packed (0xA0000 + a)) (byte_of_bits (λ j. as_dot (f (a + (7 - j))))) c
+  unfolding read_nonzero_pixels_plan read_packed_line
   line_seen a c f l t =
       let seen = dots_shifted a 8 0 0 c f (omega arith) t in
       record { still = seen.still; value = seen.value ∙ byte_shifted (λ j. f (a + j)) }
@@ -85,7 +85,7 @@ module _ (c : CardState) (d : BiosData) (t : IsPacked c d) (z : IsCard c) where
   abbrev old : ℕ → ℕ
   old = packed_pixel c.host.memory
 
-  line_is : (q r : ℕ) → q < cells_per_page d → r < d.height → byte_of_bits (λ j. as_dot (old (place q r + (7 - j)))) ≡ cell_line s 0 q r
+  line_is : (q r : ℕ) → q < cells_per_page d → r < d.height → byte_of_bits (λ j. as_dot (old (place q r + (7 - j)))) ≡ pixel_line_as_byte s 0 q r
   line_is q r lq lr =
       let l = writes.strip_small c d t z q r lq lr in
       let all = screens.all_pixels c d t z in

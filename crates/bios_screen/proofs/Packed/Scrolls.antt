@@ -1,11 +1,11 @@
 -- Scrolling a window in 256 colours, from one screen to the next.
 use Rattle.std.proofs.Common.{◌≡◌, ℕ, ◌+◌, ◌-◌, ◌*◌, ◌/◌, ◌%◌, ◌<◌, ◌≤◌, refl, sym, ap, ◌∙◌, subst, arith, Some, false}
-use Rattle.bios_screen.proofs.Prelude.{IsCard, card_meaning, CardState, bytes_320_by_200, BiosData, Band, Direction, Window, page_base, kind_of, run, Screen}
+use Rattle.bios_screen.proofs.Prelude.{IsCard, card_meaning, CardState, bytes_320_by_200, BiosData, ColumnBand, Direction, Window, page_base, kind_of, run, Screen}
 use Rattle.bios_screen.proofs.Prelude.{packed_pixel, page_pixels, pixel_screen, shown, pixel_of, with_pixels}
 use Rattle.bios_modes.specs.declared.kind.Kind.TheVariants.{Packed}
 use Rattle.bios_services.specs.Bands.{filling_byte, one_byte_filling, fill_plan, scroll_rows, band_of_kind}
 use Rattle.bios_services.specs.Scroll.{IsOnPage, scroll_window_plan}
-use Rattle.bios_screen.specs.Step.{pixel_row, pixel_column, is_in_window, has_source_row, source_number, row_pixels, fill_pixel, scroll_pixels}
+use Rattle.bios_screen.specs.Step.{pixel_row, pixel_column, is_in_window, has_source_row, source_number, pixel_distance_of_rows, fill_pixel, scroll_pixels}
 use Rattle.bios_screen.specs.Step.{scroll_window}
 use Rattle.bios_screen.proofs.Base.Flat.{Leaves}
 use Rattle.bios_screen.proofs.Base.Windows.{by_both_tests}
@@ -28,7 +28,7 @@ module _ (c : CardState) (d : BiosData) (t : IsPacked c d) (z : IsCard c) (p : �
   abbrev s : Screen
   s = pixel_screen bytes_320_by_200 c d
 
-  abbrev band : Band
+  abbrev band : ColumnBand
   band = band_of_kind Packed d p w.left w.width
 
   page_is : p ≡ 0
@@ -69,7 +69,7 @@ module _ (c : CardState) (d : BiosData) (t : IsPacked c d) (z : IsCard c) (p : �
   pixels_scrolled f is k lk =
       let row = pixel_row s k in
       let column = pixel_column s k in
-      let far = source_number direction k (row_pixels s n) in
+      let far = source_number direction k (pixel_distance_of_rows s n) in
       by_both_tests (is_in_window w row column) (has_source_row direction w n row) (f k) (pixel_of s 0 far) (fill_pixel d.mode colour) (pixel_of s 0 k)
       (λ u m.
       ap f (sym (none k)) ∙ is.moved k u m ∙ ap old (none far)

@@ -1,7 +1,7 @@
 -- Writing a run of characters in 256 colours, from one screen to the next.
 use Rattle.std.proofs.Common.{◌≡◌, ℕ, ◌+◌, ◌-◌, ◌*◌, ◌/◌, ◌%◌, ◌<◌, ◌≤◌, refl, sym, ap, ◌∙◌, subst, arith, Some, Bool, true, false}
 use Rattle.std.specs.Prelude.{if◌then◌else◌}
-use Rattle.bios_screen.proofs.Prelude.{is_set, IsCard, card_meaning, CardState, bytes_320_by_200, BiosData, FontSet, Band, Colouring, page_base, cells_per_page}
+use Rattle.bios_screen.proofs.Prelude.{is_set, IsCard, card_meaning, CardState, bytes_320_by_200, BiosData, FontSet, ColumnBand, Colouring, page_base, cells_per_page}
 use Rattle.bios_screen.proofs.Prelude.{kind_of, Plan, run, put, each, Screen, packed_pixel, pixel_screen, shown}
 use Rattle.bios_modes.specs.declared.kind.Kind.TheVariants.{Packed}
 use Rattle.bios_services.specs.Bands.{byte_address_in_band}
@@ -25,7 +25,7 @@ address_sum w h row r left i = let a : 8 * w * (h * row + r) ≡ 8 * (w * (h * r
 abbrev glyph_plan : (ℕ → ℕ → ℕ) → (ℕ → ℕ) → ℕ → ℕ → Plan (Unit {0})
 glyph_plan at g n colour = each (λ r. each (λ i. put (at r i) (glyph_dot_colour (g r) colour i)) 8 0) n 0
 
-plan_is : (band : Band) (row : ℕ) (fonts : FontSet) (character colour : ℕ) → draw_packed_plan band row fonts character colour
+plan_is : (band : ColumnBand) (row : ℕ) (fonts : FontSet) (character colour : ℕ) → draw_packed_plan band row fonts character colour
     ≡ glyph_plan (byte_address_in_band band row) (glyph_line fonts band.lines character) band.lines colour
 unfolding draw_packed_plan put_dots
 plan_is band row fonts character colour = refl
@@ -93,8 +93,8 @@ module _ (c : CardState) (d : BiosData) (t : IsPacked c d) (z : IsCard c) where
   abbrev dot : ℕ → Dots
   dot k = record { turn = k % 8; from = omega arith; before = omega arith; place = tt }
 
-  abbrev Lines : Type 0
-  Lines = Turn (λ _. Dots) 0 h
+  abbrev DrawnLines : Type 0
+  DrawnLines = Turn (λ _. Dots) 0 h
 
   line_drawn : (q r dots colour : ℕ) (y : CardState) (f : ℕ → ℕ) → q < cells_per_page d → r < h → colour < 256 → IsFlat rest y f
       → Leaves CardState ℕ (IsFlat rest) (run card_meaning (each (λ i. put (0xA0000 + place q r i) (glyph_dot_colour dots colour i)) 8 0) y).0
@@ -112,7 +112,7 @@ module _ (c : CardState) (d : BiosData) (t : IsPacked c d) (z : IsCard c) where
 
   glyph_drawn : (q colour : ℕ) (g : ℕ → ℕ) (y : CardState) (f : ℕ → ℕ) → q < cells_per_page d → colour < 256 → IsFlat rest y f
       → Leaves CardState ℕ (IsFlat rest) (run card_meaning (glyph_plan (λ r i. 0xA0000 + place q r i) g h colour) y).0
-      (Edited ℕ Lines (λ x. place q x.turn x.place.turn) (λ x v. glyph_dot_colour (g x.turn) colour x.place.turn) f)
+      (Edited ℕ DrawnLines (λ x. place q x.turn x.place.turn) (λ x v. glyph_dot_colour (g x.turn) colour x.place.turn) f)
   glyph_drawn q colour g y f lq lc u =
       edits CardState ℕ card_meaning (λ r. each (λ i. put (0xA0000 + place q r i) (glyph_dot_colour (g r) colour i)) 8 0) (λ _. IsFlat rest) 0 h (λ _. Dots) (λ r x.
       place q r x.turn) (λ r x v. glyph_dot_colour (g r) colour x.turn)
@@ -152,6 +152,6 @@ module _ (c : CardState) (d : BiosData) (t : IsPacked c d) (z : IsCard c) where
       (IsFlat rest) canvas fonts character colouring (λ r x _. glyph_dot_colour (g r) colouring.colour x.turn)
       (λ k r x. dot_is colouring.colour (is_set (g r) (7 - k % 8)) x)
       (λ i y f li u. subst (λ plan. Leaves CardState ℕ (IsFlat rest) (run card_meaning plan y).0
-      (Edited ℕ Lines (λ x. place i x.turn x.place.turn) (λ x v. glyph_dot_colour (g x.turn) colouring.colour x.place.turn) f))
+      (Edited ℕ DrawnLines (λ x. place i x.turn x.place.turn) (λ x v. glyph_dot_colour (g x.turn) colouring.colour x.place.turn) f))
       (sym (character_is fonts i character colouring)) (glyph_drawn i colouring.colour g y f li lc u))
       q n lq)

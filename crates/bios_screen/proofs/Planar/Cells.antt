@@ -8,9 +8,9 @@ use Rattle.bios_screen.proofs.Prelude.{is_set, Four, bytes_at, HostState, IsCard
 use Rattle.bios_screen.proofs.Prelude.{write_graphics, run, Screen, page_pixels, pixel_screen, pixel_of}
 use Rattle.vga_bits.specs.Bits.{byte_of_bits}
 use Rattle.vga_host.specs.Memory.Read.{read_bit, read_byte}
-use Rattle.bios_services.specs.CharacterReading.{read_line_plan}
+use Rattle.bios_services.specs.CharacterReading.{read_nonzero_pixels_plan}
 use Rattle.bios_services.specs.Cursor.{cursor_cell_number}
-use Rattle.bios_screen.specs.Step.{cell_line}
+use Rattle.bios_screen.specs.Step.{pixel_line_as_byte}
 use Rattle.bios_screen.proofs.Base.CellPlaces.{strip_at, strip_within}
 use Rattle.bios_screen.proofs.Base.Setting.{host_at, reached, offset_is, get_decoded}
 use Rattle.bios_screen.proofs.Text.Writes.{IsCellRead}
@@ -60,8 +60,8 @@ dots_are q = refl
 
 -- reading a line of a cell
 line_seen : (rest : CardState) (e d : ℕ) → is_set e 1 ≡ true → (a : ℕ) (c : CardState) (f : ℕ → Four ℕ) → a < 65536 →
-    Drawn rest e d seeing c f → IsSeen (λ y. Drawn rest e d seeing y f) (read_line_plan Planar (0xA0000 + a)) (dots_of (f a)) c
-unfolding read_line_plan
+    Drawn rest e d seeing c f → IsSeen (λ y. Drawn rest e d seeing y f) (read_nonzero_pixels_plan Planar (0xA0000 + a)) (dots_of (f a)) c
+unfolding read_nonzero_pixels_plan
 line_seen rest e d on a c f la t =
     let got = get_decoded c (drawing e d seeing) (0xA0000 + a) t.is.mode (reached (is_set e 1) a on la) in
     record {
@@ -87,7 +87,7 @@ module _ (row : ModeRow) (c : CardState) (d : BiosData) (t : IsPlanar row c d) (
   old = bytes_at c.host.memory
 
   -- line r of cell q, from its byte in each plane
-  line_is : (p q r : ℕ) → p < row.pages → q < cells_per_page d → r < h → dots_of (old (place p q r)) ≡ cell_line s p q r
+  line_is : (p q r : ℕ) → p < row.pages → q < cells_per_page d → r < h → dots_of (old (place p q r)) ≡ pixel_line_as_byte s p q r
   line_is p q r lp lq lr =
       let b = strip_at w h q r in
       let l = strip_within w h (d.last_row + 1) q r (writes.wide row c d t z) lr lq in

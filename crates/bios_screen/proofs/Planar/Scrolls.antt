@@ -1,13 +1,13 @@
 -- Scrolling a window in sixteen colours, from one screen to the next.
 use Rattle.std.proofs.Common.{◌≡◌, ℕ, ◌+◌, ◌-◌, ◌*◌, ◌/◌, ◌%◌, ◌<◌, ◌≤◌, ◌⊎◌, ⊎_elim, refl, sym, ap, ◌∙◌, subst, arith, Some, Bool, true, false}
 use Rattle.std.specs.Prelude.{slice_index, ◌==◌, if◌then◌else◌}
-use Rattle.bios_screen.proofs.Prelude.{Four, bytes_at, IsCard, card_meaning, CardState, ModeRow, BiosData, Band, Planar, Direction, Up, Down, Window, run}
+use Rattle.bios_screen.proofs.Prelude.{Four, bytes_at, IsCard, card_meaning, CardState, ModeRow, BiosData, ColumnBand, Planar, Direction, Up, Down, Window, run}
 use Rattle.bios_screen.proofs.Prelude.{Screen, page_pixels, pixel_screen, shown, pixel_of}
 use Rattle.vga_bits.proofs.BitLemmas.{ones_byte}
 use Rattle.bios_services.specs.Bands.{band_of, scroll_rows, band_of_kind}
 use Rattle.bios_services.specs.Cells.{page_address}
 use Rattle.bios_services.specs.Scroll.{IsOnPage, scroll_window_plan}
-use Rattle.bios_screen.specs.Step.{pixel_row, pixel_column, is_in_window, has_source_row, source_number, row_pixels, fill_pixel, scroll_pixels, scroll_window}
+use Rattle.bios_screen.specs.Step.{pixel_row, pixel_column, is_in_window, has_source_row, source_number, pixel_distance_of_rows, fill_pixel, scroll_pixels, scroll_window}
 use Rattle.bios_screen.proofs.Base.Tests.{le_is}
 use Rattle.bios_screen.proofs.Base.Windows.{inside_of, by_both_tests}
 use Rattle.bios_screen.proofs.Base.Bands.{IsWindow}
@@ -39,10 +39,10 @@ module _ (row : ModeRow) (c : CardState) (d : BiosData) (t : IsPlanar row c d) (
   abbrev rows : ℕ
   rows = d.last_row + 1
 
-  abbrev band_with : (ℕ → ℕ) → Band
+  abbrev band_with : (ℕ → ℕ) → ColumnBand
   band_with f = record { kind = Planar; start = page_address d p; pitch = f W; lines = H; left = f w.left; width = f w.width }
 
-  abbrev band : Band
+  abbrev band : ColumnBand
   band = band_with (λ x. x)
 
   band_is : band_of d p w.left w.width ≡ band
@@ -98,8 +98,8 @@ module _ (row : ModeRow) (c : CardState) (d : BiosData) (t : IsPlanar row c d) (
 
   -- the strip of the pixel whose value pixel k gets, and the position in it
   record IsTaken (way : Direction) (k : ℕ) : Type 0 where
-    strip : source_number way k (row_pixels s n) / 8 ≡ source_number way (k / 8) (W * (H * n))
-    dot : source_number way k (row_pixels s n) % 8 ≡ k % 8
+    strip : source_number way k (pixel_distance_of_rows s n) / 8 ≡ source_number way (k / 8) (W * (H * n))
+    dot : source_number way k (pixel_distance_of_rows s n) % 8 ≡ k % 8
 
   source_of_dot : (way : Direction) (k : ℕ) → has_source_row way w n (k / 8 / W / H) ≡ true → IsTaken way k
   source_of_dot Up k u = let whole : 8 * W * (H * n) ≡ 8 * (W * (H * n)) = omega arith in record { strip = omega arith; dot = omega arith }
@@ -125,7 +125,7 @@ module _ (row : ModeRow) (c : CardState) (d : BiosData) (t : IsPlanar row c d) (
       let line = pixel_row s k in
       let column = pixel_column s k in
       let j = k % 8 in
-      let far = source_number direction k (row_pixels s n) in
+      let far = source_number direction k (pixel_distance_of_rows s n) in
       let tested = ap (has_source_row direction w n) (sym (strip_row k)) in
       by_both_tests (is_in_window w line column) (has_source_row direction w n line) (nibble_of (f (start + k / 8)) j) (pixel_of s p far) (fill_pixel d.mode colour)
       (pixel_of s p k)

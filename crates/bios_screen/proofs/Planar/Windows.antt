@@ -1,7 +1,7 @@
 -- Scrolling a window of sixteen colours: what its plan leaves in the four planes.
 use Rattle.std.proofs.Common.{◌≡◌, ℕ, ◌+◌, ◌-◌, ◌%◌, ◌<◌, ◌≤◌, refl, sym, ap, ◌∙◌, subst, arith, Bool, true, false}
 use Rattle.std.specs.Prelude.{◌==◌, if◌then◌else◌}
-use Rattle.bios_screen.proofs.Prelude.{is_set, Four, bytes_at, card_meaning, CardState, Band, Planar, Window, Direction, write_graphics, run, put, get, ◌>>◌}
+use Rattle.bios_screen.proofs.Prelude.{is_set, Four, bytes_at, card_meaning, CardState, ColumnBand, Planar, Window, Direction, write_graphics, run, put, get, ◌>>◌}
 use Rattle.vga_bits.specs.Bits.{byte_of_bits}
 use Rattle.vga_bits.specs.Four.{of_plane}
 use Rattle.vga_bits.proofs.BitLemmas.{byte_bits}
@@ -77,7 +77,7 @@ filled_uniform v i = by_test (i % 2 == 0)
 module _ (rest : CardState) (e d : ℕ) (on : is_set e 1 ≡ true) (first_byte pitch lines left width start rows : ℕ) (window : Window)
     (w : IsWindow 0xA0000 65536 (record { kind = Planar; start = first_byte; pitch = pitch; lines = lines; left = left; width = width }) start rows window)
   where
-    abbrev band : Band
+    abbrev band : ColumnBand
     band = record { kind = Planar; start = first_byte; pitch = pitch; lines = lines; left = left; width = width }
 
     -- filling all planes with 00, and then the colour's planes with FF, gives the colour

@@ -1,7 +1,7 @@
 -- Writing a run of characters in sixteen colours, from one screen to the next.
 use Rattle.std.proofs.Common.{◌≡◌, ℕ, ◌+◌, ◌-◌, ◌*◌, ◌/◌, ◌%◌, ◌<◌, ◌≤◌, ⊎_elim, refl, sym, ap, ◌∙◌, subst, arith, Some, Bool}
 use Rattle.std.specs.Prelude.{slice_index, ◌==◌, ◌&&◌, nat_le, nat_lt, min, not, if◌then◌else◌}
-use Rattle.bios_screen.proofs.Prelude.{is_set, Four, bytes_at, IsCard, card_meaning, CardState, ModeRow, BiosData, FontSet, Band, Colouring, Planar, cells_per_page}
+use Rattle.bios_screen.proofs.Prelude.{is_set, Four, bytes_at, IsCard, card_meaning, CardState, ModeRow, BiosData, FontSet, ColumnBand, Colouring, Planar, cells_per_page}
 use Rattle.bios_screen.proofs.Prelude.{run, Screen, pixel_screen, shown}
 use Rattle.bios_services.specs.Bands.{byte_address_in_band, fill_line, fill_row}
 use Rattle.bios_services.specs.Drawing.{put_glyph, put_glyph_over, draw_over_zeros_plan, draw_by_xor_plan, draw_planar_plan, character_plan_of_kind, character_plan, characters_plan}
@@ -27,7 +27,7 @@ address_sum start w h row r left =
     sum n = omega arith
 
 -- the plan of a band that is one byte wide
-plan_is : (band : Band) (row : ℕ) (fonts : FontSet) (character colour : ℕ) → draw_planar_plan (record band { width = 1 }) row fonts character colour
+plan_is : (band : ColumnBand) (row : ℕ) (fonts : FontSet) (character colour : ℕ) → draw_planar_plan (record band { width = 1 }) row fonts character colour
     ≡ glyph_by (is_set colour 7) (λ r. byte_address_in_band band row r 0) (glyph_line fonts band.lines character) band.lines (colour % 16)
 unfolding draw_planar_plan draw_over_zeros_plan draw_by_xor_plan put_glyph put_glyph_over fill_row fill_line
 plan_is band row fonts character colour = refl

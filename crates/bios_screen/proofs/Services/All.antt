@@ -1,6 +1,6 @@
 -- The laws of the services.
 use Rattle.std.proofs.Common.{ℕ, ◌<◌, subst, List}
-use Rattle.bios_screen.proofs.Prelude.{IsCard, CardState, BiosData, FontSet, Regs, IsServed, AreBytes}
+use Rattle.bios_screen.proofs.Prelude.{IsCard, CardState, BiosData, FontSet, Regs, ServiceActsAsOnScreen, AreBytes}
 use Rattle.bios_modes.specs.Bounds.{IsBda}
 use Rattle.bios_services.specs.declared.scroll.Scroll.{Scroll}
 use Rattle.bios_services.specs.declared.cell_run.CellRun.{CellRun}
@@ -23,9 +23,9 @@ use Rattle.bios_screen.proofs.Services.Palette as coloured
 
 -- a service is served if it is served from what is known of any shown screen
 serves_any : (service : Service) → ((fonts : FontSet) (r : Regs) (block : List ℕ) (c : CardState) (d : BiosData) (h : IsAny c d) → AreBytes block → IsCard c →
-    IsBda d → IsServed service fonts r block c d (any_screen c d h c)) → ServiceLeadsToNextScreen service
+    IsBda d → ServiceActsAsOnScreen service fonts r block c d (any_screen c d h c)) → ServiceLeadsToNextScreen service
 serves_any service f fonts r block c d s bytes z bda e = let x = any_is c d s e in
-    subst (IsServed service fonts r block c d) x.screen (f fonts r block c d x.is bytes z bda)
+    subst (ServiceActsAsOnScreen service fonts r block c d) x.screen (f fonts r block c d x.is bytes z bda)
 
 pub read_cursor : (page : ℕ) → ServiceLeadsToNextScreen (ReadCursor page)
 read_cursor page = serves_any (ReadCursor page) (λ fonts r block c d h bytes z bda. any.read_cursor page fonts r block c d h)
@@ -50,13 +50,13 @@ read_pixel page x y = serves_any (ReadPixel page x y) (λ fonts r block c d h by
 pub dot_refused : (page x y colour : ℕ) → TextServiceLeadsToNext (WritePixel page x y colour)
 dot_refused page x y colour fonts r block c d s bytes z bda e text =
     let any = any_is c d s e in
-    subst (IsServed (WritePixel page x y colour) fonts r block c d) any.screen
+    subst (ServiceActsAsOnScreen (WritePixel page x y colour) fonts r block c d) any.screen
     (pixels.write_refused c d any.is page x y fonts r block (text_shown c d s e text) colour)
 
 pub read_refused : (page x y : ℕ) → TextServiceLeadsToNext (ReadPixel page x y)
 read_refused page x y fonts r block c d s bytes z bda e text =
     let any = any_is c d s e in
-    subst (IsServed (ReadPixel page x y) fonts r block c d) any.screen
+    subst (ServiceActsAsOnScreen (ReadPixel page x y) fonts r block c d) any.screen
     (pixels.read_refused c d any.is page x y fonts r block (text_shown c d s e text))
 
 pub set_cursor_type : (type : ℕ) → ServiceLeadsToNextScreen (SetCursorType type)

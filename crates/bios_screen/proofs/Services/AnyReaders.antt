@@ -1,7 +1,7 @@
 -- Services that only answer, in text and in graphics.
 use Rattle.std.proofs.Common.{◌≡◌, ℕ, refl, ap, List}
 use Rattle.std.specs.Prelude.{slice_index}
-use Rattle.bios_screen.proofs.Prelude.{CardState, BiosData, FontSet, Regs, page_among, page_meant_by_number, page_meant, IsServed}
+use Rattle.bios_screen.proofs.Prelude.{CardState, BiosData, FontSet, Regs, page_among, page_meant_by_number, page_meant, ServiceActsAsOnScreen}
 use Rattle.bios_services.specs.declared.call.Service.TheVariants.{ReadCursor, ReadMode, ReadAdapter, ReadDisplay}
 use Rattle.bios_services.specs.Reasons.{no_page}
 use Rattle.bios_services.specs.Refusals.{refusal_in_mode}
@@ -15,7 +15,7 @@ pub any_meant : (c : CardState) (d : BiosData) (h : IsAny c d) (page : ℕ) → 
 any_meant c d h page = named_page h.row d h.mode page
 
 pub read_cursor : (page : ℕ) (fonts : FontSet) (r : Regs) (block : List ℕ) (c : CardState) (d : BiosData) (h : IsAny c d) →
-    IsServed (ReadCursor page) fonts r block c d (any_screen c d h c)
+    ServiceActsAsOnScreen (ReadCursor page) fonts r block c d (any_screen c d h c)
 unfolding plan_of_service refusal_in_mode refusal_on next answer_on
 read_cursor page fonts r block c d h = record {
   refusal = ap (λ n. no_page n (page_among n page)) (pages_are h.row d h.mode);
@@ -25,16 +25,16 @@ read_cursor page fonts r block c d h = record {
 }
 
 pub read_mode : (fonts : FontSet) (r : Regs) (block : List ℕ) (c : CardState) (d : BiosData) (h : IsAny c d) →
-    IsServed ReadMode fonts r block c d (any_screen c d h c)
+    ServiceActsAsOnScreen ReadMode fonts r block c d (any_screen c d h c)
 unfolding plan_of_service refusal_in_mode refusal_on next answer_on
 read_mode fonts r block c d h = record { refusal = refl; answer = λ _. refl; shows = λ _. still_any c d h; beam = refl }
 
 pub read_adapter : (fonts : FontSet) (r : Regs) (block : List ℕ) (c : CardState) (d : BiosData) (h : IsAny c d) →
-    IsServed ReadAdapter fonts r block c d (any_screen c d h c)
+    ServiceActsAsOnScreen ReadAdapter fonts r block c d (any_screen c d h c)
 unfolding plan_of_service refusal_in_mode refusal_on next answer_on
 read_adapter fonts r block c d h = record { refusal = refl; answer = λ _. refl; shows = λ _. still_any c d h; beam = refl }
 
 pub read_display : (fonts : FontSet) (r : Regs) (block : List ℕ) (c : CardState) (d : BiosData) (h : IsAny c d) →
-    IsServed ReadDisplay fonts r block c d (any_screen c d h c)
+    ServiceActsAsOnScreen ReadDisplay fonts r block c d (any_screen c d h c)
 unfolding plan_of_service refusal_in_mode refusal_on next answer_on
 read_display fonts r block c d h = record { refusal = refl; answer = λ _. refl; shows = λ _. still_any c d h; beam = refl }

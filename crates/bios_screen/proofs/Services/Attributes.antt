@@ -9,8 +9,8 @@ use Rattle.vga_card.specs.Port.{port_of as reached_by}
 use Rattle.vga_card.specs.Adapter.{adapter_of}
 use Rattle.vga_card.specs.Cycles.{card_after_write, card_after_read, unless_refused, out_reached, inp_reached}
 use Rattle.bios_services.specs.Plan.{out, inp, read_byte_or_ff}
-use Rattle.bios_services.specs.Cycles.{write_attribute_register, write_attribute_registers, expect_index, show_palette}
-use Rattle.bios_services.specs.Palette.{set_register_plan, set_palette_plan, set_blinking_plan, read_register_at_index_plan, read_register_plan}
+use Rattle.bios_services.specs.Cycles.{write_attribute_register, write_attribute_registers, reset_attribute_flip_flop, show_palette}
+use Rattle.bios_services.specs.Palette.{set_attribute_register_plan, set_palette_plan, set_blinking_plan, read_register_at_index_plan, read_attribute_register_plan}
 use Rattle.bios_screen.specs.Colours.{six_bits}
 use Rattle.bios_screen.proofs.Base.Lists.{spelled}
 use Rattle.bios_screen.proofs.Base.Plans.{run_bind, then_runs}
@@ -53,9 +53,9 @@ unfolding reached_by out_reached
 again c l i = let done : Plan (Unit {0}) = Done tt in ap (λ r. r.0) (expected_runs done (with_attr c l 0x20 true))
 
 pub register_set : (c : CardState) (i v : ℕ) → i < 18 →
-    (run card_meaning (set_register_plan (crtc_port c.misc) i v) c).0
+    (run card_meaning (set_attribute_register_plan (crtc_port c.misc) i v) c).0
     ≡ with_attr c (slice_set c.attr.registers i (bit_and v (slice_index attr_masks i))) 0x20 false
-unfolding set_register_plan reached_by out_reached
+unfolding set_attribute_register_plan reached_by out_reached
 register_set c i v l =
     let p = crtc_port c.misc in
     let old = c.attr.registers in
@@ -104,9 +104,9 @@ unfolding reached_by out_reached
 sixteen_by c values v = again c (with_palette c.attr.registers values v) 0x11
 
 group_is : (port : ℕ) (block : List ℕ) → length (take 16 block) ≡ 16 →
-    set_palette_plan port block ≡ (expect_index port >> sixteen port (take 16 block) (slice_index block 16))
+    set_palette_plan port block ≡ (reset_attribute_flip_flop port >> sixteen port (take 16 block) (slice_index block 16))
 unfolding set_palette_plan write_attribute_registers
-group_is port block e = ap (λ n. let x : Plan (Unit {0}) = (expect_index port >> (each (λ i. write_attribute_register i (slice_index (take 16 block) i)) n 0
+group_is port block e = ap (λ n. let x : Plan (Unit {0}) = (reset_attribute_flip_flop port >> (each (λ i. write_attribute_register i (slice_index (take 16 block) i)) n 0
     >> (write_attribute_register 0x11 (slice_index block 16) >> show_palette port))) in x) e
 
 pub palette_set : (c : CardState) (block : List ℕ) → IsCard c → length (take 16 block) ≡ 16 →
@@ -157,13 +157,13 @@ pub value_of_register : (c : CardState) (l : List ℕ) (j i : ℕ) → i < 18 �
 unfolding read_register_at_index_plan reached_by out_reached
 value_of_register c l j i k =
     let n = reads i k in
-    let rest : ℕ → Plan ℕ = λ value. (expect_index (crtc_port c.misc) >> Done value) in
+    let rest : ℕ → Plan ℕ = λ value. (reset_attribute_flip_flop (crtc_port c.misc) >> Done value) in
     ap (λ a. run card_meaning (inp 0x3C1 >>= rest) (with_attr c l a true)) n.kept
     ∙ run_bind card_meaning (inp 0x3C1) rest (with_attr c l (0x20 + i) true)
     ∙ ap (λ (r : CardState × ℕ). run card_meaning (rest r.1) r.0) (value_read c l i n)
     ∙ expected_runs (let d : Plan ℕ = Done (slice_index l i) in d) (with_attr c l (0x20 + i) true)
 
 pub register_read : (c : CardState) (i : ℕ) → i < 18 →
-    run card_meaning (read_register_plan (crtc_port c.misc) i) c ≡ (with_attr c c.attr.registers (0x20 + i) false, slice_index c.attr.registers i)
-unfolding read_register_plan
+    run card_meaning (read_attribute_register_plan (crtc_port c.misc) i) c ≡ (with_attr c c.attr.registers (0x20 + i) false, slice_index c.attr.registers i)
+unfolding read_attribute_register_plan
 register_read c i k = expected_runs (read_register_at_index_plan (crtc_port c.misc) i) c ∙ value_of_register c c.attr.registers c.attr.index i k

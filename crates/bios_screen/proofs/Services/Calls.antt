@@ -1,7 +1,7 @@
 -- Whole calls: each performs the service that the registers ask for.
 use Rattle.std.proofs.Common.{◌≡◌, ℕ, ◌<◌, refl, ap, ◌∙◌, subst, arith, List, length, Option, Some, None, Bool, true, false, Err}
 use Rattle.std.specs.Prelude.{◌==◌, ◌&&◌, nat_lt, if◌then◌else◌, IfSome}
-use Rattle.bios_screen.proofs.Prelude.{Refusal, IsCard, card_meaning, CardState, BiosData, FontSet, Regs, Plan, run, Done, ServiceOutcome, Screen, shown, IsServed}
+use Rattle.bios_screen.proofs.Prelude.{Refusal, IsCard, card_meaning, CardState, BiosData, FontSet, Regs, Plan, run, Done, ServiceOutcome, Screen, shown, ServiceActsAsOnScreen}
 use Rattle.bios_screen.proofs.Prelude.{AreBytes}
 use Rattle.vga_bits.specs.declared.refusal.Refusal.TheVariants.{NoMode, BadFunction, BadMode}
 use Rattle.bios_modes.specs.Modes.{mode_row}
@@ -18,11 +18,11 @@ use Rattle.bios_services.specs.declared.glyph_load.GlyphLoad.{GlyphLoad}
 use Rattle.bios_services.specs.GlyphLoads.{glyph_load_of}
 use Rattle.bios_services.specs.Calls.{scroll_of, colours_call, colour_call_of, service_of, call_in_mode, call_of, glyph_load_or}
 use Rattle.bios_services.specs.Refusals.{service_on_page_meant, refusal_in_mode}
-use Rattle.bios_services.specs.Service.{plan_of_service, set_mode_plan, CallOutcome, answer_of_registers, refusal_plan, unless_refused_plan, in_mode_plan, call_plan}
+use Rattle.bios_services.specs.Service.{plan_of_service, set_mode_plan, CallOutcome, answer_of_registers, refusal_plan, unless_refused_plan, service_in_mode_plan, call_plan}
 use Rattle.bios_modes.specs.Bounds.{IsBda}
 use Rattle.bios_screen.specs.Step.{refusal_on, next, answer_on}
 use Rattle.bios_screen.specs.AfterCall.{ServiceLeadsToNextScreen, after_call, card_after_service}
-use Rattle.bios_screen.specs.Called.{AreRegistersWords, reply_unless, screen_unless, ServiceCallLeadsToScreen}
+use Rattle.bios_screen.specs.Called.{AreRegistersWords, reply_unless_refused, screen_unless_refused, ServiceCallLeadsToScreen}
 use Rattle.bios_screen.proofs.Base.Plans.{run_bind}
 use Rattle.bios_services.proofs.CardLemmas.{plan_beam}
 use Rattle.bios_screen.proofs.Shows.Screens.{mode_of_shown}
@@ -104,8 +104,8 @@ call_is_served r w =
 
 -- a call's reply, and the screen that it leads to, unless it is refused
 pub record Leads (why : Option Refusal) (r : Regs) (s new : Screen) (x : CardState × CallOutcome) : Type 0 where
-  pub reply : x.1.0 ≡ reply_unless why r
-  pub shows : shown x.0 x.1.1 ≡ Some (screen_unless why s new)
+  pub reply : x.1.0 ≡ reply_unless_refused why r
+  pub shows : shown x.0 x.1.1 ≡ Some (screen_unless_refused why s new)
 
 unless_leads : (why : Option Refusal) (service : Service) (fonts : FontSet) (r : Regs) (block : List ℕ) (c : CardState) (d : BiosData) (s : Screen) →
     shown c d ≡ Some s → (why ≡ None → (card_after_service service fonts r block c d).1.0 ≡ answer_on fonts s service r)
@@ -118,13 +118,13 @@ unless_leads None service fonts r block c d s old answer shows =
     let done : ServiceOutcome → Plan CallOutcome = λ outcome. Done (answer_of_registers outcome.0 outcome.1) in
     let bound = run_bind card_meaning (plan_of_service (service_on_page_meant d service) fonts d r block) done c in
     record {
-      reply = ap (λ x. x.1.0) bound ∙ ap (reply_unless None) (answer refl);
+      reply = ap (λ x. x.1.0) bound ∙ ap (reply_unless_refused None) (answer refl);
       shows = ap (λ x. shown x.0 x.1.1) bound ∙ shows refl;
     }
 
 call_done : (service : Service) (fonts : FontSet) (r : Regs) (block : List ℕ) (c : CardState) (d : BiosData) (s : Screen) → call_of r ≡ Some (InMode service) →
-    shown c d ≡ Some s → IsServed service fonts r block c d s → ServiceCallLeadsToScreen service fonts r block c d s
-unfolding in_mode_plan
+    shown c d ≡ Some s → ServiceActsAsOnScreen service fonts r block c d s → ServiceCallLeadsToScreen service fonts r block c d s
+unfolding service_in_mode_plan
 call_done service fonts r block c d s e old i =
     let why = refusal_on s service (length block) in
     let plan = unless_refused_plan why (service_on_page_meant d service) fonts d r block in

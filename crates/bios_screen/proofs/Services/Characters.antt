@@ -2,7 +2,7 @@
 -- from there on.
 use Rattle.std.proofs.Common.{◌≡◌, ℕ, ◌+◌, ◌<◌, ◌≤◌, ap, ◌∙◌, List, Some, None}
 use Rattle.bios_screen.proofs.Prelude.{IsCard, card_meaning, CardState, BiosData, FontSet, bytes_320_by_200, Regs, Colouring, page_count, cells_per_page, Plan, run}
-use Rattle.bios_screen.proofs.Prelude.{Done, ◌>>=◌, ◌>>◌, page_among, page_meant_by_number, ServiceOutcome, Screen, shown, page_meant, IsServed}
+use Rattle.bios_screen.proofs.Prelude.{Done, ◌>>=◌, ◌>>◌, page_among, page_meant_by_number, ServiceOutcome, Screen, shown, page_meant, ServiceActsAsOnScreen}
 use Rattle.bios_services.specs.declared.cell_run.CellRun.{CellRun}
 use Rattle.bios_services.specs.declared.call.Service.TheVariants.{ReadCell, WriteCells}
 use Rattle.bios_services.specs.CellRuns.{cell_run_plan}
@@ -49,7 +49,7 @@ module _ (fonts : FontSet) (r : Regs) (block : List ℕ) (c : CardState) (d : Bi
   abbrev s : Screen
   s = any_screen c d h c
 
-  pub write_cells : (cells : CellRun) → cells.character < 256 → cells.colouring.colour < 256 → IsServed (WriteCells cells) fonts r block c d s
+  pub write_cells : (cells : CellRun) → cells.character < 256 → cells.colouring.colour < 256 → ServiceActsAsOnScreen (WriteCells cells) fonts r block c d s
   unfolding plan_of_service refusal_in_mode refusal_on next answer_on
   write_cells cells lv la =
       let p = page_meant s cells.page in
@@ -70,7 +70,7 @@ module _ (fonts : FontSet) (r : Regs) (block : List ℕ) (c : CardState) (d : Bi
         beam = plan_beam (plan >> done) c;
       }
 
-  pub read_cell : (page : ℕ) → IsServed (ReadCell page) fonts r block c d s
+  pub read_cell : (page : ℕ) → ServiceActsAsOnScreen (ReadCell page) fonts r block c d s
   unfolding plan_of_service refusal_in_mode refusal_on next answer_on
   read_cell page =
       let p = page_meant s page in

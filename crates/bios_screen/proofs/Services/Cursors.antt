@@ -8,7 +8,7 @@ use Rattle.std.proofs.lemmas.List.{get_or-set_same, get_or-set_other}
 use Rattle.vga_crtc.specs.Ports.{after_out as after_crtc}
 use Rattle.vga_card.specs.declared.port.Port.TheVariants.{CrtcIndex, CrtcData}
 use Rattle.bios_screen.proofs.Prelude.{CardState, crtc_port, card_meaning, ModeRow, BiosData, FontSet, is_text, Regs, Plan, run, Done, ◌>>=◌, ◌>>◌}
-use Rattle.bios_screen.proofs.Prelude.{start_address, page_among, page_meant_by_number, ServiceOutcome, Screen, crtc_registers, shown, page_meant, IsServed}
+use Rattle.bios_screen.proofs.Prelude.{start_address, page_among, page_meant_by_number, ServiceOutcome, Screen, crtc_registers, shown, page_meant, ServiceActsAsOnScreen}
 use Rattle.vga_card.specs.Cycles.{out_at, out_reached}
 use Rattle.bios_modes.specs.Bounds.{IsBda}
 use Rattle.bios_services.specs.declared.call.Service.TheVariants.{SetCursorType, SetCursor, SelectPage}
@@ -19,7 +19,7 @@ use Rattle.bios_services.specs.Cursor.{cursor_type_plan}
 use Rattle.bios_services.specs.Reasons.{no_page}
 use Rattle.bios_services.specs.Refusals.{refusal_in_mode}
 use Rattle.bios_services.specs.Service.{plan_of_service}
-use Rattle.bios_screen.specs.Shown.{cursor_location_shown, shows_data, screen_of, screen_shown_in_mode}
+use Rattle.bios_screen.specs.Shown.{cursor_location_shown, has_bios_data_of_mode, screen_of, screen_shown_in_mode}
 use Rattle.bios_screen.specs.Step.{refusal_on, next, answer_on, with_position as placed_on}
 use Rattle.bios_screen.proofs.Base.Plans.{run_bind, then_runs}
 use Rattle.bios_screen.proofs.Base.Ports.{crtc_runs}
@@ -143,7 +143,7 @@ same_test : (n : ℕ) → (n == n) ≡ true
 same_test n = grind (arith, nat_tests)
 
 -- the data are still the mode's, with another active page
-page_data : (row : ModeRow) (d : BiosData) (page : ℕ) → shows_data row d ≡ true → page < row.pages → shows_data row (with_page d page) ≡ true
+page_data : (row : ModeRow) (d : BiosData) (page : ℕ) → has_bios_data_of_mode row d ≡ true → page < row.pages → has_bios_data_of_mode row (with_page d page) ≡ true
 page_data row d page h l =
     let a = both_true (d.columns == row.columns) _ h in
     let b = both_true (d.size == row.size) _ a.1 in
@@ -169,7 +169,7 @@ module _ (c : CardState) (d : BiosData) (h : IsAny c d) where
   here t = sym (ap (λ b. if b then cursor_address d d.page else 256 * slice_index c.crtc.registers 0x0E + slice_index c.crtc.registers 0x0F) t)
 
   -- if registers and data agree, the screen with another cursor or another page is shown
-  other_data : (type : ℕ) (places : List ℕ) (page start n i : ℕ) → (let e = with_cursors d type places page start in shows_data h.row e ≡ true →
+  other_data : (type : ℕ) (places : List ℕ) (page start n i : ℕ) → (let e = with_cursors d type places page start in has_bios_data_of_mode h.row e ≡ true →
       (is_text d.mode ≡ true → cursor_address e page ≡ n) →
       shown (with_crtc c (crtc_registers h.row type (start_address e page) n) i) e ≡ Some (record s { cursor_type = type; places = places; page = page }))
   other_data type places page start n i data_test at =
@@ -187,7 +187,7 @@ module _ (c : CardState) (d : BiosData) (h : IsAny c d) where
       ∙ ap (λ (x : Screen). Some x) (h.screen y type places page start)
 
   -- function 01
-  pub set_cursor_type : (type : ℕ) (fonts : FontSet) (r : Regs) (block : List ℕ) → IsServed (SetCursorType type) fonts r block c d s
+  pub set_cursor_type : (type : ℕ) (fonts : FontSet) (r : Regs) (block : List ℕ) → ServiceActsAsOnScreen (SetCursorType type) fonts r block c d s
   unfolding plan_of_service cursor_type_plan refusal_in_mode refusal_on next answer_on
   set_cursor_type type fonts r block =
       let e : BiosData = record d { cursor_type = type } in
@@ -234,7 +234,7 @@ module _ (c : CardState) (d : BiosData) (h : IsAny c d) where
 
   -- function 02
   pub set_cursor : (page place : ℕ) (fonts : FontSet) (r : Regs) (block : List ℕ) → place < 65536 → IsBda d →
-      IsServed (SetCursor page place) fonts r block c d s
+      ServiceActsAsOnScreen (SetCursor page place) fonts r block c d s
   unfolding plan_of_service refusal_in_mode refusal_on next answer_on
   set_cursor page place fonts r block l bda =
       let p = page_meant_by_number d page in
@@ -275,7 +275,7 @@ module _ (c : CardState) (d : BiosData) (h : IsAny c d) where
       at_cursor e page location t (λ apart. absurd (apart refl)))
 
   -- function 05
-  pub select_page : (page : ℕ) (fonts : FontSet) (r : Regs) (block : List ℕ) → IsBda d → IsServed (SelectPage page) fonts r block c d s
+  pub select_page : (page : ℕ) (fonts : FontSet) (r : Regs) (block : List ℕ) → IsBda d → ServiceActsAsOnScreen (SelectPage page) fonts r block c d s
   unfolding plan_of_service refusal_in_mode refusal_on next answer_on
   select_page page fonts r block bda =
       let plan = show_page_plan d page in

@@ -12,11 +12,11 @@ use Rattle.bios_services.specs.declared.glyph_load.GlyphLoad.{GlyphLoad}
 use Rattle.bios_services.specs.declared.call.Call.{Call}
 use Rattle.bios_services.specs.declared.call.Call.TheVariants.{LoadGlyphs}
 use Rattle.bios_services.specs.Reasons.{◌or◌, refuse_unless}
-use Rattle.bios_services.specs.GlyphLoads.{AreGlyphsThere, glyphs_block, glyphs_len, load_reason, load_refusal, load_plan}
+use Rattle.bios_services.specs.GlyphLoads.{AreGlyphsThere, glyphs_block_len, glyphs_len, load_refusal_besides_block, load_refusal, load_plan}
 use Rattle.bios_services.specs.Calls.{call_of}
 use Rattle.bios_services.specs.Service.{CallOutcome, answer_of_registers, call_plan, refusal_plan, load_if_height_exists, load_unless_refused_plan, load_in_mode_plan}
 use Rattle.bios_screen.specs.AfterCall.{after_call}
-use Rattle.bios_screen.specs.Called.{reply_unless, screen_unless, GlyphCallLeadsToScreen}
+use Rattle.bios_screen.specs.Called.{reply_unless_refused, screen_unless_refused, GlyphCallLeadsToScreen}
 use Rattle.bios_screen.specs.Loaded.{height_refusal_on, load_at_height, load_glyphs}
 use Rattle.bios_screen.proofs.Base.Tests.{le_is}
 use Rattle.bios_screen.proofs.Base.Reasons.{neither, holds, wrong_or}
@@ -75,7 +75,7 @@ record IsAllowed (load : GlyphLoad) (mode len : ℕ) : Type 0 where
 
 allowed_of : (load : GlyphLoad) (mode len : ℕ) → load_refusal load mode len ≡ None → IsAllowed load mode len
 allowed_of load mode len e =
-    let block = wrong_or (load_reason load mode) (glyphs_block load) len e in
+    let block = wrong_or (load_refusal_besides_block load mode) (glyphs_block_len load) len e in
     let reason = neither (refuse_unless (is_text mode) WrongKind) _ block.0 in
     record {
       text = holds (is_text mode) WrongKind reason.0;
@@ -154,9 +154,9 @@ module _ (fonts : FontSet) (load : GlyphLoad) (r : Regs) (block : List ℕ) (byt
       let t = unless_leads why refl in
       let same = sym mode.is in
       record {
-        reply = ap (λ y. y.1.0) runs ∙ t.reply ∙ ap (λ m. reply_unless (load_refusal load m (length block) or height_refusal_on (text_row m load.height)) r)
+        reply = ap (λ y. y.1.0) runs ∙ t.reply ∙ ap (λ m. reply_unless_refused (load_refusal load m (length block) or height_refusal_on (text_row m load.height)) r)
             same;
-        shows = ap (λ y. shown y.0 y.1.1) runs ∙ t.shows ∙ ap (λ m. Some (screen_unless (load_refusal load m (length block)
+        shows = ap (λ y. shown y.0 y.1.1) runs ∙ t.shows ∙ ap (λ m. Some (screen_unless_refused (load_refusal load m (length block)
             or height_refusal_on (text_row m load.height)) s (load_at_height (text_row m load.height) fonts s load block))) same;
         beam = ap (λ y. y.0.crtc.beam) runs ∙ plan_beam plan c;
       }

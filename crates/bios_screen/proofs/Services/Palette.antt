@@ -6,7 +6,7 @@ use Rattle.std.proofs.lemmas.Bool.{agree_below_at}
 use Rattle.std.proofs.lemmas.List.{get_or-set_same, get_or-set_other, get_or-take, length-take-le, take-set-le, drop-set-lt}
 use Rattle.std.proofs.Math.Seq.{take-set-lt}
 use Rattle.bios_screen.proofs.Prelude.{is_set, is_palette_shown, DacState, IsCard, card_meaning, CardState, crtc_port, BiosData, AreBytes, FontSet, Regs, Plan}
-use Rattle.bios_screen.proofs.Prelude.{run, Done, ◌>>=◌, ◌>>◌, ServiceOutcome, list_by_function, Screen, shows_attribute, shown, IsServed}
+use Rattle.bios_screen.proofs.Prelude.{run, Done, ◌>>=◌, ◌>>◌, ServiceOutcome, list_by_function, Screen, has_attribute_registers_of_mode, shown, ServiceActsAsOnScreen}
 use Rattle.vga_bits.specs.declared.refusal.Refusal.TheVariants.{BadRegister}
 use Rattle.vga_attr.specs.Attr.{attr_masks}
 use Rattle.vga_dac.specs.declared.component.Component.TheVariants.{Red}
@@ -18,7 +18,7 @@ use Rattle.bios_services.specs.declared.colours.ColourService.TheVariants.{SetEn
 use Rattle.bios_services.specs.declared.call.Service.TheVariants.{Colours}
 use Rattle.bios_services.specs.Registers.{with_high, with_low}
 use Rattle.bios_services.specs.Plan.{out}
-use Rattle.bios_services.specs.Palette.{set_register_plan, set_palette_plan, set_blinking_plan, read_register_plan}
+use Rattle.bios_services.specs.Palette.{set_attribute_register_plan, set_palette_plan, set_blinking_plan, read_attribute_register_plan}
 use Rattle.bios_services.specs.Dac.{set_entry_plan, set_entries_plan}
 use Rattle.bios_services.specs.Reasons.{refuse_unless, wrong_block}
 use Rattle.bios_services.specs.Colours.{colour_refusal, has_entries, no_register, no_entry, no_entries, read_register_in_bh, read_mask_in_bl, colours_plan}
@@ -68,7 +68,7 @@ module _ (c : CardState) (d : BiosData) (h : IsAny c d) where
   rest_is = (both_true (is_palette_shown c.attr) _ h.tests.attribute).1
 
   attribute_stays : (l : List ℕ) (i : ℕ) → is_set i 5 ≡ true → bit_and (slice_index l 0x10) 0xF7 ≡ bit_and (slice_index registers 0x10) 0xF7 →
-      drop 0x12 l ≡ drop 0x12 registers → shows_attribute h.row (with_attr c l i false).attr ≡ true
+      drop 0x12 l ≡ drop 0x12 registers → has_attribute_registers_of_mode h.row (with_attr c l i false).attr ≡ true
   attribute_stays l i e control rest = rw (e, control, rest) rest_is
 
   -- other palette values, overscan and blinking give the screen with these
@@ -112,7 +112,7 @@ module _ (c : CardState) (d : BiosData) (h : IsAny c d) where
   masks_are : (i : ℕ) → i < 16 → slice_index attr_masks i ≡ 0x3F
   masks_are i l = same (agree_below_at (λ n. slice_index attr_masks n == 0x3F) (λ _. true) 16 i refl l)
 
-  value_shown : (i v : ℕ) → i < 16 → shown (run card_meaning (set_register_plan (crtc_port c.misc) i v) c).0 d ≡ Some (with_palette_value s i v)
+  value_shown : (i v : ℕ) → i < 16 → shown (run card_meaning (set_attribute_register_plan (crtc_port c.misc) i v) c).0 d ≡ Some (with_palette_value s i v)
   value_shown i v l =
       let x = six_bits v in
       let new = slice_set registers i x in
@@ -124,7 +124,7 @@ module _ (c : CardState) (d : BiosData) (h : IsAny c d) where
       (ap (λ n. is_set n 3) control)
 
   overscan_shown : (v : ℕ) → v < 256 → IsCard c →
-      shown (run card_meaning (set_register_plan (crtc_port c.misc) 0x11 v) c).0 d ≡ Some (record s { overscan = v })
+      shown (run card_meaning (set_attribute_register_plan (crtc_port c.misc) 0x11 v) c).0 d ≡ Some (record s { overscan = v })
   overscan_shown v l z =
       let size = z.attr.size in
       let new = slice_set registers 0x11 v in
@@ -180,8 +180,8 @@ module _ (c : CardState) (d : BiosData) (h : IsAny c d) where
   unfolding read_register_in_bh
   register_in_bh i r l =
       let done : ℕ → Plan Regs = λ value. Done (record r { bx = with_high r.bx value }) in
-      run_bind card_meaning (read_register_plan d.crtc_address i) done c
-      ∙ ap (λ p. let x = run card_meaning (read_register_plan p i) c in run card_meaning (done x.1) x.0) h.port
+      run_bind card_meaning (read_attribute_register_plan d.crtc_address i) done c
+      ∙ ap (λ p. let x = run card_meaning (read_attribute_register_plan p i) c in run card_meaning (done x.1) x.0) h.port
       ∙ ap (λ (x : CardState × ℕ). run card_meaning (done x.1) x.0) (register_read c i l)
 
   pub index_moved : (i : ℕ) → i < 18 → shown (with_attr c registers (0x20 + i) false) d ≡ Some s
@@ -207,9 +207,9 @@ module _ (c : CardState) (d : BiosData) (h : IsAny c d) where
   pub is_coloured : (service : ColourService) (r : Regs) (block : List ℕ) → OverscanFitsByte service → AreBytes block → IsCard c →
       colour_refusal service (length block) ≡ None → IsColoured service r block c d s
   unfolding colours_plan with_colours colours_answer
-  is_coloured (SetRegister i v) r block fits bytes z e = setting_served (SetRegister i v) r block (λ p. set_register_plan p i v) refl refl
+  is_coloured (SetRegister i v) r block fits bytes z e = setting_served (SetRegister i v) r block (λ p. set_attribute_register_plan p i v) refl refl
       (value_shown i v (register_allowed i e))
-  is_coloured (SetOverscan v) r block fits bytes z e = setting_served (SetOverscan v) r block (λ p. set_register_plan p 0x11 v) refl refl
+  is_coloured (SetOverscan v) r block fits bytes z e = setting_served (SetOverscan v) r block (λ p. set_attribute_register_plan p 0x11 v) refl refl
       (overscan_shown v fits z)
   is_coloured SetPalette r block fits bytes z e = setting_served SetPalette r block (λ p. set_palette_plan p block) refl refl
       (palette_shown block bytes z (block_fits 17 (length block) e))
@@ -247,7 +247,7 @@ module _ (c : CardState) (d : BiosData) (h : IsAny c d) where
 -- ---- function 10
 
 pub set_colours : (service : ColourService) (fonts : FontSet) (r : Regs) (block : List ℕ) (c : CardState) (d : BiosData) (h : IsAny c d) → OverscanFitsByte service →
-    AreBytes block → IsCard c → IsServed (Colours service) fonts r block c d (any_screen c d h c)
+    AreBytes block → IsCard c → ServiceActsAsOnScreen (Colours service) fonts r block c d (any_screen c d h c)
 unfolding plan_of_service refusal_in_mode refusal_on next answer_on
 set_colours service fonts r block c d h fits bytes z =
     let plan = colours_plan service d.crtc_address r block in

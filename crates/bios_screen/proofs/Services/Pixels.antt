@@ -3,7 +3,7 @@ use Rattle.std.proofs.Common.{◌≡◌, ℕ, ◌+◌, ◌*◌, ◌<◌, refl, a
 use Rattle.std.specs.Prelude.{nat_lt, not}
 use Rattle.vga_bits.specs.declared.refusal.Refusal.TheVariants.{Outside, WrongKind}
 use Rattle.bios_screen.proofs.Prelude.{IsCard, card_meaning, CardState, BiosData, FontSet, bytes_320_by_200, is_text, Regs, page_count, Plan, run, Done, ◌>>=◌}
-use Rattle.bios_screen.proofs.Prelude.{◌>>◌, page_among, page_meant_by_number, ServiceOutcome, Screen, shown, page_meant, pixel_of, with_pixels, IsServed}
+use Rattle.bios_screen.proofs.Prelude.{◌>>◌, page_among, page_meant_by_number, ServiceOutcome, Screen, shown, page_meant, pixel_of, with_pixels, ServiceActsAsOnScreen}
 use Rattle.bios_services.specs.declared.call.Service.TheVariants.{WritePixel, ReadPixel}
 use Rattle.bios_services.specs.Registers.{with_low}
 use Rattle.bios_services.specs.Pixels.{pixels_across, pixels_down, write_pixel_plan, read_pixel_plan}
@@ -57,7 +57,7 @@ module _ (c : CardState) (d : BiosData) (h : IsAny c d) (page x y : ℕ) where
   pub write_by : (colour : ℕ) (fonts : FontSet) (r : Regs) (block : List ℕ) → (is_text d.mode ≡ false → p < page_count d → There d x y →
       shown (run card_meaning (write_pixel_plan d p x y colour) c).0 d
       ≡ Some (with_pixels s p (change_pixel (pixel_number s x y) (colour_over d.mode colour))))
-      → IsServed (WritePixel page x y colour) fonts r block c d s
+      → ServiceActsAsOnScreen (WritePixel page x y colour) fonts r block c d s
   unfolding plan_of_service refusal_in_mode refusal_on next answer_on
   write_by colour fonts r block drawn =
       let plan = write_pixel_plan d (page_meant_by_number d page) x y colour in
@@ -75,7 +75,7 @@ module _ (c : CardState) (d : BiosData) (h : IsAny c d) (page x y : ℕ) where
       }
 
   pub read_by : (fonts : FontSet) (r : Regs) (block : List ℕ) → (is_text d.mode ≡ false → p < page_count d → There d x y →
-      IsSeen (λ y. shown y d ≡ Some s) (read_pixel_plan d p x y) (pixel_of s p (pixel_number s x y)) c) → IsServed (ReadPixel page x y) fonts r block c d s
+      IsSeen (λ y. shown y d ≡ Some s) (read_pixel_plan d p x y) (pixel_of s p (pixel_number s x y)) c) → ServiceActsAsOnScreen (ReadPixel page x y) fonts r block c d s
   unfolding plan_of_service read_pixel_service refusal_in_mode refusal_on next answer_on
   read_by fonts r block read =
       let after : ℕ → Plan Regs = λ colour. Done (record r { ax = with_low r.ax colour }) in
@@ -105,7 +105,7 @@ module _ (c : CardState) (d : BiosData) (h : IsAny c d) (page x y : ℕ) (fonts 
   abbrev at : ℕ
   at = page_meant seen page
 
-  pub write_pixel : (colour : ℕ) → colour < 256 → IsCard c → IsServed (WritePixel page x y colour) fonts r block c d seen
+  pub write_pixel : (colour : ℕ) → colour < 256 → IsCard c → ServiceActsAsOnScreen (WritePixel page x y colour) fonts r block c d seen
   write_pixel colour l z = write_by c d h page x y colour fonts r block (λ f lp there.
       by_colours c d (λ w. shown (run card_meaning (write_pixel_plan d at x y colour) c).0 d
       ≡ Some (with_pixels w at (change_pixel (8 * d.columns * y + x) (colour_over d.mode colour))))
@@ -113,15 +113,15 @@ module _ (c : CardState) (d : BiosData) (h : IsAny c d) (page x y : ℕ) (fonts 
       (λ t. packed.pixel_written c d t z at x y colour (page_in bytes_320_by_200 d at (t.there d.height) lp) there l)
       seen f (still_any c d h))
 
-  pub read_pixel : IsCard c → IsServed (ReadPixel page x y) fonts r block c d seen
+  pub read_pixel : IsCard c → ServiceActsAsOnScreen (ReadPixel page x y) fonts r block c d seen
   read_pixel z = read_by c d h page x y fonts r block (λ f lp there.
       by_colours c d (λ w. IsSeen (λ y. shown y d ≡ Some w) (read_pixel_plan d at x y) (pixel_of w at (8 * d.columns * y + x)) c)
       (λ row t. planar_reads.pixel_read row c d t z at x y (page_in row d at (t.there d.height) lp) there)
       (λ t. packed.pixel_read c d t z at x y (page_in bytes_320_by_200 d at (t.there d.height) lp) there)
       seen f (still_any c d h))
 
-  pub write_refused : is_text d.mode ≡ true → (colour : ℕ) → IsServed (WritePixel page x y colour) fonts r block c d seen
+  pub write_refused : is_text d.mode ≡ true → (colour : ℕ) → ServiceActsAsOnScreen (WritePixel page x y colour) fonts r block c d seen
   write_refused t colour = write_by c d h page x y colour fonts r block (λ f _ _. absurd (cc))
 
-  pub read_refused : is_text d.mode ≡ true → IsServed (ReadPixel page x y) fonts r block c d seen
+  pub read_refused : is_text d.mode ≡ true → ServiceActsAsOnScreen (ReadPixel page x y) fonts r block c d seen
   read_refused t = read_by c d h page x y fonts r block (λ f _ _. absurd (cc))

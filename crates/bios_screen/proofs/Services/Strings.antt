@@ -2,7 +2,7 @@
 use Rattle.std.proofs.Common.{◌≡◌, ℕ, zero, suc, ◌+◌, ◌*◌, ◌<◌, refl, ap, ◌∙◌, List, length, Option, Some, None, Bool, true, false}
 use Rattle.std.specs.Prelude.{if◌then◌else◌, slice_index}
 use Rattle.bios_screen.proofs.Prelude.{Refusal, IsCard, card_meaning, CardState, BiosData, AreBytes, FontSet, Regs, Plan, run, Done, page_count, page_among}
-use Rattle.bios_screen.proofs.Prelude.{page_meant_by_number, Screen, shown, page_meant, IsServed}
+use Rattle.bios_screen.proofs.Prelude.{page_meant_by_number, Screen, shown, page_meant, ServiceActsAsOnScreen}
 use Rattle.bios_modes.specs.Bounds.{IsBda}
 use Rattle.bios_services.specs.declared.strings.StringCall.{StringCall}
 use Rattle.bios_services.specs.declared.call.Service.TheVariants.{WriteString}
@@ -96,7 +96,7 @@ string_allowed pages p rows columns place wrong e =
     record { page = page_allowed pages p both.0; inside = place_allowed rows columns place both.1 }
 
 pub write_string : (call : StringCall) (fonts : FontSet) (r : Regs) (block : List ℕ) (c : CardState) (d : BiosData) (h : IsAny c d) →
-    AreBytes block → call.colour < 256 → IsCard c → IsBda d → IsServed (WriteString call) fonts r block c d (any_screen c d h c)
+    AreBytes block → call.colour < 256 → IsCard c → IsBda d → ServiceActsAsOnScreen (WriteString call) fonts r block c d (any_screen c d h c)
 unfolding plan_of_service refusal_in_mode refusal_on next answer_on
 write_string call fonts r block c d h bytes colour z bda =
     let s = any_screen c d h c in

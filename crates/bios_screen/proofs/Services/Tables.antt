@@ -22,7 +22,7 @@ use Rattle.bios_services.specs.Service.{CallOutcome, answer_with, refusal_plan, 
 use Rattle.bios_screen.specs.Shown.{palette_of_card}
 use Rattle.bios_screen.specs.Colours.{entry_bytes_from, table_answer}
 use Rattle.bios_screen.specs.AfterCall.{after_call}
-use Rattle.bios_screen.specs.Called.{TableCallLeavesScreen, CallRunsOutOfMemory, ScreenStaysShown, table_reply_unless as replied_unless}
+use Rattle.bios_screen.specs.Called.{TableCallLeavesScreen, CallRunsOutOfMemory, ScreenStaysShown, table_reply_unless_refused as replied_unless}
 use Rattle.bios_screen.proofs.Base.Plans.{run_bind}
 use Rattle.bios_screen.proofs.Base.Ports.{expected_runs}
 use Rattle.bios_screen.proofs.Base.Lists.{spelled}

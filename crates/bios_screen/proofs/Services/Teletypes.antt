@@ -1,7 +1,7 @@
 -- Typing at the cursor of the active page, from one screen to the next.
 use Rattle.std.proofs.Common.{◌≡◌, ℕ, ◌+◌, ◌<◌, refl, ap, ◌∙◌, List, Some, Bool, true, false}
 use Rattle.std.specs.Prelude.{◌==◌, if◌then◌else◌}
-use Rattle.bios_screen.proofs.Prelude.{IsCard, card_meaning, CardState, BiosData, FontSet, Regs, page_count, Plan, run, Done, ◌>>=◌, Screen, shown, IsServed}
+use Rattle.bios_screen.proofs.Prelude.{IsCard, card_meaning, CardState, BiosData, FontSet, Regs, page_count, Plan, run, Done, ◌>>=◌, Screen, shown, ServiceActsAsOnScreen}
 use Rattle.bios_modes.specs.Bounds.{IsBda}
 use Rattle.bios_services.specs.declared.call.Service.TheVariants.{Teletype}
 use Rattle.bios_services.specs.Cursor.{cursor_position_of, move_cursor_plan}
@@ -61,7 +61,7 @@ module _ (v colour : ℕ) (lv : v < 256) (la : colour < 256) (fonts : FontSet) (
           ∙ ap (λ n. let x = run card_meaning (cursor n) c1 in shown x.0 x.1) t.leads.answer
           ∙ moved c1 d after.0 d.page after.1 t.leads.shows bda lp t.inside
 
-  pub teletype : (r : Regs) (block : List ℕ) → IsServed (Teletype v colour) fonts r block c d s
+  pub teletype : (r : Regs) (block : List ℕ) → ServiceActsAsOnScreen (Teletype v colour) fonts r block c d s
   unfolding plan_of_service refusal_in_mode refusal_on next answer_on
   teletype r block =
       let plan = teletype_plan fonts d v colour in

@@ -10,7 +10,7 @@ use Rattle.bios_services.specs.Drawing.{character_plan, characters_plan}
 use Rattle.bios_services.specs.Scroll.{page_up_plan}
 use Rattle.bios_services.specs.Teletype.{line_start, line_feed_fill, line_feed_plan, next_position_plan, write_and_advance_plan, type_plan}
 use Rattle.bios_screen.specs.Screen.{page_start}
-use Rattle.bios_screen.specs.Step.{cell_on, last_row_attribute, after_line_feed, after_cursor_advance, put_characters, put_character, type_character}
+use Rattle.bios_screen.specs.Step.{cell_on, last_row_attribute, after_line_feed, screen_and_next_position, put_characters, put_character, type_character}
 use Rattle.bios_screen.proofs.Base.Plans.{run_bind, then_runs, then_answers}
 use Rattle.bios_screen.proofs.Base.Places.{ends_before}
 use Rattle.bios_services.proofs.CardLemmas.{plan_bounds}
@@ -145,7 +145,7 @@ module _ (fonts : FontSet) (d : BiosData) (p : ℕ) (lp : p < page_count d) wher
       ) (record { answer = refl; shows = e }) (rises c s place z e lc))
 
   advances : (c : CardState) (s : Screen) (place : ℕ) → IsCard c → shown c d ≡ Some s → column_of place < d.columns →
-      Leads (next_position_plan d p place) c d (after_cursor_advance s p place)
+      Leads (next_position_plan d p place) c d (screen_and_next_position s p place)
   unfolding next_position_plan
   advances c s place z e lc =
       let below = feeds c s place z e lc in
@@ -161,11 +161,11 @@ module _ (fonts : FontSet) (d : BiosData) (p : ℕ) (lp : p < page_count d) wher
 
   module _ (c : CardState) (s : Screen) (place v : ℕ) (colouring : Colouring) (z : IsCard c) (e : shown c d ≡ Some s)
       (i : Inside (d.last_row + 1) d.columns place) (lv : v < 256) (la : colouring.colour < 256) where
-    shows : Leads (write_and_advance_plan fonts d p place v colouring) c d (after_cursor_advance (put_character fonts s p place v colouring) p place)
+    shows : Leads (write_and_advance_plan fonts d p place v colouring) c d (screen_and_next_position (put_character fonts s p place v colouring) p place)
     unfolding write_and_advance_plan
     shows =
         let write = character_plan fonts d p (cell_number d place) v colouring in
-        leads_after write (next_position_plan d p place) c d (after_cursor_advance (put_character fonts s p place v colouring) p place)
+        leads_after write (next_position_plan d p place) c d (screen_and_next_position (put_character fonts s p place v colouring) p place)
         (advances (run card_meaning write c).0 (put_character fonts s p place v colouring) place (plan_bounds write c z)
         (put c s place v colouring z e i lv la) i.column)
 
@@ -181,7 +181,7 @@ module _ (fonts : FontSet) (d : BiosData) (p : ℕ) (lp : p < page_count d) wher
         stays n = record { answer = refl; shows = e }
 
         on : Screen × ℕ
-        on = after_cursor_advance (put_character fonts s p place v colouring) p place
+        on = screen_and_next_position (put_character fonts s p place v colouring) p place
 
         by_tests : (a b f g : Bool) → Leads (if a then Done place else if b then Done back else if f then line_feed_plan d p place else if g
             then Done (line_start place) else write_and_advance_plan fonts d p place v colouring) c d (if a then (s, place) else if b then (s, back) else if f

@@ -3,8 +3,8 @@ use Rattle.std.proofs.Common.{◌≡◌, ℕ, ◌+◌, ◌<◌, ◌≤◌, refl,
 use Rattle.std.specs.Prelude.{◌==◌, ◌&&◌, ◌*◌, ◌/◌, if◌then◌else◌, slice_index, bit_and}
 use Rattle.std.specs.Str.{bytes_eq}
 use Rattle.bios_screen.proofs.Prelude.{Four, is_palette_shown, CardState, crtc_port, ModeRow, mode_row_at_height, BiosData, is_text, page_count, start_address, Screen}
-use Rattle.bios_screen.proofs.Prelude.{shows_attribute, text_memory_cells, page_pixels, shown}
-use Rattle.bios_screen.specs.Screen.{Contents, Cells, Pixels}
+use Rattle.bios_screen.proofs.Prelude.{has_attribute_registers_of_mode, text_memory_cells, page_pixels, shown}
+use Rattle.bios_screen.specs.Screen.{Contents, Cells, PackedPixelColours}
 use Rattle.bios_screen.specs.Shown.{cells_in, glyphs_in, pixel_pages, crtc_registers_shown, screen_with_contents, screen_of}
 use Rattle.bios_screen.proofs.Base.Tests.{both_true, same}
 use Rattle.bios_screen.proofs.Base.Places.{half_start, ends_before}
@@ -45,7 +45,7 @@ any_screen c d h y = screen_with_contents h.row y d h.distance (h.contents y.hos
 -- the test holds in another state too, if its memory-cycle and CRT controller registers are the
 -- same and its attribute controller passes
 pub same_tests : (row : ModeRow) (c y : CardState) (d : BiosData) → setting y ≡ setting c → y.crtc.registers ≡ c.crtc.registers →
-    shows_attribute row y.attr ≡ true → AllTests row c d → AllTests row y d
+    has_attribute_registers_of_mode row y.attr ≡ true → AllTests row c d → AllTests row y d
 same_tests row c y d s e a t = record {
   memory = ap (λ (x : Setting). (x.misc == row.misc) && (bytes_eq x.seq row.sequencer && bytes_eq x.gfx row.graphics)) s ∙ t.memory;
   data_test = t.data_test;
@@ -55,7 +55,7 @@ same_tests row c y d s e a t = record {
 
 -- such a state shows the screen of its own memory and colours
 pub any_shown : (c y : CardState) (d : BiosData) (h : IsAny c d) → setting y ≡ setting c → y.crtc.registers ≡ c.crtc.registers →
-    shows_attribute h.row y.attr ≡ true → shown y d ≡ Some (any_screen c d h y)
+    has_attribute_registers_of_mode h.row y.attr ≡ true → shown y d ≡ Some (any_screen c d h y)
 any_shown c y d h s e a = shown_by_row y d h.row h.mode (same_tests h.row c y d s e a h.tests)
     ∙ ap (λ (x : Screen). Some x) (h.screen y d.cursor_type d.cursor_places d.page d.start)
 
@@ -126,7 +126,7 @@ any_is c d s h = by_kind (is_text d.mode) refl
             few = λ u page lp. absurd (cc);
             tests = y.tests;
             distance = 0;
-            contents = λ m. Pixels (pixel_pages d.mode m d.size (page_pixels d) y.row.pages);
+            contents = λ m. PackedPixelColours (pixel_pages d.mode m d.size (page_pixels d) y.row.pages);
             glyphs = λ m. [];
             screen = λ z type places page start. screen_is_pixels y.row z (with_cursors d type places page start) t;
           };

@@ -16,8 +16,8 @@ use Rattle.bios_services.specs.Strings.{character_at, colouring_of_character}
 use Rattle.bios_services.specs.Cursor.{row_of, column_of}
 use Rattle.bios_screen.specs.Screen.{cursor_position}
 use Rattle.bios_screen.specs.Colours.{with_colours}
-use Rattle.bios_screen.specs.Called.{screen_unless}
-use Rattle.bios_screen.specs.Step.{scroll_asked, last_row_attribute, page_up, after_line_feed, after_cursor_advance, put_character, type_character, type_characters}
+use Rattle.bios_screen.specs.Called.{screen_unless_refused}
+use Rattle.bios_screen.specs.Step.{scroll_asked, last_row_attribute, page_up, after_line_feed, screen_and_next_position, put_character, type_character, type_characters}
 use Rattle.bios_screen.specs.Step.{with_position, next}
 
 -- t has the mode and the layout of s
@@ -45,7 +45,7 @@ fed_cut s page place = cut_if s (nat_lt (row_of place) (s.layout.rows - 1)) (s, 
   place,
 ) (uncut s) (record { mode = refl; layout = refl })
 
-advanced_cut : (s : Screen) (page place : ℕ) → IsCutAs s (after_cursor_advance s page place).0
+advanced_cut : (s : Screen) (page place : ℕ) → IsCutAs s (screen_and_next_position s page place).0
 advanced_cut s page place = cut_if s (nat_lt (column_of place + 1) s.layout.columns) (s, place + 1) (
   (after_line_feed s page place).0,
   line_start (after_line_feed s page place).1,
@@ -60,7 +60,7 @@ typed_cut fonts s page place character colouring =
     cut_if s (character == 0x07) (s, place) _ (uncut s)
     (cut_if s (character == 0x08) (s, if column_of place == 0 then place else place - 1) _ (uncut s)
     (cut_if s (character == 0x0A) (after_line_feed s page place) _ (fed_cut s page place)
-    (cut_if s (character == 0x0D) (s, line_start place) (after_cursor_advance put page place) (uncut s) (cut_on is_put (advanced_cut put page place)))))
+    (cut_if s (character == 0x0D) (s, line_start place) (screen_and_next_position put page place) (uncut s) (cut_on is_put (advanced_cut put page place)))))
 
 string_cut : (fonts : FontSet) (call : StringCall) (block : List ℕ) (page n i : ℕ) (at : Screen × ℕ) →
     IsCutAs at.0 (type_characters fonts call block page n i at).0
@@ -115,6 +115,6 @@ next_cut fonts s (WriteString call) block =
 next_cut fonts s ReadDisplay block = uncut s
 
 pub unless_cut : (why : Option Refusal) (fonts : FontSet) (s : Screen) (service : Service) (block : List ℕ) →
-    IsCutAs s (screen_unless why s (next fonts s service block))
+    IsCutAs s (screen_unless_refused why s (next fonts s service block))
 unless_cut None fonts s service block = next_cut fonts s service block
 unless_cut (Some why) fonts s service block = uncut s

@@ -6,8 +6,8 @@ use Rattle.std.proofs.lemmas.Bool.{cases_lt}
 use Rattle.std.proofs.lemmas.List.{get_or_append_left, get_or-append-add, get_or_default, append-nil, length-append}
 use Rattle.bios_screen.proofs.Prelude.{Four, CardState, ModeRow, mode_row_at_height, BiosData, is_text, is_packed, start_address, list_by_function, Cell, Screen, cell_in, pixel_in}
 use Rattle.bios_screen.proofs.Prelude.{page_pixels, pixel_screen, crtc_registers}
-use Rattle.bios_screen.specs.Screen.{Contents, Cells, Pixels, Layout, missing_cell, cell_of}
-use Rattle.bios_screen.specs.Parts.{text_cell, page_pixel, cut_pages, pixel_count, contents_of, IsLaidOut}
+use Rattle.bios_screen.specs.Screen.{Contents, Cells, PackedPixelColours, Layout, missing_cell, cell_of}
+use Rattle.bios_screen.specs.Parts.{text_cell, page_pixel, cut_pages, pixel_count, cells_or_pixels_of_mode, LayoutFitsContents}
 use Rattle.bios_screen.specs.Shown.{cells_in, glyph_byte, glyphs_in, pixels_in, pixel_pages, layout_of, screen_with_contents}
 use Rattle.bios_screen.specs.Shown.{crtc_registers_shown, cursor_location_shown, shows}
 use Rattle.bios_screen.specs.Raster.{concatenated_lists}
@@ -113,14 +113,14 @@ pages_are mode m size n pages = cut_joined (λ p. pixels_in mode m (size * p) n)
 -- ---- parts of a screen
 
 pub text_cell_is : (mode : ℕ) (l : Layout) (cells : List Cell) (pixels : List ℕ) (k : ℕ) → is_text mode ≡ true →
-    text_cell (contents_of mode l cells pixels) k ≡ Some (cell_of cells k)
-text_cell_is mode l cells pixels k t = ap (λ b. let x : Contents = (if b then Cells cells else Pixels (cut_pages pixels (pixel_count l) l.pages)) in
+    text_cell (cells_or_pixels_of_mode mode l cells pixels) k ≡ Some (cell_of cells k)
+text_cell_is mode l cells pixels k t = ap (λ b. let x : Contents = (if b then Cells cells else PackedPixelColours (cut_pages pixels (pixel_count l) l.pages)) in
     text_cell x k) t
 
 pub page_pixel_is : (mode : ℕ) (l : Layout) (cells : List Cell) (pixels : List ℕ) (p k : ℕ) → is_text mode ≡ false → p < l.pages → k < pixel_count l →
-    page_pixel (contents_of mode l cells pixels) p k ≡ Some (slice_index pixels (pixel_count l * p + k))
+    page_pixel (cells_or_pixels_of_mode mode l cells pixels) p k ≡ Some (slice_index pixels (pixel_count l * p + k))
 page_pixel_is mode l cells pixels p k t lp lk =
-    ap (λ b. let x : Contents = (if b then Cells cells else Pixels (cut_pages pixels (pixel_count l) l.pages)) in page_pixel x p k) t
+    ap (λ b. let x : Contents = (if b then Cells cells else PackedPixelColours (cut_pages pixels (pixel_count l) l.pages)) in page_pixel x p k) t
     ∙ ap (λ (n : ℕ). Some n) (cut_at pixels (pixel_count l) l.pages p k lp lk)
 
 -- a conditional whose three tests hold has its first value
@@ -133,10 +133,10 @@ pub cell_there : (mode : ℕ) (l : Layout) (cells : List Cell) (pixels : List �
     row < l.rows → column < l.columns → l.distance * page + (l.columns * row + column) < length cells →
     x ≡ get_or cells (l.distance * page + (l.columns * row + column)) x
     → Some x ≡ (if nat_lt page l.pages && (nat_lt row l.rows && nat_lt column l.columns)
-    then text_cell (contents_of mode l cells pixels) (l.distance * page + (l.columns * row + column)) else None)
+    then text_cell (cells_or_pixels_of_mode mode l cells pixels) (l.distance * page + (l.columns * row + column)) else None)
 cell_there mode l cells pixels page row column x t lp lr lc within e =
     let k = l.distance * page + (l.columns * row + column) in
-    let q = text_cell (contents_of mode l cells pixels) k in
+    let q = text_cell (cells_or_pixels_of_mode mode l cells pixels) k in
     ap (λ (y : Cell). Some y) (e ∙ get_or_default cells k x missing_cell within) ∙ sym (
     there_if (nat_lt page l.pages) (nat_lt row l.rows) (nat_lt column l.columns) q None (lt_test page l.pages lp) (lt_test row l.rows lr)
     (lt_test column l.columns lc) ∙ text_cell_is mode l cells pixels k t)
@@ -149,10 +149,10 @@ pixels_within l page x y n = pixel_count l * page + (8 * l.columns * y + x) < n
 pub pixel_there : (mode : ℕ) (l : Layout) (cells : List Cell) (pixels : List ℕ) (page x y n : ℕ) → is_text mode ≡ false → page < l.pages → x < 8 * l.columns →
     y < l.height * l.rows → pixels_within l page x y (length pixels) → n ≡ get_or pixels (pixel_count l * page + (8 * l.columns * y + x)) n
     → Some n ≡ (if nat_lt page l.pages && (nat_lt x (8 * l.columns) && nat_lt y (l.height * l.rows))
-    then page_pixel (contents_of mode l cells pixels) page (8 * l.columns * y + x) else None)
+    then page_pixel (cells_or_pixels_of_mode mode l cells pixels) page (8 * l.columns * y + x) else None)
 pixel_there mode l cells pixels page x y n t lp lx ly within e =
     let k = 8 * l.columns * y + x in
-    let q = page_pixel (contents_of mode l cells pixels) page k in
+    let q = page_pixel (cells_or_pixels_of_mode mode l cells pixels) page k in
     let row = ends_before (8 * l.columns) y (l.height * l.rows) ly in
     ap (λ (i : ℕ). Some i) (e ∙ get_or_default pixels (pixel_count l * page + k) n 0 within) ∙ sym (
     there_if (nat_lt page l.pages) (nat_lt x (8 * l.columns)) (nat_lt y (l.height * l.rows)) q None (lt_test page l.pages lp) (lt_test x (8 * l.columns) lx)
@@ -173,7 +173,7 @@ is_both b t f = absurd (cc)
 
 pub text_laid_out : (row : ModeRow) (c : CardState) (d : BiosData) → mode_row_at_height d.mode d.height ≡ Some row → is_text d.mode ≡ true → shows row c d ≡ true →
     (mode : ℕ) (l : Layout) (n m : ℕ) → mode ≡ d.mode → l.columns ≡ d.columns → l.rows ≡ d.last_row + 1 → l.distance ≡ d.size / 2 → l.pages ≡ row.pages →
-    n ≡ 16384 → IsLaidOut mode l n m
+    n ≡ 16384 → LayoutFitsContents mode l n m
 text_laid_out row c d e t h mode l n m em ec er ed ep en =
     let tests = tests_of row c d t h in
     let has = data_is row d tests.data_test in
@@ -211,7 +211,7 @@ pixel_numbers row c d e t h =
 
 pub pixels_laid_out : (d : BiosData) (f : Four (List ℕ)) (mode : ℕ) (l : Layout) (n m size count pages : ℕ) (pixels : List ℕ) → is_text d.mode ≡ false →
     mode ≡ d.mode → count ≡ pixel_count l → pages ≡ l.pages → m ≡ length pixels → pixels ≡ concatenated_lists (λ p. pixels_in mode f (size * p) count) pages →
-    IsLaidOut mode l n m
+    LayoutFitsContents mode l n m
 pixels_laid_out d f mode l n m size count pages pixels t em ec ep el e = record {
   page = λ f. is_both (is_text mode) f (ap is_text em ∙ t);
   cells = λ f. is_both (is_text mode) f (ap is_text em ∙ t);
@@ -221,13 +221,13 @@ pixels_laid_out d f mode l n m size count pages pixels t em ec ep el e = record 
 -- the screen read in graphics is the screen of pixels
 pub pixel_screen_is : (row : ModeRow) (c : CardState) (d : BiosData) (cells : List Cell) (pixels : List ℕ) (s : Screen) → is_text d.mode ≡ false →
     pixels ≡ concatenated_lists (λ p. pixels_in d.mode c.host.memory (d.size * p) (page_pixels d)) row.pages →
-    s ≡ screen_with_contents row c d 0 (contents_of d.mode (layout_of row d 0) cells pixels) [] → s ≡ pixel_screen row c d
+    s ≡ screen_with_contents row c d 0 (cells_or_pixels_of_mode d.mode (layout_of row d 0) cells pixels) [] → s ≡ pixel_screen row c d
 pixel_screen_is row c d cells pixels s t e h =
     let n = page_pixels d in
     h
-    ∙ ap (λ b. let x : Contents = (if b then Cells cells else Pixels (cut_pages pixels n row.pages)) in screen_with_contents row c d 0 x []) t
-    ∙ ap (λ l. screen_with_contents row c d 0 (Pixels (cut_pages l n row.pages)) []) e
-    ∙ ap (λ l. screen_with_contents row c d 0 (Pixels l) []) (pages_are d.mode c.host.memory d.size n row.pages)
+    ∙ ap (λ b. let x : Contents = (if b then Cells cells else PackedPixelColours (cut_pages pixels n row.pages)) in screen_with_contents row c d 0 x []) t
+    ∙ ap (λ l. screen_with_contents row c d 0 (PackedPixelColours (cut_pages l n row.pages)) []) e
+    ∙ ap (λ l. screen_with_contents row c d 0 (PackedPixelColours l) []) (pages_are d.mode c.host.memory d.size n row.pages)
 
 -- a mode's CRT controller registers with six set: cursor type, start address, cursor location
 abbrev pub set_registers : List ℕ → ℕ → ℕ → ℕ → List ℕ

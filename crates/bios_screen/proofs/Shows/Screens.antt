@@ -4,13 +4,13 @@ use Rattle.std.specs.Prelude.{slice_index, bit_and, ◌==◌, ◌&&◌, if◌the
 use Rattle.std.specs.Str.{bytes_eq}
 use Rattle.std.proofs.lemmas.Slice.Eq.{bytes_eq-Decides}
 use Rattle.bios_screen.proofs.Prelude.{is_palette_shown, CardState, ModeRow, mode_row_at_height, BiosData, Planar, page_count, page_among, page_meant_by_number, is_text, kind_of}
-use Rattle.bios_screen.proofs.Prelude.{start_address, Screen, crtc_registers, shows_attribute, pixel_screen, shown}
+use Rattle.bios_screen.proofs.Prelude.{start_address, Screen, crtc_registers, has_attribute_registers_of_mode, pixel_screen, shown}
 use Rattle.bios_modes.specs.declared.kind.Kind.{Kind}
 use Rattle.bios_modes.specs.declared.kind.Kind.TheVariants.{Text, Packed}
 use Rattle.bios_services.specs.Bounds.{pages_of_row}
 use Rattle.bios_modes.specs.Kinds.{is_text_kind}
 use Rattle.bios_services.specs.Cursor.{cursor_address}
-use Rattle.bios_screen.specs.Shown.{shows_memory, crtc_registers_shown, shows_data, shows, text_screen, screen_of}
+use Rattle.bios_screen.specs.Shown.{has_memory_registers_of_mode, crtc_registers_shown, has_bios_data_of_mode, shows, text_screen, screen_of}
 use Rattle.bios_screen.specs.Shown.{screen_shown_in_mode}
 use Rattle.bios_screen.proofs.Base.Tests.{both_true, if_some, none_some, same, lt_is}
 use Rattle.bios_screen.proofs.Base.Setting.{Setting, setting}
@@ -41,7 +41,7 @@ page_of row d p e l = subst (λ n. p < n) (sym (pages_are row d e)) l
 pub named_page : (row : ModeRow) (d : BiosData) → mode_row_at_height d.mode d.height ≡ Some row → (page : ℕ) → page_meant_by_number d page ≡ page_among row.pages page
 named_page row d e page = ap (λ n. page_among n page) (pages_are row d e)
 
-pub data_is : (row : ModeRow) (d : BiosData) → shows_data row d ≡ true → HasData row d
+pub data_is : (row : ModeRow) (d : BiosData) → has_bios_data_of_mode row d ≡ true → HasData row d
 data_is row d h =
     let a = both_true (d.columns == row.columns) _ h in
     let b = both_true (d.size == row.size) _ a.1 in
@@ -53,27 +53,27 @@ data_is row d h =
 
 -- the parts of the test
 pub record AllTests (row : ModeRow) (c : CardState) (d : BiosData) : Type 0 where
-  pub memory : shows_memory row c ≡ true
-  pub data_test : shows_data row d ≡ true
+  pub memory : has_memory_registers_of_mode row c ≡ true
+  pub data_test : has_bios_data_of_mode row d ≡ true
   pub crtc : c.crtc.registers ≡ crtc_registers_shown row d c.crtc.registers
-  pub attribute : shows_attribute row c.attr ≡ true
+  pub attribute : has_attribute_registers_of_mode row c.attr ≡ true
 
 pub all_tests_of : (row : ModeRow) (c : CardState) (d : BiosData) → shows row c d ≡ true → AllTests row c d
 unfolding shows
 all_tests_of row c d h =
     let wanted = crtc_registers_shown row d c.crtc.registers in
-    let a = both_true (shows_memory row c) (shows_data row d && (bytes_eq c.crtc.registers wanted && shows_attribute row c.attr)) h in
-    let b = both_true (shows_data row d) (bytes_eq c.crtc.registers wanted && shows_attribute row c.attr) a.1 in
-    let e = both_true (bytes_eq c.crtc.registers wanted) (shows_attribute row c.attr) b.1 in
+    let a = both_true (has_memory_registers_of_mode row c) (has_bios_data_of_mode row d && (bytes_eq c.crtc.registers wanted && has_attribute_registers_of_mode row c.attr)) h in
+    let b = both_true (has_bios_data_of_mode row d) (bytes_eq c.crtc.registers wanted && has_attribute_registers_of_mode row c.attr) a.1 in
+    let e = both_true (bytes_eq c.crtc.registers wanted) (has_attribute_registers_of_mode row c.attr) b.1 in
     record { memory = a.0; data_test = b.0; crtc = (bytes_eq-Decides c.crtc.registers wanted).0 e.0; attribute = e.1 }
 
 pub shows_by : (row : ModeRow) (c : CardState) (d : BiosData) → AllTests row c d → shows row c d ≡ true
 unfolding shows
 shows_by row c d t =
     let wanted = crtc_registers_shown row d c.crtc.registers in
-    ap (λ b. b && (shows_data row d && (bytes_eq c.crtc.registers wanted && shows_attribute row c.attr))) t.memory
-    ∙ ap (λ b. b && (bytes_eq c.crtc.registers wanted && shows_attribute row c.attr)) t.data_test
-    ∙ ap (λ b. b && shows_attribute row c.attr) ((bytes_eq-Decides c.crtc.registers wanted).1 t.crtc)
+    ap (λ b. b && (has_bios_data_of_mode row d && (bytes_eq c.crtc.registers wanted && has_attribute_registers_of_mode row c.attr))) t.memory
+    ∙ ap (λ b. b && (bytes_eq c.crtc.registers wanted && has_attribute_registers_of_mode row c.attr)) t.data_test
+    ∙ ap (λ b. b && has_attribute_registers_of_mode row c.attr) ((bytes_eq-Decides c.crtc.registers wanted).1 t.crtc)
     ∙ t.attribute
 
 -- the row of a shown screen, whose tests hold
@@ -98,7 +98,7 @@ shown_by_row c d row e t =
     ap (λ x. screen_shown_in_mode x c d) e ∙ ap (λ b. if b then Some (screen_of row c d) else None) (shows_by row c d t)
 
 -- the test determines the registers that memory cycles depend on
-pub setting_by : (row : ModeRow) (c : CardState) → shows_memory row c ≡ true → setting c ≡ record { misc = row.misc; seq = row.sequencer; gfx = row.graphics }
+pub setting_by : (row : ModeRow) (c : CardState) → has_memory_registers_of_mode row c ≡ true → setting c ≡ record { misc = row.misc; seq = row.sequencer; gfx = row.graphics }
 setting_by row c h =
     let a = both_true (c.misc == row.misc) (bytes_eq c.host.seq row.sequencer && bytes_eq c.host.gfx row.graphics) h in
     let b = both_true (bytes_eq c.host.seq row.sequencer) (bytes_eq c.host.gfx row.graphics) a.1 in
@@ -119,10 +119,10 @@ text_crtc_is row d l t = ap (λ b. crtc_registers row d.cursor_type (start_addre
 -- the parts of the test in text
 pub record Tests (row : ModeRow) (c : CardState) (d : BiosData) : Type 0 where
   pub is_text : is_text d.mode ≡ true
-  pub memory : shows_memory row c ≡ true
-  pub data_test : shows_data row d ≡ true
+  pub memory : has_memory_registers_of_mode row c ≡ true
+  pub data_test : has_bios_data_of_mode row d ≡ true
   pub crtc : c.crtc.registers ≡ text_crtc row d
-  pub attribute : shows_attribute row c.attr ≡ true
+  pub attribute : has_attribute_registers_of_mode row c.attr ≡ true
 
 pub tests_of : (row : ModeRow) (c : CardState) (d : BiosData) → is_text d.mode ≡ true → shows row c d ≡ true → Tests row c d
 tests_of row c d text h =
@@ -141,7 +141,7 @@ pub test_of : (row : ModeRow) (c : CardState) (d : BiosData) → Tests row c d �
 test_of row c d t = shows_by row c d (all_of row c d t)
 
 -- in text these registers are those of the display
-setting_is : (disp : Display) (mode : ℕ) (row : ModeRow) (c : CardState) → IsTextRow disp mode row → shows_memory row c ≡ true → setting c ≡ text_setting disp
+setting_is : (disp : Display) (mode : ℕ) (row : ModeRow) (c : CardState) → IsTextRow disp mode row → has_memory_registers_of_mode row c ≡ true → setting c ≡ text_setting disp
 setting_is disp mode row c text h =
     setting_by row c h
     ∙ ap (λ x. let r : Setting = record { misc = x; seq = row.sequencer; gfx = row.graphics } in r) text.misc

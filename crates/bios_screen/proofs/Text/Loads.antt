@@ -5,7 +5,7 @@ use Rattle.std.specs.Prelude.{slice_index, nat_le, nat_lt, ◌&&◌, replicate}
 use Rattle.std.proofs.lemmas.Bool.Decides.{nat_tests}
 use Rattle.vga_crtc.specs.Ports.{after_out as after_crtc}
 use Rattle.bios_screen.proofs.Prelude.{IsCard, card_meaning, CardState, ModeRow, mode_row_at_height, BiosData, data_of_mode, AreBytes, FontSet, Plan, run, ◌>>◌}
-use Rattle.bios_screen.proofs.Prelude.{start_address, Screen, is_palette_shown, crtc_registers, shows_attribute, shown, list_by_function}
+use Rattle.bios_screen.proofs.Prelude.{start_address, Screen, is_palette_shown, crtc_registers, has_attribute_registers_of_mode, shown, list_by_function}
 use Rattle.vga_card.specs.Port.{port_of as reached_by, crtc_port_of}
 use Rattle.vga_card.specs.Cycles.{out_reached}
 use Rattle.bios_modes.specs.declared.heights.TextRow.{TextRow}
@@ -21,7 +21,7 @@ use Rattle.bios_services.specs.GlyphLoads.{AreGlyphsThere, loaded_line, load_pla
 use Rattle.std.specs.Str.{bytes_eq}
 use Rattle.std.specs.Prelude.{◌-◌, ◌==◌, bit_and, drop}
 use Rattle.vga_attr.specs.Attr.{AttrState}
-use Rattle.bios_screen.specs.Shown.{shows_data, text_screen, glyph_byte, glyphs_in}
+use Rattle.bios_screen.specs.Shown.{has_bios_data_of_mode, text_screen, glyph_byte, glyphs_in}
 use Rattle.bios_screen.specs.Loaded.{glyph_byte_after_load, load_at_height}
 use Rattle.bios_screen.proofs.Base.Flat.{Edited, Turn}
 use Rattle.bios_screen.proofs.Base.Plans.{then_runs}
@@ -216,7 +216,7 @@ module _ (fonts : FontSet) (load : GlyphLoad) (block : List ℕ) (bytes : AreByt
 -- the row of a display at a height is the mode's, and passes the test with its own data; by cases
 record IsOwn (disp : Display) (new : Height) : Type 0 where
   row_is : mode_row_at_height (number_of disp) (row_with disp new).height ≡ Some (row_with disp new)
-  data_test : (mode : ℕ) → shows_data (row_with disp new) (data_of_mode mode (row_with disp new)) ≡ true
+  data_test : (mode : ℕ) → has_bios_data_of_mode (row_with disp new) (data_of_mode mode (row_with disp new)) ≡ true
   crtc : crtc_registers (row_with disp new) (row_with disp new).cursor_type 0 0
       ≡ text_crtc (row_with disp new) (data_of_mode (number_of disp) (row_with disp new))
 
@@ -229,7 +229,7 @@ own_by Monochrome Fourteen = record { row_is = refl; data_test = λ _. refl; crt
 own_by Monochrome Sixteen = record { row_is = refl; data_test = λ _. refl; crtc = refl }
 
 -- the test of the attribute controller depends only on the row's attribute registers
-attribute_stays : (old new : ModeRow) (a : AttrState) → old.attribute ≡ new.attribute → shows_attribute old a ≡ true → shows_attribute new a ≡ true
+attribute_stays : (old new : ModeRow) (a : AttrState) → old.attribute ≡ new.attribute → has_attribute_registers_of_mode old a ≡ true → has_attribute_registers_of_mode new a ≡ true
 attribute_stays old new a e t =
     sym (ap (λ (l : List ℕ). is_palette_shown a && ((bit_and (slice_index a.registers 0x10) 0xF7 == bit_and (slice_index l 0x10) 0xF7)
     && bytes_eq (drop 0x12 a.registers) (drop 0x12 l))) e) ∙ t

@@ -3,7 +3,7 @@ use Rattle.std.proofs.Common.{◌≡◌, ℕ, ◌+◌, ◌-◌, ◌*◌, ◌/◌
 use Rattle.std.specs.Prelude.{◌==◌, ◌&&◌, nat_le, if◌then◌else◌}
 use Rattle.std.proofs.lemmas.Bool.Decides.{nat_tests}
 use Rattle.std.proofs.lemmas.Nat.{mod_below}
-use Rattle.bios_screen.proofs.Prelude.{IsCard, card_meaning, CardState, BiosData, Band, Direction, Up, Down, Window, run, Screen, text_memory_cells, shown}
+use Rattle.bios_screen.proofs.Prelude.{IsCard, card_meaning, CardState, BiosData, ColumnBand, Direction, Up, Down, Window, run, Screen, text_memory_cells, shown}
 use Rattle.bios_modes.specs.declared.kind.Kind.TheVariants.{Text}
 use Rattle.bios_services.specs.Bands.{filling_byte, blank_cells_filling, scroll_rows, fill_plan, band_of_kind}
 use Rattle.bios_services.specs.Scroll.{IsOnPage, scroll_window_plan}
@@ -41,7 +41,7 @@ module _ (c : CardState) (d : BiosData) (h : IsShown c d) (p : ℕ) (lp : p < h.
   some_columns = let a = h.has.columns in let b = h.text.some_columns in omega arith
 
   -- the band of the window: a cell is two bytes, and a row is one line
-  abbrev band : Band
+  abbrev band : ColumnBand
   band = band_of_kind Text d p w.left w.width
 
   page_bytes : d.size * p ≡ 2 * first

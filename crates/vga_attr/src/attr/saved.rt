@@ -51,7 +51,7 @@ impl Attr {
 
     /// A saved attribute controller is restored in full. The clauses are for proofs: nothing runs.
     #[tactic(auto, using(crate::proofs::SavedLemmas::attr_is_back))]
-    pub fn saves_whole(&self)
+    pub fn restore_gives_what_was_saved(&self)
         ensures saved { IsSavedAttr (saved_attr self.now) }
         ensures back { attr_from (saved_attr self.now) ≡ self.now }
     {

@@ -7,18 +7,18 @@ ghost use Rattle.vga_bits.specs.Bytes.{zeros};
 ghost use Rattle.vga_bits.specs.Saved.{word_bytes, IsPut};
 ghost use Rattle.vga_card.specs.Picture.{most_dots_of_a_line, most_lines_of_a_frame};
 ghost use Rattle.vga_card.specs.Picture.{lines_by_widths};
-ghost use Rattle.vga_card.specs.Valid.{IsDrawn};
+ghost use Rattle.vga_card.specs.Valid.{IsCanvasDrawnToBeam};
 ghost use Rattle.vga_crtc.specs.Beam.{is_first_dot};
 ghost use Rattle.vga_card.specs.Saved.{saved_dots, saved_dots_from, saved_widths, past_widths};
 ghost use Rattle.vga_card.specs.Saved.{most_dots_on_line as most_dots_on, AreWidthsInBounds};
 ghost use Rattle.vga_card.specs.Saved.{AreSavedDots};
 
-use super::{Canvas, HIGHEST, WIDEST, lengthen_buffer};
+use super::{Canvas, MOST_LINES_WITH_DOTS, WIDEST, lengthen_buffer};
 use vga_bits::{put_bytes, put_word, word_at};
 use vga_crtc::Beam;
 
 /// How many bytes the widths of all lines have.
-pub(crate) const WIDTHS_LEN: usize = 2 * HIGHEST;
+pub(crate) const WIDTHS_LEN: usize = 2 * MOST_LINES_WITH_DOTS;
 
 /// Puts a word for each width, at most 2,304, into a slice from index `at` on. It returns the index
 /// after them.
@@ -51,7 +51,7 @@ pub(crate) fn put_zero_widths(out: &mut [u8], at: usize) -> usize
     ensures put { IsPut out.old out.new at result (saved_dots []) }
     ensures end { result ≡ at + 2048 }
 {
-    put_widths(out, at, &blank_widths::<HIGHEST>())
+    put_widths(out, at, &blank_widths::<MOST_LINES_WITH_DOTS>())
 }
 
 /// The most dots that a line can have while the beam is at `beam`.
@@ -75,7 +75,7 @@ fn count_saved_dots(beam: Beam, bytes: &[u8]) -> Option<u32>
     ensures none { IfNone result (¬ AreWidthsInBounds beam (saved_widths bytes.now)) }
 {
     let mut count = 0;
-    for line in 0..HIGHEST {
+    for line in 0..MOST_LINES_WITH_DOTS {
         let width = word_at(bytes, 2 * line) as u32;
         if width > most_dots_on_line(beam, line) {
             return None;
@@ -147,19 +147,19 @@ impl Canvas {
         requires all { 2048 ≤ length bytes.now }
         requires dots { AreSavedDots beam bytes.now }
         ensures dots { self.new.dots ≡ saved_dots_from bytes.now }
-        ensures drawn { IsDrawn beam self.new }
+        ensures drawn { IsCanvasDrawnToBeam beam self.new }
     {
         let rest = bytes.split_at(WIDTHS_LEN).1;
         restore_widths(self.widths.as_mut_slice(), bytes);
         restore_bytes(&mut self.buffer, rest);
         self.used = rest.len();
-        self.line = beam.line.min(HIGHEST as u16 - 1);
+        self.line = beam.line.min(MOST_LINES_WITH_DOTS as u16 - 1);
     }
 
     /// Saved dots are restored in full. The beam is at `beam`. The clauses are for proofs: nothing
     /// runs.
-    pub(crate) fn saves_whole(&self, beam: Beam)
-        requires { IsDrawn beam self.now }
+    pub(crate) fn restore_gives_what_was_saved(&self, beam: Beam)
+        requires { IsCanvasDrawnToBeam beam self.now }
         ensures saved { is_first_dot beam ≡ false → AreSavedDots beam (saved_dots self.now.dots) }
         ensures back { saved_dots_from (saved_dots self.now.dots) ≡ self.now.dots }
         ensures len { length (saved_dots self.now.dots) ≡ 2048 + 3 * length self.now.dots }

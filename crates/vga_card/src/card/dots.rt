@@ -2,18 +2,18 @@
 ghost use Rattle.std.specs.Prelude.{◌≡◌, ◌<◌, ◌≤◌, ◌↔◌, ◌⊎◌, ◌+◌, ◌-◌, ◌*◌, ◌++◌, min};
 ghost use Rattle.std.specs.Prelude.{IsOk, OnOk, IfErr, IfSome};
 ghost use Rattle.vga_host.specs.Sequencer.{character_width as host_width};
-ghost use Rattle.vga_crtc.specs.Beam.{after_start, after_dot};
+ghost use Rattle.vga_crtc.specs.Beam.{crtc_with_start_taken, after_dot};
 ghost use Rattle.vga_crtc.specs.Fields.{horizontal_display_end};
 ghost use Rattle.vga_crtc.specs.Raster.{IsLineStart, IsWithinItsLine, dot_number_in_line};
-ghost use Rattle.vga_crtc.specs.Raster.{dots_in_line};
+ghost use Rattle.vga_crtc.specs.Raster.{dots_to_line_end};
 ghost use Rattle.vga_dots.specs.Line.{shown_characters as characters_shown};
 ghost use Rattle.vga_card.specs.Dots.{character_width, dots_unless_frame_start, display_dot, dot};
 ghost use Rattle.vga_card.specs.Dots.{dots};
 ghost use Rattle.vga_card.specs.Dots.{most_dots};
 ghost use Rattle.vga_card.specs.Line.{displayed_line_dots, displayed_part_dots};
-ghost use Rattle.vga_card.specs.Line.{dots_to_next_line, started_display};
+ghost use Rattle.vga_card.specs.Line.{card_dots_to_line_end, display_with_start_taken};
 ghost use Rattle.vga_card.specs.Repeat.{EndsWithLine};
-ghost use Rattle.vga_card.specs.Valid.{count_unless_frame_start, IsDrawnTo};
+ghost use Rattle.vga_card.specs.Valid.{count_unless_frame_start, IsLineDrawnToBeam};
 
 use super::Card;
 use super::repeats::add_row;
@@ -26,7 +26,7 @@ use vga_crtc::laws::{
 };
 use vga_crtc::{Beam, Crtc};
 use vga_dac::Dac;
-use vga_dots::{Display, MOST_PART, dot_colour, shown_characters};
+use vga_dots::{Display, MOST_DOTS_OF_PART, dot_colour, shown_characters};
 use vga_host::Host;
 
 /// The most dots that one step may advance.
@@ -50,12 +50,12 @@ fn clear_at_first_dot(beam: Beam, canvas: &mut Canvas)
 /// start is taken first. A character is `width` dots wide, 8 or 9.
 #[tactic(auto, unfolding(crate::specs::Dots::display_dot))]
 fn draw_dot(host: &Host, crtc: &mut Crtc, attr: &Attr, dac: &Dac, canvas: &mut Canvas, width: u8)
-    requires place { IsDrawnTo crtc.old.beam 0 canvas.old.line canvas.old.width }
+    requires place { IsLineDrawnToBeam crtc.old.beam 0 canvas.old.line canvas.old.width }
     requires width { (width ≡ 8) ⊎ (width ≡ 9) }
     ensures crtc { crtc.new ≡ after_dot crtc.old width }
     ensures dots { canvas.new.dots ≡ canvas.old.dots
-        ++ display_dot host.now (after_start crtc.old) attr.now dac.now }
-    ensures place { IsDrawnTo (after_start crtc.old).beam 1 canvas.new.line canvas.new.width }
+        ++ display_dot host.now (crtc_with_start_taken crtc.old) attr.now dac.now }
+    ensures place { IsLineDrawnToBeam (crtc_with_start_taken crtc.old).beam 1 canvas.new.line canvas.new.width }
 {
     start_is_taken_once();
     crtc.take_start();
@@ -68,7 +68,7 @@ fn draw_dot(host: &Host, crtc: &mut Crtc, attr: &Attr, dac: &Dac, canvas: &mut C
 
 /// Adds the display dots of the beam's line. The start of its frame is taken already.
 pub(super) fn draw_row(display: &Display<'_>, canvas: &mut Canvas)
-    requires place { IsDrawnTo display.now.crtc.beam 0 canvas.old.line canvas.old.width }
+    requires place { IsLineDrawnToBeam display.now.crtc.beam 0 canvas.old.line canvas.old.width }
     requires start { IsLineStart display.now.crtc.beam }
     ensures dots { canvas.new.dots ≡ canvas.old.dots ++ displayed_line_dots display.now }
     ensures below { canvas.new.line ≤ display.now.crtc.beam.line }
@@ -105,14 +105,14 @@ fn displayed_dot_count(display: &Display<'_>, n: u32) -> usize
 /// Adds the display dots among the next `n` dots of the beam's line. The start of its frame is
 /// taken already.
 fn draw_dots(display: &Display<'_>, canvas: &mut Canvas, n: u32)
-    requires place { IsDrawnTo display.now.crtc.beam 0 canvas.old.line canvas.old.width }
+    requires place { IsLineDrawnToBeam display.now.crtc.beam 0 canvas.old.line canvas.old.width }
     requires inside { IsWithinItsLine (host_width display.now.host) display.now.crtc.registers
         display.now.crtc.beam }
-    requires few { n ≤ dots_in_line (host_width display.now.host) display.now.crtc.registers
+    requires few { n ≤ dots_to_line_end (host_width display.now.host) display.now.crtc.registers
         display.now.crtc.beam }
     requires at_most { n ≤ 128 }
     ensures dots { canvas.new.dots ≡ canvas.old.dots ++ displayed_part_dots n display.now }
-    ensures place { IsDrawnTo display.now.crtc.beam n canvas.new.line canvas.new.width }
+    ensures place { IsLineDrawnToBeam display.now.crtc.beam n canvas.new.line canvas.new.width }
 {
     dots_move_beam_in_line();
     let crtc = display.crtc();
@@ -132,9 +132,9 @@ impl Card {
     /// be the beam of that line.
     fn take_line(&mut self, before: Option<Beam>) -> Beam
         requires start { IsLineStart self.old.crtc.beam }
-        requires before { IfSome before (EndsWithLine (started_display self.old) self.old.drawn) }
-        ensures by_dots { self.new ≡ dots (dots_to_next_line self.old) self.old }
-        ensures ends { EndsWithLine (started_display self.new) self.new.drawn result }
+        requires before { IfSome before (EndsWithLine (display_with_start_taken self.old) self.old.drawn) }
+        ensures by_dots { self.new ≡ dots (card_dots_to_line_end self.old) self.old }
+        ensures ends { EndsWithLine (display_with_start_taken self.new) self.new.drawn result }
     {
         start_is_taken_once();
         beam_place_in_line();
@@ -151,11 +151,11 @@ impl Card {
     }
 
     /// Takes the next `n` dots of the beam's line, which has at least `n` dots left.
-    fn take_part(&mut self, n: u32)
+    fn take_and_draw_part(&mut self, n: u32)
         requires some { 0 < n }
         requires inside { IsWithinItsLine (character_width self.old) self.old.crtc.registers
             self.old.crtc.beam }
-        requires few { n ≤ dots_to_next_line self.old }
+        requires few { n ≤ card_dots_to_line_end self.old }
         requires at_most { n ≤ 128 }
         ensures { self.new ≡ dots n self.old }
     {
@@ -172,7 +172,7 @@ impl Card {
         self.crtc.step_dots(width, n);
     }
 
-    /// Takes one dot.
+    /// Takes one dot: draws it if it is a display dot, and moves the beam.
     fn take_dot(&mut self)
         ensures { self.new ≡ dot self.old }
     {
@@ -192,7 +192,7 @@ impl Card {
 
     /// Takes `n` dots and draws them, by whole lines and parts of lines where it can. A line may be
     /// a copy of the whole line taken just before it.
-    fn take_and_draw(&mut self, n: u32)
+    fn take_and_draw_dots(&mut self, n: u32)
         ensures { self.new ≡ dots n self.old }
     {
         let width = self.host.character_width();
@@ -200,14 +200,14 @@ impl Card {
         let mut before = None;
         while left > 0 {
             let beam = self.crtc.beam();
-            if beam.character == 0 && beam.dot == 0 && self.crtc.dots_in_line(width) <= left {
-                left -= self.crtc.dots_in_line(width);
+            if beam.character == 0 && beam.dot == 0 && self.crtc.dots_to_line_end(width) <= left {
+                left -= self.crtc.dots_to_line_end(width);
                 before = Some(self.take_line(before));
             } else if 1 < left && self.crtc.is_in_line(width) {
                 let part = left
-                    .min(self.crtc.dots_in_line(width))
-                    .min(MOST_PART as u32);
-                self.take_part(part);
+                    .min(self.crtc.dots_to_line_end(width))
+                    .min(MOST_DOTS_OF_PART as u32);
+                self.take_and_draw_part(part);
                 left -= part;
                 before = None;
             } else {
@@ -229,7 +229,7 @@ impl Card {
         } else {
             n
         };
-        self.take_and_draw(left);
+        self.take_and_draw_dots(left);
     }
 
     /// Lets the clock run for `n` dots, at most 16,777,216. The display dots among them join the

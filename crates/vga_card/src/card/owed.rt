@@ -5,18 +5,18 @@ ghost use Rattle.std.specs.Prelude.{◌≡◌, ◌≤◌, ◌==◌, ◌&&◌, �
 ghost use Rattle.vga_card.specs.Dots.{character_width, dots};
 ghost use Rattle.vga_card.specs.Port.{port_of};
 ghost use Rattle.vga_card.specs.declared.port.Port.TheVariants.{InputStatus1};
-ghost use Rattle.vga_crtc.specs.Raster.{IsWithinItsLine, dots_in_line};
+ghost use Rattle.vga_crtc.specs.Raster.{IsWithinItsLine, dots_to_line_end};
 ghost use Rattle.vga_card.specs.Cycles.{out_cycle, inp_cycle, put_cycle, get_cycle};
 ghost use Rattle.vga_card.specs.WordCycles.{out_word_cycle, put_word_cycle, get_word_cycle};
 ghost use Rattle.vga_host.specs.Memory.Address.{window_offset};
 ghost use Rattle.vga_host.specs.Memory.Write.{memory_after_put};
-ghost use Rattle.vga_card.specs.Owed.{SeeAlike, IsHidden};
+ghost use Rattle.vga_card.specs.Owed.{DotsSeeSameMemory, IsChangeHiddenFromDots};
 
 use super::Card;
 use super::word_cycles::bytes_of;
 use crate::laws::{
-    dots_keep, dots_split, hidden_writes_do_not_wait, reads_do_not_wait, status_reads_do_not_wait,
-    unseen_writes_do_not_wait,
+    dots_keep, dots_split, hidden_writes_commute_with_dots, memory_reads_commute_with_dots,
+    status_reads_commute_with_dots, unseen_writes_commute_with_dots,
 };
 use crate::port::{Port, port_reached};
 use vga_bits::Refusal;
@@ -26,7 +26,7 @@ use vga_host::{GRAPHICS_DATA, GRAPHICS_INDEX, SEQUENCER_DATA, SEQUENCER_INDEX};
 
 /// Whether no dot sees the sequencer's register with this index. Dots see clocking mode and
 /// character map select.
-fn is_hidden_sequencer(index: u8) -> bool
+fn is_hidden_sequencer_register(index: u8) -> bool
     ensures { result ≡ (not (index == 1) && not (index == 3)) }
 {
     index != 1 && index != 3
@@ -34,7 +34,7 @@ fn is_hidden_sequencer(index: u8) -> bool
 
 /// Whether no dot sees the graphics controller's register with this index. Dots see graphics mode
 /// and miscellaneous.
-fn is_hidden_graphics(index: u8) -> bool
+fn is_hidden_graphics_register(index: u8) -> bool
     ensures { result ≡ (not (index == 5) && not (index == 6)) }
 {
     index != 5 && index != 6
@@ -46,19 +46,19 @@ impl Card {
         ensures inside { result ≡ true
             → IsWithinItsLine (character_width self.now) self.now.crtc.registers
             self.now.crtc.beam }
-        ensures few { result ≡ true → n ≤ dots_in_line (character_width self.now)
+        ensures few { result ≡ true → n ≤ dots_to_line_end (character_width self.now)
             self.now.crtc.registers self.now.crtc.beam }
         ensures at_most { result ≡ true → n ≤ 2340 }
     {
         let width = self.host.character_width();
-        self.crtc.is_in_line(width) && n <= self.crtc.dots_in_line(width)
+        self.crtc.is_in_line(width) && n <= self.crtc.dots_to_line_end(width)
     }
 
     /// True only if none of the next n dots sees a write to this address. They must be dots of the
     /// beam's line, must not begin a frame, and must fetch nothing near the offset that is written.
     /// In text the write must not reach the plane of glyphs.
-    fn is_unseen(&self, n: u32, address: u32) -> bool
-        ensures { result ≡ true → (v : ℕ) → SeeAlike n self.now
+    fn is_write_unseen(&self, n: u32, address: u32) -> bool
+        ensures { result ≡ true → (v : ℕ) → DotsSeeSameMemory n self.now
             (memory_after_put self.now.host (window_offset self.now.host address) v) }
     {
         start_is_taken_once();
@@ -66,7 +66,7 @@ impl Card {
         if self.crtc.beam().is_first_dot() || !self.is_within_line(n) {
             return false;
         }
-        match self.host.offset_beside_glyphs(address, self.misc) {
+        match self.host.write_offset_unless_glyphs(address, self.misc) {
             Some(offset) => is_not_fetched(&self.crtc, offset),
             None => false,
         }
@@ -82,7 +82,7 @@ impl Card {
         dots_split();
         let width = self.host.character_width();
         let rest = if self.crtc.is_in_line(width) {
-            let first = self.crtc.dots_in_line(width);
+            let first = self.crtc.dots_to_line_end(width);
             if n < first {
                 return n;
             }
@@ -101,12 +101,12 @@ impl Card {
     fn take_dots_that_see(&mut self, n: u32, address: u32) -> u32
         ensures left { result ≤ n }
         ensures dots { dots result self.new ≡ dots n self.old }
-        ensures unseen { (v : ℕ) → SeeAlike result self.new
+        ensures unseen { (v : ℕ) → DotsSeeSameMemory result self.new
             (memory_after_put self.new.host (window_offset self.new.host address) v) }
     {
         dots_split();
         let left = self.take_to_last_line_start(n);
-        if self.is_unseen(left, address) {
+        if self.is_write_unseen(left, address) {
             return left;
         }
         self.take_dots(left);
@@ -121,8 +121,8 @@ impl Card {
         ensures put { (dots result.0 self.new, result.1) ≡ put_cycle (dots n self.old) address v }
     {
         dots_split();
-        unseen_writes_do_not_wait();
-        if n == 0 || self.is_unseen(n, address) {
+        unseen_writes_commute_with_dots();
+        if n == 0 || self.is_write_unseen(n, address) {
             (n, self.put(address, v))
         } else {
             let left = self.take_dots_that_see(n, address);
@@ -162,13 +162,13 @@ impl Card {
         requires some { 0 < n }
         requires inside { IsWithinItsLine (character_width self.old) self.old.crtc.registers
             self.old.crtc.beam }
-        requires few { n ≤ dots_in_line (character_width self.old) self.old.crtc.registers
+        requires few { n ≤ dots_to_line_end (character_width self.old) self.old.crtc.registers
             self.old.crtc.beam }
         requires at_most { n ≤ 2340 }
         ensures { (port : ℕ) → port_of self.old.misc port ≡ Some InputStatus1 →
             (dots n self.new, Ok result) ≡ inp_cycle (dots n self.old) port }
     {
-        status_reads_do_not_wait();
+        status_reads_commute_with_dots();
         let status = self.crtc.status_after(self.host.character_width(), n);
         self.attr.to_index();
         status
@@ -211,7 +211,7 @@ impl Card {
     pub fn get_after(&mut self, n: u32, address: u32) -> Result<u8, Refusal>
         ensures { (dots n self.new, result) ≡ get_cycle (dots n self.old) address }
     {
-        reads_do_not_wait();
+        memory_reads_commute_with_dots();
         self.get(address)
     }
 
@@ -220,33 +220,33 @@ impl Card {
     pub fn get_word_after(&mut self, n: u32, address: u32) -> Result<u16, Refusal>
         ensures { (dots n self.new, result) ≡ get_word_cycle (dots n self.old) address }
     {
-        reads_do_not_wait();
+        memory_reads_commute_with_dots();
         self.get_word(address)
     }
 
     /// Whether a write to this port is known to be hidden from dots, whichever byte it writes. Such
     /// a port reaches the index of the sequencer or the graphics controller, or a hidden register
     /// of theirs.
-    fn is_hidden_out(&self, port: u16) -> bool
-        ensures { result ≡ true → (v : ℕ) → IsHidden self.now (out_cycle self.now port v).0 }
+    fn is_out_hidden_from_dots(&self, port: u16) -> bool
+        ensures { result ≡ true → (v : ℕ) → IsChangeHiddenFromDots self.now (out_cycle self.now port v).0 }
     {
         match port {
             SEQUENCER_INDEX | GRAPHICS_INDEX => true,
-            SEQUENCER_DATA => is_hidden_sequencer(self.host.seq_index()),
-            GRAPHICS_DATA => is_hidden_graphics(self.host.gfx_index()),
+            SEQUENCER_DATA => is_hidden_sequencer_register(self.host.seq_index()),
+            GRAPHICS_DATA => is_hidden_graphics_register(self.host.gfx_index()),
             _ => false,
         }
     }
 
     /// Whether a write of this word to a port is known to be hidden from dots. Such a word sets the
     /// index of the sequencer or the graphics controller, and a hidden register of theirs.
-    fn is_hidden_out_word(&self, port: u16, v: u16) -> bool
-        ensures { result ≡ true → IsHidden self.now (out_word_cycle self.now port v).0 }
+    fn is_out_word_hidden(&self, port: u16, v: u16) -> bool
+        ensures { result ≡ true → IsChangeHiddenFromDots self.now (out_word_cycle self.now port v).0 }
     {
         let index = (v % 256) as u8;
         match port {
-            SEQUENCER_INDEX => is_hidden_sequencer(index & 0x07),
-            GRAPHICS_INDEX => is_hidden_graphics(index & 0x0F),
+            SEQUENCER_INDEX => is_hidden_sequencer_register(index & 0x07),
+            GRAPHICS_INDEX => is_hidden_graphics_register(index & 0x0F),
             _ => false,
         }
     }
@@ -258,8 +258,8 @@ impl Card {
         ensures out { (dots result.0 self.new, result.1) ≡ out_cycle (dots n self.old) port v }
     {
         dots_split();
-        hidden_writes_do_not_wait();
-        if self.is_hidden_out(port) {
+        hidden_writes_commute_with_dots();
+        if self.is_out_hidden_from_dots(port) {
             return (n, self.out(port, v));
         }
         self.take_dots(n);
@@ -273,8 +273,8 @@ impl Card {
         ensures out { (dots result.0 self.new, result.1) ≡ out_word_cycle (dots n self.old) port v }
     {
         dots_split();
-        hidden_writes_do_not_wait();
-        if self.is_hidden_out_word(port, v) {
+        hidden_writes_commute_with_dots();
+        if self.is_out_word_hidden(port, v) {
             return (n, self.out_word(port, v));
         }
         self.take_dots(n);

@@ -5,12 +5,12 @@ ghost use Rattle.std.specs.Prelude.{◌≡◌, ◌<◌, ◌≤◌, ◌++◌, tru
 ghost use Rattle.vga_crtc.specs.Raster.{IsLineStart};
 ghost use Rattle.vga_card.specs.Line.{displayed_line_dots};
 ghost use Rattle.vga_card.specs.Repeat.{EndsWithLine, ShowsLineAgain};
-ghost use Rattle.vga_card.specs.Valid.{IsDrawnTo};
+ghost use Rattle.vga_card.specs.Valid.{IsLineDrawnToBeam};
 
 use super::dots::draw_row;
 use crate::canvas::Canvas;
 use vga_crtc::Beam;
-use vga_dots::laws::graphics_lines_repeat;
+use vga_dots::laws::graphics_lines_depend_on_counter;
 use vga_dots::{Display, shown_characters};
 
 /// Whether the beam's line, in graphics, shows the same as an earlier line of the frame. That line
@@ -29,14 +29,14 @@ fn shows_line_again(display: &Display<'_>, before: Beam) -> bool
 /// a line that was drawn with the beam `before` and shows the same. The start of the frame is taken
 /// already.
 fn copy_row(display: &Display<'_>, canvas: &mut Canvas, before: Beam)
-    requires place { IsDrawnTo display.now.crtc.beam 0 canvas.old.line canvas.old.width }
+    requires place { IsLineDrawnToBeam display.now.crtc.beam 0 canvas.old.line canvas.old.width }
     requires start { IsLineStart display.now.crtc.beam }
     requires again { ShowsLineAgain display.now before }
     requires ends { EndsWithLine display.now canvas.old.dots before }
     ensures dots { canvas.new.dots ≡ canvas.old.dots ++ displayed_line_dots display.now }
     ensures below { canvas.new.line ≤ display.now.crtc.beam.line }
 {
-    graphics_lines_repeat();
+    graphics_lines_depend_on_counter();
     let crtc = display.crtc();
     if crtc.is_display() {
         let width = display.host().character_width() as usize;
@@ -49,7 +49,7 @@ fn copy_row(display: &Display<'_>, canvas: &mut Canvas, before: Beam)
 /// `before` may be its beam. If that line shows the same, its dots are copied. The start of the
 /// frame is taken already.
 pub(super) fn add_row(display: &Display<'_>, canvas: &mut Canvas, before: Option<Beam>)
-    requires place { IsDrawnTo display.now.crtc.beam 0 canvas.old.line canvas.old.width }
+    requires place { IsLineDrawnToBeam display.now.crtc.beam 0 canvas.old.line canvas.old.width }
     requires start { IsLineStart display.now.crtc.beam }
     requires before { IfSome before (λ b. b.line < display.now.crtc.beam.line →
         EndsWithLine display.now canvas.old.dots b) }

@@ -5,7 +5,7 @@ ghost use Rattle.vga_bits.specs.Saved.{IsPut};
 ghost use Rattle.vga_card.specs.Dots.{dots_of_frame_so_far};
 ghost use Rattle.vga_card.specs.Saved.{saved_card, past_misc, past_crtc, past_attr, past_dac};
 ghost use Rattle.vga_card.specs.Saved.{past_host, IsSavedCard, card_from};
-ghost use Rattle.vga_card.specs.FreshCanvas.{with_fresh_canvas};
+ghost use Rattle.vga_card.specs.FreshCanvas.{without_unseen_dots};
 
 use super::Card;
 use super::cycles::MISCELLANEOUS_MASK;
@@ -70,7 +70,7 @@ impl Card {
         ensures dots { result ≡ 265046 + 3 * length (dots_of_frame_so_far self.now) }
         ensures few { result ≤ 7342934 }
     {
-        self.saves_whole();
+        self.restore_gives_what_was_saved();
         let dots = if self.crtc.beam().is_first_dot() {
             0
         } else {
@@ -142,7 +142,7 @@ impl Card {
         requires { length out.old ≡ length (saved_card self.now) }
         ensures { out.new ≡ saved_card self.now }
     {
-        self.saves_whole();
+        self.restore_gives_what_was_saved();
         self.save(out, 0);
     }
 
@@ -162,10 +162,10 @@ impl Card {
     /// `OutOfMemory`.
     #[tactic(auto, using(crate::proofs::SavedCards::saved_there))]
     pub fn copy(&self, alloc: Global) -> Result<Card, Fault>
-        ensures ok { IfOk result (λ card. card ≡ with_fresh_canvas self.now) }
+        ensures ok { IfOk result (λ card. card ≡ without_unseen_dots self.now) }
         ensures err { IsOkUnless result Fault.OutOfMemory }
     {
-        self.saves_whole();
+        self.restore_gives_what_was_saved();
         let bytes = self.saved_bytes(alloc)?;
         let mut copy = Card::new(alloc)?;
         copy.restore(bytes.as_slice());
@@ -174,16 +174,16 @@ impl Card {
 
     /// A saved adapter is restored in full, except for dots that no step can see any more. The
     /// clauses are for proofs: nothing runs.
-    pub fn saves_whole(&self)
+    pub fn restore_gives_what_was_saved(&self)
         ensures saved { IsSavedCard (saved_card self.now) }
-        ensures back { card_from (saved_card self.now) ≡ with_fresh_canvas self.now }
+        ensures back { card_from (saved_card self.now) ≡ without_unseen_dots self.now }
         ensures len { length (saved_card self.now) ≡ 265046 + 3 * length (dots_of_frame_so_far
             self.now) }
     {
-        self.crtc.saves_whole();
-        self.attr.saves_whole();
-        self.dac.saves_whole();
-        self.host.saves_whole();
-        self.canvas.saves_whole(self.crtc.beam());
+        self.crtc.restore_gives_what_was_saved();
+        self.attr.restore_gives_what_was_saved();
+        self.dac.restore_gives_what_was_saved();
+        self.host.restore_gives_what_was_saved();
+        self.canvas.restore_gives_what_was_saved(self.crtc.beam());
     }
 }

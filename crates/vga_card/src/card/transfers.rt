@@ -2,8 +2,8 @@
 //! from the last.
 ghost use Rattle.std.specs.Prelude.{◌≡◌, ◌<◌, ◌≤◌, ◌+◌, ◌^◌, ℕ, length, slice_index};
 ghost use Rattle.vga_card.specs.Bus.{after_puts, card_meaning, AtAddress};
-ghost use Rattle.vga_card.specs.Transfers.{after_gets, after_puts_down, after_gets_down};
-ghost use Rattle.vga_card.specs.Transfers.{after_moves_down, byte_at_or_ff, decoded_count, AreRead};
+ghost use Rattle.vga_card.specs.Transfers.{after_gets, after_puts_last_first, after_gets_last_first};
+ghost use Rattle.vga_card.specs.Transfers.{after_moves_last_first, byte_at_or_ff, decoded_count, AreBytesRead};
 
 use super::Card;
 
@@ -15,7 +15,7 @@ const END_OF_WINDOWS: u32 = 0xC_0000;
 
 /// How many of n addresses from the first on come before the end of all windows. Cycles at the
 /// others do nothing.
-fn count_before_end(first: u32, n: u32) -> u32
+fn addresses_before_windows_end(first: u32, n: u32) -> u32
     ensures few { result ≤ n }
     ensures past { result < n → 0xC0000 ≤ first + result }
 {
@@ -24,12 +24,12 @@ fn count_before_end(first: u32, n: u32) -> u32
 
 /// How many of n moves come before the end of all windows, with the one address or the other.
 /// The other moves do nothing.
-pub fn moves_before_end(from: u32, to: u32, n: u32) -> u32
+pub fn moves_before_windows_end(from: u32, to: u32, n: u32) -> u32
     ensures few { result ≤ n }
     ensures past_from { result < n → 0xC0000 ≤ from + result }
     ensures past_to { result < n → 0xC0000 ≤ to + result }
 {
-    count_before_end(from, n).max(count_before_end(to, n))
+    addresses_before_windows_end(from, n).max(addresses_before_windows_end(to, n))
 }
 
 impl Card {
@@ -54,9 +54,9 @@ impl Card {
 
     /// Writes bytes to the addresses from the first on, the last byte first. A refused write does
     /// nothing.
-    pub fn put_slice_down(&mut self, first: u32, bytes: &[u8])
+    pub fn put_slice_last_first(&mut self, first: u32, bytes: &[u8])
         requires { first + length bytes.now < 2 ^ 32 }
-        ensures { self.new ≡ after_puts_down card_meaning first (slice_index bytes.now)
+        ensures { self.new ≡ after_puts_last_first card_meaning first (slice_index bytes.now)
             (length bytes.now) self.old }
     {
         let n = bytes.len();
@@ -71,16 +71,16 @@ impl Card {
         requires { first + n < 2 ^ 32 }
         ensures { self.new ≡ after_puts card_meaning first (λ i. value) n 0 self.old }
     {
-        self.put_in_turn(first, count_before_end(first, n), value, value);
+        self.put_in_turn(first, addresses_before_windows_end(first, n), value, value);
     }
 
     /// Writes a byte to n addresses from the first on, the last address first. A refused write does
     /// nothing.
-    pub fn fill_down(&mut self, first: u32, n: u32, value: u8)
+    pub fn fill_last_first(&mut self, first: u32, n: u32, value: u8)
         requires { first + n < 2 ^ 32 }
-        ensures { self.new ≡ after_puts_down card_meaning first (λ i. value) n self.old }
+        ensures { self.new ≡ after_puts_last_first card_meaning first (λ i. value) n self.old }
     {
-        let kept = count_before_end(first, n);
+        let kept = addresses_before_windows_end(first, n);
         for i in 0..kept {
             let _ = self.put(first + (kept - 1 - i), value);
         }
@@ -103,18 +103,18 @@ impl Card {
     pub fn get_slice(&mut self, first: u32, bytes: &mut [u8])
         requires { first + length bytes.old < 2 ^ 32 }
         ensures after { self.new ≡ after_gets card_meaning first (length bytes.old) 0 self.old }
-        ensures bytes { AreRead self.old first bytes.old bytes.new }
+        ensures bytes { AreBytesRead self.old first bytes.old bytes.new }
     {
         self.host.get_slice(first, bytes, self.misc);
     }
 
     /// Reads the addresses from the first on into the caller's bytes, the last address first. A
     /// refused read gives FF and loads no latch.
-    pub fn get_slice_down(&mut self, first: u32, bytes: &mut [u8])
+    pub fn get_slice_last_first(&mut self, first: u32, bytes: &mut [u8])
         requires { first + length bytes.old < 2 ^ 32 }
-        ensures after { self.new ≡ after_gets_down card_meaning first (length bytes.old)
+        ensures after { self.new ≡ after_gets_last_first card_meaning first (length bytes.old)
             self.old }
-        ensures bytes { AreRead self.old first bytes.old bytes.new }
+        ensures bytes { AreBytesRead self.old first bytes.old bytes.new }
     {
         let n = bytes.len();
         for i in 0..n {
@@ -125,12 +125,12 @@ impl Card {
 
     /// Moves n bytes from one run of addresses to another, the last byte first. A refused write
     /// does nothing, and a refused read gives FF.
-    pub fn move_bytes_down(&mut self, from: u32, to: u32, n: u32)
+    pub fn move_bytes_last_first(&mut self, from: u32, to: u32, n: u32)
         requires from { from + n < 2 ^ 32 }
         requires to { to + n < 2 ^ 32 }
-        ensures { self.new ≡ after_moves_down card_meaning from to n self.old }
+        ensures { self.new ≡ after_moves_last_first card_meaning from to n self.old }
     {
-        let kept = moves_before_end(from, to, n);
+        let kept = moves_before_windows_end(from, to, n);
         for i in 0..kept {
             let at = kept - 1 - i;
             let byte = self.get_or_refused(from + at);

@@ -2,7 +2,7 @@
 //! the CRT controller's, and a character is `cw` dots wide, 8 or 9.
 ghost use Rattle.std.specs.Prelude.{◌≡◌, ◌+◌, if◌then◌else◌, ◌<◌, ◌≤◌, ◌⊎◌, IfSome, MatchOption, false};
 ghost use Rattle.vga_crtc.specs.Beam.{IsBeam};
-ghost use Rattle.vga_crtc.specs.Raster.{dots_in_line, dots_in_frame};
+ghost use Rattle.vga_crtc.specs.Raster.{dots_to_line_end, dots_to_frame_end};
 ghost use Rattle.vga_crtc.specs.Status.{is_display, is_retrace};
 ghost use Rattle.vga_crtc.specs.Clock.{ChangesAfter, NeverChanges, dots_to_line};
 ghost use Rattle.vga_crtc.specs.Clock.{dots_to_character};
@@ -47,12 +47,12 @@ impl Beam {
     }
 
     /// How many dots, at least one, lead to the next line.
-    #[tactic(auto, unfolding(crate::specs::Raster::dots_in_line))]
+    #[tactic(auto, unfolding(crate::specs::Raster::dots_to_line_end))]
     #[inline(always)]
-    pub(crate) fn dots_in_line(self, registers: &Registers, cw: u8) -> u32
+    pub(crate) fn dots_to_line_end(self, registers: &Registers, cw: u8) -> u32
         requires width { (cw ≡ 8) ⊎ (cw ≡ 9) }
         requires place { IsBeam self }
-        ensures value { result ≡ dots_in_line cw registers.now self }
+        ensures value { result ≡ dots_to_line_end cw registers.now self }
         ensures at_most { result ≤ 2340 }
     {
         let after = registers.characters().saturating_sub(self.character + 1);
@@ -60,17 +60,17 @@ impl Beam {
     }
 
     /// How many dots, at least one, lead to the next frame.
-    #[tactic(auto, unfolding(crate::specs::Raster::dots_in_frame))]
+    #[tactic(auto, unfolding(crate::specs::Raster::dots_to_frame_end))]
     #[inline(always)]
-    pub(crate) fn dots_in_frame(self, registers: &Registers, cw: u8) -> u32
+    pub(crate) fn dots_to_frame_end(self, registers: &Registers, cw: u8) -> u32
         requires width { (cw ≡ 8) ⊎ (cw ≡ 9) }
         requires place { IsBeam self }
-        ensures value { result ≡ dots_in_frame cw registers.now self }
+        ensures value { result ≡ dots_to_frame_end cw registers.now self }
         ensures at_most { result ≤ 2398500 }
     {
         let line = registers.characters() as u32 * cw as u32;
         let after = registers.lines().saturating_sub(self.line + 1);
-        after as u32 * line + self.dots_in_line(registers, cw)
+        after as u32 * line + self.dots_to_line_end(registers, cw)
     }
 
     /// How many dots, at least one, lead to the first dot of line `line`: of this frame if the line
@@ -85,9 +85,9 @@ impl Beam {
     {
         let width = registers.characters() as u32 * cw as u32;
         if self.line < line {
-            (line - (self.line + 1)) as u32 * width + self.dots_in_line(registers, cw)
+            (line - (self.line + 1)) as u32 * width + self.dots_to_line_end(registers, cw)
         } else {
-            line as u32 * width + self.dots_in_frame(registers, cw)
+            line as u32 * width + self.dots_to_frame_end(registers, cw)
         }
     }
 

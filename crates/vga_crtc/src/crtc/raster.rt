@@ -3,8 +3,8 @@ ghost use Rattle.std.specs.Prelude.{ℕ, ◌≡◌, ◌<◌, ◌≤◌, ◌⊎�
 ghost use Rattle.std.specs.Prelude.{IfSome, MatchOption};
 ghost use Rattle.vga_crtc.specs.Clock.{ChangesAfter, NeverChanges};
 ghost use Rattle.vga_crtc.specs.Status.{is_display, is_retrace};
-ghost use Rattle.vga_crtc.specs.Beam.{after_start, after_dot, after_dots};
-ghost use Rattle.vga_crtc.specs.Raster.{dots_in_line, dots_in_frame, IsLineTaken, IsWithinItsLine};
+ghost use Rattle.vga_crtc.specs.Beam.{crtc_with_start_taken, after_dot, after_dots};
+ghost use Rattle.vga_crtc.specs.Raster.{dots_to_line_end, dots_to_frame_end, IsLineTaken, IsWithinItsLine};
 
 use super::Crtc;
 use crate::beam::Beam;
@@ -13,9 +13,9 @@ impl Crtc {
     /// Takes the start of a frame, if the beam is there: the start address with byte panning, and
     /// the first scan line. Elsewhere it does nothing. A dot leads to the same beam whether the
     /// start was taken before or not.
-    #[tactic(auto, unfolding(crate::specs::Beam::after_start))]
+    #[tactic(auto, unfolding(crate::specs::Beam::crtc_with_start_taken))]
     pub fn take_start(&mut self)
-        ensures started { self.new ≡ after_start self.old }
+        ensures started { self.new ≡ crtc_with_start_taken self.old }
         ensures again { (cw : ℕ) → after_dot self.new cw ≡ after_dot self.old cw }
     {
         self.beam.take_start(&self.registers);
@@ -32,21 +32,21 @@ impl Crtc {
     }
 
     /// How many dots, at least one, lead to the next line; a character is `cw` dots wide, 8 or 9.
-    pub fn dots_in_line(&self, cw: u8) -> u32
+    pub fn dots_to_line_end(&self, cw: u8) -> u32
         requires { (cw ≡ 8) ⊎ (cw ≡ 9) }
-        ensures value { result ≡ dots_in_line cw self.now.registers self.now.beam }
+        ensures value { result ≡ dots_to_line_end cw self.now.registers self.now.beam }
         ensures at_most { result ≤ 2340 }
     {
-        self.beam.dots_in_line(&self.registers, cw)
+        self.beam.dots_to_line_end(&self.registers, cw)
     }
 
     /// How many dots, at least one, lead to the next frame; a character is `cw` dots wide, 8 or 9.
-    pub fn dots_in_frame(&self, cw: u8) -> u32
+    pub fn dots_to_frame_end(&self, cw: u8) -> u32
         requires { (cw ≡ 8) ⊎ (cw ≡ 9) }
-        ensures value { result ≡ dots_in_frame cw self.now.registers self.now.beam }
+        ensures value { result ≡ dots_to_frame_end cw self.now.registers self.now.beam }
         ensures at_most { result ≤ 2398500 }
     {
-        self.beam.dots_in_frame(&self.registers, cw)
+        self.beam.dots_to_frame_end(&self.registers, cw)
     }
 
     /// After how many dots, at least one, the vertical retrace begins next, or ends if the beam is
@@ -88,7 +88,7 @@ impl Crtc {
     /// It does so in one step, whatever the width of a character.
     pub fn step_frame(&mut self)
         ensures { (cw : ℕ) → 0 < cw → self.new
-            ≡ after_dots self.old cw (dots_in_frame cw self.old.registers self.old.beam) }
+            ≡ after_dots self.old cw (dots_to_frame_end cw self.old.registers self.old.beam) }
     {
         self.beam = Beam::first_dot((self.beam.frame + 1) % 32);
     }
@@ -108,7 +108,7 @@ impl Crtc {
         requires width { (cw ≡ 8) ⊎ (cw ≡ 9) }
         requires inside { IsWithinItsLine cw self.old.registers self.old.beam }
         requires some { 0 < n }
-        requires few { n ≤ dots_in_line cw self.old.registers self.old.beam }
+        requires few { n ≤ dots_to_line_end cw self.old.registers self.old.beam }
         requires at_most { n ≤ 2340 }
         ensures { self.new ≡ after_dots self.old cw n }
     {

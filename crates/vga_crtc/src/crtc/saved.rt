@@ -64,7 +64,7 @@ impl Crtc {
 
     /// A saved CRT controller is restored in full. The clauses are for proofs: nothing runs.
     #[tactic(auto, using(crate::proofs::SavedLemmas::crtc_is_back))]
-    pub fn saves_whole(&self)
+    pub fn restore_gives_what_was_saved(&self)
         ensures saved { IsSavedCrtc (saved_crtc self.now) }
         ensures back { crtc_from (saved_crtc self.now) ≡ self.now }
     {

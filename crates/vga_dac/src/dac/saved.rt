@@ -119,7 +119,7 @@ impl Dac {
 
     /// A saved DAC is restored in full. The clauses are for proofs: nothing runs.
     #[tactic(auto, using(crate::proofs::SavedLemmas::dac_is_back))]
-    pub fn saves_whole(&self)
+    pub fn restore_gives_what_was_saved(&self)
         ensures saved { IsSavedDac (saved_dac self.now) }
         ensures back { dac_from (saved_dac self.now) ≡ self.now }
     {

@@ -47,11 +47,11 @@ plane_offset h w =
     else w
 
 -- whether the address bits select plane p for a write at an offset in the window
-abbrev pub is_addressed : HostState → ℕ → ℕ → Bool
-is_addressed h w p =
+abbrev pub is_plane_addressed : HostState → ℕ → ℕ → Bool
+is_plane_addressed h w p =
     if is_chain_four h then p == w % 4
     else is_odd_even_off h || (p % 2 == w % 2)
 
 -- whether a write at an offset in the window reaches plane p
 abbrev pub is_reached : HostState → ℕ → ℕ → Bool
-is_reached h w p = is_in_map_mask h p && is_addressed h w p
+is_reached h w p = is_in_map_mask h p && is_plane_addressed h w p

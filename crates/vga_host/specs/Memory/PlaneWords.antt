@@ -12,7 +12,7 @@ use Rattle.vga_host.specs.Graphics.{write_mode}
 use Rattle.vga_host.specs.Graphics.{is_chain_odd_even, is_odd_even_read, is_read_compare}
 use Rattle.vga_host.specs.Graphics.{read_map_pair}
 use Rattle.vga_host.specs.Memory.Address.{is_decoded, window_offset}
-use Rattle.vga_host.specs.Memory.Write.{written_byte, StoresByte}
+use Rattle.vga_host.specs.Memory.Write.{written_byte, StoresByteUnchanged}
 use Rattle.vga_host.specs.Memory.Runs.{after_moves, after_puts}
 
 -- a word of the planes is copied from offset a to offset b, in the planes that `reach` selects, and
@@ -42,7 +42,7 @@ pub record MovesCopyLatches (h : HostState) : Type 0 where
 -- the window are multiples of four
 pub record MovesCopyByFours (h : HostState) (f t : ℕ) : Type 0 where
   pub chain_four : is_chain_four h ≡ true
-  pub stores_byte : StoresByte h
+  pub stores_byte : StoresByteUnchanged h
   pub compare : is_read_compare h ≡ false
   pub from_place : f % 4 ≡ 0
   pub to_place : t % 4 ≡ 0
@@ -61,7 +61,7 @@ pub record WritesPlanePairs (h : HostState) : Type 0 where
   pub odd_even_off : is_odd_even_off h ≡ false
   pub plane2 : is_in_map_mask h 2 ≡ false
   pub plane3 : is_in_map_mask h 3 ≡ false
-  pub stores_byte : StoresByte h
+  pub stores_byte : StoresByteUnchanged h
 
 -- moves read and write only planes 0 and 1, and go from an even offset in the window to an even one
 pub record MovesCopyByPairs (h : HostState) (f t : ℕ) : Type 0 where
@@ -109,8 +109,8 @@ pub record AreWritesDecoded (h : HostState) (misc first n f : ℕ) : Type 0 wher
   pub written : (k : ℕ) → k < n → is_decoded h misc (first + k) ≡ true
   pub in_window : (k : ℕ) → k < n → window_offset h (first + k) ≡ (f + k) % 65536
 
--- no bit of an address picks a plane
-pub record FillsAllPlanes (h : HostState) : Type 0 where
+-- no bit of an address picks a plane: each write goes to all planes of the map mask
+pub record AddressPicksNoPlane (h : HostState) : Type 0 where
   pub chain_four : is_chain_four h ≡ false
   pub chain_odd_even : is_chain_odd_even h ≡ false
   pub odd_even_off : is_odd_even_off h ≡ true

@@ -55,7 +55,7 @@ written_byte h b p = byte_of_bits (λ i. written_bit h b p i)
 
 -- A write stores its byte unchanged: write mode 0, no rotation, no function, no plane that takes
 -- its set/reset bit, and a bit mask of ones.
-pub record StoresByte (h : HostState) : Type 0 where
+pub record StoresByteUnchanged (h : HostState) : Type 0 where
   pub mode : write_mode h ≡ 0
   pub rotate : rotate_count h ≡ 0
   pub function : function_select h ≡ 0

@@ -3,14 +3,14 @@
 ghost use Rattle.std.specs.Prelude.{◌≡◌, ℕ};
 ghost use Rattle.std.specs.Int.{bit_at};
 ghost use Rattle.vga_bits.specs.Bits.{is_set as is_set_of};
-ghost use Rattle.vga_host.specs.Ports.{is_refused_gfx};
+ghost use Rattle.vga_host.specs.Ports.{is_refused_graphics_write};
 ghost use Rattle.vga_host.specs.Graphics.{set_reset, is_set_reset_enabled, colour_compare, rotate_count, function_select, read_map_select, read_map_pair, write_mode, is_read_compare, is_odd_even_read, is_shift_256, is_graphics, is_256_colours, is_compared, bit_mask};
 
 use super::Host;
 use vga_bits::is_set;
 use vga_planes::PlaneSet;
 
-/// The registers.
+/// The numbers of the graphics controller's registers.
 pub(super) const SET_RESET: usize = 0;
 
 pub(super) const ENABLE_SET_RESET: usize = 1;
@@ -40,8 +40,8 @@ pub(super) const GFX_MASKS: [u8; 9] = [0x0F, 0x0F, 0x0F, 0x1F, 0x03, 0x7B, 0x0F,
 
 /// Whether a write of `v` to register `i` is refused: there is no such register, or the value asks
 /// for shift register mode.
-pub(super) fn is_refused_gfx(i: u8, v: u8) -> bool
-    ensures { result ≡ is_refused_gfx i v }
+pub(super) fn is_refused_graphics_write(i: u8, v: u8) -> bool
+    ensures { result ≡ is_refused_graphics_write i v }
 {
     i > LAST || (i == GRAPHICS_MODE as u8 && is_set(v, 5))
 }

@@ -85,11 +85,11 @@ impl Host {
     }
 
     /// A saved host path is restored in full. The clauses are for proofs: nothing runs.
-    pub fn saves_whole(&self)
+    pub fn restore_gives_what_was_saved(&self)
         ensures saved { IsSavedHost (saved_host self.now) }
         ensures back { host_from (saved_host self.now) ≡ self.now }
     {
-        self.planes.saves_whole();
+        self.planes.restore_gives_what_was_saved();
         self.bounds();
     }
 }

@@ -81,7 +81,7 @@ impl Planes {
 
     /// Saved planes are restored in full. The clauses are for proofs: nothing runs.
     #[tactic(auto, using(crate::proofs::SavedLemmas::memory_len, crate::proofs::SavedLemmas::memory_is_back))]
-    pub fn saves_whole(&self)
+    pub fn restore_gives_what_was_saved(&self)
         ensures len { length (saved_memory self.now) ≡ 262144 }
         ensures back { memory_from (saved_memory self.now) ≡ self.now }
     {

@@ -5,20 +5,20 @@ ghost use Rattle.vga_bits.specs.declared.fault.Fault.TheVariants.{OutOfMemory};
 ghost use Rattle.vga_bits.specs.Tracked.{inner_of, has_failed};
 ghost use Rattle.bios_modes.specs.Valid.{IsValid};
 ghost use Rattle.vga_run.specs.Report.{steps_until};
-ghost use Rattle.vga_run.specs.Run.{IsOnTheWay, WritesReport};
+ghost use Rattle.vga_run.specs.Run.{HasTakenFirstSteps, WritesReport};
 ghost use Rattle.vga_run.specs.Step.{after_steps};
 ghost use Rattle.vga_script.specs.Spelling.{script_limit};
 
 use super::Machine;
 use crate::numbered_line::NumberedLine;
-use crate::report::{write_closing_dumps, write_step};
+use crate::report::{take_and_write_step, write_closing_dumps};
 use std::alloc::Global;
 use std::io::Write;
 use vga_bits::{Fault, Tracked, flush};
 use vga_script::Steps;
 
 /// Takes the first `most` steps, or all if there are fewer, and writes a line for each.
-fn write_first_steps<W: Write>(
+fn take_and_write_first_steps<W: Write>(
     alloc: Global,
     out: &mut Tracked<W>,
     line: &mut NumberedLine,
@@ -33,7 +33,7 @@ fn write_first_steps<W: Write>(
         (has_failed out.new) result machine.old line.old (take most steps.entry) }
     ensures number { OnOk result (line.new ≡ line.old + length (take most steps.entry)) }
     ensures after { OnOk result (machine.new ≡ after_steps machine.old (take most steps.entry)) }
-    ensures way { IsOnTheWay machine.old (take most steps.entry) machine.new }
+    ensures way { HasTakenFirstSteps machine.old (take most steps.entry) machine.new }
     ensures valid { IsValid machine.new.bda }
 {
     let mut left = steps;
@@ -41,14 +41,14 @@ fn write_first_steps<W: Write>(
         let Some(step) = left.next() else {
             return Ok(());
         };
-        write_step(alloc, out, line, machine, &step)?;
+        take_and_write_step(alloc, out, line, machine, &step)?;
         line.count_up();
     }
     Ok(())
 }
 
 /// Takes the first `most` steps, or all if there are fewer, and then the last dumps.
-fn write_until<W: Write>(
+fn take_first_steps_and_dumps<W: Write>(
     alloc: Global,
     out: &mut Tracked<W>,
     machine: &mut Machine,
@@ -65,13 +65,13 @@ fn write_until<W: Write>(
     ensures valid { IsValid machine.new.bda }
 {
     let mut line = NumberedLine::of_step(1);
-    write_first_steps(alloc, out, &mut line, machine, steps, most as usize)?;
+    take_and_write_first_steps(alloc, out, &mut line, machine, steps, most as usize)?;
     write_closing_dumps(alloc, out, machine, line.number())
 }
 
 /// Takes the steps on this machine, and writes the line of each: all of them, or with `until` the
 /// first ones and then the closing dumps.
-fn write_steps<W: Write>(
+fn take_steps_with_limit<W: Write>(
     alloc: Global,
     out: &mut Tracked<W>,
     machine: &mut Machine,
@@ -88,10 +88,10 @@ fn write_steps<W: Write>(
     ensures valid { IsValid machine.new.bda }
 {
     match until {
-        Some(most) => write_until(alloc, out, machine, steps, most),
+        Some(most) => take_first_steps_and_dumps(alloc, out, machine, steps, most),
         None => {
             let mut line = NumberedLine::of_step(1);
-            write_first_steps(alloc, out, &mut line, machine, steps, usize::MAX)
+            take_and_write_first_steps(alloc, out, &mut line, machine, steps, usize::MAX)
         }
     }
 }
@@ -123,7 +123,7 @@ impl Machine {
             (self.new ≡ after_steps self.old (steps_until until steps.entry)) }
         ensures valid { IsValid self.new.bda }
     {
-        write_steps(alloc, out, self, steps, until)?;
+        take_steps_with_limit(alloc, out, self, steps, until)?;
         flush(out)
     }
 
@@ -150,11 +150,11 @@ impl Machine {
             (has_failed out.new) result self.old number.old (take most steps.entry) }
         ensures number { OnOk result (number.new ≡ number.old + length (take most steps.entry)) }
         ensures after { OnOk result (self.new ≡ after_steps self.old (take most steps.entry)) }
-        ensures way { IsOnTheWay self.old (take most steps.entry) self.new }
+        ensures way { HasTakenFirstSteps self.old (take most steps.entry) self.new }
         ensures valid { IsValid self.new.bda }
     {
         let mut line = NumberedLine::of_step(*number);
-        write_first_steps(alloc, out, &mut line, self, steps, most)?;
+        take_and_write_first_steps(alloc, out, &mut line, self, steps, most)?;
         *number = line.number();
         Ok(())
     }

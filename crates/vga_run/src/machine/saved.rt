@@ -7,7 +7,7 @@ ghost use Rattle.bios_modes.specs.Valid.{IsValid};
 ghost use Rattle.vga_run.specs.Saved.{saved_mark, four_bytes_of_number};
 ghost use Rattle.vga_run.specs.Saved.{number_of_four_bytes as long_of, saved_machine};
 ghost use Rattle.vga_run.specs.Saved.{HasMagic, HasVersion, HasLength, HasParts, IsSavedMachine};
-ghost use Rattle.vga_run.specs.Saved.{IsStateFault, machine_from, machine_with_fresh_canvas};
+ghost use Rattle.vga_run.specs.Saved.{IsStateFault, machine_from, machine_without_unseen_dots};
 
 use super::Machine;
 use bios_modes::Bda;
@@ -106,7 +106,7 @@ impl Machine {
         ensures value { result ≡ length (saved_machine self.now) }
         ensures few { result < 4294967296 }
     {
-        self.bda.saves_whole();
+        self.bda.restore_gives_what_was_saved();
         HEADER_LEN + Bda::SAVED_LEN + self.card.saved_len()
     }
 
@@ -116,8 +116,8 @@ impl Machine {
         requires { length out.old ≡ length (saved_machine self.now) }
         ensures { out.new ≡ saved_machine self.now }
     {
-        self.bda.saves_whole();
-        self.card.saves_whole();
+        self.bda.restore_gives_what_was_saved();
+        self.card.restore_gives_what_was_saved();
         let len = self.saved_len();
         let at = put_header(out, len);
         let at = self.bda.save(out, at);
@@ -145,13 +145,13 @@ impl Machine {
         ensures err { IfErr result (λ e. IsStateFault e bytes.now × (self.new ≡ self.old)) }
     {
         check_saved_machine(bytes)?;
-        self.take_parts(bytes);
+        self.restore_parts(bytes);
         Ok(())
     }
 
     /// Takes adapter and BIOS data from the bytes of a saved machine.
     #[tactic(auto, unfolding(crate::specs::Saved::machine_from))]
-    fn take_parts(&mut self, bytes: &[u8])
+    fn restore_parts(&mut self, bytes: &[u8])
         requires { IsSavedMachine bytes.now }
         ensures restored { self.new ≡ machine_from self.old.fonts bytes.now }
         ensures card { IsCard self.new.card }
@@ -167,12 +167,12 @@ impl Machine {
     /// A saved machine is restored whole, except for dots that no step can see any more; and a
     /// machine with valid BIOS data is saved as bytes that can be restored. The clauses are for
     /// proofs: nothing runs.
-    pub fn saves_whole(&self)
+    pub fn restore_gives_what_was_saved(&self)
         ensures saved { IsValid self.now.bda → IsSavedMachine (saved_machine self.now) }
         ensures back { machine_from self.now.fonts (saved_machine self.now)
-            ≡ machine_with_fresh_canvas self.now }
+            ≡ machine_without_unseen_dots self.now }
     {
-        self.bda.saves_whole();
-        self.card.saves_whole();
+        self.bda.restore_gives_what_was_saved();
+        self.card.restore_gives_what_was_saved();
     }
 }

@@ -1,8 +1,8 @@
 use Rattle.std.proofs.Common.{◌≡◌, Bool, true, false, refl, ap, sym, ◌∙◌}
 use Rattle.std.specs.Prelude.{◌&&◌}
 use Rattle.std.specs.Str.{bytes_eq}
-use Rattle.bios_screen.proofs.Prelude.{CrtcState, CardState, ModeRow, BiosData, shows_attribute}
-use Rattle.bios_screen.specs.Shown.{shows, shows_memory, shows_data, crtc_registers_shown}
+use Rattle.bios_screen.proofs.Prelude.{CrtcState, CardState, ModeRow, BiosData, has_attribute_registers_of_mode}
+use Rattle.bios_screen.specs.Shown.{shows, has_memory_registers_of_mode, has_bios_data_of_mode, crtc_registers_shown}
 use Rattle.bios_screen.proofs.shown.is_shown.Goals as goal
 
 third_fails : (m d p a : Bool) → p ≡ false → false ≡ (m && (d && (p && a)))
@@ -17,7 +17,7 @@ page_not_shown : (row : ModeRow) (c : CardState) (d : BiosData) (x : CrtcState) 
 unfolding shows
 page_not_shown row c d x r same page fails =
     fails
-    ∙ third_fails (shows_memory row c) (shows_data row d) (bytes_eq c.crtc.registers (crtc_registers_shown row d c.crtc.registers)) (shows_attribute row c.attr)
+    ∙ third_fails (has_memory_registers_of_mode row c) (has_bios_data_of_mode row d) (bytes_eq c.crtc.registers (crtc_registers_shown row d c.crtc.registers)) (has_attribute_registers_of_mode row c.attr)
     (sym (page ∙ ap (λ (y : CrtcState). bytes_eq y.registers (crtc_registers_shown row d y.registers)) same) ∙ fails)
 
 pub returns-else-shows_page : goal.returns-else-shows_page

@@ -16,14 +16,14 @@ loop-rest-preserved c =
     let back = c.split_at.ensures.back in
     let whole : c.split_at.result.0.now ++ c.split_at.result.1.now ≡ take 2048 c.loop-rest.rest.now ++ drop 2048 c.loop-rest.rest.now =
     λ j. front j ++ back j in (
-      sym (c.add_run-sums.ensures.rest c.split_at.result.1.now)
+      sym (c.add_bytes_to_sums-sums.ensures.rest c.split_at.result.1.now)
           ∙ ap (adler_from sums.0 sums.1) (whole ∙ take-append-drop 2048 c.loop-rest.rest.now)
           ∙ c.loop-rest.invariant.0,
-      (c.add_run-sums.ensures.sum, c.add_run-sums.ensures.sums),
+      (c.add_bytes_to_sums-sums.ensures.sum, c.add_bytes_to_sums-sums.ensures.sums),
     )
 
 pub returns : goal.returns
 unfolding adler_from
 returns c =
     let sums = c.loop-rest.sums in
-    sym (c.add_run-sum.ensures.rest []) ∙ ap (adler_from sums.0 sums.1) (append-nil c.loop-rest.rest.now) ∙ c.loop-rest.invariant.0
+    sym (c.add_bytes_to_sums-sum.ensures.rest []) ∙ ap (adler_from sums.0 sums.1) (append-nil c.loop-rest.rest.now) ∙ c.loop-rest.invariant.0

@@ -8,9 +8,9 @@ use Rattle.vga_c.proofs.forms.frame_words.Goals as goal
 pub returns : goal.returns
 returns c = (
   λ few. (
-    c.frame_form.ensures.after,
-    subst (λ (form : Form). HasPictureInForm form (answer_to c.args.machine.now Frame) c.args.pitch c.args.picture.now c.frame_form.new.picture
-        c.args.pixels.now c.frame_form.new.pixels c.frame_form.result) c.form_of-form.ensures.value c.frame_form.ensures.picture,
+    c.draw_frame_in_form.ensures.after,
+    subst (λ (form : Form). HasPictureInForm form (answer_to c.args.machine.now Frame) c.args.pitch c.args.picture.now c.draw_frame_in_form.new.picture
+        c.args.pixels.now c.draw_frame_in_form.new.pixels c.draw_frame_in_form.result) c.form_of-form.ensures.value c.draw_frame_in_form.ensures.picture,
   ),
   λ past. absurd (omega (arith, past, c.if-flags-ge4.false)),
 )

@@ -1,11 +1,11 @@
 use Rattle.std.proofs.Common.{◌+◌, ◌*◌, ◌<◌, ◌≤◌, subst, sym}
 use Rattle.vga_c.specs.Forms.{div_ceil, form_word}
-use Rattle.vga_c.proofs.RowLemmas.{dot_within, next_row}
+use Rattle.vga_c.proofs.RowLemmas.{dot_within, counters_after_line}
 use Rattle.vga_c.proofs.forms.write_rows.Goals as goal
 
 -- the three bytes of each dot are there
-pub write_row-requires-clause-dots : goal.write_row-requires-clause-dots
-write_row-requires-clause-dots c x within =
+pub write_row_of_words-requires-clause-dots : goal.write_row_of_words-requires-clause-dots
+write_row_of_words-requires-clause-dots c x within =
     let f = c.args.form in
     let y = c.loop-y.y in
     let column : x < div_ceil c.args.width f.across = subst (λ n. x < n) c.div_ceil-count.ensures within in
@@ -16,9 +16,9 @@ write_row-requires-clause-dots c x within =
 -- one row more
 pub loop-y-preserved : goal.loop-y-preserved
 loop-y-preserved c =
-    let done = c.write_row.ensures in
+    let done = c.write_row_of_words.ensures in
     let w = div_ceil c.args.width c.args.form.across in
     let same = c.div_ceil-count.ensures in
-    next_row w c.loop-y.y c.args.pitch (form_word c.args.form c.args.width c.args.bytes.now) c.args.pixels.now c.loop-y.pixels c.write_row.new.pixels
+    counters_after_line w c.loop-y.y c.args.pitch (form_word c.args.form c.args.width c.args.bytes.now) c.args.pixels.now c.loop-y.pixels c.write_row_of_words.new.pixels
     c.requires.pitch c.loop-y.invariant (λ x within. done.words x (subst (λ n. x < n) (sym same) within)) done.before
     (λ i past. done.behind i (subst (λ n. c.args.pitch * c.loop-y.y + n ≤ i) (sym same) past)) done.size

@@ -1,9 +1,9 @@
 use Rattle.std.proofs.Common.{◌+◌}
 use Rattle.vga_dots.specs.Row.{AreCharactersPut}
 use Rattle.vga_dots.specs.Line.{unpanned_colour}
-use Rattle.vga_dots.specs.Character.{HasPaletteColours}
+use Rattle.vga_dots.specs.Character.{IsLookOfItsCells}
 use Rattle.vga_dots.proofs.line.draw_cells.Given as goal
 
--- the characters so far are drawn, and the colours at hand are those of their attribute
+-- the characters so far are drawn, and the look at hand is that of its attribute's cells
 abbrev pub invariant-loop-x : goal.invariant-loop-x
-invariant-loop-x g l = AreCharactersPut g.row.CW l.x (λ x. unpanned_colour l.fn.display (l.fn.first + x)) l.fn.row l.row × HasPaletteColours l.colours l.fn.display
+invariant-loop-x g l = AreCharactersPut g.row.CW l.x (λ x. unpanned_colour l.fn.display (l.fn.first + x)) l.fn.row l.row × IsLookOfItsCells l.look l.fn.display

@@ -5,11 +5,11 @@ ghost use Rattle.std.specs.Prelude.{nat_le, nat_lt, if◌then◌else◌, IsTrue,
 ghost use Rattle.std.specs.Prelude.{replicate};
 ghost use Rattle.std.specs.Option.{SomeIff};
 ghost use Rattle.vga_bits.specs.Bits.{is_set};
-ghost use Rattle.vga_host.specs.Memory.Access.{IsAccess, IsAccessOf};
+ghost use Rattle.vga_host.specs.Memory.Access.{IsAccess, IsAccessOfRegisters};
 ghost use Rattle.vga_host.specs.Memory.Address.{is_decoded, window_offset, plane_offset, is_reached};
 ghost use Rattle.vga_host.specs.Memory.Address.{is_memory_enabled as is_memory_enabled_of};
 ghost use Rattle.vga_host.specs.Host.{HostState};
-ghost use Rattle.vga_host.specs.Memory.Write.{StoresByte};
+ghost use Rattle.vga_host.specs.Memory.Write.{StoresByteUnchanged};
 
 use super::address::is_memory_enabled;
 use crate::host::{Host, graphics, sequencer};
@@ -128,7 +128,7 @@ fn window(map: u8) -> (u32, u32)
 
 /// Whether the graphics controller's registers let a write store its byte unchanged.
 fn stores_byte(gfx: &RegFile<9>) -> bool
-    ensures { result ≡ true → (h : HostState) → h.gfx ≡ gfx.now.values → StoresByte h }
+    ensures { result ≡ true → (h : HostState) → h.gfx ≡ gfx.now.values → StoresByteUnchanged h }
 {
     // Each of these numbers can change what is written, if it is not 0.
     let mode = gfx.field(graphics::GRAPHICS_MODE, 1, 0);
@@ -142,8 +142,8 @@ fn stores_byte(gfx: &RegFile<9>) -> bool
 
 impl MemoryAccess {
     /// What the registers say when all of them are 0.
-    pub(crate) fn of_zeros() -> MemoryAccess
-        ensures { IsAccessOf result (replicate 5 0) (replicate 9 0) }
+    pub(crate) fn of_zero_registers() -> MemoryAccess
+        ensures { IsAccessOfRegisters result (replicate 5 0) (replicate 9 0) }
     {
         MemoryAccess {
             start: 0xA0000,
@@ -159,8 +159,8 @@ impl MemoryAccess {
 
     /// Updates what the sequencer's registers say. The rest stays the same.
     pub(crate) fn with_sequencer(self, seq: &RegFile<5>) -> MemoryAccess
-        ensures { (before gfx : List ℕ) → IsAccessOf self before gfx
-            → IsAccessOf result seq.now.values gfx }
+        ensures { (before gfx : List ℕ) → IsAccessOfRegisters self before gfx
+            → IsAccessOfRegisters result seq.now.values gfx }
     {
         MemoryAccess {
             start: self.start,
@@ -176,8 +176,8 @@ impl MemoryAccess {
 
     /// Updates what the graphics controller's registers say. The rest stays the same.
     pub(crate) fn with_graphics(self, gfx: &RegFile<9>) -> MemoryAccess
-        ensures { (seq before : List ℕ) → IsAccessOf self seq before
-            → IsAccessOf result seq gfx.now.values }
+        ensures { (seq before : List ℕ) → IsAccessOfRegisters self seq before
+            → IsAccessOfRegisters result seq gfx.now.values }
     {
         let map = gfx.field(graphics::MISCELLANEOUS, 3, 2);
         let (start, len) = window(map);

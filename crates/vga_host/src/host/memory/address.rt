@@ -9,7 +9,7 @@ use crate::host::Host;
 use vga_bits::is_set;
 
 /// The plane that contains the glyphs of text.
-const GLYPHS: u32 = 2;
+const PLANE_OF_GLYPHS: u32 = 2;
 
 /// Whether the miscellaneous output register lets the display memory answer the processor.
 pub(super) fn is_memory_enabled(misc: u8) -> bool
@@ -45,7 +45,7 @@ impl Host {
 
     /// The offset in each plane of a write to an address. It is `None` if the address is not
     /// decoded, or if the write, in text, reaches the plane of glyphs.
-    pub fn offset_beside_glyphs(&self, address: u32, misc: u8) -> Option<u16>
+    pub fn write_offset_unless_glyphs(&self, address: u32, misc: u8) -> Option<u16>
         ensures offset { IfSome result (λ o. o
             ≡ plane_offset self.now (window_offset self.now address)) }
         ensures beside { IfSome result (λ o. is_graphics self.now ≡ false
@@ -56,7 +56,7 @@ impl Host {
             return None;
         };
         let set = access.reached(in_window);
-        if is_set(set, GLYPHS) && !self.is_graphics() {
+        if is_set(set, PLANE_OF_GLYPHS) && !self.is_graphics() {
             return None;
         }
         Some(access.offset(in_window))

@@ -8,7 +8,7 @@ ghost use Rattle.vga_host.specs.Memory.Runs.{after_puts, even_or_odd_byte, with_
 ghost use Rattle.vga_host.specs.Memory.Access.{IsAccess};
 ghost use Rattle.vga_host.specs.Memory.PlaneWords.{alternating_plane_bytes, with_word_stored};
 ghost use Rattle.vga_host.specs.Memory.PlaneWords.{word_of_writes_in_turn, AreWritesDecoded};
-ghost use Rattle.vga_host.specs.Memory.PlaneWords.{FillsAllPlanes, FillsByFours, FillsByPairs};
+ghost use Rattle.vga_host.specs.Memory.PlaneWords.{AddressPicksNoPlane, FillsByFours, FillsByPairs};
 ghost use Rattle.vga_host.specs.Memory.PlaneWords.{WritesStoreWords};
 
 use super::access::MemoryAccess;
@@ -41,10 +41,11 @@ impl Host {
         access.covers(first, n, misc)
     }
 
-    /// Whether no bit of an address picks a plane.
-    pub(super) fn fills_all_planes(&self, access: MemoryAccess) -> bool
+    /// Whether no bit of an address picks a plane, so that each write goes to all planes of the map
+    /// mask.
+    pub(super) fn address_picks_no_plane(&self, access: MemoryAccess) -> bool
         requires { IsAccess access self.now }
-        ensures { result ≡ true → FillsAllPlanes self.now }
+        ensures { result ≡ true → AddressPicksNoPlane self.now }
     {
         access.odd_even_off && !access.chain_four && !access.chain_odd_even
     }
@@ -83,7 +84,7 @@ impl Host {
             (even_or_odd_byte even odd) (λ i. word_of_writes_in_turn self.now even odd) }
     {
         let in_window = first - access.start;
-        if even == odd && self.fills_all_planes(access) {
+        if even == odd && self.address_picks_no_plane(access) {
             1
         } else if self.fills_by_fours(access, in_window) {
             4

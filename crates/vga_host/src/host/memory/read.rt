@@ -49,10 +49,10 @@ impl Host {
         bits_clear_in_all_planes(self.differing(bytes))
     }
 
-    /// The byte that a read at an offset in the window returns, from the bytes loaded. The contract
-    /// says it bit by bit.
+    /// The byte that a read at an offset in the window returns, from the bytes loaded. `read_byte`
+    /// returns the same; only here the contract says each bit.
     #[tactic(auto, unfolding(crate::specs::Memory::Read::read_bit))]
-    fn read_bits(&self, in_window: u16, bytes: Latch) -> u8
+    fn read_byte_bitwise(&self, in_window: u16, bytes: Latch) -> u8
         ensures { (i : ℕ) → i < 8 → bit_at result i ≡ read_bit self.now in_window bytes i }
     {
         if self.is_read_compare() {
@@ -66,7 +66,7 @@ impl Host {
     pub(super) fn read_byte(&self, in_window: u16, bytes: Latch) -> u8
         ensures { result ≡ byte_of_bits (λ i. read_bit self.now in_window bytes i) }
     {
-        self.read_bits(in_window, bytes)
+        self.read_byte_bitwise(in_window, bytes)
     }
 
     /// Reads a byte of display memory, and loads the latches with the four bytes at its offset. If

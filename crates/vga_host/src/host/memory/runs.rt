@@ -18,7 +18,7 @@ const REFUSED: u8 = 0xFF;
 impl Host {
     /// Stores these four bytes in the planes that a write to an address reaches. It does nothing if
     /// the address is not decoded. `access` is what the registers say of every cycle.
-    pub(super) fn put_by_access(
+    pub(super) fn store_bytes_if_decoded(
         &mut self,
         access: MemoryAccess,
         bytes: Latch,
@@ -36,7 +36,7 @@ impl Host {
 
     /// What a read of an address gives, or FF if the address is not decoded. `access` is what the
     /// registers say of every cycle.
-    pub(super) fn byte_by_access(&self, access: MemoryAccess, address: u32, misc: u8) -> u8
+    pub(super) fn byte_at_address_or_ff(&self, access: MemoryAccess, address: u32, misc: u8) -> u8
         requires access { IsAccess access self.now }
         ensures { result ≡ byte_read_or_ff self.now misc address }
     {
@@ -51,7 +51,7 @@ impl Host {
 
     /// Loads the latches from an address, if it is decoded. `access` is what the registers say of
     /// every cycle.
-    pub(super) fn load_by_access(&mut self, access: MemoryAccess, address: u32, misc: u8)
+    pub(super) fn load_latches_if_decoded(&mut self, access: MemoryAccess, address: u32, misc: u8)
         requires access { IsAccess access self.old }
         ensures { self.new ≡ after_get_if_decoded self.old misc address }
     {
@@ -67,9 +67,9 @@ impl Host {
         requires mode { write_mode self.old ≡ 1 }
         ensures { self.new ≡ after_move_if_decoded self.old misc from to }
     {
-        self.load_by_access(access, from, misc);
+        self.load_latches_if_decoded(access, from, misc);
         let bytes = self.stored_latches();
-        self.put_by_access(access, bytes, to, misc);
+        self.store_bytes_if_decoded(access, bytes, to, misc);
     }
 
     /// Reads a byte from an address, and writes it to another.
@@ -77,14 +77,14 @@ impl Host {
         requires access { IsAccess access self.old }
         ensures { self.new ≡ after_move_if_decoded self.old misc from to }
     {
-        let byte = self.byte_by_access(access, from, misc);
-        self.load_by_access(access, from, misc);
+        let byte = self.byte_at_address_or_ff(access, from, misc);
+        self.load_latches_if_decoded(access, from, misc);
         let bytes = self.written(byte);
-        self.put_by_access(access, bytes, to, misc);
+        self.store_bytes_if_decoded(access, bytes, to, misc);
     }
 
     /// Moves a byte from an address to another, as the write mode says.
-    fn move_by_access(&mut self, access: MemoryAccess, from: u32, to: u32, misc: u8)
+    fn move_by_write_mode(&mut self, access: MemoryAccess, from: u32, to: u32, misc: u8)
         requires access { IsAccess access self.old }
         ensures { self.new ≡ after_move_if_decoded self.old misc from to }
     {
@@ -105,7 +105,7 @@ impl Host {
         let access = self.access();
         let done = self.move_words(access, from, to, n, misc);
         for i in done..n {
-            self.move_by_access(access, from + i, to + i, misc);
+            self.move_by_write_mode(access, from + i, to + i, misc);
         }
     }
 
@@ -121,9 +121,9 @@ impl Host {
         let done = self.fill_words(access, bytes, others, first, n, even, odd, misc);
         for i in done..n {
             if i % 2 == 0 {
-                self.put_by_access(access, bytes, first + i, misc);
+                self.store_bytes_if_decoded(access, bytes, first + i, misc);
             } else {
-                self.put_by_access(access, others, first + i, misc);
+                self.store_bytes_if_decoded(access, others, first + i, misc);
             }
         }
     }

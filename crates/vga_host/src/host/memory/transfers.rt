@@ -47,7 +47,7 @@ impl Host {
         let in_window = first - access.start;
         if !access.stores_byte {
             0
-        } else if self.fills_all_planes(access) {
+        } else if self.address_picks_no_plane(access) {
             1
         } else if self.fills_by_fours(access, in_window) {
             4
@@ -128,15 +128,15 @@ impl Host {
         let n = bytes.len() as u32;
         let done = self.store_whole_words(access, first, bytes, misc);
         for i in done..n {
-            let word = self.written_as(access.stores_byte, bytes[i as usize]);
-            self.put_by_access(access, word, first + i, misc);
+            let word = self.written_bytes_by_shortcut(access.stores_byte, bytes[i as usize]);
+            self.store_bytes_if_decoded(access, word, first + i, misc);
         }
     }
 
     /// Reads a run of addresses that are all decoded. For offset `w` in the window, a read picks
     /// plane `base + w % span`, at `w` rounded down to a multiple of `unit`.
     #[inline(always)]
-    fn read_picked(
+    fn read_range_of_planes(
         &self,
         access: MemoryAccess,
         base: usize,
@@ -184,16 +184,16 @@ impl Host {
         ensures size { length bytes.new ≡ length bytes.old }
     {
         if self.is_chain_four() {
-            self.read_picked(access, 0, 4, 4, first, bytes, misc);
+            self.read_range_of_planes(access, 0, 4, 4, first, bytes, misc);
             return;
         }
         let pair = 2 * self.read_map_pair() as usize;
         let plane = self.read_map_select() as usize;
         match (self.is_odd_even_read(), access.chain_odd_even) {
-            (true, true) => self.read_picked(access, pair, 2, 2, first, bytes, misc),
-            (true, false) => self.read_picked(access, pair, 2, 1, first, bytes, misc),
-            (false, true) => self.read_picked(access, plane, 1, 2, first, bytes, misc),
-            (false, false) => self.read_picked(access, plane, 1, 1, first, bytes, misc),
+            (true, true) => self.read_range_of_planes(access, pair, 2, 2, first, bytes, misc),
+            (true, false) => self.read_range_of_planes(access, pair, 2, 1, first, bytes, misc),
+            (false, true) => self.read_range_of_planes(access, plane, 1, 2, first, bytes, misc),
+            (false, false) => self.read_range_of_planes(access, plane, 1, 1, first, bytes, misc),
         }
     }
 
@@ -209,8 +209,8 @@ impl Host {
     {
         for i in 0..bytes.len() {
             let address = first + i as u32;
-            bytes[i] = self.byte_by_access(access, address, misc);
-            self.load_by_access(access, address, misc);
+            bytes[i] = self.byte_at_address_or_ff(access, address, misc);
+            self.load_latches_if_decoded(access, address, misc);
         }
     }
 
@@ -232,6 +232,6 @@ impl Host {
         }
         self.read_decoded_range(access, first, bytes, misc);
         // The latches are those of the last read.
-        self.load_by_access(access, first + (n - 1), misc);
+        self.load_latches_if_decoded(access, first + (n - 1), misc);
     }
 }

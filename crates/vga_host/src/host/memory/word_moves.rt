@@ -72,7 +72,7 @@ impl Host {
     }
 
     /// Whether the map mask contains neither plane 2 nor plane 3.
-    fn masks_upper_planes(&self, access: MemoryAccess) -> bool
+    fn map_mask_lacks_upper_planes(&self, access: MemoryAccess) -> bool
         requires { IsAccess access self.now }
         ensures { result ≡ true → (is_in_map_mask self.now 2 ≡ false)
             × (is_in_map_mask self.now 3 ≡ false) }
@@ -90,7 +90,7 @@ impl Host {
             && access.chain_odd_even
             && !access.odd_even_off
             && !access.chain_four
-            && self.masks_upper_planes(access)
+            && self.map_mask_lacks_upper_planes(access)
     }
 
     /// Whether moves store bytes unchanged, read and write only planes 0 and 1, and go from an even

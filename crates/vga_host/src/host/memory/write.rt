@@ -8,7 +8,7 @@ ghost use Rattle.vga_host.specs.Graphics.{bit_mask, set_reset, is_set_reset_enab
 ghost use Rattle.vga_bits.specs.Words.{plane_bit_in_word};
 ghost use Rattle.vga_host.specs.Memory.Write.{rotated_write_bit, data_bit_of_write, mask_bit};
 ghost use Rattle.vga_host.specs.Memory.Write.{combined_bit};
-ghost use Rattle.vga_host.specs.Memory.Write.{written_bit, written_byte, after_put, StoresByte};
+ghost use Rattle.vga_host.specs.Memory.Write.{written_bit, written_byte, after_put, StoresByteUnchanged};
 
 use crate::bytes::{combined, rotated_right};
 use crate::host::Host;
@@ -50,7 +50,7 @@ impl Host {
 
     /// The mask of a write in the write modes 0, 2 and 3. Each plane has the same mask.
     #[tactic(auto, using(std::proofs::lemmas::Nat::Bits::bit_at_and))]
-    fn mask_byte(&self, v: u8) -> u8
+    fn effective_bit_mask(&self, v: u8) -> u8
         ensures { (i : ℕ) → i < 8 → bit_at result i ≡ mask_bit self.now v i }
     {
         if self.write_mode() == 3 {
@@ -60,11 +60,12 @@ impl Host {
         }
     }
 
-    /// The mask of a write in the write modes 0, 2 and 3, for the four planes.
+    /// The mask of a write of `v` in the write modes 0, 2 and 3, in the bytes of all four planes.
+    /// Where it is 0, the latch bit is stored.
     fn mask(&self, v: u8) -> u32
         ensures { (p i : ℕ) → p < 4 → i < 8 → plane_bit_in_word result p i ≡ mask_bit self.now v i }
     {
-        byte_in_all_planes(self.mask_byte(v))
+        byte_in_all_planes(self.effective_bit_mask(v))
     }
 
     /// The data of the four planes, combined with their latches by the function.
@@ -80,7 +81,7 @@ impl Host {
 
     /// The word that a write stores in the planes that it reaches. The contract says it bit by bit.
     #[tactic(auto, unfolding(crate::specs::Memory::Write::written_bit))]
-    fn written_bits(&self, v: u8) -> u32
+    fn written_word(&self, v: u8) -> u32
         ensures { (p i : ℕ) → p < 4 → i < 8 → plane_bit_in_word result p i ≡ written_bit self.now v
             p i }
     {
@@ -96,14 +97,14 @@ impl Host {
 
     /// The bytes that a write stores in the planes that it reaches. `stores_byte` serves speed
     /// alone: it may always be false.
-    pub(super) fn written_as(&self, stores_byte: bool, v: u8) -> Latch
-        requires { stores_byte ≡ true → StoresByte self.now }
+    pub(super) fn written_bytes_by_shortcut(&self, stores_byte: bool, v: u8) -> Latch
+        requires { stores_byte ≡ true → StoresByteUnchanged self.now }
         ensures { result ≡ four_by_plane (λ p. written_byte self.now v p) }
     {
         if stores_byte {
             return Latch::from_word(byte_in_all_planes(v));
         }
-        let word = self.written_bits(v);
+        let word = self.written_word(v);
         Latch::from_word(word)
     }
 
@@ -121,7 +122,7 @@ impl Host {
     pub(super) fn written(&self, v: u8) -> Latch
         ensures { result ≡ four_by_plane (λ p. written_byte self.now v p) }
     {
-        self.written_as(self.access().stores_byte, v)
+        self.written_bytes_by_shortcut(self.access().stores_byte, v)
     }
 
     /// Writes a byte to an address of display memory. If the address is not decoded, the write is
@@ -139,7 +140,7 @@ impl Host {
         let Some(in_window) = access.in_window(address, misc) else {
             return Err(Refusal::NotDecoded);
         };
-        let bytes = self.written_as(access.stores_byte, v);
+        let bytes = self.written_bytes_by_shortcut(access.stores_byte, v);
         let set = access.reached(in_window);
         let offset = access.offset(in_window);
         self.planes.store(offset, bytes, set);

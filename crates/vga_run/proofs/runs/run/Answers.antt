@@ -14,8 +14,8 @@ pub returns-clause-runs : goal.returns-clause-runs
 returns-clause-runs g c =
     let input = g.R.Read.remaining (inner_of c.args.script.now) in
     let before = g.W.Write.contents (inner_of c.args.out.now) in
-    let after = g.W.Write.contents (inner_of c.run_bytes_over.new.out) in
-    let over = c.run_bytes_over in
+    let after = g.W.Write.contents (inner_of c.run_bytes_with_fonts.new.out) in
+    let over = c.run_bytes_with_fonts in
     runs_good_scripts c.bytes_have_one_fault.ensures.none c.args.until c.args.fonts.now input before after _ _ over.result
     (input_answers c.args.until c.args.fonts.now c.in_ok-fonts.fonts input before after c.as_slice.result.now over.result c.in_ok-fonts.ensures.ok
     (subst (IsInput input) (sym c.as_slice.ensures.value) c.in_ok-bytes.ensures.input) over.ensures.answer)
@@ -26,9 +26,9 @@ pub returns-clause-screens : goal.returns-clause-screens
 returns-clause-screens g c =
     let input = g.R.Read.remaining (inner_of c.args.script.now) in
     let before = g.W.Write.contents (inner_of c.args.out.now) in
-    let after = g.W.Write.contents (inner_of c.run_bytes_over.new.out) in
-    let over = c.run_bytes_over in
-    run_known (λ (fonts : FontSet). AreScreenReportSteps) screen_report c.reports_are_screens.ensures c.bytes_mean_one_list.ensures c.steps_are_in_range.ensures
+    let after = g.W.Write.contents (inner_of c.run_bytes_with_fonts.new.out) in
+    let over = c.run_bytes_with_fonts in
+    run_known (λ (fonts : FontSet). AreScreenReportSteps) screen_report c.run_writes_screen_report.ensures c.bytes_mean_one_list.ensures c.steps_are_in_range.ensures
     c.args.until c.args.fonts.now input before after over.result c.bytes_fit.ensures
     (input_answers c.args.until c.args.fonts.now c.in_ok-fonts.fonts input before after c.as_slice.result.now over.result c.in_ok-fonts.ensures.ok
     (subst (IsInput input) (sym c.as_slice.ensures.value) c.in_ok-bytes.ensures.input) over.ensures.answer)
@@ -38,9 +38,9 @@ pub returns-clause-dots : goal.returns-clause-dots
 returns-clause-dots g c =
     let input = g.R.Read.remaining (inner_of c.args.script.now) in
     let before = g.W.Write.contents (inner_of c.args.out.now) in
-    let after = g.W.Write.contents (inner_of c.run_bytes_over.new.out) in
-    let over = c.run_bytes_over in
-    run_known AreDotReportSteps dot_report c.reports_are_dots.ensures c.bytes_mean_one_list.ensures c.steps_are_in_range.ensures c.args.until c.args.fonts.now
+    let after = g.W.Write.contents (inner_of c.run_bytes_with_fonts.new.out) in
+    let over = c.run_bytes_with_fonts in
+    run_known AreDotReportSteps dot_report c.run_writes_dot_report.ensures c.bytes_mean_one_list.ensures c.steps_are_in_range.ensures c.args.until c.args.fonts.now
     input before after over.result c.bytes_fit.ensures
     (input_answers c.args.until c.args.fonts.now c.in_ok-fonts.fonts input before after c.as_slice.result.now over.result c.in_ok-fonts.ensures.ok
     (subst (IsInput input) (sym c.as_slice.ensures.value) c.in_ok-bytes.ensures.input) over.ensures.answer)

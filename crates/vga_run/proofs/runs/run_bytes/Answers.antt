@@ -11,9 +11,9 @@ use Rattle.vga_run.proofs.runs.run_bytes.Goals as goal
 pub returns-clause-screens : goal.returns-clause-screens
 returns-clause-screens g c =
     let before = g.W.Write.contents (inner_of c.args.out.now) in
-    let after = g.W.Write.contents (inner_of c.run_bytes_over.new.out) in
-    let over = c.run_bytes_over in
-    run_known (λ (fonts : FontSet). AreScreenReportSteps) screen_report c.reports_are_screens.ensures c.bytes_mean_one_list.ensures c.steps_are_in_range.ensures
+    let after = g.W.Write.contents (inner_of c.run_bytes_with_fonts.new.out) in
+    let over = c.run_bytes_with_fonts in
+    run_known (λ (fonts : FontSet). AreScreenReportSteps) screen_report c.run_writes_screen_report.ensures c.bytes_mean_one_list.ensures c.steps_are_in_range.ensures
     c.args.until c.args.fonts.now (Some c.args.script.now) before after over.result c.bytes_fit.ensures
     (file_answers c.args.until c.args.fonts.now c.in_ok-fonts.fonts (Some c.args.script.now) before after over.result c.in_ok-fonts.ensures.ok
     over.ensures.answer)
@@ -22,9 +22,9 @@ returns-clause-screens g c =
 pub returns-clause-dots : goal.returns-clause-dots
 returns-clause-dots g c =
     let before = g.W.Write.contents (inner_of c.args.out.now) in
-    let after = g.W.Write.contents (inner_of c.run_bytes_over.new.out) in
-    let over = c.run_bytes_over in
-    run_known AreDotReportSteps dot_report c.reports_are_dots.ensures c.bytes_mean_one_list.ensures c.steps_are_in_range.ensures c.args.until c.args.fonts.now
+    let after = g.W.Write.contents (inner_of c.run_bytes_with_fonts.new.out) in
+    let over = c.run_bytes_with_fonts in
+    run_known AreDotReportSteps dot_report c.run_writes_dot_report.ensures c.bytes_mean_one_list.ensures c.steps_are_in_range.ensures c.args.until c.args.fonts.now
     (Some c.args.script.now) before after over.result c.bytes_fit.ensures
     (file_answers c.args.until c.args.fonts.now c.in_ok-fonts.fonts (Some c.args.script.now) before after over.result c.in_ok-fonts.ensures.ok
     over.ensures.answer)

@@ -13,12 +13,12 @@ use Rattle.vga_run.proofs.runs.run_script.Goals as goal
 pub returns-clause-screens : goal.returns-clause-screens
 returns-clause-screens g c =
     let before = g.W.Write.contents (inner_of c.args.out.now) in
-    let after = g.W.Write.contents (inner_of c.run_steps_over.new.out) in
-    let over = c.run_steps_over in
+    let after = g.W.Write.contents (inner_of c.run_steps_with_fonts.new.out) in
+    let over = c.run_steps_with_fonts in
     let steps = expanded c.args.script.now.items in
     let range = subst AreInRange c.steps-steps.ensures.steps c.steps-steps.ensures.range in
     let answer = rw c.steps-steps.ensures.steps at over.ensures.answer in
-    script_known (λ (fonts : FontSet). AreScreenReportSteps) screen_report c.reports_are_screens.ensures c.args.until c.args.fonts.now steps before after over.result
+    script_known (λ (fonts : FontSet). AreScreenReportSteps) screen_report c.run_writes_screen_report.ensures c.args.until c.args.fonts.now steps before after over.result
     c.bytes_fit.ensures range
     (steps_answers c.args.until c.args.fonts.now c.in_ok-fonts.fonts steps before after over.result c.in_ok-fonts.ensures.ok answer)
 
@@ -26,11 +26,11 @@ returns-clause-screens g c =
 pub returns-clause-dots : goal.returns-clause-dots
 returns-clause-dots g c =
     let before = g.W.Write.contents (inner_of c.args.out.now) in
-    let after = g.W.Write.contents (inner_of c.run_steps_over.new.out) in
-    let over = c.run_steps_over in
+    let after = g.W.Write.contents (inner_of c.run_steps_with_fonts.new.out) in
+    let over = c.run_steps_with_fonts in
     let steps = expanded c.args.script.now.items in
     let range = subst AreInRange c.steps-steps.ensures.steps c.steps-steps.ensures.range in
     let answer = rw c.steps-steps.ensures.steps at over.ensures.answer in
-    script_known AreDotReportSteps dot_report c.reports_are_dots.ensures c.args.until c.args.fonts.now steps before after over.result
+    script_known AreDotReportSteps dot_report c.run_writes_dot_report.ensures c.args.until c.args.fonts.now steps before after over.result
     c.bytes_fit.ensures range
     (steps_answers c.args.until c.args.fonts.now c.in_ok-fonts.fonts steps before after over.result c.in_ok-fonts.ensures.ok answer)

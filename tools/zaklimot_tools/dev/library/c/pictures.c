@@ -109,11 +109,14 @@ zak_status zak_line(zak_card *card, uint32_t flags, zak_scan_line *scan_line, ui
     END(card, line(self, flags, scan_line, pixels, pixels_cap));
 }
 
-static zak_status frame_lines(module *self, uint32_t *widths, uint8_t *rgb, size_t rgb_cap,
-                              size_t *rgb_used)
+/* A call that gives dots line by line. */
+typedef u32 lines_call(module *, u32, u32, u32, u64, u32);
+
+static zak_status give_lines(module *self, lines_call *call, uint32_t *widths, uint8_t *rgb,
+                             size_t rgb_cap, size_t *rgb_used)
 {
     self->outside = rgb;
-    zak_status status = module_zak_frame_lines(self, CARD, TOLD, OUTSIDE, rgb_cap, DESK);
+    zak_status status = call(self, CARD, TOLD, OUTSIDE, rgb_cap, DESK);
     if (is_told(status)) {
         get_words(self, widths, TOLD, ZAK_HIGHEST);
         *rgb_used = (size_t)number64(self->memory + DESK);
@@ -125,5 +128,12 @@ zak_status zak_frame_lines(zak_card *card, uint32_t widths[ZAK_HIGHEST], uint8_t
                            size_t rgb_cap, size_t *rgb_used)
 {
     BEGIN(card);
-    END(card, frame_lines(self, widths, rgb, rgb_cap, rgb_used));
+    END(card, give_lines(self, module_zak_frame_lines, widths, rgb, rgb_cap, rgb_used));
+}
+
+zak_status zak_peek(zak_card *card, uint32_t widths[ZAK_HIGHEST], uint8_t *rgb, size_t rgb_cap,
+                    size_t *rgb_used)
+{
+    BEGIN(card);
+    END(card, give_lines(self, module_zak_peek, widths, rgb, rgb_cap, rgb_used));
 }

@@ -14,6 +14,7 @@
 #define MOST_LINES 2000
 
 static uint8_t fonts[ZAK_FONTS_SIZE], states[2][ZAK_MOST_STATE], rgb[ZAK_MOST_RGB];
+static uint8_t drawn[ZAK_MOST_RGB];
 static uint32_t widths[ZAK_HIGHEST], pixels[ZAK_WIDEST + 1];
 static zak_card card = ZAK_CARD_INIT, other = ZAK_CARD_INIT;
 static uint32_t random_state = 1;
@@ -95,6 +96,24 @@ static void compare_states(void)
     require(used[0] == used[1] && memcmp(states[0], states[1], used[0]) == 0, "the states differ");
 }
 
+/* What is drawn until now is the beginning of the frame at once, and to look at it changes nothing.
+ * At a frame's first dot it is another frame. */
+static void compare_drawn(const zak_beam *beam)
+{
+    static uint32_t drawn_widths[ZAK_HIGHEST];
+    size_t used, bytes = 0;
+    bool is_first_dot = beam->line == 0 && beam->character == 0 && beam->dot == 0;
+    require(zak_peek(&card, drawn_widths, drawn, sizeof drawn, &used) == ZAK_OK, "peek");
+    for (uint32_t y = 0; y < ZAK_HIGHEST; y++) {
+        bytes += 3 * (size_t)drawn_widths[y];
+        require(is_first_dot || y >= beam->line || drawn_widths[y] == widths[y], "a line's width");
+        require(is_first_dot || drawn_widths[y] <= widths[y], "a line is longer than in the frame");
+    }
+    require(used == bytes, "other widths than dots");
+    require(is_first_dot || memcmp(drawn, rgb, used) == 0, "other dots than in the frame");
+    compared++;
+}
+
 /* All lines to the frame's end, against the frame at once. */
 static void compare_frame(void)
 {
@@ -105,6 +124,7 @@ static void compare_frame(void)
     require(zak_restore(&other, states[0], used) == ZAK_OK, "restore");
     require(zak_frame_lines(&other, widths, rgb, sizeof rgb, &used) == ZAK_OK, "lines");
     require(zak_read_beam(&card, &beam) == ZAK_OK, "the beam can't be read");
+    compare_drawn(&beam);
     for (number = 0; number < beam.line && number < ZAK_HIGHEST; number++)
         at += widths[number];
     for (number = beam.line; !compare_line(number, at); number++) {

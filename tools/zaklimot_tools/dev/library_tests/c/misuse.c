@@ -83,6 +83,7 @@ static void calls_of_closed(void)
     SHOW(zak_frame_words(&card, ZAK_ONCE, &picture, &pixel, 1, 1));
     SHOW(zak_line(&card, 0, &line, &pixel, 1));
     SHOW(zak_frame_lines(&card, widths, bytes, 1, &len));
+    SHOW(zak_peek(&card, widths, bytes, 1, &len));
     SHOW(zak_skip_frame(&card));
     SHOW(zak_int10(&card, &regs, none, 0, bytes, 1, &len));
     SHOW(zak_block(&card, &regs, &source));
@@ -437,6 +438,8 @@ static void ragged_lines(void)
     SHOW(zak_out_word(&card, 0x3D4, 0x4F01));
     SHOW(zak_advance(&card, 100000));
     SHOW(zak_out_word(&card, 0x3D4, 0x2001));
+    SHOW(zak_peek(&card, widths, little, 1, &len));
+    SHOW(len > 1 && little[0] == UNTOUCHED);
     SHOW(zak_frame_lines(&card, widths, rgb, room, &len));
     SHOW(widths[0]);
     SHOW(widths[399]);

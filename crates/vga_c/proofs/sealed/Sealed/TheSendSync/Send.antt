@@ -1,7 +1,7 @@
 -- A sealed machine owns what a box of a machine owns, which may cross to another thread as the machine may.
 use mathlib.Core.Bool.{Bool, true, false}
 use mir.Raw.{raw}
-use base.Shift.{Keyless}
+use base.RowShift.{Keyless}
 use denote.Memory.{lone}
 use denote.RawPtr.{Ptr}
 use denote.Struct.Struct.{exits_of}
@@ -13,11 +13,11 @@ use Rattle.std_alloc.proofs.SendSync.{quiet, lies}
 use Rattle.std_heap.proofs.Global.TheSendSync as handle
 use Rattle.vga_run.specs.contracts.machine.Machine as Machine
 use Rattle.vga_run.proofs.machine.Machine.TheSendSync.{the_send as machine}
-use Rattle.vga_c.specs.Sealed.{owns_if}
+use Rattle.vga_c.specs.Sealed.{owns_machine_if}
 use Rattle.vga_c.specs.contracts.sealed.Sealed.{the_row, the_type}
 
-keyless : (full : Bool) (a : Global) (p : Ptr) (m : Machine.the_row.Denot) → Keyless (owns_if full a p m)
-unfolding owns_if
+keyless : (full : Bool) (a : Global) (p : Ptr) (m : Machine.the_row.Denot) → Keyless (owns_machine_if full a p m)
+unfolding owns_machine_if
 keyless true a p m = (lies Machine.the_row machine p m, heap.frees.frees a (raw (lone Machine.the_row.mir)) p)
 keyless false a p m = tt
 

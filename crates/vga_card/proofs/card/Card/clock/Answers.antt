@@ -1,7 +1,7 @@
 use Rattle.std.proofs.Common.{◌≡◌, ◌*◌, refl, ap, ◌∙◌}
 use Rattle.vga_host.specs.Sequencer.{is_clock_halved, character_width as host_width}
 use Rattle.vga_crtc.specs.Beam.{characters, lines}
-use Rattle.vga_crtc.specs.Raster.{dots_in_frame}
+use Rattle.vga_crtc.specs.Raster.{dots_to_frame_end}
 use Rattle.vga_card.specs.Card.{CardState}
 use Rattle.vga_card.specs.Dots.{character_width}
 use Rattle.vga_card.specs.Clock.{clock_rate}
@@ -14,7 +14,7 @@ returns-clause-clock c =
     let crtc = c.regs-regs.ensures.crtc in
     let width : c.character_width-width.result ≡ character_width card = c.character_width-width.ensures.value ∙ ap host_width c.regs-regs.ensures.host in
     record {
-      frame = c.dots_in_frame.ensures.value ∙ (λ j. dots_in_frame (width j) (crtc j).registers (crtc j).beam);
+      frame = c.dots_to_frame_end.ensures.value ∙ (λ j. dots_to_frame_end (width j) (crtc j).registers (crtc j).beam);
       display = display_told card c.dots_to_display_change.result c.character_width-width.result c.regs-regs.result.crtc.now width crtc
           c.dots_to_display_change.ensures.change;
       retrace = retrace_told card c.dots_to_retrace_change.result c.character_width-width.result c.regs-regs.result.crtc.now width crtc

@@ -7,7 +7,7 @@ use Rattle.vga_card.proofs.card.Card.fill.Goals as goal
 pub returns : goal.returns
 returns c =
     let before = c.args.self.now in
-    let kept = c.count_before_end.result in
+    let kept = c.addresses_before_windows_end.result in
     c.put_in_turn.ensures ∙ one_in_turn c.args.first c.args.value kept 0 before
-    ∙ puts_end c.args.first kept c.args.n 0 (λ i. c.args.value) before c.count_before_end.ensures.few
-    (λ less. omega (arith, c.count_before_end.ensures.past less))
+    ∙ puts_end c.args.first kept c.args.n 0 (λ i. c.args.value) before c.addresses_before_windows_end.ensures.few
+    (λ less. omega (arith, c.addresses_before_windows_end.ensures.past less))

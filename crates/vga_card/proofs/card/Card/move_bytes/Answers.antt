@@ -12,8 +12,8 @@ returns c =
     let before = the_view c.self.inside in
     let from = c.args.from in
     let to = c.args.to in
-    let kept = c.moves_before_end.result in
-    let past = c.moves_before_end.ensures in
+    let kept = c.moves_before_windows_end.result in
+    let past = c.moves_before_windows_end.ensures in
     ap (λ (h : HostState). with_host before h) c.move_bytes.ensures ∙ card_moves from to kept 0 before
     ∙ moves_end from to kept c.args.n 0 before past.few (λ less. omega (arith, past.past_from less)) (λ less. omega (arith, past.past_to less))
     ∙ ap (after_moves card_meaning from to c.args.n 0) c.self.view_is

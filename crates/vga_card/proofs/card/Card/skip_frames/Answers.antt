@@ -1,10 +1,10 @@
 use Rattle.std.proofs.Common.{◌≡◌, ◌<◌, ◌≤◌, ◌-◌, ◌∙◌, ℕ, refl, subst, arith}
-use Rattle.vga_card.specs.Frames.{frame_count}
+use Rattle.vga_card.specs.Frames.{card_dots_to_frame_end}
 use Rattle.vga_card.proofs.SkipLemmas.{past_frame}
 use Rattle.vga_card.proofs.card.Card.skip_frames.Goals as goal
 
 pub loop-count-init : goal.loop-count-init
-loop-count-init c = (refl, (c.dots_in_frame-count.ensures, omega arith))
+loop-count-init c = (refl, (c.dots_to_frame_end-count.ensures, omega arith))
 
 pub loop-count-smaller : goal.loop-count-smaller
 loop-count-smaller c =
@@ -13,9 +13,9 @@ loop-count-smaller c =
 
 pub loop-count-preserved : goal.loop-count-preserved
 loop-count-preserved c = (
-  past_frame c.restored_cards_cannot_be_told.ensures c.loop-count.self c.skip_frame.new.self c.loop-count.left c.loop-count.count c.loop-count.invariant.1.0 (omega arith) c.skip_frame.ensures
+  past_frame c.restored_cards_behave_the_same.ensures c.loop-count.self c.skip_frame.new.self c.loop-count.left c.loop-count.count c.loop-count.invariant.1.0 (omega arith) c.skip_frame.ensures
       ∙ c.loop-count.invariant.0,
-  (c.dots_in_frame-count-in-loop-count.ensures, omega (arith, c.loop-count.invariant.1.1)),
+  (c.dots_to_frame_end-count-in-loop-count.ensures, omega (arith, c.loop-count.invariant.1.1)),
 )
 
 pub returns-clause-few : goal.returns-clause-few

@@ -8,7 +8,7 @@ use Rattle.vga_dots.specs.Display.{DisplayState}
 use Rattle.vga_card.specs.Picture.{Dot}
 use Rattle.vga_card.specs.Card.{CardState}
 use Rattle.vga_card.specs.Dots.{dots_unless_frame_start, dots}
-use Rattle.vga_card.specs.Line.{displayed_line_dots, started_display, dots_to_next_line}
+use Rattle.vga_card.specs.Line.{displayed_line_dots, display_with_start_taken, card_dots_to_line_end}
 use Rattle.vga_card.proofs.PlaceLemmas.{drawn_started}
 use Rattle.vga_card.proofs.LineLemmas.{line_is, line_moves, started_start}
 use Rattle.vga_card.specs.Repeat.{EndsWithLine}
@@ -35,8 +35,8 @@ pub add_row-requires-clause-before : goal.add_row-requires-clause-before
 add_row-requires-clause-before c =
     let a = c.self.inside in
     let old : CardState = record { host = a.host; crtc = a.crtc; attr = a.attr; dac = a.dac; misc = a.misc; drawn = a.canvas.dots } in
-    let d = started_display old in
-    let ends = subst (λ (x : CardState). IfSome c.args.before (EndsWithLine (started_display x) x.drawn)) (sym c.self.view_is) c.requires.before in
+    let d = display_with_start_taken old in
+    let ends = subst (λ (x : CardState). IfSome c.args.before (EndsWithLine (display_with_start_taken x) x.drawn)) (sym c.self.view_is) c.requires.before in
     let shows : c.new-display.result ≡ d = c.new-display.ensures
     ∙ ap (λ (x : CrtcState). record { host = a.host; crtc = x; attr = a.attr; dac = a.dac }) c.take_start.ensures.started in
     let dots : c.clear_at_first_dot.new.canvas.dots ≡ dots_unless_frame_start a.crtc.beam a.canvas.dots = c.clear_at_first_dot.ensures.dots
@@ -59,12 +59,12 @@ returns-clause-by_dots c =
     ∙ ap (λ (x : DisplayState). c.clear_at_first_dot.new.canvas.dots ++ displayed_line_dots x) c.new-display.ensures
     ∙ ap (λ (x : CrtcState). c.clear_at_first_dot.new.canvas.dots ++ displayed_line_dots (record { host = a.host; crtc = x; attr = a.attr; dac = a.dac }))
     c.take_start.ensures.started
-    ∙ ap (λ (dots : List Dot). dots ++ displayed_line_dots (started_display old)) (c.clear_at_first_dot.ensures.dots
+    ∙ ap (λ (dots : List Dot). dots ++ displayed_line_dots (display_with_start_taken old)) (c.clear_at_first_dot.ensures.dots
     ∙ ap (λ (b : Beam). dots_unless_frame_start b a.canvas.dots) c.beam.ensures.value) in
     let moves = rw (c.take_start.ensures.started, c.character_width-width.ensures.value) at c.step_line.ensures in
     line_is c.start_is_taken_once.ensures.place c.start_is_taken_once.ensures.dots c.beam_place_in_line.ensures.place c.beam_place_in_line.ensures.count
     c.frame_ends_with_its_dots.ensures
-    old c.step_line.new.self c.add_row.new.canvas.dots here moves draws ∙ ap (λ (x : CardState). dots (dots_to_next_line x) x) c.self.view_is
+    old c.step_line.new.self c.add_row.new.canvas.dots here moves draws ∙ ap (λ (x : CardState). dots (card_dots_to_line_end x) x) c.self.view_is
 
 pub returns-clause-ends : goal.returns-clause-ends
 returns-clause-ends c =

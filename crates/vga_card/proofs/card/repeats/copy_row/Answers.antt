@@ -24,7 +24,7 @@ repeat-requires-clause-all c =
     let count : c.shown_characters-count.result * width ≡ shown_characters k.registers * host_width d.host =
     ap (λ (m : ℕ). m * width) (c.shown_characters-count.ensures.value ∙ ap shown_characters (c.fields.ensures ∙ ap (λ (x : CrtcState). x.registers)
     c.crtc-crtc.ensures)) ∙ ap (λ (m : ℕ). shown_characters k.registers * m) (c.character_width-width.ensures.value ∙ ap host_width c.host.ensures) in
-    (line_again c.graphics_lines_repeat.ensures d c.args.before c.requires.again shown c.args.canvas.now.dots _ c.requires.ends count).0
+    (line_again c.graphics_lines_depend_on_counter.ensures d c.args.before c.requires.again shown c.args.canvas.now.dots _ c.requires.ends count).0
 
 pub returns-then-is_display-clause-dots : goal.returns-then-is_display-clause-dots
 returns-then-is_display-clause-dots c =
@@ -39,7 +39,7 @@ returns-then-is_display-clause-dots c =
     c.crtc-crtc.ensures)) ∙ ap (λ (m : ℕ). shown_characters k.registers * m) (c.character_width-width.ensures.value ∙ ap host_width c.host.ensures) in
     c.repeat.ensures.dots ∙ ap (λ (b : Beam). old ++ last_dots_on_line b.line n old) c.beam.ensures.value
     ∙ ap (λ (x : List Dot). old ++ x)
-    (line_again c.graphics_lines_repeat.ensures d c.args.before c.requires.again shown old n c.requires.ends count).1
+    (line_again c.graphics_lines_depend_on_counter.ensures d c.args.before c.requires.again shown old n c.requires.ends count).1
 
 pub returns-else-is_display-clause-dots : goal.returns-else-is_display-clause-dots
 returns-else-is_display-clause-dots c =

@@ -3,7 +3,7 @@ use Rattle.std.proofs.Common.{◌≡◌, ◌<◌, ℕ, sym, ap, subst, ◌∙◌
 use Rattle.vga_crtc.specs.declared.beam.Beam.{Beam}
 use Rattle.vga_crtc.specs.Crtc.{CrtcState}
 use Rattle.vga_crtc.specs.Beam.{after_dots}
-use Rattle.vga_crtc.specs.Raster.{dots_in_frame}
+use Rattle.vga_crtc.specs.Raster.{dots_to_frame_end}
 use Rattle.vga_crtc.proofs.Ends.{frame_ends}
 use Rattle.vga_crtc.proofs.crtc.Crtc.step_frame.Goals as goal
 
@@ -13,6 +13,6 @@ returns c = λ cw some.
     let a = c.self.inside in
     let old : CrtcState = record { registers = a.registers; index = a.index; beam = a.beam } in
     let new : CrtcState = record old { beam = c.first_dot-self-inside.result } in
-    let there : new ≡ after_dots old cw (dots_in_frame cw old.registers old.beam) =
+    let there : new ≡ after_dots old cw (dots_to_frame_end cw old.registers old.beam) =
     ap (λ (b : Beam). record old { beam = b }) (c.first_dot-self-inside.ensures ∙ sym (frame_ends cw old.registers old.beam some).next) in
-    subst (λ (s : CrtcState). new ≡ after_dots s cw (dots_in_frame cw s.registers s.beam)) c.self.view_is there
+    subst (λ (s : CrtcState). new ≡ after_dots s cw (dots_to_frame_end cw s.registers s.beam)) c.self.view_is there

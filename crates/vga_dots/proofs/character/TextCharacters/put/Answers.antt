@@ -1,32 +1,57 @@
--- Each dot of the cell has its foreground or its background.
-use Rattle.std.proofs.Common.{ℕ, ◌-◌, ap, ◌∙◌, arith, if◌then◌else◌, subst}
+-- Each dot has the colour of the glyph's dots or of the others.
+use Rattle.std.proofs.Common.{◌≡◌, ◌∙◌, ◌-◌, ◌+◌, ◌*◌, ℕ, Bool, true, false, ap, refl, subst, sym, arith, if◌then◌else◌}
 use Rattle.vga_bits.specs.Bits.{is_set, field}
+use Rattle.vga_planes.specs.Planes.{byte_at}
+use Rattle.vga_attr.specs.Attr.{AttrState}
+use Rattle.vga_attr.specs.Fields.{is_line_graphics}
 use Rattle.vga_dots.specs.declared.text.Cell.{Cell}
-use Rattle.vga_dots.specs.Text.{background, is_foreground}
+use Rattle.vga_dots.specs.Text.{is_glyph_dot, glyph_row, cell_at}
+use Rattle.vga_dots.specs.SourceDot.{fetch_address}
 use Rattle.vga_dots.specs.Line.{colour_by_palette, dot_of_counter, colour_of_source_dot}
 use Rattle.vga_dots.specs.Quads.{IsFourDotsOfColour}
+use Rattle.vga_dots.specs.Character.{cell_of, cursorless_nibble}
 use Rattle.vga_dots.proofs.RowLemmas.{dots_alike}
-use Rattle.vga_dots.proofs.CharacterLemmas.{text_dot}
+use Rattle.vga_dots.proofs.CharacterLemmas.{cursorless_dot}
+use Rattle.vga_dots.proofs.TextLineLemmas.{cursor_at, line_graphics}
 use Rattle.vga_dots.proofs.character.TextCharacters.put.Goals as goal
 
-pub foreground_dots-lit-requires : goal.foreground_dots-lit-requires
-foreground_dots-lit-requires g c = record { line = c.requires.draws.line; glyphs = c.requires.draws.glyphs }
+pub put_cursor-requires-clause-cursor : goal.put_cursor-requires-clause-cursor
+put_cursor-requires-clause-cursor g c =
+    let d = c.args.display.now in
+    cursor_at d.host d.crtc d.attr c.args.self.now.line c.requires.draws.line c.args.cell c.args.counter _ (omega arith) c.has_cursor_at.ensures ∙ c.if-has_cursor_at.true
+
+pub glyph_dots-dots-requires : goal.glyph_dots-dots-requires
+glyph_dots-dots-requires g c =
+    let d = c.args.display.now in
+    record {
+      line = line_graphics d.host d.crtc d.attr c.args.self.now.line c.requires.draws.line c.args.cell
+          ∙ ap (λ (x : AttrState). if is_line_graphics x then 6 else 8) (sym c.attr.ensures);
+    }
 
 pub returns : goal.returns
 returns g c =
     let d = c.args.display.now in
     let n = c.args.counter in
     let cell = c.args.cell in
-    let lit = c.foreground_dots-lit.result in
-    let colours = c.args.colours in
-    let fore = colour_by_palette d.attr d.dac (field cell.attribute 3 0) in
-    let back = colour_by_palette d.attr d.dac (background d.attr cell) in
-    let is_fore = subst (λ a. IsFourDotsOfColour colours.fore (colour_by_palette d.attr d.dac (field a 3 0))) c.requires.attribute c.requires.colours.fore in
-    let is_back = subst (λ (a : ℕ). let x : Cell = record { character = cell.character; attribute = a } in
-    IsFourDotsOfColour colours.back (colour_by_palette d.attr d.dac (background d.attr x))) c.requires.attribute (c.requires.colours.back cell.character) in
-    dots_alike g.row.CW c.args.at (λ i. if is_set lit (8 - i) then fore else back) (λ i. colour_of_source_dot d (dot_of_counter n i)) c.args.row.now c.put_glyph.new.row
-    (c.put_glyph.ensures fore back is_fore is_back)
-    (λ i l. text_dot d n fore back (is_set lit (8 - i)) i c.requires.draws.shows
-    (ap (λ (x : Cell). colour_by_palette d.attr d.dac (field x.attribute 3 0)) c.requires.cell)
-    (ap (λ (x : Cell). colour_by_palette d.attr d.dac (background d.attr x)) c.requires.cell)
-    (c.foreground_dots-lit.ensures.dots i (omega (arith, l, c.requires.width)) ∙ ap (is_foreground d.host d.crtc d.attr (dot_of_counter n i)) c.requires.cell))
+    let look = c.args.look in
+    let scan = d.crtc.beam.scan in
+    let colour = colour_by_palette d.attr d.dac in
+    let shown = cell_at d.host (fetch_address d.crtc.registers n) in
+    let whole : cell_of look.attribute cell.character ≡ cell = λ j. cell_of (c.requires.attribute j) cell.character in
+    let glyph = colour (cursorless_nibble d.crtc d.attr cell true) in
+    let ground = colour (cursorless_nibble d.crtc d.attr cell false) in
+    let is_glyph = subst (λ (x : Cell). IsFourDotsOfColour look.glyph (colour (cursorless_nibble d.crtc d.attr x true))) whole (c.requires.look.glyph cell.character) in
+    let is_ground = subst (λ (x : Cell). IsFourDotsOfColour look.ground (colour (cursorless_nibble d.crtc d.attr x false))) whole (c.requires.look.ground cell.character) in
+    let byte : c.byte-byte.result ≡ glyph_row d.host cell scan =
+    c.byte-byte.ensures ∙ ap (λ m. byte_at m 2 (look.glyphs + 32 * cell.character)) c.planes.ensures ∙ c.requires.look.glyphs cell.character
+    ∙ ap (λ (x : Cell). glyph_row d.host x scan) whole in
+    let no_cursor = cursor_at d.host d.crtc d.attr c.args.self.now.line c.requires.draws.line cell n _ (omega arith) c.has_cursor_at.ensures ∙ c.if-has_cursor_at.false in
+    dots_alike g.row.CW c.args.at (λ i. if is_set c.glyph_dots-dots.result (8 - i) then glyph else ground) (λ i. colour_of_source_dot d (dot_of_counter n i))
+    c.args.row.now c.put_glyph.new.row (c.put_glyph.ensures glyph ground is_glyph is_ground)
+    (λ i l. cursorless_dot d n glyph ground (is_set c.glyph_dots-dots.result (8 - i)) i c.requires.draws.shows
+    (ap (λ (x : Cell). colour (cursorless_nibble d.crtc d.attr x true)) c.requires.cell)
+    (ap (λ (x : Cell). colour (cursorless_nibble d.crtc d.attr x false)) c.requires.cell) no_cursor
+    (c.glyph_dots-dots.ensures.dots i (omega (arith, l, c.requires.width))
+    ∙ ap (λ (x : AttrState). is_glyph_dot x cell.character c.byte-byte.result i) c.attr.ensures
+    ∙ ap (λ row. is_glyph_dot d.attr cell.character row i) byte
+    ∙ ap (λ (x : Cell). is_glyph_dot d.attr x.character (glyph_row d.host x scan) i) c.requires.cell))

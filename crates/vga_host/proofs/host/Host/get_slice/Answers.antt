@@ -12,6 +12,6 @@ returns-clause-latches c =
     let within = c.are_writes_decoded.ensures.within c.if-not-are_writes_decoded.false in
     let all : suc (n - 1) ≡ n = omega (arith, c.if-n-eq0.false) in
     let last : n - 1 ≡ 0 + (n - 1) = omega arith in
-    c.load_by_access.ensures ∙ ap (λ k. after_get_if_decoded h misc (first + k)) last
+    c.load_latches_if_decoded.ensures ∙ ap (λ k. after_get_if_decoded h misc (first + k)) last
     ∙ sym (last_get misc first (n - 1) 0 h h refl (λ k low high. within.written k (omega (arith, high, all))))
     ∙ ap (λ k. after_gets misc first k 0 h) all

@@ -4,8 +4,8 @@ use Rattle.vga_host.proofs.host.Host.move_bytes.Goals as goal
 
 pub loop-i-preserved : goal.loop-i-preserved
 loop-i-preserved c =
-    move_kept c.access-access.result c.args.misc c.args.from c.args.to c.args.n c.loop-i.i c.loop-i.self c.move_by_access.new.self _ c.loop-i-test.true
-    c.move_by_access.ensures c.loop-i.invariant
+    move_kept c.access-access.result c.args.misc c.args.from c.args.to c.args.n c.loop-i.i c.loop-i.self c.move_by_write_mode.new.self _ c.loop-i-test.true
+    c.move_by_write_mode.ensures c.loop-i.invariant
 
 pub loop-i-init : goal.loop-i-init
 loop-i-init c = (

@@ -36,7 +36,7 @@ returns-clause-ok c =
     let set = c.reached-set.result in
     let o = c.offset-offset.result in
     let after : Four ℕ → HostState = λ bytes. record h { memory = with_bytes_at_offset h.memory o bytes set } in
-    let bytes : c.written_as-bytes.result ≡ four_by_plane (λ p. written_byte h c.args.v p) = c.written_as-bytes.ensures ∙ ap (λ x. four_by_plane (λ p. written_byte x c.args.v p)) (sym same) in
+    let bytes : c.written_bytes_by_shortcut-bytes.result ≡ four_by_plane (λ p. written_byte h c.args.v p) = c.written_bytes_by_shortcut-bytes.ensures ∙ ap (λ x. four_by_plane (λ p. written_byte x c.args.v p)) (sym same) in
     ap (λ m. let w : HostState = record h { memory = m } in w) c.store.ensures
     ∙ ap after bytes
     ∙ ap (λ m. let w : HostState = record h { memory = m } in w) (planes_after h c.args.misc c.args.address c.in-Some.in_window o d.0 d.1 (c.offset-offset.ensures h is)

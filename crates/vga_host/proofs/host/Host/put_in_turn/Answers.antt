@@ -12,11 +12,11 @@ loop-i-preserved c =
       | then-i-eq0 w ↦ turn_kept c.access-access.result c.written-bytes.result c.written-others.result c.args.misc c.args.first c.args.even c.args.odd
           c.args.n
           c.loop-i.i c.args.even c.loop-i.self c.if-i-eq0.self _ c.loop-i-test.true (even_in_turn c.args.even c.args.odd c.loop-i.i w.if-i-eq0.true) (w.self-is
-          ∙ w.put_by_access.ensures ∙ ap (after_put_of_plane_bytes c.loop-i.self c.args.misc (c.args.first + c.loop-i.i)) c.loop-i.invariant.1) c.loop-i.invariant
+          ∙ w.store_bytes_if_decoded.ensures ∙ ap (after_put_of_plane_bytes c.loop-i.self c.args.misc (c.args.first + c.loop-i.i)) c.loop-i.invariant.1) c.loop-i.invariant
       | else-i-eq0 w ↦ turn_kept c.access-access.result c.written-bytes.result c.written-others.result c.args.misc c.args.first c.args.even c.args.odd
           c.args.n
           c.loop-i.i c.args.odd c.loop-i.self c.if-i-eq0.self _ c.loop-i-test.true (odd_in_turn c.args.even c.args.odd c.loop-i.i w.if-i-eq0.false) (w.self-is
-          ∙ w.put_by_access-else-i-eq0.ensures ∙ ap (after_put_of_plane_bytes c.loop-i.self c.args.misc (c.args.first + c.loop-i.i)) c.loop-i.invariant.2) c.loop-i.invariant
+          ∙ w.store_bytes_if_decoded-else-i-eq0.ensures ∙ ap (after_put_of_plane_bytes c.loop-i.self c.args.misc (c.args.first + c.loop-i.i)) c.loop-i.invariant.2) c.loop-i.invariant
     ]
 
 pub loop-i-init : goal.loop-i-init

@@ -22,7 +22,7 @@ loop-i-preserved c =
     let first = c.args.first in
     let g = slice_index c.args.bytes.now in
     let kept = c.loop-i.invariant in
-    let now = c.put_by_access.ensures ∙ ap (after_put_of_plane_bytes s misc (first + i)) c.written_as-word.ensures in (
+    let now = c.store_bytes_if_decoded.ensures ∙ ap (after_put_of_plane_bytes s misc (first + i)) c.written_bytes_by_shortcut-word.ensures in (
       subst (IsAccess c.access-access.result) (sym now) (access_stays c.access-access.result s misc (first + i) (g i) kept.0),
       next_put misc first g i (length c.args.bytes.now) s _ _ (omega arith) now kept.1,
     )

@@ -13,11 +13,11 @@ loop-i-preserved c =
     let misc = c.args.misc in
     let first = c.args.first in
     let kept = c.loop-i.invariant in
-    let now = c.load_by_access.ensures in (
+    let now = c.load_latches_if_decoded.ensures in (
       subst (IsAccess c.args.access) (sym now) (access_read c.args.access s misc (first + i) kept.0),
       subst (λ (x : HostState). with_latches h x.latches ≡ x) (sym now) (latches_read h s misc (first + i) kept.1),
       next_get misc first (length c.args.bytes.now) i s _ _ c.loop-i-test.true now kept.2,
       search rules,
-      λ k few. byte_set c.loop-i.bytes i k c.byte_by_access.result (λ j. byte_read_or_ff h misc (first + j)) (omega (arith, c.loop-i-test.true, kept.3)) few kept.4
-          (c.byte_by_access.ensures ∙ byte_over h s misc (first + i) kept.1),
+      λ k few. byte_set c.loop-i.bytes i k c.byte_at_address_or_ff.result (λ j. byte_read_or_ff h misc (first + j)) (omega (arith, c.loop-i-test.true, kept.3)) few kept.4
+          (c.byte_at_address_or_ff.ensures ∙ byte_over h s misc (first + i) kept.1),
     )

@@ -5,16 +5,16 @@ use Rattle.vga_run.proofs.SavedLemmas.{machine_len, machine_bytes, bda_fits, car
 use Rattle.vga_run.proofs.machine.Machine.save.Goals as goal
 
 pub put_header-at-requires-clause-room : goal.put_header-at-requires-clause-room
-put_header-at-requires-clause-room c = omega (arith, c.requires, machine_len c.args.self.now c.saves_whole.ensures.len)
+put_header-at-requires-clause-room c = omega (arith, c.requires, machine_len c.args.self.now c.restore_gives_what_was_saved.ensures.len)
 
 pub save-at-requires : goal.save-at-requires
 save-at-requires c =
-    bda_fits _ _ _ _ _ c.put_header-at.auto.out c.requires (machine_len c.args.self.now c.saves_whole.ensures.len) c.put_header-at.ensures.end
+    bda_fits _ _ _ _ _ c.put_header-at.auto.out c.requires (machine_len c.args.self.now c.restore_gives_what_was_saved.ensures.len) c.put_header-at.ensures.end
 
 pub save-requires : goal.save-requires
 save-requires c =
-    card_fits _ _ _ _ _ _ _ _ c.put_header-at.auto.out c.save-at.auto.out c.requires (machine_len c.args.self.now c.saves_whole.ensures.len)
-    c.saves_whole-2.ensures.len c.put_header-at.ensures.end c.save-at.ensures.end
+    card_fits _ _ _ _ _ _ _ _ c.put_header-at.auto.out c.save-at.auto.out c.requires (machine_len c.args.self.now c.restore_gives_what_was_saved.ensures.len)
+    c.restore_gives_what_was_saved-2.ensures.len c.put_header-at.ensures.end c.save-at.ensures.end
 
 pub returns : goal.returns
 returns c =

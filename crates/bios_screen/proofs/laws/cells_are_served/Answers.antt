@@ -1,8 +1,0 @@
-use Rattle.bios_screen.proofs.Services.All.{read_cell, write_cells}
-use Rattle.bios_screen.proofs.laws.cells_are_served.Goals as goal
-
-pub returns-clause-read : goal.returns-clause-read
-returns-clause-read c = read_cell
-
-pub returns-clause-written : goal.returns-clause-written
-returns-clause-written c = write_cells

@@ -1,7 +1,0 @@
-use Rattle.std.proofs.Common.{◌≡◌, ◌++◌}
-use Rattle.bios_screen.specs.Shown.{pixels_in}
-use Rattle.bios_screen.proofs.screen_reading.read_page.Given as goal
-
--- the pixels so far
-abbrev pub invariant-loop-k : goal.invariant-loop-k
-invariant-loop-k l = l.pixels.items ≡ l.fn.pixels.items ++ pixels_in l.mode l.planes l.z l.k

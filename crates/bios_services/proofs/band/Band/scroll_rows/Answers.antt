@@ -1,8 +1,0 @@
-use Rattle.std.proofs.Common.{arith}
-use Rattle.bios_services.proofs.PlanRuns.{run_bind}
-use Rattle.bios_services.specs.Bands.{scroll_rows}
-use Rattle.bios_services.proofs.band.Band.scroll_rows.Goals as goal
-
-pub returns : goal.returns
-unfolding scroll_rows
-returns c = grind (arith, run_bind)

@@ -1,9 +1,0 @@
-use Rattle.std.proofs.Common.{◌≡◌, ◌-◌}
-use Rattle.vga_card.specs.Bus.{card_meaning}
-use Rattle.vga_card.specs.Transfers.{after_puts_down}
-use Rattle.vga_card.proofs.card.Card.fill_down.Given as goal
-
--- what the writes that are left leave is what all leave
-abbrev pub invariant-loop-i : goal.invariant-loop-i
-invariant-loop-i l =
-    after_puts_down card_meaning l.first (λ k. l.value) (l.kept - l.i) l.self ≡ after_puts_down card_meaning l.first (λ k. l.value) l.kept l.fn.self

@@ -1,0 +1,8 @@
+use Rattle.std.proofs.Common.{◌+◌}
+use Rattle.vga_dots.specs.Row.{AreCharactersPut}
+use Rattle.vga_dots.specs.Line.{unpanned_colour}
+use Rattle.vga_dots.proofs.line.draw_graphics_characters.Given as goal
+
+-- the characters so far are drawn
+abbrev pub invariant-loop-x : goal.invariant-loop-x
+invariant-loop-x g l = AreCharactersPut g.row.CW l.x (λ x. unpanned_colour l.fn.display (l.fn.first + x)) l.fn.row l.row
