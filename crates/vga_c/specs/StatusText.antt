@@ -23,7 +23,7 @@ status_text status =
     else if status == 8
     then codes "ZAK_OUTSIDE: The pixel or the cursor position is outside the screen."
     else if status == 9
-    then codes "ZAK_COUNT_PAST: CharacterDrawing pass the page's last cell, or glyphs the last character."
+    then codes "ZAK_COUNT_PAST: Characters pass the page's last cell, or glyphs the last character."
     else if status == 10
     then codes "ZAK_BAD_REGISTER: There is no such palette or DAC register."
     else if status == 11
