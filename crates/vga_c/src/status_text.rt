@@ -19,8 +19,7 @@ fn text_of_status(status: u32) -> &'static str
         6 => "ZAK_WRONG_KIND: The call is for pixels in a text mode, or for text in graphics.",
         7 => "ZAK_BAD_PAGE: The mode has no such page.",
         8 => "ZAK_OUTSIDE: The pixel or the cursor position is outside the screen.",
-        9 =>
-            "ZAK_COUNT_PAST: Characters pass the page's last cell, or glyphs the last character.",
+        9 => "ZAK_COUNT_PAST: Characters pass the page's last cell, or glyphs the last character.",
         10 => "ZAK_BAD_REGISTER: There is no such palette or DAC register.",
         11 => "ZAK_BAD_BLOCK: The block does not have the length that the function takes.",
         12 => "ZAK_TOO_FAR: An advance takes at most 16,777,216 dots.",

@@ -1,7 +1,7 @@
 -- A sealed machine owns what a box of a machine owns, which may cross to another thread as the machine may.
 use mathlib.Core.Bool.{Bool, true, false}
 use mir.Raw.{raw}
-use base.RowShift.{Keyless}
+use base.Shift.{Keyless}
 use denote.Memory.{lone}
 use denote.RawPtr.{Ptr}
 use denote.Struct.Struct.{exits_of}
