@@ -13,6 +13,10 @@ from zaklimot_tools.dev.testing import style
 from .tools import TOP, Folder, call, hold_undone, main_of
 
 
+# A file or folder whose types are checked.
+FILES = r'^    "\$MYPY_CONFIG_FILE_DIR/(?:\.\./)?([\w.]+)",$'
+# How the judge of types in the package for Python is called.
+TYPES = "mypy of bindings/python"
 NOTING = 'printf "%s\\n" "${0##*/}" "$@" >> "$NOTES"\n'
 
 
@@ -29,7 +33,9 @@ class Style(Folder):
 
     def test_each_judge_reads_all_python(self) -> None:
         done = self.judged(black="exit 0", flake8="exit 0", mypy="exit 0")
-        self.assertEqual(done, (0, "passed  black\npassed  flake8\npassed  mypy\n", ""))
+        self.assertEqual(
+            done, (0, f"passed  black\npassed  flake8\npassed  mypy\npassed  {TYPES}\n", "")
+        )
         noted = (self.folder / "notes").read_text().split("\n")
         black, flake8 = noted.index("black"), noted.index("flake8")
         self.assertIn("--check", noted[black:flake8])
@@ -40,7 +46,9 @@ class Style(Folder):
     def test_what_one_finds_is_told_and_the_others_judge_too(self) -> None:
         status, told, _ = self.judged(black="exit 0", flake8="echo a.py:1; exit 1", mypy="exit 2")
         self.assertEqual(status, 1)
-        found = "passed  black\nfailed  flake8\na.py:1\nfailed  mypy\nit ended with status 2\n"
+        found = "passed  black\nfailed  flake8\na.py:1\n" + "".join(
+            f"failed  {name}\nit ended with status 2\n" for name in ("mypy", TYPES)
+        )
         self.assertEqual(told, found)
 
     def test_all_settings_say_the_same(self) -> None:
@@ -52,13 +60,19 @@ class Style(Folder):
         editors = (TOP / ".editorconfig").read_text("utf-8").partition("\n[*.py]\n")[2]
         self.assertEqual(width, flake8)
         self.assertEqual(f"max_line_length = {width[0]}", editors.split("\n")[0])
-        judged = re.findall(r'^    "\$MYPY_CONFIG_FILE_DIR/(?:\.\./)?(\w+)",$', settings, re.M)
+        judged = re.findall(FILES, settings, re.M)
         told = " ".join((TOP / "CONTRIBUTING.md").read_text("utf-8").split())
         self.assertIn(f"at most {width[0]} columns, as `black`", told)
         named = ", ".join(f"`{folder}/`" for folder in style.FOLDERS).rpartition(", ")
-        self.assertIn(f"of all Python in {named[0]} and {named[2]}, and `mypy --strict`", told)
+        self.assertIn(f"`mypy --strict` of all Python in {named[0]} and {named[2]}", told)
         of_mypy = {*style.FOLDERS} - {"bindings"}
-        self.assertEqual({*judged}, of_mypy - {"tools"} | {"zaklimot_tools", "tests"})
+        self.assertEqual(
+            {*judged}, of_mypy - {"tools"} | {"zaklimot_tools", "tests", "building.py"}
+        )
+        bindings = (TOP / style.BINDINGS).read_text("utf-8")
+        self.assertIn("\n[tool.mypy]\nstrict = true\n", bindings)
+        modules = {path.name for path in (TOP / style.BINDINGS).parent.glob("*.py")}
+        self.assertEqual({*re.findall(FILES, bindings, re.M)}, {"src", "tests", *modules})
 
     def test_what_is_missing_is_told(self) -> None:
         for words in ((), ("--ready",)):

@@ -114,7 +114,15 @@ def main() -> int:
     with tempfile.TemporaryDirectory(prefix="zaklimot-bench-") as name:
         program = Path(name) / "calls"
         library = folder / "lib" / "libzaklimot.a"
-        words: list[str | Path] = ["gcc", "-std=c99", "-O2", "-I", folder / "include", CALLS, library]
+        words: list[str | Path] = [
+            "gcc",
+            "-std=c99",
+            "-O2",
+            "-I",
+            folder / "include",
+            CALLS,
+            library,
+        ]
         subprocess.run([*words, "-o", program], check=True)
         for call, mode, times in TIMED:
             c, python = by_c(program, call, mode, times), by_python(call, mode, times)
