@@ -247,7 +247,7 @@ class Sample(NamedTuple):
     segments: tuple[int, ...]
     written: tuple[tuple[int, int], ...]
     ports: tuple[tuple[int, int, int], ...]
-    count: int = 1  # type: ignore[assignment]
+    instructions: int = 1
     tables: bytes = b""
     given: tuple[tuple[int, bytes], ...] = ()
     fault: int | None = None
@@ -256,7 +256,7 @@ class Sample(NamedTuple):
     def packed(self) -> bytes:
         """The bytes that `processor.c` reads."""
         given = [(place + i, byte) for place, data in self.given for i, byte in enumerate(data)]
-        sizes = self.count, len(self.tables), len(self.interrupts), len(given)
+        sizes = self.instructions, len(self.tables), len(self.interrupts), len(given)
         code = self.code.ljust(CODE_BYTES, b"\0")
         front = struct.pack("<I8II16s4I", self.kind, *self.registers, self.flags, code, *sizes)
         front += self.tables + self.interrupts + b"".join(struct.pack("<IB", *one) for one in given)
