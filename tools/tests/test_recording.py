@@ -568,7 +568,7 @@ class Traces(unittest.TestCase):
         replayed = Replay(written, listing, Path(), (), checked, screens={0: verdict})
         front = "| name | 1,000 | 11 | 30 | 46 | 7 | 0 | 0 |"
         for dots, picture in ((0, "the same"), (8, "8 dots differ"), (None, "another size")):
-            verdict.held.count = dots
+            verdict.held.differing = dots
             self.assertEqual(row_of("name", replayed, 0, 8), (f"{front} {picture} |", dots == 8))
 
     def test_the_command_tells_its_software(self) -> None:

@@ -871,7 +871,7 @@ class Folding(unittest.TestCase):
                 (other, texts(*other)),
             ),
         )
-        self.assertEqual([row.count for row in folded(other, TraceStep.data)], [20])
+        self.assertEqual([row.times for row in folded(other, TraceStep.data)], [20])
 
     def test_short_rows_stay(self) -> None:
         # Five polls of three bytes are 15 bytes, and a block of them seven: less than half.

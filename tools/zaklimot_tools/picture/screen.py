@@ -128,7 +128,10 @@ class _Search:
         self._want = want
         # The different bytes that the planes of each mask are to have.
         self._low, self._high = (
-            [{word[at] for plane, word in enumerate(want) if mask >> plane & 1} for mask in range(16)]
+            [
+                {word[at] for plane, word in enumerate(want) if mask >> plane & 1}
+                for mask in range(16)
+            ]
             for at in (0, 1)
         )
         low, high = (

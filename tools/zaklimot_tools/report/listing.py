@@ -15,7 +15,7 @@ from contextlib import contextmanager, nullcontext
 from functools import partial
 from itertools import chain, count, islice, repeat, zip_longest
 from pathlib import Path
-from typing import Any, BinaryIO, Callable, Iterable, Iterator, NamedTuple, Optional, Union
+from typing import Any, BinaryIO, Callable, Iterable, Iterator, NamedTuple, Optional, Union, cast
 
 from zaklimot.format import STATE, Answer, count_in, is_bytes, places_in, steps_in, words_in
 from zaklimot.format.report import VALUE
@@ -95,9 +95,7 @@ class Row(NamedTuple):
 
 
 # A row of all its parts, made in half the time that the class itself takes.
-made_row: Callable[[Iterable[object]], Row] = partial(
-    tuple.__new__, Row  # type: ignore[assignment]
-)
+made_row = cast(Callable[[Iterable[object]], Row], partial(tuple.__new__, Row))
 # What `--only` may call a step, and which steps it means.
 KINDS: dict[str, Callable[[Row], bool]] = {
     "refused": lambda row: row.step.is_refused,
@@ -216,7 +214,7 @@ class RunScript:
         dumps_at, is_told = self._dumps, progress.is_wanted
         with self._program.running(Path(self._path), fonts, until, self.is_bytes) as outcome:
             _wait_for(outcome.report, self.shown, progress)
-            report = Report(outcome.report, "the report", progress)  # type: ignore[arg-type]
+            report = Report(cast(io.BufferedReader, outcome.report), "the report", progress)
             steps = report.steps()
             first = next(steps, None)
             if first is not None and first.number == 0:

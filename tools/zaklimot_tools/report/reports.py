@@ -213,10 +213,9 @@ def compare_picture(words: argparse.Namespace, progress: Progress) -> int:
     found = held_size(picture, *size_of(data, name))
     if found is None:
         found = held(picture, image_of(data, name), words.within)
-    write(
-        f"step {words.step} and {name} {'differ' if found.count != 0 else 'agree'}: {found.how}\n"
-    )
-    if found.count == 0:
+    agrees = found.differing == 0
+    write(f"step {words.step} and {name} {'agree' if agrees else 'differ'}: {found.how}\n")
+    if agrees:
         return AGREED
     if found.image is not None:
         write(f"  {found.told}\n")

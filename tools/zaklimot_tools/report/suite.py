@@ -226,6 +226,7 @@ def _judge(result: Result, status: int, report: Path, messages: Path) -> None:
             _compare(result, stream)
     elif fault is not None:
         line = io.BytesIO(f"{fault[0]}\n".encode())
+        # What `BufferedReader` asks of a stream, bytes in memory have too.
         _compare(result, io.BufferedReader(line))  # type: ignore[arg-type]
     if status and fault is None and not (has_report and result.answer in (DIFFERS, FAILED)):
         result.answer = FAILED

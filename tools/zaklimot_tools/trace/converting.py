@@ -322,7 +322,7 @@ class Repeated(NamedTuple):
 
     steps: Sequence[TraceStep]
     codes: Sequence[bytes]
-    count: int  # type: ignore[assignment]
+    times: int
     cycle: int
 
 
@@ -408,11 +408,11 @@ class Written:
         """Counts a row; what the script has of it."""
         body = b"".join(row.codes)
         for step in row.steps:
-            self.kinds[NAMES[step.opcode]] += row.count
+            self.kinds[NAMES[step.opcode]] += row.times
             self.script_bytes += step.size
-        if row.count > 1:
-            ends = format.encoded(format.Block(row.count, ()))
-            words = f"{format.REPEAT} {row.count}\n".encode(), f"{format.END}\n".encode()
+        if row.times > 1:
+            ends = format.encoded(format.Block(row.times, ()))
+            words = f"{format.REPEAT} {row.times}\n".encode(), f"{format.END}\n".encode()
             front, end = words if self.is_text else (ends[:-1], ends[-1:])
             self.blocks, self.script_bytes, body = (
                 self.blocks + 1,

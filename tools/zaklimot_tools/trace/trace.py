@@ -369,6 +369,7 @@ def opened(path: str, is_whole: bool = True) -> Iterator[Trace]:
     with reading(path, is_drained=is_whole) as stream:
         if stream.peek(2)[:2] == GZIP:
             with gzip.open(stream) as unpacked:
+                # What `BufferedReader` asks of a stream, this has too.
                 yield Trace(io.BufferedReader(unpacked), name_of(path))  # type: ignore[arg-type]
         else:
             yield Trace(stream, name_of(path))

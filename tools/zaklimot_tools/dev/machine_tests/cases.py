@@ -87,6 +87,7 @@ class Instruction(NamedTuple):
 
     @property
     def is_repeated(self) -> bool:
+        """Whether a prefix repeats it."""
         return not self.is_two and self.opcode in STRINGS and bool(self.prefixes & set(REPEATS))
 
 

@@ -112,7 +112,9 @@ def _segments(left: Left, is_protected: bool, has_tables: bool) -> tuple[int, ..
 def _written(left: Left) -> tuple[tuple[int, int], ...]:
     """The bytes that an instruction has changed by pushing, with their places."""
     written = {
-        place + at: value >> 8 * at & 255 for place, value, size in left.pushed for at in range(size)
+        place + at: value >> 8 * at & 255
+        for place, value, size in left.pushed
+        for at in range(size)
     }
     return tuple((place, byte) for place, byte in sorted(written.items()) if byte != pattern(place))
 
@@ -285,8 +287,8 @@ def limits() -> Iterator[Sample]:
         yield case(f"8EC0{read}", given, left, is_protected=True, tables=tables)
 
 
-# What the flags are when an interrupt is asked for; where its gate leads; and where the stack begins
-# there.
+# What the flags are when an interrupt is asked for; where its gate leads; and where the stack
+# begins there.
 ASKED, GATED, TOP_OF_STACK = FLAGS | INTERRUPT | TRAP | CARRY, 0x23456, 0x90000
 
 

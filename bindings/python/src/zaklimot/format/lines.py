@@ -8,7 +8,7 @@ from collections import Counter
 from functools import partial
 from itertools import islice
 from operator import itemgetter
-from typing import BinaryIO, Callable, Iterable, Iterator, NamedTuple, Union
+from typing import BinaryIO, Callable, Iterable, Iterator, NamedTuple, Union, cast
 
 from .table import END, FIRST_LINE, MOST_COUNT, MOST_STEPS, REPEAT, decimal
 
@@ -43,9 +43,7 @@ class Line(NamedTuple):
 
 
 # Makes a line of all its parts in half the time that the class takes.
-_made_line: Callable[[Iterable[object]], Line] = partial(
-    tuple.__new__, Line  # type: ignore[assignment]
-)
+_made_line = cast(Callable[[Iterable[object]], Line], partial(tuple.__new__, Line))
 
 
 def lines_in(stream: BinaryIO, before: int = 0) -> Iterator[Line]:

@@ -4,7 +4,7 @@ from __future__ import annotations
 
 import re
 from functools import partial
-from typing import Callable, Iterable, Iterator, Optional, Sequence, Union
+from typing import Callable, Iterable, Iterator, Optional, Sequence, Union, cast
 
 from .script import Block, Item, Script, Step
 from .table import (
@@ -30,9 +30,7 @@ DUMP_OF_PLANE = "show plane"
 # No step contains a byte outside ASCII.
 _NO_LETTER = "\xff"
 # Makes a step of all its parts in half the time that the class takes.
-_made_step: Callable[[Iterable[object]], Step] = partial(
-    tuple.__new__, Step  # type: ignore[assignment]
-)
+_made_step = cast(Callable[[Iterable[object]], Step], partial(tuple.__new__, Step))
 
 
 def parse_text(text: Union[str, bytes]) -> Script:
