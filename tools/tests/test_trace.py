@@ -891,6 +891,6 @@ class Folding(unittest.TestCase):
                 [POLL._replace(cycle=number) for number in range(1, 2 * 65535 + 4)], TraceStep.data
             )
         )
-        self.assertEqual([row.count for row in rows], [65535, 65535, 1, 1, 1])
+        self.assertEqual([row.times for row in rows], [65535, 65535, 1, 1, 1])
         self.assertEqual([row.cycle for row in rows], [65535, 131070, 131071, 131072, 131073])
         self.assertEqual(Written(False).row(rows[0]), bytes.fromhex("0D FFFF 03DA03 0E"))
