@@ -243,7 +243,7 @@ class Images(Folder):
         other = Picture.of_dots(2, 1, bytes([0x3F, 0x14, 0x01, 0x1D, 0x3F, 0x1F]))
         other_counts: tuple[tuple[Within, int], ...] = (("5-6-5", 2), (1, 1), (3, 1), (4, 0))
         for tolerance, count in other_counts:
-            self.assertEqual(holding.held(other, image_at(), tolerance).count, count, tolerance)
+            self.assertEqual(holding.held(other, image_at(), tolerance).differing, count, tolerance)
 
     def test_the_words_of_a_tolerance(self) -> None:
         report = self.report("r", ppm(1, 1, b"\x3f\x3f\x3e"))

@@ -207,7 +207,9 @@ class RunScript:
         self, fonts: str, until: Optional[int], progress: Progress, is_strict: bool, tells_why: bool
     ) -> Iterator[Row]:
         state = Registers() if tells_why else None
-        dumps_at, is_told = self._dumps, progress.is_wanted
+        # A script may have millions of steps, and each look at an object takes its time.
+        dumps_at = self._dumps
+        is_told = progress.is_wanted
         for (words, (number, comment)), step in self._answered(fonts, until, progress):
             if is_told and progress.is_due():
                 progress.tell(f"{self.shown}: step {step.number} of {self._count}")

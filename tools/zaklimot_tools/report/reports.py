@@ -100,7 +100,8 @@ def delays_of(script: Optional[str]) -> Callable[[int], float]:
     registers = Registers()
     name = name_of(script)
     frames: dict[int, float] = {}
-    last, dots = 0, 0
+    last = 0
+    dots = 0
     for number, step in enumerate(script_of(read_script(script), name).steps(), 1):
         registers.take(step)
         if step.name == "advance" and step.numbers[0] <= MOST_ADVANCE:
@@ -109,7 +110,9 @@ def delays_of(script: Optional[str]) -> Callable[[int], float]:
             speed = registers.speed()
             if last and speed:
                 frames[last] += dots // speed[0] * speed[0] / speed[1]
-            frames[number], last, dots = registers.frame(), number, 0
+            frames[number] = registers.frame()
+            last = number
+            dots = 0
 
     def delay(number: int) -> float:
         if number not in frames:

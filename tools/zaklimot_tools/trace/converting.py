@@ -230,7 +230,6 @@ class Listing:
         self._is_timed = has_time or frames == CLOCK or isinstance(frames, float)
         self._most = most
         self._first = first
-        self.has_time = has_time
         self._pauses = Pauses()
         self._clocked = Clocked(longest)
         self.rebuilding = 0
@@ -414,11 +413,9 @@ class Written:
             ends = format.encoded(format.Block(row.times, ()))
             words = f"{format.REPEAT} {row.times}\n".encode(), f"{format.END}\n".encode()
             front, end = words if self.is_text else (ends[:-1], ends[-1:])
-            self.blocks, self.script_bytes, body = (
-                self.blocks + 1,
-                self.script_bytes + len(ends),
-                front + body + end,
-            )
+            self.blocks += 1
+            self.script_bytes += len(ends)
+            body = front + body + end
         self.text_bytes += len(body) if self.is_text else 0
         return body
 

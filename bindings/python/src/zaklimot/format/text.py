@@ -70,16 +70,22 @@ def _step(number: int, words: Sequence[str]) -> Step:
 
 def _items_with_blocks(lines: Iterable[tuple[int, list[str]]]) -> Iterator[Item]:
     """The items of version 2. A block that means too many steps is a fault of its first line."""
-    opened, count, meant = 0, 0, 0
+    meant = 0
+    # The block that is under way: the line where it begins, how often it is repeated, its steps.
+    opened = count = 0
     steps: list[Step] = []
     for number, words in lines:
         place = number
         item: Optional[Item] = None
         if words[0] == REPEAT and not opened:
-            opened, count, steps = number, _count(number, words), []
+            count = _count(number, words)
+            opened = number
+            steps = []
         elif words == [END] and opened:
-            place, opened, item = opened, 0, Block(count, tuple(steps))
+            item = Block(count, tuple(steps))
             meant += count * len(steps)
+            place = opened
+            opened = 0
         elif opened:
             steps.append(_step(number, words))
         else:
@@ -131,9 +137,11 @@ def _numbers(words: Sequence[str], fields: Sequence[Field]) -> tuple[int, ...]:
 
 def _call(words: Sequence[str]) -> Step:
     """A call: registers in order, each at most once, and then a block."""
-    fields, block = FORMS[INT].fields, b""
+    fields = FORMS[INT].fields
     values = {field.name: field.default or 0 for field in fields}
-    names, last = list(values), -1
+    block = b""
+    names = list(values)
+    last = -1
     for at, word in enumerate(words):
         if word == BLOCK:
             block = _block(words[at + 1 :])
