@@ -235,6 +235,13 @@ class Fake(Folder):
 
 @unittest.skipIf(sys.platform == "win32", "a script is a program on POSIX")
 class Listings(Fake):
+    def test_steps_of_bytes_of_which_some_are_printed(self) -> None:
+        self.begin_program("if sys.argv[1] == 'dis': print('IN 3CC'); sys.exit(1)\n")
+        path = self.write("s.bin", b"VGAS\x01\nin\nin\n")
+        status, output, said = self.run_script(path=path)
+        self.assertEqual((status, len(output.splitlines())), (2, 4))
+        self.assertIn("s.bin: the program prints none of its steps, so there is no telling", said)
+
     def test_lines_steps_and_answers_in_columns(self) -> None:
         digest = "picture 9x1 " + "cc3cef99328e895f73a6088030faaab2"
         self.assertEqual(
