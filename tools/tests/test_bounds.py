@@ -28,6 +28,7 @@ from zaklimot_tools.images.words import Within
 from zaklimot_tools.picture.asked import Fit
 from zaklimot_tools.picture.fitting import check_size
 from zaklimot_tools.picture.mode import MODES
+from zaklimot_tools.report import cases
 from zaklimot_tools.report.cases import MOST_LISTED, read_cases
 from zaklimot_tools.report.report import Expected, Report
 
@@ -160,6 +161,11 @@ class Cases(Folder):
         (case,) = read_cases(self.listed("bytes a\n"))
         told = refused(case.script)
         self.assertRegex(told, rf"a\.hex:1: it lists more than {MOST_LISTED:,} bytes$")
+        with mock.patch.object(cases, "MOST_LISTED", 12):
+            self.write("a.hex", "00*10 ; ten\nff fe\n")
+            self.assertEqual(case.script(), bytes(10) + b"\xff\xfe")
+            self.write("a.hex", "00*10\nff fe fd\n")
+            self.assertRegex(refused(case.script), r"a\.hex:2: it lists more than 12 bytes$")
         self.write("a.hex", "56 47*2\n00*16777217")
         self.assertEqual(len(case.script()), 16777220)
 
