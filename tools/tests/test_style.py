@@ -9,7 +9,7 @@ import subprocess
 import unittest
 from collections import Counter
 from pathlib import Path
-from typing import Any, Iterator, Union
+from typing import Any, Iterator, Sequence, Union
 from unittest import mock
 
 from zaklimot_tools.dev.testing import style
@@ -137,9 +137,9 @@ class Written(unittest.TestCase):
         self.files += [path for folder in folders for path in folder.rglob("*.py")]
         self.files += (TOP / "bindings" / "python").glob("*.py")
 
-    def nodes(self, *kinds: type[ast.AST]) -> Iterator[tuple[str, Any]]:
-        """The parts of these kinds, each with its place."""
-        for path in self.files:
+    def nodes(self, *kinds: type[ast.AST], files: Sequence[Path] = ()) -> Iterator[tuple[str, Any]]:
+        """The parts of these kinds of these files or of all, each with its place."""
+        for path in files or self.files:
             for node in ast.walk(ast.parse(path.read_text("utf-8"))):
                 if isinstance(node, kinds):
                     yield f"{path.relative_to(TOP)}:{getattr(node, 'lineno', 0)}", node
@@ -152,7 +152,9 @@ class Written(unittest.TestCase):
         self.assertEqual([one for one in places if counted[one[0]] > 1], [])
 
     def test_functions_are_short(self) -> None:
-        functions = self.nodes(ast.FunctionDef, ast.AsyncFunctionDef)
+        tests = (TOOLS / "tests", TOP / "bindings" / "python" / "tests")
+        files = self.files + [path for folder in tests for path in folder.glob("*.py")]
+        functions = self.nodes(ast.FunctionDef, ast.AsyncFunctionDef, files=files)
         lines = [(node.end_lineno - node.lineno + 1, place) for place, node in functions]
         self.assertEqual([one for one in lines if one[0] > MOST_LINES], [])
 

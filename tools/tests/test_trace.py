@@ -124,7 +124,7 @@ KEPT_TIMED = [
 ]
 KEPT_PLAIN = [KEPT_CALL, "put B8000 41", "put B8001 07", "in 3DA", "in 3DA", KEPT_OTHER, "frame"]
 # What is listed of it in each way.
-KEPT_LISTED = (
+KEPT_LISTED: tuple[tuple[dict[str, object], list[str]], ...] = (
     (
         {"has_time": True, "frames": "screens"},
         [*KEPT_TIMED, "advance 1", "frame", "frame", "frame"],
@@ -226,7 +226,7 @@ LACKING_SILENT = (
     "qemu traces none there without the plugin"
 )
 LACKING_CHAINED = BEGIN + b"- w p 3C4 0F02 2\n- w p 3C4 0E04 2\n"
-LACKING = (
+LACKING: tuple[tuple[bytes, list[str]], ...] = (
     (b"- r p 3CC 0 1\n" + BEGIN + b"- w m A0000 1 1\n", []),
     (b"- r p 3CC 0 1\n- w m B8000 1 1\n" + BEGIN, [LACKING_BEGIN]),
     (b"- r p 3CC 0 1\n- w p 3C4 1 1\n" + BEGIN, [LACKING_BEGIN]),
@@ -685,14 +685,24 @@ class Checking(Folder):
     def test_what_is_counted(self) -> None:
         index, status, *memory = (f"  read            1 {kind}" for kind in READ)
         whole = ["7 steps, 0 refused, 4 reads answered, 0 differ", index, status, *memory]
-        for frame in (PICTURE, "ragged", f"picture {len(PICTURE)} 9x1 {32 * '0'}"):
+        frames: tuple[str | bytes, ...] = (
+            PICTURE,
+            "ragged",
+            f"picture {len(PICTURE)} 9x1 {32 * '0'}",
+        )
+        for frame in frames:
             self.assertEqual(self.check(*self.GOOD[:-1], frame), (0, whole, ""))
         told = "7 steps, 0 refused, 3 reads answered, 0 differ, 1 skipped"
         done = self.check(*self.changed(s5="skipped"))
         self.assertEqual(done, (0, [told, index, status, memory[1]], ""))
 
     def test_refusals_and_reads_that_differ_are_counted_by_kind(self) -> None:
-        answers = ("ok", *4 * ["E1 NotDecoded"], "E2 NotInProfile", PICTURE)
+        answers: tuple[str | bytes, ...] = (
+            "ok",
+            *4 * ["E1 NotDecoded"],
+            "E2 NotInProfile",
+            PICTURE,
+        )
         self.assertEqual(self.check(*answers, given=REFUSING), (1, REFUSED_BY_KIND, ""))
         given = BEGIN + b"- w p 3C0 10 1\n- w p 3C0 C 1\n- r p 3C1 0 1\n"
         done = self.check(*3 * ["ok"], "01", PICTURE, given=given)

@@ -106,14 +106,7 @@ def instruction(rnd: random.Random, is_protected: bool) -> Instruction:
     prefixes = {prefix for prefix, share in ((0x66, 0.3), (0x67, 0.12)) if rnd.random() < share}
     if rnd.random() < 0.15:
         prefixes.add(rnd.choice((0x26, 0x2E, 0x36, 0x3E, 0x64, 0x65)))
-    while True:
-        is_two = rnd.random() < 0.3
-        opcode = rnd.choice(TWO) if is_two else rnd.randrange(256)
-        if is_two and opcode == CPUID or not is_two and opcode in LEFT_OUT:
-            continue
-        if is_protected and opcode in (LOADING_TWO if is_two else LOADING):
-            continue
-        break
+    is_two, opcode = _opcode(rnd, is_protected)
     if not is_two and opcode in STRINGS and rnd.random() < 0.5:
         prefixes.add(rnd.choice(REPEATS))
     tail = bytearray(rnd.randrange(256) for _ in range(12))
@@ -125,6 +118,18 @@ def instruction(rnd: random.Random, is_protected: bool) -> Instruction:
         [*rnd.sample(sorted(prefixes), len(prefixes)), *([0x0F] if is_two else []), opcode]
     ) + bytes(tail)
     return Instruction(code[:CODE_BYTES], opcode, tail[0], is_two, frozenset(prefixes))
+
+
+def _opcode(rnd: random.Random, is_protected: bool) -> tuple[bool, int]:
+    """Whether an opcode has two bytes, and the last of them; none that is left out."""
+    while True:
+        is_two = rnd.random() < 0.3
+        opcode = rnd.choice(TWO) if is_two else rnd.randrange(256)
+        is_left_out = opcode == CPUID if is_two else opcode in LEFT_OUT
+        if not is_left_out and not (
+            is_protected and opcode in (LOADING_TWO if is_two else LOADING)
+        ):
+            return is_two, opcode
 
 
 def _leave_to_the_manual(
