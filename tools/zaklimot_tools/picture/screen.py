@@ -20,7 +20,8 @@ from itertools import chain, combinations, takewhile
 from typing import Iterator, Mapping, Optional, Sequence
 
 from zaklimot import format
-from zaklimot_tools.trace.state import ALL_PLANES, FIRST_ADDRESS as WINDOW, PLANES, map_mask
+from zaklimot_tools.trace.state import FIRST_ADDRESS as WINDOW, PLANES, map_mask
+from zaklimot_tools.trace.trace import ALL_PLANES
 
 from .mode import Kind, Mode
 from .steps import Item, Part, service

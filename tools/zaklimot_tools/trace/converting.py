@@ -22,7 +22,7 @@ from zaklimot.format.picture import Digest
 from zaklimot.format.report import REFUSAL, SKIPPED, VALUE
 from zaklimot_tools.core.streams import counted
 from zaklimot_tools.core.trouble import Trouble
-from zaklimot_tools.explain.banks import ATTRIBUTE, STATUS, Banks
+from zaklimot_tools.explain.banks import ATTRIBUTE, COLOUR, MONOCHROME, STATUS, Banks
 from zaklimot_tools.explain.registers import INDEX_PORTS, Registers, bytes_written
 
 from .asked import CLOCK, END, FLIP, SCREENS, Frames
@@ -60,7 +60,7 @@ Code = Callable[[TraceStep], bytes]
 # Microseconds that are put together before they become a step: about a line.
 LEAST_PAUSE = 30
 WRITES = (OUT, OUTW, PUT, PUTW, INT)
-CONTROLLERS = (0x3D4, 0x3B4)
+CONTROLLERS = (COLOUR, MONOCHROME)
 # The CRT controller's registers of the start address, which a page flip writes.
 START_ADDRESS = (0x0C, 0x0D)
 # Windows of memory, by the 32 KiB that they have.
