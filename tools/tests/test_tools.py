@@ -451,6 +451,15 @@ class Lines(Folder):
         progress.tell.assert_called_once_with("s.vga: no answer yet after 0 seconds")
 
 
+def has_pytest() -> bool:
+    """Whether a Python here has what runs the tests."""
+    try:
+        return bool(running._python())
+    except Trouble:
+        return False
+
+
+@unittest.skipUnless(has_pytest(), running.LACKING)
 class Running(Folder):
     def run_tests(self, *words: str, **lines: str) -> tuple[int, str]:
         """Exit status and output of tests, of which each module has one that does what a line
@@ -577,7 +586,7 @@ class Running(Folder):
         self.assertEqual((status, said.splitlines()[-1]), (1, "0 passed, 1 failed"))
 
 
-@unittest.skipIf(sys.platform == "win32", "a script is a program on POSIX")
+@unittest.skipUnless(has_pytest(), running.LACKING)
 class Checking(Folder):
     """The test command for a machine without Rattle."""
 
