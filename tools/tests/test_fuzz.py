@@ -214,7 +214,8 @@ class Fuzzing(Folder):
         self.assertIn("        4 done", lines)
 
     def test_without_a_name_the_program_is_found(self) -> None:
-        with mock.patch.object(command, "found_program", return_value=self.program_that()):
+        found = mock.patch.object(command, "found_program", return_value=self.program_that())
+        with found, mock.patch.object(Program, "feed", return_value="done"):
             status, lines, said = self.run_command()
         self.assertEqual((status, lines[-2], said), (0, "0 with something wrong", ""))
         none = self.run_command(self.write("none", ""))
