@@ -205,6 +205,14 @@ OTHER_SIZES = (
         "3x2 stretched to 320x177, with bars of 000000 to 320x200, 3",
         [[BLACK] * 320] * 11 + [[RED] * 213 + [BLUE] * 107] * 177 + [[BLACK] * 320] * 12,
     ),
+    # Of an odd number of columns beside it, one more is on the right.
+    (
+        "13",
+        "--fit",
+        [[RED] * 3] * 16,
+        "3x16 stretched to 45x200, with bars of 000000 to 320x200, 2",
+        [[BLACK] * 137 + [RED] * 45 + [BLACK] * 138] * 200,
+    ),
     (
         "13",
         "--fit --bars #8000fF",
