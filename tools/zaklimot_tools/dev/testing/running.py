@@ -47,8 +47,7 @@ LACKING = (
     " python3-pytest-xdist, or the two by pip"
 )
 # Tests go to the processes some at a time. Where a process crashes, a new one takes those that are
-# left.
-# A test that is skipped is told with its reason, and nothing is left in the folders of the tests.
+# left. A test that is skipped is told with its reason, and nothing is left in the tests' folders.
 WORDS = "-q -rfEs --dist load -p no:cacheprovider -p zaklimot_tools.dev.testing.limiting"
 
 
@@ -123,7 +122,8 @@ def run_modules(modules: Sequence[str], program: str, is_built: bool = False) ->
             BUILT: "1" if is_built else "",
         }
         (folder / "temporary").mkdir()
-        workers = min(MOST_WORKERS, os.cpu_count() or 1)
+        # One module takes one processor: the gate runs other work beside it.
+        workers = min(MOST_WORKERS, os.cpu_count() or 1, len(modules) or MOST_WORKERS)
         words = [_python(), "-m", "pytest", *WORDS.split(), "-n", str(workers)]
         words += ["--counts", str(folder / "counts"), *places]
         try:
