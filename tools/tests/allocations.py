@@ -55,7 +55,7 @@ ENDED = re.compile(r"case=(\S+) run=(\S+)(?: status=(\d+))? .*proved=no")
 # Lines that `rt try` itself writes among those of the program.
 OWN_LINES = ("allocations: ", "checked: ", "interpreter: ")
 # The one line of its `main`, what stands before that line in the copy, and the function behind it.
-MAIN = "    ExitCode::from(status_of_job(&rt))\n"
+MAIN = "    ExitCode::from(do_job_with_status(&rt))\n"
 FIRST = "    let _ = grow(&rt);\n"
 GROW = """
 /// Makes an allocation for each byte of standard input.

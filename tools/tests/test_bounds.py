@@ -3,6 +3,8 @@ times, names that no file has, forged images, and images of another size."""
 
 from __future__ import annotations
 
+import argparse
+import contextlib
 import io
 import os
 import resource
@@ -11,10 +13,12 @@ import zlib
 from functools import partial
 from pathlib import Path
 from random import Random
+from typing import Optional
 from unittest import mock
 
 from zaklimot.format import Picture, count_in, decimal, parse_text, steps_in
 from zaklimot_tools.core.trouble import Trouble
+from zaklimot_tools.core.words import number_to
 from zaklimot_tools.explain.mistakes import mistake_in
 from zaklimot_tools.floppy import image
 from zaklimot_tools.floppy.table import HEADER, NAME, VERSION, Table, table_for
@@ -24,6 +28,7 @@ from zaklimot_tools.images.words import Within
 from zaklimot_tools.picture.asked import Fit
 from zaklimot_tools.picture.fitting import check_size
 from zaklimot_tools.picture.mode import MODES
+from zaklimot_tools.report import cases
 from zaklimot_tools.report.cases import MOST_LISTED, read_cases
 from zaklimot_tools.report.report import Expected, Report
 
@@ -71,6 +76,38 @@ class Numbers(unittest.TestCase):
             ("000", 9, 0),
         ]
         hold(self, decimal, rows)
+
+    def test_the_values_of_options(self) -> None:
+        rows: list[tuple[str, int, int | None]] = [
+            ("0", 1, None),
+            ("0", 0, 0),
+            ("1", 1, 1),
+            ("256", 1, 256),
+            ("257", 1, None),
+            ("0" * 5000 + "12", 1, 12),
+            ("1000" + "12", 1, None),
+            (MANY, 1, None),
+            ("²", 1, None),
+            ("", 0, None),
+            ("-1", 0, None),
+            ("1_0", 1, None),
+        ]
+
+        def read(word: str, least: int) -> Optional[int]:
+            with contextlib.suppress(argparse.ArgumentTypeError):
+                return number_to(256, least)(word)
+            return None
+
+        hold(self, read, rows)
+
+    def test_options_with_wrong_numbers_are_told_in_short(self) -> None:
+        for option, told in (
+            ("--jobs", r"'9{40}\.\.' is no number from 1 to 256\n$"),
+            ("--timeout", r"'9{40}\.\.' is no number of seconds above 0, to 86400\n$"),
+        ):
+            status, output, said = run_tool("vga-report", "suite", "x", option, MANY)
+            self.assertEqual((status, output), (2, b""))
+            self.assertRegex(said, f"error: argument {option}: {told}")
 
     def test_blocks_that_are_repeated_too_often(self) -> None:
         for count in (MANY, "²", "0" * 5000, "65536"):
@@ -124,6 +161,11 @@ class Cases(Folder):
         (case,) = read_cases(self.listed("bytes a\n"))
         told = refused(case.script)
         self.assertRegex(told, rf"a\.hex:1: it lists more than {MOST_LISTED:,} bytes$")
+        with mock.patch.object(cases, "MOST_LISTED", 12):
+            self.write("a.hex", "00*10 ; ten\nff fe\n")
+            self.assertEqual(case.script(), bytes(10) + b"\xff\xfe")
+            self.write("a.hex", "00*10\nff fe fd\n")
+            self.assertRegex(refused(case.script), r"a\.hex:2: it lists more than 12 bytes$")
         self.write("a.hex", "56 47*2\n00*16777217")
         self.assertEqual(len(case.script()), 16777220)
 
@@ -202,12 +244,12 @@ class Images(Folder):
         counts: tuple[tuple[Within, int], ...] = ((0, 2), ("5-6-5", 0), (1, 0), (63, 0))
         for tolerance, count in counts:
             found = holding.held(picture, image_at(), tolerance)
-            self.assertEqual(found.count, count, tolerance)
+            self.assertEqual(found.differing, count, tolerance)
         self.assertTrue(holding.held(picture, image_at(), "5-6-5").how.endswith("within 5-6-5"))
         other = Picture.of_dots(2, 1, bytes([0x3F, 0x14, 0x01, 0x1D, 0x3F, 0x1F]))
         other_counts: tuple[tuple[Within, int], ...] = (("5-6-5", 2), (1, 1), (3, 1), (4, 0))
         for tolerance, count in other_counts:
-            self.assertEqual(holding.held(other, image_at(), tolerance).count, count, tolerance)
+            self.assertEqual(holding.held(other, image_at(), tolerance).differing, count, tolerance)
 
     def test_the_words_of_a_tolerance(self) -> None:
         report = self.report("r", ppm(1, 1, b"\x3f\x3f\x3e"))

@@ -502,6 +502,27 @@ HANDED: list[tuple[str, dict[str, str], str, dict[str, str] | str]] = [
 ]
 
 
+# The files that are kept of cases that don't agree.
+KEPT_FILES = [
+    # Of a picture that is as expected nothing differs.
+    "a/four-0001-expected.png",
+    "a/four-0001.png",
+    "a/four.report",
+    "a/four.said",
+    "a/four.vga",
+    "a/one-0001-differing.png",
+    "a/one-0001-expected.png",
+    "a/one-0001.png",
+    "a/one.report",
+    "a/one.said",
+    "a/one.vga",
+    "a/three-0001.png",
+    "a/three.report",
+    "a/three.said",
+    "a/three.vga",
+]
+
+
 class Suite(Folder):
     def setUp(self) -> None:
         super().setUp()
@@ -693,24 +714,7 @@ class Suite(Folder):
         self.assertEqual(self.run_suite("--keep", kept, command=command)[0], 1)
         self.assertEqual(
             sorted(str(file.relative_to(kept)) for file in kept.rglob("*.*")),
-            [
-                # Of a picture that is as expected nothing differs.
-                "a/four-0001-expected.png",
-                "a/four-0001.png",
-                "a/four.report",
-                "a/four.said",
-                "a/four.vga",
-                "a/one-0001-differing.png",
-                "a/one-0001-expected.png",
-                "a/one-0001.png",
-                "a/one.report",
-                "a/one.said",
-                "a/one.vga",
-                "a/three-0001.png",
-                "a/three.report",
-                "a/three.said",
-                "a/three.vga",
-            ],
+            KEPT_FILES,
         )
         self.assertEqual((kept / "a/one.report").read_bytes(), report(PICTURE))
         self.assertEqual(

@@ -4,6 +4,7 @@ import argparse
 
 from zaklimot_tools.core.cli import add
 from zaklimot_tools.core.files import Input, PictureFolder
+from zaklimot_tools.dev.completions import fish, zsh
 from zaklimot_tools.dev.completions.command import completions, tools
 from zaklimot_tools.dev.completions.described import (
     ToolArgument,
@@ -43,6 +44,10 @@ LINES: dict[str, list[str]] = {
 
 
 class Made(Completing):
+    def test_texts_that_have_quotes_and_backslashes(self) -> None:
+        self.assertEqual(fish._quoted("it's a \\"), r"'it\'s a \\'")
+        self.assertEqual(zsh._quoted("it's a \\"), "'it'\\''s a \\'")
+
     def setUp(self) -> None:
         super().setUp()
         for name in FILES:

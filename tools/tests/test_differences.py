@@ -33,53 +33,57 @@ def against(data: bytes, expected: str) -> Optional[str]:
     return first(data, Expected(stream(expected.encode()), "e").steps())
 
 
+ALIKE = (b"", report("ok", "55", DUMP, PICTURE, "E1 NotDecoded"), b"F2 BadMagic\n")
+# Two reports, and the first step in which they differ.
+FIRST_DIFFERENCES = [
+    *((data, data, None) for data in ALIKE),
+    (report("ok", "55", "55"), report("ok", "54", "54"), "step 2: 55, not 54"),
+    (
+        report("E1"),
+        report("E1 NotDecoded"),
+        "step 1: E1 (read), not E1 NotDecoded (refused)",
+    ),
+    (
+        report("ok"),
+        report("E2 NotInProfile"),
+        "step 1: ok, not E2 NotInProfile (refused)",
+    ),
+    (report("ok"), report("ok", "ok"), "step 2: the end, not ok"),
+    (report("ok", "55"), report("ok"), "step 2: 55, not the end"),
+    (
+        report(DUMP),
+        report(DUMP.replace("seq 00: 00", "seq 00: 01")),
+        "step 1: seq 00: 00, not seq 00: 01",
+    ),
+    (report(DUMP), report("misc 00"), "step 1: seq 00: 00, not the end"),
+    (report(PICTURE), report("ragged"), "step 1: picture 28, not ragged"),
+    (b"F2 BadMagic\n", b"F3 BadVersion\n", "the run: F2 BadMagic, not F3 BadVersion"),
+    (b"F2 BadMagic\n", report("ok"), "step 1: F2 BadMagic (fault), not ok"),
+    (b"", b"F2 BadMagic\n", "the run: the end, not F2 BadMagic"),
+    (
+        report(PICTURE),
+        report(ppm(3, 2, RED * 2 + BLACK * 2 + WHITE * 2)),
+        "step 1: 2 of 6 dots differ, the first is dot 1 of row 1: 000000, not 3F3F3F",
+    ),
+    (
+        report(PICTURE),
+        report(ppm(3, 2, RED * 2 + WHITE + BLACK + WHITE * 2)),
+        "step 1: 3 of 6 dots differ, the first is dot 2 of row 0: 000000, not 3F3F3F",
+    ),
+    (
+        report(PICTURE),
+        report(ppm(2, 3, BLACK * 6)),
+        "step 1: picture 28 3x2, not picture 28 2x3",
+    ),
+]
+
+
 class Reports(unittest.TestCase):
     def test_the_first_difference(self) -> None:
-        alike = (b"", report("ok", "55", DUMP, PICTURE, "E1 NotDecoded"), b"F2 BadMagic\n")
         hold(
             self,
             lambda data, other: first(data, steps_of(other)),
-            [
-                *((data, data, None) for data in alike),
-                (report("ok", "55", "55"), report("ok", "54", "54"), "step 2: 55, not 54"),
-                (
-                    report("E1"),
-                    report("E1 NotDecoded"),
-                    "step 1: E1 (read), not E1 NotDecoded (refused)",
-                ),
-                (
-                    report("ok"),
-                    report("E2 NotInProfile"),
-                    "step 1: ok, not E2 NotInProfile (refused)",
-                ),
-                (report("ok"), report("ok", "ok"), "step 2: the end, not ok"),
-                (report("ok", "55"), report("ok"), "step 2: 55, not the end"),
-                (
-                    report(DUMP),
-                    report(DUMP.replace("seq 00: 00", "seq 00: 01")),
-                    "step 1: seq 00: 00, not seq 00: 01",
-                ),
-                (report(DUMP), report("misc 00"), "step 1: seq 00: 00, not the end"),
-                (report(PICTURE), report("ragged"), "step 1: picture 28, not ragged"),
-                (b"F2 BadMagic\n", b"F3 BadVersion\n", "the run: F2 BadMagic, not F3 BadVersion"),
-                (b"F2 BadMagic\n", report("ok"), "step 1: F2 BadMagic (fault), not ok"),
-                (b"", b"F2 BadMagic\n", "the run: the end, not F2 BadMagic"),
-                (
-                    report(PICTURE),
-                    report(ppm(3, 2, RED * 2 + BLACK * 2 + WHITE * 2)),
-                    "step 1: 2 of 6 dots differ, the first is dot 1 of row 1: 000000, not 3F3F3F",
-                ),
-                (
-                    report(PICTURE),
-                    report(ppm(3, 2, RED * 2 + WHITE + BLACK + WHITE * 2)),
-                    "step 1: 3 of 6 dots differ, the first is dot 2 of row 0: 000000, not 3F3F3F",
-                ),
-                (
-                    report(PICTURE),
-                    report(ppm(2, 3, BLACK * 6)),
-                    "step 1: picture 28 3x2, not picture 28 2x3",
-                ),
-            ],
+            FIRST_DIFFERENCES,
         )
 
     def test_all_differences_and_what_was_skipped(self) -> None:
@@ -236,6 +240,82 @@ class Answers(unittest.TestCase):
         self.assertEqual((picture.picture.row(0), after), (dots, Answer(2, 2, "ok")))
 
 
+# What stands in the place of a picture's length.
+DAMAGED_LENGTHS = ("99999999999999", "0", "037", "-1", "3x", "", "37 9x1", "37 9x1 0123")
+DAMAGED_PICTURES = [f"picture {length}".rstrip() for length in DAMAGED_LENGTHS]
+DAMAGED_GOOD = ppm(2, 1, 6 * b"\x01")
+# Reports, where and how they are damaged, and how many steps before that are good.
+DAMAGED = [
+    (b"1 ok\n2 o", "2: the report ends within a line", 1),
+    (b"1 ok\n3 ok\n", "2: step 2 is to come, and not '3 ok'", 1),
+    (b"01 ok\n", "1: step 1 is to come, and not '01 ok'", 0),
+    (b"1 ok\nhello\n", "2: step 2 is to come, and not 'hello'", 1),
+    (b"1\n", "1: step 1 is to come, and not '1'", 0),
+    (b"1 ok\n\n", "2: the line is empty, or has bytes that no answer has", 1),
+    (b"1 \x1b[2J\n", "1: the line is empty, or has bytes that no answer has", 0),
+    (b"1 \xff\n", "1: the line is empty, or has bytes that no answer has", 0),
+    (
+        b"1 ok\r\n",
+        ("1: the line ends with a carriage return: a report is bytes, not a" " system's text"),
+        0,
+    ),
+    (b"1 " + bytes([0x30]) * 300000, "1: the line is longer than any answer", 0),
+    (b"F2 BadMagic\n1 ok\n", "2: something stands after a fault", 0),
+    *(
+        (
+            f"1 ok\n2 {picture}\n3 ok\n".encode(),
+            f"2: step 2 has a picture of no length: '{picture}'",
+            1,
+        )
+        for picture in DAMAGED_PICTURES
+    ),
+    *(
+        (b"1 ok\n2 picture %d\n" % length + data, f"2: {message}", 1)
+        for length, data, message in (
+            (
+                16,
+                DAMAGED_GOOD[:12],
+                "the picture of step 2 is cut off: of 16 bytes there are 12",
+            ),
+            (16, b"", "the picture of step 2 is cut off: of 16 bytes there are 0"),
+            (
+                16,
+                DAMAGED_GOOD,
+                "no newline stands after the 16 bytes of the picture of step 2",
+            ),
+            (
+                15,
+                DAMAGED_GOOD + b"\n",
+                "no newline stands after the 15 bytes of the picture of step 2",
+            ),
+            (
+                15,
+                DAMAGED_GOOD[:-1] + b"\n",
+                "step 2: a picture of 2x1 dots has 16 bytes, and not 15",
+            ),
+            (
+                16,
+                DAMAGED_GOOD.replace(b"63", b"31") + b"\n",
+                (
+                    "step 2: the picture doesn't begin as a PPM of the kind P6,"
+                    " width, height and 63"
+                ),
+            ),
+            (
+                16,
+                DAMAGED_GOOD[:-1] + b"\x40\n",
+                "step 2: a dot of the picture has a component above 63",
+            ),
+            (
+                999999999999,
+                b"",
+                ("step 2 has a picture of 999999999999 bytes, and 67108864 are" " the most"),
+            ),
+        )
+    ),
+]
+
+
 class Damage(unittest.TestCase):
     def damage(self, data: bytes) -> tuple[str, int]:
         """What is told of a damaged report, and how many good steps there are before."""
@@ -244,88 +324,8 @@ class Damage(unittest.TestCase):
         return refused(lambda: seen.extend(steps)), len(seen)
 
     def test_what_is_told(self) -> None:
-        lengths = ("99999999999999", "0", "037", "-1", "3x", "", "37 9x1", "37 9x1 0123")
-        pictures = [f"picture {length}".rstrip() for length in lengths]
-        good = ppm(2, 1, 6 * b"\x01")
         hold(
             self,
             self.damage,
-            (
-                (data, (f"r:{message}", good))
-                for data, message, good in [
-                    (b"1 ok\n2 o", "2: the report ends within a line", 1),
-                    (b"1 ok\n3 ok\n", "2: step 2 is to come, and not '3 ok'", 1),
-                    (b"01 ok\n", "1: step 1 is to come, and not '01 ok'", 0),
-                    (b"1 ok\nhello\n", "2: step 2 is to come, and not 'hello'", 1),
-                    (b"1\n", "1: step 1 is to come, and not '1'", 0),
-                    (b"1 ok\n\n", "2: the line is empty, or has bytes that no answer has", 1),
-                    (b"1 \x1b[2J\n", "1: the line is empty, or has bytes that no answer has", 0),
-                    (b"1 \xff\n", "1: the line is empty, or has bytes that no answer has", 0),
-                    (
-                        b"1 ok\r\n",
-                        (
-                            "1: the line ends with a carriage return: a report is bytes, not a"
-                            " system's text"
-                        ),
-                        0,
-                    ),
-                    (b"1 " + bytes([0x30]) * 300000, "1: the line is longer than any answer", 0),
-                    (b"F2 BadMagic\n1 ok\n", "2: something stands after a fault", 0),
-                    *(
-                        (
-                            f"1 ok\n2 {picture}\n3 ok\n".encode(),
-                            f"2: step 2 has a picture of no length: '{picture}'",
-                            1,
-                        )
-                        for picture in pictures
-                    ),
-                    *(
-                        (b"1 ok\n2 picture %d\n" % length + data, f"2: {message}", 1)
-                        for length, data, message in (
-                            (
-                                16,
-                                good[:12],
-                                "the picture of step 2 is cut off: of 16 bytes there are 12",
-                            ),
-                            (16, b"", "the picture of step 2 is cut off: of 16 bytes there are 0"),
-                            (
-                                16,
-                                good,
-                                "no newline stands after the 16 bytes of the picture of step 2",
-                            ),
-                            (
-                                15,
-                                good + b"\n",
-                                "no newline stands after the 15 bytes of the picture of step 2",
-                            ),
-                            (
-                                15,
-                                good[:-1] + b"\n",
-                                "step 2: a picture of 2x1 dots has 16 bytes, and not 15",
-                            ),
-                            (
-                                16,
-                                good.replace(b"63", b"31") + b"\n",
-                                (
-                                    "step 2: the picture doesn't begin as a PPM of the kind P6,"
-                                    " width, height and 63"
-                                ),
-                            ),
-                            (
-                                16,
-                                good[:-1] + b"\x40\n",
-                                "step 2: a dot of the picture has a component above 63",
-                            ),
-                            (
-                                999999999999,
-                                b"",
-                                (
-                                    "step 2 has a picture of 999999999999 bytes, and 67108864 are"
-                                    " the most"
-                                ),
-                            ),
-                        )
-                    ),
-                ]
-            ),
+            ((data, (f"r:{message}", DAMAGED_GOOD)) for data, message, DAMAGED_GOOD in DAMAGED),
         )

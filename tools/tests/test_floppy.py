@@ -212,6 +212,16 @@ class Images(Folder):
         }
         self.assertEqual(run("read", image, reports), (0, b"", ""))
         self.assertEqual({path.name: path.read_bytes() for path in reports.iterdir()}, texts)
+        self.assert_needs_a_folder(image, reports)
+        record = self.write("record", b"".join(booted.record[:-2]))
+        self.assertEqual(
+            run("read", "--serial", "--part", record, self.folder / "part"), (0, b"", "")
+        )
+        left = [(path.name, path.read_bytes()) for path in (self.folder / "part").iterdir()]
+        self.assertEqual(left, [("one.report", b"")])
+
+    def assert_needs_a_folder(self, image: Path, reports: Path) -> None:
+        """That the reports of several scripts want a folder that is new or empty."""
         message = (
             f"vga-floppy: {image}: it has the answers of 3 scripts: name a folder for their"
             " reports\n"
@@ -222,13 +232,9 @@ class Images(Folder):
             " that is new or empty\n"
         )
         self.assertEqual(run("read", image, reports), (2, b"", message))
-        record = self.write("record", b"".join(booted.record[:-2]))
-        self.assertEqual(
-            run("read", "--serial", "--part", record, self.folder / "part"), (0, b"", "")
-        )
-        left = [(path.name, path.read_bytes()) for path in (self.folder / "part").iterdir()]
-        self.assertEqual(left, [("one.report", b"")])
-        # One alone has a folder too.
+
+    def test_one_alone_has_a_folder_too(self) -> None:
+        image = self.folder / "image"
         image.write_bytes(Machine(image_for({"one": script_of(b"in 3CC\n", "one")}, "one")).image)
         self.assertEqual(
             (run("read", image), run("read", image, self.folder / "alone")),
@@ -364,6 +370,14 @@ class Left(Folder):
                     self.changed(MARK + 9, 0x80),
                     "it: it has 32,808 bytes of answers, and its steps have 40",
                 ),
+            ),
+        )
+
+    def test_tables_that_are_damaged(self) -> None:
+        hold(
+            self,
+            partial(self.trouble, read_image),
+            (
                 (self.changed(512 * 5, 0), "it: it holds no table of steps of vga-floppy"),
                 (
                     self.changed(512 * 5 + 4, 2),
@@ -551,6 +565,36 @@ class Runs(Folder):
         os.kill(int(child), signal.SIGKILL)
 
 
+# Images and records whose table is none, and what is told.
+MARKED = (
+    "Before.",
+    FIRST_MARK,
+    "",
+    "Compared were dosbox 0.1.",
+    "",
+    "|  | dosbox |",
+    "|---|---|",
+    "| cases that agree | 1 |",
+    "| cases of which a part or all was skipped, and the rest agrees | 0 |",
+    "| cases that differ | 1 |",
+    "| cases whose run failed | 0 |",
+    "| bytes, words and registers compared | 2,005 |",
+    "| of these as expected | 2,003 |",
+    "",
+    "| Folder: cases that agree, are skipped, differ | dosbox |",
+    "|---|---|",
+    "| `host/` | 1, 0, 1 |",
+    "",
+    "| Rule of the suite | Case | dosbox |",
+    "|---|---|---|",
+    "| The host/one \\| rule. | `host/one` | 020202020202020202020202.., not 03 |",
+    "",
+    LAST_MARK,
+    "After.",
+    "",
+)
+
+
 class Pages(Folder):
     def test_cases_that_a_machine_is_asked_have_answers_of_one_and_fit_an_image(self) -> None:
         page = (TOP / "docs" / "REAL-MACHINES.md").read_text("utf-8")
@@ -597,35 +641,7 @@ class Pages(Folder):
         self.assertEqual((status, said), (0, ""))
         self.assertEqual(
             page,
-            "\n".join(
-                (
-                    "Before.",
-                    FIRST_MARK,
-                    "",
-                    "Compared were dosbox 0.1.",
-                    "",
-                    "|  | dosbox |",
-                    "|---|---|",
-                    "| cases that agree | 1 |",
-                    "| cases of which a part or all was skipped, and the rest agrees | 0 |",
-                    "| cases that differ | 1 |",
-                    "| cases whose run failed | 0 |",
-                    "| bytes, words and registers compared | 2,005 |",
-                    "| of these as expected | 2,003 |",
-                    "",
-                    "| Folder: cases that agree, are skipped, differ | dosbox |",
-                    "|---|---|",
-                    "| `host/` | 1, 0, 1 |",
-                    "",
-                    "| Rule of the suite | Case | dosbox |",
-                    "|---|---|---|",
-                    "| The host/one \\| rule. | `host/one` | 020202020202020202020202.., not 03 |",
-                    "",
-                    LAST_MARK,
-                    "After.",
-                    "",
-                )
-            ),
+            "\n".join(MARKED),
         )
 
     def test_files_that_are_wrong(self) -> None:

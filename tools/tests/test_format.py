@@ -249,6 +249,20 @@ ANSWERS: dict[str, tuple[list[str], list[str]]] = {
 }
 
 
+# Bad lines of version 2 that the page has.
+BAD_LINES = (
+    "version 2",
+    "version 1",
+    "version 02",
+    "repeat 0",
+    "repeat 65536",
+    "repeat 1F",
+    "repeat",
+    "end",
+    "end 3",
+)
+
+
 class Scripts(unittest.TestCase):
     def test_a_text_and_its_bytes_are_one_script(self) -> None:
         text = (
@@ -300,17 +314,7 @@ class Scripts(unittest.TestCase):
             self.assertEqual(
                 fault_of(f"frame\n{line}\n".encode(), parse_text), "F7 BadLine(2)", line
             )
-        for line in (
-            "version 2",
-            "version 1",
-            "version 02",
-            "repeat 0",
-            "repeat 65536",
-            "repeat 1F",
-            "repeat",
-            "end",
-            "end 3",
-        ):
+        for line in BAD_LINES:
             self.assertIn(f"`{line}`", second)
             self.assertEqual(
                 fault_of(f"version 2\n{line}\n".encode(), parse_text), "F7 BadLine(2)", line

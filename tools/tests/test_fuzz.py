@@ -213,6 +213,14 @@ class Fuzzing(Folder):
         self.assertTrue(lines[0].startswith("seed 3: 4 inputs in "))
         self.assertIn("        4 done", lines)
 
+    def test_without_a_name_the_program_is_found(self) -> None:
+        found = mock.patch.object(command, "found_program", return_value=self.program_that())
+        with found, mock.patch.object(Program, "feed", return_value="done"):
+            status, lines, said = self.run_command()
+        self.assertEqual((status, lines[-2], said), (0, "0 with something wrong", ""))
+        none = self.run_command(self.write("none", ""))
+        hold_undone(self, (none[0], "", none[2]), "none: it is no program; ")
+
     def test_one_input(self) -> None:
         made, answers = Counter({TEXT.made: 1}), Counter({"done": 1})
         figures = (

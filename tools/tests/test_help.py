@@ -1,10 +1,15 @@
 """The helps of the tools: what each tells, and how little it takes."""
 
 import argparse
+import contextlib
 import importlib
+import io
 import os
 import re
+import shlex
 import unittest
+from itertools import groupby
+from typing import Iterator
 
 from zaklimot_tools.core.version import version
 from zaklimot_tools.dev.emulators import traces, words as recorded
@@ -19,6 +24,7 @@ from zaklimot_tools.dev.library_tests.compilers import I386, PORTABLE_TARGETS
 from zaklimot_tools.floppy.asked import EMULATORS
 from zaklimot_tools.floppy.running import MACHINES
 
+from .test_pages import pages
 from .tools import MAIN, NAMES, PYTHON, TOOLS, TOP, call, ended, hold_undone, main_of
 
 
@@ -34,6 +40,10 @@ def words_of(name: str) -> str:
     found = MAIN.search((TOOLS / name).read_text("utf-8"))
     assert found is not None, name
     return found[1]
+
+
+# What stands behind the last word of a command that is told.
+EXPLAINED = re.compile(r"([A-Z]{4,}\]?) +[a-z].*")
 
 
 class Words(unittest.TestCase):
@@ -120,3 +130,75 @@ class Words(unittest.TestCase):
         for name in NAMES:
             self.assertEqual(call(main_of(name), "--version"), (0, f"{name} {version()}\n", ""))
             hold_undone(self, call(main_of(name), "--no-such-word"), f"{name}: error: ")
+
+
+class Pages(unittest.TestCase):
+    """The commands of the pages have words that the tools take."""
+
+    def test_each_command_line(self) -> None:
+        count = 0
+        for page in pages():
+            for line in lines_of_code(page.read_text("utf-8")):
+                for name, words in tools_in(line):
+                    count += 1
+                    with self.subTest(page.name, line=line):
+                        self.assertEqual(refusal_of(name, words), "")
+        self.assertGreaterEqual(count, 100)
+
+    def test_words_that_no_tool_takes_are_found(self) -> None:
+        text = (
+            "    cat r | tools/vga-report check r - > made &&\n    tools/vga-trace kinds --all t\n"
+        )
+        found = [refusal_of(*tool) for line in lines_of_code(text) for tool in tools_in(line)]
+        self.assertRegex(found[0], "invalid choice: 'check'")
+        self.assertRegex(found[1], "unrecognized arguments: --all")
+        self.assertEqual(len(found), 2)
+
+
+def lines_of_code(text: str) -> Iterator[str]:
+    """The lines of a page that are indented by four, or stand in fences; those that go on in the
+    next as one."""
+    held: list[str] = []
+    is_fenced = False
+    for line in text.split("\n"):
+        is_fence = line.lstrip().startswith(("```", "~~~"))
+        is_fenced ^= is_fence
+        if is_fence or not (is_fenced or line.startswith("    ")):
+            held = []
+            continue
+        held.append(line.strip().removeprefix("$ ").rstrip("\\"))
+        if not line.endswith(("\\", "|", "&&")):
+            yield " ".join(held)
+            held = []
+
+
+def tools_in(line: str) -> Iterator[tuple[str, list[str]]]:
+    """The tools that a line of the shell runs, with their words."""
+    # Some lines tell behind a command what it does.
+    lexer = shlex.shlex(EXPLAINED.sub(r"\1", line), posix=True, punctuation_chars="|<>&;()")
+    lexer.whitespace_split = True
+    lexer.commenters = ""
+    try:
+        words = list(lexer)
+    except ValueError:
+        # Prose of an example's output.
+        return
+    for is_between, some in groupby(words, lambda word: not {*word} - {*"|&;()"}):
+        command = list(some)
+        name = command[0].rpartition("/")[2]
+        if not is_between and name in NAMES:
+            end = next((at for at, word in enumerate(command) if not {*word} - {*"<>"}), None)
+            yield name, command[1:end]
+
+
+def refusal_of(name: str, words: list[str]) -> str:
+    """What the parser of a tool says of words that it doesn't take; nothing of others."""
+    module = importlib.import_module(words_of(name))
+    made = getattr(module, "parser", None) or getattr(module, "_parser")
+    # What stands behind `--` is for another program.
+    end = words.index("--") if "--" in words else len(words)
+    said = io.StringIO()
+    quiet = contextlib.redirect_stdout(io.StringIO())
+    with quiet, contextlib.redirect_stderr(said), contextlib.suppress(SystemExit):
+        (made(words[end + 1 :]) if words[end:] else made()).parse_args(words[:end])
+    return said.getvalue()

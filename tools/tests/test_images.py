@@ -224,73 +224,76 @@ def shown(
     return png_rows(stream.getvalue())
 
 
+# Pictures, how they are written, and the PNG's width, height and rows.
+DRAWN_FULL, DRAWN_RED, DRAWN_DARK = b"\xff\xff\xff", b"\xff\0\0", b"\x55\0\0"
+DRAWN_FOUR, DRAWN_WIDE, DRAWN_HIGH = (
+    Picture.of_dots(*given)
+    for given in (
+        (2, 2, RED + BLACK + BLACK + WHITE),
+        (2, 1, BLACK * 2),
+        (1, 2, BLACK * 2),
+    )
+)
+DRAWN_PICTURE = Picture.of_dots(3, 2, WHITE + BLACK + GREY + RED + RED + RED)
+DRAWN_OTHER = Picture.of_dots(3, 2, WHITE + RED + GREY + RED + RED + BLACK)
+# Stretching to the shape of a monitor loses no row and no column.
+DRAWN_ROWS = [bytes([y, 0, 0]) * 16 for y in range(9)]
+DRAWN_ROW = bytes(value for x in range(6) for value in (x, 0, 0))
+STRETCHED = (
+    # Six bits become eight.
+    (
+        Picture.of_dots(4, 1, bytes(range(10)) + b"\x3f\x20"),
+        Shape(),
+        None,
+        (4, 1, [bytes(4 * value for value in range(10)) + b"\xff\x82"]),
+    ),
+    (
+        DRAWN_FOUR,
+        Shape(scale=3),
+        None,
+        (6, 6, [DRAWN_RED * 3 + BLACK * 3] * 3 + [BLACK * 3 + DRAWN_FULL * 3] * 3),
+    ),
+    (
+        Picture.of_dots(16, 9, b"".join(DRAWN_ROWS)),
+        Shape(is_monitor=True),
+        None,
+        (
+            16,
+            12,
+            [bytes([4 * y, 0, 0]) * 16 for y in (0, 0, 1, 2, 3, 3, 4, 5, 6, 6, 7, 8)],
+        ),
+    ),
+    (
+        Picture.of_dots(6, 6, DRAWN_ROW * 6),
+        Shape(is_monitor=True),
+        None,
+        (
+            8,
+            6,
+            [bytes(value for x in (0, 0, 1, 2, 3, 3, 4, 5) for value in (4 * x, 0, 0))] * 6,
+        ),
+    ),
+    # Dots that differ are marked, also those that one picture lacks, and others are
+    # darkened.
+    (
+        DRAWN_PICTURE,
+        Shape(),
+        DRAWN_OTHER,
+        (3, 2, [b"\x55\x55\x55" + MARK + b"\x1c\x1c\x1c", DRAWN_DARK + DRAWN_DARK + MARK]),
+    ),
+    *(
+        (*pair, (2, 2, [BLACK + MARK, MARK * 2]))
+        for pair in ((DRAWN_WIDE, Shape(), DRAWN_HIGH), (DRAWN_HIGH, Shape(), DRAWN_WIDE))
+    ),
+)
+
+
 class Images(unittest.TestCase):
     def test_dots_that_are_repeated_stretched_and_marked(self) -> None:
-        full, red, dark = b"\xff\xff\xff", b"\xff\0\0", b"\x55\0\0"
-        four, wide, high = (
-            Picture.of_dots(*given)
-            for given in (
-                (2, 2, RED + BLACK + BLACK + WHITE),
-                (2, 1, BLACK * 2),
-                (1, 2, BLACK * 2),
-            )
-        )
-        picture = Picture.of_dots(3, 2, WHITE + BLACK + GREY + RED + RED + RED)
-        other = Picture.of_dots(3, 2, WHITE + RED + GREY + RED + RED + BLACK)
-        # Stretching to the shape of a monitor loses no row and no column.
-        rows = [bytes([y, 0, 0]) * 16 for y in range(9)]
-        row = bytes(value for x in range(6) for value in (x, 0, 0))
         hold(
             self,
             shown,
-            (
-                # Six bits become eight.
-                (
-                    Picture.of_dots(4, 1, bytes(range(10)) + b"\x3f\x20"),
-                    Shape(),
-                    None,
-                    (4, 1, [bytes(4 * value for value in range(10)) + b"\xff\x82"]),
-                ),
-                (
-                    four,
-                    Shape(scale=3),
-                    None,
-                    (6, 6, [red * 3 + BLACK * 3] * 3 + [BLACK * 3 + full * 3] * 3),
-                ),
-                (
-                    Picture.of_dots(16, 9, b"".join(rows)),
-                    Shape(is_monitor=True),
-                    None,
-                    (
-                        16,
-                        12,
-                        [bytes([4 * y, 0, 0]) * 16 for y in (0, 0, 1, 2, 3, 3, 4, 5, 6, 6, 7, 8)],
-                    ),
-                ),
-                (
-                    Picture.of_dots(6, 6, row * 6),
-                    Shape(is_monitor=True),
-                    None,
-                    (
-                        8,
-                        6,
-                        [bytes(value for x in (0, 0, 1, 2, 3, 3, 4, 5) for value in (4 * x, 0, 0))]
-                        * 6,
-                    ),
-                ),
-                # Dots that differ are marked, also those that one picture lacks, and others are
-                # darkened.
-                (
-                    picture,
-                    Shape(),
-                    other,
-                    (3, 2, [b"\x55\x55\x55" + MARK + b"\x1c\x1c\x1c", dark + dark + MARK]),
-                ),
-                *(
-                    (*pair, (2, 2, [BLACK + MARK, MARK * 2]))
-                    for pair in ((wide, Shape(), high), (high, Shape(), wide))
-                ),
-            ),
+            STRETCHED,
         )
 
     def test_the_shape_of_a_monitor(self) -> None:

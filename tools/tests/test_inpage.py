@@ -43,6 +43,18 @@ PROGRAM = bytes.fromhex(
 ENDING = bytes.fromhex("B402B241CD21 B8004CCD21")
 
 
+# The files that a recording of two screens leaves.
+RECORDED = [
+    "picture-1.png",
+    "picture-2.png",
+    "report.txt",
+    "screen-1.ppm",
+    "screen-2.ppm",
+    "script.bin",
+    "trace.gz",
+]
+
+
 @unittest.skipUnless(HAS_NODE, "node is not here")
 class Recorded(Folder):
     def setUp(self) -> None:
@@ -77,18 +89,9 @@ class Recorded(Folder):
         size = "640x400, eight bits a component, of which six count"
         told = [line.partition(": ")[2] for line in lines if line.startswith("screen")]
         self.assertEqual(told, [f"equal, {size}"] * 2)
-        names = [
-            "picture-1.png",
-            "picture-2.png",
-            "report.txt",
-            "screen-1.ppm",
-            "screen-2.ppm",
-            "script.bin",
-            "trace.gz",
-        ]
         for folder in (self.folder / "one", self.folder / "two"):
-            self.assertEqual(sorted(path.name for path in folder.iterdir()), names)
-        for name in names:
+            self.assertEqual(sorted(path.name for path in folder.iterdir()), RECORDED)
+        for name in RECORDED:
             one, other = ((self.folder / into / name).read_bytes() for into in ("one", "two"))
             self.assertEqual(one, other, name)
         trace = self.trace("one")
@@ -96,8 +99,13 @@ class Recorded(Folder):
             re.findall(r"^\d+\+\d+ w m A0000 (..) 1$", trace, re.M), ["61", "42", "20"]
         )
         self.assertEqual(len(re.findall(r"^\d+\+\d+ frame$", trace, re.M)), 2)
-        # The command reads its own trace, and the beam is where it was.
-        script, report = self.folder / "script", self.folder / "one" / "report.txt"
+        self.assert_reads_its_own_trace(trace)
+        self.assert_differs_by_the_beam(file, *options)
+
+    def assert_reads_its_own_trace(self, trace: str) -> None:
+        """That the command reads its own trace, and the beam is where it was."""
+        script = self.folder / "script"
+        report = self.folder / "one" / "report.txt"
         self.assertEqual(
             run(
                 "convert", self.folder / "one" / "trace.gz", script, "--time", "--frames", "screens"
@@ -117,25 +125,18 @@ class Recorded(Folder):
         bad = self.write("bad.gz", gzip.compress(moved.encode()))
         output = run("check", bad, report, "--time", "--frames", "screens")[1].decode()
         self.assertIn("differ          1 in port 3DA (first at step", output)
-        # So does the recording itself, of a program that answers otherwise by the beam alone.
-        answers = report.read_bytes()
+
+    def assert_differs_by_the_beam(self, file: str, *options: str) -> None:
+        """That a recording tells of a program that answers otherwise by the beam alone."""
+        answers = (self.folder / "one" / "report.txt").read_bytes()
         places = [found.start(1) for found in re.finditer(rb"^\d+ (0[0-9A-F])$", answers, re.M)]
         other = bytearray(answers)
         other[places[-1] + 1] ^= 1
         program = self.writing(self.write("other", bytes(other)))
         status, lines, _ = self.record(file, *options, "--vga", program, into="three")
-        self.assertEqual(
-            (status, [line for line in lines if " differ " in line and "port" in line]),
-            (
-                1,
-                [
-                    line
-                    for line in lines
-                    if line.startswith("  differ          1 in port 3DA (first at step")
-                ],
-            ),
-        )
-        self.assertEqual(sum("1 in port 3DA" in line for line in lines), 1)
+        differing = [line for line in lines if " differ " in line and "port" in line]
+        self.assertEqual((status, len(differing)), (1, 1))
+        self.assertTrue(differing[0].startswith("  differ          1 in port 3DA (first at step"))
 
     def test_what_ends_by_itself_has_a_screen_too(self) -> None:
         status, lines, said = self.record(self.write("a.com", ENDING))

@@ -709,8 +709,11 @@ class OtherProcessors(Folder):
         # Both the crate's archive and the memory's functions are joined.
         self.assertEqual([Path(word).name for word in calls[3][-2:]], ["crates.a", "memory.a"])
         self.assertIn(str(HEAP), calls[2])
-        # What was made is installed without the toolchain, but not where the memory's functions are
-        # others.
+        self.assert_installed_without_the_toolchain()
+
+    def assert_installed_without_the_toolchain(self) -> None:
+        """That what was made is installed without it, but not where the memory's functions are
+        others."""
         self.notes.unlink()
         words = [
             "install",
@@ -1064,7 +1067,7 @@ class Finding(unittest.TestCase):
             "tools/vga-library install",
             "PKG_CONFIG_PATH",
         )
-        folder = self.crate()
+        self.crate()
         packages = {"PKG_CONFIG_PATH": f"{empty}/lib/pkgconfig"}
         for names, begins in (
             ({**packages, "ZAKLIMOT_PORTABLE": "0"}, "there is no library libzaklimot.\n"),
@@ -1093,6 +1096,9 @@ class Finding(unittest.TestCase):
                 kit, compiler = "tools/vga-library make kit", "Debian's packages gcc and libc6-dev"
                 for way in (*ways, kit, "set ZAKLIMOT_DIR", compiler):
                     self.assertIn(way, said)
+
+    def test_without_the_c_file_nothing_is_compiled(self) -> None:
+        folder = self.crate()
         (folder / "zaklimot.c").unlink()
         status, _, said = self.built(ZAKLIMOT_PORTABLE="1")
         told = f"there is no library libzaklimot, and no {folder}/zaklimot.c to compile.\n"

@@ -54,7 +54,7 @@ class Trying(unittest.TestCase):
 
     def test_the_main_of_the_program_grows_first(self) -> None:
         source = (CRATES / "vga" / "src" / "main.rt").read_text()
-        main = "    ExitCode::from(status_of_job(&rt))\n"
+        main = "    ExitCode::from(do_job_with_status(&rt))\n"
         changed = growing(source)
         self.assertIn("    let _ = grow(&rt);\n" + main, changed)
         self.assertTrue(changed.startswith(source[: source.index("    ExitCode::from(")]))

@@ -172,46 +172,68 @@ def of_pixels() -> Iterator[Case]:
     yield Case(png(320, 200, (b"\0" + row) * 200), "--mode 13", ", 85 colours; ", shown(dots, "13"))
 
 
+# Modes, words, the dots of an image, what is told, and the rows that are shown.
+OF_SIZES_FEW = [[(at // 60, 0, 0) for at in range(960)]] * 2
+OF_SIZES_BAR = (32, 0, 63)
+OTHER_SIZES = (
+    (
+        "0D",
+        "--scale",
+        [[RED, BLUE]],
+        "2x1 stretched to 320x200, 2",
+        [[RED] * 160 + [BLUE] * 160] * 200,
+    ),
+    # A dot is the one under its middle.
+    (
+        "13",
+        "--scale",
+        OF_SIZES_FEW,
+        "960x2 stretched to 320x200, 16",
+        [OF_SIZES_FEW[0][1::3]] * 200,
+    ),
+    (
+        "13",
+        "--fit",
+        [[RED, BLUE] * 4] * 3,
+        "8x3 stretched to 320x100, with bars of 000000 to 320x200, 3",
+        [[BLACK] * 320] * 50 + [[*[RED] * 40, *[BLUE] * 40] * 4] * 100 + [[BLACK] * 320] * 50,
+    ),
+    (
+        "13",
+        "--fit",
+        [[RED, RED, BLUE]] * 2,
+        "3x2 stretched to 320x177, with bars of 000000 to 320x200, 3",
+        [[BLACK] * 320] * 11 + [[RED] * 213 + [BLUE] * 107] * 177 + [[BLACK] * 320] * 12,
+    ),
+    # Of an odd number of columns beside it, one more is on the right.
+    (
+        "13",
+        "--fit",
+        [[RED] * 3] * 16,
+        "3x16 stretched to 45x200, with bars of 000000 to 320x200, 2",
+        [[BLACK] * 137 + [RED] * 45 + [BLACK] * 138] * 200,
+    ),
+    (
+        "13",
+        "--fit --bars #8000fF",
+        [[RED], [BLUE]],
+        "1x2 stretched to 120x200, with bars of 8000FF to 320x200, 3",
+        [
+            [OF_SIZES_BAR] * 100 + [dot] * 120 + [OF_SIZES_BAR] * 100
+            for dot in (RED, BLUE)
+            for _ in range(100)
+        ],
+    ),
+)
+
+
 def of_other_sizes() -> Iterator[Case]:
     """Images that are stretched, or get bars.
 
     A screen is four wide and three high: eight by three take half its height, one by one three
     quarters of its width.
     """
-    few = [[(at // 60, 0, 0) for at in range(960)]] * 2
-    bar = (32, 0, 63)
-    for mode, words, dots, told, rows in (
-        (
-            "0D",
-            "--scale",
-            [[RED, BLUE]],
-            "2x1 stretched to 320x200, 2",
-            [[RED] * 160 + [BLUE] * 160] * 200,
-        ),
-        # A dot is the one under its middle.
-        ("13", "--scale", few, "960x2 stretched to 320x200, 16", [few[0][1::3]] * 200),
-        (
-            "13",
-            "--fit",
-            [[RED, BLUE] * 4] * 3,
-            "8x3 stretched to 320x100, with bars of 000000 to 320x200, 3",
-            [[BLACK] * 320] * 50 + [[*[RED] * 40, *[BLUE] * 40] * 4] * 100 + [[BLACK] * 320] * 50,
-        ),
-        (
-            "13",
-            "--fit",
-            [[RED, RED, BLUE]] * 2,
-            "3x2 stretched to 320x177, with bars of 000000 to 320x200, 3",
-            [[BLACK] * 320] * 11 + [[RED] * 213 + [BLUE] * 107] * 177 + [[BLACK] * 320] * 12,
-        ),
-        (
-            "13",
-            "--fit --bars #8000fF",
-            [[RED], [BLUE]],
-            "1x2 stretched to 120x200, with bars of 8000FF to 320x200, 3",
-            [[bar] * 100 + [dot] * 120 + [bar] * 100 for dot in (RED, BLUE) for _ in range(100)],
-        ),
-    ):
+    for mode, words, dots, told, rows in OTHER_SIZES:
         for image in (png_of(dots), ppm_of(dots)):
             yield Case(
                 image, f"--mode {mode} {words}", f"mode {mode}: {told} colours; ", shown(rows, mode)
@@ -244,6 +266,15 @@ def of_text() -> Iterator[Case]:
                 f", {told} glyphs of its own; ",
                 image,
             )
+    yield from of_own_glyphs()
+    # Two dots of other colours in a cell.
+    dots = text_dots()
+    dots[0][:2] = list(dict.fromkeys(colour for colour in dots[5] if colour != dots[0][0]))[:2]
+    yield Case(png_of(dots), "--mode 3", "^mode 3: 720x400, 16 colours, 1,999 of 2,000 cells fit; ")
+
+
+def of_own_glyphs() -> Iterator[Case]:
+    """Text whose cells the font's glyphs don't fit."""
     # Red, nearly red and blue in each line: two colours show it, and the background has that of the
     # ninth dot.
     line = [
@@ -257,7 +288,8 @@ def of_text() -> Iterator[Case]:
         (60, 0, 0),
         (0, 0, 60),
     ]
-    image, line[3] = ppm_of([line * 80] * 400), (60, 0, 0)
+    image = ppm_of([line * 80] * 400)
+    line[3] = (60, 0, 0)
     told = " 3 colours, 0 of 2,000 cells fit, 1 glyphs of its own; "
     yield Case(image, "--mode 3 --own-glyphs", told, ppm_of([line * 80] * 400))
     # In C0 to DF the ninth dot is the eighth, so these characters keep their glyphs, and so does
@@ -273,10 +305,6 @@ def of_text() -> Iterator[Case]:
         "--mode 3 --own-glyphs",
         " 2 colours, 1,983 of 2,000 cells fit, 223 glyphs of its own; ",
     )
-    # Two dots of other colours in a cell.
-    dots = text_dots()
-    dots[0][:2] = list(dict.fromkeys(colour for colour in dots[5] if colour != dots[0][0]))[:2]
-    yield Case(png_of(dots), "--mode 3", "^mode 3: 720x400, 16 colours, 1,999 of 2,000 cells fit; ")
 
 
 def of_many_colours() -> Iterator[Case]:

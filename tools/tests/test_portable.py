@@ -18,7 +18,7 @@ from unittest import mock
 from zaklimot.format import FORMS
 from zaklimot.format.table import END_CODE, REPEAT_CODE
 from zaklimot_tools.core.trouble import Trouble
-from zaklimot_tools.dev.testing.discovering import BUILT
+from zaklimot_tools.dev.testing.running import BUILT
 from zaklimot_tools.script import portable, program
 from zaklimot_tools.script.portable import portable_program
 from zaklimot_tools.script.program import found_program

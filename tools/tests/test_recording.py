@@ -90,6 +90,89 @@ LINES = qemu("write 3c2 67 1") + qemu("write 70 f 1", "rtc")
 PROGRAM = TOP / "tools" / "vga-emulators"
 
 
+def picture_of(rows: str) -> Picture:
+    """A picture of two dots a row. A letter is a row's colour, and blanks don't count."""
+    letters = rows.replace(" ", "")
+    return Picture.of_dots(
+        2, len(letters), b"".join(bytes([ord(letter) - ord("a")]) * 6 for letter in letters)
+    )
+
+
+# Steps of a trace, its lines, the picture here, the screen there, and what is told of both.
+HELD_SPLIT = b"".join(
+    qemu(f"write {cycle} 2") for cycle in ("3ce 106", "3d4 107", "3d4 109", "3d4 218")
+)
+HELD_VBE = qemu("write 1ce 4 2", "vbe") + qemu("write 1cf 41 2", "vbe")
+HELD_CHAINED = qemu("write 3c4 f02 2") + qemu("write 3c4 e04 2")
+HELD_MEMORY = qemu("write a0000 1 1", "vga-chain4")
+HELD_ROWS, HELD_WHOLE = (
+    qemu("write 3d4 209 2") + qemu("write 3c0 20 1"),
+    RED * 3 + WHITE * 3 + RED * 3,
+)
+HELD_BLACK, HELD_SMALL, HELD_FOUR = (
+    ppm(3, 2, BLACK * 6),
+    ppm(5, 1, RED * 5),
+    ppm(3, 4, HELD_WHOLE + BLACK * 3),
+)
+HELD_KNOWN_OF_QEMU = "  {} what is known of qemu: {}; docs/EMULATORS.md tells of it".format
+HELD_USUAL, HELD_LINE = (
+    HELD_KNOWN_OF_QEMU("may be", f"{front}underline") for front in ("palette address source, ", "")
+)
+HELD_LAST = HELD_KNOWN_OF_QEMU("is", "last row of text that isn't whole")
+HELD_ALL_DOTS, HELD_LACKS = (
+    "6 of 6 dots differ, in columns 0 to 2 and rows 0 to 1",
+    "it lacks the last 1 of 4 lines; ",
+)
+HELD_SIZE = "another size: they have {} dots, and neither is the other with dots repeated".format
+HELD_ROWS_OF_SCREENS: tuple[tuple[Any, ...], ...] = (
+    (
+        1,
+        b"",
+        ppm(3, 2, RED * 3 + WHITE + BLACK * 2),
+        PICTURE,
+        "2 of 6 dots differ, in columns 1 to 2 and rows 1 to 1",
+        HELD_USUAL,
+    ),
+    (
+        5,
+        HELD_SPLIT,
+        picture_of("aab aabbc").ppm,
+        picture_of("aab abbcc").ppm,
+        "4 of 16 dots differ, in columns 0 to 1 and rows 4 to 6",
+        HELD_KNOWN_OF_QEMU("is", "split within a row"),
+    ),
+    (1, HELD_VBE, HELD_BLACK, PICTURE, HELD_ALL_DOTS, "  VBE is on: what qemu shows is no VGA's"),
+    (
+        3,
+        HELD_CHAINED,
+        HELD_BLACK,
+        PICTURE,
+        HELD_ALL_DOTS,
+        "  chain 4 is on, and no memory was recorded since: --chain-4 does so",
+    ),
+    (4, HELD_CHAINED + HELD_MEMORY, HELD_BLACK, PICTURE, HELD_ALL_DOTS, HELD_USUAL),
+    (1, b"", HELD_SMALL, PICTURE, HELD_SIZE("5x1 and 7x5"), HELD_USUAL),
+    (3, HELD_ROWS, HELD_FOUR, HELD_SMALL, HELD_SIZE("3x4 and 7x5"), HELD_LINE),
+    (
+        3,
+        HELD_ROWS,
+        HELD_FOUR,
+        ppm(3, 3, HELD_WHOLE),
+        HELD_LACKS + "the others are equal, 3x3, six bits a component",
+        HELD_LAST,
+    ),
+    (
+        3,
+        HELD_ROWS,
+        HELD_FOUR,
+        ppm(3, 3, HELD_WHOLE[:-3] + WHITE),
+        HELD_LACKS + "1 of 9 dots differ, in columns 2 to 2 and rows 2 to 2",
+        HELD_LAST,
+        HELD_LINE,
+    ),
+)
+
+
 class Recorded(Folder):
     """Recordings of a fake of qemu, replayed by a fake of the program."""
 
@@ -156,82 +239,13 @@ class Recorded(Folder):
         self.assertEqual(self.asked(), ["qmp_capabilities", "screen", "quit"])
 
     def test_screens_that_differ_are_told_with_what_is_known(self) -> None:
-        split = b"".join(
-            qemu(f"write {cycle} 2") for cycle in ("3ce 106", "3d4 107", "3d4 109", "3d4 218")
-        )
-        vbe = qemu("write 1ce 4 2", "vbe") + qemu("write 1cf 41 2", "vbe")
-        chained = qemu("write 3c4 f02 2") + qemu("write 3c4 e04 2")
-        memory = qemu("write a0000 1 1", "vga-chain4")
-        rows, whole = (
-            qemu("write 3d4 209 2") + qemu("write 3c0 20 1"),
-            RED * 3 + WHITE * 3 + RED * 3,
-        )
-        black, small, four = ppm(3, 2, BLACK * 6), ppm(5, 1, RED * 5), ppm(3, 4, whole + BLACK * 3)
-        known_of_qemu = "  {} what is known of qemu: {}; docs/EMULATORS.md tells of it".format
-        usual, line = (
-            known_of_qemu("may be", f"{front}underline")
-            for front in ("palette address source, ", "")
-        )
-        last = known_of_qemu("is", "last row of text that isn't whole")
-        all_dots, lacks = (
-            "6 of 6 dots differ, in columns 0 to 2 and rows 0 to 1",
-            "it lacks the last 1 of 4 lines; ",
-        )
-        size = "another size: they have {} dots, and neither is the other with dots repeated".format
-        rows_of_screens: tuple[tuple[Any, ...], ...] = (
-            (
-                1,
-                b"",
-                ppm(3, 2, RED * 3 + WHITE + BLACK * 2),
-                PICTURE,
-                "2 of 6 dots differ, in columns 1 to 2 and rows 1 to 1",
-                usual,
-            ),
-            (
-                5,
-                split,
-                picture_of("aab aabbc").ppm,
-                picture_of("aab abbcc").ppm,
-                "4 of 16 dots differ, in columns 0 to 1 and rows 4 to 6",
-                known_of_qemu("is", "split within a row"),
-            ),
-            (1, vbe, black, PICTURE, all_dots, "  VBE is on: what qemu shows is no VGA's"),
-            (
-                3,
-                chained,
-                black,
-                PICTURE,
-                all_dots,
-                "  chain 4 is on, and no memory was recorded since: --chain-4 does so",
-            ),
-            (4, chained + memory, black, PICTURE, all_dots, usual),
-            (1, b"", small, PICTURE, size("5x1 and 7x5"), usual),
-            (3, rows, four, small, size("3x4 and 7x5"), line),
-            (
-                3,
-                rows,
-                four,
-                ppm(3, 3, whole),
-                lacks + "the others are equal, 3x3, six bits a component",
-                last,
-            ),
-            (
-                3,
-                rows,
-                four,
-                ppm(3, 3, whole[:-3] + WHITE),
-                lacks + "1 of 9 dots differ, in columns 2 to 2 and rows 2 to 2",
-                last,
-                line,
-            ),
-        )
-        for count, lines, picture, screen, *told in rows_of_screens:
+        for count, lines, picture, screen, *told in HELD_ROWS_OF_SCREENS:
             with self.subTest(told):
                 status, shown, said = self.record(
                     lines=lines, screen=screen, picture=picture, steps=(count,)
                 )
                 self.assertEqual((status, [shown[2].partition(": ")[2], *shown[3:]]), (1, told))
-                self.assertEqual("cycle 3 turns VBE on" in said, lines == vbe)
+                self.assertEqual("cycle 3 turns VBE on" in said, lines == HELD_VBE)
                 self.assertEqual((self.into / "differing-1.png").exists(), "dots differ" in told[0])
         self.assertEqual(png_rows((self.into / "differing-1.png").read_bytes())[:2], (3, 3))
 
@@ -456,14 +470,6 @@ def names(state: State, picture: Picture, image: Picture) -> dict[str, list[str]
     return Screen(state, picture, image_of(image.ppm, "image")).names
 
 
-def picture_of(rows: str) -> Picture:
-    """A picture of two dots a row. A letter is a row's colour, and blanks don't count."""
-    letters = rows.replace(" ", "")
-    return Picture.of_dots(
-        2, len(letters), b"".join(bytes([ord(letter) - ord("a")]) * 6 for letter in letters)
-    )
-
-
 class RealTime(Folder):
     # Dots of a frame, and its microseconds.
     DOTS, FRAME = 900 * 449, 900 * 449 / 28.322
@@ -568,7 +574,7 @@ class Traces(unittest.TestCase):
         replayed = Replay(written, listing, Path(), (), checked, screens={0: verdict})
         front = "| name | 1,000 | 11 | 30 | 46 | 7 | 0 | 0 |"
         for dots, picture in ((0, "the same"), (8, "8 dots differ"), (None, "another size")):
-            verdict.held.count = dots
+            verdict.held.differing = dots
             self.assertEqual(row_of("name", replayed, 0, 8), (f"{front} {picture} |", dots == 8))
 
     def test_the_command_tells_its_software(self) -> None:

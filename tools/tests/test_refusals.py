@@ -120,80 +120,80 @@ class Mistakes(unittest.TestCase):
         )
 
 
+# Faults, the file that is named, the reason, and the script and the font file.
+TOLD_LENGTH, TOLD_MOST = "bytes, and 9,728 are right", "16,777,216 bytes are the most"
+FAULTS_TOLD = (
+    *(("F7 BadLine(1)", "s:1", reason, text) for text, reason in TEXTS),
+    (
+        "F7 BadLine(1)",
+        "s:1",
+        "this is not a script, but a font file",
+        (TOP / "fonts" / "zaklimot.fnt").read_bytes(),
+    ),
+    # A mark stands below a line.
+    (
+        "F7 BadLine(2)",
+        "s:2",
+        ("numbers are hexadecimal digits alone: write 3C4\n  out 0x3C4 02\n     " " ^^^^^"),
+        b"frame\nout 0x3C4 02\n",
+    ),
+    *(
+        (
+            f"F7 BadLine({row['number']})",
+            f"s:{row['number']}",
+            f"{row['reason']}\n  {row['text'].splitlines()[row['number'] - 1]}",
+            row["text"].encode(),
+        )
+        for row in TABLE["blocks"]
+    ),
+    *((row["fault"], "s", row["reason"], bytes.fromhex(row["hex"])) for row in TABLE["scripts"]),
+    # What is not known.
+    ("F7 BadLine(1)", "s:1", "refused, and I can't say why\n  frame", b"frame\n"),
+    ("F14 Strange(3)", "s", "refused, and I can't say why", b""),
+    # Fonts of another length.
+    ("F1 FontSize", "f", f"the font file has 3 {TOLD_LENGTH}", b"", b"123"),
+    (
+        "F1 FontSize",
+        "f",
+        f"the font file has 5 {TOLD_LENGTH}; it is a script of bytes",
+        b"",
+        b"VGAS\x01",
+    ),
+    *(
+        (
+            "F1 FontSize",
+            "f",
+            f"the font file has {256 * rows:,} {TOLD_LENGTH}; a font of {rows} rows alone has so"
+            " many, and a font file has those of 8, 14 and 16 rows",
+            b"",
+            bytes(256 * rows),
+        )
+        for rows in (8, 14, 16)
+    ),
+    ("F1 FontSize", "f", f"the font file has 2,304 {TOLD_LENGTH}", b"", bytes(2304)),
+    # What is too long.
+    ("F6 TooLong", "s", f"the file has more bytes, and {TOLD_MOST}", bytes(16_777_217)),
+    (
+        "F6 TooLong",
+        "s",
+        f"the steps of the text have more bytes, and {TOLD_MOST}",
+        b"int\n",
+    ),
+)
+
+
 class Faults(Folder):
     def told(self, fault: str, data: bytes, fonts: bytes = bytes(9728)) -> str:
         """What is told of a fault of these files."""
         return explained("vga: " + fault, self.write("s", data), self.write("f", fonts))
 
     def test_what_is_told(self) -> None:
-        length, most = "bytes, and 9,728 are right", "16,777,216 bytes are the most"
         hold(
             self,
             self.told,
             (
                 (fault, *files, f"{self.folder / name}: {fault}: {reason}")
-                for fault, name, reason, *files in (
-                    *(("F7 BadLine(1)", "s:1", reason, text) for text, reason in TEXTS),
-                    (
-                        "F7 BadLine(1)",
-                        "s:1",
-                        "this is not a script, but a font file",
-                        (TOP / "fonts" / "zaklimot.fnt").read_bytes(),
-                    ),
-                    # A mark stands below a line.
-                    (
-                        "F7 BadLine(2)",
-                        "s:2",
-                        (
-                            "numbers are hexadecimal digits alone: write 3C4\n  out 0x3C4 02\n     "
-                            " ^^^^^"
-                        ),
-                        b"frame\nout 0x3C4 02\n",
-                    ),
-                    *(
-                        (
-                            f"F7 BadLine({row['number']})",
-                            f"s:{row['number']}",
-                            f"{row['reason']}\n  {row['text'].splitlines()[row['number'] - 1]}",
-                            row["text"].encode(),
-                        )
-                        for row in TABLE["blocks"]
-                    ),
-                    *(
-                        (row["fault"], "s", row["reason"], bytes.fromhex(row["hex"]))
-                        for row in TABLE["scripts"]
-                    ),
-                    # What is not known.
-                    ("F7 BadLine(1)", "s:1", "refused, and I can't say why\n  frame", b"frame\n"),
-                    ("F14 Strange(3)", "s", "refused, and I can't say why", b""),
-                    # Fonts of another length.
-                    ("F1 FontSize", "f", f"the font file has 3 {length}", b"", b"123"),
-                    (
-                        "F1 FontSize",
-                        "f",
-                        f"the font file has 5 {length}; it is a script of bytes",
-                        b"",
-                        b"VGAS\x01",
-                    ),
-                    (
-                        "F1 FontSize",
-                        "f",
-                        (
-                            f"the font file has 4,096 {length}; a font of 16 rows alone has so"
-                            " many, and a font file has those of 8, 14 and 16 rows"
-                        ),
-                        b"",
-                        bytes(4096),
-                    ),
-                    # What is too long.
-                    ("F6 TooLong", "s", f"the file has more bytes, and {most}", bytes(16_777_217)),
-                    (
-                        "F6 TooLong",
-                        "s",
-                        f"the steps of the text have more bytes, and {most}",
-                        b"int\n",
-                    ),
-                )
+                for fault, name, reason, *files in FAULTS_TOLD
             ),
         )
 

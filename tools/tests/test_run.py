@@ -22,7 +22,7 @@ from xml.etree import ElementTree
 
 from zaklimot.format import Answer, count_in, lines_in, places_in, steps_in, words_in
 from zaklimot_tools.core.progress import Progress
-from zaklimot_tools.report.expecting import dumps_in, expected_in
+from zaklimot_tools.report.expecting import dumps_in, expected_in, is_as_expected
 from zaklimot_tools.report.listing import Blessing, Row, chosen
 from zaklimot_tools.report.words import parser
 from zaklimot_tools.script import program
@@ -235,6 +235,26 @@ class Fake(Folder):
 
 @unittest.skipIf(sys.platform == "win32", "a script is a program on POSIX")
 class Listings(Fake):
+    def test_a_stopped_run_without_all_its_dumps(self) -> None:
+        program = self.vga.read_text()
+        self.vga.write_text(program.replace("for at in (1, 2, 3, 4)", "for at in (1, 2, 3)"))
+        status, _, said = self.run_script("--until", "2")
+        told = f"vga-report: {self.path}: the report ends after 5 of 6 steps\n"
+        self.assertEqual((status, said), (2, told))
+
+    def test_the_front_of_an_answer(self) -> None:
+        answer = Answer(1, 1, "5F")
+        rows = (("5...", True), ("5F...", True), ("...", True), ("6...", False), ("5E...", False))
+        for expected, is_met in rows:
+            self.assertEqual(is_as_expected(answer, expected, "in 3CC"), is_met, expected)
+
+    def test_steps_of_bytes_of_which_some_are_printed(self) -> None:
+        self.begin_program("if sys.argv[1] == 'dis': print('IN 3CC'); sys.exit(1)\n")
+        path = self.write("s.bin", b"VGAS\x01\nin\nin\n")
+        status, output, said = self.run_script(path=path)
+        self.assertEqual((status, len(output.splitlines())), (2, 4))
+        self.assertIn("s.bin: the program prints none of its steps, so there is no telling", said)
+
     def test_lines_steps_and_answers_in_columns(self) -> None:
         digest = "picture 9x1 " + "cc3cef99328e895f73a6088030faaab2"
         self.assertEqual(

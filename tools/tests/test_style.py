@@ -2,18 +2,59 @@
 
 from __future__ import annotations
 
+import ast
 import os
 import re
 import subprocess
+import unittest
+from collections import Counter
 from pathlib import Path
+from typing import Any, Iterator, Sequence, Union
 from unittest import mock
 
 from zaklimot_tools.dev.testing import style
 
-from .tools import TOP, Folder, call, hold_undone, main_of
+from .tools import TOOLS, TOP, Folder, call, hold_undone, main_of
 
 
+# A file or folder whose types are checked.
+FILES = r'^    "\$MYPY_CONFIG_FILE_DIR/(?:\.\./)?([\w.]+)",$'
+# How the judge of types in the package for Python is called.
+TYPES = "mypy of bindings/python"
+# So many lines has a function at most.
+MOST_LINES = 40
+Named = Union[ast.FunctionDef, ast.ClassDef]
 NOTING = 'printf "%s\\n" "${0##*/}" "$@" >> "$NOTES"\n'
+
+
+def public(node: Union[ast.Module, ast.ClassDef], known: frozenset[str]) -> Iterator[Named]:
+    """The functions and classes of a module or a class that others may name.
+
+    It leaves out those whose meaning stands elsewhere: overloads, setters, what a base class of the
+    module has, and structs of C.
+    """
+    for inner in node.body:
+        if not isinstance(inner, (ast.FunctionDef, ast.ClassDef)) or inner.name.startswith("_"):
+            continue
+        words = [ast.unparse(one).rpartition(".")[2] for one in inner.decorator_list]
+        if isinstance(inner, ast.ClassDef):
+            bases = list(map(ast.unparse, inner.bases))
+            if "Structure" not in bases:
+                yield inner
+                yield from public(inner, known if bases else frozenset())
+        elif not {"overload", "setter"} & {*words} and inner.name not in known:
+            yield inner
+
+
+def methods(module: ast.Module) -> frozenset[str]:
+    """The methods of a module's classes that have no base class, with docstrings."""
+    return frozenset(
+        inner.name
+        for node in module.body
+        if isinstance(node, ast.ClassDef) and not node.bases
+        for inner in node.body
+        if isinstance(inner, ast.FunctionDef) and ast.get_docstring(inner)
+    )
 
 
 class Style(Folder):
@@ -29,7 +70,9 @@ class Style(Folder):
 
     def test_each_judge_reads_all_python(self) -> None:
         done = self.judged(black="exit 0", flake8="exit 0", mypy="exit 0")
-        self.assertEqual(done, (0, "passed  black\npassed  flake8\npassed  mypy\n", ""))
+        self.assertEqual(
+            done, (0, f"passed  black\npassed  flake8\npassed  mypy\npassed  {TYPES}\n", "")
+        )
         noted = (self.folder / "notes").read_text().split("\n")
         black, flake8 = noted.index("black"), noted.index("flake8")
         self.assertIn("--check", noted[black:flake8])
@@ -40,7 +83,9 @@ class Style(Folder):
     def test_what_one_finds_is_told_and_the_others_judge_too(self) -> None:
         status, told, _ = self.judged(black="exit 0", flake8="echo a.py:1; exit 1", mypy="exit 2")
         self.assertEqual(status, 1)
-        found = "passed  black\nfailed  flake8\na.py:1\nfailed  mypy\nit ended with status 2\n"
+        found = "passed  black\nfailed  flake8\na.py:1\n" + "".join(
+            f"failed  {name}\nit ended with status 2\n" for name in ("mypy", TYPES)
+        )
         self.assertEqual(told, found)
 
     def test_all_settings_say_the_same(self) -> None:
@@ -52,13 +97,19 @@ class Style(Folder):
         editors = (TOP / ".editorconfig").read_text("utf-8").partition("\n[*.py]\n")[2]
         self.assertEqual(width, flake8)
         self.assertEqual(f"max_line_length = {width[0]}", editors.split("\n")[0])
-        judged = re.findall(r'^    "\$MYPY_CONFIG_FILE_DIR/(?:\.\./)?(\w+)",$', settings, re.M)
+        judged = re.findall(FILES, settings, re.M)
         told = " ".join((TOP / "CONTRIBUTING.md").read_text("utf-8").split())
         self.assertIn(f"at most {width[0]} columns, as `black`", told)
         named = ", ".join(f"`{folder}/`" for folder in style.FOLDERS).rpartition(", ")
-        self.assertIn(f"of all Python in {named[0]} and {named[2]}, and `mypy --strict`", told)
+        self.assertIn(f"`mypy --strict` of all Python in {named[0]} and {named[2]}", told)
         of_mypy = {*style.FOLDERS} - {"bindings"}
-        self.assertEqual({*judged}, of_mypy - {"tools"} | {"zaklimot_tools", "tests"})
+        self.assertEqual(
+            {*judged}, of_mypy - {"tools"} | {"zaklimot_tools", "tests", "building.py"}
+        )
+        bindings = (TOP / style.BINDINGS).read_text("utf-8")
+        self.assertIn("\n[tool.mypy]\nstrict = true\n", bindings)
+        modules = {path.name for path in (TOP / style.BINDINGS).parent.glob("*.py")}
+        self.assertEqual({*re.findall(FILES, bindings, re.M)}, {"src", "tests", *modules})
 
     def test_what_is_missing_is_told(self) -> None:
         for words in ((), ("--ready",)):
@@ -75,3 +126,57 @@ class Style(Folder):
         if not files:
             self.skipTest("this is no clone")
         self.assertEqual(files, {*style.FOLDERS})
+
+
+class Written(unittest.TestCase):
+    """What none of the judges asks of the tools and of the package for Python."""
+
+    def setUp(self) -> None:
+        folders = (TOOLS / "zaklimot_tools", TOP / "bindings" / "python" / "src")
+        self.files = [TOOLS / "building.py"]
+        self.files += [path for folder in folders for path in folder.rglob("*.py")]
+        self.files += (TOP / "bindings" / "python").glob("*.py")
+
+    def nodes(self, *kinds: type[ast.AST], files: Sequence[Path] = ()) -> Iterator[tuple[str, Any]]:
+        """The parts of these kinds of these files or of all, each with its place."""
+        for path in files or self.files:
+            for node in ast.walk(ast.parse(path.read_text("utf-8"))):
+                if isinstance(node, kinds):
+                    yield f"{path.relative_to(TOP)}:{getattr(node, 'lineno', 0)}", node
+
+    def test_a_name_is_that_of_one_class_of_the_tools(self) -> None:
+        places = [
+            (node.name, place) for place, node in self.nodes(ast.ClassDef) if "tools/" in place
+        ]
+        counted = Counter(name for name, _ in places)
+        self.assertEqual([one for one in places if counted[one[0]] > 1], [])
+
+    def test_functions_are_short(self) -> None:
+        tests = (TOOLS / "tests", TOP / "bindings" / "python" / "tests")
+        files = self.files + [path for folder in tests for path in folder.glob("*.py")]
+        functions = self.nodes(ast.FunctionDef, ast.AsyncFunctionDef, files=files)
+        lines = [(node.end_lineno - node.lineno + 1, place) for place, node in functions]
+        self.assertEqual([one for one in lines if one[0] > MOST_LINES], [])
+
+    def test_public_functions_and_classes_have_docstrings(self) -> None:
+        without = [
+            f"{place}: {node.name}"
+            for place, module in self.nodes(ast.Module)
+            for node in public(module, methods(module))
+            if ast.get_docstring(node) is None
+        ]
+        self.assertEqual(without, [])
+
+    def test_what_is_caught_is_named(self) -> None:
+        bare = [place for place, node in self.nodes(ast.ExceptHandler) if node.type is None]
+        self.assertEqual(bare, [])
+
+    def test_a_type_that_is_not_checked_has_a_reason(self) -> None:
+        for path in self.files:
+            before = ""
+            for number, line in enumerate(path.read_text("utf-8").split("\n"), 1):
+                if "# type: ignore" in line:
+                    with self.subTest(f"{path.relative_to(TOP)}:{number}"):
+                        self.assertRegex(line, r"# type: ignore\[[\w, -]+\]$")
+                        self.assertTrue(before.lstrip().startswith("#"), "the line above has none")
+                before = line

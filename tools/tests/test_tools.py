@@ -9,10 +9,8 @@ import io
 import os
 import re
 import shutil
-import signal
 import stat
 import sys
-import time
 import unittest
 from functools import partial
 from pathlib import Path
@@ -35,8 +33,8 @@ from zaklimot_tools.core.streams import write_file, writing
 from zaklimot_tools.core.trouble import TROUBLE, Trouble
 from zaklimot_tools.core.words import MEBIBYTE
 from zaklimot_tools.dev.library.making import AARCH64
-from zaklimot_tools.dev.testing import checking, discovering
-from zaklimot_tools.dev.testing.discovering import TESTED
+from zaklimot_tools.dev.testing import checking, running
+from zaklimot_tools.dev.testing.running import TESTED
 from zaklimot_tools.report.listing import _wait_for
 from zaklimot_tools.script.crates import phases
 
@@ -121,11 +119,11 @@ STARTING = (
     "vga-page module {made}",
     "vga-fuzz {vga}",
     "vga-floppy run --on dosbox {script} {made}",
-    "tests-of-tools test_one",
+    "tests-of-tools {tests}",
     "vga-trace record {made} --vga {vga} --quiet 50 -- -cdrom disc",
 )
 # What the only test of a module does, and what is told of it.
-TEST = """import os, unittest
+TEST = """import os, signal, time, unittest
 from pathlib import Path
 from tests import tools
 class One(unittest.TestCase):
@@ -135,9 +133,9 @@ class One(unittest.TestCase):
 BAD = {
     "fails": ("self.fail('oh')", "AssertionError: oh"),
     "raises": ("no_such_name", "NameError: name 'no_such_name'"),
-    "ends": ("os._exit(0)", "its process ended with status 0"),
-    "is_killed": ("os.kill(os.getpid(), 9)", "its process ended with status -9"),
-    "is_asked_to_end": ("os.kill(os.getpid(), 15)", "its process ended with status 143"),
+    "ends": ("os._exit(0)", "worker 'gw\\d' crashed while running '[^']*ends.py::One::test_one'"),
+    "is_killed": ("os.kill(os.getpid(), 9)", "crashed while running '[^']*is_killed.py::One"),
+    "is_asked_to_end": ("os.kill(os.getpid(), 15)", "crashed while running '[^']*is_asked_to_end"),
     "lacks": ("import no_such_module", "No module named 'no_such_module'"),
 }
 
@@ -305,7 +303,6 @@ class Commands(Folder):
         self.write("one.vga", "frame\n")
         self.write("one.txt", "1 ok\n")
         harness = self.write("harness.py", PARENT + "time.sleep(600)")
-        self.write("test_one.py", TESTS)
         self.program("bin/rt", RT)
         # The archive of a commit is one that has no files.
         answers = "log) echo 0123 0 ;; archive) head -c 10240 /dev/zero ;;"
@@ -319,6 +316,7 @@ class Commands(Folder):
             "script": str(self.folder / "one.vga"),
             "vga": self.program("bin/vga", SLEEPING),
             "made": str(self.folder / "made"),
+            "tests": self.write("test_one.py", TESTS),
         }
         for line in STARTING:
             tool, *words = (word.format(**places) for word in line.split())
@@ -331,10 +329,7 @@ class Commands(Folder):
         child, temporary = self.folder / "child", self.folder / "tmp"
         temporary.mkdir(exist_ok=True)
         child.unlink(missing_ok=True)
-        given = {
-            "PATH": f"{self.folder / 'bin'}:{os.environ['PATH']}",
-            "PYTHONPATH": str(self.folder),
-        }
+        given = {"PATH": f"{self.folder / 'bin'}:{os.environ['PATH']}"}
         with begin(
             *words, env={**os.environ, **given, "TMPDIR": str(temporary), "CHILD": str(child)}
         ) as process:
@@ -342,7 +337,9 @@ class Commands(Folder):
             self.assertNotEqual(list(temporary.iterdir()), [])
             process.send_signal(number)
             output, said = process.communicate(timeout=120)
-        self.assertEqual((process.returncode, output, said), (status, b"", b""))
+        # What pytest prints is shown as it comes.
+        shown = output if words[0] == "tests-of-tools" else b""
+        self.assertEqual((process.returncode, output, said), (status, shown, b""))
         self.assert_ended(*numbers)
         self.assertEqual(list(temporary.iterdir()), [])
         self.assertFalse((self.folder / "made").exists())
@@ -454,16 +451,28 @@ class Lines(Folder):
         progress.tell.assert_called_once_with("s.vga: no answer yet after 0 seconds")
 
 
+def has_pytest() -> bool:
+    """Whether a Python here has what runs the tests."""
+    try:
+        return bool(running._python())
+    except Trouble:
+        return False
+
+
+@unittest.skipUnless(has_pytest(), running.LACKING)
 class Running(Folder):
     def run_tests(self, *words: str, **lines: str) -> tuple[int, str]:
         """Exit status and output of tests, of which each module has one that does what a line
         says."""
-        for name, line in lines.items():
-            self.write(f"{name}.py", TEST.format(line))
+        places = [self.write(f"{name}.py", TEST.format(line)) for name, line in lines.items()]
         # No program is compiled for them.
         tested = os.environ.get(TESTED) or str(self.folder / "none")
-        prepare = partial(os.environ.update, {"PYTHONPATH": str(self.folder), TESTED: tested})
-        status, output, said = run_tool("tests-of-tools", *words, *lines, prepare=prepare)
+
+        def prepare() -> None:
+            os.environ[TESTED] = tested
+            running.MOST_WORKERS = 1
+
+        status, output, said = run_tool("tests-of-tools", *words, *places, prepare=prepare)
         self.assertEqual(said, "")
         return status, output.decode()
 
@@ -471,10 +480,10 @@ class Running(Folder):
         status, said = self.run_tests(
             good="print('seen')", **{name: line for name, (line, _) in BAD.items()}
         )
-        self.assertEqual((status, said.splitlines()[-1]), (1, f"FAILED (failed={len(BAD)})"))
-        self.assertIn("passed  good\nseen\n", said)
+        self.assertEqual((status, said.splitlines()[-1]), (1, f"1 passed, {len(BAD)} failed"))
         for name, (_, told) in BAD.items():
-            self.assertRegex(said, rf"failed  {name}\n(?s:.*){told}")
+            self.assertRegex(said, told)
+            self.assertRegex(said, rf"\nFAILED \S*{name}\.py::One::test_one\b")
 
     @unittest.skipUnless(IS_LINUX, "processes are looked at as Linux shows them")
     def test_what_a_test_leaves_running_is_ended(self) -> None:
@@ -482,62 +491,78 @@ class Running(Folder):
         number = self.folder / "number"
         line = f"os.system('setsid sh -c \\'sleep 600 & echo $! > {number}\\' &')"
         waiting = f"while not os.path.exists('{number}'): pass"
-        status, said = self.run_tests(leaves=f"{line}\n        {waiting}", good="pass")
-        self.assertEqual((status, said.splitlines()[-1]), (0, "OK"))
+        # The next test sees none of it: it has ended with its own test.
+        seen = f"assert not tools.is_running(int(open('{number}').read()))"
+        status, said = self.run_tests(leaves=f"{line}\n        {waiting}", sees=seen)
+        self.assertEqual((status, said.splitlines()[-1]), (0, "2 passed, 0 failed"))
         self.assert_ended(int(self.wait_for(number)))
 
     @unittest.skipUnless(IS_LINUX, "limits are those of Linux")
     def test_a_test_that_takes_all_memory(self) -> None:
         status, said = self.run_tests(takes="bytes(3 << 30)", good="pass")
-        self.assertEqual((status, said.splitlines()[-1]), (1, "FAILED (failed=1)"))
+        self.assertEqual((status, said.splitlines()[-1]), (1, "1 passed, 1 failed"))
         self.assertIn("MemoryError", said)
-
-    def test_a_test_that_takes_too_long(self) -> None:
-        class Sleeping(unittest.TestCase):
-            def test_one(self) -> None:
-                time.sleep(60)
-
-            def test_two(self) -> None:
-                pass
-
-        before = signal.getsignal(signal.SIGALRM)
-        self.addCleanup(signal.signal, signal.SIGALRM, before)
-        tests = unittest.defaultTestLoader.loadTestsFromTestCase(Sleeping)
-        with mock.patch.object(discovering, "MOST_OF_TEST", 0.2):
-            told = io.StringIO()
-            runner = unittest.TextTestRunner(told, resultclass=discovering._Result)
-            with mock.patch.object(discovering, "end_children"):
-                result = runner.run(tests)
-        self.assertEqual((result.testsRun, len(result.errors)), (2, 1))
-        self.assertIn("the test takes more than 0.2 seconds", result.errors[0][1])
+        self.assertRegex(said, r"\nFAILED \S*takes\.py::One::test_one\b")
 
     @unittest.skipUnless(IS_LINUX, "limits are those of Linux")
     def test_a_class_of_tests_may_need_more_memory(self) -> None:
-        more = "bytes(3 << 30)\n    most_memory = 1 << 32"
-        status, said = self.run_tests(takes=more, good="pass")
-        self.assertEqual((status, said.splitlines()[-1]), (0, "OK"))
+        # The test after it has as much as others.
+        status, said = self.run_tests(
+            more="bytes(3 << 30)\n    most_memory = 1 << 32", takes="bytes(3 << 30)"
+        )
+        self.assertEqual((status, said.splitlines()[-1]), (1, "1 passed, 1 failed"))
+        self.assertRegex(said, r"\nFAILED \S*takes\.py::One::test_one\b")
+
+    def test_a_test_that_takes_too_long(self) -> None:
+        status, said = self.run_tests(
+            takes="time.sleep(60)\n    most_seconds = 0.5",
+            sets_up="pass\n    most_seconds = 0.5\n    setUpClass = lambda: time.sleep(60)",
+            good="pass",
+        )
+        self.assertEqual((status, said.splitlines()[-1]), (1, "1 passed, 2 failed"))
+        for name in ("takes", "sets_up"):
+            self.assertRegex(said, rf"\n(FAILED|ERROR) \S*{name}\.py::One::test_one\b")
+        self.assertIn("TookTooLong: the test takes more than 0.5 seconds", said)
 
     def test_a_class_of_tests_may_need_more_time(self) -> None:
-        class Patient(unittest.TestCase):
-            most_seconds = 60
-
-            def test_one(self) -> None:
-                time.sleep(0.4)
-
-        before = signal.getsignal(signal.SIGALRM)
-        self.addCleanup(signal.signal, signal.SIGALRM, before)
-        tests = unittest.defaultTestLoader.loadTestsFromTestCase(Patient)
-        with mock.patch.object(discovering, "MOST_OF_TEST", 0.2):
-            runner = unittest.TextTestRunner(io.StringIO(), resultclass=discovering._Result)
-            with mock.patch.object(discovering, "end_children"):
-                self.assertTrue(runner.run(tests).wasSuccessful())
+        left = "left = signal.getitimer(signal.ITIMER_REAL)[0]; assert {} - 1 < left <= {}, left"
+        status, said = self.run_tests(
+            more=left.format(600, 600) + "\n    most_seconds = 600", good=left.format(300, 300)
+        )
+        self.assertEqual((status, said.splitlines()[-1]), (0, "2 passed, 0 failed"))
 
     def test_one_that_is_skipped_is_told_with_the_reason(self) -> None:
         status, said = self.run_tests(skips="self.skipTest('it is Sunday')", good="pass")
-        self.assertEqual((status, said.splitlines()[-1]), (0, "OK (skipped=1)"))
-        self.assertIn(
-            "passed  skips\nskipped  skips.One.test_one: it is Sunday\npassed  good\n", said
+        self.assertEqual((status, said.splitlines()[-1]), (0, "1 passed, 0 failed, 1 skipped"))
+        self.assertRegex(said, r"\nSKIPPED \[1\] \S*skips\.py:\d+: it is Sunday\n")
+
+    def test_modules_classes_and_tests_by_their_names(self) -> None:
+        file = str(TOOLS / "tests" / "test_banks.py")
+        hold(
+            self,
+            running._place,
+            (
+                ("tests.test_banks", file),
+                ("tests.test_banks.Banks.test_one", f"{file}::Banks::test_one"),
+                (f"{file}::Banks", f"{file}::Banks"),
+            ),
         )
+        done = call(main_of("tests-of-tools"), "tests.test_none")
+        hold_undone(
+            self, done, "^tests-of-tools: tests.test_none: there is no such module of tests"
+        )
+
+    def test_no_test_ran(self) -> None:
+        path = self.write("empty.py", "")
+        status, output, said = run_tool("tests-of-tools", path)
+        self.assertEqual(
+            (status, said), (2, "tests-of-tools: pytest has run no test, and ended with status 5\n")
+        )
+
+    def test_a_python_without_pytest(self) -> None:
+        with patched(running, {"PACKAGES": ("no_such_package",)}):
+            done = call(main_of("tests-of-tools"), "tests.test_banks")
+        hold_undone(self, done, "^tests-of-tools: no Python here has pytest and pytest-xdist: ")
 
     def test_the_program_that_is_tested(self) -> None:
         line = f"Path('{self.folder}/seen').write_text(str(tools.PROGRAM))"
@@ -547,7 +572,7 @@ class Running(Folder):
             ({TESTED: "given"}, False, "given"),
         ):
             path = Path(self.program("built", "")) if built else self.folder / "none"
-            with mock.patch.object(discovering, "PROGRAM", path), mock.patch.dict(
+            with mock.patch.object(running, "PROGRAM", path), mock.patch.dict(
                 os.environ, variables
             ):
                 self.assertEqual(self.run_tests(sees=line)[0], 0)
@@ -556,27 +581,33 @@ class Running(Folder):
     def test_a_test_that_wants_the_program_is_skipped_or_fails(self) -> None:
         line = "tools.PROGRAM = Path('none'); tools.want_program()"
         status, said = self.run_tests(wants=line)
-        self.assertEqual((status, said.splitlines()[-1]), (0, "OK (skipped=1)"))
+        self.assertEqual((status, said.splitlines()[-1]), (0, "0 passed, 0 failed, 1 skipped"))
         status, said = self.run_tests("--built", wants=line)
-        self.assertEqual((status, said.splitlines()[-1]), (1, "FAILED (failed=1)"))
+        self.assertEqual((status, said.splitlines()[-1]), (1, "0 passed, 1 failed"))
 
 
-@unittest.skipIf(sys.platform == "win32", "a script is a program on POSIX")
+@unittest.skipUnless(has_pytest(), running.LACKING)
 class Checking(Folder):
     """The test command for a machine without Rattle."""
 
-    def checked(self, suite: checking.Counted, **lines: str) -> tuple[int, list[str]]:
+    def checked(self, suite: running.Counts, **lines: str) -> tuple[int, list[str]]:
         """Exit status and the lines that it prints where the suite comes to these counts, and
         modules have these tests."""
-        for name, line in lines.items():
-            self.write(f"{name}.py", TEST.format(line))
-        check_suite = mock.Mock(return_value=suite)
-        found = {"portable_program": lambda: "portable", "check_suite": check_suite}
-        with patched(checking, found), mock.patch.dict(os.environ, PYTHONPATH=str(self.folder)):
-            status, output, said = call(main_of("vga-check"), *lines)
-            check_suite.assert_called_once_with("portable")
+        places = [self.write(f"{name}.py", TEST.format(line)) for name, line in lines.items()]
+        # The suite is asked of this program alone.
+        suites = {"portable": suite}
+        given = {
+            "portable_program": lambda: "portable",
+            "check_suite": suites.__getitem__,
+        }
+
+        def prepare() -> None:
+            patched(checking, given).start()
+            running.MOST_WORKERS = 1
+
+        status, output, said = run_tool("vga-check", *places, prepare=prepare)
         self.assertEqual(said, "")
-        return status, output.splitlines()
+        return status, output.decode().splitlines()
 
     def test_the_last_line_counts_cases_and_tests(self) -> None:
         good = "assert str(tools.PROGRAM) == 'portable'"
@@ -592,9 +623,10 @@ class Checking(Folder):
             ((960, 2, 1), {"good": good}, (1, "961 passed, 2 failed, 1 skipped")),
         ):
             with self.subTest(told):
-                status, output = self.checked(checking.Counted(*suite), **lines)
+                status, output = self.checked(running.Counts(*suite), **lines)
                 self.assertEqual((status, output[-1]), told)
-                self.assertEqual("skipped  skips.One.test_one: why" in output, "skips" in lines)
+                told_why = [line for line in output if re.fullmatch(r"SKIPPED .*: why", line)]
+                self.assertEqual(len(told_why), "skips" in lines)
 
     def test_the_suite_over_a_program(self) -> None:
         # A program that knows two of the cases.

@@ -93,54 +93,170 @@ def warned(data: bytes, **wanted: object) -> list[str]:
     return list(listing.warnings())
 
 
+# A trace with calls, dots and frames.
+KEPT_DATA = (
+    b"0+5 int 0003 0 0 0 ; mode 3\n1+7 w m B8000 41 1\n1+0 w m B8001 7 1\n9+30 frame\n9+20"
+    b" frame\n12+4 r p 3DA 1 1\n13+6 r p 3DA 1 1\n14+20000000 int 1301 7 2 0 4142\n15+2"
+    b" frame\n"
+)
+KEPT_CALL, KEPT_OTHER = (
+    "int ax=0003 bx=0000 cx=0000 dx=0000",
+    "int ax=1301 bx=0007 cx=0002 dx=0000 block 4142",
+)
+# The last dot of a frame is its own.
+KEPT_TIMED = [
+    "advance 5",
+    KEPT_CALL,
+    "advance 7",
+    "put B8000 41",
+    "put B8001 07",
+    "advance 29",
+    "frame",
+    "advance 19",
+    "frame",
+    "advance 4",
+    "in 3DA",
+    "advance 6",
+    "in 3DA",
+    "advance 16777216",
+    "advance 3222784",
+    KEPT_OTHER,
+]
+KEPT_PLAIN = [KEPT_CALL, "put B8000 41", "put B8001 07", "in 3DA", "in 3DA", KEPT_OTHER, "frame"]
+# What is listed of it in each way.
+KEPT_LISTED: tuple[tuple[dict[str, object], list[str]], ...] = (
+    (
+        {"has_time": True, "frames": "screens"},
+        [*KEPT_TIMED, "advance 1", "frame", "frame", "frame"],
+    ),
+    ({"has_time": True}, [*KEPT_TIMED[:5], "advance 54", *KEPT_TIMED[10:], "frame", "frame"]),
+    (
+        {"has_time": True, "keeps_polls": False},
+        [
+            *KEPT_TIMED[:5],
+            "advance 54",
+            "in 3DA",
+            "advance 16777216",
+            "advance 3222790",
+            KEPT_OTHER,
+            "frame",
+            "frame",
+        ],
+    ),
+    ({}, KEPT_PLAIN),
+    ({"frames": "screens"}, [*KEPT_PLAIN[:3], "frame", "frame", *KEPT_PLAIN[3:], "frame"]),
+)
+# Traces whose calls are none.
+KEPT_REFUSED = (
+    (
+        BEGIN + b"0 int 0003 0 0\n",
+        "trace:2: it is no cycle: `TIME r|w p|m ADDRESS VALUE SIZE` is one",
+    ),
+    (
+        BEGIN + b"0 int 10003 0 0 0\n",
+        "trace:2: it is no cycle: `TIME r|w p|m ADDRESS VALUE SIZE` is one",
+    ),
+    (
+        BEGIN + b"0 int 0003 0 0 0 123\n",
+        "trace:2: it is no cycle: `TIME r|w p|m ADDRESS VALUE SIZE` is one",
+    ),
+    (
+        BEGIN + b"0 int 0003 0 0 0 " + b"00" * 65536 + b"\n",
+        "trace:2: a call's block has 65,535 bytes at most",
+    ),
+)
+
+
+# Traces of both forms, and their cycles.
+FORM_PLAIN = (
+    b"; a comment\n\n12 w p 3c4 302 2 ; map mask\r\n- r m A0000 5 1\n \t13\tw  m b8000"
+    b" 0123456789ABCDEF 8"
+)
+FORMS_OF_CYCLES = (
+    *(
+        (
+            qemu("write 3c4 302 2", name) + qemu("read 3c4 2 1", name),
+            [
+                Cycle(True, space, 0x3C4, 0x302, 2, None),
+                Cycle(False, space, 0x3C4, 2, 1, None),
+            ],
+        )
+        for name, space in (
+            ("vga", PORT),
+            ("cirrus-io", PORT),
+            ("vbe", VBE),
+            ("vga-lowmem", MEMORY),
+            ("cirrus-low-memory", MEMORY),
+            ("vga-chain4", MEMORY),
+        )
+    ),
+    # A time stamp of qemu; its other lines and regions are passed over.
+    (
+        qemu("read 3da 5 1", front="4711@1700000000.000042:"),
+        [Cycle(False, PORT, 0x3DA, 5, 1, 1_700_000_000_000_042)],
+    ),
+    (
+        b"qemu: some message\n" + qemu("write 70 f 1", "rtc") + b"\n" + qemu("write 3c2 67 1"),
+        [Cycle(True, PORT, 0x3C2, 0x67, 1, None)],
+    ),
+    (
+        FORM_PLAIN,
+        [
+            Cycle(True, PORT, 0x3C4, 0x302, 2, 12),
+            Cycle(False, MEMORY, 0xA0000, 5, 1, None),
+            Cycle(True, MEMORY, 0xB8000, 0x123456789ABCDEF, 8, 13),
+        ],
+    ),
+)
+
+
+def lacking_vbe(index: str, value: str) -> bytes:
+    return (
+        qemu("write 3c2 67 1")
+        + qemu(f"write 1ce {index} 2", "vbe")
+        + qemu(f"write 1cf {value} 2", "vbe")
+    )
+
+
+# Traces, and what they are told to lack.
+LACKING_BEGIN = "cycle 2 writes first, and not port 3C2: the trace doesn't begin at power-on"
+LACKING_ENABLED = "cycle 3 turns VBE on: what follows is no VGA's, and its memory isn't traced"
+LACKING_SILENT = (
+    "chain 4 with map mask 0F has no cycle of memory, first from cycle 3 on: "
+    "qemu traces none there without the plugin"
+)
+LACKING_CHAINED = BEGIN + b"- w p 3C4 0F02 2\n- w p 3C4 0E04 2\n"
+LACKING: tuple[tuple[bytes, list[str]], ...] = (
+    (b"- r p 3CC 0 1\n" + BEGIN + b"- w m A0000 1 1\n", []),
+    (b"- r p 3CC 0 1\n- w m B8000 1 1\n" + BEGIN, [LACKING_BEGIN]),
+    (b"- r p 3CC 0 1\n- w p 3C4 1 1\n" + BEGIN, [LACKING_BEGIN]),
+    (lacking_vbe("4", "41"), [LACKING_ENABLED]),
+    (lacking_vbe("4", "40"), []),
+    (lacking_vbe("3", "1"), []),
+    (LACKING_CHAINED, [LACKING_SILENT]),
+    (LACKING_CHAINED + b"- w p 3C4 0604 2\n- w m A0000 1 1\n", [LACKING_SILENT]),
+    (
+        BEGIN + b"- w p 3C4 4 1\n- w p 3C5 E 1\n- w p 3C4 0F02 2\n",
+        [LACKING_SILENT.replace("3 on", "4 on")],
+    ),
+    (LACKING_CHAINED + b"- w p 3C4 0E04 2\n- w m A0000 1 1\n- w p 3C4 0604 2\n", []),
+    (BEGIN + b"- w p 3C4 0702 2\n- w p 3C4 0E04 2\n", []),
+    (
+        qemu("write 3c2 67 1")
+        + b"x\n"
+        + 2 * b"memory_region_ops_wri\n"
+        + qemu("write 3c4 2 1")[:-9],
+        ["3 lines of cycles are damaged and left out, line 3 first"],
+    ),
+)
+
+
 class Lines(unittest.TestCase):
     def test_cycles_of_both_forms(self) -> None:
-        plain = (
-            b"; a comment\n\n12 w p 3c4 302 2 ; map mask\r\n- r m A0000 5 1\n \t13\tw  m b8000"
-            b" 0123456789ABCDEF 8"
-        )
         hold(
             self,
             cycles,
-            (
-                *(
-                    (
-                        qemu("write 3c4 302 2", name) + qemu("read 3c4 2 1", name),
-                        [
-                            Cycle(True, space, 0x3C4, 0x302, 2, None),
-                            Cycle(False, space, 0x3C4, 2, 1, None),
-                        ],
-                    )
-                    for name, space in (
-                        ("vga", PORT),
-                        ("cirrus-io", PORT),
-                        ("vbe", VBE),
-                        ("vga-lowmem", MEMORY),
-                        ("cirrus-low-memory", MEMORY),
-                        ("vga-chain4", MEMORY),
-                    )
-                ),
-                # A time stamp of qemu; its other lines and regions are passed over.
-                (
-                    qemu("read 3da 5 1", front="4711@1700000000.000042:"),
-                    [Cycle(False, PORT, 0x3DA, 5, 1, 1_700_000_000_000_042)],
-                ),
-                (
-                    b"qemu: some message\n"
-                    + qemu("write 70 f 1", "rtc")
-                    + b"\n"
-                    + qemu("write 3c2 67 1"),
-                    [Cycle(True, PORT, 0x3C2, 0x67, 1, None)],
-                ),
-                (
-                    plain,
-                    [
-                        Cycle(True, PORT, 0x3C4, 0x302, 2, 12),
-                        Cycle(False, MEMORY, 0xA0000, 5, 1, None),
-                        Cycle(True, MEMORY, 0xB8000, 0x123456789ABCDEF, 8, 13),
-                    ],
-                ),
-            ),
+            FORMS_OF_CYCLES,
         )
 
     def test_faults(self) -> None:
@@ -184,64 +300,14 @@ class Lines(unittest.TestCase):
         )
 
     def test_calls_dots_and_frames_that_were_kept(self) -> None:
-        data = (
-            b"0+5 int 0003 0 0 0 ; mode 3\n1+7 w m B8000 41 1\n1+0 w m B8001 7 1\n9+30 frame\n9+20"
-            b" frame\n12+4 r p 3DA 1 1\n13+6 r p 3DA 1 1\n14+20000000 int 1301 7 2 0 4142\n15+2"
-            b" frame\n"
-        )
-        call, other = (
-            "int ax=0003 bx=0000 cx=0000 dx=0000",
-            "int ax=1301 bx=0007 cx=0002 dx=0000 block 4142",
-        )
-        # The last dot of a frame is its own.
-        timed = [
-            "advance 5",
-            call,
-            "advance 7",
-            "put B8000 41",
-            "put B8001 07",
-            "advance 29",
-            "frame",
-            "advance 19",
-            "frame",
-            "advance 4",
-            "in 3DA",
-            "advance 6",
-            "in 3DA",
-            "advance 16777216",
-            "advance 3222784",
-            other,
-        ]
-        plain = [call, "put B8000 41", "put B8001 07", "in 3DA", "in 3DA", other, "frame"]
         hold(
             self,
-            lambda wanted: listed(data, **wanted),
-            (
-                (
-                    {"has_time": True, "frames": "screens"},
-                    [*timed, "advance 1", "frame", "frame", "frame"],
-                ),
-                ({"has_time": True}, [*timed[:5], "advance 54", *timed[10:], "frame", "frame"]),
-                (
-                    {"has_time": True, "keeps_polls": False},
-                    [
-                        *timed[:5],
-                        "advance 54",
-                        "in 3DA",
-                        "advance 16777216",
-                        "advance 3222790",
-                        other,
-                        "frame",
-                        "frame",
-                    ],
-                ),
-                ({}, plain),
-                ({"frames": "screens"}, [*plain[:3], "frame", "frame", *plain[3:], "frame"]),
-            ),
+            lambda wanted: listed(KEPT_DATA, **wanted),
+            KEPT_LISTED,
         )
-        self.assertEqual(warned(data), [])
+        self.assertEqual(warned(KEPT_DATA), [])
         self.assertEqual(
-            count(cycles(data)),
+            count(cycles(KEPT_DATA)),
             {
                 "call of interrupt 10, AH 00": 1,
                 "call of interrupt 10, AH 13": 1,
@@ -253,71 +319,18 @@ class Lines(unittest.TestCase):
             "trace: cycle 1 is a call of interrupt 10, and --from follows cycles alone: what comes"
             " after it begins at power-on"
         )
-        self.assertEqual(refused(partial(listed, data, first=3)), told)
+        self.assertEqual(refused(partial(listed, KEPT_DATA, first=3)), told)
         hold(
             self,
             partial(refused, cycles),
-            (
-                (
-                    BEGIN + b"0 int 0003 0 0\n",
-                    "trace:2: it is no cycle: `TIME r|w p|m ADDRESS VALUE SIZE` is one",
-                ),
-                (
-                    BEGIN + b"0 int 10003 0 0 0\n",
-                    "trace:2: it is no cycle: `TIME r|w p|m ADDRESS VALUE SIZE` is one",
-                ),
-                (
-                    BEGIN + b"0 int 0003 0 0 0 123\n",
-                    "trace:2: it is no cycle: `TIME r|w p|m ADDRESS VALUE SIZE` is one",
-                ),
-                (
-                    BEGIN + b"0 int 0003 0 0 0 " + b"00" * 65536 + b"\n",
-                    "trace:2: a call's block has 65,535 bytes at most",
-                ),
-            ),
+            KEPT_REFUSED,
         )
 
     def test_what_a_trace_lacks(self) -> None:
-        def vbe(index: str, value: str) -> bytes:
-            return (
-                qemu("write 3c2 67 1")
-                + qemu(f"write 1ce {index} 2", "vbe")
-                + qemu(f"write 1cf {value} 2", "vbe")
-            )
-
-        begin = "cycle 2 writes first, and not port 3C2: the trace doesn't begin at power-on"
-        enabled = "cycle 3 turns VBE on: what follows is no VGA's, and its memory isn't traced"
-        silent = (
-            "chain 4 with map mask 0F has no cycle of memory, first from cycle 3 on: "
-            "qemu traces none there without the plugin"
-        )
-        chained = BEGIN + b"- w p 3C4 0F02 2\n- w p 3C4 0E04 2\n"
         hold(
             self,
             warned,
-            (
-                (b"- r p 3CC 0 1\n" + BEGIN + b"- w m A0000 1 1\n", []),
-                (b"- r p 3CC 0 1\n- w m B8000 1 1\n" + BEGIN, [begin]),
-                (b"- r p 3CC 0 1\n- w p 3C4 1 1\n" + BEGIN, [begin]),
-                (vbe("4", "41"), [enabled]),
-                (vbe("4", "40"), []),
-                (vbe("3", "1"), []),
-                (chained, [silent]),
-                (chained + b"- w p 3C4 0604 2\n- w m A0000 1 1\n", [silent]),
-                (
-                    BEGIN + b"- w p 3C4 4 1\n- w p 3C5 E 1\n- w p 3C4 0F02 2\n",
-                    [silent.replace("3 on", "4 on")],
-                ),
-                (chained + b"- w p 3C4 0E04 2\n- w m A0000 1 1\n- w p 3C4 0604 2\n", []),
-                (BEGIN + b"- w p 3C4 0702 2\n- w p 3C4 0E04 2\n", []),
-                (
-                    qemu("write 3c2 67 1")
-                    + b"x\n"
-                    + 2 * b"memory_region_ops_wri\n"
-                    + qemu("write 3c4 2 1")[:-9],
-                    ["3 lines of cycles are damaged and left out, line 3 first"],
-                ),
-            ),
+            LACKING,
         )
         told = "the time runs back 1 times, which is no pause"
         self.assertEqual(warned(b"2 w p 3C2 67 1\n1 r p 3DA 0 1\n", has_time=True), [told])
@@ -628,6 +641,23 @@ class Endings(Folder):
             self.assertEqual(self.names(), ["trace"])
 
 
+# The kinds of reads of the trace below; and a trace whose steps are refused.
+READ = ("in port 3C5 index 02", "in port 3DA", "get memory A0000", "getw memory A0000")
+REFUSING = BEGIN + 2 * b"- w p 3B4 1 1\n- w p 3B5 2 1\n" + b"- r p 3C7 0 1\n"
+# What is told of that, and of a read that differs.
+REFUSED_BY_KIND = [
+    "7 steps, 5 refused, 0 reads answered, 0 differ",
+    "  refused         2 E1 NotDecoded: out port 3B4 (first at step 2)",
+    "  refused         2 E1 NotDecoded: out port 3B5 index 01 (first at step 3)",
+    "  refused         1 E2 NotInProfile: in port 3C7 (first at step 6)",
+]
+DIFFERING_BY_KIND = [
+    "5 steps, 0 refused, 1 reads answered, 1 differ",
+    "  read            1 in port 3C1 index 10",
+    "  differ          1 in port 3C1 index 10 (first at step 4: traced 00, answered 01)",
+]
+
+
 class Checking(Folder):
     # Seven steps: two writes, reads of a register, of status, of a byte and a word of memory, and
     # the frame.
@@ -653,92 +683,30 @@ class Checking(Folder):
         )
 
     def test_what_is_counted(self) -> None:
-        index, status, *memory = (
-            f"  read            1 {kind}"
-            for kind in (
-                "in port 3C5 index 02",
-                "in port 3DA",
-                "get memory A0000",
-                "getw memory A0000",
-            )
+        index, status, *memory = (f"  read            1 {kind}" for kind in READ)
+        whole = ["7 steps, 0 refused, 4 reads answered, 0 differ", index, status, *memory]
+        frames: tuple[str | bytes, ...] = (
+            PICTURE,
+            "ragged",
+            f"picture {len(PICTURE)} 9x1 {32 * '0'}",
         )
-        refusing = BEGIN + 2 * b"- w p 3B4 1 1\n- w p 3B5 2 1\n" + b"- r p 3C7 0 1\n"
-        hold(
-            self,
-            lambda given, *answers: self.check(*answers, given=given),
-            (
-                *(
-                    (
-                        self.TRACE,
-                        *self.GOOD[:-1],
-                        frame,
-                        (
-                            0,
-                            [
-                                "7 steps, 0 refused, 4 reads answered, 0 differ",
-                                index,
-                                status,
-                                *memory,
-                            ],
-                            "",
-                        ),
-                    )
-                    for frame in (PICTURE, "ragged", f"picture {len(PICTURE)} 9x1 {32 * '0'}")
-                ),
-                (
-                    self.TRACE,
-                    *self.changed(s5="skipped"),
-                    (
-                        0,
-                        [
-                            "7 steps, 0 refused, 3 reads answered, 0 differ, 1 skipped",
-                            index,
-                            status,
-                            memory[1],
-                        ],
-                        "",
-                    ),
-                ),
-                (
-                    refusing,
-                    "ok",
-                    *4 * ["E1 NotDecoded"],
-                    "E2 NotInProfile",
-                    PICTURE,
-                    (
-                        1,
-                        [
-                            "7 steps, 5 refused, 0 reads answered, 0 differ",
-                            "  refused         2 E1 NotDecoded: out port 3B4 (first at step 2)",
-                            (
-                                "  refused         2 E1 NotDecoded: out port 3B5 index 01 (first at"
-                                " step 3)"
-                            ),
-                            "  refused         1 E2 NotInProfile: in port 3C7 (first at step 6)",
-                        ],
-                        "",
-                    ),
-                ),
-                (
-                    BEGIN + b"- w p 3C0 10 1\n- w p 3C0 C 1\n- r p 3C1 0 1\n",
-                    *3 * ["ok"],
-                    "01",
-                    PICTURE,
-                    (
-                        1,
-                        [
-                            "5 steps, 0 refused, 1 reads answered, 1 differ",
-                            "  read            1 in port 3C1 index 10",
-                            (
-                                "  differ          1 in port 3C1 index 10 (first at step 4: traced"
-                                " 00, answered 01)"
-                            ),
-                        ],
-                        "",
-                    ),
-                ),
-            ),
+        for frame in frames:
+            self.assertEqual(self.check(*self.GOOD[:-1], frame), (0, whole, ""))
+        told = "7 steps, 0 refused, 3 reads answered, 0 differ, 1 skipped"
+        done = self.check(*self.changed(s5="skipped"))
+        self.assertEqual(done, (0, [told, index, status, memory[1]], ""))
+
+    def test_refusals_and_reads_that_differ_are_counted_by_kind(self) -> None:
+        answers: tuple[str | bytes, ...] = (
+            "ok",
+            *4 * ["E1 NotDecoded"],
+            "E2 NotInProfile",
+            PICTURE,
         )
+        self.assertEqual(self.check(*answers, given=REFUSING), (1, REFUSED_BY_KIND, ""))
+        given = BEGIN + b"- w p 3C0 10 1\n- w p 3C0 C 1\n- r p 3C1 0 1\n"
+        done = self.check(*3 * ["ok"], "01", PICTURE, given=given)
+        self.assertEqual(done, (1, DIFFERING_BY_KIND, ""))
 
     def test_reads_that_differ(self) -> None:
         front, last = "  differ          1", "  read            1 getw memory A0000"
@@ -871,7 +839,7 @@ class Folding(unittest.TestCase):
                 (other, texts(*other)),
             ),
         )
-        self.assertEqual([row.count for row in folded(other, TraceStep.data)], [20])
+        self.assertEqual([row.times for row in folded(other, TraceStep.data)], [20])
 
     def test_short_rows_stay(self) -> None:
         # Five polls of three bytes are 15 bytes, and a block of them seven: less than half.
@@ -891,6 +859,6 @@ class Folding(unittest.TestCase):
                 [POLL._replace(cycle=number) for number in range(1, 2 * 65535 + 4)], TraceStep.data
             )
         )
-        self.assertEqual([row.count for row in rows], [65535, 65535, 1, 1, 1])
+        self.assertEqual([row.times for row in rows], [65535, 65535, 1, 1, 1])
         self.assertEqual([row.cycle for row in rows], [65535, 131070, 131071, 131072, 131073])
         self.assertEqual(Written(False).row(rows[0]), bytes.fromhex("0D FFFF 03DA03 0E"))

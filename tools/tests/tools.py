@@ -24,7 +24,7 @@ from typing import Any, BinaryIO, Callable, Iterable, Mapping, NamedTuple, Optio
 from unittest import mock
 
 from zaklimot_tools.core.trouble import Trouble
-from zaklimot_tools.dev.testing.discovering import BUILT, TESTED
+from zaklimot_tools.dev.testing.running import BUILT, TESTED
 from zaklimot_tools.script.program import PROGRAM as BUILT_PROGRAM
 from zaklimot_tools.script.words import FONTS
 

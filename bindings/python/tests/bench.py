@@ -12,7 +12,7 @@ import sys
 import tempfile
 import time
 from pathlib import Path
-from typing import Callable
+from typing import Any, Callable
 
 import header
 
@@ -62,7 +62,9 @@ def by_python(name: str, mode: str, times: int) -> float:
     """Microseconds of a call through the package, in a loop."""
     import zaklimot
 
-    with zaklimot.Card() as card:
+    with zaklimot.Card() as opened:
+        # Lists are made of what calls answer, also of those that answer nothing.
+        card: Any = opened
         card.int10(ax=int(mode, 16))
         state, screen = card.save(), bytes(64_000)
         numbers = range(times)
@@ -111,14 +113,15 @@ def main() -> int:
     print("| Call | Mode | C, µs | Python, µs | times |\n|---|---|---|---|---|")
     with tempfile.TemporaryDirectory(prefix="zaklimot-bench-") as name:
         program = Path(name) / "calls"
-        words = [
+        library = folder / "lib" / "libzaklimot.a"
+        words: list[str | Path] = [
             "gcc",
             "-std=c99",
             "-O2",
             "-I",
             folder / "include",
             CALLS,
-            folder / "lib" / "libzaklimot.a",
+            library,
         ]
         subprocess.run([*words, "-o", program], check=True)
         for call, mode, times in TIMED:

@@ -25,8 +25,8 @@ def _frame(card: Card) -> bytes:
 
 
 def _int10(card: Card, words: list[str]) -> bytes:
-    numbers = [int(word[3:], 16) for word in words[1:5]]
-    answer = card.int10(*numbers, block=bytes.fromhex(words[6]) if len(words) > 5 else b"")
+    ax, bx, cx, dx = (int(word[3:], 16) for word in words[1:5])
+    answer = card.int10(ax, bx, cx, dx, bytes.fromhex(words[6]) if len(words) > 5 else b"")
     table = f" block {answer.table.hex().upper()}" if answer.table else ""
     return (
         f"ax={answer.ax:04X} bx={answer.bx:04X} cx={answer.cx:04X} dx={answer.dx:04X}{table}\n"

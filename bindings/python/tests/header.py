@@ -17,12 +17,12 @@ FIELD = re.compile(r"(\w+)(?:\[(\d+)\])?")
 
 
 class Field(NamedTuple):
-    """A field of a struct: its name, its type in C, and how many there are, or 0 where it is no
-    array."""
+    """A field of a struct: its name, its type in C, and how many elements it has as an array, or 0
+    where it is none."""
 
     name: str
     kind: str
-    count: int
+    elements: int
 
 
 def text() -> str:

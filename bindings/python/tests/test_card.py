@@ -10,11 +10,32 @@ import unittest
 import zlib
 from fractions import Fraction
 from random import Random
-from typing import Callable
+from typing import Any, Callable
 
 import zaklimot
-from cards import card_in
-from zaklimot import Card
+from cards import Call, calls, card_in
+from zaklimot import Card, Picture
+from zaklimot._library import Fonts
+
+
+def component(picture: Picture, *place: int) -> int:
+    """A component of a picture, by the row, the column and its number in the dot. Types of the
+    standard library know memory of one dimension only."""
+    pixels: Any = picture.pixels
+    return int(pixels[place])
+
+
+# A cycle at a place.
+Cycle = Callable[[int], object]
+
+
+def decodes(cycle: Cycle, at: int) -> bool:
+    """Whether the adapter takes a cycle."""
+    try:
+        cycle(at)
+    except zaklimot.Refusal:
+        return False
+    return True
 
 
 class Cycles(unittest.TestCase):
@@ -36,7 +57,7 @@ class Cycles(unittest.TestCase):
 
     def test_refusals_and_their_numbers(self) -> None:
         card = self.card
-        for call in (
+        for call in calls(
             lambda: card.out(0x60, 0),
             lambda: card.out_word(0xFFFF, 0),
             lambda: card.inp(0x60),
@@ -53,16 +74,18 @@ class Cycles(unittest.TestCase):
             card.inp(0x3C7)
 
     def test_refused_calls_of_the_bios(self) -> None:
-        for kind, registers, block in (
-            (zaklimot.BadFunction, (0xFF00,), b""),
-            (zaklimot.BadMode, (0x0099,), b""),
-            (zaklimot.WrongKind, (0x1112,), b""),
-            (zaklimot.BadPage, (0x0501,), b""),
-            (zaklimot.Outside, (0x0C00, 0, 320, 0), b""),
-            (zaklimot.BadBlock, (0x1300, 0, 3, 0), b"ab"),
-        ):
+        card = self.card
+        refused: tuple[tuple[type[zaklimot.Refusal], Call], ...] = (
+            (zaklimot.BadFunction, lambda: card.int10(0xFF00)),
+            (zaklimot.BadMode, lambda: card.int10(0x0099)),
+            (zaklimot.WrongKind, lambda: card.int10(0x1112)),
+            (zaklimot.BadPage, lambda: card.int10(0x0501)),
+            (zaklimot.Outside, lambda: card.int10(0x0C00, 0, 320, 0)),
+            (zaklimot.BadBlock, lambda: card.int10(0x1300, 0, 3, 0, block=b"ab")),
+        )
+        for kind, call in refused:
             with self.subTest(kind), self.assertRaises(kind) as caught:
-                self.card.int10(*registers, block=block)
+                call()
             self.assertIsInstance(caught.exception, zaklimot.Refusal)
 
     def test_the_clock(self) -> None:
@@ -189,42 +212,35 @@ class Transfers(unittest.TestCase):
     def transfer(self, random: Random, other: Card) -> None:
         """A transfer, and its cycles on the other card; what they answer is compared."""
         begin, count = 0xA0000 + random.randrange(-20, 0x10000), random.randrange(40)
-        target, down, value = (
-            begin + random.randrange(-30, 30),
-            random.random() < 0.5,
-            random.randrange(256),
-        )
+        target, down = begin + random.randrange(-30, 30), random.random() < 0.5
+        value = random.randrange(256)
         order = range(count)[::-1] if down else range(count)
-        data, read, decoded = (
-            random.getrandbits(8 * 40).to_bytes(40, "little")[:count],
-            bytearray(b"\xff" * count),
-            0,
-        )
-
-        def done(call: Callable[[], object]) -> int:
-            try:
-                call()
-            except zaklimot.Refusal:
-                return 0
-            return 1
+        data = random.getrandbits(8 * 40).to_bytes(40, "little")[:count]
+        read = bytearray(b"\xff" * count)
 
         def get(at: int) -> None:
             read[at] = other.get(begin + at)
 
-        kind = random.randrange(4)
-        for at in order:
-            if kind in (0, 1):
-                decoded += done(lambda: other.put(begin + at, (data[at], value)[kind]))
-                continue
-            decoded += done(lambda: get(at))
-            if kind == 3:
-                decoded += done(lambda: other.put(target + at, read[at]))
-        told: object = (
-            lambda: self.card.put_bytes(begin, data, down),
-            lambda: self.card.fill(begin, value, count, down),
-            lambda: self.card.get_bytes(begin, count, down),
-            lambda: self.card.move(begin, target, count, down),
-        )[kind]()
+        # A call, and the cycles of which it is made for the byte at a place.
+        card = self.card
+        kinds: tuple[tuple[Call, tuple[Cycle, ...]], ...] = (
+            (
+                lambda: card.put_bytes(begin, data, down),
+                (lambda at: other.put(begin + at, data[at]),),
+            ),
+            (
+                lambda: card.fill(begin, value, count, down),
+                (lambda at: other.put(begin + at, value),),
+            ),
+            (lambda: card.get_bytes(begin, count, down), (get,)),
+            (
+                lambda: card.move(begin, target, count, down),
+                (get, lambda at: other.put(target + at, read[at])),
+            ),
+        )
+        call, cycles = random.choice(kinds)
+        told = call()
+        decoded = sum(decodes(cycle, at) for at in order for cycle in cycles)
         if isinstance(told, zaklimot.ReadBytes):
             self.assertEqual((told, told.decoded), (read, decoded))
         else:
@@ -296,7 +312,7 @@ class Frames(unittest.TestCase):
         self.assertEqual(picture[639, 399], (63, 63, 21))
         self.assertEqual(picture[637, 399], (0, 0, 0))
         self.assertEqual(picture.pixels.shape, (400, 640, 3))
-        self.assertEqual(picture.pixels[399, 638, 2], 21)
+        self.assertEqual(component(picture, 399, 638, 2), 21)
         rows = list(picture.rows())
         self.assertEqual((len(rows), bytes(rows[399][-3:])), (400, bytes((63, 63, 21))))
         for place in ((640, 0), (0, 400), (-1, 0)):
@@ -349,7 +365,7 @@ class Frames(unittest.TestCase):
         picture = self.card.frame()
         place, other = (639, 399), (637, 399)
         for x, y in (place, other):
-            red_green_blue = tuple(picture.pixels[y, x, part] for part in range(3))
+            red_green_blue = tuple(component(picture, y, x, part) for part in range(3))
             self.assertEqual(picture[x, y], red_green_blue)
         self.assertNotEqual(picture[place], picture[other])
 
@@ -556,7 +572,7 @@ class Bios(unittest.TestCase):
     def test_the_screen(self) -> None:
         self.assertEqual(self.card.screen(), zaklimot.Screen(0, 0, 80, 25, 3, True, 0, 8))
         self.assertIs(self.card.screen().is_text, True)
-        for call in (
+        for call in calls(
             lambda: self.card.cell(25, 0),
             lambda: self.card.cell(0, 80),
             lambda: self.card.cell(0, 0, page=8),
@@ -570,7 +586,7 @@ class Bios(unittest.TestCase):
         self.card.int10(ax=0x12)
         self.card.int10(ax=0x0C05, cx=639, dx=479)
         self.assertEqual((self.card.pixel(639, 479), self.card.pixel(638, 479)), (5, 0))
-        for call in (
+        for call in calls(
             lambda: self.card.pixel(640, 0),
             lambda: self.card.pixel(0, 480),
             lambda: self.card.cell(0, 0),
@@ -582,7 +598,7 @@ class Bios(unittest.TestCase):
 
     def test_no_screen(self) -> None:
         with Card() as card:
-            for call in (
+            for call in calls(
                 card.screen,
                 lambda: card.cell(0, 0),
                 lambda: card.pixel(0, 0),
@@ -590,7 +606,7 @@ class Bios(unittest.TestCase):
             ):
                 with self.assertRaises(zaklimot.NoScreen):
                     call()
-            for call in (card.cells, card.text, lambda: card.int10(ax=0x0E41)):
+            for call in calls(card.cells, card.text, lambda: card.int10(ax=0x0E41)):
                 with self.assertRaises(zaklimot.NoMode):
                     call()
 
@@ -660,7 +676,8 @@ class State(unittest.TestCase):
 class Opening(unittest.TestCase):
     def test_fonts(self) -> None:
         self.assertEqual(len(zaklimot.default_fonts()), zaklimot.FONTS_SIZE)
-        for fonts in (b"", bytes(zaklimot.FONTS_SIZE + 1), __file__):
+        wrong: tuple[Fonts, ...] = (b"", bytes(zaklimot.FONTS_SIZE + 1), __file__)
+        for fonts in wrong:
             with self.assertRaises(zaklimot.FontSize):
                 Card(fonts)
         with Card(bytes(zaklimot.FONTS_SIZE)) as card:

@@ -5,11 +5,12 @@ from __future__ import annotations
 
 import ctypes
 import unittest
+from typing import Any
 
 import header
 from zaklimot import _calls, _errors, _library, _state, _structs, _version, format
 
-KINDS = {
+KINDS: dict[str, Any] = {
     "bool": ctypes.c_bool,
     "pointer": ctypes.c_void_p,
     "size_t": ctypes.c_size_t,
@@ -19,7 +20,7 @@ KINDS = {
     "zak_status": ctypes.c_uint32,
 }
 # Where the objects of the package have other names than the structs.
-OBJECTS = {
+OBJECTS: dict[str, Any] = {
     "registers": _state.Registers,
     "beam": _state.Beam,
     "bda": _state.BiosData,
@@ -48,7 +49,7 @@ class Header(unittest.TestCase):
         self.assertEqual(own, set(structs))
         for name, fields in structs.items():
             wanted = [
-                (one.name, KINDS[one.kind] * one.count if one.count else KINDS[one.kind])
+                (one.name, KINDS[one.kind] * one.elements if one.elements else KINDS[one.kind])
                 for one in fields
             ]
             self.assertEqual(getattr(_structs, name)._fields_, wanted, name)

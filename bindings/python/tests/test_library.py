@@ -65,7 +65,8 @@ class Finding(unittest.TestCase):
     def test_a_file_that_is_not_there(self) -> None:
         for names in ({"ZAKLIMOT_LIBRARY": "/no-such-file"}, {"ZAKLIMOT_DIR": "/no-such-folder"}):
             told = said(TRIED, **names)
-            self.assertIn(*names.values(), told)
+            for value in names.values():
+                self.assertIn(value, told)
             for word in (
                 "missing: ",
                 "pip install bindings/python",
@@ -177,9 +178,9 @@ class Importing(unittest.TestCase):
         )
         self.assertEqual(zaklimot.__version__, _version.VERSION)
         with self.assertRaisesRegex(AttributeError, "has no attribute 'Crad'"):
-            zaklimot.Crad  # type: ignore[attr-defined]
+            zaklimot.Crad
         with self.assertRaises(ImportError):
-            from zaklimot import Crad  # type: ignore[attr-defined]  # noqa: F401
+            from zaklimot import Crad  # noqa: F401
 
 
 def _libc() -> str:

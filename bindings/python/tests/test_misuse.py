@@ -12,7 +12,7 @@ import sys
 import threading
 import unittest
 import weakref
-from typing import Any
+from typing import Any, Callable
 
 import zaklimot
 from zaklimot import Card
@@ -146,7 +146,8 @@ class Closed(unittest.TestCase):
 
     def test_cards_are_not_copied(self) -> None:
         with Card() as card:
-            for way in (copy.copy, copy.deepcopy, pickle.dumps):
+            ways: tuple[Callable[[Card], object], ...] = (copy.copy, copy.deepcopy, pickle.dumps)
+            for way in ways:
                 with self.assertRaises(TypeError):
                     way(card)
 
@@ -274,8 +275,13 @@ class Numbers(unittest.TestCase):
                     self.card.run_on(wrong)
 
     def test_buffers(self) -> None:
+        drawing: tuple[Callable[..., object], ...] = (
+            self.card.frame,
+            self.card.frame_xrgb,
+            self.card.frame_words,
+        )
         for wrong in (b"bytes", "text", 5, memoryview(bytearray(8))[::2]):
-            for call in (self.card.frame, self.card.frame_xrgb, self.card.frame_words):
+            for call in drawing:
                 with self.subTest(wrong), self.assertRaises(TypeError):
                     call(into=wrong)
             for name in ("save_into", "save_fixed_into"):
@@ -286,7 +292,7 @@ class Numbers(unittest.TestCase):
         with self.assertRaises(ValueError):
             self.card.frame_xrgb(into=odd, pitch=640)
         for pitch in (-1, 2**32, 2**70, zaklimot.WIDEST + 1):
-            for call in (self.card.frame_xrgb, self.card.frame_words):
+            for call in drawing[1:]:
                 with self.assertRaises(ValueError):
                     call(pitch=pitch)
         with self.assertRaises(TypeError):

@@ -72,7 +72,7 @@ def told_by_readelf(library: str) -> Optional[tuple[int, int]]:
 
 class Glibc(unittest.TestCase):
     def test_each_kind_of_file(self) -> None:
-        needs = [
+        needs: list[Need] = [
             ("libm.so.6", ["GLIBC_2.29"]),
             ("libc.so.6", ["GLIBC_2.2.5", "GLIBC_2.14", "GLIBC_2.4"]),
             ("ld-linux-x86-64.so.2", []),
@@ -96,14 +96,15 @@ class Glibc(unittest.TestCase):
         self.assertEqual(glibc_of(elf([good])), (2, 17))
         relative: Need = ("libc.so.6", ["GLIBC_2.17", "GLIBC_ABI_DT_RELR"])
         self.assertEqual(glibc_of(elf([relative])), (2, 36))
-        for needs in (
+        foreign: tuple[list[Need], ...] = (
             [good, ("libz.so.1", [])],
             [good, ("ld-linux", [])],
             [("libc.so.6", ["GLIBC_2.17", "GLIBC_PRIVATE"])],
             [("libc.so.6", ["GLIBC_2"])],
             [("libc.musl-x86_64.so.1", [])],
             [],
-        ):
+        )
+        for needs in foreign:
             with self.subTest(needs):
                 self.assertIsNone(glibc_of(elf(needs)))
 

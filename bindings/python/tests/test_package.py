@@ -310,7 +310,7 @@ class Examples(unittest.TestCase):
     def test_a_picture_that_can_not_be_written(self) -> None:
         with tempfile.TemporaryDirectory() as name:
             path = Path(name) / "none" / "picture.png"
-            for words in (("picture.py", path), ("palette.py", "13", path)):
+            for words in (("picture.py", str(path)), ("palette.py", "13", str(path))):
                 with self.subTest(words), self.assertRaisesRegex(
                     AssertionError, f": {path}: No such file or directory\n$"
                 ):

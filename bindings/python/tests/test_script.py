@@ -7,6 +7,7 @@ import inspect
 import unittest
 
 import zaklimot
+from cards import calls
 from zaklimot import CRTC, GFX, SEQ, Card, Script, _script
 from zaklimot.format import FORMS
 
@@ -107,7 +108,7 @@ class Scripts(unittest.TestCase):
 
     def test_what_is_out_of_range(self) -> None:
         script = Script()
-        for call in (
+        for call in calls(
             lambda: script.out(0x10000, 0),
             lambda: script.out(SEQ.MAP_MASK, 256),
             lambda: script.put(2**32, 0),

@@ -3,8 +3,10 @@
 from __future__ import annotations
 
 import unittest
+from typing import Optional
 
 import zaklimot
+from cards import Call
 from zaklimot import Card
 
 TEXT = (
@@ -81,7 +83,7 @@ class Forms(unittest.TestCase):
             self.assertEqual(zaklimot.run(form).raw, zaklimot.run(TEXT).raw)
 
     def test_faults(self) -> None:
-        for kind, number, place, call in (
+        faults: tuple[tuple[type[zaklimot.ScriptError], int, Optional[int], Call], ...] = (
             (zaklimot.BadLine, 107, 2, lambda: zaklimot.assemble("frame\nmove 3C4 02")),
             (zaklimot.BadLine, 107, 3, lambda: zaklimot.run("; é\n\nframe 2")),
             (zaklimot.BadStep, 104, 5, lambda: zaklimot.run(b"VGAS\x01\x63")),
@@ -97,7 +99,8 @@ class Forms(unittest.TestCase):
                     b"VGAS\x02" + b"\x0d\xff\xff" + 300 * b"\x0b" + b"\x0e"
                 ),
             ),
-        ):
+        )
+        for kind, number, place, call in faults:
             with self.subTest(kind), self.assertRaises(kind) as caught:
                 call()
             fault = caught.exception

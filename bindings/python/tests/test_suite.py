@@ -25,7 +25,9 @@ EXAMPLES = sorted((header.TOP / "examples").glob("*.vga"))
 def difference(report: bytes, case: Case) -> Optional[str]:
     """The first step in which a report differs from a case's."""
     with open(case.expected, "rb") as stream:
-        own = Report(io.BufferedReader(io.BytesIO(report)), "the report").steps()
+        # What `BufferedReader` asks of a stream, bytes in memory have too.
+        read = io.BufferedReader(io.BytesIO(report))  # type: ignore[arg-type]
+        own = Report(read, "the report").steps()
         wanted = Expected(stream, str(case.expected)).steps()
         for found in Comparison().differences(own, wanted):
             return found.told()

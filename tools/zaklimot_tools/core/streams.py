@@ -177,10 +177,32 @@ def write_name(path: Union[str, Path]) -> None:
     sys.stdout.buffer.write(os.fsencode(path) + b"\n")
 
 
-def members(values: Mapping[str, object]) -> str:
-    """The members of a JSON object, without its brackets: a list may follow that is written as it
-    comes."""
-    return ", ".join(f"{json.dumps(name)}: {json.dumps(value)}" for name, value in values.items())
+class JsonList:
+    """A JSON object that is written as it comes: its first members, then a list with a line for
+    each entry, and members behind it."""
+
+    def __init__(self, stream: BinaryIO, name: str, front: Mapping[str, object]) -> None:
+        self._stream = stream
+        self._count = 0
+        # The list takes the place of the bracket that closes the object.
+        self._write(f"{json.dumps({**front, name: []})[:-2]}")
+
+    def _write(self, text: str) -> None:
+        self._stream.write(text.encode("ascii"))
+
+    def begin_entry(self) -> None:
+        """Begins the next entry, which is written then."""
+        self._write(",\n" if self._count else "\n")
+        self._count += 1
+
+    def add(self, entry: object) -> None:
+        """Writes an entry."""
+        self.begin_entry()
+        self._write(json.dumps(entry))
+
+    def end(self, behind: Mapping[str, object]) -> None:
+        """Ends the list and the object, with these members behind the list."""
+        self._write("\n]" + (", " + json.dumps(behind)[1:] if behind else "}"))
 
 
 def counted(count: int, what: str) -> str:

@@ -2,7 +2,7 @@
 for the reason."""
 
 from functools import partial
-from typing import Optional
+from typing import Callable, Optional
 
 from zaklimot.format import (
     FAULT,
@@ -35,6 +35,8 @@ UNKNOWN = said("lines", "unknown")
 FOREIGN = {bytes.fromhex(begin): what for begin, what in WORDINGS["foreign"]}
 CONTROLS, LOOKED_AT = set(range(32)) - set(b"\t\n\v\f\r"), 200
 SHOWS = FORMS["show regs"].opcode
+# The bytes of a font whose characters have 16, 14 or 8 rows.
+FONTS_OF_ONE_HEIGHT = (4096, 3584, 2048)
 TOO_LONG = f"F6 TooLong: a script has at most {MOST_BYTES:,} bytes"
 # What the program could not do for want of something of the system's.
 SYSTEM = {
@@ -67,36 +69,39 @@ def explained(fault: str, script: str, fonts: str) -> str:
         return f"{script}: {fault.strip() or 'the program ended without a word'}"
     name = found[2]
     place = None if found[3] is None else int(found[3])
-    file = script
-    reason = SYSTEM.get(name, UNKNOWN)
     if name == "ReadFault":
-        unread = (
-            (path, what, _read(path)[1])
-            for path, what in ((fonts, "font file"), (script, "script"))
-        )
-        told = ((path, f"the {what} can't be read: {why}") for path, what, why in unread if why)
-        file, reason = next(told, (file, reason))
+        file, reason = _unread(script, fonts)
     elif name == "FontSize":
-        data, _ = _read(fonts)
-        count = f"{len(data):,}" if len(data) <= MOST_BYTES else f"more than {MOST_BYTES:,}"
-        rows = (
-            f"; a font of {len(data) // 256} rows alone has so many, and a font file has those of"
-            " 8, 14 and 16 rows"
-        )
-        is_script = data.startswith(MAGIC)
-        hint = (
-            rows
-            if len(data) in (4096, 3584, 2048)
-            else "; it is a script of bytes"
-            if is_script
-            else ""
-        )
-        file = fonts
-        reason = f"the font file has {count} bytes, and {FONT_BYTES:,} are right{hint}"
+        file, reason = fonts, _font_size(_read(fonts)[0])
     elif name in FAULTS and name not in SYSTEM:
         file = f"{script}:{place}" if FAULTS[name].place == "line" else script
         reason = reason_of(name, place, _read(script)[0])
+    else:
+        file, reason = script, SYSTEM.get(name, UNKNOWN)
     return f"{file}: {found[0]}: {reason}"
+
+
+def _unread(script: str, fonts: str) -> tuple[str, str]:
+    """The file of a run that can't be read, and why; the script, where both can by now."""
+    for path, what in ((fonts, "font file"), (script, "script")):
+        _, why = _read(path)
+        if why:
+            return path, f"the {what} can't be read: {why}"
+    return script, UNKNOWN
+
+
+def _font_size(data: bytes) -> str:
+    """What is told of the bytes of a font file that are too few or too many."""
+    count = f"{len(data):,}" if len(data) <= MOST_BYTES else f"more than {MOST_BYTES:,}"
+    hint = ""
+    if len(data) in FONTS_OF_ONE_HEIGHT:
+        hint = (
+            f"; a font of {len(data) // 256} rows alone has so many, and a font file has those of"
+            " 8, 14 and 16 rows"
+        )
+    elif data.startswith(MAGIC):
+        hint = "; it is a script of bytes"
+    return f"the font file has {count} bytes, and {FONT_BYTES:,} are right{hint}"
 
 
 def _read(path: str) -> tuple[bytes, Optional[str]]:
@@ -110,28 +115,38 @@ def _read(path: str) -> tuple[bytes, Optional[str]]:
 
 def reason_of(name: str, place: Optional[int], data: bytes) -> str:
     """The reason of a fault of this name in the bytes of a script, as far as it is found."""
-    if name == "BadLine" and place is not None:
-        return _bad_line(data, place)
-    if name == "TooLong":
-        what = _of_fault("file has" if len(data) > MOST_BYTES else "steps have")
-        return _of_fault("too long", what=what, most=MOST_BYTES)
-    if name == "BadMagic":
-        none = not_a_script(data)
-        looks = _of_file("a text") if data and none is None else none or _of_file("no script")
-        begins = " ".join(f"{byte:02X}" for byte in data[:4]) or _of_fault("nothing")
-        return _of_fault("magic", begins=begins, looks=looks)
-    if name == "BadVersion":
-        versions = " and ".join(f"{version:02X}" for version in HEADERS)
-        return _of_fault("version", version=data[4], versions=versions)
+    if name in OF_SCRIPTS:
+        return OF_SCRIPTS[name](data)
     if name == "TooMany":
-        name = "too many anywhere" if place is None else "too many"
-        return _of_fault(name, place=place, most=MOST_STEPS)
-    if name == "Truncated" and place is not None:
-        if place >= len(data):
-            return _of_fault("no version")
-        name = OPCODES.get(data[place], "")
-        return _of_fault("cut off", name=name, place=place, count=len(data) - place)
-    return _bad_step(data, place) if name == "BadStep" and place is not None else UNKNOWN
+        named = "too many anywhere" if place is None else "too many"
+        return _of_fault(named, place=place, most=MOST_STEPS)
+    if name in OF_PLACES and place is not None:
+        return OF_PLACES[name](data, place)
+    return UNKNOWN
+
+
+def _too_long(data: bytes) -> str:
+    what = _of_fault("file has" if len(data) > MOST_BYTES else "steps have")
+    return _of_fault("too long", what=what, most=MOST_BYTES)
+
+
+def _bad_magic(data: bytes) -> str:
+    none = not_a_script(data)
+    looks = _of_file("a text") if data and none is None else none or _of_file("no script")
+    begins = " ".join(f"{byte:02X}" for byte in data[:4]) or _of_fault("nothing")
+    return _of_fault("magic", begins=begins, looks=looks)
+
+
+def _bad_version(data: bytes) -> str:
+    versions = " and ".join(f"{version:02X}" for version in HEADERS)
+    return _of_fault("version", version=data[4], versions=versions)
+
+
+def _truncated(data: bytes, place: int) -> str:
+    if place >= len(data):
+        return _of_fault("no version")
+    name = OPCODES.get(data[place], "")
+    return _of_fault("cut off", name=name, place=place, count=len(data) - place)
 
 
 def _bad_line(data: bytes, number: int) -> str:
@@ -202,3 +217,16 @@ def _bad_step(data: bytes, place: int) -> str:
     if opcode == SHOWS:
         return _of_fault("bad plane", place=place)
     return UNKNOWN
+
+
+# The reasons of faults, from the bytes of the script alone, and from the place that a fault names.
+OF_SCRIPTS: dict[str, Callable[[bytes], str]] = {
+    "TooLong": _too_long,
+    "BadMagic": _bad_magic,
+    "BadVersion": _bad_version,
+}
+OF_PLACES: dict[str, Callable[[bytes, int], str]] = {
+    "BadLine": _bad_line,
+    "Truncated": _truncated,
+    "BadStep": _bad_step,
+}

@@ -27,6 +27,7 @@ from zaklimot.format import (
     SHOWN,
     Field,
     decimal,
+    Line,
     lines_in,
 )
 
@@ -89,23 +90,27 @@ def mistake_among_lines(data: bytes, number: int) -> Optional[str]:
     """Why a good line is bad where it stands in a text, as the end of a block that none has
     begun."""
     lines = list(lines_in(BytesIO(data)))
-    line = next((line for line in lines if line.number == number), None)
-    if line is None:
+    at = next((at for at, line in enumerate(lines) if line.number == number), None)
+    if at is None:
         return None
-    if line.name == "version":
-        return _said("version twice", version=FIRST_LINE) if line is not lines[0] else None
-    if line.name in BLOCK_LINES and not lines[0].has_blocks:
+    name = lines[at].name
+    if name == "version":
+        return _said("version twice", version=FIRST_LINE) if at else None
+    if name in BLOCK_LINES and not lines[0].has_blocks:
         return _said("repeats of version 2", version=FIRST_LINE)
-    opened = None
-    for other in lines[: lines.index(line)]:
-        opened = other if other.name == REPEAT else None if other.name == END else opened
-    if line.name == END and opened is None:
-        return _said("no repeat")
-    if line.name == REPEAT and opened is not None:
+    return _mistake_of_block(lines, at) if name in BLOCK_LINES else None
+
+
+def _mistake_of_block(lines: Sequence[Line], at: int) -> Optional[str]:
+    """Why a line that begins or ends a block is bad where it stands."""
+    before = (line for line in lines[:at][::-1] if line.name in BLOCK_LINES)
+    last = next(before, None)
+    opened = last if last is not None and last.name == REPEAT else None
+    if lines[at].name == END:
+        return _said("no repeat") if opened is None else None
+    if opened is not None:
         return _said("repeat in a repeat", line=opened.number)
-    if line.name != REPEAT:
-        return None
-    has_end = any(other.name == END for other in lines[lines.index(line) :])
+    has_end = any(line.name == END for line in lines[at:])
     return _said("long repeat", most=MOST_STEPS) if has_end else _said("no end")
 
 

@@ -25,6 +25,7 @@ from .banks import (
     SEQUENCER,
     STATUS,
     TOTAL,
+    Bank,
     Banks,
 )
 from .wordings import WORDINGS, said
@@ -189,7 +190,7 @@ def why_refused(words: str, number: int, state: Registers) -> str:
     if number in (1, 2):
         reason = _not_decoded if number == 1 else _not_in_profile
         # Another program than the adapter's may refuse any step so.
-        return next(filter(None, (reason(state, *cycle) for cycle in _cycles(step))), "")
+        return next(filter(None, (reason(state, access) for access in _cycles(step))), "")
     if step.name == "show cells" and number == 6:
         return _why("cells")
     told = OF_CALLS.get(number)
@@ -206,59 +207,75 @@ def step_of(words: str) -> Optional[Step]:
         return None
 
 
-def _cycles(step: Step) -> Iterator[tuple[bool, int, Optional[int], Optional[int]]]:
-    """Whether a cycle is of memory, its port or address, the byte written to a port, the index that
-    the step picked."""
+class Access(NamedTuple):
+    """A cycle of a step: whether it is of memory, its port or address, the byte that it writes to a
+    port, and the index that the step picked."""
+
+    is_memory: bool
+    place: int
+    value: Optional[int]
+    picked: Optional[int]
+
+
+def _cycles(step: Step) -> Iterator[Access]:
+    """The cycles of a step, each of a byte."""
     if step.name in CYCLES:
         written = dict(bytes_written(step))
         first = step.numbers[0]
         for place in range(first, first + 1 + step.name.endswith("w")):
             picked = written.get(place - 1) if place - 1 in INDEX_PORTS else None
-            yield step.name.startswith(("put", "get")), place, written.get(place), picked
+            is_memory = step.name.startswith(("put", "get"))
+            yield Access(is_memory, place, written.get(place), picked)
 
 
-def _not_decoded(
-    state: Registers, is_memory: bool, place: int, value: Optional[int], _: Optional[int]
-) -> str:
-    banks = state.banks
-    misc = banks.misc
-    first, last = SHOWN_WINDOWS[state.map]
-    if is_memory and not misc & ENABLE_MEMORY:
+def _not_decoded(state: Registers, access: Access) -> str:
+    """Why nothing answers at the place of a cycle; empty where something does."""
+    if access.is_memory:
+        return _outside(state, access.place)
+    port = access.place
+    if port in CRT_PORTS:
+        base = state.banks.controller
+        told = partial(_why, "CRT controller elsewhere", base=base, bit=state.banks.misc & 1)
+        return "" if port & 0xFF0 == base & 0xFF0 else told(port=port, other=port ^ 0x60)
+    if port in READ_ALONE:
+        return "" if access.value is None else _why("read alone", port=port)
+    return "" if port in READ_AND_WRITTEN else _why("no port", port=port)
+
+
+def _outside(state: Registers, address: int) -> str:
+    """Why memory doesn't answer at an address; empty where it does."""
+    if not state.banks.misc & ENABLE_MEMORY:
         return _why("memory off")
-    if is_memory:
-        is_inside = first <= place <= last
-        return (
-            ""
-            if is_inside
-            else _why("outside", map=state.map, first=first, last=last, address=place)
-        )
-    if place in CRT_PORTS:
-        is_here = place & 0xFF0 == banks.controller & 0xFF0
-        told = partial(_why, "CRT controller elsewhere", base=banks.controller, bit=misc & 1)
-        return "" if is_here else told(port=place, other=place ^ 0x60)
-    if place in READ_ALONE:
-        return "" if value is None else _why("read alone", port=place)
-    return "" if place in READ_AND_WRITTEN else _why("no port", port=place)
+    first, last = SHOWN_WINDOWS[state.map]
+    if first <= address <= last:
+        return ""
+    return _why("outside", map=state.map, first=first, last=last, address=address)
 
 
-def _not_in_profile(
-    state: Registers, _: bool, port: int, value: Optional[int], picked: Optional[int]
-) -> str:
-    if value is not None and port & 0xF0F == 0x30A and port != 0x3CA:
+def _not_in_profile(state: Registers, access: Access) -> str:
+    """Which part of the adapter that the profile leaves out a cycle asks for."""
+    port = access.place
+    is_read = access.value is None
+    if not is_read and port & 0xF0F == 0x30A and port != 0x3CA:
         return _why("feature control")
-    if port in LEFT_OUT and (value is None or port == 0x3C3):
+    if port in LEFT_OUT and (is_read or port == 0x3C3):
         return _why("left out", port=port, name=LEFT_OUT[port])
     banks = state.banks
     bank = banks.attr if port in (ATTRIBUTE, ATTRIBUTE + 1) else banks.bank(port - 1)
-    if bank is None:
-        return ""
-    index = bank.number if picked is None else picked & bank.index_kept & 0x1F
+    return "" if bank is None else _left_out_of(banks, bank, access)
+
+
+def _left_out_of(banks: Banks, bank: Bank, access: Access) -> str:
+    """What of the registers behind an index a cycle of their data asks for that is left out."""
+    index = bank.number if access.picked is None else access.picked & bank.index_kept & 0x1F
     if index >= len(bank.registers):
         return _why("index", group=bank.name, index=index, last=len(bank.registers) - 1)
-    if value is not None and bank is banks.crtc and index == 0x17:
+    if access.value is None:
+        return ""
+    if bank is banks.crtc and index == 0x17:
         return _why("mode control")
-    place = (COLOUR if bank is banks.crtc else port - 1, index)
-    name = LEFT_OUT_BITS.get(place) if value is not None and value & 32 else None
+    place = (COLOUR if bank is banks.crtc else access.place - 1, index)
+    name = LEFT_OUT_BITS.get(place) if access.value & 32 else None
     return _why("bit 5", name=name) if name else ""
 
 

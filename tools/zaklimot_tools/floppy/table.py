@@ -133,6 +133,53 @@ def _table_length(registers: tuple[int, ...]) -> Optional[int]:
     return 0
 
 
+def _indexed(port: int, values: Iterable[tuple[int, int]]) -> bytes:
+    """Writes to registers behind an index, each by one word at the port of the index."""
+    return b"".join(_packed(OUTW, port, value << 8 | index) for index, value in values)
+
+
+def _written(port: int, *values: int) -> bytes:
+    """Bytes that are written to a port, one after the other."""
+    return b"".join(_packed(OUT, port, value) for value in values)
+
+
+def _reach_planes() -> Iterator[bytes]:
+    """Mode 3, and then registers by which a write reaches all planes, with the palette shown no
+    more."""
+    yield _packed(INT, 0x0003, 0, 0, 0, 0, 0, 0)
+    yield _written(0x3C2, 0x03)
+    yield _indexed(0x3D4, [(0x11, 0)])
+    yield _indexed(0x3C4, [(0, 3), (4, 6), (2, 0x0F)])
+    yield _indexed(0x3CE, [*((index, 0) for index in range(8)), (8, 0xFF)])
+    # Emulators have another memory of text: planes are reached in graphics alone.
+    yield _indexed(0x3CE, [(6, 5)])
+    yield _packed(LOOK_AWAY, 0x3DA, 0)
+    yield _written(0x3C0, 0x10, 1)
+
+
+def _clear_memory() -> Iterator[bytes]:
+    """Planes, latches and the DAC's entries become 0."""
+    yield _packed(FILL, 0xA000, 0)
+    yield _packed(GET, 0xA000, 0)
+    yield _written(0x3C6, 0xFF)
+    yield _written(0x3C8, 0)
+    yield _packed(REPEAT, 3 * DAC_ENTRIES)
+    yield _written(0x3C9, 0)
+    yield _packed(END)
+
+
+def _clear_registers() -> Iterator[bytes]:
+    """The registers get their values at power-on, and the indexes last."""
+    yield _packed(LOOK_AWAY, 0x3DA, 0)
+    yield from (_written(0x3C0, index, 0) for index in range(0x15))
+    yield _written(0x3C0, 0)
+    yield _packed(LOOK_AWAY, 0x3DA, 0)
+    yield _indexed(0x3D4, ((index, 3 if index == 0x17 else 0) for index in range(0x19)))
+    yield _indexed(0x3C4, ((index, 0) for index in range(1, 5)))
+    yield _indexed(0x3CE, ((index, 0) for index in range(9)))
+    yield from (_written(port, 0) for port in (0x3C4, 0x3C8, 0x3CE, 0x3D4))
+
+
 def reset_steps() -> bytes:
     """The steps that bring the adapter into its state at power-on, after a machine's BIOS or a
     script has used it.
@@ -141,44 +188,8 @@ def reset_steps() -> bytes:
     whose sequencer stands still answers no cycle of memory. Miscellaneous output gets the value
     that stands with the script.
     """
-
-    def registers(port: int, values: Iterable[tuple[int, int]]) -> bytes:
-        return b"".join(_packed(OUTW, port, value << 8 | index) for index, value in values)
-
-    attributes = b"".join(
-        _packed(OUT, 0x3C0, index) + _packed(OUT, 0x3C0, 0) for index in range(0x15)
-    )
-    indexes = b"".join(_packed(OUT, port, 0) for port in (0x3C4, 0x3C8, 0x3CE, 0x3D4))
-    return b"".join(
-        [
-            _packed(INT, 0x0003, 0, 0, 0, 0, 0, 0),
-            _packed(OUT, 0x3C2, 0x03),
-            registers(0x3D4, [(0x11, 0)]),
-            registers(0x3C4, [(0, 3), (4, 6), (2, 0x0F)]),
-            registers(0x3CE, [*((index, 0) for index in range(8)), (8, 0xFF)]),
-            # Emulators have another memory of text: planes are reached in graphics alone.
-            registers(0x3CE, [(6, 5)]),
-            _packed(LOOK_AWAY, 0x3DA, 0),
-            _packed(OUT, 0x3C0, 0x10),
-            _packed(OUT, 0x3C0, 1),
-            _packed(FILL, 0xA000, 0),
-            _packed(GET, 0xA000, 0),
-            _packed(OUT, 0x3C6, 0xFF),
-            _packed(OUT, 0x3C8, 0),
-            _packed(REPEAT, 768),
-            _packed(OUT, 0x3C9, 0),
-            _packed(END),
-            _packed(LOOK_AWAY, 0x3DA, 0),
-            attributes,
-            _packed(OUT, 0x3C0, 0),
-            _packed(LOOK_AWAY, 0x3DA, 0),
-            registers(0x3D4, ((index, 3 if index == 0x17 else 0) for index in range(0x19))),
-            registers(0x3C4, ((index, 0) for index in range(1, 5))),
-            registers(0x3CE, ((index, 0) for index in range(9))),
-            indexes,
-            _packed(END_OF_RESET),
-        ]
-    )
+    steps = chain(_reach_planes(), _clear_memory(), _clear_registers())
+    return b"".join(steps) + _packed(END_OF_RESET)
 
 
 def _has_call(item: Item) -> bool:

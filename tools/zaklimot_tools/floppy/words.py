@@ -61,6 +61,7 @@ def _add_run(commands: Any) -> None:
 
 
 def parser() -> argparse.ArgumentParser:
+    """The parser of the command line."""
     tool = cli.tool_parser(
         "vga-floppy",
         "Runs scripts on machines: by a floppy on a PC, or on an emulator.",

@@ -105,7 +105,7 @@ class Held(NamedTuple):
     `image` has the image's dots where there are as many.
     """
 
-    count: Optional[int]  # type: ignore[assignment]
+    differing: Optional[int]
     how: str
     told: str = ""
     image: Optional[Picture] = None

@@ -20,7 +20,8 @@ from itertools import chain, combinations, takewhile
 from typing import Iterator, Mapping, Optional, Sequence
 
 from zaklimot import format
-from zaklimot_tools.trace.state import ALL_PLANES, FIRST_ADDRESS as WINDOW, PLANES, map_mask
+from zaklimot_tools.trace.state import FIRST_ADDRESS as WINDOW, PLANES, map_mask
+from zaklimot_tools.trace.trace import ALL_PLANES
 
 from .mode import Kind, Mode
 from .steps import Item, Part, service
@@ -39,7 +40,8 @@ MASKS = tuple(sorted(range(1, 16), key=lambda mask: (-bin(mask).count("1"), mask
 Word = tuple[bytes, ...]
 # Writes: the planes that each reaches, which of the word's addresses, from 0 on, and the bytes for
 # these.
-Writes = list[tuple[int, int, bytes]]
+Write = tuple[int, int, bytes]
+Writes = list[Write]
 NUMBERS = 16
 # Pixels of a word.
 WORD = 16
@@ -111,50 +113,70 @@ def least_writes(have: Word, want: Word) -> Writes:
 
 @lru_cache(maxsize=None)
 def _least(have: Word, want: Word) -> Writes:
-    """The same, found from the last write backwards: what is left then are the bytes that no later
-    write makes.
+    """The same, of words of which only that counts which bytes are alike."""
+    return _Search(have, want).least()
+
+
+class _Search:
+    """The search for the fewest writes that make one word another, from the last write backwards:
+    what is left then are the bytes that no later write makes.
 
     Bytes that are left have a bit each: four those of the low address, and four above them those of
     the high one.
     """
-    # The different bytes that the planes of each mask are to have; and so many writes are needed at
-    # least for what is left.
-    low, high = (
-        [{word[at] for plane, word in enumerate(want) if mask >> plane & 1} for mask in range(16)]
-        for at in (0, 1)
-    )
-    changed = [
-        sum(1 << plane for plane in range(PLANES) if have[plane][at] != want[plane][at])
-        for at in (0, 1)
-    ]
-    needed = [
-        max(len(low[left & changed[0]]), len(high[left >> PLANES & changed[1]]))
-        for left in range(256)
-    ]
 
-    def search(left: int, masks: Sequence[int], most: int) -> Optional[Writes]:
+    def __init__(self, have: Word, want: Word) -> None:
+        self._want = want
+        # The different bytes that the planes of each mask are to have.
+        self._low, self._high = (
+            [
+                {word[at] for plane, word in enumerate(want) if mask >> plane & 1}
+                for mask in range(16)
+            ]
+            for at in (0, 1)
+        )
+        low, high = (
+            sum(1 << plane for plane in range(PLANES) if have[plane][at] != want[plane][at])
+            for at in (0, 1)
+        )
+        # So many writes are needed at least for what is left.
+        self._needed = [
+            max(len(self._low[left & low]), len(self._high[left >> PLANES & high]))
+            for left in range(256)
+        ]
+
+    def least(self) -> Writes:
+        """The writes, in the order of masks."""
+        # A write for each plane is always enough.
+        enough = [(1 << plane, 0, word) for plane, word in enumerate(self._want)]
+        found = (self._of(255, MASKS[::-1], most) for most in range(self._needed[255], PLANES))
+        return next((writes for writes in found if writes is not None), enough)
+
+    def _of(self, left: int, masks: Sequence[int], most: int) -> Optional[Writes]:
         """So many writes at most, of these masks, that make what is left; None where there are
         none."""
-        if not needed[left]:
+        if not self._needed[left]:
             return []
-        for place, mask in enumerate(masks if needed[left] <= most else ()):
-            made = low[left & mask], high[left >> PLANES & mask]
-            for first, end, reached in ((0, 1, mask), (1, 2, mask << PLANES), (0, 2, mask * 0x11)):
-                if needed[left & ~reached] < most and all(
-                    len(alike) == 1 for alike in made[first:end]
-                ):
-                    before = search(left & ~reached, masks[place + 1 :], most - 1)
+        if self._needed[left] > most:
+            return None
+        for place, mask in enumerate(masks):
+            for write, reached in self._last(left, mask):
+                if self._needed[left & ~reached] < most:
+                    before = self._of(left & ~reached, masks[place + 1 :], most - 1)
                     if before is not None:
-                        return [
-                            *before,
-                            (mask, first, bytes(min(alike) for alike in made[first:end])),
-                        ]
+                        return [*before, write]
         return None
 
-    # A write for each plane is always enough.
-    enough = [(1 << plane, 0, word) for plane, word in enumerate(want)]
-    found = (search(255, MASKS[::-1], most) for most in range(needed[255], PLANES))
-    return next((writes for writes in found if writes is not None), enough)
+    def _last(self, left: int, mask: int) -> Iterator[tuple[Write, int]]:
+        """The writes of a mask that can be the last of those that make what is left, with the bytes
+        that each reaches: the low one, the high one, or both."""
+        low, high = self._low[left & mask], self._high[left >> PLANES & mask]
+        if len(low) == 1:
+            yield (mask, 0, bytes(low)), mask
+        if len(high) == 1:
+            yield (mask, 1, bytes(high)), mask << PLANES
+        if len(low) == len(high) == 1:
+            yield (mask, 0, bytes((*low, *high))), mask * 0x11
 
 
 def _cycles(words: Sequence[tuple[int, int]], numbers: Sequence[int]) -> int:

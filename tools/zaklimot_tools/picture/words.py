@@ -61,6 +61,7 @@ def _add_text(parser: argparse.ArgumentParser) -> None:
 
 
 def parser() -> argparse.ArgumentParser:
+    """The parser of the command line."""
     example = "tools/vga-picture script card.png card.vga --mode 12"
     told = "Makes scripts that draw an image. `-` is standard input, or standard output."
     tool = cli.tool_parser("vga-picture", told, example, "docs/PICTURES.md")

@@ -6,7 +6,6 @@ What was seen is counted, told for machines, or written into the script.
 
 import difflib
 import io
-import json
 import re
 import select
 import tempfile
@@ -15,14 +14,14 @@ from contextlib import contextmanager, nullcontext
 from functools import partial
 from itertools import chain, count, islice, repeat, zip_longest
 from pathlib import Path
-from typing import Any, BinaryIO, Callable, Iterable, Iterator, NamedTuple, Optional, Union
+from typing import Any, BinaryIO, Callable, Iterable, Iterator, NamedTuple, Optional, Union, cast
 
 from zaklimot.format import STATE, Answer, count_in, is_bytes, places_in, steps_in, words_in
 from zaklimot.format.report import VALUE
 from zaklimot.format.table import OK
 from zaklimot_tools.core.processes import IS_POSIX
 from zaklimot_tools.core.progress import Progress
-from zaklimot_tools.core.streams import counted, members, writing
+from zaklimot_tools.core.streams import JsonList, counted, writing
 from zaklimot_tools.core.trouble import Trouble
 from zaklimot_tools.explain.faults import explained
 from zaklimot_tools.explain.registers import Registers
@@ -50,10 +49,14 @@ MOST_TOLD = 1 << 20
 PAUSE = 0.2
 # A script of bytes with no step has so many.
 EMPTY = 5
+# The words of a step, the number of its line, if it stands on one, and its comment.
+Stood = tuple[str, tuple[Optional[int], bytes]]
 # The place of a step that stands on no line of the script.
 NO_PLACE = None, b""
 # The widest column of steps; what is longer has its end cut off.
 MOST_WORDS = 47
+# What a tally counts for machines.
+COUNTS = ("steps", "refused", "pictures", "expected", "met", "wrong")
 RANGE = re.compile(r"([0-9]{1,10})(?:-([0-9]{1,10}))?")
 
 
@@ -95,9 +98,7 @@ class Row(NamedTuple):
 
 
 # A row of all its parts, made in half the time that the class itself takes.
-made_row: Callable[[Iterable[object]], Row] = partial(
-    tuple.__new__, Row  # type: ignore[assignment]
-)
+made_row = cast(Callable[[Iterable[object]], Row], partial(tuple.__new__, Row))
 # What `--only` may call a step, and which steps it means.
 KINDS: dict[str, Callable[[Row], bool]] = {
     "refused": lambda row: row.step.is_refused,
@@ -176,7 +177,7 @@ class RunScript:
         longest = max(lengths, default=1) - 1
         self.width = min(max(len(HEADING), longest), MOST_WORDS)
 
-    def _steps(self) -> Iterator[tuple[str, tuple[Optional[int], bytes]]]:
+    def _steps(self) -> Iterator[Stood]:
         """The steps: each one's words as they were understood, with the number of its line and its
         comment."""
         if self._printed is None:
@@ -205,31 +206,46 @@ class RunScript:
     def _rows(
         self, fonts: str, until: Optional[int], progress: Progress, is_strict: bool, tells_why: bool
     ) -> Iterator[Row]:
-        # Behind the last step there are the dumps of a stopped run. Steps that aren't known have no
-        # words.
+        state = Registers() if tells_why else None
+        # A script may have millions of steps, and each look at an object takes its time.
+        dumps_at = self._dumps
+        is_told = progress.is_wanted
+        for (words, (number, comment)), step in self._answered(fonts, until, progress):
+            if is_told and progress.is_due():
+                progress.tell(f"{self.shown}: step {step.number} of {self._count}")
+            expected = expected_in(comment) if comment else None
+            why = "" if state is None else state.why_of(words, step)
+            dump = () if number is None else dumps_at.get(number, ())
+            yield made_row((step, words, number, expected, dump, why, is_strict))
+
+    def _meant(self, until: Optional[int]) -> Iterator[Stood]:
+        """The steps of a run that may be stopped, with the dumps behind the last of them. Steps
+        that aren't known have no words."""
         dumps = () if until is None else STATE
         unknown = repeat(("", NO_PLACE)) if self._count is None else ()
-        meant = chain(islice(self._steps(), until), ((dump, NO_PLACE) for dump in dumps), unknown)
-        count = self._count if until is None or self._count is None else min(until, self._count)
-        wanted = None if count is None else count + len(dumps)
-        state = Registers() if tells_why else None
-        dumps_at, is_told = self._dumps, progress.is_wanted
+        return chain(islice(self._steps(), until), ((dump, NO_PLACE) for dump in dumps), unknown)
+
+    def _wanted(self, until: Optional[int]) -> Optional[int]:
+        """How many answers a run is to have; None where that isn't known."""
+        if self._count is None or until is None:
+            return self._count
+        return min(until, self._count) + len(STATE)
+
+    def _answered(
+        self, fonts: str, until: Optional[int], progress: Progress
+    ) -> Iterator[tuple[Stood, Answer]]:
+        """The steps of a run, each with its answer; a Trouble where they are not as many."""
+        wanted = self._wanted(until)
         with self._program.running(Path(self._path), fonts, until, self.is_bytes) as outcome:
             _wait_for(outcome.report, self.shown, progress)
-            report = Report(outcome.report, "the report", progress)  # type: ignore[arg-type]
+            report = Report(cast(io.BufferedReader, outcome.report), "the report", progress)
             steps = report.steps()
             first = next(steps, None)
             if first is not None and first.number == 0:
                 # A fault stands in the place of the report.
                 raise self._trouble(first.answer, fonts)
             steps = chain(() if first is None else (first,), steps)
-            for (words, (number, comment)), step in zip(meant, steps):
-                if is_told and progress.is_due():
-                    progress.tell(f"{self.shown}: step {step.number} of {self._count}")
-                expected = expected_in(comment) if comment else None
-                why = "" if state is None else state.why_of(words, step)
-                dump = () if number is None else dumps_at.get(number, ())
-                yield made_row((step, words, number, expected, dump, why, is_strict))
+            yield from zip(self._meant(until), steps)
             if next(steps, None) is not None:
                 raise Trouble(f"the report goes on after the last step, {wanted}", self.shown)
         if outcome.status:
@@ -256,18 +272,18 @@ def _wait_for(report: BinaryIO, shown: str, progress: Progress) -> None:
 def listed(row: Row, is_wrong: bool, width: int, more: str = "", why: str = "") -> str:
     """A step in the listing, and below it why it was refused: lines that end with a newline
     each."""
-    step, words, line, expected, _, _, _ = row
+    step, words = row.step, row.words
     if len(words) > width:
         words = words[: width - 2] + ".."
-    place = "" if line is None else line
-    is_other = is_wrong and expected is not None
+    place = "" if row.line is None else row.line
+    is_other = is_wrong and row.expected is not None
     if not is_other and step.picture is None and not step.others:
         text = "%6s %6d  %-*s  %s\n" % (place, step.number, width, words, step.answer)
     else:
         front = "%6s %6d  %-*s  " % (place, step.number, width, words)
         answers = [answer_of(step) + more] if step.picture is not None else list(step.lines)
         if is_other:
-            answers[-1] += f"   not {expected}"
+            answers[-1] += f"   not {row.expected}"
         fronts = zip_longest([front], answers, fillvalue=" " * len(front))
         text = "".join((front + answer).rstrip() + "\n" for front, answer in fronts)
     return f"{text}{'':15}{why}\n" if why else text
@@ -291,18 +307,14 @@ class Tally:
         self.steps = self.pictures = self.refused = self.expected = self.met = self.wrong = 0
         # The answers that differ may be as many as the steps.
         self._told = tempfile.SpooledTemporaryFile(MOST_TOLD)
-        self._stream = stream
-        if stream is not None:
-            stream.write(f'{{{members({"script": shown})}, "answers": ['.encode("ascii"))
+        self._json = None if stream is None else JsonList(stream, "answers", {"script": shown})
 
     def count(self, row: Row) -> bool:
         """Counts a step, and tells whether another answer was expected."""
         step, expected = row.step, row.expected
         self.steps += 1
-        if self._stream is not None:
-            self._stream.write(
-                (b",\n" if self.steps > 1 else b"\n") + json.dumps(_told(row)).encode("ascii")
-            )
+        if self._json is not None:
+            self._json.add(_told(row))
         if expected is None and step.answer == OK:
             # Of most steps there is nothing more to count.
             return False
@@ -319,6 +331,12 @@ class Tally:
                 f"{place}: {row.words} {row.mismatch()}\n".encode("utf-8", "surrogateescape")
             )
         return is_wrong
+
+    def end(self, trouble: Optional[Trouble]) -> None:
+        """Ends the JSON, with the trouble of a run that isn't whole."""
+        if self._json is not None:
+            counts = {name: getattr(self, name) for name in COUNTS}
+            self._json.end({**counts, "trouble": None if trouble is None else str(trouble)})
 
     def differing(self) -> Iterator[str]:
         """The answers that differ, a line each."""
@@ -365,13 +383,9 @@ def tallied(shown: str, place: Union[str, BinaryIO, None]) -> Iterator[Tally]:
             yield tally
         except Trouble as raised:
             trouble = raised
+        tally.end(trouble)
         if stream is not None:
-            counts = {
-                name: getattr(tally, name)
-                for name in "steps refused pictures expected met wrong".split()
-            }
-            told = members({**counts, "trouble": None if trouble is None else str(trouble)})
-            stream.write(f"\n], {told}}}\n".encode("ascii"))
+            stream.write(b"\n")
     if trouble is not None:
         raise trouble
 

@@ -1,4 +1,4 @@
-"""The commands over reports: `text`, `pictures`, `compare`, `compare-picture` and `check`."""
+"""The commands over reports: `text`, `pictures`, `compare` and `compare-picture`."""
 
 import argparse
 import os
@@ -100,7 +100,8 @@ def delays_of(script: Optional[str]) -> Callable[[int], float]:
     registers = Registers()
     name = name_of(script)
     frames: dict[int, float] = {}
-    last, dots = 0, 0
+    last = 0
+    dots = 0
     for number, step in enumerate(script_of(read_script(script), name).steps(), 1):
         registers.take(step)
         if step.name == "advance" and step.numbers[0] <= MOST_ADVANCE:
@@ -109,7 +110,9 @@ def delays_of(script: Optional[str]) -> Callable[[int], float]:
             speed = registers.speed()
             if last and speed:
                 frames[last] += dots // speed[0] * speed[0] / speed[1]
-            frames[number], last, dots = registers.frame(), number, 0
+            frames[number] = registers.frame()
+            last = number
+            dots = 0
 
     def delay(number: int) -> float:
         if number not in frames:
@@ -137,44 +140,65 @@ def _write_picture(words: argparse.Namespace, stem: str, picture: Picture, shape
         write_name(path)
 
 
+class Compared:
+    """What is told of the steps in which two reports differ, as they come: on a terminal, as a
+    picture, and as a page."""
+
+    def __init__(self, words: argparse.Namespace, names: tuple[str, str]) -> None:
+        self._words = words
+        self._names = names
+        self._tell = teller(words.picture, words.html)
+        self._wants_picture = words.picture is not None
+        columns = ["step", *names, "dots that differ"]
+        self._page = Page([*names, "where they differ"], columns) if words.html else None
+        self.count = 0
+
+    @property
+    def wants_more(self) -> bool:
+        """Whether more steps that differ are to be told."""
+        return self._words.all or self._wants_picture or self._page is not None
+
+    def take(self, difference: Difference) -> None:
+        """Takes the next step that differs."""
+        self.count += 1
+        if self._words.all or self.count == 1:
+            self._tell(_difference_text(difference, self._names))
+        found = difference.pictures()
+        if self._wants_picture and found is not None:
+            shape = Shape(self._words.scale, self._words.aspect)
+            save_png(self._words.picture, found[0], shape, found[1])
+            self._wants_picture = False
+        if self._page is not None:
+            self._page.add_difference(difference)
+
+    def end(self, seen: str) -> None:
+        """Tells what was seen of the reports, and writes the page."""
+        if self._wants_picture:
+            told = f"no pictures differ, so {self._words.picture} isn't written"
+            sys.stderr.write(f"vga-report: {told}\n")
+        both = " and ".join(self._names)
+        if self._page is not None:
+            said = f"{self.count} step{'s differ' if self.count != 1 else ' differs'}; {seen}"
+            write_file(self._words.html, self._page.text(both, said).encode("utf-8", "replace"))
+        if not self.count:
+            self._tell(f"{both} agree: {seen}\n")
+
+
 def compare(words: argparse.Namespace, progress: Progress) -> int:
     """Tells the first step in which two reports differ, or a report and an expected one."""
     if words.expected:
         return _compare_expected(words, progress)
-    names = name, other_name = name_of(words.report), name_of(words.other)
     comparison = Comparison()
-    count = 0
-    wants_picture = words.picture is not None
-    page = (
-        Page([*names, "where they differ"], ["step", *names, "dots that differ"])
-        if words.html
-        else None
-    )
-    tell = teller(words.picture, words.html)
+    compared = Compared(words, (name_of(words.report), name_of(words.other)))
     with _steps(words.report, progress) as steps, _steps(words.other) as others:
-        for count, difference in enumerate(comparison.differences(steps, others), 1):
-            found = difference.pictures()
-            if words.all or count == 1:
-                progress.clear()
-                tell(_difference_text(difference, names))
-            if wants_picture and found is not None:
-                save_png(words.picture, found[0], Shape(words.scale, words.aspect), found[1])
-                wants_picture = False
-            if page is not None:
-                page.add_difference(difference)
-            elif not (words.all or wants_picture):
+        for difference in comparison.differences(steps, others):
+            progress.clear()
+            compared.take(difference)
+            if not compared.wants_more:
                 break
     progress.clear()
-    if wants_picture:
-        sys.stderr.write(f"vga-report: no pictures differ, so {words.picture} isn't written\n")
-    if page is not None:
-        said = f"{count} step{'s differ' if count != 1 else ' differs'}; {comparison.text()}"
-        write_file(
-            words.html, page.text(f"{name} and {other_name}", said).encode("utf-8", "replace")
-        )
-    if not count:
-        tell(f"{name} and {other_name} agree: {comparison.text()}\n")
-    return DIFFERED if count else AGREED
+    compared.end(comparison.text())
+    return DIFFERED if compared.count else AGREED
 
 
 def _compare_expected(words: argparse.Namespace, progress: Progress) -> int:
@@ -213,10 +237,9 @@ def compare_picture(words: argparse.Namespace, progress: Progress) -> int:
     found = held_size(picture, *size_of(data, name))
     if found is None:
         found = held(picture, image_of(data, name), words.within)
-    write(
-        f"step {words.step} and {name} {'differ' if found.count != 0 else 'agree'}: {found.how}\n"
-    )
-    if found.count == 0:
+    agrees = found.differing == 0
+    write(f"step {words.step} and {name} {'agree' if agrees else 'differ'}: {found.how}\n")
+    if agrees:
         return AGREED
     if found.image is not None:
         write(f"  {found.told}\n")

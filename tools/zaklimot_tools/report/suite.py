@@ -1,9 +1,8 @@
-"""The commands `suite` and `scripts` over the suite's cases: each is run and judged, and told by
-its rule."""
+"""The commands over the suite's cases: `suite`, in which each is run, judged, and told by its rule;
+`scripts` and `expected`."""
 
 import argparse
 import io
-import json
 import re
 import shlex
 import tempfile
@@ -11,20 +10,21 @@ from contextlib import suppress
 from dataclasses import dataclass, field
 from pathlib import Path
 from threading import Event
-from typing import Iterator, Optional, Sequence
+from typing import BinaryIO, Iterator, Optional, Sequence
 
 from zaklimot.format import FAULT, MOST_BYTES, Answer, Picture
-from zaklimot_tools.core.files import name_of
+from zaklimot_tools.core.files import STANDARD, name_of
 from zaklimot_tools.core.processes import Limits, in_parallel, run_command
 from zaklimot_tools.core.progress import Progress
 from zaklimot_tools.core.streams import (
     bytes_of,
+    JsonList,
     counted,
-    members,
     empty_folder,
     write,
     write_file,
     write_name,
+    writing,
 )
 from zaklimot_tools.core.trouble import AGREED, DIFFERED, TROUBLE, Trouble
 from zaklimot_tools.core.words import MEBIBYTE
@@ -121,7 +121,8 @@ def suite(words: argparse.Namespace, progress: Progress) -> int:
             result.rule, []
         ).append(result)
     if words.json:
-        write(_json_text(words.command, rules, results))
+        with writing(STANDARD) as stream:
+            _write_json(stream, words.command, rules, results)
     else:
         write(
             "".join(
@@ -226,6 +227,7 @@ def _judge(result: Result, status: int, report: Path, messages: Path) -> None:
             _compare(result, stream)
     elif fault is not None:
         line = io.BytesIO(f"{fault[0]}\n".encode())
+        # What `BufferedReader` asks of a stream, bytes in memory have too.
         _compare(result, io.BufferedReader(line))  # type: ignore[arg-type]
     if status and fault is None and not (has_report and result.answer in (DIFFERS, FAILED)):
         result.answer = FAILED
@@ -358,13 +360,17 @@ def _group_lines(group: str, rules: dict[str, list[Result]]) -> Iterator[str]:
                 )
 
 
-def _json_text(command: str, groups: Rules, results: list[Result]) -> str:
-    told = []
+def _write_json(stream: BinaryIO, command: str, groups: Rules, results: list[Result]) -> None:
+    """Writes the table as JSON, with a line for each case."""
+    head = {"command": command, "cases": _counts(results)}
+    rules = JsonList(stream, "rules", head)
     for group, rule, some in (
         (group, *one) for group, rules in groups.items() for one in rules.items()
     ):
-        head = members({"rule": rule, "folder": group, "answer": _worst(some)})
-        cases = ",\n".join(json.dumps(result.told()) for result in some)
-        told.append(f'{{{head}, "cases": [\n{cases}]}}')
-    head = members({"command": command, "cases": _counts(results)})
-    return f'{{{head}, "rules": [\n' + ",\n".join(told) + "\n]}\n"
+        rules.begin_entry()
+        cases = JsonList(stream, "cases", {"rule": rule, "folder": group, "answer": _worst(some)})
+        for result in some:
+            cases.add(result.told())
+        cases.end({})
+    rules.end({})
+    stream.write(b"\n")

@@ -3,7 +3,7 @@
 import argparse
 import os
 from functools import partial
-from typing import Any, Callable
+from typing import Any, Callable, NamedTuple
 
 from zaklimot_tools.core import cli
 from zaklimot_tools.core.cli import add, later, rule
@@ -198,51 +198,60 @@ def _add_files(parser: argparse.ArgumentParser, *names: str) -> None:
         add(parser, name, told + ("; - is standard input" if kind is Input else ""), type=kind)
 
 
-# Each command: the module of its job, what it does, its words, and an example of its own words.
-COMMANDS: dict[str, tuple[str, str, Callable[[argparse.ArgumentParser], object], str]] = {
-    "run": (
+class CommandWords(NamedTuple):
+    """A command: the module of its job, what it does, what adds its words to a parser, and an
+    example of them."""
+
+    module: str
+    does: str
+    add_words: Callable[[argparse.ArgumentParser], object]
+    example: str
+
+
+COMMANDS: dict[str, CommandWords] = {
+    "run": CommandWords(
         "runs",
         "runs a script, or each one of a folder, and shows steps beside their lines and answers",
         _add_run,
         "examples/driver-test.vga --only refused,differs",
     ),
-    "text": (
+    "text": CommandWords(
         "reports",
         "writes a report as text",
         lambda parser: _add_files(parser, "REPORT"),
         "report.txt",
     ),
-    "pictures": (
+    "pictures": CommandWords(
         "reports",
         "writes the pictures of a report as files",
         _add_pictures,
         "report.txt pictures --scale 2",
     ),
-    "compare": (
+    "compare": CommandWords(
         "reports",
         "tells the first step in which two reports differ",
         _add_compare,
         "ours theirs --picture differing.png",
     ),
-    "compare-picture": (
+    "compare-picture": CommandWords(
         "reports",
         "compares the picture of a step with an image",
         _add_compare_picture,
         "report.txt 198 screenshots/0198.png --within 5-6-5",
     ),
-    "suite": (
+    "suite": CommandWords(
         "suite",
         "holds a command to the suite",
         _add_suite,
         "'tools/vga go {script} --fonts {fonts} {until}' --only host/",
     ),
-    "scripts": (
+    "scripts": CommandWords(
         "suite",
         "writes the scripts of the suite's cases into a folder, as `suite` hands them to a command",
         _add_scripts,
         "cases --only dots/",
     ),
-    "expected": (
+    "expected": CommandWords(
         "suite",
         "writes the pictures that the suite expects into a folder",
         _add_expected,
@@ -262,10 +271,10 @@ def parser() -> argparse.ArgumentParser:
         cli.DIFFERS,
     )
     commands = made.add_subparsers(required=True, metavar="COMMAND")
-    for name, (module, told, add_words, example) in COMMANDS.items():
-        job = later(f"zaklimot_tools.report.{module}", name.replace("-", "_"))
-        example = f"tools/vga-report {name} {example}"
-        add_words(cli.command(commands, name, job, told, example))
+    for name, told in COMMANDS.items():
+        job = later(f"zaklimot_tools.report.{told.module}", name.replace("-", "_"))
+        example = f"tools/vga-report {name} {told.example}"
+        told.add_words(cli.command(commands, name, job, told.does, example))
     return made
 
 

@@ -19,7 +19,8 @@ from zaklimot_tools.core.trouble import Trouble
 
 try:
     import fcntl
-except ImportError:  # Windows
+except ImportError:
+    # Windows has no such module.
     fcntl = None  # type: ignore[assignment]
 
 SOURCES = tuple(

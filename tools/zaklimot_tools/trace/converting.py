@@ -22,7 +22,7 @@ from zaklimot.format.picture import Digest
 from zaklimot.format.report import REFUSAL, SKIPPED, VALUE
 from zaklimot_tools.core.streams import counted
 from zaklimot_tools.core.trouble import Trouble
-from zaklimot_tools.explain.banks import ATTRIBUTE, STATUS, Banks
+from zaklimot_tools.explain.banks import ATTRIBUTE, COLOUR, MONOCHROME, STATUS, Banks
 from zaklimot_tools.explain.registers import INDEX_PORTS, Registers, bytes_written
 
 from .asked import CLOCK, END, FLIP, SCREENS, Frames
@@ -60,7 +60,7 @@ Code = Callable[[TraceStep], bytes]
 # Microseconds that are put together before they become a step: about a line.
 LEAST_PAUSE = 30
 WRITES = (OUT, OUTW, PUT, PUTW, INT)
-CONTROLLERS = (0x3D4, 0x3B4)
+CONTROLLERS = (COLOUR, MONOCHROME)
 # The CRT controller's registers of the start address, which a page flip writes.
 START_ADDRESS = (0x0C, 0x0D)
 # Windows of memory, by the 32 KiB that they have.
@@ -230,7 +230,6 @@ class Listing:
         self._is_timed = has_time or frames == CLOCK or isinstance(frames, float)
         self._most = most
         self._first = first
-        self.has_time = has_time
         self._pauses = Pauses()
         self._clocked = Clocked(longest)
         self.rebuilding = 0
@@ -322,7 +321,7 @@ class Repeated(NamedTuple):
 
     steps: Sequence[TraceStep]
     codes: Sequence[bytes]
-    count: int  # type: ignore[assignment]
+    times: int
     cycle: int
 
 
@@ -408,17 +407,15 @@ class Written:
         """Counts a row; what the script has of it."""
         body = b"".join(row.codes)
         for step in row.steps:
-            self.kinds[NAMES[step.opcode]] += row.count
+            self.kinds[NAMES[step.opcode]] += row.times
             self.script_bytes += step.size
-        if row.count > 1:
-            ends = format.encoded(format.Block(row.count, ()))
-            words = f"{format.REPEAT} {row.count}\n".encode(), f"{format.END}\n".encode()
+        if row.times > 1:
+            ends = format.encoded(format.Block(row.times, ()))
+            words = f"{format.REPEAT} {row.times}\n".encode(), f"{format.END}\n".encode()
             front, end = words if self.is_text else (ends[:-1], ends[-1:])
-            self.blocks, self.script_bytes, body = (
-                self.blocks + 1,
-                self.script_bytes + len(ends),
-                front + body + end,
-            )
+            self.blocks += 1
+            self.script_bytes += len(ends)
+            body = front + body + end
         self.text_bytes += len(body) if self.is_text else 0
         return body
 

@@ -14,7 +14,7 @@ import time
 from contextlib import ExitStack
 from dataclasses import dataclass
 from pathlib import Path
-from typing import Any, NamedTuple, Optional, Sequence, cast
+from typing import Any, BinaryIO, NamedTuple, Optional, Sequence, cast
 
 from zaklimot_tools import TOP
 from zaklimot_tools.core.processes import (
@@ -211,7 +211,7 @@ def record(machine: PageMachine, kept: Path, say: Say, progress: Progress) -> To
         process = stack.enter_context(
             started(words, stdout=subprocess.PIPE, stderr=said, preexec_fn=end_with_parent)
         )
-        keeper = Keeper(process.stdout, cast(Any, target), NODE)  # type: ignore[arg-type]
+        keeper = Keeper(cast(BinaryIO, process.stdout), cast(BinaryIO, target), NODE)
         stack.callback(keeper.end)
         process.stdout = None
         keeper.start()

@@ -66,10 +66,10 @@ class Screen:
     def __post_init__(self) -> None:
         self.part = self.picture
         self.held = held(self.picture, self.image)
-        if self.held.count is None and not self.is_own:
+        if self.held.differing is None and not self.is_own:
             front = whole_rows(self.state, self.picture)
             found = held(front, self.image)
-            if found.count is not None:
+            if found.differing is not None:
                 self.part = front
                 self.held = found
         # The state goes on from here: what it tells is asked now.
@@ -78,12 +78,12 @@ class Screen:
     @property
     def is_equal(self) -> bool:
         """Whether qemu shows the picture, each dot of it."""
-        return self.held.count == 0 and not self.cut
+        return self.held.differing == 0 and not self.cut
 
     @property
     def distance(self) -> float:
         """How many dots differ; more than any number of them where the sizes do."""
-        return inf if self.held.count is None else self.held.count
+        return inf if self.held.differing is None else self.held.differing
 
     @property
     def is_text(self) -> bool:
@@ -128,7 +128,7 @@ class Screen:
     def _told(self) -> str:
         if self.is_equal:
             return f"equal, {self.held.how}"
-        if self.held.count is None:
+        if self.held.differing is None:
             return f"another size: {self.held.how}"
         lacking = (
             f"it lacks the last {self.cut} of {self.picture.height} lines; " if self.cut else ""
@@ -137,10 +137,8 @@ class Screen:
             return f"{lacking}the others are equal, {self.held.how}"
         (left, right), (top, bottom) = ((min(at), max(at)) for at in zip(*self.dots))
         where = f"in columns {left} to {right} and rows {top} to {bottom}"
-        return (
-            f"{lacking}{self.held.count:,} of {self.part.width * self.part.height:,} dots differ,"
-            f" {where}"
-        )
+        dots = self.part.width * self.part.height
+        return f"{lacking}{self.held.differing:,} of {dots:,} dots differ, {where}"
 
     def write(self, folder: Path, number: int) -> None:
         """Leaves the dump, the picture, and where they differ."""

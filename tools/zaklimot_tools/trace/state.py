@@ -10,6 +10,7 @@ from math import prod
 from operator import and_, or_, xor
 from typing import Callable, Iterable, Iterator, Optional, Sequence, TypeVar
 
+from zaklimot.format import PLANE_BYTES
 from zaklimot_tools.explain.banks import (
     ATTRIBUTE,
     DAC_DATA,
@@ -29,10 +30,11 @@ from zaklimot_tools.explain.banks import (
 )
 
 from .step import ADVANCE, FRAME, GET, GETW, IN, INW, OUT, OUTW, PUT, PUTW, READS, WORDS, TraceStep
+from .trace import ALL_PLANES
 
 
 ATTRIBUTE_READ, MISC_READ = 0x3C1, 0x3CC
-FIRST_ADDRESS, PLANE_BYTES, PLANES, ALL_PLANES = 0xA0000, 1 << 16, 4, 0x0F
+FIRST_ADDRESS, PLANES = 0xA0000, 4
 # A byte in each of the four bytes of a word, and words of which the bytes of some planes are FF.
 EACH = 0x01010101
 SPREAD = tuple(

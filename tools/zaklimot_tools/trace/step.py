@@ -4,6 +4,7 @@ from typing import Iterable, Iterator, NamedTuple, Optional, Sequence
 
 from zaklimot import format
 from zaklimot.format import FORMS
+from zaklimot_tools.explain.banks import COLOUR, MONOCHROME, STATUS
 
 from .trace import CALL, PORT, VBE, Call, Cycle
 
@@ -14,7 +15,7 @@ OUT, OUTW, IN, INW, PUT, PUTW, GET, GETW, ADVANCE, FRAME, INT = NAMES
 READS = (IN, INW, GET, GETW)
 PORTS, WORDS = (OUT, OUTW, IN, INW), (OUTW, INW, PUTW, GETW)
 # Input status 1, with colour and without; bits 0 and 3 tell where the beam is.
-STATUS = (0x3DA, 0x3BA)
+STATUS_PORTS = (COLOUR + STATUS, MONOCHROME + STATUS)
 BEAM_BITS = 0x09
 
 
@@ -37,7 +38,7 @@ class TraceStep(NamedTuple):
     @property
     def is_status(self) -> bool:
         """Whether the step reads input status 1 alone."""
-        return self.opcode == IN and self.address in STATUS
+        return self.opcode == IN and self.address in STATUS_PORTS
 
     @property
     def step(self) -> format.Step:

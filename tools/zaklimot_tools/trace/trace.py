@@ -16,6 +16,7 @@ from zaklimot.format import MOST_BLOCK
 from zaklimot_tools.core.files import name_of
 from zaklimot_tools.core.streams import reading
 from zaklimot_tools.core.trouble import Trouble
+from zaklimot_tools.explain.banks import MISC, SEQUENCER
 
 # Where a cycle goes: a port, display memory, or a port of the Bochs VBE extensions, which is none
 # of a VGA's. A call of interrupt 10, which the adapter's own BIOS serves, stands for all of its
@@ -69,7 +70,7 @@ SCREEN = b"screen of 'vga-trace'"
 # A line of the plain form without a cycle: blanks, and a comment.
 PASSED = re.compile(rb"\s*(?:;.*)?", re.DOTALL)
 # What tells that a trace lacks something: registers of the VGA, and of the Bochs VBE extensions.
-MISCELLANEOUS_OUTPUT, SEQUENCER, VBE_INDEX = 0x3C2, 0x3C4, 0x1CE
+VBE_INDEX = 0x1CE
 INDEX_OF = {0x3C5: SEQUENCER, 0x1CF: VBE_INDEX, 0x1D0: VBE_INDEX}
 MAP_MASK, MEMORY_MODE, VBE_ENABLE = (SEQUENCER, 2), (SEQUENCER, 4), (VBE_INDEX, 4)
 ALL_PLANES, CHAIN_4 = 0x0F, 0x08
@@ -296,9 +297,7 @@ class Trace:
         if not cycle.is_write:
             return
         if self._begins_late is None:
-            self._begins_late = (
-                0 if cycle.address == MISCELLANEOUS_OUTPUT or cycle.space == CALL else self.count
-            )
+            self._begins_late = 0 if cycle.address == MISC or cycle.space == CALL else self.count
         if cycle.space == VBE:
             self._write(cycle.address, cycle.value)
         elif cycle.space == PORT:
@@ -369,6 +368,7 @@ def opened(path: str, is_whole: bool = True) -> Iterator[Trace]:
     with reading(path, is_drained=is_whole) as stream:
         if stream.peek(2)[:2] == GZIP:
             with gzip.open(stream) as unpacked:
+                # What `BufferedReader` asks of a stream, this has too.
                 yield Trace(io.BufferedReader(unpacked), name_of(path))  # type: ignore[arg-type]
         else:
             yield Trace(stream, name_of(path))

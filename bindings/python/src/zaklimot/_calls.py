@@ -100,6 +100,7 @@ def _bind(library: ctypes.CDLL, name: str) -> Call:
     parameters = CALLS[name]
     if SIZE in parameters:
         function.argtypes = [ctypes.c_char_p if kind is In else kind for kind in parameters]
+    # What `getattr` finds has no type, and this is a function of the library.
     return function  # type: ignore[no-any-return]
 
 

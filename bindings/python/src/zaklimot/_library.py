@@ -144,5 +144,6 @@ def font_bytes(fonts: Fonts) -> bytes:
     if fonts is None:
         return default_fonts()
     if isinstance(fonts, (str, os.PathLike)):
+        # `PathLike` may be one of bytes, by its type; the package's says that it is one of text.
         return read_fonts(fonts)  # type: ignore[arg-type]
     return bytes(memoryview(fonts))

@@ -88,6 +88,7 @@ class Picture:
             return NotImplemented
         return (self.width, self.height, self.data) == (other.width, other.height, other.data)
 
+    # Its dots may change, so it is no key.
     __hash__ = None  # type: ignore[assignment]
 
     def __repr__(self) -> str:

@@ -53,6 +53,7 @@ def _picture(read: Union[format.Picture, format.Digest, None]) -> Optional[Pictu
 def read_steps(raw: bytes) -> Iterator[Step]:
     """The steps of a report one after another. It may begin with any number."""
     front = raw[:20].partition(b" ")[0]
+    # What `BufferedReader` asks of a stream, bytes in memory have too.
     stream = io.BufferedReader(io.BytesIO(raw))  # type: ignore[arg-type]
     for answer in format.Report(stream, first=int(front) if front.isdigit() else 1).answers():
         yield Step(answer.number, "\n".join(answer.lines), _picture(answer.picture))

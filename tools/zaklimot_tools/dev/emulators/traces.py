@@ -208,7 +208,7 @@ def row(name: str, replayed: Replay, refused: int, dots: Optional[int]) -> tuple
     unlike qemu's."""
     written = replayed.written
     checked = replayed.checked
-    differing = replayed.screens[0].held.count
+    differing = replayed.screens[0].held.differing
     plain = len(HEADERS[1]) + sum(FORMS[kind].size * count for kind, count in written.kinds.items())
     counts = [sum(kinds.values()) for kinds in (checked.reads, checked.differing, checked.refused)]
     picture = (

@@ -77,14 +77,11 @@ def _figures(made: Counter[str], answers: Counter[str], seed: int, seconds: floa
     )
 
 
-def _fuzz(words: argparse.Namespace, folder: Path) -> int:
+def _fuzz(words: argparse.Namespace, path: str, folder: Path) -> int:
     """Makes inputs and feeds the program with them, until the time or the inputs are used up, or
     the user ends it."""
-    memory, output = words.memory * MEBIBYTE, words.output * MEBIBYTE
-    limits = Limits(words.timeout, output, memory=memory)
-    program = Program(
-        words.program or found_program(instead="PROGRAM names one"), str(FONTS), folder, limits
-    )
+    limits = Limits(words.timeout, words.output * MEBIBYTE, memory=words.memory * MEBIBYTE)
+    program = Program(path, str(FONTS), folder, limits)
     _check(program)
     texts, scripts = _at_hand()
     made = Counter[str]()
@@ -118,11 +115,10 @@ def _fuzz(words: argparse.Namespace, folder: Path) -> int:
 
 def feed_program(words: argparse.Namespace, _: Progress) -> int:
     """Feeds a program with inputs at random; whether one shows something wrong."""
-    if not os.path.isfile(words.program) or not os.access(words.program, os.X_OK):
-        raise Trouble(
-            "it is no program; (cd crates/vga && rt run -- --help) builds it", words.program
-        )
+    path = words.program or found_program(instead="PROGRAM names one")
+    if not os.path.isfile(path) or not os.access(path, os.X_OK):
+        raise Trouble("it is no program; (cd crates/vga && rt run -- --help) builds it", path)
     if words.keep is not None:
         empty_folder(words.keep)
     with tempfile.TemporaryDirectory(prefix="vga-fuzz-") as folder:
-        return _fuzz(words, Path(folder))
+        return _fuzz(words, path, Path(folder))

@@ -59,6 +59,7 @@ def _check_report(report: bytes, script: Script, is_whole: bool) -> None:
     """A Wrong where some bytes are no report of a script, or not the whole lines of one's front."""
     meant = script.steps()
     try:
+        # What `BufferedReader` asks of a stream, bytes in memory have too.
         read = io.BufferedReader(io.BytesIO(report))  # type: ignore[arg-type]
         for answered in Report(read, "report").steps():
             if answered.number == 0:

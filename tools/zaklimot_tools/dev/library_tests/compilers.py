@@ -82,10 +82,12 @@ class Built(NamedTuple):
 
     @property
     def static(self) -> Path:
+        """The library that a program has in it."""
         return self.folder / "lib" / "libzaklimot.a"
 
     @property
     def shared(self) -> Path:
+        """The library that a program loads."""
         return self.folder / "lib" / "libzaklimot.so"
 
 

@@ -58,6 +58,7 @@ class Maker(NamedTuple):
 
     @property
     def compilers(self) -> tuple[Compiler, ...]:
+        """Those for the processor."""
         return COMPILERS[self.target]
 
     def library(self, compiler: Compiler, *flags: str) -> Built:

@@ -87,6 +87,7 @@ class Instruction(NamedTuple):
 
     @property
     def is_repeated(self) -> bool:
+        """Whether a prefix repeats it."""
         return not self.is_two and self.opcode in STRINGS and bool(self.prefixes & set(REPEATS))
 
 
@@ -105,14 +106,7 @@ def instruction(rnd: random.Random, is_protected: bool) -> Instruction:
     prefixes = {prefix for prefix, share in ((0x66, 0.3), (0x67, 0.12)) if rnd.random() < share}
     if rnd.random() < 0.15:
         prefixes.add(rnd.choice((0x26, 0x2E, 0x36, 0x3E, 0x64, 0x65)))
-    while True:
-        is_two = rnd.random() < 0.3
-        opcode = rnd.choice(TWO) if is_two else rnd.randrange(256)
-        if is_two and opcode == CPUID or not is_two and opcode in LEFT_OUT:
-            continue
-        if is_protected and opcode in (LOADING_TWO if is_two else LOADING):
-            continue
-        break
+    is_two, opcode = _opcode(rnd, is_protected)
     if not is_two and opcode in STRINGS and rnd.random() < 0.5:
         prefixes.add(rnd.choice(REPEATS))
     tail = bytearray(rnd.randrange(256) for _ in range(12))
@@ -124,6 +118,18 @@ def instruction(rnd: random.Random, is_protected: bool) -> Instruction:
         [*rnd.sample(sorted(prefixes), len(prefixes)), *([0x0F] if is_two else []), opcode]
     ) + bytes(tail)
     return Instruction(code[:CODE_BYTES], opcode, tail[0], is_two, frozenset(prefixes))
+
+
+def _opcode(rnd: random.Random, is_protected: bool) -> tuple[bool, int]:
+    """Whether an opcode has two bytes, and the last of them; none that is left out."""
+    while True:
+        is_two = rnd.random() < 0.3
+        opcode = rnd.choice(TWO) if is_two else rnd.randrange(256)
+        is_left_out = opcode == CPUID if is_two else opcode in LEFT_OUT
+        if not is_left_out and not (
+            is_protected and opcode in (LOADING_TWO if is_two else LOADING)
+        ):
+            return is_two, opcode
 
 
 def _leave_to_the_manual(
@@ -247,7 +253,7 @@ class Sample(NamedTuple):
     segments: tuple[int, ...]
     written: tuple[tuple[int, int], ...]
     ports: tuple[tuple[int, int, int], ...]
-    count: int = 1  # type: ignore[assignment]
+    instructions: int = 1
     tables: bytes = b""
     given: tuple[tuple[int, bytes], ...] = ()
     fault: int | None = None
@@ -256,7 +262,7 @@ class Sample(NamedTuple):
     def packed(self) -> bytes:
         """The bytes that `processor.c` reads."""
         given = [(place + i, byte) for place, data in self.given for i, byte in enumerate(data)]
-        sizes = self.count, len(self.tables), len(self.interrupts), len(given)
+        sizes = self.instructions, len(self.tables), len(self.interrupts), len(given)
         code = self.code.ljust(CODE_BYTES, b"\0")
         front = struct.pack("<I8II16s4I", self.kind, *self.registers, self.flags, code, *sizes)
         front += self.tables + self.interrupts + b"".join(struct.pack("<IB", *one) for one in given)

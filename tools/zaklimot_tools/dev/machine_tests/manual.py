@@ -7,6 +7,7 @@ for the interrupts of real mode. An instruction stands at 1000:0100, the stack a
 
 from __future__ import annotations
 
+from itertools import product
 from typing import Iterator, Mapping, NamedTuple
 
 from .cases import (
@@ -63,7 +64,7 @@ class Tables(NamedTuple):
 
     segments: bytes = b""
     interrupts: bytes = b""
-    count: int = 1  # type: ignore[assignment]
+    instructions: int = 1
     fault: int | None = None
 
 
@@ -78,36 +79,44 @@ def case(
     """A case of an instruction, whose bytes are spelt in hexadecimal."""
     before = {"esp": 0x90000 if is_protected else STACK, **given}
     after = {**before, **left.registers}
+    start = CODE if is_protected else OFFSET
+    return Sample(
+        kind=2 if tables.segments else int(is_protected),
+        registers=tuple(before.get(name, 0) for name in NAMES),
+        flags=flags,
+        code=bytes.fromhex(code),
+        after=tuple(after.get(name, 0) for name in NAMES),
+        flags_after=left.flags,
+        compared=left.compared,
+        place=start + left.length if left.place is None else left.place,
+        segments=_segments(left, is_protected, bool(tables.segments)),
+        written=_written(left),
+        ports=(),
+        instructions=tables.instructions,
+        tables=tables.segments,
+        fault=tables.fault,
+        interrupts=tables.interrupts,
+    )
+
+
+def _segments(left: Left, is_protected: bool, has_tables: bool) -> tuple[int, ...]:
+    """The segment registers after an instruction."""
     segments = [0] * 6 if is_protected else list(REAL)
-    if tables.segments:
+    if has_tables:
         segments = [FLAT_CODE if index == 1 else FLAT_DATA for index in range(6)]
     for index, value in left.segments.items():
         segments[index] = value
-    start = CODE if is_protected else OFFSET
+    return tuple(segments)
+
+
+def _written(left: Left) -> tuple[tuple[int, int], ...]:
+    """The bytes that an instruction has changed by pushing, with their places."""
     written = {
-        place + i: value >> 8 * i & 255 for place, value, size in left.pushed for i in range(size)
+        place + at: value >> 8 * at & 255
+        for place, value, size in left.pushed
+        for at in range(size)
     }
-    changed = tuple(
-        (place, byte) for place, byte in sorted(written.items()) if byte != pattern(place)
-    )
-    return Sample(
-        2 if tables.segments else int(is_protected),
-        tuple(before.get(name, 0) for name in NAMES),
-        flags,
-        bytes.fromhex(code),
-        tuple(after.get(name, 0) for name in NAMES),
-        left.flags,
-        left.compared,
-        start + left.length if left.place is None else left.place,
-        tuple(segments),
-        changed,
-        (),
-        tables.count,
-        tables.segments,
-        (),
-        tables.fault,
-        tables.interrupts,
-    )
+    return tuple((place, byte) for place, byte in sorted(written.items()) if byte != pattern(place))
 
 
 def interrupted(
@@ -274,59 +283,77 @@ def limits() -> Iterator[Sample]:
             if is_inside
             else Left()
         )
-        tables = Tables(SEGMENTS, count=2, fault=None if is_inside else 13)
+        tables = Tables(SEGMENTS, instructions=2, fault=None if is_inside else 13)
         yield case(f"8EC0{read}", given, left, is_protected=True, tables=tables)
 
 
+# What the flags are when an interrupt is asked for; where its gate leads; and where the stack
+# begins there.
+ASKED, GATED, TOP_OF_STACK = FLAGS | INTERRUPT | TRAP | CARRY, 0x23456, 0x90000
+
+
+def _gate(kind: int, selector: int = FLAT_CODE) -> bytes:
+    """A table of interrupts whose gate for interrupt 21 is of this kind."""
+    place = GATED.to_bytes(4, "little")
+    front = bytes(8 * 0x21) + place[:2] + selector.to_bytes(2, "little")
+    return front + bytes([0, kind]) + place[2:]
+
+
+def _gated(kind: int, code: int, back: int, old: int) -> Left:
+    """What an interrupt leaves by a gate of this kind, to code of a segment: it comes back to a
+    place of an old one."""
+    size = 4 if kind & 8 else 2
+    values = ASKED, old, back
+    return Left(
+        registers={"esp": TOP_OF_STACK - 3 * size},
+        flags=ASKED & ~TRAP if kind & 1 else ASKED & ~(TRAP | INTERRUPT),
+        compared=EVERY,
+        place=GATED if size == 4 else GATED & 0xFFFF,
+        segments={1: code},
+        pushed=tuple(
+            (TOP_OF_STACK - size * number, value, size) for number, value in enumerate(values, 1)
+        ),
+    )
+
+
 def gates() -> Iterator[Sample]:
-    """INT by gates of both widths, which keep interrupts or not; by one that is absent, or none, or
-    past the table's end."""
-    asked = FLAGS | INTERRUPT | TRAP | CARRY
-    place = 0x23456
-    top = 0x90000
+    """INT by gates of both widths, which keep interrupts or not."""
+    for kind, selector in product((0x8E, 0x8F, 0x86, 0x87), (FLAT_CODE, NARROW_CODE)):
+        wanted = _gated(kind, selector, CODE + 2, FLAT_CODE)
+        yield case("CD21", {}, wanted, ASKED, True, Tables(SEGMENTS, _gate(kind, selector)))
 
-    def gate(kind: int, selector: int = FLAT_CODE) -> bytes:
-        one = place.to_bytes(4, "little")
-        return (
-            bytes(8 * 0x21) + one[:2] + selector.to_bytes(2, "little") + bytes([0, kind]) + one[2:]
-        )
 
-    def left(kind: int, code: int, back: int, old: int) -> Left:
-        size = 4 if kind & 8 else 2
-        pushed = tuple(
-            (top - size * (i + 1), value, size) for i, value in enumerate((asked, old, back))
-        )
-        flags = asked & ~TRAP if kind & 1 else asked & ~(TRAP | INTERRUPT)
-        return Left(
-            registers={"esp": top - 3 * size},
-            flags=flags,
-            compared=EVERY,
-            place=place if size == 4 else place & 0xFFFF,
-            segments={1: code},
-            pushed=pushed,
-        )
-
-    for kind in (0x8E, 0x8F, 0x86, 0x87):
-        for selector in (FLAT_CODE, NARROW_CODE):
-            wanted = left(kind, selector, CODE + 2, FLAT_CODE)
-            tables = Tables(SEGMENTS, gate(kind, selector))
-            yield case("CD21", {}, wanted, asked, True, tables)
-    # From code of 16 bits, to which a jump leads first.
+def gates_of_narrow_code() -> Iterator[Sample]:
+    """The same from code of 16 bits, to which a jump leads first."""
+    jump = f"EA{(OFFSET + 7).to_bytes(4, 'little').hex()}{NARROW_CODE:02X}00CD21"
     for kind in (0x8E, 0x86):
-        jump = f"EA{(OFFSET + 7).to_bytes(4, 'little').hex()}{NARROW_CODE:02X}00CD21"
-        wanted = left(kind, FLAT_CODE, OFFSET + 9, NARROW_CODE)
-        yield case(jump, {}, wanted, asked & ~TRAP | TRAP, True, Tables(SEGMENTS, gate(kind), 2))
+        wanted = _gated(kind, FLAT_CODE, OFFSET + 9, NARROW_CODE)
+        yield case(jump, {}, wanted, ASKED, True, Tables(SEGMENTS, _gate(kind), 2))
+
+
+def bad_gates() -> Iterator[Sample]:
+    """INT by a gate that is absent, or none, or past the table's end."""
     for interrupts_of, fault in (
-        (gate(0x0E), 11),
-        (gate(0x8C), 13),
-        (gate(0x93), 13),
-        (gate(0x8E)[:-1], 13),
-        (gate(0x8E, 0), 13),
-        (gate(0x8E, FLAT_DATA), 13),
+        (_gate(0x0E), 11),
+        (_gate(0x8C), 13),
+        (_gate(0x93), 13),
+        (_gate(0x8E)[:-1], 13),
+        (_gate(0x8E, 0), 13),
+        (_gate(0x8E, FLAT_DATA), 13),
     ):
-        yield case("CD21", {}, Left(), asked, True, Tables(SEGMENTS, interrupts_of, 1, fault))
+        yield case("CD21", {}, Left(), ASKED, True, Tables(SEGMENTS, interrupts_of, 1, fault))
 
 
 def cases() -> list[Sample]:
     """All of them."""
-    return [*interrupts(), *returns(), *frames(), *others(), *limits(), *gates()]
+    parts = (
+        interrupts,
+        returns,
+        frames,
+        others,
+        limits,
+        gates,
+        gates_of_narrow_code,
+        bad_gates,
+    )
+    return [sample for part in parts for sample in part()]

@@ -374,34 +374,43 @@ def judged(answer: dict[str, Any], count: int) -> str:
     return "; ".join(f"by {way} {number}" for way, number in ways.items()) + f"; of {count} cases"
 
 
+def _made(
+    words: argparse.Namespace, progress: Progress, page: Optional[bytes]
+) -> tuple[list[bytes], Optional[bytes]]:
+    """The modules that are to be the same, and one whose memory is small, unless the module is
+    given."""
+    if words.module is not None:
+        return [read_at_most(words.module, MOST_MODULE)], None
+    # One module is enough where it is held to the page's, which this kit made in another run.
+    is_held = page is not None and kit_of(module_in(page)) == kit_line()
+    made = made_modules(words, progress, [None, SMALL_MEMORY], 1 if is_held else 2)
+    return [module for module, _ in made], made[0][1]
+
+
+def _laid(folder: Path, **modules: Optional[bytes]) -> dict[str, Path]:
+    """The files of modules by their names, of those that there are."""
+    files = {}
+    for name, data in modules.items():
+        if data is not None:
+            files[name] = folder / f"{name}.wasm"
+            files[name].write_bytes(data)
+    return files
+
+
 def _checks(
     words: argparse.Namespace, progress: Progress, folder: Path
 ) -> Iterator[tuple[str, Callable[[], str]]]:
     wanted = words.only or CHECKS
     page = built_page() if {OF_PAGE, OF_SCRIPTS, OF_OWN} & set(wanted) else None
-    if words.module is not None:
-        same = [read_at_most(words.module, MOST_MODULE)]
-        small = None
-    else:
-        # One module is enough where it is held to the page's, which this kit made in another run.
-        is_held = OF_PAGE in wanted and page is not None and kit_of(module_in(page)) == kit_line()
-        made = made_modules(words, progress, [None, SMALL_MEMORY], 1 if is_held else 2)
-        same = [module for module, _ in made]
-        small = made[0][1]
+    same, small = _made(words, progress, page if OF_PAGE in wanted else None)
     yield OF_MODULE, partial(check_modules, same)
     # What runs in the page is the module in it, even where that is another kit's.
-    parts = {
-        "module": same[0],
-        "page": same[0] if page is None else module_in(page),
-        "small": small,
-    }
-    files = {name: folder / f"{name}.wasm" for name, data in parts.items() if data is not None}
-    for name, path in files.items():
-        path.write_bytes(parts[name] or b"")
+    in_page = same[0] if page is None else module_in(page)
+    files = _laid(folder, module=same[0], page=in_page, small=small)
     if OF_PAGE in wanted and page is not None:
         yield OF_PAGE, partial(_check_page, same[0], page, folder)
     if OF_SUITE in wanted:
-        for name in ("module", "page")[: 1 + (OF_PAGE in wanted and parts["page"] != same[0])]:
+        for name in ("module", "page")[: 1 + (OF_PAGE in wanted and in_page != same[0])]:
             yield OF_SUITE, partial(check_suite, files[name], folder / f"cases of {name}")
     last: dict[str, Callable[[Path, Optional[Path]], str]] = {
         OF_HEAP: check_heap,

@@ -9,34 +9,19 @@ import os
 import shlex
 import sys
 import time
-from typing import NamedTuple
 
 from zaklimot_tools.core.processes import captured
 from zaklimot_tools.core.progress import Progress
 from zaklimot_tools.core.trouble import AGREED as PASSED, DIFFERED as FAILED, TROUBLE, Trouble
 from zaklimot_tools.script.portable import portable_program
 
-from .discovering import TOOLS, run_modules
+from .running import TOOLS, Counts, run_modules
 
 # What the suite does may take so many seconds.
 MOST_SECONDS = 900
 
 
-class Counted(NamedTuple):
-    """How many cases and tests have passed, failed and were skipped."""
-
-    passed: int
-    failed: int
-    skipped: int
-
-    def text(self) -> str:
-        """The counts as the last line tells them."""
-        return f"{self.passed} passed, {self.failed} failed" + (
-            f", {self.skipped} skipped" if self.skipped else ""
-        )
-
-
-def check_suite(program: str, *chosen: str) -> Counted:
+def check_suite(program: str, *chosen: str) -> Counts:
     """Holds a program to the suite, or to the cases that `--only` chooses. Those that don't agree
     are printed."""
     ways = [
@@ -52,7 +37,7 @@ def check_suite(program: str, *chosen: str) -> Counted:
         if result["answer"] != "agrees":
             print(f"{result['answer']}  {result['name']}: {result['reason']}", flush=True)
     counts = told["cases"]
-    return Counted(counts["agrees"], counts["differs"] + counts["failed"], counts["skipped"])
+    return Counts(counts["agrees"], counts["differs"] + counts["failed"], counts["skipped"])
 
 
 def check(words: argparse.Namespace, progress: Progress) -> int:
@@ -60,14 +45,12 @@ def check(words: argparse.Namespace, progress: Progress) -> int:
     begun = time.monotonic()
     program = portable_program()
     suite = check_suite(program)
-    print(f"the suite over the portable program: {suite.text()}", flush=True)
+    print(f"the suite over the portable program: {suite}", flush=True)
     tests = run_modules(words.modules, program)
-    both = Counted(
-        suite.passed + tests.passed, suite.failed + tests.failed, suite.skipped + tests.skipped
-    )
+    both = suite.beside(tests)
     print(
         f"that took {time.monotonic() - begun:.0f} seconds; the program is tested by this, and not"
         " proved\n"
     )
-    print(both.text())
+    print(both)
     return FAILED if both.failed or not both.passed else PASSED

@@ -11,9 +11,10 @@ from zaklimot_tools.core.processes import Word, captured
 from zaklimot_tools.core.progress import Progress
 from zaklimot_tools.core.trouble import AGREED as PASSED, DIFFERED as FAILED, Trouble
 
-# The folders that have Python, and the settings of all but flake8, which finds its own.
+# The folders that have Python, and the settings of all but flake8, which finds its own. The package
+# for Python has settings for its types.
 FOLDERS = ("tools", "bindings", "bench", "examples", "fonts")
-SETTINGS = "tools/pyproject.toml"
+SETTINGS, BINDINGS = "tools/pyproject.toml", "bindings/python/pyproject.toml"
 # Debian's programs lie here. Others of these names, as pip installs them, may judge otherwise.
 SYSTEM = "/usr/bin"
 MOST_SECONDS = 600
@@ -22,17 +23,21 @@ PYTHON = b"#!/usr/bin/env python3\n"
 
 
 class Judge(NamedTuple):
-    """A program that judges Python: its words, and whether it wants to be told the files."""
+    """A program that judges Python: its words, whether it wants to be told the files, and what it
+    judges, if not all."""
 
     name: str
     words: tuple[str, ...]
     takes_files: bool = True
+    of: str = ""
 
 
+OF_MYPY = ("--no-error-summary", "--config-file")
 JUDGES = (
     Judge("black", ("--quiet", "--diff", "--check", "--config", SETTINGS)),
     Judge("flake8", ()),
-    Judge("mypy", ("--no-error-summary", "--config-file", SETTINGS), takes_files=False),
+    Judge("mypy", (*OF_MYPY, SETTINGS), takes_files=False),
+    Judge("mypy", (*OF_MYPY, BINDINGS), takes_files=False, of=" of bindings/python"),
 )
 
 
@@ -49,7 +54,7 @@ def found(name: str) -> Optional[str]:
 
 def lacking() -> list[str]:
     """The judges that are not here. Debian's packages have their names."""
-    return [judge.name for judge in JUDGES if found(judge.name) is None]
+    return [name for name in dict.fromkeys(judge.name for judge in JUDGES) if found(name) is None]
 
 
 def judged(judge: Judge) -> str:
@@ -70,6 +75,7 @@ def judge(words: argparse.Namespace, progress: Progress) -> int:
     status = PASSED
     for judge in () if words.ready else JUDGES:
         told = judged(judge)
-        print(f"{'failed' if told else 'passed'}  {judge.name}\n{told}", end="", flush=True)
+        heading = f"{'failed' if told else 'passed'}  {judge.name}{judge.of}"
+        print(f"{heading}\n{told}", end="", flush=True)
         status = FAILED if told else status
     return status

@@ -8,25 +8,24 @@ from zaklimot_tools.core.cli import later
 
 
 # What jobs of the command line are functions of.
-_job = partial(later, "zaklimot_tools.dev.testing.discovering")
+_job = partial(later, "zaklimot_tools.dev.testing.running")
 
 
 def _parser() -> argparse.ArgumentParser:
     parser = cli.tool_parser(
         "tests-of-tools",
-        "Runs the tests of the tools, some modules at a time.",
+        "Runs the tests of the tools by pytest, some at a time.",
         "tools/tests-of-tools tests.test_trace",
         "tools/README.md",
         cli.JUDGES,
     )
-    told = "these modules alone, such as tests.test_trace (default: all)"
+    told = "these modules, classes or tests alone, such as tests.test_trace (default: all)"
     parser.add_argument("modules", nargs="*", metavar="MODULE", help=told)
     cli.add(
         parser,
         "--built",
         "fails where the proved program isn't built; else the portable one is tested there",
     )
-    parser.add_argument("--here", action="store_true", help=argparse.SUPPRESS)
     parser.set_defaults(job=_job("run_tests"))
     return parser
 

@@ -78,7 +78,8 @@ def _are_cells(lines: Sequence[str]) -> bool:
 
 
 def _is_dump(step: Step, answer: Answer) -> bool:
-    forms, lines = _dump(step), answer.lines
+    forms = _dump(step)
+    lines = answer.lines
     if answer.picture is not None or forms is None:
         return answer.picture is None and _are_cells(lines)
     return len(forms) == len(lines) and all(map(re.fullmatch, forms, lines))
@@ -97,16 +98,28 @@ def _is_call(step: Step, answer: str) -> bool:
 def is_answer_to(step: Step, answer: Answer) -> bool:
     """Whether an answer has a form that this step may have, or is a refusal that this step may
     get."""
-    has_more, kind = bool(answer.others) or answer.picture is not None, step.form.answer
     # An advance is refused exactly if it is too far.
-    is_too_far = step.name == ADVANCE and step.numbers[0] > MOST_ADVANCE
+    is_advance = step.name == ADVANCE
+    is_too_far = is_advance and step.numbers[0] > MOST_ADVANCE
     if REFUSED.fullmatch(answer.answer):
-        may_be_refused = is_too_far or step.name != ADVANCE
-        return (
-            not has_more and may_be_refused and answer.answer in map(refusal_of, step.form.refusals)
-        )
-    if is_too_far:
-        return False
+        return (is_too_far or not is_advance) and _is_refusal(step, answer)
+    return not is_too_far and _is_done(step, answer)
+
+
+def _has_more(answer: Answer) -> bool:
+    """Whether an answer is more than a line."""
+    return bool(answer.others) or answer.picture is not None
+
+
+def _is_refusal(step: Step, answer: Answer) -> bool:
+    """Whether an answer is a refusal of such a step."""
+    return not _has_more(answer) and answer.answer in map(refusal_of, step.form.refusals)
+
+
+def _is_done(step: Step, answer: Answer) -> bool:
+    """Whether an answer is that of such a step that was done."""
+    kind = step.form.answer
+    has_more = _has_more(answer)
     if kind == DUMP:
         return _is_dump(step, answer)
     if kind == PICTURE:

@@ -75,7 +75,8 @@ class _Reader:
 
     def items(self, has_blocks: bool) -> Iterator[Item]:
         """Reads the steps and blocks up to the end."""
-        data, meant = self._data, 0
+        data = self._data
+        meant = 0
         while self._at < len(data):
             begin = self._at
             item: Item = (
@@ -88,7 +89,8 @@ class _Reader:
 
     def _block(self) -> Block:
         """Reads the next block."""
-        data, begin = self._data, self._at
+        data = self._data
+        begin = self._at
         self._at += 1 + COUNT.size
         if self._at > len(data):
             raise ScriptFault("Truncated", begin)
@@ -105,7 +107,8 @@ class _Reader:
 
     def _step(self) -> Step:
         """Reads the next step. Its opcode is checked first, then its length, then its numbers."""
-        data, begin = self._data, self._at
+        data = self._data
+        begin = self._at
         code = data[begin : begin + (2 if data[begin] in _HAS_KIND else 1)]
         form = CODES.get(code)
         if form is None:

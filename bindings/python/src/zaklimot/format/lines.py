@@ -8,7 +8,7 @@ from collections import Counter
 from functools import partial
 from itertools import islice
 from operator import itemgetter
-from typing import BinaryIO, Callable, Iterable, Iterator, NamedTuple, Union
+from typing import BinaryIO, Callable, Iterable, Iterator, NamedTuple, Union, cast
 
 from .table import END, FIRST_LINE, MOST_COUNT, MOST_STEPS, REPEAT, decimal
 
@@ -43,9 +43,7 @@ class Line(NamedTuple):
 
 
 # Makes a line of all its parts in half the time that the class takes.
-_made_line: Callable[[Iterable[object]], Line] = partial(
-    tuple.__new__, Line  # type: ignore[assignment]
-)
+_made_line = cast(Callable[[Iterable[object]], Line], partial(tuple.__new__, Line))
 
 
 def lines_in(stream: BinaryIO, before: int = 0) -> Iterator[Line]:
@@ -106,15 +104,20 @@ def places_in(stream: BinaryIO) -> Iterator[tuple[int, bytes]]:
 
 def _unrolled(stream: BinaryIO, lines: Iterator[Line]) -> Iterator[Line]:
     """The steps that lines of version 2 mean, up to the first bad line."""
-    left, count, place, number = MOST_STEPS, 0, 0, 0
+    left = MOST_STEPS
+    # The block that is under way: how often it is repeated, where it begins, on which line, its
+    # lines as far as they are kept, and how many there are.
+    count = place = number = length = 0
     block: list[Line] = []
-    length = 0
     for line in lines:
         name = line.name if line.words[0] in _BLOCK_LETTERS else ""
         if name == REPEAT:
             given = line.words.partition(" ")[2]
             count = _count_of(given)
-            place, number, block, length = stream.tell(), line.number, [], 0
+            place = stream.tell()
+            number = line.number
+            block = []
+            length = 0
         elif name == END and count:
             rounds = min(count - 1, left // max(1, length))
             left -= rounds * length
@@ -156,7 +159,8 @@ def count_in(stream: BinaryIO) -> int:
     for line in lines:
         words = line.partition(b";")[0].lower().split() if line[0] in _BLOCK_BYTES else None
         if words and words[0] == REPEAT.encode() and words[1:]:
-            count, opened = _count_of(words[1]), total
+            count = _count_of(words[1])
+            opened = total
         elif words and words[0] == END.encode():
             total += max(0, count - 1) * (total - opened)
             count = 0

@@ -22,6 +22,7 @@ class Digest(NamedTuple):
 class DifferentDots(NamedTuple):
     """How many dots of two pictures of one size differ, and where the first of them is."""
 
+    # It takes the name of a tuple's method, which nobody calls here.
     count: int  # type: ignore[assignment]
     x: int
     y: int

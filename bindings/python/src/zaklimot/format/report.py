@@ -6,7 +6,7 @@ import io
 import re
 from functools import partial
 from itertools import count
-from typing import Callable, Iterable, Iterator, NamedTuple, Optional, Union
+from typing import Callable, Iterable, Iterator, NamedTuple, Optional, Union, cast
 
 from .picture import Digest, Picture
 from .table import FAULT, OK, REFUSALS, refusal_of
@@ -103,9 +103,7 @@ class Answer(NamedTuple):
 
 
 # Makes an answer of all its parts in half the time that the class takes.
-_made_answer: Callable[[Iterable[object]], Answer] = partial(
-    tuple.__new__, Answer  # type: ignore[assignment]
-)
+_made_answer = cast(Callable[[Iterable[object]], Answer], partial(tuple.__new__, Answer))
 
 
 class Report:

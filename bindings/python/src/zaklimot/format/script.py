@@ -31,6 +31,7 @@ class Step(NamedTuple):
 class Block(NamedTuple):
     """Steps that are repeated in order, `count` times: 1 to 65,535."""
 
+    # It takes the name of a tuple's method, which nobody calls here.
     count: int  # type: ignore[assignment]
     steps: tuple[Step, ...]
 

@@ -74,6 +74,7 @@ def decimal(digits: Union[str, bytes], most: int) -> Optional[int]:
         return None
     # Python's own reader ends the program at numbers of thousands of digits.
     if len(digits) > len(str(most)):
+        # Of the same kind as the digits are.
         digits = digits.lstrip("0" if isinstance(digits, str) else b"0")  # type: ignore[arg-type]
     if len(digits) > len(str(most)):
         return None

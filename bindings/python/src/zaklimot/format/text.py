@@ -4,7 +4,7 @@ from __future__ import annotations
 
 import re
 from functools import partial
-from typing import Callable, Iterable, Iterator, Optional, Sequence, Union
+from typing import Callable, Iterable, Iterator, Optional, Sequence, Union, cast
 
 from .script import Block, Item, Script, Step
 from .table import (
@@ -30,9 +30,7 @@ DUMP_OF_PLANE = "show plane"
 # No step contains a byte outside ASCII.
 _NO_LETTER = "\xff"
 # Makes a step of all its parts in half the time that the class takes.
-_made_step: Callable[[Iterable[object]], Step] = partial(
-    tuple.__new__, Step  # type: ignore[assignment]
-)
+_made_step = cast(Callable[[Iterable[object]], Step], partial(tuple.__new__, Step))
 
 
 def parse_text(text: Union[str, bytes]) -> Script:
@@ -72,16 +70,22 @@ def _step(number: int, words: Sequence[str]) -> Step:
 
 def _items_with_blocks(lines: Iterable[tuple[int, list[str]]]) -> Iterator[Item]:
     """The items of version 2. A block that means too many steps is a fault of its first line."""
-    opened, count, meant = 0, 0, 0
+    meant = 0
+    # The block that is under way: the line where it begins, how often it is repeated, its steps.
+    opened = count = 0
     steps: list[Step] = []
     for number, words in lines:
         place = number
         item: Optional[Item] = None
         if words[0] == REPEAT and not opened:
-            opened, count, steps = number, _count(number, words), []
+            count = _count(number, words)
+            opened = number
+            steps = []
         elif words == [END] and opened:
-            place, opened, item = opened, 0, Block(count, tuple(steps))
+            item = Block(count, tuple(steps))
             meant += count * len(steps)
+            place = opened
+            opened = 0
         elif opened:
             steps.append(_step(number, words))
         else:
@@ -133,9 +137,11 @@ def _numbers(words: Sequence[str], fields: Sequence[Field]) -> tuple[int, ...]:
 
 def _call(words: Sequence[str]) -> Step:
     """A call: registers in order, each at most once, and then a block."""
-    fields, block = FORMS[INT].fields, b""
+    fields = FORMS[INT].fields
     values = {field.name: field.default or 0 for field in fields}
-    names, last = list(values), -1
+    block = b""
+    names = list(values)
+    last = -1
     for at, word in enumerate(words):
         if word == BLOCK:
             block = _block(words[at + 1 :])
