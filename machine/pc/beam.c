@@ -24,6 +24,9 @@ static u64 passed; /* beside the instructions' time */
 static u64 settled_at, owed, dot_time; /* owed is in dots times dot_time */
 static u32 rate, to_frame, frames;
 static int is_clock_known;
+/* Dots of the frame until now, and until the first write in it that pictures hang on; NONE for none. */
+enum { NONE = ~0u };
+static u32 frame_dots, first_write;
 /* What input status 1 answers for so many dots more: the adapter's clock tells when it changes. */
 static u32 status_dots, status, status_port;
 
@@ -64,10 +67,22 @@ SHOWN("frames") u32 frames_ended(void)
     return frames;
 }
 
+SHOWN("first_write") u32 first_write_of_frame(void)
+{
+    return first_write;
+}
+
+/* A register is written, or the BIOS called; dots are handed over until now. */
+void note_write(void)
+{
+    if (frame_dots < first_write) first_write = frame_dots;
+}
+
 void begin_time(void)
 {
     passed = settled_at = owed = 0;
-    frames = 0;
+    frames = frame_dots = 0;
+    first_write = NONE;
     is_clock_known = 0;
     status_dots = 0;
 }
@@ -103,6 +118,8 @@ static void end_frame(void)
     status_dots = 0;
     host_frame();
     look_at_clock();
+    frame_dots = 0;
+    first_write = NONE;
 }
 
 static void draw(u32 dots)
@@ -111,6 +128,7 @@ static void draw(u32 dots)
     status_dots = status_dots > dots ? status_dots - dots : 0;
     owed -= dots * dot_time;
     to_frame -= dots;
+    frame_dots += dots;
     record_dots(dots);
 }
 

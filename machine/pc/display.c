@@ -125,8 +125,12 @@ static int moves_clock(u32 port)
 static void settle_for(int is_unseen_write)
 {
     forget_status();
-    if (is_unseen_write) settle_memory();
-    else settle();
+    if (is_unseen_write) {
+        settle_memory();
+        return;
+    }
+    settle();
+    note_write();
 }
 
 void display_out(u32 port, u32 value)
@@ -157,6 +161,7 @@ void display_out_word(u32 port, u32 value)
 void video(void)
 {
     settle();
+    note_write();
     u16 given[] = {AX, BX, CX, DX, ES, REG(BP), REG(SI), DS};
     memcpy(call_registers, given, sizeof given);
     int sets_mode = AH == 0;

@@ -63,6 +63,7 @@ void settle(void);
 void settle_memory(void);
 void forget_clock(void);
 void forget_status(void);
+void note_write(void);
 u32 read_status(u32 port);
 
 /* display.c: cycles of the adapter, and interrupt 10. */

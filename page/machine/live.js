@@ -196,7 +196,7 @@ export class Live {
     this.name = name;
     this.reason = "";
     this.#goal = null;
-    this.#machine ??= new Machine(this.#modules, this.#fonts);
+    this.#machine ??= Object.assign(new Machine(this.#modules, this.#fonts), { isDrawnOnce: true });
     this.#machine.boot(software);
   }
 
