@@ -176,7 +176,6 @@ export class Machine {
     this.#writeText(cpu.arguments(), software.words ? ` ${software.words}` : "", 127);
     this.#inputs = [];
     this.missing = [];
-    this.#stirred = 0;
     this.#frameCycles.clear();
     this.latest = null;
     this.#window = null;
@@ -477,7 +476,7 @@ export class Machine {
   /** How a frame is drawn: a flag of zak_frame_words, or two. */
   get #form() {
     const frames = this.cpu.frames() - this.#stirred;
-    // A machine that was taken back was calm before, or was not: that is seen anew.
+    // Whether a machine that was taken back, or started again, is calm is seen with its first frame.
     const isCalm = this.isDrawnOnce && (frames > CALM_FRAMES || frames < 0);
     return isCalm ? WITH_ALPHA | ONCE : WITH_ALPHA;
   }
