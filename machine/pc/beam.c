@@ -136,6 +136,7 @@ static void draw(u32 dots)
 void settle(void)
 {
     u64 time = now();
+    give_held();
     if (!is_clock_known) look_at_clock();
     owed += (time - settled_at) * rate;
     settled_at = time;
@@ -149,11 +150,6 @@ void settle_memory(void)
     settle();
 }
 
-static u32 smaller(u32 one, u32 other)
-{
-    return one < other ? one : other;
-}
-
 /* Input status 1, asked of the adapter where it may have changed. */
 u32 read_status(u32 port)
 {
@@ -165,4 +161,20 @@ u32 read_status(u32 port)
     rate = room_word(room + RATE);
     to_frame = room_word(room + TO_FRAME);
     return status;
+}
+
+/* How many reads of input status 1 more answer what the last one did, if one comes in so many instructions and no
+ * frame ends. */
+u32 reads_alike(u32 instructions)
+{
+    u64 until = smaller(status_dots, to_frame) * dot_time, step = (instructions + 1ull) * instruction_time * rate;
+    return until > owed ? (u32)((until - owed - 1) / step) : 0;
+}
+
+/* So many of such reads; the processor has done the instructions before the last one. */
+void pass_reads(u32 reads)
+{
+    passed += (reads - 1ull) * instruction_time;
+    settle();
+    pass_cycle();
 }
