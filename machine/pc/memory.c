@@ -93,6 +93,7 @@ unsigned reach(x86emu_t *emu, u32 place, u32 *value, unsigned type)
 
 u32 reach_other(x86emu_t *emu, u32 place, u32 value, unsigned type)
 {
-    emu->memio(emu, place, &value, type);
+    if (emu->memio == reach) reach(emu, place, &value, type);
+    else emu->memio(emu, place, &value, type);
     return value;
 }
