@@ -37,7 +37,7 @@ UNICORN = "python3-unicorn"
 
 
 def built_processor(folder: Path) -> Path:
-    """The program that takes cases, built of libx86emu as the page has it, with the page's memory."""
+    """The program that takes cases: libx86emu and the memory that the page has."""
     check_program(COMPILER)
     top = patched(folder)
     program = folder / "processor"
