@@ -76,6 +76,16 @@ for (const [name, digits] of Object.entries(BUSY)) {
   });
 }
 
+test("a program that asks the keyboard's controller is as quick as ever while a byte is there", () => {
+  // cli; in al, 64h; jmp
+  const machine = started("FA E464 EBFC");
+  machine.run(SECOND);
+  assert.ok(secondOf(machine) < 200000);
+  machine.key(0x1e, 0x1e61);
+  machine.run(machine.cpu.now() + 8 * MILLISECOND);
+  assert.ok(secondOf(machine) > 3000000);
+});
+
 /** A processor of which a test tells what it has done. */
 class Told {
   time = 0;
