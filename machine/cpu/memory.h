@@ -27,9 +27,17 @@ static inline __attribute__((always_inline)) void mark(u32 place, u32 bytes)
     is_written[place >> PART_SHIFT] = is_written[(place + bytes - 1) >> PART_SHIFT] = 1;
 }
 
+/* What is not plain memory, by the machine; a value is written, or answered. A function of its own: so the instructions
+ * that only reach plain memory need no room for a value whose place is told. */
+u32 reach_other(x86emu_t *emu, u32 place, u32 value, unsigned type) __attribute__((noinline));
+
+/* It never fails: what is not there answers as an open bus does. */
 static inline __attribute__((always_inline)) unsigned decode_memio(x86emu_t *emu, u32 place, u32 *value, unsigned type)
 {
-    if (__builtin_expect(!is_plain(place), 0)) return emu->memio(emu, place, value, type);
+    if (__builtin_expect(!is_plain(place), 0)) {
+        *value = reach_other(emu, place, *value, type);
+        return 0;
+    }
     u8 *at = ram + place;
     switch (type) {
     case X86EMU_MEMIO_X + X86EMU_MEMIO_8:
@@ -57,7 +65,8 @@ static inline __attribute__((always_inline)) unsigned decode_memio(x86emu_t *emu
         mark(place, 4);
         return 0;
     }
-    return emu->memio(emu, place, value, type);
+    *value = reach_other(emu, place, *value, type);
+    return 0;
 }
 #define emu_memio decode_memio
 

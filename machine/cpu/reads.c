@@ -12,6 +12,7 @@ typedef unsigned long long u64;
 FROM("zak_get") u32 zak_get(u32 card, u32 address, void *told);
 FROM("zak_get_word") u32 zak_get_word(u32 card, u32 address, void *told);
 FROM("zak_in") u32 zak_in(u32 card, u32 port, void *told);
+FROM("zak_put_bytes") u32 zak_put_bytes(u32 card, u32 address, const void *bytes, u32 count, u32 is_down, void *told);
 
 SHOWN("get") u32 get(u32 card, unsigned char *told, u32 address)
 {
@@ -26,6 +27,17 @@ SHOWN("get_word") u32 get_word(u32 card, unsigned short *told, u32 address)
 SHOWN("in") u32 in(u32 card, unsigned char *told, u32 port)
 {
     return zak_in(card, port, told) ? REFUSED | 0xFF : *told;
+}
+
+/* Up to 32 bytes of memory, the first one lowest; `room` has as many and what the call tells. */
+SHOWN("put_bytes") u32 put_bytes(u32 card, u64 *room, u32 address, u32 count, u64 first, u64 second, u64 third,
+                                 u64 fourth)
+{
+    room[0] = first;
+    room[1] = second;
+    room[2] = third;
+    room[3] = fourth;
+    return zak_put_bytes(card, address, room, count, 0, room + 4);
 }
 
 SHOWN("word") u32 word(const u32 *place)

@@ -24,6 +24,9 @@ static u64 passed; /* beside the instructions' time */
 static u64 settled_at, owed, dot_time; /* owed is in dots times dot_time */
 static u32 rate, to_frame, frames;
 static int is_clock_known;
+/* Dots of the frame until now, and until the first write in it that pictures hang on; NONE for none. */
+enum { NONE = ~0u };
+static u32 frame_dots, first_write;
 /* What input status 1 answers for so many dots more: the adapter's clock tells when it changes. */
 static u32 status_dots, status, status_port;
 
@@ -64,10 +67,22 @@ SHOWN("frames") u32 frames_ended(void)
     return frames;
 }
 
+SHOWN("first_write") u32 first_write_of_frame(void)
+{
+    return first_write;
+}
+
+/* A register is written, or the BIOS called; dots are handed over until now. */
+void note_write(void)
+{
+    if (frame_dots < first_write) first_write = frame_dots;
+}
+
 void begin_time(void)
 {
     passed = settled_at = owed = 0;
-    frames = 0;
+    frames = frame_dots = 0;
+    first_write = NONE;
     is_clock_known = 0;
     status_dots = 0;
 }
@@ -103,6 +118,8 @@ static void end_frame(void)
     status_dots = 0;
     host_frame();
     look_at_clock();
+    frame_dots = 0;
+    first_write = NONE;
 }
 
 static void draw(u32 dots)
@@ -111,6 +128,7 @@ static void draw(u32 dots)
     status_dots = status_dots > dots ? status_dots - dots : 0;
     owed -= dots * dot_time;
     to_frame -= dots;
+    frame_dots += dots;
     record_dots(dots);
 }
 
@@ -118,6 +136,7 @@ static void draw(u32 dots)
 void settle(void)
 {
     u64 time = now();
+    give_held();
     if (!is_clock_known) look_at_clock();
     owed += (time - settled_at) * rate;
     settled_at = time;
@@ -131,11 +150,6 @@ void settle_memory(void)
     settle();
 }
 
-static u32 smaller(u32 one, u32 other)
-{
-    return one < other ? one : other;
-}
-
 /* Input status 1, asked of the adapter where it may have changed. */
 u32 read_status(u32 port)
 {
@@ -147,4 +161,20 @@ u32 read_status(u32 port)
     rate = room_word(room + RATE);
     to_frame = room_word(room + TO_FRAME);
     return status;
+}
+
+/* How many reads of input status 1 more answer what the last one did, if one comes in so many instructions and no
+ * frame ends. */
+u32 reads_alike(u32 instructions)
+{
+    u64 until = smaller(status_dots, to_frame) * dot_time, step = (instructions + 1ull) * instruction_time * rate;
+    return until > owed ? (u32)((until - owed - 1) / step) : 0;
+}
+
+/* So many of such reads; the processor has done the instructions before the last one. */
+void pass_reads(u32 reads)
+{
+    passed += (reads - 1ull) * instruction_time;
+    settle();
+    pass_cycle();
 }

@@ -9,6 +9,7 @@ FROM("host", "told") void host_told(u32 segment, u32 place, u32 text, u32 length
 #define AWAY 0xC0000000u
 enum { NOTHING = 0xFF, MOST_LINES = 200 };
 static x86emu_t kept;
+static u32 code_bytes; /* of the instruction that is told */
 
 static u32 byte_at(u32 place)
 {
@@ -20,6 +21,7 @@ static unsigned look(x86emu_t *emu, u32 place, u32 *value, unsigned type)
     unsigned bytes = 1u << (type & 3), kind = type & ~0xFFu;
     (void)emu;
     if (kind == X86EMU_MEMIO_W || kind == X86EMU_MEMIO_O) return 0;
+    if (kind == X86EMU_MEMIO_X) code_bytes += bytes;
     *value = 0;
     for (unsigned i = 0; i < bytes; i++) {
         u32 byte = kind == X86EMU_MEMIO_I ? NOTHING : byte_at(place - AWAY + i);
@@ -38,10 +40,11 @@ static u32 tell_one(u32 segment, u32 base, u32 offset)
     processor.x86.R_CS_BASE = base + AWAY;
     processor.x86.R_EIP = offset;
     processor.max_instr = processor.x86.R_TSC + 1;
+    code_bytes = 0;
     x86emu_run(&processor, X86EMU_RUN_MAX_INSTR);
-    u32 length = (u32)(processor.x86.disasm_ptr - processor.x86.disasm_buf), bytes = processor.x86.instr_len;
+    u32 length = (u32)(processor.x86.disasm_ptr - processor.x86.disasm_buf);
     host_told(segment, offset, (u32)processor.x86.disasm_buf, length);
-    return bytes ? bytes : 1;
+    return code_bytes ? code_bytes : 1;
 }
 
 /* Tells so many instructions from a place on, one after the other. */

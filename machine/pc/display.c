@@ -5,6 +5,8 @@ FROM("adapter", "zak_put") u32 zak_put(u32 card, u32 address, u32 value);
 FROM("adapter", "zak_put_word") u32 zak_put_word(u32 card, u32 address, u32 value);
 FROM("adapter", "zak_out") u32 zak_out(u32 card, u32 port, u32 value);
 FROM("adapter", "zak_out_word") u32 zak_out_word(u32 card, u32 port, u32 value);
+FROM("reads", "put_bytes") u32 adapter_put_bytes(u32 card, u32 room, u32 address, u32 count, u64 first, u64 second,
+                                                 u64 third, u64 fourth);
 FROM("reads", "get") u32 adapter_get(u32 card, u32 room, u32 address);
 FROM("reads", "get_word") u32 adapter_get_word(u32 card, u32 room, u32 address);
 FROM("reads", "in") u32 adapter_in(u32 card, u32 room, u32 port);
@@ -23,11 +25,51 @@ u32 card, room; /* in the adapter's memory: the card, and room for what its call
 u16 call_registers[8]; /* AX, BX, CX, DX, ES, BP, SI, DS: what the host gives interrupt 10, and takes from it */
 static u8 sequencer_index, graphics_index;
 
+/* Writes of memory that follow each other, up and at the same dot, are one call of the adapter: they are held until
+ * anything else reaches it. It takes them as single ones only if it decodes them all. That hangs on registers, and is
+ * the same within a block of 32 KiB: the one of the last write that was taken. */
+enum { MOST_HELD = 32, BLOCK_SHIFT = 15, NO_BLOCK = ~0u };
+static u64 held[MOST_HELD / 8];
+static u32 held_at, held_bytes, taken_block;
+
 void begin_display(u32 the_card, u32 the_room)
 {
     card = the_card;
     room = the_room;
     sequencer_index = graphics_index = 0;
+    memset(held, 0, sizeof held);
+    held_at = held_bytes = 0;
+    taken_block = NO_BLOCK;
+}
+
+/* The adapter has all writes. */
+void give_held(void)
+{
+    u32 bytes = held_bytes;
+    held_bytes = 0;
+    if (bytes == 2) zak_put_word(card, held_at, held[0] & 0xFFFF);
+    else if (bytes == 1) zak_put(card, held_at, held[0] & 0xFF);
+    else if (bytes) adapter_put_bytes(card, room, held_at, bytes, held[0], held[1], held[2], held[3]);
+}
+
+/* Whether a write is held. */
+static int hold(u32 place, u32 value, u32 bytes)
+{
+    if (place >> BLOCK_SHIFT != taken_block || (place + bytes - 1) >> BLOCK_SHIFT != taken_block) return 0;
+    if (place != held_at + held_bytes || held_bytes + bytes > MOST_HELD) give_held();
+    if (!held_bytes) held_at = place;
+    memcpy((u8 *)held + held_bytes, &value, bytes);
+    held_bytes += bytes;
+    return 1;
+}
+
+/* Makes a write at once; whether it is taken. */
+static int give(u32 place, u32 value, u32 bytes)
+{
+    give_held();
+    int is_refused = (bytes == 1 ? zak_put(card, place, value) : zak_put_word(card, place, value)) != 0;
+    taken_block = is_refused ? NO_BLOCK : place >> BLOCK_SHIFT;
+    return !is_refused;
 }
 
 SHOWN("call_registers") u32 place_of_call_registers(void)
@@ -55,6 +97,7 @@ static u32 answered(u32 answer)
 u32 display_get(u32 place)
 {
     settle_memory();
+    give_held();
     u32 value = answered(adapter_get(card, room, place)) & 0xFF;
     record(RECORD_GET, place, value);
     return value;
@@ -63,6 +106,7 @@ u32 display_get(u32 place)
 u32 display_get_word(u32 place)
 {
     settle_memory();
+    give_held();
     u32 answer = adapter_get_word(card, room, place);
     if (answer & REFUSED) return display_get(place) | display_get(place + 1) << 8;
     u32 value = answered(answer);
@@ -73,7 +117,7 @@ u32 display_get_word(u32 place)
 void display_put(u32 place, u32 value)
 {
     settle_memory();
-    if (zak_put(card, place, value)) note_refusal();
+    if (!hold(place, value, 1) && !give(place, value, 1)) note_refusal();
     pass_cycle();
     record(RECORD_PUT, place, value);
 }
@@ -81,7 +125,7 @@ void display_put(u32 place, u32 value)
 void display_put_word(u32 place, u32 value)
 {
     settle_memory();
-    if (zak_put_word(card, place, value)) {
+    if (!hold(place, value, 2) && !give(place, value, 2)) {
         display_put(place, value & 0xFF);
         display_put(place + 1, value >> 8);
         return;
@@ -94,8 +138,9 @@ u32 display_in(u32 port)
 {
     settle();
     int is_status = port == STATUS_COLOUR || port == STATUS_MONO;
-    u32 value = answered(is_status ? read_status(port) : adapter_in(card, room, port)) & 0xFF;
+    u32 answer = is_status ? read_status(port) : adapter_in(card, room, port), value = answered(answer) & 0xFF;
     record(RECORD_IN, port, value);
+    if (is_status && !(answer & REFUSED)) pass_wait(value);
     return value;
 }
 
@@ -125,8 +170,14 @@ static int moves_clock(u32 port)
 static void settle_for(int is_unseen_write)
 {
     forget_status();
-    if (is_unseen_write) settle_memory();
-    else settle();
+    give_held();
+    taken_block = NO_BLOCK;
+    if (is_unseen_write) {
+        settle_memory();
+        return;
+    }
+    settle();
+    note_write();
 }
 
 void display_out(u32 port, u32 value)
@@ -157,6 +208,8 @@ void display_out_word(u32 port, u32 value)
 void video(void)
 {
     settle();
+    taken_block = NO_BLOCK;
+    note_write();
     u16 given[] = {AX, BX, CX, DX, ES, REG(BP), REG(SI), DS};
     memcpy(call_registers, given, sizeof given);
     int sets_mode = AH == 0;

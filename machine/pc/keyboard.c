@@ -25,7 +25,8 @@ static u8 is_full, command, is_disabled;
 /* The last question whether a key waits, and how many were alike. */
 static struct poll {
     double cycles;
-    u32 registers[16], caller[2];
+    u32 registers[16];
+    u64 caller;
 } poll;
 static u64 poll_end;
 static u32 polls;
@@ -70,9 +71,39 @@ static void answer(u32 byte)
     is_full = 1;
 }
 
+/* No key waits, and the program asks whether one does: by a function that was called from a place, or else by the
+ * controller's port. If it asks over and over and does nothing else, it waits for a key: its registers are the same at
+ * each question, and no cycle of the display lies between. The questions then take longer, so the host has less to do.
+ * Whether this one does. */
+static int pass_question(u32 caller)
+{
+    struct poll last = poll;
+    memcpy(poll.registers, (const void *)registers(), sizeof poll.registers);
+    poll.caller = caller;
+    poll.cycles = cycles_done() - frames_ended();
+    int is_alike = !memcmp(&poll, &last, sizeof poll) && now() - poll_end <= POLL_GAP;
+    polls = is_alike ? polls + 1 : 0;
+    if (polls >= MOST_POLLS) {
+        u64 left = next_tick_time() - now();
+        pass(left < POLL_TIME ? left : POLL_TIME);
+        polls = MOST_POLLS;
+    }
+    poll_end = now();
+    return polls == MOST_POLLS;
+}
+
+void pass_poll(void)
+{
+    /* Interrupts may come meanwhile, or the key would not. */
+    if (pass_question(word_of_stack(2) << 16 | word_of_stack(0))) processor.x86.R_FLG |= INTERRUPT;
+}
+
 u32 keyboard_in(u32 port)
 {
-    if (port == 0x64) return SYSTEM | KEYBOARD_ENABLED | (is_full ? OUTPUT_FULL : 0);
+    if (port == 0x64) {
+        if (!is_full) pass_question(0);
+        return SYSTEM | KEYBOARD_ENABLED | (is_full ? OUTPUT_FULL : 0);
+    }
     is_full = 0;
     return output.byte;
 }
@@ -165,28 +196,6 @@ void keyboard_interrupt(void)
 static u32 told(u32 word, int is_new)
 {
     return !is_new && (word & 0xFF) == EXTENDED && word >> 8 ? word & 0xFF00 : word;
-}
-
-/* No key waits, and the program asks whether one does. If it asks over and over and does nothing else, it waits for a
- * key: its registers are the same at each question, and no cycle of the display lies between. The questions then take
- * longer, so the host has less to do. */
-void pass_poll(void)
-{
-    struct poll last = poll;
-    memcpy(poll.registers, (const void *)registers(), sizeof poll.registers);
-    poll.caller[0] = word_of_stack(0);
-    poll.caller[1] = word_of_stack(2);
-    poll.cycles = cycles_done() - frames_ended();
-    int is_alike = !memcmp(&poll, &last, sizeof poll) && now() - poll_end <= POLL_GAP;
-    polls = is_alike ? polls + 1 : 0;
-    if (polls >= MOST_POLLS) {
-        u64 left = next_tick_time() - now();
-        pass(left < POLL_TIME ? left : POLL_TIME);
-        /* Interrupts may come meanwhile, or the key would not. */
-        processor.x86.R_FLG |= INTERRUPT;
-        polls = MOST_POLLS;
-    }
-    poll_end = now();
 }
 
 void keyboard_service(void)

@@ -41,6 +41,11 @@ extern x86emu_t processor;
 
 void generate_int(x86emu_t *emu, u8 number, unsigned type, unsigned errcode); /* libx86emu's */
 
+static inline u32 smaller(u32 one, u32 other)
+{
+    return one < other ? one : other;
+}
+
 /* memory.c: bytes of memory, wherever they stand; words of plain memory; an address of real mode. */
 u32 read_byte(u32 place);
 u32 read_word(u32 place);
@@ -63,7 +68,10 @@ void settle(void);
 void settle_memory(void);
 void forget_clock(void);
 void forget_status(void);
+void note_write(void);
 u32 read_status(u32 port);
+u32 reads_alike(u32 instructions);
+void pass_reads(u32 reads);
 
 /* display.c: cycles of the adapter, and interrupt 10. */
 int is_display_port(u32 port);
@@ -72,11 +80,15 @@ u32 display_get(u32 place);
 u32 display_get_word(u32 place);
 void display_put(u32 place, u32 value);
 void display_put_word(u32 place, u32 value);
+void give_held(void);
 u32 display_in(u32 port);
 void display_out(u32 port, u32 value);
 void display_out_word(u32 port, u32 value);
 void video(void);
 void begin_display(u32 the_card, u32 the_room);
+
+/* waits.c: loops that wait for a bit of input status 1. */
+void pass_wait(u32 value);
 
 /* records.c: what was done, where that is wanted, and where the machine stops. */
 enum record_kind {
@@ -86,6 +98,8 @@ enum record_kind {
 void record(enum record_kind kind, u32 address, u32 value);
 void record_call(u32 ax_bx, u32 cx_dx);
 void record_dots(u32 dots);
+u32 cycles_unseen(void);
+void pass_cycles(u32 count);
 double cycles_done(void);
 void note_refusal(void);
 void note_mode(void);

@@ -90,3 +90,10 @@ unsigned reach(x86emu_t *emu, u32 place, u32 *value, unsigned type)
     }
     return 0;
 }
+
+u32 reach_other(x86emu_t *emu, u32 place, u32 value, unsigned type)
+{
+    if (emu->memio == reach) reach(emu, place, &value, type);
+    else emu->memio(emu, place, &value, type);
+    return value;
+}

@@ -3,7 +3,7 @@
 
 FROM("host", "told") void host_told(u32 segment, u32 place, u32 text, u32 length); /* an instruction's text */
 
-enum { MOST_RECORDS = 1 << 20, MOST_WATCHES = 16, TOLD = 4096, REFUSED = 1 << 27 };
+enum { MOST_RECORDS = 1 << 20, MOST_WATCHES = 16, TOLD = 4096, REFUSED = 1 << 27, MOST_UNSEEN = 1 << 30 };
 enum { TEXTS = 2, TIMES = 3, MICROSECOND = 1000 };
 
 /* Dots before it; kind in bits 28 to 31, whether it was refused in bit 27, and address; value in bits 0 to 15, and the
@@ -148,6 +148,19 @@ void record(enum record_kind kind, u32 address, u32 value)
     if (is_told) tell_instruction(segment, place);
     u32 what = (u32)kind << 28 | (was_refused ? REFUSED : 0) | address;
     add((struct record){dots_before, what, (value & 0xFFFF) | segment << 16, place});
+}
+
+/* How many cycles may pass that nobody looks at: none where the last one stopped the processor. */
+u32 cycles_unseen(void)
+{
+    u64 left = stop_cycle > cycles ? stop_cycle - cycles - 1 : 0;
+    int is_seen = is_recording || processor.code_check || (processor.x86.mode & _MODE_HALTED);
+    return is_seen ? 0 : left < MOST_UNSEEN ? (u32)left : MOST_UNSEEN;
+}
+
+void pass_cycles(u32 count)
+{
+    cycles += count;
 }
 
 /* A call of interrupt 10: the place is that of the instruction that called. */

@@ -342,6 +342,7 @@ static u64 sooner(u64 one, u64 other)
 static void run_processor(void)
 {
     u32 ended = x86emu_run(&processor, X86EMU_RUN_MAX_INSTR) & X86EMU_RUN_MAX_INSTR;
+    give_held();
     is_amid = !ended && stopped != RUNS && !is_waiting;
     if (!ended && stopped == RUNS && !is_waiting) is_halted = 1;
 }

@@ -28,6 +28,8 @@ const NEAR = 5 * SECOND;
 const TRAIL = 10 * SECOND;
 /** Milliseconds between two lines that tell how it runs. */
 const TELLING = 500;
+/** A window in which the picture has soft edges (machine.css), so that each of its dots counts. */
+const NARROW = "(max-width: 860px)";
 /** Milliseconds between two turns of a machine that rests. */
 const REST = 50;
 /** What is said of each reason why the machine stopped. */
@@ -254,6 +256,7 @@ export class Live {
     this.#lastTime = performance.now();
     this.#drawn = -1;
     const { cpu } = this.#machine;
+    this.#machine.isDrawnOnce = !matchMedia(NARROW).matches;
     this.#pace = new Pace(cpu, this.#lastTime);
     this.#told = { at: this.#lastTime, instructions: cpu.instructions(), frames: cpu.frames() };
     this.#heard.changed();

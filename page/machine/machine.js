@@ -17,7 +17,9 @@ export const USUAL_SPEED = "386";
 /** What a record has beside its cycle: see machine/pc/records.c. */
 const TEXTS = 2, TIMES = 3;
 const WASM_PAGE = 65536, ROOM_BYTES = 64, MOST_BLOCK = 0x20000, TABLE_BYTES = 1024;
-const WITH_ALPHA = 1, BOOT = 1, PROGRAM = 0;
+const WITH_ALPHA = 1, ONCE = 2, BOOT = 1, PROGRAM = 0;
+/** After so many frames in whose lines nothing was written to a register, one word stands for each pixel. */
+const CALM_FRAMES = 70;
 const BIOS_DATA = 0x400, MOST_FRAMES = 4096, MOST_MISSING = 64;
 /** So many sets of modes are noted, and of more the last. */
 const MOST_MODES = 1 << 16;
@@ -56,6 +58,11 @@ export class Machine {
   #paint;
   /** Whether frames are drawn as they end. */
   isShowing = true;
+  /** Whether a pixel that is shown several times is drawn once, as long as no register is written amid a picture. */
+  isDrawnOnce = false;
+  /** The dots of a frame until the end of its last line that is seen, and the last frame amid which one was written. */
+  #seenDots = 0;
+  #stirred = 0;
   /** The last frame that was drawn: its width and height, and how many there were. */
   width = 0;
   height = 0;
@@ -450,17 +457,33 @@ export class Machine {
   }
 
   #passFrame() {
+    if (this.cpu.first_write() >>> 0 < this.#seenDots) this.#stirred = this.cpu.frames();
     if (!this.isShowing) {
       this.calls.zak_skip_frame(this.card);
       return;
     }
-    const status = this.calls.zak_frame_words(this.card, WITH_ALPHA, this.room, this.pixels,
+    const status = this.calls.zak_frame_words(this.card, this.#form, this.room, this.pixels,
       WIDEST * HIGHEST, WIDEST);
     // Lines of different widths make no picture.
     if (status) return;
-    this.width = this.adapterView.getUint32(this.room, true);
-    this.height = this.adapterView.getUint32(this.room + 4, true);
+    const [width, height, , down] = this.#roomWords(4);
+    Object.assign(this, { width, height });
+    this.calls.zak_clock(this.card, this.room);
+    this.#seenDots = height * down * this.#roomWords(4)[3];
     this.shown++;
+  }
+
+  /** How a frame is drawn: a flag of zak_frame_words, or two. */
+  get #form() {
+    const frames = this.cpu.frames() - this.#stirred;
+    // Whether a machine that was taken back, or started again, is calm is seen with its first frame.
+    const isCalm = this.isDrawnOnce && (frames > CALM_FRAMES || frames < 0);
+    return isCalm ? WITH_ALPHA | ONCE : WITH_ALPHA;
+  }
+
+  /** The first words of the room in which the adapter's calls tell. */
+  #roomWords(count) {
+    return new Uint32Array(this.calls.memory.buffer, this.room, count);
   }
 
   /** The bytes of a canvas that shows the picture; kept until the adapter's memory grows. */

@@ -54,7 +54,7 @@ export class FakePage {
       list.set(++this.#count, does);
       return this.#count;
     };
-    Object.assign(globalThis, { document: this.document,
+    Object.assign(globalThis, { document: this.document, matchMedia: () => ({ matches: false }),
       addEventListener: (type, does) => this.window.addEventListener(type, does),
       requestAnimationFrame: take(this.turns), cancelAnimationFrame: number => this.turns.delete(number),
       setTimeout: take(this.timers), clearTimeout: number => this.timers.delete(number) });

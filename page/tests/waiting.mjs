@@ -20,12 +20,16 @@ const POLLS = {
   "the BIOS, of a new keyboard": "B411 CD16 74FA",
   // mov ah, 0Bh; int 21h; test al, al; jz
   "DOS": "B40B CD21 84C0 74F8",
+  // cli, or the BIOS takes the key; in al, 64h; test al, 1; jz
+  "the keyboard's controller": "FA E464 A801 74FA",
   // mov ah, 6; mov dl, FFh; int 21h; jz
   "DOS, of its console": "B406 B2FF CD21 74F8",
 };
 const BUSY = {
   // mov ah, 1; int 16h; inc cx; jmp
   "it counts": "B401 CD16 41 EBF9",
+  // in al, 64h; inc cx; test al, 1; jz
+  "it counts at the keyboard's controller": "E464 41 A801 74F9",
   // mov ah, 1; int 16h; mov dx, 3DAh; in al, dx; mov al, 0; jmp
   "it reads the display": "B401 CD16 BADA03 EC B000 EBF4",
 };
@@ -71,6 +75,16 @@ for (const [name, digits] of Object.entries(BUSY)) {
     assert.ok(count > 3000000, `${count} instructions`);
   });
 }
+
+test("a program that asks the keyboard's controller is as quick as ever while a byte is there", () => {
+  // cli; in al, 64h; jmp
+  const machine = started("FA E464 EBFC");
+  machine.run(SECOND);
+  assert.ok(secondOf(machine) < 200000);
+  machine.key(0x1e, 0x1e61);
+  machine.run(machine.cpu.now() + 8 * MILLISECOND);
+  assert.ok(secondOf(machine) > 3000000);
+});
 
 /** A processor of which a test tells what it has done. */
 class Told {

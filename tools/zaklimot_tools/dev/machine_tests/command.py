@@ -37,22 +37,19 @@ UNICORN = "python3-unicorn"
 
 
 def built_processor(folder: Path) -> Path:
-    """The program that takes cases, built of libx86emu as the page has it, but for its memory."""
+    """The program that takes cases: libx86emu and the memory that the page has."""
     check_program(COMPILER)
     top = patched(folder)
     program = folder / "processor"
-    own = [
-        flag
-        for flag in DEFINED
-        if not flag.startswith(("-DX86EMU_MEMORY", "-DX86EMU_TELLS", "-DX86EMU_LOGS"))
-    ]
     sources = [HERE / "processor.c", MACHINE / "cpu" / "shifts.c"]
     sources += [top / f"{name}.c" for name in (*PROCESSOR, "api", "mem")]
     words: list[Word] = [
         COMPILER,
         "-O2",
         "-w",
-        *own,
+        *DEFINED,
+        "-I",
+        MACHINE / "cpu",
         "-I",
         top / "include",
         "-I",

@@ -1,8 +1,10 @@
-/* Compares libx86emu, patched as the page has it, with what another processor does: processor [faults] < CASES
+/* Compares libx86emu, patched as the page has it and with the page's memory, with what another processor does:
+ * processor [faults] < CASES
  *
- * cases.py and manual.py write the cases, and tell what they are. By `faults` a fault is compared too, for what it
- * leaves. It is told how many differ, by opcode, and the first of each. The exit status is 1 where one differs, or where
- * an instruction is lacking.
+ * cases.py and manual.py write the cases, and tell what they are. Each is done in the two ways that the page has: where
+ * instructions are told, and where they are not. By `faults` a fault is compared too, for what it leaves. It is told how
+ * many differ, by opcode, and the first of each. The exit status is 1 where one differs, or where an instruction is
+ * lacking.
  */
 #include <stdio.h>
 #include <stdlib.h>
@@ -37,10 +39,11 @@ struct port {
 };
 #pragma pack(pop)
 
-static u8 memory[MEMORY];
-static u8 is_touched[MEMORY];
-static u32 touched[65536];
-static unsigned touched_count, port_count;
+/* The page's memory (machine/cpu/memory.h). Beyond MEMORY there is none for a case. */
+enum { PART = 1 << PART_SHIFT, BEYOND = 0xFF };
+u8 ram[RAM_BYTES], is_written[PARTS];
+u32 is_told;
+static unsigned port_count;
 static struct port ports[MOST_PORTS];
 static unsigned all[OPCODES], differing[OPCODES], lacking[OPCODES];
 
@@ -55,14 +58,6 @@ static u32 answer(u32 port, u32 size)
     return size == 4 ? word : word & ((1u << 8 * size) - 1);
 }
 
-static void write_byte(u32 place, u8 value)
-{
-    memory[place] = value;
-    if (is_touched[place] || touched_count == 65536) return;
-    is_touched[place] = 1;
-    touched[touched_count++] = place;
-}
-
 static unsigned reach(x86emu_t *emu, u32 place, u32 *value, unsigned type)
 {
     unsigned size = 1u << (type & 3), i;
@@ -75,12 +70,21 @@ static unsigned reach(x86emu_t *emu, u32 place, u32 *value, unsigned type)
         if (port_count < MOST_PORTS) ports[port_count++] = (struct port){(u16)place, (u8)size, *value};
         return 0;
     case X86EMU_MEMIO_W:
-        for (i = 0; i < size; i++) if (place + i < MEMORY) write_byte(place + i, (u8)(*value >> 8 * i));
+        for (i = 0; i < size && place + i < MEMORY; i++) {
+            ram[place + i] = (u8)(*value >> 8 * i);
+            mark(place + i, 1);
+        }
         return 0;
     }
     *value = 0;
-    for (i = 0; i < size; i++) *value |= (u32)(place + i < MEMORY ? memory[place + i] : 0xFF) << 8 * i;
+    for (i = 0; i < size; i++) *value |= (u32)(place + i < MEMORY ? ram[place + i] : BEYOND) << 8 * i;
     return 0;
+}
+
+u32 reach_other(x86emu_t *emu, u32 place, u32 value, unsigned type)
+{
+    emu->memio(emu, place, &value, type);
+    return value;
 }
 
 /* The segments that a case of descriptors begins with: all of memory, by the first two descriptors. */
@@ -120,8 +124,9 @@ static void begin(x86emu_t *emu, const struct before *given)
     for (int i = 0; i < 8; i++) *all_of[i] = given->registers[i];
     emu->x86.R_EFLG = given->flags;
     emu->x86.R_EIP = is_protected ? CODE : OFFSET;
-    memcpy(memory + CODE, given->code, sizeof given->code);
-    touched_count = port_count = 0;
+    memcpy(ram + CODE, given->code, sizeof given->code);
+    mark(CODE, sizeof given->code);
+    port_count = 0;
 }
 
 /* The number of the fault that came first: none by INT. */
@@ -152,25 +157,25 @@ static int opcode_of(const u8 *code)
 
 /* Bytes of memory before a case: the pattern, and what the case gives. */
 enum { MOST_GIVEN = 64 };
-static u8 given_before[MEMORY];
+static u8 given_before[RAM_BYTES];
 static u32 given_places[MOST_GIVEN], given_count;
 
-static int by_place(const void *one, const void *other)
+/* The next byte that isn't as before, but for the instruction's own; MEMORY for none. */
+static u32 next_changed(u32 place)
 {
-    u32 a = *(const u32 *)one, b = *(const u32 *)other;
-    return (a > b) - (a < b);
+    for (; place < MEMORY; place++) {
+        if (!is_written[place >> PART_SHIFT]) place |= PART - 1;
+        else if (ram[place] != given_before[place] && place - CODE >= 16) return place;
+    }
+    return MEMORY;
 }
 
-/* The bytes that aren't those of the pattern any longer, but for the instruction's own. */
 static int is_same_memory(const struct after *wanted, const struct written *written)
 {
     unsigned changed = 0;
-    qsort(touched, touched_count, sizeof *touched, by_place);
-    for (unsigned i = 0; i < touched_count; i++) {
-        u32 place = touched[i];
-        if (memory[place] == given_before[place] || place - CODE < 16) continue;
+    for (u32 place = next_changed(0); place < MEMORY; place = next_changed(place + 1)) {
         if (changed == wanted->written || place != written[changed].place) return 0;
-        if (memory[place] != written[changed++].value) return 0;
+        if (ram[place] != written[changed++].value) return 0;
     }
     return changed == wanted->written;
 }
@@ -197,16 +202,16 @@ static void tell(x86emu_t *emu, const struct before *given, const struct after *
     static const char *const NAMES[] = {"eax", "ecx", "edx", "ebx", "esp", "ebp", "esi", "edi"};
     u32 found[] = {emu->x86.R_EAX, emu->x86.R_ECX, emu->x86.R_EDX, emu->x86.R_EBX,
                    emu->x86.R_ESP, emu->x86.R_EBP, emu->x86.R_ESI, emu->x86.R_EDI};
-    printf("  %s", given->kind == DESCRIBED ? "described:" : given->kind == FLAT ? "protected:" : "real:");
+    printf("  %s%s", is_told ? "told, " : "", given->kind == DESCRIBED ? "described:" : given->kind == FLAT ? "protected:" : "real:");
     for (int i = 0; i < 10; i++) printf(" %02X", given->code[i]);
     for (int i = 0; i < 8; i++) {
         if (found[i] != wanted->registers[i]) {
             printf(", %s %X -> %X, not %X", NAMES[i], given->registers[i], wanted->registers[i], found[i]);
         }
     }
-    printf(", flags %X -> %X, not %X (of %X), eip %X, not %X, %u bytes, not %u, %u ports, not %u\n", given->flags,
+    printf(", flags %X -> %X, not %X (of %X), eip %X, not %X, %u bytes, %u ports, not %u\n", given->flags,
            wanted->flags, emu->x86.R_FLG, wanted->compared, wanted->place, emu->x86.R_EIP, wanted->written,
-           touched_count, wanted->ports, port_count);
+           wanted->ports, port_count);
     if (given->kind != DESCRIBED) return;
     printf("    fault %d, not %d; selectors", (int)wanted->fault, (int)fault_of(emu));
     for (int i = 0; i < 6; i++) printf(" %X not %X", wanted->segments[i], emu->x86.seg[i].sel);
@@ -218,11 +223,11 @@ static int read_given(const struct before *given)
 {
     struct written one;
     u32 bytes = given->segment_bytes + given->interrupt_bytes;
-    if (bytes > MOST_TABLES || fread(memory + TABLES, 1, bytes, stdin) != bytes) return 0;
-    memcpy(given_before + TABLES, memory + TABLES, bytes);
+    if (bytes > MOST_TABLES || fread(ram + TABLES, 1, bytes, stdin) != bytes) return 0;
+    memcpy(given_before + TABLES, ram + TABLES, bytes);
     for (u32 i = 0; i < given->given; i++) {
         if (fread(&one, sizeof one, 1, stdin) != 1 || one.place >= MEMORY) return 0;
-        memory[one.place] = given_before[one.place] = one.value;
+        ram[one.place] = given_before[one.place] = one.value;
         given_places[given_count++ % MOST_GIVEN] = one.place;
     }
     return 1;
@@ -231,58 +236,91 @@ static int read_given(const struct before *given)
 static void restore_given(const struct before *given)
 {
     u32 bytes = given->segment_bytes + given->interrupt_bytes;
-    for (u32 i = TABLES; i < TABLES + bytes; i++) memory[i] = given_before[i] = pattern(i);
+    for (u32 i = TABLES; i < TABLES + bytes; i++) ram[i] = given_before[i] = pattern(i);
     for (u32 i = 0; i < given_count; i++) {
         u32 place = given_places[i % MOST_GIVEN];
-        memory[place] = given_before[place] = pattern(place);
+        ram[place] = given_before[place] = pattern(place);
     }
     given_count = 0;
 }
 
+/* All that was written is as before. */
 static void restore(void)
 {
-    for (unsigned i = 0; i < touched_count; i++) {
-        memory[touched[i]] = pattern(touched[i]);
-        is_touched[touched[i]] = 0;
+    for (u32 part = 0; part < PARTS; part++) {
+        if (is_written[part]) memcpy(ram + part * PART, given_before + part * PART, PART);
     }
-    for (u32 i = CODE; i < CODE + 32; i++) memory[i] = pattern(i);
+    memset(is_written, 0, sizeof is_written);
+}
+
+/* A case, and what another processor left of it. */
+struct compared {
+    struct before given;
+    struct after wanted;
+    struct written written[MOST_WRITTEN];
+    struct port ports[MOST_PORTS];
+};
+enum outcome { SAME, DIFFERS, LACKING, BEYOND_SEGMENT };
+
+/* Does a case in one of the two ways. */
+static enum outcome done(x86emu_t *emu, const struct compared *one, int has_faults)
+{
+    int is_compared = has_faults || one->given.kind == DESCRIBED;
+    begin(emu, &one->given);
+    for (u32 i = 0; i < one->given.count && fault_of(emu) == NO_FAULT; i++) take(emu);
+    if (!is_compared && emu->x86.intr_stats[INVALID_OPCODE]) return LACKING;
+    /* A word beyond a segment's end: QEMU lets it pass. */
+    if (!is_compared && emu->x86.intr_stats[GENERAL_PROTECTION]) return BEYOND_SEGMENT;
+    return is_same(emu, &one->given, &one->wanted, one->written, one->ports) ? SAME : DIFFERS;
+}
+
+/* Does a case where instructions are not told, and if that is right, where they are. */
+static enum outcome done_twice(const struct compared *one, int has_faults)
+{
+    static x86emu_t emu;
+    enum outcome found[2] = {SAME, SAME};
+    for (is_told = 0; is_told < 2 && found[0] != DIFFERS; is_told++) {
+        found[is_told] = done(&emu, one, has_faults);
+        if (is_told && found[1] != found[0]) found[1] = DIFFERS;
+        if (found[is_told] == DIFFERS && !differing[opcode_of(one->given.code)]) tell(&emu, &one->given, &one->wanted);
+        restore();
+    }
+    return found[0] == DIFFERS ? DIFFERS : found[1];
+}
+
+static int read_case(struct compared *one)
+{
+    struct after *wanted = &one->wanted;
+    if (fread(&one->given, sizeof one->given, 1, stdin) != 1 || !read_given(&one->given)) return 0;
+    if (fread(wanted, sizeof *wanted, 1, stdin) != 1) return 0;
+    if (wanted->written > MOST_WRITTEN || wanted->ports > MOST_PORTS) exit(2);
+    return fread(one->written, sizeof *one->written, wanted->written, stdin) == wanted->written &&
+           fread(one->ports, sizeof *one->ports, wanted->ports, stdin) == wanted->ports;
 }
 
 int main(int count, char **words)
 {
     int has_faults = count > 1 && !strcmp(words[1], "faults");
-    static x86emu_t emu;
-    static struct written written[MOST_WRITTEN];
-    static struct port wanted_ports[MOST_PORTS];
-    struct before given;
-    struct after wanted;
+    static struct compared one;
     unsigned total = 0, wrong = 0, illegal = 0, beyond = 0;
-    for (u32 i = 0; i < MEMORY; i++) memory[i] = given_before[i] = pattern(i);
-    while (fread(&given, sizeof given, 1, stdin) == 1 && read_given(&given)) {
-        if (fread(&wanted, sizeof wanted, 1, stdin) != 1) break;
-        if (wanted.written > MOST_WRITTEN || wanted.ports > MOST_PORTS) return 2;
-        if (fread(written, sizeof *written, wanted.written, stdin) != wanted.written) break;
-        if (fread(wanted_ports, sizeof *wanted_ports, wanted.ports, stdin) != wanted.ports) break;
-        begin(&emu, &given);
-        for (u32 i = 0; i < given.count && fault_of(&emu) == NO_FAULT; i++) take(&emu);
-        int opcode = opcode_of(given.code);
-        int is_described = given.kind == DESCRIBED;
-        if (!has_faults && !is_described && emu.x86.intr_stats[INVALID_OPCODE]) {
+    for (u32 i = 0; i < RAM_BYTES; i++) ram[i] = given_before[i] = i < MEMORY ? pattern(i) : BEYOND;
+    while (read_case(&one)) {
+        int opcode = opcode_of(one.given.code);
+        switch (done_twice(&one, has_faults)) {
+        case LACKING:
             illegal++;
             lacking[opcode]++;
-        } else if (!has_faults && !is_described && emu.x86.intr_stats[GENERAL_PROTECTION]) {
-            /* A word beyond a segment's end: QEMU lets it pass. */
-            beyond++;
-        } else {
+            break;
+        case BEYOND_SEGMENT: beyond++; break;
+        case DIFFERS:
+            wrong++;
+            differing[opcode]++;
+            /* fallthrough */
+        case SAME:
             total++;
             all[opcode]++;
-            if (!is_same(&emu, &given, &wanted, written, wanted_ports)) {
-                wrong++;
-                if (!differing[opcode]++) tell(&emu, &given, &wanted);
-            }
         }
-        restore();
-        restore_given(&given);
+        restore_given(&one.given);
     }
     for (int i = 0; i < OPCODES; i++) {
         const char *front = i > 255 ? "0F " : "";

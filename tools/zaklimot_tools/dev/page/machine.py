@@ -41,7 +41,6 @@ MOST_ARCHIVE = 1 << 20
 PROCESSOR = ("decode", "ops", "ops2", "prim_ops")
 TARGET = (
     "--target=wasm32",
-    "-O3",
     "-std=gnu17",
     "-mbulk-memory",
     "-msign-ext",
@@ -50,13 +49,29 @@ TARGET = (
     "-fno-strict-aliasing",
     "-flto",
 )
+# What is done with most instructions is to be fast; all else is to be small.
+USUAL, RARE = "-O3", "-Os"
+OFTEN = (
+    "decode",
+    "ops",
+    "prim_ops",
+    "shifts",
+    "beam",
+    "display",
+    "memory",
+    "records",
+    "reads",
+    "waits",
+)
+# Each browser that opens the page has them. They make a picture out of words three times as fast.
+VECTORS = "-msimd128"
 DEFINED = (
     "-DWITH_TSC=0",
     "-DWITH_IOPL=0",
     "-DX86EMU_OWN_SHIFTS",
     '-DX86EMU_MEMORY="memory.h"',
     "-DX86EMU_TELLS=is_told",
-    "-DX86EMU_LOGS=is_told",
+    "-DX86EMU_LOGS=0",
 )
 STRICT = ("-Wall", "-Wextra", "-Wno-parentheses", "-Werror")
 STACK = 65536
@@ -163,7 +178,8 @@ def _compiled(sources: Sequence[Path], folder: Path, *flags: str | Path) -> list
     made = []
     for path in sources:
         made.append(folder / f"{path.parent.name}-{path.stem}.o")
-        run([CLANG, *TARGET, *flags, "-c", path, "-o", made[-1]], seconds=MAKING)
+        level = USUAL if path.stem in OFTEN else RARE
+        run([CLANG, *TARGET, level, *flags, "-c", path, "-o", made[-1]], seconds=MAKING)
     return made
 
 
@@ -203,7 +219,7 @@ def made_machine() -> MachineModules:
         cpu = _linked(
             objects, folder / "cpu.wasm", "-z", f"stack-size={STACK}", "--export=__heap_base"
         )
-        reads = _compiled([MACHINE / "cpu" / "reads.c"], folder, *STRICT)
+        reads = _compiled([MACHINE / "cpu" / "reads.c"], folder, VECTORS, *STRICT)
         return MachineModules(
             cpu, _linked(reads, folder / "reads.wasm", "--import-memory", "--allow-undefined")
         )
