@@ -238,6 +238,7 @@ class Page(unittest.TestCase):
                 "zak",
                 "zak_version",
                 "zak_frame_lines",
+                "zak_peek",
                 "zak_run_on",
                 "zak_print",
             },
