@@ -183,96 +183,99 @@ static void f6(module *, u64, u64, u64, u64);
 static void f7(module *, u64, u64, u32, u32);
 static void f8(module *, u64, u64, u64);
 static void f9(module *, u64, u64);
-static u32 f10(module *, u64, u64, u64, u64);
-static void f11(module *, u64, u64, u64, u64);
-static u32 f12(module *, u64, u64);
-static void f13(module *, u64, u64, u32);
+static void f10(module *, u64, u64, u64, u64, u32);
+static void f11(module *, u64, u64, u32, u64, u64);
+static void f12(module *, u64, u64, u32, u64, u64);
+static u32 f13(module *, u64, u64, u64, u64);
 static void f14(module *, u64, u64, u64, u64);
-static void f15(module *, u64, u64, u64, u64);
-static void f16(module *, u64, u64, u64);
-static void f17(module *, u64, u64, u64);
-static void f18(module *, u64, u64);
-static u32 f19(module *, u64);
-static void f20(module *, u64, u32, u32);
-static void f21(module *, u64, u64, u64);
-static void f22(module *, u64);
-static void f23(module *, u64, u64);
+static u32 f15(module *, u64, u64);
+static void f16(module *, u64, u64, u32);
+static void f17(module *, u64, u64, u64, u64);
+static void f18(module *, u64, u64, u64, u64);
+static void f19(module *, u64, u64, u64);
+static void f20(module *, u64, u64, u64);
+static void f21(module *, u64, u64);
+static u32 f22(module *, u64);
+static void f23(module *, u64, u32, u32);
 static void f24(module *, u64, u64, u64);
-static void f25(module *, u64, u64, u64, u64, u64, u64, u64);
-static void f26(module *, u64, u64, u32);
-static u32 f27(module *, u64, u32, u32);
-static void f28(module *, u64, u64, u64, u64, u32);
-static void f29(module *, u64, u32, u32);
-static void f30(module *, u64, u64, u64);
-static void f31(module *, u64, u64, u64, u64);
-static void f32(module *, u64, u64, u32);
-static void f33(module *, u64, u64, u64, u32, u64);
-static void f34(module *, u64, u64, u32);
-static void f35(module *, u64, u32, u32);
-static u32 f36(module *, u64, u32, u64);
-static void f37(module *, u64, u64, u32, u32, u32, u32);
+static void f25(module *, u64);
+static void f26(module *, u64, u64);
+static void f27(module *, u64, u64, u64);
+static void f28(module *, u64, u64, u64, u64, u64, u64, u64);
+static void f29(module *, u64, u64, u32);
+static u32 f30(module *, u64, u32, u32);
+static void f31(module *, u64, u64, u64, u64, u32);
+static void f32(module *, u64, u32, u32);
+static void f33(module *, u64, u64, u64);
+static void f34(module *, u64, u64, u64, u64);
+static void f35(module *, u64, u64, u32);
+static void f36(module *, u64, u64, u64, u32, u64);
+static void f37(module *, u64, u64, u32);
 static void f38(module *, u64, u32, u32);
-static u32 f39(module *, u64, u64, u32, u32, u32, u32);
-static void f40(module *, u64, u32, u32, u32);
+static u32 f39(module *, u64, u32, u64);
+static void f40(module *, u64, u64, u32, u32, u32, u32);
 static void f41(module *, u64, u32, u32);
-static void f42(module *, u64, u32);
-static void f43(module *, u64, u32, u32);
-static void f44(module *, u64, u64, u32, u32);
-static void f45(module *, u64, u32, u32);
-static u32 f46(module *, u64, u32, u32);
+static u32 f42(module *, u64, u64, u32, u32, u32, u32);
+static void f43(module *, u64, u32, u32, u32);
+static void f44(module *, u64, u32, u32);
+static void f45(module *, u64, u32);
+static void f46(module *, u64, u32, u32);
 static void f47(module *, u64, u64, u32, u32);
-static void f48(module *, u64, u64, u32, u32, u32);
-static u32 f49(module *, u64, u64, u32, u32);
-static void f50(module *, u64, u32, u32, u32, u32);
-static void f51(module *, u64, u64);
-static void f52(module *, u64, u64, u32, u64, u64);
-static u32 f53(module *, u64, u32);
-static void f54(module *, u64, u64, u32, u32);
-static void f55(module *, u64, u64, u32);
-static void f56(module *, u64, u64, u32);
-static void f57(module *, u64, u64, u64, u64, u64, u64, u64);
-static void f58(module *, u64, u64, u64, u64, u32);
-static void f59(module *, u64, u32, u32, u32);
-static void f60(module *, u64, u64, u64, u32, u64);
-static void f61(module *, u64, u64, u32, u32, u32, u32);
-static u32 f62(module *, u64, u64, u32, u32, u32, u32);
-static void f63(module *, u64, u32, u32, u32);
-static void f64(module *, u64, u64, u64);
-static void f65(module *, u64, u32, u32, u64);
+static void f48(module *, u64, u32, u32);
+static u32 f49(module *, u64, u32, u32);
+static void f50(module *, u64, u64, u32, u32);
+static void f51(module *, u64, u64, u32, u32, u32);
+static u32 f52(module *, u64, u64, u32, u32);
+static void f53(module *, u64, u32, u32, u32, u32);
+static void f54(module *, u64, u64);
+static void f55(module *, u64, u64, u32, u64, u64);
+static u32 f56(module *, u64, u32);
+static void f57(module *, u64, u64, u32, u32);
+static void f58(module *, u64, u64, u32);
+static void f59(module *, u64, u64, u32);
+static void f60(module *, u64, u64, u64, u64, u64, u64, u64);
+static void f61(module *, u64, u64, u64, u64, u32);
+static void f62(module *, u64, u32, u32, u32);
+static void f63(module *, u64, u64, u64, u32, u64);
+static void f64(module *, u64, u64, u32, u32, u32, u32);
+static u32 f65(module *, u64, u64, u32, u32, u32, u32);
 static void f66(module *, u64, u32, u32, u32);
-static u32 f67(module *, u64, u64, u32, u32, u32, u32);
-static u32 f68(module *, u64, u64, u32, u32);
-static void f69(module *, u64, u64, u64);
-static void f70(module *, u64, u64);
-static void f71(module *, u64, u64, u32, u32);
-static void f72(module *, u64, u64, u32, u32, u32);
-static void f73(module *, u64, u64, u64);
-static void f74(module *, u64, u64, u64);
-static void f75(module *, u64, u64, u64, u64, u32);
+static void f67(module *, u64, u64, u64);
+static void f68(module *, u64, u32, u32, u64);
+static void f69(module *, u64, u32, u32, u32);
+static u32 f70(module *, u64, u64, u32, u32, u32, u32);
+static u32 f71(module *, u64, u64, u32, u32);
+static void f72(module *, u64, u64, u64);
+static void f73(module *, u64, u64);
+static void f74(module *, u64, u64, u32, u32);
+static void f75(module *, u64, u64, u32, u32, u32);
 static void f76(module *, u64, u64, u64);
-static void f77(module *, u64, u32, u64);
-static void f78(module *, u64, u64, u32);
-static u32 f79(module *, u64, u32, u32);
-static u32 f80(module *, u64, u32, u32);
-static u32 f81(module *, u64, u64, u32, u64, u64, u32);
-static u32 f82(module *, u64, u64, u64);
-static void f83(module *, u64, u64);
-static u32 f84(module *, u64, u64, u64);
-static void f85(module *, u64, u64, u64, u64, u64, u64, u64);
+static void f77(module *, u64, u64, u64);
+static void f78(module *, u64, u64, u64, u64, u32);
+static void f79(module *, u64, u64, u64);
+static void f80(module *, u64, u32, u64);
+static void f81(module *, u64, u64, u32);
+static u32 f82(module *, u64, u32, u32);
+static u32 f83(module *, u64, u32, u32);
+static u32 f84(module *, u64, u64, u32, u64, u64, u32);
+static u32 f85(module *, u64, u64, u64);
 static void f86(module *, u64, u64);
-static u32 f87(module *, u64, u64);
-static void f88(module *, u64, u64, u64, u64);
-static void f89(module *, u64, u64, u64, u64, u64);
-static void f90(module *, u64, u64, u64, u64);
-static void f91(module *, u64, u64, u64, u32, u64, u64);
-static void f92(module *, u64, u64, u64, u32);
-static void f93(module *, u64, u64, u64, u64, u64, u64);
-static void f94(module *, u64, u64);
-static void f95(module *, u64, u64);
-static void f96(module *, u64, u64, u64);
-static u32 f97(module *, u64);
-static u32 f98(module *, u64);
-static u32 f99(module *, u64, u64, u64, u64, u64);
+static u32 f87(module *, u64, u64, u64);
+static void f88(module *, u64, u64, u64, u64, u64, u64, u64);
+static void f89(module *, u64, u64);
+static u32 f90(module *, u64, u64);
+static void f91(module *, u64, u64, u64, u64);
+static void f92(module *, u64, u64, u64, u64, u64);
+static void f93(module *, u64, u64, u64, u64);
+static void f94(module *, u64, u64, u64, u32, u64, u64);
+static void f95(module *, u64, u64, u64, u32);
+static void f96(module *, u64, u64, u64, u64, u64, u64);
+static void f97(module *, u64, u64);
+static void f98(module *, u64, u64);
+static void f99(module *, u64, u64, u64);
+static u32 f100(module *, u64);
+static u32 f101(module *, u64);
+static u32 f102(module *, u64, u64, u64, u64, u64);
 static u32 module_zak_advance(module *, u64, u32);
 static u32 module_zak_assemble(module *, u64, u64, u64, u64, u64, u64);
 static u32 module_zak_block(module *, u64, u64, u64);
@@ -295,6 +298,7 @@ static u32 module_zak_move_bytes(module *, u64, u32, u32, u64, u32, u64);
 static u32 module_zak_open(module *, u64, u64, u64);
 static u32 module_zak_out(module *, u64, u32, u32);
 static u32 module_zak_out_word(module *, u64, u32, u32);
+static u32 module_zak_peek(module *, u64, u64, u64, u64, u64);
 static u32 module_zak_print(module *, u64, u64, u64, u64, u64, u64);
 static u32 module_zak_put(module *, u64, u32, u32);
 static u32 module_zak_put_bytes(module *, u64, u32, u64, u64, u32, u64);
@@ -328,10 +332,10 @@ static u32 module_zak_status_text(module *, u32, u64, u64, u64);
 static u32 module_zak_version(module *);
 static u64 module_page_take(module *, u64);
 static u32 module_page_give(module *, u64);
-static void f155(module *, u64, u64, u64);
-static u64 f156(module *, u64);
-static void f157(module *, u64, u64, u64, u64, u64);
-static void f158(module *, u64);
+static void f159(module *, u64, u64, u64);
+static u64 f160(module *, u64);
+static void f161(module *, u64, u64, u64, u64, u64);
+static void f162(module *, u64);
 
 static void f0(module *self, u64 p0, u64 p1, u64 p2, u64 p3, u64 p4) {
   u64 l5 = 0, l6 = 0;
@@ -5951,7 +5955,7 @@ static u32 f4(module *self, u64 p0, u64 p1) {
   j2 = l3;
   j3 = p1;
   j4 = 1ull;
-  f157(self, j0, j1, j2, j3, j4); m = self->memory; if (NEVER(self->is_broken)) return ZAK_BROKEN;
+  f161(self, j0, j1, j2, j3, j4); m = self->memory; if (NEVER(self->is_broken)) return ZAK_BROKEN;
   j0 = l2;
   i0 = (u32)(j0);
   j0 = i64_load(j0 + 16u);
@@ -5969,7 +5973,7 @@ static u32 f4(module *self, u64 p0, u64 p1) {
   j0 = l2;
   j1 = l5;
   j2 = 1ull;
-  f155(self, j0, j1, j2); m = self->memory; if (NEVER(self->is_broken)) return ZAK_BROKEN;
+  f159(self, j0, j1, j2); m = self->memory; if (NEVER(self->is_broken)) return ZAK_BROKEN;
   j0 = l2;
   i0 = (u32)(j0);
   j0 = i64_load(j0);
@@ -6005,1647 +6009,52 @@ static u32 f4(module *self, u64 p0, u64 p1) {
 }
 
 static void f5(module *self, u64 p0, u64 p1, u64 p2, u64 p3) {
-  u32 l18 = 0, l19 = 0, l20 = 0, l21 = 0, l22 = 0, l23 = 0, l24 = 0, l25 = 0, 
-      l26 = 0, l27 = 0, l28 = 0, l29 = 0, l30 = 0, l31 = 0, l32 = 0, l33 = 0, 
-      l34 = 0, l35 = 0, l36 = 0, l37 = 0, l38 = 0, l39 = 0, l40 = 0, l41 = 0;
+  u32 l15 = 0, l16 = 0, l17 = 0, l18 = 0, l19 = 0, l20 = 0, l21 = 0, l22 = 0, 
+      l23 = 0, l24 = 0, l25 = 0, l26 = 0, l27 = 0, l28 = 0, l29 = 0, l30 = 0, 
+      l31 = 0, l32 = 0, l33 = 0, l34 = 0, l35 = 0, l36 = 0, l37 = 0, l38 = 0;
   u64 l4 = 0, l5 = 0, l6 = 0, l7 = 0, l8 = 0, l9 = 0, l10 = 0, l11 = 0, 
-      l12 = 0, l13 = 0, l14 = 0, l15 = 0, l16 = 0, l17 = 0;
+      l12 = 0, l13 = 0, l14 = 0;
   u8 *m = self->memory;
   u32 i0, i1, i2, i3, i4, i5;
   u64 j0, j1, j2, j3, j4;
   j0 = self->g0;
-  j1 = 208ull;
+  j1 = 224ull;
   j0 -= j1;
   l4 = j0;
   self->g0 = j0;
-  j0 = p0;
-  i0 = (u32)(j0);
-  j0 = i64_load(j0);
-  l5 = j0;
-  j1 = 53ull;
-  j0 += j1;
-  i0 = (u32)(j0);
-  i0 = i32_load8_u(j0);
-  i1 = 1u;
-  i0 &= i1;
-  i0 = !(i0);
-  if (i0) {goto B1;}
-  j0 = l5;
-  j1 = 52ull;
-  j0 += j1;
-  i0 = (u32)(j0);
-  i0 = i32_load8_u(j0);
-  i1 = 64u;
-  i0 &= i1;
-  i0 = !(i0);
-  if (i0) {goto B2;}
-  i0 = 16u;
-  l18 = i0;
-  j0 = p0;
-  j1 = 8ull;
-  j0 += j1;
-  i0 = (u32)(j0);
-  j0 = i64_load(j0);
-  l5 = j0;
-  j1 = 45ull;
-  j0 += j1;
-  i0 = (u32)(j0);
-  i0 = i32_load8_u(j0);
-  i1 = 64u;
-  i0 &= i1;
-  i0 = !(i0);
-  if (i0) {goto B4;}
-  i0 = 4u;
-  l19 = i0;
-  goto B3;
-  B4:;
-  j0 = l5;
-  j1 = 48ull;
-  j0 += j1;
-  i0 = (u32)(j0);
-  i0 = i32_load8_u(j0);
-  l20 = i0;
-  i1 = 64u;
-  i0 &= i1;
-  i0 = !(i0);
-  if (i0) {goto B5;}
-  i0 = 1u;
-  l19 = i0;
-  goto B3;
-  B5:;
-  i0 = 15u;
-  i1 = 13u;
-  i2 = l20;
-  i3 = 32u;
-  i2 &= i3;
-  i0 = i2 ? i0 : i1;
-  l18 = i0;
-  i0 = 2u;
-  l19 = i0;
-  B3:;
-  j0 = p2;
-  i0 = !(j0);
-  if (i0) {goto B0;}
-  L6: 
-    j0 = p0;
-    j1 = 24ull;
-    j0 += j1;
-    i0 = (u32)(j0);
-    j0 = i64_load(j0);
-    l6 = j0;
-    j1 = 768ull;
-    j0 += j1;
-    l5 = j0;
-    j1 = l6;
-    j2 = 1796ull;
-    j1 += j2;
-    i1 = (u32)(j1);
-    i1 = i32_load8_u(j1);
-    l21 = i1;
-    j2 = p0;
-    i2 = (u32)(j2);
-    j2 = i64_load(j2);
-    i2 = (u32)(j2);
-    j2 = i64_load(j2);
-    j3 = p0;
-    j4 = 8ull;
-    j3 += j4;
-    i3 = (u32)(j3);
-    j3 = i64_load(j3);
-    j4 = 60ull;
-    j3 += j4;
-    i3 = (u32)(j3);
-    i3 = i32_load16_u(j3);
-    j4 = p1;
-    i4 = (u32)(j4);
-    i3 += i4;
-    l20 = i3;
-    i4 = 65535u;
-    i3 &= i4;
-    i4 = l18;
-    i3 >>= (i4 & 31);
-    i4 = 1u;
-    i3 &= i4;
-    i4 = l20;
-    i5 = l19;
-    i4 *= i5;
-    i3 += i4;
-    j3 = (u64)(i3);
-    j4 = 65535ull;
-    j3 &= j4;
-    j4 = 2ull;
-    j3 <<= (j4 & 63);
-    j2 += j3;
-    i2 = (u32)(j2);
-    i2 = i32_load(j2);
-    l22 = i2;
-    i3 = 24u;
-    i2 >>= (i3 & 31);
-    i1 &= i2;
-    j1 = (u64)(i1);
-    j2 = 2ull;
-    j1 <<= (j2 & 63);
-    j0 += j1;
-    i0 = (u32)(j0);
-    i0 = i32_load(j0);
-    l20 = i0;
-    j0 = l5;
-    i1 = l21;
-    i2 = l22;
-    i3 = 16u;
-    i2 >>= (i3 & 31);
-    i1 &= i2;
-    j1 = (u64)(i1);
-    j2 = 2ull;
-    j1 <<= (j2 & 63);
-    j0 += j1;
-    i0 = (u32)(j0);
-    i0 = i32_load(j0);
-    l23 = i0;
-    j0 = l5;
-    i1 = l21;
-    i2 = l22;
-    i3 = 8u;
-    i2 >>= (i3 & 31);
-    i1 &= i2;
-    j1 = (u64)(i1);
-    j2 = 2ull;
-    j1 <<= (j2 & 63);
-    j0 += j1;
-    i0 = (u32)(j0);
-    i0 = i32_load(j0);
-    l24 = i0;
-    j0 = p3;
-    i0 = (u32)(j0);
-    j1 = l5;
-    i2 = l21;
-    i3 = l22;
-    i2 &= i3;
-    j2 = (u64)(i2);
-    j3 = 2ull;
-    j2 <<= (j3 & 63);
-    j1 += j2;
-    i1 = (u32)(j1);
-    i1 = i32_load(j1);
-    l21 = i1;
-    i32_store(j0, i1);
-    j0 = p3;
-    j1 = 3ull;
-    j0 += j1;
-    i0 = (u32)(j0);
-    i1 = l21;
-    i32_store(j0, i1);
-    j0 = p3;
-    j1 = 6ull;
-    j0 += j1;
-    i0 = (u32)(j0);
-    i1 = l24;
-    i32_store(j0, i1);
-    j0 = p3;
-    j1 = 9ull;
-    j0 += j1;
-    i0 = (u32)(j0);
-    i1 = l24;
-    i32_store(j0, i1);
-    j0 = p3;
-    j1 = 12ull;
-    j0 += j1;
-    i0 = (u32)(j0);
-    i1 = l23;
-    i32_store(j0, i1);
-    j0 = p3;
-    j1 = 15ull;
-    j0 += j1;
-    i0 = (u32)(j0);
-    i1 = l23;
-    i32_store(j0, i1);
-    j0 = p3;
-    j1 = 18ull;
-    j0 += j1;
-    i0 = (u32)(j0);
-    i1 = l20;
-    i32_store(j0, i1);
-    j0 = p3;
-    j1 = 23ull;
-    j0 += j1;
-    i0 = (u32)(j0);
-    i1 = l20;
-    i2 = 16u;
-    i1 >>= (i2 & 31);
-    i32_store8(j0, i1);
-    j0 = p3;
-    j1 = 22ull;
-    j0 += j1;
-    i0 = (u32)(j0);
-    i1 = l20;
-    i2 = 8u;
-    i1 >>= (i2 & 31);
-    i32_store8(j0, i1);
-    j0 = p3;
-    j1 = 21ull;
-    j0 += j1;
-    i0 = (u32)(j0);
-    i1 = l20;
-    i32_store8(j0, i1);
-    j0 = p1;
-    j1 = 1ull;
-    j0 += j1;
-    p1 = j0;
-    j0 = p3;
-    j1 = 24ull;
-    j0 += j1;
-    p3 = j0;
-    j0 = p2;
-    j1 = 18446744073709551615ull;
-    j0 += j1;
-    p2 = j0;
-    i0 = !(j0);
-    i0 = !(i0);
-    if (i0) {goto L6;}
-    goto B0;
-  { self->is_broken = true; return; }
-  B2:;
-  i0 = 16u;
-  l21 = i0;
-  j0 = p0;
-  j1 = 8ull;
-  j0 += j1;
-  i0 = (u32)(j0);
-  j0 = i64_load(j0);
-  l5 = j0;
-  j1 = 45ull;
-  j0 += j1;
-  i0 = (u32)(j0);
-  i0 = i32_load8_u(j0);
-  i1 = 64u;
-  i0 &= i1;
-  i0 = !(i0);
-  if (i0) {goto B8;}
-  i0 = 4u;
-  l22 = i0;
-  goto B7;
-  B8:;
-  j0 = l5;
-  j1 = 48ull;
-  j0 += j1;
-  i0 = (u32)(j0);
-  i0 = i32_load8_u(j0);
-  l20 = i0;
-  i1 = 64u;
-  i0 &= i1;
-  i0 = !(i0);
-  if (i0) {goto B9;}
-  i0 = 1u;
-  l22 = i0;
-  goto B7;
-  B9:;
-  i0 = 15u;
-  i1 = 13u;
-  i2 = l20;
-  i3 = 32u;
-  i2 &= i3;
-  i0 = i2 ? i0 : i1;
-  l21 = i0;
-  i0 = 2u;
-  l22 = i0;
-  B7:;
-  j0 = l4;
-  j1 = 144ull;
-  j0 += j1;
-  j1 = p0;
-  j2 = 16ull;
-  j1 += j2;
-  i1 = (u32)(j1);
-  j1 = i64_load(j1);
-  j2 = p0;
-  j3 = 24ull;
-  j2 += j3;
-  i2 = (u32)(j2);
-  j2 = i64_load(j2);
-  f8(self, j0, j1, j2);
   j0 = l4;
   i0 = (u32)(j0);
-  j1 = l4;
-  i1 = (u32)(j1);
-  j1 = i64_load(j1 + 200u);
-  l5 = j1;
-  i64_store(j0 + 136, j1);
-  j0 = l4;
-  i0 = (u32)(j0);
-  j1 = l4;
-  i1 = (u32)(j1);
-  j1 = i64_load(j1 + 192u);
-  l6 = j1;
+  j1 = 0ull;
   i64_store(j0 + 128, j1);
   j0 = l4;
   i0 = (u32)(j0);
-  j1 = l4;
-  i1 = (u32)(j1);
-  j1 = i64_load(j1 + 184u);
-  l7 = j1;
+  j1 = 0ull;
   i64_store(j0 + 120, j1);
   j0 = l4;
   i0 = (u32)(j0);
-  j1 = l4;
-  i1 = (u32)(j1);
-  j1 = i64_load(j1 + 176u);
-  l8 = j1;
+  j1 = 0ull;
   i64_store(j0 + 112, j1);
   j0 = l4;
   i0 = (u32)(j0);
-  j1 = l4;
-  i1 = (u32)(j1);
-  j1 = i64_load(j1 + 168u);
-  l9 = j1;
+  j1 = 0ull;
   i64_store(j0 + 104, j1);
   j0 = l4;
   i0 = (u32)(j0);
-  j1 = l4;
-  i1 = (u32)(j1);
-  j1 = i64_load(j1 + 160u);
-  l10 = j1;
+  j1 = 0ull;
   i64_store(j0 + 96, j1);
   j0 = l4;
   i0 = (u32)(j0);
-  j1 = l4;
-  i1 = (u32)(j1);
-  j1 = i64_load(j1 + 152u);
-  l11 = j1;
+  j1 = 0ull;
   i64_store(j0 + 88, j1);
   j0 = l4;
   i0 = (u32)(j0);
-  j1 = l4;
-  i1 = (u32)(j1);
-  j1 = i64_load(j1 + 144u);
-  l12 = j1;
+  j1 = 0ull;
   i64_store(j0 + 80, j1);
   j0 = l4;
   i0 = (u32)(j0);
-  j1 = l12;
-  i64_store(j0 + 16, j1);
-  j0 = l4;
-  i0 = (u32)(j0);
-  j1 = l11;
-  i64_store(j0 + 24, j1);
-  j0 = l4;
-  i0 = (u32)(j0);
-  j1 = l10;
-  i64_store(j0 + 32, j1);
-  j0 = l4;
-  i0 = (u32)(j0);
-  j1 = l9;
-  i64_store(j0 + 40, j1);
-  j0 = l4;
-  i0 = (u32)(j0);
-  j1 = l8;
-  i64_store(j0 + 48, j1);
-  j0 = l4;
-  i0 = (u32)(j0);
-  j1 = l7;
-  i64_store(j0 + 56, j1);
-  j0 = l4;
-  i0 = (u32)(j0);
-  j1 = l6;
-  i64_store(j0 + 64, j1);
-  j0 = l4;
-  i0 = (u32)(j0);
-  j1 = l5;
+  j1 = 0ull;
   i64_store(j0 + 72, j1);
-  j0 = p2;
-  i0 = !(j0);
-  if (i0) {goto B0;}
   j0 = l4;
-  j1 = 8ull;
-  j0 += j1;
-  j1 = 8ull;
-  j0 += j1;
-  l5 = j0;
-  L10: 
-    j0 = p3;
-    i0 = (u32)(j0);
-    j1 = l5;
-    j2 = p0;
-    i2 = (u32)(j2);
-    j2 = i64_load(j2);
-    i2 = (u32)(j2);
-    j2 = i64_load(j2);
-    j3 = p0;
-    j4 = 8ull;
-    j3 += j4;
-    i3 = (u32)(j3);
-    j3 = i64_load(j3);
-    j4 = 60ull;
-    j3 += j4;
-    i3 = (u32)(j3);
-    i3 = i32_load16_u(j3);
-    j4 = p1;
-    i4 = (u32)(j4);
-    i3 += i4;
-    l20 = i3;
-    i4 = 65535u;
-    i3 &= i4;
-    i4 = l21;
-    i3 >>= (i4 & 31);
-    i4 = 1u;
-    i3 &= i4;
-    i4 = l20;
-    i5 = l22;
-    i4 *= i5;
-    i3 += i4;
-    j3 = (u64)(i3);
-    j4 = 65535ull;
-    j3 &= j4;
-    j4 = 2ull;
-    j3 <<= (j4 & 63);
-    j2 += j3;
-    i2 = (u32)(j2);
-    i2 = i32_load(j2);
-    l20 = i2;
-    i3 = 2155905152u;
-    i2 &= i3;
-    i3 = 2113665u;
-    i2 *= i3;
-    i3 = 26u;
-    i2 >>= (i3 & 31);
-    i3 = 60u;
-    i2 &= i3;
-    j2 = (u64)(i2);
-    j1 += j2;
-    i1 = (u32)(j1);
-    i1 = i32_load(j1);
-    i32_store(j0, i1);
-    j0 = p3;
-    j1 = 3ull;
-    j0 += j1;
-    i0 = (u32)(j0);
-    j1 = l5;
-    i2 = l20;
-    i3 = 1077952576u;
-    i2 &= i3;
-    i3 = 4227330u;
-    i2 *= i3;
-    i3 = 26u;
-    i2 >>= (i3 & 31);
-    i3 = 60u;
-    i2 &= i3;
-    j2 = (u64)(i2);
-    j1 += j2;
-    i1 = (u32)(j1);
-    i1 = i32_load(j1);
-    i32_store(j0, i1);
-    j0 = p3;
-    j1 = 6ull;
-    j0 += j1;
-    i0 = (u32)(j0);
-    j1 = l5;
-    i2 = l20;
-    i3 = 538976288u;
-    i2 &= i3;
-    i3 = 8454660u;
-    i2 *= i3;
-    i3 = 26u;
-    i2 >>= (i3 & 31);
-    i3 = 60u;
-    i2 &= i3;
-    j2 = (u64)(i2);
-    j1 += j2;
-    i1 = (u32)(j1);
-    i1 = i32_load(j1);
-    i32_store(j0, i1);
-    j0 = p3;
-    j1 = 9ull;
-    j0 += j1;
-    i0 = (u32)(j0);
-    j1 = l5;
-    i2 = l20;
-    i3 = 269488144u;
-    i2 &= i3;
-    i3 = 16909320u;
-    i2 *= i3;
-    i3 = 26u;
-    i2 >>= (i3 & 31);
-    i3 = 60u;
-    i2 &= i3;
-    j2 = (u64)(i2);
-    j1 += j2;
-    i1 = (u32)(j1);
-    i1 = i32_load(j1);
-    i32_store(j0, i1);
-    j0 = p3;
-    j1 = 12ull;
-    j0 += j1;
-    i0 = (u32)(j0);
-    j1 = l5;
-    i2 = l20;
-    i3 = 134744072u;
-    i2 &= i3;
-    i3 = 33818640u;
-    i2 *= i3;
-    i3 = 26u;
-    i2 >>= (i3 & 31);
-    i3 = 60u;
-    i2 &= i3;
-    j2 = (u64)(i2);
-    j1 += j2;
-    i1 = (u32)(j1);
-    i1 = i32_load(j1);
-    i32_store(j0, i1);
-    j0 = p3;
-    j1 = 15ull;
-    j0 += j1;
-    i0 = (u32)(j0);
-    j1 = l5;
-    i2 = l20;
-    i3 = 67372036u;
-    i2 &= i3;
-    i3 = 67637280u;
-    i2 *= i3;
-    i3 = 26u;
-    i2 >>= (i3 & 31);
-    i3 = 60u;
-    i2 &= i3;
-    j2 = (u64)(i2);
-    j1 += j2;
-    i1 = (u32)(j1);
-    i1 = i32_load(j1);
-    i32_store(j0, i1);
-    j0 = p3;
-    j1 = 18ull;
-    j0 += j1;
-    i0 = (u32)(j0);
-    j1 = l5;
-    i2 = l20;
-    i3 = 33686018u;
-    i2 &= i3;
-    i3 = 135274560u;
-    i2 *= i3;
-    i3 = 26u;
-    i2 >>= (i3 & 31);
-    i3 = 60u;
-    i2 &= i3;
-    j2 = (u64)(i2);
-    j1 += j2;
-    i1 = (u32)(j1);
-    i1 = i32_load(j1);
-    i32_store(j0, i1);
-    j0 = p3;
-    j1 = 21ull;
-    j0 += j1;
-    i0 = (u32)(j0);
-    j1 = l5;
-    i2 = l20;
-    i3 = 16843009u;
-    i2 &= i3;
-    i3 = 270549120u;
-    i2 *= i3;
-    i3 = 26u;
-    i2 >>= (i3 & 31);
-    i3 = 60u;
-    i2 &= i3;
-    j2 = (u64)(i2);
-    j1 += j2;
-    i1 = (u32)(j1);
-    i1 = i32_load(j1);
-    l20 = i1;
-    i32_store8(j0, i1);
-    j0 = p3;
-    j1 = 23ull;
-    j0 += j1;
-    i0 = (u32)(j0);
-    i1 = l20;
-    i2 = 16u;
-    i1 >>= (i2 & 31);
-    i32_store8(j0, i1);
-    j0 = p3;
-    j1 = 22ull;
-    j0 += j1;
-    i0 = (u32)(j0);
-    i1 = l20;
-    i2 = 8u;
-    i1 >>= (i2 & 31);
-    i32_store8(j0, i1);
-    j0 = p1;
-    j1 = 1ull;
-    j0 += j1;
-    p1 = j0;
-    j0 = p3;
-    j1 = 24ull;
-    j0 += j1;
-    p3 = j0;
-    j0 = p2;
-    j1 = 18446744073709551615ull;
-    j0 += j1;
-    p2 = j0;
-    i0 = !(j0);
-    i0 = !(i0);
-    if (i0) {goto L10;}
-    goto B0;
-  { self->is_broken = true; return; }
-  B1:;
-  j0 = p2;
-  i0 = !(j0);
-  if (i0) {goto B0;}
-  i0 = 16u;
-  l24 = i0;
-  j0 = p0;
-  j1 = 8ull;
-  j0 += j1;
-  i0 = (u32)(j0);
-  j0 = i64_load(j0);
-  l7 = j0;
-  j1 = 45ull;
-  j0 += j1;
-  i0 = (u32)(j0);
-  i0 = i32_load8_u(j0);
-  i1 = 64u;
-  i0 &= i1;
-  i0 = !(i0);
-  if (i0) {goto B12;}
-  i0 = 4u;
-  l18 = i0;
-  goto B11;
-  B12:;
-  j0 = l7;
-  j1 = 48ull;
-  j0 += j1;
-  i0 = (u32)(j0);
-  i0 = i32_load8_u(j0);
-  l20 = i0;
-  i1 = 64u;
-  i0 &= i1;
-  i0 = !(i0);
-  if (i0) {goto B13;}
-  i0 = 1u;
-  l18 = i0;
-  goto B11;
-  B13:;
-  i0 = 15u;
-  i1 = 13u;
-  i2 = l20;
-  i3 = 32u;
-  i2 &= i3;
-  i0 = i2 ? i0 : i1;
-  l24 = i0;
-  i0 = 2u;
-  l18 = i0;
-  B11:;
-  j0 = l4;
-  j1 = 144ull;
-  j0 += j1;
-  j1 = p0;
-  f9(self, j0, j1);
-  j0 = l4;
-  i0 = (u32)(j0);
-  i0 = i32_load8_u(j0 + 155u);
-  l25 = i0;
-  j0 = l4;
-  i0 = (u32)(j0);
-  i0 = i32_load16_u(j0 + 152u);
-  l26 = i0;
-  j0 = l4;
-  i0 = (u32)(j0);
-  i0 = i32_load16_u(j0 + 150u);
-  l27 = i0;
-  j0 = l4;
-  i0 = (u32)(j0);
-  i0 = i32_load8_u(j0 + 149u);
-  l28 = i0;
-  j0 = l4;
-  i0 = (u32)(j0);
-  i0 = i32_load8_u(j0 + 148u);
-  l29 = i0;
-  j0 = l4;
-  i0 = (u32)(j0);
-  i0 = i32_load(j0 + 144u);
-  l19 = i0;
-  j0 = l5;
-  i0 = (u32)(j0);
-  j0 = i64_load(j0);
-  l6 = j0;
-  j1 = l7;
-  j2 = 60ull;
-  j1 += j2;
-  i1 = (u32)(j1);
-  i1 = i32_load16_u(j1);
-  i2 = 4294967295u;
-  i1 += i2;
-  l22 = i1;
-  j2 = p2;
-  j3 = p1;
-  j2 += j3;
-  i2 = (u32)(j2);
-  i1 += i2;
-  l20 = i1;
-  i2 = 65535u;
-  i1 &= i2;
-  i2 = l24;
-  i1 >>= (i2 & 31);
-  i2 = 1u;
-  i1 &= i2;
-  i2 = l20;
-  i3 = l18;
-  i2 *= i3;
-  i1 += i2;
-  j1 = (u64)(i1);
-  j2 = 65535ull;
-  j1 &= j2;
-  j2 = 2ull;
-  j1 <<= (j2 & 63);
-  j0 += j1;
-  i0 = (u32)(j0);
-  i0 = i32_load(j0);
-  l23 = i0;
-  j0 = p2;
-  l5 = j0;
-  L15: 
-    j0 = l6;
-    i1 = l22;
-    j2 = p1;
-    j3 = l5;
-    j2 += j3;
-    i2 = (u32)(j2);
-    i1 += i2;
-    l20 = i1;
-    i2 = 65535u;
-    i1 &= i2;
-    l21 = i1;
-    i2 = l24;
-    i1 >>= (i2 & 31);
-    i2 = 1u;
-    i1 &= i2;
-    i2 = l20;
-    i3 = l18;
-    i2 *= i3;
-    i1 += i2;
-    j1 = (u64)(i1);
-    j2 = 65535ull;
-    j1 &= j2;
-    j2 = 2ull;
-    j1 <<= (j2 & 63);
-    j0 += j1;
-    i0 = (u32)(j0);
-    i0 = i32_load16_u(j0);
-    i1 = l23;
-    i2 = 65535u;
-    i1 &= i2;
-    i0 = i0 == i1;
-    if (i0) {goto B16;}
-    j0 = l5;
-    l7 = j0;
-    goto B14;
-    B16:;
-    i0 = l19;
-    i1 = l21;
-    i0 = i0 != i1;
-    if (i0) {goto B17;}
-    j0 = l5;
-    l7 = j0;
-    goto B14;
-    B17:;
-    j0 = 0ull;
-    l7 = j0;
-    j0 = l5;
-    j1 = 18446744073709551615ull;
-    j0 += j1;
-    l5 = j0;
-    j1 = 0ull;
-    i0 = j0 != j1;
-    if (i0) {goto L15;}
-  B14:;
-  j0 = p0;
-  j1 = 24ull;
-  j0 += j1;
-  i0 = (u32)(j0);
-  j0 = i64_load(j0);
-  l5 = j0;
-  j1 = 512ull;
-  j0 += j1;
-  l8 = j0;
-  j1 = p0;
-  j2 = 16ull;
-  j1 += j2;
-  i1 = (u32)(j1);
-  j1 = i64_load(j1);
-  l9 = j1;
-  j2 = 49ull;
-  j1 += j2;
-  i1 = (u32)(j1);
-  i1 = i32_load8_u(j1);
-  j2 = l5;
-  j3 = 1796ull;
-  j2 += j3;
-  i2 = (u32)(j2);
-  i2 = i32_load8_u(j2);
-  l20 = i2;
-  i1 &= i2;
-  j1 = (u64)(i1);
-  j2 = 255ull;
-  j1 &= j2;
-  l6 = j1;
-  j0 += j1;
-  i0 = (u32)(j0);
-  j0 = i64_load8_u(j0);
-  l11 = j0;
-  j1 = 16ull;
-  j0 <<= (j1 & 63);
-  j1 = l5;
-  j2 = 256ull;
-  j1 += j2;
-  l12 = j1;
-  j2 = l6;
-  j1 += j2;
-  i1 = (u32)(j1);
-  j1 = i64_load8_u(j1);
-  j2 = 8ull;
-  j1 <<= (j2 & 63);
-  j2 = l5;
-  j3 = l6;
-  j2 += j3;
-  i2 = (u32)(j2);
-  j2 = i64_load8_u(j2);
-  j1 |= j2;
-  l6 = j1;
-  j0 |= j1;
-  l13 = j0;
-  j1 = 16777217ull;
-  j0 *= j1;
-  j1 = l6;
-  j2 = 48ull;
-  j1 <<= (j2 & 63);
-  j0 |= j1;
-  l10 = j0;
-  j0 = l8;
-  i1 = l20;
-  j2 = l9;
-  j3 = 42ull;
-  j2 += j3;
-  i2 = (u32)(j2);
-  i2 = i32_load8_u(j2);
-  i1 &= i2;
-  j1 = (u64)(i1);
-  j2 = 255ull;
-  j1 &= j2;
-  l6 = j1;
-  j0 += j1;
-  i0 = (u32)(j0);
-  j0 = i64_load8_u(j0);
-  l8 = j0;
-  j1 = 16ull;
-  j0 <<= (j1 & 63);
-  j1 = l12;
-  j2 = l6;
-  j1 += j2;
-  i1 = (u32)(j1);
-  j1 = i64_load8_u(j1);
-  j2 = 8ull;
-  j1 <<= (j2 & 63);
-  j2 = l5;
-  j3 = l6;
-  j2 += j3;
-  i2 = (u32)(j2);
-  j2 = i64_load8_u(j2);
-  j1 |= j2;
-  l5 = j1;
-  j0 |= j1;
-  l9 = j0;
-  j1 = 16777217ull;
-  j0 *= j1;
-  j1 = l5;
-  j2 = 48ull;
-  j1 <<= (j2 & 63);
-  j0 |= j1;
-  l6 = j0;
-  j0 = l13;
-  j1 = 8ull;
-  j0 <<= (j1 & 63);
-  j1 = l11;
-  j0 |= j1;
-  i0 = (u32)(j0);
-  l30 = i0;
-  j0 = l9;
-  j1 = 8ull;
-  j0 <<= (j1 & 63);
-  j1 = l8;
-  j0 |= j1;
-  i0 = (u32)(j0);
-  l20 = i0;
-  i0 = 7u;
-  l31 = i0;
-  j0 = p3;
-  l5 = j0;
-  j0 = p2;
-  j1 = l7;
-  j2 = 1ull;
-  j1 += j2;
-  l14 = j1;
-  j2 = p2;
-  j3 = l14;
-  i2 = j2 < j3;
-  j0 = i2 ? j0 : j1;
-  l15 = j0;
-  l7 = j0;
-  L18: 
-    i0 = l31;
-    i1 = 255u;
-    i0 &= i1;
-    j1 = p0;
-    i1 = (u32)(j1);
-    j1 = i64_load(j1);
-    i1 = (u32)(j1);
-    j1 = i64_load(j1);
-    l9 = j1;
-    j2 = p0;
-    j3 = 8ull;
-    j2 += j3;
-    i2 = (u32)(j2);
-    j2 = i64_load(j2);
-    j3 = 60ull;
-    j2 += j3;
-    i2 = (u32)(j2);
-    i2 = i32_load16_u(j2);
-    j3 = p1;
-    i3 = (u32)(j3);
-    i2 += i3;
-    l21 = i2;
-    i3 = 65535u;
-    i2 &= i3;
-    l23 = i2;
-    i3 = l24;
-    i2 >>= (i3 & 31);
-    i3 = 1u;
-    i2 &= i3;
-    i3 = l21;
-    i4 = l18;
-    i3 *= i4;
-    i2 += i3;
-    j2 = (u64)(i2);
-    j3 = 65535ull;
-    j2 &= j3;
-    j3 = 2ull;
-    j2 <<= (j3 & 63);
-    j1 += j2;
-    i1 = (u32)(j1);
-    i1 = i32_load(j1);
-    l32 = i1;
-    i2 = 8u;
-    i1 >>= (i2 & 31);
-    l21 = i1;
-    i2 = 255u;
-    i1 &= i2;
-    i0 = i0 == i1;
-    if (i0) {goto B19;}
-    j0 = p0;
-    j1 = 24ull;
-    j0 += j1;
-    i0 = (u32)(j0);
-    j0 = i64_load(j0);
-    l6 = j0;
-    j1 = 256ull;
-    j0 += j1;
-    l11 = j0;
-    j1 = l6;
-    j2 = 1796ull;
-    j1 += j2;
-    i1 = (u32)(j1);
-    i1 = i32_load8_u(j1);
-    l20 = i1;
-    j2 = p0;
-    j3 = 16ull;
-    j2 += j3;
-    i2 = (u32)(j2);
-    j2 = i64_load(j2);
-    j3 = 42ull;
-    j2 += j3;
-    l12 = j2;
-    i3 = l21;
-    j3 = (u64)(i3);
-    j4 = 15ull;
-    j3 &= j4;
-    j2 += j3;
-    i2 = (u32)(j2);
-    i2 = i32_load8_u(j2);
-    i1 &= i2;
-    j1 = (u64)(i1);
-    j2 = 255ull;
-    j1 &= j2;
-    l8 = j1;
-    j0 += j1;
-    i0 = (u32)(j0);
-    j0 = i64_load8_u(j0);
-    j1 = 8ull;
-    j0 <<= (j1 & 63);
-    j1 = l6;
-    j2 = l8;
-    j1 += j2;
-    i1 = (u32)(j1);
-    j1 = i64_load8_u(j1);
-    j0 |= j1;
-    l10 = j0;
-    j1 = l6;
-    j2 = 512ull;
-    j1 += j2;
-    l13 = j1;
-    j2 = l8;
-    j1 += j2;
-    i1 = (u32)(j1);
-    j1 = i64_load8_u(j1);
-    l16 = j1;
-    j2 = 16ull;
-    j1 <<= (j2 & 63);
-    j0 |= j1;
-    l17 = j0;
-    j1 = 16777217ull;
-    j0 *= j1;
-    j1 = l10;
-    j2 = 48ull;
-    j1 <<= (j2 & 63);
-    j0 |= j1;
-    l10 = j0;
-    j0 = l11;
-    j1 = l12;
-    i2 = l21;
-    i3 = 240u;
-    i2 &= i3;
-    i3 = 4u;
-    i2 >>= (i3 & 31);
-    i3 = l25;
-    i2 &= i3;
-    j2 = (u64)(i2);
-    j1 += j2;
-    i1 = (u32)(j1);
-    i1 = i32_load8_u(j1);
-    i2 = l20;
-    i1 &= i2;
-    j1 = (u64)(i1);
-    j2 = 255ull;
-    j1 &= j2;
-    l8 = j1;
-    j0 += j1;
-    i0 = (u32)(j0);
-    j0 = i64_load8_u(j0);
-    j1 = 8ull;
-    j0 <<= (j1 & 63);
-    j1 = l6;
-    j2 = l8;
-    j1 += j2;
-    i1 = (u32)(j1);
-    j1 = i64_load8_u(j1);
-    j0 |= j1;
-    l6 = j0;
-    j1 = l13;
-    j2 = l8;
-    j1 += j2;
-    i1 = (u32)(j1);
-    j1 = i64_load8_u(j1);
-    l8 = j1;
-    j2 = 16ull;
-    j1 <<= (j2 & 63);
-    j0 |= j1;
-    l11 = j0;
-    j1 = 16777217ull;
-    j0 *= j1;
-    j1 = l6;
-    j2 = 48ull;
-    j1 <<= (j2 & 63);
-    j0 |= j1;
-    l6 = j0;
-    j0 = l17;
-    j1 = 8ull;
-    j0 <<= (j1 & 63);
-    j1 = l16;
-    j0 |= j1;
-    i0 = (u32)(j0);
-    l30 = i0;
-    j0 = l11;
-    j1 = 8ull;
-    j0 <<= (j1 & 63);
-    j1 = l8;
-    j0 |= j1;
-    i0 = (u32)(j0);
-    l20 = i0;
-    i0 = l21;
-    l31 = i0;
-    B19:;
-    i0 = 15u;
-    l22 = i0;
-    i0 = l19;
-    i1 = l23;
-    i0 = i0 != i1;
-    if (i0) {goto B21;}
-    i0 = 15u;
-    l23 = i0;
-    goto B20;
-    B21:;
-    i0 = 0u;
-    l22 = i0;
-    i0 = 0u;
-    l23 = i0;
-    i0 = l29;
-    i1 = l21;
-    i0 &= i1;
-    i1 = 255u;
-    i0 &= i1;
-    if (i0) {goto B20;}
-    i0 = 15u;
-    l22 = i0;
-    i0 = 15u;
-    l23 = i0;
-    i0 = l21;
-    i1 = 119u;
-    i0 &= i1;
-    i1 = l28;
-    i2 = 255u;
-    i1 &= i2;
-    i0 = i0 == i1;
-    if (i0) {goto B20;}
-    j0 = l9;
-    i1 = l27;
-    i2 = l26;
-    i3 = l21;
-    i4 = 8u;
-    i3 &= i4;
-    i1 = i3 ? i1 : i2;
-    i2 = l32;
-    i3 = 5u;
-    i2 <<= (i3 & 31);
-    i3 = 8160u;
-    i2 &= i3;
-    i1 += i2;
-    j1 = (u64)(i1);
-    j2 = 65535ull;
-    j1 &= j2;
-    j2 = 2ull;
-    j1 <<= (j2 & 63);
-    j0 += j1;
-    i0 = (u32)(j0);
-    i0 = i32_load(j0);
-    l21 = i0;
-    i1 = 16u;
-    i0 >>= (i1 & 31);
-    i1 = 15u;
-    i0 &= i1;
-    l22 = i0;
-    i0 = l21;
-    i1 = 20u;
-    i0 >>= (i1 & 31);
-    i1 = 15u;
-    i0 &= i1;
-    l23 = i0;
-    B20:;
-    j0 = l5;
-    j1 = 20ull;
-    j0 += j1;
-    i0 = (u32)(j0);
-    i1 = l22;
-    j1 = (u64)(i1);
-    l8 = j1;
-    j2 = 2ull;
-    j1 <<= (j2 & 63);
-    i1 = (u32)(j1);
-    i1 = i32_load(j1 + 1048704u);
-    i2 = l20;
-    i3 = l30;
-    i2 ^= i3;
-    l21 = i2;
-    i1 &= i2;
-    i2 = l20;
-    i1 ^= i2;
-    i32_store(j0, i1);
-    j0 = l5;
-    j1 = 12ull;
-    j0 += j1;
-    i0 = (u32)(j0);
-    j1 = l8;
-    j2 = 3ull;
-    j1 <<= (j2 & 63);
-    i1 = (u32)(j1);
-    j1 = i64_load(j1 + 1048576u);
-    j2 = l6;
-    j3 = l10;
-    j2 ^= j3;
-    l8 = j2;
-    j1 &= j2;
-    j2 = l6;
-    j1 ^= j2;
-    i64_store(j0, j1);
-    j0 = l5;
-    j1 = 8ull;
-    j0 += j1;
-    i0 = (u32)(j0);
-    i1 = l23;
-    j1 = (u64)(i1);
-    l9 = j1;
-    j2 = 2ull;
-    j1 <<= (j2 & 63);
-    i1 = (u32)(j1);
-    i1 = i32_load(j1 + 1048704u);
-    i2 = l21;
-    i1 &= i2;
-    i2 = l20;
-    i1 ^= i2;
-    i32_store(j0, i1);
-    j0 = l5;
-    i0 = (u32)(j0);
-    j1 = l9;
-    j2 = 3ull;
-    j1 <<= (j2 & 63);
-    i1 = (u32)(j1);
-    j1 = i64_load(j1 + 1048576u);
-    j2 = l8;
-    j1 &= j2;
-    j2 = l6;
-    j1 ^= j2;
-    i64_store(j0, j1);
-    j0 = p1;
-    j1 = 1ull;
-    j0 += j1;
-    p1 = j0;
-    j0 = l5;
-    j1 = 24ull;
-    j0 += j1;
-    l5 = j0;
-    j0 = l7;
-    j1 = 18446744073709551615ull;
-    j0 += j1;
-    l7 = j0;
-    j1 = 0ull;
-    i0 = j0 != j1;
-    if (i0) {goto L18;}
-  j0 = l4;
-  i0 = (u32)(j0);
-  j1 = p3;
-  j2 = l15;
-  j3 = 24ull;
-  j2 *= j3;
-  j1 += j2;
-  j2 = 18446744073709551592ull;
-  j1 += j2;
-  p1 = j1;
-  i1 = (u32)(j1);
-  j1 = i64_load(j1 + 16u);
-  i64_store(j0 + 160, j1);
-  j0 = l4;
-  i0 = (u32)(j0);
-  j1 = p1;
-  i1 = (u32)(j1);
-  j1 = i64_load(j1 + 8u);
-  i64_store(j0 + 152, j1);
-  j0 = l4;
-  i0 = (u32)(j0);
-  j1 = p1;
-  i1 = (u32)(j1);
-  j1 = i64_load(j1);
-  i64_store(j0 + 144, j1);
-  j0 = l14;
-  j1 = p2;
-  i0 = j0 >= j1;
-  if (i0) {goto B0;}
-  j0 = p2;
-  j1 = l15;
-  j0 -= j1;
-  p1 = j0;
-  j0 = p3;
-  j1 = l15;
-  j2 = 24ull;
-  j1 *= j2;
-  j0 += j1;
-  p3 = j0;
-  j0 = l4;
-  i0 = (u32)(j0);
-  i0 = i32_load8_u(j0 + 167u);
-  l20 = i0;
-  j0 = l4;
-  i0 = (u32)(j0);
-  i0 = i32_load8_u(j0 + 166u);
-  l21 = i0;
-  j0 = l4;
-  i0 = (u32)(j0);
-  i0 = i32_load8_u(j0 + 165u);
-  l22 = i0;
-  j0 = l4;
-  i0 = (u32)(j0);
-  i0 = i32_load8_u(j0 + 164u);
-  l23 = i0;
-  j0 = l4;
-  i0 = (u32)(j0);
-  i0 = i32_load8_u(j0 + 163u);
-  l24 = i0;
-  j0 = l4;
-  i0 = (u32)(j0);
-  i0 = i32_load8_u(j0 + 162u);
-  l18 = i0;
-  j0 = l4;
-  i0 = (u32)(j0);
-  i0 = i32_load8_u(j0 + 161u);
-  l19 = i0;
-  j0 = l4;
-  i0 = (u32)(j0);
-  i0 = i32_load8_u(j0 + 160u);
-  l30 = i0;
-  j0 = l4;
-  i0 = (u32)(j0);
-  i0 = i32_load8_u(j0 + 159u);
-  l31 = i0;
-  j0 = l4;
-  i0 = (u32)(j0);
-  i0 = i32_load8_u(j0 + 158u);
-  l32 = i0;
-  j0 = l4;
-  i0 = (u32)(j0);
-  i0 = i32_load8_u(j0 + 157u);
-  l25 = i0;
-  j0 = l4;
-  i0 = (u32)(j0);
-  i0 = i32_load8_u(j0 + 156u);
-  l29 = i0;
-  j0 = l4;
-  i0 = (u32)(j0);
-  i0 = i32_load8_u(j0 + 155u);
-  l28 = i0;
-  j0 = l4;
-  i0 = (u32)(j0);
-  i0 = i32_load8_u(j0 + 154u);
-  l26 = i0;
-  j0 = l4;
-  i0 = (u32)(j0);
-  i0 = i32_load8_u(j0 + 153u);
-  l27 = i0;
-  j0 = l4;
-  i0 = (u32)(j0);
-  i0 = i32_load8_u(j0 + 152u);
-  l33 = i0;
-  j0 = l4;
-  i0 = (u32)(j0);
-  i0 = i32_load8_u(j0 + 151u);
-  l34 = i0;
-  j0 = l4;
-  i0 = (u32)(j0);
-  i0 = i32_load8_u(j0 + 150u);
-  l35 = i0;
-  j0 = l4;
-  i0 = (u32)(j0);
-  i0 = i32_load8_u(j0 + 149u);
-  l36 = i0;
-  j0 = l4;
-  i0 = (u32)(j0);
-  i0 = i32_load8_u(j0 + 148u);
-  l37 = i0;
-  j0 = l4;
-  i0 = (u32)(j0);
-  i0 = i32_load8_u(j0 + 147u);
-  l38 = i0;
-  j0 = l4;
-  i0 = (u32)(j0);
-  i0 = i32_load8_u(j0 + 146u);
-  l39 = i0;
-  j0 = l4;
-  i0 = (u32)(j0);
-  i0 = i32_load8_u(j0 + 145u);
-  l40 = i0;
-  j0 = l4;
-  i0 = (u32)(j0);
-  i0 = i32_load8_u(j0 + 144u);
-  l41 = i0;
-  L22: 
-    j0 = p3;
-    j1 = l4;
-    j2 = 144ull;
-    j1 += j2;
-    j0 -= j1;
-    j1 = 23ull;
-    i0 = j0 > j1;
-    if (i0) {goto B24;}
-    j0 = p3;
-    i0 = (u32)(j0);
-    i1 = l41;
-    i32_store8(j0, i1);
-    j0 = p3;
-    j1 = 23ull;
-    j0 += j1;
-    i0 = (u32)(j0);
-    i1 = l20;
-    i32_store8(j0, i1);
-    j0 = p3;
-    j1 = 22ull;
-    j0 += j1;
-    i0 = (u32)(j0);
-    i1 = l21;
-    i32_store8(j0, i1);
-    j0 = p3;
-    j1 = 21ull;
-    j0 += j1;
-    i0 = (u32)(j0);
-    i1 = l22;
-    i32_store8(j0, i1);
-    j0 = p3;
-    j1 = 20ull;
-    j0 += j1;
-    i0 = (u32)(j0);
-    i1 = l23;
-    i32_store8(j0, i1);
-    j0 = p3;
-    j1 = 19ull;
-    j0 += j1;
-    i0 = (u32)(j0);
-    i1 = l24;
-    i32_store8(j0, i1);
-    j0 = p3;
-    j1 = 18ull;
-    j0 += j1;
-    i0 = (u32)(j0);
-    i1 = l18;
-    i32_store8(j0, i1);
-    j0 = p3;
-    j1 = 17ull;
-    j0 += j1;
-    i0 = (u32)(j0);
-    i1 = l19;
-    i32_store8(j0, i1);
-    j0 = p3;
-    j1 = 16ull;
-    j0 += j1;
-    i0 = (u32)(j0);
-    i1 = l30;
-    i32_store8(j0, i1);
-    j0 = p3;
-    j1 = 15ull;
-    j0 += j1;
-    i0 = (u32)(j0);
-    i1 = l31;
-    i32_store8(j0, i1);
-    j0 = p3;
-    j1 = 14ull;
-    j0 += j1;
-    i0 = (u32)(j0);
-    i1 = l32;
-    i32_store8(j0, i1);
-    j0 = p3;
-    j1 = 13ull;
-    j0 += j1;
-    i0 = (u32)(j0);
-    i1 = l25;
-    i32_store8(j0, i1);
-    j0 = p3;
-    j1 = 12ull;
-    j0 += j1;
-    i0 = (u32)(j0);
-    i1 = l29;
-    i32_store8(j0, i1);
-    j0 = p3;
-    j1 = 11ull;
-    j0 += j1;
-    i0 = (u32)(j0);
-    i1 = l28;
-    i32_store8(j0, i1);
-    j0 = p3;
-    j1 = 10ull;
-    j0 += j1;
-    i0 = (u32)(j0);
-    i1 = l26;
-    i32_store8(j0, i1);
-    j0 = p3;
-    j1 = 9ull;
-    j0 += j1;
-    i0 = (u32)(j0);
-    i1 = l27;
-    i32_store8(j0, i1);
-    j0 = p3;
-    j1 = 8ull;
-    j0 += j1;
-    i0 = (u32)(j0);
-    i1 = l33;
-    i32_store8(j0, i1);
-    j0 = p3;
-    j1 = 7ull;
-    j0 += j1;
-    i0 = (u32)(j0);
-    i1 = l34;
-    i32_store8(j0, i1);
-    j0 = p3;
-    j1 = 6ull;
-    j0 += j1;
-    i0 = (u32)(j0);
-    i1 = l35;
-    i32_store8(j0, i1);
-    j0 = p3;
-    j1 = 5ull;
-    j0 += j1;
-    i0 = (u32)(j0);
-    i1 = l36;
-    i32_store8(j0, i1);
-    j0 = p3;
-    j1 = 4ull;
-    j0 += j1;
-    i0 = (u32)(j0);
-    i1 = l37;
-    i32_store8(j0, i1);
-    j0 = p3;
-    j1 = 3ull;
-    j0 += j1;
-    i0 = (u32)(j0);
-    i1 = l38;
-    i32_store8(j0, i1);
-    j0 = p3;
-    j1 = 2ull;
-    j0 += j1;
-    i0 = (u32)(j0);
-    i1 = l39;
-    i32_store8(j0, i1);
-    j0 = p3;
-    j1 = 1ull;
-    j0 += j1;
-    i0 = (u32)(j0);
-    i1 = l40;
-    i32_store8(j0, i1);
-    goto B23;
-    B24:;
-    j0 = p3;
-    i0 = (u32)(j0);
-    j1 = l4;
-    i1 = (u32)(j1);
-    j1 = i64_load(j1 + 160u);
-    i64_store(j0 + 16, j1);
-    j0 = p3;
-    i0 = (u32)(j0);
-    j1 = l4;
-    i1 = (u32)(j1);
-    j1 = i64_load(j1 + 152u);
-    i64_store(j0 + 8, j1);
-    j0 = p3;
-    i0 = (u32)(j0);
-    j1 = l4;
-    i1 = (u32)(j1);
-    j1 = i64_load(j1 + 144u);
-    i64_store(j0, j1);
-    B23:;
-    j0 = p3;
-    j1 = 24ull;
-    j0 += j1;
-    p3 = j0;
-    j0 = p1;
-    j1 = 18446744073709551615ull;
-    j0 += j1;
-    p1 = j0;
-    j1 = 0ull;
-    i0 = j0 != j1;
-    if (i0) {goto L22;}
-  B0:;
-  j0 = l4;
-  j1 = 208ull;
-  j0 += j1;
-  self->g0 = j0;
-}
-
-static void f6(module *self, u64 p0, u64 p1, u64 p2, u64 p3) {
-  u32 l18 = 0, l19 = 0, l20 = 0, l21 = 0, l22 = 0, l23 = 0, l24 = 0, l25 = 0, 
-      l26 = 0, l27 = 0, l28 = 0, l29 = 0, l30 = 0, l31 = 0, l32 = 0, l33 = 0, 
-      l34 = 0, l35 = 0, l36 = 0, l37 = 0, l38 = 0, l39 = 0, l40 = 0, l41 = 0, 
-      l42 = 0, l43 = 0, l44 = 0;
-  u64 l4 = 0, l5 = 0, l6 = 0, l7 = 0, l8 = 0, l9 = 0, l10 = 0, l11 = 0, 
-      l12 = 0, l13 = 0, l14 = 0, l15 = 0, l16 = 0, l17 = 0;
-  u8 *m = self->memory;
-  u32 i0, i1, i2, i3, i4, i5;
-  u64 j0, j1, j2, j3, j4;
-  j0 = self->g0;
-  j1 = 208ull;
-  j0 -= j1;
-  l4 = j0;
-  self->g0 = j0;
-  j0 = l4;
-  i0 = (u32)(j0);
-  j1 = 0ull;
-  i64_store(j0 + 136, j1);
-  j0 = l4;
-  i0 = (u32)(j0);
-  j1 = 0ull;
-  i64_store(j0 + 128, j1);
-  j0 = l4;
-  i0 = (u32)(j0);
-  j1 = 0ull;
-  i64_store(j0 + 120, j1);
-  j0 = l4;
-  i0 = (u32)(j0);
-  j1 = 0ull;
-  i64_store(j0 + 112, j1);
-  j0 = l4;
-  i0 = (u32)(j0);
-  j1 = 0ull;
-  i64_store(j0 + 104, j1);
-  j0 = l4;
-  i0 = (u32)(j0);
-  j1 = 0ull;
-  i64_store(j0 + 96, j1);
-  j0 = l4;
-  i0 = (u32)(j0);
-  j1 = 0ull;
-  i64_store(j0 + 88, j1);
-  j0 = l4;
-  i0 = (u32)(j0);
-  j1 = 0ull;
-  i64_store(j0 + 80, j1);
-  j0 = l4;
-  j1 = 8ull;
-  j0 += j1;
   i0 = (u32)(j0);
   i1 = 0u;
   j2 = 72ull;
@@ -7673,7 +6082,7 @@ static void f6(module *self, u64 p0, u64 p1, u64 p2, u64 p3) {
   i0 = !(i0);
   if (i0) {goto B2;}
   i0 = 16u;
-  l18 = i0;
+  l15 = i0;
   j0 = p0;
   j1 = 8ull;
   j0 += j1;
@@ -7689,7 +6098,7 @@ static void f6(module *self, u64 p0, u64 p1, u64 p2, u64 p3) {
   i0 = !(i0);
   if (i0) {goto B4;}
   i0 = 4u;
-  l19 = i0;
+  l16 = i0;
   goto B3;
   B4:;
   j0 = l5;
@@ -7697,76 +6106,73 @@ static void f6(module *self, u64 p0, u64 p1, u64 p2, u64 p3) {
   j0 += j1;
   i0 = (u32)(j0);
   i0 = i32_load8_u(j0);
-  l20 = i0;
+  l17 = i0;
   i1 = 64u;
   i0 &= i1;
   i0 = !(i0);
   if (i0) {goto B5;}
   i0 = 1u;
-  l19 = i0;
+  l16 = i0;
   goto B3;
   B5:;
   i0 = 15u;
   i1 = 13u;
-  i2 = l20;
+  i2 = l17;
   i3 = 32u;
   i2 &= i3;
   i0 = i2 ? i0 : i1;
-  l18 = i0;
+  l15 = i0;
   i0 = 2u;
-  l19 = i0;
+  l16 = i0;
   B3:;
   j0 = p2;
   i0 = !(j0);
   if (i0) {goto B0;}
-  j0 = p2;
-  j1 = 27ull;
-  j0 *= j1;
-  l6 = j0;
+  j0 = l5;
+  j1 = 60ull;
+  j0 += j1;
+  i0 = (u32)(j0);
+  i0 = i32_load16_u(j0);
+  j1 = p1;
+  i1 = (u32)(j1);
+  i0 += i1;
+  l18 = i0;
   j0 = 0ull;
-  l7 = j0;
+  p1 = j0;
   L6: 
     j0 = p0;
     j1 = 24ull;
     j0 += j1;
     i0 = (u32)(j0);
     j0 = i64_load(j0);
-    l5 = j0;
+    l6 = j0;
     j1 = 768ull;
     j0 += j1;
-    l8 = j0;
-    j1 = l5;
+    l5 = j0;
+    j1 = l6;
     j2 = 1796ull;
     j1 += j2;
     i1 = (u32)(j1);
     i1 = i32_load8_u(j1);
-    l20 = i1;
+    l19 = i1;
     j2 = p0;
     i2 = (u32)(j2);
     j2 = i64_load(j2);
     i2 = (u32)(j2);
     j2 = i64_load(j2);
-    j3 = p0;
-    j4 = 8ull;
-    j3 += j4;
-    i3 = (u32)(j3);
-    j3 = i64_load(j3);
-    j4 = 60ull;
-    j3 += j4;
-    i3 = (u32)(j3);
-    i3 = i32_load16_u(j3);
+    i3 = l18;
     j4 = p1;
     i4 = (u32)(j4);
     i3 += i4;
-    l21 = i3;
+    l17 = i3;
     i4 = 65535u;
     i3 &= i4;
-    i4 = l18;
+    i4 = l15;
     i3 >>= (i4 & 31);
     i4 = 1u;
     i3 &= i4;
-    i4 = l21;
-    i5 = l19;
+    i4 = l17;
+    i5 = l16;
     i4 *= i5;
     i3 += i4;
     j3 = (u64)(i3);
@@ -7777,7 +6183,7 @@ static void f6(module *self, u64 p0, u64 p1, u64 p2, u64 p3) {
     j2 += j3;
     i2 = (u32)(j2);
     i2 = i32_load(j2);
-    l21 = i2;
+    l20 = i2;
     i3 = 24u;
     i2 >>= (i3 & 31);
     i1 &= i2;
@@ -7787,10 +6193,10 @@ static void f6(module *self, u64 p0, u64 p1, u64 p2, u64 p3) {
     j0 += j1;
     i0 = (u32)(j0);
     i0 = i32_load(j0);
-    l22 = i0;
-    j0 = l8;
-    i1 = l20;
-    i2 = l21;
+    l17 = i0;
+    j0 = l5;
+    i1 = l19;
+    i2 = l20;
     i3 = 16u;
     i2 >>= (i3 & 31);
     i1 &= i2;
@@ -7800,10 +6206,10 @@ static void f6(module *self, u64 p0, u64 p1, u64 p2, u64 p3) {
     j0 += j1;
     i0 = (u32)(j0);
     i0 = i32_load(j0);
-    l23 = i0;
-    j0 = l8;
-    i1 = l20;
-    i2 = l21;
+    l21 = i0;
+    j0 = l5;
+    i1 = l19;
+    i2 = l20;
     i3 = 8u;
     i2 >>= (i3 & 31);
     i1 &= i2;
@@ -7813,19 +6219,12 @@ static void f6(module *self, u64 p0, u64 p1, u64 p2, u64 p3) {
     j0 += j1;
     i0 = (u32)(j0);
     i0 = i32_load(j0);
-    l24 = i0;
-    j0 = l8;
-    i0 = (u32)(j0);
-    i0 = i32_load(j0);
-    l25 = i0;
+    l22 = i0;
     j0 = p3;
-    j1 = l7;
-    j0 += j1;
-    l5 = j0;
     i0 = (u32)(j0);
-    j1 = l8;
-    i2 = l20;
-    i3 = l21;
+    j1 = l5;
+    i2 = l19;
+    i3 = l20;
     i2 &= i3;
     j2 = (u64)(i2);
     j3 = 2ull;
@@ -7833,88 +6232,82 @@ static void f6(module *self, u64 p0, u64 p1, u64 p2, u64 p3) {
     j1 += j2;
     i1 = (u32)(j1);
     i1 = i32_load(j1);
-    l20 = i1;
+    l19 = i1;
     i32_store(j0, i1);
-    j0 = l5;
+    j0 = p3;
     j1 = 3ull;
     j0 += j1;
     i0 = (u32)(j0);
-    i1 = l20;
+    i1 = l19;
     i32_store(j0, i1);
-    j0 = l5;
+    j0 = p3;
     j1 = 6ull;
     j0 += j1;
     i0 = (u32)(j0);
-    i1 = l24;
+    i1 = l22;
     i32_store(j0, i1);
-    j0 = l5;
+    j0 = p3;
     j1 = 9ull;
     j0 += j1;
     i0 = (u32)(j0);
-    i1 = l24;
+    i1 = l22;
     i32_store(j0, i1);
-    j0 = l5;
+    j0 = p3;
     j1 = 12ull;
     j0 += j1;
     i0 = (u32)(j0);
-    i1 = l23;
+    i1 = l21;
     i32_store(j0, i1);
-    j0 = l5;
+    j0 = p3;
     j1 = 15ull;
     j0 += j1;
     i0 = (u32)(j0);
-    i1 = l23;
+    i1 = l21;
     i32_store(j0, i1);
-    j0 = l5;
+    j0 = p3;
     j1 = 18ull;
     j0 += j1;
     i0 = (u32)(j0);
-    i1 = l22;
+    i1 = l17;
     i32_store(j0, i1);
-    j0 = l5;
-    j1 = 21ull;
+    j0 = p3;
+    j1 = 23ull;
     j0 += j1;
     i0 = (u32)(j0);
-    i1 = l22;
-    i32_store(j0, i1);
-    j0 = l5;
-    j1 = 26ull;
-    j0 += j1;
-    i0 = (u32)(j0);
-    i1 = l25;
+    i1 = l17;
     i2 = 16u;
     i1 >>= (i2 & 31);
     i32_store8(j0, i1);
-    j0 = l5;
-    j1 = 25ull;
+    j0 = p3;
+    j1 = 22ull;
     j0 += j1;
     i0 = (u32)(j0);
-    i1 = l25;
+    i1 = l17;
     i2 = 8u;
     i1 >>= (i2 & 31);
     i32_store8(j0, i1);
-    j0 = l5;
-    j1 = 24ull;
+    j0 = p3;
+    j1 = 21ull;
     j0 += j1;
     i0 = (u32)(j0);
-    i1 = l25;
+    i1 = l17;
     i32_store8(j0, i1);
-    j0 = p1;
-    j1 = 1ull;
+    j0 = p3;
+    j1 = 24ull;
     j0 += j1;
-    p1 = j0;
-    j0 = l6;
-    j1 = l7;
-    j2 = 27ull;
+    p3 = j0;
+    j0 = p2;
+    j1 = p1;
+    j2 = 1ull;
     j1 += j2;
-    l7 = j1;
+    p1 = j1;
     i0 = j0 != j1;
     if (i0) {goto L6;}
     goto B0;
   { self->is_broken = true; return; }
   B2:;
   i0 = 16u;
-  l21 = i0;
+  l19 = i0;
   j0 = p0;
   j1 = 8ull;
   j0 += j1;
@@ -7930,7 +6323,7 @@ static void f6(module *self, u64 p0, u64 p1, u64 p2, u64 p3) {
   i0 = !(i0);
   if (i0) {goto B8;}
   i0 = 4u;
-  l22 = i0;
+  l20 = i0;
   goto B7;
   B8:;
   j0 = l5;
@@ -7938,27 +6331,27 @@ static void f6(module *self, u64 p0, u64 p1, u64 p2, u64 p3) {
   j0 += j1;
   i0 = (u32)(j0);
   i0 = i32_load8_u(j0);
-  l20 = i0;
+  l17 = i0;
   i1 = 64u;
   i0 &= i1;
   i0 = !(i0);
   if (i0) {goto B9;}
   i0 = 1u;
-  l22 = i0;
+  l20 = i0;
   goto B7;
   B9:;
   i0 = 15u;
   i1 = 13u;
-  i2 = l20;
+  i2 = l17;
   i3 = 32u;
   i2 &= i3;
   i0 = i2 ? i0 : i1;
-  l21 = i0;
+  l19 = i0;
   i0 = 2u;
-  l22 = i0;
+  l20 = i0;
   B7:;
   j0 = l4;
-  j1 = 144ull;
+  j1 = 136ull;
   j0 += j1;
   j1 = p0;
   j2 = 16ull;
@@ -7975,15 +6368,8 @@ static void f6(module *self, u64 p0, u64 p1, u64 p2, u64 p3) {
   i0 = (u32)(j0);
   j1 = l4;
   i1 = (u32)(j1);
-  j1 = i64_load(j1 + 200u);
-  l5 = j1;
-  i64_store(j0 + 136, j1);
-  j0 = l4;
-  i0 = (u32)(j0);
-  j1 = l4;
-  i1 = (u32)(j1);
   j1 = i64_load(j1 + 192u);
-  l8 = j1;
+  l6 = j1;
   i64_store(j0 + 128, j1);
   j0 = l4;
   i0 = (u32)(j0);
@@ -7991,6 +6377,1583 @@ static void f6(module *self, u64 p0, u64 p1, u64 p2, u64 p3) {
   i1 = (u32)(j1);
   j1 = i64_load(j1 + 184u);
   l7 = j1;
+  i64_store(j0 + 120, j1);
+  j0 = l4;
+  i0 = (u32)(j0);
+  j1 = l4;
+  i1 = (u32)(j1);
+  j1 = i64_load(j1 + 176u);
+  l8 = j1;
+  i64_store(j0 + 112, j1);
+  j0 = l4;
+  i0 = (u32)(j0);
+  j1 = l4;
+  i1 = (u32)(j1);
+  j1 = i64_load(j1 + 168u);
+  l9 = j1;
+  i64_store(j0 + 104, j1);
+  j0 = l4;
+  i0 = (u32)(j0);
+  j1 = l4;
+  i1 = (u32)(j1);
+  j1 = i64_load(j1 + 160u);
+  l10 = j1;
+  i64_store(j0 + 96, j1);
+  j0 = l4;
+  i0 = (u32)(j0);
+  j1 = l4;
+  i1 = (u32)(j1);
+  j1 = i64_load(j1 + 152u);
+  l11 = j1;
+  i64_store(j0 + 88, j1);
+  j0 = l4;
+  i0 = (u32)(j0);
+  j1 = l4;
+  i1 = (u32)(j1);
+  j1 = i64_load(j1 + 144u);
+  l12 = j1;
+  i64_store(j0 + 80, j1);
+  j0 = l4;
+  i0 = (u32)(j0);
+  j1 = l4;
+  i1 = (u32)(j1);
+  j1 = i64_load(j1 + 136u);
+  l13 = j1;
+  i64_store(j0 + 72, j1);
+  j0 = l4;
+  i0 = (u32)(j0);
+  j1 = l13;
+  i64_store(j0 + 8, j1);
+  j0 = l4;
+  i0 = (u32)(j0);
+  j1 = l12;
+  i64_store(j0 + 16, j1);
+  j0 = l4;
+  i0 = (u32)(j0);
+  j1 = l11;
+  i64_store(j0 + 24, j1);
+  j0 = l4;
+  i0 = (u32)(j0);
+  j1 = l10;
+  i64_store(j0 + 32, j1);
+  j0 = l4;
+  i0 = (u32)(j0);
+  j1 = l9;
+  i64_store(j0 + 40, j1);
+  j0 = l4;
+  i0 = (u32)(j0);
+  j1 = l8;
+  i64_store(j0 + 48, j1);
+  j0 = l4;
+  i0 = (u32)(j0);
+  j1 = l7;
+  i64_store(j0 + 56, j1);
+  j0 = l4;
+  i0 = (u32)(j0);
+  j1 = l6;
+  i64_store(j0 + 64, j1);
+  j0 = p2;
+  i0 = !(j0);
+  if (i0) {goto B0;}
+  j0 = l5;
+  j1 = 60ull;
+  j0 += j1;
+  i0 = (u32)(j0);
+  i0 = i32_load16_u(j0);
+  j1 = p1;
+  i1 = (u32)(j1);
+  i0 += i1;
+  l21 = i0;
+  j0 = l4;
+  j1 = 8ull;
+  j0 += j1;
+  l5 = j0;
+  j0 = 0ull;
+  p1 = j0;
+  L10: 
+    j0 = p3;
+    i0 = (u32)(j0);
+    j1 = l5;
+    j2 = p0;
+    i2 = (u32)(j2);
+    j2 = i64_load(j2);
+    i2 = (u32)(j2);
+    j2 = i64_load(j2);
+    i3 = l21;
+    j4 = p1;
+    i4 = (u32)(j4);
+    i3 += i4;
+    l17 = i3;
+    i4 = 65535u;
+    i3 &= i4;
+    i4 = l19;
+    i3 >>= (i4 & 31);
+    i4 = 1u;
+    i3 &= i4;
+    i4 = l17;
+    i5 = l20;
+    i4 *= i5;
+    i3 += i4;
+    j3 = (u64)(i3);
+    j4 = 65535ull;
+    j3 &= j4;
+    j4 = 2ull;
+    j3 <<= (j4 & 63);
+    j2 += j3;
+    i2 = (u32)(j2);
+    i2 = i32_load(j2);
+    l17 = i2;
+    i3 = 2155905152u;
+    i2 &= i3;
+    i3 = 2113665u;
+    i2 *= i3;
+    i3 = 26u;
+    i2 >>= (i3 & 31);
+    i3 = 60u;
+    i2 &= i3;
+    j2 = (u64)(i2);
+    j1 += j2;
+    i1 = (u32)(j1);
+    i1 = i32_load(j1);
+    i32_store(j0, i1);
+    j0 = p3;
+    j1 = 3ull;
+    j0 += j1;
+    i0 = (u32)(j0);
+    j1 = l5;
+    i2 = l17;
+    i3 = 1077952576u;
+    i2 &= i3;
+    i3 = 4227330u;
+    i2 *= i3;
+    i3 = 26u;
+    i2 >>= (i3 & 31);
+    i3 = 60u;
+    i2 &= i3;
+    j2 = (u64)(i2);
+    j1 += j2;
+    i1 = (u32)(j1);
+    i1 = i32_load(j1);
+    i32_store(j0, i1);
+    j0 = p3;
+    j1 = 6ull;
+    j0 += j1;
+    i0 = (u32)(j0);
+    j1 = l5;
+    i2 = l17;
+    i3 = 538976288u;
+    i2 &= i3;
+    i3 = 8454660u;
+    i2 *= i3;
+    i3 = 26u;
+    i2 >>= (i3 & 31);
+    i3 = 60u;
+    i2 &= i3;
+    j2 = (u64)(i2);
+    j1 += j2;
+    i1 = (u32)(j1);
+    i1 = i32_load(j1);
+    i32_store(j0, i1);
+    j0 = p3;
+    j1 = 9ull;
+    j0 += j1;
+    i0 = (u32)(j0);
+    j1 = l5;
+    i2 = l17;
+    i3 = 269488144u;
+    i2 &= i3;
+    i3 = 16909320u;
+    i2 *= i3;
+    i3 = 26u;
+    i2 >>= (i3 & 31);
+    i3 = 60u;
+    i2 &= i3;
+    j2 = (u64)(i2);
+    j1 += j2;
+    i1 = (u32)(j1);
+    i1 = i32_load(j1);
+    i32_store(j0, i1);
+    j0 = p3;
+    j1 = 12ull;
+    j0 += j1;
+    i0 = (u32)(j0);
+    j1 = l5;
+    i2 = l17;
+    i3 = 134744072u;
+    i2 &= i3;
+    i3 = 33818640u;
+    i2 *= i3;
+    i3 = 26u;
+    i2 >>= (i3 & 31);
+    i3 = 60u;
+    i2 &= i3;
+    j2 = (u64)(i2);
+    j1 += j2;
+    i1 = (u32)(j1);
+    i1 = i32_load(j1);
+    i32_store(j0, i1);
+    j0 = p3;
+    j1 = 15ull;
+    j0 += j1;
+    i0 = (u32)(j0);
+    j1 = l5;
+    i2 = l17;
+    i3 = 67372036u;
+    i2 &= i3;
+    i3 = 67637280u;
+    i2 *= i3;
+    i3 = 26u;
+    i2 >>= (i3 & 31);
+    i3 = 60u;
+    i2 &= i3;
+    j2 = (u64)(i2);
+    j1 += j2;
+    i1 = (u32)(j1);
+    i1 = i32_load(j1);
+    i32_store(j0, i1);
+    j0 = p3;
+    j1 = 18ull;
+    j0 += j1;
+    i0 = (u32)(j0);
+    j1 = l5;
+    i2 = l17;
+    i3 = 33686018u;
+    i2 &= i3;
+    i3 = 135274560u;
+    i2 *= i3;
+    i3 = 26u;
+    i2 >>= (i3 & 31);
+    i3 = 60u;
+    i2 &= i3;
+    j2 = (u64)(i2);
+    j1 += j2;
+    i1 = (u32)(j1);
+    i1 = i32_load(j1);
+    i32_store(j0, i1);
+    j0 = p3;
+    j1 = 23ull;
+    j0 += j1;
+    i0 = (u32)(j0);
+    j1 = l5;
+    i2 = l17;
+    i3 = 16843009u;
+    i2 &= i3;
+    i3 = 270549120u;
+    i2 *= i3;
+    i3 = 26u;
+    i2 >>= (i3 & 31);
+    i3 = 60u;
+    i2 &= i3;
+    j2 = (u64)(i2);
+    j1 += j2;
+    i1 = (u32)(j1);
+    i1 = i32_load(j1);
+    l17 = i1;
+    i2 = 16u;
+    i1 >>= (i2 & 31);
+    i32_store8(j0, i1);
+    j0 = p3;
+    j1 = 22ull;
+    j0 += j1;
+    i0 = (u32)(j0);
+    i1 = l17;
+    i2 = 8u;
+    i1 >>= (i2 & 31);
+    i32_store8(j0, i1);
+    j0 = p3;
+    j1 = 21ull;
+    j0 += j1;
+    i0 = (u32)(j0);
+    i1 = l17;
+    i32_store8(j0, i1);
+    j0 = p3;
+    j1 = 24ull;
+    j0 += j1;
+    p3 = j0;
+    j0 = p2;
+    j1 = p1;
+    j2 = 1ull;
+    j1 += j2;
+    p1 = j1;
+    i0 = j0 != j1;
+    if (i0) {goto L10;}
+    goto B0;
+  { self->is_broken = true; return; }
+  B1:;
+  j0 = p2;
+  i0 = !(j0);
+  if (i0) {goto B0;}
+  i0 = 16u;
+  l20 = i0;
+  j0 = p0;
+  j1 = 8ull;
+  j0 += j1;
+  i0 = (u32)(j0);
+  j0 = i64_load(j0);
+  l6 = j0;
+  j1 = 45ull;
+  j0 += j1;
+  i0 = (u32)(j0);
+  i0 = i32_load8_u(j0);
+  i1 = 64u;
+  i0 &= i1;
+  i0 = !(i0);
+  if (i0) {goto B12;}
+  i0 = 4u;
+  l21 = i0;
+  goto B11;
+  B12:;
+  j0 = l6;
+  j1 = 48ull;
+  j0 += j1;
+  i0 = (u32)(j0);
+  i0 = i32_load8_u(j0);
+  l17 = i0;
+  i1 = 64u;
+  i0 &= i1;
+  i0 = !(i0);
+  if (i0) {goto B13;}
+  i0 = 1u;
+  l21 = i0;
+  goto B11;
+  B13:;
+  i0 = 15u;
+  i1 = 13u;
+  i2 = l17;
+  i3 = 32u;
+  i2 &= i3;
+  i0 = i2 ? i0 : i1;
+  l20 = i0;
+  i0 = 2u;
+  l21 = i0;
+  B11:;
+  j0 = l4;
+  j1 = 204ull;
+  j0 += j1;
+  j1 = 8ull;
+  j0 += j1;
+  j1 = p0;
+  f9(self, j0, j1);
+  j0 = l4;
+  i0 = (u32)(j0);
+  i1 = 0u;
+  i32_store16(j0 + 206, i1);
+  j0 = l6;
+  j1 = 60ull;
+  j0 += j1;
+  i0 = (u32)(j0);
+  i0 = i32_load16_u(j0);
+  l18 = i0;
+  j0 = l4;
+  i0 = (u32)(j0);
+  i1 = l21;
+  i32_store16(j0 + 204, i1);
+  j0 = l4;
+  i0 = (u32)(j0);
+  i1 = l20;
+  i32_store(j0 + 208, i1);
+  j0 = l5;
+  i0 = (u32)(j0);
+  j0 = i64_load(j0);
+  l6 = j0;
+  i1 = l18;
+  i2 = 4294967295u;
+  i1 += i2;
+  l15 = i1;
+  j2 = p2;
+  j3 = p1;
+  j2 += j3;
+  i2 = (u32)(j2);
+  i1 += i2;
+  l17 = i1;
+  i2 = 65535u;
+  i1 &= i2;
+  i2 = l20;
+  i1 >>= (i2 & 31);
+  i2 = 1u;
+  i1 &= i2;
+  i2 = l17;
+  i3 = l21;
+  i2 *= i3;
+  i1 += i2;
+  j1 = (u64)(i1);
+  j2 = 65535ull;
+  j1 &= j2;
+  j2 = 2ull;
+  j1 <<= (j2 & 63);
+  j0 += j1;
+  i0 = (u32)(j0);
+  i0 = i32_load(j0);
+  l16 = i0;
+  j0 = l4;
+  i0 = (u32)(j0);
+  i0 = i32_load(j0 + 212u);
+  l22 = i0;
+  j0 = p2;
+  l5 = j0;
+  L15: 
+    j0 = l6;
+    i1 = l15;
+    j2 = p1;
+    j3 = l5;
+    j2 += j3;
+    i2 = (u32)(j2);
+    i1 += i2;
+    l17 = i1;
+    i2 = 65535u;
+    i1 &= i2;
+    l19 = i1;
+    i2 = l20;
+    i1 >>= (i2 & 31);
+    i2 = 1u;
+    i1 &= i2;
+    i2 = l17;
+    i3 = l21;
+    i2 *= i3;
+    i1 += i2;
+    j1 = (u64)(i1);
+    j2 = 65535ull;
+    j1 &= j2;
+    j2 = 2ull;
+    j1 <<= (j2 & 63);
+    j0 += j1;
+    i0 = (u32)(j0);
+    i0 = i32_load16_u(j0);
+    i1 = l16;
+    i2 = 65535u;
+    i1 &= i2;
+    i0 = i0 == i1;
+    if (i0) {goto B16;}
+    j0 = l5;
+    l7 = j0;
+    goto B14;
+    B16:;
+    i0 = l22;
+    i1 = l19;
+    i0 = i0 != i1;
+    if (i0) {goto B17;}
+    j0 = l5;
+    l7 = j0;
+    goto B14;
+    B17:;
+    j0 = 0ull;
+    l7 = j0;
+    j0 = l5;
+    j1 = 18446744073709551615ull;
+    j0 += j1;
+    l5 = j0;
+    j1 = 0ull;
+    i0 = j0 != j1;
+    if (i0) {goto L15;}
+  B14:;
+  j0 = 0ull;
+  l6 = j0;
+  j0 = l4;
+  i0 = (u32)(j0);
+  j1 = 0ull;
+  i64_store(j0 + 176, j1);
+  j0 = p0;
+  j1 = 24ull;
+  j0 += j1;
+  i0 = (u32)(j0);
+  j0 = i64_load(j0);
+  l5 = j0;
+  j1 = 256ull;
+  j0 += j1;
+  l12 = j0;
+  j1 = p0;
+  j2 = 16ull;
+  j1 += j2;
+  i1 = (u32)(j1);
+  j1 = i64_load(j1);
+  l13 = j1;
+  j2 = 42ull;
+  j1 += j2;
+  i1 = (u32)(j1);
+  i1 = i32_load8_u(j1);
+  j2 = l5;
+  j3 = 1796ull;
+  j2 += j3;
+  i2 = (u32)(j2);
+  i2 = i32_load8_u(j2);
+  l15 = i2;
+  i1 &= i2;
+  j1 = (u64)(i1);
+  j2 = 255ull;
+  j1 &= j2;
+  l8 = j1;
+  j0 += j1;
+  i0 = (u32)(j0);
+  j0 = i64_load8_u(j0);
+  j1 = 8ull;
+  j0 <<= (j1 & 63);
+  j1 = l5;
+  j2 = l8;
+  j1 += j2;
+  i1 = (u32)(j1);
+  j1 = i64_load8_u(j1);
+  j0 |= j1;
+  l9 = j0;
+  j1 = l5;
+  j2 = 512ull;
+  j1 += j2;
+  l14 = j1;
+  j2 = l8;
+  j1 += j2;
+  i1 = (u32)(j1);
+  j1 = i64_load8_u(j1);
+  l8 = j1;
+  j2 = 16ull;
+  j1 <<= (j2 & 63);
+  j0 |= j1;
+  l10 = j0;
+  j1 = 16777217ull;
+  j0 *= j1;
+  j1 = l9;
+  j2 = 48ull;
+  j1 <<= (j2 & 63);
+  j0 |= j1;
+  l9 = j0;
+  j0 = l10;
+  j1 = 8ull;
+  j0 <<= (j1 & 63);
+  j1 = l8;
+  j0 |= j1;
+  i0 = (u32)(j0);
+  l17 = i0;
+  j0 = p2;
+  j1 = l7;
+  j2 = 1ull;
+  j1 += j2;
+  l11 = j1;
+  i0 = j0 < j1;
+  l19 = i0;
+  j0 = l4;
+  i0 = (u32)(j0);
+  i0 = i32_load8_u(j0 + 216u);
+  i1 = 7u;
+  i0 &= i1;
+  i0 = !(i0);
+  if (i0) {goto B19;}
+  j0 = l9;
+  l5 = j0;
+  i0 = l17;
+  l15 = i0;
+  goto B18;
+  B19:;
+  j0 = l14;
+  j1 = l13;
+  j2 = 49ull;
+  j1 += j2;
+  i1 = (u32)(j1);
+  i1 = i32_load8_u(j1);
+  i2 = l15;
+  i1 &= i2;
+  j1 = (u64)(i1);
+  j2 = 255ull;
+  j1 &= j2;
+  l7 = j1;
+  j0 += j1;
+  i0 = (u32)(j0);
+  j0 = i64_load8_u(j0);
+  l8 = j0;
+  j1 = 16ull;
+  j0 <<= (j1 & 63);
+  j1 = l12;
+  j2 = l7;
+  j1 += j2;
+  i1 = (u32)(j1);
+  j1 = i64_load8_u(j1);
+  j2 = 8ull;
+  j1 <<= (j2 & 63);
+  j2 = l5;
+  j3 = l7;
+  j2 += j3;
+  i2 = (u32)(j2);
+  j2 = i64_load8_u(j2);
+  j1 |= j2;
+  l5 = j1;
+  j0 |= j1;
+  l7 = j0;
+  j1 = 16777217ull;
+  j0 *= j1;
+  j1 = l5;
+  j2 = 48ull;
+  j1 <<= (j2 & 63);
+  j0 |= j1;
+  l5 = j0;
+  j1 = l9;
+  j2 = l4;
+  i2 = (u32)(j2);
+  i2 = i32_load8_u(j2 + 217u);
+  i3 = 7u;
+  i2 = i2 == i3;
+  l16 = i2;
+  j0 = i2 ? j0 : j1;
+  l9 = j0;
+  j0 = l7;
+  j1 = 8ull;
+  j0 <<= (j1 & 63);
+  j1 = l8;
+  j0 |= j1;
+  i0 = (u32)(j0);
+  l15 = i0;
+  i1 = l17;
+  i2 = l16;
+  i0 = i2 ? i0 : i1;
+  l17 = i0;
+  B18:;
+  j0 = p2;
+  j1 = l11;
+  i2 = l19;
+  j0 = i2 ? j0 : j1;
+  l8 = j0;
+  j0 = l4;
+  i0 = (u32)(j0);
+  j1 = l4;
+  i1 = (u32)(j1);
+  i1 = i32_load16_u(j1 + 220u);
+  i32_store16(j0 + 176, i1);
+  j0 = l4;
+  i0 = (u32)(j0);
+  i1 = l17;
+  i32_store(j0 + 168, i1);
+  j0 = l4;
+  i0 = (u32)(j0);
+  j1 = l9;
+  i64_store(j0 + 160, j1);
+  j0 = l4;
+  i0 = (u32)(j0);
+  i1 = l15;
+  i32_store(j0 + 152, i1);
+  j0 = l4;
+  i0 = (u32)(j0);
+  j1 = l5;
+  i64_store(j0 + 144, j1);
+  j0 = l4;
+  i0 = (u32)(j0);
+  i1 = 7u;
+  i32_store8(j0 + 136, i1);
+  i0 = l18;
+  j1 = p1;
+  i1 = (u32)(j1);
+  i0 += i1;
+  l16 = i0;
+  j0 = p3;
+  l5 = j0;
+  j0 = 0ull;
+  p1 = j0;
+  L20: 
+    j0 = l4;
+    i0 = (u32)(j0);
+    i0 = i32_load8_u(j0 + 136u);
+    j1 = p0;
+    i1 = (u32)(j1);
+    j1 = i64_load(j1);
+    i1 = (u32)(j1);
+    j1 = i64_load(j1);
+    l7 = j1;
+    i2 = l16;
+    j3 = p1;
+    i3 = (u32)(j3);
+    i2 += i3;
+    l17 = i2;
+    i3 = 65535u;
+    i2 &= i3;
+    l19 = i2;
+    i3 = l20;
+    i2 >>= (i3 & 31);
+    i3 = 1u;
+    i2 &= i3;
+    i3 = l17;
+    i4 = l21;
+    i3 *= i4;
+    i2 += i3;
+    j2 = (u64)(i2);
+    j3 = 65535ull;
+    j2 &= j3;
+    j3 = 2ull;
+    j2 <<= (j3 & 63);
+    j1 += j2;
+    i1 = (u32)(j1);
+    i1 = i32_load(j1);
+    l15 = i1;
+    i2 = 8u;
+    i1 >>= (i2 & 31);
+    l17 = i1;
+    i2 = 255u;
+    i1 &= i2;
+    i0 = i0 == i1;
+    if (i0) {goto B21;}
+    j0 = l4;
+    j1 = 136ull;
+    j0 += j1;
+    j1 = l4;
+    j2 = 204ull;
+    j1 += j2;
+    j2 = p0;
+    j3 = 16ull;
+    j2 += j3;
+    i2 = (u32)(j2);
+    j2 = i64_load(j2);
+    j3 = p0;
+    j4 = 24ull;
+    j3 += j4;
+    i3 = (u32)(j3);
+    j3 = i64_load(j3);
+    i4 = l17;
+    f10(self, j0, j1, j2, j3, i4);
+    B21:;
+    i0 = l22;
+    i1 = l19;
+    i0 = i0 != i1;
+    if (i0) {goto B23;}
+    j0 = p0;
+    j1 = 16ull;
+    j0 += j1;
+    i0 = (u32)(j0);
+    j0 = i64_load(j0);
+    j1 = p0;
+    j2 = 24ull;
+    j1 += j2;
+    i1 = (u32)(j1);
+    j1 = i64_load(j1);
+    i2 = l17;
+    j3 = p3;
+    j4 = l6;
+    f11(self, j0, j1, i2, j3, j4);
+    goto B22;
+    B23:;
+    j0 = l5;
+    j1 = 20ull;
+    j0 += j1;
+    i0 = (u32)(j0);
+    j1 = l7;
+    j2 = l4;
+    i2 = (u32)(j2);
+    i2 = i32_load16_u(j2 + 176u);
+    i3 = l15;
+    i4 = 5u;
+    i3 <<= (i4 & 31);
+    i4 = 8160u;
+    i3 &= i4;
+    i2 += i3;
+    j2 = (u64)(i2);
+    j3 = 65535ull;
+    j2 &= j3;
+    j3 = 2ull;
+    j2 <<= (j3 & 63);
+    j1 += j2;
+    i1 = (u32)(j1);
+    i1 = i32_load(j1);
+    l19 = i1;
+    i2 = 16u;
+    i1 >>= (i2 & 31);
+    j1 = (u64)(i1);
+    j2 = 15ull;
+    j1 &= j2;
+    l7 = j1;
+    j2 = 2ull;
+    j1 <<= (j2 & 63);
+    i1 = (u32)(j1);
+    i1 = i32_load(j1 + 1048704u);
+    j2 = l4;
+    i2 = (u32)(j2);
+    i2 = i32_load(j2 + 152u);
+    j3 = l4;
+    i3 = (u32)(j3);
+    i3 = i32_load(j3 + 168u);
+    l17 = i3;
+    i2 ^= i3;
+    l15 = i2;
+    i1 &= i2;
+    i2 = l17;
+    i1 ^= i2;
+    i32_store(j0, i1);
+    j0 = l5;
+    j1 = 12ull;
+    j0 += j1;
+    i0 = (u32)(j0);
+    j1 = l7;
+    j2 = 3ull;
+    j1 <<= (j2 & 63);
+    i1 = (u32)(j1);
+    j1 = i64_load(j1 + 1048576u);
+    j2 = l4;
+    i2 = (u32)(j2);
+    j2 = i64_load(j2 + 144u);
+    j3 = l4;
+    i3 = (u32)(j3);
+    j3 = i64_load(j3 + 160u);
+    l7 = j3;
+    j2 ^= j3;
+    l9 = j2;
+    j1 &= j2;
+    j2 = l7;
+    j1 ^= j2;
+    i64_store(j0, j1);
+    j0 = l5;
+    j1 = 8ull;
+    j0 += j1;
+    i0 = (u32)(j0);
+    i1 = l17;
+    i2 = l19;
+    i3 = 20u;
+    i2 >>= (i3 & 31);
+    j2 = (u64)(i2);
+    j3 = 15ull;
+    j2 &= j3;
+    l10 = j2;
+    j3 = 2ull;
+    j2 <<= (j3 & 63);
+    i2 = (u32)(j2);
+    i2 = i32_load(j2 + 1048704u);
+    i3 = l15;
+    i2 &= i3;
+    i1 ^= i2;
+    i32_store(j0, i1);
+    j0 = l5;
+    i0 = (u32)(j0);
+    j1 = l7;
+    j2 = l10;
+    j3 = 3ull;
+    j2 <<= (j3 & 63);
+    i2 = (u32)(j2);
+    j2 = i64_load(j2 + 1048576u);
+    j3 = l9;
+    j2 &= j3;
+    j1 ^= j2;
+    i64_store(j0, j1);
+    B22:;
+    j0 = l5;
+    j1 = 24ull;
+    j0 += j1;
+    l5 = j0;
+    j0 = l6;
+    j1 = 8ull;
+    j0 += j1;
+    l6 = j0;
+    j0 = l8;
+    j1 = p1;
+    j2 = 1ull;
+    j1 += j2;
+    p1 = j1;
+    i0 = j0 != j1;
+    if (i0) {goto L20;}
+  j0 = l4;
+  i0 = (u32)(j0);
+  j1 = p3;
+  j2 = l8;
+  j3 = 24ull;
+  j2 *= j3;
+  j1 += j2;
+  j2 = 18446744073709551592ull;
+  j1 += j2;
+  p0 = j1;
+  i1 = (u32)(j1);
+  j1 = i64_load(j1 + 16u);
+  i64_store(j0 + 152, j1);
+  j0 = l4;
+  i0 = (u32)(j0);
+  j1 = p0;
+  i1 = (u32)(j1);
+  j1 = i64_load(j1 + 8u);
+  i64_store(j0 + 144, j1);
+  j0 = l4;
+  i0 = (u32)(j0);
+  j1 = p0;
+  i1 = (u32)(j1);
+  j1 = i64_load(j1);
+  i64_store(j0 + 136, j1);
+  j0 = l11;
+  j1 = p2;
+  i0 = j0 >= j1;
+  if (i0) {goto B0;}
+  j0 = p2;
+  j1 = l8;
+  j0 -= j1;
+  p0 = j0;
+  j0 = p3;
+  j1 = l8;
+  j2 = 24ull;
+  j1 *= j2;
+  j0 += j1;
+  p3 = j0;
+  j0 = l4;
+  i0 = (u32)(j0);
+  i0 = i32_load8_u(j0 + 159u);
+  l17 = i0;
+  j0 = l4;
+  i0 = (u32)(j0);
+  i0 = i32_load8_u(j0 + 158u);
+  l19 = i0;
+  j0 = l4;
+  i0 = (u32)(j0);
+  i0 = i32_load8_u(j0 + 157u);
+  l20 = i0;
+  j0 = l4;
+  i0 = (u32)(j0);
+  i0 = i32_load8_u(j0 + 156u);
+  l21 = i0;
+  j0 = l4;
+  i0 = (u32)(j0);
+  i0 = i32_load8_u(j0 + 155u);
+  l22 = i0;
+  j0 = l4;
+  i0 = (u32)(j0);
+  i0 = i32_load8_u(j0 + 154u);
+  l15 = i0;
+  j0 = l4;
+  i0 = (u32)(j0);
+  i0 = i32_load8_u(j0 + 153u);
+  l16 = i0;
+  j0 = l4;
+  i0 = (u32)(j0);
+  i0 = i32_load8_u(j0 + 152u);
+  l18 = i0;
+  j0 = l4;
+  i0 = (u32)(j0);
+  i0 = i32_load8_u(j0 + 151u);
+  l23 = i0;
+  j0 = l4;
+  i0 = (u32)(j0);
+  i0 = i32_load8_u(j0 + 150u);
+  l24 = i0;
+  j0 = l4;
+  i0 = (u32)(j0);
+  i0 = i32_load8_u(j0 + 149u);
+  l25 = i0;
+  j0 = l4;
+  i0 = (u32)(j0);
+  i0 = i32_load8_u(j0 + 148u);
+  l26 = i0;
+  j0 = l4;
+  i0 = (u32)(j0);
+  i0 = i32_load8_u(j0 + 147u);
+  l27 = i0;
+  j0 = l4;
+  i0 = (u32)(j0);
+  i0 = i32_load8_u(j0 + 146u);
+  l28 = i0;
+  j0 = l4;
+  i0 = (u32)(j0);
+  i0 = i32_load8_u(j0 + 145u);
+  l29 = i0;
+  j0 = l4;
+  i0 = (u32)(j0);
+  i0 = i32_load8_u(j0 + 144u);
+  l30 = i0;
+  j0 = l4;
+  i0 = (u32)(j0);
+  i0 = i32_load8_u(j0 + 143u);
+  l31 = i0;
+  j0 = l4;
+  i0 = (u32)(j0);
+  i0 = i32_load8_u(j0 + 142u);
+  l32 = i0;
+  j0 = l4;
+  i0 = (u32)(j0);
+  i0 = i32_load8_u(j0 + 141u);
+  l33 = i0;
+  j0 = l4;
+  i0 = (u32)(j0);
+  i0 = i32_load8_u(j0 + 140u);
+  l34 = i0;
+  j0 = l4;
+  i0 = (u32)(j0);
+  i0 = i32_load8_u(j0 + 139u);
+  l35 = i0;
+  j0 = l4;
+  i0 = (u32)(j0);
+  i0 = i32_load8_u(j0 + 138u);
+  l36 = i0;
+  j0 = l4;
+  i0 = (u32)(j0);
+  i0 = i32_load8_u(j0 + 137u);
+  l37 = i0;
+  j0 = l4;
+  i0 = (u32)(j0);
+  i0 = i32_load8_u(j0 + 136u);
+  l38 = i0;
+  L24: 
+    j0 = p3;
+    j1 = l4;
+    j2 = 136ull;
+    j1 += j2;
+    j0 -= j1;
+    j1 = 23ull;
+    i0 = j0 > j1;
+    if (i0) {goto B26;}
+    j0 = p3;
+    i0 = (u32)(j0);
+    i1 = l38;
+    i32_store8(j0, i1);
+    j0 = p3;
+    j1 = 23ull;
+    j0 += j1;
+    i0 = (u32)(j0);
+    i1 = l17;
+    i32_store8(j0, i1);
+    j0 = p3;
+    j1 = 22ull;
+    j0 += j1;
+    i0 = (u32)(j0);
+    i1 = l19;
+    i32_store8(j0, i1);
+    j0 = p3;
+    j1 = 21ull;
+    j0 += j1;
+    i0 = (u32)(j0);
+    i1 = l20;
+    i32_store8(j0, i1);
+    j0 = p3;
+    j1 = 20ull;
+    j0 += j1;
+    i0 = (u32)(j0);
+    i1 = l21;
+    i32_store8(j0, i1);
+    j0 = p3;
+    j1 = 19ull;
+    j0 += j1;
+    i0 = (u32)(j0);
+    i1 = l22;
+    i32_store8(j0, i1);
+    j0 = p3;
+    j1 = 18ull;
+    j0 += j1;
+    i0 = (u32)(j0);
+    i1 = l15;
+    i32_store8(j0, i1);
+    j0 = p3;
+    j1 = 17ull;
+    j0 += j1;
+    i0 = (u32)(j0);
+    i1 = l16;
+    i32_store8(j0, i1);
+    j0 = p3;
+    j1 = 16ull;
+    j0 += j1;
+    i0 = (u32)(j0);
+    i1 = l18;
+    i32_store8(j0, i1);
+    j0 = p3;
+    j1 = 15ull;
+    j0 += j1;
+    i0 = (u32)(j0);
+    i1 = l23;
+    i32_store8(j0, i1);
+    j0 = p3;
+    j1 = 14ull;
+    j0 += j1;
+    i0 = (u32)(j0);
+    i1 = l24;
+    i32_store8(j0, i1);
+    j0 = p3;
+    j1 = 13ull;
+    j0 += j1;
+    i0 = (u32)(j0);
+    i1 = l25;
+    i32_store8(j0, i1);
+    j0 = p3;
+    j1 = 12ull;
+    j0 += j1;
+    i0 = (u32)(j0);
+    i1 = l26;
+    i32_store8(j0, i1);
+    j0 = p3;
+    j1 = 11ull;
+    j0 += j1;
+    i0 = (u32)(j0);
+    i1 = l27;
+    i32_store8(j0, i1);
+    j0 = p3;
+    j1 = 10ull;
+    j0 += j1;
+    i0 = (u32)(j0);
+    i1 = l28;
+    i32_store8(j0, i1);
+    j0 = p3;
+    j1 = 9ull;
+    j0 += j1;
+    i0 = (u32)(j0);
+    i1 = l29;
+    i32_store8(j0, i1);
+    j0 = p3;
+    j1 = 8ull;
+    j0 += j1;
+    i0 = (u32)(j0);
+    i1 = l30;
+    i32_store8(j0, i1);
+    j0 = p3;
+    j1 = 7ull;
+    j0 += j1;
+    i0 = (u32)(j0);
+    i1 = l31;
+    i32_store8(j0, i1);
+    j0 = p3;
+    j1 = 6ull;
+    j0 += j1;
+    i0 = (u32)(j0);
+    i1 = l32;
+    i32_store8(j0, i1);
+    j0 = p3;
+    j1 = 5ull;
+    j0 += j1;
+    i0 = (u32)(j0);
+    i1 = l33;
+    i32_store8(j0, i1);
+    j0 = p3;
+    j1 = 4ull;
+    j0 += j1;
+    i0 = (u32)(j0);
+    i1 = l34;
+    i32_store8(j0, i1);
+    j0 = p3;
+    j1 = 3ull;
+    j0 += j1;
+    i0 = (u32)(j0);
+    i1 = l35;
+    i32_store8(j0, i1);
+    j0 = p3;
+    j1 = 2ull;
+    j0 += j1;
+    i0 = (u32)(j0);
+    i1 = l36;
+    i32_store8(j0, i1);
+    j0 = p3;
+    j1 = 1ull;
+    j0 += j1;
+    i0 = (u32)(j0);
+    i1 = l37;
+    i32_store8(j0, i1);
+    goto B25;
+    B26:;
+    j0 = p3;
+    i0 = (u32)(j0);
+    j1 = l4;
+    i1 = (u32)(j1);
+    j1 = i64_load(j1 + 152u);
+    i64_store(j0 + 16, j1);
+    j0 = p3;
+    i0 = (u32)(j0);
+    j1 = l4;
+    i1 = (u32)(j1);
+    j1 = i64_load(j1 + 144u);
+    i64_store(j0 + 8, j1);
+    j0 = p3;
+    i0 = (u32)(j0);
+    j1 = l4;
+    i1 = (u32)(j1);
+    j1 = i64_load(j1 + 136u);
+    i64_store(j0, j1);
+    B25:;
+    j0 = p3;
+    j1 = 24ull;
+    j0 += j1;
+    p3 = j0;
+    j0 = p0;
+    j1 = 18446744073709551615ull;
+    j0 += j1;
+    p0 = j0;
+    j1 = 0ull;
+    i0 = j0 != j1;
+    if (i0) {goto L24;}
+  B0:;
+  j0 = l4;
+  j1 = 224ull;
+  j0 += j1;
+  self->g0 = j0;
+}
+
+static void f6(module *self, u64 p0, u64 p1, u64 p2, u64 p3) {
+  u32 l16 = 0, l17 = 0, l18 = 0, l19 = 0, l20 = 0, l21 = 0, l22 = 0, l23 = 0, 
+      l24 = 0, l25 = 0, l26 = 0, l27 = 0, l28 = 0, l29 = 0, l30 = 0, l31 = 0, 
+      l32 = 0, l33 = 0, l34 = 0, l35 = 0, l36 = 0, l37 = 0, l38 = 0, l39 = 0, 
+      l40 = 0, l41 = 0, l42 = 0;
+  u64 l4 = 0, l5 = 0, l6 = 0, l7 = 0, l8 = 0, l9 = 0, l10 = 0, l11 = 0, 
+      l12 = 0, l13 = 0, l14 = 0, l15 = 0;
+  u8 *m = self->memory;
+  u32 i0, i1, i2, i3, i4, i5, i6, i7;
+  u64 j0, j1, j2, j3, j4, j5, j6;
+  j0 = self->g0;
+  j1 = 224ull;
+  j0 -= j1;
+  l4 = j0;
+  self->g0 = j0;
+  j0 = l4;
+  i0 = (u32)(j0);
+  j1 = 0ull;
+  i64_store(j0 + 128, j1);
+  j0 = l4;
+  i0 = (u32)(j0);
+  j1 = 0ull;
+  i64_store(j0 + 120, j1);
+  j0 = l4;
+  i0 = (u32)(j0);
+  j1 = 0ull;
+  i64_store(j0 + 112, j1);
+  j0 = l4;
+  i0 = (u32)(j0);
+  j1 = 0ull;
+  i64_store(j0 + 104, j1);
+  j0 = l4;
+  i0 = (u32)(j0);
+  j1 = 0ull;
+  i64_store(j0 + 96, j1);
+  j0 = l4;
+  i0 = (u32)(j0);
+  j1 = 0ull;
+  i64_store(j0 + 88, j1);
+  j0 = l4;
+  i0 = (u32)(j0);
+  j1 = 0ull;
+  i64_store(j0 + 80, j1);
+  j0 = l4;
+  i0 = (u32)(j0);
+  j1 = 0ull;
+  i64_store(j0 + 72, j1);
+  j0 = l4;
+  i0 = (u32)(j0);
+  i1 = 0u;
+  j2 = 72ull;
+  i2 = (u32)(j2);
+  memory_fill(j0, i1, j2);
+  j0 = p0;
+  i0 = (u32)(j0);
+  j0 = i64_load(j0);
+  l5 = j0;
+  j1 = 53ull;
+  j0 += j1;
+  i0 = (u32)(j0);
+  i0 = i32_load8_u(j0);
+  i1 = 1u;
+  i0 &= i1;
+  i0 = !(i0);
+  if (i0) {goto B1;}
+  j0 = l5;
+  j1 = 52ull;
+  j0 += j1;
+  i0 = (u32)(j0);
+  i0 = i32_load8_u(j0);
+  i1 = 64u;
+  i0 &= i1;
+  i0 = !(i0);
+  if (i0) {goto B2;}
+  i0 = 16u;
+  l16 = i0;
+  j0 = p0;
+  j1 = 8ull;
+  j0 += j1;
+  i0 = (u32)(j0);
+  j0 = i64_load(j0);
+  l5 = j0;
+  j1 = 45ull;
+  j0 += j1;
+  i0 = (u32)(j0);
+  i0 = i32_load8_u(j0);
+  i1 = 64u;
+  i0 &= i1;
+  i0 = !(i0);
+  if (i0) {goto B4;}
+  i0 = 4u;
+  l17 = i0;
+  goto B3;
+  B4:;
+  j0 = l5;
+  j1 = 48ull;
+  j0 += j1;
+  i0 = (u32)(j0);
+  i0 = i32_load8_u(j0);
+  l18 = i0;
+  i1 = 64u;
+  i0 &= i1;
+  i0 = !(i0);
+  if (i0) {goto B5;}
+  i0 = 1u;
+  l17 = i0;
+  goto B3;
+  B5:;
+  i0 = 15u;
+  i1 = 13u;
+  i2 = l18;
+  i3 = 32u;
+  i2 &= i3;
+  i0 = i2 ? i0 : i1;
+  l16 = i0;
+  i0 = 2u;
+  l17 = i0;
+  B3:;
+  j0 = p2;
+  i0 = !(j0);
+  if (i0) {goto B0;}
+  j0 = l5;
+  j1 = 60ull;
+  j0 += j1;
+  i0 = (u32)(j0);
+  i0 = i32_load16_u(j0);
+  j1 = p1;
+  i1 = (u32)(j1);
+  i0 += i1;
+  l19 = i0;
+  j0 = p2;
+  j1 = 27ull;
+  j0 *= j1;
+  l6 = j0;
+  j0 = 0ull;
+  l7 = j0;
+  j0 = 0ull;
+  l8 = j0;
+  L6: 
+    j0 = p0;
+    j1 = 24ull;
+    j0 += j1;
+    i0 = (u32)(j0);
+    j0 = i64_load(j0);
+    l5 = j0;
+    j1 = 768ull;
+    j0 += j1;
+    p1 = j0;
+    j1 = l5;
+    j2 = 1796ull;
+    j1 += j2;
+    i1 = (u32)(j1);
+    i1 = i32_load8_u(j1);
+    l18 = i1;
+    j2 = p0;
+    i2 = (u32)(j2);
+    j2 = i64_load(j2);
+    i2 = (u32)(j2);
+    j2 = i64_load(j2);
+    i3 = l19;
+    j4 = l8;
+    i4 = (u32)(j4);
+    i3 += i4;
+    l20 = i3;
+    i4 = 65535u;
+    i3 &= i4;
+    i4 = l16;
+    i3 >>= (i4 & 31);
+    i4 = 1u;
+    i3 &= i4;
+    i4 = l20;
+    i5 = l17;
+    i4 *= i5;
+    i3 += i4;
+    j3 = (u64)(i3);
+    j4 = 65535ull;
+    j3 &= j4;
+    j4 = 2ull;
+    j3 <<= (j4 & 63);
+    j2 += j3;
+    i2 = (u32)(j2);
+    i2 = i32_load(j2);
+    l20 = i2;
+    i3 = 24u;
+    i2 >>= (i3 & 31);
+    i1 &= i2;
+    j1 = (u64)(i1);
+    j2 = 2ull;
+    j1 <<= (j2 & 63);
+    j0 += j1;
+    i0 = (u32)(j0);
+    i0 = i32_load(j0);
+    l21 = i0;
+    j0 = p1;
+    i1 = l18;
+    i2 = l20;
+    i3 = 16u;
+    i2 >>= (i3 & 31);
+    i1 &= i2;
+    j1 = (u64)(i1);
+    j2 = 2ull;
+    j1 <<= (j2 & 63);
+    j0 += j1;
+    i0 = (u32)(j0);
+    i0 = i32_load(j0);
+    l22 = i0;
+    j0 = p1;
+    i1 = l18;
+    i2 = l20;
+    i3 = 8u;
+    i2 >>= (i3 & 31);
+    i1 &= i2;
+    j1 = (u64)(i1);
+    j2 = 2ull;
+    j1 <<= (j2 & 63);
+    j0 += j1;
+    i0 = (u32)(j0);
+    i0 = i32_load(j0);
+    l23 = i0;
+    j0 = p1;
+    i0 = (u32)(j0);
+    i0 = i32_load(j0);
+    l24 = i0;
+    j0 = p3;
+    j1 = l7;
+    j0 += j1;
+    l5 = j0;
+    i0 = (u32)(j0);
+    j1 = p1;
+    i2 = l18;
+    i3 = l20;
+    i2 &= i3;
+    j2 = (u64)(i2);
+    j3 = 2ull;
+    j2 <<= (j3 & 63);
+    j1 += j2;
+    i1 = (u32)(j1);
+    i1 = i32_load(j1);
+    l18 = i1;
+    i32_store(j0, i1);
+    j0 = l5;
+    j1 = 3ull;
+    j0 += j1;
+    i0 = (u32)(j0);
+    i1 = l18;
+    i32_store(j0, i1);
+    j0 = l5;
+    j1 = 6ull;
+    j0 += j1;
+    i0 = (u32)(j0);
+    i1 = l23;
+    i32_store(j0, i1);
+    j0 = l5;
+    j1 = 9ull;
+    j0 += j1;
+    i0 = (u32)(j0);
+    i1 = l23;
+    i32_store(j0, i1);
+    j0 = l5;
+    j1 = 12ull;
+    j0 += j1;
+    i0 = (u32)(j0);
+    i1 = l22;
+    i32_store(j0, i1);
+    j0 = l5;
+    j1 = 15ull;
+    j0 += j1;
+    i0 = (u32)(j0);
+    i1 = l22;
+    i32_store(j0, i1);
+    j0 = l5;
+    j1 = 18ull;
+    j0 += j1;
+    i0 = (u32)(j0);
+    i1 = l21;
+    i32_store(j0, i1);
+    j0 = l5;
+    j1 = 21ull;
+    j0 += j1;
+    i0 = (u32)(j0);
+    i1 = l21;
+    i32_store(j0, i1);
+    j0 = l5;
+    j1 = 26ull;
+    j0 += j1;
+    i0 = (u32)(j0);
+    i1 = l24;
+    i2 = 16u;
+    i1 >>= (i2 & 31);
+    i32_store8(j0, i1);
+    j0 = l5;
+    j1 = 25ull;
+    j0 += j1;
+    i0 = (u32)(j0);
+    i1 = l24;
+    i2 = 8u;
+    i1 >>= (i2 & 31);
+    i32_store8(j0, i1);
+    j0 = l5;
+    j1 = 24ull;
+    j0 += j1;
+    i0 = (u32)(j0);
+    i1 = l24;
+    i32_store8(j0, i1);
+    j0 = l8;
+    j1 = 1ull;
+    j0 += j1;
+    l8 = j0;
+    j0 = l6;
+    j1 = l7;
+    j2 = 27ull;
+    j1 += j2;
+    l7 = j1;
+    i0 = j0 != j1;
+    if (i0) {goto L6;}
+    goto B0;
+  { self->is_broken = true; return; }
+  B2:;
+  i0 = 16u;
+  l20 = i0;
+  j0 = p0;
+  j1 = 8ull;
+  j0 += j1;
+  i0 = (u32)(j0);
+  j0 = i64_load(j0);
+  l5 = j0;
+  j1 = 45ull;
+  j0 += j1;
+  i0 = (u32)(j0);
+  i0 = i32_load8_u(j0);
+  i1 = 64u;
+  i0 &= i1;
+  i0 = !(i0);
+  if (i0) {goto B8;}
+  i0 = 4u;
+  l21 = i0;
+  goto B7;
+  B8:;
+  j0 = l5;
+  j1 = 48ull;
+  j0 += j1;
+  i0 = (u32)(j0);
+  i0 = i32_load8_u(j0);
+  l18 = i0;
+  i1 = 64u;
+  i0 &= i1;
+  i0 = !(i0);
+  if (i0) {goto B9;}
+  i0 = 1u;
+  l21 = i0;
+  goto B7;
+  B9:;
+  i0 = 15u;
+  i1 = 13u;
+  i2 = l18;
+  i3 = 32u;
+  i2 &= i3;
+  i0 = i2 ? i0 : i1;
+  l20 = i0;
+  i0 = 2u;
+  l21 = i0;
+  B7:;
+  j0 = l4;
+  j1 = 136ull;
+  j0 += j1;
+  j1 = p0;
+  j2 = 16ull;
+  j1 += j2;
+  i1 = (u32)(j1);
+  j1 = i64_load(j1);
+  j2 = p0;
+  j3 = 24ull;
+  j2 += j3;
+  i2 = (u32)(j2);
+  j2 = i64_load(j2);
+  f8(self, j0, j1, j2);
+  j0 = l4;
+  i0 = (u32)(j0);
+  j1 = l4;
+  i1 = (u32)(j1);
+  j1 = i64_load(j1 + 192u);
+  l7 = j1;
+  i64_store(j0 + 128, j1);
+  j0 = l4;
+  i0 = (u32)(j0);
+  j1 = l4;
+  i1 = (u32)(j1);
+  j1 = i64_load(j1 + 184u);
+  l8 = j1;
   i64_store(j0 + 120, j1);
   j0 = l4;
   i0 = (u32)(j0);
@@ -8029,6 +7992,17 @@ static void f6(module *self, u64 p0, u64 p1, u64 p2, u64 p3) {
   i64_store(j0 + 80, j1);
   j0 = l4;
   i0 = (u32)(j0);
+  j1 = l4;
+  i1 = (u32)(j1);
+  j1 = i64_load(j1 + 136u);
+  l13 = j1;
+  i64_store(j0 + 72, j1);
+  j0 = l4;
+  i0 = (u32)(j0);
+  j1 = l13;
+  i64_store(j0 + 8, j1);
+  j0 = l4;
+  i0 = (u32)(j0);
   j1 = l12;
   i64_store(j0 + 16, j1);
   j0 = l4;
@@ -8049,75 +8023,72 @@ static void f6(module *self, u64 p0, u64 p1, u64 p2, u64 p3) {
   i64_store(j0 + 48, j1);
   j0 = l4;
   i0 = (u32)(j0);
-  j1 = l7;
+  j1 = l8;
   i64_store(j0 + 56, j1);
   j0 = l4;
   i0 = (u32)(j0);
-  j1 = l8;
+  j1 = l7;
   i64_store(j0 + 64, j1);
-  j0 = l4;
-  i0 = (u32)(j0);
-  j1 = l5;
-  i64_store(j0 + 72, j1);
   j0 = p2;
   i0 = !(j0);
   if (i0) {goto B0;}
+  j0 = l5;
+  j1 = 60ull;
+  j0 += j1;
+  i0 = (u32)(j0);
+  i0 = i32_load16_u(j0);
+  j1 = p1;
+  i1 = (u32)(j1);
+  i0 += i1;
+  l22 = i0;
   j0 = l4;
   j1 = 8ull;
   j0 += j1;
-  j1 = 8ull;
-  j0 += j1;
-  l8 = j0;
+  p1 = j0;
   j0 = p2;
   j1 = 27ull;
   j0 *= j1;
   l6 = j0;
   j0 = l4;
   i0 = (u32)(j0);
-  i0 = i32_load(j0 + 16u);
-  l25 = i0;
+  i0 = i32_load(j0 + 8u);
+  l24 = i0;
   i1 = 16u;
   i0 >>= (i1 & 31);
   l23 = i0;
-  i0 = l25;
+  i0 = l24;
   i1 = 8u;
   i0 >>= (i1 & 31);
-  l24 = i0;
+  l16 = i0;
   j0 = 0ull;
   l7 = j0;
+  j0 = 0ull;
+  l8 = j0;
   L10: 
     j0 = p3;
     j1 = l7;
     j0 += j1;
     l5 = j0;
     i0 = (u32)(j0);
-    j1 = l8;
+    j1 = p1;
     j2 = p0;
     i2 = (u32)(j2);
     j2 = i64_load(j2);
     i2 = (u32)(j2);
     j2 = i64_load(j2);
-    j3 = p0;
-    j4 = 8ull;
-    j3 += j4;
-    i3 = (u32)(j3);
-    j3 = i64_load(j3);
-    j4 = 60ull;
-    j3 += j4;
-    i3 = (u32)(j3);
-    i3 = i32_load16_u(j3);
-    j4 = p1;
+    i3 = l22;
+    j4 = l8;
     i4 = (u32)(j4);
     i3 += i4;
-    l20 = i3;
+    l18 = i3;
     i4 = 65535u;
     i3 &= i4;
-    i4 = l21;
+    i4 = l20;
     i3 >>= (i4 & 31);
     i4 = 1u;
     i3 &= i4;
-    i4 = l20;
-    i5 = l22;
+    i4 = l18;
+    i5 = l21;
     i4 *= i5;
     i3 += i4;
     j3 = (u64)(i3);
@@ -8128,7 +8099,7 @@ static void f6(module *self, u64 p0, u64 p1, u64 p2, u64 p3) {
     j2 += j3;
     i2 = (u32)(j2);
     i2 = i32_load(j2);
-    l20 = i2;
+    l18 = i2;
     i3 = 2155905152u;
     i2 &= i3;
     i3 = 2113665u;
@@ -8146,8 +8117,8 @@ static void f6(module *self, u64 p0, u64 p1, u64 p2, u64 p3) {
     j1 = 3ull;
     j0 += j1;
     i0 = (u32)(j0);
-    j1 = l8;
-    i2 = l20;
+    j1 = p1;
+    i2 = l18;
     i3 = 1077952576u;
     i2 &= i3;
     i3 = 4227330u;
@@ -8165,8 +8136,8 @@ static void f6(module *self, u64 p0, u64 p1, u64 p2, u64 p3) {
     j1 = 6ull;
     j0 += j1;
     i0 = (u32)(j0);
-    j1 = l8;
-    i2 = l20;
+    j1 = p1;
+    i2 = l18;
     i3 = 538976288u;
     i2 &= i3;
     i3 = 8454660u;
@@ -8184,8 +8155,8 @@ static void f6(module *self, u64 p0, u64 p1, u64 p2, u64 p3) {
     j1 = 9ull;
     j0 += j1;
     i0 = (u32)(j0);
-    j1 = l8;
-    i2 = l20;
+    j1 = p1;
+    i2 = l18;
     i3 = 269488144u;
     i2 &= i3;
     i3 = 16909320u;
@@ -8203,8 +8174,8 @@ static void f6(module *self, u64 p0, u64 p1, u64 p2, u64 p3) {
     j1 = 12ull;
     j0 += j1;
     i0 = (u32)(j0);
-    j1 = l8;
-    i2 = l20;
+    j1 = p1;
+    i2 = l18;
     i3 = 134744072u;
     i2 &= i3;
     i3 = 33818640u;
@@ -8222,8 +8193,8 @@ static void f6(module *self, u64 p0, u64 p1, u64 p2, u64 p3) {
     j1 = 15ull;
     j0 += j1;
     i0 = (u32)(j0);
-    j1 = l8;
-    i2 = l20;
+    j1 = p1;
+    i2 = l18;
     i3 = 67372036u;
     i2 &= i3;
     i3 = 67637280u;
@@ -8241,8 +8212,8 @@ static void f6(module *self, u64 p0, u64 p1, u64 p2, u64 p3) {
     j1 = 18ull;
     j0 += j1;
     i0 = (u32)(j0);
-    j1 = l8;
-    i2 = l20;
+    j1 = p1;
+    i2 = l18;
     i3 = 33686018u;
     i2 &= i3;
     i3 = 135274560u;
@@ -8260,8 +8231,8 @@ static void f6(module *self, u64 p0, u64 p1, u64 p2, u64 p3) {
     j1 = 21ull;
     j0 += j1;
     i0 = (u32)(j0);
-    j1 = l8;
-    i2 = l20;
+    j1 = p1;
+    i2 = l18;
     i3 = 16843009u;
     i2 &= i3;
     i3 = 270549120u;
@@ -8285,18 +8256,18 @@ static void f6(module *self, u64 p0, u64 p1, u64 p2, u64 p3) {
     j1 = 25ull;
     j0 += j1;
     i0 = (u32)(j0);
-    i1 = l24;
+    i1 = l16;
     i32_store8(j0, i1);
     j0 = l5;
     j1 = 24ull;
     j0 += j1;
     i0 = (u32)(j0);
-    i1 = l25;
+    i1 = l24;
     i32_store8(j0, i1);
-    j0 = p1;
+    j0 = l8;
     j1 = 1ull;
     j0 += j1;
-    p1 = j0;
+    l8 = j0;
     j0 = l6;
     j1 = l7;
     j2 = 27ull;
@@ -8311,7 +8282,7 @@ static void f6(module *self, u64 p0, u64 p1, u64 p2, u64 p3) {
   i0 = !(j0);
   if (i0) {goto B0;}
   i0 = 16u;
-  l23 = i0;
+  l21 = i0;
   j0 = p0;
   j1 = 8ull;
   j0 += j1;
@@ -8327,7 +8298,7 @@ static void f6(module *self, u64 p0, u64 p1, u64 p2, u64 p3) {
   i0 = !(i0);
   if (i0) {goto B12;}
   i0 = 4u;
-  l24 = i0;
+  l22 = i0;
   goto B11;
   B12:;
   j0 = l7;
@@ -8335,84 +8306,72 @@ static void f6(module *self, u64 p0, u64 p1, u64 p2, u64 p3) {
   j0 += j1;
   i0 = (u32)(j0);
   i0 = i32_load8_u(j0);
-  l20 = i0;
+  l18 = i0;
   i1 = 64u;
   i0 &= i1;
   i0 = !(i0);
   if (i0) {goto B13;}
   i0 = 1u;
-  l24 = i0;
+  l22 = i0;
   goto B11;
   B13:;
   i0 = 15u;
   i1 = 13u;
-  i2 = l20;
+  i2 = l18;
   i3 = 32u;
   i2 &= i3;
   i0 = i2 ? i0 : i1;
-  l23 = i0;
+  l21 = i0;
   i0 = 2u;
-  l24 = i0;
+  l22 = i0;
   B11:;
   j0 = l4;
-  j1 = 144ull;
+  j1 = 204ull;
+  j0 += j1;
+  j1 = 8ull;
   j0 += j1;
   j1 = p0;
   f9(self, j0, j1);
   j0 = l4;
   i0 = (u32)(j0);
-  i0 = i32_load8_u(j0 + 155u);
-  l26 = i0;
+  i1 = 0u;
+  i32_store16(j0 + 206, i1);
+  j0 = l7;
+  j1 = 60ull;
+  j0 += j1;
+  i0 = (u32)(j0);
+  i0 = i32_load16_u(j0);
+  l17 = i0;
   j0 = l4;
   i0 = (u32)(j0);
-  i0 = i32_load8_u(j0 + 154u);
-  l27 = i0;
+  i1 = l22;
+  i32_store16(j0 + 204, i1);
   j0 = l4;
   i0 = (u32)(j0);
-  i0 = i32_load16_u(j0 + 152u);
-  l28 = i0;
-  j0 = l4;
-  i0 = (u32)(j0);
-  i0 = i32_load16_u(j0 + 150u);
-  l29 = i0;
-  j0 = l4;
-  i0 = (u32)(j0);
-  i0 = i32_load8_u(j0 + 149u);
-  l30 = i0;
-  j0 = l4;
-  i0 = (u32)(j0);
-  i0 = i32_load8_u(j0 + 148u);
-  l31 = i0;
-  j0 = l4;
-  i0 = (u32)(j0);
-  i0 = i32_load(j0 + 144u);
-  l18 = i0;
+  i1 = l21;
+  i32_store(j0 + 208, i1);
   j0 = l5;
   i0 = (u32)(j0);
   j0 = i64_load(j0);
-  l8 = j0;
-  j1 = l7;
-  j2 = 60ull;
-  j1 += j2;
-  i1 = (u32)(j1);
-  i1 = i32_load16_u(j1);
+  l7 = j0;
+  i1 = l17;
   i2 = 4294967295u;
   i1 += i2;
-  l25 = i1;
+  l24 = i1;
   j2 = p2;
   j3 = p1;
   j2 += j3;
   i2 = (u32)(j2);
   i1 += i2;
-  l20 = i1;
+  l18 = i1;
   i2 = 65535u;
   i1 &= i2;
-  i2 = l23;
+  i2 = l21;
   i1 >>= (i2 & 31);
   i2 = 1u;
   i1 &= i2;
-  i2 = l20;
-  i3 = l24;
+  i2 = l18;
+  i3 = l22;
   i2 *= i3;
   i1 += i2;
   j1 = (u64)(i1);
@@ -8423,27 +8382,31 @@ static void f6(module *self, u64 p0, u64 p1, u64 p2, u64 p3) {
   j0 += j1;
   i0 = (u32)(j0);
   i0 = i32_load(j0);
-  l22 = i0;
+  l16 = i0;
+  j0 = l4;
+  i0 = (u32)(j0);
+  i0 = i32_load(j0 + 212u);
+  l23 = i0;
   j0 = p2;
   l5 = j0;
   L15: 
-    j0 = l8;
-    i1 = l25;
+    j0 = l7;
+    i1 = l24;
     j2 = p1;
     j3 = l5;
     j2 += j3;
     i2 = (u32)(j2);
     i1 += i2;
-    l20 = i1;
+    l18 = i1;
     i2 = 65535u;
     i1 &= i2;
-    l21 = i1;
-    i2 = l23;
+    l20 = i1;
+    i2 = l21;
     i1 >>= (i2 & 31);
     i2 = 1u;
     i1 &= i2;
-    i2 = l20;
-    i3 = l24;
+    i2 = l18;
+    i3 = l22;
     i2 *= i3;
     i1 += i2;
     j1 = (u64)(i1);
@@ -8454,25 +8417,25 @@ static void f6(module *self, u64 p0, u64 p1, u64 p2, u64 p3) {
     j0 += j1;
     i0 = (u32)(j0);
     i0 = i32_load16_u(j0);
-    i1 = l22;
+    i1 = l16;
     i2 = 65535u;
     i1 &= i2;
     i0 = i0 == i1;
     if (i0) {goto B16;}
     j0 = l5;
-    l7 = j0;
+    l8 = j0;
     goto B14;
     B16:;
-    i0 = l18;
-    i1 = l21;
+    i0 = l23;
+    i1 = l20;
     i0 = i0 != i1;
     if (i0) {goto B17;}
     j0 = l5;
-    l7 = j0;
+    l8 = j0;
     goto B14;
     B17:;
     j0 = 0ull;
-    l7 = j0;
+    l8 = j0;
     j0 = l5;
     j1 = 18446744073709551615ull;
     j0 += j1;
@@ -8481,22 +8444,28 @@ static void f6(module *self, u64 p0, u64 p1, u64 p2, u64 p3) {
     i0 = j0 != j1;
     if (i0) {goto L15;}
   B14:;
+  j0 = 0ull;
+  l7 = j0;
+  j0 = l4;
+  i0 = (u32)(j0);
+  j1 = 0ull;
+  i64_store(j0 + 176, j1);
   j0 = p0;
   j1 = 24ull;
   j0 += j1;
   i0 = (u32)(j0);
   j0 = i64_load(j0);
   l5 = j0;
-  j1 = 512ull;
+  j1 = 256ull;
   j0 += j1;
-  l9 = j0;
+  l13 = j0;
   j1 = p0;
   j2 = 16ull;
   j1 += j2;
   i1 = (u32)(j1);
   j1 = i64_load(j1);
-  l10 = j1;
-  j2 = 49ull;
+  l14 = j1;
+  j2 = 42ull;
   j1 += j2;
   i1 = (u32)(j1);
   i1 = i32_load8_u(j1);
@@ -8505,51 +8474,78 @@ static void f6(module *self, u64 p0, u64 p1, u64 p2, u64 p3) {
   j2 += j3;
   i2 = (u32)(j2);
   i2 = i32_load8_u(j2);
-  l20 = i2;
+  l24 = i2;
   i1 &= i2;
   j1 = (u64)(i1);
   j2 = 255ull;
   j1 &= j2;
-  l8 = j1;
+  l6 = j1;
   j0 += j1;
   i0 = (u32)(j0);
   j0 = i64_load8_u(j0);
-  l11 = j0;
-  j1 = 16ull;
+  j1 = 8ull;
   j0 <<= (j1 & 63);
   j1 = l5;
-  j2 = 256ull;
-  j1 += j2;
-  l12 = j1;
-  j2 = l8;
+  j2 = l6;
   j1 += j2;
   i1 = (u32)(j1);
   j1 = i64_load8_u(j1);
-  j2 = 8ull;
-  j1 <<= (j2 & 63);
-  j2 = l5;
-  j3 = l8;
-  j2 += j3;
-  i2 = (u32)(j2);
-  j2 = i64_load8_u(j2);
-  j1 |= j2;
-  l8 = j1;
   j0 |= j1;
-  l13 = j0;
+  l9 = j0;
+  j1 = l5;
+  j2 = 512ull;
+  j1 += j2;
+  l15 = j1;
+  j2 = l6;
+  j1 += j2;
+  i1 = (u32)(j1);
+  j1 = i64_load8_u(j1);
+  l10 = j1;
+  j2 = 16ull;
+  j1 <<= (j2 & 63);
+  j0 |= j1;
+  l11 = j0;
   j1 = 16777217ull;
   j0 *= j1;
-  j1 = l8;
+  j1 = l9;
   j2 = 48ull;
   j1 <<= (j2 & 63);
   j0 |= j1;
   l6 = j0;
-  j0 = l9;
-  i1 = l20;
-  j2 = l10;
-  j3 = 42ull;
-  j2 += j3;
-  i2 = (u32)(j2);
-  i2 = i32_load8_u(j2);
+  j0 = l11;
+  j1 = 8ull;
+  j0 <<= (j1 & 63);
+  j1 = l10;
+  j0 |= j1;
+  i0 = (u32)(j0);
+  l18 = i0;
+  j0 = p2;
+  j1 = l8;
+  j2 = 1ull;
+  j1 += j2;
+  l12 = j1;
+  i0 = j0 < j1;
+  l20 = i0;
+  j0 = l4;
+  i0 = (u32)(j0);
+  i0 = i32_load8_u(j0 + 216u);
+  i1 = 7u;
+  i0 &= i1;
+  i0 = !(i0);
+  if (i0) {goto B19;}
+  j0 = l6;
+  l5 = j0;
+  i0 = l18;
+  l24 = i0;
+  goto B18;
+  B19:;
+  j0 = l15;
+  j1 = l14;
+  j2 = 49ull;
+  j1 += j2;
+  i1 = (u32)(j1);
+  i1 = i32_load8_u(j1);
+  i2 = l24;
   i1 &= i2;
   j1 = (u64)(i1);
   j2 = 255ull;
@@ -8561,7 +8557,7 @@ static void f6(module *self, u64 p0, u64 p1, u64 p2, u64 p3) {
   l9 = j0;
   j1 = 16ull;
   j0 <<= (j1 & 63);
-  j1 = l12;
+  j1 = l13;
   j2 = l8;
   j1 += j2;
   i1 = (u32)(j1);
@@ -8576,75 +8572,103 @@ static void f6(module *self, u64 p0, u64 p1, u64 p2, u64 p3) {
   j1 |= j2;
   l5 = j1;
   j0 |= j1;
-  l10 = j0;
+  l8 = j0;
   j1 = 16777217ull;
   j0 *= j1;
   j1 = l5;
   j2 = 48ull;
   j1 <<= (j2 & 63);
   j0 |= j1;
-  l8 = j0;
-  j0 = l13;
-  j1 = 8ull;
-  j0 <<= (j1 & 63);
-  j1 = l11;
-  j0 |= j1;
-  i0 = (u32)(j0);
-  l19 = i0;
-  j0 = l10;
+  l5 = j0;
+  j1 = l6;
+  j2 = l4;
+  i2 = (u32)(j2);
+  i2 = i32_load8_u(j2 + 217u);
+  i3 = 7u;
+  i2 = i2 == i3;
+  l16 = i2;
+  j0 = i2 ? j0 : j1;
+  l6 = j0;
+  j0 = l8;
   j1 = 8ull;
   j0 <<= (j1 & 63);
   j1 = l9;
   j0 |= j1;
   i0 = (u32)(j0);
-  l21 = i0;
-  i0 = 7u;
-  l32 = i0;
-  j0 = p3;
-  l5 = j0;
+  l24 = i0;
+  i1 = l18;
+  i2 = l16;
+  i0 = i2 ? i0 : i1;
+  l18 = i0;
+  B18:;
   j0 = p2;
-  j1 = l7;
-  j2 = 1ull;
-  j1 += j2;
-  l14 = j1;
-  j2 = p2;
-  j3 = l14;
-  i2 = j2 < j3;
+  j1 = l12;
+  i2 = l20;
   j0 = i2 ? j0 : j1;
-  l15 = j0;
-  l9 = j0;
-  L18: 
-    i0 = l32;
-    i1 = 255u;
-    i0 &= i1;
+  l10 = j0;
+  j0 = l4;
+  i0 = (u32)(j0);
+  j1 = l4;
+  i1 = (u32)(j1);
+  i1 = i32_load16_u(j1 + 220u);
+  i32_store16(j0 + 176, i1);
+  j0 = l4;
+  i0 = (u32)(j0);
+  i1 = l18;
+  i32_store(j0 + 168, i1);
+  j0 = l4;
+  i0 = (u32)(j0);
+  j1 = l6;
+  i64_store(j0 + 160, j1);
+  j0 = l4;
+  i0 = (u32)(j0);
+  i1 = l24;
+  i32_store(j0 + 152, i1);
+  j0 = l4;
+  i0 = (u32)(j0);
+  j1 = l5;
+  i64_store(j0 + 144, j1);
+  j0 = l4;
+  i0 = (u32)(j0);
+  i1 = 7u;
+  i32_store8(j0 + 136, i1);
+  i0 = l17;
+  j1 = p1;
+  i1 = (u32)(j1);
+  i0 += i1;
+  l16 = i0;
+  j0 = l4;
+  i0 = (u32)(j0);
+  i0 = i32_load8_u(j0 + 222u);
+  l17 = i0;
+  j0 = 0ull;
+  l8 = j0;
+  j0 = 0ull;
+  p1 = j0;
+  L20: 
+    j0 = l4;
+    i0 = (u32)(j0);
+    i0 = i32_load8_u(j0 + 136u);
     j1 = p0;
     i1 = (u32)(j1);
     j1 = i64_load(j1);
     i1 = (u32)(j1);
     j1 = i64_load(j1);
-    l10 = j1;
-    j2 = p0;
-    j3 = 8ull;
-    j2 += j3;
-    i2 = (u32)(j2);
-    j2 = i64_load(j2);
-    j3 = 60ull;
-    j2 += j3;
-    i2 = (u32)(j2);
-    i2 = i32_load16_u(j2);
+    l9 = j1;
+    i2 = l16;
     j3 = p1;
     i3 = (u32)(j3);
     i2 += i3;
-    l20 = i2;
+    l18 = i2;
     i3 = 65535u;
     i2 &= i3;
-    l22 = i2;
-    i3 = l23;
+    l20 = i2;
+    i3 = l21;
     i2 >>= (i3 & 31);
     i3 = 1u;
     i2 &= i3;
-    i3 = l20;
-    i4 = l24;
+    i3 = l18;
+    i4 = l22;
     i3 *= i4;
     i2 += i3;
     j2 = (u64)(i2);
@@ -8655,229 +8679,108 @@ static void f6(module *self, u64 p0, u64 p1, u64 p2, u64 p3) {
     j1 += j2;
     i1 = (u32)(j1);
     i1 = i32_load(j1);
-    l33 = i1;
+    l18 = i1;
     i2 = 8u;
     i1 >>= (i2 & 31);
-    l25 = i1;
+    l24 = i1;
     i2 = 255u;
     i1 &= i2;
     i0 = i0 == i1;
-    if (i0) {goto B19;}
-    j0 = p0;
-    j1 = 24ull;
+    if (i0) {goto B21;}
+    j0 = l4;
+    j1 = 136ull;
     j0 += j1;
-    i0 = (u32)(j0);
-    j0 = i64_load(j0);
-    l8 = j0;
-    j1 = 256ull;
-    j0 += j1;
-    l11 = j0;
-    j1 = l8;
-    j2 = 1796ull;
+    j1 = l4;
+    j2 = 204ull;
     j1 += j2;
-    i1 = (u32)(j1);
-    i1 = i32_load8_u(j1);
-    l20 = i1;
     j2 = p0;
     j3 = 16ull;
     j2 += j3;
     i2 = (u32)(j2);
     j2 = i64_load(j2);
-    j3 = 42ull;
-    j2 += j3;
-    l12 = j2;
-    i3 = l25;
-    j3 = (u64)(i3);
-    j4 = 15ull;
-    j3 &= j4;
-    j2 += j3;
-    i2 = (u32)(j2);
-    i2 = i32_load8_u(j2);
-    i1 &= i2;
-    j1 = (u64)(i1);
-    j2 = 255ull;
-    j1 &= j2;
-    l7 = j1;
+    j3 = p0;
+    j4 = 24ull;
+    j3 += j4;
+    i3 = (u32)(j3);
+    j3 = i64_load(j3);
+    i4 = l24;
+    f10(self, j0, j1, j2, j3, i4);
+    B21:;
+    i0 = l23;
+    i1 = l20;
+    i0 = i0 != i1;
+    if (i0) {goto B23;}
+    j0 = p0;
+    j1 = 16ull;
     j0 += j1;
     i0 = (u32)(j0);
-    j0 = i64_load8_u(j0);
-    j1 = 8ull;
-    j0 <<= (j1 & 63);
-    j1 = l8;
-    j2 = l7;
+    j0 = i64_load(j0);
+    j1 = p0;
+    j2 = 24ull;
     j1 += j2;
     i1 = (u32)(j1);
-    j1 = i64_load8_u(j1);
-    j0 |= j1;
-    l6 = j0;
-    j1 = l8;
-    j2 = 512ull;
-    j1 += j2;
-    l13 = j1;
-    j2 = l7;
-    j1 += j2;
-    i1 = (u32)(j1);
-    j1 = i64_load8_u(j1);
-    l16 = j1;
-    j2 = 16ull;
-    j1 <<= (j2 & 63);
-    j0 |= j1;
-    l17 = j0;
-    j1 = 16777217ull;
-    j0 *= j1;
-    j1 = l6;
-    j2 = 48ull;
-    j1 <<= (j2 & 63);
-    j0 |= j1;
-    l6 = j0;
-    j0 = l11;
-    j1 = l12;
-    i2 = l25;
-    i3 = 240u;
-    i2 &= i3;
-    i3 = 4u;
-    i2 >>= (i3 & 31);
-    i3 = l26;
-    i2 &= i3;
-    j2 = (u64)(i2);
-    j1 += j2;
-    i1 = (u32)(j1);
-    i1 = i32_load8_u(j1);
-    i2 = l20;
-    i1 &= i2;
-    j1 = (u64)(i1);
-    j2 = 255ull;
-    j1 &= j2;
-    l7 = j1;
-    j0 += j1;
-    i0 = (u32)(j0);
-    j0 = i64_load8_u(j0);
-    j1 = 8ull;
-    j0 <<= (j1 & 63);
-    j1 = l8;
-    j2 = l7;
-    j1 += j2;
-    i1 = (u32)(j1);
-    j1 = i64_load8_u(j1);
-    j0 |= j1;
-    l8 = j0;
-    j1 = l13;
-    j2 = l7;
-    j1 += j2;
-    i1 = (u32)(j1);
-    j1 = i64_load8_u(j1);
-    l7 = j1;
-    j2 = 16ull;
-    j1 <<= (j2 & 63);
-    j0 |= j1;
-    l11 = j0;
-    j1 = 16777217ull;
-    j0 *= j1;
-    j1 = l8;
-    j2 = 48ull;
-    j1 <<= (j2 & 63);
-    j0 |= j1;
-    l8 = j0;
-    j0 = l17;
-    j1 = 8ull;
-    j0 <<= (j1 & 63);
-    j1 = l16;
-    j0 |= j1;
-    i0 = (u32)(j0);
-    l19 = i0;
-    j0 = l11;
-    j1 = 8ull;
-    j0 <<= (j1 & 63);
+    j1 = i64_load(j1);
+    i2 = l24;
+    j3 = p3;
+    j4 = l8;
+    f12(self, j0, j1, i2, j3, j4);
+    goto B22;
+    B23:;
+    j0 = p3;
     j1 = l7;
-    j0 |= j1;
-    i0 = (u32)(j0);
-    l21 = i0;
-    i0 = l25;
-    l32 = i0;
-    B19:;
-    i0 = 511u;
-    l20 = i0;
-    i0 = l18;
-    i1 = l22;
-    i0 = i0 == i1;
-    if (i0) {goto B20;}
-    i0 = 0u;
-    l20 = i0;
-    i0 = l31;
-    i1 = l25;
-    i0 &= i1;
-    i1 = 255u;
-    i0 &= i1;
-    if (i0) {goto B20;}
-    i0 = 511u;
-    l20 = i0;
-    i0 = l25;
-    i1 = 119u;
-    i0 &= i1;
-    i1 = l30;
-    i2 = 255u;
-    i1 &= i2;
-    i0 = i0 == i1;
-    if (i0) {goto B20;}
-    j0 = l10;
-    i1 = l29;
-    i2 = l28;
-    i3 = l25;
-    i4 = 8u;
-    i3 &= i4;
-    i1 = i3 ? i1 : i2;
-    i2 = l33;
-    i3 = 5u;
-    i2 <<= (i3 & 31);
-    i3 = 8160u;
-    i2 &= i3;
-    i1 += i2;
-    j1 = (u64)(i1);
-    j2 = 65535ull;
-    j1 &= j2;
-    j2 = 2ull;
-    j1 <<= (j2 & 63);
     j0 += j1;
-    i0 = (u32)(j0);
-    i0 = i32_load(j0);
-    i1 = 16u;
-    i0 >>= (i1 & 31);
-    l20 = i0;
-    i1 = 1u;
-    i0 <<= (i1 & 31);
-    i1 = l33;
-    i2 = 224u;
-    i1 &= i2;
-    i2 = 5u;
-    i1 >>= (i2 & 31);
-    i2 = l27;
-    i3 = 255u;
-    i2 &= i3;
-    i1 = i1 == i2;
-    i2 = l20;
-    i1 &= i2;
-    i0 |= i1;
-    i1 = 511u;
-    i0 &= i1;
-    l20 = i0;
-    B20:;
-    j0 = l5;
+    l5 = j0;
     j1 = 24ull;
     j0 += j1;
     i0 = (u32)(j0);
-    j1 = l6;
-    j2 = l8;
-    i3 = l20;
-    i4 = 1u;
+    j1 = l4;
+    i1 = (u32)(j1);
+    j1 = i64_load(j1 + 160u);
+    l6 = j1;
+    j2 = l4;
+    i2 = (u32)(j2);
+    j2 = i64_load(j2 + 144u);
+    l11 = j2;
+    j3 = l6;
+    j4 = l9;
+    j5 = l4;
+    i5 = (u32)(j5);
+    i5 = i32_load16_u(j5 + 176u);
+    i6 = l18;
+    i7 = 5u;
+    i6 <<= (i7 & 31);
+    i7 = 8160u;
+    i6 &= i7;
+    i5 += i6;
+    j5 = (u64)(i5);
+    j6 = 65535ull;
+    j5 &= j6;
+    j6 = 2ull;
+    j5 <<= (j6 & 63);
+    j4 += j5;
+    i4 = (u32)(j4);
+    i4 = i32_load(j4);
+    l20 = i4;
+    i5 = 65536u;
+    i4 &= i5;
+    j2 = i4 ? j2 : j3;
+    i3 = l18;
+    i4 = 224u;
     i3 &= i4;
+    i4 = 5u;
+    i3 >>= (i4 & 31);
+    i4 = l17;
+    i5 = 255u;
+    i4 &= i5;
+    i3 = i3 != i4;
     j1 = i3 ? j1 : j2;
-    l7 = j1;
+    l9 = j1;
     i64_store8(j0, j1);
     j0 = l5;
     j1 = 26ull;
     j0 += j1;
     i0 = (u32)(j0);
-    j1 = l7;
+    j1 = l9;
     j2 = 16ull;
     j1 >>= (j2 & 63);
     i64_store8(j0, j1);
@@ -8885,99 +8788,107 @@ static void f6(module *self, u64 p0, u64 p1, u64 p2, u64 p3) {
     j1 = 25ull;
     j0 += j1;
     i0 = (u32)(j0);
-    j1 = l7;
+    j1 = l9;
     j2 = 8ull;
     j1 >>= (j2 & 63);
     i64_store8(j0, j1);
-    j0 = l5;
-    j1 = 8ull;
-    j0 += j1;
-    i0 = (u32)(j0);
-    i1 = l20;
-    i2 = 5u;
-    i1 >>= (i2 & 31);
-    j1 = (u64)(i1);
-    l7 = j1;
-    j2 = 2ull;
-    j1 <<= (j2 & 63);
-    i1 = (u32)(j1);
-    i1 = i32_load(j1 + 1048704u);
-    i2 = l21;
-    i3 = l19;
-    i2 ^= i3;
-    l25 = i2;
-    i1 &= i2;
-    i2 = l21;
-    i1 ^= i2;
-    i32_store(j0, i1);
-    j0 = l5;
-    i0 = (u32)(j0);
-    j1 = l7;
-    j2 = 3ull;
-    j1 <<= (j2 & 63);
-    i1 = (u32)(j1);
-    j1 = i64_load(j1 + 1048576u);
-    j2 = l8;
-    j3 = l6;
-    j2 ^= j3;
-    l7 = j2;
-    j1 &= j2;
-    j2 = l8;
-    j1 ^= j2;
-    i64_store(j0, j1);
     j0 = l5;
     j1 = 20ull;
     j0 += j1;
     i0 = (u32)(j0);
     i1 = l20;
-    i2 = 1u;
+    i2 = 16u;
     i1 >>= (i2 & 31);
-    i2 = 15u;
-    i1 &= i2;
     j1 = (u64)(i1);
-    l10 = j1;
+    j2 = 15ull;
+    j1 &= j2;
+    l9 = j1;
     j2 = 2ull;
     j1 <<= (j2 & 63);
     i1 = (u32)(j1);
     i1 = i32_load(j1 + 1048704u);
-    i2 = l25;
+    j2 = l4;
+    i2 = (u32)(j2);
+    i2 = i32_load(j2 + 152u);
+    j3 = l4;
+    i3 = (u32)(j3);
+    i3 = i32_load(j3 + 168u);
+    l18 = i3;
+    i2 ^= i3;
+    l24 = i2;
     i1 &= i2;
-    i2 = l21;
+    i2 = l18;
     i1 ^= i2;
     i32_store(j0, i1);
     j0 = l5;
     j1 = 12ull;
     j0 += j1;
     i0 = (u32)(j0);
-    j1 = l10;
-    j2 = 3ull;
-    j1 <<= (j2 & 63);
-    i1 = (u32)(j1);
-    j1 = i64_load(j1 + 1048576u);
-    j2 = l7;
-    j1 &= j2;
-    j2 = l8;
+    j1 = l6;
+    j2 = l9;
+    j3 = 3ull;
+    j2 <<= (j3 & 63);
+    i2 = (u32)(j2);
+    j2 = i64_load(j2 + 1048576u);
+    j3 = l11;
+    j4 = l6;
+    j3 ^= j4;
+    l9 = j3;
+    j2 &= j3;
     j1 ^= j2;
     i64_store(j0, j1);
-    j0 = p1;
-    j1 = 1ull;
-    j0 += j1;
-    p1 = j0;
     j0 = l5;
+    j1 = 8ull;
+    j0 += j1;
+    i0 = (u32)(j0);
+    i1 = l18;
+    i2 = l20;
+    i3 = 20u;
+    i2 >>= (i3 & 31);
+    j2 = (u64)(i2);
+    j3 = 15ull;
+    j2 &= j3;
+    l11 = j2;
+    j3 = 2ull;
+    j2 <<= (j3 & 63);
+    i2 = (u32)(j2);
+    i2 = i32_load(j2 + 1048704u);
+    i3 = l24;
+    i2 &= i3;
+    i1 ^= i2;
+    i32_store(j0, i1);
+    j0 = l5;
+    i0 = (u32)(j0);
+    j1 = l6;
+    j2 = l11;
+    j3 = 3ull;
+    j2 <<= (j3 & 63);
+    i2 = (u32)(j2);
+    j2 = i64_load(j2 + 1048576u);
+    j3 = l9;
+    j2 &= j3;
+    j1 ^= j2;
+    i64_store(j0, j1);
+    B22:;
+    j0 = l7;
     j1 = 27ull;
     j0 += j1;
-    l5 = j0;
-    j0 = l9;
-    j1 = 18446744073709551615ull;
+    l7 = j0;
+    j0 = l8;
+    j1 = 9ull;
     j0 += j1;
-    l9 = j0;
-    j1 = 0ull;
+    l8 = j0;
+    j0 = l10;
+    j1 = p1;
+    j2 = 1ull;
+    j1 += j2;
+    p1 = j1;
     i0 = j0 != j1;
-    if (i0) {goto L18;}
+    if (i0) {goto L20;}
   j0 = l4;
   i0 = (u32)(j0);
   j1 = p3;
-  j2 = l15;
+  j2 = l10;
   j3 = 27ull;
   j2 *= j3;
   j1 += j2;
@@ -8986,219 +8897,219 @@ static void f6(module *self, u64 p0, u64 p1, u64 p2, u64 p3) {
   l5 = j1;
   i1 = (u32)(j1);
   i1 = i32_load(j1 + 23u);
-  i32_store(j0 + 167, i1);
+  i32_store(j0 + 159, i1);
   j0 = l4;
   i0 = (u32)(j0);
   j1 = l5;
   i1 = (u32)(j1);
   j1 = i64_load(j1 + 16u);
-  i64_store(j0 + 160, j1);
-  j0 = l4;
-  i0 = (u32)(j0);
-  j1 = l5;
-  i1 = (u32)(j1);
-  j1 = i64_load(j1 + 8u);
   i64_store(j0 + 152, j1);
   j0 = l4;
   i0 = (u32)(j0);
   j1 = l5;
   i1 = (u32)(j1);
-  j1 = i64_load(j1);
+  j1 = i64_load(j1 + 8u);
   i64_store(j0 + 144, j1);
-  j0 = l14;
+  j0 = l4;
+  i0 = (u32)(j0);
+  j1 = l5;
+  i1 = (u32)(j1);
+  j1 = i64_load(j1);
+  i64_store(j0 + 136, j1);
+  j0 = l12;
   j1 = p2;
   i0 = j0 >= j1;
   if (i0) {goto B0;}
   j0 = p2;
-  j1 = l15;
+  j1 = l10;
   j0 -= j1;
-  p1 = j0;
+  p0 = j0;
   j0 = p3;
-  j1 = l15;
+  j1 = l10;
   j2 = 27ull;
   j1 *= j2;
   j0 += j1;
   l5 = j0;
   j0 = l4;
   i0 = (u32)(j0);
-  i0 = i32_load8_u(j0 + 170u);
-  l20 = i0;
-  j0 = l4;
-  i0 = (u32)(j0);
-  i0 = i32_load8_u(j0 + 169u);
-  l21 = i0;
-  j0 = l4;
-  i0 = (u32)(j0);
-  i0 = i32_load8_u(j0 + 168u);
-  l25 = i0;
-  j0 = l4;
-  i0 = (u32)(j0);
-  i0 = i32_load8_u(j0 + 167u);
-  l22 = i0;
-  j0 = l4;
-  i0 = (u32)(j0);
-  i0 = i32_load8_u(j0 + 166u);
-  l23 = i0;
-  j0 = l4;
-  i0 = (u32)(j0);
-  i0 = i32_load8_u(j0 + 165u);
-  l24 = i0;
-  j0 = l4;
-  i0 = (u32)(j0);
-  i0 = i32_load8_u(j0 + 164u);
+  i0 = i32_load8_u(j0 + 162u);
   l18 = i0;
   j0 = l4;
   i0 = (u32)(j0);
-  i0 = i32_load8_u(j0 + 163u);
-  l19 = i0;
-  j0 = l4;
-  i0 = (u32)(j0);
-  i0 = i32_load8_u(j0 + 162u);
-  l32 = i0;
-  j0 = l4;
-  i0 = (u32)(j0);
   i0 = i32_load8_u(j0 + 161u);
-  l33 = i0;
+  l20 = i0;
   j0 = l4;
   i0 = (u32)(j0);
   i0 = i32_load8_u(j0 + 160u);
-  l26 = i0;
+  l24 = i0;
   j0 = l4;
   i0 = (u32)(j0);
   i0 = i32_load8_u(j0 + 159u);
-  l31 = i0;
+  l21 = i0;
   j0 = l4;
   i0 = (u32)(j0);
   i0 = i32_load8_u(j0 + 158u);
-  l30 = i0;
+  l22 = i0;
   j0 = l4;
   i0 = (u32)(j0);
   i0 = i32_load8_u(j0 + 157u);
-  l27 = i0;
+  l23 = i0;
   j0 = l4;
   i0 = (u32)(j0);
   i0 = i32_load8_u(j0 + 156u);
-  l28 = i0;
+  l16 = i0;
   j0 = l4;
   i0 = (u32)(j0);
   i0 = i32_load8_u(j0 + 155u);
-  l29 = i0;
+  l17 = i0;
   j0 = l4;
   i0 = (u32)(j0);
   i0 = i32_load8_u(j0 + 154u);
-  l34 = i0;
+  l19 = i0;
   j0 = l4;
   i0 = (u32)(j0);
   i0 = i32_load8_u(j0 + 153u);
-  l35 = i0;
+  l25 = i0;
   j0 = l4;
   i0 = (u32)(j0);
   i0 = i32_load8_u(j0 + 152u);
-  l36 = i0;
+  l26 = i0;
   j0 = l4;
   i0 = (u32)(j0);
   i0 = i32_load8_u(j0 + 151u);
-  l37 = i0;
+  l27 = i0;
   j0 = l4;
   i0 = (u32)(j0);
   i0 = i32_load8_u(j0 + 150u);
-  l38 = i0;
+  l28 = i0;
   j0 = l4;
   i0 = (u32)(j0);
   i0 = i32_load8_u(j0 + 149u);
-  l39 = i0;
+  l29 = i0;
   j0 = l4;
   i0 = (u32)(j0);
   i0 = i32_load8_u(j0 + 148u);
-  l40 = i0;
+  l30 = i0;
   j0 = l4;
   i0 = (u32)(j0);
   i0 = i32_load8_u(j0 + 147u);
-  l41 = i0;
+  l31 = i0;
   j0 = l4;
   i0 = (u32)(j0);
   i0 = i32_load8_u(j0 + 146u);
-  l42 = i0;
+  l32 = i0;
   j0 = l4;
   i0 = (u32)(j0);
   i0 = i32_load8_u(j0 + 145u);
-  l43 = i0;
+  l33 = i0;
   j0 = l4;
   i0 = (u32)(j0);
   i0 = i32_load8_u(j0 + 144u);
-  l44 = i0;
-  L21: 
+  l34 = i0;
+  j0 = l4;
+  i0 = (u32)(j0);
+  i0 = i32_load8_u(j0 + 143u);
+  l35 = i0;
+  j0 = l4;
+  i0 = (u32)(j0);
+  i0 = i32_load8_u(j0 + 142u);
+  l36 = i0;
+  j0 = l4;
+  i0 = (u32)(j0);
+  i0 = i32_load8_u(j0 + 141u);
+  l37 = i0;
+  j0 = l4;
+  i0 = (u32)(j0);
+  i0 = i32_load8_u(j0 + 140u);
+  l38 = i0;
+  j0 = l4;
+  i0 = (u32)(j0);
+  i0 = i32_load8_u(j0 + 139u);
+  l39 = i0;
+  j0 = l4;
+  i0 = (u32)(j0);
+  i0 = i32_load8_u(j0 + 138u);
+  l40 = i0;
+  j0 = l4;
+  i0 = (u32)(j0);
+  i0 = i32_load8_u(j0 + 137u);
+  l41 = i0;
+  j0 = l4;
+  i0 = (u32)(j0);
+  i0 = i32_load8_u(j0 + 136u);
+  l42 = i0;
+  L24: 
     j0 = l5;
     j1 = l4;
-    j2 = 144ull;
+    j2 = 136ull;
     j1 += j2;
     j0 -= j1;
     j1 = 26ull;
     i0 = j0 > j1;
-    if (i0) {goto B23;}
+    if (i0) {goto B26;}
     j0 = l5;
     i0 = (u32)(j0);
-    i1 = l44;
+    i1 = l42;
     i32_store8(j0, i1);
     j0 = l5;
     j1 = 26ull;
-    j0 += j1;
-    i0 = (u32)(j0);
-    i1 = l20;
-    i32_store8(j0, i1);
-    j0 = l5;
-    j1 = 25ull;
-    j0 += j1;
-    i0 = (u32)(j0);
-    i1 = l21;
-    i32_store8(j0, i1);
-    j0 = l5;
-    j1 = 24ull;
-    j0 += j1;
-    i0 = (u32)(j0);
-    i1 = l25;
-    i32_store8(j0, i1);
-    j0 = l5;
-    j1 = 23ull;
-    j0 += j1;
-    i0 = (u32)(j0);
-    i1 = l22;
-    i32_store8(j0, i1);
-    j0 = l5;
-    j1 = 22ull;
-    j0 += j1;
-    i0 = (u32)(j0);
-    i1 = l23;
-    i32_store8(j0, i1);
-    j0 = l5;
-    j1 = 21ull;
-    j0 += j1;
-    i0 = (u32)(j0);
-    i1 = l24;
-    i32_store8(j0, i1);
-    j0 = l5;
-    j1 = 20ull;
     j0 += j1;
     i0 = (u32)(j0);
     i1 = l18;
     i32_store8(j0, i1);
     j0 = l5;
+    j1 = 25ull;
+    j0 += j1;
+    i0 = (u32)(j0);
+    i1 = l20;
+    i32_store8(j0, i1);
+    j0 = l5;
+    j1 = 24ull;
+    j0 += j1;
+    i0 = (u32)(j0);
+    i1 = l24;
+    i32_store8(j0, i1);
+    j0 = l5;
+    j1 = 23ull;
+    j0 += j1;
+    i0 = (u32)(j0);
+    i1 = l21;
+    i32_store8(j0, i1);
+    j0 = l5;
+    j1 = 22ull;
+    j0 += j1;
+    i0 = (u32)(j0);
+    i1 = l22;
+    i32_store8(j0, i1);
+    j0 = l5;
+    j1 = 21ull;
+    j0 += j1;
+    i0 = (u32)(j0);
+    i1 = l23;
+    i32_store8(j0, i1);
+    j0 = l5;
+    j1 = 20ull;
+    j0 += j1;
+    i0 = (u32)(j0);
+    i1 = l16;
+    i32_store8(j0, i1);
+    j0 = l5;
     j1 = 19ull;
     j0 += j1;
     i0 = (u32)(j0);
-    i1 = l19;
+    i1 = l17;
     i32_store8(j0, i1);
     j0 = l5;
     j1 = 18ull;
     j0 += j1;
     i0 = (u32)(j0);
-    i1 = l32;
+    i1 = l19;
     i32_store8(j0, i1);
     j0 = l5;
     j1 = 17ull;
     j0 += j1;
     i0 = (u32)(j0);
-    i1 = l33;
+    i1 = l25;
     i32_store8(j0, i1);
     j0 = l5;
     j1 = 16ull;
@@ -9210,133 +9121,133 @@ static void f6(module *self, u64 p0, u64 p1, u64 p2, u64 p3) {
     j1 = 15ull;
     j0 += j1;
     i0 = (u32)(j0);
-    i1 = l31;
+    i1 = l27;
     i32_store8(j0, i1);
     j0 = l5;
     j1 = 14ull;
     j0 += j1;
     i0 = (u32)(j0);
-    i1 = l30;
+    i1 = l28;
     i32_store8(j0, i1);
     j0 = l5;
     j1 = 13ull;
     j0 += j1;
     i0 = (u32)(j0);
-    i1 = l27;
+    i1 = l29;
     i32_store8(j0, i1);
     j0 = l5;
     j1 = 12ull;
     j0 += j1;
     i0 = (u32)(j0);
-    i1 = l28;
+    i1 = l30;
     i32_store8(j0, i1);
     j0 = l5;
     j1 = 11ull;
     j0 += j1;
     i0 = (u32)(j0);
-    i1 = l29;
+    i1 = l31;
     i32_store8(j0, i1);
     j0 = l5;
     j1 = 10ull;
     j0 += j1;
     i0 = (u32)(j0);
-    i1 = l34;
+    i1 = l32;
     i32_store8(j0, i1);
     j0 = l5;
     j1 = 9ull;
     j0 += j1;
     i0 = (u32)(j0);
-    i1 = l35;
+    i1 = l33;
     i32_store8(j0, i1);
     j0 = l5;
     j1 = 8ull;
     j0 += j1;
     i0 = (u32)(j0);
-    i1 = l36;
+    i1 = l34;
     i32_store8(j0, i1);
     j0 = l5;
     j1 = 7ull;
     j0 += j1;
     i0 = (u32)(j0);
-    i1 = l37;
+    i1 = l35;
     i32_store8(j0, i1);
     j0 = l5;
     j1 = 6ull;
     j0 += j1;
     i0 = (u32)(j0);
-    i1 = l38;
+    i1 = l36;
     i32_store8(j0, i1);
     j0 = l5;
     j1 = 5ull;
     j0 += j1;
     i0 = (u32)(j0);
-    i1 = l39;
+    i1 = l37;
     i32_store8(j0, i1);
     j0 = l5;
     j1 = 4ull;
     j0 += j1;
     i0 = (u32)(j0);
-    i1 = l40;
+    i1 = l38;
     i32_store8(j0, i1);
     j0 = l5;
     j1 = 3ull;
     j0 += j1;
     i0 = (u32)(j0);
-    i1 = l41;
+    i1 = l39;
     i32_store8(j0, i1);
     j0 = l5;
     j1 = 2ull;
     j0 += j1;
     i0 = (u32)(j0);
-    i1 = l42;
+    i1 = l40;
     i32_store8(j0, i1);
     j0 = l5;
     j1 = 1ull;
     j0 += j1;
     i0 = (u32)(j0);
-    i1 = l43;
+    i1 = l41;
     i32_store8(j0, i1);
-    goto B22;
-    B23:;
+    goto B25;
+    B26:;
     j0 = l5;
     i0 = (u32)(j0);
     j1 = l4;
     i1 = (u32)(j1);
-    i1 = i32_load(j1 + 167u);
+    i1 = i32_load(j1 + 159u);
     i32_store(j0 + 23, i1);
     j0 = l5;
     i0 = (u32)(j0);
     j1 = l4;
     i1 = (u32)(j1);
-    j1 = i64_load(j1 + 160u);
+    j1 = i64_load(j1 + 152u);
     i64_store(j0 + 16, j1);
     j0 = l5;
     i0 = (u32)(j0);
     j1 = l4;
     i1 = (u32)(j1);
-    j1 = i64_load(j1 + 152u);
+    j1 = i64_load(j1 + 144u);
     i64_store(j0 + 8, j1);
     j0 = l5;
     i0 = (u32)(j0);
     j1 = l4;
     i1 = (u32)(j1);
-    j1 = i64_load(j1 + 144u);
+    j1 = i64_load(j1 + 136u);
     i64_store(j0, j1);
-    B22:;
+    B25:;
     j0 = l5;
     j1 = 27ull;
     j0 += j1;
     l5 = j0;
-    j0 = p1;
+    j0 = p0;
     j1 = 18446744073709551615ull;
     j0 += j1;
-    p1 = j0;
+    p0 = j0;
     j1 = 0ull;
     i0 = j0 != j1;
-    if (i0) {goto L21;}
+    if (i0) {goto L24;}
   B0:;
   j0 = l4;
-  j1 = 208ull;
+  j1 = 224ull;
   j0 += j1;
   self->g0 = j0;
 }
@@ -10191,7 +10102,434 @@ static void f9(module *self, u64 p0, u64 p1) {
   i32_store16(j0 + 6, i1);
 }
 
-static u32 f10(module *self, u64 p0, u64 p1, u64 p2, u64 p3) {
+static void f10(module *self, u64 p0, u64 p1, u64 p2, u64 p3, u32 p4) {
+  u32 l11 = 0, l12 = 0, l13 = 0;
+  u64 l5 = 0, l6 = 0, l7 = 0, l8 = 0, l9 = 0, l10 = 0;
+  u8 *m = self->memory;
+  u32 i0, i1, i2, i3, i4;
+  u64 j0, j1, j2, j3, j4;
+  j0 = p3;
+  j1 = 256ull;
+  j0 += j1;
+  l5 = j0;
+  j1 = p2;
+  j2 = 42ull;
+  j1 += j2;
+  l6 = j1;
+  j2 = p1;
+  j3 = 19ull;
+  j2 += j3;
+  i2 = (u32)(j2);
+  i2 = i32_load8_u(j2);
+  i3 = p4;
+  i4 = 255u;
+  i3 &= i4;
+  l11 = i3;
+  i4 = 4u;
+  i3 >>= (i4 & 31);
+  i2 &= i3;
+  j2 = (u64)(i2);
+  j1 += j2;
+  i1 = (u32)(j1);
+  i1 = i32_load8_u(j1);
+  j2 = p3;
+  j3 = 1796ull;
+  j2 += j3;
+  i2 = (u32)(j2);
+  i2 = i32_load8_u(j2);
+  l12 = i2;
+  i1 &= i2;
+  j1 = (u64)(i1);
+  j2 = 255ull;
+  j1 &= j2;
+  p2 = j1;
+  j0 += j1;
+  i0 = (u32)(j0);
+  j0 = i64_load8_u(j0);
+  j1 = 8ull;
+  j0 <<= (j1 & 63);
+  j1 = p3;
+  j2 = p2;
+  j1 += j2;
+  i1 = (u32)(j1);
+  j1 = i64_load8_u(j1);
+  j0 |= j1;
+  l7 = j0;
+  j1 = p3;
+  j2 = 512ull;
+  j1 += j2;
+  l8 = j1;
+  j2 = p2;
+  j1 += j2;
+  i1 = (u32)(j1);
+  j1 = i64_load8_u(j1);
+  l9 = j1;
+  j2 = 16ull;
+  j1 <<= (j2 & 63);
+  j0 |= j1;
+  l10 = j0;
+  j1 = 16777217ull;
+  j0 *= j1;
+  j1 = l7;
+  j2 = 48ull;
+  j1 <<= (j2 & 63);
+  j0 |= j1;
+  p2 = j0;
+  j0 = l10;
+  j1 = 8ull;
+  j0 <<= (j1 & 63);
+  j1 = l9;
+  j0 |= j1;
+  i0 = (u32)(j0);
+  l13 = i0;
+  i0 = l11;
+  j1 = p1;
+  j2 = 12ull;
+  j1 += j2;
+  i1 = (u32)(j1);
+  i1 = i32_load8_u(j1);
+  i0 &= i1;
+  i0 = !(i0);
+  if (i0) {goto B1;}
+  j0 = p2;
+  p3 = j0;
+  i0 = l13;
+  l11 = i0;
+  goto B0;
+  B1:;
+  j0 = l8;
+  j1 = l6;
+  i2 = p4;
+  j2 = (u64)(i2);
+  j3 = 15ull;
+  j2 &= j3;
+  j1 += j2;
+  i1 = (u32)(j1);
+  i1 = i32_load8_u(j1);
+  i2 = l12;
+  i1 &= i2;
+  j1 = (u64)(i1);
+  j2 = 255ull;
+  j1 &= j2;
+  l7 = j1;
+  j0 += j1;
+  i0 = (u32)(j0);
+  j0 = i64_load8_u(j0);
+  l9 = j0;
+  j1 = 16ull;
+  j0 <<= (j1 & 63);
+  j1 = l5;
+  j2 = l7;
+  j1 += j2;
+  i1 = (u32)(j1);
+  j1 = i64_load8_u(j1);
+  j2 = 8ull;
+  j1 <<= (j2 & 63);
+  j2 = p3;
+  j3 = l7;
+  j2 += j3;
+  i2 = (u32)(j2);
+  j2 = i64_load8_u(j2);
+  j1 |= j2;
+  p3 = j1;
+  j0 |= j1;
+  l7 = j0;
+  j1 = 16777217ull;
+  j0 *= j1;
+  j1 = p3;
+  j2 = 48ull;
+  j1 <<= (j2 & 63);
+  j0 |= j1;
+  p3 = j0;
+  j1 = p2;
+  i2 = p4;
+  i3 = 119u;
+  i2 &= i3;
+  j3 = p1;
+  j4 = 13ull;
+  j3 += j4;
+  i3 = (u32)(j3);
+  i3 = i32_load8_u(j3);
+  i2 = i2 == i3;
+  l12 = i2;
+  j0 = i2 ? j0 : j1;
+  p2 = j0;
+  j0 = l7;
+  j1 = 8ull;
+  j0 <<= (j1 & 63);
+  j1 = l9;
+  j0 |= j1;
+  i0 = (u32)(j0);
+  l11 = i0;
+  i1 = l13;
+  i2 = l12;
+  i0 = i2 ? i0 : i1;
+  l13 = i0;
+  B0:;
+  j0 = p1;
+  j1 = 6ull;
+  j2 = 8ull;
+  i3 = p4;
+  i4 = 8u;
+  i3 &= i4;
+  j1 = i3 ? j1 : j2;
+  j0 += j1;
+  j1 = 8ull;
+  j0 += j1;
+  i0 = (u32)(j0);
+  i0 = i32_load16_u(j0);
+  l12 = i0;
+  j0 = p0;
+  i0 = (u32)(j0);
+  i1 = 0u;
+  i32_store(j0 + 1, i1);
+  j0 = p0;
+  i0 = (u32)(j0);
+  i1 = p4;
+  i32_store8(j0, i1);
+  j0 = p0;
+  i0 = (u32)(j0);
+  i1 = 0u;
+  i32_store(j0 + 4, i1);
+  j0 = p0;
+  i0 = (u32)(j0);
+  i1 = 0u;
+  i32_store(j0 + 42, i1);
+  j0 = p0;
+  i0 = (u32)(j0);
+  i1 = l12;
+  i32_store16(j0 + 40, i1);
+  j0 = p0;
+  i0 = (u32)(j0);
+  i1 = 0u;
+  i32_store(j0 + 36, i1);
+  j0 = p0;
+  i0 = (u32)(j0);
+  i1 = l13;
+  i32_store(j0 + 32, i1);
+  j0 = p0;
+  i0 = (u32)(j0);
+  j1 = p2;
+  i64_store(j0 + 24, j1);
+  j0 = p0;
+  i0 = (u32)(j0);
+  i1 = 0u;
+  i32_store(j0 + 20, i1);
+  j0 = p0;
+  i0 = (u32)(j0);
+  i1 = l11;
+  i32_store(j0 + 16, i1);
+  j0 = p0;
+  i0 = (u32)(j0);
+  j1 = p3;
+  i64_store(j0 + 8, j1);
+  j0 = p0;
+  i0 = (u32)(j0);
+  i1 = 0u;
+  i32_store16(j0 + 46, i1);
+}
+
+static void f11(module *self, u64 p0, u64 p1, u32 p2, u64 p3, u64 p4) {
+  u8 *m = self->memory;
+  u32 i0, i1, i2, i3, i4;
+  u64 j0, j1, j2, j3, j4, j5;
+  j0 = p3;
+  j1 = p4;
+  j2 = 3ull;
+  j1 *= j2;
+  j0 += j1;
+  p4 = j0;
+  j1 = 12ull;
+  j0 += j1;
+  i0 = (u32)(j0);
+  j1 = p1;
+  j2 = p1;
+  j3 = 1796ull;
+  j2 += j3;
+  i2 = (u32)(j2);
+  i2 = i32_load8_u(j2);
+  j3 = p0;
+  i4 = p2;
+  j4 = (u64)(i4);
+  j5 = 15ull;
+  j4 &= j5;
+  j3 += j4;
+  j4 = 42ull;
+  j3 += j4;
+  i3 = (u32)(j3);
+  i3 = i32_load8_u(j3);
+  i2 &= i3;
+  j2 = (u64)(i2);
+  j3 = 255ull;
+  j2 &= j3;
+  j1 += j2;
+  p1 = j1;
+  j2 = 256ull;
+  j1 += j2;
+  i1 = (u32)(j1);
+  j1 = i64_load8_u(j1);
+  j2 = 8ull;
+  j1 <<= (j2 & 63);
+  j2 = p1;
+  i2 = (u32)(j2);
+  j2 = i64_load8_u(j2);
+  j1 |= j2;
+  p0 = j1;
+  j2 = p1;
+  j3 = 512ull;
+  j2 += j3;
+  i2 = (u32)(j2);
+  j2 = i64_load8_u(j2);
+  p1 = j2;
+  j3 = 16ull;
+  j2 <<= (j3 & 63);
+  j1 |= j2;
+  p3 = j1;
+  j2 = 16777217ull;
+  j1 *= j2;
+  j2 = p0;
+  j3 = 48ull;
+  j2 <<= (j3 & 63);
+  j1 |= j2;
+  p0 = j1;
+  i64_store(j0, j1);
+  j0 = p4;
+  i0 = (u32)(j0);
+  j1 = p0;
+  i64_store(j0, j1);
+  j0 = p4;
+  j1 = 20ull;
+  j0 += j1;
+  i0 = (u32)(j0);
+  j1 = p1;
+  j2 = p3;
+  j3 = 8ull;
+  j2 <<= (j3 & 63);
+  j1 |= j2;
+  i1 = (u32)(j1);
+  p2 = i1;
+  i32_store(j0, i1);
+  j0 = p4;
+  j1 = 8ull;
+  j0 += j1;
+  i0 = (u32)(j0);
+  i1 = p2;
+  i32_store(j0, i1);
+}
+
+static void f12(module *self, u64 p0, u64 p1, u32 p2, u64 p3, u64 p4) {
+  u64 l5 = 0;
+  u8 *m = self->memory;
+  u32 i0, i1, i2, i3, i4;
+  u64 j0, j1, j2, j3, j4, j5;
+  j0 = p3;
+  j1 = p4;
+  j2 = 3ull;
+  j1 *= j2;
+  j0 += j1;
+  p4 = j0;
+  j1 = 24ull;
+  j0 += j1;
+  i0 = (u32)(j0);
+  j1 = p1;
+  j2 = p1;
+  j3 = 1796ull;
+  j2 += j3;
+  i2 = (u32)(j2);
+  i2 = i32_load8_u(j2);
+  j3 = p0;
+  i4 = p2;
+  j4 = (u64)(i4);
+  j5 = 15ull;
+  j4 &= j5;
+  j3 += j4;
+  j4 = 42ull;
+  j3 += j4;
+  i3 = (u32)(j3);
+  i3 = i32_load8_u(j3);
+  i2 &= i3;
+  j2 = (u64)(i2);
+  j3 = 255ull;
+  j2 &= j3;
+  j1 += j2;
+  p1 = j1;
+  j2 = 256ull;
+  j1 += j2;
+  i1 = (u32)(j1);
+  j1 = i64_load8_u(j1);
+  j2 = 8ull;
+  j1 <<= (j2 & 63);
+  j2 = p1;
+  i2 = (u32)(j2);
+  j2 = i64_load8_u(j2);
+  j1 |= j2;
+  p0 = j1;
+  j2 = p1;
+  j3 = 512ull;
+  j2 += j3;
+  i2 = (u32)(j2);
+  j2 = i64_load8_u(j2);
+  p3 = j2;
+  j3 = 16ull;
+  j2 <<= (j3 & 63);
+  j1 |= j2;
+  l5 = j1;
+  j2 = 16777217ull;
+  j1 *= j2;
+  p1 = j1;
+  i64_store8(j0, j1);
+  j0 = p4;
+  j1 = 26ull;
+  j0 += j1;
+  i0 = (u32)(j0);
+  j1 = p1;
+  j2 = 16ull;
+  j1 >>= (j2 & 63);
+  i64_store8(j0, j1);
+  j0 = p4;
+  j1 = 25ull;
+  j0 += j1;
+  i0 = (u32)(j0);
+  j1 = p1;
+  j2 = 8ull;
+  j1 >>= (j2 & 63);
+  i64_store8(j0, j1);
+  j0 = p4;
+  j1 = 12ull;
+  j0 += j1;
+  i0 = (u32)(j0);
+  j1 = p1;
+  j2 = p0;
+  j3 = 48ull;
+  j2 <<= (j3 & 63);
+  j1 |= j2;
+  p1 = j1;
+  i64_store(j0, j1);
+  j0 = p4;
+  i0 = (u32)(j0);
+  j1 = p1;
+  i64_store(j0, j1);
+  j0 = p4;
+  j1 = 20ull;
+  j0 += j1;
+  i0 = (u32)(j0);
+  j1 = p3;
+  j2 = l5;
+  j3 = 8ull;
+  j2 <<= (j3 & 63);
+  j1 |= j2;
+  i1 = (u32)(j1);
+  p2 = i1;
+  i32_store(j0, i1);
+  j0 = p4;
+  j1 = 8ull;
+  j0 += j1;
+  i0 = (u32)(j0);
+  i1 = p2;
+  i32_store(j0, i1);
+}
+
+static u32 f13(module *self, u64 p0, u64 p1, u64 p2, u64 p3) {
   u32 l4 = 0, l5 = 0, l6 = 0;
   u8 *m = self->memory;
   u32 i0, i1, i2, i3, i4;
@@ -10272,7 +10610,7 @@ static u32 f10(module *self, u64 p0, u64 p1, u64 p2, u64 p3) {
   return i0;
 }
 
-static void f11(module *self, u64 p0, u64 p1, u64 p2, u64 p3) {
+static void f14(module *self, u64 p0, u64 p1, u64 p2, u64 p3) {
   u32 l13 = 0;
   u64 l4 = 0, l5 = 0, l6 = 0, l7 = 0, l8 = 0, l9 = 0, l10 = 0, l11 = 0, 
       l12 = 0;
@@ -10298,7 +10636,7 @@ static void f11(module *self, u64 p0, u64 p1, u64 p2, u64 p3) {
   if (i0) {goto B1;}
   j0 = p1;
   j1 = p3;
-  i0 = f12(self, j0, j1); m = self->memory; if (NEVER(self->is_broken)) return;
+  i0 = f15(self, j0, j1); m = self->memory; if (NEVER(self->is_broken)) return;
   if (i0) {goto B2;}
   j0 = 9ull;
   p3 = j0;
@@ -10498,7 +10836,7 @@ static void f11(module *self, u64 p0, u64 p1, u64 p2, u64 p3) {
   i64_store(j0, j1);
 }
 
-static u32 f12(module *self, u64 p0, u64 p1) {
+static u32 f15(module *self, u64 p0, u64 p1) {
   u32 l6 = 0;
   u64 l2 = 0, l3 = 0, l4 = 0, l5 = 0;
   u8 *m = self->memory;
@@ -10567,7 +10905,7 @@ static u32 f12(module *self, u64 p0, u64 p1) {
   j2 = l3;
   j3 = p1;
   j4 = 1ull;
-  f157(self, j0, j1, j2, j3, j4); m = self->memory; if (NEVER(self->is_broken)) return ZAK_BROKEN;
+  f161(self, j0, j1, j2, j3, j4); m = self->memory; if (NEVER(self->is_broken)) return ZAK_BROKEN;
   j0 = l2;
   i0 = (u32)(j0);
   j0 = i64_load(j0 + 16u);
@@ -10585,7 +10923,7 @@ static u32 f12(module *self, u64 p0, u64 p1) {
   j0 = l2;
   j1 = l5;
   j2 = 1ull;
-  f155(self, j0, j1, j2); m = self->memory; if (NEVER(self->is_broken)) return ZAK_BROKEN;
+  f159(self, j0, j1, j2); m = self->memory; if (NEVER(self->is_broken)) return ZAK_BROKEN;
   j0 = l2;
   i0 = (u32)(j0);
   j0 = i64_load(j0);
@@ -10620,7 +10958,7 @@ static u32 f12(module *self, u64 p0, u64 p1) {
   return i0;
 }
 
-static void f13(module *self, u64 p0, u64 p1, u32 p2) {
+static void f16(module *self, u64 p0, u64 p1, u32 p2) {
   u64 l3 = 0, l4 = 0, l5 = 0, l6 = 0, l7 = 0, l8 = 0, l9 = 0;
   u8 *m = self->memory;
   u32 i0, i1, i2, i3;
@@ -10654,7 +10992,7 @@ static void f13(module *self, u64 p0, u64 p1, u32 p2) {
   if (i0) {goto B1;}
   j0 = p1;
   j1 = 2ull;
-  i0 = f12(self, j0, j1); m = self->memory; if (NEVER(self->is_broken)) return;
+  i0 = f15(self, j0, j1); m = self->memory; if (NEVER(self->is_broken)) return;
   if (i0) {goto B2;}
   j0 = 9ull;
   p1 = j0;
@@ -10737,7 +11075,7 @@ static void f13(module *self, u64 p0, u64 p1, u32 p2) {
   self->g0 = j0;
 }
 
-static void f14(module *self, u64 p0, u64 p1, u64 p2, u64 p3) {
+static void f17(module *self, u64 p0, u64 p1, u64 p2, u64 p3) {
   u32 l15 = 0, l16 = 0, l17 = 0, l18 = 0, l19 = 0, l20 = 0, l21 = 0, l22 = 0;
   u64 l4 = 0, l5 = 0, l6 = 0, l7 = 0, l8 = 0, l9 = 0, l10 = 0, l11 = 0, 
       l12 = 0, l13 = 0, l14 = 0;
@@ -11732,7 +12070,7 @@ static void f14(module *self, u64 p0, u64 p1, u64 p2, u64 p3) {
   if (i0) {goto B88;}
   j0 = p1;
   j1 = 1ull;
-  i0 = f12(self, j0, j1); m = self->memory; if (NEVER(self->is_broken)) return;
+  i0 = f15(self, j0, j1); m = self->memory; if (NEVER(self->is_broken)) return;
   i0 = !(i0);
   if (i0) {goto B2;}
   j0 = p1;
@@ -14056,7 +14394,7 @@ static void f14(module *self, u64 p0, u64 p1, u64 p2, u64 p3) {
   j1 = l13;
   j2 = l11;
   j3 = 1048800ull;
-  f15(self, j0, j1, j2, j3); if (NEVER(self->is_broken)) return;
+  f18(self, j0, j1, j2, j3); if (NEVER(self->is_broken)) return;
   j0 = l4;
   i0 = (u32)(j0);
   i0 = i32_load8_u(j0 + 32u);
@@ -14075,7 +14413,7 @@ static void f14(module *self, u64 p0, u64 p1, u64 p2, u64 p3) {
   i2 = (u32)(j2);
   j2 = i64_load(j2 + 56u);
   j3 = 1048803ull;
-  f15(self, j0, j1, j2, j3); if (NEVER(self->is_broken)) return;
+  f18(self, j0, j1, j2, j3); if (NEVER(self->is_broken)) return;
   j0 = l4;
   i0 = (u32)(j0);
   i0 = i32_load8_u(j0 + 32u);
@@ -14094,7 +14432,7 @@ static void f14(module *self, u64 p0, u64 p1, u64 p2, u64 p3) {
   i2 = (u32)(j2);
   j2 = i64_load(j2 + 56u);
   j3 = 1048806ull;
-  f15(self, j0, j1, j2, j3); if (NEVER(self->is_broken)) return;
+  f18(self, j0, j1, j2, j3); if (NEVER(self->is_broken)) return;
   j0 = l4;
   i0 = (u32)(j0);
   i0 = i32_load8_u(j0 + 32u);
@@ -14113,7 +14451,7 @@ static void f14(module *self, u64 p0, u64 p1, u64 p2, u64 p3) {
   i2 = (u32)(j2);
   j2 = i64_load(j2 + 56u);
   j3 = 1048809ull;
-  f15(self, j0, j1, j2, j3); if (NEVER(self->is_broken)) return;
+  f18(self, j0, j1, j2, j3); if (NEVER(self->is_broken)) return;
   j0 = l4;
   i0 = (u32)(j0);
   i0 = i32_load8_u(j0 + 32u);
@@ -14129,7 +14467,7 @@ static void f14(module *self, u64 p0, u64 p1, u64 p2, u64 p3) {
   j2 = l4;
   i2 = (u32)(j2);
   j2 = i64_load(j2 + 56u);
-  f16(self, j0, j1, j2); m = self->memory; if (NEVER(self->is_broken)) return;
+  f19(self, j0, j1, j2); m = self->memory; if (NEVER(self->is_broken)) return;
   j0 = l4;
   i0 = (u32)(j0);
   i0 = i32_load8_u(j0);
@@ -14195,7 +14533,7 @@ static void f14(module *self, u64 p0, u64 p1, u64 p2, u64 p3) {
   if (i0) {goto B227;}
   j0 = p1;
   j1 = 1ull;
-  i0 = f12(self, j0, j1); m = self->memory; if (NEVER(self->is_broken)) return;
+  i0 = f15(self, j0, j1); m = self->memory; if (NEVER(self->is_broken)) return;
   i0 = !(i0);
   if (i0) {goto B226;}
   j0 = p1;
@@ -14243,7 +14581,7 @@ static void f14(module *self, u64 p0, u64 p1, u64 p2, u64 p3) {
   if (i0) {goto B228;}
   j0 = p1;
   j1 = 2ull;
-  i0 = f12(self, j0, j1); m = self->memory; if (NEVER(self->is_broken)) return;
+  i0 = f15(self, j0, j1); m = self->memory; if (NEVER(self->is_broken)) return;
   i0 = !(i0);
   if (i0) {goto B226;}
   j0 = p1;
@@ -14298,7 +14636,7 @@ static void f14(module *self, u64 p0, u64 p1, u64 p2, u64 p3) {
   if (i0) {goto B229;}
   j0 = p1;
   j1 = 2ull;
-  i0 = f12(self, j0, j1); m = self->memory; if (NEVER(self->is_broken)) return;
+  i0 = f15(self, j0, j1); m = self->memory; if (NEVER(self->is_broken)) return;
   i0 = !(i0);
   if (i0) {goto B226;}
   j0 = p1;
@@ -14347,7 +14685,7 @@ static void f14(module *self, u64 p0, u64 p1, u64 p2, u64 p3) {
   if (i0) {goto B230;}
   j0 = p1;
   j1 = 2ull;
-  i0 = f12(self, j0, j1); m = self->memory; if (NEVER(self->is_broken)) return;
+  i0 = f15(self, j0, j1); m = self->memory; if (NEVER(self->is_broken)) return;
   i0 = !(i0);
   if (i0) {goto B226;}
   j0 = p1;
@@ -14402,7 +14740,7 @@ static void f14(module *self, u64 p0, u64 p1, u64 p2, u64 p3) {
   if (i0) {goto B231;}
   j0 = p1;
   j1 = 2ull;
-  i0 = f12(self, j0, j1); m = self->memory; if (NEVER(self->is_broken)) return;
+  i0 = f15(self, j0, j1); m = self->memory; if (NEVER(self->is_broken)) return;
   i0 = !(i0);
   if (i0) {goto B226;}
   j0 = p1;
@@ -14451,7 +14789,7 @@ static void f14(module *self, u64 p0, u64 p1, u64 p2, u64 p3) {
   if (i0) {goto B232;}
   j0 = p1;
   j1 = 2ull;
-  i0 = f12(self, j0, j1); m = self->memory; if (NEVER(self->is_broken)) return;
+  i0 = f15(self, j0, j1); m = self->memory; if (NEVER(self->is_broken)) return;
   i0 = !(i0);
   if (i0) {goto B226;}
   j0 = p1;
@@ -14505,7 +14843,7 @@ static void f14(module *self, u64 p0, u64 p1, u64 p2, u64 p3) {
   if (i0) {goto B233;}
   j0 = p1;
   j1 = p3;
-  i0 = f12(self, j0, j1); m = self->memory; if (NEVER(self->is_broken)) return;
+  i0 = f15(self, j0, j1); m = self->memory; if (NEVER(self->is_broken)) return;
   i0 = !(i0);
   if (i0) {goto B226;}
   j0 = p1;
@@ -14667,7 +15005,7 @@ static void f14(module *self, u64 p0, u64 p1, u64 p2, u64 p3) {
   i0 = !(j0);
   if (i0) {goto B2;}
   j0 = l10;
-  f158(self, j0);
+  f162(self, j0);
   goto B2;
   B225:;
   j0 = p1;
@@ -14690,7 +15028,7 @@ static void f14(module *self, u64 p0, u64 p1, u64 p2, u64 p3) {
   i0 = !(j0);
   if (i0) {goto B1;}
   j0 = l10;
-  f158(self, j0);
+  f162(self, j0);
   goto B1;
   B21:;
   i0 = l15;
@@ -17823,7 +18161,7 @@ static void f14(module *self, u64 p0, u64 p1, u64 p2, u64 p3) {
   if (i0) {goto B426;}
   j0 = p1;
   j1 = 1ull;
-  i0 = f12(self, j0, j1); m = self->memory; if (NEVER(self->is_broken)) return;
+  i0 = f15(self, j0, j1); m = self->memory; if (NEVER(self->is_broken)) return;
   i0 = !(i0);
   if (i0) {goto B2;}
   j0 = p1;
@@ -17877,7 +18215,7 @@ static void f14(module *self, u64 p0, u64 p1, u64 p2, u64 p3) {
   if (i0) {goto B427;}
   j0 = p1;
   j1 = 2ull;
-  i0 = f12(self, j0, j1); m = self->memory; if (NEVER(self->is_broken)) return;
+  i0 = f15(self, j0, j1); m = self->memory; if (NEVER(self->is_broken)) return;
   i0 = !(i0);
   if (i0) {goto B2;}
   j0 = p1;
@@ -17939,7 +18277,7 @@ static void f14(module *self, u64 p0, u64 p1, u64 p2, u64 p3) {
   j3 = 127ull;
   j2 += j3;
   j3 = 1ull;
-  f11(self, j0, j1, j2, j3); m = self->memory; if (NEVER(self->is_broken)) return;
+  f14(self, j0, j1, j2, j3); m = self->memory; if (NEVER(self->is_broken)) return;
   j0 = l4;
   i0 = (u32)(j0);
   i0 = i32_load8_u(j0 + 32u);
@@ -17953,7 +18291,7 @@ static void f14(module *self, u64 p0, u64 p1, u64 p2, u64 p3) {
   if (i0) {goto B428;}
   j0 = p1;
   j1 = 1ull;
-  i0 = f12(self, j0, j1); m = self->memory; if (NEVER(self->is_broken)) return;
+  i0 = f15(self, j0, j1); m = self->memory; if (NEVER(self->is_broken)) return;
   i0 = !(i0);
   if (i0) {goto B2;}
   j0 = p1;
@@ -18007,7 +18345,7 @@ static void f14(module *self, u64 p0, u64 p1, u64 p2, u64 p3) {
   if (i0) {goto B429;}
   j0 = p1;
   j1 = 2ull;
-  i0 = f12(self, j0, j1); m = self->memory; if (NEVER(self->is_broken)) return;
+  i0 = f15(self, j0, j1); m = self->memory; if (NEVER(self->is_broken)) return;
   i0 = !(i0);
   if (i0) {goto B2;}
   j0 = p1;
@@ -18062,7 +18400,7 @@ static void f14(module *self, u64 p0, u64 p1, u64 p2, u64 p3) {
   i4 = 255u;
   i3 &= i4;
   i2 |= i3;
-  f13(self, j0, j1, i2); m = self->memory; if (NEVER(self->is_broken)) return;
+  f16(self, j0, j1, i2); m = self->memory; if (NEVER(self->is_broken)) return;
   j0 = l4;
   i0 = (u32)(j0);
   i0 = i32_load8_u(j0);
@@ -18076,7 +18414,7 @@ static void f14(module *self, u64 p0, u64 p1, u64 p2, u64 p3) {
   if (i0) {goto B430;}
   j0 = p1;
   j1 = 1ull;
-  i0 = f12(self, j0, j1); m = self->memory; if (NEVER(self->is_broken)) return;
+  i0 = f15(self, j0, j1); m = self->memory; if (NEVER(self->is_broken)) return;
   i0 = !(i0);
   if (i0) {goto B2;}
   j0 = p1;
@@ -18130,7 +18468,7 @@ static void f14(module *self, u64 p0, u64 p1, u64 p2, u64 p3) {
   if (i0) {goto B431;}
   j0 = p1;
   j1 = 2ull;
-  i0 = f12(self, j0, j1); m = self->memory; if (NEVER(self->is_broken)) return;
+  i0 = f15(self, j0, j1); m = self->memory; if (NEVER(self->is_broken)) return;
   i0 = !(i0);
   if (i0) {goto B2;}
   j0 = p1;
@@ -18184,7 +18522,7 @@ static void f14(module *self, u64 p0, u64 p1, u64 p2, u64 p3) {
   if (i0) {goto B432;}
   j0 = p1;
   j1 = 1ull;
-  i0 = f12(self, j0, j1); m = self->memory; if (NEVER(self->is_broken)) return;
+  i0 = f15(self, j0, j1); m = self->memory; if (NEVER(self->is_broken)) return;
   i0 = !(i0);
   if (i0) {goto B2;}
   j0 = p1;
@@ -18238,7 +18576,7 @@ static void f14(module *self, u64 p0, u64 p1, u64 p2, u64 p3) {
   if (i0) {goto B433;}
   j0 = p1;
   j1 = 2ull;
-  i0 = f12(self, j0, j1); m = self->memory; if (NEVER(self->is_broken)) return;
+  i0 = f15(self, j0, j1); m = self->memory; if (NEVER(self->is_broken)) return;
   i0 = !(i0);
   if (i0) {goto B2;}
   j0 = p1;
@@ -18292,7 +18630,7 @@ static void f14(module *self, u64 p0, u64 p1, u64 p2, u64 p3) {
   if (i0) {goto B434;}
   j0 = p1;
   j1 = 1ull;
-  i0 = f12(self, j0, j1); m = self->memory; if (NEVER(self->is_broken)) return;
+  i0 = f15(self, j0, j1); m = self->memory; if (NEVER(self->is_broken)) return;
   i0 = !(i0);
   if (i0) {goto B2;}
   j0 = p1;
@@ -18346,7 +18684,7 @@ static void f14(module *self, u64 p0, u64 p1, u64 p2, u64 p3) {
   if (i0) {goto B435;}
   j0 = p1;
   j1 = 4ull;
-  i0 = f12(self, j0, j1); m = self->memory; if (NEVER(self->is_broken)) return;
+  i0 = f15(self, j0, j1); m = self->memory; if (NEVER(self->is_broken)) return;
   i0 = !(i0);
   if (i0) {goto B2;}
   j0 = p1;
@@ -18402,7 +18740,7 @@ static void f14(module *self, u64 p0, u64 p1, u64 p2, u64 p3) {
   j3 = 95ull;
   j2 += j3;
   j3 = 1ull;
-  f11(self, j0, j1, j2, j3); m = self->memory; if (NEVER(self->is_broken)) return;
+  f14(self, j0, j1, j2, j3); m = self->memory; if (NEVER(self->is_broken)) return;
   j0 = l4;
   i0 = (u32)(j0);
   i0 = i32_load8_u(j0 + 96u);
@@ -18416,7 +18754,7 @@ static void f14(module *self, u64 p0, u64 p1, u64 p2, u64 p3) {
   if (i0) {goto B436;}
   j0 = p1;
   j1 = 1ull;
-  i0 = f12(self, j0, j1); m = self->memory; if (NEVER(self->is_broken)) return;
+  i0 = f15(self, j0, j1); m = self->memory; if (NEVER(self->is_broken)) return;
   i0 = !(i0);
   if (i0) {goto B2;}
   j0 = p1;
@@ -18470,7 +18808,7 @@ static void f14(module *self, u64 p0, u64 p1, u64 p2, u64 p3) {
   if (i0) {goto B437;}
   j0 = p1;
   j1 = 4ull;
-  i0 = f12(self, j0, j1); m = self->memory; if (NEVER(self->is_broken)) return;
+  i0 = f15(self, j0, j1); m = self->memory; if (NEVER(self->is_broken)) return;
   i0 = !(i0);
   if (i0) {goto B2;}
   j0 = p1;
@@ -18521,7 +18859,7 @@ static void f14(module *self, u64 p0, u64 p1, u64 p2, u64 p3) {
   i4 = 255u;
   i3 &= i4;
   i2 |= i3;
-  f13(self, j0, j1, i2); m = self->memory; if (NEVER(self->is_broken)) return;
+  f16(self, j0, j1, i2); m = self->memory; if (NEVER(self->is_broken)) return;
   j0 = l4;
   i0 = (u32)(j0);
   i0 = i32_load8_u(j0 + 64u);
@@ -18535,7 +18873,7 @@ static void f14(module *self, u64 p0, u64 p1, u64 p2, u64 p3) {
   if (i0) {goto B438;}
   j0 = p1;
   j1 = 1ull;
-  i0 = f12(self, j0, j1); m = self->memory; if (NEVER(self->is_broken)) return;
+  i0 = f15(self, j0, j1); m = self->memory; if (NEVER(self->is_broken)) return;
   i0 = !(i0);
   if (i0) {goto B2;}
   j0 = p1;
@@ -18589,7 +18927,7 @@ static void f14(module *self, u64 p0, u64 p1, u64 p2, u64 p3) {
   if (i0) {goto B439;}
   j0 = p1;
   j1 = 4ull;
-  i0 = f12(self, j0, j1); m = self->memory; if (NEVER(self->is_broken)) return;
+  i0 = f15(self, j0, j1); m = self->memory; if (NEVER(self->is_broken)) return;
   i0 = !(i0);
   if (i0) {goto B2;}
   j0 = p1;
@@ -18637,7 +18975,7 @@ static void f14(module *self, u64 p0, u64 p1, u64 p2, u64 p3) {
   if (i0) {goto B440;}
   j0 = p1;
   j1 = 1ull;
-  i0 = f12(self, j0, j1); m = self->memory; if (NEVER(self->is_broken)) return;
+  i0 = f15(self, j0, j1); m = self->memory; if (NEVER(self->is_broken)) return;
   i0 = !(i0);
   if (i0) {goto B2;}
   j0 = p1;
@@ -18691,7 +19029,7 @@ static void f14(module *self, u64 p0, u64 p1, u64 p2, u64 p3) {
   if (i0) {goto B441;}
   j0 = p1;
   j1 = 4ull;
-  i0 = f12(self, j0, j1); m = self->memory; if (NEVER(self->is_broken)) return;
+  i0 = f15(self, j0, j1); m = self->memory; if (NEVER(self->is_broken)) return;
   i0 = !(i0);
   if (i0) {goto B2;}
   j0 = p1;
@@ -18739,7 +19077,7 @@ static void f14(module *self, u64 p0, u64 p1, u64 p2, u64 p3) {
   if (i0) {goto B442;}
   j0 = p1;
   j1 = 1ull;
-  i0 = f12(self, j0, j1); m = self->memory; if (NEVER(self->is_broken)) return;
+  i0 = f15(self, j0, j1); m = self->memory; if (NEVER(self->is_broken)) return;
   i0 = !(i0);
   if (i0) {goto B2;}
   j0 = p1;
@@ -18793,7 +19131,7 @@ static void f14(module *self, u64 p0, u64 p1, u64 p2, u64 p3) {
   if (i0) {goto B443;}
   j0 = p1;
   j1 = 4ull;
-  i0 = f12(self, j0, j1); m = self->memory; if (NEVER(self->is_broken)) return;
+  i0 = f15(self, j0, j1); m = self->memory; if (NEVER(self->is_broken)) return;
   i0 = !(i0);
   if (i0) {goto B2;}
   j0 = p1;
@@ -18843,7 +19181,7 @@ static void f14(module *self, u64 p0, u64 p1, u64 p2, u64 p3) {
   j1 = l10;
   j2 = 1048796ull;
   j3 = 4ull;
-  i0 = f10(self, j0, j1, j2, j3);
+  i0 = f13(self, j0, j1, j2, j3);
   i0 = !(i0);
   if (i0) {goto B10;}
   j0 = l4;
@@ -19405,7 +19743,7 @@ static void f14(module *self, u64 p0, u64 p1, u64 p2, u64 p3) {
   j0 += j1;
   j1 = p3;
   j2 = l5;
-  f17(self, j0, j1, j2); if (NEVER(self->is_broken)) return;
+  f20(self, j0, j1, j2); if (NEVER(self->is_broken)) return;
   j0 = l4;
   i0 = (u32)(j0);
   i0 = i32_load8_u(j0 + 32u);
@@ -19723,7 +20061,7 @@ static void f14(module *self, u64 p0, u64 p1, u64 p2, u64 p3) {
   j1 = l6;
   j2 = 1048823ull;
   j3 = 3ull;
-  i0 = f10(self, j0, j1, j2, j3);
+  i0 = f13(self, j0, j1, j2, j3);
   i0 = !(i0);
   if (i0) {goto B475;}
   i0 = 0u;
@@ -19765,7 +20103,7 @@ static void f14(module *self, u64 p0, u64 p1, u64 p2, u64 p3) {
   j1 = l6;
   j2 = 1048826ull;
   j3 = 5ull;
-  i0 = f10(self, j0, j1, j2, j3);
+  i0 = f13(self, j0, j1, j2, j3);
   i0 = !(i0);
   if (i0) {goto B10;}
   i0 = 0u;
@@ -19969,7 +20307,7 @@ static void f14(module *self, u64 p0, u64 p1, u64 p2, u64 p3) {
   if (i0) {goto B485;}
   j0 = p1;
   j1 = 2ull;
-  i0 = f12(self, j0, j1); m = self->memory; if (NEVER(self->is_broken)) return;
+  i0 = f15(self, j0, j1); m = self->memory; if (NEVER(self->is_broken)) return;
   i0 = !(i0);
   if (i0) {goto B2;}
   j0 = p1;
@@ -20036,7 +20374,7 @@ static void f14(module *self, u64 p0, u64 p1, u64 p2, u64 p3) {
   if (i0) {goto B488;}
   j0 = p1;
   j1 = 3ull;
-  i0 = f12(self, j0, j1); m = self->memory; if (NEVER(self->is_broken)) return;
+  i0 = f15(self, j0, j1); m = self->memory; if (NEVER(self->is_broken)) return;
   i0 = !(i0);
   if (i0) {goto B2;}
   j0 = p1;
@@ -20092,7 +20430,7 @@ static void f14(module *self, u64 p0, u64 p1, u64 p2, u64 p3) {
   if (i0) {goto B489;}
   j0 = p1;
   j1 = 2ull;
-  i0 = f12(self, j0, j1); m = self->memory; if (NEVER(self->is_broken)) return;
+  i0 = f15(self, j0, j1); m = self->memory; if (NEVER(self->is_broken)) return;
   i0 = !(i0);
   if (i0) {goto B2;}
   j0 = p1;
@@ -20159,7 +20497,7 @@ static void f14(module *self, u64 p0, u64 p1, u64 p2, u64 p3) {
   if (i0) {goto B492;}
   j0 = p1;
   j1 = 2ull;
-  i0 = f12(self, j0, j1); m = self->memory; if (NEVER(self->is_broken)) return;
+  i0 = f15(self, j0, j1); m = self->memory; if (NEVER(self->is_broken)) return;
   i0 = !(i0);
   if (i0) {goto B2;}
   j0 = p1;
@@ -20226,7 +20564,7 @@ static void f14(module *self, u64 p0, u64 p1, u64 p2, u64 p3) {
   if (i0) {goto B495;}
   j0 = p1;
   j1 = 3ull;
-  i0 = f12(self, j0, j1); m = self->memory; if (NEVER(self->is_broken)) return;
+  i0 = f15(self, j0, j1); m = self->memory; if (NEVER(self->is_broken)) return;
   i0 = !(i0);
   if (i0) {goto B2;}
   j0 = p1;
@@ -20285,7 +20623,7 @@ static void f14(module *self, u64 p0, u64 p1, u64 p2, u64 p3) {
   if (i0) {goto B496;}
   j0 = p1;
   j1 = 2ull;
-  i0 = f12(self, j0, j1); m = self->memory; if (NEVER(self->is_broken)) return;
+  i0 = f15(self, j0, j1); m = self->memory; if (NEVER(self->is_broken)) return;
   i0 = !(i0);
   if (i0) {goto B2;}
   j0 = p1;
@@ -20334,7 +20672,7 @@ static void f14(module *self, u64 p0, u64 p1, u64 p2, u64 p3) {
   if (i0) {goto B497;}
   j0 = p1;
   j1 = 2ull;
-  i0 = f12(self, j0, j1); m = self->memory; if (NEVER(self->is_broken)) return;
+  i0 = f15(self, j0, j1); m = self->memory; if (NEVER(self->is_broken)) return;
   i0 = !(i0);
   if (i0) {goto B2;}
   j0 = p1;
@@ -20386,7 +20724,7 @@ static void f14(module *self, u64 p0, u64 p1, u64 p2, u64 p3) {
   if (i0) {goto B498;}
   j0 = p1;
   j1 = 2ull;
-  i0 = f12(self, j0, j1); m = self->memory; if (NEVER(self->is_broken)) return;
+  i0 = f15(self, j0, j1); m = self->memory; if (NEVER(self->is_broken)) return;
   i0 = !(i0);
   if (i0) {goto B2;}
   j0 = p1;
@@ -20453,7 +20791,7 @@ static void f14(module *self, u64 p0, u64 p1, u64 p2, u64 p3) {
   if (i0) {goto B501;}
   j0 = p1;
   j1 = 2ull;
-  i0 = f12(self, j0, j1); m = self->memory; if (NEVER(self->is_broken)) return;
+  i0 = f15(self, j0, j1); m = self->memory; if (NEVER(self->is_broken)) return;
   i0 = !(i0);
   if (i0) {goto B2;}
   j0 = p1;
@@ -20543,7 +20881,7 @@ static void f14(module *self, u64 p0, u64 p1, u64 p2, u64 p3) {
   self->g0 = j0;
 }
 
-static void f15(module *self, u64 p0, u64 p1, u64 p2, u64 p3) {
+static void f18(module *self, u64 p0, u64 p1, u64 p2, u64 p3) {
   u32 l9 = 0;
   u64 l4 = 0, l5 = 0, l6 = 0, l7 = 0, l8 = 0;
   u8 *m = self->memory;
@@ -20946,7 +21284,7 @@ static void f15(module *self, u64 p0, u64 p1, u64 p2, u64 p3) {
   Bfunc:;
 }
 
-static void f16(module *self, u64 p0, u64 p1, u64 p2) {
+static void f19(module *self, u64 p0, u64 p1, u64 p2) {
   u32 l12 = 0, l13 = 0, l14 = 0, l15 = 0, l16 = 0;
   u64 l3 = 0, l4 = 0, l5 = 0, l6 = 0, l7 = 0, l8 = 0, l9 = 0, l10 = 0, 
       l11 = 0;
@@ -21216,7 +21554,7 @@ static void f16(module *self, u64 p0, u64 p1, u64 p2) {
       j1 >>= (j2 & 63);
       l8 = j1;
       j2 = 1ull;
-      f155(self, j0, j1, j2); m = self->memory; if (NEVER(self->is_broken)) return;
+      f159(self, j0, j1, j2); m = self->memory; if (NEVER(self->is_broken)) return;
       i0 = 1u;
       l12 = i0;
       j0 = l3;
@@ -21440,7 +21778,7 @@ static void f16(module *self, u64 p0, u64 p1, u64 p2) {
       if (i0) {goto B11;}
       B19:;
       j0 = l4;
-      f158(self, j0);
+      f162(self, j0);
       goto B11;
       B13:;
       j0 = p2;
@@ -21560,7 +21898,7 @@ static void f16(module *self, u64 p0, u64 p1, u64 p2) {
   self->g0 = j0;
 }
 
-static void f17(module *self, u64 p0, u64 p1, u64 p2) {
+static void f20(module *self, u64 p0, u64 p1, u64 p2) {
   u32 l9 = 0, l10 = 0;
   u64 l3 = 0, l4 = 0, l5 = 0, l6 = 0, l7 = 0, l8 = 0;
   u8 *m = self->memory;
@@ -22289,7 +22627,7 @@ static void f17(module *self, u64 p0, u64 p1, u64 p2) {
   Bfunc:;
 }
 
-static void f18(module *self, u64 p0, u64 p1) {
+static void f21(module *self, u64 p0, u64 p1) {
   u32 l8 = 0, l9 = 0, l10 = 0, l11 = 0, l12 = 0, l13 = 0, l14 = 0, l15 = 0, 
       l16 = 0, l17 = 0, l18 = 0, l19 = 0, l20 = 0, l21 = 0, l22 = 0, l23 = 0;
   u64 l2 = 0, l3 = 0, l4 = 0, l5 = 0, l6 = 0, l7 = 0;
@@ -23127,7 +23465,7 @@ static void f18(module *self, u64 p0, u64 p1) {
   Bfunc:;
 }
 
-static u32 f19(module *self, u64 p0) {
+static u32 f22(module *self, u64 p0) {
   u32 l2 = 0, l3 = 0, l4 = 0;
   u64 l1 = 0;
   u8 *m = self->memory;
@@ -23151,7 +23489,7 @@ static u32 f19(module *self, u64 p0) {
   i2 = (u32)(j2);
   i2 = i32_load16_u(j2);
   l3 = i2;
-  f20(self, j0, i1, i2);
+  f23(self, j0, i1, i2);
   j0 = l1;
   i0 = (u32)(j0);
   i0 = i32_load8_u(j0 + 8u);
@@ -23348,7 +23686,7 @@ static u32 f19(module *self, u64 p0) {
   return i0;
 }
 
-static void f20(module *self, u64 p0, u32 p1, u32 p2) {
+static void f23(module *self, u64 p0, u32 p1, u32 p2) {
   u32 l12 = 0, l13 = 0, l14 = 0, l15 = 0, l16 = 0, l17 = 0, l18 = 0, l19 = 0, 
       l20 = 0, l21 = 0, l22 = 0, l23 = 0, l24 = 0, l25 = 0, l26 = 0, l27 = 0, 
       l28 = 0, l29 = 0, l30 = 0, l31 = 0, l32 = 0, l33 = 0, l34 = 0, l35 = 0, 
@@ -24476,7 +24814,7 @@ static void f20(module *self, u64 p0, u32 p1, u32 p2) {
   Bfunc:;
 }
 
-static void f21(module *self, u64 p0, u64 p1, u64 p2) {
+static void f24(module *self, u64 p0, u64 p1, u64 p2) {
   u32 l12 = 0, l13 = 0, l14 = 0, l15 = 0, l16 = 0, l17 = 0, l18 = 0;
   u64 l3 = 0, l4 = 0, l5 = 0, l6 = 0, l7 = 0, l8 = 0, l9 = 0, l10 = 0, 
       l11 = 0;
@@ -26584,7 +26922,7 @@ static void f21(module *self, u64 p0, u64 p1, u64 p2) {
   self->g0 = j0;
 }
 
-static void f22(module *self, u64 p0) {
+static void f25(module *self, u64 p0) {
   u32 l11 = 0;
   u64 l1 = 0, l2 = 0, l3 = 0, l4 = 0, l5 = 0, l6 = 0, l7 = 0, l8 = 0, 
       l9 = 0, l10 = 0;
@@ -26609,7 +26947,7 @@ static void f22(module *self, u64 p0) {
   j0 += j1;
   j1 = 262144ull;
   j2 = 4ull;
-  f155(self, j0, j1, j2); m = self->memory; if (NEVER(self->is_broken)) return;
+  f159(self, j0, j1, j2); m = self->memory; if (NEVER(self->is_broken)) return;
   j0 = l1;
   i0 = (u32)(j0);
   j0 = i64_load(j0 + 32u);
@@ -26632,7 +26970,7 @@ static void f22(module *self, u64 p0) {
   j0 += j1;
   j1 = 7077888ull;
   j2 = 1ull;
-  f155(self, j0, j1, j2); m = self->memory; if (NEVER(self->is_broken)) return;
+  f159(self, j0, j1, j2); m = self->memory; if (NEVER(self->is_broken)) return;
   j0 = l1;
   i0 = (u32)(j0);
   j0 = i64_load(j0 + 24u);
@@ -26655,7 +26993,7 @@ static void f22(module *self, u64 p0) {
   j0 = l1;
   j1 = 4096ull;
   j2 = 4ull;
-  f155(self, j0, j1, j2); m = self->memory; if (NEVER(self->is_broken)) return;
+  f159(self, j0, j1, j2); m = self->memory; if (NEVER(self->is_broken)) return;
   j0 = l1;
   i0 = (u32)(j0);
   j0 = i64_load(j0);
@@ -26664,7 +27002,7 @@ static void f22(module *self, u64 p0) {
   i0 &= i1;
   if (i0) {goto B3;}
   j0 = l4;
-  f158(self, j0);
+  f162(self, j0);
   j0 = 9ull;
   l3 = j0;
   goto B1;
@@ -26737,7 +27075,7 @@ static void f22(module *self, u64 p0) {
   j1 = l1;
   j2 = 2624ull;
   j1 += j2;
-  f23(self, j0, j1);
+  f26(self, j0, j1);
   j0 = l1;
   j1 = 2368ull;
   j0 += j1;
@@ -27216,7 +27554,7 @@ static void f22(module *self, u64 p0) {
   l3 = j0;
   B1:;
   j0 = l2;
-  f158(self, j0);
+  f162(self, j0);
   j0 = p0;
   j1 = 8ull;
   j0 += j1;
@@ -27242,7 +27580,7 @@ static void f22(module *self, u64 p0) {
   self->g0 = j0;
 }
 
-static void f23(module *self, u64 p0, u64 p1) {
+static void f26(module *self, u64 p0, u64 p1) {
   u32 l3 = 0, l4 = 0, l5 = 0, l6 = 0, l7 = 0, l8 = 0, l9 = 0, l10 = 0, 
       l11 = 0, l12 = 0, l13 = 0, l14 = 0, l15 = 0, l16 = 0, l17 = 0, l18 = 0, 
       l19 = 0, l20 = 0, l21 = 0, l22 = 0, l23 = 0, l24 = 0, l25 = 0, l26 = 0, 
@@ -27875,7 +28213,7 @@ static void f23(module *self, u64 p0, u64 p1) {
   i32_store8(j0, i1);
 }
 
-static void f24(module *self, u64 p0, u64 p1, u64 p2) {
+static void f27(module *self, u64 p0, u64 p1, u64 p2) {
   u32 l12 = 0, l13 = 0, l14 = 0, l15 = 0, l16 = 0, l17 = 0, l18 = 0, l19 = 0;
   u64 l3 = 0, l4 = 0, l5 = 0, l6 = 0, l7 = 0, l8 = 0, l9 = 0, l10 = 0, 
       l11 = 0;
@@ -28588,7 +28926,7 @@ static void f24(module *self, u64 p0, u64 p1, u64 p2) {
   j1 = 1024ull;
   j0 += j1;
   j1 = l7;
-  f23(self, j0, j1);
+  f26(self, j0, j1);
   j0 = p0;
   j1 = 196ull;
   j0 += j1;
@@ -29819,7 +30157,7 @@ static void f24(module *self, u64 p0, u64 p1, u64 p2) {
   self->g0 = j0;
 }
 
-static void f25(module *self, u64 p0, u64 p1, u64 p2, u64 p3, u64 p4, u64 p5, u64 p6) {
+static void f28(module *self, u64 p0, u64 p1, u64 p2, u64 p3, u64 p4, u64 p5, u64 p6) {
   u32 l18 = 0, l19 = 0, l20 = 0, l21 = 0, l22 = 0, l23 = 0, l24 = 0, l25 = 0, 
       l26 = 0, l27 = 0, l28 = 0, l29 = 0, l30 = 0, l31 = 0, l32 = 0, l33 = 0, 
       l34 = 0, l35 = 0, l36 = 0, l37 = 0, l38 = 0, l39 = 0, l40 = 0, l41 = 0, 
@@ -29841,7 +30179,7 @@ static void f25(module *self, u64 p0, u64 p1, u64 p2, u64 p3, u64 p4, u64 p5, u6
   j1 = 168ull;
   j0 += j1;
   j1 = p4;
-  f18(self, j0, j1);
+  f21(self, j0, j1);
   j0 = l7;
   i0 = (u32)(j0);
   i0 = i32_load8_u(j0 + 168u);
@@ -30472,7 +30810,7 @@ static void f25(module *self, u64 p0, u64 p1, u64 p2, u64 p3, u64 p4, u64 p5, u6
   j1 = 2072ull;
   j0 += j1;
   j1 = 3ull;
-  i0 = f12(self, j0, j1); m = self->memory; if (NEVER(self->is_broken)) return;
+  i0 = f15(self, j0, j1); m = self->memory; if (NEVER(self->is_broken)) return;
   i0 = !(i0);
   if (i0) {goto B24;}
   j0 = p1;
@@ -30533,7 +30871,7 @@ static void f25(module *self, u64 p0, u64 p1, u64 p2, u64 p3, u64 p4, u64 p5, u6
   j0 += j1;
   j1 = p1;
   i2 = l27;
-  f26(self, j0, j1, i2); if (NEVER(self->is_broken)) return;
+  f29(self, j0, j1, i2); if (NEVER(self->is_broken)) return;
   i0 = 1u;
   l18 = i0;
   i0 = 0u;
@@ -30541,87 +30879,87 @@ static void f25(module *self, u64 p0, u64 p1, u64 p2, u64 p3, u64 p4, u64 p5, u6
   j0 = p1;
   i1 = l58;
   i2 = 0u;
-  i0 = f27(self, j0, i1, i2); m = self->memory; if (NEVER(self->is_broken)) return;
+  i0 = f30(self, j0, i1, i2); m = self->memory; if (NEVER(self->is_broken)) return;
   l21 = i0;
   j0 = p1;
   i1 = l58;
   i2 = 1u;
-  i0 = f27(self, j0, i1, i2); m = self->memory; if (NEVER(self->is_broken)) return;
+  i0 = f30(self, j0, i1, i2); m = self->memory; if (NEVER(self->is_broken)) return;
   l24 = i0;
   j0 = p1;
   i1 = l58;
   i2 = 2u;
-  i0 = f27(self, j0, i1, i2); m = self->memory; if (NEVER(self->is_broken)) return;
+  i0 = f30(self, j0, i1, i2); m = self->memory; if (NEVER(self->is_broken)) return;
   l73 = i0;
   j0 = p1;
   i1 = l58;
   i2 = 3u;
-  i0 = f27(self, j0, i1, i2); m = self->memory; if (NEVER(self->is_broken)) return;
+  i0 = f30(self, j0, i1, i2); m = self->memory; if (NEVER(self->is_broken)) return;
   l28 = i0;
   j0 = p1;
   i1 = l58;
   i2 = 4u;
-  i0 = f27(self, j0, i1, i2); m = self->memory; if (NEVER(self->is_broken)) return;
+  i0 = f30(self, j0, i1, i2); m = self->memory; if (NEVER(self->is_broken)) return;
   l29 = i0;
   j0 = p1;
   i1 = l58;
   i2 = 5u;
-  i0 = f27(self, j0, i1, i2); m = self->memory; if (NEVER(self->is_broken)) return;
+  i0 = f30(self, j0, i1, i2); m = self->memory; if (NEVER(self->is_broken)) return;
   l22 = i0;
   j0 = p1;
   i1 = l58;
   i2 = 6u;
-  i0 = f27(self, j0, i1, i2); m = self->memory; if (NEVER(self->is_broken)) return;
+  i0 = f30(self, j0, i1, i2); m = self->memory; if (NEVER(self->is_broken)) return;
   l60 = i0;
   j0 = p1;
   i1 = l58;
   i2 = 7u;
-  i0 = f27(self, j0, i1, i2); m = self->memory; if (NEVER(self->is_broken)) return;
+  i0 = f30(self, j0, i1, i2); m = self->memory; if (NEVER(self->is_broken)) return;
   l27 = i0;
   j0 = p1;
   i1 = l58;
   i2 = 8u;
-  i0 = f27(self, j0, i1, i2); m = self->memory; if (NEVER(self->is_broken)) return;
+  i0 = f30(self, j0, i1, i2); m = self->memory; if (NEVER(self->is_broken)) return;
   l40 = i0;
   j0 = p1;
   i1 = l58;
   i2 = 9u;
-  i0 = f27(self, j0, i1, i2); m = self->memory; if (NEVER(self->is_broken)) return;
+  i0 = f30(self, j0, i1, i2); m = self->memory; if (NEVER(self->is_broken)) return;
   l68 = i0;
   j0 = p1;
   i1 = l58;
   i2 = 10u;
-  i0 = f27(self, j0, i1, i2); m = self->memory; if (NEVER(self->is_broken)) return;
+  i0 = f30(self, j0, i1, i2); m = self->memory; if (NEVER(self->is_broken)) return;
   l69 = i0;
   j0 = p1;
   i1 = l58;
   i2 = 11u;
-  i0 = f27(self, j0, i1, i2); m = self->memory; if (NEVER(self->is_broken)) return;
+  i0 = f30(self, j0, i1, i2); m = self->memory; if (NEVER(self->is_broken)) return;
   l19 = i0;
   j0 = p1;
   i1 = l58;
   i2 = 12u;
-  i0 = f27(self, j0, i1, i2); m = self->memory; if (NEVER(self->is_broken)) return;
+  i0 = f30(self, j0, i1, i2); m = self->memory; if (NEVER(self->is_broken)) return;
   l23 = i0;
   j0 = p1;
   i1 = l58;
   i2 = 13u;
-  i0 = f27(self, j0, i1, i2); m = self->memory; if (NEVER(self->is_broken)) return;
+  i0 = f30(self, j0, i1, i2); m = self->memory; if (NEVER(self->is_broken)) return;
   l26 = i0;
   j0 = p1;
   i1 = l58;
   i2 = 14u;
-  i0 = f27(self, j0, i1, i2); m = self->memory; if (NEVER(self->is_broken)) return;
+  i0 = f30(self, j0, i1, i2); m = self->memory; if (NEVER(self->is_broken)) return;
   l31 = i0;
   j0 = p1;
   i1 = l58;
   i2 = 15u;
-  i0 = f27(self, j0, i1, i2); m = self->memory; if (NEVER(self->is_broken)) return;
+  i0 = f30(self, j0, i1, i2); m = self->memory; if (NEVER(self->is_broken)) return;
   l57 = i0;
   j0 = p1;
   i1 = l58;
   i2 = 17u;
-  i0 = f27(self, j0, i1, i2); m = self->memory; if (NEVER(self->is_broken)) return;
+  i0 = f30(self, j0, i1, i2); m = self->memory; if (NEVER(self->is_broken)) return;
   j0 = (u64)(i0);
   j1 = 255ull;
   j0 &= j1;
@@ -30739,7 +31077,7 @@ static void f25(module *self, u64 p0, u64 p1, u64 p2, u64 p3, u64 p4, u64 p5, u6
   j1 *= j2;
   p5 = j1;
   j2 = 1ull;
-  f155(self, j0, j1, j2); m = self->memory; if (NEVER(self->is_broken)) return;
+  f159(self, j0, j1, j2); m = self->memory; if (NEVER(self->is_broken)) return;
   i0 = 1u;
   l59 = i0;
   j0 = 0ull;
@@ -30780,7 +31118,7 @@ static void f25(module *self, u64 p0, u64 p1, u64 p2, u64 p3, u64 p4, u64 p5, u6
   j0 += j1;
   j1 = 24ull;
   j2 = 8ull;
-  f155(self, j0, j1, j2); m = self->memory; if (NEVER(self->is_broken)) return;
+  f159(self, j0, j1, j2); m = self->memory; if (NEVER(self->is_broken)) return;
   i0 = 1u;
   l59 = i0;
   j0 = l7;
@@ -30791,7 +31129,7 @@ static void f25(module *self, u64 p0, u64 p1, u64 p2, u64 p3, u64 p4, u64 p5, u6
   i0 &= i1;
   if (i0) {goto B29;}
   j0 = l9;
-  f158(self, j0);
+  f162(self, j0);
   goto B11;
   B29:;
   j0 = l7;
@@ -30859,7 +31197,7 @@ static void f25(module *self, u64 p0, u64 p1, u64 p2, u64 p3, u64 p4, u64 p5, u6
   j1 = 2072ull;
   j0 += j1;
   j1 = 4ull;
-  i0 = f12(self, j0, j1); m = self->memory; if (NEVER(self->is_broken)) return;
+  i0 = f15(self, j0, j1); m = self->memory; if (NEVER(self->is_broken)) return;
   i0 = !(i0);
   if (i0) {goto B30;}
   j0 = p1;
@@ -30995,7 +31333,7 @@ static void f25(module *self, u64 p0, u64 p1, u64 p2, u64 p3, u64 p4, u64 p5, u6
     j1 = 2072ull;
     j0 += j1;
     j1 = 3ull;
-    i0 = f12(self, j0, j1); m = self->memory; if (NEVER(self->is_broken)) return;
+    i0 = f15(self, j0, j1); m = self->memory; if (NEVER(self->is_broken)) return;
     i0 = !(i0);
     if (i0) {goto B34;}
     j0 = p1;
@@ -31229,7 +31567,7 @@ static void f25(module *self, u64 p0, u64 p1, u64 p2, u64 p3, u64 p4, u64 p5, u6
   i2 = (u32)(j2);
   i3 = 255u;
   i2 &= i3;
-  f20(self, j0, i1, i2);
+  f23(self, j0, i1, i2);
   i0 = 1u;
   l21 = i0;
   j0 = l7;
@@ -31283,86 +31621,86 @@ static void f25(module *self, u64 p0, u64 p1, u64 p2, u64 p3, u64 p4, u64 p5, u6
   j4 = l7;
   i4 = (u32)(j4);
   i4 = i32_load8_u(j4 + 200u);
-  f28(self, j0, j1, j2, j3, i4); m = self->memory; if (NEVER(self->is_broken)) return;
+  f31(self, j0, j1, j2, j3, i4); m = self->memory; if (NEVER(self->is_broken)) return;
   j0 = p1;
   i1 = l58;
   i2 = 9u;
-  f29(self, j0, i1, i2); m = self->memory; if (NEVER(self->is_broken)) return;
+  f32(self, j0, i1, i2); m = self->memory; if (NEVER(self->is_broken)) return;
   j0 = p1;
   i1 = l58;
   i2 = 1u;
   i1 += i2;
   l59 = i1;
   i2 = l22;
-  f29(self, j0, i1, i2); m = self->memory; if (NEVER(self->is_broken)) return;
+  f32(self, j0, i1, i2); m = self->memory; if (NEVER(self->is_broken)) return;
   j0 = p1;
   i1 = l58;
   i2 = 10u;
-  f29(self, j0, i1, i2); m = self->memory; if (NEVER(self->is_broken)) return;
+  f32(self, j0, i1, i2); m = self->memory; if (NEVER(self->is_broken)) return;
   j0 = p1;
   i1 = l59;
   i2 = l18;
   i3 = 8u;
   i2 >>= (i3 & 31);
-  f29(self, j0, i1, i2); m = self->memory; if (NEVER(self->is_broken)) return;
+  f32(self, j0, i1, i2); m = self->memory; if (NEVER(self->is_broken)) return;
   j0 = p1;
   i1 = l58;
   i2 = 11u;
-  f29(self, j0, i1, i2); m = self->memory; if (NEVER(self->is_broken)) return;
+  f32(self, j0, i1, i2); m = self->memory; if (NEVER(self->is_broken)) return;
   j0 = p1;
   i1 = l59;
   i2 = l18;
-  f29(self, j0, i1, i2); m = self->memory; if (NEVER(self->is_broken)) return;
+  f32(self, j0, i1, i2); m = self->memory; if (NEVER(self->is_broken)) return;
   j0 = p1;
   i1 = l58;
   i2 = 18u;
-  f29(self, j0, i1, i2); m = self->memory; if (NEVER(self->is_broken)) return;
+  f32(self, j0, i1, i2); m = self->memory; if (NEVER(self->is_broken)) return;
   j0 = p1;
   i1 = l59;
   i2 = l29;
-  f29(self, j0, i1, i2); m = self->memory; if (NEVER(self->is_broken)) return;
+  f32(self, j0, i1, i2); m = self->memory; if (NEVER(self->is_broken)) return;
   j0 = p1;
   i1 = l58;
   i2 = 20u;
-  f29(self, j0, i1, i2); m = self->memory; if (NEVER(self->is_broken)) return;
+  f32(self, j0, i1, i2); m = self->memory; if (NEVER(self->is_broken)) return;
   j0 = p1;
   i1 = l59;
   i2 = l21;
-  f29(self, j0, i1, i2); m = self->memory; if (NEVER(self->is_broken)) return;
+  f32(self, j0, i1, i2); m = self->memory; if (NEVER(self->is_broken)) return;
   j0 = p1;
   i1 = l58;
   i2 = 12u;
-  f29(self, j0, i1, i2); m = self->memory; if (NEVER(self->is_broken)) return;
+  f32(self, j0, i1, i2); m = self->memory; if (NEVER(self->is_broken)) return;
   i0 = 0u;
   l21 = i0;
   j0 = p1;
   i1 = l59;
   i2 = 0u;
-  f29(self, j0, i1, i2); m = self->memory; if (NEVER(self->is_broken)) return;
+  f32(self, j0, i1, i2); m = self->memory; if (NEVER(self->is_broken)) return;
   j0 = p1;
   i1 = l58;
   i2 = 13u;
-  f29(self, j0, i1, i2); m = self->memory; if (NEVER(self->is_broken)) return;
+  f32(self, j0, i1, i2); m = self->memory; if (NEVER(self->is_broken)) return;
   j0 = p1;
   i1 = l59;
   i2 = 0u;
-  f29(self, j0, i1, i2); m = self->memory; if (NEVER(self->is_broken)) return;
+  f32(self, j0, i1, i2); m = self->memory; if (NEVER(self->is_broken)) return;
   j0 = p1;
   i1 = l58;
   i2 = 14u;
-  f29(self, j0, i1, i2); m = self->memory; if (NEVER(self->is_broken)) return;
+  f32(self, j0, i1, i2); m = self->memory; if (NEVER(self->is_broken)) return;
   j0 = p1;
   i1 = l59;
   i2 = 0u;
-  f29(self, j0, i1, i2); m = self->memory; if (NEVER(self->is_broken)) return;
+  f32(self, j0, i1, i2); m = self->memory; if (NEVER(self->is_broken)) return;
   j0 = p1;
   i1 = l58;
   i2 = 15u;
-  f29(self, j0, i1, i2); m = self->memory; if (NEVER(self->is_broken)) return;
+  f32(self, j0, i1, i2); m = self->memory; if (NEVER(self->is_broken)) return;
   j0 = p1;
   i1 = l59;
   i2 = 0u;
-  f29(self, j0, i1, i2); m = self->memory; if (NEVER(self->is_broken)) return;
+  f32(self, j0, i1, i2); m = self->memory; if (NEVER(self->is_broken)) return;
   j0 = p2;
   i0 = (u32)(j0);
   j1 = 0ull;
@@ -31474,7 +31812,7 @@ static void f25(module *self, u64 p0, u64 p1, u64 p2, u64 p3, u64 p4, u64 p5, u6
   j2 = 288ull;
   j1 += j2;
   j2 = p2;
-  f30(self, j0, j1, j2);
+  f33(self, j0, j1, j2);
   j0 = l7;
   j1 = 160ull;
   j0 += j1;
@@ -31483,7 +31821,7 @@ static void f25(module *self, u64 p0, u64 p1, u64 p2, u64 p3, u64 p4, u64 p5, u6
   j1 += j2;
   j2 = p2;
   j3 = p6;
-  f31(self, j0, j1, j2, j3);
+  f34(self, j0, j1, j2, j3);
   j0 = l7;
   i0 = (u32)(j0);
   i0 = i32_load8_u(j0 + 160u);
@@ -31591,7 +31929,7 @@ static void f25(module *self, u64 p0, u64 p1, u64 p2, u64 p3, u64 p4, u64 p5, u6
   i1 = i32_load16_u(j1);
   l58 = i1;
   i2 = 10u;
-  f29(self, j0, i1, i2); m = self->memory; if (NEVER(self->is_broken)) return;
+  f32(self, j0, i1, i2); m = self->memory; if (NEVER(self->is_broken)) return;
   j0 = p1;
   i1 = l58;
   i2 = 1u;
@@ -31600,15 +31938,15 @@ static void f25(module *self, u64 p0, u64 p1, u64 p2, u64 p3, u64 p4, u64 p5, u6
   i2 = l73;
   i3 = 8u;
   i2 >>= (i3 & 31);
-  f29(self, j0, i1, i2); m = self->memory; if (NEVER(self->is_broken)) return;
+  f32(self, j0, i1, i2); m = self->memory; if (NEVER(self->is_broken)) return;
   j0 = p1;
   i1 = l58;
   i2 = 11u;
-  f29(self, j0, i1, i2); m = self->memory; if (NEVER(self->is_broken)) return;
+  f32(self, j0, i1, i2); m = self->memory; if (NEVER(self->is_broken)) return;
   j0 = p1;
   i1 = l27;
   i2 = l73;
-  f29(self, j0, i1, i2); m = self->memory; if (NEVER(self->is_broken)) return;
+  f32(self, j0, i1, i2); m = self->memory; if (NEVER(self->is_broken)) return;
   j0 = p2;
   j1 = 24ull;
   j0 += j1;
@@ -31630,7 +31968,7 @@ static void f25(module *self, u64 p0, u64 p1, u64 p2, u64 p3, u64 p4, u64 p5, u6
   j0 = p1;
   j1 = p2;
   i2 = l18;
-  f32(self, j0, j1, i2); m = self->memory; if (NEVER(self->is_broken)) return;
+  f35(self, j0, j1, i2); m = self->memory; if (NEVER(self->is_broken)) return;
   goto B47;
   B67:;
   j0 = p2;
@@ -31665,7 +32003,7 @@ static void f25(module *self, u64 p0, u64 p1, u64 p2, u64 p3, u64 p4, u64 p5, u6
   i1 = i32_load16_u(j1);
   l58 = i1;
   i2 = 12u;
-  f29(self, j0, i1, i2); m = self->memory; if (NEVER(self->is_broken)) return;
+  f32(self, j0, i1, i2); m = self->memory; if (NEVER(self->is_broken)) return;
   j0 = p1;
   i1 = l58;
   i2 = 1u;
@@ -31685,15 +32023,15 @@ static void f25(module *self, u64 p0, u64 p1, u64 p2, u64 p3, u64 p4, u64 p5, u6
   l27 = i2;
   i3 = 8u;
   i2 >>= (i3 & 31);
-  f29(self, j0, i1, i2); m = self->memory; if (NEVER(self->is_broken)) return;
+  f32(self, j0, i1, i2); m = self->memory; if (NEVER(self->is_broken)) return;
   j0 = p1;
   i1 = l58;
   i2 = 13u;
-  f29(self, j0, i1, i2); m = self->memory; if (NEVER(self->is_broken)) return;
+  f32(self, j0, i1, i2); m = self->memory; if (NEVER(self->is_broken)) return;
   j0 = p1;
   i1 = l24;
   i2 = l27;
-  f29(self, j0, i1, i2); m = self->memory; if (NEVER(self->is_broken)) return;
+  f32(self, j0, i1, i2); m = self->memory; if (NEVER(self->is_broken)) return;
   j0 = p2;
   j1 = 6ull;
   j0 += j1;
@@ -31709,7 +32047,7 @@ static void f25(module *self, u64 p0, u64 p1, u64 p2, u64 p3, u64 p4, u64 p5, u6
   j0 = p1;
   j1 = p2;
   i2 = l18;
-  f32(self, j0, j1, i2); m = self->memory; if (NEVER(self->is_broken)) return;
+  f35(self, j0, j1, i2); m = self->memory; if (NEVER(self->is_broken)) return;
   goto B47;
   B65:;
   j0 = l7;
@@ -31816,7 +32154,7 @@ static void f25(module *self, u64 p0, u64 p1, u64 p2, u64 p3, u64 p4, u64 p5, u6
   j4 = l7;
   j5 = 304ull;
   j4 += j5;
-  f33(self, j0, j1, j2, i3, j4); m = self->memory; if (NEVER(self->is_broken)) return;
+  f36(self, j0, j1, j2, i3, j4); m = self->memory; if (NEVER(self->is_broken)) return;
   goto B47;
   B64:;
   j0 = l7;
@@ -31927,7 +32265,7 @@ static void f25(module *self, u64 p0, u64 p1, u64 p2, u64 p3, u64 p4, u64 p5, u6
   j4 = l7;
   j5 = 304ull;
   j4 += j5;
-  f33(self, j0, j1, j2, i3, j4); m = self->memory; if (NEVER(self->is_broken)) return;
+  f36(self, j0, j1, j2, i3, j4); m = self->memory; if (NEVER(self->is_broken)) return;
   goto B47;
   B63:;
   j0 = p2;
@@ -32031,7 +32369,7 @@ static void f25(module *self, u64 p0, u64 p1, u64 p2, u64 p3, u64 p4, u64 p5, u6
   j1 = 2072ull;
   j0 += j1;
   j1 = 5ull;
-  i0 = f12(self, j0, j1); m = self->memory; if (NEVER(self->is_broken)) return;
+  i0 = f15(self, j0, j1); m = self->memory; if (NEVER(self->is_broken)) return;
   i0 = !(i0);
   if (i0) {goto B71;}
   j0 = p1;
@@ -32084,7 +32422,7 @@ static void f25(module *self, u64 p0, u64 p1, u64 p2, u64 p3, u64 p4, u64 p5, u6
   j0 += j1;
   j1 = p1;
   i2 = l58;
-  f34(self, j0, j1, i2);
+  f37(self, j0, j1, i2);
   i0 = l58;
   i1 = 1u;
   i0 += i1;
@@ -32143,7 +32481,7 @@ static void f25(module *self, u64 p0, u64 p1, u64 p2, u64 p3, u64 p4, u64 p5, u6
   j1 = 2072ull;
   j0 += j1;
   j1 = 5ull;
-  i0 = f12(self, j0, j1); m = self->memory; if (NEVER(self->is_broken)) return;
+  i0 = f15(self, j0, j1); m = self->memory; if (NEVER(self->is_broken)) return;
   i0 = !(i0);
   if (i0) {goto B73;}
   j0 = p1;
@@ -32196,7 +32534,7 @@ static void f25(module *self, u64 p0, u64 p1, u64 p2, u64 p3, u64 p4, u64 p5, u6
   j0 += j1;
   j1 = p1;
   i2 = l58;
-  f34(self, j0, j1, i2);
+  f37(self, j0, j1, i2);
   i0 = 4294967295u;
   j1 = l7;
   i1 = (u32)(j1);
@@ -32312,7 +32650,7 @@ static void f25(module *self, u64 p0, u64 p1, u64 p2, u64 p3, u64 p4, u64 p5, u6
   j0 = p1;
   i1 = 5u;
   i2 = 8u;
-  f35(self, j0, i1, i2); m = self->memory; if (NEVER(self->is_broken)) return;
+  f38(self, j0, i1, i2); m = self->memory; if (NEVER(self->is_broken)) return;
   B79:;
   i0 = l23;
   i0 = !(i0);
@@ -32436,7 +32774,7 @@ static void f25(module *self, u64 p0, u64 p1, u64 p2, u64 p3, u64 p4, u64 p5, u6
     j1 = 2072ull;
     j0 += j1;
     j1 = 5ull;
-    i0 = f12(self, j0, j1); m = self->memory; if (NEVER(self->is_broken)) return;
+    i0 = f15(self, j0, j1); m = self->memory; if (NEVER(self->is_broken)) return;
     i0 = !(i0);
     if (i0) {goto B86;}
     j0 = p1;
@@ -32489,7 +32827,7 @@ static void f25(module *self, u64 p0, u64 p1, u64 p2, u64 p3, u64 p4, u64 p5, u6
     j0 += j1;
     j1 = p1;
     i2 = l58;
-    f34(self, j0, j1, i2);
+    f37(self, j0, j1, i2);
     j0 = p6;
     i0 = (u32)(j0);
     i1 = 0u;
@@ -32591,7 +32929,7 @@ static void f25(module *self, u64 p0, u64 p1, u64 p2, u64 p3, u64 p4, u64 p5, u6
       j1 = 2072ull;
       j0 += j1;
       j1 = 5ull;
-      i0 = f12(self, j0, j1); m = self->memory; if (NEVER(self->is_broken)) return;
+      i0 = f15(self, j0, j1); m = self->memory; if (NEVER(self->is_broken)) return;
       i0 = !(i0);
       if (i0) {goto B90;}
       j0 = p1;
@@ -32850,7 +33188,7 @@ static void f25(module *self, u64 p0, u64 p1, u64 p2, u64 p3, u64 p4, u64 p5, u6
   j0 = p1;
   i1 = 5u;
   i2 = 0u;
-  f35(self, j0, i1, i2); m = self->memory; if (NEVER(self->is_broken)) return;
+  f38(self, j0, i1, i2); m = self->memory; if (NEVER(self->is_broken)) return;
   B80:;
   i0 = l40;
   i1 = 4294967040u;
@@ -32860,7 +33198,7 @@ static void f25(module *self, u64 p0, u64 p1, u64 p2, u64 p3, u64 p4, u64 p5, u6
   j3 = l7;
   j4 = 184ull;
   j3 += j4;
-  i1 = f36(self, j1, i2, j3); if (NEVER(self->is_broken)) return;
+  i1 = f39(self, j1, i2, j3); if (NEVER(self->is_broken)) return;
   i2 = 255u;
   i1 &= i2;
   i0 |= i1;
@@ -32940,7 +33278,7 @@ static void f25(module *self, u64 p0, u64 p1, u64 p2, u64 p3, u64 p4, u64 p5, u6
     i3 = l24;
     i4 = l58;
     i5 = l18;
-    f37(self, j0, j1, i2, i3, i4, i5); m = self->memory; if (NEVER(self->is_broken)) return;
+    f40(self, j0, j1, i2, i3, i4, i5); m = self->memory; if (NEVER(self->is_broken)) return;
     i0 = l27;
     i1 = 1u;
     i0 += i1;
@@ -33013,7 +33351,7 @@ static void f25(module *self, u64 p0, u64 p1, u64 p2, u64 p3, u64 p4, u64 p5, u6
   j0 = p1;
   i1 = l58;
   i2 = l28;
-  f38(self, j0, i1, i2); m = self->memory; if (NEVER(self->is_broken)) return;
+  f41(self, j0, i1, i2); m = self->memory; if (NEVER(self->is_broken)) return;
   goto B47;
   B101:;
   j0 = p1;
@@ -33023,7 +33361,7 @@ static void f25(module *self, u64 p0, u64 p1, u64 p2, u64 p3, u64 p4, u64 p5, u6
   i4 = 7u;
   i3 &= i4;
   i2 >>= (i3 & 31);
-  f35(self, j0, i1, i2); m = self->memory; if (NEVER(self->is_broken)) return;
+  f38(self, j0, i1, i2); m = self->memory; if (NEVER(self->is_broken)) return;
   i0 = l28;
   i1 = 4294967295u;
   i0 = (u32)((s32)i0 > (s32)i1);
@@ -33031,7 +33369,7 @@ static void f25(module *self, u64 p0, u64 p1, u64 p2, u64 p3, u64 p4, u64 p5, u6
   j0 = p1;
   i1 = 3u;
   i2 = 24u;
-  f35(self, j0, i1, i2); m = self->memory; if (NEVER(self->is_broken)) return;
+  f38(self, j0, i1, i2); m = self->memory; if (NEVER(self->is_broken)) return;
   B102:;
   j0 = p1;
   j1 = 2096ull;
@@ -33080,7 +33418,7 @@ static void f25(module *self, u64 p0, u64 p1, u64 p2, u64 p3, u64 p4, u64 p5, u6
   j1 = 2072ull;
   j0 += j1;
   j1 = 5ull;
-  i0 = f12(self, j0, j1); m = self->memory; if (NEVER(self->is_broken)) return;
+  i0 = f15(self, j0, j1); m = self->memory; if (NEVER(self->is_broken)) return;
   i0 = !(i0);
   if (i0) {goto B103;}
   j0 = p1;
@@ -33133,19 +33471,19 @@ static void f25(module *self, u64 p0, u64 p1, u64 p2, u64 p3, u64 p4, u64 p5, u6
   j0 += j1;
   j1 = p1;
   i2 = l58;
-  f34(self, j0, j1, i2);
+  f37(self, j0, j1, i2);
   j0 = p1;
   i1 = 5u;
   i2 = 2u;
-  f35(self, j0, i1, i2); m = self->memory; if (NEVER(self->is_broken)) return;
+  f38(self, j0, i1, i2); m = self->memory; if (NEVER(self->is_broken)) return;
   j0 = p1;
   i1 = l58;
   i2 = l28;
-  f38(self, j0, i1, i2); m = self->memory; if (NEVER(self->is_broken)) return;
+  f41(self, j0, i1, i2); m = self->memory; if (NEVER(self->is_broken)) return;
   j0 = p1;
   i1 = 5u;
   i2 = 0u;
-  f35(self, j0, i1, i2); m = self->memory; if (NEVER(self->is_broken)) return;
+  f38(self, j0, i1, i2); m = self->memory; if (NEVER(self->is_broken)) return;
   i0 = l28;
   i1 = 4294967295u;
   i0 = (u32)((s32)i0 > (s32)i1);
@@ -33153,12 +33491,12 @@ static void f25(module *self, u64 p0, u64 p1, u64 p2, u64 p3, u64 p4, u64 p5, u6
   j0 = p1;
   i1 = 3u;
   i2 = 0u;
-  f35(self, j0, i1, i2); m = self->memory; if (NEVER(self->is_broken)) return;
+  f38(self, j0, i1, i2); m = self->memory; if (NEVER(self->is_broken)) return;
   B105:;
   j0 = p1;
   i1 = 8u;
   i2 = 255u;
-  f35(self, j0, i1, i2); m = self->memory; if (NEVER(self->is_broken)) return;
+  f38(self, j0, i1, i2); m = self->memory; if (NEVER(self->is_broken)) return;
   goto B47;
   B60:;
   j0 = p2;
@@ -33265,7 +33603,7 @@ static void f25(module *self, u64 p0, u64 p1, u64 p2, u64 p3, u64 p4, u64 p5, u6
   j1 = 2072ull;
   j0 += j1;
   j1 = 5ull;
-  i0 = f12(self, j0, j1); m = self->memory; if (NEVER(self->is_broken)) return;
+  i0 = f15(self, j0, j1); m = self->memory; if (NEVER(self->is_broken)) return;
   i0 = !(i0);
   if (i0) {goto B110;}
   j0 = p1;
@@ -33318,7 +33656,7 @@ static void f25(module *self, u64 p0, u64 p1, u64 p2, u64 p3, u64 p4, u64 p5, u6
   j0 += j1;
   j1 = p1;
   i2 = l58;
-  f34(self, j0, j1, i2);
+  f37(self, j0, j1, i2);
   i0 = 4294967295u;
   j1 = l7;
   i1 = (u32)(j1);
@@ -33333,7 +33671,7 @@ static void f25(module *self, u64 p0, u64 p1, u64 p2, u64 p3, u64 p4, u64 p5, u6
   j0 = p1;
   i1 = 4u;
   i2 = 0u;
-  f35(self, j0, i1, i2); m = self->memory; if (NEVER(self->is_broken)) return;
+  f38(self, j0, i1, i2); m = self->memory; if (NEVER(self->is_broken)) return;
   j0 = p1;
   j1 = 2096ull;
   j0 += j1;
@@ -33381,7 +33719,7 @@ static void f25(module *self, u64 p0, u64 p1, u64 p2, u64 p3, u64 p4, u64 p5, u6
   j1 = 2072ull;
   j0 += j1;
   j1 = 5ull;
-  i0 = f12(self, j0, j1); m = self->memory; if (NEVER(self->is_broken)) return;
+  i0 = f15(self, j0, j1); m = self->memory; if (NEVER(self->is_broken)) return;
   i0 = !(i0);
   if (i0) {goto B112;}
   j0 = p1;
@@ -33434,7 +33772,7 @@ static void f25(module *self, u64 p0, u64 p1, u64 p2, u64 p3, u64 p4, u64 p5, u6
   j0 += j1;
   j1 = p1;
   i2 = l58;
-  f34(self, j0, j1, i2);
+  f37(self, j0, j1, i2);
   j0 = l7;
   i0 = (u32)(j0);
   i0 = i32_load8_u(j0 + 121u);
@@ -33446,7 +33784,7 @@ static void f25(module *self, u64 p0, u64 p1, u64 p2, u64 p3, u64 p4, u64 p5, u6
   j0 = p1;
   i1 = 4u;
   i2 = 1u;
-  f35(self, j0, i1, i2); m = self->memory; if (NEVER(self->is_broken)) return;
+  f38(self, j0, i1, i2); m = self->memory; if (NEVER(self->is_broken)) return;
   j0 = l8;
   i0 = (u32)(j0);
   j0 = i64_load(j0);
@@ -33493,7 +33831,7 @@ static void f25(module *self, u64 p0, u64 p1, u64 p2, u64 p3, u64 p4, u64 p5, u6
   j1 = 2072ull;
   j0 += j1;
   j1 = 5ull;
-  i0 = f12(self, j0, j1); m = self->memory; if (NEVER(self->is_broken)) return;
+  i0 = f15(self, j0, j1); m = self->memory; if (NEVER(self->is_broken)) return;
   i0 = !(i0);
   if (i0) {goto B114;}
   j0 = p1;
@@ -33546,7 +33884,7 @@ static void f25(module *self, u64 p0, u64 p1, u64 p2, u64 p3, u64 p4, u64 p5, u6
   j0 += j1;
   j1 = p1;
   i2 = l58;
-  f34(self, j0, j1, i2);
+  f37(self, j0, j1, i2);
   j0 = l7;
   i0 = (u32)(j0);
   i0 = i32_load8_u(j0 + 113u);
@@ -33558,7 +33896,7 @@ static void f25(module *self, u64 p0, u64 p1, u64 p2, u64 p3, u64 p4, u64 p5, u6
   j0 = p1;
   i1 = 4u;
   i2 = 2u;
-  f35(self, j0, i1, i2); m = self->memory; if (NEVER(self->is_broken)) return;
+  f38(self, j0, i1, i2); m = self->memory; if (NEVER(self->is_broken)) return;
   j0 = p1;
   j1 = 2096ull;
   j0 += j1;
@@ -33606,7 +33944,7 @@ static void f25(module *self, u64 p0, u64 p1, u64 p2, u64 p3, u64 p4, u64 p5, u6
   j1 = 2072ull;
   j0 += j1;
   j1 = 5ull;
-  i0 = f12(self, j0, j1); m = self->memory; if (NEVER(self->is_broken)) return;
+  i0 = f15(self, j0, j1); m = self->memory; if (NEVER(self->is_broken)) return;
   i0 = !(i0);
   if (i0) {goto B116;}
   j0 = p1;
@@ -33659,7 +33997,7 @@ static void f25(module *self, u64 p0, u64 p1, u64 p2, u64 p3, u64 p4, u64 p5, u6
   j0 += j1;
   j1 = p1;
   i2 = l58;
-  f34(self, j0, j1, i2);
+  f37(self, j0, j1, i2);
   j0 = l7;
   i0 = (u32)(j0);
   i0 = i32_load8_u(j0 + 105u);
@@ -33671,7 +34009,7 @@ static void f25(module *self, u64 p0, u64 p1, u64 p2, u64 p3, u64 p4, u64 p5, u6
   j0 = p1;
   i1 = 4u;
   i2 = 3u;
-  f35(self, j0, i1, i2); m = self->memory; if (NEVER(self->is_broken)) return;
+  f38(self, j0, i1, i2); m = self->memory; if (NEVER(self->is_broken)) return;
   j0 = l8;
   i0 = (u32)(j0);
   j0 = i64_load(j0);
@@ -33718,7 +34056,7 @@ static void f25(module *self, u64 p0, u64 p1, u64 p2, u64 p3, u64 p4, u64 p5, u6
   j1 = 2072ull;
   j0 += j1;
   j1 = 5ull;
-  i0 = f12(self, j0, j1); m = self->memory; if (NEVER(self->is_broken)) return;
+  i0 = f15(self, j0, j1); m = self->memory; if (NEVER(self->is_broken)) return;
   i0 = !(i0);
   if (i0) {goto B118;}
   j0 = p1;
@@ -33771,7 +34109,7 @@ static void f25(module *self, u64 p0, u64 p1, u64 p2, u64 p3, u64 p4, u64 p5, u6
   j0 += j1;
   j1 = p1;
   i2 = l58;
-  f34(self, j0, j1, i2);
+  f37(self, j0, j1, i2);
   j0 = l7;
   i0 = (u32)(j0);
   i0 = i32_load8_u(j0 + 97u);
@@ -33783,7 +34121,7 @@ static void f25(module *self, u64 p0, u64 p1, u64 p2, u64 p3, u64 p4, u64 p5, u6
   j0 = p1;
   i1 = 4u;
   i2 = 0u;
-  f35(self, j0, i1, i2); m = self->memory; if (NEVER(self->is_broken)) return;
+  f38(self, j0, i1, i2); m = self->memory; if (NEVER(self->is_broken)) return;
   i0 = 4294967295u;
   i1 = l18;
   i2 = l24;
@@ -33910,12 +34248,12 @@ static void f25(module *self, u64 p0, u64 p1, u64 p2, u64 p3, u64 p4, u64 p5, u6
   i4 = l18;
   i5 = l73;
   i6 = 0u;
-  i1 = f39(self, j1, j2, i3, i4, i5, i6); m = self->memory; if (NEVER(self->is_broken)) return;
+  i1 = f42(self, j1, j2, i3, i4, i5, i6); m = self->memory; if (NEVER(self->is_broken)) return;
   i32_store16(j0, i1);
   j0 = p1;
   j1 = p2;
   i2 = l58;
-  f32(self, j0, j1, i2); m = self->memory; if (NEVER(self->is_broken)) return;
+  f35(self, j0, j1, i2); m = self->memory; if (NEVER(self->is_broken)) return;
   goto B47;
   B58:;
   j0 = p2;
@@ -33976,14 +34314,14 @@ static void f25(module *self, u64 p0, u64 p1, u64 p2, u64 p3, u64 p4, u64 p5, u6
   i1 = l27;
   i2 = l59;
   i3 = l58;
-  f40(self, j0, i1, i2, i3); m = self->memory; if (NEVER(self->is_broken)) return;
+  f43(self, j0, i1, i2, i3); m = self->memory; if (NEVER(self->is_broken)) return;
   goto B47;
   B129:;
   j0 = p1;
   i1 = l27;
   i2 = 17u;
   i3 = l59;
-  f40(self, j0, i1, i2, i3); m = self->memory; if (NEVER(self->is_broken)) return;
+  f43(self, j0, i1, i2, i3); m = self->memory; if (NEVER(self->is_broken)) return;
   goto B47;
   B128:;
   i0 = l27;
@@ -34037,7 +34375,7 @@ static void f25(module *self, u64 p0, u64 p1, u64 p2, u64 p3, u64 p4, u64 p5, u6
   j1 = 2072ull;
   j0 += j1;
   j1 = 3ull;
-  i0 = f12(self, j0, j1); m = self->memory; if (NEVER(self->is_broken)) return;
+  i0 = f15(self, j0, j1); m = self->memory; if (NEVER(self->is_broken)) return;
   i0 = !(i0);
   if (i0) {goto B131;}
   j0 = p1;
@@ -34098,112 +34436,112 @@ static void f25(module *self, u64 p0, u64 p1, u64 p2, u64 p3, u64 p4, u64 p5, u6
   j0 += j1;
   j1 = p1;
   i2 = l58;
-  f26(self, j0, j1, i2); if (NEVER(self->is_broken)) return;
+  f29(self, j0, j1, i2); if (NEVER(self->is_broken)) return;
   j0 = p1;
   i1 = 0u;
   j2 = p5;
   i2 = (u32)(j2);
   i2 = i32_load8_u(j2);
-  f41(self, j0, i1, i2); m = self->memory; if (NEVER(self->is_broken)) return;
+  f44(self, j0, i1, i2); m = self->memory; if (NEVER(self->is_broken)) return;
   j0 = p1;
   i1 = 1u;
   j2 = p5;
   i2 = (u32)(j2);
   i2 = i32_load8_u(j2 + 1u);
-  f41(self, j0, i1, i2); m = self->memory; if (NEVER(self->is_broken)) return;
+  f44(self, j0, i1, i2); m = self->memory; if (NEVER(self->is_broken)) return;
   j0 = p1;
   i1 = 2u;
   j2 = p5;
   i2 = (u32)(j2);
   i2 = i32_load8_u(j2 + 2u);
-  f41(self, j0, i1, i2); m = self->memory; if (NEVER(self->is_broken)) return;
+  f44(self, j0, i1, i2); m = self->memory; if (NEVER(self->is_broken)) return;
   j0 = p1;
   i1 = 3u;
   j2 = p5;
   i2 = (u32)(j2);
   i2 = i32_load8_u(j2 + 3u);
-  f41(self, j0, i1, i2); m = self->memory; if (NEVER(self->is_broken)) return;
+  f44(self, j0, i1, i2); m = self->memory; if (NEVER(self->is_broken)) return;
   j0 = p1;
   i1 = 4u;
   j2 = p5;
   i2 = (u32)(j2);
   i2 = i32_load8_u(j2 + 4u);
-  f41(self, j0, i1, i2); m = self->memory; if (NEVER(self->is_broken)) return;
+  f44(self, j0, i1, i2); m = self->memory; if (NEVER(self->is_broken)) return;
   j0 = p1;
   i1 = 5u;
   j2 = p5;
   i2 = (u32)(j2);
   i2 = i32_load8_u(j2 + 5u);
-  f41(self, j0, i1, i2); m = self->memory; if (NEVER(self->is_broken)) return;
+  f44(self, j0, i1, i2); m = self->memory; if (NEVER(self->is_broken)) return;
   j0 = p1;
   i1 = 6u;
   j2 = p5;
   i2 = (u32)(j2);
   i2 = i32_load8_u(j2 + 6u);
-  f41(self, j0, i1, i2); m = self->memory; if (NEVER(self->is_broken)) return;
+  f44(self, j0, i1, i2); m = self->memory; if (NEVER(self->is_broken)) return;
   j0 = p1;
   i1 = 7u;
   j2 = p5;
   i2 = (u32)(j2);
   i2 = i32_load8_u(j2 + 7u);
-  f41(self, j0, i1, i2); m = self->memory; if (NEVER(self->is_broken)) return;
+  f44(self, j0, i1, i2); m = self->memory; if (NEVER(self->is_broken)) return;
   j0 = p1;
   i1 = 8u;
   j2 = p5;
   i2 = (u32)(j2);
   i2 = i32_load8_u(j2 + 8u);
-  f41(self, j0, i1, i2); m = self->memory; if (NEVER(self->is_broken)) return;
+  f44(self, j0, i1, i2); m = self->memory; if (NEVER(self->is_broken)) return;
   j0 = p1;
   i1 = 9u;
   j2 = p5;
   i2 = (u32)(j2);
   i2 = i32_load8_u(j2 + 9u);
-  f41(self, j0, i1, i2); m = self->memory; if (NEVER(self->is_broken)) return;
+  f44(self, j0, i1, i2); m = self->memory; if (NEVER(self->is_broken)) return;
   j0 = p1;
   i1 = 10u;
   j2 = p5;
   i2 = (u32)(j2);
   i2 = i32_load8_u(j2 + 10u);
-  f41(self, j0, i1, i2); m = self->memory; if (NEVER(self->is_broken)) return;
+  f44(self, j0, i1, i2); m = self->memory; if (NEVER(self->is_broken)) return;
   j0 = p1;
   i1 = 11u;
   j2 = p5;
   i2 = (u32)(j2);
   i2 = i32_load8_u(j2 + 11u);
-  f41(self, j0, i1, i2); m = self->memory; if (NEVER(self->is_broken)) return;
+  f44(self, j0, i1, i2); m = self->memory; if (NEVER(self->is_broken)) return;
   j0 = p1;
   i1 = 12u;
   j2 = p5;
   i2 = (u32)(j2);
   i2 = i32_load8_u(j2 + 12u);
-  f41(self, j0, i1, i2); m = self->memory; if (NEVER(self->is_broken)) return;
+  f44(self, j0, i1, i2); m = self->memory; if (NEVER(self->is_broken)) return;
   j0 = p1;
   i1 = 13u;
   j2 = p5;
   i2 = (u32)(j2);
   i2 = i32_load8_u(j2 + 13u);
-  f41(self, j0, i1, i2); m = self->memory; if (NEVER(self->is_broken)) return;
+  f44(self, j0, i1, i2); m = self->memory; if (NEVER(self->is_broken)) return;
   j0 = p1;
   i1 = 14u;
   j2 = p5;
   i2 = (u32)(j2);
   i2 = i32_load8_u(j2 + 14u);
-  f41(self, j0, i1, i2); m = self->memory; if (NEVER(self->is_broken)) return;
+  f44(self, j0, i1, i2); m = self->memory; if (NEVER(self->is_broken)) return;
   j0 = p1;
   i1 = 15u;
   j2 = p5;
   i2 = (u32)(j2);
   i2 = i32_load8_u(j2 + 15u);
-  f41(self, j0, i1, i2); m = self->memory; if (NEVER(self->is_broken)) return;
+  f44(self, j0, i1, i2); m = self->memory; if (NEVER(self->is_broken)) return;
   j0 = p1;
   i1 = 17u;
   j2 = p5;
   i2 = (u32)(j2);
   i2 = i32_load8_u(j2 + 16u);
-  f41(self, j0, i1, i2); m = self->memory; if (NEVER(self->is_broken)) return;
+  f44(self, j0, i1, i2); m = self->memory; if (NEVER(self->is_broken)) return;
   j0 = p1;
   i1 = l27;
-  f42(self, j0, i1); m = self->memory; if (NEVER(self->is_broken)) return;
+  f45(self, j0, i1); m = self->memory; if (NEVER(self->is_broken)) return;
   goto B47;
   B127:;
   i0 = l27;
@@ -34257,7 +34595,7 @@ static void f25(module *self, u64 p0, u64 p1, u64 p2, u64 p3, u64 p4, u64 p5, u6
   j1 = 2072ull;
   j0 += j1;
   j1 = 3ull;
-  i0 = f12(self, j0, j1); m = self->memory; if (NEVER(self->is_broken)) return;
+  i0 = f15(self, j0, j1); m = self->memory; if (NEVER(self->is_broken)) return;
   i0 = !(i0);
   if (i0) {goto B133;}
   j0 = p1;
@@ -34318,7 +34656,7 @@ static void f25(module *self, u64 p0, u64 p1, u64 p2, u64 p3, u64 p4, u64 p5, u6
   j0 += j1;
   j1 = p1;
   i2 = l58;
-  f26(self, j0, j1, i2); if (NEVER(self->is_broken)) return;
+  f29(self, j0, j1, i2); if (NEVER(self->is_broken)) return;
   j0 = l8;
   i0 = (u32)(j0);
   j0 = i64_load(j0);
@@ -34365,7 +34703,7 @@ static void f25(module *self, u64 p0, u64 p1, u64 p2, u64 p3, u64 p4, u64 p5, u6
   j1 = 2072ull;
   j0 += j1;
   j1 = 4ull;
-  i0 = f12(self, j0, j1); m = self->memory; if (NEVER(self->is_broken)) return;
+  i0 = f15(self, j0, j1); m = self->memory; if (NEVER(self->is_broken)) return;
   i0 = !(i0);
   if (i0) {goto B135;}
   j0 = p1;
@@ -34462,7 +34800,7 @@ static void f25(module *self, u64 p0, u64 p1, u64 p2, u64 p3, u64 p4, u64 p5, u6
   j1 = 184ull;
   j0 += j1;
   j1 = l8;
-  f23(self, j0, j1);
+  f26(self, j0, j1);
   j0 = p1;
   j1 = 196ull;
   j0 += j1;
@@ -34544,7 +34882,7 @@ static void f25(module *self, u64 p0, u64 p1, u64 p2, u64 p3, u64 p4, u64 p5, u6
   j1 = 2072ull;
   j0 += j1;
   j1 = 3ull;
-  i0 = f12(self, j0, j1); m = self->memory; if (NEVER(self->is_broken)) return;
+  i0 = f15(self, j0, j1); m = self->memory; if (NEVER(self->is_broken)) return;
   i0 = !(i0);
   if (i0) {goto B141;}
   j0 = p1;
@@ -34670,7 +35008,7 @@ static void f25(module *self, u64 p0, u64 p1, u64 p2, u64 p3, u64 p4, u64 p5, u6
   j1 = 2072ull;
   j0 += j1;
   j1 = 4ull;
-  i0 = f12(self, j0, j1); m = self->memory; if (NEVER(self->is_broken)) return;
+  i0 = f15(self, j0, j1); m = self->memory; if (NEVER(self->is_broken)) return;
   i0 = !(i0);
   if (i0) {goto B144;}
   j0 = p1;
@@ -34767,7 +35105,7 @@ static void f25(module *self, u64 p0, u64 p1, u64 p2, u64 p3, u64 p4, u64 p5, u6
   j1 = 184ull;
   j0 += j1;
   j1 = l8;
-  f23(self, j0, j1);
+  f26(self, j0, j1);
   j0 = p1;
   j1 = 196ull;
   j0 += j1;
@@ -34806,7 +35144,7 @@ static void f25(module *self, u64 p0, u64 p1, u64 p2, u64 p3, u64 p4, u64 p5, u6
   B146:;
   j0 = p1;
   i1 = l27;
-  f42(self, j0, i1); m = self->memory; if (NEVER(self->is_broken)) return;
+  f45(self, j0, i1); m = self->memory; if (NEVER(self->is_broken)) return;
   goto B47;
   B126:;
   i0 = l27;
@@ -34860,7 +35198,7 @@ static void f25(module *self, u64 p0, u64 p1, u64 p2, u64 p3, u64 p4, u64 p5, u6
   j1 = 2072ull;
   j0 += j1;
   j1 = 3ull;
-  i0 = f12(self, j0, j1); m = self->memory; if (NEVER(self->is_broken)) return;
+  i0 = f15(self, j0, j1); m = self->memory; if (NEVER(self->is_broken)) return;
   i0 = !(i0);
   if (i0) {goto B150;}
   j0 = p1;
@@ -34921,11 +35259,11 @@ static void f25(module *self, u64 p0, u64 p1, u64 p2, u64 p3, u64 p4, u64 p5, u6
   j0 += j1;
   j1 = p1;
   i2 = l58;
-  f26(self, j0, j1, i2); if (NEVER(self->is_broken)) return;
+  f29(self, j0, j1, i2); if (NEVER(self->is_broken)) return;
   j0 = p1;
   i1 = l27;
   i2 = l59;
-  i0 = f27(self, j0, i1, i2); m = self->memory; if (NEVER(self->is_broken)) return;
+  i0 = f30(self, j0, i1, i2); m = self->memory; if (NEVER(self->is_broken)) return;
   j0 = (u64)(i0);
   j1 = 255ull;
   j0 &= j1;
@@ -34989,7 +35327,7 @@ static void f25(module *self, u64 p0, u64 p1, u64 p2, u64 p3, u64 p4, u64 p5, u6
   j1 = 2072ull;
   j0 += j1;
   j1 = 3ull;
-  i0 = f12(self, j0, j1); m = self->memory; if (NEVER(self->is_broken)) return;
+  i0 = f15(self, j0, j1); m = self->memory; if (NEVER(self->is_broken)) return;
   i0 = !(i0);
   if (i0) {goto B152;}
   j0 = p1;
@@ -35050,11 +35388,11 @@ static void f25(module *self, u64 p0, u64 p1, u64 p2, u64 p3, u64 p4, u64 p5, u6
   j0 += j1;
   j1 = p1;
   i2 = l58;
-  f26(self, j0, j1, i2); if (NEVER(self->is_broken)) return;
+  f29(self, j0, j1, i2); if (NEVER(self->is_broken)) return;
   j0 = p1;
   i1 = l27;
   i2 = 17u;
-  i0 = f27(self, j0, i1, i2); m = self->memory; if (NEVER(self->is_broken)) return;
+  i0 = f30(self, j0, i1, i2); m = self->memory; if (NEVER(self->is_broken)) return;
   j0 = (u64)(i0);
   j1 = 255ull;
   j0 &= j1;
@@ -35129,7 +35467,7 @@ static void f25(module *self, u64 p0, u64 p1, u64 p2, u64 p3, u64 p4, u64 p5, u6
   j1 = 2072ull;
   j0 += j1;
   j1 = 4ull;
-  i0 = f12(self, j0, j1); m = self->memory; if (NEVER(self->is_broken)) return;
+  i0 = f15(self, j0, j1); m = self->memory; if (NEVER(self->is_broken)) return;
   i0 = !(i0);
   if (i0) {goto B156;}
   j0 = p1;
@@ -35239,7 +35577,7 @@ static void f25(module *self, u64 p0, u64 p1, u64 p2, u64 p3, u64 p4, u64 p5, u6
   j1 = 2072ull;
   j0 += j1;
   j1 = 4ull;
-  i0 = f12(self, j0, j1); m = self->memory; if (NEVER(self->is_broken)) return;
+  i0 = f15(self, j0, j1); m = self->memory; if (NEVER(self->is_broken)) return;
   i0 = !(i0);
   if (i0) {goto B158;}
   j0 = p1;
@@ -35438,7 +35776,7 @@ static void f25(module *self, u64 p0, u64 p1, u64 p2, u64 p3, u64 p4, u64 p5, u6
   j1 = 2072ull;
   j0 += j1;
   j1 = 4ull;
-  i0 = f12(self, j0, j1); m = self->memory; if (NEVER(self->is_broken)) return;
+  i0 = f15(self, j0, j1); m = self->memory; if (NEVER(self->is_broken)) return;
   i0 = !(i0);
   if (i0) {goto B162;}
   j0 = p1;
@@ -35707,7 +36045,7 @@ static void f25(module *self, u64 p0, u64 p1, u64 p2, u64 p3, u64 p4, u64 p5, u6
     j1 = 2072ull;
     j0 += j1;
     j1 = 4ull;
-    i0 = f12(self, j0, j1); m = self->memory; if (NEVER(self->is_broken)) return;
+    i0 = f15(self, j0, j1); m = self->memory; if (NEVER(self->is_broken)) return;
     i0 = !(i0);
     if (i0) {goto B172;}
     j0 = p1;
@@ -35948,7 +36286,7 @@ static void f25(module *self, u64 p0, u64 p1, u64 p2, u64 p3, u64 p4, u64 p5, u6
   j1 = 2072ull;
   j0 += j1;
   j1 = 4ull;
-  i0 = f12(self, j0, j1); m = self->memory; if (NEVER(self->is_broken)) return;
+  i0 = f15(self, j0, j1); m = self->memory; if (NEVER(self->is_broken)) return;
   i0 = !(i0);
   if (i0) {goto B180;}
   j0 = p1;
@@ -36059,7 +36397,7 @@ static void f25(module *self, u64 p0, u64 p1, u64 p2, u64 p3, u64 p4, u64 p5, u6
   j1 = 2072ull;
   j0 += j1;
   j1 = 3ull;
-  i0 = f12(self, j0, j1); m = self->memory; if (NEVER(self->is_broken)) return;
+  i0 = f15(self, j0, j1); m = self->memory; if (NEVER(self->is_broken)) return;
   i0 = !(i0);
   if (i0) {goto B182;}
   j0 = p1;
@@ -36206,7 +36544,7 @@ static void f25(module *self, u64 p0, u64 p1, u64 p2, u64 p3, u64 p4, u64 p5, u6
   j1 = 2072ull;
   j0 += j1;
   j1 = 4ull;
-  i0 = f12(self, j0, j1); m = self->memory; if (NEVER(self->is_broken)) return;
+  i0 = f15(self, j0, j1); m = self->memory; if (NEVER(self->is_broken)) return;
   i0 = !(i0);
   if (i0) {goto B186;}
   j0 = p1;
@@ -36308,7 +36646,7 @@ static void f25(module *self, u64 p0, u64 p1, u64 p2, u64 p3, u64 p4, u64 p5, u6
   j1 = 2072ull;
   j0 += j1;
   j1 = 3ull;
-  i0 = f12(self, j0, j1); m = self->memory; if (NEVER(self->is_broken)) return;
+  i0 = f15(self, j0, j1); m = self->memory; if (NEVER(self->is_broken)) return;
   i0 = !(i0);
   if (i0) {goto B188;}
   j0 = p1;
@@ -36443,7 +36781,7 @@ static void f25(module *self, u64 p0, u64 p1, u64 p2, u64 p3, u64 p4, u64 p5, u6
     i4 = (u32)(j4);
     i4 = i32_load8_u(j4);
     i5 = 1u;
-    i0 = f39(self, j0, j1, i2, i3, i4, i5); m = self->memory; if (NEVER(self->is_broken)) return;
+    i0 = f42(self, j0, j1, i2, i3, i4, i5); m = self->memory; if (NEVER(self->is_broken)) return;
     l58 = i0;
     j0 = p6;
     j1 = 2ull;
@@ -36472,7 +36810,7 @@ static void f25(module *self, u64 p0, u64 p1, u64 p2, u64 p3, u64 p4, u64 p5, u6
     i3 = i32_load8_u(j3);
     i4 = l28;
     i5 = 1u;
-    i0 = f39(self, j0, j1, i2, i3, i4, i5); m = self->memory; if (NEVER(self->is_broken)) return;
+    i0 = f42(self, j0, j1, i2, i3, i4, i5); m = self->memory; if (NEVER(self->is_broken)) return;
     l58 = i0;
     j0 = p5;
     j1 = 1ull;
@@ -36507,7 +36845,7 @@ static void f25(module *self, u64 p0, u64 p1, u64 p2, u64 p3, u64 p4, u64 p5, u6
   j0 = p1;
   j1 = p2;
   i2 = l73;
-  f32(self, j0, j1, i2); m = self->memory; if (NEVER(self->is_broken)) return;
+  f35(self, j0, j1, i2); m = self->memory; if (NEVER(self->is_broken)) return;
   goto B47;
   B54:;
   j0 = l7;
@@ -36586,7 +36924,7 @@ static void f25(module *self, u64 p0, u64 p1, u64 p2, u64 p3, u64 p4, u64 p5, u6
   j1 = 2072ull;
   j0 += j1;
   j1 = 3ull;
-  i0 = f12(self, j0, j1); m = self->memory; if (NEVER(self->is_broken)) return;
+  i0 = f15(self, j0, j1); m = self->memory; if (NEVER(self->is_broken)) return;
   i0 = !(i0);
   if (i0) {goto B195;}
   j0 = p1;
@@ -36757,7 +37095,7 @@ static void f25(module *self, u64 p0, u64 p1, u64 p2, u64 p3, u64 p4, u64 p5, u6
   j1 = 2072ull;
   j0 += j1;
   j1 = 3ull;
-  i0 = f12(self, j0, j1); m = self->memory; if (NEVER(self->is_broken)) return;
+  i0 = f15(self, j0, j1); m = self->memory; if (NEVER(self->is_broken)) return;
   i0 = !(i0);
   if (i0) {goto B202;}
   j0 = p1;
@@ -36963,7 +37301,7 @@ static void f25(module *self, u64 p0, u64 p1, u64 p2, u64 p3, u64 p4, u64 p5, u6
   j1 = 2072ull;
   j0 += j1;
   j1 = 4ull;
-  i0 = f12(self, j0, j1); m = self->memory; if (NEVER(self->is_broken)) return;
+  i0 = f15(self, j0, j1); m = self->memory; if (NEVER(self->is_broken)) return;
   i0 = !(i0);
   if (i0) {goto B209;}
   j0 = p1;
@@ -37187,7 +37525,7 @@ static void f25(module *self, u64 p0, u64 p1, u64 p2, u64 p3, u64 p4, u64 p5, u6
   j1 = 2072ull;
   j0 += j1;
   j1 = 4ull;
-  i0 = f12(self, j0, j1); m = self->memory; if (NEVER(self->is_broken)) return;
+  i0 = f15(self, j0, j1); m = self->memory; if (NEVER(self->is_broken)) return;
   i0 = !(i0);
   if (i0) {goto B216;}
   j0 = p1;
@@ -37823,7 +38161,7 @@ static void f25(module *self, u64 p0, u64 p1, u64 p2, u64 p3, u64 p4, u64 p5, u6
   j1 = 2072ull;
   j0 += j1;
   j1 = 4ull;
-  i0 = f12(self, j0, j1); m = self->memory; if (NEVER(self->is_broken)) return;
+  i0 = f15(self, j0, j1); m = self->memory; if (NEVER(self->is_broken)) return;
   i0 = !(i0);
   if (i0) {goto B221;}
   j0 = p1;
@@ -37970,7 +38308,7 @@ static void f25(module *self, u64 p0, u64 p1, u64 p2, u64 p3, u64 p4, u64 p5, u6
     j1 = 2072ull;
     j0 += j1;
     j1 = 4ull;
-    i0 = f12(self, j0, j1); m = self->memory; if (NEVER(self->is_broken)) return;
+    i0 = f15(self, j0, j1); m = self->memory; if (NEVER(self->is_broken)) return;
     i0 = !(i0);
     if (i0) {goto B227;}
     j0 = p1;
@@ -38072,7 +38410,7 @@ static void f25(module *self, u64 p0, u64 p1, u64 p2, u64 p3, u64 p4, u64 p5, u6
     j1 = 2072ull;
     j0 += j1;
     j1 = 4ull;
-    i0 = f12(self, j0, j1); m = self->memory; if (NEVER(self->is_broken)) return;
+    i0 = f15(self, j0, j1); m = self->memory; if (NEVER(self->is_broken)) return;
     i0 = !(i0);
     if (i0) {goto B229;}
     j0 = p1;
@@ -38237,7 +38575,7 @@ static void f25(module *self, u64 p0, u64 p1, u64 p2, u64 p3, u64 p4, u64 p5, u6
   j0 = p1;
   i1 = l24;
   i2 = 17u;
-  f29(self, j0, i1, i2); m = self->memory; if (NEVER(self->is_broken)) return;
+  f32(self, j0, i1, i2); m = self->memory; if (NEVER(self->is_broken)) return;
   j0 = p1;
   i1 = l24;
   i2 = 1u;
@@ -38246,7 +38584,7 @@ static void f25(module *self, u64 p0, u64 p1, u64 p2, u64 p3, u64 p4, u64 p5, u6
   i2 = l46;
   i3 = 15u;
   i2 &= i3;
-  f29(self, j0, i1, i2); m = self->memory; if (NEVER(self->is_broken)) return;
+  f32(self, j0, i1, i2); m = self->memory; if (NEVER(self->is_broken)) return;
   j0 = 0ull;
   l8 = j0;
   L232: 
@@ -38260,11 +38598,11 @@ static void f25(module *self, u64 p0, u64 p1, u64 p2, u64 p3, u64 p4, u64 p5, u6
     i1 = l24;
     j2 = l8;
     i2 = (u32)(j2);
-    f29(self, j0, i1, i2); m = self->memory; if (NEVER(self->is_broken)) return;
+    f32(self, j0, i1, i2); m = self->memory; if (NEVER(self->is_broken)) return;
     j0 = p1;
     i1 = l27;
     i2 = l58;
-    f29(self, j0, i1, i2); m = self->memory; if (NEVER(self->is_broken)) return;
+    f32(self, j0, i1, i2); m = self->memory; if (NEVER(self->is_broken)) return;
     j0 = l8;
     j1 = 1ull;
     j0 += j1;
@@ -38352,7 +38690,7 @@ static void f25(module *self, u64 p0, u64 p1, u64 p2, u64 p3, u64 p4, u64 p5, u6
     j1 = 2072ull;
     j0 += j1;
     j1 = 4ull;
-    i0 = f12(self, j0, j1); m = self->memory; if (NEVER(self->is_broken)) return;
+    i0 = f15(self, j0, j1); m = self->memory; if (NEVER(self->is_broken)) return;
     i0 = !(i0);
     if (i0) {goto B237;}
     j0 = p1;
@@ -38454,7 +38792,7 @@ static void f25(module *self, u64 p0, u64 p1, u64 p2, u64 p3, u64 p4, u64 p5, u6
     j1 = 2072ull;
     j0 += j1;
     j1 = 4ull;
-    i0 = f12(self, j0, j1); m = self->memory; if (NEVER(self->is_broken)) return;
+    i0 = f15(self, j0, j1); m = self->memory; if (NEVER(self->is_broken)) return;
     i0 = !(i0);
     if (i0) {goto B239;}
     j0 = p1;
@@ -38723,7 +39061,7 @@ static void f25(module *self, u64 p0, u64 p1, u64 p2, u64 p3, u64 p4, u64 p5, u6
   j1 = 2072ull;
   j0 += j1;
   j1 = 3ull;
-  i0 = f12(self, j0, j1); m = self->memory; if (NEVER(self->is_broken)) return;
+  i0 = f15(self, j0, j1); m = self->memory; if (NEVER(self->is_broken)) return;
   i0 = !(i0);
   if (i0) {goto B243;}
   j0 = p1;
@@ -38780,94 +39118,94 @@ static void f25(module *self, u64 p0, u64 p1, u64 p2, u64 p3, u64 p4, u64 p5, u6
   j0 += j1;
   j1 = p1;
   i2 = l58;
-  f26(self, j0, j1, i2); if (NEVER(self->is_broken)) return;
+  f29(self, j0, j1, i2); if (NEVER(self->is_broken)) return;
   j0 = p1;
   i1 = 0u;
   i2 = 0u;
-  f41(self, j0, i1, i2); m = self->memory; if (NEVER(self->is_broken)) return;
+  f44(self, j0, i1, i2); m = self->memory; if (NEVER(self->is_broken)) return;
   j0 = p1;
   i1 = 1u;
   i2 = l21;
-  f41(self, j0, i1, i2); m = self->memory; if (NEVER(self->is_broken)) return;
+  f44(self, j0, i1, i2); m = self->memory; if (NEVER(self->is_broken)) return;
   j0 = p1;
   i1 = 2u;
   i2 = l57;
-  f41(self, j0, i1, i2); m = self->memory; if (NEVER(self->is_broken)) return;
+  f44(self, j0, i1, i2); m = self->memory; if (NEVER(self->is_broken)) return;
   j0 = p1;
   i1 = 3u;
   i2 = l68;
-  f41(self, j0, i1, i2); m = self->memory; if (NEVER(self->is_broken)) return;
+  f44(self, j0, i1, i2); m = self->memory; if (NEVER(self->is_broken)) return;
   j0 = p1;
   i1 = 4u;
   i2 = l18;
-  f41(self, j0, i1, i2); m = self->memory; if (NEVER(self->is_broken)) return;
+  f44(self, j0, i1, i2); m = self->memory; if (NEVER(self->is_broken)) return;
   j0 = p1;
   i1 = 5u;
   i2 = l40;
-  f41(self, j0, i1, i2); m = self->memory; if (NEVER(self->is_broken)) return;
+  f44(self, j0, i1, i2); m = self->memory; if (NEVER(self->is_broken)) return;
   j0 = p1;
   i1 = 6u;
   i2 = l39;
-  f41(self, j0, i1, i2); m = self->memory; if (NEVER(self->is_broken)) return;
+  f44(self, j0, i1, i2); m = self->memory; if (NEVER(self->is_broken)) return;
   j0 = p1;
   i1 = 7u;
   i2 = l38;
-  f41(self, j0, i1, i2); m = self->memory; if (NEVER(self->is_broken)) return;
+  f44(self, j0, i1, i2); m = self->memory; if (NEVER(self->is_broken)) return;
   j0 = p1;
   i1 = 8u;
   i2 = l37;
-  f41(self, j0, i1, i2); m = self->memory; if (NEVER(self->is_broken)) return;
+  f44(self, j0, i1, i2); m = self->memory; if (NEVER(self->is_broken)) return;
   j0 = p1;
   i1 = 9u;
   i2 = l36;
-  f41(self, j0, i1, i2); m = self->memory; if (NEVER(self->is_broken)) return;
+  f44(self, j0, i1, i2); m = self->memory; if (NEVER(self->is_broken)) return;
   j0 = p1;
   i1 = 10u;
   i2 = l35;
-  f41(self, j0, i1, i2); m = self->memory; if (NEVER(self->is_broken)) return;
+  f44(self, j0, i1, i2); m = self->memory; if (NEVER(self->is_broken)) return;
   j0 = p1;
   i1 = 11u;
   i2 = l34;
-  f41(self, j0, i1, i2); m = self->memory; if (NEVER(self->is_broken)) return;
+  f44(self, j0, i1, i2); m = self->memory; if (NEVER(self->is_broken)) return;
   j0 = p1;
   i1 = 12u;
   i2 = l33;
-  f41(self, j0, i1, i2); m = self->memory; if (NEVER(self->is_broken)) return;
+  f44(self, j0, i1, i2); m = self->memory; if (NEVER(self->is_broken)) return;
   j0 = p1;
   i1 = 13u;
   i2 = l32;
-  f41(self, j0, i1, i2); m = self->memory; if (NEVER(self->is_broken)) return;
+  f44(self, j0, i1, i2); m = self->memory; if (NEVER(self->is_broken)) return;
   j0 = p1;
   i1 = 14u;
   i2 = l31;
-  f41(self, j0, i1, i2); m = self->memory; if (NEVER(self->is_broken)) return;
+  f44(self, j0, i1, i2); m = self->memory; if (NEVER(self->is_broken)) return;
   j0 = p1;
   i1 = 15u;
   i2 = l30;
-  f41(self, j0, i1, i2); m = self->memory; if (NEVER(self->is_broken)) return;
+  f44(self, j0, i1, i2); m = self->memory; if (NEVER(self->is_broken)) return;
   j0 = p1;
   i1 = 16u;
   i2 = l29;
-  f41(self, j0, i1, i2); m = self->memory; if (NEVER(self->is_broken)) return;
+  f44(self, j0, i1, i2); m = self->memory; if (NEVER(self->is_broken)) return;
   j0 = p1;
   i1 = 17u;
   i2 = 0u;
-  f41(self, j0, i1, i2); m = self->memory; if (NEVER(self->is_broken)) return;
+  f44(self, j0, i1, i2); m = self->memory; if (NEVER(self->is_broken)) return;
   j0 = p1;
   i1 = 18u;
   i2 = 15u;
-  f41(self, j0, i1, i2); m = self->memory; if (NEVER(self->is_broken)) return;
+  f44(self, j0, i1, i2); m = self->memory; if (NEVER(self->is_broken)) return;
   j0 = p1;
   i1 = 19u;
   i2 = l28;
-  f41(self, j0, i1, i2); m = self->memory; if (NEVER(self->is_broken)) return;
+  f44(self, j0, i1, i2); m = self->memory; if (NEVER(self->is_broken)) return;
   j0 = p1;
   i1 = 20u;
   i2 = 0u;
-  f41(self, j0, i1, i2); m = self->memory; if (NEVER(self->is_broken)) return;
+  f44(self, j0, i1, i2); m = self->memory; if (NEVER(self->is_broken)) return;
   j0 = p1;
   i1 = l24;
-  f42(self, j0, i1); m = self->memory; if (NEVER(self->is_broken)) return;
+  f45(self, j0, i1); m = self->memory; if (NEVER(self->is_broken)) return;
   j0 = l7;
   i0 = (u32)(j0);
   i1 = 0u;
@@ -38930,7 +39268,7 @@ static void f25(module *self, u64 p0, u64 p1, u64 p2, u64 p3, u64 p4, u64 p5, u6
   j1 = 2072ull;
   j0 += j1;
   j1 = 4ull;
-  i0 = f12(self, j0, j1); m = self->memory; if (NEVER(self->is_broken)) return;
+  i0 = f15(self, j0, j1); m = self->memory; if (NEVER(self->is_broken)) return;
   i0 = !(i0);
   if (i0) {goto B248;}
   j0 = p1;
@@ -39029,7 +39367,7 @@ static void f25(module *self, u64 p0, u64 p1, u64 p2, u64 p3, u64 p4, u64 p5, u6
   j1 = 2072ull;
   j0 += j1;
   j1 = 4ull;
-  i0 = f12(self, j0, j1); m = self->memory; if (NEVER(self->is_broken)) return;
+  i0 = f15(self, j0, j1); m = self->memory; if (NEVER(self->is_broken)) return;
   i0 = !(i0);
   if (i0) {goto B245;}
   j0 = p1;
@@ -39103,7 +39441,7 @@ static void f25(module *self, u64 p0, u64 p1, u64 p2, u64 p3, u64 p4, u64 p5, u6
     i1 = l73;
     i2 = l58;
     l27 = i2;
-    f43(self, j0, i1, i2); if (NEVER(self->is_broken)) return;
+    f46(self, j0, i1, i2); if (NEVER(self->is_broken)) return;
     j0 = l7;
     i0 = (u32)(j0);
     i0 = i32_load8_u(j0 + 306u);
@@ -39163,7 +39501,7 @@ static void f25(module *self, u64 p0, u64 p1, u64 p2, u64 p3, u64 p4, u64 p5, u6
     j1 = 2072ull;
     j0 += j1;
     j1 = 4ull;
-    i0 = f12(self, j0, j1); m = self->memory; if (NEVER(self->is_broken)) return;
+    i0 = f15(self, j0, j1); m = self->memory; if (NEVER(self->is_broken)) return;
     i0 = !(i0);
     if (i0) {goto B252;}
     j0 = p1;
@@ -39368,7 +39706,7 @@ static void f25(module *self, u64 p0, u64 p1, u64 p2, u64 p3, u64 p4, u64 p5, u6
     j1 = 2072ull;
     j0 += j1;
     j1 = 4ull;
-    i0 = f12(self, j0, j1); m = self->memory; if (NEVER(self->is_broken)) return;
+    i0 = f15(self, j0, j1); m = self->memory; if (NEVER(self->is_broken)) return;
     i0 = !(i0);
     if (i0) {goto B259;}
     j0 = p1;
@@ -39579,7 +39917,7 @@ static void f25(module *self, u64 p0, u64 p1, u64 p2, u64 p3, u64 p4, u64 p5, u6
     j1 = 2072ull;
     j0 += j1;
     j1 = 4ull;
-    i0 = f12(self, j0, j1); m = self->memory; if (NEVER(self->is_broken)) return;
+    i0 = f15(self, j0, j1); m = self->memory; if (NEVER(self->is_broken)) return;
     i0 = !(i0);
     if (i0) {goto B266;}
     j0 = p1;
@@ -39761,7 +40099,7 @@ static void f25(module *self, u64 p0, u64 p1, u64 p2, u64 p3, u64 p4, u64 p5, u6
   j2 = p3;
   j3 = 1048841ull;
   i4 = l56;
-  f28(self, j0, j1, j2, j3, i4); m = self->memory; if (NEVER(self->is_broken)) return;
+  f31(self, j0, j1, j2, j3, i4); m = self->memory; if (NEVER(self->is_broken)) return;
   i0 = l20;
   i1 = 1u;
   i0 &= i1;
@@ -39779,7 +40117,7 @@ static void f25(module *self, u64 p0, u64 p1, u64 p2, u64 p3, u64 p4, u64 p5, u6
     i5 = 1u;
     i4 &= i5;
     i2 = i4 ? i2 : i3;
-    f38(self, j0, i1, i2); m = self->memory; if (NEVER(self->is_broken)) return;
+    f41(self, j0, i1, i2); m = self->memory; if (NEVER(self->is_broken)) return;
     i0 = l58;
     i1 = 1u;
     i0 += i1;
@@ -39800,7 +40138,7 @@ static void f25(module *self, u64 p0, u64 p1, u64 p2, u64 p3, u64 p4, u64 p5, u6
     j0 = p1;
     i1 = l58;
     i2 = 0u;
-    f38(self, j0, i1, i2); m = self->memory; if (NEVER(self->is_broken)) return;
+    f41(self, j0, i1, i2); m = self->memory; if (NEVER(self->is_broken)) return;
     i0 = l58;
     i1 = 1u;
     i0 += i1;
@@ -39931,7 +40269,7 @@ static void f25(module *self, u64 p0, u64 p1, u64 p2, u64 p3, u64 p4, u64 p5, u6
   self->g0 = j0;
 }
 
-static void f26(module *self, u64 p0, u64 p1, u32 p2) {
+static void f29(module *self, u64 p0, u64 p1, u32 p2) {
   u32 l3 = 0, l4 = 0, l5 = 0, l6 = 0;
   u64 l7 = 0, l8 = 0;
   u8 *m = self->memory;
@@ -40380,7 +40718,7 @@ static void f26(module *self, u64 p0, u64 p1, u32 p2) {
   i32_store8(j0, i1);
 }
 
-static u32 f27(module *self, u64 p0, u32 p1, u32 p2) {
+static u32 f30(module *self, u64 p0, u32 p1, u32 p2) {
   u32 l11 = 0, l12 = 0, l13 = 0;
   u64 l3 = 0, l4 = 0, l5 = 0, l6 = 0, l7 = 0, l8 = 0, l9 = 0, l10 = 0;
   u8 *m = self->memory;
@@ -40442,7 +40780,7 @@ static u32 f27(module *self, u64 p0, u32 p1, u32 p2) {
   j1 = 2072ull;
   j0 += j1;
   j1 = 4ull;
-  i0 = f12(self, j0, j1); m = self->memory; if (NEVER(self->is_broken)) return ZAK_BROKEN;
+  i0 = f15(self, j0, j1); m = self->memory; if (NEVER(self->is_broken)) return ZAK_BROKEN;
   i0 = !(i0);
   if (i0) {goto B0;}
   j0 = p0;
@@ -40542,7 +40880,7 @@ static u32 f27(module *self, u64 p0, u32 p1, u32 p2) {
   j1 = 16ull;
   j0 += j1;
   j1 = l5;
-  f23(self, j0, j1);
+  f26(self, j0, j1);
   j0 = p0;
   j1 = 196ull;
   j0 += j1;
@@ -40626,7 +40964,7 @@ static u32 f27(module *self, u64 p0, u32 p1, u32 p2) {
   j1 = 2072ull;
   j0 += j1;
   j1 = 3ull;
-  i0 = f12(self, j0, j1); m = self->memory; if (NEVER(self->is_broken)) return ZAK_BROKEN;
+  i0 = f15(self, j0, j1); m = self->memory; if (NEVER(self->is_broken)) return ZAK_BROKEN;
   i0 = !(i0);
   if (i0) {goto B6;}
   j0 = p0;
@@ -40748,7 +41086,7 @@ static u32 f27(module *self, u64 p0, u32 p1, u32 p2) {
   j1 = 2072ull;
   j0 += j1;
   j1 = 3ull;
-  i0 = f12(self, j0, j1); m = self->memory; if (NEVER(self->is_broken)) return ZAK_BROKEN;
+  i0 = f15(self, j0, j1); m = self->memory; if (NEVER(self->is_broken)) return ZAK_BROKEN;
   i0 = !(i0);
   if (i0) {goto B9;}
   j0 = p0;
@@ -40809,7 +41147,7 @@ static u32 f27(module *self, u64 p0, u32 p1, u32 p2) {
   j0 += j1;
   j1 = p0;
   i2 = p1;
-  f26(self, j0, j1, i2); if (NEVER(self->is_broken)) return ZAK_BROKEN;
+  f29(self, j0, j1, i2); if (NEVER(self->is_broken)) return ZAK_BROKEN;
   j0 = l3;
   j1 = 32ull;
   j0 += j1;
@@ -40818,7 +41156,7 @@ static u32 f27(module *self, u64 p0, u32 p1, u32 p2) {
   return i0;
 }
 
-static void f28(module *self, u64 p0, u64 p1, u64 p2, u64 p3, u32 p4) {
+static void f31(module *self, u64 p0, u64 p1, u64 p2, u64 p3, u32 p4) {
   u32 l16 = 0, l17 = 0, l18 = 0, l19 = 0, l20 = 0, l21 = 0, l22 = 0, l23 = 0, 
       l24 = 0, l25 = 0, l26 = 0, l27 = 0, l28 = 0, l29 = 0;
   u64 l5 = 0, l6 = 0, l7 = 0, l8 = 0, l9 = 0, l10 = 0, l11 = 0, l12 = 0, 
@@ -40829,19 +41167,19 @@ static void f28(module *self, u64 p0, u64 p1, u64 p2, u64 p3, u32 p4) {
   j0 = p1;
   i1 = 2u;
   i2 = 4u;
-  f45(self, j0, i1, i2); m = self->memory; if (NEVER(self->is_broken)) return;
+  f48(self, j0, i1, i2); m = self->memory; if (NEVER(self->is_broken)) return;
   j0 = p1;
   i1 = 4u;
   i2 = 6u;
-  f45(self, j0, i1, i2); m = self->memory; if (NEVER(self->is_broken)) return;
+  f48(self, j0, i1, i2); m = self->memory; if (NEVER(self->is_broken)) return;
   j0 = p1;
   i1 = 5u;
   i2 = 0u;
-  f35(self, j0, i1, i2); m = self->memory; if (NEVER(self->is_broken)) return;
+  f38(self, j0, i1, i2); m = self->memory; if (NEVER(self->is_broken)) return;
   j0 = p1;
   i1 = 6u;
   i2 = 4u;
-  f35(self, j0, i1, i2); m = self->memory; if (NEVER(self->is_broken)) return;
+  f38(self, j0, i1, i2); m = self->memory; if (NEVER(self->is_broken)) return;
   j0 = p0;
   j1 = 16ull;
   j0 >>= (j1 & 63);
@@ -40962,7 +41300,7 @@ static void f28(module *self, u64 p0, u64 p1, u64 p2, u64 p3, u32 p4) {
       j1 = 2072ull;
       j0 += j1;
       j1 = 6ull;
-      i0 = f12(self, j0, j1); m = self->memory; if (NEVER(self->is_broken)) return;
+      i0 = f15(self, j0, j1); m = self->memory; if (NEVER(self->is_broken)) return;
       i0 = !(i0);
       if (i0) {goto B4;}
       j0 = p1;
@@ -41512,7 +41850,7 @@ static void f28(module *self, u64 p0, u64 p1, u64 p2, u64 p3, u32 p4) {
       j1 = 2072ull;
       j0 += j1;
       j1 = 6ull;
-      i0 = f12(self, j0, j1); m = self->memory; if (NEVER(self->is_broken)) return;
+      i0 = f15(self, j0, j1); m = self->memory; if (NEVER(self->is_broken)) return;
       i0 = !(i0);
       if (i0) {goto B26;}
       j0 = p1;
@@ -41614,7 +41952,7 @@ static void f28(module *self, u64 p0, u64 p1, u64 p2, u64 p3, u32 p4) {
       i1 = (u32)(j1);
       i1 = i32_load8_u(j1);
       i2 = l22;
-      i0 = f46(self, j0, i1, i2);
+      i0 = f49(self, j0, i1, i2);
       l22 = i0;
       j0 = p1;
       j1 = 68ull;
@@ -41844,7 +42182,7 @@ static void f28(module *self, u64 p0, u64 p1, u64 p2, u64 p3, u32 p4) {
       j1 = 2072ull;
       j0 += j1;
       j1 = 6ull;
-      i0 = f12(self, j0, j1); m = self->memory; if (NEVER(self->is_broken)) return;
+      i0 = f15(self, j0, j1); m = self->memory; if (NEVER(self->is_broken)) return;
       i0 = !(i0);
       if (i0) {goto B34;}
       j0 = p1;
@@ -41946,7 +42284,7 @@ static void f28(module *self, u64 p0, u64 p1, u64 p2, u64 p3, u32 p4) {
       i1 = (u32)(j1);
       i1 = i32_load8_u(j1);
       i2 = l22;
-      i0 = f46(self, j0, i1, i2);
+      i0 = f49(self, j0, i1, i2);
       l22 = i0;
       j0 = p1;
       j1 = 68ull;
@@ -42179,7 +42517,7 @@ static void f28(module *self, u64 p0, u64 p1, u64 p2, u64 p3, u32 p4) {
       j1 = 2072ull;
       j0 += j1;
       j1 = 6ull;
-      i0 = f12(self, j0, j1); m = self->memory; if (NEVER(self->is_broken)) return;
+      i0 = f15(self, j0, j1); m = self->memory; if (NEVER(self->is_broken)) return;
       i0 = !(i0);
       if (i0) {goto B42;}
       j0 = p1;
@@ -42281,7 +42619,7 @@ static void f28(module *self, u64 p0, u64 p1, u64 p2, u64 p3, u32 p4) {
       i1 = (u32)(j1);
       i1 = i32_load8_u(j1);
       i2 = l22;
-      i0 = f46(self, j0, i1, i2);
+      i0 = f49(self, j0, i1, i2);
       l22 = i0;
       j0 = p1;
       j1 = 68ull;
@@ -42408,22 +42746,22 @@ static void f28(module *self, u64 p0, u64 p1, u64 p2, u64 p3, u32 p4) {
   j0 = p1;
   i1 = 2u;
   i2 = 3u;
-  f45(self, j0, i1, i2); m = self->memory; if (NEVER(self->is_broken)) return;
+  f48(self, j0, i1, i2); m = self->memory; if (NEVER(self->is_broken)) return;
   j0 = p1;
   i1 = 4u;
   i2 = 2u;
-  f45(self, j0, i1, i2); m = self->memory; if (NEVER(self->is_broken)) return;
+  f48(self, j0, i1, i2); m = self->memory; if (NEVER(self->is_broken)) return;
   j0 = p1;
   i1 = 5u;
   i2 = 16u;
-  f35(self, j0, i1, i2); m = self->memory; if (NEVER(self->is_broken)) return;
+  f38(self, j0, i1, i2); m = self->memory; if (NEVER(self->is_broken)) return;
   j0 = p1;
   i1 = 6u;
   i2 = p4;
-  f35(self, j0, i1, i2); m = self->memory; if (NEVER(self->is_broken)) return;
+  f38(self, j0, i1, i2); m = self->memory; if (NEVER(self->is_broken)) return;
 }
 
-static void f29(module *self, u64 p0, u32 p1, u32 p2) {
+static void f32(module *self, u64 p0, u32 p1, u32 p2) {
   u32 l10 = 0, l11 = 0, l12 = 0;
   u64 l3 = 0, l4 = 0, l5 = 0, l6 = 0, l7 = 0, l8 = 0, l9 = 0;
   u8 *m = self->memory;
@@ -42481,7 +42819,7 @@ static void f29(module *self, u64 p0, u32 p1, u32 p2) {
   j1 = 2072ull;
   j0 += j1;
   j1 = 4ull;
-  i0 = f12(self, j0, j1); m = self->memory; if (NEVER(self->is_broken)) return;
+  i0 = f15(self, j0, j1); m = self->memory; if (NEVER(self->is_broken)) return;
   i0 = !(i0);
   if (i0) {goto B0;}
   j0 = p0;
@@ -42618,7 +42956,7 @@ static void f29(module *self, u64 p0, u32 p1, u32 p2) {
   j1 = p0;
   i2 = l11;
   i3 = p2;
-  f44(self, j0, j1, i2, i3);
+  f47(self, j0, j1, i2, i3);
   B2:;
   j0 = l3;
   j1 = 16ull;
@@ -42626,7 +42964,7 @@ static void f29(module *self, u64 p0, u32 p1, u32 p2) {
   self->g0 = j0;
 }
 
-static void f30(module *self, u64 p0, u64 p1, u64 p2) {
+static void f33(module *self, u64 p0, u64 p1, u64 p2) {
   u32 l4 = 0, l5 = 0, l6 = 0, l7 = 0, l8 = 0, l9 = 0, l10 = 0, l11 = 0, 
       l12 = 0, l13 = 0;
   u64 l3 = 0;
@@ -42719,7 +43057,7 @@ static void f30(module *self, u64 p0, u64 p1, u64 p2) {
   j2 += j3;
   i2 = (u32)(j2);
   i2 = i32_load16_u(j2);
-  f20(self, j0, i1, i2);
+  f23(self, j0, i1, i2);
   i0 = 0u;
   l8 = i0;
   i0 = 0u;
@@ -42759,7 +43097,7 @@ static void f30(module *self, u64 p0, u64 p1, u64 p2) {
   j2 += j3;
   i2 = (u32)(j2);
   i2 = i32_load16_u(j2);
-  f20(self, j0, i1, i2);
+  f23(self, j0, i1, i2);
   i0 = 0u;
   l9 = i0;
   i0 = 0u;
@@ -42793,7 +43131,7 @@ static void f30(module *self, u64 p0, u64 p1, u64 p2) {
   j2 += j3;
   i2 = (u32)(j2);
   i2 = i32_load16_u(j2);
-  f20(self, j0, i1, i2);
+  f23(self, j0, i1, i2);
   i0 = 0u;
   l9 = i0;
   i0 = 0u;
@@ -42827,7 +43165,7 @@ static void f30(module *self, u64 p0, u64 p1, u64 p2) {
   j2 += j3;
   i2 = (u32)(j2);
   i2 = i32_load16_u(j2);
-  f20(self, j0, i1, i2);
+  f23(self, j0, i1, i2);
   i0 = 0u;
   l10 = i0;
   i0 = l7;
@@ -42873,7 +43211,7 @@ static void f30(module *self, u64 p0, u64 p1, u64 p2) {
   j2 += j3;
   i2 = (u32)(j2);
   i2 = i32_load16_u(j2);
-  f20(self, j0, i1, i2);
+  f23(self, j0, i1, i2);
   i0 = 0u;
   l13 = i0;
   i0 = 0u;
@@ -42913,7 +43251,7 @@ static void f30(module *self, u64 p0, u64 p1, u64 p2) {
   j2 += j3;
   i2 = (u32)(j2);
   i2 = i32_load16_u(j2);
-  f20(self, j0, i1, i2);
+  f23(self, j0, i1, i2);
   i0 = 0u;
   l7 = i0;
   i0 = 0u;
@@ -42953,7 +43291,7 @@ static void f30(module *self, u64 p0, u64 p1, u64 p2) {
   j2 += j3;
   i2 = (u32)(j2);
   i2 = i32_load16_u(j2);
-  f20(self, j0, i1, i2);
+  f23(self, j0, i1, i2);
   i0 = 0u;
   l10 = i0;
   i0 = 0u;
@@ -43084,7 +43422,7 @@ static void f30(module *self, u64 p0, u64 p1, u64 p2) {
   self->g0 = j0;
 }
 
-static void f31(module *self, u64 p0, u64 p1, u64 p2, u64 p3) {
+static void f34(module *self, u64 p0, u64 p1, u64 p2, u64 p3) {
   u32 l7 = 0, l8 = 0, l9 = 0, l10 = 0, l11 = 0, l12 = 0, l13 = 0, l14 = 0, 
       l15 = 0;
   u64 l4 = 0, l5 = 0, l6 = 0;
@@ -43179,7 +43517,7 @@ static void f31(module *self, u64 p0, u64 p1, u64 p2, u64 p3) {
   j2 += j3;
   i2 = (u32)(j2);
   i2 = i32_load16_u(j2);
-  f20(self, j0, i1, i2);
+  f23(self, j0, i1, i2);
   i0 = 1u;
   l14 = i0;
   i0 = 6u;
@@ -43250,7 +43588,7 @@ static void f31(module *self, u64 p0, u64 p1, u64 p2, u64 p3) {
   j2 += j3;
   i2 = (u32)(j2);
   i2 = i32_load16_u(j2);
-  f20(self, j0, i1, i2);
+  f23(self, j0, i1, i2);
   i0 = 1u;
   l14 = i0;
   i0 = 6u;
@@ -43335,7 +43673,7 @@ static void f31(module *self, u64 p0, u64 p1, u64 p2, u64 p3) {
   j2 += j3;
   i2 = (u32)(j2);
   i2 = i32_load16_u(j2);
-  f20(self, j0, i1, i2);
+  f23(self, j0, i1, i2);
   i0 = 1u;
   l14 = i0;
   i0 = 6u;
@@ -43467,7 +43805,7 @@ static void f31(module *self, u64 p0, u64 p1, u64 p2, u64 p3) {
   i2 = (u32)(j2);
   i2 = i32_load16_u(j2);
   l12 = i2;
-  f20(self, j0, i1, i2);
+  f23(self, j0, i1, i2);
   i0 = 1u;
   l14 = i0;
   i0 = 6u;
@@ -43568,7 +43906,7 @@ static void f31(module *self, u64 p0, u64 p1, u64 p2, u64 p3) {
   j2 += j3;
   i2 = (u32)(j2);
   i2 = i32_load16_u(j2);
-  f20(self, j0, i1, i2);
+  f23(self, j0, i1, i2);
   i0 = 6u;
   i1 = 0u;
   j2 = l4;
@@ -43676,7 +44014,7 @@ static void f31(module *self, u64 p0, u64 p1, u64 p2, u64 p3) {
   self->g0 = j0;
 }
 
-static void f32(module *self, u64 p0, u64 p1, u32 p2) {
+static void f35(module *self, u64 p0, u64 p1, u32 p2) {
   u32 l3 = 0, l4 = 0, l5 = 0, l6 = 0, l7 = 0;
   u8 *m = self->memory;
   u32 i0, i1, i2, i3, i4, i5;
@@ -43733,7 +44071,7 @@ static void f32(module *self, u64 p0, u64 p1, u32 p2) {
   i1 = i32_load16_u(j1);
   l6 = i1;
   i2 = 14u;
-  f29(self, j0, i1, i2); m = self->memory; if (NEVER(self->is_broken)) return;
+  f32(self, j0, i1, i2); m = self->memory; if (NEVER(self->is_broken)) return;
   j0 = p0;
   i1 = l6;
   i2 = 1u;
@@ -43757,19 +44095,19 @@ static void f32(module *self, u64 p0, u64 p1, u32 p2) {
   p2 = i2;
   i3 = 8u;
   i2 >>= (i3 & 31);
-  f29(self, j0, i1, i2); m = self->memory; if (NEVER(self->is_broken)) return;
+  f32(self, j0, i1, i2); m = self->memory; if (NEVER(self->is_broken)) return;
   j0 = p0;
   i1 = l6;
   i2 = 15u;
-  f29(self, j0, i1, i2); m = self->memory; if (NEVER(self->is_broken)) return;
+  f32(self, j0, i1, i2); m = self->memory; if (NEVER(self->is_broken)) return;
   j0 = p0;
   i1 = l7;
   i2 = p2;
-  f29(self, j0, i1, i2); m = self->memory; if (NEVER(self->is_broken)) return;
+  f32(self, j0, i1, i2); m = self->memory; if (NEVER(self->is_broken)) return;
   B0:;
 }
 
-static void f33(module *self, u64 p0, u64 p1, u64 p2, u32 p3, u64 p4) {
+static void f36(module *self, u64 p0, u64 p1, u64 p2, u32 p3, u64 p4) {
   u32 l6 = 0, l7 = 0, l8 = 0, l9 = 0, l10 = 0, l11 = 0, l12 = 0, l13 = 0, 
       l14 = 0, l15 = 0, l16 = 0, l17 = 0, l18 = 0, l19 = 0, l20 = 0;
   u64 l5 = 0;
@@ -43920,7 +44258,7 @@ static void f33(module *self, u64 p0, u64 p1, u64 p2, u32 p3, u64 p4) {
   j0 = p1;
   i1 = 5u;
   i2 = 1u;
-  f35(self, j0, i1, i2); m = self->memory; if (NEVER(self->is_broken)) return;
+  f38(self, j0, i1, i2); m = self->memory; if (NEVER(self->is_broken)) return;
   B3:;
   j0 = l5;
   i0 = (u32)(j0);
@@ -43977,7 +44315,7 @@ static void f33(module *self, u64 p0, u64 p1, u64 p2, u32 p3, u64 p4) {
     i3 = l13;
     i2 += i3;
     i3 = l13;
-    f47(self, j0, j1, i2, i3); m = self->memory; if (NEVER(self->is_broken)) return;
+    f50(self, j0, j1, i2, i3); m = self->memory; if (NEVER(self->is_broken)) return;
     i0 = l13;
     i1 = 1u;
     i0 += i1;
@@ -44017,7 +44355,7 @@ static void f33(module *self, u64 p0, u64 p1, u64 p2, u32 p3, u64 p4) {
     i2 += i3;
     l9 = i2;
     i3 = l13;
-    f47(self, j0, j1, i2, i3); m = self->memory; if (NEVER(self->is_broken)) return;
+    f50(self, j0, j1, i2, i3); m = self->memory; if (NEVER(self->is_broken)) return;
     i0 = l17;
     i1 = l9;
     i0 = i0 < i1;
@@ -44029,7 +44367,7 @@ static void f33(module *self, u64 p0, u64 p1, u64 p2, u32 p3, u64 p4) {
   j0 = p1;
   i1 = 5u;
   i2 = 0u;
-  f35(self, j0, i1, i2); m = self->memory; if (NEVER(self->is_broken)) return;
+  f38(self, j0, i1, i2); m = self->memory; if (NEVER(self->is_broken)) return;
   j0 = l5;
   i0 = (u32)(j0);
   i1 = 0u;
@@ -44085,7 +44423,7 @@ static void f33(module *self, u64 p0, u64 p1, u64 p2, u32 p3, u64 p4) {
   i2 = l15;
   i3 = 15u;
   i2 &= i3;
-  f45(self, j0, i1, i2); m = self->memory; if (NEVER(self->is_broken)) return;
+  f48(self, j0, i1, i2); m = self->memory; if (NEVER(self->is_broken)) return;
   goto B10;
   B12:;
   i0 = 0u;
@@ -44139,7 +44477,7 @@ static void f33(module *self, u64 p0, u64 p1, u64 p2, u32 p3, u64 p4) {
     i2 = 32u;
     i3 = l15;
     i4 = l13;
-    f48(self, j0, j1, i2, i3, i4); m = self->memory; if (NEVER(self->is_broken)) return;
+    f51(self, j0, j1, i2, i3, i4); m = self->memory; if (NEVER(self->is_broken)) return;
     i0 = l13;
     i1 = 1u;
     i0 += i1;
@@ -44160,7 +44498,7 @@ static void f33(module *self, u64 p0, u64 p1, u64 p2, u32 p3, u64 p4) {
     i2 = 0u;
     i3 = 0u;
     i4 = l9;
-    f48(self, j0, j1, i2, i3, i4); m = self->memory; if (NEVER(self->is_broken)) return;
+    f51(self, j0, j1, i2, i3, i4); m = self->memory; if (NEVER(self->is_broken)) return;
     i0 = l9;
     i1 = 1u;
     i0 += i1;
@@ -44175,7 +44513,7 @@ static void f33(module *self, u64 p0, u64 p1, u64 p2, u32 p3, u64 p4) {
   i2 = l15;
   i3 = 15u;
   i2 &= i3;
-  f45(self, j0, i1, i2); m = self->memory; if (NEVER(self->is_broken)) return;
+  f48(self, j0, i1, i2); m = self->memory; if (NEVER(self->is_broken)) return;
   j0 = l5;
   i0 = (u32)(j0);
   i1 = 0u;
@@ -44216,7 +44554,7 @@ static void f33(module *self, u64 p0, u64 p1, u64 p2, u32 p3, u64 p4) {
     i2 = 255u;
     i3 = 255u;
     i4 = l13;
-    f48(self, j0, j1, i2, i3, i4); m = self->memory; if (NEVER(self->is_broken)) return;
+    f51(self, j0, j1, i2, i3, i4); m = self->memory; if (NEVER(self->is_broken)) return;
     i0 = l13;
     i1 = 1u;
     i0 += i1;
@@ -44230,7 +44568,7 @@ static void f33(module *self, u64 p0, u64 p1, u64 p2, u32 p3, u64 p4) {
   j0 = p1;
   i1 = 2u;
   i2 = 15u;
-  f45(self, j0, i1, i2); m = self->memory; if (NEVER(self->is_broken)) return;
+  f48(self, j0, i1, i2); m = self->memory; if (NEVER(self->is_broken)) return;
   goto B8;
   B9:;
   j0 = l5;
@@ -44277,7 +44615,7 @@ static void f33(module *self, u64 p0, u64 p1, u64 p2, u32 p3, u64 p4) {
     i2 = l15;
     i3 = l15;
     i4 = l13;
-    f48(self, j0, j1, i2, i3, i4); m = self->memory; if (NEVER(self->is_broken)) return;
+    f51(self, j0, j1, i2, i3, i4); m = self->memory; if (NEVER(self->is_broken)) return;
     i0 = l13;
     i1 = 1u;
     i0 += i1;
@@ -44294,7 +44632,7 @@ static void f33(module *self, u64 p0, u64 p1, u64 p2, u32 p3, u64 p4) {
   self->g0 = j0;
 }
 
-static void f34(module *self, u64 p0, u64 p1, u32 p2) {
+static void f37(module *self, u64 p0, u64 p1, u32 p2) {
   u32 l3 = 0, l4 = 0, l5 = 0;
   u8 *m = self->memory;
   u32 i0, i1, i2, i3, i4, i5;
@@ -44480,7 +44818,7 @@ static void f34(module *self, u64 p0, u64 p1, u32 p2) {
   i32_store8(j0, i1);
 }
 
-static void f35(module *self, u64 p0, u32 p1, u32 p2) {
+static void f38(module *self, u64 p0, u32 p1, u32 p2) {
   u64 l3 = 0, l4 = 0, l5 = 0, l6 = 0, l7 = 0, l8 = 0;
   u8 *m = self->memory;
   u32 i0, i1, i2, i3, i4;
@@ -44540,7 +44878,7 @@ static void f35(module *self, u64 p0, u32 p1, u32 p2) {
   j1 = 2072ull;
   j0 += j1;
   j1 = 4ull;
-  i0 = f12(self, j0, j1); m = self->memory; if (NEVER(self->is_broken)) return;
+  i0 = f15(self, j0, j1); m = self->memory; if (NEVER(self->is_broken)) return;
   i0 = !(i0);
   if (i0) {goto B4;}
   j0 = p0;
@@ -44643,7 +44981,7 @@ static void f35(module *self, u64 p0, u32 p1, u32 p2) {
   j1 = 2072ull;
   j0 += j1;
   j1 = 4ull;
-  i0 = f12(self, j0, j1); m = self->memory; if (NEVER(self->is_broken)) return;
+  i0 = f15(self, j0, j1); m = self->memory; if (NEVER(self->is_broken)) return;
   i0 = !(i0);
   if (i0) {goto B6;}
   j0 = p0;
@@ -44851,7 +45189,7 @@ static void f35(module *self, u64 p0, u32 p1, u32 p2) {
   B0:;
 }
 
-static u32 f36(module *self, u64 p0, u32 p1, u64 p2) {
+static u32 f39(module *self, u64 p0, u32 p1, u64 p2) {
   u32 l3 = 0, l4 = 0, l5 = 0;
   u64 l6 = 0, l7 = 0, l8 = 0, l9 = 0, l10 = 0, l11 = 0;
   u8 *m = self->memory;
@@ -45519,7 +45857,7 @@ static u32 f36(module *self, u64 p0, u32 p1, u64 p2) {
   return i0;
 }
 
-static void f37(module *self, u64 p0, u64 p1, u32 p2, u32 p3, u32 p4, u32 p5) {
+static void f40(module *self, u64 p0, u64 p1, u32 p2, u32 p3, u32 p4, u32 p5) {
   u32 l19 = 0, l20 = 0, l21 = 0, l22 = 0, l23 = 0, l24 = 0;
   u64 l6 = 0, l7 = 0, l8 = 0, l9 = 0, l10 = 0, l11 = 0, l12 = 0, l13 = 0, 
       l14 = 0, l15 = 0, l16 = 0, l17 = 0, l18 = 0;
@@ -45599,7 +45937,7 @@ static void f37(module *self, u64 p0, u64 p1, u32 p2, u32 p3, u32 p4, u32 p5) {
   i1 += i2;
   l20 = i1;
   i2 = p3;
-  f38(self, j0, i1, i2); m = self->memory; if (NEVER(self->is_broken)) return;
+  f41(self, j0, i1, i2); m = self->memory; if (NEVER(self->is_broken)) return;
   i0 = p5;
   i1 = 1u;
   i0 &= i1;
@@ -45610,7 +45948,7 @@ static void f37(module *self, u64 p0, u64 p1, u32 p2, u32 p3, u32 p4, u32 p5) {
   i2 = 1u;
   i1 += i2;
   i2 = p4;
-  f38(self, j0, i1, i2); m = self->memory; if (NEVER(self->is_broken)) return;
+  f41(self, j0, i1, i2); m = self->memory; if (NEVER(self->is_broken)) return;
   goto B1;
   B3:;
   j0 = p1;
@@ -45698,13 +46036,13 @@ static void f37(module *self, u64 p0, u64 p1, u32 p2, u32 p3, u32 p4, u32 p5) {
   j0 = p0;
   i1 = 3u;
   i2 = 24u;
-  f35(self, j0, i1, i2); m = self->memory; if (NEVER(self->is_broken)) return;
+  f38(self, j0, i1, i2); m = self->memory; if (NEVER(self->is_broken)) return;
   j0 = p0;
   i1 = 2u;
   i2 = p4;
   i3 = 15u;
   i2 &= i3;
-  f45(self, j0, i1, i2); m = self->memory; if (NEVER(self->is_broken)) return;
+  f48(self, j0, i1, i2); m = self->memory; if (NEVER(self->is_broken)) return;
   i0 = p5;
   i0 = !(i0);
   if (i0) {goto B8;}
@@ -45888,7 +46226,7 @@ static void f37(module *self, u64 p0, u64 p1, u32 p2, u32 p3, u32 p4, u32 p5) {
     j1 = 2072ull;
     j0 += j1;
     j1 = 5ull;
-    i0 = f12(self, j0, j1); m = self->memory; if (NEVER(self->is_broken)) return;
+    i0 = f15(self, j0, j1); m = self->memory; if (NEVER(self->is_broken)) return;
     i0 = !(i0);
     if (i0) {goto B17;}
     j0 = p0;
@@ -45939,11 +46277,11 @@ static void f37(module *self, u64 p0, u64 p1, u32 p2, u32 p3, u32 p4, u32 p5) {
     j0 = l6;
     j1 = p0;
     i2 = p4;
-    f34(self, j0, j1, i2);
+    f37(self, j0, j1, i2);
     j0 = p0;
     i1 = p4;
     i2 = p2;
-    f38(self, j0, i1, i2); m = self->memory; if (NEVER(self->is_broken)) return;
+    f41(self, j0, i1, i2); m = self->memory; if (NEVER(self->is_broken)) return;
     j0 = l8;
     j1 = 1ull;
     j0 += j1;
@@ -45963,11 +46301,11 @@ static void f37(module *self, u64 p0, u64 p1, u32 p2, u32 p3, u32 p4, u32 p5) {
   j0 = p0;
   i1 = 2u;
   i2 = 15u;
-  f45(self, j0, i1, i2); m = self->memory; if (NEVER(self->is_broken)) return;
+  f48(self, j0, i1, i2); m = self->memory; if (NEVER(self->is_broken)) return;
   j0 = p0;
   i1 = 3u;
   i2 = 0u;
-  f35(self, j0, i1, i2); m = self->memory; if (NEVER(self->is_broken)) return;
+  f38(self, j0, i1, i2); m = self->memory; if (NEVER(self->is_broken)) return;
   goto B1;
   B7:;
   j0 = l6;
@@ -46001,13 +46339,13 @@ static void f37(module *self, u64 p0, u64 p1, u32 p2, u32 p3, u32 p4, u32 p5) {
   i2 = 0u;
   i3 = 0u;
   i4 = l24;
-  f48(self, j0, j1, i2, i3, i4); m = self->memory; if (NEVER(self->is_broken)) return;
+  f51(self, j0, j1, i2, i3, i4); m = self->memory; if (NEVER(self->is_broken)) return;
   j0 = p0;
   i1 = 2u;
   i2 = p4;
   i3 = 15u;
   i2 &= i3;
-  f45(self, j0, i1, i2); m = self->memory; if (NEVER(self->is_broken)) return;
+  f48(self, j0, i1, i2); m = self->memory; if (NEVER(self->is_broken)) return;
   i0 = p5;
   i0 = !(i0);
   if (i0) {goto B19;}
@@ -46072,7 +46410,7 @@ static void f37(module *self, u64 p0, u64 p1, u32 p2, u32 p3, u32 p4, u32 p5) {
   j2 += j3;
   i2 = (u32)(j2);
   i2 = i32_load8_u(j2);
-  f38(self, j0, i1, i2); m = self->memory; if (NEVER(self->is_broken)) return;
+  f41(self, j0, i1, i2); m = self->memory; if (NEVER(self->is_broken)) return;
   j0 = l7;
   i0 = (u32)(j0);
   i0 = i32_load8_u(j0);
@@ -46101,7 +46439,7 @@ static void f37(module *self, u64 p0, u64 p1, u32 p2, u32 p3, u32 p4, u32 p5) {
   j2 += j3;
   i2 = (u32)(j2);
   i2 = i32_load8_u(j2 + 1u);
-  f38(self, j0, i1, i2); m = self->memory; if (NEVER(self->is_broken)) return;
+  f41(self, j0, i1, i2); m = self->memory; if (NEVER(self->is_broken)) return;
   j0 = 1048841ull;
   l8 = j0;
   j0 = 1048841ull;
@@ -46134,7 +46472,7 @@ static void f37(module *self, u64 p0, u64 p1, u32 p2, u32 p3, u32 p4, u32 p5) {
   j2 += j3;
   i2 = (u32)(j2);
   i2 = i32_load8_u(j2 + 2u);
-  f38(self, j0, i1, i2); m = self->memory; if (NEVER(self->is_broken)) return;
+  f41(self, j0, i1, i2); m = self->memory; if (NEVER(self->is_broken)) return;
   j0 = l7;
   i0 = (u32)(j0);
   i0 = i32_load8_u(j0);
@@ -46163,7 +46501,7 @@ static void f37(module *self, u64 p0, u64 p1, u32 p2, u32 p3, u32 p4, u32 p5) {
   j2 += j3;
   i2 = (u32)(j2);
   i2 = i32_load8_u(j2 + 3u);
-  f38(self, j0, i1, i2); m = self->memory; if (NEVER(self->is_broken)) return;
+  f41(self, j0, i1, i2); m = self->memory; if (NEVER(self->is_broken)) return;
   j0 = 1048841ull;
   l8 = j0;
   j0 = 1048841ull;
@@ -46196,7 +46534,7 @@ static void f37(module *self, u64 p0, u64 p1, u32 p2, u32 p3, u32 p4, u32 p5) {
   j2 += j3;
   i2 = (u32)(j2);
   i2 = i32_load8_u(j2 + 4u);
-  f38(self, j0, i1, i2); m = self->memory; if (NEVER(self->is_broken)) return;
+  f41(self, j0, i1, i2); m = self->memory; if (NEVER(self->is_broken)) return;
   j0 = l7;
   i0 = (u32)(j0);
   i0 = i32_load8_u(j0);
@@ -46225,7 +46563,7 @@ static void f37(module *self, u64 p0, u64 p1, u32 p2, u32 p3, u32 p4, u32 p5) {
   j2 += j3;
   i2 = (u32)(j2);
   i2 = i32_load8_u(j2 + 5u);
-  f38(self, j0, i1, i2); m = self->memory; if (NEVER(self->is_broken)) return;
+  f41(self, j0, i1, i2); m = self->memory; if (NEVER(self->is_broken)) return;
   j0 = 1048841ull;
   l8 = j0;
   j0 = 1048841ull;
@@ -46258,7 +46596,7 @@ static void f37(module *self, u64 p0, u64 p1, u32 p2, u32 p3, u32 p4, u32 p5) {
   j2 += j3;
   i2 = (u32)(j2);
   i2 = i32_load8_u(j2 + 6u);
-  f38(self, j0, i1, i2); m = self->memory; if (NEVER(self->is_broken)) return;
+  f41(self, j0, i1, i2); m = self->memory; if (NEVER(self->is_broken)) return;
   j0 = l7;
   i0 = (u32)(j0);
   i0 = i32_load8_u(j0);
@@ -46287,11 +46625,11 @@ static void f37(module *self, u64 p0, u64 p1, u32 p2, u32 p3, u32 p4, u32 p5) {
   j2 += j3;
   i2 = (u32)(j2);
   i2 = i32_load8_u(j2 + 7u);
-  f38(self, j0, i1, i2); m = self->memory; if (NEVER(self->is_broken)) return;
+  f41(self, j0, i1, i2); m = self->memory; if (NEVER(self->is_broken)) return;
   j0 = p0;
   i1 = 2u;
   i2 = 15u;
-  f45(self, j0, i1, i2); m = self->memory; if (NEVER(self->is_broken)) return;
+  f48(self, j0, i1, i2); m = self->memory; if (NEVER(self->is_broken)) return;
   goto B1;
   B21:;
   j0 = p1;
@@ -46331,7 +46669,7 @@ static void f37(module *self, u64 p0, u64 p1, u32 p2, u32 p3, u32 p4, u32 p5) {
   j2 += j3;
   i2 = (u32)(j2);
   i2 = i32_load8_u(j2);
-  f38(self, j0, i1, i2); m = self->memory; if (NEVER(self->is_broken)) return;
+  f41(self, j0, i1, i2); m = self->memory; if (NEVER(self->is_broken)) return;
   j0 = l12;
   i0 = (u32)(j0);
   i0 = i32_load8_u(j0);
@@ -46360,7 +46698,7 @@ static void f37(module *self, u64 p0, u64 p1, u32 p2, u32 p3, u32 p4, u32 p5) {
   j2 += j3;
   i2 = (u32)(j2);
   i2 = i32_load8_u(j2 + 1u);
-  f38(self, j0, i1, i2); m = self->memory; if (NEVER(self->is_broken)) return;
+  f41(self, j0, i1, i2); m = self->memory; if (NEVER(self->is_broken)) return;
   j0 = 1048841ull;
   l8 = j0;
   j0 = 1048841ull;
@@ -46396,7 +46734,7 @@ static void f37(module *self, u64 p0, u64 p1, u32 p2, u32 p3, u32 p4, u32 p5) {
   j2 += j3;
   i2 = (u32)(j2);
   i2 = i32_load8_u(j2 + 2u);
-  f38(self, j0, i1, i2); m = self->memory; if (NEVER(self->is_broken)) return;
+  f41(self, j0, i1, i2); m = self->memory; if (NEVER(self->is_broken)) return;
   j0 = l12;
   i0 = (u32)(j0);
   i0 = i32_load8_u(j0);
@@ -46425,7 +46763,7 @@ static void f37(module *self, u64 p0, u64 p1, u32 p2, u32 p3, u32 p4, u32 p5) {
   j2 += j3;
   i2 = (u32)(j2);
   i2 = i32_load8_u(j2 + 3u);
-  f38(self, j0, i1, i2); m = self->memory; if (NEVER(self->is_broken)) return;
+  f41(self, j0, i1, i2); m = self->memory; if (NEVER(self->is_broken)) return;
   j0 = 1048841ull;
   l8 = j0;
   j0 = 1048841ull;
@@ -46461,7 +46799,7 @@ static void f37(module *self, u64 p0, u64 p1, u32 p2, u32 p3, u32 p4, u32 p5) {
   j2 += j3;
   i2 = (u32)(j2);
   i2 = i32_load8_u(j2 + 4u);
-  f38(self, j0, i1, i2); m = self->memory; if (NEVER(self->is_broken)) return;
+  f41(self, j0, i1, i2); m = self->memory; if (NEVER(self->is_broken)) return;
   j0 = l12;
   i0 = (u32)(j0);
   i0 = i32_load8_u(j0);
@@ -46490,7 +46828,7 @@ static void f37(module *self, u64 p0, u64 p1, u32 p2, u32 p3, u32 p4, u32 p5) {
   j2 += j3;
   i2 = (u32)(j2);
   i2 = i32_load8_u(j2 + 5u);
-  f38(self, j0, i1, i2); m = self->memory; if (NEVER(self->is_broken)) return;
+  f41(self, j0, i1, i2); m = self->memory; if (NEVER(self->is_broken)) return;
   j0 = 1048841ull;
   l8 = j0;
   j0 = 1048841ull;
@@ -46526,7 +46864,7 @@ static void f37(module *self, u64 p0, u64 p1, u32 p2, u32 p3, u32 p4, u32 p5) {
   j2 += j3;
   i2 = (u32)(j2);
   i2 = i32_load8_u(j2 + 6u);
-  f38(self, j0, i1, i2); m = self->memory; if (NEVER(self->is_broken)) return;
+  f41(self, j0, i1, i2); m = self->memory; if (NEVER(self->is_broken)) return;
   j0 = l12;
   i0 = (u32)(j0);
   i0 = i32_load8_u(j0);
@@ -46555,7 +46893,7 @@ static void f37(module *self, u64 p0, u64 p1, u32 p2, u32 p3, u32 p4, u32 p5) {
   j2 += j3;
   i2 = (u32)(j2);
   i2 = i32_load8_u(j2 + 7u);
-  f38(self, j0, i1, i2); m = self->memory; if (NEVER(self->is_broken)) return;
+  f41(self, j0, i1, i2); m = self->memory; if (NEVER(self->is_broken)) return;
   j0 = 1048841ull;
   l8 = j0;
   j0 = 1048841ull;
@@ -46591,7 +46929,7 @@ static void f37(module *self, u64 p0, u64 p1, u32 p2, u32 p3, u32 p4, u32 p5) {
   j2 += j3;
   i2 = (u32)(j2);
   i2 = i32_load8_u(j2 + 8u);
-  f38(self, j0, i1, i2); m = self->memory; if (NEVER(self->is_broken)) return;
+  f41(self, j0, i1, i2); m = self->memory; if (NEVER(self->is_broken)) return;
   j0 = l12;
   i0 = (u32)(j0);
   i0 = i32_load8_u(j0);
@@ -46620,7 +46958,7 @@ static void f37(module *self, u64 p0, u64 p1, u32 p2, u32 p3, u32 p4, u32 p5) {
   j2 += j3;
   i2 = (u32)(j2);
   i2 = i32_load8_u(j2 + 9u);
-  f38(self, j0, i1, i2); m = self->memory; if (NEVER(self->is_broken)) return;
+  f41(self, j0, i1, i2); m = self->memory; if (NEVER(self->is_broken)) return;
   j0 = 1048841ull;
   l8 = j0;
   j0 = 1048841ull;
@@ -46656,7 +46994,7 @@ static void f37(module *self, u64 p0, u64 p1, u32 p2, u32 p3, u32 p4, u32 p5) {
   j2 += j3;
   i2 = (u32)(j2);
   i2 = i32_load8_u(j2 + 10u);
-  f38(self, j0, i1, i2); m = self->memory; if (NEVER(self->is_broken)) return;
+  f41(self, j0, i1, i2); m = self->memory; if (NEVER(self->is_broken)) return;
   j0 = l12;
   i0 = (u32)(j0);
   i0 = i32_load8_u(j0);
@@ -46685,7 +47023,7 @@ static void f37(module *self, u64 p0, u64 p1, u32 p2, u32 p3, u32 p4, u32 p5) {
   j2 += j3;
   i2 = (u32)(j2);
   i2 = i32_load8_u(j2 + 11u);
-  f38(self, j0, i1, i2); m = self->memory; if (NEVER(self->is_broken)) return;
+  f41(self, j0, i1, i2); m = self->memory; if (NEVER(self->is_broken)) return;
   j0 = 1048841ull;
   l8 = j0;
   j0 = 1048841ull;
@@ -46721,7 +47059,7 @@ static void f37(module *self, u64 p0, u64 p1, u32 p2, u32 p3, u32 p4, u32 p5) {
   j2 += j3;
   i2 = (u32)(j2);
   i2 = i32_load8_u(j2 + 12u);
-  f38(self, j0, i1, i2); m = self->memory; if (NEVER(self->is_broken)) return;
+  f41(self, j0, i1, i2); m = self->memory; if (NEVER(self->is_broken)) return;
   j0 = l12;
   i0 = (u32)(j0);
   i0 = i32_load8_u(j0);
@@ -46750,11 +47088,11 @@ static void f37(module *self, u64 p0, u64 p1, u32 p2, u32 p3, u32 p4, u32 p5) {
   j2 += j3;
   i2 = (u32)(j2);
   i2 = i32_load8_u(j2 + 13u);
-  f38(self, j0, i1, i2); m = self->memory; if (NEVER(self->is_broken)) return;
+  f41(self, j0, i1, i2); m = self->memory; if (NEVER(self->is_broken)) return;
   j0 = p0;
   i1 = 2u;
   i2 = 15u;
-  f45(self, j0, i1, i2); m = self->memory; if (NEVER(self->is_broken)) return;
+  f48(self, j0, i1, i2); m = self->memory; if (NEVER(self->is_broken)) return;
   goto B1;
   B20:;
   j0 = p1;
@@ -46800,7 +47138,7 @@ static void f37(module *self, u64 p0, u64 p1, u32 p2, u32 p3, u32 p4, u32 p5) {
     j2 += j3;
     i2 = (u32)(j2);
     i2 = i32_load8_u(j2);
-    f38(self, j0, i1, i2); m = self->memory; if (NEVER(self->is_broken)) return;
+    f41(self, j0, i1, i2); m = self->memory; if (NEVER(self->is_broken)) return;
     j0 = p1;
     j1 = 1ull;
     j0 += j1;
@@ -46820,7 +47158,7 @@ static void f37(module *self, u64 p0, u64 p1, u32 p2, u32 p3, u32 p4, u32 p5) {
   j0 = p0;
   i1 = 2u;
   i2 = 15u;
-  f45(self, j0, i1, i2); m = self->memory; if (NEVER(self->is_broken)) return;
+  f48(self, j0, i1, i2); m = self->memory; if (NEVER(self->is_broken)) return;
   goto B1;
   B2:;
   j0 = p1;
@@ -46996,7 +47334,7 @@ static void f37(module *self, u64 p0, u64 p1, u32 p2, u32 p3, u32 p4, u32 p5) {
     i2 = (u32)((s32)i2 >> (i3 & 31));
     i3 = p4;
     i2 &= i3;
-    f38(self, j0, i1, i2); m = self->memory; if (NEVER(self->is_broken)) return;
+    f41(self, j0, i1, i2); m = self->memory; if (NEVER(self->is_broken)) return;
     j0 = p0;
     i1 = l20;
     i2 = 1u;
@@ -47009,7 +47347,7 @@ static void f37(module *self, u64 p0, u64 p1, u32 p2, u32 p3, u32 p4, u32 p5) {
     i2 = (u32)((s32)i2 >> (i3 & 31));
     i3 = p4;
     i2 &= i3;
-    f38(self, j0, i1, i2); m = self->memory; if (NEVER(self->is_broken)) return;
+    f41(self, j0, i1, i2); m = self->memory; if (NEVER(self->is_broken)) return;
     j0 = p0;
     i1 = l20;
     i2 = 2u;
@@ -47022,7 +47360,7 @@ static void f37(module *self, u64 p0, u64 p1, u32 p2, u32 p3, u32 p4, u32 p5) {
     i2 = (u32)((s32)i2 >> (i3 & 31));
     i3 = p4;
     i2 &= i3;
-    f38(self, j0, i1, i2); m = self->memory; if (NEVER(self->is_broken)) return;
+    f41(self, j0, i1, i2); m = self->memory; if (NEVER(self->is_broken)) return;
     j0 = p0;
     i1 = l20;
     i2 = 3u;
@@ -47035,7 +47373,7 @@ static void f37(module *self, u64 p0, u64 p1, u32 p2, u32 p3, u32 p4, u32 p5) {
     i2 = (u32)((s32)i2 >> (i3 & 31));
     i3 = p4;
     i2 &= i3;
-    f38(self, j0, i1, i2); m = self->memory; if (NEVER(self->is_broken)) return;
+    f41(self, j0, i1, i2); m = self->memory; if (NEVER(self->is_broken)) return;
     j0 = p0;
     i1 = l20;
     i2 = 4u;
@@ -47048,7 +47386,7 @@ static void f37(module *self, u64 p0, u64 p1, u32 p2, u32 p3, u32 p4, u32 p5) {
     i2 = (u32)((s32)i2 >> (i3 & 31));
     i3 = p4;
     i2 &= i3;
-    f38(self, j0, i1, i2); m = self->memory; if (NEVER(self->is_broken)) return;
+    f41(self, j0, i1, i2); m = self->memory; if (NEVER(self->is_broken)) return;
     j0 = p0;
     i1 = l20;
     i2 = 5u;
@@ -47061,7 +47399,7 @@ static void f37(module *self, u64 p0, u64 p1, u32 p2, u32 p3, u32 p4, u32 p5) {
     i2 = (u32)((s32)i2 >> (i3 & 31));
     i3 = p4;
     i2 &= i3;
-    f38(self, j0, i1, i2); m = self->memory; if (NEVER(self->is_broken)) return;
+    f41(self, j0, i1, i2); m = self->memory; if (NEVER(self->is_broken)) return;
     j0 = p0;
     i1 = l20;
     i2 = 6u;
@@ -47074,7 +47412,7 @@ static void f37(module *self, u64 p0, u64 p1, u32 p2, u32 p3, u32 p4, u32 p5) {
     i2 = (u32)((s32)i2 >> (i3 & 31));
     i3 = p4;
     i2 &= i3;
-    f38(self, j0, i1, i2); m = self->memory; if (NEVER(self->is_broken)) return;
+    f41(self, j0, i1, i2); m = self->memory; if (NEVER(self->is_broken)) return;
     j0 = p0;
     i1 = l20;
     i2 = 7u;
@@ -47086,7 +47424,7 @@ static void f37(module *self, u64 p0, u64 p1, u32 p2, u32 p3, u32 p4, u32 p5) {
     i2 -= i3;
     i3 = p4;
     i2 &= i3;
-    f38(self, j0, i1, i2); m = self->memory; if (NEVER(self->is_broken)) return;
+    f41(self, j0, i1, i2); m = self->memory; if (NEVER(self->is_broken)) return;
     j0 = l8;
     j1 = 1ull;
     j0 += j1;
@@ -47113,7 +47451,7 @@ static void f37(module *self, u64 p0, u64 p1, u32 p2, u32 p3, u32 p4, u32 p5) {
   Bfunc:;
 }
 
-static void f38(module *self, u64 p0, u32 p1, u32 p2) {
+static void f41(module *self, u64 p0, u32 p1, u32 p2) {
   u32 l10 = 0, l11 = 0, l12 = 0, l13 = 0;
   u64 l3 = 0, l4 = 0, l5 = 0, l6 = 0, l7 = 0, l8 = 0, l9 = 0;
   u8 *m = self->memory;
@@ -47166,7 +47504,7 @@ static void f38(module *self, u64 p0, u32 p1, u32 p2) {
   j1 = 2072ull;
   j0 += j1;
   j1 = 6ull;
-  i0 = f12(self, j0, j1); m = self->memory; if (NEVER(self->is_broken)) return;
+  i0 = f15(self, j0, j1); m = self->memory; if (NEVER(self->is_broken)) return;
   i0 = !(i0);
   if (i0) {goto B0;}
   j0 = p0;
@@ -47267,7 +47605,7 @@ static void f38(module *self, u64 p0, u32 p1, u32 p2) {
   i1 = (u32)(j1);
   i1 = i32_load8_u(j1);
   i2 = p2;
-  i0 = f46(self, j0, i1, i2);
+  i0 = f49(self, j0, i1, i2);
   p2 = i0;
   j0 = p0;
   j1 = 68ull;
@@ -47351,7 +47689,7 @@ static void f38(module *self, u64 p0, u32 p1, u32 p2) {
   B2:;
 }
 
-static u32 f39(module *self, u64 p0, u64 p1, u32 p2, u32 p3, u32 p4, u32 p5) {
+static u32 f42(module *self, u64 p0, u64 p1, u32 p2, u32 p3, u32 p4, u32 p5) {
   u32 l7 = 0;
   u64 l6 = 0;
   u8 *m = self->memory;
@@ -47394,7 +47732,7 @@ static u32 f39(module *self, u64 p0, u64 p1, u32 p2, u32 p3, u32 p4, u32 p5) {
   i2 = (u32)(j2);
   i2 = i32_load8_u(j2);
   i3 = p2;
-  i0 = f49(self, j0, j1, i2, i3); m = self->memory; if (NEVER(self->is_broken)) return ZAK_BROKEN;
+  i0 = f52(self, j0, j1, i2, i3); m = self->memory; if (NEVER(self->is_broken)) return ZAK_BROKEN;
   goto Bfunc;
   B2:;
   i0 = p2;
@@ -47428,7 +47766,7 @@ static u32 f39(module *self, u64 p0, u64 p1, u32 p2, u32 p3, u32 p4, u32 p5) {
   i3 = p3;
   i4 = p4;
   i5 = p5;
-  f37(self, j0, j1, i2, i3, i4, i5); m = self->memory; if (NEVER(self->is_broken)) return ZAK_BROKEN;
+  f40(self, j0, j1, i2, i3, i4, i5); m = self->memory; if (NEVER(self->is_broken)) return ZAK_BROKEN;
   i0 = l7;
   i1 = 1u;
   i0 += i1;
@@ -47455,7 +47793,7 @@ static u32 f39(module *self, u64 p0, u64 p1, u32 p2, u32 p3, u32 p4, u32 p5) {
   i2 = (u32)(j2);
   i2 = i32_load8_u(j2);
   i3 = p2;
-  i0 = f49(self, j0, j1, i2, i3); m = self->memory; if (NEVER(self->is_broken)) return ZAK_BROKEN;
+  i0 = f52(self, j0, j1, i2, i3); m = self->memory; if (NEVER(self->is_broken)) return ZAK_BROKEN;
   i1 = 65280u;
   i0 &= i1;
   p2 = i0;
@@ -47465,7 +47803,7 @@ static u32 f39(module *self, u64 p0, u64 p1, u32 p2, u32 p3, u32 p4, u32 p5) {
   return i0;
 }
 
-static void f40(module *self, u64 p0, u32 p1, u32 p2, u32 p3) {
+static void f43(module *self, u64 p0, u32 p1, u32 p2, u32 p3) {
   u32 l12 = 0;
   u64 l4 = 0, l5 = 0, l6 = 0, l7 = 0, l8 = 0, l9 = 0, l10 = 0, l11 = 0;
   u8 *m = self->memory;
@@ -47527,7 +47865,7 @@ static void f40(module *self, u64 p0, u32 p1, u32 p2, u32 p3) {
   j1 = 2072ull;
   j0 += j1;
   j1 = 3ull;
-  i0 = f12(self, j0, j1); m = self->memory; if (NEVER(self->is_broken)) return;
+  i0 = f15(self, j0, j1); m = self->memory; if (NEVER(self->is_broken)) return;
   i0 = !(i0);
   if (i0) {goto B0;}
   j0 = p0;
@@ -47588,21 +47926,21 @@ static void f40(module *self, u64 p0, u32 p1, u32 p2, u32 p3) {
   j0 += j1;
   j1 = p0;
   i2 = l12;
-  f26(self, j0, j1, i2); if (NEVER(self->is_broken)) return;
+  f29(self, j0, j1, i2); if (NEVER(self->is_broken)) return;
   j0 = p0;
   i1 = p2;
   i2 = p3;
-  f41(self, j0, i1, i2); m = self->memory; if (NEVER(self->is_broken)) return;
+  f44(self, j0, i1, i2); m = self->memory; if (NEVER(self->is_broken)) return;
   j0 = p0;
   i1 = p1;
-  f42(self, j0, i1); m = self->memory; if (NEVER(self->is_broken)) return;
+  f45(self, j0, i1); m = self->memory; if (NEVER(self->is_broken)) return;
   j0 = l4;
   j1 = 16ull;
   j0 += j1;
   self->g0 = j0;
 }
 
-static void f41(module *self, u64 p0, u32 p1, u32 p2) {
+static void f44(module *self, u64 p0, u32 p1, u32 p2) {
   u32 l11 = 0, l12 = 0, l13 = 0;
   u64 l3 = 0, l4 = 0, l5 = 0, l6 = 0, l7 = 0, l8 = 0, l9 = 0, l10 = 0;
   u8 *m = self->memory;
@@ -47660,7 +47998,7 @@ static void f41(module *self, u64 p0, u32 p1, u32 p2) {
   j1 = 2072ull;
   j0 += j1;
   j1 = 4ull;
-  i0 = f12(self, j0, j1); m = self->memory; if (NEVER(self->is_broken)) return;
+  i0 = f15(self, j0, j1); m = self->memory; if (NEVER(self->is_broken)) return;
   i0 = !(i0);
   if (i0) {goto B0;}
   j0 = p0;
@@ -47759,7 +48097,7 @@ static void f41(module *self, u64 p0, u32 p1, u32 p2) {
   i32_store8(j0, i1);
   j0 = l3;
   j1 = l4;
-  f23(self, j0, j1);
+  f26(self, j0, j1);
   j0 = p0;
   j1 = 196ull;
   j0 += j1;
@@ -47843,7 +48181,7 @@ static void f41(module *self, u64 p0, u32 p1, u32 p2) {
   j1 = 2072ull;
   j0 += j1;
   j1 = 4ull;
-  i0 = f12(self, j0, j1); m = self->memory; if (NEVER(self->is_broken)) return;
+  i0 = f15(self, j0, j1); m = self->memory; if (NEVER(self->is_broken)) return;
   i0 = !(i0);
   if (i0) {goto B6;}
   j0 = p0;
@@ -47938,7 +48276,7 @@ static void f41(module *self, u64 p0, u32 p1, u32 p2) {
   i32_store8(j0, i1);
   j0 = l3;
   j1 = l4;
-  f23(self, j0, j1);
+  f26(self, j0, j1);
   j0 = p0;
   j1 = 196ull;
   j0 += j1;
@@ -47981,7 +48319,7 @@ static void f41(module *self, u64 p0, u32 p1, u32 p2) {
   self->g0 = j0;
 }
 
-static void f42(module *self, u64 p0, u32 p1) {
+static void f45(module *self, u64 p0, u32 p1) {
   u32 l10 = 0, l11 = 0, l12 = 0;
   u64 l2 = 0, l3 = 0, l4 = 0, l5 = 0, l6 = 0, l7 = 0, l8 = 0, l9 = 0;
   u8 *m = self->memory;
@@ -48039,7 +48377,7 @@ static void f42(module *self, u64 p0, u32 p1) {
   j1 = 2072ull;
   j0 += j1;
   j1 = 4ull;
-  i0 = f12(self, j0, j1); m = self->memory; if (NEVER(self->is_broken)) return;
+  i0 = f15(self, j0, j1); m = self->memory; if (NEVER(self->is_broken)) return;
   i0 = !(i0);
   if (i0) {goto B0;}
   j0 = p0;
@@ -48135,7 +48473,7 @@ static void f42(module *self, u64 p0, u32 p1) {
   j1 = 16ull;
   j0 += j1;
   j1 = l4;
-  f23(self, j0, j1);
+  f26(self, j0, j1);
   j0 = p0;
   j1 = 196ull;
   j0 += j1;
@@ -48221,7 +48559,7 @@ static void f42(module *self, u64 p0, u32 p1) {
   j1 = 2072ull;
   j0 += j1;
   j1 = 3ull;
-  i0 = f12(self, j0, j1); m = self->memory; if (NEVER(self->is_broken)) return;
+  i0 = f15(self, j0, j1); m = self->memory; if (NEVER(self->is_broken)) return;
   i0 = !(i0);
   if (i0) {goto B6;}
   j0 = p0;
@@ -48282,14 +48620,14 @@ static void f42(module *self, u64 p0, u32 p1) {
   j0 += j1;
   j1 = p0;
   i2 = p1;
-  f26(self, j0, j1, i2); if (NEVER(self->is_broken)) return;
+  f29(self, j0, j1, i2); if (NEVER(self->is_broken)) return;
   j0 = l2;
   j1 = 32ull;
   j0 += j1;
   self->g0 = j0;
 }
 
-static void f43(module *self, u64 p0, u32 p1, u32 p2) {
+static void f46(module *self, u64 p0, u32 p1, u32 p2) {
   u32 l3 = 0, l4 = 0;
   u8 *m = self->memory;
   u32 i0, i1, i2, i3, i4;
@@ -48553,7 +48891,7 @@ static void f43(module *self, u64 p0, u32 p1, u32 p2) {
   i32_store8(j0, i1);
 }
 
-static void f44(module *self, u64 p0, u64 p1, u32 p2, u32 p3) {
+static void f47(module *self, u64 p0, u64 p1, u32 p2, u32 p3) {
   u32 l7 = 0, l8 = 0;
   u64 l4 = 0, l5 = 0, l6 = 0;
   u8 *m = self->memory;
@@ -48645,7 +48983,7 @@ static void f44(module *self, u64 p0, u64 p1, u32 p2, u32 p3) {
   i32_store8(j0, i1);
   j0 = l4;
   j1 = l6;
-  f23(self, j0, j1);
+  f26(self, j0, j1);
   j0 = p1;
   j1 = 196ull;
   j0 += j1;
@@ -49302,7 +49640,7 @@ static void f44(module *self, u64 p0, u64 p1, u32 p2, u32 p3) {
   self->g0 = j0;
 }
 
-static void f45(module *self, u64 p0, u32 p1, u32 p2) {
+static void f48(module *self, u64 p0, u32 p1, u32 p2) {
   u64 l3 = 0, l4 = 0, l5 = 0, l6 = 0, l7 = 0, l8 = 0;
   u8 *m = self->memory;
   u32 i0, i1, i2;
@@ -49362,7 +49700,7 @@ static void f45(module *self, u64 p0, u32 p1, u32 p2) {
   j1 = 2072ull;
   j0 += j1;
   j1 = 4ull;
-  i0 = f12(self, j0, j1); m = self->memory; if (NEVER(self->is_broken)) return;
+  i0 = f15(self, j0, j1); m = self->memory; if (NEVER(self->is_broken)) return;
   i0 = !(i0);
   if (i0) {goto B4;}
   j0 = p0;
@@ -49465,7 +49803,7 @@ static void f45(module *self, u64 p0, u32 p1, u32 p2) {
   j1 = 2072ull;
   j0 += j1;
   j1 = 4ull;
-  i0 = f12(self, j0, j1); m = self->memory; if (NEVER(self->is_broken)) return;
+  i0 = f15(self, j0, j1); m = self->memory; if (NEVER(self->is_broken)) return;
   i0 = !(i0);
   if (i0) {goto B6;}
   j0 = p0;
@@ -49617,7 +49955,7 @@ static void f45(module *self, u64 p0, u32 p1, u32 p2) {
   B0:;
 }
 
-static u32 f46(module *self, u64 p0, u32 p1, u32 p2) {
+static u32 f49(module *self, u64 p0, u32 p1, u32 p2) {
   u32 l3 = 0, l4 = 0, l5 = 0, l6 = 0;
   u8 *m = self->memory;
   u32 i0, i1, i2, i3, i4;
@@ -49826,7 +50164,7 @@ static u32 f46(module *self, u64 p0, u32 p1, u32 p2) {
   return i0;
 }
 
-static void f47(module *self, u64 p0, u64 p1, u32 p2, u32 p3) {
+static void f50(module *self, u64 p0, u64 p1, u32 p2, u32 p3) {
   u32 l4 = 0, l5 = 0, l6 = 0, l7 = 0, l8 = 0, l9 = 0, l10 = 0, l11 = 0, 
       l12 = 0, l13 = 0, l14 = 0, l15 = 0, l16 = 0, l17 = 0, l18 = 0, l19 = 0, 
       l20 = 0;
@@ -49937,7 +50275,7 @@ static void f47(module *self, u64 p0, u64 p1, u32 p2, u32 p3) {
       j1 = 2072ull;
       j0 += j1;
       j1 = 5ull;
-      i0 = f12(self, j0, j1); m = self->memory; if (NEVER(self->is_broken)) return;
+      i0 = f15(self, j0, j1); m = self->memory; if (NEVER(self->is_broken)) return;
       i0 = !(i0);
       if (i0) {goto B3;}
       j0 = p1;
@@ -50203,7 +50541,7 @@ static void f47(module *self, u64 p0, u64 p1, u32 p2, u32 p3) {
       j1 = 2072ull;
       j0 += j1;
       j1 = 6ull;
-      i0 = f12(self, j0, j1); m = self->memory; if (NEVER(self->is_broken)) return;
+      i0 = f15(self, j0, j1); m = self->memory; if (NEVER(self->is_broken)) return;
       i0 = !(i0);
       if (i0) {goto B11;}
       j0 = p1;
@@ -50624,7 +50962,7 @@ static void f47(module *self, u64 p0, u64 p1, u32 p2, u32 p3) {
   B0:;
 }
 
-static void f48(module *self, u64 p0, u64 p1, u32 p2, u32 p3, u32 p4) {
+static void f51(module *self, u64 p0, u64 p1, u32 p2, u32 p3, u32 p4) {
   u32 l5 = 0, l6 = 0, l7 = 0, l8 = 0, l9 = 0, l10 = 0, l11 = 0, l12 = 0, 
       l13 = 0, l14 = 0, l15 = 0, l16 = 0, l17 = 0, l18 = 0, l19 = 0, l20 = 0, 
       l21 = 0;
@@ -50734,7 +51072,7 @@ static void f48(module *self, u64 p0, u64 p1, u32 p2, u32 p3, u32 p4) {
       j1 = 2072ull;
       j0 += j1;
       j1 = 6ull;
-      i0 = f12(self, j0, j1); m = self->memory; if (NEVER(self->is_broken)) return;
+      i0 = f15(self, j0, j1); m = self->memory; if (NEVER(self->is_broken)) return;
       i0 = !(i0);
       if (i0) {goto B3;}
       j0 = p1;
@@ -51151,7 +51489,7 @@ static void f48(module *self, u64 p0, u64 p1, u32 p2, u32 p3, u32 p4) {
   B0:;
 }
 
-static u32 f49(module *self, u64 p0, u64 p1, u32 p2, u32 p3) {
+static u32 f52(module *self, u64 p0, u64 p1, u32 p2, u32 p3) {
   u32 l12 = 0, l13 = 0, l14 = 0;
   u64 l4 = 0, l5 = 0, l6 = 0, l7 = 0, l8 = 0, l9 = 0, l10 = 0, l11 = 0;
   u8 *m = self->memory;
@@ -51286,7 +51624,7 @@ static u32 f49(module *self, u64 p0, u64 p1, u32 p2, u32 p3) {
   j1 = 2072ull;
   j0 += j1;
   j1 = 5ull;
-  i0 = f12(self, j0, j1); m = self->memory; if (NEVER(self->is_broken)) return ZAK_BROKEN;
+  i0 = f15(self, j0, j1); m = self->memory; if (NEVER(self->is_broken)) return ZAK_BROKEN;
   i0 = !(i0);
   if (i0) {goto B3;}
   j0 = p0;
@@ -51339,7 +51677,7 @@ static u32 f49(module *self, u64 p0, u64 p1, u32 p2, u32 p3) {
   j0 += j1;
   j1 = p0;
   i2 = l13;
-  f34(self, j0, j1, i2);
+  f37(self, j0, j1, i2);
   i0 = 4294967295u;
   j1 = l4;
   i1 = (u32)(j1);
@@ -51401,7 +51739,7 @@ static u32 f49(module *self, u64 p0, u64 p1, u32 p2, u32 p3) {
   j4 = l4;
   j5 = 32ull;
   j4 += j5;
-  f33(self, j0, j1, j2, i3, j4); m = self->memory; if (NEVER(self->is_broken)) return ZAK_BROKEN;
+  f36(self, j0, j1, j2, i3, j4); m = self->memory; if (NEVER(self->is_broken)) return ZAK_BROKEN;
   B0:;
   j0 = l4;
   j1 = 48ull;
@@ -51411,7 +51749,7 @@ static u32 f49(module *self, u64 p0, u64 p1, u32 p2, u32 p3) {
   return i0;
 }
 
-static void f50(module *self, u64 p0, u32 p1, u32 p2, u32 p3, u32 p4) {
+static void f53(module *self, u64 p0, u32 p1, u32 p2, u32 p3, u32 p4) {
   u32 l5 = 0, l6 = 0, l7 = 0, l8 = 0, l9 = 0, l10 = 0, l11 = 0, l12 = 0, 
       l13 = 0, l14 = 0, l15 = 0, l16 = 0, l17 = 0;
   u64 l18 = 0;
@@ -51464,12 +51802,12 @@ static void f50(module *self, u64 p0, u32 p1, u32 p2, u32 p3, u32 p4) {
   i1 = i32_load8_u(j1);
   l12 = i1;
   i2 = p3;
-  i0 = f46(self, j0, i1, i2);
+  i0 = f49(self, j0, i1, i2);
   l13 = i0;
   j0 = p0;
   i1 = l12;
   i2 = p4;
-  i0 = f46(self, j0, i1, i2);
+  i0 = f49(self, j0, i1, i2);
   l14 = i0;
   j0 = p0;
   j1 = 2003ull;
@@ -51836,7 +52174,7 @@ static void f50(module *self, u64 p0, u32 p1, u32 p2, u32 p3, u32 p4) {
   B5:;
 }
 
-static void f51(module *self, u64 p0, u64 p1) {
+static void f54(module *self, u64 p0, u64 p1) {
   u32 l2 = 0, l3 = 0, l4 = 0, l5 = 0;
   u64 l6 = 0, l7 = 0, l8 = 0;
   u8 *m = self->memory;
@@ -52072,7 +52410,7 @@ static void f51(module *self, u64 p0, u64 p1) {
   i32_store(j0, i1);
 }
 
-static void f52(module *self, u64 p0, u64 p1, u32 p2, u64 p3, u64 p4) {
+static void f55(module *self, u64 p0, u64 p1, u32 p2, u64 p3, u64 p4) {
   u32 l5 = 0, l6 = 0, l7 = 0, l8 = 0;
   u64 l9 = 0, l10 = 0;
   u8 *m = self->memory;
@@ -52721,7 +53059,7 @@ static void f52(module *self, u64 p0, u64 p1, u32 p2, u64 p3, u64 p4) {
   Bfunc:;
 }
 
-static u32 f53(module *self, u64 p0, u32 p1) {
+static u32 f56(module *self, u64 p0, u32 p1) {
   u32 l3 = 0, l4 = 0, l5 = 0;
   u64 l2 = 0;
   u8 *m = self->memory;
@@ -52887,7 +53225,7 @@ static u32 f53(module *self, u64 p0, u32 p1) {
   return i0;
 }
 
-static void f54(module *self, u64 p0, u64 p1, u32 p2, u32 p3) {
+static void f57(module *self, u64 p0, u64 p1, u32 p2, u32 p3) {
   u32 l5 = 0, l6 = 0, l7 = 0, l8 = 0, l9 = 0;
   u64 l4 = 0;
   u8 *m = self->memory;
@@ -53161,7 +53499,7 @@ static void f54(module *self, u64 p0, u64 p1, u32 p2, u32 p3) {
   B12:;
   j0 = p1;
   i1 = l7;
-  i0 = f53(self, j0, i1); if (NEVER(self->is_broken)) return;
+  i0 = f56(self, j0, i1); if (NEVER(self->is_broken)) return;
   p2 = i0;
   j0 = p0;
   j1 = 4ull;
@@ -53197,7 +53535,7 @@ static void f54(module *self, u64 p0, u64 p1, u32 p2, u32 p3) {
   j0 += j1;
   j1 = p1;
   i2 = p3;
-  f26(self, j0, j1, i2); if (NEVER(self->is_broken)) return;
+  f29(self, j0, j1, i2); if (NEVER(self->is_broken)) return;
   j0 = p0;
   j1 = 4ull;
   j0 += j1;
@@ -53217,7 +53555,7 @@ static void f54(module *self, u64 p0, u64 p1, u32 p2, u32 p3) {
   self->g0 = j0;
 }
 
-static void f55(module *self, u64 p0, u64 p1, u32 p2) {
+static void f58(module *self, u64 p0, u64 p1, u32 p2) {
   u32 l4 = 0, l5 = 0, l6 = 0, l7 = 0;
   u64 l3 = 0;
   u8 *m = self->memory;
@@ -53326,7 +53664,7 @@ static void f55(module *self, u64 p0, u64 p1, u32 p2) {
   j0 += j1;
   j1 = p1;
   i2 = p2;
-  f26(self, j0, j1, i2); if (NEVER(self->is_broken)) return;
+  f29(self, j0, j1, i2); if (NEVER(self->is_broken)) return;
   j0 = l3;
   i0 = (u32)(j0);
   i0 = i32_load8_u(j0 + 25u);
@@ -53342,7 +53680,7 @@ static void f55(module *self, u64 p0, u64 p1, u32 p2) {
   i2 = p2;
   i3 = 1u;
   i2 += i3;
-  f26(self, j0, j1, i2); if (NEVER(self->is_broken)) return;
+  f29(self, j0, j1, i2); if (NEVER(self->is_broken)) return;
   j0 = l3;
   i0 = (u32)(j0);
   i0 = i32_load8_u(j0 + 17u);
@@ -53374,7 +53712,7 @@ static void f55(module *self, u64 p0, u64 p1, u32 p2) {
   j0 += j1;
   j1 = p1;
   i2 = 964u;
-  f26(self, j0, j1, i2); if (NEVER(self->is_broken)) return;
+  f29(self, j0, j1, i2); if (NEVER(self->is_broken)) return;
   j0 = l3;
   i0 = (u32)(j0);
   i0 = i32_load8_u(j0 + 41u);
@@ -53388,7 +53726,7 @@ static void f55(module *self, u64 p0, u64 p1, u32 p2) {
   j0 += j1;
   j1 = p1;
   i2 = 965u;
-  f26(self, j0, j1, i2); if (NEVER(self->is_broken)) return;
+  f29(self, j0, j1, i2); if (NEVER(self->is_broken)) return;
   j0 = l3;
   i0 = (u32)(j0);
   i0 = i32_load8_u(j0 + 33u);
@@ -53420,7 +53758,7 @@ static void f55(module *self, u64 p0, u64 p1, u32 p2) {
   j0 += j1;
   j1 = p1;
   i2 = 968u;
-  f26(self, j0, j1, i2); if (NEVER(self->is_broken)) return;
+  f29(self, j0, j1, i2); if (NEVER(self->is_broken)) return;
   j0 = l3;
   i0 = (u32)(j0);
   i0 = i32_load8_u(j0 + 57u);
@@ -53434,7 +53772,7 @@ static void f55(module *self, u64 p0, u64 p1, u32 p2) {
   j0 += j1;
   j1 = p1;
   i2 = 969u;
-  f26(self, j0, j1, i2); if (NEVER(self->is_broken)) return;
+  f29(self, j0, j1, i2); if (NEVER(self->is_broken)) return;
   j0 = l3;
   i0 = (u32)(j0);
   i0 = i32_load8_u(j0 + 49u);
@@ -53466,7 +53804,7 @@ static void f55(module *self, u64 p0, u64 p1, u32 p2) {
   j0 += j1;
   j1 = p1;
   i2 = 974u;
-  f26(self, j0, j1, i2); if (NEVER(self->is_broken)) return;
+  f29(self, j0, j1, i2); if (NEVER(self->is_broken)) return;
   j0 = l3;
   i0 = (u32)(j0);
   i0 = i32_load8_u(j0 + 73u);
@@ -53486,7 +53824,7 @@ static void f55(module *self, u64 p0, u64 p1, u32 p2) {
   j0 += j1;
   j1 = p1;
   i2 = 975u;
-  f26(self, j0, j1, i2); if (NEVER(self->is_broken)) return;
+  f29(self, j0, j1, i2); if (NEVER(self->is_broken)) return;
   j0 = l3;
   i0 = (u32)(j0);
   i0 = i32_load8_u(j0 + 65u);
@@ -53518,7 +53856,7 @@ static void f55(module *self, u64 p0, u64 p1, u32 p2) {
   j0 += j1;
   j1 = p1;
   i2 = p2;
-  f26(self, j0, j1, i2); if (NEVER(self->is_broken)) return;
+  f29(self, j0, j1, i2); if (NEVER(self->is_broken)) return;
   j0 = l3;
   i0 = (u32)(j0);
   i0 = i32_load8_u(j0 + 9u);
@@ -53537,7 +53875,7 @@ static void f55(module *self, u64 p0, u64 p1, u32 p2) {
   i2 = p2;
   i3 = 1u;
   i2 += i3;
-  f26(self, j0, j1, i2); if (NEVER(self->is_broken)) return;
+  f29(self, j0, j1, i2); if (NEVER(self->is_broken)) return;
   j0 = l3;
   i0 = (u32)(j0);
   i0 = i32_load8_u(j0 + 1u);
@@ -53583,7 +53921,7 @@ static void f55(module *self, u64 p0, u64 p1, u32 p2) {
   j0 += j1;
   j1 = p1;
   i2 = 965u;
-  f56(self, j0, j1, i2); if (NEVER(self->is_broken)) return;
+  f59(self, j0, j1, i2); if (NEVER(self->is_broken)) return;
   j0 = l3;
   i0 = (u32)(j0);
   i0 = i32_load16_u(j0 + 78u);
@@ -53635,7 +53973,7 @@ static void f55(module *self, u64 p0, u64 p1, u32 p2) {
   self->g0 = j0;
 }
 
-static void f56(module *self, u64 p0, u64 p1, u32 p2) {
+static void f59(module *self, u64 p0, u64 p1, u32 p2) {
   u32 l4 = 0, l5 = 0, l6 = 0;
   u64 l3 = 0;
   u8 *m = self->memory;
@@ -53651,7 +53989,7 @@ static void f56(module *self, u64 p0, u64 p1, u32 p2) {
   j0 += j1;
   j1 = p1;
   i2 = p2;
-  f26(self, j0, j1, i2); if (NEVER(self->is_broken)) return;
+  f29(self, j0, j1, i2); if (NEVER(self->is_broken)) return;
   i0 = 0u;
   l4 = i0;
   i0 = 1u;
@@ -53669,7 +54007,7 @@ static void f56(module *self, u64 p0, u64 p1, u32 p2) {
   i2 = p2;
   i3 = 1u;
   i2 += i3;
-  f26(self, j0, j1, i2); if (NEVER(self->is_broken)) return;
+  f29(self, j0, j1, i2); if (NEVER(self->is_broken)) return;
   j0 = l3;
   i0 = (u32)(j0);
   i0 = i32_load8_u(j0 + 1u);
@@ -53719,7 +54057,7 @@ static void f56(module *self, u64 p0, u64 p1, u32 p2) {
   self->g0 = j0;
 }
 
-static void f57(module *self, u64 p0, u64 p1, u64 p2, u64 p3, u64 p4, u64 p5, u64 p6) {
+static void f60(module *self, u64 p0, u64 p1, u64 p2, u64 p3, u64 p4, u64 p5, u64 p6) {
   u32 l20 = 0, l21 = 0, l22 = 0, l23 = 0, l24 = 0, l25 = 0, l26 = 0, l27 = 0, 
       l28 = 0, l29 = 0, l30 = 0, l31 = 0, l32 = 0, l33 = 0, l34 = 0, l35 = 0, 
       l36 = 0, l37 = 0, l38 = 0, l39 = 0, l40 = 0, l41 = 0, l42 = 0, l43 = 0, 
@@ -53757,7 +54095,7 @@ static void f57(module *self, u64 p0, u64 p1, u64 p2, u64 p3, u64 p4, u64 p5, u6
   j1 = 272ull;
   j0 += j1;
   j1 = p4;
-  f18(self, j0, j1);
+  f21(self, j0, j1);
   j0 = l7;
   i0 = (u32)(j0);
   i0 = i32_load8_u(j0 + 272u);
@@ -54452,7 +54790,7 @@ static void f57(module *self, u64 p0, u64 p1, u64 p2, u64 p3, u64 p4, u64 p5, u6
   i3 = 6u;
   i2 += i3;
   l49 = i2;
-  f26(self, j0, j1, i2); if (NEVER(self->is_broken)) return;
+  f29(self, j0, j1, i2); if (NEVER(self->is_broken)) return;
   j0 = p1;
   j1 = 188ull;
   j0 += j1;
@@ -54521,7 +54859,7 @@ static void f57(module *self, u64 p0, u64 p1, u64 p2, u64 p3, u64 p4, u64 p5, u6
     j1 = 304ull;
     j0 += j1;
     j1 = p2;
-    f23(self, j0, j1);
+    f26(self, j0, j1);
     j0 = l8;
     i0 = (u32)(j0);
     j1 = l7;
@@ -54571,7 +54909,7 @@ static void f57(module *self, u64 p0, u64 p1, u64 p2, u64 p3, u64 p4, u64 p5, u6
     j0 += j1;
     j1 = p1;
     i2 = l49;
-    f26(self, j0, j1, i2); if (NEVER(self->is_broken)) return;
+    f29(self, j0, j1, i2); if (NEVER(self->is_broken)) return;
     j0 = l7;
     j1 = 320ull;
     j0 += j1;
@@ -54645,7 +54983,7 @@ static void f57(module *self, u64 p0, u64 p1, u64 p2, u64 p3, u64 p4, u64 p5, u6
   j1 = 304ull;
   j0 += j1;
   j1 = p2;
-  f23(self, j0, j1);
+  f26(self, j0, j1);
   j0 = l8;
   i0 = (u32)(j0);
   j1 = l7;
@@ -54684,7 +55022,7 @@ static void f57(module *self, u64 p0, u64 p1, u64 p2, u64 p3, u64 p4, u64 p5, u6
   j0 += j1;
   j1 = p1;
   i2 = l49;
-  f26(self, j0, j1, i2); if (NEVER(self->is_broken)) return;
+  f29(self, j0, j1, i2); if (NEVER(self->is_broken)) return;
   j0 = l7;
   i0 = (u32)(j0);
   i1 = l39;
@@ -54725,7 +55063,7 @@ static void f57(module *self, u64 p0, u64 p1, u64 p2, u64 p3, u64 p4, u64 p5, u6
   j1 *= j2;
   l8 = j1;
   j2 = 1ull;
-  f155(self, j0, j1, j2); m = self->memory; if (NEVER(self->is_broken)) return;
+  f159(self, j0, j1, j2); m = self->memory; if (NEVER(self->is_broken)) return;
   i0 = 1u;
   l20 = i0;
   i0 = 0u;
@@ -54768,7 +55106,7 @@ static void f57(module *self, u64 p0, u64 p1, u64 p2, u64 p3, u64 p4, u64 p5, u6
   j0 += j1;
   j1 = 24ull;
   j2 = 8ull;
-  f155(self, j0, j1, j2); m = self->memory; if (NEVER(self->is_broken)) return;
+  f159(self, j0, j1, j2); m = self->memory; if (NEVER(self->is_broken)) return;
   i0 = 1u;
   l20 = i0;
   j0 = l7;
@@ -54779,7 +55117,7 @@ static void f57(module *self, u64 p0, u64 p1, u64 p2, u64 p3, u64 p4, u64 p5, u6
   i0 &= i1;
   if (i0) {goto B40;}
   j0 = p2;
-  f158(self, j0);
+  f162(self, j0);
   i0 = 0u;
   l48 = i0;
   goto B7;
@@ -55057,7 +55395,7 @@ static void f57(module *self, u64 p0, u64 p1, u64 p2, u64 p3, u64 p4, u64 p5, u6
   i2 = (u32)(j2);
   i3 = 255u;
   i2 &= i3;
-  f20(self, j0, i1, i2);
+  f23(self, j0, i1, i2);
   i0 = 1u;
   l39 = i0;
   j0 = l7;
@@ -55105,56 +55443,56 @@ static void f57(module *self, u64 p0, u64 p1, u64 p2, u64 p3, u64 p4, u64 p5, u6
   j4 = l7;
   i4 = (u32)(j4);
   i4 = i32_load8_u(j4 + 336u);
-  f58(self, j0, j1, j2, j3, i4);
+  f61(self, j0, j1, j2, j3, i4);
   j0 = p1;
   i1 = l48;
   i2 = 9u;
   i3 = l52;
-  f59(self, j0, i1, i2, i3);
+  f62(self, j0, i1, i2, i3);
   j0 = p1;
   i1 = l48;
   i2 = 10u;
   i3 = l49;
   i4 = 8u;
   i3 >>= (i4 & 31);
-  f59(self, j0, i1, i2, i3);
+  f62(self, j0, i1, i2, i3);
   j0 = p1;
   i1 = l48;
   i2 = 11u;
   i3 = l49;
-  f59(self, j0, i1, i2, i3);
+  f62(self, j0, i1, i2, i3);
   j0 = p1;
   i1 = l48;
   i2 = 18u;
   i3 = l51;
-  f59(self, j0, i1, i2, i3);
+  f62(self, j0, i1, i2, i3);
   j0 = p1;
   i1 = l48;
   i2 = 20u;
   i3 = l39;
-  f59(self, j0, i1, i2, i3);
+  f62(self, j0, i1, i2, i3);
   i0 = 0u;
   l39 = i0;
   j0 = p1;
   i1 = l48;
   i2 = 12u;
   i3 = 0u;
-  f59(self, j0, i1, i2, i3);
+  f62(self, j0, i1, i2, i3);
   j0 = p1;
   i1 = l48;
   i2 = 13u;
   i3 = 0u;
-  f59(self, j0, i1, i2, i3);
+  f62(self, j0, i1, i2, i3);
   j0 = p1;
   i1 = l48;
   i2 = 14u;
   i3 = 0u;
-  f59(self, j0, i1, i2, i3);
+  f62(self, j0, i1, i2, i3);
   j0 = p1;
   i1 = l48;
   i2 = 15u;
   i3 = 0u;
-  f59(self, j0, i1, i2, i3);
+  f62(self, j0, i1, i2, i3);
   j0 = p2;
   i0 = (u32)(j0);
   j1 = 0ull;
@@ -55317,7 +55655,7 @@ static void f57(module *self, u64 p0, u64 p1, u64 p2, u64 p3, u64 p4, u64 p5, u6
   j2 = 420ull;
   j1 += j2;
   j2 = p2;
-  f30(self, j0, j1, j2);
+  f33(self, j0, j1, j2);
   j0 = l7;
   j1 = 256ull;
   j0 += j1;
@@ -55326,7 +55664,7 @@ static void f57(module *self, u64 p0, u64 p1, u64 p2, u64 p3, u64 p4, u64 p5, u6
   j1 += j2;
   j2 = p2;
   j3 = p6;
-  f31(self, j0, j1, j2, j3);
+  f34(self, j0, j1, j2, j3);
   j0 = l7;
   i0 = (u32)(j0);
   i0 = i32_load8_u(j0 + 256u);
@@ -55427,12 +55765,12 @@ static void f57(module *self, u64 p0, u64 p1, u64 p2, u64 p3, u64 p4, u64 p5, u6
   i3 = l75;
   i4 = 8u;
   i3 >>= (i4 & 31);
-  f59(self, j0, i1, i2, i3);
+  f62(self, j0, i1, i2, i3);
   j0 = p1;
   i1 = l39;
   i2 = 11u;
   i3 = l75;
-  f59(self, j0, i1, i2, i3);
+  f62(self, j0, i1, i2, i3);
   j0 = p2;
   j1 = 24ull;
   j0 += j1;
@@ -55499,12 +55837,12 @@ static void f57(module *self, u64 p0, u64 p1, u64 p2, u64 p3, u64 p4, u64 p5, u6
   l20 = i3;
   i4 = 8u;
   i3 >>= (i4 & 31);
-  f59(self, j0, i1, i2, i3);
+  f62(self, j0, i1, i2, i3);
   j0 = p1;
   i1 = l39;
   i2 = 15u;
   i3 = l20;
-  f59(self, j0, i1, i2, i3);
+  f62(self, j0, i1, i2, i3);
   goto B56;
   B70:;
   j0 = l7;
@@ -55557,12 +55895,12 @@ static void f57(module *self, u64 p0, u64 p1, u64 p2, u64 p3, u64 p4, u64 p5, u6
   l20 = i3;
   i4 = 8u;
   i3 >>= (i4 & 31);
-  f59(self, j0, i1, i2, i3);
+  f62(self, j0, i1, i2, i3);
   j0 = p1;
   i1 = l39;
   i2 = 13u;
   i3 = l20;
-  f59(self, j0, i1, i2, i3);
+  f62(self, j0, i1, i2, i3);
   j0 = p2;
   j1 = 6ull;
   j0 += j1;
@@ -55622,12 +55960,12 @@ static void f57(module *self, u64 p0, u64 p1, u64 p2, u64 p3, u64 p4, u64 p5, u6
   l20 = i3;
   i4 = 8u;
   i3 >>= (i4 & 31);
-  f59(self, j0, i1, i2, i3);
+  f62(self, j0, i1, i2, i3);
   j0 = p1;
   i1 = l39;
   i2 = 15u;
   i3 = l20;
-  f59(self, j0, i1, i2, i3);
+  f62(self, j0, i1, i2, i3);
   goto B56;
   B68:;
   j0 = l7;
@@ -55734,7 +56072,7 @@ static void f57(module *self, u64 p0, u64 p1, u64 p2, u64 p3, u64 p4, u64 p5, u6
   j4 = l7;
   j5 = 304ull;
   j4 += j5;
-  f60(self, j0, j1, j2, i3, j4); if (NEVER(self->is_broken)) return;
+  f63(self, j0, j1, j2, i3, j4); if (NEVER(self->is_broken)) return;
   goto B56;
   B67:;
   j0 = l7;
@@ -55845,7 +56183,7 @@ static void f57(module *self, u64 p0, u64 p1, u64 p2, u64 p3, u64 p4, u64 p5, u6
   j4 = l7;
   j5 = 304ull;
   j4 += j5;
-  f60(self, j0, j1, j2, i3, j4); if (NEVER(self->is_broken)) return;
+  f63(self, j0, j1, j2, i3, j4); if (NEVER(self->is_broken)) return;
   goto B56;
   B66:;
   j0 = p2;
@@ -55906,7 +56244,7 @@ static void f57(module *self, u64 p0, u64 p1, u64 p2, u64 p3, u64 p4, u64 p5, u6
   i3 *= i4;
   i2 += i3;
   l39 = i2;
-  f34(self, j0, j1, i2);
+  f37(self, j0, j1, i2);
   j0 = l7;
   i0 = (u32)(j0);
   i0 = i32_load8_u(j0 + 81u);
@@ -55922,7 +56260,7 @@ static void f57(module *self, u64 p0, u64 p1, u64 p2, u64 p3, u64 p4, u64 p5, u6
   i2 = l39;
   i3 = 1u;
   i2 += i3;
-  f34(self, j0, j1, i2);
+  f37(self, j0, j1, i2);
   j0 = l7;
   i0 = (u32)(j0);
   i1 = 4294967295u;
@@ -56241,7 +56579,7 @@ static void f57(module *self, u64 p0, u64 p1, u64 p2, u64 p3, u64 p4, u64 p5, u6
     i4 = l20;
     i3 *= i4;
     i2 += i3;
-    f34(self, j0, j1, i2);
+    f37(self, j0, j1, i2);
     j0 = l8;
     i0 = (u32)(j0);
     i1 = 0u;
@@ -56402,7 +56740,7 @@ static void f57(module *self, u64 p0, u64 p1, u64 p2, u64 p3, u64 p4, u64 p5, u6
     i3 *= i4;
     i2 += i3;
     l39 = i2;
-    f34(self, j0, j1, i2);
+    f37(self, j0, j1, i2);
     j0 = l7;
     i0 = (u32)(j0);
     i0 = i32_load8_u(j0 + 152u);
@@ -56418,7 +56756,7 @@ static void f57(module *self, u64 p0, u64 p1, u64 p2, u64 p3, u64 p4, u64 p5, u6
     i2 = l39;
     i3 = 1u;
     i2 += i3;
-    f34(self, j0, j1, i2);
+    f37(self, j0, j1, i2);
     j0 = l7;
     i0 = (u32)(j0);
     i0 = i32_load8_u(j0 + 144u);
@@ -56434,7 +56772,7 @@ static void f57(module *self, u64 p0, u64 p1, u64 p2, u64 p3, u64 p4, u64 p5, u6
     i2 = l39;
     i3 = 2u;
     i2 += i3;
-    f34(self, j0, j1, i2);
+    f37(self, j0, j1, i2);
     j0 = l7;
     i0 = (u32)(j0);
     i0 = i32_load8_u(j0 + 136u);
@@ -56450,7 +56788,7 @@ static void f57(module *self, u64 p0, u64 p1, u64 p2, u64 p3, u64 p4, u64 p5, u6
     i2 = l39;
     i3 = 3u;
     i2 += i3;
-    f34(self, j0, j1, i2);
+    f37(self, j0, j1, i2);
     j0 = l7;
     i0 = (u32)(j0);
     i0 = i32_load8_u(j0 + 128u);
@@ -56466,7 +56804,7 @@ static void f57(module *self, u64 p0, u64 p1, u64 p2, u64 p3, u64 p4, u64 p5, u6
     i2 = l39;
     i3 = 4u;
     i2 += i3;
-    f34(self, j0, j1, i2);
+    f37(self, j0, j1, i2);
     j0 = l7;
     i0 = (u32)(j0);
     i0 = i32_load8_u(j0 + 120u);
@@ -56482,7 +56820,7 @@ static void f57(module *self, u64 p0, u64 p1, u64 p2, u64 p3, u64 p4, u64 p5, u6
     i2 = l39;
     i3 = 5u;
     i2 += i3;
-    f34(self, j0, j1, i2);
+    f37(self, j0, j1, i2);
     j0 = l7;
     i0 = (u32)(j0);
     i0 = i32_load8_u(j0 + 112u);
@@ -56498,7 +56836,7 @@ static void f57(module *self, u64 p0, u64 p1, u64 p2, u64 p3, u64 p4, u64 p5, u6
     i2 = l39;
     i3 = 6u;
     i2 += i3;
-    f34(self, j0, j1, i2);
+    f37(self, j0, j1, i2);
     j0 = l7;
     i0 = (u32)(j0);
     i0 = i32_load8_u(j0 + 104u);
@@ -56514,7 +56852,7 @@ static void f57(module *self, u64 p0, u64 p1, u64 p2, u64 p3, u64 p4, u64 p5, u6
     i2 = l39;
     i3 = 7u;
     i2 += i3;
-    f34(self, j0, j1, i2);
+    f37(self, j0, j1, i2);
     j0 = l8;
     i0 = (u32)(j0);
     i1 = 2u;
@@ -56621,7 +56959,7 @@ static void f57(module *self, u64 p0, u64 p1, u64 p2, u64 p3, u64 p4, u64 p5, u6
   j4 = l7;
   j5 = 320ull;
   j4 += j5;
-  i2 = f36(self, j2, i3, j4); if (NEVER(self->is_broken)) return;
+  i2 = f39(self, j2, i3, j4); if (NEVER(self->is_broken)) return;
   i3 = 255u;
   i2 &= i3;
   i1 |= i2;
@@ -56697,7 +57035,7 @@ static void f57(module *self, u64 p0, u64 p1, u64 p2, u64 p3, u64 p4, u64 p5, u6
     i3 = l75;
     i4 = l39;
     i5 = l49;
-    f61(self, j0, j1, i2, i3, i4, i5); if (NEVER(self->is_broken)) return;
+    f64(self, j0, j1, i2, i3, i4, i5); if (NEVER(self->is_broken)) return;
     i0 = l20;
     i1 = 1u;
     i0 += i1;
@@ -56816,7 +57154,7 @@ static void f57(module *self, u64 p0, u64 p1, u64 p2, u64 p3, u64 p4, u64 p5, u6
   i1 = (u32)(j1);
   i1 = i32_load8_u(j1);
   i2 = l48;
-  i0 = f46(self, j0, i1, i2);
+  i0 = f49(self, j0, i1, i2);
   l48 = i0;
   j0 = p1;
   j1 = 68ull;
@@ -57056,7 +57394,7 @@ static void f57(module *self, u64 p0, u64 p1, u64 p2, u64 p3, u64 p4, u64 p5, u6
   j0 += j1;
   j1 = p1;
   i2 = l49;
-  f34(self, j0, j1, i2);
+  f37(self, j0, j1, i2);
   j0 = p2;
   i0 = (u32)(j0);
   i1 = 5u;
@@ -57196,7 +57534,7 @@ static void f57(module *self, u64 p0, u64 p1, u64 p2, u64 p3, u64 p4, u64 p5, u6
   j0 = p1;
   i1 = l59;
   i2 = l48;
-  i0 = f46(self, j0, i1, i2);
+  i0 = f49(self, j0, i1, i2);
   l20 = i0;
   i0 = l52;
   i1 = 1u;
@@ -57491,7 +57829,7 @@ static void f57(module *self, u64 p0, u64 p1, u64 p2, u64 p3, u64 p4, u64 p5, u6
   j0 += j1;
   j1 = p1;
   i2 = l39;
-  f34(self, j0, j1, i2);
+  f37(self, j0, j1, i2);
   i0 = 4294967295u;
   j1 = l7;
   i1 = (u32)(j1);
@@ -57651,7 +57989,7 @@ static void f57(module *self, u64 p0, u64 p1, u64 p2, u64 p3, u64 p4, u64 p5, u6
   j0 += j1;
   j1 = p1;
   i2 = l39;
-  f34(self, j0, j1, i2);
+  f37(self, j0, j1, i2);
   j0 = l7;
   i0 = (u32)(j0);
   i0 = i32_load8_u(j0 + 201u);
@@ -57770,7 +58108,7 @@ static void f57(module *self, u64 p0, u64 p1, u64 p2, u64 p3, u64 p4, u64 p5, u6
   j0 += j1;
   j1 = p1;
   i2 = l39;
-  f34(self, j0, j1, i2);
+  f37(self, j0, j1, i2);
   j0 = l7;
   i0 = (u32)(j0);
   i0 = i32_load8_u(j0 + 193u);
@@ -57886,7 +58224,7 @@ static void f57(module *self, u64 p0, u64 p1, u64 p2, u64 p3, u64 p4, u64 p5, u6
   j0 += j1;
   j1 = p1;
   i2 = l39;
-  f34(self, j0, j1, i2);
+  f37(self, j0, j1, i2);
   j0 = l7;
   i0 = (u32)(j0);
   i0 = i32_load8_u(j0 + 185u);
@@ -58002,7 +58340,7 @@ static void f57(module *self, u64 p0, u64 p1, u64 p2, u64 p3, u64 p4, u64 p5, u6
   j0 += j1;
   j1 = p1;
   i2 = l39;
-  f34(self, j0, j1, i2);
+  f37(self, j0, j1, i2);
   j0 = l7;
   i0 = (u32)(j0);
   i0 = i32_load8_u(j0 + 177u);
@@ -58228,7 +58566,7 @@ static void f57(module *self, u64 p0, u64 p1, u64 p2, u64 p3, u64 p4, u64 p5, u6
   i4 = l49;
   i5 = l75;
   i6 = 0u;
-  i1 = f62(self, j1, j2, i3, i4, i5, i6); if (NEVER(self->is_broken)) return;
+  i1 = f65(self, j1, j2, i3, i4, i5, i6); if (NEVER(self->is_broken)) return;
   l20 = i1;
   i32_store16(j0, i1);
   j0 = p2;
@@ -58281,12 +58619,12 @@ static void f57(module *self, u64 p0, u64 p1, u64 p2, u64 p3, u64 p4, u64 p5, u6
   l39 = i3;
   i4 = 8u;
   i3 >>= (i4 & 31);
-  f59(self, j0, i1, i2, i3);
+  f62(self, j0, i1, i2, i3);
   j0 = p1;
   i1 = l48;
   i2 = 15u;
   i3 = l39;
-  f59(self, j0, i1, i2, i3);
+  f62(self, j0, i1, i2, i3);
   goto B56;
   B61:;
   j0 = l7;
@@ -58351,14 +58689,14 @@ static void f57(module *self, u64 p0, u64 p1, u64 p2, u64 p3, u64 p4, u64 p5, u6
   i1 = l20;
   i2 = l49;
   i3 = l39;
-  f63(self, j0, i1, i2, i3); if (NEVER(self->is_broken)) return;
+  f66(self, j0, i1, i2, i3); if (NEVER(self->is_broken)) return;
   goto B56;
   B109:;
   j0 = p1;
   i1 = l20;
   i2 = 17u;
   i3 = l49;
-  f63(self, j0, i1, i2, i3); if (NEVER(self->is_broken)) return;
+  f66(self, j0, i1, i2, i3); if (NEVER(self->is_broken)) return;
   goto B56;
   B108:;
   j0 = l7;
@@ -58369,11 +58707,11 @@ static void f57(module *self, u64 p0, u64 p1, u64 p2, u64 p3, u64 p4, u64 p5, u6
   i3 = 6u;
   i2 += i3;
   l20 = i2;
-  f26(self, j0, j1, i2); if (NEVER(self->is_broken)) return;
+  f29(self, j0, j1, i2); if (NEVER(self->is_broken)) return;
   j0 = p1;
   j1 = p5;
   j2 = 16ull;
-  f64(self, j0, j1, j2);
+  f67(self, j0, j1, j2);
   j0 = p1;
   j1 = 146ull;
   j0 += j1;
@@ -58432,7 +58770,7 @@ static void f57(module *self, u64 p0, u64 p1, u64 p2, u64 p3, u64 p4, u64 p5, u6
   j1 = 320ull;
   j0 += j1;
   j1 = p6;
-  f23(self, j0, j1);
+  f26(self, j0, j1);
   j0 = p1;
   j1 = 196ull;
   j0 += j1;
@@ -58494,7 +58832,7 @@ static void f57(module *self, u64 p0, u64 p1, u64 p2, u64 p3, u64 p4, u64 p5, u6
   j1 = 320ull;
   j0 += j1;
   j1 = p6;
-  f23(self, j0, j1);
+  f26(self, j0, j1);
   j0 = p1;
   j1 = 196ull;
   j0 += j1;
@@ -58536,7 +58874,7 @@ static void f57(module *self, u64 p0, u64 p1, u64 p2, u64 p3, u64 p4, u64 p5, u6
   j1 = 320ull;
   j0 += j1;
   j1 = p6;
-  f23(self, j0, j1);
+  f26(self, j0, j1);
   j0 = p1;
   j1 = 196ull;
   j0 += j1;
@@ -58572,7 +58910,7 @@ static void f57(module *self, u64 p0, u64 p1, u64 p2, u64 p3, u64 p4, u64 p5, u6
   j0 += j1;
   j1 = p1;
   i2 = l20;
-  f26(self, j0, j1, i2); if (NEVER(self->is_broken)) return;
+  f29(self, j0, j1, i2); if (NEVER(self->is_broken)) return;
   goto B56;
   B107:;
   j0 = l7;
@@ -58583,7 +58921,7 @@ static void f57(module *self, u64 p0, u64 p1, u64 p2, u64 p3, u64 p4, u64 p5, u6
   i3 = 6u;
   i2 += i3;
   l39 = i2;
-  f26(self, j0, j1, i2); if (NEVER(self->is_broken)) return;
+  f29(self, j0, j1, i2); if (NEVER(self->is_broken)) return;
   j0 = p1;
   j1 = 146ull;
   j0 += j1;
@@ -58639,7 +58977,7 @@ static void f57(module *self, u64 p0, u64 p1, u64 p2, u64 p3, u64 p4, u64 p5, u6
   j1 = 320ull;
   j0 += j1;
   j1 = p6;
-  f23(self, j0, j1);
+  f26(self, j0, j1);
   j0 = p1;
   j1 = 196ull;
   j0 += j1;
@@ -58719,7 +59057,7 @@ static void f57(module *self, u64 p0, u64 p1, u64 p2, u64 p3, u64 p4, u64 p5, u6
   j1 = 320ull;
   j0 += j1;
   j1 = p6;
-  f23(self, j0, j1);
+  f26(self, j0, j1);
   j0 = p1;
   j1 = 196ull;
   j0 += j1;
@@ -58770,7 +59108,7 @@ static void f57(module *self, u64 p0, u64 p1, u64 p2, u64 p3, u64 p4, u64 p5, u6
   j1 = 320ull;
   j0 += j1;
   j1 = p6;
-  f23(self, j0, j1);
+  f26(self, j0, j1);
   j0 = p1;
   j1 = 196ull;
   j0 += j1;
@@ -58806,7 +59144,7 @@ static void f57(module *self, u64 p0, u64 p1, u64 p2, u64 p3, u64 p4, u64 p5, u6
   j0 += j1;
   j1 = p1;
   i2 = l39;
-  f26(self, j0, j1, i2); if (NEVER(self->is_broken)) return;
+  f29(self, j0, j1, i2); if (NEVER(self->is_broken)) return;
   goto B56;
   B106:;
   j0 = p1;
@@ -58815,7 +59153,7 @@ static void f57(module *self, u64 p0, u64 p1, u64 p2, u64 p3, u64 p4, u64 p5, u6
   j3 = l7;
   j4 = 432ull;
   j3 += j4;
-  f65(self, j0, i1, i2, j3); if (NEVER(self->is_broken)) return;
+  f68(self, j0, i1, i2, j3); if (NEVER(self->is_broken)) return;
   goto B56;
   B105:;
   j0 = l7;
@@ -58826,7 +59164,7 @@ static void f57(module *self, u64 p0, u64 p1, u64 p2, u64 p3, u64 p4, u64 p5, u6
   i3 = 6u;
   i2 += i3;
   l39 = i2;
-  f26(self, j0, j1, i2); if (NEVER(self->is_broken)) return;
+  f29(self, j0, j1, i2); if (NEVER(self->is_broken)) return;
   i0 = 1u;
   l20 = i0;
   j0 = p1;
@@ -58882,7 +59220,7 @@ static void f57(module *self, u64 p0, u64 p1, u64 p2, u64 p3, u64 p4, u64 p5, u6
   j1 = 320ull;
   j0 += j1;
   j1 = p5;
-  f23(self, j0, j1);
+  f26(self, j0, j1);
   j0 = p1;
   j1 = 196ull;
   j0 += j1;
@@ -58937,7 +59275,7 @@ static void f57(module *self, u64 p0, u64 p1, u64 p2, u64 p3, u64 p4, u64 p5, u6
   j0 += j1;
   j1 = p1;
   i2 = l39;
-  f26(self, j0, j1, i2); if (NEVER(self->is_broken)) return;
+  f29(self, j0, j1, i2); if (NEVER(self->is_broken)) return;
   j0 = l7;
   i0 = (u32)(j0);
   i1 = l20;
@@ -59358,7 +59696,7 @@ static void f57(module *self, u64 p0, u64 p1, u64 p2, u64 p3, u64 p4, u64 p5, u6
     i4 = (u32)(j4);
     i4 = i32_load8_u(j4);
     i5 = 1u;
-    i0 = f62(self, j0, j1, i2, i3, i4, i5); if (NEVER(self->is_broken)) return;
+    i0 = f65(self, j0, j1, i2, i3, i4, i5); if (NEVER(self->is_broken)) return;
     l39 = i0;
     j0 = l8;
     j1 = 2ull;
@@ -59387,7 +59725,7 @@ static void f57(module *self, u64 p0, u64 p1, u64 p2, u64 p3, u64 p4, u64 p5, u6
     i3 = i32_load8_u(j3);
     i4 = l48;
     i5 = 1u;
-    i0 = f62(self, j0, j1, i2, i3, i4, i5); if (NEVER(self->is_broken)) return;
+    i0 = f65(self, j0, j1, i2, i3, i4, i5); if (NEVER(self->is_broken)) return;
     l39 = i0;
     j0 = p5;
     j1 = 1ull;
@@ -59474,12 +59812,12 @@ static void f57(module *self, u64 p0, u64 p1, u64 p2, u64 p3, u64 p4, u64 p5, u6
   l39 = i3;
   i4 = 8u;
   i3 >>= (i4 & 31);
-  f59(self, j0, i1, i2, i3);
+  f62(self, j0, i1, i2, i3);
   j0 = p1;
   i1 = l48;
   i2 = 15u;
   i3 = l39;
-  f59(self, j0, i1, i2, i3);
+  f62(self, j0, i1, i2, i3);
   goto B56;
   B57:;
   j0 = l7;
@@ -60025,140 +60363,140 @@ static void f57(module *self, u64 p0, u64 p1, u64 p2, u64 p3, u64 p4, u64 p5, u6
   i3 = l39;
   i4 = 15u;
   i3 &= i4;
-  f59(self, j0, i1, i2, i3);
+  f62(self, j0, i1, i2, i3);
   j0 = p1;
   i1 = l24;
   i2 = 0u;
   i3 = l47;
-  f59(self, j0, i1, i2, i3);
+  f62(self, j0, i1, i2, i3);
   j0 = p1;
   i1 = l24;
   i2 = 1u;
   i3 = l46;
-  f59(self, j0, i1, i2, i3);
+  f62(self, j0, i1, i2, i3);
   j0 = p1;
   i1 = l24;
   i2 = 2u;
   i3 = l20;
-  f59(self, j0, i1, i2, i3);
+  f62(self, j0, i1, i2, i3);
   j0 = p1;
   i1 = l24;
   i2 = 3u;
   i3 = l45;
-  f59(self, j0, i1, i2, i3);
+  f62(self, j0, i1, i2, i3);
   j0 = p1;
   i1 = l24;
   i2 = 4u;
   i3 = l44;
-  f59(self, j0, i1, i2, i3);
+  f62(self, j0, i1, i2, i3);
   j0 = p1;
   i1 = l24;
   i2 = 5u;
   i3 = l43;
-  f59(self, j0, i1, i2, i3);
+  f62(self, j0, i1, i2, i3);
   j0 = p1;
   i1 = l24;
   i2 = 6u;
   i3 = l42;
-  f59(self, j0, i1, i2, i3);
+  f62(self, j0, i1, i2, i3);
   j0 = p1;
   i1 = l24;
   i2 = 7u;
   i3 = l41;
-  f59(self, j0, i1, i2, i3);
+  f62(self, j0, i1, i2, i3);
   j0 = p1;
   i1 = l24;
   i2 = 8u;
   i3 = 0u;
-  f59(self, j0, i1, i2, i3);
+  f62(self, j0, i1, i2, i3);
   j0 = p1;
   i1 = l24;
   i2 = 9u;
   i3 = l56;
-  f59(self, j0, i1, i2, i3);
+  f62(self, j0, i1, i2, i3);
   j0 = p1;
   i1 = l24;
   i2 = 10u;
   i3 = l57;
-  f59(self, j0, i1, i2, i3);
+  f62(self, j0, i1, i2, i3);
   j0 = p1;
   i1 = l24;
   i2 = 11u;
   i3 = l58;
-  f59(self, j0, i1, i2, i3);
+  f62(self, j0, i1, i2, i3);
   j0 = p1;
   i1 = l24;
   i2 = 12u;
   j3 = l7;
   i3 = (u32)(j3);
   i3 = i32_load8_u(j3 + 347u);
-  f59(self, j0, i1, i2, i3);
+  f62(self, j0, i1, i2, i3);
   j0 = p1;
   i1 = l24;
   i2 = 13u;
   j3 = l7;
   i3 = (u32)(j3);
   i3 = i32_load8_u(j3 + 348u);
-  f59(self, j0, i1, i2, i3);
+  f62(self, j0, i1, i2, i3);
   j0 = p1;
   i1 = l24;
   i2 = 14u;
   j3 = l7;
   i3 = (u32)(j3);
   i3 = i32_load8_u(j3 + 349u);
-  f59(self, j0, i1, i2, i3);
+  f62(self, j0, i1, i2, i3);
   j0 = p1;
   i1 = l24;
   i2 = 15u;
   j3 = l7;
   i3 = (u32)(j3);
   i3 = i32_load8_u(j3 + 350u);
-  f59(self, j0, i1, i2, i3);
+  f62(self, j0, i1, i2, i3);
   j0 = p1;
   i1 = l24;
   i2 = 16u;
   i3 = l40;
-  f59(self, j0, i1, i2, i3);
+  f62(self, j0, i1, i2, i3);
   j0 = p1;
   i1 = l24;
   i2 = 17u;
   i3 = l39;
-  f59(self, j0, i1, i2, i3);
+  f62(self, j0, i1, i2, i3);
   j0 = p1;
   i1 = l24;
   i2 = 18u;
   i3 = l38;
-  f59(self, j0, i1, i2, i3);
+  f62(self, j0, i1, i2, i3);
   j0 = p1;
   i1 = l24;
   i2 = 19u;
   i3 = l37;
-  f59(self, j0, i1, i2, i3);
+  f62(self, j0, i1, i2, i3);
   j0 = p1;
   i1 = l24;
   i2 = 20u;
   i3 = l59;
-  f59(self, j0, i1, i2, i3);
+  f62(self, j0, i1, i2, i3);
   j0 = p1;
   i1 = l24;
   i2 = 21u;
   i3 = l36;
-  f59(self, j0, i1, i2, i3);
+  f62(self, j0, i1, i2, i3);
   j0 = p1;
   i1 = l24;
   i2 = 22u;
   i3 = l35;
-  f59(self, j0, i1, i2, i3);
+  f62(self, j0, i1, i2, i3);
   j0 = p1;
   i1 = l24;
   i2 = 23u;
   i3 = l34;
-  f59(self, j0, i1, i2, i3);
+  f62(self, j0, i1, i2, i3);
   j0 = p1;
   i1 = l24;
   i2 = 24u;
   i3 = 255u;
-  f59(self, j0, i1, i2, i3);
+  f62(self, j0, i1, i2, i3);
   j0 = l7;
   j1 = 360ull;
   j0 += j1;
@@ -60348,11 +60686,11 @@ static void f57(module *self, u64 p0, u64 p1, u64 p2, u64 p3, u64 p4, u64 p5, u6
   i3 = 6u;
   i2 += i3;
   l39 = i2;
-  f26(self, j0, j1, i2); if (NEVER(self->is_broken)) return;
+  f29(self, j0, j1, i2); if (NEVER(self->is_broken)) return;
   j0 = p1;
   j1 = l9;
   j2 = 21ull;
-  f64(self, j0, j1, j2);
+  f67(self, j0, j1, j2);
   j0 = p1;
   j1 = 205ull;
   j0 += j1;
@@ -60406,7 +60744,7 @@ static void f57(module *self, u64 p0, u64 p1, u64 p2, u64 p3, u64 p4, u64 p5, u6
   j1 = 304ull;
   j0 += j1;
   j1 = p5;
-  f23(self, j0, j1);
+  f26(self, j0, j1);
   j0 = p1;
   j1 = 196ull;
   j0 += j1;
@@ -60444,7 +60782,7 @@ static void f57(module *self, u64 p0, u64 p1, u64 p2, u64 p3, u64 p4, u64 p5, u6
   j0 = l7;
   j1 = p1;
   i2 = l39;
-  f26(self, j0, j1, i2); if (NEVER(self->is_broken)) return;
+  f29(self, j0, j1, i2); if (NEVER(self->is_broken)) return;
   j0 = p1;
   j1 = 2002ull;
   j0 += j1;
@@ -60471,7 +60809,7 @@ static void f57(module *self, u64 p0, u64 p1, u64 p2, u64 p3, u64 p4, u64 p5, u6
     j0 += j1;
     i1 = l75;
     i2 = l39;
-    f43(self, j0, i1, i2); if (NEVER(self->is_broken)) return;
+    f46(self, j0, i1, i2); if (NEVER(self->is_broken)) return;
     j0 = p1;
     j1 = l8;
     j0 += j1;
@@ -60576,7 +60914,7 @@ static void f57(module *self, u64 p0, u64 p1, u64 p2, u64 p3, u64 p4, u64 p5, u6
   j2 = p3;
   j3 = 1048841ull;
   i4 = l54;
-  f58(self, j0, j1, j2, j3, i4);
+  f61(self, j0, j1, j2, j3, i4);
   i0 = l21;
   i1 = 1u;
   i0 &= i1;
@@ -60586,7 +60924,7 @@ static void f57(module *self, u64 p0, u64 p1, u64 p2, u64 p3, u64 p4, u64 p5, u6
   i2 = 32768u;
   i3 = 32u;
   i4 = 7u;
-  f50(self, j0, i1, i2, i3, i4);
+  f53(self, j0, i1, i2, i3, i4);
   goto B146;
   B147:;
   i0 = l21;
@@ -60598,7 +60936,7 @@ static void f57(module *self, u64 p0, u64 p1, u64 p2, u64 p3, u64 p4, u64 p5, u6
   i2 = 65536u;
   i3 = 0u;
   i4 = 0u;
-  f50(self, j0, i1, i2, i3, i4);
+  f53(self, j0, i1, i2, i3, i4);
   B146:;
   j0 = p2;
   i0 = (u32)(j0);
@@ -60769,7 +61107,7 @@ static void f57(module *self, u64 p0, u64 p1, u64 p2, u64 p3, u64 p4, u64 p5, u6
   self->g0 = j0;
 }
 
-static void f58(module *self, u64 p0, u64 p1, u64 p2, u64 p3, u32 p4) {
+static void f61(module *self, u64 p0, u64 p1, u64 p2, u64 p3, u32 p4) {
   u32 l36 = 0, l37 = 0, l38 = 0, l39 = 0, l40 = 0, l41 = 0, l42 = 0, l43 = 0, 
       l44 = 0, l45 = 0, l46 = 0, l47 = 0, l48 = 0, l49 = 0;
   u64 l5 = 0, l6 = 0, l7 = 0, l8 = 0, l9 = 0, l10 = 0, l11 = 0, l12 = 0, 
@@ -61632,7 +61970,7 @@ static void f58(module *self, u64 p0, u64 p1, u64 p2, u64 p3, u32 p4) {
   i32_store(j0, i1);
 }
 
-static void f59(module *self, u64 p0, u32 p1, u32 p2, u32 p3) {
+static void f62(module *self, u64 p0, u32 p1, u32 p2, u32 p3) {
   u32 l5 = 0, l6 = 0, l7 = 0;
   u64 l4 = 0;
   u8 *m = self->memory;
@@ -61719,7 +62057,7 @@ static void f59(module *self, u64 p0, u32 p1, u32 p2, u32 p3) {
   j1 = p0;
   i2 = l6;
   i3 = p2;
-  f44(self, j0, j1, i2, i3);
+  f47(self, j0, j1, i2, i3);
   B0:;
   i0 = p1;
   i1 = 4294966337u;
@@ -61795,7 +62133,7 @@ static void f59(module *self, u64 p0, u32 p1, u32 p2, u32 p3) {
   j1 = p0;
   i2 = l6;
   i3 = p3;
-  f44(self, j0, j1, i2, i3);
+  f47(self, j0, j1, i2, i3);
   B4:;
   j0 = l4;
   j1 = 16ull;
@@ -61803,7 +62141,7 @@ static void f59(module *self, u64 p0, u32 p1, u32 p2, u32 p3) {
   self->g0 = j0;
 }
 
-static void f60(module *self, u64 p0, u64 p1, u64 p2, u32 p3, u64 p4) {
+static void f63(module *self, u64 p0, u64 p1, u64 p2, u32 p3, u64 p4) {
   u32 l5 = 0, l6 = 0, l7 = 0, l8 = 0, l9 = 0, l10 = 0, l11 = 0, l12 = 0, 
       l13 = 0, l14 = 0, l15 = 0, l16 = 0, l17 = 0, l18 = 0, l19 = 0, l20 = 0, 
       l21 = 0, l22 = 0, l23 = 0, l24 = 0, l25 = 0;
@@ -62145,7 +62483,7 @@ static void f60(module *self, u64 p0, u64 p1, u64 p2, u32 p3, u64 p4) {
       i3 = l10;
       i2 += i3;
       i3 = p3;
-      f66(self, j0, i1, i2, i3);
+      f69(self, j0, i1, i2, i3);
       i0 = l10;
       i1 = l11;
       i0 += i1;
@@ -62239,7 +62577,7 @@ static void f60(module *self, u64 p0, u64 p1, u64 p2, u32 p3, u64 p4) {
       i3 = l10;
       i2 += i3;
       i3 = p3;
-      f66(self, j0, i1, i2, i3);
+      f69(self, j0, i1, i2, i3);
       i0 = l10;
       i1 = l11;
       i0 += i1;
@@ -62462,7 +62800,7 @@ static void f60(module *self, u64 p0, u64 p1, u64 p2, u32 p3, u64 p4) {
       i2 = p3;
       i3 = 32u;
       i4 = l12;
-      f50(self, j0, i1, i2, i3, i4);
+      f53(self, j0, i1, i2, i3, i4);
       i0 = l10;
       i1 = l11;
       i0 += i1;
@@ -62524,7 +62862,7 @@ static void f60(module *self, u64 p0, u64 p1, u64 p2, u32 p3, u64 p4) {
       i2 = p3;
       i3 = 0u;
       i4 = 0u;
-      f50(self, j0, i1, i2, i3, i4);
+      f53(self, j0, i1, i2, i3, i4);
       i0 = l10;
       i1 = l11;
       i0 += i1;
@@ -62679,7 +63017,7 @@ static void f60(module *self, u64 p0, u64 p1, u64 p2, u32 p3, u64 p4) {
       i2 = p3;
       i3 = 255u;
       i4 = 255u;
-      f50(self, j0, i1, i2, i3, i4);
+      f53(self, j0, i1, i2, i3, i4);
       i0 = l10;
       i1 = l11;
       i0 += i1;
@@ -62839,7 +63177,7 @@ static void f60(module *self, u64 p0, u64 p1, u64 p2, u32 p3, u64 p4) {
       i2 = p3;
       i3 = l12;
       i4 = l12;
-      f50(self, j0, i1, i2, i3, i4);
+      f53(self, j0, i1, i2, i3, i4);
       i0 = l10;
       i1 = l11;
       i0 += i1;
@@ -62864,7 +63202,7 @@ static void f60(module *self, u64 p0, u64 p1, u64 p2, u32 p3, u64 p4) {
   Bfunc:;
 }
 
-static void f61(module *self, u64 p0, u64 p1, u32 p2, u32 p3, u32 p4, u32 p5) {
+static void f64(module *self, u64 p0, u64 p1, u32 p2, u32 p3, u32 p4, u32 p5) {
   u32 l28 = 0, l29 = 0, l30 = 0, l31 = 0, l32 = 0, l33 = 0, l34 = 0, l35 = 0, 
       l36 = 0, l37 = 0, l38 = 0, l39 = 0, l40 = 0, l41 = 0, l42 = 0, l43 = 0;
   u64 l6 = 0, l7 = 0, l8 = 0, l9 = 0, l10 = 0, l11 = 0, l12 = 0, l13 = 0, 
@@ -62993,7 +63331,7 @@ static void f61(module *self, u64 p0, u64 p1, u32 p2, u32 p3, u32 p4, u32 p5) {
   i1 = (u32)(j1);
   i1 = i32_load8_u(j1);
   i2 = p3;
-  i0 = f46(self, j0, i1, i2);
+  i0 = f49(self, j0, i1, i2);
   l32 = i0;
   j0 = p0;
   j1 = 68ull;
@@ -63131,7 +63469,7 @@ static void f61(module *self, u64 p0, u64 p1, u32 p2, u32 p3, u32 p4, u32 p5) {
   i1 = (u32)(j1);
   i1 = i32_load8_u(j1);
   i2 = p4;
-  i0 = f46(self, j0, i1, i2);
+  i0 = f49(self, j0, i1, i2);
   p5 = i0;
   j0 = p0;
   j1 = 68ull;
@@ -63618,7 +63956,7 @@ static void f61(module *self, u64 p0, u64 p1, u32 p2, u32 p3, u32 p4, u32 p5) {
     i3 *= i4;
     i2 += i3;
     l29 = i2;
-    f34(self, j0, j1, i2);
+    f37(self, j0, j1, i2);
     j0 = p0;
     j1 = 2003ull;
     j0 += j1;
@@ -63668,7 +64006,7 @@ static void f61(module *self, u64 p0, u64 p1, u32 p2, u32 p3, u32 p4, u32 p5) {
     i1 = (u32)(j1);
     i1 = i32_load8_u(j1);
     i2 = p2;
-    i0 = f46(self, j0, i1, i2);
+    i0 = f49(self, j0, i1, i2);
     p2 = i0;
     j0 = p0;
     j1 = 68ull;
@@ -63909,7 +64247,7 @@ static void f61(module *self, u64 p0, u64 p1, u32 p2, u32 p3, u32 p4, u32 p5) {
     i2 = l32;
     i3 = 0u;
     i4 = 0u;
-    f50(self, j0, i1, i2, i3, i4);
+    f53(self, j0, i1, i2, i3, i4);
     i0 = l29;
     i1 = 1u;
     i0 += i1;
@@ -64201,7 +64539,7 @@ static void f61(module *self, u64 p0, u64 p1, u32 p2, u32 p3, u32 p4, u32 p5) {
     j2 = l27;
     i2 = (u32)(j2);
     i2 = i32_load8_u(j2);
-    i0 = f46(self, j0, i1, i2);
+    i0 = f49(self, j0, i1, i2);
     l33 = i0;
     j0 = p0;
     j1 = 68ull;
@@ -64952,7 +65290,7 @@ static void f61(module *self, u64 p0, u64 p1, u32 p2, u32 p3, u32 p4, u32 p5) {
   Bfunc:;
 }
 
-static u32 f62(module *self, u64 p0, u64 p1, u32 p2, u32 p3, u32 p4, u32 p5) {
+static u32 f65(module *self, u64 p0, u64 p1, u32 p2, u32 p3, u32 p4, u32 p5) {
   u32 l7 = 0;
   u64 l6 = 0;
   u8 *m = self->memory;
@@ -64995,7 +65333,7 @@ static u32 f62(module *self, u64 p0, u64 p1, u32 p2, u32 p3, u32 p4, u32 p5) {
   i2 = (u32)(j2);
   i2 = i32_load8_u(j2);
   i3 = p2;
-  i0 = f68(self, j0, j1, i2, i3); if (NEVER(self->is_broken)) return ZAK_BROKEN;
+  i0 = f71(self, j0, j1, i2, i3); if (NEVER(self->is_broken)) return ZAK_BROKEN;
   goto Bfunc;
   B2:;
   i0 = p2;
@@ -65029,7 +65367,7 @@ static u32 f62(module *self, u64 p0, u64 p1, u32 p2, u32 p3, u32 p4, u32 p5) {
   i3 = p3;
   i4 = p4;
   i5 = p5;
-  f61(self, j0, j1, i2, i3, i4, i5); if (NEVER(self->is_broken)) return ZAK_BROKEN;
+  f64(self, j0, j1, i2, i3, i4, i5); if (NEVER(self->is_broken)) return ZAK_BROKEN;
   i0 = l7;
   i1 = 1u;
   i0 += i1;
@@ -65056,7 +65394,7 @@ static u32 f62(module *self, u64 p0, u64 p1, u32 p2, u32 p3, u32 p4, u32 p5) {
   i2 = (u32)(j2);
   i2 = i32_load8_u(j2);
   i3 = p2;
-  i0 = f68(self, j0, j1, i2, i3); if (NEVER(self->is_broken)) return ZAK_BROKEN;
+  i0 = f71(self, j0, j1, i2, i3); if (NEVER(self->is_broken)) return ZAK_BROKEN;
   i1 = 65280u;
   i0 &= i1;
   p2 = i0;
@@ -65066,7 +65404,7 @@ static u32 f62(module *self, u64 p0, u64 p1, u32 p2, u32 p3, u32 p4, u32 p5) {
   return i0;
 }
 
-static void f63(module *self, u64 p0, u32 p1, u32 p2, u32 p3) {
+static void f66(module *self, u64 p0, u32 p1, u32 p2, u32 p3) {
   u32 l7 = 0, l8 = 0;
   u64 l4 = 0, l5 = 0, l6 = 0;
   u8 *m = self->memory;
@@ -65085,7 +65423,7 @@ static void f63(module *self, u64 p0, u32 p1, u32 p2, u32 p3) {
   i3 = 6u;
   i2 += i3;
   l7 = i2;
-  f26(self, j0, j1, i2); if (NEVER(self->is_broken)) return;
+  f29(self, j0, j1, i2); if (NEVER(self->is_broken)) return;
   j0 = p0;
   j1 = 146ull;
   j0 += j1;
@@ -65140,7 +65478,7 @@ static void f63(module *self, u64 p0, u32 p1, u32 p2, u32 p3) {
   j1 = 16ull;
   j0 += j1;
   j1 = l5;
-  f23(self, j0, j1);
+  f26(self, j0, j1);
   j0 = p0;
   j1 = 196ull;
   j0 += j1;
@@ -65224,7 +65562,7 @@ static void f63(module *self, u64 p0, u32 p1, u32 p2, u32 p3) {
   j1 = 16ull;
   j0 += j1;
   j1 = l5;
-  f23(self, j0, j1);
+  f26(self, j0, j1);
   j0 = p0;
   j1 = 196ull;
   j0 += j1;
@@ -65288,7 +65626,7 @@ static void f63(module *self, u64 p0, u32 p1, u32 p2, u32 p3) {
   j1 = 16ull;
   j0 += j1;
   j1 = l5;
-  f23(self, j0, j1);
+  f26(self, j0, j1);
   j0 = p0;
   j1 = 196ull;
   j0 += j1;
@@ -65319,14 +65657,14 @@ static void f63(module *self, u64 p0, u32 p1, u32 p2, u32 p3) {
   j0 = l4;
   j1 = p0;
   i2 = l7;
-  f26(self, j0, j1, i2); if (NEVER(self->is_broken)) return;
+  f29(self, j0, j1, i2); if (NEVER(self->is_broken)) return;
   j0 = l4;
   j1 = 32ull;
   j0 += j1;
   self->g0 = j0;
 }
 
-static void f64(module *self, u64 p0, u64 p1, u64 p2) {
+static void f67(module *self, u64 p0, u64 p1, u64 p2) {
   u32 l9 = 0, l10 = 0, l11 = 0, l12 = 0, l13 = 0;
   u64 l3 = 0, l4 = 0, l5 = 0, l6 = 0, l7 = 0, l8 = 0;
   u8 *m = self->memory;
@@ -65412,7 +65750,7 @@ static void f64(module *self, u64 p0, u64 p1, u64 p2) {
     i32_store8(j0, i1);
     j0 = l3;
     j1 = l6;
-    f23(self, j0, j1);
+    f26(self, j0, j1);
     j0 = l4;
     i0 = (u32)(j0);
     j1 = l3;
@@ -65483,7 +65821,7 @@ static void f64(module *self, u64 p0, u64 p1, u64 p2) {
     i32_store8(j0, i1);
     j0 = l3;
     j1 = l6;
-    f23(self, j0, j1);
+    f26(self, j0, j1);
     j0 = l4;
     i0 = (u32)(j0);
     j1 = l3;
@@ -65525,7 +65863,7 @@ static void f64(module *self, u64 p0, u64 p1, u64 p2) {
   self->g0 = j0;
 }
 
-static void f65(module *self, u64 p0, u32 p1, u32 p2, u64 p3) {
+static void f68(module *self, u64 p0, u32 p1, u32 p2, u64 p3) {
   u32 l7 = 0, l8 = 0;
   u64 l4 = 0, l5 = 0, l6 = 0;
   u8 *m = self->memory;
@@ -65544,7 +65882,7 @@ static void f65(module *self, u64 p0, u32 p1, u32 p2, u64 p3) {
   i3 = 6u;
   i2 += i3;
   l7 = i2;
-  f26(self, j0, j1, i2); if (NEVER(self->is_broken)) return;
+  f29(self, j0, j1, i2); if (NEVER(self->is_broken)) return;
   i0 = p2;
   i1 = 32u;
   i0 += i1;
@@ -65602,7 +65940,7 @@ static void f65(module *self, u64 p0, u32 p1, u32 p2, u64 p3) {
   j1 = 16ull;
   j0 += j1;
   j1 = l6;
-  f23(self, j0, j1);
+  f26(self, j0, j1);
   j0 = p0;
   j1 = 196ull;
   j0 += j1;
@@ -65667,7 +66005,7 @@ static void f65(module *self, u64 p0, u32 p1, u32 p2, u64 p3) {
   j0 = l4;
   j1 = p0;
   i2 = l7;
-  f26(self, j0, j1, i2); if (NEVER(self->is_broken)) return;
+  f29(self, j0, j1, i2); if (NEVER(self->is_broken)) return;
   j0 = p3;
   j1 = 3ull;
   j0 += j1;
@@ -65680,7 +66018,7 @@ static void f65(module *self, u64 p0, u32 p1, u32 p2, u64 p3) {
   self->g0 = j0;
 }
 
-static void f66(module *self, u64 p0, u32 p1, u32 p2, u32 p3) {
+static void f69(module *self, u64 p0, u32 p1, u32 p2, u32 p3) {
   u32 l6 = 0, l7 = 0, l8 = 0, l9 = 0, l10 = 0, l11 = 0, l12 = 0, l13 = 0, 
       l14 = 0, l15 = 0, l16 = 0;
   u64 l4 = 0, l5 = 0;
@@ -65757,7 +66095,7 @@ static void f66(module *self, u64 p0, u32 p1, u32 p2, u32 p3) {
   i4 = i6 ? i4 : i5;
   p3 = i4;
   i5 = l6;
-  i0 = f67(self, j0, j1, i2, i3, i4, i5);
+  i0 = f70(self, j0, j1, i2, i3, i4, i5);
   l8 = i0;
   i1 = p3;
   i0 = i0 >= i1;
@@ -66103,7 +66441,7 @@ static void f66(module *self, u64 p0, u32 p1, u32 p2, u32 p3) {
     i1 = (u32)(j1);
     i1 = i32_load8_u(j1);
     i2 = l15;
-    i0 = f46(self, j0, i1, i2);
+    i0 = f49(self, j0, i1, i2);
     l8 = i0;
     i0 = l6;
     i0 = !(i0);
@@ -66212,7 +66550,7 @@ static void f66(module *self, u64 p0, u32 p1, u32 p2, u32 p3) {
   self->g0 = j0;
 }
 
-static u32 f67(module *self, u64 p0, u64 p1, u32 p2, u32 p3, u32 p4, u32 p5) {
+static u32 f70(module *self, u64 p0, u64 p1, u32 p2, u32 p3, u32 p4, u32 p5) {
   u32 l6 = 0, l7 = 0, l8 = 0, l9 = 0, l10 = 0, l11 = 0, l12 = 0, l13 = 0, 
       l14 = 0;
   u8 *m = self->memory;
@@ -66641,7 +66979,7 @@ static u32 f67(module *self, u64 p0, u64 p1, u32 p2, u32 p3, u32 p4, u32 p5) {
   return i0;
 }
 
-static u32 f68(module *self, u64 p0, u64 p1, u32 p2, u32 p3) {
+static u32 f71(module *self, u64 p0, u64 p1, u32 p2, u32 p3) {
   u32 l5 = 0, l6 = 0, l7 = 0;
   u64 l4 = 0;
   u8 *m = self->memory;
@@ -66732,7 +67070,7 @@ static u32 f68(module *self, u64 p0, u64 p1, u32 p2, u32 p3) {
   i4 = 1u;
   i3 <<= (i4 & 31);
   i2 += i3;
-  f34(self, j0, j1, i2);
+  f37(self, j0, j1, i2);
   i0 = 4294967295u;
   j1 = l4;
   i1 = (u32)(j1);
@@ -66794,7 +67132,7 @@ static u32 f68(module *self, u64 p0, u64 p1, u32 p2, u32 p3) {
   j4 = l4;
   j5 = 32ull;
   j4 += j5;
-  f60(self, j0, j1, j2, i3, j4); if (NEVER(self->is_broken)) return ZAK_BROKEN;
+  f63(self, j0, j1, j2, i3, j4); if (NEVER(self->is_broken)) return ZAK_BROKEN;
   B0:;
   j0 = l4;
   j1 = 48ull;
@@ -66804,7 +67142,7 @@ static u32 f68(module *self, u64 p0, u64 p1, u32 p2, u32 p3) {
   return i0;
 }
 
-static void f69(module *self, u64 p0, u64 p1, u64 p2) {
+static void f72(module *self, u64 p0, u64 p1, u64 p2) {
   u64 l3 = 0, l4 = 0, l5 = 0, l6 = 0, l7 = 0, l8 = 0;
   u8 *m = self->memory;
   u32 i0, i1, i2;
@@ -66865,7 +67203,7 @@ static void f69(module *self, u64 p0, u64 p1, u64 p2) {
   j0 += j1;
   j1 = 2048ull;
   j2 = 1ull;
-  f155(self, j0, j1, j2); m = self->memory; if (NEVER(self->is_broken)) return;
+  f159(self, j0, j1, j2); m = self->memory; if (NEVER(self->is_broken)) return;
   j0 = l3;
   i0 = (u32)(j0);
   j0 = i64_load(j0 + 80u);
@@ -66955,7 +67293,7 @@ static void f69(module *self, u64 p0, u64 p1, u64 p2) {
   j0 += j1;
   j1 = 24ull;
   j2 = 8ull;
-  f155(self, j0, j1, j2); m = self->memory; if (NEVER(self->is_broken)) return;
+  f159(self, j0, j1, j2); m = self->memory; if (NEVER(self->is_broken)) return;
   j0 = l3;
   i0 = (u32)(j0);
   j0 = i64_load(j0 + 64u);
@@ -66964,7 +67302,7 @@ static void f69(module *self, u64 p0, u64 p1, u64 p2) {
   i0 &= i1;
   if (i0) {goto B2;}
   j0 = l4;
-  f158(self, j0);
+  f162(self, j0);
   B3:;
   j0 = p0;
   i0 = (u32)(j0);
@@ -67028,7 +67366,7 @@ static void f69(module *self, u64 p0, u64 p1, u64 p2) {
   j0 += j1;
   j1 = 3584ull;
   j2 = 1ull;
-  f155(self, j0, j1, j2); m = self->memory; if (NEVER(self->is_broken)) return;
+  f159(self, j0, j1, j2); m = self->memory; if (NEVER(self->is_broken)) return;
   j0 = l3;
   i0 = (u32)(j0);
   j0 = i64_load(j0 + 48u);
@@ -67121,7 +67459,7 @@ static void f69(module *self, u64 p0, u64 p1, u64 p2) {
   j0 += j1;
   j1 = 24ull;
   j2 = 8ull;
-  f155(self, j0, j1, j2); m = self->memory; if (NEVER(self->is_broken)) return;
+  f159(self, j0, j1, j2); m = self->memory; if (NEVER(self->is_broken)) return;
   j0 = l3;
   i0 = (u32)(j0);
   j0 = i64_load(j0 + 32u);
@@ -67130,7 +67468,7 @@ static void f69(module *self, u64 p0, u64 p1, u64 p2) {
   i0 &= i1;
   if (i0) {goto B7;}
   j0 = l4;
-  f158(self, j0);
+  f162(self, j0);
   B8:;
   j0 = l7;
   i0 = (u32)(j0);
@@ -67141,12 +67479,12 @@ static void f69(module *self, u64 p0, u64 p1, u64 p2) {
   j0 = i64_load(j0 + 16u);
   p2 = j0;
   j0 = l7;
-  f158(self, j0);
+  f162(self, j0);
   j0 = p2;
   i0 = !(j0);
   if (i0) {goto B12;}
   j0 = l5;
-  f158(self, j0);
+  f162(self, j0);
   B12:;
   j0 = p0;
   i0 = (u32)(j0);
@@ -67210,7 +67548,7 @@ static void f69(module *self, u64 p0, u64 p1, u64 p2) {
   j0 += j1;
   j1 = 4096ull;
   j2 = 1ull;
-  f155(self, j0, j1, j2); m = self->memory; if (NEVER(self->is_broken)) return;
+  f159(self, j0, j1, j2); m = self->memory; if (NEVER(self->is_broken)) return;
   j0 = l3;
   i0 = (u32)(j0);
   j0 = i64_load(j0 + 16u);
@@ -67301,7 +67639,7 @@ static void f69(module *self, u64 p0, u64 p1, u64 p2) {
   j0 = l3;
   j1 = 24ull;
   j2 = 8ull;
-  f155(self, j0, j1, j2); m = self->memory; if (NEVER(self->is_broken)) return;
+  f159(self, j0, j1, j2); m = self->memory; if (NEVER(self->is_broken)) return;
   j0 = l3;
   i0 = (u32)(j0);
   j0 = i64_load(j0);
@@ -67310,7 +67648,7 @@ static void f69(module *self, u64 p0, u64 p1, u64 p2) {
   i0 &= i1;
   if (i0) {goto B13;}
   j0 = l4;
-  f158(self, j0);
+  f162(self, j0);
   B14:;
   j0 = l8;
   i0 = (u32)(j0);
@@ -67321,12 +67659,12 @@ static void f69(module *self, u64 p0, u64 p1, u64 p2) {
   j0 = i64_load(j0 + 16u);
   p2 = j0;
   j0 = l8;
-  f158(self, j0);
+  f162(self, j0);
   j0 = p2;
   i0 = !(j0);
   if (i0) {goto B18;}
   j0 = l5;
-  f158(self, j0);
+  f162(self, j0);
   B18:;
   j0 = l7;
   i0 = (u32)(j0);
@@ -67337,12 +67675,12 @@ static void f69(module *self, u64 p0, u64 p1, u64 p2) {
   j0 = i64_load(j0 + 16u);
   p2 = j0;
   j0 = l7;
-  f158(self, j0);
+  f162(self, j0);
   j0 = p2;
   i0 = !(j0);
   if (i0) {goto B19;}
   j0 = l5;
-  f158(self, j0);
+  f162(self, j0);
   B19:;
   j0 = p0;
   i0 = (u32)(j0);
@@ -67448,7 +67786,7 @@ static void f69(module *self, u64 p0, u64 p1, u64 p2) {
   self->g0 = j0;
 }
 
-static void f70(module *self, u64 p0, u64 p1) {
+static void f73(module *self, u64 p0, u64 p1) {
   u32 l9 = 0, l10 = 0, l11 = 0;
   u64 l2 = 0, l3 = 0, l4 = 0, l5 = 0, l6 = 0, l7 = 0, l8 = 0;
   u8 *m = self->memory;
@@ -67530,7 +67868,7 @@ static void f70(module *self, u64 p0, u64 p1) {
   j0 = l2;
   j1 = 8ull;
   j0 += j1;
-  f22(self, j0); m = self->memory; if (NEVER(self->is_broken)) return;
+  f25(self, j0); m = self->memory; if (NEVER(self->is_broken)) return;
   j0 = l2;
   i0 = (u32)(j0);
   j0 = i64_load(j0 + 24u);
@@ -67704,12 +68042,12 @@ static void f70(module *self, u64 p0, u64 p1) {
   j0 = i64_load(j0 + 16u);
   l8 = j0;
   j0 = l3;
-  f158(self, j0);
+  f162(self, j0);
   j0 = l8;
   i0 = !(j0);
   if (i0) {goto B2;}
   j0 = l7;
-  f158(self, j0);
+  f162(self, j0);
   B2:;
   i0 = l10;
   i1 = 255u;
@@ -67726,12 +68064,12 @@ static void f70(module *self, u64 p0, u64 p1) {
   j0 = i64_load(j0 + 16u);
   l3 = j0;
   j0 = l4;
-  f158(self, j0);
+  f162(self, j0);
   j0 = l3;
   i0 = !(j0);
   if (i0) {goto B3;}
   j0 = l8;
-  f158(self, j0);
+  f162(self, j0);
   B3:;
   j0 = l6;
   j1 = 255ull;
@@ -67752,12 +68090,12 @@ static void f70(module *self, u64 p0, u64 p1) {
   j0 = i64_load(j0 + 16u);
   l4 = j0;
   j0 = p1;
-  f158(self, j0);
+  f162(self, j0);
   j0 = l4;
   i0 = !(j0);
   if (i0) {goto B4;}
   j0 = l6;
-  f158(self, j0);
+  f162(self, j0);
   B4:;
   j0 = p0;
   i0 = (u32)(j0);
@@ -67790,7 +68128,7 @@ static void f70(module *self, u64 p0, u64 p1) {
   self->g0 = j0;
 }
 
-static void f71(module *self, u64 p0, u64 p1, u32 p2, u32 p3) {
+static void f74(module *self, u64 p0, u64 p1, u32 p2, u32 p3) {
   u32 l6 = 0, l7 = 0, l8 = 0, l9 = 0, l10 = 0;
   u64 l4 = 0, l5 = 0;
   u8 *m = self->memory;
@@ -68291,7 +68629,7 @@ static void f71(module *self, u64 p0, u64 p1, u32 p2, u32 p3) {
   i2 = 965u;
   i3 = p3;
   i4 = l6;
-  f72(self, j0, j1, i2, i3, i4);
+  f75(self, j0, j1, i2, i3, i4);
   j0 = l4;
   i0 = (u32)(j0);
   i0 = i32_load8_u(j0 + 1u);
@@ -68309,7 +68647,7 @@ static void f71(module *self, u64 p0, u64 p1, u32 p2, u32 p3) {
   i2 = 966u;
   i3 = p3;
   i4 = l6;
-  f72(self, j0, j1, i2, i3, i4);
+  f75(self, j0, j1, i2, i3, i4);
   j0 = l4;
   i0 = (u32)(j0);
   i0 = i32_load8_u(j0 + 9u);
@@ -68327,7 +68665,7 @@ static void f71(module *self, u64 p0, u64 p1, u32 p2, u32 p3) {
   i2 = 967u;
   i3 = p3;
   i4 = l6;
-  f72(self, j0, j1, i2, i3, i4);
+  f75(self, j0, j1, i2, i3, i4);
   j0 = l4;
   i0 = (u32)(j0);
   i0 = i32_load8_u(j0 + 17u);
@@ -68345,7 +68683,7 @@ static void f71(module *self, u64 p0, u64 p1, u32 p2, u32 p3) {
   i2 = 968u;
   i3 = p3;
   i4 = l6;
-  f72(self, j0, j1, i2, i3, i4);
+  f75(self, j0, j1, i2, i3, i4);
   j0 = l4;
   i0 = (u32)(j0);
   i0 = i32_load8_u(j0 + 25u);
@@ -68373,7 +68711,7 @@ static void f71(module *self, u64 p0, u64 p1, u32 p2, u32 p3) {
   self->g0 = j0;
 }
 
-static void f72(module *self, u64 p0, u64 p1, u32 p2, u32 p3, u32 p4) {
+static void f75(module *self, u64 p0, u64 p1, u32 p2, u32 p3, u32 p4) {
   u32 l6 = 0, l7 = 0, l8 = 0, l9 = 0, l10 = 0;
   u64 l5 = 0;
   u8 *m = self->memory;
@@ -68464,7 +68802,7 @@ static void f72(module *self, u64 p0, u64 p1, u32 p2, u32 p3, u32 p4) {
   j1 = p1;
   i2 = l8;
   i3 = p3;
-  f44(self, j0, j1, i2, i3);
+  f47(self, j0, j1, i2, i3);
   j0 = l5;
   i0 = (u32)(j0);
   i0 = i32_load8_u(j0 + 8u);
@@ -68556,7 +68894,7 @@ static void f72(module *self, u64 p0, u64 p1, u32 p2, u32 p3, u32 p4) {
   j1 = p1;
   i2 = l8;
   i3 = p4;
-  f44(self, j0, j1, i2, i3);
+  f47(self, j0, j1, i2, i3);
   j0 = l5;
   i0 = (u32)(j0);
   i0 = i32_load8_u(j0 + 1u);
@@ -68580,7 +68918,7 @@ static void f72(module *self, u64 p0, u64 p1, u32 p2, u32 p3, u32 p4) {
   self->g0 = j0;
 }
 
-static void f73(module *self, u64 p0, u64 p1, u64 p2) {
+static void f76(module *self, u64 p0, u64 p1, u64 p2) {
   u32 l20 = 0, l21 = 0, l22 = 0, l23 = 0, l24 = 0, l25 = 0, l26 = 0, l27 = 0, 
       l28 = 0;
   u64 l3 = 0, l4 = 0, l5 = 0, l6 = 0, l7 = 0, l8 = 0, l9 = 0, l10 = 0, 
@@ -69950,7 +70288,7 @@ static void f73(module *self, u64 p0, u64 p1, u64 p2) {
     j0 += j1;
     j1 = l19;
     j2 = l18;
-    f74(self, j0, j1, j2);
+    f77(self, j0, j1, j2);
     j0 = l3;
     i0 = (u32)(j0);
     j0 = i64_load(j0 + 288u);
@@ -70143,7 +70481,7 @@ static void f73(module *self, u64 p0, u64 p1, u64 p2) {
     j2 = l5;
     j3 = l4;
     i4 = l21;
-    f75(self, j0, j1, j2, j3, i4); if (NEVER(self->is_broken)) return;
+    f78(self, j0, j1, j2, j3, i4); if (NEVER(self->is_broken)) return;
     j0 = l3;
     i0 = (u32)(j0);
     j0 = i64_load(j0 + 256u);
@@ -70240,7 +70578,7 @@ static void f73(module *self, u64 p0, u64 p1, u64 p2) {
   self->g0 = j0;
 }
 
-static void f74(module *self, u64 p0, u64 p1, u64 p2) {
+static void f77(module *self, u64 p0, u64 p1, u64 p2) {
   u32 l6 = 0, l7 = 0, l8 = 0, l9 = 0, l10 = 0, l11 = 0;
   u64 l3 = 0, l4 = 0, l5 = 0;
   u8 *m = self->memory;
@@ -70849,7 +71187,7 @@ static void f74(module *self, u64 p0, u64 p1, u64 p2) {
   Bfunc:;
 }
 
-static void f75(module *self, u64 p0, u64 p1, u64 p2, u64 p3, u32 p4) {
+static void f78(module *self, u64 p0, u64 p1, u64 p2, u64 p3, u32 p4) {
   u32 l25 = 0, l26 = 0, l27 = 0, l28 = 0, l29 = 0, l30 = 0, l31 = 0, l32 = 0;
   u64 l5 = 0, l6 = 0, l7 = 0, l8 = 0, l9 = 0, l10 = 0, l11 = 0, l12 = 0, 
       l13 = 0, l14 = 0, l15 = 0, l16 = 0, l17 = 0, l18 = 0, l19 = 0, l20 = 0, 
@@ -71979,7 +72317,7 @@ static void f75(module *self, u64 p0, u64 p1, u64 p2, u64 p3, u32 p4) {
     j0 += j1;
     j1 = l7;
     j2 = p1;
-    f74(self, j0, j1, j2);
+    f77(self, j0, j1, j2);
     j0 = l5;
     i0 = (u32)(j0);
     j0 = i64_load(j0 + 72u);
@@ -73106,7 +73444,7 @@ static void f75(module *self, u64 p0, u64 p1, u64 p2, u64 p3, u32 p4) {
   j0 += j1;
   j1 = l22;
   j2 = l23;
-  f74(self, j0, j1, j2);
+  f77(self, j0, j1, j2);
   j0 = l5;
   i0 = (u32)(j0);
   j0 = i64_load(j0 + 72u);
@@ -73402,7 +73740,7 @@ static void f75(module *self, u64 p0, u64 p1, u64 p2, u64 p3, u32 p4) {
   self->g0 = j0;
 }
 
-static void f76(module *self, u64 p0, u64 p1, u64 p2) {
+static void f79(module *self, u64 p0, u64 p1, u64 p2) {
   u32 l15 = 0, l16 = 0, l17 = 0, l18 = 0;
   u64 l3 = 0, l4 = 0, l5 = 0, l6 = 0, l7 = 0, l8 = 0, l9 = 0, l10 = 0, 
       l11 = 0, l12 = 0, l13 = 0, l14 = 0;
@@ -73566,7 +73904,7 @@ static void f76(module *self, u64 p0, u64 p1, u64 p2) {
   i5 = 4096u;
   i4 = i4 < i5;
   j2 = i4 ? j2 : j3;
-  f77(self, j0, i1, j2);
+  f80(self, j0, i1, j2);
   j0 = l3;
   j1 = 560ull;
   j0 += j1;
@@ -73624,7 +73962,7 @@ static void f76(module *self, u64 p0, u64 p1, u64 p2) {
   j0 += j1;
   i1 = l15;
   j2 = 2ull;
-  f77(self, j0, i1, j2);
+  f80(self, j0, i1, j2);
   j0 = l3;
   i0 = (u32)(j0);
   j0 = i64_load(j0 + 840u);
@@ -73666,7 +74004,7 @@ static void f76(module *self, u64 p0, u64 p1, u64 p2) {
   if (i0) {goto B17;}
   j0 = p1;
   j1 = p2;
-  i0 = f12(self, j0, j1); m = self->memory; if (NEVER(self->is_broken)) return;
+  i0 = f15(self, j0, j1); m = self->memory; if (NEVER(self->is_broken)) return;
   i0 = !(i0);
   if (i0) {goto B1;}
   j0 = p1;
@@ -73781,7 +74119,7 @@ static void f76(module *self, u64 p0, u64 p1, u64 p2) {
   i5 = 4096u;
   i4 = i4 < i5;
   j2 = i4 ? j2 : j3;
-  f77(self, j0, i1, j2);
+  f80(self, j0, i1, j2);
   j0 = l3;
   j1 = 488ull;
   j0 += j1;
@@ -73839,7 +74177,7 @@ static void f76(module *self, u64 p0, u64 p1, u64 p2) {
   j0 += j1;
   i1 = l15;
   j2 = 4ull;
-  f77(self, j0, i1, j2);
+  f80(self, j0, i1, j2);
   j0 = l3;
   i0 = (u32)(j0);
   j0 = i64_load(j0 + 840u);
@@ -73881,7 +74219,7 @@ static void f76(module *self, u64 p0, u64 p1, u64 p2) {
   if (i0) {goto B21;}
   j0 = p1;
   j1 = p2;
-  i0 = f12(self, j0, j1); m = self->memory; if (NEVER(self->is_broken)) return;
+  i0 = f15(self, j0, j1); m = self->memory; if (NEVER(self->is_broken)) return;
   i0 = !(i0);
   if (i0) {goto B1;}
   j0 = p1;
@@ -73996,7 +74334,7 @@ static void f76(module *self, u64 p0, u64 p1, u64 p2) {
   i5 = 4096u;
   i4 = i4 < i5;
   j2 = i4 ? j2 : j3;
-  f77(self, j0, i1, j2);
+  f80(self, j0, i1, j2);
   j0 = l3;
   j1 = 272ull;
   j0 += j1;
@@ -74062,7 +74400,7 @@ static void f76(module *self, u64 p0, u64 p1, u64 p2) {
   if (i0) {goto B24;}
   j0 = p1;
   j1 = p2;
-  i0 = f12(self, j0, j1); m = self->memory; if (NEVER(self->is_broken)) return;
+  i0 = f15(self, j0, j1); m = self->memory; if (NEVER(self->is_broken)) return;
   i0 = !(i0);
   if (i0) {goto B1;}
   j0 = p1;
@@ -74185,7 +74523,7 @@ static void f76(module *self, u64 p0, u64 p1, u64 p2) {
   i5 = 4096u;
   i4 = i4 < i5;
   j2 = i4 ? j2 : j3;
-  f77(self, j0, i1, j2);
+  f80(self, j0, i1, j2);
   j0 = l3;
   j1 = 200ull;
   j0 += j1;
@@ -74251,7 +74589,7 @@ static void f76(module *self, u64 p0, u64 p1, u64 p2) {
   if (i0) {goto B27;}
   j0 = p1;
   j1 = p2;
-  i0 = f12(self, j0, j1); m = self->memory; if (NEVER(self->is_broken)) return;
+  i0 = f15(self, j0, j1); m = self->memory; if (NEVER(self->is_broken)) return;
   i0 = !(i0);
   if (i0) {goto B1;}
   j0 = p1;
@@ -74384,7 +74722,7 @@ static void f76(module *self, u64 p0, u64 p1, u64 p2) {
   i5 = 1048576u;
   i4 = i4 < i5;
   j2 = i4 ? j2 : j3;
-  f77(self, j0, i1, j2);
+  f80(self, j0, i1, j2);
   j0 = l3;
   j1 = 416ull;
   j0 += j1;
@@ -74442,7 +74780,7 @@ static void f76(module *self, u64 p0, u64 p1, u64 p2) {
   j0 += j1;
   i1 = l15;
   j2 = 2ull;
-  f77(self, j0, i1, j2);
+  f80(self, j0, i1, j2);
   j0 = l3;
   i0 = (u32)(j0);
   j0 = i64_load(j0 + 840u);
@@ -74484,7 +74822,7 @@ static void f76(module *self, u64 p0, u64 p1, u64 p2) {
   if (i0) {goto B31;}
   j0 = p1;
   j1 = p2;
-  i0 = f12(self, j0, j1); m = self->memory; if (NEVER(self->is_broken)) return;
+  i0 = f15(self, j0, j1); m = self->memory; if (NEVER(self->is_broken)) return;
   i0 = !(i0);
   if (i0) {goto B1;}
   j0 = p1;
@@ -74609,7 +74947,7 @@ static void f76(module *self, u64 p0, u64 p1, u64 p2) {
   i5 = 1048576u;
   i4 = i4 < i5;
   j2 = i4 ? j2 : j3;
-  f77(self, j0, i1, j2);
+  f80(self, j0, i1, j2);
   j0 = l3;
   j1 = 344ull;
   j0 += j1;
@@ -74667,7 +75005,7 @@ static void f76(module *self, u64 p0, u64 p1, u64 p2) {
   j0 += j1;
   i1 = l15;
   j2 = 4ull;
-  f77(self, j0, i1, j2);
+  f80(self, j0, i1, j2);
   j0 = l3;
   i0 = (u32)(j0);
   j0 = i64_load(j0 + 840u);
@@ -74709,7 +75047,7 @@ static void f76(module *self, u64 p0, u64 p1, u64 p2) {
   if (i0) {goto B35;}
   j0 = p1;
   j1 = p2;
-  i0 = f12(self, j0, j1); m = self->memory; if (NEVER(self->is_broken)) return;
+  i0 = f15(self, j0, j1); m = self->memory; if (NEVER(self->is_broken)) return;
   i0 = !(i0);
   if (i0) {goto B1;}
   j0 = p1;
@@ -74842,7 +75180,7 @@ static void f76(module *self, u64 p0, u64 p1, u64 p2) {
   i5 = 1048576u;
   i4 = i4 < i5;
   j2 = i4 ? j2 : j3;
-  f77(self, j0, i1, j2);
+  f80(self, j0, i1, j2);
   j0 = l3;
   j1 = 128ull;
   j0 += j1;
@@ -74908,7 +75246,7 @@ static void f76(module *self, u64 p0, u64 p1, u64 p2) {
   if (i0) {goto B38;}
   j0 = p1;
   j1 = p2;
-  i0 = f12(self, j0, j1); m = self->memory; if (NEVER(self->is_broken)) return;
+  i0 = f15(self, j0, j1); m = self->memory; if (NEVER(self->is_broken)) return;
   i0 = !(i0);
   if (i0) {goto B1;}
   j0 = p1;
@@ -75033,7 +75371,7 @@ static void f76(module *self, u64 p0, u64 p1, u64 p2) {
   i5 = 1048576u;
   i4 = i4 < i5;
   j2 = i4 ? j2 : j3;
-  f77(self, j0, i1, j2);
+  f80(self, j0, i1, j2);
   j0 = l3;
   j1 = 56ull;
   j0 += j1;
@@ -75099,7 +75437,7 @@ static void f76(module *self, u64 p0, u64 p1, u64 p2) {
   if (i0) {goto B41;}
   j0 = p1;
   j1 = p2;
-  i0 = f12(self, j0, j1); m = self->memory; if (NEVER(self->is_broken)) return;
+  i0 = f15(self, j0, j1); m = self->memory; if (NEVER(self->is_broken)) return;
   i0 = !(i0);
   if (i0) {goto B1;}
   j0 = p1;
@@ -75259,7 +75597,7 @@ static void f76(module *self, u64 p0, u64 p1, u64 p2) {
   j0 += j1;
   i1 = l18;
   j2 = 4ull;
-  f77(self, j0, i1, j2);
+  f80(self, j0, i1, j2);
   j0 = l3;
   i0 = (u32)(j0);
   j0 = i64_load(j0 + 840u);
@@ -75289,7 +75627,7 @@ static void f76(module *self, u64 p0, u64 p1, u64 p2) {
   j0 += j1;
   i1 = l17;
   j2 = 4ull;
-  f77(self, j0, i1, j2);
+  f80(self, j0, i1, j2);
   j0 = l3;
   i0 = (u32)(j0);
   j0 = i64_load(j0 + 840u);
@@ -75319,7 +75657,7 @@ static void f76(module *self, u64 p0, u64 p1, u64 p2) {
   j0 += j1;
   i1 = l16;
   j2 = 4ull;
-  f77(self, j0, i1, j2);
+  f80(self, j0, i1, j2);
   j0 = l3;
   i0 = (u32)(j0);
   j0 = i64_load(j0 + 840u);
@@ -75349,7 +75687,7 @@ static void f76(module *self, u64 p0, u64 p1, u64 p2) {
   j0 += j1;
   i1 = l15;
   j2 = 4ull;
-  f77(self, j0, i1, j2);
+  f80(self, j0, i1, j2);
   j0 = l3;
   j1 = 632ull;
   j0 += j1;
@@ -75430,7 +75768,7 @@ static void f76(module *self, u64 p0, u64 p1, u64 p2) {
   if (i0) {goto B48;}
   j0 = p1;
   j1 = p2;
-  i0 = f12(self, j0, j1); m = self->memory; if (NEVER(self->is_broken)) return;
+  i0 = f15(self, j0, j1); m = self->memory; if (NEVER(self->is_broken)) return;
   i0 = !(i0);
   if (i0) {goto B1;}
   j0 = p1;
@@ -75559,7 +75897,7 @@ static void f76(module *self, u64 p0, u64 p1, u64 p2) {
   if (i0) {goto B53;}
   j0 = p1;
   j1 = p2;
-  i0 = f12(self, j0, j1); m = self->memory; if (NEVER(self->is_broken)) return;
+  i0 = f15(self, j0, j1); m = self->memory; if (NEVER(self->is_broken)) return;
   i0 = !(i0);
   if (i0) {goto B1;}
   j0 = p1;
@@ -75632,7 +75970,7 @@ static void f76(module *self, u64 p0, u64 p1, u64 p2) {
   j0 += j1;
   j1 = l10;
   j2 = 1ull;
-  f155(self, j0, j1, j2); m = self->memory; if (NEVER(self->is_broken)) return;
+  f159(self, j0, j1, j2); m = self->memory; if (NEVER(self->is_broken)) return;
   i0 = 1u;
   l15 = i0;
   j0 = l3;
@@ -75723,7 +76061,7 @@ static void f76(module *self, u64 p0, u64 p1, u64 p2) {
   if (i0) {goto B59;}
   j0 = p1;
   j1 = l10;
-  i0 = f12(self, j0, j1); m = self->memory; if (NEVER(self->is_broken)) return;
+  i0 = f15(self, j0, j1); m = self->memory; if (NEVER(self->is_broken)) return;
   i0 = !(i0);
   if (i0) {goto B58;}
   j0 = p1;
@@ -75896,7 +76234,7 @@ static void f76(module *self, u64 p0, u64 p1, u64 p2) {
   j1 = l13;
   i64_store(j0, j1);
   j0 = l7;
-  f158(self, j0);
+  f162(self, j0);
   j0 = l4;
   i0 = (u32)(j0);
   j0 = i64_load(j0);
@@ -75909,7 +76247,7 @@ static void f76(module *self, u64 p0, u64 p1, u64 p2) {
   if (i0) {goto B65;}
   j0 = p1;
   j1 = 1ull;
-  i0 = f12(self, j0, j1); m = self->memory; if (NEVER(self->is_broken)) return;
+  i0 = f15(self, j0, j1); m = self->memory; if (NEVER(self->is_broken)) return;
   i0 = !(i0);
   if (i0) {goto B0;}
   j0 = p1;
@@ -75951,7 +76289,7 @@ static void f76(module *self, u64 p0, u64 p1, u64 p2) {
   goto B2;
   B58:;
   j0 = l7;
-  f158(self, j0);
+  f162(self, j0);
   goto B0;
   B5:;
   j0 = p2;
@@ -76023,7 +76361,7 @@ static void f76(module *self, u64 p0, u64 p1, u64 p2) {
   j2 = 704ull;
   j1 += j2;
   i2 = l15;
-  f78(self, j0, j1, i2); if (NEVER(self->is_broken)) return;
+  f81(self, j0, j1, i2); if (NEVER(self->is_broken)) return;
   j0 = l3;
   i0 = (u32)(j0);
   j0 = i64_load(j0 + 32u);
@@ -76100,7 +76438,7 @@ static void f76(module *self, u64 p0, u64 p1, u64 p2) {
   if (i0) {goto B70;}
   j0 = p1;
   j1 = p2;
-  i0 = f12(self, j0, j1); m = self->memory; if (NEVER(self->is_broken)) return;
+  i0 = f15(self, j0, j1); m = self->memory; if (NEVER(self->is_broken)) return;
   i0 = !(i0);
   if (i0) {goto B1;}
   j0 = p1;
@@ -76173,7 +76511,7 @@ static void f76(module *self, u64 p0, u64 p1, u64 p2) {
   if (i0) {goto B72;}
   j0 = p1;
   j1 = 6ull;
-  i0 = f12(self, j0, j1); m = self->memory; if (NEVER(self->is_broken)) return;
+  i0 = f15(self, j0, j1); m = self->memory; if (NEVER(self->is_broken)) return;
   i0 = !(i0);
   if (i0) {goto B1;}
   j0 = p1;
@@ -76289,7 +76627,7 @@ static void f76(module *self, u64 p0, u64 p1, u64 p2) {
   if (i0) {goto B82;}
   j0 = p1;
   j1 = 10ull;
-  i0 = f12(self, j0, j1); m = self->memory; if (NEVER(self->is_broken)) return;
+  i0 = f15(self, j0, j1); m = self->memory; if (NEVER(self->is_broken)) return;
   if (i0) {goto B83;}
   i0 = 1u;
   l15 = i0;
@@ -76414,7 +76752,7 @@ static void f76(module *self, u64 p0, u64 p1, u64 p2) {
   j0 += j1;
   i1 = l15;
   j2 = 2ull;
-  f77(self, j0, i1, j2);
+  f80(self, j0, i1, j2);
   j0 = 64ull;
   p2 = j0;
   j0 = l3;
@@ -76458,7 +76796,7 @@ static void f76(module *self, u64 p0, u64 p1, u64 p2) {
   if (i0) {goto B87;}
   j0 = p1;
   j1 = p2;
-  i0 = f12(self, j0, j1); m = self->memory; if (NEVER(self->is_broken)) return;
+  i0 = f15(self, j0, j1); m = self->memory; if (NEVER(self->is_broken)) return;
   i0 = !(i0);
   if (i0) {goto B1;}
   j0 = p1;
@@ -76533,7 +76871,7 @@ static void f76(module *self, u64 p0, u64 p1, u64 p2) {
   if (i0) {goto B89;}
   j0 = p1;
   j1 = 10ull;
-  i0 = f12(self, j0, j1); m = self->memory; if (NEVER(self->is_broken)) return;
+  i0 = f15(self, j0, j1); m = self->memory; if (NEVER(self->is_broken)) return;
   if (i0) {goto B90;}
   i0 = 1u;
   l15 = i0;
@@ -76627,7 +76965,7 @@ static void f76(module *self, u64 p0, u64 p1, u64 p2) {
   if (i0) {goto B93;}
   j0 = p1;
   j1 = 13ull;
-  i0 = f12(self, j0, j1); m = self->memory; if (NEVER(self->is_broken)) return;
+  i0 = f15(self, j0, j1); m = self->memory; if (NEVER(self->is_broken)) return;
   i0 = !(i0);
   if (i0) {goto B1;}
   j0 = p1;
@@ -76765,7 +77103,7 @@ static void f76(module *self, u64 p0, u64 p1, u64 p2) {
   j0 += j1;
   i1 = l15;
   j2 = 1ull;
-  f77(self, j0, i1, j2);
+  f80(self, j0, i1, j2);
   j0 = 64ull;
   p2 = j0;
   j0 = l3;
@@ -76795,7 +77133,7 @@ static void f76(module *self, u64 p0, u64 p1, u64 p2) {
   j0 += j1;
   i1 = l17;
   j2 = 4ull;
-  f77(self, j0, i1, j2);
+  f80(self, j0, i1, j2);
   j0 = l3;
   i0 = (u32)(j0);
   j0 = i64_load(j0 + 840u);
@@ -76846,7 +77184,7 @@ static void f76(module *self, u64 p0, u64 p1, u64 p2) {
   j2 = 704ull;
   j1 += j2;
   i2 = l16;
-  f78(self, j0, j1, i2); if (NEVER(self->is_broken)) return;
+  f81(self, j0, j1, i2); if (NEVER(self->is_broken)) return;
   j0 = 64ull;
   l4 = j0;
   j0 = 64ull;
@@ -76921,7 +77259,7 @@ static void f76(module *self, u64 p0, u64 p1, u64 p2) {
   if (i0) {goto B101;}
   j0 = p1;
   j1 = l4;
-  i0 = f12(self, j0, j1); m = self->memory; if (NEVER(self->is_broken)) return;
+  i0 = f15(self, j0, j1); m = self->memory; if (NEVER(self->is_broken)) return;
   i0 = !(i0);
   if (i0) {goto B1;}
   j0 = p1;
@@ -76996,7 +77334,7 @@ static void f76(module *self, u64 p0, u64 p1, u64 p2) {
   p2 = j0;
   j0 = p1;
   j1 = 9ull;
-  i0 = f12(self, j0, j1); m = self->memory; if (NEVER(self->is_broken)) return;
+  i0 = f15(self, j0, j1); m = self->memory; if (NEVER(self->is_broken)) return;
   if (i0) {goto B104;}
   i0 = 1u;
   l15 = i0;
@@ -77090,7 +77428,7 @@ static void f76(module *self, u64 p0, u64 p1, u64 p2) {
   if (i0) {goto B107;}
   j0 = p1;
   j1 = 11ull;
-  i0 = f12(self, j0, j1); m = self->memory; if (NEVER(self->is_broken)) return;
+  i0 = f15(self, j0, j1); m = self->memory; if (NEVER(self->is_broken)) return;
   i0 = !(i0);
   if (i0) {goto B1;}
   j0 = p1;
@@ -77199,7 +77537,7 @@ static void f76(module *self, u64 p0, u64 p1, u64 p2) {
   self->g0 = j0;
 }
 
-static void f77(module *self, u64 p0, u32 p1, u64 p2) {
+static void f80(module *self, u64 p0, u32 p1, u64 p2) {
   u64 l3 = 0;
   u8 *m = self->memory;
   u32 i0, i1, i2, i3, i4;
@@ -77214,7 +77552,7 @@ static void f77(module *self, u64 p0, u32 p1, u64 p2) {
   j2 = p2;
   j3 = 18446744073709551615ull;
   j2 += j3;
-  f77(self, j0, i1, j2);
+  f80(self, j0, i1, j2);
   j0 = p0;
   j1 = 64ull;
   j0 += j1;
@@ -77252,7 +77590,7 @@ static void f77(module *self, u64 p0, u32 p1, u64 p2) {
   B0:;
 }
 
-static void f78(module *self, u64 p0, u64 p1, u32 p2) {
+static void f81(module *self, u64 p0, u64 p1, u32 p2) {
   u32 l7 = 0;
   u64 l3 = 0, l4 = 0, l5 = 0, l6 = 0;
   u8 *m = self->memory;
@@ -77434,7 +77772,7 @@ static void f78(module *self, u64 p0, u64 p1, u32 p2) {
   i64_store(j0, j1);
 }
 
-static u32 f79(module *self, u64 p0, u32 p1, u32 p2) {
+static u32 f82(module *self, u64 p0, u32 p1, u32 p2) {
   u32 l3 = 0, l4 = 0, l5 = 0, l6 = 0, l7 = 0;
   u64 l8 = 0;
   u8 *m = self->memory;
@@ -77687,7 +78025,7 @@ static u32 f79(module *self, u64 p0, u32 p1, u32 p2) {
   return i0;
 }
 
-static u32 f80(module *self, u64 p0, u32 p1, u32 p2) {
+static u32 f83(module *self, u64 p0, u32 p1, u32 p2) {
   u32 l3 = 0, l4 = 0, l5 = 0, l6 = 0, l7 = 0;
   u8 *m = self->memory;
   u32 i0, i1, i2, i3, i4, i5;
@@ -77785,7 +78123,7 @@ static u32 f80(module *self, u64 p0, u32 p1, u32 p2) {
   j0 = p0;
   i1 = l3;
   i2 = p2;
-  i0 = f79(self, j0, i1, i2);
+  i0 = f82(self, j0, i1, i2);
   if (i0) {goto B3;}
   j0 = p0;
   i1 = l3;
@@ -77797,7 +78135,7 @@ static u32 f80(module *self, u64 p0, u32 p1, u32 p2) {
   return i0;
 }
 
-static u32 f81(module *self, u64 p0, u64 p1, u32 p2, u64 p3, u64 p4, u32 p5) {
+static u32 f84(module *self, u64 p0, u64 p1, u32 p2, u64 p3, u64 p4, u32 p5) {
   u32 l6 = 0, l7 = 0, l8 = 0, l9 = 0, l10 = 0, l11 = 0, l12 = 0;
   u8 *m = self->memory;
   u32 i0, i1, i2, i3;
@@ -78141,7 +78479,7 @@ static u32 f81(module *self, u64 p0, u64 p1, u32 p2, u64 p3, u64 p4, u32 p5) {
   return i0;
 }
 
-static u32 f82(module *self, u64 p0, u64 p1, u64 p2) {
+static u32 f85(module *self, u64 p0, u64 p1, u64 p2) {
   u32 l10 = 0, l11 = 0, l12 = 0, l13 = 0, l14 = 0, l15 = 0, l16 = 0, l17 = 0, 
       l18 = 0, l19 = 0, l20 = 0, l21 = 0, l22 = 0, l23 = 0, l24 = 0, l25 = 0, 
       l26 = 0, l27 = 0;
@@ -78394,7 +78732,7 @@ static u32 f82(module *self, u64 p0, u64 p1, u64 p2) {
   j0 = l3;
   j1 = 14ull;
   j0 += j1;
-  i0 = f19(self, j0);
+  i0 = f22(self, j0);
   i0 = !(i0);
   if (i0) {goto B0;}
   j0 = p1;
@@ -78989,13 +79327,13 @@ static u32 f82(module *self, u64 p0, u64 p1, u64 p2) {
   j1 = 14ull;
   j0 += j1;
   j1 = l7;
-  f83(self, j0, j1);
+  f86(self, j0, j1);
   j0 = l3;
   j1 = 14ull;
   j0 += j1;
   j1 = l6;
   j2 = l5;
-  i0 = f84(self, j0, j1, j2);
+  i0 = f87(self, j0, j1, j2);
   i0 = !(i0);
   if (i0) {goto B0;}
   j0 = p0;
@@ -79125,7 +79463,7 @@ static u32 f82(module *self, u64 p0, u64 p1, u64 p2) {
   j2 = p2;
   j3 = 18446744073709551576ull;
   j2 += j3;
-  f24(self, j0, j1, j2); m = self->memory; if (NEVER(self->is_broken)) return ZAK_BROKEN;
+  f27(self, j0, j1, j2); m = self->memory; if (NEVER(self->is_broken)) return ZAK_BROKEN;
   B0:;
   j0 = l3;
   j1 = 48ull;
@@ -79135,7 +79473,7 @@ static u32 f82(module *self, u64 p0, u64 p1, u64 p2) {
   return i0;
 }
 
-static void f83(module *self, u64 p0, u64 p1) {
+static void f86(module *self, u64 p0, u64 p1) {
   u32 l2 = 0, l3 = 0, l4 = 0, l5 = 0, l6 = 0, l7 = 0, l8 = 0;
   u8 *m = self->memory;
   u32 i0, i1, i2;
@@ -79228,7 +79566,7 @@ static void f83(module *self, u64 p0, u64 p1) {
   i32_store8(j0 + 11, i1);
 }
 
-static u32 f84(module *self, u64 p0, u64 p1, u64 p2) {
+static u32 f87(module *self, u64 p0, u64 p1, u64 p2) {
   u32 l3 = 0, l4 = 0, l5 = 0, l6 = 0, l7 = 0, l8 = 0, l9 = 0, l10 = 0;
   u64 l11 = 0;
   u8 *m = self->memory;
@@ -79362,7 +79700,7 @@ static u32 f84(module *self, u64 p0, u64 p1, u64 p2) {
   return i0;
 }
 
-static void f85(module *self, u64 p0, u64 p1, u64 p2, u64 p3, u64 p4, u64 p5, u64 p6) {
+static void f88(module *self, u64 p0, u64 p1, u64 p2, u64 p3, u64 p4, u64 p5, u64 p6) {
   u32 l15 = 0, l16 = 0, l17 = 0, l18 = 0, l19 = 0;
   u64 l7 = 0, l8 = 0, l9 = 0, l10 = 0, l11 = 0, l12 = 0, l13 = 0, l14 = 0;
   u8 *m = self->memory;
@@ -79422,7 +79760,7 @@ static void f85(module *self, u64 p0, u64 p1, u64 p2, u64 p3, u64 p4, u64 p5, u6
   j4 = p4;
   j5 = p5;
   j6 = p6;
-  f57(self, j0, j1, j2, j3, j4, j5, j6); m = self->memory; if (NEVER(self->is_broken)) return;
+  f60(self, j0, j1, j2, j3, j4, j5, j6); m = self->memory; if (NEVER(self->is_broken)) return;
   j0 = l7;
   i0 = (u32)(j0);
   i0 = i32_load8_u(j0 + 40u);
@@ -79563,7 +79901,7 @@ static void f85(module *self, u64 p0, u64 p1, u64 p2, u64 p3, u64 p4, u64 p5, u6
   j1 = 208ull;
   j0 += j1;
   j1 = p3;
-  f86(self, j0, j1); if (NEVER(self->is_broken)) return;
+  f89(self, j0, j1); if (NEVER(self->is_broken)) return;
   j0 = l7;
   i0 = (u32)(j0);
   j0 = i64_load(j0 + 264u);
@@ -80200,7 +80538,7 @@ static void f85(module *self, u64 p0, u64 p1, u64 p2, u64 p3, u64 p4, u64 p5, u6
   if (i0) {goto B19;}
   j0 = p1;
   j1 = p3;
-  i0 = f87(self, j0, j1); m = self->memory; if (NEVER(self->is_broken)) return;
+  i0 = f90(self, j0, j1); m = self->memory; if (NEVER(self->is_broken)) return;
   i0 = !(i0);
   if (i0) {goto B6;}
   j0 = p1;
@@ -80344,7 +80682,7 @@ static void f85(module *self, u64 p0, u64 p1, u64 p2, u64 p3, u64 p4, u64 p5, u6
   if (i0) {goto B27;}
   j0 = p1;
   j1 = 7ull;
-  i0 = f87(self, j0, j1); m = self->memory; if (NEVER(self->is_broken)) return;
+  i0 = f90(self, j0, j1); m = self->memory; if (NEVER(self->is_broken)) return;
   i0 = !(i0);
   if (i0) {goto B26;}
   j0 = l10;
@@ -80428,7 +80766,7 @@ static void f85(module *self, u64 p0, u64 p1, u64 p2, u64 p3, u64 p4, u64 p5, u6
     if (i0) {goto B32;}
     j0 = p1;
     j1 = 2ull;
-    i0 = f87(self, j0, j1); m = self->memory; if (NEVER(self->is_broken)) return;
+    i0 = f90(self, j0, j1); m = self->memory; if (NEVER(self->is_broken)) return;
     i0 = !(i0);
     if (i0) {goto B30;}
     j0 = p1;
@@ -80970,7 +81308,7 @@ static void f85(module *self, u64 p0, u64 p1, u64 p2, u64 p3, u64 p4, u64 p5, u6
   if (i0) {goto B51;}
   j0 = p1;
   j1 = 10ull;
-  i0 = f87(self, j0, j1); m = self->memory; if (NEVER(self->is_broken)) return;
+  i0 = f90(self, j0, j1); m = self->memory; if (NEVER(self->is_broken)) return;
   i0 = !(i0);
   if (i0) {goto B50;}
   j0 = p1;
@@ -81156,7 +81494,7 @@ static void f85(module *self, u64 p0, u64 p1, u64 p2, u64 p3, u64 p4, u64 p5, u6
   if (i0) {goto B55;}
   j0 = p1;
   j1 = 11ull;
-  i0 = f87(self, j0, j1); m = self->memory; if (NEVER(self->is_broken)) return;
+  i0 = f90(self, j0, j1); m = self->memory; if (NEVER(self->is_broken)) return;
   i0 = !(i0);
   if (i0) {goto B54;}
   j0 = p1;
@@ -81358,7 +81696,7 @@ static void f85(module *self, u64 p0, u64 p1, u64 p2, u64 p3, u64 p4, u64 p5, u6
   if (i0) {goto B59;}
   j0 = p1;
   j1 = 12ull;
-  i0 = f87(self, j0, j1); m = self->memory; if (NEVER(self->is_broken)) return;
+  i0 = f90(self, j0, j1); m = self->memory; if (NEVER(self->is_broken)) return;
   i0 = !(i0);
   if (i0) {goto B58;}
   j0 = p1;
@@ -81560,7 +81898,7 @@ static void f85(module *self, u64 p0, u64 p1, u64 p2, u64 p3, u64 p4, u64 p5, u6
   if (i0) {goto B63;}
   j0 = p1;
   j1 = p3;
-  i0 = f87(self, j0, j1); m = self->memory; if (NEVER(self->is_broken)) return;
+  i0 = f90(self, j0, j1); m = self->memory; if (NEVER(self->is_broken)) return;
   i0 = !(i0);
   if (i0) {goto B62;}
   j0 = p1;
@@ -81761,7 +82099,7 @@ static void f85(module *self, u64 p0, u64 p1, u64 p2, u64 p3, u64 p4, u64 p5, u6
   if (i0) {goto B70;}
   j0 = p1;
   j1 = 1ull;
-  i0 = f87(self, j0, j1); m = self->memory; if (NEVER(self->is_broken)) return;
+  i0 = f90(self, j0, j1); m = self->memory; if (NEVER(self->is_broken)) return;
   i0 = !(i0);
   if (i0) {goto B69;}
   j0 = l10;
@@ -81844,12 +82182,12 @@ static void f85(module *self, u64 p0, u64 p1, u64 p2, u64 p3, u64 p4, u64 p5, u6
   j0 = i64_load(j0 + 16u);
   p3 = j0;
   j0 = p1;
-  f158(self, j0);
+  f162(self, j0);
   j0 = p3;
   i0 = !(j0);
   if (i0) {goto B0;}
   j0 = p6;
-  f158(self, j0);
+  f162(self, j0);
   B0:;
   j0 = p0;
   i0 = (u32)(j0);
@@ -81874,7 +82212,7 @@ static void f85(module *self, u64 p0, u64 p1, u64 p2, u64 p3, u64 p4, u64 p5, u6
   self->g0 = j0;
 }
 
-static void f86(module *self, u64 p0, u64 p1) {
+static void f89(module *self, u64 p0, u64 p1) {
   u32 l6 = 0, l7 = 0;
   u64 l2 = 0, l3 = 0, l4 = 0, l5 = 0;
   u8 *m = self->memory;
@@ -82154,7 +82492,7 @@ static void f86(module *self, u64 p0, u64 p1) {
   B8:;
 }
 
-static u32 f87(module *self, u64 p0, u64 p1) {
+static u32 f90(module *self, u64 p0, u64 p1) {
   u32 l6 = 0;
   u64 l2 = 0, l3 = 0, l4 = 0, l5 = 0;
   u8 *m = self->memory;
@@ -82223,7 +82561,7 @@ static u32 f87(module *self, u64 p0, u64 p1) {
   j2 = l3;
   j3 = p1;
   j4 = 1ull;
-  f157(self, j0, j1, j2, j3, j4); m = self->memory; if (NEVER(self->is_broken)) return ZAK_BROKEN;
+  f161(self, j0, j1, j2, j3, j4); m = self->memory; if (NEVER(self->is_broken)) return ZAK_BROKEN;
   j0 = l2;
   i0 = (u32)(j0);
   j0 = i64_load(j0 + 16u);
@@ -82241,7 +82579,7 @@ static u32 f87(module *self, u64 p0, u64 p1) {
   j0 = l2;
   j1 = l5;
   j2 = 1ull;
-  f155(self, j0, j1, j2); m = self->memory; if (NEVER(self->is_broken)) return ZAK_BROKEN;
+  f159(self, j0, j1, j2); m = self->memory; if (NEVER(self->is_broken)) return ZAK_BROKEN;
   j0 = l2;
   i0 = (u32)(j0);
   j0 = i64_load(j0);
@@ -82276,7 +82614,7 @@ static u32 f87(module *self, u64 p0, u64 p1) {
   return i0;
 }
 
-static void f88(module *self, u64 p0, u64 p1, u64 p2, u64 p3) {
+static void f91(module *self, u64 p0, u64 p1, u64 p2, u64 p3) {
   u32 l14 = 0, l15 = 0, l16 = 0;
   u64 l4 = 0, l5 = 0, l6 = 0, l7 = 0, l8 = 0, l9 = 0, l10 = 0, l11 = 0, 
       l12 = 0, l13 = 0;
@@ -82387,7 +82725,7 @@ static void f88(module *self, u64 p0, u64 p1, u64 p2, u64 p3) {
   j2 = 1792ull;
   j1 += j2;
   i2 = l15;
-  f78(self, j0, j1, i2); if (NEVER(self->is_broken)) return;
+  f81(self, j0, j1, i2); if (NEVER(self->is_broken)) return;
   j0 = l4;
   i0 = (u32)(j0);
   j0 = i64_load(j0 + 72u);
@@ -82421,7 +82759,7 @@ static void f88(module *self, u64 p0, u64 p1, u64 p2, u64 p3) {
   j2 = 1792ull;
   j1 += j2;
   i2 = l14;
-  f78(self, j0, j1, i2); if (NEVER(self->is_broken)) return;
+  f81(self, j0, j1, i2); if (NEVER(self->is_broken)) return;
   j0 = l4;
   i0 = (u32)(j0);
   j0 = i64_load(j0 + 56u);
@@ -82462,7 +82800,7 @@ static void f88(module *self, u64 p0, u64 p1, u64 p2, u64 p3) {
   j1 = 1792ull;
   j0 += j1;
   j1 = p2;
-  f86(self, j0, j1); if (NEVER(self->is_broken)) return;
+  f89(self, j0, j1); if (NEVER(self->is_broken)) return;
   i0 = l15;
   i1 = l14;
   i0 *= i1;
@@ -82543,7 +82881,7 @@ static void f88(module *self, u64 p0, u64 p1, u64 p2, u64 p3) {
   j2 = 1000ull;
   j1 += j2;
   i2 = l16;
-  f78(self, j0, j1, i2); if (NEVER(self->is_broken)) return;
+  f81(self, j0, j1, i2); if (NEVER(self->is_broken)) return;
   j0 = 52ull;
   j1 = p3;
   j0 -= j1;
@@ -82710,7 +83048,7 @@ static void f88(module *self, u64 p0, u64 p1, u64 p2, u64 p3) {
   if (i0) {goto B14;}
   j0 = p1;
   j1 = p3;
-  i0 = f87(self, j0, j1); m = self->memory; if (NEVER(self->is_broken)) return;
+  i0 = f90(self, j0, j1); m = self->memory; if (NEVER(self->is_broken)) return;
   i0 = !(i0);
   if (i0) {goto B4;}
   j0 = p1;
@@ -82831,7 +83169,7 @@ static void f88(module *self, u64 p0, u64 p1, u64 p2, u64 p3) {
   j2 = 2584ull;
   j1 += j2;
   i2 = l15;
-  f78(self, j0, j1, i2); if (NEVER(self->is_broken)) return;
+  f81(self, j0, j1, i2); if (NEVER(self->is_broken)) return;
   j0 = l4;
   i0 = (u32)(j0);
   j0 = i64_load(j0 + 24u);
@@ -82907,7 +83245,7 @@ static void f88(module *self, u64 p0, u64 p1, u64 p2, u64 p3) {
   j2 = 2584ull;
   j1 += j2;
   i2 = l14;
-  f78(self, j0, j1, i2); if (NEVER(self->is_broken)) return;
+  f81(self, j0, j1, i2); if (NEVER(self->is_broken)) return;
   j0 = 782ull;
   j1 = p3;
   j0 -= j1;
@@ -83013,7 +83351,7 @@ static void f88(module *self, u64 p0, u64 p1, u64 p2, u64 p3) {
   if (i0) {goto B23;}
   j0 = p1;
   j1 = p3;
-  i0 = f87(self, j0, j1); m = self->memory; if (NEVER(self->is_broken)) return;
+  i0 = f90(self, j0, j1); m = self->memory; if (NEVER(self->is_broken)) return;
   i0 = !(i0);
   if (i0) {goto B3;}
   j0 = p1;
@@ -83084,7 +83422,7 @@ static void f88(module *self, u64 p0, u64 p1, u64 p2, u64 p3) {
   if (i0) {goto B27;}
   j0 = p1;
   j1 = l5;
-  i0 = f87(self, j0, j1); m = self->memory; if (NEVER(self->is_broken)) return;
+  i0 = f90(self, j0, j1); m = self->memory; if (NEVER(self->is_broken)) return;
   i0 = !(i0);
   if (i0) {goto B2;}
   j0 = p1;
@@ -83262,7 +83600,7 @@ static void f88(module *self, u64 p0, u64 p1, u64 p2, u64 p3) {
   if (i0) {goto B34;}
   j0 = p1;
   j1 = 1ull;
-  i0 = f87(self, j0, j1); m = self->memory; if (NEVER(self->is_broken)) return;
+  i0 = f90(self, j0, j1); m = self->memory; if (NEVER(self->is_broken)) return;
   i0 = !(i0);
   if (i0) {goto B33;}
   j0 = p1;
@@ -83359,7 +83697,7 @@ static void f88(module *self, u64 p0, u64 p1, u64 p2, u64 p3) {
   j1 = 1792ull;
   j0 += j1;
   j1 = p2;
-  f86(self, j0, j1); if (NEVER(self->is_broken)) return;
+  f89(self, j0, j1); if (NEVER(self->is_broken)) return;
   j0 = l4;
   i0 = (u32)(j0);
   j0 = i64_load(j0 + 1848u);
@@ -83419,7 +83757,7 @@ static void f88(module *self, u64 p0, u64 p1, u64 p2, u64 p3) {
   if (i0) {goto B37;}
   j0 = p1;
   j1 = p3;
-  i0 = f87(self, j0, j1); m = self->memory; if (NEVER(self->is_broken)) return;
+  i0 = f90(self, j0, j1); m = self->memory; if (NEVER(self->is_broken)) return;
   i0 = !(i0);
   if (i0) {goto B36;}
   j0 = p1;
@@ -83540,7 +83878,7 @@ static void f88(module *self, u64 p0, u64 p1, u64 p2, u64 p3) {
   self->g0 = j0;
 }
 
-static void f89(module *self, u64 p0, u64 p1, u64 p2, u64 p3, u64 p4) {
+static void f92(module *self, u64 p0, u64 p1, u64 p2, u64 p3, u64 p4) {
   u32 l8 = 0;
   u64 l5 = 0, l6 = 0, l7 = 0;
   u8 *m = self->memory;
@@ -83613,7 +83951,7 @@ static void f89(module *self, u64 p0, u64 p1, u64 p2, u64 p3, u64 p4) {
   j1 = 32ull;
   j0 += j1;
   j1 = p2;
-  f86(self, j0, j1); if (NEVER(self->is_broken)) return;
+  f89(self, j0, j1); if (NEVER(self->is_broken)) return;
   j0 = l5;
   i0 = (u32)(j0);
   j0 = i64_load(j0 + 88u);
@@ -83639,7 +83977,7 @@ static void f89(module *self, u64 p0, u64 p1, u64 p2, u64 p3, u64 p4) {
   if (i0) {goto B6;}
   j0 = p1;
   j1 = p4;
-  i0 = f87(self, j0, j1); m = self->memory; if (NEVER(self->is_broken)) return;
+  i0 = f90(self, j0, j1); m = self->memory; if (NEVER(self->is_broken)) return;
   i0 = !(i0);
   if (i0) {goto B4;}
   j0 = p1;
@@ -83698,7 +84036,7 @@ static void f89(module *self, u64 p0, u64 p1, u64 p2, u64 p3, u64 p4) {
   j3 = l5;
   j4 = 26ull;
   j3 += j4;
-  f90(self, j0, j1, j2, j3); m = self->memory; if (NEVER(self->is_broken)) return;
+  f93(self, j0, j1, j2, j3); m = self->memory; if (NEVER(self->is_broken)) return;
   j0 = l5;
   i0 = (u32)(j0);
   i0 = i32_load8_u(j0);
@@ -83845,7 +84183,7 @@ static void f89(module *self, u64 p0, u64 p1, u64 p2, u64 p3, u64 p4) {
   if (i0) {goto B10;}
   j0 = p1;
   j1 = p2;
-  i0 = f87(self, j0, j1); m = self->memory; if (NEVER(self->is_broken)) return;
+  i0 = f90(self, j0, j1); m = self->memory; if (NEVER(self->is_broken)) return;
   i0 = !(i0);
   if (i0) {goto B9;}
   j0 = p1;
@@ -83938,7 +84276,7 @@ static void f89(module *self, u64 p0, u64 p1, u64 p2, u64 p3, u64 p4) {
   self->g0 = j0;
 }
 
-static void f90(module *self, u64 p0, u64 p1, u64 p2, u64 p3) {
+static void f93(module *self, u64 p0, u64 p1, u64 p2, u64 p3) {
   u32 l13 = 0, l14 = 0, l15 = 0, l16 = 0, l17 = 0, l18 = 0, l19 = 0, l20 = 0, 
       l21 = 0;
   u64 l4 = 0, l5 = 0, l6 = 0, l7 = 0, l8 = 0, l9 = 0, l10 = 0, l11 = 0, 
@@ -84082,7 +84420,7 @@ static void f90(module *self, u64 p0, u64 p1, u64 p2, u64 p3) {
   j5 = 33ull;
   j4 += j5;
   j5 = 5ull;
-  f91(self, j0, j1, j2, i3, j4, j5);
+  f94(self, j0, j1, j2, i3, j4, j5);
   j0 = l4;
   j1 = 2552ull;
   j0 += j1;
@@ -84097,7 +84435,7 @@ static void f90(module *self, u64 p0, u64 p1, u64 p2, u64 p3) {
   j5 = 105ull;
   j4 += j5;
   j5 = 25ull;
-  f91(self, j0, j1, j2, i3, j4, j5);
+  f94(self, j0, j1, j2, i3, j4, j5);
   j0 = l4;
   j1 = 2552ull;
   j0 += j1;
@@ -84112,7 +84450,7 @@ static void f90(module *self, u64 p0, u64 p1, u64 p2, u64 p3) {
   j5 = 47ull;
   j4 += j5;
   j5 = 9ull;
-  f91(self, j0, j1, j2, i3, j4, j5);
+  f94(self, j0, j1, j2, i3, j4, j5);
   j0 = l4;
   i0 = (u32)(j0);
   j0 = i64_load(j0 + 3336u);
@@ -84650,7 +84988,7 @@ static void f90(module *self, u64 p0, u64 p1, u64 p2, u64 p3) {
   if (i0) {goto B32;}
   j0 = p1;
   j1 = 19ull;
-  i0 = f87(self, j0, j1); m = self->memory; if (NEVER(self->is_broken)) return;
+  i0 = f90(self, j0, j1); m = self->memory; if (NEVER(self->is_broken)) return;
   i0 = !(i0);
   if (i0) {goto B31;}
   j0 = p1;
@@ -85158,7 +85496,7 @@ static void f90(module *self, u64 p0, u64 p1, u64 p2, u64 p3) {
   j2 = 136ull;
   j1 += j2;
   i2 = l17;
-  f78(self, j0, j1, i2); if (NEVER(self->is_broken)) return;
+  f81(self, j0, j1, i2); if (NEVER(self->is_broken)) return;
   j0 = l4;
   i0 = (u32)(j0);
   j0 = i64_load(j0 + 128u);
@@ -85424,7 +85762,7 @@ static void f90(module *self, u64 p0, u64 p1, u64 p2, u64 p3) {
   j2 = 136ull;
   j1 += j2;
   i2 = l15;
-  f78(self, j0, j1, i2); if (NEVER(self->is_broken)) return;
+  f81(self, j0, j1, i2); if (NEVER(self->is_broken)) return;
   j0 = 782ull;
   l7 = j0;
   j0 = 782ull;
@@ -85680,7 +86018,7 @@ static void f90(module *self, u64 p0, u64 p1, u64 p2, u64 p3) {
   j2 = 136ull;
   j1 += j2;
   i2 = l16;
-  f78(self, j0, j1, i2); if (NEVER(self->is_broken)) return;
+  f81(self, j0, j1, i2); if (NEVER(self->is_broken)) return;
   j0 = 782ull;
   l12 = j0;
   j0 = 782ull;
@@ -85948,7 +86286,7 @@ static void f90(module *self, u64 p0, u64 p1, u64 p2, u64 p3) {
   j2 = 136ull;
   j1 += j2;
   i2 = l13;
-  f78(self, j0, j1, i2); if (NEVER(self->is_broken)) return;
+  f81(self, j0, j1, i2); if (NEVER(self->is_broken)) return;
   j0 = 782ull;
   l7 = j0;
   j0 = 782ull;
@@ -86105,7 +86443,7 @@ static void f90(module *self, u64 p0, u64 p1, u64 p2, u64 p3) {
   j1 = 1049312ull;
   j2 = 4ull;
   i3 = l21;
-  f92(self, j0, j1, j2, i3);
+  f95(self, j0, j1, j2, i3);
   j0 = l4;
   i0 = (u32)(j0);
   j0 = i64_load(j0 + 3336u);
@@ -86213,7 +86551,7 @@ static void f90(module *self, u64 p0, u64 p1, u64 p2, u64 p3) {
   j2 = 136ull;
   j1 += j2;
   i2 = l20;
-  f78(self, j0, j1, i2); if (NEVER(self->is_broken)) return;
+  f81(self, j0, j1, i2); if (NEVER(self->is_broken)) return;
   j0 = 782ull;
   p2 = j0;
   j0 = 782ull;
@@ -86469,7 +86807,7 @@ static void f90(module *self, u64 p0, u64 p1, u64 p2, u64 p3) {
   j2 = 136ull;
   j1 += j2;
   i2 = l19;
-  f78(self, j0, j1, i2); if (NEVER(self->is_broken)) return;
+  f81(self, j0, j1, i2); if (NEVER(self->is_broken)) return;
   j0 = 782ull;
   l7 = j0;
   j0 = 782ull;
@@ -86737,7 +87075,7 @@ static void f90(module *self, u64 p0, u64 p1, u64 p2, u64 p3) {
   j2 = 136ull;
   j1 += j2;
   i2 = l18;
-  f78(self, j0, j1, i2); if (NEVER(self->is_broken)) return;
+  f81(self, j0, j1, i2); if (NEVER(self->is_broken)) return;
   j0 = 782ull;
   p2 = j0;
   j0 = 782ull;
@@ -86979,7 +87317,7 @@ static void f90(module *self, u64 p0, u64 p1, u64 p2, u64 p3) {
   j2 = 136ull;
   j1 += j2;
   i2 = l14;
-  f78(self, j0, j1, i2); if (NEVER(self->is_broken)) return;
+  f81(self, j0, j1, i2); if (NEVER(self->is_broken)) return;
   j0 = 782ull;
   j1 = p2;
   j0 -= j1;
@@ -87195,7 +87533,7 @@ static void f90(module *self, u64 p0, u64 p1, u64 p2, u64 p3) {
   if (i0) {goto B119;}
   j0 = p1;
   j1 = p3;
-  i0 = f87(self, j0, j1); m = self->memory; if (NEVER(self->is_broken)) return;
+  i0 = f90(self, j0, j1); m = self->memory; if (NEVER(self->is_broken)) return;
   i0 = !(i0);
   if (i0) {goto B118;}
   j0 = p1;
@@ -87305,7 +87643,7 @@ static void f90(module *self, u64 p0, u64 p1, u64 p2, u64 p3) {
   if (i0) {goto B122;}
   j0 = p1;
   j1 = 20ull;
-  i0 = f87(self, j0, j1); m = self->memory; if (NEVER(self->is_broken)) return;
+  i0 = f90(self, j0, j1); m = self->memory; if (NEVER(self->is_broken)) return;
   i0 = !(i0);
   if (i0) {goto B121;}
   j0 = p1;
@@ -87857,7 +88195,7 @@ static void f90(module *self, u64 p0, u64 p1, u64 p2, u64 p3) {
   if (i0) {goto B129;}
   j0 = p1;
   j1 = p3;
-  i0 = f87(self, j0, j1); m = self->memory; if (NEVER(self->is_broken)) return;
+  i0 = f90(self, j0, j1); m = self->memory; if (NEVER(self->is_broken)) return;
   i0 = !(i0);
   if (i0) {goto B128;}
   j0 = p1;
@@ -88060,7 +88398,7 @@ static void f90(module *self, u64 p0, u64 p1, u64 p2, u64 p3) {
   j3 += j4;
   i3 = (u32)(j3);
   i3 = i32_load16_u(j3);
-  f92(self, j0, j1, j2, i3);
+  f95(self, j0, j1, j2, i3);
   j0 = l4;
   j1 = 2552ull;
   j0 += j1;
@@ -88071,7 +88409,7 @@ static void f90(module *self, u64 p0, u64 p1, u64 p2, u64 p3) {
   j3 += j4;
   i3 = (u32)(j3);
   i3 = i32_load16_u(j3);
-  f92(self, j0, j1, j2, i3);
+  f95(self, j0, j1, j2, i3);
   j0 = l4;
   j1 = 2552ull;
   j0 += j1;
@@ -88082,7 +88420,7 @@ static void f90(module *self, u64 p0, u64 p1, u64 p2, u64 p3) {
   j3 += j4;
   i3 = (u32)(j3);
   i3 = i32_load16_u(j3);
-  f92(self, j0, j1, j2, i3);
+  f95(self, j0, j1, j2, i3);
   j0 = l4;
   i0 = (u32)(j0);
   j0 = i64_load(j0 + 3336u);
@@ -88281,7 +88619,7 @@ static void f90(module *self, u64 p0, u64 p1, u64 p2, u64 p3) {
   j3 += j4;
   i3 = (u32)(j3);
   i3 = i32_load16_u(j3);
-  f92(self, j0, j1, j2, i3);
+  f95(self, j0, j1, j2, i3);
   j0 = l4;
   i0 = (u32)(j0);
   j0 = i64_load(j0 + 3336u);
@@ -88427,7 +88765,7 @@ static void f90(module *self, u64 p0, u64 p1, u64 p2, u64 p3) {
   j3 += j4;
   i3 = (u32)(j3);
   i3 = i32_load16_u(j3);
-  f92(self, j0, j1, j2, i3);
+  f95(self, j0, j1, j2, i3);
   j0 = l4;
   i0 = (u32)(j0);
   j0 = i64_load(j0 + 3336u);
@@ -88573,7 +88911,7 @@ static void f90(module *self, u64 p0, u64 p1, u64 p2, u64 p3) {
   j3 += j4;
   i3 = (u32)(j3);
   i3 = i32_load16_u(j3);
-  f92(self, j0, j1, j2, i3);
+  f95(self, j0, j1, j2, i3);
   j0 = l4;
   i0 = (u32)(j0);
   j0 = i64_load(j0 + 3336u);
@@ -88643,7 +88981,7 @@ static void f90(module *self, u64 p0, u64 p1, u64 p2, u64 p3) {
   if (i0) {goto B149;}
   j0 = p1;
   j1 = p3;
-  i0 = f87(self, j0, j1); m = self->memory; if (NEVER(self->is_broken)) return;
+  i0 = f90(self, j0, j1); m = self->memory; if (NEVER(self->is_broken)) return;
   i0 = !(i0);
   if (i0) {goto B148;}
   j0 = p1;
@@ -89064,7 +89402,7 @@ static void f90(module *self, u64 p0, u64 p1, u64 p2, u64 p3) {
     if (i0) {goto B163;}
     j0 = p1;
     j1 = p3;
-    i0 = f87(self, j0, j1); m = self->memory; if (NEVER(self->is_broken)) return;
+    i0 = f90(self, j0, j1); m = self->memory; if (NEVER(self->is_broken)) return;
     i0 = !(i0);
     if (i0) {goto B151;}
     j0 = p1;
@@ -89529,7 +89867,7 @@ static void f90(module *self, u64 p0, u64 p1, u64 p2, u64 p3) {
   if (i0) {goto B171;}
   j0 = p1;
   j1 = p3;
-  i0 = f87(self, j0, j1); m = self->memory; if (NEVER(self->is_broken)) return;
+  i0 = f90(self, j0, j1); m = self->memory; if (NEVER(self->is_broken)) return;
   i0 = !(i0);
   if (i0) {goto B170;}
   j0 = p1;
@@ -89642,7 +89980,7 @@ static void f90(module *self, u64 p0, u64 p1, u64 p2, u64 p3) {
   self->g0 = j0;
 }
 
-static void f91(module *self, u64 p0, u64 p1, u64 p2, u32 p3, u64 p4, u64 p5) {
+static void f94(module *self, u64 p0, u64 p1, u64 p2, u32 p3, u64 p4, u64 p5) {
   u32 l8 = 0;
   u64 l6 = 0, l7 = 0;
   u8 *m = self->memory;
@@ -89930,7 +90268,7 @@ static void f91(module *self, u64 p0, u64 p1, u64 p2, u32 p3, u64 p4, u64 p5) {
   B3:;
 }
 
-static void f92(module *self, u64 p0, u64 p1, u64 p2, u32 p3) {
+static void f95(module *self, u64 p0, u64 p1, u64 p2, u32 p3) {
   u32 l7 = 0, l8 = 0;
   u64 l4 = 0, l5 = 0, l6 = 0;
   u8 *m = self->memory;
@@ -90152,7 +90490,7 @@ static void f92(module *self, u64 p0, u64 p1, u64 p2, u32 p3) {
   B4:;
 }
 
-static void f93(module *self, u64 p0, u64 p1, u64 p2, u64 p3, u64 p4, u64 p5) {
+static void f96(module *self, u64 p0, u64 p1, u64 p2, u64 p3, u64 p4, u64 p5) {
   u32 l37 = 0, l38 = 0, l39 = 0, l40 = 0, l41 = 0, l42 = 0, l43 = 0, l44 = 0, 
       l45 = 0, l46 = 0;
   u64 l6 = 0, l7 = 0, l8 = 0, l9 = 0, l10 = 0, l11 = 0, l12 = 0, l13 = 0, 
@@ -91576,7 +91914,7 @@ static void f93(module *self, u64 p0, u64 p1, u64 p2, u64 p3, u64 p4, u64 p5) {
     j0 += j1;
     j1 = l28;
     j2 = p4;
-    f74(self, j0, j1, j2);
+    f77(self, j0, j1, j2);
     j0 = l6;
     i0 = (u32)(j0);
     i0 = i32_load16_u(j0 + 162u);
@@ -91842,7 +92180,7 @@ static void f93(module *self, u64 p0, u64 p1, u64 p2, u64 p3, u64 p4, u64 p5) {
     j1 = l6;
     j2 = 48ull;
     j1 += j2;
-    f94(self, j0, j1); if (NEVER(self->is_broken)) return;
+    f97(self, j0, j1); if (NEVER(self->is_broken)) return;
     j0 = l6;
     i0 = (u32)(j0);
     j0 = i64_load(j0 + 96u);
@@ -93078,7 +93416,7 @@ static void f93(module *self, u64 p0, u64 p1, u64 p2, u64 p3, u64 p4, u64 p5) {
     j0 += j1;
     j1 = l22;
     j2 = l23;
-    f74(self, j0, j1, j2);
+    f77(self, j0, j1, j2);
     j0 = l6;
     i0 = (u32)(j0);
     i0 = i32_load16_u(j0 + 162u);
@@ -93510,7 +93848,7 @@ static void f93(module *self, u64 p0, u64 p1, u64 p2, u64 p3, u64 p4, u64 p5) {
     j1 = p3;
     i2 = l46;
     i3 = l40;
-    f44(self, j0, j1, i2, i3);
+    f47(self, j0, j1, i2, i3);
     j0 = l6;
     i0 = (u32)(j0);
     i0 = i32_load8_u(j0);
@@ -93542,7 +93880,7 @@ static void f93(module *self, u64 p0, u64 p1, u64 p2, u64 p3, u64 p4, u64 p5) {
     i5 = 255u;
     i4 &= i5;
     i3 |= i4;
-    f71(self, j0, j1, i2, i3);
+    f74(self, j0, j1, i2, i3);
     j0 = l6;
     i0 = (u32)(j0);
     i0 = i32_load8_u(j0 + 8u);
@@ -93567,7 +93905,7 @@ static void f93(module *self, u64 p0, u64 p1, u64 p2, u64 p3, u64 p4, u64 p5) {
     i4 = 255u;
     i3 &= i4;
     i2 |= i3;
-    f55(self, j0, j1, i2); if (NEVER(self->is_broken)) return;
+    f58(self, j0, j1, i2); if (NEVER(self->is_broken)) return;
     j0 = l6;
     i0 = (u32)(j0);
     i0 = i32_load8_u(j0 + 424u);
@@ -93640,7 +93978,7 @@ static void f93(module *self, u64 p0, u64 p1, u64 p2, u64 p3, u64 p4, u64 p5) {
     i1 = (u32)(j1);
     i1 = i32_load8_u(j1);
     i2 = l45;
-    i0 = f46(self, j0, i1, i2);
+    i0 = f49(self, j0, i1, i2);
     l38 = i0;
     j0 = p3;
     j1 = 68ull;
@@ -93796,7 +94134,7 @@ static void f93(module *self, u64 p0, u64 p1, u64 p2, u64 p3, u64 p4, u64 p5) {
     i1 = (u32)(j1);
     i1 = i32_load8_u(j1);
     i2 = l45;
-    i0 = f46(self, j0, i1, i2);
+    i0 = f49(self, j0, i1, i2);
     l38 = i0;
     j0 = p3;
     j1 = 68ull;
@@ -93926,7 +94264,7 @@ static void f93(module *self, u64 p0, u64 p1, u64 p2, u64 p3, u64 p4, u64 p5) {
     i1 = (u32)(j1);
     i1 = i32_load8_u(j1);
     i2 = l44;
-    i0 = f46(self, j0, i1, i2);
+    i0 = f49(self, j0, i1, i2);
     l38 = i0;
     j0 = p3;
     j1 = 68ull;
@@ -94054,7 +94392,7 @@ static void f93(module *self, u64 p0, u64 p1, u64 p2, u64 p3, u64 p4, u64 p5) {
     j0 += j1;
     j1 = p3;
     i2 = l40;
-    f34(self, j0, j1, i2);
+    f37(self, j0, j1, i2);
     j0 = l6;
     i0 = (u32)(j0);
     i0 = i32_load8_u(j0 + 41u);
@@ -94068,7 +94406,7 @@ static void f93(module *self, u64 p0, u64 p1, u64 p2, u64 p3, u64 p4, u64 p5) {
     j0 += j1;
     j1 = p3;
     i2 = l39;
-    f34(self, j0, j1, i2);
+    f37(self, j0, j1, i2);
     j0 = l6;
     i0 = (u32)(j0);
     i0 = i32_load8_u(j0 + 33u);
@@ -94123,7 +94461,7 @@ static void f93(module *self, u64 p0, u64 p1, u64 p2, u64 p3, u64 p4, u64 p5) {
     j4 |= j5;
     j5 = l28;
     j6 = p4;
-    f85(self, j0, j1, j2, j3, j4, j5, j6); m = self->memory; if (NEVER(self->is_broken)) return;
+    f88(self, j0, j1, j2, j3, j4, j5, j6); m = self->memory; if (NEVER(self->is_broken)) return;
     goto B78;
     B90:;
     i0 = l40;
@@ -94146,7 +94484,7 @@ static void f93(module *self, u64 p0, u64 p1, u64 p2, u64 p3, u64 p4, u64 p5) {
     j1 = 152ull;
     j0 += j1;
     j1 = p3;
-    f51(self, j0, j1); m = self->memory; if (NEVER(self->is_broken)) return;
+    f54(self, j0, j1); m = self->memory; if (NEVER(self->is_broken)) return;
     j0 = l6;
     j1 = 88ull;
     j0 += j1;
@@ -94155,7 +94493,7 @@ static void f93(module *self, u64 p0, u64 p1, u64 p2, u64 p3, u64 p4, u64 p5) {
     j3 = l6;
     j4 = 152ull;
     j3 += j4;
-    f88(self, j0, j1, j2, j3); m = self->memory; if (NEVER(self->is_broken)) return;
+    f91(self, j0, j1, j2, j3); m = self->memory; if (NEVER(self->is_broken)) return;
     goto B78;
     B88:;
     j0 = l6;
@@ -94191,7 +94529,7 @@ static void f93(module *self, u64 p0, u64 p1, u64 p2, u64 p3, u64 p4, u64 p5) {
     j4 = l6;
     j5 = 48ull;
     j4 += j5;
-    f89(self, j0, j1, j2, j3, j4); m = self->memory; if (NEVER(self->is_broken)) return;
+    f92(self, j0, j1, j2, j3, j4); m = self->memory; if (NEVER(self->is_broken)) return;
     goto B78;
     B87:;
     j0 = p3;
@@ -94295,7 +94633,7 @@ static void f93(module *self, u64 p0, u64 p1, u64 p2, u64 p3, u64 p4, u64 p5) {
     j0 += j1;
     j1 = p3;
     i2 = l40;
-    f34(self, j0, j1, i2);
+    f37(self, j0, j1, i2);
     j0 = l6;
     i0 = (u32)(j0);
     i0 = i32_load8_u(j0 + 25u);
@@ -94477,7 +94815,7 @@ static void f93(module *self, u64 p0, u64 p1, u64 p2, u64 p3, u64 p4, u64 p5) {
     i4 = 255u;
     i3 &= i4;
     i2 |= i3;
-    f26(self, j0, j1, i2); if (NEVER(self->is_broken)) return;
+    f29(self, j0, j1, i2); if (NEVER(self->is_broken)) return;
     j0 = l6;
     i0 = (u32)(j0);
     i0 = i32_load8_u(j0 + 17u);
@@ -95143,7 +95481,7 @@ static void f93(module *self, u64 p0, u64 p1, u64 p2, u64 p3, u64 p4, u64 p5) {
     if (i0) {goto B151;}
     j0 = p1;
     j1 = 10ull;
-    i0 = f87(self, j0, j1); m = self->memory; if (NEVER(self->is_broken)) return;
+    i0 = f90(self, j0, j1); m = self->memory; if (NEVER(self->is_broken)) return;
     i0 = !(i0);
     if (i0) {goto B150;}
     j0 = p1;
@@ -95328,7 +95666,7 @@ static void f93(module *self, u64 p0, u64 p1, u64 p2, u64 p3, u64 p4, u64 p5) {
     if (i0) {goto B155;}
     j0 = p1;
     j1 = 11ull;
-    i0 = f87(self, j0, j1); m = self->memory; if (NEVER(self->is_broken)) return;
+    i0 = f90(self, j0, j1); m = self->memory; if (NEVER(self->is_broken)) return;
     i0 = !(i0);
     if (i0) {goto B154;}
     j0 = p1;
@@ -95529,7 +95867,7 @@ static void f93(module *self, u64 p0, u64 p1, u64 p2, u64 p3, u64 p4, u64 p5) {
     if (i0) {goto B159;}
     j0 = p1;
     j1 = 12ull;
-    i0 = f87(self, j0, j1); m = self->memory; if (NEVER(self->is_broken)) return;
+    i0 = f90(self, j0, j1); m = self->memory; if (NEVER(self->is_broken)) return;
     i0 = !(i0);
     if (i0) {goto B158;}
     j0 = p1;
@@ -95730,7 +96068,7 @@ static void f93(module *self, u64 p0, u64 p1, u64 p2, u64 p3, u64 p4, u64 p5) {
     if (i0) {goto B163;}
     j0 = p1;
     j1 = p4;
-    i0 = f87(self, j0, j1); m = self->memory; if (NEVER(self->is_broken)) return;
+    i0 = f90(self, j0, j1); m = self->memory; if (NEVER(self->is_broken)) return;
     i0 = !(i0);
     if (i0) {goto B162;}
     j0 = p1;
@@ -96008,7 +96346,7 @@ static void f93(module *self, u64 p0, u64 p1, u64 p2, u64 p3, u64 p4, u64 p5) {
     B171:;
     j0 = l7;
     j1 = l28;
-    f86(self, j0, j1); if (NEVER(self->is_broken)) return;
+    f89(self, j0, j1); if (NEVER(self->is_broken)) return;
     j0 = p2;
     j1 = 72ull;
     j0 += j1;
@@ -96072,7 +96410,7 @@ static void f93(module *self, u64 p0, u64 p1, u64 p2, u64 p3, u64 p4, u64 p5) {
   self->g0 = j0;
 }
 
-static void f94(module *self, u64 p0, u64 p1) {
+static void f97(module *self, u64 p0, u64 p1) {
   u32 l9 = 0, l10 = 0;
   u64 l2 = 0, l3 = 0, l4 = 0, l5 = 0, l6 = 0, l7 = 0, l8 = 0;
   u8 *m = self->memory;
@@ -96387,7 +96725,7 @@ static void f94(module *self, u64 p0, u64 p1) {
   Bfunc:;
 }
 
-static void f95(module *self, u64 p0, u64 p1) {
+static void f98(module *self, u64 p0, u64 p1) {
   u32 l2 = 0, l3 = 0, l4 = 0, l5 = 0;
   u8 *m = self->memory;
   u32 i0, i1, i2;
@@ -96656,10 +96994,10 @@ static void f95(module *self, u64 p0, u64 p1) {
   j0 = p0;
   j1 = p1;
   j2 = 40ull;
-  f21(self, j0, j1, j2); if (NEVER(self->is_broken)) return;
+  f24(self, j0, j1, j2); if (NEVER(self->is_broken)) return;
 }
 
-static void f96(module *self, u64 p0, u64 p1, u64 p2) {
+static void f99(module *self, u64 p0, u64 p1, u64 p2) {
   u32 l16 = 0, l17 = 0, l18 = 0, l19 = 0, l20 = 0, l21 = 0, l22 = 0, l23 = 0, 
       l24 = 0, l25 = 0, l26 = 0, l27 = 0, l28 = 0, l29 = 0;
   u64 l3 = 0, l4 = 0, l5 = 0, l6 = 0, l7 = 0, l8 = 0, l9 = 0, l10 = 0, 
@@ -96733,7 +97071,7 @@ static void f96(module *self, u64 p0, u64 p1, u64 p2) {
   i2 = (u32)(j2);
   i2 = i32_load16_u(j2);
   l17 = i2;
-  f20(self, j0, i1, i2);
+  f23(self, j0, i1, i2);
   j0 = l3;
   i0 = (u32)(j0);
   i0 = i32_load8_u(j0 + 848u);
@@ -97594,7 +97932,7 @@ static void f96(module *self, u64 p0, u64 p1, u64 p2) {
     j0 = l3;
     j1 = 1744ull;
     j0 += j1;
-    i0 = f97(self, j0); m = self->memory; if (NEVER(self->is_broken)) return;
+    i0 = f100(self, j0); m = self->memory; if (NEVER(self->is_broken)) return;
     i0 = !(i0);
     if (i0) {goto B7;}
     j0 = l3;
@@ -97788,7 +98126,7 @@ static void f96(module *self, u64 p0, u64 p1, u64 p2) {
     j0 = l3;
     j1 = 1744ull;
     j0 += j1;
-    i0 = f98(self, j0); m = self->memory; if (NEVER(self->is_broken)) return;
+    i0 = f101(self, j0); m = self->memory; if (NEVER(self->is_broken)) return;
     i0 = !(i0);
     if (i0) {goto B14;}
     j0 = l3;
@@ -97809,13 +98147,13 @@ static void f96(module *self, u64 p0, u64 p1, u64 p2) {
     j0 = l3;
     i0 = (u32)(j0);
     j0 = i64_load(j0 + 1744u);
-    f158(self, j0);
+    f162(self, j0);
     B15:;
     j0 = l14;
     i0 = !(j0);
     if (i0) {goto B6;}
     j0 = l15;
-    f158(self, j0);
+    f162(self, j0);
     goto B6;
     B13:;
     j0 = l11;
@@ -98050,7 +98388,7 @@ static void f96(module *self, u64 p0, u64 p1, u64 p2) {
       j0 = l3;
       j1 = 1744ull;
       j0 += j1;
-      i0 = f98(self, j0); m = self->memory; if (NEVER(self->is_broken)) return;
+      i0 = f101(self, j0); m = self->memory; if (NEVER(self->is_broken)) return;
       i0 = !(i0);
       if (i0) {goto B17;}
       j0 = l3;
@@ -98185,7 +98523,7 @@ static void f96(module *self, u64 p0, u64 p1, u64 p2) {
       j0 = l3;
       j1 = 1744ull;
       j0 += j1;
-      i0 = f98(self, j0); m = self->memory; if (NEVER(self->is_broken)) return;
+      i0 = f101(self, j0); m = self->memory; if (NEVER(self->is_broken)) return;
       i0 = !(i0);
       if (i0) {goto B17;}
       j0 = l3;
@@ -98253,7 +98591,7 @@ static void f96(module *self, u64 p0, u64 p1, u64 p2) {
   j0 = l3;
   i0 = (u32)(j0);
   j0 = i64_load(j0 + 1744u);
-  f158(self, j0);
+  f162(self, j0);
   B25:;
   j0 = p0;
   j1 = 8ull;
@@ -98622,7 +98960,7 @@ static void f96(module *self, u64 p0, u64 p1, u64 p2) {
   j0 = l3;
   i0 = (u32)(j0);
   j0 = i64_load(j0 + 1744u);
-  f158(self, j0);
+  f162(self, j0);
   B6:;
   j0 = p0;
   j1 = 8ull;
@@ -98649,7 +98987,7 @@ static void f96(module *self, u64 p0, u64 p1, u64 p2) {
   self->g0 = j0;
 }
 
-static u32 f97(module *self, u64 p0) {
+static u32 f100(module *self, u64 p0) {
   u32 l6 = 0;
   u64 l1 = 0, l2 = 0, l3 = 0, l4 = 0, l5 = 0;
   u8 *m = self->memory;
@@ -98719,7 +99057,7 @@ static u32 f97(module *self, u64 p0) {
   j4 = 1ull;
   j3 <<= (j4 & 63);
   j4 = 1ull;
-  f157(self, j0, j1, j2, j3, j4); m = self->memory; if (NEVER(self->is_broken)) return ZAK_BROKEN;
+  f161(self, j0, j1, j2, j3, j4); m = self->memory; if (NEVER(self->is_broken)) return ZAK_BROKEN;
   j0 = l1;
   i0 = (u32)(j0);
   j0 = i64_load(j0 + 16u);
@@ -98739,7 +99077,7 @@ static u32 f97(module *self, u64 p0) {
   j2 = 1ull;
   j1 <<= (j2 & 63);
   j2 = 1ull;
-  f155(self, j0, j1, j2); m = self->memory; if (NEVER(self->is_broken)) return ZAK_BROKEN;
+  f159(self, j0, j1, j2); m = self->memory; if (NEVER(self->is_broken)) return ZAK_BROKEN;
   j0 = l1;
   i0 = (u32)(j0);
   j0 = i64_load(j0);
@@ -98774,7 +99112,7 @@ static u32 f97(module *self, u64 p0) {
   return i0;
 }
 
-static u32 f98(module *self, u64 p0) {
+static u32 f101(module *self, u64 p0) {
   u32 l6 = 0;
   u64 l1 = 0, l2 = 0, l3 = 0, l4 = 0, l5 = 0;
   u8 *m = self->memory;
@@ -98840,7 +99178,7 @@ static u32 f98(module *self, u64 p0) {
   j2 = l2;
   j3 = l3;
   j4 = 1ull;
-  f157(self, j0, j1, j2, j3, j4); m = self->memory; if (NEVER(self->is_broken)) return ZAK_BROKEN;
+  f161(self, j0, j1, j2, j3, j4); m = self->memory; if (NEVER(self->is_broken)) return ZAK_BROKEN;
   j0 = l1;
   i0 = (u32)(j0);
   j0 = i64_load(j0 + 16u);
@@ -98858,7 +99196,7 @@ static u32 f98(module *self, u64 p0) {
   j0 = l1;
   j1 = l5;
   j2 = 1ull;
-  f155(self, j0, j1, j2); m = self->memory; if (NEVER(self->is_broken)) return ZAK_BROKEN;
+  f159(self, j0, j1, j2); m = self->memory; if (NEVER(self->is_broken)) return ZAK_BROKEN;
   j0 = l1;
   i0 = (u32)(j0);
   j0 = i64_load(j0);
@@ -98893,7 +99231,7 @@ static u32 f98(module *self, u64 p0) {
   return i0;
 }
 
-static u32 f99(module *self, u64 p0, u64 p1, u64 p2, u64 p3, u64 p4) {
+static u32 f102(module *self, u64 p0, u64 p1, u64 p2, u64 p3, u64 p4) {
   u32 l11 = 0, l12 = 0, l13 = 0, l14 = 0;
   u64 l5 = 0, l6 = 0, l7 = 0, l8 = 0, l9 = 0, l10 = 0;
   u8 *m = self->memory;
@@ -98988,7 +99326,7 @@ static u32 f99(module *self, u64 p0, u64 p1, u64 p2, u64 p3, u64 p4) {
   j0 = p1;
   j1 = 2072ull;
   j0 += j1;
-  i0 = f19(self, j0);
+  i0 = f22(self, j0);
   i0 = !(i0);
   if (i0) {goto B2;}
   j0 = l5;
@@ -99023,7 +99361,7 @@ static u32 f99(module *self, u64 p0, u64 p1, u64 p2, u64 p3, u64 p4) {
   j3 = l5;
   j4 = 72ull;
   j3 += j4;
-  f90(self, j0, j1, j2, j3); m = self->memory; if (NEVER(self->is_broken)) return ZAK_BROKEN;
+  f93(self, j0, j1, j2, j3); m = self->memory; if (NEVER(self->is_broken)) return ZAK_BROKEN;
   j0 = l5;
   i0 = (u32)(j0);
   i0 = i32_load8_u(j0 + 8u);
@@ -99182,7 +99520,7 @@ static u32 f99(module *self, u64 p0, u64 p1, u64 p2, u64 p3, u64 p4) {
   i0 = !(j0);
   if (i0) {goto B2;}
   j0 = l8;
-  f158(self, j0);
+  f162(self, j0);
   goto B2;
   B4:;
   j0 = l5;
@@ -99199,7 +99537,7 @@ static u32 f99(module *self, u64 p0, u64 p1, u64 p2, u64 p3, u64 p4) {
   j0 = l5;
   i0 = (u32)(j0);
   j0 = i64_load(j0 + 32u);
-  f158(self, j0);
+  f162(self, j0);
   goto B2;
   B3:;
   i0 = 23u;
@@ -99212,7 +99550,7 @@ static u32 f99(module *self, u64 p0, u64 p1, u64 p2, u64 p3, u64 p4) {
   j0 = l5;
   i0 = (u32)(j0);
   j0 = i64_load(j0 + 32u);
-  f158(self, j0);
+  f162(self, j0);
   B2:;
   j0 = p0;
   i0 = (u32)(j0);
@@ -99959,7 +100297,7 @@ static u32 module_zak_assemble(module *self, u64 p0, u64 p1, u64 p2, u64 p3, u64
   j1 = 32ull;
   j0 += j1;
   j1 = 4ull;
-  i0 = f12(self, j0, j1); m = self->memory; if (NEVER(self->is_broken)) return ZAK_BROKEN;
+  i0 = f15(self, j0, j1); m = self->memory; if (NEVER(self->is_broken)) return ZAK_BROKEN;
   i0 = !(i0);
   if (i0) {goto B50;}
   j0 = l6;
@@ -100008,7 +100346,7 @@ static u32 module_zak_assemble(module *self, u64 p0, u64 p1, u64 p2, u64 p3, u64
   j1 = 32ull;
   j0 += j1;
   j1 = 1ull;
-  i0 = f12(self, j0, j1); m = self->memory; if (NEVER(self->is_broken)) return ZAK_BROKEN;
+  i0 = f15(self, j0, j1); m = self->memory; if (NEVER(self->is_broken)) return ZAK_BROKEN;
   i0 = !(i0);
   if (i0) {goto B53;}
   j0 = l6;
@@ -100544,7 +100882,7 @@ static u32 module_zak_assemble(module *self, u64 p0, u64 p1, u64 p2, u64 p3, u64
       j1 = 32ull;
       j0 += j1;
       j1 = 1ull;
-      i0 = f12(self, j0, j1); m = self->memory; if (NEVER(self->is_broken)) return ZAK_BROKEN;
+      i0 = f15(self, j0, j1); m = self->memory; if (NEVER(self->is_broken)) return ZAK_BROKEN;
       i0 = !(i0);
       if (i0) {goto B82;}
       j0 = l6;
@@ -100590,7 +100928,7 @@ static u32 module_zak_assemble(module *self, u64 p0, u64 p1, u64 p2, u64 p3, u64
       j1 = 32ull;
       j0 += j1;
       j1 = 2ull;
-      i0 = f12(self, j0, j1); m = self->memory; if (NEVER(self->is_broken)) return ZAK_BROKEN;
+      i0 = f15(self, j0, j1); m = self->memory; if (NEVER(self->is_broken)) return ZAK_BROKEN;
       i0 = !(i0);
       if (i0) {goto B82;}
       j0 = l6;
@@ -100936,7 +101274,7 @@ static u32 module_zak_assemble(module *self, u64 p0, u64 p1, u64 p2, u64 p3, u64
           j1 = 32ull;
           j0 += j1;
           j1 = 1ull;
-          i0 = f12(self, j0, j1); m = self->memory; if (NEVER(self->is_broken)) return ZAK_BROKEN;
+          i0 = f15(self, j0, j1); m = self->memory; if (NEVER(self->is_broken)) return ZAK_BROKEN;
           i0 = !(i0);
           if (i0) {goto B82;}
           j0 = l6;
@@ -101010,7 +101348,7 @@ static u32 module_zak_assemble(module *self, u64 p0, u64 p1, u64 p2, u64 p3, u64
         j1 += j2;
         j2 = l12;
         j3 = l14;
-        f14(self, j0, j1, j2, j3); m = self->memory; if (NEVER(self->is_broken)) return ZAK_BROKEN;
+        f17(self, j0, j1, j2, j3); m = self->memory; if (NEVER(self->is_broken)) return ZAK_BROKEN;
         j0 = l6;
         i0 = (u32)(j0);
         i0 = i32_load8_u(j0 + 16u);
@@ -101066,7 +101404,7 @@ static u32 module_zak_assemble(module *self, u64 p0, u64 p1, u64 p2, u64 p3, u64
     j1 += j2;
     j2 = l11;
     j3 = p1;
-    f14(self, j0, j1, j2, j3); m = self->memory; if (NEVER(self->is_broken)) return ZAK_BROKEN;
+    f17(self, j0, j1, j2, j3); m = self->memory; if (NEVER(self->is_broken)) return ZAK_BROKEN;
     j0 = l6;
     i0 = (u32)(j0);
     i0 = i32_load8_u(j0);
@@ -101112,7 +101450,7 @@ static u32 module_zak_assemble(module *self, u64 p0, u64 p1, u64 p2, u64 p3, u64
   j0 = l6;
   i0 = (u32)(j0);
   j0 = i64_load(j0 + 32u);
-  f158(self, j0);
+  f162(self, j0);
   goto B41;
   B50:;
   i0 = 9u;
@@ -101125,7 +101463,7 @@ static u32 module_zak_assemble(module *self, u64 p0, u64 p1, u64 p2, u64 p3, u64
   j0 = l6;
   i0 = (u32)(j0);
   j0 = i64_load(j0 + 32u);
-  f158(self, j0);
+  f162(self, j0);
   goto B41;
   B49:;
   j0 = 0ull;
@@ -101199,7 +101537,7 @@ static u32 module_zak_assemble(module *self, u64 p0, u64 p1, u64 p2, u64 p3, u64
     j1 += j2;
     j2 = l11;
     j3 = p0;
-    f14(self, j0, j1, j2, j3); m = self->memory; if (NEVER(self->is_broken)) return ZAK_BROKEN;
+    f17(self, j0, j1, j2, j3); m = self->memory; if (NEVER(self->is_broken)) return ZAK_BROKEN;
     j0 = l6;
     i0 = (u32)(j0);
     i0 = i32_load8_u(j0);
@@ -101262,7 +101600,7 @@ static u32 module_zak_assemble(module *self, u64 p0, u64 p1, u64 p2, u64 p3, u64
   j0 = l6;
   i0 = (u32)(j0);
   j0 = i64_load(j0 + 32u);
-  f158(self, j0);
+  f162(self, j0);
   goto B41;
   B45:;
   j0 = l6;
@@ -101286,13 +101624,13 @@ static u32 module_zak_assemble(module *self, u64 p0, u64 p1, u64 p2, u64 p3, u64
   i0 = !(j0);
   if (i0) {goto B1;}
   j0 = l16;
-  f158(self, j0);
+  f162(self, j0);
   goto B1;
   B43:;
   j0 = l6;
   i0 = (u32)(j0);
   j0 = i64_load(j0 + 32u);
-  f158(self, j0);
+  f162(self, j0);
   j0 = l9;
   l12 = j0;
   goto B41;
@@ -101327,7 +101665,7 @@ static u32 module_zak_assemble(module *self, u64 p0, u64 p1, u64 p2, u64 p3, u64
   j1 = 32ull;
   j0 += j1;
   j1 = p0;
-  i0 = f12(self, j0, j1); m = self->memory; if (NEVER(self->is_broken)) return ZAK_BROKEN;
+  i0 = f15(self, j0, j1); m = self->memory; if (NEVER(self->is_broken)) return ZAK_BROKEN;
   i0 = !(i0);
   if (i0) {goto B113;}
   j0 = l6;
@@ -101488,7 +101826,7 @@ static u32 module_zak_assemble(module *self, u64 p0, u64 p1, u64 p2, u64 p3, u64
   j0 = l6;
   i0 = (u32)(j0);
   j0 = i64_load(j0 + 32u);
-  f158(self, j0);
+  f162(self, j0);
   B119:;
   j0 = 0ull;
   p1 = j0;
@@ -101501,7 +101839,7 @@ static u32 module_zak_assemble(module *self, u64 p0, u64 p1, u64 p2, u64 p3, u64
   i0 = !(j0);
   if (i0) {goto B120;}
   j0 = l16;
-  f158(self, j0);
+  f162(self, j0);
   B120:;
   i0 = l27;
   if (i0) {goto B40;}
@@ -101673,7 +102011,7 @@ static u32 module_zak_assemble(module *self, u64 p0, u64 p1, u64 p2, u64 p3, u64
   i0 = !(j0);
   if (i0) {goto B0;}
   j0 = l20;
-  f158(self, j0);
+  f162(self, j0);
   goto B0;
   B39:;
   j0 = p5;
@@ -101790,7 +102128,7 @@ static u32 module_zak_block(module *self, u64 p0, u64 p1, u64 p2) {
   j2 = i64_load16_u(j2);
   p1 = j2;
   j1 |= j2;
-  f18(self, j0, j1);
+  f21(self, j0, j1);
   j0 = l3;
   i0 = (u32)(j0);
   i0 = i32_load8_u(j0);
@@ -102519,24 +102857,24 @@ static u32 module_zak_close(module *self, u64 p0) {
   j0 = i64_load(j0 + 16u);
   l12 = j0;
   j0 = l4;
-  f158(self, j0);
+  f162(self, j0);
   j0 = l12;
   i0 = !(j0);
   if (i0) {goto B2;}
   j0 = l11;
-  f158(self, j0);
+  f162(self, j0);
   B2:;
   j0 = l9;
   i0 = !(j0);
   if (i0) {goto B3;}
   j0 = l10;
-  f158(self, j0);
+  f162(self, j0);
   B3:;
   j0 = l7;
   i0 = !(j0);
   if (i0) {goto B4;}
   j0 = l8;
-  f158(self, j0);
+  f162(self, j0);
   B4:;
   i0 = l3;
   i1 = 255u;
@@ -102552,12 +102890,12 @@ static u32 module_zak_close(module *self, u64 p0) {
   j0 = i64_load(j0 + 16u);
   l4 = j0;
   j0 = l6;
-  f158(self, j0);
+  f162(self, j0);
   j0 = l4;
   i0 = !(j0);
   if (i0) {goto B5;}
   j0 = l7;
-  f158(self, j0);
+  f162(self, j0);
   B5:;
   i0 = l1;
   i1 = 255u;
@@ -102573,12 +102911,12 @@ static u32 module_zak_close(module *self, u64 p0) {
   j0 = i64_load(j0 + 16u);
   l4 = j0;
   j0 = l5;
-  f158(self, j0);
+  f162(self, j0);
   j0 = l4;
   i0 = !(j0);
   if (i0) {goto B6;}
   j0 = l6;
-  f158(self, j0);
+  f162(self, j0);
   B6:;
   i0 = 0u;
   l1 = i0;
@@ -102596,12 +102934,12 @@ static u32 module_zak_close(module *self, u64 p0) {
   j0 = i64_load(j0 + 16u);
   l4 = j0;
   j0 = p0;
-  f158(self, j0);
+  f162(self, j0);
   j0 = l4;
   i0 = !(j0);
   if (i0) {goto B0;}
   j0 = l5;
-  f158(self, j0);
+  f162(self, j0);
   B0:;
   i0 = l1;
   return i0;
@@ -102653,7 +102991,7 @@ static u32 module_zak_cycles(module *self, u64 p0, u64 p1, u64 p2, u64 p3, u64 p
   j0 = l8;
   j1 = 2072ull;
   j0 += j1;
-  i0 = f19(self, j0);
+  i0 = f22(self, j0);
   if (i0) {goto B3;}
   i0 = 27u;
   l23 = i0;
@@ -102887,7 +103225,7 @@ static u32 module_zak_cycles(module *self, u64 p0, u64 p1, u64 p2, u64 p3, u64 p
   j0 += j1;
   j1 = p1;
   j2 = 1ull;
-  f155(self, j0, j1, j2); m = self->memory; if (NEVER(self->is_broken)) return ZAK_BROKEN;
+  f159(self, j0, j1, j2); m = self->memory; if (NEVER(self->is_broken)) return ZAK_BROKEN;
   j0 = l7;
   i0 = (u32)(j0);
   j0 = i64_load(j0 + 32u);
@@ -102915,7 +103253,7 @@ static u32 module_zak_cycles(module *self, u64 p0, u64 p1, u64 p2, u64 p3, u64 p
   j0 += j1;
   j1 = 265046ull;
   j2 = 1ull;
-  f155(self, j0, j1, j2); m = self->memory; if (NEVER(self->is_broken)) return ZAK_BROKEN;
+  f159(self, j0, j1, j2); m = self->memory; if (NEVER(self->is_broken)) return ZAK_BROKEN;
   j0 = l7;
   i0 = (u32)(j0);
   j0 = i64_load(j0 + 16u);
@@ -102958,11 +103296,11 @@ static u32 module_zak_cycles(module *self, u64 p0, u64 p1, u64 p2, u64 p3, u64 p
   j0 = l8;
   j1 = l10;
   j2 = 0ull;
-  f21(self, j0, j1, j2); if (NEVER(self->is_broken)) return ZAK_BROKEN;
+  f24(self, j0, j1, j2); if (NEVER(self->is_broken)) return ZAK_BROKEN;
   j0 = l7;
   j1 = 6208ull;
   j0 += j1;
-  f22(self, j0); m = self->memory; if (NEVER(self->is_broken)) return ZAK_BROKEN;
+  f25(self, j0); m = self->memory; if (NEVER(self->is_broken)) return ZAK_BROKEN;
   j0 = l7;
   i0 = (u32)(j0);
   i0 = i32_load8_u(j0 + 6208u);
@@ -102999,7 +103337,7 @@ static u32 module_zak_cycles(module *self, u64 p0, u64 p1, u64 p2, u64 p3, u64 p
   j0 += j1;
   j1 = l10;
   j2 = p1;
-  f24(self, j0, j1, j2); m = self->memory; if (NEVER(self->is_broken)) return ZAK_BROKEN;
+  f27(self, j0, j1, j2); m = self->memory; if (NEVER(self->is_broken)) return ZAK_BROKEN;
   j0 = l7;
   i0 = (u32)(j0);
   j1 = l7;
@@ -103100,7 +103438,7 @@ static u32 module_zak_cycles(module *self, u64 p0, u64 p1, u64 p2, u64 p3, u64 p
   i0 = l23;
   if (i0) {goto B16;}
   j0 = l10;
-  f158(self, j0);
+  f162(self, j0);
   B16:;
   j0 = p5;
   j1 = 16777216ull;
@@ -103211,7 +103549,7 @@ static u32 module_zak_cycles(module *self, u64 p0, u64 p1, u64 p2, u64 p3, u64 p
   i0 = l23;
   if (i0) {goto B6;}
   j0 = l10;
-  f158(self, j0);
+  f162(self, j0);
   i0 = 23u;
   l23 = i0;
   goto B2;
@@ -103219,7 +103557,7 @@ static u32 module_zak_cycles(module *self, u64 p0, u64 p1, u64 p2, u64 p3, u64 p
   j0 = l7;
   j1 = p1;
   j2 = 1ull;
-  f155(self, j0, j1, j2); m = self->memory; if (NEVER(self->is_broken)) return ZAK_BROKEN;
+  f159(self, j0, j1, j2); m = self->memory; if (NEVER(self->is_broken)) return ZAK_BROKEN;
   j0 = l7;
   i0 = (u32)(j0);
   j0 = i64_load(j0);
@@ -103246,19 +103584,19 @@ static u32 module_zak_cycles(module *self, u64 p0, u64 p1, u64 p2, u64 p3, u64 p
   i0 = !(j0);
   if (i0) {goto B19;}
   j0 = l13;
-  f158(self, j0);
+  f162(self, j0);
   B19:;
   j0 = l19;
   i0 = !(j0);
   if (i0) {goto B20;}
   j0 = l21;
-  f158(self, j0);
+  f162(self, j0);
   B20:;
   j0 = l15;
   i0 = !(j0);
   if (i0) {goto B6;}
   j0 = l17;
-  f158(self, j0);
+  f162(self, j0);
   i0 = 23u;
   l23 = i0;
   goto B2;
@@ -103569,7 +103907,7 @@ static u32 module_zak_cycles(module *self, u64 p0, u64 p1, u64 p2, u64 p3, u64 p
   j6 = i8 ? j6 : j7;
   j5 += j6;
   j6 = p3;
-  f25(self, j0, j1, j2, j3, j4, j5, j6); m = self->memory; if (NEVER(self->is_broken)) return ZAK_BROKEN;
+  f28(self, j0, j1, j2, j3, j4, j5, j6); m = self->memory; if (NEVER(self->is_broken)) return ZAK_BROKEN;
   j0 = l7;
   i0 = (u32)(j0);
   i0 = i32_load8_u(j0 + 48u);
@@ -103617,25 +103955,25 @@ static u32 module_zak_cycles(module *self, u64 p0, u64 p1, u64 p2, u64 p3, u64 p
   i0 = !(j0);
   if (i0) {goto B23;}
   j0 = l10;
-  f158(self, j0);
+  f162(self, j0);
   B23:;
   j0 = l15;
   i0 = !(j0);
   if (i0) {goto B24;}
   j0 = l17;
-  f158(self, j0);
+  f162(self, j0);
   B24:;
   j0 = l11;
   i0 = !(j0);
   if (i0) {goto B25;}
   j0 = l13;
-  f158(self, j0);
+  f162(self, j0);
   B25:;
   j0 = p3;
   i0 = !(j0);
   if (i0) {goto B5;}
   j0 = l19;
-  f158(self, j0);
+  f162(self, j0);
   goto B5;
   B22:;
   j0 = l7;
@@ -103646,19 +103984,19 @@ static u32 module_zak_cycles(module *self, u64 p0, u64 p1, u64 p2, u64 p3, u64 p
   i0 = !(j0);
   if (i0) {goto B26;}
   j0 = l17;
-  f158(self, j0);
+  f162(self, j0);
   B26:;
   j0 = l11;
   i0 = !(j0);
   if (i0) {goto B27;}
   j0 = l13;
-  f158(self, j0);
+  f162(self, j0);
   B27:;
   j0 = p3;
   i0 = !(j0);
   if (i0) {goto B28;}
   j0 = l19;
-  f158(self, j0);
+  f162(self, j0);
   B28:;
   j0 = p1;
   p3 = j0;
@@ -103696,19 +104034,19 @@ static u32 module_zak_cycles(module *self, u64 p0, u64 p1, u64 p2, u64 p3, u64 p
   j0 = l7;
   i0 = (u32)(j0);
   j0 = i64_load(j0 + 2112u);
-  f158(self, j0);
+  f162(self, j0);
   B30:;
   j0 = p5;
   i0 = !(j0);
   if (i0) {goto B31;}
   j0 = p3;
-  f158(self, j0);
+  f162(self, j0);
   B31:;
   j0 = p1;
   i0 = !(j0);
   if (i0) {goto B32;}
   j0 = p2;
-  f158(self, j0);
+  f162(self, j0);
   B32:;
   j0 = l7;
   i0 = (u32)(j0);
@@ -103718,7 +104056,7 @@ static u32 module_zak_cycles(module *self, u64 p0, u64 p1, u64 p2, u64 p3, u64 p
   j0 = l7;
   i0 = (u32)(j0);
   j0 = i64_load(j0 + 4184u);
-  f158(self, j0);
+  f162(self, j0);
   B33:;
   i0 = l23;
   i1 = 1u;
@@ -103750,19 +104088,19 @@ static u32 module_zak_cycles(module *self, u64 p0, u64 p1, u64 p2, u64 p3, u64 p
   j0 = l7;
   i0 = (u32)(j0);
   j0 = i64_load(j0 + 2112u);
-  f158(self, j0);
+  f162(self, j0);
   B34:;
   j0 = p5;
   i0 = !(j0);
   if (i0) {goto B35;}
   j0 = p3;
-  f158(self, j0);
+  f162(self, j0);
   B35:;
   j0 = p1;
   i0 = !(j0);
   if (i0) {goto B36;}
   j0 = p2;
-  f158(self, j0);
+  f162(self, j0);
   B36:;
   j0 = l7;
   i0 = (u32)(j0);
@@ -103772,7 +104110,7 @@ static u32 module_zak_cycles(module *self, u64 p0, u64 p1, u64 p2, u64 p3, u64 p
   j0 = l7;
   i0 = (u32)(j0);
   j0 = i64_load(j0 + 4184u);
-  f158(self, j0);
+  f162(self, j0);
   B6:;
   i0 = 23u;
   l23 = i0;
@@ -103813,12 +104151,12 @@ static u32 module_zak_cycles(module *self, u64 p0, u64 p1, u64 p2, u64 p3, u64 p
   j0 = i64_load(j0 + 16u);
   l15 = j0;
   j0 = l11;
-  f158(self, j0);
+  f162(self, j0);
   j0 = l15;
   i0 = !(j0);
   if (i0) {goto B37;}
   j0 = l19;
-  f158(self, j0);
+  f162(self, j0);
   B37:;
   j0 = p1;
   j1 = 16777216ull;
@@ -103979,7 +104317,7 @@ static u32 module_zak_cycles(module *self, u64 p0, u64 p1, u64 p2, u64 p3, u64 p
   i0 = !(j0);
   if (i0) {goto B2;}
   j0 = l10;
-  f158(self, j0);
+  f162(self, j0);
   B2:;
   j0 = p0;
   i0 = (u32)(j0);
@@ -104199,7 +104537,7 @@ static u32 module_zak_fill_bytes(module *self, u64 p0, u32 p1, u32 p2, u64 p3, u
     i1 = (u32)(j1);
     i1 = i32_load8_u(j1);
     i2 = p2;
-    i0 = f46(self, j0, i1, i2);
+    i0 = f49(self, j0, i1, i2);
     l13 = i0;
     j0 = l16;
     j1 = 68ull;
@@ -104302,7 +104640,7 @@ static u32 module_zak_fill_bytes(module *self, u64 p0, u32 p1, u32 p2, u64 p3, u
   i2 = l7;
   i3 = p2;
   i4 = p2;
-  f50(self, j0, i1, i2, i3, i4);
+  f53(self, j0, i1, i2, i3, i4);
   B2:;
   j0 = p0;
   i0 = (u32)(j0);
@@ -104384,7 +104722,7 @@ static u32 module_zak_frame(module *self, u64 p0, u64 p1, u64 p2, u64 p3) {
   i64_store(j0, j1);
   j0 = l4;
   j1 = l5;
-  f51(self, j0, j1); m = self->memory; if (NEVER(self->is_broken)) return ZAK_BROKEN;
+  f54(self, j0, j1); m = self->memory; if (NEVER(self->is_broken)) return ZAK_BROKEN;
   j0 = l4;
   i0 = (u32)(j0);
   i0 = i32_load8_u(j0);
@@ -105167,7 +105505,7 @@ static u32 module_zak_frame_words(module *self, u64 p0, u32 p1, u64 p2, u64 p3, 
   j1 = 16ull;
   j0 += j1;
   j1 = l7;
-  f51(self, j0, j1); m = self->memory; if (NEVER(self->is_broken)) return ZAK_BROKEN;
+  f54(self, j0, j1); m = self->memory; if (NEVER(self->is_broken)) return ZAK_BROKEN;
   i0 = 24u;
   l15 = i0;
   j0 = l6;
@@ -105476,7 +105814,7 @@ static u32 module_zak_frame_xrgb(module *self, u64 p0, u64 p1, u64 p2, u64 p3, u
   j1 = 16ull;
   j0 += j1;
   j1 = l6;
-  f51(self, j0, j1); m = self->memory; if (NEVER(self->is_broken)) return ZAK_BROKEN;
+  f54(self, j0, j1); m = self->memory; if (NEVER(self->is_broken)) return ZAK_BROKEN;
   i0 = 24u;
   l13 = i0;
   j0 = l5;
@@ -105718,7 +106056,7 @@ static u32 module_zak_get(module *self, u64 p0, u32 p1, u64 p2) {
   j0 += j1;
   j1 = l4;
   i2 = p1;
-  f34(self, j0, j1, i2);
+  f37(self, j0, j1, i2);
   j0 = l3;
   i0 = (u32)(j0);
   i0 = i32_load8_u(j0 + 9u);
@@ -105915,7 +106253,7 @@ static u32 module_zak_get_bytes(module *self, u64 p0, u32 p1, u64 p2, u64 p3, u3
     j0 += j1;
     j1 = l8;
     i2 = p1;
-    f34(self, j0, j1, i2);
+    f37(self, j0, j1, i2);
     j0 = p2;
     j1 = p3;
     j0 += j1;
@@ -106221,7 +106559,7 @@ static u32 module_zak_get_bytes(module *self, u64 p0, u32 p1, u64 p2, u64 p3, u3
   i2 = p1;
   j3 = p2;
   j4 = p3;
-  f52(self, j0, j1, i2, j3, j4); if (NEVER(self->is_broken)) return ZAK_BROKEN;
+  f55(self, j0, j1, i2, j3, j4); if (NEVER(self->is_broken)) return ZAK_BROKEN;
   i0 = l11;
   i1 = p4;
   i2 = 4294967295u;
@@ -106411,7 +106749,7 @@ static u32 module_zak_get_word(module *self, u64 p0, u32 p1, u64 p2) {
   j0 += j1;
   j1 = l4;
   i2 = p1;
-  f34(self, j0, j1, i2);
+  f37(self, j0, j1, i2);
   j0 = l3;
   i0 = (u32)(j0);
   i0 = i32_load8_u(j0 + 9u);
@@ -106423,7 +106761,7 @@ static u32 module_zak_get_word(module *self, u64 p0, u32 p1, u64 p2) {
   j0 = l3;
   j1 = l4;
   i2 = l8;
-  f34(self, j0, j1, i2);
+  f37(self, j0, j1, i2);
   j0 = l3;
   i0 = (u32)(j0);
   i0 = i32_load8_u(j0 + 1u);
@@ -106554,7 +106892,7 @@ static u32 module_zak_in(module *self, u64 p0, u32 p1, u64 p2) {
   j0 = l3;
   j1 = l4;
   i2 = p1;
-  f26(self, j0, j1, i2); if (NEVER(self->is_broken)) return ZAK_BROKEN;
+  f29(self, j0, j1, i2); if (NEVER(self->is_broken)) return ZAK_BROKEN;
   i0 = 0u;
   l6 = i0;
   j0 = l3;
@@ -106703,7 +107041,7 @@ static u32 module_zak_in(module *self, u64 p0, u32 p1, u64 p2) {
   if (i0) {goto B8;}
   j0 = l4;
   i1 = l6;
-  i0 = f53(self, j0, i1); if (NEVER(self->is_broken)) return ZAK_BROKEN;
+  i0 = f56(self, j0, i1); if (NEVER(self->is_broken)) return ZAK_BROKEN;
   i1 = 255u;
   i0 &= i1;
   l5 = i0;
@@ -106715,7 +107053,7 @@ static u32 module_zak_in(module *self, u64 p0, u32 p1, u64 p2) {
   j1 = l4;
   i2 = l6;
   i3 = p1;
-  f54(self, j0, j1, i2, i3); m = self->memory; if (NEVER(self->is_broken)) return ZAK_BROKEN;
+  f57(self, j0, j1, i2, i3); m = self->memory; if (NEVER(self->is_broken)) return ZAK_BROKEN;
   j0 = l3;
   i0 = (u32)(j0);
   i0 = i32_load8_u(j0 + 13u);
@@ -106826,7 +107164,7 @@ static u32 module_zak_in_word(module *self, u64 p0, u32 p1, u64 p2) {
   j0 += j1;
   j1 = l4;
   i2 = p1;
-  f55(self, j0, j1, i2); if (NEVER(self->is_broken)) return ZAK_BROKEN;
+  f58(self, j0, j1, i2); if (NEVER(self->is_broken)) return ZAK_BROKEN;
   j0 = l3;
   i0 = (u32)(j0);
   i0 = i32_load8_u(j0 + 12u);
@@ -106921,7 +107259,7 @@ static u32 module_zak_int10(module *self, u64 p0, u64 p1, u64 p2, u64 p3, u64 p4
   j1 = 2072ull;
   j0 += j1;
   l9 = j0;
-  i0 = f19(self, j0);
+  i0 = f22(self, j0);
   i0 = !(i0);
   if (i0) {goto B2;}
   j0 = l7;
@@ -106963,7 +107301,7 @@ static u32 module_zak_int10(module *self, u64 p0, u64 p1, u64 p2, u64 p3, u64 p4
   j6 = i8 ? j6 : j7;
   j5 += j6;
   j6 = p3;
-  f57(self, j0, j1, j2, j3, j4, j5, j6); m = self->memory; if (NEVER(self->is_broken)) return ZAK_BROKEN;
+  f60(self, j0, j1, j2, j3, j4, j5, j6); m = self->memory; if (NEVER(self->is_broken)) return ZAK_BROKEN;
   j0 = l7;
   i0 = (u32)(j0);
   i0 = i32_load8_u(j0 + 8u);
@@ -107218,12 +107556,12 @@ static u32 module_zak_int10(module *self, u64 p0, u64 p1, u64 p2, u64 p3, u64 p4
   j0 = i64_load(j0 + 16u);
   p1 = j0;
   j0 = p2;
-  f158(self, j0);
+  f162(self, j0);
   j0 = p1;
   i0 = !(j0);
   if (i0) {goto B2;}
   j0 = p3;
-  f158(self, j0);
+  f162(self, j0);
   goto B2;
   B3:;
   i0 = 23u;
@@ -107773,7 +108111,7 @@ static u32 module_zak_move_bytes(module *self, u64 p0, u32 p1, u32 p2, u64 p3, u
     i2 = l9;
     i3 = p4;
     i2 += i3;
-    f34(self, j0, j1, i2);
+    f37(self, j0, j1, i2);
     j0 = l7;
     j1 = 2003ull;
     j0 += j1;
@@ -107835,7 +108173,7 @@ static u32 module_zak_move_bytes(module *self, u64 p0, u32 p1, u32 p2, u64 p3, u
     i5 = 255u;
     i4 &= i5;
     i2 = i4 ? i2 : i3;
-    i0 = f46(self, j0, i1, i2);
+    i0 = f49(self, j0, i1, i2);
     l15 = i0;
     j0 = l7;
     j1 = 68ull;
@@ -107937,7 +108275,7 @@ static u32 module_zak_move_bytes(module *self, u64 p0, u32 p1, u32 p2, u64 p3, u
   i1 = p1;
   i2 = p2;
   i3 = l9;
-  f66(self, j0, i1, i2, i3);
+  f69(self, j0, i1, i2, i3);
   i0 = 0u;
   l8 = i0;
   B2:;
@@ -108023,7 +108361,7 @@ static u32 module_zak_open(module *self, u64 p0, u64 p1, u64 p2) {
   j2 = i4 ? j2 : j3;
   j1 += j2;
   j2 = p2;
-  f69(self, j0, j1, j2); m = self->memory; if (NEVER(self->is_broken)) return ZAK_BROKEN;
+  f72(self, j0, j1, j2); m = self->memory; if (NEVER(self->is_broken)) return ZAK_BROKEN;
   j0 = l3;
   i0 = (u32)(j0);
   j0 = i64_load(j0 + 2120u);
@@ -108072,7 +108410,7 @@ static u32 module_zak_open(module *self, u64 p0, u64 p1, u64 p2) {
   j1 = l3;
   j2 = 2064ull;
   j1 += j2;
-  f70(self, j0, j1); m = self->memory; if (NEVER(self->is_broken)) return ZAK_BROKEN;
+  f73(self, j0, j1); m = self->memory; if (NEVER(self->is_broken)) return ZAK_BROKEN;
   j0 = l3;
   i0 = (u32)(j0);
   j1 = l3;
@@ -108269,7 +108607,7 @@ static u32 module_zak_open(module *self, u64 p0, u64 p1, u64 p2) {
   j0 = l3;
   j1 = 2160ull;
   j2 = 8ull;
-  f155(self, j0, j1, j2); m = self->memory; if (NEVER(self->is_broken)) return ZAK_BROKEN;
+  f159(self, j0, j1, j2); m = self->memory; if (NEVER(self->is_broken)) return ZAK_BROKEN;
   j0 = l3;
   i0 = (u32)(j0);
   j0 = i64_load(j0);
@@ -108492,19 +108830,19 @@ static u32 module_zak_open(module *self, u64 p0, u64 p1, u64 p2) {
   i0 = !(j0);
   if (i0) {goto B3;}
   j0 = p1;
-  f158(self, j0);
+  f162(self, j0);
   B3:;
   j0 = l11;
   i0 = !(j0);
   if (i0) {goto B4;}
   j0 = l13;
-  f158(self, j0);
+  f162(self, j0);
   B4:;
   j0 = l7;
   i0 = !(j0);
   if (i0) {goto B5;}
   j0 = l9;
-  f158(self, j0);
+  f162(self, j0);
   B5:;
   i0 = l17;
   i1 = 255u;
@@ -108521,12 +108859,12 @@ static u32 module_zak_open(module *self, u64 p0, u64 p1, u64 p2) {
   j0 = i64_load(j0 + 16u);
   p0 = j0;
   j0 = l14;
-  f158(self, j0);
+  f162(self, j0);
   j0 = p0;
   i0 = !(j0);
   if (i0) {goto B6;}
   j0 = p1;
-  f158(self, j0);
+  f162(self, j0);
   B6:;
   i0 = l18;
   i1 = 255u;
@@ -108543,12 +108881,12 @@ static u32 module_zak_open(module *self, u64 p0, u64 p1, u64 p2) {
   j0 = i64_load(j0 + 16u);
   p0 = j0;
   j0 = l15;
-  f158(self, j0);
+  f162(self, j0);
   j0 = p0;
   i0 = !(j0);
   if (i0) {goto B7;}
   j0 = p1;
-  f158(self, j0);
+  f162(self, j0);
   B7:;
   i0 = 23u;
   l17 = i0;
@@ -108567,12 +108905,12 @@ static u32 module_zak_open(module *self, u64 p0, u64 p1, u64 p2) {
   j0 = i64_load(j0 + 16u);
   p0 = j0;
   j0 = l16;
-  f158(self, j0);
+  f162(self, j0);
   j0 = p0;
   i0 = !(j0);
   if (i0) {goto B0;}
   j0 = p1;
-  f158(self, j0);
+  f162(self, j0);
   goto B0;
   B1:;
   i0 = 22u;
@@ -108727,7 +109065,7 @@ static u32 module_zak_out(module *self, u64 p0, u32 p1, u32 p2) {
   j1 = l4;
   i2 = l5;
   i3 = p2;
-  f44(self, j0, j1, i2, i3);
+  f47(self, j0, j1, i2, i3);
   j0 = l3;
   i0 = (u32)(j0);
   i0 = i32_load8_u(j0 + 9u);
@@ -108821,7 +109159,7 @@ static u32 module_zak_out(module *self, u64 p0, u32 p1, u32 p2) {
   j1 = l4;
   i2 = l7;
   i3 = p2;
-  f44(self, j0, j1, i2, i3);
+  f47(self, j0, j1, i2, i3);
   i0 = 0u;
   l6 = i0;
   j0 = l3;
@@ -108979,7 +109317,7 @@ static u32 module_zak_out_word(module *self, u64 p0, u32 p1, u32 p2) {
   j1 = l4;
   i2 = p1;
   i3 = p2;
-  f71(self, j0, j1, i2, i3);
+  f74(self, j0, j1, i2, i3);
   i0 = 0u;
   l5 = i0;
   j0 = l3;
@@ -108998,7 +109336,7 @@ static u32 module_zak_out_word(module *self, u64 p0, u32 p1, u32 p2) {
   j1 = l4;
   i2 = p1;
   i3 = p2;
-  f71(self, j0, j1, i2, i3);
+  f74(self, j0, j1, i2, i3);
   j0 = l3;
   i0 = (u32)(j0);
   i0 = i32_load8_u(j0 + 9u);
@@ -109050,6 +109388,366 @@ static u32 module_zak_out_word(module *self, u64 p0, u32 p1, u32 p2) {
   return i0;
 }
 
+static u32 module_zak_peek(module *self, u64 p0, u64 p1, u64 p2, u64 p3, u64 p4) {
+  u32 l5 = 0;
+  u64 l6 = 0, l7 = 0, l8 = 0, l9 = 0, l10 = 0, l11 = 0, l12 = 0, l13 = 0, 
+      l14 = 0, l15 = 0;
+  u8 *m = self->memory;
+  u32 i0, i1, i2, i3;
+  u64 j0, j1, j2, j3;
+  i0 = 20u;
+  l5 = i0;
+  j0 = p0;
+  i0 = (u32)(j0);
+  i0 = i32_load8_u(j0);
+  i1 = 1u;
+  i0 = i0 != i1;
+  if (i0) {goto B0;}
+  j0 = p0;
+  j1 = 4ull;
+  j0 += j1;
+  i0 = (u32)(j0);
+  i0 = i32_load(j0);
+  i0 = !(i0);
+  if (i0) {goto B1;}
+  j0 = p0;
+  f1(self, j0); m = self->memory; if (NEVER(self->is_broken)) return ZAK_BROKEN;
+  B1:;
+  j0 = p0;
+  i0 = (u32)(j0);
+  j1 = 0ull;
+  i64_store(j0, j1);
+  j0 = p0;
+  i0 = (u32)(j0);
+  j0 = i64_load(j0 + 8u);
+  l6 = j0;
+  j0 = p0;
+  i0 = (u32)(j0);
+  j1 = 0ull;
+  i64_store(j0 + 8, j1);
+  j0 = l6;
+  j1 = 2032ull;
+  j0 += j1;
+  i0 = (u32)(j0);
+  j0 = i64_load(j0);
+  l7 = j0;
+  j0 = l6;
+  j1 = 2008ull;
+  j0 += j1;
+  i0 = (u32)(j0);
+  j0 = i64_load(j0);
+  l8 = j0;
+  j0 = p1;
+  j1 = l6;
+  j2 = 2040ull;
+  j1 += j2;
+  i1 = (u32)(j1);
+  j1 = i64_load(j1);
+  l9 = j1;
+  j0 -= j1;
+  j1 = l6;
+  j2 = 2048ull;
+  j1 += j2;
+  i1 = (u32)(j1);
+  j1 = i64_load(j1);
+  l10 = j1;
+  j2 = 2ull;
+  j1 <<= (j2 & 63);
+  l11 = j1;
+  i0 = j0 >= j1;
+  if (i0) {goto B3;}
+  j0 = l10;
+  i0 = !(j0);
+  if (i0) {goto B2;}
+  j0 = l10;
+  j1 = 3ull;
+  j0 &= j1;
+  l12 = j0;
+  j0 = 0ull;
+  l13 = j0;
+  j0 = l10;
+  j1 = 4ull;
+  i0 = j0 < j1;
+  if (i0) {goto B4;}
+  j0 = l10;
+  j1 = 18446744073709551612ull;
+  j0 &= j1;
+  l14 = j0;
+  j0 = 0ull;
+  l10 = j0;
+  j0 = 0ull;
+  l13 = j0;
+  L5: 
+    j0 = p1;
+    j1 = l10;
+    j0 += j1;
+    l11 = j0;
+    i0 = (u32)(j0);
+    j1 = l9;
+    j2 = l10;
+    j1 += j2;
+    l15 = j1;
+    i1 = (u32)(j1);
+    i1 = i32_load(j1);
+    i32_store(j0, i1);
+    j0 = l11;
+    j1 = 4ull;
+    j0 += j1;
+    i0 = (u32)(j0);
+    j1 = l15;
+    j2 = 4ull;
+    j1 += j2;
+    i1 = (u32)(j1);
+    i1 = i32_load(j1);
+    i32_store(j0, i1);
+    j0 = l11;
+    j1 = 8ull;
+    j0 += j1;
+    i0 = (u32)(j0);
+    j1 = l15;
+    j2 = 8ull;
+    j1 += j2;
+    i1 = (u32)(j1);
+    i1 = i32_load(j1);
+    i32_store(j0, i1);
+    j0 = l11;
+    j1 = 12ull;
+    j0 += j1;
+    i0 = (u32)(j0);
+    j1 = l15;
+    j2 = 12ull;
+    j1 += j2;
+    i1 = (u32)(j1);
+    i1 = i32_load(j1);
+    i32_store(j0, i1);
+    j0 = l10;
+    j1 = 16ull;
+    j0 += j1;
+    l10 = j0;
+    j0 = l14;
+    j1 = l13;
+    j2 = 4ull;
+    j1 += j2;
+    l13 = j1;
+    i0 = j0 != j1;
+    if (i0) {goto L5;}
+  j0 = l12;
+  i0 = !(j0);
+  if (i0) {goto B2;}
+  B4:;
+  j0 = p1;
+  j1 = l13;
+  j2 = 2ull;
+  j1 <<= (j2 & 63);
+  l11 = j1;
+  j0 += j1;
+  l10 = j0;
+  j0 = l9;
+  j1 = l11;
+  j0 += j1;
+  l11 = j0;
+  L6: 
+    j0 = l10;
+    i0 = (u32)(j0);
+    j1 = l11;
+    i1 = (u32)(j1);
+    i1 = i32_load(j1);
+    i32_store(j0, i1);
+    j0 = l10;
+    j1 = 4ull;
+    j0 += j1;
+    l10 = j0;
+    j0 = l11;
+    j1 = 4ull;
+    j0 += j1;
+    l11 = j0;
+    j0 = l12;
+    j1 = 18446744073709551615ull;
+    j0 += j1;
+    l12 = j0;
+    j1 = 0ull;
+    i0 = j0 != j1;
+    if (i0) {goto L6;}
+    goto B2;
+  { self->is_broken = true; return ZAK_BROKEN; }
+  B3:;
+  j0 = l11;
+  i0 = !(j0);
+  if (i0) {goto B2;}
+  j0 = p1;
+  i0 = (u32)(j0);
+  j1 = l9;
+  i1 = (u32)(j1);
+  j2 = l11;
+  i2 = (u32)(j2);
+  memory_copy(j0, j1, j2);
+  B2:;
+  j0 = p4;
+  i0 = (u32)(j0);
+  j1 = l7;
+  i64_store(j0, j1);
+  j0 = p3;
+  j1 = l7;
+  i0 = j0 >= j1;
+  if (i0) {goto B8;}
+  i0 = 25u;
+  l5 = i0;
+  goto B7;
+  B8:;
+  j0 = p2;
+  j1 = 4096ull;
+  j2 = 0ull;
+  j3 = p2;
+  i3 = !(j3);
+  j1 = i3 ? j1 : j2;
+  l9 = j1;
+  j0 += j1;
+  l13 = j0;
+  j1 = l8;
+  j0 -= j1;
+  j1 = l7;
+  i0 = j0 >= j1;
+  if (i0) {goto B10;}
+  j0 = l7;
+  j1 = 3ull;
+  j0 &= j1;
+  l12 = j0;
+  j0 = 0ull;
+  l11 = j0;
+  j0 = l7;
+  j1 = 4ull;
+  i0 = j0 < j1;
+  if (i0) {goto B11;}
+  j0 = l7;
+  j1 = 18446744073709551612ull;
+  j0 &= j1;
+  p1 = j0;
+  j0 = 0ull;
+  l11 = j0;
+  L12: 
+    j0 = l13;
+    j1 = l11;
+    j0 += j1;
+    l10 = j0;
+    i0 = (u32)(j0);
+    j1 = l8;
+    j2 = l11;
+    j1 += j2;
+    l15 = j1;
+    i1 = (u32)(j1);
+    i1 = i32_load8_u(j1);
+    i32_store8(j0, i1);
+    j0 = l10;
+    j1 = 1ull;
+    j0 += j1;
+    i0 = (u32)(j0);
+    j1 = l15;
+    j2 = 1ull;
+    j1 += j2;
+    i1 = (u32)(j1);
+    i1 = i32_load8_u(j1);
+    i32_store8(j0, i1);
+    j0 = l10;
+    j1 = 2ull;
+    j0 += j1;
+    i0 = (u32)(j0);
+    j1 = l15;
+    j2 = 2ull;
+    j1 += j2;
+    i1 = (u32)(j1);
+    i1 = i32_load8_u(j1);
+    i32_store8(j0, i1);
+    j0 = l10;
+    j1 = 3ull;
+    j0 += j1;
+    i0 = (u32)(j0);
+    j1 = l15;
+    j2 = 3ull;
+    j1 += j2;
+    i1 = (u32)(j1);
+    i1 = i32_load8_u(j1);
+    i32_store8(j0, i1);
+    j0 = p1;
+    j1 = l11;
+    j2 = 4ull;
+    j1 += j2;
+    l11 = j1;
+    i0 = j0 != j1;
+    if (i0) {goto L12;}
+  j0 = l12;
+  i0 = !(j0);
+  if (i0) {goto B9;}
+  B11:;
+  j0 = l8;
+  j1 = l11;
+  j0 += j1;
+  l10 = j0;
+  j0 = p2;
+  j1 = l9;
+  j2 = l11;
+  j1 += j2;
+  j0 += j1;
+  l11 = j0;
+  L13: 
+    j0 = l11;
+    i0 = (u32)(j0);
+    j1 = l10;
+    i1 = (u32)(j1);
+    i1 = i32_load8_u(j1);
+    i32_store8(j0, i1);
+    j0 = l11;
+    j1 = 1ull;
+    j0 += j1;
+    l11 = j0;
+    j0 = l10;
+    j1 = 1ull;
+    j0 += j1;
+    l10 = j0;
+    j0 = l12;
+    j1 = 18446744073709551615ull;
+    j0 += j1;
+    l12 = j0;
+    j1 = 0ull;
+    i0 = j0 != j1;
+    if (i0) {goto L13;}
+    goto B9;
+  { self->is_broken = true; return ZAK_BROKEN; }
+  B10:;
+  j0 = l7;
+  i0 = !(j0);
+  if (i0) {goto B9;}
+  j0 = l13;
+  i0 = (u32)(j0);
+  j1 = l8;
+  i1 = (u32)(j1);
+  j2 = l7;
+  i2 = (u32)(j2);
+  memory_copy(j0, j1, j2);
+  B9:;
+  i0 = 0u;
+  l5 = i0;
+  B7:;
+  j0 = p0;
+  i0 = (u32)(j0);
+  i1 = 0u;
+  i32_store(j0 + 1, i1);
+  j0 = p0;
+  i0 = (u32)(j0);
+  i1 = 1u;
+  i32_store8(j0, i1);
+  j0 = p0;
+  i0 = (u32)(j0);
+  i1 = 0u;
+  i32_store(j0 + 4, i1);
+  j0 = p0;
+  i0 = (u32)(j0);
+  j1 = l6;
+  i64_store(j0 + 8, j1);
+  B0:;
+  i0 = l5;
+  return i0;
+}
+
 static u32 module_zak_print(module *self, u64 p0, u64 p1, u64 p2, u64 p3, u64 p4, u64 p5) {
   u32 l32 = 0, l33 = 0, l34 = 0, l35 = 0, l36 = 0, l37 = 0, l38 = 0, l39 = 0, 
       l40 = 0;
@@ -109090,7 +109788,7 @@ static u32 module_zak_print(module *self, u64 p0, u64 p1, u64 p2, u64 p3, u64 p4
   j1 += j2;
   l8 = j1;
   j2 = p1;
-  f73(self, j0, j1, j2); if (NEVER(self->is_broken)) return ZAK_BROKEN;
+  f76(self, j0, j1, j2); if (NEVER(self->is_broken)) return ZAK_BROKEN;
   j0 = l6;
   i0 = (u32)(j0);
   i0 = i32_load8_u(j0 + 48u);
@@ -109128,7 +109826,7 @@ static u32 module_zak_print(module *self, u64 p0, u64 p1, u64 p2, u64 p3, u64 p4
   j1 = 176ull;
   j0 += j1;
   j1 = p1;
-  i0 = f12(self, j0, j1); m = self->memory; if (NEVER(self->is_broken)) return ZAK_BROKEN;
+  i0 = f15(self, j0, j1); m = self->memory; if (NEVER(self->is_broken)) return ZAK_BROKEN;
   i0 = !(i0);
   if (i0) {goto B12;}
   j0 = l6;
@@ -109284,7 +109982,7 @@ static u32 module_zak_print(module *self, u64 p0, u64 p1, u64 p2, u64 p3, u64 p4
   j0 = l6;
   i0 = (u32)(j0);
   j0 = i64_load(j0 + 176u);
-  f158(self, j0);
+  f162(self, j0);
   goto B9;
   B11:;
   j0 = l6;
@@ -109331,7 +110029,7 @@ static u32 module_zak_print(module *self, u64 p0, u64 p1, u64 p2, u64 p3, u64 p4
   j1 = 24ull;
   j0 += j1;
   j1 = 10ull;
-  i0 = f12(self, j0, j1); m = self->memory; if (NEVER(self->is_broken)) return ZAK_BROKEN;
+  i0 = f15(self, j0, j1); m = self->memory; if (NEVER(self->is_broken)) return ZAK_BROKEN;
   i0 = !(i0);
   if (i0) {goto B20;}
   j0 = l6;
@@ -109626,7 +110324,7 @@ static u32 module_zak_print(module *self, u64 p0, u64 p1, u64 p2, u64 p3, u64 p4
     j2 = l10;
     j3 = 0ull;
     i4 = l35;
-    f75(self, j0, j1, j2, j3, i4); if (NEVER(self->is_broken)) return ZAK_BROKEN;
+    f78(self, j0, j1, j2, j3, i4); if (NEVER(self->is_broken)) return ZAK_BROKEN;
     j0 = l6;
     i0 = (u32)(j0);
     i0 = i32_load8_u(j0 + 48u);
@@ -109737,7 +110435,7 @@ static u32 module_zak_print(module *self, u64 p0, u64 p1, u64 p2, u64 p3, u64 p4
     j2 = 248ull;
     j1 += j2;
     i2 = l34;
-    f78(self, j0, j1, i2); if (NEVER(self->is_broken)) return ZAK_BROKEN;
+    f81(self, j0, j1, i2); if (NEVER(self->is_broken)) return ZAK_BROKEN;
     j0 = l6;
     i0 = (u32)(j0);
     j0 = i64_load(j0 + 16u);
@@ -109808,7 +110506,7 @@ static u32 module_zak_print(module *self, u64 p0, u64 p1, u64 p2, u64 p3, u64 p4
     j1 = 24ull;
     j0 += j1;
     j1 = l15;
-    i0 = f12(self, j0, j1); m = self->memory; if (NEVER(self->is_broken)) return ZAK_BROKEN;
+    i0 = f15(self, j0, j1); m = self->memory; if (NEVER(self->is_broken)) return ZAK_BROKEN;
     i0 = !(i0);
     if (i0) {goto B37;}
     j0 = l6;
@@ -111180,7 +111878,7 @@ static u32 module_zak_print(module *self, u64 p0, u64 p1, u64 p2, u64 p3, u64 p4
       j0 += j1;
       j1 = l14;
       j2 = p0;
-      f74(self, j0, j1, j2);
+      f77(self, j0, j1, j2);
       j0 = l6;
       i0 = (u32)(j0);
       j0 = i64_load(j0 + 224u);
@@ -111453,7 +112151,7 @@ static u32 module_zak_print(module *self, u64 p0, u64 p1, u64 p2, u64 p3, u64 p4
       j2 = l6;
       j3 = 248ull;
       j2 += j3;
-      f76(self, j0, j1, j2); m = self->memory; if (NEVER(self->is_broken)) return ZAK_BROKEN;
+      f79(self, j0, j1, j2); m = self->memory; if (NEVER(self->is_broken)) return ZAK_BROKEN;
       j0 = l12;
       l15 = j0;
       j0 = l8;
@@ -111489,7 +112187,7 @@ static u32 module_zak_print(module *self, u64 p0, u64 p1, u64 p2, u64 p3, u64 p4
     j1 = 24ull;
     j0 += j1;
     j1 = 4ull;
-    i0 = f12(self, j0, j1); m = self->memory; if (NEVER(self->is_broken)) return ZAK_BROKEN;
+    i0 = f15(self, j0, j1); m = self->memory; if (NEVER(self->is_broken)) return ZAK_BROKEN;
     if (i0) {goto B76;}
     i0 = 9u;
     l32 = i0;
@@ -111560,7 +112258,7 @@ static u32 module_zak_print(module *self, u64 p0, u64 p1, u64 p2, u64 p3, u64 p4
     j2 = 24ull;
     j1 += j2;
     j2 = l31;
-    f76(self, j0, j1, j2); m = self->memory; if (NEVER(self->is_broken)) return ZAK_BROKEN;
+    f79(self, j0, j1, j2); m = self->memory; if (NEVER(self->is_broken)) return ZAK_BROKEN;
     j0 = l6;
     i0 = (u32)(j0);
     i0 = i32_load8_u(j0 + 152u);
@@ -111592,7 +112290,7 @@ static u32 module_zak_print(module *self, u64 p0, u64 p1, u64 p2, u64 p3, u64 p4
     j0 = l6;
     i0 = (u32)(j0);
     j0 = i64_load(j0 + 24u);
-    f158(self, j0);
+    f162(self, j0);
     goto B19;
     B30:;
     j0 = l10;
@@ -111636,12 +112334,12 @@ static u32 module_zak_print(module *self, u64 p0, u64 p1, u64 p2, u64 p3, u64 p4
   j0 = l6;
   i0 = (u32)(j0);
   j0 = i64_load(j0 + 24u);
-  f158(self, j0);
+  f162(self, j0);
   B19:;
   i0 = l33;
   if (i0) {goto B79;}
   j0 = l9;
-  f158(self, j0);
+  f162(self, j0);
   B79:;
   i0 = l32;
   if (i0) {goto B8;}
@@ -111820,7 +112518,7 @@ static u32 module_zak_print(module *self, u64 p0, u64 p1, u64 p2, u64 p3, u64 p4
   i0 = l34;
   if (i0) {goto B0;}
   j0 = l11;
-  f158(self, j0);
+  f162(self, j0);
   goto B0;
   B7:;
   j0 = p5;
@@ -111935,7 +112633,7 @@ static u32 module_zak_put(module *self, u64 p0, u32 p1, u32 p2) {
   j0 = l8;
   i1 = l4;
   i2 = p1;
-  i0 = f79(self, j0, i1, i2);
+  i0 = f82(self, j0, i1, i2);
   i0 = !(i0);
   if (i0) {goto B3;}
   B4:;
@@ -111990,7 +112688,7 @@ static u32 module_zak_put(module *self, u64 p0, u32 p1, u32 p2) {
   i1 = (u32)(j1);
   i1 = i32_load8_u(j1);
   i2 = p2;
-  i0 = f46(self, j0, i1, i2);
+  i0 = f49(self, j0, i1, i2);
   p2 = i0;
   j0 = l8;
   j1 = 68ull;
@@ -112076,7 +112774,7 @@ static u32 module_zak_put(module *self, u64 p0, u32 p1, u32 p2) {
   j0 = l8;
   i1 = l4;
   i2 = p1;
-  i0 = f80(self, j0, i1, i2); m = self->memory; if (NEVER(self->is_broken)) return ZAK_BROKEN;
+  i0 = f83(self, j0, i1, i2); m = self->memory; if (NEVER(self->is_broken)) return ZAK_BROKEN;
   l4 = i0;
   i0 = 1u;
   l3 = i0;
@@ -112129,7 +112827,7 @@ static u32 module_zak_put(module *self, u64 p0, u32 p1, u32 p2) {
   i1 = (u32)(j1);
   i1 = i32_load8_u(j1);
   i2 = p2;
-  i0 = f46(self, j0, i1, i2);
+  i0 = f49(self, j0, i1, i2);
   p2 = i0;
   j0 = l8;
   j1 = 68ull;
@@ -112435,7 +113133,7 @@ static u32 module_zak_put_bytes(module *self, u64 p0, u32 p1, u64 p2, u64 p3, u3
     j2 += j3;
     i2 = (u32)(j2);
     i2 = i32_load8_u(j2);
-    i0 = f46(self, j0, i1, i2);
+    i0 = f49(self, j0, i1, i2);
     l17 = i0;
     j0 = l8;
     j1 = 68ull;
@@ -112568,7 +113266,7 @@ static u32 module_zak_put_bytes(module *self, u64 p0, u32 p1, u64 p2, u64 p3, u3
   j4 = l10;
   j5 = p3;
   i6 = p4;
-  i1 = f81(self, j1, j2, i3, j4, j5, i6);
+  i1 = f84(self, j1, j2, i3, j4, j5, i6);
   l16 = i1;
   i0 = i0 <= i1;
   if (i0) {goto B9;}
@@ -112648,7 +113346,7 @@ static u32 module_zak_put_bytes(module *self, u64 p0, u32 p1, u64 p2, u64 p3, u3
     j3 = p3;
     i3 = (u32)(j3);
     i3 = i32_load8_u(j3);
-    i1 = f46(self, j1, i2, i3);
+    i1 = f49(self, j1, i2, i3);
     j2 = p2;
     i2 = (u32)(j2);
     i2 = i32_load(j2);
@@ -112748,7 +113446,7 @@ static u32 module_zak_put_bytes(module *self, u64 p0, u32 p1, u64 p2, u64 p3, u3
     j3 = p3;
     i3 = (u32)(j3);
     i3 = i32_load8_u(j3);
-    i1 = f46(self, j1, i2, i3);
+    i1 = f49(self, j1, i2, i3);
     j2 = p2;
     i2 = (u32)(j2);
     i2 = i32_load(j2);
@@ -112840,7 +113538,7 @@ static u32 module_zak_put_bytes(module *self, u64 p0, u32 p1, u64 p2, u64 p3, u3
     j3 = p3;
     i3 = (u32)(j3);
     i3 = i32_load8_u(j3);
-    i1 = f46(self, j1, i2, i3);
+    i1 = f49(self, j1, i2, i3);
     j2 = p2;
     i2 = (u32)(j2);
     i2 = i32_load(j2);
@@ -112934,7 +113632,7 @@ static u32 module_zak_put_bytes(module *self, u64 p0, u32 p1, u64 p2, u64 p3, u3
     j3 = p3;
     i3 = (u32)(j3);
     i3 = i32_load8_u(j3);
-    i1 = f46(self, j1, i2, i3);
+    i1 = f49(self, j1, i2, i3);
     j2 = p2;
     i2 = (u32)(j2);
     i2 = i32_load(j2);
@@ -113105,7 +113803,7 @@ static u32 module_zak_put_word(module *self, u64 p0, u32 p1, u32 p2) {
   j0 = l11;
   i1 = l4;
   i2 = p1;
-  i0 = f79(self, j0, i1, i2);
+  i0 = f82(self, j0, i1, i2);
   i0 = !(i0);
   if (i0) {goto B6;}
   B7:;
@@ -113141,7 +113839,7 @@ static u32 module_zak_put_word(module *self, u64 p0, u32 p1, u32 p2) {
   i1 = (u32)(j1);
   i1 = i32_load8_u(j1);
   i2 = p2;
-  i0 = f46(self, j0, i1, i2);
+  i0 = f49(self, j0, i1, i2);
   l6 = i0;
   j0 = l11;
   j1 = 68ull;
@@ -113227,7 +113925,7 @@ static u32 module_zak_put_word(module *self, u64 p0, u32 p1, u32 p2) {
   j0 = l11;
   i1 = l4;
   i2 = p1;
-  i0 = f80(self, j0, i1, i2); m = self->memory; if (NEVER(self->is_broken)) return ZAK_BROKEN;
+  i0 = f83(self, j0, i1, i2); m = self->memory; if (NEVER(self->is_broken)) return ZAK_BROKEN;
   l4 = i0;
   j0 = l11;
   j1 = 2003ull;
@@ -113278,7 +113976,7 @@ static u32 module_zak_put_word(module *self, u64 p0, u32 p1, u32 p2) {
   i1 = (u32)(j1);
   i1 = i32_load8_u(j1);
   i2 = p2;
-  i0 = f46(self, j0, i1, i2);
+  i0 = f49(self, j0, i1, i2);
   l6 = i0;
   j0 = l11;
   j1 = 68ull;
@@ -113372,7 +114070,7 @@ static u32 module_zak_put_word(module *self, u64 p0, u32 p1, u32 p2) {
   j0 = l11;
   i1 = l4;
   i2 = l8;
-  i0 = f79(self, j0, i1, i2);
+  i0 = f82(self, j0, i1, i2);
   i0 = !(i0);
   if (i0) {goto B13;}
   B14:;
@@ -113425,7 +114123,7 @@ static u32 module_zak_put_word(module *self, u64 p0, u32 p1, u32 p2) {
   i1 = (u32)(j1);
   i1 = i32_load8_u(j1);
   i2 = p2;
-  i0 = f46(self, j0, i1, i2);
+  i0 = f49(self, j0, i1, i2);
   p2 = i0;
   j0 = l11;
   j1 = 68ull;
@@ -113511,7 +114209,7 @@ static u32 module_zak_put_word(module *self, u64 p0, u32 p1, u32 p2) {
   j0 = l11;
   i1 = l4;
   i2 = l8;
-  i0 = f80(self, j0, i1, i2); m = self->memory; if (NEVER(self->is_broken)) return ZAK_BROKEN;
+  i0 = f83(self, j0, i1, i2); m = self->memory; if (NEVER(self->is_broken)) return ZAK_BROKEN;
   l4 = i0;
   j0 = l11;
   j1 = 2003ull;
@@ -113562,7 +114260,7 @@ static u32 module_zak_put_word(module *self, u64 p0, u32 p1, u32 p2) {
   i1 = (u32)(j1);
   i1 = i32_load8_u(j1);
   i2 = p2;
-  i0 = f46(self, j0, i1, i2);
+  i0 = f49(self, j0, i1, i2);
   p2 = i0;
   j0 = l11;
   j1 = 68ull;
@@ -114855,7 +115553,7 @@ static u32 module_zak_restore(module *self, u64 p0, u64 p1, u64 p2) {
   j0 = p1;
   j1 = l4;
   j2 = p2;
-  i0 = f82(self, j0, j1, j2); m = self->memory; if (NEVER(self->is_broken)) return ZAK_BROKEN;
+  i0 = f85(self, j0, j1, j2); m = self->memory; if (NEVER(self->is_broken)) return ZAK_BROKEN;
   l3 = i0;
   j0 = p0;
   i0 = (u32)(j0);
@@ -115159,7 +115857,7 @@ static u32 module_zak_restore_fixed(module *self, u64 p0, u64 p1, u64 p2) {
   j0 = l10;
   j1 = l11;
   j2 = l12;
-  i0 = f82(self, j0, j1, j2); m = self->memory; if (NEVER(self->is_broken)) return ZAK_BROKEN;
+  i0 = f85(self, j0, j1, j2); m = self->memory; if (NEVER(self->is_broken)) return ZAK_BROKEN;
   l3 = i0;
   B2:;
   j0 = p0;
@@ -115255,7 +115953,7 @@ static u32 module_zak_run(module *self, u64 p0, u64 p1, u64 p2, u64 p3, u64 p4, 
   j2 = i4 ? j2 : j3;
   j1 += j2;
   j2 = p3;
-  f69(self, j0, j1, j2); m = self->memory; if (NEVER(self->is_broken)) return ZAK_BROKEN;
+  f72(self, j0, j1, j2); m = self->memory; if (NEVER(self->is_broken)) return ZAK_BROKEN;
   j0 = l8;
   i0 = (u32)(j0);
   j0 = i64_load(j0 + 56u);
@@ -115308,7 +116006,7 @@ static u32 module_zak_run(module *self, u64 p0, u64 p1, u64 p2, u64 p3, u64 p4, 
   j1 += j2;
   p0 = j1;
   j2 = p1;
-  f73(self, j0, j1, j2); if (NEVER(self->is_broken)) return ZAK_BROKEN;
+  f76(self, j0, j1, j2); if (NEVER(self->is_broken)) return ZAK_BROKEN;
   j0 = l8;
   i0 = (u32)(j0);
   i0 = i32_load8_u(j0 + 144u);
@@ -115391,7 +116089,7 @@ static u32 module_zak_run(module *self, u64 p0, u64 p1, u64 p2, u64 p3, u64 p4, 
   j1 = l8;
   j2 = 96ull;
   j1 += j2;
-  f70(self, j0, j1); m = self->memory; if (NEVER(self->is_broken)) return ZAK_BROKEN;
+  f73(self, j0, j1); m = self->memory; if (NEVER(self->is_broken)) return ZAK_BROKEN;
   j0 = l8;
   i0 = (u32)(j0);
   j0 = i64_load(j0 + 160u);
@@ -115471,7 +116169,7 @@ static u32 module_zak_run(module *self, u64 p0, u64 p1, u64 p2, u64 p3, u64 p4, 
   j1 = 4616ull;
   j0 += j1;
   j1 = 1ull;
-  f86(self, j0, j1); if (NEVER(self->is_broken)) return ZAK_BROKEN;
+  f89(self, j0, j1); if (NEVER(self->is_broken)) return ZAK_BROKEN;
   j0 = l8;
   i0 = (u32)(j0);
   j1 = l8;
@@ -115543,7 +116241,7 @@ static u32 module_zak_run(module *self, u64 p0, u64 p1, u64 p2, u64 p3, u64 p4, 
   j5 = 4472ull;
   j4 += j5;
   j5 = 18446744073709551615ull;
-  f93(self, j0, j1, j2, j3, j4, j5); m = self->memory; if (NEVER(self->is_broken)) return ZAK_BROKEN;
+  f96(self, j0, j1, j2, j3, j4, j5); m = self->memory; if (NEVER(self->is_broken)) return ZAK_BROKEN;
   j0 = l8;
   i0 = (u32)(j0);
   j0 = i64_load(j0 + 4528u);
@@ -115580,19 +116278,19 @@ static u32 module_zak_run(module *self, u64 p0, u64 p1, u64 p2, u64 p3, u64 p4, 
   j0 = l8;
   i0 = (u32)(j0);
   j0 = i64_load(j0 + 2312u);
-  f158(self, j0);
+  f162(self, j0);
   B7:;
   j0 = p3;
   i0 = !(j0);
   if (i0) {goto B8;}
   j0 = l9;
-  f158(self, j0);
+  f162(self, j0);
   B8:;
   j0 = p2;
   i0 = !(j0);
   if (i0) {goto B9;}
   j0 = p1;
-  f158(self, j0);
+  f162(self, j0);
   B9:;
   j0 = l8;
   i0 = (u32)(j0);
@@ -115628,12 +116326,12 @@ static u32 module_zak_run(module *self, u64 p0, u64 p1, u64 p2, u64 p3, u64 p4, 
   j0 = i64_load(j0 + 16u);
   l9 = j0;
   j0 = p1;
-  f158(self, j0);
+  f162(self, j0);
   j0 = l9;
   i0 = !(j0);
   if (i0) {goto B10;}
   j0 = l10;
-  f158(self, j0);
+  f162(self, j0);
   B10:;
   i0 = l14;
   i1 = 255u;
@@ -115650,12 +116348,12 @@ static u32 module_zak_run(module *self, u64 p0, u64 p1, u64 p2, u64 p3, u64 p4, 
   j0 = i64_load(j0 + 16u);
   p1 = j0;
   j0 = p3;
-  f158(self, j0);
+  f162(self, j0);
   j0 = p1;
   i0 = !(j0);
   if (i0) {goto B11;}
   j0 = l9;
-  f158(self, j0);
+  f162(self, j0);
   B11:;
   i0 = l12;
   i1 = 255u;
@@ -115672,12 +116370,12 @@ static u32 module_zak_run(module *self, u64 p0, u64 p1, u64 p2, u64 p3, u64 p4, 
   j0 = i64_load(j0 + 16u);
   p3 = j0;
   j0 = p2;
-  f158(self, j0);
+  f162(self, j0);
   j0 = p3;
   i0 = !(j0);
   if (i0) {goto B12;}
   j0 = p1;
-  f158(self, j0);
+  f162(self, j0);
   B12:;
   i0 = l11;
   i1 = 255u;
@@ -115729,12 +116427,12 @@ static u32 module_zak_run(module *self, u64 p0, u64 p1, u64 p2, u64 p3, u64 p4, 
   j0 = i64_load(j0 + 16u);
   p3 = j0;
   j0 = p2;
-  f158(self, j0);
+  f162(self, j0);
   j0 = p3;
   i0 = !(j0);
   if (i0) {goto B13;}
   j0 = p1;
-  f158(self, j0);
+  f162(self, j0);
   B13:;
   i0 = l12;
   i1 = 255u;
@@ -115751,12 +116449,12 @@ static u32 module_zak_run(module *self, u64 p0, u64 p1, u64 p2, u64 p3, u64 p4, 
   j0 = i64_load(j0 + 16u);
   p2 = j0;
   j0 = l10;
-  f158(self, j0);
+  f162(self, j0);
   j0 = p2;
   i0 = !(j0);
   if (i0) {goto B14;}
   j0 = p3;
-  f158(self, j0);
+  f162(self, j0);
   B14:;
   i0 = l11;
   i1 = 255u;
@@ -115773,12 +116471,12 @@ static u32 module_zak_run(module *self, u64 p0, u64 p1, u64 p2, u64 p3, u64 p4, 
   j0 = i64_load(j0 + 16u);
   p2 = j0;
   j0 = l9;
-  f158(self, j0);
+  f162(self, j0);
   j0 = p2;
   i0 = !(j0);
   if (i0) {goto B1;}
   j0 = p3;
-  f158(self, j0);
+  f162(self, j0);
   goto B1;
   B5:;
   j0 = p4;
@@ -115918,7 +116616,7 @@ static u32 module_zak_run(module *self, u64 p0, u64 p1, u64 p2, u64 p3, u64 p4, 
   i0 = !(j0);
   if (i0) {goto B0;}
   j0 = p7;
-  f158(self, j0);
+  f162(self, j0);
   goto B0;
   B3:;
   j0 = p2;
@@ -115940,7 +116638,7 @@ static u32 module_zak_run(module *self, u64 p0, u64 p1, u64 p2, u64 p3, u64 p4, 
   j0 = l8;
   i0 = (u32)(j0);
   j0 = i64_load(j0);
-  f158(self, j0);
+  f162(self, j0);
   B20:;
   i0 = 22u;
   l11 = i0;
@@ -116062,7 +116760,7 @@ static u32 module_zak_run_on(module *self, u64 p0, u64 p1, u64 p2, u32 p3, u32 p
   j0 = l11;
   j1 = 2072ull;
   j0 += j1;
-  i0 = f19(self, j0);
+  i0 = f22(self, j0);
   i0 = !(i0);
   if (i0) {goto B2;}
   j0 = l10;
@@ -116089,7 +116787,7 @@ static u32 module_zak_run_on(module *self, u64 p0, u64 p1, u64 p2, u32 p3, u32 p
   j1 += j2;
   l12 = j1;
   j2 = p2;
-  f73(self, j0, j1, j2); if (NEVER(self->is_broken)) return ZAK_BROKEN;
+  f76(self, j0, j1, j2); if (NEVER(self->is_broken)) return ZAK_BROKEN;
   j0 = l10;
   i0 = (u32)(j0);
   i0 = i32_load8_u(j0 + 120u);
@@ -116427,7 +117125,7 @@ static u32 module_zak_run_on(module *self, u64 p0, u64 p1, u64 p2, u32 p3, u32 p
     j0 += j1;
     j1 = l16;
     j2 = p9;
-    f74(self, j0, j1, j2);
+    f77(self, j0, j1, j2);
     j0 = l10;
     i0 = (u32)(j0);
     i0 = i32_load8_u(j0 + 120u);
@@ -116460,7 +117158,7 @@ static u32 module_zak_run_on(module *self, u64 p0, u64 p1, u64 p2, u32 p3, u32 p
     j1 = l10;
     j2 = 56ull;
     j1 += j2;
-    f94(self, j0, j1); if (NEVER(self->is_broken)) return ZAK_BROKEN;
+    f97(self, j0, j1); if (NEVER(self->is_broken)) return ZAK_BROKEN;
     j0 = l10;
     i0 = (u32)(j0);
     i0 = i32_load16_u(j0 + 232u);
@@ -116722,7 +117420,7 @@ static u32 module_zak_run_on(module *self, u64 p0, u64 p1, u64 p2, u32 p3, u32 p
     j0 += j1;
     j1 = p2;
     j2 = p1;
-    f74(self, j0, j1, j2);
+    f77(self, j0, j1, j2);
     j0 = l10;
     i0 = (u32)(j0);
     i0 = i32_load8_u(j0 + 120u);
@@ -116857,7 +117555,7 @@ static u32 module_zak_run_on(module *self, u64 p0, u64 p1, u64 p2, u32 p3, u32 p
   j2 = 1ull;
   j1 += j2;
   p1 = j1;
-  f86(self, j0, j1); if (NEVER(self->is_broken)) return ZAK_BROKEN;
+  f89(self, j0, j1); if (NEVER(self->is_broken)) return ZAK_BROKEN;
   j0 = l10;
   i0 = (u32)(j0);
   j1 = l10;
@@ -116930,7 +117628,7 @@ static u32 module_zak_run_on(module *self, u64 p0, u64 p1, u64 p2, u32 p3, u32 p
   j4 += j5;
   i5 = p4;
   j5 = (u64)(i5);
-  f93(self, j0, j1, j2, j3, j4, j5); m = self->memory; if (NEVER(self->is_broken)) return ZAK_BROKEN;
+  f96(self, j0, j1, j2, j3, j4, j5); m = self->memory; if (NEVER(self->is_broken)) return ZAK_BROKEN;
   j0 = l10;
   i0 = (u32)(j0);
   i0 = i32_load8_u(j0 + 96u);
@@ -117103,7 +117801,7 @@ static u32 module_zak_run_on(module *self, u64 p0, u64 p1, u64 p2, u32 p3, u32 p
   i0 = !(j0);
   if (i0) {goto B2;}
   j0 = p7;
-  f158(self, j0);
+  f162(self, j0);
   goto B2;
   B39:;
   i0 = 23u;
@@ -117116,7 +117814,7 @@ static u32 module_zak_run_on(module *self, u64 p0, u64 p1, u64 p2, u32 p3, u32 p
   j0 = l10;
   i0 = (u32)(j0);
   j0 = i64_load(j0 + 16u);
-  f158(self, j0);
+  f162(self, j0);
   goto B2;
   B3:;
   j0 = l10;
@@ -117299,7 +117997,7 @@ static u32 module_zak_save(module *self, u64 p0, u64 p1, u64 p2, u64 p3) {
   i4 = !(j4);
   j2 = i4 ? j2 : j3;
   j1 += j2;
-  f95(self, j0, j1); if (NEVER(self->is_broken)) return ZAK_BROKEN;
+  f98(self, j0, j1); if (NEVER(self->is_broken)) return ZAK_BROKEN;
   i0 = 0u;
   l4 = i0;
   B4:;
@@ -117410,7 +118108,7 @@ static u32 module_zak_save_fixed(module *self, u64 p0, u64 p1, u64 p2) {
   j2 = i4 ? j2 : j3;
   j1 += j2;
   l10 = j1;
-  f95(self, j0, j1); if (NEVER(self->is_broken)) return ZAK_BROKEN;
+  f98(self, j0, j1); if (NEVER(self->is_broken)) return ZAK_BROKEN;
   j0 = p2;
   j1 = 18446744073709551612ull;
   j0 += j1;
@@ -117820,7 +118518,7 @@ static u32 module_zak_screen_cell(module *self, u64 p0, u32 p1, u32 p2, u32 p3, 
   j2 = l6;
   j3 = 2072ull;
   j2 += j3;
-  f96(self, j0, j1, j2); m = self->memory; if (NEVER(self->is_broken)) return ZAK_BROKEN;
+  f99(self, j0, j1, j2); m = self->memory; if (NEVER(self->is_broken)) return ZAK_BROKEN;
   j0 = l5;
   i0 = (u32)(j0);
   i0 = i32_load8_u(j0 + 8u);
@@ -117942,19 +118640,19 @@ static u32 module_zak_screen_cell(module *self, u64 p0, u32 p1, u32 p2, u32 p3, 
   i0 = !(j0);
   if (i0) {goto B6;}
   j0 = l8;
-  f158(self, j0);
+  f162(self, j0);
   B6:;
   j0 = l10;
   i0 = !(j0);
   if (i0) {goto B7;}
   j0 = l11;
-  f158(self, j0);
+  f162(self, j0);
   B7:;
   j0 = p4;
   i0 = !(j0);
   if (i0) {goto B2;}
   j0 = l9;
-  f158(self, j0);
+  f162(self, j0);
   B2:;
   j0 = p0;
   i0 = (u32)(j0);
@@ -118033,7 +118731,7 @@ static u32 module_zak_screen_cursor(module *self, u64 p0, u32 p1, u64 p2) {
   j2 = l4;
   j3 = 2072ull;
   j2 += j3;
-  f96(self, j0, j1, j2); m = self->memory; if (NEVER(self->is_broken)) return ZAK_BROKEN;
+  f99(self, j0, j1, j2); m = self->memory; if (NEVER(self->is_broken)) return ZAK_BROKEN;
   j0 = l3;
   i0 = (u32)(j0);
   i0 = i32_load8_u(j0);
@@ -118105,7 +118803,7 @@ static u32 module_zak_screen_cursor(module *self, u64 p0, u32 p1, u64 p2) {
   j0 = l3;
   i0 = (u32)(j0);
   j0 = i64_load(j0 + 936u);
-  f158(self, j0);
+  f162(self, j0);
   B6:;
   j0 = l3;
   i0 = (u32)(j0);
@@ -118115,7 +118813,7 @@ static u32 module_zak_screen_cursor(module *self, u64 p0, u32 p1, u64 p2) {
   j0 = l3;
   i0 = (u32)(j0);
   j0 = i64_load(j0 + 960u);
-  f158(self, j0);
+  f162(self, j0);
   B7:;
   j0 = l3;
   i0 = (u32)(j0);
@@ -118125,7 +118823,7 @@ static u32 module_zak_screen_cursor(module *self, u64 p0, u32 p1, u64 p2) {
   j0 = l3;
   i0 = (u32)(j0);
   j0 = i64_load(j0 + 1792u);
-  f158(self, j0);
+  f162(self, j0);
   B2:;
   j0 = p0;
   i0 = (u32)(j0);
@@ -118208,7 +118906,7 @@ static u32 module_zak_screen_pixel(module *self, u64 p0, u32 p1, u32 p2, u32 p3,
   j2 = l6;
   j3 = 2072ull;
   j2 += j3;
-  f96(self, j0, j1, j2); m = self->memory; if (NEVER(self->is_broken)) return ZAK_BROKEN;
+  f99(self, j0, j1, j2); m = self->memory; if (NEVER(self->is_broken)) return ZAK_BROKEN;
   j0 = l5;
   i0 = (u32)(j0);
   i0 = i32_load8_u(j0 + 8u);
@@ -118325,19 +119023,19 @@ static u32 module_zak_screen_pixel(module *self, u64 p0, u32 p1, u32 p2, u32 p3,
   j0 = l5;
   i0 = (u32)(j0);
   j0 = i64_load(j0 + 40u);
-  f158(self, j0);
+  f162(self, j0);
   B6:;
   j0 = l9;
   i0 = !(j0);
   if (i0) {goto B7;}
   j0 = l7;
-  f158(self, j0);
+  f162(self, j0);
   B7:;
   j0 = p4;
   i0 = !(j0);
   if (i0) {goto B2;}
   j0 = l10;
-  f158(self, j0);
+  f162(self, j0);
   B2:;
   j0 = p0;
   i0 = (u32)(j0);
@@ -118416,7 +119114,7 @@ static u32 module_zak_screen_read(module *self, u64 p0, u64 p1) {
   j2 = l3;
   j3 = 2072ull;
   j2 += j3;
-  f96(self, j0, j1, j2); m = self->memory; if (NEVER(self->is_broken)) return ZAK_BROKEN;
+  f99(self, j0, j1, j2); m = self->memory; if (NEVER(self->is_broken)) return ZAK_BROKEN;
   j0 = l2;
   i0 = (u32)(j0);
   i0 = i32_load8_u(j0);
@@ -118475,7 +119173,7 @@ static u32 module_zak_screen_read(module *self, u64 p0, u64 p1) {
   i2 = (u32)(j2);
   i2 = i32_load16_u(j2);
   l11 = i2;
-  f20(self, j0, i1, i2);
+  f23(self, j0, i1, i2);
   j0 = l2;
   i0 = (u32)(j0);
   i0 = i32_load8_u(j0 + 920u);
@@ -118564,19 +119262,19 @@ static u32 module_zak_screen_read(module *self, u64 p0, u64 p1) {
   i0 = !(j0);
   if (i0) {goto B7;}
   j0 = l9;
-  f158(self, j0);
+  f162(self, j0);
   B7:;
   j0 = l6;
   i0 = !(j0);
   if (i0) {goto B8;}
   j0 = l7;
-  f158(self, j0);
+  f162(self, j0);
   B8:;
   j0 = l4;
   i0 = !(j0);
   if (i0) {goto B2;}
   j0 = l5;
-  f158(self, j0);
+  f162(self, j0);
   B2:;
   j0 = p0;
   i0 = (u32)(j0);
@@ -118639,7 +119337,7 @@ static u32 module_zak_show_bda(module *self, u64 p0, u64 p1, u64 p2, u64 p3) {
   j2 += j3;
   j3 = p2;
   j4 = p3;
-  i0 = f99(self, j0, j1, j2, j3, j4); m = self->memory; if (NEVER(self->is_broken)) return ZAK_BROKEN;
+  i0 = f102(self, j0, j1, j2, j3, j4); m = self->memory; if (NEVER(self->is_broken)) return ZAK_BROKEN;
   l5 = i0;
   j0 = l4;
   j1 = 16ull;
@@ -118685,7 +119383,7 @@ static u32 module_zak_show_beam(module *self, u64 p0, u64 p1, u64 p2, u64 p3) {
   j2 += j3;
   j3 = p2;
   j4 = p3;
-  i0 = f99(self, j0, j1, j2, j3, j4); m = self->memory; if (NEVER(self->is_broken)) return ZAK_BROKEN;
+  i0 = f102(self, j0, j1, j2, j3, j4); m = self->memory; if (NEVER(self->is_broken)) return ZAK_BROKEN;
   l5 = i0;
   j0 = l4;
   j1 = 16ull;
@@ -118731,7 +119429,7 @@ static u32 module_zak_show_cells(module *self, u64 p0, u64 p1, u64 p2, u64 p3) {
   j2 += j3;
   j3 = p2;
   j4 = p3;
-  i0 = f99(self, j0, j1, j2, j3, j4); m = self->memory; if (NEVER(self->is_broken)) return ZAK_BROKEN;
+  i0 = f102(self, j0, j1, j2, j3, j4); m = self->memory; if (NEVER(self->is_broken)) return ZAK_BROKEN;
   l5 = i0;
   j0 = l4;
   j1 = 16ull;
@@ -118776,7 +119474,7 @@ static u32 module_zak_show_dac(module *self, u64 p0, u32 p1, u64 p2, u64 p3, u64
   j2 += j3;
   j3 = p3;
   j4 = p4;
-  i0 = f99(self, j0, j1, j2, j3, j4); m = self->memory; if (NEVER(self->is_broken)) return ZAK_BROKEN;
+  i0 = f102(self, j0, j1, j2, j3, j4); m = self->memory; if (NEVER(self->is_broken)) return ZAK_BROKEN;
   p1 = i0;
   j0 = l5;
   j1 = 16ull;
@@ -118822,7 +119520,7 @@ static u32 module_zak_show_latches(module *self, u64 p0, u64 p1, u64 p2, u64 p3)
   j2 += j3;
   j3 = p2;
   j4 = p3;
-  i0 = f99(self, j0, j1, j2, j3, j4); m = self->memory; if (NEVER(self->is_broken)) return ZAK_BROKEN;
+  i0 = f102(self, j0, j1, j2, j3, j4); m = self->memory; if (NEVER(self->is_broken)) return ZAK_BROKEN;
   l5 = i0;
   j0 = l4;
   j1 = 16ull;
@@ -118906,7 +119604,7 @@ static u32 module_zak_show_plane(module *self, u64 p0, u32 p1, u32 p2, u32 p3, u
   j2 += j3;
   j3 = p5;
   j4 = p6;
-  i0 = f99(self, j0, j1, j2, j3, j4); m = self->memory; if (NEVER(self->is_broken)) return ZAK_BROKEN;
+  i0 = f102(self, j0, j1, j2, j3, j4); m = self->memory; if (NEVER(self->is_broken)) return ZAK_BROKEN;
   l8 = i0;
   B0:;
   j0 = l7;
@@ -118949,7 +119647,7 @@ static u32 module_zak_show_regs(module *self, u64 p0, u64 p1, u64 p2, u64 p3) {
   j2 += j3;
   j3 = p2;
   j4 = p3;
-  i0 = f99(self, j0, j1, j2, j3, j4); m = self->memory; if (NEVER(self->is_broken)) return ZAK_BROKEN;
+  i0 = f102(self, j0, j1, j2, j3, j4); m = self->memory; if (NEVER(self->is_broken)) return ZAK_BROKEN;
   l5 = i0;
   j0 = l4;
   j1 = 16ull;
@@ -119712,7 +120410,7 @@ static u64 module_page_take(module *self, u64 p0) {
   j0 = l1;
   j1 = p0;
   j2 = 16ull;
-  f155(self, j0, j1, j2); m = self->memory; if (NEVER(self->is_broken)) return 0;
+  f159(self, j0, j1, j2); m = self->memory; if (NEVER(self->is_broken)) return 0;
   j0 = l1;
   i0 = (u32)(j0);
   j0 = i64_load(j0);
@@ -119737,12 +120435,12 @@ static u32 module_page_give(module *self, u64 p0) {
   u32 i0;
   u64 j0;
   j0 = p0;
-  f158(self, j0);
+  f162(self, j0);
   i0 = 0u;
   return i0;
 }
 
-static void f155(module *self, u64 p0, u64 p1, u64 p2) {
+static void f159(module *self, u64 p0, u64 p1, u64 p2) {
   u64 l3 = 0;
   u8 *m = self->memory;
   u32 i0, i1;
@@ -119754,7 +120452,7 @@ static void f155(module *self, u64 p0, u64 p1, u64 p2) {
   i0 = j0 > j1;
   if (i0) {goto B0;}
   j0 = p1;
-  j0 = f156(self, j0); m = self->memory; if (NEVER(self->is_broken)) return;
+  j0 = f160(self, j0); m = self->memory; if (NEVER(self->is_broken)) return;
   l3 = j0;
   B0:;
   j0 = p0;
@@ -119770,7 +120468,7 @@ static void f155(module *self, u64 p0, u64 p1, u64 p2) {
   i64_store(j0, j1);
 }
 
-static u64 f156(module *self, u64 p0) {
+static u64 f160(module *self, u64 p0) {
   u32 l8 = 0;
   u64 l1 = 0, l2 = 0, l3 = 0, l4 = 0, l5 = 0, l6 = 0, l7 = 0;
   u8 *m = self->memory;
@@ -120245,7 +120943,7 @@ static u64 f156(module *self, u64 p0) {
   return j0;
 }
 
-static void f157(module *self, u64 p0, u64 p1, u64 p2, u64 p3, u64 p4) {
+static void f161(module *self, u64 p0, u64 p1, u64 p2, u64 p3, u64 p4) {
   u32 l8 = 0;
   u64 l5 = 0, l6 = 0, l7 = 0;
   u8 *m = self->memory;
@@ -120281,7 +120979,7 @@ static void f157(module *self, u64 p0, u64 p1, u64 p2, u64 p3, u64 p4) {
   i0 = j0 > j1;
   if (i0) {goto B1;}
   j0 = p3;
-  j0 = f156(self, j0); m = self->memory; if (NEVER(self->is_broken)) return;
+  j0 = f160(self, j0); m = self->memory; if (NEVER(self->is_broken)) return;
   l7 = j0;
   i0 = !(j0);
   i0 = !(i0);
@@ -120418,7 +121116,7 @@ static void f157(module *self, u64 p0, u64 p1, u64 p2, u64 p3, u64 p4) {
   Bfunc:;
 }
 
-static void f158(module *self, u64 p0) {
+static void f162(module *self, u64 p0) {
   u32 l6 = 0;
   u64 l1 = 0, l2 = 0, l3 = 0, l4 = 0, l5 = 0;
   u8 *m = self->memory;
@@ -121268,11 +121966,14 @@ zak_status zak_line(zak_card *card, uint32_t flags, zak_scan_line *scan_line, ui
     END(card, line(self, flags, scan_line, pixels, pixels_cap));
 }
 
-static zak_status frame_lines(module *self, uint32_t *widths, uint8_t *rgb, size_t rgb_cap,
-                              size_t *rgb_used)
+/* A call that gives dots line by line. */
+typedef u32 lines_call(module *, u32, u32, u32, u64, u32);
+
+static zak_status give_lines(module *self, lines_call *call, uint32_t *widths, uint8_t *rgb,
+                             size_t rgb_cap, size_t *rgb_used)
 {
     self->outside = rgb;
-    zak_status status = module_zak_frame_lines(self, CARD, TOLD, OUTSIDE, rgb_cap, DESK);
+    zak_status status = call(self, CARD, TOLD, OUTSIDE, rgb_cap, DESK);
     if (is_told(status)) {
         get_words(self, widths, TOLD, ZAK_HIGHEST);
         *rgb_used = (size_t)number64(self->memory + DESK);
@@ -121284,7 +121985,14 @@ zak_status zak_frame_lines(zak_card *card, uint32_t widths[ZAK_HIGHEST], uint8_t
                            size_t rgb_cap, size_t *rgb_used)
 {
     BEGIN(card);
-    END(card, frame_lines(self, widths, rgb, rgb_cap, rgb_used));
+    END(card, give_lines(self, module_zak_frame_lines, widths, rgb, rgb_cap, rgb_used));
+}
+
+zak_status zak_peek(zak_card *card, uint32_t widths[ZAK_HIGHEST], uint8_t *rgb, size_t rgb_cap,
+                    size_t *rgb_used)
+{
+    BEGIN(card);
+    END(card, give_lines(self, module_zak_peek, widths, rgb, rgb_cap, rgb_used));
 }
 
 /* The registers of interrupt 10, from `told` on, and behind them a number. */

@@ -228,6 +228,12 @@ zak_status zak_frame_lines(zak_card *card, uint32_t widths[ZAK_HIGHEST], uint8_t
  * it: for a frame that nobody looks at. The card goes on as after zak_frame. */
 zak_status zak_skip_frame(zak_card *card);
 
+/* What is drawn until now of the frame under way, line by line as zak_frame_lines writes a whole
+ * frame. The clock stands still. At the first dot of a frame it is the frame before, unless that
+ * was skipped. ZAK_NO_ROOM: widths and *rgb_used are written, but rgb is not. */
+zak_status zak_peek(zak_card *card, uint32_t widths[ZAK_HIGHEST], uint8_t *rgb, size_t rgb_cap,
+                    size_t *rgb_used);
+
 typedef struct zak_regs { uint16_t ax, bx, cx, dx; } zak_regs;
 
 /* Calls interrupt 10 (hexadecimal). *regs are the processor's registers, and afterwards the answer.
