@@ -14,7 +14,7 @@ PARTS = ("seq", "crtc", "beam")
 EIGHT_DOTS, HALVED = 0x01, 0x08
 DOUBLE_SCAN = 0x80
 # Most frames that the clock runs on the way to a state, and in a step.
-MOST_FRAMES, MOST_STEPS = 33, 3
+FRAMES, MOST_FRAMES, MOST_STEPS = 32, 33, 3
 HORIZONTAL_TOTAL, VERTICAL_TOTAL, MAXIMUM_SCAN_LINE, LINE_COMPARE = 0x00, 0x06, 0x09, 0x18
 START_HIGH, START_LOW, PRESET, OFFSET = 0x0C, 0x0D, 0x08, 0x13
 
@@ -39,7 +39,8 @@ def _dots_before(chance: Chance, crtc: list[int], width: int) -> int:
     if kind == 0:
         return chance.below(2 * width)
     if kind == 1:
-        return chance.below(MOST_FRAMES) * whole
+        frames = chance.among((FRAMES - 1, chance.below(MOST_FRAMES)))
+        return frames * whole + chance.among((0, whole - 1, chance.below(whole)))
     if kind == 2:
         return chance.below(4 * whole // line) * line + chance.below(2)
     return chance.below(MOST_FRAMES if kind == 3 else 2) * whole + chance.below(whole)
@@ -99,6 +100,10 @@ def _changed(chance: Chance, card: SteppedCard) -> Wish:
     else:
         crtc[OFFSET] = chance.byte()
     dots = _dots_before(chance, before, width_of(state["seq"]))
+    if what == "width" and chance.one_in(2):
+        # To the last dot of a character: the ninth is past the end of one of eight.
+        width = width_of(state["seq"])
+        dots = dots // width * width + width - 1
     reach = {"dots": dots, "crtc": before, "seq": state["seq"]}
     changed = {**state, "crtc": crtc, "seq": seq}
     return _advance(chance, card, changed, reach, f"clock, other {what} since")

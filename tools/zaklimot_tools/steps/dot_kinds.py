@@ -59,7 +59,7 @@ def _controller(chance: Chance, kind: str) -> list[int]:
     return crtc
 
 
-def _address(counter: int, crtc: list[int]) -> int:
+def fetch_address(counter: int, crtc: list[int]) -> int:
     """The offset at which a counter's bytes are fetched."""
     if crtc[UNDERLINE] & DOUBLE_WORD:
         return 4 * counter & 0xFFFF
@@ -68,7 +68,7 @@ def _address(counter: int, crtc: list[int]) -> int:
     return 2 * counter & 0xFFFF | counter >> (15 if crtc[0x17] & WRAP_15 else 13) & 1
 
 
-def _counters(state: Parts, beam: Parts) -> list[int]:
+def counters_of(state: Parts, beam: Parts) -> list[int]:
     """The counters of the characters that a line shows, and of the one after them."""
     base = beam["base"]
     if not (beam["line"] or beam["dot"] or beam["character"]):
@@ -82,8 +82,8 @@ def _text_planes(chance: Chance, state: Parts, beam: Parts) -> dict[int, list[in
     """Characters, attributes and the rows of their glyphs."""
     seq, found = state["seq"], dict[int, list[int]]()
     scan = beam["scan"] if beam["line"] else state["crtc"][8] & 31
-    for counter in _counters(state, beam):
-        place = found.setdefault(_address(counter, state["crtc"]), [0, 0, 0, 0])
+    for counter in counters_of(state, beam):
+        place = found.setdefault(fetch_address(counter, state["crtc"]), [0, 0, 0, 0])
         place[0] = 0xC0 + chance.bits(5) if chance.one_in(3) else chance.bits(8)
         place[1] = chance.among((0x01, 0x09, 0x81)) if chance.one_in(4) else chance.byte()
     for place in list(found.values()):
@@ -98,18 +98,18 @@ def _text_planes(chance: Chance, state: Parts, beam: Parts) -> dict[int, list[in
 
 def _graphics_planes(chance: Chance, state: Parts, beam: Parts) -> dict[int, list[int]]:
     """Bytes of all planes."""
-    counters = _counters(state, beam)
-    return {_address(counter, state["crtc"]): chance.many(4) for counter in counters}
+    counters = counters_of(state, beam)
+    return {fetch_address(counter, state["crtc"]): chance.many(4) for counter in counters}
 
 
 def _place_cursor(chance: Chance, state: Parts, beam: Parts) -> None:
     """The cursor stands in the line more often than elsewhere, and where scan lines show it."""
-    counters = _counters(state, beam)
+    counters = counters_of(state, beam)
     place = chance.among(counters) if chance.one_in(2) else chance.bits(16)
     crtc = state["crtc"]
     crtc[0x0E], crtc[0x0F] = place >> 8, place & 0xFF
     if chance.one_in(2):
-        crtc[CURSOR_START] = chance.below(beam["scan"] + 1)
+        crtc[CURSOR_START] = chance.below(beam["scan"] + 1) | (0x20 if chance.one_in(8) else 0)
         crtc[CURSOR_END] = beam["scan"] + chance.below(32 - beam["scan"])
     if chance.one_in(2):
         crtc[UNDERLINE] = crtc[UNDERLINE] & ~31 | beam["scan"]
@@ -129,7 +129,7 @@ def _state(chance: Chance, kind: str) -> tuple[Parts, Parts]:
     }
     width = width_of(state["seq"])
     whole, line = frame_dots(crtc, width), (crtc[0] + 5) * width
-    displayed = crtc[0x12] + (2 if chance.one_in(16) else 1)
+    displayed = crtc[0x12] + (2 if chance.one_in(4) else 1)
     dots = chance.below(FRAMES) * whole + chance.below(displayed) * line
     return state, {"dots": dots}
 

@@ -15,9 +15,9 @@ ATTRIBUTE, ATTRIBUTE_READ, MISC, ENABLE, MISC_READ = 0x3C0, 0x3C1, 0x3C2, 0x3C3,
 SEQUENCER, GRAPHICS, COLOUR, MONOCHROME = 0x3C4, 0x3CE, 0x3D4, 0x3B4
 MASK, DAC_READ, DAC_WRITE, DAC_DATA, FEATURE = 0x3C6, 0x3C7, 0x3C8, 0x3C9, 0x3CA
 STATUS_FROM_INDEX = 6
-PROTECT = 0x80
+PROTECT, RETRACE_START, RETRACE_END = 0x80, 0x10, 0x11
 # A value of CRT controller's mode control that isn't refused, and the bits that may vary in it.
-COUNTING, COUNTED = 0x03, 0xE0
+MODE_CONTROL, COUNTING, COUNTED = 0x17, 0x03, 0xE0
 DAC = ("dac_index", "dac_component", "dac_mask", "dac_waiting", "colours")
 INDEXES = ("seq_index", "gfx_index", "crtc_index", "attr_index", "attr_is_data")
 SMALL_DAC = ("dac_index", "dac_component", "dac_mask")
@@ -82,6 +82,9 @@ def _controller(chance: Chance, _: SteppedCard, is_protected: bool) -> Wish:
     # The ports at the base that isn't in use are decoded by nobody.
     port = COLOUR + MONOCHROME - base if chance.one_in(12) else base
     name, step = _indexed(chance, port, 5, "CRT controller")
+    if step.name == "out" and index == MODE_CONTROL and chance.one_in(2):
+        # Of random values nearly all are refused.
+        step = Step("out", (port + 1, COUNTING | chance.bits(8) & COUNTED))
     return Wish(f"{name}, register {index}", state, step)
 
 
@@ -273,7 +276,11 @@ def _status(chance: Chance, card: SteppedCard) -> Wish:
     port = base + STATUS_FROM_INDEX
     if chance.one_in(16):
         return Wish("feature control", state, Step("out", (port, chance.byte())), {"dots": 0})
-    dots = chance.below(2 * frame_dots(crtc, 9))
+    whole, line = frame_dots(crtc, 9), (crtc[0] + 5) * 9
+    dots = chance.below(2 * whole)
+    if chance.one_in(3):
+        # Near the retrace, which is short.
+        dots = (crtc[RETRACE_START] + chance.below(3)) * line + chance.below(line)
     return Wish("input status 1", state, Step("in", (port,)), {"dots": dots})
 
 
@@ -289,8 +296,10 @@ def small_frame(chance: Chance) -> list[int]:
     crtc[8] = chance.bits(7) if chance.one_in(4) else 0
     crtc[9] = chance.bits(8) & 0x87 if chance.one_in(4) else chance.below(16)
     crtc[0x0C], crtc[0x0D] = chance.byte(), chance.byte()
-    crtc[0x10] = chance.below(lines + 24)
-    crtc[0x11] = chance.bits(4)
+    crtc[RETRACE_START] = chance.below(lines + 24)
+    # The retrace lasts a line, or 1 to 16.
+    lasts = crtc[RETRACE_START] + 1 & 15
+    crtc[RETRACE_END] = lasts if chance.one_in(3) else chance.bits(4)
     crtc[0x12] = lines - 1
     crtc[0x13] = chance.byte()
     crtc[0x17] = COUNTING | chance.bits(8) & COUNTED

@@ -80,7 +80,7 @@ def _place(chance: Chance, bda: Parts) -> int:
     """A cursor position: in the page more often than not, at its last row and column often."""
     columns, last = SHAPES[bda["mode"]][0], _last_row(bda)
     row = last if chance.one_in(4) else chance.below(last + 1)
-    column = columns - 1 if chance.one_in(4) else chance.below(columns)
+    column = chance.among((0, columns - 1)) if chance.one_in(3) else chance.below(columns)
     if chance.one_in(16):
         row, column = chance.among(((row, columns), (last + 1, column), (chance.bits(8), column)))
     return row << 8 | column
@@ -326,7 +326,7 @@ def _with_block(chance: Chance, card: SteppedCard, called: Called) -> Step:
     length = card.block_length(numbers)
     # No function of these elements takes more, unless its count is wrong.
     length = length if length <= 1024 else 0
-    if length and chance.one_in(24):
+    if length and chance.one_in(10):
         length += chance.among((-1, 1))
     block = called.block if called.block is not None else bytes(chance.many(length))
     given = (block + bytes(length))[:length] if length else b""
@@ -364,7 +364,7 @@ def _service(chance: Chance, card: SteppedCard, function: Function) -> Wish:
     bda = data(chance, MODES if is_other else function.modes) if has_mode else NO_DATA
     called = function.choose(chance, bda if has_mode else data(chance, function.modes))
     state = _state(chance, card, function, bda)
-    if chance.one_in(12):
+    if chance.one_in(8):
         _changed(chance, state)
     if "colours" in state:
         known = {*_entries(called), *(place[0] for place in state["colours"])}

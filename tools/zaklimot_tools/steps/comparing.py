@@ -1,0 +1,78 @@
+"""Where two elements differ: what was expected, and what came."""
+
+from typing import Any, Iterator
+
+from .parts import ANSWER, FINAL, INITIAL, LISTS, PLACES, REFUSED, STRUCTS, Element
+
+# So much of a value is told.
+MOST_SHOWN = 60
+
+
+def differences(expected: Element, given: Element) -> Iterator[str]:
+    """What differs, member by member. Of states only the parts that both have are compared."""
+    refused, came = expected.get(REFUSED), given.get(REFUSED)
+    if refused != came:
+        yield f"{REFUSED}: {came or 'it is done'}, not {refused or 'done'}"
+    elif expected.get(ANSWER) != given.get(ANSWER):
+        yield from _answers(expected.get(ANSWER), given.get(ANSWER))
+    for name in (INITIAL, FINAL):
+        states = expected[name], given.get(name, {})
+        for part in (one for one in states[0] if one in states[1]):
+            if states[0][part] != states[1][part]:
+                front = "" if name == FINAL else "before the step, "
+                told = _parts(part, states[0][part], states[1][part])
+                yield from (front + one for one in told)
+
+
+def _answers(expected: Any, given: Any) -> Iterator[str]:
+    """Where two answers differ: numbers, registers, or the dots of a line."""
+    if isinstance(expected, dict) and isinstance(given, dict):
+        for name in expected.keys() | given.keys():
+            one, other = expected.get(name), given.get(name)
+            if one != other and isinstance(one, list) and isinstance(other, list):
+                yield from _listed(f"{ANSWER} {name}", one, other)
+            elif one != other:
+                yield f"{ANSWER} {name}: {_shown(other)}, not {_shown(one)}"
+    else:
+        yield f"{ANSWER}: {_shown(given)}, not {_shown(expected)}"
+
+
+def _shown(value: Any) -> str:
+    text = "none" if value is None else str(value)
+    return text if len(text) <= MOST_SHOWN else f"{text[:MOST_SHOWN]}.."
+
+
+def _listed(name: str, one: list[Any], other: list[Any]) -> Iterator[str]:
+    """Where two lists differ first."""
+    if len(one) != len(other):
+        yield f"{name}: {len(other)} of them, not {len(one)}"
+        return
+    places = [place for place in range(len(one)) if one[place] != other[place]]
+    place = places[0]
+    more = f", and {len(places) - 1} more" if len(places) > 1 else ""
+    yield f"{name} {place}: {_shown(other[place])}, not {_shown(one[place])}{more}"
+
+
+def _parts(name: str, one: Any, other: Any) -> Iterator[str]:
+    """Where two values of a part differ."""
+    if name in STRUCTS and isinstance(other, dict):
+        for field in one:
+            if one[field] != other.get(field):
+                yield f"{name} {field}: {_shown(other.get(field))}, not {_shown(one[field])}"
+    elif name in PLACES and isinstance(other, list):
+        yield from _places(name, one, other)
+    elif name in LISTS and isinstance(other, list):
+        yield from _listed(name, one, other)
+    else:
+        yield f"{name}: {_shown(other)}, not {_shown(one)}"
+
+
+def _places(name: str, one: list[Any], other: list[Any]) -> Iterator[str]:
+    """Where two lists of places differ: by plane or component."""
+    known = {place[0]: place[1:] for place in other if isinstance(place, list) and place}
+    for first, *values in one:
+        given = known.get(first)
+        if given is None:
+            yield f"{name} {first}: none, not {values}"
+        elif given != values:
+            yield f"{name} {first}: {_shown(given)}, not {values}"
