@@ -1,8 +1,170 @@
-"""The command `check`: an adapter is held to elements, by lines of JSON."""
+"""The command `check`: an adapter is held to elements, and what differs is told by the rules that the
+elements show."""
 
 import argparse
+import json
+from typing import Iterator, NamedTuple, Optional
+from xml.etree import ElementTree
+
+from zaklimot_tools.core.files import name_of
+from zaklimot_tools.core.progress import Progress
+from zaklimot_tools.core.streams import counted, teller, write_file
+from zaklimot_tools.core.trouble import AGREED, DIFFERED
+
+from .asking import SKIPPED, AskedAdapter, asked_adapter
+from .comparing import differences
+from .parts import FINAL, NAME, REFUSED, Element
+from .reading import read_elements
+from .rules import RULES, branches_shown
+
+# So many differences of the first element that differs are told, and so many rules.
+MOST_TOLD, MOST_RULES = 8, 5
+NO_STATE = "final: the answer has none of its parts"
+PLACES = {rule.name: rule.place for rule in RULES}
 
 
-def check(words: argparse.Namespace, progress: object) -> int:
-    """Later."""
-    return 0
+class Branches(NamedTuple):
+    """How many elements that show a branch of a rule agree, and how many differ."""
+
+    rule: str
+    branch: str
+    agree: int
+    differ: int
+
+    @property
+    def share(self) -> float:
+        """The share of those that differ."""
+        return self.differ / (self.agree + self.differ)
+
+    def told(self) -> str:
+        """The counts, the rule, and where it stands."""
+        many = f"{self.differ} of {self.agree + self.differ}"
+        return f"{many:>14}  {self.rule}: {self.branch} ({PLACES[self.rule]})"
+
+
+class HeldFile:
+    """What came of the elements of a file."""
+
+    def __init__(self, name: str) -> None:
+        self.name = name
+        self.agree = self.differ = self.skipped = 0
+        self.first: Optional[tuple[int, str, list[str]]] = None
+        self.left_out: dict[str, int] = {}
+        self._counts: dict[tuple[str, str], list[int]] = {}
+
+    def judge(self, element: Element, given: Element, number: int) -> None:
+        """Counts an element by what an adapter answered."""
+        if given.get(SKIPPED):
+            self.skipped += 1
+            return
+        found = list(differences(element, given))
+        if not element[FINAL].keys() & given.get(FINAL, {}).keys():
+            found.append(NO_STATE)
+        self.agree += not found
+        self.differ += bool(found)
+        if found and self.first is None:
+            self.first = (number, element[NAME], found)
+        for part in element[FINAL]:
+            if part not in given.get(FINAL, {}):
+                self.left_out[part] = self.left_out.get(part, 0) + 1
+        for rule, branch in branches_shown(element):
+            self._counts.setdefault((rule.name, branch), [0, 0])[bool(found)] += 1
+
+    def skip(self) -> None:
+        """Counts an element that isn't asked for."""
+        self.skipped += 1
+
+    def branches(self) -> list[Branches]:
+        """The branches that its elements show, those first that differ most."""
+        found = [Branches(*key, *counts) for key, counts in self._counts.items()]
+        return sorted(found, key=lambda one: (-one.share, -one.differ))
+
+    def lines(self) -> Iterator[str]:
+        """What is told of the file."""
+        counts = {"agree": self.agree, "differ": self.differ, "skipped": self.skipped}
+        told = ", ".join(f"{count} {name}" for name, count in counts.items() if count)
+        yield f"{self.name}: {told or 'no element'}"
+        for part, count in self.left_out.items():
+            yield f"  {part} is left out of {counted(count, 'answer')}"
+        if self.first is not None:
+            number, name, found = self.first
+            yield f"  the first that differs is element {number}, {name}"
+            yield from (f"    {one}" for one in found[:MOST_TOLD])
+            worst = [one for one in self.branches() if one.differ][:MOST_RULES]
+            yield from (f"  {one.told()}" for one in worst)
+
+    def told(self) -> dict[str, object]:
+        """The same for machines."""
+        first = dict(zip(("element", "name", "differences"), self.first or ()))
+        return {
+            "file": self.name,
+            "agree": self.agree,
+            "differ": self.differ,
+            "skipped": self.skipped,
+            "left_out": self.left_out,
+            "first": first or None,
+            "rules": [one._asdict() for one in self.branches()],
+        }
+
+
+def check(words: argparse.Namespace, progress: Progress) -> int:
+    """Holds a command to the elements of files."""
+    tell = teller(words.json, words.junit)
+    held = []
+    for path in words.file:
+        with asked_adapter(words.command, words.timeout) as adapter:
+            held.append(_held(path, adapter, words.refusals, progress))
+        progress.clear()
+        tell("".join(f"{line}\n" for line in held[-1].lines()))
+    if words.json is not None:
+        write_file(words.json, (json.dumps([one.told() for one in held]) + "\n").encode("ascii"))
+    if words.junit is not None:
+        write_file(words.junit, _junit_text(held).encode("utf-8", "xmlcharrefreplace"))
+    differ, agree = sum(one.differ for one in held), sum(one.agree for one in held)
+    total = agree + differ + sum(one.skipped for one in held)
+    tell(f"{counted(total, 'element')}: {agree} agree, {differ} differ\n")
+    return DIFFERED if differ or not agree else AGREED
+
+
+def _held(
+    path: str, adapter: AskedAdapter, has_refusals: bool, progress: Progress
+) -> HeldFile:
+    """What an adapter makes of the elements of a file."""
+    held = HeldFile(name_of(path))
+    for number, element in enumerate(read_elements(path)):
+        if REFUSED in element and not has_refusals:
+            held.skip()
+        else:
+            held.judge(element, adapter.answer(element, number), number)
+        if progress.is_due():
+            progress.tell(f"{held.name}: {counted(number + 1, 'element')}, {held.differ} differ")
+    return held
+
+
+def _junit_text(held: list[HeldFile]) -> str:
+    """A test case for each rule of each file."""
+    suites = ElementTree.Element("testsuites")
+    for file in held:
+        rules: dict[str, list[Branches]] = {}
+        for one in file.branches():
+            rules.setdefault(one.rule, []).append(one)
+        failing = sum(any(one.differ for one in some) for some in rules.values())
+        counts = {"tests": str(len(rules)), "failures": str(failing), "errors": "0"}
+        suite = ElementTree.SubElement(suites, "testsuite", {"name": file.name, **counts})
+        for name, some in rules.items():
+            _add_case(suite, file, name, [one for one in some if one.differ])
+    ElementTree.indent(suites)
+    text = ElementTree.tostring(suites, "unicode")
+    return '<?xml version="1.0" encoding="UTF-8"?>\n' + text + "\n"
+
+
+def _add_case(
+    suite: ElementTree.Element, file: HeldFile, name: str, wrong: list[Branches]
+) -> None:
+    case = ElementTree.SubElement(suite, "testcase", classname=file.name, name=name)
+    if wrong and file.first is not None:
+        number, element, found = file.first
+        failure = ElementTree.SubElement(case, "failure", message=wrong[0].told().strip())
+        lines = [one.told() for one in wrong]
+        told = [f"the first of the file that differs: element {number}, {element}", *found]
+        failure.text = "\n".join([*lines, *told[: MOST_TOLD + 1]])

@@ -4,6 +4,8 @@ from typing import Any, Iterator
 
 from .parts import ANSWER, FINAL, INITIAL, LISTS, PLACES, REFUSED, STRUCTS, Element
 
+# What a line's dots are told as.
+DOTS = ("colours", "entries")
 # So much of a value is told.
 MOST_SHOWN = 60
 
@@ -27,7 +29,7 @@ def differences(expected: Element, given: Element) -> Iterator[str]:
 def _answers(expected: Any, given: Any) -> Iterator[str]:
     """Where two answers differ: numbers, registers, or the dots of a line."""
     if isinstance(expected, dict) and isinstance(given, dict):
-        for name in expected.keys() | given.keys():
+        for name in sorted(_compared(expected, given)):
             one, other = expected.get(name), given.get(name)
             if one != other and isinstance(one, list) and isinstance(other, list):
                 yield from _listed(f"{ANSWER} {name}", one, other)
@@ -35,6 +37,14 @@ def _answers(expected: Any, given: Any) -> Iterator[str]:
                 yield f"{ANSWER} {name}: {_shown(other)}, not {_shown(one)}"
     else:
         yield f"{ANSWER}: {_shown(given)}, not {_shown(expected)}"
+
+
+def _compared(expected: Element, given: Element) -> set[str]:
+    """The members of an answer that are compared. Of a line's dots an adapter may tell the colours
+    alone, or the entries."""
+    if {*DOTS} & given.keys() and {*DOTS} <= expected.keys():
+        return {*DOTS} & given.keys()
+    return {*expected, *given}
 
 
 def _shown(value: Any) -> str:
