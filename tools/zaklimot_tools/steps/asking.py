@@ -59,7 +59,9 @@ class AskedAdapter:
             told = f"its answer to element {number} is no JSON: {error}: {_shown(line)}"
             raise Trouble(told, self._name) from error
         if not isinstance(given, dict) or not isinstance(given.get(FINAL, {}), dict):
-            raise Trouble(f"its answer to element {number} is no element: {_shown(line)}", self._name)
+            raise Trouble(
+                f"its answer to element {number} is no element: {_shown(line)}", self._name
+            )
         return cast(Element, given)
 
     def _exchanged(self, line: bytes) -> bytes:

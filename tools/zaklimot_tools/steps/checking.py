@@ -18,7 +18,10 @@ from .reading import read_elements
 from .rules import RULES, branches_shown
 
 # So many differences of the first element that differs are told, and so many rules.
-MOST_TOLD, MOST_RULES = 8, 5
+MOST_TOLD, MOST_RULES = 8, 3
+# So many elements that agree are counted with those of each branch: what one or two elements show
+# says little.
+FEW = 4
 NO_STATE = "final: the answer has none of its parts"
 PLACES = {rule.name: rule.place for rule in RULES}
 
@@ -32,9 +35,9 @@ class Branches(NamedTuple):
     differ: int
 
     @property
-    def share(self) -> float:
-        """The share of those that differ."""
-        return self.differ / (self.agree + self.differ)
+    def weight(self) -> float:
+        """How much speaks for this rule: the share of those that differ, less where they are few."""
+        return self.differ / (self.agree + self.differ + FEW)
 
     def told(self) -> str:
         """The counts, the rule, and where it stands."""
@@ -50,7 +53,7 @@ class HeldFile:
         self.agree = self.differ = self.skipped = 0
         self.first: Optional[tuple[int, str, list[str]]] = None
         self.left_out: dict[str, int] = {}
-        self._counts: dict[tuple[str, str], list[int]] = {}
+        self.counts: dict[tuple[str, str], list[int]] = {}
 
     def judge(self, element: Element, given: Element, number: int) -> None:
         """Counts an element by what an adapter answered."""
@@ -68,7 +71,7 @@ class HeldFile:
             if part not in given.get(FINAL, {}):
                 self.left_out[part] = self.left_out.get(part, 0) + 1
         for rule, branch in branches_shown(element):
-            self._counts.setdefault((rule.name, branch), [0, 0])[bool(found)] += 1
+            self.counts.setdefault((rule.name, branch), [0, 0])[bool(found)] += 1
 
     def skip(self) -> None:
         """Counts an element that isn't asked for."""
@@ -76,8 +79,7 @@ class HeldFile:
 
     def branches(self) -> list[Branches]:
         """The branches that its elements show, those first that differ most."""
-        found = [Branches(*key, *counts) for key, counts in self._counts.items()]
-        return sorted(found, key=lambda one: (-one.share, -one.differ))
+        return ranked([self])
 
     def lines(self) -> Iterator[str]:
         """What is told of the file."""
@@ -107,6 +109,17 @@ class HeldFile:
         }
 
 
+def ranked(held: list[HeldFile]) -> list[Branches]:
+    """The branches that the elements of files show, those first for which most speaks."""
+    counts: dict[tuple[str, str], list[int]] = {}
+    for key, pair in ((key, pair) for file in held for key, pair in file.counts.items()):
+        total = counts.setdefault(key, [0, 0])
+        total[0] += pair[0]
+        total[1] += pair[1]
+    found = [Branches(*key, *pair) for key, pair in counts.items()]
+    return sorted(found, key=lambda one: (-one.weight, -one.differ))
+
+
 def check(words: argparse.Namespace, progress: Progress) -> int:
     """Holds a command to the elements of files."""
     tell = teller(words.json, words.junit)
@@ -122,13 +135,14 @@ def check(words: argparse.Namespace, progress: Progress) -> int:
         write_file(words.junit, _junit_text(held).encode("utf-8", "xmlcharrefreplace"))
     differ, agree = sum(one.differ for one in held), sum(one.agree for one in held)
     total = agree + differ + sum(one.skipped for one in held)
+    if sum(bool(one.differ) for one in held) > 1:
+        wrong = [one for one in ranked(held) if one.differ][:MOST_RULES]
+        tell("of all files\n" + "".join(f"  {one.told()}\n" for one in wrong))
     tell(f"{counted(total, 'element')}: {agree} agree, {differ} differ\n")
     return DIFFERED if differ or not agree else AGREED
 
 
-def _held(
-    path: str, adapter: AskedAdapter, has_refusals: bool, progress: Progress
-) -> HeldFile:
+def _held(path: str, adapter: AskedAdapter, has_refusals: bool, progress: Progress) -> HeldFile:
     """What an adapter makes of the elements of a file."""
     held = HeldFile(name_of(path))
     for number, element in enumerate(read_elements(path)):
@@ -158,9 +172,7 @@ def _junit_text(held: list[HeldFile]) -> str:
     return '<?xml version="1.0" encoding="UTF-8"?>\n' + text + "\n"
 
 
-def _add_case(
-    suite: ElementTree.Element, file: HeldFile, name: str, wrong: list[Branches]
-) -> None:
+def _add_case(suite: ElementTree.Element, file: HeldFile, name: str, wrong: list[Branches]) -> None:
     case = ElementTree.SubElement(suite, "testcase", classname=file.name, name=name)
     if wrong and file.first is not None:
         number, element, found = file.first

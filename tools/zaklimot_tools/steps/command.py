@@ -73,7 +73,9 @@ def _make_in_children(words: argparse.Namespace, kinds: list[Kind], progress: Pr
     given = ["make", words.folder, "--count", str(words.count), "--seed", str(words.seed)]
     given += ["--plain"] if words.plain else []
     commands = [[*given, "--only", kind.name] for kind in kinds if _is_alone(kind, kinds)]
-    for done in in_children(commands, words.jobs, progress, lambda n: f"{n} of {len(commands)} files"):
+    for done in in_children(
+        commands, words.jobs, progress, lambda n: f"{n} of {len(commands)} files"
+    ):
         progress.clear()
         write(done.output.decode("utf-8", "surrogateescape"))
     return AGREED
@@ -173,9 +175,7 @@ def _best(counts: list[dict[str, object]], rule: str, branch: str) -> tuple[str,
     return best
 
 
-def _coverage_lines(
-    table: dict[str, dict[str, tuple[str, float]]], least: int
-) -> Iterator[str]:
+def _coverage_lines(table: dict[str, dict[str, tuple[str, float]]], least: int) -> Iterator[str]:
     """The table as lines: each rule with its place, and each branch with its share."""
     for rule in RULES:
         yield f"{rule.name} ({rule.place})"

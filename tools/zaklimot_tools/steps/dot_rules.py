@@ -162,7 +162,6 @@ def _frame_lines(e: SeenElement) -> int:
     return int(e.crtc[6] + (e.crtc[7] & 1) * 256 + (e.crtc[7] >> 5 & 1) * 512) + 2
 
 
-
 def _status(e: SeenElement, value: int) -> bool:
     return e.address == e.base + 6 and e.answer == value
 
@@ -332,8 +331,7 @@ RULES = (
             "within a character": lambda e: e.final["beam"]["character"] == e.beam["character"]
             and e.final["beam"]["line"] == e.beam["line"]
             and e.address > 0,
-            "into another character": lambda e: e.final["beam"]["character"]
-            != e.beam["character"],
+            "into another character": lambda e: e.final["beam"]["character"] != e.beam["character"],
             "into another line": lambda e: e.final["beam"]["line"] != e.beam["line"],
             "into another frame": lambda e: e.final["beam"]["frame"] != e.beam["frame"],
             "frame 31 is followed by 0": lambda e: e.beam["frame"] == 31

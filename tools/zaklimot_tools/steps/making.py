@@ -35,7 +35,7 @@ def element(wish: Wish, parts: Sequence[str], card: SteppedCard, number: int) ->
         INITIAL: initial,
         **({REACH: wish.reach} if wish.reach else {}),
         **step_member(wish.step),
-        **_told(wish.step, taken, initial),
+        **told_of(wish.step, taken, initial),
         FINAL: final,
     }
 
@@ -48,7 +48,7 @@ def step_member(step: Step) -> Element:
     return {step.name: list(step.numbers)}
 
 
-def _told(step: Step, taken: Taken, initial: Parts) -> Element:
+def told_of(step: Step, taken: Taken, initial: Parts) -> Element:
     """What the step answers, as members of an element."""
     if taken.refused:
         return {REFUSED: taken.refused}

@@ -15,13 +15,17 @@ def _is_done(e: SeenElement) -> bool:
 
 def _map(e: SeenElement, number: int, first: int = 0, size: int = 1 << 17) -> bool:
     """Whether an address is in a window, and in this part of it."""
-    return _is_done(e) and e.gfx[6] >> 2 == number and first <= e.address - e.window[0] < first + size
+    return (
+        _is_done(e) and e.gfx[6] >> 2 == number and first <= e.address - e.window[0] < first + size
+    )
 
 
 def _end(e: SeenElement, offset: int) -> bool:
     """Whether the address is so far from the window's first, or after its last."""
     first, size = e.window
-    return bool(e.misc & 2) and e.address == (first + offset if offset >= 0 else first + size + offset)
+    return bool(e.misc & 2) and e.address == (
+        first + offset if offset >= 0 else first + size + offset
+    )
 
 
 def _beside(e: SeenElement, is_before: bool) -> bool:
@@ -88,8 +92,7 @@ RULES = (
         {
             "reset": lambda e: _is_done(e) and e.seq[0] != 3,
             "clocking mode": lambda e: _is_done(e) and e.seq[1] & 0x3C,
-            "clock, page and sync of miscellaneous output": lambda e: _is_done(e)
-            and e.misc & 0xEC,
+            "clock, page and sync of miscellaneous output": lambda e: _is_done(e) and e.misc & 0xEC,
             "extended memory is 0": lambda e: _is_done(e) and not e.seq[4] & 2,
             "256 colours": lambda e: _is_done(e) and e.gfx[5] & 0x40,
         },
@@ -154,9 +157,7 @@ RULES = (
             "chain 4, plane 1": lambda e: _is_done(e) and _chain(e) and e.reached == 2,
             "chain 4, plane 2": lambda e: _is_done(e) and _chain(e) and e.reached == 4,
             "chain 4, plane 3": lambda e: _is_done(e) and _chain(e) and e.reached == 8,
-            "chain 4, not in the map mask": lambda e: _is_done(e)
-            and _chain(e)
-            and not e.reached,
+            "chain 4, not in the map mask": lambda e: _is_done(e) and _chain(e) and not e.reached,
             "odd/even, even address": lambda e: _is_done(e)
             and not e.seq[4] & 12
             and not e.place & 1

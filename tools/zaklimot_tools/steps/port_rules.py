@@ -65,9 +65,7 @@ def _attribute(e: SeenElement, is_data: int) -> bool:
 
 
 def _palette_data(e: SeenElement, is_shown: bool) -> bool:
-    return (
-        _attribute(e, 1) and e.attr_index & 31 < 16 and bool(e.attr_index & 32) == is_shown
-    )
+    return _attribute(e, 1) and e.attr_index & 31 < 16 and bool(e.attr_index & 32) == is_shown
 
 
 def _component(e: SeenElement, step: str, component: int) -> bool:
@@ -100,9 +98,7 @@ RULES = (
         ANY,
         {
             **_bank(GRAPHICS, "gfx_index", 9, 15),
-            "shift register mode is refused": lambda e: _data(
-                e, "out", GRAPHICS, "gfx_index", 5, 5
-            )
+            "shift register mode is refused": lambda e: _data(e, "out", GRAPHICS, "gfx_index", 5, 5)
             and e.value & 0x20
             and e.refused,
         },
@@ -124,8 +120,7 @@ RULES = (
             or _controller(e, "in", 0x19, 0x1F),
             "count by four is refused": lambda e: _controller(e, "out", 0x14, 0x14) and e.refused,
             "mode control is refused": lambda e: _controller(e, "out", 0x17, 0x17) and e.refused,
-            "mode control is taken": lambda e: _controller(e, "out", 0x17, 0x17)
-            and not e.refused,
+            "mode control is taken": lambda e: _controller(e, "out", 0x17, 0x17) and not e.refused,
         },
     ),
     ShownRule(

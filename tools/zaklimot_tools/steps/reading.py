@@ -242,5 +242,3 @@ def step_of(element: Element) -> Step:
     if name == "int":
         return Step("int", tuple(value[one] for one in REGISTERS), bytes(value.get(BLOCK, ())))
     return Step(name, tuple(value))
-
-

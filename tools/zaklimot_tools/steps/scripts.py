@@ -87,7 +87,9 @@ def expected_answer(element: Element) -> Optional[str]:
     if step.name != "int":
         return f"{answer:0{4 if step.name.endswith('w') else 2}X}"
     registers = " ".join(f"{name}={answer[name]:04X}" for name in ("ax", "bx", "cx", "dx"))
-    return registers + (f" block {bytes(answer['block']).hex().upper()}" if "block" in answer else "")
+    return registers + (
+        f" block {bytes(answer['block']).hex().upper()}" if "block" in answer else ""
+    )
 
 
 def text_lines(element: Element) -> Iterator[str]:
@@ -191,9 +193,7 @@ def _read_beam(answer: Answer) -> Parts:
 
 def _read_bda(answer: Answer) -> Parts:
     words = answer.answer.split()
-    read: Parts = {
-        name: int(words[words.index(word) + 1], 16) for name, word in BDA_WORDS.items()
-    }
+    read: Parts = {name: int(words[words.index(word) + 1], 16) for name, word in BDA_WORDS.items()}
     at = words.index("at") + 1
     read[CURSORS] = [int(word, 16) for word in words[at : at + 8]]
     return {"bda": {name: read[name] for name in BDA}}
@@ -255,7 +255,5 @@ def _line_of(answer: Answer, element: Element) -> Any:
     row: list[int] = []
     if isinstance(picture, Picture) and number < picture.height:
         dots = picture.row(number)
-        row = [
-            dots[at] << 12 | dots[at + 1] << 6 | dots[at + 2] for at in range(0, len(dots), 3)
-        ]
+        row = [dots[at] << 12 | dots[at + 1] << 6 | dots[at + 2] for at in range(0, len(dots), 3)]
     return dots_answer(row, element[INITIAL])

@@ -368,7 +368,9 @@ def _service(chance: Chance, card: SteppedCard, function: Function) -> Wish:
         _changed(chance, state)
     if "colours" in state:
         known = {*_entries(called), *(place[0] for place in state["colours"])}
-        state["colours"] = [[entry, *(byte & 63 for byte in chance.many(3))] for entry in sorted(known)]
+        state["colours"] = [
+            [entry, *(byte & 63 for byte in chance.many(3))] for entry in sorted(known)
+        ]
     step = _with_block(chance, card, called)
     name = _name(function, bda, step)
     if "planes" not in function.parts:
@@ -416,9 +418,7 @@ def _any_registers(chance: Chance, state: Parts) -> None:
     crtc = small_frame(chance) if chance.one_in(2) else controller(chance, chance.one_in(2))
     gfx = chance.many(9)
     gfx[5] &= ~0x20
-    state.update(
-        misc=chance.bits(8), seq=chance.many(5), gfx=gfx, crtc=crtc, attr=chance.many(21)
-    )
+    state.update(misc=chance.bits(8), seq=chance.many(5), gfx=gfx, crtc=crtc, attr=chance.many(21))
     state.update(dac_index=chance.bits(8), dac_component=chance.below(3), dac_mask=chance.byte())
     state.update(attr_index=chance.bits(6), attr_is_data=chance.bits(1))
 

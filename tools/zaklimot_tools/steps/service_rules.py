@@ -341,7 +341,9 @@ RULES = (
         PAGE + "characters-and-blanks",
         INT,
         {
-            "bit mask": lambda e: e.ah and not e.refused and "gfx" in e.initial
+            "bit mask": lambda e: e.ah
+            and not e.refused
+            and "gfx" in e.initial
             and e.gfx[8] != 0xFF
             and e.bda["mode"],
             "memory is not decoded": lambda e: e.ah

@@ -64,7 +64,9 @@ def _add_script(commands: Any) -> None:
 
 def _add_check(commands: Any) -> None:
     told = "holds an adapter to elements, by lines of JSON"
-    example = "tools/vga-steps check 'python3 examples/steps/toy.py' examples/steps/sequencer.json.gz"
+    example = (
+        "tools/vga-steps check 'python3 examples/steps/toy.py' examples/steps/sequencer.json.gz"
+    )
     made = cli.command(commands, "check", _job("check"), told, example)
     add(made, "COMMAND", COMMAND)
     _add_files(made)

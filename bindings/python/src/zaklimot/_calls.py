@@ -111,6 +111,4 @@ def bind_all(path: str, names: Iterable[str] = tuple(CALLS)) -> Mapping[str, Cal
     whole script, release the lock.
     """
     held, released = ctypes.PyDLL(path), ctypes.CDLL(path)
-    return {
-        name: _bind(held if CARD in CALLS[name] else released, name) for name in names
-    }
+    return {name: _bind(held if CARD in CALLS[name] else released, name) for name in names}

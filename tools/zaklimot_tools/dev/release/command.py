@@ -81,7 +81,7 @@ class Commit(NamedTuple):
 
 
 # The tools of a release, and the parts of their package: those that need no toolchain.
-TOOLS = tuple(f"tools/vga-{name}" for name in ("floppy", "picture", "report", "trace"))
+TOOLS = tuple(f"tools/vga-{name}" for name in ("floppy", "picture", "report", "steps", "trace"))
 PACKAGE_PARTS = tuple(
     f"tools/{MODULES}/{name}" for name in ("__init__.py", "starting.py", *PARTS[:-1])
 )
