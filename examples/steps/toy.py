@@ -10,16 +10,13 @@ from __future__ import annotations
 
 import json
 import sys
-from typing import Any, Optional
+from operator import and_, or_, xor
+from typing import Any, Callable, Optional
 
 WINDOWS = ((0xA0000, 0x20000), (0xA0000, 0x10000), (0xB0000, 0x8000), (0xB8000, 0x8000))
 KEPT = (0x03, 0x3D, 0x0F, 0x3F, 0x0E)
-FUNCTIONS = (
-    lambda data, _: data,
-    lambda data, latch: data & latch,
-    lambda data, latch: data | latch,
-    lambda data, latch: data ^ latch,
-)
+# What is done with data and a latch, by the function select.
+FUNCTIONS: tuple[Callable[[int, int], int], ...] = (lambda data, _: data, and_, or_, xor)
 
 
 class Refused(Exception):
@@ -151,23 +148,29 @@ def state_of(card: Toy, like: dict[str, Any]) -> dict[str, Any]:
 
 def step(card: Toy, element: dict[str, Any]) -> Optional[int]:
     """Does the step of an element; what it reads. A word is two bytes, done whole or not at all."""
-    does = {"put": card.put, "get": card.get, "out": card.out, "in": card.read}
+    does: dict[str, Callable[..., Any]] = {
+        "put": card.put,
+        "get": card.get,
+        "out": card.out,
+        "in": card.read,
+    }
     name = next(name for name in does if name in element or name + "w" in element)
     if name in element:
-        return does[name](*element[name])
+        read: Optional[int] = does[name](*element[name])
+        return read
     place, *values = element[name + "w"]
     if place == (0xFFFFFFFF if name in ("put", "get") else 0xFFFF):
         raise Refused("NotDecoded")
     data = [[value >> 8 * half & 0xFF for value in values] for half in (0, 1)]
-    read = [does[name](place + half, *data[half]) for half in (0, 1)]
-    return None if values else read[0] | read[1] << 8
+    low, high = [does[name](place + half, *data[half]) for half in (0, 1)]
+    return None if values else low | high << 8
 
 
 def answer(card: Toy, element: dict[str, Any]) -> dict[str, Any]:
     """What the card answers to an element."""
     initial = element["initial"]
     set_state(card, initial)
-    told = {}
+    told: dict[str, Any] = {}
     try:
         read = step(card, element)
         told = {} if read is None else {"answer": read}

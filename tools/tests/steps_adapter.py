@@ -2,8 +2,8 @@
 
     tools/vga-steps check 'python3 tools/tests/steps_adapter.py [FAULT]' FILE..
 
-A fault changes the state before or after a step: the adapter saves its state, changes bytes of it as
-docs/STATE.md lays them out, and restores it.
+A fault changes the state before or after a step: the adapter saves its state, changes bytes of it
+as docs/STATE.md lays them out, and restores it.
 """
 
 from __future__ import annotations
@@ -53,8 +53,8 @@ Changes = dict[int, int]
 class Fault(NamedTuple):
     """A fault: which steps it meets, and the bytes that it changes before and after such a step.
 
-    After the step, the changes of before are undone first: a fault changes what a step does, and not
-    the registers that it goes by.
+    After the step, the changes of before are undone first: a fault changes what a step does, and
+    not the registers that it goes by.
     """
 
     meets: Callable[[Element], bool]

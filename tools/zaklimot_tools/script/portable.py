@@ -13,7 +13,7 @@ from pathlib import Path
 from typing import BinaryIO, Iterator, NamedTuple, Union
 
 from zaklimot_tools import TOP
-from zaklimot_tools.core.processes import Done, captured
+from zaklimot_tools.core.processes import Done, Word, captured
 from zaklimot_tools.core.trouble import Trouble
 
 
@@ -193,7 +193,8 @@ def _compile(compiler: list[str], path: Path, product: Product) -> None:
         made = Path(folder) / kept.name / product.name
         made.parent.mkdir()
         include = ("-I", SOURCES[-1].parent)
-        words = [*compiler, *FLAGS, *product.flags, *include, "-o", made, *product.sources()]
+        words: list[Word] = [*compiler, *FLAGS, *product.flags, *include]
+        words += ["-o", made, *product.sources()]
         reason = f"it can't compile {product.told}; CC may name another C compiler, and {PAGE}"
         _check(captured(words, seconds=MOST_SECONDS), reason, compiler[0])
         if product.is_program:

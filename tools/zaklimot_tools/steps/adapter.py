@@ -1,4 +1,5 @@
-"""The adapter of the library, as single steps use it: power-on, steps, and the parts of its state."""
+"""The adapter of the library, as single steps use it: power-on, steps, and the parts of its
+state."""
 
 from __future__ import annotations
 

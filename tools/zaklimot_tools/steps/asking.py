@@ -6,7 +6,7 @@ import subprocess
 import tempfile
 import threading
 import time
-from contextlib import contextmanager
+from contextlib import contextmanager, suppress
 from typing import BinaryIO, Iterator, Optional, cast
 
 from zaklimot_tools.core.processes import end, started
@@ -68,12 +68,11 @@ class AskedAdapter:
         """The line that comes after this one; an empty one where the command has ended."""
         sent, answers = self._process.stdin, self._process.stdout
         assert sent is not None and answers is not None
-        try:
+        # One that has ended may have answered before.
+        with suppress(OSError):
             sent.write(line)
             sent.flush()
-            return answers.readline(MOST_LINE)
-        except OSError:
-            return b""
+        return answers.readline(MOST_LINE)
 
     def _reason(self, line: bytes, number: int) -> str:
         """Why no whole line came."""
@@ -102,7 +101,8 @@ def asked_adapter(command: str, seconds: float) -> Iterator[AskedAdapter]:
     if not words:
         raise Trouble("the command is empty")
     pipe = subprocess.PIPE
-    with tempfile.TemporaryFile() as said:
+    with tempfile.TemporaryFile() as file:
+        said = cast(BinaryIO, file)
         with started(words, stdin=pipe, stdout=pipe, stderr=said) as process:
             adapter = AskedAdapter(words[0], process, said, seconds)
             watching = threading.Thread(target=adapter.watch, daemon=True)
@@ -117,7 +117,5 @@ def asked_adapter(command: str, seconds: float) -> Iterator[AskedAdapter]:
 
 def _close(stream: object) -> None:
     """Closes the input of a command, which may have ended before it read all."""
-    try:
+    with suppress(OSError):
         cast(BinaryIO, stream).close()
-    except OSError:
-        pass

@@ -1,5 +1,5 @@
-"""The command `check`: an adapter is held to elements, and what differs is told by the rules that the
-elements show."""
+"""The command `check`: an adapter is held to elements, and what differs is told by the rules that
+the elements show."""
 
 import argparse
 import json
@@ -12,7 +12,7 @@ from zaklimot_tools.core.streams import counted, teller, write_file
 from zaklimot_tools.core.trouble import AGREED, DIFFERED
 
 from .asking import SKIPPED, AskedAdapter, asked_adapter
-from .comparing import differences
+from .comparing import differences, members_in
 from .parts import FINAL, NAME, REFUSED, Element
 from .reading import read_elements
 from .rules import RULES, branches_shown
@@ -23,11 +23,13 @@ MOST_TOLD, MOST_RULES = 8, 3
 # says little.
 FEW = 4
 NO_STATE = "final: the answer has none of its parts"
-PLACES = {rule.name: rule.place for rule in RULES}
+BY_NAME = {rule.name: rule for rule in RULES}
+NUMBERS = {rule.name: number for number, rule in enumerate(RULES)}
 
 
 class Branches(NamedTuple):
-    """How many elements that show a branch of a rule agree, and how many differ."""
+    """How many elements that show a rule, or a branch of it, agree, and how many differ in what the
+    rule governs."""
 
     rule: str
     branch: str
@@ -36,13 +38,15 @@ class Branches(NamedTuple):
 
     @property
     def weight(self) -> float:
-        """How much speaks for this rule: the share of those that differ, less where they are few."""
+        """How much speaks for this rule: the share of those that differ, less where they are
+        few."""
         return self.differ / (self.agree + self.differ + FEW)
 
     def told(self) -> str:
         """The counts, the rule, and where it stands."""
         many = f"{self.differ} of {self.agree + self.differ}"
-        return f"{many:>14}  {self.rule}: {self.branch} ({PLACES[self.rule]})"
+        name = f"{self.rule}: {self.branch}" if self.branch else self.rule
+        return f"{many:>14}  {name} ({BY_NAME[self.rule].place})"
 
 
 class HeldFile:
@@ -70,8 +74,17 @@ class HeldFile:
         for part in element[FINAL]:
             if part not in given.get(FINAL, {}):
                 self.left_out[part] = self.left_out.get(part, 0) + 1
+        self._count(element, members_in(found))
+
+    def _count(self, element: Element, members: set[str]) -> None:
+        """Counts an element that differs in these members for the rules that it shows."""
+        shown: set[tuple[str, str]] = set()
         for rule, branch in branches_shown(element):
-            self.counts.setdefault((rule.name, branch), [0, 0])[bool(found)] += 1
+            shown |= {(rule.name, branch), (rule.name, "")}
+        for key in sorted(shown, key=lambda key: NUMBERS[key[0]]):
+            governs = BY_NAME[key[0]].governs
+            is_wrong = bool(members & {*governs} if governs else members)
+            self.counts.setdefault(key, [0, 0])[is_wrong] += 1
 
     def skip(self) -> None:
         """Counts an element that isn't asked for."""
@@ -92,8 +105,7 @@ class HeldFile:
             number, name, found = self.first
             yield f"  the first that differs is element {number}, {name}"
             yield from (f"    {one}" for one in found[:MOST_TOLD])
-            worst = [one for one in self.branches() if one.differ][:MOST_RULES]
-            yield from (f"  {one.told()}" for one in worst)
+            yield from (f"  {one.told()}" for one in worst([self]))
 
     def told(self) -> dict[str, object]:
         """The same for machines."""
@@ -120,6 +132,15 @@ def ranked(held: list[HeldFile]) -> list[Branches]:
     return sorted(found, key=lambda one: (-one.weight, -one.differ))
 
 
+def worst(held: list[HeldFile]) -> list[Branches]:
+    """The rules for which most speaks, each by its branch or as a whole."""
+    rules: dict[str, Branches] = {}
+    for one in ranked(held):
+        if one.differ:
+            rules.setdefault(one.rule, one)
+    return list(rules.values())[:MOST_RULES]
+
+
 def check(words: argparse.Namespace, progress: Progress) -> int:
     """Holds a command to the elements of files."""
     tell = teller(words.json, words.junit)
@@ -136,8 +157,7 @@ def check(words: argparse.Namespace, progress: Progress) -> int:
     differ, agree = sum(one.differ for one in held), sum(one.agree for one in held)
     total = agree + differ + sum(one.skipped for one in held)
     if sum(bool(one.differ) for one in held) > 1:
-        wrong = [one for one in ranked(held) if one.differ][:MOST_RULES]
-        tell("of all files\n" + "".join(f"  {one.told()}\n" for one in wrong))
+        tell("of all files\n" + "".join(f"  {one.told()}\n" for one in worst(held)))
     tell(f"{counted(total, 'element')}: {agree} agree, {differ} differ\n")
     return DIFFERED if differ or not agree else AGREED
 

@@ -50,18 +50,19 @@ def _count(chance: Chance, card: SteppedCard, width: int) -> int:
     """For how many dots the clock runs in the step, from where the card is: to the ends of a
     character, a line and a frame, a dot less or more, or anywhere."""
     timing = card.clock()
+    line, frame, left = int(timing.line_dots), int(timing.frame_dots), int(timing.to_frame)
     beam = card.read(("beam",), {})["beam"]
-    ends = (width - beam["dot"], timing.to_frame % timing.line_dots, timing.to_frame)
+    ends = (width - int(beam["dot"]), left % line, left)
     kind = chance.below(12)
     if kind < 6:
         return max(0, chance.among(ends) + chance.below(3) - 1)
     if kind == 6:
-        return chance.among((0, 1, 2, timing.line_dots, timing.frame_dots))
+        return chance.among((0, 1, 2, line, frame))
     if kind == 7 and chance.one_in(8):
         return chance.among((MOST_DOTS, MOST_DOTS + 1, 0xFFFFFFFF, MOST_DOTS + 1 + chance.bits(31)))
     if kind < 9:
-        return timing.line_dots * chance.below(40) + chance.below(3)
-    return chance.below(MOST_STEPS * timing.frame_dots)
+        return line * chance.below(40) + chance.below(3)
+    return chance.below(MOST_STEPS * frame)
 
 
 def _advance(chance: Chance, card: SteppedCard, state: Parts, reach: Parts, what: str) -> Wish:

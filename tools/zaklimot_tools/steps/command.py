@@ -166,12 +166,12 @@ def _counts(words: argparse.Namespace, progress: Progress) -> list[dict[str, obj
 
 def _best(counts: list[dict[str, object]], rule: str, branch: str) -> tuple[str, float]:
     """The file that shows a branch most often, and how many of 10,000 of its elements do."""
-    best: tuple[str, float] = ("", 0)
+    best: tuple[str, float] = ("", 0.0)
     for one in counts:
         branches, total = one["branches"], one["elements"]
         assert isinstance(branches, dict) and isinstance(total, int)
-        share = branches.get(rule, {}).get(branch, 0) * SHARE / max(1, total)
-        best = max(best, (str(one["file"]), share), key=lambda pair: pair[1])
+        share = float(branches.get(rule, {}).get(branch, 0) * SHARE / max(1, total))
+        best = (str(one["file"]), share) if share > best[1] else best
     return best
 
 

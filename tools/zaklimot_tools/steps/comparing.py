@@ -26,6 +26,11 @@ def differences(expected: Element, given: Element) -> Iterator[str]:
                 yield from (front + one for one in told)
 
 
+def members_in(found: list[str]) -> set[str]:
+    """The members of which differences tell."""
+    return {one.replace(":", " ").split()[0] for one in found}
+
+
 def _answers(expected: Any, given: Any) -> Iterator[str]:
     """Where two answers differ: numbers, registers, or the dots of a line."""
     if isinstance(expected, dict) and isinstance(given, dict):

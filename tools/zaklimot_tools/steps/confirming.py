@@ -1,5 +1,5 @@
-"""The command `confirm`: the script of each element on the program, and whether its report tells the
-element's states and answer."""
+"""The command `confirm`: the script of each element on the program, and whether its report tells
+the element's states and answer."""
 
 import argparse
 import tempfile

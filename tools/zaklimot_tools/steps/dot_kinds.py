@@ -183,5 +183,5 @@ def dot_kinds() -> list[Kind]:
     return [
         Kind("dots-text", "a scan line of text", PARTS, partial(_dots, kind=TEXT)),
         Kind("dots-16-colours", "a scan line of 16 colours", PARTS, partial(_dots, kind=PLANES_16)),
-        Kind("dots-256-colours", "the same of 256", PARTS, partial(_dots, kind=PACKED_256)),
+        Kind("dots-256-colours", "one of 256 colours", PARTS, partial(_dots, kind=PACKED_256)),
     ]

@@ -1,7 +1,7 @@
 """The rules of RASTER.md that elements of dots, of the clock and of input status 1 show."""
 
 from functools import partial
-from typing import Any, NamedTuple, Optional
+from typing import Any, Callable, NamedTuple, Optional
 
 from .clock_kinds import width_of
 from .dot_kinds import BLINK, DOUBLE_WORD, LINE_GRAPHICS, MONOCHROME, PAN_RESET, SELECT
@@ -83,10 +83,10 @@ def _is_blinked_away(cell: Cell, e: SeenElement) -> bool:
 
 def _is_cursor(cell: Cell, e: SeenElement) -> bool:
     is_at = cell.counter == e.crtc[0x0E] << 8 | e.crtc[0x0F]
-    return is_at and e.crtc[0x0A] & 31 <= _scan(e) <= e.crtc[0x0B] & 31
+    return bool(is_at and e.crtc[0x0A] & 31 <= _scan(e) <= e.crtc[0x0B] & 31)
 
 
-CELLS = {
+CELLS: dict[str, Callable[[Cell, SeenElement], bool]] = {
     "map_a": lambda cell, e: bool(cell.attribute & 8),
     "high_map": lambda cell, e: _map(cell, e) > 3,
     "is_line": lambda cell, e: 0xC0 <= cell.character <= 0xDF,

@@ -58,7 +58,7 @@ def told_of(step: Step, taken: Taken, initial: Parts) -> Element:
 
 
 def dots_answer(colours: Sequence[int], initial: Parts) -> Mapping[str, Any]:
-    """The dots of a line: colours of 18 bits, and the entries of the DAC that have them; -1 of a dot
-    that is black whatever the DAC has."""
+    """The dots of a line: colours of 18 bits, and the entries of the DAC that have them; -1 of a
+    dot that is black whatever the DAC has."""
     known = {place[1] << 12 | place[2] << 6 | place[3]: place[0] for place in initial["colours"]}
     return {"colours": list(colours), "entries": [known.get(colour, -1) for colour in colours]}

@@ -16,8 +16,8 @@ CHAIN_4, ODD_EVEN, PLANAR = "chain 4", "odd/even", "planar"
 SPREADS = (CHAIN_4, ODD_EVEN, PLANAR)
 # Miscellaneous output with memory decoded, and bits that change nothing here.
 ENABLE_MEMORY, OTHER_BITS = 0x02, 0xED
-# Bits of memory mode: odd/even is off, and chain 4. Of graphics mode: read compare, odd/even, and 256
-# colours. Of miscellaneous: graphics, and chain odd/even.
+# Bits of memory mode: odd/even is off, and chain 4. Of graphics mode: read compare, odd/even, and
+# 256 colours. Of miscellaneous: graphics, and chain odd/even.
 ODD_EVEN_OFF, CHAIN = 0x04, 0x08
 READ_COMPARE, ODD_EVEN_READ, PACKED = 0x08, 0x10, 0x40
 GRAPHICS, CHAIN_ODD_EVEN = 0x01, 0x02

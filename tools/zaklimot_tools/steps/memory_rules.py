@@ -84,6 +84,7 @@ RULES = (
             "it is 0: refused": lambda e: not e.misc & 2 and e.refused == "NotDecoded",
             "it is 1: done": lambda e: e.misc & 2 and _is_done(e),
         },
+        ("refused",),
     ),
     ShownRule(
         "no other register stops memory",
@@ -96,6 +97,7 @@ RULES = (
             "extended memory is 0": lambda e: _is_done(e) and not e.seq[4] & 2,
             "256 colours": lambda e: _is_done(e) and e.gfx[5] & 0x40,
         },
+        ("refused",),
     ),
     ShownRule(
         "windows",
@@ -112,12 +114,18 @@ RULES = (
             "before the window": partial(_beside, is_before=True),
             "after the window": partial(_beside, is_before=False),
         },
+        (
+            "refused",
+            "planes",
+            "latches",
+        ),
     ),
     ShownRule(
         "a write keeps the latches",
         PAGE + "planes-and-latches",
         WRITES,
         {"done": lambda e: _is_done(e) and any(e.latches) and not e.has_changed("latches")},
+        ("latches",),
     ),
     ShownRule(
         "a read loads all latches",
@@ -127,6 +135,103 @@ RULES = (
             "they change": lambda e: _is_done(e) and e.has_changed("latches"),
             "refused: they stay": lambda e: e.refused and any(e.latches),
         },
+        ("latches",),
+    ),
+    ShownRule(
+        "write mode 0: set/reset",
+        PAGE + "a-write-bit-by-bit",
+        WRITES,
+        {
+            "enabled for a plane that is reached": lambda e: _mode(e, 0) and e.gfx[1] & e.reached,
+            "not enabled for one": lambda e: _mode(e, 0) and ~e.gfx[1] & e.reached,
+        },
+        ("planes",),
+    ),
+    ShownRule(
+        "the byte is rotated",
+        PAGE + "a-write-bit-by-bit",
+        WRITES,
+        {
+            "write mode 0": lambda e: _mode(e, 0) and e.gfx[3] & 7 and ~e.gfx[1] & e.reached,
+            "write mode 3": lambda e: _mode(e, 3) and e.gfx[3] & 7,
+            "not in write mode 2": lambda e: _mode(e, 2) and e.gfx[3] & 7,
+        },
+        ("planes",),
+    ),
+    ShownRule(
+        "write mode 1 stores the latches",
+        PAGE + "a-write-bit-by-bit",
+        WRITES,
+        {
+            "with any registers": lambda e: _mode(e, 1),
+            "whatever the bit mask is": lambda e: _mode(e, 1) and e.gfx[8] != 0xFF,
+            "whatever set/reset is": lambda e: _mode(e, 1) and e.gfx[1] & e.reached,
+            "whatever the function is": lambda e: _mode(e, 1) and e.function,
+        },
+        ("planes",),
+    ),
+    ShownRule(
+        "write mode 2: a bit of the byte for each plane",
+        PAGE + "a-write-bit-by-bit",
+        WRITES,
+        {
+            "it is 1": lambda e: _mode(e, 2) and e.numbers[1] & e.reached,
+            "it is 0": lambda e: _mode(e, 2) and ~e.numbers[1] & e.reached,
+            "set/reset has no part": lambda e: _mode(e, 2) and e.gfx[1] & e.reached,
+        },
+        ("planes",),
+    ),
+    ShownRule(
+        "write mode 3: the byte narrows the mask",
+        PAGE + "a-write-bit-by-bit",
+        WRITES,
+        {
+            "bit mask FF": lambda e: _mode(e, 3) and e.gfx[8] == 0xFF,
+            "both masks": lambda e: _mode(e, 3)
+            and _is_partial(e.gfx[8])
+            and _is_partial(e.value & 0xFF),
+            "enable set/reset is ignored": lambda e: _mode(e, 3) and ~e.gfx[1] & e.reached,
+        },
+        ("planes",),
+    ),
+    ShownRule(
+        "the bit mask",
+        PAGE + "a-write-bit-by-bit",
+        WRITES,
+        {
+            "a part of the bits": lambda e: _mode(e, 0, 2, 3) and _is_partial(e.gfx[8]),
+            "all bits": lambda e: _mode(e, 0, 2, 3) and e.gfx[8] == 0xFF,
+            "no bit: the latches are stored": lambda e: _mode(e, 0, 2, 3) and e.gfx[8] == 0,
+        },
+        ("planes",),
+    ),
+    ShownRule(
+        "the function select",
+        PAGE + "a-write-bit-by-bit",
+        WRITES,
+        {**_functions(0), **_functions(2), **_functions(3)},
+        ("planes",),
+    ),
+    ShownRule(
+        "read mode 0",
+        PAGE + "a-read",
+        READS,
+        {"done": _picks},
+        ("answer",),
+    ),
+    ShownRule(
+        "read mode 1: colour compare",
+        PAGE + "a-read",
+        READS,
+        {
+            "no plane is compared": lambda e: _compares(e) and e.gfx[7] == 0,
+            "all are": lambda e: _compares(e) and e.gfx[7] == 15,
+            "some are": lambda e: _compares(e) and 0 < e.gfx[7] < 15,
+            "no bit matches": lambda e: _compares(e) and e.answer == 0,
+            "some match": lambda e: _compares(e) and _is_partial(e.answer),
+            "all match": lambda e: _compares(e) and e.answer == 0xFF and e.gfx[7],
+        },
+        ("answer",),
     ),
     ShownRule(
         "the offset in a plane",
@@ -147,6 +252,10 @@ RULES = (
             and not e.place & 1,
             "every address its own": lambda e: _is_done(e) and not _chain(e) and not e.gfx[6] & 2,
         },
+        (
+            "planes",
+            "latches",
+        ),
     ),
     ShownRule(
         "the planes that a write reaches",
@@ -169,6 +278,7 @@ RULES = (
             "all of the map mask": lambda e: _is_done(e) and e.seq[4] & 12 == 4 and e.reached,
             "none": lambda e: _is_done(e) and e.seq[4] & 12 == 4 and not e.reached,
         },
+        ("planes",),
     ),
     ShownRule(
         "the plane that a read picks",
@@ -186,6 +296,7 @@ RULES = (
             and e.gfx[4] & 2,
             "read map select": lambda e: _picks(e) and not _chain(e) and not e.gfx[5] & 0x10,
         },
+        ("answer",),
     ),
     ShownRule(
         "chain 4 is looked at first",
@@ -209,92 +320,6 @@ RULES = (
             "offsets alone": partial(_combination, bits=4),
             "all but offsets": partial(_combination, bits=3),
             "all three": partial(_combination, bits=7),
-        },
-    ),
-    ShownRule(
-        "write mode 0: set/reset",
-        PAGE + "a-write-bit-by-bit",
-        WRITES,
-        {
-            "enabled for a plane that is reached": lambda e: _mode(e, 0) and e.gfx[1] & e.reached,
-            "not enabled for one": lambda e: _mode(e, 0) and ~e.gfx[1] & e.reached,
-        },
-    ),
-    ShownRule(
-        "the byte is rotated",
-        PAGE + "a-write-bit-by-bit",
-        WRITES,
-        {
-            "write mode 0": lambda e: _mode(e, 0) and e.gfx[3] & 7 and ~e.gfx[1] & e.reached,
-            "write mode 3": lambda e: _mode(e, 3) and e.gfx[3] & 7,
-            "not in write mode 2": lambda e: _mode(e, 2) and e.gfx[3] & 7,
-        },
-    ),
-    ShownRule(
-        "write mode 1 stores the latches",
-        PAGE + "a-write-bit-by-bit",
-        WRITES,
-        {
-            "whatever the bit mask is": lambda e: _mode(e, 1) and e.gfx[8] != 0xFF,
-            "whatever set/reset is": lambda e: _mode(e, 1) and e.gfx[1] & e.reached,
-            "whatever the function is": lambda e: _mode(e, 1) and e.function,
-        },
-    ),
-    ShownRule(
-        "write mode 2: a bit of the byte for each plane",
-        PAGE + "a-write-bit-by-bit",
-        WRITES,
-        {
-            "it is 1": lambda e: _mode(e, 2) and e.numbers[1] & e.reached,
-            "it is 0": lambda e: _mode(e, 2) and ~e.numbers[1] & e.reached,
-            "set/reset has no part": lambda e: _mode(e, 2) and e.gfx[1] & e.reached,
-        },
-    ),
-    ShownRule(
-        "write mode 3: the byte narrows the mask",
-        PAGE + "a-write-bit-by-bit",
-        WRITES,
-        {
-            "bit mask FF": lambda e: _mode(e, 3) and e.gfx[8] == 0xFF,
-            "both masks": lambda e: _mode(e, 3)
-            and _is_partial(e.gfx[8])
-            and _is_partial(e.value & 0xFF),
-            "enable set/reset is ignored": lambda e: _mode(e, 3) and ~e.gfx[1] & e.reached,
-        },
-    ),
-    ShownRule(
-        "the bit mask",
-        PAGE + "a-write-bit-by-bit",
-        WRITES,
-        {
-            "a part of the bits": lambda e: _mode(e, 0, 2, 3) and _is_partial(e.gfx[8]),
-            "all bits": lambda e: _mode(e, 0, 2, 3) and e.gfx[8] == 0xFF,
-            "no bit: the latches are stored": lambda e: _mode(e, 0, 2, 3) and e.gfx[8] == 0,
-        },
-    ),
-    ShownRule(
-        "the function select",
-        PAGE + "a-write-bit-by-bit",
-        WRITES,
-        {**_functions(0), **_functions(2), **_functions(3)},
-    ),
-    ShownRule(
-        "read mode 0",
-        PAGE + "a-read",
-        READS,
-        {"done": _picks},
-    ),
-    ShownRule(
-        "read mode 1: colour compare",
-        PAGE + "a-read",
-        READS,
-        {
-            "no plane is compared": lambda e: _compares(e) and e.gfx[7] == 0,
-            "all are": lambda e: _compares(e) and e.gfx[7] == 15,
-            "some are": lambda e: _compares(e) and 0 < e.gfx[7] < 15,
-            "no bit matches": lambda e: _compares(e) and e.answer == 0,
-            "some match": lambda e: _compares(e) and _is_partial(e.answer),
-            "all match": lambda e: _compares(e) and e.answer == 0xFF and e.gfx[7],
         },
     ),
     ShownRule(

@@ -19,17 +19,18 @@ NUMBERS = {
     "dac_component": 2,
     "dac_mask": 0xFF,
 }
-# The parts that are a list of bytes, with how many each has: registers, the latches, and the red and
-# the green that wait for blue.
+# The parts that are a list of bytes, with how many each has: registers, the latches, and the red
+# and the green that wait for blue.
 LISTS = {"seq": 5, "gfx": 9, "crtc": 25, "attr": 21, "latches": 4, "dac_waiting": 2}
-# The parts that are a list of places: an offset with its bytes in the four planes, and an entry of the
-# DAC with its three components. How many numbers each place has, and the most that the first may be.
+# The parts that are a list of places: an offset with its bytes in the four planes, and an entry of
+# the DAC with its three components. How many numbers each place has, and the most that the first
+# may be.
 PLACES = {"planes": (5, 0xFFFF), "colours": (4, 0xFF)}
 # The CRC-32 of each whole plane, and of the 768 bytes of the DAC.
 SUMS = "sums"
 SUM_COUNT = 5
-# The fields of the beam and of the BIOS data, with the most that each may be; eight of the latter are
-# a list.
+# The fields of the beam and of the BIOS data, with the most that each may be; eight of the latter
+# are a list.
 BEAM = {
     "frame": 31,
     "line": 1024,

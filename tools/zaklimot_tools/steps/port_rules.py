@@ -30,19 +30,13 @@ def _bank(port: int, index: str, count: int, most: int) -> dict[str, Branch]:
         "index read": partial(_at, step="in", port=port),
         **{
             f"register {number} written": partial(
-                _data, step="out", first=number, last=number, **given  # type: ignore[arg-type]
+                _data, step="out", first=number, last=number, **given
             )
             for number in range(count)
         },
-        "registers read": partial(
-            _data, step="in", first=0, last=count - 1, **given  # type: ignore[arg-type]
-        ),
-        "no such register, written": partial(
-            _data, step="out", first=count, last=most, **given  # type: ignore[arg-type]
-        ),
-        "no such register, read": partial(
-            _data, step="in", first=count, last=most, **given  # type: ignore[arg-type]
-        ),
+        "registers read": partial(_data, step="in", first=0, last=count - 1, **given),
+        "no such register, written": partial(_data, step="out", first=count, last=most, **given),
+        "no such register, read": partial(_data, step="in", first=count, last=most, **given),
         "index and data in a word": lambda e: _at(e, "outw", port) and not e.refused,
         "index and no data in a word": lambda e: _at(e, "outw", port) and e.refused,
         "index and data read in a word": lambda e: _at(e, "inw", port) and not e.refused,

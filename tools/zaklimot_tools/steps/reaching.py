@@ -1,5 +1,5 @@
-"""From power-on to a state: the list of steps, which depends on the state alone. docs/STEPS.md tells
-it."""
+"""From power-on to a state: the list of steps, which depends on the state alone. docs/STEPS.md
+tells it."""
 
 from typing import Iterable, Iterator, Sequence
 

@@ -1,11 +1,11 @@
-"""Files of elements: a JSON array with one element a line, packed by gzip or not. They are read line
-by line, and what is no element is told with its line."""
+"""Files of elements: a JSON array with one element a line, packed by gzip or not. They are read
+line by line, and what is no element is told with its line."""
 
 import gzip
 import json
 import zlib
-from contextlib import contextmanager
-from typing import Any, BinaryIO, Iterable, Iterator, Optional, cast
+from contextlib import nullcontext
+from typing import Any, BinaryIO, ContextManager, Iterable, Iterator, Optional, cast
 
 from zaklimot.format import FORMS, MOST_BLOCK, REFUSALS, Step
 from zaklimot_tools.core.files import name_of
@@ -62,8 +62,7 @@ def write_elements(path: str, elements: Iterable[Element]) -> int:
     make the same bytes."""
     count = 0
     with writing(path) as stream:
-        packed = gzip.GzipFile("", "wb", LEVEL, stream, 0) if path.endswith(".gz") else stream
-        with packed if packed is not stream else _open(stream) as target:
+        with _packed(stream) if path.endswith(".gz") else nullcontext(stream) as target:
             target.write(FIRST)
             for element in elements:
                 target.write((b",\n" if count else b"") + text_of(element).encode("ascii"))
@@ -72,10 +71,9 @@ def write_elements(path: str, elements: Iterable[Element]) -> int:
     return count
 
 
-@contextmanager
-def _open(stream: BinaryIO) -> Iterator[BinaryIO]:
-    """A stream that somebody else closes."""
-    yield stream
+def _packed(stream: BinaryIO) -> ContextManager[BinaryIO]:
+    """A stream that packs what is written into another, and tells no time."""
+    return cast(ContextManager[BinaryIO], gzip.GzipFile("", "wb", LEVEL, stream, 0))
 
 
 def text_of(element: object) -> str:

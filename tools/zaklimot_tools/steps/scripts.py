@@ -1,5 +1,5 @@
-"""The script of an element: from power-on to its state, its step, and, where they are asked for, the
-dumps or the cycles that show the state."""
+"""The script of an element: from power-on to its state, its step, and, where they are asked for,
+the dumps or the cycles that show the state."""
 
 from __future__ import annotations
 

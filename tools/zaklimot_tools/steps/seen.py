@@ -105,9 +105,14 @@ Branch = Callable[[SeenElement], Any]
 
 class ShownRule(NamedTuple):
     """A rule of the reference pages: its name, where it stands, the steps that show it, and its
-    branches."""
+    branches.
+
+    `governs` are the members of an element that are otherwise where an adapter breaks the rule: of
+    a rule without any it may be each.
+    """
 
     name: str
     place: str
     steps: tuple[str, ...]
     branches: Mapping[str, Branch]
+    governs: tuple[str, ...] = ()

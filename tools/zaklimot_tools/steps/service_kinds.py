@@ -1,5 +1,5 @@
-"""Elements of the video BIOS: the registers, the BIOS data and the memory that a service touches, for
-each function, and mode sets."""
+"""Elements of the video BIOS: the registers, the BIOS data and the memory that a service touches,
+for each function, and mode sets."""
 
 from functools import partial
 from typing import Callable, Mapping, NamedTuple, Optional, Sequence
@@ -31,8 +31,8 @@ DOTS = {0x0D: (320, 200), 0x10: (640, 350), 0x12: (640, 480), 0x13: (320, 200)}
 LAST_ROWS = {16: 24, 14: 27, 8: 49}
 ONE_PAGE = (0x12, 0x13)
 NO_DATA: Parts = {"mode": 0, CURSORS: [0] * PAGES}
-# A service that touches more places than this has the sums of all memory instead, and so many of its
-# places.
+# A service that touches more places than this has the sums of all memory instead, and so many of
+# its places.
 MOST_PLACES, FEW_PLACES = 200, 6
 PORTS = ("misc", "bda")
 CURSOR = ("misc", "crtc_index", "crtc", "bda")
@@ -104,7 +104,7 @@ def _page(chance: Chance, bda: Parts) -> int:
     """A page: one that the mode has, or often the active one, or sometimes none."""
     if chance.one_in(16):
         return chance.among((_pages(bda), 8, 0xFF, chance.bits(8)))
-    return bda["page"] if chance.one_in(2) else chance.below(_pages(bda))
+    return int(bda["page"]) if chance.one_in(2) else chance.below(_pages(bda))
 
 
 def _choose_01(chance: Chance, bda: Parts) -> Called:
@@ -258,7 +258,12 @@ FUNCTIONS = (
     Function("service-07", "scrolls down", MEMORY, partial(_choose_scroll, function=7)),
     Function("service-08", "reads a cell", MEMORY, _choose_08),
     Function("service-09", "writes cells", MEMORY, partial(_choose_cells, function=9)),
-    Function("service-0a", "the same", MEMORY, partial(_choose_cells, function=0x0A)),
+    Function(
+        "service-0a",
+        "writes cells, and leaves attributes",
+        MEMORY,
+        partial(_choose_cells, function=0x0A),
+    ),
     Function("service-0c", "writes a dot", MEMORY, partial(_choose_pixel, function=0x0C), PIXELS),
     Function("service-0d", "reads a dot", MEMORY, partial(_choose_pixel, function=0x0D), PIXELS),
     Function("service-0e", "types a character", TYPING, _choose_0e),
@@ -268,7 +273,7 @@ FUNCTIONS = (
     Function("service-12", "reads the adapter", PORTS, _choose_12),
     Function("service-13", "writes a string", TYPING, _choose_13),
     Function("service-1a", "reads the display", PORTS, _choose_1a),
-    Function("service-unknown", "any other", PORTS, _choose_unknown),
+    Function("service-unknown", "functions and parts that there are not", PORTS, _choose_unknown),
 )
 # Bits that a share of the elements change in the registers by which services write memory.
 CHANGES = (
@@ -380,7 +385,7 @@ def _service(chance: Chance, card: SteppedCard, function: Function) -> Wish:
 
 def _name(function: Function, bda: Parts, step: Step) -> str:
     mode = f"mode {bda['mode']}" if bda["mode"] else "no mode"
-    return f"{function.name.replace('-', ' ', 1)}, ax {step.numbers[0]}, {mode}"
+    return f"service {function.name.split('-')[1]}, ax {step.numbers[0]}, {mode}"
 
 
 def _with_memory(chance: Chance, card: SteppedCard, wish: Wish) -> Wish:

@@ -79,11 +79,12 @@ def _scrolls(e: SeenElement, function: int, rows: str) -> bool:
 
 def _is_cut(e: SeenElement) -> bool:
     _, low, _, right = _window(e)
-    return _done(e, 6, 7) and (low > e.bda["last_row"] or right >= _columns(e))
+    is_cut = bool(low > e.bda["last_row"] or right >= _columns(e))
+    return _done(e, 6, 7) and is_cut
 
 
 def _is_last_row(e: SeenElement) -> bool:
-    return _cursor(e)[0] == e.bda["last_row"]
+    return bool(_cursor(e)[0] == e.bda["last_row"])
 
 
 def _breaks(e: SeenElement) -> bool:

@@ -64,9 +64,8 @@ def _add_script(commands: Any) -> None:
 
 def _add_check(commands: Any) -> None:
     told = "holds an adapter to elements, by lines of JSON"
-    example = (
-        "tools/vga-steps check 'python3 examples/steps/toy.py' examples/steps/sequencer.json.gz"
-    )
+    adapter, file = "python3 examples/steps/toy.py", "examples/steps/sequencer.json.gz"
+    example = f"tools/vga-steps check '{adapter}' {file}"
     made = cli.command(commands, "check", _job("check"), told, example)
     add(made, "COMMAND", COMMAND)
     _add_files(made)
@@ -104,7 +103,7 @@ def _add_confirm(commands: Any) -> None:
 def parser() -> argparse.ArgumentParser:
     tool = cli.tool_parser(
         "vga-steps",
-        "Makes and uses single-step tests of a display adapter: a state, a step, the state after it.",
+        "Makes and uses single-step tests of display adapters: a state, a step, and the next state.",
         "tools/vga-steps make steps --count 1000 --seed 1",
         "docs/STEPS.md",
         cli.DIFFERS,

@@ -1,0 +1,636 @@
+"""Single-step tests: how their files are made, what their scripts tell, which rules they show, and
+which faults of adapters they find."""
+
+from __future__ import annotations
+
+import contextlib
+import gzip
+import io
+import json
+import os
+import re
+import shutil
+import sys
+import tempfile
+import unittest
+from pathlib import Path
+from typing import Any, Iterator, cast
+from xml.etree import ElementTree
+
+from zaklimot_tools.steps.adapter import SteppedCard
+from zaklimot_tools.steps.asking import asked_adapter
+from zaklimot_tools.steps.chance import Chance
+from zaklimot_tools.steps.checking import Branches, HeldFile, ranked
+from zaklimot_tools.steps.comparing import differences
+from zaklimot_tools.steps.kinds import KINDS
+from zaklimot_tools.steps.library import load
+from zaklimot_tools.steps.making import elements
+from zaklimot_tools.steps.parts import BDA, BEAM, FINAL, INITIAL, ORDER, Element
+from zaklimot_tools.steps.reading import STEPS, fault_of, read_elements
+from zaklimot_tools.steps.rules import RULES, branches_shown
+from zaklimot_tools.script.words import FONTS
+
+from .steps_adapter import FAULTS, FaultyCard
+from .tools import (
+    EXAMPLES,
+    PROGRAM,
+    TOOLS,
+    TOP,
+    Folder,
+    ended,
+    hold,
+    hold_refused,
+    hold_undone,
+    run_tool,
+    want_program,
+)
+
+STEPS_EXAMPLES = EXAMPLES / "steps"
+PAGE = TOP / "docs" / "STEPS.md"
+# The seeds of these tests and of the examples. A release takes another.
+SEED, EXAMPLE_SEED = 1, 2
+COUNT, EXAMPLE_COUNT = 50, 20
+NO_COMPILER = "there is no C compiler to make the library with"
+# Which kinds find each fault, and the rule that is told first.
+FOUND = {
+    "set-reset-in-write-mode-1": ("write-mode-1-planar", "write mode 1 stores the latches"),
+    "bit-mask-ignored-in-write-mode-3": (
+        "write-mode-3-planar",
+        "write mode 3: the byte narrows the mask",
+    ),
+    "latches-not-loaded": ("read-mode-0-planar", "a read loads all latches"),
+    "odd-even-bit-kept": ("read-mode-0-odd-even", "the offset in a plane"),
+    "map-mask-ignored-in-chain-4": ("write-mode-0-chain-4", "the planes that a write reaches"),
+    "dac-index-stays": ("dac-writes", "components of the DAC are written"),
+    "flip-flop-stays": ("input-status-1", "input status 1 makes the next write an index"),
+    "no-protection": ("crt-controller-protected", "protected registers"),
+    "panning-by-nine-dots": ("dots-text", "panning"),
+    "blink-inverted": ("dots-text", "blink"),
+}
+# Faults of the toy adapter: what of its text is another, a kind that finds it, and the rule.
+TOY_FAULTS = (
+    (
+        "return latch\n",
+        "return rotated\n",
+        "write-mode-1-planar",
+        "write mode 1 stores the latches",
+    ),
+    (
+        "place & 1 else 0b0101",
+        "place & 2 else 0b0101",
+        "write-mode-0-odd-even",
+        "the planes that a",
+    ),
+    ("return ~differing & 0xFF", "return differing", "read-mode-1-planar", "read mode 1"),
+    ("self.dac_index + (self.dac", "0 * (self.dac", "dac-reads", "components of the DAC are read"),
+    ("byte & KEPT[self.seq_index]", "byte", "sequencer", "sequencer registers"),
+)
+COMPILED = {
+    "loader.c": ("gcc", "-O2", "-Wall", "-Wextra", "-Werror"),
+    "loader.cpp": ("g++", "-std=c++17", "-O2", "-Wall", "-Wextra", "-Werror"),
+    "loader.rs": ("rustc", "-O"),
+}
+GOOD: Element = {
+    "name": "a write",
+    "initial": {"misc": 3, "planes": [[5, 1, 2, 3, 4]]},
+    "put": [0xA0005, 7],
+    "final": {"misc": 3, "planes": [[5, 7, 7, 7, 7]]},
+}
+
+
+def steps(*words: Any) -> tuple[int, str, str]:
+    """Status, output and messages of the tool."""
+    status, output, said = run_tool("vga-steps", *map(str, words))
+    return status, output.decode(), said
+
+
+def told(path: Path) -> bytes:
+    """A file, unpacked."""
+    data = path.read_bytes()
+    return gzip.decompress(data) if path.suffix == ".gz" else data
+
+
+# The files of all kinds, made once.
+files: dict[str, Path] = {}
+
+
+def setUpModule() -> None:
+    """Makes the files of all kinds."""
+    if shutil.which(os.environ.get("CC") or "cc") is None:
+        raise unittest.SkipTest(NO_COMPILER)
+    folder = tempfile.TemporaryDirectory()
+    unittest.addModuleCleanup(folder.cleanup)
+    with contextlib.redirect_stderr(io.StringIO()):
+        load()
+    status, output, said = steps("make", folder.name, "--count", COUNT, "--seed", SEED, "--jobs", 4)
+    assert (status, said) == (0, ""), said
+    files.update({Path(name).name.partition(".")[0]: Path(name) for name in output.split()})
+
+
+class Made(Folder):
+    """A test with the files of all kinds."""
+
+    @property
+    def files(self) -> dict[str, Path]:
+        """The files, by their kinds."""
+        return files
+
+    def elements(self, kind: str, count: int) -> Iterator[Element]:
+        """Elements of a kind."""
+        with SteppedCard(load(), Path(FONTS).read_bytes()) as card:
+            yield from elements(KINDS[kind], count, SEED, card)
+
+
+class Making(Made):
+    def test_each_kind_has_a_file_of_elements(self) -> None:
+        self.assertEqual(set(self.files), set(KINDS))
+        for name, path in self.files.items():
+            with self.subTest(name):
+                found = list(read_elements(str(path)))
+                self.assertEqual(len(found), COUNT)
+                # What is read line by line is a JSON array too.
+                self.assertEqual(found, json.loads(told(path)))
+                for number, element in enumerate(found):
+                    self.assertTrue(element["name"].endswith(f": {number}"))
+                    self.assertEqual([*element[INITIAL]], self.parts(name))
+                    self.assertEqual([*element[FINAL]][: len(self.parts(name))], self.parts(name))
+
+    @staticmethod
+    def parts(kind: str) -> list[str]:
+        return [part for part in ORDER if part in KINDS[kind].parts]
+
+    def test_the_same_words_make_the_same_bytes(self) -> None:
+        for kind in ("write-words", "dots-text", "clock", "service-0e"):
+            made = []
+            for folder, words in (
+                ("a", ()),
+                ("b", ("--jobs", 2)),
+                ("c", ("--plain",)),
+                ("d", ("--seed", 2)),
+            ):
+                given = ("--count", COUNT, "--seed", SEED, *words, "--only", kind)
+                status, output, said = steps("make", self.folder / folder, *given)
+                self.assertEqual((status, said), (0, ""))
+                made.append(Path(output.split()[0]))
+            self.assertEqual(made[0].read_bytes(), made[1].read_bytes())
+            self.assertEqual(made[0].read_bytes(), self.files[kind].read_bytes())
+            self.assertEqual((made[2].suffix, told(made[2])), (".json", told(made[0])))
+            self.assertNotEqual(told(made[3]), told(made[0]))
+
+    def test_a_file_has_no_time(self) -> None:
+        for path in self.files.values():
+            self.assertEqual(path.read_bytes()[:9], b"\x1f\x8b\x08\0\0\0\0\0\x02")
+
+    def test_the_examples_are_what_the_tool_makes(self) -> None:
+        made = self.folder / "made"
+        words = ("--count", EXAMPLE_COUNT, "--seed", EXAMPLE_SEED, "--jobs", 4)
+        self.assertEqual(steps("make", made, *words)[0], 0)
+        names = {path.name for path in STEPS_EXAMPLES.glob("*.json.gz")}
+        self.assertEqual(names, {path.name for path in made.iterdir()})
+        for name in sorted(names):
+            self.assertEqual(told(STEPS_EXAMPLES / name), told(made / name), name)
+
+    def test_what_cannot_be_made(self) -> None:
+        hold_undone(self, steps("make", "x", "--only", "y"), "no kind has a name as --only wants")
+        hold_undone(self, steps("make", self.write("file", "")), "it is not a folder")
+        hold_undone(self, steps("make", "x", "--count", "0"), "'0' is no number from 1 to ")
+        with_library = {"ZAKLIMOT_LIBRARY": self.write("library", "no library")}
+        with unittest.mock.patch.dict(os.environ, with_library):
+            hold_undone(self, steps("make", self.folder / "x"), "it is no library of the adapter")
+
+    def test_kinds_are_listed(self) -> None:
+        status, output, _ = steps("kinds", "--parts")
+        self.assertEqual((status, [line.split()[0] for line in output.splitlines()]), (0, [*KINDS]))
+        self.assertIn("(misc, seq, gfx, latches, planes)", output)
+
+
+class Scripts(Made):
+    """The script of each element tells what stands in it."""
+
+    def test_the_program_confirms_all(self) -> None:
+        want_program()
+        status, output, said = steps("confirm", *self.files.values(), "--vga", PROGRAM, "--jobs", 4)
+        self.assertEqual((status, said), (0, ""), output)
+        self.assertEqual(output.count(f"{COUNT} elements, 0 differ\n"), len(KINDS), output)
+
+    def test_it_sees_each_part_that_is_another(self) -> None:
+        want_program()
+        for kind in ("write-words", "dac-writes", "dots-text", "clock", "service-0e", "service-10"):
+            path = self.folder / f"{kind}.json"
+            changed = list(self.changed(next(self.elements(kind, 1))))
+            path.write_text("[\n" + ",\n".join(map(json.dumps, changed)) + "\n]\n")
+            status, output, said = steps("confirm", path, "--vga", PROGRAM)
+            self.assertEqual((status, said), (1, ""))
+            self.assertIn(f"{len(changed)} elements, {len(changed)} differ", output)
+
+    @staticmethod
+    def changed(element: Element) -> Iterator[Element]:
+        """The element with each part of its final state, and with its answer, changed."""
+        for part, value in element[FINAL].items():
+            other = json.loads(json.dumps(element))
+            place, last = other[FINAL], part
+            while isinstance(value, (list, dict)) and value:
+                place, last = (
+                    place[last],
+                    len(value) - 1 if isinstance(value, list) else [*value][-1],
+                )
+                value = place[last]
+            place[last] = value ^ 1 if isinstance(value, int) else [[1, 1, 1, 1]]
+            if isinstance(value, int):
+                yield other
+        if "answer" in element:
+            yield {**element, "answer": 77}
+
+    def test_a_script_ends_in_the_step(self) -> None:
+        for kind, ending in (
+            ("write-mode-0-planar", r"put [0-9A-F]{5,8} [0-9A-F]{2}( ; = E1 NotDecoded)?"),
+            ("read-words", r"getw [0-9A-F]{5,8} ; = ([0-9A-F]{4}|E1 NotDecoded)"),
+            ("service-0f", r"int ax=0F\S+ bx=\S+ cx=\S+ dx=\S+ ; = (ax=.*|E3 NoMode)"),
+            ("dots-text", r"advance \d+"),
+        ):
+            status, output, said = steps("script", self.files[kind], 3)
+            self.assertEqual((status, said), (0, ""))
+            lines = output.splitlines()
+            self.assertTrue(lines[0].startswith("; "))
+            self.assertRegex(lines[-1], f"^{ending}$")
+
+    def test_cycles_read_the_state(self) -> None:
+        """What can be read by ports and addresses is as expected, step by step."""
+        want_program()
+        for kind in ("write-mode-3-chain-4", "read-words", "attribute-controller", "dac-writes"):
+            for kind_of in (kind, "crt-controller", "graphics-controller", "service-0e"):
+                path = self.folder / f"{kind_of}.vga"
+                words = ("script", self.files[kind_of], 5, path, "--then", "reads")
+                self.assertEqual(steps(*words), (0, "", ""))
+                done = run_tool("vga-report", "run", path, "--vga", PROGRAM, "--quiet")
+                self.assertEqual(done[0], 0, (kind_of, done))
+                self.assertGreater(path.read_text().count("; = "), 3)
+
+    def test_dumps_follow(self) -> None:
+        status, output, _ = steps("script", self.files["clock"], 0, "--then", "dumps")
+        self.assertEqual((status, output.splitlines()[-2:]), (0, ["show regs", "show beam"]))
+
+    def test_an_element_that_is_not_there(self) -> None:
+        done = steps("script", self.files["clock"], COUNT)
+        hold_undone(self, done, f"it has {COUNT} elements, and no element {COUNT}$")
+
+
+class Rules(Made):
+    def test_each_stands_under_a_heading_of_its_page(self) -> None:
+        for rule in RULES:
+            name, _, anchor = rule.place.partition("#")
+            headings = re.findall(r"^##+ (.*)$", (TOP / name).read_text("utf-8"), re.M)
+            anchors = [
+                re.sub(r"[^a-z0-9 -]", "", one.lower()).replace(" ", "-") for one in headings
+            ]
+            self.assertIn(anchor, anchors, rule.name)
+
+    def test_no_two_have_one_name(self) -> None:
+        names = [rule.name for rule in RULES]
+        self.assertEqual(len(names), len(set(names)))
+
+    def test_elements_show_each_rule(self) -> None:
+        shown = {
+            rule.name
+            for path in self.files.values()
+            for element in read_elements(str(path))
+            for rule, _ in branches_shown(element)
+        }
+        self.assertEqual({rule.name for rule in RULES} - shown, set())
+
+    def test_coverage_counts(self) -> None:
+        path = self.files["write-mode-1-planar"]
+        status, output, _ = steps("coverage", path)
+        self.assertEqual(status, 1)
+        self.assertIn("\nwrite mode 1 stores the latches (docs/HOST-PATH.md#a-write-bit", output)
+        self.assertRegex(output, r"(?m)^ !       0  text  *$|^ !       0  mode 03$")
+        found = json.loads(steps("coverage", path, "--json", "--least", "0")[1])
+        shown = found["files"][0]["branches"]["write mode 1 stores the latches"]
+        wanted = sum(
+            not one.get("refused")
+            and one["initial"]["seq"][2] > 0
+            and one["initial"]["gfx"][8] < 255
+            for one in read_elements(str(path))
+        )
+        self.assertEqual(shown["whatever the bit mask is"], wanted)
+        both = steps("coverage", path, self.files["clock"], "--jobs", 2, "--least", "0")
+        self.assertEqual(both[0], 0)
+        self.assertRegex(both[1], rf"{len(RULES)} rules with \d+ branches, 0 of them below 0 of")
+
+
+class Faults(Made):
+    def held(self, kind: str, fault: str, count: int) -> HeldFile:
+        """What comes of an adapter with a fault, or with none."""
+        card, held = FaultyCard(FAULTS.get(fault)), HeldFile(kind)
+        for number, element in enumerate(self.elements(kind, count)):
+            held.judge(element, card.answer(element), number)
+        return held
+
+    def test_the_portable_file_agrees(self) -> None:
+        for kind, path in self.files.items():
+            card, held = FaultyCard(None), HeldFile(kind)
+            for number, element in enumerate(read_elements(str(path))):
+                held.judge(element, card.answer(element), number)
+            self.assertEqual((held.agree, held.differ, held.left_out), (COUNT, 0, {}), held.first)
+
+    def test_each_is_found_by_its_kind_and_named_by_its_rule(self) -> None:
+        self.assertEqual(set(FOUND), set(FAULTS))
+        for fault, (kind, rule) in FOUND.items():
+            with self.subTest(fault):
+                held = self.held(kind, fault, 400)
+                self.assertGreater(held.differ, 5)
+                self.assertEqual(held.branches()[0].rule, rule, list(held.lines()))
+
+    def test_no_other_kind_finds_it(self) -> None:
+        for fault, others in (
+            ("set-reset-in-write-mode-1", ("write-mode-0-planar", "write-mode-3-planar")),
+            ("blink-inverted", ("dots-16-colours", "dots-256-colours")),
+            ("no-protection", ("crt-controller", "sequencer")),
+        ):
+            for kind in others:
+                self.assertEqual(self.held(kind, fault, COUNT).differ, 0, (fault, kind))
+
+    def test_a_few_elements_say_less_than_many(self) -> None:
+        few, many = HeldFile("few"), HeldFile("many")
+        few.counts, many.counts = {("a", "b"): [0, 1]}, {("c", "d"): [1, 17]}
+        self.assertEqual(ranked([few, many])[0], Branches("c", "d", 1, 17))
+
+    def test_a_rule_is_blamed_for_what_it_governs_alone(self) -> None:
+        held = self.held("read-mode-0-planar", "latches-not-loaded", COUNT)
+        counts = {one.rule: one.differ for one in held.branches() if not one.branch}
+        self.assertEqual((counts["read mode 0"], counts["enable RAM"]), (0, 0))
+        self.assertEqual(counts["a read loads all latches"], held.differ)
+
+
+class Loaders(Made):
+    """The loaders of docs/STEPS.md, each over a toy adapter."""
+
+    def run_loader(self, words: list[Any], path: Path) -> tuple[int, str]:
+        given = told(path) if words[0] != sys.executable else b""
+        words = words if given else [*words, path]
+        status, output, said = ended(*words, input=given, text=False)
+        self.assertEqual(said, b"")
+        return status, output.decode()
+
+    def hold_loader(self, words: list[Any]) -> None:
+        """Holds a loader to elements that agree, and to one that doesn't."""
+        for kind in ("write-mode-0-odd-even", "write-mode-3-planar", "read-mode-1-chain-4"):
+            done = self.run_loader(words, self.files[kind])
+            self.assertEqual(done, (0, f"{COUNT} right, 0 wrong\n"), kind)
+        wrong = list(read_elements(str(self.files["write-mode-0-planar"])))
+        done_one = next(one for one in wrong if "refused" not in one)
+        done_one[FINAL]["planes"][0][2] ^= 1
+        lines = ",\n".join(json.dumps(one, separators=(",", ":")) for one in wrong)
+        path = self.folder / "wrong.json.gz"
+        path.write_bytes(gzip.compress(f"[\n{lines}\n]\n".encode()))
+        status, output = self.run_loader(words, path)
+        self.assertEqual((status, output.splitlines()[-1]), (1, f"{COUNT - 1} right, 1 wrong"))
+        self.assertIn(done_one["name"], output)
+
+    def test_python(self) -> None:
+        self.hold_loader([sys.executable, STEPS_EXAMPLES / "loader.py"])
+
+    def test_compiled_ones(self) -> None:
+        for name, (compiler, *flags) in COMPILED.items():
+            if shutil.which(compiler) is None:
+                continue
+            with self.subTest(name):
+                program = self.folder / name.replace(".", "-")
+                done = ended(compiler, *flags, "-o", program, STEPS_EXAMPLES / name)
+                self.assertEqual((done[0], done[2]), (0, ""))
+                self.hold_loader([program])
+
+    def check_toy(self, text: str, kind: str) -> tuple[int, str]:
+        """What `check` tells of a toy adapter that has this text."""
+        toy = self.write("toy.py", text)
+        words = ("check", f"{sys.executable} -S {toy}", self.files[kind])
+        status, output, said = steps(*words)
+        self.assertEqual(said, "")
+        return status, output
+
+    def test_the_toy_adapter(self) -> None:
+        text = (STEPS_EXAMPLES / "toy.py").read_text("utf-8")
+        for kind in (
+            "write-words",
+            "read-words",
+            "sequencer",
+            "dac-writes",
+            "dac-reads",
+            "dac-mask",
+        ):
+            status, output = self.check_toy(text, kind)
+            self.assertEqual(
+                (status, output.splitlines()[-1]), (0, "50 elements: 50 agree, 0 differ")
+            )
+
+    def test_faults_of_the_toy_adapter(self) -> None:
+        text = (STEPS_EXAMPLES / "toy.py").read_text("utf-8")
+        for was, now, kind, rule in TOY_FAULTS:
+            with self.subTest(now):
+                self.assertEqual(text.count(was), 1)
+                status, output = self.check_toy(text.replace(was, now), kind)
+                self.assertEqual(status, 1)
+                first = re.search(r"(?m)^ +\d+ of \d+  (.*)$", output)
+                assert first is not None, output
+                self.assertTrue(first[1].startswith(rule), output)
+
+
+class Checking(Made):
+    def test_what_is_left_out_is_told_and_no_answer_is_none(self) -> None:
+        path = self.files["sequencer"]
+        adapter = self.program(
+            "adapter",
+            "import sys, json\n"
+            "for line in sys.stdin: print(json.dumps({'final': {'seq_index': 9}}), flush=True)\n",
+        )
+        status, output, _ = steps("check", adapter, path)
+        self.assertEqual(status, 1)
+        self.assertIn("seq is left out of 50 answers", output)
+        status, output, _ = steps("check", "cat", path)
+        self.assertEqual(status, 1)
+        self.assertIn("50 elements: 0 agree, 50 differ", output)
+
+    def test_what_is_skipped_agrees_with_nothing(self) -> None:
+        adapter = self.program(
+            "adapter",
+            "import sys\nfor line in sys.stdin: print('{\"skipped\": true}', flush=True)\n",
+        )
+        status, output, _ = steps("check", adapter, self.files["clock"])
+        self.assertEqual(status, 1)
+        self.assertIn("50 skipped", output)
+
+    def test_an_adapter_sees_no_answer(self) -> None:
+        notes = self.folder / "notes"
+        adapter = self.program(
+            "adapter",
+            "import sys\n"
+            f"notes = open({str(notes)!r}, 'w')\n"
+            "for line in sys.stdin: notes.write(line); print('{\"final\": {}}', flush=True)\n",
+        )
+        steps("check", adapter, self.files["read-words"])
+        for line in notes.read_text().splitlines():
+            self.assertEqual(set(json.loads(line)) & {"final", "answer", "refused"}, set())
+
+    def test_an_adapter_that_ends_or_says_no_json(self) -> None:
+        path = self.files["sequencer"]
+        slow = self.program("slow", "import time\ntime.sleep(100)\n")
+        for command, said in (
+            ("false", "false: it ended with status 1 at element 0$"),
+            ("sh -c 'echo oh >&2; exit 3'", "sh: it ended with status 3 at element 0\noh$"),
+            ("echo hello", "echo: its answer to element 0 is no JSON: .*: hello$"),
+            ("echo 5", "echo: its answer to element 0 is no element: 5$"),
+            ("yes x", "yes: its answer to element 0 is no JSON: "),
+            ("no-such-command", "no-such-command: No such file or directory$"),
+            ("'", "the command ''': No closing quotation"),
+            (" ", "the command is empty"),
+            (f"{slow}", "slow: it did not answer element 0 in 0.5 seconds$"),
+            ("tr -d '\\n' < /dev/zero", "tr: its answer|tr: it ended"),
+        ):
+            with self.subTest(command):
+                done = steps("check", command, path, "--timeout", "0.5")
+                self.assertEqual(done[:2], (2, ""))
+                self.assertRegex(done[2], said)
+
+    def test_no_process_is_left(self) -> None:
+        notes = self.folder / "number"
+        text = f"#!/bin/sh\necho $$ > {notes}\nsleep 600 &\nexec cat\n"
+        with asked_adapter(self.program("cat", text), 5) as adapter:
+            self.assertEqual(adapter.answer({**GOOD}, 0)["put"], GOOD["put"])
+        self.assert_ended(int(notes.read_text()))
+
+    def test_refusals_may_be_left_out(self) -> None:
+        path = self.files["other-ports"]
+        refused = sum("refused" in one for one in read_elements(str(path)))
+        adapter = f"{sys.executable} {TOOLS / 'tests' / 'steps_adapter.py'}"
+        status, output, _ = steps("check", adapter, path, "--no-refusals")
+        self.assertEqual(status, 0)
+        self.assertIn(f"{COUNT - refused} agree, {refused} skipped", output)
+
+    def test_reports_for_machines(self) -> None:
+        xml, counts = self.folder / "junit.xml", self.folder / "counts.json"
+        adapter = f"{sys.executable} {TOOLS / 'tests' / 'steps_adapter.py'} dac-index-stays"
+        words = (self.files["dac-writes"], self.files["sequencer"])
+        status, output, said = steps("check", adapter, *words, "--junit", xml, "--json", counts)
+        self.assertEqual((status, said), (1, ""))
+        suites = ElementTree.parse(xml).getroot()
+        failed = {
+            case.get("name") for case in suites.iter("testcase") if case.find("failure") is not None
+        }
+        self.assertIn("components of the DAC are written", failed)
+        self.assertEqual([suite.get("failures") for suite in suites][1], "0")
+        found = json.loads(counts.read_text())
+        self.assertGreater(found[0]["differ"], 0)
+        self.assertEqual(found[1]["differ"], 0)
+        self.assertIn("dac_index", found[0]["first"]["differences"][0])
+
+
+class Files(Folder):
+    def read(self, text: str | bytes) -> list[Element]:
+        return list(read_elements(self.write("file", text)))
+
+    def test_what_is_no_file_of_elements(self) -> None:
+        good = json.dumps(GOOD)
+        packed = gzip.compress(f"[\n{good}\n]\n".encode())
+        hold_refused(
+            self,
+            self.read,
+            (
+                ("", "file: it ends before its array does$"),
+                ("x", "file:1: it is no file of elements: its first line is not \\[$"),
+                ("[\n", "file:1: it ends before its array does$"),
+                (f"[\n{good}", "file:2: it ends before its array does$"),
+                ("[\n{\n]", "file:2: it is no JSON: "),
+                ("[\n" + "[" * 100_000 + "\n]", "file:2: it is no JSON: "),
+                ("[\n5\n]", "file:2: it is no object$"),
+                (f"[\n{good}\n]\n{good}", "file:4: something stands after the array$"),
+                (packed[:-20], "file: it is damaged: "),
+                (packed[:30] + b"x" * 30, "file: it is damaged: "),
+                ("[\n" + " " * (1 << 22) + "\n]", "file:2: the line has 4,194,304 bytes or more$"),
+            ),
+        )
+        self.assertEqual(self.read(packed), [GOOD])
+        self.assertEqual(self.read("[\n]\n"), [])
+        self.assertEqual(self.read(f"[\n{good},\n{good}\n]\n"), [GOOD, GOOD])
+
+    def test_what_is_no_element(self) -> None:
+        def changed(**members: Any) -> Element:
+            return {**GOOD, **members}
+
+        state: dict[str, Any] = GOOD["initial"]
+        hold(
+            self,
+            lambda element: fault_of(element).partition(":")[0],
+            (
+                (GOOD, ""),
+                (changed(get=[1]), "one member is its step, " + ", ".join(STEPS)),
+                ({**GOOD, "name": 5}, "it has no name"),
+                (
+                    {name: GOOD[name] for name in ("name", "put", "final")},
+                    "it has no initial state",
+                ),
+                (changed(put=[1]), "its step put has not the numbers that it takes"),
+                (changed(put=[1 << 32, 0]), "its step put has not the numbers that it takes"),
+                (changed(put=[True, 0]), "its step put has not the numbers that it takes"),
+                (changed(refused="Nothing"), "there is no refusal Nothing"),
+                (changed(reach=[]), "its reach is no object"),
+                (changed(reach={"dots": -1}), "its reach has no such member, or one out of range"),
+                (
+                    changed(reach={"gfx": [0] * 9}),
+                    "its reach has no such member, or one out of range",
+                ),
+                *(
+                    (
+                        changed(initial={**state, **part}),
+                        "its initial state has no such part, or one out of range",
+                    )
+                    for part in cast(
+                        "list[Element]",
+                        [
+                            {"misc": 256},
+                            {"seq": [0] * 4},
+                            {"planes": [[1, 2, 3, 4]]},
+                            {"planes": [[2, 0, 0, 0, 0], [1, 0, 0, 0, 0]]},
+                            {"colours": [[256, 0, 0, 0]]},
+                            {"beam": {"line": 0}},
+                            {"bda": {**dict.fromkeys(BDA, 0)}},
+                            {"sums": [0] * 4},
+                            {"other": 1},
+                        ],
+                    )
+                ),
+            ),
+        )
+        beam = dict.fromkeys(BEAM, 0)
+        self.assertEqual(fault_of(changed(initial={"beam": beam})), "")
+
+    def test_each_command_tells_the_line(self) -> None:
+        path = self.write("bad.json", "[\n5\n]\n")
+        for words in (
+            ("coverage", path),
+            ("script", path, "0"),
+            ("confirm", path, "--vga", sys.executable),
+            ("check", "cat", path),
+            ("coverage", path, path, "--jobs", "2"),
+        ):
+            with self.subTest(words):
+                hold_undone(self, steps(*words), "^vga-steps: .*bad.json:2: it is no object$")
+
+    def test_differences_are_told_by_field(self) -> None:
+        other = json.loads(json.dumps(GOOD))
+        other["final"]["planes"][0][1] = 9
+        other["answer"] = 5
+        found = list(differences(GOOD, other))
+        self.assertEqual(found, ["answer: 5, not none", "planes 5: [9, 7, 7, 7], not [7, 7, 7, 7]"])
+
+    def test_choices_depend_on_the_seed_alone(self) -> None:
+        chance = Chance("1 a")
+        found = [chance.below(10), chance.bits(16), chance.byte(), chance.between(3, 5)]
+        self.assertEqual(found, [Chance("1 a").below(10), *found[1:]])
+        self.assertEqual({Chance(str(number)).below(3) for number in range(50)}, {0, 1, 2})
+
+
+class Page(unittest.TestCase):
+    def test_it_tells_each_kind_part_and_step(self) -> None:
+        text = PAGE.read_text("utf-8")
+        for name in (*KINDS, *ORDER, *STEPS, *BEAM, *BDA):
+            self.assertIn(f"`{name}`", text, name)
