@@ -45,7 +45,7 @@ from zaklimot_tools.dev.library.making import (
 )
 from zaklimot_tools.dev.library_tests import bindings, checks, compilers, portable
 from zaklimot_tools.dev.library_tests.compilers import run
-from zaklimot_tools.dev.release import command as release
+from zaklimot_tools.dev.release import command as release, stepping
 from zaklimot_tools.dev.release.command import (
     FRONT,
     INSTALL,
@@ -388,19 +388,20 @@ class Parts(Folder):
 
     def test_the_archive_of_single_step_tests(self) -> None:
         library = File(b"the library")
-        built = {"lib/libzaklimot.so.1": library, "lib/libzaklimot.so": "libzaklimot.so.1"}
+        built: dict[str, Entry] = {"lib/libzaklimot.so.1": library}
+        built["lib/libzaklimot.so"] = "libzaklimot.so.1"
         seen: list[bytes] = []
 
         def make(_: str, path: Path, __: object) -> dict[str, bytes]:
             seen.append(path.read_bytes())
             return {"steps/a.json.gz": b"elements"}
 
-        files = {place: File((TOP / place).read_bytes()) for place in release.stepping.ALONE}
+        files = {place: File((TOP / place).read_bytes()) for place in stepping.ALONE}
         made = {"files_of": lambda _, paths: {path: files[path] for path in paths}}
-        with patched(release, made), mock.patch.object(release.stepping, "make_steps", make):
+        with patched(release, made), mock.patch.object(stepping, "make_steps", make):
             entries = release.steps_entries(COMMIT, built, lambda _: None)
         self.assertEqual(seen, [b"the library"])
-        names = {Path(place).name for place in release.stepping.LOADERS}
+        names = {Path(place).name for place in stepping.LOADERS}
         wanted = {"LICENSE", "README.md", "zaklimot.fnt", "steps/a.json.gz", *names}
         self.assertEqual(set(entries), wanted)
         page = content_of(entries["README.md"]).decode("utf-8")
@@ -409,14 +410,14 @@ class Parts(Folder):
         self.assertEqual(broken(self.folder / "README.md", page), [])
 
     def test_elements_of_a_release_are_made(self) -> None:
-        made = release.stepping.make_steps("0123456789", None, None, count=1)
+        made = stepping.make_steps("0123456789", None, None, count=1)
         self.assertEqual(len(made), len(KINDS) + 1)
         told = made["MADE-OF"].decode("ascii")
         self.assertRegex(
             told, "^commit 0123456789\nseed 19088743\ncount 1\nlibrary sha256 [0-9a-f]{64}$"
         )
-        with mock.patch.object(release.stepping, "MOST_BYTES", 1000):
-            told = refused(release.stepping.make_steps, "0123456789", None, None, 1)
+        with mock.patch.object(stepping, "MOST_BYTES", 1000):
+            told = refused(stepping.make_steps, "0123456789", None, None, 1)
         self.assertRegex(told, "^the elements have [0-9,]+ bytes, and 1,000 are the most$")
 
     def test_links_of_a_commit_stay_links(self) -> None:

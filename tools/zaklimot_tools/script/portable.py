@@ -1,5 +1,5 @@
-"""The portable program, and the library of the same sources in C: each is compiled once, and kept in
-a folder of the user's cache."""
+"""The portable program, and the library of the same sources in C: each is compiled once, and kept
+in a folder of the user's cache."""
 
 import hashlib
 import os
@@ -28,8 +28,8 @@ SOURCES = tuple(
 FLAGS = ("-std=c99", "-O2")
 # Where $CC names no compiler, the first of these that is in the path.
 COMPILERS = ("cc", "gcc", "clang")
-# The names beside the folders of what is compiled, each of which a digest names: of folders in which
-# something is being made, and of the lock.
+# The names of what is compiled, in a folder that its digest names; and the names beside that: of
+# folders in which something is being made, and of the lock.
 NAME = "vga.exe" if os.name == "nt" else "vga"
 LIBRARY_NAME = {"nt": "zaklimot.dll"}.get(os.name, "libzaklimot.so")
 MAKING = "making-"

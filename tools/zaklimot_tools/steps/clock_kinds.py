@@ -8,7 +8,7 @@ from .chance import Chance
 from .parts import Parts
 from .port_kinds import frame_dots, small_frame
 from .reaching import MOST_DOTS, steps_to
-from .wishes import Kind, Wish
+from .wishes import ElementKind, Wish
 
 PARTS = ("seq", "crtc", "beam")
 EIGHT_DOTS, HALVED = 0x01, 0x08
@@ -110,9 +110,9 @@ def _changed(chance: Chance, card: SteppedCard) -> Wish:
     return _advance(chance, card, changed, reach, f"clock, other {what} since")
 
 
-def clock_kinds() -> list[Kind]:
+def clock_kinds() -> list[ElementKind]:
     """All kinds of the clock."""
     return [
-        Kind("clock", "the beam after some dots", PARTS, _clock),
-        Kind("clock-changed", "the same, with other registers since", PARTS, _changed),
+        ElementKind("clock", "the beam after some dots", PARTS, _clock),
+        ElementKind("clock-changed", "the same, with other registers since", PARTS, _changed),
     ]

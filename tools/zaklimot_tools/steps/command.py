@@ -24,7 +24,7 @@ from .readback import readback_lines
 from .reading import read_elements, write_elements
 from .rules import RULES, branches_shown
 from .scripts import dump_of, text_lines
-from .wishes import Kind
+from .wishes import ElementKind
 
 __all__ = ["check", "confirm", "coverage", "list_kinds", "make", "write_script"]
 PACKED, PLAIN = ".json.gz", ".json"
@@ -33,7 +33,7 @@ MOST_FONTS = 1 << 16
 SHARE = 10_000
 
 
-def _chosen(prefixes: list[str]) -> list[Kind]:
+def _chosen(prefixes: list[str]) -> list[ElementKind]:
     """The kinds whose names begin so; all without prefixes."""
     found = [kind for kind in KINDS.values() if kind.name.startswith(tuple(prefixes) or "")]
     if not found:
@@ -59,7 +59,7 @@ def make(words: argparse.Namespace, progress: Progress) -> int:
     return AGREED
 
 
-def _told(made: Iterator[Element], kind: Kind, progress: Progress) -> Iterator[Element]:
+def _told(made: Iterator[Element], kind: ElementKind, progress: Progress) -> Iterator[Element]:
     """The same elements, with the progress."""
     for count, element in enumerate(made, 1):
         if progress.is_due():
@@ -67,7 +67,9 @@ def _told(made: Iterator[Element], kind: Kind, progress: Progress) -> Iterator[E
         yield element
 
 
-def _make_in_children(words: argparse.Namespace, kinds: list[Kind], progress: Progress) -> int:
+def _make_in_children(
+    words: argparse.Namespace, kinds: list[ElementKind], progress: Progress
+) -> int:
     # Once, and not by each of them.
     library_path()
     given = ["make", words.folder, "--count", str(words.count), "--seed", str(words.seed)]
@@ -81,7 +83,7 @@ def _make_in_children(words: argparse.Namespace, kinds: list[Kind], progress: Pr
     return AGREED
 
 
-def _is_alone(kind: Kind, kinds: list[Kind]) -> bool:
+def _is_alone(kind: ElementKind, kinds: list[ElementKind]) -> bool:
     """Whether no shorter name of another kind begins this one's, by which both are made."""
     return not any(kind.name.startswith(one.name) for one in kinds if one is not kind)
 
@@ -117,7 +119,7 @@ def write_script(words: argparse.Namespace, _: Progress) -> int:
     return AGREED
 
 
-class Counted:
+class CountedFile:
     """How often the elements of a file show each branch."""
 
     def __init__(self, path: str) -> None:
@@ -153,7 +155,7 @@ def coverage(words: argparse.Namespace, progress: Progress) -> int:
 def _counts(words: argparse.Namespace, progress: Progress) -> list[dict[str, object]]:
     """The counts of each file."""
     if words.jobs == 1 or len(words.file) == 1:
-        counted_files = [Counted(path) for path in words.file]
+        counted_files = [CountedFile(path) for path in words.file]
         return [
             {"file": one.name, "elements": one.elements, "branches": one.branches}
             for one in counted_files

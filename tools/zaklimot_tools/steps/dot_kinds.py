@@ -12,7 +12,7 @@ from .clock_kinds import EIGHT_DOTS, width_of
 from .parts import LINE, Parts
 from .port_kinds import frame_dots, small_frame
 from .reaching import DAC_DATA, DAC_INDEX, out, steps_to
-from .wishes import Kind, Wish
+from .wishes import ElementKind, Wish
 
 PARTS = ("seq", "gfx", "crtc", "attr_index", "attr", "dac_mask", "colours", "planes", "beam")
 TEXT, PLANES_16, PACKED_256 = "text", "16 colours", "256 colours"
@@ -178,10 +178,14 @@ def _dots(chance: Chance, card: SteppedCard, kind: str) -> Wish:
     return Wish(name, state, TO_LINE_END, reach)
 
 
-def dot_kinds() -> list[Kind]:
+def dot_kinds() -> list[ElementKind]:
     """All kinds of dots."""
     return [
-        Kind("dots-text", "a scan line of text", PARTS, partial(_dots, kind=TEXT)),
-        Kind("dots-16-colours", "a scan line of 16 colours", PARTS, partial(_dots, kind=PLANES_16)),
-        Kind("dots-256-colours", "one of 256 colours", PARTS, partial(_dots, kind=PACKED_256)),
+        ElementKind("dots-text", "a scan line of text", PARTS, partial(_dots, kind=TEXT)),
+        ElementKind(
+            "dots-16-colours", "a scan line of 16 colours", PARTS, partial(_dots, kind=PLANES_16)
+        ),
+        ElementKind(
+            "dots-256-colours", "one of 256 colours", PARTS, partial(_dots, kind=PACKED_256)
+        ),
     ]

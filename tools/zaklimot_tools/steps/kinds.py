@@ -5,9 +5,9 @@ from .dot_kinds import dot_kinds
 from .memory_kinds import memory_kinds
 from .port_kinds import port_kinds
 from .service_kinds import service_kinds
-from .wishes import Kind
+from .wishes import ElementKind
 
-KINDS: dict[str, Kind] = {
+KINDS: dict[str, ElementKind] = {
     kind.name: kind
     for kind in (
         *memory_kinds(),

@@ -8,13 +8,13 @@ from .adapter import SteppedCard, Taken
 from .chance import Chance
 from .parts import ANSWER, FINAL, INITIAL, LINE, NAME, ORDER, REACH, REFUSED, SUMS, Element, Parts
 from .reaching import steps_to
-from .wishes import Kind, Wish
+from .wishes import ElementKind, Wish
 
 # The parts of which some places are read.
 PLACED = ("planes", "colours")
 
 
-def elements(kind: Kind, count: int, seed: int, card: SteppedCard) -> Iterator[Element]:
+def elements(kind: ElementKind, count: int, seed: int, card: SteppedCard) -> Iterator[Element]:
     """So many elements of a kind, by a seed; they depend on nothing else."""
     chance = Chance(f"{seed} {kind.name}")
     for number in range(count):

@@ -9,7 +9,7 @@ from zaklimot_tools.explain.banks import WINDOWS
 from .adapter import SteppedCard
 from .chance import Chance
 from .parts import Parts
-from .wishes import Kind, Wish
+from .wishes import ElementKind, Wish
 
 PARTS = ("misc", "seq", "gfx", "latches", "planes")
 CHAIN_4, ODD_EVEN, PLANAR = "chain 4", "odd/even", "planar"
@@ -140,16 +140,16 @@ def _file(what: str, mode: int, spread: str) -> str:
     return f"{what}-mode-{mode}-{spread.replace(' ', '-').replace('/', '-')}"
 
 
-def _kind(what: str, mode: int, spread: str) -> Kind:
+def _kind(what: str, mode: int, spread: str) -> ElementKind:
     make = partial(_write if what == "write" else _read, mode=mode, spread=spread)
-    return Kind(_file(what, mode, spread), f"{what} mode {mode}, {spread}", PARTS, make)
+    return ElementKind(_file(what, mode, spread), f"{what} mode {mode}, {spread}", PARTS, make)
 
 
-def memory_kinds() -> list[Kind]:
+def memory_kinds() -> list[ElementKind]:
     """All kinds of memory."""
     return [
         *(_kind("write", mode, spread) for mode in range(4) for spread in SPREADS),
         *(_kind("read", mode, spread) for mode in range(2) for spread in SPREADS),
-        Kind("write-words", "words that are written", PARTS, partial(_word, is_write=True)),
-        Kind("read-words", "words that are read", PARTS, partial(_word, is_write=False)),
+        ElementKind("write-words", "words that are written", PARTS, partial(_word, is_write=True)),
+        ElementKind("read-words", "words that are read", PARTS, partial(_word, is_write=False)),
     ]

@@ -8,7 +8,7 @@ from zaklimot.format import Step
 from .adapter import SteppedCard
 from .chance import Chance
 from .parts import Parts
-from .wishes import Kind, Wish
+from .wishes import ElementKind, Wish
 
 # The ports by what is there.
 ATTRIBUTE, ATTRIBUTE_READ, MISC, ENABLE, MISC_READ = 0x3C0, 0x3C1, 0x3C2, 0x3C3, 0x3CC
@@ -312,7 +312,7 @@ def frame_dots(crtc: list[int], width: int) -> int:
     return (crtc[0] + 5) * width * (crtc[6] + 2)
 
 
-def port_kinds() -> list[Kind]:
+def port_kinds() -> list[ElementKind]:
     """All kinds of ports."""
     crtc = ("misc", "crtc_index", "crtc")
     attribute = ("misc", "attr_index", "attr_is_data", "attr")
@@ -322,16 +322,18 @@ def port_kinds() -> list[Kind]:
     named = partial(_controller, is_protected=False)
     protected = partial(_controller, is_protected=True)
     return [
-        Kind("sequencer", "the sequencer's ports", ("seq_index", "seq"), _sequencer),
-        Kind("graphics-controller", "the graphics controller's", ("gfx_index", "gfx"), _graphics),
-        Kind("crt-controller", "the CRT controller's ports", crtc, named),
-        Kind("crt-controller-protected", "the same, with 0 to 7 protected", crtc, protected),
-        Kind("attribute-controller", "ports and flip-flop", attribute, _attribute),
-        Kind("dac-writes", "the DAC's index and components, written", DAC, _dac_write),
-        Kind("dac-reads", "the DAC's index and components, read", DAC, _dac_read),
-        Kind("dac-mask", "the DAC's mask", DAC, _dac_mask),
-        Kind("miscellaneous-output", "two ports", ("misc", *INDEXES), _miscellaneous),
-        Kind("other-ports", "any port, most of them refused", all_ports, _other_port),
-        Kind("port-words", "words at ports", words, _port_word),
-        Kind("input-status-1", "the status at a place of the beam", status, _status),
+        ElementKind("sequencer", "the sequencer's ports", ("seq_index", "seq"), _sequencer),
+        ElementKind(
+            "graphics-controller", "the graphics controller's", ("gfx_index", "gfx"), _graphics
+        ),
+        ElementKind("crt-controller", "the CRT controller's ports", crtc, named),
+        ElementKind("crt-controller-protected", "the same, with 0 to 7 protected", crtc, protected),
+        ElementKind("attribute-controller", "ports and flip-flop", attribute, _attribute),
+        ElementKind("dac-writes", "the DAC's index and components, written", DAC, _dac_write),
+        ElementKind("dac-reads", "the DAC's index and components, read", DAC, _dac_read),
+        ElementKind("dac-mask", "the DAC's mask", DAC, _dac_mask),
+        ElementKind("miscellaneous-output", "two ports", ("misc", *INDEXES), _miscellaneous),
+        ElementKind("other-ports", "any port, most of them refused", all_ports, _other_port),
+        ElementKind("port-words", "words at ports", words, _port_word),
+        ElementKind("input-status-1", "the status at a place of the beam", status, _status),
     ]

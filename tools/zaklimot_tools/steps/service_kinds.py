@@ -12,7 +12,7 @@ from .chance import Chance
 from .parts import CURSORS, PAGES, Parts
 from .port_kinds import controller, small_frame
 from .reaching import services, steps_to
-from .wishes import Kind, Wish
+from .wishes import ElementKind, Wish
 
 TEXTS, PLANAR_MODES, PACKED_MODES = (3, 7), (0x0D, 0x10, 0x12), (0x13,)
 PIXELS = (*PLANAR_MODES, *PACKED_MODES)
@@ -237,7 +237,7 @@ def _choose_mode(chance: Chance, bda: Parts) -> Called:
     return Called(mode | (0x80 if chance.one_in(3) else 0), chance.bits(16))
 
 
-class Function(NamedTuple):
+class VideoFunction(NamedTuple):
     """A function of the video BIOS: its kind's name, what it does, the parts that it touches, how a
     call is chosen, and in which modes most calls come."""
 
@@ -249,31 +249,37 @@ class Function(NamedTuple):
 
 
 FUNCTIONS = (
-    Function("service-00-mode-sets", "sets a mode", EVERYTHING, _choose_mode),
-    Function("service-01", "the cursor's scan lines", CURSOR, _choose_01),
-    Function("service-02", "the cursor position", CURSOR, _choose_02),
-    Function("service-03", "reads the cursor", PORTS, _choose_03),
-    Function("service-05", "shows a page", CURSOR, _choose_05),
-    Function("service-06", "scrolls up", MEMORY, partial(_choose_scroll, function=6)),
-    Function("service-07", "scrolls down", MEMORY, partial(_choose_scroll, function=7)),
-    Function("service-08", "reads a cell", MEMORY, _choose_08),
-    Function("service-09", "writes cells", MEMORY, partial(_choose_cells, function=9)),
-    Function(
+    VideoFunction("service-00-mode-sets", "sets a mode", EVERYTHING, _choose_mode),
+    VideoFunction("service-01", "the cursor's scan lines", CURSOR, _choose_01),
+    VideoFunction("service-02", "the cursor position", CURSOR, _choose_02),
+    VideoFunction("service-03", "reads the cursor", PORTS, _choose_03),
+    VideoFunction("service-05", "shows a page", CURSOR, _choose_05),
+    VideoFunction("service-06", "scrolls up", MEMORY, partial(_choose_scroll, function=6)),
+    VideoFunction("service-07", "scrolls down", MEMORY, partial(_choose_scroll, function=7)),
+    VideoFunction("service-08", "reads a cell", MEMORY, _choose_08),
+    VideoFunction("service-09", "writes cells", MEMORY, partial(_choose_cells, function=9)),
+    VideoFunction(
         "service-0a",
         "writes cells, and leaves attributes",
         MEMORY,
         partial(_choose_cells, function=0x0A),
     ),
-    Function("service-0c", "writes a dot", MEMORY, partial(_choose_pixel, function=0x0C), PIXELS),
-    Function("service-0d", "reads a dot", MEMORY, partial(_choose_pixel, function=0x0D), PIXELS),
-    Function("service-0e", "types a character", TYPING, _choose_0e),
-    Function("service-0f", "reads the mode", PORTS, partial(_choose_none, function=0x0F)),
-    Function("service-10", "palette and DAC", COLOURS, _choose_10),
-    Function("service-11", "loads glyphs", LOADING, _choose_11, TEXTS),
-    Function("service-12", "reads the adapter", PORTS, _choose_12),
-    Function("service-13", "writes a string", TYPING, _choose_13),
-    Function("service-1a", "reads the display", PORTS, _choose_1a),
-    Function("service-unknown", "functions and parts that there are not", PORTS, _choose_unknown),
+    VideoFunction(
+        "service-0c", "writes a dot", MEMORY, partial(_choose_pixel, function=0x0C), PIXELS
+    ),
+    VideoFunction(
+        "service-0d", "reads a dot", MEMORY, partial(_choose_pixel, function=0x0D), PIXELS
+    ),
+    VideoFunction("service-0e", "types a character", TYPING, _choose_0e),
+    VideoFunction("service-0f", "reads the mode", PORTS, partial(_choose_none, function=0x0F)),
+    VideoFunction("service-10", "palette and DAC", COLOURS, _choose_10),
+    VideoFunction("service-11", "loads glyphs", LOADING, _choose_11, TEXTS),
+    VideoFunction("service-12", "reads the adapter", PORTS, _choose_12),
+    VideoFunction("service-13", "writes a string", TYPING, _choose_13),
+    VideoFunction("service-1a", "reads the display", PORTS, _choose_1a),
+    VideoFunction(
+        "service-unknown", "functions and parts that there are not", PORTS, _choose_unknown
+    ),
 )
 # Bits that a share of the elements change in the registers by which services write memory.
 CHANGES = (
@@ -338,7 +344,7 @@ def _with_block(chance: Chance, card: SteppedCard, called: Called) -> Step:
     return Step("int", numbers, given)
 
 
-def _state(chance: Chance, card: SteppedCard, function: Function, bda: Parts) -> Parts:
+def _state(chance: Chance, card: SteppedCard, function: VideoFunction, bda: Parts) -> Parts:
     """The state in which a mode set and other calls leave the parts of a function."""
     card.power_on()
     card.run(services(bda))
@@ -363,7 +369,7 @@ def _entries(called: Called) -> list[int]:
     return [called.bx + number for number in range(min(count, 8)) if called.bx + number < 256]
 
 
-def _service(chance: Chance, card: SteppedCard, function: Function) -> Wish:
+def _service(chance: Chance, card: SteppedCard, function: VideoFunction) -> Wish:
     is_other = function.modes != MODES and chance.one_in(24)
     has_mode = not chance.one_in(40)
     bda = data(chance, MODES if is_other else function.modes) if has_mode else NO_DATA
@@ -383,7 +389,7 @@ def _service(chance: Chance, card: SteppedCard, function: Function) -> Wish:
     return _with_memory(chance, card, Wish(name, state, step))
 
 
-def _name(function: Function, bda: Parts, step: Step) -> str:
+def _name(function: VideoFunction, bda: Parts, step: Step) -> str:
     mode = f"mode {bda['mode']}" if bda["mode"] else "no mode"
     return f"service {function.name.split('-')[1]}, ax {step.numbers[0]}, {mode}"
 
@@ -404,7 +410,7 @@ def _with_memory(chance: Chance, card: SteppedCard, wish: Wish) -> Wish:
     return wish._replace(has_sums=has_sums)
 
 
-def _mode_set(chance: Chance, card: SteppedCard, function: Function) -> Wish:
+def _mode_set(chance: Chance, card: SteppedCard, function: VideoFunction) -> Wish:
     """A mode set from a mode or from none, and from any registers."""
     bda = data(chance) if chance.one_in(2) else NO_DATA
     state = _state(chance, card, function, bda)
@@ -428,10 +434,12 @@ def _any_registers(chance: Chance, state: Parts) -> None:
     state.update(attr_index=chance.bits(6), attr_is_data=chance.bits(1))
 
 
-def service_kinds() -> list[Kind]:
+def service_kinds() -> list[ElementKind]:
     """All kinds of services."""
     makers: Mapping[str, Callable[..., Wish]] = {FUNCTIONS[0].name: _mode_set}
     return [
-        Kind(one.name, one.told, one.parts, partial(makers.get(one.name, _service), function=one))
+        ElementKind(
+            one.name, one.told, one.parts, partial(makers.get(one.name, _service), function=one)
+        )
         for one in FUNCTIONS
     ]

@@ -24,7 +24,7 @@ class Wish(NamedTuple):
     has_sums: bool = False
 
 
-class Kind(NamedTuple):
+class ElementKind(NamedTuple):
     """A kind of elements, which have a file: its name, what it shows, the parts of its states, and
     how a wish is made."""
 

@@ -45,7 +45,7 @@ def _add_make(commands: Any) -> None:
 
 
 def _add_kinds(commands: Any) -> None:
-    told, example = "lists the kinds, and what each shows", "tools/vga-steps kinds"
+    told, example = "lists the kinds, and what each shows", "tools/vga-steps kinds --parts"
     made = cli.command(commands, "kinds", _job("list_kinds"), told, example)
     add(made, "--parts", "lists the parts of the state that elements of each kind have too")
 
@@ -103,7 +103,7 @@ def _add_confirm(commands: Any) -> None:
 def parser() -> argparse.ArgumentParser:
     tool = cli.tool_parser(
         "vga-steps",
-        "Makes and uses single-step tests of display adapters: a state, a step, and the next state.",
+        "Makes and uses single-step tests of adapters: a state, a step, and the state after it.",
         "tools/vga-steps make steps --count 1000 --seed 1",
         "docs/STEPS.md",
         cli.DIFFERS,

@@ -8,7 +8,7 @@ from pathlib import Path
 from typing import Optional
 
 from zaklimot_tools import TOP
-from zaklimot_tools.core.processes import Hearer, run
+from zaklimot_tools.core.processes import Hearer, Word, run
 from zaklimot_tools.core.trouble import Trouble
 from zaklimot_tools.steps.library import NAMED, library_path
 
@@ -49,7 +49,8 @@ def make_steps(
     made_of = hashlib.sha256(path.read_bytes()).hexdigest()
     with tempfile.TemporaryDirectory(prefix="vga-release-") as name:
         folder = Path(name) / STEPS
-        words = [sys.executable, TOOL, "make", folder, "--count", str(count), "--seed", seed]
+        words: list[Word] = [sys.executable, TOOL, "make", folder]
+        words += ["--count", str(count), "--seed", seed]
         run([*words, "--jobs", str(JOBS)], heard=heard, environment={NAMED: str(path)})
         paths = sorted(folder.iterdir())
         if count >= COUNT:
