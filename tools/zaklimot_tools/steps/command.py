@@ -18,6 +18,7 @@ from .checking import check
 from .confirming import confirm
 from .kinds import KINDS
 from .library import library_path, load
+from .machines import judge_reports, write_scripts
 from .making import elements
 from .parts import FINAL, Element
 from .readback import readback_lines
@@ -26,7 +27,16 @@ from .rules import RULES, branches_shown
 from .scripts import dump_of, text_lines
 from .wishes import ElementKind
 
-__all__ = ["check", "confirm", "coverage", "list_kinds", "make", "write_script"]
+__all__ = [
+    "check",
+    "confirm",
+    "coverage",
+    "judge_reports",
+    "list_kinds",
+    "make",
+    "write_script",
+    "write_scripts",
+]
 PACKED, PLAIN = ".json.gz", ".json"
 MOST_FONTS = 1 << 16
 # So many elements of a file are those of which a share is told.

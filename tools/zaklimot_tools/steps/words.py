@@ -100,6 +100,27 @@ def _add_confirm(commands: Any) -> None:
     _add_jobs(made)
 
 
+def _add_scripts(commands: Any) -> None:
+    told = "writes scripts of elements for machines, which show their state by ports and addresses"
+    example = "tools/vga-steps scripts machine examples/steps/write-mode-*.json.gz"
+    made = cli.command(commands, "scripts", _job("write_scripts"), told, example)
+    _add_folder(made, "a new folder, or an empty one")
+
+
+def _add_reports(commands: Any) -> None:
+    told = "compares the reports of such scripts with the elements"
+    example = "tools/vga-steps reports answers examples/steps/write-mode-*.json.gz"
+    made = cli.command(commands, "reports", _job("judge_reports"), told, example)
+    _add_folder(made, "the folder of the reports, as vga-floppy writes it")
+
+
+def _add_folder(parser: argparse.ArgumentParser, told: str) -> None:
+    add(parser, "FOLDER", told)
+    _add_files(parser)
+    told = "takes only the first N elements of each file"
+    add(parser, "--first N", told, type=number_to(MOST_COUNT))
+
+
 def parser() -> argparse.ArgumentParser:
     tool = cli.tool_parser(
         "vga-steps",
@@ -115,6 +136,8 @@ def parser() -> argparse.ArgumentParser:
     _add_check(commands)
     _add_coverage(commands)
     _add_confirm(commands)
+    _add_scripts(commands)
+    _add_reports(commands)
     return tool
 
 
