@@ -5,11 +5,19 @@ import argparse
 from pathlib import Path
 from typing import Iterator, Optional
 
-from zaklimot.format import Answer
+from zaklimot.format import MOST_BYTES, Answer, printed
 from zaklimot_tools.core.files import name_of
 from zaklimot_tools.core.progress import Progress
-from zaklimot_tools.core.streams import counted, empty_folder, reading, write, write_file
+from zaklimot_tools.core.streams import (
+    counted,
+    empty_folder,
+    read_at_most,
+    reading,
+    write,
+    write_file,
+)
 from zaklimot_tools.core.trouble import AGREED, DIFFERED, Trouble
+from zaklimot_tools.explain.faults import script_of
 from zaklimot_tools.report.places import LIST
 from zaklimot_tools.report.report import Report
 
@@ -45,15 +53,22 @@ def _asked(path: str, most: Optional[int]) -> Iterator[tuple[int, Element]]:
             yield number, element
 
 
+def _front(path: str) -> Iterator[str]:
+    """The steps of a script as lines."""
+    script = script_of(read_at_most(path, MOST_BYTES), name_of(path))
+    return (printed(step) for step in script.steps())
+
+
 def write_scripts(words: argparse.Namespace, _: Progress) -> int:
     """Writes the scripts of elements into a folder, with the cycles that read the state."""
     folder = empty_folder(words.folder)
+    front = [] if words.before is None else [*_front(words.before)]
     listed = []
     for path in words.file:
         (folder / _stem(path)).mkdir(exist_ok=True)
         for number, element in _asked(path, words.first):
             name = f"{_stem(path)}/{number:06}.vga"
-            lines = [*text_lines(element), *readback_lines(element)]
+            lines = [*front, *text_lines(element), *readback_lines(element)]
             text = "".join(f"{line}\n" for line in lines)
             write_file(str(folder / name), text.encode("ascii", "replace"))
             listed.append(f"{name} -\n")
@@ -84,11 +99,12 @@ def judge_reports(words: argparse.Namespace, progress: Progress) -> int:
 def _given(element: Element, report: str) -> Element:
     """What a report tells of an element's answer and state."""
     cycles = list(cycles_of(element[FINAL]))
-    before = len(reached(element))
     with reading(report) as stream:
         answers = list(Report(stream, report).steps())
-    if len(answers) != before + 1 + len(cycles):
-        many = f"{len(answers)} answers, and its script {before + 1 + len(cycles)} steps"
+    # Other steps may stand before those of the element.
+    before, least = len(answers) - 1 - len(cycles), len(reached(element))
+    if before < least:
+        many = f"{len(answers)} answers, and its script has {least + 1 + len(cycles)} steps"
         raise Trouble(f"it has {many}", report)
     step, *others = answers[before:]
     read = [answer for cycle, answer in zip(cycles, others) if cycle.place]

@@ -105,6 +105,8 @@ def _add_scripts(commands: Any) -> None:
     example = "tools/vga-steps scripts machine examples/steps/write-mode-*.json.gz"
     made = cli.command(commands, "scripts", _job("write_scripts"), told, example)
     _add_folder(made, "a new folder, or an empty one")
+    told = "puts the steps of this script, as text or bytes, before those of each element"
+    add(made, "--before FILE", told, type=Input)
 
 
 def _add_reports(commands: Any) -> None:
