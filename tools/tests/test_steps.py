@@ -41,6 +41,7 @@ from .tools import (
     hold,
     hold_refused,
     hold_undone,
+    run_program,
     run_tool,
     want_program,
 )
@@ -273,6 +274,67 @@ class Scripts(Made):
     def test_an_element_that_is_not_there(self) -> None:
         done = steps("script", self.files["clock"], COUNT)
         hold_undone(self, done, f"it has {COUNT} elements, and no element {COUNT}$")
+
+
+class Machines(Made):
+    """Elements for adapters that show their state by ports and addresses alone."""
+
+    KINDS = ("write-mode-1-odd-even", "read-words", "attribute-controller", "dac-writes", "clock")
+
+    def reports(self, *words: Any) -> list[Path]:
+        """The reports of the scripts of some elements, by the program."""
+        want_program()
+        given = [self.files[kind] for kind in self.KINDS]
+        status, output, said = steps("scripts", self.folder / "asked", *given, *words)
+        self.assertEqual((status, said), (0, ""), said)
+        made = []
+        for line in (self.folder / "asked" / "list.txt").read_text().splitlines():
+            path = self.folder / "asked" / line.removesuffix(" -")
+            report = (self.folder / "told" / line).with_suffix(".report")
+            report.parent.mkdir(parents=True, exist_ok=True)
+            report.write_bytes(run_program("go", path, "--fonts", FONTS).report)
+            made.append(report)
+        self.assertEqual(output, f"{len(made)} scripts\n")
+        return made
+
+    def judged(self, *words: Any) -> tuple[int, str, str]:
+        given = [self.files[kind] for kind in self.KINDS]
+        return steps("reports", self.folder / "told", *given, *words)
+
+    def test_the_program_agrees(self) -> None:
+        before = self.write("before.vga", "out 3C2 FF\nin 3CC\n")
+        for words in ((), ("--before", before)):
+            with self.subTest(words):
+                shutil.rmtree(self.folder / "asked", ignore_errors=True)
+                made = self.reports("--first", 12, *words)
+                status, output, said = self.judged("--first", 12)
+                self.assertEqual((status, said), (0, ""), output)
+                # Of the beam and of refusals a machine tells nothing.
+                self.assertFalse([path for path in made if path.parent.name == "clock"])
+                self.assertIn("clock.json.gz: no element\n", output)
+                self.assertIn(f"{len(made)} elements: {len(made)} agree, 0 differ\n", output)
+                self.assertIn("dac_component is left out of ", output)
+
+    def test_another_answer_differs(self) -> None:
+        made = [path for path in self.reports("--first", 12) if path.parent.name == "read-words"]
+        lines = made[0].read_text().splitlines()
+        lines[-1] = lines[-1].split()[0] + (" 00" if lines[-1].split()[1] != "00" else " 01")
+        made[0].write_text("".join(f"{line}\n" for line in lines))
+        made[1].write_text(
+            made[1].read_text().replace(" ok", " skipped").replace(" 00", " skipped")
+        )
+        status, output, _ = self.judged("--first", 12)
+        self.assertEqual(status, 1)
+        self.assertRegex(output, r"read-words.json.gz: \d+ agree, 1 differ, 1 skipped\n")
+        self.assertRegex(output, r"\n    planes \d+: ")
+
+    def test_a_report_that_is_too_short(self) -> None:
+        made = self.reports("--first", 2)
+        made[0].write_text("1 ok\n")
+        told = "it has 1 answers, and its script has [0-9]+ steps$"
+        hold_undone(self, self.judged("--first", 2), told)
+        made[0].unlink()
+        hold_undone(self, self.judged("--first", 2), "report: No such file or directory$")
 
 
 class Rules(Made):

@@ -21,7 +21,9 @@ function __vga_steps_commands
         script 'writes an element as a script that ends in its step' \
         check 'holds an adapter to elements, by lines of JSON' \
         coverage 'counts how often the elements of files show each rule and its branches' \
-        confirm 'runs the script of each element on the program, and compares its report'
+        confirm 'runs the script of each element on the program, and compares its report' \
+        scripts 'writes scripts of elements for machines, which show their state by ports and addresses' \
+        reports 'compares the reports of such scripts with the elements'
 end
 
 # Offers files, those with an ending first. Of --option=value it completes the value alone.
@@ -62,3 +64,10 @@ complete -c vga-steps -n '__vga_steps_command confirm' -l vga -x -a '(__fish_com
 complete -c vga-steps -n '__vga_steps_command confirm' -l fonts -x -k -a '(__vga_steps_files .fnt)' -d 'uses this font file (default: the project\'s)'
 complete -c vga-steps -n '__vga_steps_command confirm' -l jobs -x -d 'works on N files at a time (default: 1)'
 complete -c vga-steps -n '__vga_steps_command confirm' -F
+complete -c vga-steps -n '__vga_steps_command scripts' -s h -l help -d 'show this help message and exit'
+complete -c vga-steps -n '__vga_steps_command scripts' -l first -x -d 'takes only the first N elements of each file'
+complete -c vga-steps -n '__vga_steps_command scripts' -l before -x -a '(__fish_complete_path)' -d 'puts the steps of this script, as text or bytes, before those of each element'
+complete -c vga-steps -n '__vga_steps_command scripts' -F
+complete -c vga-steps -n '__vga_steps_command reports' -s h -l help -d 'show this help message and exit'
+complete -c vga-steps -n '__vga_steps_command reports' -l first -x -d 'takes only the first N elements of each file'
+complete -c vga-steps -n '__vga_steps_command reports' -F
