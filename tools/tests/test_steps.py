@@ -26,8 +26,10 @@ from zaklimot_tools.steps.kinds import KINDS
 from zaklimot_tools.steps.library import load
 from zaklimot_tools.steps.making import elements
 from zaklimot_tools.steps.parts import BDA, BEAM, FINAL, INITIAL, ORDER, Element
+from zaklimot_tools.steps.readback import readback_lines
 from zaklimot_tools.steps.reading import STEPS, fault_of, read_elements
 from zaklimot_tools.steps.rules import RULES, branches_shown
+from zaklimot_tools.steps.scripts import confirming, text_lines
 from zaklimot_tools.script.words import FONTS
 
 from .steps_adapter import FAULTS, FaultyCard
@@ -586,6 +588,24 @@ class Checking(Made):
         self.assertIn("dac_index", found[0]["first"]["differences"][0])
 
 
+def change(chance: Chance, value: Any) -> None:
+    """Changes a value in what JSON gives: a number, or a member that goes or gets another."""
+    while isinstance(value, (list, dict)) and value:
+        keys: list[Any] = list(value) if isinstance(value, dict) else list(range(len(value)))
+        key = chance.among(keys)
+        inner = value[key]
+        if not isinstance(inner, (list, dict)) or not inner or chance.one_in(10):
+            kind = chance.below(8)
+            if kind == 0:
+                del value[key]
+            elif kind == 1:
+                value[key] = chance.among((None, [], {}, "x", -1, 1 << 40, 2.5, [[1]]))
+            else:
+                value[key] = chance.bits(chance.among((1, 3, 8, 16)))
+            return
+        value = inner
+
+
 class Files(Folder):
     def read(self, text: str | bytes) -> list[Element]:
         return list(read_elements(self.write("file", text)))
@@ -634,6 +654,7 @@ class Files(Folder):
                 (changed(put=[1 << 32, 0]), "its step put has not the numbers that it takes"),
                 (changed(put=[True, 0]), "its step put has not the numbers that it takes"),
                 (changed(refused="Nothing"), "there is no refusal Nothing"),
+                (changed(answer=5), "its answer is none of the step put"),
                 (changed(reach=[]), "its reach is no object"),
                 (changed(reach={"dots": -1}), "its reach has no such member, or one out of range"),
                 (
@@ -650,6 +671,7 @@ class Files(Folder):
                         [
                             {"misc": 256},
                             {"seq": [0] * 4},
+                            {"gfx": [0, 0, 0, 0, 0, 0, 16, 0, 0]},
                             {"planes": [[1, 2, 3, 4]]},
                             {"planes": [[2, 0, 0, 0, 0], [1, 0, 0, 0, 0]]},
                             {"colours": [[256, 0, 0, 0]]},
@@ -676,6 +698,23 @@ class Files(Folder):
         ):
             with self.subTest(words):
                 hold_undone(self, steps(*words), "^vga-steps: .*bad.json:2: it is no object$")
+
+    def test_no_element_ends_the_tools(self) -> None:
+        """Elements that are changed at random are refused, or are counted and written as any."""
+        chance, good = Chance("change"), 0
+        for path in sorted(STEPS_EXAMPLES.glob("*.json.gz")):
+            for element in read_elements(str(path)):
+                other = json.loads(json.dumps(element))
+                for _ in range(1 + chance.below(3)):
+                    change(chance, other)
+                if fault_of(other):
+                    continue
+                good += 1
+                list(branches_shown(other))
+                list(text_lines(other))
+                list(readback_lines(other))
+                self.assertTrue(confirming(other).script.items)
+        self.assertGreater(good, 200)
 
     def test_differences_are_told_by_field(self) -> None:
         other = json.loads(json.dumps(GOOD))

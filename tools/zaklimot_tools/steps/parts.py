@@ -3,6 +3,8 @@ include/zaklimot.h."""
 
 from typing import Any
 
+from zaklimot_tools.explain.banks import Banks
+
 # A state by its parts, and an element of a file: both are what JSON gives.
 Parts = dict[str, Any]
 Element = dict[str, Any]
@@ -19,9 +21,17 @@ NUMBERS = {
     "dac_component": 2,
     "dac_mask": 0xFF,
 }
-# The parts that are a list of bytes, with how many each has: registers, the latches, and the red
-# and the green that wait for blue.
-LISTS = {"seq": 5, "gfx": 9, "crtc": 25, "attr": 21, "latches": 4, "dac_waiting": 2}
+# The parts that are a list of bytes, with the bits that each may have: registers, the latches, and
+# the red and the green that wait for blue.
+_BANKS = Banks()
+LISTS = {
+    "seq": _BANKS.seq.kept,
+    "gfx": _BANKS.gfx.kept,
+    "crtc": _BANKS.crtc.kept,
+    "attr": _BANKS.attr.kept,
+    "latches": b"\xff" * 4,
+    "dac_waiting": b"\x3f" * 2,
+}
 # The parts that are a list of places: an offset with its bytes in the four planes, and an entry of
 # the DAC with its three components. How many numbers each place has, and the most that the first
 # may be.
@@ -48,7 +58,7 @@ BDA = {
     "start": 0xFFFF,
     "cursor_places": 0xFFFF,
     "cursor_type": 0xFFFF,
-    "page": 0xFF,
+    "page": 7,
     "crtc_address": 0xFFFF,
     "last_row": 0xFF,
     "height": 0xFFFF,

@@ -35,7 +35,7 @@ MODE, READ_MAP, WRITE_MODE_1, SHOWN = 5, 4, 1, 0x20
 HIDDEN = ("attr_is_data", "dac_component", "dac_waiting", "sums", "beam", "bda")
 
 
-class Cycle(NamedTuple):
+class ReadCycle(NamedTuple):
     """A cycle, and of one that reads the place of its answer in the state: the part, and places in
     it."""
 
@@ -43,15 +43,15 @@ class Cycle(NamedTuple):
     place: tuple[Any, ...] = ()
 
 
-def _in(port: int, *place: Any) -> Cycle:
-    return Cycle(Step("in", (port,)), place)
+def _in(port: int, *place: Any) -> ReadCycle:
+    return ReadCycle(Step("in", (port,)), place)
 
 
-def _does(*steps: Step) -> Iterator[Cycle]:
-    return (Cycle(step) for step in steps)
+def _does(*steps: Step) -> Iterator[ReadCycle]:
+    return (ReadCycle(step) for step in steps)
 
 
-def cycles_of(state: Parts) -> Iterator[Cycle]:
+def cycles_of(state: Parts) -> Iterator[ReadCycle]:
     """The cycles that read a state. What changes it comes after what doesn't."""
     base = CONTROLLER - (0 if state.get("misc", 1) & 1 else 0x20)
     for name, port in (("dac_mask", MASK), ("dac_index", DAC_INDEX), ("attr_index", ATTRIBUTE)):
@@ -66,7 +66,7 @@ def cycles_of(state: Parts) -> Iterator[Cycle]:
     yield from _entries(state)
 
 
-def _bank(state: Parts, name: str, port: int) -> Iterator[Cycle]:
+def _bank(state: Parts, name: str, port: int) -> Iterator[ReadCycle]:
     """The index of a controller, and its registers."""
     if f"{name}_index" in state:
         yield _in(port, f"{name}_index")
@@ -75,7 +75,7 @@ def _bank(state: Parts, name: str, port: int) -> Iterator[Cycle]:
         yield _in(port + 1, name, index)
 
 
-def _attributes(state: Parts, base: int) -> Iterator[Cycle]:
+def _attributes(state: Parts, base: int) -> Iterator[ReadCycle]:
     """The registers of the attribute controller; the palette stays shown or hidden as it is."""
     shown = state.get("attr_index", 0) & SHOWN
     for index in range(len(state.get("attr", ()))):
@@ -83,7 +83,7 @@ def _attributes(state: Parts, base: int) -> Iterator[Cycle]:
         yield _in(ATTRIBUTE_DATA, "attr", index)
 
 
-def _memory(state: Parts) -> Iterator[Cycle]:
+def _memory(state: Parts) -> Iterator[ReadCycle]:
     """The latches, by a write that stores them, and the planes, by reads of each."""
     offsets = [place[0] for place in state.get("planes", ())]
     if not offsets and "latches" not in state:
@@ -98,16 +98,16 @@ def _memory(state: Parts) -> Iterator[Cycle]:
         yield from _plane(plane, offsets, latched if "latches" in state else None)
 
 
-def _plane(plane: int, offsets: Sequence[int], latched: Optional[int]) -> Iterator[Cycle]:
+def _plane(plane: int, offsets: Sequence[int], latched: Optional[int]) -> Iterator[ReadCycle]:
     """The bytes of a plane, and the latch that was stored there."""
     yield from _does(register(GRAPHICS, READ_MAP, plane))
     if latched is not None:
-        yield Cycle(Step("get", (FIRST_ADDRESS + latched,)), ("latches", plane))
+        yield ReadCycle(Step("get", (FIRST_ADDRESS + latched,)), ("latches", plane))
     for number, offset in enumerate(offsets):
-        yield Cycle(Step("get", (FIRST_ADDRESS + offset,)), ("planes", number, 1 + plane))
+        yield ReadCycle(Step("get", (FIRST_ADDRESS + offset,)), ("planes", number, 1 + plane))
 
 
-def _entries(state: Parts) -> Iterator[Cycle]:
+def _entries(state: Parts) -> Iterator[ReadCycle]:
     """The entries of the DAC."""
     for number, (entry, *components) in enumerate(state.get("colours", ())):
         yield from _does(out(DAC_READ, entry))

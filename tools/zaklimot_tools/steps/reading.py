@@ -8,6 +8,7 @@ from contextlib import nullcontext
 from typing import Any, BinaryIO, ContextManager, Iterable, Iterator, Optional, cast
 
 from zaklimot.format import FORMS, MOST_BLOCK, REFUSALS, Step
+from zaklimot.format.table import READ_BYTE, READ_WORD
 from zaklimot_tools.core.files import name_of
 from zaklimot_tools.core.streams import reading, writing
 from zaklimot_tools.core.trouble import Trouble
@@ -55,6 +56,8 @@ REGISTERS = ("ax", "bx", "cx", "dx")
 BLOCK = "block"
 MOST_PLACES, MOST_DOTS = 1 << 16, 1 << 28
 MOST_SUM = (1 << 32) - 1
+# The most that steps read, by the kinds of their answers.
+MOST_READ = {READ_BYTE: 0xFF, READ_WORD: 0xFFFF}
 
 
 def write_elements(path: str, elements: Iterable[Element]) -> int:
@@ -140,6 +143,7 @@ def fault_of(element: object) -> str:
         or _fault_of_reach(element.get(REACH, {}))
         or _fault_of_step(steps[0], element[steps[0]])
         or _fault_of_refusal(element.get(REFUSED))
+        or _fault_of_answer(steps[0], element)
     )
 
 
@@ -151,6 +155,12 @@ def _are_numbers(value: object, most: int, count: Optional[int] = None) -> bool:
     """Whether something is a list of so many numbers, or of any number of them."""
     is_list = isinstance(value, list) and count in (None, len(value))
     return is_list and all(_is_number(one, most) for one in cast(list[Any], value))
+
+
+def _are_kept(value: object, masks: bytes) -> bool:
+    """Whether something is a list of bytes, none of which has other bits than these."""
+    is_list = _are_numbers(value, 0xFF, len(masks))
+    return is_list and not any(one & ~mask for one, mask in zip(cast("list[int]", value), masks))
 
 
 def _are_places(name: str, value: object) -> bool:
@@ -180,7 +190,7 @@ def is_part(name: str, value: object) -> bool:
     if name in NUMBERS:
         return _is_number(value, NUMBERS[name])
     if name in LISTS:
-        return _are_numbers(value, 0xFF, LISTS[name])
+        return _are_kept(value, LISTS[name])
     if name in PLACES:
         return _are_places(name, value)
     if name in STRUCTS:
@@ -226,6 +236,29 @@ def _is_call(value: object) -> bool:
     is_short = isinstance(block, list) and len(block) <= MOST_BLOCK
     numbers = all(_is_number(value[name], 0xFFFF) for name in REGISTERS)
     return is_short and numbers and _are_numbers(block, 0xFF)
+
+
+def _fault_of_answer(name: str, element: Element) -> str:
+    """What is wrong with the answer: steps that read have one, unless they are refused."""
+    answer = element.get(ANSWER)
+    is_good = answer is None
+    if REFUSED not in element and name == LINE:
+        is_good = _are_dots(answer)
+    elif REFUSED not in element and name == "int":
+        is_good = _is_call(answer)
+    elif REFUSED not in element and FORMS[name].answer in MOST_READ:
+        is_good = _is_number(answer, MOST_READ[FORMS[name].answer])
+    return "" if is_good else f"its answer is none of the step {name}"
+
+
+def _are_dots(answer: object) -> bool:
+    """Whether something is the dots of a line: colours, and as many entries."""
+    if not isinstance(answer, dict) or answer.keys() != {"colours", "entries"}:
+        return False
+    colours, entries = answer["colours"], answer["entries"]
+    are_lists = _are_numbers(colours, 0x3FFFF) and isinstance(entries, list)
+    known = are_lists and all(one == -1 or _is_number(one, 0xFF) for one in entries)
+    return known and len(colours) == len(entries)
 
 
 def _fault_of_refusal(name: object) -> str:

@@ -79,8 +79,7 @@ def _scrolls(e: SeenElement, function: int, rows: str) -> bool:
 
 def _is_cut(e: SeenElement) -> bool:
     _, low, _, right = _window(e)
-    is_cut = bool(low > e.bda["last_row"] or right >= _columns(e))
-    return _done(e, 6, 7) and is_cut
+    return _done(e, 6, 7) and bool(low > e.bda["last_row"] or right >= _columns(e))
 
 
 def _is_last_row(e: SeenElement) -> bool:
