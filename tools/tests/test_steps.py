@@ -36,9 +36,11 @@ from .steps_adapter import FAULTS, FaultyCard
 from .tools import (
     EXAMPLES,
     PROGRAM,
+    SIGNALS,
     TOOLS,
     TOP,
     Folder,
+    begin,
     ended,
     hold,
     hold_refused,
@@ -228,21 +230,26 @@ class Scripts(Made):
 
     @staticmethod
     def changed(element: Element) -> Iterator[Element]:
-        """The element with each part of its final state, and with its answer, changed."""
-        for part, value in element[FINAL].items():
-            other = json.loads(json.dumps(element))
-            place, last = other[FINAL], part
-            while isinstance(value, (list, dict)) and value:
-                place, last = (
-                    place[last],
-                    len(value) - 1 if isinstance(value, list) else [*value][-1],
-                )
-                value = place[last]
-            place[last] = value ^ 1 if isinstance(value, int) else [[1, 1, 1, 1]]
-            if isinstance(value, int):
-                yield other
-        if "answer" in element:
-            yield {**element, "answer": 77}
+        """The element with the last number of each part of its final state, and of its answer,
+        changed by a bit that it may have."""
+        for names in (*((FINAL, part) for part in element[FINAL]), ("answer",)):
+            for bit in (1, 2, 4, 8):
+                other = json.loads(json.dumps(element))
+                place, key = other, names[0]
+                while (
+                    isinstance(
+                        place.get(key) if isinstance(place, dict) else place[key], (list, dict)
+                    )
+                    and place[key]
+                ):
+                    place = place[key]
+                    keys = [*place] if isinstance(place, dict) else range(len(place))
+                    key = names[1] if place is other[FINAL] else keys[-1]
+                if not isinstance(place, dict) or key in place:
+                    place[key] = place[key] ^ bit if place[key] else bit
+                    if not fault_of(other):
+                        yield other
+                        break
 
     def test_a_script_ends_in_the_step(self) -> None:
         for kind, ending in (
@@ -561,6 +568,20 @@ class Checking(Made):
         with asked_adapter(self.program("cat", text), 5) as adapter:
             self.assertEqual(adapter.answer({**GOOD}, 0)["put"], GOOD["put"])
         self.assert_ended(int(notes.read_text()))
+
+    def test_signals_end_the_adapter(self) -> None:
+        notes = self.folder / "number"
+        text = f"#!/bin/sh\nsleep 600 &\necho $$ $! > {notes}\nwait\n"
+        words = ("check", self.program("adapter", text), STEPS_EXAMPLES / "sequencer.json.gz")
+        for number, status in SIGNALS:
+            with self.subTest(number):
+                notes.unlink(missing_ok=True)
+                with begin("vga-steps", *words) as process:
+                    numbers = [int(word) for word in self.wait_for(notes, process).split()]
+                    process.send_signal(number)
+                    output, said = process.communicate(timeout=60)
+                self.assertEqual((process.returncode, output, said), (status, b"", b""))
+                self.assert_ended(*numbers)
 
     def test_refusals_may_be_left_out(self) -> None:
         path = self.files["other-ports"]

@@ -121,6 +121,8 @@ STARTING = (
     "vga-page module {made}",
     "vga-fuzz {vga}",
     "vga-floppy run --on dosbox {script} {made}",
+    "vga-steps confirm {elements} --vga {vga}",
+    "vga-steps confirm {elements} {elements} --jobs 2 --vga {vga}",
     "tests-of-tools test_one",
     "vga-trace record {made} --vga {vga} --quiet 50 -- -cdrom disc",
 )
@@ -319,6 +321,7 @@ class Commands(Folder):
             "script": str(self.folder / "one.vga"),
             "vga": self.program("bin/vga", SLEEPING),
             "made": str(self.folder / "made"),
+            "elements": str(TOP / "examples" / "steps" / "sequencer.json.gz"),
         }
         for line in STARTING:
             tool, *words = (word.format(**places) for word in line.split())
