@@ -15,6 +15,7 @@ import tempfile
 import unittest
 from pathlib import Path
 from typing import Any, Iterator, cast
+from unittest import mock
 from xml.etree import ElementTree
 
 from zaklimot_tools.steps.adapter import SteppedCard
@@ -90,6 +91,7 @@ TOY_FAULTS = (
     ("self.dac_index + (self.dac", "0 * (self.dac", "dac-reads", "components of the DAC are read"),
     ("byte & KEPT[self.seq_index]", "byte", "sequencer", "sequencer registers"),
 )
+AGREE = f"{COUNT} elements: {COUNT} agree, 0 differ"
 COMPILED = {
     "loader.c": ("gcc", "-O2", "-Wall", "-Wextra", "-Werror"),
     "loader.cpp": ("g++", "-std=c++17", "-O2", "-Wall", "-Wextra", "-Werror"),
@@ -200,7 +202,7 @@ class Making(Made):
         hold_undone(self, steps("make", self.write("file", "")), "it is not a folder")
         hold_undone(self, steps("make", "x", "--count", "0"), "'0' is no number from 1 to ")
         with_library = {"ZAKLIMOT_LIBRARY": self.write("library", "no library")}
-        with unittest.mock.patch.dict(os.environ, with_library):
+        with mock.patch.dict(os.environ, with_library):
             hold_undone(self, steps("make", self.folder / "x"), "it is no library of the adapter")
 
     def test_kinds_are_listed(self) -> None:
@@ -471,9 +473,10 @@ class Loaders(Made):
                 self.assertEqual((done[0], done[2]), (0, ""))
                 self.hold_loader([program])
 
-    def check_toy(self, text: str, kind: str) -> tuple[int, str]:
+    def check_toy(self, text: str, kind: str, name: str = "toy.py") -> tuple[int, str]:
         """What `check` tells of a toy adapter that has this text."""
-        toy = self.write("toy.py", text)
+        shutil.copy(STEPS_EXAMPLES / "toy.py", self.folder)
+        toy = self.write(name, text)
         words = ("check", f"{sys.executable} -S {toy}", self.files[kind])
         status, output, said = steps(*words)
         self.assertEqual(said, "")
@@ -493,6 +496,27 @@ class Loaders(Made):
             self.assertEqual(
                 (status, output.splitlines()[-1]), (0, "50 elements: 50 agree, 0 differ")
             )
+
+    def test_the_toy_beam(self) -> None:
+        text = (STEPS_EXAMPLES / "beam.py").read_text("utf-8")
+        # An advance by millions of dots takes it a minute.
+        for kind in ("dots-text", "dots-16-colours", "dots-256-colours", "input-status-1"):
+            status, output = self.check_toy(text, kind, "beam.py")
+            self.assertEqual((status, output.splitlines()[-1]), (0, AGREE))
+        wrong = text.replace("(pan & 7) + 1", "(pan & 7)")
+        status, output = self.check_toy(wrong, "dots-16-colours", "beam.py")
+        self.assertEqual(status, 1)
+        self.assertRegex(output, "panning: characters of nine dots \\(docs/RASTER.md#where-a-dot")
+
+    def test_the_toy_clock(self) -> None:
+        text = (STEPS_EXAMPLES / "beam.py").read_text("utf-8")
+        for kind in ("clock", "clock-changed"):
+            some = [one for one in read_elements(str(self.files[kind])) if one["advance"][0] < 9999]
+            self.assertGreater(len(some), 15)
+            path = self.write("some.json", "[\n" + ",\n".join(map(json.dumps, some)) + "\n]\n")
+            with mock.patch.dict(files, {kind: Path(path)}):
+                status, output = self.check_toy(text, kind, "beam.py")
+            self.assertEqual(status, 0, output)
 
     def test_faults_of_the_toy_adapter(self) -> None:
         text = (STEPS_EXAMPLES / "toy.py").read_text("utf-8")

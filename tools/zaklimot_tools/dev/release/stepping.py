@@ -21,7 +21,16 @@ TOOL = TOP / "tools" / "vga-steps"
 PAGE = "docs/STEPS.md"
 LOADERS = tuple(
     f"examples/steps/{name}"
-    for name in ("loader.c", "loader.cpp", "loader.py", "loader.rs", "toy.h", "toy.py", "toy.rs")
+    for name in (
+        "beam.py",
+        "loader.c",
+        "loader.cpp",
+        "loader.py",
+        "loader.rs",
+        "toy.h",
+        "toy.py",
+        "toy.rs",
+    )
 )
 ALONE = {
     PAGE: "README.md",
