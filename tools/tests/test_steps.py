@@ -776,6 +776,33 @@ class Files(Folder):
 
 
 class Page(unittest.TestCase):
+    def test_its_example_is_an_element(self) -> None:
+        text = PAGE.read_text("utf-8")
+        found = re.search(r"(?ms)^    (\{\"name\".*?\n)\n", text)
+        assert found is not None
+        path = STEPS_EXAMPLES / "write-mode-3-planar.json.gz"
+        self.assertEqual(json.loads(found[1]), list(read_elements(str(path)))[3])
+
+    def test_it_has_the_loader_and_counts_the_rules(self) -> None:
+        text = PAGE.read_text("utf-8")
+        found = re.search(r"(?ms)^```python\n(.*?)^```", text)
+        assert found is not None
+        self.assertIn(found[1], (STEPS_EXAMPLES / "loader.py").read_text("utf-8"))
+        counts = [len(RULES), sum(len(rule.branches) for rule in RULES)]
+        told = re.search(r"the (\d+) rules and (\d+)\nbranches", text)
+        assert told is not None
+        self.assertEqual([int(told[1]), int(told[2])], counts)
+
+    def test_what_it_shows_of_check_is_what_is_told(self) -> None:
+        text = PAGE.read_text("utf-8")
+        found = re.search(r"(?m)^    \$ tools/vga-steps check '(.*)' (\S+)\n((?:    .*\n)+)", text)
+        assert found is not None
+        paths = sorted(TOP.glob(found[2]))
+        command = found[1].replace("python3 ", f"{sys.executable} ").replace("tools/", f"{TOOLS}/")
+        status, output, _ = steps("check", command, *paths)
+        shown = "".join(line[4:] for line in found[3].splitlines(keepends=True))
+        self.assertEqual((status, output.replace(f"{TOP}/", "")), (1, shown))
+
     def test_it_tells_each_kind_part_and_step(self) -> None:
         text = PAGE.read_text("utf-8")
         for name in (*KINDS, *ORDER, *STEPS, *BEAM, *BDA):

@@ -190,15 +190,13 @@ class SteppedCard:
         return list(self._latches.plane)
 
     def _read_planes(self, offsets: Sequence[int]) -> list[list[int]]:
-        read, at, byte = self._calls["read_plane"], self._at, self._byte
-        found = []
-        for offset in offsets:
-            bytes_of = [offset]
-            for plane in range(4):
-                read(at, plane, offset, byte, 1)
-                bytes_of.append(byte.value)
-            found.append(bytes_of)
-        return found
+        return [
+            [offset, *(self._byte_at(plane, offset) for plane in range(4))] for offset in offsets
+        ]
+
+    def _byte_at(self, plane: int, offset: int) -> int:
+        self._calls["read_plane"](self._at, plane, offset, self._byte, 1)
+        return self._byte.value
 
     def _components(self, entry: int) -> list[int]:
         colour = self._colour

@@ -78,9 +78,8 @@ class HeldFile:
 
     def _count(self, element: Element, members: set[str]) -> None:
         """Counts an element that differs in these members for the rules that it shows."""
-        shown: set[tuple[str, str]] = set()
-        for rule, branch in branches_shown(element):
-            shown |= {(rule.name, branch), (rule.name, "")}
+        branches = [(rule.name, branch) for rule, branch in branches_shown(element)]
+        shown = {*branches, *((name, "") for name, _ in branches)}
         for key in sorted(shown, key=lambda key: NUMBERS[key[0]]):
             governs = BY_NAME[key[0]].governs
             is_wrong = bool(members & {*governs} if governs else members)
@@ -179,17 +178,20 @@ def _junit_text(held: list[HeldFile]) -> str:
     """A test case for each rule of each file."""
     suites = ElementTree.Element("testsuites")
     for file in held:
-        rules: dict[str, list[Branches]] = {}
-        for one in file.branches():
-            rules.setdefault(one.rule, []).append(one)
-        failing = sum(any(one.differ for one in some) for some in rules.values())
-        counts = {"tests": str(len(rules)), "failures": str(failing), "errors": "0"}
-        suite = ElementTree.SubElement(suites, "testsuite", {"name": file.name, **counts})
-        for name, some in rules.items():
-            _add_case(suite, file, name, [one for one in some if one.differ])
+        _add_suite(suites, file)
     ElementTree.indent(suites)
     text = ElementTree.tostring(suites, "unicode")
     return '<?xml version="1.0" encoding="UTF-8"?>\n' + text + "\n"
+
+
+def _add_suite(suites: ElementTree.Element, file: HeldFile) -> None:
+    branches = file.branches()
+    names = list(dict.fromkeys(one.rule for one in branches))
+    failing = {one.rule for one in branches if one.differ}
+    counts = {"tests": str(len(names)), "failures": str(len(failing)), "errors": "0"}
+    suite = ElementTree.SubElement(suites, "testsuite", {"name": file.name, **counts})
+    for name in names:
+        _add_case(suite, file, name, [one for one in branches if one.rule == name and one.differ])
 
 
 def _add_case(suite: ElementTree.Element, file: HeldFile, name: str, wrong: list[Branches]) -> None:

@@ -137,10 +137,13 @@ class CountedFile:
         self.elements = 0
         self.branches: dict[str, dict[str, int]] = {}
         for element in read_elements(path):
-            self.elements += 1
-            for rule, branch in branches_shown(element):
-                counts = self.branches.setdefault(rule.name, {})
-                counts[branch] = counts.get(branch, 0) + 1
+            self._count(element)
+
+    def _count(self, element: Element) -> None:
+        self.elements += 1
+        for rule, branch in branches_shown(element):
+            counts = self.branches.setdefault(rule.name, {})
+            counts[branch] = counts.get(branch, 0) + 1
 
 
 def coverage(words: argparse.Namespace, progress: Progress) -> int:
@@ -191,6 +194,10 @@ def _coverage_lines(table: dict[str, dict[str, tuple[str, float]]], least: int) 
     """The table as lines: each rule with its place, and each branch with its share."""
     for rule in RULES:
         yield f"{rule.name} ({rule.place})"
-        for branch, (name, share) in table[rule.name].items():
-            mark = "!" if share < least else " "
-            yield f" {mark} {share:7.0f}  {branch}" + (f"  [{Path(name).name}]" if name else "")
+        yield from (_branch_line(branch, *best, least) for branch, best in table[rule.name].items())
+
+
+def _branch_line(branch: str, name: str, share: float, least: int) -> str:
+    """A branch, how often a file shows it, and which; it is marked if that is too seldom."""
+    mark = "!" if share < least else " "
+    return f" {mark} {share:7.0f}  {branch}" + (f"  [{Path(name).name}]" if name else "")

@@ -2,7 +2,7 @@
 
 from typing import Any, Iterator
 
-from .parts import ANSWER, FINAL, INITIAL, LISTS, PLACES, REFUSED, STRUCTS, Element
+from .parts import ANSWER, FINAL, INITIAL, LISTS, PLACES, REFUSED, STRUCTS, Element, Parts
 
 # What a line's dots are told as.
 DOTS = ("colours", "entries")
@@ -17,13 +17,16 @@ def differences(expected: Element, given: Element) -> Iterator[str]:
         yield f"{REFUSED}: {came or 'it is done'}, not {refused or 'done'}"
     elif expected.get(ANSWER) != given.get(ANSWER):
         yield from _answers(expected.get(ANSWER), given.get(ANSWER))
-    for name in (INITIAL, FINAL):
-        states = expected[name], given.get(name, {})
-        for part in (one for one in states[0] if one in states[1]):
-            if states[0][part] != states[1][part]:
-                front = "" if name == FINAL else "before the step, "
-                told = _parts(part, states[0][part], states[1][part])
-                yield from (front + one for one in told)
+    before = _states(expected[INITIAL], given.get(INITIAL, {}))
+    yield from (f"before the step, {told}" for told in before)
+    yield from _states(expected[FINAL], given.get(FINAL, {}))
+
+
+def _states(expected: Parts, given: Parts) -> Iterator[str]:
+    """Where two states differ, of the parts that both have."""
+    for part in (one for one in expected if one in given):
+        if expected[part] != given[part]:
+            yield from _parts(part, expected[part], given[part])
 
 
 def members_in(found: list[str]) -> set[str]:

@@ -80,20 +80,25 @@ def counters_of(state: Parts, beam: Parts) -> list[int]:
 
 def _text_planes(chance: Chance, state: Parts, beam: Parts) -> dict[int, list[int]]:
     """Characters, attributes and the rows of their glyphs."""
-    seq, found = state["seq"], dict[int, list[int]]()
-    scan = beam["scan"] if beam["line"] else state["crtc"][8] & 31
+    found = dict[int, list[int]]()
     for counter in counters_of(state, beam):
         place = found.setdefault(fetch_address(counter, state["crtc"]), [0, 0, 0, 0])
         place[0] = 0xC0 + chance.bits(5) if chance.one_in(3) else chance.bits(8)
         place[1] = chance.among((0x01, 0x09, 0x81)) if chance.one_in(4) else chance.byte()
+    scan = beam["scan"] if beam["line"] else state["crtc"][8] & 31
     for place in list(found.values()):
-        map_a = seq[3] >> 5 << 2 | seq[3] >> 2 & 3
-        map_b = (seq[3] >> 4 & 1) << 2 | seq[3] & 3
-        number = map_a if place[1] & 8 else map_b
-        start = (number & 3) * 0x4000 + (number >> 2) * 0x2000
-        offset = start + GLYPH_ROWS * place[0] + scan & 0xFFFF
+        offset = _glyph_row(state["seq"][3], place[0], place[1], scan)
         found.setdefault(offset, [0, 0, 0, 0])[2] = chance.byte()
     return found
+
+
+def _glyph_row(select: int, character: int, attribute: int, scan: int) -> int:
+    """The offset of the row of a character's glyph, by the character map select."""
+    map_a = select >> 5 << 2 | select >> 2 & 3
+    map_b = (select >> 4 & 1) << 2 | select & 3
+    number = map_a if attribute & 8 else map_b
+    start = (number & 3) * 0x4000 + (number >> 2) * 0x2000
+    return start + GLYPH_ROWS * character + scan & 0xFFFF
 
 
 def _graphics_planes(chance: Chance, state: Parts, beam: Parts) -> dict[int, list[int]]:
@@ -150,13 +155,19 @@ def _entries_of(card: SteppedCard, state: Parts, reach: Parts) -> list[int]:
     return [dot & 0xFF if dot else -1 for dot in card.line()]
 
 
+def _other_colour(chance: Chance, used: set[int]) -> int:
+    """A colour of 18 bits that is none of these."""
+    colour = chance.bits(18)
+    while colour in used:
+        colour = chance.bits(18)
+    return colour
+
+
 def _colours(chance: Chance, entries: list[int]) -> list[list[int]]:
     """A colour for each entry that dots take; no two of them have the same, and none is black."""
     used, made = set[int]({0}), list[list[int]]()
     for entry in sorted({*entries} - {-1}):
-        colour = chance.bits(18)
-        while colour in used:
-            colour = chance.bits(18)
+        colour = _other_colour(chance, used)
         used.add(colour)
         made.append([entry, colour >> 12, colour >> 6 & 0x3F, colour & 0x3F])
     return made

@@ -1,6 +1,5 @@
 """The library of the adapter: found, or compiled from its C file, and loaded."""
 
-import ctypes
 import os
 from typing import Mapping, Optional
 
@@ -61,8 +60,3 @@ def load(path: Optional[str] = None) -> Mapping[str, _calls.Call]:
         return _calls.bind_all(os.path.abspath(place), CALLS)
     except (OSError, AttributeError) as error:
         raise Trouble(f"it is no library of the adapter: {error}", place) from error
-
-
-def reference(value: ctypes.Structure) -> object:
-    """A pointer for a call."""
-    return ctypes.byref(value)

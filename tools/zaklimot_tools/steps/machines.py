@@ -63,37 +63,46 @@ def write_scripts(words: argparse.Namespace, _: Progress) -> int:
     """Writes the scripts of elements into a folder, with the cycles that read the state."""
     folder = empty_folder(words.folder)
     front = [] if words.before is None else [*_front(words.before)]
-    listed = []
-    for path in words.file:
-        (folder / _stem(path)).mkdir(exist_ok=True)
-        for number, element in _asked(path, words.first):
-            name = f"{_stem(path)}/{number:06}.vga"
-            lines = [*front, *text_lines(element), *readback_lines(element)]
-            text = "".join(f"{line}\n" for line in lines)
-            write_file(str(folder / name), text.encode("ascii", "replace"))
-            listed.append(f"{name} -\n")
-    write_file(str(folder / LIST), "".join(listed).encode("utf-8", "surrogateescape"))
+    listed = [name for path in words.file for name in _written(folder, path, words.first, front)]
+    lines = "".join(f"{name} -\n" for name in listed)
+    write_file(str(folder / LIST), lines.encode("utf-8", "surrogateescape"))
     write(f"{counted(len(listed), 'script')}\n")
     return AGREED
+
+
+def _written(folder: Path, path: str, most: Optional[int], front: list[str]) -> Iterator[str]:
+    """Writes the scripts of a file's elements; their names."""
+    (folder / _stem(path)).mkdir(exist_ok=True)
+    for number, element in _asked(path, most):
+        name = f"{_stem(path)}/{number:06}.vga"
+        lines = [*front, *text_lines(element), *readback_lines(element)]
+        text = "".join(f"{line}\n" for line in lines)
+        write_file(str(folder / name), text.encode("ascii", "replace"))
+        yield name
 
 
 def judge_reports(words: argparse.Namespace, progress: Progress) -> int:
     """Compares the reports of such scripts with the elements."""
     held = []
     for path in words.file:
-        one = HeldFile(name_of(path))
-        for number, element in _asked(path, words.first):
-            report = Path(words.folder, _stem(path), f"{number:06}.report")
-            one.judge(element, _given(element, str(report)), number)
-            if progress.is_due():
-                progress.tell(f"{one.name}: {counted(number + 1, 'element')}")
+        held.append(_held(words, path, progress))
         progress.clear()
-        write("".join(f"{line}\n" for line in one.lines()))
-        held.append(one)
+        write("".join(f"{line}\n" for line in held[-1].lines()))
     write("of all files\n" + "".join(f"  {one.told()}\n" for one in worst(held)))
     agree, differ = sum(one.agree for one in held), sum(one.differ for one in held)
     write(f"{counted(agree + differ, 'element')}: {agree} agree, {differ} differ\n")
     return DIFFERED if differ or not agree else AGREED
+
+
+def _held(words: argparse.Namespace, path: str, progress: Progress) -> HeldFile:
+    """What the reports of a file's elements tell."""
+    held = HeldFile(name_of(path))
+    for number, element in _asked(path, words.first):
+        report = Path(words.folder, _stem(path), f"{number:06}.report")
+        held.judge(element, _given(element, str(report)), number)
+        if progress.is_due():
+            progress.tell(f"{held.name}: {counted(number + 1, 'element')}")
+    return held
 
 
 def _given(element: Element, report: str) -> Element:

@@ -116,11 +116,11 @@ def _read(chance: Chance, _: SteppedCard, mode: int, spread: str) -> Wish:
 
 def _match(chance: Chance, state: Parts) -> None:
     """Gives some bits of each place the colour that is compared: of random ones few match."""
+    colour = [0xFF * (state["gfx"][2] >> plane & 1) for plane in range(4)]
     for place in state["planes"]:
         bits = chance.byte()
-        for plane in range(4):
-            is_set = state["gfx"][2] >> plane & 1
-            place[1 + plane] = place[1 + plane] & ~bits | (bits if is_set else 0)
+        pairs = zip(place[1:], colour)
+        place[1:] = [byte & ~bits | wanted & bits for byte, wanted in pairs]
 
 
 def _word(chance: Chance, _: SteppedCard, is_write: bool) -> Wish:

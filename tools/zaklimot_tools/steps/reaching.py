@@ -118,8 +118,7 @@ def _memory(state: Parts) -> Iterator[Step]:
     latches = state.get("latches")
     if not places and latches is None:
         return
-    for port, index, value in (*PLANAR, *WINDOW):
-        yield register(port, index, value)
+    yield from (register(*one) for one in (*PLANAR, *WINDOW))
     for plane in range(PLANES):
         yield register(SEQUENCER, MAP_MASK, 1 << plane)
         yield from (put(place[0], place[1 + plane]) for place in places)

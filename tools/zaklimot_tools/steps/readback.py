@@ -54,9 +54,8 @@ def _does(*steps: Step) -> Iterator[ReadCycle]:
 def cycles_of(state: Parts) -> Iterator[ReadCycle]:
     """The cycles that read a state. What changes it comes after what doesn't."""
     base = CONTROLLER - (0 if state.get("misc", 1) & 1 else 0x20)
-    for name, port in (("dac_mask", MASK), ("dac_index", DAC_INDEX), ("attr_index", ATTRIBUTE)):
-        if name in state:
-            yield _in(port, name)
+    indexes = (("dac_mask", MASK), ("dac_index", DAC_INDEX), ("attr_index", ATTRIBUTE))
+    yield from (_in(port, name) for name, port in indexes if name in state)
     for name, port in (("seq", SEQUENCER), ("gfx", GRAPHICS), ("crtc", base)):
         yield from _bank(state, name, port)
     yield from _attributes(state, base)

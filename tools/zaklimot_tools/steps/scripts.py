@@ -72,11 +72,6 @@ def scripted(element: Element) -> Step:
     return Step("advance", (line_dots(element[INITIAL]),)) if step.name == LINE else step
 
 
-def script_of_element(element: Element) -> Script:
-    """The script that ends in the very step."""
-    return Script((*reached(element), scripted(element)))
-
-
 def expected_answer(element: Element) -> Optional[str]:
     """What a report says of the step, where it isn't `ok`."""
     if REFUSED in element:
