@@ -140,17 +140,17 @@ def entry(state: State, planes: dict[int, list[int]]) -> int:
     step, dot = divmod(beam["dot"] + panning(state), width(state))
     counter = beam["base"] + beam["character"] + step & 0xFFFF
     place = planes.get(fetch_address(state["crtc"], counter), [0, 0, 0, 0])
-    mask: int = state["dac_mask"]
+    mask = int(state["dac_mask"])
     if is_packed(state):
-        return (place[dot // 2] if dot < 8 else 0) & mask
+        return place[dot // 2] & mask if dot < 8 else 0
     if state["gfx"][6] & 1:
         four = sum((place[plane] >> 7 - dot & 1) << plane for plane in range(4)) if dot < 8 else 0
     else:
         four = text_bits(state, planes, counter, dot)
-    colour = int(attr[four & attr[0x12] & 15])
+    colour, select = int(attr[four & attr[0x12] & 15]), int(attr[0x14])
     if attr[0x10] & 0x80:
-        colour = colour & 15 | (attr[0x14] & 3) << 4
-    return (colour | (attr[0x14] >> 2) << 6) & mask
+        colour = colour & 15 | (select & 3) << 4
+    return (colour | (select >> 2) << 6) & mask
 
 
 def line(state: State) -> dict[str, list[int]]:
