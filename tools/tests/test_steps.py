@@ -24,7 +24,7 @@ from zaklimot_tools.steps.rules import RULES, branches_shown
 from zaklimot_tools.steps.scripts import confirming, text_lines
 from zaklimot_tools.script.words import FONTS
 
-from .stepping import COUNT, GOOD, Made, SEED, STEPS_EXAMPLES, files, make_steps, told
+from .stepping import COUNT, GOOD, Made, SEED, STEPS_EXAMPLES, make_files, steps, told
 from .tools import (
     PROGRAM,
     TOOLS,
