@@ -142,7 +142,7 @@ def entry(state: State, planes: dict[int, list[int]]) -> int:
     place = planes.get(fetch_address(state["crtc"], counter), [0, 0, 0, 0])
     mask = int(state["dac_mask"])
     if is_packed(state):
-        return place[dot // 2] & mask if dot < 8 else 0
+        return int(place[dot // 2] & mask) if dot < 8 else 0
     if state["gfx"][6] & 1:
         four = sum((place[plane] >> 7 - dot & 1) << plane for plane in range(4)) if dot < 8 else 0
     else:
