@@ -10,18 +10,21 @@ import re
 import shutil
 import sys
 import unittest
+import zlib
 from pathlib import Path
 from typing import Any, Iterator, cast
 from unittest import mock
 
+from zaklimot_tools.steps.adapter import SteppedCard
 from zaklimot_tools.steps.chance import Chance
 from zaklimot_tools.steps.comparing import differences
 from zaklimot_tools.steps.kinds import KINDS
+from zaklimot_tools.steps.library import load
 from zaklimot_tools.steps.parts import BDA, BEAM, FINAL, INITIAL, ORDER, Element
 from zaklimot_tools.steps.readback import readback_lines
 from zaklimot_tools.steps.reading import STEPS, fault_of, read_elements
 from zaklimot_tools.steps.rules import RULES, branches_shown
-from zaklimot_tools.steps.scripts import confirming, text_lines
+from zaklimot_tools.steps.scripts import confirming, reached, text_lines
 from zaklimot_tools.script.words import FONTS
 
 from .stepping import COUNT, GOOD, Made, SEED, STEPS_EXAMPLES, make_files, steps, told
@@ -119,7 +122,8 @@ class Scripts(Made):
 
     def test_it_sees_each_part_that_is_another(self) -> None:
         want_program()
-        for kind in ("write-words", "dac-writes", "dots-text", "clock", "service-0e", "service-10"):
+        kinds = ("write-words", "dac-writes", "dots-text", "clock", "service-0e", "service-10")
+        for kind in (*kinds, "service-00-mode-sets"):
             path = self.folder / f"{kind}.json"
             changed = list(self.changed(next(self.elements(kind, 1))))
             path.write_text("[\n" + ",\n".join(map(json.dumps, changed)) + "\n]\n")
@@ -149,6 +153,19 @@ class Scripts(Made):
                     if not fault_of(other):
                         yield other
                         break
+
+    def test_bytes_that_are_not_listed_are_0(self) -> None:
+        with SteppedCard(load(), Path(FONTS).read_bytes()) as card:
+            for kind in ("write-words", "read-mode-0-planar", "dots-text", "service-0c"):
+                element = next(read_elements(str(self.files[kind])))
+                card.power_on()
+                card.run(reached(element))
+                planes = [bytearray(1 << 16) for _ in range(4)]
+                for place in element[INITIAL]["planes"]:
+                    for plane, value in zip(planes, place[1:]):
+                        plane[place[0]] = value
+                sums = card.read(("sums",), {})["sums"]
+                self.assertEqual(sums[:4], [zlib.crc32(plane) for plane in planes], kind)
 
     def test_a_script_ends_in_the_step(self) -> None:
         for kind, ending in (
