@@ -9,6 +9,7 @@ import os
 import re
 import shutil
 import sys
+import tempfile
 import unittest
 import zlib
 from pathlib import Path
@@ -467,13 +468,16 @@ class Page(unittest.TestCase):
 
     def test_what_it_shows_of_check_is_what_is_told(self) -> None:
         text = PAGE.read_text("utf-8")
-        found = re.search(r"(?m)^    \$ tools/vga-steps check '(.*)' (\S+)\n((?:    .*\n)+)", text)
+        form = r"    \$ sed 's/(.*)/(.*)/' (\S+) > wrong\.py\n    \$ .* 'python3 wrong\.py' (\S+)\n"
+        found = re.search(rf"(?m)^{form}((?:    .*\n)+)", text)
         assert found is not None
-        paths = sorted(TOP.glob(found[2]))
-        command = found[1].replace("python3 ", f"{sys.executable} ").replace("tools/", f"{TOOLS}/")
-        status, output, _ = steps("check", command, *paths)
-        shown = "".join(line[4:] for line in found[3].splitlines(keepends=True))
-        self.assertEqual((status, output.replace(f"{TOP}/", "")), (1, shown))
+        was, now, toy, file, shown = found.groups()
+        with tempfile.TemporaryDirectory() as folder:
+            wrong = Path(folder) / "wrong.py"
+            wrong.write_text(re.sub(was, now, (TOP / toy).read_text("utf-8")))
+            status, output, _ = steps("check", f"{sys.executable} {wrong}", TOP / file)
+        told_there = "".join(line[4:] for line in shown.splitlines(keepends=True))
+        self.assertEqual((status, output.replace(f"{TOP}/", "")), (1, told_there))
 
     def test_it_tells_each_kind_part_and_step(self) -> None:
         text = PAGE.read_text("utf-8")
