@@ -31,7 +31,6 @@ from zaklimot_tools.script.words import FONTS
 from .stepping import COUNT, GOOD, Made, SEED, STEPS_EXAMPLES, make_files, steps, told
 from .tools import (
     PROGRAM,
-    TOOLS,
     TOP,
     Folder,
     hold,
