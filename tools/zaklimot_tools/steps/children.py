@@ -1,10 +1,12 @@
 """A command over many files: each in a process of its own, so many at a time."""
 
+import argparse
 import sys
 from threading import Event
 from typing import Callable, Iterator, Sequence
 
 from zaklimot_tools import HERE
+from zaklimot_tools.core.files import STANDARD
 from zaklimot_tools.core.processes import Done, captured, end_all, in_parallel
 from zaklimot_tools.core.progress import Progress
 from zaklimot_tools.core.trouble import TROUBLE, Trouble
@@ -15,6 +17,11 @@ BEGINNING = (
     "sys.exit(main())"
 )
 PREFIX = "vga-steps: "
+
+
+def is_shared(words: argparse.Namespace) -> bool:
+    """Whether the work on files is shared among processes, none of which has standard input."""
+    return words.jobs > 1 and len(words.file) > 1 and STANDARD not in words.file
 
 
 def in_children(

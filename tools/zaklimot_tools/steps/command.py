@@ -13,7 +13,7 @@ from zaklimot_tools.core.trouble import AGREED, DIFFERED, Trouble
 from zaklimot_tools.script.words import FONTS
 
 from .adapter import SteppedCard
-from .children import in_children
+from .children import in_children, is_shared
 from .checking import check
 from .confirming import confirm
 from .kinds import KINDS
@@ -167,7 +167,7 @@ def coverage(words: argparse.Namespace, progress: Progress) -> int:
 
 def _counts(words: argparse.Namespace, progress: Progress) -> list[dict[str, object]]:
     """The counts of each file."""
-    if words.jobs == 1 or len(words.file) == 1:
+    if not is_shared(words):
         counted_files = [CountedFile(path) for path in words.file]
         return [
             {"file": one.name, "elements": one.elements, "branches": one.branches}

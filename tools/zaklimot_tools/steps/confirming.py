@@ -14,7 +14,7 @@ from zaklimot_tools.core.streams import counted, write
 from zaklimot_tools.core.trouble import AGREED, DIFFERED, Trouble
 from zaklimot_tools.script.program import fault_of, found_program
 
-from .children import in_children
+from .children import in_children, is_shared
 from .comparing import differences
 from .parts import NAME, Element
 from .reading import read_elements
@@ -29,7 +29,7 @@ MOST_TOLD = 5
 def confirm(words: argparse.Namespace, progress: Progress) -> int:
     """Runs the scripts of elements, and compares."""
     program = found_program(words.vga)
-    if words.jobs > 1 and len(words.file) > 1:
+    if is_shared(words):
         return _in_children(words, program, progress)
     wrong = 0
     for path in words.file:
