@@ -57,7 +57,7 @@ class Made(Completing):
         status, output, said = run_tool("vga-completions", self.folder)
         self.assertEqual((status, said), (0, ""))
         places = [place for tool in tools() for place in completions(tool)]
-        self.assertEqual(len(places), 12)
+        self.assertEqual(len(places), 15)
         for place in places:
             made = (self.folder / place).read_text("ascii")
             told = "tools/vga-completions share makes it anew"

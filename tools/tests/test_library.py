@@ -45,7 +45,7 @@ from zaklimot_tools.dev.library.making import (
 )
 from zaklimot_tools.dev.library_tests import bindings, checks, compilers, portable
 from zaklimot_tools.dev.library_tests.compilers import run
-from zaklimot_tools.dev.release import command as release
+from zaklimot_tools.dev.release import command as release, stepping
 from zaklimot_tools.dev.release.command import (
     FRONT,
     INSTALL,
@@ -60,6 +60,7 @@ from zaklimot_tools.dev.release.command import (
 from zaklimot_tools.report.cases import read_cases
 from zaklimot_tools.report.places import SUITE
 from zaklimot_tools.script import crates
+from zaklimot_tools.steps.kinds import KINDS
 
 from .test_pages import broken
 from .tools import Folder, call, ended, hold, hold_undone, main_of, patched, refused
@@ -319,16 +320,18 @@ class Parts(Folder):
             "release_entries": lambda *_: entries,
             "check_program": lambda _: None,
             "portable_entries": lambda _: {"zaklimot.c": File(b"code")},
+            "steps_entries": lambda *_: {"README.md": File(b"page")},
         }
         with patched(release, made):
             words = ["--program", given, "--archive", given, "--archive-aarch64", given]
             status, output, said = call(main_of("vga-release"), self.folder, *words)
-        archive, sums, portable, others = map(Path, output.splitlines())
+        archive, sums, steps, sums_of_steps, portable, others = map(Path, output.splitlines())
         self.assertEqual((status, said), (0, ""))
-        for path, told in ((archive, sums), (portable, others)):
+        for path, told in ((archive, sums), (steps, sums_of_steps), (portable, others)):
             line = f"{hashlib.sha256(path.read_bytes()).hexdigest()}  {path.name}\n"
             self.assertEqual(told.read_text("ascii"), line)
         self.assertEqual(portable.name, f"zaklimot-{version()}-portable.tar.gz")
+        self.assertEqual(steps.name, f"zaklimot-{version()}-steps.tar.gz")
         return archive, sums.read_text("ascii")
 
     def test_the_archive_of_the_c_file(self) -> None:
@@ -372,6 +375,7 @@ class Parts(Folder):
             "clean_commit": lambda: COMMIT,
             "portable_entries": lambda _: ENTRIES,
             "release_entries": ran,
+            "steps_entries": ran,
         }
         with patched(release, made):
             status, output, said = call(main_of("vga-release"), self.folder, "--portable")
@@ -382,6 +386,40 @@ class Parts(Folder):
         told = "^vga-release: --portable takes nothing that is built\n"
         words = ["--portable", "--program", self.write("given", "")]
         hold_undone(self, call(main_of("vga-release"), self.folder, *words), told)
+
+    def test_the_archive_of_single_step_tests(self) -> None:
+        library = File(b"the library")
+        built: dict[str, Entry] = {"lib/libzaklimot.so.1": library}
+        built["lib/libzaklimot.so"] = "libzaklimot.so.1"
+        seen: list[bytes] = []
+
+        def make(_: str, path: Path, __: object) -> dict[str, bytes]:
+            seen.append(path.read_bytes())
+            return {"steps/a.json.gz": b"elements"}
+
+        files = {place: File((TOP / place).read_bytes()) for place in stepping.ALONE}
+        made = {"files_of": lambda _, paths: {path: files[path] for path in paths}}
+        with patched(release, made), mock.patch.object(stepping, "make_steps", make):
+            entries = release.steps_entries(COMMIT, built, lambda _: None)
+        self.assertEqual(seen, [b"the library"])
+        names = {Path(place).name for place in stepping.LOADERS}
+        wanted = {"LICENSE", "README.md", "zaklimot.fnt", "steps/a.json.gz", *names}
+        self.assertEqual(set(entries), wanted)
+        page = content_of(entries["README.md"]).decode("utf-8")
+        self.assertTrue(page.startswith("# Single-step tests\n"))
+        self.write("LICENSE", "")
+        self.assertEqual(broken(self.folder / "README.md", page), [])
+
+    def test_elements_of_a_release_are_made(self) -> None:
+        made = stepping.make_steps("0123456789", None, None, count=1)
+        self.assertEqual(len(made), len(KINDS) + 1)
+        told = made["MADE-OF"].decode("ascii")
+        self.assertRegex(
+            told, "^commit 0123456789\nseed 19088743\ncount 1\nlibrary sha256 [0-9a-f]{64}$"
+        )
+        with mock.patch.object(stepping, "MOST_BYTES", 1000):
+            told = refused(stepping.make_steps, "0123456789", None, None, 1)
+        self.assertRegex(told, "^the elements have [0-9,]+ bytes, and 1,000 are the most$")
 
     def test_links_of_a_commit_stay_links(self) -> None:
         with tempfile.TemporaryFile() as stream:

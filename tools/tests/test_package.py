@@ -94,7 +94,7 @@ class Parts(Folder):
 
     def test_a_tool_runs_from_any_folder_and_through_a_link(self) -> None:
         (self.folder / "there").mkdir()
-        for name in ("vga-report", "vga-trace", "vga-picture", "vga-floppy"):
+        for name in ("vga-report", "vga-trace", "vga-picture", "vga-floppy", "vga-steps"):
             (self.folder / name).symlink_to(TOOLS / name)
             (self.folder / "there" / name).symlink_to(f"../{name}")
             for path in (str(TOOLS / name), f"./{name}", f"there/{name}"):
@@ -133,7 +133,8 @@ class Installed(Folder):
 
     def test_the_commands_and_what_they_carry(self) -> None:
         self.assertEqual(
-            sorted(self.starting), ["vga-floppy", "vga-picture", "vga-report", "vga-trace"]
+            sorted(self.starting),
+            ["vga-floppy", "vga-picture", "vga-report", "vga-steps", "vga-trace"],
         )
         for name in self.starting:
             self.assertEqual(

@@ -119,6 +119,8 @@ STARTING = (
     "vga-page module {made}",
     "vga-fuzz {vga}",
     "vga-floppy run --on dosbox {script} {made}",
+    "vga-steps confirm {elements} --vga {vga}",
+    "vga-steps confirm {elements} {elements} --jobs 2 --vga {vga}",
     "tests-of-tools {tests}",
     "vga-trace record {made} --vga {vga} --quiet 50 -- -cdrom disc",
 )
@@ -317,6 +319,7 @@ class Commands(Folder):
             "vga": self.program("bin/vga", SLEEPING),
             "made": str(self.folder / "made"),
             "tests": self.write("test_one.py", TESTS),
+            "elements": str(TOP / "examples" / "steps" / "sequencer.json.gz"),
         }
         for line in STARTING:
             tool, *words = (word.format(**places) for word in line.split())

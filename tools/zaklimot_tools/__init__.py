@@ -1,8 +1,8 @@
 """The tools of Zaklimot, in parts. A part uses those before it in PARTS, and no other.
 
 `core` is what all have in common. `script` finds and runs the program. `explain` has reasons.
-`images` has pictures. `report`, `trace`, `picture` and `floppy` are the tools of these names. `dev`
-is for those who change the project, and no release has it.
+`images` has pictures. `report`, `trace`, `picture`, `floppy` and `steps` are the tools of these
+names. `dev` is for those who change the project, and no release has it.
 """
 
 import sys
@@ -17,6 +17,7 @@ PARTS = (
     "trace",
     "picture",
     "floppy",
+    "steps",
     "dev",
 )
 HERE = Path(__file__).resolve().parent

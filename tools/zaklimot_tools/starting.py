@@ -35,6 +35,11 @@ def vga_report() -> int:
     return start("zaklimot_tools.report.words")
 
 
+def vga_steps() -> int:
+    """The command `vga-steps`."""
+    return start("zaklimot_tools.steps.words")
+
+
 def vga_trace() -> int:
     """The command `vga-trace`."""
     return start("zaklimot_tools.trace.words")

@@ -68,6 +68,11 @@ class Bank:
         self.index = 0
 
     @property
+    def kept(self) -> bytes:
+        """The bits that each register keeps."""
+        return self._kept
+
+    @property
     def number(self) -> int:
         """The number of the register that the index names."""
         return self.index & 0x1F

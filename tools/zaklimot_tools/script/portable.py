@@ -1,5 +1,5 @@
-"""The portable program: compiled once from the sources in C, and kept in a folder of the user's
-cache."""
+"""The portable program, and the library of the same sources in C: each is compiled once, and kept
+in a folder of the user's cache."""
 
 import hashlib
 import os
@@ -10,10 +10,10 @@ import tempfile
 import time
 from contextlib import contextmanager, suppress
 from pathlib import Path
-from typing import BinaryIO, Iterator, Union
+from typing import BinaryIO, Iterator, NamedTuple, Union
 
 from zaklimot_tools import TOP
-from zaklimot_tools.core.processes import Done, captured
+from zaklimot_tools.core.processes import Done, Word, captured
 from zaklimot_tools.core.trouble import Trouble
 
 
@@ -29,9 +29,10 @@ SOURCES = tuple(
 FLAGS = ("-std=c99", "-O2")
 # Where $CC names no compiler, the first of these that is in the path.
 COMPILERS = ("cc", "gcc", "clang")
-# The program's name, in a folder that its digest names; and the names beside that: of folders in
-# which a program is being made, and of the lock.
+# The names of what is compiled, in a folder that its digest names; and the names beside that: of
+# folders in which something is being made, and of the lock.
 NAME = "vga.exe" if os.name == "nt" else "vga"
+LIBRARY_NAME = {"nt": "zaklimot.dll"}.get(os.name, "libzaklimot.so")
 MAKING = "making-"
 LOCK = "lock"
 # So many seconds may a compilation take, and a run wait for that of another run; and between two
@@ -46,12 +47,40 @@ COMPILES = (
     "{} compiles the program vga from portable/ now, in about 20 seconds, and once: this program is"
     " tested, not proved\n"
 )
+COMPILES_LIBRARY = (
+    "{} compiles the library from portable/ now, in about 20 seconds, and once: this library is"
+    " tested, not proved\n"
+)
 WAITS = "another run compiles the program vga from portable/ just now: this one waits for it\n"
 UNKEPT = (
     "the compiled program can't be kept there: name a folder that can be written by XDG_CACHE_HOME"
 )
-# The programs that this process has found, as open files: no other run removes them meanwhile.
+# What this process has found, as open files: no other run removes them meanwhile.
 _in_use: list[int] = []
+
+
+class Product(NamedTuple):
+    """What is compiled of the sources: the name of its file, what messages call it and say while it
+    is made, and the compiler's words beside those that all have.
+
+    A program is tried: it is run for its help. A library is loaded by those who want it.
+    """
+
+    name: str
+    told: str
+    compiles: str
+    flags: tuple[str, ...] = ()
+    is_program: bool = True
+
+    def sources(self) -> tuple[Path, ...]:
+        """The files that are compiled: of a library the last source alone."""
+        return SOURCES[:-1] if self.is_program else SOURCES[1:-1]
+
+
+PROGRAM = Product(NAME, "the program vga", COMPILES)
+LIBRARY = Product(
+    LIBRARY_NAME, "the library", COMPILES_LIBRARY, ("-shared", "-fPIC"), is_program=False
+)
 
 
 def has_sources() -> bool:
@@ -65,16 +94,25 @@ def portable_program() -> str:
 
     A Trouble tells what is lacking: a compiler, or a folder that can be written.
     """
+    return _compiled(PROGRAM)
+
+
+def portable_library() -> str:
+    """The same of the library, which programs load."""
+    return _compiled(LIBRARY)
+
+
+def _compiled(product: Product) -> str:
     compiler = _compiler()
     folder = _cache()
-    path = folder / _digest(compiler) / NAME
+    path = folder / _digest(compiler, product) / product.name
     if not os.access(path, os.X_OK):
         try:
             folder.mkdir(parents=True, exist_ok=True)
             with _alone(folder):
                 # Another run may have compiled it meanwhile.
                 if not os.access(path, os.X_OK):
-                    _compile(compiler, path)
+                    _compile(compiler, path, product)
         except OSError as error:
             raise Trouble(
                 f"{error.strerror or error}; {UNKEPT}", error.filename or str(folder)
@@ -105,8 +143,9 @@ def _cache() -> Path:
         raise Trouble(f"there is no home folder; {UNKEPT}") from error
 
 
-def _digest(compiler: list[str]) -> str:
-    made = hashlib.sha256(shlex.join([*compiler, *FLAGS]).encode("utf-8", "surrogateescape"))
+def _digest(compiler: list[str], product: Product) -> str:
+    words = shlex.join([*compiler, *FLAGS, *product.flags])
+    made = hashlib.sha256(words.encode("utf-8", "surrogateescape"))
     for source in SOURCES:
         made.update(hashlib.sha256(source.read_bytes()).digest())
     return made.hexdigest()[:32]
@@ -143,33 +182,27 @@ def _say(line: str) -> None:
     sys.stderr.flush()
 
 
-def _compile(compiler: list[str], path: Path) -> None:
-    """Compiles the program, tries it, and only then puts it in its place. Other programs there are
-    removed."""
-    _say(COMPILES.format(shlex.join(compiler)))
+def _compile(compiler: list[str], path: Path, product: Product) -> None:
+    """Compiles the program or the library, tries a program, and only then puts it in its place.
+    Others of its name there are removed."""
+    _say(product.compiles.format(shlex.join(compiler)))
     kept = path.parent
     # A run that was killed may have left its folder.
     for left in (kept, *kept.parent.glob(f"{MAKING}*")):
         shutil.rmtree(left, ignore_errors=True)
     with tempfile.TemporaryDirectory(prefix=MAKING, dir=kept.parent) as folder:
-        made = Path(folder) / kept.name / NAME
+        made = Path(folder) / kept.name / product.name
         made.parent.mkdir()
         include = ("-I", SOURCES[-1].parent)
-        done = captured(
-            [*compiler, *FLAGS, *include, "-o", made, *SOURCES[:-1]], seconds=MOST_SECONDS
-        )
-        _check(
-            done,
-            f"it can't compile the program vga; CC may name another C compiler, and {PAGE}",
-            compiler[0],
-        )
-        _check(
-            captured([made, "--help"], seconds=MOST_SECONDS),
-            "what it makes doesn't run here",
-            compiler[0],
-        )
+        words: list[Word] = [*compiler, *FLAGS, *product.flags, *include]
+        words += ["-o", made, *product.sources()]
+        reason = f"it can't compile {product.told}; CC may name another C compiler, and {PAGE}"
+        _check(captured(words, seconds=MOST_SECONDS), reason, compiler[0])
+        if product.is_program:
+            tried = captured([made, "--help"], seconds=MOST_SECONDS)
+            _check(tried, "what it makes doesn't run here", compiler[0])
         os.replace(made.parent, kept)
-    for other in kept.parent.glob(f"*/{NAME}"):
+    for other in kept.parent.glob(f"*/{product.name}"):
         if other != path:
             _remove_unused(other)
 

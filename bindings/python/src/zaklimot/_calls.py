@@ -7,7 +7,7 @@ with the header.
 from __future__ import annotations
 
 import ctypes
-from typing import Any, Callable, Mapping
+from typing import Any, Callable, Iterable, Mapping
 
 from . import _structs as s
 from ._structs import SIZE, U8, U16, U32
@@ -104,15 +104,12 @@ def _bind(library: ctypes.CDLL, name: str) -> Call:
     return function  # type: ignore[no-any-return]
 
 
-def bind_all(path: str) -> Mapping[str, Call]:
-    """The functions of all calls of the library at a path.
+def bind_all(path: str, names: Iterable[str] = tuple(CALLS)) -> Mapping[str, Call]:
+    """The functions of all calls of the library at a path, or of those that are named.
 
     Calls with a card hold Python's global lock. If two threads use one card at once, their calls
     come one after another, and neither sees a call half done. Calls without a card, which take a
     whole script, release the lock.
     """
     held, released = ctypes.PyDLL(path), ctypes.CDLL(path)
-    return {
-        name: _bind(held if CARD in parameters else released, name)
-        for name, parameters in CALLS.items()
-    }
+    return {name: _bind(held if CARD in CALLS[name] else released, name) for name in names}

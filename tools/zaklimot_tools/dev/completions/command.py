@@ -8,6 +8,7 @@ from zaklimot_tools.core.streams import write_file, write_name
 from zaklimot_tools.floppy.words import parser as of_floppy
 from zaklimot_tools.picture.words import parser as of_picture
 from zaklimot_tools.report.words import parser as of_report
+from zaklimot_tools.steps.words import parser as of_steps
 from zaklimot_tools.trace.words import parser as of_trace
 
 from .bash import in_bash
@@ -18,7 +19,8 @@ from .zsh import in_zsh
 
 def tools() -> list[Tool]:
     """What the parsers of the tools tell."""
-    return [described(made) for made in (of_floppy(), of_picture(), of_report(), of_trace())]
+    parsers = (of_floppy(), of_picture(), of_report(), of_steps(), of_trace())
+    return [described(made) for made in parsers]
 
 
 def completions(tool: Tool) -> dict[str, str]:

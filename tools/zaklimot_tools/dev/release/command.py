@@ -30,7 +30,7 @@ from typing import (
 
 from zaklimot_tools import PARTS, TOP
 from zaklimot_tools.core.files import check_folder
-from zaklimot_tools.core.processes import check_program, ended_well, run
+from zaklimot_tools.core.processes import Hearer, check_program, ended_well, run
 from zaklimot_tools.core.progress import Progress
 from zaklimot_tools.core.streams import write_file, writing
 from zaklimot_tools.core.trouble import Trouble
@@ -50,7 +50,8 @@ from zaklimot_tools.dev.library.making import (
 from zaklimot_tools.dev.library.words import BACKENDS
 from zaklimot_tools.script.crates import phases
 
-from .words import PORTABLE
+from . import stepping
+from .words import PORTABLE, STEPS
 
 
 PROGRAM = TOP / "crates" / "vga"
@@ -81,7 +82,7 @@ class Commit(NamedTuple):
 
 
 # The tools of a release, and the parts of their package: those that need no toolchain.
-TOOLS = tuple(f"tools/vga-{name}" for name in ("floppy", "picture", "report", "trace"))
+TOOLS = tuple(f"tools/vga-{name}" for name in ("floppy", "picture", "report", "steps", "trace"))
 PACKAGE_PARTS = tuple(
     f"tools/{MODULES}/{name}" for name in ("__init__.py", "starting.py", *PARTS[:-1])
 )
@@ -222,6 +223,24 @@ def portable_entries(commit: Commit) -> dict[str, Entry]:
     return settled(files_of(commit, tuple(ALONE)), ALONE)
 
 
+def steps_entries(commit: Commit, built: Mapping[str, Entry], heard: Hearer) -> dict[str, Entry]:
+    """All files of the archive of single-step tests. The proved library makes them, if it is among
+    what is built."""
+    shared = (
+        entry
+        for place, entry in built.items()
+        if place.startswith("lib/libzaklimot.so") and isinstance(entry, File)
+    )
+    with tempfile.TemporaryDirectory(prefix="vga-release-") as name:
+        library = None
+        for entry in shared:
+            library = Path(name) / "libzaklimot.so"
+            library.write_bytes(entry.content)
+        made = stepping.make_steps(commit.number, library, heard)
+    files = {place: File(content) for place, content in made.items()}
+    return {**settled(files_of(commit, tuple(stepping.ALONE)), stepping.ALONE), **files}
+
+
 def wheel_of(files: Mapping[str, Entry], library: Path, folder: Path, target: Target) -> Path:
     """Makes the wheel for a processor in a folder, of these files of the repository and a folder of
     the library's."""
@@ -358,11 +377,17 @@ def release(words: argparse.Namespace, progress: Progress) -> None:
     check_given(words.program, words.archive, words.archive_aarch64)
     check_folder(words.folder)
     commit = clean_commit()
-    archives = {PORTABLE: portable_entries(commit)}
-    if not words.portable:
+    tell = phases(progress)("making the single-step tests")
+    archives: dict[str, Mapping[str, Entry]] = {}
+    if not words.steps:
+        archives[PORTABLE] = portable_entries(commit)
+    if not (words.portable or words.steps):
         for program in (*X86_64.programs(), *AARCH64.programs()):
             check_program(program)
         archives[MACHINE] = release_entries(commit, *_built(words, progress))
+    if not words.portable:
+        archives[STEPS] = steps_entries(commit, archives.get(MACHINE, {}), tell)
+    progress.clear()
     words.folder.mkdir(parents=True, exist_ok=True)
     for kind in sorted(archives, reverse=True):
         write_archive(words.folder, kind, archives[kind], commit.time)

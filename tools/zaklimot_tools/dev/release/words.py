@@ -10,8 +10,8 @@ from zaklimot_tools.core.files import Input
 from zaklimot_tools.dev.library.words import PROCESSORS
 
 
-# The archive of the C file has this name.
-PORTABLE = "portable"
+# The archives of the C file, and of single-step tests, have these names.
+PORTABLE, STEPS = "portable", "steps"
 # What jobs of the command line are functions of.
 _job = partial(later, "zaklimot_tools.dev.release.command")
 
@@ -44,11 +44,16 @@ def _parser() -> argparse.ArgumentParser:
     )
     told = f"packs the archive of {PORTABLE}/zaklimot.c alone, for which nothing is built"
     cli.add(parser, f"--{PORTABLE}", told)
+    told = "packs the archive of single-step tests alone, made by the C file's library"
+    cli.add(parser, f"--{STEPS}", told)
 
     def is_given(words: argparse.Namespace) -> bool:
         return any((words.program, words.archive, words.archive_aarch64))
 
-    rule(parser, PORTABLE, is_given, f"--{PORTABLE} takes nothing that is built")
+    for name in (PORTABLE, STEPS):
+        rule(parser, name, is_given, f"--{name} takes nothing that is built")
+    told = f"--{PORTABLE} and --{STEPS} pack an archive each: give one of them"
+    rule(parser, STEPS, lambda words: words.portable, told)
     parser.set_defaults(job=_job("release"))
     return parser
 

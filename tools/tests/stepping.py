@@ -1,0 +1,76 @@
+"""Files of single-step tests for the modules that test them, made once in each."""
+
+from __future__ import annotations
+
+import contextlib
+import gzip
+import io
+import os
+import shutil
+import tempfile
+import unittest
+from pathlib import Path
+from typing import Any, Iterator
+
+from zaklimot_tools.steps.adapter import SteppedCard
+from zaklimot_tools.steps.kinds import KINDS
+from zaklimot_tools.steps.library import load
+from zaklimot_tools.steps.making import elements
+from zaklimot_tools.steps.parts import Element
+from zaklimot_tools.script.words import FONTS
+
+from .tools import EXAMPLES, Folder, run_tool
+
+STEPS_EXAMPLES = EXAMPLES / "steps"
+# The seed of these tests, and how many elements of each kind they take.
+SEED, COUNT = 1, 50
+NO_COMPILER = "there is no C compiler to make the library with"
+GOOD: Element = {
+    "name": "a write",
+    "initial": {"misc": 3, "planes": [[5, 1, 2, 3, 4]]},
+    "put": [0xA0005, 7],
+    "final": {"misc": 3, "planes": [[5, 7, 7, 7, 7]]},
+}
+
+
+def steps(*words: Any) -> tuple[int, str, str]:
+    """Status, output and messages of the tool."""
+    status, output, said = run_tool("vga-steps", *map(str, words))
+    return status, output.decode(), said
+
+
+def told(path: Path) -> bytes:
+    """A file, unpacked."""
+    data = path.read_bytes()
+    return gzip.decompress(data) if path.suffix == ".gz" else data
+
+
+# The files of all kinds, made once.
+files: dict[str, Path] = {}
+
+
+def make_files() -> None:
+    """Makes the files of all kinds."""
+    if shutil.which(os.environ.get("CC") or "cc") is None:
+        raise unittest.SkipTest(NO_COMPILER)
+    folder = tempfile.TemporaryDirectory()
+    unittest.addModuleCleanup(folder.cleanup)
+    with contextlib.redirect_stderr(io.StringIO()):
+        load()
+    status, output, said = steps("make", folder.name, "--count", COUNT, "--seed", SEED, "--jobs", 4)
+    assert (status, said) == (0, ""), said
+    files.update({Path(name).name.partition(".")[0]: Path(name) for name in output.split()})
+
+
+class Made(Folder):
+    """A test with the files of all kinds."""
+
+    @property
+    def files(self) -> dict[str, Path]:
+        """The files, by their kinds."""
+        return files
+
+    def elements(self, kind: str, count: int) -> Iterator[Element]:
+        """Elements of a kind."""
+        with SteppedCard(load(), Path(FONTS).read_bytes()) as card:
+            yield from elements(KINDS[kind], count, SEED, card)

@@ -1,0 +1,307 @@
+"""Adapters that are held to single-step tests: which faults are found, by which kind, and how."""
+
+from __future__ import annotations
+
+import gzip
+import json
+import re
+import shutil
+import sys
+from pathlib import Path
+from typing import Any
+from unittest import mock
+from xml.etree import ElementTree
+
+from zaklimot_tools.steps.asking import asked_adapter
+from zaklimot_tools.steps.checking import Branches, HeldFile, ranked
+from zaklimot_tools.steps.parts import FINAL
+from zaklimot_tools.steps.reading import read_elements
+
+from .steps_adapter import FAULTS, FaultyCard
+from .stepping import COUNT, GOOD, Made, STEPS_EXAMPLES, files, make_files, steps, told
+from .tools import SIGNALS, TOOLS, begin, ended
+
+setUpModule = make_files
+
+# Which kinds find each fault, and the rule that is told first.
+FOUND = {
+    "set-reset-in-write-mode-1": ("write-mode-1-planar", "write mode 1 stores the latches"),
+    "bit-mask-ignored-in-write-mode-3": (
+        "write-mode-3-planar",
+        "write mode 3: the byte narrows the mask",
+    ),
+    "latches-not-loaded": ("read-mode-0-planar", "a read loads all latches"),
+    "odd-even-bit-kept": ("read-mode-0-odd-even", "the offset in a plane"),
+    "map-mask-ignored-in-chain-4": ("write-mode-0-chain-4", "the planes that a write reaches"),
+    "dac-index-stays": ("dac-writes", "components of the DAC are written"),
+    "flip-flop-stays": ("input-status-1", "input status 1 makes the next write an index"),
+    "no-protection": ("crt-controller-protected", "protected registers"),
+    "panning-by-nine-dots": ("dots-text", "panning"),
+    "blink-inverted": ("dots-text", "blink"),
+}
+# Faults of the toy adapter: what of its text is another, a kind that finds it, and the rule.
+TOY_FAULTS = (
+    (
+        "return latch\n",
+        "return rotated\n",
+        "write-mode-1-planar",
+        "write mode 1 stores the latches",
+    ),
+    (
+        "place & 1 else 0b0101",
+        "place & 2 else 0b0101",
+        "write-mode-0-odd-even",
+        "the planes that a",
+    ),
+    ("return ~differing & 0xFF", "return differing", "read-mode-1-planar", "read mode 1"),
+    ("self.dac_index + (self.dac", "0 * (self.dac", "dac-reads", "components of the DAC are read"),
+    ("byte & KEPT[self.seq_index]", "byte", "sequencer", "sequencer registers"),
+)
+AGREE = f"{COUNT} elements: {COUNT} agree, 0 differ"
+COMPILED = {
+    "loader.c": ("gcc", "-O2", "-Wall", "-Wextra", "-Werror"),
+    "loader.cpp": ("g++", "-std=c++17", "-O2", "-Wall", "-Wextra", "-Werror"),
+    "loader.rs": ("rustc", "-O"),
+}
+
+
+class Faults(Made):
+    def held(self, kind: str, fault: str, count: int) -> HeldFile:
+        """What comes of an adapter with a fault, or with none."""
+        card, held = FaultyCard(FAULTS.get(fault)), HeldFile(kind)
+        for number, element in enumerate(self.elements(kind, count)):
+            held.judge(element, card.answer(element), number)
+        return held
+
+    def test_the_portable_file_agrees(self) -> None:
+        for kind, path in self.files.items():
+            card, held = FaultyCard(None), HeldFile(kind)
+            for number, element in enumerate(read_elements(str(path))):
+                held.judge(element, card.answer(element), number)
+            self.assertEqual((held.agree, held.differ, held.left_out), (COUNT, 0, {}), held.first)
+
+    def test_each_is_found_by_its_kind_and_named_by_its_rule(self) -> None:
+        self.assertEqual(set(FOUND), set(FAULTS))
+        for fault, (kind, rule) in FOUND.items():
+            with self.subTest(fault):
+                held = self.held(kind, fault, 250)
+                self.assertGreater(held.differ, 5)
+                self.assertEqual(held.branches()[0].rule, rule, list(held.lines()))
+
+    def test_no_other_kind_finds_it(self) -> None:
+        for fault, others in (
+            ("set-reset-in-write-mode-1", ("write-mode-0-planar", "write-mode-3-planar")),
+            ("blink-inverted", ("dots-16-colours", "dots-256-colours")),
+            ("no-protection", ("crt-controller", "sequencer")),
+        ):
+            for kind in others:
+                self.assertEqual(self.held(kind, fault, COUNT).differ, 0, (fault, kind))
+
+    def test_a_few_elements_say_less_than_many(self) -> None:
+        few, many = HeldFile("few"), HeldFile("many")
+        few.counts, many.counts = {("a", "b"): [0, 1]}, {("c", "d"): [1, 17]}
+        self.assertEqual(ranked([few, many])[0], Branches("c", "d", 1, 17))
+
+    def test_a_rule_is_blamed_for_what_it_governs_alone(self) -> None:
+        held = self.held("read-mode-0-planar", "latches-not-loaded", COUNT)
+        counts = {one.rule: one.differ for one in held.branches() if not one.branch}
+        self.assertEqual((counts["read mode 0"], counts["enable RAM"]), (0, 0))
+        self.assertEqual(counts["a read loads all latches"], held.differ)
+
+
+class Loaders(Made):
+    """The loaders of docs/STEPS.md, each over a toy adapter."""
+
+    def run_loader(self, words: list[Any], path: Path) -> tuple[int, str]:
+        given = told(path) if words[0] != sys.executable else b""
+        words = words if given else [*words, path]
+        status, output, said = ended(*words, input=given, text=False)
+        self.assertEqual(said, b"")
+        return status, output.decode()
+
+    def hold_loader(self, words: list[Any]) -> None:
+        """Holds a loader to elements that agree, and to one that doesn't."""
+        for kind in ("write-mode-0-odd-even", "write-mode-3-planar", "read-mode-1-chain-4"):
+            done = self.run_loader(words, self.files[kind])
+            self.assertEqual(done, (0, f"{COUNT} right, 0 wrong\n"), kind)
+        wrong = list(read_elements(str(self.files["write-mode-0-planar"])))
+        done_one = next(one for one in wrong if "refused" not in one)
+        done_one[FINAL]["planes"][0][2] ^= 1
+        lines = ",\n".join(json.dumps(one, separators=(",", ":")) for one in wrong)
+        path = self.folder / "wrong.json.gz"
+        path.write_bytes(gzip.compress(f"[\n{lines}\n]\n".encode()))
+        status, output = self.run_loader(words, path)
+        self.assertEqual((status, output.splitlines()[-1]), (1, f"{COUNT - 1} right, 1 wrong"))
+        self.assertIn(done_one["name"], output)
+
+    def test_python(self) -> None:
+        self.hold_loader([sys.executable, STEPS_EXAMPLES / "loader.py"])
+
+    def test_compiled_ones(self) -> None:
+        for name, (compiler, *flags) in COMPILED.items():
+            if shutil.which(compiler) is None:
+                continue
+            with self.subTest(name):
+                program = self.folder / name.replace(".", "-")
+                done = ended(compiler, *flags, "-o", program, STEPS_EXAMPLES / name)
+                self.assertEqual((done[0], done[2]), (0, ""))
+                self.hold_loader([program])
+
+    def check_toy(self, text: str, kind: str, name: str = "toy.py") -> tuple[int, str]:
+        """What `check` tells of a toy adapter that has this text."""
+        shutil.copy(STEPS_EXAMPLES / "toy.py", self.folder)
+        toy = self.write(name, text)
+        words = ("check", f"{sys.executable} -S {toy}", self.files[kind])
+        status, output, said = steps(*words)
+        self.assertEqual(said, "")
+        return status, output
+
+    def test_the_toy_adapter(self) -> None:
+        text = (STEPS_EXAMPLES / "toy.py").read_text("utf-8")
+        for kind in (
+            "write-words",
+            "read-words",
+            "sequencer",
+            "dac-writes",
+            "dac-reads",
+            "dac-mask",
+        ):
+            status, output = self.check_toy(text, kind)
+            self.assertEqual(
+                (status, output.splitlines()[-1]), (0, "50 elements: 50 agree, 0 differ")
+            )
+
+    def test_the_toy_beam(self) -> None:
+        text = (STEPS_EXAMPLES / "beam.py").read_text("utf-8")
+        # An advance by millions of dots takes it a minute.
+        for kind in ("dots-text", "dots-16-colours", "dots-256-colours", "input-status-1"):
+            status, output = self.check_toy(text, kind, "beam.py")
+            self.assertEqual((status, output.splitlines()[-1]), (0, AGREE))
+        wrong = text.replace("(pan & 7) + 1", "(pan & 7)")
+        status, output = self.check_toy(wrong, "dots-16-colours", "beam.py")
+        self.assertEqual(status, 1)
+        self.assertRegex(output, "panning: characters of nine dots \\(docs/RASTER.md#where-a-dot")
+
+    def test_the_toy_clock(self) -> None:
+        text = (STEPS_EXAMPLES / "beam.py").read_text("utf-8")
+        for kind in ("clock", "clock-changed"):
+            some = [one for one in read_elements(str(self.files[kind])) if one["advance"][0] < 9999]
+            self.assertGreater(len(some), 15)
+            path = self.write("some.json", "[\n" + ",\n".join(map(json.dumps, some)) + "\n]\n")
+            with mock.patch.dict(files, {kind: Path(path)}):
+                status, output = self.check_toy(text, kind, "beam.py")
+            self.assertEqual(status, 0, output)
+
+    def test_faults_of_the_toy_adapter(self) -> None:
+        text = (STEPS_EXAMPLES / "toy.py").read_text("utf-8")
+        for was, now, kind, rule in TOY_FAULTS:
+            with self.subTest(now):
+                self.assertEqual(text.count(was), 1)
+                status, output = self.check_toy(text.replace(was, now), kind)
+                self.assertEqual(status, 1)
+                first = re.search(r"(?m)^ +\d+ of \d+  (.*)$", output)
+                assert first is not None, output
+                self.assertTrue(first[1].startswith(rule), output)
+
+
+class Checking(Made):
+    def test_what_is_left_out_is_told_and_no_answer_is_none(self) -> None:
+        path = self.files["sequencer"]
+        adapter = self.program(
+            "adapter",
+            "import sys, json\n"
+            "for line in sys.stdin: print(json.dumps({'final': {'seq_index': 9}}), flush=True)\n",
+        )
+        status, output, _ = steps("check", adapter, path)
+        self.assertEqual(status, 1)
+        self.assertIn("seq is left out of 50 answers", output)
+        status, output, _ = steps("check", "cat", path)
+        self.assertEqual(status, 1)
+        self.assertIn("50 elements: 0 agree, 50 differ", output)
+
+    def test_what_is_skipped_agrees_with_nothing(self) -> None:
+        adapter = self.program(
+            "adapter",
+            "import sys\nfor line in sys.stdin: print('{\"skipped\": true}', flush=True)\n",
+        )
+        status, output, _ = steps("check", adapter, self.files["clock"])
+        self.assertEqual(status, 1)
+        self.assertIn("50 skipped", output)
+
+    def test_an_adapter_sees_no_answer(self) -> None:
+        notes = self.folder / "notes"
+        adapter = self.program(
+            "adapter",
+            "import sys\n"
+            f"notes = open({str(notes)!r}, 'w')\n"
+            "for line in sys.stdin: notes.write(line); print('{\"final\": {}}', flush=True)\n",
+        )
+        steps("check", adapter, self.files["read-words"])
+        for line in notes.read_text().splitlines():
+            self.assertEqual(set(json.loads(line)) & {"final", "answer", "refused"}, set())
+
+    def test_an_adapter_that_ends_or_says_no_json(self) -> None:
+        path = self.files["sequencer"]
+        slow = self.program("slow", "import time\ntime.sleep(100)\n")
+        for command, said in (
+            ("false", "false: it ended with status 1 at element 0$"),
+            ("sh -c 'echo oh >&2; exit 3'", "sh: it ended with status 3 at element 0\noh$"),
+            ("echo hello", "echo: its answer to element 0 is no JSON: .*: hello$"),
+            ("echo 5", "echo: its answer to element 0 is no element: 5$"),
+            ("yes x", "yes: its answer to element 0 is no JSON: "),
+            ("no-such-command", "no-such-command: No such file or directory$"),
+            ("'", "the command ''': No closing quotation"),
+            (" ", "the command is empty"),
+            (f"{slow}", "slow: it did not answer element 0 in 0.5 seconds$"),
+            ("tr -d '\\n' < /dev/zero", "tr: its answer|tr: it ended"),
+        ):
+            with self.subTest(command):
+                done = steps("check", command, path, "--timeout", "0.5")
+                self.assertEqual(done[:2], (2, ""))
+                self.assertRegex(done[2], said)
+
+    def test_no_process_is_left(self) -> None:
+        notes = self.folder / "number"
+        text = f"#!/bin/sh\necho $$ > {notes}\nsleep 600 &\nexec cat\n"
+        with asked_adapter(self.program("cat", text), 5) as adapter:
+            self.assertEqual(adapter.answer({**GOOD}, 0)["put"], GOOD["put"])
+        self.assert_ended(int(notes.read_text()))
+
+    def test_signals_end_the_adapter(self) -> None:
+        notes = self.folder / "number"
+        text = f"#!/bin/sh\nsleep 600 &\necho $$ $! > {notes}\nwait\n"
+        words = ("check", self.program("adapter", text), STEPS_EXAMPLES / "sequencer.json.gz")
+        for number, status in SIGNALS:
+            with self.subTest(number):
+                notes.unlink(missing_ok=True)
+                with begin("vga-steps", *words) as process:
+                    numbers = [int(word) for word in self.wait_for(notes, process).split()]
+                    process.send_signal(number)
+                    output, said = process.communicate(timeout=60)
+                self.assertEqual((process.returncode, output, said), (status, b"", b""))
+                self.assert_ended(*numbers)
+
+    def test_refusals_may_be_left_out(self) -> None:
+        path = self.files["other-ports"]
+        refused = sum("refused" in one for one in read_elements(str(path)))
+        adapter = f"{sys.executable} {TOOLS / 'tests' / 'steps_adapter.py'}"
+        status, output, _ = steps("check", adapter, path, "--no-refusals")
+        self.assertEqual(status, 0)
+        self.assertIn(f"{COUNT - refused} agree, {refused} skipped", output)
+
+    def test_reports_for_machines(self) -> None:
+        xml, counts = self.folder / "junit.xml", self.folder / "counts.json"
+        adapter = f"{sys.executable} {TOOLS / 'tests' / 'steps_adapter.py'} dac-index-stays"
+        words = (self.files["dac-writes"], self.files["sequencer"])
+        status, output, said = steps("check", adapter, *words, "--junit", xml, "--json", counts)
+        self.assertEqual((status, said), (1, ""))
+        suites = ElementTree.parse(xml).getroot()
+        failed = {
+            case.get("name") for case in suites.iter("testcase") if case.find("failure") is not None
+        }
+        self.assertIn("components of the DAC are written", failed)
+        self.assertEqual([suite.get("failures") for suite in suites][1], "0")
+        found = json.loads(counts.read_text())
+        self.assertGreater(found[0]["differ"], 0)
+        self.assertEqual(found[1]["differ"], 0)
+        self.assertIn("dac_index", found[0]["first"]["differences"][0])

@@ -1,0 +1,484 @@
+"""Single-step tests: how their files are made, what their scripts tell, and which rules they
+show."""
+
+from __future__ import annotations
+
+import gzip
+import json
+import os
+import re
+import shutil
+import sys
+import tempfile
+import unittest
+import zlib
+from pathlib import Path
+from typing import Any, Iterator, cast
+from unittest import mock
+
+from zaklimot_tools.steps.adapter import SteppedCard
+from zaklimot_tools.steps.chance import Chance
+from zaklimot_tools.steps.comparing import differences
+from zaklimot_tools.steps.kinds import KINDS
+from zaklimot_tools.steps.library import load
+from zaklimot_tools.steps.parts import BDA, BEAM, FINAL, INITIAL, ORDER, Element
+from zaklimot_tools.steps.readback import readback_lines
+from zaklimot_tools.steps.reading import STEPS, fault_of, read_elements
+from zaklimot_tools.steps.rules import RULES, branches_shown
+from zaklimot_tools.steps.scripts import confirming, reached, text_lines
+from zaklimot_tools.script.words import FONTS
+
+from .stepping import COUNT, GOOD, Made, SEED, STEPS_EXAMPLES, make_files, steps, told
+from .tools import (
+    PROGRAM,
+    TOP,
+    Folder,
+    hold,
+    hold_refused,
+    hold_undone,
+    run_program,
+    run_tool,
+    want_program,
+)
+
+setUpModule = make_files
+
+PAGE = TOP / "docs" / "STEPS.md"
+# The examples have another seed, and a release yet another.
+EXAMPLE_SEED, EXAMPLE_COUNT = 2, 20
+
+
+class Making(Made):
+    def test_each_kind_has_a_file_of_elements(self) -> None:
+        self.assertEqual(set(self.files), set(KINDS))
+        for name, path in self.files.items():
+            with self.subTest(name):
+                found = list(read_elements(str(path)))
+                self.assertEqual(len(found), COUNT)
+                # What is read line by line is a JSON array too.
+                self.assertEqual(found, json.loads(told(path)))
+                for number, element in enumerate(found):
+                    self.assertTrue(element["name"].endswith(f": {number}"))
+                    self.assertEqual([*element[INITIAL]], self.parts(name))
+                    self.assertEqual([*element[FINAL]][: len(self.parts(name))], self.parts(name))
+
+    @staticmethod
+    def parts(kind: str) -> list[str]:
+        return [part for part in ORDER if part in KINDS[kind].parts]
+
+    def test_the_same_words_make_the_same_bytes(self) -> None:
+        for kind in ("write-words", "dots-text", "clock", "service-0e"):
+            made = []
+            for folder, words in (
+                ("a", ()),
+                ("b", ("--jobs", 2)),
+                ("c", ("--plain",)),
+                ("d", ("--seed", 2)),
+            ):
+                given = ("--count", COUNT, "--seed", SEED, *words, "--only", kind)
+                status, output, said = steps("make", self.folder / folder, *given)
+                self.assertEqual((status, said), (0, ""))
+                made.append(Path(output.split()[0]))
+            self.assertEqual(made[0].read_bytes(), made[1].read_bytes())
+            self.assertEqual(made[0].read_bytes(), self.files[kind].read_bytes())
+            self.assertEqual((made[2].suffix, told(made[2])), (".json", told(made[0])))
+            self.assertNotEqual(told(made[3]), told(made[0]))
+
+    def test_a_file_has_no_time(self) -> None:
+        for path in self.files.values():
+            self.assertEqual(path.read_bytes()[:9], b"\x1f\x8b\x08\0\0\0\0\0\x02")
+
+    def test_the_examples_are_what_the_tool_makes(self) -> None:
+        made = self.folder / "made"
+        words = ("--count", EXAMPLE_COUNT, "--seed", EXAMPLE_SEED, "--jobs", 4)
+        self.assertEqual(steps("make", made, *words)[0], 0)
+        names = {path.name for path in STEPS_EXAMPLES.glob("*.json.gz")}
+        self.assertEqual(names, {path.name for path in made.iterdir()})
+        for name in sorted(names):
+            self.assertEqual(told(STEPS_EXAMPLES / name), told(made / name), name)
+
+    def test_what_cannot_be_made(self) -> None:
+        hold_undone(self, steps("make", "x", "--only", "y"), "no kind has a name as --only wants")
+        hold_undone(self, steps("make", self.write("file", "")), "it is not a folder")
+        hold_undone(self, steps("make", "x", "--count", "0"), "'0' is no number from 1 to ")
+        with_library = {"ZAKLIMOT_LIBRARY": self.write("library", "no library")}
+        with mock.patch.dict(os.environ, with_library):
+            hold_undone(self, steps("make", self.folder / "x"), "it is no library of the adapter")
+
+    def test_kinds_are_listed(self) -> None:
+        status, output, _ = steps("kinds", "--parts")
+        self.assertEqual((status, [line.split()[0] for line in output.splitlines()]), (0, [*KINDS]))
+        self.assertIn("(misc, seq, gfx, latches, planes)", output)
+
+
+class Scripts(Made):
+    """The script of each element tells what stands in it."""
+
+    def test_the_program_confirms_all(self) -> None:
+        want_program()
+        status, output, said = steps("confirm", *self.files.values(), "--vga", PROGRAM, "--jobs", 4)
+        self.assertEqual((status, said), (0, ""), output)
+        self.assertEqual(output.count(f"{COUNT} elements, 0 differ\n"), len(KINDS), output)
+
+    def test_it_sees_each_part_that_is_another(self) -> None:
+        want_program()
+        kinds = ("write-words", "dac-writes", "dots-text", "clock", "service-0e", "service-10")
+        for kind in (*kinds, "service-00-mode-sets"):
+            path = self.folder / f"{kind}.json"
+            changed = list(self.changed(next(self.elements(kind, 1))))
+            path.write_text("[\n" + ",\n".join(map(json.dumps, changed)) + "\n]\n")
+            status, output, said = steps("confirm", path, "--vga", PROGRAM)
+            self.assertEqual((status, said), (1, ""))
+            self.assertIn(f"{len(changed)} elements, {len(changed)} differ", output)
+
+    @staticmethod
+    def changed(element: Element) -> Iterator[Element]:
+        """The element with the last number of each part of its final state, and of its answer,
+        changed by a bit that it may have."""
+        for names in (*((FINAL, part) for part in element[FINAL]), ("answer",)):
+            for bit in (1, 2, 4, 8):
+                other = json.loads(json.dumps(element))
+                place, key = other, names[0]
+                while (
+                    isinstance(
+                        place.get(key) if isinstance(place, dict) else place[key], (list, dict)
+                    )
+                    and place[key]
+                ):
+                    place = place[key]
+                    keys = [*place] if isinstance(place, dict) else range(len(place))
+                    key = names[1] if place is other[FINAL] else keys[-1]
+                if not isinstance(place, dict) or key in place:
+                    place[key] = place[key] ^ bit if place[key] else bit
+                    if not fault_of(other):
+                        yield other
+                        break
+
+    def test_bytes_that_are_not_listed_are_0(self) -> None:
+        with SteppedCard(load(), Path(FONTS).read_bytes()) as card:
+            for kind in ("write-words", "read-mode-0-planar", "dots-text", "service-0c"):
+                element = next(read_elements(str(self.files[kind])))
+                card.power_on()
+                card.run(reached(element))
+                planes = [bytearray(1 << 16) for _ in range(4)]
+                for place in element[INITIAL]["planes"]:
+                    for plane, value in zip(planes, place[1:]):
+                        plane[place[0]] = value
+                sums = card.read(("sums",), {})["sums"]
+                self.assertEqual(sums[:4], [zlib.crc32(plane) for plane in planes], kind)
+
+    def test_a_script_ends_in_the_step(self) -> None:
+        for kind, ending in (
+            ("write-mode-0-planar", r"put [0-9A-F]{5,8} [0-9A-F]{2}( ; = E1 NotDecoded)?"),
+            ("read-words", r"getw [0-9A-F]{5,8} ; = ([0-9A-F]{4}|E1 NotDecoded)"),
+            ("service-0f", r"int ax=0F\S+ bx=\S+ cx=\S+ dx=\S+ ; = (ax=.*|E3 NoMode)"),
+            ("dots-text", r"advance \d+"),
+        ):
+            status, output, said = steps("script", self.files[kind], 3)
+            self.assertEqual((status, said), (0, ""))
+            lines = output.splitlines()
+            self.assertTrue(lines[0].startswith("; "))
+            self.assertRegex(lines[-1], f"^{ending}$")
+
+    def test_cycles_read_the_state(self) -> None:
+        """What can be read by ports and addresses is as expected, step by step."""
+        want_program()
+        for kind in ("write-mode-3-chain-4", "read-words", "attribute-controller", "dac-writes"):
+            for kind_of in (kind, "crt-controller", "graphics-controller", "service-0e"):
+                path = self.folder / f"{kind_of}.vga"
+                words = ("script", self.files[kind_of], 5, path, "--then", "reads")
+                self.assertEqual(steps(*words), (0, "", ""))
+                done = run_tool("vga-report", "run", path, "--vga", PROGRAM, "--quiet")
+                self.assertEqual(done[0], 0, (kind_of, done))
+                self.assertGreater(path.read_text().count("; = "), 3)
+
+    def test_dumps_follow(self) -> None:
+        status, output, _ = steps("script", self.files["clock"], 0, "--then", "dumps")
+        self.assertEqual((status, output.splitlines()[-2:]), (0, ["show regs", "show beam"]))
+
+    def test_an_element_that_is_not_there(self) -> None:
+        done = steps("script", self.files["clock"], COUNT)
+        hold_undone(self, done, f"it has {COUNT} elements, and no element {COUNT}$")
+
+
+class Machines(Made):
+    """Elements for adapters that show their state by ports and addresses alone."""
+
+    KINDS = ("write-mode-1-odd-even", "read-words", "attribute-controller", "dac-writes", "clock")
+
+    def reports(self, *words: Any) -> list[Path]:
+        """The reports of the scripts of some elements, by the program."""
+        want_program()
+        given = [self.files[kind] for kind in self.KINDS]
+        status, output, said = steps("scripts", self.folder / "asked", *given, *words)
+        self.assertEqual((status, said), (0, ""), said)
+        made = []
+        for line in (self.folder / "asked" / "list.txt").read_text().splitlines():
+            path = self.folder / "asked" / line.removesuffix(" -")
+            report = (self.folder / "told" / line).with_suffix(".report")
+            report.parent.mkdir(parents=True, exist_ok=True)
+            report.write_bytes(run_program("go", path, "--fonts", FONTS).report)
+            made.append(report)
+        self.assertEqual(output, f"{len(made)} scripts\n")
+        return made
+
+    def judged(self, *words: Any) -> tuple[int, str, str]:
+        given = [self.files[kind] for kind in self.KINDS]
+        return steps("reports", self.folder / "told", *given, *words)
+
+    def test_the_program_agrees(self) -> None:
+        before = self.write("before.vga", "out 3C2 FF\nin 3CC\n")
+        for words in ((), ("--before", before)):
+            with self.subTest(words):
+                shutil.rmtree(self.folder / "asked", ignore_errors=True)
+                made = self.reports("--first", 12, *words)
+                status, output, said = self.judged("--first", 12)
+                self.assertEqual((status, said), (0, ""), output)
+                # Of the beam and of refusals a machine tells nothing.
+                self.assertFalse([path for path in made if path.parent.name == "clock"])
+                self.assertIn("clock.json.gz: no element\n", output)
+                self.assertIn(f"{len(made)} elements: {len(made)} agree, 0 differ\n", output)
+                self.assertIn("dac_component is left out of ", output)
+
+    def test_another_answer_differs(self) -> None:
+        made = [path for path in self.reports("--first", 12) if path.parent.name == "read-words"]
+        lines = made[0].read_text().splitlines()
+        lines[-1] = lines[-1].split()[0] + (" 00" if lines[-1].split()[1] != "00" else " 01")
+        made[0].write_text("".join(f"{line}\n" for line in lines))
+        made[1].write_text(
+            made[1].read_text().replace(" ok", " skipped").replace(" 00", " skipped")
+        )
+        status, output, _ = self.judged("--first", 12)
+        self.assertEqual(status, 1)
+        self.assertRegex(output, r"read-words.json.gz: \d+ agree, 1 differ, 1 skipped\n")
+        self.assertRegex(output, r"\n    planes \d+: ")
+
+    def test_a_report_that_is_too_short(self) -> None:
+        made = self.reports("--first", 2)
+        made[0].write_text("1 ok\n")
+        told = "it has 1 answers, and its script has [0-9]+ steps$"
+        hold_undone(self, self.judged("--first", 2), told)
+        made[0].unlink()
+        hold_undone(self, self.judged("--first", 2), "report: No such file or directory$")
+
+
+class Rules(Made):
+    def test_each_stands_under_a_heading_of_its_page(self) -> None:
+        for rule in RULES:
+            name, _, anchor = rule.place.partition("#")
+            headings = re.findall(r"^##+ (.*)$", (TOP / name).read_text("utf-8"), re.M)
+            anchors = [
+                re.sub(r"[^a-z0-9 -]", "", one.lower()).replace(" ", "-") for one in headings
+            ]
+            self.assertIn(anchor, anchors, rule.name)
+
+    def test_no_two_have_one_name(self) -> None:
+        names = [rule.name for rule in RULES]
+        self.assertEqual(len(names), len(set(names)))
+
+    def test_elements_show_each_rule(self) -> None:
+        shown = {
+            rule.name
+            for path in self.files.values()
+            for element in read_elements(str(path))
+            for rule, _ in branches_shown(element)
+        }
+        self.assertEqual({rule.name for rule in RULES} - shown, set())
+
+    def test_coverage_counts(self) -> None:
+        path = self.files["write-mode-1-planar"]
+        status, output, _ = steps("coverage", path)
+        self.assertEqual(status, 1)
+        self.assertIn("\nwrite mode 1 stores the latches (docs/HOST-PATH.md#a-write-bit", output)
+        self.assertRegex(output, r"(?m)^ !       0  text  *$|^ !       0  mode 03$")
+        found = json.loads(steps("coverage", path, "--json", "--least", "0")[1])
+        shown = found["files"][0]["branches"]["write mode 1 stores the latches"]
+        wanted = sum(
+            not one.get("refused")
+            and one["initial"]["seq"][2] > 0
+            and one["initial"]["gfx"][8] < 255
+            for one in read_elements(str(path))
+        )
+        self.assertEqual(shown["whatever the bit mask is"], wanted)
+        both = steps("coverage", path, self.files["clock"], "--jobs", 2, "--least", "0")
+        self.assertEqual(both[0], 0)
+        self.assertRegex(both[1], rf"{len(RULES)} rules with \d+ branches, 0 of them below 0 of")
+
+
+def change(chance: Chance, value: Any) -> None:
+    """Changes a value in what JSON gives: a number, or a member that goes or gets another."""
+    while isinstance(value, (list, dict)) and value:
+        keys: list[Any] = list(value) if isinstance(value, dict) else list(range(len(value)))
+        key = chance.among(keys)
+        inner = value[key]
+        if not isinstance(inner, (list, dict)) or not inner or chance.one_in(10):
+            kind = chance.below(8)
+            if kind == 0:
+                del value[key]
+            elif kind == 1:
+                value[key] = chance.among((None, [], {}, "x", -1, 1 << 40, 2.5, [[1]]))
+            else:
+                value[key] = chance.bits(chance.among((1, 3, 8, 16)))
+            return
+        value = inner
+
+
+class Files(Folder):
+    def read(self, text: str | bytes) -> list[Element]:
+        return list(read_elements(self.write("file", text)))
+
+    def test_what_is_no_file_of_elements(self) -> None:
+        good = json.dumps(GOOD)
+        packed = gzip.compress(f"[\n{good}\n]\n".encode())
+        hold_refused(
+            self,
+            self.read,
+            (
+                ("", "file: it ends before its array does$"),
+                ("x", "file:1: it is no file of elements: its first line is not \\[$"),
+                ("[\n", "file:1: it ends before its array does$"),
+                (f"[\n{good}", "file:2: it ends before its array does$"),
+                ("[\n{\n]", "file:2: it is no JSON: "),
+                ("[\n" + "[" * 100_000 + "\n]", "file:2: it is no JSON: "),
+                ("[\n5\n]", "file:2: it is no object$"),
+                (f"[\n{good}\n]\n{good}", "file:4: something stands after the array$"),
+                (packed[:-20], "file: it is damaged: "),
+                (packed[:30] + b"x" * 30, "file: it is damaged: "),
+                ("[\n" + " " * (1 << 22) + "\n]", "file:2: the line has 4,194,304 bytes or more$"),
+            ),
+        )
+        self.assertEqual(self.read(packed), [GOOD])
+        self.assertEqual(self.read("[\n]\n"), [])
+        self.assertEqual(self.read(f"[\n{good},\n{good}\n]\n"), [GOOD, GOOD])
+
+    def test_what_is_no_element(self) -> None:
+        def changed(**members: Any) -> Element:
+            return {**GOOD, **members}
+
+        state: dict[str, Any] = GOOD["initial"]
+        hold(
+            self,
+            lambda element: fault_of(element).partition(":")[0],
+            (
+                (GOOD, ""),
+                (changed(get=[1]), "one member is its step, " + ", ".join(STEPS)),
+                ({**GOOD, "name": 5}, "it has no name"),
+                (
+                    {name: GOOD[name] for name in ("name", "put", "final")},
+                    "it has no initial state",
+                ),
+                (changed(put=[1]), "its step put has not the numbers that it takes"),
+                (changed(put=[1 << 32, 0]), "its step put has not the numbers that it takes"),
+                (changed(put=[True, 0]), "its step put has not the numbers that it takes"),
+                (changed(refused="Nothing"), "there is no refusal Nothing"),
+                (changed(answer=5), "its answer is none of the step put"),
+                (changed(reach=[]), "its reach is no object"),
+                (changed(reach={"dots": -1}), "its reach has no such member, or one out of range"),
+                (
+                    changed(reach={"gfx": [0] * 9}),
+                    "its reach has no such member, or one out of range",
+                ),
+                *(
+                    (
+                        changed(initial={**state, **part}),
+                        "its initial state has no such part, or one out of range",
+                    )
+                    for part in cast(
+                        "list[Element]",
+                        [
+                            {"misc": 256},
+                            {"seq": [0] * 4},
+                            {"gfx": [0, 0, 0, 0, 0, 0, 16, 0, 0]},
+                            {"planes": [[1, 2, 3, 4]]},
+                            {"planes": [[2, 0, 0, 0, 0], [1, 0, 0, 0, 0]]},
+                            {"colours": [[256, 0, 0, 0]]},
+                            {"beam": {"line": 0}},
+                            {"bda": {**dict.fromkeys(BDA, 0)}},
+                            {"sums": [0] * 4},
+                            {"other": 1},
+                        ],
+                    )
+                ),
+            ),
+        )
+        beam = dict.fromkeys(BEAM, 0)
+        self.assertEqual(fault_of(changed(initial={"beam": beam})), "")
+
+    def test_each_command_tells_the_line(self) -> None:
+        path = self.write("bad.json", "[\n5\n]\n")
+        for words in (
+            ("coverage", path),
+            ("script", path, "0"),
+            ("confirm", path, "--vga", sys.executable),
+            ("check", "cat", path),
+            ("coverage", path, path, "--jobs", "2"),
+        ):
+            with self.subTest(words):
+                hold_undone(self, steps(*words), "^vga-steps: .*bad.json:2: it is no object$")
+
+    def test_no_element_ends_the_tools(self) -> None:
+        """Elements that are changed at random are refused, or are counted and written as any."""
+        chance, good = Chance("change"), 0
+        for path in sorted(STEPS_EXAMPLES.glob("*.json.gz")):
+            for element in read_elements(str(path)):
+                other = json.loads(json.dumps(element))
+                for _ in range(1 + chance.below(3)):
+                    change(chance, other)
+                if fault_of(other):
+                    continue
+                good += 1
+                list(branches_shown(other))
+                list(text_lines(other))
+                list(readback_lines(other))
+                self.assertTrue(confirming(other).script.items)
+        self.assertGreater(good, 200)
+
+    def test_differences_are_told_by_field(self) -> None:
+        other = json.loads(json.dumps(GOOD))
+        other["final"]["planes"][0][1] = 9
+        other["answer"] = 5
+        found = list(differences(GOOD, other))
+        self.assertEqual(found, ["answer: 5, not none", "planes 5: [9, 7, 7, 7], not [7, 7, 7, 7]"])
+
+    def test_choices_depend_on_the_seed_alone(self) -> None:
+        chance = Chance("1 a")
+        found = [chance.below(10), chance.bits(16), chance.byte(), chance.between(3, 5)]
+        self.assertEqual(found, [Chance("1 a").below(10), *found[1:]])
+        self.assertEqual({Chance(str(number)).below(3) for number in range(50)}, {0, 1, 2})
+
+
+class Page(unittest.TestCase):
+    def test_its_example_is_an_element(self) -> None:
+        text = PAGE.read_text("utf-8")
+        found = re.search(r"(?ms)^    (\{\"name\".*?\n)\n", text)
+        assert found is not None
+        path = STEPS_EXAMPLES / "write-mode-3-planar.json.gz"
+        self.assertEqual(json.loads(found[1]), list(read_elements(str(path)))[3])
+
+    def test_it_has_the_loader_and_counts_the_rules(self) -> None:
+        text = PAGE.read_text("utf-8")
+        found = re.search(r"(?ms)^```python\n(.*?)^```", text)
+        assert found is not None
+        self.assertIn(found[1], (STEPS_EXAMPLES / "loader.py").read_text("utf-8"))
+        counts = [len(RULES), sum(len(rule.branches) for rule in RULES)]
+        told = re.search(r"the (\d+) rules and (\d+)\nbranches", text)
+        assert told is not None
+        self.assertEqual([int(told[1]), int(told[2])], counts)
+
+    def test_what_it_shows_of_check_is_what_is_told(self) -> None:
+        text = PAGE.read_text("utf-8")
+        form = r"    \$ sed 's/(.*)/(.*)/' (\S+) > wrong\.py\n    \$ .* 'python3 wrong\.py' (\S+)\n"
+        found = re.search(rf"(?m)^{form}((?:    .*\n)+)", text)
+        assert found is not None
+        was, now, toy, file, shown = found.groups()
+        with tempfile.TemporaryDirectory() as folder:
+            wrong = Path(folder) / "wrong.py"
+            wrong.write_text(re.sub(was, now, (TOP / toy).read_text("utf-8")))
+            status, output, _ = steps("check", f"{sys.executable} {wrong}", TOP / file)
+        told_there = "".join(line[4:] for line in shown.splitlines(keepends=True))
+        self.assertEqual((status, output.replace(f"{TOP}/", "")), (1, told_there))
+
+    def test_it_tells_each_kind_part_and_step(self) -> None:
+        text = PAGE.read_text("utf-8")
+        for name in (*KINDS, *ORDER, *STEPS, *BEAM, *BDA):
+            self.assertIn(f"`{name}`", text, name)

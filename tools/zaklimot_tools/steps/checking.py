@@ -1,0 +1,204 @@
+"""The command `check`: an adapter is held to elements, and what differs is told by the rules that
+the elements show."""
+
+import argparse
+import json
+from typing import Iterator, NamedTuple, Optional
+from xml.etree import ElementTree
+
+from zaklimot_tools.core.files import name_of
+from zaklimot_tools.core.progress import Progress
+from zaklimot_tools.core.streams import counted, teller, write_file
+from zaklimot_tools.core.trouble import AGREED, DIFFERED
+
+from .asking import SKIPPED, AskedAdapter, asked_adapter
+from .comparing import differences, members_in
+from .parts import FINAL, NAME, REFUSED, Element
+from .reading import read_elements
+from .rules import RULES, branches_shown
+
+# So many differences of the first element that differs are told, and so many rules.
+MOST_TOLD, MOST_RULES = 8, 3
+# So many elements that agree are counted with those of each branch: what one or two elements show
+# says little.
+FEW = 4
+NO_STATE = "final: the answer has none of its parts"
+BY_NAME = {rule.name: rule for rule in RULES}
+NUMBERS = {rule.name: number for number, rule in enumerate(RULES)}
+
+
+class Branches(NamedTuple):
+    """How many elements that show a rule, or a branch of it, agree, and how many differ in what the
+    rule governs."""
+
+    rule: str
+    branch: str
+    agree: int
+    differ: int
+
+    @property
+    def weight(self) -> float:
+        """How much speaks for this rule: the share of those that differ, less where they are
+        few."""
+        return self.differ / (self.agree + self.differ + FEW)
+
+    def told(self) -> str:
+        """The counts, the rule, and where it stands."""
+        many = f"{self.differ} of {self.agree + self.differ}"
+        name = f"{self.rule}: {self.branch}" if self.branch else self.rule
+        return f"{many:>14}  {name} ({BY_NAME[self.rule].place})"
+
+
+class HeldFile:
+    """What came of the elements of a file."""
+
+    def __init__(self, name: str) -> None:
+        self.name = name
+        self.agree = self.differ = self.skipped = 0
+        self.first: Optional[tuple[int, str, list[str]]] = None
+        self.left_out: dict[str, int] = {}
+        self.counts: dict[tuple[str, str], list[int]] = {}
+
+    def judge(self, element: Element, given: Element, number: int) -> None:
+        """Counts an element by what an adapter answered."""
+        if given.get(SKIPPED):
+            self.skipped += 1
+            return
+        found = list(differences(element, given))
+        if not element[FINAL].keys() & given.get(FINAL, {}).keys():
+            found.append(NO_STATE)
+        self.agree += not found
+        self.differ += bool(found)
+        if found and self.first is None:
+            self.first = (number, element[NAME], found)
+        for part in element[FINAL]:
+            if part not in given.get(FINAL, {}):
+                self.left_out[part] = self.left_out.get(part, 0) + 1
+        self._count(element, members_in(found))
+
+    def _count(self, element: Element, members: set[str]) -> None:
+        """Counts an element that differs in these members for the rules that it shows."""
+        branches = [(rule.name, branch) for rule, branch in branches_shown(element)]
+        shown = {*branches, *((name, "") for name, _ in branches)}
+        for key in sorted(shown, key=lambda key: NUMBERS[key[0]]):
+            governs = BY_NAME[key[0]].governs
+            is_wrong = bool(members & {*governs} if governs else members)
+            self.counts.setdefault(key, [0, 0])[is_wrong] += 1
+
+    def skip(self) -> None:
+        """Counts an element that isn't asked for."""
+        self.skipped += 1
+
+    def branches(self) -> list[Branches]:
+        """The branches that its elements show, those first that differ most."""
+        return ranked([self])
+
+    def lines(self) -> Iterator[str]:
+        """What is told of the file."""
+        counts = {"agree": self.agree, "differ": self.differ, "skipped": self.skipped}
+        told = ", ".join(f"{count} {name}" for name, count in counts.items() if count)
+        yield f"{self.name}: {told or 'no element'}"
+        for part, count in self.left_out.items():
+            yield f"  {part} is left out of {counted(count, 'answer')}"
+        if self.first is not None:
+            number, name, found = self.first
+            yield f"  the first that differs is element {number}, {name}"
+            yield from (f"    {one}" for one in found[:MOST_TOLD])
+            yield from (f"  {one.told()}" for one in worst([self]))
+
+    def told(self) -> dict[str, object]:
+        """The same for machines."""
+        first = dict(zip(("element", "name", "differences"), self.first or ()))
+        return {
+            "file": self.name,
+            "agree": self.agree,
+            "differ": self.differ,
+            "skipped": self.skipped,
+            "left_out": self.left_out,
+            "first": first or None,
+            "rules": [one._asdict() for one in self.branches()],
+        }
+
+
+def ranked(held: list[HeldFile]) -> list[Branches]:
+    """The branches that the elements of files show, those first for which most speaks."""
+    counts: dict[tuple[str, str], list[int]] = {}
+    for key, pair in ((key, pair) for file in held for key, pair in file.counts.items()):
+        total = counts.setdefault(key, [0, 0])
+        total[0] += pair[0]
+        total[1] += pair[1]
+    found = [Branches(*key, *pair) for key, pair in counts.items()]
+    return sorted(found, key=lambda one: (-one.weight, -one.differ))
+
+
+def worst(held: list[HeldFile]) -> list[Branches]:
+    """The rules for which most speaks, each by its branch or as a whole."""
+    rules: dict[str, Branches] = {}
+    for one in ranked(held):
+        if one.differ:
+            rules.setdefault(one.rule, one)
+    return list(rules.values())[:MOST_RULES]
+
+
+def check(words: argparse.Namespace, progress: Progress) -> int:
+    """Holds a command to the elements of files."""
+    tell = teller(words.json, words.junit)
+    held = []
+    for path in words.file:
+        with asked_adapter(words.command, words.timeout) as adapter:
+            held.append(_held(path, adapter, words.refusals, progress))
+        progress.clear()
+        tell("".join(f"{line}\n" for line in held[-1].lines()))
+    if words.json is not None:
+        write_file(words.json, (json.dumps([one.told() for one in held]) + "\n").encode("ascii"))
+    if words.junit is not None:
+        write_file(words.junit, _junit_text(held).encode("utf-8", "xmlcharrefreplace"))
+    differ, agree = sum(one.differ for one in held), sum(one.agree for one in held)
+    total = agree + differ + sum(one.skipped for one in held)
+    if sum(bool(one.differ) for one in held) > 1:
+        tell("of all files\n" + "".join(f"  {one.told()}\n" for one in worst(held)))
+    tell(f"{counted(total, 'element')}: {agree} agree, {differ} differ\n")
+    return DIFFERED if differ or not agree else AGREED
+
+
+def _held(path: str, adapter: AskedAdapter, has_refusals: bool, progress: Progress) -> HeldFile:
+    """What an adapter makes of the elements of a file."""
+    held = HeldFile(name_of(path))
+    for number, element in enumerate(read_elements(path)):
+        if REFUSED in element and not has_refusals:
+            held.skip()
+        else:
+            held.judge(element, adapter.answer(element, number), number)
+        if progress.is_due():
+            progress.tell(f"{held.name}: {counted(number + 1, 'element')}, {held.differ} differ")
+    return held
+
+
+def _junit_text(held: list[HeldFile]) -> str:
+    """A test case for each rule of each file."""
+    suites = ElementTree.Element("testsuites")
+    for file in held:
+        _add_suite(suites, file)
+    ElementTree.indent(suites)
+    text = ElementTree.tostring(suites, "unicode")
+    return '<?xml version="1.0" encoding="UTF-8"?>\n' + text + "\n"
+
+
+def _add_suite(suites: ElementTree.Element, file: HeldFile) -> None:
+    branches = file.branches()
+    names = list(dict.fromkeys(one.rule for one in branches))
+    failing = {one.rule for one in branches if one.differ}
+    counts = {"tests": str(len(names)), "failures": str(len(failing)), "errors": "0"}
+    suite = ElementTree.SubElement(suites, "testsuite", {"name": file.name, **counts})
+    for name in names:
+        _add_case(suite, file, name, [one for one in branches if one.rule == name and one.differ])
+
+
+def _add_case(suite: ElementTree.Element, file: HeldFile, name: str, wrong: list[Branches]) -> None:
+    case = ElementTree.SubElement(suite, "testcase", classname=file.name, name=name)
+    if wrong and file.first is not None:
+        number, element, found = file.first
+        failure = ElementTree.SubElement(case, "failure", message=wrong[0].told().strip())
+        lines = [one.told() for one in wrong]
+        told = [f"the first of the file that differs: element {number}, {element}", *found]
+        failure.text = "\n".join([*lines, *told[: MOST_TOLD + 1]])

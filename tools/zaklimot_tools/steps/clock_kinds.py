@@ -1,0 +1,118 @@
+"""Elements of the clock: where the beam is after so many dots, with the registers of its frame, or
+with others since the middle of one."""
+
+from zaklimot.format import Step
+
+from .adapter import SteppedCard
+from .chance import Chance
+from .parts import Parts
+from .port_kinds import frame_dots, small_frame
+from .reaching import MOST_DOTS, steps_to
+from .wishes import ElementKind, Wish
+
+PARTS = ("seq", "crtc", "beam")
+EIGHT_DOTS, HALVED = 0x01, 0x08
+DOUBLE_SCAN = 0x80
+# Most frames that the clock runs on the way to a state, and in a step.
+FRAMES, MOST_FRAMES, MOST_STEPS = 32, 33, 3
+HORIZONTAL_TOTAL, VERTICAL_TOTAL, MAXIMUM_SCAN_LINE, LINE_COMPARE = 0x00, 0x06, 0x09, 0x18
+START_HIGH, START_LOW, PRESET, OFFSET = 0x0C, 0x0D, 0x08, 0x13
+
+
+def sequencer(chance: Chance) -> list[int]:
+    """Registers of the sequencer: characters of eight dots or nine, and bits without effect on
+    the beam."""
+    clocking = chance.bits(1) | (HALVED if chance.one_in(8) else 0)
+    return [3, clocking, chance.bits(4), 0, 0x02]
+
+
+def width_of(seq: list[int]) -> int:
+    """How many dots a character has."""
+    return 8 if seq[1] & EIGHT_DOTS else 9
+
+
+def _dots_before(chance: Chance, crtc: list[int], width: int) -> int:
+    """For how many dots the clock runs before: a few lines, or frames and a part of one."""
+    whole = frame_dots(crtc, width)
+    line = (crtc[0] + 5) * width
+    kind = chance.below(8)
+    if kind == 0:
+        return chance.below(2 * width)
+    if kind == 1:
+        frames = chance.among((FRAMES - 1, chance.below(MOST_FRAMES)))
+        return frames * whole + chance.among((0, whole - 1, chance.below(whole)))
+    if kind == 2:
+        return chance.below(4 * whole // line) * line + chance.below(2)
+    return chance.below(MOST_FRAMES if kind == 3 else 2) * whole + chance.below(whole)
+
+
+def _count(chance: Chance, card: SteppedCard, width: int) -> int:
+    """For how many dots the clock runs in the step, from where the card is: to the ends of a
+    character, a line and a frame, a dot less or more, or anywhere."""
+    timing = card.clock()
+    line, frame, left = int(timing.line_dots), int(timing.frame_dots), int(timing.to_frame)
+    beam = card.read(("beam",), {})["beam"]
+    ends = (width - int(beam["dot"]), left % line, left)
+    kind = chance.below(12)
+    if kind < 6:
+        return max(0, chance.among(ends) + chance.below(3) - 1)
+    if kind == 6:
+        return chance.among((0, 1, 2, line, frame))
+    if kind == 7 and chance.one_in(8):
+        return chance.among((MOST_DOTS, MOST_DOTS + 1, 0xFFFFFFFF, MOST_DOTS + 1 + chance.bits(31)))
+    if kind < 9:
+        return line * chance.below(40) + chance.below(3)
+    return chance.below(MOST_STEPS * frame)
+
+
+def _advance(chance: Chance, card: SteppedCard, state: Parts, reach: Parts, what: str) -> Wish:
+    """The wish for a step of the clock, once the card has been brought to the state."""
+    card.power_on()
+    card.run(steps_to(state, reach))
+    count = _count(chance, card, width_of(state["seq"]))
+    return Wish(what, state, Step("advance", (count,)), reach)
+
+
+def _clock(chance: Chance, card: SteppedCard) -> Wish:
+    state: Parts = {"seq": sequencer(chance), "crtc": small_frame(chance), "beam": {}}
+    reach = {"dots": _dots_before(chance, state["crtc"], width_of(state["seq"]))}
+    lines = state["crtc"][VERTICAL_TOTAL] + 2
+    return _advance(chance, card, state, reach, f"clock, {lines} lines")
+
+
+def _changed(chance: Chance, card: SteppedCard) -> Wish:
+    """The frame's registers are others since the beam is where it is."""
+    state: Parts = {"seq": sequencer(chance), "crtc": small_frame(chance), "beam": {}}
+    before, crtc, seq = state["crtc"], list(state["crtc"]), list(state["seq"])
+    what = chance.among(("lines", "characters", "width", "rows", "compare", "start", "offset"))
+    if what == "lines":
+        crtc[VERTICAL_TOTAL] = chance.below(before[VERTICAL_TOTAL] + 1)
+    elif what == "characters":
+        crtc[HORIZONTAL_TOTAL] = chance.below(before[HORIZONTAL_TOTAL] + 1)
+    elif what == "width":
+        seq[1] ^= EIGHT_DOTS
+    elif what == "rows":
+        crtc[MAXIMUM_SCAN_LINE] = chance.below(16) | DOUBLE_SCAN * chance.bits(1)
+    elif what == "compare":
+        crtc[LINE_COMPARE] = chance.below(before[VERTICAL_TOTAL] + 2)
+    elif what == "start":
+        crtc[START_HIGH], crtc[START_LOW] = chance.byte(), chance.byte()
+        crtc[PRESET] = chance.bits(7)
+    else:
+        crtc[OFFSET] = chance.byte()
+    dots = _dots_before(chance, before, width_of(state["seq"]))
+    if what == "width" and chance.one_in(2):
+        # To the last dot of a character: the ninth is past the end of one of eight.
+        width = width_of(state["seq"])
+        dots = dots // width * width + width - 1
+    reach = {"dots": dots, "crtc": before, "seq": state["seq"]}
+    changed = {**state, "crtc": crtc, "seq": seq}
+    return _advance(chance, card, changed, reach, f"clock, other {what} since")
+
+
+def clock_kinds() -> list[ElementKind]:
+    """All kinds of the clock."""
+    return [
+        ElementKind("clock", "the beam after some dots", PARTS, _clock),
+        ElementKind("clock-changed", "the same, with other registers since", PARTS, _changed),
+    ]

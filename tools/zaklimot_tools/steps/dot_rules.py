@@ -1,0 +1,417 @@
+"""The rules of RASTER.md that elements of dots, of the clock and of input status 1 show."""
+
+from functools import partial
+from typing import Any, Callable, NamedTuple, Optional
+
+from .clock_kinds import width_of
+from .dot_kinds import BLINK, DOUBLE_WORD, LINE_GRAPHICS, MONOCHROME, PAN_RESET, SELECT
+from .dot_kinds import BYTE_MODE, WRAP_15, counters_of, fetch_address
+from .parts import LINE
+from .reaching import MOST_DOTS
+from .seen import SeenElement, ShownRule
+
+PAGE, REGISTERS = "docs/RASTER.md#", "docs/REGISTERS.md#"
+TEXT, PLANES_16, PACKED_256 = "text", "16 colours", "256 colours"
+LINES, CLOCK = (LINE,), ("advance",)
+SCREEN_OFF, SHOWN = 0x20, 0x20
+CURSOR_OFF, HALF_OF_CURSOR, HALF_OF_BLINK = 0x20, 8, 16
+DOUBLE_SCAN = 0x80
+
+
+class Cell(NamedTuple):
+    """A character of a line of text, by its counter."""
+
+    counter: int
+    character: int
+    attribute: int
+
+
+def _shown(e: SeenElement) -> bool:
+    """Whether the line has dots that come from memory."""
+    answer: Any = e.answer
+    return bool(answer["entries"]) and not e.seq[1] & SCREEN_OFF and bool(e.attr_index & SHOWN)
+
+
+def _kind(e: SeenElement) -> str:
+    if not e.gfx[6] & 1:
+        return TEXT
+    return PACKED_256 if e.gfx[5] & 0x40 else PLANES_16
+
+
+def _is(e: SeenElement, kind: str) -> bool:
+    return _shown(e) and _kind(e) == kind
+
+
+def _cells(e: SeenElement) -> list[Cell]:
+    """The characters of the line, if it is text."""
+    if not _is(e, TEXT):
+        return []
+    planes = {place[0]: place for place in e.planes}
+    found = []
+    for counter in counters_of(e.initial, e.beam)[:-1]:
+        place = planes.get(fetch_address(counter, e.crtc), (0, 0, 0, 0, 0))
+        found.append(Cell(counter, place[1], place[2]))
+    return found
+
+
+def _scan(e: SeenElement) -> int:
+    """The scan line of the row: that of a frame's first line is the preset one."""
+    is_first = not (e.beam["line"] or e.beam["character"] or e.beam["dot"])
+    return int(e.crtc[8] & 31 if is_first else e.beam["scan"])
+
+
+def _map(cell: Cell, e: SeenElement) -> int:
+    """The number of the character map that a cell takes."""
+    select: int = e.seq[3]
+    if cell.attribute & 8:
+        return select >> 5 << 2 | select >> 2 & 3
+    return (select >> 4 & 1) << 2 | select & 3
+
+
+def _has_cell(e: SeenElement, **wanted: bool) -> bool:
+    """Whether a cell of the line has these attributes: map A, high maps, a line of graphics, an
+    underline, one that blinks away, and the cursor."""
+    return any(
+        all(CELLS[name](cell, e) == value for name, value in wanted.items()) for cell in _cells(e)
+    )
+
+
+def _is_blinked_away(cell: Cell, e: SeenElement) -> bool:
+    is_away = e.beam["frame"] >= HALF_OF_BLINK
+    return bool(e.attr[0x10] & BLINK and cell.attribute & 0x80 and is_away)
+
+
+def _is_cursor(cell: Cell, e: SeenElement) -> bool:
+    is_at = cell.counter == e.crtc[0x0E] << 8 | e.crtc[0x0F]
+    return bool(is_at and e.crtc[0x0A] & 31 <= _scan(e) <= e.crtc[0x0B] & 31)
+
+
+CELLS: dict[str, Callable[[Cell, SeenElement], bool]] = {
+    "map_a": lambda cell, e: bool(cell.attribute & 8),
+    "high_map": lambda cell, e: _map(cell, e) > 3,
+    "is_line": lambda cell, e: 0xC0 <= cell.character <= 0xDF,
+    "underlined": lambda cell, e: cell.attribute & 0x77 == 1
+    and bool(e.attr[0x10] & MONOCHROME)
+    and _scan(e) == e.crtc[0x14] & 31,
+    "blinks": lambda cell, e: bool(cell.attribute & 0x80),
+    "away": _is_blinked_away,
+    "cursor": lambda cell, e: _is_cursor(cell, e) and not e.crtc[0x0A] & CURSOR_OFF,
+    "hidden_cursor": lambda cell, e: _is_cursor(cell, e) and bool(e.crtc[0x0A] & CURSOR_OFF),
+}
+
+
+def _pans(e: SeenElement) -> Optional[str]:
+    """The row of the table of panning that a line takes."""
+    if not _shown(e):
+        return None
+    if e.beam["split"] and e.attr[0x10] & PAN_RESET:
+        return "below the line compare"
+    if _kind(e) == PACKED_256:
+        return PACKED_256
+    if width_of(e.seq) == 8:
+        return "eight dots"
+    return "nine dots, 8" if e.attr[0x13] == 8 else "nine dots"
+
+
+def _panned(e: SeenElement, row: str) -> bool:
+    return _pans(e) == row
+
+
+def _fetches(e: SeenElement, kind: str) -> bool:
+    if not _shown(e):
+        return False
+    if e.crtc[0x14] & DOUBLE_WORD:
+        return kind == "double word"
+    if e.crtc[0x17] & BYTE_MODE:
+        return kind == "byte"
+    return kind == ("word, bit 15" if e.crtc[0x17] & WRAP_15 else "word, bit 13")
+
+
+def _ends(e: SeenElement) -> str:
+    """What happens at the end of the element's line, by the first row that applies."""
+    crtc, beam = e.crtc, e.beam
+    compare = crtc[0x18] | (crtc[7] & 0x10) << 4 | (crtc[9] & 0x40) << 3
+    if beam["line"] == compare:
+        return "line compare"
+    if crtc[9] & DOUBLE_SCAN and not beam["half"]:
+        return "double scan"
+    return "the row goes on" if _scan(e) < crtc[9] & 31 else "the next row"
+
+
+def _line_ends(e: SeenElement, how: str) -> bool:
+    """Whether a line ends in this way, and the frame goes on."""
+    return _ends(e) == how and e.final["beam"]["line"] == e.beam["line"] + 1
+
+
+def _numbered(e: SeenElement, is_selected: bool) -> bool:
+    """Whether colour select gives two bits or four of a colour's number."""
+    is_packed = _kind(e) == PACKED_256
+    return _shown(e) and not is_packed and bool(e.attr[0x10] & SELECT) == is_selected
+
+
+def _position(e: SeenElement) -> int:
+    """Which dot of its line the beam is at."""
+    return int(e.beam["character"]) * width_of(e.seq) + int(e.beam["dot"])
+
+
+def _total(e: SeenElement) -> int:
+    return int(e.crtc[0]) + 5
+
+
+def _frame_lines(e: SeenElement) -> int:
+    return int(e.crtc[6] + (e.crtc[7] & 1) * 256 + (e.crtc[7] >> 5 & 1) * 512) + 2
+
+
+def _status(e: SeenElement, value: int) -> bool:
+    return e.address == e.base + 6 and e.answer == value
+
+
+def _retrace(e: SeenElement, count: int) -> bool:
+    """Whether the retrace lasts so many lines, and the beam is in it."""
+    start, end = e.crtc[0x10], e.crtc[0x11] & 15
+    return e.answer in (8, 9) and ((end - start - 1) % 16 + 1) == count
+
+
+RULES = (
+    ShownRule(
+        "panning",
+        PAGE + "where-a-dot-comes-from",
+        LINES,
+        {
+            "reset below the line compare": partial(_panned, row="below the line compare"),
+            "256 colours": partial(_panned, row=PACKED_256),
+            "characters of eight dots": partial(_panned, row="eight dots"),
+            "characters of nine dots": partial(_panned, row="nine dots"),
+            "characters of nine dots, 8": partial(_panned, row="nine dots, 8"),
+            "split without the reset": lambda e: _shown(e)
+            and e.beam["split"]
+            and not e.attr[0x10] & PAN_RESET,
+        },
+    ),
+    ShownRule(
+        "the fetch address",
+        PAGE + "where-a-dot-comes-from",
+        LINES,
+        {
+            "double word mode": partial(_fetches, kind="double word"),
+            "byte mode": partial(_fetches, kind="byte"),
+            "word mode, counter bit 15": partial(_fetches, kind="word, bit 15"),
+            "word mode, counter bit 13": partial(_fetches, kind="word, bit 13"),
+        },
+    ),
+    ShownRule(
+        "the first dot of a frame",
+        PAGE + "one-dot",
+        LINES,
+        {
+            "start address": lambda e: _shown(e) and not e.beam["line"],
+            "byte panning": lambda e: _shown(e) and not e.beam["line"] and e.crtc[8] & 0x60,
+            "preset row scan": lambda e: _is(e, TEXT) and not e.beam["line"] and e.crtc[8] & 31,
+        },
+    ),
+    ShownRule(
+        "character maps",
+        PAGE + "text",
+        LINES,
+        {
+            "map A": partial(_has_cell, map_a=True),
+            "map B": partial(_has_cell, map_a=False),
+            "maps 0 to 3": partial(_has_cell, high_map=False),
+            "maps 4 to 7": partial(_has_cell, high_map=True),
+        },
+    ),
+    ShownRule(
+        "the ninth dot",
+        PAGE + "text",
+        LINES,
+        {
+            "repeats the eighth": lambda e: width_of(e.seq) == 9
+            and e.attr[0x10] & LINE_GRAPHICS
+            and _has_cell(e, is_line=True),
+            "line graphics is off": lambda e: width_of(e.seq) == 9
+            and not e.attr[0x10] & LINE_GRAPHICS
+            and _has_cell(e, is_line=True),
+            "of other characters": lambda e: width_of(e.seq) == 9 and _has_cell(e, is_line=False),
+            "of graphics is 0": lambda e: width_of(e.seq) == 9
+            and (_is(e, PLANES_16) or _is(e, PACKED_256)),
+        },
+    ),
+    ShownRule(
+        "underline",
+        PAGE + "text",
+        LINES,
+        {
+            "it is shown": partial(_has_cell, underlined=True),
+            "not over what is blinked away": partial(_has_cell, underlined=True, away=True),
+        },
+    ),
+    ShownRule(
+        "blink",
+        PAGE + "text",
+        LINES,
+        {
+            "frames 16 to 31": partial(_has_cell, away=True),
+            "frames 0 to 15": lambda e: e.attr[0x10] & BLINK
+            and e.beam["frame"] < HALF_OF_BLINK
+            and _has_cell(e, blinks=True),
+            "off: bit 7 is a colour": lambda e: not e.attr[0x10] & BLINK
+            and _has_cell(e, blinks=True),
+        },
+    ),
+    ShownRule(
+        "cursor",
+        PAGE + "text",
+        LINES,
+        {
+            "first 8 of 16 frames": lambda e: e.beam["frame"] & HALF_OF_CURSOR == 0
+            and _has_cell(e, cursor=True),
+            "other frames": lambda e: e.beam["frame"] & HALF_OF_CURSOR
+            and _has_cell(e, cursor=True),
+            "it is off": partial(_has_cell, hidden_cursor=True),
+            "over what is blinked away": partial(_has_cell, cursor=True, away=True),
+        },
+    ),
+    ShownRule(
+        "graphics",
+        PAGE + "graphics",
+        LINES,
+        {
+            "16 colours": partial(_is, kind=PLANES_16),
+            "256 colours": partial(_is, kind=PACKED_256),
+        },
+    ),
+    ShownRule(
+        "the colour of a dot",
+        PAGE + "colour",
+        LINES,
+        {
+            "screen off": lambda e: e.seq[1] & SCREEN_OFF and e.answer["entries"],
+            "the palette is not shown": lambda e: not e.attr_index & SHOWN
+            and not e.seq[1] & SCREEN_OFF
+            and e.answer["entries"],
+            "256 colours": partial(_is, kind=PACKED_256),
+            "by the palette": lambda e: _shown(e) and _kind(e) != PACKED_256,
+            "the mask of the DAC": lambda e: _shown(e) and e.dac_mask != 0xFF,
+        },
+    ),
+    ShownRule(
+        "a colour's number",
+        REGISTERS + "attribute-controller",
+        LINES,
+        {
+            "two bits of colour select": partial(_numbered, is_selected=False),
+            "four bits of colour select": partial(_numbered, is_selected=True),
+            "planes that are not enabled": lambda e: _shown(e)
+            and _kind(e) != PACKED_256
+            and e.attr[0x12] & 15 != 15,
+        },
+    ),
+    ShownRule(
+        "lines that are not displayed",
+        PAGE + "a-frame",
+        LINES,
+        {"no dot": lambda e: not e.answer["entries"]},
+    ),
+    ShownRule(
+        "the end of a line",
+        PAGE + "the-end-of-a-line",
+        LINES,
+        {
+            "line compare": partial(_line_ends, how="line compare"),
+            "the first of two lines": partial(_line_ends, how="double scan"),
+            "the row goes on": partial(_line_ends, how="the row goes on"),
+            "the next row": partial(_line_ends, how="the next row"),
+        },
+    ),
+    ShownRule(
+        "the move of the beam",
+        PAGE + "one-dot",
+        CLOCK,
+        {
+            "within a character": lambda e: e.final["beam"]["character"] == e.beam["character"]
+            and e.final["beam"]["line"] == e.beam["line"]
+            and e.address > 0,
+            "into another character": lambda e: e.final["beam"]["character"] != e.beam["character"],
+            "into another line": lambda e: e.final["beam"]["line"] != e.beam["line"],
+            "into another frame": lambda e: e.final["beam"]["frame"] != e.beam["frame"],
+            "frame 31 is followed by 0": lambda e: e.beam["frame"] == 31
+            and e.final["beam"]["frame"] == 0,
+            "no dot": lambda e: e.address == 0,
+            "to the end of a line": lambda e: e.final["beam"]["character"] == 0
+            and e.final["beam"]["dot"] == 0
+            and e.address > 0,
+        },
+    ),
+    ShownRule(
+        "registers that are lowered",
+        PAGE + "one-dot",
+        CLOCK,
+        {
+            "the line ends with this character": lambda e: e.beam["character"] >= _total(e)
+            and e.address > 0,
+            "the frame ends with this line": lambda e: e.beam["line"] >= _frame_lines(e)
+            and e.address > 0,
+            "the character ends with this dot": lambda e: e.beam["dot"] >= width_of(e.seq)
+            and e.address > 0,
+        },
+    ),
+    ShownRule(
+        "a frame's start is read once",
+        PAGE + "one-dot",
+        CLOCK,
+        {
+            "changed since": lambda e: "crtc" in e.reach
+            and e.reach["crtc"][0x0C:0x0E] != e.crtc[0x0C:0x0E]
+            and _position(e) + e.beam["line"] > 0,
+        },
+    ),
+    ShownRule(
+        "one advance",
+        PAGE + "many-dots",
+        CLOCK,
+        {
+            "more than one line": lambda e: e.address > _total(e) * width_of(e.seq),
+            "more than one frame": lambda e: not e.refused
+            and e.address > _total(e) * width_of(e.seq) * _frame_lines(e),
+            "too far": lambda e: e.refused == "TooFar" and e.address > MOST_DOTS,
+        },
+    ),
+    ShownRule(
+        "input status 1",
+        REGISTERS + "input-status-1",
+        ("in",),
+        {
+            "a display dot": partial(_status, value=0),
+            "none": partial(_status, value=1),
+            "a display dot in the retrace": partial(_status, value=8),
+            "none in the retrace": partial(_status, value=9),
+            "past the characters": lambda e: _status(e, 1)
+            and e.beam["character"] > e.crtc[1]
+            and e.beam["line"] <= e.crtc[0x12],
+            "past the lines": lambda e: _status(e, 1) and e.beam["line"] > e.crtc[0x12],
+        },
+    ),
+    ShownRule(
+        "how long the retrace lasts",
+        PAGE + "input-status-1",
+        ("in",),
+        {
+            "a line": partial(_retrace, count=1),
+            "16 lines": partial(_retrace, count=16),
+        },
+    ),
+    ShownRule(
+        "input status 1 makes the next write an index",
+        REGISTERS + "attribute-controller",
+        ("in",),
+        {
+            "data was next": lambda e: e.address == e.base + 6
+            and not e.refused
+            and e.attr_is_data == 1
+            and e.final["attr_is_data"] == 0,
+            "an index was next": lambda e: e.address == e.base + 6
+            and not e.refused
+            and e.attr_is_data == 0,
+        },
+    ),
+)
