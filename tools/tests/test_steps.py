@@ -13,7 +13,7 @@ import tempfile
 import unittest
 import zlib
 from pathlib import Path
-from typing import Any, Iterator, cast
+from typing import Any, Iterator
 from unittest import mock
 
 from zaklimot_tools.steps.adapter import SteppedCard
@@ -355,7 +355,6 @@ class Files(Folder):
         def changed(**members: Any) -> Element:
             return {**GOOD, **members}
 
-        state: dict[str, Any] = GOOD["initial"]
         hold(
             self,
             lambda element: fault_of(element).partition(":")[0],
@@ -378,31 +377,30 @@ class Files(Folder):
                     changed(reach={"gfx": [0] * 9}),
                     "its reach has no such member, or one out of range",
                 ),
-                *(
-                    (
-                        changed(initial={**state, **part}),
-                        "its initial state has no such part, or one out of range",
-                    )
-                    for part in cast(
-                        "list[Element]",
-                        [
-                            {"misc": 256},
-                            {"seq": [0] * 4},
-                            {"gfx": [0, 0, 0, 0, 0, 0, 16, 0, 0]},
-                            {"planes": [[1, 2, 3, 4]]},
-                            {"planes": [[2, 0, 0, 0, 0], [1, 0, 0, 0, 0]]},
-                            {"colours": [[256, 0, 0, 0]]},
-                            {"beam": {"line": 0}},
-                            {"bda": {**dict.fromkeys(BDA, 0)}},
-                            {"sums": [0] * 4},
-                            {"other": 1},
-                        ],
-                    )
-                ),
             ),
         )
-        beam = dict.fromkeys(BEAM, 0)
-        self.assertEqual(fault_of(changed(initial={"beam": beam})), "")
+
+    def test_what_is_no_state(self) -> None:
+        state: dict[str, Any] = GOOD["initial"]
+        parts: tuple[dict[str, Any], ...] = (
+            {"misc": 256},
+            {"seq": [0] * 4},
+            {"gfx": [0, 0, 0, 0, 0, 0, 16, 0, 0]},
+            {"planes": [[1, 2, 3, 4]]},
+            {"planes": [[2, 0, 0, 0, 0], [1, 0, 0, 0, 0]]},
+            {"colours": [[256, 0, 0, 0]]},
+            {"beam": {"line": 0}},
+            {"bda": {**dict.fromkeys(BDA, 0)}},
+            {"sums": [0] * 4},
+            {"other": 1},
+        )
+        told = "its initial state has no such part, or one out of range"
+        for part in parts:
+            with self.subTest(part):
+                element = {**GOOD, "initial": {**state, **part}}
+                self.assertEqual(fault_of(element).partition(":")[0], told)
+        beam = {**GOOD, "initial": {"beam": dict.fromkeys(BEAM, 0)}}
+        self.assertEqual(fault_of(beam), "")
 
     def test_each_command_tells_the_line(self) -> None:
         path = self.write("bad.json", "[\n5\n]\n")

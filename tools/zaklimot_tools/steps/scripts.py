@@ -218,7 +218,9 @@ def confirming(element: Element) -> Confirmed:
     at = len(steps) - len(after.steps) - 1
 
     def read(report: bytes) -> Element:
-        answers = list(Report(io.BufferedReader(io.BytesIO(report))).answers())  # type: ignore
+        # Bytes in memory are no raw stream to a type checker, but are read as one.
+        stream = io.BufferedReader(io.BytesIO(report))  # type: ignore[arg-type]
+        answers = list(Report(stream).answers())
         told: Element = {
             INITIAL: before.read(answers[at - len(before.steps) : at]),
             FINAL: after.read(answers[at + 1 : at + 1 + len(after.steps)]),

@@ -124,6 +124,7 @@ def _add_folder(parser: argparse.ArgumentParser, told: str) -> None:
 
 
 def parser() -> argparse.ArgumentParser:
+    """The words of `vga-steps`, with a command for each job."""
     tool = cli.tool_parser(
         "vga-steps",
         "Makes and uses single-step tests of adapters: a state, a step, and the state after it.",
