@@ -121967,7 +121967,7 @@ zak_status zak_line(zak_card *card, uint32_t flags, zak_scan_line *scan_line, ui
 }
 
 /* A call that gives dots line by line. */
-typedef u32 lines_call(module *, u32, u32, u32, u64, u32);
+typedef u32 lines_call(module *, u64, u64, u64, u64, u64);
 
 static zak_status give_lines(module *self, lines_call *call, uint32_t *widths, uint8_t *rgb,
                              size_t rgb_cap, size_t *rgb_used)
