@@ -225,6 +225,13 @@ static zak_status do_frame_lines(uint32_t i)
     return zak_frame_lines(&card, widths, rgb, sizeof rgb, &len);
 }
 
+static zak_status do_frame_indexed(uint32_t i)
+{
+    static zak_palette palette;
+    (void)i;
+    return zak_frame_indexed(&card, &size, &palette, rgb, sizeof rgb);
+}
+
 static zak_status do_peek(uint32_t i)
 {
     (void)i;
@@ -385,6 +392,7 @@ static const struct call {
     {"frame_once", do_frame_once, NULL},
     {"block", do_block, NULL},
     {"frame_lines", do_frame_lines, NULL},
+    {"frame_indexed", do_frame_indexed, NULL},
     {"peek", do_peek, NULL},
     {"lines", do_lines, NULL},
     {"teletype", do_teletype, NULL},

@@ -193,6 +193,14 @@ public:
         return picture;
     }
 
+    /* Writes the number of each dot's colour in the palette, which gets the picture's colours. */
+    zak_size frame_indexed(span<std::uint8_t> numbers, zak_palette &palette)
+    {
+        zak_size size;
+        check(zak_frame_indexed(&raw_, &size, &palette, numbers.data(), numbers.size()));
+        return size;
+    }
+
     /* Lets the clock run to the end of the frame under way, and draws nothing of it. */
     void skip_frame() { check(zak_skip_frame(&raw_)); }
 

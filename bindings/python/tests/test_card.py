@@ -402,6 +402,42 @@ class Frames(unittest.TestCase):
             with self.assertRaises(zaklimot.NoRoom):
                 self.card.frame_xrgb(into=buffer, pitch=pitch)
 
+    def test_the_palette_has_the_colour_of_each_number(self) -> None:
+        words = self.card.frame_xrgb()
+        picture = self.card.frame_indexed()
+        self.assertEqual((picture.width, picture.height), (640, 400))
+        self.assertEqual(len(set(picture.palette)), len(picture.palette))
+        for row, numbers in zip(words.rows(), picture.rows()):
+            self.assertEqual(row.tolist(), [picture.palette[number] for number in numbers])
+        self.assertEqual((picture.palette[picture[0, 0]], picture[0, 0]), (words[0, 0], 0))
+        with self.assertRaises(IndexError):
+            picture[640, 0]
+        copy = pickle.loads(pickle.dumps(picture))
+        self.assertEqual((bytes(copy.numbers), copy.palette), (bytes(picture.numbers), picture.palette))
+
+    def test_numbers_in_a_buffer_of_the_callers(self) -> None:
+        buffer = bytearray(b"\xee" * (640 * 400 + 1))
+        picture = self.card.frame_indexed(into=buffer)
+        self.assertEqual((buffer[0], buffer[-1], len(picture.numbers)), (0, 0xEE, 640 * 400))
+        with self.assertRaises(zaklimot.NoRoom):
+            self.card.frame_indexed(into=bytearray(640 * 400 - 1))
+
+    def test_a_picture_with_too_many_colours_for_a_palette(self) -> None:
+        self.card.out(0x3C8, 0)
+        for colour in range(256):
+            for component in (colour % 64, colour // 64, 0):
+                self.card.out(0x3C9, component)
+        self.card.put_bytes(0xA0000, bytes(range(256)))
+        self.card.put_bytes(0xA0000 + 320 * 199, bytes(range(256)))
+        self.assertEqual(len(self.card.frame_indexed().palette), 256)
+        self.card.advance(100_000)
+        self.card.out(0x3C8, 7)
+        for component in (63, 63, 63):
+            self.card.out(0x3C9, component)
+        with self.assertRaises(zaklimot.ManyColours):
+            self.card.frame_indexed()
+        self.assertEqual(self.card.peek().widths[0], 640)
+
     def test_words_of_pixels_that_stand_once(self) -> None:
         whole = self.card.frame_xrgb()
         known = [whole[x, y] for y in range(0, 400, 2) for x in range(0, 640, 2)]

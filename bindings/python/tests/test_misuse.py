@@ -40,6 +40,7 @@ CALLS: dict[str, tuple[Any, ...]] = {
     "lines": (),
     "skip_frame": (),
     "peek": (),
+    "frame_indexed": (),
     "block": (0x1301,),
     "cycles": (0x0E41,),
     "int10": (0x13,),

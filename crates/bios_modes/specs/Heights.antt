@@ -12,8 +12,8 @@ use Rattle.bios_modes.specs.declared.palette.Palette.TheVariants.{Monochrome}
 use Rattle.bios_modes.specs.Modes.{mode_row}
 
 -- characters of 8 scan lines: 50 rows on a page; the argument is the scan line of underlines
-abbrev pub fifty_rows : ℕ → TextRow
-fifty_rows underline = record {
+abbrev pub fifty_rows_underlined_at : ℕ → TextRow
+fifty_rows_underlined_at underline = record {
   height = 8;
   last_row = 49;
   size = 0x2000;
@@ -25,8 +25,8 @@ fifty_rows underline = record {
 }
 
 -- characters of 14 scan lines: 28 rows on a page
-abbrev pub twenty_eight_rows : ℕ → TextRow
-twenty_eight_rows underline = record {
+abbrev pub twenty_eight_rows_underlined_at : ℕ → TextRow
+twenty_eight_rows_underlined_at underline = record {
   height = 14;
   last_row = 27;
   size = 0x2000;
@@ -38,8 +38,8 @@ twenty_eight_rows underline = record {
 }
 
 -- characters of 16 scan lines: 25 rows on a page
-abbrev pub twenty_five_rows : ℕ → TextRow
-twenty_five_rows underline = record {
+abbrev pub twenty_five_rows_underlined_at : ℕ → TextRow
+twenty_five_rows_underlined_at underline = record {
   height = 16;
   last_row = 24;
   size = 0x1000;
@@ -53,17 +53,17 @@ twenty_five_rows underline = record {
 -- the row of a height for text in colour, where no scan line of a character is underlined
 abbrev pub colour_text_row : ℕ → Option TextRow
 colour_text_row height =
-    if height == 8 then Some (fifty_rows 0x1F)
-    else if height == 14 then Some (twenty_eight_rows 0x1F)
-    else if height == 16 then Some (twenty_five_rows 0x1F)
+    if height == 8 then Some (fifty_rows_underlined_at 0x1F)
+    else if height == 14 then Some (twenty_eight_rows_underlined_at 0x1F)
+    else if height == 16 then Some (twenty_five_rows_underlined_at 0x1F)
     else None
 
 -- the row of a height for monochrome text, where the last scan line of a character is underlined
 abbrev pub monochrome_text_row : ℕ → Option TextRow
 monochrome_text_row height =
-    if height == 8 then Some (fifty_rows 0x07)
-    else if height == 14 then Some (twenty_eight_rows 0x0D)
-    else if height == 16 then Some (twenty_five_rows 0x0F)
+    if height == 8 then Some (fifty_rows_underlined_at 0x07)
+    else if height == 14 then Some (twenty_eight_rows_underlined_at 0x0D)
+    else if height == 16 then Some (twenty_five_rows_underlined_at 0x0F)
     else None
 
 -- a value that a row gives, if there is a row

@@ -24,15 +24,15 @@ is_text_kind Planar = false
 is_text_kind Packed = false
 
 -- whether this is a byte for a pixel
-abbrev pub is_packed_kind : Kind → Bool
-is_packed_kind Text = false
-is_packed_kind Planar = false
-is_packed_kind Packed = true
+abbrev pub is_kind_of_256_colours : Kind → Bool
+is_kind_of_256_colours Text = false
+is_kind_of_256_colours Planar = false
+is_kind_of_256_colours Packed = true
 
 -- whether a mode is text
 abbrev pub is_text : ℕ → Bool
 is_text mode = is_text_kind (kind_of mode)
 
 -- whether a mode has 256 colours
-abbrev pub is_packed : ℕ → Bool
-is_packed mode = is_packed_kind (kind_of mode)
+abbrev pub is_mode_of_256_colours : ℕ → Bool
+is_mode_of_256_colours mode = is_kind_of_256_colours (kind_of mode)

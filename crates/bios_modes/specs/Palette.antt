@@ -37,13 +37,13 @@ abbrev pub grey : ℕ → List ℕ
 grey level = rgb level level level
 
 -- black, or one of two greys
-abbrev pub grey_of_intensity : ℕ → List ℕ
-grey_of_intensity n = grey (if is_set n 3 then 0x2A + 0x15 * bit_at n 4 else 0)
+abbrev pub default_colour_in_monochrome_text : ℕ → List ℕ
+default_colour_in_monochrome_text n = grey (if is_set n 3 then 0x2A + 0x15 * bit_at n 4 else 0)
 
 -- 256 colours: 16 colours, 16 greys from black to white, and 224 colours whose number gives red and
 -- green three bits each and blue two
-abbrev pub colour_of_byte : ℕ → List ℕ
-colour_of_byte n =
+abbrev pub default_colour_in_256_colours : ℕ → List ℕ
+default_colour_in_256_colours n =
     if nat_lt n 0x10 then colour_with_bright_bit 3 n
     else if nat_lt n 0x20 then grey (63 * (n - 16) / 15)
     else rgb (9 * field n 7 5) (9 * field n 4 2) (21 * field n 1 0)
@@ -51,9 +51,9 @@ colour_of_byte n =
 -- entry n of a palette
 abbrev pub palette_entry : Palette → ℕ → List ℕ
 palette_entry Colours64 n = colour_of_six_bits n
-palette_entry Monochrome n = grey_of_intensity n
+palette_entry Monochrome n = default_colour_in_monochrome_text n
 palette_entry Colours16 n = colour_with_bright_bit 4 n
-palette_entry Colours256 n = colour_of_byte n
+palette_entry Colours256 n = default_colour_in_256_colours n
 
 -- the palette of a mode, by its row of the mode table; without a row, that of mode 3
 abbrev pub default_palette_of_row : Option ModeRow → Palette

@@ -4,7 +4,7 @@ ghost use Rattle.std.specs.Prelude.{ℕ, ◌<◌, slice_index};
 ghost use Rattle.bios_modes.specs.Bounds.{AreBytes};
 
 /// Bytes are below 256.
-pub(crate) fn bytes_fit(bytes: &[u8])
+pub(crate) fn bytes_are_below_256(bytes: &[u8])
     ensures { AreBytes bytes.now }
 {
     let _ = bytes;

@@ -3,7 +3,7 @@ ghost use Rattle.std.specs.Prelude.{◌≡◌, ◌<◌, ◌*◌, IfOk, IsOkUnles
 ghost use Rattle.bios_modes.specs.Fonts.{glyph_row};
 ghost use Rattle.bios_modes.specs.Bounds.{AreBytes};
 
-use super::bounds::bytes_fit;
+use super::bounds::bytes_are_below_256;
 use std::alloc::Global;
 use std::marker::Model;
 use vga_bits::{Bytes, Fault};
@@ -42,7 +42,7 @@ impl<const H: usize> Font<H> {
     pub fn bounds(&self)
         ensures { AreBytes self.now }
     {
-        bytes_fit(self.rows.as_slice());
+        bytes_are_below_256(self.rows.as_slice());
     }
 
     /// Row r of character c; r is below H. Bit 7 is the leftmost dot.

@@ -1,11 +1,11 @@
 //! The values of a text mode that depend on the height of characters.
 ghost use Rattle.std.specs.Prelude.{◌≡◌};
-ghost use Rattle.bios_modes.specs.Heights.{row_at_height, colour_text_row, fifty_rows};
+ghost use Rattle.bios_modes.specs.Heights.{row_at_height, colour_text_row, fifty_rows_underlined_at};
 ghost use Rattle.bios_modes.specs.Heights.{monochrome_text_row};
 ghost use Rattle.bios_modes.specs.Heights.{mode_row_at_height as mode_row_at_height_of};
 ghost use Rattle.bios_modes.specs.Heights.{text_row as text_row_of};
-ghost use Rattle.bios_modes.specs.Heights.{text_row_of_mode_row, twenty_eight_rows};
-ghost use Rattle.bios_modes.specs.Heights.{twenty_five_rows};
+ghost use Rattle.bios_modes.specs.Heights.{text_row_of_mode_row, twenty_eight_rows_underlined_at};
+ghost use Rattle.bios_modes.specs.Heights.{twenty_five_rows_underlined_at};
 ghost use Rattle.bios_modes.specs.Heights.{with_text_row};
 
 use super::kind::Kind;
@@ -44,7 +44,7 @@ pub struct TextRow {
 impl TextRow {
     /// Characters of 8 scan lines: 50 rows on a page. The argument is the scan line of underlines.
     fn fifty(underline: u8) -> TextRow
-        ensures { result ≡ fifty_rows underline }
+        ensures { result ≡ fifty_rows_underlined_at underline }
     {
         TextRow {
             height: 8,
@@ -60,7 +60,7 @@ impl TextRow {
 
     /// Characters of 14 scan lines: 28 rows on a page.
     fn twenty_eight(underline: u8) -> TextRow
-        ensures { result ≡ twenty_eight_rows underline }
+        ensures { result ≡ twenty_eight_rows_underlined_at underline }
     {
         TextRow {
             height: 14,
@@ -76,7 +76,7 @@ impl TextRow {
 
     /// Characters of 16 scan lines: 25 rows on a page. A mode set gives this height.
     fn twenty_five(underline: u8) -> TextRow
-        ensures { result ≡ twenty_five_rows underline }
+        ensures { result ≡ twenty_five_rows_underlined_at underline }
     {
         TextRow {
             height: 16,

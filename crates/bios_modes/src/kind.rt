@@ -1,7 +1,7 @@
 //! The three ways in which modes use the memory.
 ghost use Rattle.std.specs.Prelude.{◌≡◌};
 ghost use Rattle.bios_modes.specs.Kinds.{kind_of as kind_of_mode, is_text as is_text_mode};
-ghost use Rattle.bios_modes.specs.Kinds.{is_packed as is_packed_mode};
+ghost use Rattle.bios_modes.specs.Kinds.{is_mode_of_256_colours as is_packed_mode};
 
 use super::modes::mode_row;
 
@@ -37,7 +37,7 @@ pub fn is_text(mode: u8) -> bool
 }
 
 /// Whether a mode has 256 colours.
-pub fn is_packed(mode: u8) -> bool
+pub fn is_mode_of_256_colours(mode: u8) -> bool
     ensures { result ≡ is_packed_mode mode }
 {
     match kind_of(mode) {

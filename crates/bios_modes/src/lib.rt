@@ -15,6 +15,6 @@ pub use bda::Bda;
 pub use font::Font;
 pub use fonts::Fonts;
 pub use heights::{TextRow, mode_row_at_height, text_row};
-pub use kind::{Kind, is_packed, is_text, kind_of};
+pub use kind::{Kind, is_mode_of_256_colours, is_text, kind_of};
 pub use modes::{ModeRow, mode_row};
 pub use palette::{Palette, dac_entry, default_palette_of_mode, is_monochrome};

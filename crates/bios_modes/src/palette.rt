@@ -4,8 +4,8 @@ ghost use Rattle.std.specs.Int.{bit_at};
 ghost use Rattle.bios_modes.specs.Palette.{component_of_two_bits as component_of};
 ghost use Rattle.bios_modes.specs.Palette.{colour_of_six_bits as six_bits_of};
 ghost use Rattle.bios_modes.specs.Palette.{colour_with_bright_bit as bright_bit_of};
-ghost use Rattle.bios_modes.specs.Palette.{grey_of_intensity as intensity_of};
-ghost use Rattle.bios_modes.specs.Palette.{colour_of_byte as byte_of};
+ghost use Rattle.bios_modes.specs.Palette.{default_colour_in_monochrome_text as intensity_of};
+ghost use Rattle.bios_modes.specs.Palette.{default_colour_in_256_colours as byte_of};
 ghost use Rattle.bios_modes.specs.Palette.{palette_entry, is_monochrome_mode};
 ghost use Rattle.bios_modes.specs.Palette.{default_palette_of_mode as palette_of_mode, dac_entry as entry_of};
 
@@ -77,7 +77,7 @@ fn colour_with_bright_bit(n: u8, bright: u32) -> [u8; 3]
 }
 
 /// Black, or one of two greys.
-fn grey_of_intensity(n: u8) -> [u8; 3]
+fn default_colour_in_monochrome_text(n: u8) -> [u8; 3]
     ensures { result ≡ intensity_of n }
 {
     let level = if bit(n, 3) == 1 {
@@ -89,7 +89,7 @@ fn grey_of_intensity(n: u8) -> [u8; 3]
 }
 
 /// One of 16 colours, of 16 greys, or of 224 colours by the bits of a byte.
-fn colour_of_byte(n: u8) -> [u8; 3]
+fn default_colour_in_256_colours(n: u8) -> [u8; 3]
     ensures { result ≡ byte_of n }
 {
     match n {
@@ -106,9 +106,9 @@ impl Palette {
     {
         match self {
             Palette::Colours64 => colour_of_six_bits(n),
-            Palette::Monochrome => grey_of_intensity(n),
+            Palette::Monochrome => default_colour_in_monochrome_text(n),
             Palette::Colours16 => colour_with_bright_bit(n, 4),
-            Palette::Colours256 => colour_of_byte(n),
+            Palette::Colours256 => default_colour_in_256_colours(n),
         }
     }
 }

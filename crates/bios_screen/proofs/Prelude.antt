@@ -4,7 +4,7 @@ pub use Rattle.bios_modes.specs.Begin.{data_of_mode}
 pub use Rattle.bios_modes.specs.Bounds.{AreBytes}
 pub use Rattle.bios_modes.specs.Fonts.{FontSet}
 pub use Rattle.bios_modes.specs.Heights.{mode_row_at_height}
-pub use Rattle.bios_modes.specs.Kinds.{is_packed, is_text, kind_of}
+pub use Rattle.bios_modes.specs.Kinds.{is_mode_of_256_colours, is_text, kind_of}
 pub use Rattle.bios_modes.specs.Modes.{bytes_320_by_200}
 pub use Rattle.bios_modes.specs.declared.kind.Kind.TheVariants.{Planar}
 pub use Rattle.bios_modes.specs.declared.modes.ModeRow.{ModeRow}
@@ -13,15 +13,15 @@ pub use Rattle.bios_screen.specs.Picture.{colour_by_palette}
 pub use Rattle.bios_screen.specs.Raster.{DrawsDotColours, Raster}
 pub use Rattle.bios_screen.specs.Screen.{Cell, Screen}
 pub use Rattle.bios_screen.specs.AfterCall.{ServiceActsAsOnScreen}
-pub use Rattle.bios_screen.specs.Shown.{text_memory_cells, cell_in, crtc_registers, packed_pixel, page_pixels, pixel_in, pixel_screen, planar_pixel, shown}
+pub use Rattle.bios_screen.specs.Shown.{text_memory_cells, cell_in, crtc_registers, pixel_of_256_colours, page_pixels, pixel_in, pixel_screen, planar_pixel, shown}
 pub use Rattle.bios_screen.specs.Shown.{has_attribute_registers_of_mode}
-pub use Rattle.bios_screen.specs.Step.{page_meant, pixel_of, with_pixels}
+pub use Rattle.bios_screen.specs.Step.{page_or_0_on_screen_of_one_page, pixel_of, with_pixels}
 pub use Rattle.bios_services.specs.Bounds.{page_count}
-pub use Rattle.bios_services.specs.Cells.{cells_per_page, page_base}
+pub use Rattle.bios_services.specs.Cells.{cells_per_page, page_0_address_of_mode}
 pub use Rattle.bios_services.specs.Cursor.{start_address}
 pub use Rattle.bios_services.specs.Cycles.{write_graphics}
 pub use Rattle.bios_services.specs.Plan.{Done, Plan, each, get, put, run, ◌>>=◌, ◌>>◌}
-pub use Rattle.bios_services.specs.Refusals.{page_among, page_meant_by_number}
+pub use Rattle.bios_services.specs.Refusals.{page_or_0_if_only_one, page_or_0_in_mode_of_one_page}
 pub use Rattle.bios_services.specs.Service.{ServiceOutcome}
 pub use Rattle.bios_services.specs.declared.band.ColumnBand.{ColumnBand}
 pub use Rattle.bios_services.specs.declared.direction.Direction.{Direction}
@@ -39,7 +39,7 @@ pub use Rattle.vga_card.specs.Card.{CardState}
 pub use Rattle.vga_card.specs.Port.{crtc_port}
 pub use Rattle.vga_crtc.specs.Beam.{first_counter}
 pub use Rattle.vga_crtc.specs.Crtc.{CrtcState}
-pub use Rattle.vga_crtc.specs.Raster.{regular_beam}
+pub use Rattle.vga_crtc.specs.Raster.{beam_at_place_of_regular_frame}
 pub use Rattle.vga_crtc.specs.declared.beam.Beam.{Beam}
 pub use Rattle.vga_dac.specs.Dac.{DacState}
 pub use Rattle.vga_host.specs.Host.{HostState}

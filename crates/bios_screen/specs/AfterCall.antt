@@ -16,7 +16,7 @@ use Rattle.bios_services.specs.declared.colours.ColourService.{ColourService}
 use Rattle.bios_services.specs.declared.colours.ColourService.TheVariants.{SetOverscan}
 use Rattle.bios_services.specs.Plan.{run}
 use Rattle.bios_modes.specs.Kinds.{is_text}
-use Rattle.bios_services.specs.Refusals.{service_on_page_meant, refusal_in_mode}
+use Rattle.bios_services.specs.Refusals.{service_with_page_or_0_if_only_one, refusal_in_mode}
 use Rattle.bios_services.specs.Calls.{call_of}
 use Rattle.bios_services.specs.Service.{plan_of_service, ServiceOutcome, CallOutcome}
 use Rattle.bios_services.specs.Service.{service as whole_service}
@@ -30,13 +30,13 @@ use Rattle.bios_screen.specs.Fresh.{fresh_screen}
 abbrev pub card_after_service : Service → FontSet → Regs → List ℕ → CardState → BiosData → CardState
     × ServiceOutcome
 card_after_service service fonts r block c d =
-    run card_meaning (plan_of_service (service_on_page_meant d service) fonts d r block) c
+    run card_meaning (plan_of_service (service_with_page_or_0_if_only_one d service) fonts d r block) c
 
 -- a service is refused for the screen's reason, or else gives the screen's answer and the next
 -- screen; it leaves the beam
 pub record ServiceActsAsOnScreen (service : Service) (fonts : FontSet) (r : Regs) (block : List ℕ)
     (c : CardState) (d : BiosData) (s : Screen) : Type 0 where
-  pub refusal : refusal_in_mode (service_on_page_meant d service) d (length block)
+  pub refusal : refusal_in_mode (service_with_page_or_0_if_only_one d service) d (length block)
       ≡ refusal_on s service (length block)
   pub answer : refusal_on s service (length block) ≡ None →
       (card_after_service service fonts r block c d).1.0 ≡ answer_on fonts s service r

@@ -20,20 +20,20 @@ columns_of_row None = 80
 columns_of_row (Some row) = row.columns
 
 -- how many columns of characters a mode has, by its number
-abbrev pub columns_of : ℕ → ℕ
-columns_of mode = columns_of_row (mode_row mode)
+abbrev pub columns_of_mode : ℕ → ℕ
+columns_of_mode mode = columns_of_row (mode_row mode)
 
 -- how many dots a line of a mode has: those of the picture, and a quarter as many to its right
 abbrev pub dots_a_line : ℕ → ℕ
-dots_a_line mode = if is_text mode then 900 else 10 * (pixel_width mode * columns_of mode)
+dots_a_line mode = if is_text mode then 900 else 10 * (pixel_width mode * columns_of_mode mode)
 
 -- how many lines a frame of a mode has: those of the picture, and more below
 abbrev pub lines_a_frame : ℕ → ℕ
 lines_a_frame mode = if pixel_lines_of_mode mode == 480 then 525 else 449
 
 -- how many dots a frame of a mode has; it is opaque, or else checks would count down from it
-unfoldable pub dots_a_frame : ℕ → ℕ
-dots_a_frame mode = lines_a_frame mode * dots_a_line mode
+unfoldable pub total_dots_of_frame_in_mode : ℕ → ℕ
+total_dots_of_frame_in_mode mode = lines_a_frame mode * dots_a_line mode
 
 -- a screen, the number of the next dot in its frame, the page that the frame shows, and its picture
 -- so far: red, green and blue of each dot. At dot 0, page and picture are still those of the frame
@@ -64,7 +64,7 @@ colour_of_frame_dot s page n = if is_picture_dot s n then dot_colour_at s page (
 
 -- whether the next dot is the last one of its frame
 abbrev pub is_last_dot_of_frame : Drawing → Bool
-is_last_dot_of_frame b = b.dot + 1 == dots_a_frame b.screen.mode
+is_last_dot_of_frame b = b.dot + 1 == total_dots_of_frame_in_mode b.screen.mode
 
 -- one dot: its colour joins the picture; dot 0 of the next frame follows the last one
 unfoldable pub take_dot : Drawing → Drawing
@@ -82,7 +82,7 @@ take_dots (suc n) b = take_dots n (take_dot b)
 
 -- the dots to the end of the frame, at least one; the picture is then complete
 abbrev pub take_frame : Drawing → Drawing
-take_frame b = take_dots (dots_a_frame b.screen.mode - b.dot) b
+take_frame b = take_dots (total_dots_of_frame_in_mode b.screen.mode - b.dot) b
 
 -- ---- calls between dots
 

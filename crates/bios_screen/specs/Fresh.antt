@@ -24,8 +24,8 @@ unfoldable pub default_component : DefaultPalette → ℕ → ℕ → List ℕ
 default_component palette i n = list_by_function (λ k. slice_index (palette_entry palette k) i) 0 n
 
 -- the first n bytes of a font
-unfoldable pub font_bytes : List ℕ → ℕ → List ℕ
-font_bytes font n = list_by_function (slice_index font) 0 n
+unfoldable pub first_bytes_of_font : List ℕ → ℕ → List ℕ
+first_bytes_of_font font n = list_by_function (slice_index font) 0 n
 
 -- the palette that a mode set loads
 abbrev pub fresh_palette : ModeRow → Palette
@@ -68,7 +68,7 @@ fresh_screen_with mode row distance contents glyphs frame = record {
 abbrev pub fresh_text : ℕ → ModeRow → List ℕ → ℕ → Screen
 fresh_text mode row font frame =
     fresh_screen_with mode row (row.size / 2) (Cells (fresh_cells text_memory_cells))
-    (font_bytes font 4096) frame
+    (first_bytes_of_font font 4096) frame
 
 -- the fresh screen of graphics: pages of pixels of colour 0
 abbrev pub fresh_pixels : ℕ → ModeRow → ℕ → Screen

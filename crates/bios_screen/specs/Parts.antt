@@ -2,7 +2,7 @@
 use Rattle.std.specs.Prelude.{ℕ, ◌≡◌, ◌+◌, ◌*◌, ◌≤◌, ◌&&◌, nat_lt, true, false, if◌then◌else◌, List}
 use Rattle.std.specs.Prelude.{[], get_or, slice_index, Option, Some, None}
 use Rattle.bios_modes.specs.Kinds.{is_text}
-use Rattle.bios_services.specs.Cursor.{row_of, column_of}
+use Rattle.bios_services.specs.Cursor.{row_of_position, column_of_position}
 use Rattle.bios_screen.specs.Listing.{list_by_function}
 use Rattle.bios_screen.specs.Screen.{Cell, Contents, Cells, PackedPixelColours, Layout, Screen, cell_of}
 use Rattle.bios_screen.specs.Screen.{page_start, cursor_position}
@@ -35,8 +35,8 @@ pixel_at s page x y =
 -- row and column of the cursor on a page, if the page is one of eight
 abbrev pub cursor_at : Screen → ℕ → Option (ℕ × ℕ)
 cursor_at s page = if nat_lt page 8 then Some (
-  row_of (cursor_position s page),
-  column_of (cursor_position s page),
+  row_of_position (cursor_position s page),
+  column_of_position (cursor_position s page),
 ) else None
 
 -- the pixels of each of count pages, cut from one list with n pixels for a page

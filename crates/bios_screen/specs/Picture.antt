@@ -7,7 +7,7 @@ use Rattle.std.specs.Prelude.{ℕ, ◌+◌, ◌-◌, ◌*◌, ◌/◌, ◌%◌, 
 use Rattle.std.specs.Prelude.{true, false, if◌then◌else◌, List, [], ◌∷◌, slice_index, bit_and}
 use Rattle.std.specs.Prelude.{Option, Some, None}
 use Rattle.vga_bits.specs.Bits.{is_set, field}
-use Rattle.bios_modes.specs.Kinds.{is_text, is_packed}
+use Rattle.bios_modes.specs.Kinds.{is_text, is_mode_of_256_colours}
 use Rattle.bios_modes.specs.Palette.{is_monochrome_mode}
 use Rattle.bios_modes.specs.Modes.{mode_row}
 use Rattle.bios_modes.specs.declared.modes.ModeRow.{ModeRow}
@@ -93,7 +93,7 @@ pixel_lines_of_mode mode = pixel_lines_of_row (mode_row mode)
 
 -- how many dots wide a pixel is: two if it is a byte
 abbrev pub pixel_width : ℕ → ℕ
-pixel_width mode = if is_packed mode then 2 else 1
+pixel_width mode = if is_mode_of_256_colours mode then 2 else 1
 
 -- how many lines high a pixel is: two if the mode has 200 lines
 abbrev pub pixel_height : ℕ → ℕ
@@ -108,7 +108,7 @@ pixel_at_position s page x y = pixel_of s page (pixel_number s x y)
 unfoldable pub pixel_dot_colour : Screen → ℕ → ℕ → ℕ → List ℕ
 pixel_dot_colour s page x y =
     let pixel = pixel_at_position s page (x / pixel_width s.mode) (y / pixel_height s.mode) in
-    if is_packed s.mode then colour_of_value s.palette pixel else colour_by_palette s.palette pixel
+    if is_mode_of_256_colours s.mode then colour_of_value s.palette pixel else colour_by_palette s.palette pixel
 
 -- ---- the picture
 

@@ -1,7 +1,7 @@
 -- A plain screen: what a program sees that uses only the video BIOS, and no register or address.
 -- From the IBM PS/2 and PC BIOS Interface Technical Reference, "Interrupt 10H - Video".
 use Rattle.std.specs.Prelude.{ℕ, ◌+◌, ◌*◌, Bool, List, get_or, slice_index}
-use Rattle.bios_services.specs.Cursor.{row_of, column_of}
+use Rattle.bios_services.specs.Cursor.{row_of_position, column_of_position}
 
 -- a cell of text: its character and its attribute
 abbrev pub Cell : Type 0
@@ -66,7 +66,7 @@ page_start s page = s.layout.distance * page
 
 -- the number of the cell at a position, counted along the rows of its page
 abbrev pub cell_number_of_position : Screen → ℕ → ℕ
-cell_number_of_position s position = s.layout.columns * row_of position + column_of position
+cell_number_of_position s position = s.layout.columns * row_of_position position + column_of_position position
 
 -- the cursor's position on a page
 abbrev pub cursor_position : Screen → ℕ → ℕ

@@ -14,7 +14,7 @@ use Rattle.vga_card.specs.Card.{CardState}
 use Rattle.bios_modes.specs.declared.modes.ModeRow.{ModeRow}
 use Rattle.bios_modes.specs.Heights.{mode_row_at_height}
 use Rattle.bios_modes.specs.Bda.{BiosData}
-use Rattle.bios_modes.specs.Kinds.{is_text, is_packed}
+use Rattle.bios_modes.specs.Kinds.{is_text, is_mode_of_256_colours}
 use Rattle.bios_services.specs.Cursor.{cursor_address, start_address}
 use Rattle.bios_services.specs.Pixels.{pixels_across, pixels_down}
 use Rattle.bios_screen.specs.Listing.{list_by_function}
@@ -88,12 +88,12 @@ unfoldable pub cells_in : List ℕ → List ℕ → ℕ → List Cell
 cells_in plane0 plane1 n = list_by_function (cell_in plane0 plane1) 0 n
 
 -- byte i of the glyphs; each glyph has 16 rows, the first 16 of 32 bytes in plane 2
-abbrev pub glyph_byte : List ℕ → ℕ → ℕ
-glyph_byte plane2 i = slice_index plane2 (32 * (i / 16) + i % 16)
+abbrev pub glyph_byte_in_plane_2 : List ℕ → ℕ → ℕ
+glyph_byte_in_plane_2 plane2 i = slice_index plane2 (32 * (i / 16) + i % 16)
 
 -- the first n bytes of the glyphs
-unfoldable pub glyphs_in : List ℕ → ℕ → List ℕ
-glyphs_in plane2 n = list_by_function (glyph_byte plane2) 0 n
+unfoldable pub glyph_bytes_in_plane_2 : List ℕ → ℕ → List ℕ
+glyph_bytes_in_plane_2 plane2 n = list_by_function (glyph_byte_in_plane_2 plane2) 0 n
 
 -- pixel k of a page of 16 colours that begins at byte z: its bit p lies in plane p, eight pixels to
 -- a byte, the first one as the highest bit
@@ -106,12 +106,12 @@ planar_pixel memory z k =
 
 -- pixel n of 256 colours is a byte: the two low bits of its number select the plane, and the number
 -- with these bits cleared is the offset there
-abbrev pub packed_pixel : Four (List ℕ) → ℕ → ℕ
-packed_pixel memory n = byte_at memory (n % 4) (n / 4 * 4)
+abbrev pub pixel_of_256_colours : Four (List ℕ) → ℕ → ℕ
+pixel_of_256_colours memory n = byte_at memory (n % 4) (n / 4 * 4)
 
 -- pixel k of a page that begins at byte z
 abbrev pub pixel_in : ℕ → Four (List ℕ) → ℕ → ℕ → ℕ
-pixel_in mode memory z k = if is_packed mode then packed_pixel memory (z + k)
+pixel_in mode memory z k = if is_mode_of_256_colours mode then pixel_of_256_colours memory (z + k)
     else planar_pixel memory z k
 
 -- the first n pixels of a page that begins at byte z
@@ -170,7 +170,7 @@ text_memory_cells = 16384
 -- the text screen with these cells; a cell is two bytes of a page
 abbrev pub text_screen_with_cells : ModeRow → CardState → BiosData → List Cell → Screen
 text_screen_with_cells row c d cells = screen_with_contents row c d (d.size / 2) (Cells cells)
-    (glyphs_in c.host.memory.plane2 4096)
+    (glyph_bytes_in_plane_2 c.host.memory.plane2 4096)
 
 -- the text screen of the adapter and the data
 abbrev pub text_screen : ModeRow → CardState → BiosData → Screen

@@ -21,17 +21,17 @@ use Rattle.bios_services.specs.declared.call.Service.TheVariants.{ScrollDown, Re
 use Rattle.bios_services.specs.declared.call.Service.TheVariants.{WritePixel, ReadPixel, Teletype}
 use Rattle.bios_services.specs.declared.call.Service.TheVariants.{ReadMode, Colours, ReadAdapter}
 use Rattle.bios_services.specs.declared.call.Service.TheVariants.{WriteString, ReadDisplay}
-use Rattle.bios_modes.specs.Kinds.{is_packed}
+use Rattle.bios_modes.specs.Kinds.{is_mode_of_256_colours}
 use Rattle.bios_modes.specs.Palette.{is_monochrome_mode}
 use Rattle.bios_services.specs.Registers.{low, with_low}
-use Rattle.bios_services.specs.Scroll.{window_among, whole_page, rows_to_scroll}
-use Rattle.bios_services.specs.Teletype.{line_start, pixel_colouring}
+use Rattle.bios_services.specs.Scroll.{window_clipped_to_page, whole_page, rows_to_scroll}
+use Rattle.bios_services.specs.Teletype.{position_at_start_of_row, pixel_colouring}
 use Rattle.bios_services.specs.Strings.{character_at, colouring_of_character}
 use Rattle.bios_services.specs.Colours.{colour_refusal_besides_block}
-use Rattle.bios_services.specs.Reasons.{◌or◌, no_pixels, no_page, outside_cells, outside_page}
+use Rattle.bios_services.specs.Reasons.{◌or◌, refuse_unless_graphics_mode, no_page, outside_cells, outside_page}
 use Rattle.bios_services.specs.Reasons.{outside_pixels, past_cells, refuse_or_wrong_block}
-use Rattle.bios_services.specs.Refusals.{page_among, service_block_len}
-use Rattle.bios_services.specs.Cursor.{row_of, column_of}
+use Rattle.bios_services.specs.Refusals.{page_or_0_if_only_one, service_block_len}
+use Rattle.bios_services.specs.Cursor.{row_of_position, column_of_position}
 use Rattle.bios_services.specs.Glyphs.{glyph_line, first_character_with_lines}
 use Rattle.bios_screen.specs.Listing.{list_by_function}
 use Rattle.bios_screen.specs.Colours.{with_colours, colours_answer}
@@ -42,49 +42,49 @@ use Rattle.bios_screen.specs.Screen.{cursor_cell_on_screen}
 -- ---- why a service is refused
 
 -- the page that a number means on a screen
-abbrev pub page_meant : Screen → ℕ → ℕ
-page_meant s page = page_among s.layout.pages page
+abbrev pub page_or_0_on_screen_of_one_page : Screen → ℕ → ℕ
+page_or_0_on_screen_of_one_page s page = page_or_0_if_only_one s.layout.pages page
 
 -- the number of the cell at the cursor of a page, counted along the rows of that page
 abbrev pub cursor_cell_on_page : Screen → ℕ → ℕ
 cursor_cell_on_page s page = cell_number_of_position s (cursor_position s page)
 
 -- why a service is refused on a screen whatever its block: the first of its reasons
-abbrev pub refusal_reason_on : Screen → Service → Option Refusal
-refusal_reason_on s (SetCursorType cursor_type) = None
-refusal_reason_on s (SetCursor page position) = no_page s.layout.pages (page_meant s page)
-refusal_reason_on s (ReadCursor page) = no_page s.layout.pages (page_meant s page)
-refusal_reason_on s (SelectPage page) = no_page s.layout.pages page
-refusal_reason_on s (ScrollUp window) = None
-refusal_reason_on s (ScrollDown window) = None
-refusal_reason_on s (ReadCell page) =
-    no_page s.layout.pages (page_meant s page)
-    or outside_cells (page_cells s) (cursor_cell_on_page s (page_meant s page))
-refusal_reason_on s (WriteCells cells) =
-    no_page s.layout.pages (page_meant s cells.page)
-    or outside_cells (page_cells s) (cursor_cell_on_page s (page_meant s cells.page))
-    or past_cells (page_cells s) (cursor_cell_on_page s (page_meant s cells.page)) cells.count
-refusal_reason_on s (WritePixel page x y colour) =
-    no_pixels s.mode
-    or no_page s.layout.pages (page_meant s page)
+abbrev pub refusal_on_besides_block : Screen → Service → Option Refusal
+refusal_on_besides_block s (SetCursorType cursor_type) = None
+refusal_on_besides_block s (SetCursor page position) = no_page s.layout.pages (page_or_0_on_screen_of_one_page s page)
+refusal_on_besides_block s (ReadCursor page) = no_page s.layout.pages (page_or_0_on_screen_of_one_page s page)
+refusal_on_besides_block s (SelectPage page) = no_page s.layout.pages page
+refusal_on_besides_block s (ScrollUp window) = None
+refusal_on_besides_block s (ScrollDown window) = None
+refusal_on_besides_block s (ReadCell page) =
+    no_page s.layout.pages (page_or_0_on_screen_of_one_page s page)
+    or outside_cells (page_cells s) (cursor_cell_on_page s (page_or_0_on_screen_of_one_page s page))
+refusal_on_besides_block s (WriteCells cells) =
+    no_page s.layout.pages (page_or_0_on_screen_of_one_page s cells.page)
+    or outside_cells (page_cells s) (cursor_cell_on_page s (page_or_0_on_screen_of_one_page s cells.page))
+    or past_cells (page_cells s) (cursor_cell_on_page s (page_or_0_on_screen_of_one_page s cells.page)) cells.count
+refusal_on_besides_block s (WritePixel page x y colour) =
+    refuse_unless_graphics_mode s.mode
+    or no_page s.layout.pages (page_or_0_on_screen_of_one_page s page)
     or outside_pixels (8 * s.layout.columns) (s.layout.height * s.layout.rows) x y
-refusal_reason_on s (ReadPixel page x y) =
-    no_pixels s.mode
-    or no_page s.layout.pages (page_meant s page)
+refusal_on_besides_block s (ReadPixel page x y) =
+    refuse_unless_graphics_mode s.mode
+    or no_page s.layout.pages (page_or_0_on_screen_of_one_page s page)
     or outside_pixels (8 * s.layout.columns) (s.layout.height * s.layout.rows) x y
-refusal_reason_on s (Teletype character colour) = outside_page s.layout.rows s.layout.columns
+refusal_on_besides_block s (Teletype character colour) = outside_page s.layout.rows s.layout.columns
     (cursor_position s s.page)
-refusal_reason_on s ReadMode = None
-refusal_reason_on s (Colours service) = colour_refusal_besides_block service
-refusal_reason_on s ReadAdapter = None
-refusal_reason_on s (WriteString call) =
-    no_page s.layout.pages (page_meant s call.page)
+refusal_on_besides_block s ReadMode = None
+refusal_on_besides_block s (Colours service) = colour_refusal_besides_block service
+refusal_on_besides_block s ReadAdapter = None
+refusal_on_besides_block s (WriteString call) =
+    no_page s.layout.pages (page_or_0_on_screen_of_one_page s call.page)
     or outside_page s.layout.rows s.layout.columns call.position
-refusal_reason_on s ReadDisplay = None
+refusal_on_besides_block s ReadDisplay = None
 
 -- why a service is refused on a screen with a block of this length
 unfoldable pub refusal_on : Screen → Service → ℕ → Option Refusal
-refusal_on s service len = refuse_or_wrong_block (refusal_reason_on s service) (service_block_len service) len
+refusal_on s service len = refuse_or_wrong_block (refusal_on_besides_block s service) (service_block_len service) len
 
 -- ---- what it does to the cells
 
@@ -121,12 +121,12 @@ write_characters first count character colouring old k =
     else old k
 
 -- the row of cell k on a page
-abbrev pub row_on : Screen → ℕ → ℕ → ℕ
-row_on s page k = (k - page_start s page) / s.layout.columns
+abbrev pub row_of_cell_on_page : Screen → ℕ → ℕ → ℕ
+row_of_cell_on_page s page k = (k - page_start s page) / s.layout.columns
 
 -- the column of cell k on a page
-abbrev pub column_on : Screen → ℕ → ℕ → ℕ
-column_on s page k = (k - page_start s page) % s.layout.columns
+abbrev pub column_of_cell_on_page : Screen → ℕ → ℕ → ℕ
+column_of_cell_on_page s page k = (k - page_start s page) % s.layout.columns
 
 -- whether a row and a column lie in a window
 abbrev pub is_in_window : Window → ℕ → ℕ → Bool
@@ -149,8 +149,8 @@ source_number Down k distance = k - distance
 -- the n rows that the window leaves become blank in an attribute, and all cells outside stay
 abbrev pub scroll_cells : Screen → ℕ → Window → Direction → ℕ → ℕ → (ℕ → Cell) → ℕ → Cell
 scroll_cells s page w direction n attribute old k =
-    if nat_le (page_start s page) k && is_in_window w (row_on s page k) (column_on s page k)
-    then (if has_source_row direction w n (row_on s page k)
+    if nat_le (page_start s page) k && is_in_window w (row_of_cell_on_page s page k) (column_of_cell_on_page s page k)
+    then (if has_source_row direction w n (row_of_cell_on_page s page k)
     then old (source_number direction k (s.layout.columns * n)) else (0x20, attribute))
     else old k
 
@@ -182,7 +182,7 @@ with_pixels s page new = record s { contents = change_pixels page new s.contents
 -- a pixel after a colour is written to it: in 256 colours it is that colour; in 16 colours it is
 -- the four low bits, or their XOR with the old pixel if bit 7 is 1
 abbrev pub colour_over : ℕ → ℕ → ℕ → ℕ
-colour_over mode colour old = if is_packed mode then colour else if is_set colour 7
+colour_over mode colour old = if is_mode_of_256_colours mode then colour else if is_set colour 7
     then bit_xor old (colour % 16) else colour % 16
 
 -- one pixel changes, and all others stay
@@ -190,34 +190,34 @@ abbrev pub change_pixel : ℕ → (ℕ → ℕ) → (ℕ → ℕ) → ℕ → �
 change_pixel n change old k = if k == n then change (old k) else old k
 
 -- the row of characters in which pixel k of a page lies
-abbrev pub pixel_row : Screen → ℕ → ℕ
-pixel_row s k = k / (8 * s.layout.columns) / s.layout.height
+abbrev pub character_row_of_pixel : Screen → ℕ → ℕ
+character_row_of_pixel s k = k / (8 * s.layout.columns) / s.layout.height
 
 -- the column of characters in which pixel k of a page lies; each is eight pixels wide
-abbrev pub pixel_column : Screen → ℕ → ℕ
-pixel_column s k = k % (8 * s.layout.columns) / 8
+abbrev pub character_column_of_pixel : Screen → ℕ → ℕ
+character_column_of_pixel s k = k % (8 * s.layout.columns) / 8
 
 -- the number of the cell in which pixel k of a page lies
-abbrev pub pixel_cell : Screen → ℕ → ℕ
-pixel_cell s k = s.layout.columns * pixel_row s k + pixel_column s k
+abbrev pub character_cell_of_pixel : Screen → ℕ → ℕ
+character_cell_of_pixel s k = s.layout.columns * character_row_of_pixel s k + character_column_of_pixel s k
 
 -- the line of its cell in which pixel k of a page lies
-abbrev pub pixel_line : Screen → ℕ → ℕ
-pixel_line s k = k / (8 * s.layout.columns) % s.layout.height
+abbrev pub line_within_cell_of_pixel : Screen → ℕ → ℕ
+line_within_cell_of_pixel s k = k / (8 * s.layout.columns) % s.layout.height
 
 -- a pixel after a character is written: a dot of the glyph writes the colour; where it has none,
 -- the pixel becomes 0, or stays by XOR
 abbrev pub glyph_pixel : ℕ → ℕ → Bool → ℕ → ℕ
 glyph_pixel mode colour is_dot old = if is_dot then colour_over mode colour old
-    else if not (is_packed mode) && is_set colour 7 then old else 0
+    else if not (is_mode_of_256_colours mode) && is_set colour 7 then old else 0
 
 -- count cells from cell `first` on get a character from the font of the mode's height, and all
 -- other pixels stay
 abbrev pub draw_characters : FontSet → Screen → ℕ → ℕ → ℕ → ℕ → (ℕ → ℕ) → ℕ → ℕ
 draw_characters fonts s first count character colour old k =
-    if nat_le first (pixel_cell s k) && nat_lt (pixel_cell s k) (first + count)
+    if nat_le first (character_cell_of_pixel s k) && nat_lt (character_cell_of_pixel s k) (first + count)
     then glyph_pixel s.mode colour (is_set (glyph_line fonts s.layout.height character
-    (pixel_line s k)) (7 - k % 8)) (old k)
+    (line_within_cell_of_pixel s k)) (7 - k % 8)) (old k)
     else old k
 
 -- a character goes to count cells of a page from cell `first` on, as cells of text or as pixels
@@ -237,14 +237,14 @@ pixel_distance_of_rows s rows = 8 * s.layout.columns * (s.layout.height * rows)
 
 -- the pixel with which a window is filled
 abbrev pub fill_pixel : ℕ → ℕ → ℕ
-fill_pixel mode colour = if is_packed mode then colour else colour % 16
+fill_pixel mode colour = if is_mode_of_256_colours mode then colour else colour % 16
 
 -- a window of a page moves by n rows: a pixel becomes that n rows of characters below or above it,
 -- the n rows that the window leaves get a colour, and all pixels outside stay
 abbrev pub scroll_pixels : Screen → Window → Direction → ℕ → ℕ → (ℕ → ℕ) → ℕ → ℕ
 scroll_pixels s w direction n colour old k =
-    if is_in_window w (pixel_row s k) (pixel_column s k)
-    then (if has_source_row direction w n (pixel_row s k)
+    if is_in_window w (character_row_of_pixel s k) (character_column_of_pixel s k)
+    then (if has_source_row direction w n (character_row_of_pixel s k)
     then old (source_number direction k (pixel_distance_of_rows s n)) else fill_pixel s.mode colour)
     else old k
 
@@ -263,7 +263,7 @@ scroll_asked s asked direction (Some w) =
 -- the window that a call names scrolls on the active page
 abbrev pub scroll : Screen → Scroll → Direction → Screen
 scroll s asked direction =
-    scroll_asked s asked direction (window_among s.layout.rows s.layout.columns asked)
+    scroll_asked s asked direction (window_clipped_to_page s.layout.rows s.layout.columns asked)
 
 -- a page goes up by a row
 abbrev pub page_up : Screen → ℕ → ℕ → Screen
@@ -274,20 +274,20 @@ page_up s page fill = scroll_window s page (whole_page s.layout.rows s.layout.co
 -- the attribute in the last row of a page, in the column of a position; for pixels it is colour 0
 abbrev pub last_row_attribute : Screen → ℕ → ℕ → ℕ
 last_row_attribute s page position = (cell_on s (page_start s page
-    + (s.layout.columns * (s.layout.rows - 1) + column_of position))).1
+    + (s.layout.columns * (s.layout.rows - 1) + column_of_position position))).1
 
 -- the position one row below; on the last row it stays, and the page goes up by a row, with a new
 -- row in that attribute or colour
 abbrev pub after_line_feed : Screen → ℕ → ℕ → Screen × ℕ
 after_line_feed s page position =
-    if nat_lt (row_of position) (s.layout.rows - 1) then (s, position + 256)
+    if nat_lt (row_of_position position) (s.layout.rows - 1) then (s, position + 256)
     else (page_up s page (last_row_attribute s page position), position)
 
 -- the position after one: the next column, or the first column of the row below
 abbrev pub screen_and_next_position : Screen → ℕ → ℕ → Screen × ℕ
 screen_and_next_position s page position =
-    if nat_lt (column_of position + 1) s.layout.columns then (s, position + 1)
-    else ((after_line_feed s page position).0, line_start (after_line_feed s page position).1)
+    if nat_lt (column_of_position position + 1) s.layout.columns then (s, position + 1)
+    else ((after_line_feed s page position).0, position_at_start_of_row (after_line_feed s page position).1)
 
 -- a character is written at a position
 abbrev pub put_character : FontSet → Screen → ℕ → ℕ → ℕ → Colouring → Screen
@@ -300,9 +300,9 @@ put_character fonts s page position character colouring =
 unfoldable pub type_character : FontSet → Screen → ℕ → ℕ → ℕ → Colouring → Screen × ℕ
 type_character fonts s page position character colouring =
     if character == 0x07 then (s, position)
-    else if character == 0x08 then (s, if column_of position == 0 then position else position - 1)
+    else if character == 0x08 then (s, if column_of_position position == 0 then position else position - 1)
     else if character == 0x0A then after_line_feed s page position
-    else if character == 0x0D then (s, line_start position)
+    else if character == 0x0D then (s, position_at_start_of_row position)
     else screen_and_next_position (put_character fonts s page position character colouring) page
     position
 
@@ -337,21 +337,21 @@ type_string fonts s page call block =
 -- the screen after a service that is not refused
 unfoldable pub next : FontSet → Screen → Service → List ℕ → Screen
 next fonts s (SetCursorType cursor_type) block = record s { cursor_type = cursor_type }
-next fonts s (SetCursor page position) block = with_position s (page_meant s page) position
+next fonts s (SetCursor page position) block = with_position s (page_or_0_on_screen_of_one_page s page) position
 next fonts s (ReadCursor page) block = s
 next fonts s (SelectPage page) block = record s { page = page }
 next fonts s (ScrollUp asked) block = scroll s asked Up
 next fonts s (ScrollDown asked) block = scroll s asked Down
 next fonts s (ReadCell page) block = s
-next fonts s (WriteCells cells) block = write_at_cursor fonts s (page_meant s cells.page) cells
-next fonts s (WritePixel page x y colour) block = with_pixels s (page_meant s page)
+next fonts s (WriteCells cells) block = write_at_cursor fonts s (page_or_0_on_screen_of_one_page s cells.page) cells
+next fonts s (WritePixel page x y colour) block = with_pixels s (page_or_0_on_screen_of_one_page s page)
     (change_pixel (pixel_number s x y) (colour_over s.mode colour))
 next fonts s (ReadPixel page x y) block = s
 next fonts s (Teletype character colour) block = type_at_cursor fonts s character colour
 next fonts s ReadMode block = s
 next fonts s (Colours service) block = with_colours s service block
 next fonts s ReadAdapter block = s
-next fonts s (WriteString call) block = type_string fonts s (page_meant s call.page) call block
+next fonts s (WriteString call) block = type_string fonts s (page_or_0_on_screen_of_one_page s call.page) call block
 next fonts s ReadDisplay block = s
 
 -- the cell at the cursor of a page: the character is the low byte, the attribute the high one
@@ -387,17 +387,17 @@ answer_on fonts s (SetCursorType cursor_type) r = r
 answer_on fonts s (SetCursor page position) r = r
 answer_on fonts s (ReadCursor page) r = record r {
   cx = s.cursor_type;
-  dx = cursor_position s (page_meant s page);
+  dx = cursor_position s (page_or_0_on_screen_of_one_page s page);
 }
 answer_on fonts s (SelectPage page) r = r
 answer_on fonts s (ScrollUp window) r = r
 answer_on fonts s (ScrollDown window) r = r
-answer_on fonts s (ReadCell page) r = cell_answer s.contents fonts s (page_meant s page) r
+answer_on fonts s (ReadCell page) r = cell_answer s.contents fonts s (page_or_0_on_screen_of_one_page s page) r
 answer_on fonts s (WriteCells cells) r = r
 answer_on fonts s (WritePixel page x y colour) r = r
 answer_on fonts s (ReadPixel page x y) r = record r {
   ax =
-      with_low r.ax (pixel_of s (page_meant s page) (pixel_number s x y));
+      with_low r.ax (pixel_of s (page_or_0_on_screen_of_one_page s page) (pixel_number s x y));
 }
 answer_on fonts s (Teletype character colour) r = r
 answer_on fonts s ReadMode r = record r {

@@ -21,9 +21,9 @@ ghost use Rattle.bios_screen.specs.AfterCall.{after_call};
 ghost use Rattle.bios_screen.specs.Step.{next, refusal_on};
 ghost use Rattle.bios_screen.specs.Loaded.{load_refusal_on, load_glyphs};
 ghost use Rattle.bios_screen.specs.Called.{AreRegistersWords, screen_unless_refused};
-ghost use Rattle.bios_screen.specs.Drawing.{Drawing, dots_a_frame, take_dots, MayLoadGlyphs};
+ghost use Rattle.bios_screen.specs.Drawing.{Drawing, total_dots_of_frame_in_mode, take_dots, MayLoadGlyphs};
 ghost use Rattle.bios_screen.specs.Whole.{PictureFitsFrame, FrameEndsAtDotZero, FrameIsWholePicture};
-ghost use Rattle.bios_screen.specs.Follows.{BeamIsAt, DotsJoinPicture, CardFollowsDrawing, EndsFrame};
+ghost use Rattle.bios_screen.specs.Follows.{BeamIsAtDotOfFrameFromAddress, DotsJoinPicture, CardFollowsDrawing, EndsFrame};
 
 /// A service that sets no mode leaves the mode and the layout of a screen.
 pub fn services_keep_the_layout()
@@ -38,9 +38,9 @@ pub fn services_keep_the_layout()
 /// remained, and the picture of a whole frame is that of the active page.
 pub fn frames_are_dots()
     ensures split { (m n : ℕ) (b : Drawing) → take_dots (m + n) b ≡ take_dots n (take_dots m b) }
-    ensures frame { (b : Drawing) → b.dot < dots_a_frame b.screen.mode → FrameEndsAtDotZero b }
+    ensures frame { (b : Drawing) → b.dot < total_dots_of_frame_in_mode b.screen.mode → FrameEndsAtDotZero b }
     ensures whole { (b : Drawing) → PictureFitsFrame b.screen → b.dot ≡ 0 →
-        b.dot < dots_a_frame b.screen.mode → FrameIsWholePicture b }
+        b.dot < total_dots_of_frame_in_mode b.screen.mode → FrameIsWholePicture b }
 {}
 
 /// Dots join what is drawn of the current frame, whatever that is, in the colours of the shown
@@ -53,8 +53,8 @@ pub fn dots_follow_screens()
     ensures starts { (c : CardState) (d : BiosData) (b : Drawing) → CardFollowsDrawing c d b → b.dot ≡ 0 →
         IsFrameStart c.crtc.beam }
     ensures joins { (c : CardState) (d : BiosData) (s : Screen) (page n : ℕ) → IsCard c →
-        shown c d ≡ Some s → page < s.layout.pages → n < dots_a_frame s.mode →
-        (n ≡ 0 → page ≡ s.page) → BeamIsAt c (start_address d page) n → DotsJoinPicture c s page n }
+        shown c d ≡ Some s → page < s.layout.pages → n < total_dots_of_frame_in_mode s.mode →
+        (n ≡ 0 → page ≡ s.page) → BeamIsAtDotOfFrameFromAddress c (start_address d page) n → DotsJoinPicture c s page n }
     ensures dots { (n : ℕ) (c : CardState) (d : BiosData) (b : Drawing) → IsCard c → CardFollowsDrawing c d b →
         CardFollowsDrawing (dots n c) d (take_dots n b) }
     ensures frame { (c : CardState) (d : BiosData) (b : Drawing) → IsCard c → CardFollowsDrawing c d b →

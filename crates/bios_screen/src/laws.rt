@@ -89,13 +89,13 @@ pub fn typing_services_lead_to_screens()
 {}
 
 /// Function 10: palette, overscan, blinking and DAC are set and answered.
-pub fn colours_are_served()
+pub fn colour_services_lead_to_screens()
     ensures { (service : ColourService) → OverscanFitsByte service → ServiceLeadsToNextScreen
         (Colours service) }
 {}
 
 /// Functions 0C and 0D in text, which has no pixels.
-pub fn pixel_calls_are_refused()
+pub fn pixel_calls_are_refused_in_text()
     ensures written { (page x y colour : ℕ) → TextServiceLeadsToNext (WritePixel page x y colour) }
     ensures read { (page x y : ℕ) → TextServiceLeadsToNext (ReadPixel page x y) }
 {}

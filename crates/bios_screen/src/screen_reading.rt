@@ -4,16 +4,16 @@ ghost use Rattle.std.specs.Prelude.{IfOk, OnOk, IsOkUnless, IsTrue, if◌then◌
 ghost use Rattle.std.specs.Int.{bit_at};
 ghost use Rattle.vga_planes.specs.Planes.{byte_at};
 ghost use Rattle.bios_modes.specs.Heights.{mode_row_at_height as mode_row_at_height_of};
-ghost use Rattle.bios_modes.specs.Kinds.{is_packed as is_packed_of, is_text as is_text_of};
+ghost use Rattle.bios_modes.specs.Kinds.{is_mode_of_256_colours as is_packed_of, is_text as is_text_of};
 ghost use Rattle.bios_screen.specs.Raster.{concatenated_lists};
-ghost use Rattle.bios_screen.specs.Shown.{cells_in, glyphs_in, planar_pixel, packed_pixel};
+ghost use Rattle.bios_screen.specs.Shown.{cells_in, glyph_bytes_in_plane_2, planar_pixel, pixel_of_256_colours};
 ghost use Rattle.bios_screen.specs.Shown.{pixels_in, page_pixels as page_pixels_of, text_screen};
 ghost use Rattle.bios_screen.specs.Shown.{pixel_screen, shows, shown};
 
 use crate::palette::Palette;
 use crate::screen::{Layout, Screen};
 use crate::shown::is_shown;
-use bios_modes::{Bda, ModeRow, is_packed, is_text, mode_row_at_height};
+use bios_modes::{Bda, ModeRow, is_mode_of_256_colours, is_text, mode_row_at_height};
 use std::alloc::Global;
 use vga_bits::Fault;
 use vga_card::Card;
@@ -48,7 +48,7 @@ fn read_cells(alloc: Global, planes: &Planes, n: usize) -> Result<Vec<(u8, u8)>,
 #[tactic(auto, using(crate::proofs::Shows::Reading::no_glyphs, crate::proofs::Shows::Reading::more_glyphs))]
 fn read_glyphs(alloc: Global, planes: &Planes, n: usize) -> Result<Vec<u8>, Fault>
     requires { n ≤ 4096 }
-    ensures ok { IfOk result (λ glyphs. glyphs.items ≡ glyphs_in planes.now.plane2 n) }
+    ensures ok { IfOk result (λ glyphs. glyphs.items ≡ glyph_bytes_in_plane_2 planes.now.plane2 n) }
     ensures err { IsOkUnless result Fault.OutOfMemory }
 {
     let mut glyphs = Vec::new(alloc);
@@ -97,9 +97,9 @@ fn read_planar_pixel(planes: &Planes, z: u32, k: u32) -> u8
 }
 
 /// Pixel n of 256 colours.
-fn read_packed_pixel(planes: &Planes, n: u32) -> u8
+fn read_pixel_of_256_colours(planes: &Planes, n: u32) -> u8
     requires { n < 65536 }
-    ensures { result ≡ packed_pixel planes.now n }
+    ensures { result ≡ pixel_of_256_colours planes.now n }
 {
     planes.byte((n % 4) as usize, (n / 4 * 4) as u16)
 }
@@ -108,18 +108,18 @@ fn read_packed_pixel(planes: &Planes, n: u32) -> u8
 fn pixel(planes: &Planes, is_byte: bool, z: u32, k: u32) -> u8
     requires planar { z + k / 8 < 65536 }
     requires packed { IsTrue is_byte → z + k < 65536 }
-    ensures { result ≡ (if is_byte then packed_pixel planes.now (z + k)
+    ensures { result ≡ (if is_byte then pixel_of_256_colours planes.now (z + k)
         else planar_pixel planes.now z k) }
 {
     if is_byte {
-        read_packed_pixel(planes, z + k)
+        read_pixel_of_256_colours(planes, z + k)
     } else {
         read_planar_pixel(planes, z, k)
     }
 }
 
 /// Appends the first n pixels of a page that begins at byte z.
-#[tactic(auto, using(crate::proofs::Shows::Reading::no_pixels, crate::proofs::Shows::Reading::pixel_pushed))]
+#[tactic(auto, using(crate::proofs::Shows::Reading::refuse_unless_graphics_mode, crate::proofs::Shows::Reading::pixel_pushed))]
 fn append_pixels_of_page(
     planes: &Planes,
     mode: u8,
@@ -133,7 +133,7 @@ fn append_pixels_of_page(
         ++ pixels_in mode planes.now z n) }
     ensures err { IsOkUnless result Fault.OutOfMemory }
 {
-    let is_byte = is_packed(mode);
+    let is_byte = is_mode_of_256_colours(mode);
     for k in 0..n {
         if pixels.push(pixel(planes, is_byte, z, k)).is_err() {
             return Err(Fault::OutOfMemory);

@@ -24,19 +24,19 @@ use Rattle.bios_services.specs.declared.call.Service.TheVariants.{SetCursorType,
 use Rattle.bios_services.specs.declared.call.Service.TheVariants.{WritePixel, ReadPixel, Teletype, ReadMode, Colours, ReadAdapter, WriteString, ReadDisplay}
 use Rattle.bios_services.specs.Bounds.{page_count}
 use Rattle.bios_services.specs.Cells.{cells_per_page}
-use Rattle.bios_services.specs.Cursor.{cursor_cell_number, cursor_position_of, row_of, column_of}
+use Rattle.bios_services.specs.Cursor.{cursor_cell_number, cursor_position_of, row_of_position, column_of_position}
 use Rattle.bios_services.specs.Pixels.{pixels_across, pixels_down}
 use Rattle.bios_services.specs.Plan.{run}
-use Rattle.bios_services.specs.Reasons.{◌or◌, refuse_unless, wrong_block, refuse_or_wrong_block, no_page, no_pixels, outside_cells, outside_page, outside_pixels}
-use Rattle.bios_services.specs.Colours.{colour_refusal_besides_block, has_entries}
+use Rattle.bios_services.specs.Reasons.{◌or◌, refuse_unless, wrong_block, refuse_or_wrong_block, no_page, refuse_unless_graphics_mode, outside_cells, outside_page, outside_pixels}
+use Rattle.bios_services.specs.Colours.{colour_refusal_besides_block, has_dac_entries}
 use Rattle.bios_services.specs.Calls.{call_of}
 use Rattle.bios_services.specs.GlyphLoads.{load_refusal_besides_block, load_refusal, glyphs_block_len}
-use Rattle.bios_services.specs.Refusals.{service_on_page_meant, refusal_in_mode_besides_block, refusal_in_mode, service_block_len}
+use Rattle.bios_services.specs.Refusals.{service_with_page_or_0_if_only_one, refusal_in_mode_besides_block, refusal_in_mode, service_block_len}
 use Rattle.bios_services.specs.Tables.{table_refusal}
 use Rattle.bios_services.specs.Blocks.{FittingBlocksAreAccepted, OtherBlockLengthsAreRefused, block_len}
 use Rattle.bios_services.specs.Service.{CallOutcome, service}
 use Rattle.bios_services.proofs.ReasonLemmas.{neither, holds}
-use Rattle.bios_services.proofs.RefusedLemmas.{no_row, in_mode, refusal_of, Ends, call_ends}
+use Rattle.bios_services.proofs.RefusedLemmas.{no_row, perform_service_in_mode, refusal_of, Ends, call_ends}
 
 -- ---- only a wrong block is refused as one
 
@@ -55,7 +55,7 @@ other_or : (x y : Option Refusal) → IsOther x → IsOther y → IsOther (x or 
 other_or None y hx hy = hy
 other_or (Some why) y hx hy = hx
 
-other_set : (d : BiosData) (why : Option Refusal) → IsOther why → IsOther (in_mode d why)
+other_set : (d : BiosData) (why : Option Refusal) → IsOther why → IsOther (perform_service_in_mode d why)
 other_set d why h = by_test (d.mode == 0)
   where
     by_test : (unset : Bool) → IsOther (if unset then Some NoMode else why)
@@ -70,14 +70,14 @@ page_other : (d : BiosData) (page : ℕ) → IsOther (no_page (page_count d) pag
 page_other d page = other_unless (nat_lt page (page_count d)) BadPage (λ e. cc)
 
 position_other : (d : BiosData) (position : ℕ) → IsOther (outside_page (d.last_row + 1) d.columns position)
-position_other d position = other_unless (nat_lt (row_of position) (d.last_row + 1) && nat_lt (column_of position) d.columns) Outside (λ e. cc)
+position_other d position = other_unless (nat_lt (row_of_position position) (d.last_row + 1) && nat_lt (column_of_position position) d.columns) Outside (λ e. cc)
 
 cell_other : (d : BiosData) (page : ℕ) → IsOther (outside_cells (cells_per_page d) (cursor_cell_number d page))
 cell_other d page = other_unless (nat_lt (cursor_cell_number d page) (cells_per_page d)) Outside (λ e. cc)
 
-dot_other : (d : BiosData) (page x y : ℕ) → IsOther (no_pixels d.mode or no_page (page_count d) page or outside_pixels (pixels_across d) (pixels_down d) x y)
+dot_other : (d : BiosData) (page x y : ℕ) → IsOther (refuse_unless_graphics_mode d.mode or no_page (page_count d) page or outside_pixels (pixels_across d) (pixels_down d) x y)
 dot_other d page x y =
-    other_or (no_pixels d.mode) _ (other_unless (not (is_text d.mode)) WrongKind (λ e. cc))
+    other_or (refuse_unless_graphics_mode d.mode) _ (other_unless (not (is_text d.mode)) WrongKind (λ e. cc))
     (other_or (no_page (page_count d) page) _ (page_other d page)
     (other_unless (nat_lt x (pixels_across d) && nat_lt y (pixels_down d)) Outside (λ e. cc)))
 
@@ -92,7 +92,7 @@ colour_other (SetBlinking blinking) = register_other (nat_le blinking 1)
 colour_other (ReadRegister register) = register_other (nat_lt register 0x10)
 colour_other ReadOverscan = λ e. cc
 colour_other (SetEntry entry red green blue) = register_other (nat_lt entry 0x100)
-colour_other (SetEntries first count) = register_other (has_entries first count)
+colour_other (SetEntries first count) = register_other (has_dac_entries first count)
 colour_other (ReadEntry entry) = register_other (nat_lt entry 0x100)
 colour_other (SetMask mask) = λ e. cc
 colour_other ReadMask = λ e. cc
@@ -120,7 +120,7 @@ service_other ReadDisplay d = λ e. cc
 
 table_other : (asked : TableService) → IsOther (table_refusal asked)
 table_other ReadPalette = λ e. cc
-table_other (ReadEntries first count) = register_other (has_entries first count)
+table_other (ReadEntries first count) = register_other (has_dac_entries first count)
 
 load_other : (load : GlyphLoad) (mode : ℕ) → IsOther (load_refusal_besides_block load mode)
 load_other load mode =
@@ -149,7 +149,7 @@ block_whole why (Some size) len some none =
 -- ---- calls
 
 -- the page does not change the block
-same_block : (d : BiosData) (asked : Service) → service_block_len (service_on_page_meant d asked) ≡ service_block_len asked
+same_block : (d : BiosData) (asked : Service) → service_block_len (service_with_page_or_0_if_only_one d asked) ≡ service_block_len asked
 same_block d (SetCursorType cursor_type) = refl
 same_block d (SetCursor page position) = refl
 same_block d (ReadCursor page) = refl
@@ -180,11 +180,11 @@ call_other (Some (LoadGlyphs load)) d len is =
     other_set d _ (other_or (load_refusal load d.mode len) _ (block_other (load_refusal_besides_block load d.mode) (glyphs_block_len load) len (load_other load d.mode) is)
     (other_row BadHeight (mode_row_at_height d.mode load.height) (λ e. cc)))
 call_other (Some (InMode asked)) d len is =
-    let there = service_on_page_meant d asked in
+    let there = service_with_page_or_0_if_only_one d asked in
     let fits : len ≡ unwrap_or (service_block_len there) 0 = is ∙ ap (λ size. unwrap_or size 0) (sym (same_block d asked)) in
     other_set d _ (block_other (refusal_in_mode_besides_block there d) (service_block_len there) len (service_other there d) fits)
 
-allowed_set : (d : BiosData) (why : Option Refusal) → in_mode d why ≡ None → why ≡ None
+allowed_set : (d : BiosData) (why : Option Refusal) → perform_service_in_mode d why ≡ None → why ≡ None
 allowed_set d why e = by_test (d.mode == 0) e
   where
     by_test : (unset : Bool) → (if unset then Some NoMode else why) ≡ None → why ≡ None
@@ -199,12 +199,12 @@ call_whole (Some (ReadTable asked)) d len some none = absurd (omega (arith, some
 call_whole (Some (LoadGlyphs load)) d len some none =
     block_whole (load_refusal_besides_block load d.mode) (glyphs_block_len load) len some (neither (load_refusal load d.mode len) _ (allowed_set d _ none)).0
 call_whole (Some (InMode asked)) d len some none =
-    let there = service_on_page_meant d asked in
+    let there = service_with_page_or_0_if_only_one d asked in
     let same = ap (λ size. unwrap_or size 0) (same_block d asked) in
     block_whole (refusal_in_mode_besides_block there d) (service_block_len there) len (subst (λ n. 0 < n) (sym same) some) (allowed_set d _ none) ∙ same
 
-pub blocks_fit : {S : Type 0} (m : BusMeaning S) → FittingBlocksAreAccepted m
-blocks_fit {S} m fonts d r block s is e =
+pub calls_accept_only_blocks_that_fit : {S : Type 0} (m : BusMeaning S) → FittingBlocksAreAccepted m
+calls_accept_only_blocks_that_fit {S} m fonts d r block s is e =
     by_reason (refusal_of (call_of r) d (length block)) (call_other (call_of r) d (length block) is) (call_ends m (call_of r) fonts d r block s)
   where
     same : (why : Refusal) → (let x : Result Reply Refusal = Err why in x) ≡ Err BadBlock → Some why ≡ Some BadBlock

@@ -3,7 +3,7 @@ use Rattle.std.proofs.Common.{◌≡◌, ◌≢◌, ℕ, ◌*◌, ◌<◌, ◌�
 use Rattle.std.proofs.Common.{None, inl, inr, ◌==◌}
 use Rattle.bios_modes.specs.declared.modes.ModeRow.{ModeRow}
 use Rattle.bios_modes.specs.declared.heights.TextRow.{TextRow}
-use Rattle.bios_modes.specs.Heights.{fifty_rows, twenty_eight_rows, twenty_five_rows, colour_text_row, monochrome_text_row, with_text_row, with_height_row, value_of_row, row_at_height}
+use Rattle.bios_modes.specs.Heights.{fifty_rows_underlined_at, twenty_eight_rows_underlined_at, twenty_five_rows_underlined_at, colour_text_row, monochrome_text_row, with_text_row, with_height_row, value_of_row, row_at_height}
 use Rattle.bios_modes.specs.Heights.{mode_row_at_height}
 use Rattle.bios_modes.specs.Modes.{mode_row, colour_text, monochrome_text}
 use Rattle.bios_modes.specs.Bda.{BiosData}
@@ -15,7 +15,7 @@ use Rattle.std.proofs.lemmas.Bool.Decides.{nat_tests}
 use Rattle.vga_bits.specs.declared.refusal.Refusal.TheVariants.{WrongKind, CountPast}
 use Rattle.bios_services.specs.declared.glyph_load.GlyphLoad.{GlyphLoad}
 use Rattle.bios_modes.specs.Kinds.{is_text, is_text_kind, kind_of_row}
-use Rattle.bios_services.specs.Cells.{page_base_of_row, page_base}
+use Rattle.bios_services.specs.Cells.{page_0_address_of_mode_row, page_0_address_of_mode}
 use Rattle.bios_services.specs.Reasons.{refuse_unless}
 use Rattle.bios_services.specs.GlyphLoads.{AreGlyphsThere, glyphs_block_len, glyphs_len, load_refusal_besides_block, load_refusal}
 use Rattle.bios_services.specs.Bounds.{IsModeSet, StaysInMode, pages_of_row, ports_bound}
@@ -31,20 +31,20 @@ abbrev sized : Option ModeRow → ℕ → Option ModeRow
 sized x height = value_of_row x (λ row. row_at_height row height)
 
 -- the pages of each mode begin at one of three addresses
-pub base_small : (mode : ℕ) → page_base mode ≤ 0xB8000
-base_small = each_mode (λ _ x. page_base_of_row x ≤ 0xB8000) (omega arith) (omega arith) (omega arith) (omega arith) (omega arith) (omega arith) (λ _. omega arith)
+pub base_small : (mode : ℕ) → page_0_address_of_mode mode ≤ 0xB8000
+base_small = each_mode (λ _ x. page_0_address_of_mode_row x ≤ 0xB8000) (omega arith) (omega arith) (omega arith) (omega arith) (omega arith) (omega arith) (λ _. omega arith)
 
 -- what holds of each row of mode 3, and of none, holds of that of any height
-on_colour : (P : Option ModeRow → Type 0) (height : ℕ) → P (Some (with_text_row colour_text (fifty_rows 0x1F))) →
-    P (Some (with_text_row colour_text (twenty_eight_rows 0x1F))) → P (Some (with_text_row colour_text (twenty_five_rows 0x1F))) → P None →
+on_colour : (P : Option ModeRow → Type 0) (height : ℕ) → P (Some (with_text_row colour_text (fifty_rows_underlined_at 0x1F))) →
+    P (Some (with_text_row colour_text (twenty_eight_rows_underlined_at 0x1F))) → P (Some (with_text_row colour_text (twenty_five_rows_underlined_at 0x1F))) → P None →
     P (with_height_row colour_text (colour_text_row height))
 on_colour P height p8 p14 p16 none =
     let Q : Option TextRow → Type 0 = λ text. P (with_height_row colour_text text) in
     on_either Q (height == 8) p8 (on_either Q (height == 14) p14 (on_either Q (height == 16) p16 none))
 
 -- and so it does of mode 7
-on_monochrome : (P : Option ModeRow → Type 0) (height : ℕ) → P (Some (with_text_row monochrome_text (fifty_rows 0x07))) →
-    P (Some (with_text_row monochrome_text (twenty_eight_rows 0x0D))) → P (Some (with_text_row monochrome_text (twenty_five_rows 0x0F))) → P None →
+on_monochrome : (P : Option ModeRow → Type 0) (height : ℕ) → P (Some (with_text_row monochrome_text (fifty_rows_underlined_at 0x07))) →
+    P (Some (with_text_row monochrome_text (twenty_eight_rows_underlined_at 0x0D))) → P (Some (with_text_row monochrome_text (twenty_five_rows_underlined_at 0x0F))) → P None →
     P (with_height_row monochrome_text (monochrome_text_row height))
 on_monochrome P height p8 p14 p16 none =
     let Q : Option TextRow → Type 0 = λ text. P (with_height_row monochrome_text text) in

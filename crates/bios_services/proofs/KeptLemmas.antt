@@ -28,21 +28,21 @@ use Rattle.bios_services.specs.Plan.{Plan, Done, Write, Read, ◌>>=◌, ◌>>�
 use Rattle.bios_services.specs.Registers.{high, low}
 use Rattle.bios_services.specs.Bounds.{IsModeSet, page_count}
 use Rattle.bios_services.specs.Data.{AreValidData}
-use Rattle.bios_services.specs.Cursor.{row_of, column_of, cell_number, cursor_position_of, with_position, with_page, start_address, write_crtc_word_plan, show_cursor_plan, move_cursor_plan}
+use Rattle.bios_services.specs.Cursor.{row_of_position, column_of_position, cell_number, cursor_position_of, with_position, with_page, start_address, write_crtc_word_plan, show_cursor_plan, move_cursor_plan}
 use Rattle.bios_services.specs.Cursor.{cursor_type_plan, show_page_plan}
 use Rattle.bios_services.specs.declared.direction.Direction.TheVariants.{Up, Down}
 use Rattle.bios_services.specs.Drawing.{character_plan}
 use Rattle.bios_services.specs.CellRuns.{cell_run_plan}
 use Rattle.bios_services.specs.Scroll.{page_up_plan, scroll_plan}
 use Rattle.bios_services.specs.Pixels.{write_pixel_plan}
-use Rattle.bios_services.specs.Teletype.{line_start, pixel_colouring, line_feed_fill, line_feed_plan, next_position_plan, write_and_advance_plan, type_plan, teletype_plan}
-use Rattle.bios_services.specs.Strings.{string_len, character_at, colouring_of_character, type_string_plan, string_plan}
+use Rattle.bios_services.specs.Teletype.{position_at_start_of_row, pixel_colouring, line_feed_fill, line_feed_plan, next_position_plan, write_and_advance_plan, type_character_plan, teletype_plan}
+use Rattle.bios_services.specs.Strings.{string_block_len, character_at, colouring_of_character, type_string_plan, string_plan}
 use Rattle.bios_services.specs.ModeSet.{mode_set_plan}
 use Rattle.bios_services.specs.Reasons.{no_page, outside_page, wrong_block}
 use Rattle.bios_services.specs.Colours.{colours_plan}
 use Rattle.bios_services.specs.Tables.{table_refusal, table_plan}
 use Rattle.bios_services.specs.GlyphLoads.{glyph_load_of, load_refusal, load_plan}
-use Rattle.bios_services.specs.Refusals.{service_on_page_meant, refusal_in_mode_besides_block, refusal_in_mode}
+use Rattle.bios_services.specs.Refusals.{service_with_page_or_0_if_only_one, refusal_in_mode_besides_block, refusal_in_mode}
 use Rattle.bios_services.specs.declared.colours.ColourService.TheVariants.{ReadMask}
 use Rattle.bios_services.specs.Calls.{colours_call, colour_call_of, service_of, call_in_mode, call_of, glyph_load_or}
 use Rattle.bios_services.specs.Service.{ServiceOutcome, CallOutcome, answer_of_registers, answer_with, call_plan, service_in_mode_plan, load_if_height_exists, load_unless_refused_plan, load_in_mode_plan, plan_of_service}
@@ -93,33 +93,33 @@ IsNear position = position < 12800
 fed_near : (d : BiosData) (page position : ℕ) → d.last_row < 50 → IsNear position → Always IsNear (line_feed_plan d page position)
 unfolding line_feed_plan
 fed_near d page position few near =
-    on_if IsNear (nat_lt (row_of position) d.last_row) (Done (position + 256)) _
-    (λ e. let l = lt_is (row_of position) d.last_row e in omega arith)
+    on_if IsNear (nat_lt (row_of_position position) d.last_row) (Done (position + 256)) _
+    (λ e. let l = lt_is (row_of_position position) d.last_row e in omega arith)
     (λ e. then_always IsNear (line_feed_fill d page position) (λ colour. page_up_plan d page colour >> Done position)
     (λ colour. then_always IsNear (page_up_plan d page colour) (λ _. Done position) (λ _. near)))
 
-start_near : (position : ℕ) → IsNear position → IsNear (line_start position)
+start_near : (position : ℕ) → IsNear position → IsNear (position_at_start_of_row position)
 start_near position near = omega arith
 
 advanced_near : (d : BiosData) (page position : ℕ) → d.last_row < 50 → d.columns ≤ 80 → IsNear position → Always IsNear (next_position_plan d page position)
 unfolding next_position_plan
 advanced_near d page position few narrow near =
-    on_if IsNear (nat_lt (column_of position + 1) d.columns) (Done (position + 1)) _
-    (λ e. let l = lt_is (column_of position + 1) d.columns e in omega arith)
-    (λ e. then_always_such IsNear IsNear (line_feed_plan d page position) (λ below. Done (line_start below)) (fed_near d page position few near) start_near)
+    on_if IsNear (nat_lt (column_of_position position + 1) d.columns) (Done (position + 1)) _
+    (λ e. let l = lt_is (column_of_position position + 1) d.columns e in omega arith)
+    (λ e. then_always_such IsNear IsNear (line_feed_plan d page position) (λ below. Done (position_at_start_of_row below)) (fed_near d page position few near) start_near)
 
 back_near : (position : ℕ) (b : Bool) → IsNear position → IsNear (if b then position else position - 1)
 back_near position true near = near
 back_near position false near = omega arith
 
 typed_near : (fonts : FontSet) (d : BiosData) (page position character : ℕ) (colouring : Colouring) → d.last_row < 50 → d.columns ≤ 80 → IsNear position →
-    Always IsNear (type_plan fonts d page position character colouring)
-unfolding type_plan write_and_advance_plan
+    Always IsNear (type_character_plan fonts d page position character colouring)
+unfolding type_character_plan write_and_advance_plan
 typed_near fonts d page position character colouring few narrow near =
     on_if IsNear (character == 0x07) (Done position) _ (λ _. near)
-    (λ _. on_if IsNear (character == 0x08) (Done (if column_of position == 0 then position else position - 1)) _ (λ _. back_near position (column_of position == 0) near)
+    (λ _. on_if IsNear (character == 0x08) (Done (if column_of_position position == 0 then position else position - 1)) _ (λ _. back_near position (column_of_position position == 0) near)
     (λ _. on_if IsNear (character == 0x0A) (line_feed_plan d page position) _ (λ _. fed_near d page position few near)
-    (λ _. on_if IsNear (character == 0x0D) (Done (line_start position)) _ (λ _. start_near position near)
+    (λ _. on_if IsNear (character == 0x0D) (Done (position_at_start_of_row position)) _ (λ _. start_near position near)
     (λ _. then_always IsNear (character_plan fonts d page (cell_number d position) character colouring) (λ _. next_position_plan d page position) (λ _.
     advanced_near d page position few narrow near)))))
 
@@ -211,15 +211,15 @@ module _ (d : BiosData) (a : AreValidData d) (is : IsModeSet d) (unset : d.mode 
   unfolding teletype_plan
   typed fonts character colour near =
       on_if AreValidData (character == 0x07) (Done d) _ (λ _. a)
-      (λ _. then_always_such IsNear AreValidData (type_plan fonts d d.page (cursor_position_of d d.page) character (pixel_colouring colour)) (λ position. move_cursor_plan d d.page position)
+      (λ _. then_always_such IsNear AreValidData (type_character_plan fonts d d.page (cursor_position_of d d.page) character (pixel_colouring colour)) (λ position. move_cursor_plan d d.page position)
       (typed_near fonts d d.page (cursor_position_of d d.page) character (pixel_colouring colour) is.rows is.columns near)
       (λ position l. moved d.page position (omega arith)))
 
   characters_near : (fonts : FontSet) (page : ℕ) (s : StringCall) (block : List ℕ) (n i position : ℕ) → IsNear position
-      → Always IsNear (fold (λ i position. type_plan fonts d page position (character_at s block i) (colouring_of_character s block i)) n i position)
+      → Always IsNear (fold (λ i position. type_character_plan fonts d page position (character_at s block i) (colouring_of_character s block i)) n i position)
   characters_near fonts page s block zero i position near = near
   characters_near fonts page s block (suc n) i position near =
-      let turn : ℕ → ℕ → Plan ℕ = λ i position. type_plan fonts d page position (character_at s block i) (colouring_of_character s block i) in
+      let turn : ℕ → ℕ → Plan ℕ = λ i position. type_character_plan fonts d page position (character_at s block i) (colouring_of_character s block i) in
       then_always_such IsNear IsNear (turn i position) (λ next. fold turn n (i + 1) next)
       (typed_near fonts d page position (character_at s block i) (colouring_of_character s block i) is.rows is.columns near)
       (λ next l. characters_near fonts page s block n (i + 1) next l)
@@ -239,15 +239,15 @@ page_allowed pages page h = lt_is page pages (holds (nat_lt page pages) BadPage 
 -- a position of a page is in the first fifty rows
 inside_near : (d : BiosData) (position : ℕ) → d.last_row < 50 → outside_page (d.last_row + 1) d.columns position ≡ None → IsNear position
 inside_near d position few h =
-    let inside = holds (nat_lt (row_of position) (d.last_row + 1) && nat_lt (column_of position) d.columns) Outside h in
-    let l : row_of position < d.last_row + 1 = grind (arith, nat_tests) in
+    let inside = holds (nat_lt (row_of_position position) (d.last_row + 1) && nat_lt (column_of_position position) d.columns) Outside h in
+    let l : row_of_position position < d.last_row + 1 = grind (arith, nat_tests) in
     omega arith
 
 -- a string that is not refused begins at one
 string_near : (d : BiosData) (s : StringCall) (len : ℕ) → d.last_row < 50 → refusal_in_mode (WriteString s) d len ≡ None → IsNear s.position
 unfolding refusal_in_mode
 string_near d s len few h =
-    let reason = neither (refusal_in_mode_besides_block (WriteString s) d) (wrong_block (string_len s) len) h in
+    let reason = neither (refusal_in_mode_besides_block (WriteString s) d) (wrong_block (string_block_len s) len) h in
     inside_near d s.position few (neither (no_page (page_count d) s.page) (outside_page (d.last_row + 1) d.columns s.position) reason.0).1
 
 -- the position that a service names is a word
@@ -255,7 +255,7 @@ abbrev FitsWords : Service → Type 0
 FitsWords (SetCursor page position) = position < 65536
 FitsWords service = Unit {0}
 
-fits_there : (d : BiosData) (asked_for : Service) → FitsWords asked_for → FitsWords (service_on_page_meant d asked_for)
+fits_there : (d : BiosData) (asked_for : Service) → FitsWords asked_for → FitsWords (service_with_page_or_0_if_only_one d asked_for)
 fits_there d (SetCursor page position) fits = fits
 fits_there d (SetCursorType cursor_type) fits = tt
 fits_there d (ReadCursor page) fits = tt
@@ -328,7 +328,7 @@ in_mode_keeps asked_for fonts d r block fits a =
     by_refusal (mode_is_set d.mode e) (refusal_in_mode there d (length block)) refl)
   where
     there : Service
-    there = service_on_page_meant d asked_for
+    there = service_with_page_or_0_if_only_one d asked_for
 
     by_refusal : d.mode ≢ 0 → (x : Option Refusal) → refusal_in_mode there d (length block) ≡ x → Always AnswerKept (unless_refused_plan x there fonts d r block)
     by_refusal unset (Some why) e = a

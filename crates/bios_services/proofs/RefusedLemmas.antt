@@ -23,7 +23,7 @@ use Rattle.bios_services.specs.Calls.{call_of}
 use Rattle.bios_services.specs.ModeSet.{mode_set_plan}
 use Rattle.bios_services.specs.Reasons.{◌or◌}
 use Rattle.bios_services.specs.GlyphLoads.{load_refusal, load_plan}
-use Rattle.bios_services.specs.Refusals.{service_on_page_meant, refusal_in_mode, refusal_of_unknown_call}
+use Rattle.bios_services.specs.Refusals.{service_with_page_or_0_if_only_one, refusal_in_mode, refusal_of_unknown_call}
 use Rattle.bios_services.specs.Tables.{table_plan, table_refusal}
 use Rattle.bios_services.specs.Service.{RefusedCallsDoNothing, CallOutcome, answer_with, call_plan, service_in_mode_plan, load_if_height_exists, load_unless_refused_plan, load_in_mode_plan, plan_of_service}
 use Rattle.bios_services.specs.Service.{refusal_plan, service, set_mode_plan, table_in_mode_plan, table_unless_refused_plan, unless_refused_plan}
@@ -35,16 +35,16 @@ no_row why None = Some why
 no_row why (Some row) = None
 
 -- why a call that needs a mode is refused, by its other reason
-abbrev pub in_mode : BiosData → Option Refusal → Option Refusal
-in_mode d why = if d.mode == 0 then Some NoMode else why
+abbrev pub perform_service_in_mode : BiosData → Option Refusal → Option Refusal
+perform_service_in_mode d why = if d.mode == 0 then Some NoMode else why
 
 -- why a call is refused with a block of this length
 abbrev pub refusal_of : Option Call → BiosData → ℕ → Option Refusal
 refusal_of None d len = Some (refusal_of_unknown_call d)
 refusal_of (Some (SetMode mode keeps)) d len = no_row BadMode (mode_row mode)
-refusal_of (Some (ReadTable asked)) d len = in_mode d (table_refusal asked)
-refusal_of (Some (LoadGlyphs load)) d len = in_mode d (load_refusal load d.mode len or no_row BadHeight (mode_row_at_height d.mode load.height))
-refusal_of (Some (InMode asked)) d len = in_mode d (refusal_in_mode (service_on_page_meant d asked) d len)
+refusal_of (Some (ReadTable asked)) d len = perform_service_in_mode d (table_refusal asked)
+refusal_of (Some (LoadGlyphs load)) d len = perform_service_in_mode d (load_refusal load d.mode len or no_row BadHeight (mode_row_at_height d.mode load.height))
+refusal_of (Some (InMode asked)) d len = perform_service_in_mode d (refusal_in_mode (service_with_page_or_0_if_only_one d asked) d len)
 
 -- how a call ends: with a reason, it is refused and nothing has changed; without one, it answers
 abbrev pub Ends : {S : Type 0} → Option Refusal → S → BiosData → S × CallOutcome → Type 0
@@ -109,7 +109,7 @@ call_ends m (Some (LoadGlyphs load)) fonts d r block s =
     let why = load_refusal load d.mode (length block) in
     if_set m (d.mode == 0) (why or no_row BadHeight (mode_row_at_height d.mode load.height)) (load_unless_refused_plan why load fonts d r block) d (load_ends m why load fonts d r block) s
 call_ends m (Some (InMode asked)) fonts d r block s =
-    let there = service_on_page_meant d asked in
+    let there = service_with_page_or_0_if_only_one d asked in
     let why = refusal_in_mode there d (length block) in
     if_set m (d.mode == 0) why (unless_refused_plan why there fonts d r block) d (unless_ends m why there fonts d r block) s
 

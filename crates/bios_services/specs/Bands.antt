@@ -14,7 +14,7 @@ use Rattle.bios_services.specs.Cycles.{write_sequencer, write_graphics}
 use Rattle.bios_modes.specs.Kinds.{kind_of}
 use Rattle.bios_services.specs.Kinds.{column_bytes, row_lines}
 use Rattle.bios_services.specs.Cells.{page_address}
-use Rattle.bios_services.specs.VideoRegisters.{map_mask_index, all_planes, graphics_mode_index}
+use Rattle.bios_services.specs.VideoRegisters.{map_mask_index, all_planes_map_mask, graphics_mode_index}
 use Rattle.bios_services.specs.VideoRegisters.{latch_copy_mode}
 use Rattle.bios_services.specs.VideoRegisters.{write_and_read_mode_0, all_bits}
 
@@ -88,10 +88,10 @@ unfoldable pub fill_rows : ColumnBand → AlternatingBytes → ℕ → ℕ → P
 fill_rows band filling top count = each (fill_row band filling) count top
 
 -- the graphics controller's read and write mode is set, which services do in 16 colours only
-abbrev pub set_read_write_mode_plan : Kind → ℕ → Plan (Unit {0})
-set_read_write_mode_plan Text mode = Done tt
-set_read_write_mode_plan Planar mode = write_graphics graphics_mode_index mode
-set_read_write_mode_plan Packed mode = Done tt
+abbrev pub set_read_write_mode_if_16_colours_plan : Kind → ℕ → Plan (Unit {0})
+set_read_write_mode_if_16_colours_plan Text mode = Done tt
+set_read_write_mode_if_16_colours_plan Planar mode = write_graphics graphics_mode_index mode
+set_read_write_mode_if_16_colours_plan Packed mode = Done tt
 
 -- count rows from row `top` on become blank in an attribute, or pixels of a colour; in 16 colours
 -- all planes become 0, and then the planes of the colour's bits FF
@@ -101,7 +101,7 @@ fill_plan Planar band colour top count = do
   fill_rows band (one_byte_filling 0x00) top count
   write_sequencer map_mask_index (colour % 16)
   fill_rows band (one_byte_filling all_bits) top count
-  write_sequencer map_mask_index all_planes
+  write_sequencer map_mask_index all_planes_map_mask
 fill_plan Packed band colour top count = fill_rows band (one_byte_filling colour) top count
 
 -- the first of the rows that are to be filled after count rows have moved: below them if the window
@@ -114,7 +114,7 @@ first_row_to_fill Down top count = top
 -- planes are copied through the latches
 unfoldable pub scroll_rows : ColumnBand → Direction → ℕ → ℕ → ℕ → ℕ → Plan (Unit {0})
 scroll_rows band direction top height n colour = do
-  set_read_write_mode_plan band.kind latch_copy_mode
+  set_read_write_mode_if_16_colours_plan band.kind latch_copy_mode
   move_rows band direction n top (height - n)
-  set_read_write_mode_plan band.kind write_and_read_mode_0
+  set_read_write_mode_if_16_colours_plan band.kind write_and_read_mode_0
   fill_plan band.kind band colour (first_row_to_fill direction top (height - n)) n

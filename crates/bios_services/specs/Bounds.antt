@@ -5,16 +5,16 @@ use Rattle.bios_modes.specs.Heights.{mode_row_at_height}
 use Rattle.bios_modes.specs.Bda.{BiosData}
 
 -- the number of the cell at row 255, column 255, in rows of 80 cells: no position names a later one
-abbrev pub furthest_position : ℕ
-furthest_position = 80 * 255 + 255
+abbrev pub furthest_cell_number : ℕ
+furthest_cell_number = 80 * 255 + 255
 
 -- more cells than calls reach: a word's count of cells from any position on
-abbrev pub cells_bound : ℕ
-cells_bound = 80 * 255 + 255 + 65536
+abbrev pub bound_of_cells_reached_by_calls : ℕ
+bound_of_cells_reached_by_calls = 80 * 255 + 255 + 65536
 
 -- more rows than windows reach, since their corners are bytes
-abbrev pub rows_bound : ℕ
-rows_bound = 256
+abbrev pub bound_of_rows_in_windows : ℕ
+bound_of_rows_in_windows = 256
 
 -- a number above the adapter's last port
 abbrev pub ports_bound : ℕ

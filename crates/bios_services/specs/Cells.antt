@@ -10,17 +10,17 @@ use Rattle.bios_services.specs.Plan.{Plan, Done, ◌>>=◌, ◌>>◌, put, get}
 
 -- the address where the pages of a mode begin, by its row of the mode table; without a row, the
 -- address of graphics
-abbrev pub page_base_of_row : Option ModeRow → ℕ
-page_base_of_row None = 0xA0000
-page_base_of_row (Some row) = row.base
+abbrev pub page_0_address_of_mode_row : Option ModeRow → ℕ
+page_0_address_of_mode_row None = 0xA0000
+page_0_address_of_mode_row (Some row) = row.base
 
 -- the address where the pages of a mode begin
-abbrev pub page_base : ℕ → ℕ
-page_base mode = page_base_of_row (mode_row mode)
+abbrev pub page_0_address_of_mode : ℕ → ℕ
+page_0_address_of_mode mode = page_0_address_of_mode_row (mode_row mode)
 
 -- the address where a page begins
 abbrev pub page_address : BiosData → ℕ → ℕ
-page_address d page = page_base d.mode + d.size * page
+page_address d page = page_0_address_of_mode d.mode + d.size * page
 
 -- the address of cell q of a page of text; its attribute is at the next
 abbrev pub cell_address : BiosData → ℕ → ℕ → ℕ

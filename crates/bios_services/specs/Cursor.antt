@@ -11,16 +11,16 @@ use Rattle.bios_services.specs.VideoRegisters.{start_address_high_index}
 use Rattle.bios_services.specs.VideoRegisters.{cursor_address_high_index}
 
 -- the row of a position, its high byte
-abbrev pub row_of : ℕ → ℕ
-row_of position = position / 256
+abbrev pub row_of_position : ℕ → ℕ
+row_of_position position = position / 256
 
 -- the column of a position, its low byte
-abbrev pub column_of : ℕ → ℕ
-column_of position = position % 256
+abbrev pub column_of_position : ℕ → ℕ
+column_of_position position = position % 256
 
 -- the number of the cell at a position, counted along the rows of its page
 abbrev pub cell_number : BiosData → ℕ → ℕ
-cell_number d position = d.columns * row_of position + column_of position
+cell_number d position = d.columns * row_of_position position + column_of_position position
 
 -- the cursor's position on a page
 abbrev pub cursor_position_of : BiosData → ℕ → ℕ

@@ -15,7 +15,7 @@ use Rattle.bios_modes.specs.Kinds.{kind_of}
 use Rattle.bios_services.specs.Cells.{cell_address, write_cell_plan}
 use Rattle.bios_services.specs.Bands.{band_of, byte_address_in_band, one_byte_filling, fill_row}
 use Rattle.bios_services.specs.Glyphs.{glyph_line}
-use Rattle.bios_services.specs.VideoRegisters.{map_mask_index, all_planes, data_rotate_index}
+use Rattle.bios_services.specs.VideoRegisters.{map_mask_index, all_planes_map_mask, data_rotate_index}
 use Rattle.bios_services.specs.VideoRegisters.{xor_function, replace_function}
 
 -- the column of cell q of a page of pixels, as a band
@@ -49,7 +49,7 @@ draw_over_zeros_plan cell row fonts character colour = do
   fill_row cell (one_byte_filling 0x00) row
   write_sequencer map_mask_index (colour % 16)
   put_glyph cell row fonts character
-  write_sequencer map_mask_index all_planes
+  write_sequencer map_mask_index all_planes_map_mask
 
 -- a character in 16 colours by XOR: where the glyph has dots, the planes of the colour's bits are
 -- inverted
@@ -58,12 +58,12 @@ draw_by_xor_plan cell row fonts character colour = do
   write_graphics data_rotate_index xor_function
   write_sequencer map_mask_index (colour % 16)
   put_glyph_over cell row fonts character
-  write_sequencer map_mask_index all_planes
+  write_sequencer map_mask_index all_planes_map_mask
   write_graphics data_rotate_index replace_function
 
 -- a character in 16 colours; bit 7 of the colour asks for XOR
-unfoldable pub draw_planar_plan : ColumnBand → ℕ → FontSet → ℕ → ℕ → Plan (Unit {0})
-draw_planar_plan cell row fonts character colour =
+unfoldable pub draw_character_in_16_colours_plan : ColumnBand → ℕ → FontSet → ℕ → ℕ → Plan (Unit {0})
+draw_character_in_16_colours_plan cell row fonts character colour =
     if is_set colour 7 then draw_by_xor_plan cell row fonts character colour
     else draw_over_zeros_plan cell row fonts character colour
 
@@ -72,14 +72,14 @@ abbrev pub glyph_dot_colour : ℕ → ℕ → ℕ → ℕ
 glyph_dot_colour dots colour i = if is_set dots (7 - i) then colour else 0
 
 -- a line of a glyph in 256 colours, dot by dot
-unfoldable pub put_dots : ColumnBand → ℕ → ℕ → ℕ → ℕ → Plan (Unit {0})
-put_dots cell row line dots colour = each (λ i. put (byte_address_in_band cell row line i)
+unfoldable pub put_glyph_line_in_256_colours : ColumnBand → ℕ → ℕ → ℕ → ℕ → Plan (Unit {0})
+put_glyph_line_in_256_colours cell row line dots colour = each (λ i. put (byte_address_in_band cell row line i)
     (glyph_dot_colour dots colour i)) 8 0
 
 -- a character in 256 colours, line by line
-unfoldable pub draw_packed_plan : ColumnBand → ℕ → FontSet → ℕ → ℕ → Plan (Unit {0})
-draw_packed_plan cell row fonts character colour = each (λ r.
-    put_dots cell row r (glyph_line fonts cell.lines character r) colour) cell.lines 0
+unfoldable pub draw_character_in_256_colours_plan : ColumnBand → ℕ → FontSet → ℕ → ℕ → Plan (Unit {0})
+draw_character_in_256_colours_plan cell row fonts character colour = each (λ r.
+    put_glyph_line_in_256_colours cell row r (glyph_line fonts cell.lines character r) colour) cell.lines 0
 
 -- a character goes to cell q of a page, by how a mode uses the memory
 unfoldable pub character_plan_of_kind : Kind → FontSet → BiosData → ℕ → ℕ → ℕ → Colouring
@@ -87,9 +87,9 @@ unfoldable pub character_plan_of_kind : Kind → FontSet → BiosData → ℕ �
 character_plan_of_kind Text fonts d page q character colouring =
     write_cell_plan (cell_address d page q) character colouring
 character_plan_of_kind Planar fonts d page q character colouring =
-    draw_planar_plan (cell_band d page q) (cell_row d q) fonts character colouring.colour
+    draw_character_in_16_colours_plan (cell_band d page q) (cell_row d q) fonts character colouring.colour
 character_plan_of_kind Packed fonts d page q character colouring =
-    draw_packed_plan (cell_band d page q) (cell_row d q) fonts character colouring.colour
+    draw_character_in_256_colours_plan (cell_band d page q) (cell_row d q) fonts character colouring.colour
 
 -- a character goes to cell q of a page
 abbrev pub character_plan : FontSet → BiosData → ℕ → ℕ → ℕ → Colouring → Plan (Unit {0})

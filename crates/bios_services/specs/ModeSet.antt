@@ -17,12 +17,12 @@ use Rattle.bios_services.specs.VideoRegisters.{graphics_port}
 use Rattle.bios_services.specs.VideoRegisters.{dac_mask_port, dac_write_index_port}
 use Rattle.bios_services.specs.VideoRegisters.{dac_data_port, all_bits}
 use Rattle.bios_services.specs.VideoRegisters.{vertical_retrace_end_index, map_mask_index}
-use Rattle.bios_services.specs.VideoRegisters.{glyph_plane}
-use Rattle.bios_services.specs.VideoRegisters.{text_planes, memory_mode_index, sequential_memory}
-use Rattle.bios_services.specs.VideoRegisters.{odd_and_even_addresses, graphics_mode_index}
+use Rattle.bios_services.specs.VideoRegisters.{glyph_plane_map_mask}
+use Rattle.bios_services.specs.VideoRegisters.{text_planes_map_mask, memory_mode_index, sequential_memory_mode}
+use Rattle.bios_services.specs.VideoRegisters.{odd_and_even_memory_mode, graphics_mode_index}
 use Rattle.bios_services.specs.VideoRegisters.{write_and_read_mode_0}
-use Rattle.bios_services.specs.VideoRegisters.{odd_and_even_access, miscellaneous_index}
-use Rattle.bios_services.specs.VideoRegisters.{window_at_a0000}
+use Rattle.bios_services.specs.VideoRegisters.{odd_and_even_graphics_mode, miscellaneous_index}
+use Rattle.bios_services.specs.VideoRegisters.{miscellaneous_value_for_a0000_window}
 
 -- all registers are written; before those of the CRT controller, their protection ends
 unfoldable pub write_registers_plan : ModeRow → Plan (Unit {0})
@@ -64,23 +64,23 @@ write_glyphs_plan line height n first = each (write_glyph_plan line height) n fi
 -- value of graphics register 6 selects
 unfoldable pub write_font_plan : (ℕ → ℕ → ℕ) → ℕ → ℕ → ℕ → ℕ → Plan (Unit {0})
 write_font_plan line height n first window = do
-  write_sequencer map_mask_index glyph_plane
-  write_sequencer memory_mode_index sequential_memory
+  write_sequencer map_mask_index glyph_plane_map_mask
+  write_sequencer memory_mode_index sequential_memory_mode
   write_graphics graphics_mode_index write_and_read_mode_0
-  write_graphics miscellaneous_index window_at_a0000
+  write_graphics miscellaneous_index miscellaneous_value_for_a0000_window
   write_glyphs_plan line height n first
-  write_sequencer map_mask_index text_planes
-  write_sequencer memory_mode_index odd_and_even_addresses
-  write_graphics graphics_mode_index odd_and_even_access
+  write_sequencer map_mask_index text_planes_map_mask
+  write_sequencer memory_mode_index odd_and_even_memory_mode
+  write_graphics graphics_mode_index odd_and_even_graphics_mode
   write_graphics miscellaneous_index window
 
 -- byte w of blank cells: the character 20 and the attribute 07 by turns
-abbrev pub blank_byte : ℕ → ℕ
-blank_byte w = if w % 2 == 0 then 0x20 else 0x07
+abbrev pub byte_of_blank_cells : ℕ → ℕ
+byte_of_blank_cells w = if w % 2 == 0 then 0x20 else 0x07
 
 -- n bytes of blank cells are written from an address on
 unfoldable pub write_blanks_plan : ℕ → ℕ → Plan (Unit {0})
-write_blanks_plan base n = each (λ w. put (base + w) (blank_byte w)) n 0
+write_blanks_plan base n = each (λ w. put (base + w) (byte_of_blank_cells w)) n 0
 
 -- n bytes of 0 are written from A0000 on
 unfoldable pub clear_graphics_memory_plan : ℕ → Plan (Unit {0})

@@ -5,16 +5,16 @@ use Rattle.bios_modes.specs.Fonts.{FontSet}
 use Rattle.bios_services.specs.Bounds.{IsModeSet, page_count}
 
 -- the fonts, the data of the mode, and the number of the page
-pub record PageState : Type 0 where
+pub record PageWithFontsAndData : Type 0 where
   pub fonts : FontSet
   pub bda : BiosData
   pub number : ℕ
 
 -- a page: the fonts of its characters, the data of its mode, and its number
-abbrev pub page_of : FontSet → BiosData → ℕ → PageState
+abbrev pub page_of : FontSet → BiosData → ℕ → PageWithFontsAndData
 page_of fonts bda number = record { fonts = fonts; bda = bda; number = number }
 
 -- a mode is set that has a page of this number
-pub record IsPage (page : PageState) : Type 0 where
+pub record IsPage (page : PageWithFontsAndData) : Type 0 where
   pub set : IsModeSet page.bda
   pub number : page.number < page_count page.bda

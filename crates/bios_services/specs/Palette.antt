@@ -6,7 +6,7 @@ use Rattle.bios_services.specs.Cycles.{write_attribute_register, write_attribute
 use Rattle.bios_services.specs.Cycles.{reset_attribute_flip_flop, show_palette}
 use Rattle.bios_services.specs.VideoRegisters.{attribute_port, attribute_read_port}
 use Rattle.bios_services.specs.VideoRegisters.{palette_shown_bit}
-use Rattle.bios_services.specs.VideoRegisters.{mode_control, all_but_blink_bit, overscan_index}
+use Rattle.bios_services.specs.VideoRegisters.{attribute_mode_control_index, all_but_blink_bit, overscan_index}
 
 -- 00, and 01 with register 11: a register of the attribute controller is written, and the palette
 -- shown again
@@ -28,14 +28,14 @@ set_palette_plan port block = do
 unfoldable pub set_blinking_plan : ℕ → ℕ → Plan (Unit {0})
 set_blinking_plan port blinking = do
   reset_attribute_flip_flop port
-  out attribute_port (palette_shown_bit + mode_control)
+  out attribute_port (palette_shown_bit + attribute_mode_control_index)
   control ← inp attribute_read_port
   out attribute_port (bit_or (bit_and control all_but_blink_bit) (8 * blinking))
   show_palette port
 
 -- register i of the attribute controller is read, which expects an index before and afterwards
-unfoldable pub read_register_at_index_plan : ℕ → ℕ → Plan ℕ
-read_register_at_index_plan port i = do
+unfoldable pub read_attribute_register_in_index_state_plan : ℕ → ℕ → Plan ℕ
+read_attribute_register_in_index_state_plan port i = do
   out attribute_port (palette_shown_bit + i)
   value ← inp attribute_read_port
   reset_attribute_flip_flop port
@@ -45,4 +45,4 @@ read_register_at_index_plan port i = do
 unfoldable pub read_attribute_register_plan : ℕ → ℕ → Plan ℕ
 read_attribute_register_plan port i = do
   reset_attribute_flip_flop port
-  read_register_at_index_plan port i
+  read_attribute_register_in_index_state_plan port i

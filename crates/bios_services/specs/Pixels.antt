@@ -5,7 +5,7 @@ use Rattle.std.specs.Prelude.{ℕ, ◌+◌, ◌-◌, ◌*◌, ◌/◌, ◌%◌, 
 use Rattle.std.specs.Int.{bit_at}
 use Rattle.vga_bits.specs.Bits.{is_set}
 use Rattle.bios_modes.specs.Bda.{BiosData}
-use Rattle.bios_modes.specs.Kinds.{is_packed}
+use Rattle.bios_modes.specs.Kinds.{is_mode_of_256_colours}
 use Rattle.bios_services.specs.Plan.{Plan, Done, ◌>>=◌, ◌>>◌, put, get}
 use Rattle.bios_services.specs.Cycles.{write_graphics}
 use Rattle.bios_services.specs.Cells.{page_address}
@@ -24,7 +24,7 @@ pixels_down d = d.height * (d.last_row + 1)
 
 -- the address of a pixel: in 256 colours a byte is one pixel, in 16 a byte of each plane is eight
 abbrev pub pixel_address : BiosData → ℕ → ℕ → ℕ → ℕ
-pixel_address d page x y = page_address d page + (if is_packed d.mode then pixels_across d * y + x
+pixel_address d page x y = page_address d page + (if is_mode_of_256_colours d.mode then pixels_across d * y + x
     else d.columns * y + x / 8)
 
 -- the function that combines data with the latches is set, if bit 7 of a colour asks for XOR
@@ -47,7 +47,7 @@ write_planar_pixel_plan address x colour = do
 -- 0C: the pixel at column x and line y of a page is written
 unfoldable pub write_pixel_plan : BiosData → ℕ → ℕ → ℕ → ℕ → Plan (Unit {0})
 write_pixel_plan d page x y colour =
-    if is_packed d.mode then put (pixel_address d page x y) colour
+    if is_mode_of_256_colours d.mode then put (pixel_address d page x y) colour
     else write_planar_pixel_plan (pixel_address d page x y) x colour
 
 -- the byte of a plane is read, after its number went to read map select
@@ -70,5 +70,5 @@ read_planar_pixel_plan address x = do
 -- 0D: the pixel at column x and line y of a page is read
 unfoldable pub read_pixel_plan : BiosData → ℕ → ℕ → ℕ → Plan ℕ
 read_pixel_plan d page x y =
-    if is_packed d.mode then get (pixel_address d page x y)
+    if is_mode_of_256_colours d.mode then get (pixel_address d page x y)
     else read_planar_pixel_plan (pixel_address d page x y) x

@@ -8,7 +8,7 @@ use Rattle.vga_bits.specs.declared.refusal.Refusal.{Refusal}
 use Rattle.vga_bits.specs.declared.refusal.Refusal.TheVariants.{WrongKind, BadPage, Outside}
 use Rattle.vga_bits.specs.declared.refusal.Refusal.TheVariants.{CountPast, BadBlock}
 use Rattle.bios_modes.specs.Kinds.{is_text}
-use Rattle.bios_services.specs.Cursor.{row_of, column_of}
+use Rattle.bios_services.specs.Cursor.{row_of_position, column_of_position}
 
 -- the first of two reasons, if it is there, or else the second
 infixr 10 ◌or◌
@@ -26,8 +26,8 @@ reason_of (Ok done) = None
 reason_of (Err why) = Some why
 
 -- the mode is text, which has no pixels
-abbrev pub no_pixels : ℕ → Option Refusal
-no_pixels mode = refuse_unless (not (is_text mode)) WrongKind
+abbrev pub refuse_unless_graphics_mode : ℕ → Option Refusal
+refuse_unless_graphics_mode mode = refuse_unless (not (is_text mode)) WrongKind
 
 -- the mode has no page of this number
 abbrev pub no_page : ℕ → ℕ → Option Refusal
@@ -39,8 +39,8 @@ outside_cells cells first = refuse_unless (nat_lt first cells) Outside
 
 -- the page has no cell at this position
 abbrev pub outside_page : ℕ → ℕ → ℕ → Option Refusal
-outside_page rows columns position = refuse_unless (nat_lt (row_of position) rows
-    && nat_lt (column_of position) columns) Outside
+outside_page rows columns position = refuse_unless (nat_lt (row_of_position position) rows
+    && nat_lt (column_of_position position) columns) Outside
 
 -- the page has no pixel at column x and line y
 abbrev pub outside_pixels : ℕ → ℕ → ℕ → ℕ → Option Refusal

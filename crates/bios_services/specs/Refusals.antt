@@ -16,38 +16,38 @@ use Rattle.bios_services.specs.Bounds.{page_count}
 use Rattle.bios_services.specs.Cursor.{cursor_cell_number, cursor_position_of}
 use Rattle.bios_services.specs.Cells.{cells_per_page}
 use Rattle.bios_services.specs.Pixels.{pixels_across, pixels_down}
-use Rattle.bios_services.specs.Strings.{string_len}
+use Rattle.bios_services.specs.Strings.{string_block_len}
 use Rattle.bios_services.specs.Colours.{colour_block_len, colour_refusal_besides_block}
-use Rattle.bios_services.specs.Reasons.{◌or◌, no_pixels, no_page, outside_cells, outside_page}
+use Rattle.bios_services.specs.Reasons.{◌or◌, refuse_unless_graphics_mode, no_page, outside_cells, outside_page}
 use Rattle.bios_services.specs.Reasons.{outside_pixels, past_cells, refuse_or_wrong_block}
 
 -- the page that a number means in a mode of this many pages; a mode of one page means page 0 by any
 -- number
-abbrev pub page_among : ℕ → ℕ → ℕ
-page_among pages page = if pages == 1 then 0 else page
+abbrev pub page_or_0_if_only_one : ℕ → ℕ → ℕ
+page_or_0_if_only_one pages page = if pages == 1 then 0 else page
 
 -- the page that a number means in the mode that is set
-abbrev pub page_meant_by_number : BiosData → ℕ → ℕ
-page_meant_by_number d page = page_among (page_count d) page
+abbrev pub page_or_0_in_mode_of_one_page : BiosData → ℕ → ℕ
+page_or_0_in_mode_of_one_page d page = page_or_0_if_only_one (page_count d) page
 
 -- a service with the page that its number means
-abbrev pub service_on_page_meant : BiosData → Service → Service
-service_on_page_meant d (SetCursor page position) = SetCursor (page_meant_by_number d page) position
-service_on_page_meant d (ReadCursor page) = ReadCursor (page_meant_by_number d page)
-service_on_page_meant d (ReadCell page) = ReadCell (page_meant_by_number d page)
-service_on_page_meant d (WriteCells cells) =
-    WriteCells (record cells { page = page_meant_by_number d cells.page })
-service_on_page_meant d (WritePixel page x y colour) =
-    WritePixel (page_meant_by_number d page) x y colour
-service_on_page_meant d (ReadPixel page x y) = ReadPixel (page_meant_by_number d page) x y
-service_on_page_meant d (WriteString s) =
-    WriteString (record s { page = page_meant_by_number d s.page })
-service_on_page_meant d service = service
+abbrev pub service_with_page_or_0_if_only_one : BiosData → Service → Service
+service_with_page_or_0_if_only_one d (SetCursor page position) = SetCursor (page_or_0_in_mode_of_one_page d page) position
+service_with_page_or_0_if_only_one d (ReadCursor page) = ReadCursor (page_or_0_in_mode_of_one_page d page)
+service_with_page_or_0_if_only_one d (ReadCell page) = ReadCell (page_or_0_in_mode_of_one_page d page)
+service_with_page_or_0_if_only_one d (WriteCells cells) =
+    WriteCells (record cells { page = page_or_0_in_mode_of_one_page d cells.page })
+service_with_page_or_0_if_only_one d (WritePixel page x y colour) =
+    WritePixel (page_or_0_in_mode_of_one_page d page) x y colour
+service_with_page_or_0_if_only_one d (ReadPixel page x y) = ReadPixel (page_or_0_in_mode_of_one_page d page) x y
+service_with_page_or_0_if_only_one d (WriteString s) =
+    WriteString (record s { page = page_or_0_in_mode_of_one_page d s.page })
+service_with_page_or_0_if_only_one d service = service
 
 -- how many bytes the block of a service has; None if it reads no block
 abbrev pub service_block_len : Service → Option ℕ
 service_block_len (Colours service) = colour_block_len service
-service_block_len (WriteString string) = Some (string_len string)
+service_block_len (WriteString string) = Some (string_block_len string)
 service_block_len other = None
 
 -- why a service is refused whatever its block: the first of its reasons
@@ -66,11 +66,11 @@ refusal_in_mode_besides_block (WriteCells cells) d =
     or outside_cells (cells_per_page d) (cursor_cell_number d cells.page)
     or past_cells (cells_per_page d) (cursor_cell_number d cells.page) cells.count
 refusal_in_mode_besides_block (WritePixel page x y colour) d =
-    no_pixels d.mode
+    refuse_unless_graphics_mode d.mode
     or no_page (page_count d) page
     or outside_pixels (pixels_across d) (pixels_down d) x y
 refusal_in_mode_besides_block (ReadPixel page x y) d =
-    no_pixels d.mode
+    refuse_unless_graphics_mode d.mode
     or no_page (page_count d) page
     or outside_pixels (pixels_across d) (pixels_down d) x y
 refusal_in_mode_besides_block (Teletype character colour) d =

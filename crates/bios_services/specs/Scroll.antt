@@ -12,8 +12,8 @@ use Rattle.bios_services.specs.Plan.{Plan, Done}
 use Rattle.bios_services.specs.Bands.{band_of, scroll_rows}
 
 -- the part of a scroll's window that lies on a page of these rows and columns, if it has a cell
-abbrev pub window_among : ℕ → ℕ → Scroll → Option Window
-window_among rows columns s =
+abbrev pub window_clipped_to_page : ℕ → ℕ → Scroll → Option Window
+window_clipped_to_page rows columns s =
     let bottom = min (s.bottom + 1) rows in
     let right = min (s.right + 1) columns in
     if nat_lt s.top bottom && nat_lt s.left right
@@ -60,4 +60,4 @@ scroll_window_if_any d s direction (Some window) =
 -- 06 and 07: the window that a call names goes up or down on the active page
 unfoldable pub scroll_plan : BiosData → Scroll → Direction → Plan (Unit {0})
 scroll_plan d s direction =
-    scroll_window_if_any d s direction (window_among (d.last_row + 1) d.columns s)
+    scroll_window_if_any d s direction (window_clipped_to_page (d.last_row + 1) d.columns s)

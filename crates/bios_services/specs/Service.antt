@@ -50,7 +50,7 @@ use Rattle.bios_services.specs.Strings.{string_plan}
 use Rattle.bios_services.specs.GlyphLoads.{load_refusal, load_plan}
 use Rattle.bios_services.specs.Registers.{low, with_low}
 use Rattle.bios_services.specs.Calls.{call_of}
-use Rattle.bios_services.specs.Refusals.{service_on_page_meant, refusal_in_mode, refusal_of_unknown_call}
+use Rattle.bios_services.specs.Refusals.{service_with_page_or_0_if_only_one, refusal_in_mode, refusal_of_unknown_call}
 
 -- the registers that a service answers, and the BIOS data after it
 abbrev pub ServiceOutcome : Type 0
@@ -157,7 +157,7 @@ unless_refused_plan None service fonts d r block = do
 -- a service that needs a mode, with the page that its number means
 unfoldable pub service_in_mode_plan : Service → FontSet → BiosData → Regs → List ℕ → Plan CallOutcome
 service_in_mode_plan service fonts d r block = if d.mode == 0 then refusal_plan NoMode d
-    else (let there = service_on_page_meant d service in
+    else (let there = service_with_page_or_0_if_only_one d service in
     unless_refused_plan (refusal_in_mode there d (length block)) there fonts d r block)
 
 -- a table is refused for a reason, or else answered

@@ -10,7 +10,7 @@ use Rattle.bios_services.specs.declared.strings.StringCall.{StringCall}
 use Rattle.bios_services.specs.Plan.{Plan, Done, ◌>>=◌, fold}
 use Rattle.bios_services.specs.Registers.{high, low}
 use Rattle.bios_services.specs.Cursor.{move_cursor_plan}
-use Rattle.bios_services.specs.Teletype.{type_plan}
+use Rattle.bios_services.specs.Teletype.{type_character_plan}
 
 -- the string that the registers name: with AL 02 and 03 an attribute follows each character, and
 -- AL 01 and 03 move the cursor
@@ -29,8 +29,8 @@ abbrev pub bytes_per_character : StringCall → ℕ
 bytes_per_character s = if s.has_attributes then 2 else 1
 
 -- how many bytes the block of a string has
-abbrev pub string_len : StringCall → ℕ
-string_len s = bytes_per_character s * s.count
+abbrev pub string_block_len : StringCall → ℕ
+string_block_len s = bytes_per_character s * s.count
 
 -- character i of the block
 abbrev pub character_at : StringCall → List ℕ → ℕ → ℕ
@@ -47,7 +47,7 @@ colouring_of_character s block i = record {
 -- the characters are typed one after another; the answer is the position after the last one
 unfoldable pub type_string_plan : FontSet → BiosData → StringCall → List ℕ → Plan ℕ
 type_string_plan fonts d s block =
-    fold (λ i position. type_plan fonts d s.page position (character_at s block i)
+    fold (λ i position. type_character_plan fonts d s.page position (character_at s block i)
     (colouring_of_character s block i)) s.count 0 s.position
 
 -- 13: a string is typed, and if AL asks for it, the cursor moves to the position after it

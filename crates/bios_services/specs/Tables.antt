@@ -10,37 +10,37 @@ use Rattle.bios_services.specs.declared.tables.TableService.{TableService}
 use Rattle.bios_services.specs.declared.tables.TableService.TheVariants.{ReadPalette, ReadEntries}
 use Rattle.bios_services.specs.Plan.{Plan, Done, ◌>>=◌, ◌>>◌, out, inp, gather}
 use Rattle.bios_services.specs.Cycles.{reset_attribute_flip_flop}
-use Rattle.bios_services.specs.Palette.{read_register_at_index_plan}
-use Rattle.bios_services.specs.Colours.{has_entries, no_entries}
+use Rattle.bios_services.specs.Palette.{read_attribute_register_in_index_state_plan}
+use Rattle.bios_services.specs.Colours.{has_dac_entries, refuse_unless_dac_entries}
 use Rattle.bios_services.specs.VideoRegisters.{dac_read_index_port, dac_data_port}
 
 -- why a subfunction that answers a table is refused
 abbrev pub table_refusal : TableService → Option Refusal
 table_refusal ReadPalette = None
-table_refusal (ReadEntries first count) = no_entries first count
+table_refusal (ReadEntries first count) = refuse_unless_dac_entries first count
 
 -- whether a subfunction allocates memory: 17 does if it is not refused and there is an entry
 abbrev pub table_allocates_memory : TableService → Bool
 table_allocates_memory ReadPalette = false
-table_allocates_memory (ReadEntries first count) = has_entries first count && nat_lt 0 count
+table_allocates_memory (ReadEntries first count) = has_dac_entries first count && nat_lt 0 count
 
 -- the register whose value is byte i of the palette: the 16 palette registers, and then the
 -- overscan colour
-abbrev pub palette_register : ℕ → ℕ
-palette_register i = if i == 16 then 0x11 else i
+abbrev pub attribute_register_of_palette_byte : ℕ → ℕ
+attribute_register_of_palette_byte i = if i == 16 then 0x11 else i
 
 -- the palette registers and the overscan colour, 17 bytes, are read; the attribute controller
 -- expects an index
-unfoldable pub read_palette_registers_plan : ℕ → Plan (List ℕ)
-read_palette_registers_plan port =
-    gather (λ i. read_register_at_index_plan port (palette_register i)) 17 0
+unfoldable pub read_palette_registers_in_index_state_plan : ℕ → Plan (List ℕ)
+read_palette_registers_in_index_state_plan port =
+    gather (λ i. read_attribute_register_in_index_state_plan port (attribute_register_of_palette_byte i)) 17 0
 
 -- 09: the 16 palette registers and the overscan colour are read; the CRT controller's index is at
 -- this port
 unfoldable pub read_palette_and_overscan_plan : ℕ → Plan (List ℕ)
 read_palette_and_overscan_plan port = do
   reset_attribute_flip_flop port
-  read_palette_registers_plan port
+  read_palette_registers_in_index_state_plan port
 
 -- n bytes are read from the DAC's data
 unfoldable pub read_components_plan : ℕ → Plan (List ℕ)

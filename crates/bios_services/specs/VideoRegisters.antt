@@ -45,28 +45,28 @@ abbrev pub map_mask_index : ℕ
 map_mask_index = 0x02
 
 -- map mask: all four planes
-abbrev pub all_planes : ℕ
-all_planes = 0x0F
+abbrev pub all_planes_map_mask : ℕ
+all_planes_map_mask = 0x0F
 
 -- map mask: planes 0 and 1, with the characters and attributes of text
-abbrev pub text_planes : ℕ
-text_planes = 0x03
+abbrev pub text_planes_map_mask : ℕ
+text_planes_map_mask = 0x03
 
 -- map mask: plane 2, with the glyphs of text
-abbrev pub glyph_plane : ℕ
-glyph_plane = 0x04
+abbrev pub glyph_plane_map_mask : ℕ
+glyph_plane_map_mask = 0x04
 
 -- the sequencer's register that says which planes an address reaches
 abbrev pub memory_mode_index : ℕ
 memory_mode_index = 0x04
 
 -- memory mode: each address reaches all planes
-abbrev pub sequential_memory : ℕ
-sequential_memory = 0x06
+abbrev pub sequential_memory_mode : ℕ
+sequential_memory_mode = 0x06
 
 -- memory mode: even addresses reach planes 0 and 2, odd ones planes 1 and 3
-abbrev pub odd_and_even_addresses : ℕ
-odd_and_even_addresses = 0x02
+abbrev pub odd_and_even_memory_mode : ℕ
+odd_and_even_memory_mode = 0x02
 
 -- the graphics controller's register of the function that combines written data with the latches
 abbrev pub data_rotate_index : ℕ
@@ -94,8 +94,8 @@ write_and_read_mode_0 = 0x00
 
 -- graphics mode: write mode 0 and read mode 0, and even and odd addresses are read from different
 -- planes
-abbrev pub odd_and_even_access : ℕ
-odd_and_even_access = 0x10
+abbrev pub odd_and_even_graphics_mode : ℕ
+odd_and_even_graphics_mode = 0x10
 
 -- graphics mode: write mode 1, which copies the latches
 abbrev pub latch_copy_mode : ℕ
@@ -114,8 +114,8 @@ abbrev pub miscellaneous_index : ℕ
 miscellaneous_index = 0x06
 
 -- miscellaneous: 64 KiB at A0000, where each address is an offset in a plane
-abbrev pub window_at_a0000 : ℕ
-window_at_a0000 = 0x04
+abbrev pub miscellaneous_value_for_a0000_window : ℕ
+miscellaneous_value_for_a0000_window = 0x04
 
 -- the graphics controller's register that selects the bits to be written
 abbrev pub bit_mask_index : ℕ
@@ -166,8 +166,8 @@ abbrev pub palette_shown_bit : ℕ
 palette_shown_bit = 0x20
 
 -- the attribute controller's mode control register
-abbrev pub mode_control : ℕ
-mode_control = 0x10
+abbrev pub attribute_mode_control_index : ℕ
+attribute_mode_control_index = 0x10
 
 -- mode control: every bit except bit 3, which makes attributes blink
 abbrev pub all_but_blink_bit : ℕ

@@ -1,12 +1,12 @@
 //! Neighbouring columns of a page, as bytes of its lines.
 ghost use Rattle.std.specs.Prelude.{◌≡◌, ◌<◌, ◌≤◌, ◌+◌, ◌-◌, ◌*◌, ◌^◌};
 ghost use Rattle.bios_services.specs.Plan.{run};
-ghost use Rattle.bios_services.specs.Bounds.{IsModeSet, page_count, cells_bound, rows_bound};
+ghost use Rattle.bios_services.specs.Bounds.{IsModeSet, page_count, bound_of_cells_reached_by_calls, bound_of_rows_in_windows};
 ghost use Rattle.bios_services.specs.Bands.{IsBand, byte_address_in_band, band_of};
 ghost use Rattle.bios_services.specs.Bands.{copy_line as copy_line_plan, copy_row as copy_row_plan};
 ghost use Rattle.bios_services.specs.Bands.{move_rows as move_rows_plan};
 ghost use Rattle.bios_services.specs.Bands.{fill_line as fill_line_plan, fill_row as fill_row_plan};
-ghost use Rattle.bios_services.specs.Bands.{fill_rows as fill_rows_plan, set_read_write_mode_plan};
+ghost use Rattle.bios_services.specs.Bands.{fill_rows as fill_rows_plan, set_read_write_mode_if_16_colours_plan};
 ghost use Rattle.bios_services.specs.Bands.{fill_plan};
 ghost use Rattle.bios_services.specs.Bands.{scroll_rows as scroll_rows_plan};
 
@@ -40,8 +40,8 @@ pub struct ColumnBand {
 }
 
 /// Sets the graphics controller's read and write mode, in 16 colours only.
-pub(crate) fn set_read_write_mode<B: Bus>(bus: &mut B, kind: Kind, mode: u8)
-    ensures { bus.new ≡ (run B.meaning (set_read_write_mode_plan kind mode) bus.old).0 }
+pub(crate) fn set_read_write_mode_if_16_colours<B: Bus>(bus: &mut B, kind: Kind, mode: u8)
+    ensures { bus.new ≡ (run B.meaning (set_read_write_mode_if_16_colours_plan kind mode) bus.old).0 }
 {
     by_kind!(kind, Text => {}, Planar => write_graphics(bus, GRAPHICS_MODE, mode), Packed => {})
 }
@@ -70,7 +70,7 @@ impl ColumnBand {
     /// The address of a byte, by row of characters, line of that row and byte of that line.
     pub(crate) fn address(self, row: u32, line: u32, byte: u32) -> u32
         requires band { IsBand self }
-        requires row { row < cells_bound }
+        requires row { row < bound_of_cells_reached_by_calls }
         requires line { line ≤ 16 }
         requires byte { byte ≤ 8 * 80 }
         ensures value { result ≡ byte_address_in_band self row line byte }
@@ -83,8 +83,8 @@ impl ColumnBand {
     #[tactic(auto, using(crate::proofs::PlanRuns::run_bind), unfolding(crate::specs::Bands::copy_line))]
     fn copy_line<B: Bus>(self, bus: &mut B, from: u32, to: u32, line: u32)
         requires band { IsBand self }
-        requires from { from < rows_bound }
-        requires to { to < rows_bound }
+        requires from { from < bound_of_rows_in_windows }
+        requires to { to < bound_of_rows_in_windows }
         requires line { line ≤ 16 }
         ensures { bus.new ≡ (run B.meaning (copy_line_plan self from to line) bus.old).0 }
     {
@@ -97,8 +97,8 @@ impl ColumnBand {
     #[tactic(auto, using(crate::proofs::PlanRuns::run_bind), unfolding(crate::specs::Bands::copy_row))]
     fn copy_row<B: Bus>(self, bus: &mut B, from: u32, to: u32)
         requires band { IsBand self }
-        requires from { from < rows_bound }
-        requires to { to < rows_bound }
+        requires from { from < bound_of_rows_in_windows }
+        requires to { to < bound_of_rows_in_windows }
         ensures { bus.new ≡ (run B.meaning (copy_row_plan self from to) bus.old).0 }
     {
         for line in 0..self.lines {
@@ -111,7 +111,7 @@ impl ColumnBand {
     #[tactic(auto, using(crate::proofs::PlanRuns::run_bind), unfolding(crate::specs::Bands::move_rows))]
     fn move_rows<B: Bus>(self, bus: &mut B, shift: RowShift, top: u32, count: u32)
         requires band { IsBand self }
-        requires rows { top + count + shift.rows ≤ rows_bound }
+        requires rows { top + count + shift.rows ≤ bound_of_rows_in_windows }
         ensures { bus.new ≡ (run B.meaning (move_rows_plan self shift.direction shift.rows top
             count) bus.old).0 }
     {
@@ -133,7 +133,7 @@ impl ColumnBand {
     #[tactic(auto, using(crate::proofs::PlanRuns::run_bind), unfolding(crate::specs::Bands::fill_line))]
     fn fill_line<B: Bus>(self, bus: &mut B, filling: AlternatingBytes, row: u32, line: u32)
         requires band { IsBand self }
-        requires row { row < cells_bound }
+        requires row { row < bound_of_cells_reached_by_calls }
         requires line { line ≤ 16 }
         ensures { bus.new ≡ (run B.meaning (fill_line_plan self filling row line) bus.old).0 }
     {
@@ -145,7 +145,7 @@ impl ColumnBand {
     #[tactic(auto, using(crate::proofs::PlanRuns::run_bind), unfolding(crate::specs::Bands::fill_row))]
     pub(crate) fn fill_row<B: Bus>(self, bus: &mut B, filling: AlternatingBytes, row: u32)
         requires band { IsBand self }
-        requires row { row < cells_bound }
+        requires row { row < bound_of_cells_reached_by_calls }
         ensures { bus.new ≡ (run B.meaning (fill_row_plan self filling row) bus.old).0 }
     {
         for line in 0..self.lines {
@@ -157,7 +157,7 @@ impl ColumnBand {
     #[tactic(auto, using(crate::proofs::PlanRuns::run_bind), unfolding(crate::specs::Bands::fill_rows))]
     fn fill_rows<B: Bus>(self, bus: &mut B, filling: AlternatingBytes, top: u32, count: u32)
         requires band { IsBand self }
-        requires rows { top + count ≤ rows_bound }
+        requires rows { top + count ≤ bound_of_rows_in_windows }
         ensures { bus.new ≡ (run B.meaning (fill_rows_plan self filling top count) bus.old).0 }
     {
         for row in top..top + count {
@@ -169,7 +169,7 @@ impl ColumnBand {
     #[tactic(auto, using(crate::proofs::PlanRuns::run_bind), unfolding(crate::specs::Bands::fill_plan))]
     fn fill<B: Bus>(self, bus: &mut B, colour: u8, top: u32, count: u32)
         requires band { IsBand self }
-        requires rows { top + count ≤ rows_bound }
+        requires rows { top + count ≤ bound_of_rows_in_windows }
         ensures { bus.new ≡ (run B.meaning (fill_plan self.kind self colour top count) bus.old).0 }
     {
         by_kind!(
@@ -190,15 +190,15 @@ impl ColumnBand {
     #[tactic(auto, using(crate::proofs::PlanRuns::run_bind), unfolding(crate::specs::Bands::scroll_rows))]
     pub(crate) fn scroll_rows<B: Bus>(self, bus: &mut B, shift: RowShift, top: u32, height: u32)
         requires band { IsBand self }
-        requires rows { top + height ≤ rows_bound }
+        requires rows { top + height ≤ bound_of_rows_in_windows }
         requires few { shift.rows ≤ height }
         ensures { bus.new ≡ (run B.meaning (scroll_rows_plan self shift.direction top height
             shift.rows shift.colour) bus.old).0 }
     {
         let stay = height - shift.rows;
-        set_read_write_mode(bus, self.kind, COPY_LATCHES);
+        set_read_write_mode_if_16_colours(bus, self.kind, COPY_LATCHES);
         self.move_rows(bus, shift, top, stay);
-        set_read_write_mode(bus, self.kind, BYTE_ACCESS);
+        set_read_write_mode_if_16_colours(bus, self.kind, BYTE_ACCESS);
         let first_new = shift.direction.first_row_to_fill(top, stay);
         self.fill(bus, shift.colour, first_new, shift.rows);
     }

@@ -1,7 +1,7 @@
 //! Functions 09 and 0A: writing a character to a run of cells.
 ghost use Rattle.std.specs.Prelude.{◌≡◌, ◌<◌, ◌≤◌, ◌+◌};
 ghost use Rattle.bios_services.specs.Plan.{run};
-ghost use Rattle.bios_services.specs.Bounds.{IsModeSet, page_count, cells_bound};
+ghost use Rattle.bios_services.specs.Bounds.{IsModeSet, page_count, bound_of_cells_reached_by_calls};
 ghost use Rattle.bios_services.specs.CellRuns.{cell_run_of, cell_run_plan};
 ghost use Rattle.bios_services.specs.Drawing.{characters_plan};
 ghost use Rattle.bios_services.specs.Page.{IsPage};
@@ -43,7 +43,7 @@ impl CellRun {
     #[tactic(auto, using(crate::proofs::PlanRuns::run_bind), unfolding(crate::specs::Drawing::characters_plan))]
     fn write_from<B: Bus>(self, bus: &mut B, page: &Page<'_>, first: u32)
         requires page { IsPage page.now }
-        requires cells { first + self.count ≤ cells_bound }
+        requires cells { first + self.count ≤ bound_of_cells_reached_by_calls }
         ensures { bus.new ≡ (run B.meaning (characters_plan page.now.fonts page.now.bda
             page.now.number first self.character self.colouring self.count) bus.old).0 }
     {

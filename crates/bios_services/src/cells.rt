@@ -1,8 +1,8 @@
 //! Cells of characters: where they lie in memory, and how text is read and written.
 ghost use Rattle.std.specs.Prelude.{◌≡◌, ◌<◌, ◌≤◌, ◌+◌, ◌*◌, ◌^◌};
 ghost use Rattle.bios_services.specs.Plan.{run};
-ghost use Rattle.bios_services.specs.Bounds.{IsModeSet, page_count, cells_bound};
-ghost use Rattle.bios_services.specs.Cells.{page_base as page_base_of};
+ghost use Rattle.bios_services.specs.Bounds.{IsModeSet, page_count, bound_of_cells_reached_by_calls};
+ghost use Rattle.bios_services.specs.Cells.{page_0_address_of_mode as page_base_of};
 ghost use Rattle.bios_services.specs.Cells.{page_address as page_address_of};
 ghost use Rattle.bios_services.specs.Cells.{cell_address as cell_address_of, cells_per_page};
 ghost use Rattle.bios_services.specs.Cells.{read_cell_plan, attribute_plan, write_cell_plan};
@@ -17,7 +17,7 @@ pub(crate) const GRAPHICS_BASE: u32 = 0xA0000;
 
 /// The address where the pages of a mode begin.
 #[tactic(auto, using(crate::proofs::BoundLemmas::base_small))]
-fn page_base(mode: u8) -> u32
+fn page_0_address_of_mode(mode: u8) -> u32
     ensures value { result ≡ page_base_of mode }
     ensures small { result ≤ 0xB8000 }
 {
@@ -34,14 +34,14 @@ pub(crate) fn page_address(bda: &Bda, page: u8) -> u32
     ensures value { result ≡ page_address_of bda.now page }
     ensures small { result < 2 ^ 20 }
 {
-    page_base(bda.mode()) + bda.size() as u32 * page as u32
+    page_0_address_of_mode(bda.mode()) + bda.size() as u32 * page as u32
 }
 
 /// The address of cell q of a page of text.
 pub(crate) fn cell_address(bda: &Bda, page: u8, q: u32) -> u32
     requires data { IsModeSet bda.now }
     requires page { page < page_count bda.now }
-    requires cell { q < cells_bound }
+    requires cell { q < bound_of_cells_reached_by_calls }
     ensures value { result ≡ cell_address_of bda.now page q }
     ensures small { result < 2 ^ 21 }
 {

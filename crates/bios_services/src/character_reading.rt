@@ -1,14 +1,14 @@
 //! Reading the character of a cell of pixels.
 ghost use Rattle.std.specs.Prelude.{◌≡◌, ◌<◌, ◌+◌, ◌^◌, length};
-ghost use Rattle.bios_services.specs.Bounds.{cells_bound};
+ghost use Rattle.bios_services.specs.Bounds.{bound_of_cells_reached_by_calls};
 ghost use Rattle.bios_services.specs.Plan.{run};
 ghost use Rattle.bios_services.specs.Bands.{IsBand};
 ghost use Rattle.bios_services.specs.CharacterReading.{shift_pixel_into_line as shift_dot_plan};
-ghost use Rattle.bios_services.specs.CharacterReading.{read_packed_line as packed_line_plan};
+ghost use Rattle.bios_services.specs.CharacterReading.{read_nonzero_pixels_in_256_colours as packed_line_plan};
 ghost use Rattle.bios_services.specs.CharacterReading.{read_nonzero_pixels_plan};
 ghost use Rattle.bios_services.specs.CharacterReading.{read_lines_plan, read_character_plan};
 
-use crate::band::set_read_write_mode;
+use crate::band::set_read_write_mode_if_16_colours;
 use crate::cycles::get;
 use crate::dot_cell::GraphicsCell;
 use crate::glyphs::first_character_with_lines;
@@ -33,8 +33,8 @@ fn shift_pixel_into_line<B: Bus>(bus: &mut B, address: u32, line: u8) -> u8
 }
 
 /// Reads the line of eight pixels at an address of 256 colours: a bit is 1 if its pixel is not 0.
-#[tactic(auto, using(crate::proofs::PlanRuns::run_bind), unfolding(crate::specs::CharacterReading::read_packed_line))]
-fn read_packed_line<B: Bus>(bus: &mut B, address: u32) -> u8
+#[tactic(auto, using(crate::proofs::PlanRuns::run_bind), unfolding(crate::specs::CharacterReading::read_nonzero_pixels_in_256_colours))]
+fn read_nonzero_pixels_in_256_colours<B: Bus>(bus: &mut B, address: u32) -> u8
     requires { address < 2 ^ 31 }
     ensures { (bus.new, result) ≡ run B.meaning (packed_line_plan address) bus.old }
 {
@@ -55,7 +55,7 @@ fn read_nonzero_pixels<B: Bus>(bus: &mut B, kind: Kind, address: u32) -> u8
         kind,
         Text => 0,
         Planar => 255 - get(bus, address),
-        Packed => read_packed_line(bus, address),
+        Packed => read_nonzero_pixels_in_256_colours(bus, address),
     )
 }
 
@@ -63,7 +63,7 @@ fn read_nonzero_pixels<B: Bus>(bus: &mut B, kind: Kind, address: u32) -> u8
 #[tactic(auto, using(crate::proofs::PlanRuns::run_bind), unfolding(crate::specs::CharacterReading::read_lines_plan))]
 fn read_lines<B: Bus>(bus: &mut B, cell: GraphicsCell, lines: &mut [u8])
     requires band { IsBand cell.band }
-    requires row { cell.row < cells_bound }
+    requires row { cell.row < bound_of_cells_reached_by_calls }
     requires count { length lines.old ≡ cell.band.lines }
     ensures lines { (bus.new, lines.new) ≡ run B.meaning (read_lines_plan cell.band cell.row)
         bus.old }
@@ -78,14 +78,14 @@ fn read_lines<B: Bus>(bus: &mut B, cell: GraphicsCell, lines: &mut [u8])
 #[tactic(auto, using(crate::proofs::PlanRuns::run_bind), unfolding(crate::specs::CharacterReading::read_character_plan))]
 pub(crate) fn read_character<B: Bus>(bus: &mut B, cell: GraphicsCell, fonts: &Fonts) -> u8
     requires band { IsBand cell.band }
-    requires row { cell.row < cells_bound }
+    requires row { cell.row < bound_of_cells_reached_by_calls }
     ensures { (bus.new, result) ≡ run B.meaning (read_character_plan cell.band cell.row fonts.now)
         bus.old }
 {
     let mut room = [0u8; MOST_LINES];
     let lines = &mut room[..cell.band.lines as usize];
-    set_read_write_mode(bus, cell.band.kind, COMPARE_COLOURS);
+    set_read_write_mode_if_16_colours(bus, cell.band.kind, COMPARE_COLOURS);
     read_lines(bus, cell, lines);
-    set_read_write_mode(bus, cell.band.kind, BYTE_ACCESS);
+    set_read_write_mode_if_16_colours(bus, cell.band.kind, BYTE_ACCESS);
     first_character_with_lines(fonts, cell.band.lines, lines, CHARACTERS)
 }

@@ -3,11 +3,11 @@ ghost use Rattle.std.specs.Prelude.{◌≡◌, ◌<◌, None, length};
 ghost use Rattle.bios_services.specs.Bounds.{ports_bound};
 ghost use Rattle.bios_services.specs.Plan.{run};
 ghost use Rattle.bios_services.specs.Reasons.{reason_of};
-ghost use Rattle.bios_services.specs.Colours.{no_register as no_register_of};
-ghost use Rattle.bios_services.specs.Colours.{no_entry as no_entry_of, no_entries as no_entries_of};
+ghost use Rattle.bios_services.specs.Colours.{refuse_unless_palette_register as no_register_of};
+ghost use Rattle.bios_services.specs.Colours.{refuse_unless_dac_entry as no_entry_of, refuse_unless_dac_entries as no_entries_of};
 ghost use Rattle.bios_services.specs.Colours.{colour_block_len, colour_refusal_besides_block as colour_reason_of};
 ghost use Rattle.bios_services.specs.Colours.{colour_refusal, read_entry_plan};
-ghost use Rattle.bios_services.specs.Colours.{read_register_in_bh, read_mask_in_bl, colours_plan};
+ghost use Rattle.bios_services.specs.Colours.{read_attribute_register_into_bh, read_dac_mask_into_bl, colours_plan};
 
 use crate::cycles::{inp, out};
 use crate::dac::{set_entries, set_entry};
@@ -67,21 +67,21 @@ pub enum ColourService {
 }
 
 /// Refuses a number that is none of the palette registers.
-fn no_register(register: u8) -> Result<(), Refusal>
+fn refuse_unless_palette_register(register: u8) -> Result<(), Refusal>
     ensures { reason_of result ≡ no_register_of register }
 {
     refuse_unless(register < 0x10, Refusal::BadRegister)
 }
 
 /// Refuses a number that is none of the DAC's entries.
-fn no_entry(entry: u16) -> Result<(), Refusal>
+fn refuse_unless_dac_entry(entry: u16) -> Result<(), Refusal>
     ensures { reason_of result ≡ no_entry_of entry }
 {
     refuse_unless(entry < 0x100, Refusal::BadRegister)
 }
 
 /// Refuses entries that the DAC does not have: the first one, or any of `count` from it on.
-pub(crate) fn no_entries(first: u16, count: u16) -> Result<(), Refusal>
+pub(crate) fn refuse_unless_dac_entries(first: u16, count: u16) -> Result<(), Refusal>
     ensures { reason_of result ≡ no_entries_of first count }
 {
     refuse_unless(
@@ -109,15 +109,15 @@ pub(crate) fn colour_refusal_besides_block(service: ColourService) -> Result<(),
 {
     match service {
         ColourService::SetRegister { register, .. } | ColourService::ReadRegister { register } => {
-            no_register(register)
+            refuse_unless_palette_register(register)
         }
         ColourService::SetBlinking { blinking } => {
             refuse_unless(blinking <= 1, Refusal::BadRegister)
         }
         ColourService::SetEntry { entry, .. } | ColourService::ReadEntry { entry } => {
-            no_entry(entry)
+            refuse_unless_dac_entry(entry)
         }
-        ColourService::SetEntries { first, count } => no_entries(first, count),
+        ColourService::SetEntries { first, count } => refuse_unless_dac_entries(first, count),
         ColourService::SetOverscan { .. }
         | ColourService::SetPalette
         | ColourService::ReadOverscan
@@ -140,11 +140,11 @@ fn read_entry<B: Bus>(bus: &mut B, entry: u8, regs: &mut Regs)
 }
 
 /// 07 and 08: reads a register of the attribute controller into BH.
-#[tactic(auto, using(crate::proofs::PlanRuns::run_bind), unfolding(crate::specs::Colours::read_register_in_bh))]
+#[tactic(auto, using(crate::proofs::PlanRuns::run_bind), unfolding(crate::specs::Colours::read_attribute_register_into_bh))]
 fn answer_register<B: Bus>(bus: &mut B, port: u16, register: u8, regs: &mut Regs)
     requires port { port < ports_bound }
     requires register { register < 32 }
-    ensures { (bus.new, regs.new) ≡ run B.meaning (read_register_in_bh port register regs.old)
+    ensures { (bus.new, regs.new) ≡ run B.meaning (read_attribute_register_into_bh port register regs.old)
         bus.old }
 {
     let value = read_register(bus, port, register);
@@ -152,9 +152,9 @@ fn answer_register<B: Bus>(bus: &mut B, port: u16, register: u8, regs: &mut Regs
 }
 
 /// 19: reads the DAC's mask into BL.
-#[tactic(auto, using(crate::proofs::PlanRuns::run_bind), unfolding(crate::specs::Colours::read_mask_in_bl))]
+#[tactic(auto, using(crate::proofs::PlanRuns::run_bind), unfolding(crate::specs::Colours::read_dac_mask_into_bl))]
 fn answer_mask<B: Bus>(bus: &mut B, regs: &mut Regs)
-    ensures { (bus.new, regs.new) ≡ run B.meaning (read_mask_in_bl regs.old) bus.old }
+    ensures { (bus.new, regs.new) ≡ run B.meaning (read_dac_mask_into_bl regs.old) bus.old }
 {
     let mask = inp(bus, DAC_MASK);
     regs.bx = with_low(regs.bx, mask);

@@ -1,7 +1,7 @@
 //! The cursor and the pages.
 ghost use Rattle.std.specs.Prelude.{◌≡◌, ◌<◌, ◌≤◌, ◌+◌, ◌*◌, ◌/◌};
 ghost use Rattle.bios_services.specs.Plan.{run};
-ghost use Rattle.bios_services.specs.Bounds.{IsModeSet, StaysInMode, page_count, furthest_position};
+ghost use Rattle.bios_services.specs.Bounds.{IsModeSet, StaysInMode, page_count, furthest_cell_number};
 ghost use Rattle.bios_services.specs.Bounds.{ports_bound};
 ghost use Rattle.bios_services.specs.Cursor.{cell_number as cell_number_of};
 ghost use Rattle.bios_services.specs.Cursor.{cursor_cell_number as cursor_cell_number_of};
@@ -18,7 +18,7 @@ use vga_card::Bus;
 pub(crate) fn cell_number(bda: &Bda, position: u16) -> u32
     requires { IsModeSet bda.now }
     ensures value { result ≡ cell_number_of bda.now position }
-    ensures small { result ≤ furthest_position }
+    ensures small { result ≤ furthest_cell_number }
 {
     bda.columns() as u32 * (position / 256) as u32 + (position % 256) as u32
 }
@@ -28,7 +28,7 @@ pub(crate) fn cursor_cell_number(bda: &Bda, page: u8) -> u32
     requires data { IsModeSet bda.now }
     requires page { page < page_count bda.now }
     ensures value { result ≡ cursor_cell_number_of bda.now page }
-    ensures small { result ≤ furthest_position }
+    ensures small { result ≤ furthest_cell_number }
 {
     cell_number(bda, bda.cursor_place(page as usize))
 }

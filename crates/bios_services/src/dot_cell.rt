@@ -1,6 +1,6 @@
 //! A cell of a page of pixels.
 ghost use Rattle.std.specs.Prelude.{◌≡◌, ◌<◌, ◌≤◌, ◌*◌, ◌^◌};
-ghost use Rattle.bios_services.specs.Bounds.{IsModeSet, page_count, cells_bound};
+ghost use Rattle.bios_services.specs.Bounds.{IsModeSet, page_count, bound_of_cells_reached_by_calls};
 ghost use Rattle.bios_services.specs.Bands.{IsBand, byte_address_in_band};
 ghost use Rattle.bios_services.specs.Drawing.{cell_band, cell_row};
 
@@ -21,11 +21,11 @@ impl GraphicsCell {
     pub(crate) fn of_columns(bda: &Bda, page: u8, q: u32) -> GraphicsCell
         requires data { IsModeSet bda.now }
         requires page { page < page_count bda.now }
-        requires cell { q < cells_bound }
+        requires cell { q < bound_of_cells_reached_by_calls }
         ensures column { result.band ≡ cell_band bda.now page q }
         ensures band { IsBand result.band }
         ensures place { result.row ≡ cell_row bda.now q }
-        ensures row { result.row < cells_bound }
+        ensures row { result.row < bound_of_cells_reached_by_calls }
     {
         let columns = bda.columns() as u32;
         GraphicsCell {
@@ -37,7 +37,7 @@ impl GraphicsCell {
     /// The address of a byte of one of its lines.
     pub(crate) fn address(self, line: u32, byte: u32) -> u32
         requires band { IsBand self.band }
-        requires row { self.row < cells_bound }
+        requires row { self.row < bound_of_cells_reached_by_calls }
         requires line { line ≤ 16 }
         requires byte { byte ≤ 8 * 80 }
         ensures value { result ≡ byte_address_in_band self.band self.row line byte }

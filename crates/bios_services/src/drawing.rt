@@ -1,14 +1,14 @@
 //! Drawing characters in cells of a page, in any mode.
 ghost use Rattle.std.specs.Prelude.{◌≡◌, ◌<◌, ◌≤◌};
 ghost use Rattle.bios_services.specs.Plan.{run};
-ghost use Rattle.bios_services.specs.Bounds.{cells_bound};
+ghost use Rattle.bios_services.specs.Bounds.{bound_of_cells_reached_by_calls};
 ghost use Rattle.bios_services.specs.Bands.{IsBand};
 ghost use Rattle.bios_services.specs.Drawing.{put_glyph as put_glyph_plan};
 ghost use Rattle.bios_services.specs.Drawing.{put_over_latches as put_over_plan};
 ghost use Rattle.bios_services.specs.Drawing.{put_glyph_over as put_glyph_over_plan};
 ghost use Rattle.bios_services.specs.Drawing.{draw_over_zeros_plan};
-ghost use Rattle.bios_services.specs.Drawing.{draw_by_xor_plan, draw_planar_plan, glyph_dot_colour};
-ghost use Rattle.bios_services.specs.Drawing.{put_dots as put_dots_plan, draw_packed_plan};
+ghost use Rattle.bios_services.specs.Drawing.{draw_by_xor_plan, draw_character_in_16_colours_plan, glyph_dot_colour};
+ghost use Rattle.bios_services.specs.Drawing.{put_glyph_line_in_256_colours as put_dots_plan, draw_character_in_256_colours_plan};
 ghost use Rattle.bios_services.specs.Drawing.{character_plan};
 ghost use Rattle.bios_services.specs.Page.{IsPage};
 
@@ -29,7 +29,7 @@ use vga_card::Bus;
 #[tactic(auto, using(crate::proofs::PlanRuns::run_bind), unfolding(crate::specs::Drawing::put_glyph))]
 fn put_glyph<B: Bus>(bus: &mut B, cell: GraphicsCell, fonts: &Fonts, character: u8)
     requires band { IsBand cell.band }
-    requires row { cell.row < cells_bound }
+    requires row { cell.row < bound_of_cells_reached_by_calls }
     ensures { bus.new ≡ (run B.meaning (put_glyph_plan cell.band cell.row fonts.now character)
         bus.old).0 }
 {
@@ -51,7 +51,7 @@ fn put_over_latches<B: Bus>(bus: &mut B, address: u32, dots: u8)
 #[tactic(auto, using(crate::proofs::PlanRuns::run_bind), unfolding(crate::specs::Drawing::put_glyph_over))]
 fn put_glyph_over<B: Bus>(bus: &mut B, cell: GraphicsCell, fonts: &Fonts, character: u8)
     requires band { IsBand cell.band }
-    requires row { cell.row < cells_bound }
+    requires row { cell.row < bound_of_cells_reached_by_calls }
     ensures { bus.new ≡ (run B.meaning (put_glyph_over_plan cell.band cell.row fonts.now character)
         bus.old).0 }
 {
@@ -71,7 +71,7 @@ fn draw_over_zeros<B: Bus>(
     colour: u8,
 )
     requires band { IsBand cell.band }
-    requires row { cell.row < cells_bound }
+    requires row { cell.row < bound_of_cells_reached_by_calls }
     ensures { bus.new ≡ (run B.meaning (draw_over_zeros_plan cell.band cell.row fonts.now character
         colour)
         bus.old).0 }
@@ -87,7 +87,7 @@ fn draw_over_zeros<B: Bus>(
 #[tactic(auto, using(crate::proofs::PlanRuns::run_bind), unfolding(crate::specs::Drawing::draw_by_xor_plan))]
 fn draw_by_xor<B: Bus>(bus: &mut B, cell: GraphicsCell, fonts: &Fonts, character: u8, colour: u8)
     requires band { IsBand cell.band }
-    requires row { cell.row < cells_bound }
+    requires row { cell.row < bound_of_cells_reached_by_calls }
     ensures { bus.new ≡ (run B.meaning (draw_by_xor_plan cell.band cell.row fonts.now character
         colour)
         bus.old).0 }
@@ -100,11 +100,17 @@ fn draw_by_xor<B: Bus>(bus: &mut B, cell: GraphicsCell, fonts: &Fonts, character
 }
 
 /// Draws a character in 16 colours, by XOR if bit 7 of the colour is 1.
-#[tactic(auto, unfolding(crate::specs::Drawing::draw_planar_plan))]
-fn draw_planar<B: Bus>(bus: &mut B, cell: GraphicsCell, fonts: &Fonts, character: u8, colour: u8)
+#[tactic(auto, unfolding(crate::specs::Drawing::draw_character_in_16_colours_plan))]
+fn draw_character_in_16_colours<B: Bus>(
+    bus: &mut B,
+    cell: GraphicsCell,
+    fonts: &Fonts,
+    character: u8,
+    colour: u8,
+)
     requires band { IsBand cell.band }
-    requires row { cell.row < cells_bound }
-    ensures { bus.new ≡ (run B.meaning (draw_planar_plan cell.band cell.row fonts.now character
+    requires row { cell.row < bound_of_cells_reached_by_calls }
+    ensures { bus.new ≡ (run B.meaning (draw_character_in_16_colours_plan cell.band cell.row fonts.now character
         colour)
         bus.old).0 }
 {
@@ -124,10 +130,16 @@ fn glyph_dot_colour(dots: u8, colour: u8, i: u32) -> u8
 }
 
 /// Draws a line of a glyph in 256 colours.
-#[tactic(auto, using(crate::proofs::PlanRuns::run_bind), unfolding(crate::specs::Drawing::put_dots))]
-fn put_dots<B: Bus>(bus: &mut B, cell: GraphicsCell, line: u32, dots: u8, colour: u8)
+#[tactic(auto, using(crate::proofs::PlanRuns::run_bind), unfolding(crate::specs::Drawing::put_glyph_line_in_256_colours))]
+fn put_glyph_line_in_256_colours<B: Bus>(
+    bus: &mut B,
+    cell: GraphicsCell,
+    line: u32,
+    dots: u8,
+    colour: u8,
+)
     requires band { IsBand cell.band }
-    requires row { cell.row < cells_bound }
+    requires row { cell.row < bound_of_cells_reached_by_calls }
     requires line { line ≤ 16 }
     ensures { bus.new ≡ (run B.meaning (put_dots_plan cell.band cell.row line dots colour)
         bus.old).0 }
@@ -142,17 +154,23 @@ fn put_dots<B: Bus>(bus: &mut B, cell: GraphicsCell, line: u32, dots: u8, colour
 }
 
 /// Draws a character in 256 colours.
-#[tactic(auto, using(crate::proofs::PlanRuns::run_bind), unfolding(crate::specs::Drawing::draw_packed_plan))]
-fn draw_packed<B: Bus>(bus: &mut B, cell: GraphicsCell, fonts: &Fonts, character: u8, colour: u8)
+#[tactic(auto, using(crate::proofs::PlanRuns::run_bind), unfolding(crate::specs::Drawing::draw_character_in_256_colours_plan))]
+fn draw_character_in_256_colours<B: Bus>(
+    bus: &mut B,
+    cell: GraphicsCell,
+    fonts: &Fonts,
+    character: u8,
+    colour: u8,
+)
     requires band { IsBand cell.band }
-    requires row { cell.row < cells_bound }
-    ensures { bus.new ≡ (run B.meaning (draw_packed_plan cell.band cell.row fonts.now character
+    requires row { cell.row < bound_of_cells_reached_by_calls }
+    ensures { bus.new ≡ (run B.meaning (draw_character_in_256_colours_plan cell.band cell.row fonts.now character
         colour)
         bus.old).0 }
 {
     for r in 0..cell.band.lines {
         let dots = glyph_line(fonts, cell.band.lines, character, r);
-        put_dots(bus, cell, r, dots, colour);
+        put_glyph_line_in_256_colours(bus, cell, r, dots, colour);
     }
 }
 
@@ -166,7 +184,7 @@ pub(crate) fn write_character<B: Bus>(
     colouring: Colouring,
 )
     requires page { IsPage page.now }
-    requires cell { q < cells_bound }
+    requires cell { q < bound_of_cells_reached_by_calls }
     ensures { bus.new ≡ (run B.meaning (character_plan page.now.fonts page.now.bda
         page.now.number q character colouring) bus.old).0 }
 {
@@ -175,7 +193,7 @@ pub(crate) fn write_character<B: Bus>(
     by_kind!(
         kind_of(bda.mode()),
         Text => write_cell(bus, cell_address(bda, number, q), character, colouring),
-        Planar => draw_planar(bus, GraphicsCell::of_columns(bda, number, q), fonts, character, colour),
-        Packed => draw_packed(bus, GraphicsCell::of_columns(bda, number, q), fonts, character, colour),
+        Planar => draw_character_in_16_colours(bus, GraphicsCell::of_columns(bda, number, q), fonts, character, colour),
+        Packed => draw_character_in_256_colours(bus, GraphicsCell::of_columns(bda, number, q), fonts, character, colour),
     )
 }

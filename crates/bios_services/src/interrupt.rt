@@ -254,7 +254,7 @@ fn load_glyphs_in_mode<B: Bus>(
 
 /// Does a service that needs a mode, unless it is refused.
 #[tactic(auto, using(crate::proofs::PlanRuns::run_bind, crate::proofs::BoundLemmas::set_of_valid), unfolding(crate::specs::Service::service_in_mode_plan, crate::specs::Service::unless_refused_plan))]
-fn in_mode<B: Bus>(
+fn perform_service_in_mode<B: Bus>(
     bus: &mut B,
     bda: &mut Bda,
     fonts: &Fonts,
@@ -270,7 +270,7 @@ fn in_mode<B: Bus>(
     if bda.mode() == 0 {
         return Err(Refusal::NoMode);
     }
-    let service = service.service_on_page_meant(bda);
+    let service = service.service_with_page_or_0_if_only_one(bda);
     refusal_in_mode(service, bda, block.len())?;
     answer_of_registers(perform_allowed_service(bus, bda, fonts, service, regs, block))
 }
@@ -338,7 +338,9 @@ pub fn int10<B: Bus>(
             alloc, bus, bda, service, regs,
         ),
         Some(Call::LoadGlyphs(load)) => load_glyphs_in_mode(bus, bda, fonts, load, regs, block),
-        Some(Call::InMode(service)) => in_mode(bus, bda, fonts, service, regs, block),
+        Some(Call::InMode(service)) => perform_service_in_mode(
+            bus, bda, fonts, service, regs, block,
+        ),
     };
     outcome.map_err(ServiceError::Refused)
 }

@@ -3,7 +3,7 @@ ghost use Rattle.std.specs.Prelude.{◌≡◌, ◌<◌, ℕ, List};
 ghost use Rattle.vga_card.specs.Bounds.{IsCard};
 ghost use Rattle.vga_card.specs.Bus.{card_meaning};
 ghost use Rattle.vga_card.specs.Card.{CardState};
-ghost use Rattle.vga_card.specs.FreshCanvas.{without_unseen_dots, outcome_without_unseen_dots};
+ghost use Rattle.vga_card.specs.FreshCanvas.{without_dots_of_ended_frame, outcome_without_dots_of_ended_frame};
 ghost use Rattle.bios_modes.specs.Bda.{BiosData, power_on_data};
 ghost use Rattle.bios_modes.specs.Fonts.{FontSet};
 ghost use Rattle.bios_services.specs.declared.regs.Regs.{Regs};
@@ -21,7 +21,7 @@ pub fn refused_services_do_nothing<B: Bus>()
 
 /// No call is refused for a block of exactly the length that it reads; and a call that reads some
 /// bytes is refused with a block of any other length.
-pub fn blocks_fit<B: Bus>()
+pub fn calls_accept_only_blocks_that_fit<B: Bus>()
     ensures fit { FittingBlocksAreAccepted B.meaning }
     ensures others { OtherBlockLengthsAreRefused B.meaning }
 {}
@@ -47,6 +47,6 @@ pub fn calls_draw_nothing()
 /// same, and leaves the same except for what is not saved.
 pub fn calls_treat_restored_cards_alike()
     ensures { (fonts : FontSet) (d : BiosData) (r : Regs) (block : List ℕ) (c : CardState) →
-        run card_meaning (service fonts d r block) (without_unseen_dots c)
-        ≡ outcome_without_unseen_dots (run card_meaning (service fonts d r block) c) }
+        run card_meaning (service fonts d r block) (without_dots_of_ended_frame c)
+        ≡ outcome_without_dots_of_ended_frame (run card_meaning (service fonts d r block) c) }
 {}

@@ -16,9 +16,9 @@ pub(crate) struct Page<'a> {
 }
 
 impl<'a> Model for Page<'a> {
-    ghost use Rattle.bios_services.specs.Page.{PageState};
+    ghost use Rattle.bios_services.specs.Page.{PageWithFontsAndData};
 
-    ghost Value = { PageState };
+    ghost Value = { PageWithFontsAndData };
 
     ghost view = { λ p. record {
       fonts = p.fonts.now;

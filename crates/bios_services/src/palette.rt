@@ -3,7 +3,7 @@ ghost use Rattle.std.specs.Prelude.{◌≡◌, ◌<◌, ◌≤◌, length};
 ghost use Rattle.bios_services.specs.Bounds.{ports_bound};
 ghost use Rattle.bios_services.specs.Plan.{run};
 ghost use Rattle.bios_services.specs.Palette.{set_attribute_register_plan, set_palette_plan};
-ghost use Rattle.bios_services.specs.Palette.{set_blinking_plan, read_register_at_index_plan};
+ghost use Rattle.bios_services.specs.Palette.{set_blinking_plan, read_attribute_register_in_index_state_plan};
 ghost use Rattle.bios_services.specs.Palette.{read_attribute_register_plan};
 
 use crate::cycles::{
@@ -58,11 +58,11 @@ pub(crate) fn set_blinking<B: Bus>(bus: &mut B, port: u16, blinking: u8)
 }
 
 /// Reads a register of the attribute controller, which expects an index before and afterwards.
-#[tactic(auto, using(crate::proofs::PlanRuns::run_bind), unfolding(crate::specs::Palette::read_register_at_index_plan))]
-pub(crate) fn read_register_at_index<B: Bus>(bus: &mut B, port: u16, i: u8) -> u8
+#[tactic(auto, using(crate::proofs::PlanRuns::run_bind), unfolding(crate::specs::Palette::read_attribute_register_in_index_state_plan))]
+pub(crate) fn read_attribute_register_in_index_state<B: Bus>(bus: &mut B, port: u16, i: u8) -> u8
     requires port { port < ports_bound }
     requires register { i < 32 }
-    ensures { (bus.new, result) ≡ run B.meaning (read_register_at_index_plan port i) bus.old }
+    ensures { (bus.new, result) ≡ run B.meaning (read_attribute_register_in_index_state_plan port i) bus.old }
 {
     out(bus, ATTRIBUTE, PALETTE_SHOWN + i);
     let value = inp(bus, ATTRIBUTE_DATA);
@@ -78,5 +78,5 @@ pub(crate) fn read_register<B: Bus>(bus: &mut B, port: u16, i: u8) -> u8
     ensures { (bus.new, result) ≡ run B.meaning (read_attribute_register_plan port i) bus.old }
 {
     reset_attribute_flip_flop(bus, port);
-    read_register_at_index(bus, port, i)
+    read_attribute_register_in_index_state(bus, port, i)
 }

@@ -1,7 +1,7 @@
 //! Functions 0C and 0D: writing and reading a pixel.
 ghost use Rattle.std.specs.Prelude.{◌≡◌, ◌<◌, ◌≤◌, ◌+◌, ◌-◌, ◌*◌, ◌%◌};
 ghost use Rattle.std.specs.Int.{bit_at};
-ghost use Rattle.bios_modes.specs.Kinds.{is_packed as is_packed_mode};
+ghost use Rattle.bios_modes.specs.Kinds.{is_mode_of_256_colours as is_packed_mode};
 ghost use Rattle.bios_services.specs.Plan.{run};
 ghost use Rattle.bios_services.specs.Bounds.{IsModeSet, page_count};
 ghost use Rattle.bios_services.specs.Pixels.{pixels_across as pixels_across_of};
@@ -19,7 +19,7 @@ use crate::video_registers::{
     ALL_BITS, BIT_MASK, BYTE_ACCESS, DATA_ROTATE, GRAPHICS_MODE, READ_MAP_SELECT, REPLACE,
     WRITE_COLOUR, XOR,
 };
-use bios_modes::{Bda, is_packed};
+use bios_modes::{Bda, is_mode_of_256_colours};
 use vga_bits::is_set;
 use vga_card::Bus;
 
@@ -95,7 +95,7 @@ pub(crate) fn write_pixel<B: Bus>(bus: &mut B, bda: &Bda, pixel: Pixel, colour: 
     ensures { bus.new ≡ (run B.meaning (write_pixel_plan bda.now pixel.page pixel.x pixel.y colour)
         bus.old).0 }
 {
-    let packed = is_packed(bda.mode());
+    let packed = is_mode_of_256_colours(bda.mode());
     let address = pixel_address(bda, packed, pixel);
     if packed {
         put(bus, address, colour);
@@ -144,7 +144,7 @@ pub(crate) fn read_pixel<B: Bus>(bus: &mut B, bda: &Bda, pixel: Pixel) -> u8
     ensures { (bus.new, result) ≡ run B.meaning (read_pixel_plan bda.now pixel.page pixel.x pixel.y)
         bus.old }
 {
-    let packed = is_packed(bda.mode());
+    let packed = is_mode_of_256_colours(bda.mode());
     let address = pixel_address(bda, packed, pixel);
     if packed {
         get(bus, address)

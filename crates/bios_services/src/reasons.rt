@@ -1,7 +1,7 @@
 //! Reasons why a service is refused, over numbers alone.
 ghost use Rattle.std.specs.Prelude.{◌≡◌};
 ghost use Rattle.bios_services.specs.Reasons.{reason_of, refuse_unless as refuse_unless_of};
-ghost use Rattle.bios_services.specs.Reasons.{no_pixels as no_pixels_of, no_page as no_page_of};
+ghost use Rattle.bios_services.specs.Reasons.{refuse_unless_graphics_mode as no_pixels_of, no_page as no_page_of};
 ghost use Rattle.bios_services.specs.Reasons.{outside_cells as outside_cells_of};
 ghost use Rattle.bios_services.specs.Reasons.{outside_page as outside_page_of};
 ghost use Rattle.bios_services.specs.Reasons.{outside_pixels as outside_pixels_of};
@@ -19,7 +19,7 @@ pub(crate) fn refuse_unless(holds: bool, why: Refusal) -> Result<(), Refusal>
 }
 
 /// Refuses text, which has no pixels.
-pub(crate) fn no_pixels(mode: u8) -> Result<(), Refusal>
+pub(crate) fn refuse_unless_graphics_mode(mode: u8) -> Result<(), Refusal>
     ensures { reason_of result ≡ no_pixels_of mode }
 {
     refuse_unless(!is_text(mode), Refusal::WrongKind)

@@ -2,7 +2,7 @@
 ghost use Rattle.std.specs.Prelude.{◌≡◌};
 ghost use Rattle.bios_services.specs.Bounds.{IsModeSet, page_count};
 ghost use Rattle.bios_services.specs.Reasons.{reason_of};
-ghost use Rattle.bios_services.specs.Refusals.{page_meant_by_number as page_meant_by_number_of};
+ghost use Rattle.bios_services.specs.Refusals.{page_or_0_in_mode_of_one_page as page_meant_by_number_of};
 ghost use Rattle.bios_services.specs.Refusals.{refusal_in_mode_besides_block as reason_in_mode_of};
 ghost use Rattle.bios_services.specs.Refusals.{refusal_in_mode as refusal_in_mode_of};
 ghost use Rattle.bios_services.specs.Refusals.{refusal_of_unknown_call as unknown_refusal_of};
@@ -14,8 +14,8 @@ use crate::colours::colour_refusal_besides_block;
 use crate::cursor::cursor_cell_number;
 use crate::pixels::{pixels_across, pixels_down};
 use crate::reasons::{
-    no_page, no_pixels, outside_cells, outside_page, outside_pixels, past_cells,
-    refuse_or_wrong_block,
+    no_page, outside_cells, outside_page, outside_pixels, past_cells, refuse_or_wrong_block,
+    refuse_unless_graphics_mode,
 };
 use crate::strings::StringCall;
 use bios_modes::{Bda, mode_row_at_height};
@@ -32,7 +32,7 @@ fn pages(bda: &Bda) -> u8
 }
 
 /// The page that a number means: in a mode of one page, any number means page 0.
-fn page_meant_by_number(bda: &Bda, page: u8) -> u8
+fn page_or_0_in_mode_of_one_page(bda: &Bda, page: u8) -> u8
     ensures { result ≡ page_meant_by_number_of bda.now page }
 {
     if pages(bda) == 1 { 0 } else { page }
@@ -40,7 +40,7 @@ fn page_meant_by_number(bda: &Bda, page: u8) -> u8
 
 impl Service {
     ghost use Rattle.bios_services.specs.Refusals.{service_block_len};
-    ghost use Rattle.bios_services.specs.Refusals.{service_on_page_meant as on_page_named_of};
+    ghost use Rattle.bios_services.specs.Refusals.{service_with_page_or_0_if_only_one as on_page_named_of};
 
     /// How many bytes the block of a service has, if it reads one.
     pub(crate) fn block(self) -> Option<usize>
@@ -54,34 +54,34 @@ impl Service {
     }
 
     /// The service with the page that its number means.
-    pub(crate) fn service_on_page_meant(self, bda: &Bda) -> Service
+    pub(crate) fn service_with_page_or_0_if_only_one(self, bda: &Bda) -> Service
         ensures { result ≡ on_page_named_of bda.now self }
     {
         match self {
             Service::SetCursor { page, position } => {
-                let page = page_meant_by_number(bda, page);
+                let page = page_or_0_in_mode_of_one_page(bda, page);
                 Service::SetCursor { page, position }
             }
             Service::ReadCursor { page } => Service::ReadCursor {
-                page: page_meant_by_number(bda, page),
+                page: page_or_0_in_mode_of_one_page(bda, page),
             },
             Service::ReadCell { page } => Service::ReadCell {
-                page: page_meant_by_number(bda, page),
+                page: page_or_0_in_mode_of_one_page(bda, page),
             },
             Service::WriteCells(run) => {
-                let page = page_meant_by_number(bda, run.page);
+                let page = page_or_0_in_mode_of_one_page(bda, run.page);
                 Service::WriteCells(CellRun { page, ..run })
             }
             Service::WritePixel { page, x, y, colour } => {
-                let page = page_meant_by_number(bda, page);
+                let page = page_or_0_in_mode_of_one_page(bda, page);
                 Service::WritePixel { page, x, y, colour }
             }
             Service::ReadPixel { page, x, y } => {
-                let page = page_meant_by_number(bda, page);
+                let page = page_or_0_in_mode_of_one_page(bda, page);
                 Service::ReadPixel { page, x, y }
             }
             Service::WriteString(string) => {
-                let page = page_meant_by_number(bda, string.page);
+                let page = page_or_0_in_mode_of_one_page(bda, string.page);
                 Service::WriteString(StringCall { page, ..string })
             }
             _ => self,
@@ -109,7 +109,7 @@ fn refusal_in_mode_besides_block(service: Service, bda: &Bda) -> Result<(), Refu
             past_cells(cells(bda), cursor_cell_number(bda, run.page), run.count)
         }
         Service::WritePixel { page, x, y, .. } | Service::ReadPixel { page, x, y } => {
-            no_pixels(bda.mode())?;
+            refuse_unless_graphics_mode(bda.mode())?;
             no_page(pages(bda), page)?;
             outside_pixels(pixels_across(bda), pixels_down(bda), x, y)
         }

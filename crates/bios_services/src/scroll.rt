@@ -2,7 +2,7 @@
 ghost use Rattle.std.specs.Prelude.{◌≡◌, ◌<◌, ◌≤◌, ◌+◌, IfSome};
 ghost use Rattle.bios_services.specs.Plan.{run};
 ghost use Rattle.bios_services.specs.Bounds.{IsModeSet, page_count};
-ghost use Rattle.bios_services.specs.Scroll.{IsOnPage, window_among, rows_to_scroll};
+ghost use Rattle.bios_services.specs.Scroll.{IsOnPage, window_clipped_to_page, rows_to_scroll};
 ghost use Rattle.bios_services.specs.Scroll.{whole_page as whole_page_of};
 ghost use Rattle.bios_services.specs.Scroll.{scroll_window_plan, scroll_plan};
 
@@ -80,7 +80,7 @@ impl Scroll {
     /// The part of the window that lies on the page, if it has a cell there.
     fn window(self, bda: &Bda) -> Option<Window>
         requires { IsModeSet bda.now }
-        ensures value { result ≡ window_among (bda.now.last_row + 1) bda.now.columns self }
+        ensures value { result ≡ window_clipped_to_page (bda.now.last_row + 1) bda.now.columns self }
         ensures on_page { IfSome result (IsOnPage (bda.now.last_row + 1) bda.now.columns) }
     {
         let (top, left) = (self.top as u32, self.left as u32);

@@ -2,8 +2,8 @@
 ghost use Rattle.std.specs.Prelude.{◌≡◌, ◌<◌, ◌≤◌, length};
 ghost use Rattle.bios_services.specs.Plan.{run};
 ghost use Rattle.bios_services.specs.Bounds.{IsModeSet, StaysInMode, page_count};
-ghost use Rattle.bios_services.specs.Cursor.{row_of};
-ghost use Rattle.bios_services.specs.Strings.{string_of as string_of_regs, string_len};
+ghost use Rattle.bios_services.specs.Cursor.{row_of_position};
+ghost use Rattle.bios_services.specs.Strings.{string_of as string_of_regs, string_block_len};
 ghost use Rattle.bios_services.specs.Strings.{character_at, colouring_of_character, type_string_plan};
 ghost use Rattle.bios_services.specs.Strings.{string_plan};
 
@@ -48,7 +48,7 @@ impl StringCall {
 
     /// How many bytes the string's block has.
     pub(crate) fn block_len(self) -> usize
-        ensures { result ≡ string_len self }
+        ensures { result ≡ string_block_len self }
     {
         if self.has_attributes {
             2 * self.count as usize
@@ -59,7 +59,7 @@ impl StringCall {
 
     /// Character i of the block.
     fn character(self, block: &[u8], i: u16) -> u8
-        requires whole { length block.now ≡ string_len self }
+        requires whole { length block.now ≡ string_block_len self }
         requires character { i < self.count }
         ensures { result ≡ character_at self block.now i }
     {
@@ -72,7 +72,7 @@ impl StringCall {
 
     /// The colour in which character i of the block is typed.
     fn colouring(self, block: &[u8], i: u16) -> Colouring
-        requires whole { length block.now ≡ string_len self }
+        requires whole { length block.now ≡ string_block_len self }
         requires character { i < self.count }
         ensures { result ≡ colouring_of_character self block.now i }
     {
@@ -92,8 +92,8 @@ impl StringCall {
     fn type_all<B: Bus>(self, bus: &mut B, fonts: &Fonts, bda: &Bda, block: &[u8]) -> u16
         requires data { IsModeSet bda.now }
         requires page { self.page < page_count bda.now }
-        requires row { row_of self.position ≤ bda.now.last_row }
-        requires whole { length block.now ≡ string_len self }
+        requires row { row_of_position self.position ≤ bda.now.last_row }
+        requires whole { length block.now ≡ string_block_len self }
         ensures { (bus.new, result) ≡ run B.meaning
             (type_string_plan fonts.now bda.now self block.now) bus.old }
     {
@@ -112,8 +112,8 @@ impl StringCall {
     pub(crate) fn write<B: Bus>(self, bus: &mut B, fonts: &Fonts, bda: &mut Bda, block: &[u8])
         requires data { IsModeSet bda.old }
         requires page { self.page < page_count bda.old }
-        requires row { row_of self.position ≤ bda.old.last_row }
-        requires whole { length block.now ≡ string_len self }
+        requires row { row_of_position self.position ≤ bda.old.last_row }
+        requires whole { length block.now ≡ string_block_len self }
         ensures answer { (bus.new, bda.new) ≡ run B.meaning
             (string_plan fonts.now bda.old self block.now) bus.old }
         ensures stays { StaysInMode bda.old bda.new }

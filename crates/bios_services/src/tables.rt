@@ -4,15 +4,15 @@ ghost use Rattle.bios_services.specs.Bounds.{ports_bound};
 ghost use Rattle.bios_services.specs.Plan.{run};
 ghost use Rattle.bios_services.specs.Reasons.{reason_of};
 ghost use Rattle.bios_services.specs.Tables.{table_refusal as table_refusal_of};
-ghost use Rattle.bios_services.specs.Tables.{palette_register as palette_register_of};
-ghost use Rattle.bios_services.specs.Tables.{read_palette_registers_plan};
+ghost use Rattle.bios_services.specs.Tables.{attribute_register_of_palette_byte as palette_register_of};
+ghost use Rattle.bios_services.specs.Tables.{read_palette_registers_in_index_state_plan};
 ghost use Rattle.bios_services.specs.Tables.{read_palette_and_overscan_plan};
 ghost use Rattle.bios_services.specs.Tables.{read_components_plan, read_entries_plan, table_plan};
 ghost use Rattle.bios_services.specs.Tables.{table_allocates_memory};
 
-use crate::colours::no_entries;
+use crate::colours::refuse_unless_dac_entries;
 use crate::cycles::{inp, out, reset_attribute_flip_flop};
-use crate::palette::read_register_at_index;
+use crate::palette::read_attribute_register_in_index_state;
 use crate::reply::Table;
 use crate::video_registers::{DAC_DATA, DAC_READ_INDEX, OVERSCAN};
 use std::alloc::{AllocError, Global};
@@ -37,12 +37,12 @@ pub(crate) fn table_refusal(service: TableService) -> Result<(), Refusal>
 {
     match service {
         TableService::ReadPalette => Ok(()),
-        TableService::ReadEntries { first, count } => no_entries(first, count),
+        TableService::ReadEntries { first, count } => refuse_unless_dac_entries(first, count),
     }
 }
 
 /// The register whose value is byte i of the palette.
-fn palette_register(i: usize) -> u8
+fn attribute_register_of_palette_byte(i: usize) -> u8
     requires { i < 17 }
     ensures value { result ≡ palette_register_of i }
     ensures small { result < 32 }
@@ -51,26 +51,30 @@ fn palette_register(i: usize) -> u8
 }
 
 /// Reads the palette registers and the overscan colour; the attribute controller expects an index.
-#[tactic(auto, using(crate::proofs::PlanRuns::run_bind), unfolding(crate::specs::Tables::read_palette_registers_plan))]
-fn read_registers<B: Bus>(bus: &mut B, port: u16, values: &mut [u8])
+#[tactic(auto, using(crate::proofs::PlanRuns::run_bind), unfolding(crate::specs::Tables::read_palette_registers_in_index_state_plan))]
+fn read_palette_registers_in_index_state<B: Bus>(bus: &mut B, port: u16, values: &mut [u8])
     requires port { port < ports_bound }
     requires whole { length values.old ≡ 17 }
-    ensures { (bus.new, values.new) ≡ run B.meaning (read_palette_registers_plan port) bus.old }
+    ensures { (bus.new, values.new) ≡ run B.meaning (read_palette_registers_in_index_state_plan port) bus.old }
 {
     for i in 0..values.len() {
-        values[i] = read_register_at_index(bus, port, palette_register(i));
+        values[i] = read_attribute_register_in_index_state(
+            bus,
+            port,
+            attribute_register_of_palette_byte(i),
+        );
     }
 }
 
 /// 09: reads the palette registers and the overscan colour.
 #[tactic(auto, using(crate::proofs::PlanRuns::run_bind), unfolding(crate::specs::Tables::read_palette_and_overscan_plan))]
-fn read_palette<B: Bus>(bus: &mut B, port: u16) -> [u8; PALETTE_BYTES]
+fn read_palette_and_overscan<B: Bus>(bus: &mut B, port: u16) -> [u8; PALETTE_BYTES]
     requires { port < ports_bound }
     ensures { (bus.new, result) ≡ run B.meaning (read_palette_and_overscan_plan port) bus.old }
 {
     let mut values = [0u8; PALETTE_BYTES];
     reset_attribute_flip_flop(bus, port);
-    read_registers(bus, port, &mut values);
+    read_palette_registers_in_index_state(bus, port, &mut values);
     values
 }
 
@@ -124,7 +128,7 @@ pub(crate) fn read_table<B: Bus>(
     ensures err { OnErr result ((bus.new ≡ bus.old) × (table_allocates_memory service ≡ true)) }
 {
     match service {
-        TableService::ReadPalette => Ok(Table::Palette(read_palette(bus, port))),
+        TableService::ReadPalette => Ok(Table::Palette(read_palette_and_overscan(bus, port))),
         TableService::ReadEntries { first, count } => {
             Ok(Table::Dac(read_entries(alloc, bus, first as u8, count)?))
         }

@@ -2,11 +2,11 @@
 ghost use Rattle.std.specs.Prelude.{◌≡◌, ◌<◌, ◌≤◌, ◌+◌, ◌*◌};
 ghost use Rattle.bios_services.specs.Plan.{run};
 ghost use Rattle.bios_services.specs.Bounds.{IsModeSet, StaysInMode, page_count};
-ghost use Rattle.bios_services.specs.Cursor.{row_of, cursor_position_of};
+ghost use Rattle.bios_services.specs.Cursor.{row_of_position, cursor_position_of};
 ghost use Rattle.bios_services.specs.Page.{IsPage};
 ghost use Rattle.bios_services.specs.Teletype.{line_feed_fill as line_feed_fill_plan};
 ghost use Rattle.bios_services.specs.Teletype.{line_feed_plan, next_position_plan};
-ghost use Rattle.bios_services.specs.Teletype.{type_plan, teletype_plan};
+ghost use Rattle.bios_services.specs.Teletype.{type_character_plan, teletype_plan};
 
 use crate::cells::cell_address;
 use crate::colouring::Colouring;
@@ -52,10 +52,10 @@ fn line_feed_fill<B: Bus>(bus: &mut B, bda: &Bda, page: u8, position: u16) -> u8
 fn position_after_line_feed<B: Bus>(bus: &mut B, bda: &Bda, page: u8, position: u16) -> u16
     requires data { IsModeSet bda.now }
     requires page { page < page_count bda.now }
-    requires row { row_of position ≤ bda.now.last_row }
+    requires row { row_of_position position ≤ bda.now.last_row }
     ensures position { (bus.new, result) ≡ run B.meaning (line_feed_plan bda.now page position)
         bus.old }
-    ensures row { row_of result ≤ bda.now.last_row }
+    ensures row { row_of_position result ≤ bda.now.last_row }
 {
     if position / 256 < bda.last_row() as u16 {
         return position + 256;
@@ -74,10 +74,10 @@ fn position_after_line_feed<B: Bus>(bus: &mut B, bda: &Bda, page: u8, position: 
 fn next_position<B: Bus>(bus: &mut B, bda: &Bda, page: u8, position: u16) -> u16
     requires data { IsModeSet bda.now }
     requires page { page < page_count bda.now }
-    requires row { row_of position ≤ bda.now.last_row }
+    requires row { row_of_position position ≤ bda.now.last_row }
     ensures position { (bus.new, result) ≡ run B.meaning (next_position_plan bda.now page position)
         bus.old }
-    ensures row { row_of result ≤ bda.now.last_row }
+    ensures row { row_of_position result ≤ bda.now.last_row }
 {
     if position % 256 + 1 < bda.columns() {
         return position + 1;
@@ -87,7 +87,7 @@ fn next_position<B: Bus>(bus: &mut B, bda: &Bda, page: u8, position: u16) -> u16
 }
 
 /// Types a character at a position, and answers the position afterwards.
-#[tactic(auto, using(crate::proofs::PlanRuns::run_bind), unfolding(crate::specs::Teletype::type_plan, crate::specs::Teletype::write_and_advance_plan))]
+#[tactic(auto, using(crate::proofs::PlanRuns::run_bind), unfolding(crate::specs::Teletype::type_character_plan, crate::specs::Teletype::write_and_advance_plan))]
 pub(crate) fn type_character<B: Bus>(
     bus: &mut B,
     page: &Page<'_>,
@@ -96,10 +96,10 @@ pub(crate) fn type_character<B: Bus>(
     colouring: Colouring,
 ) -> u16
     requires page { IsPage page.now }
-    requires row { row_of position ≤ page.now.bda.last_row }
-    ensures position { (bus.new, result) ≡ run B.meaning (type_plan page.now.fonts page.now.bda
+    requires row { row_of_position position ≤ page.now.bda.last_row }
+    ensures position { (bus.new, result) ≡ run B.meaning (type_character_plan page.now.fonts page.now.bda
         page.now.number position character colouring) bus.old }
-    ensures row { row_of result ≤ page.now.bda.last_row }
+    ensures row { row_of_position result ≤ page.now.bda.last_row }
 {
     match character {
         BELL => position,
@@ -124,7 +124,7 @@ pub(crate) fn type_character<B: Bus>(
 #[tactic(auto, using(crate::proofs::PlanRuns::run_bind), unfolding(crate::specs::Teletype::teletype_plan))]
 pub(crate) fn teletype<B: Bus>(bus: &mut B, fonts: &Fonts, bda: &mut Bda, character: u8, colour: u8)
     requires data { IsModeSet bda.old }
-    requires row { row_of (cursor_position_of bda.old bda.old.page) ≤ bda.old.last_row }
+    requires row { row_of_position (cursor_position_of bda.old bda.old.page) ≤ bda.old.last_row }
     ensures answer { (bus.new, bda.new) ≡ run B.meaning
         (teletype_plan fonts.now bda.old character colour) bus.old }
     ensures stays { StaysInMode bda.old bda.new }

@@ -15,7 +15,7 @@ use Rattle.clap.proofs.OnLiterals.{clap_on_literals}
 use Rattle.vga.specs.CommandLine.{asm_command, command_line, dis_command, go_command, run_command}
 use Rattle.vga.specs.Job.{Request, request_of, asm, dis, run, go}
 use Rattle.vga.specs.Arguments.{HasPlainPaths, JobAnswers, WordsGiveJobOfRequest, request_of_words, asm_asked, has_bad_limit_word, begins_with_hyphen, count_of, dis_asked, go_asked, is_bad_count}
-use Rattle.vga.specs.Arguments.{run_asked, until_in, until_words, words_of}
+use Rattle.vga.specs.Arguments.{run_asked, until_in, until_words, request_words_with_limit_word}
 use Rattle.vga.proofs.CountLemmas.{count_is_plain, good_count}
 use Rattle.vga_bits.specs.declared.fault.Fault.TheVariants.{OutOfMemory}
 use Rattle.vga.specs.declared.failure.Failure.{Failure}
@@ -388,7 +388,7 @@ asked_by goes rows = go_asked rows
 abbrev rows_behind : Request → Text → List Row
 rows_behind request count = finished (rules (command_for request)) (walk (rules (command_for request)) [] nothing_held (words_after request count)).held
 
-command_met : (program : Text) (request : Request) (count : Text) → request_of_words (program ∷ words_of request count)
+command_met : (program : Text) (request : Request) (count : Text) → request_of_words (program ∷ request_words_with_limit_word request count)
     ≡ asked_by (command_for request) (rows_behind request count)
 unfolding clap_on_literals
 command_met program (asm text script) count = refl
@@ -398,7 +398,7 @@ command_met program (run script fonts (Some n)) count = refl
 command_met program (go text fonts None) count = refl
 command_met program (go text fonts (Some n)) count = refl
 
-count_met : (program : Text) (request : Request) (count : Text) → has_bad_limit_word (program ∷ words_of request count)
+count_met : (program : Text) (request : Request) (count : Text) → has_bad_limit_word (program ∷ request_words_with_limit_word request count)
     ≡ is_bad_count (first_of (codes "until") (rows_behind request count))
 unfolding clap_on_literals
 count_met program (asm text script) count = refl
@@ -432,13 +432,13 @@ ended_counts (run script fonts (Some n)) count is = good_count count n is
 ended_counts (go text fonts None) count is = refl
 ended_counts (go text fonts (Some n)) count is = good_count count n is
 
-request_asked : (program : Text) (request : Request) (count : Text) → IsSound request count → request_of_words (program ∷ words_of request count) ≡ Some request
+request_asked : (program : Text) (request : Request) (count : Text) → IsSound request count → request_of_words (program ∷ request_words_with_limit_word request count) ≡ Some request
 request_asked program request count sound =
     command_met program request count
     ∙ ap (λ (w : Walk). asked_by (command_for request) (finished (rules (command_for request)) w.held)) (words_walked request count sound)
     ∙ ended_asks request count sound.1
 
-request_counts : (program : Text) (request : Request) (count : Text) → IsSound request count → has_bad_limit_word (program ∷ words_of request count) ≡ false
+request_counts : (program : Text) (request : Request) (count : Text) → IsSound request count → has_bad_limit_word (program ∷ request_words_with_limit_word request count) ≡ false
 request_counts program request count sound =
     count_met program request count
     ∙ ap (λ (w : Walk). is_bad_count (first_of (codes "until") (finished (rules (command_for request)) w.held))) (words_walked request count sound)
@@ -452,7 +452,7 @@ command_fault command amiss held = or_else amiss (or_else [] (or_else (settle_fa
     (or_else (defaults_fault (settled (rules command) held).rows (rules command)) (check_fault (built command) (finished (rules command) held) false))))
 
 -- the command line finds nothing amiss but in the use of the command
-amiss_in_command : (program : Text) (request : Request) (count : Text) → fault_of command_line (program ∷ words_of request count)
+amiss_in_command : (program : Text) (request : Request) (count : Text) → fault_of command_line (program ∷ request_words_with_limit_word request count)
     ≡ or_else (command_fault (command_for request) (walk_fault (built (command_for request)) [] begun (words_after request count))
     (walk (rules (command_for request)) [] nothing_held (words_after request count)).held) []
 unfolding clap_on_literals
@@ -473,7 +473,7 @@ nothing_lacks (run script fonts (Some n)) count = refl
 nothing_lacks (go text fonts None) count = refl
 nothing_lacks (go text fonts (Some n)) count = refl
 
-request_passes : (program : Text) (request : Request) (count : Text) → IsSound request count → fault_of command_line (program ∷ words_of request count) ≡ []
+request_passes : (program : Text) (request : Request) (count : Text) → IsSound request count → fault_of command_line (program ∷ request_words_with_limit_word request count) ≡ []
 request_passes program request count sound =
     let command = command_for request in
     amiss_in_command program request count
@@ -487,15 +487,15 @@ request_passes program request count sound =
 pub names_paths : (words : List Text) (result : Result Job Failure) → JobAnswers words result → WordsGiveJobOfRequest words result
 names_paths words result answer program request count are plain is =
     let sound : IsSound request count = (plain, is) in
-    go_on result (subst (λ (ws : List Text). JobAnswers ws result) are answer) (request_asked program request count sound)
+    go_to_next_dot result (subst (λ (ws : List Text). JobAnswers ws result) are answer) (request_asked program request count sound)
     (request_counts program request count sound)
     (request_passes program request count sound)
   where
-    go_on : (r : Result Job Failure) → JobAnswers (program ∷ words_of request count) r → request_of_words (program ∷ words_of request count) ≡ Some request
-        → has_bad_limit_word (program ∷ words_of request count) ≡ false → fault_of command_line (program ∷ words_of request count) ≡ []
+    go_to_next_dot : (r : Result Job Failure) → JobAnswers (program ∷ request_words_with_limit_word request count) r → request_of_words (program ∷ request_words_with_limit_word request count) ≡ Some request
+        → has_bad_limit_word (program ∷ request_words_with_limit_word request count) ≡ false → fault_of command_line (program ∷ request_words_with_limit_word request count) ≡ []
         → MatchResult r (λ job. request_of job ≡ request) (λ failure. failure ≡ Fault OutOfMemory)
-    go_on (Ok job) answer asks counts passes = let same : Some (request_of job) ≡ Some request = sym answer.2 ∙ asks in cc
-    go_on (Err (Words (Refused error))) (usable, inl among) asks counts passes = absurd (subst (IsAmong (kind_of error)) passes among)
-    go_on (Err (Words (Refused error))) (usable, inr (pass, bad, kind)) asks counts passes = let both : false ≡ true = sym counts ∙ bad in cc
-    go_on (Err (Words Missing)) answer asks counts passes = let bad : Some request ≡ None = sym asks ∙ answer.2 in cc
-    go_on (Err (Fault fault)) answer asks counts passes = ap Fault answer
+    go_to_next_dot (Ok job) answer asks counts passes = let same : Some (request_of job) ≡ Some request = sym answer.2 ∙ asks in cc
+    go_to_next_dot (Err (Words (Refused error))) (usable, inl among) asks counts passes = absurd (subst (IsAmong (kind_of error)) passes among)
+    go_to_next_dot (Err (Words (Refused error))) (usable, inr (pass, bad, kind)) asks counts passes = let both : false ≡ true = sym counts ∙ bad in cc
+    go_to_next_dot (Err (Words Missing)) answer asks counts passes = let bad : Some request ≡ None = sym asks ∙ answer.2 in cc
+    go_to_next_dot (Err (Fault fault)) answer asks counts passes = ap Fault answer

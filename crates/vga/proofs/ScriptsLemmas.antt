@@ -14,19 +14,19 @@ use Rattle.vga_script.specs.Spelling.{Spells, encoding}
 use Rattle.vga_script.specs.Text.{SpellsText}
 use Rattle.bios_modes.specs.Fonts.{FontSet}
 use Rattle.vga_run.specs.Run.{RunsScript, RunsOutOfMemory}
-use Rattle.vga.specs.Scripts.{AssembleAnswers, FindsScript, DisassembleAnswers, RunsText, TextRunsOutOfMemory}
+use Rattle.vga.specs.Scripts.{AssembleAnswers, FindsScriptOfText, DisassembleAnswers, RunsText, TextRunsOutOfMemory}
 
 -- ---- a text
 
 -- a text that is not read
-pub unread_text : (input : Option (List ℕ)) (f : Fault) → IsReadingFault input f → FindsScript input (Err f)
-unread_text input f (inl is) = subst (λ (x : Fault). FindsScript input (Err x)) (sym is) tt
-unread_text input f (inr (inl (is, long))) = subst (λ (x : Fault). FindsScript input (Err x)) (sym is) (inl long)
-unread_text input f (inr (inr is)) = subst (λ (x : Fault). FindsScript input (Err x)) (sym is) tt
+pub unread_text : (input : Option (List ℕ)) (f : Fault) → IsReadingFault input f → FindsScriptOfText input (Err f)
+unread_text input f (inl is) = subst (λ (x : Fault). FindsScriptOfText input (Err x)) (sym is) tt
+unread_text input f (inr (inl (is, long))) = subst (λ (x : Fault). FindsScriptOfText input (Err x)) (sym is) (inl long)
+unread_text input f (inr (inr is)) = subst (λ (x : Fault). FindsScriptOfText input (Err x)) (sym is) tt
 
 -- a text that is not assembled
-pub bad_text : (input : Option (List ℕ)) (text : List ℕ) (f : Fault) → IsInput input text → (f ≡ OutOfMemory) ⊎ IsTextFault text f → FindsScript input (Err f)
-bad_text input text f read (inl is) = subst (λ (x : Fault). FindsScript input (Err x)) (sym is) tt
+pub bad_text : (input : Option (List ℕ)) (text : List ℕ) (f : Fault) → IsInput input text → (f ≡ OutOfMemory) ⊎ IsTextFault text f → FindsScriptOfText input (Err f)
+bad_text input text f read (inl is) = subst (λ (x : Fault). FindsScriptOfText input (Err x)) (sym is) tt
 bad_text input text TooLong read (inr (inl long)) = let short = read.1 in absurd (omega arith)
 bad_text input text TooLong read (inr (inr (short, many))) = inr (text, read, many)
 bad_text input text (BadLine n) read (inr (short, bad)) = (text, read, bad)
@@ -34,11 +34,11 @@ bad_text input text _ read (inr bad) = absurd bad
 
 -- a text that is assembled
 pub good_text : (input : Option (List ℕ)) (text : List ℕ) (script : ScriptItems) → IsInput input text → SpellsText text script → IsScript script →
-    FindsScript input (Ok script)
+    FindsScriptOfText input (Ok script)
 good_text input text script read spelled good = (text, read, spelled, good)
 
 -- and its bytes
-pub assembled : (input : Option (List ℕ)) (script : ScriptItems) (result : Result (Vec ℕ Global) Fault) → FindsScript input (Ok script)
+pub assembled : (input : Option (List ℕ)) (script : ScriptItems) (result : Result (Vec ℕ Global) Fault) → FindsScriptOfText input (Ok script)
     → IfOk result (λ bytes. bytes.items ≡ encoding script) → IsOkUnless result OutOfMemory → AssembleAnswers input result
 assembled input script (Ok bytes) found are only = (script, found, are)
 assembled input script (Err f) found are only = subst (λ (x : Fault). AssembleAnswers input (Err x)) (sym only) tt
@@ -46,21 +46,21 @@ assembled input script (Err f) found are only = subst (λ (x : Fault). AssembleA
 -- ---- a text that is run
 
 -- a text that is not assembled
-pub not_run : (until : Option ℕ) (file : List ℕ) (input before after : Option (List ℕ)) (f : Fault) → FindsScript input (Err f) →
+pub not_run : (until : Option ℕ) (file : List ℕ) (input before after : Option (List ℕ)) (f : Fault) → FindsScriptOfText input (Err f) →
     RunsText until file input before after (Err f)
 not_run until file input before after FontSize h = absurd h
 not_run until file input before after WriteFault h = absurd h
 not_run until file input before after f h = h
 
 -- the writer has no part in it
-pub no_write_fault : (input : Option (List ℕ)) (failed : Bool) (f : Fault) → FindsScript input (Err f) → failed ≡ false →
+pub no_write_fault : (input : Option (List ℕ)) (failed : Bool) (f : Fault) → FindsScriptOfText input (Err f) → failed ≡ false →
     failed ≡ is_write_fault {A = Unit} (Err f)
 no_write_fault input failed WriteFault h sound = absurd h
 no_write_fault input failed _ h sound = sound
 
 -- a text whose script is run
 pub script_is_run : (until : Option ℕ) (file : List ℕ) (input before after : Option (List ℕ)) (script : ScriptItems) (result : Result Unit Fault) →
-    FindsScript input (Ok script)
+    FindsScriptOfText input (Ok script)
     → RunsScript until file (expanded script.items) before after result → RunsText until file input before after result
 script_is_run until file input before after script (Ok u) found (size, written) = (size, (script, found, written))
 script_is_run until file input before after script (Err WriteFault) found (size, written) = (size, (script, found, written))
@@ -69,7 +69,7 @@ script_is_run until file input before after script (Err OutOfMemory) found h = t
 script_is_run until file input before after script (Err _) found h = absurd h.1
 
 -- and where its run stops
-pub script_stops : (until : Option ℕ) (fonts : FontSet) (input before after : Option (List ℕ)) (script : ScriptItems) → FindsScript input (Ok script)
+pub script_stops : (until : Option ℕ) (fonts : FontSet) (input before after : Option (List ℕ)) (script : ScriptItems) → FindsScriptOfText input (Ok script)
     → RunsOutOfMemory until fonts (expanded script.items) before after → TextRunsOutOfMemory until fonts input before after
 script_stops until fonts input before after script found stops = (script, found, stops)
 

@@ -127,12 +127,12 @@ until_words None count = []
 until_words (Some n) count = codes "--until" ∷ count ∷ []
 
 -- the words of a request, after the program's name, with this word for its limit
-abbrev pub words_of : Request → Text → List Text
-words_of (asm text script) count = codes "asm" ∷ text ∷ script ∷ []
-words_of (dis script) count = codes "dis" ∷ script ∷ []
-words_of (run script fonts until) count = codes "run" ∷ script ∷ codes "--fonts" ∷ fonts
+abbrev pub request_words_with_limit_word : Request → Text → List Text
+request_words_with_limit_word (asm text script) count = codes "asm" ∷ text ∷ script ∷ []
+request_words_with_limit_word (dis script) count = codes "dis" ∷ script ∷ []
+request_words_with_limit_word (run script fonts until) count = codes "run" ∷ script ∷ codes "--fonts" ∷ fonts
     ∷ until_words until count
-words_of (go text fonts until) count = codes "go" ∷ text ∷ codes "--fonts" ∷ fonts
+request_words_with_limit_word (go text fonts until) count = codes "go" ∷ text ∷ codes "--fonts" ∷ fonts
     ∷ until_words until count
 
 -- the limit of a request
@@ -156,7 +156,7 @@ HasPlainPaths (go text fonts until) = (begins_with_hyphen text ≡ false)
 -- limit, unless an allocation fails.
 abbrev pub WordsGiveJobOfRequest : List Text → Result Job Failure → Type 0
 WordsGiveJobOfRequest words result =
-    (program : Text) (request : Request) (count : Text) → words ≡ program ∷ words_of request count →
+    (program : Text) (request : Request) (count : Text) → words ≡ program ∷ request_words_with_limit_word request count →
     HasPlainPaths request
     → IfSome (until_in request) (λ n. count_of count ≡ Some n)
     → MatchResult result (λ job. request_of job ≡ request) (λ failure. failure ≡ Fault OutOfMemory)

@@ -2,5 +2,5 @@
 use Rattle.std.specs.Prelude.{List, ℕ, ◌++◌, ◌∷◌, [], codes}
 
 -- `vga: `, a text and a newline
-abbrev pub program_line : List ℕ → List ℕ
-program_line text = codes "vga: " ++ (text ++ 10 ∷ [])
+abbrev pub line_with_program_name : List ℕ → List ℕ
+line_with_program_name text = codes "vga: " ++ (text ++ 10 ∷ [])

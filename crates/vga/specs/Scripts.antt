@@ -12,7 +12,7 @@ use Rattle.vga_script.specs.Input.{InputHasFault, InputSpells, InputSpellsText, 
 use Rattle.vga_script.specs.Printing.{printed_script}
 use Rattle.vga_script.specs.Script.{SpellsTooLongScript}
 use Rattle.vga_script.specs.Spelling.{encoding}
-use Rattle.vga_script.specs.Text.{IsBadLine}
+use Rattle.vga_script.specs.Text.{IsFirstBadLine}
 use Rattle.vga_run.specs.Report.{report_of, steps_until}
 use Rattle.vga_run.specs.Run.{RunsOutOfMemory}
 use Rattle.bios_modes.specs.Fonts.{FontSet, font_file_len, fonts_of}
@@ -22,15 +22,15 @@ use Rattle.bios_modes.specs.Fonts.{FontSet, font_file_len, fonts_of}
 abbrev pub IsAssemblingFault : Option (List ℕ) → Fault → Type 0
 IsAssemblingFault input TooLong = IsTooLong input ⊎ ((text : List ℕ) × IsInput input text
     × SpellsTooLongScript text)
-IsAssemblingFault input (BadLine n) = (text : List ℕ) × IsInput input text × IsBadLine text n
+IsAssemblingFault input (BadLine n) = (text : List ℕ) × IsInput input text × IsFirstBadLine text n
 IsAssemblingFault input ReadFault = ⊤
 IsAssemblingFault input OutOfMemory = ⊤
 IsAssemblingFault input _ = ⊥
 
 -- What reading a text answers: the script that it spells, or why there is none.
-abbrev pub FindsScript : Option (List ℕ) → Result (ScriptItems) Fault → Type 0
-FindsScript input (Ok script) = InputSpellsText input script
-FindsScript input (Err fault) = IsAssemblingFault input fault
+abbrev pub FindsScriptOfText : Option (List ℕ) → Result (ScriptItems) Fault → Type 0
+FindsScriptOfText input (Ok script) = InputSpellsText input script
+FindsScriptOfText input (Err fault) = IsAssemblingFault input fault
 
 -- What assembling answers: the bytes of the script that the text spells, or why there is none.
 abbrev pub AssembleAnswers : Option (List ℕ) → Result (Vec ℕ Global) Fault → Type 0

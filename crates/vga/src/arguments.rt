@@ -24,7 +24,7 @@ use vga_bits::Fault;
 const BAD_COUNT: &str = "the number after '--until' must be decimal digits, 0 to 4294967295";
 
 /// Whether a word begins with a plus.
-fn has_plus(word: &str) -> bool
+fn begins_with_plus(word: &str) -> bool
     ensures { result ≡ (slice_index word.now 0 == 43) }
 {
     matches!(word.as_bytes().first(), Some(b'+'))
@@ -35,7 +35,7 @@ fn has_plus(word: &str) -> bool
 fn count_of(word: &str) -> Option<u32>
     ensures { result ≡ count_of word.now }
 {
-    if has_plus(word) {
+    if begins_with_plus(word) {
         None
     } else {
         word.parse().ok()

@@ -1,7 +1,7 @@
 //! The lines that the program itself writes to standard error.
 ghost use Rattle.std.specs.Prelude.{◌≡◌, ◌≤◌, length, codes};
 ghost use Rattle.vga_bits.specs.Fault.{fault_text};
-ghost use Rattle.vga.specs.Lines.{program_line};
+ghost use Rattle.vga.specs.Lines.{line_with_program_name};
 
 use arrayvec::ArrayString;
 use vga_bits::Fault;
@@ -15,7 +15,7 @@ pub type Line = ArrayString<LINE_LEN>;
 /// The line with this text, of at most 34 bytes.
 fn line(text: &str) -> Line
     requires { length text.now ≤ 34 }
-    ensures { result.bytes ≡ program_line text.now }
+    ensures { result.bytes ≡ line_with_program_name text.now }
 {
     let mut line = Line::new();
     line.push_str("vga: ");
@@ -26,14 +26,14 @@ fn line(text: &str) -> Line
 
 /// The line of a fault, as `vga: F1 FontSize`.
 pub fn fault_line(fault: &Fault) -> Line
-    ensures { result.bytes ≡ program_line (fault_text fault.now) }
+    ensures { result.bytes ≡ line_with_program_name (fault_text fault.now) }
 {
     line(fault.name().as_str())
 }
 
 /// The line for words without a command or a path.
-pub fn missing_line() -> Line
-    ensures { result.bytes ≡ program_line (codes "Missing") }
+pub fn line_of_missing_command_or_path() -> Line
+    ensures { result.bytes ≡ line_with_program_name (codes "Missing") }
 {
     line("Missing")
 }

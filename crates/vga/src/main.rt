@@ -28,7 +28,7 @@ fn assemble_file<R: Files + AllocGlobal>(rt: &R, text: &str, script: &str) -> Re
 }
 
 /// Disassembles the script at a path.
-fn print_file<R: Files + Print + AllocGlobal>(rt: &R, script: &str) -> Result<(), Fault> {
+fn disassemble_file<R: Files + Print + AllocGlobal>(rt: &R, script: &str) -> Result<(), Fault> {
     let alloc = rt.alloc();
     let mut script = input_files::open(rt, script)?;
     let mut out = output_files::buffered(alloc, io::writer(rt))?;
@@ -74,7 +74,7 @@ fn do_job<R: Env + Files + Print + AllocGlobal>(rt: &R) -> Result<(), Failure> {
     let words: Vec<String> = args.collect(rt.alloc())?;
     match arguments::job(rt.alloc(), words.as_slice())? {
         Job::Asm { text, script } => assemble_file(rt, text, script)?,
-        Job::Dis { script } => print_file(rt, script)?,
+        Job::Dis { script } => disassemble_file(rt, script)?,
         Job::Run {
             script,
             fonts,
@@ -90,7 +90,7 @@ fn do_job<R: Env + Files + Print + AllocGlobal>(rt: &R) -> Result<(), Failure> {
 fn explain<R: Print + Eprint>(rt: &R, failure: &Failure) -> io::Result<()> {
     match failure {
         Failure::Words(WordsError::Refused(error)) => error.print(rt),
-        Failure::Words(WordsError::Missing) => rt.eprint(lines::missing_line()),
+        Failure::Words(WordsError::Missing) => rt.eprint(lines::line_of_missing_command_or_path()),
         Failure::Fault(fault) => rt.eprint(lines::fault_line(fault)),
     }
 }

@@ -4,7 +4,7 @@ ghost use Rattle.vga_bits.specs.declared.fault.Fault.TheVariants.{WriteFault, Ou
 ghost use Rattle.vga_bits.specs.Tracked.{inner_of, has_failed, is_write_fault};
 ghost use Rattle.bios_modes.specs.Fonts.{fonts_of};
 ghost use Rattle.vga_script.specs.Input.{ReadsScript};
-ghost use Rattle.vga.specs.Scripts.{AssembleAnswers, FindsScript, DisassembleAnswers, RunsText};
+ghost use Rattle.vga.specs.Scripts.{AssembleAnswers, FindsScriptOfText, DisassembleAnswers, RunsText};
 ghost use Rattle.vga.specs.Scripts.{TextRunsOutOfMemory};
 
 use super::output_files::write_all;
@@ -21,7 +21,7 @@ use vga_script::{Script, assemble, decode, encode, print, read_script};
 #[tactic(auto, using(crate::proofs::ScriptsLemmas::unread_text, crate::proofs::ScriptsLemmas::bad_text, crate::proofs::ScriptsLemmas::good_text))]
 fn read_and_assemble<R: Read>(alloc: Global, text: &mut Tracked<R>) -> Result<Script, Fault>
     requires { has_failed text.old ≡ false }
-    ensures answer { FindsScript (R.remaining (inner_of text.old)) result }
+    ensures answer { FindsScriptOfText (R.remaining (inner_of text.old)) result }
     ensures reading { ReadsScript R.remaining text.old text.new result }
 {
     let text = read_script(alloc, text)?;

@@ -8,6 +8,7 @@ use Rattle.vga_run.specs.Answer.{StepAnswer, Picture, of_drawn, of_frame, of_sha
 use Rattle.vga_c.specs.declared.frames.Size.{Size}
 use Rattle.vga_c.specs.Frames.{HasDotBytes, HasDotWords}
 use Rattle.vga_c.specs.Forms.{HasPictureInForm}
+use Rattle.vga_c.specs.Indexed.{HasColourNumbers, IndexedOutput}
 use Rattle.vga_c.specs.declared.forms.Form.{Form}
 use Rattle.vga_c.specs.declared.forms.WordPicture.{WordPicture}
 
@@ -33,3 +34,8 @@ pub form_of_frame : (dots : List Dot) (lent : Drawn) (form : Form) (pitch : ℕ)
     HasPictureInForm form (of_frame dots) pitch told_old told old new status
 form_of_frame dots lent form pitch told_old told old new status is has =
     of_dots (λ (reply : StepAnswer). HasPictureInForm form reply pitch told_old told old new status) dots lent is has
+
+pub numbers_of_frame : (dots : List Dot) (lent : Drawn) (before after : IndexedOutput) (status : ℕ) → IsPictureOf dots lent →
+    HasColourNumbers (of_drawn lent) before after status → HasColourNumbers (of_frame dots) before after status
+numbers_of_frame dots lent before after status is told =
+    of_dots (λ (reply : StepAnswer). HasColourNumbers reply before after status) dots lent is told

@@ -11,3 +11,4 @@ pub mod FixedLemmas
 pub mod ScreenLemmas
 pub mod CardsMove
 pub mod ColourLemmas
+pub mod NumberLemmas

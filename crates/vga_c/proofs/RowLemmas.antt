@@ -32,8 +32,8 @@ module _ (w y p : ℕ) (word : ℕ → ℕ → ℕ) (old mid new : List ℕ) (fi
       before (p * z + x) (before_row p x y z within earlier) ∙ so_far.beside x z past within earlier
 
   -- with one row more, what is written is the picture with one row more
-  pub counters_after_line : length new ≡ length mid → AreRowsOfWords w (y + 1) p word old new
-  counters_after_line size = record {
+  pub rows_after_another : length new ≡ length mid → AreRowsOfWords w (y + 1) p word old new
+  rows_after_another size = record {
     words = λ x z a b. word_of x z a (row_or_earlier y z b);
     beside = λ x z a b c. beside_of x z a b (row_or_earlier y z c);
     behind = λ i a. behind i (omega (arith, a, fits)) ∙ so_far.behind i (omega (arith, a));

@@ -36,10 +36,10 @@ pub told_service : (m : Machine) (c : CardState) (d : BiosData) (block : List �
     → HasServiceOutcome outcome before after status
     → IsCallTaken m (with m c d) (call_step before.registers block) before after status
 unfolding after_int10 after_step answer_to
-told_service m c d block before after status (Ok reply) e takes told = inr (subst (Known m c d before after status) e (refl, told))
-told_service m c d block before after status (Err (Refused why)) e takes told = inr (subst (Known m c d before after status) e (refl, told))
-told_service m c d block before after status (Err OutOfMemory) e takes told =
-    inl (told.0, (takes refl, (told.1, subst (λ (x : CardState). with m x d ≡ m) (sym e.0) (subst (λ (x : BiosData). with m m.card x ≡ m) (sym e.1) refl))))
+told_service m c d block before after status (Ok reply) e is_prefix_taken told = inr (subst (Known m c d before after status) e (refl, told))
+told_service m c d block before after status (Err (Refused why)) e is_prefix_taken told = inr (subst (Known m c d before after status) e (refl, told))
+told_service m c d block before after status (Err OutOfMemory) e is_prefix_taken told =
+    inl (told.0, (is_prefix_taken refl, (told.1, subst (λ (x : CardState). with m x d ≡ m) (sym e.0) (subst (λ (x : BiosData). with m m.card x ≡ m) (sym e.1) refl))))
 
 -- with a block of as many bytes as it reads no call is refused for it
 pub enough : FittingBlocksAreAccepted card_meaning → (m : Machine) (r : CallRegisters) (len : ℕ) → len ≡ block_len (call_of (named_regs r)) → IsBlockEnough m r len

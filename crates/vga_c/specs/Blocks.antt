@@ -10,7 +10,7 @@ use Rattle.vga_run.specs.Answer.{Short}
 use Rattle.vga_run.specs.Step.{answer_to}
 use Rattle.vga_c.specs.declared.blocks.BlockPlace.{BlockPlace}
 use Rattle.vga_c.specs.declared.services.CallRegisters.{CallRegisters}
-use Rattle.vga_c.specs.Handle.{HandleState, machine_of}
+use Rattle.vga_c.specs.Handle.{HandleState, machine_after_owed_dots}
 use Rattle.vga_c.specs.Services.{call_step}
 
 -- the registers of a call, as the services see them
@@ -31,4 +31,4 @@ IsBlockEnough m r len = (block : List ℕ) → length block ≡ len →
 -- is not refused for its block
 abbrev pub TellsBlock : HandleState → CallRegisters → BlockPlace → ℕ → Type 0
 TellsBlock old r told status = old.is_open ≡ true →
-    IsBlockPlace r told × (IsBlockEnough (machine_of old) r told.len × (status ≡ 0))
+    IsBlockPlace r told × (IsBlockEnough (machine_after_owed_dots old) r told.len × (status ≡ 0))

@@ -11,7 +11,7 @@ use Rattle.vga_run.specs.CycleList.{cycles_of_call, listed_bytes, IsUnlisted}
 use Rattle.vga_run.specs.Step.{after_int10}
 use Rattle.vga_c.specs.declared.services.CallRegisters.{CallRegisters}
 use Rattle.vga_c.specs.Buffers.{IsCopied}
-use Rattle.vga_c.specs.Handle.{HandleState, machine_of}
+use Rattle.vga_c.specs.Handle.{HandleState, machine_after_owed_dots}
 use Rattle.vga_c.specs.Status.{out_of_memory_status, refusal_status, too_long_status}
 
 -- the registers of a call, as the services see them
@@ -56,5 +56,5 @@ AreCyclesListed m registers block before after status = (outcome : Result (List 
 -- says why not
 abbrev pub OpenCardListsCycles : HandleState → CallRegisters → List ℕ → ListOutput → ListOutput → ℕ → Type 0
 OpenCardListsCycles old registers block before after status = old.is_open ≡ true →
-    IsValid (machine_of old).bda →
-    AreCyclesListed (machine_of old) registers block before after status
+    IsValid (machine_after_owed_dots old).bda →
+    AreCyclesListed (machine_after_owed_dots old) registers block before after status

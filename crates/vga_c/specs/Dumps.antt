@@ -7,10 +7,10 @@ use Rattle.vga_script.specs.declared.dump_range.Shown.{Shown}
 use Rattle.vga_script.specs.declared.dump_range.Shown.TheVariants.{Plane}
 use Rattle.vga_run.specs.declared.machine.Machine.{Machine}
 use Rattle.vga_run.specs.Step.{dump_refusal, dump_text}
-use Rattle.vga_c.specs.Handle.{HandleState, machine_of}
+use Rattle.vga_c.specs.Handle.{HandleState, machine_after_owed_dots}
 use Rattle.vga_c.specs.Buffers.{IsCopied}
 use Rattle.vga_c.specs.Cards.{OpenCardKeepsMachine, ClosedCardStaysUnchanged, ClosedCardLeavesOutput}
-use Rattle.vga_c.specs.Status.{bad_argument_status, bad_data_status, out_of_memory_status}
+use Rattle.vga_c.specs.Status.{bad_argument_status, bad_bios_data_status, out_of_memory_status}
 use Rattle.vga_c.specs.Status.{refusal_status}
 
 -- The caller's output: a buffer for the text, and its length.
@@ -38,18 +38,18 @@ OutputHasDump (Some why) text before after status =
 abbrev pub DumpsMachine : Machine → Shown → DumpOutput → DumpOutput → ℕ → Type 0
 DumpsMachine m what before after status =
     (IsValid m.bda → OutputHasDump (dump_refusal m what) (dump_text m what) before after status)
-    × ((IsValid m.bda → ⊥) → IsUnchangedOutput bad_data_status before after status)
+    × ((IsValid m.bda → ⊥) → IsUnchangedOutput bad_bios_data_status before after status)
 
 -- a call that reads a card: the card stays as it is, and the output of one that is not open does
 -- too
-abbrev pub LeavesCardUnchanged : HandleState → HandleState → DumpOutput → DumpOutput → ℕ → Type 0
-LeavesCardUnchanged old new before after status = OpenCardKeepsMachine old new
+abbrev pub LeavesCardAndOutputOfClosedCard : HandleState → HandleState → DumpOutput → DumpOutput → ℕ → Type 0
+LeavesCardAndOutputOfClosedCard old new before after status = OpenCardKeepsMachine old new
     × (ClosedCardStaysUnchanged old new status × ClosedCardLeavesOutput old before after)
 
 -- a call dumps this part of an open card; the card stays as it is
 abbrev pub Shows : Shown → HandleState → HandleState → DumpOutput → DumpOutput → ℕ → Type 0
-Shows what old new before after status = LeavesCardUnchanged old new before after status
-    × (old.is_open ≡ true → DumpsMachine (machine_of old) what before after status)
+Shows what old new before after status = LeavesCardAndOutputOfClosedCard old new before after status
+    × (old.is_open ≡ true → DumpsMachine (machine_after_owed_dots old) what before after status)
 
 -- bytes of a plane: 1 to 256, none past its end
 abbrev pub is_plane_part : ℕ → ℕ → ℕ → Bool
@@ -61,7 +61,7 @@ is_plane_part plane offset count = nat_lt plane 4 && (nat_lt 0 count && (nat_le 
 abbrev pub DumpsPlanePart : ℕ → ℕ → ℕ → HandleState → HandleState → DumpOutput → DumpOutput → ℕ
     → Type 0
 DumpsPlanePart plane offset count old new before after status =
-    LeavesCardUnchanged old new before after status
+    LeavesCardAndOutputOfClosedCard old new before after status
     × ((is_plane_part plane offset count ≡ true →
     Shows (Plane plane offset count) old new before after status)
     × (is_plane_part plane offset count ≡ false → old.is_open ≡ true →

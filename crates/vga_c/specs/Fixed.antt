@@ -5,30 +5,30 @@ use Rattle.vga_bits.specs.Bytes.{zeros}
 use Rattle.vga_run.specs.declared.machine.Machine.{Machine}
 use Rattle.vga_run.specs.Saved.{number_of_four_bytes, four_bytes_of_number, saved_machine}
 use Rattle.vga_c.specs.Checksum.{adler_32}
-use Rattle.vga_c.specs.Handle.{HandleState, machine_of}
+use Rattle.vga_c.specs.Handle.{HandleState, machine_after_owed_dots}
 use Rattle.vga_c.specs.Saved.{IsRestored}
 use Rattle.vga_c.specs.Status.{no_room_status}
 
 -- a state and zeros, which with the checksum make `len` bytes
-abbrev pub state_and_zeros : List ℕ → ℕ → List ℕ
-state_and_zeros state len = state ++ zeros (len - (4 + length state))
+abbrev pub state_padded_for_checksum : List ℕ → ℕ → List ℕ
+state_padded_for_checksum state len = state ++ zeros (len - (4 + length state))
 
 -- a state of a fixed length: the state, zeros, and the checksum of both
-abbrev pub fixed_bytes : List ℕ → ℕ → List ℕ
-fixed_bytes state len =
-    state_and_zeros state len ++ four_bytes_of_number (adler_32 (state_and_zeros state len))
+abbrev pub state_with_padding_and_checksum : List ℕ → ℕ → List ℕ
+state_with_padding_and_checksum state len =
+    state_padded_for_checksum state len ++ four_bytes_of_number (adler_32 (state_padded_for_checksum state len))
 
 -- the caller's whole buffer has such a state; or it is too short, and stays as it is
-abbrev pub IsSavedFixed : List ℕ → List ℕ → List ℕ → ℕ → Type 0
-IsSavedFixed state old new status =
-    (4 + length state ≤ length old → (new ≡ fixed_bytes state (length old)) × (status ≡ 0))
+abbrev pub IsSavedFixedLengthState : List ℕ → List ℕ → List ℕ → ℕ → Type 0
+IsSavedFixedLengthState state old new status =
+    (4 + length state ≤ length old → (new ≡ state_with_padding_and_checksum state (length old)) × (status ≡ 0))
     × (length old < 4 + length state → (new ≡ old) × (status ≡ no_room_status))
 
 -- the caller's whole buffer has the state of an open card, with zeros and a checksum; or it is too
 -- short, and stays as it is
-abbrev pub SavesFixed : HandleState → List ℕ → List ℕ → ℕ → Type 0
-SavesFixed card old new status = card.is_open ≡ true →
-    IsSavedFixed (saved_machine (machine_of card)) old new status
+abbrev pub SavesFixedLengthState : HandleState → List ℕ → List ℕ → ℕ → Type 0
+SavesFixedLengthState card old new status = card.is_open ≡ true →
+    IsSavedFixedLengthState (saved_machine (machine_after_owed_dots card)) old new status
 
 -- the status that says that the checksum of a state of a fixed length is wrong
 abbrev pub wrong_checksum_status : ℕ
@@ -52,13 +52,13 @@ HasRightChecksum bytes = (4 ≤ length bytes) × (number_of_four_bytes bytes (le
 
 -- if the checksum is right, the machine is restored from the state, or the state is refused;
 -- otherwise the machine stays as it is
-abbrev pub IsRestoredFixed : Machine → Machine → List ℕ → ℕ → Type 0
-IsRestoredFixed old new bytes status =
+abbrev pub IsRestoredFromFixedLengthState : Machine → Machine → List ℕ → ℕ → Type 0
+IsRestoredFromFixedLengthState old new bytes status =
     (HasRightChecksum bytes → IsRestored old new (state_without_padding (bytes_before_checksum bytes)) status)
     × (¬ HasRightChecksum bytes → (new ≡ old) × (status ≡ wrong_checksum_status))
 
 -- an open card stays open, and is restored from a state of a fixed length if its checksum is right;
 -- otherwise it stays as it is
-abbrev pub RestoresFixed : HandleState → HandleState → List ℕ → ℕ → Type 0
-RestoresFixed old new bytes status = old.is_open ≡ true → (new.is_open ≡ true)
-    × IsRestoredFixed (machine_of old) (machine_of new) bytes status
+abbrev pub RestoresFixedLengthState : HandleState → HandleState → List ℕ → ℕ → Type 0
+RestoresFixedLengthState old new bytes status = old.is_open ≡ true → (new.is_open ≡ true)
+    × IsRestoredFromFixedLengthState (machine_after_owed_dots old) (machine_after_owed_dots new) bytes status

@@ -9,7 +9,7 @@ use Rattle.vga_run.specs.Answer.{StepAnswer, Picture, Ragged}
 use Rattle.vga_run.specs.Step.{after_step, answer_to}
 use Rattle.vga_c.specs.declared.forms.Form.{Form}
 use Rattle.vga_c.specs.declared.forms.WordPicture.{WordPicture}
-use Rattle.vga_c.specs.Handle.{HandleState, machine_of}
+use Rattle.vga_c.specs.Handle.{HandleState, machine_after_owed_dots}
 use Rattle.vga_c.specs.Status.{bad_argument_status, no_room_status, ragged_status}
 
 -- a component of six bits widened to eight: its two highest bits follow it
@@ -115,5 +115,5 @@ DrawsFrameInForm flags old_machine new_machine pitch told_old told old new statu
 abbrev pub DrawsOpenCardInForm : ℕ → HandleState → HandleState → ℕ → WordPicture → WordPicture → List ℕ →
     List ℕ → ℕ → Type 0
 DrawsOpenCardInForm flags card_old card pitch told_old told old new status = card_old.is_open ≡ true →
-    (card.is_open ≡ true) × DrawsFrameInForm flags (machine_of card_old) (machine_of card) pitch told_old
+    (card.is_open ≡ true) × DrawsFrameInForm flags (machine_after_owed_dots card_old) (machine_after_owed_dots card) pitch told_old
     told old new status

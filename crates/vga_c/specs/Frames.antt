@@ -10,21 +10,21 @@ use Rattle.vga_run.specs.Answer.{StepAnswer, Picture, Ragged}
 use Rattle.vga_run.specs.Step.{after_step, answer_to}
 use Rattle.vga_run.specs.Saved.{machine_without_unseen_dots}
 use Rattle.vga_c.specs.declared.frames.Size.{Size}
-use Rattle.vga_c.specs.Handle.{HandleState, machine_of}
+use Rattle.vga_c.specs.Handle.{HandleState, machine_after_owed_dots}
 use Rattle.vga_c.specs.Forms.{AreRowsInBuffer, rgb_word_of_dot}
-use Rattle.vga_c.specs.Buffers.{IsCopied, room_status, with_prefix}
+use Rattle.vga_c.specs.Buffers.{IsCopied, room_status, buffer_with_bytes_if_room}
 use Rattle.vga_c.specs.Cards.{HoldsMachine}
 use Rattle.vga_c.specs.Status.{ragged_status}
 
 -- an open card comes to the end of the frame under way
 abbrev pub EndsFrame : HandleState → HandleState → Type 0
-EndsFrame old new = old.is_open ≡ true → HoldsMachine new (after_step (machine_of old) Frame)
+EndsFrame old new = old.is_open ≡ true → HoldsMachine new (after_step (machine_after_owed_dots old) Frame)
 
 -- An open card comes to the end of the frame under way. It has lost the dots of that frame, which
 -- no step can see any more.
 abbrev pub SkipsFrame : HandleState → HandleState → ℕ → Type 0
 SkipsFrame old new status = old.is_open ≡ true →
-    HoldsMachine new (machine_without_unseen_dots (after_step (machine_of old) Frame)) × (status ≡ 0)
+    HoldsMachine new (machine_without_unseen_dots (after_step (machine_after_owed_dots old) Frame)) × (status ≡ 0)
 
 -- how large a picture is
 abbrev pub size_of : ℕ → ℕ → Size
@@ -36,7 +36,7 @@ size_of width height = record { width = width; height = height }
 -- in width, the status says so, and the output is unchanged.
 abbrev pub HasDotBytes : StepAnswer → Size → Size → List ℕ → List ℕ → ℕ → Type 0
 HasDotBytes (Picture width height bytes) size_old size old new status =
-    (size ≡ size_of width height) × ((new ≡ with_prefix bytes old)
+    (size ≡ size_of width height) × ((new ≡ buffer_with_bytes_if_room bytes old)
     × (status ≡ room_status (length bytes) (length old)))
 HasDotBytes Ragged size_old size old new status =
     (size ≡ size_old) × ((new ≡ old) × (status ≡ ragged_status))
@@ -46,7 +46,7 @@ HasDotBytes reply size_old size old new status = ⊥
 -- there was no room
 abbrev pub DrawsBytes : HandleState → Size → Size → List ℕ → List ℕ → ℕ → Type 0
 DrawsBytes card size_old size old new status = card.is_open ≡ true →
-    HasDotBytes (answer_to (machine_of card) Frame) size_old size old new status
+    HasDotBytes (answer_to (machine_after_owed_dots card) Frame) size_old size old new status
 
 -- ---- a word a dot
 
@@ -64,7 +64,7 @@ HasDotWords reply pitch size_old size old new status = ⊥
 -- there was no room
 abbrev pub DrawsWords : HandleState → ℕ → Size → Size → List ℕ → List ℕ → ℕ → Type 0
 DrawsWords card pitch size_old size old new status = card.is_open ≡ true →
-    HasDotWords (answer_to (machine_of card) Frame) pitch size_old size old new status
+    HasDotWords (answer_to (machine_after_owed_dots card) Frame) pitch size_old size old new status
 
 -- ---- line by line
 
@@ -75,23 +75,23 @@ frame_dots m = (frame m.card).drawn
 -- the output has the number of dots of each line of an open card's frame
 abbrev pub CountsDotsOfLines : HandleState → List ℕ → Type 0
 CountsDotsOfLines card widths = card.is_open ≡ true →
-    widths ≡ line_widths (frame_dots (machine_of card))
+    widths ≡ line_widths (frame_dots (machine_after_owed_dots card))
 
 -- the output has the colours of the dots, and how many bytes they are; or there was no room for
 -- them
 abbrev pub GivesDotBytes : HandleState → List ℕ → List ℕ → ℕ → ℕ → Type 0
 GivesDotBytes card old new len status = card.is_open ≡ true →
-    IsCopied (bytes_of_dots (frame_dots (machine_of card))) old new len status
+    IsCopied (bytes_of_dots (frame_dots (machine_after_owed_dots card))) old new len status
 
 -- ---- what is drawn until now
 
 -- the output has the number of dots of each line that an open card has drawn until now
-abbrev pub CountsDrawnLines : HandleState → List ℕ → Type 0
-CountsDrawnLines card widths = card.is_open ≡ true →
-    widths ≡ line_widths (machine_of card).card.drawn
+abbrev pub CountsDotsOfDrawnLines : HandleState → List ℕ → Type 0
+CountsDotsOfDrawnLines card widths = card.is_open ≡ true →
+    widths ≡ line_widths (machine_after_owed_dots card).card.drawn
 
 -- the output has the colours of these dots, and how many bytes they are; or there was no room for
 -- them
 abbrev pub GivesDrawnBytes : HandleState → List ℕ → List ℕ → ℕ → ℕ → Type 0
 GivesDrawnBytes card old new len status = card.is_open ≡ true →
-    IsCopied (bytes_of_dots (machine_of card).card.drawn) old new len status
+    IsCopied (bytes_of_dots (machine_after_owed_dots card).card.drawn) old new len status

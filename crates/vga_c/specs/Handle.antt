@@ -12,5 +12,5 @@ pub record HandleState : Type 0 where
   pub kept : Sealed
 
 -- the machine of an open card: the one it keeps, after the dots that it owes
-unfoldable pub machine_of : HandleState → Machine
-machine_of card = after_step card.kept.machine (Advance card.owed)
+unfoldable pub machine_after_owed_dots : HandleState → Machine
+machine_after_owed_dots card = after_step card.kept.machine (Advance card.owed)

@@ -10,6 +10,8 @@ pub mod Services
 pub mod Blocks
 pub mod Forms
 pub mod Frames
+pub mod Palette
+pub mod Indexed
 pub mod ScanLines
 pub mod Dumps
 pub mod State

@@ -5,7 +5,7 @@ use Rattle.vga_bits.specs.declared.state_fault.StateFault.TheVariants.{BadMagic,
 use Rattle.vga_bits.specs.declared.state_fault.StateFault.TheVariants.{BadLength, BadPart}
 use Rattle.vga_run.specs.declared.machine.Machine.{Machine}
 use Rattle.vga_run.specs.Saved.{IsSavedMachine, IsStateFault, machine_from, saved_machine}
-use Rattle.vga_c.specs.Handle.{HandleState, machine_of}
+use Rattle.vga_c.specs.Handle.{HandleState, machine_after_owed_dots}
 use Rattle.vga_c.specs.Buffers.{IsCopied}
 
 -- how many bytes the state of a machine has
@@ -15,7 +15,7 @@ saved_size m = length (saved_machine m)
 -- the caller's buffer begins with the state of an open card, if it has room
 abbrev pub Saves : HandleState → List ℕ → List ℕ → ℕ → ℕ → Type 0
 Saves card old new len status = card.is_open ≡ true →
-    IsCopied (saved_machine (machine_of card)) old new len status
+    IsCopied (saved_machine (machine_after_owed_dots card)) old new len status
 
 -- the status that says why bytes are not a saved state
 abbrev pub state_status : StateFault → ℕ
@@ -35,4 +35,4 @@ IsRestored old new bytes status =
 -- state, and it stays as it is
 abbrev pub Restores : HandleState → HandleState → List ℕ → ℕ → Type 0
 Restores old new bytes status = old.is_open ≡ true → (new.is_open ≡ true)
-    × IsRestored (machine_of old) (machine_of new) bytes status
+    × IsRestored (machine_after_owed_dots old) (machine_after_owed_dots new) bytes status

@@ -8,7 +8,7 @@ use Rattle.vga_card.specs.Picture.{bytes_of_dots}
 use Rattle.vga_run.specs.declared.machine.Machine.{Machine}
 use Rattle.vga_c.specs.declared.scan_lines.ScanLine.{ScanLine}
 use Rattle.vga_c.specs.Forms.{AreRowsInBuffer, rgb_word_of_dot, wants_opaque_words}
-use Rattle.vga_c.specs.Handle.{HandleState, machine_of}
+use Rattle.vga_c.specs.Handle.{HandleState, machine_after_owed_dots}
 use Rattle.vga_c.specs.Status.{bad_argument_status}
 
 -- how many dots the line under way has when it ends
@@ -43,5 +43,5 @@ DrawsLine flags old_machine new_machine told_old told old new status =
 abbrev pub DrawsLineOfOpenCard : ℕ → HandleState → HandleState → ScanLine → ScanLine → List ℕ → List ℕ →
     ℕ → Type 0
 DrawsLineOfOpenCard flags card_old card told_old told old new status = card_old.is_open ≡ true →
-    (card.is_open ≡ true) × DrawsLine flags (machine_of card_old) (machine_of card) told_old told
+    (card.is_open ≡ true) × DrawsLine flags (machine_after_owed_dots card_old) (machine_after_owed_dots card) told_old told
     old new status

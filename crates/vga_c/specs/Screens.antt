@@ -7,7 +7,7 @@ use Rattle.bios_screen.specs.Screen.{Screen}
 use Rattle.bios_screen.specs.Parts.{cell_at, pixel_at, cursor_at}
 use Rattle.bios_screen.specs.Shown.{shown}
 use Rattle.vga_run.specs.declared.machine.Machine.{Machine}
-use Rattle.vga_c.specs.Handle.{HandleState, machine_of}
+use Rattle.vga_c.specs.Handle.{HandleState, machine_after_owed_dots}
 use Rattle.vga_c.specs.declared.screens.ScreenLayout.{ScreenLayout}
 use Rattle.vga_c.specs.declared.screens.Cell.{Cell}
 use Rattle.vga_c.specs.declared.screens.Place.{Place}
@@ -75,7 +75,7 @@ MachineAnswersFromScreen m ask before after status = ((after ≡ before) × (sta
 -- the output has what was asked of the screen that an open card shows
 abbrev pub OpenCardAnswersFromScreen : {A : Type 0} → (Screen → Option A) → HandleState → A → A → ℕ → Type 0
 OpenCardAnswersFromScreen ask card before after status = card.is_open ≡ true →
-    MachineAnswersFromScreen (machine_of card) ask before after status
+    MachineAnswersFromScreen (machine_after_owed_dots card) ask before after status
 
 -- asks a screen for its layout
 abbrev pub ask_layout : Screen → Option ScreenLayout

@@ -12,10 +12,10 @@ use Rattle.vga_run.specs.declared.machine.Machine.{Machine}
 use Rattle.vga_run.specs.declared.answer.Answer.TheVariants.{Refused}
 use Rattle.vga_run.specs.Answer.{StepAnswer, Short, Served, of_service}
 use Rattle.vga_run.specs.Step.{AllocatesMemory, after_step, answer_to}
-use Rattle.vga_c.specs.Handle.{HandleState, machine_of}
+use Rattle.vga_c.specs.Handle.{HandleState, machine_after_owed_dots}
 use Rattle.vga_c.specs.declared.services.CallRegisters.{CallRegisters}
 use Rattle.vga_c.specs.Buffers.{IsCopied}
-use Rattle.vga_c.specs.Status.{bad_data_status, out_of_memory_status, refusal_status}
+use Rattle.vga_c.specs.Status.{bad_bios_data_status, out_of_memory_status, refusal_status}
 
 -- The caller's output: the registers, a buffer for a table, and the table's length.
 pub record ServiceOutput : Type 0 where
@@ -65,18 +65,18 @@ IsCallTaken old new step before after status =
 -- an open card with valid BIOS data takes the step of a call, and the output has its answer; the
 -- data stay valid
 abbrev pub OpenCardTakesCall : HandleState → HandleState → List ℕ → ServiceOutput → ServiceOutput → ℕ → Type 0
-OpenCardTakesCall old new block before after status = old.is_open ≡ true → IsValid (machine_of old).bda →
-    (new.is_open ≡ true) × (IsValid (machine_of new).bda
-    × IsCallTaken (machine_of old) (machine_of new) (call_step before.registers block) before after
+OpenCardTakesCall old new block before after status = old.is_open ≡ true → IsValid (machine_after_owed_dots old).bda →
+    (new.is_open ≡ true) × (IsValid (machine_after_owed_dots new).bda
+    × IsCallTaken (machine_after_owed_dots old) (machine_after_owed_dots new) (call_step before.registers block) before after
     status)
 
 -- a machine whose BIOS data are not valid stays as it is, the output too, and the status says so
-abbrev pub InvalidDataChangeNothing : {A : Type 0} → Machine → Machine → A → A → ℕ → Type 0
-InvalidDataChangeNothing old new before after status = (IsValid old.bda → ⊥) →
-    (new ≡ old) × ((after ≡ before) × (status ≡ bad_data_status))
+abbrev pub InvalidBiosDataChangeNothing : {A : Type 0} → Machine → Machine → A → A → ℕ → Type 0
+InvalidBiosDataChangeNothing old new before after status = (IsValid old.bda → ⊥) →
+    (new ≡ old) × ((after ≡ before) × (status ≡ bad_bios_data_status))
 
 -- an open card whose BIOS data are not valid stays as it is, the output too, and the status says so
-abbrev pub InvalidDataChangeNoCard : {A : Type 0} → HandleState → HandleState → A → A → ℕ → Type 0
-InvalidDataChangeNoCard old new before after status = old.is_open ≡ true →
-    (new.is_open ≡ true) × InvalidDataChangeNothing (machine_of old) (machine_of new) before after
+abbrev pub InvalidBiosDataChangeNoCard : {A : Type 0} → HandleState → HandleState → A → A → ℕ → Type 0
+InvalidBiosDataChangeNoCard old new before after status = old.is_open ≡ true →
+    (new.is_open ≡ true) × InvalidBiosDataChangeNothing (machine_after_owed_dots old) (machine_after_owed_dots new) before after
     status

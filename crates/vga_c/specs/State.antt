@@ -8,7 +8,7 @@ use Rattle.vga_dac.specs.declared.component.Component.TheVariants.{Red, Green, B
 use Rattle.vga_card.specs.Dots.{dots_of_frame_so_far}
 use Rattle.vga_card.specs.Picture.{row_count}
 use Rattle.vga_run.specs.declared.machine.Machine.{Machine}
-use Rattle.vga_c.specs.Handle.{HandleState, machine_of}
+use Rattle.vga_c.specs.Handle.{HandleState, machine_after_owed_dots}
 use Rattle.vga_c.specs.declared.state.Registers.{Registers}
 use Rattle.vga_c.specs.declared.state.Colour.{Colour}
 use Rattle.vga_c.specs.declared.state.Beam.{Beam}
@@ -110,4 +110,4 @@ ReadsPlanePartOrRefuses memory plane offset old new status =
 -- the output has bytes of a plane of an open card's memory, if they lie within the plane
 abbrev pub OpenCardTellsPlanePart : ℕ → ℕ → HandleState → List ℕ → List ℕ → ℕ → Type 0
 OpenCardTellsPlanePart plane offset card old new status = card.is_open ≡ true →
-    ReadsPlanePartOrRefuses (machine_of card).card.host.memory plane offset old new status
+    ReadsPlanePartOrRefuses (machine_after_owed_dots card).card.host.memory plane offset old new status

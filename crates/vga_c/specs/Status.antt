@@ -66,12 +66,16 @@ abbrev pub bad_argument_status : ℕ
 bad_argument_status = 26
 
 -- the BIOS data are not valid
-abbrev pub bad_data_status : ℕ
-bad_data_status = 27
+abbrev pub bad_bios_data_status : ℕ
+bad_bios_data_status = 27
 
 -- the adapter shows no plain screen
 abbrev pub no_screen_status : ℕ
 no_screen_status = 28
+
+-- the picture has more than 256 colours
+abbrev pub many_colours_status : ℕ
+many_colours_status = 35
 
 -- a script would have more bytes than a script may have
 abbrev pub too_long_status : ℕ

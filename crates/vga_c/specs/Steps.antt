@@ -10,7 +10,7 @@ use Rattle.vga_run.specs.declared.machine.Machine.{Machine}
 use Rattle.vga_run.specs.Report.{report_from}
 use Rattle.vga_run.specs.Run.{HasTakenFirstSteps}
 use Rattle.vga_run.specs.Step.{after_steps}
-use Rattle.vga_c.specs.Handle.{HandleState, machine_of}
+use Rattle.vga_c.specs.Handle.{HandleState, machine_after_owed_dots}
 use Rattle.vga_c.specs.Buffers.{IsCopied}
 use Rattle.vga_c.specs.Outcome.{fault_status, fault_place}
 use Rattle.vga_c.specs.Status.{out_of_memory_status}
@@ -40,22 +40,22 @@ AreStepsTaken steps number old new before after status = (new ≡ after_steps ol
     × IsCopied (report_from old number steps) before.report after.report after.len status
 
 -- an allocation failed: some of the first steps are taken, and the output is unchanged
-abbrev pub AreStepsCutOff : List Step → Machine → Machine → StepsOutput → StepsOutput → ℕ → Type 0
-AreStepsCutOff steps old new before after status = HasTakenFirstSteps old steps new × (after ≡ before)
+abbrev pub AreStepsCutOffByFailedAllocation : List Step → Machine → Machine → StepsOutput → StepsOutput → ℕ → Type 0
+AreStepsCutOffByFailedAllocation steps old new before after status = HasTakenFirstSteps old steps new × (after ≡ before)
     × (status ≡ out_of_memory_status)
 
 -- the steps are taken and the output has their report; or an allocation failed in one of them
-abbrev pub AreTakenOrCutOff : List Step → ℕ → Machine → Machine → StepsOutput → StepsOutput → ℕ
+abbrev pub AreStepsTakenOrAllocationFails : List Step → ℕ → Machine → Machine → StepsOutput → StepsOutput → ℕ
     → Type 0
-AreTakenOrCutOff steps number old new before after status =
+AreStepsTakenOrAllocationFails steps number old new before after status =
     AreStepsTaken steps number old new before after status
-    ⊎ AreStepsCutOff steps old new before after status
+    ⊎ AreStepsCutOffByFailedAllocation steps old new before after status
 
 -- the bytes spell a script, and these of its steps are taken
 abbrev pub TakesStepsOfScript : List ℕ → ℕ → ℕ → Machine → Machine → StepsOutput → StepsOutput → ℕ → Type 0
 TakesStepsOfScript script first most old new before after status = (length script ≤ script_limit)
     × ((steps : List Step) × SpellsExpanded script steps
-    × AreTakenOrCutOff (asked_steps first most steps) (first + 1) old new before after status)
+    × AreStepsTakenOrAllocationFails (asked_steps first most steps) (first + 1) old new before after status)
 
 -- the bytes spell no script, the machine stays as it is, and the caller learns the first fault
 abbrev pub IsScriptRefused : List ℕ → Machine → Machine → StepsOutput → StepsOutput → ℕ → Type 0
@@ -75,5 +75,5 @@ IsScriptRunOrRefused script first most old new before after status =
 abbrev pub OpenCardRunsScript : List ℕ → ℕ → ℕ → HandleState → HandleState → StepsOutput → StepsOutput → ℕ
     → Type 0
 OpenCardRunsScript script first most old new before after status = old.is_open ≡ true →
-    IsValid (machine_of old).bda → (new.is_open ≡ true) × (IsValid (machine_of new).bda
-    × IsScriptRunOrRefused script first most (machine_of old) (machine_of new) before after status)
+    IsValid (machine_after_owed_dots old).bda → (new.is_open ≡ true) × (IsValid (machine_after_owed_dots new).bda
+    × IsScriptRunOrRefused script first most (machine_after_owed_dots old) (machine_after_owed_dots new) before after status)

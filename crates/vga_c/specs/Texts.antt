@@ -20,14 +20,14 @@ abbrev pub IsFaultOfText : List ℕ → Fault → Type 0
 IsFaultOfText text why = (why ≡ OutOfMemory) ⊎ IsTextFault text why
 
 -- the bytes of a text's script, or the first fault
-abbrev pub IsOutcomeOfText : List ℕ → Result (List ℕ) Fault → Type 0
-IsOutcomeOfText text (Ok bytes) = IsAssembled text bytes
-IsOutcomeOfText text (Err why) = IsFaultOfText text why
+abbrev pub IsAssembledScriptOrFault : List ℕ → Result (List ℕ) Fault → Type 0
+IsAssembledScriptOrFault text (Ok bytes) = IsAssembled text bytes
+IsAssembledScriptOrFault text (Err why) = IsFaultOfText text why
 
 -- the output has the printed text of the script that bytes spell, or the status and the place of
 -- the first fault
 abbrev pub GivesAssembledBytes : List ℕ → ScriptOutput → ScriptOutput → ℕ → Type 0
-GivesAssembledBytes text = HasOutcomeWithProperty (IsOutcomeOfText text)
+GivesAssembledBytes text = HasOutcomeWithProperty (IsAssembledScriptOrFault text)
 
 -- the bytes spell a script, and this is its printed text
 abbrev pub IsPrinted : List ℕ → List ℕ → Type 0
@@ -39,10 +39,10 @@ abbrev pub IsFaultOfBytes : List ℕ → Fault → Type 0
 IsFaultOfBytes bytes why = (why ≡ OutOfMemory) ⊎ IsFault bytes why
 
 -- the printed text of the script that bytes spell, or the first fault
-abbrev pub IsOutcomeOfBytes : List ℕ → Result (List ℕ) Fault → Type 0
-IsOutcomeOfBytes bytes (Ok text) = IsPrinted bytes text
-IsOutcomeOfBytes bytes (Err why) = IsFaultOfBytes bytes why
+abbrev pub IsPrintedTextOrFault : List ℕ → Result (List ℕ) Fault → Type 0
+IsPrintedTextOrFault bytes (Ok text) = IsPrinted bytes text
+IsPrintedTextOrFault bytes (Err why) = IsFaultOfBytes bytes why
 
 -- the output has the bytes of a text's script, or the status and the place of the first fault
 abbrev pub GivesPrintedText : List ℕ → ScriptOutput → ScriptOutput → ℕ → Type 0
-GivesPrintedText bytes = HasOutcomeWithProperty (IsOutcomeOfBytes bytes)
+GivesPrintedText bytes = HasOutcomeWithProperty (IsPrintedTextOrFault bytes)

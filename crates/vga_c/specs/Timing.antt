@@ -2,10 +2,10 @@
 use Rattle.std.specs.Prelude.{◌≡◌, ℕ, ◌*◌, true, if◌then◌else◌}
 use Rattle.vga_card.specs.Card.{CardState}
 use Rattle.vga_card.specs.Frames.{card_dots_to_frame_end}
-use Rattle.vga_card.specs.Clock.{StatusBitChanges, StatusBitNeverChanges, clock_rate, dots_a_line}
+use Rattle.vga_card.specs.Clock.{StatusBitFirstChangesAfterDots, StatusBitNeverChanges, clock_rate, dots_a_line}
 use Rattle.vga_card.specs.Clock.{lines_a_frame, is_rate_halved}
 use Rattle.vga_c.specs.declared.timing.Timing.{Timing}
-use Rattle.vga_c.specs.Handle.{HandleState, machine_of}
+use Rattle.vga_c.specs.Handle.{HandleState, machine_after_owed_dots}
 
 -- the number that stands in place of a number of dots if the bit never changes
 abbrev pub never_instead_of_dots : ℕ
@@ -13,7 +13,7 @@ never_instead_of_dots = 0xFFFF_FFFF
 
 -- after n dots a bit of input status 1 changes next, or it never does
 abbrev pub IsNextStatusChange : ℕ → CardState → ℕ → Type 0
-IsNextStatusChange i c n = (n ≡ never_instead_of_dots → StatusBitNeverChanges i c) × (¬ (n ≡ never_instead_of_dots) → StatusBitChanges i c n)
+IsNextStatusChange i c n = (n ≡ never_instead_of_dots → StatusBitNeverChanges i c) × (¬ (n ≡ never_instead_of_dots) → StatusBitFirstChangesAfterDots i c n)
 
 -- the dots to the end of the frame under way, and to the next changes of bits 0 and 3 of input
 -- status 1; the dots of a line and of a frame, and a frame's lines; the clock's rate, and its
@@ -32,4 +32,4 @@ pub record IsTiming (c : CardState) (told : Timing) : Type 0 where
 -- the clock's rate
 abbrev pub AnswersTiming : HandleState → Timing → ℕ → Type 0
 AnswersTiming old told status = old.is_open ≡ true →
-    IsTiming (machine_of old).card told × (status ≡ 0)
+    IsTiming (machine_after_owed_dots old).card told × (status ≡ 0)

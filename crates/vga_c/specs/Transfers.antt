@@ -6,7 +6,7 @@ use Rattle.vga_card.specs.Bus.{after_puts, after_moves, card_meaning}
 use Rattle.vga_card.specs.Transfers.{after_gets, after_puts_last_first, after_gets_last_first}
 use Rattle.vga_card.specs.Transfers.{after_moves_last_first}
 use Rattle.vga_run.specs.declared.machine.Machine.{Machine}
-use Rattle.vga_c.specs.Handle.{HandleState, machine_of}
+use Rattle.vga_c.specs.Handle.{HandleState, machine_after_owed_dots}
 use Rattle.vga_c.specs.Status.{bad_argument_status}
 
 -- whether n addresses from the first on, and the one after them, fit in 32 bits
@@ -31,8 +31,8 @@ card_after_moves down from to n c =
 
 -- a machine's adapter is left as these cycles leave it, if their addresses fit in 32 bits;
 -- otherwise the machine stays as it is, and the status says so
-abbrev pub IsTransferred : Bool → (CardState → CardState) → Machine → Machine → ℕ → Type 0
-IsTransferred are_some after old new status =
+abbrev pub IsMachineAfterTransfer : Bool → (CardState → CardState) → Machine → Machine → ℕ → Type 0
+IsMachineAfterTransfer are_some after old new status =
     (are_some ≡ true → (new ≡ record old { card = after old.card }) × (status ≡ 0))
     × (are_some ≡ false → (new ≡ old) × (status ≡ bad_argument_status))
 
@@ -44,13 +44,13 @@ OutputDescribesCardBefore are_some Told card before after = (are_some ≡ true �
     × (are_some ≡ false → after ≡ before)
 
 -- an open card's adapter is left as these cycles leave it, if their addresses fit in 32 bits
-abbrev pub OpenCardTransfers : Bool → (CardState → CardState) → HandleState → HandleState → ℕ → Type 0
-OpenCardTransfers are_some after old new status = old.is_open ≡ true → (new.is_open ≡ true)
-    × IsTransferred are_some after (machine_of old) (machine_of new) status
+abbrev pub OpenCardAfterTransfer : Bool → (CardState → CardState) → HandleState → HandleState → ℕ → Type 0
+OpenCardAfterTransfer are_some after old new status = old.is_open ≡ true → (new.is_open ≡ true)
+    × IsMachineAfterTransfer are_some after (machine_after_owed_dots old) (machine_after_owed_dots new) status
 
 -- the output describes an open card's adapter as it was before the cycles, if their addresses fit
 -- in 32 bits
 abbrev pub OutputDescribesOpenCardBefore : {A : Type 0} → Bool → (CardState → A → Type 0) → HandleState → A → A
     → Type 0
 OutputDescribesOpenCardBefore are_some Told old before after = old.is_open ≡ true →
-    OutputDescribesCardBefore are_some Told (machine_of old).card before after
+    OutputDescribesCardBefore are_some Told (machine_after_owed_dots old).card before after

@@ -6,7 +6,7 @@ ghost use Rattle.vga_c.specs.Cards.{OpenCardKeepsMachine, ClosedCardStaysUnchang
 use crate::handle::{Handle, on_open_card};
 use crate::services::CallRegisters;
 use crate::status::DONE;
-use bios_services::laws::blocks_fit;
+use bios_services::laws::calls_accept_only_blocks_that_fit;
 use bios_services::{BlockSpan, Regs};
 use std::alloc::Global;
 use vga_card::Card;
@@ -27,7 +27,7 @@ fn block_of(machine: &Machine, registers: &CallRegisters) -> BlockPlace
     ensures block { IsBlockPlace registers.now result }
     ensures enough { IsBlockEnough machine.now registers.now result.len }
 {
-    blocks_fit::<Card>();
+    calls_accept_only_blocks_that_fit::<Card>();
     let BlockSpan { len, is_at_dx } = BlockSpan::of_registers(Regs {
         ax: registers.ax,
         bx: registers.bx,

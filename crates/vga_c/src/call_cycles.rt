@@ -5,10 +5,10 @@ ghost use Rattle.vga_c.specs.Buffers.{IsCopied};
 ghost use Rattle.vga_c.specs.CallCycles.{list_output, AreCyclesListed, OpenCardListsCycles};
 ghost use Rattle.vga_c.specs.CallCycles.{unlisted_status as unlisted_status_of};
 ghost use Rattle.vga_c.specs.Cards.{OpenCardKeepsMachine, ClosedCardStaysUnchanged, ClosedCardLeavesOutput};
-ghost use Rattle.vga_c.specs.Services.{InvalidDataChangeNoCard};
-ghost use Rattle.vga_c.specs.Status.{bad_data_status};
+ghost use Rattle.vga_c.specs.Services.{InvalidBiosDataChangeNoCard};
+ghost use Rattle.vga_c.specs.Status.{bad_bios_data_status};
 
-use crate::buffer::write_prefix;
+use crate::buffer::write_bytes_if_room;
 use crate::handle::{Handle, on_open_card};
 use crate::services::CallRegisters;
 use crate::status::{BAD_CARD, NO_ROOM, OUT_OF_MEMORY, TOO_LONG, refusal_status};
@@ -40,11 +40,11 @@ fn copy_script(script: &ScriptBytes, out: &mut [u8], len: &mut usize) -> u32
     if out.len() < script.len() {
         return NO_ROOM;
     }
-    write_prefix(out, script.as_slice())
+    write_bytes_if_room(out, script.as_slice())
 }
 
 /// Lists the cycles of a call on a machine with valid BIOS data.
-fn list_cycles_with_valid_data(
+fn list_cycles_with_valid_bios_data(
     alloc: Global,
     machine: &Machine,
     registers: &CallRegisters,
@@ -81,12 +81,12 @@ fn list(
         (list_output out.old len.old) (list_output out.new len.new) result }
     ensures bad { (IsValid machine.now.bda → ⊥) → (list_output out.new len.new ≡ list_output out.old
         len.old)
-        × (result ≡ bad_data_status) }
+        × (result ≡ bad_bios_data_status) }
 {
     if !machine.bda.valid() {
         return BAD_CARD;
     }
-    list_cycles_with_valid_data(alloc, machine, registers, block, out, len)
+    list_cycles_with_valid_bios_data(alloc, machine, registers, block, out, len)
 }
 
 /// Lists the cycles that `zak_int10` with these registers would make on the card as it is, as the
@@ -103,7 +103,7 @@ pub extern "C" fn zak_cycles(
     ensures card { OpenCardKeepsMachine card.old card.new }
     ensures listed { OpenCardListsCycles card.old registers.now block.now (list_output out.old len.old)
         (list_output out.new len.new) result }
-    ensures bad { InvalidDataChangeNoCard card.old card.new (list_output out.old len.old)
+    ensures bad { InvalidBiosDataChangeNoCard card.old card.new (list_output out.old len.old)
         (list_output out.new len.new)
         result }
     ensures closed { ClosedCardStaysUnchanged card.old card.new result }

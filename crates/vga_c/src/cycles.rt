@@ -1,11 +1,11 @@
 //! Cycles of an open card, and dots of its clock.
 ghost use Rattle.std.specs.Prelude.{◌≡◌, ◌≤◌};
-ghost use Rattle.vga_card.specs.Dots.{most_dots};
+ghost use Rattle.vga_card.specs.Dots.{most_dots_of_an_advance};
 ghost use Rattle.vga_script.specs.declared.step.Step.TheVariants.{Out, OutWord, In, InWord, Put};
 ghost use Rattle.vga_script.specs.declared.step.Step.TheVariants.{PutWord, Get, GetWord, Advance};
 ghost use Rattle.vga_run.specs.Step.{after_step, answer_to};
 ghost use Rattle.vga_c.specs.Status.{status_of, value_read_or_before};
-ghost use Rattle.vga_c.specs.Cards.{ClosedCardStaysUnchanged, Reads, ClosedCardLeavesOutput, OpenCardTakesStep};
+ghost use Rattle.vga_c.specs.Cards.{ClosedCardStaysUnchanged, OutputHasWhatStepReads, ClosedCardLeavesOutput, OpenCardTakesStep};
 
 use crate::handle::{Handle, on_open_card, on_owing_card};
 use crate::status::{DONE, status_after_byte_read, status_after_word_read, status_after_write};
@@ -15,13 +15,13 @@ use vga_run::machine::Machine;
 /// Writes a byte to a port after the dots that are owed. It gives how many are owed from then on.
 #[tactic(auto, unfolding(vga_run::specs::Step::after_step, vga_run::specs::Step::answer_to))]
 fn out(machine: &mut Machine, owed: u32, port: u16, value: u8) -> (u32, u32)
-    requires { owed ≤ most_dots }
+    requires { owed ≤ most_dots_of_an_advance }
     ensures after { after_step machine.new (Advance result.0)
         ≡ after_step (after_step machine.old (Advance owed)) (Out port value) }
     ensures status { result.1
         ≡ status_of (answer_to (after_step machine.old (Advance owed)) (Out port value)) }
 {
-    let (left, answer) = machine.card.out_after(owed, port, value);
+    let (left, answer) = machine.card.out_with_dots_owed(owed, port, value);
     (left, status_after_write(answer))
 }
 
@@ -38,13 +38,13 @@ pub extern "C" fn zak_out(alloc: Global, card: &mut Handle, port: u16, value: u8
 /// owed from then on.
 #[tactic(auto, unfolding(vga_run::specs::Step::after_step, vga_run::specs::Step::answer_to))]
 fn out_word(machine: &mut Machine, owed: u32, port: u16, value: u16) -> (u32, u32)
-    requires { owed ≤ most_dots }
+    requires { owed ≤ most_dots_of_an_advance }
     ensures after { after_step machine.new (Advance result.0)
         ≡ after_step (after_step machine.old (Advance owed)) (OutWord port value) }
     ensures status { result.1
         ≡ status_of (answer_to (after_step machine.old (Advance owed)) (OutWord port value)) }
 {
-    let (left, answer) = machine.card.out_word_after(owed, port, value);
+    let (left, answer) = machine.card.out_word_with_dots_owed(owed, port, value);
     (left, status_after_write(answer))
 }
 
@@ -60,7 +60,7 @@ pub extern "C" fn zak_out_word(alloc: Global, card: &mut Handle, port: u16, valu
 /// Reads a byte from a port after the dots that are owed. It gives how many are owed from then on.
 #[tactic(auto, unfolding(vga_run::specs::Step::after_step, vga_run::specs::Step::answer_to))]
 fn inp(machine: &mut Machine, owed: u32, port: u16, value: &mut u8) -> (u32, u32)
-    requires { owed ≤ most_dots }
+    requires { owed ≤ most_dots_of_an_advance }
     ensures after { after_step machine.new (Advance result.0)
         ≡ after_step (after_step machine.old (Advance owed)) (In port) }
     ensures status { result.1
@@ -69,7 +69,7 @@ fn inp(machine: &mut Machine, owed: u32, port: u16, value: &mut u8) -> (u32, u32
         ≡ value_read_or_before (answer_to (after_step machine.old (Advance owed)) (In port))
         value.old }
 {
-    let (left, answer) = machine.card.inp_after(owed, port);
+    let (left, answer) = machine.card.inp_with_dots_owed(owed, port);
     (left, status_after_byte_read(answer, value))
 }
 
@@ -77,7 +77,7 @@ fn inp(machine: &mut Machine, owed: u32, port: u16, value: &mut u8) -> (u32, u32
 #[unsafe(no_mangle)]
 pub extern "C" fn zak_in(alloc: Global, card: &mut Handle, port: u16, value: &mut u8) -> u32
     ensures step { OpenCardTakesStep (In port) card.old card.new result }
-    ensures value { Reads (In port) card.old value.old value.new }
+    ensures value { OutputHasWhatStepReads (In port) card.old value.old value.new }
     ensures closed { ClosedCardStaysUnchanged card.old card.new result }
     ensures spared { ClosedCardLeavesOutput card.old value.old value.new }
 {
@@ -99,7 +99,7 @@ fn inp_word(machine: &mut Machine, port: u16, value: &mut u16) -> u32
 #[unsafe(no_mangle)]
 pub extern "C" fn zak_in_word(alloc: Global, card: &mut Handle, port: u16, value: &mut u16) -> u32
     ensures step { OpenCardTakesStep (InWord port) card.old card.new result }
-    ensures value { Reads (InWord port) card.old value.old value.new }
+    ensures value { OutputHasWhatStepReads (InWord port) card.old value.old value.new }
     ensures closed { ClosedCardStaysUnchanged card.old card.new result }
     ensures spared { ClosedCardLeavesOutput card.old value.old value.new }
 {
@@ -110,13 +110,13 @@ pub extern "C" fn zak_in_word(alloc: Global, card: &mut Handle, port: u16, value
 /// on.
 #[tactic(auto, unfolding(vga_run::specs::Step::after_step, vga_run::specs::Step::answer_to))]
 fn put(machine: &mut Machine, owed: u32, address: u32, value: u8) -> (u32, u32)
-    requires { owed ≤ most_dots }
+    requires { owed ≤ most_dots_of_an_advance }
     ensures after { after_step machine.new (Advance result.0)
         ≡ after_step (after_step machine.old (Advance owed)) (Put address value) }
     ensures status { result.1
         ≡ status_of (answer_to (after_step machine.old (Advance owed)) (Put address value)) }
 {
-    let (left, answer) = machine.card.put_after(owed, address, value);
+    let (left, answer) = machine.card.put_with_dots_owed(owed, address, value);
     (left, status_after_write(answer))
 }
 
@@ -133,13 +133,13 @@ pub extern "C" fn zak_put(alloc: Global, card: &mut Handle, address: u32, value:
 /// many are owed from then on.
 #[tactic(auto, unfolding(vga_run::specs::Step::after_step, vga_run::specs::Step::answer_to))]
 fn put_word(machine: &mut Machine, owed: u32, address: u32, value: u16) -> (u32, u32)
-    requires { owed ≤ most_dots }
+    requires { owed ≤ most_dots_of_an_advance }
     ensures after { after_step machine.new (Advance result.0)
         ≡ after_step (after_step machine.old (Advance owed)) (PutWord address value) }
     ensures status { result.1
         ≡ status_of (answer_to (after_step machine.old (Advance owed)) (PutWord address value)) }
 {
-    let (left, answer) = machine.card.put_word_after(owed, address, value);
+    let (left, answer) = machine.card.put_word_with_dots_owed(owed, address, value);
     (left, status_after_write(answer))
 }
 
@@ -156,7 +156,7 @@ pub extern "C" fn zak_put_word(alloc: Global, card: &mut Handle, address: u32, v
 /// on.
 #[tactic(auto, unfolding(vga_run::specs::Step::after_step, vga_run::specs::Step::answer_to))]
 fn get(machine: &mut Machine, owed: u32, address: u32, value: &mut u8) -> (u32, u32)
-    requires { owed ≤ most_dots }
+    requires { owed ≤ most_dots_of_an_advance }
     ensures after { after_step machine.new (Advance result.0)
         ≡ after_step (after_step machine.old (Advance owed)) (Get address) }
     ensures status { result.1
@@ -165,7 +165,7 @@ fn get(machine: &mut Machine, owed: u32, address: u32, value: &mut u8) -> (u32, 
         ≡ value_read_or_before (answer_to (after_step machine.old (Advance owed)) (Get address))
         value.old }
 {
-    let answer = machine.card.get_after(owed, address);
+    let answer = machine.card.get_with_dots_owed(owed, address);
     (owed, status_after_byte_read(answer, value))
 }
 
@@ -173,7 +173,7 @@ fn get(machine: &mut Machine, owed: u32, address: u32, value: &mut u8) -> (u32, 
 #[unsafe(no_mangle)]
 pub extern "C" fn zak_get(alloc: Global, card: &mut Handle, address: u32, value: &mut u8) -> u32
     ensures step { OpenCardTakesStep (Get address) card.old card.new result }
-    ensures value { Reads (Get address) card.old value.old value.new }
+    ensures value { OutputHasWhatStepReads (Get address) card.old value.old value.new }
     ensures closed { ClosedCardStaysUnchanged card.old card.new result }
     ensures spared { ClosedCardLeavesOutput card.old value.old value.new }
 {
@@ -184,7 +184,7 @@ pub extern "C" fn zak_get(alloc: Global, card: &mut Handle, address: u32, value:
 /// many are owed from then on.
 #[tactic(auto, unfolding(vga_run::specs::Step::after_step, vga_run::specs::Step::answer_to))]
 fn get_word(machine: &mut Machine, owed: u32, address: u32, value: &mut u16) -> (u32, u32)
-    requires { owed ≤ most_dots }
+    requires { owed ≤ most_dots_of_an_advance }
     ensures after { after_step machine.new (Advance result.0)
         ≡ after_step (after_step machine.old (Advance owed)) (GetWord address) }
     ensures status { result.1
@@ -193,7 +193,7 @@ fn get_word(machine: &mut Machine, owed: u32, address: u32, value: &mut u16) -> 
         ≡ value_read_or_before (answer_to (after_step machine.old (Advance owed)) (GetWord address))
         value.old }
 {
-    let answer = machine.card.get_word_after(owed, address);
+    let answer = machine.card.get_word_with_dots_owed(owed, address);
     (owed, status_after_word_read(answer, value))
 }
 
@@ -206,7 +206,7 @@ pub extern "C" fn zak_get_word(
     value: &mut u16,
 ) -> u32
     ensures step { OpenCardTakesStep (GetWord address) card.old card.new result }
-    ensures value { Reads (GetWord address) card.old value.old value.new }
+    ensures value { OutputHasWhatStepReads (GetWord address) card.old value.old value.new }
     ensures closed { ClosedCardStaysUnchanged card.old card.new result }
     ensures spared { ClosedCardLeavesOutput card.old value.old value.new }
 {

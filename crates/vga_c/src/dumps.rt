@@ -7,7 +7,7 @@ ghost use Rattle.vga_c.specs.Dumps.{DumpsMachine, is_plane_part as is_plane_part
 ghost use Rattle.vga_c.specs.Dumps.{DumpsPlanePart};
 ghost use Rattle.vga_c.specs.Dumps.{dump_output};
 
-use crate::buffer::copy_prefix;
+use crate::buffer::write_bytes_if_room_and_their_count;
 use crate::handle::{Handle, on_open_card};
 use crate::status::{BAD_ARGUMENT, BAD_CARD, NO_CARD, OUT_OF_MEMORY, refusal_status};
 use std::alloc::Global;
@@ -27,7 +27,7 @@ fn dump(alloc: Global, machine: &Machine, shown: Shown, text: &mut [u8], len: &m
     }
     let mut out = Tracked::new(Vec::new(alloc));
     match write_dump(&mut out, machine, shown) {
-        Ok(None) => copy_prefix(text, len, out.into_inner().as_slice()),
+        Ok(None) => write_bytes_if_room_and_their_count(text, len, out.into_inner().as_slice()),
         Ok(Some(why)) => refusal_status(why),
         Err(_) => OUT_OF_MEMORY,
     }

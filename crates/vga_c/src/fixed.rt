@@ -5,7 +5,7 @@ ghost use Rattle.vga_run.specs.Saved.{number_of_four_bytes as long_of, four_byte
 ghost use Rattle.vga_run.specs.Saved.{saved_machine};
 ghost use Rattle.vga_c.specs.Cards.{OpenCardKeepsMachine, ClosedCardStaysUnchanged, ClosedCardLeavesOutput};
 ghost use Rattle.vga_c.specs.Checksum.{adler_32};
-ghost use Rattle.vga_c.specs.Fixed.{IsRestoredFixed, IsSavedFixed, RestoresFixed, SavesFixed};
+ghost use Rattle.vga_c.specs.Fixed.{IsRestoredFromFixedLengthState, IsSavedFixedLengthState, RestoresFixedLengthState, SavesFixedLengthState};
 ghost use Rattle.vga_c.specs.Fixed.{state_without_padding as state_of};
 ghost use Rattle.vga_c.specs.Saved.{IsRestored};
 
@@ -48,8 +48,8 @@ fn clear(bytes: &mut [u8])
 }
 
 /// Saves a machine to the caller's whole buffer, if it is long enough.
-fn save_fixed(machine: &Machine, bytes: &mut [u8]) -> u32
-    ensures { IsSavedFixed (saved_machine machine.now) bytes.old bytes.new result }
+fn save_fixed_length_state(machine: &Machine, bytes: &mut [u8]) -> u32
+    ensures { IsSavedFixedLengthState (saved_machine machine.now) bytes.old bytes.new result }
 {
     let size = machine.saved_len();
     if bytes.len() < SUM_LEN + size {
@@ -75,8 +75,8 @@ fn state_without_padding(body: &[u8]) -> &[u8]
 }
 
 /// Restores a machine from a state of a fixed length, if its checksum is right.
-fn restore_fixed(machine: &mut Machine, bytes: &[u8]) -> u32
-    ensures { IsRestoredFixed machine.old machine.new bytes.now result }
+fn restore_fixed_length_state(machine: &mut Machine, bytes: &[u8]) -> u32
+    ensures { IsRestoredFromFixedLengthState machine.old machine.new bytes.now result }
 {
     if bytes.len() < SUM_LEN {
         return STATE_CHECKSUM;
@@ -93,18 +93,18 @@ fn restore_fixed(machine: &mut Machine, bytes: &[u8]) -> u32
 #[unsafe(no_mangle)]
 pub extern "C" fn zak_save_fixed(alloc: Global, card: &mut Handle, bytes: &mut [u8]) -> u32
     ensures card { OpenCardKeepsMachine card.old card.new }
-    ensures bytes { SavesFixed card.old bytes.old bytes.new result }
+    ensures bytes { SavesFixedLengthState card.old bytes.old bytes.new result }
     ensures closed { ClosedCardStaysUnchanged card.old card.new result }
     ensures spared { ClosedCardLeavesOutput card.old bytes.old bytes.new }
 {
-    on_open_card!(alloc, card, machine => save_fixed(machine, bytes))
+    on_open_card!(alloc, card, machine => save_fixed_length_state(machine, bytes))
 }
 
 /// Restores a state of a fixed length. The fonts stay.
 #[unsafe(no_mangle)]
 pub extern "C" fn zak_restore_fixed(alloc: Global, card: &mut Handle, bytes: &[u8]) -> u32
-    ensures card { RestoresFixed card.old card.new bytes.now result }
+    ensures card { RestoresFixedLengthState card.old card.new bytes.now result }
     ensures closed { ClosedCardStaysUnchanged card.old card.new result }
 {
-    on_open_card!(alloc, card, machine => restore_fixed(machine, bytes))
+    on_open_card!(alloc, card, machine => restore_fixed_length_state(machine, bytes))
 }

@@ -48,7 +48,7 @@ fn eight_bits_each(red: u8, green: u8, blue: u8) -> u32
 }
 
 /// The word of dot i of a picture.
-fn rgb_word_of_dot(bytes: &[u8], i: usize) -> u32
+pub(crate) fn rgb_word_of_dot(bytes: &[u8], i: usize) -> u32
     requires { 3 * i + 2 < length bytes.now }
     ensures { result ≡ rgb_word_of_dot_of bytes.now i }
 {

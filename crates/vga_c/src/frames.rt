@@ -1,6 +1,6 @@
 //! Frames and their pictures.
 ghost use Rattle.std.specs.Prelude.{◌≡◌, ◌+◌, ◌*◌, ◌<◌, ◌≤◌, ℕ, length, slice_index};
-ghost use Rattle.vga_card.specs.Dots.{most_dots};
+ghost use Rattle.vga_card.specs.Dots.{most_dots_of_an_advance};
 ghost use Rattle.vga_card.specs.Frames.{IsPictureInBounds};
 ghost use Rattle.vga_run.specs.Answer.{of_drawn};
 ghost use Rattle.vga_run.specs.Saved.{machine_without_unseen_dots};
@@ -12,9 +12,9 @@ ghost use Rattle.vga_card.specs.Picture.{bytes_of_dots};
 ghost use Rattle.vga_c.specs.Buffers.{IsCopied};
 ghost use Rattle.vga_c.specs.Frames.{GivesDotBytes, CountsDotsOfLines, frame_dots};
 ghost use Rattle.vga_c.specs.Frames.{DrawsBytes, DrawsWords, EndsFrame, HasDotBytes, HasDotWords};
-ghost use Rattle.vga_c.specs.Frames.{CountsDrawnLines, GivesDrawnBytes, SkipsFrame};
+ghost use Rattle.vga_c.specs.Frames.{CountsDotsOfDrawnLines, GivesDrawnBytes, SkipsFrame};
 
-use crate::buffer::{copy_prefix, write_prefix};
+use crate::buffer::{write_bytes_if_room, write_bytes_if_room_and_their_count};
 use crate::forms::{Form, has_room, write_rows};
 use crate::handle::{Handle, on_open_card, on_owing_card};
 use crate::status::{DONE, NO_ROOM, RAGGED};
@@ -45,7 +45,7 @@ fn write_bytes(drawn: Drawn<'_>, size: &mut Size, rgb: &mut [u8]) -> u32
     match drawn {
         Drawn::Picture(width, height, bytes) => {
             *size = Size { width, height };
-            write_prefix(rgb, bytes)
+            write_bytes_if_room(rgb, bytes)
         }
         Drawn::Ragged => RAGGED,
     }
@@ -143,7 +143,7 @@ fn frame_lines(
 {
     let lines = machine.card.frame_lines();
     widths.copy_from_slice(lines.widths);
-    copy_prefix(rgb, len, lines.bytes)
+    write_bytes_if_room_and_their_count(rgb, len, lines.bytes)
 }
 
 /// Lets the clock run to the end of the frame under way. Writes how many dots each line has, and
@@ -174,7 +174,7 @@ fn peek(machine: &Machine, widths: &mut [u32; 1024], rgb: &mut [u8], len: &mut u
 {
     let lines = machine.card.drawn_lines();
     widths.copy_from_slice(lines.widths);
-    copy_prefix(rgb, len, lines.bytes)
+    write_bytes_if_room_and_their_count(rgb, len, lines.bytes)
 }
 
 /// Writes what is drawn until now of the frame under way, as `zak_frame_lines` writes a whole frame.
@@ -188,7 +188,7 @@ pub extern "C" fn zak_peek(
     len: &mut usize,
 ) -> u32
     ensures card { OpenCardKeepsMachine card.old card.new }
-    ensures widths { CountsDrawnLines card.old widths.new }
+    ensures widths { CountsDotsOfDrawnLines card.old widths.new }
     ensures dots { GivesDrawnBytes card.old rgb.old rgb.new len.new result }
     ensures closed { ClosedCardStaysUnchanged card.old card.new result }
     ensures spared { ClosedCardLeavesOutput card.old widths.old widths.new }
@@ -202,13 +202,13 @@ pub extern "C" fn zak_peek(
 /// under way. It draws nothing of that frame. It gives how many dots are owed from then on: none.
 #[tactic(auto, unfolding(vga_run::specs::Step::after_step))]
 fn skip_frame(machine: &mut Machine, owed: u32) -> (u32, u32)
-    requires { owed ≤ most_dots }
+    requires { owed ≤ most_dots_of_an_advance }
     ensures after { after_step machine.new (Advance result.0) ≡ machine_without_unseen_dots
         (after_step (after_step machine.old (Advance owed)) Frame) }
     ensures status { result.1 ≡ 0 }
 {
     dots_split();
-    machine.card.skip_frame_after(owed);
+    machine.card.skip_frame_after_dots(owed);
     (0, DONE)
 }
 

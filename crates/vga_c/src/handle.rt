@@ -1,9 +1,9 @@
 //! A card in the memory of a C program.
 ghost use Rattle.std.specs.Prelude.{◌≡◌, ◌≤◌, true, false};
-ghost use Rattle.vga_card.specs.Dots.{most_dots};
+ghost use Rattle.vga_card.specs.Dots.{most_dots_of_an_advance};
 ghost use Rattle.vga_run.specs.Step.{after_step};
 ghost use Rattle.vga_script.specs.declared.step.Step.TheVariants.{Advance};
-ghost use Rattle.vga_c.specs.Handle.{machine_of};
+ghost use Rattle.vga_c.specs.Handle.{machine_after_owed_dots};
 
 use crate::box_parts::BoxParts;
 use crate::cycles::advance;
@@ -54,9 +54,9 @@ impl Handle {
     /// Returns whether it did.
     pub(crate) fn owe(&mut self, dots: u32) -> bool
         ensures owed { result ≡ true → self.new.is_open ≡ self.old.is_open }
-        ensures machine { result ≡ true → machine_of self.new
-            ≡ after_step (machine_of self.old) (Advance dots) }
-        ensures few { result ≡ true → dots ≤ most_dots }
+        ensures machine { result ≡ true → machine_after_owed_dots self.new
+            ≡ after_step (machine_after_owed_dots self.old) (Advance dots) }
+        ensures few { result ≡ true → dots ≤ most_dots_of_an_advance }
         ensures left { result ≡ false → self.new ≡ self.old }
     {
         dots_split();
@@ -108,7 +108,7 @@ pub(crate) use on_owing_card;
 
 /// Takes the machine out of an open card as it is kept: the dots that the card owes are not drawn.
 /// The handle is empty afterwards.
-fn unseal(alloc: Global, card: &mut Handle) -> Box<Machine>
+fn take_machine_without_owed_dots(alloc: Global, card: &mut Handle) -> Box<Machine>
     requires { card.old.is_open ≡ true }
     ensures machine { result.value ≡ card.old.kept.machine }
     ensures closed { card.new.is_open ≡ false }
@@ -127,11 +127,11 @@ fn unseal(alloc: Global, card: &mut Handle) -> Box<Machine>
 fn draw_owed(alloc: Global, card: &mut Handle)
     requires { card.old.is_open ≡ true }
     ensures open { card.new.is_open ≡ true }
-    ensures machine { machine_of card.new ≡ machine_of card.old }
+    ensures machine { machine_after_owed_dots card.new ≡ machine_after_owed_dots card.old }
     ensures owed { card.new.owed ≡ 0 }
 {
     let owed = card.owed;
-    let mut held = unseal(alloc, card);
+    let mut held = take_machine_without_owed_dots(alloc, card);
     advance(held.as_mut(), owed);
     give(card, held);
 }
@@ -140,20 +140,20 @@ fn draw_owed(alloc: Global, card: &mut Handle)
 /// afterwards.
 pub(crate) fn take(alloc: Global, card: &mut Handle) -> Box<Machine>
     requires { card.old.is_open ≡ true }
-    ensures machine { result.value ≡ machine_of card.old }
+    ensures machine { result.value ≡ machine_after_owed_dots card.old }
     ensures closed { card.new.is_open ≡ false }
 {
     dots_split();
     if card.owed > 0 {
         draw_owed(alloc, card);
     }
-    unseal(alloc, card)
+    take_machine_without_owed_dots(alloc, card)
 }
 
 /// Puts a machine into a handle, which is open afterwards.
 pub(crate) fn give(card: &mut Handle, machine: Box<Machine>)
     ensures open { card.new.is_open ≡ true }
-    ensures machine { machine_of card.new ≡ machine.value }
+    ensures machine { machine_after_owed_dots card.new ≡ machine.value }
     ensures owed { card.new.owed ≡ 0 }
 {
     dots_split();
@@ -168,8 +168,8 @@ pub(crate) fn give(card: &mut Handle, machine: Box<Machine>)
 /// owes.
 pub(crate) fn take_owing(alloc: Global, card: &mut Handle) -> (Box<Machine>, u32)
     requires { card.old.is_open ≡ true }
-    ensures machine { after_step result.0.value (Advance result.1) ≡ machine_of card.old }
-    ensures few { result.1 ≤ most_dots }
+    ensures machine { after_step result.0.value (Advance result.1) ≡ machine_after_owed_dots card.old }
+    ensures few { result.1 ≤ most_dots_of_an_advance }
     ensures closed { card.new.is_open ≡ false }
 {
     if card.owed > MOST_DOTS {
@@ -177,13 +177,13 @@ pub(crate) fn take_owing(alloc: Global, card: &mut Handle) -> (Box<Machine>, u32
         return (take(alloc, card), 0);
     }
     let owed = card.owed;
-    (unseal(alloc, card), owed)
+    (take_machine_without_owed_dots(alloc, card), owed)
 }
 
 /// Gives a machine to a handle, which is open from then on and owes some dots.
 pub(crate) fn give_owing(card: &mut Handle, machine: Box<Machine>, owed: u32)
     ensures open { card.new.is_open ≡ true }
-    ensures machine { machine_of card.new ≡ after_step machine.value (Advance owed) }
+    ensures machine { machine_after_owed_dots card.new ≡ after_step machine.value (Advance owed) }
 {
     *card = Handle {
         is_open: true,

@@ -3,7 +3,7 @@ ghost use Rattle.std.specs.Prelude.{◌≡◌, IfErr, IfOk};
 ghost use Rattle.vga_c.specs.Outcome.{script_output};
 ghost use Rattle.vga_c.specs.Runs.{IsFirstFault, IsReport, GivesReport};
 
-use crate::buffer::copy_prefix;
+use crate::buffer::write_bytes_if_room_and_their_count;
 use crate::outcome::status_and_place;
 use std::alloc::Global;
 use vga_bits::{Fault, Tracked};
@@ -34,7 +34,7 @@ pub extern "C" fn zak_run(
         (script_output out.new len.new place.new) result }
 {
     match report(alloc, script, fonts) {
-        Ok(report) => copy_prefix(out, len, report.as_slice()),
+        Ok(report) => write_bytes_if_room_and_their_count(out, len, report.as_slice()),
         Err(fault) => status_and_place(fault, place),
     }
 }

@@ -3,10 +3,10 @@ ghost use Rattle.std.specs.Prelude.{◌≡◌};
 ghost use Rattle.bios_modes.specs.Valid.{IsValid};
 ghost use Rattle.vga_c.specs.Cards.{ClosedCardStaysUnchanged, ClosedCardLeavesOutput};
 ghost use Rattle.vga_c.specs.Services.{call_step, OpenCardTakesCall, HasServiceOutcome, IsCallTaken};
-ghost use Rattle.vga_c.specs.Services.{InvalidDataChangeNothing};
-ghost use Rattle.vga_c.specs.Services.{InvalidDataChangeNoCard, service_output};
+ghost use Rattle.vga_c.specs.Services.{InvalidBiosDataChangeNothing};
+ghost use Rattle.vga_c.specs.Services.{InvalidBiosDataChangeNoCard, service_output};
 
-use crate::buffer::copy_prefix;
+use crate::buffer::write_bytes_if_room_and_their_count;
 use crate::handle::{Handle, on_open_card};
 use crate::status::{BAD_CARD, OUT_OF_MEMORY, refusal_status};
 use bios_services::{Regs, Reply, ServiceError, int10};
@@ -37,7 +37,7 @@ fn write_answer(
         Ok(reply) => {
             let Regs { ax, bx, cx, dx } = reply.regs;
             *registers = CallRegisters { ax, bx, cx, dx };
-            copy_prefix(table, len, reply.table.as_slice())
+            write_bytes_if_room_and_their_count(table, len, reply.table.as_slice())
         }
         Err(ServiceError::Refused(refusal)) => refusal_status(refusal),
         Err(ServiceError::OutOfMemory) => OUT_OF_MEMORY,
@@ -46,7 +46,7 @@ fn write_answer(
 
 /// Calls the video BIOS of a machine with valid BIOS data.
 #[tactic(auto, using(crate::proofs::ServiceLemmas::told_service))]
-fn call_with_valid_data(
+fn call_with_valid_bios_data(
     alloc: Global,
     machine: &mut Machine,
     registers: &mut CallRegisters,
@@ -90,14 +90,14 @@ fn call(
         (call_step registers.old block.now) (service_output registers.old table.old len.old)
         (service_output registers.new table.new len.new) result }
     ensures valid { IsValid machine.old.bda → IsValid machine.new.bda }
-    ensures bad { InvalidDataChangeNothing machine.old machine.new (service_output registers.old
+    ensures bad { InvalidBiosDataChangeNothing machine.old machine.new (service_output registers.old
         table.old len.old)
         (service_output registers.new table.new len.new) result }
 {
     if !machine.bda.valid() {
         return BAD_CARD;
     }
-    call_with_valid_data(alloc, machine, registers, block, table, len)
+    call_with_valid_bios_data(alloc, machine, registers, block, table, len)
 }
 
 /// Calls the video BIOS: AX, BX, CX and DX are those of interrupt 10.
@@ -113,7 +113,7 @@ pub extern "C" fn zak_int10(
     ensures called { OpenCardTakesCall card.old card.new block.now (service_output registers.old table.old
         len.old)
         (service_output registers.new table.new len.new) result }
-    ensures bad { InvalidDataChangeNoCard card.old card.new (service_output registers.old table.old len.old)
+    ensures bad { InvalidBiosDataChangeNoCard card.old card.new (service_output registers.old table.old len.old)
         (service_output registers.new table.new len.new) result }
     ensures closed { ClosedCardStaysUnchanged card.old card.new result }
     ensures spared { ClosedCardLeavesOutput card.old (service_output registers.old table.old len.old)

@@ -39,6 +39,9 @@ pub(crate) const NO_SCREEN: u32 = 28;
 /// The checksum of a state of a fixed length is wrong.
 pub(crate) const STATE_CHECKSUM: u32 = 34;
 
+/// The picture has more than 256 colours.
+pub(crate) const MANY_COLOURS: u32 = 35;
+
 /// A script would have more bytes than a script may have.
 pub(crate) const TOO_LONG: u32 = 106;
 

@@ -3,7 +3,7 @@ ghost use Rattle.std.specs.Prelude.{◌≡◌};
 ghost use Rattle.vga_c.specs.Buffers.{IsCopied};
 ghost use Rattle.vga_c.specs.StatusText.{status_text};
 
-use crate::buffer::copy_prefix;
+use crate::buffer::write_bytes_if_room_and_their_count;
 
 /// The name of a status in C, and a sentence on what the caller did or met.
 fn text_of_status(status: u32) -> &'static str
@@ -39,6 +39,7 @@ fn text_of_status(status: u32) -> &'static str
         32 => "ZAK_STATE_LENGTH: The state is cut off, or bytes follow it.",
         33 => "ZAK_STATE_PART: A part of the state is out of its bounds.",
         34 => "ZAK_STATE_CHECKSUM: The checksum of the state is wrong.",
+        35 => "ZAK_MANY_COLOURS: The picture has more than 256 colours.",
         102 => "ZAK_BAD_MAGIC: The bytes are no script: they don't begin with VGAS.",
         103 => "ZAK_BAD_VERSION: The script has another version.",
         104 => "ZAK_BAD_STEP: No step stands here, or it is out of range.",
@@ -56,5 +57,5 @@ fn text_of_status(status: u32) -> &'static str
 pub extern "C" fn zak_status_text(status: u32, text: &mut [u8], len: &mut usize) -> u32
     ensures { IsCopied (status_text status) text.old text.new len.new result }
 {
-    copy_prefix(text, len, text_of_status(status).as_bytes())
+    write_bytes_if_room_and_their_count(text, len, text_of_status(status).as_bytes())
 }

@@ -2,10 +2,10 @@
 ghost use Rattle.std.specs.Prelude.{◌≡◌, ◌+◌, ◌<◌, ◌≤◌, ◌^◌, ℕ, length, take};
 ghost use Rattle.bios_modes.specs.Valid.{IsValid};
 ghost use Rattle.vga_c.specs.Cards.{ClosedCardStaysUnchanged, ClosedCardLeavesOutput};
-ghost use Rattle.vga_c.specs.Services.{InvalidDataChangeNothing, InvalidDataChangeNoCard};
-ghost use Rattle.vga_c.specs.Steps.{AreTakenOrCutOff, IsScriptRunOrRefused, OpenCardRunsScript, steps_output};
+ghost use Rattle.vga_c.specs.Services.{InvalidBiosDataChangeNothing, InvalidBiosDataChangeNoCard};
+ghost use Rattle.vga_c.specs.Steps.{AreStepsTakenOrAllocationFails, IsScriptRunOrRefused, OpenCardRunsScript, steps_output};
 
-use crate::buffer::copy_prefix;
+use crate::buffer::write_bytes_if_room_and_their_count;
 use crate::handle::{Handle, on_open_card};
 use crate::outcome::status_and_place;
 use crate::status::{BAD_CARD, OUT_OF_MEMORY};
@@ -28,7 +28,7 @@ fn take_steps(
 ) -> u32
     requires valid { IsValid machine.old.bda }
     requires numbers { number + length steps < 2 ^ 64 }
-    ensures taken { (place : ℕ) → AreTakenOrCutOff (take most steps.entry) number machine.old
+    ensures taken { (place : ℕ) → AreStepsTakenOrAllocationFails (take most steps.entry) number machine.old
         machine.new (steps_output out.old len.old taken.old place) (steps_output out.new len.new
         taken.new place)
         result }
@@ -39,14 +39,14 @@ fn take_steps(
     match machine.take_steps(alloc, steps, most, &mut next, &mut report) {
         Ok(()) => {
             *taken = next - number;
-            copy_prefix(out, len, report.into_inner().as_slice())
+            write_bytes_if_room_and_their_count(out, len, report.into_inner().as_slice())
         }
         Err(_) => OUT_OF_MEMORY, // The report is written into memory.
     }
 }
 
 /// Takes steps of a script on a machine with valid BIOS data.
-fn run_with_valid_data(
+fn run_with_valid_bios_data(
     alloc: Global,
     machine: &mut Machine,
     script: &[u8],
@@ -101,14 +101,14 @@ fn run(
         place.new)
         result }
     ensures valid { IsValid machine.old.bda → IsValid machine.new.bda }
-    ensures bad { InvalidDataChangeNothing machine.old machine.new (steps_output out.old len.old
+    ensures bad { InvalidBiosDataChangeNothing machine.old machine.new (steps_output out.old len.old
         taken.old place.old)
         (steps_output out.new len.new taken.new place.new) result }
 {
     if !machine.bda.valid() {
         return BAD_CARD;
     }
-    run_with_valid_data(alloc, machine, script, first, most, out, len, taken, place)
+    run_with_valid_bios_data(alloc, machine, script, first, most, out, len, taken, place)
 }
 
 /// Skips the first `first` steps of a script, takes the next `most`, or all if there are fewer, and
@@ -129,7 +129,7 @@ pub extern "C" fn zak_run_on(
         (steps_output out.old len.old taken.old place.old) (steps_output out.new len.new taken.new
         place.new)
         result }
-    ensures bad { InvalidDataChangeNoCard card.old card.new (steps_output out.old len.old taken.old place.old)
+    ensures bad { InvalidBiosDataChangeNoCard card.old card.new (steps_output out.old len.old taken.old place.old)
         (steps_output out.new len.new taken.new place.new) result }
     ensures closed { ClosedCardStaysUnchanged card.old card.new result }
     ensures spared { ClosedCardLeavesOutput card.old (steps_output out.old len.old taken.old place.old)

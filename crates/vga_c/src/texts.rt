@@ -5,14 +5,14 @@ ghost use Rattle.vga_c.specs.Texts.{GivesAssembledBytes, IsAssembled, IsFaultOfB
 ghost use Rattle.vga_c.specs.Texts.{IsFaultOfText};
 ghost use Rattle.vga_c.specs.Texts.{IsPrinted, GivesPrintedText};
 
-use crate::buffer::copy_prefix;
+use crate::buffer::write_bytes_if_room_and_their_count;
 use crate::outcome::status_and_place;
 use std::alloc::Global;
 use vga_bits::Fault;
 use vga_script::{assemble, decode, encode, print};
 
 /// Assembles a text, or finds its first fault.
-fn bytes_of_text(alloc: Global, text: &[u8]) -> Result<Vec<u8>, Fault>
+fn script_bytes_assembled_from_text(alloc: Global, text: &[u8]) -> Result<Vec<u8>, Fault>
     ensures ok { IfOk result (λ bytes. IsAssembled text.now bytes.items) }
     ensures err { IfErr result (IsFaultOfText text.now) }
 {
@@ -34,14 +34,14 @@ pub extern "C" fn zak_assemble(
         (script_output out.new len.new line.new)
         result }
 {
-    match bytes_of_text(alloc, text) {
-        Ok(bytes) => copy_prefix(out, len, bytes.as_slice()),
+    match script_bytes_assembled_from_text(alloc, text) {
+        Ok(bytes) => write_bytes_if_room_and_their_count(out, len, bytes.as_slice()),
         Err(fault) => status_and_place(fault, line),
     }
 }
 
 /// Prints the script that some bytes spell, or finds their first fault.
-fn text_of_bytes(alloc: Global, bytes: &[u8]) -> Result<Vec<u8>, Fault>
+fn text_printed_from_script_bytes(alloc: Global, bytes: &[u8]) -> Result<Vec<u8>, Fault>
     ensures ok { IfOk result (λ text. IsPrinted bytes.now text.items) }
     ensures err { IfErr result (IsFaultOfBytes bytes.now) }
 {
@@ -63,8 +63,8 @@ pub extern "C" fn zak_print(
         (script_output out.new len.new place.new)
         result }
 {
-    match text_of_bytes(alloc, script) {
-        Ok(text) => copy_prefix(out, len, text.as_slice()),
+    match text_printed_from_script_bytes(alloc, script) {
+        Ok(text) => write_bytes_if_room_and_their_count(out, len, text.as_slice()),
         Err(fault) => status_and_place(fault, place),
     }
 }

@@ -27,7 +27,7 @@ use Rattle.vga_crtc.specs.declared.beam.Beam.{Beam}
 use Rattle.vga_crtc.specs.Crtc.{CrtcState}
 use Rattle.vga_crtc.specs.Fields.{horizontal_total, vertical_total, preset_row_scan, maximum_scan_line, line_compare, is_double_scan, overflow}
 use Rattle.vga_crtc.specs.Ports.{kept_bits, is_write_protected, protected_overflow, after_out as after_crtc}
-use Rattle.vga_crtc.specs.Beam.{characters, lines, IsBeam, is_first_dot, with_frame_start_taken, counters_after_line, next_line, dot as beam_dot, after_dot}
+use Rattle.vga_crtc.specs.Beam.{characters, lines, IsBeam, is_first_dot_of_frame, with_frame_start_taken, counters_after_line, next_line, dot as beam_dot, after_dot}
 use Rattle.vga_crtc.specs.Bounds.{IsCrtc}
 use Rattle.vga_attr.specs.Attr.{AttrState, attr_masks, selected_register, is_locked, after_write as after_attr, IsAttr}
 use Rattle.vga_dac.specs.declared.component.Component.{Component}
@@ -39,7 +39,7 @@ use Rattle.vga_card.specs.declared.port.Port.TheVariants.{DacMask, DacReadIndex,
 use Rattle.vga_card.specs.declared.port.Port.TheVariants.{GraphicsData, CrtcIndex, CrtcData, InputStatus1}
 use Rattle.vga_card.specs.Card.{CardState, power_on_card}
 use Rattle.vga_card.specs.Port.{port_of}
-use Rattle.vga_card.specs.Adapter.{AdapterState, adapter_of, with_adapter}
+use Rattle.vga_card.specs.Adapter.{CardStateWithoutBeamAndDots, without_beam_and_dots, with_adapter}
 use Rattle.vga_card.specs.Cycles.{card_after_write, card_after_read, unless_refused, if_decoded, out_reached, inp_reached, out_at, inp_at, out_cycle, inp_cycle, put_cycle, get_cycle}
 use Rattle.vga_card.specs.Cycles.{out_byte, inp_byte, put_byte, get_byte}
 use Rattle.vga_card.specs.WordCycles.{adapter_after_write, adapter_after_read, both_writes_or_neither, both_reads_or_neither, out_word_cycle, inp_word_cycle, put_word_cycle, get_word_cycle}
@@ -234,7 +234,7 @@ last_scan_small r = omega arith
 
 started_within : (r : List ℕ) (b : Beam) → IsBeam b → IsBeam (with_frame_start_taken r b)
 started_within r b z =
-    if_beam (is_first_dot b) _ b (record { frame = z.frame; line = z.line; character = z.character; dot = z.dot; scan = first_scan_small r }) z
+    if_beam (is_first_dot_of_frame b) _ b (record { frame = z.frame; line = z.line; character = z.character; dot = z.dot; scan = first_scan_small r }) z
 
 row_within : (r : List ℕ) (b : Beam) → IsBeam b → IsBeam (counters_after_line r b)
 row_within r b z =
@@ -315,11 +315,11 @@ with_attr c a is z = record { host = z.host; crtc = z.crtc; attr = is; dac = z.d
 with_dac : (c : CardState) (d : DacState) → length d.reds ≡ 256 → length d.greens ≡ 256 → length d.blues ≡ 256 → IsCard c → IsCard (record c { dac = d })
 with_dac c d reds greens blues z = record { host = z.host; crtc = z.crtc; attr = z.attr; dac = record { reds = reds; greens = greens; blues = blues } }
 
-unless_within : (t : Bool) (c : CardState) (a : AdapterState) → IsCard c → IsCard (with_adapter c a) → IsCard (card_after_write c (unless_refused t a)).0
+unless_within : (t : Bool) (c : CardState) (a : CardStateWithoutBeamAndDots) → IsCard c → IsCard (with_adapter c a) → IsCard (card_after_write c (unless_refused t a)).0
 unless_within true c a z y = z
 unless_within false c a z y = y
 
-answered_within : (t : Bool) (c : CardState) (v : ℕ) → IsCard c → IsCard (card_after_read c (unless_refused t (adapter_of c, v))).0
+answered_within : (t : Bool) (c : CardState) (v : ℕ) → IsCard c → IsCard (card_after_read c (unless_refused t (without_beam_and_dots c, v))).0
 answered_within true c v z = z
 answered_within false c v z = z
 
@@ -373,11 +373,11 @@ out_bounds c port v z = out_within c (port_of c.misc port) v z
 pub inp_bounds : (c : CardState) (port : ℕ) → IsCard c → IsCard (inp_cycle c port).0
 inp_bounds c port z = inp_within c (port_of c.misc port) z
 
-written_within : (t : Bool) (c : CardState) (a : AdapterState) → IsCard c → IsCard (with_adapter c a) → IsCard (card_after_write c (if_decoded t a)).0
+written_within : (t : Bool) (c : CardState) (a : CardStateWithoutBeamAndDots) → IsCard c → IsCard (with_adapter c a) → IsCard (card_after_write c (if_decoded t a)).0
 written_within true c a z y = y
 written_within false c a z y = z
 
-read_within : (t : Bool) (c : CardState) (a : AdapterState) (v : ℕ) → IsCard c → IsCard (with_adapter c a) → IsCard (card_after_read c (if_decoded t (a, v))).0
+read_within : (t : Bool) (c : CardState) (a : CardStateWithoutBeamAndDots) (v : ℕ) → IsCard c → IsCard (with_adapter c a) → IsCard (card_after_read c (if_decoded t (a, v))).0
 read_within true c a v z y = y
 read_within false c a v z y = z
 
@@ -393,55 +393,55 @@ get_bounds c address z =
 
 -- ---- cycles of a word
 
-both_within : (c : CardState) (first second : Result AdapterState Refusal) → IsCard c
-    → (IsCard (with_adapter c (adapter_after_write (adapter_of c) first)) → IsCard (card_after_write (with_adapter c (adapter_after_write (adapter_of c) first)) second).0)
+both_within : (c : CardState) (first second : Result CardStateWithoutBeamAndDots Refusal) → IsCard c
+    → (IsCard (with_adapter c (adapter_after_write (without_beam_and_dots c) first)) → IsCard (card_after_write (with_adapter c (adapter_after_write (without_beam_and_dots c) first)) second).0)
     → IsCard (card_after_write c first).0 → IsCard (card_after_write c (both_writes_or_neither first second)).0
 both_within c (Ok mid) (Ok new) z next y = next y
 both_within c (Ok mid) (Err g) z next y = z
 both_within c (Err e) (Ok new) z next y = z
 both_within c (Err e) (Err g) z next y = z
 
-both_read_within : (c : CardState) (first second : Result (AdapterState × ℕ) Refusal) → IsCard c
-    → (IsCard (with_adapter c (adapter_after_read (adapter_of c) first)) → IsCard (card_after_read (with_adapter c (adapter_after_read (adapter_of c) first)) second).0)
+both_read_within : (c : CardState) (first second : Result (CardStateWithoutBeamAndDots × ℕ) Refusal) → IsCard c
+    → (IsCard (with_adapter c (adapter_after_read (without_beam_and_dots c) first)) → IsCard (card_after_read (with_adapter c (adapter_after_read (without_beam_and_dots c) first)) second).0)
     → IsCard (card_after_read c first).0 → IsCard (card_after_read c (both_reads_or_neither first second)).0
 both_read_within c (Ok (mid, low)) (Ok (new, high)) z next y = next y
 both_read_within c (Ok (mid, low)) (Err g) z next y = z
 both_read_within c (Err e) (Ok (new, high)) z next y = z
 both_read_within c (Err e) (Err g) z next y = z
 
-if_written : (t : Bool) (c : CardState) (r : Result AdapterState Refusal) → IsCard c → IsCard (card_after_write c r).0 →
+if_written : (t : Bool) (c : CardState) (r : Result CardStateWithoutBeamAndDots Refusal) → IsCard c → IsCard (card_after_write c r).0 →
     IsCard (card_after_write c (if t then Err NotDecoded else r)).0
 if_written true c r z y = z
 if_written false c r z y = y
 
-if_answered : (t : Bool) (c : CardState) (r : Result (AdapterState × ℕ) Refusal) → IsCard c → IsCard (card_after_read c r).0 →
+if_answered : (t : Bool) (c : CardState) (r : Result (CardStateWithoutBeamAndDots × ℕ) Refusal) → IsCard c → IsCard (card_after_read c r).0 →
     IsCard (card_after_read c (if t then Err NotDecoded else r)).0
 if_answered true c r z y = z
 if_answered false c r z y = y
 
 pub out_word_bounds : (c : CardState) (port v : ℕ) → IsCard c → IsCard (out_word_cycle c port v).0
 out_word_bounds c port v z =
-    let first = out_byte c.crtc.beam (adapter_of c) port (v % 256) in
+    let first = out_byte c.crtc.beam (without_beam_and_dots c) port (v % 256) in
     if_written (port == 0xFFFF) c _ z
-    (both_within c first _ z (out_bounds (with_adapter c (adapter_after_write (adapter_of c) first)) (port + 1) (v / 256)) (out_bounds c port (v % 256) z))
+    (both_within c first _ z (out_bounds (with_adapter c (adapter_after_write (without_beam_and_dots c) first)) (port + 1) (v / 256)) (out_bounds c port (v % 256) z))
 
 pub inp_word_bounds : (c : CardState) (port : ℕ) → IsCard c → IsCard (inp_word_cycle c port).0
 inp_word_bounds c port z =
-    let first = inp_byte c.crtc.beam (adapter_of c) port in
+    let first = inp_byte c.crtc.beam (without_beam_and_dots c) port in
     if_answered (port == 0xFFFF) c _ z
-    (both_read_within c first _ z (inp_bounds (with_adapter c (adapter_after_read (adapter_of c) first)) (port + 1)) (inp_bounds c port z))
+    (both_read_within c first _ z (inp_bounds (with_adapter c (adapter_after_read (without_beam_and_dots c) first)) (port + 1)) (inp_bounds c port z))
 
 pub put_word_bounds : (c : CardState) (address v : ℕ) → IsCard c → IsCard (put_word_cycle c address v).0
 put_word_bounds c address v z =
-    let first = put_byte (adapter_of c) address (v % 256) in
+    let first = put_byte (without_beam_and_dots c) address (v % 256) in
     if_written (address == 0xFFFFFFFF) c _ z
-    (both_within c first _ z (put_bounds (with_adapter c (adapter_after_write (adapter_of c) first)) (address + 1) (v / 256)) (put_bounds c address (v % 256) z))
+    (both_within c first _ z (put_bounds (with_adapter c (adapter_after_write (without_beam_and_dots c) first)) (address + 1) (v / 256)) (put_bounds c address (v % 256) z))
 
 pub get_word_bounds : (c : CardState) (address : ℕ) → IsCard c → IsCard (get_word_cycle c address).0
 get_word_bounds c address z =
-    let first = get_byte (adapter_of c) address in
+    let first = get_byte (without_beam_and_dots c) address in
     if_answered (address == 0xFFFFFFFF) c _ z
-    (both_read_within c first _ z (get_bounds (with_adapter c (adapter_after_read (adapter_of c) first)) (address + 1)) (get_bounds c address z))
+    (both_read_within c first _ z (get_bounds (with_adapter c (adapter_after_read (without_beam_and_dots c) first)) (address + 1)) (get_bounds c address z))
 
 -- ---- dots
 

@@ -10,31 +10,31 @@ use Rattle.vga_dots.specs.Display.{DisplayState}
 use Rattle.vga_dots.specs.Line.{shown_characters, IsLineDrawn}
 use Rattle.vga_card.specs.Line.{IsLineAppended}
 use Rattle.vga_bits.proofs.ByteLemmas.{zeros_at}
-use Rattle.vga_card.specs.Picture.{Dot, most_dots_of_a_line, most_lines_of_a_frame, lines_of_dots, lines_by_widths}
+use Rattle.vga_card.specs.Picture.{Dot, most_dots_of_a_line, most_lines_of_a_frame, lines_of_dots, line_of_each_dot_by_widths}
 use Rattle.vga_card.specs.Canvas.{CanvasState, blank_canvas, dots_of_bytes, stored_dots, IsCanvas}
 
 -- no later line has a dot
-pub no_lines : (u : ℕ) (ws : List ℕ) → ((j : ℕ) → slice_index ws j ≡ 0) → lines_by_widths u ws ≡ []
-unfolding lines_by_widths
+pub no_lines : (u : ℕ) (ws : List ℕ) → ((j : ℕ) → slice_index ws j ≡ 0) → line_of_each_dot_by_widths u ws ≡ []
+unfolding line_of_each_dot_by_widths
 no_lines u [] h = refl
-no_lines u (w ∷ ws) h = ap (λ n. replicate n u ++ lines_by_widths (u + 1) ws) (h 0) ∙ no_lines (u + 1) ws (λ j. h (suc j))
+no_lines u (w ∷ ws) h = ap (λ n. replicate n u ++ line_of_each_dot_by_widths (u + 1) ws) (h 0) ∙ no_lines (u + 1) ws (λ j. h (suc j))
 
 -- n dots more on the last line
 lines_more : (u i n : ℕ) (ws : List ℕ) → i < length ws → ((j : ℕ) → i < j → slice_index ws j ≡ 0) →
-    lines_by_widths u (slice_set ws i (slice_index ws i + n)) ≡ lines_by_widths u ws ++ replicate n (u + i)
-unfolding lines_by_widths
+    line_of_each_dot_by_widths u (slice_set ws i (slice_index ws i + n)) ≡ line_of_each_dot_by_widths u ws ++ replicate n (u + i)
+unfolding line_of_each_dot_by_widths
 lines_more u i n [] l h = absurd (omega arith)
 lines_more u zero n (w ∷ ws) l h =
     let none = no_lines (u + 1) ws (λ j. h (suc j) (omega arith)) in
     let z : u ≡ u + 0 = omega arith in
     ap (λ x. replicate (w + n) u ++ x) none ∙ append-nil (replicate (w + n) u) ∙ sym (replicate-append-replicate w n u)
     ∙ ap (λ x. x ++ replicate n u) (sym (append-nil (replicate w u)) ∙ ap (λ x. replicate w u ++ x) (sym none))
-    ∙ ap (λ x. (replicate w u ++ lines_by_widths (u + 1) ws) ++ replicate n x) z
+    ∙ ap (λ x. (replicate w u ++ line_of_each_dot_by_widths (u + 1) ws) ++ replicate n x) z
 lines_more u (suc i) n (w ∷ ws) l h =
     let z : u + 1 + i ≡ u + suc i = omega arith in
     ap (λ x. replicate w u ++ x) (lines_more (u + 1) i n ws (omega arith) (λ j k. h (suc j) (omega arith)))
-    ∙ sym (append_assoc (replicate w u) (lines_by_widths (u + 1) ws) (replicate n (u + 1 + i)))
-    ∙ ap (λ x. (replicate w u ++ lines_by_widths (u + 1) ws) ++ replicate n x) z
+    ∙ sym (append_assoc (replicate w u) (line_of_each_dot_by_widths (u + 1) ws) (replicate n (u + 1 + i)))
+    ∙ ap (λ x. (replicate w u ++ line_of_each_dot_by_widths (u + 1) ws) ++ replicate n x) z
 
 pub length-dots_from : (vs bs : List ℕ) → length (dots_of_bytes vs bs) ≡ length vs
 unfolding dots_of_bytes
@@ -59,14 +59,14 @@ dots-append (v ∷ vs) us bs cs e =
 
 -- one dot more on line v
 pub stored_more : (ws buffer colour : List ℕ) (v : ℕ) → v < length ws → ((j : ℕ) → v < j → slice_index ws j ≡ 0) →
-    length buffer ≡ 3 * length (lines_by_widths 0 ws) → length colour ≡ 3 → stored_dots (slice_set ws v (slice_index ws v + 1)) (buffer ++ colour)
+    length buffer ≡ 3 * length (line_of_each_dot_by_widths 0 ws) → length colour ≡ 3 → stored_dots (slice_set ws v (slice_index ws v + 1)) (buffer ++ colour)
     ≡ stored_dots ws buffer ++ (record { line = v; colour = colour }) ∷ []
 unfolding dots_of_bytes
 stored_more ws buffer colour v l h e three =
     let z : 0 + v ≡ v = omega arith in
     let here : List ℕ → Dot = λ (c : List ℕ). record { line = v; colour = c } in
     ap (λ x. dots_of_bytes x (buffer ++ colour)) (lines_more 0 v 1 ws l h)
-    ∙ dots-append (lines_by_widths 0 ws) (replicate 1 (0 + v)) buffer colour e
+    ∙ dots-append (line_of_each_dot_by_widths 0 ws) (replicate 1 (0 + v)) buffer colour e
     ∙ ap (λ k. stored_dots ws buffer ++ dots_of_bytes (k ∷ []) colour) z
     ∙ ap (λ (c : List ℕ). stored_dots ws buffer ++ here c ∷ []) (take_all 3 colour (omega (arith, three)))
 
@@ -99,7 +99,7 @@ room_shown canvas dots ws line v shown inside after room =
 
 -- the width of a line before n dots more
 width_before : (capacity : ℕ) (buffer ws : List ℕ) (line v n : ℕ) → IsCanvas capacity buffer ws line → HasRoom ws line v n → (slice_index ws v + n ≤ most_dots_of_a_line)
-    × (length (lines_by_widths 0 ws) + n ≤ most_dots_of_a_line * v + (slice_index ws v + n))
+    × (length (line_of_each_dot_by_widths 0 ws) + n ≤ most_dots_of_a_line * v + (slice_index ws v + n))
 width_before capacity buffer ws line v n is room =
     ⊎_elim
     (λ (same : v ≡ line).
@@ -112,8 +112,8 @@ width_before capacity buffer ws line v n is room =
     (cases_eq v line)
 
 -- the memory of a canvas has room for the bytes of n dots more
-pub bytes_fit : (capacity : ℕ) (buffer ws : List ℕ) (line v n : ℕ) → IsCanvas capacity buffer ws line → HasRoom ws line v n → length buffer + 3 * n ≤ capacity
-bytes_fit capacity buffer ws line v n is room =
+pub bytes_are_below_256 : (capacity : ℕ) (buffer ws : List ℕ) (line v n : ℕ) → IsCanvas capacity buffer ws line → HasRoom ws line v n → length buffer + 3 * n ≤ capacity
+bytes_are_below_256 capacity buffer ws line v n is room =
     let before = width_before capacity buffer ws line v n is room in
     omega (arith, before.0, before.1, room.inside, is.counted, is.room)
 
@@ -132,9 +132,9 @@ canvas_more capacity buffer colours ws line v n is room e =
     let within : v < length ws = omega (arith, is.lines, room.inside) in
     let before = width_before capacity buffer ws line v n is room in
     let wider = slice_set ws v (slice_index ws v + n) in
-    let count : length (lines_by_widths 0 wider) ≡ length (lines_by_widths 0 ws) + n =
-    ap length (lines_more 0 v n ws within (λ j k. is.later j (omega (arith, room.after)))) ∙ length-append (lines_by_widths 0 ws) (replicate n (0 + v))
-    ∙ ap (λ k. length (lines_by_widths 0 ws) + k) (length-replicate n (0 + v)) in
+    let count : length (line_of_each_dot_by_widths 0 wider) ≡ length (line_of_each_dot_by_widths 0 ws) + n =
+    ap length (lines_more 0 v n ws within (λ j k. is.later j (omega (arith, room.after)))) ∙ length-append (line_of_each_dot_by_widths 0 ws) (replicate n (0 + v))
+    ∙ ap (λ k. length (line_of_each_dot_by_widths 0 ws) + k) (length-replicate n (0 + v)) in
     record {
       room = is.room;
       lines = length-set ws v (slice_index ws v + n) ∙ is.lines;
@@ -174,12 +174,12 @@ blank n ws e j = ap (λ x. slice_index x j) e ∙ zeros_at n j
 
 -- n dots more on line v, by the bytes of a row
 pub stored_line : (ws buffer colours : List ℕ) (v n : ℕ) → v < length ws → ((j : ℕ) → v < j → slice_index ws j ≡ 0) →
-    length buffer ≡ 3 * length (lines_by_widths 0 ws)
+    length buffer ≡ 3 * length (line_of_each_dot_by_widths 0 ws)
     → stored_dots (slice_set ws v (slice_index ws v + n)) (buffer ++ colours) ≡ stored_dots ws buffer ++ dots_of_bytes (replicate n v) colours
 stored_line ws buffer colours v n l h e =
     let z : 0 + v ≡ v = omega arith in
     ap (λ x. dots_of_bytes x (buffer ++ colours)) (lines_more 0 v n ws l h)
-    ∙ dots-append (lines_by_widths 0 ws) (replicate n (0 + v)) buffer colours e
+    ∙ dots-append (line_of_each_dot_by_widths 0 ws) (replicate n (0 + v)) buffer colours e
     ∙ ap (λ k. stored_dots ws buffer ++ dots_of_bytes (replicate n k) colours) z
 
 -- a canvas shows whether it has room for n dots more

@@ -9,8 +9,8 @@ use Rattle.vga_crtc.specs.Status.{is_display, is_retrace, status}
 use Rattle.vga_crtc.specs.Clock.{ChangesAfter, NeverChanges}
 use Rattle.vga_card.specs.Card.{CardState}
 use Rattle.vga_card.specs.Dots.{character_width, dots}
-use Rattle.vga_card.specs.Clock.{status_bit, StatusBitChanges, StatusBitNeverChanges}
-use Rattle.vga_card.proofs.FrameLemmas.{dots_keep}
+use Rattle.vga_card.specs.Clock.{status_bit_after_dots, StatusBitFirstChangesAfterDots, StatusBitNeverChanges}
+use Rattle.vga_card.proofs.FrameLemmas.{dots_change_only_beam_and_picture}
 
 -- ---- the two bits
 
@@ -38,10 +38,10 @@ retrace_bit c = fourth_bit (is_display c.registers c.beam) (is_retrace c.registe
 
 -- a bit that is a test of the beam, whatever the beam
 abbrev Tests : ℕ → (Beam → Bool) → CardState → Type 0
-Tests i test c = (n : ℕ) → status_bit i c n ≡ test (beam_dots (character_width c) c.crtc.registers n c.crtc.beam)
+Tests i test c = (n : ℕ) → status_bit_after_dots i c n ≡ test (beam_dots (character_width c) c.crtc.registers n c.crtc.beam)
 
 moved : (c : CardState) (n : ℕ) → (dots n c).crtc ≡ after_dots c.crtc (character_width c) n
-moved c n = ap (λ (x : CardState). x.crtc) (dots_keep n c)
+moved c n = ap (λ (x : CardState). x.crtc) (dots_change_only_beam_and_picture n c)
 
 display_tests : (c : CardState) → Tests 0 (λ b. not (is_display c.crtc.registers b)) c
 unfolding after_dots
@@ -51,13 +51,13 @@ retrace_tests : (c : CardState) → Tests 3 (is_retrace c.crtc.registers) c
 unfolding after_dots
 retrace_tests c n = ap (λ x. is_set (status x) 3) (moved c n) ∙ retrace_bit (after_dots c.crtc (character_width c) n)
 
-now : (i : ℕ) (test : Beam → Bool) (c : CardState) → Tests i test c → status_bit i c 0 ≡ test c.crtc.beam
+now : (i : ℕ) (test : Beam → Bool) (c : CardState) → Tests i test c → status_bit_after_dots i c 0 ≡ test c.crtc.beam
 unfolding beam_dots
 now i test c tests = tests 0
 
 -- a bit changes and stays with its test
 bit_changes : (i : ℕ) (test : Beam → Bool) (c : CardState) (n : ℕ) → Tests i test c →
-    ChangesAfter test (character_width c) c.crtc.registers c.crtc.beam n → StatusBitChanges i c n
+    ChangesAfter test (character_width c) c.crtc.registers c.crtc.beam n → StatusBitFirstChangesAfterDots i c n
 bit_changes i test c n tests is = record {
   changed = tests n ∙ is.changed ∙ ap not (sym (now i test c tests));
   first = λ m few. tests m ∙ is.first m few ∙ sym (now i test c tests);
@@ -74,7 +74,7 @@ opposite test cw r b n is = record { changed = ap not is.changed; first = λ m f
 
 display_of : (c : CardState) (told : Option ℕ) →
     MatchOption told (NeverChanges (is_display c.crtc.registers) (character_width c) c.crtc.registers c.crtc.beam)
-    (ChangesAfter (is_display c.crtc.registers) (character_width c) c.crtc.registers c.crtc.beam) → MatchOption told (StatusBitNeverChanges 0 c) (StatusBitChanges 0 c)
+    (ChangesAfter (is_display c.crtc.registers) (character_width c) c.crtc.registers c.crtc.beam) → MatchOption told (StatusBitNeverChanges 0 c) (StatusBitFirstChangesAfterDots 0 c)
 display_of c None is =
     bit_stays 0 (λ b. not (is_display c.crtc.registers b)) c (display_tests c) (λ m. ap not (is m))
 display_of c (Some n) is =
@@ -83,13 +83,13 @@ display_of c (Some n) is =
 
 retrace_of : (c : CardState) (told : Option ℕ) →
     MatchOption told (NeverChanges (is_retrace c.crtc.registers) (character_width c) c.crtc.registers c.crtc.beam)
-    (ChangesAfter (is_retrace c.crtc.registers) (character_width c) c.crtc.registers c.crtc.beam) → MatchOption told (StatusBitNeverChanges 3 c) (StatusBitChanges 3 c)
+    (ChangesAfter (is_retrace c.crtc.registers) (character_width c) c.crtc.registers c.crtc.beam) → MatchOption told (StatusBitNeverChanges 3 c) (StatusBitFirstChangesAfterDots 3 c)
 retrace_of c None is = bit_stays 3 (is_retrace c.crtc.registers) c (retrace_tests c) is
 retrace_of c (Some n) is = bit_changes 3 (is_retrace c.crtc.registers) c n (retrace_tests c) is
 
 pub display_told : (c : CardState) (told : Option ℕ) (cw : ℕ) (x : CrtcState) → cw ≡ character_width c → x ≡ c.crtc →
     MatchOption told (NeverChanges (is_display x.registers) cw x.registers x.beam) (ChangesAfter (is_display x.registers) cw x.registers x.beam) →
-    MatchOption told (StatusBitNeverChanges 0 c) (StatusBitChanges 0 c)
+    MatchOption told (StatusBitNeverChanges 0 c) (StatusBitFirstChangesAfterDots 0 c)
 display_told c told cw x width same is =
     display_of c told (subst (λ w. MatchOption told (NeverChanges (is_display c.crtc.registers) w c.crtc.registers c.crtc.beam)
     (ChangesAfter (is_display c.crtc.registers) w c.crtc.registers c.crtc.beam)) width
@@ -98,7 +98,7 @@ display_told c told cw x width same is =
 
 pub retrace_told : (c : CardState) (told : Option ℕ) (cw : ℕ) (x : CrtcState) → cw ≡ character_width c → x ≡ c.crtc →
     MatchOption told (NeverChanges (is_retrace x.registers) cw x.registers x.beam) (ChangesAfter (is_retrace x.registers) cw x.registers x.beam) →
-    MatchOption told (StatusBitNeverChanges 3 c) (StatusBitChanges 3 c)
+    MatchOption told (StatusBitNeverChanges 3 c) (StatusBitFirstChangesAfterDots 3 c)
 retrace_told c told cw x width same is =
     retrace_of c told (subst (λ w. MatchOption told (NeverChanges (is_retrace c.crtc.registers) w c.crtc.registers c.crtc.beam)
     (ChangesAfter (is_retrace c.crtc.registers) w c.crtc.registers c.crtc.beam)) width

@@ -23,13 +23,13 @@ use Rattle.vga_card.specs.declared.port.Port.TheVariants.{DacReadIndex, DacWrite
 use Rattle.vga_card.specs.declared.port.Port.TheVariants.{CrtcIndex, CrtcData, InputStatus1}
 use Rattle.vga_card.specs.Picture.{Dot}
 use Rattle.vga_card.specs.Card.{CardState}
-use Rattle.vga_card.specs.Adapter.{AdapterState, adapter_of, with_adapter}
+use Rattle.vga_card.specs.Adapter.{CardStateWithoutBeamAndDots, without_beam_and_dots, with_adapter}
 use Rattle.vga_card.specs.Port.{port_of, crtc_port_of}
 use Rattle.vga_card.specs.Cycles.{WriteResult, card_after_write, unless_refused, out_reached, out_byte, out_cycle}
 use Rattle.vga_card.specs.WordCycles.{adapter_after_write, both_writes_or_neither, after_two_byte_writes, unless_at_last_place, out_word_cycle}
 use Rattle.vga_card.specs.Dots.{character_width, dots_of_frame_so_far, display_dot, dot, dots}
 use Rattle.vga_card.specs.Owed.{IsChangeHiddenFromDots}
-use Rattle.vga_card.proofs.FrameLemmas.{dots_host, dots_keep}
+use Rattle.vga_card.proofs.FrameLemmas.{dots_host, dots_change_only_beam_and_picture}
 
 -- ---- dots over a host path that they see alike
 
@@ -40,8 +40,8 @@ SeesFourRegisters = (h other : HostState) (c : CrtcState) (a : AttrState) (d : D
 abbrev with_host : CardState → HostState → CardState
 with_host c h = record c { host = h }
 
-abbrev around : CardState → HostState → AdapterState
-around c h = record (adapter_of c) { host = h }
+abbrev around : CardState → HostState → CardStateWithoutBeamAndDots
+around c h = record (without_beam_and_dots c) { host = h }
 
 width_alike : (h other : HostState) → DotsSeeSameRegisters h other → host_width other ≡ host_width h
 width_alike h other alike = ap (λ n. if is_set n 0 then 8 else 9) alike.clocking_mode
@@ -67,7 +67,7 @@ hidden_dots sees (suc n) c h alike = ap (dots n) (hidden_dot sees c h alike) ∙
 -- ---- a write looks at nothing that a dot changes
 
 -- no write looks at the beam
-beam_free : (b other : Beam) (a : AdapterState) (reached : Option Port) (v : ℕ) → out_reached b a reached v ≡ out_reached other a reached v
+beam_free : (b other : Beam) (a : CardStateWithoutBeamAndDots) (reached : Option Port) (v : ℕ) → out_reached b a reached v ≡ out_reached other a reached v
 unfolding out_reached after_crtc
 beam_free b other a None v = refl
 beam_free b other a (Some Attribute) v = refl
@@ -88,41 +88,41 @@ beam_free b other a (Some CrtcIndex) v = refl
 beam_free b other a (Some CrtcData) v = refl
 beam_free b other a (Some InputStatus1) v = refl
 
-pub same_adapter : (n : ℕ) (c : CardState) → adapter_of (dots n c) ≡ adapter_of c
+pub same_adapter : (n : ℕ) (c : CardState) → without_beam_and_dots (dots n c) ≡ without_beam_and_dots c
 unfolding after_dots
-same_adapter n c = ap adapter_of (dots_keep n c)
+same_adapter n c = ap without_beam_and_dots (dots_change_only_beam_and_picture n c)
 
 -- an outcome that is hidden from dots is the same after n dots, or before them
-later : SeesFourRegisters → (n : ℕ) (c : CardState) (r : Result AdapterState Refusal) → IsChangeHiddenFromDots c (card_after_write c r).0 →
+later : SeesFourRegisters → (n : ℕ) (c : CardState) (r : Result CardStateWithoutBeamAndDots Refusal) → IsChangeHiddenFromDots c (card_after_write c r).0 →
     (let now : WriteResult = (dots n (card_after_write c r).0, (card_after_write c r).1) in card_after_write (dots n c) r ≡ now)
 later sees n c (Err e) hidden = refl
 later sees n c (Ok a) hidden =
     let d = dots n c in
     let h = a.host in
-    let other : a ≡ around d h = ap (λ (x : CardState). around x h) hidden.rest ∙ ap (λ (x : AdapterState). record x { host = h }) (sym (same_adapter n c)) in
+    let other : a ≡ around d h = ap (λ (x : CardState). around x h) hidden.rest ∙ ap (λ (x : CardStateWithoutBeamAndDots). record x { host = h }) (sym (same_adapter n c)) in
     ap (λ (x : CardState). let now : WriteResult = (x, Ok tt) in now)
     (ap (with_adapter d) other ∙ sym (hidden_dots sees n c h hidden.host) ∙ ap (dots n) (sym (ap (λ (x : CardState). with_host x h) hidden.rest)))
 
-byte_free : (n : ℕ) (c : CardState) (port v : ℕ) → out_byte (dots n c).crtc.beam (adapter_of (dots n c)) port v ≡ out_byte c.crtc.beam (adapter_of c) port v
+byte_free : (n : ℕ) (c : CardState) (port v : ℕ) → out_byte (dots n c).crtc.beam (without_beam_and_dots (dots n c)) port v ≡ out_byte c.crtc.beam (without_beam_and_dots c) port v
 byte_free n c port v =
-    beam_free (dots n c).crtc.beam c.crtc.beam (adapter_of (dots n c)) (port_of (adapter_of (dots n c)).misc port) v
+    beam_free (dots n c).crtc.beam c.crtc.beam (without_beam_and_dots (dots n c)) (port_of (without_beam_and_dots (dots n c)).misc port) v
     ∙ ap (λ a. out_byte c.crtc.beam a port v) (same_adapter n c)
 
 -- n dots and then a write that is hidden from them are the write and then the dots
 pub out_does_not_wait : SeesFourRegisters → (n : ℕ) (c : CardState) (port v : ℕ) → IsChangeHiddenFromDots c (out_cycle c port v).0 →
     out_cycle (dots n c) port v ≡ (dots n (out_cycle c port v).0, (out_cycle c port v).1)
 out_does_not_wait sees n c port v hidden =
-    ap (card_after_write (dots n c)) (byte_free n c port v) ∙ later sees n c (out_byte c.crtc.beam (adapter_of c) port v) hidden
+    ap (card_after_write (dots n c)) (byte_free n c port v) ∙ later sees n c (out_byte c.crtc.beam (without_beam_and_dots c) port v) hidden
 
-word_beam_free : (b other : Beam) (a : AdapterState) (port low high : ℕ) → after_two_byte_writes (out_byte b) a port low high ≡ after_two_byte_writes (out_byte other) a port low high
+word_beam_free : (b other : Beam) (a : CardStateWithoutBeamAndDots) (port low high : ℕ) → after_two_byte_writes (out_byte b) a port low high ≡ after_two_byte_writes (out_byte other) a port low high
 word_beam_free b other a port low high =
     let first = beam_free b other a (port_of a.misc port) low in
     λ j. both_writes_or_neither (first j) (beam_free b other (adapter_after_write a (first j)) (port_of (adapter_after_write a (first j)).misc (port + 1)) high j)
 
-word_free : (n : ℕ) (c : CardState) (port low high : ℕ) → after_two_byte_writes (out_byte (dots n c).crtc.beam) (adapter_of (dots n c)) port low high
-    ≡ after_two_byte_writes (out_byte c.crtc.beam) (adapter_of c) port low high
+word_free : (n : ℕ) (c : CardState) (port low high : ℕ) → after_two_byte_writes (out_byte (dots n c).crtc.beam) (without_beam_and_dots (dots n c)) port low high
+    ≡ after_two_byte_writes (out_byte c.crtc.beam) (without_beam_and_dots c) port low high
 word_free n c port low high =
-    word_beam_free (dots n c).crtc.beam c.crtc.beam (adapter_of (dots n c)) port low high
+    word_beam_free (dots n c).crtc.beam c.crtc.beam (without_beam_and_dots (dots n c)) port low high
     ∙ ap (λ a. after_two_byte_writes (out_byte c.crtc.beam) a port low high) (same_adapter n c)
 
 -- the same for a write of a word
@@ -130,7 +130,7 @@ pub out_word_does_not_wait : SeesFourRegisters → (n : ℕ) (c : CardState) (po
     out_word_cycle (dots n c) port v ≡ (dots n (out_word_cycle c port v).0, (out_word_cycle c port v).1)
 out_word_does_not_wait sees n c port v hidden =
     ap (λ r. card_after_write (dots n c) (unless_at_last_place 0xFFFF port r)) (word_free n c port (v % 256) (v / 256))
-    ∙ later sees n c (unless_at_last_place 0xFFFF port (after_two_byte_writes (out_byte c.crtc.beam) (adapter_of c) port (v % 256) (v / 256))) hidden
+    ∙ later sees n c (unless_at_last_place 0xFFFF port (after_two_byte_writes (out_byte c.crtc.beam) (without_beam_and_dots c) port (v % 256) (v / 256))) hidden
 
 -- ---- which writes are hidden
 

@@ -4,17 +4,17 @@ use Rattle.vga_host.specs.Host.{HostState}
 use Rattle.vga_host.specs.Sequencer.{character_width as host_width}
 use Rattle.vga_crtc.specs.declared.beam.Beam.{Beam}
 use Rattle.vga_crtc.specs.Crtc.{CrtcState}
-use Rattle.vga_crtc.specs.Beam.{is_first_dot, characters, with_frame_start_taken, next_line, crtc_with_start_taken, after_dots, dots as beam_dots}
+use Rattle.vga_crtc.specs.Beam.{is_first_dot_of_frame, characters, with_frame_start_taken, next_line, crtc_with_start_taken, after_dots, dots as beam_dots}
 use Rattle.vga_crtc.specs.Raster.{dots_to_line_end, dots_to_frame_end, IsLineStart, IsFrameStart, IsNextLine, IsLineTaken, beam_at_dot_of_line, dots_per_line as line_length}
-use Rattle.vga_dots.specs.Line.{with_beam_at}
+use Rattle.vga_dots.specs.Line.{with_beam_at_dot_of_character}
 use Rattle.vga_card.specs.Picture.{Dot}
 use Rattle.vga_card.specs.Card.{CardState}
 use Rattle.vga_card.specs.Dots.{character_width, dots_of_frame_so_far, display_dot, dot, dots}
-use Rattle.vga_card.specs.Frames.{card_dots_to_frame_end, concatenated_dots, display_dot_at}
+use Rattle.vga_card.specs.Frames.{card_dots_to_frame_end, concatenated_dots, display_dot_after_dots}
 use Rattle.vga_card.specs.Line.{displayed_line_dots, display_with_start_taken, card_dots_to_line_end}
 use Rattle.vga_card.specs.Valid.{count_unless_frame_start, IsLineDrawnToBeam}
 use Rattle.vga_card.proofs.DotLemmas.{dots_split, dots_more, dots_none}
-use Rattle.vga_card.proofs.FrameLemmas.{FramesEnd, dots_are_places, dots_host, dots_keep, wide}
+use Rattle.vga_card.proofs.FrameLemmas.{FramesEnd, dots_are_places, dots_host, dots_change_only_beam_and_picture, wide}
 use Rattle.vga_card.proofs.PlaceLemmas.{StartStays, decided, elsewhere}
 use Rattle.vga_card.proofs.RowLemmas.{collect_same}
 
@@ -46,15 +46,15 @@ few_dots c = (omega arith, omega arith)
 
 module _ (stays : StartStays) (begin : DotsBegin) (places : BeamInLine) (counts : LineCounts) (frames : FramesEnd) where
   -- the display dots of a line, one place after another
-  line_places : (c : CardState) → IsLineStart c.crtc.beam → concatenated_dots (display_dot_at c) (card_dots_to_line_end c) ≡ displayed_line_dots (display_with_start_taken c)
+  line_places : (c : CardState) → IsLineStart c.crtc.beam → concatenated_dots (display_dot_after_dots c) (card_dots_to_line_end c) ≡ displayed_line_dots (display_with_start_taken c)
   unfolding displayed_line_dots crtc_with_start_taken after_dots
   line_places c start =
       let w = character_width c in
       let r = c.crtc.registers in
       let b = c.crtc.beam in
       let some : 0 < w = wide _ in
-      ap (concatenated_dots (display_dot_at c)) (counts w r b start some)
-      ∙ collect_same (display_dot_at c) (λ i. display_dot c.host (with_beam_at (crtc_with_start_taken c.crtc) (i / w) (i % w)) c.attr c.dac) (characters r * w)
+      ap (concatenated_dots (display_dot_after_dots c)) (counts w r b start some)
+      ∙ collect_same (display_dot_after_dots c) (λ i. display_dot c.host (with_beam_at_dot_of_character (crtc_with_start_taken c.crtc) (i / w) (i % w)) c.attr c.dac) (characters r * w)
       (λ i l. ap (λ (x : Beam). display_dot c.host (record c.crtc { beam = x }) c.attr c.dac) (places w r b i start some l))
 
   same_beam : (cw : ℕ) (c new : CrtcState) → 0 < cw → IsLineStart c.beam → IsLineTaken cw (crtc_with_start_taken c) new →
@@ -78,7 +78,7 @@ module _ (stays : StartStays) (begin : DotsBegin) (places : BeamInLine) (counts 
       ap (λ (x : CrtcState). record c { crtc = x; drawn = drawn }) (same_beam (character_width c) c.crtc crtc (wide _) start moves)
       ∙ ap (λ (x : List Dot). record c { crtc = after_dots c.crtc (character_width c) n; drawn = x }) (draws
       ∙ ap (λ x. dots_of_frame_so_far c ++ x) (sym (line_places c start)) ∙ sym (dots_are_places frames c n count.0 count.1))
-      ∙ sym (dots_keep n c)
+      ∙ sym (dots_change_only_beam_and_picture n c)
 
 -- after a line nothing is drawn of the beam's
 pub line_moves : StartStays → LineMoves → (cw : ℕ) (old new : CrtcState) (line width : ℕ) → IsLineTaken cw old new → line ≤ old.beam.line →
@@ -90,7 +90,7 @@ line_moves stays leads cw old new line width by_dots below =
     let m : Beam = new.beam in
     let place = stays r old.beam in
     let e : m ≡ next_line r s = ap (λ (x : CrtcState). x.beam) by_dots.by_dots ∙ by_dots.ends.next in
-    decided (is_first_dot m) m line width (λ away. ⊎_elim
+    decided (is_first_dot_of_frame m) m line width (λ away. ⊎_elim
     (λ (next : IsNextLine r s (next_line r s)).
     let on : m.line ≡ s.line + 1 = ap (λ (x : Beam). x.line) e ∙ next.line in
     record { below = omega (arith, on, place.line); few = λ q. absurd (omega (arith, on, place.line, q)) })

@@ -8,7 +8,7 @@ use Rattle.vga_crtc.specs.declared.beam.Beam.{Beam}
 use Rattle.vga_crtc.specs.Fields.{horizontal_display_end}
 use Rattle.vga_crtc.specs.Beam.{with_frame_start_taken}
 use Rattle.vga_crtc.specs.Raster.{IsFrameStart, IsWithinItsLine, beam_at_dot_of_line, dot_number_in_line}
-use Rattle.vga_dots.specs.Line.{with_beam_at}
+use Rattle.vga_dots.specs.Line.{with_beam_at_dot_of_character}
 use Rattle.vga_card.specs.Line.{card_dots_to_line_end}
 use Rattle.vga_card.proofs.PartLemmas.{BeamGoes, LineWhole, is_shown_at}
 use Rattle.vga_bits.specs.Four.{Four}
@@ -29,16 +29,16 @@ use Rattle.vga_dots.specs.Fetch.{DotSeesSameBytes, address_fetched_at_beam}
 use Rattle.vga_card.specs.declared.port.Port.TheVariants.{InputStatus1}
 use Rattle.vga_card.specs.Picture.{Dot}
 use Rattle.vga_card.specs.Card.{CardState}
-use Rattle.vga_card.specs.Adapter.{AdapterState, adapter_of}
+use Rattle.vga_card.specs.Adapter.{CardStateWithoutBeamAndDots, without_beam_and_dots}
 use Rattle.vga_card.specs.Port.{port_of}
 use Rattle.vga_card.specs.Cycles.{inp_at, inp_reached, inp_cycle, put_cycle, get_cycle, card_after_write, card_after_read, if_decoded, WriteResult, ReadResult}
 use Rattle.vga_card.specs.Dots.{character_width, dots_of_frame_so_far, display_dot, dot, dots}
-use Rattle.vga_card.specs.Owed.{DotsSeeSameMemory, crtc_at_dot}
-use Rattle.vga_card.proofs.FrameLemmas.{dots_host, dots_keep}
+use Rattle.vga_card.specs.Owed.{DotsSeeSameMemory, crtc_after_dots_with_start_taken}
+use Rattle.vga_card.proofs.FrameLemmas.{dots_host, dots_change_only_beam_and_picture}
 
 -- the adapter of a card around another host path
-abbrev around : CardState → HostState → AdapterState
-around c h = record (adapter_of c) { host = h }
+abbrev around : CardState → HostState → CardStateWithoutBeamAndDots
+around c h = record (without_beam_and_dots c) { host = h }
 
 -- ---- a read of input status 1
 
@@ -67,7 +67,7 @@ dots_misc zero c = refl
 dots_misc (suc n) c = dots_misc n (dot c)
 
 dots_crtc : (n : ℕ) (c : CardState) → (dots n c).crtc ≡ after_dots c.crtc (character_width c) n
-dots_crtc n c = ap (λ (x : CardState). x.crtc) (dots_keep n c)
+dots_crtc n c = ap (λ (x : CardState). x.crtc) (dots_change_only_beam_and_picture n c)
 
 status_read : (c : CardState) → inp_at c (Some InputStatus1) ≡ (cleared c, Ok (status c.crtc))
 unfolding inp_reached
@@ -113,7 +113,7 @@ alike_dot sees h c a d memory alike =
     same_shown (is_display c.registers c.beam) _ _ (λ shown.
     ap (λ (x : List ℕ). record { line = c.beam.line; colour = x } ∷ []) (sees h c a d memory (alike shown)))
 
-here : (c : CardState) → crtc_at_dot c 0 ≡ crtc_with_start_taken c.crtc
+here : (c : CardState) → crtc_after_dots_with_start_taken c 0 ≡ crtc_with_start_taken c.crtc
 unfolding after_dots beam_dots
 here c = refl
 
@@ -191,13 +191,13 @@ not_both false a b = absurd (cc)
 
 -- what is promised of places that are apart from those of a line
 abbrev pub IsApart : CardState → ℕ → Type 0
-IsApart c place = (h : HostState) (a : AttrState) (x k : ℕ) → x ≤ horizontal_display_end c.crtc.registers → address_fetched_at_beam h (with_beam_at c.crtc x k) a ≡ place → ⊥
+IsApart c place = (h : HostState) (a : AttrState) (x k : ℕ) → x ≤ horizontal_display_end c.crtc.registers → address_fetched_at_beam h (with_beam_at_dot_of_character c.crtc x k) a ≡ place → ⊥
 
 abbrev pub Elsewhere : Type 0
 Elsewhere = (r : List ℕ) (b : Beam) → ¬ IsFrameStart b → with_frame_start_taken r b ≡ b
 
 in_line_dot : Elsewhere → BeamGoes → LineWhole → (n : ℕ) (c : CardState) → ¬ IsFrameStart c.crtc.beam → IsWithinItsLine (character_width c) c.crtc.registers c.crtc.beam →
-    n ≤ card_dots_to_line_end c → (i : ℕ) → i < n → crtc_at_dot c i ≡ with_beam_at c.crtc ((dot_number_in_line (character_width c) c.crtc.beam + i) / character_width c)
+    n ≤ card_dots_to_line_end c → (i : ℕ) → i < n → crtc_after_dots_with_start_taken c i ≡ with_beam_at_dot_of_character c.crtc ((dot_number_in_line (character_width c) c.crtc.beam + i) / character_width c)
     ((dot_number_in_line (character_width c) c.crtc.beam + i) % character_width c)
 unfolding crtc_with_start_taken after_dots
 in_line_dot elsewhere goes whole n c away inside few i l =
@@ -215,11 +215,11 @@ line_sees_alike elsewhere goes whole n c w v away inside few apart beside = reco
   each = λ i l shown.
       let cw = character_width c in
       let q = dot_number_in_line cw c.crtc.beam + i in
-      let there : crtc_at_dot c i ≡ with_beam_at c.crtc (q / cw) (q % cw) = in_line_dot elsewhere goes whole n c away inside few i l in
+      let there : crtc_after_dots_with_start_taken c i ≡ with_beam_at_dot_of_character c.crtc (q / cw) (q % cw) = in_line_dot elsewhere goes whole n c away inside few i l in
       subst (λ (x : CrtcState). DotSeesSameBytes c.host x c.attr (memory_after_put c.host w v)) (sym there)
-      (seen_alike c.host (with_beam_at c.crtc (q / cw) (q % cw)) c.attr w v
+      (seen_alike c.host (with_beam_at_dot_of_character c.crtc (q / cw) (q % cw)) c.attr w v
       (apart c.host c.attr (q / cw) (q % cw)
-      (is_shown_at c.crtc.registers (with_beam_at c.crtc (q / cw) (q % cw)).beam (ap (λ (x : CrtcState). is_display x.registers x.beam) (sym there) ∙ shown)))
+      (is_shown_at c.crtc.registers (with_beam_at_dot_of_character c.crtc (q / cw) (q % cw)).beam (ap (λ (x : CrtcState). is_display x.registers x.beam) (sym there) ∙ shown)))
       beside);
 }
 

@@ -12,19 +12,19 @@ use Rattle.vga_crtc.specs.declared.beam.Beam.{Beam}
 use Rattle.vga_crtc.specs.Crtc.{CrtcState}
 use Rattle.vga_crtc.specs.Status.{is_display}
 use Rattle.vga_crtc.specs.Fields.{horizontal_display_end, vertical_display_end}
-use Rattle.vga_crtc.specs.Beam.{is_first_dot, characters, with_frame_start_taken, crtc_with_start_taken, after_dots, dots as beam_dots}
-use Rattle.vga_crtc.specs.Raster.{dots_to_line_end, beam_at_dot_of_line, dots_per_line as line_length, dot_number_in_line, IsWithinItsLine, LineEnds}
+use Rattle.vga_crtc.specs.Beam.{is_first_dot_of_frame, characters, with_frame_start_taken, crtc_with_start_taken, after_dots, dots as beam_dots}
+use Rattle.vga_crtc.specs.Raster.{dots_to_line_end, beam_at_dot_of_line, dots_per_line as line_length, dot_number_in_line, IsWithinItsLine, DotsToLineEndAreFewest}
 use Rattle.vga_dots.specs.Colour.{dot_colour}
 use Rattle.vga_dots.specs.Display.{DisplayState}
-use Rattle.vga_dots.specs.Line.{with_beam_at_dot_of_line, shown_characters, IsPartDrawn}
+use Rattle.vga_dots.specs.Line.{with_beam_at_dot_of_line, shown_characters, AreNextDotsDrawn}
 use Rattle.vga_card.specs.Picture.{Dot, most_dots_of_a_line}
 use Rattle.vga_card.specs.Canvas.{CanvasState, dots_of_bytes, width_with_dots}
 use Rattle.vga_card.specs.Card.{CardState}
 use Rattle.vga_card.specs.Dots.{character_width, dots_of_frame_so_far, display_dot, dots}
-use Rattle.vga_card.specs.Frames.{concatenated_dots, display_dot_at}
-use Rattle.vga_card.specs.Line.{display_with_start_taken, displayed_part_dots, card_dots_to_line_end, IsPartAppended}
+use Rattle.vga_card.specs.Frames.{concatenated_dots, display_dot_after_dots}
+use Rattle.vga_card.specs.Line.{display_with_start_taken, display_dots_among_next_dots, card_dots_to_line_end, AreNextDotsAppended}
 use Rattle.vga_card.specs.Valid.{count_unless_frame_start, IsLineDrawnToBeam}
-use Rattle.vga_card.proofs.FrameLemmas.{FramesEnd, dots_are_places, dots_keep}
+use Rattle.vga_card.proofs.FrameLemmas.{FramesEnd, dots_are_places, dots_change_only_beam_and_picture}
 use Rattle.vga_card.proofs.DotLemmas.{dots_split}
 use Rattle.vga_card.proofs.PlaceLemmas.{StartStays, decided}
 use Rattle.vga_card.proofs.RowLemmas.{collect_same, collect_none, collect_row, row_dot, three_are, three_bytes, shown_dot, hidden_dot, hidden_line_dot}
@@ -39,7 +39,7 @@ abbrev pub LineWhole : Type 0
 LineWhole = (cw : ℕ) (r : List ℕ) (b : Beam) → IsWithinItsLine cw r b → dot_number_in_line cw b + dots_to_line_end cw r b ≡ line_length cw r
 
 abbrev pub LinesEnd : Type 0
-LinesEnd = (cw : ℕ) (r : List ℕ) (b : Beam) → 0 < cw → LineEnds cw r b
+LinesEnd = (cw : ℕ) (r : List ℕ) (b : Beam) → 0 < cw → DotsToLineEndAreFewest cw r b
 
 -- ---- dots of a line
 
@@ -50,14 +50,14 @@ module _ (d : DisplayState) (cw : ℕ) (wide : cw ≡ host_width d.host) (some :
   abbrev part_dot : ℕ → List Dot
   part_dot i = display_dot d.host (with_beam_at_dot_of_line d.crtc cw (number + i)) d.attr d.dac
 
-  by_width : (n : ℕ) → displayed_part_dots n d ≡ concatenated_dots part_dot n
-  unfolding displayed_part_dots
+  by_width : (n : ℕ) → display_dots_among_next_dots n d ≡ concatenated_dots part_dot n
+  unfolding display_dots_among_next_dots
   by_width n = ap (λ w. concatenated_dots (λ i. display_dot d.host (with_beam_at_dot_of_line d.crtc w (dot_number_in_line w d.crtc.beam + i)) d.attr d.dac) n) (sym wide)
 
   -- dots that are displayed are those that are drawn
   pub appended_part : (n v : ℕ) (row old : List ℕ) → d.crtc.beam.line ≤ vertical_display_end d.crtc.registers →
       number + n ≤ shown_characters d.crtc.registers * cw → v ≡ d.crtc.beam.line
-      → IsPartDrawn cw n d old row → 3 * n ≤ length row → dots_of_bytes (replicate n v) (take (3 * n) row) ≡ displayed_part_dots n d
+      → AreNextDotsDrawn cw n d old row → 3 * n ≤ length row → dots_of_bytes (replicate n v) (take (3 * n) row) ≡ display_dots_among_next_dots n d
   appended_part n v row old in_frame fits line drawn room =
       let r = d.crtc.registers in
       let bytes = take (3 * n) row in
@@ -77,7 +77,7 @@ module _ (d : DisplayState) (cw : ℕ) (wide : cw ≡ host_width d.host) (some :
 
   -- those past the last displayed character add nothing
   pub part_cut : (m n : ℕ) → m ≡ min n (shown_characters d.crtc.registers * cw - number) → number + n ≤ characters d.crtc.registers * cw →
-      displayed_part_dots n d ≡ displayed_part_dots m d
+      display_dots_among_next_dots n d ≡ display_dots_among_next_dots m d
   part_cut m n e within =
       let whole : m + (n - m) ≡ n = omega (arith, e) in
       by_width n ∙ ap (concatenated_dots part_dot) (sym whole) ∙ collect_none part_dot m (n - m) (λ i lo hi.
@@ -96,12 +96,12 @@ module _ (d : DisplayState) (cw : ℕ) (wide : cw ≡ host_width d.host) (some :
       (cases_lt (q / cw) (shown_characters d.crtc.registers)))
       ∙ sym (by_width m)
 
-  none : (n : ℕ) → ((i : ℕ) → i < n → part_dot i ≡ []) → displayed_part_dots n d ≡ []
+  none : (n : ℕ) → ((i : ℕ) → i < n → part_dot i ≡ []) → display_dots_among_next_dots n d ≡ []
   none n f = let z : 0 + n ≡ n = omega arith in by_width n ∙ ap (concatenated_dots part_dot) (sym z) ∙ collect_none part_dot 0 n (λ i lo hi. f i (omega arith))
 
   -- nor do those where nothing is displayed
   pub hidden_part : (n : ℕ) → (horizontal_display_end d.crtc.registers < d.crtc.beam.character) ⊎ (vertical_display_end d.crtc.registers < d.crtc.beam.line) →
-      displayed_part_dots n d ≡ []
+      display_dots_among_next_dots n d ≡ []
   hidden_part n past = none n (λ i l.
       let q = number + i in
       ⊎_elim
@@ -200,7 +200,7 @@ module _ (stays : StartStays) (begin : DotsBegin) (goes : BeamGoes) (whole : Lin
       (λ (w : b.character ≤ q / cw). w)
       (cases_lt (q / cw) b.character) in
       let far = passed cw b.character b.dot n (q / cw) (q % cw) narrow on (sym (div-add-mod' q cw)) in
-      decided (is_first_dot m) m line width (λ away. record {
+      decided (is_first_dot_of_frame m) m line width (λ away. record {
         below = omega (arith, is.below, line_at);
         few = λ e. omega (arith, is.few (e ∙ line_at), far, character_at, dot_colour_at);
       }))
@@ -212,8 +212,8 @@ module _ (stays : StartStays) (begin : DotsBegin) (goes : BeamGoes) (whole : Lin
 module _ (stays : StartStays) (begin : DotsBegin) (goes : BeamGoes) (whole : LineWhole) (frames : FramesEnd) where
   -- the display dots of a part, one place after another
   part_places : (n : ℕ) (c : CardState) → IsWithinItsLine (character_width c) c.crtc.registers c.crtc.beam → n ≤ card_dots_to_line_end c →
-      concatenated_dots (display_dot_at c) n ≡ displayed_part_dots n (display_with_start_taken c)
-  unfolding displayed_part_dots crtc_with_start_taken after_dots
+      concatenated_dots (display_dot_after_dots c) n ≡ display_dots_among_next_dots n (display_with_start_taken c)
+  unfolding display_dots_among_next_dots crtc_with_start_taken after_dots
   part_places n c inside few =
       let w = character_width c in
       let r = c.crtc.registers in
@@ -221,7 +221,7 @@ module _ (stays : StartStays) (begin : DotsBegin) (goes : BeamGoes) (whole : Lin
       let place = stays r b in
       let same : dot_number_in_line w (with_frame_start_taken r b) ≡ dot_number_in_line w b = ap (λ x. x * w + (with_frame_start_taken r b).dot) place.character ∙ ap (λ k. b.character * w + k) place.dot in
       let all = whole w r b inside in
-      collect_same (display_dot_at c) (λ i. display_dot c.host (with_beam_at_dot_of_line (crtc_with_start_taken c.crtc) w (dot_number_in_line w (with_frame_start_taken r b) + i)) c.attr c.dac) n
+      collect_same (display_dot_after_dots c) (λ i. display_dot c.host (with_beam_at_dot_of_line (crtc_with_start_taken c.crtc) w (dot_number_in_line w (with_frame_start_taken r b) + i)) c.attr c.dac) n
       (λ i l. ap (λ (x : Beam). display_dot c.host (record c.crtc { beam = x }) c.attr c.dac) (goes w r b i inside (omega (arith, all, few)))
       ∙ ap (λ q. display_dot c.host (with_beam_at_dot_of_line (crtc_with_start_taken c.crtc) w (q + i)) c.attr c.dac) (sym same))
 
@@ -232,12 +232,12 @@ module _ (stays : StartStays) (begin : DotsBegin) (goes : BeamGoes) (whole : Lin
   -- a part of a line, from the parts that it changes
   pub part_is : (n : ℕ) (c : CardState) (crtc : CrtcState) (drawn : List Dot) → 0 < n → IsWithinItsLine (character_width c) c.crtc.registers c.crtc.beam →
       n ≤ card_dots_to_line_end c → crtc ≡ after_dots (crtc_with_start_taken c.crtc) (character_width c) n
-      → drawn ≡ dots_of_frame_so_far c ++ displayed_part_dots n (display_with_start_taken c) → record c { crtc = crtc; drawn = drawn } ≡ dots n c
+      → drawn ≡ dots_of_frame_so_far c ++ display_dots_among_next_dots n (display_with_start_taken c) → record c { crtc = crtc; drawn = drawn } ≡ dots n c
   part_is n c crtc drawn some inside few moves draws =
       ap (λ (x : CrtcState). record c { crtc = x; drawn = drawn }) (same_beam (character_width c) n c.crtc crtc some moves)
       ∙ ap (λ (x : List Dot). record c { crtc = after_dots c.crtc (character_width c) n; drawn = x })
       (draws ∙ ap (λ x. dots_of_frame_so_far c ++ x) (sym (part_places n c inside few)) ∙ sym (dots_are_places frames c n some (omega (arith, few, (few_dots c).1))))
-      ∙ sym (dots_keep n c)
+      ∙ sym (dots_change_only_beam_and_picture n c)
 
 pub inside_started : StartStays → (cw : ℕ) (c : CrtcState) → IsWithinItsLine cw c.registers c.beam → IsWithinItsLine cw (crtc_with_start_taken c).registers (crtc_with_start_taken c).beam
 unfolding crtc_with_start_taken
@@ -255,8 +255,8 @@ few_started stays cw n c few =
 
 -- a part that was drawn after the bytes that a longer buffer has in use
 pub part_appended : (cw n : ℕ) (d : DisplayState) (old mid new : List ℕ) (used : ℕ) → used ≤ length old
-    → take (length old) mid ≡ old → used + 3 * n ≤ length new → take used new ≡ take used mid → IsPartDrawn cw n d (drop used mid) (drop used new)
-    → IsPartAppended cw n d (take used old) (take (used + 3 * n) new)
+    → take (length old) mid ≡ old → used + 3 * n ≤ length new → take used new ≡ take used mid → AreNextDotsDrawn cw n d (drop used mid) (drop used new)
+    → AreNextDotsAppended cw n d (take used old) (take (used + 3 * n) new)
 part_appended cw n d old mid new used within longer room prefix drawn =
     let kept : take used new ≡ take used old = prefix ∙ sym (take-take used (length old) mid within) ∙ ap (take used) longer in
     record {

@@ -6,7 +6,7 @@ use Rattle.vga_bits.specs.declared.refusal.Refusal.{Refusal}
 use Rattle.vga_bits.specs.declared.refusal.Refusal.TheVariants.{NotInProfile}
 use Rattle.vga_crtc.specs.declared.beam.Beam.{Beam}
 use Rattle.vga_crtc.specs.Crtc.{CrtcState}
-use Rattle.vga_crtc.specs.Beam.{is_first_dot, with_frame_start_taken, dot, crtc_with_start_taken, after_dot}
+use Rattle.vga_crtc.specs.Beam.{is_first_dot_of_frame, with_frame_start_taken, dot, crtc_with_start_taken, after_dot}
 use Rattle.vga_crtc.specs.Ports.{after_out}
 use Rattle.vga_crtc.proofs.Ports.{out_beam}
 use Rattle.vga_crtc.specs.Raster.{AreAtSamePlace, IsFrameStart, IsNextDot, IsNextCharacter, IsNextLine, IsNextPlace}
@@ -40,18 +40,18 @@ drawn_unstarted stays crtc more line width is =
     }
 
 -- at the first dot of a frame nothing is drawn
-is_first : (b : Beam) → IsFrameStart b → is_first_dot b ≡ true
+is_first : (b : Beam) → IsFrameStart b → is_first_dot_of_frame b ≡ true
 is_first b start = let line = start.line in let character = start.character in let dot = start.dot in grind (arith, nat_tests)
 
 pub decided : (v : Bool) (b : Beam) (line width : ℕ) → (v ≡ false → IsLineDrawnToBeam b 0 line width) → IsLineDrawnToBeam b 0 (if v then 0 else line) (if v then 0 else width)
 decided true b line width h = record { below = omega arith; few = λ e. omega arith }
 decided false b line width h = h refl
 
-pub elsewhere : (b : Beam) → is_first_dot b ≡ false → ¬ IsFrameStart b
+pub elsewhere : (b : Beam) → is_first_dot_of_frame b ≡ false → ¬ IsFrameStart b
 elsewhere b away start = let here = is_first b start in absurd (cc)
 
 -- one dot more is drawn, and the beam moves past it
-drawn_moves : (cw : ℕ) (r : List ℕ) (b m : Beam) (line width : ℕ) → b.dot < 9 → IsNextPlace cw r b m → IsLineDrawnToBeam b 1 line width → is_first_dot m ≡ false →
+drawn_moves : (cw : ℕ) (r : List ℕ) (b m : Beam) (line width : ℕ) → b.dot < 9 → IsNextPlace cw r b m → IsLineDrawnToBeam b 1 line width → is_first_dot_of_frame m ≡ false →
     IsLineDrawnToBeam m 0 line width
 drawn_moves cw r b m line width within next is away =
     ⊎_elim
@@ -69,7 +69,7 @@ unfolding after_dot
 card_moves stays moves crtc cw line width within is =
     let r = crtc.registers in
     let m : Beam = dot cw r crtc.beam in
-    decided (is_first_dot m) m line width (drawn_moves cw r crtc.beam m line width within (moves cw r crtc.beam) (drawn_unstarted stays crtc 1 line width is))
+    decided (is_first_dot_of_frame m) m line width (drawn_moves cw r crtc.beam m line width within (moves cw r crtc.beam) (drawn_unstarted stays crtc 1 line width is))
 
 -- ---- a write to a port of the CRT controller does not move the beam
 

@@ -16,7 +16,7 @@ use Rattle.vga_attr.specs.Attr.{AttrState}
 use Rattle.vga_dac.specs.Dac.{DacState}
 use Rattle.vga_dots.specs.Colour.{dot_colour, colour_number}
 use Rattle.vga_dots.specs.Display.{DisplayState}
-use Rattle.vga_dots.specs.Line.{with_beam_at, shown_characters, IsLineDrawn}
+use Rattle.vga_dots.specs.Line.{with_beam_at_dot_of_character, shown_characters, IsLineDrawn}
 use Rattle.vga_crtc.specs.declared.beam.Beam.{Beam}
 use Rattle.vga_crtc.specs.Beam.{characters}
 use Rattle.vga_card.specs.Picture.{Dot}
@@ -84,18 +84,18 @@ three_are n bs c l three h =
 -- ---- the dots of a displayed line
 
 pub shown_dot : (d : DisplayState) (x k : ℕ) → x ≤ horizontal_display_end d.crtc.registers → d.crtc.beam.line ≤ vertical_display_end d.crtc.registers
-    → display_dot d.host (with_beam_at d.crtc x k) d.attr d.dac ≡ record { line = d.crtc.beam.line; colour = dot_colour d.host (with_beam_at d.crtc x k) d.attr d.dac } ∷ []
+    → display_dot d.host (with_beam_at_dot_of_character d.crtc x k) d.attr d.dac ≡ record { line = d.crtc.beam.line; colour = dot_colour d.host (with_beam_at_dot_of_character d.crtc x k) d.attr d.dac } ∷ []
 unfolding display_dot
 shown_dot d x k in_line in_frame =
-    let dots : List Dot = record { line = d.crtc.beam.line; colour = dot_colour d.host (with_beam_at d.crtc x k) d.attr d.dac } ∷ [] in
+    let dots : List Dot = record { line = d.crtc.beam.line; colour = dot_colour d.host (with_beam_at_dot_of_character d.crtc x k) d.attr d.dac } ∷ [] in
     ap (λ v. if v && nat_le d.crtc.beam.line (vertical_display_end d.crtc.registers) then dots
     else []) (le-leb x (horizontal_display_end d.crtc.registers) in_line)
     ∙ ap (λ v. if v then dots else []) (le-leb d.crtc.beam.line (vertical_display_end d.crtc.registers) in_frame)
 
-pub hidden_dot : (d : DisplayState) (x k : ℕ) → horizontal_display_end d.crtc.registers < x → display_dot d.host (with_beam_at d.crtc x k) d.attr d.dac ≡ []
+pub hidden_dot : (d : DisplayState) (x k : ℕ) → horizontal_display_end d.crtc.registers < x → display_dot d.host (with_beam_at_dot_of_character d.crtc x k) d.attr d.dac ≡ []
 unfolding display_dot
 hidden_dot d x k past =
-    let dots : List Dot = record { line = d.crtc.beam.line; colour = dot_colour d.host (with_beam_at d.crtc x k) d.attr d.dac } ∷ [] in
+    let dots : List Dot = record { line = d.crtc.beam.line; colour = dot_colour d.host (with_beam_at_dot_of_character d.crtc x k) d.attr d.dac } ∷ [] in
     ap (λ v. if v && nat_le d.crtc.beam.line (vertical_display_end d.crtc.registers) then dots
     else []) (lt-leb x (horizontal_display_end d.crtc.registers) past)
 
@@ -104,10 +104,10 @@ and_false true dots = refl
 and_false false dots = refl
 
 pub hidden_line_dot : (d : DisplayState) (x k : ℕ) → vertical_display_end d.crtc.registers < d.crtc.beam.line →
-    display_dot d.host (with_beam_at d.crtc x k) d.attr d.dac ≡ []
+    display_dot d.host (with_beam_at_dot_of_character d.crtc x k) d.attr d.dac ≡ []
 unfolding display_dot
 hidden_line_dot d x k past =
-    let dots : List Dot = record { line = d.crtc.beam.line; colour = dot_colour d.host (with_beam_at d.crtc x k) d.attr d.dac } ∷ [] in
+    let dots : List Dot = record { line = d.crtc.beam.line; colour = dot_colour d.host (with_beam_at_dot_of_character d.crtc x k) d.attr d.dac } ∷ [] in
     ap (λ v. if nat_le x (horizontal_display_end d.crtc.registers) && v then dots
     else []) (lt-leb d.crtc.beam.line (vertical_display_end d.crtc.registers) past)
     ∙ and_false (nat_le x (horizontal_display_end d.crtc.registers)) dots
@@ -127,11 +127,11 @@ three_bytes h c a d =
 
 module _ (d : DisplayState) (cw : ℕ) (wide : cw ≡ host_width d.host) (some : 0 < cw) where
   abbrev place_dot : ℕ → List Dot
-  place_dot i = display_dot d.host (with_beam_at d.crtc (i / cw) (i % cw)) d.attr d.dac
+  place_dot i = display_dot d.host (with_beam_at_dot_of_character d.crtc (i / cw) (i % cw)) d.attr d.dac
 
   by_width : displayed_line_dots d ≡ concatenated_dots place_dot (characters d.crtc.registers * cw)
   unfolding displayed_line_dots
-  by_width = ap (λ w. concatenated_dots (λ i. display_dot d.host (with_beam_at d.crtc (i / w) (i % w)) d.attr d.dac) (characters d.crtc.registers * w)) (sym wide)
+  by_width = ap (λ w. concatenated_dots (λ i. display_dot d.host (with_beam_at_dot_of_character d.crtc (i / w) (i % w)) d.attr d.dac) (characters d.crtc.registers * w)) (sym wide)
 
   none : (n : ℕ) → ((i : ℕ) → i < n → place_dot i ≡ []) → concatenated_dots place_dot n ≡ []
   none n f = let z : 0 + n ≡ n = omega arith in ap (concatenated_dots place_dot) (sym z) ∙ collect_none place_dot 0 n (λ i lo hi. f i (omega arith))
@@ -172,10 +172,10 @@ module _ (d : DisplayState) (cw : ℕ) (wide : cw ≡ host_width d.host) (some :
       ∙ collect_same place_dot (row_dot d.crtc.beam.line bytes) m (λ i l.
       let x = div_below i cw n some l in
       let k = mod_below i cw some in
-      let colour = dot_colour d.host (with_beam_at d.crtc (i / cw) (i % cw)) d.attr d.dac in
+      let colour = dot_colour d.host (with_beam_at_dot_of_character d.crtc (i / cw) (i % cw)) d.attr d.dac in
       shown_dot d (i / cw) (i % cw) (omega (arith, x)) in_frame
       ∙ ap (λ (q : List ℕ). (record { line = d.crtc.beam.line; colour = q }) ∷ [])
-      (sym (three_are (3 * i) bytes colour (omega (arith, long)) (three_bytes d.host (with_beam_at d.crtc (i / cw) (i % cw)) d.attr d.dac)
+      (sym (three_are (3 * i) bytes colour (omega (arith, long)) (three_bytes d.host (with_beam_at_dot_of_character d.crtc (i / cw) (i % cw)) d.attr d.dac)
       (λ j lj. get_or-take (3 * m) row (3 * i + j) 0 (omega arith) ∙ ap (λ q. slice_index row (3 * q + j)) (sym (at i))
       ∙ drawn.inside (i / cw) (i % cw) j x k lj))))
       ∙ collect_row d.crtc.beam.line bytes m

@@ -14,7 +14,7 @@ use Rattle.vga_card.specs.Card.{CardState}
 use Rattle.vga_card.specs.Dots.{dots_of_frame_so_far}
 use Rattle.vga_card.specs.Saved.{saved_dots, saved_dots_from, AreSavedDots, saved_card, past_misc, past_crtc, past_attr, past_dac, past_host, IsSavedCard}
 use Rattle.vga_card.specs.Saved.{card_from}
-use Rattle.vga_card.specs.FreshCanvas.{without_unseen_dots}
+use Rattle.vga_card.specs.FreshCanvas.{without_dots_of_ended_frame}
 use Rattle.vga_card.proofs.SavedLemmas.{none_saved, none_back, none_len}
 
 -- each part is read back from its bytes, and so are the dots
@@ -120,7 +120,7 @@ module _ (c : CardState) (is : IsWhole c) where
         (subst (λ (l : List ℕ). AreSavedDots c.crtc.beam l) (sym host_past) is.dots);
   }
 
-  pub card_is_back : card_from (saved_card c) ≡ without_unseen_dots c
+  pub card_is_back : card_from (saved_card c) ≡ without_dots_of_ended_frame c
   unfolding card_from
   card_is_back =
       let host = ap host_from host_are ∙ is.host_back in

@@ -9,7 +9,7 @@ use Rattle.vga_host.specs.Memory.Address.{is_decoded}
 use Rattle.vga_host.specs.Memory.Read.{read_bit, read_byte, after_get}
 use Rattle.vga_host.specs.Memory.Runs.{byte_read_or_ff, after_gets as host_gets}
 use Rattle.vga_card.specs.Card.{CardState}
-use Rattle.vga_card.specs.Adapter.{AdapterState, adapter_of}
+use Rattle.vga_card.specs.Adapter.{CardStateWithoutBeamAndDots, without_beam_and_dots}
 use Rattle.vga_card.specs.Cycles.{card_after_read, if_decoded, get_cycle}
 use Rattle.vga_card.specs.Bus.{BusMeaning, AtAddress, byte_or_ff, even_or_odd_byte, after_puts, after_move, card_meaning}
 use Rattle.vga_card.proofs.CycleLemmas.{with_host}
@@ -58,7 +58,7 @@ abbrev pub IsReadOnly : CardState → CardState → Type 0
 IsReadOnly c d = with_latches c d.host.latches ≡ d
 
 got_where : (decoded : Bool) (c : CardState) (address v : ℕ) →
-    IsReadOnly c (card_after_read c (if_decoded decoded (record (adapter_of c) { host = after_get c.host address }, v))).0
+    IsReadOnly c (card_after_read c (if_decoded decoded (record (without_beam_and_dots c) { host = after_get c.host address }, v))).0
 got_where true c address v = refl
 got_where false c address v = refl
 
@@ -70,12 +70,12 @@ pub read_on : (c d e : CardState) → IsReadOnly c d → IsReadOnly d e → IsRe
 read_on c d e first second = ap (λ (x : CardState). with_latches x e.host.latches) first ∙ second
 
 -- the byte of a read, where the address is decoded and where it is not
-byte_read : (decoded : Bool) (c : CardState) (new : AdapterState) (v : ℕ) → byte_or_ff (card_after_read c (if_decoded decoded (new, v))).1 ≡ (if decoded then v else 0xFF)
+byte_read : (decoded : Bool) (c : CardState) (new : CardStateWithoutBeamAndDots) (v : ℕ) → byte_or_ff (card_after_read c (if_decoded decoded (new, v))).1 ≡ (if decoded then v else 0xFF)
 byte_read true c new v = refl
 byte_read false c new v = refl
 
 byte_is : (c : CardState) (address : ℕ) → byte_at_or_ff c address ≡ byte_read_or_ff c.host c.misc address
-byte_is c address = byte_read (is_decoded c.host c.misc address) c (record (adapter_of c) { host = after_get c.host address }) (read_byte c.host address)
+byte_is c address = byte_read (is_decoded c.host c.misc address) c (record (without_beam_and_dots c) { host = after_get c.host address }) (read_byte c.host address)
 
 latches_tell_nothing : (c : CardState) (l : Four ℕ) (address : ℕ) → byte_read_or_ff (with_latches c l).host c.misc address ≡ byte_read_or_ff c.host c.misc address
 unfolding read_bit
@@ -94,7 +94,7 @@ reads_change_no_byte c address other = byte_over c (get_cycle c address).0 other
 
 get_at : (decoded : Bool) (c : CardState) (new : HostState) (v : ℕ) (f : ℕ → HostState → HostState) →
     with_host c (f c.misc (if decoded then new else c.host))
-    ≡ (let r : CardState = (card_after_read c (if_decoded decoded (record (adapter_of c) { host = new }, v))).0 in with_host r (f r.misc r.host))
+    ≡ (let r : CardState = (card_after_read c (if_decoded decoded (record (without_beam_and_dots c) { host = new }, v))).0 in with_host r (f r.misc r.host))
 get_at true c new v f = refl
 get_at false c new v f = refl
 

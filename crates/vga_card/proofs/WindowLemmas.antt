@@ -8,7 +8,7 @@ use Rattle.vga_host.specs.Memory.Address.{is_decoded}
 use Rattle.vga_card.specs.Card.{CardState}
 use Rattle.vga_host.specs.Memory.Read.{after_get, read_byte}
 use Rattle.vga_host.specs.Memory.Write.{after_put}
-use Rattle.vga_card.specs.Adapter.{AdapterState, adapter_of}
+use Rattle.vga_card.specs.Adapter.{CardStateWithoutBeamAndDots, without_beam_and_dots}
 use Rattle.vga_card.specs.Cycles.{card_after_read, card_after_write, if_decoded, get_cycle, put_cycle}
 use Rattle.vga_card.specs.Bus.{after_move, after_moves, after_puts, byte_or_ff, card_meaning}
 use Rattle.vga_card.specs.Transfers.{after_moves_last_first, after_puts_last_first}
@@ -26,18 +26,18 @@ window_end (suc (suc (suc (suc map)))) address few past = absurd (omega (arith, 
 not_decoded : (h : HostState) (misc address : ℕ) → 0xC0000 ≤ address → is_decoded h misc address ≡ false
 not_decoded h misc address past = grind (arith, window_end (memory_map h) address (omega arith) past)
 
-put_refused : (c : CardState) (decoded : Bool) (new : AdapterState) → decoded ≡ false → (card_after_write c (if_decoded decoded new)).0 ≡ c
+put_refused : (c : CardState) (decoded : Bool) (new : CardStateWithoutBeamAndDots) → decoded ≡ false → (card_after_write c (if_decoded decoded new)).0 ≡ c
 put_refused c decoded new e = ap (λ (b : Bool). (card_after_write c (if_decoded b new)).0) e
 
-got_refused : (c : CardState) (decoded : Bool) (new : AdapterState) (v : ℕ) → decoded ≡ false → (card_after_read c (if_decoded decoded (new, v))).0 ≡ c
+got_refused : (c : CardState) (decoded : Bool) (new : CardStateWithoutBeamAndDots) (v : ℕ) → decoded ≡ false → (card_after_read c (if_decoded decoded (new, v))).0 ≡ c
 got_refused c decoded new v e = ap (λ (b : Bool). (card_after_read c (if_decoded b (new, v))).0) e
 
 put_past : (c : CardState) (address v : ℕ) → 0xC0000 ≤ address → (put_cycle c address v).0 ≡ c
-put_past c address v past = put_refused c (is_decoded c.host c.misc address) (record (adapter_of c) { host = after_put c.host address v }) (not_decoded c.host c.misc address past)
+put_past c address v past = put_refused c (is_decoded c.host c.misc address) (record (without_beam_and_dots c) { host = after_put c.host address v }) (not_decoded c.host c.misc address past)
 
 get_past : (c : CardState) (address : ℕ) → 0xC0000 ≤ address → (get_cycle c address).0 ≡ c
 get_past c address past =
-    got_refused c (is_decoded c.host c.misc address) (record (adapter_of c) { host = after_get c.host address }) (read_byte c.host address) (not_decoded c.host c.misc address past)
+    got_refused c (is_decoded c.host c.misc address) (record (without_beam_and_dots c) { host = after_get c.host address }) (read_byte c.host address) (not_decoded c.host c.misc address past)
 
 move_past : (c : CardState) (from to : ℕ) → 0xC0000 ≤ from → 0xC0000 ≤ to → after_move card_meaning from to c ≡ c
 move_past c from to past_from past_to =

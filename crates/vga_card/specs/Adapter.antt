@@ -9,7 +9,7 @@ use Rattle.vga_card.specs.Card.{CardState}
 
 -- the parts of a card that cycles read and change: all but the beam and the dots drawn; `registers`
 -- and `index` are those of the CRT controller
-pub record AdapterState : Type 0 where
+pub record CardStateWithoutBeamAndDots : Type 0 where
   pub host : HostState
   pub registers : List ℕ
   pub index : ℕ
@@ -18,8 +18,8 @@ pub record AdapterState : Type 0 where
   pub misc : ℕ
 
 -- a card without its beam and the dots drawn
-abbrev pub adapter_of : CardState → AdapterState
-adapter_of c = record {
+abbrev pub without_beam_and_dots : CardState → CardStateWithoutBeamAndDots
+without_beam_and_dots c = record {
   host = c.host;
   registers = c.crtc.registers;
   index = c.crtc.index;
@@ -29,15 +29,15 @@ adapter_of c = record {
 }
 
 -- the CRT controller of an adapter, with its beam at b
-abbrev pub crtc_of : Beam → AdapterState → CrtcState
+abbrev pub crtc_of : Beam → CardStateWithoutBeamAndDots → CrtcState
 crtc_of b a = record { registers = a.registers; index = a.index; beam = b }
 
 -- the adapter with the registers and the index of this CRT controller
-abbrev pub with_crtc : AdapterState → CrtcState → AdapterState
+abbrev pub with_crtc : CardStateWithoutBeamAndDots → CrtcState → CardStateWithoutBeamAndDots
 with_crtc a crtc = record a { registers = crtc.registers; index = crtc.index }
 
 -- the card with the parts of this adapter; its beam and its dots stay the same
-abbrev pub with_adapter : CardState → AdapterState → CardState
+abbrev pub with_adapter : CardState → CardStateWithoutBeamAndDots → CardState
 with_adapter c a = record c {
   host = a.host;
   crtc = crtc_of c.crtc.beam a;

@@ -14,17 +14,17 @@ use Rattle.vga_card.specs.Dots.{character_width, dots}
 use Rattle.vga_card.specs.Frames.{card_dots_to_frame_end}
 
 -- a bit of input status 1 after n dots
-abbrev pub status_bit : ℕ → CardState → ℕ → Bool
-status_bit i c n = is_set (status (dots n c).crtc) i
+abbrev pub status_bit_after_dots : ℕ → CardState → ℕ → Bool
+status_bit_after_dots i c n = is_set (status (dots n c).crtc) i
 
 -- n dots change this bit of input status 1, and no smaller number of dots does
-pub record StatusBitChanges (i : ℕ) (c : CardState) (n : ℕ) : Type 0 where
-  pub changed : status_bit i c n ≡ not (status_bit i c 0)
-  pub first : (m : ℕ) → m < n → status_bit i c m ≡ status_bit i c 0
+pub record StatusBitFirstChangesAfterDots (i : ℕ) (c : CardState) (n : ℕ) : Type 0 where
+  pub changed : status_bit_after_dots i c n ≡ not (status_bit_after_dots i c 0)
+  pub first : (m : ℕ) → m < n → status_bit_after_dots i c m ≡ status_bit_after_dots i c 0
 
 -- no number of dots changes this bit of input status 1
 abbrev pub StatusBitNeverChanges : ℕ → CardState → Type 0
-StatusBitNeverChanges i c = (m : ℕ) → status_bit i c m ≡ status_bit i c 0
+StatusBitNeverChanges i c = (m : ℕ) → status_bit_after_dots i c m ≡ status_bit_after_dots i c 0
 
 -- dots a second, as the miscellaneous output register's bits 3 and 2 select the clock
 abbrev pub clock_rate : ℕ → ℕ
@@ -47,8 +47,8 @@ is_rate_halved c = is_clock_halved c.host
 -- of a line and of a frame, and a frame's lines; the rate, and whether it is halved.
 pub record IsRasterTiming (c : CardState) (told : RasterTiming) : Type 0 where
   pub frame : told.to_frame ≡ card_dots_to_frame_end c
-  pub display : MatchOption told.to_display (StatusBitNeverChanges 0 c) (StatusBitChanges 0 c)
-  pub retrace : MatchOption told.to_retrace (StatusBitNeverChanges 3 c) (StatusBitChanges 3 c)
+  pub display : MatchOption told.to_display (StatusBitNeverChanges 0 c) (StatusBitFirstChangesAfterDots 0 c)
+  pub retrace : MatchOption told.to_retrace (StatusBitNeverChanges 3 c) (StatusBitFirstChangesAfterDots 3 c)
   pub line : told.line_dots ≡ dots_a_line c
   pub whole : told.frame_dots ≡ told.line_dots * told.lines
   pub lines : told.lines ≡ lines_a_frame c

@@ -10,14 +10,14 @@ use Rattle.vga_card.specs.Card.{CardState}
 use Rattle.vga_card.specs.Dots.{character_width}
 
 -- the beam after n dots, with the start of its frame taken
-abbrev pub crtc_at_dot : CardState → ℕ → CrtcState
-crtc_at_dot c n = crtc_with_start_taken (after_dots c.crtc (character_width c) n)
+abbrev pub crtc_after_dots_with_start_taken : CardState → ℕ → CrtcState
+crtc_after_dots_with_start_taken c n = crtc_with_start_taken (after_dots c.crtc (character_width c) n)
 
 -- each display dot among the next n sees the same in another memory as in the card's
 pub record DotsSeeSameMemory (n : ℕ) (c : CardState) (memory : Four (List ℕ)) : Type 0 where
-  pub each : (i : ℕ) → i < n → is_display (crtc_at_dot c i).registers (crtc_at_dot c i).beam ≡ true
+  pub each : (i : ℕ) → i < n → is_display (crtc_after_dots_with_start_taken c i).registers (crtc_after_dots_with_start_taken c i).beam ≡ true
       →
-      DotSeesSameBytes c.host (crtc_at_dot c i) c.attr memory
+      DotSeesSameBytes c.host (crtc_after_dots_with_start_taken c i) c.attr memory
 
 -- What a cycle changes is hidden from dots. It is in the host path, and is neither the memory nor a
 -- register that a dot sees.

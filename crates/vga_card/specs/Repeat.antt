@@ -8,12 +8,12 @@ use Rattle.vga_card.specs.Picture.{Dot}
 use Rattle.vga_card.specs.Line.{displayed_line_dots}
 
 -- a dot of the same colour on another line
-abbrev pub dot_on_line : ℕ → Dot → Dot
-dot_on_line v dot = record { line = v; colour = dot.colour }
+abbrev pub dot_moved_to_line : ℕ → Dot → Dot
+dot_moved_to_line v dot = record { line = v; colour = dot.colour }
 
 -- the last n of some dots, on another line
-abbrev pub last_dots_on_line : ℕ → ℕ → List Dot → List Dot
-last_dots_on_line v n dots = map (dot_on_line v) (drop (length dots - n) dots)
+abbrev pub last_dots_moved_to_line : ℕ → ℕ → List Dot → List Dot
+last_dots_moved_to_line v n dots = map (dot_moved_to_line v) (drop (length dots - n) dots)
 
 -- the display with another beam
 abbrev pub with_beam : DisplayState → Beam → DisplayState

@@ -7,11 +7,11 @@ use Rattle.std.specs.List.{flat_map}
 use Rattle.vga_bits.specs.Saved.{word_bytes, first_words}
 use Rattle.vga_host.specs.Saved.{saved_host, IsSavedHost, host_from}
 use Rattle.vga_crtc.specs.declared.beam.Beam.{Beam}
-use Rattle.vga_crtc.specs.Beam.{is_first_dot}
+use Rattle.vga_crtc.specs.Beam.{is_first_dot_of_frame}
 use Rattle.vga_crtc.specs.Saved.{saved_crtc, IsSavedCrtc, crtc_from}
 use Rattle.vga_attr.specs.Saved.{saved_attr, IsSavedAttr, attr_from}
 use Rattle.vga_dac.specs.Saved.{saved_dac, IsSavedDac, dac_from}
-use Rattle.vga_card.specs.Picture.{Dot, most_dots_of_a_line, lines_by_widths, bytes_of_dots}
+use Rattle.vga_card.specs.Picture.{Dot, most_dots_of_a_line, line_of_each_dot_by_widths, bytes_of_dots}
 use Rattle.vga_card.specs.Canvas.{stored_dots}
 use Rattle.vga_card.specs.Card.{CardState}
 use Rattle.vga_card.specs.Dots.{dots_of_frame_so_far}
@@ -25,8 +25,8 @@ unfoldable pub saved_dots : List Dot → List ℕ
 saved_dots dots = flat_map word_bytes (line_widths dots) ++ bytes_of_dots dots
 
 -- the width of each of the 1,024 lines
-unfoldable pub saved_widths : List ℕ → List ℕ
-saved_widths bytes = first_words 1024 bytes
+unfoldable pub widths_from_saved_bytes : List ℕ → List ℕ
+widths_from_saved_bytes bytes = first_words 1024 bytes
 
 -- the bytes after the widths
 abbrev pub past_widths : List ℕ → List ℕ
@@ -34,7 +34,7 @@ past_widths bytes = drop 2048 bytes
 
 -- the dots drawn that have these bytes
 unfoldable pub saved_dots_from : List ℕ → List Dot
-saved_dots_from bytes = stored_dots (saved_widths bytes) (past_widths bytes)
+saved_dots_from bytes = stored_dots (widths_from_saved_bytes bytes) (past_widths bytes)
 
 -- the most dots that line v can have while the beam is at b: 2,304 on a line before the beam's; on
 -- its own line those before the beam, with nine dots counted for each character, but at most 2,304;
@@ -52,9 +52,9 @@ pub record AreWidthsInBounds (b : Beam) (widths : List ℕ) : Type 0 where
 -- bytes within the bounds of dots drawn where the beam is at b: no line has more dots than it can,
 -- each dot has three bytes, and at the first dot of a frame there is none
 pub record AreSavedDots (b : Beam) (bytes : List ℕ) : Type 0 where
-  pub few : AreWidthsInBounds b (saved_widths bytes)
-  pub counted : length (past_widths bytes) ≡ 3 * length (lines_by_widths 0 (saved_widths bytes))
-  pub first : is_first_dot b ≡ true → length (past_widths bytes) ≡ 0
+  pub few : AreWidthsInBounds b (widths_from_saved_bytes bytes)
+  pub counted : length (past_widths bytes) ≡ 3 * length (line_of_each_dot_by_widths 0 (widths_from_saved_bytes bytes))
+  pub first : is_first_dot_of_frame b ≡ true → length (past_widths bytes) ≡ 0
 
 -- ---- the adapter
 

@@ -6,14 +6,14 @@ ghost use Rattle.vga_bits.specs.Bytes.{zeros};
 ghost use Rattle.vga_host.specs.Sequencer.{character_width};
 ghost use Rattle.vga_crtc.specs.Fields.{vertical_display_end};
 ghost use Rattle.vga_crtc.specs.Raster.{dot_number_in_line};
-ghost use Rattle.vga_dots.specs.Line.{shown_characters, IsLineDrawn, IsPartDrawn};
+ghost use Rattle.vga_dots.specs.Line.{shown_characters, IsLineDrawn, AreNextDotsDrawn};
 ghost use Rattle.vga_card.specs.Picture.{Dot, most_dots_of_a_line, most_lines_of_a_frame};
 ghost use Rattle.vga_card.specs.Picture.{bytes_of_dots, picture_shape, row_count, IsPictureOf};
 ghost use Rattle.vga_card.specs.Frames.{IsPictureInBounds};
 ghost use Rattle.vga_card.specs.Canvas.{IsShapeInBounds, blank_canvas, width_with_dot};
 ghost use Rattle.vga_card.specs.Canvas.{width_with_dots};
-ghost use Rattle.vga_card.specs.Line.{displayed_line_dots, displayed_part_dots, IsLineAppended};
-ghost use Rattle.vga_card.specs.Line.{IsPartAppended};
+ghost use Rattle.vga_card.specs.Line.{displayed_line_dots, display_dots_among_next_dots, IsLineAppended};
+ghost use Rattle.vga_card.specs.Line.{AreNextDotsAppended};
 ghost use Rattle.vga_card.specs.Lines.{line_widths, IsLinesOf};
 
 mod repeated;
@@ -25,7 +25,7 @@ use crate::shape::{Shape, count_rows};
 use std::alloc::Global;
 use std::marker::Model;
 use vga_bits::Fault;
-use vga_dots::{Display, draw_line, draw_part};
+use vga_dots::{Display, draw_line, draw_next_dots_of_line};
 
 /// How many dots a line can have: 256 characters of 9 dots.
 const WIDEST: usize = 2_304;
@@ -166,19 +166,24 @@ fn append_line<const CW: usize>(
 
 /// Writes the next `count` dots of the beam's line, three bytes each, from the beam's dot on, over
 /// the bytes from `at` on.
-fn draw_part_at<const CW: usize>(display: &Display<'_>, count: usize, bytes: &mut [u8], at: usize)
+fn draw_next_dots_at<const CW: usize>(
+    display: &Display<'_>,
+    count: usize,
+    bytes: &mut [u8],
+    at: usize,
+)
     requires count { count ≤ 128 }
     requires width { CW ≡ character_width display.now.host }
     requires room { at + 3 * count ≤ length bytes.old }
     ensures prefix { take at bytes.new ≡ take at bytes.old }
-    ensures drawn { IsPartDrawn CW count display.now (drop at bytes.old) (drop at bytes.new) }
+    ensures drawn { AreNextDotsDrawn CW count display.now (drop at bytes.old) (drop at bytes.new) }
 {
-    draw_part::<CW>(display, count, &mut bytes[at..]);
+    draw_next_dots_of_line::<CW>(display, count, &mut bytes[at..]);
 }
 
 /// Puts the next `count` dots of the beam's line, from the beam's dot on, after the first `used`
 /// bytes of a buffer. The buffer has memory for them.
-fn append_part<const CW: usize>(
+fn append_next_dots<const CW: usize>(
     display: &Display<'_>,
     count: usize,
     buffer: &mut Vec<u8>,
@@ -188,13 +193,13 @@ fn append_part<const CW: usize>(
     requires width { CW ≡ character_width display.now.host }
     requires used { used ≤ length buffer.old.items }
     requires room { used + 3 * count ≤ vec_capacity buffer.old }
-    ensures part { IsPartAppended CW count display.now (take used buffer.old.items)
+    ensures part { AreNextDotsAppended CW count display.now (take used buffer.old.items)
         (take (used + 3 * count) buffer.new.items) }
     ensures len { used + 3 * count ≤ length buffer.new.items }
     ensures capacity { vec_capacity buffer.old ≤ vec_capacity buffer.new }
 {
     lengthen_buffer(buffer, used + 3 * count);
-    draw_part_at::<CW>(display, count, buffer.as_mut_slice(), used);
+    draw_next_dots_at::<CW>(display, count, buffer.as_mut_slice(), used);
 }
 
 impl Canvas {
@@ -235,7 +240,11 @@ impl Canvas {
 
     /// Adds the displayed dots of the beam's line, `count` characters of `CW` dots each, to the
     /// last line or to one after it. A line is below 1,024 and has at most 2,304 dots.
-    pub(crate) fn add_line<const CW: usize>(&mut self, display: &Display<'_>, count: usize)
+    pub(crate) fn add_line_of_characters<const CW: usize>(
+        &mut self,
+        display: &Display<'_>,
+        count: usize,
+    )
         requires width { CW ≡ character_width display.now.host }
         requires count { count ≡ shown_characters display.now.crtc.registers }
         requires shown { display.now.crtc.beam.line
@@ -259,7 +268,11 @@ impl Canvas {
 
     /// Adds the next `count` dots of the beam's line, at most 128, from the beam's dot on, to the
     /// last line or to one after it. All of them are displayed.
-    pub(crate) fn add_part<const CW: usize>(&mut self, display: &Display<'_>, count: usize)
+    pub(crate) fn add_next_dots_of_line<const CW: usize>(
+        &mut self,
+        display: &Display<'_>,
+        count: usize,
+    )
         requires width { CW ≡ character_width display.now.host }
         requires count { count ≤ 128 }
         requires shown { display.now.crtc.beam.line
@@ -270,12 +283,12 @@ impl Canvas {
         requires after { self.old.line ≤ display.now.crtc.beam.line }
         requires room { display.now.crtc.beam.line ≡ self.old.line →
             self.old.width + count ≤ most_dots_of_a_line }
-        ensures dots { self.new.dots ≡ self.old.dots ++ displayed_part_dots count display.now }
+        ensures dots { self.new.dots ≡ self.old.dots ++ display_dots_among_next_dots count display.now }
         ensures line { self.new.line ≡ display.now.crtc.beam.line }
         ensures width { self.new.width ≡ width_with_dots self.old display.now.crtc.beam.line count }
     {
         let line = display.beam().line;
-        append_part::<CW>(display, count, &mut self.buffer, self.used);
+        append_next_dots::<CW>(display, count, &mut self.buffer, self.used);
         self.used += 3 * count;
         let width = &mut self.widths[line as usize];
         *width += count as u32;

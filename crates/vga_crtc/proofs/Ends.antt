@@ -2,9 +2,9 @@
 use Rattle.std.proofs.Common.{◌≡◌, ℕ, zero, suc, ◌+◌, ◌-◌, ◌*◌, ◌%◌, ◌<◌, refl, sym, ap, ◌∙◌, subst, ⊎_elim, ◌⊎◌, inl, inr, arith, List}
 use Rattle.std.proofs.lemmas.Bool.{cases_order}
 use Rattle.vga_crtc.specs.declared.beam.Beam.{Beam}
-use Rattle.vga_crtc.specs.Crtc.{CrtcState, first_dot}
+use Rattle.vga_crtc.specs.Crtc.{CrtcState, first_dot_of_frame}
 use Rattle.vga_crtc.specs.Beam.{characters, lines, with_frame_start_taken, next_line, beam_at_next_place, dot, dots, after_dots}
-use Rattle.vga_crtc.specs.Raster.{dots_to_line_end, dots_to_frame_end, IsLineStart, IsFrameStart, LineEnds, FrameEnds, IsLineTaken}
+use Rattle.vga_crtc.specs.Raster.{dots_to_line_end, dots_to_frame_end, IsLineStart, IsFrameStart, DotsToLineEndAreFewest, DotsToFrameEndAreFewest, IsLineTaken}
 use Rattle.vga_crtc.proofs.Moves.{character_ended, moved_in, moved_out, next_character, last_character, frame_follows, next_line_start, next_in_frame}
 use Rattle.vga_crtc.proofs.Moves.{not_started, started_again, started_place}
 use Rattle.vga_crtc.proofs.Dots.{dots_one, dots_split, dots_started}
@@ -93,7 +93,7 @@ unstarted P cw r n b c some way = record {
   first = λ m lo hi p. way.first m lo hi (subst P (dots_started cw r m b lo) p);
 }
 
-pub line_ends : (cw : ℕ) (r : List ℕ) (b : Beam) → 0 < cw → LineEnds cw r b
+pub line_ends : (cw : ℕ) (r : List ℕ) (b : Beam) → 0 < cw → DotsToLineEndAreFewest cw r b
 line_ends cw r b some =
     let s : Beam = with_frame_start_taken r b in
     let n = dots_to_line_end cw r b in
@@ -145,11 +145,11 @@ from_line_start cw r b start some =
 
 -- up to the end of a frame, which is i lines after this one
 to_frame_end : (cw : ℕ) (r : List ℕ) (i : ℕ) (b : Beam) → 0 < cw → i ≡ lines r - (b.line + 1) → with_frame_start_taken r b ≡ b →
-    Leads IsFrameStart cw r (i * (characters r * cw) + dots_to_line_end cw r b) b (first_dot ((b.frame + 1) % 32))
+    Leads IsFrameStart cw r (i * (characters r * cw) + dots_to_line_end cw r b) b (first_dot_of_frame ((b.frame + 1) % 32))
 to_frame_end cw r zero b some left by_dots =
     let n = dots_to_line_end cw r b in
     let e : n ≡ 0 * (characters r * cw) + n = omega arith in
-    counted IsFrameStart cw r b (first_dot ((b.frame + 1) % 32)) n (0 * (characters r * cw) + n) e
+    counted IsFrameStart cw r b (first_dot_of_frame ((b.frame + 1) % 32)) n (0 * (characters r * cw) + n) e
     (subst (Leads IsFrameStart cw r n b) (frame_follows r b (omega arith)) (away_from_frame cw r n b (next_line r b) (whole_line cw r b some by_dots)))
 to_frame_end cw r (suc i) b some left by_dots =
     let next : Beam = next_line r b in
@@ -161,9 +161,9 @@ to_frame_end cw r (suc i) b some left by_dots =
     let rest = to_frame_end cw r i next some (omega (arith, place.0)) (not_started r next (inr (inr below))) in
     let full = from_line_start cw r next (next_line_start r b) some in
     let e : n + (i * line + dots_to_line_end cw r next) ≡ suc i * line + n = omega (arith, full) in
-    subst (λ f. Leads IsFrameStart cw r (suc i * line + n) b (first_dot ((f + 1) % 32))) place.1
-    (counted IsFrameStart cw r b (first_dot ((next.frame + 1) % 32)) (n + (i * line + dots_to_line_end cw r next)) (suc i * line + n) e
-    (then_leads IsFrameStart cw r b next (first_dot ((next.frame + 1) % 32)) n (i * line + dots_to_line_end cw r next) first
+    subst (λ f. Leads IsFrameStart cw r (suc i * line + n) b (first_dot_of_frame ((f + 1) % 32))) place.1
+    (counted IsFrameStart cw r b (first_dot_of_frame ((next.frame + 1) % 32)) (n + (i * line + dots_to_line_end cw r next)) (suc i * line + n) e
+    (then_leads IsFrameStart cw r b next (first_dot_of_frame ((next.frame + 1) % 32)) n (i * line + dots_to_line_end cw r next) first
     (λ (start : IsFrameStart next). absurd (omega (arith, start.line, below))) rest))
 
 pub same_frame_count : (cw : ℕ) (r : List ℕ) (b : Beam) → dots_to_frame_end cw r (with_frame_start_taken r b) ≡ dots_to_frame_end cw r b
@@ -173,18 +173,18 @@ same_frame_count cw r b =
     ap (λ v. (lines r - (v + 1)) * (characters r * cw) + dots_to_line_end cw r (with_frame_start_taken r b)) place.line
     ∙ ap (λ n. (lines r - (b.line + 1)) * (characters r * cw) + n) (same_count cw r b)
 
-pub frame_ends : (cw : ℕ) (r : List ℕ) (b : Beam) → 0 < cw → FrameEnds cw r b
+pub frame_ends : (cw : ℕ) (r : List ℕ) (b : Beam) → 0 < cw → DotsToFrameEndAreFewest cw r b
 unfolding dots_to_frame_end
 frame_ends cw r b some =
     let s : Beam = with_frame_start_taken r b in
     let n = dots_to_frame_end cw r b in
     let i = lines r - (s.line + 1) in
     let place = started_place r b in
-    let new : Beam = first_dot ((s.frame + 1) % 32) in
+    let new : Beam = first_dot_of_frame ((s.frame + 1) % 32) in
     let e = same_frame_count cw r b in
     let way = unstarted IsFrameStart cw r n b new (some_in_frame cw r b)
     (counted IsFrameStart cw r s new (i * (characters r * cw) + dots_to_line_end cw r s) n e (to_frame_end cw r i s some refl (started_again r b))) in
-    let next : dots cw r n b ≡ first_dot ((b.frame + 1) % 32) = way.by_dots ∙ ap (λ f. first_dot ((f + 1) % 32)) place.frame in
+    let next : dots cw r n b ≡ first_dot_of_frame ((b.frame + 1) % 32) = way.by_dots ∙ ap (λ f. first_dot_of_frame ((f + 1) % 32)) place.frame in
     record {
       some = some_in_frame cw r b;
       next = next;

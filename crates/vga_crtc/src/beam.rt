@@ -29,13 +29,13 @@ pub struct Beam {
 }
 
 impl Beam {
-    ghost use Rattle.vga_crtc.specs.Crtc.{first_dot};
-    ghost use Rattle.vga_crtc.specs.Beam.{IsBeam, is_first_dot, with_frame_start_taken, counters_after_line};
+    ghost use Rattle.vga_crtc.specs.Crtc.{first_dot_of_frame};
+    ghost use Rattle.vga_crtc.specs.Beam.{IsBeam, is_first_dot_of_frame, with_frame_start_taken, counters_after_line};
     ghost use Rattle.vga_crtc.specs.Beam.{next_line, dot};
 
     /// The beam at the first dot of a frame, before the start of the frame is taken.
-    pub(crate) fn first_dot(frame: u8) -> Beam
-        ensures { result ≡ first_dot frame }
+    pub(crate) fn first_dot_of_frame(frame: u8) -> Beam
+        ensures { result ≡ first_dot_of_frame frame }
     {
         Beam {
             frame,
@@ -50,8 +50,8 @@ impl Beam {
     }
 
     /// Whether the beam is at the first dot of a frame.
-    pub fn is_first_dot(self) -> bool
-        ensures { result ≡ is_first_dot self }
+    pub fn is_first_dot_of_frame(self) -> bool
+        ensures { result ≡ is_first_dot_of_frame self }
     {
         self.character == 0 && self.dot == 0 && self.line == 0
     }
@@ -62,7 +62,7 @@ impl Beam {
         ensures value { self.new ≡ with_frame_start_taken registers.now self.old }
         ensures place { IsBeam self.new }
     {
-        if self.is_first_dot() {
+        if self.is_first_dot_of_frame() {
             self.base = registers.first_counter();
             self.scan = registers.preset_row_scan();
             self.half = false;
@@ -72,7 +72,7 @@ impl Beam {
 
     /// Moves the counters on from a line that ends: to the next scan line, to the next row of
     /// characters, or to 0 at line compare. Under double scan every other line leaves them.
-    fn count_ended_line(&mut self, registers: &Registers)
+    fn move_counters_past_ended_line(&mut self, registers: &Registers)
         requires { IsBeam self.old }
         ensures value { self.new ≡ counters_after_line registers.now self.old }
         ensures place { IsBeam self.new }
@@ -105,10 +105,10 @@ impl Beam {
         if self.line + 1 < registers.lines() {
             self.character = 0;
             self.dot = 0;
-            self.count_ended_line(registers);
+            self.move_counters_past_ended_line(registers);
             self.line += 1;
         } else {
-            *self = Beam::first_dot((self.frame + 1) % 32);
+            *self = Beam::first_dot_of_frame((self.frame + 1) % 32);
         }
     }
 

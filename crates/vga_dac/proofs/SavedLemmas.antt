@@ -9,7 +9,7 @@ use Rattle.vga_bits.proofs.ByteLemmas.{zeros_at}
 use Rattle.vga_dac.specs.declared.component.Component.{Component}
 use Rattle.vga_dac.specs.declared.component.Component.TheVariants.{Red, Green, Blue}
 use Rattle.vga_dac.specs.Dac.{DacState, IsDac}
-use Rattle.vga_dac.specs.Saved.{component_number, component_numbered, saved_counters, saved_dac, AreSixBitValues, IsSavedDac, past_reds, past_greens, past_blues}
+use Rattle.vga_dac.specs.Saved.{component_number, component_numbered, saved_bytes_after_entries, saved_dac, AreSixBitValues, IsSavedDac, past_reds, past_greens, past_blues}
 use Rattle.vga_dac.specs.Saved.{dac_from}
 
 -- ---- values of six bits
@@ -55,23 +55,23 @@ component_few Blue = omega arith
 module _ (d : DacState) (is : IsDac d) where
   reds_are : take 256 (saved_dac d) ≡ d.reds
   unfolding saved_dac
-  reds_are = take_at d.reds (d.greens ++ (d.blues ++ saved_counters d)) 256 is.reds
+  reds_are = take_at d.reds (d.greens ++ (d.blues ++ saved_bytes_after_entries d)) 256 is.reds
 
-  reds_past : past_reds (saved_dac d) ≡ d.greens ++ (d.blues ++ saved_counters d)
+  reds_past : past_reds (saved_dac d) ≡ d.greens ++ (d.blues ++ saved_bytes_after_entries d)
   unfolding saved_dac
-  reds_past = drop_at d.reds (d.greens ++ (d.blues ++ saved_counters d)) 256 is.reds
+  reds_past = drop_at d.reds (d.greens ++ (d.blues ++ saved_bytes_after_entries d)) 256 is.reds
 
-  greens_past : past_greens (saved_dac d) ≡ d.blues ++ saved_counters d
-  greens_past = ap (drop 256) reds_past ∙ drop_at d.greens (d.blues ++ saved_counters d) 256 is.greens
+  greens_past : past_greens (saved_dac d) ≡ d.blues ++ saved_bytes_after_entries d
+  greens_past = ap (drop 256) reds_past ∙ drop_at d.greens (d.blues ++ saved_bytes_after_entries d) 256 is.greens
 
-  blues_past : past_blues (saved_dac d) ≡ saved_counters d
-  blues_past = ap (drop 256) greens_past ∙ drop_at d.blues (saved_counters d) 256 is.blues
+  blues_past : past_blues (saved_dac d) ≡ saved_bytes_after_entries d
+  blues_past = ap (drop 256) greens_past ∙ drop_at d.blues (saved_bytes_after_entries d) 256 is.blues
 
   greens_are : take 256 (past_reds (saved_dac d)) ≡ d.greens
-  greens_are = ap (take 256) reds_past ∙ take_at d.greens (d.blues ++ saved_counters d) 256 is.greens
+  greens_are = ap (take 256) reds_past ∙ take_at d.greens (d.blues ++ saved_bytes_after_entries d) 256 is.greens
 
   blues_are : take 256 (past_greens (saved_dac d)) ≡ d.blues
-  blues_are = ap (take 256) greens_past ∙ take_at d.blues (saved_counters d) 256 is.blues
+  blues_are = ap (take 256) greens_past ∙ take_at d.blues (saved_bytes_after_entries d) 256 is.blues
 
   long : length (saved_dac d) ≡ 773
   unfolding saved_dac
@@ -80,9 +80,9 @@ module _ (d : DacState) (is : IsDac d) where
     is.reds,
     is.greens,
     is.blues,
-    length-append d.reds (d.greens ++ (d.blues ++ saved_counters d)),
-    length-append d.greens (d.blues ++ saved_counters d),
-    length-append d.blues (saved_counters d),
+    length-append d.reds (d.greens ++ (d.blues ++ saved_bytes_after_entries d)),
+    length-append d.greens (d.blues ++ saved_bytes_after_entries d),
+    length-append d.blues (saved_bytes_after_entries d),
   )
 
   pub dac_is_saved : AreSixBitValues d.reds → AreSixBitValues d.greens → AreSixBitValues d.blues → d.waiting_red < 64 → d.waiting_green < 64 → IsSavedDac (saved_dac d)

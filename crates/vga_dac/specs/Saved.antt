@@ -19,20 +19,20 @@ component_numbered (suc zero) = Green
 component_numbered (suc (suc n)) = Blue
 
 -- the bytes after the entries
-abbrev pub saved_counters : DacState → List ℕ
-saved_counters d = d.index ∷ component_number d.component ∷ d.waiting_red ∷ d.waiting_green
+abbrev pub saved_bytes_after_entries : DacState → List ℕ
+saved_bytes_after_entries d = d.index ∷ component_number d.component ∷ d.waiting_red ∷ d.waiting_green
     ∷ d.mask ∷ []
 
 -- the bytes of a DAC
 unfoldable pub saved_dac : DacState → List ℕ
-saved_dac d = d.reds ++ (d.greens ++ (d.blues ++ saved_counters d))
+saved_dac d = d.reds ++ (d.greens ++ (d.blues ++ saved_bytes_after_entries d))
 
 -- each value fits in six bits
 pub record AreSixBitValues (values : List ℕ) : Type 0 where
   pub small : (i : ℕ) → slice_index values i < 64
 
 -- a component and two values of six bits, among what follows the entries
-pub record AreSavedCounters (bytes : List ℕ) : Type 0 where
+pub record AreSavedBytesAfterEntries (bytes : List ℕ) : Type 0 where
   pub component : slice_index bytes 1 < 3
   pub waiting_red : slice_index bytes 2 < 64
   pub waiting_green : slice_index bytes 3 < 64
@@ -55,7 +55,7 @@ pub record IsSavedDac (bytes : List ℕ) : Type 0 where
   pub reds : AreSixBitValues (take 256 bytes)
   pub greens : AreSixBitValues (take 256 (past_reds bytes))
   pub blues : AreSixBitValues (take 256 (past_greens bytes))
-  pub counters : AreSavedCounters (past_blues bytes)
+  pub counters : AreSavedBytesAfterEntries (past_blues bytes)
 
 -- the DAC that has these bytes
 unfoldable pub dac_from : List ℕ → DacState

@@ -11,7 +11,7 @@ use Rattle.vga_attr.specs.Attr.{AttrState}
 use Rattle.vga_dots.specs.declared.source_dot.SourceDot.{SourceDot}
 use Rattle.vga_dots.specs.SourceDot.{source_dot, panning_shift}
 use Rattle.vga_dots.specs.Fetch.{address_fetched_at_beam}
-use Rattle.vga_dots.specs.Line.{with_beam_at}
+use Rattle.vga_dots.specs.Line.{with_beam_at_dot_of_character}
 use Rattle.vga_crtc.specs.Fields.{is_double_word, is_byte_mode, is_address_wrap}
 use Rattle.vga_dots.specs.declared.addressing.Addressing.{Addressing}
 use Rattle.vga_dots.specs.SourceDot.{fetch_address}
@@ -77,10 +77,10 @@ chosen false s t r place f g = g
 
 apart : (h : HostState) (c : CrtcState) (a : AttrState) (x k last place : ℕ) → last < 256 → x ≤ last →
     (last + 2) * (addressing_of c.registers).step ≤ (place + (65536 - c.beam.base * (addressing_of c.registers).step % 65536)) % 65536
-    → address_fetched_at_beam h (with_beam_at c x k) a ≡ place → ⊥
+    → address_fetched_at_beam h (with_beam_at_dot_of_character c x k) a ≡ place → ⊥
 unfolding source_dot
 apart h c a x k last place small l far =
-    let dot = k + panning_shift h (with_beam_at c x k) a in
+    let dot = k + panning_shift h (with_beam_at_dot_of_character c x k) a in
     chosen (nat_lt dot (character_width h)) (record { counter = (c.beam.base + x) % 65536; dot = dot })
     (record { counter = (c.beam.base + (x + 1)) % 65536; dot = dot - character_width h }) c.registers place
     (near_line c.registers c.beam.base x last place small (omega (arith, l)) far)
@@ -91,5 +91,5 @@ far_of x y h = grind (arith, nat_tests)
 
 pub tested_apart : (h : HostState) (c : CrtcState) (a : AttrState) (x k last place : ℕ) → last < 256 → x ≤ last →
     nat_le ((last + 2) * (addressing_of c.registers).step) ((place + (65536 - c.beam.base * (addressing_of c.registers).step % 65536)) % 65536) ≡ true
-    → address_fetched_at_beam h (with_beam_at c x k) a ≡ place → ⊥
+    → address_fetched_at_beam h (with_beam_at_dot_of_character c x k) a ≡ place → ⊥
 tested_apart h c a x k last place small l test = apart h c a x k last place small l (far_of _ _ test)

@@ -12,13 +12,13 @@ use Rattle.vga_attr.specs.Fields.{is_palette_shown, overscan}
 use Rattle.vga_attr.specs.Colour.{colour_index}
 use Rattle.vga_dac.specs.Dac.{DacState}
 use Rattle.vga_dots.specs.declared.source_dot.SourceDot.{SourceDot}
-use Rattle.vga_dots.specs.SourceDot.{panning_shift, counter_of, source_dot_of_number, source_dot}
+use Rattle.vga_dots.specs.SourceDot.{panning_shift, counter_of_character, source_dot_of_number, source_dot}
 use Rattle.vga_dots.specs.Text.{text_nibble, is_foreground, is_underlined, is_blinked_away, is_cursor_at}
 use Rattle.vga_dots.specs.Graphics.{planar_nibble, packed_byte}
 use Rattle.vga_dots.specs.Colour.{dot_colour, colour_number, nibble}
 use Rattle.vga_dots.specs.Row.{bytes_of_dot, AreDotsPut, AreCharactersPut}
 use Rattle.vga_dots.specs.Display.{DisplayState}
-use Rattle.vga_dots.specs.Line.{with_beam_at, masked_colour, colour_by_palette, dot_of_counter, colour_of_source_dot, unpanned_colour, IsLineDrawn, IsPartDrawn}
+use Rattle.vga_dots.specs.Line.{with_beam_at_dot_of_character, masked_colour, colour_by_palette, dot_of_counter, colour_of_source_dot, unpanned_colour, IsLineDrawn, AreNextDotsDrawn}
 use Rattle.vga_dots.proofs.RowLemmas.{dot_byte}
 
 -- a choice of numbers is one of colours
@@ -33,13 +33,13 @@ distribute false false false true a d n1 n2 n3 n4 = refl
 distribute false false false false a d n1 n2 n3 n4 = refl
 
 -- the colour of a dot of the line, by where it comes from
-line_source : (d : DisplayState) (x k : ℕ) → dot_colour d.host (with_beam_at d.crtc x k) d.attr d.dac
-    ≡ colour_of_source_dot d (source_dot_of_number (with_beam_at d.crtc x k) (character_width d.host) (k + panning_shift d.host d.crtc d.attr))
+line_source : (d : DisplayState) (x k : ℕ) → dot_colour d.host (with_beam_at_dot_of_character d.crtc x k) d.attr d.dac
+    ≡ colour_of_source_dot d (source_dot_of_number (with_beam_at_dot_of_character d.crtc x k) (character_width d.host) (k + panning_shift d.host d.crtc d.attr))
 unfolding dot_colour colour_number nibble source_dot panning_shift colour_of_source_dot text_nibble is_foreground is_underlined is_blinked_away is_cursor_at
     planar_nibble
     packed_byte
 line_source d x k =
-    let s : SourceDot = source_dot_of_number (with_beam_at d.crtc x k) (character_width d.host) (k + panning_shift d.host d.crtc d.attr) in
+    let s : SourceDot = source_dot_of_number (with_beam_at_dot_of_character d.crtc x k) (character_width d.host) (k + panning_shift d.host d.crtc d.attr) in
     distribute (is_screen_off d.host) (not (is_palette_shown d.attr)) (is_256_colours d.host) (is_graphics d.host) d.attr d.dac (overscan d.attr)
     (packed_byte d.host d.crtc s) (planar_nibble d.host d.crtc s) (text_nibble d.host d.crtc d.attr s)
 
@@ -57,18 +57,18 @@ from_first cw n f row0 row1 put = record {
 
 module _ (cw : ℕ) (d : DisplayState) (wide : cw ≡ character_width d.host) where
   abbrev chosen : ℕ → ℕ → Bool → List ℕ
-  chosen x i v = colour_of_source_dot d (if v then dot_of_counter (counter_of d.crtc x) i else dot_of_counter (counter_of d.crtc (x + 1)) (i - character_width d.host))
+  chosen x i v = colour_of_source_dot d (if v then dot_of_counter (counter_of_character d.crtc x) i else dot_of_counter (counter_of_character d.crtc (x + 1)) (i - character_width d.host))
 
   -- a dot that panning leaves in its character
   dot_here : (x k : ℕ) → k + panning_shift d.host d.crtc d.attr < cw → unpanned_colour d x (k + panning_shift d.host d.crtc d.attr)
-      ≡ dot_colour d.host (with_beam_at d.crtc x k) d.attr d.dac
+      ≡ dot_colour d.host (with_beam_at_dot_of_character d.crtc x k) d.attr d.dac
   dot_here x k l =
       let i = k + panning_shift d.host d.crtc d.attr in
       sym (line_source d x k ∙ ap (chosen x i) (ap (nat_lt i) (sym wide) ∙ lt-ltb i cw l))
 
   -- a dot that it takes from the next one
   dot_next : (x k : ℕ) → cw ≤ k + panning_shift d.host d.crtc d.attr → unpanned_colour d (x + 1) (k + panning_shift d.host d.crtc d.attr - cw)
-      ≡ dot_colour d.host (with_beam_at d.crtc x k) d.attr d.dac
+      ≡ dot_colour d.host (with_beam_at_dot_of_character d.crtc x k) d.attr d.dac
   dot_next x k l =
       let i = k + panning_shift d.host d.crtc d.attr in
       ap (λ w. unpanned_colour d (x + 1) (i - w)) wide ∙ sym (line_source d x k ∙ ap (chosen x i) (ap (nat_lt i) (sym wide) ∙ le-ltb i cw l))
@@ -116,7 +116,7 @@ module _ (cw : ℕ) (d : DisplayState) (wide : cw ≡ character_width d.host) wh
 
   -- a part of one colour
   pub part_filled : (n : ℕ) (colour row0 row1 : List ℕ) → AreCharactersPut 1 n (λ x i. colour) row0 row1 → ((s : SourceDot) → colour ≡ colour_of_source_dot d s) →
-      IsPartDrawn cw n d row0 row1
+      AreNextDotsDrawn cw n d row0 row1
   part_filled n colour row0 row1 put same = record {
     inside = λ i j li lj.
         let q = dot_number_in_line cw d.crtc.beam + i in
@@ -129,7 +129,7 @@ module _ (cw : ℕ) (d : DisplayState) (wide : cw ≡ character_width d.host) wh
   pub part_panned : (n first skipped count p : ℕ) (blank drawn row0 row1 : List ℕ) → 0 < cw → p ≡ panning_shift d.host d.crtc d.attr → p ≤ cw
       → first * cw + skipped ≡ dot_number_in_line cw d.crtc.beam + p → skipped + n ≤ count * cw
       → AreCharactersPut cw count (λ x. unpanned_colour d (first + x)) blank drawn
-      → AreDotsPut n 0 (λ i. bytes_of_dot drawn (skipped + i)) row0 row1 → IsPartDrawn cw n d row0 row1
+      → AreDotsPut n 0 (λ i. bytes_of_dot drawn (skipped + i)) row0 row1 → AreNextDotsDrawn cw n d row0 row1
   part_panned n first skipped count p blank drawn row0 row1 some by few begin fits put copied = record {
     inside = λ i j li lj.
         let q = dot_number_in_line cw d.crtc.beam + i in

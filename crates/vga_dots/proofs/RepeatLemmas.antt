@@ -15,15 +15,15 @@ use Rattle.vga_dots.specs.SourceDot.{panning_shift, source_dot}
 use Rattle.vga_dots.specs.Text.{text_nibble}
 use Rattle.vga_dots.specs.Graphics.{planar_nibble, packed_byte}
 use Rattle.vga_dots.specs.Colour.{nibble, colour_number, dot_colour}
-use Rattle.vga_dots.specs.Line.{with_beam_at}
+use Rattle.vga_dots.specs.Line.{with_beam_at_dot_of_character}
 use Rattle.vga_dots.specs.Repeat.{BeginAtSameFetch}
 
 module _ (h : HostState) (c : CrtcState) (b : Beam) (a : AttrState) (x k : ℕ) (same : BeginAtSameFetch b c.beam) where
   abbrev there : CrtcState
-  there = with_beam_at (record c { beam = b }) x k
+  there = with_beam_at_dot_of_character (record c { beam = b }) x k
 
   abbrev here : CrtcState
-  here = with_beam_at c x k
+  here = with_beam_at_dot_of_character c x k
 
   abbrev fetched : ℕ → Bool → CrtcState
   fetched base split = record c { beam = record c.beam { base = base; split = split; character = x; dot = k } }
@@ -57,7 +57,7 @@ module _ (h : HostState) (c : CrtcState) (b : Beam) (a : AttrState) (x k : ℕ) 
 
 -- the dots of a line that begins at the same counter have the same colours
 pub same_colour : (h : HostState) (c : CrtcState) (b : Beam) (a : AttrState) (d : DacState) (x k : ℕ) → is_graphics h ≡ true → BeginAtSameFetch b c.beam →
-    dot_colour h (with_beam_at (record c { beam = b }) x k) a d ≡ dot_colour h (with_beam_at c x k) a d
+    dot_colour h (with_beam_at_dot_of_character (record c { beam = b }) x k) a d ≡ dot_colour h (with_beam_at_dot_of_character c x k) a d
 unfolding dot_colour
 same_colour h c b a d x k graphics same =
     ap (λ (n : ℕ). if is_screen_off h then 0 ∷ 0 ∷ 0 ∷ [] else entry_of d (bit_and n d.mask)) (same_number h c b a x k same graphics)

@@ -7,7 +7,7 @@ ghost use Rattle.vga_attr.specs.Attr.{AttrState};
 ghost use Rattle.vga_dots.specs.SourceDot.{fetch_address};
 ghost use Rattle.vga_dots.specs.Addressing.{addressing_of};
 ghost use Rattle.vga_dots.specs.Fetch.{address_fetched_at_beam};
-ghost use Rattle.vga_dots.specs.Line.{with_beam_at};
+ghost use Rattle.vga_dots.specs.Line.{with_beam_at_dot_of_character};
 
 use vga_crtc::{Crtc, Registers};
 
@@ -61,10 +61,10 @@ impl Addressing {
 /// True only if no displayed dot of the beam's line fetches an offset. The start of the frame must
 /// have been taken. An offset near the fetched ones may count as fetched.
 #[tactic(auto, unfolding(crate::specs::Addressing::addressing_of))]
-pub fn is_not_fetched(crtc: &Crtc, offset: u16) -> bool
+pub fn is_not_fetched_on_line(crtc: &Crtc, offset: u16) -> bool
     ensures { result ≡ true → (h : HostState) (a : AttrState) (x k : ℕ) →
         x ≤ horizontal_display_end crtc.now.registers
-        → ¬ (address_fetched_at_beam h (with_beam_at crtc.now x k) a ≡ offset) }
+        → ¬ (address_fetched_at_beam h (with_beam_at_dot_of_character crtc.now x k) a ≡ offset) }
 {
     let registers = crtc.fields();
     let step = Addressing::new(registers).step;

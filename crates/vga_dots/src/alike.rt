@@ -1,7 +1,7 @@
 //! The end of a line of text in which all characters look alike. Most lines have such an end. This
 //! file serves speed alone: each of these characters could be drawn by itself.
 ghost use Rattle.std.specs.Prelude.{◌≡◌, ℕ, List, ◌+◌, ◌-◌, ◌*◌, ◌<◌, ◌≤◌, length};
-ghost use Rattle.vga_dots.specs.SourceDot.{counter_of};
+ghost use Rattle.vga_dots.specs.SourceDot.{counter_of_character};
 ghost use Rattle.vga_dots.specs.Character.{AreTextCharactersOf};
 ghost use Rattle.vga_dots.specs.Display.{ShowsText};
 ghost use Rattle.vga_dots.specs.Line.{unpanned_colour};

@@ -184,7 +184,7 @@ impl TextCharacters {
             attribute,
             glyph,
             ground,
-            glyphs: self.line.glyphs_of(attribute),
+            glyphs: self.line.row_address_of_first_glyph(attribute),
         }
     }
 
@@ -257,7 +257,7 @@ pub(crate) struct PlanarCharacters {
 impl PlanarCharacters {
     ghost use Rattle.vga_dots.specs.Character.{ArePlanarCharactersOf};
 
-    /// The characters of a line in 256 colours. They are the same for every line.
+    /// The characters of a line in 16 colours. They are the same for every line.
     #[inline(always)]
     pub(crate) fn new(display: &Display<'_>) -> PlanarCharacters
         requires { ShowsPlanes display.now }
@@ -292,7 +292,7 @@ impl PackedCharacters {
     ghost use Rattle.vga_dots.specs.Character.{ArePackedCharactersOf};
     ghost use Rattle.vga_dots.specs.Display.{ShowsBytes};
 
-    /// The characters of a line in 16 colours. They are the same for every line.
+    /// The characters of a line in 256 colours. They are the same for every line.
     pub(crate) fn new(display: &Display<'_>) -> PackedCharacters
         requires { ShowsBytes display.now }
         ensures { ArePackedCharactersOf result display.now }

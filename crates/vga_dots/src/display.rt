@@ -2,7 +2,7 @@
 ghost use Rattle.std.specs.Prelude.{◌≡◌};
 ghost use Rattle.vga_crtc.specs.Beam.{IsBeam};
 ghost use Rattle.vga_dots.specs.Display.{display_of};
-ghost use Rattle.vga_dots.specs.SourceDot.{counter_of, fetch_address as fetch_address_of};
+ghost use Rattle.vga_dots.specs.SourceDot.{counter_of_character, fetch_address as fetch_address_of};
 
 use crate::source_dot::fetch_address;
 use std::marker::Model;
@@ -95,7 +95,7 @@ impl<'a> Display<'a> {
     /// The counter of a character of the beam's line, by which it is fetched.
     #[inline(always)]
     pub(crate) fn counter(&self, character: u16) -> u16
-        ensures { result ≡ counter_of self.now.crtc character }
+        ensures { result ≡ counter_of_character self.now.crtc character }
     {
         self.beam().base.wrapping_add(character)
     }

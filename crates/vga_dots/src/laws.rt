@@ -10,7 +10,7 @@ ghost use Rattle.vga_attr.specs.Attr.{AttrState};
 ghost use Rattle.vga_dac.specs.Dac.{DacState};
 ghost use Rattle.vga_dots.specs.Colour.{dot_colour};
 ghost use Rattle.vga_dots.specs.Fetch.{DotSeesSameBytes};
-ghost use Rattle.vga_dots.specs.Line.{with_beam_at};
+ghost use Rattle.vga_dots.specs.Line.{with_beam_at_dot_of_character};
 ghost use Rattle.vga_dots.specs.Repeat.{BeginAtSameFetch};
 ghost use Rattle.vga_dots.specs.Seen.{DotsSeeSameRegisters};
 
@@ -20,8 +20,8 @@ ghost use Rattle.vga_dots.specs.Seen.{DotsSeeSameRegisters};
 pub fn graphics_lines_depend_on_counter()
     ensures { (h : HostState) (c : CrtcState) (b : Beam) (a : AttrState) (d : DacState) (x k : ℕ) →
         is_graphics h ≡ true → BeginAtSameFetch b c.beam →
-        dot_colour h (with_beam_at (record c { beam = b }) x k) a d ≡ dot_colour h
-        (with_beam_at c x k) a d }
+        dot_colour h (with_beam_at_dot_of_character (record c { beam = b }) x k) a d ≡ dot_colour h
+        (with_beam_at_dot_of_character c x k) a d }
 {}
 
 /// A dot's colour depends only on the bytes of memory that the dot fetches and, in text, on the

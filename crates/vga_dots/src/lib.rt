@@ -15,7 +15,7 @@ mod source_dot;
 mod text;
 mod text_line;
 
-pub use addressing::is_not_fetched;
+pub use addressing::is_not_fetched_on_line;
 pub use colour::dot_colour;
 pub use display::Display;
-pub use line::{MOST_DOTS_OF_PART, draw_line, draw_part, shown_characters};
+pub use line::{MOST_DOTS_OF_PART, draw_line, draw_next_dots_of_line, shown_characters};

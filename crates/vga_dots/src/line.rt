@@ -6,7 +6,7 @@ ghost use Rattle.vga_dots.specs.Display.{display_of, ShowsMemory, ShowsText};
 ghost use Rattle.vga_dots.specs.Character.{AreTextCharactersOf};
 ghost use Rattle.vga_dots.specs.Row.{AreCharactersPut};
 ghost use Rattle.vga_dots.specs.Line.{shown_characters as characters_shown, unpanned_colour};
-ghost use Rattle.vga_dots.specs.Line.{IsLineDrawn, IsPartDrawn};
+ghost use Rattle.vga_dots.specs.Line.{IsLineDrawn, AreNextDotsDrawn};
 
 use crate::alike::{count_characters_to_draw, repeat_last_character};
 use crate::character::{
@@ -242,7 +242,7 @@ pub fn draw_line<const CW: usize>(host: &Host, crtc: &Crtc, attr: &Attr, dac: &D
 /// Draws the next `count` dots of the beam's line, which shows memory, from the beam's dot on. It
 /// draws the whole characters that contain them into a buffer of `N` bytes, and copies the dots
 /// from there.
-fn draw_displayed_part<const CW: usize, const N: usize>(
+fn draw_next_displayed_dots_of_line<const CW: usize, const N: usize>(
     display: &Display<'_>,
     count: usize,
     row: &mut [u8],
@@ -253,7 +253,7 @@ fn draw_displayed_part<const CW: usize, const N: usize>(
     requires few { N ≤ 435 }
     requires width { CW ≡ character_width display.now.host }
     requires room { 3 * count ≤ length row.old }
-    ensures { IsPartDrawn CW count display.now row.old row.new }
+    ensures { AreNextDotsDrawn CW count display.now row.old row.new }
 {
     let beam = display.beam();
     let start = beam.dot as usize + panning_shift(display) as usize;
@@ -269,11 +269,11 @@ fn draw_displayed_part<const CW: usize, const N: usize>(
 /// beam's dot on. Each dot has the colour that `dot_colour` gives with the beam there. No other
 /// byte of the row changes. A character is `CW` dots wide. Where a frame begins, take its start
 /// first (`Crtc::take_start`).
-pub fn draw_part<const CW: usize>(display: &Display<'_>, count: usize, row: &mut [u8])
+pub fn draw_next_dots_of_line<const CW: usize>(display: &Display<'_>, count: usize, row: &mut [u8])
     requires count { count ≤ 128 }
     requires width { CW ≡ character_width display.now.host }
     requires room { 3 * count ≤ length row.old }
-    ensures { IsPartDrawn CW count display.now row.old row.new }
+    ensures { AreNextDotsDrawn CW count display.now row.old row.new }
 {
     if display.host().is_screen_off() {
         fill_characters::<1>(row, count, BLACK);
@@ -284,8 +284,8 @@ pub fn draw_part<const CW: usize>(display: &Display<'_>, count: usize, row: &mut
             masked_colour(display.dac(), display.attr().overscan()),
         );
     } else if count <= SMALL_PART {
-        draw_displayed_part::<CW, SMALL_PART_BYTES>(display, count, row);
+        draw_next_displayed_dots_of_line::<CW, SMALL_PART_BYTES>(display, count, row);
     } else {
-        draw_displayed_part::<CW, PART_BYTES>(display, count, row);
+        draw_next_displayed_dots_of_line::<CW, PART_BYTES>(display, count, row);
     }
 }

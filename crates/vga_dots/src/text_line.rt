@@ -185,7 +185,7 @@ impl TextLineSettings {
     }
 
     /// The address in its plane of this line of the first glyph for an attribute.
-    pub(crate) fn glyphs_of(&self, attribute: u8) -> u16
+    pub(crate) fn row_address_of_first_glyph(&self, attribute: u8) -> u16
         ensures { result ≡ (if is_set_of attribute 3 then self.now.map_a else self.now.map_b) }
     {
         if is_set(attribute, 3) {

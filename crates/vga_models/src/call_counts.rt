@@ -157,7 +157,7 @@ const PAGED: [u8; 6] = [0x02, 0x03, 0x08, 0x09, 0x0A, 0x13];
 
 /// The subfunction, if the function has any. All invalid ones of strings count as one, and so do
 /// those of glyphs.
-fn part_of(regs: Regs) -> u8 {
+fn counted_subfunction(regs: Regs) -> u8 {
     let al = low(regs.ax);
     match high(regs.ax) {
         0x10 => al,
@@ -211,13 +211,13 @@ impl CallCounts {
     ) -> Result<(), AllocError> {
         let ending = Ending {
             function: high(regs.ax),
-            part: part_of(regs),
+            part: counted_subfunction(regs),
             refusal,
         };
         if refusal.is_some() {
             self.refused = self.refused.saturating_add(1);
         }
-        if !self.counts_again(mode, ending) {
+        if !self.count_if_met_before(mode, ending) {
             self.counts.push(Count {
                 mode: mode.number,
                 height: mode.height,
@@ -230,7 +230,7 @@ impl CallCounts {
 
     /// Counts a way that was met before in this mode with characters of this height; returns false
     /// if it was not met before.
-    fn counts_again(&mut self, mode: PlainMode, ending: Ending) -> bool {
+    fn count_if_met_before(&mut self, mode: PlainMode, ending: Ending) -> bool {
         for count in self.counts.iter_mut() {
             if count.is_of(mode.number, mode.height, ending) {
                 count.times = count.times.saturating_add(1);
@@ -247,7 +247,7 @@ impl CallCounts {
     }
 
     /// Whether a way was met too seldom in a mode, with characters of any height.
-    fn is_seldom(&self, mode: u8, ending: Ending) -> bool {
+    fn is_met_too_seldom_in_mode(&self, mode: u8, ending: Ending) -> bool {
         let mut times = 0u32;
         for count in self.counts.iter() {
             if count.mode == mode && count.ending == ending {
@@ -258,7 +258,7 @@ impl CallCounts {
     }
 
     /// Whether a way was met too seldom in a mode, with characters of this height.
-    fn is_seldom_at(&self, mode: u8, height: u8, ending: Ending) -> bool {
+    fn is_met_too_seldom_at_height(&self, mode: u8, height: u8, ending: Ending) -> bool {
         for count in self.counts.iter() {
             if count.is_of(mode, height, ending) {
                 return count.times < self.often;
@@ -268,17 +268,17 @@ impl CallCounts {
     }
 
     /// A function that was accepted too seldom in a mode, or refused too seldom in one of its ways.
-    fn seldom_in(&self, mode: PlainMode) -> Option<(u8, u8)> {
-        self.seldom_accepted_in(mode.number)
-            .or(self.seldom_refused_in(mode.number))
-            .or(self.seldom_bad_page_in(mode))
-            .or(self.seldom_pixel_in(mode))
+    fn call_met_too_seldom_in_mode(&self, mode: PlainMode) -> Option<(u8, u8)> {
+        self.call_accepted_too_seldom_in_mode(mode.number)
+            .or(self.call_refused_too_seldom_in_mode(mode.number))
+            .or(self.bad_page_call_refused_too_seldom_in_mode(mode))
+            .or(self.pixel_call_met_too_seldom_in_mode(mode))
     }
 
     /// A function that was accepted too seldom in a mode.
-    fn seldom_accepted_in(&self, mode: u8) -> Option<(u8, u8)> {
+    fn call_accepted_too_seldom_in_mode(&self, mode: u8) -> Option<(u8, u8)> {
         for (function, part) in ACCEPTED {
-            if self.is_seldom(mode, accepted(function, part)) {
+            if self.is_met_too_seldom_in_mode(mode, accepted(function, part)) {
                 return Some((function, part));
             }
         }
@@ -286,9 +286,9 @@ impl CallCounts {
     }
 
     /// A function that was refused too seldom for a reason that it has in every mode.
-    fn seldom_refused_in(&self, mode: u8) -> Option<(u8, u8)> {
+    fn call_refused_too_seldom_in_mode(&self, mode: u8) -> Option<(u8, u8)> {
         for (function, part, refusal) in REFUSED {
-            if self.is_seldom(mode, refused(function, part, refusal)) {
+            if self.is_met_too_seldom_in_mode(mode, refused(function, part, refusal)) {
                 return Some((function, part));
             }
         }
@@ -296,12 +296,12 @@ impl CallCounts {
     }
 
     /// A function that was refused too seldom for its page in a mode of several pages.
-    fn seldom_bad_page_in(&self, mode: PlainMode) -> Option<(u8, u8)> {
+    fn bad_page_call_refused_too_seldom_in_mode(&self, mode: PlainMode) -> Option<(u8, u8)> {
         if mode.pages <= 1 {
             return None;
         }
         for function in PAGED {
-            if self.is_seldom(mode.number, refused(function, 0, Refusal::BadPage)) {
+            if self.is_met_too_seldom_in_mode(mode.number, refused(function, 0, Refusal::BadPage)) {
                 return Some((function, 0));
             }
         }
@@ -309,18 +309,24 @@ impl CallCounts {
     }
 
     /// The same of functions for pixels, which text modes refuse.
-    fn seldom_pixel_in(&self, mode: PlainMode) -> Option<(u8, u8)> {
+    fn pixel_call_met_too_seldom_in_mode(&self, mode: PlainMode) -> Option<(u8, u8)> {
         let number = mode.number;
         for function in [0x0C, 0x0D] {
-            let is_seldom = if mode.kind == Kind::Text {
-                self.is_seldom(number, refused(function, 0, Refusal::WrongKind))
+            let is_met_too_seldom_in_mode = if mode.kind == Kind::Text {
+                self.is_met_too_seldom_in_mode(number, refused(function, 0, Refusal::WrongKind))
             } else {
-                self.is_seldom(number, accepted(function, 0))
-                    || self.is_seldom(number, refused(function, 0, Refusal::Outside))
+                self.is_met_too_seldom_in_mode(number, accepted(function, 0))
+                    || self.is_met_too_seldom_in_mode(
+                        number,
+                        refused(function, 0, Refusal::Outside),
+                    )
                     || (mode.pages > 1
-                        && self.is_seldom(number, refused(function, 0, Refusal::BadPage)))
+                        && self.is_met_too_seldom_in_mode(
+                            number,
+                            refused(function, 0, Refusal::BadPage),
+                        ))
             };
-            if is_seldom {
+            if is_met_too_seldom_in_mode {
                 return Some((function, 0));
             }
         }
@@ -328,21 +334,21 @@ impl CallCounts {
     }
 
     /// The same of function 11, which graphics modes refuse.
-    fn seldom_glyphs_in(&self, mode: PlainMode) -> Option<(u8, u8)> {
+    fn glyph_call_met_too_seldom_in_mode(&self, mode: PlainMode) -> Option<(u8, u8)> {
         let number = mode.number;
         let is_text = mode.kind == Kind::Text;
         for part in GLYPH_PARTS {
-            let is_seldom = if is_text {
-                self.is_seldom(number, accepted(0x11, part))
+            let is_met_too_seldom_in_mode = if is_text {
+                self.is_met_too_seldom_in_mode(number, accepted(0x11, part))
             } else {
-                self.is_seldom(number, refused(0x11, part, Refusal::WrongKind))
+                self.is_met_too_seldom_in_mode(number, refused(0x11, part, Refusal::WrongKind))
             };
-            if is_seldom {
+            if is_met_too_seldom_in_mode {
                 return Some((0x11, part));
             }
         }
         for refusal in BLOCK_REFUSALS {
-            if is_text && self.is_seldom(number, refused(0x11, 0x10, refusal)) {
+            if is_text && self.is_met_too_seldom_in_mode(number, refused(0x11, 0x10, refusal)) {
                 return Some((0x11, 0x10));
             }
         }
@@ -350,15 +356,15 @@ impl CallCounts {
     }
 
     /// The same of text with characters of this height.
-    fn seldom_at(&self, mode: u8, height: u8) -> Option<(u8, u8)> {
-        self.seldom_accepted_at(mode, height)
-            .or(self.seldom_refused_at(mode, height))
+    fn call_met_too_seldom_at_height(&self, mode: u8, height: u8) -> Option<(u8, u8)> {
+        self.call_accepted_too_seldom_at_height(mode, height)
+            .or(self.call_refused_too_seldom_at_height(mode, height))
     }
 
     /// A function that was accepted too seldom in text with characters of this height.
-    fn seldom_accepted_at(&self, mode: u8, height: u8) -> Option<(u8, u8)> {
+    fn call_accepted_too_seldom_at_height(&self, mode: u8, height: u8) -> Option<(u8, u8)> {
         for (function, part) in ACCEPTED_AT_HEIGHT {
-            if self.is_seldom_at(mode, height, accepted(function, part)) {
+            if self.is_met_too_seldom_at_height(mode, height, accepted(function, part)) {
                 return Some((function, part));
             }
         }
@@ -367,9 +373,9 @@ impl CallCounts {
 
     /// A function that was refused too seldom for a reason that it has in text with characters of
     /// this height.
-    fn seldom_refused_at(&self, mode: u8, height: u8) -> Option<(u8, u8)> {
+    fn call_refused_too_seldom_at_height(&self, mode: u8, height: u8) -> Option<(u8, u8)> {
         for (function, part, refusal) in REFUSED_AT_HEIGHT {
-            if self.is_seldom_at(mode, height, refused(function, part, refusal)) {
+            if self.is_met_too_seldom_at_height(mode, height, refused(function, part, refusal)) {
                 return Some((function, part));
             }
         }
@@ -377,18 +383,16 @@ impl CallCounts {
     }
 
     /// The same of text with characters of each height.
-    fn seldom_at_heights(&self, mode: PlainMode) -> Option<(u8, u8)> {
+    fn call_met_too_seldom_at_some_height(&self, mode: PlainMode) -> Option<(u8, u8)> {
         if mode.kind != Kind::Text {
             return None;
         }
-        HEIGHTS
-            .iter()
-            .find_map(|height| self.seldom_at(mode.number, *height))
+        HEIGHTS.iter().find_map(|height| self.call_met_too_seldom_at_height(mode.number, *height))
     }
 
     /// The mode set of a mode, if it was accepted too seldom.
-    fn seldom_mode_set_in(&self, mode: PlainMode) -> Option<(u8, u8)> {
-        if self.is_seldom(mode.number, accepted(0x00, 0)) {
+    fn mode_set_accepted_too_seldom(&self, mode: PlainMode) -> Option<(u8, u8)> {
+        if self.is_met_too_seldom_in_mode(mode.number, accepted(0x00, 0)) {
             Some((0x00, 0))
         } else {
             None
@@ -397,27 +401,31 @@ impl CallCounts {
 
     /// The first function and subfunction that was not met often enough in each of its ways in each
     /// mode, among calls that set no mode and load no glyphs of text.
-    pub fn seldom_within_frames(&self) -> Option<(u8, u8)> {
-        MODES.iter().find_map(|mode| self.seldom_in(*mode))
+    pub fn call_met_too_seldom_within_frames(&self) -> Option<(u8, u8)> {
+        MODES
+            .iter()
+            .find_map(|mode| self.call_met_too_seldom_in_mode(*mode))
     }
 
     /// The first function and subfunction that was not met often enough in each of its ways in each
     /// mode.
-    pub fn seldom(&self) -> Option<(u8, u8)> {
-        MODES.iter().find_map(|mode| self.seldom_of_all_in(*mode))
+    pub fn call_met_too_seldom(&self) -> Option<(u8, u8)> {
+        MODES
+            .iter()
+            .find_map(|mode| self.any_call_met_too_seldom_in_mode(*mode))
     }
 
     /// The first function and subfunction that was not met often enough in each of its ways in this
     /// mode.
-    fn seldom_of_all_in(&self, mode: PlainMode) -> Option<(u8, u8)> {
-        self.seldom_mode_set_in(mode)
-            .or(self.seldom_in(mode))
-            .or(self.seldom_glyphs_in(mode))
-            .or(self.seldom_at_heights(mode))
+    fn any_call_met_too_seldom_in_mode(&self, mode: PlainMode) -> Option<(u8, u8)> {
+        self.mode_set_accepted_too_seldom(mode)
+            .or(self.call_met_too_seldom_in_mode(mode))
+            .or(self.glyph_call_met_too_seldom_in_mode(mode))
+            .or(self.call_met_too_seldom_at_some_height(mode))
     }
 
     /// Whether too few frames were drawn in a mode with characters of this height.
-    fn is_seldom_drawn(&self, mode: u8, height: u8) -> bool {
+    fn is_drawn_too_seldom(&self, mode: u8, height: u8) -> bool {
         let mut times = 0u32;
         for frame in self.drawn.iter() {
             if *frame == (mode, height) {
@@ -428,10 +436,10 @@ impl CallCounts {
     }
 
     /// The first text mode and height in which too few frames were drawn.
-    pub fn seldom_drawn(&self) -> Option<(u8, u8)> {
+    pub fn mode_and_height_drawn_too_seldom(&self) -> Option<(u8, u8)> {
         for mode in [0x03, 0x07] {
             for height in HEIGHTS {
-                if self.is_seldom_drawn(mode, height) {
+                if self.is_drawn_too_seldom(mode, height) {
                     return Some((mode, height));
                 }
             }

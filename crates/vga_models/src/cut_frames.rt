@@ -97,7 +97,7 @@ impl CutFrames<'_> {
 
     /// Takes both to the frame's end, and compares the pictures.
     fn frame_difference(&mut self) -> Result<Option<Difference>> {
-        let left = self.drawing.dots_left(self.pair.plain.mode);
+        let left = self.drawing.dots_left_of_frame(self.pair.plain.mode);
         self.pair.note_frame()?;
         self.drawing.take_dots(&mut self.pair.plain, left)?;
         let size = self.pair.plain.picture_size();
@@ -105,16 +105,19 @@ impl CutFrames<'_> {
     }
 
     /// Takes both to the next frame's first dot, by an advance or by a frame step.
-    fn end_difference(&mut self, random: &mut Pcg32) -> Result<Option<Difference>> {
+    fn difference_on_way_to_next_frame(
+        &mut self,
+        random: &mut Pcg32,
+    ) -> Result<Option<Difference>> {
         if is_one_in(random, 2) {
             return self.frame_difference();
         }
-        let left = self.drawing.dots_left(self.pair.plain.mode);
+        let left = self.drawing.dots_left_of_frame(self.pair.plain.mode);
         self.advance_difference(left)
     }
 
     /// Whether a call must wait for the first dot of a frame, since it sets a mode or loads glyphs.
-    fn waits(&self, call: &RandomCall, refusal: Option<Refusal>) -> bool {
+    fn must_wait_for_first_dot(&self, call: &RandomCall, refusal: Option<Refusal>) -> bool {
         let cuts_anew = matches!(high(call.regs.ax), 0x00 | 0x11);
         refusal.is_none() && cuts_anew && !self.drawing.is_at_first_dot()
     }
@@ -135,8 +138,8 @@ impl CutFrames<'_> {
         call: &RandomCall,
     ) -> Result<Option<Difference>> {
         let refusal = self.pair.plain.refusal(call.regs, call.block.as_slice());
-        if self.waits(call, refusal) {
-            let difference = self.end_difference(random)?;
+        if self.must_wait_for_first_dot(call, refusal) {
+            let difference = self.difference_on_way_to_next_frame(random)?;
             if difference.is_some() {
                 return Ok(difference);
             }
@@ -148,7 +151,7 @@ impl CutFrames<'_> {
     /// Makes the next advance.
     fn next_advance_difference(&mut self, random: &mut Pcg32) -> Result<Option<Difference>> {
         let mode = self.pair.plain.mode;
-        let dots = next_dots(random, mode, self.drawing.dots_left(mode));
+        let dots = next_dots(random, mode, self.drawing.dots_left_of_frame(mode));
         self.advance_difference(dots)
     }
 }
@@ -162,8 +165,11 @@ impl FrameScripts for CutFrames<'_> {
         self.pair.begin(beginning)
     }
 
-    fn begin_anew(&mut self, beginning: Beginning) -> Result<Option<Difference>> {
-        self.pair.begin_anew(beginning)
+    fn begin_anew_if_mode_has_changed(
+        &mut self,
+        beginning: Beginning,
+    ) -> Result<Option<Difference>> {
+        self.pair.begin_anew_if_mode_has_changed(beginning)
     }
 
     /// Makes the next call, sometimes after an advance.
@@ -179,16 +185,21 @@ impl FrameScripts for CutFrames<'_> {
     }
 
     fn end_frame(&mut self, number: u32) -> Result<Option<Difference>> {
-        let difference = self.pair.read_difference(number % FRAMES_TO_READ == 0)?;
+        let difference = self
+            .pair
+            .difference_of_text_or_wanted_screen(number % FRAMES_TO_READ == 0)?;
         if difference.is_some() {
             return Ok(difference);
         }
         self.frame_difference()
     }
 
-    fn seldom(&self) -> Option<Difference> {
-        let call = self.within.seldom_within_frames();
-        Difference::of_seldom(call, self.pair.counts.seldom_drawn())
+    fn call_met_too_seldom(&self) -> Option<Difference> {
+        let call = self.within.call_met_too_seldom_within_frames();
+        Difference::of_calls_met_too_seldom(
+            call,
+            self.pair.counts.mode_and_height_drawn_too_seldom(),
+        )
     }
 }
 

@@ -29,7 +29,10 @@ pub enum Difference {
 
 impl Difference {
     /// A call that was met too seldom; or else a mode with too few frames, if there is one.
-    pub fn of_seldom(call: Option<(u8, u8)>, frame: Option<(u8, u8)>) -> Option<Difference> {
+    pub fn of_calls_met_too_seldom(
+        call: Option<(u8, u8)>,
+        frame: Option<(u8, u8)>,
+    ) -> Option<Difference> {
         call.map(|(function, part)| Difference::Seldom(function, part))
             .or(frame.map(|(mode, height)| Difference::SeldomDrawn(mode, height)))
     }

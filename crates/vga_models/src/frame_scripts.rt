@@ -23,7 +23,10 @@ pub trait FrameScripts {
     fn begin(&mut self, beginning: Beginning) -> Result<Option<Difference>>;
 
     /// Begins a script anew on both, if the mode is no longer that of its beginning.
-    fn begin_anew(&mut self, beginning: Beginning) -> Result<Option<Difference>>;
+    fn begin_anew_if_mode_has_changed(
+        &mut self,
+        beginning: Beginning,
+    ) -> Result<Option<Difference>>;
 
     /// Makes the next call, with what comes before it.
     fn next_service(&mut self, random: &mut Pcg32) -> Result<Option<Difference>>;
@@ -32,7 +35,7 @@ pub trait FrameScripts {
     fn end_frame(&mut self, number: u32) -> Result<Option<Difference>>;
 
     /// What was met too seldom.
-    fn seldom(&self) -> Option<Difference>;
+    fn call_met_too_seldom(&self) -> Option<Difference>;
 
     /// Makes the calls of a frame.
     fn services(&mut self, random: &mut Pcg32) -> Result<Option<Difference>> {
@@ -61,7 +64,7 @@ pub trait FrameScripts {
         if difference.is_some() {
             return Ok(difference);
         }
-        self.begin_anew(beginning)
+        self.begin_anew_if_mode_has_changed(beginning)
     }
 
     /// Runs a script, which begins anew after each frame that ends in another mode.
@@ -98,6 +101,6 @@ pub trait FrameScripts {
                 return Ok(difference);
             }
         }
-        Ok(self.seldom())
+        Ok(self.call_met_too_seldom())
     }
 }

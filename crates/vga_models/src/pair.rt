@@ -116,7 +116,7 @@ impl Pair<'_> {
     }
 
     /// Makes a call on both that needs only AX.
-    fn short_difference(&mut self, ax: u16) -> Result<Option<Difference>> {
+    fn difference_of_call_with_only_ax(&mut self, ax: u16) -> Result<Option<Difference>> {
         let regs = Regs {
             ax,
             bx: 0,
@@ -129,15 +129,20 @@ impl Pair<'_> {
 
     /// Begins a script on both.
     pub fn begin(&mut self, beginning: Beginning) -> Result<Option<Difference>> {
-        let difference = self.short_difference(beginning.mode as u16)?;
+        let difference = self.difference_of_call_with_only_ax(beginning.mode as u16)?;
         match beginning.font {
-            Some(part) if difference.is_none() => self.short_difference(0x1100 + part as u16),
+            Some(part) if difference.is_none() => self.difference_of_call_with_only_ax(
+                0x1100 + part as u16,
+            ),
             _ => Ok(difference),
         }
     }
 
     /// Begins a script anew, if the mode is no longer that of its beginning.
-    pub fn begin_anew(&mut self, beginning: Beginning) -> Result<Option<Difference>> {
+    pub fn begin_anew_if_mode_has_changed(
+        &mut self,
+        beginning: Beginning,
+    ) -> Result<Option<Difference>> {
         if self.plain.mode.number == beginning.mode {
             return Ok(None);
         }
@@ -148,16 +153,16 @@ impl Pair<'_> {
 /// Reading and comparing screens.
 impl Pair<'_> {
     /// Reads the screen that the adapter shows; a graphics screen only if `is_read`.
-    pub fn read_difference(&self, is_read: bool) -> Result<Option<Difference>> {
+    pub fn difference_of_text_or_wanted_screen(&self, is_read: bool) -> Result<Option<Difference>> {
         if is_read || self.plain.is_text() {
-            self.shown_difference()
+            self.shown_screen_difference()
         } else {
             Ok(None)
         }
     }
 
     /// Reads the screen that the adapter shows.
-    fn shown_difference(&self) -> Result<Option<Difference>> {
+    fn shown_screen_difference(&self) -> Result<Option<Difference>> {
         let Some(screen) = Screen::read(self.alloc, &self.card, &self.bda)? else {
             return Ok(Some(Difference::Unshown));
         };

@@ -32,7 +32,7 @@ impl PlainDrawing {
     }
 
     /// How many dots are left of a frame of a mode.
-    pub fn dots_left(&self, mode: PlainMode) -> u32 {
+    pub fn dots_left_of_frame(&self, mode: PlainMode) -> u32 {
         mode.frame_dots().saturating_sub(self.dot)
     }
 
@@ -50,7 +50,7 @@ impl PlainDrawing {
     }
 
     /// Goes on to the next dot; after the last one, to the first of the next frame.
-    fn go_on(&mut self, screen: &mut PlainScreen<'_>) {
+    fn go_to_next_dot(&mut self, screen: &mut PlainScreen<'_>) {
         self.dot = self.dot.saturating_add(1);
         if self.dot >= screen.mode.frame_dots() {
             self.dot = 0;
@@ -74,7 +74,7 @@ impl PlainDrawing {
     fn take_dot(&mut self, screen: &mut PlainScreen<'_>) -> Result<(), AllocError> {
         self.begin_at_first_dot(screen.page);
         self.draw_dot(screen)?;
-        self.go_on(screen);
+        self.go_to_next_dot(screen);
         Ok(())
     }
 

@@ -212,7 +212,7 @@ pub fn with_height(mode: PlainMode, height: u8) -> Option<PlainMode> {
 }
 
 /// `v` if bit `i` of `n` is 1, otherwise 0.
-fn where_set(n: u8, i: u8, v: u8) -> u8
+fn value_if_bit_is_set(n: u8, i: u8, v: u8) -> u8
     requires { i < 8 }
     ensures { result ≤ v }
 {
@@ -224,25 +224,25 @@ fn where_set(n: u8, i: u8, v: u8) -> u8
 fn bright_colour(n: u8, bright: u8) -> [u8; 3]
     requires { bright < 8 }
 {
-    let more = where_set(n, bright, 0x15);
+    let more = value_if_bit_is_set(n, bright, 0x15);
     let green = if n & 7 == 6 && more == 0 {
         0x15
     } else {
-        where_set(n, 1, 0x2A)
+        value_if_bit_is_set(n, 1, 0x2A)
     };
     [
-        where_set(n, 2, 0x2A).saturating_add(more),
+        value_if_bit_is_set(n, 2, 0x2A).saturating_add(more),
         green.saturating_add(more),
-        where_set(n, 0, 0x2A).saturating_add(more),
+        value_if_bit_is_set(n, 0, 0x2A).saturating_add(more),
     ]
 }
 
 /// Red, green and blue by bits 2 to 0, each made brighter by one of bits 5 to 3.
-fn sixty_fourth_colour(n: u8) -> [u8; 3] {
+fn colour_of_64(n: u8) -> [u8; 3] {
     [
-        where_set(n, 2, 0x2A).saturating_add(where_set(n, 5, 0x15)),
-        where_set(n, 1, 0x2A).saturating_add(where_set(n, 4, 0x15)),
-        where_set(n, 0, 0x2A).saturating_add(where_set(n, 3, 0x15)),
+        value_if_bit_is_set(n, 2, 0x2A).saturating_add(value_if_bit_is_set(n, 5, 0x15)),
+        value_if_bit_is_set(n, 1, 0x2A).saturating_add(value_if_bit_is_set(n, 4, 0x15)),
+        value_if_bit_is_set(n, 0, 0x2A).saturating_add(value_if_bit_is_set(n, 3, 0x15)),
     ]
 }
 
@@ -251,7 +251,7 @@ fn monochrome_colour(n: u8) -> [u8; 3] {
     if (n >> 3) & 1 == 0 {
         [0; 3]
     } else {
-        [0x2A + where_set(n, 4, 0x15); 3]
+        [0x2A + value_if_bit_is_set(n, 4, 0x15); 3]
     }
 }
 
@@ -272,6 +272,6 @@ pub fn default_colour(mode: u8, n: u8) -> [u8; 3] {
         0x07 => monochrome_colour(n),
         0x0D => bright_colour(n, 4),
         0x13 => colour_of_256(n),
-        _ => sixty_fourth_colour(n),
+        _ => colour_of_64(n),
     }
 }

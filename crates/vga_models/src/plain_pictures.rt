@@ -93,7 +93,7 @@ impl PlainScreen<'_> {
     }
 
     /// Draws nine dots of a scan line of a cell.
-    fn draw_cell(
+    fn draw_scan_line_of_cell(
         &self,
         colours: &[[u8; 3]; 256],
         cell: ScannedCell,
@@ -124,7 +124,7 @@ impl PlainScreen<'_> {
                     is_cursor: self.cell_number(at) == cursor,
                     line,
                 };
-                self.draw_cell(colours, cell, bytes)?;
+                self.draw_scan_line_of_cell(colours, cell, bytes)?;
             }
         }
         Ok(())
@@ -153,7 +153,7 @@ impl PlainScreen<'_> {
     }
 
     /// Draws a line of pixels.
-    fn draw_pixels(
+    fn draw_line_of_pixels(
         &self,
         colours: &[[u8; 3]; 256],
         pixels: &Line,
@@ -188,7 +188,7 @@ impl PlainScreen<'_> {
     ) -> Result<(), AllocError> {
         for pixels in strip {
             for _ in 0..self.mode.lines {
-                self.draw_pixels(colours, pixels, bytes)?;
+                self.draw_line_of_pixels(colours, pixels, bytes)?;
             }
         }
         Ok(())
@@ -231,7 +231,7 @@ impl PlainScreen<'_> {
 /// Single dots.
 impl PlainScreen<'_> {
     /// The number of a cell, counted along the rows of all pages.
-    fn number_on(&self, page: u8, at: Place) -> u32 {
+    fn cell_number_among_all_pages(&self, page: u8, at: Place) -> u32 {
         self.mode.distance as u32 * page as u32 + self.cell_number(at)
     }
 
@@ -243,11 +243,11 @@ impl PlainScreen<'_> {
         let column = u8::try_from(x / 9).ok()?;
         let at = Place { row, column };
         let cell = self.cell(page, at)?;
-        let cursor = self.number_on(self.page, self.place(self.page));
+        let cursor = self.cell_number_among_all_pages(self.page, self.place(self.page));
         let cell = ScannedCell {
             character: cell.character,
             attribute: cell.attribute,
-            is_cursor: self.number_on(page, at) == cursor,
+            is_cursor: self.cell_number_among_all_pages(page, at) == cursor,
             line: (y % height).min(0xFF) as u8,
         };
         Some(self.cell_dot(cell, (x % 9) as u8))

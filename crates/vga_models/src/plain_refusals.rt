@@ -39,7 +39,7 @@ fn is_function(regs: Regs) -> bool {
 }
 
 /// Whether glyphs of the block are to be loaded, rather than those of a font.
-fn loads_block(regs: Regs) -> bool {
+fn loads_glyphs_of_caller(regs: Regs) -> bool {
     high(regs.ax) == 0x11 && low(regs.ax) == 0x10
 }
 
@@ -49,7 +49,7 @@ fn refused_where(is_met: bool, refusal: Refusal) -> Option<Refusal> {
 }
 
 /// How long a block must be, in bytes.
-fn wanted_length(regs: Regs) -> usize {
+fn wanted_block_length(regs: Regs) -> usize {
     let count = regs.cx as usize;
     match (high(regs.ax), low(regs.ax)) {
         (0x10, 0x02) => 17,
@@ -125,7 +125,7 @@ impl PlainScreen<'_> {
         let count = regs.cx as u32;
         match high(regs.ax) {
             0x09 | 0x0A => self.cell_number(place) + count > self.cells(),
-            0x11 => loads_block(regs) && regs.dx as u32 + count > 0x100,
+            0x11 => loads_glyphs_of_caller(regs) && regs.dx as u32 + count > 0x100,
             _ => false,
         }
     }
@@ -142,7 +142,7 @@ impl PlainScreen<'_> {
 
     /// Whether glyphs of the block are to be loaded for a height that characters cannot have.
     fn is_bad_height(&self, regs: Regs) -> bool {
-        loads_block(regs) && with_height(self.mode, high(regs.bx)).is_none()
+        loads_glyphs_of_caller(regs) && with_height(self.mode, high(regs.bx)).is_none()
     }
 
     /// Why a call of a function that exists is refused, if it is.
@@ -178,7 +178,7 @@ fn is_bad_block(regs: Regs, block: &[u8]) -> bool {
         (high(regs.ax), low(regs.ax)),
         (0x10, 0x02 | 0x12) | (0x11, 0x10) | (0x13, _)
     );
-    takes_block && block.len() != wanted_length(regs)
+    takes_block && block.len() != wanted_block_length(regs)
 }
 
 /// Whether the registers name a palette register or a DAC entry that does not exist, or blinking by

@@ -47,10 +47,10 @@ impl PlainScreen<'_> {
         match high(regs.ax) {
             0x00 => self.set_mode(low(regs.ax))?,
             0x01 => self.cursor_type = regs.cx,
-            0x02 => self.set_place(page, place_of(regs.dx)),
+            0x02 => self.set_cursor_place_on_page(page, place_of(regs.dx)),
             0x05 => self.page = low(regs.ax),
-            0x06 => self.move_window(regs, Way::Up)?,
-            0x07 => self.move_window(regs, Way::Down)?,
+            0x06 => self.scroll_rows_of_window(regs, Way::Up)?,
+            0x07 => self.scroll_rows_of_window(regs, Way::Down)?,
             0x09 => self.write_cells(regs, false),
             0x0A => self.write_cells(regs, true),
             0x0C => self.set_pixel(page, regs.cx, regs.dx, low(regs.ax)),
@@ -70,14 +70,14 @@ impl PlainScreen<'_> {
         Ok(())
     }
 
-    fn set_place(&mut self, page: u8, at: Place) {
+    fn set_cursor_place_on_page(&mut self, page: u8, at: Place) {
         if let Some(place) = self.places.get_mut(page as usize) {
             *place = at;
         }
     }
 
     /// Moves a window, which is cut to the page. A window without rows or columns changes nothing.
-    fn move_window(&mut self, regs: Regs, way: Way) -> Result<(), AllocError> {
+    fn scroll_rows_of_window(&mut self, regs: Regs, way: Way) -> Result<(), AllocError> {
         let first = place_of(regs.cx);
         let corner = place_of(regs.dx);
         let end = self.whole().last;
@@ -112,7 +112,7 @@ impl PlainScreen<'_> {
         let page = self.page;
         let at = self.place(page);
         let behind = self.typed(page, at, low(regs.ax), low(regs.bx), true)?;
-        self.set_place(page, behind);
+        self.set_cursor_place_on_page(page, behind);
         Ok(())
     }
 
@@ -131,7 +131,7 @@ impl PlainScreen<'_> {
             at = self.typed(page, at, code, colour, false)?;
         }
         if low(regs.ax) & 1 == 1 {
-            self.set_place(page, at);
+            self.set_cursor_place_on_page(page, at);
         }
         Ok(())
     }

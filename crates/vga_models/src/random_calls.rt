@@ -218,7 +218,7 @@ fn string_call(
 }
 
 /// An entry of the DAC: seldom one that does not exist.
-fn next_entry(random: &mut Pcg32) -> u16 {
+fn random_dac_entry_number(random: &mut Pcg32) -> u16 {
     match next_below(random, 8) {
         0 => 0x100,
         1 => (random.next_u32() >> 16) as u16,
@@ -240,7 +240,7 @@ fn colour_call(alloc: Global, random: &mut Pcg32) -> Result<RandomCall, AllocErr
     } else {
         next_below(random, 6) as u16
     };
-    let entry = next_entry(random);
+    let entry = random_dac_entry_number(random);
     let bx = match part {
         0x00 | 0x07 => word(next_byte(random), up_to(random, 0x0F)),
         0x03 => word(next_byte(random), up_to(random, 1)),

@@ -7,7 +7,7 @@ use std::alloc::{AllocError, Global};
 
 /// The number that a character's glyph is made from. Odd characters from 81 to FF have the glyphs
 /// of 01 to 7F.
-fn glyph_number(character: u8) -> u8 {
+fn number_that_glyph_is_made_from(character: u8) -> u8 {
     if character & 0x81 == 0x81 {
         character & 0x7F
     } else {
@@ -17,7 +17,7 @@ fn glyph_number(character: u8) -> u8 {
 
 /// Appends a glyph of `height` rows: pseudo-random dots, and no dots for characters 00 and 20.
 fn push_glyph(font: &mut Vec<u8>, character: u8, height: u8) -> Result<(), AllocError> {
-    let mut random = Pcg32::new(glyph_number(character) as u64, 5);
+    let mut random = Pcg32::new(number_that_glyph_is_made_from(character) as u64, 5);
     let is_empty = character & 0xDF == 0;
     for _ in 0..height {
         let dots = next_byte(&mut random);

@@ -58,8 +58,11 @@ impl FrameScripts for WholeFrames<'_> {
         self.pair.begin(beginning)
     }
 
-    fn begin_anew(&mut self, beginning: Beginning) -> Result<Option<Difference>> {
-        self.pair.begin_anew(beginning)
+    fn begin_anew_if_mode_has_changed(
+        &mut self,
+        beginning: Beginning,
+    ) -> Result<Option<Difference>> {
+        self.pair.begin_anew_if_mode_has_changed(beginning)
     }
 
     fn next_service(&mut self, random: &mut Pcg32) -> Result<Option<Difference>> {
@@ -72,12 +75,16 @@ impl FrameScripts for WholeFrames<'_> {
         if difference.is_some() {
             return Ok(difference);
         }
-        self.pair.read_difference(number % FRAMES_TO_READ == 0)
+        self.pair
+            .difference_of_text_or_wanted_screen(number % FRAMES_TO_READ == 0)
     }
 
-    fn seldom(&self) -> Option<Difference> {
+    fn call_met_too_seldom(&self) -> Option<Difference> {
         let counts = &self.pair.counts;
-        Difference::of_seldom(counts.seldom(), counts.seldom_drawn())
+        Difference::of_calls_met_too_seldom(
+            counts.call_met_too_seldom(),
+            counts.mode_and_height_drawn_too_seldom(),
+        )
     }
 }
 

@@ -6,7 +6,7 @@ use Rattle.vga_bits.specs.declared.refusal.Refusal.{Refusal}
 use Rattle.vga_card.specs.Card.{CardState}
 use Rattle.vga_card.specs.Bus.{Place, AtPort, AtAddress, card_meaning, card_write, card_read}
 use Rattle.vga_card.specs.Cycles.{WriteResult as CycleWritten, ReadResult as CycleAnswered}
-use Rattle.vga_card.specs.FreshCanvas.{without_unseen_dots}
+use Rattle.vga_card.specs.FreshCanvas.{without_dots_of_ended_frame}
 use Rattle.bios_modes.specs.Bda.{BiosData}
 use Rattle.bios_services.specs.declared.regs.Regs.{Regs}
 use Rattle.bios_services.specs.declared.reply.Reply.{Reply}
@@ -59,7 +59,7 @@ range_listed (Read place rest) s e =
     (now.0, (read_fits place now.1, later.1))
 
 -- a copy of an adapter has the same cycles
-cycles_fresh : {A : Type 0} (p : Plan A) (c : CardState) → cycles_of_plan p (without_unseen_dots c) ≡ cycles_of_plan p c
+cycles_fresh : {A : Type 0} (p : Plan A) (c : CardState) → cycles_of_plan p (without_dots_of_ended_frame c) ≡ cycles_of_plan p c
 cycles_fresh (Done a) c = refl
 cycles_fresh (Write place v rest) c =
     ap (λ (w : CycleWritten). write_step_of_place place v ∷ cycles_of_plan rest w.0) (write_fresh c place v)
@@ -73,7 +73,7 @@ cycles_fresh (Read place rest) c =
 
 -- an adapter's copy, before a call
 abbrev pub before : Machine → ℕ → ListingCard
-before m room = record { card = without_unseen_dots m.card; script = script_without_steps room; fits = true }
+before m room = record { card = without_dots_of_ended_frame m.card; script = script_without_steps room; fits = true }
 
 answer_same : (m : Machine) (regs : Regs) (block : List ℕ) (room : ℕ) → (run list_meaning (service m.fonts m.bda regs block) (before m room)).1
     ≡ (after_int10 m regs.ax regs.bx regs.cx regs.dx block).1

@@ -8,7 +8,7 @@ use Rattle.vga_crtc.specs.Raster.{IsFrameStart}
 use Rattle.vga_card.specs.Bounds.{IsCard}
 use Rattle.vga_card.specs.Card.{CardState, power_on_card}
 use Rattle.vga_card.specs.Cycles.{WriteResult}
-use Rattle.vga_card.specs.Dots.{dots, most_dots}
+use Rattle.vga_card.specs.Dots.{dots, most_dots_of_an_advance}
 use Rattle.vga_card.specs.Frames.{frame, card_dots_to_frame_end}
 use Rattle.vga_card.specs.Picture.{bytes_of_dots}
 use Rattle.bios_modes.specs.declared.modes.ModeRow.{ModeRow}
@@ -171,7 +171,7 @@ step_follows law fonts m b (Int ax bx cx dx block) glyphs (ha, hb, hc, hd, (shor
       };
     }
 step_follows law fonts m b (Advance count) glyphs range stays is =
-    let both = advanced law (nat_le count most_dots) fonts m b count is in
+    let both = advanced law (nat_le count most_dots_of_an_advance) fonts m b count is in
     record { answer = both.0; stands = both.1 }
 step_follows law fonts m b Frame glyphs range stays is =
     let f = law.frame_follows m.card m.bda b is.card is.follows in

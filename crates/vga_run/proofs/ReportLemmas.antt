@@ -32,7 +32,7 @@ use Rattle.bios_services.specs.Service.{CallOutcome, MayAnswer}
 use Rattle.bios_services.specs.Service.{service as asked_service}
 use Rattle.vga_run.specs.declared.answer.Answer.TheVariants.{Refused}
 use Rattle.vga_run.specs.Answer.{Short, Served, Picture, of_service, of_dump}
-use Rattle.vga_run.specs.Report.{picture_line, line, number_text, report_from}
+use Rattle.vga_run.specs.Report.{line_before_picture, line, number_text, report_from}
 
 -- no refusal has a name of more than 15 bytes
 pub name_is_short : (refusal : Refusal) → length (refusal_name refusal) ≤ 15
@@ -133,19 +133,19 @@ prefix_behind old mid new first second a (prefix, back, parts, more) =
 -- memory that runs out among some steps runs out among more
 stops_in_prefix : (old new : Option (List ℕ)) (machine : Machine) (n : ℕ) (steps others : List Step) → RunsOutOfMemoryIn machine n steps old new →
     RunsOutOfMemoryIn machine n (steps ++ others) old new
-stops_in_prefix old new machine n steps others (done, step, rest, parts, takes, a) =
-    (done, step, rest ++ others, ap (λ (l : List Step). l ++ others) parts ∙ append_assoc done (step ∷ rest) others, takes, a)
+stops_in_prefix old new machine n steps others (done, step, rest, parts, is_prefix_taken, a) =
+    (done, step, rest ++ others, ap (λ (l : List Step). l ++ others) parts ∙ append_assoc done (step ∷ rest) others, is_prefix_taken, a)
 
 -- and memory that runs out among the others does so after the first
 stops_behind : (old mid new : Option (List ℕ)) (machine : Machine) (n : ℕ) (steps others : List Step) → Appends old mid (report_from machine n steps)
     → RunsOutOfMemoryIn (after_steps machine steps) (n + length steps) others mid new → RunsOutOfMemoryIn machine n (steps ++ others) old new
-stops_behind old mid new machine n steps others a (done, step, rest, parts, takes, more) =
+stops_behind old mid new machine n steps others a (done, step, rest, parts, is_prefix_taken, more) =
     let next = after_steps machine steps in (
       steps ++ done,
       step,
       rest,
       ap (λ (l : List Step). steps ++ l) parts ∙ sym (append_assoc steps done (step ∷ rest)),
-      subst (λ (m : Machine). AllocatesMemory m step) (sym (state_joined machine steps done)) takes,
+      subst (λ (m : Machine). AllocatesMemory m step) (sym (state_joined machine steps done)) is_prefix_taken,
       subst (Appends old new) (sym (report_joined machine n steps done)) (Appends-trans old mid new (report_from machine n steps)
           (report_from next (n + length steps) done) a more),
     )
@@ -278,7 +278,7 @@ err_reported : (old mid new : Option (List ℕ)) (was failed : Bool) (e : Fault)
     → WritesStep mid new failed (Err e) machine (first + i) step → WritesReport old new failed (Err e) start first steps
 err_reported old mid new was failed e start machine first steps i d step h within is (inl (fails, bad, prefix)) =
     inl (fails, bad, reported_prefix old mid new was start machine first steps i d step h within is prefix)
-err_reported old mid new was failed e start machine first steps i d step h within is (inr (wants, sound, takes, same)) =
+err_reported old mid new was failed e start machine first steps i d step h within is (inr (wants, sound, is_prefix_taken, same)) =
     inr (
       wants,
       sound,
@@ -287,7 +287,7 @@ err_reported old mid new was failed e start machine first steps i d step h withi
         step,
         drop (i + 1) steps,
         steps_around steps i d step within is,
-        subst (λ (m : Machine). AllocatesMemory m step) h.state takes,
+        subst (λ (m : Machine). AllocatesMemory m step) h.state is_prefix_taken,
         subst (λ (contents : Option (List ℕ)). Appends old contents (report_from start first (take i steps))) (sym same) h.appended,
       ),
     )
@@ -330,17 +330,17 @@ first_in_range (s ∷ steps) (suc n) all = (all.0, first_in_range steps n all.1)
 
 -- after its line a call writes the picture of a step
 pub writes_picture : {U : Type 0} (old mid new : Option (List ℕ)) (failed : Bool) (result : Result U Fault) (n width height len : ℕ) (bytes : List ℕ)
-    → len ≡ length (ppm width height bytes) → Appends old mid (picture_line n len) → WritesWholeOrPrefix mid new failed result (ppm width height bytes ++ codes "\n")
+    → len ≡ length (ppm width height bytes) → Appends old mid (line_before_picture n len) → WritesWholeOrPrefix mid new failed result (ppm width height bytes ++ codes "\n")
     → WritesWholeOrPrefix old new failed result (line n (Picture width height bytes))
 unfolding line
 writes_picture {U} old mid new failed result n width height len bytes whole a w =
-    let head = subst (λ (k : ℕ). Appends old mid (picture_line n k)) whole a in
-    writes_after old mid new failed result (picture_line n (length (ppm width height bytes))) (ppm width height bytes ++ codes "\n") head w
+    let head = subst (λ (k : ℕ). Appends old mid (line_before_picture n k)) whole a in
+    writes_after old mid new failed result (line_before_picture n (length (ppm width height bytes))) (ppm width height bytes ++ codes "\n") head w
 
 -- a prefix of its line is a prefix of both
 pub prefix_of_picture : (old new : Option (List ℕ)) (n width height len : ℕ) (bytes : List ℕ)
-    → len ≡ length (ppm width height bytes) → AppendsPrefix old new (picture_line n len) → AppendsPrefix old new (line n (Picture width height bytes))
+    → len ≡ length (ppm width height bytes) → AppendsPrefix old new (line_before_picture n len) → AppendsPrefix old new (line n (Picture width height bytes))
 unfolding line
 prefix_of_picture old new n width height len bytes whole a =
-    let head = subst (λ (k : ℕ). AppendsPrefix old new (picture_line n k)) whole a in
-    prefix_of_more old new (picture_line n (length (ppm width height bytes))) (ppm width height bytes ++ codes "\n") head
+    let head = subst (λ (k : ℕ). AppendsPrefix old new (line_before_picture n k)) whole a in
+    prefix_of_more old new (line_before_picture n (length (ppm width height bytes))) (ppm width height bytes ++ codes "\n") head

@@ -2,7 +2,7 @@
 use Rattle.std.proofs.Common.{◌≡◌, ℕ, ◌+◌, ◌*◌, ◌/◌, ◌%◌, ◌≤◌, refl, sym, ap, ◌∙◌, subst, arith, List, ◌++◌, length, take, drop, length-append}
 use Rattle.std.proofs.lemmas.List.{take_at, drop_at}
 use Rattle.vga_card.specs.Saved.{saved_card, IsSavedCard, card_from}
-use Rattle.vga_card.specs.FreshCanvas.{without_unseen_dots}
+use Rattle.vga_card.specs.FreshCanvas.{without_dots_of_ended_frame}
 use Rattle.bios_modes.specs.Saved.{saved_bda, IsSavedBda, bda_from}
 use Rattle.vga_run.specs.declared.machine.Machine.{Machine}
 use Rattle.vga_run.specs.Saved.{saved_mark, four_bytes_of_number, number_of_four_bytes, saved_parts, saved_machine, past_header, past_bda, IsSavedMachine, machine_from}
@@ -68,7 +68,7 @@ module _ (m : Machine) (size : length (saved_bda m.bda) ≡ 31) (card : IsSavedC
     };
   }
 
-  pub machine_is_back : bda_from (saved_bda m.bda) ≡ m.bda → card_from (saved_card m.card) ≡ without_unseen_dots m.card
+  pub machine_is_back : bda_from (saved_bda m.bda) ≡ m.bda → card_from (saved_card m.card) ≡ without_dots_of_ended_frame m.card
       → machine_from m.fonts (saved_machine m) ≡ machine_without_unseen_dots m
   unfolding machine_from
   machine_is_back bios adapter =

@@ -47,7 +47,7 @@ use Rattle.vga_run.specs.Answer.{Served, of_service, of_shape}
 use Rattle.vga_run.specs.Step.{answer_to, after_step, after_int10}
 use Rattle.vga_run.specs.Report.{line, report_from, report_of}
 use Rattle.vga_run.specs.ScreenReport.{IsClearingModeSet, IsScreenReportCall, registers_of, IsScreenReportStep, AreScreenReportSteps, screen_after_mode_set, call_on_screen, answer_on_screen, screen_after}
-use Rattle.vga_run.specs.ScreenReport.{screen_report_from, mode_set_report, first_report, screen_report}
+use Rattle.vga_run.specs.ScreenReport.{screen_report_from, mode_set_report, report_that_begins_with_call, screen_report}
 
 -- the laws of the crates below
 pub record Laws : Type 0 where
@@ -257,7 +257,7 @@ reports_from law fonts m s n (step ∷ steps) glyphs range all is =
 first_reports : Laws → (call : Option Call) (fonts : FontSet) (ax bx cx dx : ℕ) (block : List ℕ) (steps : List Step) →
     call_of (registers_of ax bx cx dx) ≡ call → IsClearingModeSet call → dx < 65536 → AreFonts fonts
     → AreInRange steps → AllByRecursion IsScreenReportStep steps → report_of fonts (Int ax bx cx dx block ∷ steps)
-    ≡ first_report call fonts (registers_of ax bx cx dx) steps
+    ≡ report_that_begins_with_call call fonts (registers_of ax bx cx dx) steps
 unfolding answer_to after_int10
 first_reports law None fonts ax bx cx dx block steps e clears small glyphs range all = absurd clears
 first_reports law (Some (ReadTable asked_for)) fonts ax bx cx dx block steps e clears small glyphs range all = absurd clears

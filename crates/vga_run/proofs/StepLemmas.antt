@@ -6,7 +6,7 @@ use Rattle.vga_card.specs.declared.shape.Shape.{Shape}
 use Rattle.vga_card.specs.Card.{CardState}
 use Rattle.vga_card.specs.Cycles.{WriteResult, out_cycle, inp_cycle, put_cycle, get_cycle}
 use Rattle.vga_card.specs.WordCycles.{out_word_cycle, inp_word_cycle, put_word_cycle, get_word_cycle}
-use Rattle.vga_card.specs.Dots.{dots, most_dots}
+use Rattle.vga_card.specs.Dots.{dots, most_dots_of_an_advance}
 use Rattle.vga_card.specs.Frames.{frame}
 use Rattle.vga_card.specs.Picture.{picture_shape, bytes_of_dots}
 use Rattle.vga_script.specs.declared.step.Step.{Step}
@@ -103,6 +103,6 @@ refused_step law services m (Int ax bx cx dx block) refusal is =
     let asked : Regs = record { ax = ax; bx = bx; cx = cx; dx = dx } in
     refused_call m (run card_meaning (service m.fonts m.bda asked block) m.card) refusal (services m.fonts m.bda asked block m.card) is
 refused_step law services m (Advance count) refusal is = refused_write m (advance_cycle m.card count).0 (advance_cycle m.card count).1 refusal
-    (refused_advance (nat_le count most_dots) m.card (dots count m.card)) is
+    (refused_advance (nat_le count most_dots_of_an_advance) m.card (dots count m.card)) is
 refused_step law services m Frame refusal is = absurd (answered_frame (picture_shape (frame m.card).drawn) (bytes_of_dots (frame m.card).drawn) (Refused refusal) is)
 refused_step law services m (Show what) refusal is = refl

@@ -9,10 +9,10 @@ use Rattle.bios_services.specs.Calls.{call_of}
 use Rattle.vga_script.specs.declared.step.Step.{Step}
 use Rattle.vga_script.specs.declared.step.Step.TheVariants.{Int, Frame}
 use Rattle.vga_run.specs.ScreenReport.{IsClearingModeSet, IsScreenReportCall, registers_of, IsScreenReportStep, AreScreenReportSteps}
-use Rattle.bios_screen.specs.Drawing.{Drawing, dots_a_frame, take_frame, columns_of_row}
+use Rattle.bios_screen.specs.Drawing.{Drawing, total_dots_of_frame_in_mode, take_frame, columns_of_row}
 use Rattle.bios_screen.specs.Whole.{FrameEndsAtDotZero}
 use Rattle.vga_run.specs.DotReport.{drawing_after, power_on_drawing, IsDotReportCall, AllDotReportSteps, AreDotReportSteps}
-use Rattle.bios_modes.specs.Kinds.{is_text_kind, is_packed_kind, kind_of_row}
+use Rattle.bios_modes.specs.Kinds.{is_text_kind, is_kind_of_256_colours, kind_of_row}
 use Rattle.bios_modes.proofs.RowLemmas.{each_mode}
 use Rattle.bios_modes.specs.declared.modes.ModeRow.{ModeRow}
 use Rattle.bios_screen.specs.Picture.{pixel_lines_of_row}
@@ -23,16 +23,16 @@ use Rattle.bios_screen.specs.Picture.{pixel_lines_of_row}
 abbrev HasDots : Option ModeRow → Type 0
 HasDots row =
     0 < (if pixel_lines_of_row row == 480 then 525 else 449)
-    * (if is_text_kind (kind_of_row row) then 900 else 10 * ((if is_packed_kind (kind_of_row row) then 2 else 1) * columns_of_row row))
+    * (if is_text_kind (kind_of_row row) then 900 else 10 * ((if is_kind_of_256_colours (kind_of_row row) then 2 else 1) * columns_of_row row))
 
 -- a frame has dots, whatever the mode
-some_dots : (mode : ℕ) → 0 < dots_a_frame mode
-unfolding dots_a_frame
+some_dots : (mode : ℕ) → 0 < total_dots_of_frame_in_mode mode
+unfolding total_dots_of_frame_in_mode
 some_dots = each_mode (λ _ row. HasDots row) (omega arith) (omega arith) (omega arith) (omega arith) (omega arith) (omega arith) (λ _. omega arith)
 
 -- the law of the plain screen's frames
 abbrev pub FramesEnd : Type 0
-FramesEnd = (b : Drawing) → b.dot < dots_a_frame b.screen.mode → FrameEndsAtDotZero b
+FramesEnd = (b : Drawing) → b.dot < total_dots_of_frame_in_mode b.screen.mode → FrameEndsAtDotZero b
 
 stays_at : (b : Drawing) (len : ℕ) (call : Option Call) → b.dot ≡ 0 → IsScreenReportCall call → IsDotReportCall b len call
 stays_at b len None e stays = tt

@@ -5,7 +5,7 @@ use Rattle.std.specs.Prelude.{ℕ, ◌≡◌, ◌+◌, ◌⊎◌, nat_le, if◌t
 use Rattle.std.specs.Prelude.{Option, Some, None, Result}
 use Rattle.vga_bits.specs.declared.fault.Fault.{Fault}
 use Rattle.vga_bits.specs.declared.refusal.Refusal.TheVariants.{TooFar}
-use Rattle.vga_card.specs.Dots.{most_dots}
+use Rattle.vga_card.specs.Dots.{most_dots_of_an_advance}
 use Rattle.bios_modes.specs.Modes.{mode_row, colour_text}
 use Rattle.bios_modes.specs.Fonts.{FontSet}
 use Rattle.bios_services.specs.declared.call.Call.{Call}
@@ -28,7 +28,7 @@ unfoldable pub answer_on_drawing : FontSet → Drawing → Step → StepAnswer
 answer_on_drawing fonts b (Int ax bx cx dx block) = let r = registers_of ax bx cx dx in
     of_service (call_on_screen (call_of r) fonts r block b.screen).1
 answer_on_drawing fonts b (Advance count) =
-    Short (if nat_le count most_dots then Done else Refused TooFar)
+    Short (if nat_le count most_dots_of_an_advance then Done else Refused TooFar)
 answer_on_drawing fonts b Frame = Picture (picture_width b.screen) (picture_height b.screen)
     (take_frame b).picture
 answer_on_drawing fonts b step = Ragged
@@ -37,7 +37,7 @@ answer_on_drawing fonts b step = Ragged
 unfoldable pub drawing_after : FontSet → Drawing → Step → Drawing
 drawing_after fonts b (Int ax bx cx dx block) = let r = registers_of ax bx cx dx in
     record b { screen = (call_on_screen (call_of r) fonts r block b.screen).0 }
-drawing_after fonts b (Advance count) = if nat_le count most_dots then take_dots count b else b
+drawing_after fonts b (Advance count) = if nat_le count most_dots_of_an_advance then take_dots count b else b
 drawing_after fonts b Frame = take_frame b
 drawing_after fonts b step = b
 

@@ -48,8 +48,8 @@ pub record BeginsWithNumber (text : List ℕ) (prefix n : ℕ) : Type 0 where
   pub whole : prefix ≡ length (number_text n)
 
 -- the line of step n before a picture of `len` bytes
-unfoldable pub picture_line : ℕ → ℕ → List ℕ
-picture_line n len = decimal n ++ (codes " picture " ++ (decimal len ++ codes "\n"))
+unfoldable pub line_before_picture : ℕ → ℕ → List ℕ
+line_before_picture n len = decimal n ++ (codes " picture " ++ (decimal len ++ codes "\n"))
 
 -- the line of step n: its number in decimal, a blank, its answer, and a newline; a picture follows
 -- the line that gives its length, with a newline of its own, and a dump has its own lines
@@ -59,7 +59,7 @@ line n (Served regs table) = (number_text n ++ registers_text regs)
     ++ (table_text table ++ codes "\n")
 line n (Picture width height bytes) =
     let picture = ppm width height bytes in
-    picture_line n (length picture) ++ (picture ++ codes "\n")
+    line_before_picture n (length picture) ++ (picture ++ codes "\n")
 line n Ragged = decimal n ++ codes " ragged\n"
 line n (Dump text) = number_text n ++ text
 

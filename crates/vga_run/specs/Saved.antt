@@ -8,7 +8,7 @@ use Rattle.vga_bits.specs.declared.state_fault.StateFault.{StateFault}
 use Rattle.vga_bits.specs.declared.state_fault.StateFault.TheVariants.{BadMagic, BadVersion}
 use Rattle.vga_bits.specs.declared.state_fault.StateFault.TheVariants.{BadLength, BadPart}
 use Rattle.vga_card.specs.Saved.{saved_card, IsSavedCard, card_from}
-use Rattle.vga_card.specs.FreshCanvas.{without_unseen_dots}
+use Rattle.vga_card.specs.FreshCanvas.{without_dots_of_ended_frame}
 use Rattle.bios_modes.specs.Fonts.{FontSet}
 use Rattle.bios_modes.specs.Saved.{saved_bda, IsSavedBda, bda_from}
 use Rattle.vga_run.specs.declared.machine.Machine.{Machine}
@@ -87,4 +87,4 @@ machine_from fonts bytes = record {
 
 -- the machine without the dots that no step can see any more
 abbrev pub machine_without_unseen_dots : Machine → Machine
-machine_without_unseen_dots m = record m { card = without_unseen_dots m.card }
+machine_without_unseen_dots m = record m { card = without_dots_of_ended_frame m.card }

@@ -122,15 +122,15 @@ mode_set_report (Some row) mode fonts r steps = line 1 (Served r [])
     ++ screen_report_from fonts (fresh_screen mode row fonts.f16 0) 2 steps
 
 -- the report whose first step is this call, which must set a mode
-abbrev pub first_report : Option Call → FontSet → Regs → List Step → List ℕ
-first_report (Some (SetMode mode keeps)) fonts r steps =
+abbrev pub report_that_begins_with_call : Option Call → FontSet → Regs → List Step → List ℕ
+report_that_begins_with_call (Some (SetMode mode keeps)) fonts r steps =
     mode_set_report (mode_row mode) mode fonts r steps
-first_report call fonts r steps = []
+report_that_begins_with_call call fonts r steps = []
 
 -- the report of these steps; the first sets a mode
 abbrev pub screen_report : FontSet → List Step → List ℕ
 screen_report fonts (Int ax bx cx dx block ∷ steps) = let r = registers_of ax bx cx dx in
-    first_report (call_of r) fonts r steps
+    report_that_begins_with_call (call_of r) fonts r steps
 screen_report fonts steps = []
 
 -- ---- a run

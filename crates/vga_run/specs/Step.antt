@@ -9,7 +9,7 @@ use Rattle.vga_card.specs.Bus.{card_meaning}
 use Rattle.vga_card.specs.Cycles.{WriteResult, out_cycle, inp_cycle, put_cycle, get_cycle}
 use Rattle.vga_card.specs.WordCycles.{out_word_cycle, inp_word_cycle, put_word_cycle}
 use Rattle.vga_card.specs.WordCycles.{get_word_cycle}
-use Rattle.vga_card.specs.Dots.{dots, most_dots}
+use Rattle.vga_card.specs.Dots.{dots, most_dots_of_an_advance}
 use Rattle.vga_card.specs.Frames.{frame}
 use Rattle.bios_services.specs.Plan.{run}
 use Rattle.bios_services.specs.Calls.{call_of}
@@ -53,7 +53,7 @@ after_int10 m ax bx cx dx block = run card_meaning (service m.fonts m.bda
 
 -- an advance by `count` dots, which is refused if they are more than one step may take
 abbrev pub advance_cycle : CardState → ℕ → WriteResult
-advance_cycle card count = if nat_le count most_dots then (dots count card, Ok tt)
+advance_cycle card count = if nat_le count most_dots_of_an_advance then (dots count card, Ok tt)
     else (card, Err TooFar)
 
 -- a step that allocates on this machine, which only a call of interrupt 10 does

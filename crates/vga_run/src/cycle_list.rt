@@ -70,13 +70,13 @@ impl Bus for ListedCard {
 
 impl ListedCard {
     ghost use Rattle.std.specs.Prelude.{true};
-    ghost use Rattle.vga_card.specs.FreshCanvas.{without_unseen_dots};
+    ghost use Rattle.vga_card.specs.FreshCanvas.{without_dots_of_ended_frame};
     ghost use Rattle.vga_script.specs.ScriptBytes.{script_without_steps};
 
     /// A copy of an adapter without any cycle so far, and room for a script of `room` bytes.
     fn new(alloc: Global, card: &Card, room: usize) -> Result<ListedCard, Unlisted>
         ensures ok { IfOk result (λ c. c ≡ record {
-          card = without_unseen_dots card.now;
+          card = without_dots_of_ended_frame card.now;
           script = script_without_steps room;
           fits = true;
         }) }

@@ -5,7 +5,7 @@ ghost use Rattle.vga_run.specs.Answer.{Short};
 ghost use Rattle.vga_run.specs.Report.{line as line_of};
 
 use super::answer::Answer;
-use super::step_line::{Line, line_of_number, put_answer, put_number, write_text};
+use super::step_line::{Line, line_of_number, put_answer, replace_line_by_number, write_text};
 use std::io::Write;
 use std::marker::Model;
 use vga_bits::{Fault, Tracked};
@@ -69,7 +69,7 @@ impl NumberedLine {
             self.line.set(self.prefix - 3, tens + 1);
             self.line.set(self.prefix - 2, b'0');
         } else {
-            put_number(&mut self.line, self.number);
+            replace_line_by_number(&mut self.line, self.number);
             self.prefix = self.line.len();
         }
     }

@@ -13,7 +13,7 @@ ghost use Rattle.vga_script.specs.Step.{IsInRange, AreInRange};
 ghost use Rattle.vga_script.specs.declared.step.Step.TheVariants.{Int};
 ghost use Rattle.vga_script.specs.DumpRange.{IsShownInRange};
 ghost use Rattle.vga_run.specs.Report.{line as line_of};
-ghost use Rattle.vga_run.specs.Report.{picture_line as picture_line_of, closing_dumps};
+ghost use Rattle.vga_run.specs.Report.{line_before_picture as picture_line_of, closing_dumps};
 ghost use Rattle.vga_show.specs.Ppm.{ppm};
 ghost use Rattle.bios_modes.specs.Valid.{IsValid};
 
@@ -34,8 +34,8 @@ use vga_show::{
 };
 
 /// The line of step n before a picture of `length` bytes.
-#[tactic(auto, unfolding(crate::specs::Report::picture_line, crate::specs::Report::number_text))]
-fn picture_line(n: usize, length: u32) -> Line
+#[tactic(auto, unfolding(crate::specs::Report::line_before_picture, crate::specs::Report::number_text))]
+fn line_before_picture(n: usize, length: u32) -> Line
     ensures { result ≡ picture_line_of n length }
 {
     let mut line = line_of_number(n);
@@ -47,7 +47,7 @@ fn picture_line(n: usize, length: u32) -> Line
 
 /// Writes a picture of `width` by `height` dots, and a newline.
 #[tactic(auto, using(vga_bits::proofs::WritingLemmas::writes_after, vga_bits::proofs::WritingLemmas::prefix_of_more))]
-fn write_ppm_line<W: Write>(
+fn write_ppm_and_newline<W: Write>(
     out: &mut Tracked<W>,
     width: u32,
     height: u32,
@@ -76,9 +76,9 @@ fn write_picture<W: Write>(
     ensures { WritesWholeOrPrefix (W.contents (inner_of out.old)) (W.contents (inner_of out.new))
         (has_failed out.new) result (line_of n (Picture width height bytes.now)) }
 {
-    let line = picture_line(n, ppm_length(width, height));
+    let line = line_before_picture(n, ppm_length(width, height));
     write_whole(out, line.as_slice())?;
-    write_ppm_line(out, width, height, bytes)
+    write_ppm_and_newline(out, width, height, bytes)
 }
 
 /// Writes the line of step n for a ragged frame.

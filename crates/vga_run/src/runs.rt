@@ -15,7 +15,7 @@ ghost use Rattle.vga_run.specs.ScreenReport.{AreScreenReportSteps, WritesScreenR
 ghost use Rattle.vga_run.specs.ScreenReport.{RunWritesScreenReport};
 
 use super::machine::Machine;
-use super::screens::{bytes_fit, run_writes_dot_report, run_writes_screen_report};
+use super::screens::{bytes_are_below_256, run_writes_dot_report, run_writes_screen_report};
 use bios_modes::Fonts;
 use std::alloc::Global;
 use std::io::{Read, Write};
@@ -82,7 +82,7 @@ pub fn run<R: Read, W: Write>(
     steps_are_in_range();
     run_writes_screen_report();
     run_writes_dot_report();
-    bytes_fit(fonts);
+    bytes_are_below_256(fonts);
     let fonts = Fonts::from_bytes(alloc, fonts)?; // Nothing is read before.
     let bytes = read_script(alloc, script)?;
     run_bytes_with_fonts(alloc, bytes.as_slice(), fonts, out, until)
@@ -122,7 +122,7 @@ pub fn run_bytes<W: Write>(
     steps_are_in_range();
     run_writes_screen_report();
     run_writes_dot_report();
-    bytes_fit(fonts);
+    bytes_are_below_256(fonts);
     let fonts = Fonts::from_bytes(alloc, fonts)?; // Nothing is decoded before.
     run_bytes_with_fonts(alloc, script, fonts, out, until)
 }
@@ -207,7 +207,7 @@ pub fn run_script<W: Write>(
 {
     run_writes_screen_report();
     run_writes_dot_report();
-    bytes_fit(fonts);
+    bytes_are_below_256(fonts);
     let steps = script.steps();
     let fonts = Fonts::from_bytes(alloc, fonts)?;
     run_steps_with_fonts(alloc, steps, fonts, out, until)

@@ -12,7 +12,7 @@ use bios_screen::any_dot::{calls_follow_screens, dots_follow_screens, frames_are
 use bios_screen::frames::frame_draws_screen;
 use bios_screen::laws::{calls_lead_to_screens, mode_set_shows_fresh_screen};
 use bios_services::laws::calls_keep_bounds;
-use vga_card::laws::bounds_stay;
+use vga_card::laws::cycles_and_dots_keep_bounds;
 
 /// The steps are BIOS calls and whole frames, and the first is a mode set that clears the memory.
 /// Their report is the plain screen's.
@@ -21,7 +21,7 @@ pub fn run_writes_screen_report()
         AreScreenReportSteps steps →
         report_of fonts steps ≡ screen_report fonts steps }
 {
-    bounds_stay();
+    cycles_and_dots_keep_bounds();
     calls_keep_bounds();
     calls_lead_to_screens();
     mode_set_shows_fresh_screen();
@@ -37,7 +37,7 @@ pub fn run_writes_dot_report()
         AreDotReportSteps fonts steps →
         report_of fonts steps ≡ dot_report fonts steps }
 {
-    bounds_stay();
+    cycles_and_dots_keep_bounds();
     calls_keep_bounds();
     calls_lead_to_screens();
     mode_set_shows_fresh_screen();
@@ -60,7 +60,7 @@ pub fn screen_report_is_dot_report()
 }
 
 /// The bytes of a file are below 256.
-pub(crate) fn bytes_fit(file: &[u8])
+pub(crate) fn bytes_are_below_256(file: &[u8])
     ensures { AreBytes file.now }
 {
     let _ = file;

@@ -63,7 +63,7 @@ pub(crate) fn put_answer(line: &mut Line, prefix: usize, answer: Answer)
 
 /// Replaces a line by the number of a step and a blank.
 #[tactic(auto, unfolding(crate::specs::Report::number_text))]
-pub(crate) fn put_number(line: &mut Line, n: usize)
+pub(crate) fn replace_line_by_number(line: &mut Line, n: usize)
     ensures items { line.new ≡ number_text n }
     ensures len { length line.new ≤ 21 }
 {
@@ -78,7 +78,7 @@ pub(crate) fn line_of_number(n: usize) -> Line
     ensures len { length result ≤ 21 }
 {
     let mut line = Line::new();
-    put_number(&mut line, n);
+    replace_line_by_number(&mut line, n);
     line
 }
 

@@ -13,10 +13,10 @@ use Rattle.vga_script.specs.declared.version.Version.TheVariants.{One}
 use Rattle.vga_script.specs.Version.{AllowsRepeats, version_byte}
 use Rattle.byteorder.specs.Endian.{little_bytes}
 use Rattle.vga_script.specs.Spelling.{magic, opcode_repeat, opcode_end, header, spelling, item_spelling, encoding}
-use Rattle.vga_script.specs.Tokens.{lines, lines_of_rest, rest_len, words}
-use Rattle.vga_script.specs.Text.{SpellsLine, SpellsLines, SpellsRepeat, IsRepeatEndLine, IsVersionTwo, LineGroup, IsLineGroup, SpellsGroups, SaysVersionTwo, ItemsBeginAtLine}
-use Rattle.vga_script.specs.Text.{SpellsText, IsBadLineOutsideRepeats, IsBadLineInRepeat, StandsInRepeatLines, IsGroupFault, IsBadLine, IsLineFault}
-use Rattle.vga_script.specs.Assembling.{BeginsWithRepeatBody, IsBodyFault, BeginsWithGroup, IsFirstGroupFault, AppendsLine, AppendsBody, AppendsRepeat, AppendsGroup}
+use Rattle.vga_script.specs.Tokens.{lines, lines_of_rest, rest_len_with_one_for_its_end, words}
+use Rattle.vga_script.specs.Text.{SpellsLine, SpellsLines, SpellsBeginningOfRepeat, IsRepeatEndLine, IsVersionTwo, LineGroup, IsLineGroup, SpellsGroups, SaysVersionTwo, ItemsBeginAtLine}
+use Rattle.vga_script.specs.Text.{SpellsText, IsBadLineOutsideRepeats, IsBadLineInRepeat, StandsInRepeatLines, IsGroupFault, IsFirstBadLine, IsFaultOfFirstBadLine}
+use Rattle.vga_script.specs.Assembling.{BeginsWithRepeatBody, IsRepeatBodyFault, BeginsWithGroup, IsFirstGroupFault, AppendsLine, AppendsRepeatBody, AppendsRepeat, AppendsGroup}
 use Rattle.vga_script.proofs.ItemLemmas.{length-expanded-append, steps_of_repeat}
 
 -- a test that failed did not pass
@@ -28,7 +28,7 @@ pub beyond : (n most : ℕ) (b : Bool) → b ≡ false → (n ≤ most → b ≡
 beyond n most b is fits = lt_of_not-le (λ h. never b is (fits h))
 
 -- what follows a line is shorter than the text
-pub left_shorter : (left : Option (Bor (List ℕ))) (len : ℕ) → IfSome left (λ rest. length rest.now < len) → rest_len (option_copied left) ≤ len
+pub left_shorter : (left : Option (Bor (List ℕ))) (len : ℕ) → IfSome left (λ rest. length rest.now < len) → rest_len_with_one_for_its_end (option_copied left) ≤ len
 left_shorter None len h = omega arith
 left_shorter (Some rest) len h = omega arith
 
@@ -47,7 +47,7 @@ pub record HasReadBody (start : Option (List ℕ)) (first : ℕ) (steps : List S
   pub good : SpellsLines body steps
   pub whole : lines_of_rest start ≡ body ++ lines_of_rest left
   pub number : n ≡ first + length body + 1
-  pub shorter : n + rest_len left ≤ first + 1 + rest_len start
+  pub shorter : n + rest_len_with_one_for_its_end left ≤ first + 1 + rest_len_with_one_for_its_end start
 
 -- no line is read
 steps_begins : (start : Option (List ℕ)) (first : ℕ) → HasReadBody start first [] (first + 1) start
@@ -55,7 +55,7 @@ steps_begins start first = record { body = []; good = refl; whole = refl; number
 
 -- one more line of a step, or of no word
 steps_more : (start others : Option (List ℕ)) (rest line : List ℕ) (first n : ℕ) (steps here : List Step) → HasReadBody start first steps n (Some rest) →
-    lines rest ≡ line ∷ lines_of_rest others → rest_len others ≤ length rest
+    lines rest ≡ line ∷ lines_of_rest others → rest_len_with_one_for_its_end others ≤ length rest
     → SpellsLine (words line) here → HasReadBody start first (steps ++ here) (n + 1) others
 steps_more start others rest line first n steps here h e shorter is = record {
   body = h.body ++ line ∷ [];
@@ -67,7 +67,7 @@ steps_more start others rest line first n steps here h e shorter is = record {
 
 -- the line of its end
 steps_ends : (start others : Option (List ℕ)) (rest line : List ℕ) (first n : ℕ) (steps : List Step) → HasReadBody start first steps n (Some rest) →
-    lines rest ≡ line ∷ lines_of_rest others → rest_len others ≤ length rest
+    lines rest ≡ line ∷ lines_of_rest others → rest_len_with_one_for_its_end others ≤ length rest
     → IsRepeatEndLine (words line) → BeginsWithRepeatBody (first + 1) start steps (n + 1) others
 steps_ends start others rest line first n steps h e shorter is = record {
   body = h.body;
@@ -81,13 +81,13 @@ steps_ends start others rest line first n steps h e shorter is = record {
 
 -- a bad line
 steps_bad : (start others : Option (List ℕ)) (rest line : List ℕ) (first n : ℕ) (steps : List Step) → HasReadBody start first steps n (Some rest) →
-    lines rest ≡ line ∷ lines_of_rest others → IsBadLineInRepeat line → IsBodyFault first start (fault.BadLine n)
+    lines rest ≡ line ∷ lines_of_rest others → IsBadLineInRepeat line → IsRepeatBodyFault first start (fault.BadLine n)
 steps_bad start others rest line first n steps h e bad =
     let c = h.number in
     inr (h.body, steps, line, lines_of_rest others, omega arith, h.whole ∙ ap (λ (l : List (List ℕ)). h.body ++ l) e, h.good, bad)
 
 -- no line is left
-steps_open : (start : Option (List ℕ)) (first n : ℕ) (steps : List Step) → HasReadBody start first steps n None → IsBodyFault first start (fault.BadLine first)
+steps_open : (start : Option (List ℕ)) (first n : ℕ) (steps : List Step) → HasReadBody start first steps n None → IsRepeatBodyFault first start (fault.BadLine first)
 steps_open start first n steps h = inl (refl, (steps, subst (λ (l : List (List ℕ)). SpellsLines l steps) (sym (h.whole ∙ append-nil h.body)) h.good))
 
 -- and their bytes stand at the end
@@ -102,7 +102,7 @@ pub body_begins : (start : Option (List ℕ)) (before : List ℕ) (first : ℕ) 
 body_begins start before first = record { steps = []; read = steps_begins start first; count = refl; few = omega arith; bytes = sym (append-nil before) }
 
 pub body_more : (start others : Option (List ℕ)) (before now new rest line : List ℕ) (first len more n : ℕ) →
-    HasAppendedBody start before first len n (Some rest) now → lines rest ≡ line ∷ lines_of_rest others → rest_len others ≤ length rest
+    HasAppendedBody start before first len n (Some rest) now → lines rest ≡ line ∷ lines_of_rest others → rest_len_with_one_for_its_end others ≤ length rest
     → AppendsLine line now new more → HasAppendedBody start before first (len + more) (n + 1) others new
 body_more start others before now new rest line first len more n h e shorter a = record {
   steps = h.steps ++ a.steps;
@@ -114,8 +114,8 @@ body_more start others before now new rest line first len more n h e shorter a =
 }
 
 pub body_ends : (start others : Option (List ℕ)) (before now rest line : List ℕ) (first len n : ℕ) → HasAppendedBody start before first len n (Some rest) now →
-    lines rest ≡ line ∷ lines_of_rest others → rest_len others ≤ length rest
-    → IsRepeatEndLine (words line) → AppendsBody (first + 1) start before now len (n + 1) others
+    lines rest ≡ line ∷ lines_of_rest others → rest_len_with_one_for_its_end others ≤ length rest
+    → IsRepeatEndLine (words line) → AppendsRepeatBody (first + 1) start before now len (n + 1) others
 body_ends start others before now rest line first len n h e shorter is = record {
   steps = h.steps;
   body = steps_ends start others rest line first n h.steps h.read e shorter is;
@@ -125,17 +125,17 @@ body_ends start others before now rest line first len n h e shorter is = record 
 }
 
 pub body_bad : (start others : Option (List ℕ)) (before now rest line : List ℕ) (first len n : ℕ) → HasAppendedBody start before first len n (Some rest) now →
-    lines rest ≡ line ∷ lines_of_rest others → IsBadLineInRepeat line → IsBodyFault first start (fault.BadLine n)
+    lines rest ≡ line ∷ lines_of_rest others → IsBadLineInRepeat line → IsRepeatBodyFault first start (fault.BadLine n)
 body_bad start others before now rest line first len n h e bad = steps_bad start others rest line first n h.steps h.read e bad
 
 pub body_open : (start : Option (List ℕ)) (before now : List ℕ) (first len n : ℕ) → HasAppendedBody start before first len n None now →
-    IsBodyFault first start (fault.BadLine first)
+    IsRepeatBodyFault first start (fault.BadLine first)
 body_open start before now first len n h = steps_open start first n h.steps h.read
 
 -- a repeat with its opcodes and its count
 pub repeat_appended : (n : ℕ) (left behind : Option (List ℕ)) (count len next : ℕ) (before marked counted full after : List ℕ) → marked ≡ before
     ++ opcode_repeat ∷ [] → counted ≡ marked ++ little_bytes 2 count
-    → AppendsBody n left counted full len next behind → after ≡ full ++ opcode_end ∷ [] → AppendsRepeat n left count before after (count * len) next behind
+    → AppendsRepeatBody n left counted full len next behind → after ≡ full ++ opcode_end ∷ [] → AppendsRepeat n left count before after (count * len) next behind
 repeat_appended n left behind count len next before marked counted full after m c a e =
     let steps = flat_map spelling a.steps in
     let field = little_bytes 2 count in
@@ -152,9 +152,9 @@ repeat_appended n left behind count len next before marked counted full after m 
 -- ---- a group
 
 -- the steps of a line as items
-meant : (steps : List Step) → length steps ≡ length (expanded (map Once steps))
-meant [] = refl
-meant (s ∷ steps) = let m = meant steps in omega arith
+step_count_meant : (steps : List Step) → length steps ≡ length (expanded (map Once steps))
+step_count_meant [] = refl
+step_count_meant (s ∷ steps) = let m = step_count_meant steps in omega arith
 
 spelled : (steps : List Step) → flat_map spelling steps ≡ flat_map item_spelling (map Once steps)
 spelled [] = refl
@@ -172,13 +172,13 @@ group_of_line version n text line before after others len e a = record {
     whole = e;
     number = refl;
   };
-  means = a.count ∙ meant a.steps;
+  means = a.count ∙ step_count_meant a.steps;
   bytes = a.bytes ∙ ap (λ (l : List ℕ). before ++ l) (spelled a.steps);
 }
 
 -- a repeat
 pub group_of_repeat : (version : Version) (n : ℕ) (text line before after : List ℕ) (others behind : Option (List ℕ)) (count len next : ℕ) →
-    AllowsRepeats version → lines text ≡ line ∷ lines_of_rest others → SpellsRepeat (words line) count
+    AllowsRepeats version → lines text ≡ line ∷ lines_of_rest others → SpellsBeginningOfRepeat (words line) count
     → AppendsRepeat (n + 1) others count before after len next behind → AppendsGroup version n (lines text) before after len next behind
 group_of_repeat version n text line before after others behind count len next allowed e begins a =
     let h = a.body in
@@ -206,8 +206,8 @@ repeat_open : (version : Version) (n place : ℕ) (ls : List (List ℕ)) → Sta
 repeat_open version n place ls h so_far = inr (inr (inl (refl, (place, h))))
 
 pub repeat_bad : (version : Version) (n : ℕ) (text line : List ℕ) (others : Option (List ℕ)) (count : ℕ) (f : Fault) → AllowsRepeats version →
-    lines text ≡ line ∷ lines_of_rest others → SpellsRepeat (words line) count
-    → IsBodyFault n others f → IsFirstGroupFault version n (lines text) f
+    lines text ≡ line ∷ lines_of_rest others → SpellsBeginningOfRepeat (words line) count
+    → IsRepeatBodyFault n others f → IsFirstGroupFault version n (lines text) f
 repeat_bad version n text line others count (fault.BadLine bad) allowed e begins (inl (is, (steps, good))) = λ so_far.
     inr (inr (inl (
       is,
@@ -249,15 +249,15 @@ repeat_bad version n text line others count _ allowed e begins h = absurd h
 
 -- or memory ran out
 pub group_fault : (version : Version) (n : ℕ) (text line : List ℕ) (others : Option (List ℕ)) (count : ℕ) (f : Fault) → AllowsRepeats version →
-    lines text ≡ line ∷ lines_of_rest others → SpellsRepeat (words line) count
-    → (f ≡ fault.OutOfMemory) ⊎ IsBodyFault n others f → (f ≡ fault.OutOfMemory) ⊎ IsFirstGroupFault version n (lines text) f
+    lines text ≡ line ∷ lines_of_rest others → SpellsBeginningOfRepeat (words line) count
+    → (f ≡ fault.OutOfMemory) ⊎ IsRepeatBodyFault n others f → (f ≡ fault.OutOfMemory) ⊎ IsFirstGroupFault version n (lines text) f
 group_fault version n text line others count f allowed e begins (inl memory) = inl memory
 group_fault version n text line others count f allowed e begins (inr h) = inr (repeat_bad version n text line others count f allowed e begins h)
 
 -- and where it has one
 pub group_faults : {A : Type 0} (version : Version) (n : ℕ) (text line : List ℕ) (others : Option (List ℕ)) (count : ℕ) (r : Result A Fault) →
-    AllowsRepeats version → lines text ≡ line ∷ lines_of_rest others → SpellsRepeat (words line) count
-    → IfErr r (λ f. (f ≡ fault.OutOfMemory) ⊎ IsBodyFault n others f) → IfErr r (λ f. (f ≡ fault.OutOfMemory) ⊎ IsFirstGroupFault version n (lines text) f)
+    AllowsRepeats version → lines text ≡ line ∷ lines_of_rest others → SpellsBeginningOfRepeat (words line) count
+    → IfErr r (λ f. (f ≡ fault.OutOfMemory) ⊎ IsRepeatBodyFault n others f) → IfErr r (λ f. (f ≡ fault.OutOfMemory) ⊎ IsFirstGroupFault version n (lines text) f)
 group_faults version n text line others count (Ok x) allowed e begins h = tt
 group_faults version n text line others count (Err f) allowed e begins h = group_fault version n text line others count f allowed e begins h
 
@@ -269,7 +269,7 @@ pub record HasBlank (text : List ℕ) (n : ℕ) (left : Option (List ℕ)) : Typ
   pub blank : AllByRecursion (λ line. words line ≡ []) before
   pub whole : lines text ≡ before ++ lines_of_rest left
   pub number : n ≡ length before + 1
-  pub shorter : n + rest_len left ≤ length text + 2
+  pub shorter : n + rest_len_with_one_for_its_end left ≤ length text + 2
 
 pub blank_none : (text : List ℕ) → HasBlank text 1 (Some text)
 blank_none text = record { before = []; blank = tt; whole = refl; number = refl; shorter = omega arith }
@@ -279,7 +279,7 @@ all_push [] line all none = (none, tt)
 all_push (l ∷ ls) line (first, all) none = (first, all_push ls line all none)
 
 pub blank_more : (text rest line : List ℕ) (others : Option (List ℕ)) (n : ℕ) → HasBlank text n (Some rest) → lines rest ≡ line ∷ lines_of_rest others →
-    rest_len others ≤ length rest → words line ≡ [] → HasBlank text (n + 1) others
+    rest_len_with_one_for_its_end others ≤ length rest → words line ≡ [] → HasBlank text (n + 1) others
 blank_more text rest line others n h e shorter none = record {
   before = h.before ++ line ∷ [];
   blank = all_push h.before line h.blank none;
@@ -366,12 +366,12 @@ pub record HasRead (text : List ℕ) (version : Version) (items : List Item) (so
   pub number : n ≡ start + length prefix
   pub count : so_far ≡ length (expanded items)
   pub few : so_far ≤ step_limit
-  pub short : n + rest_len left ≤ length text + 2
+  pub short : n + rest_len_with_one_for_its_end left ≤ length text + 2
 
 -- no line is read
 pub read_none : (text : List ℕ) (version : Version) (n : ℕ) (left : Option (List ℕ)) → ItemsBeginAtLine version (lines text) n (lines_of_rest left) →
     (version ≡ One → (m : ℕ) (others : List (List ℕ)) → SaysVersionTwo (lines text) m others → ⊥)
-    → n + rest_len left ≤ length text + 2 → HasRead text version [] 0 n left
+    → n + rest_len_with_one_for_its_end left ≤ length text + 2 → HasRead text version [] 0 n left
 read_none text version n left from one short = record {
   start = n;
   rest = lines_of_rest left;
@@ -389,7 +389,7 @@ read_none text version n left from one short = record {
 -- one more group is
 pub read_more : (text rest : List ℕ) (version : Version) (items here : List Item) (so_far more n next : ℕ) (behind : Option (List ℕ)) →
     HasRead text version items so_far n (Some rest) → BeginsWithGroup version n (lines rest) here next behind
-    → more ≡ so_far + length (expanded here) → more ≤ step_limit → next + rest_len behind ≤ n + (length rest + 1) →
+    → more ≡ so_far + length (expanded here) → more ≤ step_limit → next + rest_len_with_one_for_its_end behind ≤ n + (length rest + 1) →
     HasRead text version (items ++ here) more next behind
 read_more text rest version items here so_far more n next behind h g sum few shorter =
     let lens = length-append h.prefix g.group.lines in
@@ -423,7 +423,7 @@ read_all text version items so_far n h =
 
 -- the fault of the next group is that of the text
 bad_line : (text rest : List ℕ) (version : Version) (items : List Item) (so_far n bad : ℕ) → HasRead text version items so_far n (Some rest) →
-    IsGroupFault version so_far n (lines rest) bad → IsBadLine text bad
+    IsGroupFault version so_far n (lines rest) bad → IsFirstBadLine text bad
 bad_line text rest version items so_far n bad h wrong =
     let count = h.count in
     let few = h.few in (
@@ -445,23 +445,23 @@ bad_line text rest version items so_far n bad h wrong =
     )
 
 pub read_bad : (text rest : List ℕ) (version : Version) (items : List Item) (so_far n : ℕ) (f : Fault) → HasRead text version items so_far n (Some rest) →
-    IsFirstGroupFault version n (lines rest) f → IsLineFault text f
+    IsFirstGroupFault version n (lines rest) f → IsFaultOfFirstBadLine text f
 read_bad text rest version items so_far n (fault.BadLine bad) h wrong = bad_line text rest version items so_far n bad h (wrong so_far)
 read_bad text rest version items so_far n _ h wrong = absurd wrong
 
 -- with the next group there are too many steps
 pub read_too_many : (text rest : List ℕ) (version : Version) (items here : List Item) (so_far n next : ℕ) (behind : Option (List ℕ)) (f : Fault) →
     HasRead text version items so_far n (Some rest) → BeginsWithGroup version n (lines rest) here next behind
-    → f ≡ fault.BadLine n → step_limit < so_far + length (expanded here) → IsLineFault text f
+    → f ≡ fault.BadLine n → step_limit < so_far + length (expanded here) → IsFaultOfFirstBadLine text f
 read_too_many text rest version items here so_far n next behind f h g is long =
     let same = ap (λ (l : List Item). length (expanded l)) g.items_are in
-    subst (IsLineFault text) (sym is)
+    subst (IsFaultOfFirstBadLine text) (sym is)
     (bad_line text rest version items so_far n n h (inr (inr (inr (refl, (g.group, lines_of_rest behind, g.whole, g.good, omega arith))))))
 
 -- or memory ran out
 pub text_fault : (text rest : List ℕ) (version : Version) (items : List Item) (so_far n : ℕ) (f : Fault) → HasRead text version items so_far n (Some rest) →
     (f ≡ fault.OutOfMemory) ⊎ IsFirstGroupFault version n (lines rest) f
-    → (f ≡ fault.OutOfMemory) ⊎ IsLineFault text f
+    → (f ≡ fault.OutOfMemory) ⊎ IsFaultOfFirstBadLine text f
 text_fault text rest version items so_far n f h (inl memory) = inl memory
 text_fault text rest version items so_far n f h (inr wrong) = inr (read_bad text rest version items so_far n f h wrong)
 
@@ -481,7 +481,7 @@ pub record HasAssembled (text : List ℕ) (version : Version) (so_far n : ℕ) (
 
 pub text_begins : (text out : List ℕ) (version : Version) (n : ℕ) (left : Option (List ℕ)) → ItemsBeginAtLine version (lines text) n (lines_of_rest left) →
     (version ≡ One → (m : ℕ) (others : List (List ℕ)) → SaysVersionTwo (lines text) m others → ⊥)
-    → n + rest_len left ≤ length text + 2 → out ≡ header version → HasAssembled text version 0 n left out
+    → n + rest_len_with_one_for_its_end left ≤ length text + 2 → out ≡ header version → HasAssembled text version 0 n left out
 text_begins text out version n left from one short is = record {
   items = [];
   read = read_none text version n left from one short;
@@ -491,7 +491,7 @@ text_begins text out version n left from one short is = record {
 
 pub text_more : (text rest now new : List ℕ) (version : Version) (so_far more n next : ℕ) (behind : Option (List ℕ)) →
     HasAssembled text version so_far n (Some rest) now → AppendsGroup version n (lines rest) now new more next behind
-    → more ≤ step_limit - so_far → next + rest_len behind ≤ n + (length rest + 1) → HasAssembled text version (so_far + more) next behind new
+    → more ≤ step_limit - so_far → next + rest_len_with_one_for_its_end behind ≤ n + (length rest + 1) → HasAssembled text version (so_far + more) next behind new
 text_more text rest now new version so_far more n next behind h g few shorter =
     let m = g.means in
     let t = h.read.few in
@@ -510,7 +510,7 @@ text_all text out version so_far n h = (script_of_items version h.items, read_al
 
 pub text_many : (text rest now new : List ℕ) (version : Version) (so_far more n next : ℕ) (behind : Option (List ℕ)) →
     HasAssembled text version so_far n (Some rest) now → AppendsGroup version n (lines rest) now new more next behind
-    → step_limit - so_far < more → IsLineFault text (fault.BadLine n)
+    → step_limit - so_far < more → IsFaultOfFirstBadLine text (fault.BadLine n)
 text_many text rest now new version so_far more n next behind h g many =
     let m = g.means in
     let t = h.read.few in
@@ -518,5 +518,5 @@ text_many text rest now new version so_far more n next behind h g many =
 
 pub text_faulty : (text rest now : List ℕ) (version : Version) (so_far n : ℕ) (f : Fault) → HasAssembled text version so_far n (Some rest) now →
     (f ≡ fault.OutOfMemory) ⊎ IsFirstGroupFault version n (lines rest) f
-    → (f ≡ fault.OutOfMemory) ⊎ IsLineFault text f
+    → (f ≡ fault.OutOfMemory) ⊎ IsFaultOfFirstBadLine text f
 text_faulty text rest now version so_far n f h bad = text_fault text rest version h.items so_far n f h.read bad

@@ -4,7 +4,7 @@ use Rattle.vga_script.specs.declared.step.Step.{Step}
 use Rattle.vga_script.specs.Item.{Item, Once, Repeated, expanded, step_limit}
 use Rattle.vga_script.specs.declared.version.Version.{Version}
 use Rattle.vga_script.specs.Tokens.{words}
-use Rattle.vga_script.specs.Text.{SpellsLine, SpellsLines, SpellsRepeat, IsRepeatEndLine, LineGroup, IsLineGroup, IsBadLineOutsideRepeats, IsBadLineInRepeat, StandsInRepeatLines, IsGroupFault}
+use Rattle.vga_script.specs.Text.{SpellsLine, SpellsLines, SpellsBeginningOfRepeat, IsRepeatEndLine, LineGroup, IsLineGroup, IsBadLineOutsideRepeats, IsBadLineInRepeat, StandsInRepeatLines, IsGroupFault}
 use Rattle.vga_script.proofs.LineLemmas.{one_line, one_lines}
 use Rattle.vga_script.proofs.RepeatLineLemmas.{one_count, step_or_repeat, step_or_end}
 
@@ -86,9 +86,9 @@ goes g ls x y is e = e ∙ ap (λ (l : List (List ℕ)). l ++ x) is
 
 -- a line and a repeat begin differently
 line_or_repeat : (line first : List ℕ) (x y : List (List ℕ)) (steps : List Step) (count : ℕ) → line ∷ x ≡ first ∷ y → SpellsLine (words line) steps →
-    SpellsRepeat (words first) count → ⊥
+    SpellsBeginningOfRepeat (words first) count → ⊥
 line_or_repeat line first x y steps count e good begins =
-    let same : first ≡ line = cc in step_or_repeat (words line) steps count good (subst (λ (l : List ℕ). SpellsRepeat (words l) count) same begins)
+    let same : first ≡ line = cc in step_or_repeat (words line) steps count good (subst (λ (l : List ℕ). SpellsBeginningOfRepeat (words l) count) same begins)
 
 -- the prefix of some lines determines the group that it spells
 pub one_group : (version : Version) (g h : LineGroup) (x y : List (List ℕ)) → IsLineGroup version g → IsLineGroup version h → g.lines ++ x ≡ h.lines ++ y → (g ≡ h)
@@ -113,7 +113,7 @@ one_group version g h x y (inr (allowed, (first, count, body, steps, last, ls, i
     let tails : (body ++ last ∷ []) ++ x ≡ (body' ++ last' ∷ []) ++ y = cc in
     let bodies = one_body body body' steps steps' last last' x y good good' ends ends' (sym (append_assoc body (last ∷ []) x) ∙ tails
     ∙ append_assoc body' (last' ∷ []) y) in
-    let count_is = one_count (words first) count count' begins (subst (λ (l : List ℕ). SpellsRepeat (words l) count') (sym same) begins') in
+    let count_is = one_count (words first) count count' begins (subst (λ (l : List ℕ). SpellsBeginningOfRepeat (words l) count') (sym same) begins') in
     let steps_are = one_lines body steps steps' good (subst (λ (l : List (List ℕ)). SpellsLines l steps') (sym bodies.0) good') in
     let lines_are : first ∷ (body ++ last ∷ []) ≡ first' ∷ (body' ++ last' ∷ []) = let p = bodies.0 in let q = bodies.1 in cc in
     let items_are : Repeated count steps ∷ [] ≡ Repeated count' steps' ∷ [] = cc in
@@ -145,13 +145,13 @@ bad_or_group version ls others x line g prefix (none, no_repeat) (inl (other, st
     let same : other ≡ line = cc in none steps (subst (λ (l : List ℕ). SpellsLine (words l) steps) same good)
 bad_or_group version ls others x line g prefix (none, no_repeat) (inr (allowed, (first, count, body, steps, last, is, items, begins, good, ends))) e =
     let both : line ∷ others ≡ first ∷ ((body ++ last ∷ []) ++ x) = sym prefix ∙ goes g (first ∷ (body ++ last ∷ [])) x ls is e in
-    let same : first ≡ line = cc in no_repeat allowed count (subst (λ (l : List ℕ). SpellsRepeat (words l) count) same begins)
+    let same : first ≡ line = cc in no_repeat allowed count (subst (λ (l : List ℕ). SpellsBeginningOfRepeat (words l) count) same begins)
 
 bad_or_open : (version : Version) (ls others rest : List (List ℕ)) (line : List ℕ) (place : ℕ) → ls ≡ line ∷ others → IsBadLineOutsideRepeats version line →
     StandsInRepeatLines version ls place rest → ⊥
 bad_or_open version ls others rest line place prefix (none, no_repeat) h =
     let both : line ∷ others ≡ h.first ∷ (h.body ++ rest) = sym prefix ∙ h.whole in
-    let same : h.first ≡ line = cc in no_repeat h.allowed h.count (subst (λ (l : List ℕ). SpellsRepeat (words l) h.count) same h.begins)
+    let same : h.first ≡ line = cc in no_repeat h.allowed h.count (subst (λ (l : List ℕ). SpellsBeginningOfRepeat (words l) h.count) same h.begins)
 
 -- two repeats that stop
 one_open : (version : Version) (ls rest rest' : List (List ℕ)) (place place' : ℕ) → StandsInRepeatLines version ls place rest → StandsInRepeatLines version ls place' rest' →

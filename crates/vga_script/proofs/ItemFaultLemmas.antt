@@ -9,7 +9,7 @@ use Rattle.vga_script.specs.Item.{Item, Once, Repeated, step_limit, steps_of_ite
 use Rattle.vga_script.specs.declared.version.Version.{Version}
 use Rattle.vga_script.specs.Step.{IsInRange}
 use Rattle.vga_script.specs.Spelling.{opcode_repeat, opcode_end, spelling, StartsWithItem}
-use Rattle.vga_script.specs.Decoding.{HasStepsBefore, StandsInRepeat, StartsWithCutStep, StartsWithBadItem, StartsWithCutItem, StartsWithBadBody, IsItemFault}
+use Rattle.vga_script.specs.Decoding.{HasStepsBefore, StandsInRepeat, StartsWithCutStep, StartsWithBadItem, StartsWithCutItem, StartsWithNeitherStepNorRepeatEnd, IsItemFault}
 use Rattle.vga_script.proofs.FieldLemmas.{two_back}
 use Rattle.vga_script.proofs.PrefixLemmas.{Compared, compare}
 use Rattle.vga_script.proofs.GrammarLemmas.{one_step, some_byte, no_step_of, steps_range, spelled_steps, one_item, some_item_byte}
@@ -22,7 +22,7 @@ pub record StopsBody (rest : List ℕ) : Type 0 where
   pub no_end : (more : List ℕ) → rest ≡ opcode_end ∷ more → ⊥
   pub no_start : (s : Step) (x : List ℕ) → IsInRange s → rest ≡ spelling s ++ x → ⊥
 
-bad_stops : (rest : List ℕ) → StartsWithBadBody rest → StopsBody rest
+bad_stops : (rest : List ℕ) → StartsWithNeitherStepNorRepeatEnd rest → StopsBody rest
 bad_stops rest (bad, none) = record { no_end = none; no_start = λ s x fits e. step_starts s x rest fits e (inl bad) }
 
 cut_stops : (rest : List ℕ) → StartsWithCutStep rest → StopsBody rest
@@ -59,7 +59,7 @@ count_back n x bytes small e = sym (two_back n x small) ∙ ap (λ (l : List ℕ
 -- what stops it, and the fault that this is
 abbrev pub InsideOf : ℕ → ℕ → List ℕ → Fault → Type 0
 InsideOf offset place rest f =
-    ((f ≡ fault.BadStep (offset + place)) × StartsWithBadBody rest)
+    ((f ≡ fault.BadStep (offset + place)) × StartsWithNeitherStepNorRepeatEnd rest)
     ⊎ (((f ≡ fault.Truncated (offset + place)) × StartsWithCutStep rest) ⊎ ((f ≡ fault.Truncated offset) × (rest ≡ [])))
 
 -- a repeat that is open where its body stops

@@ -25,7 +25,7 @@ use Rattle.vga_script.specs.declared.dump_range.Shown.{Shown}
 use Rattle.vga_script.specs.declared.dump_range.Shown.TheVariants as shown
 use Rattle.vga_script.specs.Tokens.{is_blank, is_semicolon, is_newline, has_bytes, words_between_blanks, words, lines, in_lower_case, IsNumeral, IsHex}
 use Rattle.vga_script.specs.Text.{keyword_name, keyword_of, shown_name, SpellsHex, SpellsTwoHex, SpellsRegister, SpellsBlock, SpellsShown, SpellsFields, SpellsLine}
-use Rattle.vga_script.specs.Text.{SpellsLines, SpellsRepeat, IsRepeatEndLine, IsVersionTwo, LineGroup, IsLineGroup, SpellsGroups, SpellsText}
+use Rattle.vga_script.specs.Text.{SpellsLines, SpellsBeginningOfRepeat, IsRepeatEndLine, IsVersionTwo, LineGroup, IsLineGroup, SpellsGroups, SpellsText}
 use Rattle.vga_script.specs.Item.{Item, Once, Repeated, ScriptItems, script_of_items, expanded, step_limit, IsItemOf, AreItemsOf}
 use Rattle.vga_script.specs.declared.version.Version.{Version}
 use Rattle.vga_script.specs.declared.version.Version.TheVariants.{One, Two}
@@ -238,10 +238,10 @@ unfolding encode_with
 block_of_word [] = tt
 block_of_word (b ∷ bs) = (upper_of_word (b / 16), (upper_of_word (b % 16), block_of_word bs))
 
-bytes_fit : (bytes : List ℕ) → AllByRecursion (λ byte. byte < 2 ^ 8) bytes → IsBytes bytes
-bytes_fit [] all i = omega arith
-bytes_fit (b ∷ bs) (first, others) zero = first
-bytes_fit (b ∷ bs) (first, others) (suc i) = bytes_fit bs others i
+bytes_are_below_256 : (bytes : List ℕ) → AllByRecursion (λ byte. byte < 2 ^ 8) bytes → IsBytes bytes
+bytes_are_below_256 [] all i = omega arith
+bytes_are_below_256 (b ∷ bs) (first, others) zero = first
+bytes_are_below_256 (b ∷ bs) (first, others) (suc i) = bytes_are_below_256 bs others i
 
 -- the words of a block are words, and spell it
 spells_block_words : (block : List ℕ) → IsBlock block → SpellsBlock (block_words block) block
@@ -253,7 +253,7 @@ spells_block_words (b ∷ bs) (short, all) = inr (
   refl,
   omega arith,
   short,
-  decode_of-encode_upper (b ∷ bs) (bytes_fit (b ∷ bs) all),
+  decode_of-encode_upper (b ∷ bs) (bytes_are_below_256 (b ∷ bs) all),
 )
 
 some_hex : (k n : ℕ) → 0 < k → 0 < length (hex k n)
@@ -421,7 +421,7 @@ repeat_words count = codes "repeat" ∷ decimal count ∷ []
 abbrev end_words : List (List ℕ)
 end_words = codes "end" ∷ []
 
-repeat_prints : (count : ℕ) → 0 < count → count < 2 ^ 16 → AreWords (repeat_words count) × SpellsRepeat (repeat_words count) count
+repeat_prints : (count : ℕ) → 0 < count → count < 2 ^ 16 → AreWords (repeat_words count) × SpellsBeginningOfRepeat (repeat_words count) count
 repeat_prints count some small =
     let d = spells_decimal_text count (omega arith) in (
       (omega arith, word_by_test (codes "repeat") refl, (d.0.0, d.1, tt)),
@@ -454,7 +454,7 @@ group_spells version (Repeated count steps) (allowed, some, small, range) =
         join_with_byte 32 end_words,
         refl,
         refl,
-        subst (λ (l : List (List ℕ)). SpellsRepeat l count) (sym (words_join (repeat_words count) r.0)) r.1,
+        subst (λ (l : List (List ℕ)). SpellsBeginningOfRepeat l count) (sym (words_join (repeat_words count) r.0)) r.1,
         steps_spelled steps range,
         subst IsRepeatEndLine (sym (words_join end_words end_prints.0)) end_prints.1,
       ),

@@ -11,7 +11,7 @@ use Rattle.vga_script.specs.declared.version.Version.TheVariants.{Two}
 use Rattle.vga_script.specs.Decoding.{StartsWithBadStep, StartsWithCutStep}
 use Rattle.vga_script.specs.Beginning.{step_of, steps_in, behind_steps, items_in}
 use Rattle.vga_script.specs.Item.{Item, Once, Repeated, repeated, expanded, AreItemsOf}
-use Rattle.vga_script.specs.Progress.{steps_left, IsOutside, IsInside, StandsInOrOutsideRepeat, IsEmptyOrBeginsWithStep, LeavesSameSteps}
+use Rattle.vga_script.specs.Progress.{steps_left, IsOutsideRepeat, IsInsideRepeat, StandsInOrOutsideRepeat, IsEmptyOrBeginsWithStep, LeavesSameSteps}
 use Rattle.vga_script.specs.Spelling.{opcode_repeat, opcode_end, spelling, item_spelling, StartsWithStep}
 use Rattle.vga_script.specs.Step.{IsInRange, AreInRange}
 use Rattle.vga_script.proofs.FieldLemmas.{two_back}
@@ -85,10 +85,10 @@ inside_left left (b ∷ body) rest done todo items fd ft fit all e =
     ∙ ap (λ (l : List Item). todo ++ (repeated left (done ++ todo) ++ expanded l)) (items_back items fit)
 
 -- the same of a place
-out_left : (left : ℕ) (body rest : List ℕ) (h : IsOutside body rest) → steps_left left body rest ≡ expanded h.items
+out_left : (left : ℕ) (body rest : List ℕ) (h : IsOutsideRepeat body rest) → steps_left left body rest ≡ expanded h.items
 out_left left body rest h = outside_left left body rest h.items h.fit h.none h.spelled
 
-in_left : (left : ℕ) (body rest : List ℕ) (h : IsInside body rest) → steps_left left body rest ≡ h.todo
+in_left : (left : ℕ) (body rest : List ℕ) (h : IsInsideRepeat body rest) → steps_left left body rest ≡ h.todo
     ++ (repeated left (h.done ++ h.todo) ++ expanded h.items)
 in_left left body rest h = inside_left left body rest h.done h.todo h.items h.done_fit h.todo_fit h.fit h.all h.spelled
 
@@ -114,8 +114,8 @@ inside_step rest others tail step (s ∷ todo) (f, fs) e (fits, w) =
     (todo, ap (λ (x : Step). x ∷ todo) one.0, fs, sym one.1)
 
 -- a step is done
-done_more : (step : Step) (body rest others : List ℕ) (h : IsInside body rest) (more : List Step) → h.todo ≡ step ∷ more → AreInRange more → IsInRange step
-    → others ≡ flat_map spelling more ++ opcode_end ∷ flat_map item_spelling h.items → IsInside body others
+done_more : (step : Step) (body rest others : List ℕ) (h : IsInsideRepeat body rest) (more : List Step) → h.todo ≡ step ∷ more → AreInRange more → IsInRange step
+    → others ≡ flat_map spelling more ++ opcode_end ∷ flat_map item_spelling h.items → IsInsideRepeat body others
 done_more step body rest others h more e fs fit w = record {
   done = h.done ++ step ∷ [];
   todo = more;
@@ -150,7 +150,7 @@ step_taken left body rest others step (inr h) starts =
     )
 
 -- no repeat begins in a repeat
-no_repeat_inside : (body rest others : List ℕ) (h : IsInside body rest) → rest ≡ opcode_repeat ∷ others → ⊥
+no_repeat_inside : (body rest others : List ℕ) (h : IsInsideRepeat body rest) → rest ≡ opcode_repeat ∷ others → ⊥
 no_repeat_inside body rest others h is = inside h.todo h.todo_fit h.spelled
   where
     inside : (todo : List Step) → AreInRange todo → rest ≡ flat_map spelling todo ++ opcode_end ∷ flat_map item_spelling h.items → ⊥
@@ -231,7 +231,7 @@ repeat_begins left body rest others inner count (inl h) is w small other =
     let b = repeat_there rest others inner count h.items h.fit h.spelled is w small in
     let fit = (subst (AreItemsOf Two) b.2 h.fit).0 in
     let some = some_steps b.0 (flat_map item_spelling b.1) inner b.5 other in
-    let inside : IsInside inner inner = record {
+    let inside : IsInsideRepeat inner inner = record {
       done = [];
       todo = b.0;
       items = b.1;
@@ -288,7 +288,7 @@ repeat_again left body rest others (inr h) is some =
     let long : 0 < length h.done = omega arith in
     let all : body ≡ flat_map spelling h.done ++ opcode_end ∷ flat_map item_spelling h.items = h.all
     ∙ ap (λ (l : List Step). flat_map spelling h.done ++ (flat_map spelling l ++ opcode_end ∷ flat_map item_spelling h.items)) d.0 in
-    let inside : IsInside body body = record {
+    let inside : IsInsideRepeat body body = record {
       done = [];
       todo = h.done;
       items = h.items;

@@ -14,7 +14,7 @@ use Rattle.vga_script.specs.declared.keyword.Keyword.{Keyword}
 use Rattle.vga_script.specs.declared.keyword.Keyword.TheVariants as keyword
 use Rattle.vga_script.specs.Tokens.{in_lower_case}
 use Rattle.vga_script.specs.Text.{keyword_of, SpellsFields, SpellsRegister, SpellsBytes, SpellsBlock}
-use Rattle.vga_script.specs.StepReading.{◌>>=◌, hex_number_of, only_hex_number, only_two_hex_numbers, only_decimal_number, no_word_left, next_register, decoded, block_bytes_of_word, only_block_digits, block_at, read_int}
+use Rattle.vga_script.specs.StepReading.{◌>>=◌, hex_number_of, only_hex_number, only_two_hex_numbers, only_decimal_number, no_word_left, next_register, decoded, block_bytes_of_word, only_block_digits, block_at, read_bios_call}
 use Rattle.vga_script.specs.StepReading.{read_shown, step_of_keyword}
 use Rattle.vga_script.proofs.OptionLemmas.{bind_ok, guard_ok, and_ok, and_true, some_is, le_test, le_passes, lt_test, lt_passes}
 use Rattle.vga_script.proofs.NumberLemmas.{hex_below, hex_reads, spells_hex, one_hex_reads, spells_one_hex, two_hex_reads, spells_two_hex, one_decimal_reads}
@@ -155,8 +155,8 @@ int_found : (ws : List (List ℕ)) (ax bx cx dx : ℕ) (block : List ℕ) (s : S
 int_found ws ax bx cx dx block s e h = found keyword.Int ws (Int ax bx cx dx block) s e (refl, h)
 
 -- a call that is read is spelled
-int_reads : (ws : List (List ℕ)) (s : Step) → read_int ws ≡ Some s → Found keyword.Int ws s
-unfolding read_int
+int_reads : (ws : List (List ℕ)) (s : Step) → read_bios_call ws ≡ Some s → Found keyword.Int ws s
+unfolding read_bios_call
 int_reads ws s e =
     let a = bind_ok (next_register (codes "ax=") ws) (λ a. next_register (codes "bx=") a.1 >>= λ b. next_register (codes "cx=") b.1
     >>= λ c. next_register (codes "dx=") c.1 >>= λ d. block_at d.1 >>= λ x. Some (Int a.0 b.0 c.0 d.0 x)) s e in
@@ -227,8 +227,8 @@ read_spells keyword.Show ws s e =
     found keyword.Show ws (Show r.0) s (some_is (Show r.0) s r.2) (refl, shown_reads ws r.0 r.1)
 
 -- a call that is spelled is read
-int_spells : (ws : List (List ℕ)) (ax bx cx dx : ℕ) (block : List ℕ) → SpellsFields ws (Int ax bx cx dx block) → read_int ws ≡ Some (Int ax bx cx dx block)
-unfolding read_int
+int_spells : (ws : List (List ℕ)) (ax bx cx dx : ℕ) (block : List ℕ) → SpellsFields ws (Int ax bx cx dx block) → read_bios_call ws ≡ Some (Int ax bx cx dx block)
+unfolding read_bios_call
 int_spells ws ax bx cx dx block (a, b, c, d, x, e, ha, hb, hc, hd, hx) =
     let ra = spells_register (codes "ax=") a ax (b ++ (c ++ (d ++ x))) refl ha
     (skips_register (codes "ax=") (codes "bx=") b bx (c ++ (d ++ x)) refl refl hb

@@ -7,7 +7,7 @@ use Rattle.std.proofs.lemmas.Slice.Eq.{bytes_eq-Decides}
 use Rattle.vga_script.specs.declared.step.Step.{Step}
 use Rattle.vga_script.specs.declared.keyword.Keyword.{Keyword}
 use Rattle.vga_script.specs.Tokens.{in_lower_case}
-use Rattle.vga_script.specs.Text.{keyword_name, keyword_of, SpellsLine, SpellsRepeat, IsRepeatEndLine, IsVersionTwo}
+use Rattle.vga_script.specs.Text.{keyword_name, keyword_of, SpellsLine, SpellsBeginningOfRepeat, IsRepeatEndLine, IsVersionTwo}
 use Rattle.vga_script.specs.StepReading.{number_of_word}
 use Rattle.vga_script.proofs.NameLemmas.{named, unnamed, repeat_unnamed, end_unnamed, version_unnamed}
 use Rattle.vga_script.proofs.OptionLemmas.{some_is}
@@ -51,7 +51,7 @@ one_byte (x ∷ y ∷ xs) b len is = absurd (omega arith)
 
 -- a repeat's count that is read
 pub repeat_read : (ws : List (List ℕ)) (name word : List ℕ) (count : ℕ) → ws ≡ name ∷ word ∷ [] → bytes_eq (in_lower_case name) (codes "repeat") ≡ true →
-    number_of_word 10 0xFFFF word ≡ Some count → count ≢ 0 → SpellsRepeat ws count
+    number_of_word 10 0xFFFF word ≡ Some count → count ≢ 0 → SpellsBeginningOfRepeat ws count
 repeat_read ws name word count e is read some =
     let r = number_reads 10 0xFFFF word count read in
     let most = r.1 in
@@ -65,35 +65,35 @@ same_words ws a b c d e f =
     let second : b ≡ d = cc in
     (first, second)
 
-pub not_repeat_words : (ws : List (List ℕ)) → ((word other : List ℕ) → ws ≢ word ∷ other ∷ []) → (count : ℕ) → SpellsRepeat ws count → ⊥
+pub not_repeat_words : (ws : List (List ℕ)) → ((word other : List ℕ) → ws ≢ word ∷ other ∷ []) → (count : ℕ) → SpellsBeginningOfRepeat ws count → ⊥
 not_repeat_words ws none count (first, number, e, is, numeral, some, small) = none first number e
 
 pub not_repeat_name : (ws : List (List ℕ)) (name word : List ℕ) → ws ≡ name ∷ word ∷ [] → bytes_eq (in_lower_case name) (codes "repeat") ≡ false → (count : ℕ) →
-    SpellsRepeat ws count → ⊥
+    SpellsBeginningOfRepeat ws count → ⊥
 not_repeat_name ws name word e not_so count (first, number, f, is, numeral, some, small) =
     let same = same_words ws name word first number e f in
     unnamed name (codes "repeat") not_so (ap in_lower_case same.0 ∙ is)
 
 -- what its number reads as
-reads_as : (ws : List (List ℕ)) (name word : List ℕ) (count : ℕ) → ws ≡ name ∷ word ∷ [] → SpellsRepeat ws count → (number_of_word 10 0xFFFF word ≡ Some count)
+reads_as : (ws : List (List ℕ)) (name word : List ℕ) (count : ℕ) → ws ≡ name ∷ word ∷ [] → SpellsBeginningOfRepeat ws count → (number_of_word 10 0xFFFF word ≡ Some count)
     × (0 < count)
 reads_as ws name word count e (first, number, f, is, numeral, some, small) =
     let same = same_words ws name word first number e f in
     (ap (number_of_word 10 0xFFFF) same.1 ∙ spells_number 10 0xFFFF number count (omega arith) numeral (omega arith), some)
 
 pub not_repeat_number : (ws : List (List ℕ)) (name word : List ℕ) → ws ≡ name ∷ word ∷ [] → number_of_word 10 0xFFFF word ≡ None → (count : ℕ) →
-    SpellsRepeat ws count → ⊥
+    SpellsBeginningOfRepeat ws count → ⊥
 not_repeat_number ws name word e none count h = let both = sym none ∙ (reads_as ws name word count e h).0 in absurd (cc)
 
 pub not_repeat_zero : (ws : List (List ℕ)) (name word : List ℕ) (n : ℕ) → ws ≡ name ∷ word ∷ [] → number_of_word 10 0xFFFF word ≡ Some n → n ≡ 0 → (count : ℕ) →
-    SpellsRepeat ws count → ⊥
+    SpellsBeginningOfRepeat ws count → ⊥
 not_repeat_zero ws name word n e read nought count h =
     let r = reads_as ws name word count e h in
     let same : n ≡ count = some_is n count (sym read ∙ r.0) in
     let some = r.1 in absurd (omega arith)
 
 -- a repeat is begun by one count
-pub one_count : (ws : List (List ℕ)) (n m : ℕ) → SpellsRepeat ws n → SpellsRepeat ws m → n ≡ m
+pub one_count : (ws : List (List ℕ)) (n m : ℕ) → SpellsBeginningOfRepeat ws n → SpellsBeginningOfRepeat ws m → n ≡ m
 one_count ws n m (first, number, e, is, (has, all, value), some, small) (first', number', e', is', (has', all', value'), some', small') =
     let same = same_words ws first number first' number' e e' in
     value ∙ ap (λ (w : List ℕ). digits_value 10 w) same.1 ∙ sym value'
@@ -120,7 +120,7 @@ not_step_named ws first fields name steps other e is spelled =
     absurd (cc)
 
 -- so a line is of one kind
-pub step_or_repeat : (ws : List (List ℕ)) (steps : List Step) (count : ℕ) → SpellsLine ws steps → SpellsRepeat ws count → ⊥
+pub step_or_repeat : (ws : List (List ℕ)) (steps : List Step) (count : ℕ) → SpellsLine ws steps → SpellsBeginningOfRepeat ws count → ⊥
 step_or_repeat ws steps count spelled (first, number, e, is, numeral, some, small) =
     not_step_named ws first (number ∷ []) (codes "repeat") steps repeat_unnamed e is spelled
 

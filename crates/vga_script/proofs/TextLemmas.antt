@@ -12,7 +12,7 @@ use Rattle.vga_script.specs.declared.version.Version.{Version}
 use Rattle.vga_script.specs.declared.version.Version.TheVariants.{One, Two}
 use Rattle.vga_script.specs.Tokens.{words, lines}
 use Rattle.vga_script.specs.Text.{SpellsLine, IsVersionTwo, LineGroup, IsLineGroup, SpellsGroups, SaysVersionTwo, ItemsBeginAtLine, SpellsText, IsGroupFault, SpellsLinesUpTo}
-use Rattle.vga_script.specs.Text.{IsBadLine}
+use Rattle.vga_script.specs.Text.{IsFirstBadLine}
 use Rattle.vga_script.specs.Spelling.{script_limit, encoding}
 use Rattle.vga_script.specs.Script.{IsScript, IsTextFault}
 use Rattle.vga_script.proofs.PrefixLemmas.{Compared, compare}
@@ -175,7 +175,7 @@ counted : (text : List ℕ) (script : ScriptItems) (n bad : ℕ) (left : List (L
 counted text script n bad left up wrong = subst (λ (m : ℕ). IsGroupFault script.version (length (expanded script.items)) m left bad) up.number wrong
 
 -- no text has two first bad lines
-one_bad_line : (text : List ℕ) (bad bad' : ℕ) → IsBadLine text bad → IsBadLine text bad' → bad ≡ bad'
+one_bad_line : (text : List ℕ) (bad bad' : ℕ) → IsFirstBadLine text bad → IsFirstBadLine text bad' → bad ≡ bad'
 one_bad_line text bad bad' (script, n, left, up, wrong) (script', n', left', up', wrong') =
     let version = script.version in
     let same = one_start version script'.version (lines text) up.start up'.start up.rest up'.rest up.from up'.from up.one up'.one in
@@ -202,7 +202,7 @@ nowhere version rest left items items' n count count' bad h k wrong (inr (inr (n
     group_or_fault version (length (expanded items')) n bad left _ next wrong fits rests
     (within_limit k.groups others h.groups next items' items is k.items_are h.items_are h.few)
 
-no_bad_line : (text : List ℕ) (script : ScriptItems) (bad : ℕ) → SpellsText text script → IsBadLine text bad → ⊥
+no_bad_line : (text : List ℕ) (script : ScriptItems) (bad : ℕ) → SpellsText text script → IsFirstBadLine text bad → ⊥
 no_bad_line text script bad (n, rest, from, h, few) (script', n', left', up', wrong') =
     let version = script.version in
     let same = one_start version script'.version (lines text) n up'.start rest up'.rest from up'.from (not_two text version script.items n rest from h)

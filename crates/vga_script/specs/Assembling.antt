@@ -7,7 +7,7 @@ use Rattle.vga_script.specs.Item.{Item, Repeated, repeated, expanded}
 use Rattle.vga_script.specs.Spelling.{spelling, item_spelling}
 use Rattle.vga_script.specs.declared.step.Step.{Step}
 use Rattle.vga_script.specs.declared.version.Version.{Version}
-use Rattle.vga_script.specs.Tokens.{words, lines_of_rest, rest_len}
+use Rattle.vga_script.specs.Tokens.{words, lines_of_rest, rest_len_with_one_for_its_end}
 use Rattle.vga_script.specs.Text.{SpellsLine, SpellsLines, IsRepeatEndLine, IsBadLineInRepeat, LineGroup}
 use Rattle.vga_script.specs.Text.{IsLineGroup}
 use Rattle.vga_script.specs.Text.{IsGroupFault}
@@ -22,17 +22,17 @@ pub record BeginsWithRepeatBody (n : ℕ) (left : Option (List ℕ)) (steps : Li
   pub ends : IsRepeatEndLine (words last)
   pub whole : lines_of_rest left ≡ body ++ last ∷ lines_of_rest behind
   pub number : next ≡ n + length body + 1
-  pub shorter : next + rest_len behind ≤ n + rest_len left
+  pub shorter : next + rest_len_with_one_for_its_end behind ≤ n + rest_len_with_one_for_its_end left
 
 -- The fault of the lines after the first of a repeat, which has this number: one of them is bad, or
 -- the repeat has no end.
-abbrev pub IsBodyFault : ℕ → Option (List ℕ) → Fault → Type 0
-IsBodyFault n left (BadLine bad) =
+abbrev pub IsRepeatBodyFault : ℕ → Option (List ℕ) → Fault → Type 0
+IsRepeatBodyFault n left (BadLine bad) =
     ((bad ≡ n) × ((steps : List Step) × SpellsLines (lines_of_rest left) steps))
     ⊎ ((body : List (List ℕ)) × (steps : List Step) × (line : List ℕ) × (others : List (List ℕ))
     × (bad ≡ n + (length body + 1))
     × (lines_of_rest left ≡ body ++ line ∷ others) × SpellsLines body steps × IsBadLineInRepeat line)
-IsBodyFault n left _ = ⊥
+IsRepeatBodyFault n left _ = ⊥
 
 -- These lines, whose first has the number n, begin with the lines of a group. The rest of the text
 -- begins with line `next`.
@@ -60,7 +60,7 @@ pub record AppendsLine (line before after : List ℕ) (len : ℕ) : Type 0 where
 
 -- The bytes afterwards are those before, followed by those of the `len` steps that the lines of a
 -- repeat after its first spell.
-pub record AppendsBody (n : ℕ) (left : Option (List ℕ)) (before after : List ℕ) (len next : ℕ)
+pub record AppendsRepeatBody (n : ℕ) (left : Option (List ℕ)) (before after : List ℕ) (len next : ℕ)
     (behind : Option (List ℕ)) : Type 0 where
   pub steps : List Step
   pub body : BeginsWithRepeatBody n left steps next behind
@@ -69,19 +69,19 @@ pub record AppendsBody (n : ℕ) (left : Option (List ℕ)) (before after : List
   pub bytes : after ≡ before ++ flat_map spelling steps
 
 -- The bytes afterwards are those before, followed by those of a repeat of this count: its opcodes,
--- its count and its steps. It means `meant` steps.
+-- its count and its steps. It means `step_count_meant` steps.
 pub record AppendsRepeat (n : ℕ) (left : Option (List ℕ)) (count : ℕ) (before after : List ℕ)
-    (meant next : ℕ) (behind : Option (List ℕ)) : Type 0 where
+    (step_count_meant next : ℕ) (behind : Option (List ℕ)) : Type 0 where
   pub steps : List Step
   pub body : BeginsWithRepeatBody n left steps next behind
-  pub means : meant ≡ length (repeated count steps)
+  pub means : step_count_meant ≡ length (repeated count steps)
   pub bytes : after ≡ before ++ item_spelling (Repeated count steps)
 
 -- The bytes afterwards are those before, followed by those of the items that a group spells. They
--- mean `meant` steps.
+-- mean `step_count_meant` steps.
 pub record AppendsGroup (version : Version) (n : ℕ) (ls : List (List ℕ)) (before after : List ℕ)
-    (meant next : ℕ) (behind : Option (List ℕ)) : Type 0 where
+    (step_count_meant next : ℕ) (behind : Option (List ℕ)) : Type 0 where
   pub items : List Item
   pub group : BeginsWithGroup version n ls items next behind
-  pub means : meant ≡ length (expanded items)
+  pub means : step_count_meant ≡ length (expanded items)
   pub bytes : after ≡ before ++ flat_map item_spelling items

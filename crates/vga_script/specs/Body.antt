@@ -2,7 +2,7 @@
 use Rattle.std.specs.Prelude.{ℕ, ◌≡◌, List, [], ◌∷◌}
 use Rattle.vga_script.specs.declared.items.AfterRepeatBody.{AfterRepeatBody}
 use Rattle.vga_script.specs.declared.items.AfterRepeatBody.TheVariants.{PieceEnd, Nothing, Bad, Cut}
-use Rattle.vga_script.specs.Decoding.{StartsWithBadBody, StartsWithCutStep}
+use Rattle.vga_script.specs.Decoding.{StartsWithNeitherStepNorRepeatEnd, StartsWithCutStep}
 use Rattle.vga_script.specs.Spelling.{opcode_end}
 
 -- these bytes stand after the steps of a repeat: its end and what follows that, nothing, what no
@@ -10,5 +10,5 @@ use Rattle.vga_script.specs.Spelling.{opcode_end}
 abbrev pub StandsAfterRepeatBody : AfterRepeatBody → List ℕ → Type 0
 StandsAfterRepeatBody (PieceEnd others) rest = rest ≡ opcode_end ∷ others.now
 StandsAfterRepeatBody Nothing rest = rest ≡ []
-StandsAfterRepeatBody Bad rest = StartsWithBadBody rest
+StandsAfterRepeatBody Bad rest = StartsWithNeitherStepNorRepeatEnd rest
 StandsAfterRepeatBody Cut rest = StartsWithCutStep rest

@@ -102,8 +102,8 @@ abbrev pub StartsWithCutItem : Version → List ℕ → Type 0
 StartsWithCutItem version bytes = StartsWithCutStep bytes ⊎ StartsWithCutCount version bytes
 
 -- the bytes begin with what no repeat contains: neither a step nor the repeat's end
-abbrev pub StartsWithBadBody : List ℕ → Type 0
-StartsWithBadBody bytes = StartsWithBadStep bytes × ((rest : List ℕ) → bytes ≢ opcode_end ∷ rest)
+abbrev pub StartsWithNeitherStepNorRepeatEnd : List ℕ → Type 0
+StartsWithNeitherStepNorRepeatEnd bytes = StartsWithBadStep bytes × ((rest : List ℕ) → bytes ≢ opcode_end ∷ rest)
 
 -- These bytes are `len` good steps, followed by the rest.
 pub record HasStepsBefore (bytes : List ℕ) (len : ℕ) (rest : List ℕ) : Type 0 where
@@ -136,7 +136,7 @@ IsItemFault version so_far offset bytes (BadStep at) =
     ((at ≡ offset) × StartsWithBadItem version bytes)
     ⊎ ((distance : ℕ) × (rest : List ℕ) × (at ≡ offset + distance)
     × StandsInRepeat version bytes distance rest
-    × StartsWithBadBody rest)
+    × StartsWithNeitherStepNorRepeatEnd rest)
 IsItemFault version so_far offset bytes (Truncated at) =
     ((at ≡ offset) × (StartsWithCutItem version bytes
     ⊎ ((distance : ℕ) × StandsInRepeat version bytes distance [])))

@@ -16,7 +16,7 @@ steps_left left (byte ∷ body) rest = steps_in rest ++ (repeated left (steps_in
     ++ expanded (items_in (drop 1 (behind_steps rest))))
 
 -- Between items: the rest spells items.
-pub record IsOutside (body rest : List ℕ) : Type 0 where
+pub record IsOutsideRepeat (body rest : List ℕ) : Type 0 where
   pub items : List Item
   pub fit : AreItemsOf Two items
   pub none : body ≡ []
@@ -24,7 +24,7 @@ pub record IsOutside (body rest : List ℕ) : Type 0 where
 
 -- In a repeat: the steps before the rest are done. The rest spells those still to do, the repeat's
 -- end, and items.
-pub record IsInside (body rest : List ℕ) : Type 0 where
+pub record IsInsideRepeat (body rest : List ℕ) : Type 0 where
   pub done : List Step
   pub todo : List Step
   pub items : List Item
@@ -38,7 +38,7 @@ pub record IsInside (body rest : List ℕ) : Type 0 where
 
 -- the rest stands in one of the two ways
 abbrev pub StandsInOrOutsideRepeat : List ℕ → List ℕ → Type 0
-StandsInOrOutsideRepeat body rest = IsOutside body rest ⊎ IsInside body rest
+StandsInOrOutsideRepeat body rest = IsOutsideRepeat body rest ⊎ IsInsideRepeat body rest
 
 -- the bytes are empty, or begin with a step
 abbrev pub IsEmptyOrBeginsWithStep : List ℕ → Type 0

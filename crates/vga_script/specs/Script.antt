@@ -4,7 +4,7 @@ use Rattle.vga_bits.specs.declared.fault.Fault.{Fault}
 use Rattle.vga_bits.specs.declared.fault.Fault.TheVariants.{TooLong, BadLine}
 use Rattle.vga_script.specs.Item.{ScriptItems, expanded, step_limit, AreItemsOf}
 use Rattle.vga_script.specs.Spelling.{script_limit, encoding}
-use Rattle.vga_script.specs.Text.{SpellsText, IsBadLine}
+use Rattle.vga_script.specs.Text.{SpellsText, IsFirstBadLine}
 
 -- A script: items that its version allows, which mean no more steps and have no more bytes than a
 -- script may.
@@ -23,5 +23,5 @@ SpellsTooLongScript text = (script : ScriptItems) × SpellsText text script
 abbrev pub IsTextFault : List ℕ → Fault → Type 0
 IsTextFault text TooLong = (script_limit < length text)
     ⊎ ((length text ≤ script_limit) × SpellsTooLongScript text)
-IsTextFault text (BadLine n) = (length text ≤ script_limit) × IsBadLine text n
+IsTextFault text (BadLine n) = (length text ≤ script_limit) × IsFirstBadLine text n
 IsTextFault text _ = ⊥

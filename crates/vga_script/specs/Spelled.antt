@@ -13,9 +13,9 @@ spelled_item (spelled.Step step) = Once step
 spelled_item (spelled.Block count len steps) = Repeated count (steps_in steps.now)
 
 -- the bytes of a repeat spell `len` steps
-abbrev pub HasSpelledBody : SpelledItem → Type 0
-HasSpelledBody (spelled.Step step) = Unit {0}
-HasSpelledBody (spelled.Block count len steps) = SpellsSteps steps.now (steps_in steps.now)
+abbrev pub HasSpelledRepeatBody : SpelledItem → Type 0
+HasSpelledRepeatBody (spelled.Step step) = Unit {0}
+HasSpelledRepeatBody (spelled.Block count len steps) = SpellsSteps steps.now (steps_in steps.now)
     × (len ≡ length (steps_in steps.now)) × (len ≤ script_limit)
 
 -- bytes that spell a script which means these steps

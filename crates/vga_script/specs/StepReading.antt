@@ -122,8 +122,8 @@ block_at (w ∷ ws) =
     if bytes_eq (in_lower_case w) (codes "block") then only_block_digits ws else None
 
 -- a call of the BIOS
-unfoldable pub read_int : List (List ℕ) → Option Step
-read_int ws = do
+unfoldable pub read_bios_call : List (List ℕ) → Option Step
+read_bios_call ws = do
   a ← next_register (codes "ax=") ws
   b ← next_register (codes "bx=") a.1
   c ← next_register (codes "cx=") b.1
@@ -173,7 +173,7 @@ step_of_keyword keyword.PutWord ws =
     only_two_hex_numbers 8 0xFFFF_FFFF 4 0xFFFF ws >>= λ n. Some (PutWord n.0 n.1)
 step_of_keyword keyword.Get ws = only_hex_number 8 0xFFFF_FFFF ws >>= λ n. Some (Get n)
 step_of_keyword keyword.GetWord ws = only_hex_number 8 0xFFFF_FFFF ws >>= λ n. Some (GetWord n)
-step_of_keyword keyword.Int ws = read_int ws
+step_of_keyword keyword.Int ws = read_bios_call ws
 step_of_keyword keyword.Advance ws = only_decimal_number 0xFFFF_FFFF ws >>= λ n. Some (Advance n)
 step_of_keyword keyword.Frame ws = no_word_left ws >>= λ e. Some Frame
 step_of_keyword keyword.Show ws = read_shown ws >>= λ what. Some (Show what)

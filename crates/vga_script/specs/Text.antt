@@ -145,8 +145,8 @@ SpellsLines (line ∷ others) steps =
     × SpellsLine (words line) here × SpellsLines others after
 
 -- the words of a line that begins a repeat: `repeat`, and a count of 1 to 65,535 in decimal
-abbrev pub SpellsRepeat : List (List ℕ) → ℕ → Type 0
-SpellsRepeat fields count =
+abbrev pub SpellsBeginningOfRepeat : List (List ℕ) → ℕ → Type 0
+SpellsBeginningOfRepeat fields count =
     (first : List ℕ) × (number : List ℕ) × (fields ≡ first ∷ number ∷ [])
     × (in_lower_case first ≡ codes "repeat")
     × IsNumeral 10 number count × (0 < count) × (count < 2 ^ 16)
@@ -176,7 +176,7 @@ abbrev pub IsRepeatOfLines : LineGroup → Type 0
 IsRepeatOfLines group =
     (first : List ℕ) × (count : ℕ) × (body : List (List ℕ)) × (steps : List Step) × (last : List ℕ)
     × (group.lines ≡ first ∷ (body ++ last ∷ [])) × (group.items ≡ Repeated count steps ∷ [])
-    × SpellsRepeat (words first) count × SpellsLines body steps × IsRepeatEndLine (words last)
+    × SpellsBeginningOfRepeat (words first) count × SpellsLines body steps × IsRepeatEndLine (words last)
 
 -- these lines together spell one item that this version allows, or none
 abbrev pub IsLineGroup : Version → LineGroup → Type 0
@@ -216,7 +216,7 @@ SpellsText text script =
 abbrev pub IsBadLineOutsideRepeats : Version → List ℕ → Type 0
 IsBadLineOutsideRepeats version line =
     ((steps : List Step) → SpellsLine (words line) steps → ⊥)
-    × (AllowsRepeats version → (count : ℕ) → SpellsRepeat (words line) count → ⊥)
+    × (AllowsRepeats version → (count : ℕ) → SpellsBeginningOfRepeat (words line) count → ⊥)
 
 -- a line in a repeat that spells neither a step nor the repeat's end
 abbrev pub IsBadLineInRepeat : List ℕ → Type 0
@@ -232,7 +232,7 @@ pub record StandsInRepeatLines (version : Version) (ls : List (List ℕ)) (dista
   pub body : List (List ℕ)
   pub steps : List Step
   pub allowed : AllowsRepeats version
-  pub begins : SpellsRepeat (words first) count
+  pub begins : SpellsBeginningOfRepeat (words first) count
   pub good : SpellsLines body steps
   pub whole : ls ≡ first ∷ (body ++ rest)
   pub distance_is : distance ≡ length body + 1
@@ -267,12 +267,12 @@ pub record SpellsLinesUpTo (text : List ℕ) (script : ScriptItems) (n : ℕ)
   pub number : n ≡ start + length prefix
 
 -- line n is the first bad line: the groups before it are good, and it makes the next one bad
-abbrev pub IsBadLine : List ℕ → ℕ → Type 0
-IsBadLine text bad =
+abbrev pub IsFirstBadLine : List ℕ → ℕ → Type 0
+IsFirstBadLine text bad =
     (script : ScriptItems) × (n : ℕ) × (left : List (List ℕ)) × SpellsLinesUpTo text script n left
     × IsGroupFault script.version (length (expanded script.items)) n left bad
 
 -- the fault of a text whose first bad line has this number
-abbrev pub IsLineFault : List ℕ → Fault → Type 0
-IsLineFault text (BadLine n) = IsBadLine text n
-IsLineFault text _ = ⊥
+abbrev pub IsFaultOfFirstBadLine : List ℕ → Fault → Type 0
+IsFaultOfFirstBadLine text (BadLine n) = IsFirstBadLine text n
+IsFaultOfFirstBadLine text _ = ⊥

@@ -54,9 +54,9 @@ lines_of_rest None = []
 lines_of_rest (Some text) = lines text
 
 -- the length of the rest of a text, plus 1 for its end; or 0 if there is no rest
-abbrev pub rest_len : Option (List ℕ) → ℕ
-rest_len None = 0
-rest_len (Some text) = length text + 1
+abbrev pub rest_len_with_one_for_its_end : Option (List ℕ) → ℕ
+rest_len_with_one_for_its_end None = 0
+rest_len_with_one_for_its_end (Some text) = length text + 1
 
 -- which bytes end a piece of a text
 abbrev pub is_end_of_piece : PieceEnd → ℕ → Bool

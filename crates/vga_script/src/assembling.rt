@@ -2,15 +2,15 @@
 ghost use Rattle.std.specs.Prelude.{◌≡◌, ◌⊎◌, ◌<◌, ◌≤◌, ◌+◌, List, length, ℕ};
 ghost use Rattle.std.specs.Prelude.{IfOk, IfErr, IsOkUnless, Err};
 ghost use Rattle.std.specs.Option.{option_copied};
-ghost use Rattle.vga_script.specs.Assembling.{AppendsBody, AppendsGroup, AppendsLine};
+ghost use Rattle.vga_script.specs.Assembling.{AppendsRepeatBody, AppendsGroup, AppendsLine};
 ghost use Rattle.vga_script.specs.Assembling.{AppendsRepeat};
-ghost use Rattle.vga_script.specs.Assembling.{IsBodyFault, IsFirstGroupFault};
+ghost use Rattle.vga_script.specs.Assembling.{IsRepeatBodyFault, IsFirstGroupFault};
 ghost use Rattle.vga_script.specs.Item.{ScriptItems};
 ghost use Rattle.vga_script.specs.Script.{IsScript, IsTextFault};
 ghost use Rattle.vga_script.specs.Spelling.{script_limit, encoding};
 ghost use Rattle.vga_script.specs.Text.{SaysVersionTwo, SpellsLine, SpellsText, ItemsBeginAtLine};
-ghost use Rattle.vga_script.specs.Text.{IsLineFault};
-ghost use Rattle.vga_script.specs.Tokens.{rest_len, lines, lines_of_rest, words};
+ghost use Rattle.vga_script.specs.Text.{IsFaultOfFirstBadLine};
+ghost use Rattle.vga_script.specs.Tokens.{rest_len_with_one_for_its_end, lines, lines_of_rest, words};
 ghost use Rattle.vga_script.specs.declared.step.Step.{Step};
 
 use super::opcode;
@@ -53,12 +53,12 @@ fn append_repeat_body<'a>(
     left: Option<&'a [u8]>,
     first: usize,
 ) -> Result<(usize, Option<&'a [u8]>, usize), Fault>
-    requires { first + rest_len (option_copied left) ≤ script_limit + 2 }
-    ensures found { IfOk result (λ x. AppendsBody (first + 1) (option_copied left.entry)
+    requires { first + rest_len_with_one_for_its_end (option_copied left) ≤ script_limit + 2 }
+    ensures found { IfOk result (λ x. AppendsRepeatBody (first + 1) (option_copied left.entry)
         out.old.items
         out.new.items x.0 x.2 (option_copied x.1)) }
     ensures fault { IfErr result (λ e. (e ≡ Fault.OutOfMemory)
-        ⊎ IsBodyFault first (option_copied left.entry) e) }
+        ⊎ IsRepeatBodyFault first (option_copied left.entry) e) }
 {
     let mut len = 0;
     let mut left = left;
@@ -89,12 +89,12 @@ fn append_repeat<'a>(
     left: Option<&'a [u8]>,
     number: usize,
 ) -> Result<(usize, Option<&'a [u8]>, usize), Fault>
-    requires { number + rest_len (option_copied left) ≤ script_limit + 2 }
+    requires { number + rest_len_with_one_for_its_end (option_copied left) ≤ script_limit + 2 }
     ensures found { IfOk result (λ x. AppendsRepeat (number + 1) (option_copied left.entry) count
         out.old.items
         out.new.items x.0 x.2 (option_copied x.1)) }
     ensures fault { IfErr result (λ e. (e ≡ Fault.OutOfMemory)
-        ⊎ IsBodyFault number (option_copied left.entry) e) }
+        ⊎ IsRepeatBodyFault number (option_copied left.entry) e) }
 {
     append(out, &[opcode::REPEAT])?;
     append_u16(out, count)?;
@@ -118,7 +118,7 @@ fn append_group<'a>(
     ensures found { IfOk result (λ x. AppendsGroup version number (lines text.now) out.old.items
         out.new.items x.0 x.2
         (option_copied x.1)) }
-    ensures shorter { IfOk result (λ x. x.2 + rest_len (option_copied x.1) ≤ number
+    ensures shorter { IfOk result (λ x. x.2 + rest_len_with_one_for_its_end (option_copied x.1) ≤ number
         + (length text.now + 1)) }
     ensures later { IfOk result (λ x. number < x.2) }
     ensures fault { IfErr result (λ e. (e ≡ Fault.OutOfMemory)
@@ -138,13 +138,13 @@ fn append_group<'a>(
 /// Finds the version of the script that a text may spell, the lines of its items, and the number of
 /// the first of those lines.
 #[tactic(auto, using(crate::proofs::AssembleLemmas::blank_none, crate::proofs::AssembleLemmas::two_found))]
-fn items_of_text(text: &[u8]) -> (Version, Option<&[u8]>, usize)
+fn version_and_first_line_of_items(text: &[u8]) -> (Version, Option<&[u8]>, usize)
     requires { length text.now ≤ script_limit }
     ensures from { ItemsBeginAtLine result.0 (lines text.now) result.2
         (lines_of_rest (option_copied result.1)) }
     ensures one { result.0 ≡ Version.One → (n : ℕ) (others : List (List ℕ)) →
         SaysVersionTwo (lines text.now) n others → ⊥ }
-    ensures short { result.2 + rest_len (option_copied result.1) ≤ length text.now + 2 }
+    ensures short { result.2 + rest_len_with_one_for_its_end (option_copied result.1) ≤ length text.now + 2 }
 {
     let mut left = Some(text);
     let mut number = 1usize;
@@ -169,19 +169,21 @@ fn assemble_items(alloc: Global, text: &[u8]) -> Result<Vec<u8>, Fault>
     requires { length text.now ≤ script_limit }
     ensures found { IfOk result (λ bytes. (script : ScriptItems) × SpellsText text.now script
         × (bytes.items ≡ encoding script)) }
-    ensures fault { IfErr result (λ e. (e ≡ Fault.OutOfMemory) ⊎ IsLineFault text.now e) }
+    ensures fault { IfErr result (λ e. (e ≡ Fault.OutOfMemory) ⊎ IsFaultOfFirstBadLine text.now e) }
 {
-    let (version, mut left, mut number) = items_of_text(text);
+    let (version, mut left, mut number) = version_and_first_line_of_items(text);
     let mut out = Vec::new(alloc);
     append(&mut out, &opcode::MAGIC)?;
     append(&mut out, &[version.byte()])?;
     let mut so_far = 0;
     while let Some(rest) = left {
-        let (meant, behind, next) = append_group(alloc, &mut out, version, rest, number)?;
-        if meant > STEP_LIMIT - so_far {
+        let (step_count_meant, behind, next) = append_group(
+            alloc, &mut out, version, rest, number,
+        )?;
+        if step_count_meant > STEP_LIMIT - so_far {
             return Err(Fault::BadLine(number));
         }
-        so_far += meant;
+        so_far += step_count_meant;
         left = behind;
         number = next;
     }

@@ -4,7 +4,7 @@ ghost use Rattle.std.specs.Prelude.{IfSome};
 ghost use Rattle.vga_script.specs.Body.{StandsAfterRepeatBody};
 ghost use Rattle.vga_script.specs.Decoding.{HasStepsBefore, IsItemFault, StartsWithRepeat};
 ghost use Rattle.vga_script.specs.Item.{step_limit, steps_of_item};
-ghost use Rattle.vga_script.specs.Spelled.{HasSpelledBody, spelled_item};
+ghost use Rattle.vga_script.specs.Spelled.{HasSpelledRepeatBody, spelled_item};
 ghost use Rattle.vga_script.specs.Spelling.{opcode_repeat, script_limit, StartsWithItem};
 ghost use Rattle.vga_script.specs.Version.{AllowsRepeats};
 
@@ -80,7 +80,7 @@ fn repeat_at<'a>(
     requires fields { bytes.now ≡ opcode_repeat ∷ fields.now }
     requires place { offset + length bytes.now ≤ script_limit }
     ensures found { IfOk result (λ x. StartsWithItem version bytes.now (spelled_item x.0) x.1.now) }
-    ensures body { IfOk result (λ x. HasSpelledBody x.0) }
+    ensures body { IfOk result (λ x. HasSpelledRepeatBody x.0) }
     ensures fault { IfErr result (λ e. (so_far : ℕ)
         → IsItemFault version so_far offset bytes.now e) }
 {
@@ -112,7 +112,7 @@ pub(crate) fn item_at(
     requires some { 0 < length bytes.now }
     requires place { offset + length bytes.now ≤ script_limit }
     ensures found { IfOk result (λ x. StartsWithItem version bytes.now (spelled_item x.0) x.1.now) }
-    ensures body { IfOk result (λ x. HasSpelledBody x.0) }
+    ensures body { IfOk result (λ x. HasSpelledRepeatBody x.0) }
     ensures fault { IfErr result (λ e. (so_far : ℕ)
         → IsItemFault version so_far offset bytes.now e) }
 {
@@ -139,15 +139,15 @@ pub(crate) fn item_within_limit(
     requires place { offset + length bytes.now ≤ script_limit }
     requires few { so_far ≤ step_limit }
     ensures found { IfOk result (λ x. StartsWithItem version bytes.now (spelled_item x.0) x.1.now) }
-    ensures body { IfOk result (λ x. HasSpelledBody x.0) }
+    ensures body { IfOk result (λ x. HasSpelledRepeatBody x.0) }
     ensures counted { IfOk result (λ x. x.2 ≡ so_far + length (steps_of_item (spelled_item x.0))) }
     ensures within { IfOk result (λ x. x.2 ≤ step_limit) }
     ensures fault { IfErr result (λ e. IsItemFault version so_far offset bytes.now e) }
 {
     let (item, rest) = item_at(bytes, offset, version)?;
-    let meant = item.meant();
-    if so_far + meant > STEP_LIMIT {
+    let step_count_meant = item.step_count_meant();
+    if so_far + step_count_meant > STEP_LIMIT {
         return Err(Fault::TooMany(offset));
     }
-    Ok((item, rest, so_far + meant))
+    Ok((item, rest, so_far + step_count_meant))
 }

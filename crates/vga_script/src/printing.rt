@@ -8,7 +8,7 @@ ghost use Rattle.vga_script.specs.Beginning.{items_in, steps_in};
 ghost use Rattle.vga_script.specs.Item.{expanded, step_limit};
 ghost use Rattle.vga_script.specs.Printing.{line_of_words, printed_script, printed_item};
 ghost use Rattle.vga_script.specs.Printing.{printed_line, printed_steps, version_line};
-ghost use Rattle.vga_script.specs.Spelled.{HasSpelledBody, spelled_item};
+ghost use Rattle.vga_script.specs.Spelled.{HasSpelledRepeatBody, spelled_item};
 ghost use Rattle.vga_script.specs.Spelling.{SpellsItems, SpellsSteps, script_limit};
 
 use super::dump_range::Shown;
@@ -249,7 +249,7 @@ fn print_steps(alloc: Global, out: &mut Vec<u8>, bytes: &[u8]) -> Result<(), Fau
 
 /// Prints the beginning of a repeat. Its only error is `OutOfMemory`.
 #[tactic(auto, unfolding(crate::specs::Printing::line_of_words))]
-fn print_repeat(out: &mut Vec<u8>, count: u16) -> Result<(), Fault>
+fn print_repeat_beginning(out: &mut Vec<u8>, count: u16) -> Result<(), Fault>
     ensures ok { OnOk result (out.new.items ≡ out.old.items
         ++ line_of_words (codes "repeat" ∷ decimal count ∷ [])) }
     ensures err { IsOkUnless result Fault.OutOfMemory }
@@ -262,7 +262,7 @@ fn print_repeat(out: &mut Vec<u8>, count: u16) -> Result<(), Fault>
 
 /// Prints the end of a repeat. Its only error is `OutOfMemory`.
 #[tactic(auto, unfolding(crate::specs::Printing::line_of_words))]
-fn print_end(out: &mut Vec<u8>) -> Result<(), Fault>
+fn print_repeat_end(out: &mut Vec<u8>) -> Result<(), Fault>
     ensures ok { OnOk result (out.new.items ≡ out.old.items ++ line_of_words (codes "end" ∷ [])) }
     ensures err { IsOkUnless result Fault.OutOfMemory }
 {
@@ -271,7 +271,7 @@ fn print_end(out: &mut Vec<u8>) -> Result<(), Fault>
 
 /// Prints an item. Its only error is `OutOfMemory`.
 fn print_item(alloc: Global, out: &mut Vec<u8>, item: &SpelledItem<'_>) -> Result<(), Fault>
-    requires { HasSpelledBody item.now }
+    requires { HasSpelledRepeatBody item.now }
     ensures ok { OnOk result (out.new.items ≡ out.old.items
         ++ printed_item (spelled_item item.now)) }
     ensures err { IsOkUnless result Fault.OutOfMemory }
@@ -279,9 +279,9 @@ fn print_item(alloc: Global, out: &mut Vec<u8>, item: &SpelledItem<'_>) -> Resul
     match item {
         SpelledItem::Step { step } => print_step(alloc, out, step),
         SpelledItem::Block { count, steps, .. } => {
-            print_repeat(out, *count)?;
+            print_repeat_beginning(out, *count)?;
             print_steps(alloc, out, steps)?;
-            print_end(out)
+            print_repeat_end(out)
         }
     }
 }

@@ -33,7 +33,7 @@ fn repeat_count_at(fields: &[u8]) -> (u16, &[u8])
 }
 
 /// What follows the end of a repeat, if the bytes begin with one.
-fn behind_end(bytes: &[u8]) -> Option<&[u8]>
+fn behind_repeat_end(bytes: &[u8]) -> Option<&[u8]>
     ensures found { IfSome result (λ after. bytes.now ≡ opcode_end ∷ after.now) }
     ensures none { IfNone result ((after : List ℕ) → bytes.now ≢ opcode_end ∷ after) }
 {
@@ -69,7 +69,7 @@ pub(crate) fn move_to_next_step(progress: ScriptPosition<'_>) -> ScriptPosition<
             rest = others;
         } else if opcode == opcode::REPEAT {
             let (count, inner) = repeat_count_at(others);
-            match behind_end(inner) {
+            match behind_repeat_end(inner) {
                 Some(after) => rest = after,
                 None => {
                     return ScriptPosition {

@@ -1,7 +1,7 @@
 //! Reading the lines of a text that give its version, and those that begin and end a repeat.
 ghost use Rattle.std.specs.Prelude.{◌≡◌, ◌≢◌, ◌↔◌, ◌∷◌, [], ℕ, List, IfNone, IfSome, IsFalse};
 ghost use Rattle.std.specs.Prelude.{IsTrue};
-ghost use Rattle.vga_script.specs.Text.{IsRepeatEndLine, IsVersionTwo, SpellsRepeat};
+ghost use Rattle.vga_script.specs.Text.{IsRepeatEndLine, IsVersionTwo, SpellsBeginningOfRepeat};
 ghost use Rattle.vga_script.specs.Version.{AllowsRepeats};
 ghost use Rattle.vga_script.specs.Tokens.{words};
 
@@ -67,9 +67,9 @@ pub(crate) fn says_version_two(line: &[u8]) -> bool
 
 /// The count of the repeat that a line begins.
 #[tactic(auto, using(crate::proofs::RepeatLineLemmas::not_repeat_name, crate::proofs::RepeatLineLemmas::not_repeat_words))]
-fn count_of_line(line: &[u8]) -> Option<u16>
-    ensures found { IfSome result (λ count. SpellsRepeat (words line.now) count) }
-    ensures none { IfNone result ((count : ℕ) → SpellsRepeat (words line.now) count → ⊥) }
+fn repeat_count_of_line(line: &[u8]) -> Option<u16>
+    ensures found { IfSome result (λ count. SpellsBeginningOfRepeat (words line.now) count) }
+    ensures none { IfNone result ((count : ℕ) → SpellsBeginningOfRepeat (words line.now) count → ⊥) }
 {
     let Some((name, word)) = two_words(line) else {
         return None;
@@ -90,13 +90,13 @@ fn count_of_line(line: &[u8]) -> Option<u16>
 /// repeats.
 pub(crate) fn repeat_count_in_version(line: &[u8], version: Version) -> Option<u16>
     ensures found { IfSome result (λ count. AllowsRepeats version
-        × SpellsRepeat (words line.now) count) }
+        × SpellsBeginningOfRepeat (words line.now) count) }
     ensures none { IfNone result (AllowsRepeats version → (count : ℕ) →
-        SpellsRepeat (words line.now) count → ⊥) }
+        SpellsBeginningOfRepeat (words line.now) count → ⊥) }
 {
     match version {
         Version::One => None,
-        Version::Two => count_of_line(line),
+        Version::Two => repeat_count_of_line(line),
     }
 }
 

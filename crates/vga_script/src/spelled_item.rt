@@ -1,7 +1,7 @@
 //! An item, borrowed from the bytes of a script.
 ghost use Rattle.std.specs.Prelude.{◌≡◌, ◌<◌, ◌^◌, length};
 ghost use Rattle.vga_script.specs.Item.{steps_of_item};
-ghost use Rattle.vga_script.specs.Spelled.{HasSpelledBody, spelled_item};
+ghost use Rattle.vga_script.specs.Spelled.{HasSpelledRepeatBody, spelled_item};
 
 use super::step::Step;
 
@@ -27,8 +27,8 @@ pub(crate) enum SpelledItem<'a> {
 impl<'a> SpelledItem<'a> {
     /// How many steps the item means.
     #[tactic(auto, using(crate::proofs::ItemLemmas::steps_of_repeat))]
-    pub(crate) fn meant(&self) -> usize
-        requires { HasSpelledBody self.now }
+    pub(crate) fn step_count_meant(&self) -> usize
+        requires { HasSpelledRepeatBody self.now }
         ensures value { result ≡ length (steps_of_item (spelled_item self.now)) }
         ensures bound { result < 2 ^ 41 }
     {

@@ -93,7 +93,7 @@ macro_rules! take_steps_with_limit {
 /// Reads the fields of a call of the BIOS, and returns the call with what follows. Its block is
 /// borrowed.
 #[tactic(auto, using(crate::proofs::DecodeLemmas::cut_int))]
-fn int_at(fields: &[u8]) -> Result<(Step<'_>, &[u8]), NoStep>
+fn bios_call_at(fields: &[u8]) -> Result<(Step<'_>, &[u8]), NoStep>
     ensures found { IfOk result (λ x. StartsWithStep (opcode_int ∷ fields.now) x.0 x.1.now) }
     ensures cut { IfErr result (λ e. (e ≡ NoStep.Cut)
         × StartsWithCutStep (opcode_int ∷ fields.now)) }
@@ -204,7 +204,7 @@ fn step_of_opcode(opcode: u8, fields: &[u8]) -> Result<(Step<'_>, &[u8]), NoStep
     ensures cut { result ≡ Err NoStep.Cut → StartsWithCutStep (opcode ∷ fields.now) }
 {
     match opcode {
-        opcode::INT => int_at(fields),
+        opcode::INT => bios_call_at(fields),
         opcode::FRAME => Ok((Step::Frame, fields)),
         opcode::SHOW => shown_at(fields),
         _ => numeric_step_of_opcode(opcode, fields),

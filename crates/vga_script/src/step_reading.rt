@@ -5,7 +5,7 @@ ghost use Rattle.vga_script.specs.StepReading.{no_word_left, only_hex_number};
 ghost use Rattle.vga_script.specs.StepReading.{next_decimal_number, only_decimal_number};
 ghost use Rattle.vga_script.specs.StepReading.{next_register, block_bytes_of_word};
 ghost use Rattle.vga_script.specs.StepReading.{only_block_digits, block_at};
-ghost use Rattle.vga_script.specs.StepReading.{read_int};
+ghost use Rattle.vga_script.specs.StepReading.{read_bios_call};
 ghost use Rattle.vga_script.specs.StepReading.{shown_if_no_word_left, read_dac, read_plane};
 ghost use Rattle.vga_script.specs.StepReading.{read_shown, step_of_keyword};
 ghost use Rattle.vga_script.specs.Text.{SpellsLine};
@@ -117,7 +117,7 @@ fn only_decimal_number(fields: &[u8], most: u32) -> Result<u32, Unread>
 
 /// The first three bytes of a word, and the others.
 #[tactic(auto, using(std::proofs::lemmas::List::take_min, std::proofs::lemmas::List::drop_min))]
-fn name_and_rest(word: &[u8]) -> (&[u8], &[u8])
+fn three_bytes_and_rest(word: &[u8]) -> (&[u8], &[u8])
     ensures prefix { result.0.now ≡ take 3 word.now }
     ensures rest { result.1.now ≡ drop 3 word.now }
 {
@@ -135,7 +135,7 @@ fn next_register<'a>(fields: &'a [u8], name: &[u8]) -> Result<(u16, &'a [u8]), U
     let Some((word, rest)) = next_word(fields) else {
         return Ok((0, fields));
     };
-    let (prefix, digits) = name_and_rest(word);
+    let (prefix, digits) = three_bytes_and_rest(word);
     if !is_name(prefix, name) {
         return Ok((0, fields));
     }
@@ -188,9 +188,13 @@ fn block_at(alloc: Global, fields: &[u8]) -> Result<Vec<u8>, Unread>
 }
 
 /// Reads a call of the BIOS. Its block is kept in `kept`.
-#[tactic(auto, unfolding(crate::specs::StepReading::read_int))]
-fn read_int<'a>(alloc: Global, kept: &'a mut Vec<u8>, fields: &[u8]) -> Result<Step<'a>, Unread>
-    ensures { GivesWhatIsRead (λ step. step) result (read_int (words_between_blanks fields.now)) }
+#[tactic(auto, unfolding(crate::specs::StepReading::read_bios_call))]
+fn read_bios_call<'a>(
+    alloc: Global,
+    kept: &'a mut Vec<u8>,
+    fields: &[u8],
+) -> Result<Step<'a>, Unread>
+    ensures { GivesWhatIsRead (λ step. step) result (read_bios_call (words_between_blanks fields.now)) }
 {
     let (ax, rest) = next_register(fields, b"ax=")?;
     let (bx, rest) = next_register(rest, b"bx=")?;
@@ -354,7 +358,7 @@ fn step_of_keyword<'a>(
         fields.now)) }
 {
     match keyword {
-        Keyword::Int => read_int(alloc, kept, fields),
+        Keyword::Int => read_bios_call(alloc, kept, fields),
         Keyword::Frame => {
             no_word_left(fields)?;
             Ok(Step::Frame)

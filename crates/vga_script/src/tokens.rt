@@ -19,7 +19,7 @@ enum PieceEnd {
 
 impl PieceEnd {
     /// Whether this byte ends such a piece.
-    fn is_at(self, byte: u8) -> bool
+    fn is_ended_by(self, byte: u8) -> bool
         ensures { result ≡ is_end_of_piece self byte }
     {
         match self {
@@ -36,7 +36,7 @@ impl PieceEnd {
         ensures within { result ≤ length text.now }
     {
         let mut position = 0;
-        while position < text.len() && !self.is_at(text[position]) {
+        while position < text.len() && !self.is_ended_by(text[position]) {
             position += 1;
         }
         position
@@ -71,7 +71,7 @@ fn after_blanks(line: &[u8]) -> &[u8]
 {
     let mut rest = line;
     while let [first, others @ ..] = rest {
-        if !PieceEnd::Blank.is_at(*first) {
+        if !PieceEnd::Blank.is_ended_by(*first) {
             return rest;
         }
         rest = others;

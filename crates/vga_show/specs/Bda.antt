@@ -5,8 +5,8 @@ use Rattle.vga_bits.specs.Hex.{two_hex_digits, four_hex_digits}
 use Rattle.vga_show.specs.Lines.{dump_line, four_hex_digits_each}
 
 -- the mode, its columns, the size of a page, and the start of the active page
-unfoldable pub mode_words : BiosData → List (List ℕ)
-mode_words bda =
+unfoldable pub mode_columns_size_and_start_words : BiosData → List (List ℕ)
+mode_columns_size_and_start_words bda =
     codes "mode" ∷ two_hex_digits bda.mode ∷ codes "cols" ∷ four_hex_digits bda.columns
     ∷ codes "size"
     ∷ four_hex_digits bda.size
@@ -27,5 +27,5 @@ remaining_data_words bda =
 
 -- the word bda, and each of the data after its name
 abbrev pub bda_text : BiosData → List ℕ
-bda_text bda = dump_line (codes "bda") (mode_words bda ++ (cursor_position_words bda
+bda_text bda = dump_line (codes "bda") (mode_columns_size_and_start_words bda ++ (cursor_position_words bda
     ++ remaining_data_words bda))

@@ -26,10 +26,10 @@ beam_counter_words beam =
     (flag_number beam.split) ∷ []
 
 -- the word beam, its position, its counters, and a number of rows
-abbrev pub beam_line : Beam → ℕ → List ℕ
-beam_line beam count = dump_line (codes "beam") (beam_position_words beam
+abbrev pub beam_text_with_row_count : Beam → ℕ → List ℕ
+beam_text_with_row_count beam count = dump_line (codes "beam") (beam_position_words beam
     ++ (beam_counter_words beam ++ codes "rows" ∷ decimal count ∷ []))
 
 -- the beam, and how many rows are drawn of the frame under way
 abbrev pub beam_text : CardState → List ℕ
-beam_text card = beam_line card.crtc.beam (row_count (dots_of_frame_so_far card))
+beam_text card = beam_text_with_row_count card.crtc.beam (row_count (dots_of_frame_so_far card))

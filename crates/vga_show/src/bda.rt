@@ -2,7 +2,7 @@
 ghost use Rattle.std.specs.Prelude.{◌≡◌, ◌+◌, ◌≤◌, ◌++◌, length, false};
 ghost use Rattle.vga_bits.specs.Tracked.{inner_of, has_failed, WritesWholeOrPrefix};
 ghost use Rattle.vga_show.specs.Lines.{longest_dump_len, words_after_blanks};
-ghost use Rattle.vga_show.specs.Bda.{mode_words, cursor_position_words, remaining_data_words};
+ghost use Rattle.vga_show.specs.Bda.{mode_columns_size_and_start_words, cursor_position_words, remaining_data_words};
 ghost use Rattle.vga_show.specs.Bda.{bda_text as bda_text_of};
 
 use super::text::{DumpText, push_byte_field, push_spaced_word, push_word_field};
@@ -11,10 +11,10 @@ use std::io::Write;
 use vga_bits::{Fault, Tracked, write_whole};
 
 /// Appends the mode, its columns, the size of a page, and the start of the active page.
-#[tactic(auto, using(crate::proofs::TextLemmas::joins), unfolding(crate::specs::Bda::mode_words))]
-fn push_mode(text: &mut DumpText, bda: &Bda)
+#[tactic(auto, using(crate::proofs::TextLemmas::joins), unfolding(crate::specs::Bda::mode_columns_size_and_start_words))]
+fn push_mode_columns_size_and_start(text: &mut DumpText, bda: &Bda)
     requires { length text.old + 39 ≤ longest_dump_len }
-    ensures items { text.new ≡ text.old ++ words_after_blanks (mode_words bda.now) }
+    ensures items { text.new ≡ text.old ++ words_after_blanks (mode_columns_size_and_start_words bda.now) }
     ensures len { length text.new ≡ length text.old + 39 }
 {
     push_byte_field(text, b"mode", bda.mode());
@@ -57,7 +57,7 @@ fn bda_text(bda: &Bda) -> DumpText
 {
     let mut text = DumpText::new();
     text.push(b"bda");
-    push_mode(&mut text, bda);
+    push_mode_columns_size_and_start(&mut text, bda);
     push_cursor_positions(&mut text, bda);
     push_remaining_data(&mut text, bda);
     text.push(b"\n");

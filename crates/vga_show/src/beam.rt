@@ -3,7 +3,7 @@ ghost use Rattle.std.specs.Prelude.{◌≡◌, ◌+◌, ◌≤◌, ◌++◌, len
 ghost use Rattle.vga_bits.specs.Tracked.{inner_of, has_failed, WritesWholeOrPrefix};
 ghost use Rattle.vga_show.specs.Lines.{longest_dump_len, words_after_blanks};
 ghost use Rattle.vga_show.specs.Beam.{beam_position_words, beam_counter_words};
-ghost use Rattle.vga_show.specs.Beam.{beam_line as beam_line_of};
+ghost use Rattle.vga_show.specs.Beam.{beam_text_with_row_count as beam_line_of};
 ghost use Rattle.vga_show.specs.Beam.{beam_text};
 
 use super::text::{DumpText, push_decimal_field, push_word_field};
@@ -40,7 +40,7 @@ fn push_beam_counters(text: &mut DumpText, beam: &Beam)
 
 /// The line of the beam, with this number of rows.
 #[tactic(auto, using(crate::proofs::TextLemmas::joins))]
-pub(crate) fn beam_line(beam: &Beam, count: u16) -> DumpText
+pub(crate) fn beam_text_with_row_count(beam: &Beam, count: u16) -> DumpText
     ensures { result ≡ beam_line_of beam.now count }
 {
     let mut text = DumpText::new();
@@ -63,5 +63,5 @@ pub fn dump_beam<W: Write>(out: &mut Tracked<W>, card: &Card) -> Result<(), Faul
         (has_failed out.new) result (beam_text card.now) }
 {
     let (beam, count) = card.beam();
-    write_whole(out, beam_line(&beam, count).as_slice())
+    write_whole(out, beam_text_with_row_count(&beam, count).as_slice())
 }

@@ -27,7 +27,7 @@ impl Cut {
     }
 
     /// The longest advance that is cut: a line or two, or a frame.
-    fn most_dots(self) -> u32 {
+    fn most_dots_of_an_advance(self) -> u32 {
         match self {
             Cut::SingleDots => 1_800,
             Cut::Parts => 450_000,
@@ -54,7 +54,7 @@ impl Cut {
             return None;
         }
         let dots = words.next()?.parse::<u32>().ok()?;
-        if dots <= self.most_dots() {
+        if dots <= self.most_dots_of_an_advance() {
             Some(dots)
         } else {
             None

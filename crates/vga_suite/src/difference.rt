@@ -40,7 +40,7 @@ fn difference_at(
 
 /// The first and the last step of a line such as `1-13 ok`, which stands for the lines `1 ok` to
 /// `13 ok`.
-fn done_steps(line: &str) -> Option<(u64, u64)> {
+fn range_of_done_steps(line: &str) -> Option<(u64, u64)> {
     let (first, last) = line.strip_suffix(" ok")?.split_once('-')?;
     let first = first.parse().ok()?;
     let last = last.parse().ok()?;
@@ -92,7 +92,7 @@ pub fn first_difference(
     let mut lines = report.split_terminator('\n');
     let mut number = 1usize;
     for line in expected.split_terminator('\n') {
-        let found = match done_steps(line) {
+        let found = match range_of_done_steps(line) {
             Some((first, last)) => take_done_lines(alloc, &mut lines, number, first, last)?,
             None => take_line(alloc, &mut lines, number, line)?,
         };

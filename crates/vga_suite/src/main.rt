@@ -50,7 +50,7 @@ fn read_text<R: Files + AllocGlobal>(rt: &R, path: &str) -> Result<String> {
 fn text_of<R: Files + AllocGlobal>(rt: &R, case: &Case, setting: &Setting) -> Result<Vec<u8>> {
     let alloc = rt.alloc();
     let text = read_bytes(rt, setting.path(alloc, case.name, ".vga")?.as_str())?;
-    Ok(setting.behind_front(alloc, text.as_slice())?)
+    Ok(setting.text_after_preceding_text(alloc, text.as_slice())?)
 }
 
 /// What a case reports.
@@ -166,9 +166,9 @@ fn take_item<R: Files + Print + AllocGlobal>(
         Item::Fonts(file) => {
             setting.set_fonts(read_bytes(rt, setting.path(alloc, file, "")?.as_str())?);
         }
-        Item::NoFront => setting.set_front(Vec::new(alloc)),
+        Item::NoFront => setting.set_preceding_text(Vec::new(alloc)),
         Item::Front(file) => {
-            setting.set_front(read_bytes(rt, setting.path(alloc, file, "")?.as_str())?);
+            setting.set_preceding_text(read_bytes(rt, setting.path(alloc, file, "")?.as_str())?);
         }
         Item::Case(case) => {
             tally.count(check_case(rt, &case, setting)?);

@@ -38,12 +38,16 @@ impl Setting {
     }
 
     /// Replaces the preceding text.
-    pub fn set_front(&mut self, front: Vec<u8>) {
+    pub fn set_preceding_text(&mut self, front: Vec<u8>) {
         self.front = front;
     }
 
     /// The preceding text, followed by a text.
-    pub fn behind_front(&self, alloc: Global, text: &[u8]) -> Result<Vec<u8>, AllocError> {
+    pub fn text_after_preceding_text(
+        &self,
+        alloc: Global,
+        text: &[u8],
+    ) -> Result<Vec<u8>, AllocError> {
         let mut whole = Vec::from_slice(alloc, self.front.as_slice())?;
         whole.extend_from_slice(text)?;
         Ok(whole)

@@ -54,7 +54,13 @@ fn text_of(alloc: Global, card: &Card) -> Result<Vec<u8>, Fault> {
 }
 
 /// Whether a writer with room for this prefix returns this answer, and then has the prefix.
-fn takes(alloc: Global, card: &Card, prefix: &[u8], full: Full, answer: Result<(), Fault>) -> bool {
+fn is_prefix_taken(
+    alloc: Global,
+    card: &Card,
+    prefix: &[u8],
+    full: Full,
+    answer: Result<(), Fault>,
+) -> bool {
     let mut out = Sink::new(alloc, prefix.len(), full);
     let answered = write_cells(&mut out, card);
     let failed = out.failed();
@@ -66,7 +72,7 @@ fn takes(alloc: Global, card: &Card, prefix: &[u8], full: Full, answer: Result<(
 fn are_prefixes_taken(alloc: Global, card: &Card, text: &[u8], full: Full) -> bool {
     let fault = Err(Fault::WriteFault);
     for room in 0..text.len() {
-        if !takes(alloc, card, &text[..room], full, fault) {
+        if !is_prefix_taken(alloc, card, &text[..room], full, fault) {
             return false;
         }
     }
@@ -85,7 +91,10 @@ fn check_refusals(alloc: Global, card: &Card, checks: &mut Checks) -> Result<(),
 /// Checks writers that take all of the cells, whose text this is, or a prefix.
 fn check_writers(alloc: Global, card: &Card, text: &[u8], checks: &mut Checks) {
     for full in FULL {
-        checks.note("whole cells", takes(alloc, card, text, full, Ok(())));
+        checks.note(
+            "whole cells",
+            is_prefix_taken(alloc, card, text, full, Ok(())),
+        );
         checks.note(
             "a prefix of the cells",
             are_prefixes_taken(alloc, card, text, full),

@@ -28,7 +28,7 @@ impl CountedCard {
     }
 
     /// How many cycles it has had since the last call.
-    pub fn take_cycles(&mut self) -> u32 {
+    pub fn take_cycle_count(&mut self) -> u32 {
         let cycles = self.cycles;
         self.cycles = 0;
         cycles

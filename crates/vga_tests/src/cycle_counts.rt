@@ -149,7 +149,7 @@ const PACKED_CALLS: [CountedCall; 9] = [
 const BLOCK: [u8; 17] = [0x41; 17];
 
 /// How many cycles a call makes on an adapter.
-fn cycles_of(
+fn cycle_count_of_call(
     alloc: Global,
     card: &mut CountedCard,
     bda: &mut Bda,
@@ -163,7 +163,7 @@ fn cycles_of(
     if bda.valid() {
         let _ = int10(alloc, card, bda, fonts, regs, block);
     }
-    card.take_cycles()
+    card.take_cycle_count()
 }
 
 /// Checks that calls, made one after another on an adapter, have these numbers of cycles.
@@ -177,7 +177,7 @@ fn check_calls(
     let mut card = CountedCard::new(Card::new(alloc)?);
     let mut bda = Bda::new();
     for (words, len, wanted) in calls {
-        let cycles = cycles_of(alloc, &mut card, &mut bda, fonts, *words, *len);
+        let cycles = cycle_count_of_call(alloc, &mut card, &mut bda, fonts, *words, *len);
         checks.note(what, cycles == *wanted);
     }
     Ok(())

@@ -186,7 +186,7 @@ impl DotModel {
     }
 
     /// Goes to the next scan line of the characters, or after line compare to the start of memory.
-    fn next_scan(&mut self) {
+    fn next_scan_line_of_characters(&mut self) {
         let last_scan = self.crtc[9] & 0x1F;
         let is_compared = self.beam.line == self.line_compare();
         let beam = &mut self.beam;
@@ -211,7 +211,7 @@ impl DotModel {
     /// Goes to the next line, and returns whether the frame ends.
     fn next_line(&mut self) -> bool {
         self.is_row_begun = false;
-        self.next_scan();
+        self.next_scan_line_of_characters();
         let line = self.beam.line as u32 + 1;
         if line < self.vertical_total() as u32 + 2 {
             self.beam.line = self.beam.line.wrapping_add(1);
@@ -282,7 +282,7 @@ impl DotModel {
             return [0, 0, 0];
         }
         let index = if self.is_palette_shown {
-            self.shown_index()
+            self.dac_index_while_palette_is_shown()
         } else {
             self.attr[0x11]
         };
@@ -298,7 +298,7 @@ impl DotModel {
     }
 
     /// The DAC's index while the palette address source is 1.
-    fn shown_index(&self) -> u8 {
+    fn dac_index_while_palette_is_shown(&self) -> u8 {
         let (counter, dot) = self.source();
         if self.is_text() {
             self.palette_index(self.text_nibble(counter, dot))

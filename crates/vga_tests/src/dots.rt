@@ -5,7 +5,7 @@ ghost use Rattle.std.specs.Prelude.{◌≡◌, ◌<◌, ◌≤◌};
 use crate::dot_model::DotModel;
 use crate::random_registers::{
     DotSource, attribute_value, crtc_value, graphics_value, is_one_in, memory_byte, next_below,
-    next_byte, next_crtc_register, next_source, sequencer_value,
+    next_byte, next_crtc_register, random_dot_source_kind, sequencer_value,
 };
 use anyhow::Result;
 use rand_pcg::Pcg32;
@@ -235,17 +235,17 @@ impl Pair {
 
     /// Makes the frame 256 lines high or more, by these bits of the overflow register, with narrow
     /// lines.
-    fn make_tall(&mut self, overflow: u8) -> Result<(), Refusal> {
+    fn make_frame_tall(&mut self, overflow: u8) -> Result<(), Refusal> {
         self.set_crtc(0x11, 0x00)?;
         self.set_crtc(0x00, 0x00)?;
         self.set_crtc(0x07, self.model.crtc[0x07] | overflow)
     }
 
     /// Makes the frame tall if this setting is one of the tall ones.
-    fn make_tall_in(&mut self, setting: u32) -> Result<(), Refusal> {
+    fn make_frame_tall_in_some_settings(&mut self, setting: u32) -> Result<(), Refusal> {
         for (tall, overflow) in TALL {
             if tall == setting {
-                self.make_tall(overflow)?;
+                self.make_frame_tall(overflow)?;
             }
         }
         Ok(())
@@ -320,7 +320,7 @@ impl Pair {
             }
             2..=3 => {
                 let i = next_below(random, 9) as u8;
-                let dots = next_source(random);
+                let dots = random_dot_source_kind(random);
                 self.set_graphics(i, graphics_value(random, i, dots))
             }
             4..=11 => {
@@ -361,7 +361,7 @@ impl Pair {
     }
 
     /// Advances to the last dot of a character of nine dots, or past one of eight.
-    fn advance_to_last_dot(&mut self) -> Result<()> {
+    fn advance_to_last_dot_of_character(&mut self) -> Result<()> {
         let dots = 8u8.saturating_sub(self.model.beam.dot);
         self.advance(dots as u32)
     }
@@ -408,7 +408,7 @@ impl Pair {
             let dots = next_below(random, 500);
             self.advance(dots)?;
             if is_one_in(random, 4) {
-                self.advance_to_last_dot()?;
+                self.advance_to_last_dot_of_character()?;
             }
             let difference = self.beam_difference()?;
             if difference.is_some() {
@@ -430,7 +430,7 @@ impl Pair {
         self.fill_memory(random)?;
         for setting in 0..settings {
             self.change_all(random, dots)?;
-            self.make_tall_in(setting)?;
+            self.make_frame_tall_in_some_settings(setting)?;
             for _ in 0..FRAMES {
                 let difference = self.compared_frame(random)?;
                 if difference.is_some() {

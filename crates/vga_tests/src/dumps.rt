@@ -54,7 +54,7 @@ fn text_of(alloc: Global, dump: Dump, card: &Card) -> Result<Vec<u8>, Fault> {
 }
 
 /// Whether a writer with room for this prefix returns this answer, and then has the prefix.
-fn takes(
+fn is_prefix_taken(
     alloc: Global,
     dump: Dump,
     card: &Card,
@@ -72,7 +72,7 @@ fn takes(
 fn are_prefixes_taken(alloc: Global, dump: Dump, card: &Card, text: &[u8], full: Full) -> bool {
     let fault = Err(Fault::WriteFault);
     for room in 0..text.len() {
-        if !takes(alloc, dump, card, &text[..room], full, fault) {
+        if !is_prefix_taken(alloc, dump, card, &text[..room], full, fault) {
             return false;
         }
     }
@@ -82,7 +82,10 @@ fn are_prefixes_taken(alloc: Global, dump: Dump, card: &Card, text: &[u8], full:
 /// Checks writers that take all of a dump, whose text this is, or a prefix.
 fn check_writers(alloc: Global, dump: Dump, card: &Card, text: &[u8], checks: &mut Checks) {
     for full in FULL {
-        checks.note("a whole dump", takes(alloc, dump, card, text, full, Ok(())));
+        checks.note(
+            "a whole dump",
+            is_prefix_taken(alloc, dump, card, text, full, Ok(())),
+        );
         checks.note(
             "a prefix of a dump",
             are_prefixes_taken(alloc, dump, card, text, full),

@@ -41,11 +41,11 @@ use cycle_counts::check_cycle_counts;
 use dots::compare_dots;
 use dumps::check_dumps;
 use host_path::compare_host_path;
-use memory::{CALLS, check_memory};
+use memory::{CALLS, check_allocating_calls};
 use names::check_names;
 use pictures::check_pictures;
 use random_registers::DotSource;
-use registers::check_registers;
+use registers::check_registers_bytes_and_texts;
 use runs::check_runs;
 use screens::check_screens;
 use script_bytes::check_script_bytes;
@@ -89,7 +89,7 @@ fn compare_host<R: Print + AllocGlobal>(
 }
 
 /// Compares dots of each kind with the model, and prints the result.
-fn compare_kinds<R: Print + AllocGlobal>(
+fn compare_dots_of_each_kind<R: Print + AllocGlobal>(
     rt: &R,
     tally: &mut ComparisonTally,
     settings: u32,
@@ -103,13 +103,16 @@ fn compare_kinds<R: Print + AllocGlobal>(
 }
 
 /// Checks what the other crates build on, and prints the result of each group.
-fn check_bases<R: Print + AllocGlobal>(rt: &R, tally: &mut ComparisonTally) -> Result<()> {
+fn check_what_crates_build_on<R: Print + AllocGlobal>(
+    rt: &R,
+    tally: &mut ComparisonTally,
+) -> Result<()> {
     let alloc = rt.alloc();
     print_checks(
         rt,
         tally,
         "registers, bytes and text",
-        check_registers(alloc)?,
+        check_registers_bytes_and_texts(alloc)?,
     )?;
     print_checks(rt, tally, "names", check_names(alloc)?)?;
     print_checks(rt, tally, "readers and writers", check_tracking(alloc)?)?;
@@ -118,7 +121,10 @@ fn check_bases<R: Print + AllocGlobal>(rt: &R, tally: &mut ComparisonTally) -> R
 }
 
 /// Checks what is written, and prints the result of each group.
-fn check_written<R: Print + AllocGlobal>(rt: &R, tally: &mut ComparisonTally) -> Result<()> {
+fn check_dumps_pictures_and_runs<R: Print + AllocGlobal>(
+    rt: &R,
+    tally: &mut ComparisonTally,
+) -> Result<()> {
     let alloc = rt.alloc();
     print_checks(rt, tally, "dumps", check_dumps(alloc)?)?;
     print_checks(rt, tally, "cells", check_cells(alloc)?)?;
@@ -129,11 +135,11 @@ fn check_written<R: Print + AllocGlobal>(rt: &R, tally: &mut ComparisonTally) ->
 /// Checks the crates, a group for each part, and prints the result of each.
 fn check_crates<R: Print + AllocGlobal>(rt: &R, tally: &mut ComparisonTally) -> Result<()> {
     let alloc = rt.alloc();
-    check_bases(rt, tally)?;
-    check_written(rt, tally)?;
+    check_what_crates_build_on(rt, tally)?;
+    check_dumps_pictures_and_runs(rt, tally)?;
     print_checks(rt, tally, "screens", check_screens(alloc)?)?;
     print_checks(rt, tally, "cycles of services", check_cycle_counts(alloc)?)?;
-    print_checks(rt, tally, "memory", check_memory(alloc))
+    print_checks(rt, tally, "memory", check_allocating_calls(alloc))
 }
 
 /// Makes `count` allocations, one after another.
@@ -180,7 +186,7 @@ fn wanted_job<R: Env + AllocGlobal>(rt: &R) -> Result<Job> {
 /// Makes all comparisons and checks.
 fn check_everything<R: Print + AllocGlobal>(rt: &R, tally: &mut ComparisonTally) -> Result<()> {
     compare_host(rt, tally, host_path::SETTINGS)?;
-    compare_kinds(rt, tally, dots::SETTINGS)?;
+    compare_dots_of_each_kind(rt, tally, dots::SETTINGS)?;
     check_crates(rt, tally)
 }
 
@@ -189,7 +195,7 @@ fn main(rt: HostRuntime) -> Result<ExitCode> {
     match wanted_job(&rt)? {
         Job::Everything => check_everything(&rt, &mut tally)?,
         Job::Host(settings) => compare_host(&rt, &mut tally, settings)?,
-        Job::Dots(settings) => compare_kinds(&rt, &mut tally, settings)?,
+        Job::Dots(settings) => compare_dots_of_each_kind(&rt, &mut tally, settings)?,
         Job::Memory(allocations) => {
             print_endings(&rt, allocations)?;
             return Ok(ExitCode::from(0));

@@ -229,7 +229,7 @@ pub fn check_memory(alloc: Global) -> Checks {
     let mut checks = Checks::new();
     for call in CALLS {
         let is_right = matches!(call.ending(alloc), Ending::AsInExample);
-        checks.note("a call that takes memory", is_right);
+        checks.note("a call that is_prefix_taken memory", is_right);
     }
     checks
 }

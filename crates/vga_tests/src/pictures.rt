@@ -27,7 +27,7 @@ fn is_size_written(alloc: Global, width: u32, height: u32, wanted: &[u8]) -> boo
 }
 
 /// Whether a writer with room for this prefix returns this answer, and then has the prefix.
-fn takes(alloc: Global, prefix: &[u8], full: Full, answer: Result<(), Fault>) -> bool {
+fn is_prefix_taken(alloc: Global, prefix: &[u8], full: Full, answer: Result<(), Fault>) -> bool {
     let mut out = Sink::new(alloc, prefix.len(), full);
     write_ppm(&mut out, 2, 1, &TWO_DOTS) == answer
         && out.failed() == answer.is_err()
@@ -38,7 +38,7 @@ fn takes(alloc: Global, prefix: &[u8], full: Full, answer: Result<(), Fault>) ->
 fn are_prefixes_taken(alloc: Global, full: Full) -> bool {
     let fault = Err(Fault::WriteFault);
     for room in 0..TWO_DOTS_PPM.len() {
-        if !takes(alloc, &TWO_DOTS_PPM[..room], full, fault) {
+        if !is_prefix_taken(alloc, &TWO_DOTS_PPM[..room], full, fault) {
             return false;
         }
     }
@@ -52,7 +52,10 @@ pub fn check_pictures(alloc: Global) -> Checks {
         checks.note("a size", is_size_written(alloc, width, height, wanted));
     }
     for full in FULL {
-        checks.note("a whole picture", takes(alloc, &TWO_DOTS_PPM, full, Ok(())));
+        checks.note(
+            "a whole picture",
+            is_prefix_taken(alloc, &TWO_DOTS_PPM, full, Ok(())),
+        );
         checks.note("a prefix of a picture", are_prefixes_taken(alloc, full));
     }
     checks

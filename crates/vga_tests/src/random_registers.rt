@@ -26,7 +26,7 @@ pub fn next_below(random: &mut Pcg32, end: u32) -> u32
 }
 
 /// One of the three sources of dots.
-pub fn next_source(random: &mut Pcg32) -> DotSource {
+pub fn random_dot_source_kind(random: &mut Pcg32) -> DotSource {
     match next_below(random, 3) {
         0 => DotSource::Text,
         1 => DotSource::SixteenColours,

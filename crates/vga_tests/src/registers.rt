@@ -92,7 +92,7 @@ fn check_digits(checks: &mut Checks) {
 }
 
 /// Checks registers, bytes and texts.
-pub fn check_registers(alloc: Global) -> Result<Checks> {
+pub fn check_registers_bytes_and_texts(alloc: Global) -> Result<Checks> {
     let mut checks = Checks::new();
     check_masks(&mut checks);
     check_bytes(alloc, &mut checks)?;

@@ -226,7 +226,7 @@ fn check_writers(alloc: Global, fonts: &[u8], checks: &mut Checks) {
 pub fn check_runs(alloc: Global) -> Result<Checks> {
     let mut checks = Checks::new();
     let fonts = vec![in alloc; 0; FONTS_LEN]?;
-    check_at_hand(alloc, fonts.as_slice(), &mut checks)?;
+    check_scripts_at_hand(alloc, fonts.as_slice(), &mut checks)?;
     check_font_sizes(alloc, &mut checks)?;
     check_readers(alloc, fonts.as_slice(), &mut checks);
     check_writers(alloc, fonts.as_slice(), &mut checks);

@@ -106,7 +106,7 @@ fn is_shown(alloc: Global, card: &Card, bda: &Bda) -> Result<bool, Fault> {
 }
 
 /// Makes the calls, and returns whether all were accepted and no screen was shown before them.
-fn serve_first(
+fn serve_calls_with_no_screen_before(
     alloc: Global,
     card: &mut Card,
     bda: &mut Bda,
@@ -121,7 +121,7 @@ fn serve_first(
 fn screen_behind(alloc: Global, calls: &[Regs]) -> Result<Option<Screen>, Fault> {
     let mut card = Card::new(alloc)?;
     let mut bda = Bda::new();
-    if !serve_first(alloc, &mut card, &mut bda, calls)? {
+    if !serve_calls_with_no_screen_before(alloc, &mut card, &mut bda, calls)? {
         return Ok(None);
     }
     Screen::read(alloc, &card, &bda)

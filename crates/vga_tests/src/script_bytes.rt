@@ -59,7 +59,7 @@ fn are_two_steps(alloc: Global, bytes: &[u8]) -> Result<bool, Fault> {
 }
 
 /// Whether a script of two steps that is cut off in the second has its fault there.
-fn is_cut_named(alloc: Global, bytes: &[u8]) -> bool {
+fn is_fault_at_cut_step(alloc: Global, bytes: &[u8]) -> bool {
     for len in PREFIX.len() + 1..bytes.len() {
         if byte_fault(alloc, &bytes[..len]) != Some(Fault::Truncated(8)) {
             return false;
@@ -69,7 +69,7 @@ fn is_cut_named(alloc: Global, bytes: &[u8]) -> bool {
 }
 
 /// Whether a zero byte after a script is a fault there.
-fn is_end_named(alloc: Global, bytes: &[u8]) -> Result<bool, AllocError> {
+fn is_fault_at_byte_after_script(alloc: Global, bytes: &[u8]) -> Result<bool, AllocError> {
     let mut longer = Vec::from_slice(alloc, bytes)?;
     longer.push(0x00)?;
     Ok(byte_fault(alloc, longer.as_slice()) == Some(Fault::BadStep(bytes.len())))
@@ -81,8 +81,11 @@ fn check_step(alloc: Global, step: &[u8], checks: &mut Checks) -> Result<()> {
     bytes.extend_from_slice(step)?;
     let bytes = bytes.as_slice();
     checks.note("a whole step", are_two_steps(alloc, bytes)?);
-    checks.note("a cut step", is_cut_named(alloc, bytes));
-    checks.note("a byte that is no step", is_end_named(alloc, bytes)?);
+    checks.note("a cut step", is_fault_at_cut_step(alloc, bytes));
+    checks.note(
+        "a byte that is no step",
+        is_fault_at_byte_after_script(alloc, bytes)?,
+    );
     Ok(())
 }
 

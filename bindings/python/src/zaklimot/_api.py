@@ -24,6 +24,7 @@ from ._errors import (
     Error,
     FontSize,
     LibraryMissing,
+    ManyColours,
     NoMode,
     NoRoom,
     NoScreen,
@@ -50,7 +51,7 @@ from ._errors import (
 from ._file import kind_of
 from ._library import Fonts, default_fonts, font_bytes, loaded
 from ._names import CRTC, GFX, SEQ, Indexed
-from ._pictures import Colour, Lines, Picture, ScanLine, XrgbPicture
+from ._pictures import Colour, IndexedPicture, Lines, Picture, ScanLine, XrgbPicture
 from ._report import Report, Step
 from ._script import Script
 from ._scripts import AnyScript, assemble, disassemble, run_script
@@ -149,11 +150,13 @@ __all__ = [
     "GFX",
     "HIGHEST",
     "Indexed",
+    "IndexedPicture",
     "Library",
     "LibraryMissing",
     "Lines",
     "MOST_DOTS",
     "MOST_STATE",
+    "ManyColours",
     "NoMode",
     "NoRoom",
     "NoScreen",

@@ -15,7 +15,7 @@ from ._errors import BadArgument, Closed, error_of
 from ._library import Bytes, Fonts, font_bytes, loaded
 from ._memory import Room, given, lent, writable
 from ._numbers import BYTE, LONG, WORD, in_range
-from ._pictures import Colour, Lines, Picture, ScanLine, XrgbPicture
+from ._pictures import Colour, IndexedPicture, Lines, Picture, ScanLine, XrgbPicture
 from ._report import Report
 from ._scripts import script_bytes
 from ._state import (
@@ -448,6 +448,24 @@ class Card:
         self._call("frame_words", flags, _byref(told), *self._target(*target), pitch)
         width, height, across, down = told.width, told.height, told.across, told.down
         return XrgbPicture(width, height, pitch, self._words(into), across, down)
+
+    def frame_indexed(self, into: Optional[Any] = None) -> IndexedPicture:
+        """Lets the clock run to the end of the frame, and returns numbers of colours with a palette.
+
+            picture = card.frame_indexed()
+            picture.palette[picture.numbers[0]]           # the word 00RRGGBB of the first dot
+
+        The numbers lie in the card's memory, until its next `frame_indexed`; or in `into`, a
+        writable buffer of at least width * height bytes. Raises ManyColours if the picture has more
+        than 256 colours, Ragged if two rows differ in width, and NoRoom if `into` is too short.
+        With each of them the frame has passed, and `peek` still gives its dots.
+        """
+        size, palette = s.zak_size(), s.zak_palette()
+        target = self._target(into, "numbers", s.WIDEST * s.HIGHEST, s.U8)
+        self._call("frame_indexed", _byref(size), _byref(palette), *target)
+        numbers = self._view(into, "numbers")[: size.width * size.height]
+        colours = tuple(palette.colours[: palette.len])
+        return IndexedPicture(size.width, size.height, numbers, colours)
 
     def line(self, *, opaque: bool = False) -> ScanLine:
         """Lets the clock run to the end of the line under way, and returns its dots as words.

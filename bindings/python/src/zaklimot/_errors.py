@@ -185,6 +185,15 @@ class Broken(Error):
     number = 29
 
 
+class ManyColours(Error):
+    """The picture has more than 256 colours.
+
+    The frame has passed. `Card.peek` still gives its dots.
+    """
+
+    number = 35
+
+
 class StateError(Error, ValueError):
     """The bytes can't be restored. The card is unchanged."""
 

@@ -173,6 +173,66 @@ def _words_of(width: int, height: int, words: bytes, across: int, down: int) -> 
     return XrgbPicture(width, height, width, memoryview(words).cast("I"), across, down)
 
 
+class IndexedPicture:
+    """The picture of a frame: `height` rows of `width` numbers of colours, and their palette.
+
+    `picture[x, y]` is the number of a dot's colour, 0 to 255, and `palette[number]` that colour, a
+    word 00RRGGBB with eight bits per component. The palette is a tuple of 1 to 256 words: the
+    colours of this picture, each once, in the order in which they first appear. `numbers` is a
+    memoryview of width * height bytes, rows from the top, dots from the left. With numpy,
+    `numpy.asarray(picture)` has the shape (height, width), without a copy, and takes y first.
+
+    A picture in the card's own memory is valid until its next `frame_indexed`; `copy()` keeps it.
+    You can also pickle a picture, which makes a copy too.
+    """
+
+    def __init__(
+        self, width: int, height: int, numbers: memoryview, palette: tuple[int, ...]
+    ) -> None:
+        self.width, self.height, self.numbers, self.palette = width, height, numbers, palette
+
+    @property
+    def __array_interface__(self) -> dict[str, Any]:
+        shape = (self.height, self.width)
+        return {"version": 3, "typestr": "|u1", "shape": shape, "data": self.numbers}
+
+    def __getitem__(self, place: tuple[int, int]) -> int:
+        """`picture[x, y]` is the number of a dot's colour, x from the left, y from the top.
+        IndexError outside."""
+        x, y = place
+        if not (0 <= x < self.width and 0 <= y < self.height):
+            raise IndexError(
+                f"({x}, {y}) is outside a picture of {self.width} by {self.height} dots"
+            )
+        return int(self.numbers[self.width * y + x])
+
+    def rows(self) -> Iterator[memoryview]:
+        """The rows from the top, `width` numbers each."""
+        for y in range(self.height):
+            yield self.numbers[self.width * y : self.width * (y + 1)]
+
+    def copy(self) -> IndexedPicture:
+        """A copy of the picture in memory of its own."""
+        return _indexed_of(*self._parts())
+
+    def _parts(self) -> tuple[int, int, bytes, tuple[int, ...]]:
+        """What a copy is made of."""
+        return self.width, self.height, bytes(self.numbers), self.palette
+
+    def __reduce__(self) -> tuple[Any, ...]:
+        return _indexed_of, self._parts()
+
+    def __repr__(self) -> str:
+        return (
+            f"<IndexedPicture of {self.width} by {self.height} dots in {len(self.palette)} colours>"
+        )
+
+
+def _indexed_of(width: int, height: int, numbers: bytes, palette: tuple[int, ...]) -> IndexedPicture:
+    """A picture in memory of its own."""
+    return IndexedPicture(width, height, memoryview(numbers), palette)
+
+
 class ScanLine(NamedTuple):
     """A line of a frame, as it ends."""
 

@@ -57,6 +57,20 @@ pub struct zak_picture {
     pub down: u32,
 }
 
+/// `zak_palette` of the header.
+#[repr(C)]
+#[derive(Clone, Copy, Debug, PartialEq, Eq)]
+pub struct zak_palette {
+    pub len: u32,
+    pub colours: [u32; 256],
+}
+
+impl Default for zak_palette {
+    fn default() -> zak_palette {
+        zak_palette { len: 0, colours: [0; 256] }
+    }
+}
+
 /// `zak_scan_line` of the header.
 #[repr(C)]
 #[derive(Clone, Copy, Debug, Default, PartialEq, Eq)]
@@ -219,6 +233,7 @@ pub const ZAK_STATE_VERSION: zak_status = 31;
 pub const ZAK_STATE_LENGTH: zak_status = 32;
 pub const ZAK_STATE_PART: zak_status = 33;
 pub const ZAK_STATE_CHECKSUM: zak_status = 34;
+pub const ZAK_MANY_COLOURS: zak_status = 35;
 pub const ZAK_BAD_MAGIC: zak_status = 102;
 pub const ZAK_BAD_VERSION: zak_status = 103;
 pub const ZAK_BAD_STEP: zak_status = 104;
@@ -314,6 +329,13 @@ extern "C" {
         pixels: *mut u32,
         pixels_cap: usize,
         pitch: usize,
+    ) -> zak_status;
+    pub fn zak_frame_indexed(
+        card: *mut zak_card,
+        size: *mut zak_size,
+        palette: *mut zak_palette,
+        numbers: *mut u8,
+        numbers_cap: usize,
     ) -> zak_status;
     pub fn zak_line(
         card: *mut zak_card,

@@ -7,7 +7,9 @@ use std::ptr::null_mut;
 use zaklimot_sys as sys;
 
 use crate::error::{done, done_at, Error};
-use crate::picture::{Form, Lines, Picture, ScanLine, Size, WordSize, XrgbPicture};
+use crate::picture::{
+    Form, IndexedPicture, Lines, Palette, Picture, ScanLine, Size, WordSize, XrgbPicture,
+};
 use crate::state::{
     Answer, Beam, BiosData, Cell, Colour, Direction, Latches, Position, Registers, Regs, Screen,
     Source, Timing,
@@ -404,6 +406,41 @@ impl Card {
         pitch: usize,
     ) -> Result<WordSize, Error> {
         frame_words_into(&mut self.raw, form, pixels, pitch)
+    }
+
+    /// Lets the clock run to the end of the frame under way, and lends its picture: a number for
+    /// each dot, and the palette that has its colour there.
+    ///
+    /// ```
+    /// use zaklimot::{Card, Regs};
+    ///
+    /// let mut card = Card::new()?;
+    /// card.int10(Regs::ax(0x0013), &[])?;
+    /// card.put(0xA0000, 0x0F)?;
+    /// let picture = card.frame_indexed()?;
+    /// assert_eq!(picture.palette().colours(), [0x00FF_FFFF, 0x0000_0000]);
+    /// assert_eq!(picture.numbers()[..3], [0, 0, 1]); // a pixel of mode 13 is two dots wide
+    /// # Ok::<(), zaklimot::Error>(())
+    /// ```
+    ///
+    /// # Errors
+    ///
+    /// [`Error::ManyColours`] if the picture has more than 256 colours, [`Error::Ragged`] if two
+    /// rows differ in width. The frame has passed. [`Error::OutOfMemory`]: nothing has changed.
+    pub fn frame_indexed(&mut self) -> Result<IndexedPicture<'_>, Error> {
+        let numbers = kept(&mut self.rgb, MOST_RGB);
+        let (size, palette) = frame_indexed_into(&mut self.raw, numbers)?;
+        Ok(IndexedPicture::new(size, palette, numbers))
+    }
+
+    /// The same, into the caller's bytes: one per dot, rows from the top, each from the left.
+    ///
+    /// # Errors
+    ///
+    /// Those of [`frame_indexed`](Card::frame_indexed), and [`Error::NoRoom`] if the bytes are too
+    /// few: the frame has passed.
+    pub fn frame_indexed_into(&mut self, numbers: &mut [u8]) -> Result<(Size, Palette), Error> {
+        frame_indexed_into(&mut self.raw, numbers)
     }
 
     /// Lets the clock run to the end of the line under way, and writes a word for each of its dots
@@ -884,6 +921,17 @@ fn frame_into(raw: &mut sys::zak_card, rgb: &mut [u8]) -> Result<Size, Error> {
     // SAFETY: `rgb` has as many bytes as its length says.
     done(unsafe { sys::zak_frame(raw, &mut size, rgb.as_mut_ptr(), rgb.len()) })?;
     Ok(size_of(size))
+}
+
+fn frame_indexed_into(
+    raw: &mut sys::zak_card,
+    numbers: &mut [u8],
+) -> Result<(Size, Palette), Error> {
+    let (mut size, mut palette) = (sys::zak_size::default(), sys::zak_palette::default());
+    let (to, len) = (numbers.as_mut_ptr(), numbers.len());
+    // SAFETY: `numbers` has as many bytes as its length says.
+    done(unsafe { sys::zak_frame_indexed(raw, &mut size, &mut palette, to, len) })?;
+    Ok((size_of(size), Palette::new(palette.len as usize, palette.colours)))
 }
 
 fn frame_xrgb_into(

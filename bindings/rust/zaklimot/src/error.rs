@@ -66,6 +66,9 @@ pub enum Error {
     StatePart,
     /// A state of a fixed length whose checksum is wrong.
     StateChecksum,
+    /// The picture has more than 256 colours. The frame has passed, and
+    /// [`Card::peek`](crate::Card::peek) still gives its dots.
+    ManyColours,
     /// The bytes are no script: they don't begin with `VGAS`.
     BadMagic,
     /// A script of another version.
@@ -120,7 +123,7 @@ statuses! {
     ZAK_NO_ROOM NoRoom, ZAK_BAD_ARGUMENT BadArgument, ZAK_BAD_CARD BadCard,
     ZAK_NO_SCREEN NoScreen, ZAK_BROKEN Broken, ZAK_STATE_MAGIC StateMagic,
     ZAK_STATE_VERSION StateVersion, ZAK_STATE_LENGTH StateLength, ZAK_STATE_PART StatePart,
-    ZAK_STATE_CHECKSUM StateChecksum, ZAK_BAD_MAGIC BadMagic,
+    ZAK_STATE_CHECKSUM StateChecksum, ZAK_MANY_COLOURS ManyColours, ZAK_BAD_MAGIC BadMagic,
     ZAK_BAD_VERSION BadVersion, ZAK_BAD_STEP BadStep(place), ZAK_TRUNCATED Truncated(place),
     ZAK_TOO_LONG TooLong, ZAK_BAD_LINE BadLine(place), ZAK_TOO_MANY TooMany(place),
 }

@@ -38,7 +38,9 @@ mod state;
 
 pub use card::{Card, Slice};
 pub use error::Error;
-pub use picture::{Form, Lines, Picture, ScanLine, Size, WordSize, XrgbPicture};
+pub use picture::{
+    Form, IndexedPicture, Lines, Palette, Picture, ScanLine, Size, WordSize, XrgbPicture,
+};
 pub use script::{assemble, disassemble, run};
 pub use state::{
     Answer, Beam, BiosData, Cell, Colour, Direction, Latches, Position, Registers, Regs, Screen,

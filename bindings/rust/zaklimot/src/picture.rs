@@ -90,6 +90,69 @@ impl<'a> Picture<'a> {
     }
 }
 
+/// The colours of a picture as words `00RRGGBB`, 1 to 256, each once, in the order in which they
+/// first appear.
+#[derive(Clone, Copy, Debug, PartialEq, Eq)]
+pub struct Palette {
+    len: usize,
+    colours: [u32; 256],
+}
+
+impl Palette {
+    pub(crate) fn new(len: usize, colours: [u32; 256]) -> Palette {
+        Palette { len, colours }
+    }
+
+    /// The colours. A number is the place of its colour.
+    #[must_use]
+    pub fn colours(&self) -> &[u32] {
+        &self.colours[..self.len]
+    }
+}
+
+/// A picture that the card lends: a number for each dot, and the palette that has its colour there.
+#[derive(Clone, Copy, Debug, PartialEq, Eq)]
+pub struct IndexedPicture<'a> {
+    size: Size,
+    palette: Palette,
+    numbers: &'a [u8],
+}
+
+impl<'a> IndexedPicture<'a> {
+    pub(crate) fn new(size: Size, palette: Palette, numbers: &'a [u8]) -> IndexedPicture<'a> {
+        IndexedPicture { size, palette, numbers: &numbers[..size.width * size.height] }
+    }
+
+    /// Dots of a row.
+    #[must_use]
+    pub fn width(&self) -> usize {
+        self.size.width
+    }
+
+    /// Rows.
+    #[must_use]
+    pub fn height(&self) -> usize {
+        self.size.height
+    }
+
+    /// The colours, of which the numbers are the places.
+    #[must_use]
+    pub fn palette(&self) -> &Palette {
+        &self.palette
+    }
+
+    /// All numbers: rows from the top, dots from the left.
+    #[must_use]
+    pub fn numbers(&self) -> &'a [u8] {
+        self.numbers
+    }
+
+    /// The rows from the top, a number for each dot.
+    pub fn rows(&self) -> ChunksExact<'a, u8> {
+        self.numbers.chunks_exact(self.size.width.max(1))
+    }
+}
+
 /// A picture that the card lends: a word `00RRGGBB` or `FFRRGGBB` per pixel, eight bits per
 /// component.
 #[derive(Clone, Copy, Debug, PartialEq, Eq)]

@@ -218,6 +218,46 @@ fn a_frame_has_its_picture() {
 }
 
 #[test]
+fn the_palette_has_the_colour_of_each_number() {
+    let mut card = card_in(0x0013);
+    for x in 0..320 {
+        card.put(0xA0000 + x, (x % 256) as u8).unwrap();
+    }
+    let mut other = Card::new().unwrap();
+    other.restore(&card.save().unwrap()).unwrap();
+    let words: Vec<u32> = other.frame_xrgb().unwrap().rows().flatten().copied().collect();
+    let picture = card.frame_indexed().unwrap();
+    let colours = picture.palette().colours();
+    assert_eq!((picture.width(), picture.height()), (640, 400));
+    let named: Vec<u32> = picture.numbers().iter().map(|n| colours[usize::from(*n)]).collect();
+    assert_eq!(named, words);
+    assert_eq!(picture.numbers()[0], 0);
+    assert_eq!(picture.rows().count(), 400);
+    assert_eq!(card.frame_indexed_into(&mut [0; 9]), Err(Error::NoRoom));
+}
+
+#[test]
+fn a_picture_may_have_too_many_colours_for_a_palette() {
+    let mut card = card_in(0x0013);
+    card.out(0x3C8, 0).unwrap();
+    for colour in 0..=255 {
+        for component in [colour % 64, colour / 64, 0] {
+            card.out(0x3C9, component).unwrap();
+        }
+        card.put(0xA0000 + u32::from(colour), colour).unwrap();
+        card.put(0xA0000 + 320 * 199 + u32::from(colour), colour).unwrap();
+    }
+    assert_eq!(card.frame_indexed().unwrap().palette().colours().len(), 256);
+    card.advance(100_000).unwrap();
+    card.out(0x3C8, 7).unwrap();
+    for component in [63, 63, 63] {
+        card.out(0x3C9, component).unwrap();
+    }
+    assert_eq!(card.frame_indexed(), Err(Error::ManyColours));
+    assert_eq!(card.peek().unwrap().widths()[0], 640);
+}
+
+#[test]
 fn what_is_drawn_until_now_is_the_beginning_of_the_frame() {
     let mut card = card_in(0x0013);
     card.frame().unwrap();

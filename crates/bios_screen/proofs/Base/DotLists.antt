@@ -4,7 +4,7 @@ use Rattle.std.proofs.Common.{replicate}
 use Rattle.std.specs.Prelude.{nat_lt, if◌then◌else◌, ◌&&◌}
 use Rattle.std.proofs.lemmas.List.{append-nil, map-append, replicate-append-replicate}
 use Rattle.std.proofs.lemmas.Nat.{div-mul-add, mod-mul-add}
-use Rattle.vga_card.specs.Picture.{Dot, line_of_dot, lines_of_dots, lines_by_widths, bytes_of_dots}
+use Rattle.vga_card.specs.Picture.{Dot, line_of_dot, lines_of_dots, line_of_each_dot_by_widths, bytes_of_dots}
 use Rattle.vga_card.specs.Frames.{concatenated_dots}
 use Rattle.bios_screen.specs.Raster.{Raster, Colours, shown_dots_of_line, all_dots_of_line, picture_dot, concatenated_lists}
 use Rattle.bios_screen.proofs.Base.Tests.{lt_test, not_lt}
@@ -97,25 +97,25 @@ row_lines f (suc w) y =
     map-append line_of_dot (row_dots f w y) (one_dot f y w) ∙ ap (λ l. l ++ y ∷ []) (row_lines f w y)
     ∙ replicate-append-replicate w 1 y ∙ ap (λ n. replicate n y) e
 
-lines_more : (v w h : ℕ) → lines_by_widths v (replicate (suc h) w) ≡ lines_by_widths v (replicate h w) ++ replicate w (v + h)
-unfolding lines_by_widths
+lines_more : (v w h : ℕ) → line_of_each_dot_by_widths v (replicate (suc h) w) ≡ line_of_each_dot_by_widths v (replicate h w) ++ replicate w (v + h)
+unfolding line_of_each_dot_by_widths
 lines_more v w zero = let e : v ≡ v + 0 = omega arith in append-nil (replicate w v) ∙ ap (replicate w) e
 lines_more v w (suc h) =
     let e : v + 1 + h ≡ v + suc h = omega arith in
-    ap (λ l. replicate w v ++ l) (lines_more (v + 1) w h ∙ ap (λ n. lines_by_widths (v + 1) (replicate h w) ++ replicate w n) e)
-    ∙ sym (append_assoc (replicate w v) (lines_by_widths (v + 1) (replicate h w)) (replicate w (v + suc h)))
+    ap (λ l. replicate w v ++ l) (lines_more (v + 1) w h ∙ ap (λ n. line_of_each_dot_by_widths (v + 1) (replicate h w) ++ replicate w n) e)
+    ∙ sym (append_assoc (replicate w v) (line_of_each_dot_by_widths (v + 1) (replicate h w)) (replicate w (v + suc h)))
 
-no_lines : (v w : ℕ) → lines_by_widths v (replicate 0 w) ≡ []
-unfolding lines_by_widths
+no_lines : (v w : ℕ) → line_of_each_dot_by_widths v (replicate 0 w) ≡ []
+unfolding line_of_each_dot_by_widths
 no_lines v w = refl
 
-pub picture_lines : (f : Colours) (w h : ℕ) → lines_of_dots (concatenated_dots (row_dots f w) h) ≡ lines_by_widths 0 (replicate h w)
+pub picture_lines : (f : Colours) (w h : ℕ) → lines_of_dots (concatenated_dots (row_dots f w) h) ≡ line_of_each_dot_by_widths 0 (replicate h w)
 picture_lines f w zero = sym (no_lines 0 w)
 picture_lines f w (suc h) =
     let e : h ≡ 0 + h = omega arith in
     map-append line_of_dot (concatenated_dots (row_dots f w) h) (row_dots f w h)
     ∙ ap (λ l. l ++ lines_of_dots (row_dots f w h)) (picture_lines f w h)
-    ∙ ap (λ l. lines_by_widths 0 (replicate h w) ++ l) (row_lines f w h ∙ ap (replicate w) e)
+    ∙ ap (λ l. line_of_each_dot_by_widths 0 (replicate h w) ++ l) (row_lines f w h ∙ ap (replicate w) e)
     ∙ sym (lines_more 0 w h)
 
 -- ---- its bytes

@@ -6,7 +6,7 @@ use Rattle.bios_screen.proofs.Prelude.{Four, HostState, card_meaning, CardState,
 use Rattle.vga_host.specs.Memory.Address.{is_decoded, window_offset}
 use Rattle.vga_host.specs.Memory.Write.{memory_after_put, after_put}
 use Rattle.vga_host.specs.Memory.Read.{loaded, read_byte, after_get}
-use Rattle.vga_card.specs.Adapter.{adapter_of}
+use Rattle.vga_card.specs.Adapter.{without_beam_and_dots}
 use Rattle.vga_card.specs.Cycles.{card_after_write, card_after_read, if_decoded}
 use Rattle.bios_services.specs.Plan.{read_byte_or_ff}
 
@@ -43,7 +43,7 @@ pub put_decoded : (c : CardState) (s : Setting) (a v : ℕ) → setting c ≡ s 
 put_decoded c s a v e d =
     let memory = memory_after_put (host_at c.host s) (window_offset (host_at c.host s) a) v in
     ap (λ x. (run card_meaning (put a v) (card_at c x)).0) e
-    ∙ ap (λ b. (card_after_write (card_at c s) (if_decoded b (record (adapter_of (card_at c s)) { host = after_put (host_at c.host s) a v }))).0) d
+    ∙ ap (λ b. (card_after_write (card_at c s) (if_decoded b (record (without_beam_and_dots (card_at c s)) { host = after_put (host_at c.host s) a v }))).0) d
     ∙ ap (λ x. let y : CardState = record (card_at c x) { host = record (host_at c.host x) { memory = memory } } in y) (sym e)
 
 -- a Get at a decoded address, likewise
@@ -53,6 +53,6 @@ get_decoded c s a e d =
     let latches = loaded (host_at c.host s) a in
     let v = read_byte (host_at c.host s) a in
     ap (λ x. run card_meaning (get a) (card_at c x)) e
-    ∙ ap (λ b. let r = card_after_read (card_at c s) (if_decoded b (record (adapter_of (card_at c s)) { host = after_get (host_at c.host s) a }, v)) in
+    ∙ ap (λ b. let r = card_after_read (card_at c s) (if_decoded b (record (without_beam_and_dots (card_at c s)) { host = after_get (host_at c.host s) a }, v)) in
     let p : CardState × ℕ = (r.0, read_byte_or_ff r.1) in p) d
     ∙ ap (λ x. let p : CardState × ℕ = (record (card_at c x) { host = record (host_at c.host x) { latches = latches } }, v) in p) (sym e)

@@ -5,12 +5,12 @@ use Rattle.std.proofs.lemmas.Bool.Decides.{nat_tests}
 use Rattle.bios_screen.proofs.Prelude.{Direction, Up, Down, Window}
 use Rattle.bios_services.specs.declared.scroll.Scroll.{Scroll}
 use Rattle.bios_services.specs.Bands.{first_row_to_fill}
-use Rattle.bios_services.specs.Scroll.{IsOnPage, window_among, rows_to_scroll}
+use Rattle.bios_services.specs.Scroll.{IsOnPage, window_clipped_to_page, rows_to_scroll}
 use Rattle.bios_screen.specs.Step.{is_in_window, has_source_row}
 use Rattle.bios_screen.proofs.Base.Tests.{both_true, both_are, if_some, lt_is, le_is, lt_not, le_not, lt_test, le_test}
 
 -- a window cut to the page lies on the page
-pub cut_on_page : (rows columns : ℕ) (asked : Scroll) (w : Window) → window_among rows columns asked ≡ Some w → IsOnPage rows columns w
+pub cut_on_page : (rows columns : ℕ) (asked : Scroll) (w : Window) → window_clipped_to_page rows columns asked ≡ Some w → IsOnPage rows columns w
 cut_on_page rows columns asked w e =
     let bottom = min (asked.bottom + 1) rows in
     let right = min (asked.right + 1) columns in
@@ -43,13 +43,13 @@ some_lines w asked l = by_tests (asked == 0) (nat_lt w.height asked) refl
 
 -- ---- what lies in it
 
-pub record IsInside (w : Window) (row column : ℕ) : Type 0 where
+pub record IsInsideRepeat (w : Window) (row column : ℕ) : Type 0 where
   pub above : w.top ≤ row
   pub below : row < w.top + w.height
   pub before : w.left ≤ column
   pub after : column < w.left + w.width
 
-pub inside_of : (w : Window) (row column : ℕ) → is_in_window w row column ≡ true → IsInside w row column
+pub inside_of : (w : Window) (row column : ℕ) → is_in_window w row column ≡ true → IsInsideRepeat w row column
 inside_of w row column t =
     let b = both_true (nat_le w.top row) _ t in
     let e = both_true (nat_lt row (w.top + w.height)) _ b.1 in
@@ -61,7 +61,7 @@ inside_of w row column t =
       after = lt_is column (w.left + w.width) g.1;
     }
 
-pub inside_test : (w : Window) (row column : ℕ) → IsInside w row column → is_in_window w row column ≡ true
+pub inside_test : (w : Window) (row column : ℕ) → IsInsideRepeat w row column → is_in_window w row column ≡ true
 inside_test w row column i =
     both_are (nat_le w.top row) _ (le_test w.top row i.above)
     (both_are (nat_lt row (w.top + w.height)) _ (lt_test row (w.top + w.height) i.below)

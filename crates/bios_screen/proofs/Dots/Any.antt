@@ -5,7 +5,7 @@ use Rattle.bios_screen.proofs.Prelude.{first_counter, IsCard, CardState, ModeRow
 use Rattle.bios_screen.proofs.Prelude.{Raster, DrawsDotColours}
 use Rattle.bios_screen.specs.Picture.{text_dot_colour, pixel_dot_colour, dot_colour_at, pixel_width, picture_width, picture_height}
 use Rattle.bios_screen.specs.Raster.{HasRaster, shown_dots_of_line, all_dots_of_line as dots_of_line}
-use Rattle.bios_screen.specs.Drawing.{dots_a_line, lines_a_frame, columns_of}
+use Rattle.bios_screen.specs.Drawing.{dots_a_line, lines_a_frame, columns_of_mode}
 use Rattle.bios_screen.proofs.Modes.TextModes.{Display, number_of as text_number}
 use Rattle.bios_screen.proofs.Modes.TextModes.Display.{Colour, Monochrome}
 use Rattle.bios_screen.proofs.Shows.Screens.{IsShown, screen_shown, all_of}
@@ -45,7 +45,7 @@ text_frames c d h z =
     record {
       raster = text_raster row;
       has = frames.has_raster (text_raster row) row (frame_of c d h).frame c d (all_of row c d t);
-      line = sym (ap (λ b. if b then 900 else 10 * (pixel_width d.mode * columns_of d.mode)) t.is_text);
+      line = sym (ap (λ b. if b then 900 else 10 * (pixel_width d.mode * columns_of_mode d.mode)) t.is_text);
       lines = sym (ap lines_a_frame h.number ∙ text_lines h.display);
       wide = rw (t.is_text, h.has.columns) (omega arith);
       high = rw (t.is_text, h.has.height, h.has.last_row) refl;

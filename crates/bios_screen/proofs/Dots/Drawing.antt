@@ -4,12 +4,12 @@ use Rattle.std.specs.Prelude.{nat_lt, nat_le, if◌then◌else◌, ◌&&◌}
 use Rattle.std.proofs.lemmas.Bool.{cases_lt}
 use Rattle.std.proofs.lemmas.Bool.Decides.{nat_tests}
 use Rattle.std.proofs.lemmas.Nat.{div-add-mod', div_below, mod_below, row_fits, mul-add-lt, mul-le}
-use Rattle.bios_screen.proofs.Prelude.{Beam, CrtcState, first_counter, regular_beam, CardState, Raster, DrawsDotColours}
+use Rattle.bios_screen.proofs.Prelude.{Beam, CrtcState, first_counter, beam_at_place_of_regular_frame, CardState, Raster, DrawsDotColours}
 use Rattle.vga_crtc.specs.Fields.{horizontal_display_end, vertical_display_end}
 use Rattle.vga_crtc.specs.Beam.{characters, lines, with_frame_start_taken, crtc_with_start_taken, after_dots, dots as beam_dots}
 use Rattle.vga_crtc.specs.Status.{is_display}
-use Rattle.vga_crtc.specs.Raster.{dots_to_frame_end, IsFrameStart, IsRegularFrame, beam_at_dot_of_frame}
-use Rattle.vga_crtc.proofs.Counts.{frame_left as dots_left}
+use Rattle.vga_crtc.specs.Raster.{dots_to_frame_end, IsFrameStart, IsRegularFrameWithoutSplit, beam_at_dot_of_frame}
+use Rattle.vga_crtc.proofs.Counts.{frame_left as dots_left_of_frame}
 use Rattle.vga_crtc.proofs.Dots.{dots_none}
 use Rattle.vga_crtc.proofs.Ends.{same_frame_count, frame_ends as frames_end}
 use Rattle.vga_crtc.proofs.Frames.{at_dot, started_goes_on}
@@ -17,8 +17,8 @@ use Rattle.vga_crtc.proofs.Moves.{first_dot_starts, started_place}
 use Rattle.vga_dots.specs.Colour.{dot_colour}
 use Rattle.vga_card.specs.Picture.{Dot, lines_of_dots, bytes_of_dots}
 use Rattle.vga_card.specs.Dots.{character_width, dots_of_frame_so_far, display_dot, dots}
-use Rattle.vga_card.specs.Frames.{card_dots_to_frame_end, frame, concatenated_dots, display_dot_at}
-use Rattle.vga_card.proofs.FrameLemmas.{dots_keep, frame_ends_first, dots_are_places, regular_shape}
+use Rattle.vga_card.specs.Frames.{card_dots_to_frame_end, frame, concatenated_dots, display_dot_after_dots}
+use Rattle.vga_card.proofs.FrameLemmas.{dots_change_only_beam_and_picture, frame_takes_fewest_dots, dots_are_places, equally_wide_rows_make_a_picture}
 use Rattle.bios_screen.specs.Raster.{IsRaster, raster_of, HasRaster, Colours, shown_dots_of_line, all_dots_of_line, dots_of_frame, colour_at_beam_place, IsAtDot, picture_dot}
 use Rattle.bios_screen.specs.Raster.{PictureDotsDrawn, GoesOnWithinFrame, FrameEnded, IsPictureOf, picture_bytes, FrameDrawn}
 use Rattle.bios_screen.proofs.Base.Tests.{both_true, lt_is, le_is, lt_test, le_test, not_lt, not_le}
@@ -37,7 +37,7 @@ beamed s b = record s { beam = b }
 abbrev seen : CardState → Beam → List Dot
 seen c b = if is_display c.crtc.registers b then record { line = b.line; colour = dot_colour c.host (beamed c.crtc b) c.attr c.dac } ∷ [] else []
 
-seen_at : (c : CardState) (n : ℕ) → display_dot_at c n ≡ seen c (with_frame_start_taken c.crtc.registers (beam_dots (character_width c) c.crtc.registers n c.crtc.beam))
+seen_at : (c : CardState) (n : ℕ) → display_dot_after_dots c n ≡ seen c (with_frame_start_taken c.crtc.registers (beam_dots (character_width c) c.crtc.registers n c.crtc.beam))
 unfolding display_dot crtc_with_start_taken after_dots
 seen_at c n = refl
 
@@ -67,7 +67,7 @@ nothing_yet : (c : CardState) → IsFrameStart c.crtc.beam → dots_of_frame_so_
 nothing_yet c s = ap (λ v. if v then [] else c.drawn) ((first_dot_starts c.crtc.beam).1 s)
 
 -- the beam, i dots after dot n
-beam_on : (c : CardState) (start n i : ℕ) → IsRegularFrame c.crtc.registers → IsAtDot (raster_of c) c start n → n + i < dots_of_frame (raster_of c)
+beam_on : (c : CardState) (start n i : ℕ) → IsRegularFrameWithoutSplit c.crtc.registers → IsAtDot (raster_of c) c start n → n + i < dots_of_frame (raster_of c)
     → with_frame_start_taken c.crtc.registers (beam_dots (character_width c) c.crtc.registers i c.crtc.beam)
     ≡ beam_at_dot_of_frame (character_width c) c.crtc.registers start c.crtc.beam.frame (n + i)
 unfolding dots_of_frame
@@ -79,12 +79,12 @@ frame_left c start n at =
     let w = character_width c in
     let r = c.crtc.registers in
     ap (λ k. n + k) (sym (same_frame_count w r c.crtc.beam) ∙ ap (dots_to_frame_end w r) at.beam)
-    ∙ dots_left w r start c.crtc.beam.frame n (wide _) at.within
+    ∙ dots_left_of_frame w r start c.crtc.beam.frame n (wide _) at.within
 
 module _ (c : CardState) (start : ℕ) (f : Colours) (draws : DrawsDotColours (raster_of c) c start f) where
   -- dot k of character x of line v is the picture's
   place_shows : (v x k : ℕ) → x < characters c.crtc.registers → k < character_width c
-      → seen c (regular_beam c.crtc.registers start c.crtc.beam.frame v x k)
+      → seen c (beam_at_place_of_regular_frame c.crtc.registers start c.crtc.beam.frame v x k)
       ≡ picture_dot (raster_of c) f (v * (characters c.crtc.registers * character_width c) + (x * character_width c + k))
   place_shows v x k lx lk =
       let m = raster_of c in
@@ -105,8 +105,8 @@ module _ (c : CardState) (start : ℕ) (f : Colours) (draws : DrawsDotColours (r
       ∙ sym (dot_there m f v at small)
 
   -- the dot that comes i dots after dot n is the picture's
-  dot_shows : (n i : ℕ) → IsRegularFrame c.crtc.registers → IsAtDot (raster_of c) c start n → n + i < dots_of_frame (raster_of c) →
-      display_dot_at c i ≡ picture_dot (raster_of c) f (n + i)
+  dot_shows : (n i : ℕ) → IsRegularFrameWithoutSplit c.crtc.registers → IsAtDot (raster_of c) c start n → n + i < dots_of_frame (raster_of c) →
+      display_dot_after_dots c i ≡ picture_dot (raster_of c) f (n + i)
   unfolding dots_of_frame
   dot_shows n i regular at l =
       let r = c.crtc.registers in
@@ -121,33 +121,33 @@ module _ (c : CardState) (start : ℕ) (f : Colours) (draws : DrawsDotColours (r
       seen_at c i ∙ ap (seen c) (beam_on c start n i regular at l)
       ∙ place_shows (j / line) (j % line / w) (j % line % w) lx lk ∙ ap (picture_dot (raster_of c) f) (place_of j line w)
 
-  places_drawn : (n : ℕ) → IsRegularFrame c.crtc.registers → IsAtDot (raster_of c) c start n → PictureDotsDrawn (raster_of c) c n f
+  places_drawn : (n : ℕ) → IsRegularFrameWithoutSplit c.crtc.registers → IsAtDot (raster_of c) c start n → PictureDotsDrawn (raster_of c) c n f
   places_drawn n regular at j lo hi =
       let total = frame_left c start n at in
       dots_are_places frames_end c j lo (omega (arith, total))
-      ∙ ap (λ l. dots_of_frame_so_far c ++ l) (same_collected (display_dot_at c) (λ i. picture_dot (raster_of c) f (n + i)) j (λ i h.
+      ∙ ap (λ l. dots_of_frame_so_far c ++ l) (same_collected (display_dot_after_dots c) (λ i. picture_dot (raster_of c) f (n + i)) j (λ i h.
       dot_shows n i regular at (omega arith)))
 
-  frame_ended : (n : ℕ) → IsRegularFrame c.crtc.registers → IsAtDot (raster_of c) c start n → FrameEnded (raster_of c) c n f
+  frame_ended : (n : ℕ) → IsRegularFrameWithoutSplit c.crtc.registers → IsAtDot (raster_of c) c start n → FrameEnded (raster_of c) c n f
   unfolding after_dots
   frame_ended n regular at =
       let total = frame_left c start n at in
-      let kept = dots_keep (card_dots_to_frame_end c) c in
+      let kept = dots_change_only_beam_and_picture (card_dots_to_frame_end c) c in
       record {
         count = total;
-        drawn = places_drawn n regular at (card_dots_to_frame_end c) (frame_ends_first frames_end c).some (omega (arith, total));
+        drawn = places_drawn n regular at (card_dots_to_frame_end c) (frame_takes_fewest_dots frames_end c).some (omega (arith, total));
         leaves = kept ∙ ap (λ (b : Beam). record c { crtc = record c.crtc { beam = b }; drawn = (frame c).drawn })
-            (sym (ap (λ (s : CardState). s.crtc.beam) kept) ∙ (frame_ends_first frames_end c).next);
+            (sym (ap (λ (s : CardState). s.crtc.beam) kept) ∙ (frame_takes_fewest_dots frames_end c).next);
       }
 
-goes_on_from : (c : CardState) (start n : ℕ) → IsRegularFrame c.crtc.registers → IsAtDot (raster_of c) c start n → GoesOnWithinFrame (raster_of c) c start n
+goes_on_from : (c : CardState) (start n : ℕ) → IsRegularFrameWithoutSplit c.crtc.registers → IsAtDot (raster_of c) c start n → GoesOnWithinFrame (raster_of c) c start n
 unfolding after_dots
 goes_on_from c start n regular at j l =
     let w = character_width c in
     let r = c.crtc.registers in
     let b = beam_dots w r j c.crtc.beam in
     let on = beam_on c start n j regular at l in
-    let kept = dots_keep j c in
+    let kept = dots_change_only_beam_and_picture j c in
     let frame_is : c.crtc.beam.frame ≡ b.frame = sym (ap (λ (y : Beam). y.frame) on) ∙ (started_place r b).frame in
     record {
       at = subst (λ (s : CardState). IsAtDot (raster_of c) s start (n + j)) (sym kept)
@@ -158,7 +158,7 @@ goes_on_from c start n regular at j l =
     }
 
 -- at the first dot of a frame the adapter is at dot 0
-at_start : (c : CardState) → IsRegularFrame c.crtc.registers → IsFrameStart c.crtc.beam → IsAtDot (raster_of c) c (first_counter c.crtc.registers) 0
+at_start : (c : CardState) → IsRegularFrameWithoutSplit c.crtc.registers → IsFrameStart c.crtc.beam → IsAtDot (raster_of c) c (first_counter c.crtc.registers) 0
 unfolding dots_of_frame
 at_start c regular start =
     let w = character_width c in
@@ -195,7 +195,7 @@ all_are_picture m drawn f raster e =
     let narrow : w ≤ all_dots_of_line m = mul-le m.columns m.dots m.characters m.dots raster.narrow (omega arith) in
     let rows : drawn ≡ concatenated_dots (row_dots f w) h = e ∙ whole_picture m f narrow raster.low in
     record {
-      shape = regular_shape w h drawn (mul-le 1 1 m.columns m.dots raster.some_columns raster.some_dots) raster.some_lines (ap lines_of_dots rows
+      shape = equally_wide_rows_make_a_picture w h drawn (mul-le 1 1 m.columns m.dots raster.some_columns raster.some_dots) raster.some_lines (ap lines_of_dots rows
           ∙ picture_lines f w h);
       bytes = ap bytes_of_dots rows ∙ picture_bytes_are f w h;
     }

@@ -2,12 +2,12 @@
 -- comes from.
 use Rattle.std.proofs.Common.{◌≡◌, ℕ, ◌+◌, ◌-◌, ◌%◌, ◌<◌, sym, ap, subst, ◌∙◌, arith, false}
 use Rattle.std.specs.Prelude.{◌&&◌, if◌then◌else◌, slice_index}
-use Rattle.bios_screen.proofs.Prelude.{is_set, Beam, CrtcState, first_counter, regular_beam, IsCard, CardState, ModeRow, BiosData, start_address, Raster}
+use Rattle.bios_screen.proofs.Prelude.{is_set, Beam, CrtcState, first_counter, beam_at_place_of_regular_frame, IsCard, CardState, ModeRow, BiosData, start_address, Raster}
 use Rattle.vga_host.specs.Sequencer.{character_width as host_width}
-use Rattle.vga_crtc.specs.Raster.{IsRegularFrame}
+use Rattle.vga_crtc.specs.Raster.{IsRegularFrameWithoutSplit}
 use Rattle.vga_attr.specs.Fields.{is_panning_reset, panning}
 use Rattle.vga_dots.specs.declared.source_dot.SourceDot.{SourceDot}
-use Rattle.vga_dots.specs.SourceDot.{panning_shift, counter_of, source_dot_of_number, source_dot, fetch_address}
+use Rattle.vga_dots.specs.SourceDot.{panning_shift, counter_of_character, source_dot_of_number, source_dot, fetch_address}
 use Rattle.bios_screen.specs.Shown.{cursor_location_shown}
 use Rattle.bios_screen.specs.Raster.{HasRaster}
 use Rattle.bios_screen.proofs.Base.Tests.{lt_test}
@@ -29,7 +29,7 @@ module _ (m : Raster) (row : ModeRow) (f : IsFrame m row) (c : CardState) (d : B
   pub has_raster : HasRaster m c
   has_raster = record {
     raster = f.raster;
-    regular = subst IsRegularFrame (sym t.crtc) (regular_stays row d.cursor_type start location f.regular);
+    regular = subst IsRegularFrameWithoutSplit (sym t.crtc) (regular_stays row d.cursor_type start location f.regular);
     numbers =
         ap (λ (s : Setting). numbers_of (if is_set (slice_index s.seq 1) 0 then 8 else 9) c.crtc.registers) set
         ∙ ap (λ w. numbers_of w c.crtc.registers) f.clock
@@ -43,8 +43,8 @@ module _ (m : Raster) (row : ModeRow) (f : IsFrame m row) (c : CardState) (d : B
   first_is small = ap first_counter t.crtc ∙ begins_with row d.cursor_type start location f.whole small
 
   -- the beam at a dot of a frame, and the memory address of a counter, are the row's
-  pub beam_is : (a frame v x k : ℕ) → regular_beam c.crtc.registers a frame v x k ≡ regular_beam row.crtc a frame v x k
-  beam_is a frame v x k = ap (λ r. regular_beam r a frame v x k) t.crtc ∙ beam_stays row d.cursor_type start location a frame v x k
+  pub beam_is : (a frame v x k : ℕ) → beam_at_place_of_regular_frame c.crtc.registers a frame v x k ≡ beam_at_place_of_regular_frame row.crtc a frame v x k
+  beam_is a frame v x k = ap (λ r. beam_at_place_of_regular_frame r a frame v x k) t.crtc ∙ beam_stays row d.cursor_type start location a frame v x k
 
   pub fetch_is : (n : ℕ) → fetch_address c.crtc.registers n ≡ fetch_address row.crtc n
   fetch_is n = ap (λ r. fetch_address r n) t.crtc ∙ fetch_stays row d.cursor_type start location n
@@ -70,5 +70,5 @@ module _ (m : Raster) (row : ModeRow) (f : IsFrame m row) (c : CardState) (d : B
       ∙ ap (source_dot_of_number at (host_width c.host)) none
       ∙ ap (λ (s : Setting). source_dot_of_number at (if is_set (slice_index s.seq 1) 0 then 8 else 9) b.dot) set
       ∙ ap (λ w. source_dot_of_number at w b.dot) f.clock
-      ∙ ap (λ w. if w then (let q : SourceDot = record { counter = counter_of at b.character; dot = b.dot } in q)
-      else record { counter = counter_of at (b.character + 1); dot = b.dot - m.dots }) (lt_test b.dot m.dots l)
+      ∙ ap (λ w. if w then (let q : SourceDot = record { counter = counter_of_character at b.character; dot = b.dot } in q)
+      else record { counter = counter_of_character at (b.character + 1); dot = b.dot - m.dots }) (lt_test b.dot m.dots l)

@@ -7,11 +7,11 @@ use Rattle.std.proofs.lemmas.Bool.{cases_lt}
 use Rattle.std.proofs.lemmas.Bool.Decides.{nat_tests}
 use Rattle.std.proofs.lemmas.List.{append-nil, map-append}
 use Rattle.std.proofs.lemmas.Nat.{mul-le}
-use Rattle.vga_crtc.specs.Crtc.{first_dot}
+use Rattle.vga_crtc.specs.Crtc.{first_dot_of_frame}
 use Rattle.bios_screen.proofs.Prelude.{first_counter, IsCard, CardState, BiosData, start_address, Screen, shown, Raster}
-use Rattle.vga_crtc.specs.Beam.{is_first_dot, with_frame_start_taken, after_dot, dots as beam_dots}
+use Rattle.vga_crtc.specs.Beam.{is_first_dot_of_frame, with_frame_start_taken, after_dot, dots as beam_dots}
 use Rattle.vga_crtc.specs.Raster.{IsFrameStart, beam_at_dot_of_frame}
-use Rattle.vga_card.specs.Picture.{Dot, line_of_dot, lines_of_dots, lines_by_widths, bytes_of_dots}
+use Rattle.vga_card.specs.Picture.{Dot, line_of_dot, lines_of_dots, line_of_each_dot_by_widths, bytes_of_dots}
 use Rattle.vga_card.specs.Dots.{character_width, dots_of_frame_so_far, dot, dots}
 use Rattle.vga_card.specs.Frames.{card_dots_to_frame_end, frame, concatenated_dots}
 use Rattle.vga_crtc.proofs.Ends.{frame_ends as frames_end}
@@ -19,15 +19,15 @@ use Rattle.vga_crtc.proofs.Frames.{past_start, beam_goes_on}
 use Rattle.vga_crtc.proofs.Moves.{first_dot_starts}
 use Rattle.vga_card.proofs.BoundLemmas.{dots_bounds}
 use Rattle.vga_card.proofs.DotLemmas.{dots_split}
-use Rattle.vga_card.proofs.FrameLemmas.{frame_ends_first, regular_shape}
+use Rattle.vga_card.proofs.FrameLemmas.{frame_takes_fewest_dots, equally_wide_rows_make_a_picture}
 use Rattle.bios_screen.specs.Picture.{dot_colour_at, picture_width, picture_height, next_frame}
 use Rattle.bios_screen.specs.Raster.{Colours, raster_of, HasRaster, shown_dots_of_line, all_dots_of_line as dots_of_line, dots_of_frame, picture_dot, IsAtDot as AtDot}
 use Rattle.bios_screen.specs.Raster.{IsDotsFurther, FrameEnded}
 use Rattle.bios_screen.proofs.Base.DotLists.{bytes_append, no_bytes, bytes_joined, same_joined, whole_picture, picture_lines}
 use Rattle.bios_screen.proofs.Dots.Drawing.{wide, dots_are_picture, dots_go_on, frame_is_ended, starts_at_0}
-use Rattle.bios_screen.specs.Drawing.{dots_a_line, lines_a_frame, dots_a_frame, Drawing, page_shown, picture_so_far, is_picture_dot, colour_of_frame_dot, is_last_dot_of_frame, take_dot}
+use Rattle.bios_screen.specs.Drawing.{dots_a_line, lines_a_frame, total_dots_of_frame_in_mode, Drawing, page_shown, picture_so_far, is_picture_dot, colour_of_frame_dot, is_last_dot_of_frame, take_dot}
 use Rattle.bios_screen.specs.Drawing.{take_dots, take_frame}
-use Rattle.bios_screen.specs.Follows.{BeamIsAt, DotsJoinPicture, picture_lines_before, CardFollowsDrawing, EndsFrame}
+use Rattle.bios_screen.specs.Follows.{BeamIsAtDotOfFrameFromAddress, DotsJoinPicture, lines_of_picture_dots_before, CardFollowsDrawing, EndsFrame}
 use Rattle.bios_screen.proofs.Dots.Any.{HasFrames, frames_of}
 use Rattle.bios_screen.proofs.Shows.Steady.{shown_moved, frame_shown}
 
@@ -42,8 +42,8 @@ unfolding bytes_of_dots
 bytes_if true d = append-nil d.colour
 bytes_if false d = refl
 
-no_line : (s : Screen) → picture_lines_before s 0 ≡ []
-unfolding picture_lines_before
+no_line : (s : Screen) → lines_of_picture_dots_before s 0 ≡ []
+unfolding lines_of_picture_dots_before
 no_line s = refl
 
 -- ---- tests
@@ -89,20 +89,20 @@ onward b = record { screen = b.screen; dot = suc b.dot; page = page_shown b; pic
 abbrev pub renewed : Drawing → Drawing
 renewed b = record { screen = next_frame b.screen; dot = 0; page = page_shown b; picture = picture_so_far b ++ colour_of_frame_dot b.screen (page_shown b) b.dot }
 
-pub taken_on : (b : Drawing) → b.dot + 1 < dots_a_frame b.screen.mode → take_dot b ≡ onward b
+pub taken_on : (b : Drawing) → b.dot + 1 < total_dots_of_frame_in_mode b.screen.mode → take_dot b ≡ onward b
 taken_on b l =
     let e : b.dot + 1 ≡ suc b.dot = omega arith in
-    dot_step b false (less_test (b.dot + 1) (dots_a_frame b.screen.mode) l) ∙ ap (λ n. let x : Drawing = record (onward b) { dot = n } in x) e
+    dot_step b false (less_test (b.dot + 1) (total_dots_of_frame_in_mode b.screen.mode) l) ∙ ap (λ n. let x : Drawing = record (onward b) { dot = n } in x) e
 
-pub taken_last : (b : Drawing) → b.dot + 1 ≡ dots_a_frame b.screen.mode → take_dot b ≡ renewed b
-taken_last b e = dot_step b true (same_test (b.dot + 1) (dots_a_frame b.screen.mode) e)
+pub taken_last : (b : Drawing) → b.dot + 1 ≡ total_dots_of_frame_in_mode b.screen.mode → take_dot b ≡ renewed b
+taken_last b e = dot_step b true (same_test (b.dot + 1) (total_dots_of_frame_in_mode b.screen.mode) e)
 
 -- the drawing after k dots that do not end the frame
 pub record IsOn (b : Drawing) (k : ℕ) : Type 0 where
   pub dot : (take_dots k b).dot ≡ b.dot + k
   pub screen : (take_dots k b).screen ≡ b.screen
 
-pub dots_on : (k : ℕ) (b : Drawing) → b.dot + k < dots_a_frame b.screen.mode → IsOn b k
+pub dots_on : (k : ℕ) (b : Drawing) → b.dot + k < total_dots_of_frame_in_mode b.screen.mode → IsOn b k
 unfolding take_dots
 dots_on zero b l = record { dot = omega arith; screen = refl }
 dots_on (suc k) b l =
@@ -139,37 +139,37 @@ module _ (c : CardState) (d : BiosData) (s : Screen) (h : HasFrames c d s) where
   dot_bytes : (g n : ℕ) → bytes_of_dots (picture_dot h.raster (dot_colour_at s g) n) ≡ colour_of_frame_dot s g n
   dot_bytes g n = ap bytes_of_dots (dot_is (dot_colour_at s g) n) ∙ bytes_if (is_picture_dot s n) _
 
-  pub all_is : dots_of_frame h.raster ≡ dots_a_frame s.mode
-  unfolding dots_of_frame dots_a_frame
+  pub all_is : dots_of_frame h.raster ≡ total_dots_of_frame_in_mode s.mode
+  unfolding dots_of_frame total_dots_of_frame_in_mode
   all_is = ap (λ n. n * dots_of_line h.raster) h.lines ∙ ap (λ n. lines_a_frame s.mode * n) h.line
 
   -- the scan lines of the picture's dots among the first n dots of a frame
-  lines_collected : (f : Colours) (n : ℕ) → picture_lines_before s n ≡ lines_of_dots (concatenated_dots (picture_dot h.raster f) n)
-  unfolding picture_lines_before
+  lines_collected : (f : Colours) (n : ℕ) → lines_of_picture_dots_before s n ≡ lines_of_dots (concatenated_dots (picture_dot h.raster f) n)
+  unfolding lines_of_picture_dots_before
   lines_collected f zero = refl
   lines_collected f (suc n) =
       ap (λ l. l ++ (if is_picture_dot s n then n / dots_a_line s.mode ∷ [] else [])) (lines_collected f n)
       ∙ ap (λ l. lines_of_dots (concatenated_dots (picture_dot h.raster f) n) ++ l) (sym (dot_line f n))
       ∙ sym (map-append line_of_dot (concatenated_dots (picture_dot h.raster f) n) (picture_dot h.raster f n))
 
-  all_lines : picture_lines_before s (dots_a_frame s.mode) ≡ lines_by_widths 0 (replicate (picture_height s) (picture_width s))
+  all_lines : lines_of_picture_dots_before s (total_dots_of_frame_in_mode s.mode) ≡ line_of_each_dot_by_widths 0 (replicate (picture_height s) (picture_width s))
   unfolding dots_of_frame
   all_lines =
       let m = h.raster in
       let f = dot_colour_at s 0 in
       let some = h.has.raster.some_dots in
       let narrow : shown_dots_of_line m ≤ dots_of_line m = mul-le m.columns m.dots m.characters m.dots h.has.raster.narrow (omega arith) in
-      ap (picture_lines_before s) (sym all_is)
+      ap (lines_of_picture_dots_before s) (sym all_is)
       ∙ lines_collected f (dots_of_frame m)
       ∙ ap lines_of_dots (whole_picture m f narrow h.has.raster.low)
       ∙ picture_lines f (shown_dots_of_line m) m.height
-      ∙ ap (λ w. lines_by_widths 0 (replicate m.height w)) h.wide
-      ∙ ap (λ v. lines_by_widths 0 (replicate v (picture_width s))) h.high
+      ∙ ap (λ w. line_of_each_dot_by_widths 0 (replicate m.height w)) h.wide
+      ∙ ap (λ v. line_of_each_dot_by_widths 0 (replicate v (picture_width s))) h.high
 
 -- ---- one dot
 
 at_of : (m : Raster) (c : CardState) (start n : ℕ) → HasRaster m c → n < dots_of_frame m → (n ≡ 0 → first_counter c.crtc.registers ≡ start) →
-    BeamIsAt c start n → AtDot m c start n
+    BeamIsAtDotOfFrameFromAddress c start n → AtDot m c start n
 at_of m c start zero has within first at = subst (λ a. AtDot m c a 0) (first refl) (starts_at_0 m c has at)
 at_of m c start (suc n) has within first at = record {
   within = within;
@@ -178,8 +178,8 @@ at_of m c start (suc n) has within first at = record {
 
 -- dots from dot n on join those already drawn, in the colours of the screen
 pub rows_join : (c : CardState) (d : BiosData) (s : Screen) (page n : ℕ) → IsCard c → shown c d ≡ Some s → page < s.layout.pages →
-    n < dots_a_frame s.mode → (n ≡ 0 → page ≡ s.page)
-    → BeamIsAt c (start_address d page) n → DotsJoinPicture c s page n
+    n < total_dots_of_frame_in_mode s.mode → (n ≡ 0 → page ≡ s.page)
+    → BeamIsAtDotOfFrameFromAddress c (start_address d page) n → DotsJoinPicture c s page n
 rows_join c d s page n z shows lp within first at j some few =
     let h = frames_of c d s z shows in
     let m = h.raster in
@@ -194,7 +194,7 @@ rows_join c d s page n z shows lp within first at j some few =
 
 -- what one dot draws; the adapter still follows
 pub record DotTaken (c : CardState) (d : BiosData) (b : Drawing) : Type 0 where
-  pub lines : lines_of_dots (dot c).drawn ≡ picture_lines_before b.screen (suc b.dot)
+  pub lines : lines_of_dots (dot c).drawn ≡ lines_of_picture_dots_before b.screen (suc b.dot)
   pub bytes : bytes_of_dots (dot c).drawn ≡ (take_dot b).picture
   pub follows : CardFollowsDrawing (dot c) d (take_dot b)
 
@@ -235,13 +235,13 @@ module _ (c : CardState) (d : BiosData) (b : Drawing) (z : IsCard c) (is : CardF
       ∙ dots_are_picture h.raster c start n f h.has at (h.draws g is.page) 1 (omega arith) (omega arith)
       ∙ ap (λ k. dots_of_frame_so_far c ++ picture_dot h.raster f k) none
 
-  lines_are : lines_of_dots (dot c).drawn ≡ picture_lines_before s (suc n)
-  unfolding picture_lines_before
+  lines_are : lines_of_dots (dot c).drawn ≡ lines_of_picture_dots_before s (suc n)
+  unfolding lines_of_picture_dots_before
   lines_are =
       let one = picture_dot h.raster (dot_colour_at s g) n in
       ap lines_of_dots drawn_is ∙ map-append line_of_dot (dots_of_frame_so_far c) one
       ∙ ap (λ l. l ++ lines_of_dots one) is.lines
-      ∙ ap (λ l. picture_lines_before s n ++ l) (dot_line c d s h (dot_colour_at s g) n)
+      ∙ ap (λ l. lines_of_picture_dots_before s n ++ l) (dot_line c d s h (dot_colour_at s g) n)
 
   bytes_are : bytes_of_dots (dot c).drawn ≡ picture_so_far b ++ colour_of_frame_dot s g n
   bytes_are =
@@ -251,15 +251,15 @@ module _ (c : CardState) (d : BiosData) (b : Drawing) (z : IsCard c) (is : CardF
       ∙ ap (λ l. picture_so_far b ++ l) (dot_bytes c d s h g n)
 
   -- ---- if the frame goes on
-  module _ (l : n + 1 < dots_a_frame s.mode) where
+  module _ (l : n + 1 < total_dots_of_frame_in_mode s.mode) where
     later : n + 1 < dots_of_frame h.raster
     later = let e = all_is c d s h in omega arith
 
-    away : is_first_dot (dot c).crtc.beam ≡ false
-    away = is_away (is_first_dot (dot c).crtc.beam) (λ t.
+    away : is_first_dot_of_frame (dot c).crtc.beam ≡ false
+    away = is_away (is_first_dot_of_frame (dot c).crtc.beam) (λ t.
         let count = ended.count in
         let l = later in
-        (frame_ends_first frames_end c).first 1 (omega arith) (omega arith) (subst (λ (x : CardState). IsFrameStart x.crtc.beam) (sym (dot_is_one c))
+        (frame_takes_fewest_dots frames_end c).first 1 (omega arith) (omega arith) (subst (λ (x : CardState). IsFrameStart x.crtc.beam) (sym (dot_is_one c))
         ((first_dot_starts (dot c).crtc.beam).0 t)))
 
     further : IsDotsFurther h.raster c start n 1
@@ -281,7 +281,7 @@ module _ (c : CardState) (d : BiosData) (b : Drawing) (z : IsCard c) (is : CardF
         beam_goes_on w r c.crtc.beam start c.crtc.beam.frame n 1 h.has.regular (wide _) (subst (λ k. n + 1 < k) (sym numbers) later) at.beam (omega arith)
         ∙ ap (beam_at_dot_of_frame w r start c.crtc.beam.frame) e
 
-    at_next : BeamIsAt (dot c) start (suc n)
+    at_next : BeamIsAtDotOfFrameFromAddress (dot c) start (suc n)
     unfolding dot after_dot
     at_next = moved ∙ ap (λ f. beam_at_dot_of_frame (character_width c) c.crtc.registers start f (suc n)) (sym frame_stays)
 
@@ -291,14 +291,14 @@ module _ (c : CardState) (d : BiosData) (b : Drawing) (z : IsCard c) (is : CardF
           ∙ ap (λ f. Some (record s { frame = f })) (frame_stays ∙ sym (frame_shown c d s is.shows));
       within = omega arith;
       page = subst (λ v. (if v then s.page else g) < s.layout.pages) (sym (not_zero n)) is.page;
-      at = subst (λ v. BeamIsAt (dot c) (start_address d (if v then s.page else g)) (suc n)) (sym (not_zero n)) at_next;
+      at = subst (λ v. BeamIsAtDotOfFrameFromAddress (dot c) (start_address d (if v then s.page else g)) (suc n)) (sym (not_zero n)) at_next;
       lines = ap (λ v. lines_of_dots (if v then [] else (dot c).drawn)) away ∙ lines_are;
       bytes = ap (λ v. bytes_of_dots (if v then [] else (dot c).drawn)) away ∙ bytes_are
           ∙ sym (ap (λ v. if v then [] else picture_so_far b ++ colour_of_frame_dot s g n) (not_zero n));
     }
 
   -- ---- if the frame ends
-  module _ (e : n + 1 ≡ dots_a_frame s.mode) where
+  module _ (e : n + 1 ≡ total_dots_of_frame_in_mode s.mode) where
     ends_here : frame c ≡ dot c
     ends_here =
         let count = ended.count in
@@ -306,8 +306,8 @@ module _ (c : CardState) (d : BiosData) (b : Drawing) (z : IsCard c) (is : CardF
         let one : card_dots_to_frame_end c ≡ 1 = omega arith in
         ap (λ k. dots k c) one ∙ dot_is_one c
 
-    leaves : dot c ≡ record c { crtc = record c.crtc { beam = first_dot ((c.crtc.beam.frame + 1) % 32) }; drawn = (dot c).drawn }
-    leaves = subst (λ (x : CardState). x ≡ record c { crtc = record c.crtc { beam = first_dot ((c.crtc.beam.frame + 1) % 32) }; drawn = x.drawn }) ends_here
+    leaves : dot c ≡ record c { crtc = record c.crtc { beam = first_dot_of_frame ((c.crtc.beam.frame + 1) % 32) }; drawn = (dot c).drawn }
+    leaves = subst (λ (x : CardState). x ≡ record c { crtc = record c.crtc { beam = first_dot_of_frame ((c.crtc.beam.frame + 1) % 32) }; drawn = x.drawn }) ends_here
         ended.leaves
 
     starts : IsFrameStart (dot c).crtc.beam
@@ -318,7 +318,7 @@ module _ (c : CardState) (d : BiosData) (b : Drawing) (z : IsCard c) (is : CardF
 
     follows_renewed : CardFollowsDrawing (dot c) d (renewed b)
     follows_renewed = record {
-      shows = ap (λ (x : CardState). shown x d) leaves ∙ shown_moved c d s (first_dot ((c.crtc.beam.frame + 1) % 32)) (dot c).drawn is.shows
+      shows = ap (λ (x : CardState). shown x d) leaves ∙ shown_moved c d s (first_dot_of_frame ((c.crtc.beam.frame + 1) % 32)) (dot c).drawn is.shows
           ∙ ap (λ f. Some (record s { frame = (f + 1) % 32 })) (sym (frame_shown c d s is.shows));
       within = omega (arith, is.within);
       page = h.page;
@@ -333,10 +333,10 @@ module _ (c : CardState) (d : BiosData) (b : Drawing) (z : IsCard c) (is : CardF
     lines = lines_are;
     bytes = bytes_are;
     follows = ⊎_elim
-        (λ (l : n + 1 < dots_a_frame s.mode). subst (CardFollowsDrawing (dot c) d) (sym (taken_on b l)) (follows_on l))
-        (λ (l : dots_a_frame s.mode ≤ n + 1). let e : n + 1 ≡ dots_a_frame s.mode = omega (arith, is.within) in
+        (λ (l : n + 1 < total_dots_of_frame_in_mode s.mode). subst (CardFollowsDrawing (dot c) d) (sym (taken_on b l)) (follows_on l))
+        (λ (l : total_dots_of_frame_in_mode s.mode ≤ n + 1). let e : n + 1 ≡ total_dots_of_frame_in_mode s.mode = omega (arith, is.within) in
         subst (CardFollowsDrawing (dot c) d) (sym (taken_last b e)) (follows_renewed e))
-        (cases_lt (n + 1) (dots_a_frame s.mode));
+        (cases_lt (n + 1) (total_dots_of_frame_in_mode s.mode));
   }
 
 -- ---- any number of dots
@@ -352,7 +352,7 @@ pub frame_follows : (c : CardState) (d : BiosData) (b : Drawing) → IsCard c �
 frame_follows c d b z is =
     let s = b.screen in
     let n = b.dot in
-    let all = dots_a_frame s.mode in
+    let all = total_dots_of_frame_in_mode s.mode in
     let f = h c d b z is in
     let k = all - n - 1 in
     let within = is.within in
@@ -368,11 +368,11 @@ frame_follows c d b z is =
     let taken_is : take_frame b ≡ take_dot b' = ap (λ j. take_dots j b) left ∙ taken_more k b in
     let whole : suc (n + k) ≡ all = omega arith in
     let lines = ap (λ (x : CardState). lines_of_dots x.drawn) frame_is ∙ last.lines
-    ∙ ap (λ (x : Screen). picture_lines_before x (suc b'.dot)) on.screen ∙ ap (λ j. picture_lines_before s (suc j)) on.dot ∙ ap (picture_lines_before s) whole ∙ all_lines c d s f in
+    ∙ ap (λ (x : Screen). lines_of_picture_dots_before x (suc b'.dot)) on.screen ∙ ap (λ j. lines_of_picture_dots_before s (suc j)) on.dot ∙ ap (lines_of_picture_dots_before s) whole ∙ all_lines c d s f in
     let w : 0 < picture_width s = subst (λ j. 0 < j) f.wide (mul-le 1 1 f.raster.columns f.raster.dots f.has.raster.some_columns f.has.raster.some_dots) in
     let v : 0 < picture_height s = subst (λ j. 0 < j) f.high f.has.raster.some_lines in
     record {
-      size = regular_shape (picture_width s) (picture_height s) (frame c).drawn w v lines;
+      size = equally_wide_rows_make_a_picture (picture_width s) (picture_height s) (frame c).drawn w v lines;
       bytes = ap (λ (x : CardState). bytes_of_dots x.drawn) frame_is ∙ last.bytes ∙ ap (λ (x : Drawing). x.picture) (sym taken_is);
       follows = subst (λ (x : CardState). CardFollowsDrawing x d (take_frame b)) (sym frame_is) (subst (CardFollowsDrawing (dot c') d) (sym taken_is) last.follows);
     }

@@ -1,7 +1,7 @@
 -- Each dot of a frame in 256 colours is the screen's pixel.
 use Rattle.std.proofs.Common.{◌≡◌, ℕ, ◌+◌, ◌*◌, ◌/◌, ◌%◌, ◌<◌, sym, ap, ◌∙◌, subst, arith, true, false}
 use Rattle.std.specs.Prelude.{if◌then◌else◌, ◌&&◌, slice_index}
-use Rattle.bios_screen.proofs.Prelude.{is_set, is_palette_shown, IsCard, CardState, bytes_320_by_200, is_packed, BiosData, planar_pixel, packed_pixel}
+use Rattle.bios_screen.proofs.Prelude.{is_set, is_palette_shown, IsCard, CardState, bytes_320_by_200, is_mode_of_256_colours, BiosData, planar_pixel, pixel_of_256_colours}
 use Rattle.bios_screen.proofs.Prelude.{pixel_screen, colour_by_palette, DrawsDotColours}
 use Rattle.vga_planes.specs.Planes.{byte_at}
 use Rattle.vga_host.specs.Sequencer.{is_screen_off}
@@ -59,7 +59,7 @@ module _ (c : CardState) (d : BiosData) (t : IsPacked c d) (z : IsCard c) (g : �
       ∙ ap (λ w. if w then byte_at m (i / 2) (fetch_address c.crtc.registers n) else 0) (lt_test i 8 li8)
       ∙ ap (byte_at m (i / 2)) (fetch_is bytes_320_by_200 c d t.graphics n ∙ fetch_many n (omega arith) ∙ there)
       ∙ ap (λ p. byte_at m p ((0xFA00 * g + q) / 4 * 4)) plane
-      ∙ sym (ap (λ j. if is_packed j then packed_pixel m (0xFA00 * g + q) else planar_pixel m (0xFA00 * g) q) t.number)
+      ∙ sym (ap (λ j. if is_mode_of_256_colours j then pixel_of_256_colours m (0xFA00 * g + q) else planar_pixel m (0xFA00 * g) q) t.number)
 
   pub draws : DrawsDotColours t.raster c (0xFA00 * g) (pixel_dot_colour (pixel_screen bytes_320_by_200 c d) g)
   unfolding dot_colour colour_number
@@ -68,5 +68,5 @@ module _ (c : CardState) (d : BiosData) (t : IsPacked c d) (z : IsCard c) (g : �
       let li8 : i < 8 = subst (λ n. i < n) t.picture.dots li in
       let p = pixel bytes_320_by_200 c d t.graphics g v x i in
       rw (screen_on, shown, many_colours) (ap (colour_of_value (palette_of_card c)) (byte_is v x i lv lx li li8))
-      ∙ sym (dot_is bytes_320_by_200 c d t.graphics g v x i lg lv lx li8 ∙ ap (λ j. if is_packed j then colour_of_value s.palette p else colour_by_palette s.palette p) t.number)
+      ∙ sym (dot_is bytes_320_by_200 c d t.graphics g v x i lg lv lx li8 ∙ ap (λ j. if is_mode_of_256_colours j then colour_of_value s.palette p else colour_by_palette s.palette p) t.number)
       ∙ ap (λ n. pixel_dot_colour s g (x * n + i) v) (sym t.picture.dots)

@@ -1,6 +1,6 @@
 -- A frame of any screen draws the screen's picture.
 use Rattle.std.proofs.Common.{◌≡◌, ◌+◌, ◌%◌, refl, sym, ap, subst, ◌∙◌, Some}
-use Rattle.vga_crtc.specs.Crtc.{first_dot}
+use Rattle.vga_crtc.specs.Crtc.{first_dot_of_frame}
 use Rattle.vga_crtc.specs.Raster.{IsFrameStart}
 use Rattle.vga_card.specs.declared.shape.Shape.{Shape}
 use Rattle.bios_screen.proofs.Prelude.{IsCard, CardState, BiosData, Screen, shown, DrawsDotColours}
@@ -23,7 +23,7 @@ frame_drawn c d s z e start =
           ∙ ap (λ n. let x : Shape = record { width = n; height = m.height } in Some x) h.wide
           ∙ ap (λ n. let x : Shape = record { width = picture_width s; height = n } in Some x) h.high;
       colours = drawn.picture.bytes ∙ ap (λ n. picture_bytes n m.height f) h.wide ∙ ap (λ n. picture_bytes (picture_width s) n f) h.high;
-      next = ap (λ x. shown x d) drawn.leaves ∙ shown_moved c d s (first_dot ((c.crtc.beam.frame + 1) % 32)) (frame c).drawn e
+      next = ap (λ x. shown x d) drawn.leaves ∙ shown_moved c d s (first_dot_of_frame ((c.crtc.beam.frame + 1) % 32)) (frame c).drawn e
           ∙ ap (λ n. let x : Screen = record s { frame = (n + 1) % 32 } in Some x) (sym (frame_shown c d s e));
       start = subst (λ (x : CardState). IsFrameStart x.crtc.beam) (sym drawn.leaves) (record { line = refl; character = refl; dot = refl });
     }

@@ -1,7 +1,7 @@
 -- The pixel at each dot of a graphics frame, in sixteen colours or 256.
 use Rattle.std.proofs.Common.{◌≡◌, ℕ, ◌+◌, ◌*◌, ◌/◌, ◌%◌, ◌<◌, refl, sym, ap, subst, ◌∙◌, List, [], get_or}
 use Rattle.std.specs.Prelude.{if◌then◌else◌, slice_index}
-use Rattle.bios_screen.proofs.Prelude.{Four, CrtcState, first_counter, regular_beam, IsCard, CardState, ModeRow, BiosData, is_packed, start_address, Screen}
+use Rattle.bios_screen.proofs.Prelude.{Four, CrtcState, first_counter, beam_at_place_of_regular_frame, IsCard, CardState, ModeRow, BiosData, is_mode_of_256_colours, start_address, Screen}
 use Rattle.bios_screen.proofs.Prelude.{pixel_in, pixel_screen, colour_by_palette}
 use Rattle.vga_dots.specs.declared.source_dot.SourceDot.{SourceDot}
 use Rattle.vga_dots.specs.SourceDot.{source_dot, fetch_address}
@@ -52,7 +52,7 @@ module _ (row : ModeRow) (c : CardState) (d : BiosData) (t : IsGraphics row c d)
 
   -- the CRT controller at that dot, and the counter there
   abbrev pub placed : ℕ → ℕ → ℕ → ℕ → CrtcState
-  placed g v x i = record c.crtc { beam = regular_beam c.crtc.registers (row.size * g) c.crtc.beam.frame v x i }
+  placed g v x i = record c.crtc { beam = beam_at_place_of_regular_frame c.crtc.registers (row.size * g) c.crtc.beam.frame v x i }
 
   abbrev pub place : ℕ → ℕ → ℕ → ℕ
   place g v x = row.size * g + (t.raster.columns * (v / tall) + x)
@@ -62,7 +62,7 @@ module _ (row : ModeRow) (c : CardState) (d : BiosData) (t : IsGraphics row c d)
   source_is z g v x i lg lv lx li =
       let a = row.size * g in
       let beam = frames.beam_is t.raster row t.frame c d t.tests a 0 v 0 0 in
-      frames.source_is t.raster row t.frame c d t.tests z (regular_beam c.crtc.registers a c.crtc.beam.frame v x i) refl li
+      frames.source_is t.raster row t.frame c d t.tests z (beam_at_place_of_regular_frame c.crtc.registers a c.crtc.beam.frame v x i) refl li
       ∙ ap (λ n. let q : SourceDot = record { counter = n; dot = i } in q) (ap (λ b. (b.base + x) % 65536) beam ∙ t.places.counter g v x lg lv lx)
 
   pub fetch_is : (n : ℕ) → fetch_address c.crtc.registers n ≡ fetch_address row.crtc n
@@ -82,6 +82,6 @@ module _ (row : ModeRow) (c : CardState) (d : BiosData) (t : IsGraphics row c d)
       (pixels_of row) row.pages g (number_of_pixel v x i) lg (t.places.pixel v x i lv lx li))
 
   pub dot_is : (g v x i : ℕ) → g < row.pages → v < t.raster.height → x < t.raster.columns → i < 8 →
-      pixel_dot_colour s g (x * 8 + i) v ≡ (if is_packed d.mode then colour_of_value s.palette (pixel g v x i) else colour_by_palette s.palette (pixel g v x i))
+      pixel_dot_colour s g (x * 8 + i) v ≡ (if is_mode_of_256_colours d.mode then colour_of_value s.palette (pixel g v x i) else colour_by_palette s.palette (pixel g v x i))
   unfolding pixel_dot_colour
-  dot_is g v x i lg lv lx li = ap (λ p. if is_packed d.mode then colour_of_value s.palette p else colour_by_palette s.palette p) (pixel_is g v x i lg lv lx li)
+  dot_is g v x i lg lv lx li = ap (λ p. if is_mode_of_256_colours d.mode then colour_of_value s.palette p else colour_by_palette s.palette p) (pixel_is g v x i lg lv lx li)

@@ -3,7 +3,7 @@ use Rattle.std.proofs.Common.{◌≡◌, ℕ, ◌+◌, ◌-◌, ◌*◌, ◌/◌
 use Rattle.std.specs.Prelude.{nat_lt, nat_le, not, if◌then◌else◌, ◌==◌, ◌&&◌, slice_index, bit_and}
 use Rattle.std.specs.Int.{bit_at}
 use Rattle.std.proofs.lemmas.Nat.{and_mask}
-use Rattle.bios_screen.proofs.Prelude.{is_set, Beam, CrtcState, regular_beam, IsCard, CardState, BiosData, start_address, Cell, Screen, cell_in, text_memory_cells}
+use Rattle.bios_screen.proofs.Prelude.{is_set, Beam, CrtcState, beam_at_place_of_regular_frame, IsCard, CardState, BiosData, start_address, Cell, Screen, cell_in, text_memory_cells}
 use Rattle.bios_screen.proofs.Prelude.{colour_by_palette}
 use Rattle.vga_bits.specs.Bits.{field}
 use Rattle.vga_planes.specs.Planes.{byte_at}
@@ -20,7 +20,7 @@ use Rattle.vga_dots.specs.Colour.{nibble as dot_nibble, dot_colour}
 use Rattle.bios_services.specs.Registers.{high, low}
 use Rattle.bios_services.specs.Cursor.{cursor_address, cell_number, cursor_position_of}
 use Rattle.bios_screen.specs.Screen.{cursor_cell_on_screen}
-use Rattle.bios_screen.specs.Shown.{glyph_byte, glyphs_in}
+use Rattle.bios_screen.specs.Shown.{glyph_byte_in_plane_2, glyph_bytes_in_plane_2}
 use Rattle.bios_screen.specs.Step.{cell_on}
 use Rattle.bios_screen.specs.Picture.{glyph_row, is_glyph_dot, is_underlined, is_blinked_away, is_cursor, is_foreground, background, nibble}
 use Rattle.bios_screen.proofs.Base.Lists.{listed_at}
@@ -76,9 +76,9 @@ off_bit n = let e = and_mask n 6 in let f : bit_at (bit_and n 0x3F) 5 ≡ bit_at
 two_bytes : (n : ℕ) → 256 * (n / 256) + n % 256 ≡ n
 two_bytes n = omega arith
 
-glyphs_at : (plane2 : List ℕ) (n i : ℕ) → i < n → slice_index (glyphs_in plane2 n) i ≡ glyph_byte plane2 i
-unfolding glyphs_in
-glyphs_at plane2 n i l = listed_at (glyph_byte plane2) n i 0 l
+glyphs_at : (plane2 : List ℕ) (n i : ℕ) → i < n → slice_index (glyph_bytes_in_plane_2 plane2 n) i ≡ glyph_byte_in_plane_2 plane2 i
+unfolding glyph_bytes_in_plane_2
+glyphs_at plane2 n i l = listed_at (glyph_byte_in_plane_2 plane2) n i 0 l
 
 -- ---- dot k of character x of line v
 
@@ -150,7 +150,7 @@ module _ (c : CardState) (d : BiosData) (h : IsShown c d) (z : IsCard c) (g : �
   abbrev placed : ℕ → ℕ → ℕ → CrtcState
   placed v x k = record c.crtc { beam = text_beam c.crtc.beam.frame v x k }
 
-  pub beam_is : (v x k : ℕ) → v < height * rows → regular_beam c.crtc.registers (half * g) c.crtc.beam.frame v x k ≡ text_beam c.crtc.beam.frame v x k
+  pub beam_is : (v x k : ℕ) → v < height * rows → beam_at_place_of_regular_frame c.crtc.registers (half * g) c.crtc.beam.frame v x k ≡ text_beam c.crtc.beam.frame v x k
   beam_is v x k lv =
       let some = h.text.some_columns in
       let there = place_there v 0 lv some in

@@ -3,7 +3,7 @@
 use Rattle.std.proofs.Common.{◌≡◌, ℕ, ◌+◌, ◌-◌, ◌*◌, ◌/◌, ◌%◌, ◌<◌, ◌≤◌, refl, sym, subst, arith, Bool, false}
 use Rattle.std.specs.Prelude.{nat_le, not, ◌==◌, ◌&&◌, bit_and}
 use Rattle.std.specs.Int.{bit_at}
-use Rattle.bios_screen.proofs.Prelude.{is_set, Beam, regular_beam, CardState, ModeRow, BiosData, crtc_registers, Raster}
+use Rattle.bios_screen.proofs.Prelude.{is_set, Beam, beam_at_place_of_regular_frame, CardState, ModeRow, BiosData, crtc_registers, Raster}
 use Rattle.vga_bits.specs.Bits.{field}
 use Rattle.vga_crtc.specs.Fields.{horizontal_total, horizontal_display_end, vertical_total, preset_row_scan, vertical_display_end, line_compare}
 use Rattle.vga_crtc.specs.Fields.{byte_panning, cursor_start, is_cursor_off, cursor_end, cursor_location, underline_location}
@@ -38,7 +38,7 @@ beam_of row a frame v x k = record {
 pub record HasTextLines (mode : ℕ) (row : ModeRow) : Type 0 where
   pub some_lines : 0 < row.height
   pub short : row.height ≤ 16
-  pub beam : (a frame v x k : ℕ) → regular_beam row.crtc a frame v x k ≡ beam_of row a frame v x k
+  pub beam : (a frame v x k : ℕ) → beam_at_place_of_regular_frame row.crtc a frame v x k ≡ beam_of row a frame v x k
   pub fetch : (n : ℕ) → fetch_address row.crtc n ≡ 2 * n % 65536 + bit_at n 15
   pub underline : (v : Bool) (r : ℕ) → (is_monochrome_mode mode && v && r == underline_location row.crtc)
       ≡ (is_monochrome_mode mode && (v && (r == row.height - 1)))

@@ -9,7 +9,7 @@ use Rattle.bios_screen.specs.Screen.{Screen}
 use Rattle.bios_screen.specs.Picture.{dot_colour_at, picture_width, picture_height, next_frame}
 use Rattle.bios_screen.specs.Raster.{Raster, all_dots_of_line as dots_of_line, picture_dot, concatenated_lists, picture_bytes}
 use Rattle.bios_screen.proofs.Base.DotLists.{bytes_joined, same_joined, whole_picture, picture_bytes_are, row_dots}
-use Rattle.bios_screen.specs.Drawing.{dots_a_line, lines_a_frame, dots_a_frame, Drawing, page_shown, picture_so_far, is_picture_dot, colour_of_frame_dot, take_dot, take_dots}
+use Rattle.bios_screen.specs.Drawing.{dots_a_line, lines_a_frame, total_dots_of_frame_in_mode, Drawing, page_shown, picture_so_far, is_picture_dot, colour_of_frame_dot, take_dot, take_dots}
 use Rattle.bios_screen.specs.Drawing.{take_frame}
 use Rattle.bios_screen.specs.Whole.{PictureFitsFrame, FrameEndsAtDotZero, FrameIsWholePicture}
 use Rattle.bios_screen.proofs.Dots.OneDot.{not_zero, is_zero, bytes_if, renewed, taken_on, taken_last, dots_on, taken_more}
@@ -32,7 +32,7 @@ module _ (b : Drawing) where
   g = page_shown b
 
   abbrev all : ℕ
-  all = dots_a_frame s.mode
+  all = total_dots_of_frame_in_mode s.mode
 
   abbrev colours : ℕ → List ℕ
   colours i = colour_of_frame_dot s g (n + i)
@@ -62,7 +62,7 @@ module _ (b : Drawing) where
       let x = take_dots k b in
       let on = dots_on k b (omega arith) in
       let is = collected k (omega arith) in
-      let mode : dots_a_frame x.screen.mode ≡ all = ap (λ (t : Screen). dots_a_frame t.mode) on.screen in
+      let mode : total_dots_of_frame_in_mode x.screen.mode ≡ all = ap (λ (t : Screen). total_dots_of_frame_in_mode t.mode) on.screen in
       let at = on.dot in
       let next = taken_more k b ∙ taken_on x (omega arith) in
       record {
@@ -78,7 +78,7 @@ module _ (b : Drawing) where
       let left : all - n ≡ suc k = omega arith in
       let x = take_dots k b in
       let on = dots_on k b (omega arith) in
-      let mode : dots_a_frame x.screen.mode ≡ all = ap (λ (t : Screen). dots_a_frame t.mode) on.screen in
+      let mode : total_dots_of_frame_in_mode x.screen.mode ≡ all = ap (λ (t : Screen). total_dots_of_frame_in_mode t.mode) on.screen in
       let at = on.dot in
       let is : take_frame b ≡ renewed x = ap (λ j. take_dots j b) left ∙ taken_more k b ∙ taken_last x (omega arith) in
       record {
@@ -101,9 +101,9 @@ dot_bytes : (s : Screen) (g n : ℕ) → bytes_of_dots (picture_dot (raster_of s
 dot_bytes s g n =
     rw (once (dots_a_line s.mode), once (picture_width s)) (bytes_if (is_picture_dot s n) _)
 
-whole_colours : (s : Screen) (g : ℕ) → PictureFitsFrame s → concatenated_lists (colour_of_frame_dot s g) (dots_a_frame s.mode)
+whole_colours : (s : Screen) (g : ℕ) → PictureFitsFrame s → concatenated_lists (colour_of_frame_dot s g) (total_dots_of_frame_in_mode s.mode)
     ≡ picture_bytes (picture_width s) (picture_height s) (dot_colour_at s g)
-unfolding dots_a_frame picture_bytes
+unfolding total_dots_of_frame_in_mode picture_bytes
 whole_colours s g fits =
     let m = raster_of s in
     let f = dot_colour_at s g in
@@ -117,11 +117,11 @@ whole_colours s g fits =
     ∙ ap (λ j. bytes_of_dots (concatenated_dots (row_dots f j) (picture_height s))) w
     ∙ picture_bytes_are f (picture_width s) (picture_height s)
 
-pub whole_taken : (b : Drawing) → PictureFitsFrame b.screen → b.dot ≡ 0 → b.dot < dots_a_frame b.screen.mode → FrameIsWholePicture b
+pub whole_taken : (b : Drawing) → PictureFitsFrame b.screen → b.dot ≡ 0 → b.dot < total_dots_of_frame_in_mode b.screen.mode → FrameIsWholePicture b
 whole_taken b fits e within =
     let s = b.screen in
     let test = is_zero b.dot e in
-    let all = dots_a_frame s.mode in
+    let all = total_dots_of_frame_in_mode s.mode in
     let left : all - b.dot ≡ all = omega arith in
     (frame_taken b within).picture
     ∙ ap (λ v. (if v then [] else b.picture) ++ concatenated_lists (λ i. colour_of_frame_dot s (if v then s.page else b.page) (b.dot + i)) (all - b.dot)) test

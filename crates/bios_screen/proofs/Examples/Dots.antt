@@ -11,7 +11,7 @@ use Rattle.bios_screen.specs.Colours.{with_colours}
 use Rattle.bios_screen.specs.Step.{next}
 use Rattle.bios_screen.specs.Loaded.{load_refusal_on, load_glyphs}
 use Rattle.bios_screen.specs.Picture.{is_foreground, nibble, text_dot_colour}
-use Rattle.bios_screen.specs.Drawing.{Drawing, dots_a_frame, take_dot, take_dots}
+use Rattle.bios_screen.specs.Drawing.{Drawing, total_dots_of_frame_in_mode, take_dot, take_dots}
 
 -- character 0 has no dot, and character 1 has the outer dots of its top row
 abbrev two_glyphs : List ℕ
@@ -45,40 +45,40 @@ after service b = record b { screen = next no_fonts b.screen service [] }
 
 -- a frame begins with the active page and an empty picture
 first : take_dot (at (small 1 0) 0) ≡ record { screen = small 1 0; dot = 1; page = 1; picture = 13 ∷ 23 ∷ 33 ∷ [] }
-unfolding take_dot dots_a_frame text_dot_colour nibble is_foreground
+unfolding take_dot total_dots_of_frame_in_mode text_dot_colour nibble is_foreground
 first = refl
 
 two : take_dots 2 (at (small 0 0) 0) ≡ record { screen = small 0 0; dot = 2; page = 0; picture = 12 ∷ 22 ∷ 32 ∷ 11 ∷ 21 ∷ 31 ∷ [] }
-unfolding take_dots take_dot dots_a_frame text_dot_colour nibble is_foreground
+unfolding take_dots take_dot total_dots_of_frame_in_mode text_dot_colour nibble is_foreground
 two = refl
 
 -- a palette value set between two dots shows at the second
 coloured_between : (take_dot (after (Colours (SetRegister 1 3)) (take_dot (at (small 0 0) 0)))).picture ≡ 12 ∷ 22 ∷ 32 ∷ 13 ∷ 23 ∷ 33 ∷ []
-unfolding take_dot dots_a_frame text_dot_colour nibble is_foreground next with_colours
+unfolding take_dot total_dots_of_frame_in_mode text_dot_colour nibble is_foreground next with_colours
 coloured_between = refl
 
 -- a page that becomes active between two dots is shown from the next frame on
 page_between : (take_dot (after (SelectPage 1) (take_dot (at (small 0 0) 0)))).picture ≡ 12 ∷ 22 ∷ 32 ∷ 11 ∷ 21 ∷ 31 ∷ []
-unfolding take_dot dots_a_frame text_dot_colour nibble is_foreground next
+unfolding take_dot total_dots_of_frame_in_mode text_dot_colour nibble is_foreground next
 page_between = refl
 
 -- dots to the right of the picture and below it are not part of it
 right : (take_dot (at (small 0 0) 18)).picture ≡ 1 ∷ 2 ∷ 3 ∷ []
-unfolding take_dot dots_a_frame text_dot_colour nibble is_foreground
+unfolding take_dot total_dots_of_frame_in_mode text_dot_colour nibble is_foreground
 right = refl
 
 below : (take_dot (at (small 0 0) 14400)).picture ≡ 1 ∷ 2 ∷ 3 ∷ []
-unfolding take_dot dots_a_frame text_dot_colour nibble is_foreground
+unfolding take_dot total_dots_of_frame_in_mode text_dot_colour nibble is_foreground
 below = refl
 
 -- the second line begins at dot 900
 second_line : take_dot (at (small 0 0) 900) ≡ record { screen = small 0 0; dot = 901; page = 0; picture = 1 ∷ 2 ∷ 3 ∷ 11 ∷ 21 ∷ 31 ∷ [] }
-unfolding take_dot dots_a_frame text_dot_colour nibble is_foreground
+unfolding take_dot total_dots_of_frame_in_mode text_dot_colour nibble is_foreground
 second_line = refl
 
 -- the last dot ends frame 31: its picture stays, and dot 0 of frame 0 comes next
 last : take_dot (at (small 1 31) 404099) ≡ record { screen = small 1 0; dot = 0; page = 0; picture = 1 ∷ 2 ∷ 3 ∷ [] }
-unfolding take_dot dots_a_frame text_dot_colour nibble is_foreground
+unfolding take_dot total_dots_of_frame_in_mode text_dot_colour nibble is_foreground
 last = refl
 
 -- one glyph of 8 lines for character 1, with one dot: the first of its top row
@@ -91,15 +91,15 @@ cut_anew = load_glyphs no_fonts (small 1 0) one_glyph (0x80 ∷ 0 ∷ 0 ∷ 0 �
 -- a height set at dot 0 holds for the whole frame: page 0 is shown, and the second row of cells
 -- begins at line 8
 first_row_anew : take_dots 2 (at cut_anew 0) ≡ record { screen = cut_anew; dot = 2; page = 0; picture = 12 ∷ 22 ∷ 32 ∷ 11 ∷ 21 ∷ 31 ∷ [] }
-unfolding take_dots take_dot dots_a_frame text_dot_colour nibble is_foreground load_glyphs
+unfolding take_dots take_dot total_dots_of_frame_in_mode text_dot_colour nibble is_foreground load_glyphs
 first_row_anew = refl
 
 second_row_anew : (take_dot (at cut_anew 7200)).picture ≡ 1 ∷ 2 ∷ 3 ∷ 13 ∷ 23 ∷ 33 ∷ []
-unfolding take_dot dots_a_frame text_dot_colour nibble is_foreground load_glyphs
+unfolding take_dot total_dots_of_frame_in_mode text_dot_colour nibble is_foreground load_glyphs
 second_row_anew = refl
 
 line_8_before : (take_dot (at (small 0 0) 7200)).picture ≡ 1 ∷ 2 ∷ 3 ∷ 11 ∷ 21 ∷ 31 ∷ []
-unfolding take_dot dots_a_frame text_dot_colour nibble is_foreground
+unfolding take_dot total_dots_of_frame_in_mode text_dot_colour nibble is_foreground
 line_8_before = refl
 
 -- a block that is too short is refused at any dot
@@ -107,26 +107,26 @@ short_block : load_refusal_on (small 0 0) one_glyph 7 ≡ Some BadBlock
 short_block = refl
 
 -- how many dots a frame has
-text_dots : dots_a_frame 0x03 ≡ 404100
-unfolding dots_a_frame
+text_dots : total_dots_of_frame_in_mode 0x03 ≡ 404100
+unfolding total_dots_of_frame_in_mode
 text_dots = refl
 
-monochrome_dots : dots_a_frame 0x07 ≡ 404100
-unfolding dots_a_frame
+monochrome_dots : total_dots_of_frame_in_mode 0x07 ≡ 404100
+unfolding total_dots_of_frame_in_mode
 monochrome_dots = refl
 
-low_dots : dots_a_frame 0x0D ≡ 179600
-unfolding dots_a_frame
+low_dots : total_dots_of_frame_in_mode 0x0D ≡ 179600
+unfolding total_dots_of_frame_in_mode
 low_dots = refl
 
-middle_dots : dots_a_frame 0x10 ≡ 359200
-unfolding dots_a_frame
+middle_dots : total_dots_of_frame_in_mode 0x10 ≡ 359200
+unfolding total_dots_of_frame_in_mode
 middle_dots = refl
 
-high_dots : dots_a_frame 0x12 ≡ 420000
-unfolding dots_a_frame
+high_dots : total_dots_of_frame_in_mode 0x12 ≡ 420000
+unfolding total_dots_of_frame_in_mode
 high_dots = refl
 
-many_dots : dots_a_frame 0x13 ≡ 359200
-unfolding dots_a_frame
+many_dots : total_dots_of_frame_in_mode 0x13 ≡ 359200
+unfolding total_dots_of_frame_in_mode
 many_dots = refl

@@ -1,6 +1,6 @@
 -- Pixels of small memories and of a screen of two lines of eight pixels, computed.
 use Rattle.std.proofs.Common.{◌≡◌, ℕ, refl, List, [], ◌∷◌, Some, None, true, false}
-use Rattle.bios_screen.proofs.Prelude.{Four, FontSet, list_by_function, Screen, planar_pixel, packed_pixel}
+use Rattle.bios_screen.proofs.Prelude.{Four, FontSet, list_by_function, Screen, planar_pixel, pixel_of_256_colours}
 use Rattle.vga_bits.specs.declared.refusal.Refusal.TheVariants.{Outside}
 use Rattle.bios_services.specs.declared.scroll.Scroll.{Scroll}
 use Rattle.bios_services.specs.declared.cell_run.CellRun.{CellRun}
@@ -35,7 +35,7 @@ later_page : planar_pixel memory 4 2 ≡ 2
 later_page = refl
 
 -- in 256 colours pixel 5 is in plane 1 at offset 4
-packed : packed_pixel memory 5 ≡ 0x2A
+packed : pixel_of_256_colours memory 5 ≡ 0x2A
 packed = refl
 
 -- two lines of pixels, 1 2 3 0 0 0 0 0 and 3 0 0 0 0 0 0 2, in any mode

@@ -4,12 +4,12 @@ use Rattle.std.proofs.Common.{◌≡◌, ℕ, ◌+◌, ◌*◌, ◌/◌, ◌%◌
 use Rattle.std.proofs.lemmas.Bool.{and_parts, eqb-true}
 use Rattle.std.proofs.lemmas.Bool.Decides.{nat_tests}
 use Rattle.std.specs.Prelude.{◌==◌, ◌&&◌, if◌then◌else◌, nat_lt, nat_le, slice_index, bit_and, bit_or}
-use Rattle.bios_screen.proofs.Prelude.{is_set, first_counter, regular_beam, ModeRow, crtc_registers, Raster}
+use Rattle.bios_screen.proofs.Prelude.{is_set, first_counter, beam_at_place_of_regular_frame, ModeRow, crtc_registers, Raster}
 use Rattle.vga_crtc.specs.Fields.{horizontal_total, horizontal_display_end, vertical_total, preset_row_scan, byte_panning, maximum_scan_line, is_double_scan}
 use Rattle.vga_crtc.specs.Fields.{start_address as address_of, vertical_display_end, offset, underline_location, is_double_word, is_address_wrap, is_byte_mode}
 use Rattle.vga_crtc.specs.Fields.{line_compare}
 use Rattle.vga_crtc.specs.Beam.{characters, lines}
-use Rattle.vga_crtc.specs.Raster.{IsRegularFrame}
+use Rattle.vga_crtc.specs.Raster.{IsRegularFrameWithoutSplit}
 use Rattle.vga_dots.specs.SourceDot.{fetch_address}
 use Rattle.bios_screen.specs.Raster.{IsRaster}
 use Rattle.bios_screen.proofs.Base.Tests.{le_is}
@@ -32,7 +32,7 @@ pub record IsFrame (m : Raster) (row : ModeRow) : Type 0 where
   pub raster : IsRaster m
   pub clock : (if is_set (slice_index row.sequencer 1) 0 then 8 else 9) ≡ m.dots
   pub numbers : numbers_of m.dots row.crtc ≡ m
-  pub regular : IsRegularFrame row.crtc
+  pub regular : IsRegularFrameWithoutSplit row.crtc
   pub whole : byte_panning row.crtc ≡ 0
   pub attributes : length row.attribute ≡ 21
   pub still : panned_by row.sequencer row.graphics (slice_index row.attribute 0x13) ≡ 0
@@ -125,11 +125,11 @@ module _ (row : ModeRow) (type start location : ℕ) where
   unfolding horizontal_total horizontal_display_end vertical_total vertical_display_end
   numbers_stay w = refl
 
-  pub regular_stays : IsRegularFrame row.crtc → IsRegularFrame l
+  pub regular_stays : IsRegularFrameWithoutSplit row.crtc → IsRegularFrameWithoutSplit l
   unfolding vertical_total line_compare preset_row_scan
   regular_stays r = record { uncut = r.uncut; unscrolled = r.unscrolled }
 
-  pub beam_stays : (a frame v x k : ℕ) → regular_beam l a frame v x k ≡ regular_beam row.crtc a frame v x k
+  pub beam_stays : (a frame v x k : ℕ) → beam_at_place_of_regular_frame l a frame v x k ≡ beam_at_place_of_regular_frame row.crtc a frame v x k
   unfolding maximum_scan_line is_double_scan offset
   beam_stays a frame v x k = refl
 

@@ -5,7 +5,7 @@ use Rattle.std.specs.Int.{bit_at}
 use Rattle.std.proofs.lemmas.Nat.Bits.{bit_at-zero}
 use Rattle.vga_bits.specs.Bits.{byte_of_bits}
 use Rattle.bios_screen.proofs.Prelude.{Four, bytes_at, IsCard, card_meaning, CardState, ModeRow, data_of_mode, bytes_320_by_200, Plan, run, put, Screen}
-use Rattle.bios_screen.proofs.Prelude.{planar_pixel, packed_pixel, pixel_in, shown}
+use Rattle.bios_screen.proofs.Prelude.{planar_pixel, pixel_of_256_colours, pixel_in, shown}
 use Rattle.vga_bits.specs.Four.{four_by_plane}
 use Rattle.vga_host.specs.Memory.Write.{written_bit, combined_bit}
 use Rattle.bios_modes.specs.Kinds.{kind_of_row, is_text_kind}
@@ -72,7 +72,7 @@ planes_clear mode row is c z e =
           let o = row.size * p + k / 8 in
           let ends = page_ends row is.graphics.room p lp in
           let room = page_room row is.graphics.room k lk in
-          ap (λ b. if b then packed_pixel f (row.size * p + k) else planar_pixel f (row.size * p) k) is.planes.packed
+          ap (λ b. if b then pixel_of_256_colours f (row.size * p + k) else planar_pixel f (row.size * p) k) is.planes.packed
           ∙ ap (λ (x : Four ℕ). nibble_of x (k % 8)) (done.shown.cell o
           ∙ done.fact.inside (record { turn = o; from = omega arith; before = omega arith; place = tt })
           ∙ stored_zero misc clocking q (bytes_at c.host.memory o))
@@ -87,7 +87,7 @@ bytes_clear c z e =
     let done = edits CardState ℕ card_meaning (λ w. put (0xA0000 + w) 0) (λ _. IsFlat rest) 0 65536 (λ _. Unit {0}) (λ w _. w) (λ w _ x. 0)
     (λ i j _ _ lb lo hi same. absurd (omega arith))
     (λ w y f lb lw u. record { cells = set_cell f w 0; shown = put_flat rest w 0 y f lw (omega arith) u; fact = one_edit w 0 f })
-    65536 0 c (packed_pixel c.host.memory) (omega arith) (omega arith) (record { mode = e; bounds = z; cell = λ k. refl; others = refl }) in
+    65536 0 c (pixel_of_256_colours c.host.memory) (omega arith) (omega arith) (record { mode = e; bounds = z; cell = λ k. refl; others = refl }) in
     record {
       same = done.shown.mode ∙ sym e;
       others = done.shown.others;

@@ -3,8 +3,8 @@
 use Rattle.std.proofs.Common.{◌≡◌, ℕ, ◌+◌, ◌*◌, ◌/◌, ◌%◌, ◌<◌, ◌≤◌, refl, arith, true, false, Some}
 use Rattle.std.specs.Prelude.{slice_index, IsTrue, ◌&&◌, nat_lt, nat_le}
 use Rattle.std.proofs.lemmas.Bool.Decides.{nat_tests}
-use Rattle.bios_screen.proofs.Prelude.{is_set, regular_beam, DacState, CardState, crtc_port, ModeRow, Planar, data_of_mode, mode_row_at_height, bytes_320_by_200, is_text}
-use Rattle.bios_screen.proofs.Prelude.{is_packed, kind_of, page_base, Raster}
+use Rattle.bios_screen.proofs.Prelude.{is_set, beam_at_place_of_regular_frame, DacState, CardState, crtc_port, ModeRow, Planar, data_of_mode, mode_row_at_height, bytes_320_by_200, is_text}
+use Rattle.bios_screen.proofs.Prelude.{is_mode_of_256_colours, kind_of, page_0_address_of_mode, Raster}
 use Rattle.vga_crtc.specs.Ports.{after_out as after_crtc}
 use Rattle.vga_crtc.specs.Fields.{horizontal_total, horizontal_display_end, vertical_total, preset_row_scan, byte_panning, maximum_scan_line, is_double_scan}
 use Rattle.vga_crtc.specs.Fields.{vertical_display_end, offset, is_double_word, is_byte_mode, line_compare, is_protected, overflow}
@@ -21,7 +21,7 @@ use Rattle.bios_screen.specs.Drawing.{dots_a_line, lines_a_frame}
 use Rattle.bios_screen.proofs.Base.Places.{ends_before}
 use Rattle.bios_screen.proofs.Base.Setting.{Setting}
 use Rattle.bios_screen.proofs.Modes.Frames.{IsFrame, computed_frame, HasShades, Blinks}
-use Rattle.bios_screen.proofs.Modes.Registers.{in_mode, IsSet}
+use Rattle.bios_screen.proofs.Modes.Registers.{perform_service_in_mode, IsSet}
 use Rattle.bios_screen.proofs.Planar.Settings.{drawing, at_rest}
 
 -- the registers that memory cycles depend on
@@ -39,10 +39,10 @@ pub record IsListed (mode : ℕ) (row : ModeRow) : Type 0 where
   pub there : (height : ℕ) → mode_row_at_height mode height ≡ Some row
   pub text : is_text mode ≡ false
   pub port : row.crtc_address ≡ crtc_port row.misc
-  pub whole : IsTrue (is_packed mode) → pixels_of row ≤ row.size
+  pub whole : IsTrue (is_mode_of_256_colours mode) → pixels_of row ≤ row.size
   pub steady : Blinks row 0
   pub blinks : Blinks row 1
-  pub fresh : (c : CardState) (d : DacState) → shows row (record (in_mode row c) { dac = d }) (data_of_mode mode row) ≡ true
+  pub fresh : (c : CardState) (d : DacState) → shows row (record (perform_service_in_mode row c) { dac = d }) (data_of_mode mode row) ≡ true
 
 -- the sizes of its characters and pages
 pub record HasRoom (row : ModeRow) : Type 0 where
@@ -83,7 +83,7 @@ pub record IsPictured (mode : ℕ) (row : ModeRow) (m : Raster) : Type 0 where
 -- where the dots of a frame come from: the counter at character x of line v of a page, and the
 -- pixel at dot i of it
 pub record HasPlaces (mode : ℕ) (row : ModeRow) (m : Raster) : Type 0 where
-  pub counter : (page v x : ℕ) → page < row.pages → v < m.height → x < m.columns → ((regular_beam row.crtc (row.size * page) 0 v 0 0).base + x) % 65536
+  pub counter : (page v x : ℕ) → page < row.pages → v < m.height → x < m.columns → ((beam_at_place_of_regular_frame row.crtc (row.size * page) 0 v 0 0).base + x) % 65536
       ≡ row.size * page + (m.columns * (v / pixel_height mode) + x)
   pub pixel : (v x i : ℕ) → v < m.height → x < m.columns → i < 8 → 8 * row.columns * (v / pixel_height mode) + (x * 8 + i) / pixel_width mode < pixels_of row
 
@@ -102,8 +102,8 @@ pub record IsGraphicsRow (mode : ℕ) (row : ModeRow) : Type 0 where
 -- each plane
 pub record HasPlanes (mode : ℕ) (row : ModeRow) (m : Raster) : Type 0 where
   pub kind : kind_of mode ≡ Planar
-  pub packed : is_packed mode ≡ false
-  pub base : page_base mode ≡ 0xA0000
+  pub packed : is_mode_of_256_colours mode ≡ false
+  pub base : page_0_address_of_mode mode ≡ 0xA0000
   pub enabled : is_set row.misc 1 ≡ true
   pub setting : setting_of row ≡ drawing row.misc (slice_index row.sequencer 1) at_rest
   pub columns : m.columns ≡ row.columns

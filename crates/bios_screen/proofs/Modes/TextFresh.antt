@@ -10,10 +10,10 @@ use Rattle.vga_card.specs.Port.{port_of as reached_by, crtc_port_of}
 use Rattle.vga_card.specs.Cycles.{out_reached, inp_reached}
 use Rattle.bios_modes.specs.Fonts.{glyph_row}
 use Rattle.bios_services.specs.Cycles.{write_sequencer, write_registers_from_0, write_attribute_registers}
-use Rattle.bios_services.specs.ModeSet.{write_registers_plan, write_glyphs_plan, write_font_plan, blank_byte, write_blanks_plan, write_text_memory_plan, write_mode_memory_plan, mode_set_plan}
+use Rattle.bios_services.specs.ModeSet.{write_registers_plan, write_glyphs_plan, write_font_plan, byte_of_blank_cells, write_blanks_plan, write_text_memory_plan, write_mode_memory_plan, mode_set_plan}
 use Rattle.bios_screen.specs.Screen.{Palette}
-use Rattle.bios_screen.specs.Shown.{cells_in, glyph_byte, glyphs_in, shows, text_screen_with_cells, screen_of, screen_shown_in_mode}
-use Rattle.bios_screen.specs.Fresh.{fresh_cells, font_bytes, fresh_text, fresh_pixels}
+use Rattle.bios_screen.specs.Shown.{cells_in, glyph_byte_in_plane_2, glyph_bytes_in_plane_2, shows, text_screen_with_cells, screen_of, screen_shown_in_mode}
+use Rattle.bios_screen.specs.Fresh.{fresh_cells, first_bytes_of_font, fresh_text, fresh_pixels}
 use Rattle.bios_screen.specs.AfterCall.{ModeSetShowsFreshScreen}
 use Rattle.bios_screen.proofs.Shows.Screens.{screen_is_text}
 use Rattle.bios_screen.proofs.Base.Flat.{Edited, Turn, Leaves, set_cell}
@@ -22,7 +22,7 @@ use Rattle.bios_screen.proofs.Base.Edits.{one_edit, edits}
 use Rattle.bios_screen.proofs.Base.Lists.{same_from_0, blank_listing}
 use Rattle.bios_services.proofs.CardLemmas.{plan_bounds}
 use Rattle.bios_screen.proofs.Base.Setting.{setting}
-use Rattle.bios_screen.proofs.Modes.TextModes.{Display, base_of, text_setting, row_of, number_of, text_by}
+use Rattle.bios_screen.proofs.Modes.TextModes.{Display, base_of, text_setting, row_of_position, number_of, text_by}
 use Rattle.bios_screen.proofs.Modes.TextModes.Display.{Colour, Monochrome}
 use Rattle.bios_screen.proofs.Text.Memory.{IsTextual, without_text, text_put}
 use Rattle.bios_screen.proofs.Text.Cells.{has_cells}
@@ -33,26 +33,26 @@ use Rattle.bios_screen.proofs.Text.Glyphs.{glyph_setting, without_glyphs, IsLoad
 
 -- ---- text memory is cleared
 
-blank_small : (w : ℕ) → blank_byte w < 256
+blank_small : (w : ℕ) → byte_of_blank_cells w < 256
 blank_small w = grind (arith, nat_tests)
 
-even_blank : (q : ℕ) → blank_byte (2 * q) ≡ 0x20
+even_blank : (q : ℕ) → byte_of_blank_cells (2 * q) ≡ 0x20
 even_blank q = grind (arith, nat_tests)
 
-odd_blank : (q : ℕ) → blank_byte (2 * q + 1) ≡ 0x07
+odd_blank : (q : ℕ) → byte_of_blank_cells (2 * q + 1) ≡ 0x07
 odd_blank q = grind (arith, nat_tests)
 
 blanked : (disp : Display) (rest c : CardState) (m : ℕ → ℕ) (n : ℕ) → n ≤ 32768 → IsTextual disp rest c m →
     Leaves CardState ℕ (IsTextual disp rest) (run card_meaning (write_blanks_plan (base_of disp) n) c).0
-    (Edited ℕ (Turn (λ _. Unit {0}) 0 n) (λ h. h.turn) (λ h x. blank_byte h.turn) m)
+    (Edited ℕ (Turn (λ _. Unit {0}) 0 n) (λ h. h.turn) (λ h x. byte_of_blank_cells h.turn) m)
 unfolding write_blanks_plan
 blanked disp rest c m n l t =
-    edits CardState ℕ card_meaning (λ w. put (base_of disp + w) (blank_byte w)) (λ _. IsTextual disp rest) 0 n (λ _. Unit {0}) (λ r h. r) (λ r h x.
-    blank_byte r) (λ j k a b lb lo hi q. absurd (omega arith))
+    edits CardState ℕ card_meaning (λ w. put (base_of disp + w) (byte_of_blank_cells w)) (λ _. IsTextual disp rest) 0 n (λ _. Unit {0}) (λ r h. r) (λ r h x.
+    byte_of_blank_cells r) (λ j k a b lb lo hi q. absurd (omega arith))
     (λ r s x lb w t. record {
-      cells = set_cell x r (blank_byte r);
-      shown = text_put disp rest s x r (blank_byte r) (omega arith) (blank_small r) t;
-      fact = one_edit r (blank_byte r) x;
+      cells = set_cell x r (byte_of_blank_cells r);
+      shown = text_put disp rest s x r (byte_of_blank_cells r) (omega arith) (blank_small r) t;
+      fact = one_edit r (byte_of_blank_cells r) x;
     })
     n 0 c m (omega arith) (omega arith) t
 
@@ -65,9 +65,9 @@ but_glyphs x y e = ap (λ s. let r : CardState = record s { host = record s.host
 
 -- ---- lists
 
-glyphs_same : (plane2 font : List ℕ) (n : ℕ) → ((i : ℕ) → i < n → glyph_byte plane2 i ≡ slice_index font i) → glyphs_in plane2 n ≡ font_bytes font n
-unfolding glyphs_in font_bytes
-glyphs_same plane2 font n h = same_from_0 (slice_index font) (glyph_byte plane2) n h
+glyphs_same : (plane2 font : List ℕ) (n : ℕ) → ((i : ℕ) → i < n → glyph_byte_in_plane_2 plane2 i ≡ slice_index font i) → glyph_bytes_in_plane_2 plane2 n ≡ first_bytes_of_font font n
+unfolding glyph_bytes_in_plane_2 first_bytes_of_font
+glyphs_same plane2 font n h = same_from_0 (slice_index font) (glyph_byte_in_plane_2 plane2) n h
 
 cells_blank : (p0 p1 : List ℕ) (n : ℕ) → ((k : ℕ) → k < n → cell_in p0 p1 k ≡ (0x20, 0x07)) → cells_in p0 p1 n ≡ fresh_cells n
 unfolding cells_in fresh_cells
@@ -85,40 +85,40 @@ abbrev in_glyphs : Display → CardState → CardState
 in_glyphs disp c = record c { host = record c.host { seq = (glyph_setting disp).seq; gfx = (glyph_setting disp).gfx; seq_index = 4; gfx_index = 6 } }
 
 abbrev in_text : Display → CardState → CardState
-in_text disp c = record c { host = record c.host { seq = (row_of disp).sequencer; gfx = (row_of disp).graphics; seq_index = 4; gfx_index = 6 } }
+in_text disp c = record c { host = record c.host { seq = (row_of_position disp).sequencer; gfx = (row_of_position disp).graphics; seq_index = 4; gfx_index = 6 } }
 
 abbrev with_glyphs : CardState → List ℕ → CardState
 with_glyphs c l = record c { host = record c.host { memory = record c.host.memory { plane2 = l } } }
 
-on_is : (disp : Display) (c : CardState) (d : DacState) → (run card_meaning glyphs_on (coloured (row_of disp) c d)).0
-    ≡ in_glyphs disp (coloured (row_of disp) c d)
+on_is : (disp : Display) (c : CardState) (d : DacState) → (run card_meaning glyphs_on (coloured (row_of_position disp) c d)).0
+    ≡ in_glyphs disp (coloured (row_of_position disp) c d)
 unfolding reached_by out_reached
 on_is Colour c d = refl
 on_is Monochrome c d = refl
 
-off_is : (disp : Display) (c : CardState) (d : DacState) (l : List ℕ) → (run card_meaning (glyphs_off (slice_index (row_of disp).graphics 6))
-    (with_glyphs (in_glyphs disp (coloured (row_of disp) c d)) l)).0 ≡ in_text disp (with_glyphs (in_glyphs disp (coloured (row_of disp) c d)) l)
+off_is : (disp : Display) (c : CardState) (d : DacState) (l : List ℕ) → (run card_meaning (glyphs_off (slice_index (row_of_position disp).graphics 6))
+    (with_glyphs (in_glyphs disp (coloured (row_of_position disp) c d)) l)).0 ≡ in_text disp (with_glyphs (in_glyphs disp (coloured (row_of_position disp) c d)) l)
 unfolding reached_by out_reached
 off_is Colour c d l = refl
 off_is Monochrome c d l = refl
 
 -- the test, computed from literals
 test_is : (disp : Display) (c : CardState) (d : DacState) (l : List ℕ) →
-    shows (row_of disp) (in_text disp (with_glyphs (in_glyphs disp (coloured (row_of disp) c d)) l)) (data_of_mode (number_of disp) (row_of disp)) ≡ true
+    shows (row_of_position disp) (in_text disp (with_glyphs (in_glyphs disp (coloured (row_of_position disp) c d)) l)) (data_of_mode (number_of disp) (row_of_position disp)) ≡ true
 unfolding shows
 test_is Colour c d l = refl
 test_is Monochrome c d l = refl
 
-row_is : (disp : Display) → mode_row_at_height (number_of disp) (row_of disp).height ≡ Some (row_of disp)
+row_is : (disp : Display) → mode_row_at_height (number_of disp) (row_of_position disp).height ≡ Some (row_of_position disp)
 row_is Colour = refl
 row_is Monochrome = refl
 
 text_setting_is : (disp : Display) (c : CardState) (d : DacState) (l : List ℕ) →
-    setting (in_text disp (with_glyphs (in_glyphs disp (coloured (row_of disp) c d)) l)) ≡ text_setting disp
+    setting (in_text disp (with_glyphs (in_glyphs disp (coloured (row_of_position disp) c d)) l)) ≡ text_setting disp
 text_setting_is Colour c d l = refl
 text_setting_is Monochrome c d l = refl
 
-glyph_setting_is : (disp : Display) (c : CardState) (d : DacState) → setting (in_glyphs disp (coloured (row_of disp) c d)) ≡ glyph_setting disp
+glyph_setting_is : (disp : Display) (c : CardState) (d : DacState) → setting (in_glyphs disp (coloured (row_of_position disp) c d)) ≡ glyph_setting disp
 glyph_setting_is Colour c d = refl
 glyph_setting_is Monochrome c d = refl
 
@@ -127,8 +127,8 @@ pub font_is : (line : ℕ → ℕ → ℕ) (height n first window : ℕ) (c : Ca
 unfolding write_font_plan
 font_is line height n first window c = refl
 
-memory_is : (disp : Display) (font : List ℕ) (c : CardState) → (run card_meaning (write_mode_memory_plan (row_of disp) false font) c).0
-    ≡ (run card_meaning (write_blanks_plan (base_of disp) 0x8000) (run card_meaning (write_font_plan (glyph_row 16 font) 16 256 0 (slice_index (row_of disp).graphics 6))
+memory_is : (disp : Display) (font : List ℕ) (c : CardState) → (run card_meaning (write_mode_memory_plan (row_of_position disp) false font) c).0
+    ≡ (run card_meaning (write_blanks_plan (base_of disp) 0x8000) (run card_meaning (write_font_plan (glyph_row 16 font) 16 256 0 (slice_index (row_of_position disp).graphics 6))
     c).0).0
 unfolding write_mode_memory_plan write_text_memory_plan
 memory_is Colour font c = then_runs (write_font_plan (glyph_row 16 font) 16 256 0 0x0E) (write_blanks_plan 0xB8000 0x8000) c
@@ -138,15 +138,15 @@ memory_is Monochrome font c = then_runs (write_font_plan (glyph_row 16 font) 16 
 record FreshMemory (disp : Display) (font : List ℕ) (y s : CardState) : Type 0 where
   plane2 : List ℕ
   others : without_text s ≡ without_text (in_text disp (with_glyphs (in_glyphs disp y) plane2))
-  glyphs : glyphs_in plane2 4096 ≡ font_bytes font 4096
+  glyphs : glyph_bytes_in_plane_2 plane2 4096 ≡ first_bytes_of_font font 4096
   cells : cells_in s.host.memory.plane0 s.host.memory.plane1 text_memory_cells ≡ fresh_cells text_memory_cells
 
-fresh_memory : (disp : Display) (c : CardState) (d : DacState) (font : List ℕ) → IsCard (coloured (row_of disp) c d) → AreBytes font →
-    FreshMemory disp font (coloured (row_of disp) c d)
-    (run card_meaning (write_mode_memory_plan (row_of disp) false font) (coloured (row_of disp) c d)).0
+fresh_memory : (disp : Display) (c : CardState) (d : DacState) (font : List ℕ) → IsCard (coloured (row_of_position disp) c d) → AreBytes font →
+    FreshMemory disp font (coloured (row_of_position disp) c d)
+    (run card_meaning (write_mode_memory_plan (row_of_position disp) false font) (coloured (row_of_position disp) c d)).0
 fresh_memory disp c d font z2 small =
-    let window = slice_index (row_of disp).graphics 6 in
-    let y2 = coloured (row_of disp) c d in
+    let window = slice_index (row_of_position disp).graphics 6 in
+    let y2 = coloured (row_of_position disp) c d in
     let y3 = in_glyphs disp y2 in
     let z3 : IsCard y3 = subst IsCard (on_is disp c d) (plan_bounds glyphs_on y2 z2) in
     let load = write_glyphs_plan (glyph_row 16 font) 16 256 0 in
@@ -171,7 +171,7 @@ fresh_memory disp c d font z2 small =
     ∙ then_runs load (glyphs_off window) y3
     ∙ ap (λ x. (run card_meaning (glyphs_off window) x).0) e4
     ∙ off_is disp c d l4 in
-    let whole : (run card_meaning (write_mode_memory_plan (row_of disp) false font) y2).0 ≡ s6 = memory_is disp font y2
+    let whole : (run card_meaning (write_mode_memory_plan (row_of_position disp) false font) y2).0 ≡ s6 = memory_is disp font y2
     ∙ ap (λ x. (run card_meaning blank x).0) fonted in
     let state : FreshMemory disp font y2 s6 = record {
       plane2 = l4;
@@ -195,16 +195,16 @@ fresh_memory disp c d font z2 small =
     } in
     subst (FreshMemory disp font y2) (sym whole) state
 
-pub set_by : (disp : Display) → IsSet (number_of disp) (row_of disp)
+pub set_by : (disp : Display) → IsSet (number_of disp) (row_of_position disp)
 unfolding write_registers_plan write_registers_from_0 write_attribute_registers reached_by crtc_port_of out_reached inp_reached after_crtc is_protected overflow
 set_by Colour = record { table = refl; literal = λ _. refl }
 set_by Monochrome = record { table = refl; literal = λ _. refl }
 
-shows_fresh : (disp : Display) → ShowsFresh (number_of disp) (row_of disp)
+shows_fresh : (disp : Display) → ShowsFresh (number_of disp) (row_of_position disp)
 unfolding mode_set_plan
 shows_fresh disp c fonts z small =
     let mode = number_of disp in
-    let row = row_of disp in
+    let row = row_of_position disp in
     let font = fonts.f16 in
     let d = data_of_mode mode row in
     let first = prepared mode row c (set_by disp) z in
@@ -220,10 +220,10 @@ shows_fresh disp c fonts z small =
     ∙ ap (λ (x : Screen). Some x) (screen_is_text row s d (text_by disp))
     ∙ ap (λ k. Some (text_screen_with_cells row s d k)) t.cells
     ∙ ap (λ x. Some (text_screen_with_cells row x d blank)) t.others
-    ∙ ap (λ (k : Palette). let x : Screen = record new { palette = k; glyphs = glyphs_in t.plane2 4096 } in Some x)
+    ∙ ap (λ (k : Palette). let x : Screen = record new { palette = k; glyphs = glyph_bytes_in_plane_2 t.plane2 4096 } in Some x)
     (palette_is row c first.dac first.colours)
     ∙ ap (λ k. let x : Screen = record new { glyphs = k } in Some x) t.glyphs
     ∙ sym (ap (λ b. let x : Screen = (if b then new else pixels) in Some x) (text_by disp))
 
-pub text_set_fresh : (disp : Display) → ModeSetShowsFreshScreen (number_of disp) (row_of disp)
-text_set_fresh disp = sets_fresh (number_of disp) (row_of disp) (set_by disp) (shows_fresh disp)
+pub text_set_fresh : (disp : Display) → ModeSetShowsFreshScreen (number_of disp) (row_of_position disp)
+text_set_fresh disp = sets_fresh (number_of disp) (row_of_position disp) (set_by disp) (shows_fresh disp)

@@ -2,9 +2,9 @@
 use Rattle.std.proofs.Common.{◌≡◌, ℕ, ◌+◌, ◌*◌, ◌<◌, ◌≤◌, refl, subst, arith, List, [], ◌∷◌, length, Bool, true, false, Some, None}
 use Rattle.std.specs.Prelude.{slice_index, bit_and, nat_le, nat_lt, ◌==◌, ◌&&◌, if◌then◌else◌}
 use Rattle.std.proofs.lemmas.Bool.Decides.{nat_tests}
-use Rattle.bios_screen.proofs.Prelude.{crtc_port, ModeRow, mode_row_at_height, is_text, page_base}
+use Rattle.bios_screen.proofs.Prelude.{crtc_port, ModeRow, mode_row_at_height, is_text, page_0_address_of_mode}
 use Rattle.bios_modes.specs.declared.heights.TextRow.{TextRow as HeightRow}
-use Rattle.bios_modes.specs.Heights.{fifty_rows, twenty_eight_rows, twenty_five_rows, with_text_row, with_height_row}
+use Rattle.bios_modes.specs.Heights.{fifty_rows_underlined_at, twenty_eight_rows_underlined_at, twenty_five_rows_underlined_at, with_text_row, with_height_row}
 use Rattle.bios_modes.specs.Modes.{colour_text, monochrome_text}
 use Rattle.bios_screen.proofs.Base.Setting.{Setting}
 use Rattle.bios_screen.proofs.Modes.Frames.{Blinks}
@@ -50,7 +50,7 @@ pub record IsOfDisplay (k : Display) (mode : ℕ) (row : ModeRow) : Type 0 where
   pub sequencer : row.sequencer ≡ text_sequencer
   pub graphics : row.graphics ≡ text_graphics k
   pub port : row.crtc_address ≡ port_of k
-  pub base : page_base mode ≡ base_of k
+  pub base : page_0_address_of_mode mode ≡ base_of k
   pub crtc : length row.crtc ≡ 25
 
 -- the sizes of its characters and pages; a page has room for `half` cells
@@ -72,9 +72,9 @@ pub record IsTextRow (k : Display) (mode : ℕ) (row : ModeRow) : Type 0 where
   pub open has_pages use *
 
 -- the row that a mode set uses for a display, and the number of its mode
-abbrev pub row_of : Display → ModeRow
-row_of Colour = colour_text
-row_of Monochrome = monochrome_text
+abbrev pub row_of_position : Display → ModeRow
+row_of_position Colour = colour_text
+row_of_position Monochrome = monochrome_text
 
 abbrev pub number_of : Display → ℕ
 number_of Colour = 0x03
@@ -89,7 +89,7 @@ abbrev pub control_of : Display → ℕ
 control_of Colour = 0x04
 control_of Monochrome = 0x06
 
-pub control_by : (k : Display) → bit_and (slice_index (row_of k).attribute 0x10) 0xF7 ≡ control_of k
+pub control_by : (k : Display) → bit_and (slice_index (row_of_position k).attribute 0x10) 0xF7 ≡ control_of k
 control_by Colour = refl
 control_by Monochrome = refl
 
@@ -101,15 +101,15 @@ pub data Height : Type 0 where
 
 -- the row of a display and a height, in the text-height table and in the mode table
 abbrev pub lines_of : Display → Height → HeightRow
-lines_of Colour Eight = fifty_rows 0x1F
-lines_of Colour Fourteen = twenty_eight_rows 0x1F
-lines_of Colour Sixteen = twenty_five_rows 0x1F
-lines_of Monochrome Eight = fifty_rows 0x07
-lines_of Monochrome Fourteen = twenty_eight_rows 0x0D
-lines_of Monochrome Sixteen = twenty_five_rows 0x0F
+lines_of Colour Eight = fifty_rows_underlined_at 0x1F
+lines_of Colour Fourteen = twenty_eight_rows_underlined_at 0x1F
+lines_of Colour Sixteen = twenty_five_rows_underlined_at 0x1F
+lines_of Monochrome Eight = fifty_rows_underlined_at 0x07
+lines_of Monochrome Fourteen = twenty_eight_rows_underlined_at 0x0D
+lines_of Monochrome Sixteen = twenty_five_rows_underlined_at 0x0F
 
 abbrev pub row_with : Display → Height → ModeRow
-row_with k height = with_text_row (row_of k) (lines_of k height)
+row_with k height = with_text_row (row_of_position k) (lines_of k height)
 
 pub text_blinks : (k : Display) (height : Height) → Blinks (row_with k height) 0 × Blinks (row_with k height) 1
 text_blinks Colour _ = ((refl, refl), (refl, refl))
@@ -158,7 +158,7 @@ record HasHeight (k : Display) (row : ModeRow) : Type 0 where
   height : Height
   is : row_with k height ≡ row
 
-with_lines : (k : Display) (row : ModeRow) (a b f : Bool) → with_height_row (row_of k) (if a then Some (lines_of k Eight) else if b
+with_lines : (k : Display) (row : ModeRow) (a b f : Bool) → with_height_row (row_of_position k) (if a then Some (lines_of k Eight) else if b
     then Some (lines_of k Fourteen) else if f then Some (lines_of k Sixteen) else None) ≡ Some row → HasHeight k row
 with_lines k row true b f h = record { height = Eight; is = some_same (row_with k Eight) row h }
 with_lines k row false true f h = record { height = Fourteen; is = some_same (row_with k Fourteen) row h }

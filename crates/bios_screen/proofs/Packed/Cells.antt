@@ -3,11 +3,11 @@ use Rattle.std.proofs.Common.{◌≡◌, ℕ, zero, suc, ◌+◌, ◌-◌, ◌*�
 use Rattle.std.specs.Prelude.{◌==◌, if◌then◌else◌}
 use Rattle.vga_bits.specs.Bits.{byte_of_bits}
 use Rattle.bios_screen.proofs.Prelude.{IsCard, card_meaning, CardState, bytes_320_by_200, BiosData, FontSet, Regs, cells_per_page, kind_of, Plan, run, get, Screen}
-use Rattle.bios_screen.proofs.Prelude.{packed_pixel, pixel_screen, pixel_of}
+use Rattle.bios_screen.proofs.Prelude.{pixel_of_256_colours, pixel_screen, pixel_of}
 use Rattle.bios_modes.specs.declared.kind.Kind.TheVariants.{Packed}
 use Rattle.bios_services.specs.Cursor.{cursor_cell_number}
 use Rattle.bios_services.specs.Plan.{fold}
-use Rattle.bios_services.specs.CharacterReading.{shift_pixel_into_line, read_packed_line, read_nonzero_pixels_plan}
+use Rattle.bios_services.specs.CharacterReading.{shift_pixel_into_line, read_nonzero_pixels_in_256_colours, read_nonzero_pixels_plan}
 use Rattle.bios_screen.specs.Step.{pixel_line_as_byte}
 use Rattle.bios_screen.proofs.Base.Plans.{run_bind}
 use Rattle.bios_screen.proofs.Dots.PackedDots.{IsPacked}
@@ -70,7 +70,7 @@ module _ (rest : CardState) where
 
   line_seen : (a : ℕ) (c : CardState) (f : ℕ → ℕ) → a + 8 < 65536 → IsFlat rest c f →
       IsSeen (λ y. IsFlat rest y f) (read_nonzero_pixels_plan Packed (0xA0000 + a)) (byte_of_bits (λ j. as_dot (f (a + (7 - j))))) c
-  unfolding read_nonzero_pixels_plan read_packed_line
+  unfolding read_nonzero_pixels_plan read_nonzero_pixels_in_256_colours
   line_seen a c f l t =
       let seen = dots_shifted a 8 0 0 c f (omega arith) t in
       record { still = seen.still; value = seen.value ∙ byte_shifted (λ j. f (a + j)) }
@@ -83,7 +83,7 @@ module _ (c : CardState) (d : BiosData) (t : IsPacked c d) (z : IsCard c) where
   place q r = 8 * strip_at d.columns d.height q r
 
   abbrev old : ℕ → ℕ
-  old = packed_pixel c.host.memory
+  old = pixel_of_256_colours c.host.memory
 
   line_is : (q r : ℕ) → q < cells_per_page d → r < d.height → byte_of_bits (λ j. as_dot (old (place q r + (7 - j)))) ≡ pixel_line_as_byte s 0 q r
   line_is q r lq lr =

@@ -4,7 +4,7 @@ use Rattle.std.specs.Prelude.{slice_index, slice_set, ◌==◌, ◌&&◌, if◌t
 use Rattle.std.proofs.lemmas.Bool.Decides.{nat_tests}
 use Rattle.vga_bits.specs.Bits.{byte_of_bits}
 use Rattle.vga_bits.proofs.BitLemmas.{byte_bits}
-use Rattle.bios_screen.proofs.Prelude.{Four, bytes_at, HostState, card_meaning, CardState, bytes_320_by_200, run, put, packed_pixel}
+use Rattle.bios_screen.proofs.Prelude.{Four, bytes_at, HostState, card_meaning, CardState, bytes_320_by_200, run, put, pixel_of_256_colours}
 use Rattle.vga_bits.specs.Four.{of_plane}
 use Rattle.vga_bits.proofs.FourLemmas.{by_plane}
 use Rattle.vga_host.specs.Memory.Address.{is_decoded, window_offset}
@@ -58,7 +58,7 @@ plane_after m n b = by_plane (λ p. of_plane (packed_memory m n b) p ≡ (if p =
 
 -- a Put at pixel n changes that pixel only
 pub pixel_put : (m : Four (List ℕ)) (n b k : ℕ) → ((p : ℕ) → p < 4 → length (of_plane m p) ≡ 65536) → n < 65536 →
-    packed_pixel (packed_memory m n b) k ≡ set_cell (packed_pixel m) n b k
+    pixel_of_256_colours (packed_memory m n b) k ≡ set_cell (pixel_of_256_colours m) n b k
 pixel_put m n b k size l =
     let within : k % 4 < 4 = omega arith in
     let o = n / 4 * 4 in
@@ -66,18 +66,18 @@ pixel_put m n b k size l =
     let long = size (k % 4) within in
     let same : ((k % 4 == n % 4) && (k / 4 * 4 == o)) ≡ (k == n) = grind (arith, nat_tests) in
     ap (λ x. slice_index x (k / 4 * 4)) (plane_after m n b (k % 4) within)
-    ∙ list_put (k % 4 == n % 4) plane o b (k / 4 * 4) (omega arith) ∙ ap (λ t. if t then b else packed_pixel m k) same
+    ∙ list_put (k % 4 == n % 4) plane o b (k / 4 * 4) (omega arith) ∙ ap (λ t. if t then b else pixel_of_256_colours m k) same
 
 -- byte p of the four bytes at an offset is that of plane p
 byte_of_plane : (m : Four (List ℕ)) (o p : ℕ) → p < 4 → of_plane (bytes_at m o) p ≡ slice_index (of_plane m p) o
 byte_of_plane m o = by_plane (λ p. of_plane (bytes_at m o) p ≡ slice_index (of_plane m p) o) refl refl refl refl
 
-pub byte_read : (h : HostState) (n : ℕ) → n < 65536 → packed_pixel h.memory n < 256 →
-    read_byte (host_at h (setting_of bytes_320_by_200)) (0xA0000 + n) ≡ packed_pixel h.memory n
+pub byte_read : (h : HostState) (n : ℕ) → n < 65536 → pixel_of_256_colours h.memory n < 256 →
+    read_byte (host_at h (setting_of bytes_320_by_200)) (0xA0000 + n) ≡ pixel_of_256_colours h.memory n
 unfolding byte_of_bits read_bit
 byte_read h n l b =
     let w = window_offset (host_at h (setting_of bytes_320_by_200)) (0xA0000 + n) in
     let p : w % 4 < 4 = omega arith in
-    let e : of_plane (bytes_at h.memory (w / 4 * 4)) (w % 4) ≡ packed_pixel h.memory n = byte_of_plane h.memory (w / 4 * 4) (w % 4) p
-    ∙ ap (packed_pixel h.memory) (window_is h n l) in
+    let e : of_plane (bytes_at h.memory (w / 4 * 4)) (w % 4) ≡ pixel_of_256_colours h.memory n = byte_of_plane h.memory (w / 4 * 4) (w % 4) p
+    ∙ ap (pixel_of_256_colours h.memory) (window_is h n l) in
     byte_bits (of_plane (bytes_at h.memory (w / 4 * 4)) (w % 4)) (subst (λ x. x < 256) (sym e) b) ∙ e

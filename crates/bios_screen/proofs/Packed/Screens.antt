@@ -1,7 +1,7 @@
 -- Drawn memory of 256 colours as a flat list of pixels, and the screen that it shows.
 use Rattle.std.proofs.Common.{◌≡◌, ℕ, ◌+◌, ◌*◌, ◌/◌, ◌%◌, ◌<◌, refl, sym, ap, ◌∙◌, subst, arith, List, Some}
 use Rattle.std.specs.Prelude.{◌==◌, if◌then◌else◌}
-use Rattle.bios_screen.proofs.Prelude.{Four, IsCard, card_meaning, CardState, BiosData, bytes_320_by_200, is_packed, run, put, get, Screen, packed_pixel}
+use Rattle.bios_screen.proofs.Prelude.{Four, IsCard, card_meaning, CardState, BiosData, bytes_320_by_200, is_mode_of_256_colours, run, put, get, Screen, pixel_of_256_colours}
 use Rattle.bios_screen.proofs.Prelude.{planar_pixel, pixel_in, page_pixels, pixel_screen, shown, pixel_of, with_pixels}
 use Rattle.bios_screen.proofs.Base.Flat.{set_cell}
 use Rattle.bios_services.proofs.CardLemmas.{plan_bounds}
@@ -18,7 +18,7 @@ use Rattle.bios_screen.proofs.Planar.Settings.{without_host}
 pub record IsFlat (rest : CardState) (c : CardState) (f : ℕ → ℕ) : Type 0 where
   pub mode : setting c ≡ setting_of bytes_320_by_200
   pub bounds : IsCard c
-  pub cell : (k : ℕ) → packed_pixel c.host.memory k ≡ f k
+  pub cell : (k : ℕ) → pixel_of_256_colours c.host.memory k ≡ f k
   pub others : without_host c ≡ rest
 
 -- a Put at pixel n changes that pixel only
@@ -60,7 +60,7 @@ module _ (c : CardState) (d : BiosData) (t : IsPacked c d) (z : IsCard c) where
   pub setting_is : setting c ≡ setting_of bytes_320_by_200
   setting_is = setting_by bytes_320_by_200 c t.tests.memory
 
-  pub begins : IsFlat (without_host c) c (packed_pixel c.host.memory)
+  pub begins : IsFlat (without_host c) c (pixel_of_256_colours c.host.memory)
   begins = record { mode = setting_is; bounds = z; cell = λ k. refl; others = refl }
 
   pub all_pixels : page_pixels d ≡ 64000
@@ -68,12 +68,12 @@ module _ (c : CardState) (d : BiosData) (t : IsPacked c d) (z : IsCard c) where
       ∙ ap (λ i. 320 * (8 * (i + 1))) t.has.last_row
 
   -- pixel k of page 0, in a memory
-  pixel_by : (m : Four (List ℕ)) (k : ℕ) → pixel_in d.mode m (d.size * 0) k ≡ packed_pixel m k
+  pixel_by : (m : Four (List ℕ)) (k : ℕ) → pixel_in d.mode m (d.size * 0) k ≡ pixel_of_256_colours m k
   pixel_by m k =
       let at : d.size * 0 + k ≡ k = omega arith in
-      ap (λ i. if is_packed i then packed_pixel m (d.size * 0 + k) else planar_pixel m (d.size * 0) k) t.number ∙ ap (packed_pixel m) at
+      ap (λ i. if is_mode_of_256_colours i then pixel_of_256_colours m (d.size * 0 + k) else planar_pixel m (d.size * 0) k) t.number ∙ ap (pixel_of_256_colours m) at
 
-  pub pixel_is : (k : ℕ) → k < page_pixels d → pixel_of s 0 k ≡ packed_pixel c.host.memory k
+  pub pixel_is : (k : ℕ) → k < page_pixels d → pixel_of s 0 k ≡ pixel_of_256_colours c.host.memory k
   pixel_is k l = pixel_at d.mode c.host.memory d.size (page_pixels d) 1 0 k (omega arith) l ∙ pixel_by c.host.memory k
 
   -- if the page has new pixels, the screen with these pixels is shown
@@ -84,7 +84,7 @@ module _ (c : CardState) (d : BiosData) (t : IsPacked c d) (z : IsCard c) where
       (λ k l. pixel_by y.host.memory k ∙ h.cell k ∙ inside k l) (λ g k lg w l. absurd (w (omega arith)))
 
   -- if all pixels are as they were, the same screen is shown
-  pub stays : (y : CardState) → IsFlat (without_host c) y (packed_pixel c.host.memory) → shown y d ≡ Some s
+  pub stays : (y : CardState) → IsFlat (without_host c) y (pixel_of_256_colours c.host.memory) → shown y d ≡ Some s
   stays y h = pixels_stay bytes_320_by_200 c y d (t.there d.height) t.text t.tests (h.mode ∙ sym setting_is) h.others (λ g k lg _.
       let first : g ≡ 0 = omega arith in
       ap (λ i. pixel_in d.mode y.host.memory (d.size * i) k) first ∙ pixel_by y.host.memory k ∙ h.cell k ∙ sym (pixel_by c.host.memory k)

@@ -1,11 +1,11 @@
 -- Scrolling a window in 256 colours, from one screen to the next.
 use Rattle.std.proofs.Common.{◌≡◌, ℕ, ◌+◌, ◌-◌, ◌*◌, ◌/◌, ◌%◌, ◌<◌, ◌≤◌, refl, sym, ap, ◌∙◌, subst, arith, Some, false}
-use Rattle.bios_screen.proofs.Prelude.{IsCard, card_meaning, CardState, bytes_320_by_200, BiosData, ColumnBand, Direction, Window, page_base, kind_of, run, Screen}
-use Rattle.bios_screen.proofs.Prelude.{packed_pixel, page_pixels, pixel_screen, shown, pixel_of, with_pixels}
+use Rattle.bios_screen.proofs.Prelude.{IsCard, card_meaning, CardState, bytes_320_by_200, BiosData, ColumnBand, Direction, Window, page_0_address_of_mode, kind_of, run, Screen}
+use Rattle.bios_screen.proofs.Prelude.{pixel_of_256_colours, page_pixels, pixel_screen, shown, pixel_of, with_pixels}
 use Rattle.bios_modes.specs.declared.kind.Kind.TheVariants.{Packed}
 use Rattle.bios_services.specs.Bands.{filling_byte, one_byte_filling, fill_plan, scroll_rows, band_of_kind}
 use Rattle.bios_services.specs.Scroll.{IsOnPage, scroll_window_plan}
-use Rattle.bios_screen.specs.Step.{pixel_row, pixel_column, is_in_window, has_source_row, source_number, pixel_distance_of_rows, fill_pixel, scroll_pixels}
+use Rattle.bios_screen.specs.Step.{character_row_of_pixel, character_column_of_pixel, is_in_window, has_source_row, source_number, pixel_distance_of_rows, fill_pixel, scroll_pixels}
 use Rattle.bios_screen.specs.Step.{scroll_window}
 use Rattle.bios_screen.proofs.Base.Flat.{Leaves}
 use Rattle.bios_screen.proofs.Base.Windows.{by_both_tests}
@@ -36,7 +36,7 @@ module _ (c : CardState) (d : BiosData) (t : IsPacked c d) (z : IsCard c) (p : �
 
   window : IsWindow 0xA0000 65536 band 0 (d.last_row + 1) w
   window = record {
-    address = ap (λ x. x + d.size * p) (ap page_base t.number) ∙ ap (λ x. 0xA0000 + d.size * x) page_is
+    address = ap (λ x. x + d.size * p) (ap page_0_address_of_mode t.number) ∙ ap (λ x. 0xA0000 + d.size * x) page_is
         ∙ (let none : d.size * 0 ≡ 0 = omega arith in ap (λ x. 0xA0000 + x) none);
     memory = let a = screens.all_pixels c d t z in omega arith;
     below = on.below;
@@ -51,7 +51,7 @@ module _ (c : CardState) (d : BiosData) (t : IsPacked c d) (z : IsCard c) (p : �
   IsScrolled = shifts.IsScrolled ℕ 0xA0000 65536 band 0 (d.last_row + 1) w window direction n (λ i _. filling_byte (one_byte_filling colour) i)
 
   abbrev old : ℕ → ℕ
-  old = packed_pixel c.host.memory
+  old = pixel_of_256_colours c.host.memory
 
   scrolls : 0 < n → n ≤ w.height → Leaves CardState ℕ (IsFlat (without_host c))
       (run card_meaning (scroll_rows band direction w.top w.height n colour) c).0 (IsScrolled old)
@@ -67,8 +67,8 @@ module _ (c : CardState) (d : BiosData) (t : IsPacked c d) (z : IsCard c) (p : �
 
   pixels_scrolled : (f : ℕ → ℕ) → IsScrolled old f → (k : ℕ) → k < page_pixels d → f k ≡ scroll_pixels s w direction n colour (pixel_of s 0) k
   pixels_scrolled f is k lk =
-      let row = pixel_row s k in
-      let column = pixel_column s k in
+      let row = character_row_of_pixel s k in
+      let column = character_column_of_pixel s k in
       let far = source_number direction k (pixel_distance_of_rows s n) in
       by_both_tests (is_in_window w row column) (has_source_row direction w n row) (f k) (pixel_of s 0 far) (fill_pixel d.mode colour) (pixel_of s 0 k)
       (λ u m.
@@ -78,7 +78,7 @@ module _ (c : CardState) (d : BiosData) (t : IsPacked c d) (z : IsCard c) (p : �
       ap f (sym (none k)) ∙ (is.filled k u m).is ∙ filled_uniform colour (k % band.pitch - band.left)
       ∙ sym (ap (λ i. fill_pixel i colour) t.number))
       (λ u.
-      is.outside k (λ b q. let same : k ≡ b = omega arith in subst (λ i. is_in_window w (pixel_row s i) (pixel_column s i) ≡ false) same u)
+      is.outside k (λ b q. let same : k ≡ b = omega arith in subst (λ i. is_in_window w (character_row_of_pixel s i) (character_column_of_pixel s i) ≡ false) same u)
       ∙ sym (screens.pixel_is c d t z k lk))
 
   pub window_shown : 0 < n → n ≤ w.height → shown (run card_meaning (scroll_window_plan d p w direction n colour) c).0 d

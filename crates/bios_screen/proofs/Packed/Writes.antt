@@ -1,11 +1,11 @@
 -- Writing a run of characters in 256 colours, from one screen to the next.
 use Rattle.std.proofs.Common.{◌≡◌, ℕ, ◌+◌, ◌-◌, ◌*◌, ◌/◌, ◌%◌, ◌<◌, ◌≤◌, refl, sym, ap, ◌∙◌, subst, arith, Some, Bool, true, false}
 use Rattle.std.specs.Prelude.{if◌then◌else◌}
-use Rattle.bios_screen.proofs.Prelude.{is_set, IsCard, card_meaning, CardState, bytes_320_by_200, BiosData, FontSet, ColumnBand, Colouring, page_base, cells_per_page}
-use Rattle.bios_screen.proofs.Prelude.{kind_of, Plan, run, put, each, Screen, packed_pixel, pixel_screen, shown}
+use Rattle.bios_screen.proofs.Prelude.{is_set, IsCard, card_meaning, CardState, bytes_320_by_200, BiosData, FontSet, ColumnBand, Colouring, page_0_address_of_mode, cells_per_page}
+use Rattle.bios_screen.proofs.Prelude.{kind_of, Plan, run, put, each, Screen, pixel_of_256_colours, pixel_screen, shown}
 use Rattle.bios_modes.specs.declared.kind.Kind.TheVariants.{Packed}
 use Rattle.bios_services.specs.Bands.{byte_address_in_band}
-use Rattle.bios_services.specs.Drawing.{glyph_dot_colour, put_dots, draw_packed_plan, character_plan_of_kind, character_plan, characters_plan}
+use Rattle.bios_services.specs.Drawing.{glyph_dot_colour, put_glyph_line_in_256_colours, draw_character_in_256_colours_plan, character_plan_of_kind, character_plan, characters_plan}
 use Rattle.bios_services.specs.Glyphs.{glyph_line}
 use Rattle.bios_screen.specs.Step.{glyph_pixel, put_characters}
 use Rattle.bios_screen.proofs.Base.Flat.{Edited, Turn, Leaves, set_cell}
@@ -25,9 +25,9 @@ address_sum w h row r left i = let a : 8 * w * (h * row + r) ≡ 8 * (w * (h * r
 abbrev glyph_plan : (ℕ → ℕ → ℕ) → (ℕ → ℕ) → ℕ → ℕ → Plan (Unit {0})
 glyph_plan at g n colour = each (λ r. each (λ i. put (at r i) (glyph_dot_colour (g r) colour i)) 8 0) n 0
 
-plan_is : (band : ColumnBand) (row : ℕ) (fonts : FontSet) (character colour : ℕ) → draw_packed_plan band row fonts character colour
+plan_is : (band : ColumnBand) (row : ℕ) (fonts : FontSet) (character colour : ℕ) → draw_character_in_256_colours_plan band row fonts character colour
     ≡ glyph_plan (byte_address_in_band band row) (glyph_line fonts band.lines character) band.lines colour
-unfolding draw_packed_plan put_dots
+unfolding draw_character_in_256_colours_plan put_glyph_line_in_256_colours
 plan_is band row fonts character colour = refl
 
 -- the byte that is written, the colour or 0, is below 256
@@ -61,7 +61,7 @@ module _ (c : CardState) (d : BiosData) (t : IsPacked c d) (z : IsCard c) where
   pub address_is : (q r i : ℕ) → byte_address_in_band (column_by Packed d 0 (q % w)) (q / w) r i ≡ 0xA0000 + place q r i
   address_is q r i =
       let none : d.size * 0 ≡ 0 = omega arith in
-      ap (λ n. n + d.size * 0 + 8 * w * (h * (q / w) + r) + 8 * (q % w) + i) (ap page_base t.number)
+      ap (λ n. n + d.size * 0 + 8 * w * (h * (q / w) + r) + 8 * (q % w) + i) (ap page_0_address_of_mode t.number)
       ∙ ap (λ n. 0xA0000 + n + 8 * w * (h * (q / w) + r) + 8 * (q % w) + i) none
       ∙ address_sum w h (q / w) r (q % w) i
 
@@ -72,7 +72,7 @@ module _ (c : CardState) (d : BiosData) (t : IsPacked c d) (z : IsCard c) where
       let kind = ap kind_of t.number in
       let band = column_by Packed d 0 (q % w) in
       ap (λ k. character_plan_of_kind k fonts d 0 q character colouring) kind
-      ∙ ap (λ k. draw_packed_plan (column_by k d 0 (q % w)) (q / w) fonts character colouring.colour) kind
+      ∙ ap (λ k. draw_character_in_256_colours_plan (column_by k d 0 (q % w)) (q / w) fonts character colouring.colour) kind
       ∙ plan_is band (q / w) fonts character colouring.colour
       ∙ ap (λ a. glyph_plan a (glyph_line fonts h character) h colouring.colour) (λ j r i. address_is q r i j)
 
@@ -130,10 +130,10 @@ module _ (c : CardState) (d : BiosData) (t : IsPacked c d) (z : IsCard c) where
 
   -- each strip is eight pixels, and no two strips share one
   canvas : IsCanvas bytes_320_by_200 c d wide high ℕ Dots 0 (λ b x. 8 * b + x.turn) dot
-      (λ x _. x) (packed_pixel c.host.memory) (IsFlat rest)
+      (λ x _. x) (pixel_of_256_colours c.host.memory) (IsFlat rest)
   canvas = record {
     apart = λ a b x y same. let lx = x.before in let ly = y.before in omega arith;
-    pixel = λ k lk. let whole : k ≡ 8 * (k / 8) + k % 8 = omega arith in screens.pixel_is c d t z k lk ∙ ap (packed_pixel c.host.memory) whole;
+    pixel = λ k lk. let whole : k ≡ 8 * (k / 8) + k % 8 = omega arith in screens.pixel_is c d t z k lk ∙ ap (pixel_of_256_colours c.host.memory) whole;
     begins = screens.begins c d t z;
     redrawn = λ y f change u inside _. screens.page_redrawn c d t z y f change u (λ k lk. let whole : k ≡ 8 * (k / 8) + k % 8 = omega arith in
         ap f whole ∙ inside k lk);
@@ -148,7 +148,7 @@ module _ (c : CardState) (d : BiosData) (t : IsPacked c d) (z : IsCard c) where
       let g = glyph_line fonts h character in
       subst (λ i. shown (run card_meaning (characters_plan fonts d i q character colouring n) c).0 d ≡ Some (put_characters fonts s i q n character colouring))
       first
-      (writes.characters_shown bytes_320_by_200 c d wide high ℕ Dots 0 (λ b x. 8 * b + x.turn) dot (λ x _. x) (packed_pixel c.host.memory)
+      (writes.characters_shown bytes_320_by_200 c d wide high ℕ Dots 0 (λ b x. 8 * b + x.turn) dot (λ x _. x) (pixel_of_256_colours c.host.memory)
       (IsFlat rest) canvas fonts character colouring (λ r x _. glyph_dot_colour (g r) colouring.colour x.turn)
       (λ k r x. dot_is colouring.colour (is_set (g r) (7 - k % 8)) x)
       (λ i y f li u. subst (λ plan. Leaves CardState ℕ (IsFlat rest) (run card_meaning plan y).0

@@ -6,7 +6,7 @@ use Rattle.vga_bits.specs.Bits.{byte_of_bits}
 use Rattle.bios_screen.proofs.Prelude.{card_meaning, CardState, ModeRow, BiosData, FontSet, is_text, kind_of, Regs, Plan, run, Done, ◌>>=◌, ◌>>◌, list_by_function}
 use Rattle.bios_screen.proofs.Prelude.{Screen, pixel_screen, shown}
 use Rattle.bios_modes.specs.declared.kind.Kind.{Kind}
-use Rattle.bios_services.specs.Bands.{byte_address_in_band, set_read_write_mode_plan}
+use Rattle.bios_services.specs.Bands.{byte_address_in_band, set_read_write_mode_if_16_colours_plan}
 use Rattle.bios_services.specs.Cells.{cell_address, read_cell_plan}
 use Rattle.bios_services.specs.CharacterReading.{read_nonzero_pixels_plan, read_lines_plan, read_character_plan}
 use Rattle.bios_services.specs.Cursor.{cursor_cell_number}
@@ -45,9 +45,9 @@ record AreSeen (R : CardState → Type 0) (plan : Plan (List ℕ)) (l : List ℕ
 -- the plan, by the addresses of the lines
 abbrev reading : Kind → (ℕ → ℕ) → ℕ → FontSet → Plan ℕ
 reading k at n fonts = do
-  set_read_write_mode_plan k 0x08
+  set_read_write_mode_if_16_colours_plan k 0x08
   lines ← gather (λ r. read_nonzero_pixels_plan k (at r)) n 0
-  set_read_write_mode_plan k 0x00
+  set_read_write_mode_if_16_colours_plan k 0x00
   Done (first_character_with_lines fonts n lines 256)
 
 module _ (row : ModeRow) (c : CardState) (d : BiosData) (fonts : FontSet) (p q : ℕ) (k : Kind) (at : ℕ → ℕ) (R : CardState → Type 0) where
@@ -84,13 +84,13 @@ module _ (row : ModeRow) (c : CardState) (d : BiosData) (fonts : FontSet) (p q :
 
     -- reading begins and ends in a state that shows the screen
     pub character_seen : kind_of d.mode ≡ k → row_lines k h ≡ h → ((r : ℕ) → byte_address_in_band (column_by k d p (q % d.columns)) (q / d.columns) r 0 ≡ at r)
-        → R (run card_meaning (set_read_write_mode_plan k 0x08) c).0
-        → ((y : CardState) → R y → shown (run card_meaning (set_read_write_mode_plan k 0x00) y).0 d ≡ Some s)
+        → R (run card_meaning (set_read_write_mode_if_16_colours_plan k 0x08) c).0
+        → ((y : CardState) → R y → shown (run card_meaning (set_read_write_mode_if_16_colours_plan k 0x00) y).0 d ≡ Some s)
         → IsSeen (λ y. shown y d ≡ Some s) (read_character_plan (cell_band d p q) (cell_row d q) fonts)
         (first_character_with_lines fonts h (list_by_function (pixel_line_as_byte s p q) 0 h) 256) c
     character_seen kind lines there begins ends =
-        let begin : Plan (Unit {0}) = set_read_write_mode_plan k 0x08 in
-        let end : Plan (Unit {0}) = set_read_write_mode_plan k 0x00 in
+        let begin : Plan (Unit {0}) = set_read_write_mode_if_16_colours_plan k 0x08 in
+        let end : Plan (Unit {0}) = set_read_write_mode_if_16_colours_plan k 0x00 in
         let all : Plan (List ℕ) = gather (λ r. read_nonzero_pixels_plan k (at r)) h 0 in
         let found : List ℕ → Plan ℕ = λ l. Done (first_character_with_lines fonts h l 256) in
         let y = (run card_meaning begin c).0 in

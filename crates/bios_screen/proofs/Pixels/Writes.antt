@@ -7,7 +7,7 @@ use Rattle.bios_screen.proofs.Prelude.{pixel_screen, shown, pixel_of, with_pixel
 use Rattle.bios_modes.specs.declared.kind.Kind.{Kind}
 use Rattle.bios_services.specs.Drawing.{character_plan, characters_plan}
 use Rattle.bios_services.specs.Glyphs.{glyph_line}
-use Rattle.bios_screen.specs.Step.{pixel_cell, pixel_line, glyph_pixel, draw_characters}
+use Rattle.bios_screen.specs.Step.{character_cell_of_pixel, line_within_cell_of_pixel, glyph_pixel, draw_characters}
 use Rattle.bios_screen.proofs.Base.Flat.{Edited, Turn, Leaves}
 use Rattle.bios_screen.proofs.Base.Edits.{edits}
 use Rattle.bios_services.specs.Bands.{band_of_kind}
@@ -90,9 +90,9 @@ module _ (row : ModeRow) (c : CardState) (d : BiosData) (wide : 0 < d.columns) (
         let cell = cell_of w h b in
         let line = line_of w h b in
         let was = is.pixel k lk in
-        let cell_is : pixel_cell s k ≡ cell = pixel_cell_is w h k wide in
-        let line_is : pixel_line s k ≡ line = pixel_line_is w h k wide in
-        of_run q n (pixel_cell s k) (shade (f (at b i)) k) (made k (pixel_line s k) (pixel_of s p k)) (pixel_of s p k)
+        let cell_is : character_cell_of_pixel s k ≡ cell = pixel_cell_is w h k wide in
+        let line_is : line_within_cell_of_pixel s k ≡ line = pixel_line_is w h k wide in
+        of_run q n (character_cell_of_pixel s k) (shade (f (at b i)) k) (made k (line_within_cell_of_pixel s k) (pixel_of s p k)) (pixel_of s p k)
         (λ lo hi.
         let u = cell - q in
         let x : Cells n = record {

@@ -2,7 +2,7 @@
 use Rattle.std.proofs.Common.{◌≡◌, ℕ, ◌+◌, ◌-◌, ◌*◌, ◌/◌, ◌%◌, ◌<◌, refl, sym, ap, ◌∙◌, subst, arith, List, [], ◌∷◌, Some, true}
 use Rattle.std.specs.Prelude.{slice_index, slice_set, bit_and, if◌then◌else◌}
 use Rattle.std.specs.Int.{bit_at}
-use Rattle.bios_screen.proofs.Prelude.{is_set, HostState, IsCard, card_meaning, CardState, ModeRow, BiosData, is_packed, write_graphics, Plan, run, get, Screen}
+use Rattle.bios_screen.proofs.Prelude.{is_set, HostState, IsCard, card_meaning, CardState, ModeRow, BiosData, is_mode_of_256_colours, write_graphics, Plan, run, get, Screen}
 use Rattle.bios_screen.proofs.Prelude.{pixel_in, pixel_screen, shown, pixel_of}
 use Rattle.vga_bits.specs.Bits.{byte_of_bits}
 use Rattle.vga_bits.proofs.BitLemmas.{byte_bits}
@@ -125,7 +125,7 @@ module _ (row : ModeRow) (c : CardState) (d : BiosData) (t : IsPlanar row c d) (
 
   pub address_is : (p x y : ℕ) → pixel_address d p x y ≡ 0xA0000 + offset p x y
   address_is p x y =
-      ap (λ i. i + d.size * p + (if is_packed d.mode then 8 * d.columns * y + x else d.columns * y + x / 8)) t.base
+      ap (λ i. i + d.size * p + (if is_mode_of_256_colours d.mode then 8 * d.columns * y + x else d.columns * y + x / 8)) t.base
       ∙ ap (λ b. 0xA0000 + d.size * p + (if b then 8 * d.columns * y + x else d.columns * y + x / 8)) t.packed
       ∙ sum_is (d.size * p) (d.columns * y + x / 8)
       ∙ ap (λ i. 0xA0000 + (d.size * p + i)) (eighth d.columns y x)

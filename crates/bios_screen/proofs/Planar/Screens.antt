@@ -2,7 +2,7 @@
 use Rattle.std.proofs.Common.{◌≡◌, ◌≢◌, ℕ, ◌+◌, ◌*◌, ◌/◌, ◌%◌, ◌<◌, ◌≤◌, ◌⊎◌, inl, inr, ⊎_elim, refl, sym, ap, ◌∙◌, subst, arith, List, Some}
 use Rattle.std.specs.Prelude.{slice_index, if◌then◌else◌}
 use Rattle.std.proofs.lemmas.Bool.{cases_lt}
-use Rattle.bios_screen.proofs.Prelude.{Four, bytes_at, IsCard, CardState, ModeRow, BiosData, Screen, packed_pixel, planar_pixel, pixel_in, page_pixels}
+use Rattle.bios_screen.proofs.Prelude.{Four, bytes_at, IsCard, CardState, ModeRow, BiosData, Screen, pixel_of_256_colours, planar_pixel, pixel_in, page_pixels}
 use Rattle.bios_screen.proofs.Prelude.{pixel_screen, shown, pixel_of, with_pixels}
 use Rattle.bios_screen.proofs.Base.Places.{ends_before}
 use Rattle.bios_screen.proofs.Base.Setting.{setting}
@@ -53,7 +53,7 @@ module _ (row : ModeRow) (c : CardState) (d : BiosData) (t : IsPlanar row c d) (
 
   -- pixel k of page p, from its byte in each plane
   pixel_by : (f : Four (List ℕ)) (p k : ℕ) → pixel_in d.mode f (d.size * p) k ≡ nibble_of (bytes_at f (d.size * p + k / 8)) (k % 8)
-  pixel_by f p k = ap (λ b. if b then packed_pixel f (d.size * p + k) else planar_pixel f (d.size * p) k) t.packed
+  pixel_by f p k = ap (λ b. if b then pixel_of_256_colours f (d.size * p + k) else planar_pixel f (d.size * p) k) t.packed
 
   pub pixel_is : (p k : ℕ) → p < row.pages → k < page_pixels d → pixel_of s p k ≡ nibble_of (bytes_at c.host.memory (d.size * p + k / 8)) (k % 8)
   pixel_is p k lp l = pixel_at d.mode c.host.memory d.size (page_pixels d) row.pages p k lp l ∙ pixel_by c.host.memory p k

@@ -7,7 +7,7 @@ use Rattle.vga_bits.proofs.BitLemmas.{ones_byte}
 use Rattle.bios_services.specs.Bands.{band_of, scroll_rows, band_of_kind}
 use Rattle.bios_services.specs.Cells.{page_address}
 use Rattle.bios_services.specs.Scroll.{IsOnPage, scroll_window_plan}
-use Rattle.bios_screen.specs.Step.{pixel_row, pixel_column, is_in_window, has_source_row, source_number, pixel_distance_of_rows, fill_pixel, scroll_pixels, scroll_window}
+use Rattle.bios_screen.specs.Step.{character_row_of_pixel, character_column_of_pixel, is_in_window, has_source_row, source_number, pixel_distance_of_rows, fill_pixel, scroll_pixels, scroll_window}
 use Rattle.bios_screen.proofs.Base.Tests.{le_is}
 use Rattle.bios_screen.proofs.Base.Windows.{inside_of, by_both_tests}
 use Rattle.bios_screen.proofs.Base.Bands.{IsWindow}
@@ -76,13 +76,13 @@ module _ (row : ModeRow) (c : CardState) (d : BiosData) (t : IsPlanar row c d) (
 
   -- ---- the pixels of a strip
 
-  strip_row : (k : ℕ) → pixel_row s k ≡ k / 8 / W / H
+  strip_row : (k : ℕ) → character_row_of_pixel s k ≡ k / 8 / W / H
   strip_row k = ap (λ x. x / H) (line_by_8 W k window.wide)
 
-  strip_test : (k : ℕ) → is_in_window w (k / 8 / W / H) (k / 8 % W / 1) ≡ is_in_window w (pixel_row s k) (pixel_column s k)
+  strip_test : (k : ℕ) → is_in_window w (k / 8 / W / H) (k / 8 % W / 1) ≡ is_in_window w (character_row_of_pixel s k) (character_column_of_pixel s k)
   strip_test k =
       let one : k / 8 % W / 1 ≡ k / 8 % W = omega arith in
-      ap (is_in_window w (k / 8 / W / H)) (one ∙ sym (column_by_8 W k window.wide)) ∙ ap (λ r. is_in_window w r (pixel_column s k)) (sym (strip_row k))
+      ap (is_in_window w (k / 8 / W / H)) (one ∙ sym (column_by_8 W k window.wide)) ∙ ap (λ r. is_in_window w r (character_column_of_pixel s k)) (sym (strip_row k))
 
   -- a byte outside the page is no strip of the window
   no_other : (o : ℕ) → (o < d.size * p) ⊎ (d.size * p + d.size ≤ o) → (b : ℕ) → start + b ≡ o → is_in_window w (b / W / H) (b % W / 1) ≡ false
@@ -122,8 +122,8 @@ module _ (row : ModeRow) (c : CardState) (d : BiosData) (t : IsPlanar row c d) (
   pixels_scrolled : (f : ℕ → Four ℕ) → IsScrolled f → (k : ℕ) → k < page_pixels d →
       nibble_of (f (d.size * p + k / 8)) (k % 8) ≡ scroll_pixels s w direction n colour (pixel_of s p) k
   pixels_scrolled f is k lk =
-      let line = pixel_row s k in
-      let column = pixel_column s k in
+      let line = character_row_of_pixel s k in
+      let column = character_column_of_pixel s k in
       let j = k % 8 in
       let far = source_number direction k (pixel_distance_of_rows s n) in
       let tested = ap (has_source_row direction w n) (sym (strip_row k)) in

@@ -12,7 +12,7 @@ use Rattle.vga_host.specs.Memory.Address.{is_decoded, window_offset}
 use Rattle.vga_host.specs.Memory.Write.{written_bit, combined_bit, written_byte, memory_after_put}
 use Rattle.vga_host.specs.Memory.Read.{loaded}
 use Rattle.vga_card.specs.Port.{port_of}
-use Rattle.vga_card.specs.Adapter.{adapter_of}
+use Rattle.vga_card.specs.Adapter.{without_beam_and_dots}
 use Rattle.vga_card.specs.Cycles.{card_after_write, unless_refused, out_reached}
 use Rattle.bios_services.specs.Cycles.{write_sequencer}
 use Rattle.bios_screen.proofs.Base.Flat.{set_cell, set_same, set_other}
@@ -224,7 +224,7 @@ pub mode_set : (rest : CardState) (e d v : ℕ) (k : Hand) (q : Four ℕ) (c : C
 unfolding port_of out_reached
 mode_set rest e d v k q c f l b t =
     let index : CardState = record c { host = record c.host { gfx_index = 5 } } in
-    let next = record (adapter_of index) { host = record index.host { gfx = slice_set c.host.gfx 5 (bit_and v 0x7B) } } in
+    let next = record (without_beam_and_dots index) { host = record index.host { gfx = slice_set c.host.gfx 5 (bit_and v 0x7B) } } in
     hand_set rest e d k (record k { mode = v }) q c f (write_graphics 5 v) c.host.seq (slice_set c.host.gfx 5 (bit_and v 0x7B)) c.host.seq_index 5
     (ap (λ y. (card_after_write index (unless_refused y next)).0) b)
     (ap (with_gfx 5 (bit_and v 0x7B)) t.mode ∙ ap (λ x. drawing e d (record k { mode = x })) l) t

@@ -4,7 +4,7 @@ use Rattle.std.specs.Prelude.{slice_index, ◌==◌, ◌&&◌, nat_le, nat_lt, m
 use Rattle.bios_screen.proofs.Prelude.{is_set, Four, bytes_at, IsCard, card_meaning, CardState, ModeRow, BiosData, FontSet, ColumnBand, Colouring, Planar, cells_per_page}
 use Rattle.bios_screen.proofs.Prelude.{run, Screen, pixel_screen, shown}
 use Rattle.bios_services.specs.Bands.{byte_address_in_band, fill_line, fill_row}
-use Rattle.bios_services.specs.Drawing.{put_glyph, put_glyph_over, draw_over_zeros_plan, draw_by_xor_plan, draw_planar_plan, character_plan_of_kind, character_plan, characters_plan}
+use Rattle.bios_services.specs.Drawing.{put_glyph, put_glyph_over, draw_over_zeros_plan, draw_by_xor_plan, draw_character_in_16_colours_plan, character_plan_of_kind, character_plan, characters_plan}
 use Rattle.bios_services.specs.Glyphs.{glyph_line}
 use Rattle.bios_screen.specs.Step.{glyph_pixel, put_characters}
 use Rattle.bios_screen.proofs.Base.Flat.{Edited, Turn, Leaves}
@@ -27,9 +27,9 @@ address_sum start w h row r left =
     sum n = omega arith
 
 -- the plan of a band that is one byte wide
-plan_is : (band : ColumnBand) (row : ℕ) (fonts : FontSet) (character colour : ℕ) → draw_planar_plan (record band { width = 1 }) row fonts character colour
+plan_is : (band : ColumnBand) (row : ℕ) (fonts : FontSet) (character colour : ℕ) → draw_character_in_16_colours_plan (record band { width = 1 }) row fonts character colour
     ≡ glyph_by (is_set colour 7) (λ r. byte_address_in_band band row r 0) (glyph_line fonts band.lines character) band.lines (colour % 16)
-unfolding draw_planar_plan draw_over_zeros_plan draw_by_xor_plan put_glyph put_glyph_over fill_row fill_line
+unfolding draw_character_in_16_colours_plan draw_over_zeros_plan draw_by_xor_plan put_glyph put_glyph_over fill_row fill_line
 plan_is band row fonts character colour = refl
 
 module _ (row : ModeRow) (c : CardState) (d : BiosData) (t : IsPlanar row c d) (z : IsCard c) where
@@ -72,7 +72,7 @@ module _ (row : ModeRow) (c : CardState) (d : BiosData) (t : IsPlanar row c d) (
       let band = column_by Planar d p left in
       let lines = glyph_line fonts h character in
       ap (λ k. character_plan_of_kind k fonts d p q character colouring) kind
-      ∙ ap (λ k. draw_planar_plan (column_by k d p left) row fonts character colouring.colour) kind
+      ∙ ap (λ k. draw_character_in_16_colours_plan (column_by k d p left) row fonts character colouring.colour) kind
       ∙ plan_is band row fonts character colouring.colour
       ∙ ap (λ a. glyph_by (is_set colouring.colour 7) a lines h (colouring.colour % 16)) (λ j r. address_is p q r j)
 

@@ -6,11 +6,11 @@ use Rattle.bios_screen.proofs.Prelude.{is_set, IsCard, card_meaning, CardState, 
 use Rattle.vga_bits.specs.Bits.{field}
 use Rattle.vga_attr.specs.Attr.{attr_masks}
 use Rattle.vga_card.specs.Port.{port_of as reached_by}
-use Rattle.vga_card.specs.Adapter.{adapter_of}
+use Rattle.vga_card.specs.Adapter.{without_beam_and_dots}
 use Rattle.vga_card.specs.Cycles.{card_after_write, card_after_read, unless_refused, out_reached, inp_reached}
 use Rattle.bios_services.specs.Plan.{out, inp, read_byte_or_ff}
 use Rattle.bios_services.specs.Cycles.{write_attribute_register, write_attribute_registers, reset_attribute_flip_flop, show_palette}
-use Rattle.bios_services.specs.Palette.{set_attribute_register_plan, set_palette_plan, set_blinking_plan, read_register_at_index_plan, read_attribute_register_plan}
+use Rattle.bios_services.specs.Palette.{set_attribute_register_plan, set_palette_plan, set_blinking_plan, read_attribute_register_in_index_state_plan, read_attribute_register_plan}
 use Rattle.bios_screen.specs.Colours.{six_bits}
 use Rattle.bios_screen.proofs.Base.Lists.{spelled}
 use Rattle.bios_screen.proofs.Base.Plans.{run_bind, then_runs}
@@ -38,7 +38,7 @@ names i l = record {
 -- ---- one register is written
 
 value_by : (s : CardState) (l : List ℕ) (i v : ℕ) → (run card_meaning (out 0x3C0 v) (with_attr s l i true)).0
-    ≡ (card_after_write (with_attr s l i true) (unless_refused (nat_lt 20 (field i 4 0)) (adapter_of (with_attr s (if nat_lt (field i 4 0) 16 && is_set i 5 then l
+    ≡ (card_after_write (with_attr s l i true) (unless_refused (nat_lt 20 (field i 4 0)) (without_beam_and_dots (with_attr s (if nat_lt (field i 4 0) 16 && is_set i 5 then l
     else slice_set l (field i 4 0) (bit_and v (slice_index attr_masks (field i 4 0)))) i false)))).0
 unfolding reached_by out_reached
 value_by s l i v = refl
@@ -142,7 +142,7 @@ pub index_shown : (i : ℕ) → i < 18 → is_set (0x20 + i) 5 ≡ true
 index_shown i l = (reads i l).shown
 
 value_read_by : (s : CardState) (l : List ℕ) (j : ℕ) → run card_meaning (inp 0x3C1) (with_attr s l j true)
-    ≡ (let r = card_after_read (with_attr s l j true) (unless_refused (nat_lt 20 (field j 4 0)) (adapter_of (with_attr s l j true), slice_index l (field j 4 0))) in let p : CardState
+    ≡ (let r = card_after_read (with_attr s l j true) (unless_refused (nat_lt 20 (field j 4 0)) (without_beam_and_dots (with_attr s l j true), slice_index l (field j 4 0))) in let p : CardState
     × ℕ = (r.0, read_byte_or_ff r.1) in p)
 unfolding reached_by inp_reached
 value_read_by s l j = refl
@@ -153,8 +153,8 @@ value_read s l i n = value_read_by s l (0x20 + i) ∙ rw (n.number, n.there) ref
 
 -- register i is answered; the controller expects an index before and after
 pub value_of_register : (c : CardState) (l : List ℕ) (j i : ℕ) → i < 18 →
-    run card_meaning (read_register_at_index_plan (crtc_port c.misc) i) (with_attr c l j false) ≡ (with_attr c l (0x20 + i) false, slice_index l i)
-unfolding read_register_at_index_plan reached_by out_reached
+    run card_meaning (read_attribute_register_in_index_state_plan (crtc_port c.misc) i) (with_attr c l j false) ≡ (with_attr c l (0x20 + i) false, slice_index l i)
+unfolding read_attribute_register_in_index_state_plan reached_by out_reached
 value_of_register c l j i k =
     let n = reads i k in
     let rest : ℕ → Plan ℕ = λ value. (reset_attribute_flip_flop (crtc_port c.misc) >> Done value) in
@@ -166,4 +166,4 @@ value_of_register c l j i k =
 pub register_read : (c : CardState) (i : ℕ) → i < 18 →
     run card_meaning (read_attribute_register_plan (crtc_port c.misc) i) c ≡ (with_attr c c.attr.registers (0x20 + i) false, slice_index c.attr.registers i)
 unfolding read_attribute_register_plan
-register_read c i k = expected_runs (read_register_at_index_plan (crtc_port c.misc) i) c ∙ value_of_register c c.attr.registers c.attr.index i k
+register_read c i k = expected_runs (read_attribute_register_in_index_state_plan (crtc_port c.misc) i) c ∙ value_of_register c c.attr.registers c.attr.index i k

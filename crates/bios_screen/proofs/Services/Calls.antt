@@ -17,7 +17,7 @@ use Rattle.bios_services.specs.Strings.{string_of}
 use Rattle.bios_services.specs.declared.glyph_load.GlyphLoad.{GlyphLoad}
 use Rattle.bios_services.specs.GlyphLoads.{glyph_load_of}
 use Rattle.bios_services.specs.Calls.{scroll_of, colours_call, colour_call_of, service_of, call_in_mode, call_of, glyph_load_or}
-use Rattle.bios_services.specs.Refusals.{service_on_page_meant, refusal_in_mode}
+use Rattle.bios_services.specs.Refusals.{service_with_page_or_0_if_only_one, refusal_in_mode}
 use Rattle.bios_services.specs.Service.{plan_of_service, set_mode_plan, CallOutcome, answer_of_registers, refusal_plan, unless_refused_plan, service_in_mode_plan, call_plan}
 use Rattle.bios_modes.specs.Bounds.{IsBda}
 use Rattle.bios_screen.specs.Step.{refusal_on, next, answer_on}
@@ -69,8 +69,8 @@ choose_call true x y f g = f
 choose_call false x y f g = g
 
 -- the subfunctions of function 10; the overscan is a byte
-colours_are_served : (r : Regs) → AreRegistersWords r → IsServedCall (colour_call_of r)
-colours_are_served r w =
+colour_services_lead_to_screens : (r : Regs) → AreRegistersWords r → IsServedCall (colour_call_of r)
+colour_services_lead_to_screens r w =
     let al = low r.ax in
     choose_call (al == 0x00) _ _ (served.set_colours (SetRegister (low r.bx) (high r.bx)) tt)
     (choose_call (al == 0x01) _ _ (served.set_colours (SetOverscan (high r.bx)) (high_small r.bx w.bx))
@@ -89,7 +89,7 @@ colours_are_served r w =
 call_is_served : (r : Regs) → AreRegistersWords r → IsServedCall (call_of r)
 call_is_served r w =
     choose_call (high r.ax == 0x00) _ _ tt
-    (choose_call (high r.ax == 0x10) _ _ (colours_are_served r w)
+    (choose_call (high r.ax == 0x10) _ _ (colour_services_lead_to_screens r w)
     (or_glyphs (glyph_load_of r) _ (by_service (service_of r) (asked_is_served r w))))
   where
     by_service : (x : Option Service) → IfSome x ServiceLeadsToNextScreen → IsServedCall (call_in_mode x)
@@ -111,12 +111,12 @@ unless_leads : (why : Option Refusal) (service : Service) (fonts : FontSet) (r :
     shown c d ≡ Some s → (why ≡ None → (card_after_service service fonts r block c d).1.0 ≡ answer_on fonts s service r)
     → (why ≡ None → (let x = card_after_service service fonts r block c d in shown x.0 x.1.1) ≡ Some (next fonts s service block))
     → Leads why (answer_on fonts s service r) s (next fonts s service block) (run card_meaning
-    (unless_refused_plan why (service_on_page_meant d service) fonts d r block) c)
+    (unless_refused_plan why (service_with_page_or_0_if_only_one d service) fonts d r block) c)
 unfolding unless_refused_plan
 unless_leads (Some why) service fonts r block c d s old answer shows = record { reply = refl; shows = old }
 unless_leads None service fonts r block c d s old answer shows =
     let done : ServiceOutcome → Plan CallOutcome = λ outcome. Done (answer_of_registers outcome.0 outcome.1) in
-    let bound = run_bind card_meaning (plan_of_service (service_on_page_meant d service) fonts d r block) done c in
+    let bound = run_bind card_meaning (plan_of_service (service_with_page_or_0_if_only_one d service) fonts d r block) done c in
     record {
       reply = ap (λ x. x.1.0) bound ∙ ap (reply_unless_refused None) (answer refl);
       shows = ap (λ x. shown x.0 x.1.1) bound ∙ shows refl;
@@ -127,13 +127,13 @@ call_done : (service : Service) (fonts : FontSet) (r : Regs) (block : List ℕ) 
 unfolding service_in_mode_plan
 call_done service fonts r block c d s e old i =
     let why = refusal_on s service (length block) in
-    let plan = unless_refused_plan why (service_on_page_meant d service) fonts d r block in
+    let plan = unless_refused_plan why (service_with_page_or_0_if_only_one d service) fonts d r block in
     let runs : after_call fonts r block c d ≡ run card_meaning plan c =
     ap (λ (q : Option Call). run card_meaning (call_plan q fonts d r block) c) e
-    ∙ ap (λ b. run card_meaning (if b then refusal_plan NoMode d else unless_refused_plan (refusal_in_mode (service_on_page_meant d service) d (length block)) (service_on_page_meant d service)
+    ∙ ap (λ b. run card_meaning (if b then refusal_plan NoMode d else unless_refused_plan (refusal_in_mode (service_with_page_or_0_if_only_one d service) d (length block)) (service_with_page_or_0_if_only_one d service)
     fonts d r block) c)
     (mode_of_shown c d s old).set
-    ∙ ap (λ q. run card_meaning (unless_refused_plan q (service_on_page_meant d service) fonts d r block) c) i.refusal in
+    ∙ ap (λ q. run card_meaning (unless_refused_plan q (service_with_page_or_0_if_only_one d service) fonts d r block) c) i.refusal in
     let t = unless_leads why service fonts r block c d s old i.answer i.shows in
     record {
       reply = ap (λ y. y.1.0) runs ∙ t.reply;

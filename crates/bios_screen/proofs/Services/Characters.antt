@@ -2,7 +2,7 @@
 -- from there on.
 use Rattle.std.proofs.Common.{◌≡◌, ℕ, ◌+◌, ◌<◌, ◌≤◌, ap, ◌∙◌, List, Some, None}
 use Rattle.bios_screen.proofs.Prelude.{IsCard, card_meaning, CardState, BiosData, FontSet, bytes_320_by_200, Regs, Colouring, page_count, cells_per_page, Plan, run}
-use Rattle.bios_screen.proofs.Prelude.{Done, ◌>>=◌, ◌>>◌, page_among, page_meant_by_number, ServiceOutcome, Screen, shown, page_meant, ServiceActsAsOnScreen}
+use Rattle.bios_screen.proofs.Prelude.{Done, ◌>>=◌, ◌>>◌, page_or_0_if_only_one, page_or_0_in_mode_of_one_page, ServiceOutcome, Screen, shown, page_or_0_on_screen_of_one_page, ServiceActsAsOnScreen}
 use Rattle.bios_services.specs.declared.cell_run.CellRun.{CellRun}
 use Rattle.bios_services.specs.declared.call.Service.TheVariants.{ReadCell, WriteCells}
 use Rattle.bios_services.specs.CellRuns.{cell_run_plan}
@@ -52,12 +52,12 @@ module _ (fonts : FontSet) (r : Regs) (block : List ℕ) (c : CardState) (d : Bi
   pub write_cells : (cells : CellRun) → cells.character < 256 → cells.colouring.colour < 256 → ServiceActsAsOnScreen (WriteCells cells) fonts r block c d s
   unfolding plan_of_service refusal_in_mode refusal_on next answer_on
   write_cells cells lv la =
-      let p = page_meant s cells.page in
-      let plan = cell_run_plan fonts d (record cells { page = page_meant_by_number d cells.page }) in
+      let p = page_or_0_on_screen_of_one_page s cells.page in
+      let plan = cell_run_plan fonts d (record cells { page = page_or_0_in_mode_of_one_page d cells.page }) in
       let done : Plan ServiceOutcome = Done (r, d) in
       let runs = run_bind card_meaning plan (λ _. done) c in
       record {
-        refusal = ap (λ n. let at : ℕ = cursor_cell_number d (page_among n cells.page) in no_page n (page_among n cells.page) or outside_cells (cells_per_page d) at
+        refusal = ap (λ n. let at : ℕ = cursor_cell_number d (page_or_0_if_only_one n cells.page) in no_page n (page_or_0_if_only_one n cells.page) or outside_cells (cells_per_page d) at
             or past_cells (cells_per_page d) at cells.count)
             (pages_are h.row d h.mode);
         answer = λ _. ap (λ q. q.1.0) runs;
@@ -73,8 +73,8 @@ module _ (fonts : FontSet) (r : Regs) (block : List ℕ) (c : CardState) (d : Bi
   pub read_cell : (page : ℕ) → ServiceActsAsOnScreen (ReadCell page) fonts r block c d s
   unfolding plan_of_service refusal_in_mode refusal_on next answer_on
   read_cell page =
-      let p = page_meant s page in
-      let plan = read_cell_service fonts (page_meant_by_number d page) d r in
+      let p = page_or_0_on_screen_of_one_page s page in
+      let plan = read_cell_service fonts (page_or_0_in_mode_of_one_page d page) d r in
       let done : Regs → Plan ServiceOutcome = λ after. Done (after, d) in
       let runs = run_bind card_meaning plan done c
       ∙ ap (λ i. let x = run card_meaning (read_cell_service fonts i d r) c in let y : CardState × ServiceOutcome = (x.0, (x.1, d)) in y)
@@ -83,7 +83,7 @@ module _ (fonts : FontSet) (r : Regs) (block : List ℕ) (c : CardState) (d : Bi
       let l = cell_allowed h.row.pages p (cursor_cell_number d p) (cells_per_page d) allowed in
       cell_read fonts r c d s p (still_any c d h) z (page_of h.row d p h.mode l.0) l.1 in
       record {
-        refusal = ap (λ n. no_page n (page_among n page) or outside_cells (cells_per_page d) (cursor_cell_number d (page_among n page))) (pages_are h.row d h.mode);
+        refusal = ap (λ n. no_page n (page_or_0_if_only_one n page) or outside_cells (cells_per_page d) (cursor_cell_number d (page_or_0_if_only_one n page))) (pages_are h.row d h.mode);
         answer = λ allowed. ap (λ q. q.1.0) runs ∙ (read allowed).answer;
         shows = λ allowed. ap (λ q. shown q.0 q.1.1) runs ∙ (read allowed).shows;
         beam = plan_beam (plan >>= done) c;

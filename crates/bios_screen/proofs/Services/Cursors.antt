@@ -8,7 +8,7 @@ use Rattle.std.proofs.lemmas.List.{get_or-set_same, get_or-set_other}
 use Rattle.vga_crtc.specs.Ports.{after_out as after_crtc}
 use Rattle.vga_card.specs.declared.port.Port.TheVariants.{CrtcIndex, CrtcData}
 use Rattle.bios_screen.proofs.Prelude.{CardState, crtc_port, card_meaning, ModeRow, BiosData, FontSet, is_text, Regs, Plan, run, Done, ◌>>=◌, ◌>>◌}
-use Rattle.bios_screen.proofs.Prelude.{start_address, page_among, page_meant_by_number, ServiceOutcome, Screen, crtc_registers, shown, page_meant, ServiceActsAsOnScreen}
+use Rattle.bios_screen.proofs.Prelude.{start_address, page_or_0_if_only_one, page_or_0_in_mode_of_one_page, ServiceOutcome, Screen, crtc_registers, shown, page_or_0_on_screen_of_one_page, ServiceActsAsOnScreen}
 use Rattle.vga_card.specs.Cycles.{out_at, out_reached}
 use Rattle.bios_modes.specs.Bounds.{IsBda}
 use Rattle.bios_services.specs.declared.call.Service.TheVariants.{SetCursorType, SetCursor, SelectPage}
@@ -237,15 +237,15 @@ module _ (c : CardState) (d : BiosData) (h : IsAny c d) where
       ServiceActsAsOnScreen (SetCursor page place) fonts r block c d s
   unfolding plan_of_service refusal_in_mode refusal_on next answer_on
   set_cursor page place fonts r block l bda =
-      let p = page_meant_by_number d page in
-      let named : p ≡ page_meant s page = any_meant c d h page in
+      let p = page_or_0_in_mode_of_one_page d page in
+      let named : p ≡ page_or_0_on_screen_of_one_page s page = any_meant c d h page in
       let plan = move_cursor_plan d p place in
       let runs = data_runs plan r c in
       record {
-        refusal = ap (λ n. no_page n (page_among n page)) (pages_are h.row d h.mode);
+        refusal = ap (λ n. no_page n (page_or_0_if_only_one n page)) (pages_are h.row d h.mode);
         answer = λ _. ap (λ x. x.1.0) runs;
         shows = λ allowed.
-            let lp : p < h.row.pages = let w = page_allowed h.row.pages (page_meant s page) allowed in omega arith in
+            let lp : p < h.row.pages = let w = page_allowed h.row.pages (page_or_0_on_screen_of_one_page s page) allowed in omega arith in
             ap (λ x. shown x.0 x.1.1) runs
             ∙ moved_shown p place bda lp l
             ∙ ap (λ n. Some (placed_on s n place)) named;

@@ -6,7 +6,7 @@ use Rattle.bios_screen.proofs.Prelude.{Refusal, IsCard, card_meaning, CardState,
 use Rattle.bios_screen.proofs.Prelude.{run, ◌>>◌, is_text, Screen, shown}
 use Rattle.vga_bits.specs.declared.refusal.Refusal.TheVariants.{NoMode, WrongKind, CountPast}
 use Rattle.bios_modes.specs.declared.heights.TextRow.{TextRow}
-use Rattle.bios_modes.specs.Heights.{fifty_rows, twenty_eight_rows, twenty_five_rows, text_row, with_height_row}
+use Rattle.bios_modes.specs.Heights.{fifty_rows_underlined_at, twenty_eight_rows_underlined_at, twenty_five_rows_underlined_at, text_row, with_height_row}
 use Rattle.bios_modes.specs.Bounds.{AreFonts}
 use Rattle.bios_services.specs.declared.glyph_load.GlyphLoad.{GlyphLoad}
 use Rattle.bios_services.specs.declared.call.Call.{Call}
@@ -22,7 +22,7 @@ use Rattle.bios_screen.proofs.Base.Tests.{le_is}
 use Rattle.bios_screen.proofs.Base.Reasons.{neither, holds, wrong_or}
 use Rattle.bios_screen.proofs.Base.Plans.{then_runs, then_answers}
 use Rattle.bios_services.proofs.CardLemmas.{plan_beam}
-use Rattle.bios_screen.proofs.Modes.TextModes.{Display, Height, row_of, row_with, lines_of, number_of}
+use Rattle.bios_screen.proofs.Modes.TextModes.{Display, Height, row_of_position, row_with, lines_of, number_of}
 use Rattle.bios_screen.proofs.Modes.TextModes.Display.{Colour, Monochrome}
 use Rattle.bios_screen.proofs.Modes.TextModes.Height.{Eight, Fourteen, Sixteen}
 use Rattle.bios_screen.proofs.Shows.Screens.{screen_shown, shown_is, mode_of_shown}
@@ -43,15 +43,15 @@ some_text a b f e = f (cc)
 lines_are : (disp : Display) (height : ℕ) (text : TextRow) → text_row (number_of disp) height ≡ Some text → HasLines disp height text
 lines_are disp height text e = by_display disp e
   where
-    by_tests : (k : Display) (a b f : Bool) (u8 u14 u16 : ℕ) → (height == 8) ≡ a → (height == 14) ≡ b → (height == 16) ≡ f → fifty_rows u8 ≡ lines_of k Eight →
-        twenty_eight_rows u14 ≡ lines_of k Fourteen → twenty_five_rows u16 ≡ lines_of k Sixteen
-        → (let x : Option TextRow = (if a then Some (fifty_rows u8) else if b then Some (twenty_eight_rows u14) else if f then Some (twenty_five_rows u16)
+    by_tests : (k : Display) (a b f : Bool) (u8 u14 u16 : ℕ) → (height == 8) ≡ a → (height == 14) ≡ b → (height == 16) ≡ f → fifty_rows_underlined_at u8 ≡ lines_of k Eight →
+        twenty_eight_rows_underlined_at u14 ≡ lines_of k Fourteen → twenty_five_rows_underlined_at u16 ≡ lines_of k Sixteen
+        → (let x : Option TextRow = (if a then Some (fifty_rows_underlined_at u8) else if b then Some (twenty_eight_rows_underlined_at u14) else if f then Some (twenty_five_rows_underlined_at u16)
         else None) in x) ≡ Some text → HasLines k height text
-    by_tests k true b f u8 u14 u16 ea eb ef e8 e14 e16 h = some_text (fifty_rows u8) text (λ q.
+    by_tests k true b f u8 u14 u16 ea eb ef e8 e14 e16 h = some_text (fifty_rows_underlined_at u8) text (λ q.
         record { new = Eight; is = sym q ∙ e8; few = grind (arith, nat_tests) }) h
-    by_tests k false true f u8 u14 u16 ea eb ef e8 e14 e16 h = some_text (twenty_eight_rows u14) text (λ q.
+    by_tests k false true f u8 u14 u16 ea eb ef e8 e14 e16 h = some_text (twenty_eight_rows_underlined_at u14) text (λ q.
         record { new = Fourteen; is = sym q ∙ e14; few = grind (arith, nat_tests) }) h
-    by_tests k false false true u8 u14 u16 ea eb ef e8 e14 e16 h = some_text (twenty_five_rows u16) text (λ q.
+    by_tests k false false true u8 u14 u16 ea eb ef e8 e14 e16 h = some_text (twenty_five_rows_underlined_at u16) text (λ q.
         record { new = Sixteen; is = sym q ∙ e16; few = grind (arith, nat_tests) }) h
     by_tests k false false false u8 u14 u16 ea eb ef e8 e14 e16 h = absurd (cc)
 
@@ -60,7 +60,7 @@ lines_are disp height text e = by_display disp e
     by_display Monochrome h = by_tests Monochrome (height == 8) (height == 14) (height == 16) 0x07 0x0D 0x0F refl refl refl refl refl refl h
 
 -- the mode's row at a height takes its lines from the text-height table
-rows_agree : (disp : Display) (height : ℕ) → mode_row_at_height (number_of disp) height ≡ with_height_row (row_of disp) (text_row (number_of disp) height)
+rows_agree : (disp : Display) (height : ℕ) → mode_row_at_height (number_of disp) height ≡ with_height_row (row_of_position disp) (text_row (number_of disp) height)
 rows_agree Colour height = refl
 rows_agree Monochrome height = refl
 
@@ -106,7 +106,7 @@ module _ (fonts : FontSet) (load : GlyphLoad) (r : Regs) (block : List ℕ) (byt
       let lines = lines_are disp load.height text there_is in
       let row = row_with disp lines.new in
       let at : mode_row_at_height d.mode load.height ≡ Some row = ap (λ m. mode_row_at_height m load.height) h.number ∙ rows_agree disp load.height
-      ∙ ap (with_height_row (row_of disp)) there_is ∙ ap (λ (t : TextRow). with_height_row (row_of disp) (Some t)) lines.is in
+      ∙ ap (with_height_row (row_of_position disp)) there_is ∙ ap (λ (t : TextRow). with_height_row (row_of_position disp) (Some t)) lines.is in
       let there : AreGlyphsThere load (length block) = record { height = lines.few; last = a.last; whole = a.whole } in
       let plan = load_plan fonts load block row in
       let done : Plan CallOutcome = Done (answer_of_registers r (data_of_mode d.mode row)) in
@@ -131,7 +131,7 @@ module _ (fonts : FontSet) (load : GlyphLoad) (r : Regs) (block : List ℕ) (byt
       let x = shown_is c d s a.text old in
       let h = x.is in
       let at : mode_row_at_height d.mode load.height ≡ None = ap (λ m. mode_row_at_height m load.height) h.number ∙ rows_agree h.display load.height
-      ∙ ap (with_height_row (row_of h.display)) (ap (λ m. text_row m load.height) (sym h.number) ∙ e) in
+      ∙ ap (with_height_row (row_of_position h.display)) (ap (λ m. text_row m load.height) (sym h.number) ∙ e) in
       let runs = ap (λ (q : Option ModeRow). run card_meaning (load_if_height_exists q load fonts d r block) c) at in
       record { reply = ap (λ y. y.1.0) runs; shows = ap (λ y. shown y.0 y.1.1) runs ∙ old }
 

@@ -21,7 +21,7 @@ use Rattle.bios_services.specs.Plan.{out}
 use Rattle.bios_services.specs.Palette.{set_attribute_register_plan, set_palette_plan, set_blinking_plan, read_attribute_register_plan}
 use Rattle.bios_services.specs.Dac.{set_entry_plan, set_entries_plan}
 use Rattle.bios_services.specs.Reasons.{refuse_unless, wrong_block}
-use Rattle.bios_services.specs.Colours.{colour_refusal, has_entries, no_register, no_entry, no_entries, read_register_in_bh, read_mask_in_bl, colours_plan}
+use Rattle.bios_services.specs.Colours.{colour_refusal, has_dac_entries, refuse_unless_palette_register, refuse_unless_dac_entry, refuse_unless_dac_entries, read_attribute_register_into_bh, read_dac_mask_into_bl, colours_plan}
 use Rattle.bios_services.specs.Refusals.{refusal_in_mode}
 use Rattle.bios_services.specs.Service.{plan_of_service}
 use Rattle.bios_screen.specs.Colours.{six_bits, with_palette_value, with_palette_and_overscan, with_entries, with_colours, colours_answer}
@@ -48,9 +48,9 @@ pub record EntriesAllowed (first count : ℕ) : Type 0 where
   pub begin : first < 256
   pub all : first + count ≤ 256
 
-pub entries_allowed : (first count : ℕ) → no_entries first count ≡ None → EntriesAllowed first count
+pub entries_allowed : (first count : ℕ) → refuse_unless_dac_entries first count ≡ None → EntriesAllowed first count
 entries_allowed first count e =
-    let both = both_true (nat_lt first 0x100) (nat_le (first + count) 0x100) (holds (has_entries first count) BadRegister e) in
+    let both = both_true (nat_lt first 0x100) (nat_le (first + count) 0x100) (holds (has_dac_entries first count) BadRegister e) in
     record { begin = lt_is first 0x100 both.0; all = le_is (first + count) 0x100 both.1 }
 
 module _ (c : CardState) (d : BiosData) (h : IsAny c d) where
@@ -175,9 +175,9 @@ module _ (c : CardState) (d : BiosData) (h : IsAny c d) where
   -- ---- services that read
 
   -- a register of the attribute controller is read into BH
-  register_in_bh : (i : ℕ) (r : Regs) → i < 18 → run card_meaning (read_register_in_bh d.crtc_address i r) c
+  register_in_bh : (i : ℕ) (r : Regs) → i < 18 → run card_meaning (read_attribute_register_into_bh d.crtc_address i r) c
       ≡ (with_attr c registers (0x20 + i) false, record r { bx = with_high r.bx (slice_index registers i) })
-  unfolding read_register_in_bh
+  unfolding read_attribute_register_into_bh
   register_in_bh i r l =
       let done : ℕ → Plan Regs = λ value. Done (record r { bx = with_high r.bx value }) in
       run_bind card_meaning (read_attribute_register_plan d.crtc_address i) done c
@@ -187,16 +187,16 @@ module _ (c : CardState) (d : BiosData) (h : IsAny c d) where
   pub index_moved : (i : ℕ) → i < 18 → shown (with_attr c registers (0x20 + i) false) d ≡ Some s
   index_moved i l = attribute_shown registers (0x20 + i) (index_shown i l) refl refl s.palette.values s.overscan s.is_blink refl refl refl
 
-  mask_read : (r : Regs) → run card_meaning (read_mask_in_bl r) c ≡ (c, record r { bx = with_low r.bx c.dac.mask })
-  unfolding read_mask_in_bl reached_by inp_reached
+  mask_read : (r : Regs) → run card_meaning (read_dac_mask_into_bl r) c ≡ (c, record r { bx = with_low r.bx c.dac.mask })
+  unfolding read_dac_mask_into_bl reached_by inp_reached
   mask_read r = refl
 
   -- ---- what is known if a subfunction is not refused
 
-  register_allowed : (i : ℕ) → no_register i ≡ None → i < 16
+  register_allowed : (i : ℕ) → refuse_unless_palette_register i ≡ None → i < 16
   register_allowed i e = lt_is i 0x10 (holds (nat_lt i 0x10) BadRegister e)
 
-  entry_allowed : (i : ℕ) → no_entry i ≡ None → i < 256
+  entry_allowed : (i : ℕ) → refuse_unless_dac_entry i ≡ None → i < 256
   entry_allowed i e = lt_is i 0x100 (holds (nat_lt i 0x100) BadRegister e)
 
   blink_allowed : (b : ℕ) → refuse_unless (nat_le b 1) BadRegister ≡ None → b < 2
@@ -230,7 +230,7 @@ module _ (c : CardState) (d : BiosData) (h : IsAny c d) where
       (loaded_shown (run card_meaning (set_entry_plan entry red green blue) c).0 entry 1 (red ∷ green ∷ blue ∷ [])
       (entry_loaded c entry red green blue z.dac (entry_allowed entry e)))
   is_coloured (SetEntries first count) r block fits bytes z e =
-      let there = neither (no_entries first count) (wrong_block (3 * count) (length block)) e in
+      let there = neither (refuse_unless_dac_entries first count) (wrong_block (3 * count) (length block)) e in
       let a = entries_allowed first count there.0 in
       setting_served (SetEntries first count) r block (λ p. set_entries_plan first block) refl refl
       (loaded_shown (run card_meaning (set_entries_plan first block) c).0 first count block (entries_loaded c first count block z.dac a.all a.begin

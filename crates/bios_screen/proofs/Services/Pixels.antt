@@ -3,11 +3,11 @@ use Rattle.std.proofs.Common.{◌≡◌, ℕ, ◌+◌, ◌*◌, ◌<◌, refl, a
 use Rattle.std.specs.Prelude.{nat_lt, not}
 use Rattle.vga_bits.specs.declared.refusal.Refusal.TheVariants.{Outside, WrongKind}
 use Rattle.bios_screen.proofs.Prelude.{IsCard, card_meaning, CardState, BiosData, FontSet, bytes_320_by_200, is_text, Regs, page_count, Plan, run, Done, ◌>>=◌}
-use Rattle.bios_screen.proofs.Prelude.{◌>>◌, page_among, page_meant_by_number, ServiceOutcome, Screen, shown, page_meant, pixel_of, with_pixels, ServiceActsAsOnScreen}
+use Rattle.bios_screen.proofs.Prelude.{◌>>◌, page_or_0_if_only_one, page_or_0_in_mode_of_one_page, ServiceOutcome, Screen, shown, page_or_0_on_screen_of_one_page, pixel_of, with_pixels, ServiceActsAsOnScreen}
 use Rattle.bios_services.specs.declared.call.Service.TheVariants.{WritePixel, ReadPixel}
 use Rattle.bios_services.specs.Registers.{with_low}
 use Rattle.bios_services.specs.Pixels.{pixels_across, pixels_down, write_pixel_plan, read_pixel_plan}
-use Rattle.bios_services.specs.Reasons.{◌or◌, no_pixels, no_page, outside_pixels}
+use Rattle.bios_services.specs.Reasons.{◌or◌, refuse_unless_graphics_mode, no_page, outside_pixels}
 use Rattle.bios_services.specs.Refusals.{refusal_in_mode}
 use Rattle.bios_services.specs.Service.{plan_of_service, read_pixel_service}
 use Rattle.bios_screen.specs.Step.{refusal_on, next, answer_on, pixel_number, colour_over, change_pixel}
@@ -31,7 +31,7 @@ module _ (c : CardState) (d : BiosData) (h : IsAny c d) (page x y : ℕ) where
   s = any_screen c d h c
 
   abbrev p : ℕ
-  p = page_meant s page
+  p = page_or_0_on_screen_of_one_page s page
 
   -- a call that is not refused: the mode is graphics, and the pixel exists
   record IsAllowed : Type 0 where
@@ -39,9 +39,9 @@ module _ (c : CardState) (d : BiosData) (h : IsAny c d) (page x y : ℕ) where
     on_page : p < page_count d
     there : There d x y
 
-  allowed : (no_pixels d.mode or no_page h.row.pages p or outside_pixels (pixels_across d) (pixels_down d) x y) ≡ None → IsAllowed
+  allowed : (refuse_unless_graphics_mode d.mode or no_page h.row.pages p or outside_pixels (pixels_across d) (pixels_down d) x y) ≡ None → IsAllowed
   allowed e =
-      let text = neither (no_pixels d.mode) (no_page h.row.pages p or outside_pixels (pixels_across d) (pixels_down d) x y) e in
+      let text = neither (refuse_unless_graphics_mode d.mode) (no_page h.row.pages p or outside_pixels (pixels_across d) (pixels_down d) x y) e in
       let page = neither (no_page h.row.pages p) (outside_pixels (pixels_across d) (pixels_down d) x y) text.1 in
       let inside = both_true (nat_lt x (pixels_across d)) (nat_lt y (pixels_down d)) (holds _ Outside page.1) in
       record {
@@ -60,11 +60,11 @@ module _ (c : CardState) (d : BiosData) (h : IsAny c d) (page x y : ℕ) where
       → ServiceActsAsOnScreen (WritePixel page x y colour) fonts r block c d s
   unfolding plan_of_service refusal_in_mode refusal_on next answer_on
   write_by colour fonts r block drawn =
-      let plan = write_pixel_plan d (page_meant_by_number d page) x y colour in
+      let plan = write_pixel_plan d (page_or_0_in_mode_of_one_page d page) x y colour in
       let done : Plan ServiceOutcome = Done (r, d) in
       let runs = run_bind card_meaning plan (λ _. done) c in
       record {
-        refusal = ap (λ n. no_pixels d.mode or no_page n (page_among n page) or outside_pixels (pixels_across d) (pixels_down d) x y) (pages_are h.row d h.mode);
+        refusal = ap (λ n. refuse_unless_graphics_mode d.mode or no_page n (page_or_0_if_only_one n page) or outside_pixels (pixels_across d) (pixels_down d) x y) (pages_are h.row d h.mode);
         answer = λ _. ap (λ q. q.1.0) runs;
         shows = λ e.
             let a = allowed e in
@@ -80,7 +80,7 @@ module _ (c : CardState) (d : BiosData) (h : IsAny c d) (page x y : ℕ) where
   read_by fonts r block read =
       let after : ℕ → Plan Regs = λ colour. Done (record r { ax = with_low r.ax colour }) in
       let done : Regs → Plan ServiceOutcome = λ q. Done (q, d) in
-      let dot = read_pixel_plan d (page_meant_by_number d page) x y in
+      let dot = read_pixel_plan d (page_or_0_in_mode_of_one_page d page) x y in
       let plan = dot >>= after in
       let runs =
       run_bind card_meaning plan done c
@@ -88,7 +88,7 @@ module _ (c : CardState) (d : BiosData) (h : IsAny c d) (page x y : ℕ) where
       ∙ ap (λ i. let q = run card_meaning (read_pixel_plan d i x y) c in let w : CardState
       × ServiceOutcome = (q.0, (record r { ax = with_low r.ax q.1 }, d)) in w) (named_page h.row d h.mode page) in
       record {
-        refusal = ap (λ n. no_pixels d.mode or no_page n (page_among n page) or outside_pixels (pixels_across d) (pixels_down d) x y) (pages_are h.row d h.mode);
+        refusal = ap (λ n. refuse_unless_graphics_mode d.mode or no_page n (page_or_0_if_only_one n page) or outside_pixels (pixels_across d) (pixels_down d) x y) (pages_are h.row d h.mode);
         answer = λ e.
             let a = allowed e in
             ap (λ q. q.1.0) runs ∙ ap (λ n. let w : Regs = record r { ax = with_low r.ax n } in w) (read a.in_graphics a.on_page a.there).value;
@@ -103,7 +103,7 @@ module _ (c : CardState) (d : BiosData) (h : IsAny c d) (page x y : ℕ) (fonts 
   seen = any_screen c d h c
 
   abbrev at : ℕ
-  at = page_meant seen page
+  at = page_or_0_on_screen_of_one_page seen page
 
   pub write_pixel : (colour : ℕ) → colour < 256 → IsCard c → ServiceActsAsOnScreen (WritePixel page x y colour) fonts r block c d seen
   write_pixel colour l z = write_by c d h page x y colour fonts r block (λ f lp there.

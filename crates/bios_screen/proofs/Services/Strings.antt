@@ -1,15 +1,15 @@
 -- Typing a string: from a state that shows a screen to one that shows the next.
 use Rattle.std.proofs.Common.{◌≡◌, ℕ, zero, suc, ◌+◌, ◌*◌, ◌<◌, refl, ap, ◌∙◌, List, length, Option, Some, None, Bool, true, false}
 use Rattle.std.specs.Prelude.{if◌then◌else◌, slice_index}
-use Rattle.bios_screen.proofs.Prelude.{Refusal, IsCard, card_meaning, CardState, BiosData, AreBytes, FontSet, Regs, Plan, run, Done, page_count, page_among}
-use Rattle.bios_screen.proofs.Prelude.{page_meant_by_number, Screen, shown, page_meant, ServiceActsAsOnScreen}
+use Rattle.bios_screen.proofs.Prelude.{Refusal, IsCard, card_meaning, CardState, BiosData, AreBytes, FontSet, Regs, Plan, run, Done, page_count, page_or_0_if_only_one}
+use Rattle.bios_screen.proofs.Prelude.{page_or_0_in_mode_of_one_page, Screen, shown, page_or_0_on_screen_of_one_page, ServiceActsAsOnScreen}
 use Rattle.bios_modes.specs.Bounds.{IsBda}
 use Rattle.bios_services.specs.declared.strings.StringCall.{StringCall}
 use Rattle.bios_services.specs.declared.call.Service.TheVariants.{WriteString}
 use Rattle.bios_services.specs.Plan.{fold}
 use Rattle.bios_services.specs.Cursor.{move_cursor_plan}
-use Rattle.bios_services.specs.Teletype.{type_plan}
-use Rattle.bios_services.specs.Strings.{string_len, character_at, colouring_of_character, type_string_plan, string_plan}
+use Rattle.bios_services.specs.Teletype.{type_character_plan}
+use Rattle.bios_services.specs.Strings.{string_block_len, character_at, colouring_of_character, type_string_plan, string_plan}
 use Rattle.bios_services.specs.Reasons.{◌or◌, no_page, outside_page, wrong_block}
 use Rattle.bios_services.specs.Refusals.{refusal_in_mode}
 use Rattle.bios_services.specs.Service.{plan_of_service}
@@ -42,7 +42,7 @@ module _ (fonts : FontSet) (d : BiosData) (p : ℕ) (lp : p < page_count d) (cal
 
   -- the plan that types character i of the string
   abbrev one : ℕ → ℕ → Plan ℕ
-  one i place = type_plan fonts d p place (character_at call block i) (colouring_of_character call block i)
+  one i place = type_character_plan fonts d p place (character_at call block i) (colouring_of_character call block i)
 
   -- n characters of the string are typed, from character i on
   all_typed : (n i place : ℕ) (c : CardState) (s : Screen) → shown c d ≡ Some s → IsCard c → Inside (d.last_row + 1) d.columns place →
@@ -100,16 +100,16 @@ pub write_string : (call : StringCall) (fonts : FontSet) (r : Regs) (block : Lis
 unfolding plan_of_service refusal_in_mode refusal_on next answer_on
 write_string call fonts r block c d h bytes colour z bda =
     let s = any_screen c d h c in
-    let p = page_meant_by_number d call.page in
-    let q = page_meant s call.page in
+    let p = page_or_0_in_mode_of_one_page d call.page in
+    let q = page_or_0_on_screen_of_one_page s call.page in
     let runs = data_runs (string_plan fonts d (record call { page = p }) block) r c in
     record {
-      refusal = ap (λ n. (no_page n (page_among n call.page) or outside_page (d.last_row + 1) d.columns call.position)
-          or wrong_block (string_len call) (length block))
+      refusal = ap (λ n. (no_page n (page_or_0_if_only_one n call.page) or outside_page (d.last_row + 1) d.columns call.position)
+          or wrong_block (string_block_len call) (length block))
           (pages_are h.row d h.mode);
       answer = λ _. ap (λ x. x.1.0) runs;
       shows = λ allowed.
-          let a = string_allowed h.row.pages q (d.last_row + 1) d.columns call.position (wrong_block (string_len call) (length block)) allowed in
+          let a = string_allowed h.row.pages q (d.last_row + 1) d.columns call.position (wrong_block (string_block_len call) (length block)) allowed in
           ap (λ x. shown x.0 x.1.1) runs
           ∙ ap (λ n. let x = run card_meaning (string_plan fonts d (record call { page = n }) block) c in shown x.0 x.1) (any_meant c d h call.page)
           ∙ string_shown fonts d q (page_of h.row d q h.mode a.page) call block bytes colour c s (still_any c d h) z bda a.inside;

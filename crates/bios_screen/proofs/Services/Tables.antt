@@ -15,8 +15,8 @@ use Rattle.bios_services.specs.declared.tables.TableService.TheVariants.{ReadPal
 use Rattle.bios_services.specs.declared.call.Call.{Call}
 use Rattle.bios_services.specs.declared.call.Call.TheVariants.{ReadTable}
 use Rattle.bios_services.specs.Plan.{out, inp, gather}
-use Rattle.bios_services.specs.Palette.{read_register_at_index_plan}
-use Rattle.bios_services.specs.Tables.{table_refusal, palette_register, read_palette_registers_plan, read_palette_and_overscan_plan, read_components_plan, read_entries_plan, table_plan}
+use Rattle.bios_services.specs.Palette.{read_attribute_register_in_index_state_plan}
+use Rattle.bios_services.specs.Tables.{table_refusal, attribute_register_of_palette_byte, read_palette_registers_in_index_state_plan, read_palette_and_overscan_plan, read_components_plan, read_entries_plan, table_plan}
 use Rattle.bios_services.specs.Calls.{call_of}
 use Rattle.bios_services.specs.Service.{CallOutcome, answer_with, refusal_plan, table_unless_refused_plan, table_in_mode_plan, call_plan}
 use Rattle.bios_screen.specs.Shown.{palette_of_card}
@@ -45,31 +45,31 @@ with_byte x l = Done (x ∷ l)
 -- the index after n values were read, from value i on; j is the index before
 abbrev index_after : ℕ → ℕ → ℕ → ℕ
 index_after zero i j = j
-index_after (suc n) i j = index_after n (i + 1) (0x20 + palette_register i)
+index_after (suc n) i j = index_after n (i + 1) (0x20 + attribute_register_of_palette_byte i)
 
-register_small : (i : ℕ) → i < 17 → palette_register i < 18
+register_small : (i : ℕ) → i < 17 → attribute_register_of_palette_byte i < 18
 register_small i l = grind (arith, nat_tests)
 
 gathered : (c : CardState) (n i j : ℕ) → i + n ≤ 17 → (let l = c.attr.registers in
-    run card_meaning (gather (λ k. read_register_at_index_plan (crtc_port c.misc) (palette_register k)) n i) (with_attr c l j false)
-    ≡ (with_attr c l (index_after n i j) false, list_by_function (λ k. slice_index l (palette_register k)) i n))
+    run card_meaning (gather (λ k. read_attribute_register_in_index_state_plan (crtc_port c.misc) (attribute_register_of_palette_byte k)) n i) (with_attr c l j false)
+    ≡ (with_attr c l (index_after n i j) false, list_by_function (λ k. slice_index l (attribute_register_of_palette_byte k)) i n))
 gathered c zero i j h = refl
 gathered c (suc n) i j h =
     let l = c.attr.registers in
-    let f : ℕ → Plan ℕ = λ k. read_register_at_index_plan (crtc_port c.misc) (palette_register k) in
+    let f : ℕ → Plan ℕ = λ k. read_attribute_register_in_index_state_plan (crtc_port c.misc) (attribute_register_of_palette_byte k) in
     let rest : Plan (List ℕ) = gather f n (i + 1) in
-    let x = slice_index l (palette_register i) in
-    let c1 = with_attr c l (0x20 + palette_register i) false in
+    let x = slice_index l (attribute_register_of_palette_byte i) in
+    let c1 = with_attr c l (0x20 + attribute_register_of_palette_byte i) false in
     run_bind card_meaning (f i) (λ v. rest >>= with_byte v) (with_attr c l j false)
-    ∙ ap (λ (r : CardState × ℕ). run card_meaning (rest >>= with_byte r.1) r.0) (value_of_register c l j (palette_register i) (register_small i (omega arith)))
+    ∙ ap (λ (r : CardState × ℕ). run card_meaning (rest >>= with_byte r.1) r.0) (value_of_register c l j (attribute_register_of_palette_byte i) (register_small i (omega arith)))
     ∙ run_bind card_meaning rest (with_byte x) c1
-    ∙ ap (λ (r : CardState × List ℕ). let p : CardState × List ℕ = (r.0, x ∷ r.1) in p) (gathered c n (i + 1) (0x20 + palette_register i) (omega arith))
+    ∙ ap (λ (r : CardState × List ℕ). let p : CardState × List ℕ = (r.0, x ∷ r.1) in p) (gathered c n (i + 1) (0x20 + attribute_register_of_palette_byte i) (omega arith))
 
 palette_read : (c : CardState) → IsCard c → run card_meaning (read_palette_and_overscan_plan (crtc_port c.misc)) c
     ≡ (with_attr c c.attr.registers 0x31 false, values_of c.attr.registers)
-unfolding read_palette_and_overscan_plan read_palette_registers_plan
+unfolding read_palette_and_overscan_plan read_palette_registers_in_index_state_plan
 palette_read c z =
-    expected_runs (read_palette_registers_plan (crtc_port c.misc)) c
+    expected_runs (read_palette_registers_in_index_state_plan (crtc_port c.misc)) c
     ∙ gathered c 17 0 c.attr.index (omega arith)
     ∙ ap (λ k. let p : CardState × List ℕ = (with_attr c c.attr.registers 0x31 false, k) in p) (sym (ap values_of (spelled c.attr.registers 21 z.attr.size)))
 

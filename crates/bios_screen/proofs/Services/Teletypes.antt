@@ -5,7 +5,7 @@ use Rattle.bios_screen.proofs.Prelude.{IsCard, card_meaning, CardState, BiosData
 use Rattle.bios_modes.specs.Bounds.{IsBda}
 use Rattle.bios_services.specs.declared.call.Service.TheVariants.{Teletype}
 use Rattle.bios_services.specs.Cursor.{cursor_position_of, move_cursor_plan}
-use Rattle.bios_services.specs.Teletype.{pixel_colouring, type_plan, teletype_plan}
+use Rattle.bios_services.specs.Teletype.{pixel_colouring, type_character_plan, teletype_plan}
 use Rattle.bios_services.specs.Refusals.{refusal_in_mode}
 use Rattle.bios_services.specs.Service.{plan_of_service}
 use Rattle.bios_screen.specs.Step.{refusal_on, next, answer_on, type_character, type_at_cursor, with_position as placed_on}
@@ -43,7 +43,7 @@ module _ (v colour : ℕ) (lv : v < 256) (la : colour < 256) (fonts : FontSet) (
   typed_at lp inside = by_test (v == 0x07)
     where
       plan : Plan ℕ
-      plan = type_plan fonts d d.page at v (pixel_colouring colour)
+      plan = type_character_plan fonts d d.page at v (pixel_colouring colour)
 
       cursor : ℕ → Plan BiosData
       cursor n = move_cursor_plan d d.page n

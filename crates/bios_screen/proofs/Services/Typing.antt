@@ -5,10 +5,10 @@ use Rattle.std.specs.Prelude.{◌==◌, nat_lt, if◌then◌else◌}
 use Rattle.bios_screen.proofs.Prelude.{IsCard, card_meaning, CardState, BiosData, FontSet, Colouring, page_count, Plan, run, Done, get, ◌>>=◌, ◌>>◌, Screen}
 use Rattle.bios_screen.proofs.Prelude.{shown}
 use Rattle.bios_services.specs.Cells.{cell_address}
-use Rattle.bios_services.specs.Cursor.{row_of as text_row_of, column_of, cell_number}
+use Rattle.bios_services.specs.Cursor.{row_of_position as text_row_of, column_of_position, cell_number}
 use Rattle.bios_services.specs.Drawing.{character_plan, characters_plan}
 use Rattle.bios_services.specs.Scroll.{page_up_plan}
-use Rattle.bios_services.specs.Teletype.{line_start, line_feed_fill, line_feed_plan, next_position_plan, write_and_advance_plan, type_plan}
+use Rattle.bios_services.specs.Teletype.{position_at_start_of_row, line_feed_fill, line_feed_plan, next_position_plan, write_and_advance_plan, type_character_plan}
 use Rattle.bios_screen.specs.Screen.{page_start}
 use Rattle.bios_screen.specs.Step.{cell_on, last_row_attribute, after_line_feed, screen_and_next_position, put_characters, put_character, type_character}
 use Rattle.bios_screen.proofs.Base.Plans.{run_bind, then_runs, then_answers}
@@ -80,17 +80,17 @@ module _ (fonts : FontSet) (d : BiosData) (p : ℕ) (lp : p < page_count d) wher
       ap (λ n. shown (run card_meaning (character_plan fonts d p n v colouring) c).0 d) same
       ∙ sym (ap (λ x. shown x d) (then_runs (character_plan fonts d p (q + 0) v colouring) (Done tt) c))
       ∙ characters_shown fonts c d s p q 1 v colouring e z lp (omega arith) lv la
-      ∙ ap (λ n. Some (put_characters fonts s p (n * text_row_of place + column_of place) 1 v colouring)) (sym (cut_is c d s e).columns)
+      ∙ ap (λ n. Some (put_characters fonts s p (n * text_row_of place + column_of_position place) 1 v colouring)) (sym (cut_is c d s e).columns)
 
   -- the fill of a line feed's row: the attribute read from the last row in text, 0 in graphics
   record IsFilled (c : CardState) (place : ℕ) (s : Screen) : Type 0 where
     leads : Leads (line_feed_fill d p place) c d (s, last_row_attribute s p place)
     small : last_row_attribute s p place < 256
 
-  filled : (c : CardState) (s : Screen) (place : ℕ) → IsCard c → shown c d ≡ Some s → column_of place < d.columns → IsFilled c place s
+  filled : (c : CardState) (s : Screen) (place : ℕ) → IsCard c → shown c d ≡ Some s → column_of_position place < d.columns → IsFilled c place s
   unfolding line_feed_fill
   filled c s place z e lc =
-      let q = d.columns * d.last_row + column_of place in
+      let q = d.columns * d.last_row + column_of_position place in
       let fill : Bool → Plan ℕ = λ b. if b then get (cell_address d p q + 1) else Done 0 in
       by_contents c d (IsFilled c place)
       (λ h.
@@ -98,7 +98,7 @@ module _ (fonts : FontSet) (d : BiosData) (p : ℕ) (lp : p < page_count d) wher
       let within = ends_before d.columns d.last_row (d.last_row + 1) (omega arith) in
       let read = attribute_read c d h z p q (page_in h.row d p h.mode lp) (omega arith) in
       let last : d.last_row ≡ d.last_row + 1 - 1 = omega arith in
-      let there = ap (λ n. (cell_on y (page_start y p + (d.columns * n + column_of place))).1) last in
+      let there = ap (λ n. (cell_on y (page_start y p + (d.columns * n + column_of_position place))).1) last in
       record {
         leads = subst (λ b. Leads (fill b) c d (y, last_row_attribute y p place)) (sym h.tests.is_text) (record {
           answer = read.answer ∙ there;
@@ -115,7 +115,7 @@ module _ (fonts : FontSet) (d : BiosData) (p : ℕ) (lp : p < page_count d) wher
       })
       s e
 
-  rises : (c : CardState) (s : Screen) (place : ℕ) → IsCard c → shown c d ≡ Some s → column_of place < d.columns →
+  rises : (c : CardState) (s : Screen) (place : ℕ) → IsCard c → shown c d ≡ Some s → column_of_position place < d.columns →
       Leads (rise_plan d p place) c d (risen s p place, place)
   rises c s place z e lc =
       let fill = line_feed_fill d p place in
@@ -131,7 +131,7 @@ module _ (fonts : FontSet) (d : BiosData) (p : ℕ) (lp : p < page_count d) wher
 
   -- ---- typing
 
-  feeds : (c : CardState) (s : Screen) (place : ℕ) → IsCard c → shown c d ≡ Some s → column_of place < d.columns →
+  feeds : (c : CardState) (s : Screen) (place : ℕ) → IsCard c → shown c d ≡ Some s → column_of_position place < d.columns →
       Leads (line_feed_plan d p place) c d (after_line_feed s p place)
   unfolding line_feed_plan
   feeds c s place z e lc =
@@ -144,16 +144,16 @@ module _ (fonts : FontSet) (d : BiosData) (p : ℕ) (lp : p < page_count d) wher
         place,
       ) (record { answer = refl; shows = e }) (rises c s place z e lc))
 
-  advances : (c : CardState) (s : Screen) (place : ℕ) → IsCard c → shown c d ≡ Some s → column_of place < d.columns →
+  advances : (c : CardState) (s : Screen) (place : ℕ) → IsCard c → shown c d ≡ Some s → column_of_position place < d.columns →
       Leads (next_position_plan d p place) c d (screen_and_next_position s p place)
   unfolding next_position_plan
   advances c s place z e lc =
       let below = feeds c s place z e lc in
-      let start : ℕ → Plan ℕ = λ x. Done (line_start x) in
-      let next : Screen × ℕ = ((after_line_feed s p place).0, line_start (after_line_feed s p place).1) in
-      subst (λ n. Leads (if nat_lt (column_of place + 1) d.columns then Done (place + 1)
-      else (line_feed_plan d p place >>= start)) c d (if nat_lt (column_of place + 1) n then (s, place + 1) else next)) (sym (cut_is c d s e).columns)
-      (leads_if (nat_lt (column_of place + 1) d.columns) (Done (place + 1)) (line_feed_plan d p place >>= start) c d (
+      let start : ℕ → Plan ℕ = λ x. Done (position_at_start_of_row x) in
+      let next : Screen × ℕ = ((after_line_feed s p place).0, position_at_start_of_row (after_line_feed s p place).1) in
+      subst (λ n. Leads (if nat_lt (column_of_position place + 1) d.columns then Done (place + 1)
+      else (line_feed_plan d p place >>= start)) c d (if nat_lt (column_of_position place + 1) n then (s, place + 1) else next)) (sym (cut_is c d s e).columns)
+      (leads_if (nat_lt (column_of_position place + 1) d.columns) (Done (place + 1)) (line_feed_plan d p place >>= start) c d (
         s,
         place + 1,
       ) next (record { answer = refl; shows = e })
@@ -170,12 +170,12 @@ module _ (fonts : FontSet) (d : BiosData) (p : ℕ) (lp : p < page_count d) wher
         (put c s place v colouring z e i lv la) i.column)
 
     -- the screen after the character, and the position after it
-    leads : Leads (type_plan fonts d p place v colouring) c d (type_character fonts s p place v colouring)
-    unfolding type_plan type_character
+    leads : Leads (type_character_plan fonts d p place v colouring) c d (type_character fonts s p place v colouring)
+    unfolding type_character_plan type_character
     leads = by_tests (v == 0x07) (v == 0x08) (v == 0x0A) (v == 0x0D)
       where
         back : ℕ
-        back = if column_of place == 0 then place else place - 1
+        back = if column_of_position place == 0 then place else place - 1
 
         stays : (n : ℕ) → Leads (Done n) c d (s, n)
         stays n = record { answer = refl; shows = e }
@@ -184,15 +184,15 @@ module _ (fonts : FontSet) (d : BiosData) (p : ℕ) (lp : p < page_count d) wher
         on = screen_and_next_position (put_character fonts s p place v colouring) p place
 
         by_tests : (a b f g : Bool) → Leads (if a then Done place else if b then Done back else if f then line_feed_plan d p place else if g
-            then Done (line_start place) else write_and_advance_plan fonts d p place v colouring) c d (if a then (s, place) else if b then (s, back) else if f
-            then after_line_feed s p place else if g then (s, line_start place) else on)
+            then Done (position_at_start_of_row place) else write_and_advance_plan fonts d p place v colouring) c d (if a then (s, place) else if b then (s, back) else if f
+            then after_line_feed s p place else if g then (s, position_at_start_of_row place) else on)
         by_tests true b f g = stays place
         by_tests false true f g = stays back
         by_tests false false true g = feeds c s place z e i.column
-        by_tests false false false true = stays (line_start place)
+        by_tests false false false true = stays (position_at_start_of_row place)
         by_tests false false false false = shows
 
-    pub is_typed : LeadsInside (type_plan fonts d p place v colouring) c d (type_character fonts s p place v colouring)
+    pub is_typed : LeadsInside (type_character_plan fonts d p place v colouring) c d (type_character fonts s p place v colouring)
     is_typed = let cut = cut_is c d s e in record {
       leads = leads;
       inside = typed_inside (d.last_row + 1) d.columns cut.narrow fonts s p place v colouring

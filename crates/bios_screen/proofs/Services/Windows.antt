@@ -5,7 +5,7 @@ use Rattle.bios_screen.proofs.Prelude.{Done, ◌>>◌, ServiceOutcome, Screen, s
 use Rattle.bios_services.specs.declared.call.Service.TheVariants.{ScrollUp, ScrollDown}
 use Rattle.bios_services.specs.declared.scroll.Scroll.{Scroll}
 use Rattle.bios_services.specs.Refusals.{refusal_in_mode}
-use Rattle.bios_services.specs.Scroll.{IsOnPage, window_among, whole_page, rows_to_scroll, scroll_window_plan, page_up_plan, scroll_window_if_any, scroll_plan}
+use Rattle.bios_services.specs.Scroll.{IsOnPage, window_clipped_to_page, whole_page, rows_to_scroll, scroll_window_plan, page_up_plan, scroll_window_if_any, scroll_plan}
 use Rattle.bios_services.specs.Service.{plan_of_service}
 use Rattle.bios_screen.specs.AfterCall.{ServiceLeadsToNextScreen}
 use Rattle.bios_screen.specs.Step.{scroll_window, scroll_asked, scroll, page_up, refusal_on, next, answer_on}
@@ -43,14 +43,14 @@ module _ (c : CardState) (d : BiosData) (s : Screen) (z : IsCard c) (e : shown c
     asked_shown : shown (run card_meaning (scroll_plan d asked direction) c).0 d ≡ Some (scroll s asked direction)
     unfolding scroll_plan
     asked_shown =
-        by_window (window_among (d.last_row + 1) d.columns asked) refl
-        ∙ ap (λ n. Some (scroll_asked s asked direction (window_among n d.columns asked))) (sym cut.rows)
-        ∙ ap (λ n. Some (scroll_asked s asked direction (window_among s.layout.rows n asked))) (sym cut.columns)
+        by_window (window_clipped_to_page (d.last_row + 1) d.columns asked) refl
+        ∙ ap (λ n. Some (scroll_asked s asked direction (window_clipped_to_page n d.columns asked))) (sym cut.rows)
+        ∙ ap (λ n. Some (scroll_asked s asked direction (window_clipped_to_page s.layout.rows n asked))) (sym cut.columns)
       where
         cut : IsCut d s
         cut = cut_is c d s e
 
-        by_window : (o : Option Window) → window_among (d.last_row + 1) d.columns asked ≡ o → shown (run card_meaning (scroll_window_if_any d asked direction o) c).0 d
+        by_window : (o : Option Window) → window_clipped_to_page (d.last_row + 1) d.columns asked ≡ o → shown (run card_meaning (scroll_window_if_any d asked direction o) c).0 d
             ≡ Some (scroll_asked s asked direction o)
         by_window None q = e
         by_window (Some w) q =

@@ -5,7 +5,7 @@ use Rattle.std.specs.Str.{bytes_eq}
 use Rattle.bios_screen.proofs.Prelude.{Four, is_palette_shown, CardState, crtc_port, ModeRow, mode_row_at_height, BiosData, is_text, page_count, start_address, Screen}
 use Rattle.bios_screen.proofs.Prelude.{has_attribute_registers_of_mode, text_memory_cells, page_pixels, shown}
 use Rattle.bios_screen.specs.Screen.{Contents, Cells, PackedPixelColours}
-use Rattle.bios_screen.specs.Shown.{cells_in, glyphs_in, pixel_pages, crtc_registers_shown, screen_with_contents, screen_of}
+use Rattle.bios_screen.specs.Shown.{cells_in, glyph_bytes_in_plane_2, pixel_pages, crtc_registers_shown, screen_with_contents, screen_of}
 use Rattle.bios_screen.proofs.Base.Tests.{both_true, same}
 use Rattle.bios_screen.proofs.Base.Places.{half_start, ends_before}
 use Rattle.bios_screen.proofs.Base.Setting.{Setting, setting}
@@ -102,7 +102,7 @@ any_is c d s h = by_kind (is_text d.mode) refl
             tests = all_of y.row c d y.tests;
             distance = d.size / 2;
             contents = λ m. Cells (cells_in m.plane0 m.plane1 text_memory_cells);
-            glyphs = λ m. glyphs_in m.plane2 4096;
+            glyphs = λ m. glyph_bytes_in_plane_2 m.plane2 4096;
             screen = λ z type places page start. screen_is_text y.row z (with_cursors d type places page start) t;
           };
           screen = x.screen;

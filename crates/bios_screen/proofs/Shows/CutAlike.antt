@@ -1,7 +1,7 @@
 -- Services keep the mode and the layout of a plain screen.
 use Rattle.std.proofs.Common.{◌≡◌, ℕ, zero, suc, ◌+◌, ◌-◌, refl, ◌∙◌, Bool, true, false, List, Option, Some, None}
 use Rattle.std.specs.Prelude.{◌==◌, nat_lt, if◌then◌else◌}
-use Rattle.bios_screen.proofs.Prelude.{Refusal, FontSet, Colouring, Direction, Up, Down, Window, Screen, page_meant}
+use Rattle.bios_screen.proofs.Prelude.{Refusal, FontSet, Colouring, Direction, Up, Down, Window, Screen, page_or_0_on_screen_of_one_page}
 use Rattle.bios_services.specs.declared.strings.StringCall.{StringCall}
 use Rattle.bios_services.specs.declared.colours.ColourService.{ColourService}
 use Rattle.bios_services.specs.declared.colours.ColourService.TheVariants.{SetRegister, SetOverscan, SetPalette, SetBlinking, ReadRegister, ReadOverscan}
@@ -10,10 +10,10 @@ use Rattle.bios_services.specs.declared.call.Service.{Service}
 use Rattle.bios_services.specs.declared.call.Service.TheVariants.{SetCursorType, SetCursor, ReadCursor, SelectPage, ScrollUp, ScrollDown, ReadCell, WriteCells}
 use Rattle.bios_services.specs.declared.call.Service.TheVariants.{WritePixel, ReadPixel, Teletype, ReadMode, Colours, ReadAdapter, WriteString, ReadDisplay}
 use Rattle.bios_services.specs.declared.scroll.Scroll.{Scroll}
-use Rattle.bios_services.specs.Scroll.{window_among}
-use Rattle.bios_services.specs.Teletype.{line_start, pixel_colouring}
+use Rattle.bios_services.specs.Scroll.{window_clipped_to_page}
+use Rattle.bios_services.specs.Teletype.{position_at_start_of_row, pixel_colouring}
 use Rattle.bios_services.specs.Strings.{character_at, colouring_of_character}
-use Rattle.bios_services.specs.Cursor.{row_of, column_of}
+use Rattle.bios_services.specs.Cursor.{row_of_position, column_of_position}
 use Rattle.bios_screen.specs.Screen.{cursor_position}
 use Rattle.bios_screen.specs.Colours.{with_colours}
 use Rattle.bios_screen.specs.Called.{screen_unless_refused}
@@ -40,15 +40,15 @@ cut_either s true x y h k = h
 cut_either s false x y h k = k
 
 fed_cut : (s : Screen) (page place : ℕ) → IsCutAs s (after_line_feed s page place).0
-fed_cut s page place = cut_if s (nat_lt (row_of place) (s.layout.rows - 1)) (s, place + 256) (
+fed_cut s page place = cut_if s (nat_lt (row_of_position place) (s.layout.rows - 1)) (s, place + 256) (
   page_up s page (last_row_attribute s page place),
   place,
 ) (uncut s) (record { mode = refl; layout = refl })
 
 advanced_cut : (s : Screen) (page place : ℕ) → IsCutAs s (screen_and_next_position s page place).0
-advanced_cut s page place = cut_if s (nat_lt (column_of place + 1) s.layout.columns) (s, place + 1) (
+advanced_cut s page place = cut_if s (nat_lt (column_of_position place + 1) s.layout.columns) (s, place + 1) (
   (after_line_feed s page place).0,
-  line_start (after_line_feed s page place).1,
+  position_at_start_of_row (after_line_feed s page place).1,
 ) (uncut s) (fed_cut s page place)
 
 typed_cut : (fonts : FontSet) (s : Screen) (page place character : ℕ) (colouring : Colouring) →
@@ -58,9 +58,9 @@ typed_cut fonts s page place character colouring =
     let put = put_character fonts s page place character colouring in
     let is_put : IsCutAs s put = record { mode = refl; layout = refl } in
     cut_if s (character == 0x07) (s, place) _ (uncut s)
-    (cut_if s (character == 0x08) (s, if column_of place == 0 then place else place - 1) _ (uncut s)
+    (cut_if s (character == 0x08) (s, if column_of_position place == 0 then place else place - 1) _ (uncut s)
     (cut_if s (character == 0x0A) (after_line_feed s page place) _ (fed_cut s page place)
-    (cut_if s (character == 0x0D) (s, line_start place) (screen_and_next_position put page place) (uncut s) (cut_on is_put (advanced_cut put page place)))))
+    (cut_if s (character == 0x0D) (s, position_at_start_of_row place) (screen_and_next_position put page place) (uncut s) (cut_on is_put (advanced_cut put page place)))))
 
 string_cut : (fonts : FontSet) (call : StringCall) (block : List ℕ) (page n i : ℕ) (at : Screen × ℕ) →
     IsCutAs at.0 (type_characters fonts call block page n i at).0
@@ -94,8 +94,8 @@ next_cut fonts s (SetCursorType cursor_type) block = record { mode = refl; layou
 next_cut fonts s (SetCursor page place) block = record { mode = refl; layout = refl }
 next_cut fonts s (ReadCursor page) block = uncut s
 next_cut fonts s (SelectPage page) block = record { mode = refl; layout = refl }
-next_cut fonts s (ScrollUp asked) block = scrolled_cut s asked Up (window_among s.layout.rows s.layout.columns asked)
-next_cut fonts s (ScrollDown asked) block = scrolled_cut s asked Down (window_among s.layout.rows s.layout.columns asked)
+next_cut fonts s (ScrollUp asked) block = scrolled_cut s asked Up (window_clipped_to_page s.layout.rows s.layout.columns asked)
+next_cut fonts s (ScrollDown asked) block = scrolled_cut s asked Down (window_clipped_to_page s.layout.rows s.layout.columns asked)
 next_cut fonts s (ReadCell page) block = uncut s
 next_cut fonts s (WriteCells cells) block = record { mode = refl; layout = refl }
 next_cut fonts s (WritePixel page x y colour) block = record { mode = refl; layout = refl }
@@ -108,7 +108,7 @@ next_cut fonts s ReadMode block = uncut s
 next_cut fonts s (Colours service) block = coloured_cut s service block
 next_cut fonts s ReadAdapter block = uncut s
 next_cut fonts s (WriteString call) block =
-    let page = page_meant s call.page in
+    let page = page_or_0_on_screen_of_one_page s call.page in
     let after = type_characters fonts call block page call.count 0 (s, call.position) in
     let is : IsCutAs s after.0 = string_cut fonts call block page call.count 0 (s, call.position) in
     cut_either s call.moves_cursor (with_position after.0 page after.1) after.0 (record { mode = is.mode; layout = is.layout }) is

@@ -4,11 +4,11 @@ use Rattle.std.proofs.Common.{append_assoc, get_or, Bool, true, false, Some, Non
 use Rattle.std.specs.Prelude.{slice_index, slice_set, bit_and, nat_lt, ◌&&◌, if◌then◌else◌}
 use Rattle.std.proofs.lemmas.Bool.{cases_lt}
 use Rattle.std.proofs.lemmas.List.{get_or_append_left, get_or-append-add, get_or_default, append-nil, length-append}
-use Rattle.bios_screen.proofs.Prelude.{Four, CardState, ModeRow, mode_row_at_height, BiosData, is_text, is_packed, start_address, list_by_function, Cell, Screen, cell_in, pixel_in}
+use Rattle.bios_screen.proofs.Prelude.{Four, CardState, ModeRow, mode_row_at_height, BiosData, is_text, is_mode_of_256_colours, start_address, list_by_function, Cell, Screen, cell_in, pixel_in}
 use Rattle.bios_screen.proofs.Prelude.{page_pixels, pixel_screen, crtc_registers}
 use Rattle.bios_screen.specs.Screen.{Contents, Cells, PackedPixelColours, Layout, missing_cell, cell_of}
 use Rattle.bios_screen.specs.Parts.{text_cell, page_pixel, cut_pages, pixel_count, cells_or_pixels_of_mode, LayoutFitsContents}
-use Rattle.bios_screen.specs.Shown.{cells_in, glyph_byte, glyphs_in, pixels_in, pixel_pages, layout_of, screen_with_contents}
+use Rattle.bios_screen.specs.Shown.{cells_in, glyph_byte_in_plane_2, glyph_bytes_in_plane_2, pixels_in, pixel_pages, layout_of, screen_with_contents}
 use Rattle.bios_screen.specs.Shown.{crtc_registers_shown, cursor_location_shown, shows}
 use Rattle.bios_screen.specs.Raster.{concatenated_lists}
 use Rattle.bios_screen.proofs.Base.Lists.{spelled, same_from_0, length_listing, listed_at}
@@ -37,13 +37,13 @@ pub more_cells : (a b : List ℕ) (n : ℕ) → cells_in a b (n + 1) ≡ cells_i
 unfolding cells_in
 more_cells a b n = listed_more (cell_in a b) n
 
-pub no_glyphs : (a : List ℕ) → [] ≡ glyphs_in a 0
-unfolding glyphs_in
+pub no_glyphs : (a : List ℕ) → [] ≡ glyph_bytes_in_plane_2 a 0
+unfolding glyph_bytes_in_plane_2
 no_glyphs a = refl
 
-pub more_glyphs : (a : List ℕ) (n : ℕ) → glyphs_in a (n + 1) ≡ glyphs_in a n ++ slice_index a (32 * (n / 16) + n % 16) ∷ []
-unfolding glyphs_in
-more_glyphs a n = listed_more (glyph_byte a) n
+pub more_glyphs : (a : List ℕ) (n : ℕ) → glyph_bytes_in_plane_2 a (n + 1) ≡ glyph_bytes_in_plane_2 a n ++ slice_index a (32 * (n / 16) + n % 16) ∷ []
+unfolding glyph_bytes_in_plane_2
+more_glyphs a n = listed_more (glyph_byte_in_plane_2 a) n
 
 -- ---- the pixels of all pages in one list
 
@@ -85,9 +85,9 @@ cut_at pixels n pages p k lp lk =
     ap (λ l. slice_index l k) (listed_at (λ q. list_by_function (λ j. slice_index pixels (n * q + j)) 0 n) pages p [] lp)
     ∙ listed_at (λ j. slice_index pixels (n * p + j)) n k 0 lk
 
-pub no_pixels : (mode : ℕ) (m : Four (List ℕ)) (z : ℕ) (l : List ℕ) → l ≡ l ++ pixels_in mode m z 0
+pub refuse_unless_graphics_mode : (mode : ℕ) (m : Four (List ℕ)) (z : ℕ) (l : List ℕ) → l ≡ l ++ pixels_in mode m z 0
 unfolding pixels_in
-no_pixels mode m z l = sym (append-nil l)
+refuse_unless_graphics_mode mode m z l = sym (append-nil l)
 
 pub more_pixels : (mode : ℕ) (m : Four (List ℕ)) (z n : ℕ) → pixels_in mode m z (n + 1) ≡ pixels_in mode m z n ++ pixel_in mode m z n ∷ []
 unfolding pixels_in
@@ -193,7 +193,7 @@ pub record PixelNumbers (row : ModeRow) (mode columns height size n : ℕ) : Typ
   pub height_few : height ≤ 16
   pub all : size * row.pages ≤ 65536
   pub page : (n + 7) / 8 ≤ size
-  pub packed : IsTrue (is_packed mode) → n ≤ size
+  pub packed : IsTrue (is_mode_of_256_colours mode) → n ≤ size
 
 pub pixel_numbers : (row : ModeRow) (c : CardState) (d : BiosData) → mode_row_at_height d.mode d.height ≡ Some row → is_text d.mode ≡ false → shows row c d ≡ true →
     PixelNumbers row d.mode d.columns d.height d.size (page_pixels d)

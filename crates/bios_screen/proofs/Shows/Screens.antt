@@ -3,7 +3,7 @@ use Rattle.std.proofs.Common.{◌≡◌, ℕ, ◌+◌, ◌*◌, ◌<◌, refl, s
 use Rattle.std.specs.Prelude.{slice_index, bit_and, ◌==◌, ◌&&◌, if◌then◌else◌}
 use Rattle.std.specs.Str.{bytes_eq}
 use Rattle.std.proofs.lemmas.Slice.Eq.{bytes_eq-Decides}
-use Rattle.bios_screen.proofs.Prelude.{is_palette_shown, CardState, ModeRow, mode_row_at_height, BiosData, Planar, page_count, page_among, page_meant_by_number, is_text, kind_of}
+use Rattle.bios_screen.proofs.Prelude.{is_palette_shown, CardState, ModeRow, mode_row_at_height, BiosData, Planar, page_count, page_or_0_if_only_one, page_or_0_in_mode_of_one_page, is_text, kind_of}
 use Rattle.bios_screen.proofs.Prelude.{start_address, Screen, crtc_registers, has_attribute_registers_of_mode, pixel_screen, shown}
 use Rattle.bios_modes.specs.declared.kind.Kind.{Kind}
 use Rattle.bios_modes.specs.declared.kind.Kind.TheVariants.{Text, Packed}
@@ -38,8 +38,8 @@ page_in row d p e l = subst (λ n. p < n) (pages_are row d e) l
 pub page_of : (row : ModeRow) (d : BiosData) (p : ℕ) → mode_row_at_height d.mode d.height ≡ Some row → p < row.pages → p < page_count d
 page_of row d p e l = subst (λ n. p < n) (sym (pages_are row d e)) l
 
-pub named_page : (row : ModeRow) (d : BiosData) → mode_row_at_height d.mode d.height ≡ Some row → (page : ℕ) → page_meant_by_number d page ≡ page_among row.pages page
-named_page row d e page = ap (λ n. page_among n page) (pages_are row d e)
+pub named_page : (row : ModeRow) (d : BiosData) → mode_row_at_height d.mode d.height ≡ Some row → (page : ℕ) → page_or_0_in_mode_of_one_page d page ≡ page_or_0_if_only_one row.pages page
+named_page row d e page = ap (λ n. page_or_0_if_only_one n page) (pages_are row d e)
 
 pub data_is : (row : ModeRow) (d : BiosData) → has_bios_data_of_mode row d ≡ true → HasData row d
 data_is row d h =

@@ -8,7 +8,7 @@ use Rattle.bios_modes.specs.declared.kind.Kind.TheVariants.{Text}
 use Rattle.bios_services.specs.Bands.{filling_byte, blank_cells_filling, scroll_rows, fill_plan, band_of_kind}
 use Rattle.bios_services.specs.Scroll.{IsOnPage, scroll_window_plan}
 use Rattle.bios_screen.specs.Screen.{page_start}
-use Rattle.bios_screen.specs.Step.{row_on, column_on, is_in_window, has_source_row, source_number, scroll_cells, scroll_window, cell_on}
+use Rattle.bios_screen.specs.Step.{row_of_cell_on_page, column_of_cell_on_page, is_in_window, has_source_row, source_number, scroll_cells, scroll_window, cell_on}
 use Rattle.bios_screen.proofs.Base.Flat.{Leaves}
 use Rattle.bios_screen.proofs.Base.Places.{twice, rows_further, row_and_column}
 use Rattle.bios_screen.proofs.Base.CellPlaces.{over, rest}
@@ -91,44 +91,44 @@ module _ (c : CardState) (d : BiosData) (h : IsShown c d) (p : ℕ) (lp : p < h.
   byte_at : (k j : ℕ) → first ≤ k → d.size * p + byte_of k j ≡ 2 * k + j
   byte_at k j l = let a = page_bytes in omega arith
 
-  byte_split : (k j : ℕ) → byte_of k j ≡ 2 * d.columns * row_on s p k + (2 * column_on s p k + j)
-  byte_split k j = let a = row_and_column d.columns (k - first) some_columns in let z = twice d.columns (row_on s p k) in omega arith
+  byte_split : (k j : ℕ) → byte_of k j ≡ 2 * d.columns * row_of_cell_on_page s p k + (2 * column_of_cell_on_page s p k + j)
+  byte_split k j = let a = row_and_column d.columns (k - first) some_columns in let z = twice d.columns (row_of_cell_on_page s p k) in omega arith
 
-  byte_row : (k j : ℕ) → j < 2 → byte_of k j / (2 * d.columns) / 1 ≡ row_on s p k
+  byte_row : (k j : ℕ) → j < 2 → byte_of k j / (2 * d.columns) / 1 ≡ row_of_cell_on_page s p k
   byte_row k j l =
       let b = mod_below (k - first) d.columns some_columns in
-      let g = ap (λ x. x / (2 * d.columns)) (byte_split k j) ∙ over (2 * d.columns) (row_on s p k) (2 * column_on s p k + j) (omega arith) in
+      let g = ap (λ x. x / (2 * d.columns)) (byte_split k j) ∙ over (2 * d.columns) (row_of_cell_on_page s p k) (2 * column_of_cell_on_page s p k + j) (omega arith) in
       omega arith
 
-  byte_column : (k j : ℕ) → j < 2 → byte_of k j % (2 * d.columns) ≡ 2 * column_on s p k + j
+  byte_column : (k j : ℕ) → j < 2 → byte_of k j % (2 * d.columns) ≡ 2 * column_of_cell_on_page s p k + j
   byte_column k j l = let b = mod_below (k - first) d.columns some_columns in
-      ap (λ x. x % (2 * d.columns)) (byte_split k j) ∙ rest (2 * d.columns) (row_on s p k) (2 * column_on s p k + j) (omega arith)
+      ap (λ x. x % (2 * d.columns)) (byte_split k j) ∙ rest (2 * d.columns) (row_of_cell_on_page s p k) (2 * column_of_cell_on_page s p k + j) (omega arith)
 
   byte_test : (k j : ℕ) → j < 2 → is_in_window w (byte_of k j / (2 * d.columns) / 1) (byte_of k j % (2 * d.columns) / 2)
-      ≡ is_in_window w (row_on s p k) (column_on s p k)
+      ≡ is_in_window w (row_of_cell_on_page s p k) (column_of_cell_on_page s p k)
   byte_test k j l =
-      let half : byte_of k j % (2 * d.columns) / 2 ≡ column_on s p k = let q = byte_column k j l in omega arith in
-      ap (is_in_window w (byte_of k j / (2 * d.columns) / 1)) half ∙ ap (λ r. is_in_window w r (column_on s p k)) (byte_row k j l)
+      let half : byte_of k j % (2 * d.columns) / 2 ≡ column_of_cell_on_page s p k = let q = byte_column k j l in omega arith in
+      ap (is_in_window w (byte_of k j / (2 * d.columns) / 1)) half ∙ ap (λ r. is_in_window w r (column_of_cell_on_page s p k)) (byte_row k j l)
 
   -- how many bytes n rows of a page have
   rows_bytes : 2 * d.columns * (1 * n) ≡ 2 * (d.columns * n)
   rows_bytes = let one : 1 * n ≡ n = omega arith in ap (λ x. 2 * d.columns * x) one ∙ twice d.columns n
 
   -- the byte that byte j of cell k gets, counted in the page and counted in the cells of memory
-  byte_source : (way : Direction) (k j : ℕ) → first ≤ k → has_source_row way w n (row_on s p k) ≡ true →
+  byte_source : (way : Direction) (k j : ℕ) → first ≤ k → has_source_row way w n (row_of_cell_on_page s p k) ≡ true →
       d.size * p + source_number way (byte_of k j) (2 * d.columns * (1 * n)) ≡ 2 * source_number way k (d.columns * n) + j
   byte_source Up k j low t = let a = page_bytes in let b = rows_bytes in omega arith
   byte_source Down k j low t =
       let a = page_bytes in
       let b = rows_bytes in
-      let l = le_is (w.top + n) (row_on s p k) t in
-      let e = rows_further d.columns (row_on s p k - n) n in
-      let back : row_on s p k - n + n ≡ row_on s p k = omega arith in
+      let l = le_is (w.top + n) (row_of_cell_on_page s p k) t in
+      let e = rows_further d.columns (row_of_cell_on_page s p k - n) n in
+      let back : row_of_cell_on_page s p k - n + n ≡ row_of_cell_on_page s p k = omega arith in
       let g = ap (λ r. d.columns * r) back in
       let x = row_and_column d.columns (k - first) some_columns in
       omega arith
 
-  cell_source : (k : ℕ) → first ≤ k → is_in_window w (row_on s p k) (column_on s p k) ≡ true → has_source_row direction w n (row_on s p k) ≡ true →
+  cell_source : (k : ℕ) → first ≤ k → is_in_window w (row_of_cell_on_page s p k) (column_of_cell_on_page s p k) ≡ true → has_source_row direction w n (row_of_cell_on_page s p k) ≡ true →
       source_number direction k (d.columns * n) < 16384
   cell_source k low u m =
       let a = byte_source direction k 0 low m in
@@ -137,14 +137,14 @@ module _ (c : CardState) (d : BiosData) (h : IsShown c d) (p : ℕ) (lp : p < h.
       let e = window.memory in
       omega arith
 
-  blank_byte : (q j : ℕ) → j < 2 → filling_byte (blank_cells_filling attribute) (2 * q + j) ≡ (if j == 0 then 0x20 else attribute)
-  blank_byte q j l = let e : ((2 * q + j) % 2 == 0) ≡ (j == 0) = grind (arith, nat_tests) in ap (λ b. if b then 0x20 else attribute) e
+  byte_of_blank_cells : (q j : ℕ) → j < 2 → filling_byte (blank_cells_filling attribute) (2 * q + j) ≡ (if j == 0 then 0x20 else attribute)
+  byte_of_blank_cells q j l = let e : ((2 * q + j) % 2 == 0) ≡ (j == 0) = grind (arith, nat_tests) in ap (λ b. if b then 0x20 else attribute) e
 
   cells_scrolled : (f g : ℕ → ℕ) → IsScrolled f g → ((k : ℕ) → k < 16384 → cell_on s k ≡ cells_of_bytes f k) → (k : ℕ) → k < 16384 →
       cells_of_bytes g k ≡ scroll_cells s p w direction n attribute (cell_on s) k
   cells_scrolled f g is old k l =
-      let row = row_on s p k in
-      let column = column_on s p k in
+      let row = row_of_cell_on_page s p k in
+      let column = column_of_cell_on_page s p k in
       let within = is_in_window w row column in
       by_both_tests (nat_le first k && within) (has_source_row direction w n row) (cells_of_bytes g k) (cell_on s (source_number direction k (d.columns * n)))
       (0x20, attribute) (cell_on s k)
@@ -162,7 +162,7 @@ module _ (c : CardState) (d : BiosData) (h : IsShown c d) (p : ℕ) (lp : p < h.
       let new = is.filled (byte_of k j) (byte_test k j lj ∙ both.1) (ap (has_source_row direction w n) (byte_row k j lj) ∙ m) in
       let at : byte_of k j % (2 * d.columns) - 2 * w.left ≡ 2 * (column - w.left) + j = let q = byte_column k j lj in
       let b = (inside_of w row column both.1).before in omega arith in
-      ap g (sym (byte_at k j low)) ∙ new.is ∙ ap (filling_byte (blank_cells_filling attribute)) at ∙ blank_byte (column - w.left) j lj))
+      ap g (sym (byte_at k j low)) ∙ new.is ∙ ap (filling_byte (blank_cells_filling attribute)) at ∙ byte_of_blank_cells (column - w.left) j lj))
       (λ t.
       same_cell g f k k (λ j lj. is.outside (2 * k + j) (λ b e.
       let a = page_bytes in

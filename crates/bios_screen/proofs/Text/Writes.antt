@@ -1,7 +1,7 @@
 -- Writing and reading cells of text: where they lie, and which screen is then shown.
 use Rattle.std.proofs.Common.{◌≡◌, ℕ, ◌+◌, ◌-◌, ◌*◌, ◌/◌, ◌<◌, ◌≤◌, refl, sym, ap, ◌∙◌, arith, Some}
 use Rattle.std.specs.Prelude.{if◌then◌else◌}
-use Rattle.bios_screen.proofs.Prelude.{IsCard, card_meaning, CardState, BiosData, FontSet, Regs, Colouring, Plan, run, Done, get, each, ◌>>=◌, page_base}
+use Rattle.bios_screen.proofs.Prelude.{IsCard, card_meaning, CardState, BiosData, FontSet, Regs, Colouring, Plan, run, Done, get, each, ◌>>=◌, page_0_address_of_mode}
 use Rattle.bios_screen.proofs.Prelude.{cells_per_page, Cell, Screen, cell_in, text_memory_cells, shown}
 use Rattle.bios_services.specs.Cells.{cell_address, read_cell_plan, write_cell_plan}
 use Rattle.bios_services.specs.Cursor.{cursor_cell_number}
@@ -25,7 +25,7 @@ use Rattle.bios_screen.proofs.Text.NewCells.{cells_at, renewed_shown, same_shown
 
 -- the pages lie within text memory
 pub record Lies (d : BiosData) (disp : Display) (pages : ℕ) : Type 0 where
-  pub base : page_base d.mode ≡ base_of disp
+  pub base : page_0_address_of_mode d.mode ≡ base_of disp
   pub even : (p : ℕ) → d.size * p ≡ 2 * (d.size / 2 * p)
   pub fits : d.columns * (d.last_row + 1) ≤ d.size / 2
   pub within : (p : ℕ) → p < pages → d.size / 2 * p + d.size / 2 ≤ 16384

@@ -2,7 +2,7 @@
 ghost use Rattle.std.specs.Prelude.{◌≡◌, ◌+◌, ◌-◌, ◌*◌, ◌<◌, ◌≤◌, ◌++◌, length, take, drop};
 ghost use Rattle.std.specs.Prelude.{vec_capacity};
 ghost use Rattle.vga_card.specs.Picture.{most_dots_of_a_line, most_lines_of_a_frame};
-ghost use Rattle.vga_card.specs.Repeat.{last_dots_on_line};
+ghost use Rattle.vga_card.specs.Repeat.{last_dots_moved_to_line};
 
 use super::{Canvas, lengthen_buffer};
 
@@ -42,7 +42,7 @@ impl Canvas {
         requires after { self.old.line ≤ line }
         requires few { count ≤ most_dots_of_a_line }
         requires room { line ≡ self.old.line → self.old.width + count ≤ most_dots_of_a_line }
-        ensures dots { self.new.dots ≡ self.old.dots ++ last_dots_on_line line count self.old.dots }
+        ensures dots { self.new.dots ≡ self.old.dots ++ last_dots_moved_to_line line count self.old.dots }
         ensures line { self.new.line ≡ line }
     {
         append_again(&mut self.buffer, self.used, 3 * count);

@@ -6,10 +6,10 @@ ghost use Rattle.std.specs.List.{flat_map};
 ghost use Rattle.vga_bits.specs.Bytes.{zeros};
 ghost use Rattle.vga_bits.specs.Saved.{word_bytes, IsPut};
 ghost use Rattle.vga_card.specs.Picture.{most_dots_of_a_line, most_lines_of_a_frame};
-ghost use Rattle.vga_card.specs.Picture.{lines_by_widths};
+ghost use Rattle.vga_card.specs.Picture.{line_of_each_dot_by_widths};
 ghost use Rattle.vga_card.specs.Valid.{IsCanvasDrawnToBeam};
-ghost use Rattle.vga_crtc.specs.Beam.{is_first_dot};
-ghost use Rattle.vga_card.specs.Saved.{saved_dots, saved_dots_from, saved_widths, past_widths};
+ghost use Rattle.vga_crtc.specs.Beam.{is_first_dot_of_frame};
+ghost use Rattle.vga_card.specs.Saved.{saved_dots, saved_dots_from, widths_from_saved_bytes, past_widths};
 ghost use Rattle.vga_card.specs.Saved.{most_dots_on_line as most_dots_on, AreWidthsInBounds};
 ghost use Rattle.vga_card.specs.Saved.{AreSavedDots};
 
@@ -70,9 +70,9 @@ fn most_dots_on_line(beam: Beam, line: usize) -> u32
 /// How many dots all lines have together, or `None` if a line has more than it can have.
 fn count_saved_dots(beam: Beam, bytes: &[u8]) -> Option<u32>
     requires { 2048 ≤ length bytes.now }
-    ensures some { IfSome result (λ n. AreWidthsInBounds beam (saved_widths bytes.now)
-        × (n ≡ length (lines_by_widths 0 (saved_widths bytes.now)))) }
-    ensures none { IfNone result (¬ AreWidthsInBounds beam (saved_widths bytes.now)) }
+    ensures some { IfSome result (λ n. AreWidthsInBounds beam (widths_from_saved_bytes bytes.now)
+        × (n ≡ length (line_of_each_dot_by_widths 0 (widths_from_saved_bytes bytes.now)))) }
+    ensures none { IfNone result (¬ AreWidthsInBounds beam (widths_from_saved_bytes bytes.now)) }
 {
     let mut count = 0;
     for line in 0..MOST_LINES_WITH_DOTS {
@@ -95,7 +95,7 @@ pub(crate) fn are_saved_dots(beam: Beam, bytes: &[u8]) -> bool
     let rest = bytes.split_at(WIDTHS_LEN).1;
     match count_saved_dots(beam, bytes) {
         Some(count) => {
-            rest.len() == 3 * count as usize && (rest.is_empty() || !beam.is_first_dot())
+            rest.len() == 3 * count as usize && (rest.is_empty() || !beam.is_first_dot_of_frame())
         }
         None => false,
     }
@@ -105,7 +105,7 @@ pub(crate) fn are_saved_dots(beam: Beam, bytes: &[u8]) -> bool
 fn restore_widths(widths: &mut [u32], bytes: &[u8])
     requires lines { length widths.old ≡ most_lines_of_a_frame }
     requires all { 2048 ≤ length bytes.now }
-    ensures { widths.new ≡ saved_widths bytes.now }
+    ensures { widths.new ≡ widths_from_saved_bytes bytes.now }
 {
     for line in 0..widths.len() {
         widths[line] = word_at(bytes, 2 * line) as u32;
@@ -160,7 +160,7 @@ impl Canvas {
     /// runs.
     pub(crate) fn restore_gives_what_was_saved(&self, beam: Beam)
         requires { IsCanvasDrawnToBeam beam self.now }
-        ensures saved { is_first_dot beam ≡ false → AreSavedDots beam (saved_dots self.now.dots) }
+        ensures saved { is_first_dot_of_frame beam ≡ false → AreSavedDots beam (saved_dots self.now.dots) }
         ensures back { saved_dots_from (saved_dots self.now.dots) ≡ self.now.dots }
         ensures len { length (saved_dots self.now.dots) ≡ 2048 + 3 * length self.now.dots }
     {

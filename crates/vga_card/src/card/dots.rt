@@ -9,8 +9,8 @@ ghost use Rattle.vga_crtc.specs.Raster.{dots_to_line_end};
 ghost use Rattle.vga_dots.specs.Line.{shown_characters as characters_shown};
 ghost use Rattle.vga_card.specs.Dots.{character_width, dots_unless_frame_start, display_dot, dot};
 ghost use Rattle.vga_card.specs.Dots.{dots};
-ghost use Rattle.vga_card.specs.Dots.{most_dots};
-ghost use Rattle.vga_card.specs.Line.{displayed_line_dots, displayed_part_dots};
+ghost use Rattle.vga_card.specs.Dots.{most_dots_of_an_advance};
+ghost use Rattle.vga_card.specs.Line.{displayed_line_dots, display_dots_among_next_dots};
 ghost use Rattle.vga_card.specs.Line.{card_dots_to_line_end, display_with_start_taken};
 ghost use Rattle.vga_card.specs.Repeat.{EndsWithLine};
 ghost use Rattle.vga_card.specs.Valid.{count_unless_frame_start, IsLineDrawnToBeam};
@@ -41,7 +41,7 @@ fn clear_at_first_dot(beam: Beam, canvas: &mut Canvas)
     ensures line { canvas.new.line ≡ count_unless_frame_start beam canvas.old.line }
     ensures width { canvas.new.width ≡ count_unless_frame_start beam canvas.old.width }
 {
-    if beam.is_first_dot() {
+    if beam.is_first_dot_of_frame() {
         canvas.clear();
     }
 }
@@ -77,9 +77,9 @@ pub(super) fn draw_row(display: &Display<'_>, canvas: &mut Canvas)
     if crtc.is_display() {
         let count = shown_characters(crtc.fields()) as usize;
         if display.host().is_eight_dots() {
-            canvas.add_line::<8>(display, count);
+            canvas.add_line_of_characters::<8>(display, count);
         } else {
-            canvas.add_line::<9>(display, count);
+            canvas.add_line_of_characters::<9>(display, count);
         }
     }
 }
@@ -111,7 +111,7 @@ fn draw_dots(display: &Display<'_>, canvas: &mut Canvas, n: u32)
     requires few { n ≤ dots_to_line_end (host_width display.now.host) display.now.crtc.registers
         display.now.crtc.beam }
     requires at_most { n ≤ 128 }
-    ensures dots { canvas.new.dots ≡ canvas.old.dots ++ displayed_part_dots n display.now }
+    ensures dots { canvas.new.dots ≡ canvas.old.dots ++ display_dots_among_next_dots n display.now }
     ensures place { IsLineDrawnToBeam display.now.crtc.beam n canvas.new.line canvas.new.width }
 {
     dots_move_beam_in_line();
@@ -119,9 +119,9 @@ fn draw_dots(display: &Display<'_>, canvas: &mut Canvas, n: u32)
     if crtc.is_display() {
         let count = displayed_dot_count(display, n);
         if display.host().is_eight_dots() {
-            canvas.add_part::<8>(display, count);
+            canvas.add_next_dots_of_line::<8>(display, count);
         } else {
-            canvas.add_part::<9>(display, count);
+            canvas.add_next_dots_of_line::<9>(display, count);
         }
     }
 }
@@ -151,7 +151,7 @@ impl Card {
     }
 
     /// Takes the next `n` dots of the beam's line, which has at least `n` dots left.
-    fn take_and_draw_part(&mut self, n: u32)
+    fn take_and_draw_next_dots_of_line(&mut self, n: u32)
         requires some { 0 < n }
         requires inside { IsWithinItsLine (character_width self.old) self.old.crtc.registers
             self.old.crtc.beam }
@@ -207,7 +207,7 @@ impl Card {
                 let part = left
                     .min(self.crtc.dots_to_line_end(width))
                     .min(MOST_DOTS_OF_PART as u32);
-                self.take_and_draw_part(part);
+                self.take_and_draw_next_dots_of_line(part);
                 left -= part;
                 before = None;
             } else {
@@ -225,7 +225,7 @@ impl Card {
     {
         // So few dots end no frame, or one of so few lines that it may be drawn.
         let left = if n > LONGEST_LINE {
-            self.skip_frames(n)
+            self.skip_frames_among_next_dots(n)
         } else {
             n
         };
@@ -236,7 +236,7 @@ impl Card {
     /// picture of their frame. Registers and memory stay the same. A larger `n` is refused with
     /// `TooFar`, and then nothing changes.
     pub fn advance(&mut self, n: u32) -> Result<(), Refusal>
-        ensures few { IsOk result ↔ (n ≤ most_dots) }
+        ensures few { IsOk result ↔ (n ≤ most_dots_of_an_advance) }
         ensures ok { OnOk result (self.new ≡ dots n self.old) }
         ensures err { IfErr result (λ e. (e ≡ Refusal.TooFar) × (self.new ≡ self.old)) }
     {

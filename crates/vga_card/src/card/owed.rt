@@ -15,18 +15,19 @@ ghost use Rattle.vga_card.specs.Owed.{DotsSeeSameMemory, IsChangeHiddenFromDots}
 use super::Card;
 use super::word_cycles::bytes_of;
 use crate::laws::{
-    dots_keep, dots_split, hidden_writes_commute_with_dots, memory_reads_commute_with_dots,
-    status_reads_commute_with_dots, unseen_writes_commute_with_dots,
+    dots_change_only_beam_and_picture, dots_split, hidden_writes_commute_with_dots,
+    memory_reads_commute_with_dots, status_reads_commute_with_dots,
+    unseen_writes_commute_with_dots,
 };
 use crate::port::{Port, port_reached};
 use vga_bits::Refusal;
 use vga_crtc::laws::{dots_move_beam_in_line, start_is_taken_once};
-use vga_dots::is_not_fetched;
+use vga_dots::is_not_fetched_on_line;
 use vga_host::{GRAPHICS_DATA, GRAPHICS_INDEX, SEQUENCER_DATA, SEQUENCER_INDEX};
 
 /// Whether no dot sees the sequencer's register with this index. Dots see clocking mode and
 /// character map select.
-fn is_hidden_sequencer_register(index: u8) -> bool
+fn is_sequencer_register_hidden_from_dots(index: u8) -> bool
     ensures { result ≡ (not (index == 1) && not (index == 3)) }
 {
     index != 1 && index != 3
@@ -34,7 +35,7 @@ fn is_hidden_sequencer_register(index: u8) -> bool
 
 /// Whether no dot sees the graphics controller's register with this index. Dots see graphics mode
 /// and miscellaneous.
-fn is_hidden_graphics_register(index: u8) -> bool
+fn is_graphics_register_hidden_from_dots(index: u8) -> bool
     ensures { result ≡ (not (index == 5) && not (index == 6)) }
 {
     index != 5 && index != 6
@@ -42,7 +43,7 @@ fn is_hidden_graphics_register(index: u8) -> bool
 
 impl Card {
     /// Whether the next n dots are dots of the beam's line.
-    fn is_within_line(&self, n: u32) -> bool
+    fn are_next_dots_within_line(&self, n: u32) -> bool
         ensures inside { result ≡ true
             → IsWithinItsLine (character_width self.now) self.now.crtc.registers
             self.now.crtc.beam }
@@ -63,11 +64,11 @@ impl Card {
     {
         start_is_taken_once();
         dots_move_beam_in_line();
-        if self.crtc.beam().is_first_dot() || !self.is_within_line(n) {
+        if self.crtc.beam().is_first_dot_of_frame() || !self.are_next_dots_within_line(n) {
             return false;
         }
         match self.host.write_offset_unless_glyphs(address, self.misc) {
-            Some(offset) => is_not_fetched(&self.crtc, offset),
+            Some(offset) => is_not_fetched_on_line(&self.crtc, offset),
             None => false,
         }
     }
@@ -98,7 +99,7 @@ impl Card {
     /// Takes those of the next n dots that may see a write to an address. It returns how many dots
     /// are left. None of those sees the write.
     #[inline(never)]
-    fn take_dots_that_see(&mut self, n: u32, address: u32) -> u32
+    fn take_dots_that_may_see_write(&mut self, n: u32, address: u32) -> u32
         ensures left { result ≤ n }
         ensures dots { dots result self.new ≡ dots n self.old }
         ensures unseen { (v : ℕ) → DotsSeeSameMemory result self.new
@@ -116,7 +117,7 @@ impl Card {
     /// Writes a byte to an address n dots on. It returns how many of these dots remain to be taken
     /// after the write. They do not see it. It is inlined, because a put is the most frequent cycle.
     #[inline(always)]
-    pub fn put_after(&mut self, n: u32, address: u32, v: u8) -> (u32, Result<(), Refusal>)
+    pub fn put_with_dots_owed(&mut self, n: u32, address: u32, v: u8) -> (u32, Result<(), Refusal>)
         ensures left { result.0 ≤ n }
         ensures put { (dots result.0 self.new, result.1) ≡ put_cycle (dots n self.old) address v }
     {
@@ -125,26 +126,31 @@ impl Card {
         if n == 0 || self.is_write_unseen(n, address) {
             (n, self.put(address, v))
         } else {
-            let left = self.take_dots_that_see(n, address);
+            let left = self.take_dots_that_may_see_write(n, address);
             (left, self.put(address, v))
         }
     }
 
     /// Writes a word to an address and the next, n dots on. It returns how many of these dots
     /// remain to be taken after the write. They see neither byte.
-    pub fn put_word_after(&mut self, n: u32, address: u32, v: u16) -> (u32, Result<(), Refusal>)
+    pub fn put_word_with_dots_owed(
+        &mut self,
+        n: u32,
+        address: u32,
+        v: u16,
+    ) -> (u32, Result<(), Refusal>)
         ensures left { result.0 ≤ n }
         ensures put { (dots result.0 self.new, result.1)
             ≡ put_word_cycle (dots n self.old) address v }
     {
-        dots_keep();
+        dots_change_only_beam_and_picture();
         if address == u32::MAX || !self.decodes_word(address) {
             return (n, Err(Refusal::NotDecoded));
         }
         let (low, high) = bytes_of(v);
-        let (left, first) = self.put_after(n, address, low);
+        let (left, first) = self.put_with_dots_owed(n, address, low);
         match first {
-            Ok(()) => self.put_after(left, address + 1, high),
+            Ok(()) => self.put_with_dots_owed(left, address + 1, high),
             Err(refusal) => (left, Err(refusal)),
         }
     }
@@ -158,7 +164,7 @@ impl Card {
 
     /// Reads input status 1 as it is n dots on, within the beam's line. The attribute controller
     /// takes its next write as an index; no dot sees that.
-    fn read_status_after(&mut self, n: u32) -> u8
+    fn read_status_with_dots_owed(&mut self, n: u32) -> u8
         requires some { 0 < n }
         requires inside { IsWithinItsLine (character_width self.old) self.old.crtc.registers
             self.old.crtc.beam }
@@ -177,14 +183,14 @@ impl Card {
     /// Reads a byte from a port n dots on. It takes the whole lines among these dots first. It
     /// returns how many dots remain to be taken after the read.
     #[inline(never)]
-    fn inp_after_lines(&mut self, n: u32, port: u16) -> (u32, Result<u8, Refusal>)
+    fn take_lines_and_inp_with_dots_owed(&mut self, n: u32, port: u16) -> (u32, Result<u8, Refusal>)
         ensures left { result.0 ≤ n }
         ensures read { (dots result.0 self.new, result.1) ≡ inp_cycle (dots n self.old) port }
     {
         dots_split();
         let left = self.take_to_last_line_start(n);
-        if left > 0 && self.is_within_line(left) && self.is_input_status_1(port) {
-            return (left, Ok(self.read_status_after(left)));
+        if left > 0 && self.are_next_dots_within_line(left) && self.is_input_status_1(port) {
+            return (left, Ok(self.read_status_with_dots_owed(left)));
         }
         self.take_dots(left);
         (0, self.inp(port))
@@ -192,7 +198,7 @@ impl Card {
 
     /// Reads a byte from a port n dots on. It returns how many of these dots remain to be taken
     /// after the read.
-    pub fn inp_after(&mut self, n: u32, port: u16) -> (u32, Result<u8, Refusal>)
+    pub fn inp_with_dots_owed(&mut self, n: u32, port: u16) -> (u32, Result<u8, Refusal>)
         ensures left { result.0 ≤ n }
         ensures read { (dots result.0 self.new, result.1) ≡ inp_cycle (dots n self.old) port }
     {
@@ -200,15 +206,15 @@ impl Card {
         if n == 0 {
             return (0, self.inp(port));
         }
-        if self.is_within_line(n) && self.is_input_status_1(port) {
-            return (n, Ok(self.read_status_after(n)));
+        if self.are_next_dots_within_line(n) && self.is_input_status_1(port) {
+            return (n, Ok(self.read_status_with_dots_owed(n)));
         }
-        self.inp_after_lines(n, port)
+        self.take_lines_and_inp_with_dots_owed(n, port)
     }
 
     /// Reads a byte from an address n dots on. All these dots remain to be taken after the read,
     /// because no dot sees the latches.
-    pub fn get_after(&mut self, n: u32, address: u32) -> Result<u8, Refusal>
+    pub fn get_with_dots_owed(&mut self, n: u32, address: u32) -> Result<u8, Refusal>
         ensures { (dots n self.new, result) ≡ get_cycle (dots n self.old) address }
     {
         memory_reads_commute_with_dots();
@@ -217,7 +223,7 @@ impl Card {
 
     /// Reads a word from an address and the next, n dots on. All these dots remain to be taken
     /// after the read.
-    pub fn get_word_after(&mut self, n: u32, address: u32) -> Result<u16, Refusal>
+    pub fn get_word_with_dots_owed(&mut self, n: u32, address: u32) -> Result<u16, Refusal>
         ensures { (dots n self.new, result) ≡ get_word_cycle (dots n self.old) address }
     {
         memory_reads_commute_with_dots();
@@ -232,28 +238,28 @@ impl Card {
     {
         match port {
             SEQUENCER_INDEX | GRAPHICS_INDEX => true,
-            SEQUENCER_DATA => is_hidden_sequencer_register(self.host.seq_index()),
-            GRAPHICS_DATA => is_hidden_graphics_register(self.host.gfx_index()),
+            SEQUENCER_DATA => is_sequencer_register_hidden_from_dots(self.host.seq_index()),
+            GRAPHICS_DATA => is_graphics_register_hidden_from_dots(self.host.gfx_index()),
             _ => false,
         }
     }
 
     /// Whether a write of this word to a port is known to be hidden from dots. Such a word sets the
     /// index of the sequencer or the graphics controller, and a hidden register of theirs.
-    fn is_out_word_hidden(&self, port: u16, v: u16) -> bool
+    fn is_out_word_hidden_from_dots(&self, port: u16, v: u16) -> bool
         ensures { result ≡ true → IsChangeHiddenFromDots self.now (out_word_cycle self.now port v).0 }
     {
         let index = (v % 256) as u8;
         match port {
-            SEQUENCER_INDEX => is_hidden_sequencer_register(index & 0x07),
-            GRAPHICS_INDEX => is_hidden_graphics_register(index & 0x0F),
+            SEQUENCER_INDEX => is_sequencer_register_hidden_from_dots(index & 0x07),
+            GRAPHICS_INDEX => is_graphics_register_hidden_from_dots(index & 0x0F),
             _ => false,
         }
     }
 
     /// Writes a byte to a port n dots on. It returns how many of these dots remain to be taken
     /// after the write. They do not see it.
-    pub fn out_after(&mut self, n: u32, port: u16, v: u8) -> (u32, Result<(), Refusal>)
+    pub fn out_with_dots_owed(&mut self, n: u32, port: u16, v: u8) -> (u32, Result<(), Refusal>)
         ensures left { result.0 ≤ n }
         ensures out { (dots result.0 self.new, result.1) ≡ out_cycle (dots n self.old) port v }
     {
@@ -268,13 +274,18 @@ impl Card {
 
     /// Writes a word to a port and the next port, n dots on. It returns how many of these dots
     /// remain to be taken after the write. They do not see it.
-    pub fn out_word_after(&mut self, n: u32, port: u16, v: u16) -> (u32, Result<(), Refusal>)
+    pub fn out_word_with_dots_owed(
+        &mut self,
+        n: u32,
+        port: u16,
+        v: u16,
+    ) -> (u32, Result<(), Refusal>)
         ensures left { result.0 ≤ n }
         ensures out { (dots result.0 self.new, result.1) ≡ out_word_cycle (dots n self.old) port v }
     {
         dots_split();
         hidden_writes_commute_with_dots();
-        if self.is_out_word_hidden(port, v) {
+        if self.is_out_word_hidden_from_dots(port, v) {
             return (n, self.out_word(port, v));
         }
         self.take_dots(n);

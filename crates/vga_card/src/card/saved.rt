@@ -5,7 +5,7 @@ ghost use Rattle.vga_bits.specs.Saved.{IsPut};
 ghost use Rattle.vga_card.specs.Dots.{dots_of_frame_so_far};
 ghost use Rattle.vga_card.specs.Saved.{saved_card, past_misc, past_crtc, past_attr, past_dac};
 ghost use Rattle.vga_card.specs.Saved.{past_host, IsSavedCard, card_from};
-ghost use Rattle.vga_card.specs.FreshCanvas.{without_unseen_dots};
+ghost use Rattle.vga_card.specs.FreshCanvas.{without_dots_of_ended_frame};
 
 use super::Card;
 use super::cycles::MISCELLANEOUS_MASK;
@@ -71,7 +71,7 @@ impl Card {
         ensures few { result ≤ 7342934 }
     {
         self.restore_gives_what_was_saved();
-        let dots = if self.crtc.beam().is_first_dot() {
+        let dots = if self.crtc.beam().is_first_dot_of_frame() {
             0
         } else {
             self.canvas.saved_len()
@@ -93,7 +93,7 @@ impl Card {
         let at = self.attr.save(out, at);
         let at = self.dac.save(out, at);
         let at = self.host.save(out, at);
-        if self.crtc.beam().is_first_dot() {
+        if self.crtc.beam().is_first_dot_of_frame() {
             put_zero_widths(out, at)
         } else {
             self.canvas.save(out, at)
@@ -162,7 +162,7 @@ impl Card {
     /// `OutOfMemory`.
     #[tactic(auto, using(crate::proofs::SavedCards::saved_there))]
     pub fn copy(&self, alloc: Global) -> Result<Card, Fault>
-        ensures ok { IfOk result (λ card. card ≡ without_unseen_dots self.now) }
+        ensures ok { IfOk result (λ card. card ≡ without_dots_of_ended_frame self.now) }
         ensures err { IsOkUnless result Fault.OutOfMemory }
     {
         self.restore_gives_what_was_saved();
@@ -176,7 +176,7 @@ impl Card {
     /// clauses are for proofs: nothing runs.
     pub fn restore_gives_what_was_saved(&self)
         ensures saved { IsSavedCard (saved_card self.now) }
-        ensures back { card_from (saved_card self.now) ≡ without_unseen_dots self.now }
+        ensures back { card_from (saved_card self.now) ≡ without_dots_of_ended_frame self.now }
         ensures len { length (saved_card self.now) ≡ 265046 + 3 * length (dots_of_frame_so_far
             self.now) }
     {

@@ -87,7 +87,7 @@ impl Card {
     }
 
     /// The byte that a read of an address returns, or FF where the read is refused.
-    fn get_or_refused(&mut self, address: u32) -> u8
+    fn get_or_ff(&mut self, address: u32) -> u8
         ensures after { self.new ≡ (card_meaning.read self.old (AtAddress address)).0 }
         ensures byte { result ≡ byte_at_or_ff self.old address }
     {
@@ -119,7 +119,7 @@ impl Card {
         let n = bytes.len();
         for i in 0..n {
             let at = n - 1 - i;
-            bytes[at] = self.get_or_refused(first + at as u32);
+            bytes[at] = self.get_or_ff(first + at as u32);
         }
     }
 
@@ -133,7 +133,7 @@ impl Card {
         let kept = moves_before_windows_end(from, to, n);
         for i in 0..kept {
             let at = kept - 1 - i;
-            let byte = self.get_or_refused(from + at);
+            let byte = self.get_or_ff(from + at);
             let _ = self.put(to + at, byte);
         }
     }

@@ -4,7 +4,7 @@ ghost use Rattle.std.specs.Prelude.{◌≡◌, ◌+◌, ◌*◌, ◌/◌, ◌%�
 ghost use Rattle.vga_host.specs.Memory.Address.{is_decoded};
 ghost use Rattle.vga_card.specs.Cycles.{out_cycle, inp_cycle};
 ghost use Rattle.vga_card.specs.Port.{crtc_port};
-ghost use Rattle.vga_card.specs.WordCycles.{IsReadWithoutEffect, out_bytes, inp_bytes};
+ghost use Rattle.vga_card.specs.WordCycles.{IsPortReadWithoutEffect, out_low_and_high_byte, inp_low_and_high_byte};
 ghost use Rattle.vga_card.specs.WordCycles.{out_word_cycle};
 ghost use Rattle.vga_card.specs.WordCycles.{inp_word_cycle};
 ghost use Rattle.vga_card.specs.WordCycles.{put_word_cycle, get_word_cycle};
@@ -36,7 +36,7 @@ impl Card {
     fn out_two_bytes(&mut self, port: u16, low: u8, high: u8) -> Result<(), Refusal>
         requires few { port < 65535 }
         requires second { IsOk (out_cycle (out_cycle self.old port low).0 (port + 1) high).1 }
-        ensures { (self.new, result) ≡ out_bytes self.old port low high }
+        ensures { (self.new, result) ≡ out_low_and_high_byte self.old port low high }
     {
         self.out(port, low)?;
         self.out(port + 1, high)
@@ -45,7 +45,7 @@ impl Card {
     /// Writes the sequencer's index, and then the register that it selects.
     #[tactic(auto, unfolding(crate::specs::Cycles::out_reached, crate::specs::Port::port_of))]
     fn out_sequencer(&mut self, index: u8, v: u8) -> Result<(), Refusal>
-        ensures { (self.new, result) ≡ out_bytes self.old 0x3C4 index v }
+        ensures { (self.new, result) ≡ out_low_and_high_byte self.old 0x3C4 index v }
     {
         if self.host.refuses_data(SEQUENCER_INDEX, index, v) {
             return Err(Refusal::NotInProfile);
@@ -57,7 +57,7 @@ impl Card {
     /// Writes the graphics controller's index, and then the register that it selects.
     #[tactic(auto, unfolding(crate::specs::Cycles::out_reached, crate::specs::Port::port_of))]
     fn out_graphics(&mut self, index: u8, v: u8) -> Result<(), Refusal>
-        ensures { (self.new, result) ≡ out_bytes self.old 0x3CE index v }
+        ensures { (self.new, result) ≡ out_low_and_high_byte self.old 0x3CE index v }
     {
         if self.host.refuses_data(GRAPHICS_INDEX, index, v) {
             return Err(Refusal::NotInProfile);
@@ -69,7 +69,7 @@ impl Card {
     /// Writes the CRT controller's index, and then the register that it selects.
     #[tactic(auto, unfolding(crate::specs::Cycles::out_reached, crate::specs::Port::port_of, crate::specs::Port::crtc_port_of))]
     fn out_crtc(&mut self, index: u8, v: u8) -> Result<(), Refusal>
-        ensures { (self.new, result) ≡ out_bytes self.old (crtc_port self.old.misc) index v }
+        ensures { (self.new, result) ≡ out_low_and_high_byte self.old (crtc_port self.old.misc) index v }
     {
         if self.crtc.refuses_data(index, v) {
             return Err(Refusal::NotInProfile);
@@ -115,10 +115,10 @@ impl Card {
 
     /// Reads a word from a port and the next. Reading its first byte has no effect, and is not
     /// refused.
-    fn inp_without_effect(&mut self, port: u16) -> Result<u16, Refusal>
+    fn inp_word_whose_first_byte_has_no_effect(&mut self, port: u16) -> Result<u16, Refusal>
         requires few { port < 65535 }
-        requires quiet { IsReadWithoutEffect self.old port }
-        ensures { (self.new, result) ≡ inp_bytes self.old port }
+        requires quiet { IsPortReadWithoutEffect self.old port }
+        ensures { (self.new, result) ≡ inp_low_and_high_byte self.old port }
     {
         match self.inp(port) {
             Ok(low) => match self.inp(port + 1) {
@@ -140,17 +140,17 @@ impl Card {
         };
         match reached {
             // An index, and then the register or the data that it selects.
-            Port::Attribute => self.inp_without_effect(port),
-            Port::SequencerIndex => self.inp_without_effect(port),
-            Port::DacWriteIndex => self.inp_without_effect(port),
-            Port::GraphicsIndex => self.inp_without_effect(port),
-            Port::CrtcIndex => self.inp_without_effect(port),
+            Port::Attribute => self.inp_word_whose_first_byte_has_no_effect(port),
+            Port::SequencerIndex => self.inp_word_whose_first_byte_has_no_effect(port),
+            Port::DacWriteIndex => self.inp_word_whose_first_byte_has_no_effect(port),
+            Port::GraphicsIndex => self.inp_word_whose_first_byte_has_no_effect(port),
+            Port::CrtcIndex => self.inp_word_whose_first_byte_has_no_effect(port),
             // The next port is the DAC's mask, whose reading is not refused.
             Port::SequencerData => {
                 if self.host.refuses_inp(SEQUENCER_DATA) {
                     return Err(Refusal::NotInProfile);
                 }
-                self.inp_without_effect(port)
+                self.inp_word_whose_first_byte_has_no_effect(port)
             }
             // One of the two bytes is left out of the profile.
             Port::AttributeRegister => Err(Refusal::NotInProfile),

@@ -90,7 +90,7 @@ impl Crtc {
         ensures { (cw : ℕ) → 0 < cw → self.new
             ≡ after_dots self.old cw (dots_to_frame_end cw self.old.registers self.old.beam) }
     {
-        self.beam = Beam::first_dot((self.beam.frame + 1) % 32);
+        self.beam = Beam::first_dot_of_frame((self.beam.frame + 1) % 32);
     }
 
     /// Whether the beam is at a dot that its line has. Lowering a register can leave the beam past

@@ -2,7 +2,7 @@
 ghost use Rattle.std.specs.Prelude.{◌≡◌, ◌+◌, ◌<◌, ◌≤◌, ◌↔◌, length, IsTrue};
 ghost use Rattle.vga_bits.specs.Saved.{IsPut};
 ghost use Rattle.vga_dac.specs.Saved.{component_number as number_of, component_numbered};
-ghost use Rattle.vga_dac.specs.Saved.{saved_dac, AreSixBitValues, AreSavedCounters};
+ghost use Rattle.vga_dac.specs.Saved.{saved_dac, AreSixBitValues, AreSavedBytesAfterEntries};
 ghost use Rattle.vga_dac.specs.Saved.{IsSavedDac, dac_from};
 
 use super::{COMPONENT_MASK, Dac, ENTRIES, padded_entries};
@@ -46,9 +46,9 @@ fn are_six_bit_values(values: &[u8]) -> bool
 
 /// Whether the bytes after the entries are within bounds: the number of a component, and the two
 /// values of six bits.
-fn are_saved_counters(bytes: &[u8]) -> bool
+fn are_saved_bytes_after_entries(bytes: &[u8]) -> bool
     requires { length bytes.now ≡ 5 }
-    ensures { IsTrue result ↔ AreSavedCounters bytes.now }
+    ensures { IsTrue result ↔ AreSavedBytesAfterEntries bytes.now }
 {
     bytes[1] <= 2 && bytes[2] <= COMPONENT_MASK && bytes[3] <= COMPONENT_MASK
 }
@@ -94,7 +94,7 @@ impl Dac {
         are_six_bit_values(reds)
             && are_six_bit_values(greens)
             && are_six_bit_values(blues)
-            && are_saved_counters(rest)
+            && are_saved_bytes_after_entries(rest)
     }
 
     /// Restores entries, index, component, waiting values and mask from the bytes of a DAC.

@@ -1,6 +1,6 @@
 use Rattle.std.proofs.Common.{◌+◌, ◌*◌, ◌<◌, ◌≤◌, subst, sym}
 use Rattle.vga_c.specs.Forms.{div_ceil, form_word}
-use Rattle.vga_c.proofs.RowLemmas.{dot_within, counters_after_line}
+use Rattle.vga_c.proofs.RowLemmas.{dot_within, rows_after_another}
 use Rattle.vga_c.proofs.forms.write_rows.Goals as goal
 
 -- the three bytes of each dot are there
@@ -19,6 +19,6 @@ loop-y-preserved c =
     let done = c.write_row_of_words.ensures in
     let w = div_ceil c.args.width c.args.form.across in
     let same = c.div_ceil-count.ensures in
-    counters_after_line w c.loop-y.y c.args.pitch (form_word c.args.form c.args.width c.args.bytes.now) c.args.pixels.now c.loop-y.pixels c.write_row_of_words.new.pixels
+    rows_after_another w c.loop-y.y c.args.pitch (form_word c.args.form c.args.width c.args.bytes.now) c.args.pixels.now c.loop-y.pixels c.write_row_of_words.new.pixels
     c.requires.pitch c.loop-y.invariant (λ x within. done.words x (subst (λ n. x < n) (sym same) within)) done.before
     (λ i past. done.behind i (subst (λ n. c.args.pitch * c.loop-y.y + n ≤ i) (sym same) past)) done.size

@@ -5,7 +5,7 @@ use Rattle.vga_c.proofs.runs.zak_run.Goals as goal
 -- the report
 pub returns-in-Ok : goal.returns-in-Ok
 returns-in-Ok c = has_bytes (IsReportOrFault c.args.fonts.now c.args.script.now) c.in-Ok.report.items _ c.args.out.now _ c.args.len.now _ c.args.place.now _
-    c.in-Ok.ensures.ok c.as_slice.ensures.value c.copy_prefix.ensures
+    c.in-Ok.ensures.ok c.as_slice.ensures.value c.write_bytes_if_room_and_their_count.ensures
 
 -- or the first fault
 pub returns-in-Err : goal.returns-in-Err

@@ -29,7 +29,7 @@ returns-clause-screens g c =
     let after = g.W.Write.contents (inner_of c.run_bytes_with_fonts.new.out) in
     let over = c.run_bytes_with_fonts in
     run_known (λ (fonts : FontSet). AreScreenReportSteps) screen_report c.run_writes_screen_report.ensures c.bytes_mean_one_list.ensures c.steps_are_in_range.ensures
-    c.args.until c.args.fonts.now input before after over.result c.bytes_fit.ensures
+    c.args.until c.args.fonts.now input before after over.result c.bytes_are_below_256.ensures
     (input_answers c.args.until c.args.fonts.now c.in_ok-fonts.fonts input before after c.as_slice.result.now over.result c.in_ok-fonts.ensures.ok
     (subst (IsInput input) (sym c.as_slice.ensures.value) c.in_ok-bytes.ensures.input) over.ensures.answer)
 
@@ -41,7 +41,7 @@ returns-clause-dots g c =
     let after = g.W.Write.contents (inner_of c.run_bytes_with_fonts.new.out) in
     let over = c.run_bytes_with_fonts in
     run_known AreDotReportSteps dot_report c.run_writes_dot_report.ensures c.bytes_mean_one_list.ensures c.steps_are_in_range.ensures c.args.until c.args.fonts.now
-    input before after over.result c.bytes_fit.ensures
+    input before after over.result c.bytes_are_below_256.ensures
     (input_answers c.args.until c.args.fonts.now c.in_ok-fonts.fonts input before after c.as_slice.result.now over.result c.in_ok-fonts.ensures.ok
     (subst (IsInput input) (sym c.as_slice.ensures.value) c.in_ok-bytes.ensures.input) over.ensures.answer)
 

@@ -19,7 +19,7 @@ returns-clause-screens g c =
     let range = subst AreInRange c.steps-steps.ensures.steps c.steps-steps.ensures.range in
     let answer = rw c.steps-steps.ensures.steps at over.ensures.answer in
     script_known (λ (fonts : FontSet). AreScreenReportSteps) screen_report c.run_writes_screen_report.ensures c.args.until c.args.fonts.now steps before after over.result
-    c.bytes_fit.ensures range
+    c.bytes_are_below_256.ensures range
     (steps_answers c.args.until c.args.fonts.now c.in_ok-fonts.fonts steps before after over.result c.in_ok-fonts.ensures.ok answer)
 
 -- so it is dot by dot
@@ -32,5 +32,5 @@ returns-clause-dots g c =
     let range = subst AreInRange c.steps-steps.ensures.steps c.steps-steps.ensures.range in
     let answer = rw c.steps-steps.ensures.steps at over.ensures.answer in
     script_known AreDotReportSteps dot_report c.run_writes_dot_report.ensures c.args.until c.args.fonts.now steps before after over.result
-    c.bytes_fit.ensures range
+    c.bytes_are_below_256.ensures range
     (steps_answers c.args.until c.args.fonts.now c.in_ok-fonts.fonts steps before after over.result c.in_ok-fonts.ensures.ok answer)

@@ -3,9 +3,9 @@ use Rattle.vga_run.proofs.screens.run_writes_screen_report.Goals as goal
 
 pub returns : goal.returns
 returns c = reports_screens (record {
-  first_card = c.bounds_stay.ensures.first;
+  first_card = c.cycles_and_dots_keep_bounds.ensures.first;
   first_data = c.calls_keep_bounds.ensures.first;
-  dots = c.bounds_stay.ensures.dots;
+  dots = c.cycles_and_dots_keep_bounds.ensures.dots;
   card = c.calls_keep_bounds.ensures.card;
   bda = c.calls_keep_bounds.ensures.bda;
   served = c.calls_lead_to_screens.ensures.served;

@@ -4,7 +4,7 @@ use Rattle.vga_script.specs.Item.{Repeated, script_of_items, expanded, step_limi
 use Rattle.vga_script.specs.declared.version.Version.TheVariants.{One, Two}
 use Rattle.vga_script.specs.Examples.{three_times}
 use Rattle.vga_script.specs.Tokens.{words, lines}
-use Rattle.vga_script.specs.Text.{SpellsRepeat, IsVersionTwo, SpellsLinesUpTo}
+use Rattle.vga_script.specs.Text.{SpellsBeginningOfRepeat, IsVersionTwo, SpellsLinesUpTo}
 use Rattle.vga_script.proofs.OptionLemmas.{lt_test}
 use Rattle.vga_script.proofs.ItemLemmas.{length-repeated, length-expanded-cons}
 use Rattle.vga_script.proofs.NameLemmas.{repeat_unnamed, end_unnamed}
@@ -75,7 +75,7 @@ returns-clause-block c = (
 )
 
 -- the line that begins a block of three
-repeat_three : SpellsRepeat (words (codes "repeat 3")) 3
+repeat_three : SpellsBeginningOfRepeat (words (codes "repeat 3")) 3
 repeat_three = (codes "repeat", codes "3", refl, refl, (omega arith, (lt_test _ _ refl, tt), refl), omega arith, omega arith)
 
 -- no group stands before what follows the line of version 2

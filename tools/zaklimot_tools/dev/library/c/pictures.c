@@ -90,6 +90,27 @@ zak_status zak_frame_words(zak_card *card, uint32_t flags, zak_picture *picture,
     END(card, frame_words(self, flags, picture, &canvas));
 }
 
+static zak_status frame_indexed(module *self, zak_size *size, zak_palette *palette,
+                                uint8_t *numbers, size_t numbers_cap)
+{
+    self->outside = numbers;
+    zak_status status = module_zak_frame_indexed(self, CARD, DESK, TOLD, OUTSIDE, numbers_cap);
+    if (is_told(status) || status == ZAK_MANY_COLOURS)
+        *size = (zak_size){number32(self->memory + DESK), number32(self->memory + DESK + 4)};
+    if (status == ZAK_OK) {
+        palette->len = told32(self, 0);
+        get_words(self, palette->colours, TOLD + 4, 256);
+    }
+    return status;
+}
+
+zak_status zak_frame_indexed(zak_card *card, zak_size *size, zak_palette *palette,
+                             uint8_t *numbers, size_t numbers_cap)
+{
+    BEGIN(card);
+    END(card, frame_indexed(self, size, palette, numbers, numbers_cap));
+}
+
 static zak_status line(module *self, uint32_t flags, zak_scan_line *line, uint32_t *pixels,
                        size_t pixels_cap)
 {

@@ -73,6 +73,7 @@ static const uint8_t none[1];
 static size_t len, place, taken;
 static zak_card card = ZAK_CARD_INIT, opened = ZAK_CARD_INIT;
 static zak_screen screen;
+static zak_palette palette;
 static zak_cell cell;
 static uint8_t pixel;
 static zak_place cursor;
@@ -101,6 +102,12 @@ static zak_status do_screen(void) { return zak_screen_read(&card, &screen); }
 static zak_status do_cell(void) { return zak_screen_cell(&card, 0, 0, 0, &cell); }
 static zak_status do_pixel(void) { return zak_screen_pixel(&card, 0, 0, 0, &pixel); }
 static zak_status do_cursor(void) { return zak_screen_cursor(&card, 0, &cursor); }
+
+static zak_status do_indexed(void)
+{
+    static zak_size size;
+    return zak_frame_indexed(&card, &size, &palette, answer, sizeof answer);
+}
 
 static zak_status do_plane(void)
 {
@@ -148,6 +155,7 @@ static const struct job {
 } JOBS[] = {
     {"zak_open", do_open, 3, false},
     {"zak_int10", do_dac_entries, 3, false},
+    {"zak_frame_indexed", do_indexed, 0x13, false},
     {"zak_cycles", do_cycles, 3, false},
     {"zak_show_regs", do_regs, 3, false},
     {"zak_show_beam", do_beam, 3, false},
@@ -254,6 +262,7 @@ static void clear_answers(void)
     memset(answer, UNTOUCHED, sizeof answer);
     memset(report, UNTOUCHED, sizeof report);
     memset(&screen, UNTOUCHED, sizeof screen);
+    memset(&palette, UNTOUCHED, sizeof palette);
     memset(&cell, UNTOUCHED, sizeof cell);
     memset(&cursor, UNTOUCHED, sizeof cursor);
     pixel = UNTOUCHED;
@@ -272,7 +281,8 @@ static bool are_untouched(const void *bytes, size_t count)
 static bool has_no_answer(void)
 {
     return are_untouched(answer, sizeof answer) && are_untouched(report, sizeof report) &&
-           are_untouched(&screen, sizeof screen) && are_untouched(&cell, sizeof cell) &&
+           are_untouched(&screen, sizeof screen) &&
+           are_untouched(&palette, sizeof palette) && are_untouched(&cell, sizeof cell) &&
            are_untouched(&cursor, sizeof cursor) && are_untouched(&pixel, 1) && len == 999 &&
            place == 999 && taken == 999 && !opened.is_open;
 }

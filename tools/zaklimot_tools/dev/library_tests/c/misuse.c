@@ -72,6 +72,7 @@ static void calls_of_closed(void)
     zak_size size = {7, 7};
     zak_picture picture = {7, 7, 7, 7};
     zak_scan_line line = {7, 7, true};
+    zak_palette palette = {.len = 7};
     zak_regs regs = {3, 0, 0, 0};
     zak_source source = {7, true};
     uint32_t pixel = 7, widths[ZAK_HIGHEST] = {7};
@@ -81,6 +82,7 @@ static void calls_of_closed(void)
     SHOW(zak_frame(&card, &size, bytes, 1));
     SHOW(zak_frame_xrgb(&card, &size, &pixel, 1, 1));
     SHOW(zak_frame_words(&card, ZAK_ONCE, &picture, &pixel, 1, 1));
+    SHOW(zak_frame_indexed(&card, &size, &palette, bytes, 1));
     SHOW(zak_line(&card, 0, &line, &pixel, 1));
     SHOW(zak_frame_lines(&card, widths, bytes, 1, &len));
     SHOW(zak_peek(&card, widths, bytes, 1, &len));
@@ -105,6 +107,7 @@ static void calls_of_closed(void)
     SHOW(widths[0] == 7 && widths[1] == 0);
     SHOW(picture.width == 7 && picture.down == 7 && source.len == 7 && source.is_at_dx);
     SHOW(line.number == 7 && line.width == 7 && line.ends_frame);
+    SHOW(palette.len == 7 && palette.colours[0] == 0);
     free(bytes);
 }
 
@@ -806,6 +809,7 @@ static void statuses(void)
     TELLS(ZAK_STATE_LENGTH);
     TELLS(ZAK_STATE_PART);
     TELLS(ZAK_STATE_CHECKSUM);
+    TELLS(ZAK_MANY_COLOURS);
     TELLS(ZAK_BAD_MAGIC);
     TELLS(ZAK_BAD_VERSION);
     TELLS(ZAK_BAD_STEP);

@@ -128,6 +128,40 @@ static void compare_words(zak_size size, zak_picture picture, uint32_t flags, si
     require(pixels[pitch * picture.height] == UNTOUCHED, "what stands behind was written");
 }
 
+/* The palette has the colours of the picture, each once, in the order in which they first appear. */
+static void compare_numbers(zak_size size, const zak_palette *palette, const uint8_t *numbers)
+{
+    uint32_t seen = 0;
+    for (size_t i = 0; i < (size_t)size.width * size.height; i++) {
+        require(numbers[i] <= seen && numbers[i] < palette->len, "a number is not the next");
+        require(palette->colours[numbers[i]] == word_of(i, 0), "a number of another colour");
+        seen += numbers[i] == seen;
+    }
+    require(seen == palette->len, "the palette has a colour without dots");
+    for (uint32_t j = 0; j < 256; j++)
+        for (uint32_t k = j + 1; k < palette->len; k++)
+            require(palette->colours[j] != palette->colours[k], "a colour stands twice");
+    for (uint32_t k = palette->len; k < 256; k++)
+        require(palette->colours[k] == 0, "a colour behind the last");
+}
+
+/* The same frame by numbers of colours. */
+static void compare_indexed(zak_size size, zak_status status, size_t used)
+{
+    static uint8_t numbers[ZAK_WIDEST * ZAK_HIGHEST];
+    zak_palette palette = {.len = 999};
+    zak_size told = {0, 0};
+    require(zak_restore(&other, state, used) == ZAK_OK, "restore");
+    require(zak_frame_indexed(&other, &told, &palette, numbers, sizeof numbers) == status, "status");
+    compared++;
+    if (status != ZAK_OK) {
+        require(palette.len == 999, "a palette without a picture");
+        return;
+    }
+    require(told.width == size.width && told.height == size.height, "another size");
+    compare_numbers(size, &palette, numbers);
+}
+
 /* A frame in each form, each from the same state. */
 static zak_picture compare_frames(void)
 {
@@ -150,6 +184,7 @@ static zak_picture compare_frames(void)
         compare_words(size, picture, flags, pitch);
         compared++;
     }
+    compare_indexed(size, status, used);
     return picture;
 }
 

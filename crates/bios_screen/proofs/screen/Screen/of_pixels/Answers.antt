@@ -1,5 +1,5 @@
 use Rattle.std.proofs.Common.{rules, sym, ap, subst, ◌∙◌, ◌≤◌, ◌*◌, ◌+◌, ◌/◌, IsTrue}
-use Rattle.bios_modes.specs.Kinds.{is_packed}
+use Rattle.bios_modes.specs.Kinds.{is_mode_of_256_colours}
 use Rattle.bios_screen.proofs.Shows.Reading.{pixel_numbers, pixels_laid_out, pixel_screen_is}
 use Rattle.bios_screen.specs.Raster.{concatenated_lists}
 use Rattle.bios_screen.specs.Shown.{pixels_in}
@@ -28,7 +28,7 @@ pub read_pixels-requires-clause-packed : goal.read_pixels-requires-clause-packed
 read_pixels-requires-clause-packed c = λ e.
     let t = pixel_numbers c.args.row.now c.args.card.now c.args.bda.now c.requires.row c.requires.pixels c.requires.shown in
     subst (λ n. c.page_pixels-count.result ≤ n) (sym c.size.ensures) (subst (λ n. n ≤ c.args.bda.now.size) (sym c.page_pixels-count.ensures)
-    (t.packed (subst (λ m. IsTrue (is_packed m)) c.mode-2.ensures e)))
+    (t.packed (subst (λ m. IsTrue (is_mode_of_256_colours m)) c.mode-2.ensures e)))
 
 pub invariant_of-result : goal.invariant_of-result
 invariant_of-result c =

@@ -1,12 +1,12 @@
 use Rattle.std.proofs.Common.{◌≡◌, ◌+◌, ◌∙◌, ℕ, ap, arith}
 use Rattle.vga_script.specs.declared.step.Step.TheVariants.{Advance}
 use Rattle.vga_run.specs.Step.{after_step}
-use Rattle.vga_c.specs.Handle.{HandleState, machine_of}
+use Rattle.vga_c.specs.Handle.{HandleState, machine_after_owed_dots}
 use Rattle.vga_c.proofs.HandleLemmas.{owed_both}
 use Rattle.vga_c.proofs.handle.Handle.owe.Goals as goal
 
 pub returns-in-Some-clause-machine : goal.returns-in-Some-clause-machine
-unfolding machine_of
+unfolding machine_after_owed_dots
 returns-in-Some-clause-machine c done =
     let kept = c.self.inside.sealed.machine in
     let a = c.self.inside.owed in

@@ -1,14 +1,14 @@
 use Rattle.std.proofs.Common.{◌≡◌, ◌∙◌, ℕ, List, length, ap, arith}
 use Rattle.vga_bits.proofs.SavedLemmas.{length-words_in}
 use Rattle.vga_card.specs.Canvas.{stored_dots}
-use Rattle.vga_card.specs.Saved.{saved_dots_from, saved_widths}
+use Rattle.vga_card.specs.Saved.{saved_dots_from, widths_from_saved_bytes}
 use Rattle.vga_card.proofs.CanvasLemmas.{written_back}
 use Rattle.vga_card.proofs.SavedLemmas.{canvas_restored, drawn_restored, restored_fits}
 use Rattle.vga_card.proofs.canvas.Canvas.restore.Goals as goal
 
 -- there are 1,024 widths
-pub widths_count : (bytes : List ℕ) → length (saved_widths bytes) ≡ 1024
-unfolding saved_widths
+pub widths_count : (bytes : List ℕ) → length (widths_from_saved_bytes bytes) ≡ 1024
+unfolding widths_from_saved_bytes
 widths_count bytes = length-words_in 1024 bytes
 
 pub restore_bytes-requires : goal.restore_bytes-requires
@@ -16,7 +16,7 @@ restore_bytes-requires c =
     let bytes = c.args.bytes.now in
     let dots = c.requires.dots in
     let rest = ap length c.split_at.ensures.back in
-    let fits = restored_fits _ (saved_widths bytes) c.args.beam (widths_count bytes) dots.few dots.counted in
+    let fits = restored_fits _ (widths_from_saved_bytes bytes) c.args.beam (widths_count bytes) dots.few dots.counted in
     omega (arith, rest, fits, c.self.invariant.1.room)
 
 pub invariant_of-self : goal.invariant_of-self
@@ -26,7 +26,7 @@ invariant_of-self c =
     let dots = c.requires.dots in
     let count = widths_count bytes in
     let whole : length c.restore_widths.new.widths ≡ a.widths.len = omega (arith, ap length c.as_mut_slice.ensures.value) in
-    let restored = canvas_restored _ c.split_at.result.1.now (saved_widths bytes) c.args.beam c.min-self-inside.result
+    let restored = canvas_restored _ c.split_at.result.1.now (widths_from_saved_bytes bytes) c.args.beam c.min-self-inside.result
     (omega (arith, c.self.invariant.1.room, c.restore_bytes.ensures.capacity)) count dots.few
     (ap length c.split_at.ensures.back ∙ dots.counted) (omega arith) in
     rw (written_back a.widths.len c.restore_widths.new.widths a.widths.items whole, c.restore_widths.ensures, c.restore_bytes.ensures.prefix)
@@ -39,7 +39,7 @@ returns-clause-dots c =
     let bytes = c.args.bytes.now in
     let whole : length c.restore_widths.new.widths ≡ a.widths.len = omega (arith, ap length c.as_mut_slice.ensures.value) in
     rw (written_back a.widths.len c.restore_widths.new.widths a.widths.items whole, c.restore_widths.ensures, c.restore_bytes.ensures.prefix)
-    (ap (stored_dots (saved_widths bytes)) c.split_at.ensures.back)
+    (ap (stored_dots (widths_from_saved_bytes bytes)) c.split_at.ensures.back)
 
 pub returns-clause-drawn : goal.returns-clause-drawn
 returns-clause-drawn c =
@@ -47,4 +47,4 @@ returns-clause-drawn c =
     let bytes = c.args.bytes.now in
     let whole : length c.restore_widths.new.widths ≡ a.widths.len = omega (arith, ap length c.as_mut_slice.ensures.value) in
     rw (written_back a.widths.len c.restore_widths.new.widths a.widths.items whole, c.restore_widths.ensures)
-    (drawn_restored (saved_widths bytes) c.args.beam c.min-self-inside.result c.requires.dots.few (omega arith))
+    (drawn_restored (widths_from_saved_bytes bytes) c.args.beam c.min-self-inside.result c.requires.dots.few (omega arith))

@@ -13,10 +13,10 @@ loop-i-preserved c =
     let i = c.loop-i.i in
     let address = c.args.first + (n - 1 - i) in
     let kept = c.loop-i.invariant in
-    let now = c.get_or_refused.ensures.after in (
+    let now = c.get_or_ff.ensures.after in (
       subst (IsReadOnly h) (sym now) (read_on h s _ kept.0 (read_only s address)),
       next_get_down card_meaning c.args.first i n s _ _ c.loop-i-test.true now kept.1,
       search rules,
-      λ k from below. byte_set_down c.loop-i.bytes n i k c.get_or_refused.result (λ j. byte_at_or_ff h (c.args.first + j)) c.loop-i-test.true kept.2 from below kept.3
-          (c.get_or_refused.ensures.byte ∙ byte_over h s address kept.0),
+      λ k from below. byte_set_down c.loop-i.bytes n i k c.get_or_ff.result (λ j. byte_at_or_ff h (c.args.first + j)) c.loop-i-test.true kept.2 from below kept.3
+          (c.get_or_ff.ensures.byte ∙ byte_over h s address kept.0),
     )

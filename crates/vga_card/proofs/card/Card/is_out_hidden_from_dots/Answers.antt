@@ -18,11 +18,11 @@ returns-in-965 c = λ hidden v.
     let s = c.args.self.now in
     let index = c.seq_index.ensures ∙ ap (λ (x : CardState). x.host.seq_index) c.self.view_is in
     subst (λ p. IsChangeHiddenFromDots s (out_cycle s p v).0) (sym c.in-965.is)
-    (sequencer_data_hidden s v (subst IsBlindSequencer index (sym c.is_hidden_sequencer_register.ensures ∙ hidden)))
+    (sequencer_data_hidden s v (subst IsBlindSequencer index (sym c.is_sequencer_register_hidden_from_dots.ensures ∙ hidden)))
 
 pub returns-in-975 : goal.returns-in-975
 returns-in-975 c = λ hidden v.
     let s = c.args.self.now in
     let index = c.gfx_index.ensures ∙ ap (λ (x : CardState). x.host.gfx_index) c.self.view_is in
     subst (λ p. IsChangeHiddenFromDots s (out_cycle s p v).0) (sym c.in-975.is)
-    (graphics_data_hidden s v (subst IsBlindGraphics index (sym c.is_hidden_graphics_register.ensures ∙ hidden)))
+    (graphics_data_hidden s v (subst IsBlindGraphics index (sym c.is_graphics_register_hidden_from_dots.ensures ∙ hidden)))

@@ -10,7 +10,7 @@ pub loop-i-preserved : goal.loop-i-preserved
 loop-i-preserved c =
     let to = c.args.to + (c.moves_before_windows_end-kept.result - 1 - c.loop-i.i) in
     next_move_down card_meaning c.args.from c.args.to c.loop-i.i c.moves_before_windows_end-kept.result c.loop-i.self c.put.new.self _ c.loop-i-test.true
-    (ap (λ p. p.0) c.put.ensures ∙ (λ j. (put_cycle (c.get_or_refused-byte.ensures.after j) to (c.get_or_refused-byte.ensures.byte j)).0)) c.loop-i.invariant
+    (ap (λ p. p.0) c.put.ensures ∙ (λ j. (put_cycle (c.get_or_ff-byte.ensures.after j) to (c.get_or_ff-byte.ensures.byte j)).0)) c.loop-i.invariant
 
 pub returns : goal.returns
 returns c =

@@ -34,8 +34,8 @@ loop-left-preserved-then-dots_to_line_end-left c =
 pub take_line-requires-clause-before : goal.take_line-requires-clause-before
 take_line-requires-clause-before c = c.loop-left.invariant.2
 
-pub take_and_draw_part-requires-clause-some : goal.take_and_draw_part-requires-clause-some
-take_and_draw_part-requires-clause-some c =
+pub take_and_draw_next_dots_of_line-requires-clause-some : goal.take_and_draw_next_dots_of_line-requires-clause-some
+take_and_draw_next_dots_of_line-requires-clause-some c =
     let a = c.self-in-loop-left.inside in
     let s = c.loop-left.self in
     let count : c.dots_to_line_end-then-is_in_line.result ≡ card_dots_to_line_end s = c.dots_to_line_end-then-is_in_line.ensures.value
@@ -61,10 +61,10 @@ loop-left-preserved-then-is_in_line c =
     let s = c.loop-left.self in
     let n = c.min-part.result in
     let within : n ≤ c.loop-left.left = omega (arith, c.min-part.ensures, c.min.ensures) in
-    let by_dots : c.take_and_draw_part.new.self ≡ dots n s = c.take_and_draw_part.ensures in (
-      part_went c.loop-left.left n s c.take_and_draw_part.new.self _ within by_dots c.loop-left.invariant.0,
+    let by_dots : c.take_and_draw_next_dots_of_line.new.self ≡ dots n s = c.take_and_draw_next_dots_of_line.ensures in (
+      part_went c.loop-left.left n s c.take_and_draw_next_dots_of_line.new.self _ within by_dots c.loop-left.invariant.0,
       c.loop-left.invariant.1
-          ∙ width_kept n s c.take_and_draw_part.new.self by_dots,
+          ∙ width_kept n s c.take_and_draw_next_dots_of_line.new.self by_dots,
       tt,
     )
 

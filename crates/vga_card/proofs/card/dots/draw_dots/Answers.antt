@@ -9,7 +9,7 @@ use Rattle.vga_crtc.specs.Status.{is_display}
 use Rattle.vga_dots.specs.Display.{DisplayState}
 use Rattle.vga_dots.specs.Line.{shown_characters}
 use Rattle.vga_card.specs.Picture.{Dot}
-use Rattle.vga_card.specs.Line.{displayed_part_dots}
+use Rattle.vga_card.specs.Line.{display_dots_among_next_dots}
 use Rattle.vga_card.proofs.FrameLemmas.{wide}
 use Rattle.vga_card.proofs.PartLemmas.{part_cut, hidden_part, is_shown_at, is_hidden_by, count_fits, room_for_part, drawn_part}
 use Rattle.vga_card.proofs.card.dots.draw_dots.Goals as goal
@@ -31,11 +31,11 @@ shown_fits d seen shown n count same e on near many inside few =
 
 -- the shown ones are all that the next n dots draw
 shown_are_all : (d : DisplayState) (n count : ℕ) → IsShownCount d n count
-    → dot_number_in_line (host_width d.host) d.crtc.beam + n ≤ characters d.crtc.registers * host_width d.host → displayed_part_dots count d ≡ displayed_part_dots n d
+    → dot_number_in_line (host_width d.host) d.crtc.beam + n ≤ characters d.crtc.registers * host_width d.host → display_dots_among_next_dots count d ≡ display_dots_among_next_dots n d
 shown_are_all d n count many within = sym (part_cut d (host_width d.host) refl (wide _) count n many within)
 
-pub add_part-requires-clause-room : goal.add_part-requires-clause-room
-add_part-requires-clause-room c =
+pub add_next_dots_of_line-requires-clause-room : goal.add_next_dots_of_line-requires-clause-room
+add_next_dots_of_line-requires-clause-room c =
     let fits = shown_fits c.args.display.now _ _ c.args.n c.displayed_dot_count-count.result c.crtc-crtc.ensures c.is_display.ensures.value c.if-is_display.true
     (c.if-is_display.ensures.character refl) c.displayed_dot_count-count.ensures.value c.requires.inside c.displayed_dot_count-count.ensures.few in
     room_for_part c.args.display.now.crtc.beam c.args.canvas.now.line c.args.canvas.now.width c.displayed_dot_count-count.result c.requires.place fits
@@ -44,18 +44,18 @@ pub returns-then-is_eight_dots-clause-dots : goal.returns-then-is_eight_dots-cla
 returns-then-is_eight_dots-clause-dots c =
     let d = c.args.display.now in
     let whole = c.dots_move_beam_in_line.ensures.count (host_width d.host) d.crtc.registers d.crtc.beam c.requires.inside in
-    c.add_part.ensures.dots ∙ ap (λ (x : List Dot). c.args.canvas.now.dots ++ x)
+    c.add_next_dots_of_line.ensures.dots ∙ ap (λ (x : List Dot). c.args.canvas.now.dots ++ x)
     (shown_are_all d c.args.n c.displayed_dot_count-count.result c.displayed_dot_count-count.ensures.value (omega (arith, whole, c.requires.few)))
 
 pub returns-then-is_eight_dots-clause-place : goal.returns-then-is_eight_dots-clause-place
 returns-then-is_eight_dots-clause-place c =
     let fits = shown_fits c.args.display.now _ _ c.args.n c.displayed_dot_count-count.result c.crtc-crtc.ensures c.is_display.ensures.value c.if-is_display.true
     (c.if-is_display.ensures.character refl) c.displayed_dot_count-count.ensures.value c.requires.inside c.displayed_dot_count-count.ensures.few in
-    drawn_part c.args.display.now.crtc.beam c.args.canvas.now c.add_part.new.self c.args.n c.displayed_dot_count-count.result c.requires.place
-    (omega (arith, c.displayed_dot_count-count.ensures.value)) fits c.add_part.ensures.line c.add_part.ensures.width
+    drawn_part c.args.display.now.crtc.beam c.args.canvas.now c.add_next_dots_of_line.new.self c.args.n c.displayed_dot_count-count.result c.requires.place
+    (omega (arith, c.displayed_dot_count-count.ensures.value)) fits c.add_next_dots_of_line.ensures.line c.add_next_dots_of_line.ensures.width
 
-pub add_part-requires-else-is_eight_dots-clause-room : goal.add_part-requires-else-is_eight_dots-clause-room
-add_part-requires-else-is_eight_dots-clause-room c =
+pub add_next_dots_of_line-requires-else-is_eight_dots-clause-room : goal.add_next_dots_of_line-requires-else-is_eight_dots-clause-room
+add_next_dots_of_line-requires-else-is_eight_dots-clause-room c =
     let fits = shown_fits c.args.display.now _ _ c.args.n c.displayed_dot_count-count.result c.crtc-crtc.ensures c.is_display.ensures.value c.if-is_display.true
     (c.if-is_display.ensures.character refl) c.displayed_dot_count-count.ensures.value c.requires.inside c.displayed_dot_count-count.ensures.few in
     room_for_part c.args.display.now.crtc.beam c.args.canvas.now.line c.args.canvas.now.width c.displayed_dot_count-count.result c.requires.place fits
@@ -64,15 +64,15 @@ pub returns-else-is_eight_dots-clause-dots : goal.returns-else-is_eight_dots-cla
 returns-else-is_eight_dots-clause-dots c =
     let d = c.args.display.now in
     let whole = c.dots_move_beam_in_line.ensures.count (host_width d.host) d.crtc.registers d.crtc.beam c.requires.inside in
-    c.add_part-else-is_eight_dots.ensures.dots ∙ ap (λ (x : List Dot). c.args.canvas.now.dots ++ x)
+    c.add_next_dots_of_line-else-is_eight_dots.ensures.dots ∙ ap (λ (x : List Dot). c.args.canvas.now.dots ++ x)
     (shown_are_all d c.args.n c.displayed_dot_count-count.result c.displayed_dot_count-count.ensures.value (omega (arith, whole, c.requires.few)))
 
 pub returns-else-is_eight_dots-clause-place : goal.returns-else-is_eight_dots-clause-place
 returns-else-is_eight_dots-clause-place c =
     let fits = shown_fits c.args.display.now _ _ c.args.n c.displayed_dot_count-count.result c.crtc-crtc.ensures c.is_display.ensures.value c.if-is_display.true
     (c.if-is_display.ensures.character refl) c.displayed_dot_count-count.ensures.value c.requires.inside c.displayed_dot_count-count.ensures.few in
-    drawn_part c.args.display.now.crtc.beam c.args.canvas.now c.add_part-else-is_eight_dots.new.self c.args.n c.displayed_dot_count-count.result c.requires.place
-    (omega (arith, c.displayed_dot_count-count.ensures.value)) fits c.add_part-else-is_eight_dots.ensures.line c.add_part-else-is_eight_dots.ensures.width
+    drawn_part c.args.display.now.crtc.beam c.args.canvas.now c.add_next_dots_of_line-else-is_eight_dots.new.self c.args.n c.displayed_dot_count-count.result c.requires.place
+    (omega (arith, c.displayed_dot_count-count.ensures.value)) fits c.add_next_dots_of_line-else-is_eight_dots.ensures.line c.add_next_dots_of_line-else-is_eight_dots.ensures.width
 
 pub returns-else-is_display-clause-dots : goal.returns-else-is_display-clause-dots
 returns-else-is_display-clause-dots c =

@@ -6,7 +6,7 @@ use Rattle.vga_crtc.specs.Crtc.{CrtcState}
 use Rattle.vga_crtc.specs.Status.{is_display}
 use Rattle.vga_dots.specs.Line.{shown_characters}
 use Rattle.vga_card.specs.Picture.{Dot}
-use Rattle.vga_card.specs.Repeat.{last_dots_on_line}
+use Rattle.vga_card.specs.Repeat.{last_dots_moved_to_line}
 use Rattle.vga_card.proofs.FrameLemmas.{wide}
 use Rattle.vga_card.proofs.RowLemmas.{hidden_line, is_hidden, is_shown}
 use Rattle.vga_card.proofs.RepeatLemmas.{line_again}
@@ -37,7 +37,7 @@ returns-then-is_display-clause-dots c =
     let count : n ≡ shown_characters k.registers * host_width d.host =
     ap (λ (m : ℕ). m * width) (c.shown_characters-count.ensures.value ∙ ap shown_characters (c.fields.ensures ∙ ap (λ (x : CrtcState). x.registers)
     c.crtc-crtc.ensures)) ∙ ap (λ (m : ℕ). shown_characters k.registers * m) (c.character_width-width.ensures.value ∙ ap host_width c.host.ensures) in
-    c.repeat.ensures.dots ∙ ap (λ (b : Beam). old ++ last_dots_on_line b.line n old) c.beam.ensures.value
+    c.repeat.ensures.dots ∙ ap (λ (b : Beam). old ++ last_dots_moved_to_line b.line n old) c.beam.ensures.value
     ∙ ap (λ (x : List Dot). old ++ x)
     (line_again c.graphics_lines_depend_on_counter.ensures d c.args.before c.requires.again shown old n c.requires.ends count).1
 

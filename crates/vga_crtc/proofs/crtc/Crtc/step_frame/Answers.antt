@@ -12,7 +12,7 @@ unfolding after_dots
 returns c = λ cw some.
     let a = c.self.inside in
     let old : CrtcState = record { registers = a.registers; index = a.index; beam = a.beam } in
-    let new : CrtcState = record old { beam = c.first_dot-self-inside.result } in
+    let new : CrtcState = record old { beam = c.first_dot_of_frame-self-inside.result } in
     let there : new ≡ after_dots old cw (dots_to_frame_end cw old.registers old.beam) =
-    ap (λ (b : Beam). record old { beam = b }) (c.first_dot-self-inside.ensures ∙ sym (frame_ends cw old.registers old.beam some).next) in
+    ap (λ (b : Beam). record old { beam = b }) (c.first_dot_of_frame-self-inside.ensures ∙ sym (frame_ends cw old.registers old.beam some).next) in
     subst (λ (s : CrtcState). new ≡ after_dots s cw (dots_to_frame_end cw s.registers s.beam)) c.self.view_is there

@@ -38,6 +38,6 @@ returns-clause-look c =
           ground_colour fore back colour (field attribute 3 0) (background d.attr cell) is_fore (is_back character)
           (is_blinked_away d.crtc d.attr cell) (is_underlined d.crtc d.attr cell) _ (pair character);
       glyphs = λ character. row_of_glyph d.host d.crtc d.attr line is (cell_of attribute character) _
-          (ap (λ (g : ℕ). g + 32 * character) c.glyphs_of.ensures);
-      bound = glyphs_bound (is_set attribute 3) line.map_a line.map_b _ c.requires.glyphs.map_a c.requires.glyphs.map_b c.glyphs_of.ensures;
+          (ap (λ (g : ℕ). g + 32 * character) c.row_address_of_first_glyph.ensures);
+      bound = glyphs_bound (is_set attribute 3) line.map_a line.map_b _ c.requires.glyphs.map_a c.requires.glyphs.map_b c.row_address_of_first_glyph.ensures;
     }

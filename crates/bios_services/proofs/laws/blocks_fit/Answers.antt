@@ -1,8 +1,0 @@
-use Rattle.bios_services.proofs.BlockLemmas.{blocks_fit, others_are_refused}
-use Rattle.bios_services.proofs.laws.blocks_fit.Goals as goal
-
-pub returns-clause-fit : goal.returns-clause-fit
-returns-clause-fit g c = blocks_fit g.B.Bus.meaning
-
-pub returns-clause-others : goal.returns-clause-others
-returns-clause-others g c = others_are_refused g.B.Bus.meaning

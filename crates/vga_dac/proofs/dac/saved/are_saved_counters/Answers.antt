@@ -1,8 +1,0 @@
-use Rattle.std.proofs.Common.{rules}
-use Rattle.vga_dac.proofs.dac.saved.are_saved_counters.Goals as goal
-
-pub returns-then-bytes-le-COMPONENT_MASK : goal.returns-then-bytes-le-COMPONENT_MASK
-returns-then-bytes-le-COMPONENT_MASK c = search rules
-
-pub returns-else-bytes-le-COMPONENT_MASK : goal.returns-else-bytes-le-COMPONENT_MASK
-returns-else-bytes-le-COMPONENT_MASK c = search rules
