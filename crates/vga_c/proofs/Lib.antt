@@ -12,3 +12,4 @@ pub mod ScreenLemmas
 pub mod CardsMove
 pub mod ColourLemmas
 pub mod NumberLemmas
+pub mod UpdateLemmas

@@ -26,3 +26,4 @@ pub mod Steps
 pub mod Version
 pub mod Timing
 pub mod Transfers
+pub mod Updates

@@ -81,7 +81,7 @@ pub(crate) fn write_row_of_words(
 }
 
 /// How many of n there are if every m-th is taken, from the first on.
-fn div_ceil(n: u32, m: u32) -> u32
+pub(crate) fn div_ceil(n: u32, m: u32) -> u32
     requires some { 0 < m }
     requires few { n + m ≤ 0x1_0000_0000 }
     ensures { result ≡ div_ceil_of n m }
@@ -127,7 +127,7 @@ pub(crate) fn write_rows(
 }
 
 /// The form that flags ask for.
-fn form_of(flags: u32, card: &Card) -> Form
+pub(crate) fn form_of(flags: u32, card: &Card) -> Form
     ensures value { result ≡ form_of_flags flags card.now }
     ensures form { IsForm result }
 {

@@ -35,4 +35,5 @@ mod steps;
 mod texts;
 mod timing;
 mod transfers;
+mod updates;
 mod version;
