@@ -8,6 +8,7 @@ valgrind are needed.
 
 from __future__ import annotations
 
+import os
 import re
 import subprocess
 import sys
@@ -22,6 +23,11 @@ FONTS = TOP / "fonts" / "zaklimot.fnt"
 COUNTED = re.compile(r"Collected : (\d+)")
 # A time is that of the best of so many runs.
 RUNS = 3
+# glibc copies and fills long blocks by one instruction, `rep movsb` or `rep stosb`, of which valgrind
+# counts each byte as an instruction. Below these thresholds it takes vector instructions instead.
+VECTOR_COPIES = ":".join(
+    f"glibc.cpu.x86_rep_{copies}_threshold={1 << 30}" for copies in ("movsb", "stosb")
+)
 
 
 class Call(NamedTuple):
@@ -114,7 +120,9 @@ def instructions(program: Path, call: Call, times: int, folder: Path) -> int:
     """How many instructions a run takes that makes a call so often."""
     tool = ["valgrind", "--tool=callgrind", f"--callgrind-out-file={folder / 'counted'}"]
     words = [*tool, str(program), str(FONTS), call.mode, call.name, str(times)]
-    said = subprocess.run(words, capture_output=True, check=True).stderr.decode("ascii", "replace")
+    environment = {**os.environ, "GLIBC_TUNABLES": VECTOR_COPIES}
+    run = subprocess.run(words, capture_output=True, check=True, env=environment)
+    said = run.stderr.decode("ascii", "replace")
     counted = COUNTED.search(said)
     assert counted is not None, said
     return int(counted[1])

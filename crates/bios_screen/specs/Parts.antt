@@ -55,7 +55,7 @@ cells_or_pixels_of_mode mode l cells pixels = if is_text mode then Cells cells
 
 -- the layout fits the numbers of cells and pixels: in text the pages lie one after another within
 -- the cells; in graphics the pages have all the pixels
-pub record LayoutFitsContents (mode : ℕ) (l : Layout) (cell_number pixel_number : ℕ) : Type 0 where
+pub record LayoutFitsContents (mode : ℕ) (l : Layout) (cell_number_at pixel_number : ℕ) : Type 0 where
   pub page : is_text mode ≡ true → l.columns * l.rows ≤ l.distance
-  pub cells : is_text mode ≡ true → l.distance * l.pages ≤ cell_number
+  pub cells : is_text mode ≡ true → l.distance * l.pages ≤ cell_number_at
   pub pixels : is_text mode ≡ false → pixel_number ≡ pixel_count l * l.pages

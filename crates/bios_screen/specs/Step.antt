@@ -24,7 +24,7 @@ use Rattle.bios_services.specs.declared.call.Service.TheVariants.{WriteString, R
 use Rattle.bios_modes.specs.Kinds.{is_mode_of_256_colours}
 use Rattle.bios_modes.specs.Palette.{is_monochrome_mode}
 use Rattle.bios_services.specs.Registers.{low, with_low}
-use Rattle.bios_services.specs.Scroll.{window_clipped_to_page, whole_page, rows_to_scroll}
+use Rattle.bios_services.specs.Scroll.{window_clipped_to_page, whole_page, scroll_distance}
 use Rattle.bios_services.specs.Teletype.{position_at_start_of_row, pixel_colouring}
 use Rattle.bios_services.specs.Strings.{character_at, colouring_of_character}
 use Rattle.bios_services.specs.Colours.{colour_refusal_besides_block}
@@ -255,15 +255,15 @@ scroll_window s page w direction n fill =
     (scroll_pixels s w direction n fill)
 
 -- a window of the active page scrolls; without a window nothing happens
-abbrev pub scroll_asked : Screen → Scroll → Direction → Option Window → Screen
-scroll_asked s asked direction None = s
-scroll_asked s asked direction (Some w) =
-    scroll_window s s.page w direction (rows_to_scroll w asked.lines) asked.fill
+abbrev pub after_scroll_of_window : Screen → Scroll → Direction → Option Window → Screen
+after_scroll_of_window s asked direction None = s
+after_scroll_of_window s asked direction (Some w) =
+    scroll_window s s.page w direction (scroll_distance w asked.lines) asked.fill
 
 -- the window that a call names scrolls on the active page
 abbrev pub scroll : Screen → Scroll → Direction → Screen
 scroll s asked direction =
-    scroll_asked s asked direction (window_clipped_to_page s.layout.rows s.layout.columns asked)
+    after_scroll_of_window s asked direction (window_clipped_to_page s.layout.rows s.layout.columns asked)
 
 -- a page goes up by a row
 abbrev pub page_up : Screen → ℕ → ℕ → Screen

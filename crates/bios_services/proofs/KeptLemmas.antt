@@ -28,12 +28,12 @@ use Rattle.bios_services.specs.Plan.{Plan, Done, Write, Read, ◌>>=◌, ◌>>�
 use Rattle.bios_services.specs.Registers.{high, low}
 use Rattle.bios_services.specs.Bounds.{IsModeSet, page_count}
 use Rattle.bios_services.specs.Data.{AreValidData}
-use Rattle.bios_services.specs.Cursor.{row_of_position, column_of_position, cell_number, cursor_position_of, with_position, with_page, start_address, write_crtc_word_plan, show_cursor_plan, move_cursor_plan}
+use Rattle.bios_services.specs.Cursor.{row_of_position, column_of_position, cell_number_at, cursor_position_of, with_position, with_page, start_address, write_crtc_word_plan, show_cursor_plan, move_cursor_plan}
 use Rattle.bios_services.specs.Cursor.{cursor_type_plan, show_page_plan}
 use Rattle.bios_services.specs.declared.direction.Direction.TheVariants.{Up, Down}
 use Rattle.bios_services.specs.Drawing.{character_plan}
 use Rattle.bios_services.specs.CellRuns.{cell_run_plan}
-use Rattle.bios_services.specs.Scroll.{page_up_plan, scroll_plan}
+use Rattle.bios_services.specs.Scroll.{scroll_page_up_by_a_row_plan, scroll_plan}
 use Rattle.bios_services.specs.Pixels.{write_pixel_plan}
 use Rattle.bios_services.specs.Teletype.{position_at_start_of_row, pixel_colouring, line_feed_fill, line_feed_plan, next_position_plan, write_and_advance_plan, type_character_plan, teletype_plan}
 use Rattle.bios_services.specs.Strings.{string_block_len, character_at, colouring_of_character, type_string_plan, string_plan}
@@ -95,8 +95,8 @@ unfolding line_feed_plan
 fed_near d page position few near =
     on_if IsNear (nat_lt (row_of_position position) d.last_row) (Done (position + 256)) _
     (λ e. let l = lt_is (row_of_position position) d.last_row e in omega arith)
-    (λ e. then_always IsNear (line_feed_fill d page position) (λ colour. page_up_plan d page colour >> Done position)
-    (λ colour. then_always IsNear (page_up_plan d page colour) (λ _. Done position) (λ _. near)))
+    (λ e. then_always IsNear (line_feed_fill d page position) (λ colour. scroll_page_up_by_a_row_plan d page colour >> Done position)
+    (λ colour. then_always IsNear (scroll_page_up_by_a_row_plan d page colour) (λ _. Done position) (λ _. near)))
 
 start_near : (position : ℕ) → IsNear position → IsNear (position_at_start_of_row position)
 start_near position near = omega arith
@@ -120,7 +120,7 @@ typed_near fonts d page position character colouring few narrow near =
     (λ _. on_if IsNear (character == 0x08) (Done (if column_of_position position == 0 then position else position - 1)) _ (λ _. back_near position (column_of_position position == 0) near)
     (λ _. on_if IsNear (character == 0x0A) (line_feed_plan d page position) _ (λ _. fed_near d page position few near)
     (λ _. on_if IsNear (character == 0x0D) (Done (position_at_start_of_row position)) _ (λ _. start_near position near)
-    (λ _. then_always IsNear (character_plan fonts d page (cell_number d position) character colouring) (λ _. next_position_plan d page position) (λ _.
+    (λ _. then_always IsNear (character_plan fonts d page (cell_number_at d position) character colouring) (λ _. next_position_plan d page position) (λ _.
     advanced_near d page position few narrow near)))))
 
 -- ---- BIOS data

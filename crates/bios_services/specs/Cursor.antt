@@ -19,8 +19,8 @@ abbrev pub column_of_position : ℕ → ℕ
 column_of_position position = position % 256
 
 -- the number of the cell at a position, counted along the rows of its page
-abbrev pub cell_number : BiosData → ℕ → ℕ
-cell_number d position = d.columns * row_of_position position + column_of_position position
+abbrev pub cell_number_at : BiosData → ℕ → ℕ
+cell_number_at d position = d.columns * row_of_position position + column_of_position position
 
 -- the cursor's position on a page
 abbrev pub cursor_position_of : BiosData → ℕ → ℕ
@@ -28,7 +28,7 @@ cursor_position_of d page = slice_index d.cursor_places page
 
 -- the number of the cell at the cursor of a page
 abbrev pub cursor_cell_number : BiosData → ℕ → ℕ
-cursor_cell_number d page = cell_number d (cursor_position_of d page)
+cursor_cell_number d page = cell_number_at d (cursor_position_of d page)
 
 -- a word goes to two registers of the CRT controller, the high byte to register i
 unfoldable pub write_crtc_word_plan : ℕ → ℕ → ℕ → Plan (Unit {0})
@@ -38,7 +38,7 @@ write_crtc_word_plan port i n = do
 
 -- the number of the cell under the cursor of a page, as the CRT controller counts cells
 abbrev pub cursor_address : BiosData → ℕ → ℕ
-cursor_address d page = d.size * page / 2 + cell_number d (cursor_position_of d page)
+cursor_address d page = d.size * page / 2 + cell_number_at d (cursor_position_of d page)
 
 -- the CRT controller gets the cursor of a page, if that is the active page of a text mode
 unfoldable pub show_cursor_plan : BiosData → ℕ → Plan (Unit {0})

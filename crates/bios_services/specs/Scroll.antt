@@ -36,8 +36,8 @@ pub record IsOnPage (rows columns : ℕ) (window : Window) : Type 0 where
   pub some : 0 < window.height
 
 -- by how many rows a window goes up or down: by all of them for 0 or for more than it has
-abbrev pub rows_to_scroll : Window → ℕ → ℕ
-rows_to_scroll window asked =
+abbrev pub scroll_distance : Window → ℕ → ℕ
+scroll_distance window asked =
     if (asked == 0) || nat_lt window.height asked then window.height else asked
 
 -- a window of a page goes up or down by n rows, and the n rows that it leaves are filled
@@ -47,15 +47,15 @@ scroll_window_plan d page window direction n colour =
     colour
 
 -- a page goes up by a row
-abbrev pub page_up_plan : BiosData → ℕ → ℕ → Plan (Unit {0})
-page_up_plan d page colour =
+abbrev pub scroll_page_up_by_a_row_plan : BiosData → ℕ → ℕ → Plan (Unit {0})
+scroll_page_up_by_a_row_plan d page colour =
     scroll_window_plan d page (whole_page (d.last_row + 1) d.columns) Up 1 colour
 
 -- a window of the active page goes up or down; without a window nothing happens
 abbrev pub scroll_window_if_any : BiosData → Scroll → Direction → Option Window → Plan (Unit {0})
 scroll_window_if_any d s direction None = Done tt
 scroll_window_if_any d s direction (Some window) =
-    scroll_window_plan d d.page window direction (rows_to_scroll window s.lines) s.fill
+    scroll_window_plan d d.page window direction (scroll_distance window s.lines) s.fill
 
 -- 06 and 07: the window that a call names goes up or down on the active page
 unfoldable pub scroll_plan : BiosData → Scroll → Direction → Plan (Unit {0})

@@ -6,10 +6,10 @@ use Rattle.bios_modes.specs.Fonts.{FontSet}
 use Rattle.bios_services.specs.declared.colouring.Colouring.{Colouring}
 use Rattle.bios_services.specs.Plan.{Plan, Done, ◌>>=◌, ◌>>◌, get}
 use Rattle.bios_modes.specs.Kinds.{is_text}
-use Rattle.bios_services.specs.Cursor.{row_of_position, column_of_position, cell_number, cursor_position_of}
+use Rattle.bios_services.specs.Cursor.{row_of_position, column_of_position, cell_number_at, cursor_position_of}
 use Rattle.bios_services.specs.Cursor.{move_cursor_plan}
 use Rattle.bios_services.specs.Cells.{cell_address}
-use Rattle.bios_services.specs.Scroll.{page_up_plan}
+use Rattle.bios_services.specs.Scroll.{scroll_page_up_by_a_row_plan}
 use Rattle.bios_services.specs.Drawing.{character_plan}
 
 -- the position of the first column of a row
@@ -30,7 +30,7 @@ line_feed_plan d page position =
     if nat_lt (row_of_position position) d.last_row then Done (position + 256)
     else (do
       colour ← line_feed_fill d page position
-      page_up_plan d page colour
+      scroll_page_up_by_a_row_plan d page colour
       Done position)
 
 -- the answer is the position after this one: the next column, or the first column of the row below,
@@ -45,7 +45,7 @@ next_position_plan d page position =
 -- a character is written at a position; the answer is the position after it
 unfoldable pub write_and_advance_plan : FontSet → BiosData → ℕ → ℕ → ℕ → Colouring → Plan ℕ
 write_and_advance_plan fonts d page position character colouring = do
-  character_plan fonts d page (cell_number d position) character colouring
+  character_plan fonts d page (cell_number_at d position) character colouring
   next_position_plan d page position
 
 -- a character is typed at a position; the answer is the position afterwards. A bell does nothing; a

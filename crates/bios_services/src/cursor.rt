@@ -3,7 +3,7 @@ ghost use Rattle.std.specs.Prelude.{◌≡◌, ◌<◌, ◌≤◌, ◌+◌, ◌*
 ghost use Rattle.bios_services.specs.Plan.{run};
 ghost use Rattle.bios_services.specs.Bounds.{IsModeSet, StaysInMode, page_count, furthest_cell_number};
 ghost use Rattle.bios_services.specs.Bounds.{ports_bound};
-ghost use Rattle.bios_services.specs.Cursor.{cell_number as cell_number_of};
+ghost use Rattle.bios_services.specs.Cursor.{cell_number_at as cell_number_of};
 ghost use Rattle.bios_services.specs.Cursor.{cursor_cell_number as cursor_cell_number_of};
 ghost use Rattle.bios_services.specs.Cursor.{write_crtc_word_plan};
 ghost use Rattle.bios_services.specs.Cursor.{cursor_address as cursor_address_of, show_cursor_plan};
@@ -15,7 +15,7 @@ use bios_modes::{Bda, is_text};
 use vga_card::Bus;
 
 /// The number of the cell at a position, counted along the rows of its page.
-pub(crate) fn cell_number(bda: &Bda, position: u16) -> u32
+pub(crate) fn cell_number_at(bda: &Bda, position: u16) -> u32
     requires { IsModeSet bda.now }
     ensures value { result ≡ cell_number_of bda.now position }
     ensures small { result ≤ furthest_cell_number }
@@ -30,7 +30,7 @@ pub(crate) fn cursor_cell_number(bda: &Bda, page: u8) -> u32
     ensures value { result ≡ cursor_cell_number_of bda.now page }
     ensures small { result ≤ furthest_cell_number }
 {
-    cell_number(bda, bda.cursor_place(page as usize))
+    cell_number_at(bda, bda.cursor_place(page as usize))
 }
 
 /// Writes a word to two registers of the CRT controller, the high byte to register i.
@@ -52,7 +52,7 @@ fn cursor_address(bda: &Bda, page: u8) -> u16
     ensures { result ≡ cursor_address_of bda.now page }
 {
     let start = bda.size() as u32 * page as u32 / 2;
-    (start + cell_number(bda, bda.cursor_place(page as usize))) as u16
+    (start + cell_number_at(bda, bda.cursor_place(page as usize))) as u16
 }
 
 /// Gives the CRT controller the cursor of a page, if that is the active page of a text mode.

@@ -2,7 +2,7 @@
 ghost use Rattle.std.specs.Prelude.{◌≡◌, ◌<◌, ◌≤◌, ◌+◌, IfSome};
 ghost use Rattle.bios_services.specs.Plan.{run};
 ghost use Rattle.bios_services.specs.Bounds.{IsModeSet, page_count};
-ghost use Rattle.bios_services.specs.Scroll.{IsOnPage, window_clipped_to_page, rows_to_scroll};
+ghost use Rattle.bios_services.specs.Scroll.{IsOnPage, window_clipped_to_page, scroll_distance};
 ghost use Rattle.bios_services.specs.Scroll.{whole_page as whole_page_of};
 ghost use Rattle.bios_services.specs.Scroll.{scroll_window_plan, scroll_plan};
 
@@ -50,7 +50,7 @@ impl Window {
 
     /// By how many rows the window goes if a call asks for this number.
     fn lines(self, asked: u8) -> u32
-        ensures value { result ≡ rows_to_scroll self asked }
+        ensures value { result ≡ scroll_distance self asked }
         ensures few { result ≤ self.height }
     {
         let lines = asked as u32;

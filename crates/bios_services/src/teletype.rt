@@ -10,7 +10,7 @@ ghost use Rattle.bios_services.specs.Teletype.{type_character_plan, teletype_pla
 
 use crate::cells::cell_address;
 use crate::colouring::Colouring;
-use crate::cursor::{cell_number, move_cursor};
+use crate::cursor::{cell_number_at, move_cursor};
 use crate::cycles::get;
 use crate::direction::Direction;
 use crate::drawing::write_character;
@@ -113,7 +113,7 @@ pub(crate) fn type_character<B: Bus>(
         LINE_FEED => position_after_line_feed(bus, page.bda(), page.number(), position),
         CARRIAGE_RETURN => position / 256 * 256,
         _ => {
-            let q = cell_number(page.bda(), position);
+            let q = cell_number_at(page.bda(), position);
             write_character(bus, page, q, character, colouring);
             next_position(bus, page.bda(), page.number(), position)
         }

@@ -3,7 +3,7 @@ use Rattle.std.proofs.Common.{◌≡◌, ℕ, ◌≤◌, List, length, Ok, Err, 
 use Rattle.vga_script.specs.ScriptBytes.{BytesWritten}
 use Rattle.vga_run.specs.declared.cycle_list.Unlisted.{Unlisted}
 use Rattle.vga_run.specs.declared.machine.Machine.{Machine}
-use Rattle.vga_run.specs.CycleList.{listed_bytes, IsCycleList, IsUnlisted}
+use Rattle.vga_run.specs.CycleList.{script_of_call_cycles, IsCycleList, IsUnlisted}
 use Rattle.vga_c.specs.declared.services.CallRegisters.{CallRegisters}
 use Rattle.vga_c.specs.Buffers.{IsCopied}
 use Rattle.vga_c.specs.CallCycles.{regs_of, list_output, unlisted_status, AreCyclesListed}
@@ -13,7 +13,7 @@ pub listed : (m : Machine) (registers : CallRegisters) (block bytes new : List �
     ((all : List ℕ) → script.len ≡ length all → (script.len ≤ length bytes → script.bytes ≡ all) → IsCopied all bytes new after status) →
     AreCyclesListed m registers block (list_output bytes len) (list_output new after) status
 listed m registers block bytes new len after status script is copied =
-    (Ok (listed_bytes m (regs_of registers) block), (refl, is.spelled, is.done), copied (listed_bytes m (regs_of registers) block) is.counted is.kept)
+    (Ok (script_of_call_cycles m (regs_of registers) block), (refl, is.spelled, is.done), copied (script_of_call_cycles m (regs_of registers) block) is.counted is.kept)
 
 pub unlisted : (m : Machine) (registers : CallRegisters) (block bytes : List ℕ) (len status : ℕ) (why : Unlisted) →
     IsUnlisted m (regs_of registers) block why → status ≡ unlisted_status why →

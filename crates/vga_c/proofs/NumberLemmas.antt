@@ -5,7 +5,7 @@ use Rattle.std.proofs.lemmas.List.{get_or-set_same, get_or-set_other}
 use Rattle.std.proofs.lemmas.Bool.{cases_lt}
 use Rattle.vga_c.specs.declared.palette.Palette.{Palette}
 use Rattle.vga_bits.proofs.ByteLemmas.{zeros_at}
-use Rattle.vga_c.specs.Palette.{no_colours, AreDotsNumbered, HasColourNumbered, HaveTooManyColours, LacksColour}
+use Rattle.vga_c.specs.Palette.{no_colours, AreDotsNumbered, HasColourNumbered, HaveTooManyColours, NoNumberHasColour}
 
 module _ (i n : ℕ) (colour : ℕ → ℕ) (p q : Palette) (numbers : List ℕ) (so_far : AreDotsNumbered i colour p numbers)
     (done : HasColourNumbered p q n (colour i)) (room : i < length numbers) where
@@ -56,7 +56,7 @@ module _ (i n : ℕ) (colour : ℕ → ℕ) (p q : Palette) (numbers : List ℕ)
   }
 
 pub too_many : (i count : ℕ) (colour : ℕ → ℕ) (p : Palette) (numbers : List ℕ) → AreDotsNumbered i colour p numbers → i < count →
-    p.len ≡ 256 → LacksColour p (colour i) → HaveTooManyColours count colour
+    p.len ≡ 256 → NoNumberHasColour p (colour i) → HaveTooManyColours count colour
 too_many i count colour p numbers so_far within full lacks = record {
   palette = p;
   full = full;

@@ -7,12 +7,12 @@ use Rattle.vga_script.specs.Spelling.{Spells}
 use Rattle.vga_run.specs.declared.cycle_list.Unlisted.{Unlisted}
 use Rattle.vga_run.specs.declared.cycle_list.Unlisted.TheVariants.{Refused, TooLong, OutOfMemory}
 use Rattle.vga_run.specs.declared.machine.Machine.{Machine}
-use Rattle.vga_run.specs.CycleList.{cycles_of_call, listed_bytes, IsUnlisted}
+use Rattle.vga_run.specs.CycleList.{cycles_of_call, script_of_call_cycles, IsUnlisted}
 use Rattle.vga_run.specs.Step.{after_int10}
 use Rattle.vga_c.specs.declared.services.CallRegisters.{CallRegisters}
 use Rattle.vga_c.specs.Buffers.{IsCopied}
 use Rattle.vga_c.specs.Handle.{HandleState, machine_after_owed_dots}
-use Rattle.vga_c.specs.Status.{out_of_memory_status, refusal_status, too_long_status}
+use Rattle.vga_c.specs.Status.{out_of_memory_status, refusal_status, script_too_long_status}
 
 -- the registers of a call, as the services see them
 abbrev pub regs_of : CallRegisters → Regs
@@ -30,13 +30,13 @@ list_output bytes len = record { bytes = bytes; len = len }
 -- the status that says why there is no list
 abbrev pub unlisted_status : Unlisted → ℕ
 unlisted_status (Refused why) = refusal_status why
-unlisted_status TooLong = too_long_status
+unlisted_status TooLong = script_too_long_status
 unlisted_status OutOfMemory = out_of_memory_status
 
 -- the bytes that list the cycles of a call that is not refused: they spell the script of the
 -- cycles; or why there are none
 abbrev pub IsOutcomeOfList : Machine → Regs → List ℕ → Result (List ℕ) Unlisted → Type 0
-IsOutcomeOfList m regs block (Ok bytes) = (bytes ≡ listed_bytes m regs block)
+IsOutcomeOfList m regs block (Ok bytes) = (bytes ≡ script_of_call_cycles m regs block)
     × Spells bytes (script_of_steps (cycles_of_call m regs block))
     × IsOk (after_int10 m regs.ax regs.bx regs.cx regs.dx block).1.0
 IsOutcomeOfList m regs block (Err why) = IsUnlisted m regs block why

@@ -3,7 +3,7 @@ use Rattle.std.specs.Prelude.{◌≡◌, ℕ, List, Result, Ok, Err}
 use Rattle.vga_bits.specs.declared.fault.Fault.{Fault}
 use Rattle.vga_bits.specs.declared.fault.Fault.TheVariants as fault
 use Rattle.vga_c.specs.Buffers.{IsCopied}
-use Rattle.vga_c.specs.Status.{font_size_status, out_of_memory_status, too_long_status}
+use Rattle.vga_c.specs.Status.{font_size_status, out_of_memory_status, script_too_long_status}
 
 -- the status of a fault: that of the same reason in other calls, or 100 plus the fault's number
 abbrev pub fault_status : Fault → ℕ
@@ -12,7 +12,7 @@ fault_status fault.BadMagic = 102
 fault_status fault.BadVersion = 103
 fault_status (fault.BadStep place) = 104
 fault_status (fault.Truncated place) = 105
-fault_status fault.TooLong = too_long_status
+fault_status fault.TooLong = script_too_long_status
 fault_status (fault.BadLine line) = 107
 fault_status fault.ReadFault = 108
 fault_status fault.WriteFault = out_of_memory_status

@@ -13,8 +13,8 @@ HasColoursOnce p = (j k : ℕ) → j < k → k < p.len →
     ¬ (slice_index p.colours j ≡ slice_index p.colours k)
 
 -- no number of a palette has this colour
-abbrev pub LacksColour : Palette → ℕ → Type 0
-LacksColour p colour = (k : ℕ) → k < p.len → ¬ (slice_index p.colours k ≡ colour)
+abbrev pub NoNumberHasColour : Palette → ℕ → Type 0
+NoNumberHasColour p colour = (k : ℕ) → k < p.len → ¬ (slice_index p.colours k ≡ colour)
 
 -- a palette has one colour more, with the next number
 pub record HasColourAdded (old new : Palette) (n colour : ℕ) : Type 0 where
@@ -57,4 +57,4 @@ pub record HaveTooManyColours (count : ℕ) (colour : ℕ → ℕ) : Type 0 wher
   pub once : HasColoursOnce palette
   pub of_dots : (k : ℕ) → k < palette.len →
       (i : ℕ) × (i < count) × (colour i ≡ slice_index palette.colours k)
-  pub other : (i : ℕ) × (i < count) × LacksColour palette (colour i)
+  pub other : (i : ℕ) × (i < count) × NoNumberHasColour palette (colour i)

@@ -78,5 +78,5 @@ abbrev pub many_colours_status : ℕ
 many_colours_status = 35
 
 -- a script would have more bytes than a script may have
-abbrev pub too_long_status : ℕ
-too_long_status = 106
+abbrev pub script_too_long_status : ℕ
+script_too_long_status = 106

@@ -30,8 +30,8 @@ abbrev pub GivesAssembledBytes : List ℕ → ScriptOutput → ScriptOutput → 
 GivesAssembledBytes text = HasOutcomeWithProperty (IsAssembledScriptOrFault text)
 
 -- the bytes spell a script, and this is its printed text
-abbrev pub IsPrinted : List ℕ → List ℕ → Type 0
-IsPrinted bytes text = (length bytes ≤ script_limit)
+abbrev pub IsPrintedTextOfScript : List ℕ → List ℕ → Type 0
+IsPrintedTextOfScript bytes text = (length bytes ≤ script_limit)
     × ((script : ScriptItems) × Spells bytes script × (text ≡ printed_script script))
 
 -- the first fault of some bytes; or an allocation failed
@@ -39,10 +39,10 @@ abbrev pub IsFaultOfBytes : List ℕ → Fault → Type 0
 IsFaultOfBytes bytes why = (why ≡ OutOfMemory) ⊎ IsFault bytes why
 
 -- the printed text of the script that bytes spell, or the first fault
-abbrev pub IsPrintedTextOrFault : List ℕ → Result (List ℕ) Fault → Type 0
-IsPrintedTextOrFault bytes (Ok text) = IsPrinted bytes text
-IsPrintedTextOrFault bytes (Err why) = IsFaultOfBytes bytes why
+abbrev pub IsPrintedTextOfScriptOrFault : List ℕ → Result (List ℕ) Fault → Type 0
+IsPrintedTextOfScriptOrFault bytes (Ok text) = IsPrintedTextOfScript bytes text
+IsPrintedTextOfScriptOrFault bytes (Err why) = IsFaultOfBytes bytes why
 
 -- the output has the bytes of a text's script, or the status and the place of the first fault
 abbrev pub GivesPrintedText : List ℕ → ScriptOutput → ScriptOutput → ℕ → Type 0
-GivesPrintedText bytes = HasOutcomeWithProperty (IsPrintedTextOrFault bytes)
+GivesPrintedText bytes = HasOutcomeWithProperty (IsPrintedTextOfScriptOrFault bytes)

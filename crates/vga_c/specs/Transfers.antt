@@ -31,8 +31,8 @@ card_after_moves down from to n c =
 
 -- a machine's adapter is left as these cycles leave it, if their addresses fit in 32 bits;
 -- otherwise the machine stays as it is, and the status says so
-abbrev pub IsMachineAfterTransfer : Bool → (CardState → CardState) → Machine → Machine → ℕ → Type 0
-IsMachineAfterTransfer are_some after old new status =
+abbrev pub IsMachineAfterTransferIfAddressesFit : Bool → (CardState → CardState) → Machine → Machine → ℕ → Type 0
+IsMachineAfterTransferIfAddressesFit are_some after old new status =
     (are_some ≡ true → (new ≡ record old { card = after old.card }) × (status ≡ 0))
     × (are_some ≡ false → (new ≡ old) × (status ≡ bad_argument_status))
 
@@ -46,7 +46,7 @@ OutputDescribesCardBefore are_some Told card before after = (are_some ≡ true �
 -- an open card's adapter is left as these cycles leave it, if their addresses fit in 32 bits
 abbrev pub OpenCardAfterTransfer : Bool → (CardState → CardState) → HandleState → HandleState → ℕ → Type 0
 OpenCardAfterTransfer are_some after old new status = old.is_open ≡ true → (new.is_open ≡ true)
-    × IsMachineAfterTransfer are_some after (machine_after_owed_dots old) (machine_after_owed_dots new) status
+    × IsMachineAfterTransferIfAddressesFit are_some after (machine_after_owed_dots old) (machine_after_owed_dots new) status
 
 -- the output describes an open card's adapter as it was before the cycles, if their addresses fit
 -- in 32 bits

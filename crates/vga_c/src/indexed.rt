@@ -7,7 +7,7 @@ ghost use Rattle.vga_script.specs.declared.step.Step.TheVariants.{Frame};
 ghost use Rattle.vga_c.specs.Cards.{ClosedCardStaysUnchanged, ClosedCardLeavesOutput};
 ghost use Rattle.vga_c.specs.Forms.{rgb_word_of_dot as rgb_word_of_dot_of};
 ghost use Rattle.vga_c.specs.Indexed.{indexed_output, HasColourNumbers, NumbersFrame, OpenCardNumbersFrame};
-ghost use Rattle.vga_c.specs.Palette.{HasColoursOnce, HasColourNumbered, LacksColour, AreDotsNumbered};
+ghost use Rattle.vga_c.specs.Palette.{HasColoursOnce, HasColourNumbered, NoNumberHasColour, AreDotsNumbered};
 ghost use Rattle.vga_c.specs.Palette.{HaveTooManyColours, no_colours};
 
 use crate::forms::rgb_word_of_dot;
@@ -41,7 +41,7 @@ fn number_colour(palette: &mut Palette, guesses: &mut [u8], colour: u32) -> Opti
     requires guesses { length guesses.old ≡ 0x4_0000 }
     ensures some { IfSome result (λ n. HasColourNumbered palette.old palette.new n colour) }
     ensures full { result ≡ None → palette.old.len ≡ 256 }
-    ensures lacks { result ≡ None → LacksColour palette.old colour }
+    ensures lacks { result ≡ None → NoNumberHasColour palette.old colour }
 {
     let place = guess_place(colour);
     let guess = guesses[place];

@@ -1,6 +1,6 @@
 //! The colours of a picture, by numbers.
 ghost use Rattle.std.specs.Prelude.{◌≡◌, ◌+◌, ◌<◌, ◌≤◌, ℕ, IfSome, None, slice_index, true};
-ghost use Rattle.vga_c.specs.Palette.{HasColoursOnce, HasColourAdded, LacksColour, no_colours};
+ghost use Rattle.vga_c.specs.Palette.{HasColoursOnce, HasColourAdded, NoNumberHasColour, no_colours};
 
 /// The most colours of a palette.
 const MOST_COLOURS: usize = 256;
@@ -40,7 +40,7 @@ impl Palette {
         requires { self.now.len ≤ 256 }
         ensures inside { IfSome result (λ n. n < self.now.len) }
         ensures shown { IfSome result (λ n. slice_index self.now.colours n ≡ colour) }
-        ensures lacks { result ≡ None → LacksColour self.now colour }
+        ensures lacks { result ≡ None → NoNumberHasColour self.now colour }
     {
         for k in 0..self.len as usize {
             if self.colours[k] == colour {
@@ -55,7 +55,7 @@ impl Palette {
     pub(crate) fn add(&mut self, colour: u32) -> Option<u8>
         requires few { self.old.len ≤ 256 }
         requires once { HasColoursOnce self.old }
-        requires lacks { LacksColour self.old colour }
+        requires lacks { NoNumberHasColour self.old colour }
         ensures some { IfSome result (λ n. HasColourAdded self.old self.new n colour) }
         ensures full { result ≡ None → self.old.len ≡ 256 }
         ensures none { result ≡ None → self.new ≡ self.old }

@@ -3,7 +3,7 @@ ghost use Rattle.std.specs.Prelude.{◌≡◌, IfErr, IfOk};
 ghost use Rattle.vga_c.specs.Outcome.{script_output};
 ghost use Rattle.vga_c.specs.Texts.{GivesAssembledBytes, IsAssembled, IsFaultOfBytes};
 ghost use Rattle.vga_c.specs.Texts.{IsFaultOfText};
-ghost use Rattle.vga_c.specs.Texts.{IsPrinted, GivesPrintedText};
+ghost use Rattle.vga_c.specs.Texts.{IsPrintedTextOfScript, GivesPrintedText};
 
 use crate::buffer::write_bytes_if_room_and_their_count;
 use crate::outcome::status_and_place;
@@ -42,7 +42,7 @@ pub extern "C" fn zak_assemble(
 
 /// Prints the script that some bytes spell, or finds their first fault.
 fn text_printed_from_script_bytes(alloc: Global, bytes: &[u8]) -> Result<Vec<u8>, Fault>
-    ensures ok { IfOk result (λ text. IsPrinted bytes.now text.items) }
+    ensures ok { IfOk result (λ text. IsPrintedTextOfScript bytes.now text.items) }
     ensures err { IfErr result (IsFaultOfBytes bytes.now) }
 {
     let script = decode(alloc, bytes)?;

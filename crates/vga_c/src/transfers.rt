@@ -3,7 +3,7 @@ ghost use Rattle.std.specs.Prelude.{◌≡◌, ◌+◌, ◌&&◌, length, slice_
 ghost use Rattle.vga_card.specs.Transfers.{decoded_count, AreBytesRead};
 ghost use Rattle.vga_c.specs.Cards.{ClosedCardStaysUnchanged, ClosedCardLeavesOutput};
 ghost use Rattle.vga_c.specs.Transfers.{addresses_fit_32_bits as are_addresses_of, card_after_puts, card_after_gets};
-ghost use Rattle.vga_c.specs.Transfers.{card_after_moves, OutputDescribesCardBefore, IsMachineAfterTransfer, OutputDescribesOpenCardBefore};
+ghost use Rattle.vga_c.specs.Transfers.{card_after_moves, OutputDescribesCardBefore, IsMachineAfterTransferIfAddressesFit, OutputDescribesOpenCardBefore};
 ghost use Rattle.vga_c.specs.Transfers.{OpenCardAfterTransfer};
 
 use crate::handle::{Handle, on_open_card};
@@ -26,7 +26,7 @@ fn put_bytes(
     down: bool,
     decoded: &mut usize,
 ) -> u32
-    ensures after { IsMachineAfterTransfer (are_addresses_of address (length bytes.now)) (card_after_puts down
+    ensures after { IsMachineAfterTransferIfAddressesFit (are_addresses_of address (length bytes.now)) (card_after_puts down
         address (slice_index bytes.now) (length bytes.now)) machine.old machine.new result }
     ensures decoded { OutputDescribesCardBefore (are_addresses_of address (length bytes.now))
         (λ card n. n ≡ decoded_count card address (length bytes.now)) machine.old.card decoded.old
@@ -74,7 +74,7 @@ fn fill_bytes(
     down: bool,
     decoded: &mut usize,
 ) -> u32
-    ensures after { IsMachineAfterTransfer (are_addresses_of address count) (card_after_puts down address
+    ensures after { IsMachineAfterTransferIfAddressesFit (are_addresses_of address count) (card_after_puts down address
         (λ i. value) count) machine.old machine.new result }
     ensures decoded { OutputDescribesCardBefore (are_addresses_of address count)
         (λ card n. n ≡ decoded_count card address count) machine.old.card decoded.old decoded.new }
@@ -122,7 +122,7 @@ fn get_bytes(
     down: bool,
     decoded: &mut usize,
 ) -> u32
-    ensures after { IsMachineAfterTransfer (are_addresses_of address (length bytes.old)) (card_after_gets down
+    ensures after { IsMachineAfterTransferIfAddressesFit (are_addresses_of address (length bytes.old)) (card_after_gets down
         address (length bytes.old)) machine.old machine.new result }
     ensures bytes { OutputDescribesCardBefore (are_addresses_of address (length bytes.old))
         (λ card new. AreBytesRead card address bytes.old new) machine.old.card bytes.old bytes.new }
@@ -176,7 +176,7 @@ fn move_bytes(
     down: bool,
     decoded: &mut usize,
 ) -> u32
-    ensures after { IsMachineAfterTransfer (are_addresses_of from count && are_addresses_of to count)
+    ensures after { IsMachineAfterTransferIfAddressesFit (are_addresses_of from count && are_addresses_of to count)
         (card_after_moves down from to count) machine.old machine.new result }
     ensures decoded { OutputDescribesCardBefore (are_addresses_of from count && are_addresses_of to count)
         (λ card n. n ≡ decoded_count card from count + decoded_count card to count) machine.old.card

@@ -17,14 +17,14 @@ use Rattle.vga_attr.specs.Attr.{AttrState}
 use Rattle.vga_attr.specs.Fields.{is_palette_shown, overscan, is_line_graphics}
 use Rattle.vga_dac.specs.Dac.{DacState}
 use Rattle.vga_dots.specs.declared.source_dot.SourceDot.{SourceDot}
-use Rattle.vga_dots.specs.declared.quads.Quad.{Quad}
+use Rattle.vga_dots.specs.declared.eight_dots.EightDots.{EightDots}
 use Rattle.vga_dots.specs.declared.text.Cell.{Cell}
 use Rattle.vga_dots.specs.SourceDot.{fetch_address}
 use Rattle.vga_dots.specs.Text.{text_nibble, cell_at, background, is_foreground, is_underlined, is_blinked_away, is_cursor_at, is_glyph_dot, glyph_row}
 use Rattle.vga_dots.specs.Graphics.{plane_bits, planar_nibble, packed_byte}
 use Rattle.vga_dots.specs.Row.{plane_bits_in_word, colour_and_zero_byte}
 use Rattle.vga_dots.specs.Display.{DisplayState, ShowsText, ShowsPlanes, ShowsBytes}
-use Rattle.vga_dots.specs.Quads.{IsFourDotsOfColour}
+use Rattle.vga_dots.specs.EightDots.{AreEightDotsOfColour}
 use Rattle.vga_dots.specs.Character.{cursorless_nibble}
 use Rattle.vga_dots.specs.Line.{masked_colour, colour_by_palette, palette_colour_and_zero_byte, sixteen_palette_colours, dot_of_counter, colour_of_source_dot}
 use Rattle.vga_dots.proofs.RowLemmas.{padded_byte}
@@ -146,22 +146,22 @@ by_look false true false fore back = refl
 by_look false false true fore back = refl
 by_look false false false fore back = refl
 
--- so do they for their colours, four dots of each
-module _ (fore back : Quad) (colour : ℕ → List ℕ) (x y : ℕ) (is_fore : IsFourDotsOfColour fore (colour x)) (is_back : IsFourDotsOfColour back (colour y)) where
-  abbrev both : Bool → Bool → Quad × Quad
+-- so do they for their colours, eight dots of each
+module _ (fore back : EightDots) (colour : ℕ → List ℕ) (x y : ℕ) (is_fore : AreEightDotsOfColour fore (colour x)) (is_back : AreEightDotsOfColour back (colour y)) where
+  abbrev both : Bool → Bool → EightDots × EightDots
   both blinked underlined = if blinked then (back, back) else if underlined then (fore, fore) else (fore, back)
 
-  pub glyph_colour : (blinked underlined : Bool) (q : Quad × Quad) → q ≡ both blinked underlined
-      → IsFourDotsOfColour q.0 (colour (if blinked then y else if underlined || true then x else y))
-  glyph_colour true underlined q e = subst (λ (r : Quad × Quad). IsFourDotsOfColour r.0 (colour y)) (sym e) is_back
-  glyph_colour false true q e = subst (λ (r : Quad × Quad). IsFourDotsOfColour r.0 (colour x)) (sym e) is_fore
-  glyph_colour false false q e = subst (λ (r : Quad × Quad). IsFourDotsOfColour r.0 (colour x)) (sym e) is_fore
+  pub glyph_colour : (blinked underlined : Bool) (q : EightDots × EightDots) → q ≡ both blinked underlined
+      → AreEightDotsOfColour q.0 (colour (if blinked then y else if underlined || true then x else y))
+  glyph_colour true underlined q e = subst (λ (r : EightDots × EightDots). AreEightDotsOfColour r.0 (colour y)) (sym e) is_back
+  glyph_colour false true q e = subst (λ (r : EightDots × EightDots). AreEightDotsOfColour r.0 (colour x)) (sym e) is_fore
+  glyph_colour false false q e = subst (λ (r : EightDots × EightDots). AreEightDotsOfColour r.0 (colour x)) (sym e) is_fore
 
-  pub ground_colour : (blinked underlined : Bool) (q : Quad × Quad) → q ≡ both blinked underlined
-      → IsFourDotsOfColour q.1 (colour (if blinked then y else if underlined || false then x else y))
-  ground_colour true underlined q e = subst (λ (r : Quad × Quad). IsFourDotsOfColour r.1 (colour y)) (sym e) is_back
-  ground_colour false true q e = subst (λ (r : Quad × Quad). IsFourDotsOfColour r.1 (colour x)) (sym e) is_fore
-  ground_colour false false q e = subst (λ (r : Quad × Quad). IsFourDotsOfColour r.1 (colour y)) (sym e) is_back
+  pub ground_colour : (blinked underlined : Bool) (q : EightDots × EightDots) → q ≡ both blinked underlined
+      → AreEightDotsOfColour q.1 (colour (if blinked then y else if underlined || false then x else y))
+  ground_colour true underlined q e = subst (λ (r : EightDots × EightDots). AreEightDotsOfColour r.1 (colour y)) (sym e) is_back
+  ground_colour false true q e = subst (λ (r : EightDots × EightDots). AreEightDotsOfColour r.1 (colour x)) (sym e) is_fore
+  ground_colour false false q e = subst (λ (r : EightDots × EightDots). AreEightDotsOfColour r.1 (colour y)) (sym e) is_back
 
 module _ (h : HostState) (c : CrtcState) (a : AttrState) (cell : Cell) (counter : ℕ) where
   pub by_cursor : (i : ℕ) → is_cursor_at c counter ≡ true → is_foreground h c a (dot_of_counter counter i) cell ≡ true

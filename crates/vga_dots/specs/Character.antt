@@ -13,7 +13,7 @@ use Rattle.vga_dots.specs.Addressing.{addressing_of}
 use Rattle.vga_dots.specs.TextLine.{text_line, GlyphRowsLieInPlane}
 use Rattle.vga_dots.specs.Text.{background, glyph_row, is_blinked_away, is_underlined}
 use Rattle.vga_dots.specs.Line.{colour_by_palette, sixteen_palette_colours}
-use Rattle.vga_dots.specs.Quads.{IsFourDotsOfColour}
+use Rattle.vga_dots.specs.EightDots.{AreEightDotsOfColour}
 use Rattle.vga_dots.specs.Display.{DisplayState, ShowsText, ShowsPlanes, ShowsBytes}
 
 -- text is shown, and `text` has its addressing and the settings of the beam's line
@@ -37,10 +37,10 @@ cell_of attribute character = record { character = character; attribute = attrib
 
 -- without the cursor, each cell of the attribute has these colours and these glyphs
 pub record IsLookOfItsCells (look : CellLook) (display : DisplayState) : Type 0 where
-  pub glyph : (character : ℕ) → IsFourDotsOfColour look.glyph (colour_by_palette display.attr
+  pub glyph : (character : ℕ) → AreEightDotsOfColour look.glyph (colour_by_palette display.attr
       display.dac
       (cursorless_nibble display.crtc display.attr (cell_of look.attribute character) true))
-  pub ground : (character : ℕ) → IsFourDotsOfColour look.ground (colour_by_palette display.attr
+  pub ground : (character : ℕ) → AreEightDotsOfColour look.ground (colour_by_palette display.attr
       display.dac
       (cursorless_nibble display.crtc display.attr (cell_of look.attribute character) false))
   pub glyphs : (character : ℕ) → byte_at display.host.memory 2 (look.glyphs + 32 * character)

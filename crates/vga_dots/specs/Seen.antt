@@ -1,7 +1,7 @@
 -- What a dot sees of the host path beside the memory: four of its registers.
 -- From the IBM PS/2 Hardware Interface Technical Reference, Video Subsystems, "Sequencer Registers"
 -- and "Graphics Controller Registers".
-use Rattle.std.specs.Prelude.{◌≡◌, ℕ, slice_index}
+use Rattle.std.specs.Prelude.{◌≡◌, slice_index}
 use Rattle.vga_host.specs.Host.{HostState}
 
 -- two host paths with the same memory, and the same in the registers that a dot sees: clocking mode

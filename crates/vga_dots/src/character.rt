@@ -8,11 +8,11 @@ ghost use Rattle.vga_attr.specs.Fields.{is_line_graphics};
 ghost use Rattle.vga_dots.specs.Text.{is_glyph_dot as is_dot_of_glyph, is_cursor_at};
 ghost use Rattle.vga_dots.specs.Text.{cell_at as cell_at_place};
 ghost use Rattle.vga_dots.specs.Row.{AreDotsPut, colour_and_zero_byte as colour_and_zero_byte_of};
-ghost use Rattle.vga_dots.specs.Line.{masked_colour as masked_colour_of, colour_by_palette};
+ghost use Rattle.vga_dots.specs.Line.{masked_colour as masked_colour_of};
 ghost use Rattle.vga_dots.specs.Line.{sixteen_palette_colours as colours_by_palette_of};
 ghost use Rattle.vga_dots.specs.Line.{dot_of_counter};
 ghost use Rattle.vga_dots.specs.Line.{colour_of_source_dot};
-ghost use Rattle.vga_dots.specs.Quads.{IsFourDotsOfColour};
+ghost use Rattle.vga_dots.specs.TextColours.{AreTextColoursOf};
 ghost use Rattle.vga_dots.specs.SourceDot.{fetch_address};
 ghost use Rattle.vga_dots.specs.Character.{IsLookOfItsCells};
 ghost use Rattle.vga_dots.specs.Display.{ShowsText, ShowsPlanes};
@@ -20,9 +20,10 @@ ghost use Rattle.vga_dots.specs.Alike.{IsCursorlessCell};
 
 use crate::addressing::Addressing;
 use crate::display::Display;
-use crate::quads::{Quad, put_glyph};
+use crate::eight_dots::{EightDots, put_glyph};
 use crate::row::{PaletteColours, put_packed_character, put_planar_character};
 use crate::text::{Cell, GLYPH_BYTES, PLANE_OF_GLYPHS, cell_at};
+use crate::text_colours::{TextColours, eight_dots_of};
 use crate::text_line::TextLineSettings;
 use vga_attr::Attr;
 use vga_dac::Dac;
@@ -69,14 +70,6 @@ fn sixteen_palette_colours(attr: &Attr, dac: &Dac) -> PaletteColours
     ]
 }
 
-/// Four dots of the colour of four bits.
-#[tactic(auto, unfolding(crate::specs::Line::colour_by_palette))]
-fn quad_of(display: &Display<'_>, n: u8) -> Quad
-    ensures { IsFourDotsOfColour result (colour_by_palette display.now.attr display.now.dac n) }
-{
-    Quad::of_colour(masked_colour(display.dac(), display.attr().colour_index(n)))
-}
-
 /// The dots of one line of a glyph, as bits. Bit 8 is the leftmost dot.
 #[inline(always)]
 fn glyph_dots(attr: &Attr, line: &TextLineSettings, character: u8, row: u8) -> u16
@@ -90,7 +83,12 @@ fn glyph_dots(attr: &Attr, line: &TextLineSettings, character: u8, row: u8) -> u
 
 /// Which of foreground and background the dots of a glyph have without the cursor, and which the
 /// others.
-fn glyph_and_ground(line: &TextLineSettings, attribute: u8, fore: Quad, back: Quad) -> (Quad, Quad)
+fn glyph_and_ground(
+    line: &TextLineSettings,
+    attribute: u8,
+    fore: EightDots,
+    back: EightDots,
+) -> (EightDots, EightDots)
     ensures { result ≡ (if not (bit_and attribute line.now.blinked_away == 0) then (back, back)
         else if bit_and attribute 0x77 == line.now.underlined then (fore, fore) else (fore, back)) }
 {
@@ -103,14 +101,14 @@ fn glyph_and_ground(line: &TextLineSettings, attribute: u8, fore: Quad, back: Qu
     }
 }
 
-/// How the cells of an attribute look on a line without the cursor: four dots of the colour of a
-/// glyph's dots, four of the colour of the others, and where the glyphs are. If the cells are
+/// How the cells of an attribute look on a line without the cursor: eight dots of the colour of a
+/// glyph's dots, eight of the colour of the others, and where the glyphs are. If the cells are
 /// blinked away or underlined, both colours are the same.
 #[derive(Clone, Copy)]
 pub(crate) struct CellLook {
     pub attribute: u8,
-    pub glyph: Quad,
-    pub ground: Quad,
+    pub glyph: EightDots,
+    pub ground: EightDots,
     /// The address in its plane of the beam's line of the first glyph.
     pub glyphs: u16,
 }
@@ -172,13 +170,21 @@ impl TextCharacters {
     }
 
     /// How the cells of an attribute look.
-    pub(crate) fn look(&self, display: &Display<'_>, attribute: u8) -> CellLook
-        requires { AreTextCharactersOf self.now display.now }
+    #[inline(always)]
+    pub(crate) fn look(
+        &self,
+        display: &Display<'_>,
+        colours: &mut TextColours,
+        attribute: u8,
+    ) -> CellLook
+        requires text { AreTextCharactersOf self.now display.now }
+        requires colours { AreTextColoursOf colours.old display.now }
         ensures look { IsLookOfItsCells result display.now }
         ensures attribute { result.attribute ≡ attribute }
+        ensures colours { AreTextColoursOf colours.new display.now }
     {
-        let fore = quad_of(display, attribute % 16);
-        let back = quad_of(display, self.line.background(attribute));
+        let fore = colours.eight_dots(display, attribute % 16);
+        let back = colours.eight_dots(display, self.line.background(attribute));
         let (glyph, ground) = glyph_and_ground(&self.line, attribute, fore, back);
         CellLook {
             attribute,
@@ -209,7 +215,7 @@ impl TextCharacters {
             i)) row.old
             row.new }
     {
-        let fore = quad_of(display, cell.attribute % 16);
+        let fore = eight_dots_of(display, cell.attribute % 16);
         put_glyph::<CW>(row, at, ALL_DOTS, fore, fore);
     }
 

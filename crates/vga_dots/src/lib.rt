@@ -6,13 +6,14 @@ mod alike;
 mod character;
 pub mod colour;
 pub mod display;
+mod eight_dots;
 mod graphics;
 pub mod laws;
 pub mod line;
-mod quads;
 mod row;
 mod source_dot;
 mod text;
+mod text_colours;
 mod text_line;
 
 pub use addressing::is_not_fetched_on_line;

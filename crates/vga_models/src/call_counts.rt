@@ -203,7 +203,7 @@ impl CallCounts {
     }
 
     /// Counts a call in a mode, with characters of the height before the call.
-    pub fn note(
+    pub fn count_call(
         &mut self,
         mode: PlainMode,
         regs: Regs,
@@ -241,7 +241,7 @@ impl CallCounts {
     }
 
     /// Counts a frame that is drawn in a mode.
-    pub fn note_frame(&mut self, mode: PlainMode) -> Result<(), AllocError> {
+    pub fn count_frame(&mut self, mode: PlainMode) -> Result<(), AllocError> {
         self.drawn.push((mode.number, mode.height))?;
         Ok(())
     }

@@ -98,7 +98,7 @@ impl CutFrames<'_> {
     /// Takes both to the frame's end, and compares the pictures.
     fn frame_difference(&mut self) -> Result<Option<Difference>> {
         let left = self.drawing.dots_left_of_frame(self.pair.plain.mode);
-        self.pair.note_frame()?;
+        self.pair.count_frame()?;
         self.drawing.take_dots(&mut self.pair.plain, left)?;
         let size = self.pair.plain.picture_size();
         Ok(picture_difference(self.pair.card.frame(), size, self.drawing.picture()))
@@ -123,9 +123,9 @@ impl CutFrames<'_> {
     }
 
     /// Counts a call after the first dot of a frame.
-    fn note(&mut self, call: &RandomCall, refusal: Option<Refusal>) -> Result<()> {
+    fn count_call(&mut self, call: &RandomCall, refusal: Option<Refusal>) -> Result<()> {
         if !self.drawing.is_at_first_dot() {
-            self.within.note(self.pair.plain.mode, call.regs, refusal)?;
+            self.within.count_call(self.pair.plain.mode, call.regs, refusal)?;
         }
         Ok(())
     }
@@ -144,7 +144,7 @@ impl CutFrames<'_> {
                 return Ok(difference);
             }
         }
-        self.note(call, refusal)?;
+        self.count_call(call, refusal)?;
         self.pair.service_difference(call)
     }
 

@@ -77,9 +77,9 @@ impl<'a> Pair<'a> {
 
 impl Pair<'_> {
     /// Counts a frame whose picture is compared.
-    pub fn note_frame(&mut self) -> Result<()> {
+    pub fn count_frame(&mut self) -> Result<()> {
         self.frames = self.frames.saturating_add(1);
-        self.counts.note_frame(self.plain.mode)?;
+        self.counts.count_frame(self.plain.mode)?;
         Ok(())
     }
 
@@ -94,7 +94,7 @@ impl Pair<'_> {
         let regs = call.regs;
         let block = call.block.as_slice();
         let refusal = self.plain.refusal(regs, block);
-        self.counts.note(self.plain.mode, regs, refusal)?;
+        self.counts.count_call(self.plain.mode, regs, refusal)?;
         self.services = self.services.saturating_add(1);
         if !self.bda.valid() {
             return Ok(Some(Difference::Unshown));

@@ -114,14 +114,14 @@ impl PlainScreen<'_> {
         line: u8,
         bytes: &mut Vec<u8>,
     ) -> Result<(), AllocError> {
-        let cursor = self.cell_number(self.place(self.page));
+        let cursor = self.cell_number_at(self.place(self.page));
         for column in 0..self.mode.columns {
             let at = Place { row, column };
             if let Some(cell) = self.cell(self.page, at) {
                 let cell = ScannedCell {
                     character: cell.character,
                     attribute: cell.attribute,
-                    is_cursor: self.cell_number(at) == cursor,
+                    is_cursor: self.cell_number_at(at) == cursor,
                     line,
                 };
                 self.draw_scan_line_of_cell(colours, cell, bytes)?;
@@ -232,7 +232,7 @@ impl PlainScreen<'_> {
 impl PlainScreen<'_> {
     /// The number of a cell, counted along the rows of all pages.
     fn cell_number_among_all_pages(&self, page: u8, at: Place) -> u32 {
-        self.mode.distance as u32 * page as u32 + self.cell_number(at)
+        self.mode.distance as u32 * page as u32 + self.cell_number_at(at)
     }
 
     /// The colour number of a dot of a text page, if it lies on a cell. The active page may show

@@ -79,7 +79,7 @@ impl PlainScreen<'_> {
     }
 
     /// The number of the cell at a position, counted along the rows.
-    pub fn cell_number(&self, at: Place) -> u32
+    pub fn cell_number_at(&self, at: Place) -> u32
         ensures { result < 65536 }
     {
         self.mode.columns as u32 * at.row as u32 + at.column as u32
@@ -110,7 +110,7 @@ impl PlainScreen<'_> {
     fn is_place_outside(&self, regs: Regs) -> bool {
         let place = self.place(self.page_of(regs));
         match high(regs.ax) {
-            0x08..=0x0A => self.cell_number(place) >= self.cells(),
+            0x08..=0x0A => self.cell_number_at(place) >= self.cells(),
             0x0C | 0x0D => self.pixel(0, regs.cx, regs.dx).is_none(),
             0x0E => self.is_outside(self.place(self.page)),
             0x13 => self.is_outside(place_of(regs.dx)),
@@ -124,7 +124,7 @@ impl PlainScreen<'_> {
         let place = self.place(self.page_of(regs));
         let count = regs.cx as u32;
         match high(regs.ax) {
-            0x09 | 0x0A => self.cell_number(place) + count > self.cells(),
+            0x09 | 0x0A => self.cell_number_at(place) + count > self.cells(),
             0x11 => loads_glyphs_of_caller(regs) && regs.dx as u32 + count > 0x100,
             _ => false,
         }

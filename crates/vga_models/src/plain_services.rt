@@ -95,7 +95,7 @@ impl PlainScreen<'_> {
     /// Writes a character to CX cells from the cursor on, row by row.
     fn write_cells(&mut self, regs: Regs, keeps: bool) {
         let page = self.page_of(regs);
-        let start = self.cell_number(self.place(page));
+        let start = self.cell_number_at(self.place(page));
         let columns = self.mode.columns.max(1) as u32;
         for i in 0..regs.cx as u32 {
             let number = start + i;
@@ -265,7 +265,7 @@ impl PlainScreen<'_> {
 
     /// Attribute and character of the cell at the cursor; in graphics only the character.
     fn read_cell(&self, page: u8, ah: u8) -> u16 {
-        let number = self.cell_number(self.place(page));
+        let number = self.cell_number_at(self.place(page));
         let columns = self.mode.columns.max(1) as u32;
         let at = Place {
             row: (number / columns).min(0xFF) as u8,

@@ -39,7 +39,7 @@ impl<'a> WholeFrames<'a> {
 impl WholeFrames<'_> {
     /// Draws a whole frame on both.
     fn frame_difference(&mut self) -> Result<Option<Difference>> {
-        self.pair.note_frame()?;
+        self.pair.count_frame()?;
         let wanted = self.pair.plain.draw()?;
         Ok(picture_difference(
             self.pair.card.frame(),

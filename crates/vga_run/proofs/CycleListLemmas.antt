@@ -23,7 +23,7 @@ use Rattle.vga_run.specs.declared.machine.Machine.{Machine}
 use Rattle.vga_run.specs.Answer.{Short, of_byte}
 use Rattle.vga_run.specs.Step.{after_step, after_steps, answer_to, after_int10}
 use Rattle.vga_run.specs.CycleList.{write_step_of_place, read_step_of_place, cycles_of_plan, cycles_of_call, byte_answered_or_ff, bytes_read_by_steps, plan_answer_from_bytes, ListingCard, is_place_in_range, list_write}
-use Rattle.vga_run.specs.CycleList.{list_read, list_meaning, listed_bytes, IsCycleList, IsUnlisted}
+use Rattle.vga_run.specs.CycleList.{list_read, list_meaning, script_of_call_cycles, IsCycleList, IsUnlisted}
 
 -- ---- what is listed
 
@@ -101,8 +101,8 @@ abbrev pub LeftBy : Machine → Regs → List ℕ → ℕ → ListingCard → Ca
 LeftBy m regs block room left answer = (left, answer) ≡ run list_meaning (service m.fonts m.bda regs block) (before m room)
 
 pub written_by : (m : Machine) (regs : Regs) (block : List ℕ) (room : ℕ) (left : ListingCard) (answer : CallOutcome) → LeftBy m regs block room left answer →
-    HasWritten (listed_bytes m regs block) left.script
-unfolding listed_bytes
+    HasWritten (script_of_call_cycles m regs block) left.script
+unfolding script_of_call_cycles
 written_by m regs block room left answer e =
     subst (HasWritten (encoding (script_of_steps (cycles_of_call m regs block))))
     (sym (ap (λ (r : ListingCard × CallOutcome). r.0.script) e ∙ script_same m regs block room)) (script_written room (cycles_of_call m regs block))
@@ -111,9 +111,9 @@ written_by m regs block room left answer e =
 pub call_listed : (m : Machine) (regs : Regs) (block : List ℕ) (asked room : ℕ) (left : ListingCard) (script : BytesWritten) (reply : Reply) (after : BiosData) →
     LeftBy m regs block room left (Ok reply, after) → left.fits ≡ true → script ≡ left.script → left.script.len ≤ script_limit →
     ((n : ℕ) → n ≤ script_limit → n ≤ asked → n ≤ room) → IsCycleList m regs block asked script
-unfolding listed_bytes
+unfolding script_of_call_cycles
 call_listed m regs block asked room left script reply after e fits is few enough =
-    let bytes = listed_bytes m regs block in
+    let bytes = script_of_call_cycles m regs block in
     let wrote = written_by m regs block room left (Ok reply, after) e in
     let counted : left.script.len ≡ length bytes = wrote.counted few in
     let roomy : left.script.room ≡ room = ap (λ (r : ListingCard × CallOutcome). r.0.script.room) e ∙ ap (λ (s : BytesWritten). s.room) (script_same m regs block room)

@@ -109,22 +109,22 @@ list_meaning = record { write = list_write; read = list_read }
 -- ---- the list of a call
 
 -- the bytes of the script of a call's cycles
-unfoldable pub listed_bytes : Machine → Regs → List ℕ → List ℕ
-listed_bytes m regs block = encoding (script_of_steps (cycles_of_call m regs block))
+unfoldable pub script_of_call_cycles : Machine → Regs → List ℕ → List ℕ
+script_of_call_cycles m regs block = encoding (script_of_steps (cycles_of_call m regs block))
 
 -- These bytes list the cycles of a call that is not refused: they spell its script, and are kept if
 -- there is room for all of them.
 pub record IsCycleList (m : Machine) (regs : Regs) (block : List ℕ) (room : ℕ)
     (script : BytesWritten) : Type 0 where
   pub done : IsOk (after_int10 m regs.ax regs.bx regs.cx regs.dx block).1.0
-  pub spelled : Spells (listed_bytes m regs block) (script_of_steps (cycles_of_call m regs block))
-  pub counted : script.len ≡ length (listed_bytes m regs block)
-  pub kept : script.len ≤ room → script.bytes ≡ listed_bytes m regs block
+  pub spelled : Spells (script_of_call_cycles m regs block) (script_of_steps (cycles_of_call m regs block))
+  pub counted : script.len ≡ length (script_of_call_cycles m regs block)
+  pub kept : script.len ≤ room → script.bytes ≡ script_of_call_cycles m regs block
 
 -- why there is no list: the call is refused; or the script has too many bytes; or an allocation
 -- failed
 abbrev pub IsUnlisted : Machine → Regs → List ℕ → Unlisted → Type 0
 IsUnlisted m regs block (Refused why) =
     (after_int10 m regs.ax regs.bx regs.cx regs.dx block).1.0 ≡ Err why
-IsUnlisted m regs block TooLong = script_limit < length (listed_bytes m regs block)
+IsUnlisted m regs block TooLong = script_limit < length (script_of_call_cycles m regs block)
 IsUnlisted m regs block OutOfMemory = Unit {0}

@@ -16,7 +16,7 @@ use Rattle.vga_script.specs.Spelling.{magic, opcode_repeat, opcode_end, header, 
 use Rattle.vga_script.specs.Tokens.{lines, lines_of_rest, rest_len_with_one_for_its_end, words}
 use Rattle.vga_script.specs.Text.{SpellsLine, SpellsLines, SpellsBeginningOfRepeat, IsRepeatEndLine, IsVersionTwo, LineGroup, IsLineGroup, SpellsGroups, SaysVersionTwo, ItemsBeginAtLine}
 use Rattle.vga_script.specs.Text.{SpellsText, IsBadLineOutsideRepeats, IsBadLineInRepeat, StandsInRepeatLines, IsGroupFault, IsFirstBadLine, IsFaultOfFirstBadLine}
-use Rattle.vga_script.specs.Assembling.{BeginsWithRepeatBody, IsRepeatBodyFault, BeginsWithGroup, IsFirstGroupFault, AppendsLine, AppendsRepeatBody, AppendsRepeat, AppendsGroup}
+use Rattle.vga_script.specs.Assembling.{BeginsWithRepeatBody, IsRepeatBodyFault, BeginsWithGroup, IsFirstGroupFault, AppendsStepsOfLine, AppendsRepeatBody, AppendsRepeat, AppendsGroup}
 use Rattle.vga_script.proofs.ItemLemmas.{length-expanded-append, steps_of_repeat}
 
 -- a test that failed did not pass
@@ -103,7 +103,7 @@ body_begins start before first = record { steps = []; read = steps_begins start 
 
 pub body_more : (start others : Option (List ℕ)) (before now new rest line : List ℕ) (first len more n : ℕ) →
     HasAppendedBody start before first len n (Some rest) now → lines rest ≡ line ∷ lines_of_rest others → rest_len_with_one_for_its_end others ≤ length rest
-    → AppendsLine line now new more → HasAppendedBody start before first (len + more) (n + 1) others new
+    → AppendsStepsOfLine line now new more → HasAppendedBody start before first (len + more) (n + 1) others new
 body_more start others before now new rest line first len more n h e shorter a = record {
   steps = h.steps ++ a.steps;
   read = steps_more start others rest line first n h.steps a.steps h.read e shorter a.good;
@@ -161,7 +161,7 @@ spelled [] = refl
 spelled (s ∷ steps) = ap (λ (l : List ℕ). spelling s ++ l) (spelled steps)
 
 pub group_of_line : (version : Version) (n : ℕ) (text line before after : List ℕ) (others : Option (List ℕ)) (len : ℕ) → lines text ≡ line ∷ lines_of_rest others →
-    AppendsLine line before after len
+    AppendsStepsOfLine line before after len
     → AppendsGroup version n (lines text) before after len (n + 1) others
 group_of_line version n text line before after others len e a = record {
   items = map Once a.steps;

@@ -51,7 +51,7 @@ IsFirstGroupFault version n ls (BadLine bad) = (so_far : ℕ) → IsGroupFault v
 IsFirstGroupFault version n ls _ = ⊥
 
 -- The bytes afterwards are those before, followed by those of the `len` steps that a line spells.
-pub record AppendsLine (line before after : List ℕ) (len : ℕ) : Type 0 where
+pub record AppendsStepsOfLine (line before after : List ℕ) (len : ℕ) : Type 0 where
   pub steps : List Step
   pub good : SpellsLine (words line) steps
   pub count : len ≡ length steps

@@ -2,7 +2,7 @@
 ghost use Rattle.std.specs.Prelude.{◌≡◌, ◌⊎◌, ◌<◌, ◌≤◌, ◌+◌, List, length, ℕ};
 ghost use Rattle.std.specs.Prelude.{IfOk, IfErr, IsOkUnless, Err};
 ghost use Rattle.std.specs.Option.{option_copied};
-ghost use Rattle.vga_script.specs.Assembling.{AppendsRepeatBody, AppendsGroup, AppendsLine};
+ghost use Rattle.vga_script.specs.Assembling.{AppendsRepeatBody, AppendsGroup, AppendsStepsOfLine};
 ghost use Rattle.vga_script.specs.Assembling.{AppendsRepeat};
 ghost use Rattle.vga_script.specs.Assembling.{IsRepeatBodyFault, IsFirstGroupFault};
 ghost use Rattle.vga_script.specs.Item.{ScriptItems};
@@ -30,7 +30,7 @@ use vga_bits::Fault;
 /// steps that is: 0 or 1.
 #[tactic(auto, using(crate::proofs::ScriptLemmas::line_in_range))]
 fn append_line(alloc: Global, out: &mut Vec<u8>, line: &[u8]) -> Result<usize, Unread>
-    ensures found { IfOk result (λ len. AppendsLine line.now out.old.items out.new.items len) }
+    ensures found { IfOk result (λ len. AppendsStepsOfLine line.now out.old.items out.new.items len) }
     ensures bad { result ≡ Err Unread.Bad → (steps : List Step) →
         SpellsLine (words line.now) steps → ⊥ }
 {

@@ -402,7 +402,7 @@ impl Pair {
     }
 
     /// Compares a frame, with a few changes before it, and in most cases within it.
-    fn compared_frame(&mut self, random: &mut Pcg32) -> Result<Option<Difference>> {
+    fn compare_frame_after_changes(&mut self, random: &mut Pcg32) -> Result<Option<Difference>> {
         self.change_few(random)?;
         for _ in 0..next_below(random, 3) {
             let dots = next_below(random, 500);
@@ -432,7 +432,7 @@ impl Pair {
             self.change_all(random, dots)?;
             self.make_frame_tall_in_some_settings(setting)?;
             for _ in 0..FRAMES {
-                let difference = self.compared_frame(random)?;
+                let difference = self.compare_frame_after_changes(random)?;
                 if difference.is_some() {
                     return Ok(DotsOutcome { frames, difference });
                 }

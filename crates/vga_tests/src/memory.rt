@@ -2,7 +2,7 @@
 //! says so, and every other call answers as in its example.
 
 use crate::checks::Checks;
-use crate::screens::{FONTS_LEN, blank_fonts, is_scrolled, screen_behind_calls};
+use crate::screens::{FONTS_LEN, blank_fonts, is_scrolled, screen_after_calls};
 use std::alloc::Global;
 use std::fmt;
 use vga_bits::{Bytes, Fault, Tracked};
@@ -185,7 +185,7 @@ fn ending_of_run(alloc: Global) -> Result<Ending, Fault> {
 
 /// Whether the screen of the example is read.
 fn is_screen_read(alloc: Global) -> Result<bool, Fault> {
-    Ok(match &screen_behind_calls(alloc)? {
+    Ok(match &screen_after_calls(alloc)? {
         Some(screen) => is_scrolled(screen),
         None => false,
     })

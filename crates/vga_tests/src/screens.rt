@@ -106,7 +106,7 @@ fn is_shown(alloc: Global, card: &Card, bda: &Bda) -> Result<bool, Fault> {
 }
 
 /// Makes the calls, and returns whether all were accepted and no screen was shown before them.
-fn serve_calls_with_no_screen_before(
+fn serve_calls_unless_screen_is_shown(
     alloc: Global,
     card: &mut Card,
     bda: &mut Bda,
@@ -118,18 +118,18 @@ fn serve_calls_with_no_screen_before(
 }
 
 /// The screen that is shown after the calls, if there is one. Before them there must be none.
-fn screen_behind(alloc: Global, calls: &[Regs]) -> Result<Option<Screen>, Fault> {
+fn screen_after(alloc: Global, calls: &[Regs]) -> Result<Option<Screen>, Fault> {
     let mut card = Card::new(alloc)?;
     let mut bda = Bda::new();
-    if !serve_calls_with_no_screen_before(alloc, &mut card, &mut bda, calls)? {
+    if !serve_calls_unless_screen_is_shown(alloc, &mut card, &mut bda, calls)? {
         return Ok(None);
     }
     Screen::read(alloc, &card, &bda)
 }
 
 /// The text screen after its calls.
-pub fn screen_behind_calls(alloc: Global) -> Result<Option<Screen>, Fault> {
-    screen_behind(alloc, &CELL_CALLS)
+pub fn screen_after_calls(alloc: Global) -> Result<Option<Screen>, Fault> {
+    screen_after(alloc, &CELL_CALLS)
 }
 
 /// Whether the A went up with its row, and the row below has its attribute.
@@ -174,7 +174,7 @@ fn check_small_cells(screen: &Screen, checks: &mut Checks) {
 
 /// Checks the text screen after its calls.
 fn check_cell_calls(alloc: Global, checks: &mut Checks) -> Result<(), Fault> {
-    let cells = screen_behind_calls(alloc)?;
+    let cells = screen_after_calls(alloc)?;
     checks.note("a screen of cells behind calls", cells.is_some());
     if let Some(screen) = &cells {
         check_parts(screen, checks);
@@ -184,7 +184,7 @@ fn check_cell_calls(alloc: Global, checks: &mut Checks) -> Result<(), Fault> {
 
 /// Checks the text screen of small cells after its calls.
 fn check_small_cell_calls(alloc: Global, checks: &mut Checks) -> Result<(), Fault> {
-    let cells = screen_behind(alloc, &SMALL_CELL_CALLS)?;
+    let cells = screen_after(alloc, &SMALL_CELL_CALLS)?;
     checks.note("a screen of small cells behind calls", cells.is_some());
     if let Some(screen) = &cells {
         check_small_cells(screen, checks);
@@ -194,7 +194,7 @@ fn check_small_cell_calls(alloc: Global, checks: &mut Checks) -> Result<(), Faul
 
 /// Checks the graphics screen after its calls.
 fn check_pixel_calls(alloc: Global, checks: &mut Checks) -> Result<(), Fault> {
-    let pixels = screen_behind(alloc, &PIXEL_CALLS)?;
+    let pixels = screen_after(alloc, &PIXEL_CALLS)?;
     checks.note("a screen of pixels behind calls", pixels.is_some());
     if let Some(screen) = &pixels {
         check_pixels(screen, checks);

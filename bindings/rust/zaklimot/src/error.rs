@@ -131,6 +131,7 @@ statuses! {
 impl Error {
     /// Whether the adapter refused the call, and nothing changed: `E1` to `E13` of
     /// `docs/REPORT.md`.
+    #[must_use]
     pub fn is_refusal(self) -> bool {
         (sys::ZAK_NOT_DECODED..=sys::ZAK_BAD_HEIGHT).contains(&self.number())
     }

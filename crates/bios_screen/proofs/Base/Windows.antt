@@ -5,7 +5,7 @@ use Rattle.std.proofs.lemmas.Bool.Decides.{nat_tests}
 use Rattle.bios_screen.proofs.Prelude.{Direction, Up, Down, Window}
 use Rattle.bios_services.specs.declared.scroll.Scroll.{Scroll}
 use Rattle.bios_services.specs.Bands.{first_row_to_fill}
-use Rattle.bios_services.specs.Scroll.{IsOnPage, window_clipped_to_page, rows_to_scroll}
+use Rattle.bios_services.specs.Scroll.{IsOnPage, window_clipped_to_page, scroll_distance}
 use Rattle.bios_screen.specs.Step.{is_in_window, has_source_row}
 use Rattle.bios_screen.proofs.Base.Tests.{both_true, both_are, if_some, lt_is, le_is, lt_not, le_not, lt_test, le_test}
 
@@ -25,7 +25,7 @@ cut_on_page rows columns asked w e =
     record { below = omega arith; after = omega arith; some = omega arith }
 
 -- a window moves by at least one row, and by no more rows than it has
-pub few_lines : (w : Window) (asked : ℕ) → rows_to_scroll w asked ≤ w.height
+pub few_lines : (w : Window) (asked : ℕ) → scroll_distance w asked ≤ w.height
 few_lines w asked = by_tests (asked == 0) (nat_lt w.height asked) refl
   where
     by_tests : (a b : Bool) → nat_lt w.height asked ≡ b → (if a || b then w.height else asked) ≤ w.height
@@ -33,7 +33,7 @@ few_lines w asked = by_tests (asked == 0) (nat_lt w.height asked) refl
     by_tests false true q = omega arith
     by_tests false false q = grind (arith, nat_tests)
 
-pub some_lines : (w : Window) (asked : ℕ) → 0 < w.height → 0 < rows_to_scroll w asked
+pub some_lines : (w : Window) (asked : ℕ) → 0 < w.height → 0 < scroll_distance w asked
 some_lines w asked l = by_tests (asked == 0) (nat_lt w.height asked) refl
   where
     by_tests : (a b : Bool) → (asked == 0) ≡ a → 0 < (if a || b then w.height else asked)

@@ -18,7 +18,7 @@ use Rattle.vga_dots.specs.Text.{cell_at, map_start, glyph_row as row_of_glyph, i
 use Rattle.vga_dots.specs.Text.{is_blinked_away as is_cell_blinked, is_cursor_at, is_foreground as is_cell_foreground, text_nibble}
 use Rattle.vga_dots.specs.Colour.{nibble as dot_nibble, dot_colour}
 use Rattle.bios_services.specs.Registers.{high, low}
-use Rattle.bios_services.specs.Cursor.{cursor_address, cell_number, cursor_position_of}
+use Rattle.bios_services.specs.Cursor.{cursor_address, cell_number_at, cursor_position_of}
 use Rattle.bios_screen.specs.Screen.{cursor_cell_on_screen}
 use Rattle.bios_screen.specs.Shown.{glyph_byte_in_plane_2, glyph_bytes_in_plane_2}
 use Rattle.bios_screen.specs.Step.{cell_on}
@@ -240,7 +240,7 @@ module _ (c : CardState) (d : BiosData) (h : IsShown c d) (z : IsCard c) (g : �
       let e = (lies c d h).even d.page in
       let n = d.size / 2 * d.page in
       let halved : d.size * d.page / 2 ≡ n = omega arith in
-      ap (λ a. a + cell_number d (cursor_position_of d d.page)) halved
+      ap (λ a. a + cell_number_at d (cursor_position_of d d.page)) halved
 
   cursor_is : (n v x k : ℕ) → is_cursor_at (placed v x k) n ≡ is_cursor s n (v % height)
   unfolding is_cursor_at

@@ -5,9 +5,9 @@ use Rattle.std.specs.Prelude.{◌==◌, nat_lt, if◌then◌else◌}
 use Rattle.bios_screen.proofs.Prelude.{IsCard, card_meaning, CardState, BiosData, FontSet, Colouring, page_count, Plan, run, Done, get, ◌>>=◌, ◌>>◌, Screen}
 use Rattle.bios_screen.proofs.Prelude.{shown}
 use Rattle.bios_services.specs.Cells.{cell_address}
-use Rattle.bios_services.specs.Cursor.{row_of_position as text_row_of, column_of_position, cell_number}
+use Rattle.bios_services.specs.Cursor.{row_of_position as text_row_of, column_of_position, cell_number_at}
 use Rattle.bios_services.specs.Drawing.{character_plan, characters_plan}
-use Rattle.bios_services.specs.Scroll.{page_up_plan}
+use Rattle.bios_services.specs.Scroll.{scroll_page_up_by_a_row_plan}
 use Rattle.bios_services.specs.Teletype.{position_at_start_of_row, line_feed_fill, line_feed_plan, next_position_plan, write_and_advance_plan, type_character_plan}
 use Rattle.bios_screen.specs.Screen.{page_start}
 use Rattle.bios_screen.specs.Step.{cell_on, last_row_attribute, after_line_feed, screen_and_next_position, put_characters, put_character, type_character}
@@ -64,16 +64,16 @@ leads_after p q c d y second = record {
 
 -- the page goes up by a row, which is filled as for a line feed; the position stays
 abbrev pub rise_plan : BiosData → ℕ → ℕ → Plan ℕ
-rise_plan d p place = line_feed_fill d p place >>= λ colour. (page_up_plan d p colour >> Done place)
+rise_plan d p place = line_feed_fill d p place >>= λ colour. (scroll_page_up_by_a_row_plan d p colour >> Done place)
 
 module _ (fonts : FontSet) (d : BiosData) (p : ℕ) (lp : p < page_count d) where
   -- a character at a position is a run of one
   put : (c : CardState) (s : Screen) (place v : ℕ) (colouring : Colouring) → IsCard c → shown c d ≡ Some s → Inside (d.last_row + 1) d.columns place →
       v < 256 → colouring.colour < 256
-      → shown (run card_meaning (character_plan fonts d p (cell_number d place) v colouring) c).0 d ≡ Some (put_character fonts s p place v colouring)
+      → shown (run card_meaning (character_plan fonts d p (cell_number_at d place) v colouring) c).0 d ≡ Some (put_character fonts s p place v colouring)
   unfolding characters_plan
   put c s place v colouring z e i lv la =
-      let q = cell_number d place in
+      let q = cell_number_at d place in
       let same : q ≡ q + 0 = omega arith in
       let lc = i.column in
       let within = ends_before d.columns (text_row_of place) (d.last_row + 1) i.row in
@@ -119,7 +119,7 @@ module _ (fonts : FontSet) (d : BiosData) (p : ℕ) (lp : p < page_count d) wher
       Leads (rise_plan d p place) c d (risen s p place, place)
   rises c s place z e lc =
       let fill = line_feed_fill d p place in
-      let up : ℕ → Plan (Unit {0}) = page_up_plan d p in
+      let up : ℕ → Plan (Unit {0}) = scroll_page_up_by_a_row_plan d p in
       let colour = last_row_attribute s p place in
       let x = filled c s place z e lc in
       let c1 = (run card_meaning fill c).0 in
@@ -164,7 +164,7 @@ module _ (fonts : FontSet) (d : BiosData) (p : ℕ) (lp : p < page_count d) wher
     shows : Leads (write_and_advance_plan fonts d p place v colouring) c d (screen_and_next_position (put_character fonts s p place v colouring) p place)
     unfolding write_and_advance_plan
     shows =
-        let write = character_plan fonts d p (cell_number d place) v colouring in
+        let write = character_plan fonts d p (cell_number_at d place) v colouring in
         leads_after write (next_position_plan d p place) c d (screen_and_next_position (put_character fonts s p place v colouring) p place)
         (advances (run card_meaning write c).0 (put_character fonts s p place v colouring) place (plan_bounds write c z)
         (put c s place v colouring z e i lv la) i.column)

@@ -5,10 +5,10 @@ use Rattle.bios_screen.proofs.Prelude.{Done, ◌>>◌, ServiceOutcome, Screen, s
 use Rattle.bios_services.specs.declared.call.Service.TheVariants.{ScrollUp, ScrollDown}
 use Rattle.bios_services.specs.declared.scroll.Scroll.{Scroll}
 use Rattle.bios_services.specs.Refusals.{refusal_in_mode}
-use Rattle.bios_services.specs.Scroll.{IsOnPage, window_clipped_to_page, whole_page, rows_to_scroll, scroll_window_plan, page_up_plan, scroll_window_if_any, scroll_plan}
+use Rattle.bios_services.specs.Scroll.{IsOnPage, window_clipped_to_page, whole_page, scroll_distance, scroll_window_plan, scroll_page_up_by_a_row_plan, scroll_window_if_any, scroll_plan}
 use Rattle.bios_services.specs.Service.{plan_of_service}
 use Rattle.bios_screen.specs.AfterCall.{ServiceLeadsToNextScreen}
-use Rattle.bios_screen.specs.Step.{scroll_window, scroll_asked, scroll, page_up, refusal_on, next, answer_on}
+use Rattle.bios_screen.specs.Step.{scroll_window, after_scroll_of_window, scroll, page_up, refusal_on, next, answer_on}
 use Rattle.bios_services.proofs.CardLemmas.{plan_beam}
 use Rattle.bios_screen.proofs.Base.Plans.{run_bind}
 use Rattle.bios_screen.proofs.Base.Windows.{cut_on_page, few_lines, some_lines}
@@ -30,7 +30,7 @@ module _ (c : CardState) (d : BiosData) (s : Screen) (z : IsCard c) (e : shown c
       (λ is. packed.window_shown c d is z p (page_in bytes_320_by_200 d p (is.there d.height) lp) w on direction n colour lc some few)
       s e
 
-  pub page_raised : (p colour : ℕ) → p < page_count d → colour < 256 → shown (run card_meaning (page_up_plan d p colour) c).0 d
+  pub page_raised : (p colour : ℕ) → p < page_count d → colour < 256 → shown (run card_meaning (scroll_page_up_by_a_row_plan d p colour) c).0 d
       ≡ Some (page_up s p colour)
   page_raised p colour lp lc =
       let cut = cut_is c d s e in
@@ -44,18 +44,18 @@ module _ (c : CardState) (d : BiosData) (s : Screen) (z : IsCard c) (e : shown c
     unfolding scroll_plan
     asked_shown =
         by_window (window_clipped_to_page (d.last_row + 1) d.columns asked) refl
-        ∙ ap (λ n. Some (scroll_asked s asked direction (window_clipped_to_page n d.columns asked))) (sym cut.rows)
-        ∙ ap (λ n. Some (scroll_asked s asked direction (window_clipped_to_page s.layout.rows n asked))) (sym cut.columns)
+        ∙ ap (λ n. Some (after_scroll_of_window s asked direction (window_clipped_to_page n d.columns asked))) (sym cut.rows)
+        ∙ ap (λ n. Some (after_scroll_of_window s asked direction (window_clipped_to_page s.layout.rows n asked))) (sym cut.columns)
       where
         cut : IsCut d s
         cut = cut_is c d s e
 
         by_window : (o : Option Window) → window_clipped_to_page (d.last_row + 1) d.columns asked ≡ o → shown (run card_meaning (scroll_window_if_any d asked direction o) c).0 d
-            ≡ Some (scroll_asked s asked direction o)
+            ≡ Some (after_scroll_of_window s asked direction o)
         by_window None q = e
         by_window (Some w) q =
             let on = cut_on_page (d.last_row + 1) d.columns asked w q in
-            let n = rows_to_scroll w asked.lines in
+            let n = scroll_distance w asked.lines in
             window_shown d.page cut.active w on direction n asked.fill (some_lines w asked.lines on.some) (few_lines w asked.lines) lc
             ∙ ap (λ p. Some (scroll_window s p w direction n asked.fill)) (sym cut.page)
 

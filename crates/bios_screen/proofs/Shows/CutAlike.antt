@@ -17,7 +17,7 @@ use Rattle.bios_services.specs.Cursor.{row_of_position, column_of_position}
 use Rattle.bios_screen.specs.Screen.{cursor_position}
 use Rattle.bios_screen.specs.Colours.{with_colours}
 use Rattle.bios_screen.specs.Called.{screen_unless_refused}
-use Rattle.bios_screen.specs.Step.{scroll_asked, last_row_attribute, page_up, after_line_feed, screen_and_next_position, put_character, type_character, type_characters}
+use Rattle.bios_screen.specs.Step.{after_scroll_of_window, last_row_attribute, page_up, after_line_feed, screen_and_next_position, put_character, type_character, type_characters}
 use Rattle.bios_screen.specs.Step.{with_position, next}
 
 -- t has the mode and the layout of s
@@ -83,7 +83,7 @@ coloured_cut s (ReadEntry entry) block = uncut s
 coloured_cut s (SetMask mask) block = record { mode = refl; layout = refl }
 coloured_cut s ReadMask block = uncut s
 
-scrolled_cut : (s : Screen) (asked : Scroll) (direction : Direction) (w : Option Window) → IsCutAs s (scroll_asked s asked direction w)
+scrolled_cut : (s : Screen) (asked : Scroll) (direction : Direction) (w : Option Window) → IsCutAs s (after_scroll_of_window s asked direction w)
 scrolled_cut s asked direction None = uncut s
 scrolled_cut s asked direction (Some w) = record { mode = refl; layout = refl }
 

@@ -1,7 +1,7 @@
 use Rattle.std.proofs.Common.{◌≡◌, ◌∙◌, sym, ap, subst, ℕ, arith, refl}
 use Rattle.std.proofs.lemmas.List.{get_or-set_other}
 use Rattle.vga_c.specs.Forms.{rgb_word_of_dot}
-use Rattle.vga_c.specs.Palette.{LacksColour, HasColourNumbered}
+use Rattle.vga_c.specs.Palette.{NoNumberHasColour, HasColourNumbered}
 use Rattle.vga_c.proofs.NumberLemmas.{dot_more, none_numbered, too_many}
 use Rattle.vga_c.proofs.indexed.number_dots.Goals as goal
 
@@ -9,7 +9,7 @@ use Rattle.vga_c.proofs.indexed.number_dots.Goals as goal
 pub returns-in-None-clause-many : goal.returns-in-None-clause-many
 returns-in-None-clause-many c is =
     too_many c.loop-i.i c.args.count (rgb_word_of_dot c.args.bytes.now) c.loop-i.palette c.loop-i.numbers c.loop-i.invariant.0 c.loop-i-test.true
-    (c.number_colour.ensures.full c.in-None.is) (subst (LacksColour c.loop-i.palette) c.rgb_word_of_dot.ensures (c.number_colour.ensures.lacks c.in-None.is))
+    (c.number_colour.ensures.full c.in-None.is) (subst (NoNumberHasColour c.loop-i.palette) c.rgb_word_of_dot.ensures (c.number_colour.ensures.lacks c.in-None.is))
 
 -- a dot more
 pub loop-i-preserved : goal.loop-i-preserved

@@ -1,5 +1,7 @@
 use Rattle.std.proofs.Common.{◌+◌, ◌*◌, arith, sym, subst}
 use Rattle.vga_dots.specs.declared.character.CellLook.{CellLook}
+use Rattle.vga_dots.specs.declared.text_colours.TextColours.{TextColours}
+use Rattle.vga_dots.specs.TextColours.{AreTextColoursOf}
 use Rattle.vga_dots.specs.Row.{AreDotsPut}
 use Rattle.vga_dots.specs.Line.{dot_of_counter, colour_of_source_dot, unpanned_colour}
 use Rattle.vga_dots.specs.Character.{IsLookOfItsCells}
@@ -18,5 +20,9 @@ loop-x-preserved g c =
       elim c.if-cell-look.branch [
         | then-cell-look w ↦ subst (λ (look : CellLook). IsLookOfItsCells look d) (sym w.look-is) w.look-look-then-cell-look.ensures.look
         | else-cell-look w ↦ subst (λ (look : CellLook). IsLookOfItsCells look d) (sym w.look-is) c.loop-x.invariant.1
+      ],
+      elim c.if-cell-look.branch [
+        | then-cell-look w ↦ subst (λ (colours : TextColours). AreTextColoursOf colours d) (sym w.colours-is) w.look-look-then-cell-look.ensures.colours
+        | else-cell-look w ↦ subst (λ (colours : TextColours). AreTextColoursOf colours d) (sym w.colours-is) c.loop-x.invariant.2
       ],
     )

@@ -2,11 +2,9 @@
 use Rattle.std.proofs.Common.{◌≡◌, ◌∙◌, ◌+◌, ◌*◌, ℕ, arith, ap, refl, subst, sym}
 use Rattle.std.specs.Prelude.{if◌then◌else◌}
 use Rattle.vga_bits.specs.Bits.{is_set, field}
-use Rattle.vga_dots.specs.declared.quads.Quad.{Quad}
-use Rattle.vga_dots.specs.declared.text.Cell.{Cell}
 use Rattle.vga_dots.specs.Text.{background, is_blinked_away, is_underlined}
 use Rattle.vga_dots.specs.Line.{colour_by_palette}
-use Rattle.vga_dots.specs.Quads.{IsFourDotsOfColour}
+use Rattle.vga_dots.specs.EightDots.{AreEightDotsOfColour}
 use Rattle.vga_dots.specs.Character.{cell_of}
 use Rattle.vga_dots.proofs.CharacterLemmas.{glyph_colour, ground_colour, low}
 use Rattle.vga_dots.proofs.TextLineLemmas.{background_of, blinked_away, underlined, row_of_glyph, glyphs_bound}
@@ -16,15 +14,15 @@ pub returns-clause-look : goal.returns-clause-look
 returns-clause-look c =
     let d = c.args.display.now in
     let line = c.args.self.now.line in
-    let is = c.requires.line in
+    let is = c.requires.text.line in
     let attribute = c.args.attribute in
-    let fore = c.quad_of-fore.result in
-    let back = c.quad_of-back.result in
+    let fore = c.eight_dots-fore.result in
+    let back = c.eight_dots-back.result in
     let colour = colour_by_palette d.attr d.dac in
-    let is_fore = subst (λ (n : ℕ). IsFourDotsOfColour fore (colour n)) (low attribute) c.quad_of-fore.ensures in
-    let is_back : (character : ℕ) → IsFourDotsOfColour back (colour (background d.attr (cell_of attribute character))) =
-    λ character. subst (λ (n : ℕ). IsFourDotsOfColour back (colour n))
-    (background_of d.host d.crtc d.attr line is (cell_of attribute character) _ c.background.ensures.value) c.quad_of-back.ensures in
+    let is_fore = subst (λ (n : ℕ). AreEightDotsOfColour fore (colour n)) (low attribute) c.eight_dots-fore.ensures.dots in
+    let is_back : (character : ℕ) → AreEightDotsOfColour back (colour (background d.attr (cell_of attribute character))) =
+    λ character. subst (λ (n : ℕ). AreEightDotsOfColour back (colour n))
+    (background_of d.host d.crtc d.attr line is (cell_of attribute character) _ c.background.ensures.value) c.eight_dots-back.ensures.dots in
     let pair : (character : ℕ) → c.glyph_and_ground.result ≡ (if is_blinked_away d.crtc d.attr (cell_of attribute character) then (back, back)
     else if is_underlined d.crtc d.attr (cell_of attribute character) then (fore, fore) else (fore, back)) =
     λ character. let away = blinked_away d.host d.crtc d.attr line is (cell_of attribute character) _ (omega arith) refl in
@@ -39,5 +37,5 @@ returns-clause-look c =
           (is_blinked_away d.crtc d.attr cell) (is_underlined d.crtc d.attr cell) _ (pair character);
       glyphs = λ character. row_of_glyph d.host d.crtc d.attr line is (cell_of attribute character) _
           (ap (λ (g : ℕ). g + 32 * character) c.row_address_of_first_glyph.ensures);
-      bound = glyphs_bound (is_set attribute 3) line.map_a line.map_b _ c.requires.glyphs.map_a c.requires.glyphs.map_b c.row_address_of_first_glyph.ensures;
+      bound = glyphs_bound (is_set attribute 3) line.map_a line.map_b _ c.requires.text.glyphs.map_a c.requires.text.glyphs.map_b c.row_address_of_first_glyph.ensures;
     }

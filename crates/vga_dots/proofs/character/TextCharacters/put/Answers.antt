@@ -1,6 +1,6 @@
 -- Each dot has the colour of the glyph's dots or of the others.
-use Rattle.std.proofs.Common.{◌≡◌, ◌∙◌, ◌-◌, ◌+◌, ◌*◌, ℕ, Bool, true, false, ap, refl, subst, sym, arith, if◌then◌else◌}
-use Rattle.vga_bits.specs.Bits.{is_set, field}
+use Rattle.std.proofs.Common.{◌≡◌, ◌∙◌, ◌-◌, ◌+◌, ◌*◌, true, false, ap, subst, sym, arith, if◌then◌else◌}
+use Rattle.vga_bits.specs.Bits.{is_set}
 use Rattle.vga_planes.specs.Planes.{byte_at}
 use Rattle.vga_attr.specs.Attr.{AttrState}
 use Rattle.vga_attr.specs.Fields.{is_line_graphics}
@@ -8,7 +8,7 @@ use Rattle.vga_dots.specs.declared.text.Cell.{Cell}
 use Rattle.vga_dots.specs.Text.{is_glyph_dot, glyph_row, cell_at}
 use Rattle.vga_dots.specs.SourceDot.{fetch_address}
 use Rattle.vga_dots.specs.Line.{colour_by_palette, dot_of_counter, colour_of_source_dot}
-use Rattle.vga_dots.specs.Quads.{IsFourDotsOfColour}
+use Rattle.vga_dots.specs.EightDots.{AreEightDotsOfColour}
 use Rattle.vga_dots.specs.Character.{cell_of, cursorless_nibble}
 use Rattle.vga_dots.proofs.RowLemmas.{dots_alike}
 use Rattle.vga_dots.proofs.CharacterLemmas.{cursorless_dot}
@@ -40,8 +40,8 @@ returns g c =
     let whole : cell_of look.attribute cell.character ≡ cell = λ j. cell_of (c.requires.attribute j) cell.character in
     let glyph = colour (cursorless_nibble d.crtc d.attr cell true) in
     let ground = colour (cursorless_nibble d.crtc d.attr cell false) in
-    let is_glyph = subst (λ (x : Cell). IsFourDotsOfColour look.glyph (colour (cursorless_nibble d.crtc d.attr x true))) whole (c.requires.look.glyph cell.character) in
-    let is_ground = subst (λ (x : Cell). IsFourDotsOfColour look.ground (colour (cursorless_nibble d.crtc d.attr x false))) whole (c.requires.look.ground cell.character) in
+    let is_glyph = subst (λ (x : Cell). AreEightDotsOfColour look.glyph (colour (cursorless_nibble d.crtc d.attr x true))) whole (c.requires.look.glyph cell.character) in
+    let is_ground = subst (λ (x : Cell). AreEightDotsOfColour look.ground (colour (cursorless_nibble d.crtc d.attr x false))) whole (c.requires.look.ground cell.character) in
     let byte : c.byte-byte.result ≡ glyph_row d.host cell scan =
     c.byte-byte.ensures ∙ ap (λ m. byte_at m 2 (look.glyphs + 32 * cell.character)) c.planes.ensures ∙ c.requires.look.glyphs cell.character
     ∙ ap (λ (x : Cell). glyph_row d.host x scan) whole in

@@ -1,0 +1,9 @@
+use Rattle.std.proofs.Common.{◌+◌, ◌-◌, ◌/◌, ◌%◌, ◌^◌}
+use Rattle.vga_bits.specs.Bits.{is_set}
+use Rattle.vga_dots.specs.declared.eight_dots.TheConstants.{LAST_MASKS}
+use Rattle.std.specs.Prelude.{slice_index}
+use Rattle.vga_dots.proofs.EightDotsLemmas.{byte_chosen, last_mask}
+use Rattle.vga_dots.proofs.eight_dots.last_bytes_of_glyph.Goals as goal
+
+pub returns : goal.returns
+returns c = λ p l. byte_chosen (slice_index LAST_MASKS (c.args.lit / 2 ^ 1 % 8)) c.args.fore c.args.back p (is_set c.args.lit (8 - (16 + p) / 3)) (last_mask c.args.lit p l)
