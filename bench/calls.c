@@ -19,11 +19,15 @@
 #define SCREEN 64000u
 #define PAGE 4000u
 #define COPY 8400u
+/* Words of a row of the buffer that is kept from frame to frame, and its rows. */
+#define KEPT_PITCH 720u
+#define KEPT_ROWS 480u
 
 static uint8_t fonts[ZAK_FONTS_SIZE], rgb[ZAK_MOST_RGB], table[ZAK_MOST_TABLE];
 static uint8_t text[ZAK_MOST_TEXT];
 static uint8_t state[ZAK_MOST_STATE], fixed[ZAK_MOST_STATE + 4];
 static uint32_t pixels[ZAK_WIDEST * ZAK_HIGHEST], widths[ZAK_HIGHEST];
+static uint32_t kept[KEPT_PITCH * KEPT_ROWS];
 static const uint8_t none[1];
 static zak_card card = ZAK_CARD_INIT;
 static zak_size size;
@@ -179,6 +183,22 @@ static zak_status do_frame_once(uint32_t i)
     zak_picture picture;
     (void)i;
     return zak_frame_words(&card, ZAK_ONCE, &picture, pixels, sizeof pixels / 4, ZAK_WIDEST);
+}
+
+/* A buffer is kept, and only changed rows are handed on: of a frame that stays the same, and of one
+ * in which a byte was written that the screen shows. */
+static zak_status do_frame_update(uint32_t i)
+{
+    zak_picture picture;
+    zak_rows changed;
+    (void)i;
+    return zak_frame_update(&card, ZAK_ONCE, &picture, kept, KEPT_PITCH * KEPT_ROWS, KEPT_PITCH,
+                            &changed);
+}
+
+static zak_status do_put_frame_update(uint32_t i)
+{
+    return zak_put(&card, window + 2000, (uint8_t)i) | do_frame_update(i);
 }
 
 /* A page of letters: all of one colour, or each cell of another one than the cell before it. */
@@ -390,6 +410,8 @@ static const struct call {
     {"skip_frame", do_skip_frame, NULL},
     {"frame_xrgb", do_frame_xrgb, NULL},
     {"frame_once", do_frame_once, NULL},
+    {"frame_update", do_frame_update, NULL},
+    {"put_frame_update", do_put_frame_update, NULL},
     {"block", do_block, NULL},
     {"frame_lines", do_frame_lines, NULL},
     {"frame_indexed", do_frame_indexed, NULL},

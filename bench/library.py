@@ -23,8 +23,8 @@ FONTS = TOP / "fonts" / "zaklimot.fnt"
 COUNTED = re.compile(r"Collected : (\d+)")
 # A time is that of the best of so many runs.
 RUNS = 3
-# glibc copies and fills long blocks by one instruction, `rep movsb` or `rep stosb`, of which valgrind
-# counts each byte as an instruction. Below these thresholds it takes vector instructions instead.
+# glibc copies and fills long blocks by one instruction, `rep movsb` or `rep stosb`. valgrind counts
+# each byte of them as an instruction. Below these thresholds glibc takes vector instructions.
 VECTOR_COPIES = ":".join(
     f"glibc.cpu.x86_rep_{copies}_threshold={1 << 30}" for copies in ("movsb", "stosb")
 )
@@ -85,6 +85,12 @@ CALLS = (
     Call("frame_once", "13", 10, 500),
     Call("frame_once", "3", 10, 500),
     Call("frame_once", "12", 10, 500),
+    # A buffer that is kept: of a frame that stays the same, and of one in which a byte is written.
+    *(
+        Call(name, mode, 10, 500)
+        for name in ("frame_update", "put_frame_update")
+        for mode in ("13", "3", "12")
+    ),
     Call("frame_lines", "12", 10, 500),
     Call("frame_indexed", "13", 10, 500),
     Call("frame_indexed", "3", 10, 500),
@@ -138,27 +144,38 @@ def seconds(program: Path, call: Call, times: int) -> float:
     return min(took)
 
 
+def library_part(library: Path) -> Path | None:
+    """The one C file of a folder, or its archive, or None and a message where there is neither."""
+    parts = [library / "zaklimot.c", library / "lib" / "libzaklimot.a"]
+    part = next(filter(Path.is_file, parts), None)
+    if part is None:
+        print(
+            f"{Path(sys.argv[0]).name}: {library} has no library: tools/vga-library make {library}",
+            file=sys.stderr,
+        )
+    return part
+
+
+def make_program(source: Path, part: Path, folder: Path) -> Path:
+    """A program of the benchmarks, linked with the library."""
+    program = folder / source.stem
+    words = ["gcc", "-std=c99", "-O2", "-I", str(TOP / "include"), str(source), str(part)]
+    subprocess.run([*words, "-o", str(program)], check=True)
+    return program
+
+
 def main() -> int:
     wanted = sys.argv[2:] or [call.name for call in CALLS]
     if len(sys.argv) < 2 or not {call.name for call in CALLS}.issuperset(wanted):
         print(__doc__, file=sys.stderr)
         return 2
-    library = Path(sys.argv[1])
-    # The one C file, or an archive.
-    parts = [library / "zaklimot.c", library / "lib" / "libzaklimot.a"]
-    part = next(filter(Path.is_file, parts), None)
+    part = library_part(Path(sys.argv[1]))
     if part is None:
-        print(
-            f"library.py: {library} has no library: tools/vga-library make {library}",
-            file=sys.stderr,
-        )
         return 2
     print("| Call | Mode | Instructions | ns |\n|---|---|---|---|")
     with tempfile.TemporaryDirectory(prefix="bench-library-") as name:
         folder = Path(name)
-        program = folder / "calls"
-        words = ["gcc", "-std=c99", "-O2", "-I", str(TOP / "include"), str(SOURCE), str(part)]
-        subprocess.run([*words, "-o", str(program)], check=True)
+        program = make_program(SOURCE, part, folder)
         for call in (call for call in CALLS if call.name in wanted):
             counts = [instructions(program, call, times, folder) for times in (0, call.counted)]
             took = seconds(program, call, call.timed) - seconds(program, call, 0)

@@ -171,10 +171,10 @@ typedef struct zak_timing {
 
 zak_status zak_clock(zak_card *card, zak_timing *timing);
 
-/* Six calls give a frame. zak_frame gives its dots in 18-bit colour, zak_frame_xrgb in words for a
- * window, and zak_frame_indexed in numbers of a palette. zak_frame_words gives each pixel of the
- * software once. zak_frame_lines gives a ragged frame too, and zak_line each line as it ends.
- * zak_skip_frame passes a frame unseen. */
+/* Seven calls give a frame. zak_frame gives its dots in 18-bit colour, zak_frame_xrgb in words for
+ * a window, and zak_frame_indexed in numbers of a palette. zak_frame_words gives each pixel of the
+ * software once, and zak_frame_update also tells which rows have changed. zak_frame_lines gives a
+ * ragged frame too, and zak_line each line as it ends. zak_skip_frame passes a frame unseen. */
 typedef struct zak_size { uint32_t width, height; } zak_size; /* dots in a row, and rows */
 
 /* Let the clock run to the end of the frame under way, by at least one dot, and write the frame's
@@ -204,6 +204,17 @@ typedef struct zak_picture {
  * ZAK_BAD_ARGUMENT: flags are above 3, and no dot has passed. */
 zak_status zak_frame_words(zak_card *card, uint32_t flags, zak_picture *picture, uint32_t *pixels,
                            size_t pixels_cap, size_t pitch);
+
+typedef struct zak_rows { uint32_t first, count; } zak_rows; /* some rows; 0 and 0 for none */
+
+/* Does what zak_frame_words does, for a core that keeps one buffer and hands on only the rows that
+ * have changed. A row has changed if one of its words differs from what pixels held there when the
+ * call began, whoever wrote that. *changed tells the first such row, and how many rows there are
+ * from it to the last such row. If no word differs, both numbers are 0, and nothing is written.
+ * Words beside the picture do not count. ZAK_RAGGED, ZAK_NO_ROOM and ZAK_BAD_ARGUMENT: as for
+ * zak_frame_words, and *changed is unchanged. */
+zak_status zak_frame_update(zak_card *card, uint32_t flags, zak_picture *picture, uint32_t *pixels,
+                            size_t pixels_cap, size_t pitch, zak_rows *changed);
 
 /* Does what zak_frame does, for a core whose pictures have palettes: numbers[width * y + x] is the
  * number of the dot's colour in *palette. The palette has the colours of this picture, each once,

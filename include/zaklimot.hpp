@@ -193,6 +193,15 @@ public:
         return picture;
     }
 
+    /* Does the same, and tells which rows of the words have changed. */
+    zak_picture frame_update(span<std::uint32_t> pixels, std::size_t pitch, zak_rows &changed,
+                             std::uint32_t flags = ZAK_ONCE)
+    {
+        zak_picture picture;
+        check(zak_frame_update(&raw_, flags, &picture, pixels.data(), pixels.size(), pitch, &changed));
+        return picture;
+    }
+
     /* Writes the number of each dot's colour in the palette, which gets the picture's colours. */
     zak_size frame_indexed(span<std::uint8_t> numbers, zak_palette &palette)
     {

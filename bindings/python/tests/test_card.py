@@ -413,7 +413,9 @@ class Frames(unittest.TestCase):
         with self.assertRaises(IndexError):
             picture[640, 0]
         copy = pickle.loads(pickle.dumps(picture))
-        self.assertEqual((bytes(copy.numbers), copy.palette), (bytes(picture.numbers), picture.palette))
+        self.assertEqual(
+            (bytes(copy.numbers), copy.palette), (bytes(picture.numbers), picture.palette)
+        )
 
     def test_numbers_in_a_buffer_of_the_callers(self) -> None:
         buffer = bytearray(b"\xee" * (640 * 400 + 1))
@@ -464,6 +466,38 @@ class Frames(unittest.TestCase):
         for pitch in (319, 322):
             with self.assertRaises(zaklimot.NoRoom):
                 self.card.frame_words(into=buffer, pitch=pitch)
+
+    def test_rows_that_change_in_a_buffer(self) -> None:
+        buffer = bytearray(b"\xee" * (4 * 321 * 200))
+        picture, rows = self.card.frame_update(buffer, 321)
+        told = (picture.width, picture.height, picture.pitch, picture.across, picture.down)
+        self.assertEqual((*told, rows), (320, 200, 321, 2, 2, range(200)))
+        words = memoryview(buffer).cast("I")
+        self.assertEqual((words[319], words[320], picture[319, 199]), (0, 0xEEEE_EEEE, 0x00FF_FF55))
+        self.assertEqual(self.card.frame_update(buffer, 321)[1], range(0))
+        self.card.put(0xA0000 + 320 * 7, 0x0F)
+        self.card.put(0xA0000 + 320 * 100 + 319, 0x0F)
+        picture, rows = self.card.frame_update(into=buffer, pitch=321)
+        self.assertEqual((rows, picture[0, 7], words[321 * 7]), (range(7, 101), 0xFFFFFF, 0xFFFFFF))
+        # What somebody else writes is changed too, but not beside the picture.
+        words[321 * 150 + 3] = words[321 * 199 + 320] = 9
+        self.assertEqual(self.card.frame_update(buffer, 321)[1], range(150, 151))
+        self.assertEqual((words[321 * 150 + 3], words[321 * 199 + 320]), (0, 9))
+        self.assertEqual(self.card.frame_update(buffer, 321, opaque=True)[1], range(200))
+        whole = array.array("I", bytes(4 * 640 * 400))
+        self.assertEqual(self.card.frame_update(whole, 640, once=False)[1], range(14, 400))
+
+    def test_a_buffer_for_changed_rows_that_has_no_room(self) -> None:
+        buffer = bytearray(b"\xee" * (4 * 321 * 200))
+        for pitch in (319, 322, 0xFFFF_FFFF):
+            with self.assertRaises(zaklimot.NoRoom):
+                self.card.frame_update(buffer, pitch)
+        self.card.advance(100_000)
+        for word in (0x0011, 0x2001):
+            self.card.out_word(0x3D4, word)
+        with self.assertRaises(zaklimot.Ragged):
+            self.card.frame_update(buffer, 321)
+        self.assertEqual(buffer, b"\xee" * (4 * 321 * 200))
 
     def test_lines_as_they_end(self) -> None:
         whole = self.card.frame_xrgb()

@@ -91,7 +91,7 @@ class Header(unittest.TestCase):
     def test_kinds_of_statuses(self) -> None:
         for number, kind in _errors.BY_NUMBER.items():
             self.assertEqual(issubclass(kind, _errors.Refusal), number < 20, kind)
-            self.assertEqual(issubclass(kind, _errors.StateError), 30 <= number < 40, kind)
+            self.assertEqual(issubclass(kind, _errors.StateError), 30 <= number < 35, kind)
             self.assertEqual(issubclass(kind, _errors.ScriptError), number > 100, kind)
 
     def test_the_formats_refusals_and_faults(self) -> None:
@@ -121,7 +121,7 @@ class Header(unittest.TestCase):
 
     def test_the_reader_sees_the_header(self) -> None:
         self.assertGreater(len(header.calls()), 40)
-        self.assertEqual(len(header.structs()), 15)
+        self.assertEqual(len(header.structs()), 17)
         self.assertEqual(header.structs()["zak_registers"][2], header.Field("seq", "uint8_t", 5))
         self.assertEqual(header.calls()["in"], ["zak_card *", "uint16_t", "uint8_t *"])
         self.assertEqual(header.calls()["fill_bytes"][3:], ["size_t", "bool", "size_t *"])

@@ -36,6 +36,7 @@ CALLS: dict[str, tuple[Any, ...]] = {
     "frame": (),
     "frame_xrgb": (),
     "frame_words": (),
+    "frame_update": (bytearray(4 * 320 * 200), 320),
     "line": (),
     "lines": (),
     "skip_frame": (),
@@ -285,6 +286,7 @@ class Numbers(unittest.TestCase):
             for call in drawing:
                 with self.subTest(wrong), self.assertRaises(TypeError):
                     call(into=wrong)
+            self.assert_raises(TypeError, "frame_update", (wrong, 1))
             for name in ("save_into", "save_fixed_into"):
                 self.assert_raises(TypeError, name, (wrong,))
             if wrong != 5:
@@ -298,6 +300,10 @@ class Numbers(unittest.TestCase):
                     call(pitch=pitch)
         with self.assertRaises(TypeError):
             self.card.frame_xrgb(pitch=1.5)  # type: ignore[arg-type]
+        self.assert_raises(TypeError, "frame_update", (None, 320))
+        self.assert_raises(ValueError, "frame_update", (odd, 320))
+        for pitch in (-1, 2**32, 2**70):
+            self.assert_raises(ValueError, "frame_update", (bytearray(8), pitch))
 
     def test_buffers_grow_where_an_error_is_handled(self) -> None:
         calls: dict[str, tuple[Any, ...]] = {
@@ -310,12 +316,15 @@ class Numbers(unittest.TestCase):
             "frame": (),
             "frame_xrgb": (),
             "frame_words": (),
+            "frame_update": (),
+            "frame_indexed": (),
         }
         for name, front in calls.items():
             room = bytearray(8)
+            behind = (320,) if name == "frame_update" else ()
             with self.subTest(name):
                 try:
-                    getattr(self.card, name)(*front, room)
+                    getattr(self.card, name)(*front, room, *behind)
                     self.fail("it is too short")
                 except zaklimot.Error:
                     room.extend(b"more")

@@ -404,7 +404,7 @@ class Pages(unittest.TestCase):
                     with contextlib.redirect_stdout(io.StringIO()):
                         exec(block, names)
                 tried.add(name)
-        self.assertLessEqual({"line", "save_into", "clock", "frame_words"}, tried)
+        self.assertLessEqual({"line", "save_into", "clock", "frame_words", "frame_update"}, tried)
         # The line that ends the frame is shown too.
         self.assertEqual(shown, list(range(449)))
 

@@ -125,7 +125,8 @@ impl CutFrames<'_> {
     /// Counts a call after the first dot of a frame.
     fn count_call(&mut self, call: &RandomCall, refusal: Option<Refusal>) -> Result<()> {
         if !self.drawing.is_at_first_dot() {
-            self.within.count_call(self.pair.plain.mode, call.regs, refusal)?;
+            self.within
+                .count_call(self.pair.plain.mode, call.regs, refusal)?;
         }
         Ok(())
     }

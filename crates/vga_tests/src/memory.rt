@@ -225,7 +225,7 @@ impl Call {
 }
 
 /// Checks that each call answers as its example says, if no allocation fails.
-pub fn check_memory(alloc: Global) -> Checks {
+pub fn check_allocating_calls(alloc: Global) -> Checks {
     let mut checks = Checks::new();
     for call in CALLS {
         let is_right = matches!(call.ending(alloc), Ending::AsInExample);

@@ -72,7 +72,7 @@ fn is_script_run(
 
 /// Checks scripts at hand: their reports, and that the size of the font file is checked before the
 /// bytes.
-fn check_at_hand(alloc: Global, fonts: &[u8], checks: &mut Checks) -> Result<(), Fault> {
+fn check_scripts_at_hand(alloc: Global, fonts: &[u8], checks: &mut Checks) -> Result<(), Fault> {
     let font_size = Err(Fault::FontSize);
     let bad_magic = Err(Fault::BadMagic);
     checks.note(

@@ -50,6 +50,7 @@ CALLS: dict[str, tuple[Any, ...]] = {
     "frame": (CARD, _to(s.zak_size), BYTES, SIZE),
     "frame_xrgb": (CARD, _to(s.zak_size), _to(U32), SIZE, SIZE),
     "frame_words": (CARD, U32, _to(s.zak_picture), _to(U32), SIZE, SIZE),
+    "frame_update": (CARD, U32, _to(s.zak_picture), _to(U32), SIZE, SIZE, _to(s.zak_rows)),
     "frame_indexed": (CARD, _to(s.zak_size), _to(s.zak_palette), BYTES, SIZE),
     "line": (CARD, U32, _to(s.zak_scan_line), _to(U32), SIZE),
     "frame_lines": (CARD, _to(U32), BYTES, SIZE, COUNT),

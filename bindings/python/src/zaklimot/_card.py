@@ -449,8 +449,37 @@ class Card:
         width, height, across, down = told.width, told.height, told.across, told.down
         return XrgbPicture(width, height, pitch, self._words(into), across, down)
 
+    def frame_update(
+        self, into: Any, pitch: int, *, once: bool = True, opaque: bool = False
+    ) -> tuple[XrgbPicture, range]:
+        """Lets the clock run to the end of the frame, brings a buffer up to date with its picture,
+        and returns the picture and the rows that have changed.
+
+            screen = bytearray(4 * 320 * 200)             # words for a picture of 320 by 200
+            picture, rows = card.frame_update(screen, 320)
+            card.put(0xA0000 + 320 * 7, 0x0F)             # in mode 13 (hexadecimal)
+            picture, rows = card.frame_update(screen, 320)
+            rows                                          # range(7, 8)
+
+        A row has changed if one of its words differs from what `into` held before, whoever wrote
+        that. The range goes from the first such row to the last, and is empty if there is none. So
+        keep one buffer, and hand on only these rows of `picture`. Buffer, pitch, forms of words and
+        exceptions are those of `frame_words`.
+        """
+        if into is None:
+            raise TypeError("the rows that have changed are those of a buffer of yours")
+        told, changed = s.zak_picture(), s.zak_rows()
+        in_range("pitch", pitch, LONG)
+        flags, target = s.ONCE * bool(once) + s.OPAQUE * bool(opaque), (into, "", 0, s.U32)
+        self._call(
+            "frame_update", flags, _byref(told), *self._target(*target), pitch, _byref(changed)
+        )
+        width, height, across, down = told.width, told.height, told.across, told.down
+        picture = XrgbPicture(width, height, pitch, self._words(into), across, down)
+        return picture, range(changed.first, changed.first + changed.count)
+
     def frame_indexed(self, into: Optional[Any] = None) -> IndexedPicture:
-        """Lets the clock run to the end of the frame, and returns numbers of colours with a palette.
+        """Lets the clock run to the end of the frame, and returns numbers of colours and a palette.
 
             picture = card.frame_indexed()
             picture.palette[picture.numbers[0]]           # the word 00RRGGBB of the first dot
@@ -461,8 +490,8 @@ class Card:
         With each of them the frame has passed, and `peek` still gives its dots.
         """
         size, palette = s.zak_size(), s.zak_palette()
-        target = self._target(into, "numbers", s.WIDEST * s.HIGHEST, s.U8)
-        self._call("frame_indexed", _byref(size), _byref(palette), *target)
+        target = (into, "numbers", s.WIDEST * s.HIGHEST, s.U8)
+        self._call("frame_indexed", _byref(size), _byref(palette), *self._target(*target))
         numbers = self._view(into, "numbers")[: size.width * size.height]
         colours = tuple(palette.colours[: palette.len])
         return IndexedPicture(size.width, size.height, numbers, colours)

@@ -228,7 +228,9 @@ class IndexedPicture:
         )
 
 
-def _indexed_of(width: int, height: int, numbers: bytes, palette: tuple[int, ...]) -> IndexedPicture:
+def _indexed_of(
+    width: int, height: int, numbers: bytes, palette: tuple[int, ...]
+) -> IndexedPicture:
     """A picture in memory of its own."""
     return IndexedPicture(width, height, memoryview(numbers), palette)
 

@@ -49,6 +49,10 @@ class zak_picture(Structure):
     _fields_ = [("width", U32), ("height", U32), ("across", U32), ("down", U32)]
 
 
+class zak_rows(Structure):
+    _fields_ = [("first", U32), ("count", U32)]
+
+
 class zak_palette(Structure):
     _fields_ = [("len", U32), ("colours", U32 * 256)]
 

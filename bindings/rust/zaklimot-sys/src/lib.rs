@@ -57,6 +57,14 @@ pub struct zak_picture {
     pub down: u32,
 }
 
+/// `zak_rows` of the header.
+#[repr(C)]
+#[derive(Clone, Copy, Debug, Default, PartialEq, Eq)]
+pub struct zak_rows {
+    pub first: u32,
+    pub count: u32,
+}
+
 /// `zak_palette` of the header.
 #[repr(C)]
 #[derive(Clone, Copy, Debug, PartialEq, Eq)]
@@ -329,6 +337,15 @@ extern "C" {
         pixels: *mut u32,
         pixels_cap: usize,
         pitch: usize,
+    ) -> zak_status;
+    pub fn zak_frame_update(
+        card: *mut zak_card,
+        flags: u32,
+        picture: *mut zak_picture,
+        pixels: *mut u32,
+        pixels_cap: usize,
+        pitch: usize,
+        changed: *mut zak_rows,
     ) -> zak_status;
     pub fn zak_frame_indexed(
         card: *mut zak_card,

@@ -2,6 +2,7 @@
 
 use std::cell::Cell as Unshared;
 use std::marker::PhantomData;
+use std::ops::Range;
 use std::ptr::null_mut;
 
 use zaklimot_sys as sys;
@@ -406,6 +407,46 @@ impl Card {
         pitch: usize,
     ) -> Result<WordSize, Error> {
         frame_words_into(&mut self.raw, form, pixels, pitch)
+    }
+
+    /// Lets the clock run to the end of the frame under way, and brings the caller's words up to
+    /// date with its picture, as [`frame_words_into`](Card::frame_words_into) writes it. Returns the
+    /// rows that have changed: from the first with a word that differs from what was there before,
+    /// whoever wrote that, to the last. If no word differs they are `0..0`.
+    ///
+    /// ```
+    /// use zaklimot::{Card, Form, Regs};
+    ///
+    /// let mut card = Card::new()?;
+    /// card.int10(Regs::ax(0x0013), &[])?;
+    /// let form = Form { once: true, opaque: true };
+    /// let mut screen = vec![0; 320 * 200]; // kept from frame to frame
+    /// card.frame_update(form, &mut screen, 320)?;
+    /// card.put(0xA0000 + 320 * 7, 0x0F)?;
+    /// let (words, rows) = card.frame_update(form, &mut screen, 320)?;
+    /// assert_eq!((words.size.width, rows), (320, 7..8));
+    /// # Ok::<(), zaklimot::Error>(())
+    /// ```
+    ///
+    /// # Errors
+    ///
+    /// [`Error::Ragged`], and [`Error::NoRoom`] if there are too few words or the pitch is below the
+    /// width. With either the frame has passed, and the words stay.
+    pub fn frame_update(
+        &mut self,
+        form: Form,
+        pixels: &mut [u32],
+        pitch: usize,
+    ) -> Result<(WordSize, Range<usize>), Error> {
+        let (mut picture, mut rows) = (sys::zak_picture::default(), sys::zak_rows::default());
+        let (to, len) = (pixels.as_mut_ptr(), pixels.len());
+        let flags = flags_of(form);
+        // SAFETY: `pixels` has as many words as its length says.
+        done(unsafe {
+            sys::zak_frame_update(&mut self.raw, flags, &mut picture, to, len, pitch, &mut rows)
+        })?;
+        let first = rows.first as usize;
+        Ok((word_size_of(picture), first..first + rows.count as usize))
     }
 
     /// Lets the clock run to the end of the frame under way, and lends its picture: a number for
@@ -953,14 +994,22 @@ fn frame_words_into(
     pitch: usize,
 ) -> Result<WordSize, Error> {
     let mut picture = sys::zak_picture::default();
-    let once = if form.once { sys::ZAK_ONCE } else { 0 };
-    let flags = once + if form.opaque { sys::ZAK_OPAQUE } else { 0 };
     let (to, len) = (pixels.as_mut_ptr(), pixels.len());
     // SAFETY: `pixels` has as many words as its length says.
-    done(unsafe { sys::zak_frame_words(raw, flags, &mut picture, to, len, pitch) })?;
+    done(unsafe { sys::zak_frame_words(raw, flags_of(form), &mut picture, to, len, pitch) })?;
+    Ok(word_size_of(picture))
+}
+
+/// The flags that ask for a form.
+fn flags_of(form: Form) -> u32 {
+    let once = if form.once { sys::ZAK_ONCE } else { 0 };
+    once + if form.opaque { sys::ZAK_OPAQUE } else { 0 }
+}
+
+fn word_size_of(picture: sys::zak_picture) -> WordSize {
     let sys::zak_picture { width, height, across, down } = picture;
     let size = size_of(sys::zak_size { width, height });
-    Ok(WordSize { size, across: across as usize, down: down as usize })
+    WordSize { size, across: across as usize, down: down as usize }
 }
 
 impl Drop for Card {

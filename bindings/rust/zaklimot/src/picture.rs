@@ -13,7 +13,8 @@ pub struct Size {
     pub height: usize,
 }
 
-/// The form of a picture of [`Card::frame_words`](crate::Card::frame_words).
+/// The form of a picture of [`Card::frame_words`](crate::Card::frame_words) and
+/// [`Card::frame_update`](crate::Card::frame_update).
 #[derive(Clone, Copy, Debug, Default, PartialEq, Eq)]
 pub struct Form {
     /// Whether a pixel that the screen shows on several dots or lines has one word.

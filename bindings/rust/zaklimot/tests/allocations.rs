@@ -30,6 +30,7 @@ static ALLOCATOR: Counting = Counting;
 fn frame(card: &mut Card, words: &mut [u32], state: &mut [u8]) -> Result<(), Error> {
     let form = Form { once: true, opaque: true };
     card.frame_words_into(form, words, 320)?;
+    card.frame_update(form, words, 320)?;
     let len = card.save_into(state)?;
     card.restore(&state[..len])?;
     card.save_fixed(state)?;

@@ -56,6 +56,37 @@ fn pixels_stand_once() {
 }
 
 #[test]
+fn rows_that_change_are_told() {
+    let mut card = card_in(0x0013);
+    let form = Form { once: true, opaque: false };
+    let mut words = vec![9; 321 * 200];
+    assert_eq!(card.frame_update(form, &mut words, 319), Err(Error::NoRoom));
+    assert_eq!(card.frame_update(form, &mut words[1..], 321), Err(Error::NoRoom));
+    assert!(words.iter().all(|word| *word == 9));
+    let (told, rows) = card.frame_update(form, &mut words, 321).unwrap();
+    assert_eq!((told.size.width, told.size.height, told.across, told.down), (320, 200, 2, 2));
+    assert_eq!((rows, words[319], words[320]), (0..200, 0, 9));
+    card.put(0xA0000 + 320 * 7, 0x0F).unwrap();
+    card.put(0xA0000 + 320 * 100 + 319, 0x0F).unwrap();
+    assert_eq!(card.frame_update(form, &mut words, 321).unwrap().1, 7..101);
+    assert_eq!((words[321 * 7], words[321 * 100 + 319]), (0x00FF_FFFF, 0x00FF_FFFF));
+    assert_eq!(card.frame_update(form, &mut words, 321).unwrap().1, 0..0);
+    // What somebody else writes is changed too, but not beside the picture.
+    (words[321 * 150], words[321 * 199 + 320]) = (1, 1);
+    assert_eq!(card.frame_update(form, &mut words, 321).unwrap().1, 150..151);
+    assert_eq!((words[321 * 150], words[321 * 199 + 320]), (0, 1));
+    let opaque = Form { opaque: true, ..form };
+    assert_eq!(card.frame_update(opaque, &mut words, 321).unwrap().1, 0..200);
+    card.advance(100_000).unwrap();
+    for word in [0x0011, 0x2001] {
+        card.out_word(0x3D4, word).unwrap();
+    }
+    let before = words.clone();
+    assert_eq!(card.frame_update(form, &mut words, 321), Err(Error::Ragged));
+    assert!(words == before);
+}
+
+#[test]
 fn blocks_are_told() {
     let mut card = card_in(0x0003);
     let colours = Regs { bx: 3, cx: 5, ..Regs::ax(0x1012) };

@@ -43,11 +43,34 @@ static void get_words(module *self, uint32_t *words, u32 at, size_t count)
 #endif
 }
 
-static void get_rows(module *self, const canvas *canvas, uint32_t width, uint32_t height)
+static void put_words(module *self, u32 at, const uint32_t *words, size_t count)
 {
-    for (uint32_t y = 0; y < height; y++)
-        get_words(self, canvas->pixels + canvas->pitch * y, DESK + 4 * canvas->desk_pitch * y,
-                  width);
+#if LOW_BYTE_FIRST
+    hand_over(self, at, words, 4 * count);
+#else
+    for (size_t i = 0; i < count; i++)
+        put32(self->memory + at + 4 * i, words[i]);
+#endif
+}
+
+static u32 row_on_desk(const canvas *canvas, uint32_t y)
+{
+    return DESK + 4 * canvas->desk_pitch * y;
+}
+
+static void get_rows(module *self, const canvas *canvas, uint32_t width, zak_rows rows)
+{
+    for (uint32_t y = rows.first; y < rows.first + rows.count; y++)
+        get_words(self, canvas->pixels + canvas->pitch * y, row_on_desk(canvas, y), width);
+}
+
+/* Lays on the desk all words that the picture may get: how large it is shows only once it is
+ * drawn. */
+static void put_rows(module *self, const canvas *canvas)
+{
+    for (uint32_t y = 0; y < canvas->desk_rows; y++)
+        put_words(self, row_on_desk(canvas, y), canvas->pixels + canvas->pitch * y,
+                  canvas->desk_pitch);
 }
 
 static zak_status frame_xrgb(module *self, zak_size *size, const canvas *canvas)
@@ -57,7 +80,7 @@ static zak_status frame_xrgb(module *self, zak_size *size, const canvas *canvas)
     if (is_told(status))
         *size = (zak_size){told32(self, 0), told32(self, 4)};
     if (status == ZAK_OK)
-        get_rows(self, canvas, size->width, size->height);
+        get_rows(self, canvas, size->width, (zak_rows){0, size->height});
     return status;
 }
 
@@ -69,16 +92,20 @@ zak_status zak_frame_xrgb(zak_card *card, zak_size *size, uint32_t *pixels, size
     END(card, frame_xrgb(self, size, &canvas));
 }
 
+static zak_picture told_picture(module *self)
+{
+    return (zak_picture){told32(self, 0), told32(self, 4), told32(self, 8), told32(self, 12)};
+}
+
 static zak_status frame_words(module *self, uint32_t flags, zak_picture *picture,
                               const canvas *canvas)
 {
     zak_status status = module_zak_frame_words(
         self, CARD, flags, TOLD, DESK, canvas->desk_rows * canvas->desk_pitch, canvas->desk_pitch);
     if (is_told(status))
-        *picture =
-            (zak_picture){told32(self, 0), told32(self, 4), told32(self, 8), told32(self, 12)};
+        *picture = told_picture(self);
     if (status == ZAK_OK)
-        get_rows(self, canvas, picture->width, picture->height);
+        get_rows(self, canvas, picture->width, (zak_rows){0, picture->height});
     return status;
 }
 
@@ -88,6 +115,33 @@ zak_status zak_frame_words(zak_card *card, uint32_t flags, zak_picture *picture,
     canvas canvas = canvas_of(pixels, pixels_cap, pitch);
     BEGIN(card);
     END(card, frame_words(self, flags, picture, &canvas));
+}
+
+/* Where a call tells which rows have changed: behind the picture. */
+#define TOLD_ROWS 16u
+
+static zak_status frame_update(module *self, uint32_t flags, zak_picture *picture,
+                               const canvas *canvas, zak_rows *changed)
+{
+    put_rows(self, canvas);
+    zak_status status = module_zak_frame_update(
+        self, CARD, flags, TOLD, DESK, canvas->desk_rows * canvas->desk_pitch, canvas->desk_pitch,
+        TOLD + TOLD_ROWS);
+    if (is_told(status))
+        *picture = told_picture(self);
+    if (status == ZAK_OK) {
+        *changed = (zak_rows){told32(self, TOLD_ROWS), told32(self, TOLD_ROWS + 4)};
+        get_rows(self, canvas, picture->width, *changed);
+    }
+    return status;
+}
+
+zak_status zak_frame_update(zak_card *card, uint32_t flags, zak_picture *picture, uint32_t *pixels,
+                            size_t pixels_cap, size_t pitch, zak_rows *changed)
+{
+    canvas canvas = canvas_of(pixels, pixels_cap, pitch);
+    BEGIN(card);
+    END(card, frame_update(self, flags, picture, &canvas, changed));
 }
 
 static zak_status frame_indexed(module *self, zak_size *size, zak_palette *palette,

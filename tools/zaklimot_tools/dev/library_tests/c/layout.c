@@ -24,6 +24,9 @@ LIES(zak_picture, height, 4);
 LIES(zak_picture, across, 8);
 LIES(zak_picture, down, 12);
 
+TAKES(zak_rows, 8);
+LIES(zak_rows, count, 4);
+
 TAKES(zak_palette, 1028);
 LIES(zak_palette, colours, 4);
 

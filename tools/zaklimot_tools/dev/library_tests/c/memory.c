@@ -67,7 +67,7 @@ void __wrap_free(void *block)
 /* Whether a card keeps memory. */
 static bool is_kept;
 
-static uint8_t fonts[ZAK_FONTS_SIZE], answer[MOST_STATE], rgb[ZAK_MOST_RGB];
+static uint8_t fonts[ZAK_FONTS_SIZE], answer[MOST_STATE], rgb[ZAK_MOST_RGB], report[ZAK_MOST_RGB];
 static uint32_t pixels[640 * 480], widths[ZAK_HIGHEST];
 static const uint8_t none[1];
 static size_t len, place, taken;
@@ -106,7 +106,7 @@ static zak_status do_cursor(void) { return zak_screen_cursor(&card, 0, &cursor);
 static zak_status do_indexed(void)
 {
     static zak_size size;
-    return zak_frame_indexed(&card, &size, &palette, answer, sizeof answer);
+    return zak_frame_indexed(&card, &size, &palette, report, sizeof report);
 }
 
 static zak_status do_plane(void)
@@ -123,7 +123,7 @@ static zak_status do_run(void)
 /* Steps that take memory for their answers, with others between them that change the card. */
 static const char steps_text[] = "version 2\nint ax=3\nframe\nrepeat 2\nput B8000 41\nshow cells\n"
                                  "advance 1000\nend\nint ax=1017 cx=100 ; the DAC's entries\n";
-static uint8_t steps[64], report[ZAK_MOST_RGB];
+static uint8_t steps[64];
 static size_t steps_len;
 
 static zak_status do_assemble(void)
@@ -357,6 +357,7 @@ static zak_status other_calls(void)
     zak_bda bda;
     zak_timing timing;
     zak_picture picture;
+    zak_rows changed;
     zak_scan_line line;
     zak_source source;
     zak_regs regs = {0x1300, 0, 5, 0};
@@ -372,6 +373,7 @@ static zak_status other_calls(void)
     status |= zak_advance(&card, 100) | zak_frame(&card, &size, rgb, sizeof rgb);
     status |= zak_frame_xrgb(&card, &size, pixels, sizeof pixels / 4, 640);
     status |= zak_frame_words(&card, ZAK_ONCE, &picture, pixels, sizeof pixels / 4, 640);
+    status |= zak_frame_update(&card, 0, &picture, pixels, sizeof pixels / 4, 640, &changed);
     status |= zak_line(&card, 0, &line, pixels, sizeof pixels / 4);
     status |= zak_frame_lines(&card, widths, rgb, sizeof rgb, &len);
     status |= zak_save_size(&card, &len) | zak_save(&card, rgb, sizeof rgb, &len);

@@ -73,6 +73,7 @@ static void calls_of_closed(void)
     zak_picture picture = {7, 7, 7, 7};
     zak_scan_line line = {7, 7, true};
     zak_palette palette = {.len = 7};
+    zak_rows changed = {7, 7};
     zak_regs regs = {3, 0, 0, 0};
     zak_source source = {7, true};
     uint32_t pixel = 7, widths[ZAK_HIGHEST] = {7};
@@ -82,6 +83,7 @@ static void calls_of_closed(void)
     SHOW(zak_frame(&card, &size, bytes, 1));
     SHOW(zak_frame_xrgb(&card, &size, &pixel, 1, 1));
     SHOW(zak_frame_words(&card, ZAK_ONCE, &picture, &pixel, 1, 1));
+    SHOW(zak_frame_update(&card, ZAK_ONCE, &picture, &pixel, 1, 1, &changed));
     SHOW(zak_frame_indexed(&card, &size, &palette, bytes, 1));
     SHOW(zak_line(&card, 0, &line, &pixel, 1));
     SHOW(zak_frame_lines(&card, widths, bytes, 1, &len));
@@ -108,6 +110,7 @@ static void calls_of_closed(void)
     SHOW(picture.width == 7 && picture.down == 7 && source.len == 7 && source.is_at_dx);
     SHOW(line.number == 7 && line.width == 7 && line.ends_frame);
     SHOW(palette.len == 7 && palette.colours[0] == 0);
+    SHOW(changed.first == 7 && changed.count == 7);
     free(bytes);
 }
 
@@ -334,6 +337,41 @@ static void pixels_once(void)
     free(pixels);
 }
 
+static void changed_rows(void)
+{
+    zak_picture picture = {7, 7, 7, 7};
+    zak_rows changed = {7, 7};
+    zak_beam before, after;
+    size_t room = 321u * 200;
+    uint32_t *pixels = malloc(4 * room);
+    if (!pixels)
+        exit(2);
+    memset(pixels, UNTOUCHED, 4 * room);
+    zak_read_beam(&card, &before);
+    SHOW(zak_frame_update(&card, 4, &picture, pixels, room, 321, &changed));
+    SHOW(zak_frame_update(&card, 0xFFFFFFFF, &picture, pixels, room, 321, &changed));
+    zak_read_beam(&card, &after);
+    SHOW(are_alike(&before, &after) && picture.width == 7 && changed.count == 7);
+    SHOW(zak_frame_update(&card, ZAK_ONCE, &picture, pixels, room, 319, &changed));
+    SHOW(zak_frame_update(&card, ZAK_ONCE, &picture, pixels, room - 1, 321, &changed));
+    SHOW(zak_frame_update(&card, ZAK_ONCE, &picture, pixels, 0, (size_t)-1, &changed));
+    SHOW(zak_frame_update(&card, ZAK_ONCE, &picture, pixels, room, SIZE_MAX / 4 + 1, &changed));
+    SHOW(zak_frame_update(&card, 0, &picture, pixels, room, 640, &changed));
+    SHOW(picture.width == 640 && picture.down == 1 && pixels[0] == 0xEEEEEEEE);
+    SHOW(changed.first == 7 && changed.count == 7);
+    SHOW(zak_frame_update(&card, ZAK_ONCE, &picture, pixels, room, 321, &changed));
+    SHOW(picture.width == 320 && picture.height == 200 && picture.across == 2 && picture.down == 2);
+    SHOW(changed.first == 0 && changed.count == 200);
+    SHOW(pixels[0] == 0 && pixels[319] == 0 && pixels[320] == 0xEEEEEEEE);
+    pixels[321 * 5] = pixels[321 * 8 + 319] = pixels[321 * 9 + 320] = 1;
+    SHOW(zak_frame_update(&card, ZAK_ONCE, &picture, pixels, room, 321, &changed));
+    SHOW(changed.first == 5 && changed.count == 4 && pixels[321 * 5] == 0);
+    SHOW(pixels[321 * 8 + 319] == 0 && pixels[321 * 9 + 320] == 1);
+    SHOW(zak_frame_update(&card, ZAK_ONCE, &picture, pixels, room, 321, &changed));
+    SHOW(changed.first == 0 && changed.count == 0);
+    free(pixels);
+}
+
 static void little_lines(void)
 {
     zak_scan_line line = {7, 7, true};
@@ -425,6 +463,19 @@ static void ragged_frame(void)
     SHOW(zak_frame(&card, &size, rgb, ZAK_MOST_RGB));
     SHOW(size.width == 7 && rgb[0] == UNTOUCHED);
     free(rgb);
+}
+
+/* Such a frame leaves a buffer as it is, and gives no rows. */
+static void ragged_update(void)
+{
+    zak_picture picture = {7, 7, 7, 7};
+    zak_rows changed = {7, 7};
+    uint32_t pixel = 7;
+    SHOW(zak_out_word(&card, 0x3D4, 0x4F01));
+    SHOW(zak_advance(&card, 100000));
+    SHOW(zak_out_word(&card, 0x3D4, 0x2001));
+    SHOW(zak_frame_update(&card, ZAK_ONCE, &picture, &pixel, 1, 1, &changed));
+    SHOW(picture.width == 7 && pixel == 7 && changed.first == 7 && changed.count == 7);
 }
 
 /* Such a frame line by line: lines of 640 dots, and then shorter ones. */
@@ -842,12 +893,14 @@ int main(int argc, char **argv)
     little_pixels();
     distant_rows();
     pixels_once();
+    changed_rows();
     little_lines();
     little_texts();
     reads_out_of_range();
     pixels_out_of_range();
     ragged_frame();
     no_screen();
+    ragged_update();
     ragged_lines();
     states();
     runs();

@@ -314,6 +314,12 @@ static int spans(card &vga)
     HOLDS(vga.get_bytes(0xA0007, others) == 3 && others[0] == 'h' && others[2] == 'j');
     static std::uint32_t pixels[320 * 200];
     HOLDS(vga.frame_words(pixels, 320).width == 320 && pixels[0] != pixels[10]);
+    zak_rows changed = {7, 7};
+    HOLDS(vga.frame_update(pixels, 320, changed).width == 320 && changed.first == 0 && changed.count == 0);
+    HOLDS(vga.put_bytes(0xA0000 + 320 * 199, text) == 2 && vga.frame_update(pixels, 320, changed).height == 200);
+    HOLDS(changed.first == 199 && changed.count == 1 && pixels[320 * 199] != pixels[10]);
+    HOLDS(thrown([&] { vga.frame_update(pixels, 319, changed); }) == ZAK_NO_ROOM && changed.first == 199);
+    HOLDS(vga.frame_update(pixels, 320, changed, ZAK_ONCE | ZAK_OPAQUE).down == 2 && changed.count == 200);
     HOLDS(words(pixels).size() == 64000 && words(pixels).end() == pixels + 64000);
     const std::vector<std::uint8_t> empty;
     HOLDS(bytes(empty).size() == 0 && bytes(empty).data() != nullptr);

@@ -1,6 +1,7 @@
 /* zak_frame_words against zak_frame, in each mode and over pseudo-random registers: two cards in
- * one state, of which one gives bytes and the other words in each form. Prints how many pictures
- * were compared, or what was wrong.
+ * one state, of which one gives bytes and the other words in each form. zak_frame_update against
+ * zak_frame_words: its words, and the rows that differ from what its buffer had. Prints how many
+ * pictures were compared, or what was wrong.
  *
  *     pictures FONTS SETTINGS */
 #include <stdio.h>
@@ -26,6 +27,8 @@ static const struct known known[] = {
 
 static uint8_t fonts[ZAK_FONTS_SIZE], state[ZAK_MOST_STATE], rgb[ZAK_MOST_RGB];
 static uint32_t pixels[2 * MOST_WORDS];
+/* The words that zak_frame_update brings up to date, and what they were. */
+static uint32_t buffer[2 * MOST_WORDS + 1], before[2 * MOST_WORDS + 1];
 static zak_card card = ZAK_CARD_INIT, other = ZAK_CARD_INIT;
 static uint32_t random_state = 1;
 static unsigned long compared;
@@ -128,6 +131,77 @@ static void compare_words(zak_size size, zak_picture picture, uint32_t flags, si
     require(pixels[pitch * picture.height] == UNTOUCHED, "what stands behind was written");
 }
 
+/* The rows of a picture from the first that differs between two buffers to the last. */
+static zak_rows rows_between(const uint32_t *one, const uint32_t *two, zak_picture picture,
+                             size_t pitch)
+{
+    zak_rows rows = {0, 0};
+    for (uint32_t y = 0; y < picture.height; y++) {
+        if (memcmp(one + pitch * y, two + pitch * y, 4 * picture.width) == 0)
+            continue;
+        if (rows.count == 0)
+            rows.first = y;
+        rows.count = y + 1 - rows.first;
+    }
+    return rows;
+}
+
+/* What the buffer has before a call: mostly the picture's own words, with a few bits of them or of
+ * what stands beside them changed, or none; sometimes what an earlier call has left. */
+static void vary_buffer(zak_picture picture, size_t pitch, size_t buffer_pitch)
+{
+    size_t words = buffer_pitch * picture.height;
+    if (random_below(4) == 0)
+        return;
+    for (uint32_t y = 0; y < picture.height; y++)
+        memcpy(buffer + buffer_pitch * y, pixels + pitch * y, 4 * picture.width);
+    for (uint32_t n = random_below(4); n > 0 && words > 0; n--)
+        buffer[random_below((uint32_t)words)] ^= 1u << random_below(32);
+}
+
+/* A call that gives no picture leaves the buffer, and does not tell any rows. */
+static void refuse_update(uint32_t flags, size_t used, size_t cap, size_t pitch, zak_status status)
+{
+    zak_rows changed = {7, 7};
+    zak_picture picture;
+    memcpy(before, buffer, 4 * (cap + 1));
+    require(zak_restore(&other, state, used) == ZAK_OK, "restore");
+    require(zak_frame_update(&other, flags, &picture, buffer, cap, pitch, &changed) == status,
+            "an update has another status");
+    require(changed.first == 7 && changed.count == 7, "rows without a picture");
+    require(memcmp(before, buffer, 4 * (cap + 1)) == 0, "words without a picture");
+}
+
+/* The same frame for a buffer that has something: its words are those of `pixels`, and the rows
+ * that are told are those that differ from what it had. */
+static void compare_update(zak_picture picture, uint32_t flags, size_t pitch, size_t used)
+{
+    size_t buffer_pitch = random_below(8) ? picture.width + random_below(3)
+                                          : ZAK_WIDEST + random_below(ZAK_WIDEST);
+    size_t words = buffer_pitch * picture.height;
+    zak_picture told = {7, 7, 7, 7};
+    zak_rows changed = {7, 7}, wanted;
+    vary_buffer(picture, pitch, buffer_pitch);
+    if (words > 0 && random_below(4) == 0)
+        refuse_update(flags, used, words - 1, buffer_pitch, ZAK_NO_ROOM);
+    memcpy(before, buffer, 4 * (words + 1));
+    require(zak_restore(&other, state, used) == ZAK_OK, "restore");
+    require(zak_frame_update(&other, flags, &told, buffer, words, buffer_pitch, &changed) == ZAK_OK,
+            "an update fails");
+    require(memcmp(&told, &picture, sizeof told) == 0, "an update tells another picture");
+    wanted = rows_between(before, buffer, picture, buffer_pitch);
+    require(changed.first == wanted.first && changed.count == wanted.count, "other rows");
+    for (size_t y = 0; y < picture.height; y++) {
+        size_t at = buffer_pitch * y, beside = at + picture.width;
+        require(memcmp(buffer + at, pixels + pitch * y, 4 * picture.width) == 0,
+                "a word that was updated differs");
+        require(memcmp(buffer + beside, before + beside, 4 * (at + buffer_pitch - beside)) == 0,
+                "what stands beside was updated");
+    }
+    require(buffer[words] == before[words], "what stands behind was updated");
+    compared++;
+}
+
 /* The palette has the colours of the picture, each once, in the order in which they first appear. */
 static void compare_numbers(zak_size size, const zak_palette *palette, const uint8_t *numbers)
 {
@@ -178,10 +252,13 @@ static zak_picture compare_frames(void)
             pixels[i] = UNTOUCHED;
         words = zak_frame_words(&other, flags, &picture, pixels, MOST_WORDS, pitch);
         require(words == status, "another status");
-        if (status != ZAK_OK)
+        if (status != ZAK_OK) {
+            refuse_update(flags, used, MOST_WORDS, ZAK_WIDEST, status);
             continue;
+        }
         require(picture.across == pixel.across && picture.down == pixel.down, "a pixel's size");
         compare_words(size, picture, flags, pitch);
+        compare_update(picture, flags, pitch, used);
         compared++;
     }
     compare_indexed(size, status, used);
@@ -211,6 +288,43 @@ static void compare_mode(const struct known *mode)
     compare_dots(picture);
 }
 
+/* The next frame of mode 13 in a buffer that is kept changes these rows. */
+static void require_rows(uint32_t flags, size_t pitch, uint32_t first, uint32_t count)
+{
+    zak_picture picture;
+    zak_rows changed = {7, 7};
+    require(zak_frame_update(&card, flags, &picture, buffer, MOST_WORDS, pitch, &changed) == ZAK_OK,
+            "a frame of mode 13");
+    require(changed.first == first && changed.count == count, "rows of mode 13");
+    compared++;
+}
+
+/* Rows that are known: pixels that are written between two frames, of one card and of another. */
+static void compare_known_rows(void)
+{
+    set_mode(0x13);
+    memset(buffer, 0xFF, sizeof buffer);
+    require_rows(ZAK_ONCE, 320, 0, 200);
+    require_rows(ZAK_ONCE, 320, 0, 0);
+    zak_put(&card, 0xA0000, 1);
+    require_rows(ZAK_ONCE, 320, 0, 1);
+    zak_put(&card, 0xA0000, 1);
+    require_rows(ZAK_ONCE, 320, 0, 0);
+    zak_put(&card, 0xA0000 + 320 * 199 + 319, 1);
+    require_rows(ZAK_ONCE, 320, 199, 1);
+    zak_put(&card, 0xA0000 + 320 * 7, 2);
+    zak_put(&card, 0xA0000 + 320 * 100 + 9, 3);
+    require_rows(ZAK_ONCE, 320, 7, 94);
+    zak_skip_frame(&card);
+    require_rows(ZAK_ONCE, 320, 0, 0);
+    require_rows(ZAK_ONCE | ZAK_OPAQUE, 320, 0, 200);
+    require_rows(0, 640, 0, 400);
+    zak_put(&card, 0xA0000 + 320 * 50, 4);
+    require_rows(0, 640, 100, 2);
+    buffer[640 * 399 + 639] ^= 1;
+    require_rows(0, 640, 399, 1);
+}
+
 int main(int argc, char **argv)
 {
     FILE *file = argc == 3 ? fopen(argv[1], "rb") : NULL;
@@ -221,6 +335,7 @@ int main(int argc, char **argv)
     require(zak_open(&other, fonts, sizeof fonts) == ZAK_OK, "open");
     for (size_t i = 0; i < sizeof known / sizeof *known; i++)
         compare_mode(&known[i]);
+    compare_known_rows();
     for (int n = atoi(argv[2]); n > 0; n--) {
         set_mode(known[random_below(sizeof known / sizeof *known)].mode);
         fill_memory();
