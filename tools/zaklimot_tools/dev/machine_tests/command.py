@@ -18,7 +18,7 @@ from zaklimot_tools.core.processes import Word, captured, check_program, in_para
 from zaklimot_tools.core.progress import Progress
 from zaklimot_tools.core.trouble import Trouble, Wrong
 from zaklimot_tools.dev.library_tests.compilers import make_check
-from zaklimot_tools.dev.page.machine import DEFINED, MACHINE, PROCESSOR, patched
+from zaklimot_tools.dev.page.machine import DEFINED, MACHINE, PROCESSOR, USUAL_INSTRUCTIONS, patched
 
 from .manual import cases as manual_cases
 from .words import CHECKS, OF_DESCRIPTORS, OF_MANUAL, OF_UNICORN
@@ -41,7 +41,7 @@ def built_processor(folder: Path) -> Path:
     check_program(COMPILER)
     top = patched(folder)
     program = folder / "processor"
-    sources = [HERE / "processor.c", MACHINE / "cpu" / "shifts.c"]
+    sources = [HERE / "processor.c", MACHINE / "cpu" / "shifts.c", USUAL_INSTRUCTIONS]
     sources += [top / f"{name}.c" for name in (*PROCESSOR, "api", "mem")]
     words: list[Word] = [
         COMPILER,

@@ -39,6 +39,8 @@ MOST_ARCHIVE = 1 << 20
 # The parts of libx86emu that the machine has; of the others, machine/pc/library.c has what these
 # ask for.
 PROCESSOR = ("decode", "ops", "ops2", "prim_ops")
+# The loop of the usual instructions, which has libx86emu's in it: compiled as that is.
+USUAL_INSTRUCTIONS = MACHINE / "cpu" / "usual.c"
 TARGET = (
     "--target=wasm32",
     "-std=gnu17",
@@ -53,7 +55,7 @@ TARGET = (
 USUAL, RARE = "-O3", "-Os"
 OFTEN = (
     "decode",
-    "ops",
+    "usual",
     "prim_ops",
     "shifts",
     "beam",
@@ -211,9 +213,8 @@ def made_machine() -> MachineModules:
             raise Trouble("it is not the licence of the source", str(NOTICE))
         folders = [*(MACHINE / path for path in ("shim", "cpu", "pc")), top / "include", top]
         include = [f"-I{path}" for path in folders]
-        objects = _compiled(
-            [top / f"{part}.c" for part in PROCESSOR], folder, "-w", *DEFINED, *include
-        )
+        processor = [*(top / f"{part}.c" for part in PROCESSOR), USUAL_INSTRUCTIONS]
+        objects = _compiled(processor, folder, "-w", *DEFINED, *include)
         own = [MACHINE / "cpu" / "shifts.c", *sorted((MACHINE / "pc").glob("*.c"))]
         objects += _compiled(own, folder, *STRICT, *DEFINED, *include)
         cpu = _linked(
