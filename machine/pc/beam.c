@@ -15,8 +15,8 @@ extern u32 card, room;
 #define SECOND 1000000000ull
 /* Where a zak_timing has its parts. */
 enum { TO_FRAME = 0, TO_DISPLAY = 4, TO_RETRACE = 8, RATE = 24, RATE_DIVISOR = 28 };
-/* Before a cycle of memory, dots are handed over once there are so many: reads of ports and writes of registers see
- * the beam, and a write of memory so few dots late is not seen. */
+/* A write of memory comes before the last dots of a frame that make no such part: nobody sees a write that is so few dots
+ * early. Reads of ports and writes of registers see the beam at each dot. */
 enum { GRAIN = 32 };
 
 static u32 instruction_time = 160;
@@ -24,6 +24,8 @@ static u64 passed; /* beside the instructions' time */
 static u64 settled_at, owed, dot_time; /* owed is in dots times dot_time */
 static u32 rate, to_frame, frames;
 static int is_clock_known;
+/* When memory was reached last, or a register that says what later cycles do; until when it is known what is shown. */
+static u64 memory_time, shown_until;
 /* Dots of the frame until now, and until the first write in it that pictures hang on; NONE for none. */
 enum { NONE = ~0u };
 static u32 frame_dots, first_write;
@@ -80,11 +82,12 @@ void note_write(void)
 
 void begin_time(void)
 {
-    passed = settled_at = owed = 0;
+    passed = settled_at = owed = memory_time = 0;
     frames = frame_dots = 0;
     first_write = NONE;
     is_clock_known = 0;
     status_dots = 0;
+    forget_shown();
 }
 
 /* What was known of the adapter's clock may be so no longer. */
@@ -92,6 +95,19 @@ void forget_clock(void)
 {
     is_clock_known = 0;
     status_dots = 0;
+}
+
+/* What was known of what the beam shows may be so no longer. */
+void forget_shown(void)
+{
+    shown_until = 0;
+    forget_layout();
+}
+
+/* The dots until a time that the adapter has not drawn, times dot_time. */
+static u64 due(u64 time)
+{
+    return owed + (time - settled_at) * rate;
 }
 
 /* Input status 1 is asked of the adapter once more: the read also turns the attribute controller to its index. */
@@ -132,22 +148,65 @@ static void draw(u32 dots)
     record_dots(dots);
 }
 
-/* Hands over the dots of the time since. */
-void settle(void)
+/* All frames that have ended until a time. */
+static void pass_frames(u64 time)
 {
-    u64 time = now();
     give_held();
     if (!is_clock_known) look_at_clock();
     owed += (time - settled_at) * rate;
     settled_at = time;
     while (owed >= to_frame * dot_time) end_frame();
+}
+
+/* Hands over the dots of the time since. */
+void settle(void)
+{
+    pass_frames(now());
     if (owed >= dot_time) draw((u32)(owed / dot_time));
 }
 
-void settle_memory(void)
+/* The same until a time, in whole parts of a frame; whether there was one. It hangs on nothing but that time. */
+static int settle_parts(u64 time)
 {
-    if (is_clock_known && (now() - settled_at) * rate < GRAIN * dot_time) return;
-    settle();
+    u64 part = (GRAIN - frame_dots % GRAIN) * dot_time;
+    if (is_clock_known && due(time) < part && due(time) < to_frame * dot_time) return 0;
+    pass_frames(time);
+    u32 dots = frame_dots + (u32)(owed / dot_time), whole = dots - dots % GRAIN;
+    if (whole > frame_dots) draw(whole - frame_dots);
+    return 1;
+}
+
+/* Amid a quantum: the display is what it was at the last cycle, however that came to it. */
+void settle_amid(void)
+{
+    if (memory_time <= settled_at) return;
+    settle_parts(memory_time);
+    owed = due(memory_time);
+    settled_at = memory_time;
+}
+
+/* Before a cycle that no dot hangs on, in this frame: a read of memory, or a write to a register that says what later
+ * cycles do. Who follows each cycle gets the dots before it all the same. */
+void settle_unseen(void)
+{
+    memory_time = now();
+    if (is_followed() || !is_clock_known || due(memory_time) >= to_frame * dot_time) settle_parts(memory_time);
+}
+
+/* Before a write of so many bytes of memory. One that the beam does not come to is the same before its dots. */
+void settle_write(u32 place, u32 bytes)
+{
+    u64 time = memory_time = now();
+    if (is_followed()) {
+        settle_parts(time);
+        return;
+    }
+    if (time < shown_until && !is_shown(place, bytes)) return;
+    if (settle_parts(time) && time >= shown_until) {
+        u32 dots = look_at_shown(to_frame);
+        u64 come = dots * dot_time;
+        shown_until = dots && come > owed ? settled_at + (come - owed) / rate : 0;
+    }
 }
 
 /* Input status 1, asked of the adapter where it may have changed. */

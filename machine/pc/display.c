@@ -23,22 +23,30 @@ enum { CALL_TIME = 20 }; /* cycles that a call of the video BIOS takes */
 
 u32 card, room; /* in the adapter's memory: the card, and room for what its calls tell */
 u16 call_registers[8]; /* AX, BX, CX, DX, ES, BP, SI, DS: what the host gives interrupt 10, and takes from it */
+/* The registers that the next writes of data reach, as far as writes of the index tell: the BIOS moves them too. */
 static u8 sequencer_index, graphics_index;
+enum { UNKNOWN = 0xFF };
 
-/* Writes of memory that follow each other, up and at the same dot, are one call of the adapter: they are held until
+/* Writes of memory that follow each other, up and without dots between, are one call of the adapter: they are held until
  * anything else reaches it. It takes them as single ones only if it decodes them all. That hangs on registers, and is
  * the same within a block of 32 KiB: the one of the last write that was taken. */
 enum { MOST_HELD = 32, BLOCK_SHIFT = 15, NO_BLOCK = ~0u };
 static u64 held[MOST_HELD / 8];
 static u32 held_at, held_bytes, taken_block;
 
+/* None is held, and which ones were is not kept: it depends on how the machine was looked at. */
+void forget_held(void)
+{
+    memset(held, 0, sizeof held);
+    held_at = held_bytes = 0;
+}
+
 void begin_display(u32 the_card, u32 the_room)
 {
     card = the_card;
     room = the_room;
-    sequencer_index = graphics_index = 0;
-    memset(held, 0, sizeof held);
-    held_at = held_bytes = 0;
+    sequencer_index = graphics_index = UNKNOWN;
+    forget_held();
     taken_block = NO_BLOCK;
 }
 
@@ -96,7 +104,7 @@ static u32 answered(u32 answer)
 
 u32 display_get(u32 place)
 {
-    settle_memory();
+    settle_unseen();
     give_held();
     u32 value = answered(adapter_get(card, room, place)) & 0xFF;
     record(RECORD_GET, place, value);
@@ -105,7 +113,7 @@ u32 display_get(u32 place)
 
 u32 display_get_word(u32 place)
 {
-    settle_memory();
+    settle_unseen();
     give_held();
     u32 answer = adapter_get_word(card, room, place);
     if (answer & REFUSED) return display_get(place) | display_get(place + 1) << 8;
@@ -116,7 +124,7 @@ u32 display_get_word(u32 place)
 
 void display_put(u32 place, u32 value)
 {
-    settle_memory();
+    settle_write(place, 1);
     if (!hold(place, value, 1) && !give(place, value, 1)) note_refusal();
     pass_cycle();
     record(RECORD_PUT, place, value);
@@ -124,7 +132,7 @@ void display_put(u32 place, u32 value)
 
 void display_put_word(u32 place, u32 value)
 {
-    settle_memory();
+    settle_write(place, 2);
     if (!hold(place, value, 2) && !give(place, value, 2)) {
         display_put(place, value & 0xFF);
         display_put(place + 1, value >> 8);
@@ -144,14 +152,19 @@ u32 display_in(u32 port)
     return value;
 }
 
+static int is_unseen_graphics(void)
+{
+    return graphics_index != GRAPHICS_MODE && graphics_index != MEMORY_MAP && graphics_index != UNKNOWN;
+}
+
 /* Whether a write changes only the way of later cycles, and no dot: an index, map mask, bit mask, set/reset .. */
 static int is_unseen(u32 port, u32 value, int is_word)
 {
     switch (port) {
     case GRAPHICS:
         graphics_index = value & 15;
-        return !is_word || (graphics_index != GRAPHICS_MODE && graphics_index != MEMORY_MAP);
-    case GRAPHICS_DATA: return graphics_index != GRAPHICS_MODE && graphics_index != MEMORY_MAP;
+        return !is_word || is_unseen_graphics();
+    case GRAPHICS_DATA: return is_unseen_graphics();
     case SEQUENCER:
         sequencer_index = value & 7;
         return !is_word || sequencer_index == MAP_MASK;
@@ -173,10 +186,11 @@ static void settle_for(int is_unseen_write)
     give_held();
     taken_block = NO_BLOCK;
     if (is_unseen_write) {
-        settle_memory();
+        settle_unseen();
         return;
     }
     settle();
+    forget_shown();
     note_write();
 }
 
@@ -208,6 +222,8 @@ void display_out_word(u32 port, u32 value)
 void video(void)
 {
     settle();
+    forget_shown();
+    sequencer_index = graphics_index = UNKNOWN;
     taken_block = NO_BLOCK;
     note_write();
     u16 given[] = {AX, BX, CX, DX, ES, REG(BP), REG(SI), DS};

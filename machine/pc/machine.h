@@ -65,13 +65,21 @@ u64 instructions_in(u64 nanoseconds);
 void begin_time(void);
 u32 frames_ended(void);
 void settle(void);
-void settle_memory(void);
+void settle_amid(void);
+void settle_unseen(void);
+void settle_write(u32 place, u32 bytes);
+void forget_shown(void);
 void forget_clock(void);
 void forget_status(void);
 void note_write(void);
 u32 read_status(u32 port);
 u32 reads_alike(u32 instructions);
 void pass_reads(u32 reads);
+
+/* shown.c: which bytes of the display's memory the beam shows in the dots that come. */
+u32 look_at_shown(u32 to_frame);
+int is_shown(u32 place, u32 bytes);
+void forget_layout(void);
 
 /* display.c: cycles of the adapter, and interrupt 10. */
 int is_display_port(u32 port);
@@ -81,6 +89,7 @@ u32 display_get_word(u32 place);
 void display_put(u32 place, u32 value);
 void display_put_word(u32 place, u32 value);
 void give_held(void);
+void forget_held(void);
 u32 display_in(u32 port);
 void display_out(u32 port, u32 value);
 void display_out_word(u32 port, u32 value);
@@ -99,6 +108,7 @@ void record(enum record_kind kind, u32 address, u32 value);
 void record_call(u32 ax_bx, u32 cx_dx);
 void record_dots(u32 dots);
 u32 cycles_unseen(void);
+int is_followed(void);
 void pass_cycles(u32 count);
 double cycles_done(void);
 void note_refusal(void);

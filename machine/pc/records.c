@@ -54,6 +54,12 @@ SHOWN("set_recording") void set_recording(u32 how, u32 place)
     memset(told_sums, 0, sizeof told_sums);
 }
 
+/* Whether somebody wants to know at which dot each cycle comes. */
+int is_followed(void)
+{
+    return is_recording || processor.code_check;
+}
+
 SHOWN("record_count") u32 records_made(void)
 {
     return record_count;

@@ -300,7 +300,7 @@ SHOWN("set_rom") void set_rom(u32 place, u32 bytes)
 }
 
 /* Begins anew: with a program, or the first sector of a drive, whose bytes are in the store. `card` and `room` are in
- * the adapter's memory: an open card, and 64 bytes for what its calls tell. */
+ * the adapter's memory: an open card, and 128 bytes for what its calls tell. */
 SHOWN("boot") void boot(u32 card, u32 room, u32 what, u32 drive, u32 place, u32 bytes)
 {
     begin_display(card, room);
@@ -366,7 +366,17 @@ static void work(u64 end)
         }
         run_processor();
     }
-    if (!is_amid) settle();
+    if (is_amid) settle_amid();
+    else settle();
+}
+
+/* The host may look now, or keep what is here. What the machine knows of the display's place hangs on how it was run
+ * until here, and is looked at again. */
+static u32 rest(void)
+{
+    forget_held();
+    forget_shown();
+    return stopped == RUNS;
 }
 
 static u64 next_quantum(void)
@@ -378,7 +388,7 @@ static u64 next_quantum(void)
 SHOWN("run") u32 run(double until)
 {
     while ((is_amid || (double)now() < until) && stopped == RUNS) work(next_quantum());
-    return stopped == RUNS;
+    return rest();
 }
 
 /* Runs to the end of a frame, or until a time has come; whether it goes on. */
@@ -386,5 +396,5 @@ SHOWN("run_frame") u32 run_frame(double until)
 {
     u32 frame = frames_ended();
     while ((double)now() < until && stopped == RUNS && frame == frames_ended()) work(next_quantum());
-    return stopped == RUNS;
+    return rest();
 }

@@ -16,7 +16,7 @@ export const SPEEDS = { 8088: 3000, 286: 700, 386: 160, fastest: 60 };
 export const USUAL_SPEED = "386";
 /** What a record has beside its cycle: see machine/pc/records.c. */
 const TEXTS = 2, TIMES = 3;
-const WASM_PAGE = 65536, ROOM_BYTES = 64, MOST_BLOCK = 0x20000, TABLE_BYTES = 1024;
+const WASM_PAGE = 65536, ROOM_BYTES = 128, MOST_BLOCK = 0x20000, TABLE_BYTES = 1024;
 const WITH_ALPHA = 1, ONCE = 2, BOOT = 1, PROGRAM = 0;
 /** After so many frames in whose lines nothing was written to a register, one word stands for each pixel. */
 const CALM_FRAMES = 70;

@@ -2,8 +2,10 @@
 // and writes of memory that are handed over together. They leave the same memory, registers, flags, cycles and time,
 // byte for byte, whatever a program does.
 import assert from "node:assert/strict";
+import { createHash } from "node:crypto";
 import test from "node:test";
 import { Machine } from "../machine/machine.js";
+import { WIDEST } from "../module/adapter.js";
 import { FONTS, machineParts } from "./loading.mjs";
 import { Random, hostileProgram, word } from "./hostile.mjs";
 
@@ -335,4 +337,111 @@ test("writes of memory that are handed over together are single ones", () => {
     writes += records.filter(({ kind }) => kind === PUT || kind === PUT_WORD).length;
   }
   assert.ok(refused > 100 && writes > 10000, `${refused} refused, ${writes} writes`);
+});
+
+/** The CRT controller's registers that say what the beam shows, and the others; each with some of its values. */
+const SHOWING = [[0x3d4, 0x0c, [0, 1, 0x3e, 0x7f, 0xff]], [0x3d4, 0x0d, [0, 1, 0x80, 0xff]],
+  [0x3d4, 0x13, [0, 1, 20, 40, 80, 255]], [0x3d4, 0x18, [0, 3, 60, 61, 150, 255]],
+  [0x3d4, 0x07, [0x0f, 0x1f, 0x2f, 0x3e]], [0x3d4, 0x09, [0, 0x40, 0x41, 0xc1, 0x03]],
+  [0x3d4, 0x17, [0xa3, 0xe3, 0xc3, 0x83]], [0x3d4, 0x14, [0, 0x40, 0x60]], [0x3d4, 0x12, [0x20, 0x8f, 0xdf]],
+  [0x3d4, 0x01, [0x27, 0x4f, 0x5e]], [0x3d4, 0x08, [0, 0x20, 0x40, 3]], [0x3c4, 1, [0, 1, 9]],
+  [0x3c4, 4, [2, 6, 0x0e]], [0x3ce, 6, [1, 5, 5, 5, 0x0d]], [0x3ce, 5, [0, 0x10, 0x40]], [0x3c4, 2, [1, 15, 15]]];
+
+/** stosb and stosw, repeated and alone. */
+const STORES = [[0xf3, 0xaa], [0xf3, 0xab], [0xaa], [0xab]];
+const outWord = (port, index, value) => [0xba, ...word(port), 0xb8, index, value, 0xef];
+
+function showing(random) {
+  const [port, index, values] = random.of(SHOWING);
+  return outWord(port, index, random.of(values));
+}
+
+/** The display begins anew at a line, where what is shown last of all memory comes first. */
+function split(random) {
+  return [[0x0c, 0x40], [7, 0x0f], [9, 1], [0x18, random.below(120)]].flatMap(one => outWord(0x3d4, ...one));
+}
+
+/** Dots are shown that lie to the right: input status 1, and the attribute controller's register 13. */
+const panned = random => [0xba, 0xda, 3, 0xec, 0xba, 0xc0, 3, 0xb0, 0x33, 0xee, 0xb0, random.of([3, 6, 7]), 0xee];
+
+/** mov ax, A000h; mov es, ax; mov cx, 100h; rep stosb */
+const FILL = [0xb8, 0, 0xa0, 0x8e, 0xc0, 0xb9, 0, 1, 0xf3, 0xaa];
+
+/** Sets a mode, and some of what the beam shows; ES is the display's memory. */
+function displayOf(random, mode) {
+  const code = [0xb8, mode, 0, 0xcd, 0x10];
+  // Another mode is shown before, so that all is otherwise.
+  if (!random.below(3)) code.unshift(0xb8, random.of(MODES), 0, 0xcd, 0x10, ...FILL);
+  if (!random.below(3)) code.push(...split(random));
+  if (!random.below(3)) code.push(...panned(random));
+  for (let i = random.below(6); i > 0; i--) code.push(...showing(random));
+  return [...code, 0xb8, ...word(0xa000), 0x8e, 0xc0];
+}
+
+/** Writes one byte over and over: inc ax; mov es:[di], al; jmp. */
+const toggling = place => [0xbf, ...word(place & 0xffff), 0x40, 0x26, 0x88, 0x05, 0xeb, 0xfa];
+
+/** One byte where a line or the picture begins or ends. */
+function togglingEdge(random) {
+  const code = displayOf(random, random.of(MODES.slice(1))), pitch = random.of([40, 80, 320]);
+  if (!random.below(3)) code.push(...outWord(0x3d4, 0x0c, 1), ...outWord(0x3d4, 0x0d, 0));
+  const edge = random.of([0, 0x100, 0x400, pitch * random.below(200), pitch * random.below(200)]);
+  return Uint8Array.from([...code, ...toggling(edge + random.below(8) - 4)]);
+}
+
+/** Each line of a mode is a row, and a counter is a byte; under chain 4 four addresses have the place of the first. */
+const BYTES = { 0x12: [], 0x13: [[0x09, 0], [0x17, 0xe3], [0x14, 0]].flatMap(one => outWord(0x3d4, ...one)) };
+
+/** The byte right behind a line, whose first dots the panned line shows. */
+function togglingPanned(random) {
+  const isWide = random.below(2), mode = 0x12 + isWide, place = 80 * random.below(400) + isWide * random.below(4);
+  return Uint8Array.from([0xb8, mode, 0, 0xcd, 0x10, ...BYTES[mode], ...panned(random),
+    0xb8, ...word(0xa000), 0x8e, 0xc0, ...toggling(place)]);
+}
+
+/** Writes memory over and over, below the beam and elsewhere, among writes of registers that say what it shows. */
+function sweeping(random) {
+  const code = displayOf(random, random.of(MODES.slice(1))), again = code.length;
+  for (let i = 0; i < 12; i++) {
+    if (!random.below(3)) code.push(0xbf, ...random.word());
+    code.push(0xb9, random.below(256), random.below(8), 0xfe, 0xc0, ...random.of(STORES));
+    if (!random.below(12)) code.push(...showing(random));
+  }
+  const back = again - code.length - 3;
+  return Uint8Array.from([...code, 0xe9, ...word(back & 0xffff)]);
+}
+
+/** A mode set by the BIOS leaves another index than the program wrote; data behind it are text and graphics in turn. */
+const INDEX_OF_BIOS = "BACE03 B008 EE B80300 CD10 BACF03 B005 EE B00E EE EBF8";
+
+/** The pictures of the frames that a program shows until a time: their sizes and sums. */
+function picturesOf(machine, heard, software, nanoseconds, isLong) {
+  const found = [];
+  heard.frame = () => {
+    const { width, height, pixels, adapterBytes } = machine, sum = createHash("sha256");
+    for (let y = 0; y < height; y++) {
+      const row = pixels + 4 * WIDEST * y;
+      sum.update(adapterBytes.subarray(row, row + 4 * width));
+    }
+    found.push(`${width} ${height} ${sum.digest("hex")}`);
+  };
+  machine.boot(software);
+  machine.setSpeed(nanoseconds);
+  if (isLong) machine.stopAt(NOWHERE);
+  machine.run(70 * MILLISECOND);
+  machine.stopAt();
+  return found;
+}
+
+test("pictures where the beam comes to what is written, and where it doesn't", () => {
+  const heard = [{}, {}], both = heard.map(one => new Machine(modules, FONTS, one)), all = new Set();
+  for (let seed = 0; seed < 200; seed++) {
+    const nanoseconds = 20 + seed * 7 % 300, random = new Random(seed);
+    const program = seed ? [sweeping, togglingEdge, togglingPanned][seed % 3](random)
+      : code(INDEX_OF_BIOS.replaceAll(" ", ""));
+    const [one, other] = both.map((machine, i) => picturesOf(machine, heard[i], { program }, nanoseconds, i === 1));
+    assert.deepEqual(one, other, `seed ${seed}`);
+    one.forEach(picture => all.add(picture));
+  }
+  assert.ok(all.size > 150, `${all.size} pictures`);
 });

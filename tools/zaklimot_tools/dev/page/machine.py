@@ -63,6 +63,7 @@ OFTEN = (
     "memory",
     "records",
     "reads",
+    "shown",
     "waits",
 )
 # Each browser that opens the page has them. They make a picture out of words three times as fast.
