@@ -16,13 +16,13 @@ enum crtc {
     OFFSET = 0x13, UNDERLINE = 0x14, MODE_CONTROL = 0x17, LINE_COMPARE = 0x18
 };
 /* It is known for so many lines at most: the more, the more bytes are taken for shown. */
-enum { MOST_LINES = 8, PLANE_BYTES = 0x10000 };
+enum { MOST_LINES = 4, PLANE_BYTES = 0x10000 };
 
 /* What the registers say: dots of a character, characters of a line, of them those displayed; the last line displayed,
- * and the line compare; by how many counters rows are apart, and how many bytes a counter is. A display of text, or with
- * memory elsewhere, has no unit. */
+ * and the line compare; lines of a row, and by how many counters rows are apart; how many bytes a counter is. A display
+ * of text, or with memory elsewhere, has no unit. */
 static struct {
-    u32 is_known, width, characters, columns, last_line, compare, row, unit;
+    u32 is_known, width, characters, columns, last_line, compare, height, row, unit;
 } layout;
 /* The first byte of each plane that is shown, and the last. */
 static u32 first_shown, last_shown;
@@ -52,7 +52,9 @@ static void look_at_layout(void)
     layout.characters = controller(HORIZONTAL_TOTAL) + 5;
     layout.columns = controller(HORIZONTAL_END) + 1;
     layout.last_line = controller(VERTICAL_END) | moved(overflow, 1, 8) | moved(overflow, 6, 9);
-    layout.compare = controller(LINE_COMPARE) | moved(overflow, 4, 8) | moved(controller(MAXIMUM_SCAN_LINE), 6, 9);
+    u32 scan_lines = controller(MAXIMUM_SCAN_LINE);
+    layout.compare = controller(LINE_COMPARE) | moved(overflow, 4, 8) | moved(scan_lines, 6, 9);
+    layout.height = ((scan_lines & 31) + 1) << (scan_lines >> 7 & 1);
     layout.row = 2 * controller(OFFSET);
     layout.unit = controller(UNDERLINE) >> 6 & 1 ? 4 : controller(MODE_CONTROL) >> 6 & 1 ? 1 : 2;
     if (!is_graphics || !is_at_a0000) layout.unit = 0;
@@ -83,7 +85,8 @@ u32 look_at_shown(u32 to_frame)
     /* The first dot of a frame takes the start address. Behind a change of the registers the beam may be anywhere. */
     if (!(line | character | dot) || character >= layout.characters || dot >= layout.width) return 0;
     u32 lines = line <= layout.compare ? smaller(MOST_LINES, layout.compare - line + 1) : MOST_LINES;
-    u32 last = base + (lines - 1) * layout.row + layout.columns;
+    /* The next row may begin with the next line. */
+    u32 rows = (lines - 1 + layout.height - 1) / layout.height, last = base + rows * layout.row + layout.columns;
     first_shown = base * layout.unit;
     last_shown = last * layout.unit + layout.unit - 1;
     /* They go round behind the end of the planes: all are taken for shown. */

@@ -399,6 +399,13 @@ function togglingPanned(random) {
     0xb8, ...word(0xa000), 0x8e, 0xc0, ...toggling(place)]);
 }
 
+/** The first byte of a picture that begins amid memory. */
+function togglingStart(random) {
+  const mode = random.of(MODES.slice(1)), place = (mode === 0x13 ? 0x2000 : 0x800) + random.below(3);
+  return Uint8Array.from([0xb8, mode, 0, 0xcd, 0x10, ...outWord(0x3d4, 0x0c, 8), ...outWord(0x3d4, 0x0d, 0),
+    0xb8, ...word(0xa000), 0x8e, 0xc0, ...toggling(place)]);
+}
+
 /** Writes memory over and over, below the beam and elsewhere, among writes of registers that say what it shows. */
 function sweeping(random) {
   const code = displayOf(random, random.of(MODES.slice(1))), again = code.length;
@@ -437,7 +444,7 @@ test("pictures where the beam comes to what is written, and where it doesn't", (
   const heard = [{}, {}], both = heard.map(one => new Machine(modules, FONTS, one)), all = new Set();
   for (let seed = 0; seed < 200; seed++) {
     const nanoseconds = 20 + seed * 7 % 300, random = new Random(seed);
-    const program = seed ? [sweeping, togglingEdge, togglingPanned][seed % 3](random)
+    const program = seed ? [sweeping, togglingEdge, togglingPanned, togglingStart][seed % 4](random)
       : code(INDEX_OF_BIOS.replaceAll(" ", ""));
     const [one, other] = both.map((machine, i) => picturesOf(machine, heard[i], { program }, nanoseconds, i === 1));
     assert.deepEqual(one, other, `seed ${seed}`);
