@@ -15,8 +15,8 @@ extern u32 card, room;
 #define SECOND 1000000000ull
 /* Where a zak_timing has its parts. */
 enum { TO_FRAME = 0, TO_DISPLAY = 4, TO_RETRACE = 8, RATE = 24, RATE_DIVISOR = 28 };
-/* A write of memory comes before the last dots of a frame that make no such part: nobody sees a write that is so few dots
- * early. Reads of ports and writes of registers see the beam at each dot. */
+/* A write of memory comes behind whole parts of so many dots of a frame: nobody sees that it is so few dots early.
+ * Reads of ports and writes of registers see the beam at each dot. */
 enum { GRAIN = 32 };
 
 static u32 instruction_time = 160;

@@ -27,9 +27,9 @@ u16 call_registers[8]; /* AX, BX, CX, DX, ES, BP, SI, DS: what the host gives in
 static u8 sequencer_index, graphics_index;
 enum { UNKNOWN = 0xFF };
 
-/* Writes of memory that follow each other, up and without dots between, are one call of the adapter: they are held until
- * anything else reaches it. It takes them as single ones only if it decodes them all. That hangs on registers, and is
- * the same within a block of 32 KiB: the one of the last write that was taken. */
+/* Writes of memory that follow each other, up and without dots between, are one call of the adapter: they are held
+ * until anything else reaches it. It takes them as single ones only if it decodes them all. That hangs on registers,
+ * and is the same within a block of 32 KiB: the one of the last write that was taken. */
 enum { MOST_HELD = 32, BLOCK_SHIFT = 15, NO_BLOCK = ~0u };
 static u64 held[MOST_HELD / 8];
 static u32 held_at, held_bytes, taken_block;
