@@ -19,7 +19,7 @@
  */
 
 #define FIRST_PAGES 17u
-#define HEAP_BASE 1051968u
+#define HEAP_BASE 1052096u
 #define MODULE_GLOBALS u64 g0;
 
 #include <stdlib.h>
@@ -183,99 +183,98 @@ static void f6(module *, u64, u64, u64, u64);
 static void f7(module *, u64, u64, u32, u32);
 static void f8(module *, u64, u64, u64);
 static void f9(module *, u64, u64);
-static void f10(module *, u64, u64, u64, u64, u32);
+static void f10(module *, u64, u64, u32, u64, u64);
 static void f11(module *, u64, u64, u32, u64, u64);
-static void f12(module *, u64, u64, u32, u64, u64);
-static u32 f13(module *, u64, u64, u64, u64);
-static void f14(module *, u64, u64, u64, u64);
-static u32 f15(module *, u64, u64);
-static void f16(module *, u64, u64, u32);
+static u32 f12(module *, u64, u64, u64, u64);
+static void f13(module *, u64, u64, u64, u64);
+static u32 f14(module *, u64, u64);
+static void f15(module *, u64, u64, u32);
+static void f16(module *, u64, u64, u64, u64);
 static void f17(module *, u64, u64, u64, u64);
-static void f18(module *, u64, u64, u64, u64);
+static void f18(module *, u64, u64, u64);
 static void f19(module *, u64, u64, u64);
-static void f20(module *, u64, u64, u64);
-static void f21(module *, u64, u64);
-static u32 f22(module *, u64);
-static void f23(module *, u64, u32, u32);
-static void f24(module *, u64, u64, u64);
-static void f25(module *, u64);
-static void f26(module *, u64, u64);
-static void f27(module *, u64, u64, u64);
-static void f28(module *, u64, u64, u64, u64, u64, u64, u64);
-static void f29(module *, u64, u64, u32);
-static u32 f30(module *, u64, u32, u32);
-static void f31(module *, u64, u64, u64, u64, u32);
-static void f32(module *, u64, u32, u32);
-static void f33(module *, u64, u64, u64);
-static void f34(module *, u64, u64, u64, u64);
-static void f35(module *, u64, u64, u32);
-static void f36(module *, u64, u64, u64, u32, u64);
-static void f37(module *, u64, u64, u32);
-static void f38(module *, u64, u32, u32);
-static u32 f39(module *, u64, u32, u64);
-static void f40(module *, u64, u64, u32, u32, u32, u32);
-static void f41(module *, u64, u32, u32);
-static u32 f42(module *, u64, u64, u32, u32, u32, u32);
-static void f43(module *, u64, u32, u32, u32);
-static void f44(module *, u64, u32, u32);
-static void f45(module *, u64, u32);
-static void f46(module *, u64, u32, u32);
-static void f47(module *, u64, u64, u32, u32);
-static void f48(module *, u64, u32, u32);
-static u32 f49(module *, u64, u32, u32);
-static void f50(module *, u64, u64, u32, u32);
-static void f51(module *, u64, u64, u32, u32, u32);
-static u32 f52(module *, u64, u64, u32, u32);
-static void f53(module *, u64, u32, u32, u32, u32);
-static void f54(module *, u64, u64);
-static void f55(module *, u64, u64, u32, u64, u64);
-static u32 f56(module *, u64, u32);
-static void f57(module *, u64, u64, u32, u32);
+static void f20(module *, u64, u64);
+static u32 f21(module *, u64);
+static void f22(module *, u64, u32, u32);
+static void f23(module *, u64, u64, u64);
+static void f24(module *, u64);
+static void f25(module *, u64, u64);
+static void f26(module *, u64, u64, u64);
+static void f27(module *, u64, u64, u64, u64, u64, u64, u64);
+static void f28(module *, u64, u64, u32);
+static u32 f29(module *, u64, u32, u32);
+static void f30(module *, u64, u64, u64, u64, u32);
+static void f31(module *, u64, u32, u32);
+static void f32(module *, u64, u64, u64);
+static void f33(module *, u64, u64, u64, u64);
+static void f34(module *, u64, u64, u32);
+static void f35(module *, u64, u64, u64, u32, u64);
+static void f36(module *, u64, u64, u32);
+static void f37(module *, u64, u32, u32);
+static u32 f38(module *, u64, u32, u64);
+static void f39(module *, u64, u64, u32, u32, u32, u32);
+static void f40(module *, u64, u32, u32);
+static u32 f41(module *, u64, u64, u32, u32, u32, u32);
+static void f42(module *, u64, u32, u32, u32);
+static void f43(module *, u64, u32, u32);
+static void f44(module *, u64, u32);
+static void f45(module *, u64, u32, u32);
+static void f46(module *, u64, u64, u32, u32);
+static void f47(module *, u64, u32, u32);
+static u32 f48(module *, u64, u32, u32);
+static void f49(module *, u64, u64, u32, u32);
+static void f50(module *, u64, u64, u32, u32, u32);
+static u32 f51(module *, u64, u64, u32, u32);
+static void f52(module *, u64, u32, u32, u32, u32);
+static void f53(module *, u64, u64);
+static void f54(module *, u64, u64, u32, u64, u64);
+static u32 f55(module *, u64, u32);
+static void f56(module *, u64, u64, u32, u32);
+static void f57(module *, u64, u64, u32);
 static void f58(module *, u64, u64, u32);
-static void f59(module *, u64, u64, u32);
-static void f60(module *, u64, u64, u64, u64, u64, u64, u64);
-static void f61(module *, u64, u64, u64, u64, u32);
-static void f62(module *, u64, u32, u32, u32);
-static void f63(module *, u64, u64, u64, u32, u64);
-static void f64(module *, u64, u64, u32, u32, u32, u32);
-static u32 f65(module *, u64, u64, u32, u32, u32, u32);
-static void f66(module *, u64, u32, u32, u32);
-static void f67(module *, u64, u64, u64);
-static void f68(module *, u64, u32, u32, u64);
-static void f69(module *, u64, u32, u32, u32);
-static u32 f70(module *, u64, u64, u32, u32, u32, u32);
-static u32 f71(module *, u64, u64, u32, u32);
-static void f72(module *, u64, u64, u64);
-static void f73(module *, u64, u64);
-static void f74(module *, u64, u64, u32, u32);
-static void f75(module *, u64, u64, u32, u32, u32);
+static void f59(module *, u64, u64, u64, u64, u64, u64, u64);
+static void f60(module *, u64, u64, u64, u64, u32);
+static void f61(module *, u64, u32, u32, u32);
+static void f62(module *, u64, u64, u64, u32, u64);
+static void f63(module *, u64, u64, u32, u32, u32, u32);
+static u32 f64(module *, u64, u64, u32, u32, u32, u32);
+static void f65(module *, u64, u32, u32, u32);
+static void f66(module *, u64, u64, u64);
+static void f67(module *, u64, u32, u32, u64);
+static void f68(module *, u64, u32, u32, u32);
+static u32 f69(module *, u64, u64, u32, u32, u32, u32);
+static u32 f70(module *, u64, u64, u32, u32);
+static void f71(module *, u64, u64, u64);
+static void f72(module *, u64, u64);
+static void f73(module *, u64, u64, u32, u32);
+static void f74(module *, u64, u64, u32, u32, u32);
+static void f75(module *, u64, u64, u64);
 static void f76(module *, u64, u64, u64);
-static void f77(module *, u64, u64, u64);
-static void f78(module *, u64, u64, u64, u64, u32);
-static void f79(module *, u64, u64, u64);
-static void f80(module *, u64, u32, u64);
-static void f81(module *, u64, u64, u32);
+static void f77(module *, u64, u64, u64, u64, u32);
+static void f78(module *, u64, u64, u64);
+static void f79(module *, u64, u32, u64);
+static void f80(module *, u64, u64, u32);
+static u32 f81(module *, u64, u32, u32);
 static u32 f82(module *, u64, u32, u32);
-static u32 f83(module *, u64, u32, u32);
-static u32 f84(module *, u64, u64, u32, u64, u64, u32);
-static u32 f85(module *, u64, u64, u64);
-static void f86(module *, u64, u64);
-static u32 f87(module *, u64, u64, u64);
-static void f88(module *, u64, u64, u64, u64, u64, u64, u64);
-static void f89(module *, u64, u64);
-static u32 f90(module *, u64, u64);
-static void f91(module *, u64, u64, u64, u64);
-static void f92(module *, u64, u64, u64, u64, u64);
-static void f93(module *, u64, u64, u64, u64);
-static void f94(module *, u64, u64, u64, u32, u64, u64);
-static void f95(module *, u64, u64, u64, u32);
-static void f96(module *, u64, u64, u64, u64, u64, u64);
+static u32 f83(module *, u64, u64, u32, u64, u64, u32);
+static u32 f84(module *, u64, u64, u64);
+static void f85(module *, u64, u64);
+static u32 f86(module *, u64, u64, u64);
+static void f87(module *, u64, u64, u64, u64, u64, u64, u64);
+static void f88(module *, u64, u64);
+static u32 f89(module *, u64, u64);
+static void f90(module *, u64, u64, u64, u64);
+static void f91(module *, u64, u64, u64, u64, u64);
+static void f92(module *, u64, u64, u64, u64);
+static void f93(module *, u64, u64, u64, u32, u64, u64);
+static void f94(module *, u64, u64, u64, u32);
+static void f95(module *, u64, u64, u64, u64, u64, u64);
+static void f96(module *, u64, u64);
 static void f97(module *, u64, u64);
-static void f98(module *, u64, u64);
-static void f99(module *, u64, u64, u64);
+static void f98(module *, u64, u64, u64);
+static u32 f99(module *, u64);
 static u32 f100(module *, u64);
-static u32 f101(module *, u64);
-static u32 f102(module *, u64, u64, u64, u64, u64);
+static u32 f101(module *, u64, u64, u64, u64, u64);
 static u32 module_zak_advance(module *, u64, u32);
 static u32 module_zak_assemble(module *, u64, u64, u64, u64, u64, u64);
 static u32 module_zak_block(module *, u64, u64, u64);
@@ -284,7 +283,9 @@ static u32 module_zak_close(module *, u64);
 static u32 module_zak_cycles(module *, u64, u64, u64, u64, u64, u64, u64);
 static u32 module_zak_fill_bytes(module *, u64, u32, u32, u64, u32, u64);
 static u32 module_zak_frame(module *, u64, u64, u64, u64);
+static u32 module_zak_frame_indexed(module *, u64, u64, u64, u64, u64);
 static u32 module_zak_frame_lines(module *, u64, u64, u64, u64, u64);
+static u32 module_zak_frame_update(module *, u64, u32, u64, u64, u64, u64, u64);
 static u32 module_zak_frame_words(module *, u64, u32, u64, u64, u64, u64);
 static u32 module_zak_frame_xrgb(module *, u64, u64, u64, u64, u64);
 static u32 module_zak_get(module *, u64, u32, u64);
@@ -332,10 +333,10 @@ static u32 module_zak_status_text(module *, u32, u64, u64, u64);
 static u32 module_zak_version(module *);
 static u64 module_page_take(module *, u64);
 static u32 module_page_give(module *, u64);
-static void f159(module *, u64, u64, u64);
-static u64 f160(module *, u64);
-static void f161(module *, u64, u64, u64, u64, u64);
-static void f162(module *, u64);
+static void f160(module *, u64, u64, u64);
+static u64 f161(module *, u64);
+static void f162(module *, u64, u64, u64, u64, u64);
+static void f163(module *, u64);
 
 static void f0(module *self, u64 p0, u64 p1, u64 p2, u64 p3, u64 p4) {
   u64 l5 = 0, l6 = 0;
@@ -5955,7 +5956,7 @@ static u32 f4(module *self, u64 p0, u64 p1) {
   j2 = l3;
   j3 = p1;
   j4 = 1ull;
-  f161(self, j0, j1, j2, j3, j4); m = self->memory; if (NEVER(self->is_broken)) return ZAK_BROKEN;
+  f162(self, j0, j1, j2, j3, j4); m = self->memory; if (NEVER(self->is_broken)) return ZAK_BROKEN;
   j0 = l2;
   i0 = (u32)(j0);
   j0 = i64_load(j0 + 16u);
@@ -5973,7 +5974,7 @@ static u32 f4(module *self, u64 p0, u64 p1) {
   j0 = l2;
   j1 = l5;
   j2 = 1ull;
-  f159(self, j0, j1, j2); m = self->memory; if (NEVER(self->is_broken)) return ZAK_BROKEN;
+  f160(self, j0, j1, j2); m = self->memory; if (NEVER(self->is_broken)) return ZAK_BROKEN;
   j0 = l2;
   i0 = (u32)(j0);
   j0 = i64_load(j0);
@@ -6009,19 +6010,23 @@ static u32 f4(module *self, u64 p0, u64 p1) {
 }
 
 static void f5(module *self, u64 p0, u64 p1, u64 p2, u64 p3) {
-  u32 l15 = 0, l16 = 0, l17 = 0, l18 = 0, l19 = 0, l20 = 0, l21 = 0, l22 = 0, 
-      l23 = 0, l24 = 0, l25 = 0, l26 = 0, l27 = 0, l28 = 0, l29 = 0, l30 = 0, 
-      l31 = 0, l32 = 0, l33 = 0, l34 = 0, l35 = 0, l36 = 0, l37 = 0, l38 = 0;
+  u32 l19 = 0, l20 = 0, l21 = 0, l22 = 0, l23 = 0, l24 = 0, l25 = 0, l26 = 0, 
+      l27 = 0, l28 = 0, l29 = 0, l30 = 0, l31 = 0, l32 = 0, l33 = 0, l34 = 0, 
+      l35 = 0, l36 = 0, l37 = 0, l38 = 0, l39 = 0, l40 = 0, l41 = 0, l42 = 0;
   u64 l4 = 0, l5 = 0, l6 = 0, l7 = 0, l8 = 0, l9 = 0, l10 = 0, l11 = 0, 
-      l12 = 0, l13 = 0, l14 = 0;
+      l12 = 0, l13 = 0, l14 = 0, l15 = 0, l16 = 0, l17 = 0, l18 = 0;
   u8 *m = self->memory;
   u32 i0, i1, i2, i3, i4, i5;
   u64 j0, j1, j2, j3, j4;
   j0 = self->g0;
-  j1 = 224ull;
+  j1 = 656ull;
   j0 -= j1;
   l4 = j0;
   self->g0 = j0;
+  j0 = l4;
+  i0 = (u32)(j0);
+  j1 = 0ull;
+  i64_store(j0 + 136, j1);
   j0 = l4;
   i0 = (u32)(j0);
   j1 = 0ull;
@@ -6051,10 +6056,8 @@ static void f5(module *self, u64 p0, u64 p1, u64 p2, u64 p3) {
   j1 = 0ull;
   i64_store(j0 + 80, j1);
   j0 = l4;
-  i0 = (u32)(j0);
-  j1 = 0ull;
-  i64_store(j0 + 72, j1);
-  j0 = l4;
+  j1 = 8ull;
+  j0 += j1;
   i0 = (u32)(j0);
   i1 = 0u;
   j2 = 72ull;
@@ -6082,7 +6085,7 @@ static void f5(module *self, u64 p0, u64 p1, u64 p2, u64 p3) {
   i0 = !(i0);
   if (i0) {goto B2;}
   i0 = 16u;
-  l15 = i0;
+  l19 = i0;
   j0 = p0;
   j1 = 8ull;
   j0 += j1;
@@ -6098,7 +6101,7 @@ static void f5(module *self, u64 p0, u64 p1, u64 p2, u64 p3) {
   i0 = !(i0);
   if (i0) {goto B4;}
   i0 = 4u;
-  l16 = i0;
+  l20 = i0;
   goto B3;
   B4:;
   j0 = l5;
@@ -6106,24 +6109,24 @@ static void f5(module *self, u64 p0, u64 p1, u64 p2, u64 p3) {
   j0 += j1;
   i0 = (u32)(j0);
   i0 = i32_load8_u(j0);
-  l17 = i0;
+  l21 = i0;
   i1 = 64u;
   i0 &= i1;
   i0 = !(i0);
   if (i0) {goto B5;}
   i0 = 1u;
-  l16 = i0;
+  l20 = i0;
   goto B3;
   B5:;
   i0 = 15u;
   i1 = 13u;
-  i2 = l17;
+  i2 = l21;
   i3 = 32u;
   i2 &= i3;
   i0 = i2 ? i0 : i1;
-  l15 = i0;
+  l19 = i0;
   i0 = 2u;
-  l16 = i0;
+  l20 = i0;
   B3:;
   j0 = p2;
   i0 = !(j0);
@@ -6136,7 +6139,7 @@ static void f5(module *self, u64 p0, u64 p1, u64 p2, u64 p3) {
   j1 = p1;
   i1 = (u32)(j1);
   i0 += i1;
-  l18 = i0;
+  l22 = i0;
   j0 = 0ull;
   p1 = j0;
   L6: 
@@ -6154,25 +6157,25 @@ static void f5(module *self, u64 p0, u64 p1, u64 p2, u64 p3) {
     j1 += j2;
     i1 = (u32)(j1);
     i1 = i32_load8_u(j1);
-    l19 = i1;
+    l23 = i1;
     j2 = p0;
     i2 = (u32)(j2);
     j2 = i64_load(j2);
     i2 = (u32)(j2);
     j2 = i64_load(j2);
-    i3 = l18;
+    i3 = l22;
     j4 = p1;
     i4 = (u32)(j4);
     i3 += i4;
-    l17 = i3;
+    l21 = i3;
     i4 = 65535u;
     i3 &= i4;
-    i4 = l15;
+    i4 = l19;
     i3 >>= (i4 & 31);
     i4 = 1u;
     i3 &= i4;
-    i4 = l17;
-    i5 = l16;
+    i4 = l21;
+    i5 = l20;
     i4 *= i5;
     i3 += i4;
     j3 = (u64)(i3);
@@ -6183,21 +6186,8 @@ static void f5(module *self, u64 p0, u64 p1, u64 p2, u64 p3) {
     j2 += j3;
     i2 = (u32)(j2);
     i2 = i32_load(j2);
-    l20 = i2;
+    l24 = i2;
     i3 = 24u;
-    i2 >>= (i3 & 31);
-    i1 &= i2;
-    j1 = (u64)(i1);
-    j2 = 2ull;
-    j1 <<= (j2 & 63);
-    j0 += j1;
-    i0 = (u32)(j0);
-    i0 = i32_load(j0);
-    l17 = i0;
-    j0 = l5;
-    i1 = l19;
-    i2 = l20;
-    i3 = 16u;
     i2 >>= (i3 & 31);
     i1 &= i2;
     j1 = (u64)(i1);
@@ -6208,8 +6198,21 @@ static void f5(module *self, u64 p0, u64 p1, u64 p2, u64 p3) {
     i0 = i32_load(j0);
     l21 = i0;
     j0 = l5;
-    i1 = l19;
-    i2 = l20;
+    i1 = l23;
+    i2 = l24;
+    i3 = 16u;
+    i2 >>= (i3 & 31);
+    i1 &= i2;
+    j1 = (u64)(i1);
+    j2 = 2ull;
+    j1 <<= (j2 & 63);
+    j0 += j1;
+    i0 = (u32)(j0);
+    i0 = i32_load(j0);
+    l25 = i0;
+    j0 = l5;
+    i1 = l23;
+    i2 = l24;
     i3 = 8u;
     i2 >>= (i3 & 31);
     i1 &= i2;
@@ -6219,12 +6222,12 @@ static void f5(module *self, u64 p0, u64 p1, u64 p2, u64 p3) {
     j0 += j1;
     i0 = (u32)(j0);
     i0 = i32_load(j0);
-    l22 = i0;
+    l26 = i0;
     j0 = p3;
     i0 = (u32)(j0);
     j1 = l5;
-    i2 = l19;
-    i3 = l20;
+    i2 = l23;
+    i3 = l24;
     i2 &= i3;
     j2 = (u64)(i2);
     j3 = 2ull;
@@ -6232,49 +6235,49 @@ static void f5(module *self, u64 p0, u64 p1, u64 p2, u64 p3) {
     j1 += j2;
     i1 = (u32)(j1);
     i1 = i32_load(j1);
-    l19 = i1;
+    l23 = i1;
     i32_store(j0, i1);
     j0 = p3;
     j1 = 3ull;
     j0 += j1;
     i0 = (u32)(j0);
-    i1 = l19;
+    i1 = l23;
     i32_store(j0, i1);
     j0 = p3;
     j1 = 6ull;
     j0 += j1;
     i0 = (u32)(j0);
-    i1 = l22;
+    i1 = l26;
     i32_store(j0, i1);
     j0 = p3;
     j1 = 9ull;
     j0 += j1;
     i0 = (u32)(j0);
-    i1 = l22;
+    i1 = l26;
     i32_store(j0, i1);
     j0 = p3;
     j1 = 12ull;
     j0 += j1;
     i0 = (u32)(j0);
-    i1 = l21;
+    i1 = l25;
     i32_store(j0, i1);
     j0 = p3;
     j1 = 15ull;
     j0 += j1;
     i0 = (u32)(j0);
-    i1 = l21;
+    i1 = l25;
     i32_store(j0, i1);
     j0 = p3;
     j1 = 18ull;
     j0 += j1;
     i0 = (u32)(j0);
-    i1 = l17;
+    i1 = l21;
     i32_store(j0, i1);
     j0 = p3;
     j1 = 23ull;
     j0 += j1;
     i0 = (u32)(j0);
-    i1 = l17;
+    i1 = l21;
     i2 = 16u;
     i1 >>= (i2 & 31);
     i32_store8(j0, i1);
@@ -6282,7 +6285,7 @@ static void f5(module *self, u64 p0, u64 p1, u64 p2, u64 p3) {
     j1 = 22ull;
     j0 += j1;
     i0 = (u32)(j0);
-    i1 = l17;
+    i1 = l21;
     i2 = 8u;
     i1 >>= (i2 & 31);
     i32_store8(j0, i1);
@@ -6290,7 +6293,7 @@ static void f5(module *self, u64 p0, u64 p1, u64 p2, u64 p3) {
     j1 = 21ull;
     j0 += j1;
     i0 = (u32)(j0);
-    i1 = l17;
+    i1 = l21;
     i32_store8(j0, i1);
     j0 = p3;
     j1 = 24ull;
@@ -6307,7 +6310,7 @@ static void f5(module *self, u64 p0, u64 p1, u64 p2, u64 p3) {
   { self->is_broken = true; return; }
   B2:;
   i0 = 16u;
-  l19 = i0;
+  l23 = i0;
   j0 = p0;
   j1 = 8ull;
   j0 += j1;
@@ -6323,7 +6326,7 @@ static void f5(module *self, u64 p0, u64 p1, u64 p2, u64 p3) {
   i0 = !(i0);
   if (i0) {goto B8;}
   i0 = 4u;
-  l20 = i0;
+  l24 = i0;
   goto B7;
   B8:;
   j0 = l5;
@@ -6331,27 +6334,27 @@ static void f5(module *self, u64 p0, u64 p1, u64 p2, u64 p3) {
   j0 += j1;
   i0 = (u32)(j0);
   i0 = i32_load8_u(j0);
-  l17 = i0;
+  l21 = i0;
   i1 = 64u;
   i0 &= i1;
   i0 = !(i0);
   if (i0) {goto B9;}
   i0 = 1u;
-  l20 = i0;
+  l24 = i0;
   goto B7;
   B9:;
   i0 = 15u;
   i1 = 13u;
-  i2 = l17;
+  i2 = l21;
   i3 = 32u;
   i2 &= i3;
   i0 = i2 ? i0 : i1;
-  l19 = i0;
+  l23 = i0;
   i0 = 2u;
-  l20 = i0;
+  l24 = i0;
   B7:;
   j0 = l4;
-  j1 = 136ull;
+  j1 = 144ull;
   j0 += j1;
   j1 = p0;
   j2 = 16ull;
@@ -6368,90 +6371,90 @@ static void f5(module *self, u64 p0, u64 p1, u64 p2, u64 p3) {
   i0 = (u32)(j0);
   j1 = l4;
   i1 = (u32)(j1);
-  j1 = i64_load(j1 + 192u);
+  j1 = i64_load(j1 + 200u);
   l6 = j1;
+  i64_store(j0 + 136, j1);
+  j0 = l4;
+  i0 = (u32)(j0);
+  j1 = l4;
+  i1 = (u32)(j1);
+  j1 = i64_load(j1 + 192u);
+  l7 = j1;
   i64_store(j0 + 128, j1);
   j0 = l4;
   i0 = (u32)(j0);
   j1 = l4;
   i1 = (u32)(j1);
   j1 = i64_load(j1 + 184u);
-  l7 = j1;
+  l8 = j1;
   i64_store(j0 + 120, j1);
   j0 = l4;
   i0 = (u32)(j0);
   j1 = l4;
   i1 = (u32)(j1);
   j1 = i64_load(j1 + 176u);
-  l8 = j1;
+  l9 = j1;
   i64_store(j0 + 112, j1);
   j0 = l4;
   i0 = (u32)(j0);
   j1 = l4;
   i1 = (u32)(j1);
   j1 = i64_load(j1 + 168u);
-  l9 = j1;
+  l10 = j1;
   i64_store(j0 + 104, j1);
   j0 = l4;
   i0 = (u32)(j0);
   j1 = l4;
   i1 = (u32)(j1);
   j1 = i64_load(j1 + 160u);
-  l10 = j1;
+  l11 = j1;
   i64_store(j0 + 96, j1);
   j0 = l4;
   i0 = (u32)(j0);
   j1 = l4;
   i1 = (u32)(j1);
   j1 = i64_load(j1 + 152u);
-  l11 = j1;
+  l12 = j1;
   i64_store(j0 + 88, j1);
   j0 = l4;
   i0 = (u32)(j0);
   j1 = l4;
   i1 = (u32)(j1);
   j1 = i64_load(j1 + 144u);
-  l12 = j1;
+  l13 = j1;
   i64_store(j0 + 80, j1);
   j0 = l4;
   i0 = (u32)(j0);
-  j1 = l4;
-  i1 = (u32)(j1);
-  j1 = i64_load(j1 + 136u);
-  l13 = j1;
-  i64_store(j0 + 72, j1);
-  j0 = l4;
-  i0 = (u32)(j0);
   j1 = l13;
-  i64_store(j0 + 8, j1);
-  j0 = l4;
-  i0 = (u32)(j0);
-  j1 = l12;
   i64_store(j0 + 16, j1);
   j0 = l4;
   i0 = (u32)(j0);
-  j1 = l11;
+  j1 = l12;
   i64_store(j0 + 24, j1);
   j0 = l4;
   i0 = (u32)(j0);
-  j1 = l10;
+  j1 = l11;
   i64_store(j0 + 32, j1);
   j0 = l4;
   i0 = (u32)(j0);
-  j1 = l9;
+  j1 = l10;
   i64_store(j0 + 40, j1);
   j0 = l4;
   i0 = (u32)(j0);
-  j1 = l8;
+  j1 = l9;
   i64_store(j0 + 48, j1);
   j0 = l4;
   i0 = (u32)(j0);
-  j1 = l7;
+  j1 = l8;
   i64_store(j0 + 56, j1);
   j0 = l4;
   i0 = (u32)(j0);
-  j1 = l6;
+  j1 = l7;
   i64_store(j0 + 64, j1);
+  j0 = l4;
+  i0 = (u32)(j0);
+  j1 = l6;
+  i64_store(j0 + 72, j1);
   j0 = p2;
   i0 = !(j0);
   if (i0) {goto B0;}
@@ -6463,8 +6466,10 @@ static void f5(module *self, u64 p0, u64 p1, u64 p2, u64 p3) {
   j1 = p1;
   i1 = (u32)(j1);
   i0 += i1;
-  l21 = i0;
+  l25 = i0;
   j0 = l4;
+  j1 = 8ull;
+  j0 += j1;
   j1 = 8ull;
   j0 += j1;
   l5 = j0;
@@ -6479,19 +6484,19 @@ static void f5(module *self, u64 p0, u64 p1, u64 p2, u64 p3) {
     j2 = i64_load(j2);
     i2 = (u32)(j2);
     j2 = i64_load(j2);
-    i3 = l21;
+    i3 = l25;
     j4 = p1;
     i4 = (u32)(j4);
     i3 += i4;
-    l17 = i3;
+    l21 = i3;
     i4 = 65535u;
     i3 &= i4;
-    i4 = l19;
+    i4 = l23;
     i3 >>= (i4 & 31);
     i4 = 1u;
     i3 &= i4;
-    i4 = l17;
-    i5 = l20;
+    i4 = l21;
+    i5 = l24;
     i4 *= i5;
     i3 += i4;
     j3 = (u64)(i3);
@@ -6502,7 +6507,7 @@ static void f5(module *self, u64 p0, u64 p1, u64 p2, u64 p3) {
     j2 += j3;
     i2 = (u32)(j2);
     i2 = i32_load(j2);
-    l17 = i2;
+    l21 = i2;
     i3 = 2155905152u;
     i2 &= i3;
     i3 = 2113665u;
@@ -6521,7 +6526,7 @@ static void f5(module *self, u64 p0, u64 p1, u64 p2, u64 p3) {
     j0 += j1;
     i0 = (u32)(j0);
     j1 = l5;
-    i2 = l17;
+    i2 = l21;
     i3 = 1077952576u;
     i2 &= i3;
     i3 = 4227330u;
@@ -6540,7 +6545,7 @@ static void f5(module *self, u64 p0, u64 p1, u64 p2, u64 p3) {
     j0 += j1;
     i0 = (u32)(j0);
     j1 = l5;
-    i2 = l17;
+    i2 = l21;
     i3 = 538976288u;
     i2 &= i3;
     i3 = 8454660u;
@@ -6559,7 +6564,7 @@ static void f5(module *self, u64 p0, u64 p1, u64 p2, u64 p3) {
     j0 += j1;
     i0 = (u32)(j0);
     j1 = l5;
-    i2 = l17;
+    i2 = l21;
     i3 = 269488144u;
     i2 &= i3;
     i3 = 16909320u;
@@ -6578,7 +6583,7 @@ static void f5(module *self, u64 p0, u64 p1, u64 p2, u64 p3) {
     j0 += j1;
     i0 = (u32)(j0);
     j1 = l5;
-    i2 = l17;
+    i2 = l21;
     i3 = 134744072u;
     i2 &= i3;
     i3 = 33818640u;
@@ -6597,7 +6602,7 @@ static void f5(module *self, u64 p0, u64 p1, u64 p2, u64 p3) {
     j0 += j1;
     i0 = (u32)(j0);
     j1 = l5;
-    i2 = l17;
+    i2 = l21;
     i3 = 67372036u;
     i2 &= i3;
     i3 = 67637280u;
@@ -6616,7 +6621,7 @@ static void f5(module *self, u64 p0, u64 p1, u64 p2, u64 p3) {
     j0 += j1;
     i0 = (u32)(j0);
     j1 = l5;
-    i2 = l17;
+    i2 = l21;
     i3 = 33686018u;
     i2 &= i3;
     i3 = 135274560u;
@@ -6635,7 +6640,7 @@ static void f5(module *self, u64 p0, u64 p1, u64 p2, u64 p3) {
     j0 += j1;
     i0 = (u32)(j0);
     j1 = l5;
-    i2 = l17;
+    i2 = l21;
     i3 = 16843009u;
     i2 &= i3;
     i3 = 270549120u;
@@ -6648,7 +6653,7 @@ static void f5(module *self, u64 p0, u64 p1, u64 p2, u64 p3) {
     j1 += j2;
     i1 = (u32)(j1);
     i1 = i32_load(j1);
-    l17 = i1;
+    l21 = i1;
     i2 = 16u;
     i1 >>= (i2 & 31);
     i32_store8(j0, i1);
@@ -6656,7 +6661,7 @@ static void f5(module *self, u64 p0, u64 p1, u64 p2, u64 p3) {
     j1 = 22ull;
     j0 += j1;
     i0 = (u32)(j0);
-    i1 = l17;
+    i1 = l21;
     i2 = 8u;
     i1 >>= (i2 & 31);
     i32_store8(j0, i1);
@@ -6664,7 +6669,7 @@ static void f5(module *self, u64 p0, u64 p1, u64 p2, u64 p3) {
     j1 = 21ull;
     j0 += j1;
     i0 = (u32)(j0);
-    i1 = l17;
+    i1 = l21;
     i32_store8(j0, i1);
     j0 = p3;
     j1 = 24ull;
@@ -6684,13 +6689,13 @@ static void f5(module *self, u64 p0, u64 p1, u64 p2, u64 p3) {
   i0 = !(j0);
   if (i0) {goto B0;}
   i0 = 16u;
-  l20 = i0;
+  l24 = i0;
   j0 = p0;
   j1 = 8ull;
   j0 += j1;
   i0 = (u32)(j0);
   j0 = i64_load(j0);
-  l6 = j0;
+  l7 = j0;
   j1 = 45ull;
   j0 += j1;
   i0 = (u32)(j0);
@@ -6700,80 +6705,89 @@ static void f5(module *self, u64 p0, u64 p1, u64 p2, u64 p3) {
   i0 = !(i0);
   if (i0) {goto B12;}
   i0 = 4u;
-  l21 = i0;
+  l25 = i0;
   goto B11;
   B12:;
-  j0 = l6;
+  j0 = l7;
   j1 = 48ull;
   j0 += j1;
   i0 = (u32)(j0);
   i0 = i32_load8_u(j0);
-  l17 = i0;
+  l21 = i0;
   i1 = 64u;
   i0 &= i1;
   i0 = !(i0);
   if (i0) {goto B13;}
   i0 = 1u;
-  l21 = i0;
+  l25 = i0;
   goto B11;
   B13:;
   i0 = 15u;
   i1 = 13u;
-  i2 = l17;
+  i2 = l21;
   i3 = 32u;
   i2 &= i3;
   i0 = i2 ? i0 : i1;
-  l20 = i0;
+  l24 = i0;
   i0 = 2u;
-  l21 = i0;
+  l25 = i0;
   B11:;
   j0 = l4;
-  j1 = 204ull;
-  j0 += j1;
-  j1 = 8ull;
+  j1 = 144ull;
   j0 += j1;
   j1 = p0;
   f9(self, j0, j1);
   j0 = l4;
   i0 = (u32)(j0);
-  i1 = 0u;
-  i32_store16(j0 + 206, i1);
-  j0 = l6;
-  j1 = 60ull;
-  j0 += j1;
-  i0 = (u32)(j0);
-  i0 = i32_load16_u(j0);
-  l18 = i0;
+  i0 = i32_load8_u(j0 + 155u);
+  l27 = i0;
   j0 = l4;
   i0 = (u32)(j0);
-  i1 = l21;
-  i32_store16(j0 + 204, i1);
+  i0 = i32_load16_u(j0 + 152u);
+  l28 = i0;
   j0 = l4;
   i0 = (u32)(j0);
-  i1 = l20;
-  i32_store(j0 + 208, i1);
+  i0 = i32_load16_u(j0 + 150u);
+  l29 = i0;
+  j0 = l4;
+  i0 = (u32)(j0);
+  i0 = i32_load8_u(j0 + 149u);
+  l30 = i0;
+  j0 = l4;
+  i0 = (u32)(j0);
+  i0 = i32_load8_u(j0 + 148u);
+  l31 = i0;
+  j0 = l4;
+  i0 = (u32)(j0);
+  i0 = i32_load(j0 + 144u);
+  l26 = i0;
   j0 = l5;
   i0 = (u32)(j0);
   j0 = i64_load(j0);
   l6 = j0;
-  i1 = l18;
+  j1 = l7;
+  j2 = 60ull;
+  j1 += j2;
+  i1 = (u32)(j1);
+  i1 = i32_load16_u(j1);
+  l22 = i1;
   i2 = 4294967295u;
   i1 += i2;
-  l15 = i1;
+  l19 = i1;
   j2 = p2;
   j3 = p1;
   j2 += j3;
   i2 = (u32)(j2);
   i1 += i2;
-  l17 = i1;
+  l21 = i1;
   i2 = 65535u;
   i1 &= i2;
-  i2 = l20;
+  i2 = l24;
   i1 >>= (i2 & 31);
   i2 = 1u;
   i1 &= i2;
-  i2 = l17;
-  i3 = l21;
+  i2 = l21;
+  i3 = l25;
   i2 *= i3;
   i1 += i2;
   j1 = (u64)(i1);
@@ -6784,31 +6798,27 @@ static void f5(module *self, u64 p0, u64 p1, u64 p2, u64 p3) {
   j0 += j1;
   i0 = (u32)(j0);
   i0 = i32_load(j0);
-  l16 = i0;
-  j0 = l4;
-  i0 = (u32)(j0);
-  i0 = i32_load(j0 + 212u);
-  l22 = i0;
+  l20 = i0;
   j0 = p2;
   l5 = j0;
   L15: 
     j0 = l6;
-    i1 = l15;
+    i1 = l19;
     j2 = p1;
     j3 = l5;
     j2 += j3;
     i2 = (u32)(j2);
     i1 += i2;
-    l17 = i1;
+    l21 = i1;
     i2 = 65535u;
     i1 &= i2;
-    l19 = i1;
-    i2 = l20;
+    l23 = i1;
+    i2 = l24;
     i1 >>= (i2 & 31);
     i2 = 1u;
     i1 &= i2;
-    i2 = l17;
-    i3 = l21;
+    i2 = l21;
+    i3 = l25;
     i2 *= i3;
     i1 += i2;
     j1 = (u64)(i1);
@@ -6819,25 +6829,25 @@ static void f5(module *self, u64 p0, u64 p1, u64 p2, u64 p3) {
     j0 += j1;
     i0 = (u32)(j0);
     i0 = i32_load16_u(j0);
-    i1 = l16;
+    i1 = l20;
     i2 = 65535u;
     i1 &= i2;
     i0 = i0 == i1;
     if (i0) {goto B16;}
     j0 = l5;
-    l7 = j0;
+    l10 = j0;
     goto B14;
     B16:;
-    i0 = l22;
-    i1 = l19;
+    i0 = l26;
+    i1 = l23;
     i0 = i0 != i1;
     if (i0) {goto B17;}
     j0 = l5;
-    l7 = j0;
+    l10 = j0;
     goto B14;
     B17:;
     j0 = 0ull;
-    l7 = j0;
+    l10 = j0;
     j0 = l5;
     j1 = 18446744073709551615ull;
     j0 += j1;
@@ -6846,227 +6856,290 @@ static void f5(module *self, u64 p0, u64 p1, u64 p2, u64 p3) {
     i0 = j0 != j1;
     if (i0) {goto L15;}
   B14:;
-  j0 = 0ull;
-  l6 = j0;
+  j0 = l4;
+  j1 = 176ull;
+  j0 += j1;
+  i0 = (u32)(j0);
+  i1 = 0u;
+  j2 = 480ull;
+  i2 = (u32)(j2);
+  memory_fill(j0, i1, j2);
   j0 = l4;
   i0 = (u32)(j0);
-  j1 = 0ull;
-  i64_store(j0 + 176, j1);
-  j0 = p0;
-  j1 = 24ull;
-  j0 += j1;
+  j1 = 1ull;
+  i64_store(j0 + 368, j1);
+  j0 = l4;
   i0 = (u32)(j0);
-  j0 = i64_load(j0);
-  l5 = j0;
-  j1 = 256ull;
-  j0 += j1;
-  l12 = j0;
+  j1 = 1ull;
+  i64_store(j0 + 144, j1);
+  j0 = l4;
+  i0 = (u32)(j0);
   j1 = p0;
-  j2 = 16ull;
+  j2 = 24ull;
   j1 += j2;
   i1 = (u32)(j1);
   j1 = i64_load(j1);
-  l13 = j1;
-  j2 = 42ull;
+  l5 = j1;
+  j2 = 512ull;
   j1 += j2;
-  i1 = (u32)(j1);
-  i1 = i32_load8_u(j1);
+  l9 = j1;
   j2 = l5;
   j3 = 1796ull;
   j2 += j3;
   i2 = (u32)(j2);
   i2 = i32_load8_u(j2);
-  l15 = i2;
-  i1 &= i2;
-  j1 = (u64)(i1);
-  j2 = 255ull;
-  j1 &= j2;
-  l8 = j1;
-  j0 += j1;
-  i0 = (u32)(j0);
-  j0 = i64_load8_u(j0);
-  j1 = 8ull;
-  j0 <<= (j1 & 63);
-  j1 = l5;
-  j2 = l8;
+  l21 = i2;
+  j3 = p0;
+  j4 = 16ull;
+  j3 += j4;
+  i3 = (u32)(j3);
+  j3 = i64_load(j3);
+  l14 = j3;
+  j4 = 49ull;
+  j3 += j4;
+  i3 = (u32)(j3);
+  i3 = i32_load8_u(j3);
+  i2 &= i3;
+  j2 = (u64)(i2);
+  j3 = 255ull;
+  j2 &= j3;
+  l6 = j2;
   j1 += j2;
   i1 = (u32)(j1);
   j1 = i64_load8_u(j1);
-  j0 |= j1;
-  l9 = j0;
-  j1 = l5;
-  j2 = 512ull;
-  j1 += j2;
-  l14 = j1;
-  j2 = l8;
-  j1 += j2;
-  i1 = (u32)(j1);
-  j1 = i64_load8_u(j1);
-  l8 = j1;
-  j2 = 16ull;
+  l7 = j1;
+  j2 = 8ull;
   j1 <<= (j2 & 63);
-  j0 |= j1;
-  l10 = j0;
-  j1 = 16777217ull;
-  j0 *= j1;
-  j1 = l9;
-  j2 = 48ull;
-  j1 <<= (j2 & 63);
-  j0 |= j1;
-  l9 = j0;
-  j0 = l10;
-  j1 = 8ull;
-  j0 <<= (j1 & 63);
-  j1 = l8;
-  j0 |= j1;
-  i0 = (u32)(j0);
-  l17 = i0;
-  j0 = p2;
-  j1 = l7;
-  j2 = 1ull;
-  j1 += j2;
+  j2 = l5;
+  j3 = 256ull;
+  j2 += j3;
+  l15 = j2;
+  j3 = l6;
+  j2 += j3;
+  i2 = (u32)(j2);
+  j2 = i64_load8_u(j2);
+  l8 = j2;
+  j1 |= j2;
   l11 = j1;
-  i0 = j0 < j1;
-  l19 = i0;
+  j2 = l5;
+  j3 = l6;
+  j2 += j3;
+  i2 = (u32)(j2);
+  j2 = i64_load8_u(j2);
+  l6 = j2;
+  j3 = 16ull;
+  j2 <<= (j3 & 63);
+  j1 |= j2;
+  j2 = 16777217ull;
+  j1 *= j2;
+  j2 = l11;
+  j3 = 48ull;
+  j2 <<= (j3 & 63);
+  j1 |= j2;
+  l11 = j1;
+  i64_store(j0 + 392, j1);
   j0 = l4;
   i0 = (u32)(j0);
-  i0 = i32_load8_u(j0 + 216u);
+  j1 = l7;
+  j2 = l6;
+  j3 = 8ull;
+  j2 <<= (j3 & 63);
+  j1 |= j2;
+  l12 = j1;
+  j2 = l8;
+  j3 = 16ull;
+  j2 <<= (j3 & 63);
+  j1 |= j2;
+  j2 = 16777217ull;
+  j1 *= j2;
+  j2 = l12;
+  j3 = 48ull;
+  j2 <<= (j3 & 63);
+  j1 |= j2;
+  l12 = j1;
+  i64_store(j0 + 384, j1);
+  j0 = l4;
+  i0 = (u32)(j0);
+  j1 = l6;
+  j2 = l8;
+  j3 = 8ull;
+  j2 <<= (j3 & 63);
+  j1 |= j2;
+  l6 = j1;
+  j2 = l7;
+  j3 = 16ull;
+  j2 <<= (j3 & 63);
+  j1 |= j2;
+  j2 = 16777217ull;
+  j1 *= j2;
+  j2 = l6;
+  j3 = 48ull;
+  j2 <<= (j3 & 63);
+  j1 |= j2;
+  l13 = j1;
+  i64_store(j0 + 376, j1);
+  j0 = l4;
+  i0 = (u32)(j0);
+  j1 = l9;
+  i2 = l21;
+  j3 = l14;
+  j4 = 42ull;
+  j3 += j4;
+  i3 = (u32)(j3);
+  i3 = i32_load8_u(j3);
+  i2 &= i3;
+  j2 = (u64)(i2);
+  j3 = 255ull;
+  j2 &= j3;
+  l6 = j2;
+  j1 += j2;
+  i1 = (u32)(j1);
+  j1 = i64_load8_u(j1);
+  l7 = j1;
+  j2 = 8ull;
+  j1 <<= (j2 & 63);
+  j2 = l15;
+  j3 = l6;
+  j2 += j3;
+  i2 = (u32)(j2);
+  j2 = i64_load8_u(j2);
+  l14 = j2;
+  j1 |= j2;
+  l8 = j1;
+  j2 = l5;
+  j3 = l6;
+  j2 += j3;
+  i2 = (u32)(j2);
+  j2 = i64_load8_u(j2);
+  l5 = j2;
+  j3 = 16ull;
+  j2 <<= (j3 & 63);
+  j1 |= j2;
+  j2 = 16777217ull;
+  j1 *= j2;
+  j2 = l8;
+  j3 = 48ull;
+  j2 <<= (j3 & 63);
+  j1 |= j2;
+  l8 = j1;
+  i64_store(j0 + 168, j1);
+  j0 = l4;
+  i0 = (u32)(j0);
+  j1 = l7;
+  j2 = l5;
+  j3 = 8ull;
+  j2 <<= (j3 & 63);
+  j1 |= j2;
+  l6 = j1;
+  j2 = l14;
+  j3 = 16ull;
+  j2 <<= (j3 & 63);
+  j1 |= j2;
+  j2 = 16777217ull;
+  j1 *= j2;
+  j2 = l6;
+  j3 = 48ull;
+  j2 <<= (j3 & 63);
+  j1 |= j2;
+  l9 = j1;
+  i64_store(j0 + 160, j1);
+  j0 = l4;
+  i0 = (u32)(j0);
+  j1 = l5;
+  j2 = l14;
+  j3 = 8ull;
+  j2 <<= (j3 & 63);
+  j1 |= j2;
+  l5 = j1;
+  j2 = l7;
+  j3 = 16ull;
+  j2 <<= (j3 & 63);
+  j1 |= j2;
+  j2 = 16777217ull;
+  j1 *= j2;
+  j2 = l5;
+  j3 = 48ull;
+  j2 <<= (j3 & 63);
+  j1 |= j2;
+  l7 = j1;
+  i64_store(j0 + 152, j1);
+  j0 = p2;
+  j1 = l10;
+  j2 = 1ull;
+  j1 += j2;
+  l16 = j1;
+  i0 = j0 < j1;
+  l21 = i0;
+  i0 = 7u;
+  l19 = i0;
+  i0 = l31;
   i1 = 7u;
   i0 &= i1;
   i0 = !(i0);
   if (i0) {goto B19;}
+  j0 = l8;
+  l11 = j0;
   j0 = l9;
-  l5 = j0;
-  i0 = l17;
-  l15 = i0;
+  l12 = j0;
+  j0 = l7;
+  l13 = j0;
   goto B18;
   B19:;
-  j0 = l14;
-  j1 = l13;
-  j2 = 49ull;
-  j1 += j2;
-  i1 = (u32)(j1);
-  i1 = i32_load8_u(j1);
-  i2 = l15;
-  i1 &= i2;
-  j1 = (u64)(i1);
-  j2 = 255ull;
-  j1 &= j2;
-  l7 = j1;
-  j0 += j1;
-  i0 = (u32)(j0);
-  j0 = i64_load8_u(j0);
+  i0 = l30;
+  i1 = 255u;
+  i0 &= i1;
+  i1 = 7u;
+  i0 = i0 != i1;
+  if (i0) {goto B18;}
+  j0 = l11;
   l8 = j0;
-  j1 = 16ull;
-  j0 <<= (j1 & 63);
-  j1 = l12;
-  j2 = l7;
-  j1 += j2;
-  i1 = (u32)(j1);
-  j1 = i64_load8_u(j1);
-  j2 = 8ull;
-  j1 <<= (j2 & 63);
-  j2 = l5;
-  j3 = l7;
-  j2 += j3;
-  i2 = (u32)(j2);
-  j2 = i64_load8_u(j2);
-  j1 |= j2;
-  l5 = j1;
-  j0 |= j1;
-  l7 = j0;
-  j1 = 16777217ull;
-  j0 *= j1;
-  j1 = l5;
-  j2 = 48ull;
-  j1 <<= (j2 & 63);
-  j0 |= j1;
-  l5 = j0;
-  j1 = l9;
-  j2 = l4;
-  i2 = (u32)(j2);
-  i2 = i32_load8_u(j2 + 217u);
-  i3 = 7u;
-  i2 = i2 == i3;
-  l16 = i2;
-  j0 = i2 ? j0 : j1;
+  j0 = l12;
   l9 = j0;
-  j0 = l7;
-  j1 = 8ull;
-  j0 <<= (j1 & 63);
-  j1 = l8;
-  j0 |= j1;
-  i0 = (u32)(j0);
-  l15 = i0;
-  i1 = l17;
-  i2 = l16;
-  i0 = i2 ? i0 : i1;
-  l17 = i0;
+  j0 = l13;
+  l7 = j0;
   B18:;
   j0 = p2;
-  j1 = l11;
-  i2 = l19;
+  j1 = l16;
+  i2 = l21;
   j0 = i2 ? j0 : j1;
-  l8 = j0;
-  j0 = l4;
-  i0 = (u32)(j0);
-  j1 = l4;
-  i1 = (u32)(j1);
-  i1 = i32_load16_u(j1 + 220u);
-  i32_store16(j0 + 176, i1);
-  j0 = l4;
-  i0 = (u32)(j0);
-  i1 = l17;
-  i32_store(j0 + 168, i1);
-  j0 = l4;
-  i0 = (u32)(j0);
-  j1 = l9;
-  i64_store(j0 + 160, j1);
-  j0 = l4;
-  i0 = (u32)(j0);
-  i1 = l15;
-  i32_store(j0 + 152, i1);
-  j0 = l4;
-  i0 = (u32)(j0);
-  j1 = l5;
-  i64_store(j0 + 144, j1);
-  j0 = l4;
-  i0 = (u32)(j0);
-  i1 = 7u;
-  i32_store8(j0 + 136, i1);
-  i0 = l18;
+  l14 = j0;
+  i0 = l22;
   j1 = p1;
   i1 = (u32)(j1);
   i0 += i1;
-  l16 = i0;
+  l22 = i0;
+  j0 = 0ull;
+  l6 = j0;
   j0 = p3;
   l5 = j0;
   j0 = 0ull;
   p1 = j0;
+  i0 = l28;
+  l32 = i0;
   L20: 
-    j0 = l4;
-    i0 = (u32)(j0);
-    i0 = i32_load8_u(j0 + 136u);
+    i0 = l19;
+    i1 = 255u;
+    i0 &= i1;
     j1 = p0;
     i1 = (u32)(j1);
     j1 = i64_load(j1);
     i1 = (u32)(j1);
     j1 = i64_load(j1);
-    l7 = j1;
-    i2 = l16;
+    l10 = j1;
+    i2 = l22;
     j3 = p1;
     i3 = (u32)(j3);
     i2 += i3;
-    l17 = i2;
+    l21 = i2;
     i3 = 65535u;
     i2 &= i3;
-    l19 = i2;
-    i3 = l20;
+    l23 = i2;
+    i3 = l24;
     i2 >>= (i3 & 31);
     i3 = 1u;
     i2 &= i3;
-    i3 = l17;
-    i4 = l21;
+    i3 = l21;
+    i4 = l25;
     i3 *= i4;
     i2 += i3;
     j2 = (u64)(i2);
@@ -7077,37 +7150,358 @@ static void f5(module *self, u64 p0, u64 p1, u64 p2, u64 p3) {
     j1 += j2;
     i1 = (u32)(j1);
     i1 = i32_load(j1);
-    l15 = i1;
+    l20 = i1;
     i2 = 8u;
     i1 >>= (i2 & 31);
-    l17 = i1;
+    l21 = i1;
     i2 = 255u;
     i1 &= i2;
     i0 = i0 == i1;
     if (i0) {goto B21;}
     j0 = l4;
-    j1 = 136ull;
+    j1 = 144ull;
     j0 += j1;
-    j1 = l4;
-    j2 = 204ull;
+    i1 = l21;
+    j1 = (u64)(i1);
+    j2 = 15ull;
+    j1 &= j2;
+    l8 = j1;
+    j2 = 5ull;
+    j1 <<= (j2 & 63);
+    j0 += j1;
+    l7 = j0;
+    i0 = (u32)(j0);
+    i0 = i32_load8_u(j0);
+    i1 = 1u;
+    i0 = i0 != i1;
+    if (i0) {goto B23;}
+    j0 = l7;
+    j1 = 24ull;
+    j0 += j1;
+    i0 = (u32)(j0);
+    j0 = i64_load(j0);
+    l11 = j0;
+    j0 = l7;
+    j1 = 16ull;
+    j0 += j1;
+    i0 = (u32)(j0);
+    j0 = i64_load(j0);
+    l12 = j0;
+    j0 = l7;
+    j1 = 8ull;
+    j0 += j1;
+    i0 = (u32)(j0);
+    j0 = i64_load(j0);
+    l13 = j0;
+    goto B22;
+    B23:;
+    j0 = l7;
+    i0 = (u32)(j0);
+    j1 = 1ull;
+    i64_store(j0, j1);
+    j0 = l7;
+    j1 = 16ull;
+    j0 += j1;
+    i0 = (u32)(j0);
+    j1 = p0;
+    j2 = 24ull;
     j1 += j2;
-    j2 = p0;
-    j3 = 16ull;
+    i1 = (u32)(j1);
+    j1 = i64_load(j1);
+    l9 = j1;
+    j2 = l9;
+    j3 = 1796ull;
     j2 += j3;
     i2 = (u32)(j2);
-    j2 = i64_load(j2);
+    i2 = i32_load8_u(j2);
     j3 = p0;
-    j4 = 24ull;
+    j4 = 16ull;
     j3 += j4;
     i3 = (u32)(j3);
     j3 = i64_load(j3);
-    i4 = l17;
-    f10(self, j0, j1, j2, j3, i4);
-    B21:;
-    i0 = l22;
-    i1 = l19;
+    j4 = l8;
+    j3 += j4;
+    j4 = 42ull;
+    j3 += j4;
+    i3 = (u32)(j3);
+    i3 = i32_load8_u(j3);
+    i2 &= i3;
+    j2 = (u64)(i2);
+    j3 = 255ull;
+    j2 &= j3;
+    j1 += j2;
+    l8 = j1;
+    i1 = (u32)(j1);
+    j1 = i64_load8_u(j1);
+    l9 = j1;
+    j2 = 8ull;
+    j1 <<= (j2 & 63);
+    j2 = l8;
+    j3 = 512ull;
+    j2 += j3;
+    i2 = (u32)(j2);
+    j2 = i64_load8_u(j2);
+    l13 = j2;
+    j1 |= j2;
+    l11 = j1;
+    j2 = l8;
+    j3 = 256ull;
+    j2 += j3;
+    i2 = (u32)(j2);
+    j2 = i64_load8_u(j2);
+    l8 = j2;
+    j3 = 16ull;
+    j2 <<= (j3 & 63);
+    j1 |= j2;
+    j2 = 16777217ull;
+    j1 *= j2;
+    j2 = l11;
+    j3 = 48ull;
+    j2 <<= (j3 & 63);
+    j1 |= j2;
+    l12 = j1;
+    i64_store(j0, j1);
+    j0 = l7;
+    j1 = 24ull;
+    j0 += j1;
+    i0 = (u32)(j0);
+    j1 = l8;
+    j2 = l13;
+    j3 = 8ull;
+    j2 <<= (j3 & 63);
+    j1 |= j2;
+    l11 = j1;
+    j2 = l9;
+    j3 = 16ull;
+    j2 <<= (j3 & 63);
+    j1 |= j2;
+    j2 = 16777217ull;
+    j1 *= j2;
+    j2 = l11;
+    j3 = 48ull;
+    j2 <<= (j3 & 63);
+    j1 |= j2;
+    l11 = j1;
+    i64_store(j0, j1);
+    j0 = l7;
+    j1 = 8ull;
+    j0 += j1;
+    i0 = (u32)(j0);
+    j1 = l9;
+    j2 = l8;
+    j3 = 8ull;
+    j2 <<= (j3 & 63);
+    j1 |= j2;
+    l7 = j1;
+    j2 = l13;
+    j3 = 16ull;
+    j2 <<= (j3 & 63);
+    j1 |= j2;
+    j2 = 16777217ull;
+    j1 *= j2;
+    j2 = l7;
+    j3 = 48ull;
+    j2 <<= (j3 & 63);
+    j1 |= j2;
+    l13 = j1;
+    i64_store(j0, j1);
+    B22:;
+    j0 = l4;
+    j1 = 144ull;
+    j0 += j1;
+    i1 = l21;
+    i2 = 240u;
+    i1 &= i2;
+    i2 = 4u;
+    i1 >>= (i2 & 31);
+    i2 = l27;
+    i1 &= i2;
+    j1 = (u64)(i1);
+    l8 = j1;
+    j2 = 5ull;
+    j1 <<= (j2 & 63);
+    j0 += j1;
+    l7 = j0;
+    i0 = (u32)(j0);
+    i0 = i32_load8_u(j0);
+    i1 = 1u;
     i0 = i0 != i1;
-    if (i0) {goto B23;}
+    if (i0) {goto B25;}
+    j0 = l7;
+    j1 = 24ull;
+    j0 += j1;
+    i0 = (u32)(j0);
+    j0 = i64_load(j0);
+    l8 = j0;
+    j0 = l7;
+    j1 = 16ull;
+    j0 += j1;
+    i0 = (u32)(j0);
+    j0 = i64_load(j0);
+    l9 = j0;
+    j0 = l7;
+    j1 = 8ull;
+    j0 += j1;
+    i0 = (u32)(j0);
+    j0 = i64_load(j0);
+    l7 = j0;
+    goto B24;
+    B25:;
+    j0 = l7;
+    i0 = (u32)(j0);
+    j1 = 1ull;
+    i64_store(j0, j1);
+    j0 = l7;
+    j1 = 16ull;
+    j0 += j1;
+    i0 = (u32)(j0);
+    j1 = p0;
+    j2 = 24ull;
+    j1 += j2;
+    i1 = (u32)(j1);
+    j1 = i64_load(j1);
+    l9 = j1;
+    j2 = l9;
+    j3 = 1796ull;
+    j2 += j3;
+    i2 = (u32)(j2);
+    i2 = i32_load8_u(j2);
+    j3 = p0;
+    j4 = 16ull;
+    j3 += j4;
+    i3 = (u32)(j3);
+    j3 = i64_load(j3);
+    j4 = l8;
+    j3 += j4;
+    j4 = 42ull;
+    j3 += j4;
+    i3 = (u32)(j3);
+    i3 = i32_load8_u(j3);
+    i2 &= i3;
+    j2 = (u64)(i2);
+    j3 = 255ull;
+    j2 &= j3;
+    j1 += j2;
+    l8 = j1;
+    i1 = (u32)(j1);
+    j1 = i64_load8_u(j1);
+    l15 = j1;
+    j2 = 8ull;
+    j1 <<= (j2 & 63);
+    j2 = l8;
+    j3 = 512ull;
+    j2 += j3;
+    i2 = (u32)(j2);
+    j2 = i64_load8_u(j2);
+    l17 = j2;
+    j1 |= j2;
+    l9 = j1;
+    j2 = l8;
+    j3 = 256ull;
+    j2 += j3;
+    i2 = (u32)(j2);
+    j2 = i64_load8_u(j2);
+    l18 = j2;
+    j3 = 16ull;
+    j2 <<= (j3 & 63);
+    j1 |= j2;
+    j2 = 16777217ull;
+    j1 *= j2;
+    j2 = l9;
+    j3 = 48ull;
+    j2 <<= (j3 & 63);
+    j1 |= j2;
+    l9 = j1;
+    i64_store(j0, j1);
+    j0 = l7;
+    j1 = 24ull;
+    j0 += j1;
+    i0 = (u32)(j0);
+    j1 = l18;
+    j2 = l17;
+    j3 = 8ull;
+    j2 <<= (j3 & 63);
+    j1 |= j2;
+    l8 = j1;
+    j2 = l15;
+    j3 = 16ull;
+    j2 <<= (j3 & 63);
+    j1 |= j2;
+    j2 = 16777217ull;
+    j1 *= j2;
+    j2 = l8;
+    j3 = 48ull;
+    j2 <<= (j3 & 63);
+    j1 |= j2;
+    l8 = j1;
+    i64_store(j0, j1);
+    j0 = l7;
+    j1 = 8ull;
+    j0 += j1;
+    i0 = (u32)(j0);
+    j1 = l15;
+    j2 = l18;
+    j3 = 8ull;
+    j2 <<= (j3 & 63);
+    j1 |= j2;
+    l7 = j1;
+    j2 = l17;
+    j3 = 16ull;
+    j2 <<= (j3 & 63);
+    j1 |= j2;
+    j2 = 16777217ull;
+    j1 *= j2;
+    j2 = l7;
+    j3 = 48ull;
+    j2 <<= (j3 & 63);
+    j1 |= j2;
+    l7 = j1;
+    i64_store(j0, j1);
+    B24:;
+    i0 = l31;
+    i1 = l21;
+    i0 &= i1;
+    i1 = 255u;
+    i0 &= i1;
+    i0 = !(i0);
+    if (i0) {goto B27;}
+    j0 = l8;
+    l11 = j0;
+    j0 = l9;
+    l12 = j0;
+    j0 = l7;
+    l13 = j0;
+    goto B26;
+    B27:;
+    i0 = l21;
+    i1 = 119u;
+    i0 &= i1;
+    i1 = l30;
+    i2 = 255u;
+    i1 &= i2;
+    i0 = i0 != i1;
+    if (i0) {goto B26;}
+    j0 = l11;
+    l8 = j0;
+    j0 = l12;
+    l9 = j0;
+    j0 = l13;
+    l7 = j0;
+    B26:;
+    i0 = l29;
+    i1 = l28;
+    i2 = l21;
+    i3 = 8u;
+    i2 &= i3;
+    i0 = i2 ? i0 : i1;
+    l32 = i0;
+    i0 = l21;
+    l19 = i0;
+    B21:;
+    i0 = l26;
+    i1 = l23;
+    i0 = i0 != i1;
+    if (i0) {goto B29;}
     j0 = p0;
     j1 = 16ull;
     j0 += j1;
@@ -7118,21 +7512,19 @@ static void f5(module *self, u64 p0, u64 p1, u64 p2, u64 p3) {
     j1 += j2;
     i1 = (u32)(j1);
     j1 = i64_load(j1);
-    i2 = l17;
+    i2 = l21;
     j3 = p3;
     j4 = l6;
-    f11(self, j0, j1, i2, j3, j4);
-    goto B22;
-    B23:;
+    f10(self, j0, j1, i2, j3, j4);
+    goto B28;
+    B29:;
     j0 = l5;
-    j1 = 20ull;
+    j1 = 16ull;
     j0 += j1;
     i0 = (u32)(j0);
-    j1 = l7;
-    j2 = l4;
-    i2 = (u32)(j2);
-    i2 = i32_load16_u(j2 + 176u);
-    i3 = l15;
+    j1 = l10;
+    i2 = l32;
+    i3 = l20;
     i4 = 5u;
     i3 <<= (i4 & 31);
     i4 = 8160u;
@@ -7146,85 +7538,64 @@ static void f5(module *self, u64 p0, u64 p1, u64 p2, u64 p3) {
     j1 += j2;
     i1 = (u32)(j1);
     i1 = i32_load(j1);
-    l19 = i1;
-    i2 = 16u;
+    l21 = i1;
+    i2 = 13u;
     i1 >>= (i2 & 31);
     j1 = (u64)(i1);
-    j2 = 15ull;
+    j2 = 56ull;
     j1 &= j2;
-    l7 = j1;
-    j2 = 2ull;
-    j1 <<= (j2 & 63);
+    j2 = 1048768ull;
+    j1 += j2;
     i1 = (u32)(j1);
-    i1 = i32_load(j1 + 1048704u);
-    j2 = l4;
-    i2 = (u32)(j2);
-    i2 = i32_load(j2 + 152u);
-    j3 = l4;
-    i3 = (u32)(j3);
-    i3 = i32_load(j3 + 168u);
-    l17 = i3;
-    i2 ^= i3;
-    l15 = i2;
-    i1 &= i2;
-    i2 = l17;
-    i1 ^= i2;
-    i32_store(j0, i1);
-    j0 = l5;
-    j1 = 12ull;
-    j0 += j1;
-    i0 = (u32)(j0);
-    j1 = l7;
-    j2 = 3ull;
-    j1 <<= (j2 & 63);
-    i1 = (u32)(j1);
-    j1 = i64_load(j1 + 1048576u);
-    j2 = l4;
-    i2 = (u32)(j2);
-    j2 = i64_load(j2 + 144u);
-    j3 = l4;
-    i3 = (u32)(j3);
-    j3 = i64_load(j3 + 160u);
-    l7 = j3;
+    j1 = i64_load(j1);
+    j2 = l8;
+    j3 = l11;
     j2 ^= j3;
-    l9 = j2;
     j1 &= j2;
-    j2 = l7;
+    j2 = l8;
     j1 ^= j2;
     i64_store(j0, j1);
     j0 = l5;
     j1 = 8ull;
     j0 += j1;
     i0 = (u32)(j0);
-    i1 = l17;
-    i2 = l19;
-    i3 = 20u;
-    i2 >>= (i3 & 31);
-    j2 = (u64)(i2);
-    j3 = 15ull;
-    j2 &= j3;
-    l10 = j2;
-    j3 = 2ull;
-    j2 <<= (j3 & 63);
-    i2 = (u32)(j2);
-    i2 = i32_load(j2 + 1048704u);
-    i3 = l15;
-    i2 &= i3;
-    i1 ^= i2;
-    i32_store(j0, i1);
-    j0 = l5;
-    i0 = (u32)(j0);
-    j1 = l7;
-    j2 = l10;
-    j3 = 3ull;
-    j2 <<= (j3 & 63);
-    i2 = (u32)(j2);
-    j2 = i64_load(j2 + 1048576u);
-    j3 = l9;
-    j2 &= j3;
+    i1 = l21;
+    i2 = 15u;
+    i1 >>= (i2 & 31);
+    j1 = (u64)(i1);
+    j2 = 120ull;
+    j1 &= j2;
+    j2 = 1048640ull;
+    j1 += j2;
+    i1 = (u32)(j1);
+    j1 = i64_load(j1);
+    j2 = l9;
+    j3 = l12;
+    j2 ^= j3;
+    j1 &= j2;
+    j2 = l9;
     j1 ^= j2;
     i64_store(j0, j1);
-    B22:;
+    j0 = l5;
+    i0 = (u32)(j0);
+    i1 = l21;
+    i2 = 18u;
+    i1 >>= (i2 & 31);
+    j1 = (u64)(i1);
+    j2 = 56ull;
+    j1 &= j2;
+    j2 = 1048576ull;
+    j1 += j2;
+    i1 = (u32)(j1);
+    j1 = i64_load(j1);
+    j2 = l7;
+    j3 = l13;
+    j2 ^= j3;
+    j1 &= j2;
+    j2 = l7;
+    j1 ^= j2;
+    i64_store(j0, j1);
+    B28:;
     j0 = l5;
     j1 = 24ull;
     j0 += j1;
@@ -7233,7 +7604,7 @@ static void f5(module *self, u64 p0, u64 p1, u64 p2, u64 p3) {
     j1 = 8ull;
     j0 += j1;
     l6 = j0;
-    j0 = l8;
+    j0 = l14;
     j1 = p1;
     j2 = 1ull;
     j1 += j2;
@@ -7243,7 +7614,7 @@ static void f5(module *self, u64 p0, u64 p1, u64 p2, u64 p3) {
   j0 = l4;
   i0 = (u32)(j0);
   j1 = p3;
-  j2 = l8;
+  j2 = l14;
   j3 = 24ull;
   j2 *= j3;
   j1 += j2;
@@ -7252,301 +7623,301 @@ static void f5(module *self, u64 p0, u64 p1, u64 p2, u64 p3) {
   p0 = j1;
   i1 = (u32)(j1);
   j1 = i64_load(j1 + 16u);
-  i64_store(j0 + 152, j1);
+  i64_store(j0 + 160, j1);
   j0 = l4;
   i0 = (u32)(j0);
   j1 = p0;
   i1 = (u32)(j1);
   j1 = i64_load(j1 + 8u);
-  i64_store(j0 + 144, j1);
+  i64_store(j0 + 152, j1);
   j0 = l4;
   i0 = (u32)(j0);
   j1 = p0;
   i1 = (u32)(j1);
   j1 = i64_load(j1);
-  i64_store(j0 + 136, j1);
-  j0 = l11;
+  i64_store(j0 + 144, j1);
+  j0 = l16;
   j1 = p2;
   i0 = j0 >= j1;
   if (i0) {goto B0;}
   j0 = p2;
-  j1 = l8;
+  j1 = l14;
   j0 -= j1;
   p0 = j0;
   j0 = p3;
-  j1 = l8;
+  j1 = l14;
   j2 = 24ull;
   j1 *= j2;
   j0 += j1;
   p3 = j0;
   j0 = l4;
   i0 = (u32)(j0);
-  i0 = i32_load8_u(j0 + 159u);
-  l17 = i0;
-  j0 = l4;
-  i0 = (u32)(j0);
-  i0 = i32_load8_u(j0 + 158u);
-  l19 = i0;
-  j0 = l4;
-  i0 = (u32)(j0);
-  i0 = i32_load8_u(j0 + 157u);
-  l20 = i0;
-  j0 = l4;
-  i0 = (u32)(j0);
-  i0 = i32_load8_u(j0 + 156u);
+  i0 = i32_load8_u(j0 + 167u);
   l21 = i0;
   j0 = l4;
   i0 = (u32)(j0);
-  i0 = i32_load8_u(j0 + 155u);
-  l22 = i0;
-  j0 = l4;
-  i0 = (u32)(j0);
-  i0 = i32_load8_u(j0 + 154u);
-  l15 = i0;
-  j0 = l4;
-  i0 = (u32)(j0);
-  i0 = i32_load8_u(j0 + 153u);
-  l16 = i0;
-  j0 = l4;
-  i0 = (u32)(j0);
-  i0 = i32_load8_u(j0 + 152u);
-  l18 = i0;
-  j0 = l4;
-  i0 = (u32)(j0);
-  i0 = i32_load8_u(j0 + 151u);
+  i0 = i32_load8_u(j0 + 166u);
   l23 = i0;
   j0 = l4;
   i0 = (u32)(j0);
-  i0 = i32_load8_u(j0 + 150u);
+  i0 = i32_load8_u(j0 + 165u);
   l24 = i0;
   j0 = l4;
   i0 = (u32)(j0);
-  i0 = i32_load8_u(j0 + 149u);
+  i0 = i32_load8_u(j0 + 164u);
   l25 = i0;
   j0 = l4;
   i0 = (u32)(j0);
-  i0 = i32_load8_u(j0 + 148u);
+  i0 = i32_load8_u(j0 + 163u);
   l26 = i0;
   j0 = l4;
   i0 = (u32)(j0);
-  i0 = i32_load8_u(j0 + 147u);
-  l27 = i0;
+  i0 = i32_load8_u(j0 + 162u);
+  l19 = i0;
   j0 = l4;
   i0 = (u32)(j0);
-  i0 = i32_load8_u(j0 + 146u);
-  l28 = i0;
+  i0 = i32_load8_u(j0 + 161u);
+  l20 = i0;
   j0 = l4;
   i0 = (u32)(j0);
-  i0 = i32_load8_u(j0 + 145u);
-  l29 = i0;
+  i0 = i32_load8_u(j0 + 160u);
+  l22 = i0;
   j0 = l4;
   i0 = (u32)(j0);
-  i0 = i32_load8_u(j0 + 144u);
-  l30 = i0;
-  j0 = l4;
-  i0 = (u32)(j0);
-  i0 = i32_load8_u(j0 + 143u);
-  l31 = i0;
-  j0 = l4;
-  i0 = (u32)(j0);
-  i0 = i32_load8_u(j0 + 142u);
+  i0 = i32_load8_u(j0 + 159u);
   l32 = i0;
   j0 = l4;
   i0 = (u32)(j0);
-  i0 = i32_load8_u(j0 + 141u);
+  i0 = i32_load8_u(j0 + 158u);
+  l28 = i0;
+  j0 = l4;
+  i0 = (u32)(j0);
+  i0 = i32_load8_u(j0 + 157u);
+  l31 = i0;
+  j0 = l4;
+  i0 = (u32)(j0);
+  i0 = i32_load8_u(j0 + 156u);
+  l27 = i0;
+  j0 = l4;
+  i0 = (u32)(j0);
+  i0 = i32_load8_u(j0 + 155u);
+  l29 = i0;
+  j0 = l4;
+  i0 = (u32)(j0);
+  i0 = i32_load8_u(j0 + 154u);
+  l30 = i0;
+  j0 = l4;
+  i0 = (u32)(j0);
+  i0 = i32_load8_u(j0 + 153u);
   l33 = i0;
   j0 = l4;
   i0 = (u32)(j0);
-  i0 = i32_load8_u(j0 + 140u);
+  i0 = i32_load8_u(j0 + 152u);
   l34 = i0;
   j0 = l4;
   i0 = (u32)(j0);
-  i0 = i32_load8_u(j0 + 139u);
+  i0 = i32_load8_u(j0 + 151u);
   l35 = i0;
   j0 = l4;
   i0 = (u32)(j0);
-  i0 = i32_load8_u(j0 + 138u);
+  i0 = i32_load8_u(j0 + 150u);
   l36 = i0;
   j0 = l4;
   i0 = (u32)(j0);
-  i0 = i32_load8_u(j0 + 137u);
+  i0 = i32_load8_u(j0 + 149u);
   l37 = i0;
   j0 = l4;
   i0 = (u32)(j0);
-  i0 = i32_load8_u(j0 + 136u);
+  i0 = i32_load8_u(j0 + 148u);
   l38 = i0;
-  L24: 
+  j0 = l4;
+  i0 = (u32)(j0);
+  i0 = i32_load8_u(j0 + 147u);
+  l39 = i0;
+  j0 = l4;
+  i0 = (u32)(j0);
+  i0 = i32_load8_u(j0 + 146u);
+  l40 = i0;
+  j0 = l4;
+  i0 = (u32)(j0);
+  i0 = i32_load8_u(j0 + 145u);
+  l41 = i0;
+  j0 = l4;
+  i0 = (u32)(j0);
+  i0 = i32_load8_u(j0 + 144u);
+  l42 = i0;
+  L30: 
     j0 = p3;
     j1 = l4;
-    j2 = 136ull;
+    j2 = 144ull;
     j1 += j2;
     j0 -= j1;
     j1 = 23ull;
     i0 = j0 > j1;
-    if (i0) {goto B26;}
+    if (i0) {goto B32;}
     j0 = p3;
     i0 = (u32)(j0);
-    i1 = l38;
+    i1 = l42;
     i32_store8(j0, i1);
     j0 = p3;
     j1 = 23ull;
-    j0 += j1;
-    i0 = (u32)(j0);
-    i1 = l17;
-    i32_store8(j0, i1);
-    j0 = p3;
-    j1 = 22ull;
-    j0 += j1;
-    i0 = (u32)(j0);
-    i1 = l19;
-    i32_store8(j0, i1);
-    j0 = p3;
-    j1 = 21ull;
-    j0 += j1;
-    i0 = (u32)(j0);
-    i1 = l20;
-    i32_store8(j0, i1);
-    j0 = p3;
-    j1 = 20ull;
     j0 += j1;
     i0 = (u32)(j0);
     i1 = l21;
     i32_store8(j0, i1);
     j0 = p3;
-    j1 = 19ull;
-    j0 += j1;
-    i0 = (u32)(j0);
-    i1 = l22;
-    i32_store8(j0, i1);
-    j0 = p3;
-    j1 = 18ull;
-    j0 += j1;
-    i0 = (u32)(j0);
-    i1 = l15;
-    i32_store8(j0, i1);
-    j0 = p3;
-    j1 = 17ull;
-    j0 += j1;
-    i0 = (u32)(j0);
-    i1 = l16;
-    i32_store8(j0, i1);
-    j0 = p3;
-    j1 = 16ull;
-    j0 += j1;
-    i0 = (u32)(j0);
-    i1 = l18;
-    i32_store8(j0, i1);
-    j0 = p3;
-    j1 = 15ull;
+    j1 = 22ull;
     j0 += j1;
     i0 = (u32)(j0);
     i1 = l23;
     i32_store8(j0, i1);
     j0 = p3;
-    j1 = 14ull;
+    j1 = 21ull;
     j0 += j1;
     i0 = (u32)(j0);
     i1 = l24;
     i32_store8(j0, i1);
     j0 = p3;
-    j1 = 13ull;
+    j1 = 20ull;
     j0 += j1;
     i0 = (u32)(j0);
     i1 = l25;
     i32_store8(j0, i1);
     j0 = p3;
-    j1 = 12ull;
+    j1 = 19ull;
     j0 += j1;
     i0 = (u32)(j0);
     i1 = l26;
     i32_store8(j0, i1);
     j0 = p3;
-    j1 = 11ull;
+    j1 = 18ull;
     j0 += j1;
     i0 = (u32)(j0);
-    i1 = l27;
+    i1 = l19;
     i32_store8(j0, i1);
     j0 = p3;
-    j1 = 10ull;
+    j1 = 17ull;
     j0 += j1;
     i0 = (u32)(j0);
-    i1 = l28;
+    i1 = l20;
     i32_store8(j0, i1);
     j0 = p3;
-    j1 = 9ull;
+    j1 = 16ull;
     j0 += j1;
     i0 = (u32)(j0);
-    i1 = l29;
+    i1 = l22;
     i32_store8(j0, i1);
     j0 = p3;
-    j1 = 8ull;
-    j0 += j1;
-    i0 = (u32)(j0);
-    i1 = l30;
-    i32_store8(j0, i1);
-    j0 = p3;
-    j1 = 7ull;
-    j0 += j1;
-    i0 = (u32)(j0);
-    i1 = l31;
-    i32_store8(j0, i1);
-    j0 = p3;
-    j1 = 6ull;
+    j1 = 15ull;
     j0 += j1;
     i0 = (u32)(j0);
     i1 = l32;
     i32_store8(j0, i1);
     j0 = p3;
-    j1 = 5ull;
+    j1 = 14ull;
+    j0 += j1;
+    i0 = (u32)(j0);
+    i1 = l28;
+    i32_store8(j0, i1);
+    j0 = p3;
+    j1 = 13ull;
+    j0 += j1;
+    i0 = (u32)(j0);
+    i1 = l31;
+    i32_store8(j0, i1);
+    j0 = p3;
+    j1 = 12ull;
+    j0 += j1;
+    i0 = (u32)(j0);
+    i1 = l27;
+    i32_store8(j0, i1);
+    j0 = p3;
+    j1 = 11ull;
+    j0 += j1;
+    i0 = (u32)(j0);
+    i1 = l29;
+    i32_store8(j0, i1);
+    j0 = p3;
+    j1 = 10ull;
+    j0 += j1;
+    i0 = (u32)(j0);
+    i1 = l30;
+    i32_store8(j0, i1);
+    j0 = p3;
+    j1 = 9ull;
     j0 += j1;
     i0 = (u32)(j0);
     i1 = l33;
     i32_store8(j0, i1);
     j0 = p3;
-    j1 = 4ull;
+    j1 = 8ull;
     j0 += j1;
     i0 = (u32)(j0);
     i1 = l34;
     i32_store8(j0, i1);
     j0 = p3;
-    j1 = 3ull;
+    j1 = 7ull;
     j0 += j1;
     i0 = (u32)(j0);
     i1 = l35;
     i32_store8(j0, i1);
     j0 = p3;
-    j1 = 2ull;
+    j1 = 6ull;
     j0 += j1;
     i0 = (u32)(j0);
     i1 = l36;
     i32_store8(j0, i1);
     j0 = p3;
-    j1 = 1ull;
+    j1 = 5ull;
     j0 += j1;
     i0 = (u32)(j0);
     i1 = l37;
     i32_store8(j0, i1);
-    goto B25;
-    B26:;
+    j0 = p3;
+    j1 = 4ull;
+    j0 += j1;
+    i0 = (u32)(j0);
+    i1 = l38;
+    i32_store8(j0, i1);
+    j0 = p3;
+    j1 = 3ull;
+    j0 += j1;
+    i0 = (u32)(j0);
+    i1 = l39;
+    i32_store8(j0, i1);
+    j0 = p3;
+    j1 = 2ull;
+    j0 += j1;
+    i0 = (u32)(j0);
+    i1 = l40;
+    i32_store8(j0, i1);
+    j0 = p3;
+    j1 = 1ull;
+    j0 += j1;
+    i0 = (u32)(j0);
+    i1 = l41;
+    i32_store8(j0, i1);
+    goto B31;
+    B32:;
     j0 = p3;
     i0 = (u32)(j0);
     j1 = l4;
     i1 = (u32)(j1);
-    j1 = i64_load(j1 + 152u);
+    j1 = i64_load(j1 + 160u);
     i64_store(j0 + 16, j1);
     j0 = p3;
     i0 = (u32)(j0);
     j1 = l4;
     i1 = (u32)(j1);
-    j1 = i64_load(j1 + 144u);
+    j1 = i64_load(j1 + 152u);
     i64_store(j0 + 8, j1);
     j0 = p3;
     i0 = (u32)(j0);
     j1 = l4;
     i1 = (u32)(j1);
-    j1 = i64_load(j1 + 136u);
+    j1 = i64_load(j1 + 144u);
     i64_store(j0, j1);
-    B25:;
+    B31:;
     j0 = p3;
     j1 = 24ull;
     j0 += j1;
@@ -7557,29 +7928,33 @@ static void f5(module *self, u64 p0, u64 p1, u64 p2, u64 p3) {
     p0 = j0;
     j1 = 0ull;
     i0 = j0 != j1;
-    if (i0) {goto L24;}
+    if (i0) {goto L30;}
   B0:;
   j0 = l4;
-  j1 = 224ull;
+  j1 = 656ull;
   j0 += j1;
   self->g0 = j0;
 }
 
 static void f6(module *self, u64 p0, u64 p1, u64 p2, u64 p3) {
-  u32 l16 = 0, l17 = 0, l18 = 0, l19 = 0, l20 = 0, l21 = 0, l22 = 0, l23 = 0, 
-      l24 = 0, l25 = 0, l26 = 0, l27 = 0, l28 = 0, l29 = 0, l30 = 0, l31 = 0, 
-      l32 = 0, l33 = 0, l34 = 0, l35 = 0, l36 = 0, l37 = 0, l38 = 0, l39 = 0, 
-      l40 = 0, l41 = 0, l42 = 0;
+  u32 l19 = 0, l20 = 0, l21 = 0, l22 = 0, l23 = 0, l24 = 0, l25 = 0, l26 = 0, 
+      l27 = 0, l28 = 0, l29 = 0, l30 = 0, l31 = 0, l32 = 0, l33 = 0, l34 = 0, 
+      l35 = 0, l36 = 0, l37 = 0, l38 = 0, l39 = 0, l40 = 0, l41 = 0, l42 = 0, 
+      l43 = 0, l44 = 0, l45 = 0;
   u64 l4 = 0, l5 = 0, l6 = 0, l7 = 0, l8 = 0, l9 = 0, l10 = 0, l11 = 0, 
-      l12 = 0, l13 = 0, l14 = 0, l15 = 0;
+      l12 = 0, l13 = 0, l14 = 0, l15 = 0, l16 = 0, l17 = 0, l18 = 0;
   u8 *m = self->memory;
   u32 i0, i1, i2, i3, i4, i5, i6, i7;
   u64 j0, j1, j2, j3, j4, j5, j6;
   j0 = self->g0;
-  j1 = 224ull;
+  j1 = 656ull;
   j0 -= j1;
   l4 = j0;
   self->g0 = j0;
+  j0 = l4;
+  i0 = (u32)(j0);
+  j1 = 0ull;
+  i64_store(j0 + 136, j1);
   j0 = l4;
   i0 = (u32)(j0);
   j1 = 0ull;
@@ -7609,10 +7984,8 @@ static void f6(module *self, u64 p0, u64 p1, u64 p2, u64 p3) {
   j1 = 0ull;
   i64_store(j0 + 80, j1);
   j0 = l4;
-  i0 = (u32)(j0);
-  j1 = 0ull;
-  i64_store(j0 + 72, j1);
-  j0 = l4;
+  j1 = 8ull;
+  j0 += j1;
   i0 = (u32)(j0);
   i1 = 0u;
   j2 = 72ull;
@@ -7640,7 +8013,7 @@ static void f6(module *self, u64 p0, u64 p1, u64 p2, u64 p3) {
   i0 = !(i0);
   if (i0) {goto B2;}
   i0 = 16u;
-  l16 = i0;
+  l19 = i0;
   j0 = p0;
   j1 = 8ull;
   j0 += j1;
@@ -7656,7 +8029,7 @@ static void f6(module *self, u64 p0, u64 p1, u64 p2, u64 p3) {
   i0 = !(i0);
   if (i0) {goto B4;}
   i0 = 4u;
-  l17 = i0;
+  l20 = i0;
   goto B3;
   B4:;
   j0 = l5;
@@ -7664,24 +8037,24 @@ static void f6(module *self, u64 p0, u64 p1, u64 p2, u64 p3) {
   j0 += j1;
   i0 = (u32)(j0);
   i0 = i32_load8_u(j0);
-  l18 = i0;
+  l21 = i0;
   i1 = 64u;
   i0 &= i1;
   i0 = !(i0);
   if (i0) {goto B5;}
   i0 = 1u;
-  l17 = i0;
+  l20 = i0;
   goto B3;
   B5:;
   i0 = 15u;
   i1 = 13u;
-  i2 = l18;
+  i2 = l21;
   i3 = 32u;
   i2 &= i3;
   i0 = i2 ? i0 : i1;
-  l16 = i0;
+  l19 = i0;
   i0 = 2u;
-  l17 = i0;
+  l20 = i0;
   B3:;
   j0 = p2;
   i0 = !(j0);
@@ -7694,7 +8067,7 @@ static void f6(module *self, u64 p0, u64 p1, u64 p2, u64 p3) {
   j1 = p1;
   i1 = (u32)(j1);
   i0 += i1;
-  l19 = i0;
+  l22 = i0;
   j0 = p2;
   j1 = 27ull;
   j0 *= j1;
@@ -7718,25 +8091,25 @@ static void f6(module *self, u64 p0, u64 p1, u64 p2, u64 p3) {
     j1 += j2;
     i1 = (u32)(j1);
     i1 = i32_load8_u(j1);
-    l18 = i1;
+    l21 = i1;
     j2 = p0;
     i2 = (u32)(j2);
     j2 = i64_load(j2);
     i2 = (u32)(j2);
     j2 = i64_load(j2);
-    i3 = l19;
+    i3 = l22;
     j4 = l8;
     i4 = (u32)(j4);
     i3 += i4;
-    l20 = i3;
+    l23 = i3;
     i4 = 65535u;
     i3 &= i4;
-    i4 = l16;
+    i4 = l19;
     i3 >>= (i4 & 31);
     i4 = 1u;
     i3 &= i4;
-    i4 = l20;
-    i5 = l17;
+    i4 = l23;
+    i5 = l20;
     i4 *= i5;
     i3 += i4;
     j3 = (u64)(i3);
@@ -7747,7 +8120,7 @@ static void f6(module *self, u64 p0, u64 p1, u64 p2, u64 p3) {
     j2 += j3;
     i2 = (u32)(j2);
     i2 = i32_load(j2);
-    l20 = i2;
+    l23 = i2;
     i3 = 24u;
     i2 >>= (i3 & 31);
     i1 &= i2;
@@ -7757,10 +8130,10 @@ static void f6(module *self, u64 p0, u64 p1, u64 p2, u64 p3) {
     j0 += j1;
     i0 = (u32)(j0);
     i0 = i32_load(j0);
-    l21 = i0;
+    l24 = i0;
     j0 = p1;
-    i1 = l18;
-    i2 = l20;
+    i1 = l21;
+    i2 = l23;
     i3 = 16u;
     i2 >>= (i3 & 31);
     i1 &= i2;
@@ -7770,10 +8143,10 @@ static void f6(module *self, u64 p0, u64 p1, u64 p2, u64 p3) {
     j0 += j1;
     i0 = (u32)(j0);
     i0 = i32_load(j0);
-    l22 = i0;
+    l25 = i0;
     j0 = p1;
-    i1 = l18;
-    i2 = l20;
+    i1 = l21;
+    i2 = l23;
     i3 = 8u;
     i2 >>= (i3 & 31);
     i1 &= i2;
@@ -7783,19 +8156,19 @@ static void f6(module *self, u64 p0, u64 p1, u64 p2, u64 p3) {
     j0 += j1;
     i0 = (u32)(j0);
     i0 = i32_load(j0);
-    l23 = i0;
+    l26 = i0;
     j0 = p1;
     i0 = (u32)(j0);
     i0 = i32_load(j0);
-    l24 = i0;
+    l27 = i0;
     j0 = p3;
     j1 = l7;
     j0 += j1;
     l5 = j0;
     i0 = (u32)(j0);
     j1 = p1;
-    i2 = l18;
-    i3 = l20;
+    i2 = l21;
+    i3 = l23;
     i2 &= i3;
     j2 = (u64)(i2);
     j3 = 2ull;
@@ -7803,55 +8176,55 @@ static void f6(module *self, u64 p0, u64 p1, u64 p2, u64 p3) {
     j1 += j2;
     i1 = (u32)(j1);
     i1 = i32_load(j1);
-    l18 = i1;
+    l21 = i1;
     i32_store(j0, i1);
     j0 = l5;
     j1 = 3ull;
     j0 += j1;
     i0 = (u32)(j0);
-    i1 = l18;
+    i1 = l21;
     i32_store(j0, i1);
     j0 = l5;
     j1 = 6ull;
     j0 += j1;
     i0 = (u32)(j0);
-    i1 = l23;
+    i1 = l26;
     i32_store(j0, i1);
     j0 = l5;
     j1 = 9ull;
     j0 += j1;
     i0 = (u32)(j0);
-    i1 = l23;
+    i1 = l26;
     i32_store(j0, i1);
     j0 = l5;
     j1 = 12ull;
     j0 += j1;
     i0 = (u32)(j0);
-    i1 = l22;
+    i1 = l25;
     i32_store(j0, i1);
     j0 = l5;
     j1 = 15ull;
     j0 += j1;
     i0 = (u32)(j0);
-    i1 = l22;
+    i1 = l25;
     i32_store(j0, i1);
     j0 = l5;
     j1 = 18ull;
     j0 += j1;
     i0 = (u32)(j0);
-    i1 = l21;
+    i1 = l24;
     i32_store(j0, i1);
     j0 = l5;
     j1 = 21ull;
     j0 += j1;
     i0 = (u32)(j0);
-    i1 = l21;
+    i1 = l24;
     i32_store(j0, i1);
     j0 = l5;
     j1 = 26ull;
     j0 += j1;
     i0 = (u32)(j0);
-    i1 = l24;
+    i1 = l27;
     i2 = 16u;
     i1 >>= (i2 & 31);
     i32_store8(j0, i1);
@@ -7859,7 +8232,7 @@ static void f6(module *self, u64 p0, u64 p1, u64 p2, u64 p3) {
     j1 = 25ull;
     j0 += j1;
     i0 = (u32)(j0);
-    i1 = l24;
+    i1 = l27;
     i2 = 8u;
     i1 >>= (i2 & 31);
     i32_store8(j0, i1);
@@ -7867,7 +8240,7 @@ static void f6(module *self, u64 p0, u64 p1, u64 p2, u64 p3) {
     j1 = 24ull;
     j0 += j1;
     i0 = (u32)(j0);
-    i1 = l24;
+    i1 = l27;
     i32_store8(j0, i1);
     j0 = l8;
     j1 = 1ull;
@@ -7884,7 +8257,7 @@ static void f6(module *self, u64 p0, u64 p1, u64 p2, u64 p3) {
   { self->is_broken = true; return; }
   B2:;
   i0 = 16u;
-  l20 = i0;
+  l23 = i0;
   j0 = p0;
   j1 = 8ull;
   j0 += j1;
@@ -7900,7 +8273,7 @@ static void f6(module *self, u64 p0, u64 p1, u64 p2, u64 p3) {
   i0 = !(i0);
   if (i0) {goto B8;}
   i0 = 4u;
-  l21 = i0;
+  l24 = i0;
   goto B7;
   B8:;
   j0 = l5;
@@ -7908,27 +8281,27 @@ static void f6(module *self, u64 p0, u64 p1, u64 p2, u64 p3) {
   j0 += j1;
   i0 = (u32)(j0);
   i0 = i32_load8_u(j0);
-  l18 = i0;
+  l21 = i0;
   i1 = 64u;
   i0 &= i1;
   i0 = !(i0);
   if (i0) {goto B9;}
   i0 = 1u;
-  l21 = i0;
+  l24 = i0;
   goto B7;
   B9:;
   i0 = 15u;
   i1 = 13u;
-  i2 = l18;
+  i2 = l21;
   i3 = 32u;
   i2 &= i3;
   i0 = i2 ? i0 : i1;
-  l20 = i0;
+  l23 = i0;
   i0 = 2u;
-  l21 = i0;
+  l24 = i0;
   B7:;
   j0 = l4;
-  j1 = 136ull;
+  j1 = 144ull;
   j0 += j1;
   j1 = p0;
   j2 = 16ull;
@@ -7945,90 +8318,90 @@ static void f6(module *self, u64 p0, u64 p1, u64 p2, u64 p3) {
   i0 = (u32)(j0);
   j1 = l4;
   i1 = (u32)(j1);
-  j1 = i64_load(j1 + 192u);
+  j1 = i64_load(j1 + 200u);
   l7 = j1;
+  i64_store(j0 + 136, j1);
+  j0 = l4;
+  i0 = (u32)(j0);
+  j1 = l4;
+  i1 = (u32)(j1);
+  j1 = i64_load(j1 + 192u);
+  l8 = j1;
   i64_store(j0 + 128, j1);
   j0 = l4;
   i0 = (u32)(j0);
   j1 = l4;
   i1 = (u32)(j1);
   j1 = i64_load(j1 + 184u);
-  l8 = j1;
+  l6 = j1;
   i64_store(j0 + 120, j1);
   j0 = l4;
   i0 = (u32)(j0);
   j1 = l4;
   i1 = (u32)(j1);
   j1 = i64_load(j1 + 176u);
-  l6 = j1;
+  l9 = j1;
   i64_store(j0 + 112, j1);
   j0 = l4;
   i0 = (u32)(j0);
   j1 = l4;
   i1 = (u32)(j1);
   j1 = i64_load(j1 + 168u);
-  l9 = j1;
+  l10 = j1;
   i64_store(j0 + 104, j1);
   j0 = l4;
   i0 = (u32)(j0);
   j1 = l4;
   i1 = (u32)(j1);
   j1 = i64_load(j1 + 160u);
-  l10 = j1;
+  l11 = j1;
   i64_store(j0 + 96, j1);
   j0 = l4;
   i0 = (u32)(j0);
   j1 = l4;
   i1 = (u32)(j1);
   j1 = i64_load(j1 + 152u);
-  l11 = j1;
+  l12 = j1;
   i64_store(j0 + 88, j1);
   j0 = l4;
   i0 = (u32)(j0);
   j1 = l4;
   i1 = (u32)(j1);
   j1 = i64_load(j1 + 144u);
-  l12 = j1;
+  l13 = j1;
   i64_store(j0 + 80, j1);
   j0 = l4;
   i0 = (u32)(j0);
-  j1 = l4;
-  i1 = (u32)(j1);
-  j1 = i64_load(j1 + 136u);
-  l13 = j1;
-  i64_store(j0 + 72, j1);
-  j0 = l4;
-  i0 = (u32)(j0);
   j1 = l13;
-  i64_store(j0 + 8, j1);
-  j0 = l4;
-  i0 = (u32)(j0);
-  j1 = l12;
   i64_store(j0 + 16, j1);
   j0 = l4;
   i0 = (u32)(j0);
-  j1 = l11;
+  j1 = l12;
   i64_store(j0 + 24, j1);
   j0 = l4;
   i0 = (u32)(j0);
-  j1 = l10;
+  j1 = l11;
   i64_store(j0 + 32, j1);
   j0 = l4;
   i0 = (u32)(j0);
-  j1 = l9;
+  j1 = l10;
   i64_store(j0 + 40, j1);
   j0 = l4;
   i0 = (u32)(j0);
-  j1 = l6;
+  j1 = l9;
   i64_store(j0 + 48, j1);
   j0 = l4;
   i0 = (u32)(j0);
-  j1 = l8;
+  j1 = l6;
   i64_store(j0 + 56, j1);
   j0 = l4;
   i0 = (u32)(j0);
-  j1 = l7;
+  j1 = l8;
   i64_store(j0 + 64, j1);
+  j0 = l4;
+  i0 = (u32)(j0);
+  j1 = l7;
+  i64_store(j0 + 72, j1);
   j0 = p2;
   i0 = !(j0);
   if (i0) {goto B0;}
@@ -8040,8 +8413,10 @@ static void f6(module *self, u64 p0, u64 p1, u64 p2, u64 p3) {
   j1 = p1;
   i1 = (u32)(j1);
   i0 += i1;
-  l22 = i0;
+  l25 = i0;
   j0 = l4;
+  j1 = 8ull;
+  j0 += j1;
   j1 = 8ull;
   j0 += j1;
   p1 = j0;
@@ -8051,15 +8426,15 @@ static void f6(module *self, u64 p0, u64 p1, u64 p2, u64 p3) {
   l6 = j0;
   j0 = l4;
   i0 = (u32)(j0);
-  i0 = i32_load(j0 + 8u);
-  l24 = i0;
+  i0 = i32_load(j0 + 16u);
+  l27 = i0;
   i1 = 16u;
   i0 >>= (i1 & 31);
-  l23 = i0;
-  i0 = l24;
+  l26 = i0;
+  i0 = l27;
   i1 = 8u;
   i0 >>= (i1 & 31);
-  l16 = i0;
+  l19 = i0;
   j0 = 0ull;
   l7 = j0;
   j0 = 0ull;
@@ -8076,19 +8451,19 @@ static void f6(module *self, u64 p0, u64 p1, u64 p2, u64 p3) {
     j2 = i64_load(j2);
     i2 = (u32)(j2);
     j2 = i64_load(j2);
-    i3 = l22;
+    i3 = l25;
     j4 = l8;
     i4 = (u32)(j4);
     i3 += i4;
-    l18 = i3;
+    l21 = i3;
     i4 = 65535u;
     i3 &= i4;
-    i4 = l20;
+    i4 = l23;
     i3 >>= (i4 & 31);
     i4 = 1u;
     i3 &= i4;
-    i4 = l18;
-    i5 = l21;
+    i4 = l21;
+    i5 = l24;
     i4 *= i5;
     i3 += i4;
     j3 = (u64)(i3);
@@ -8099,7 +8474,7 @@ static void f6(module *self, u64 p0, u64 p1, u64 p2, u64 p3) {
     j2 += j3;
     i2 = (u32)(j2);
     i2 = i32_load(j2);
-    l18 = i2;
+    l21 = i2;
     i3 = 2155905152u;
     i2 &= i3;
     i3 = 2113665u;
@@ -8118,7 +8493,7 @@ static void f6(module *self, u64 p0, u64 p1, u64 p2, u64 p3) {
     j0 += j1;
     i0 = (u32)(j0);
     j1 = p1;
-    i2 = l18;
+    i2 = l21;
     i3 = 1077952576u;
     i2 &= i3;
     i3 = 4227330u;
@@ -8137,7 +8512,7 @@ static void f6(module *self, u64 p0, u64 p1, u64 p2, u64 p3) {
     j0 += j1;
     i0 = (u32)(j0);
     j1 = p1;
-    i2 = l18;
+    i2 = l21;
     i3 = 538976288u;
     i2 &= i3;
     i3 = 8454660u;
@@ -8156,7 +8531,7 @@ static void f6(module *self, u64 p0, u64 p1, u64 p2, u64 p3) {
     j0 += j1;
     i0 = (u32)(j0);
     j1 = p1;
-    i2 = l18;
+    i2 = l21;
     i3 = 269488144u;
     i2 &= i3;
     i3 = 16909320u;
@@ -8175,7 +8550,7 @@ static void f6(module *self, u64 p0, u64 p1, u64 p2, u64 p3) {
     j0 += j1;
     i0 = (u32)(j0);
     j1 = p1;
-    i2 = l18;
+    i2 = l21;
     i3 = 134744072u;
     i2 &= i3;
     i3 = 33818640u;
@@ -8194,7 +8569,7 @@ static void f6(module *self, u64 p0, u64 p1, u64 p2, u64 p3) {
     j0 += j1;
     i0 = (u32)(j0);
     j1 = p1;
-    i2 = l18;
+    i2 = l21;
     i3 = 67372036u;
     i2 &= i3;
     i3 = 67637280u;
@@ -8213,7 +8588,7 @@ static void f6(module *self, u64 p0, u64 p1, u64 p2, u64 p3) {
     j0 += j1;
     i0 = (u32)(j0);
     j1 = p1;
-    i2 = l18;
+    i2 = l21;
     i3 = 33686018u;
     i2 &= i3;
     i3 = 135274560u;
@@ -8232,7 +8607,7 @@ static void f6(module *self, u64 p0, u64 p1, u64 p2, u64 p3) {
     j0 += j1;
     i0 = (u32)(j0);
     j1 = p1;
-    i2 = l18;
+    i2 = l21;
     i3 = 16843009u;
     i2 &= i3;
     i3 = 270549120u;
@@ -8250,19 +8625,19 @@ static void f6(module *self, u64 p0, u64 p1, u64 p2, u64 p3) {
     j1 = 26ull;
     j0 += j1;
     i0 = (u32)(j0);
-    i1 = l23;
+    i1 = l26;
     i32_store8(j0, i1);
     j0 = l5;
     j1 = 25ull;
     j0 += j1;
     i0 = (u32)(j0);
-    i1 = l16;
+    i1 = l19;
     i32_store8(j0, i1);
     j0 = l5;
     j1 = 24ull;
     j0 += j1;
     i0 = (u32)(j0);
-    i1 = l24;
+    i1 = l27;
     i32_store8(j0, i1);
     j0 = l8;
     j1 = 1ull;
@@ -8282,13 +8657,13 @@ static void f6(module *self, u64 p0, u64 p1, u64 p2, u64 p3) {
   i0 = !(j0);
   if (i0) {goto B0;}
   i0 = 16u;
-  l21 = i0;
+  l24 = i0;
   j0 = p0;
   j1 = 8ull;
   j0 += j1;
   i0 = (u32)(j0);
   j0 = i64_load(j0);
-  l7 = j0;
+  l8 = j0;
   j1 = 45ull;
   j0 += j1;
   i0 = (u32)(j0);
@@ -8298,80 +8673,93 @@ static void f6(module *self, u64 p0, u64 p1, u64 p2, u64 p3) {
   i0 = !(i0);
   if (i0) {goto B12;}
   i0 = 4u;
-  l22 = i0;
+  l25 = i0;
   goto B11;
   B12:;
-  j0 = l7;
+  j0 = l8;
   j1 = 48ull;
   j0 += j1;
   i0 = (u32)(j0);
   i0 = i32_load8_u(j0);
-  l18 = i0;
+  l21 = i0;
   i1 = 64u;
   i0 &= i1;
   i0 = !(i0);
   if (i0) {goto B13;}
   i0 = 1u;
-  l22 = i0;
+  l25 = i0;
   goto B11;
   B13:;
   i0 = 15u;
   i1 = 13u;
-  i2 = l18;
+  i2 = l21;
   i3 = 32u;
   i2 &= i3;
   i0 = i2 ? i0 : i1;
-  l21 = i0;
+  l24 = i0;
   i0 = 2u;
-  l22 = i0;
+  l25 = i0;
   B11:;
   j0 = l4;
-  j1 = 204ull;
-  j0 += j1;
-  j1 = 8ull;
+  j1 = 144ull;
   j0 += j1;
   j1 = p0;
   f9(self, j0, j1);
   j0 = l4;
   i0 = (u32)(j0);
-  i1 = 0u;
-  i32_store16(j0 + 206, i1);
-  j0 = l7;
-  j1 = 60ull;
-  j0 += j1;
-  i0 = (u32)(j0);
-  i0 = i32_load16_u(j0);
-  l17 = i0;
+  i0 = i32_load8_u(j0 + 155u);
+  l28 = i0;
   j0 = l4;
   i0 = (u32)(j0);
-  i1 = l22;
-  i32_store16(j0 + 204, i1);
+  i0 = i32_load8_u(j0 + 154u);
+  l29 = i0;
   j0 = l4;
   i0 = (u32)(j0);
-  i1 = l21;
-  i32_store(j0 + 208, i1);
+  i0 = i32_load16_u(j0 + 152u);
+  l30 = i0;
+  j0 = l4;
+  i0 = (u32)(j0);
+  i0 = i32_load16_u(j0 + 150u);
+  l31 = i0;
+  j0 = l4;
+  i0 = (u32)(j0);
+  i0 = i32_load8_u(j0 + 149u);
+  l32 = i0;
+  j0 = l4;
+  i0 = (u32)(j0);
+  i0 = i32_load8_u(j0 + 148u);
+  l33 = i0;
+  j0 = l4;
+  i0 = (u32)(j0);
+  i0 = i32_load(j0 + 144u);
+  l26 = i0;
   j0 = l5;
   i0 = (u32)(j0);
   j0 = i64_load(j0);
   l7 = j0;
-  i1 = l17;
+  j1 = l8;
+  j2 = 60ull;
+  j1 += j2;
+  i1 = (u32)(j1);
+  i1 = i32_load16_u(j1);
+  l20 = i1;
   i2 = 4294967295u;
   i1 += i2;
-  l24 = i1;
+  l27 = i1;
   j2 = p2;
   j3 = p1;
   j2 += j3;
   i2 = (u32)(j2);
   i1 += i2;
-  l18 = i1;
+  l21 = i1;
   i2 = 65535u;
   i1 &= i2;
-  i2 = l21;
+  i2 = l24;
   i1 >>= (i2 & 31);
   i2 = 1u;
   i1 &= i2;
-  i2 = l18;
-  i3 = l22;
+  i2 = l21;
+  i3 = l25;
   i2 *= i3;
   i1 += i2;
   j1 = (u64)(i1);
@@ -8382,31 +8770,27 @@ static void f6(module *self, u64 p0, u64 p1, u64 p2, u64 p3) {
   j0 += j1;
   i0 = (u32)(j0);
   i0 = i32_load(j0);
-  l16 = i0;
-  j0 = l4;
-  i0 = (u32)(j0);
-  i0 = i32_load(j0 + 212u);
-  l23 = i0;
+  l19 = i0;
   j0 = p2;
   l5 = j0;
   L15: 
     j0 = l7;
-    i1 = l24;
+    i1 = l27;
     j2 = p1;
     j3 = l5;
     j2 += j3;
     i2 = (u32)(j2);
     i1 += i2;
-    l18 = i1;
+    l21 = i1;
     i2 = 65535u;
     i1 &= i2;
-    l20 = i1;
-    i2 = l21;
+    l23 = i1;
+    i2 = l24;
     i1 >>= (i2 & 31);
     i2 = 1u;
     i1 &= i2;
-    i2 = l18;
-    i3 = l22;
+    i2 = l21;
+    i3 = l25;
     i2 *= i3;
     i1 += i2;
     j1 = (u64)(i1);
@@ -8417,7 +8801,7 @@ static void f6(module *self, u64 p0, u64 p1, u64 p2, u64 p3) {
     j0 += j1;
     i0 = (u32)(j0);
     i0 = i32_load16_u(j0);
-    i1 = l16;
+    i1 = l19;
     i2 = 65535u;
     i1 &= i2;
     i0 = i0 == i1;
@@ -8426,8 +8810,8 @@ static void f6(module *self, u64 p0, u64 p1, u64 p2, u64 p3) {
     l8 = j0;
     goto B14;
     B16:;
-    i0 = l23;
-    i1 = l20;
+    i0 = l26;
+    i1 = l23;
     i0 = i0 != i1;
     if (i0) {goto B17;}
     j0 = l5;
@@ -8444,231 +8828,290 @@ static void f6(module *self, u64 p0, u64 p1, u64 p2, u64 p3) {
     i0 = j0 != j1;
     if (i0) {goto L15;}
   B14:;
-  j0 = 0ull;
-  l7 = j0;
+  j0 = l4;
+  j1 = 176ull;
+  j0 += j1;
+  i0 = (u32)(j0);
+  i1 = 0u;
+  j2 = 480ull;
+  i2 = (u32)(j2);
+  memory_fill(j0, i1, j2);
   j0 = l4;
   i0 = (u32)(j0);
-  j1 = 0ull;
-  i64_store(j0 + 176, j1);
-  j0 = p0;
-  j1 = 24ull;
-  j0 += j1;
+  j1 = 1ull;
+  i64_store(j0 + 368, j1);
+  j0 = l4;
   i0 = (u32)(j0);
-  j0 = i64_load(j0);
-  l5 = j0;
-  j1 = 256ull;
-  j0 += j1;
-  l13 = j0;
+  j1 = 1ull;
+  i64_store(j0 + 144, j1);
+  j0 = l4;
+  i0 = (u32)(j0);
   j1 = p0;
-  j2 = 16ull;
+  j2 = 24ull;
   j1 += j2;
   i1 = (u32)(j1);
   j1 = i64_load(j1);
-  l14 = j1;
-  j2 = 42ull;
+  l5 = j1;
+  j2 = 512ull;
   j1 += j2;
-  i1 = (u32)(j1);
-  i1 = i32_load8_u(j1);
+  l10 = j1;
   j2 = l5;
   j3 = 1796ull;
   j2 += j3;
   i2 = (u32)(j2);
   i2 = i32_load8_u(j2);
-  l24 = i2;
-  i1 &= i2;
-  j1 = (u64)(i1);
-  j2 = 255ull;
-  j1 &= j2;
+  l21 = i2;
+  j3 = p0;
+  j4 = 16ull;
+  j3 += j4;
+  i3 = (u32)(j3);
+  j3 = i64_load(j3);
+  l11 = j3;
+  j4 = 49ull;
+  j3 += j4;
+  i3 = (u32)(j3);
+  i3 = i32_load8_u(j3);
+  i2 &= i3;
+  j2 = (u64)(i2);
+  j3 = 255ull;
+  j2 &= j3;
+  l7 = j2;
+  j1 += j2;
+  i1 = (u32)(j1);
+  j1 = i64_load8_u(j1);
   l6 = j1;
-  j0 += j1;
+  j2 = 8ull;
+  j1 <<= (j2 & 63);
+  j2 = l5;
+  j3 = 256ull;
+  j2 += j3;
+  l12 = j2;
+  j3 = l7;
+  j2 += j3;
+  i2 = (u32)(j2);
+  j2 = i64_load8_u(j2);
+  l9 = j2;
+  j1 |= j2;
+  l13 = j1;
+  j2 = l5;
+  j3 = l7;
+  j2 += j3;
+  i2 = (u32)(j2);
+  j2 = i64_load8_u(j2);
+  l7 = j2;
+  j3 = 16ull;
+  j2 <<= (j3 & 63);
+  j1 |= j2;
+  j2 = 16777217ull;
+  j1 *= j2;
+  j2 = l13;
+  j3 = 48ull;
+  j2 <<= (j3 & 63);
+  j1 |= j2;
+  l13 = j1;
+  i64_store(j0 + 392, j1);
+  j0 = l4;
   i0 = (u32)(j0);
-  j0 = i64_load8_u(j0);
-  j1 = 8ull;
-  j0 <<= (j1 & 63);
-  j1 = l5;
+  j1 = l6;
+  j2 = l7;
+  j3 = 8ull;
+  j2 <<= (j3 & 63);
+  j1 |= j2;
+  l14 = j1;
+  j2 = l9;
+  j3 = 16ull;
+  j2 <<= (j3 & 63);
+  j1 |= j2;
+  j2 = 16777217ull;
+  j1 *= j2;
+  j2 = l14;
+  j3 = 48ull;
+  j2 <<= (j3 & 63);
+  j1 |= j2;
+  l14 = j1;
+  i64_store(j0 + 384, j1);
+  j0 = l4;
+  i0 = (u32)(j0);
+  j1 = l7;
+  j2 = l9;
+  j3 = 8ull;
+  j2 <<= (j3 & 63);
+  j1 |= j2;
+  l7 = j1;
   j2 = l6;
-  j1 += j2;
-  i1 = (u32)(j1);
-  j1 = i64_load8_u(j1);
-  j0 |= j1;
-  l9 = j0;
-  j1 = l5;
-  j2 = 512ull;
-  j1 += j2;
-  l15 = j1;
-  j2 = l6;
-  j1 += j2;
-  i1 = (u32)(j1);
-  j1 = i64_load8_u(j1);
-  l10 = j1;
-  j2 = 16ull;
-  j1 <<= (j2 & 63);
-  j0 |= j1;
-  l11 = j0;
-  j1 = 16777217ull;
-  j0 *= j1;
-  j1 = l9;
-  j2 = 48ull;
-  j1 <<= (j2 & 63);
-  j0 |= j1;
-  l6 = j0;
-  j0 = l11;
-  j1 = 8ull;
-  j0 <<= (j1 & 63);
+  j3 = 16ull;
+  j2 <<= (j3 & 63);
+  j1 |= j2;
+  j2 = 16777217ull;
+  j1 *= j2;
+  j2 = l7;
+  j3 = 48ull;
+  j2 <<= (j3 & 63);
+  j1 |= j2;
+  l9 = j1;
+  i64_store(j0 + 376, j1);
+  j0 = l4;
+  i0 = (u32)(j0);
   j1 = l10;
-  j0 |= j1;
+  i2 = l21;
+  j3 = l11;
+  j4 = 42ull;
+  j3 += j4;
+  i3 = (u32)(j3);
+  i3 = i32_load8_u(j3);
+  i2 &= i3;
+  j2 = (u64)(i2);
+  j3 = 255ull;
+  j2 &= j3;
+  l7 = j2;
+  j1 += j2;
+  i1 = (u32)(j1);
+  j1 = i64_load8_u(j1);
+  l6 = j1;
+  j2 = 8ull;
+  j1 <<= (j2 & 63);
+  j2 = l12;
+  j3 = l7;
+  j2 += j3;
+  i2 = (u32)(j2);
+  j2 = i64_load8_u(j2);
+  l12 = j2;
+  j1 |= j2;
+  l10 = j1;
+  j2 = l5;
+  j3 = l7;
+  j2 += j3;
+  i2 = (u32)(j2);
+  j2 = i64_load8_u(j2);
+  l5 = j2;
+  j3 = 16ull;
+  j2 <<= (j3 & 63);
+  j1 |= j2;
+  j2 = 16777217ull;
+  j1 *= j2;
+  j2 = l10;
+  j3 = 48ull;
+  j2 <<= (j3 & 63);
+  j1 |= j2;
+  l10 = j1;
+  i64_store(j0 + 168, j1);
+  j0 = l4;
   i0 = (u32)(j0);
-  l18 = i0;
+  j1 = l6;
+  j2 = l5;
+  j3 = 8ull;
+  j2 <<= (j3 & 63);
+  j1 |= j2;
+  l7 = j1;
+  j2 = l12;
+  j3 = 16ull;
+  j2 <<= (j3 & 63);
+  j1 |= j2;
+  j2 = 16777217ull;
+  j1 *= j2;
+  j2 = l7;
+  j3 = 48ull;
+  j2 <<= (j3 & 63);
+  j1 |= j2;
+  l11 = j1;
+  i64_store(j0 + 160, j1);
+  j0 = l4;
+  i0 = (u32)(j0);
+  j1 = l5;
+  j2 = l12;
+  j3 = 8ull;
+  j2 <<= (j3 & 63);
+  j1 |= j2;
+  l5 = j1;
+  j2 = l6;
+  j3 = 16ull;
+  j2 <<= (j3 & 63);
+  j1 |= j2;
+  j2 = 16777217ull;
+  j1 *= j2;
+  j2 = l5;
+  j3 = 48ull;
+  j2 <<= (j3 & 63);
+  j1 |= j2;
+  l7 = j1;
+  i64_store(j0 + 152, j1);
   j0 = p2;
   j1 = l8;
   j2 = 1ull;
   j1 += j2;
-  l12 = j1;
+  l15 = j1;
   i0 = j0 < j1;
-  l20 = i0;
-  j0 = l4;
-  i0 = (u32)(j0);
-  i0 = i32_load8_u(j0 + 216u);
+  l21 = i0;
+  i0 = 7u;
+  l19 = i0;
+  i0 = l33;
   i1 = 7u;
   i0 &= i1;
   i0 = !(i0);
   if (i0) {goto B19;}
-  j0 = l6;
-  l5 = j0;
-  i0 = l18;
-  l24 = i0;
+  j0 = l10;
+  l13 = j0;
+  j0 = l11;
+  l14 = j0;
+  j0 = l7;
+  l9 = j0;
   goto B18;
   B19:;
-  j0 = l15;
-  j1 = l14;
-  j2 = 49ull;
-  j1 += j2;
-  i1 = (u32)(j1);
-  i1 = i32_load8_u(j1);
-  i2 = l24;
-  i1 &= i2;
-  j1 = (u64)(i1);
-  j2 = 255ull;
-  j1 &= j2;
-  l8 = j1;
-  j0 += j1;
-  i0 = (u32)(j0);
-  j0 = i64_load8_u(j0);
-  l9 = j0;
-  j1 = 16ull;
-  j0 <<= (j1 & 63);
-  j1 = l13;
-  j2 = l8;
-  j1 += j2;
-  i1 = (u32)(j1);
-  j1 = i64_load8_u(j1);
-  j2 = 8ull;
-  j1 <<= (j2 & 63);
-  j2 = l5;
-  j3 = l8;
-  j2 += j3;
-  i2 = (u32)(j2);
-  j2 = i64_load8_u(j2);
-  j1 |= j2;
-  l5 = j1;
-  j0 |= j1;
-  l8 = j0;
-  j1 = 16777217ull;
-  j0 *= j1;
-  j1 = l5;
-  j2 = 48ull;
-  j1 <<= (j2 & 63);
-  j0 |= j1;
-  l5 = j0;
-  j1 = l6;
-  j2 = l4;
-  i2 = (u32)(j2);
-  i2 = i32_load8_u(j2 + 217u);
-  i3 = 7u;
-  i2 = i2 == i3;
-  l16 = i2;
-  j0 = i2 ? j0 : j1;
-  l6 = j0;
-  j0 = l8;
-  j1 = 8ull;
-  j0 <<= (j1 & 63);
-  j1 = l9;
-  j0 |= j1;
-  i0 = (u32)(j0);
-  l24 = i0;
-  i1 = l18;
-  i2 = l16;
-  i0 = i2 ? i0 : i1;
-  l18 = i0;
+  i0 = l32;
+  i1 = 255u;
+  i0 &= i1;
+  i1 = 7u;
+  i0 = i0 != i1;
+  if (i0) {goto B18;}
+  j0 = l13;
+  l10 = j0;
+  j0 = l14;
+  l11 = j0;
+  j0 = l9;
+  l7 = j0;
   B18:;
   j0 = p2;
-  j1 = l12;
-  i2 = l20;
+  j1 = l15;
+  i2 = l21;
   j0 = i2 ? j0 : j1;
-  l10 = j0;
-  j0 = l4;
-  i0 = (u32)(j0);
-  j1 = l4;
-  i1 = (u32)(j1);
-  i1 = i32_load16_u(j1 + 220u);
-  i32_store16(j0 + 176, i1);
-  j0 = l4;
-  i0 = (u32)(j0);
-  i1 = l18;
-  i32_store(j0 + 168, i1);
-  j0 = l4;
-  i0 = (u32)(j0);
-  j1 = l6;
-  i64_store(j0 + 160, j1);
-  j0 = l4;
-  i0 = (u32)(j0);
-  i1 = l24;
-  i32_store(j0 + 152, i1);
-  j0 = l4;
-  i0 = (u32)(j0);
-  j1 = l5;
-  i64_store(j0 + 144, j1);
-  j0 = l4;
-  i0 = (u32)(j0);
-  i1 = 7u;
-  i32_store8(j0 + 136, i1);
-  i0 = l17;
+  l16 = j0;
+  i0 = l20;
   j1 = p1;
   i1 = (u32)(j1);
   i0 += i1;
-  l16 = i0;
-  j0 = l4;
-  i0 = (u32)(j0);
-  i0 = i32_load8_u(j0 + 222u);
-  l17 = i0;
+  l20 = i0;
   j0 = 0ull;
   l8 = j0;
   j0 = 0ull;
-  p1 = j0;
+  l6 = j0;
+  j0 = 0ull;
+  l5 = j0;
+  i0 = l30;
+  l22 = i0;
   L20: 
-    j0 = l4;
-    i0 = (u32)(j0);
-    i0 = i32_load8_u(j0 + 136u);
+    i0 = l19;
+    i1 = 255u;
+    i0 &= i1;
     j1 = p0;
     i1 = (u32)(j1);
     j1 = i64_load(j1);
     i1 = (u32)(j1);
     j1 = i64_load(j1);
-    l9 = j1;
-    i2 = l16;
-    j3 = p1;
+    l12 = j1;
+    i2 = l20;
+    j3 = l5;
     i3 = (u32)(j3);
     i2 += i3;
-    l18 = i2;
+    l21 = i2;
     i3 = 65535u;
     i2 &= i3;
-    l20 = i2;
-    i3 = l21;
+    l23 = i2;
+    i3 = l24;
     i2 >>= (i3 & 31);
     i3 = 1u;
     i2 &= i3;
-    i3 = l18;
-    i4 = l22;
+    i3 = l21;
+    i4 = l25;
     i3 *= i4;
     i2 += i3;
     j2 = (u64)(i2);
@@ -8679,37 +9122,358 @@ static void f6(module *self, u64 p0, u64 p1, u64 p2, u64 p3) {
     j1 += j2;
     i1 = (u32)(j1);
     i1 = i32_load(j1);
-    l18 = i1;
+    l27 = i1;
     i2 = 8u;
     i1 >>= (i2 & 31);
-    l24 = i1;
+    l21 = i1;
     i2 = 255u;
     i1 &= i2;
     i0 = i0 == i1;
     if (i0) {goto B21;}
     j0 = l4;
-    j1 = 136ull;
+    j1 = 144ull;
     j0 += j1;
-    j1 = l4;
-    j2 = 204ull;
+    i1 = l21;
+    j1 = (u64)(i1);
+    j2 = 15ull;
+    j1 &= j2;
+    l7 = j1;
+    j2 = 5ull;
+    j1 <<= (j2 & 63);
+    j0 += j1;
+    p1 = j0;
+    i0 = (u32)(j0);
+    i0 = i32_load8_u(j0);
+    i1 = 1u;
+    i0 = i0 != i1;
+    if (i0) {goto B23;}
+    j0 = p1;
+    j1 = 24ull;
+    j0 += j1;
+    i0 = (u32)(j0);
+    j0 = i64_load(j0);
+    l13 = j0;
+    j0 = p1;
+    j1 = 16ull;
+    j0 += j1;
+    i0 = (u32)(j0);
+    j0 = i64_load(j0);
+    l14 = j0;
+    j0 = p1;
+    j1 = 8ull;
+    j0 += j1;
+    i0 = (u32)(j0);
+    j0 = i64_load(j0);
+    l9 = j0;
+    goto B22;
+    B23:;
+    j0 = p1;
+    i0 = (u32)(j0);
+    j1 = 1ull;
+    i64_store(j0, j1);
+    j0 = p1;
+    j1 = 16ull;
+    j0 += j1;
+    i0 = (u32)(j0);
+    j1 = p0;
+    j2 = 24ull;
     j1 += j2;
-    j2 = p0;
-    j3 = 16ull;
+    i1 = (u32)(j1);
+    j1 = i64_load(j1);
+    l9 = j1;
+    j2 = l9;
+    j3 = 1796ull;
     j2 += j3;
     i2 = (u32)(j2);
-    j2 = i64_load(j2);
+    i2 = i32_load8_u(j2);
     j3 = p0;
-    j4 = 24ull;
+    j4 = 16ull;
     j3 += j4;
     i3 = (u32)(j3);
     j3 = i64_load(j3);
-    i4 = l24;
-    f10(self, j0, j1, j2, j3, i4);
-    B21:;
-    i0 = l23;
-    i1 = l20;
+    j4 = l7;
+    j3 += j4;
+    j4 = 42ull;
+    j3 += j4;
+    i3 = (u32)(j3);
+    i3 = i32_load8_u(j3);
+    i2 &= i3;
+    j2 = (u64)(i2);
+    j3 = 255ull;
+    j2 &= j3;
+    j1 += j2;
+    l7 = j1;
+    i1 = (u32)(j1);
+    j1 = i64_load8_u(j1);
+    l9 = j1;
+    j2 = 8ull;
+    j1 <<= (j2 & 63);
+    j2 = l7;
+    j3 = 512ull;
+    j2 += j3;
+    i2 = (u32)(j2);
+    j2 = i64_load8_u(j2);
+    l10 = j2;
+    j1 |= j2;
+    l11 = j1;
+    j2 = l7;
+    j3 = 256ull;
+    j2 += j3;
+    i2 = (u32)(j2);
+    j2 = i64_load8_u(j2);
+    l7 = j2;
+    j3 = 16ull;
+    j2 <<= (j3 & 63);
+    j1 |= j2;
+    j2 = 16777217ull;
+    j1 *= j2;
+    j2 = l11;
+    j3 = 48ull;
+    j2 <<= (j3 & 63);
+    j1 |= j2;
+    l14 = j1;
+    i64_store(j0, j1);
+    j0 = p1;
+    j1 = 24ull;
+    j0 += j1;
+    i0 = (u32)(j0);
+    j1 = l7;
+    j2 = l10;
+    j3 = 8ull;
+    j2 <<= (j3 & 63);
+    j1 |= j2;
+    l11 = j1;
+    j2 = l9;
+    j3 = 16ull;
+    j2 <<= (j3 & 63);
+    j1 |= j2;
+    j2 = 16777217ull;
+    j1 *= j2;
+    j2 = l11;
+    j3 = 48ull;
+    j2 <<= (j3 & 63);
+    j1 |= j2;
+    l13 = j1;
+    i64_store(j0, j1);
+    j0 = p1;
+    j1 = 8ull;
+    j0 += j1;
+    i0 = (u32)(j0);
+    j1 = l9;
+    j2 = l7;
+    j3 = 8ull;
+    j2 <<= (j3 & 63);
+    j1 |= j2;
+    p1 = j1;
+    j2 = l10;
+    j3 = 16ull;
+    j2 <<= (j3 & 63);
+    j1 |= j2;
+    j2 = 16777217ull;
+    j1 *= j2;
+    j2 = p1;
+    j3 = 48ull;
+    j2 <<= (j3 & 63);
+    j1 |= j2;
+    l9 = j1;
+    i64_store(j0, j1);
+    B22:;
+    j0 = l4;
+    j1 = 144ull;
+    j0 += j1;
+    i1 = l21;
+    i2 = 240u;
+    i1 &= i2;
+    i2 = 4u;
+    i1 >>= (i2 & 31);
+    i2 = l28;
+    i1 &= i2;
+    j1 = (u64)(i1);
+    l7 = j1;
+    j2 = 5ull;
+    j1 <<= (j2 & 63);
+    j0 += j1;
+    p1 = j0;
+    i0 = (u32)(j0);
+    i0 = i32_load8_u(j0);
+    i1 = 1u;
     i0 = i0 != i1;
-    if (i0) {goto B23;}
+    if (i0) {goto B25;}
+    j0 = p1;
+    j1 = 24ull;
+    j0 += j1;
+    i0 = (u32)(j0);
+    j0 = i64_load(j0);
+    l10 = j0;
+    j0 = p1;
+    j1 = 16ull;
+    j0 += j1;
+    i0 = (u32)(j0);
+    j0 = i64_load(j0);
+    l11 = j0;
+    j0 = p1;
+    j1 = 8ull;
+    j0 += j1;
+    i0 = (u32)(j0);
+    j0 = i64_load(j0);
+    l7 = j0;
+    goto B24;
+    B25:;
+    j0 = p1;
+    i0 = (u32)(j0);
+    j1 = 1ull;
+    i64_store(j0, j1);
+    j0 = p1;
+    j1 = 16ull;
+    j0 += j1;
+    i0 = (u32)(j0);
+    j1 = p0;
+    j2 = 24ull;
+    j1 += j2;
+    i1 = (u32)(j1);
+    j1 = i64_load(j1);
+    l10 = j1;
+    j2 = l10;
+    j3 = 1796ull;
+    j2 += j3;
+    i2 = (u32)(j2);
+    i2 = i32_load8_u(j2);
+    j3 = p0;
+    j4 = 16ull;
+    j3 += j4;
+    i3 = (u32)(j3);
+    j3 = i64_load(j3);
+    j4 = l7;
+    j3 += j4;
+    j4 = 42ull;
+    j3 += j4;
+    i3 = (u32)(j3);
+    i3 = i32_load8_u(j3);
+    i2 &= i3;
+    j2 = (u64)(i2);
+    j3 = 255ull;
+    j2 &= j3;
+    j1 += j2;
+    l7 = j1;
+    i1 = (u32)(j1);
+    j1 = i64_load8_u(j1);
+    l17 = j1;
+    j2 = 8ull;
+    j1 <<= (j2 & 63);
+    j2 = l7;
+    j3 = 512ull;
+    j2 += j3;
+    i2 = (u32)(j2);
+    j2 = i64_load8_u(j2);
+    l18 = j2;
+    j1 |= j2;
+    l10 = j1;
+    j2 = l7;
+    j3 = 256ull;
+    j2 += j3;
+    i2 = (u32)(j2);
+    j2 = i64_load8_u(j2);
+    l7 = j2;
+    j3 = 16ull;
+    j2 <<= (j3 & 63);
+    j1 |= j2;
+    j2 = 16777217ull;
+    j1 *= j2;
+    j2 = l10;
+    j3 = 48ull;
+    j2 <<= (j3 & 63);
+    j1 |= j2;
+    l11 = j1;
+    i64_store(j0, j1);
+    j0 = p1;
+    j1 = 24ull;
+    j0 += j1;
+    i0 = (u32)(j0);
+    j1 = l7;
+    j2 = l18;
+    j3 = 8ull;
+    j2 <<= (j3 & 63);
+    j1 |= j2;
+    l10 = j1;
+    j2 = l17;
+    j3 = 16ull;
+    j2 <<= (j3 & 63);
+    j1 |= j2;
+    j2 = 16777217ull;
+    j1 *= j2;
+    j2 = l10;
+    j3 = 48ull;
+    j2 <<= (j3 & 63);
+    j1 |= j2;
+    l10 = j1;
+    i64_store(j0, j1);
+    j0 = p1;
+    j1 = 8ull;
+    j0 += j1;
+    i0 = (u32)(j0);
+    j1 = l17;
+    j2 = l7;
+    j3 = 8ull;
+    j2 <<= (j3 & 63);
+    j1 |= j2;
+    p1 = j1;
+    j2 = l18;
+    j3 = 16ull;
+    j2 <<= (j3 & 63);
+    j1 |= j2;
+    j2 = 16777217ull;
+    j1 *= j2;
+    j2 = p1;
+    j3 = 48ull;
+    j2 <<= (j3 & 63);
+    j1 |= j2;
+    l7 = j1;
+    i64_store(j0, j1);
+    B24:;
+    i0 = l33;
+    i1 = l21;
+    i0 &= i1;
+    i1 = 255u;
+    i0 &= i1;
+    i0 = !(i0);
+    if (i0) {goto B27;}
+    j0 = l10;
+    l13 = j0;
+    j0 = l11;
+    l14 = j0;
+    j0 = l7;
+    l9 = j0;
+    goto B26;
+    B27:;
+    i0 = l21;
+    i1 = 119u;
+    i0 &= i1;
+    i1 = l32;
+    i2 = 255u;
+    i1 &= i2;
+    i0 = i0 != i1;
+    if (i0) {goto B26;}
+    j0 = l13;
+    l10 = j0;
+    j0 = l14;
+    l11 = j0;
+    j0 = l9;
+    l7 = j0;
+    B26:;
+    i0 = l31;
+    i1 = l30;
+    i2 = l21;
+    i3 = 8u;
+    i2 &= i3;
+    i0 = i2 ? i0 : i1;
+    l22 = i0;
+    i0 = l21;
+    l19 = i0;
+    B21:;
+    i0 = l26;
+    i1 = l23;
+    i0 = i0 != i1;
+    if (i0) {goto B29;}
     j0 = p0;
     j1 = 16ull;
     j0 += j1;
@@ -8720,33 +9484,25 @@ static void f6(module *self, u64 p0, u64 p1, u64 p2, u64 p3) {
     j1 += j2;
     i1 = (u32)(j1);
     j1 = i64_load(j1);
-    i2 = l24;
+    i2 = l21;
     j3 = p3;
-    j4 = l8;
-    f12(self, j0, j1, i2, j3, j4);
-    goto B22;
-    B23:;
+    j4 = l6;
+    f11(self, j0, j1, i2, j3, j4);
+    goto B28;
+    B29:;
     j0 = p3;
-    j1 = l7;
+    j1 = l8;
     j0 += j1;
-    l5 = j0;
+    p1 = j0;
     j1 = 24ull;
     j0 += j1;
     i0 = (u32)(j0);
-    j1 = l4;
-    i1 = (u32)(j1);
-    j1 = i64_load(j1 + 160u);
-    l6 = j1;
-    j2 = l4;
-    i2 = (u32)(j2);
-    j2 = i64_load(j2 + 144u);
-    l11 = j2;
-    j3 = l6;
-    j4 = l9;
-    j5 = l4;
-    i5 = (u32)(j5);
-    i5 = i32_load16_u(j5 + 176u);
-    i6 = l18;
+    j1 = l7;
+    j2 = l9;
+    j3 = l7;
+    j4 = l12;
+    i5 = l22;
+    i6 = l27;
     i7 = 5u;
     i6 <<= (i7 & 31);
     i7 = 8160u;
@@ -8760,135 +9516,119 @@ static void f6(module *self, u64 p0, u64 p1, u64 p2, u64 p3) {
     j4 += j5;
     i4 = (u32)(j4);
     i4 = i32_load(j4);
-    l20 = i4;
+    l21 = i4;
     i5 = 65536u;
     i4 &= i5;
     j2 = i4 ? j2 : j3;
-    i3 = l18;
+    i3 = l27;
     i4 = 224u;
     i3 &= i4;
     i4 = 5u;
     i3 >>= (i4 & 31);
-    i4 = l17;
+    i4 = l29;
     i5 = 255u;
     i4 &= i5;
     i3 = i3 != i4;
     j1 = i3 ? j1 : j2;
-    l9 = j1;
+    l12 = j1;
     i64_store8(j0, j1);
-    j0 = l5;
+    j0 = p1;
     j1 = 26ull;
     j0 += j1;
     i0 = (u32)(j0);
-    j1 = l9;
+    j1 = l12;
     j2 = 16ull;
     j1 >>= (j2 & 63);
     i64_store8(j0, j1);
-    j0 = l5;
+    j0 = p1;
     j1 = 25ull;
     j0 += j1;
     i0 = (u32)(j0);
-    j1 = l9;
+    j1 = l12;
     j2 = 8ull;
     j1 >>= (j2 & 63);
     i64_store8(j0, j1);
-    j0 = l5;
-    j1 = 20ull;
+    j0 = p1;
+    j1 = 16ull;
     j0 += j1;
     i0 = (u32)(j0);
-    i1 = l20;
-    i2 = 16u;
+    i1 = l21;
+    i2 = 13u;
     i1 >>= (i2 & 31);
     j1 = (u64)(i1);
-    j2 = 15ull;
+    j2 = 56ull;
     j1 &= j2;
-    l9 = j1;
-    j2 = 2ull;
-    j1 <<= (j2 & 63);
+    j2 = 1048768ull;
+    j1 += j2;
     i1 = (u32)(j1);
-    i1 = i32_load(j1 + 1048704u);
-    j2 = l4;
-    i2 = (u32)(j2);
-    i2 = i32_load(j2 + 152u);
-    j3 = l4;
-    i3 = (u32)(j3);
-    i3 = i32_load(j3 + 168u);
-    l18 = i3;
-    i2 ^= i3;
-    l24 = i2;
-    i1 &= i2;
-    i2 = l18;
-    i1 ^= i2;
-    i32_store(j0, i1);
-    j0 = l5;
-    j1 = 12ull;
-    j0 += j1;
-    i0 = (u32)(j0);
-    j1 = l6;
-    j2 = l9;
-    j3 = 3ull;
-    j2 <<= (j3 & 63);
-    i2 = (u32)(j2);
-    j2 = i64_load(j2 + 1048576u);
-    j3 = l11;
-    j4 = l6;
-    j3 ^= j4;
-    l9 = j3;
-    j2 &= j3;
+    j1 = i64_load(j1);
+    j2 = l10;
+    j3 = l13;
+    j2 ^= j3;
+    j1 &= j2;
+    j2 = l10;
     j1 ^= j2;
     i64_store(j0, j1);
-    j0 = l5;
+    j0 = p1;
     j1 = 8ull;
     j0 += j1;
     i0 = (u32)(j0);
-    i1 = l18;
-    i2 = l20;
-    i3 = 20u;
-    i2 >>= (i3 & 31);
-    j2 = (u64)(i2);
-    j3 = 15ull;
-    j2 &= j3;
-    l11 = j2;
-    j3 = 2ull;
-    j2 <<= (j3 & 63);
-    i2 = (u32)(j2);
-    i2 = i32_load(j2 + 1048704u);
-    i3 = l24;
-    i2 &= i3;
-    i1 ^= i2;
-    i32_store(j0, i1);
-    j0 = l5;
-    i0 = (u32)(j0);
-    j1 = l6;
+    i1 = l21;
+    i2 = 15u;
+    i1 >>= (i2 & 31);
+    j1 = (u64)(i1);
+    j2 = 120ull;
+    j1 &= j2;
+    j2 = 1048640ull;
+    j1 += j2;
+    i1 = (u32)(j1);
+    j1 = i64_load(j1);
     j2 = l11;
-    j3 = 3ull;
-    j2 <<= (j3 & 63);
-    i2 = (u32)(j2);
-    j2 = i64_load(j2 + 1048576u);
-    j3 = l9;
-    j2 &= j3;
+    j3 = l14;
+    j2 ^= j3;
+    j1 &= j2;
+    j2 = l11;
     j1 ^= j2;
     i64_store(j0, j1);
-    B22:;
-    j0 = l7;
+    j0 = p1;
+    i0 = (u32)(j0);
+    i1 = l21;
+    i2 = 18u;
+    i1 >>= (i2 & 31);
+    j1 = (u64)(i1);
+    j2 = 56ull;
+    j1 &= j2;
+    j2 = 1048576ull;
+    j1 += j2;
+    i1 = (u32)(j1);
+    j1 = i64_load(j1);
+    j2 = l7;
+    j3 = l9;
+    j2 ^= j3;
+    j1 &= j2;
+    j2 = l7;
+    j1 ^= j2;
+    i64_store(j0, j1);
+    B28:;
+    j0 = l8;
     j1 = 27ull;
     j0 += j1;
-    l7 = j0;
-    j0 = l8;
+    l8 = j0;
+    j0 = l6;
     j1 = 9ull;
     j0 += j1;
-    l8 = j0;
-    j0 = l10;
-    j1 = p1;
+    l6 = j0;
+    j0 = l16;
+    j1 = l5;
     j2 = 1ull;
     j1 += j2;
-    p1 = j1;
+    l5 = j1;
     i0 = j0 != j1;
     if (i0) {goto L20;}
   j0 = l4;
   i0 = (u32)(j0);
   j1 = p3;
-  j2 = l10;
+  j2 = l16;
   j3 = 27ull;
   j2 *= j3;
   j1 += j2;
@@ -8897,343 +9637,343 @@ static void f6(module *self, u64 p0, u64 p1, u64 p2, u64 p3) {
   l5 = j1;
   i1 = (u32)(j1);
   i1 = i32_load(j1 + 23u);
-  i32_store(j0 + 159, i1);
+  i32_store(j0 + 167, i1);
   j0 = l4;
   i0 = (u32)(j0);
   j1 = l5;
   i1 = (u32)(j1);
   j1 = i64_load(j1 + 16u);
-  i64_store(j0 + 152, j1);
+  i64_store(j0 + 160, j1);
   j0 = l4;
   i0 = (u32)(j0);
   j1 = l5;
   i1 = (u32)(j1);
   j1 = i64_load(j1 + 8u);
-  i64_store(j0 + 144, j1);
+  i64_store(j0 + 152, j1);
   j0 = l4;
   i0 = (u32)(j0);
   j1 = l5;
   i1 = (u32)(j1);
   j1 = i64_load(j1);
-  i64_store(j0 + 136, j1);
-  j0 = l12;
+  i64_store(j0 + 144, j1);
+  j0 = l15;
   j1 = p2;
   i0 = j0 >= j1;
   if (i0) {goto B0;}
   j0 = p2;
-  j1 = l10;
+  j1 = l16;
   j0 -= j1;
   p0 = j0;
   j0 = p3;
-  j1 = l10;
+  j1 = l16;
   j2 = 27ull;
   j1 *= j2;
   j0 += j1;
   l5 = j0;
   j0 = l4;
   i0 = (u32)(j0);
-  i0 = i32_load8_u(j0 + 162u);
-  l18 = i0;
-  j0 = l4;
-  i0 = (u32)(j0);
-  i0 = i32_load8_u(j0 + 161u);
-  l20 = i0;
-  j0 = l4;
-  i0 = (u32)(j0);
-  i0 = i32_load8_u(j0 + 160u);
-  l24 = i0;
-  j0 = l4;
-  i0 = (u32)(j0);
-  i0 = i32_load8_u(j0 + 159u);
+  i0 = i32_load8_u(j0 + 170u);
   l21 = i0;
   j0 = l4;
   i0 = (u32)(j0);
-  i0 = i32_load8_u(j0 + 158u);
-  l22 = i0;
-  j0 = l4;
-  i0 = (u32)(j0);
-  i0 = i32_load8_u(j0 + 157u);
+  i0 = i32_load8_u(j0 + 169u);
   l23 = i0;
   j0 = l4;
   i0 = (u32)(j0);
-  i0 = i32_load8_u(j0 + 156u);
-  l16 = i0;
-  j0 = l4;
-  i0 = (u32)(j0);
-  i0 = i32_load8_u(j0 + 155u);
-  l17 = i0;
-  j0 = l4;
-  i0 = (u32)(j0);
-  i0 = i32_load8_u(j0 + 154u);
-  l19 = i0;
-  j0 = l4;
-  i0 = (u32)(j0);
-  i0 = i32_load8_u(j0 + 153u);
-  l25 = i0;
-  j0 = l4;
-  i0 = (u32)(j0);
-  i0 = i32_load8_u(j0 + 152u);
-  l26 = i0;
-  j0 = l4;
-  i0 = (u32)(j0);
-  i0 = i32_load8_u(j0 + 151u);
+  i0 = i32_load8_u(j0 + 168u);
   l27 = i0;
   j0 = l4;
   i0 = (u32)(j0);
-  i0 = i32_load8_u(j0 + 150u);
-  l28 = i0;
+  i0 = i32_load8_u(j0 + 167u);
+  l24 = i0;
   j0 = l4;
   i0 = (u32)(j0);
-  i0 = i32_load8_u(j0 + 149u);
-  l29 = i0;
+  i0 = i32_load8_u(j0 + 166u);
+  l25 = i0;
   j0 = l4;
   i0 = (u32)(j0);
-  i0 = i32_load8_u(j0 + 148u);
+  i0 = i32_load8_u(j0 + 165u);
+  l26 = i0;
+  j0 = l4;
+  i0 = (u32)(j0);
+  i0 = i32_load8_u(j0 + 164u);
+  l19 = i0;
+  j0 = l4;
+  i0 = (u32)(j0);
+  i0 = i32_load8_u(j0 + 163u);
+  l20 = i0;
+  j0 = l4;
+  i0 = (u32)(j0);
+  i0 = i32_load8_u(j0 + 162u);
+  l22 = i0;
+  j0 = l4;
+  i0 = (u32)(j0);
+  i0 = i32_load8_u(j0 + 161u);
   l30 = i0;
   j0 = l4;
   i0 = (u32)(j0);
-  i0 = i32_load8_u(j0 + 147u);
-  l31 = i0;
-  j0 = l4;
-  i0 = (u32)(j0);
-  i0 = i32_load8_u(j0 + 146u);
-  l32 = i0;
-  j0 = l4;
-  i0 = (u32)(j0);
-  i0 = i32_load8_u(j0 + 145u);
+  i0 = i32_load8_u(j0 + 160u);
   l33 = i0;
   j0 = l4;
   i0 = (u32)(j0);
-  i0 = i32_load8_u(j0 + 144u);
+  i0 = i32_load8_u(j0 + 159u);
+  l28 = i0;
+  j0 = l4;
+  i0 = (u32)(j0);
+  i0 = i32_load8_u(j0 + 158u);
+  l29 = i0;
+  j0 = l4;
+  i0 = (u32)(j0);
+  i0 = i32_load8_u(j0 + 157u);
+  l31 = i0;
+  j0 = l4;
+  i0 = (u32)(j0);
+  i0 = i32_load8_u(j0 + 156u);
+  l32 = i0;
+  j0 = l4;
+  i0 = (u32)(j0);
+  i0 = i32_load8_u(j0 + 155u);
   l34 = i0;
   j0 = l4;
   i0 = (u32)(j0);
-  i0 = i32_load8_u(j0 + 143u);
+  i0 = i32_load8_u(j0 + 154u);
   l35 = i0;
   j0 = l4;
   i0 = (u32)(j0);
-  i0 = i32_load8_u(j0 + 142u);
+  i0 = i32_load8_u(j0 + 153u);
   l36 = i0;
   j0 = l4;
   i0 = (u32)(j0);
-  i0 = i32_load8_u(j0 + 141u);
+  i0 = i32_load8_u(j0 + 152u);
   l37 = i0;
   j0 = l4;
   i0 = (u32)(j0);
-  i0 = i32_load8_u(j0 + 140u);
+  i0 = i32_load8_u(j0 + 151u);
   l38 = i0;
   j0 = l4;
   i0 = (u32)(j0);
-  i0 = i32_load8_u(j0 + 139u);
+  i0 = i32_load8_u(j0 + 150u);
   l39 = i0;
   j0 = l4;
   i0 = (u32)(j0);
-  i0 = i32_load8_u(j0 + 138u);
+  i0 = i32_load8_u(j0 + 149u);
   l40 = i0;
   j0 = l4;
   i0 = (u32)(j0);
-  i0 = i32_load8_u(j0 + 137u);
+  i0 = i32_load8_u(j0 + 148u);
   l41 = i0;
   j0 = l4;
   i0 = (u32)(j0);
-  i0 = i32_load8_u(j0 + 136u);
+  i0 = i32_load8_u(j0 + 147u);
   l42 = i0;
-  L24: 
+  j0 = l4;
+  i0 = (u32)(j0);
+  i0 = i32_load8_u(j0 + 146u);
+  l43 = i0;
+  j0 = l4;
+  i0 = (u32)(j0);
+  i0 = i32_load8_u(j0 + 145u);
+  l44 = i0;
+  j0 = l4;
+  i0 = (u32)(j0);
+  i0 = i32_load8_u(j0 + 144u);
+  l45 = i0;
+  L30: 
     j0 = l5;
     j1 = l4;
-    j2 = 136ull;
+    j2 = 144ull;
     j1 += j2;
     j0 -= j1;
     j1 = 26ull;
     i0 = j0 > j1;
-    if (i0) {goto B26;}
+    if (i0) {goto B32;}
     j0 = l5;
     i0 = (u32)(j0);
-    i1 = l42;
+    i1 = l45;
     i32_store8(j0, i1);
     j0 = l5;
     j1 = 26ull;
-    j0 += j1;
-    i0 = (u32)(j0);
-    i1 = l18;
-    i32_store8(j0, i1);
-    j0 = l5;
-    j1 = 25ull;
-    j0 += j1;
-    i0 = (u32)(j0);
-    i1 = l20;
-    i32_store8(j0, i1);
-    j0 = l5;
-    j1 = 24ull;
-    j0 += j1;
-    i0 = (u32)(j0);
-    i1 = l24;
-    i32_store8(j0, i1);
-    j0 = l5;
-    j1 = 23ull;
     j0 += j1;
     i0 = (u32)(j0);
     i1 = l21;
     i32_store8(j0, i1);
     j0 = l5;
-    j1 = 22ull;
-    j0 += j1;
-    i0 = (u32)(j0);
-    i1 = l22;
-    i32_store8(j0, i1);
-    j0 = l5;
-    j1 = 21ull;
+    j1 = 25ull;
     j0 += j1;
     i0 = (u32)(j0);
     i1 = l23;
     i32_store8(j0, i1);
     j0 = l5;
-    j1 = 20ull;
-    j0 += j1;
-    i0 = (u32)(j0);
-    i1 = l16;
-    i32_store8(j0, i1);
-    j0 = l5;
-    j1 = 19ull;
-    j0 += j1;
-    i0 = (u32)(j0);
-    i1 = l17;
-    i32_store8(j0, i1);
-    j0 = l5;
-    j1 = 18ull;
-    j0 += j1;
-    i0 = (u32)(j0);
-    i1 = l19;
-    i32_store8(j0, i1);
-    j0 = l5;
-    j1 = 17ull;
-    j0 += j1;
-    i0 = (u32)(j0);
-    i1 = l25;
-    i32_store8(j0, i1);
-    j0 = l5;
-    j1 = 16ull;
-    j0 += j1;
-    i0 = (u32)(j0);
-    i1 = l26;
-    i32_store8(j0, i1);
-    j0 = l5;
-    j1 = 15ull;
+    j1 = 24ull;
     j0 += j1;
     i0 = (u32)(j0);
     i1 = l27;
     i32_store8(j0, i1);
     j0 = l5;
-    j1 = 14ull;
+    j1 = 23ull;
     j0 += j1;
     i0 = (u32)(j0);
-    i1 = l28;
+    i1 = l24;
     i32_store8(j0, i1);
     j0 = l5;
-    j1 = 13ull;
+    j1 = 22ull;
     j0 += j1;
     i0 = (u32)(j0);
-    i1 = l29;
+    i1 = l25;
     i32_store8(j0, i1);
     j0 = l5;
-    j1 = 12ull;
+    j1 = 21ull;
+    j0 += j1;
+    i0 = (u32)(j0);
+    i1 = l26;
+    i32_store8(j0, i1);
+    j0 = l5;
+    j1 = 20ull;
+    j0 += j1;
+    i0 = (u32)(j0);
+    i1 = l19;
+    i32_store8(j0, i1);
+    j0 = l5;
+    j1 = 19ull;
+    j0 += j1;
+    i0 = (u32)(j0);
+    i1 = l20;
+    i32_store8(j0, i1);
+    j0 = l5;
+    j1 = 18ull;
+    j0 += j1;
+    i0 = (u32)(j0);
+    i1 = l22;
+    i32_store8(j0, i1);
+    j0 = l5;
+    j1 = 17ull;
     j0 += j1;
     i0 = (u32)(j0);
     i1 = l30;
     i32_store8(j0, i1);
     j0 = l5;
-    j1 = 11ull;
-    j0 += j1;
-    i0 = (u32)(j0);
-    i1 = l31;
-    i32_store8(j0, i1);
-    j0 = l5;
-    j1 = 10ull;
-    j0 += j1;
-    i0 = (u32)(j0);
-    i1 = l32;
-    i32_store8(j0, i1);
-    j0 = l5;
-    j1 = 9ull;
+    j1 = 16ull;
     j0 += j1;
     i0 = (u32)(j0);
     i1 = l33;
     i32_store8(j0, i1);
     j0 = l5;
-    j1 = 8ull;
+    j1 = 15ull;
+    j0 += j1;
+    i0 = (u32)(j0);
+    i1 = l28;
+    i32_store8(j0, i1);
+    j0 = l5;
+    j1 = 14ull;
+    j0 += j1;
+    i0 = (u32)(j0);
+    i1 = l29;
+    i32_store8(j0, i1);
+    j0 = l5;
+    j1 = 13ull;
+    j0 += j1;
+    i0 = (u32)(j0);
+    i1 = l31;
+    i32_store8(j0, i1);
+    j0 = l5;
+    j1 = 12ull;
+    j0 += j1;
+    i0 = (u32)(j0);
+    i1 = l32;
+    i32_store8(j0, i1);
+    j0 = l5;
+    j1 = 11ull;
     j0 += j1;
     i0 = (u32)(j0);
     i1 = l34;
     i32_store8(j0, i1);
     j0 = l5;
-    j1 = 7ull;
+    j1 = 10ull;
     j0 += j1;
     i0 = (u32)(j0);
     i1 = l35;
     i32_store8(j0, i1);
     j0 = l5;
-    j1 = 6ull;
+    j1 = 9ull;
     j0 += j1;
     i0 = (u32)(j0);
     i1 = l36;
     i32_store8(j0, i1);
     j0 = l5;
-    j1 = 5ull;
+    j1 = 8ull;
     j0 += j1;
     i0 = (u32)(j0);
     i1 = l37;
     i32_store8(j0, i1);
     j0 = l5;
-    j1 = 4ull;
+    j1 = 7ull;
     j0 += j1;
     i0 = (u32)(j0);
     i1 = l38;
     i32_store8(j0, i1);
     j0 = l5;
-    j1 = 3ull;
+    j1 = 6ull;
     j0 += j1;
     i0 = (u32)(j0);
     i1 = l39;
     i32_store8(j0, i1);
     j0 = l5;
-    j1 = 2ull;
+    j1 = 5ull;
     j0 += j1;
     i0 = (u32)(j0);
     i1 = l40;
     i32_store8(j0, i1);
     j0 = l5;
-    j1 = 1ull;
+    j1 = 4ull;
     j0 += j1;
     i0 = (u32)(j0);
     i1 = l41;
     i32_store8(j0, i1);
-    goto B25;
-    B26:;
+    j0 = l5;
+    j1 = 3ull;
+    j0 += j1;
+    i0 = (u32)(j0);
+    i1 = l42;
+    i32_store8(j0, i1);
+    j0 = l5;
+    j1 = 2ull;
+    j0 += j1;
+    i0 = (u32)(j0);
+    i1 = l43;
+    i32_store8(j0, i1);
+    j0 = l5;
+    j1 = 1ull;
+    j0 += j1;
+    i0 = (u32)(j0);
+    i1 = l44;
+    i32_store8(j0, i1);
+    goto B31;
+    B32:;
     j0 = l5;
     i0 = (u32)(j0);
     j1 = l4;
     i1 = (u32)(j1);
-    i1 = i32_load(j1 + 159u);
+    i1 = i32_load(j1 + 167u);
     i32_store(j0 + 23, i1);
     j0 = l5;
     i0 = (u32)(j0);
     j1 = l4;
     i1 = (u32)(j1);
-    j1 = i64_load(j1 + 152u);
+    j1 = i64_load(j1 + 160u);
     i64_store(j0 + 16, j1);
     j0 = l5;
     i0 = (u32)(j0);
     j1 = l4;
     i1 = (u32)(j1);
-    j1 = i64_load(j1 + 144u);
+    j1 = i64_load(j1 + 152u);
     i64_store(j0 + 8, j1);
     j0 = l5;
     i0 = (u32)(j0);
     j1 = l4;
     i1 = (u32)(j1);
-    j1 = i64_load(j1 + 136u);
+    j1 = i64_load(j1 + 144u);
     i64_store(j0, j1);
-    B25:;
+    B31:;
     j0 = l5;
     j1 = 27ull;
     j0 += j1;
@@ -9244,10 +9984,10 @@ static void f6(module *self, u64 p0, u64 p1, u64 p2, u64 p3) {
     p0 = j0;
     j1 = 0ull;
     i0 = j0 != j1;
-    if (i0) {goto L24;}
+    if (i0) {goto L30;}
   B0:;
   j0 = l4;
-  j1 = 224ull;
+  j1 = 656ull;
   j0 += j1;
   self->g0 = j0;
 }
@@ -10102,234 +10842,8 @@ static void f9(module *self, u64 p0, u64 p1) {
   i32_store16(j0 + 6, i1);
 }
 
-static void f10(module *self, u64 p0, u64 p1, u64 p2, u64 p3, u32 p4) {
-  u32 l11 = 0, l12 = 0, l13 = 0;
-  u64 l5 = 0, l6 = 0, l7 = 0, l8 = 0, l9 = 0, l10 = 0;
-  u8 *m = self->memory;
-  u32 i0, i1, i2, i3, i4;
-  u64 j0, j1, j2, j3, j4;
-  j0 = p3;
-  j1 = 256ull;
-  j0 += j1;
-  l5 = j0;
-  j1 = p2;
-  j2 = 42ull;
-  j1 += j2;
-  l6 = j1;
-  j2 = p1;
-  j3 = 19ull;
-  j2 += j3;
-  i2 = (u32)(j2);
-  i2 = i32_load8_u(j2);
-  i3 = p4;
-  i4 = 255u;
-  i3 &= i4;
-  l11 = i3;
-  i4 = 4u;
-  i3 >>= (i4 & 31);
-  i2 &= i3;
-  j2 = (u64)(i2);
-  j1 += j2;
-  i1 = (u32)(j1);
-  i1 = i32_load8_u(j1);
-  j2 = p3;
-  j3 = 1796ull;
-  j2 += j3;
-  i2 = (u32)(j2);
-  i2 = i32_load8_u(j2);
-  l12 = i2;
-  i1 &= i2;
-  j1 = (u64)(i1);
-  j2 = 255ull;
-  j1 &= j2;
-  p2 = j1;
-  j0 += j1;
-  i0 = (u32)(j0);
-  j0 = i64_load8_u(j0);
-  j1 = 8ull;
-  j0 <<= (j1 & 63);
-  j1 = p3;
-  j2 = p2;
-  j1 += j2;
-  i1 = (u32)(j1);
-  j1 = i64_load8_u(j1);
-  j0 |= j1;
-  l7 = j0;
-  j1 = p3;
-  j2 = 512ull;
-  j1 += j2;
-  l8 = j1;
-  j2 = p2;
-  j1 += j2;
-  i1 = (u32)(j1);
-  j1 = i64_load8_u(j1);
-  l9 = j1;
-  j2 = 16ull;
-  j1 <<= (j2 & 63);
-  j0 |= j1;
-  l10 = j0;
-  j1 = 16777217ull;
-  j0 *= j1;
-  j1 = l7;
-  j2 = 48ull;
-  j1 <<= (j2 & 63);
-  j0 |= j1;
-  p2 = j0;
-  j0 = l10;
-  j1 = 8ull;
-  j0 <<= (j1 & 63);
-  j1 = l9;
-  j0 |= j1;
-  i0 = (u32)(j0);
-  l13 = i0;
-  i0 = l11;
-  j1 = p1;
-  j2 = 12ull;
-  j1 += j2;
-  i1 = (u32)(j1);
-  i1 = i32_load8_u(j1);
-  i0 &= i1;
-  i0 = !(i0);
-  if (i0) {goto B1;}
-  j0 = p2;
-  p3 = j0;
-  i0 = l13;
-  l11 = i0;
-  goto B0;
-  B1:;
-  j0 = l8;
-  j1 = l6;
-  i2 = p4;
-  j2 = (u64)(i2);
-  j3 = 15ull;
-  j2 &= j3;
-  j1 += j2;
-  i1 = (u32)(j1);
-  i1 = i32_load8_u(j1);
-  i2 = l12;
-  i1 &= i2;
-  j1 = (u64)(i1);
-  j2 = 255ull;
-  j1 &= j2;
-  l7 = j1;
-  j0 += j1;
-  i0 = (u32)(j0);
-  j0 = i64_load8_u(j0);
-  l9 = j0;
-  j1 = 16ull;
-  j0 <<= (j1 & 63);
-  j1 = l5;
-  j2 = l7;
-  j1 += j2;
-  i1 = (u32)(j1);
-  j1 = i64_load8_u(j1);
-  j2 = 8ull;
-  j1 <<= (j2 & 63);
-  j2 = p3;
-  j3 = l7;
-  j2 += j3;
-  i2 = (u32)(j2);
-  j2 = i64_load8_u(j2);
-  j1 |= j2;
-  p3 = j1;
-  j0 |= j1;
-  l7 = j0;
-  j1 = 16777217ull;
-  j0 *= j1;
-  j1 = p3;
-  j2 = 48ull;
-  j1 <<= (j2 & 63);
-  j0 |= j1;
-  p3 = j0;
-  j1 = p2;
-  i2 = p4;
-  i3 = 119u;
-  i2 &= i3;
-  j3 = p1;
-  j4 = 13ull;
-  j3 += j4;
-  i3 = (u32)(j3);
-  i3 = i32_load8_u(j3);
-  i2 = i2 == i3;
-  l12 = i2;
-  j0 = i2 ? j0 : j1;
-  p2 = j0;
-  j0 = l7;
-  j1 = 8ull;
-  j0 <<= (j1 & 63);
-  j1 = l9;
-  j0 |= j1;
-  i0 = (u32)(j0);
-  l11 = i0;
-  i1 = l13;
-  i2 = l12;
-  i0 = i2 ? i0 : i1;
-  l13 = i0;
-  B0:;
-  j0 = p1;
-  j1 = 6ull;
-  j2 = 8ull;
-  i3 = p4;
-  i4 = 8u;
-  i3 &= i4;
-  j1 = i3 ? j1 : j2;
-  j0 += j1;
-  j1 = 8ull;
-  j0 += j1;
-  i0 = (u32)(j0);
-  i0 = i32_load16_u(j0);
-  l12 = i0;
-  j0 = p0;
-  i0 = (u32)(j0);
-  i1 = 0u;
-  i32_store(j0 + 1, i1);
-  j0 = p0;
-  i0 = (u32)(j0);
-  i1 = p4;
-  i32_store8(j0, i1);
-  j0 = p0;
-  i0 = (u32)(j0);
-  i1 = 0u;
-  i32_store(j0 + 4, i1);
-  j0 = p0;
-  i0 = (u32)(j0);
-  i1 = 0u;
-  i32_store(j0 + 42, i1);
-  j0 = p0;
-  i0 = (u32)(j0);
-  i1 = l12;
-  i32_store16(j0 + 40, i1);
-  j0 = p0;
-  i0 = (u32)(j0);
-  i1 = 0u;
-  i32_store(j0 + 36, i1);
-  j0 = p0;
-  i0 = (u32)(j0);
-  i1 = l13;
-  i32_store(j0 + 32, i1);
-  j0 = p0;
-  i0 = (u32)(j0);
-  j1 = p2;
-  i64_store(j0 + 24, j1);
-  j0 = p0;
-  i0 = (u32)(j0);
-  i1 = 0u;
-  i32_store(j0 + 20, i1);
-  j0 = p0;
-  i0 = (u32)(j0);
-  i1 = l11;
-  i32_store(j0 + 16, i1);
-  j0 = p0;
-  i0 = (u32)(j0);
-  j1 = p3;
-  i64_store(j0 + 8, j1);
-  j0 = p0;
-  i0 = (u32)(j0);
-  i1 = 0u;
-  i32_store16(j0 + 46, i1);
-}
-
-static void f11(module *self, u64 p0, u64 p1, u32 p2, u64 p3, u64 p4) {
+static void f10(module *self, u64 p0, u64 p1, u32 p2, u64 p3, u64 p4) {
+  u64 l5 = 0;
   u8 *m = self->memory;
   u32 i0, i1, i2, i3, i4;
   u64 j0, j1, j2, j3, j4, j5;
@@ -10339,7 +10853,7 @@ static void f11(module *self, u64 p0, u64 p1, u32 p2, u64 p3, u64 p4) {
   j1 *= j2;
   j0 += j1;
   p4 = j0;
-  j1 = 12ull;
+  j1 = 8ull;
   j0 += j1;
   i0 = (u32)(j0);
   j1 = p1;
@@ -10364,19 +10878,21 @@ static void f11(module *self, u64 p0, u64 p1, u32 p2, u64 p3, u64 p4) {
   j2 &= j3;
   j1 += j2;
   p1 = j1;
-  j2 = 256ull;
-  j1 += j2;
   i1 = (u32)(j1);
   j1 = i64_load8_u(j1);
+  p0 = j1;
   j2 = 8ull;
   j1 <<= (j2 & 63);
   j2 = p1;
+  j3 = 512ull;
+  j2 += j3;
   i2 = (u32)(j2);
   j2 = i64_load8_u(j2);
+  p3 = j2;
   j1 |= j2;
-  p0 = j1;
+  l5 = j1;
   j2 = p1;
-  j3 = 512ull;
+  j3 = 256ull;
   j2 += j3;
   i2 = (u32)(j2);
   j2 = i64_load8_u(j2);
@@ -10384,21 +10900,15 @@ static void f11(module *self, u64 p0, u64 p1, u32 p2, u64 p3, u64 p4) {
   j3 = 16ull;
   j2 <<= (j3 & 63);
   j1 |= j2;
-  p3 = j1;
   j2 = 16777217ull;
   j1 *= j2;
-  j2 = p0;
+  j2 = l5;
   j3 = 48ull;
   j2 <<= (j3 & 63);
   j1 |= j2;
-  p0 = j1;
   i64_store(j0, j1);
   j0 = p4;
-  i0 = (u32)(j0);
-  j1 = p0;
-  i64_store(j0, j1);
-  j0 = p4;
-  j1 = 20ull;
+  j1 = 16ull;
   j0 += j1;
   i0 = (u32)(j0);
   j1 = p1;
@@ -10406,19 +10916,41 @@ static void f11(module *self, u64 p0, u64 p1, u32 p2, u64 p3, u64 p4) {
   j3 = 8ull;
   j2 <<= (j3 & 63);
   j1 |= j2;
-  i1 = (u32)(j1);
-  p2 = i1;
-  i32_store(j0, i1);
+  l5 = j1;
+  j2 = p0;
+  j3 = 16ull;
+  j2 <<= (j3 & 63);
+  j1 |= j2;
+  j2 = 16777217ull;
+  j1 *= j2;
+  j2 = l5;
+  j3 = 48ull;
+  j2 <<= (j3 & 63);
+  j1 |= j2;
+  i64_store(j0, j1);
   j0 = p4;
-  j1 = 8ull;
-  j0 += j1;
   i0 = (u32)(j0);
-  i1 = p2;
-  i32_store(j0, i1);
+  j1 = p0;
+  j2 = p1;
+  j3 = 8ull;
+  j2 <<= (j3 & 63);
+  j1 |= j2;
+  p1 = j1;
+  j2 = p3;
+  j3 = 16ull;
+  j2 <<= (j3 & 63);
+  j1 |= j2;
+  j2 = 16777217ull;
+  j1 *= j2;
+  j2 = p1;
+  j3 = 48ull;
+  j2 <<= (j3 & 63);
+  j1 |= j2;
+  i64_store(j0, j1);
 }
 
-static void f12(module *self, u64 p0, u64 p1, u32 p2, u64 p3, u64 p4) {
-  u64 l5 = 0;
+static void f11(module *self, u64 p0, u64 p1, u32 p2, u64 p3, u64 p4) {
+  u64 l5 = 0, l6 = 0, l7 = 0;
   u8 *m = self->memory;
   u32 i0, i1, i2, i3, i4;
   u64 j0, j1, j2, j3, j4, j5;
@@ -10457,27 +10989,49 @@ static void f12(module *self, u64 p0, u64 p1, u32 p2, u64 p3, u64 p4) {
   j1 += j2;
   i1 = (u32)(j1);
   j1 = i64_load8_u(j1);
+  p0 = j1;
   j2 = 8ull;
   j1 <<= (j2 & 63);
   j2 = p1;
   i2 = (u32)(j2);
   j2 = i64_load8_u(j2);
+  p3 = j2;
   j1 |= j2;
-  p0 = j1;
+  l5 = j1;
   j2 = p1;
   j3 = 512ull;
   j2 += j3;
   i2 = (u32)(j2);
   j2 = i64_load8_u(j2);
-  p3 = j2;
+  l6 = j2;
   j3 = 16ull;
   j2 <<= (j3 & 63);
   j1 |= j2;
-  l5 = j1;
   j2 = 16777217ull;
   j1 *= j2;
   p1 = j1;
   i64_store8(j0, j1);
+  j0 = p4;
+  j1 = 8ull;
+  j0 += j1;
+  i0 = (u32)(j0);
+  j1 = l6;
+  j2 = p3;
+  j3 = 8ull;
+  j2 <<= (j3 & 63);
+  j1 |= j2;
+  l7 = j1;
+  j2 = p0;
+  j3 = 16ull;
+  j2 <<= (j3 & 63);
+  j1 |= j2;
+  j2 = 16777217ull;
+  j1 *= j2;
+  j2 = l7;
+  j3 = 48ull;
+  j2 <<= (j3 & 63);
+  j1 |= j2;
+  i64_store(j0, j1);
   j0 = p4;
   j1 = 26ull;
   j0 += j1;
@@ -10495,41 +11049,37 @@ static void f12(module *self, u64 p0, u64 p1, u32 p2, u64 p3, u64 p4) {
   j1 >>= (j2 & 63);
   i64_store8(j0, j1);
   j0 = p4;
-  j1 = 12ull;
+  j1 = 16ull;
   j0 += j1;
   i0 = (u32)(j0);
-  j1 = p1;
+  j1 = p0;
+  j2 = l6;
+  j3 = 8ull;
+  j2 <<= (j3 & 63);
+  j1 |= j2;
+  p0 = j1;
+  j2 = p3;
+  j3 = 16ull;
+  j2 <<= (j3 & 63);
+  j1 |= j2;
+  j2 = 16777217ull;
+  j1 *= j2;
   j2 = p0;
   j3 = 48ull;
   j2 <<= (j3 & 63);
   j1 |= j2;
-  p1 = j1;
   i64_store(j0, j1);
   j0 = p4;
   i0 = (u32)(j0);
   j1 = p1;
-  i64_store(j0, j1);
-  j0 = p4;
-  j1 = 20ull;
-  j0 += j1;
-  i0 = (u32)(j0);
-  j1 = p3;
   j2 = l5;
-  j3 = 8ull;
+  j3 = 48ull;
   j2 <<= (j3 & 63);
   j1 |= j2;
-  i1 = (u32)(j1);
-  p2 = i1;
-  i32_store(j0, i1);
-  j0 = p4;
-  j1 = 8ull;
-  j0 += j1;
-  i0 = (u32)(j0);
-  i1 = p2;
-  i32_store(j0, i1);
+  i64_store(j0, j1);
 }
 
-static u32 f13(module *self, u64 p0, u64 p1, u64 p2, u64 p3) {
+static u32 f12(module *self, u64 p0, u64 p1, u64 p2, u64 p3) {
   u32 l4 = 0, l5 = 0, l6 = 0;
   u8 *m = self->memory;
   u32 i0, i1, i2, i3, i4;
@@ -10610,7 +11160,7 @@ static u32 f13(module *self, u64 p0, u64 p1, u64 p2, u64 p3) {
   return i0;
 }
 
-static void f14(module *self, u64 p0, u64 p1, u64 p2, u64 p3) {
+static void f13(module *self, u64 p0, u64 p1, u64 p2, u64 p3) {
   u32 l13 = 0;
   u64 l4 = 0, l5 = 0, l6 = 0, l7 = 0, l8 = 0, l9 = 0, l10 = 0, l11 = 0, 
       l12 = 0;
@@ -10636,7 +11186,7 @@ static void f14(module *self, u64 p0, u64 p1, u64 p2, u64 p3) {
   if (i0) {goto B1;}
   j0 = p1;
   j1 = p3;
-  i0 = f15(self, j0, j1); m = self->memory; if (NEVER(self->is_broken)) return;
+  i0 = f14(self, j0, j1); m = self->memory; if (NEVER(self->is_broken)) return;
   if (i0) {goto B2;}
   j0 = 9ull;
   p3 = j0;
@@ -10836,7 +11386,7 @@ static void f14(module *self, u64 p0, u64 p1, u64 p2, u64 p3) {
   i64_store(j0, j1);
 }
 
-static u32 f15(module *self, u64 p0, u64 p1) {
+static u32 f14(module *self, u64 p0, u64 p1) {
   u32 l6 = 0;
   u64 l2 = 0, l3 = 0, l4 = 0, l5 = 0;
   u8 *m = self->memory;
@@ -10905,7 +11455,7 @@ static u32 f15(module *self, u64 p0, u64 p1) {
   j2 = l3;
   j3 = p1;
   j4 = 1ull;
-  f161(self, j0, j1, j2, j3, j4); m = self->memory; if (NEVER(self->is_broken)) return ZAK_BROKEN;
+  f162(self, j0, j1, j2, j3, j4); m = self->memory; if (NEVER(self->is_broken)) return ZAK_BROKEN;
   j0 = l2;
   i0 = (u32)(j0);
   j0 = i64_load(j0 + 16u);
@@ -10923,7 +11473,7 @@ static u32 f15(module *self, u64 p0, u64 p1) {
   j0 = l2;
   j1 = l5;
   j2 = 1ull;
-  f159(self, j0, j1, j2); m = self->memory; if (NEVER(self->is_broken)) return ZAK_BROKEN;
+  f160(self, j0, j1, j2); m = self->memory; if (NEVER(self->is_broken)) return ZAK_BROKEN;
   j0 = l2;
   i0 = (u32)(j0);
   j0 = i64_load(j0);
@@ -10958,7 +11508,7 @@ static u32 f15(module *self, u64 p0, u64 p1) {
   return i0;
 }
 
-static void f16(module *self, u64 p0, u64 p1, u32 p2) {
+static void f15(module *self, u64 p0, u64 p1, u32 p2) {
   u64 l3 = 0, l4 = 0, l5 = 0, l6 = 0, l7 = 0, l8 = 0, l9 = 0;
   u8 *m = self->memory;
   u32 i0, i1, i2, i3;
@@ -10992,7 +11542,7 @@ static void f16(module *self, u64 p0, u64 p1, u32 p2) {
   if (i0) {goto B1;}
   j0 = p1;
   j1 = 2ull;
-  i0 = f15(self, j0, j1); m = self->memory; if (NEVER(self->is_broken)) return;
+  i0 = f14(self, j0, j1); m = self->memory; if (NEVER(self->is_broken)) return;
   if (i0) {goto B2;}
   j0 = 9ull;
   p1 = j0;
@@ -11075,7 +11625,7 @@ static void f16(module *self, u64 p0, u64 p1, u32 p2) {
   self->g0 = j0;
 }
 
-static void f17(module *self, u64 p0, u64 p1, u64 p2, u64 p3) {
+static void f16(module *self, u64 p0, u64 p1, u64 p2, u64 p3) {
   u32 l15 = 0, l16 = 0, l17 = 0, l18 = 0, l19 = 0, l20 = 0, l21 = 0, l22 = 0;
   u64 l4 = 0, l5 = 0, l6 = 0, l7 = 0, l8 = 0, l9 = 0, l10 = 0, l11 = 0, 
       l12 = 0, l13 = 0, l14 = 0;
@@ -11938,7 +12488,7 @@ static void f17(module *self, u64 p0, u64 p1, u64 p2, u64 p3) {
     i1 = 255u;
     i0 &= i1;
     j1 = l8;
-    j2 = 1048784ull;
+    j2 = 1048848ull;
     j1 += j2;
     i1 = (u32)(j1);
     i1 = i32_load8_u(j1);
@@ -11996,7 +12546,7 @@ static void f17(module *self, u64 p0, u64 p1, u64 p2, u64 p3) {
     i1 = 255u;
     i0 &= i1;
     j1 = l8;
-    j2 = 1048791ull;
+    j2 = 1048855ull;
     j1 += j2;
     i1 = (u32)(j1);
     i1 = i32_load8_u(j1);
@@ -12070,7 +12620,7 @@ static void f17(module *self, u64 p0, u64 p1, u64 p2, u64 p3) {
   if (i0) {goto B88;}
   j0 = p1;
   j1 = 1ull;
-  i0 = f15(self, j0, j1); m = self->memory; if (NEVER(self->is_broken)) return;
+  i0 = f14(self, j0, j1); m = self->memory; if (NEVER(self->is_broken)) return;
   i0 = !(i0);
   if (i0) {goto B2;}
   j0 = p1;
@@ -14393,8 +14943,8 @@ static void f17(module *self, u64 p0, u64 p1, u64 p2, u64 p3) {
   j0 += j1;
   j1 = l13;
   j2 = l11;
-  j3 = 1048800ull;
-  f18(self, j0, j1, j2, j3); if (NEVER(self->is_broken)) return;
+  j3 = 1048864ull;
+  f17(self, j0, j1, j2, j3); if (NEVER(self->is_broken)) return;
   j0 = l4;
   i0 = (u32)(j0);
   i0 = i32_load8_u(j0 + 32u);
@@ -14412,8 +14962,8 @@ static void f17(module *self, u64 p0, u64 p1, u64 p2, u64 p3) {
   j2 = l4;
   i2 = (u32)(j2);
   j2 = i64_load(j2 + 56u);
-  j3 = 1048803ull;
-  f18(self, j0, j1, j2, j3); if (NEVER(self->is_broken)) return;
+  j3 = 1048867ull;
+  f17(self, j0, j1, j2, j3); if (NEVER(self->is_broken)) return;
   j0 = l4;
   i0 = (u32)(j0);
   i0 = i32_load8_u(j0 + 32u);
@@ -14431,8 +14981,8 @@ static void f17(module *self, u64 p0, u64 p1, u64 p2, u64 p3) {
   j2 = l4;
   i2 = (u32)(j2);
   j2 = i64_load(j2 + 56u);
-  j3 = 1048806ull;
-  f18(self, j0, j1, j2, j3); if (NEVER(self->is_broken)) return;
+  j3 = 1048870ull;
+  f17(self, j0, j1, j2, j3); if (NEVER(self->is_broken)) return;
   j0 = l4;
   i0 = (u32)(j0);
   i0 = i32_load8_u(j0 + 32u);
@@ -14450,8 +15000,8 @@ static void f17(module *self, u64 p0, u64 p1, u64 p2, u64 p3) {
   j2 = l4;
   i2 = (u32)(j2);
   j2 = i64_load(j2 + 56u);
-  j3 = 1048809ull;
-  f18(self, j0, j1, j2, j3); if (NEVER(self->is_broken)) return;
+  j3 = 1048873ull;
+  f17(self, j0, j1, j2, j3); if (NEVER(self->is_broken)) return;
   j0 = l4;
   i0 = (u32)(j0);
   i0 = i32_load8_u(j0 + 32u);
@@ -14467,7 +15017,7 @@ static void f17(module *self, u64 p0, u64 p1, u64 p2, u64 p3) {
   j2 = l4;
   i2 = (u32)(j2);
   j2 = i64_load(j2 + 56u);
-  f19(self, j0, j1, j2); m = self->memory; if (NEVER(self->is_broken)) return;
+  f18(self, j0, j1, j2); m = self->memory; if (NEVER(self->is_broken)) return;
   j0 = l4;
   i0 = (u32)(j0);
   i0 = i32_load8_u(j0);
@@ -14533,7 +15083,7 @@ static void f17(module *self, u64 p0, u64 p1, u64 p2, u64 p3) {
   if (i0) {goto B227;}
   j0 = p1;
   j1 = 1ull;
-  i0 = f15(self, j0, j1); m = self->memory; if (NEVER(self->is_broken)) return;
+  i0 = f14(self, j0, j1); m = self->memory; if (NEVER(self->is_broken)) return;
   i0 = !(i0);
   if (i0) {goto B226;}
   j0 = p1;
@@ -14581,7 +15131,7 @@ static void f17(module *self, u64 p0, u64 p1, u64 p2, u64 p3) {
   if (i0) {goto B228;}
   j0 = p1;
   j1 = 2ull;
-  i0 = f15(self, j0, j1); m = self->memory; if (NEVER(self->is_broken)) return;
+  i0 = f14(self, j0, j1); m = self->memory; if (NEVER(self->is_broken)) return;
   i0 = !(i0);
   if (i0) {goto B226;}
   j0 = p1;
@@ -14636,7 +15186,7 @@ static void f17(module *self, u64 p0, u64 p1, u64 p2, u64 p3) {
   if (i0) {goto B229;}
   j0 = p1;
   j1 = 2ull;
-  i0 = f15(self, j0, j1); m = self->memory; if (NEVER(self->is_broken)) return;
+  i0 = f14(self, j0, j1); m = self->memory; if (NEVER(self->is_broken)) return;
   i0 = !(i0);
   if (i0) {goto B226;}
   j0 = p1;
@@ -14685,7 +15235,7 @@ static void f17(module *self, u64 p0, u64 p1, u64 p2, u64 p3) {
   if (i0) {goto B230;}
   j0 = p1;
   j1 = 2ull;
-  i0 = f15(self, j0, j1); m = self->memory; if (NEVER(self->is_broken)) return;
+  i0 = f14(self, j0, j1); m = self->memory; if (NEVER(self->is_broken)) return;
   i0 = !(i0);
   if (i0) {goto B226;}
   j0 = p1;
@@ -14740,7 +15290,7 @@ static void f17(module *self, u64 p0, u64 p1, u64 p2, u64 p3) {
   if (i0) {goto B231;}
   j0 = p1;
   j1 = 2ull;
-  i0 = f15(self, j0, j1); m = self->memory; if (NEVER(self->is_broken)) return;
+  i0 = f14(self, j0, j1); m = self->memory; if (NEVER(self->is_broken)) return;
   i0 = !(i0);
   if (i0) {goto B226;}
   j0 = p1;
@@ -14789,7 +15339,7 @@ static void f17(module *self, u64 p0, u64 p1, u64 p2, u64 p3) {
   if (i0) {goto B232;}
   j0 = p1;
   j1 = 2ull;
-  i0 = f15(self, j0, j1); m = self->memory; if (NEVER(self->is_broken)) return;
+  i0 = f14(self, j0, j1); m = self->memory; if (NEVER(self->is_broken)) return;
   i0 = !(i0);
   if (i0) {goto B226;}
   j0 = p1;
@@ -14843,7 +15393,7 @@ static void f17(module *self, u64 p0, u64 p1, u64 p2, u64 p3) {
   if (i0) {goto B233;}
   j0 = p1;
   j1 = p3;
-  i0 = f15(self, j0, j1); m = self->memory; if (NEVER(self->is_broken)) return;
+  i0 = f14(self, j0, j1); m = self->memory; if (NEVER(self->is_broken)) return;
   i0 = !(i0);
   if (i0) {goto B226;}
   j0 = p1;
@@ -15005,7 +15555,7 @@ static void f17(module *self, u64 p0, u64 p1, u64 p2, u64 p3) {
   i0 = !(j0);
   if (i0) {goto B2;}
   j0 = l10;
-  f162(self, j0);
+  f163(self, j0);
   goto B2;
   B225:;
   j0 = p1;
@@ -15028,7 +15578,7 @@ static void f17(module *self, u64 p0, u64 p1, u64 p2, u64 p3) {
   i0 = !(j0);
   if (i0) {goto B1;}
   j0 = l10;
-  f162(self, j0);
+  f163(self, j0);
   goto B1;
   B21:;
   i0 = l15;
@@ -18161,7 +18711,7 @@ static void f17(module *self, u64 p0, u64 p1, u64 p2, u64 p3) {
   if (i0) {goto B426;}
   j0 = p1;
   j1 = 1ull;
-  i0 = f15(self, j0, j1); m = self->memory; if (NEVER(self->is_broken)) return;
+  i0 = f14(self, j0, j1); m = self->memory; if (NEVER(self->is_broken)) return;
   i0 = !(i0);
   if (i0) {goto B2;}
   j0 = p1;
@@ -18215,7 +18765,7 @@ static void f17(module *self, u64 p0, u64 p1, u64 p2, u64 p3) {
   if (i0) {goto B427;}
   j0 = p1;
   j1 = 2ull;
-  i0 = f15(self, j0, j1); m = self->memory; if (NEVER(self->is_broken)) return;
+  i0 = f14(self, j0, j1); m = self->memory; if (NEVER(self->is_broken)) return;
   i0 = !(i0);
   if (i0) {goto B2;}
   j0 = p1;
@@ -18277,7 +18827,7 @@ static void f17(module *self, u64 p0, u64 p1, u64 p2, u64 p3) {
   j3 = 127ull;
   j2 += j3;
   j3 = 1ull;
-  f14(self, j0, j1, j2, j3); m = self->memory; if (NEVER(self->is_broken)) return;
+  f13(self, j0, j1, j2, j3); m = self->memory; if (NEVER(self->is_broken)) return;
   j0 = l4;
   i0 = (u32)(j0);
   i0 = i32_load8_u(j0 + 32u);
@@ -18291,7 +18841,7 @@ static void f17(module *self, u64 p0, u64 p1, u64 p2, u64 p3) {
   if (i0) {goto B428;}
   j0 = p1;
   j1 = 1ull;
-  i0 = f15(self, j0, j1); m = self->memory; if (NEVER(self->is_broken)) return;
+  i0 = f14(self, j0, j1); m = self->memory; if (NEVER(self->is_broken)) return;
   i0 = !(i0);
   if (i0) {goto B2;}
   j0 = p1;
@@ -18345,7 +18895,7 @@ static void f17(module *self, u64 p0, u64 p1, u64 p2, u64 p3) {
   if (i0) {goto B429;}
   j0 = p1;
   j1 = 2ull;
-  i0 = f15(self, j0, j1); m = self->memory; if (NEVER(self->is_broken)) return;
+  i0 = f14(self, j0, j1); m = self->memory; if (NEVER(self->is_broken)) return;
   i0 = !(i0);
   if (i0) {goto B2;}
   j0 = p1;
@@ -18400,7 +18950,7 @@ static void f17(module *self, u64 p0, u64 p1, u64 p2, u64 p3) {
   i4 = 255u;
   i3 &= i4;
   i2 |= i3;
-  f16(self, j0, j1, i2); m = self->memory; if (NEVER(self->is_broken)) return;
+  f15(self, j0, j1, i2); m = self->memory; if (NEVER(self->is_broken)) return;
   j0 = l4;
   i0 = (u32)(j0);
   i0 = i32_load8_u(j0);
@@ -18414,7 +18964,7 @@ static void f17(module *self, u64 p0, u64 p1, u64 p2, u64 p3) {
   if (i0) {goto B430;}
   j0 = p1;
   j1 = 1ull;
-  i0 = f15(self, j0, j1); m = self->memory; if (NEVER(self->is_broken)) return;
+  i0 = f14(self, j0, j1); m = self->memory; if (NEVER(self->is_broken)) return;
   i0 = !(i0);
   if (i0) {goto B2;}
   j0 = p1;
@@ -18468,7 +19018,7 @@ static void f17(module *self, u64 p0, u64 p1, u64 p2, u64 p3) {
   if (i0) {goto B431;}
   j0 = p1;
   j1 = 2ull;
-  i0 = f15(self, j0, j1); m = self->memory; if (NEVER(self->is_broken)) return;
+  i0 = f14(self, j0, j1); m = self->memory; if (NEVER(self->is_broken)) return;
   i0 = !(i0);
   if (i0) {goto B2;}
   j0 = p1;
@@ -18522,7 +19072,7 @@ static void f17(module *self, u64 p0, u64 p1, u64 p2, u64 p3) {
   if (i0) {goto B432;}
   j0 = p1;
   j1 = 1ull;
-  i0 = f15(self, j0, j1); m = self->memory; if (NEVER(self->is_broken)) return;
+  i0 = f14(self, j0, j1); m = self->memory; if (NEVER(self->is_broken)) return;
   i0 = !(i0);
   if (i0) {goto B2;}
   j0 = p1;
@@ -18576,7 +19126,7 @@ static void f17(module *self, u64 p0, u64 p1, u64 p2, u64 p3) {
   if (i0) {goto B433;}
   j0 = p1;
   j1 = 2ull;
-  i0 = f15(self, j0, j1); m = self->memory; if (NEVER(self->is_broken)) return;
+  i0 = f14(self, j0, j1); m = self->memory; if (NEVER(self->is_broken)) return;
   i0 = !(i0);
   if (i0) {goto B2;}
   j0 = p1;
@@ -18630,7 +19180,7 @@ static void f17(module *self, u64 p0, u64 p1, u64 p2, u64 p3) {
   if (i0) {goto B434;}
   j0 = p1;
   j1 = 1ull;
-  i0 = f15(self, j0, j1); m = self->memory; if (NEVER(self->is_broken)) return;
+  i0 = f14(self, j0, j1); m = self->memory; if (NEVER(self->is_broken)) return;
   i0 = !(i0);
   if (i0) {goto B2;}
   j0 = p1;
@@ -18684,7 +19234,7 @@ static void f17(module *self, u64 p0, u64 p1, u64 p2, u64 p3) {
   if (i0) {goto B435;}
   j0 = p1;
   j1 = 4ull;
-  i0 = f15(self, j0, j1); m = self->memory; if (NEVER(self->is_broken)) return;
+  i0 = f14(self, j0, j1); m = self->memory; if (NEVER(self->is_broken)) return;
   i0 = !(i0);
   if (i0) {goto B2;}
   j0 = p1;
@@ -18740,7 +19290,7 @@ static void f17(module *self, u64 p0, u64 p1, u64 p2, u64 p3) {
   j3 = 95ull;
   j2 += j3;
   j3 = 1ull;
-  f14(self, j0, j1, j2, j3); m = self->memory; if (NEVER(self->is_broken)) return;
+  f13(self, j0, j1, j2, j3); m = self->memory; if (NEVER(self->is_broken)) return;
   j0 = l4;
   i0 = (u32)(j0);
   i0 = i32_load8_u(j0 + 96u);
@@ -18754,7 +19304,7 @@ static void f17(module *self, u64 p0, u64 p1, u64 p2, u64 p3) {
   if (i0) {goto B436;}
   j0 = p1;
   j1 = 1ull;
-  i0 = f15(self, j0, j1); m = self->memory; if (NEVER(self->is_broken)) return;
+  i0 = f14(self, j0, j1); m = self->memory; if (NEVER(self->is_broken)) return;
   i0 = !(i0);
   if (i0) {goto B2;}
   j0 = p1;
@@ -18808,7 +19358,7 @@ static void f17(module *self, u64 p0, u64 p1, u64 p2, u64 p3) {
   if (i0) {goto B437;}
   j0 = p1;
   j1 = 4ull;
-  i0 = f15(self, j0, j1); m = self->memory; if (NEVER(self->is_broken)) return;
+  i0 = f14(self, j0, j1); m = self->memory; if (NEVER(self->is_broken)) return;
   i0 = !(i0);
   if (i0) {goto B2;}
   j0 = p1;
@@ -18859,7 +19409,7 @@ static void f17(module *self, u64 p0, u64 p1, u64 p2, u64 p3) {
   i4 = 255u;
   i3 &= i4;
   i2 |= i3;
-  f16(self, j0, j1, i2); m = self->memory; if (NEVER(self->is_broken)) return;
+  f15(self, j0, j1, i2); m = self->memory; if (NEVER(self->is_broken)) return;
   j0 = l4;
   i0 = (u32)(j0);
   i0 = i32_load8_u(j0 + 64u);
@@ -18873,7 +19423,7 @@ static void f17(module *self, u64 p0, u64 p1, u64 p2, u64 p3) {
   if (i0) {goto B438;}
   j0 = p1;
   j1 = 1ull;
-  i0 = f15(self, j0, j1); m = self->memory; if (NEVER(self->is_broken)) return;
+  i0 = f14(self, j0, j1); m = self->memory; if (NEVER(self->is_broken)) return;
   i0 = !(i0);
   if (i0) {goto B2;}
   j0 = p1;
@@ -18927,7 +19477,7 @@ static void f17(module *self, u64 p0, u64 p1, u64 p2, u64 p3) {
   if (i0) {goto B439;}
   j0 = p1;
   j1 = 4ull;
-  i0 = f15(self, j0, j1); m = self->memory; if (NEVER(self->is_broken)) return;
+  i0 = f14(self, j0, j1); m = self->memory; if (NEVER(self->is_broken)) return;
   i0 = !(i0);
   if (i0) {goto B2;}
   j0 = p1;
@@ -18975,7 +19525,7 @@ static void f17(module *self, u64 p0, u64 p1, u64 p2, u64 p3) {
   if (i0) {goto B440;}
   j0 = p1;
   j1 = 1ull;
-  i0 = f15(self, j0, j1); m = self->memory; if (NEVER(self->is_broken)) return;
+  i0 = f14(self, j0, j1); m = self->memory; if (NEVER(self->is_broken)) return;
   i0 = !(i0);
   if (i0) {goto B2;}
   j0 = p1;
@@ -19029,7 +19579,7 @@ static void f17(module *self, u64 p0, u64 p1, u64 p2, u64 p3) {
   if (i0) {goto B441;}
   j0 = p1;
   j1 = 4ull;
-  i0 = f15(self, j0, j1); m = self->memory; if (NEVER(self->is_broken)) return;
+  i0 = f14(self, j0, j1); m = self->memory; if (NEVER(self->is_broken)) return;
   i0 = !(i0);
   if (i0) {goto B2;}
   j0 = p1;
@@ -19077,7 +19627,7 @@ static void f17(module *self, u64 p0, u64 p1, u64 p2, u64 p3) {
   if (i0) {goto B442;}
   j0 = p1;
   j1 = 1ull;
-  i0 = f15(self, j0, j1); m = self->memory; if (NEVER(self->is_broken)) return;
+  i0 = f14(self, j0, j1); m = self->memory; if (NEVER(self->is_broken)) return;
   i0 = !(i0);
   if (i0) {goto B2;}
   j0 = p1;
@@ -19131,7 +19681,7 @@ static void f17(module *self, u64 p0, u64 p1, u64 p2, u64 p3) {
   if (i0) {goto B443;}
   j0 = p1;
   j1 = 4ull;
-  i0 = f15(self, j0, j1); m = self->memory; if (NEVER(self->is_broken)) return;
+  i0 = f14(self, j0, j1); m = self->memory; if (NEVER(self->is_broken)) return;
   i0 = !(i0);
   if (i0) {goto B2;}
   j0 = p1;
@@ -19179,9 +19729,9 @@ static void f17(module *self, u64 p0, u64 p1, u64 p2, u64 p3) {
   l16 = i0;
   j0 = p3;
   j1 = l10;
-  j2 = 1048796ull;
+  j2 = 1048860ull;
   j3 = 4ull;
-  i0 = f13(self, j0, j1, j2, j3);
+  i0 = f12(self, j0, j1, j2, j3);
   i0 = !(i0);
   if (i0) {goto B10;}
   j0 = l4;
@@ -19743,7 +20293,7 @@ static void f17(module *self, u64 p0, u64 p1, u64 p2, u64 p3) {
   j0 += j1;
   j1 = p3;
   j2 = l5;
-  f20(self, j0, j1, j2); if (NEVER(self->is_broken)) return;
+  f19(self, j0, j1, j2); if (NEVER(self->is_broken)) return;
   j0 = l4;
   i0 = (u32)(j0);
   i0 = i32_load8_u(j0 + 32u);
@@ -20059,9 +20609,9 @@ static void f17(module *self, u64 p0, u64 p1, u64 p2, u64 p3) {
   B447:;
   j0 = l9;
   j1 = l6;
-  j2 = 1048823ull;
+  j2 = 1048887ull;
   j3 = 3ull;
-  i0 = f13(self, j0, j1, j2, j3);
+  i0 = f12(self, j0, j1, j2, j3);
   i0 = !(i0);
   if (i0) {goto B475;}
   i0 = 0u;
@@ -20101,9 +20651,9 @@ static void f17(module *self, u64 p0, u64 p1, u64 p2, u64 p3) {
   B475:;
   j0 = l9;
   j1 = l6;
-  j2 = 1048826ull;
+  j2 = 1048890ull;
   j3 = 5ull;
-  i0 = f13(self, j0, j1, j2, j3);
+  i0 = f12(self, j0, j1, j2, j3);
   i0 = !(i0);
   if (i0) {goto B10;}
   i0 = 0u;
@@ -20307,7 +20857,7 @@ static void f17(module *self, u64 p0, u64 p1, u64 p2, u64 p3) {
   if (i0) {goto B485;}
   j0 = p1;
   j1 = 2ull;
-  i0 = f15(self, j0, j1); m = self->memory; if (NEVER(self->is_broken)) return;
+  i0 = f14(self, j0, j1); m = self->memory; if (NEVER(self->is_broken)) return;
   i0 = !(i0);
   if (i0) {goto B2;}
   j0 = p1;
@@ -20334,7 +20884,7 @@ static void f17(module *self, u64 p0, u64 p1, u64 p2, u64 p3) {
   j1 = p3;
   j0 += j1;
   p3 = j0;
-  j1 = 1048831ull;
+  j1 = 1048895ull;
   j0 -= j1;
   j1 = 1ull;
   i0 = j0 > j1;
@@ -20374,7 +20924,7 @@ static void f17(module *self, u64 p0, u64 p1, u64 p2, u64 p3) {
   if (i0) {goto B488;}
   j0 = p1;
   j1 = 3ull;
-  i0 = f15(self, j0, j1); m = self->memory; if (NEVER(self->is_broken)) return;
+  i0 = f14(self, j0, j1); m = self->memory; if (NEVER(self->is_broken)) return;
   i0 = !(i0);
   if (i0) {goto B2;}
   j0 = p1;
@@ -20430,7 +20980,7 @@ static void f17(module *self, u64 p0, u64 p1, u64 p2, u64 p3) {
   if (i0) {goto B489;}
   j0 = p1;
   j1 = 2ull;
-  i0 = f15(self, j0, j1); m = self->memory; if (NEVER(self->is_broken)) return;
+  i0 = f14(self, j0, j1); m = self->memory; if (NEVER(self->is_broken)) return;
   i0 = !(i0);
   if (i0) {goto B2;}
   j0 = p1;
@@ -20457,7 +21007,7 @@ static void f17(module *self, u64 p0, u64 p1, u64 p2, u64 p3) {
   j1 = p3;
   j0 += j1;
   p3 = j0;
-  j1 = 1048833ull;
+  j1 = 1048897ull;
   j0 -= j1;
   j1 = 1ull;
   i0 = j0 > j1;
@@ -20497,7 +21047,7 @@ static void f17(module *self, u64 p0, u64 p1, u64 p2, u64 p3) {
   if (i0) {goto B492;}
   j0 = p1;
   j1 = 2ull;
-  i0 = f15(self, j0, j1); m = self->memory; if (NEVER(self->is_broken)) return;
+  i0 = f14(self, j0, j1); m = self->memory; if (NEVER(self->is_broken)) return;
   i0 = !(i0);
   if (i0) {goto B2;}
   j0 = p1;
@@ -20524,7 +21074,7 @@ static void f17(module *self, u64 p0, u64 p1, u64 p2, u64 p3) {
   j1 = p3;
   j0 += j1;
   p3 = j0;
-  j1 = 1048835ull;
+  j1 = 1048899ull;
   j0 -= j1;
   j1 = 1ull;
   i0 = j0 > j1;
@@ -20564,7 +21114,7 @@ static void f17(module *self, u64 p0, u64 p1, u64 p2, u64 p3) {
   if (i0) {goto B495;}
   j0 = p1;
   j1 = 3ull;
-  i0 = f15(self, j0, j1); m = self->memory; if (NEVER(self->is_broken)) return;
+  i0 = f14(self, j0, j1); m = self->memory; if (NEVER(self->is_broken)) return;
   i0 = !(i0);
   if (i0) {goto B2;}
   j0 = p1;
@@ -20623,7 +21173,7 @@ static void f17(module *self, u64 p0, u64 p1, u64 p2, u64 p3) {
   if (i0) {goto B496;}
   j0 = p1;
   j1 = 2ull;
-  i0 = f15(self, j0, j1); m = self->memory; if (NEVER(self->is_broken)) return;
+  i0 = f14(self, j0, j1); m = self->memory; if (NEVER(self->is_broken)) return;
   i0 = !(i0);
   if (i0) {goto B2;}
   j0 = p1;
@@ -20672,7 +21222,7 @@ static void f17(module *self, u64 p0, u64 p1, u64 p2, u64 p3) {
   if (i0) {goto B497;}
   j0 = p1;
   j1 = 2ull;
-  i0 = f15(self, j0, j1); m = self->memory; if (NEVER(self->is_broken)) return;
+  i0 = f14(self, j0, j1); m = self->memory; if (NEVER(self->is_broken)) return;
   i0 = !(i0);
   if (i0) {goto B2;}
   j0 = p1;
@@ -20724,7 +21274,7 @@ static void f17(module *self, u64 p0, u64 p1, u64 p2, u64 p3) {
   if (i0) {goto B498;}
   j0 = p1;
   j1 = 2ull;
-  i0 = f15(self, j0, j1); m = self->memory; if (NEVER(self->is_broken)) return;
+  i0 = f14(self, j0, j1); m = self->memory; if (NEVER(self->is_broken)) return;
   i0 = !(i0);
   if (i0) {goto B2;}
   j0 = p1;
@@ -20751,7 +21301,7 @@ static void f17(module *self, u64 p0, u64 p1, u64 p2, u64 p3) {
   j1 = p3;
   j0 += j1;
   p3 = j0;
-  j1 = 1048837ull;
+  j1 = 1048901ull;
   j0 -= j1;
   j1 = 1ull;
   i0 = j0 > j1;
@@ -20791,7 +21341,7 @@ static void f17(module *self, u64 p0, u64 p1, u64 p2, u64 p3) {
   if (i0) {goto B501;}
   j0 = p1;
   j1 = 2ull;
-  i0 = f15(self, j0, j1); m = self->memory; if (NEVER(self->is_broken)) return;
+  i0 = f14(self, j0, j1); m = self->memory; if (NEVER(self->is_broken)) return;
   i0 = !(i0);
   if (i0) {goto B2;}
   j0 = p1;
@@ -20818,7 +21368,7 @@ static void f17(module *self, u64 p0, u64 p1, u64 p2, u64 p3) {
   j1 = p3;
   j0 += j1;
   p3 = j0;
-  j1 = 1048839ull;
+  j1 = 1048903ull;
   j0 -= j1;
   j1 = 1ull;
   i0 = j0 > j1;
@@ -20881,7 +21431,7 @@ static void f17(module *self, u64 p0, u64 p1, u64 p2, u64 p3) {
   self->g0 = j0;
 }
 
-static void f18(module *self, u64 p0, u64 p1, u64 p2, u64 p3) {
+static void f17(module *self, u64 p0, u64 p1, u64 p2, u64 p3) {
   u32 l9 = 0;
   u64 l4 = 0, l5 = 0, l6 = 0, l7 = 0, l8 = 0;
   u8 *m = self->memory;
@@ -21284,7 +21834,7 @@ static void f18(module *self, u64 p0, u64 p1, u64 p2, u64 p3) {
   Bfunc:;
 }
 
-static void f19(module *self, u64 p0, u64 p1, u64 p2) {
+static void f18(module *self, u64 p0, u64 p1, u64 p2) {
   u32 l12 = 0, l13 = 0, l14 = 0, l15 = 0, l16 = 0;
   u64 l3 = 0, l4 = 0, l5 = 0, l6 = 0, l7 = 0, l8 = 0, l9 = 0, l10 = 0, 
       l11 = 0;
@@ -21554,7 +22104,7 @@ static void f19(module *self, u64 p0, u64 p1, u64 p2) {
       j1 >>= (j2 & 63);
       l8 = j1;
       j2 = 1ull;
-      f159(self, j0, j1, j2); m = self->memory; if (NEVER(self->is_broken)) return;
+      f160(self, j0, j1, j2); m = self->memory; if (NEVER(self->is_broken)) return;
       i0 = 1u;
       l12 = i0;
       j0 = l3;
@@ -21778,7 +22328,7 @@ static void f19(module *self, u64 p0, u64 p1, u64 p2) {
       if (i0) {goto B11;}
       B19:;
       j0 = l4;
-      f162(self, j0);
+      f163(self, j0);
       goto B11;
       B13:;
       j0 = p2;
@@ -21898,7 +22448,7 @@ static void f19(module *self, u64 p0, u64 p1, u64 p2) {
   self->g0 = j0;
 }
 
-static void f20(module *self, u64 p0, u64 p1, u64 p2) {
+static void f19(module *self, u64 p0, u64 p1, u64 p2) {
   u32 l9 = 0, l10 = 0;
   u64 l3 = 0, l4 = 0, l5 = 0, l6 = 0, l7 = 0, l8 = 0;
   u8 *m = self->memory;
@@ -22627,7 +23177,7 @@ static void f20(module *self, u64 p0, u64 p1, u64 p2) {
   Bfunc:;
 }
 
-static void f21(module *self, u64 p0, u64 p1) {
+static void f20(module *self, u64 p0, u64 p1) {
   u32 l8 = 0, l9 = 0, l10 = 0, l11 = 0, l12 = 0, l13 = 0, l14 = 0, l15 = 0, 
       l16 = 0, l17 = 0, l18 = 0, l19 = 0, l20 = 0, l21 = 0, l22 = 0, l23 = 0;
   u64 l2 = 0, l3 = 0, l4 = 0, l5 = 0, l6 = 0, l7 = 0;
@@ -23465,7 +24015,7 @@ static void f21(module *self, u64 p0, u64 p1) {
   Bfunc:;
 }
 
-static u32 f22(module *self, u64 p0) {
+static u32 f21(module *self, u64 p0) {
   u32 l2 = 0, l3 = 0, l4 = 0;
   u64 l1 = 0;
   u8 *m = self->memory;
@@ -23489,7 +24039,7 @@ static u32 f22(module *self, u64 p0) {
   i2 = (u32)(j2);
   i2 = i32_load16_u(j2);
   l3 = i2;
-  f23(self, j0, i1, i2);
+  f22(self, j0, i1, i2);
   j0 = l1;
   i0 = (u32)(j0);
   i0 = i32_load8_u(j0 + 8u);
@@ -23686,7 +24236,7 @@ static u32 f22(module *self, u64 p0) {
   return i0;
 }
 
-static void f23(module *self, u64 p0, u32 p1, u32 p2) {
+static void f22(module *self, u64 p0, u32 p1, u32 p2) {
   u32 l12 = 0, l13 = 0, l14 = 0, l15 = 0, l16 = 0, l17 = 0, l18 = 0, l19 = 0, 
       l20 = 0, l21 = 0, l22 = 0, l23 = 0, l24 = 0, l25 = 0, l26 = 0, l27 = 0, 
       l28 = 0, l29 = 0, l30 = 0, l31 = 0, l32 = 0, l33 = 0, l34 = 0, l35 = 0, 
@@ -24814,7 +25364,7 @@ static void f23(module *self, u64 p0, u32 p1, u32 p2) {
   Bfunc:;
 }
 
-static void f24(module *self, u64 p0, u64 p1, u64 p2) {
+static void f23(module *self, u64 p0, u64 p1, u64 p2) {
   u32 l12 = 0, l13 = 0, l14 = 0, l15 = 0, l16 = 0, l17 = 0, l18 = 0;
   u64 l3 = 0, l4 = 0, l5 = 0, l6 = 0, l7 = 0, l8 = 0, l9 = 0, l10 = 0, 
       l11 = 0;
@@ -26922,7 +27472,7 @@ static void f24(module *self, u64 p0, u64 p1, u64 p2) {
   self->g0 = j0;
 }
 
-static void f25(module *self, u64 p0) {
+static void f24(module *self, u64 p0) {
   u32 l11 = 0;
   u64 l1 = 0, l2 = 0, l3 = 0, l4 = 0, l5 = 0, l6 = 0, l7 = 0, l8 = 0, 
       l9 = 0, l10 = 0;
@@ -26947,7 +27497,7 @@ static void f25(module *self, u64 p0) {
   j0 += j1;
   j1 = 262144ull;
   j2 = 4ull;
-  f159(self, j0, j1, j2); m = self->memory; if (NEVER(self->is_broken)) return;
+  f160(self, j0, j1, j2); m = self->memory; if (NEVER(self->is_broken)) return;
   j0 = l1;
   i0 = (u32)(j0);
   j0 = i64_load(j0 + 32u);
@@ -26970,7 +27520,7 @@ static void f25(module *self, u64 p0) {
   j0 += j1;
   j1 = 7077888ull;
   j2 = 1ull;
-  f159(self, j0, j1, j2); m = self->memory; if (NEVER(self->is_broken)) return;
+  f160(self, j0, j1, j2); m = self->memory; if (NEVER(self->is_broken)) return;
   j0 = l1;
   i0 = (u32)(j0);
   j0 = i64_load(j0 + 24u);
@@ -26993,7 +27543,7 @@ static void f25(module *self, u64 p0) {
   j0 = l1;
   j1 = 4096ull;
   j2 = 4ull;
-  f159(self, j0, j1, j2); m = self->memory; if (NEVER(self->is_broken)) return;
+  f160(self, j0, j1, j2); m = self->memory; if (NEVER(self->is_broken)) return;
   j0 = l1;
   i0 = (u32)(j0);
   j0 = i64_load(j0);
@@ -27002,7 +27552,7 @@ static void f25(module *self, u64 p0) {
   i0 &= i1;
   if (i0) {goto B3;}
   j0 = l4;
-  f162(self, j0);
+  f163(self, j0);
   j0 = 9ull;
   l3 = j0;
   goto B1;
@@ -27075,7 +27625,7 @@ static void f25(module *self, u64 p0) {
   j1 = l1;
   j2 = 2624ull;
   j1 += j2;
-  f26(self, j0, j1);
+  f25(self, j0, j1);
   j0 = l1;
   j1 = 2368ull;
   j0 += j1;
@@ -27554,7 +28104,7 @@ static void f25(module *self, u64 p0) {
   l3 = j0;
   B1:;
   j0 = l2;
-  f162(self, j0);
+  f163(self, j0);
   j0 = p0;
   j1 = 8ull;
   j0 += j1;
@@ -27580,7 +28130,7 @@ static void f25(module *self, u64 p0) {
   self->g0 = j0;
 }
 
-static void f26(module *self, u64 p0, u64 p1) {
+static void f25(module *self, u64 p0, u64 p1) {
   u32 l3 = 0, l4 = 0, l5 = 0, l6 = 0, l7 = 0, l8 = 0, l9 = 0, l10 = 0, 
       l11 = 0, l12 = 0, l13 = 0, l14 = 0, l15 = 0, l16 = 0, l17 = 0, l18 = 0, 
       l19 = 0, l20 = 0, l21 = 0, l22 = 0, l23 = 0, l24 = 0, l25 = 0, l26 = 0, 
@@ -28213,7 +28763,7 @@ static void f26(module *self, u64 p0, u64 p1) {
   i32_store8(j0, i1);
 }
 
-static void f27(module *self, u64 p0, u64 p1, u64 p2) {
+static void f26(module *self, u64 p0, u64 p1, u64 p2) {
   u32 l12 = 0, l13 = 0, l14 = 0, l15 = 0, l16 = 0, l17 = 0, l18 = 0, l19 = 0;
   u64 l3 = 0, l4 = 0, l5 = 0, l6 = 0, l7 = 0, l8 = 0, l9 = 0, l10 = 0, 
       l11 = 0;
@@ -28926,7 +29476,7 @@ static void f27(module *self, u64 p0, u64 p1, u64 p2) {
   j1 = 1024ull;
   j0 += j1;
   j1 = l7;
-  f26(self, j0, j1);
+  f25(self, j0, j1);
   j0 = p0;
   j1 = 196ull;
   j0 += j1;
@@ -29682,7 +30232,7 @@ static void f27(module *self, u64 p0, u64 p1, u64 p2) {
   j1 <<= (j2 & 63);
   l4 = j1;
   i1 = (u32)(j1);
-  i1 = i32_load(j1 + 1051664u);
+  i1 = i32_load(j1 + 1051784u);
   i32_store(j0, i1);
   j0 = p0;
   j1 = 60ull;
@@ -29690,7 +30240,7 @@ static void f27(module *self, u64 p0, u64 p1, u64 p2) {
   i0 = (u32)(j0);
   j1 = l4;
   i1 = (u32)(j1);
-  i1 = i32_load(j1 + 1051648u);
+  i1 = i32_load(j1 + 1051768u);
   i32_store(j0, i1);
   j0 = p0;
   j1 = 72ull;
@@ -30157,7 +30707,7 @@ static void f27(module *self, u64 p0, u64 p1, u64 p2) {
   self->g0 = j0;
 }
 
-static void f28(module *self, u64 p0, u64 p1, u64 p2, u64 p3, u64 p4, u64 p5, u64 p6) {
+static void f27(module *self, u64 p0, u64 p1, u64 p2, u64 p3, u64 p4, u64 p5, u64 p6) {
   u32 l18 = 0, l19 = 0, l20 = 0, l21 = 0, l22 = 0, l23 = 0, l24 = 0, l25 = 0, 
       l26 = 0, l27 = 0, l28 = 0, l29 = 0, l30 = 0, l31 = 0, l32 = 0, l33 = 0, 
       l34 = 0, l35 = 0, l36 = 0, l37 = 0, l38 = 0, l39 = 0, l40 = 0, l41 = 0, 
@@ -30179,7 +30729,7 @@ static void f28(module *self, u64 p0, u64 p1, u64 p2, u64 p3, u64 p4, u64 p5, u6
   j1 = 168ull;
   j0 += j1;
   j1 = p4;
-  f21(self, j0, j1);
+  f20(self, j0, j1);
   j0 = l7;
   i0 = (u32)(j0);
   i0 = i32_load8_u(j0 + 168u);
@@ -30810,7 +31360,7 @@ static void f28(module *self, u64 p0, u64 p1, u64 p2, u64 p3, u64 p4, u64 p5, u6
   j1 = 2072ull;
   j0 += j1;
   j1 = 3ull;
-  i0 = f15(self, j0, j1); m = self->memory; if (NEVER(self->is_broken)) return;
+  i0 = f14(self, j0, j1); m = self->memory; if (NEVER(self->is_broken)) return;
   i0 = !(i0);
   if (i0) {goto B24;}
   j0 = p1;
@@ -30871,7 +31421,7 @@ static void f28(module *self, u64 p0, u64 p1, u64 p2, u64 p3, u64 p4, u64 p5, u6
   j0 += j1;
   j1 = p1;
   i2 = l27;
-  f29(self, j0, j1, i2); if (NEVER(self->is_broken)) return;
+  f28(self, j0, j1, i2); if (NEVER(self->is_broken)) return;
   i0 = 1u;
   l18 = i0;
   i0 = 0u;
@@ -30879,87 +31429,87 @@ static void f28(module *self, u64 p0, u64 p1, u64 p2, u64 p3, u64 p4, u64 p5, u6
   j0 = p1;
   i1 = l58;
   i2 = 0u;
-  i0 = f30(self, j0, i1, i2); m = self->memory; if (NEVER(self->is_broken)) return;
+  i0 = f29(self, j0, i1, i2); m = self->memory; if (NEVER(self->is_broken)) return;
   l21 = i0;
   j0 = p1;
   i1 = l58;
   i2 = 1u;
-  i0 = f30(self, j0, i1, i2); m = self->memory; if (NEVER(self->is_broken)) return;
+  i0 = f29(self, j0, i1, i2); m = self->memory; if (NEVER(self->is_broken)) return;
   l24 = i0;
   j0 = p1;
   i1 = l58;
   i2 = 2u;
-  i0 = f30(self, j0, i1, i2); m = self->memory; if (NEVER(self->is_broken)) return;
+  i0 = f29(self, j0, i1, i2); m = self->memory; if (NEVER(self->is_broken)) return;
   l73 = i0;
   j0 = p1;
   i1 = l58;
   i2 = 3u;
-  i0 = f30(self, j0, i1, i2); m = self->memory; if (NEVER(self->is_broken)) return;
+  i0 = f29(self, j0, i1, i2); m = self->memory; if (NEVER(self->is_broken)) return;
   l28 = i0;
   j0 = p1;
   i1 = l58;
   i2 = 4u;
-  i0 = f30(self, j0, i1, i2); m = self->memory; if (NEVER(self->is_broken)) return;
+  i0 = f29(self, j0, i1, i2); m = self->memory; if (NEVER(self->is_broken)) return;
   l29 = i0;
   j0 = p1;
   i1 = l58;
   i2 = 5u;
-  i0 = f30(self, j0, i1, i2); m = self->memory; if (NEVER(self->is_broken)) return;
+  i0 = f29(self, j0, i1, i2); m = self->memory; if (NEVER(self->is_broken)) return;
   l22 = i0;
   j0 = p1;
   i1 = l58;
   i2 = 6u;
-  i0 = f30(self, j0, i1, i2); m = self->memory; if (NEVER(self->is_broken)) return;
+  i0 = f29(self, j0, i1, i2); m = self->memory; if (NEVER(self->is_broken)) return;
   l60 = i0;
   j0 = p1;
   i1 = l58;
   i2 = 7u;
-  i0 = f30(self, j0, i1, i2); m = self->memory; if (NEVER(self->is_broken)) return;
+  i0 = f29(self, j0, i1, i2); m = self->memory; if (NEVER(self->is_broken)) return;
   l27 = i0;
   j0 = p1;
   i1 = l58;
   i2 = 8u;
-  i0 = f30(self, j0, i1, i2); m = self->memory; if (NEVER(self->is_broken)) return;
+  i0 = f29(self, j0, i1, i2); m = self->memory; if (NEVER(self->is_broken)) return;
   l40 = i0;
   j0 = p1;
   i1 = l58;
   i2 = 9u;
-  i0 = f30(self, j0, i1, i2); m = self->memory; if (NEVER(self->is_broken)) return;
+  i0 = f29(self, j0, i1, i2); m = self->memory; if (NEVER(self->is_broken)) return;
   l68 = i0;
   j0 = p1;
   i1 = l58;
   i2 = 10u;
-  i0 = f30(self, j0, i1, i2); m = self->memory; if (NEVER(self->is_broken)) return;
+  i0 = f29(self, j0, i1, i2); m = self->memory; if (NEVER(self->is_broken)) return;
   l69 = i0;
   j0 = p1;
   i1 = l58;
   i2 = 11u;
-  i0 = f30(self, j0, i1, i2); m = self->memory; if (NEVER(self->is_broken)) return;
+  i0 = f29(self, j0, i1, i2); m = self->memory; if (NEVER(self->is_broken)) return;
   l19 = i0;
   j0 = p1;
   i1 = l58;
   i2 = 12u;
-  i0 = f30(self, j0, i1, i2); m = self->memory; if (NEVER(self->is_broken)) return;
+  i0 = f29(self, j0, i1, i2); m = self->memory; if (NEVER(self->is_broken)) return;
   l23 = i0;
   j0 = p1;
   i1 = l58;
   i2 = 13u;
-  i0 = f30(self, j0, i1, i2); m = self->memory; if (NEVER(self->is_broken)) return;
+  i0 = f29(self, j0, i1, i2); m = self->memory; if (NEVER(self->is_broken)) return;
   l26 = i0;
   j0 = p1;
   i1 = l58;
   i2 = 14u;
-  i0 = f30(self, j0, i1, i2); m = self->memory; if (NEVER(self->is_broken)) return;
+  i0 = f29(self, j0, i1, i2); m = self->memory; if (NEVER(self->is_broken)) return;
   l31 = i0;
   j0 = p1;
   i1 = l58;
   i2 = 15u;
-  i0 = f30(self, j0, i1, i2); m = self->memory; if (NEVER(self->is_broken)) return;
+  i0 = f29(self, j0, i1, i2); m = self->memory; if (NEVER(self->is_broken)) return;
   l57 = i0;
   j0 = p1;
   i1 = l58;
   i2 = 17u;
-  i0 = f30(self, j0, i1, i2); m = self->memory; if (NEVER(self->is_broken)) return;
+  i0 = f29(self, j0, i1, i2); m = self->memory; if (NEVER(self->is_broken)) return;
   j0 = (u64)(i0);
   j1 = 255ull;
   j0 &= j1;
@@ -31077,7 +31627,7 @@ static void f28(module *self, u64 p0, u64 p1, u64 p2, u64 p3, u64 p4, u64 p5, u6
   j1 *= j2;
   p5 = j1;
   j2 = 1ull;
-  f159(self, j0, j1, j2); m = self->memory; if (NEVER(self->is_broken)) return;
+  f160(self, j0, j1, j2); m = self->memory; if (NEVER(self->is_broken)) return;
   i0 = 1u;
   l59 = i0;
   j0 = 0ull;
@@ -31118,7 +31668,7 @@ static void f28(module *self, u64 p0, u64 p1, u64 p2, u64 p3, u64 p4, u64 p5, u6
   j0 += j1;
   j1 = 24ull;
   j2 = 8ull;
-  f159(self, j0, j1, j2); m = self->memory; if (NEVER(self->is_broken)) return;
+  f160(self, j0, j1, j2); m = self->memory; if (NEVER(self->is_broken)) return;
   i0 = 1u;
   l59 = i0;
   j0 = l7;
@@ -31129,7 +31679,7 @@ static void f28(module *self, u64 p0, u64 p1, u64 p2, u64 p3, u64 p4, u64 p5, u6
   i0 &= i1;
   if (i0) {goto B29;}
   j0 = l9;
-  f162(self, j0);
+  f163(self, j0);
   goto B11;
   B29:;
   j0 = l7;
@@ -31197,7 +31747,7 @@ static void f28(module *self, u64 p0, u64 p1, u64 p2, u64 p3, u64 p4, u64 p5, u6
   j1 = 2072ull;
   j0 += j1;
   j1 = 4ull;
-  i0 = f15(self, j0, j1); m = self->memory; if (NEVER(self->is_broken)) return;
+  i0 = f14(self, j0, j1); m = self->memory; if (NEVER(self->is_broken)) return;
   i0 = !(i0);
   if (i0) {goto B30;}
   j0 = p1;
@@ -31333,7 +31883,7 @@ static void f28(module *self, u64 p0, u64 p1, u64 p2, u64 p3, u64 p4, u64 p5, u6
     j1 = 2072ull;
     j0 += j1;
     j1 = 3ull;
-    i0 = f15(self, j0, j1); m = self->memory; if (NEVER(self->is_broken)) return;
+    i0 = f14(self, j0, j1); m = self->memory; if (NEVER(self->is_broken)) return;
     i0 = !(i0);
     if (i0) {goto B34;}
     j0 = p1;
@@ -31567,7 +32117,7 @@ static void f28(module *self, u64 p0, u64 p1, u64 p2, u64 p3, u64 p4, u64 p5, u6
   i2 = (u32)(j2);
   i3 = 255u;
   i2 &= i3;
-  f23(self, j0, i1, i2);
+  f22(self, j0, i1, i2);
   i0 = 1u;
   l21 = i0;
   j0 = l7;
@@ -31621,86 +32171,86 @@ static void f28(module *self, u64 p0, u64 p1, u64 p2, u64 p3, u64 p4, u64 p5, u6
   j4 = l7;
   i4 = (u32)(j4);
   i4 = i32_load8_u(j4 + 200u);
-  f31(self, j0, j1, j2, j3, i4); m = self->memory; if (NEVER(self->is_broken)) return;
+  f30(self, j0, j1, j2, j3, i4); m = self->memory; if (NEVER(self->is_broken)) return;
   j0 = p1;
   i1 = l58;
   i2 = 9u;
-  f32(self, j0, i1, i2); m = self->memory; if (NEVER(self->is_broken)) return;
+  f31(self, j0, i1, i2); m = self->memory; if (NEVER(self->is_broken)) return;
   j0 = p1;
   i1 = l58;
   i2 = 1u;
   i1 += i2;
   l59 = i1;
   i2 = l22;
-  f32(self, j0, i1, i2); m = self->memory; if (NEVER(self->is_broken)) return;
+  f31(self, j0, i1, i2); m = self->memory; if (NEVER(self->is_broken)) return;
   j0 = p1;
   i1 = l58;
   i2 = 10u;
-  f32(self, j0, i1, i2); m = self->memory; if (NEVER(self->is_broken)) return;
+  f31(self, j0, i1, i2); m = self->memory; if (NEVER(self->is_broken)) return;
   j0 = p1;
   i1 = l59;
   i2 = l18;
   i3 = 8u;
   i2 >>= (i3 & 31);
-  f32(self, j0, i1, i2); m = self->memory; if (NEVER(self->is_broken)) return;
+  f31(self, j0, i1, i2); m = self->memory; if (NEVER(self->is_broken)) return;
   j0 = p1;
   i1 = l58;
   i2 = 11u;
-  f32(self, j0, i1, i2); m = self->memory; if (NEVER(self->is_broken)) return;
+  f31(self, j0, i1, i2); m = self->memory; if (NEVER(self->is_broken)) return;
   j0 = p1;
   i1 = l59;
   i2 = l18;
-  f32(self, j0, i1, i2); m = self->memory; if (NEVER(self->is_broken)) return;
+  f31(self, j0, i1, i2); m = self->memory; if (NEVER(self->is_broken)) return;
   j0 = p1;
   i1 = l58;
   i2 = 18u;
-  f32(self, j0, i1, i2); m = self->memory; if (NEVER(self->is_broken)) return;
+  f31(self, j0, i1, i2); m = self->memory; if (NEVER(self->is_broken)) return;
   j0 = p1;
   i1 = l59;
   i2 = l29;
-  f32(self, j0, i1, i2); m = self->memory; if (NEVER(self->is_broken)) return;
+  f31(self, j0, i1, i2); m = self->memory; if (NEVER(self->is_broken)) return;
   j0 = p1;
   i1 = l58;
   i2 = 20u;
-  f32(self, j0, i1, i2); m = self->memory; if (NEVER(self->is_broken)) return;
+  f31(self, j0, i1, i2); m = self->memory; if (NEVER(self->is_broken)) return;
   j0 = p1;
   i1 = l59;
   i2 = l21;
-  f32(self, j0, i1, i2); m = self->memory; if (NEVER(self->is_broken)) return;
+  f31(self, j0, i1, i2); m = self->memory; if (NEVER(self->is_broken)) return;
   j0 = p1;
   i1 = l58;
   i2 = 12u;
-  f32(self, j0, i1, i2); m = self->memory; if (NEVER(self->is_broken)) return;
+  f31(self, j0, i1, i2); m = self->memory; if (NEVER(self->is_broken)) return;
   i0 = 0u;
   l21 = i0;
   j0 = p1;
   i1 = l59;
   i2 = 0u;
-  f32(self, j0, i1, i2); m = self->memory; if (NEVER(self->is_broken)) return;
+  f31(self, j0, i1, i2); m = self->memory; if (NEVER(self->is_broken)) return;
   j0 = p1;
   i1 = l58;
   i2 = 13u;
-  f32(self, j0, i1, i2); m = self->memory; if (NEVER(self->is_broken)) return;
+  f31(self, j0, i1, i2); m = self->memory; if (NEVER(self->is_broken)) return;
   j0 = p1;
   i1 = l59;
   i2 = 0u;
-  f32(self, j0, i1, i2); m = self->memory; if (NEVER(self->is_broken)) return;
+  f31(self, j0, i1, i2); m = self->memory; if (NEVER(self->is_broken)) return;
   j0 = p1;
   i1 = l58;
   i2 = 14u;
-  f32(self, j0, i1, i2); m = self->memory; if (NEVER(self->is_broken)) return;
+  f31(self, j0, i1, i2); m = self->memory; if (NEVER(self->is_broken)) return;
   j0 = p1;
   i1 = l59;
   i2 = 0u;
-  f32(self, j0, i1, i2); m = self->memory; if (NEVER(self->is_broken)) return;
+  f31(self, j0, i1, i2); m = self->memory; if (NEVER(self->is_broken)) return;
   j0 = p1;
   i1 = l58;
   i2 = 15u;
-  f32(self, j0, i1, i2); m = self->memory; if (NEVER(self->is_broken)) return;
+  f31(self, j0, i1, i2); m = self->memory; if (NEVER(self->is_broken)) return;
   j0 = p1;
   i1 = l59;
   i2 = 0u;
-  f32(self, j0, i1, i2); m = self->memory; if (NEVER(self->is_broken)) return;
+  f31(self, j0, i1, i2); m = self->memory; if (NEVER(self->is_broken)) return;
   j0 = p2;
   i0 = (u32)(j0);
   j1 = 0ull;
@@ -31812,7 +32362,7 @@ static void f28(module *self, u64 p0, u64 p1, u64 p2, u64 p3, u64 p4, u64 p5, u6
   j2 = 288ull;
   j1 += j2;
   j2 = p2;
-  f33(self, j0, j1, j2);
+  f32(self, j0, j1, j2);
   j0 = l7;
   j1 = 160ull;
   j0 += j1;
@@ -31821,7 +32371,7 @@ static void f28(module *self, u64 p0, u64 p1, u64 p2, u64 p3, u64 p4, u64 p5, u6
   j1 += j2;
   j2 = p2;
   j3 = p6;
-  f34(self, j0, j1, j2, j3);
+  f33(self, j0, j1, j2, j3);
   j0 = l7;
   i0 = (u32)(j0);
   i0 = i32_load8_u(j0 + 160u);
@@ -31929,7 +32479,7 @@ static void f28(module *self, u64 p0, u64 p1, u64 p2, u64 p3, u64 p4, u64 p5, u6
   i1 = i32_load16_u(j1);
   l58 = i1;
   i2 = 10u;
-  f32(self, j0, i1, i2); m = self->memory; if (NEVER(self->is_broken)) return;
+  f31(self, j0, i1, i2); m = self->memory; if (NEVER(self->is_broken)) return;
   j0 = p1;
   i1 = l58;
   i2 = 1u;
@@ -31938,15 +32488,15 @@ static void f28(module *self, u64 p0, u64 p1, u64 p2, u64 p3, u64 p4, u64 p5, u6
   i2 = l73;
   i3 = 8u;
   i2 >>= (i3 & 31);
-  f32(self, j0, i1, i2); m = self->memory; if (NEVER(self->is_broken)) return;
+  f31(self, j0, i1, i2); m = self->memory; if (NEVER(self->is_broken)) return;
   j0 = p1;
   i1 = l58;
   i2 = 11u;
-  f32(self, j0, i1, i2); m = self->memory; if (NEVER(self->is_broken)) return;
+  f31(self, j0, i1, i2); m = self->memory; if (NEVER(self->is_broken)) return;
   j0 = p1;
   i1 = l27;
   i2 = l73;
-  f32(self, j0, i1, i2); m = self->memory; if (NEVER(self->is_broken)) return;
+  f31(self, j0, i1, i2); m = self->memory; if (NEVER(self->is_broken)) return;
   j0 = p2;
   j1 = 24ull;
   j0 += j1;
@@ -31968,7 +32518,7 @@ static void f28(module *self, u64 p0, u64 p1, u64 p2, u64 p3, u64 p4, u64 p5, u6
   j0 = p1;
   j1 = p2;
   i2 = l18;
-  f35(self, j0, j1, i2); m = self->memory; if (NEVER(self->is_broken)) return;
+  f34(self, j0, j1, i2); m = self->memory; if (NEVER(self->is_broken)) return;
   goto B47;
   B67:;
   j0 = p2;
@@ -32003,7 +32553,7 @@ static void f28(module *self, u64 p0, u64 p1, u64 p2, u64 p3, u64 p4, u64 p5, u6
   i1 = i32_load16_u(j1);
   l58 = i1;
   i2 = 12u;
-  f32(self, j0, i1, i2); m = self->memory; if (NEVER(self->is_broken)) return;
+  f31(self, j0, i1, i2); m = self->memory; if (NEVER(self->is_broken)) return;
   j0 = p1;
   i1 = l58;
   i2 = 1u;
@@ -32023,15 +32573,15 @@ static void f28(module *self, u64 p0, u64 p1, u64 p2, u64 p3, u64 p4, u64 p5, u6
   l27 = i2;
   i3 = 8u;
   i2 >>= (i3 & 31);
-  f32(self, j0, i1, i2); m = self->memory; if (NEVER(self->is_broken)) return;
+  f31(self, j0, i1, i2); m = self->memory; if (NEVER(self->is_broken)) return;
   j0 = p1;
   i1 = l58;
   i2 = 13u;
-  f32(self, j0, i1, i2); m = self->memory; if (NEVER(self->is_broken)) return;
+  f31(self, j0, i1, i2); m = self->memory; if (NEVER(self->is_broken)) return;
   j0 = p1;
   i1 = l24;
   i2 = l27;
-  f32(self, j0, i1, i2); m = self->memory; if (NEVER(self->is_broken)) return;
+  f31(self, j0, i1, i2); m = self->memory; if (NEVER(self->is_broken)) return;
   j0 = p2;
   j1 = 6ull;
   j0 += j1;
@@ -32047,7 +32597,7 @@ static void f28(module *self, u64 p0, u64 p1, u64 p2, u64 p3, u64 p4, u64 p5, u6
   j0 = p1;
   j1 = p2;
   i2 = l18;
-  f35(self, j0, j1, i2); m = self->memory; if (NEVER(self->is_broken)) return;
+  f34(self, j0, j1, i2); m = self->memory; if (NEVER(self->is_broken)) return;
   goto B47;
   B65:;
   j0 = l7;
@@ -32154,7 +32704,7 @@ static void f28(module *self, u64 p0, u64 p1, u64 p2, u64 p3, u64 p4, u64 p5, u6
   j4 = l7;
   j5 = 304ull;
   j4 += j5;
-  f36(self, j0, j1, j2, i3, j4); m = self->memory; if (NEVER(self->is_broken)) return;
+  f35(self, j0, j1, j2, i3, j4); m = self->memory; if (NEVER(self->is_broken)) return;
   goto B47;
   B64:;
   j0 = l7;
@@ -32265,7 +32815,7 @@ static void f28(module *self, u64 p0, u64 p1, u64 p2, u64 p3, u64 p4, u64 p5, u6
   j4 = l7;
   j5 = 304ull;
   j4 += j5;
-  f36(self, j0, j1, j2, i3, j4); m = self->memory; if (NEVER(self->is_broken)) return;
+  f35(self, j0, j1, j2, i3, j4); m = self->memory; if (NEVER(self->is_broken)) return;
   goto B47;
   B63:;
   j0 = p2;
@@ -32369,7 +32919,7 @@ static void f28(module *self, u64 p0, u64 p1, u64 p2, u64 p3, u64 p4, u64 p5, u6
   j1 = 2072ull;
   j0 += j1;
   j1 = 5ull;
-  i0 = f15(self, j0, j1); m = self->memory; if (NEVER(self->is_broken)) return;
+  i0 = f14(self, j0, j1); m = self->memory; if (NEVER(self->is_broken)) return;
   i0 = !(i0);
   if (i0) {goto B71;}
   j0 = p1;
@@ -32422,7 +32972,7 @@ static void f28(module *self, u64 p0, u64 p1, u64 p2, u64 p3, u64 p4, u64 p5, u6
   j0 += j1;
   j1 = p1;
   i2 = l58;
-  f37(self, j0, j1, i2);
+  f36(self, j0, j1, i2);
   i0 = l58;
   i1 = 1u;
   i0 += i1;
@@ -32481,7 +33031,7 @@ static void f28(module *self, u64 p0, u64 p1, u64 p2, u64 p3, u64 p4, u64 p5, u6
   j1 = 2072ull;
   j0 += j1;
   j1 = 5ull;
-  i0 = f15(self, j0, j1); m = self->memory; if (NEVER(self->is_broken)) return;
+  i0 = f14(self, j0, j1); m = self->memory; if (NEVER(self->is_broken)) return;
   i0 = !(i0);
   if (i0) {goto B73;}
   j0 = p1;
@@ -32534,7 +33084,7 @@ static void f28(module *self, u64 p0, u64 p1, u64 p2, u64 p3, u64 p4, u64 p5, u6
   j0 += j1;
   j1 = p1;
   i2 = l58;
-  f37(self, j0, j1, i2);
+  f36(self, j0, j1, i2);
   i0 = 4294967295u;
   j1 = l7;
   i1 = (u32)(j1);
@@ -32650,7 +33200,7 @@ static void f28(module *self, u64 p0, u64 p1, u64 p2, u64 p3, u64 p4, u64 p5, u6
   j0 = p1;
   i1 = 5u;
   i2 = 8u;
-  f38(self, j0, i1, i2); m = self->memory; if (NEVER(self->is_broken)) return;
+  f37(self, j0, i1, i2); m = self->memory; if (NEVER(self->is_broken)) return;
   B79:;
   i0 = l23;
   i0 = !(i0);
@@ -32774,7 +33324,7 @@ static void f28(module *self, u64 p0, u64 p1, u64 p2, u64 p3, u64 p4, u64 p5, u6
     j1 = 2072ull;
     j0 += j1;
     j1 = 5ull;
-    i0 = f15(self, j0, j1); m = self->memory; if (NEVER(self->is_broken)) return;
+    i0 = f14(self, j0, j1); m = self->memory; if (NEVER(self->is_broken)) return;
     i0 = !(i0);
     if (i0) {goto B86;}
     j0 = p1;
@@ -32827,7 +33377,7 @@ static void f28(module *self, u64 p0, u64 p1, u64 p2, u64 p3, u64 p4, u64 p5, u6
     j0 += j1;
     j1 = p1;
     i2 = l58;
-    f37(self, j0, j1, i2);
+    f36(self, j0, j1, i2);
     j0 = p6;
     i0 = (u32)(j0);
     i1 = 0u;
@@ -32929,7 +33479,7 @@ static void f28(module *self, u64 p0, u64 p1, u64 p2, u64 p3, u64 p4, u64 p5, u6
       j1 = 2072ull;
       j0 += j1;
       j1 = 5ull;
-      i0 = f15(self, j0, j1); m = self->memory; if (NEVER(self->is_broken)) return;
+      i0 = f14(self, j0, j1); m = self->memory; if (NEVER(self->is_broken)) return;
       i0 = !(i0);
       if (i0) {goto B90;}
       j0 = p1;
@@ -33061,7 +33611,7 @@ static void f28(module *self, u64 p0, u64 p1, u64 p2, u64 p3, u64 p4, u64 p5, u6
       j0 = (u64)(i0);
       j1 = 60ull;
       j0 &= j1;
-      j1 = 1048844ull;
+      j1 = 1048908ull;
       j0 += j1;
       i0 = (u32)(j0);
       i0 = i32_load(j0);
@@ -33077,7 +33627,7 @@ static void f28(module *self, u64 p0, u64 p1, u64 p2, u64 p3, u64 p4, u64 p5, u6
       j1 = (u64)(i1);
       j2 = 60ull;
       j1 &= j2;
-      j2 = 1048844ull;
+      j2 = 1048908ull;
       j1 += j2;
       i1 = (u32)(j1);
       i1 = i32_load(j1);
@@ -33188,7 +33738,7 @@ static void f28(module *self, u64 p0, u64 p1, u64 p2, u64 p3, u64 p4, u64 p5, u6
   j0 = p1;
   i1 = 5u;
   i2 = 0u;
-  f38(self, j0, i1, i2); m = self->memory; if (NEVER(self->is_broken)) return;
+  f37(self, j0, i1, i2); m = self->memory; if (NEVER(self->is_broken)) return;
   B80:;
   i0 = l40;
   i1 = 4294967040u;
@@ -33198,7 +33748,7 @@ static void f28(module *self, u64 p0, u64 p1, u64 p2, u64 p3, u64 p4, u64 p5, u6
   j3 = l7;
   j4 = 184ull;
   j3 += j4;
-  i1 = f39(self, j1, i2, j3); if (NEVER(self->is_broken)) return;
+  i1 = f38(self, j1, i2, j3); if (NEVER(self->is_broken)) return;
   i2 = 255u;
   i1 &= i2;
   i0 |= i1;
@@ -33278,7 +33828,7 @@ static void f28(module *self, u64 p0, u64 p1, u64 p2, u64 p3, u64 p4, u64 p5, u6
     i3 = l24;
     i4 = l58;
     i5 = l18;
-    f40(self, j0, j1, i2, i3, i4, i5); m = self->memory; if (NEVER(self->is_broken)) return;
+    f39(self, j0, j1, i2, i3, i4, i5); m = self->memory; if (NEVER(self->is_broken)) return;
     i0 = l27;
     i1 = 1u;
     i0 += i1;
@@ -33351,7 +33901,7 @@ static void f28(module *self, u64 p0, u64 p1, u64 p2, u64 p3, u64 p4, u64 p5, u6
   j0 = p1;
   i1 = l58;
   i2 = l28;
-  f41(self, j0, i1, i2); m = self->memory; if (NEVER(self->is_broken)) return;
+  f40(self, j0, i1, i2); m = self->memory; if (NEVER(self->is_broken)) return;
   goto B47;
   B101:;
   j0 = p1;
@@ -33361,7 +33911,7 @@ static void f28(module *self, u64 p0, u64 p1, u64 p2, u64 p3, u64 p4, u64 p5, u6
   i4 = 7u;
   i3 &= i4;
   i2 >>= (i3 & 31);
-  f38(self, j0, i1, i2); m = self->memory; if (NEVER(self->is_broken)) return;
+  f37(self, j0, i1, i2); m = self->memory; if (NEVER(self->is_broken)) return;
   i0 = l28;
   i1 = 4294967295u;
   i0 = (u32)((s32)i0 > (s32)i1);
@@ -33369,7 +33919,7 @@ static void f28(module *self, u64 p0, u64 p1, u64 p2, u64 p3, u64 p4, u64 p5, u6
   j0 = p1;
   i1 = 3u;
   i2 = 24u;
-  f38(self, j0, i1, i2); m = self->memory; if (NEVER(self->is_broken)) return;
+  f37(self, j0, i1, i2); m = self->memory; if (NEVER(self->is_broken)) return;
   B102:;
   j0 = p1;
   j1 = 2096ull;
@@ -33418,7 +33968,7 @@ static void f28(module *self, u64 p0, u64 p1, u64 p2, u64 p3, u64 p4, u64 p5, u6
   j1 = 2072ull;
   j0 += j1;
   j1 = 5ull;
-  i0 = f15(self, j0, j1); m = self->memory; if (NEVER(self->is_broken)) return;
+  i0 = f14(self, j0, j1); m = self->memory; if (NEVER(self->is_broken)) return;
   i0 = !(i0);
   if (i0) {goto B103;}
   j0 = p1;
@@ -33471,19 +34021,19 @@ static void f28(module *self, u64 p0, u64 p1, u64 p2, u64 p3, u64 p4, u64 p5, u6
   j0 += j1;
   j1 = p1;
   i2 = l58;
-  f37(self, j0, j1, i2);
+  f36(self, j0, j1, i2);
   j0 = p1;
   i1 = 5u;
   i2 = 2u;
-  f38(self, j0, i1, i2); m = self->memory; if (NEVER(self->is_broken)) return;
+  f37(self, j0, i1, i2); m = self->memory; if (NEVER(self->is_broken)) return;
   j0 = p1;
   i1 = l58;
   i2 = l28;
-  f41(self, j0, i1, i2); m = self->memory; if (NEVER(self->is_broken)) return;
+  f40(self, j0, i1, i2); m = self->memory; if (NEVER(self->is_broken)) return;
   j0 = p1;
   i1 = 5u;
   i2 = 0u;
-  f38(self, j0, i1, i2); m = self->memory; if (NEVER(self->is_broken)) return;
+  f37(self, j0, i1, i2); m = self->memory; if (NEVER(self->is_broken)) return;
   i0 = l28;
   i1 = 4294967295u;
   i0 = (u32)((s32)i0 > (s32)i1);
@@ -33491,12 +34041,12 @@ static void f28(module *self, u64 p0, u64 p1, u64 p2, u64 p3, u64 p4, u64 p5, u6
   j0 = p1;
   i1 = 3u;
   i2 = 0u;
-  f38(self, j0, i1, i2); m = self->memory; if (NEVER(self->is_broken)) return;
+  f37(self, j0, i1, i2); m = self->memory; if (NEVER(self->is_broken)) return;
   B105:;
   j0 = p1;
   i1 = 8u;
   i2 = 255u;
-  f38(self, j0, i1, i2); m = self->memory; if (NEVER(self->is_broken)) return;
+  f37(self, j0, i1, i2); m = self->memory; if (NEVER(self->is_broken)) return;
   goto B47;
   B60:;
   j0 = p2;
@@ -33603,7 +34153,7 @@ static void f28(module *self, u64 p0, u64 p1, u64 p2, u64 p3, u64 p4, u64 p5, u6
   j1 = 2072ull;
   j0 += j1;
   j1 = 5ull;
-  i0 = f15(self, j0, j1); m = self->memory; if (NEVER(self->is_broken)) return;
+  i0 = f14(self, j0, j1); m = self->memory; if (NEVER(self->is_broken)) return;
   i0 = !(i0);
   if (i0) {goto B110;}
   j0 = p1;
@@ -33656,7 +34206,7 @@ static void f28(module *self, u64 p0, u64 p1, u64 p2, u64 p3, u64 p4, u64 p5, u6
   j0 += j1;
   j1 = p1;
   i2 = l58;
-  f37(self, j0, j1, i2);
+  f36(self, j0, j1, i2);
   i0 = 4294967295u;
   j1 = l7;
   i1 = (u32)(j1);
@@ -33671,7 +34221,7 @@ static void f28(module *self, u64 p0, u64 p1, u64 p2, u64 p3, u64 p4, u64 p5, u6
   j0 = p1;
   i1 = 4u;
   i2 = 0u;
-  f38(self, j0, i1, i2); m = self->memory; if (NEVER(self->is_broken)) return;
+  f37(self, j0, i1, i2); m = self->memory; if (NEVER(self->is_broken)) return;
   j0 = p1;
   j1 = 2096ull;
   j0 += j1;
@@ -33719,7 +34269,7 @@ static void f28(module *self, u64 p0, u64 p1, u64 p2, u64 p3, u64 p4, u64 p5, u6
   j1 = 2072ull;
   j0 += j1;
   j1 = 5ull;
-  i0 = f15(self, j0, j1); m = self->memory; if (NEVER(self->is_broken)) return;
+  i0 = f14(self, j0, j1); m = self->memory; if (NEVER(self->is_broken)) return;
   i0 = !(i0);
   if (i0) {goto B112;}
   j0 = p1;
@@ -33772,7 +34322,7 @@ static void f28(module *self, u64 p0, u64 p1, u64 p2, u64 p3, u64 p4, u64 p5, u6
   j0 += j1;
   j1 = p1;
   i2 = l58;
-  f37(self, j0, j1, i2);
+  f36(self, j0, j1, i2);
   j0 = l7;
   i0 = (u32)(j0);
   i0 = i32_load8_u(j0 + 121u);
@@ -33784,7 +34334,7 @@ static void f28(module *self, u64 p0, u64 p1, u64 p2, u64 p3, u64 p4, u64 p5, u6
   j0 = p1;
   i1 = 4u;
   i2 = 1u;
-  f38(self, j0, i1, i2); m = self->memory; if (NEVER(self->is_broken)) return;
+  f37(self, j0, i1, i2); m = self->memory; if (NEVER(self->is_broken)) return;
   j0 = l8;
   i0 = (u32)(j0);
   j0 = i64_load(j0);
@@ -33831,7 +34381,7 @@ static void f28(module *self, u64 p0, u64 p1, u64 p2, u64 p3, u64 p4, u64 p5, u6
   j1 = 2072ull;
   j0 += j1;
   j1 = 5ull;
-  i0 = f15(self, j0, j1); m = self->memory; if (NEVER(self->is_broken)) return;
+  i0 = f14(self, j0, j1); m = self->memory; if (NEVER(self->is_broken)) return;
   i0 = !(i0);
   if (i0) {goto B114;}
   j0 = p1;
@@ -33884,7 +34434,7 @@ static void f28(module *self, u64 p0, u64 p1, u64 p2, u64 p3, u64 p4, u64 p5, u6
   j0 += j1;
   j1 = p1;
   i2 = l58;
-  f37(self, j0, j1, i2);
+  f36(self, j0, j1, i2);
   j0 = l7;
   i0 = (u32)(j0);
   i0 = i32_load8_u(j0 + 113u);
@@ -33896,7 +34446,7 @@ static void f28(module *self, u64 p0, u64 p1, u64 p2, u64 p3, u64 p4, u64 p5, u6
   j0 = p1;
   i1 = 4u;
   i2 = 2u;
-  f38(self, j0, i1, i2); m = self->memory; if (NEVER(self->is_broken)) return;
+  f37(self, j0, i1, i2); m = self->memory; if (NEVER(self->is_broken)) return;
   j0 = p1;
   j1 = 2096ull;
   j0 += j1;
@@ -33944,7 +34494,7 @@ static void f28(module *self, u64 p0, u64 p1, u64 p2, u64 p3, u64 p4, u64 p5, u6
   j1 = 2072ull;
   j0 += j1;
   j1 = 5ull;
-  i0 = f15(self, j0, j1); m = self->memory; if (NEVER(self->is_broken)) return;
+  i0 = f14(self, j0, j1); m = self->memory; if (NEVER(self->is_broken)) return;
   i0 = !(i0);
   if (i0) {goto B116;}
   j0 = p1;
@@ -33997,7 +34547,7 @@ static void f28(module *self, u64 p0, u64 p1, u64 p2, u64 p3, u64 p4, u64 p5, u6
   j0 += j1;
   j1 = p1;
   i2 = l58;
-  f37(self, j0, j1, i2);
+  f36(self, j0, j1, i2);
   j0 = l7;
   i0 = (u32)(j0);
   i0 = i32_load8_u(j0 + 105u);
@@ -34009,7 +34559,7 @@ static void f28(module *self, u64 p0, u64 p1, u64 p2, u64 p3, u64 p4, u64 p5, u6
   j0 = p1;
   i1 = 4u;
   i2 = 3u;
-  f38(self, j0, i1, i2); m = self->memory; if (NEVER(self->is_broken)) return;
+  f37(self, j0, i1, i2); m = self->memory; if (NEVER(self->is_broken)) return;
   j0 = l8;
   i0 = (u32)(j0);
   j0 = i64_load(j0);
@@ -34056,7 +34606,7 @@ static void f28(module *self, u64 p0, u64 p1, u64 p2, u64 p3, u64 p4, u64 p5, u6
   j1 = 2072ull;
   j0 += j1;
   j1 = 5ull;
-  i0 = f15(self, j0, j1); m = self->memory; if (NEVER(self->is_broken)) return;
+  i0 = f14(self, j0, j1); m = self->memory; if (NEVER(self->is_broken)) return;
   i0 = !(i0);
   if (i0) {goto B118;}
   j0 = p1;
@@ -34109,7 +34659,7 @@ static void f28(module *self, u64 p0, u64 p1, u64 p2, u64 p3, u64 p4, u64 p5, u6
   j0 += j1;
   j1 = p1;
   i2 = l58;
-  f37(self, j0, j1, i2);
+  f36(self, j0, j1, i2);
   j0 = l7;
   i0 = (u32)(j0);
   i0 = i32_load8_u(j0 + 97u);
@@ -34121,7 +34671,7 @@ static void f28(module *self, u64 p0, u64 p1, u64 p2, u64 p3, u64 p4, u64 p5, u6
   j0 = p1;
   i1 = 4u;
   i2 = 0u;
-  f38(self, j0, i1, i2); m = self->memory; if (NEVER(self->is_broken)) return;
+  f37(self, j0, i1, i2); m = self->memory; if (NEVER(self->is_broken)) return;
   i0 = 4294967295u;
   i1 = l18;
   i2 = l24;
@@ -34248,12 +34798,12 @@ static void f28(module *self, u64 p0, u64 p1, u64 p2, u64 p3, u64 p4, u64 p5, u6
   i4 = l18;
   i5 = l73;
   i6 = 0u;
-  i1 = f42(self, j1, j2, i3, i4, i5, i6); m = self->memory; if (NEVER(self->is_broken)) return;
+  i1 = f41(self, j1, j2, i3, i4, i5, i6); m = self->memory; if (NEVER(self->is_broken)) return;
   i32_store16(j0, i1);
   j0 = p1;
   j1 = p2;
   i2 = l58;
-  f35(self, j0, j1, i2); m = self->memory; if (NEVER(self->is_broken)) return;
+  f34(self, j0, j1, i2); m = self->memory; if (NEVER(self->is_broken)) return;
   goto B47;
   B58:;
   j0 = p2;
@@ -34314,14 +34864,14 @@ static void f28(module *self, u64 p0, u64 p1, u64 p2, u64 p3, u64 p4, u64 p5, u6
   i1 = l27;
   i2 = l59;
   i3 = l58;
-  f43(self, j0, i1, i2, i3); m = self->memory; if (NEVER(self->is_broken)) return;
+  f42(self, j0, i1, i2, i3); m = self->memory; if (NEVER(self->is_broken)) return;
   goto B47;
   B129:;
   j0 = p1;
   i1 = l27;
   i2 = 17u;
   i3 = l59;
-  f43(self, j0, i1, i2, i3); m = self->memory; if (NEVER(self->is_broken)) return;
+  f42(self, j0, i1, i2, i3); m = self->memory; if (NEVER(self->is_broken)) return;
   goto B47;
   B128:;
   i0 = l27;
@@ -34375,7 +34925,7 @@ static void f28(module *self, u64 p0, u64 p1, u64 p2, u64 p3, u64 p4, u64 p5, u6
   j1 = 2072ull;
   j0 += j1;
   j1 = 3ull;
-  i0 = f15(self, j0, j1); m = self->memory; if (NEVER(self->is_broken)) return;
+  i0 = f14(self, j0, j1); m = self->memory; if (NEVER(self->is_broken)) return;
   i0 = !(i0);
   if (i0) {goto B131;}
   j0 = p1;
@@ -34436,112 +34986,112 @@ static void f28(module *self, u64 p0, u64 p1, u64 p2, u64 p3, u64 p4, u64 p5, u6
   j0 += j1;
   j1 = p1;
   i2 = l58;
-  f29(self, j0, j1, i2); if (NEVER(self->is_broken)) return;
+  f28(self, j0, j1, i2); if (NEVER(self->is_broken)) return;
   j0 = p1;
   i1 = 0u;
   j2 = p5;
   i2 = (u32)(j2);
   i2 = i32_load8_u(j2);
-  f44(self, j0, i1, i2); m = self->memory; if (NEVER(self->is_broken)) return;
+  f43(self, j0, i1, i2); m = self->memory; if (NEVER(self->is_broken)) return;
   j0 = p1;
   i1 = 1u;
   j2 = p5;
   i2 = (u32)(j2);
   i2 = i32_load8_u(j2 + 1u);
-  f44(self, j0, i1, i2); m = self->memory; if (NEVER(self->is_broken)) return;
+  f43(self, j0, i1, i2); m = self->memory; if (NEVER(self->is_broken)) return;
   j0 = p1;
   i1 = 2u;
   j2 = p5;
   i2 = (u32)(j2);
   i2 = i32_load8_u(j2 + 2u);
-  f44(self, j0, i1, i2); m = self->memory; if (NEVER(self->is_broken)) return;
+  f43(self, j0, i1, i2); m = self->memory; if (NEVER(self->is_broken)) return;
   j0 = p1;
   i1 = 3u;
   j2 = p5;
   i2 = (u32)(j2);
   i2 = i32_load8_u(j2 + 3u);
-  f44(self, j0, i1, i2); m = self->memory; if (NEVER(self->is_broken)) return;
+  f43(self, j0, i1, i2); m = self->memory; if (NEVER(self->is_broken)) return;
   j0 = p1;
   i1 = 4u;
   j2 = p5;
   i2 = (u32)(j2);
   i2 = i32_load8_u(j2 + 4u);
-  f44(self, j0, i1, i2); m = self->memory; if (NEVER(self->is_broken)) return;
+  f43(self, j0, i1, i2); m = self->memory; if (NEVER(self->is_broken)) return;
   j0 = p1;
   i1 = 5u;
   j2 = p5;
   i2 = (u32)(j2);
   i2 = i32_load8_u(j2 + 5u);
-  f44(self, j0, i1, i2); m = self->memory; if (NEVER(self->is_broken)) return;
+  f43(self, j0, i1, i2); m = self->memory; if (NEVER(self->is_broken)) return;
   j0 = p1;
   i1 = 6u;
   j2 = p5;
   i2 = (u32)(j2);
   i2 = i32_load8_u(j2 + 6u);
-  f44(self, j0, i1, i2); m = self->memory; if (NEVER(self->is_broken)) return;
+  f43(self, j0, i1, i2); m = self->memory; if (NEVER(self->is_broken)) return;
   j0 = p1;
   i1 = 7u;
   j2 = p5;
   i2 = (u32)(j2);
   i2 = i32_load8_u(j2 + 7u);
-  f44(self, j0, i1, i2); m = self->memory; if (NEVER(self->is_broken)) return;
+  f43(self, j0, i1, i2); m = self->memory; if (NEVER(self->is_broken)) return;
   j0 = p1;
   i1 = 8u;
   j2 = p5;
   i2 = (u32)(j2);
   i2 = i32_load8_u(j2 + 8u);
-  f44(self, j0, i1, i2); m = self->memory; if (NEVER(self->is_broken)) return;
+  f43(self, j0, i1, i2); m = self->memory; if (NEVER(self->is_broken)) return;
   j0 = p1;
   i1 = 9u;
   j2 = p5;
   i2 = (u32)(j2);
   i2 = i32_load8_u(j2 + 9u);
-  f44(self, j0, i1, i2); m = self->memory; if (NEVER(self->is_broken)) return;
+  f43(self, j0, i1, i2); m = self->memory; if (NEVER(self->is_broken)) return;
   j0 = p1;
   i1 = 10u;
   j2 = p5;
   i2 = (u32)(j2);
   i2 = i32_load8_u(j2 + 10u);
-  f44(self, j0, i1, i2); m = self->memory; if (NEVER(self->is_broken)) return;
+  f43(self, j0, i1, i2); m = self->memory; if (NEVER(self->is_broken)) return;
   j0 = p1;
   i1 = 11u;
   j2 = p5;
   i2 = (u32)(j2);
   i2 = i32_load8_u(j2 + 11u);
-  f44(self, j0, i1, i2); m = self->memory; if (NEVER(self->is_broken)) return;
+  f43(self, j0, i1, i2); m = self->memory; if (NEVER(self->is_broken)) return;
   j0 = p1;
   i1 = 12u;
   j2 = p5;
   i2 = (u32)(j2);
   i2 = i32_load8_u(j2 + 12u);
-  f44(self, j0, i1, i2); m = self->memory; if (NEVER(self->is_broken)) return;
+  f43(self, j0, i1, i2); m = self->memory; if (NEVER(self->is_broken)) return;
   j0 = p1;
   i1 = 13u;
   j2 = p5;
   i2 = (u32)(j2);
   i2 = i32_load8_u(j2 + 13u);
-  f44(self, j0, i1, i2); m = self->memory; if (NEVER(self->is_broken)) return;
+  f43(self, j0, i1, i2); m = self->memory; if (NEVER(self->is_broken)) return;
   j0 = p1;
   i1 = 14u;
   j2 = p5;
   i2 = (u32)(j2);
   i2 = i32_load8_u(j2 + 14u);
-  f44(self, j0, i1, i2); m = self->memory; if (NEVER(self->is_broken)) return;
+  f43(self, j0, i1, i2); m = self->memory; if (NEVER(self->is_broken)) return;
   j0 = p1;
   i1 = 15u;
   j2 = p5;
   i2 = (u32)(j2);
   i2 = i32_load8_u(j2 + 15u);
-  f44(self, j0, i1, i2); m = self->memory; if (NEVER(self->is_broken)) return;
+  f43(self, j0, i1, i2); m = self->memory; if (NEVER(self->is_broken)) return;
   j0 = p1;
   i1 = 17u;
   j2 = p5;
   i2 = (u32)(j2);
   i2 = i32_load8_u(j2 + 16u);
-  f44(self, j0, i1, i2); m = self->memory; if (NEVER(self->is_broken)) return;
+  f43(self, j0, i1, i2); m = self->memory; if (NEVER(self->is_broken)) return;
   j0 = p1;
   i1 = l27;
-  f45(self, j0, i1); m = self->memory; if (NEVER(self->is_broken)) return;
+  f44(self, j0, i1); m = self->memory; if (NEVER(self->is_broken)) return;
   goto B47;
   B127:;
   i0 = l27;
@@ -34595,7 +35145,7 @@ static void f28(module *self, u64 p0, u64 p1, u64 p2, u64 p3, u64 p4, u64 p5, u6
   j1 = 2072ull;
   j0 += j1;
   j1 = 3ull;
-  i0 = f15(self, j0, j1); m = self->memory; if (NEVER(self->is_broken)) return;
+  i0 = f14(self, j0, j1); m = self->memory; if (NEVER(self->is_broken)) return;
   i0 = !(i0);
   if (i0) {goto B133;}
   j0 = p1;
@@ -34656,7 +35206,7 @@ static void f28(module *self, u64 p0, u64 p1, u64 p2, u64 p3, u64 p4, u64 p5, u6
   j0 += j1;
   j1 = p1;
   i2 = l58;
-  f29(self, j0, j1, i2); if (NEVER(self->is_broken)) return;
+  f28(self, j0, j1, i2); if (NEVER(self->is_broken)) return;
   j0 = l8;
   i0 = (u32)(j0);
   j0 = i64_load(j0);
@@ -34703,7 +35253,7 @@ static void f28(module *self, u64 p0, u64 p1, u64 p2, u64 p3, u64 p4, u64 p5, u6
   j1 = 2072ull;
   j0 += j1;
   j1 = 4ull;
-  i0 = f15(self, j0, j1); m = self->memory; if (NEVER(self->is_broken)) return;
+  i0 = f14(self, j0, j1); m = self->memory; if (NEVER(self->is_broken)) return;
   i0 = !(i0);
   if (i0) {goto B135;}
   j0 = p1;
@@ -34800,7 +35350,7 @@ static void f28(module *self, u64 p0, u64 p1, u64 p2, u64 p3, u64 p4, u64 p5, u6
   j1 = 184ull;
   j0 += j1;
   j1 = l8;
-  f26(self, j0, j1);
+  f25(self, j0, j1);
   j0 = p1;
   j1 = 196ull;
   j0 += j1;
@@ -34882,7 +35432,7 @@ static void f28(module *self, u64 p0, u64 p1, u64 p2, u64 p3, u64 p4, u64 p5, u6
   j1 = 2072ull;
   j0 += j1;
   j1 = 3ull;
-  i0 = f15(self, j0, j1); m = self->memory; if (NEVER(self->is_broken)) return;
+  i0 = f14(self, j0, j1); m = self->memory; if (NEVER(self->is_broken)) return;
   i0 = !(i0);
   if (i0) {goto B141;}
   j0 = p1;
@@ -35008,7 +35558,7 @@ static void f28(module *self, u64 p0, u64 p1, u64 p2, u64 p3, u64 p4, u64 p5, u6
   j1 = 2072ull;
   j0 += j1;
   j1 = 4ull;
-  i0 = f15(self, j0, j1); m = self->memory; if (NEVER(self->is_broken)) return;
+  i0 = f14(self, j0, j1); m = self->memory; if (NEVER(self->is_broken)) return;
   i0 = !(i0);
   if (i0) {goto B144;}
   j0 = p1;
@@ -35105,7 +35655,7 @@ static void f28(module *self, u64 p0, u64 p1, u64 p2, u64 p3, u64 p4, u64 p5, u6
   j1 = 184ull;
   j0 += j1;
   j1 = l8;
-  f26(self, j0, j1);
+  f25(self, j0, j1);
   j0 = p1;
   j1 = 196ull;
   j0 += j1;
@@ -35144,7 +35694,7 @@ static void f28(module *self, u64 p0, u64 p1, u64 p2, u64 p3, u64 p4, u64 p5, u6
   B146:;
   j0 = p1;
   i1 = l27;
-  f45(self, j0, i1); m = self->memory; if (NEVER(self->is_broken)) return;
+  f44(self, j0, i1); m = self->memory; if (NEVER(self->is_broken)) return;
   goto B47;
   B126:;
   i0 = l27;
@@ -35198,7 +35748,7 @@ static void f28(module *self, u64 p0, u64 p1, u64 p2, u64 p3, u64 p4, u64 p5, u6
   j1 = 2072ull;
   j0 += j1;
   j1 = 3ull;
-  i0 = f15(self, j0, j1); m = self->memory; if (NEVER(self->is_broken)) return;
+  i0 = f14(self, j0, j1); m = self->memory; if (NEVER(self->is_broken)) return;
   i0 = !(i0);
   if (i0) {goto B150;}
   j0 = p1;
@@ -35259,11 +35809,11 @@ static void f28(module *self, u64 p0, u64 p1, u64 p2, u64 p3, u64 p4, u64 p5, u6
   j0 += j1;
   j1 = p1;
   i2 = l58;
-  f29(self, j0, j1, i2); if (NEVER(self->is_broken)) return;
+  f28(self, j0, j1, i2); if (NEVER(self->is_broken)) return;
   j0 = p1;
   i1 = l27;
   i2 = l59;
-  i0 = f30(self, j0, i1, i2); m = self->memory; if (NEVER(self->is_broken)) return;
+  i0 = f29(self, j0, i1, i2); m = self->memory; if (NEVER(self->is_broken)) return;
   j0 = (u64)(i0);
   j1 = 255ull;
   j0 &= j1;
@@ -35327,7 +35877,7 @@ static void f28(module *self, u64 p0, u64 p1, u64 p2, u64 p3, u64 p4, u64 p5, u6
   j1 = 2072ull;
   j0 += j1;
   j1 = 3ull;
-  i0 = f15(self, j0, j1); m = self->memory; if (NEVER(self->is_broken)) return;
+  i0 = f14(self, j0, j1); m = self->memory; if (NEVER(self->is_broken)) return;
   i0 = !(i0);
   if (i0) {goto B152;}
   j0 = p1;
@@ -35388,11 +35938,11 @@ static void f28(module *self, u64 p0, u64 p1, u64 p2, u64 p3, u64 p4, u64 p5, u6
   j0 += j1;
   j1 = p1;
   i2 = l58;
-  f29(self, j0, j1, i2); if (NEVER(self->is_broken)) return;
+  f28(self, j0, j1, i2); if (NEVER(self->is_broken)) return;
   j0 = p1;
   i1 = l27;
   i2 = 17u;
-  i0 = f30(self, j0, i1, i2); m = self->memory; if (NEVER(self->is_broken)) return;
+  i0 = f29(self, j0, i1, i2); m = self->memory; if (NEVER(self->is_broken)) return;
   j0 = (u64)(i0);
   j1 = 255ull;
   j0 &= j1;
@@ -35467,7 +36017,7 @@ static void f28(module *self, u64 p0, u64 p1, u64 p2, u64 p3, u64 p4, u64 p5, u6
   j1 = 2072ull;
   j0 += j1;
   j1 = 4ull;
-  i0 = f15(self, j0, j1); m = self->memory; if (NEVER(self->is_broken)) return;
+  i0 = f14(self, j0, j1); m = self->memory; if (NEVER(self->is_broken)) return;
   i0 = !(i0);
   if (i0) {goto B156;}
   j0 = p1;
@@ -35577,7 +36127,7 @@ static void f28(module *self, u64 p0, u64 p1, u64 p2, u64 p3, u64 p4, u64 p5, u6
   j1 = 2072ull;
   j0 += j1;
   j1 = 4ull;
-  i0 = f15(self, j0, j1); m = self->memory; if (NEVER(self->is_broken)) return;
+  i0 = f14(self, j0, j1); m = self->memory; if (NEVER(self->is_broken)) return;
   i0 = !(i0);
   if (i0) {goto B158;}
   j0 = p1;
@@ -35776,7 +36326,7 @@ static void f28(module *self, u64 p0, u64 p1, u64 p2, u64 p3, u64 p4, u64 p5, u6
   j1 = 2072ull;
   j0 += j1;
   j1 = 4ull;
-  i0 = f15(self, j0, j1); m = self->memory; if (NEVER(self->is_broken)) return;
+  i0 = f14(self, j0, j1); m = self->memory; if (NEVER(self->is_broken)) return;
   i0 = !(i0);
   if (i0) {goto B162;}
   j0 = p1;
@@ -36045,7 +36595,7 @@ static void f28(module *self, u64 p0, u64 p1, u64 p2, u64 p3, u64 p4, u64 p5, u6
     j1 = 2072ull;
     j0 += j1;
     j1 = 4ull;
-    i0 = f15(self, j0, j1); m = self->memory; if (NEVER(self->is_broken)) return;
+    i0 = f14(self, j0, j1); m = self->memory; if (NEVER(self->is_broken)) return;
     i0 = !(i0);
     if (i0) {goto B172;}
     j0 = p1;
@@ -36286,7 +36836,7 @@ static void f28(module *self, u64 p0, u64 p1, u64 p2, u64 p3, u64 p4, u64 p5, u6
   j1 = 2072ull;
   j0 += j1;
   j1 = 4ull;
-  i0 = f15(self, j0, j1); m = self->memory; if (NEVER(self->is_broken)) return;
+  i0 = f14(self, j0, j1); m = self->memory; if (NEVER(self->is_broken)) return;
   i0 = !(i0);
   if (i0) {goto B180;}
   j0 = p1;
@@ -36397,7 +36947,7 @@ static void f28(module *self, u64 p0, u64 p1, u64 p2, u64 p3, u64 p4, u64 p5, u6
   j1 = 2072ull;
   j0 += j1;
   j1 = 3ull;
-  i0 = f15(self, j0, j1); m = self->memory; if (NEVER(self->is_broken)) return;
+  i0 = f14(self, j0, j1); m = self->memory; if (NEVER(self->is_broken)) return;
   i0 = !(i0);
   if (i0) {goto B182;}
   j0 = p1;
@@ -36544,7 +37094,7 @@ static void f28(module *self, u64 p0, u64 p1, u64 p2, u64 p3, u64 p4, u64 p5, u6
   j1 = 2072ull;
   j0 += j1;
   j1 = 4ull;
-  i0 = f15(self, j0, j1); m = self->memory; if (NEVER(self->is_broken)) return;
+  i0 = f14(self, j0, j1); m = self->memory; if (NEVER(self->is_broken)) return;
   i0 = !(i0);
   if (i0) {goto B186;}
   j0 = p1;
@@ -36646,7 +37196,7 @@ static void f28(module *self, u64 p0, u64 p1, u64 p2, u64 p3, u64 p4, u64 p5, u6
   j1 = 2072ull;
   j0 += j1;
   j1 = 3ull;
-  i0 = f15(self, j0, j1); m = self->memory; if (NEVER(self->is_broken)) return;
+  i0 = f14(self, j0, j1); m = self->memory; if (NEVER(self->is_broken)) return;
   i0 = !(i0);
   if (i0) {goto B188;}
   j0 = p1;
@@ -36781,7 +37331,7 @@ static void f28(module *self, u64 p0, u64 p1, u64 p2, u64 p3, u64 p4, u64 p5, u6
     i4 = (u32)(j4);
     i4 = i32_load8_u(j4);
     i5 = 1u;
-    i0 = f42(self, j0, j1, i2, i3, i4, i5); m = self->memory; if (NEVER(self->is_broken)) return;
+    i0 = f41(self, j0, j1, i2, i3, i4, i5); m = self->memory; if (NEVER(self->is_broken)) return;
     l58 = i0;
     j0 = p6;
     j1 = 2ull;
@@ -36810,7 +37360,7 @@ static void f28(module *self, u64 p0, u64 p1, u64 p2, u64 p3, u64 p4, u64 p5, u6
     i3 = i32_load8_u(j3);
     i4 = l28;
     i5 = 1u;
-    i0 = f42(self, j0, j1, i2, i3, i4, i5); m = self->memory; if (NEVER(self->is_broken)) return;
+    i0 = f41(self, j0, j1, i2, i3, i4, i5); m = self->memory; if (NEVER(self->is_broken)) return;
     l58 = i0;
     j0 = p5;
     j1 = 1ull;
@@ -36845,7 +37395,7 @@ static void f28(module *self, u64 p0, u64 p1, u64 p2, u64 p3, u64 p4, u64 p5, u6
   j0 = p1;
   j1 = p2;
   i2 = l73;
-  f35(self, j0, j1, i2); m = self->memory; if (NEVER(self->is_broken)) return;
+  f34(self, j0, j1, i2); m = self->memory; if (NEVER(self->is_broken)) return;
   goto B47;
   B54:;
   j0 = l7;
@@ -36924,7 +37474,7 @@ static void f28(module *self, u64 p0, u64 p1, u64 p2, u64 p3, u64 p4, u64 p5, u6
   j1 = 2072ull;
   j0 += j1;
   j1 = 3ull;
-  i0 = f15(self, j0, j1); m = self->memory; if (NEVER(self->is_broken)) return;
+  i0 = f14(self, j0, j1); m = self->memory; if (NEVER(self->is_broken)) return;
   i0 = !(i0);
   if (i0) {goto B195;}
   j0 = p1;
@@ -37095,7 +37645,7 @@ static void f28(module *self, u64 p0, u64 p1, u64 p2, u64 p3, u64 p4, u64 p5, u6
   j1 = 2072ull;
   j0 += j1;
   j1 = 3ull;
-  i0 = f15(self, j0, j1); m = self->memory; if (NEVER(self->is_broken)) return;
+  i0 = f14(self, j0, j1); m = self->memory; if (NEVER(self->is_broken)) return;
   i0 = !(i0);
   if (i0) {goto B202;}
   j0 = p1;
@@ -37301,7 +37851,7 @@ static void f28(module *self, u64 p0, u64 p1, u64 p2, u64 p3, u64 p4, u64 p5, u6
   j1 = 2072ull;
   j0 += j1;
   j1 = 4ull;
-  i0 = f15(self, j0, j1); m = self->memory; if (NEVER(self->is_broken)) return;
+  i0 = f14(self, j0, j1); m = self->memory; if (NEVER(self->is_broken)) return;
   i0 = !(i0);
   if (i0) {goto B209;}
   j0 = p1;
@@ -37525,7 +38075,7 @@ static void f28(module *self, u64 p0, u64 p1, u64 p2, u64 p3, u64 p4, u64 p5, u6
   j1 = 2072ull;
   j0 += j1;
   j1 = 4ull;
-  i0 = f15(self, j0, j1); m = self->memory; if (NEVER(self->is_broken)) return;
+  i0 = f14(self, j0, j1); m = self->memory; if (NEVER(self->is_broken)) return;
   i0 = !(i0);
   if (i0) {goto B216;}
   j0 = p1;
@@ -38161,7 +38711,7 @@ static void f28(module *self, u64 p0, u64 p1, u64 p2, u64 p3, u64 p4, u64 p5, u6
   j1 = 2072ull;
   j0 += j1;
   j1 = 4ull;
-  i0 = f15(self, j0, j1); m = self->memory; if (NEVER(self->is_broken)) return;
+  i0 = f14(self, j0, j1); m = self->memory; if (NEVER(self->is_broken)) return;
   i0 = !(i0);
   if (i0) {goto B221;}
   j0 = p1;
@@ -38308,7 +38858,7 @@ static void f28(module *self, u64 p0, u64 p1, u64 p2, u64 p3, u64 p4, u64 p5, u6
     j1 = 2072ull;
     j0 += j1;
     j1 = 4ull;
-    i0 = f15(self, j0, j1); m = self->memory; if (NEVER(self->is_broken)) return;
+    i0 = f14(self, j0, j1); m = self->memory; if (NEVER(self->is_broken)) return;
     i0 = !(i0);
     if (i0) {goto B227;}
     j0 = p1;
@@ -38410,7 +38960,7 @@ static void f28(module *self, u64 p0, u64 p1, u64 p2, u64 p3, u64 p4, u64 p5, u6
     j1 = 2072ull;
     j0 += j1;
     j1 = 4ull;
-    i0 = f15(self, j0, j1); m = self->memory; if (NEVER(self->is_broken)) return;
+    i0 = f14(self, j0, j1); m = self->memory; if (NEVER(self->is_broken)) return;
     i0 = !(i0);
     if (i0) {goto B229;}
     j0 = p1;
@@ -38575,7 +39125,7 @@ static void f28(module *self, u64 p0, u64 p1, u64 p2, u64 p3, u64 p4, u64 p5, u6
   j0 = p1;
   i1 = l24;
   i2 = 17u;
-  f32(self, j0, i1, i2); m = self->memory; if (NEVER(self->is_broken)) return;
+  f31(self, j0, i1, i2); m = self->memory; if (NEVER(self->is_broken)) return;
   j0 = p1;
   i1 = l24;
   i2 = 1u;
@@ -38584,7 +39134,7 @@ static void f28(module *self, u64 p0, u64 p1, u64 p2, u64 p3, u64 p4, u64 p5, u6
   i2 = l46;
   i3 = 15u;
   i2 &= i3;
-  f32(self, j0, i1, i2); m = self->memory; if (NEVER(self->is_broken)) return;
+  f31(self, j0, i1, i2); m = self->memory; if (NEVER(self->is_broken)) return;
   j0 = 0ull;
   l8 = j0;
   L232: 
@@ -38598,11 +39148,11 @@ static void f28(module *self, u64 p0, u64 p1, u64 p2, u64 p3, u64 p4, u64 p5, u6
     i1 = l24;
     j2 = l8;
     i2 = (u32)(j2);
-    f32(self, j0, i1, i2); m = self->memory; if (NEVER(self->is_broken)) return;
+    f31(self, j0, i1, i2); m = self->memory; if (NEVER(self->is_broken)) return;
     j0 = p1;
     i1 = l27;
     i2 = l58;
-    f32(self, j0, i1, i2); m = self->memory; if (NEVER(self->is_broken)) return;
+    f31(self, j0, i1, i2); m = self->memory; if (NEVER(self->is_broken)) return;
     j0 = l8;
     j1 = 1ull;
     j0 += j1;
@@ -38690,7 +39240,7 @@ static void f28(module *self, u64 p0, u64 p1, u64 p2, u64 p3, u64 p4, u64 p5, u6
     j1 = 2072ull;
     j0 += j1;
     j1 = 4ull;
-    i0 = f15(self, j0, j1); m = self->memory; if (NEVER(self->is_broken)) return;
+    i0 = f14(self, j0, j1); m = self->memory; if (NEVER(self->is_broken)) return;
     i0 = !(i0);
     if (i0) {goto B237;}
     j0 = p1;
@@ -38792,7 +39342,7 @@ static void f28(module *self, u64 p0, u64 p1, u64 p2, u64 p3, u64 p4, u64 p5, u6
     j1 = 2072ull;
     j0 += j1;
     j1 = 4ull;
-    i0 = f15(self, j0, j1); m = self->memory; if (NEVER(self->is_broken)) return;
+    i0 = f14(self, j0, j1); m = self->memory; if (NEVER(self->is_broken)) return;
     i0 = !(i0);
     if (i0) {goto B239;}
     j0 = p1;
@@ -38952,7 +39502,7 @@ static void f28(module *self, u64 p0, u64 p1, u64 p2, u64 p3, u64 p4, u64 p5, u6
     j1 <<= (j2 & 63);
     p6 = j1;
     i1 = (u32)(j1);
-    i1 = i32_load(j1 + 1051664u);
+    i1 = i32_load(j1 + 1051784u);
     i32_store(j0, i1);
     j0 = p1;
     j1 = 60ull;
@@ -38960,7 +39510,7 @@ static void f28(module *self, u64 p0, u64 p1, u64 p2, u64 p3, u64 p4, u64 p5, u6
     i0 = (u32)(j0);
     j1 = p6;
     i1 = (u32)(j1);
-    i1 = i32_load(j1 + 1051648u);
+    i1 = i32_load(j1 + 1051768u);
     i32_store(j0, i1);
     j0 = p1;
     j1 = 72ull;
@@ -39061,7 +39611,7 @@ static void f28(module *self, u64 p0, u64 p1, u64 p2, u64 p3, u64 p4, u64 p5, u6
   j1 = 2072ull;
   j0 += j1;
   j1 = 3ull;
-  i0 = f15(self, j0, j1); m = self->memory; if (NEVER(self->is_broken)) return;
+  i0 = f14(self, j0, j1); m = self->memory; if (NEVER(self->is_broken)) return;
   i0 = !(i0);
   if (i0) {goto B243;}
   j0 = p1;
@@ -39118,94 +39668,94 @@ static void f28(module *self, u64 p0, u64 p1, u64 p2, u64 p3, u64 p4, u64 p5, u6
   j0 += j1;
   j1 = p1;
   i2 = l58;
-  f29(self, j0, j1, i2); if (NEVER(self->is_broken)) return;
+  f28(self, j0, j1, i2); if (NEVER(self->is_broken)) return;
   j0 = p1;
   i1 = 0u;
   i2 = 0u;
-  f44(self, j0, i1, i2); m = self->memory; if (NEVER(self->is_broken)) return;
+  f43(self, j0, i1, i2); m = self->memory; if (NEVER(self->is_broken)) return;
   j0 = p1;
   i1 = 1u;
   i2 = l21;
-  f44(self, j0, i1, i2); m = self->memory; if (NEVER(self->is_broken)) return;
+  f43(self, j0, i1, i2); m = self->memory; if (NEVER(self->is_broken)) return;
   j0 = p1;
   i1 = 2u;
   i2 = l57;
-  f44(self, j0, i1, i2); m = self->memory; if (NEVER(self->is_broken)) return;
+  f43(self, j0, i1, i2); m = self->memory; if (NEVER(self->is_broken)) return;
   j0 = p1;
   i1 = 3u;
   i2 = l68;
-  f44(self, j0, i1, i2); m = self->memory; if (NEVER(self->is_broken)) return;
+  f43(self, j0, i1, i2); m = self->memory; if (NEVER(self->is_broken)) return;
   j0 = p1;
   i1 = 4u;
   i2 = l18;
-  f44(self, j0, i1, i2); m = self->memory; if (NEVER(self->is_broken)) return;
+  f43(self, j0, i1, i2); m = self->memory; if (NEVER(self->is_broken)) return;
   j0 = p1;
   i1 = 5u;
   i2 = l40;
-  f44(self, j0, i1, i2); m = self->memory; if (NEVER(self->is_broken)) return;
+  f43(self, j0, i1, i2); m = self->memory; if (NEVER(self->is_broken)) return;
   j0 = p1;
   i1 = 6u;
   i2 = l39;
-  f44(self, j0, i1, i2); m = self->memory; if (NEVER(self->is_broken)) return;
+  f43(self, j0, i1, i2); m = self->memory; if (NEVER(self->is_broken)) return;
   j0 = p1;
   i1 = 7u;
   i2 = l38;
-  f44(self, j0, i1, i2); m = self->memory; if (NEVER(self->is_broken)) return;
+  f43(self, j0, i1, i2); m = self->memory; if (NEVER(self->is_broken)) return;
   j0 = p1;
   i1 = 8u;
   i2 = l37;
-  f44(self, j0, i1, i2); m = self->memory; if (NEVER(self->is_broken)) return;
+  f43(self, j0, i1, i2); m = self->memory; if (NEVER(self->is_broken)) return;
   j0 = p1;
   i1 = 9u;
   i2 = l36;
-  f44(self, j0, i1, i2); m = self->memory; if (NEVER(self->is_broken)) return;
+  f43(self, j0, i1, i2); m = self->memory; if (NEVER(self->is_broken)) return;
   j0 = p1;
   i1 = 10u;
   i2 = l35;
-  f44(self, j0, i1, i2); m = self->memory; if (NEVER(self->is_broken)) return;
+  f43(self, j0, i1, i2); m = self->memory; if (NEVER(self->is_broken)) return;
   j0 = p1;
   i1 = 11u;
   i2 = l34;
-  f44(self, j0, i1, i2); m = self->memory; if (NEVER(self->is_broken)) return;
+  f43(self, j0, i1, i2); m = self->memory; if (NEVER(self->is_broken)) return;
   j0 = p1;
   i1 = 12u;
   i2 = l33;
-  f44(self, j0, i1, i2); m = self->memory; if (NEVER(self->is_broken)) return;
+  f43(self, j0, i1, i2); m = self->memory; if (NEVER(self->is_broken)) return;
   j0 = p1;
   i1 = 13u;
   i2 = l32;
-  f44(self, j0, i1, i2); m = self->memory; if (NEVER(self->is_broken)) return;
+  f43(self, j0, i1, i2); m = self->memory; if (NEVER(self->is_broken)) return;
   j0 = p1;
   i1 = 14u;
   i2 = l31;
-  f44(self, j0, i1, i2); m = self->memory; if (NEVER(self->is_broken)) return;
+  f43(self, j0, i1, i2); m = self->memory; if (NEVER(self->is_broken)) return;
   j0 = p1;
   i1 = 15u;
   i2 = l30;
-  f44(self, j0, i1, i2); m = self->memory; if (NEVER(self->is_broken)) return;
+  f43(self, j0, i1, i2); m = self->memory; if (NEVER(self->is_broken)) return;
   j0 = p1;
   i1 = 16u;
   i2 = l29;
-  f44(self, j0, i1, i2); m = self->memory; if (NEVER(self->is_broken)) return;
+  f43(self, j0, i1, i2); m = self->memory; if (NEVER(self->is_broken)) return;
   j0 = p1;
   i1 = 17u;
   i2 = 0u;
-  f44(self, j0, i1, i2); m = self->memory; if (NEVER(self->is_broken)) return;
+  f43(self, j0, i1, i2); m = self->memory; if (NEVER(self->is_broken)) return;
   j0 = p1;
   i1 = 18u;
   i2 = 15u;
-  f44(self, j0, i1, i2); m = self->memory; if (NEVER(self->is_broken)) return;
+  f43(self, j0, i1, i2); m = self->memory; if (NEVER(self->is_broken)) return;
   j0 = p1;
   i1 = 19u;
   i2 = l28;
-  f44(self, j0, i1, i2); m = self->memory; if (NEVER(self->is_broken)) return;
+  f43(self, j0, i1, i2); m = self->memory; if (NEVER(self->is_broken)) return;
   j0 = p1;
   i1 = 20u;
   i2 = 0u;
-  f44(self, j0, i1, i2); m = self->memory; if (NEVER(self->is_broken)) return;
+  f43(self, j0, i1, i2); m = self->memory; if (NEVER(self->is_broken)) return;
   j0 = p1;
   i1 = l24;
-  f45(self, j0, i1); m = self->memory; if (NEVER(self->is_broken)) return;
+  f44(self, j0, i1); m = self->memory; if (NEVER(self->is_broken)) return;
   j0 = l7;
   i0 = (u32)(j0);
   i1 = 0u;
@@ -39268,7 +39818,7 @@ static void f28(module *self, u64 p0, u64 p1, u64 p2, u64 p3, u64 p4, u64 p5, u6
   j1 = 2072ull;
   j0 += j1;
   j1 = 4ull;
-  i0 = f15(self, j0, j1); m = self->memory; if (NEVER(self->is_broken)) return;
+  i0 = f14(self, j0, j1); m = self->memory; if (NEVER(self->is_broken)) return;
   i0 = !(i0);
   if (i0) {goto B248;}
   j0 = p1;
@@ -39367,7 +39917,7 @@ static void f28(module *self, u64 p0, u64 p1, u64 p2, u64 p3, u64 p4, u64 p5, u6
   j1 = 2072ull;
   j0 += j1;
   j1 = 4ull;
-  i0 = f15(self, j0, j1); m = self->memory; if (NEVER(self->is_broken)) return;
+  i0 = f14(self, j0, j1); m = self->memory; if (NEVER(self->is_broken)) return;
   i0 = !(i0);
   if (i0) {goto B245;}
   j0 = p1;
@@ -39441,7 +39991,7 @@ static void f28(module *self, u64 p0, u64 p1, u64 p2, u64 p3, u64 p4, u64 p5, u6
     i1 = l73;
     i2 = l58;
     l27 = i2;
-    f46(self, j0, i1, i2); if (NEVER(self->is_broken)) return;
+    f45(self, j0, i1, i2); if (NEVER(self->is_broken)) return;
     j0 = l7;
     i0 = (u32)(j0);
     i0 = i32_load8_u(j0 + 306u);
@@ -39501,7 +40051,7 @@ static void f28(module *self, u64 p0, u64 p1, u64 p2, u64 p3, u64 p4, u64 p5, u6
     j1 = 2072ull;
     j0 += j1;
     j1 = 4ull;
-    i0 = f15(self, j0, j1); m = self->memory; if (NEVER(self->is_broken)) return;
+    i0 = f14(self, j0, j1); m = self->memory; if (NEVER(self->is_broken)) return;
     i0 = !(i0);
     if (i0) {goto B252;}
     j0 = p1;
@@ -39706,7 +40256,7 @@ static void f28(module *self, u64 p0, u64 p1, u64 p2, u64 p3, u64 p4, u64 p5, u6
     j1 = 2072ull;
     j0 += j1;
     j1 = 4ull;
-    i0 = f15(self, j0, j1); m = self->memory; if (NEVER(self->is_broken)) return;
+    i0 = f14(self, j0, j1); m = self->memory; if (NEVER(self->is_broken)) return;
     i0 = !(i0);
     if (i0) {goto B259;}
     j0 = p1;
@@ -39917,7 +40467,7 @@ static void f28(module *self, u64 p0, u64 p1, u64 p2, u64 p3, u64 p4, u64 p5, u6
     j1 = 2072ull;
     j0 += j1;
     j1 = 4ull;
-    i0 = f15(self, j0, j1); m = self->memory; if (NEVER(self->is_broken)) return;
+    i0 = f14(self, j0, j1); m = self->memory; if (NEVER(self->is_broken)) return;
     i0 = !(i0);
     if (i0) {goto B266;}
     j0 = p1;
@@ -40097,9 +40647,9 @@ static void f28(module *self, u64 p0, u64 p1, u64 p2, u64 p3, u64 p4, u64 p5, u6
   j0 = 1099511627792ull;
   j1 = p1;
   j2 = p3;
-  j3 = 1048841ull;
+  j3 = 1048905ull;
   i4 = l56;
-  f31(self, j0, j1, j2, j3, i4); m = self->memory; if (NEVER(self->is_broken)) return;
+  f30(self, j0, j1, j2, j3, i4); m = self->memory; if (NEVER(self->is_broken)) return;
   i0 = l20;
   i1 = 1u;
   i0 &= i1;
@@ -40117,7 +40667,7 @@ static void f28(module *self, u64 p0, u64 p1, u64 p2, u64 p3, u64 p4, u64 p5, u6
     i5 = 1u;
     i4 &= i5;
     i2 = i4 ? i2 : i3;
-    f41(self, j0, i1, i2); m = self->memory; if (NEVER(self->is_broken)) return;
+    f40(self, j0, i1, i2); m = self->memory; if (NEVER(self->is_broken)) return;
     i0 = l58;
     i1 = 1u;
     i0 += i1;
@@ -40138,7 +40688,7 @@ static void f28(module *self, u64 p0, u64 p1, u64 p2, u64 p3, u64 p4, u64 p5, u6
     j0 = p1;
     i1 = l58;
     i2 = 0u;
-    f41(self, j0, i1, i2); m = self->memory; if (NEVER(self->is_broken)) return;
+    f40(self, j0, i1, i2); m = self->memory; if (NEVER(self->is_broken)) return;
     i0 = l58;
     i1 = 1u;
     i0 += i1;
@@ -40269,7 +40819,7 @@ static void f28(module *self, u64 p0, u64 p1, u64 p2, u64 p3, u64 p4, u64 p5, u6
   self->g0 = j0;
 }
 
-static void f29(module *self, u64 p0, u64 p1, u32 p2) {
+static void f28(module *self, u64 p0, u64 p1, u32 p2) {
   u32 l3 = 0, l4 = 0, l5 = 0, l6 = 0;
   u64 l7 = 0, l8 = 0;
   u8 *m = self->memory;
@@ -40718,7 +41268,7 @@ static void f29(module *self, u64 p0, u64 p1, u32 p2) {
   i32_store8(j0, i1);
 }
 
-static u32 f30(module *self, u64 p0, u32 p1, u32 p2) {
+static u32 f29(module *self, u64 p0, u32 p1, u32 p2) {
   u32 l11 = 0, l12 = 0, l13 = 0;
   u64 l3 = 0, l4 = 0, l5 = 0, l6 = 0, l7 = 0, l8 = 0, l9 = 0, l10 = 0;
   u8 *m = self->memory;
@@ -40780,7 +41330,7 @@ static u32 f30(module *self, u64 p0, u32 p1, u32 p2) {
   j1 = 2072ull;
   j0 += j1;
   j1 = 4ull;
-  i0 = f15(self, j0, j1); m = self->memory; if (NEVER(self->is_broken)) return ZAK_BROKEN;
+  i0 = f14(self, j0, j1); m = self->memory; if (NEVER(self->is_broken)) return ZAK_BROKEN;
   i0 = !(i0);
   if (i0) {goto B0;}
   j0 = p0;
@@ -40880,7 +41430,7 @@ static u32 f30(module *self, u64 p0, u32 p1, u32 p2) {
   j1 = 16ull;
   j0 += j1;
   j1 = l5;
-  f26(self, j0, j1);
+  f25(self, j0, j1);
   j0 = p0;
   j1 = 196ull;
   j0 += j1;
@@ -40964,7 +41514,7 @@ static u32 f30(module *self, u64 p0, u32 p1, u32 p2) {
   j1 = 2072ull;
   j0 += j1;
   j1 = 3ull;
-  i0 = f15(self, j0, j1); m = self->memory; if (NEVER(self->is_broken)) return ZAK_BROKEN;
+  i0 = f14(self, j0, j1); m = self->memory; if (NEVER(self->is_broken)) return ZAK_BROKEN;
   i0 = !(i0);
   if (i0) {goto B6;}
   j0 = p0;
@@ -41086,7 +41636,7 @@ static u32 f30(module *self, u64 p0, u32 p1, u32 p2) {
   j1 = 2072ull;
   j0 += j1;
   j1 = 3ull;
-  i0 = f15(self, j0, j1); m = self->memory; if (NEVER(self->is_broken)) return ZAK_BROKEN;
+  i0 = f14(self, j0, j1); m = self->memory; if (NEVER(self->is_broken)) return ZAK_BROKEN;
   i0 = !(i0);
   if (i0) {goto B9;}
   j0 = p0;
@@ -41147,7 +41697,7 @@ static u32 f30(module *self, u64 p0, u32 p1, u32 p2) {
   j0 += j1;
   j1 = p0;
   i2 = p1;
-  f29(self, j0, j1, i2); if (NEVER(self->is_broken)) return ZAK_BROKEN;
+  f28(self, j0, j1, i2); if (NEVER(self->is_broken)) return ZAK_BROKEN;
   j0 = l3;
   j1 = 32ull;
   j0 += j1;
@@ -41156,7 +41706,7 @@ static u32 f30(module *self, u64 p0, u32 p1, u32 p2) {
   return i0;
 }
 
-static void f31(module *self, u64 p0, u64 p1, u64 p2, u64 p3, u32 p4) {
+static void f30(module *self, u64 p0, u64 p1, u64 p2, u64 p3, u32 p4) {
   u32 l16 = 0, l17 = 0, l18 = 0, l19 = 0, l20 = 0, l21 = 0, l22 = 0, l23 = 0, 
       l24 = 0, l25 = 0, l26 = 0, l27 = 0, l28 = 0, l29 = 0;
   u64 l5 = 0, l6 = 0, l7 = 0, l8 = 0, l9 = 0, l10 = 0, l11 = 0, l12 = 0, 
@@ -41167,19 +41717,19 @@ static void f31(module *self, u64 p0, u64 p1, u64 p2, u64 p3, u32 p4) {
   j0 = p1;
   i1 = 2u;
   i2 = 4u;
-  f48(self, j0, i1, i2); m = self->memory; if (NEVER(self->is_broken)) return;
+  f47(self, j0, i1, i2); m = self->memory; if (NEVER(self->is_broken)) return;
   j0 = p1;
   i1 = 4u;
   i2 = 6u;
-  f48(self, j0, i1, i2); m = self->memory; if (NEVER(self->is_broken)) return;
+  f47(self, j0, i1, i2); m = self->memory; if (NEVER(self->is_broken)) return;
   j0 = p1;
   i1 = 5u;
   i2 = 0u;
-  f38(self, j0, i1, i2); m = self->memory; if (NEVER(self->is_broken)) return;
+  f37(self, j0, i1, i2); m = self->memory; if (NEVER(self->is_broken)) return;
   j0 = p1;
   i1 = 6u;
   i2 = 4u;
-  f38(self, j0, i1, i2); m = self->memory; if (NEVER(self->is_broken)) return;
+  f37(self, j0, i1, i2); m = self->memory; if (NEVER(self->is_broken)) return;
   j0 = p0;
   j1 = 16ull;
   j0 >>= (j1 & 63);
@@ -41300,7 +41850,7 @@ static void f31(module *self, u64 p0, u64 p1, u64 p2, u64 p3, u32 p4) {
       j1 = 2072ull;
       j0 += j1;
       j1 = 6ull;
-      i0 = f15(self, j0, j1); m = self->memory; if (NEVER(self->is_broken)) return;
+      i0 = f14(self, j0, j1); m = self->memory; if (NEVER(self->is_broken)) return;
       i0 = !(i0);
       if (i0) {goto B4;}
       j0 = p1;
@@ -41439,7 +41989,7 @@ static void f31(module *self, u64 p0, u64 p1, u64 p2, u64 p3, u32 p4) {
       j0 = (u64)(i0);
       j1 = 60ull;
       j0 &= j1;
-      j1 = 1048844ull;
+      j1 = 1048908ull;
       j0 += j1;
       i0 = (u32)(j0);
       i0 = i32_load(j0);
@@ -41477,7 +42027,7 @@ static void f31(module *self, u64 p0, u64 p1, u64 p2, u64 p3, u32 p4) {
       j1 = (u64)(i1);
       j2 = 60ull;
       j1 &= j2;
-      j2 = 1048844ull;
+      j2 = 1048908ull;
       j1 += j2;
       i1 = (u32)(j1);
       i1 = i32_load(j1);
@@ -41493,7 +42043,7 @@ static void f31(module *self, u64 p0, u64 p1, u64 p2, u64 p3, u32 p4) {
       j0 = (u64)(i0);
       j1 = 60ull;
       j0 &= j1;
-      j1 = 1048844ull;
+      j1 = 1048908ull;
       j0 += j1;
       i0 = (u32)(j0);
       i0 = i32_load(j0);
@@ -41510,7 +42060,7 @@ static void f31(module *self, u64 p0, u64 p1, u64 p2, u64 p3, u32 p4) {
       j0 = (u64)(i0);
       j1 = 60ull;
       j0 &= j1;
-      j1 = 1048844ull;
+      j1 = 1048908ull;
       j0 += j1;
       i0 = (u32)(j0);
       i0 = i32_load(j0);
@@ -41673,7 +42223,7 @@ static void f31(module *self, u64 p0, u64 p1, u64 p2, u64 p3, u32 p4) {
       j2 = (u64)(i2);
       j3 = 60ull;
       j2 &= j3;
-      j3 = 1048844ull;
+      j3 = 1048908ull;
       j2 += j3;
       i2 = (u32)(j2);
       i2 = i32_load(j2);
@@ -41778,7 +42328,7 @@ static void f31(module *self, u64 p0, u64 p1, u64 p2, u64 p3, u32 p4) {
     i0 = l27;
     l21 = i0;
     L24: 
-      j0 = 1048841ull;
+      j0 = 1048905ull;
       l5 = j0;
       j0 = p2;
       i0 = (u32)(j0);
@@ -41850,7 +42400,7 @@ static void f31(module *self, u64 p0, u64 p1, u64 p2, u64 p3, u32 p4) {
       j1 = 2072ull;
       j0 += j1;
       j1 = 6ull;
-      i0 = f15(self, j0, j1); m = self->memory; if (NEVER(self->is_broken)) return;
+      i0 = f14(self, j0, j1); m = self->memory; if (NEVER(self->is_broken)) return;
       i0 = !(i0);
       if (i0) {goto B26;}
       j0 = p1;
@@ -41952,7 +42502,7 @@ static void f31(module *self, u64 p0, u64 p1, u64 p2, u64 p3, u32 p4) {
       i1 = (u32)(j1);
       i1 = i32_load8_u(j1);
       i2 = l22;
-      i0 = f49(self, j0, i1, i2);
+      i0 = f48(self, j0, i1, i2);
       l22 = i0;
       j0 = p1;
       j1 = 68ull;
@@ -42028,7 +42578,7 @@ static void f31(module *self, u64 p0, u64 p1, u64 p2, u64 p3, u32 p4) {
       j2 = (u64)(i2);
       j3 = 60ull;
       j2 &= j3;
-      j3 = 1048844ull;
+      j3 = 1048908ull;
       j2 += j3;
       i2 = (u32)(j2);
       i2 = i32_load(j2);
@@ -42108,7 +42658,7 @@ static void f31(module *self, u64 p0, u64 p1, u64 p2, u64 p3, u32 p4) {
     i0 = l19;
     l21 = i0;
     L32: 
-      j0 = 1048841ull;
+      j0 = 1048905ull;
       l5 = j0;
       j0 = p2;
       j1 = 16ull;
@@ -42182,7 +42732,7 @@ static void f31(module *self, u64 p0, u64 p1, u64 p2, u64 p3, u32 p4) {
       j1 = 2072ull;
       j0 += j1;
       j1 = 6ull;
-      i0 = f15(self, j0, j1); m = self->memory; if (NEVER(self->is_broken)) return;
+      i0 = f14(self, j0, j1); m = self->memory; if (NEVER(self->is_broken)) return;
       i0 = !(i0);
       if (i0) {goto B34;}
       j0 = p1;
@@ -42284,7 +42834,7 @@ static void f31(module *self, u64 p0, u64 p1, u64 p2, u64 p3, u32 p4) {
       i1 = (u32)(j1);
       i1 = i32_load8_u(j1);
       i2 = l22;
-      i0 = f49(self, j0, i1, i2);
+      i0 = f48(self, j0, i1, i2);
       l22 = i0;
       j0 = p1;
       j1 = 68ull;
@@ -42360,7 +42910,7 @@ static void f31(module *self, u64 p0, u64 p1, u64 p2, u64 p3, u32 p4) {
       j2 = (u64)(i2);
       j3 = 60ull;
       j2 &= j3;
-      j3 = 1048844ull;
+      j3 = 1048908ull;
       j2 += j3;
       i2 = (u32)(j2);
       i2 = i32_load(j2);
@@ -42445,7 +42995,7 @@ static void f31(module *self, u64 p0, u64 p1, u64 p2, u64 p3, u32 p4) {
     j0 = l6;
     l9 = j0;
     L40: 
-      j0 = 1048841ull;
+      j0 = 1048905ull;
       l5 = j0;
       j0 = p2;
       j1 = 32ull;
@@ -42517,7 +43067,7 @@ static void f31(module *self, u64 p0, u64 p1, u64 p2, u64 p3, u32 p4) {
       j1 = 2072ull;
       j0 += j1;
       j1 = 6ull;
-      i0 = f15(self, j0, j1); m = self->memory; if (NEVER(self->is_broken)) return;
+      i0 = f14(self, j0, j1); m = self->memory; if (NEVER(self->is_broken)) return;
       i0 = !(i0);
       if (i0) {goto B42;}
       j0 = p1;
@@ -42619,7 +43169,7 @@ static void f31(module *self, u64 p0, u64 p1, u64 p2, u64 p3, u32 p4) {
       i1 = (u32)(j1);
       i1 = i32_load8_u(j1);
       i2 = l22;
-      i0 = f49(self, j0, i1, i2);
+      i0 = f48(self, j0, i1, i2);
       l22 = i0;
       j0 = p1;
       j1 = 68ull;
@@ -42695,7 +43245,7 @@ static void f31(module *self, u64 p0, u64 p1, u64 p2, u64 p3, u32 p4) {
       j2 = (u64)(i2);
       j3 = 60ull;
       j2 &= j3;
-      j3 = 1048844ull;
+      j3 = 1048908ull;
       j2 += j3;
       i2 = (u32)(j2);
       i2 = i32_load(j2);
@@ -42746,22 +43296,22 @@ static void f31(module *self, u64 p0, u64 p1, u64 p2, u64 p3, u32 p4) {
   j0 = p1;
   i1 = 2u;
   i2 = 3u;
-  f48(self, j0, i1, i2); m = self->memory; if (NEVER(self->is_broken)) return;
+  f47(self, j0, i1, i2); m = self->memory; if (NEVER(self->is_broken)) return;
   j0 = p1;
   i1 = 4u;
   i2 = 2u;
-  f48(self, j0, i1, i2); m = self->memory; if (NEVER(self->is_broken)) return;
+  f47(self, j0, i1, i2); m = self->memory; if (NEVER(self->is_broken)) return;
   j0 = p1;
   i1 = 5u;
   i2 = 16u;
-  f38(self, j0, i1, i2); m = self->memory; if (NEVER(self->is_broken)) return;
+  f37(self, j0, i1, i2); m = self->memory; if (NEVER(self->is_broken)) return;
   j0 = p1;
   i1 = 6u;
   i2 = p4;
-  f38(self, j0, i1, i2); m = self->memory; if (NEVER(self->is_broken)) return;
+  f37(self, j0, i1, i2); m = self->memory; if (NEVER(self->is_broken)) return;
 }
 
-static void f32(module *self, u64 p0, u32 p1, u32 p2) {
+static void f31(module *self, u64 p0, u32 p1, u32 p2) {
   u32 l10 = 0, l11 = 0, l12 = 0;
   u64 l3 = 0, l4 = 0, l5 = 0, l6 = 0, l7 = 0, l8 = 0, l9 = 0;
   u8 *m = self->memory;
@@ -42819,7 +43369,7 @@ static void f32(module *self, u64 p0, u32 p1, u32 p2) {
   j1 = 2072ull;
   j0 += j1;
   j1 = 4ull;
-  i0 = f15(self, j0, j1); m = self->memory; if (NEVER(self->is_broken)) return;
+  i0 = f14(self, j0, j1); m = self->memory; if (NEVER(self->is_broken)) return;
   i0 = !(i0);
   if (i0) {goto B0;}
   j0 = p0;
@@ -42947,7 +43497,7 @@ static void f32(module *self, u64 p0, u32 p1, u32 p2) {
   j1 = 65535ull;
   j0 &= j1;
   i0 = (u32)(j0);
-  i0 = i32_load8_u(j0 + 1051888u);
+  i0 = i32_load8_u(j0 + 1052008u);
   l11 = i0;
   B3:;
   j0 = l3;
@@ -42956,7 +43506,7 @@ static void f32(module *self, u64 p0, u32 p1, u32 p2) {
   j1 = p0;
   i2 = l11;
   i3 = p2;
-  f47(self, j0, j1, i2, i3);
+  f46(self, j0, j1, i2, i3);
   B2:;
   j0 = l3;
   j1 = 16ull;
@@ -42964,7 +43514,7 @@ static void f32(module *self, u64 p0, u32 p1, u32 p2) {
   self->g0 = j0;
 }
 
-static void f33(module *self, u64 p0, u64 p1, u64 p2) {
+static void f32(module *self, u64 p0, u64 p1, u64 p2) {
   u32 l4 = 0, l5 = 0, l6 = 0, l7 = 0, l8 = 0, l9 = 0, l10 = 0, l11 = 0, 
       l12 = 0, l13 = 0;
   u64 l3 = 0;
@@ -43057,7 +43607,7 @@ static void f33(module *self, u64 p0, u64 p1, u64 p2) {
   j2 += j3;
   i2 = (u32)(j2);
   i2 = i32_load16_u(j2);
-  f23(self, j0, i1, i2);
+  f22(self, j0, i1, i2);
   i0 = 0u;
   l8 = i0;
   i0 = 0u;
@@ -43097,7 +43647,7 @@ static void f33(module *self, u64 p0, u64 p1, u64 p2) {
   j2 += j3;
   i2 = (u32)(j2);
   i2 = i32_load16_u(j2);
-  f23(self, j0, i1, i2);
+  f22(self, j0, i1, i2);
   i0 = 0u;
   l9 = i0;
   i0 = 0u;
@@ -43131,7 +43681,7 @@ static void f33(module *self, u64 p0, u64 p1, u64 p2) {
   j2 += j3;
   i2 = (u32)(j2);
   i2 = i32_load16_u(j2);
-  f23(self, j0, i1, i2);
+  f22(self, j0, i1, i2);
   i0 = 0u;
   l9 = i0;
   i0 = 0u;
@@ -43165,7 +43715,7 @@ static void f33(module *self, u64 p0, u64 p1, u64 p2) {
   j2 += j3;
   i2 = (u32)(j2);
   i2 = i32_load16_u(j2);
-  f23(self, j0, i1, i2);
+  f22(self, j0, i1, i2);
   i0 = 0u;
   l10 = i0;
   i0 = l7;
@@ -43211,7 +43761,7 @@ static void f33(module *self, u64 p0, u64 p1, u64 p2) {
   j2 += j3;
   i2 = (u32)(j2);
   i2 = i32_load16_u(j2);
-  f23(self, j0, i1, i2);
+  f22(self, j0, i1, i2);
   i0 = 0u;
   l13 = i0;
   i0 = 0u;
@@ -43251,7 +43801,7 @@ static void f33(module *self, u64 p0, u64 p1, u64 p2) {
   j2 += j3;
   i2 = (u32)(j2);
   i2 = i32_load16_u(j2);
-  f23(self, j0, i1, i2);
+  f22(self, j0, i1, i2);
   i0 = 0u;
   l7 = i0;
   i0 = 0u;
@@ -43291,7 +43841,7 @@ static void f33(module *self, u64 p0, u64 p1, u64 p2) {
   j2 += j3;
   i2 = (u32)(j2);
   i2 = i32_load16_u(j2);
-  f23(self, j0, i1, i2);
+  f22(self, j0, i1, i2);
   i0 = 0u;
   l10 = i0;
   i0 = 0u;
@@ -43422,7 +43972,7 @@ static void f33(module *self, u64 p0, u64 p1, u64 p2) {
   self->g0 = j0;
 }
 
-static void f34(module *self, u64 p0, u64 p1, u64 p2, u64 p3) {
+static void f33(module *self, u64 p0, u64 p1, u64 p2, u64 p3) {
   u32 l7 = 0, l8 = 0, l9 = 0, l10 = 0, l11 = 0, l12 = 0, l13 = 0, l14 = 0, 
       l15 = 0;
   u64 l4 = 0, l5 = 0, l6 = 0;
@@ -43517,7 +44067,7 @@ static void f34(module *self, u64 p0, u64 p1, u64 p2, u64 p3) {
   j2 += j3;
   i2 = (u32)(j2);
   i2 = i32_load16_u(j2);
-  f23(self, j0, i1, i2);
+  f22(self, j0, i1, i2);
   i0 = 1u;
   l14 = i0;
   i0 = 6u;
@@ -43588,7 +44138,7 @@ static void f34(module *self, u64 p0, u64 p1, u64 p2, u64 p3) {
   j2 += j3;
   i2 = (u32)(j2);
   i2 = i32_load16_u(j2);
-  f23(self, j0, i1, i2);
+  f22(self, j0, i1, i2);
   i0 = 1u;
   l14 = i0;
   i0 = 6u;
@@ -43673,7 +44223,7 @@ static void f34(module *self, u64 p0, u64 p1, u64 p2, u64 p3) {
   j2 += j3;
   i2 = (u32)(j2);
   i2 = i32_load16_u(j2);
-  f23(self, j0, i1, i2);
+  f22(self, j0, i1, i2);
   i0 = 1u;
   l14 = i0;
   i0 = 6u;
@@ -43805,7 +44355,7 @@ static void f34(module *self, u64 p0, u64 p1, u64 p2, u64 p3) {
   i2 = (u32)(j2);
   i2 = i32_load16_u(j2);
   l12 = i2;
-  f23(self, j0, i1, i2);
+  f22(self, j0, i1, i2);
   i0 = 1u;
   l14 = i0;
   i0 = 6u;
@@ -43906,7 +44456,7 @@ static void f34(module *self, u64 p0, u64 p1, u64 p2, u64 p3) {
   j2 += j3;
   i2 = (u32)(j2);
   i2 = i32_load16_u(j2);
-  f23(self, j0, i1, i2);
+  f22(self, j0, i1, i2);
   i0 = 6u;
   i1 = 0u;
   j2 = l4;
@@ -44014,7 +44564,7 @@ static void f34(module *self, u64 p0, u64 p1, u64 p2, u64 p3) {
   self->g0 = j0;
 }
 
-static void f35(module *self, u64 p0, u64 p1, u32 p2) {
+static void f34(module *self, u64 p0, u64 p1, u32 p2) {
   u32 l3 = 0, l4 = 0, l5 = 0, l6 = 0, l7 = 0;
   u8 *m = self->memory;
   u32 i0, i1, i2, i3, i4, i5;
@@ -44071,7 +44621,7 @@ static void f35(module *self, u64 p0, u64 p1, u32 p2) {
   i1 = i32_load16_u(j1);
   l6 = i1;
   i2 = 14u;
-  f32(self, j0, i1, i2); m = self->memory; if (NEVER(self->is_broken)) return;
+  f31(self, j0, i1, i2); m = self->memory; if (NEVER(self->is_broken)) return;
   j0 = p0;
   i1 = l6;
   i2 = 1u;
@@ -44095,19 +44645,19 @@ static void f35(module *self, u64 p0, u64 p1, u32 p2) {
   p2 = i2;
   i3 = 8u;
   i2 >>= (i3 & 31);
-  f32(self, j0, i1, i2); m = self->memory; if (NEVER(self->is_broken)) return;
+  f31(self, j0, i1, i2); m = self->memory; if (NEVER(self->is_broken)) return;
   j0 = p0;
   i1 = l6;
   i2 = 15u;
-  f32(self, j0, i1, i2); m = self->memory; if (NEVER(self->is_broken)) return;
+  f31(self, j0, i1, i2); m = self->memory; if (NEVER(self->is_broken)) return;
   j0 = p0;
   i1 = l7;
   i2 = p2;
-  f32(self, j0, i1, i2); m = self->memory; if (NEVER(self->is_broken)) return;
+  f31(self, j0, i1, i2); m = self->memory; if (NEVER(self->is_broken)) return;
   B0:;
 }
 
-static void f36(module *self, u64 p0, u64 p1, u64 p2, u32 p3, u64 p4) {
+static void f35(module *self, u64 p0, u64 p1, u64 p2, u32 p3, u64 p4) {
   u32 l6 = 0, l7 = 0, l8 = 0, l9 = 0, l10 = 0, l11 = 0, l12 = 0, l13 = 0, 
       l14 = 0, l15 = 0, l16 = 0, l17 = 0, l18 = 0, l19 = 0, l20 = 0;
   u64 l5 = 0;
@@ -44258,7 +44808,7 @@ static void f36(module *self, u64 p0, u64 p1, u64 p2, u32 p3, u64 p4) {
   j0 = p1;
   i1 = 5u;
   i2 = 1u;
-  f38(self, j0, i1, i2); m = self->memory; if (NEVER(self->is_broken)) return;
+  f37(self, j0, i1, i2); m = self->memory; if (NEVER(self->is_broken)) return;
   B3:;
   j0 = l5;
   i0 = (u32)(j0);
@@ -44315,7 +44865,7 @@ static void f36(module *self, u64 p0, u64 p1, u64 p2, u32 p3, u64 p4) {
     i3 = l13;
     i2 += i3;
     i3 = l13;
-    f50(self, j0, j1, i2, i3); m = self->memory; if (NEVER(self->is_broken)) return;
+    f49(self, j0, j1, i2, i3); m = self->memory; if (NEVER(self->is_broken)) return;
     i0 = l13;
     i1 = 1u;
     i0 += i1;
@@ -44355,7 +44905,7 @@ static void f36(module *self, u64 p0, u64 p1, u64 p2, u32 p3, u64 p4) {
     i2 += i3;
     l9 = i2;
     i3 = l13;
-    f50(self, j0, j1, i2, i3); m = self->memory; if (NEVER(self->is_broken)) return;
+    f49(self, j0, j1, i2, i3); m = self->memory; if (NEVER(self->is_broken)) return;
     i0 = l17;
     i1 = l9;
     i0 = i0 < i1;
@@ -44367,7 +44917,7 @@ static void f36(module *self, u64 p0, u64 p1, u64 p2, u32 p3, u64 p4) {
   j0 = p1;
   i1 = 5u;
   i2 = 0u;
-  f38(self, j0, i1, i2); m = self->memory; if (NEVER(self->is_broken)) return;
+  f37(self, j0, i1, i2); m = self->memory; if (NEVER(self->is_broken)) return;
   j0 = l5;
   i0 = (u32)(j0);
   i1 = 0u;
@@ -44423,7 +44973,7 @@ static void f36(module *self, u64 p0, u64 p1, u64 p2, u32 p3, u64 p4) {
   i2 = l15;
   i3 = 15u;
   i2 &= i3;
-  f48(self, j0, i1, i2); m = self->memory; if (NEVER(self->is_broken)) return;
+  f47(self, j0, i1, i2); m = self->memory; if (NEVER(self->is_broken)) return;
   goto B10;
   B12:;
   i0 = 0u;
@@ -44477,7 +45027,7 @@ static void f36(module *self, u64 p0, u64 p1, u64 p2, u32 p3, u64 p4) {
     i2 = 32u;
     i3 = l15;
     i4 = l13;
-    f51(self, j0, j1, i2, i3, i4); m = self->memory; if (NEVER(self->is_broken)) return;
+    f50(self, j0, j1, i2, i3, i4); m = self->memory; if (NEVER(self->is_broken)) return;
     i0 = l13;
     i1 = 1u;
     i0 += i1;
@@ -44498,7 +45048,7 @@ static void f36(module *self, u64 p0, u64 p1, u64 p2, u32 p3, u64 p4) {
     i2 = 0u;
     i3 = 0u;
     i4 = l9;
-    f51(self, j0, j1, i2, i3, i4); m = self->memory; if (NEVER(self->is_broken)) return;
+    f50(self, j0, j1, i2, i3, i4); m = self->memory; if (NEVER(self->is_broken)) return;
     i0 = l9;
     i1 = 1u;
     i0 += i1;
@@ -44513,7 +45063,7 @@ static void f36(module *self, u64 p0, u64 p1, u64 p2, u32 p3, u64 p4) {
   i2 = l15;
   i3 = 15u;
   i2 &= i3;
-  f48(self, j0, i1, i2); m = self->memory; if (NEVER(self->is_broken)) return;
+  f47(self, j0, i1, i2); m = self->memory; if (NEVER(self->is_broken)) return;
   j0 = l5;
   i0 = (u32)(j0);
   i1 = 0u;
@@ -44554,7 +45104,7 @@ static void f36(module *self, u64 p0, u64 p1, u64 p2, u32 p3, u64 p4) {
     i2 = 255u;
     i3 = 255u;
     i4 = l13;
-    f51(self, j0, j1, i2, i3, i4); m = self->memory; if (NEVER(self->is_broken)) return;
+    f50(self, j0, j1, i2, i3, i4); m = self->memory; if (NEVER(self->is_broken)) return;
     i0 = l13;
     i1 = 1u;
     i0 += i1;
@@ -44568,7 +45118,7 @@ static void f36(module *self, u64 p0, u64 p1, u64 p2, u32 p3, u64 p4) {
   j0 = p1;
   i1 = 2u;
   i2 = 15u;
-  f48(self, j0, i1, i2); m = self->memory; if (NEVER(self->is_broken)) return;
+  f47(self, j0, i1, i2); m = self->memory; if (NEVER(self->is_broken)) return;
   goto B8;
   B9:;
   j0 = l5;
@@ -44615,7 +45165,7 @@ static void f36(module *self, u64 p0, u64 p1, u64 p2, u32 p3, u64 p4) {
     i2 = l15;
     i3 = l15;
     i4 = l13;
-    f51(self, j0, j1, i2, i3, i4); m = self->memory; if (NEVER(self->is_broken)) return;
+    f50(self, j0, j1, i2, i3, i4); m = self->memory; if (NEVER(self->is_broken)) return;
     i0 = l13;
     i1 = 1u;
     i0 += i1;
@@ -44632,7 +45182,7 @@ static void f36(module *self, u64 p0, u64 p1, u64 p2, u32 p3, u64 p4) {
   self->g0 = j0;
 }
 
-static void f37(module *self, u64 p0, u64 p1, u32 p2) {
+static void f36(module *self, u64 p0, u64 p1, u32 p2) {
   u32 l3 = 0, l4 = 0, l5 = 0;
   u8 *m = self->memory;
   u32 i0, i1, i2, i3, i4, i5;
@@ -44721,7 +45271,7 @@ static void f37(module *self, u64 p0, u64 p1, u32 p2) {
   j0 = (u64)(i0);
   j1 = 60ull;
   j0 &= j1;
-  j1 = 1048844ull;
+  j1 = 1048908ull;
   j0 += j1;
   i0 = (u32)(j0);
   i0 = i32_load(j0);
@@ -44737,7 +45287,7 @@ static void f37(module *self, u64 p0, u64 p1, u32 p2) {
   j1 = (u64)(i1);
   j2 = 60ull;
   j1 &= j2;
-  j2 = 1048844ull;
+  j2 = 1048908ull;
   j1 += j2;
   i1 = (u32)(j1);
   i1 = i32_load(j1);
@@ -44818,7 +45368,7 @@ static void f37(module *self, u64 p0, u64 p1, u32 p2) {
   i32_store8(j0, i1);
 }
 
-static void f38(module *self, u64 p0, u32 p1, u32 p2) {
+static void f37(module *self, u64 p0, u32 p1, u32 p2) {
   u64 l3 = 0, l4 = 0, l5 = 0, l6 = 0, l7 = 0, l8 = 0;
   u8 *m = self->memory;
   u32 i0, i1, i2, i3, i4;
@@ -44878,7 +45428,7 @@ static void f38(module *self, u64 p0, u32 p1, u32 p2) {
   j1 = 2072ull;
   j0 += j1;
   j1 = 4ull;
-  i0 = f15(self, j0, j1); m = self->memory; if (NEVER(self->is_broken)) return;
+  i0 = f14(self, j0, j1); m = self->memory; if (NEVER(self->is_broken)) return;
   i0 = !(i0);
   if (i0) {goto B4;}
   j0 = p0;
@@ -44981,7 +45531,7 @@ static void f38(module *self, u64 p0, u32 p1, u32 p2) {
   j1 = 2072ull;
   j0 += j1;
   j1 = 4ull;
-  i0 = f15(self, j0, j1); m = self->memory; if (NEVER(self->is_broken)) return;
+  i0 = f14(self, j0, j1); m = self->memory; if (NEVER(self->is_broken)) return;
   i0 = !(i0);
   if (i0) {goto B6;}
   j0 = p0;
@@ -45140,7 +45690,7 @@ static void f38(module *self, u64 p0, u32 p1, u32 p2) {
   j1 <<= (j2 & 63);
   l4 = j1;
   i1 = (u32)(j1);
-  i1 = i32_load(j1 + 1051648u);
+  i1 = i32_load(j1 + 1051768u);
   i32_store(j0, i1);
   j0 = p0;
   j1 = 64ull;
@@ -45148,7 +45698,7 @@ static void f38(module *self, u64 p0, u32 p1, u32 p2) {
   i0 = (u32)(j0);
   j1 = l4;
   i1 = (u32)(j1);
-  i1 = i32_load(j1 + 1051664u);
+  i1 = i32_load(j1 + 1051784u);
   i32_store(j0, i1);
   j0 = p0;
   j1 = 72ull;
@@ -45189,7 +45739,7 @@ static void f38(module *self, u64 p0, u32 p1, u32 p2) {
   B0:;
 }
 
-static u32 f39(module *self, u64 p0, u32 p1, u64 p2) {
+static u32 f38(module *self, u64 p0, u32 p1, u64 p2) {
   u32 l3 = 0, l4 = 0, l5 = 0;
   u64 l6 = 0, l7 = 0, l8 = 0, l9 = 0, l10 = 0, l11 = 0;
   u8 *m = self->memory;
@@ -45857,7 +46407,7 @@ static u32 f39(module *self, u64 p0, u32 p1, u64 p2) {
   return i0;
 }
 
-static void f40(module *self, u64 p0, u64 p1, u32 p2, u32 p3, u32 p4, u32 p5) {
+static void f39(module *self, u64 p0, u64 p1, u32 p2, u32 p3, u32 p4, u32 p5) {
   u32 l19 = 0, l20 = 0, l21 = 0, l22 = 0, l23 = 0, l24 = 0;
   u64 l6 = 0, l7 = 0, l8 = 0, l9 = 0, l10 = 0, l11 = 0, l12 = 0, l13 = 0, 
       l14 = 0, l15 = 0, l16 = 0, l17 = 0, l18 = 0;
@@ -45937,7 +46487,7 @@ static void f40(module *self, u64 p0, u64 p1, u32 p2, u32 p3, u32 p4, u32 p5) {
   i1 += i2;
   l20 = i1;
   i2 = p3;
-  f41(self, j0, i1, i2); m = self->memory; if (NEVER(self->is_broken)) return;
+  f40(self, j0, i1, i2); m = self->memory; if (NEVER(self->is_broken)) return;
   i0 = p5;
   i1 = 1u;
   i0 &= i1;
@@ -45948,7 +46498,7 @@ static void f40(module *self, u64 p0, u64 p1, u32 p2, u32 p3, u32 p4, u32 p5) {
   i2 = 1u;
   i1 += i2;
   i2 = p4;
-  f41(self, j0, i1, i2); m = self->memory; if (NEVER(self->is_broken)) return;
+  f40(self, j0, i1, i2); m = self->memory; if (NEVER(self->is_broken)) return;
   goto B1;
   B3:;
   j0 = p1;
@@ -46036,13 +46586,13 @@ static void f40(module *self, u64 p0, u64 p1, u32 p2, u32 p3, u32 p4, u32 p5) {
   j0 = p0;
   i1 = 3u;
   i2 = 24u;
-  f38(self, j0, i1, i2); m = self->memory; if (NEVER(self->is_broken)) return;
+  f37(self, j0, i1, i2); m = self->memory; if (NEVER(self->is_broken)) return;
   j0 = p0;
   i1 = 2u;
   i2 = p4;
   i3 = 15u;
   i2 &= i3;
-  f48(self, j0, i1, i2); m = self->memory; if (NEVER(self->is_broken)) return;
+  f47(self, j0, i1, i2); m = self->memory; if (NEVER(self->is_broken)) return;
   i0 = p5;
   i0 = !(i0);
   if (i0) {goto B8;}
@@ -46090,7 +46640,7 @@ static void f40(module *self, u64 p0, u64 p1, u32 p2, u32 p3, u32 p4, u32 p5) {
       default: goto B11;
     }
     B13:;
-    j0 = 1048841ull;
+    j0 = 1048905ull;
     l12 = j0;
     j0 = l7;
     i0 = (u32)(j0);
@@ -46115,7 +46665,7 @@ static void f40(module *self, u64 p0, u64 p1, u32 p2, u32 p3, u32 p4, u32 p5) {
     l12 = j0;
     goto B10;
     B12:;
-    j0 = 1048841ull;
+    j0 = 1048905ull;
     l12 = j0;
     j0 = l7;
     j1 = 16ull;
@@ -46142,7 +46692,7 @@ static void f40(module *self, u64 p0, u64 p1, u32 p2, u32 p3, u32 p4, u32 p5) {
     l12 = j0;
     goto B10;
     B11:;
-    j0 = 1048841ull;
+    j0 = 1048905ull;
     l12 = j0;
     j0 = l7;
     j1 = 32ull;
@@ -46226,7 +46776,7 @@ static void f40(module *self, u64 p0, u64 p1, u32 p2, u32 p3, u32 p4, u32 p5) {
     j1 = 2072ull;
     j0 += j1;
     j1 = 5ull;
-    i0 = f15(self, j0, j1); m = self->memory; if (NEVER(self->is_broken)) return;
+    i0 = f14(self, j0, j1); m = self->memory; if (NEVER(self->is_broken)) return;
     i0 = !(i0);
     if (i0) {goto B17;}
     j0 = p0;
@@ -46277,11 +46827,11 @@ static void f40(module *self, u64 p0, u64 p1, u32 p2, u32 p3, u32 p4, u32 p5) {
     j0 = l6;
     j1 = p0;
     i2 = p4;
-    f37(self, j0, j1, i2);
+    f36(self, j0, j1, i2);
     j0 = p0;
     i1 = p4;
     i2 = p2;
-    f41(self, j0, i1, i2); m = self->memory; if (NEVER(self->is_broken)) return;
+    f40(self, j0, i1, i2); m = self->memory; if (NEVER(self->is_broken)) return;
     j0 = l8;
     j1 = 1ull;
     j0 += j1;
@@ -46301,11 +46851,11 @@ static void f40(module *self, u64 p0, u64 p1, u32 p2, u32 p3, u32 p4, u32 p5) {
   j0 = p0;
   i1 = 2u;
   i2 = 15u;
-  f48(self, j0, i1, i2); m = self->memory; if (NEVER(self->is_broken)) return;
+  f47(self, j0, i1, i2); m = self->memory; if (NEVER(self->is_broken)) return;
   j0 = p0;
   i1 = 3u;
   i2 = 0u;
-  f38(self, j0, i1, i2); m = self->memory; if (NEVER(self->is_broken)) return;
+  f37(self, j0, i1, i2); m = self->memory; if (NEVER(self->is_broken)) return;
   goto B1;
   B7:;
   j0 = l6;
@@ -46339,13 +46889,13 @@ static void f40(module *self, u64 p0, u64 p1, u32 p2, u32 p3, u32 p4, u32 p5) {
   i2 = 0u;
   i3 = 0u;
   i4 = l24;
-  f51(self, j0, j1, i2, i3, i4); m = self->memory; if (NEVER(self->is_broken)) return;
+  f50(self, j0, j1, i2, i3, i4); m = self->memory; if (NEVER(self->is_broken)) return;
   j0 = p0;
   i1 = 2u;
   i2 = p4;
   i3 = 15u;
   i2 &= i3;
-  f48(self, j0, i1, i2); m = self->memory; if (NEVER(self->is_broken)) return;
+  f47(self, j0, i1, i2); m = self->memory; if (NEVER(self->is_broken)) return;
   i0 = p5;
   i0 = !(i0);
   if (i0) {goto B19;}
@@ -46380,9 +46930,9 @@ static void f40(module *self, u64 p0, u64 p1, u32 p2, u32 p3, u32 p4, u32 p5) {
   j1 = 3ull;
   j0 <<= (j1 & 63);
   p1 = j0;
-  j0 = 1048841ull;
+  j0 = 1048905ull;
   l8 = j0;
-  j0 = 1048841ull;
+  j0 = 1048905ull;
   l11 = j0;
   j0 = l7;
   i0 = (u32)(j0);
@@ -46410,7 +46960,7 @@ static void f40(module *self, u64 p0, u64 p1, u32 p2, u32 p3, u32 p4, u32 p5) {
   j2 += j3;
   i2 = (u32)(j2);
   i2 = i32_load8_u(j2);
-  f41(self, j0, i1, i2); m = self->memory; if (NEVER(self->is_broken)) return;
+  f40(self, j0, i1, i2); m = self->memory; if (NEVER(self->is_broken)) return;
   j0 = l7;
   i0 = (u32)(j0);
   i0 = i32_load8_u(j0);
@@ -46439,10 +46989,10 @@ static void f40(module *self, u64 p0, u64 p1, u32 p2, u32 p3, u32 p4, u32 p5) {
   j2 += j3;
   i2 = (u32)(j2);
   i2 = i32_load8_u(j2 + 1u);
-  f41(self, j0, i1, i2); m = self->memory; if (NEVER(self->is_broken)) return;
-  j0 = 1048841ull;
+  f40(self, j0, i1, i2); m = self->memory; if (NEVER(self->is_broken)) return;
+  j0 = 1048905ull;
   l8 = j0;
-  j0 = 1048841ull;
+  j0 = 1048905ull;
   l11 = j0;
   j0 = l7;
   i0 = (u32)(j0);
@@ -46472,7 +47022,7 @@ static void f40(module *self, u64 p0, u64 p1, u32 p2, u32 p3, u32 p4, u32 p5) {
   j2 += j3;
   i2 = (u32)(j2);
   i2 = i32_load8_u(j2 + 2u);
-  f41(self, j0, i1, i2); m = self->memory; if (NEVER(self->is_broken)) return;
+  f40(self, j0, i1, i2); m = self->memory; if (NEVER(self->is_broken)) return;
   j0 = l7;
   i0 = (u32)(j0);
   i0 = i32_load8_u(j0);
@@ -46501,10 +47051,10 @@ static void f40(module *self, u64 p0, u64 p1, u32 p2, u32 p3, u32 p4, u32 p5) {
   j2 += j3;
   i2 = (u32)(j2);
   i2 = i32_load8_u(j2 + 3u);
-  f41(self, j0, i1, i2); m = self->memory; if (NEVER(self->is_broken)) return;
-  j0 = 1048841ull;
+  f40(self, j0, i1, i2); m = self->memory; if (NEVER(self->is_broken)) return;
+  j0 = 1048905ull;
   l8 = j0;
-  j0 = 1048841ull;
+  j0 = 1048905ull;
   l11 = j0;
   j0 = l7;
   i0 = (u32)(j0);
@@ -46534,7 +47084,7 @@ static void f40(module *self, u64 p0, u64 p1, u32 p2, u32 p3, u32 p4, u32 p5) {
   j2 += j3;
   i2 = (u32)(j2);
   i2 = i32_load8_u(j2 + 4u);
-  f41(self, j0, i1, i2); m = self->memory; if (NEVER(self->is_broken)) return;
+  f40(self, j0, i1, i2); m = self->memory; if (NEVER(self->is_broken)) return;
   j0 = l7;
   i0 = (u32)(j0);
   i0 = i32_load8_u(j0);
@@ -46563,10 +47113,10 @@ static void f40(module *self, u64 p0, u64 p1, u32 p2, u32 p3, u32 p4, u32 p5) {
   j2 += j3;
   i2 = (u32)(j2);
   i2 = i32_load8_u(j2 + 5u);
-  f41(self, j0, i1, i2); m = self->memory; if (NEVER(self->is_broken)) return;
-  j0 = 1048841ull;
+  f40(self, j0, i1, i2); m = self->memory; if (NEVER(self->is_broken)) return;
+  j0 = 1048905ull;
   l8 = j0;
-  j0 = 1048841ull;
+  j0 = 1048905ull;
   l11 = j0;
   j0 = l7;
   i0 = (u32)(j0);
@@ -46596,7 +47146,7 @@ static void f40(module *self, u64 p0, u64 p1, u32 p2, u32 p3, u32 p4, u32 p5) {
   j2 += j3;
   i2 = (u32)(j2);
   i2 = i32_load8_u(j2 + 6u);
-  f41(self, j0, i1, i2); m = self->memory; if (NEVER(self->is_broken)) return;
+  f40(self, j0, i1, i2); m = self->memory; if (NEVER(self->is_broken)) return;
   j0 = l7;
   i0 = (u32)(j0);
   i0 = i32_load8_u(j0);
@@ -46625,20 +47175,20 @@ static void f40(module *self, u64 p0, u64 p1, u32 p2, u32 p3, u32 p4, u32 p5) {
   j2 += j3;
   i2 = (u32)(j2);
   i2 = i32_load8_u(j2 + 7u);
-  f41(self, j0, i1, i2); m = self->memory; if (NEVER(self->is_broken)) return;
+  f40(self, j0, i1, i2); m = self->memory; if (NEVER(self->is_broken)) return;
   j0 = p0;
   i1 = 2u;
   i2 = 15u;
-  f48(self, j0, i1, i2); m = self->memory; if (NEVER(self->is_broken)) return;
+  f47(self, j0, i1, i2); m = self->memory; if (NEVER(self->is_broken)) return;
   goto B1;
   B21:;
   j0 = p1;
   j1 = 14ull;
   j0 *= j1;
   p1 = j0;
-  j0 = 1048841ull;
+  j0 = 1048905ull;
   l8 = j0;
-  j0 = 1048841ull;
+  j0 = 1048905ull;
   l11 = j0;
   j0 = l7;
   j1 = 16ull;
@@ -46669,7 +47219,7 @@ static void f40(module *self, u64 p0, u64 p1, u32 p2, u32 p3, u32 p4, u32 p5) {
   j2 += j3;
   i2 = (u32)(j2);
   i2 = i32_load8_u(j2);
-  f41(self, j0, i1, i2); m = self->memory; if (NEVER(self->is_broken)) return;
+  f40(self, j0, i1, i2); m = self->memory; if (NEVER(self->is_broken)) return;
   j0 = l12;
   i0 = (u32)(j0);
   i0 = i32_load8_u(j0);
@@ -46698,10 +47248,10 @@ static void f40(module *self, u64 p0, u64 p1, u32 p2, u32 p3, u32 p4, u32 p5) {
   j2 += j3;
   i2 = (u32)(j2);
   i2 = i32_load8_u(j2 + 1u);
-  f41(self, j0, i1, i2); m = self->memory; if (NEVER(self->is_broken)) return;
-  j0 = 1048841ull;
+  f40(self, j0, i1, i2); m = self->memory; if (NEVER(self->is_broken)) return;
+  j0 = 1048905ull;
   l8 = j0;
-  j0 = 1048841ull;
+  j0 = 1048905ull;
   l11 = j0;
   j0 = l7;
   j1 = 16ull;
@@ -46734,7 +47284,7 @@ static void f40(module *self, u64 p0, u64 p1, u32 p2, u32 p3, u32 p4, u32 p5) {
   j2 += j3;
   i2 = (u32)(j2);
   i2 = i32_load8_u(j2 + 2u);
-  f41(self, j0, i1, i2); m = self->memory; if (NEVER(self->is_broken)) return;
+  f40(self, j0, i1, i2); m = self->memory; if (NEVER(self->is_broken)) return;
   j0 = l12;
   i0 = (u32)(j0);
   i0 = i32_load8_u(j0);
@@ -46763,10 +47313,10 @@ static void f40(module *self, u64 p0, u64 p1, u32 p2, u32 p3, u32 p4, u32 p5) {
   j2 += j3;
   i2 = (u32)(j2);
   i2 = i32_load8_u(j2 + 3u);
-  f41(self, j0, i1, i2); m = self->memory; if (NEVER(self->is_broken)) return;
-  j0 = 1048841ull;
+  f40(self, j0, i1, i2); m = self->memory; if (NEVER(self->is_broken)) return;
+  j0 = 1048905ull;
   l8 = j0;
-  j0 = 1048841ull;
+  j0 = 1048905ull;
   l11 = j0;
   j0 = l7;
   j1 = 16ull;
@@ -46799,7 +47349,7 @@ static void f40(module *self, u64 p0, u64 p1, u32 p2, u32 p3, u32 p4, u32 p5) {
   j2 += j3;
   i2 = (u32)(j2);
   i2 = i32_load8_u(j2 + 4u);
-  f41(self, j0, i1, i2); m = self->memory; if (NEVER(self->is_broken)) return;
+  f40(self, j0, i1, i2); m = self->memory; if (NEVER(self->is_broken)) return;
   j0 = l12;
   i0 = (u32)(j0);
   i0 = i32_load8_u(j0);
@@ -46828,10 +47378,10 @@ static void f40(module *self, u64 p0, u64 p1, u32 p2, u32 p3, u32 p4, u32 p5) {
   j2 += j3;
   i2 = (u32)(j2);
   i2 = i32_load8_u(j2 + 5u);
-  f41(self, j0, i1, i2); m = self->memory; if (NEVER(self->is_broken)) return;
-  j0 = 1048841ull;
+  f40(self, j0, i1, i2); m = self->memory; if (NEVER(self->is_broken)) return;
+  j0 = 1048905ull;
   l8 = j0;
-  j0 = 1048841ull;
+  j0 = 1048905ull;
   l11 = j0;
   j0 = l7;
   j1 = 16ull;
@@ -46864,7 +47414,7 @@ static void f40(module *self, u64 p0, u64 p1, u32 p2, u32 p3, u32 p4, u32 p5) {
   j2 += j3;
   i2 = (u32)(j2);
   i2 = i32_load8_u(j2 + 6u);
-  f41(self, j0, i1, i2); m = self->memory; if (NEVER(self->is_broken)) return;
+  f40(self, j0, i1, i2); m = self->memory; if (NEVER(self->is_broken)) return;
   j0 = l12;
   i0 = (u32)(j0);
   i0 = i32_load8_u(j0);
@@ -46893,10 +47443,10 @@ static void f40(module *self, u64 p0, u64 p1, u32 p2, u32 p3, u32 p4, u32 p5) {
   j2 += j3;
   i2 = (u32)(j2);
   i2 = i32_load8_u(j2 + 7u);
-  f41(self, j0, i1, i2); m = self->memory; if (NEVER(self->is_broken)) return;
-  j0 = 1048841ull;
+  f40(self, j0, i1, i2); m = self->memory; if (NEVER(self->is_broken)) return;
+  j0 = 1048905ull;
   l8 = j0;
-  j0 = 1048841ull;
+  j0 = 1048905ull;
   l11 = j0;
   j0 = l7;
   j1 = 16ull;
@@ -46929,7 +47479,7 @@ static void f40(module *self, u64 p0, u64 p1, u32 p2, u32 p3, u32 p4, u32 p5) {
   j2 += j3;
   i2 = (u32)(j2);
   i2 = i32_load8_u(j2 + 8u);
-  f41(self, j0, i1, i2); m = self->memory; if (NEVER(self->is_broken)) return;
+  f40(self, j0, i1, i2); m = self->memory; if (NEVER(self->is_broken)) return;
   j0 = l12;
   i0 = (u32)(j0);
   i0 = i32_load8_u(j0);
@@ -46958,10 +47508,10 @@ static void f40(module *self, u64 p0, u64 p1, u32 p2, u32 p3, u32 p4, u32 p5) {
   j2 += j3;
   i2 = (u32)(j2);
   i2 = i32_load8_u(j2 + 9u);
-  f41(self, j0, i1, i2); m = self->memory; if (NEVER(self->is_broken)) return;
-  j0 = 1048841ull;
+  f40(self, j0, i1, i2); m = self->memory; if (NEVER(self->is_broken)) return;
+  j0 = 1048905ull;
   l8 = j0;
-  j0 = 1048841ull;
+  j0 = 1048905ull;
   l11 = j0;
   j0 = l7;
   j1 = 16ull;
@@ -46994,7 +47544,7 @@ static void f40(module *self, u64 p0, u64 p1, u32 p2, u32 p3, u32 p4, u32 p5) {
   j2 += j3;
   i2 = (u32)(j2);
   i2 = i32_load8_u(j2 + 10u);
-  f41(self, j0, i1, i2); m = self->memory; if (NEVER(self->is_broken)) return;
+  f40(self, j0, i1, i2); m = self->memory; if (NEVER(self->is_broken)) return;
   j0 = l12;
   i0 = (u32)(j0);
   i0 = i32_load8_u(j0);
@@ -47023,10 +47573,10 @@ static void f40(module *self, u64 p0, u64 p1, u32 p2, u32 p3, u32 p4, u32 p5) {
   j2 += j3;
   i2 = (u32)(j2);
   i2 = i32_load8_u(j2 + 11u);
-  f41(self, j0, i1, i2); m = self->memory; if (NEVER(self->is_broken)) return;
-  j0 = 1048841ull;
+  f40(self, j0, i1, i2); m = self->memory; if (NEVER(self->is_broken)) return;
+  j0 = 1048905ull;
   l8 = j0;
-  j0 = 1048841ull;
+  j0 = 1048905ull;
   l11 = j0;
   j0 = l7;
   j1 = 16ull;
@@ -47059,7 +47609,7 @@ static void f40(module *self, u64 p0, u64 p1, u32 p2, u32 p3, u32 p4, u32 p5) {
   j2 += j3;
   i2 = (u32)(j2);
   i2 = i32_load8_u(j2 + 12u);
-  f41(self, j0, i1, i2); m = self->memory; if (NEVER(self->is_broken)) return;
+  f40(self, j0, i1, i2); m = self->memory; if (NEVER(self->is_broken)) return;
   j0 = l12;
   i0 = (u32)(j0);
   i0 = i32_load8_u(j0);
@@ -47088,11 +47638,11 @@ static void f40(module *self, u64 p0, u64 p1, u32 p2, u32 p3, u32 p4, u32 p5) {
   j2 += j3;
   i2 = (u32)(j2);
   i2 = i32_load8_u(j2 + 13u);
-  f41(self, j0, i1, i2); m = self->memory; if (NEVER(self->is_broken)) return;
+  f40(self, j0, i1, i2); m = self->memory; if (NEVER(self->is_broken)) return;
   j0 = p0;
   i1 = 2u;
   i2 = 15u;
-  f48(self, j0, i1, i2); m = self->memory; if (NEVER(self->is_broken)) return;
+  f47(self, j0, i1, i2); m = self->memory; if (NEVER(self->is_broken)) return;
   goto B1;
   B20:;
   j0 = p1;
@@ -47105,7 +47655,7 @@ static void f40(module *self, u64 p0, u64 p1, u32 p2, u32 p3, u32 p4, u32 p5) {
   j0 = 0ull;
   l8 = j0;
   L45: 
-    j0 = 1048841ull;
+    j0 = 1048905ull;
     l11 = j0;
     j0 = l7;
     j1 = 32ull;
@@ -47138,7 +47688,7 @@ static void f40(module *self, u64 p0, u64 p1, u32 p2, u32 p3, u32 p4, u32 p5) {
     j2 += j3;
     i2 = (u32)(j2);
     i2 = i32_load8_u(j2);
-    f41(self, j0, i1, i2); m = self->memory; if (NEVER(self->is_broken)) return;
+    f40(self, j0, i1, i2); m = self->memory; if (NEVER(self->is_broken)) return;
     j0 = p1;
     j1 = 1ull;
     j0 += j1;
@@ -47158,7 +47708,7 @@ static void f40(module *self, u64 p0, u64 p1, u32 p2, u32 p3, u32 p4, u32 p5) {
   j0 = p0;
   i1 = 2u;
   i2 = 15u;
-  f48(self, j0, i1, i2); m = self->memory; if (NEVER(self->is_broken)) return;
+  f47(self, j0, i1, i2); m = self->memory; if (NEVER(self->is_broken)) return;
   goto B1;
   B2:;
   j0 = p1;
@@ -47236,7 +47786,7 @@ static void f40(module *self, u64 p0, u64 p1, u32 p2, u32 p3, u32 p4, u32 p5) {
       default: goto B49;
     }
     B51:;
-    j0 = 1048841ull;
+    j0 = 1048905ull;
     l12 = j0;
     j0 = l7;
     i0 = (u32)(j0);
@@ -47261,7 +47811,7 @@ static void f40(module *self, u64 p0, u64 p1, u32 p2, u32 p3, u32 p4, u32 p5) {
     l12 = j0;
     goto B48;
     B50:;
-    j0 = 1048841ull;
+    j0 = 1048905ull;
     l12 = j0;
     j0 = l7;
     j1 = 16ull;
@@ -47288,7 +47838,7 @@ static void f40(module *self, u64 p0, u64 p1, u32 p2, u32 p3, u32 p4, u32 p5) {
     l12 = j0;
     goto B48;
     B49:;
-    j0 = 1048841ull;
+    j0 = 1048905ull;
     l12 = j0;
     j0 = l7;
     j1 = 32ull;
@@ -47334,7 +47884,7 @@ static void f40(module *self, u64 p0, u64 p1, u32 p2, u32 p3, u32 p4, u32 p5) {
     i2 = (u32)((s32)i2 >> (i3 & 31));
     i3 = p4;
     i2 &= i3;
-    f41(self, j0, i1, i2); m = self->memory; if (NEVER(self->is_broken)) return;
+    f40(self, j0, i1, i2); m = self->memory; if (NEVER(self->is_broken)) return;
     j0 = p0;
     i1 = l20;
     i2 = 1u;
@@ -47347,7 +47897,7 @@ static void f40(module *self, u64 p0, u64 p1, u32 p2, u32 p3, u32 p4, u32 p5) {
     i2 = (u32)((s32)i2 >> (i3 & 31));
     i3 = p4;
     i2 &= i3;
-    f41(self, j0, i1, i2); m = self->memory; if (NEVER(self->is_broken)) return;
+    f40(self, j0, i1, i2); m = self->memory; if (NEVER(self->is_broken)) return;
     j0 = p0;
     i1 = l20;
     i2 = 2u;
@@ -47360,7 +47910,7 @@ static void f40(module *self, u64 p0, u64 p1, u32 p2, u32 p3, u32 p4, u32 p5) {
     i2 = (u32)((s32)i2 >> (i3 & 31));
     i3 = p4;
     i2 &= i3;
-    f41(self, j0, i1, i2); m = self->memory; if (NEVER(self->is_broken)) return;
+    f40(self, j0, i1, i2); m = self->memory; if (NEVER(self->is_broken)) return;
     j0 = p0;
     i1 = l20;
     i2 = 3u;
@@ -47373,7 +47923,7 @@ static void f40(module *self, u64 p0, u64 p1, u32 p2, u32 p3, u32 p4, u32 p5) {
     i2 = (u32)((s32)i2 >> (i3 & 31));
     i3 = p4;
     i2 &= i3;
-    f41(self, j0, i1, i2); m = self->memory; if (NEVER(self->is_broken)) return;
+    f40(self, j0, i1, i2); m = self->memory; if (NEVER(self->is_broken)) return;
     j0 = p0;
     i1 = l20;
     i2 = 4u;
@@ -47386,7 +47936,7 @@ static void f40(module *self, u64 p0, u64 p1, u32 p2, u32 p3, u32 p4, u32 p5) {
     i2 = (u32)((s32)i2 >> (i3 & 31));
     i3 = p4;
     i2 &= i3;
-    f41(self, j0, i1, i2); m = self->memory; if (NEVER(self->is_broken)) return;
+    f40(self, j0, i1, i2); m = self->memory; if (NEVER(self->is_broken)) return;
     j0 = p0;
     i1 = l20;
     i2 = 5u;
@@ -47399,7 +47949,7 @@ static void f40(module *self, u64 p0, u64 p1, u32 p2, u32 p3, u32 p4, u32 p5) {
     i2 = (u32)((s32)i2 >> (i3 & 31));
     i3 = p4;
     i2 &= i3;
-    f41(self, j0, i1, i2); m = self->memory; if (NEVER(self->is_broken)) return;
+    f40(self, j0, i1, i2); m = self->memory; if (NEVER(self->is_broken)) return;
     j0 = p0;
     i1 = l20;
     i2 = 6u;
@@ -47412,7 +47962,7 @@ static void f40(module *self, u64 p0, u64 p1, u32 p2, u32 p3, u32 p4, u32 p5) {
     i2 = (u32)((s32)i2 >> (i3 & 31));
     i3 = p4;
     i2 &= i3;
-    f41(self, j0, i1, i2); m = self->memory; if (NEVER(self->is_broken)) return;
+    f40(self, j0, i1, i2); m = self->memory; if (NEVER(self->is_broken)) return;
     j0 = p0;
     i1 = l20;
     i2 = 7u;
@@ -47424,7 +47974,7 @@ static void f40(module *self, u64 p0, u64 p1, u32 p2, u32 p3, u32 p4, u32 p5) {
     i2 -= i3;
     i3 = p4;
     i2 &= i3;
-    f41(self, j0, i1, i2); m = self->memory; if (NEVER(self->is_broken)) return;
+    f40(self, j0, i1, i2); m = self->memory; if (NEVER(self->is_broken)) return;
     j0 = l8;
     j1 = 1ull;
     j0 += j1;
@@ -47451,7 +48001,7 @@ static void f40(module *self, u64 p0, u64 p1, u32 p2, u32 p3, u32 p4, u32 p5) {
   Bfunc:;
 }
 
-static void f41(module *self, u64 p0, u32 p1, u32 p2) {
+static void f40(module *self, u64 p0, u32 p1, u32 p2) {
   u32 l10 = 0, l11 = 0, l12 = 0, l13 = 0;
   u64 l3 = 0, l4 = 0, l5 = 0, l6 = 0, l7 = 0, l8 = 0, l9 = 0;
   u8 *m = self->memory;
@@ -47504,7 +48054,7 @@ static void f41(module *self, u64 p0, u32 p1, u32 p2) {
   j1 = 2072ull;
   j0 += j1;
   j1 = 6ull;
-  i0 = f15(self, j0, j1); m = self->memory; if (NEVER(self->is_broken)) return;
+  i0 = f14(self, j0, j1); m = self->memory; if (NEVER(self->is_broken)) return;
   i0 = !(i0);
   if (i0) {goto B0;}
   j0 = p0;
@@ -47605,7 +48155,7 @@ static void f41(module *self, u64 p0, u32 p1, u32 p2) {
   i1 = (u32)(j1);
   i1 = i32_load8_u(j1);
   i2 = p2;
-  i0 = f49(self, j0, i1, i2);
+  i0 = f48(self, j0, i1, i2);
   p2 = i0;
   j0 = p0;
   j1 = 68ull;
@@ -47678,7 +48228,7 @@ static void f41(module *self, u64 p0, u32 p1, u32 p2) {
   j2 = (u64)(i2);
   j3 = 60ull;
   j2 &= j3;
-  j3 = 1048844ull;
+  j3 = 1048908ull;
   j2 += j3;
   i2 = (u32)(j2);
   i2 = i32_load(j2);
@@ -47689,7 +48239,7 @@ static void f41(module *self, u64 p0, u32 p1, u32 p2) {
   B2:;
 }
 
-static u32 f42(module *self, u64 p0, u64 p1, u32 p2, u32 p3, u32 p4, u32 p5) {
+static u32 f41(module *self, u64 p0, u64 p1, u32 p2, u32 p3, u32 p4, u32 p5) {
   u32 l7 = 0;
   u64 l6 = 0;
   u8 *m = self->memory;
@@ -47732,7 +48282,7 @@ static u32 f42(module *self, u64 p0, u64 p1, u32 p2, u32 p3, u32 p4, u32 p5) {
   i2 = (u32)(j2);
   i2 = i32_load8_u(j2);
   i3 = p2;
-  i0 = f52(self, j0, j1, i2, i3); m = self->memory; if (NEVER(self->is_broken)) return ZAK_BROKEN;
+  i0 = f51(self, j0, j1, i2, i3); m = self->memory; if (NEVER(self->is_broken)) return ZAK_BROKEN;
   goto Bfunc;
   B2:;
   i0 = p2;
@@ -47766,7 +48316,7 @@ static u32 f42(module *self, u64 p0, u64 p1, u32 p2, u32 p3, u32 p4, u32 p5) {
   i3 = p3;
   i4 = p4;
   i5 = p5;
-  f40(self, j0, j1, i2, i3, i4, i5); m = self->memory; if (NEVER(self->is_broken)) return ZAK_BROKEN;
+  f39(self, j0, j1, i2, i3, i4, i5); m = self->memory; if (NEVER(self->is_broken)) return ZAK_BROKEN;
   i0 = l7;
   i1 = 1u;
   i0 += i1;
@@ -47793,7 +48343,7 @@ static u32 f42(module *self, u64 p0, u64 p1, u32 p2, u32 p3, u32 p4, u32 p5) {
   i2 = (u32)(j2);
   i2 = i32_load8_u(j2);
   i3 = p2;
-  i0 = f52(self, j0, j1, i2, i3); m = self->memory; if (NEVER(self->is_broken)) return ZAK_BROKEN;
+  i0 = f51(self, j0, j1, i2, i3); m = self->memory; if (NEVER(self->is_broken)) return ZAK_BROKEN;
   i1 = 65280u;
   i0 &= i1;
   p2 = i0;
@@ -47803,7 +48353,7 @@ static u32 f42(module *self, u64 p0, u64 p1, u32 p2, u32 p3, u32 p4, u32 p5) {
   return i0;
 }
 
-static void f43(module *self, u64 p0, u32 p1, u32 p2, u32 p3) {
+static void f42(module *self, u64 p0, u32 p1, u32 p2, u32 p3) {
   u32 l12 = 0;
   u64 l4 = 0, l5 = 0, l6 = 0, l7 = 0, l8 = 0, l9 = 0, l10 = 0, l11 = 0;
   u8 *m = self->memory;
@@ -47865,7 +48415,7 @@ static void f43(module *self, u64 p0, u32 p1, u32 p2, u32 p3) {
   j1 = 2072ull;
   j0 += j1;
   j1 = 3ull;
-  i0 = f15(self, j0, j1); m = self->memory; if (NEVER(self->is_broken)) return;
+  i0 = f14(self, j0, j1); m = self->memory; if (NEVER(self->is_broken)) return;
   i0 = !(i0);
   if (i0) {goto B0;}
   j0 = p0;
@@ -47926,21 +48476,21 @@ static void f43(module *self, u64 p0, u32 p1, u32 p2, u32 p3) {
   j0 += j1;
   j1 = p0;
   i2 = l12;
-  f29(self, j0, j1, i2); if (NEVER(self->is_broken)) return;
+  f28(self, j0, j1, i2); if (NEVER(self->is_broken)) return;
   j0 = p0;
   i1 = p2;
   i2 = p3;
-  f44(self, j0, i1, i2); m = self->memory; if (NEVER(self->is_broken)) return;
+  f43(self, j0, i1, i2); m = self->memory; if (NEVER(self->is_broken)) return;
   j0 = p0;
   i1 = p1;
-  f45(self, j0, i1); m = self->memory; if (NEVER(self->is_broken)) return;
+  f44(self, j0, i1); m = self->memory; if (NEVER(self->is_broken)) return;
   j0 = l4;
   j1 = 16ull;
   j0 += j1;
   self->g0 = j0;
 }
 
-static void f44(module *self, u64 p0, u32 p1, u32 p2) {
+static void f43(module *self, u64 p0, u32 p1, u32 p2) {
   u32 l11 = 0, l12 = 0, l13 = 0;
   u64 l3 = 0, l4 = 0, l5 = 0, l6 = 0, l7 = 0, l8 = 0, l9 = 0, l10 = 0;
   u8 *m = self->memory;
@@ -47998,7 +48548,7 @@ static void f44(module *self, u64 p0, u32 p1, u32 p2) {
   j1 = 2072ull;
   j0 += j1;
   j1 = 4ull;
-  i0 = f15(self, j0, j1); m = self->memory; if (NEVER(self->is_broken)) return;
+  i0 = f14(self, j0, j1); m = self->memory; if (NEVER(self->is_broken)) return;
   i0 = !(i0);
   if (i0) {goto B0;}
   j0 = p0;
@@ -48097,7 +48647,7 @@ static void f44(module *self, u64 p0, u32 p1, u32 p2) {
   i32_store8(j0, i1);
   j0 = l3;
   j1 = l4;
-  f26(self, j0, j1);
+  f25(self, j0, j1);
   j0 = p0;
   j1 = 196ull;
   j0 += j1;
@@ -48181,7 +48731,7 @@ static void f44(module *self, u64 p0, u32 p1, u32 p2) {
   j1 = 2072ull;
   j0 += j1;
   j1 = 4ull;
-  i0 = f15(self, j0, j1); m = self->memory; if (NEVER(self->is_broken)) return;
+  i0 = f14(self, j0, j1); m = self->memory; if (NEVER(self->is_broken)) return;
   i0 = !(i0);
   if (i0) {goto B6;}
   j0 = p0;
@@ -48276,7 +48826,7 @@ static void f44(module *self, u64 p0, u32 p1, u32 p2) {
   i32_store8(j0, i1);
   j0 = l3;
   j1 = l4;
-  f26(self, j0, j1);
+  f25(self, j0, j1);
   j0 = p0;
   j1 = 196ull;
   j0 += j1;
@@ -48319,7 +48869,7 @@ static void f44(module *self, u64 p0, u32 p1, u32 p2) {
   self->g0 = j0;
 }
 
-static void f45(module *self, u64 p0, u32 p1) {
+static void f44(module *self, u64 p0, u32 p1) {
   u32 l10 = 0, l11 = 0, l12 = 0;
   u64 l2 = 0, l3 = 0, l4 = 0, l5 = 0, l6 = 0, l7 = 0, l8 = 0, l9 = 0;
   u8 *m = self->memory;
@@ -48377,7 +48927,7 @@ static void f45(module *self, u64 p0, u32 p1) {
   j1 = 2072ull;
   j0 += j1;
   j1 = 4ull;
-  i0 = f15(self, j0, j1); m = self->memory; if (NEVER(self->is_broken)) return;
+  i0 = f14(self, j0, j1); m = self->memory; if (NEVER(self->is_broken)) return;
   i0 = !(i0);
   if (i0) {goto B0;}
   j0 = p0;
@@ -48473,7 +49023,7 @@ static void f45(module *self, u64 p0, u32 p1) {
   j1 = 16ull;
   j0 += j1;
   j1 = l4;
-  f26(self, j0, j1);
+  f25(self, j0, j1);
   j0 = p0;
   j1 = 196ull;
   j0 += j1;
@@ -48559,7 +49109,7 @@ static void f45(module *self, u64 p0, u32 p1) {
   j1 = 2072ull;
   j0 += j1;
   j1 = 3ull;
-  i0 = f15(self, j0, j1); m = self->memory; if (NEVER(self->is_broken)) return;
+  i0 = f14(self, j0, j1); m = self->memory; if (NEVER(self->is_broken)) return;
   i0 = !(i0);
   if (i0) {goto B6;}
   j0 = p0;
@@ -48620,14 +49170,14 @@ static void f45(module *self, u64 p0, u32 p1) {
   j0 += j1;
   j1 = p0;
   i2 = p1;
-  f29(self, j0, j1, i2); if (NEVER(self->is_broken)) return;
+  f28(self, j0, j1, i2); if (NEVER(self->is_broken)) return;
   j0 = l2;
   j1 = 32ull;
   j0 += j1;
   self->g0 = j0;
 }
 
-static void f46(module *self, u64 p0, u32 p1, u32 p2) {
+static void f45(module *self, u64 p0, u32 p1, u32 p2) {
   u32 l3 = 0, l4 = 0;
   u8 *m = self->memory;
   u32 i0, i1, i2, i3, i4;
@@ -48891,7 +49441,7 @@ static void f46(module *self, u64 p0, u32 p1, u32 p2) {
   i32_store8(j0, i1);
 }
 
-static void f47(module *self, u64 p0, u64 p1, u32 p2, u32 p3) {
+static void f46(module *self, u64 p0, u64 p1, u32 p2, u32 p3) {
   u32 l7 = 0, l8 = 0;
   u64 l4 = 0, l5 = 0, l6 = 0;
   u8 *m = self->memory;
@@ -48983,7 +49533,7 @@ static void f47(module *self, u64 p0, u64 p1, u32 p2, u32 p3) {
   i32_store8(j0, i1);
   j0 = l4;
   j1 = l6;
-  f26(self, j0, j1);
+  f25(self, j0, j1);
   j0 = p1;
   j1 = 196ull;
   j0 += j1;
@@ -49446,7 +49996,7 @@ static void f47(module *self, u64 p0, u64 p1, u32 p2, u32 p3) {
   j1 <<= (j2 & 63);
   l5 = j1;
   i1 = (u32)(j1);
-  i1 = i32_load(j1 + 1051664u);
+  i1 = i32_load(j1 + 1051784u);
   i32_store(j0, i1);
   j0 = p1;
   j1 = 60ull;
@@ -49454,7 +50004,7 @@ static void f47(module *self, u64 p0, u64 p1, u32 p2, u32 p3) {
   i0 = (u32)(j0);
   j1 = l5;
   i1 = (u32)(j1);
-  i1 = i32_load(j1 + 1051648u);
+  i1 = i32_load(j1 + 1051768u);
   i32_store(j0, i1);
   j0 = p1;
   j1 = 72ull;
@@ -49640,7 +50190,7 @@ static void f47(module *self, u64 p0, u64 p1, u32 p2, u32 p3) {
   self->g0 = j0;
 }
 
-static void f48(module *self, u64 p0, u32 p1, u32 p2) {
+static void f47(module *self, u64 p0, u32 p1, u32 p2) {
   u64 l3 = 0, l4 = 0, l5 = 0, l6 = 0, l7 = 0, l8 = 0;
   u8 *m = self->memory;
   u32 i0, i1, i2;
@@ -49700,7 +50250,7 @@ static void f48(module *self, u64 p0, u32 p1, u32 p2) {
   j1 = 2072ull;
   j0 += j1;
   j1 = 4ull;
-  i0 = f15(self, j0, j1); m = self->memory; if (NEVER(self->is_broken)) return;
+  i0 = f14(self, j0, j1); m = self->memory; if (NEVER(self->is_broken)) return;
   i0 = !(i0);
   if (i0) {goto B4;}
   j0 = p0;
@@ -49803,7 +50353,7 @@ static void f48(module *self, u64 p0, u32 p1, u32 p2) {
   j1 = 2072ull;
   j0 += j1;
   j1 = 4ull;
-  i0 = f15(self, j0, j1); m = self->memory; if (NEVER(self->is_broken)) return;
+  i0 = f14(self, j0, j1); m = self->memory; if (NEVER(self->is_broken)) return;
   i0 = !(i0);
   if (i0) {goto B6;}
   j0 = p0;
@@ -49955,7 +50505,7 @@ static void f48(module *self, u64 p0, u32 p1, u32 p2) {
   B0:;
 }
 
-static u32 f49(module *self, u64 p0, u32 p1, u32 p2) {
+static u32 f48(module *self, u64 p0, u32 p1, u32 p2) {
   u32 l3 = 0, l4 = 0, l5 = 0, l6 = 0;
   u8 *m = self->memory;
   u32 i0, i1, i2, i3, i4;
@@ -50003,7 +50553,7 @@ static u32 f49(module *self, u64 p0, u32 p1, u32 p2) {
   j0 = (u64)(i0);
   j1 = 60ull;
   j0 &= j1;
-  j1 = 1048844ull;
+  j1 = 1048908ull;
   j0 += j1;
   i0 = (u32)(j0);
   i0 = i32_load(j0);
@@ -50043,7 +50593,7 @@ static u32 f49(module *self, u64 p0, u32 p1, u32 p2) {
   j1 = (u64)(i1);
   j2 = 60ull;
   j1 &= j2;
-  j2 = 1048844ull;
+  j2 = 1048908ull;
   j1 += j2;
   i1 = (u32)(j1);
   i1 = i32_load(j1);
@@ -50059,7 +50609,7 @@ static u32 f49(module *self, u64 p0, u32 p1, u32 p2) {
   j0 = (u64)(i0);
   j1 = 60ull;
   j0 &= j1;
-  j1 = 1048844ull;
+  j1 = 1048908ull;
   j0 += j1;
   i0 = (u32)(j0);
   i0 = i32_load(j0);
@@ -50076,7 +50626,7 @@ static u32 f49(module *self, u64 p0, u32 p1, u32 p2) {
   j0 = (u64)(i0);
   j1 = 60ull;
   j0 &= j1;
-  j1 = 1048844ull;
+  j1 = 1048908ull;
   j0 += j1;
   i0 = (u32)(j0);
   i0 = i32_load(j0);
@@ -50164,7 +50714,7 @@ static u32 f49(module *self, u64 p0, u32 p1, u32 p2) {
   return i0;
 }
 
-static void f50(module *self, u64 p0, u64 p1, u32 p2, u32 p3) {
+static void f49(module *self, u64 p0, u64 p1, u32 p2, u32 p3) {
   u32 l4 = 0, l5 = 0, l6 = 0, l7 = 0, l8 = 0, l9 = 0, l10 = 0, l11 = 0, 
       l12 = 0, l13 = 0, l14 = 0, l15 = 0, l16 = 0, l17 = 0, l18 = 0, l19 = 0, 
       l20 = 0;
@@ -50275,7 +50825,7 @@ static void f50(module *self, u64 p0, u64 p1, u32 p2, u32 p3) {
       j1 = 2072ull;
       j0 += j1;
       j1 = 5ull;
-      i0 = f15(self, j0, j1); m = self->memory; if (NEVER(self->is_broken)) return;
+      i0 = f14(self, j0, j1); m = self->memory; if (NEVER(self->is_broken)) return;
       i0 = !(i0);
       if (i0) {goto B3;}
       j0 = p1;
@@ -50405,7 +50955,7 @@ static void f50(module *self, u64 p0, u64 p1, u32 p2, u32 p3) {
       j0 = (u64)(i0);
       j1 = 60ull;
       j0 &= j1;
-      j1 = 1048844ull;
+      j1 = 1048908ull;
       j0 += j1;
       i0 = (u32)(j0);
       i0 = i32_load(j0);
@@ -50421,7 +50971,7 @@ static void f50(module *self, u64 p0, u64 p1, u32 p2, u32 p3) {
       j1 = (u64)(i1);
       j2 = 60ull;
       j1 &= j2;
-      j2 = 1048844ull;
+      j2 = 1048908ull;
       j1 += j2;
       i1 = (u32)(j1);
       i1 = i32_load(j1);
@@ -50541,7 +51091,7 @@ static void f50(module *self, u64 p0, u64 p1, u32 p2, u32 p3) {
       j1 = 2072ull;
       j0 += j1;
       j1 = 6ull;
-      i0 = f15(self, j0, j1); m = self->memory; if (NEVER(self->is_broken)) return;
+      i0 = f14(self, j0, j1); m = self->memory; if (NEVER(self->is_broken)) return;
       i0 = !(i0);
       if (i0) {goto B11;}
       j0 = p1;
@@ -50682,7 +51232,7 @@ static void f50(module *self, u64 p0, u64 p1, u32 p2, u32 p3) {
       j0 = (u64)(i0);
       j1 = 60ull;
       j0 &= j1;
-      j1 = 1048844ull;
+      j1 = 1048908ull;
       j0 += j1;
       i0 = (u32)(j0);
       i0 = i32_load(j0);
@@ -50722,7 +51272,7 @@ static void f50(module *self, u64 p0, u64 p1, u32 p2, u32 p3) {
       j1 = (u64)(i1);
       j2 = 60ull;
       j1 &= j2;
-      j2 = 1048844ull;
+      j2 = 1048908ull;
       j1 += j2;
       i1 = (u32)(j1);
       i1 = i32_load(j1);
@@ -50738,7 +51288,7 @@ static void f50(module *self, u64 p0, u64 p1, u32 p2, u32 p3) {
       j0 = (u64)(i0);
       j1 = 60ull;
       j0 &= j1;
-      j1 = 1048844ull;
+      j1 = 1048908ull;
       j0 += j1;
       i0 = (u32)(j0);
       i0 = i32_load(j0);
@@ -50755,7 +51305,7 @@ static void f50(module *self, u64 p0, u64 p1, u32 p2, u32 p3) {
       j0 = (u64)(i0);
       j1 = 60ull;
       j0 &= j1;
-      j1 = 1048844ull;
+      j1 = 1048908ull;
       j0 += j1;
       i0 = (u32)(j0);
       i0 = i32_load(j0);
@@ -50920,7 +51470,7 @@ static void f50(module *self, u64 p0, u64 p1, u32 p2, u32 p3) {
       j2 = (u64)(i2);
       j3 = 60ull;
       j2 &= j3;
-      j3 = 1048844ull;
+      j3 = 1048908ull;
       j2 += j3;
       i2 = (u32)(j2);
       i2 = i32_load(j2);
@@ -50962,7 +51512,7 @@ static void f50(module *self, u64 p0, u64 p1, u32 p2, u32 p3) {
   B0:;
 }
 
-static void f51(module *self, u64 p0, u64 p1, u32 p2, u32 p3, u32 p4) {
+static void f50(module *self, u64 p0, u64 p1, u32 p2, u32 p3, u32 p4) {
   u32 l5 = 0, l6 = 0, l7 = 0, l8 = 0, l9 = 0, l10 = 0, l11 = 0, l12 = 0, 
       l13 = 0, l14 = 0, l15 = 0, l16 = 0, l17 = 0, l18 = 0, l19 = 0, l20 = 0, 
       l21 = 0;
@@ -51072,7 +51622,7 @@ static void f51(module *self, u64 p0, u64 p1, u32 p2, u32 p3, u32 p4) {
       j1 = 2072ull;
       j0 += j1;
       j1 = 6ull;
-      i0 = f15(self, j0, j1); m = self->memory; if (NEVER(self->is_broken)) return;
+      i0 = f14(self, j0, j1); m = self->memory; if (NEVER(self->is_broken)) return;
       i0 = !(i0);
       if (i0) {goto B3;}
       j0 = p1;
@@ -51213,7 +51763,7 @@ static void f51(module *self, u64 p0, u64 p1, u32 p2, u32 p3, u32 p4) {
       j0 = (u64)(i0);
       j1 = 60ull;
       j0 &= j1;
-      j1 = 1048844ull;
+      j1 = 1048908ull;
       j0 += j1;
       i0 = (u32)(j0);
       i0 = i32_load(j0);
@@ -51253,7 +51803,7 @@ static void f51(module *self, u64 p0, u64 p1, u32 p2, u32 p3, u32 p4) {
       j1 = (u64)(i1);
       j2 = 60ull;
       j1 &= j2;
-      j2 = 1048844ull;
+      j2 = 1048908ull;
       j1 += j2;
       i1 = (u32)(j1);
       i1 = i32_load(j1);
@@ -51269,7 +51819,7 @@ static void f51(module *self, u64 p0, u64 p1, u32 p2, u32 p3, u32 p4) {
       j0 = (u64)(i0);
       j1 = 60ull;
       j0 &= j1;
-      j1 = 1048844ull;
+      j1 = 1048908ull;
       j0 += j1;
       i0 = (u32)(j0);
       i0 = i32_load(j0);
@@ -51286,7 +51836,7 @@ static void f51(module *self, u64 p0, u64 p1, u32 p2, u32 p3, u32 p4) {
       j0 = (u64)(i0);
       j1 = 60ull;
       j0 &= j1;
-      j1 = 1048844ull;
+      j1 = 1048908ull;
       j0 += j1;
       i0 = (u32)(j0);
       i0 = i32_load(j0);
@@ -51451,7 +52001,7 @@ static void f51(module *self, u64 p0, u64 p1, u32 p2, u32 p3, u32 p4) {
       j2 = (u64)(i2);
       j3 = 60ull;
       j2 &= j3;
-      j3 = 1048844ull;
+      j3 = 1048908ull;
       j2 += j3;
       i2 = (u32)(j2);
       i2 = i32_load(j2);
@@ -51489,7 +52039,7 @@ static void f51(module *self, u64 p0, u64 p1, u32 p2, u32 p3, u32 p4) {
   B0:;
 }
 
-static u32 f52(module *self, u64 p0, u64 p1, u32 p2, u32 p3) {
+static u32 f51(module *self, u64 p0, u64 p1, u32 p2, u32 p3) {
   u32 l12 = 0, l13 = 0, l14 = 0;
   u64 l4 = 0, l5 = 0, l6 = 0, l7 = 0, l8 = 0, l9 = 0, l10 = 0, l11 = 0;
   u8 *m = self->memory;
@@ -51624,7 +52174,7 @@ static u32 f52(module *self, u64 p0, u64 p1, u32 p2, u32 p3) {
   j1 = 2072ull;
   j0 += j1;
   j1 = 5ull;
-  i0 = f15(self, j0, j1); m = self->memory; if (NEVER(self->is_broken)) return ZAK_BROKEN;
+  i0 = f14(self, j0, j1); m = self->memory; if (NEVER(self->is_broken)) return ZAK_BROKEN;
   i0 = !(i0);
   if (i0) {goto B3;}
   j0 = p0;
@@ -51677,7 +52227,7 @@ static u32 f52(module *self, u64 p0, u64 p1, u32 p2, u32 p3) {
   j0 += j1;
   j1 = p0;
   i2 = l13;
-  f37(self, j0, j1, i2);
+  f36(self, j0, j1, i2);
   i0 = 4294967295u;
   j1 = l4;
   i1 = (u32)(j1);
@@ -51739,7 +52289,7 @@ static u32 f52(module *self, u64 p0, u64 p1, u32 p2, u32 p3) {
   j4 = l4;
   j5 = 32ull;
   j4 += j5;
-  f36(self, j0, j1, j2, i3, j4); m = self->memory; if (NEVER(self->is_broken)) return ZAK_BROKEN;
+  f35(self, j0, j1, j2, i3, j4); m = self->memory; if (NEVER(self->is_broken)) return ZAK_BROKEN;
   B0:;
   j0 = l4;
   j1 = 48ull;
@@ -51749,7 +52299,7 @@ static u32 f52(module *self, u64 p0, u64 p1, u32 p2, u32 p3) {
   return i0;
 }
 
-static void f53(module *self, u64 p0, u32 p1, u32 p2, u32 p3, u32 p4) {
+static void f52(module *self, u64 p0, u32 p1, u32 p2, u32 p3, u32 p4) {
   u32 l5 = 0, l6 = 0, l7 = 0, l8 = 0, l9 = 0, l10 = 0, l11 = 0, l12 = 0, 
       l13 = 0, l14 = 0, l15 = 0, l16 = 0, l17 = 0;
   u64 l18 = 0;
@@ -51802,12 +52352,12 @@ static void f53(module *self, u64 p0, u32 p1, u32 p2, u32 p3, u32 p4) {
   i1 = i32_load8_u(j1);
   l12 = i1;
   i2 = p3;
-  i0 = f49(self, j0, i1, i2);
+  i0 = f48(self, j0, i1, i2);
   l13 = i0;
   j0 = p0;
   i1 = l12;
   i2 = p4;
-  i0 = f49(self, j0, i1, i2);
+  i0 = f48(self, j0, i1, i2);
   l14 = i0;
   j0 = p0;
   j1 = 2003ull;
@@ -51908,7 +52458,7 @@ static void f53(module *self, u64 p0, u32 p1, u32 p2, u32 p3, u32 p4) {
   j0 = (u64)(i0);
   j1 = 60ull;
   j0 &= j1;
-  j1 = 1048844ull;
+  j1 = 1048908ull;
   j0 += j1;
   i0 = (u32)(j0);
   i0 = i32_load(j0);
@@ -52071,7 +52621,7 @@ static void f53(module *self, u64 p0, u32 p1, u32 p2, u32 p3, u32 p4) {
     j2 = (u64)(i2);
     j3 = 60ull;
     j2 &= j3;
-    j3 = 1048844ull;
+    j3 = 1048908ull;
     j2 += j3;
     i2 = (u32)(j2);
     i2 = i32_load(j2);
@@ -52151,7 +52701,7 @@ static void f53(module *self, u64 p0, u32 p1, u32 p2, u32 p3, u32 p4) {
     j2 = (u64)(i2);
     j3 = 60ull;
     j2 &= j3;
-    j3 = 1048844ull;
+    j3 = 1048908ull;
     j2 += j3;
     i2 = (u32)(j2);
     i2 = i32_load(j2);
@@ -52174,7 +52724,7 @@ static void f53(module *self, u64 p0, u32 p1, u32 p2, u32 p3, u32 p4) {
   B5:;
 }
 
-static void f54(module *self, u64 p0, u64 p1) {
+static void f53(module *self, u64 p0, u64 p1) {
   u32 l2 = 0, l3 = 0, l4 = 0, l5 = 0;
   u64 l6 = 0, l7 = 0, l8 = 0;
   u8 *m = self->memory;
@@ -52410,7 +52960,7 @@ static void f54(module *self, u64 p0, u64 p1) {
   i32_store(j0, i1);
 }
 
-static void f55(module *self, u64 p0, u64 p1, u32 p2, u64 p3, u64 p4) {
+static void f54(module *self, u64 p0, u64 p1, u32 p2, u64 p3, u64 p4) {
   u32 l5 = 0, l6 = 0, l7 = 0, l8 = 0;
   u64 l9 = 0, l10 = 0;
   u8 *m = self->memory;
@@ -53059,7 +53609,7 @@ static void f55(module *self, u64 p0, u64 p1, u32 p2, u64 p3, u64 p4) {
   Bfunc:;
 }
 
-static u32 f56(module *self, u64 p0, u32 p1) {
+static u32 f55(module *self, u64 p0, u32 p1) {
   u32 l3 = 0, l4 = 0, l5 = 0;
   u64 l2 = 0;
   u8 *m = self->memory;
@@ -53225,7 +53775,7 @@ static u32 f56(module *self, u64 p0, u32 p1) {
   return i0;
 }
 
-static void f57(module *self, u64 p0, u64 p1, u32 p2, u32 p3) {
+static void f56(module *self, u64 p0, u64 p1, u32 p2, u32 p3) {
   u32 l5 = 0, l6 = 0, l7 = 0, l8 = 0, l9 = 0;
   u64 l4 = 0;
   u8 *m = self->memory;
@@ -53499,7 +54049,7 @@ static void f57(module *self, u64 p0, u64 p1, u32 p2, u32 p3) {
   B12:;
   j0 = p1;
   i1 = l7;
-  i0 = f56(self, j0, i1); if (NEVER(self->is_broken)) return;
+  i0 = f55(self, j0, i1); if (NEVER(self->is_broken)) return;
   p2 = i0;
   j0 = p0;
   j1 = 4ull;
@@ -53535,7 +54085,7 @@ static void f57(module *self, u64 p0, u64 p1, u32 p2, u32 p3) {
   j0 += j1;
   j1 = p1;
   i2 = p3;
-  f29(self, j0, j1, i2); if (NEVER(self->is_broken)) return;
+  f28(self, j0, j1, i2); if (NEVER(self->is_broken)) return;
   j0 = p0;
   j1 = 4ull;
   j0 += j1;
@@ -53555,7 +54105,7 @@ static void f57(module *self, u64 p0, u64 p1, u32 p2, u32 p3) {
   self->g0 = j0;
 }
 
-static void f58(module *self, u64 p0, u64 p1, u32 p2) {
+static void f57(module *self, u64 p0, u64 p1, u32 p2) {
   u32 l4 = 0, l5 = 0, l6 = 0, l7 = 0;
   u64 l3 = 0;
   u8 *m = self->memory;
@@ -53664,7 +54214,7 @@ static void f58(module *self, u64 p0, u64 p1, u32 p2) {
   j0 += j1;
   j1 = p1;
   i2 = p2;
-  f29(self, j0, j1, i2); if (NEVER(self->is_broken)) return;
+  f28(self, j0, j1, i2); if (NEVER(self->is_broken)) return;
   j0 = l3;
   i0 = (u32)(j0);
   i0 = i32_load8_u(j0 + 25u);
@@ -53680,7 +54230,7 @@ static void f58(module *self, u64 p0, u64 p1, u32 p2) {
   i2 = p2;
   i3 = 1u;
   i2 += i3;
-  f29(self, j0, j1, i2); if (NEVER(self->is_broken)) return;
+  f28(self, j0, j1, i2); if (NEVER(self->is_broken)) return;
   j0 = l3;
   i0 = (u32)(j0);
   i0 = i32_load8_u(j0 + 17u);
@@ -53712,7 +54262,7 @@ static void f58(module *self, u64 p0, u64 p1, u32 p2) {
   j0 += j1;
   j1 = p1;
   i2 = 964u;
-  f29(self, j0, j1, i2); if (NEVER(self->is_broken)) return;
+  f28(self, j0, j1, i2); if (NEVER(self->is_broken)) return;
   j0 = l3;
   i0 = (u32)(j0);
   i0 = i32_load8_u(j0 + 41u);
@@ -53726,7 +54276,7 @@ static void f58(module *self, u64 p0, u64 p1, u32 p2) {
   j0 += j1;
   j1 = p1;
   i2 = 965u;
-  f29(self, j0, j1, i2); if (NEVER(self->is_broken)) return;
+  f28(self, j0, j1, i2); if (NEVER(self->is_broken)) return;
   j0 = l3;
   i0 = (u32)(j0);
   i0 = i32_load8_u(j0 + 33u);
@@ -53758,7 +54308,7 @@ static void f58(module *self, u64 p0, u64 p1, u32 p2) {
   j0 += j1;
   j1 = p1;
   i2 = 968u;
-  f29(self, j0, j1, i2); if (NEVER(self->is_broken)) return;
+  f28(self, j0, j1, i2); if (NEVER(self->is_broken)) return;
   j0 = l3;
   i0 = (u32)(j0);
   i0 = i32_load8_u(j0 + 57u);
@@ -53772,7 +54322,7 @@ static void f58(module *self, u64 p0, u64 p1, u32 p2) {
   j0 += j1;
   j1 = p1;
   i2 = 969u;
-  f29(self, j0, j1, i2); if (NEVER(self->is_broken)) return;
+  f28(self, j0, j1, i2); if (NEVER(self->is_broken)) return;
   j0 = l3;
   i0 = (u32)(j0);
   i0 = i32_load8_u(j0 + 49u);
@@ -53804,7 +54354,7 @@ static void f58(module *self, u64 p0, u64 p1, u32 p2) {
   j0 += j1;
   j1 = p1;
   i2 = 974u;
-  f29(self, j0, j1, i2); if (NEVER(self->is_broken)) return;
+  f28(self, j0, j1, i2); if (NEVER(self->is_broken)) return;
   j0 = l3;
   i0 = (u32)(j0);
   i0 = i32_load8_u(j0 + 73u);
@@ -53824,7 +54374,7 @@ static void f58(module *self, u64 p0, u64 p1, u32 p2) {
   j0 += j1;
   j1 = p1;
   i2 = 975u;
-  f29(self, j0, j1, i2); if (NEVER(self->is_broken)) return;
+  f28(self, j0, j1, i2); if (NEVER(self->is_broken)) return;
   j0 = l3;
   i0 = (u32)(j0);
   i0 = i32_load8_u(j0 + 65u);
@@ -53856,7 +54406,7 @@ static void f58(module *self, u64 p0, u64 p1, u32 p2) {
   j0 += j1;
   j1 = p1;
   i2 = p2;
-  f29(self, j0, j1, i2); if (NEVER(self->is_broken)) return;
+  f28(self, j0, j1, i2); if (NEVER(self->is_broken)) return;
   j0 = l3;
   i0 = (u32)(j0);
   i0 = i32_load8_u(j0 + 9u);
@@ -53875,7 +54425,7 @@ static void f58(module *self, u64 p0, u64 p1, u32 p2) {
   i2 = p2;
   i3 = 1u;
   i2 += i3;
-  f29(self, j0, j1, i2); if (NEVER(self->is_broken)) return;
+  f28(self, j0, j1, i2); if (NEVER(self->is_broken)) return;
   j0 = l3;
   i0 = (u32)(j0);
   i0 = i32_load8_u(j0 + 1u);
@@ -53921,7 +54471,7 @@ static void f58(module *self, u64 p0, u64 p1, u32 p2) {
   j0 += j1;
   j1 = p1;
   i2 = 965u;
-  f59(self, j0, j1, i2); if (NEVER(self->is_broken)) return;
+  f58(self, j0, j1, i2); if (NEVER(self->is_broken)) return;
   j0 = l3;
   i0 = (u32)(j0);
   i0 = i32_load16_u(j0 + 78u);
@@ -53973,7 +54523,7 @@ static void f58(module *self, u64 p0, u64 p1, u32 p2) {
   self->g0 = j0;
 }
 
-static void f59(module *self, u64 p0, u64 p1, u32 p2) {
+static void f58(module *self, u64 p0, u64 p1, u32 p2) {
   u32 l4 = 0, l5 = 0, l6 = 0;
   u64 l3 = 0;
   u8 *m = self->memory;
@@ -53989,7 +54539,7 @@ static void f59(module *self, u64 p0, u64 p1, u32 p2) {
   j0 += j1;
   j1 = p1;
   i2 = p2;
-  f29(self, j0, j1, i2); if (NEVER(self->is_broken)) return;
+  f28(self, j0, j1, i2); if (NEVER(self->is_broken)) return;
   i0 = 0u;
   l4 = i0;
   i0 = 1u;
@@ -54007,7 +54557,7 @@ static void f59(module *self, u64 p0, u64 p1, u32 p2) {
   i2 = p2;
   i3 = 1u;
   i2 += i3;
-  f29(self, j0, j1, i2); if (NEVER(self->is_broken)) return;
+  f28(self, j0, j1, i2); if (NEVER(self->is_broken)) return;
   j0 = l3;
   i0 = (u32)(j0);
   i0 = i32_load8_u(j0 + 1u);
@@ -54057,7 +54607,7 @@ static void f59(module *self, u64 p0, u64 p1, u32 p2) {
   self->g0 = j0;
 }
 
-static void f60(module *self, u64 p0, u64 p1, u64 p2, u64 p3, u64 p4, u64 p5, u64 p6) {
+static void f59(module *self, u64 p0, u64 p1, u64 p2, u64 p3, u64 p4, u64 p5, u64 p6) {
   u32 l20 = 0, l21 = 0, l22 = 0, l23 = 0, l24 = 0, l25 = 0, l26 = 0, l27 = 0, 
       l28 = 0, l29 = 0, l30 = 0, l31 = 0, l32 = 0, l33 = 0, l34 = 0, l35 = 0, 
       l36 = 0, l37 = 0, l38 = 0, l39 = 0, l40 = 0, l41 = 0, l42 = 0, l43 = 0, 
@@ -54095,7 +54645,7 @@ static void f60(module *self, u64 p0, u64 p1, u64 p2, u64 p3, u64 p4, u64 p5, u6
   j1 = 272ull;
   j0 += j1;
   j1 = p4;
-  f21(self, j0, j1);
+  f20(self, j0, j1);
   j0 = l7;
   i0 = (u32)(j0);
   i0 = i32_load8_u(j0 + 272u);
@@ -54790,7 +55340,7 @@ static void f60(module *self, u64 p0, u64 p1, u64 p2, u64 p3, u64 p4, u64 p5, u6
   i3 = 6u;
   i2 += i3;
   l49 = i2;
-  f29(self, j0, j1, i2); if (NEVER(self->is_broken)) return;
+  f28(self, j0, j1, i2); if (NEVER(self->is_broken)) return;
   j0 = p1;
   j1 = 188ull;
   j0 += j1;
@@ -54859,7 +55409,7 @@ static void f60(module *self, u64 p0, u64 p1, u64 p2, u64 p3, u64 p4, u64 p5, u6
     j1 = 304ull;
     j0 += j1;
     j1 = p2;
-    f26(self, j0, j1);
+    f25(self, j0, j1);
     j0 = l8;
     i0 = (u32)(j0);
     j1 = l7;
@@ -54909,7 +55459,7 @@ static void f60(module *self, u64 p0, u64 p1, u64 p2, u64 p3, u64 p4, u64 p5, u6
     j0 += j1;
     j1 = p1;
     i2 = l49;
-    f29(self, j0, j1, i2); if (NEVER(self->is_broken)) return;
+    f28(self, j0, j1, i2); if (NEVER(self->is_broken)) return;
     j0 = l7;
     j1 = 320ull;
     j0 += j1;
@@ -54983,7 +55533,7 @@ static void f60(module *self, u64 p0, u64 p1, u64 p2, u64 p3, u64 p4, u64 p5, u6
   j1 = 304ull;
   j0 += j1;
   j1 = p2;
-  f26(self, j0, j1);
+  f25(self, j0, j1);
   j0 = l8;
   i0 = (u32)(j0);
   j1 = l7;
@@ -55022,7 +55572,7 @@ static void f60(module *self, u64 p0, u64 p1, u64 p2, u64 p3, u64 p4, u64 p5, u6
   j0 += j1;
   j1 = p1;
   i2 = l49;
-  f29(self, j0, j1, i2); if (NEVER(self->is_broken)) return;
+  f28(self, j0, j1, i2); if (NEVER(self->is_broken)) return;
   j0 = l7;
   i0 = (u32)(j0);
   i1 = l39;
@@ -55063,7 +55613,7 @@ static void f60(module *self, u64 p0, u64 p1, u64 p2, u64 p3, u64 p4, u64 p5, u6
   j1 *= j2;
   l8 = j1;
   j2 = 1ull;
-  f159(self, j0, j1, j2); m = self->memory; if (NEVER(self->is_broken)) return;
+  f160(self, j0, j1, j2); m = self->memory; if (NEVER(self->is_broken)) return;
   i0 = 1u;
   l20 = i0;
   i0 = 0u;
@@ -55106,7 +55656,7 @@ static void f60(module *self, u64 p0, u64 p1, u64 p2, u64 p3, u64 p4, u64 p5, u6
   j0 += j1;
   j1 = 24ull;
   j2 = 8ull;
-  f159(self, j0, j1, j2); m = self->memory; if (NEVER(self->is_broken)) return;
+  f160(self, j0, j1, j2); m = self->memory; if (NEVER(self->is_broken)) return;
   i0 = 1u;
   l20 = i0;
   j0 = l7;
@@ -55117,7 +55667,7 @@ static void f60(module *self, u64 p0, u64 p1, u64 p2, u64 p3, u64 p4, u64 p5, u6
   i0 &= i1;
   if (i0) {goto B40;}
   j0 = p2;
-  f162(self, j0);
+  f163(self, j0);
   i0 = 0u;
   l48 = i0;
   goto B7;
@@ -55395,7 +55945,7 @@ static void f60(module *self, u64 p0, u64 p1, u64 p2, u64 p3, u64 p4, u64 p5, u6
   i2 = (u32)(j2);
   i3 = 255u;
   i2 &= i3;
-  f23(self, j0, i1, i2);
+  f22(self, j0, i1, i2);
   i0 = 1u;
   l39 = i0;
   j0 = l7;
@@ -55443,56 +55993,56 @@ static void f60(module *self, u64 p0, u64 p1, u64 p2, u64 p3, u64 p4, u64 p5, u6
   j4 = l7;
   i4 = (u32)(j4);
   i4 = i32_load8_u(j4 + 336u);
-  f61(self, j0, j1, j2, j3, i4);
+  f60(self, j0, j1, j2, j3, i4);
   j0 = p1;
   i1 = l48;
   i2 = 9u;
   i3 = l52;
-  f62(self, j0, i1, i2, i3);
+  f61(self, j0, i1, i2, i3);
   j0 = p1;
   i1 = l48;
   i2 = 10u;
   i3 = l49;
   i4 = 8u;
   i3 >>= (i4 & 31);
-  f62(self, j0, i1, i2, i3);
+  f61(self, j0, i1, i2, i3);
   j0 = p1;
   i1 = l48;
   i2 = 11u;
   i3 = l49;
-  f62(self, j0, i1, i2, i3);
+  f61(self, j0, i1, i2, i3);
   j0 = p1;
   i1 = l48;
   i2 = 18u;
   i3 = l51;
-  f62(self, j0, i1, i2, i3);
+  f61(self, j0, i1, i2, i3);
   j0 = p1;
   i1 = l48;
   i2 = 20u;
   i3 = l39;
-  f62(self, j0, i1, i2, i3);
+  f61(self, j0, i1, i2, i3);
   i0 = 0u;
   l39 = i0;
   j0 = p1;
   i1 = l48;
   i2 = 12u;
   i3 = 0u;
-  f62(self, j0, i1, i2, i3);
+  f61(self, j0, i1, i2, i3);
   j0 = p1;
   i1 = l48;
   i2 = 13u;
   i3 = 0u;
-  f62(self, j0, i1, i2, i3);
+  f61(self, j0, i1, i2, i3);
   j0 = p1;
   i1 = l48;
   i2 = 14u;
   i3 = 0u;
-  f62(self, j0, i1, i2, i3);
+  f61(self, j0, i1, i2, i3);
   j0 = p1;
   i1 = l48;
   i2 = 15u;
   i3 = 0u;
-  f62(self, j0, i1, i2, i3);
+  f61(self, j0, i1, i2, i3);
   j0 = p2;
   i0 = (u32)(j0);
   j1 = 0ull;
@@ -55655,7 +56205,7 @@ static void f60(module *self, u64 p0, u64 p1, u64 p2, u64 p3, u64 p4, u64 p5, u6
   j2 = 420ull;
   j1 += j2;
   j2 = p2;
-  f33(self, j0, j1, j2);
+  f32(self, j0, j1, j2);
   j0 = l7;
   j1 = 256ull;
   j0 += j1;
@@ -55664,7 +56214,7 @@ static void f60(module *self, u64 p0, u64 p1, u64 p2, u64 p3, u64 p4, u64 p5, u6
   j1 += j2;
   j2 = p2;
   j3 = p6;
-  f34(self, j0, j1, j2, j3);
+  f33(self, j0, j1, j2, j3);
   j0 = l7;
   i0 = (u32)(j0);
   i0 = i32_load8_u(j0 + 256u);
@@ -55765,12 +56315,12 @@ static void f60(module *self, u64 p0, u64 p1, u64 p2, u64 p3, u64 p4, u64 p5, u6
   i3 = l75;
   i4 = 8u;
   i3 >>= (i4 & 31);
-  f62(self, j0, i1, i2, i3);
+  f61(self, j0, i1, i2, i3);
   j0 = p1;
   i1 = l39;
   i2 = 11u;
   i3 = l75;
-  f62(self, j0, i1, i2, i3);
+  f61(self, j0, i1, i2, i3);
   j0 = p2;
   j1 = 24ull;
   j0 += j1;
@@ -55837,12 +56387,12 @@ static void f60(module *self, u64 p0, u64 p1, u64 p2, u64 p3, u64 p4, u64 p5, u6
   l20 = i3;
   i4 = 8u;
   i3 >>= (i4 & 31);
-  f62(self, j0, i1, i2, i3);
+  f61(self, j0, i1, i2, i3);
   j0 = p1;
   i1 = l39;
   i2 = 15u;
   i3 = l20;
-  f62(self, j0, i1, i2, i3);
+  f61(self, j0, i1, i2, i3);
   goto B56;
   B70:;
   j0 = l7;
@@ -55895,12 +56445,12 @@ static void f60(module *self, u64 p0, u64 p1, u64 p2, u64 p3, u64 p4, u64 p5, u6
   l20 = i3;
   i4 = 8u;
   i3 >>= (i4 & 31);
-  f62(self, j0, i1, i2, i3);
+  f61(self, j0, i1, i2, i3);
   j0 = p1;
   i1 = l39;
   i2 = 13u;
   i3 = l20;
-  f62(self, j0, i1, i2, i3);
+  f61(self, j0, i1, i2, i3);
   j0 = p2;
   j1 = 6ull;
   j0 += j1;
@@ -55960,12 +56510,12 @@ static void f60(module *self, u64 p0, u64 p1, u64 p2, u64 p3, u64 p4, u64 p5, u6
   l20 = i3;
   i4 = 8u;
   i3 >>= (i4 & 31);
-  f62(self, j0, i1, i2, i3);
+  f61(self, j0, i1, i2, i3);
   j0 = p1;
   i1 = l39;
   i2 = 15u;
   i3 = l20;
-  f62(self, j0, i1, i2, i3);
+  f61(self, j0, i1, i2, i3);
   goto B56;
   B68:;
   j0 = l7;
@@ -56072,7 +56622,7 @@ static void f60(module *self, u64 p0, u64 p1, u64 p2, u64 p3, u64 p4, u64 p5, u6
   j4 = l7;
   j5 = 304ull;
   j4 += j5;
-  f63(self, j0, j1, j2, i3, j4); if (NEVER(self->is_broken)) return;
+  f62(self, j0, j1, j2, i3, j4); if (NEVER(self->is_broken)) return;
   goto B56;
   B67:;
   j0 = l7;
@@ -56183,7 +56733,7 @@ static void f60(module *self, u64 p0, u64 p1, u64 p2, u64 p3, u64 p4, u64 p5, u6
   j4 = l7;
   j5 = 304ull;
   j4 += j5;
-  f63(self, j0, j1, j2, i3, j4); if (NEVER(self->is_broken)) return;
+  f62(self, j0, j1, j2, i3, j4); if (NEVER(self->is_broken)) return;
   goto B56;
   B66:;
   j0 = p2;
@@ -56244,7 +56794,7 @@ static void f60(module *self, u64 p0, u64 p1, u64 p2, u64 p3, u64 p4, u64 p5, u6
   i3 *= i4;
   i2 += i3;
   l39 = i2;
-  f37(self, j0, j1, i2);
+  f36(self, j0, j1, i2);
   j0 = l7;
   i0 = (u32)(j0);
   i0 = i32_load8_u(j0 + 81u);
@@ -56260,7 +56810,7 @@ static void f60(module *self, u64 p0, u64 p1, u64 p2, u64 p3, u64 p4, u64 p5, u6
   i2 = l39;
   i3 = 1u;
   i2 += i3;
-  f37(self, j0, j1, i2);
+  f36(self, j0, j1, i2);
   j0 = l7;
   i0 = (u32)(j0);
   i1 = 4294967295u;
@@ -56500,7 +57050,7 @@ static void f60(module *self, u64 p0, u64 p1, u64 p2, u64 p3, u64 p4, u64 p5, u6
   j1 <<= (j2 & 63);
   p5 = j1;
   i1 = (u32)(j1);
-  i1 = i32_load(j1 + 1051664u);
+  i1 = i32_load(j1 + 1051784u);
   i32_store(j0, i1);
   j0 = p1;
   j1 = 60ull;
@@ -56509,7 +57059,7 @@ static void f60(module *self, u64 p0, u64 p1, u64 p2, u64 p3, u64 p4, u64 p5, u6
   i0 = (u32)(j0);
   j1 = p5;
   i1 = (u32)(j1);
-  i1 = i32_load(j1 + 1051648u);
+  i1 = i32_load(j1 + 1051768u);
   i32_store(j0, i1);
   j0 = p1;
   j1 = 72ull;
@@ -56579,7 +57129,7 @@ static void f60(module *self, u64 p0, u64 p1, u64 p2, u64 p3, u64 p4, u64 p5, u6
     i4 = l20;
     i3 *= i4;
     i2 += i3;
-    f37(self, j0, j1, i2);
+    f36(self, j0, j1, i2);
     j0 = l8;
     i0 = (u32)(j0);
     i1 = 0u;
@@ -56676,13 +57226,13 @@ static void f60(module *self, u64 p0, u64 p1, u64 p2, u64 p3, u64 p4, u64 p5, u6
   j1 <<= (j2 & 63);
   p1 = j1;
   i1 = (u32)(j1);
-  i1 = i32_load(j1 + 1051664u);
+  i1 = i32_load(j1 + 1051784u);
   i32_store(j0, i1);
   j0 = l15;
   i0 = (u32)(j0);
   j1 = p1;
   i1 = (u32)(j1);
-  i1 = i32_load(j1 + 1051648u);
+  i1 = i32_load(j1 + 1051768u);
   i32_store(j0, i1);
   j0 = l16;
   i0 = (u32)(j0);
@@ -56740,7 +57290,7 @@ static void f60(module *self, u64 p0, u64 p1, u64 p2, u64 p3, u64 p4, u64 p5, u6
     i3 *= i4;
     i2 += i3;
     l39 = i2;
-    f37(self, j0, j1, i2);
+    f36(self, j0, j1, i2);
     j0 = l7;
     i0 = (u32)(j0);
     i0 = i32_load8_u(j0 + 152u);
@@ -56756,7 +57306,7 @@ static void f60(module *self, u64 p0, u64 p1, u64 p2, u64 p3, u64 p4, u64 p5, u6
     i2 = l39;
     i3 = 1u;
     i2 += i3;
-    f37(self, j0, j1, i2);
+    f36(self, j0, j1, i2);
     j0 = l7;
     i0 = (u32)(j0);
     i0 = i32_load8_u(j0 + 144u);
@@ -56772,7 +57322,7 @@ static void f60(module *self, u64 p0, u64 p1, u64 p2, u64 p3, u64 p4, u64 p5, u6
     i2 = l39;
     i3 = 2u;
     i2 += i3;
-    f37(self, j0, j1, i2);
+    f36(self, j0, j1, i2);
     j0 = l7;
     i0 = (u32)(j0);
     i0 = i32_load8_u(j0 + 136u);
@@ -56788,7 +57338,7 @@ static void f60(module *self, u64 p0, u64 p1, u64 p2, u64 p3, u64 p4, u64 p5, u6
     i2 = l39;
     i3 = 3u;
     i2 += i3;
-    f37(self, j0, j1, i2);
+    f36(self, j0, j1, i2);
     j0 = l7;
     i0 = (u32)(j0);
     i0 = i32_load8_u(j0 + 128u);
@@ -56804,7 +57354,7 @@ static void f60(module *self, u64 p0, u64 p1, u64 p2, u64 p3, u64 p4, u64 p5, u6
     i2 = l39;
     i3 = 4u;
     i2 += i3;
-    f37(self, j0, j1, i2);
+    f36(self, j0, j1, i2);
     j0 = l7;
     i0 = (u32)(j0);
     i0 = i32_load8_u(j0 + 120u);
@@ -56820,7 +57370,7 @@ static void f60(module *self, u64 p0, u64 p1, u64 p2, u64 p3, u64 p4, u64 p5, u6
     i2 = l39;
     i3 = 5u;
     i2 += i3;
-    f37(self, j0, j1, i2);
+    f36(self, j0, j1, i2);
     j0 = l7;
     i0 = (u32)(j0);
     i0 = i32_load8_u(j0 + 112u);
@@ -56836,7 +57386,7 @@ static void f60(module *self, u64 p0, u64 p1, u64 p2, u64 p3, u64 p4, u64 p5, u6
     i2 = l39;
     i3 = 6u;
     i2 += i3;
-    f37(self, j0, j1, i2);
+    f36(self, j0, j1, i2);
     j0 = l7;
     i0 = (u32)(j0);
     i0 = i32_load8_u(j0 + 104u);
@@ -56852,7 +57402,7 @@ static void f60(module *self, u64 p0, u64 p1, u64 p2, u64 p3, u64 p4, u64 p5, u6
     i2 = l39;
     i3 = 7u;
     i2 += i3;
-    f37(self, j0, j1, i2);
+    f36(self, j0, j1, i2);
     j0 = l8;
     i0 = (u32)(j0);
     i1 = 2u;
@@ -56959,7 +57509,7 @@ static void f60(module *self, u64 p0, u64 p1, u64 p2, u64 p3, u64 p4, u64 p5, u6
   j4 = l7;
   j5 = 320ull;
   j4 += j5;
-  i2 = f39(self, j2, i3, j4); if (NEVER(self->is_broken)) return;
+  i2 = f38(self, j2, i3, j4); if (NEVER(self->is_broken)) return;
   i3 = 255u;
   i2 &= i3;
   i1 |= i2;
@@ -57035,7 +57585,7 @@ static void f60(module *self, u64 p0, u64 p1, u64 p2, u64 p3, u64 p4, u64 p5, u6
     i3 = l75;
     i4 = l39;
     i5 = l49;
-    f64(self, j0, j1, i2, i3, i4, i5); if (NEVER(self->is_broken)) return;
+    f63(self, j0, j1, i2, i3, i4, i5); if (NEVER(self->is_broken)) return;
     i0 = l20;
     i1 = 1u;
     i0 += i1;
@@ -57154,7 +57704,7 @@ static void f60(module *self, u64 p0, u64 p1, u64 p2, u64 p3, u64 p4, u64 p5, u6
   i1 = (u32)(j1);
   i1 = i32_load8_u(j1);
   i2 = l48;
-  i0 = f49(self, j0, i1, i2);
+  i0 = f48(self, j0, i1, i2);
   l48 = i0;
   j0 = p1;
   j1 = 68ull;
@@ -57227,7 +57777,7 @@ static void f60(module *self, u64 p0, u64 p1, u64 p2, u64 p3, u64 p4, u64 p5, u6
   j2 = (u64)(i2);
   j3 = 60ull;
   j2 &= j3;
-  j3 = 1048844ull;
+  j3 = 1048908ull;
   j2 += j3;
   i2 = (u32)(j2);
   i2 = i32_load(j2);
@@ -57345,7 +57895,7 @@ static void f60(module *self, u64 p0, u64 p1, u64 p2, u64 p3, u64 p4, u64 p5, u6
   j1 <<= (j2 & 63);
   l8 = j1;
   i1 = (u32)(j1);
-  i1 = i32_load(j1 + 1051664u);
+  i1 = i32_load(j1 + 1051784u);
   i32_store(j0, i1);
   j0 = p1;
   j1 = 60ull;
@@ -57354,7 +57904,7 @@ static void f60(module *self, u64 p0, u64 p1, u64 p2, u64 p3, u64 p4, u64 p5, u6
   i0 = (u32)(j0);
   j1 = l8;
   i1 = (u32)(j1);
-  i1 = i32_load(j1 + 1051648u);
+  i1 = i32_load(j1 + 1051768u);
   i32_store(j0, i1);
   i0 = l48;
   i1 = 4294967295u;
@@ -57368,13 +57918,13 @@ static void f60(module *self, u64 p0, u64 p1, u64 p2, u64 p3, u64 p4, u64 p5, u6
   i0 = (u32)(j0);
   j1 = l8;
   i1 = (u32)(j1);
-  i1 = i32_load(j1 + 1051664u);
+  i1 = i32_load(j1 + 1051784u);
   i32_store(j0, i1);
   j0 = p3;
   i0 = (u32)(j0);
   j1 = l8;
   i1 = (u32)(j1);
-  i1 = i32_load(j1 + 1051648u);
+  i1 = i32_load(j1 + 1051768u);
   i32_store(j0, i1);
   j0 = p1;
   j1 = 50ull;
@@ -57394,7 +57944,7 @@ static void f60(module *self, u64 p0, u64 p1, u64 p2, u64 p3, u64 p4, u64 p5, u6
   j0 += j1;
   j1 = p1;
   i2 = l49;
-  f37(self, j0, j1, i2);
+  f36(self, j0, j1, i2);
   j0 = p2;
   i0 = (u32)(j0);
   i1 = 5u;
@@ -57463,14 +58013,14 @@ static void f60(module *self, u64 p0, u64 p1, u64 p2, u64 p3, u64 p4, u64 p5, u6
   j1 <<= (j2 & 63);
   p6 = j1;
   i1 = (u32)(j1);
-  i1 = i32_load(j1 + 1051664u);
+  i1 = i32_load(j1 + 1051784u);
   l56 = i1;
   i32_store(j0, i1);
   j0 = p3;
   i0 = (u32)(j0);
   j1 = p6;
   i1 = (u32)(j1);
-  i1 = i32_load(j1 + 1051648u);
+  i1 = i32_load(j1 + 1051768u);
   l57 = i1;
   i32_store(j0, i1);
   j0 = l10;
@@ -57534,7 +58084,7 @@ static void f60(module *self, u64 p0, u64 p1, u64 p2, u64 p3, u64 p4, u64 p5, u6
   j0 = p1;
   i1 = l59;
   i2 = l48;
-  i0 = f49(self, j0, i1, i2);
+  i0 = f48(self, j0, i1, i2);
   l20 = i0;
   i0 = l52;
   i1 = 1u;
@@ -57602,7 +58152,7 @@ static void f60(module *self, u64 p0, u64 p1, u64 p2, u64 p3, u64 p4, u64 p5, u6
   j2 = (u64)(i2);
   j3 = 60ull;
   j2 &= j3;
-  j3 = 1048844ull;
+  j3 = 1048908ull;
   j2 += j3;
   i2 = (u32)(j2);
   i2 = i32_load(j2);
@@ -57732,7 +58282,7 @@ static void f60(module *self, u64 p0, u64 p1, u64 p2, u64 p3, u64 p4, u64 p5, u6
   j1 <<= (j2 & 63);
   p6 = j1;
   i1 = (u32)(j1);
-  i1 = i32_load(j1 + 1051664u);
+  i1 = i32_load(j1 + 1051784u);
   i32_store(j0, i1);
   j0 = p1;
   j1 = 60ull;
@@ -57740,7 +58290,7 @@ static void f60(module *self, u64 p0, u64 p1, u64 p2, u64 p3, u64 p4, u64 p5, u6
   i0 = (u32)(j0);
   j1 = p6;
   i1 = (u32)(j1);
-  i1 = i32_load(j1 + 1051648u);
+  i1 = i32_load(j1 + 1051768u);
   i32_store(j0, i1);
   j0 = p1;
   j1 = 72ull;
@@ -57829,7 +58379,7 @@ static void f60(module *self, u64 p0, u64 p1, u64 p2, u64 p3, u64 p4, u64 p5, u6
   j0 += j1;
   j1 = p1;
   i2 = l39;
-  f37(self, j0, j1, i2);
+  f36(self, j0, j1, i2);
   i0 = 4294967295u;
   j1 = l7;
   i1 = (u32)(j1);
@@ -57933,7 +58483,7 @@ static void f60(module *self, u64 p0, u64 p1, u64 p2, u64 p3, u64 p4, u64 p5, u6
   j1 <<= (j2 & 63);
   l14 = j1;
   i1 = (u32)(j1);
-  i1 = i32_load(j1 + 1051664u);
+  i1 = i32_load(j1 + 1051784u);
   i32_store(j0, i1);
   j0 = p1;
   j1 = 60ull;
@@ -57942,7 +58492,7 @@ static void f60(module *self, u64 p0, u64 p1, u64 p2, u64 p3, u64 p4, u64 p5, u6
   i0 = (u32)(j0);
   j1 = l14;
   i1 = (u32)(j1);
-  i1 = i32_load(j1 + 1051648u);
+  i1 = i32_load(j1 + 1051768u);
   i32_store(j0, i1);
   j0 = p1;
   j1 = 72ull;
@@ -57989,7 +58539,7 @@ static void f60(module *self, u64 p0, u64 p1, u64 p2, u64 p3, u64 p4, u64 p5, u6
   j0 += j1;
   j1 = p1;
   i2 = l39;
-  f37(self, j0, j1, i2);
+  f36(self, j0, j1, i2);
   j0 = l7;
   i0 = (u32)(j0);
   i0 = i32_load8_u(j0 + 201u);
@@ -58067,13 +58617,13 @@ static void f60(module *self, u64 p0, u64 p1, u64 p2, u64 p3, u64 p4, u64 p5, u6
   j1 <<= (j2 & 63);
   l19 = j1;
   i1 = (u32)(j1);
-  i1 = i32_load(j1 + 1051664u);
+  i1 = i32_load(j1 + 1051784u);
   i32_store(j0, i1);
   j0 = l13;
   i0 = (u32)(j0);
   j1 = l19;
   i1 = (u32)(j1);
-  i1 = i32_load(j1 + 1051648u);
+  i1 = i32_load(j1 + 1051768u);
   i32_store(j0, i1);
   j0 = l14;
   i0 = (u32)(j0);
@@ -58108,7 +58658,7 @@ static void f60(module *self, u64 p0, u64 p1, u64 p2, u64 p3, u64 p4, u64 p5, u6
   j0 += j1;
   j1 = p1;
   i2 = l39;
-  f37(self, j0, j1, i2);
+  f36(self, j0, j1, i2);
   j0 = l7;
   i0 = (u32)(j0);
   i0 = i32_load8_u(j0 + 193u);
@@ -58183,13 +58733,13 @@ static void f60(module *self, u64 p0, u64 p1, u64 p2, u64 p3, u64 p4, u64 p5, u6
   j1 <<= (j2 & 63);
   l19 = j1;
   i1 = (u32)(j1);
-  i1 = i32_load(j1 + 1051664u);
+  i1 = i32_load(j1 + 1051784u);
   i32_store(j0, i1);
   j0 = l13;
   i0 = (u32)(j0);
   j1 = l19;
   i1 = (u32)(j1);
-  i1 = i32_load(j1 + 1051648u);
+  i1 = i32_load(j1 + 1051768u);
   i32_store(j0, i1);
   j0 = l14;
   i0 = (u32)(j0);
@@ -58224,7 +58774,7 @@ static void f60(module *self, u64 p0, u64 p1, u64 p2, u64 p3, u64 p4, u64 p5, u6
   j0 += j1;
   j1 = p1;
   i2 = l39;
-  f37(self, j0, j1, i2);
+  f36(self, j0, j1, i2);
   j0 = l7;
   i0 = (u32)(j0);
   i0 = i32_load8_u(j0 + 185u);
@@ -58299,13 +58849,13 @@ static void f60(module *self, u64 p0, u64 p1, u64 p2, u64 p3, u64 p4, u64 p5, u6
   j1 <<= (j2 & 63);
   l18 = j1;
   i1 = (u32)(j1);
-  i1 = i32_load(j1 + 1051664u);
+  i1 = i32_load(j1 + 1051784u);
   i32_store(j0, i1);
   j0 = l13;
   i0 = (u32)(j0);
   j1 = l18;
   i1 = (u32)(j1);
-  i1 = i32_load(j1 + 1051648u);
+  i1 = i32_load(j1 + 1051768u);
   i32_store(j0, i1);
   j0 = l14;
   i0 = (u32)(j0);
@@ -58340,7 +58890,7 @@ static void f60(module *self, u64 p0, u64 p1, u64 p2, u64 p3, u64 p4, u64 p5, u6
   j0 += j1;
   j1 = p1;
   i2 = l39;
-  f37(self, j0, j1, i2);
+  f36(self, j0, j1, i2);
   j0 = l7;
   i0 = (u32)(j0);
   i0 = i32_load8_u(j0 + 177u);
@@ -58411,13 +58961,13 @@ static void f60(module *self, u64 p0, u64 p1, u64 p2, u64 p3, u64 p4, u64 p5, u6
   j1 <<= (j2 & 63);
   p1 = j1;
   i1 = (u32)(j1);
-  i1 = i32_load(j1 + 1051664u);
+  i1 = i32_load(j1 + 1051784u);
   i32_store(j0, i1);
   j0 = l13;
   i0 = (u32)(j0);
   j1 = p1;
   i1 = (u32)(j1);
-  i1 = i32_load(j1 + 1051648u);
+  i1 = i32_load(j1 + 1051768u);
   i32_store(j0, i1);
   j0 = l14;
   i0 = (u32)(j0);
@@ -58566,7 +59116,7 @@ static void f60(module *self, u64 p0, u64 p1, u64 p2, u64 p3, u64 p4, u64 p5, u6
   i4 = l49;
   i5 = l75;
   i6 = 0u;
-  i1 = f65(self, j1, j2, i3, i4, i5, i6); if (NEVER(self->is_broken)) return;
+  i1 = f64(self, j1, j2, i3, i4, i5, i6); if (NEVER(self->is_broken)) return;
   l20 = i1;
   i32_store16(j0, i1);
   j0 = p2;
@@ -58619,12 +59169,12 @@ static void f60(module *self, u64 p0, u64 p1, u64 p2, u64 p3, u64 p4, u64 p5, u6
   l39 = i3;
   i4 = 8u;
   i3 >>= (i4 & 31);
-  f62(self, j0, i1, i2, i3);
+  f61(self, j0, i1, i2, i3);
   j0 = p1;
   i1 = l48;
   i2 = 15u;
   i3 = l39;
-  f62(self, j0, i1, i2, i3);
+  f61(self, j0, i1, i2, i3);
   goto B56;
   B61:;
   j0 = l7;
@@ -58689,14 +59239,14 @@ static void f60(module *self, u64 p0, u64 p1, u64 p2, u64 p3, u64 p4, u64 p5, u6
   i1 = l20;
   i2 = l49;
   i3 = l39;
-  f66(self, j0, i1, i2, i3); if (NEVER(self->is_broken)) return;
+  f65(self, j0, i1, i2, i3); if (NEVER(self->is_broken)) return;
   goto B56;
   B109:;
   j0 = p1;
   i1 = l20;
   i2 = 17u;
   i3 = l49;
-  f66(self, j0, i1, i2, i3); if (NEVER(self->is_broken)) return;
+  f65(self, j0, i1, i2, i3); if (NEVER(self->is_broken)) return;
   goto B56;
   B108:;
   j0 = l7;
@@ -58707,11 +59257,11 @@ static void f60(module *self, u64 p0, u64 p1, u64 p2, u64 p3, u64 p4, u64 p5, u6
   i3 = 6u;
   i2 += i3;
   l20 = i2;
-  f29(self, j0, j1, i2); if (NEVER(self->is_broken)) return;
+  f28(self, j0, j1, i2); if (NEVER(self->is_broken)) return;
   j0 = p1;
   j1 = p5;
   j2 = 16ull;
-  f67(self, j0, j1, j2);
+  f66(self, j0, j1, j2);
   j0 = p1;
   j1 = 146ull;
   j0 += j1;
@@ -58770,7 +59320,7 @@ static void f60(module *self, u64 p0, u64 p1, u64 p2, u64 p3, u64 p4, u64 p5, u6
   j1 = 320ull;
   j0 += j1;
   j1 = p6;
-  f26(self, j0, j1);
+  f25(self, j0, j1);
   j0 = p1;
   j1 = 196ull;
   j0 += j1;
@@ -58832,7 +59382,7 @@ static void f60(module *self, u64 p0, u64 p1, u64 p2, u64 p3, u64 p4, u64 p5, u6
   j1 = 320ull;
   j0 += j1;
   j1 = p6;
-  f26(self, j0, j1);
+  f25(self, j0, j1);
   j0 = p1;
   j1 = 196ull;
   j0 += j1;
@@ -58874,7 +59424,7 @@ static void f60(module *self, u64 p0, u64 p1, u64 p2, u64 p3, u64 p4, u64 p5, u6
   j1 = 320ull;
   j0 += j1;
   j1 = p6;
-  f26(self, j0, j1);
+  f25(self, j0, j1);
   j0 = p1;
   j1 = 196ull;
   j0 += j1;
@@ -58910,7 +59460,7 @@ static void f60(module *self, u64 p0, u64 p1, u64 p2, u64 p3, u64 p4, u64 p5, u6
   j0 += j1;
   j1 = p1;
   i2 = l20;
-  f29(self, j0, j1, i2); if (NEVER(self->is_broken)) return;
+  f28(self, j0, j1, i2); if (NEVER(self->is_broken)) return;
   goto B56;
   B107:;
   j0 = l7;
@@ -58921,7 +59471,7 @@ static void f60(module *self, u64 p0, u64 p1, u64 p2, u64 p3, u64 p4, u64 p5, u6
   i3 = 6u;
   i2 += i3;
   l39 = i2;
-  f29(self, j0, j1, i2); if (NEVER(self->is_broken)) return;
+  f28(self, j0, j1, i2); if (NEVER(self->is_broken)) return;
   j0 = p1;
   j1 = 146ull;
   j0 += j1;
@@ -58977,7 +59527,7 @@ static void f60(module *self, u64 p0, u64 p1, u64 p2, u64 p3, u64 p4, u64 p5, u6
   j1 = 320ull;
   j0 += j1;
   j1 = p6;
-  f26(self, j0, j1);
+  f25(self, j0, j1);
   j0 = p1;
   j1 = 196ull;
   j0 += j1;
@@ -59057,7 +59607,7 @@ static void f60(module *self, u64 p0, u64 p1, u64 p2, u64 p3, u64 p4, u64 p5, u6
   j1 = 320ull;
   j0 += j1;
   j1 = p6;
-  f26(self, j0, j1);
+  f25(self, j0, j1);
   j0 = p1;
   j1 = 196ull;
   j0 += j1;
@@ -59108,7 +59658,7 @@ static void f60(module *self, u64 p0, u64 p1, u64 p2, u64 p3, u64 p4, u64 p5, u6
   j1 = 320ull;
   j0 += j1;
   j1 = p6;
-  f26(self, j0, j1);
+  f25(self, j0, j1);
   j0 = p1;
   j1 = 196ull;
   j0 += j1;
@@ -59144,7 +59694,7 @@ static void f60(module *self, u64 p0, u64 p1, u64 p2, u64 p3, u64 p4, u64 p5, u6
   j0 += j1;
   j1 = p1;
   i2 = l39;
-  f29(self, j0, j1, i2); if (NEVER(self->is_broken)) return;
+  f28(self, j0, j1, i2); if (NEVER(self->is_broken)) return;
   goto B56;
   B106:;
   j0 = p1;
@@ -59153,7 +59703,7 @@ static void f60(module *self, u64 p0, u64 p1, u64 p2, u64 p3, u64 p4, u64 p5, u6
   j3 = l7;
   j4 = 432ull;
   j3 += j4;
-  f68(self, j0, i1, i2, j3); if (NEVER(self->is_broken)) return;
+  f67(self, j0, i1, i2, j3); if (NEVER(self->is_broken)) return;
   goto B56;
   B105:;
   j0 = l7;
@@ -59164,7 +59714,7 @@ static void f60(module *self, u64 p0, u64 p1, u64 p2, u64 p3, u64 p4, u64 p5, u6
   i3 = 6u;
   i2 += i3;
   l39 = i2;
-  f29(self, j0, j1, i2); if (NEVER(self->is_broken)) return;
+  f28(self, j0, j1, i2); if (NEVER(self->is_broken)) return;
   i0 = 1u;
   l20 = i0;
   j0 = p1;
@@ -59220,7 +59770,7 @@ static void f60(module *self, u64 p0, u64 p1, u64 p2, u64 p3, u64 p4, u64 p5, u6
   j1 = 320ull;
   j0 += j1;
   j1 = p5;
-  f26(self, j0, j1);
+  f25(self, j0, j1);
   j0 = p1;
   j1 = 196ull;
   j0 += j1;
@@ -59275,7 +59825,7 @@ static void f60(module *self, u64 p0, u64 p1, u64 p2, u64 p3, u64 p4, u64 p5, u6
   j0 += j1;
   j1 = p1;
   i2 = l39;
-  f29(self, j0, j1, i2); if (NEVER(self->is_broken)) return;
+  f28(self, j0, j1, i2); if (NEVER(self->is_broken)) return;
   j0 = l7;
   i0 = (u32)(j0);
   i1 = l20;
@@ -59696,7 +60246,7 @@ static void f60(module *self, u64 p0, u64 p1, u64 p2, u64 p3, u64 p4, u64 p5, u6
     i4 = (u32)(j4);
     i4 = i32_load8_u(j4);
     i5 = 1u;
-    i0 = f65(self, j0, j1, i2, i3, i4, i5); if (NEVER(self->is_broken)) return;
+    i0 = f64(self, j0, j1, i2, i3, i4, i5); if (NEVER(self->is_broken)) return;
     l39 = i0;
     j0 = l8;
     j1 = 2ull;
@@ -59725,7 +60275,7 @@ static void f60(module *self, u64 p0, u64 p1, u64 p2, u64 p3, u64 p4, u64 p5, u6
     i3 = i32_load8_u(j3);
     i4 = l48;
     i5 = 1u;
-    i0 = f65(self, j0, j1, i2, i3, i4, i5); if (NEVER(self->is_broken)) return;
+    i0 = f64(self, j0, j1, i2, i3, i4, i5); if (NEVER(self->is_broken)) return;
     l39 = i0;
     j0 = p5;
     j1 = 1ull;
@@ -59812,12 +60362,12 @@ static void f60(module *self, u64 p0, u64 p1, u64 p2, u64 p3, u64 p4, u64 p5, u6
   l39 = i3;
   i4 = 8u;
   i3 >>= (i4 & 31);
-  f62(self, j0, i1, i2, i3);
+  f61(self, j0, i1, i2, i3);
   j0 = p1;
   i1 = l48;
   i2 = 15u;
   i3 = l39;
-  f62(self, j0, i1, i2, i3);
+  f61(self, j0, i1, i2, i3);
   goto B56;
   B57:;
   j0 = l7;
@@ -60363,140 +60913,140 @@ static void f60(module *self, u64 p0, u64 p1, u64 p2, u64 p3, u64 p4, u64 p5, u6
   i3 = l39;
   i4 = 15u;
   i3 &= i4;
-  f62(self, j0, i1, i2, i3);
+  f61(self, j0, i1, i2, i3);
   j0 = p1;
   i1 = l24;
   i2 = 0u;
   i3 = l47;
-  f62(self, j0, i1, i2, i3);
+  f61(self, j0, i1, i2, i3);
   j0 = p1;
   i1 = l24;
   i2 = 1u;
   i3 = l46;
-  f62(self, j0, i1, i2, i3);
+  f61(self, j0, i1, i2, i3);
   j0 = p1;
   i1 = l24;
   i2 = 2u;
   i3 = l20;
-  f62(self, j0, i1, i2, i3);
+  f61(self, j0, i1, i2, i3);
   j0 = p1;
   i1 = l24;
   i2 = 3u;
   i3 = l45;
-  f62(self, j0, i1, i2, i3);
+  f61(self, j0, i1, i2, i3);
   j0 = p1;
   i1 = l24;
   i2 = 4u;
   i3 = l44;
-  f62(self, j0, i1, i2, i3);
+  f61(self, j0, i1, i2, i3);
   j0 = p1;
   i1 = l24;
   i2 = 5u;
   i3 = l43;
-  f62(self, j0, i1, i2, i3);
+  f61(self, j0, i1, i2, i3);
   j0 = p1;
   i1 = l24;
   i2 = 6u;
   i3 = l42;
-  f62(self, j0, i1, i2, i3);
+  f61(self, j0, i1, i2, i3);
   j0 = p1;
   i1 = l24;
   i2 = 7u;
   i3 = l41;
-  f62(self, j0, i1, i2, i3);
+  f61(self, j0, i1, i2, i3);
   j0 = p1;
   i1 = l24;
   i2 = 8u;
   i3 = 0u;
-  f62(self, j0, i1, i2, i3);
+  f61(self, j0, i1, i2, i3);
   j0 = p1;
   i1 = l24;
   i2 = 9u;
   i3 = l56;
-  f62(self, j0, i1, i2, i3);
+  f61(self, j0, i1, i2, i3);
   j0 = p1;
   i1 = l24;
   i2 = 10u;
   i3 = l57;
-  f62(self, j0, i1, i2, i3);
+  f61(self, j0, i1, i2, i3);
   j0 = p1;
   i1 = l24;
   i2 = 11u;
   i3 = l58;
-  f62(self, j0, i1, i2, i3);
+  f61(self, j0, i1, i2, i3);
   j0 = p1;
   i1 = l24;
   i2 = 12u;
   j3 = l7;
   i3 = (u32)(j3);
   i3 = i32_load8_u(j3 + 347u);
-  f62(self, j0, i1, i2, i3);
+  f61(self, j0, i1, i2, i3);
   j0 = p1;
   i1 = l24;
   i2 = 13u;
   j3 = l7;
   i3 = (u32)(j3);
   i3 = i32_load8_u(j3 + 348u);
-  f62(self, j0, i1, i2, i3);
+  f61(self, j0, i1, i2, i3);
   j0 = p1;
   i1 = l24;
   i2 = 14u;
   j3 = l7;
   i3 = (u32)(j3);
   i3 = i32_load8_u(j3 + 349u);
-  f62(self, j0, i1, i2, i3);
+  f61(self, j0, i1, i2, i3);
   j0 = p1;
   i1 = l24;
   i2 = 15u;
   j3 = l7;
   i3 = (u32)(j3);
   i3 = i32_load8_u(j3 + 350u);
-  f62(self, j0, i1, i2, i3);
+  f61(self, j0, i1, i2, i3);
   j0 = p1;
   i1 = l24;
   i2 = 16u;
   i3 = l40;
-  f62(self, j0, i1, i2, i3);
+  f61(self, j0, i1, i2, i3);
   j0 = p1;
   i1 = l24;
   i2 = 17u;
   i3 = l39;
-  f62(self, j0, i1, i2, i3);
+  f61(self, j0, i1, i2, i3);
   j0 = p1;
   i1 = l24;
   i2 = 18u;
   i3 = l38;
-  f62(self, j0, i1, i2, i3);
+  f61(self, j0, i1, i2, i3);
   j0 = p1;
   i1 = l24;
   i2 = 19u;
   i3 = l37;
-  f62(self, j0, i1, i2, i3);
+  f61(self, j0, i1, i2, i3);
   j0 = p1;
   i1 = l24;
   i2 = 20u;
   i3 = l59;
-  f62(self, j0, i1, i2, i3);
+  f61(self, j0, i1, i2, i3);
   j0 = p1;
   i1 = l24;
   i2 = 21u;
   i3 = l36;
-  f62(self, j0, i1, i2, i3);
+  f61(self, j0, i1, i2, i3);
   j0 = p1;
   i1 = l24;
   i2 = 22u;
   i3 = l35;
-  f62(self, j0, i1, i2, i3);
+  f61(self, j0, i1, i2, i3);
   j0 = p1;
   i1 = l24;
   i2 = 23u;
   i3 = l34;
-  f62(self, j0, i1, i2, i3);
+  f61(self, j0, i1, i2, i3);
   j0 = p1;
   i1 = l24;
   i2 = 24u;
   i3 = 255u;
-  f62(self, j0, i1, i2, i3);
+  f61(self, j0, i1, i2, i3);
   j0 = l7;
   j1 = 360ull;
   j0 += j1;
@@ -60624,7 +61174,7 @@ static void f60(module *self, u64 p0, u64 p1, u64 p2, u64 p3, u64 p4, u64 p5, u6
     j1 <<= (j2 & 63);
     l8 = j1;
     i1 = (u32)(j1);
-    i1 = i32_load(j1 + 1051664u);
+    i1 = i32_load(j1 + 1051784u);
     i32_store(j0, i1);
     j0 = p1;
     j1 = 60ull;
@@ -60632,7 +61182,7 @@ static void f60(module *self, u64 p0, u64 p1, u64 p2, u64 p3, u64 p4, u64 p5, u6
     i0 = (u32)(j0);
     j1 = l8;
     i1 = (u32)(j1);
-    i1 = i32_load(j1 + 1051648u);
+    i1 = i32_load(j1 + 1051768u);
     i32_store(j0, i1);
     j0 = p1;
     j1 = 72ull;
@@ -60686,11 +61236,11 @@ static void f60(module *self, u64 p0, u64 p1, u64 p2, u64 p3, u64 p4, u64 p5, u6
   i3 = 6u;
   i2 += i3;
   l39 = i2;
-  f29(self, j0, j1, i2); if (NEVER(self->is_broken)) return;
+  f28(self, j0, j1, i2); if (NEVER(self->is_broken)) return;
   j0 = p1;
   j1 = l9;
   j2 = 21ull;
-  f67(self, j0, j1, j2);
+  f66(self, j0, j1, j2);
   j0 = p1;
   j1 = 205ull;
   j0 += j1;
@@ -60744,7 +61294,7 @@ static void f60(module *self, u64 p0, u64 p1, u64 p2, u64 p3, u64 p4, u64 p5, u6
   j1 = 304ull;
   j0 += j1;
   j1 = p5;
-  f26(self, j0, j1);
+  f25(self, j0, j1);
   j0 = p1;
   j1 = 196ull;
   j0 += j1;
@@ -60782,7 +61332,7 @@ static void f60(module *self, u64 p0, u64 p1, u64 p2, u64 p3, u64 p4, u64 p5, u6
   j0 = l7;
   j1 = p1;
   i2 = l39;
-  f29(self, j0, j1, i2); if (NEVER(self->is_broken)) return;
+  f28(self, j0, j1, i2); if (NEVER(self->is_broken)) return;
   j0 = p1;
   j1 = 2002ull;
   j0 += j1;
@@ -60809,7 +61359,7 @@ static void f60(module *self, u64 p0, u64 p1, u64 p2, u64 p3, u64 p4, u64 p5, u6
     j0 += j1;
     i1 = l75;
     i2 = l39;
-    f46(self, j0, i1, i2); if (NEVER(self->is_broken)) return;
+    f45(self, j0, i1, i2); if (NEVER(self->is_broken)) return;
     j0 = p1;
     j1 = l8;
     j0 += j1;
@@ -60912,9 +61462,9 @@ static void f60(module *self, u64 p0, u64 p1, u64 p2, u64 p3, u64 p4, u64 p5, u6
   j0 = 1099511627792ull;
   j1 = p1;
   j2 = p3;
-  j3 = 1048841ull;
+  j3 = 1048905ull;
   i4 = l54;
-  f61(self, j0, j1, j2, j3, i4);
+  f60(self, j0, j1, j2, j3, i4);
   i0 = l21;
   i1 = 1u;
   i0 &= i1;
@@ -60924,7 +61474,7 @@ static void f60(module *self, u64 p0, u64 p1, u64 p2, u64 p3, u64 p4, u64 p5, u6
   i2 = 32768u;
   i3 = 32u;
   i4 = 7u;
-  f53(self, j0, i1, i2, i3, i4);
+  f52(self, j0, i1, i2, i3, i4);
   goto B146;
   B147:;
   i0 = l21;
@@ -60936,7 +61486,7 @@ static void f60(module *self, u64 p0, u64 p1, u64 p2, u64 p3, u64 p4, u64 p5, u6
   i2 = 65536u;
   i3 = 0u;
   i4 = 0u;
-  f53(self, j0, i1, i2, i3, i4);
+  f52(self, j0, i1, i2, i3, i4);
   B146:;
   j0 = p2;
   i0 = (u32)(j0);
@@ -61107,7 +61657,7 @@ static void f60(module *self, u64 p0, u64 p1, u64 p2, u64 p3, u64 p4, u64 p5, u6
   self->g0 = j0;
 }
 
-static void f61(module *self, u64 p0, u64 p1, u64 p2, u64 p3, u32 p4) {
+static void f60(module *self, u64 p0, u64 p1, u64 p2, u64 p3, u32 p4) {
   u32 l36 = 0, l37 = 0, l38 = 0, l39 = 0, l40 = 0, l41 = 0, l42 = 0, l43 = 0, 
       l44 = 0, l45 = 0, l46 = 0, l47 = 0, l48 = 0, l49 = 0;
   u64 l5 = 0, l6 = 0, l7 = 0, l8 = 0, l9 = 0, l10 = 0, l11 = 0, l12 = 0, 
@@ -61391,7 +61941,7 @@ static void f61(module *self, u64 p0, u64 p1, u64 p2, u64 p3, u32 p4) {
         default: goto B5;
       }
       B7:;
-      j0 = 1048841ull;
+      j0 = 1048905ull;
       l33 = j0;
       j0 = p2;
       i0 = (u32)(j0);
@@ -61416,7 +61966,7 @@ static void f61(module *self, u64 p0, u64 p1, u64 p2, u64 p3, u32 p4) {
       l33 = j0;
       goto B3;
       B6:;
-      j0 = 1048841ull;
+      j0 = 1048905ull;
       l33 = j0;
       j0 = p2;
       j1 = 16ull;
@@ -61443,7 +61993,7 @@ static void f61(module *self, u64 p0, u64 p1, u64 p2, u64 p3, u32 p4) {
       l33 = j0;
       goto B3;
       B5:;
-      j0 = 1048841ull;
+      j0 = 1048905ull;
       l33 = j0;
       j0 = p2;
       j1 = 32ull;
@@ -61558,7 +62108,7 @@ static void f61(module *self, u64 p0, u64 p1, u64 p2, u64 p3, u32 p4) {
       j0 = (u64)(i0);
       j1 = 60ull;
       j0 &= j1;
-      j1 = 1048844ull;
+      j1 = 1048908ull;
       j0 += j1;
       i0 = (u32)(j0);
       i0 = i32_load(j0);
@@ -61596,7 +62146,7 @@ static void f61(module *self, u64 p0, u64 p1, u64 p2, u64 p3, u32 p4) {
       j1 = (u64)(i1);
       j2 = 60ull;
       j1 &= j2;
-      j2 = 1048844ull;
+      j2 = 1048908ull;
       j1 += j2;
       i1 = (u32)(j1);
       i1 = i32_load(j1);
@@ -61612,7 +62162,7 @@ static void f61(module *self, u64 p0, u64 p1, u64 p2, u64 p3, u32 p4) {
       j0 = (u64)(i0);
       j1 = 60ull;
       j0 &= j1;
-      j1 = 1048844ull;
+      j1 = 1048908ull;
       j0 += j1;
       i0 = (u32)(j0);
       i0 = i32_load(j0);
@@ -61629,7 +62179,7 @@ static void f61(module *self, u64 p0, u64 p1, u64 p2, u64 p3, u32 p4) {
       j0 = (u64)(i0);
       j1 = 60ull;
       j0 &= j1;
-      j1 = 1048844ull;
+      j1 = 1048908ull;
       j0 += j1;
       i0 = (u32)(j0);
       i0 = i32_load(j0);
@@ -61792,7 +62342,7 @@ static void f61(module *self, u64 p0, u64 p1, u64 p2, u64 p3, u32 p4) {
       j2 = (u64)(i2);
       j3 = 60ull;
       j2 &= j3;
-      j3 = 1048844ull;
+      j3 = 1048908ull;
       j2 += j3;
       i2 = (u32)(j2);
       i2 = i32_load(j2);
@@ -61960,17 +62510,17 @@ static void f61(module *self, u64 p0, u64 p1, u64 p2, u64 p3, u32 p4) {
   j1 <<= (j2 & 63);
   p1 = j1;
   i1 = (u32)(j1);
-  i1 = i32_load(j1 + 1051664u);
+  i1 = i32_load(j1 + 1051784u);
   i32_store(j0, i1);
   j0 = l10;
   i0 = (u32)(j0);
   j1 = p1;
   i1 = (u32)(j1);
-  i1 = i32_load(j1 + 1051648u);
+  i1 = i32_load(j1 + 1051768u);
   i32_store(j0, i1);
 }
 
-static void f62(module *self, u64 p0, u32 p1, u32 p2, u32 p3) {
+static void f61(module *self, u64 p0, u32 p1, u32 p2, u32 p3) {
   u32 l5 = 0, l6 = 0, l7 = 0;
   u64 l4 = 0;
   u8 *m = self->memory;
@@ -62048,7 +62598,7 @@ static void f62(module *self, u64 p0, u32 p1, u32 p2, u32 p3) {
   j1 = 65535ull;
   j0 &= j1;
   i0 = (u32)(j0);
-  i0 = i32_load8_u(j0 + 1051888u);
+  i0 = i32_load8_u(j0 + 1052008u);
   l6 = i0;
   B1:;
   j0 = l4;
@@ -62057,7 +62607,7 @@ static void f62(module *self, u64 p0, u32 p1, u32 p2, u32 p3) {
   j1 = p0;
   i2 = l6;
   i3 = p2;
-  f47(self, j0, j1, i2, i3);
+  f46(self, j0, j1, i2, i3);
   B0:;
   i0 = p1;
   i1 = 4294966337u;
@@ -62126,14 +62676,14 @@ static void f62(module *self, u64 p0, u32 p1, u32 p2, u32 p3) {
   j1 = 65535ull;
   j0 &= j1;
   i0 = (u32)(j0);
-  i0 = i32_load8_u(j0 + 1051888u);
+  i0 = i32_load8_u(j0 + 1052008u);
   l6 = i0;
   B5:;
   j0 = l4;
   j1 = p0;
   i2 = l6;
   i3 = p3;
-  f47(self, j0, j1, i2, i3);
+  f46(self, j0, j1, i2, i3);
   B4:;
   j0 = l4;
   j1 = 16ull;
@@ -62141,7 +62691,7 @@ static void f62(module *self, u64 p0, u32 p1, u32 p2, u32 p3) {
   self->g0 = j0;
 }
 
-static void f63(module *self, u64 p0, u64 p1, u64 p2, u32 p3, u64 p4) {
+static void f62(module *self, u64 p0, u64 p1, u64 p2, u32 p3, u64 p4) {
   u32 l5 = 0, l6 = 0, l7 = 0, l8 = 0, l9 = 0, l10 = 0, l11 = 0, l12 = 0, 
       l13 = 0, l14 = 0, l15 = 0, l16 = 0, l17 = 0, l18 = 0, l19 = 0, l20 = 0, 
       l21 = 0, l22 = 0, l23 = 0, l24 = 0, l25 = 0;
@@ -62347,7 +62897,7 @@ static void f63(module *self, u64 p0, u64 p1, u64 p2, u32 p3, u64 p4) {
   j1 <<= (j2 & 63);
   p2 = j1;
   i1 = (u32)(j1);
-  i1 = i32_load(j1 + 1051664u);
+  i1 = i32_load(j1 + 1051784u);
   i32_store(j0, i1);
   j0 = p1;
   j1 = 60ull;
@@ -62355,7 +62905,7 @@ static void f63(module *self, u64 p0, u64 p1, u64 p2, u32 p3, u64 p4) {
   i0 = (u32)(j0);
   j1 = p2;
   i1 = (u32)(j1);
-  i1 = i32_load(j1 + 1051648u);
+  i1 = i32_load(j1 + 1051768u);
   i32_store(j0, i1);
   j0 = p1;
   j1 = 72ull;
@@ -62483,7 +63033,7 @@ static void f63(module *self, u64 p0, u64 p1, u64 p2, u32 p3, u64 p4) {
       i3 = l10;
       i2 += i3;
       i3 = p3;
-      f69(self, j0, i1, i2, i3);
+      f68(self, j0, i1, i2, i3);
       i0 = l10;
       i1 = l11;
       i0 += i1;
@@ -62577,7 +63127,7 @@ static void f63(module *self, u64 p0, u64 p1, u64 p2, u32 p3, u64 p4) {
       i3 = l10;
       i2 += i3;
       i3 = p3;
-      f69(self, j0, i1, i2, i3);
+      f68(self, j0, i1, i2, i3);
       i0 = l10;
       i1 = l11;
       i0 += i1;
@@ -62682,7 +63232,7 @@ static void f63(module *self, u64 p0, u64 p1, u64 p2, u32 p3, u64 p4) {
   j1 <<= (j2 & 63);
   l28 = j1;
   i1 = (u32)(j1);
-  i1 = i32_load(j1 + 1051664u);
+  i1 = i32_load(j1 + 1051784u);
   i32_store(j0, i1);
   j0 = p1;
   j1 = 60ull;
@@ -62690,7 +63240,7 @@ static void f63(module *self, u64 p0, u64 p1, u64 p2, u32 p3, u64 p4) {
   i0 = (u32)(j0);
   j1 = l28;
   i1 = (u32)(j1);
-  i1 = i32_load(j1 + 1051648u);
+  i1 = i32_load(j1 + 1051768u);
   i32_store(j0, i1);
   j0 = p1;
   j1 = 72ull;
@@ -62800,7 +63350,7 @@ static void f63(module *self, u64 p0, u64 p1, u64 p2, u32 p3, u64 p4) {
       i2 = p3;
       i3 = 32u;
       i4 = l12;
-      f53(self, j0, i1, i2, i3, i4);
+      f52(self, j0, i1, i2, i3, i4);
       i0 = l10;
       i1 = l11;
       i0 += i1;
@@ -62862,7 +63412,7 @@ static void f63(module *self, u64 p0, u64 p1, u64 p2, u32 p3, u64 p4) {
       i2 = p3;
       i3 = 0u;
       i4 = 0u;
-      f53(self, j0, i1, i2, i3, i4);
+      f52(self, j0, i1, i2, i3, i4);
       i0 = l10;
       i1 = l11;
       i0 += i1;
@@ -63017,7 +63567,7 @@ static void f63(module *self, u64 p0, u64 p1, u64 p2, u32 p3, u64 p4) {
       i2 = p3;
       i3 = 255u;
       i4 = 255u;
-      f53(self, j0, i1, i2, i3, i4);
+      f52(self, j0, i1, i2, i3, i4);
       i0 = l10;
       i1 = l11;
       i0 += i1;
@@ -63177,7 +63727,7 @@ static void f63(module *self, u64 p0, u64 p1, u64 p2, u32 p3, u64 p4) {
       i2 = p3;
       i3 = l12;
       i4 = l12;
-      f53(self, j0, i1, i2, i3, i4);
+      f52(self, j0, i1, i2, i3, i4);
       i0 = l10;
       i1 = l11;
       i0 += i1;
@@ -63202,7 +63752,7 @@ static void f63(module *self, u64 p0, u64 p1, u64 p2, u32 p3, u64 p4) {
   Bfunc:;
 }
 
-static void f64(module *self, u64 p0, u64 p1, u32 p2, u32 p3, u32 p4, u32 p5) {
+static void f63(module *self, u64 p0, u64 p1, u32 p2, u32 p3, u32 p4, u32 p5) {
   u32 l28 = 0, l29 = 0, l30 = 0, l31 = 0, l32 = 0, l33 = 0, l34 = 0, l35 = 0, 
       l36 = 0, l37 = 0, l38 = 0, l39 = 0, l40 = 0, l41 = 0, l42 = 0, l43 = 0;
   u64 l6 = 0, l7 = 0, l8 = 0, l9 = 0, l10 = 0, l11 = 0, l12 = 0, l13 = 0, 
@@ -63331,7 +63881,7 @@ static void f64(module *self, u64 p0, u64 p1, u32 p2, u32 p3, u32 p4, u32 p5) {
   i1 = (u32)(j1);
   i1 = i32_load8_u(j1);
   i2 = p3;
-  i0 = f49(self, j0, i1, i2);
+  i0 = f48(self, j0, i1, i2);
   l32 = i0;
   j0 = p0;
   j1 = 68ull;
@@ -63404,7 +63954,7 @@ static void f64(module *self, u64 p0, u64 p1, u32 p2, u32 p3, u32 p4, u32 p5) {
   j2 = (u64)(i2);
   j3 = 60ull;
   j2 &= j3;
-  j3 = 1048844ull;
+  j3 = 1048908ull;
   j2 += j3;
   i2 = (u32)(j2);
   i2 = i32_load(j2);
@@ -63469,7 +64019,7 @@ static void f64(module *self, u64 p0, u64 p1, u32 p2, u32 p3, u32 p4, u32 p5) {
   i1 = (u32)(j1);
   i1 = i32_load8_u(j1);
   i2 = p4;
-  i0 = f49(self, j0, i1, i2);
+  i0 = f48(self, j0, i1, i2);
   p5 = i0;
   j0 = p0;
   j1 = 68ull;
@@ -63542,7 +64092,7 @@ static void f64(module *self, u64 p0, u64 p1, u32 p2, u32 p3, u32 p4, u32 p5) {
   j2 = (u64)(i2);
   j3 = 60ull;
   j2 &= j3;
-  j3 = 1048844ull;
+  j3 = 1048908ull;
   j2 += j3;
   i2 = (u32)(j2);
   i2 = i32_load(j2);
@@ -63777,7 +64327,7 @@ static void f64(module *self, u64 p0, u64 p1, u32 p2, u32 p3, u32 p4, u32 p5) {
   j1 <<= (j2 & 63);
   p1 = j1;
   i1 = (u32)(j1);
-  i1 = i32_load(j1 + 1051664u);
+  i1 = i32_load(j1 + 1051784u);
   i32_store(j0, i1);
   j0 = p0;
   j1 = 60ull;
@@ -63786,7 +64336,7 @@ static void f64(module *self, u64 p0, u64 p1, u32 p2, u32 p3, u32 p4, u32 p5) {
   i0 = (u32)(j0);
   j1 = p1;
   i1 = (u32)(j1);
-  i1 = i32_load(j1 + 1051648u);
+  i1 = i32_load(j1 + 1051768u);
   i32_store(j0, i1);
   j0 = p0;
   j1 = 72ull;
@@ -63863,7 +64413,7 @@ static void f64(module *self, u64 p0, u64 p1, u32 p2, u32 p3, u32 p4, u32 p5) {
       default: goto B19;
     }
     B21:;
-    j0 = 1048841ull;
+    j0 = 1048905ull;
     l27 = j0;
     j0 = l7;
     i0 = (u32)(j0);
@@ -63888,7 +64438,7 @@ static void f64(module *self, u64 p0, u64 p1, u32 p2, u32 p3, u32 p4, u32 p5) {
     l27 = j0;
     goto B18;
     B20:;
-    j0 = 1048841ull;
+    j0 = 1048905ull;
     l27 = j0;
     j0 = l7;
     j1 = 16ull;
@@ -63915,7 +64465,7 @@ static void f64(module *self, u64 p0, u64 p1, u32 p2, u32 p3, u32 p4, u32 p5) {
     l27 = j0;
     goto B18;
     B19:;
-    j0 = 1048841ull;
+    j0 = 1048905ull;
     l27 = j0;
     j0 = l7;
     j1 = 32ull;
@@ -63956,7 +64506,7 @@ static void f64(module *self, u64 p0, u64 p1, u32 p2, u32 p3, u32 p4, u32 p5) {
     i3 *= i4;
     i2 += i3;
     l29 = i2;
-    f37(self, j0, j1, i2);
+    f36(self, j0, j1, i2);
     j0 = p0;
     j1 = 2003ull;
     j0 += j1;
@@ -64006,7 +64556,7 @@ static void f64(module *self, u64 p0, u64 p1, u32 p2, u32 p3, u32 p4, u32 p5) {
     i1 = (u32)(j1);
     i1 = i32_load8_u(j1);
     i2 = p2;
-    i0 = f49(self, j0, i1, i2);
+    i0 = f48(self, j0, i1, i2);
     p2 = i0;
     j0 = p0;
     j1 = 68ull;
@@ -64079,7 +64629,7 @@ static void f64(module *self, u64 p0, u64 p1, u32 p2, u32 p3, u32 p4, u32 p5) {
     j2 = (u64)(i2);
     j3 = 60ull;
     j2 &= j3;
-    j3 = 1048844ull;
+    j3 = 1048908ull;
     j2 += j3;
     i2 = (u32)(j2);
     i2 = i32_load(j2);
@@ -64196,13 +64746,13 @@ static void f64(module *self, u64 p0, u64 p1, u32 p2, u32 p3, u32 p4, u32 p5) {
   j1 <<= (j2 & 63);
   p0 = j1;
   i1 = (u32)(j1);
-  i1 = i32_load(j1 + 1051664u);
+  i1 = i32_load(j1 + 1051784u);
   i32_store(j0, i1);
   j0 = l19;
   i0 = (u32)(j0);
   j1 = p0;
   i1 = (u32)(j1);
-  i1 = i32_load(j1 + 1051648u);
+  i1 = i32_load(j1 + 1051768u);
   i32_store(j0, i1);
   j0 = l20;
   i0 = (u32)(j0);
@@ -64247,7 +64797,7 @@ static void f64(module *self, u64 p0, u64 p1, u32 p2, u32 p3, u32 p4, u32 p5) {
     i2 = l32;
     i3 = 0u;
     i4 = 0u;
-    f53(self, j0, i1, i2, i3, i4);
+    f52(self, j0, i1, i2, i3, i4);
     i0 = l29;
     i1 = 1u;
     i0 += i1;
@@ -64405,7 +64955,7 @@ static void f64(module *self, u64 p0, u64 p1, u32 p2, u32 p3, u32 p4, u32 p5) {
       default: goto B32;
     }
     B34:;
-    j0 = 1048841ull;
+    j0 = 1048905ull;
     l27 = j0;
     j0 = l7;
     i0 = (u32)(j0);
@@ -64430,7 +64980,7 @@ static void f64(module *self, u64 p0, u64 p1, u32 p2, u32 p3, u32 p4, u32 p5) {
     l27 = j0;
     goto B31;
     B33:;
-    j0 = 1048841ull;
+    j0 = 1048905ull;
     l27 = j0;
     j0 = l7;
     j1 = 16ull;
@@ -64457,7 +65007,7 @@ static void f64(module *self, u64 p0, u64 p1, u32 p2, u32 p3, u32 p4, u32 p5) {
     l27 = j0;
     goto B31;
     B32:;
-    j0 = 1048841ull;
+    j0 = 1048905ull;
     l27 = j0;
     j0 = l7;
     j1 = 32ull;
@@ -64539,7 +65089,7 @@ static void f64(module *self, u64 p0, u64 p1, u32 p2, u32 p3, u32 p4, u32 p5) {
     j2 = l27;
     i2 = (u32)(j2);
     i2 = i32_load8_u(j2);
-    i0 = f49(self, j0, i1, i2);
+    i0 = f48(self, j0, i1, i2);
     l33 = i0;
     j0 = p0;
     j1 = 68ull;
@@ -64612,7 +65162,7 @@ static void f64(module *self, u64 p0, u64 p1, u32 p2, u32 p3, u32 p4, u32 p5) {
     j2 = (u64)(i2);
     j3 = 60ull;
     j2 &= j3;
-    j3 = 1048844ull;
+    j3 = 1048908ull;
     j2 += j3;
     i2 = (u32)(j2);
     i2 = i32_load(j2);
@@ -64807,7 +65357,7 @@ static void f64(module *self, u64 p0, u64 p1, u32 p2, u32 p3, u32 p4, u32 p5) {
       default: goto B43;
     }
     B45:;
-    j0 = 1048841ull;
+    j0 = 1048905ull;
     p1 = j0;
     j0 = l7;
     i0 = (u32)(j0);
@@ -64832,7 +65382,7 @@ static void f64(module *self, u64 p0, u64 p1, u32 p2, u32 p3, u32 p4, u32 p5) {
     p1 = j0;
     goto B42;
     B44:;
-    j0 = 1048841ull;
+    j0 = 1048905ull;
     p1 = j0;
     j0 = l7;
     j1 = 16ull;
@@ -64859,7 +65409,7 @@ static void f64(module *self, u64 p0, u64 p1, u32 p2, u32 p3, u32 p4, u32 p5) {
     p1 = j0;
     goto B42;
     B43:;
-    j0 = 1048841ull;
+    j0 = 1048905ull;
     p1 = j0;
     j0 = l7;
     j1 = 32ull;
@@ -65014,7 +65564,7 @@ static void f64(module *self, u64 p0, u64 p1, u32 p2, u32 p3, u32 p4, u32 p5) {
       j0 = (u64)(i0);
       j1 = 60ull;
       j0 &= j1;
-      j1 = 1048844ull;
+      j1 = 1048908ull;
       j0 += j1;
       i0 = (u32)(j0);
       i0 = i32_load(j0);
@@ -65054,7 +65604,7 @@ static void f64(module *self, u64 p0, u64 p1, u32 p2, u32 p3, u32 p4, u32 p5) {
       j1 = (u64)(i1);
       j2 = 60ull;
       j1 &= j2;
-      j2 = 1048844ull;
+      j2 = 1048908ull;
       j1 += j2;
       i1 = (u32)(j1);
       i1 = i32_load(j1);
@@ -65070,7 +65620,7 @@ static void f64(module *self, u64 p0, u64 p1, u32 p2, u32 p3, u32 p4, u32 p5) {
       j0 = (u64)(i0);
       j1 = 60ull;
       j0 &= j1;
-      j1 = 1048844ull;
+      j1 = 1048908ull;
       j0 += j1;
       i0 = (u32)(j0);
       i0 = i32_load(j0);
@@ -65087,7 +65637,7 @@ static void f64(module *self, u64 p0, u64 p1, u32 p2, u32 p3, u32 p4, u32 p5) {
       j0 = (u64)(i0);
       j1 = 60ull;
       j0 &= j1;
-      j1 = 1048844ull;
+      j1 = 1048908ull;
       j0 += j1;
       i0 = (u32)(j0);
       i0 = i32_load(j0);
@@ -65252,7 +65802,7 @@ static void f64(module *self, u64 p0, u64 p1, u32 p2, u32 p3, u32 p4, u32 p5) {
       j2 = (u64)(i2);
       j3 = 60ull;
       j2 &= j3;
-      j3 = 1048844ull;
+      j3 = 1048908ull;
       j2 += j3;
       i2 = (u32)(j2);
       i2 = i32_load(j2);
@@ -65290,7 +65840,7 @@ static void f64(module *self, u64 p0, u64 p1, u32 p2, u32 p3, u32 p4, u32 p5) {
   Bfunc:;
 }
 
-static u32 f65(module *self, u64 p0, u64 p1, u32 p2, u32 p3, u32 p4, u32 p5) {
+static u32 f64(module *self, u64 p0, u64 p1, u32 p2, u32 p3, u32 p4, u32 p5) {
   u32 l7 = 0;
   u64 l6 = 0;
   u8 *m = self->memory;
@@ -65333,7 +65883,7 @@ static u32 f65(module *self, u64 p0, u64 p1, u32 p2, u32 p3, u32 p4, u32 p5) {
   i2 = (u32)(j2);
   i2 = i32_load8_u(j2);
   i3 = p2;
-  i0 = f71(self, j0, j1, i2, i3); if (NEVER(self->is_broken)) return ZAK_BROKEN;
+  i0 = f70(self, j0, j1, i2, i3); if (NEVER(self->is_broken)) return ZAK_BROKEN;
   goto Bfunc;
   B2:;
   i0 = p2;
@@ -65367,7 +65917,7 @@ static u32 f65(module *self, u64 p0, u64 p1, u32 p2, u32 p3, u32 p4, u32 p5) {
   i3 = p3;
   i4 = p4;
   i5 = p5;
-  f64(self, j0, j1, i2, i3, i4, i5); if (NEVER(self->is_broken)) return ZAK_BROKEN;
+  f63(self, j0, j1, i2, i3, i4, i5); if (NEVER(self->is_broken)) return ZAK_BROKEN;
   i0 = l7;
   i1 = 1u;
   i0 += i1;
@@ -65394,7 +65944,7 @@ static u32 f65(module *self, u64 p0, u64 p1, u32 p2, u32 p3, u32 p4, u32 p5) {
   i2 = (u32)(j2);
   i2 = i32_load8_u(j2);
   i3 = p2;
-  i0 = f71(self, j0, j1, i2, i3); if (NEVER(self->is_broken)) return ZAK_BROKEN;
+  i0 = f70(self, j0, j1, i2, i3); if (NEVER(self->is_broken)) return ZAK_BROKEN;
   i1 = 65280u;
   i0 &= i1;
   p2 = i0;
@@ -65404,7 +65954,7 @@ static u32 f65(module *self, u64 p0, u64 p1, u32 p2, u32 p3, u32 p4, u32 p5) {
   return i0;
 }
 
-static void f66(module *self, u64 p0, u32 p1, u32 p2, u32 p3) {
+static void f65(module *self, u64 p0, u32 p1, u32 p2, u32 p3) {
   u32 l7 = 0, l8 = 0;
   u64 l4 = 0, l5 = 0, l6 = 0;
   u8 *m = self->memory;
@@ -65423,7 +65973,7 @@ static void f66(module *self, u64 p0, u32 p1, u32 p2, u32 p3) {
   i3 = 6u;
   i2 += i3;
   l7 = i2;
-  f29(self, j0, j1, i2); if (NEVER(self->is_broken)) return;
+  f28(self, j0, j1, i2); if (NEVER(self->is_broken)) return;
   j0 = p0;
   j1 = 146ull;
   j0 += j1;
@@ -65478,7 +66028,7 @@ static void f66(module *self, u64 p0, u32 p1, u32 p2, u32 p3) {
   j1 = 16ull;
   j0 += j1;
   j1 = l5;
-  f26(self, j0, j1);
+  f25(self, j0, j1);
   j0 = p0;
   j1 = 196ull;
   j0 += j1;
@@ -65562,7 +66112,7 @@ static void f66(module *self, u64 p0, u32 p1, u32 p2, u32 p3) {
   j1 = 16ull;
   j0 += j1;
   j1 = l5;
-  f26(self, j0, j1);
+  f25(self, j0, j1);
   j0 = p0;
   j1 = 196ull;
   j0 += j1;
@@ -65626,7 +66176,7 @@ static void f66(module *self, u64 p0, u32 p1, u32 p2, u32 p3) {
   j1 = 16ull;
   j0 += j1;
   j1 = l5;
-  f26(self, j0, j1);
+  f25(self, j0, j1);
   j0 = p0;
   j1 = 196ull;
   j0 += j1;
@@ -65657,14 +66207,14 @@ static void f66(module *self, u64 p0, u32 p1, u32 p2, u32 p3) {
   j0 = l4;
   j1 = p0;
   i2 = l7;
-  f29(self, j0, j1, i2); if (NEVER(self->is_broken)) return;
+  f28(self, j0, j1, i2); if (NEVER(self->is_broken)) return;
   j0 = l4;
   j1 = 32ull;
   j0 += j1;
   self->g0 = j0;
 }
 
-static void f67(module *self, u64 p0, u64 p1, u64 p2) {
+static void f66(module *self, u64 p0, u64 p1, u64 p2) {
   u32 l9 = 0, l10 = 0, l11 = 0, l12 = 0, l13 = 0;
   u64 l3 = 0, l4 = 0, l5 = 0, l6 = 0, l7 = 0, l8 = 0;
   u8 *m = self->memory;
@@ -65750,7 +66300,7 @@ static void f67(module *self, u64 p0, u64 p1, u64 p2) {
     i32_store8(j0, i1);
     j0 = l3;
     j1 = l6;
-    f26(self, j0, j1);
+    f25(self, j0, j1);
     j0 = l4;
     i0 = (u32)(j0);
     j1 = l3;
@@ -65821,7 +66371,7 @@ static void f67(module *self, u64 p0, u64 p1, u64 p2) {
     i32_store8(j0, i1);
     j0 = l3;
     j1 = l6;
-    f26(self, j0, j1);
+    f25(self, j0, j1);
     j0 = l4;
     i0 = (u32)(j0);
     j1 = l3;
@@ -65863,7 +66413,7 @@ static void f67(module *self, u64 p0, u64 p1, u64 p2) {
   self->g0 = j0;
 }
 
-static void f68(module *self, u64 p0, u32 p1, u32 p2, u64 p3) {
+static void f67(module *self, u64 p0, u32 p1, u32 p2, u64 p3) {
   u32 l7 = 0, l8 = 0;
   u64 l4 = 0, l5 = 0, l6 = 0;
   u8 *m = self->memory;
@@ -65882,7 +66432,7 @@ static void f68(module *self, u64 p0, u32 p1, u32 p2, u64 p3) {
   i3 = 6u;
   i2 += i3;
   l7 = i2;
-  f29(self, j0, j1, i2); if (NEVER(self->is_broken)) return;
+  f28(self, j0, j1, i2); if (NEVER(self->is_broken)) return;
   i0 = p2;
   i1 = 32u;
   i0 += i1;
@@ -65940,7 +66490,7 @@ static void f68(module *self, u64 p0, u32 p1, u32 p2, u64 p3) {
   j1 = 16ull;
   j0 += j1;
   j1 = l6;
-  f26(self, j0, j1);
+  f25(self, j0, j1);
   j0 = p0;
   j1 = 196ull;
   j0 += j1;
@@ -66005,7 +66555,7 @@ static void f68(module *self, u64 p0, u32 p1, u32 p2, u64 p3) {
   j0 = l4;
   j1 = p0;
   i2 = l7;
-  f29(self, j0, j1, i2); if (NEVER(self->is_broken)) return;
+  f28(self, j0, j1, i2); if (NEVER(self->is_broken)) return;
   j0 = p3;
   j1 = 3ull;
   j0 += j1;
@@ -66018,7 +66568,7 @@ static void f68(module *self, u64 p0, u32 p1, u32 p2, u64 p3) {
   self->g0 = j0;
 }
 
-static void f69(module *self, u64 p0, u32 p1, u32 p2, u32 p3) {
+static void f68(module *self, u64 p0, u32 p1, u32 p2, u32 p3) {
   u32 l6 = 0, l7 = 0, l8 = 0, l9 = 0, l10 = 0, l11 = 0, l12 = 0, l13 = 0, 
       l14 = 0, l15 = 0, l16 = 0;
   u64 l4 = 0, l5 = 0;
@@ -66095,7 +66645,7 @@ static void f69(module *self, u64 p0, u32 p1, u32 p2, u32 p3) {
   i4 = i6 ? i4 : i5;
   p3 = i4;
   i5 = l6;
-  i0 = f70(self, j0, j1, i2, i3, i4, i5);
+  i0 = f69(self, j0, j1, i2, i3, i4, i5);
   l8 = i0;
   i1 = p3;
   i0 = i0 >= i1;
@@ -66281,7 +66831,7 @@ static void f69(module *self, u64 p0, u32 p1, u32 p2, u32 p3) {
     j2 = (u64)(i2);
     j3 = 60ull;
     j2 &= j3;
-    j3 = 1048844ull;
+    j3 = 1048908ull;
     j2 += j3;
     i2 = (u32)(j2);
     i2 = i32_load(j2);
@@ -66343,7 +66893,7 @@ static void f69(module *self, u64 p0, u32 p1, u32 p2, u32 p3) {
     j0 = (u64)(i0);
     j1 = 60ull;
     j0 &= j1;
-    j1 = 1048844ull;
+    j1 = 1048908ull;
     j0 += j1;
     i0 = (u32)(j0);
     i0 = i32_load(j0);
@@ -66359,7 +66909,7 @@ static void f69(module *self, u64 p0, u32 p1, u32 p2, u32 p3) {
     j1 = (u64)(i1);
     j2 = 60ull;
     j1 &= j2;
-    j2 = 1048844ull;
+    j2 = 1048908ull;
     j1 += j2;
     i1 = (u32)(j1);
     i1 = i32_load(j1);
@@ -66441,7 +66991,7 @@ static void f69(module *self, u64 p0, u32 p1, u32 p2, u32 p3) {
     i1 = (u32)(j1);
     i1 = i32_load8_u(j1);
     i2 = l15;
-    i0 = f49(self, j0, i1, i2);
+    i0 = f48(self, j0, i1, i2);
     l8 = i0;
     i0 = l6;
     i0 = !(i0);
@@ -66517,7 +67067,7 @@ static void f69(module *self, u64 p0, u32 p1, u32 p2, u32 p3) {
     j2 = (u64)(i2);
     j3 = 60ull;
     j2 &= j3;
-    j3 = 1048844ull;
+    j3 = 1048908ull;
     j2 += j3;
     i2 = (u32)(j2);
     i2 = i32_load(j2);
@@ -66550,7 +67100,7 @@ static void f69(module *self, u64 p0, u32 p1, u32 p2, u32 p3) {
   self->g0 = j0;
 }
 
-static u32 f70(module *self, u64 p0, u64 p1, u32 p2, u32 p3, u32 p4, u32 p5) {
+static u32 f69(module *self, u64 p0, u64 p1, u32 p2, u32 p3, u32 p4, u32 p5) {
   u32 l6 = 0, l7 = 0, l8 = 0, l9 = 0, l10 = 0, l11 = 0, l12 = 0, l13 = 0, 
       l14 = 0;
   u8 *m = self->memory;
@@ -66752,7 +67302,7 @@ static u32 f70(module *self, u64 p0, u64 p1, u32 p2, u32 p3, u32 p4, u32 p5) {
   j0 = (u64)(i0);
   j1 = 60ull;
   j0 &= j1;
-  j1 = 1048844ull;
+  j1 = 1048908ull;
   j0 += j1;
   i0 = (u32)(j0);
   i0 = i32_load(j0);
@@ -66849,7 +67399,7 @@ static u32 f70(module *self, u64 p0, u64 p1, u32 p2, u32 p3, u32 p4, u32 p5) {
   j0 = (u64)(i0);
   j1 = 60ull;
   j0 &= j1;
-  j1 = 1048844ull;
+  j1 = 1048908ull;
   j0 += j1;
   i0 = (u32)(j0);
   i0 = i32_load(j0);
@@ -66979,7 +67529,7 @@ static u32 f70(module *self, u64 p0, u64 p1, u32 p2, u32 p3, u32 p4, u32 p5) {
   return i0;
 }
 
-static u32 f71(module *self, u64 p0, u64 p1, u32 p2, u32 p3) {
+static u32 f70(module *self, u64 p0, u64 p1, u32 p2, u32 p3) {
   u32 l5 = 0, l6 = 0, l7 = 0;
   u64 l4 = 0;
   u8 *m = self->memory;
@@ -67070,7 +67620,7 @@ static u32 f71(module *self, u64 p0, u64 p1, u32 p2, u32 p3) {
   i4 = 1u;
   i3 <<= (i4 & 31);
   i2 += i3;
-  f37(self, j0, j1, i2);
+  f36(self, j0, j1, i2);
   i0 = 4294967295u;
   j1 = l4;
   i1 = (u32)(j1);
@@ -67132,7 +67682,7 @@ static u32 f71(module *self, u64 p0, u64 p1, u32 p2, u32 p3) {
   j4 = l4;
   j5 = 32ull;
   j4 += j5;
-  f63(self, j0, j1, j2, i3, j4); if (NEVER(self->is_broken)) return ZAK_BROKEN;
+  f62(self, j0, j1, j2, i3, j4); if (NEVER(self->is_broken)) return ZAK_BROKEN;
   B0:;
   j0 = l4;
   j1 = 48ull;
@@ -67142,7 +67692,7 @@ static u32 f71(module *self, u64 p0, u64 p1, u32 p2, u32 p3) {
   return i0;
 }
 
-static void f72(module *self, u64 p0, u64 p1, u64 p2) {
+static void f71(module *self, u64 p0, u64 p1, u64 p2) {
   u64 l3 = 0, l4 = 0, l5 = 0, l6 = 0, l7 = 0, l8 = 0;
   u8 *m = self->memory;
   u32 i0, i1, i2;
@@ -67203,7 +67753,7 @@ static void f72(module *self, u64 p0, u64 p1, u64 p2) {
   j0 += j1;
   j1 = 2048ull;
   j2 = 1ull;
-  f159(self, j0, j1, j2); m = self->memory; if (NEVER(self->is_broken)) return;
+  f160(self, j0, j1, j2); m = self->memory; if (NEVER(self->is_broken)) return;
   j0 = l3;
   i0 = (u32)(j0);
   j0 = i64_load(j0 + 80u);
@@ -67293,7 +67843,7 @@ static void f72(module *self, u64 p0, u64 p1, u64 p2) {
   j0 += j1;
   j1 = 24ull;
   j2 = 8ull;
-  f159(self, j0, j1, j2); m = self->memory; if (NEVER(self->is_broken)) return;
+  f160(self, j0, j1, j2); m = self->memory; if (NEVER(self->is_broken)) return;
   j0 = l3;
   i0 = (u32)(j0);
   j0 = i64_load(j0 + 64u);
@@ -67302,7 +67852,7 @@ static void f72(module *self, u64 p0, u64 p1, u64 p2) {
   i0 &= i1;
   if (i0) {goto B2;}
   j0 = l4;
-  f162(self, j0);
+  f163(self, j0);
   B3:;
   j0 = p0;
   i0 = (u32)(j0);
@@ -67366,7 +67916,7 @@ static void f72(module *self, u64 p0, u64 p1, u64 p2) {
   j0 += j1;
   j1 = 3584ull;
   j2 = 1ull;
-  f159(self, j0, j1, j2); m = self->memory; if (NEVER(self->is_broken)) return;
+  f160(self, j0, j1, j2); m = self->memory; if (NEVER(self->is_broken)) return;
   j0 = l3;
   i0 = (u32)(j0);
   j0 = i64_load(j0 + 48u);
@@ -67459,7 +68009,7 @@ static void f72(module *self, u64 p0, u64 p1, u64 p2) {
   j0 += j1;
   j1 = 24ull;
   j2 = 8ull;
-  f159(self, j0, j1, j2); m = self->memory; if (NEVER(self->is_broken)) return;
+  f160(self, j0, j1, j2); m = self->memory; if (NEVER(self->is_broken)) return;
   j0 = l3;
   i0 = (u32)(j0);
   j0 = i64_load(j0 + 32u);
@@ -67468,7 +68018,7 @@ static void f72(module *self, u64 p0, u64 p1, u64 p2) {
   i0 &= i1;
   if (i0) {goto B7;}
   j0 = l4;
-  f162(self, j0);
+  f163(self, j0);
   B8:;
   j0 = l7;
   i0 = (u32)(j0);
@@ -67479,12 +68029,12 @@ static void f72(module *self, u64 p0, u64 p1, u64 p2) {
   j0 = i64_load(j0 + 16u);
   p2 = j0;
   j0 = l7;
-  f162(self, j0);
+  f163(self, j0);
   j0 = p2;
   i0 = !(j0);
   if (i0) {goto B12;}
   j0 = l5;
-  f162(self, j0);
+  f163(self, j0);
   B12:;
   j0 = p0;
   i0 = (u32)(j0);
@@ -67548,7 +68098,7 @@ static void f72(module *self, u64 p0, u64 p1, u64 p2) {
   j0 += j1;
   j1 = 4096ull;
   j2 = 1ull;
-  f159(self, j0, j1, j2); m = self->memory; if (NEVER(self->is_broken)) return;
+  f160(self, j0, j1, j2); m = self->memory; if (NEVER(self->is_broken)) return;
   j0 = l3;
   i0 = (u32)(j0);
   j0 = i64_load(j0 + 16u);
@@ -67639,7 +68189,7 @@ static void f72(module *self, u64 p0, u64 p1, u64 p2) {
   j0 = l3;
   j1 = 24ull;
   j2 = 8ull;
-  f159(self, j0, j1, j2); m = self->memory; if (NEVER(self->is_broken)) return;
+  f160(self, j0, j1, j2); m = self->memory; if (NEVER(self->is_broken)) return;
   j0 = l3;
   i0 = (u32)(j0);
   j0 = i64_load(j0);
@@ -67648,7 +68198,7 @@ static void f72(module *self, u64 p0, u64 p1, u64 p2) {
   i0 &= i1;
   if (i0) {goto B13;}
   j0 = l4;
-  f162(self, j0);
+  f163(self, j0);
   B14:;
   j0 = l8;
   i0 = (u32)(j0);
@@ -67659,12 +68209,12 @@ static void f72(module *self, u64 p0, u64 p1, u64 p2) {
   j0 = i64_load(j0 + 16u);
   p2 = j0;
   j0 = l8;
-  f162(self, j0);
+  f163(self, j0);
   j0 = p2;
   i0 = !(j0);
   if (i0) {goto B18;}
   j0 = l5;
-  f162(self, j0);
+  f163(self, j0);
   B18:;
   j0 = l7;
   i0 = (u32)(j0);
@@ -67675,12 +68225,12 @@ static void f72(module *self, u64 p0, u64 p1, u64 p2) {
   j0 = i64_load(j0 + 16u);
   p2 = j0;
   j0 = l7;
-  f162(self, j0);
+  f163(self, j0);
   j0 = p2;
   i0 = !(j0);
   if (i0) {goto B19;}
   j0 = l5;
-  f162(self, j0);
+  f163(self, j0);
   B19:;
   j0 = p0;
   i0 = (u32)(j0);
@@ -67786,7 +68336,7 @@ static void f72(module *self, u64 p0, u64 p1, u64 p2) {
   self->g0 = j0;
 }
 
-static void f73(module *self, u64 p0, u64 p1) {
+static void f72(module *self, u64 p0, u64 p1) {
   u32 l9 = 0, l10 = 0, l11 = 0;
   u64 l2 = 0, l3 = 0, l4 = 0, l5 = 0, l6 = 0, l7 = 0, l8 = 0;
   u8 *m = self->memory;
@@ -67868,7 +68418,7 @@ static void f73(module *self, u64 p0, u64 p1) {
   j0 = l2;
   j1 = 8ull;
   j0 += j1;
-  f25(self, j0); m = self->memory; if (NEVER(self->is_broken)) return;
+  f24(self, j0); m = self->memory; if (NEVER(self->is_broken)) return;
   j0 = l2;
   i0 = (u32)(j0);
   j0 = i64_load(j0 + 24u);
@@ -68042,12 +68592,12 @@ static void f73(module *self, u64 p0, u64 p1) {
   j0 = i64_load(j0 + 16u);
   l8 = j0;
   j0 = l3;
-  f162(self, j0);
+  f163(self, j0);
   j0 = l8;
   i0 = !(j0);
   if (i0) {goto B2;}
   j0 = l7;
-  f162(self, j0);
+  f163(self, j0);
   B2:;
   i0 = l10;
   i1 = 255u;
@@ -68064,12 +68614,12 @@ static void f73(module *self, u64 p0, u64 p1) {
   j0 = i64_load(j0 + 16u);
   l3 = j0;
   j0 = l4;
-  f162(self, j0);
+  f163(self, j0);
   j0 = l3;
   i0 = !(j0);
   if (i0) {goto B3;}
   j0 = l8;
-  f162(self, j0);
+  f163(self, j0);
   B3:;
   j0 = l6;
   j1 = 255ull;
@@ -68090,12 +68640,12 @@ static void f73(module *self, u64 p0, u64 p1) {
   j0 = i64_load(j0 + 16u);
   l4 = j0;
   j0 = p1;
-  f162(self, j0);
+  f163(self, j0);
   j0 = l4;
   i0 = !(j0);
   if (i0) {goto B4;}
   j0 = l6;
-  f162(self, j0);
+  f163(self, j0);
   B4:;
   j0 = p0;
   i0 = (u32)(j0);
@@ -68128,7 +68678,7 @@ static void f73(module *self, u64 p0, u64 p1) {
   self->g0 = j0;
 }
 
-static void f74(module *self, u64 p0, u64 p1, u32 p2, u32 p3) {
+static void f73(module *self, u64 p0, u64 p1, u32 p2, u32 p3) {
   u32 l6 = 0, l7 = 0, l8 = 0, l9 = 0, l10 = 0;
   u64 l4 = 0, l5 = 0;
   u8 *m = self->memory;
@@ -68448,7 +68998,7 @@ static void f74(module *self, u64 p0, u64 p1, u32 p2, u32 p3) {
   j1 <<= (j2 & 63);
   l5 = j1;
   i1 = (u32)(j1);
-  i1 = i32_load(j1 + 1051648u);
+  i1 = i32_load(j1 + 1051768u);
   i32_store(j0, i1);
   j0 = p1;
   j1 = 64ull;
@@ -68456,7 +69006,7 @@ static void f74(module *self, u64 p0, u64 p1, u32 p2, u32 p3) {
   i0 = (u32)(j0);
   j1 = l5;
   i1 = (u32)(j1);
-  i1 = i32_load(j1 + 1051664u);
+  i1 = i32_load(j1 + 1051784u);
   i32_store(j0, i1);
   j0 = p1;
   j1 = 72ull;
@@ -68629,7 +69179,7 @@ static void f74(module *self, u64 p0, u64 p1, u32 p2, u32 p3) {
   i2 = 965u;
   i3 = p3;
   i4 = l6;
-  f75(self, j0, j1, i2, i3, i4);
+  f74(self, j0, j1, i2, i3, i4);
   j0 = l4;
   i0 = (u32)(j0);
   i0 = i32_load8_u(j0 + 1u);
@@ -68647,7 +69197,7 @@ static void f74(module *self, u64 p0, u64 p1, u32 p2, u32 p3) {
   i2 = 966u;
   i3 = p3;
   i4 = l6;
-  f75(self, j0, j1, i2, i3, i4);
+  f74(self, j0, j1, i2, i3, i4);
   j0 = l4;
   i0 = (u32)(j0);
   i0 = i32_load8_u(j0 + 9u);
@@ -68665,7 +69215,7 @@ static void f74(module *self, u64 p0, u64 p1, u32 p2, u32 p3) {
   i2 = 967u;
   i3 = p3;
   i4 = l6;
-  f75(self, j0, j1, i2, i3, i4);
+  f74(self, j0, j1, i2, i3, i4);
   j0 = l4;
   i0 = (u32)(j0);
   i0 = i32_load8_u(j0 + 17u);
@@ -68683,7 +69233,7 @@ static void f74(module *self, u64 p0, u64 p1, u32 p2, u32 p3) {
   i2 = 968u;
   i3 = p3;
   i4 = l6;
-  f75(self, j0, j1, i2, i3, i4);
+  f74(self, j0, j1, i2, i3, i4);
   j0 = l4;
   i0 = (u32)(j0);
   i0 = i32_load8_u(j0 + 25u);
@@ -68711,7 +69261,7 @@ static void f74(module *self, u64 p0, u64 p1, u32 p2, u32 p3) {
   self->g0 = j0;
 }
 
-static void f75(module *self, u64 p0, u64 p1, u32 p2, u32 p3, u32 p4) {
+static void f74(module *self, u64 p0, u64 p1, u32 p2, u32 p3, u32 p4) {
   u32 l6 = 0, l7 = 0, l8 = 0, l9 = 0, l10 = 0;
   u64 l5 = 0;
   u8 *m = self->memory;
@@ -68793,7 +69343,7 @@ static void f75(module *self, u64 p0, u64 p1, u32 p2, u32 p3, u32 p4) {
   j1 = 65535ull;
   j0 &= j1;
   i0 = (u32)(j0);
-  i0 = i32_load8_u(j0 + 1051888u);
+  i0 = i32_load8_u(j0 + 1052008u);
   l8 = i0;
   B1:;
   j0 = l5;
@@ -68802,7 +69352,7 @@ static void f75(module *self, u64 p0, u64 p1, u32 p2, u32 p3, u32 p4) {
   j1 = p1;
   i2 = l8;
   i3 = p3;
-  f47(self, j0, j1, i2, i3);
+  f46(self, j0, j1, i2, i3);
   j0 = l5;
   i0 = (u32)(j0);
   i0 = i32_load8_u(j0 + 8u);
@@ -68887,14 +69437,14 @@ static void f75(module *self, u64 p0, u64 p1, u32 p2, u32 p3, u32 p4) {
   j1 = 65535ull;
   j0 &= j1;
   i0 = (u32)(j0);
-  i0 = i32_load8_u(j0 + 1051888u);
+  i0 = i32_load8_u(j0 + 1052008u);
   l8 = i0;
   B5:;
   j0 = l5;
   j1 = p1;
   i2 = l8;
   i3 = p4;
-  f47(self, j0, j1, i2, i3);
+  f46(self, j0, j1, i2, i3);
   j0 = l5;
   i0 = (u32)(j0);
   i0 = i32_load8_u(j0 + 1u);
@@ -68918,7 +69468,7 @@ static void f75(module *self, u64 p0, u64 p1, u32 p2, u32 p3, u32 p4) {
   self->g0 = j0;
 }
 
-static void f76(module *self, u64 p0, u64 p1, u64 p2) {
+static void f75(module *self, u64 p0, u64 p1, u64 p2) {
   u32 l20 = 0, l21 = 0, l22 = 0, l23 = 0, l24 = 0, l25 = 0, l26 = 0, l27 = 0, 
       l28 = 0;
   u64 l3 = 0, l4 = 0, l5 = 0, l6 = 0, l7 = 0, l8 = 0, l9 = 0, l10 = 0, 
@@ -70288,7 +70838,7 @@ static void f76(module *self, u64 p0, u64 p1, u64 p2) {
     j0 += j1;
     j1 = l19;
     j2 = l18;
-    f77(self, j0, j1, j2);
+    f76(self, j0, j1, j2);
     j0 = l3;
     i0 = (u32)(j0);
     j0 = i64_load(j0 + 288u);
@@ -70481,7 +71031,7 @@ static void f76(module *self, u64 p0, u64 p1, u64 p2) {
     j2 = l5;
     j3 = l4;
     i4 = l21;
-    f78(self, j0, j1, j2, j3, i4); if (NEVER(self->is_broken)) return;
+    f77(self, j0, j1, j2, j3, i4); if (NEVER(self->is_broken)) return;
     j0 = l3;
     i0 = (u32)(j0);
     j0 = i64_load(j0 + 256u);
@@ -70578,7 +71128,7 @@ static void f76(module *self, u64 p0, u64 p1, u64 p2) {
   self->g0 = j0;
 }
 
-static void f77(module *self, u64 p0, u64 p1, u64 p2) {
+static void f76(module *self, u64 p0, u64 p1, u64 p2) {
   u32 l6 = 0, l7 = 0, l8 = 0, l9 = 0, l10 = 0, l11 = 0;
   u64 l3 = 0, l4 = 0, l5 = 0;
   u8 *m = self->memory;
@@ -71187,7 +71737,7 @@ static void f77(module *self, u64 p0, u64 p1, u64 p2) {
   Bfunc:;
 }
 
-static void f78(module *self, u64 p0, u64 p1, u64 p2, u64 p3, u32 p4) {
+static void f77(module *self, u64 p0, u64 p1, u64 p2, u64 p3, u32 p4) {
   u32 l25 = 0, l26 = 0, l27 = 0, l28 = 0, l29 = 0, l30 = 0, l31 = 0, l32 = 0;
   u64 l5 = 0, l6 = 0, l7 = 0, l8 = 0, l9 = 0, l10 = 0, l11 = 0, l12 = 0, 
       l13 = 0, l14 = 0, l15 = 0, l16 = 0, l17 = 0, l18 = 0, l19 = 0, l20 = 0, 
@@ -72317,7 +72867,7 @@ static void f78(module *self, u64 p0, u64 p1, u64 p2, u64 p3, u32 p4) {
     j0 += j1;
     j1 = l7;
     j2 = p1;
-    f77(self, j0, j1, j2);
+    f76(self, j0, j1, j2);
     j0 = l5;
     i0 = (u32)(j0);
     j0 = i64_load(j0 + 72u);
@@ -73444,7 +73994,7 @@ static void f78(module *self, u64 p0, u64 p1, u64 p2, u64 p3, u32 p4) {
   j0 += j1;
   j1 = l22;
   j2 = l23;
-  f77(self, j0, j1, j2);
+  f76(self, j0, j1, j2);
   j0 = l5;
   i0 = (u32)(j0);
   j0 = i64_load(j0 + 72u);
@@ -73740,7 +74290,7 @@ static void f78(module *self, u64 p0, u64 p1, u64 p2, u64 p3, u32 p4) {
   self->g0 = j0;
 }
 
-static void f79(module *self, u64 p0, u64 p1, u64 p2) {
+static void f78(module *self, u64 p0, u64 p1, u64 p2) {
   u32 l15 = 0, l16 = 0, l17 = 0, l18 = 0;
   u64 l3 = 0, l4 = 0, l5 = 0, l6 = 0, l7 = 0, l8 = 0, l9 = 0, l10 = 0, 
       l11 = 0, l12 = 0, l13 = 0, l14 = 0;
@@ -73846,13 +74396,13 @@ static void f79(module *self, u64 p0, u64 p1, u64 p2) {
   i0 = (u32)(j0);
   j1 = 0ull;
   i1 = (u32)(j1);
-  i1 = i32_load8_u(j1 + 1048774u);
+  i1 = i32_load8_u(j1 + 1048838u);
   i32_store8(j0 + 778, i1);
   j0 = l3;
   i0 = (u32)(j0);
   j1 = 0ull;
   i1 = (u32)(j1);
-  i1 = i32_load16_u(j1 + 1048772u);
+  i1 = i32_load16_u(j1 + 1048836u);
   i32_store16(j0 + 776, i1);
   j0 = l3;
   i0 = (u32)(j0);
@@ -73904,7 +74454,7 @@ static void f79(module *self, u64 p0, u64 p1, u64 p2) {
   i5 = 4096u;
   i4 = i4 < i5;
   j2 = i4 ? j2 : j3;
-  f80(self, j0, i1, j2);
+  f79(self, j0, i1, j2);
   j0 = l3;
   j1 = 560ull;
   j0 += j1;
@@ -73962,7 +74512,7 @@ static void f79(module *self, u64 p0, u64 p1, u64 p2) {
   j0 += j1;
   i1 = l15;
   j2 = 2ull;
-  f80(self, j0, i1, j2);
+  f79(self, j0, i1, j2);
   j0 = l3;
   i0 = (u32)(j0);
   j0 = i64_load(j0 + 840u);
@@ -74004,7 +74554,7 @@ static void f79(module *self, u64 p0, u64 p1, u64 p2) {
   if (i0) {goto B17;}
   j0 = p1;
   j1 = p2;
-  i0 = f15(self, j0, j1); m = self->memory; if (NEVER(self->is_broken)) return;
+  i0 = f14(self, j0, j1); m = self->memory; if (NEVER(self->is_broken)) return;
   i0 = !(i0);
   if (i0) {goto B1;}
   j0 = p1;
@@ -74119,7 +74669,7 @@ static void f79(module *self, u64 p0, u64 p1, u64 p2) {
   i5 = 4096u;
   i4 = i4 < i5;
   j2 = i4 ? j2 : j3;
-  f80(self, j0, i1, j2);
+  f79(self, j0, i1, j2);
   j0 = l3;
   j1 = 488ull;
   j0 += j1;
@@ -74177,7 +74727,7 @@ static void f79(module *self, u64 p0, u64 p1, u64 p2) {
   j0 += j1;
   i1 = l15;
   j2 = 4ull;
-  f80(self, j0, i1, j2);
+  f79(self, j0, i1, j2);
   j0 = l3;
   i0 = (u32)(j0);
   j0 = i64_load(j0 + 840u);
@@ -74219,7 +74769,7 @@ static void f79(module *self, u64 p0, u64 p1, u64 p2) {
   if (i0) {goto B21;}
   j0 = p1;
   j1 = p2;
-  i0 = f15(self, j0, j1); m = self->memory; if (NEVER(self->is_broken)) return;
+  i0 = f14(self, j0, j1); m = self->memory; if (NEVER(self->is_broken)) return;
   i0 = !(i0);
   if (i0) {goto B1;}
   j0 = p1;
@@ -74334,7 +74884,7 @@ static void f79(module *self, u64 p0, u64 p1, u64 p2) {
   i5 = 4096u;
   i4 = i4 < i5;
   j2 = i4 ? j2 : j3;
-  f80(self, j0, i1, j2);
+  f79(self, j0, i1, j2);
   j0 = l3;
   j1 = 272ull;
   j0 += j1;
@@ -74400,7 +74950,7 @@ static void f79(module *self, u64 p0, u64 p1, u64 p2) {
   if (i0) {goto B24;}
   j0 = p1;
   j1 = p2;
-  i0 = f15(self, j0, j1); m = self->memory; if (NEVER(self->is_broken)) return;
+  i0 = f14(self, j0, j1); m = self->memory; if (NEVER(self->is_broken)) return;
   i0 = !(i0);
   if (i0) {goto B1;}
   j0 = p1;
@@ -74465,13 +75015,13 @@ static void f79(module *self, u64 p0, u64 p1, u64 p2) {
   i0 = (u32)(j0);
   j1 = 0ull;
   i1 = (u32)(j1);
-  i1 = i32_load8_u(j1 + 1048777u);
+  i1 = i32_load8_u(j1 + 1048841u);
   i32_store8(j0 + 778, i1);
   j0 = l3;
   i0 = (u32)(j0);
   j1 = 0ull;
   i1 = (u32)(j1);
-  i1 = i32_load16_u(j1 + 1048775u);
+  i1 = i32_load16_u(j1 + 1048839u);
   i32_store16(j0 + 776, i1);
   j0 = l3;
   i0 = (u32)(j0);
@@ -74523,7 +75073,7 @@ static void f79(module *self, u64 p0, u64 p1, u64 p2) {
   i5 = 4096u;
   i4 = i4 < i5;
   j2 = i4 ? j2 : j3;
-  f80(self, j0, i1, j2);
+  f79(self, j0, i1, j2);
   j0 = l3;
   j1 = 200ull;
   j0 += j1;
@@ -74589,7 +75139,7 @@ static void f79(module *self, u64 p0, u64 p1, u64 p2) {
   if (i0) {goto B27;}
   j0 = p1;
   j1 = p2;
-  i0 = f15(self, j0, j1); m = self->memory; if (NEVER(self->is_broken)) return;
+  i0 = f14(self, j0, j1); m = self->memory; if (NEVER(self->is_broken)) return;
   i0 = !(i0);
   if (i0) {goto B1;}
   j0 = p1;
@@ -74654,13 +75204,13 @@ static void f79(module *self, u64 p0, u64 p1, u64 p2) {
   i0 = (u32)(j0);
   j1 = 0ull;
   i1 = (u32)(j1);
-  i1 = i32_load8_u(j1 + 1048780u);
+  i1 = i32_load8_u(j1 + 1048844u);
   i32_store8(j0 + 778, i1);
   j0 = l3;
   i0 = (u32)(j0);
   j1 = 0ull;
   i1 = (u32)(j1);
-  i1 = i32_load16_u(j1 + 1048778u);
+  i1 = i32_load16_u(j1 + 1048842u);
   i32_store16(j0 + 776, i1);
   j0 = l3;
   i0 = (u32)(j0);
@@ -74722,7 +75272,7 @@ static void f79(module *self, u64 p0, u64 p1, u64 p2) {
   i5 = 1048576u;
   i4 = i4 < i5;
   j2 = i4 ? j2 : j3;
-  f80(self, j0, i1, j2);
+  f79(self, j0, i1, j2);
   j0 = l3;
   j1 = 416ull;
   j0 += j1;
@@ -74780,7 +75330,7 @@ static void f79(module *self, u64 p0, u64 p1, u64 p2) {
   j0 += j1;
   i1 = l15;
   j2 = 2ull;
-  f80(self, j0, i1, j2);
+  f79(self, j0, i1, j2);
   j0 = l3;
   i0 = (u32)(j0);
   j0 = i64_load(j0 + 840u);
@@ -74822,7 +75372,7 @@ static void f79(module *self, u64 p0, u64 p1, u64 p2) {
   if (i0) {goto B31;}
   j0 = p1;
   j1 = p2;
-  i0 = f15(self, j0, j1); m = self->memory; if (NEVER(self->is_broken)) return;
+  i0 = f14(self, j0, j1); m = self->memory; if (NEVER(self->is_broken)) return;
   i0 = !(i0);
   if (i0) {goto B1;}
   j0 = p1;
@@ -74947,7 +75497,7 @@ static void f79(module *self, u64 p0, u64 p1, u64 p2) {
   i5 = 1048576u;
   i4 = i4 < i5;
   j2 = i4 ? j2 : j3;
-  f80(self, j0, i1, j2);
+  f79(self, j0, i1, j2);
   j0 = l3;
   j1 = 344ull;
   j0 += j1;
@@ -75005,7 +75555,7 @@ static void f79(module *self, u64 p0, u64 p1, u64 p2) {
   j0 += j1;
   i1 = l15;
   j2 = 4ull;
-  f80(self, j0, i1, j2);
+  f79(self, j0, i1, j2);
   j0 = l3;
   i0 = (u32)(j0);
   j0 = i64_load(j0 + 840u);
@@ -75047,7 +75597,7 @@ static void f79(module *self, u64 p0, u64 p1, u64 p2) {
   if (i0) {goto B35;}
   j0 = p1;
   j1 = p2;
-  i0 = f15(self, j0, j1); m = self->memory; if (NEVER(self->is_broken)) return;
+  i0 = f14(self, j0, j1); m = self->memory; if (NEVER(self->is_broken)) return;
   i0 = !(i0);
   if (i0) {goto B1;}
   j0 = p1;
@@ -75112,13 +75662,13 @@ static void f79(module *self, u64 p0, u64 p1, u64 p2) {
   i0 = (u32)(j0);
   j1 = 0ull;
   i1 = (u32)(j1);
-  i1 = i32_load8_u(j1 + 1048783u);
+  i1 = i32_load8_u(j1 + 1048847u);
   i32_store8(j0 + 778, i1);
   j0 = l3;
   i0 = (u32)(j0);
   j1 = 0ull;
   i1 = (u32)(j1);
-  i1 = i32_load16_u(j1 + 1048781u);
+  i1 = i32_load16_u(j1 + 1048845u);
   i32_store16(j0 + 776, i1);
   j0 = l3;
   i0 = (u32)(j0);
@@ -75180,7 +75730,7 @@ static void f79(module *self, u64 p0, u64 p1, u64 p2) {
   i5 = 1048576u;
   i4 = i4 < i5;
   j2 = i4 ? j2 : j3;
-  f80(self, j0, i1, j2);
+  f79(self, j0, i1, j2);
   j0 = l3;
   j1 = 128ull;
   j0 += j1;
@@ -75246,7 +75796,7 @@ static void f79(module *self, u64 p0, u64 p1, u64 p2) {
   if (i0) {goto B38;}
   j0 = p1;
   j1 = p2;
-  i0 = f15(self, j0, j1); m = self->memory; if (NEVER(self->is_broken)) return;
+  i0 = f14(self, j0, j1); m = self->memory; if (NEVER(self->is_broken)) return;
   i0 = !(i0);
   if (i0) {goto B1;}
   j0 = p1;
@@ -75371,7 +75921,7 @@ static void f79(module *self, u64 p0, u64 p1, u64 p2) {
   i5 = 1048576u;
   i4 = i4 < i5;
   j2 = i4 ? j2 : j3;
-  f80(self, j0, i1, j2);
+  f79(self, j0, i1, j2);
   j0 = l3;
   j1 = 56ull;
   j0 += j1;
@@ -75437,7 +75987,7 @@ static void f79(module *self, u64 p0, u64 p1, u64 p2) {
   if (i0) {goto B41;}
   j0 = p1;
   j1 = p2;
-  i0 = f15(self, j0, j1); m = self->memory; if (NEVER(self->is_broken)) return;
+  i0 = f14(self, j0, j1); m = self->memory; if (NEVER(self->is_broken)) return;
   i0 = !(i0);
   if (i0) {goto B1;}
   j0 = p1;
@@ -75580,13 +76130,13 @@ static void f79(module *self, u64 p0, u64 p1, u64 p2) {
   i0 = (u32)(j0);
   j1 = 0ull;
   i1 = (u32)(j1);
-  i1 = i32_load(j1 + 1048918u);
+  i1 = i32_load(j1 + 1048982u);
   i32_store(j0 + 776, i1);
   j0 = l3;
   i0 = (u32)(j0);
   j1 = 0ull;
   i1 = (u32)(j1);
-  i1 = i32_load(j1 + 1048921u);
+  i1 = i32_load(j1 + 1048985u);
   i32_store(j0 + 779, i1);
   j0 = l3;
   i0 = (u32)(j0);
@@ -75597,7 +76147,7 @@ static void f79(module *self, u64 p0, u64 p1, u64 p2) {
   j0 += j1;
   i1 = l18;
   j2 = 4ull;
-  f80(self, j0, i1, j2);
+  f79(self, j0, i1, j2);
   j0 = l3;
   i0 = (u32)(j0);
   j0 = i64_load(j0 + 840u);
@@ -75627,7 +76177,7 @@ static void f79(module *self, u64 p0, u64 p1, u64 p2) {
   j0 += j1;
   i1 = l17;
   j2 = 4ull;
-  f80(self, j0, i1, j2);
+  f79(self, j0, i1, j2);
   j0 = l3;
   i0 = (u32)(j0);
   j0 = i64_load(j0 + 840u);
@@ -75657,7 +76207,7 @@ static void f79(module *self, u64 p0, u64 p1, u64 p2) {
   j0 += j1;
   i1 = l16;
   j2 = 4ull;
-  f80(self, j0, i1, j2);
+  f79(self, j0, i1, j2);
   j0 = l3;
   i0 = (u32)(j0);
   j0 = i64_load(j0 + 840u);
@@ -75687,7 +76237,7 @@ static void f79(module *self, u64 p0, u64 p1, u64 p2) {
   j0 += j1;
   i1 = l15;
   j2 = 4ull;
-  f80(self, j0, i1, j2);
+  f79(self, j0, i1, j2);
   j0 = l3;
   j1 = 632ull;
   j0 += j1;
@@ -75768,7 +76318,7 @@ static void f79(module *self, u64 p0, u64 p1, u64 p2) {
   if (i0) {goto B48;}
   j0 = p1;
   j1 = p2;
-  i0 = f15(self, j0, j1); m = self->memory; if (NEVER(self->is_broken)) return;
+  i0 = f14(self, j0, j1); m = self->memory; if (NEVER(self->is_broken)) return;
   i0 = !(i0);
   if (i0) {goto B1;}
   j0 = p1;
@@ -75838,7 +76388,7 @@ static void f79(module *self, u64 p0, u64 p1, u64 p2) {
   j1 = p2;
   j0 += j1;
   l4 = j0;
-  j1 = 1048937ull;
+  j1 = 1049001ull;
   j0 -= j1;
   j1 = 6ull;
   i0 = j0 > j1;
@@ -75861,13 +76411,13 @@ static void f79(module *self, u64 p0, u64 p1, u64 p2) {
   i0 = (u32)(j0);
   j1 = 0ull;
   i1 = (u32)(j1);
-  i1 = i32_load(j1 + 1048940u);
+  i1 = i32_load(j1 + 1049004u);
   i32_store(j0 + 3, i1);
   j0 = l4;
   i0 = (u32)(j0);
   j1 = 0ull;
   i1 = (u32)(j1);
-  i1 = i32_load(j1 + 1048937u);
+  i1 = i32_load(j1 + 1049001u);
   i32_store(j0, i1);
   B51:;
   j0 = l3;
@@ -75897,7 +76447,7 @@ static void f79(module *self, u64 p0, u64 p1, u64 p2) {
   if (i0) {goto B53;}
   j0 = p1;
   j1 = p2;
-  i0 = f15(self, j0, j1); m = self->memory; if (NEVER(self->is_broken)) return;
+  i0 = f14(self, j0, j1); m = self->memory; if (NEVER(self->is_broken)) return;
   i0 = !(i0);
   if (i0) {goto B1;}
   j0 = p1;
@@ -75970,7 +76520,7 @@ static void f79(module *self, u64 p0, u64 p1, u64 p2) {
   j0 += j1;
   j1 = l10;
   j2 = 1ull;
-  f159(self, j0, j1, j2); m = self->memory; if (NEVER(self->is_broken)) return;
+  f160(self, j0, j1, j2); m = self->memory; if (NEVER(self->is_broken)) return;
   i0 = 1u;
   l15 = i0;
   j0 = l3;
@@ -76018,7 +76568,7 @@ static void f79(module *self, u64 p0, u64 p1, u64 p2) {
     j2 = 15ull;
     j1 &= j2;
     i1 = (u32)(j1);
-    i1 = i32_load8_u(j1 + 1048944u);
+    i1 = i32_load8_u(j1 + 1049008u);
     i32_store8(j0, i1);
     j0 = l4;
     i0 = (u32)(j0);
@@ -76026,7 +76576,7 @@ static void f79(module *self, u64 p0, u64 p1, u64 p2) {
     j2 = 4ull;
     j1 >>= (j2 & 63);
     i1 = (u32)(j1);
-    i1 = i32_load8_u(j1 + 1048944u);
+    i1 = i32_load8_u(j1 + 1049008u);
     i32_store8(j0, i1);
     j0 = l6;
     j1 = 1ull;
@@ -76061,7 +76611,7 @@ static void f79(module *self, u64 p0, u64 p1, u64 p2) {
   if (i0) {goto B59;}
   j0 = p1;
   j1 = l10;
-  i0 = f15(self, j0, j1); m = self->memory; if (NEVER(self->is_broken)) return;
+  i0 = f14(self, j0, j1); m = self->memory; if (NEVER(self->is_broken)) return;
   i0 = !(i0);
   if (i0) {goto B58;}
   j0 = p1;
@@ -76234,7 +76784,7 @@ static void f79(module *self, u64 p0, u64 p1, u64 p2) {
   j1 = l13;
   i64_store(j0, j1);
   j0 = l7;
-  f162(self, j0);
+  f163(self, j0);
   j0 = l4;
   i0 = (u32)(j0);
   j0 = i64_load(j0);
@@ -76247,7 +76797,7 @@ static void f79(module *self, u64 p0, u64 p1, u64 p2) {
   if (i0) {goto B65;}
   j0 = p1;
   j1 = 1ull;
-  i0 = f15(self, j0, j1); m = self->memory; if (NEVER(self->is_broken)) return;
+  i0 = f14(self, j0, j1); m = self->memory; if (NEVER(self->is_broken)) return;
   i0 = !(i0);
   if (i0) {goto B0;}
   j0 = p1;
@@ -76289,7 +76839,7 @@ static void f79(module *self, u64 p0, u64 p1, u64 p2) {
   goto B2;
   B58:;
   j0 = l7;
-  f162(self, j0);
+  f163(self, j0);
   goto B0;
   B5:;
   j0 = p2;
@@ -76361,7 +76911,7 @@ static void f79(module *self, u64 p0, u64 p1, u64 p2) {
   j2 = 704ull;
   j1 += j2;
   i2 = l15;
-  f81(self, j0, j1, i2); if (NEVER(self->is_broken)) return;
+  f80(self, j0, j1, i2); if (NEVER(self->is_broken)) return;
   j0 = l3;
   i0 = (u32)(j0);
   j0 = i64_load(j0 + 32u);
@@ -76438,7 +76988,7 @@ static void f79(module *self, u64 p0, u64 p1, u64 p2) {
   if (i0) {goto B70;}
   j0 = p1;
   j1 = p2;
-  i0 = f15(self, j0, j1); m = self->memory; if (NEVER(self->is_broken)) return;
+  i0 = f14(self, j0, j1); m = self->memory; if (NEVER(self->is_broken)) return;
   i0 = !(i0);
   if (i0) {goto B1;}
   j0 = p1;
@@ -76511,7 +77061,7 @@ static void f79(module *self, u64 p0, u64 p1, u64 p2) {
   if (i0) {goto B72;}
   j0 = p1;
   j1 = 6ull;
-  i0 = f15(self, j0, j1); m = self->memory; if (NEVER(self->is_broken)) return;
+  i0 = f14(self, j0, j1); m = self->memory; if (NEVER(self->is_broken)) return;
   i0 = !(i0);
   if (i0) {goto B1;}
   j0 = p1;
@@ -76538,7 +77088,7 @@ static void f79(module *self, u64 p0, u64 p1, u64 p2) {
   j1 = p2;
   j0 += j1;
   p2 = j0;
-  j1 = 1049160ull;
+  j1 = 1049224ull;
   j0 -= j1;
   j1 = 5ull;
   i0 = j0 > j1;
@@ -76557,13 +77107,13 @@ static void f79(module *self, u64 p0, u64 p1, u64 p2) {
   i0 = (u32)(j0);
   j1 = 0ull;
   i1 = (u32)(j1);
-  i1 = i32_load16_u(j1 + 1049164u);
+  i1 = i32_load16_u(j1 + 1049228u);
   i32_store16(j0 + 4, i1);
   j0 = p2;
   i0 = (u32)(j0);
   j1 = 0ull;
   i1 = (u32)(j1);
-  i1 = i32_load(j1 + 1049160u);
+  i1 = i32_load(j1 + 1049224u);
   i32_store(j0, i1);
   B73:;
   j0 = p1;
@@ -76627,7 +77177,7 @@ static void f79(module *self, u64 p0, u64 p1, u64 p2) {
   if (i0) {goto B82;}
   j0 = p1;
   j1 = 10ull;
-  i0 = f15(self, j0, j1); m = self->memory; if (NEVER(self->is_broken)) return;
+  i0 = f14(self, j0, j1); m = self->memory; if (NEVER(self->is_broken)) return;
   if (i0) {goto B83;}
   i0 = 1u;
   l15 = i0;
@@ -76657,7 +77207,7 @@ static void f79(module *self, u64 p0, u64 p1, u64 p2) {
   j1 = l4;
   j0 += j1;
   p2 = j0;
-  j1 = 1049166ull;
+  j1 = 1049230ull;
   j0 -= j1;
   j1 = 9ull;
   i0 = j0 > j1;
@@ -76676,13 +77226,13 @@ static void f79(module *self, u64 p0, u64 p1, u64 p2) {
   i0 = (u32)(j0);
   j1 = 0ull;
   i1 = (u32)(j1);
-  i1 = i32_load16_u(j1 + 1049174u);
+  i1 = i32_load16_u(j1 + 1049238u);
   i32_store16(j0 + 8, i1);
   j0 = p2;
   i0 = (u32)(j0);
   j1 = 0ull;
   i1 = (u32)(j1);
-  j1 = i64_load(j1 + 1049166u);
+  j1 = i64_load(j1 + 1049230u);
   i64_store(j0, j1);
   B84:;
   j0 = p1;
@@ -76739,20 +77289,20 @@ static void f79(module *self, u64 p0, u64 p1, u64 p2) {
   i0 = (u32)(j0);
   j1 = 0ull;
   i1 = (u32)(j1);
-  j1 = i64_load(j1 + 1049219u);
+  j1 = i64_load(j1 + 1049283u);
   i64_store(j0 + 776, j1);
   j0 = l3;
   i0 = (u32)(j0);
   j1 = 0ull;
   i1 = (u32)(j1);
-  i1 = i32_load8_u(j1 + 1049227u);
+  i1 = i32_load8_u(j1 + 1049291u);
   i32_store8(j0 + 784, i1);
   j0 = l3;
   j1 = 776ull;
   j0 += j1;
   i1 = l15;
   j2 = 2ull;
-  f80(self, j0, i1, j2);
+  f79(self, j0, i1, j2);
   j0 = 64ull;
   p2 = j0;
   j0 = l3;
@@ -76796,7 +77346,7 @@ static void f79(module *self, u64 p0, u64 p1, u64 p2) {
   if (i0) {goto B87;}
   j0 = p1;
   j1 = p2;
-  i0 = f15(self, j0, j1); m = self->memory; if (NEVER(self->is_broken)) return;
+  i0 = f14(self, j0, j1); m = self->memory; if (NEVER(self->is_broken)) return;
   i0 = !(i0);
   if (i0) {goto B1;}
   j0 = p1;
@@ -76871,7 +77421,7 @@ static void f79(module *self, u64 p0, u64 p1, u64 p2) {
   if (i0) {goto B89;}
   j0 = p1;
   j1 = 10ull;
-  i0 = f15(self, j0, j1); m = self->memory; if (NEVER(self->is_broken)) return;
+  i0 = f14(self, j0, j1); m = self->memory; if (NEVER(self->is_broken)) return;
   if (i0) {goto B90;}
   i0 = 1u;
   l15 = i0;
@@ -76901,7 +77451,7 @@ static void f79(module *self, u64 p0, u64 p1, u64 p2) {
   j1 = l4;
   j0 += j1;
   p2 = j0;
-  j1 = 1049176ull;
+  j1 = 1049240ull;
   j0 -= j1;
   j1 = 9ull;
   i0 = j0 > j1;
@@ -76920,13 +77470,13 @@ static void f79(module *self, u64 p0, u64 p1, u64 p2) {
   i0 = (u32)(j0);
   j1 = 0ull;
   i1 = (u32)(j1);
-  i1 = i32_load16_u(j1 + 1049184u);
+  i1 = i32_load16_u(j1 + 1049248u);
   i32_store16(j0 + 8, i1);
   j0 = p2;
   i0 = (u32)(j0);
   j1 = 0ull;
   i1 = (u32)(j1);
-  j1 = i64_load(j1 + 1049176u);
+  j1 = i64_load(j1 + 1049240u);
   i64_store(j0, j1);
   B91:;
   j0 = p1;
@@ -76965,7 +77515,7 @@ static void f79(module *self, u64 p0, u64 p1, u64 p2) {
   if (i0) {goto B93;}
   j0 = p1;
   j1 = 13ull;
-  i0 = f15(self, j0, j1); m = self->memory; if (NEVER(self->is_broken)) return;
+  i0 = f14(self, j0, j1); m = self->memory; if (NEVER(self->is_broken)) return;
   i0 = !(i0);
   if (i0) {goto B1;}
   j0 = p1;
@@ -76992,7 +77542,7 @@ static void f79(module *self, u64 p0, u64 p1, u64 p2) {
   j1 = p2;
   j0 += j1;
   p2 = j0;
-  j1 = 1049186ull;
+  j1 = 1049250ull;
   j0 -= j1;
   j1 = 12ull;
   i0 = j0 > j1;
@@ -77015,13 +77565,13 @@ static void f79(module *self, u64 p0, u64 p1, u64 p2) {
   i0 = (u32)(j0);
   j1 = 0ull;
   i1 = (u32)(j1);
-  j1 = i64_load(j1 + 1049191u);
+  j1 = i64_load(j1 + 1049255u);
   i64_store(j0 + 5, j1);
   j0 = p2;
   i0 = (u32)(j0);
   j1 = 0ull;
   i1 = (u32)(j1);
-  j1 = i64_load(j1 + 1049186u);
+  j1 = i64_load(j1 + 1049250u);
   i64_store(j0, j1);
   B94:;
   j0 = p1;
@@ -77090,20 +77640,20 @@ static void f79(module *self, u64 p0, u64 p1, u64 p2) {
   i0 = (u32)(j0);
   j1 = 0ull;
   i1 = (u32)(j1);
-  j1 = i64_load(j1 + 1049228u);
+  j1 = i64_load(j1 + 1049292u);
   i64_store(j0 + 776, j1);
   j0 = l3;
   i0 = (u32)(j0);
   j1 = 0ull;
   i1 = (u32)(j1);
-  i1 = i32_load(j1 + 1049235u);
+  i1 = i32_load(j1 + 1049299u);
   i32_store(j0 + 783, i1);
   j0 = l3;
   j1 = 776ull;
   j0 += j1;
   i1 = l15;
   j2 = 1ull;
-  f80(self, j0, i1, j2);
+  f79(self, j0, i1, j2);
   j0 = 64ull;
   p2 = j0;
   j0 = l3;
@@ -77133,7 +77683,7 @@ static void f79(module *self, u64 p0, u64 p1, u64 p2) {
   j0 += j1;
   i1 = l17;
   j2 = 4ull;
-  f80(self, j0, i1, j2);
+  f79(self, j0, i1, j2);
   j0 = l3;
   i0 = (u32)(j0);
   j0 = i64_load(j0 + 840u);
@@ -77184,7 +77734,7 @@ static void f79(module *self, u64 p0, u64 p1, u64 p2) {
   j2 = 704ull;
   j1 += j2;
   i2 = l16;
-  f81(self, j0, j1, i2); if (NEVER(self->is_broken)) return;
+  f80(self, j0, j1, i2); if (NEVER(self->is_broken)) return;
   j0 = 64ull;
   l4 = j0;
   j0 = 64ull;
@@ -77259,7 +77809,7 @@ static void f79(module *self, u64 p0, u64 p1, u64 p2) {
   if (i0) {goto B101;}
   j0 = p1;
   j1 = l4;
-  i0 = f15(self, j0, j1); m = self->memory; if (NEVER(self->is_broken)) return;
+  i0 = f14(self, j0, j1); m = self->memory; if (NEVER(self->is_broken)) return;
   i0 = !(i0);
   if (i0) {goto B1;}
   j0 = p1;
@@ -77334,7 +77884,7 @@ static void f79(module *self, u64 p0, u64 p1, u64 p2) {
   p2 = j0;
   j0 = p1;
   j1 = 9ull;
-  i0 = f15(self, j0, j1); m = self->memory; if (NEVER(self->is_broken)) return;
+  i0 = f14(self, j0, j1); m = self->memory; if (NEVER(self->is_broken)) return;
   if (i0) {goto B104;}
   i0 = 1u;
   l15 = i0;
@@ -77364,7 +77914,7 @@ static void f79(module *self, u64 p0, u64 p1, u64 p2) {
   j1 = p2;
   j0 += j1;
   p2 = j0;
-  j1 = 1049199ull;
+  j1 = 1049263ull;
   j0 -= j1;
   j1 = 8ull;
   i0 = j0 > j1;
@@ -77383,13 +77933,13 @@ static void f79(module *self, u64 p0, u64 p1, u64 p2) {
   i0 = (u32)(j0);
   j1 = 0ull;
   i1 = (u32)(j1);
-  i1 = i32_load8_u(j1 + 1049207u);
+  i1 = i32_load8_u(j1 + 1049271u);
   i32_store8(j0 + 8, i1);
   j0 = p2;
   i0 = (u32)(j0);
   j1 = 0ull;
   i1 = (u32)(j1);
-  j1 = i64_load(j1 + 1049199u);
+  j1 = i64_load(j1 + 1049263u);
   i64_store(j0, j1);
   B105:;
   j0 = p1;
@@ -77428,7 +77978,7 @@ static void f79(module *self, u64 p0, u64 p1, u64 p2) {
   if (i0) {goto B107;}
   j0 = p1;
   j1 = 11ull;
-  i0 = f15(self, j0, j1); m = self->memory; if (NEVER(self->is_broken)) return;
+  i0 = f14(self, j0, j1); m = self->memory; if (NEVER(self->is_broken)) return;
   i0 = !(i0);
   if (i0) {goto B1;}
   j0 = p1;
@@ -77455,7 +78005,7 @@ static void f79(module *self, u64 p0, u64 p1, u64 p2) {
   j1 = p2;
   j0 += j1;
   p2 = j0;
-  j1 = 1049208ull;
+  j1 = 1049272ull;
   j0 -= j1;
   j1 = 10ull;
   i0 = j0 > j1;
@@ -77478,13 +78028,13 @@ static void f79(module *self, u64 p0, u64 p1, u64 p2) {
   i0 = (u32)(j0);
   j1 = 0ull;
   i1 = (u32)(j1);
-  i1 = i32_load(j1 + 1049215u);
+  i1 = i32_load(j1 + 1049279u);
   i32_store(j0 + 7, i1);
   j0 = p2;
   i0 = (u32)(j0);
   j1 = 0ull;
   i1 = (u32)(j1);
-  j1 = i64_load(j1 + 1049208u);
+  j1 = i64_load(j1 + 1049272u);
   i64_store(j0, j1);
   B108:;
   j0 = p1;
@@ -77537,7 +78087,7 @@ static void f79(module *self, u64 p0, u64 p1, u64 p2) {
   self->g0 = j0;
 }
 
-static void f80(module *self, u64 p0, u32 p1, u64 p2) {
+static void f79(module *self, u64 p0, u32 p1, u64 p2) {
   u64 l3 = 0;
   u8 *m = self->memory;
   u32 i0, i1, i2, i3, i4;
@@ -77552,7 +78102,7 @@ static void f80(module *self, u64 p0, u32 p1, u64 p2) {
   j2 = p2;
   j3 = 18446744073709551615ull;
   j2 += j3;
-  f80(self, j0, i1, j2);
+  f79(self, j0, i1, j2);
   j0 = p0;
   j1 = 64ull;
   j0 += j1;
@@ -77590,7 +78140,7 @@ static void f80(module *self, u64 p0, u32 p1, u64 p2) {
   B0:;
 }
 
-static void f81(module *self, u64 p0, u64 p1, u32 p2) {
+static void f80(module *self, u64 p0, u64 p1, u32 p2) {
   u32 l7 = 0;
   u64 l3 = 0, l4 = 0, l5 = 0, l6 = 0;
   u8 *m = self->memory;
@@ -77635,7 +78185,7 @@ static void f81(module *self, u64 p0, u64 p1, u32 p2) {
     j2 = 1ull;
     j1 <<= (j2 & 63);
     i1 = (u32)(j1);
-    i1 = i32_load16_u(j1 + 1048960u);
+    i1 = i32_load16_u(j1 + 1049024u);
     i32_store16(j0, i1);
     j0 = l5;
     j1 = 18446744073709551614ull;
@@ -77652,7 +78202,7 @@ static void f81(module *self, u64 p0, u64 p1, u32 p2) {
     j2 = 1ull;
     j1 <<= (j2 & 63);
     i1 = (u32)(j1);
-    i1 = i32_load16_u(j1 + 1048960u);
+    i1 = i32_load16_u(j1 + 1049024u);
     i32_store16(j0, i1);
     j0 = l4;
     j1 = 18446744073709551612ull;
@@ -77696,7 +78246,7 @@ static void f81(module *self, u64 p0, u64 p1, u32 p2) {
   j2 = 1ull;
   j1 <<= (j2 & 63);
   i1 = (u32)(j1);
-  i1 = i32_load16_u(j1 + 1048960u);
+  i1 = i32_load16_u(j1 + 1049024u);
   i32_store16(j0, i1);
   goto B2;
   B3:;
@@ -77724,7 +78274,7 @@ static void f81(module *self, u64 p0, u64 p1, u32 p2) {
   j2 = 1ull;
   j1 <<= (j2 & 63);
   i1 = (u32)(j1);
-  i1 = i32_load16_u(j1 + 1048960u);
+  i1 = i32_load16_u(j1 + 1049024u);
   i32_store16(j0, i1);
   j0 = l3;
   j1 = 999ull;
@@ -77755,7 +78305,7 @@ static void f81(module *self, u64 p0, u64 p1, u32 p2) {
   j2 = 1ull;
   j1 <<= (j2 & 63);
   i1 = (u32)(j1);
-  i1 = i32_load16_u(j1 + 1048960u);
+  i1 = i32_load16_u(j1 + 1049024u);
   i32_store16(j0, i1);
   B2:;
   j0 = p0;
@@ -77772,7 +78322,7 @@ static void f81(module *self, u64 p0, u64 p1, u32 p2) {
   i64_store(j0, j1);
 }
 
-static u32 f82(module *self, u64 p0, u32 p1, u32 p2) {
+static u32 f81(module *self, u64 p0, u32 p1, u32 p2) {
   u32 l3 = 0, l4 = 0, l5 = 0, l6 = 0, l7 = 0;
   u64 l8 = 0;
   u8 *m = self->memory;
@@ -78025,7 +78575,7 @@ static u32 f82(module *self, u64 p0, u32 p1, u32 p2) {
   return i0;
 }
 
-static u32 f83(module *self, u64 p0, u32 p1, u32 p2) {
+static u32 f82(module *self, u64 p0, u32 p1, u32 p2) {
   u32 l3 = 0, l4 = 0, l5 = 0, l6 = 0, l7 = 0;
   u8 *m = self->memory;
   u32 i0, i1, i2, i3, i4, i5;
@@ -78123,7 +78673,7 @@ static u32 f83(module *self, u64 p0, u32 p1, u32 p2) {
   j0 = p0;
   i1 = l3;
   i2 = p2;
-  i0 = f82(self, j0, i1, i2);
+  i0 = f81(self, j0, i1, i2);
   if (i0) {goto B3;}
   j0 = p0;
   i1 = l3;
@@ -78135,7 +78685,7 @@ static u32 f83(module *self, u64 p0, u32 p1, u32 p2) {
   return i0;
 }
 
-static u32 f84(module *self, u64 p0, u64 p1, u32 p2, u64 p3, u64 p4, u32 p5) {
+static u32 f83(module *self, u64 p0, u64 p1, u32 p2, u64 p3, u64 p4, u32 p5) {
   u32 l6 = 0, l7 = 0, l8 = 0, l9 = 0, l10 = 0, l11 = 0, l12 = 0;
   u8 *m = self->memory;
   u32 i0, i1, i2, i3;
@@ -78248,7 +78798,7 @@ static u32 f84(module *self, u64 p0, u64 p1, u32 p2, u64 p3, u64 p4, u32 p5) {
   j0 = (u64)(i0);
   j1 = 60ull;
   j0 &= j1;
-  j1 = 1048844ull;
+  j1 = 1048908ull;
   j0 += j1;
   i0 = (u32)(j0);
   i0 = i32_load(j0);
@@ -78341,7 +78891,7 @@ static u32 f84(module *self, u64 p0, u64 p1, u32 p2, u64 p3, u64 p4, u32 p5) {
   j0 = (u64)(i0);
   j1 = 60ull;
   j0 &= j1;
-  j1 = 1048844ull;
+  j1 = 1048908ull;
   j0 += j1;
   i0 = (u32)(j0);
   i0 = i32_load(j0);
@@ -78421,7 +78971,7 @@ static u32 f84(module *self, u64 p0, u64 p1, u32 p2, u64 p3, u64 p4, u32 p5) {
   j0 = (u64)(i0);
   j1 = 60ull;
   j0 &= j1;
-  j1 = 1048844ull;
+  j1 = 1048908ull;
   j0 += j1;
   i0 = (u32)(j0);
   i0 = i32_load(j0);
@@ -78479,7 +79029,7 @@ static u32 f84(module *self, u64 p0, u64 p1, u32 p2, u64 p3, u64 p4, u32 p5) {
   return i0;
 }
 
-static u32 f85(module *self, u64 p0, u64 p1, u64 p2) {
+static u32 f84(module *self, u64 p0, u64 p1, u64 p2) {
   u32 l10 = 0, l11 = 0, l12 = 0, l13 = 0, l14 = 0, l15 = 0, l16 = 0, l17 = 0, 
       l18 = 0, l19 = 0, l20 = 0, l21 = 0, l22 = 0, l23 = 0, l24 = 0, l25 = 0, 
       l26 = 0, l27 = 0;
@@ -78732,7 +79282,7 @@ static u32 f85(module *self, u64 p0, u64 p1, u64 p2) {
   j0 = l3;
   j1 = 14ull;
   j0 += j1;
-  i0 = f22(self, j0);
+  i0 = f21(self, j0);
   i0 = !(i0);
   if (i0) {goto B0;}
   j0 = p1;
@@ -79327,13 +79877,13 @@ static u32 f85(module *self, u64 p0, u64 p1, u64 p2) {
   j1 = 14ull;
   j0 += j1;
   j1 = l7;
-  f86(self, j0, j1);
+  f85(self, j0, j1);
   j0 = l3;
   j1 = 14ull;
   j0 += j1;
   j1 = l6;
   j2 = l5;
-  i0 = f87(self, j0, j1, j2);
+  i0 = f86(self, j0, j1, j2);
   i0 = !(i0);
   if (i0) {goto B0;}
   j0 = p0;
@@ -79463,7 +80013,7 @@ static u32 f85(module *self, u64 p0, u64 p1, u64 p2) {
   j2 = p2;
   j3 = 18446744073709551576ull;
   j2 += j3;
-  f27(self, j0, j1, j2); m = self->memory; if (NEVER(self->is_broken)) return ZAK_BROKEN;
+  f26(self, j0, j1, j2); m = self->memory; if (NEVER(self->is_broken)) return ZAK_BROKEN;
   B0:;
   j0 = l3;
   j1 = 48ull;
@@ -79473,7 +80023,7 @@ static u32 f85(module *self, u64 p0, u64 p1, u64 p2) {
   return i0;
 }
 
-static void f86(module *self, u64 p0, u64 p1) {
+static void f85(module *self, u64 p0, u64 p1) {
   u32 l2 = 0, l3 = 0, l4 = 0, l5 = 0, l6 = 0, l7 = 0, l8 = 0;
   u8 *m = self->memory;
   u32 i0, i1, i2;
@@ -79566,7 +80116,7 @@ static void f86(module *self, u64 p0, u64 p1) {
   i32_store8(j0 + 11, i1);
 }
 
-static u32 f87(module *self, u64 p0, u64 p1, u64 p2) {
+static u32 f86(module *self, u64 p0, u64 p1, u64 p2) {
   u32 l3 = 0, l4 = 0, l5 = 0, l6 = 0, l7 = 0, l8 = 0, l9 = 0, l10 = 0;
   u64 l11 = 0;
   u8 *m = self->memory;
@@ -79700,7 +80250,7 @@ static u32 f87(module *self, u64 p0, u64 p1, u64 p2) {
   return i0;
 }
 
-static void f88(module *self, u64 p0, u64 p1, u64 p2, u64 p3, u64 p4, u64 p5, u64 p6) {
+static void f87(module *self, u64 p0, u64 p1, u64 p2, u64 p3, u64 p4, u64 p5, u64 p6) {
   u32 l15 = 0, l16 = 0, l17 = 0, l18 = 0, l19 = 0;
   u64 l7 = 0, l8 = 0, l9 = 0, l10 = 0, l11 = 0, l12 = 0, l13 = 0, l14 = 0;
   u8 *m = self->memory;
@@ -79760,7 +80310,7 @@ static void f88(module *self, u64 p0, u64 p1, u64 p2, u64 p3, u64 p4, u64 p5, u6
   j4 = p4;
   j5 = p5;
   j6 = p6;
-  f60(self, j0, j1, j2, j3, j4, j5, j6); m = self->memory; if (NEVER(self->is_broken)) return;
+  f59(self, j0, j1, j2, j3, j4, j5, j6); m = self->memory; if (NEVER(self->is_broken)) return;
   j0 = l7;
   i0 = (u32)(j0);
   i0 = i32_load8_u(j0 + 40u);
@@ -79901,7 +80451,7 @@ static void f88(module *self, u64 p0, u64 p1, u64 p2, u64 p3, u64 p4, u64 p5, u6
   j1 = 208ull;
   j0 += j1;
   j1 = p3;
-  f89(self, j0, j1); if (NEVER(self->is_broken)) return;
+  f88(self, j0, j1); if (NEVER(self->is_broken)) return;
   j0 = l7;
   i0 = (u32)(j0);
   j0 = i64_load(j0 + 264u);
@@ -79917,7 +80467,7 @@ static void f88(module *self, u64 p0, u64 p1, u64 p2, u64 p3, u64 p4, u64 p5, u6
   j1 = p3;
   j0 += j1;
   p5 = j0;
-  j1 = 1048800ull;
+  j1 = 1048864ull;
   j0 -= j1;
   j1 = 2ull;
   i0 = j0 > j1;
@@ -79936,13 +80486,13 @@ static void f88(module *self, u64 p0, u64 p1, u64 p2, u64 p3, u64 p4, u64 p5, u6
   i0 = (u32)(j0);
   j1 = 0ull;
   i1 = (u32)(j1);
-  i1 = i32_load8_u(j1 + 1048802u);
+  i1 = i32_load8_u(j1 + 1048866u);
   i32_store8(j0 + 2, i1);
   j0 = p5;
   i0 = (u32)(j0);
   j1 = 0ull;
   i1 = (u32)(j1);
-  i1 = i32_load16_u(j1 + 1048800u);
+  i1 = i32_load16_u(j1 + 1048864u);
   i32_store16(j0, i1);
   B9:;
   j0 = l7;
@@ -80055,7 +80605,7 @@ static void f88(module *self, u64 p0, u64 p1, u64 p2, u64 p3, u64 p4, u64 p5, u6
   j1 = p5;
   j0 += j1;
   p5 = j0;
-  j1 = 1048925ull;
+  j1 = 1048989ull;
   j0 -= j1;
   j1 = 3ull;
   i0 = j0 > j1;
@@ -80182,7 +80732,7 @@ static void f88(module *self, u64 p0, u64 p1, u64 p2, u64 p3, u64 p4, u64 p5, u6
   j1 = p5;
   j0 += j1;
   p5 = j0;
-  j1 = 1048929ull;
+  j1 = 1048993ull;
   j0 -= j1;
   j1 = 3ull;
   i0 = j0 > j1;
@@ -80310,7 +80860,7 @@ static void f88(module *self, u64 p0, u64 p1, u64 p2, u64 p3, u64 p4, u64 p5, u6
   j1 = p5;
   j0 += j1;
   p5 = j0;
-  j1 = 1048933ull;
+  j1 = 1048997ull;
   j0 -= j1;
   j1 = 3ull;
   i0 = j0 > j1;
@@ -80538,7 +81088,7 @@ static void f88(module *self, u64 p0, u64 p1, u64 p2, u64 p3, u64 p4, u64 p5, u6
   if (i0) {goto B19;}
   j0 = p1;
   j1 = p3;
-  i0 = f90(self, j0, j1); m = self->memory; if (NEVER(self->is_broken)) return;
+  i0 = f89(self, j0, j1); m = self->memory; if (NEVER(self->is_broken)) return;
   i0 = !(i0);
   if (i0) {goto B6;}
   j0 = p1;
@@ -80682,7 +81232,7 @@ static void f88(module *self, u64 p0, u64 p1, u64 p2, u64 p3, u64 p4, u64 p5, u6
   if (i0) {goto B27;}
   j0 = p1;
   j1 = 7ull;
-  i0 = f90(self, j0, j1); m = self->memory; if (NEVER(self->is_broken)) return;
+  i0 = f89(self, j0, j1); m = self->memory; if (NEVER(self->is_broken)) return;
   i0 = !(i0);
   if (i0) {goto B26;}
   j0 = l10;
@@ -80705,7 +81255,7 @@ static void f88(module *self, u64 p0, u64 p1, u64 p2, u64 p3, u64 p4, u64 p5, u6
   j1 = l8;
   j0 += j1;
   l8 = j0;
-  j1 = 1048937ull;
+  j1 = 1049001ull;
   j0 -= j1;
   j1 = 6ull;
   i0 = j0 > j1;
@@ -80728,13 +81278,13 @@ static void f88(module *self, u64 p0, u64 p1, u64 p2, u64 p3, u64 p4, u64 p5, u6
   i0 = (u32)(j0);
   j1 = 0ull;
   i1 = (u32)(j1);
-  i1 = i32_load(j1 + 1048940u);
+  i1 = i32_load(j1 + 1049004u);
   i32_store(j0 + 3, i1);
   j0 = l8;
   i0 = (u32)(j0);
   j1 = 0ull;
   i1 = (u32)(j1);
-  i1 = i32_load(j1 + 1048937u);
+  i1 = i32_load(j1 + 1049001u);
   i32_store(j0, i1);
   B28:;
   j0 = p1;
@@ -80766,7 +81316,7 @@ static void f88(module *self, u64 p0, u64 p1, u64 p2, u64 p3, u64 p4, u64 p5, u6
     if (i0) {goto B32;}
     j0 = p1;
     j1 = 2ull;
-    i0 = f90(self, j0, j1); m = self->memory; if (NEVER(self->is_broken)) return;
+    i0 = f89(self, j0, j1); m = self->memory; if (NEVER(self->is_broken)) return;
     i0 = !(i0);
     if (i0) {goto B30;}
     j0 = p1;
@@ -80897,11 +81447,11 @@ static void f88(module *self, u64 p0, u64 p1, u64 p2, u64 p3, u64 p4, u64 p5, u6
   j0 <<= (j1 & 63);
   p3 = j0;
   i0 = (u32)(j0);
-  j0 = i64_load(j0 + 1051784u);
+  j0 = i64_load(j0 + 1051904u);
   p4 = j0;
   j0 = p3;
   i0 = (u32)(j0);
-  j0 = i64_load(j0 + 1051680u);
+  j0 = i64_load(j0 + 1051800u);
   l13 = j0;
   j1 = p2;
   j2 = 72ull;
@@ -81308,7 +81858,7 @@ static void f88(module *self, u64 p0, u64 p1, u64 p2, u64 p3, u64 p4, u64 p5, u6
   if (i0) {goto B51;}
   j0 = p1;
   j1 = 10ull;
-  i0 = f90(self, j0, j1); m = self->memory; if (NEVER(self->is_broken)) return;
+  i0 = f89(self, j0, j1); m = self->memory; if (NEVER(self->is_broken)) return;
   i0 = !(i0);
   if (i0) {goto B50;}
   j0 = p1;
@@ -81494,7 +82044,7 @@ static void f88(module *self, u64 p0, u64 p1, u64 p2, u64 p3, u64 p4, u64 p5, u6
   if (i0) {goto B55;}
   j0 = p1;
   j1 = 11ull;
-  i0 = f90(self, j0, j1); m = self->memory; if (NEVER(self->is_broken)) return;
+  i0 = f89(self, j0, j1); m = self->memory; if (NEVER(self->is_broken)) return;
   i0 = !(i0);
   if (i0) {goto B54;}
   j0 = p1;
@@ -81696,7 +82246,7 @@ static void f88(module *self, u64 p0, u64 p1, u64 p2, u64 p3, u64 p4, u64 p5, u6
   if (i0) {goto B59;}
   j0 = p1;
   j1 = 12ull;
-  i0 = f90(self, j0, j1); m = self->memory; if (NEVER(self->is_broken)) return;
+  i0 = f89(self, j0, j1); m = self->memory; if (NEVER(self->is_broken)) return;
   i0 = !(i0);
   if (i0) {goto B58;}
   j0 = p1;
@@ -81898,7 +82448,7 @@ static void f88(module *self, u64 p0, u64 p1, u64 p2, u64 p3, u64 p4, u64 p5, u6
   if (i0) {goto B63;}
   j0 = p1;
   j1 = p3;
-  i0 = f90(self, j0, j1); m = self->memory; if (NEVER(self->is_broken)) return;
+  i0 = f89(self, j0, j1); m = self->memory; if (NEVER(self->is_broken)) return;
   i0 = !(i0);
   if (i0) {goto B62;}
   j0 = p1;
@@ -82099,7 +82649,7 @@ static void f88(module *self, u64 p0, u64 p1, u64 p2, u64 p3, u64 p4, u64 p5, u6
   if (i0) {goto B70;}
   j0 = p1;
   j1 = 1ull;
-  i0 = f90(self, j0, j1); m = self->memory; if (NEVER(self->is_broken)) return;
+  i0 = f89(self, j0, j1); m = self->memory; if (NEVER(self->is_broken)) return;
   i0 = !(i0);
   if (i0) {goto B69;}
   j0 = l10;
@@ -82182,12 +82732,12 @@ static void f88(module *self, u64 p0, u64 p1, u64 p2, u64 p3, u64 p4, u64 p5, u6
   j0 = i64_load(j0 + 16u);
   p3 = j0;
   j0 = p1;
-  f162(self, j0);
+  f163(self, j0);
   j0 = p3;
   i0 = !(j0);
   if (i0) {goto B0;}
   j0 = p6;
-  f162(self, j0);
+  f163(self, j0);
   B0:;
   j0 = p0;
   i0 = (u32)(j0);
@@ -82212,7 +82762,7 @@ static void f88(module *self, u64 p0, u64 p1, u64 p2, u64 p3, u64 p4, u64 p5, u6
   self->g0 = j0;
 }
 
-static void f89(module *self, u64 p0, u64 p1) {
+static void f88(module *self, u64 p0, u64 p1) {
   u32 l6 = 0, l7 = 0;
   u64 l2 = 0, l3 = 0, l4 = 0, l5 = 0;
   u8 *m = self->memory;
@@ -82305,7 +82855,7 @@ static void f89(module *self, u64 p0, u64 p1) {
     j2 = 1ull;
     j1 <<= (j2 & 63);
     i1 = (u32)(j1);
-    i1 = i32_load16_u(j1 + 1048960u);
+    i1 = i32_load16_u(j1 + 1049024u);
     i32_store16(j0, i1);
     j0 = l4;
     j1 = 18446744073709551614ull;
@@ -82322,7 +82872,7 @@ static void f89(module *self, u64 p0, u64 p1) {
     j2 = 1ull;
     j1 <<= (j2 & 63);
     i1 = (u32)(j1);
-    i1 = i32_load16_u(j1 + 1048960u);
+    i1 = i32_load16_u(j1 + 1049024u);
     i32_store16(j0, i1);
     j0 = l3;
     j1 = 18446744073709551612ull;
@@ -82370,7 +82920,7 @@ static void f89(module *self, u64 p0, u64 p1) {
   j2 = 1ull;
   j1 <<= (j2 & 63);
   i1 = (u32)(j1);
-  i1 = i32_load16_u(j1 + 1048960u);
+  i1 = i32_load16_u(j1 + 1049024u);
   i32_store16(j0, i1);
   goto B4;
   B5:;
@@ -82400,7 +82950,7 @@ static void f89(module *self, u64 p0, u64 p1) {
   j2 = 1ull;
   j1 <<= (j2 & 63);
   i1 = (u32)(j1);
-  i1 = i32_load16_u(j1 + 1048960u);
+  i1 = i32_load16_u(j1 + 1049024u);
   i32_store16(j0, i1);
   j0 = p1;
   j1 = 999ull;
@@ -82435,7 +82985,7 @@ static void f89(module *self, u64 p0, u64 p1) {
   j2 = 1ull;
   j1 <<= (j2 & 63);
   i1 = (u32)(j1);
-  i1 = i32_load16_u(j1 + 1048960u);
+  i1 = i32_load16_u(j1 + 1049024u);
   i32_store16(j0, i1);
   B4:;
   j0 = 40ull;
@@ -82492,7 +83042,7 @@ static void f89(module *self, u64 p0, u64 p1) {
   B8:;
 }
 
-static u32 f90(module *self, u64 p0, u64 p1) {
+static u32 f89(module *self, u64 p0, u64 p1) {
   u32 l6 = 0;
   u64 l2 = 0, l3 = 0, l4 = 0, l5 = 0;
   u8 *m = self->memory;
@@ -82561,7 +83111,7 @@ static u32 f90(module *self, u64 p0, u64 p1) {
   j2 = l3;
   j3 = p1;
   j4 = 1ull;
-  f161(self, j0, j1, j2, j3, j4); m = self->memory; if (NEVER(self->is_broken)) return ZAK_BROKEN;
+  f162(self, j0, j1, j2, j3, j4); m = self->memory; if (NEVER(self->is_broken)) return ZAK_BROKEN;
   j0 = l2;
   i0 = (u32)(j0);
   j0 = i64_load(j0 + 16u);
@@ -82579,7 +83129,7 @@ static u32 f90(module *self, u64 p0, u64 p1) {
   j0 = l2;
   j1 = l5;
   j2 = 1ull;
-  f159(self, j0, j1, j2); m = self->memory; if (NEVER(self->is_broken)) return ZAK_BROKEN;
+  f160(self, j0, j1, j2); m = self->memory; if (NEVER(self->is_broken)) return ZAK_BROKEN;
   j0 = l2;
   i0 = (u32)(j0);
   j0 = i64_load(j0);
@@ -82614,7 +83164,7 @@ static u32 f90(module *self, u64 p0, u64 p1) {
   return i0;
 }
 
-static void f91(module *self, u64 p0, u64 p1, u64 p2, u64 p3) {
+static void f90(module *self, u64 p0, u64 p1, u64 p2, u64 p3) {
   u32 l14 = 0, l15 = 0, l16 = 0;
   u64 l4 = 0, l5 = 0, l6 = 0, l7 = 0, l8 = 0, l9 = 0, l10 = 0, l11 = 0, 
       l12 = 0, l13 = 0;
@@ -82725,7 +83275,7 @@ static void f91(module *self, u64 p0, u64 p1, u64 p2, u64 p3) {
   j2 = 1792ull;
   j1 += j2;
   i2 = l15;
-  f81(self, j0, j1, i2); if (NEVER(self->is_broken)) return;
+  f80(self, j0, j1, i2); if (NEVER(self->is_broken)) return;
   j0 = l4;
   i0 = (u32)(j0);
   j0 = i64_load(j0 + 72u);
@@ -82759,7 +83309,7 @@ static void f91(module *self, u64 p0, u64 p1, u64 p2, u64 p3) {
   j2 = 1792ull;
   j1 += j2;
   i2 = l14;
-  f81(self, j0, j1, i2); if (NEVER(self->is_broken)) return;
+  f80(self, j0, j1, i2); if (NEVER(self->is_broken)) return;
   j0 = l4;
   i0 = (u32)(j0);
   j0 = i64_load(j0 + 56u);
@@ -82800,7 +83350,7 @@ static void f91(module *self, u64 p0, u64 p1, u64 p2, u64 p3) {
   j1 = 1792ull;
   j0 += j1;
   j1 = p2;
-  f89(self, j0, j1); if (NEVER(self->is_broken)) return;
+  f88(self, j0, j1); if (NEVER(self->is_broken)) return;
   i0 = l15;
   i1 = l14;
   i0 *= i1;
@@ -82881,7 +83431,7 @@ static void f91(module *self, u64 p0, u64 p1, u64 p2, u64 p3) {
   j2 = 1000ull;
   j1 += j2;
   i2 = l16;
-  f81(self, j0, j1, i2); if (NEVER(self->is_broken)) return;
+  f80(self, j0, j1, i2); if (NEVER(self->is_broken)) return;
   j0 = 52ull;
   j1 = p3;
   j0 -= j1;
@@ -83048,7 +83598,7 @@ static void f91(module *self, u64 p0, u64 p1, u64 p2, u64 p3) {
   if (i0) {goto B14;}
   j0 = p1;
   j1 = p3;
-  i0 = f90(self, j0, j1); m = self->memory; if (NEVER(self->is_broken)) return;
+  i0 = f89(self, j0, j1); m = self->memory; if (NEVER(self->is_broken)) return;
   i0 = !(i0);
   if (i0) {goto B4;}
   j0 = p1;
@@ -83134,13 +83684,13 @@ static void f91(module *self, u64 p0, u64 p1, u64 p2, u64 p3) {
   i0 = (u32)(j0);
   j1 = 0ull;
   i1 = (u32)(j1);
-  i1 = i32_load8_u(j1 + 1049257u);
+  i1 = i32_load8_u(j1 + 1049321u);
   i32_store8(j0 + 1794, i1);
   j0 = l4;
   i0 = (u32)(j0);
   j1 = 0ull;
   i1 = (u32)(j1);
-  i1 = i32_load16_u(j1 + 1049255u);
+  i1 = i32_load16_u(j1 + 1049319u);
   i32_store16(j0 + 1792, i1);
   j0 = l4;
   i0 = (u32)(j0);
@@ -83169,7 +83719,7 @@ static void f91(module *self, u64 p0, u64 p1, u64 p2, u64 p3) {
   j2 = 2584ull;
   j1 += j2;
   i2 = l15;
-  f81(self, j0, j1, i2); if (NEVER(self->is_broken)) return;
+  f80(self, j0, j1, i2); if (NEVER(self->is_broken)) return;
   j0 = l4;
   i0 = (u32)(j0);
   j0 = i64_load(j0 + 24u);
@@ -83245,7 +83795,7 @@ static void f91(module *self, u64 p0, u64 p1, u64 p2, u64 p3) {
   j2 = 2584ull;
   j1 += j2;
   i2 = l14;
-  f81(self, j0, j1, i2); if (NEVER(self->is_broken)) return;
+  f80(self, j0, j1, i2); if (NEVER(self->is_broken)) return;
   j0 = 782ull;
   j1 = p3;
   j0 -= j1;
@@ -83351,7 +83901,7 @@ static void f91(module *self, u64 p0, u64 p1, u64 p2, u64 p3) {
   if (i0) {goto B23;}
   j0 = p1;
   j1 = p3;
-  i0 = f90(self, j0, j1); m = self->memory; if (NEVER(self->is_broken)) return;
+  i0 = f89(self, j0, j1); m = self->memory; if (NEVER(self->is_broken)) return;
   i0 = !(i0);
   if (i0) {goto B3;}
   j0 = p1;
@@ -83422,7 +83972,7 @@ static void f91(module *self, u64 p0, u64 p1, u64 p2, u64 p3) {
   if (i0) {goto B27;}
   j0 = p1;
   j1 = l5;
-  i0 = f90(self, j0, j1); m = self->memory; if (NEVER(self->is_broken)) return;
+  i0 = f89(self, j0, j1); m = self->memory; if (NEVER(self->is_broken)) return;
   i0 = !(i0);
   if (i0) {goto B2;}
   j0 = p1;
@@ -83600,7 +84150,7 @@ static void f91(module *self, u64 p0, u64 p1, u64 p2, u64 p3) {
   if (i0) {goto B34;}
   j0 = p1;
   j1 = 1ull;
-  i0 = f90(self, j0, j1); m = self->memory; if (NEVER(self->is_broken)) return;
+  i0 = f89(self, j0, j1); m = self->memory; if (NEVER(self->is_broken)) return;
   i0 = !(i0);
   if (i0) {goto B33;}
   j0 = p1;
@@ -83697,7 +84247,7 @@ static void f91(module *self, u64 p0, u64 p1, u64 p2, u64 p3) {
   j1 = 1792ull;
   j0 += j1;
   j1 = p2;
-  f89(self, j0, j1); if (NEVER(self->is_broken)) return;
+  f88(self, j0, j1); if (NEVER(self->is_broken)) return;
   j0 = l4;
   i0 = (u32)(j0);
   j0 = i64_load(j0 + 1848u);
@@ -83716,13 +84266,13 @@ static void f91(module *self, u64 p0, u64 p1, u64 p2, u64 p3) {
   i0 = (u32)(j0);
   j1 = 0ull;
   i1 = (u32)(j1);
-  i1 = i32_load(j1 + 1049261u);
+  i1 = i32_load(j1 + 1049325u);
   i32_store(j0 + 3, i1);
   j0 = p2;
   i0 = (u32)(j0);
   j1 = 0ull;
   i1 = (u32)(j1);
-  i1 = i32_load(j1 + 1049258u);
+  i1 = i32_load(j1 + 1049322u);
   i32_store(j0, i1);
   j0 = l4;
   i0 = (u32)(j0);
@@ -83757,7 +84307,7 @@ static void f91(module *self, u64 p0, u64 p1, u64 p2, u64 p3) {
   if (i0) {goto B37;}
   j0 = p1;
   j1 = p3;
-  i0 = f90(self, j0, j1); m = self->memory; if (NEVER(self->is_broken)) return;
+  i0 = f89(self, j0, j1); m = self->memory; if (NEVER(self->is_broken)) return;
   i0 = !(i0);
   if (i0) {goto B36;}
   j0 = p1;
@@ -83878,7 +84428,7 @@ static void f91(module *self, u64 p0, u64 p1, u64 p2, u64 p3) {
   self->g0 = j0;
 }
 
-static void f92(module *self, u64 p0, u64 p1, u64 p2, u64 p3, u64 p4) {
+static void f91(module *self, u64 p0, u64 p1, u64 p2, u64 p3, u64 p4) {
   u32 l8 = 0;
   u64 l5 = 0, l6 = 0, l7 = 0;
   u8 *m = self->memory;
@@ -83951,7 +84501,7 @@ static void f92(module *self, u64 p0, u64 p1, u64 p2, u64 p3, u64 p4) {
   j1 = 32ull;
   j0 += j1;
   j1 = p2;
-  f89(self, j0, j1); if (NEVER(self->is_broken)) return;
+  f88(self, j0, j1); if (NEVER(self->is_broken)) return;
   j0 = l5;
   i0 = (u32)(j0);
   j0 = i64_load(j0 + 88u);
@@ -83977,7 +84527,7 @@ static void f92(module *self, u64 p0, u64 p1, u64 p2, u64 p3, u64 p4) {
   if (i0) {goto B6;}
   j0 = p1;
   j1 = p4;
-  i0 = f90(self, j0, j1); m = self->memory; if (NEVER(self->is_broken)) return;
+  i0 = f89(self, j0, j1); m = self->memory; if (NEVER(self->is_broken)) return;
   i0 = !(i0);
   if (i0) {goto B4;}
   j0 = p1;
@@ -84036,7 +84586,7 @@ static void f92(module *self, u64 p0, u64 p1, u64 p2, u64 p3, u64 p4) {
   j3 = l5;
   j4 = 26ull;
   j3 += j4;
-  f93(self, j0, j1, j2, j3); m = self->memory; if (NEVER(self->is_broken)) return;
+  f92(self, j0, j1, j2, j3); m = self->memory; if (NEVER(self->is_broken)) return;
   j0 = l5;
   i0 = (u32)(j0);
   i0 = i32_load8_u(j0);
@@ -84134,7 +84684,7 @@ static void f92(module *self, u64 p0, u64 p1, u64 p2, u64 p3, u64 p4) {
   j0 <<= (j1 & 63);
   p2 = j0;
   i0 = (u32)(j0);
-  j0 = i64_load(j0 + 1051680u);
+  j0 = i64_load(j0 + 1051800u);
   p4 = j0;
   i0 = !(j0);
   if (i0) {goto B8;}
@@ -84144,7 +84694,7 @@ static void f92(module *self, u64 p0, u64 p1, u64 p2, u64 p3, u64 p4) {
   i0 = (u32)(j0);
   j1 = p2;
   i1 = (u32)(j1);
-  j1 = i64_load(j1 + 1051784u);
+  j1 = i64_load(j1 + 1051904u);
   i1 = (u32)(j1);
   j2 = p4;
   i2 = (u32)(j2);
@@ -84183,7 +84733,7 @@ static void f92(module *self, u64 p0, u64 p1, u64 p2, u64 p3, u64 p4) {
   if (i0) {goto B10;}
   j0 = p1;
   j1 = p2;
-  i0 = f90(self, j0, j1); m = self->memory; if (NEVER(self->is_broken)) return;
+  i0 = f89(self, j0, j1); m = self->memory; if (NEVER(self->is_broken)) return;
   i0 = !(i0);
   if (i0) {goto B9;}
   j0 = p1;
@@ -84276,7 +84826,7 @@ static void f92(module *self, u64 p0, u64 p1, u64 p2, u64 p3, u64 p4) {
   self->g0 = j0;
 }
 
-static void f93(module *self, u64 p0, u64 p1, u64 p2, u64 p3) {
+static void f92(module *self, u64 p0, u64 p1, u64 p2, u64 p3) {
   u32 l13 = 0, l14 = 0, l15 = 0, l16 = 0, l17 = 0, l18 = 0, l19 = 0, l20 = 0, 
       l21 = 0;
   u64 l4 = 0, l5 = 0, l6 = 0, l7 = 0, l8 = 0, l9 = 0, l10 = 0, l11 = 0, 
@@ -84343,7 +84893,7 @@ static void f93(module *self, u64 p0, u64 p1, u64 p2, u64 p3) {
   j0 = l4;
   j1 = 2552ull;
   j0 += j1;
-  j1 = 1049275ull;
+  j1 = 1049339ull;
   j0 -= j1;
   j1 = 3ull;
   i0 = j0 > j1;
@@ -84409,7 +84959,7 @@ static void f93(module *self, u64 p0, u64 p1, u64 p2, u64 p3) {
   j0 = l4;
   j1 = 2552ull;
   j0 += j1;
-  j1 = 1049265ull;
+  j1 = 1049329ull;
   j2 = 3ull;
   j3 = p2;
   j4 = 56ull;
@@ -84420,11 +84970,11 @@ static void f93(module *self, u64 p0, u64 p1, u64 p2, u64 p3) {
   j5 = 33ull;
   j4 += j5;
   j5 = 5ull;
-  f94(self, j0, j1, j2, i3, j4, j5);
+  f93(self, j0, j1, j2, i3, j4, j5);
   j0 = l4;
   j1 = 2552ull;
   j0 += j1;
-  j1 = 1049268ull;
+  j1 = 1049332ull;
   j2 = 4ull;
   j3 = p2;
   j4 = 130ull;
@@ -84435,11 +84985,11 @@ static void f93(module *self, u64 p0, u64 p1, u64 p2, u64 p3) {
   j5 = 105ull;
   j4 += j5;
   j5 = 25ull;
-  f94(self, j0, j1, j2, i3, j4, j5);
+  f93(self, j0, j1, j2, i3, j4, j5);
   j0 = l4;
   j1 = 2552ull;
   j0 += j1;
-  j1 = 1049272ull;
+  j1 = 1049336ull;
   j2 = 3ull;
   j3 = p2;
   j4 = 57ull;
@@ -84450,7 +85000,7 @@ static void f93(module *self, u64 p0, u64 p1, u64 p2, u64 p3) {
   j5 = 47ull;
   j4 += j5;
   j5 = 9ull;
-  f94(self, j0, j1, j2, i3, j4, j5);
+  f93(self, j0, j1, j2, i3, j4, j5);
   j0 = l4;
   i0 = (u32)(j0);
   j0 = i64_load(j0 + 3336u);
@@ -84466,7 +85016,7 @@ static void f93(module *self, u64 p0, u64 p1, u64 p2, u64 p3) {
   j1 = p3;
   j0 += j1;
   l5 = j0;
-  j1 = 1049279ull;
+  j1 = 1049343ull;
   j0 -= j1;
   j1 = 3ull;
   i0 = j0 > j1;
@@ -84592,7 +85142,7 @@ static void f93(module *self, u64 p0, u64 p1, u64 p2, u64 p3) {
   j1 = l6;
   j0 += j1;
   p3 = j0;
-  j1 = 1049283ull;
+  j1 = 1049347ull;
   j0 -= j1;
   j1 = 2ull;
   i0 = j0 > j1;
@@ -84611,13 +85161,13 @@ static void f93(module *self, u64 p0, u64 p1, u64 p2, u64 p3) {
   i0 = (u32)(j0);
   j1 = 0ull;
   i1 = (u32)(j1);
-  i1 = i32_load8_u(j1 + 1049285u);
+  i1 = i32_load8_u(j1 + 1049349u);
   i32_store8(j0 + 2, i1);
   j0 = p3;
   i0 = (u32)(j0);
   j1 = 0ull;
   i1 = (u32)(j1);
-  i1 = i32_load16_u(j1 + 1049283u);
+  i1 = i32_load16_u(j1 + 1049347u);
   i32_store16(j0, i1);
   B20:;
   j0 = l6;
@@ -84636,7 +85186,7 @@ static void f93(module *self, u64 p0, u64 p1, u64 p2, u64 p3) {
   j1 = l6;
   j0 += j1;
   p3 = j0;
-  j1 = 1049286ull;
+  j1 = 1049350ull;
   j0 -= j1;
   j1 = 2ull;
   i0 = j0 > j1;
@@ -84655,13 +85205,13 @@ static void f93(module *self, u64 p0, u64 p1, u64 p2, u64 p3) {
   i0 = (u32)(j0);
   j1 = 0ull;
   i1 = (u32)(j1);
-  i1 = i32_load8_u(j1 + 1049288u);
+  i1 = i32_load8_u(j1 + 1049352u);
   i32_store8(j0 + 2, i1);
   j0 = p3;
   i0 = (u32)(j0);
   j1 = 0ull;
   i1 = (u32)(j1);
-  i1 = i32_load16_u(j1 + 1049286u);
+  i1 = i32_load16_u(j1 + 1049350u);
   i32_store16(j0, i1);
   B22:;
   j0 = l6;
@@ -84821,7 +85371,7 @@ static void f93(module *self, u64 p0, u64 p1, u64 p2, u64 p3) {
   j1 = l6;
   j0 += j1;
   l8 = j0;
-  j1 = 1048812ull;
+  j1 = 1048876ull;
   j0 -= j1;
   j1 = 2ull;
   i0 = j0 > j1;
@@ -84840,13 +85390,13 @@ static void f93(module *self, u64 p0, u64 p1, u64 p2, u64 p3) {
   i0 = (u32)(j0);
   j1 = 0ull;
   i1 = (u32)(j1);
-  i1 = i32_load8_u(j1 + 1048814u);
+  i1 = i32_load8_u(j1 + 1048878u);
   i32_store8(j0 + 2, i1);
   j0 = l8;
   i0 = (u32)(j0);
   j1 = 0ull;
   i1 = (u32)(j1);
-  i1 = i32_load16_u(j1 + 1048812u);
+  i1 = i32_load16_u(j1 + 1048876u);
   i32_store16(j0, i1);
   B29:;
   j0 = l4;
@@ -84988,7 +85538,7 @@ static void f93(module *self, u64 p0, u64 p1, u64 p2, u64 p3) {
   if (i0) {goto B32;}
   j0 = p1;
   j1 = 19ull;
-  i0 = f90(self, j0, j1); m = self->memory; if (NEVER(self->is_broken)) return;
+  i0 = f89(self, j0, j1); m = self->memory; if (NEVER(self->is_broken)) return;
   i0 = !(i0);
   if (i0) {goto B31;}
   j0 = p1;
@@ -85014,13 +85564,13 @@ static void f93(module *self, u64 p0, u64 p1, u64 p2, u64 p3) {
   i0 = (u32)(j0);
   j1 = 0ull;
   i1 = (u32)(j1);
-  i1 = i32_load8_u(j1 + 1049300u);
+  i1 = i32_load8_u(j1 + 1049364u);
   i32_store8(j0 + 4, i1);
   j0 = p3;
   i0 = (u32)(j0);
   j1 = 0ull;
   i1 = (u32)(j1);
-  i1 = i32_load(j1 + 1049296u);
+  i1 = i32_load(j1 + 1049360u);
   i32_store(j0, i1);
   j0 = p3;
   i0 = (u32)(j0);
@@ -85431,7 +85981,7 @@ static void f93(module *self, u64 p0, u64 p1, u64 p2, u64 p3) {
   j1 = 5ull;
   j0 |= j1;
   p3 = j0;
-  j1 = 1048791ull;
+  j1 = 1048855ull;
   j0 -= j1;
   j1 = 4ull;
   i0 = j0 > j1;
@@ -85450,13 +86000,13 @@ static void f93(module *self, u64 p0, u64 p1, u64 p2, u64 p3) {
   i0 = (u32)(j0);
   j1 = 0ull;
   i1 = (u32)(j1);
-  i1 = i32_load8_u(j1 + 1048795u);
+  i1 = i32_load8_u(j1 + 1048859u);
   i32_store8(j0 + 4, i1);
   j0 = p3;
   i0 = (u32)(j0);
   j1 = 0ull;
   i1 = (u32)(j1);
-  i1 = i32_load(j1 + 1048791u);
+  i1 = i32_load(j1 + 1048855u);
   i32_store(j0, i1);
   B40:;
   j0 = 11ull;
@@ -85496,7 +86046,7 @@ static void f93(module *self, u64 p0, u64 p1, u64 p2, u64 p3) {
   j2 = 136ull;
   j1 += j2;
   i2 = l17;
-  f81(self, j0, j1, i2); if (NEVER(self->is_broken)) return;
+  f80(self, j0, j1, i2); if (NEVER(self->is_broken)) return;
   j0 = l4;
   i0 = (u32)(j0);
   j0 = i64_load(j0 + 128u);
@@ -85689,7 +86239,7 @@ static void f93(module *self, u64 p0, u64 p1, u64 p2, u64 p3) {
   j1 = p3;
   j0 += j1;
   p3 = j0;
-  j1 = 1049301ull;
+  j1 = 1049365ull;
   j0 -= j1;
   j1 = 3ull;
   i0 = j0 > j1;
@@ -85762,7 +86312,7 @@ static void f93(module *self, u64 p0, u64 p1, u64 p2, u64 p3) {
   j2 = 136ull;
   j1 += j2;
   i2 = l15;
-  f81(self, j0, j1, i2); if (NEVER(self->is_broken)) return;
+  f80(self, j0, j1, i2); if (NEVER(self->is_broken)) return;
   j0 = 782ull;
   l7 = j0;
   j0 = 782ull;
@@ -85945,7 +86495,7 @@ static void f93(module *self, u64 p0, u64 p1, u64 p2, u64 p3) {
   j1 = p3;
   j0 += j1;
   p3 = j0;
-  j1 = 1049305ull;
+  j1 = 1049369ull;
   j0 -= j1;
   j1 = 3ull;
   i0 = j0 > j1;
@@ -86018,7 +86568,7 @@ static void f93(module *self, u64 p0, u64 p1, u64 p2, u64 p3) {
   j2 = 136ull;
   j1 += j2;
   i2 = l16;
-  f81(self, j0, j1, i2); if (NEVER(self->is_broken)) return;
+  f80(self, j0, j1, i2); if (NEVER(self->is_broken)) return;
   j0 = 782ull;
   l12 = j0;
   j0 = 782ull;
@@ -86201,7 +86751,7 @@ static void f93(module *self, u64 p0, u64 p1, u64 p2, u64 p3) {
   j1 = p3;
   j0 += j1;
   p3 = j0;
-  j1 = 1049309ull;
+  j1 = 1049373ull;
   j0 -= j1;
   j1 = 2ull;
   i0 = j0 > j1;
@@ -86220,13 +86770,13 @@ static void f93(module *self, u64 p0, u64 p1, u64 p2, u64 p3) {
   i0 = (u32)(j0);
   j1 = 0ull;
   i1 = (u32)(j1);
-  i1 = i32_load8_u(j1 + 1049311u);
+  i1 = i32_load8_u(j1 + 1049375u);
   i32_store8(j0 + 2, i1);
   j0 = p3;
   i0 = (u32)(j0);
   j1 = 0ull;
   i1 = (u32)(j1);
-  i1 = i32_load16_u(j1 + 1049309u);
+  i1 = i32_load16_u(j1 + 1049373u);
   i32_store16(j0, i1);
   B71:;
   j0 = l4;
@@ -86286,7 +86836,7 @@ static void f93(module *self, u64 p0, u64 p1, u64 p2, u64 p3) {
   j2 = 136ull;
   j1 += j2;
   i2 = l13;
-  f81(self, j0, j1, i2); if (NEVER(self->is_broken)) return;
+  f80(self, j0, j1, i2); if (NEVER(self->is_broken)) return;
   j0 = 782ull;
   l7 = j0;
   j0 = 782ull;
@@ -86440,10 +86990,10 @@ static void f93(module *self, u64 p0, u64 p1, u64 p2, u64 p3) {
   j0 = l4;
   j1 = 2552ull;
   j0 += j1;
-  j1 = 1049312ull;
+  j1 = 1049376ull;
   j2 = 4ull;
   i3 = l21;
-  f95(self, j0, j1, j2, i3);
+  f94(self, j0, j1, j2, i3);
   j0 = l4;
   i0 = (u32)(j0);
   j0 = i64_load(j0 + 3336u);
@@ -86478,7 +87028,7 @@ static void f93(module *self, u64 p0, u64 p1, u64 p2, u64 p3) {
   j1 = l5;
   j0 += j1;
   l5 = j0;
-  j1 = 1049316ull;
+  j1 = 1049380ull;
   j0 -= j1;
   j1 = 3ull;
   i0 = j0 > j1;
@@ -86551,7 +87101,7 @@ static void f93(module *self, u64 p0, u64 p1, u64 p2, u64 p3) {
   j2 = 136ull;
   j1 += j2;
   i2 = l20;
-  f81(self, j0, j1, i2); if (NEVER(self->is_broken)) return;
+  f80(self, j0, j1, i2); if (NEVER(self->is_broken)) return;
   j0 = 782ull;
   p2 = j0;
   j0 = 782ull;
@@ -86734,7 +87284,7 @@ static void f93(module *self, u64 p0, u64 p1, u64 p2, u64 p3) {
   j1 = p3;
   j0 += j1;
   p3 = j0;
-  j1 = 1049320ull;
+  j1 = 1049384ull;
   j0 -= j1;
   j1 = 3ull;
   i0 = j0 > j1;
@@ -86807,7 +87357,7 @@ static void f93(module *self, u64 p0, u64 p1, u64 p2, u64 p3) {
   j2 = 136ull;
   j1 += j2;
   i2 = l19;
-  f81(self, j0, j1, i2); if (NEVER(self->is_broken)) return;
+  f80(self, j0, j1, i2); if (NEVER(self->is_broken)) return;
   j0 = 782ull;
   l7 = j0;
   j0 = 782ull;
@@ -86990,7 +87540,7 @@ static void f93(module *self, u64 p0, u64 p1, u64 p2, u64 p3) {
   j1 = p3;
   j0 += j1;
   p3 = j0;
-  j1 = 1049324ull;
+  j1 = 1049388ull;
   j0 -= j1;
   j1 = 4ull;
   i0 = j0 > j1;
@@ -87009,13 +87559,13 @@ static void f93(module *self, u64 p0, u64 p1, u64 p2, u64 p3) {
   i0 = (u32)(j0);
   j1 = 0ull;
   i1 = (u32)(j1);
-  i1 = i32_load8_u(j1 + 1049328u);
+  i1 = i32_load8_u(j1 + 1049392u);
   i32_store8(j0 + 4, i1);
   j0 = p3;
   i0 = (u32)(j0);
   j1 = 0ull;
   i1 = (u32)(j1);
-  i1 = i32_load(j1 + 1049324u);
+  i1 = i32_load(j1 + 1049388u);
   i32_store(j0, i1);
   B101:;
   j0 = l4;
@@ -87075,7 +87625,7 @@ static void f93(module *self, u64 p0, u64 p1, u64 p2, u64 p3) {
   j2 = 136ull;
   j1 += j2;
   i2 = l18;
-  f81(self, j0, j1, i2); if (NEVER(self->is_broken)) return;
+  f80(self, j0, j1, i2); if (NEVER(self->is_broken)) return;
   j0 = 782ull;
   p2 = j0;
   j0 = 782ull;
@@ -87317,7 +87867,7 @@ static void f93(module *self, u64 p0, u64 p1, u64 p2, u64 p3) {
   j2 = 136ull;
   j1 += j2;
   i2 = l14;
-  f81(self, j0, j1, i2); if (NEVER(self->is_broken)) return;
+  f80(self, j0, j1, i2); if (NEVER(self->is_broken)) return;
   j0 = 782ull;
   j1 = p2;
   j0 -= j1;
@@ -87533,7 +88083,7 @@ static void f93(module *self, u64 p0, u64 p1, u64 p2, u64 p3) {
   if (i0) {goto B119;}
   j0 = p1;
   j1 = p3;
-  i0 = f90(self, j0, j1); m = self->memory; if (NEVER(self->is_broken)) return;
+  i0 = f89(self, j0, j1); m = self->memory; if (NEVER(self->is_broken)) return;
   i0 = !(i0);
   if (i0) {goto B118;}
   j0 = p1;
@@ -87643,7 +88193,7 @@ static void f93(module *self, u64 p0, u64 p1, u64 p2, u64 p3) {
   if (i0) {goto B122;}
   j0 = p1;
   j1 = 20ull;
-  i0 = f90(self, j0, j1); m = self->memory; if (NEVER(self->is_broken)) return;
+  i0 = f89(self, j0, j1); m = self->memory; if (NEVER(self->is_broken)) return;
   i0 = !(i0);
   if (i0) {goto B121;}
   j0 = p1;
@@ -87669,13 +88219,13 @@ static void f93(module *self, u64 p0, u64 p1, u64 p2, u64 p3) {
   i0 = (u32)(j0);
   j1 = 0ull;
   i1 = (u32)(j1);
-  i1 = i32_load(j1 + 1048819u);
+  i1 = i32_load(j1 + 1048883u);
   i32_store(j0 + 3, i1);
   j0 = p3;
   i0 = (u32)(j0);
   j1 = 0ull;
   i1 = (u32)(j1);
-  i1 = i32_load(j1 + 1048816u);
+  i1 = i32_load(j1 + 1048880u);
   i32_store(j0, i1);
   j0 = p3;
   i0 = (u32)(j0);
@@ -87934,13 +88484,13 @@ static void f93(module *self, u64 p0, u64 p1, u64 p2, u64 p3) {
   i0 = (u32)(j0);
   j1 = 0ull;
   i1 = (u32)(j1);
-  i1 = i32_load16_u(j1 + 1049333u);
+  i1 = i32_load16_u(j1 + 1049397u);
   i32_store16(j0 + 2556, i1);
   j0 = l4;
   i0 = (u32)(j0);
   j1 = 0ull;
   i1 = (u32)(j1);
-  i1 = i32_load(j1 + 1049329u);
+  i1 = i32_load(j1 + 1049393u);
   i32_store(j0 + 2552, i1);
   j0 = l4;
   i0 = (u32)(j0);
@@ -88195,7 +88745,7 @@ static void f93(module *self, u64 p0, u64 p1, u64 p2, u64 p3) {
   if (i0) {goto B129;}
   j0 = p1;
   j1 = p3;
-  i0 = f90(self, j0, j1); m = self->memory; if (NEVER(self->is_broken)) return;
+  i0 = f89(self, j0, j1); m = self->memory; if (NEVER(self->is_broken)) return;
   i0 = !(i0);
   if (i0) {goto B128;}
   j0 = p1;
@@ -88314,13 +88864,13 @@ static void f93(module *self, u64 p0, u64 p1, u64 p2, u64 p3) {
   i0 = (u32)(j0);
   j1 = 0ull;
   i1 = (u32)(j1);
-  i1 = i32_load8_u(j1 + 1048825u);
+  i1 = i32_load8_u(j1 + 1048889u);
   i32_store8(j0 + 2554, i1);
   j0 = l4;
   i0 = (u32)(j0);
   j1 = 0ull;
   i1 = (u32)(j1);
-  i1 = i32_load16_u(j1 + 1048823u);
+  i1 = i32_load16_u(j1 + 1048887u);
   i32_store16(j0 + 2552, i1);
   j0 = p2;
   j1 = 2072ull;
@@ -88329,7 +88879,7 @@ static void f93(module *self, u64 p0, u64 p1, u64 p2, u64 p3) {
   i0 = i32_load8_u(j0);
   l14 = i0;
   j0 = p3;
-  j1 = 1049335ull;
+  j1 = 1049399ull;
   j0 -= j1;
   j1 = 3ull;
   i0 = j0 > j1;
@@ -88391,36 +88941,36 @@ static void f93(module *self, u64 p0, u64 p1, u64 p2, u64 p3) {
   j0 = l4;
   j1 = 2552ull;
   j0 += j1;
-  j1 = 1049339ull;
+  j1 = 1049403ull;
   j2 = 4ull;
   j3 = p2;
   j4 = 2074ull;
   j3 += j4;
   i3 = (u32)(j3);
   i3 = i32_load16_u(j3);
-  f95(self, j0, j1, j2, i3);
+  f94(self, j0, j1, j2, i3);
   j0 = l4;
   j1 = 2552ull;
   j0 += j1;
-  j1 = 1049343ull;
+  j1 = 1049407ull;
   j2 = 4ull;
   j3 = p2;
   j4 = 2076ull;
   j3 += j4;
   i3 = (u32)(j3);
   i3 = i32_load16_u(j3);
-  f95(self, j0, j1, j2, i3);
+  f94(self, j0, j1, j2, i3);
   j0 = l4;
   j1 = 2552ull;
   j0 += j1;
-  j1 = 1049347ull;
+  j1 = 1049411ull;
   j2 = 5ull;
   j3 = p2;
   j4 = 2078ull;
   j3 += j4;
   i3 = (u32)(j3);
   i3 = i32_load16_u(j3);
-  f95(self, j0, j1, j2, i3);
+  f94(self, j0, j1, j2, i3);
   j0 = l4;
   i0 = (u32)(j0);
   j0 = i64_load(j0 + 3336u);
@@ -88436,7 +88986,7 @@ static void f93(module *self, u64 p0, u64 p1, u64 p2, u64 p3) {
   j1 = l5;
   j0 += j1;
   p3 = j0;
-  j1 = 1049352ull;
+  j1 = 1049416ull;
   j0 -= j1;
   j1 = 2ull;
   i0 = j0 > j1;
@@ -88455,13 +89005,13 @@ static void f93(module *self, u64 p0, u64 p1, u64 p2, u64 p3) {
   i0 = (u32)(j0);
   j1 = 0ull;
   i1 = (u32)(j1);
-  i1 = i32_load8_u(j1 + 1049354u);
+  i1 = i32_load8_u(j1 + 1049418u);
   i32_store8(j0 + 2, i1);
   j0 = p3;
   i0 = (u32)(j0);
   j1 = 0ull;
   i1 = (u32)(j1);
-  i1 = i32_load16_u(j1 + 1049352u);
+  i1 = i32_load16_u(j1 + 1049416u);
   i32_store16(j0, i1);
   B134:;
   j0 = l4;
@@ -88612,14 +89162,14 @@ static void f93(module *self, u64 p0, u64 p1, u64 p2, u64 p3) {
   j0 = l4;
   j1 = 2552ull;
   j0 += j1;
-  j1 = 1049355ull;
+  j1 = 1049419ull;
   j2 = 4ull;
   j3 = p2;
   j4 = 2096ull;
   j3 += j4;
   i3 = (u32)(j3);
   i3 = i32_load16_u(j3);
-  f95(self, j0, j1, j2, i3);
+  f94(self, j0, j1, j2, i3);
   j0 = l4;
   i0 = (u32)(j0);
   j0 = i64_load(j0 + 3336u);
@@ -88660,7 +89210,7 @@ static void f93(module *self, u64 p0, u64 p1, u64 p2, u64 p3) {
   j1 = l5;
   j0 += j1;
   l5 = j0;
-  j1 = 1049359ull;
+  j1 = 1049423ull;
   j0 -= j1;
   j1 = 3ull;
   i0 = j0 > j1;
@@ -88758,14 +89308,14 @@ static void f93(module *self, u64 p0, u64 p1, u64 p2, u64 p3) {
   j0 = l4;
   j1 = 2552ull;
   j0 += j1;
-  j1 = 1049268ull;
+  j1 = 1049332ull;
   j2 = 4ull;
   j3 = p2;
   j4 = 2100ull;
   j3 += j4;
   i3 = (u32)(j3);
   i3 = i32_load16_u(j3);
-  f95(self, j0, j1, j2, i3);
+  f94(self, j0, j1, j2, i3);
   j0 = l4;
   i0 = (u32)(j0);
   j0 = i64_load(j0 + 3336u);
@@ -88806,7 +89356,7 @@ static void f93(module *self, u64 p0, u64 p1, u64 p2, u64 p3) {
   j1 = l5;
   j0 += j1;
   l5 = j0;
-  j1 = 1049363ull;
+  j1 = 1049427ull;
   j0 -= j1;
   j1 = 3ull;
   i0 = j0 > j1;
@@ -88904,14 +89454,14 @@ static void f93(module *self, u64 p0, u64 p1, u64 p2, u64 p3) {
   j0 = l4;
   j1 = 2552ull;
   j0 += j1;
-  j1 = 1049367ull;
+  j1 = 1049431ull;
   j2 = 6ull;
   j3 = p2;
   j4 = 2104ull;
   j3 += j4;
   i3 = (u32)(j3);
   i3 = i32_load16_u(j3);
-  f95(self, j0, j1, j2, i3);
+  f94(self, j0, j1, j2, i3);
   j0 = l4;
   i0 = (u32)(j0);
   j0 = i64_load(j0 + 3336u);
@@ -88981,7 +89531,7 @@ static void f93(module *self, u64 p0, u64 p1, u64 p2, u64 p3) {
   if (i0) {goto B149;}
   j0 = p1;
   j1 = p3;
-  i0 = f90(self, j0, j1); m = self->memory; if (NEVER(self->is_broken)) return;
+  i0 = f89(self, j0, j1); m = self->memory; if (NEVER(self->is_broken)) return;
   i0 = !(i0);
   if (i0) {goto B148;}
   j0 = p1;
@@ -89402,7 +89952,7 @@ static void f93(module *self, u64 p0, u64 p1, u64 p2, u64 p3) {
     if (i0) {goto B163;}
     j0 = p1;
     j1 = p3;
-    i0 = f90(self, j0, j1); m = self->memory; if (NEVER(self->is_broken)) return;
+    i0 = f89(self, j0, j1); m = self->memory; if (NEVER(self->is_broken)) return;
     i0 = !(i0);
     if (i0) {goto B151;}
     j0 = p1;
@@ -89867,7 +90417,7 @@ static void f93(module *self, u64 p0, u64 p1, u64 p2, u64 p3) {
   if (i0) {goto B171;}
   j0 = p1;
   j1 = p3;
-  i0 = f90(self, j0, j1); m = self->memory; if (NEVER(self->is_broken)) return;
+  i0 = f89(self, j0, j1); m = self->memory; if (NEVER(self->is_broken)) return;
   i0 = !(i0);
   if (i0) {goto B170;}
   j0 = p1;
@@ -89980,7 +90530,7 @@ static void f93(module *self, u64 p0, u64 p1, u64 p2, u64 p3) {
   self->g0 = j0;
 }
 
-static void f94(module *self, u64 p0, u64 p1, u64 p2, u32 p3, u64 p4, u64 p5) {
+static void f93(module *self, u64 p0, u64 p1, u64 p2, u32 p3, u64 p4, u64 p5) {
   u32 l8 = 0;
   u64 l6 = 0, l7 = 0;
   u8 *m = self->memory;
@@ -90268,7 +90818,7 @@ static void f94(module *self, u64 p0, u64 p1, u64 p2, u32 p3, u64 p4, u64 p5) {
   B3:;
 }
 
-static void f95(module *self, u64 p0, u64 p1, u64 p2, u32 p3) {
+static void f94(module *self, u64 p0, u64 p1, u64 p2, u32 p3) {
   u32 l7 = 0, l8 = 0;
   u64 l4 = 0, l5 = 0, l6 = 0;
   u8 *m = self->memory;
@@ -90490,7 +91040,7 @@ static void f95(module *self, u64 p0, u64 p1, u64 p2, u32 p3) {
   B4:;
 }
 
-static void f96(module *self, u64 p0, u64 p1, u64 p2, u64 p3, u64 p4, u64 p5) {
+static void f95(module *self, u64 p0, u64 p1, u64 p2, u64 p3, u64 p4, u64 p5) {
   u32 l37 = 0, l38 = 0, l39 = 0, l40 = 0, l41 = 0, l42 = 0, l43 = 0, l44 = 0, 
       l45 = 0, l46 = 0;
   u64 l6 = 0, l7 = 0, l8 = 0, l9 = 0, l10 = 0, l11 = 0, l12 = 0, l13 = 0, 
@@ -91914,7 +92464,7 @@ static void f96(module *self, u64 p0, u64 p1, u64 p2, u64 p3, u64 p4, u64 p5) {
     j0 += j1;
     j1 = l28;
     j2 = p4;
-    f77(self, j0, j1, j2);
+    f76(self, j0, j1, j2);
     j0 = l6;
     i0 = (u32)(j0);
     i0 = i32_load16_u(j0 + 162u);
@@ -92180,7 +92730,7 @@ static void f96(module *self, u64 p0, u64 p1, u64 p2, u64 p3, u64 p4, u64 p5) {
     j1 = l6;
     j2 = 48ull;
     j1 += j2;
-    f97(self, j0, j1); if (NEVER(self->is_broken)) return;
+    f96(self, j0, j1); if (NEVER(self->is_broken)) return;
     j0 = l6;
     i0 = (u32)(j0);
     j0 = i64_load(j0 + 96u);
@@ -93416,7 +93966,7 @@ static void f96(module *self, u64 p0, u64 p1, u64 p2, u64 p3, u64 p4, u64 p5) {
     j0 += j1;
     j1 = l22;
     j2 = l23;
-    f77(self, j0, j1, j2);
+    f76(self, j0, j1, j2);
     j0 = l6;
     i0 = (u32)(j0);
     i0 = i32_load16_u(j0 + 162u);
@@ -93841,14 +94391,14 @@ static void f96(module *self, u64 p0, u64 p1, u64 p2, u64 p3, u64 p4, u64 p5) {
     j1 = 65535ull;
     j0 &= j1;
     i0 = (u32)(j0);
-    i0 = i32_load8_u(j0 + 1051888u);
+    i0 = i32_load8_u(j0 + 1052008u);
     l46 = i0;
     B98:;
     j0 = l6;
     j1 = p3;
     i2 = l46;
     i3 = l40;
-    f47(self, j0, j1, i2, i3);
+    f46(self, j0, j1, i2, i3);
     j0 = l6;
     i0 = (u32)(j0);
     i0 = i32_load8_u(j0);
@@ -93880,7 +94430,7 @@ static void f96(module *self, u64 p0, u64 p1, u64 p2, u64 p3, u64 p4, u64 p5) {
     i5 = 255u;
     i4 &= i5;
     i3 |= i4;
-    f74(self, j0, j1, i2, i3);
+    f73(self, j0, j1, i2, i3);
     j0 = l6;
     i0 = (u32)(j0);
     i0 = i32_load8_u(j0 + 8u);
@@ -93905,7 +94455,7 @@ static void f96(module *self, u64 p0, u64 p1, u64 p2, u64 p3, u64 p4, u64 p5) {
     i4 = 255u;
     i3 &= i4;
     i2 |= i3;
-    f58(self, j0, j1, i2); if (NEVER(self->is_broken)) return;
+    f57(self, j0, j1, i2); if (NEVER(self->is_broken)) return;
     j0 = l6;
     i0 = (u32)(j0);
     i0 = i32_load8_u(j0 + 424u);
@@ -93978,7 +94528,7 @@ static void f96(module *self, u64 p0, u64 p1, u64 p2, u64 p3, u64 p4, u64 p5) {
     i1 = (u32)(j1);
     i1 = i32_load8_u(j1);
     i2 = l45;
-    i0 = f49(self, j0, i1, i2);
+    i0 = f48(self, j0, i1, i2);
     l38 = i0;
     j0 = p3;
     j1 = 68ull;
@@ -94051,7 +94601,7 @@ static void f96(module *self, u64 p0, u64 p1, u64 p2, u64 p3, u64 p4, u64 p5) {
     j2 = (u64)(i2);
     j3 = 60ull;
     j2 &= j3;
-    j3 = 1048844ull;
+    j3 = 1048908ull;
     j2 += j3;
     i2 = (u32)(j2);
     i2 = i32_load(j2);
@@ -94134,7 +94684,7 @@ static void f96(module *self, u64 p0, u64 p1, u64 p2, u64 p3, u64 p4, u64 p5) {
     i1 = (u32)(j1);
     i1 = i32_load8_u(j1);
     i2 = l45;
-    i0 = f49(self, j0, i1, i2);
+    i0 = f48(self, j0, i1, i2);
     l38 = i0;
     j0 = p3;
     j1 = 68ull;
@@ -94207,7 +94757,7 @@ static void f96(module *self, u64 p0, u64 p1, u64 p2, u64 p3, u64 p4, u64 p5) {
     j2 = (u64)(i2);
     j3 = 60ull;
     j2 &= j3;
-    j3 = 1048844ull;
+    j3 = 1048908ull;
     j2 += j3;
     i2 = (u32)(j2);
     i2 = i32_load(j2);
@@ -94264,7 +94814,7 @@ static void f96(module *self, u64 p0, u64 p1, u64 p2, u64 p3, u64 p4, u64 p5) {
     i1 = (u32)(j1);
     i1 = i32_load8_u(j1);
     i2 = l44;
-    i0 = f49(self, j0, i1, i2);
+    i0 = f48(self, j0, i1, i2);
     l38 = i0;
     j0 = p3;
     j1 = 68ull;
@@ -94337,7 +94887,7 @@ static void f96(module *self, u64 p0, u64 p1, u64 p2, u64 p3, u64 p4, u64 p5) {
     j2 = (u64)(i2);
     j3 = 60ull;
     j2 &= j3;
-    j3 = 1048844ull;
+    j3 = 1048908ull;
     j2 += j3;
     i2 = (u32)(j2);
     i2 = i32_load(j2);
@@ -94392,7 +94942,7 @@ static void f96(module *self, u64 p0, u64 p1, u64 p2, u64 p3, u64 p4, u64 p5) {
     j0 += j1;
     j1 = p3;
     i2 = l40;
-    f37(self, j0, j1, i2);
+    f36(self, j0, j1, i2);
     j0 = l6;
     i0 = (u32)(j0);
     i0 = i32_load8_u(j0 + 41u);
@@ -94406,7 +94956,7 @@ static void f96(module *self, u64 p0, u64 p1, u64 p2, u64 p3, u64 p4, u64 p5) {
     j0 += j1;
     j1 = p3;
     i2 = l39;
-    f37(self, j0, j1, i2);
+    f36(self, j0, j1, i2);
     j0 = l6;
     i0 = (u32)(j0);
     i0 = i32_load8_u(j0 + 33u);
@@ -94461,7 +95011,7 @@ static void f96(module *self, u64 p0, u64 p1, u64 p2, u64 p3, u64 p4, u64 p5) {
     j4 |= j5;
     j5 = l28;
     j6 = p4;
-    f88(self, j0, j1, j2, j3, j4, j5, j6); m = self->memory; if (NEVER(self->is_broken)) return;
+    f87(self, j0, j1, j2, j3, j4, j5, j6); m = self->memory; if (NEVER(self->is_broken)) return;
     goto B78;
     B90:;
     i0 = l40;
@@ -94484,7 +95034,7 @@ static void f96(module *self, u64 p0, u64 p1, u64 p2, u64 p3, u64 p4, u64 p5) {
     j1 = 152ull;
     j0 += j1;
     j1 = p3;
-    f54(self, j0, j1); m = self->memory; if (NEVER(self->is_broken)) return;
+    f53(self, j0, j1); m = self->memory; if (NEVER(self->is_broken)) return;
     j0 = l6;
     j1 = 88ull;
     j0 += j1;
@@ -94493,7 +95043,7 @@ static void f96(module *self, u64 p0, u64 p1, u64 p2, u64 p3, u64 p4, u64 p5) {
     j3 = l6;
     j4 = 152ull;
     j3 += j4;
-    f91(self, j0, j1, j2, j3); m = self->memory; if (NEVER(self->is_broken)) return;
+    f90(self, j0, j1, j2, j3); m = self->memory; if (NEVER(self->is_broken)) return;
     goto B78;
     B88:;
     j0 = l6;
@@ -94529,7 +95079,7 @@ static void f96(module *self, u64 p0, u64 p1, u64 p2, u64 p3, u64 p4, u64 p5) {
     j4 = l6;
     j5 = 48ull;
     j4 += j5;
-    f92(self, j0, j1, j2, j3, j4); m = self->memory; if (NEVER(self->is_broken)) return;
+    f91(self, j0, j1, j2, j3, j4); m = self->memory; if (NEVER(self->is_broken)) return;
     goto B78;
     B87:;
     j0 = p3;
@@ -94610,13 +95160,13 @@ static void f96(module *self, u64 p0, u64 p1, u64 p2, u64 p3, u64 p4, u64 p5) {
     i0 = (u32)(j0);
     j1 = 0ull;
     i1 = (u32)(j1);
-    i1 = i32_load8_u(j1 + 1049375u);
+    i1 = i32_load8_u(j1 + 1049439u);
     i32_store8(j0 + 2, i1);
     j0 = l27;
     i0 = (u32)(j0);
     j1 = 0ull;
     i1 = (u32)(j1);
-    i1 = i32_load16_u(j1 + 1049373u);
+    i1 = i32_load16_u(j1 + 1049437u);
     i32_store16(j0, i1);
     j0 = p2;
     j1 = 64ull;
@@ -94633,7 +95183,7 @@ static void f96(module *self, u64 p0, u64 p1, u64 p2, u64 p3, u64 p4, u64 p5) {
     j0 += j1;
     j1 = p3;
     i2 = l40;
-    f37(self, j0, j1, i2);
+    f36(self, j0, j1, i2);
     j0 = l6;
     i0 = (u32)(j0);
     i0 = i32_load8_u(j0 + 25u);
@@ -94815,7 +95365,7 @@ static void f96(module *self, u64 p0, u64 p1, u64 p2, u64 p3, u64 p4, u64 p5) {
     i4 = 255u;
     i3 &= i4;
     i2 |= i3;
-    f29(self, j0, j1, i2); if (NEVER(self->is_broken)) return;
+    f28(self, j0, j1, i2); if (NEVER(self->is_broken)) return;
     j0 = l6;
     i0 = (u32)(j0);
     i0 = i32_load8_u(j0 + 17u);
@@ -94834,7 +95384,7 @@ static void f96(module *self, u64 p0, u64 p1, u64 p2, u64 p3, u64 p4, u64 p5) {
     i0 = (u32)(j0);
     j0 = i64_load(j0);
     l31 = j0;
-    j0 = 1049376ull;
+    j0 = 1049440ull;
     l32 = j0;
     j0 = 13ull;
     l33 = j0;
@@ -94860,67 +95410,67 @@ static void f96(module *self, u64 p0, u64 p1, u64 p2, u64 p3, u64 p4, u64 p5) {
       default: goto B75;
     }
     B126:;
-    j0 = 1049389ull;
+    j0 = 1049453ull;
     l32 = j0;
     j0 = 15ull;
     l33 = j0;
     goto B75;
     B125:;
-    j0 = 1049404ull;
+    j0 = 1049468ull;
     l32 = j0;
     j0 = 9ull;
     l33 = j0;
     goto B75;
     B124:;
-    j0 = 1049413ull;
+    j0 = 1049477ull;
     l32 = j0;
     j0 = 14ull;
     l33 = j0;
     goto B75;
     B123:;
-    j0 = 1049427ull;
+    j0 = 1049491ull;
     l32 = j0;
     j0 = 10ull;
     l33 = j0;
     goto B75;
     B122:;
-    j0 = 1049437ull;
+    j0 = 1049501ull;
     l32 = j0;
     j0 = 12ull;
     l33 = j0;
     goto B75;
     B121:;
-    j0 = 1049449ull;
+    j0 = 1049513ull;
     l32 = j0;
     j0 = 10ull;
     l33 = j0;
     goto B75;
     B120:;
-    j0 = 1049459ull;
+    j0 = 1049523ull;
     l32 = j0;
     j0 = 10ull;
     l33 = j0;
     goto B75;
     B119:;
-    j0 = 1049469ull;
+    j0 = 1049533ull;
     l32 = j0;
     j0 = 12ull;
     l33 = j0;
     goto B75;
     B118:;
-    j0 = 1049481ull;
+    j0 = 1049545ull;
     l32 = j0;
     j0 = 15ull;
     l33 = j0;
     goto B75;
     B117:;
-    j0 = 1049496ull;
+    j0 = 1049560ull;
     l32 = j0;
     j0 = 12ull;
     l33 = j0;
     goto B75;
     B116:;
-    j0 = 1049518ull;
+    j0 = 1049582ull;
     l32 = j0;
     goto B75;
     B79:;
@@ -95067,13 +95617,13 @@ static void f96(module *self, u64 p0, u64 p1, u64 p2, u64 p3, u64 p4, u64 p5) {
     l40 = i0;
     goto B72;
     B77:;
-    j0 = 1049508ull;
+    j0 = 1049572ull;
     l32 = j0;
     j0 = 10ull;
     l33 = j0;
     goto B75;
     B76:;
-    j0 = 1049376ull;
+    j0 = 1049440ull;
     l32 = j0;
     j0 = 13ull;
     l33 = j0;
@@ -95481,7 +96031,7 @@ static void f96(module *self, u64 p0, u64 p1, u64 p2, u64 p3, u64 p4, u64 p5) {
     if (i0) {goto B151;}
     j0 = p1;
     j1 = 10ull;
-    i0 = f90(self, j0, j1); m = self->memory; if (NEVER(self->is_broken)) return;
+    i0 = f89(self, j0, j1); m = self->memory; if (NEVER(self->is_broken)) return;
     i0 = !(i0);
     if (i0) {goto B150;}
     j0 = p1;
@@ -95666,7 +96216,7 @@ static void f96(module *self, u64 p0, u64 p1, u64 p2, u64 p3, u64 p4, u64 p5) {
     if (i0) {goto B155;}
     j0 = p1;
     j1 = 11ull;
-    i0 = f90(self, j0, j1); m = self->memory; if (NEVER(self->is_broken)) return;
+    i0 = f89(self, j0, j1); m = self->memory; if (NEVER(self->is_broken)) return;
     i0 = !(i0);
     if (i0) {goto B154;}
     j0 = p1;
@@ -95867,7 +96417,7 @@ static void f96(module *self, u64 p0, u64 p1, u64 p2, u64 p3, u64 p4, u64 p5) {
     if (i0) {goto B159;}
     j0 = p1;
     j1 = 12ull;
-    i0 = f90(self, j0, j1); m = self->memory; if (NEVER(self->is_broken)) return;
+    i0 = f89(self, j0, j1); m = self->memory; if (NEVER(self->is_broken)) return;
     i0 = !(i0);
     if (i0) {goto B158;}
     j0 = p1;
@@ -96068,7 +96618,7 @@ static void f96(module *self, u64 p0, u64 p1, u64 p2, u64 p3, u64 p4, u64 p5) {
     if (i0) {goto B163;}
     j0 = p1;
     j1 = p4;
-    i0 = f90(self, j0, j1); m = self->memory; if (NEVER(self->is_broken)) return;
+    i0 = f89(self, j0, j1); m = self->memory; if (NEVER(self->is_broken)) return;
     i0 = !(i0);
     if (i0) {goto B162;}
     j0 = p1;
@@ -96346,7 +96896,7 @@ static void f96(module *self, u64 p0, u64 p1, u64 p2, u64 p3, u64 p4, u64 p5) {
     B171:;
     j0 = l7;
     j1 = l28;
-    f89(self, j0, j1); if (NEVER(self->is_broken)) return;
+    f88(self, j0, j1); if (NEVER(self->is_broken)) return;
     j0 = p2;
     j1 = 72ull;
     j0 += j1;
@@ -96410,7 +96960,7 @@ static void f96(module *self, u64 p0, u64 p1, u64 p2, u64 p3, u64 p4, u64 p5) {
   self->g0 = j0;
 }
 
-static void f97(module *self, u64 p0, u64 p1) {
+static void f96(module *self, u64 p0, u64 p1) {
   u32 l9 = 0, l10 = 0;
   u64 l2 = 0, l3 = 0, l4 = 0, l5 = 0, l6 = 0, l7 = 0, l8 = 0;
   u8 *m = self->memory;
@@ -96725,7 +97275,7 @@ static void f97(module *self, u64 p0, u64 p1) {
   Bfunc:;
 }
 
-static void f98(module *self, u64 p0, u64 p1) {
+static void f97(module *self, u64 p0, u64 p1) {
   u32 l2 = 0, l3 = 0, l4 = 0, l5 = 0;
   u8 *m = self->memory;
   u32 i0, i1, i2;
@@ -96764,7 +97314,7 @@ static void f98(module *self, u64 p0, u64 p1) {
   l2 = i0;
   B0:;
   j0 = p1;
-  j1 = 1049250ull;
+  j1 = 1049314ull;
   j0 -= j1;
   j1 = 4ull;
   i0 = j0 > j1;
@@ -96783,13 +97333,13 @@ static void f98(module *self, u64 p0, u64 p1) {
   i0 = (u32)(j0);
   j1 = 0ull;
   i1 = (u32)(j1);
-  i1 = i32_load8_u(j1 + 1049254u);
+  i1 = i32_load8_u(j1 + 1049318u);
   i32_store8(j0 + 4, i1);
   j0 = p1;
   i0 = (u32)(j0);
   j1 = 0ull;
   i1 = (u32)(j1);
-  i1 = i32_load(j1 + 1049250u);
+  i1 = i32_load(j1 + 1049314u);
   i32_store(j0, i1);
   B2:;
   j0 = p1;
@@ -96994,10 +97544,10 @@ static void f98(module *self, u64 p0, u64 p1) {
   j0 = p0;
   j1 = p1;
   j2 = 40ull;
-  f24(self, j0, j1, j2); if (NEVER(self->is_broken)) return;
+  f23(self, j0, j1, j2); if (NEVER(self->is_broken)) return;
 }
 
-static void f99(module *self, u64 p0, u64 p1, u64 p2) {
+static void f98(module *self, u64 p0, u64 p1, u64 p2) {
   u32 l16 = 0, l17 = 0, l18 = 0, l19 = 0, l20 = 0, l21 = 0, l22 = 0, l23 = 0, 
       l24 = 0, l25 = 0, l26 = 0, l27 = 0, l28 = 0, l29 = 0;
   u64 l3 = 0, l4 = 0, l5 = 0, l6 = 0, l7 = 0, l8 = 0, l9 = 0, l10 = 0, 
@@ -97071,7 +97621,7 @@ static void f99(module *self, u64 p0, u64 p1, u64 p2) {
   i2 = (u32)(j2);
   i2 = i32_load16_u(j2);
   l17 = i2;
-  f23(self, j0, i1, i2);
+  f22(self, j0, i1, i2);
   j0 = l3;
   i0 = (u32)(j0);
   i0 = i32_load8_u(j0 + 848u);
@@ -97932,7 +98482,7 @@ static void f99(module *self, u64 p0, u64 p1, u64 p2) {
     j0 = l3;
     j1 = 1744ull;
     j0 += j1;
-    i0 = f100(self, j0); m = self->memory; if (NEVER(self->is_broken)) return;
+    i0 = f99(self, j0); m = self->memory; if (NEVER(self->is_broken)) return;
     i0 = !(i0);
     if (i0) {goto B7;}
     j0 = l3;
@@ -98126,7 +98676,7 @@ static void f99(module *self, u64 p0, u64 p1, u64 p2) {
     j0 = l3;
     j1 = 1744ull;
     j0 += j1;
-    i0 = f101(self, j0); m = self->memory; if (NEVER(self->is_broken)) return;
+    i0 = f100(self, j0); m = self->memory; if (NEVER(self->is_broken)) return;
     i0 = !(i0);
     if (i0) {goto B14;}
     j0 = l3;
@@ -98147,13 +98697,13 @@ static void f99(module *self, u64 p0, u64 p1, u64 p2) {
     j0 = l3;
     i0 = (u32)(j0);
     j0 = i64_load(j0 + 1744u);
-    f162(self, j0);
+    f163(self, j0);
     B15:;
     j0 = l14;
     i0 = !(j0);
     if (i0) {goto B6;}
     j0 = l15;
-    f162(self, j0);
+    f163(self, j0);
     goto B6;
     B13:;
     j0 = l11;
@@ -98388,7 +98938,7 @@ static void f99(module *self, u64 p0, u64 p1, u64 p2) {
       j0 = l3;
       j1 = 1744ull;
       j0 += j1;
-      i0 = f101(self, j0); m = self->memory; if (NEVER(self->is_broken)) return;
+      i0 = f100(self, j0); m = self->memory; if (NEVER(self->is_broken)) return;
       i0 = !(i0);
       if (i0) {goto B17;}
       j0 = l3;
@@ -98523,7 +99073,7 @@ static void f99(module *self, u64 p0, u64 p1, u64 p2) {
       j0 = l3;
       j1 = 1744ull;
       j0 += j1;
-      i0 = f101(self, j0); m = self->memory; if (NEVER(self->is_broken)) return;
+      i0 = f100(self, j0); m = self->memory; if (NEVER(self->is_broken)) return;
       i0 = !(i0);
       if (i0) {goto B17;}
       j0 = l3;
@@ -98591,7 +99141,7 @@ static void f99(module *self, u64 p0, u64 p1, u64 p2) {
   j0 = l3;
   i0 = (u32)(j0);
   j0 = i64_load(j0 + 1744u);
-  f162(self, j0);
+  f163(self, j0);
   B25:;
   j0 = p0;
   j1 = 8ull;
@@ -98960,7 +99510,7 @@ static void f99(module *self, u64 p0, u64 p1, u64 p2) {
   j0 = l3;
   i0 = (u32)(j0);
   j0 = i64_load(j0 + 1744u);
-  f162(self, j0);
+  f163(self, j0);
   B6:;
   j0 = p0;
   j1 = 8ull;
@@ -98987,7 +99537,7 @@ static void f99(module *self, u64 p0, u64 p1, u64 p2) {
   self->g0 = j0;
 }
 
-static u32 f100(module *self, u64 p0) {
+static u32 f99(module *self, u64 p0) {
   u32 l6 = 0;
   u64 l1 = 0, l2 = 0, l3 = 0, l4 = 0, l5 = 0;
   u8 *m = self->memory;
@@ -99057,7 +99607,7 @@ static u32 f100(module *self, u64 p0) {
   j4 = 1ull;
   j3 <<= (j4 & 63);
   j4 = 1ull;
-  f161(self, j0, j1, j2, j3, j4); m = self->memory; if (NEVER(self->is_broken)) return ZAK_BROKEN;
+  f162(self, j0, j1, j2, j3, j4); m = self->memory; if (NEVER(self->is_broken)) return ZAK_BROKEN;
   j0 = l1;
   i0 = (u32)(j0);
   j0 = i64_load(j0 + 16u);
@@ -99077,7 +99627,7 @@ static u32 f100(module *self, u64 p0) {
   j2 = 1ull;
   j1 <<= (j2 & 63);
   j2 = 1ull;
-  f159(self, j0, j1, j2); m = self->memory; if (NEVER(self->is_broken)) return ZAK_BROKEN;
+  f160(self, j0, j1, j2); m = self->memory; if (NEVER(self->is_broken)) return ZAK_BROKEN;
   j0 = l1;
   i0 = (u32)(j0);
   j0 = i64_load(j0);
@@ -99112,7 +99662,7 @@ static u32 f100(module *self, u64 p0) {
   return i0;
 }
 
-static u32 f101(module *self, u64 p0) {
+static u32 f100(module *self, u64 p0) {
   u32 l6 = 0;
   u64 l1 = 0, l2 = 0, l3 = 0, l4 = 0, l5 = 0;
   u8 *m = self->memory;
@@ -99178,7 +99728,7 @@ static u32 f101(module *self, u64 p0) {
   j2 = l2;
   j3 = l3;
   j4 = 1ull;
-  f161(self, j0, j1, j2, j3, j4); m = self->memory; if (NEVER(self->is_broken)) return ZAK_BROKEN;
+  f162(self, j0, j1, j2, j3, j4); m = self->memory; if (NEVER(self->is_broken)) return ZAK_BROKEN;
   j0 = l1;
   i0 = (u32)(j0);
   j0 = i64_load(j0 + 16u);
@@ -99196,7 +99746,7 @@ static u32 f101(module *self, u64 p0) {
   j0 = l1;
   j1 = l5;
   j2 = 1ull;
-  f159(self, j0, j1, j2); m = self->memory; if (NEVER(self->is_broken)) return ZAK_BROKEN;
+  f160(self, j0, j1, j2); m = self->memory; if (NEVER(self->is_broken)) return ZAK_BROKEN;
   j0 = l1;
   i0 = (u32)(j0);
   j0 = i64_load(j0);
@@ -99231,7 +99781,7 @@ static u32 f101(module *self, u64 p0) {
   return i0;
 }
 
-static u32 f102(module *self, u64 p0, u64 p1, u64 p2, u64 p3, u64 p4) {
+static u32 f101(module *self, u64 p0, u64 p1, u64 p2, u64 p3, u64 p4) {
   u32 l11 = 0, l12 = 0, l13 = 0, l14 = 0;
   u64 l5 = 0, l6 = 0, l7 = 0, l8 = 0, l9 = 0, l10 = 0;
   u8 *m = self->memory;
@@ -99326,7 +99876,7 @@ static u32 f102(module *self, u64 p0, u64 p1, u64 p2, u64 p3, u64 p4) {
   j0 = p1;
   j1 = 2072ull;
   j0 += j1;
-  i0 = f22(self, j0);
+  i0 = f21(self, j0);
   i0 = !(i0);
   if (i0) {goto B2;}
   j0 = l5;
@@ -99361,7 +99911,7 @@ static u32 f102(module *self, u64 p0, u64 p1, u64 p2, u64 p3, u64 p4) {
   j3 = l5;
   j4 = 72ull;
   j3 += j4;
-  f93(self, j0, j1, j2, j3); m = self->memory; if (NEVER(self->is_broken)) return ZAK_BROKEN;
+  f92(self, j0, j1, j2, j3); m = self->memory; if (NEVER(self->is_broken)) return ZAK_BROKEN;
   j0 = l5;
   i0 = (u32)(j0);
   i0 = i32_load8_u(j0 + 8u);
@@ -99520,7 +100070,7 @@ static u32 f102(module *self, u64 p0, u64 p1, u64 p2, u64 p3, u64 p4) {
   i0 = !(j0);
   if (i0) {goto B2;}
   j0 = l8;
-  f162(self, j0);
+  f163(self, j0);
   goto B2;
   B4:;
   j0 = l5;
@@ -99537,7 +100087,7 @@ static u32 f102(module *self, u64 p0, u64 p1, u64 p2, u64 p3, u64 p4) {
   j0 = l5;
   i0 = (u32)(j0);
   j0 = i64_load(j0 + 32u);
-  f162(self, j0);
+  f163(self, j0);
   goto B2;
   B3:;
   i0 = 23u;
@@ -99550,7 +100100,7 @@ static u32 f102(module *self, u64 p0, u64 p1, u64 p2, u64 p3, u64 p4) {
   j0 = l5;
   i0 = (u32)(j0);
   j0 = i64_load(j0 + 32u);
-  f162(self, j0);
+  f163(self, j0);
   B2:;
   j0 = p0;
   i0 = (u32)(j0);
@@ -100297,7 +100847,7 @@ static u32 module_zak_assemble(module *self, u64 p0, u64 p1, u64 p2, u64 p3, u64
   j1 = 32ull;
   j0 += j1;
   j1 = 4ull;
-  i0 = f15(self, j0, j1); m = self->memory; if (NEVER(self->is_broken)) return ZAK_BROKEN;
+  i0 = f14(self, j0, j1); m = self->memory; if (NEVER(self->is_broken)) return ZAK_BROKEN;
   i0 = !(i0);
   if (i0) {goto B50;}
   j0 = l6;
@@ -100318,7 +100868,7 @@ static u32 module_zak_assemble(module *self, u64 p0, u64 p1, u64 p2, u64 p3, u64
   j1 = l13;
   j0 += j1;
   l13 = j0;
-  j1 = 1048768ull;
+  j1 = 1048832ull;
   j0 -= j1;
   j1 = 3ull;
   i0 = j0 > j1;
@@ -100346,7 +100896,7 @@ static u32 module_zak_assemble(module *self, u64 p0, u64 p1, u64 p2, u64 p3, u64
   j1 = 32ull;
   j0 += j1;
   j1 = 1ull;
-  i0 = f15(self, j0, j1); m = self->memory; if (NEVER(self->is_broken)) return ZAK_BROKEN;
+  i0 = f14(self, j0, j1); m = self->memory; if (NEVER(self->is_broken)) return ZAK_BROKEN;
   i0 = !(i0);
   if (i0) {goto B53;}
   j0 = l6;
@@ -100882,7 +101432,7 @@ static u32 module_zak_assemble(module *self, u64 p0, u64 p1, u64 p2, u64 p3, u64
       j1 = 32ull;
       j0 += j1;
       j1 = 1ull;
-      i0 = f15(self, j0, j1); m = self->memory; if (NEVER(self->is_broken)) return ZAK_BROKEN;
+      i0 = f14(self, j0, j1); m = self->memory; if (NEVER(self->is_broken)) return ZAK_BROKEN;
       i0 = !(i0);
       if (i0) {goto B82;}
       j0 = l6;
@@ -100928,7 +101478,7 @@ static u32 module_zak_assemble(module *self, u64 p0, u64 p1, u64 p2, u64 p3, u64
       j1 = 32ull;
       j0 += j1;
       j1 = 2ull;
-      i0 = f15(self, j0, j1); m = self->memory; if (NEVER(self->is_broken)) return ZAK_BROKEN;
+      i0 = f14(self, j0, j1); m = self->memory; if (NEVER(self->is_broken)) return ZAK_BROKEN;
       i0 = !(i0);
       if (i0) {goto B82;}
       j0 = l6;
@@ -101274,7 +101824,7 @@ static u32 module_zak_assemble(module *self, u64 p0, u64 p1, u64 p2, u64 p3, u64
           j1 = 32ull;
           j0 += j1;
           j1 = 1ull;
-          i0 = f15(self, j0, j1); m = self->memory; if (NEVER(self->is_broken)) return ZAK_BROKEN;
+          i0 = f14(self, j0, j1); m = self->memory; if (NEVER(self->is_broken)) return ZAK_BROKEN;
           i0 = !(i0);
           if (i0) {goto B82;}
           j0 = l6;
@@ -101348,7 +101898,7 @@ static u32 module_zak_assemble(module *self, u64 p0, u64 p1, u64 p2, u64 p3, u64
         j1 += j2;
         j2 = l12;
         j3 = l14;
-        f17(self, j0, j1, j2, j3); m = self->memory; if (NEVER(self->is_broken)) return ZAK_BROKEN;
+        f16(self, j0, j1, j2, j3); m = self->memory; if (NEVER(self->is_broken)) return ZAK_BROKEN;
         j0 = l6;
         i0 = (u32)(j0);
         i0 = i32_load8_u(j0 + 16u);
@@ -101404,7 +101954,7 @@ static u32 module_zak_assemble(module *self, u64 p0, u64 p1, u64 p2, u64 p3, u64
     j1 += j2;
     j2 = l11;
     j3 = p1;
-    f17(self, j0, j1, j2, j3); m = self->memory; if (NEVER(self->is_broken)) return ZAK_BROKEN;
+    f16(self, j0, j1, j2, j3); m = self->memory; if (NEVER(self->is_broken)) return ZAK_BROKEN;
     j0 = l6;
     i0 = (u32)(j0);
     i0 = i32_load8_u(j0);
@@ -101450,7 +102000,7 @@ static u32 module_zak_assemble(module *self, u64 p0, u64 p1, u64 p2, u64 p3, u64
   j0 = l6;
   i0 = (u32)(j0);
   j0 = i64_load(j0 + 32u);
-  f162(self, j0);
+  f163(self, j0);
   goto B41;
   B50:;
   i0 = 9u;
@@ -101463,7 +102013,7 @@ static u32 module_zak_assemble(module *self, u64 p0, u64 p1, u64 p2, u64 p3, u64
   j0 = l6;
   i0 = (u32)(j0);
   j0 = i64_load(j0 + 32u);
-  f162(self, j0);
+  f163(self, j0);
   goto B41;
   B49:;
   j0 = 0ull;
@@ -101537,7 +102087,7 @@ static u32 module_zak_assemble(module *self, u64 p0, u64 p1, u64 p2, u64 p3, u64
     j1 += j2;
     j2 = l11;
     j3 = p0;
-    f17(self, j0, j1, j2, j3); m = self->memory; if (NEVER(self->is_broken)) return ZAK_BROKEN;
+    f16(self, j0, j1, j2, j3); m = self->memory; if (NEVER(self->is_broken)) return ZAK_BROKEN;
     j0 = l6;
     i0 = (u32)(j0);
     i0 = i32_load8_u(j0);
@@ -101600,7 +102150,7 @@ static u32 module_zak_assemble(module *self, u64 p0, u64 p1, u64 p2, u64 p3, u64
   j0 = l6;
   i0 = (u32)(j0);
   j0 = i64_load(j0 + 32u);
-  f162(self, j0);
+  f163(self, j0);
   goto B41;
   B45:;
   j0 = l6;
@@ -101624,13 +102174,13 @@ static u32 module_zak_assemble(module *self, u64 p0, u64 p1, u64 p2, u64 p3, u64
   i0 = !(j0);
   if (i0) {goto B1;}
   j0 = l16;
-  f162(self, j0);
+  f163(self, j0);
   goto B1;
   B43:;
   j0 = l6;
   i0 = (u32)(j0);
   j0 = i64_load(j0 + 32u);
-  f162(self, j0);
+  f163(self, j0);
   j0 = l9;
   l12 = j0;
   goto B41;
@@ -101665,7 +102215,7 @@ static u32 module_zak_assemble(module *self, u64 p0, u64 p1, u64 p2, u64 p3, u64
   j1 = 32ull;
   j0 += j1;
   j1 = p0;
-  i0 = f15(self, j0, j1); m = self->memory; if (NEVER(self->is_broken)) return ZAK_BROKEN;
+  i0 = f14(self, j0, j1); m = self->memory; if (NEVER(self->is_broken)) return ZAK_BROKEN;
   i0 = !(i0);
   if (i0) {goto B113;}
   j0 = l6;
@@ -101826,7 +102376,7 @@ static u32 module_zak_assemble(module *self, u64 p0, u64 p1, u64 p2, u64 p3, u64
   j0 = l6;
   i0 = (u32)(j0);
   j0 = i64_load(j0 + 32u);
-  f162(self, j0);
+  f163(self, j0);
   B119:;
   j0 = 0ull;
   p1 = j0;
@@ -101839,7 +102389,7 @@ static u32 module_zak_assemble(module *self, u64 p0, u64 p1, u64 p2, u64 p3, u64
   i0 = !(j0);
   if (i0) {goto B120;}
   j0 = l16;
-  f162(self, j0);
+  f163(self, j0);
   B120:;
   i0 = l27;
   if (i0) {goto B40;}
@@ -102011,7 +102561,7 @@ static u32 module_zak_assemble(module *self, u64 p0, u64 p1, u64 p2, u64 p3, u64
   i0 = !(j0);
   if (i0) {goto B0;}
   j0 = l20;
-  f162(self, j0);
+  f163(self, j0);
   goto B0;
   B39:;
   j0 = p5;
@@ -102030,7 +102580,7 @@ static u32 module_zak_assemble(module *self, u64 p0, u64 p1, u64 p2, u64 p3, u64
   j0 = (u64)(s64)(s8)(u8)(j0);
   j1 = 2ull;
   j0 <<= (j1 & 63);
-  j1 = 1051908ull;
+  j1 = 1052028ull;
   j0 += j1;
   i0 = (u32)(j0);
   i0 = i32_load(j0);
@@ -102128,7 +102678,7 @@ static u32 module_zak_block(module *self, u64 p0, u64 p1, u64 p2) {
   j2 = i64_load16_u(j2);
   p1 = j2;
   j1 |= j2;
-  f21(self, j0, j1);
+  f20(self, j0, j1);
   j0 = l3;
   i0 = (u32)(j0);
   i0 = i32_load8_u(j0);
@@ -102857,24 +103407,24 @@ static u32 module_zak_close(module *self, u64 p0) {
   j0 = i64_load(j0 + 16u);
   l12 = j0;
   j0 = l4;
-  f162(self, j0);
+  f163(self, j0);
   j0 = l12;
   i0 = !(j0);
   if (i0) {goto B2;}
   j0 = l11;
-  f162(self, j0);
+  f163(self, j0);
   B2:;
   j0 = l9;
   i0 = !(j0);
   if (i0) {goto B3;}
   j0 = l10;
-  f162(self, j0);
+  f163(self, j0);
   B3:;
   j0 = l7;
   i0 = !(j0);
   if (i0) {goto B4;}
   j0 = l8;
-  f162(self, j0);
+  f163(self, j0);
   B4:;
   i0 = l3;
   i1 = 255u;
@@ -102890,12 +103440,12 @@ static u32 module_zak_close(module *self, u64 p0) {
   j0 = i64_load(j0 + 16u);
   l4 = j0;
   j0 = l6;
-  f162(self, j0);
+  f163(self, j0);
   j0 = l4;
   i0 = !(j0);
   if (i0) {goto B5;}
   j0 = l7;
-  f162(self, j0);
+  f163(self, j0);
   B5:;
   i0 = l1;
   i1 = 255u;
@@ -102911,12 +103461,12 @@ static u32 module_zak_close(module *self, u64 p0) {
   j0 = i64_load(j0 + 16u);
   l4 = j0;
   j0 = l5;
-  f162(self, j0);
+  f163(self, j0);
   j0 = l4;
   i0 = !(j0);
   if (i0) {goto B6;}
   j0 = l6;
-  f162(self, j0);
+  f163(self, j0);
   B6:;
   i0 = 0u;
   l1 = i0;
@@ -102934,12 +103484,12 @@ static u32 module_zak_close(module *self, u64 p0) {
   j0 = i64_load(j0 + 16u);
   l4 = j0;
   j0 = p0;
-  f162(self, j0);
+  f163(self, j0);
   j0 = l4;
   i0 = !(j0);
   if (i0) {goto B0;}
   j0 = l5;
-  f162(self, j0);
+  f163(self, j0);
   B0:;
   i0 = l1;
   return i0;
@@ -102991,7 +103541,7 @@ static u32 module_zak_cycles(module *self, u64 p0, u64 p1, u64 p2, u64 p3, u64 p
   j0 = l8;
   j1 = 2072ull;
   j0 += j1;
-  i0 = f22(self, j0);
+  i0 = f21(self, j0);
   if (i0) {goto B3;}
   i0 = 27u;
   l23 = i0;
@@ -103225,7 +103775,7 @@ static u32 module_zak_cycles(module *self, u64 p0, u64 p1, u64 p2, u64 p3, u64 p
   j0 += j1;
   j1 = p1;
   j2 = 1ull;
-  f159(self, j0, j1, j2); m = self->memory; if (NEVER(self->is_broken)) return ZAK_BROKEN;
+  f160(self, j0, j1, j2); m = self->memory; if (NEVER(self->is_broken)) return ZAK_BROKEN;
   j0 = l7;
   i0 = (u32)(j0);
   j0 = i64_load(j0 + 32u);
@@ -103253,7 +103803,7 @@ static u32 module_zak_cycles(module *self, u64 p0, u64 p1, u64 p2, u64 p3, u64 p
   j0 += j1;
   j1 = 265046ull;
   j2 = 1ull;
-  f159(self, j0, j1, j2); m = self->memory; if (NEVER(self->is_broken)) return ZAK_BROKEN;
+  f160(self, j0, j1, j2); m = self->memory; if (NEVER(self->is_broken)) return ZAK_BROKEN;
   j0 = l7;
   i0 = (u32)(j0);
   j0 = i64_load(j0 + 16u);
@@ -103296,11 +103846,11 @@ static u32 module_zak_cycles(module *self, u64 p0, u64 p1, u64 p2, u64 p3, u64 p
   j0 = l8;
   j1 = l10;
   j2 = 0ull;
-  f24(self, j0, j1, j2); if (NEVER(self->is_broken)) return ZAK_BROKEN;
+  f23(self, j0, j1, j2); if (NEVER(self->is_broken)) return ZAK_BROKEN;
   j0 = l7;
   j1 = 6208ull;
   j0 += j1;
-  f25(self, j0); m = self->memory; if (NEVER(self->is_broken)) return ZAK_BROKEN;
+  f24(self, j0); m = self->memory; if (NEVER(self->is_broken)) return ZAK_BROKEN;
   j0 = l7;
   i0 = (u32)(j0);
   i0 = i32_load8_u(j0 + 6208u);
@@ -103337,7 +103887,7 @@ static u32 module_zak_cycles(module *self, u64 p0, u64 p1, u64 p2, u64 p3, u64 p
   j0 += j1;
   j1 = l10;
   j2 = p1;
-  f27(self, j0, j1, j2); m = self->memory; if (NEVER(self->is_broken)) return ZAK_BROKEN;
+  f26(self, j0, j1, j2); m = self->memory; if (NEVER(self->is_broken)) return ZAK_BROKEN;
   j0 = l7;
   i0 = (u32)(j0);
   j1 = l7;
@@ -103438,7 +103988,7 @@ static u32 module_zak_cycles(module *self, u64 p0, u64 p1, u64 p2, u64 p3, u64 p
   i0 = l23;
   if (i0) {goto B16;}
   j0 = l10;
-  f162(self, j0);
+  f163(self, j0);
   B16:;
   j0 = p5;
   j1 = 16777216ull;
@@ -103549,7 +104099,7 @@ static u32 module_zak_cycles(module *self, u64 p0, u64 p1, u64 p2, u64 p3, u64 p
   i0 = l23;
   if (i0) {goto B6;}
   j0 = l10;
-  f162(self, j0);
+  f163(self, j0);
   i0 = 23u;
   l23 = i0;
   goto B2;
@@ -103557,7 +104107,7 @@ static u32 module_zak_cycles(module *self, u64 p0, u64 p1, u64 p2, u64 p3, u64 p
   j0 = l7;
   j1 = p1;
   j2 = 1ull;
-  f159(self, j0, j1, j2); m = self->memory; if (NEVER(self->is_broken)) return ZAK_BROKEN;
+  f160(self, j0, j1, j2); m = self->memory; if (NEVER(self->is_broken)) return ZAK_BROKEN;
   j0 = l7;
   i0 = (u32)(j0);
   j0 = i64_load(j0);
@@ -103584,19 +104134,19 @@ static u32 module_zak_cycles(module *self, u64 p0, u64 p1, u64 p2, u64 p3, u64 p
   i0 = !(j0);
   if (i0) {goto B19;}
   j0 = l13;
-  f162(self, j0);
+  f163(self, j0);
   B19:;
   j0 = l19;
   i0 = !(j0);
   if (i0) {goto B20;}
   j0 = l21;
-  f162(self, j0);
+  f163(self, j0);
   B20:;
   j0 = l15;
   i0 = !(j0);
   if (i0) {goto B6;}
   j0 = l17;
-  f162(self, j0);
+  f163(self, j0);
   i0 = 23u;
   l23 = i0;
   goto B2;
@@ -103907,7 +104457,7 @@ static u32 module_zak_cycles(module *self, u64 p0, u64 p1, u64 p2, u64 p3, u64 p
   j6 = i8 ? j6 : j7;
   j5 += j6;
   j6 = p3;
-  f28(self, j0, j1, j2, j3, j4, j5, j6); m = self->memory; if (NEVER(self->is_broken)) return ZAK_BROKEN;
+  f27(self, j0, j1, j2, j3, j4, j5, j6); m = self->memory; if (NEVER(self->is_broken)) return ZAK_BROKEN;
   j0 = l7;
   i0 = (u32)(j0);
   i0 = i32_load8_u(j0 + 48u);
@@ -103955,25 +104505,25 @@ static u32 module_zak_cycles(module *self, u64 p0, u64 p1, u64 p2, u64 p3, u64 p
   i0 = !(j0);
   if (i0) {goto B23;}
   j0 = l10;
-  f162(self, j0);
+  f163(self, j0);
   B23:;
   j0 = l15;
   i0 = !(j0);
   if (i0) {goto B24;}
   j0 = l17;
-  f162(self, j0);
+  f163(self, j0);
   B24:;
   j0 = l11;
   i0 = !(j0);
   if (i0) {goto B25;}
   j0 = l13;
-  f162(self, j0);
+  f163(self, j0);
   B25:;
   j0 = p3;
   i0 = !(j0);
   if (i0) {goto B5;}
   j0 = l19;
-  f162(self, j0);
+  f163(self, j0);
   goto B5;
   B22:;
   j0 = l7;
@@ -103984,19 +104534,19 @@ static u32 module_zak_cycles(module *self, u64 p0, u64 p1, u64 p2, u64 p3, u64 p
   i0 = !(j0);
   if (i0) {goto B26;}
   j0 = l17;
-  f162(self, j0);
+  f163(self, j0);
   B26:;
   j0 = l11;
   i0 = !(j0);
   if (i0) {goto B27;}
   j0 = l13;
-  f162(self, j0);
+  f163(self, j0);
   B27:;
   j0 = p3;
   i0 = !(j0);
   if (i0) {goto B28;}
   j0 = l19;
-  f162(self, j0);
+  f163(self, j0);
   B28:;
   j0 = p1;
   p3 = j0;
@@ -104034,19 +104584,19 @@ static u32 module_zak_cycles(module *self, u64 p0, u64 p1, u64 p2, u64 p3, u64 p
   j0 = l7;
   i0 = (u32)(j0);
   j0 = i64_load(j0 + 2112u);
-  f162(self, j0);
+  f163(self, j0);
   B30:;
   j0 = p5;
   i0 = !(j0);
   if (i0) {goto B31;}
   j0 = p3;
-  f162(self, j0);
+  f163(self, j0);
   B31:;
   j0 = p1;
   i0 = !(j0);
   if (i0) {goto B32;}
   j0 = p2;
-  f162(self, j0);
+  f163(self, j0);
   B32:;
   j0 = l7;
   i0 = (u32)(j0);
@@ -104056,7 +104606,7 @@ static u32 module_zak_cycles(module *self, u64 p0, u64 p1, u64 p2, u64 p3, u64 p
   j0 = l7;
   i0 = (u32)(j0);
   j0 = i64_load(j0 + 4184u);
-  f162(self, j0);
+  f163(self, j0);
   B33:;
   i0 = l23;
   i1 = 1u;
@@ -104088,19 +104638,19 @@ static u32 module_zak_cycles(module *self, u64 p0, u64 p1, u64 p2, u64 p3, u64 p
   j0 = l7;
   i0 = (u32)(j0);
   j0 = i64_load(j0 + 2112u);
-  f162(self, j0);
+  f163(self, j0);
   B34:;
   j0 = p5;
   i0 = !(j0);
   if (i0) {goto B35;}
   j0 = p3;
-  f162(self, j0);
+  f163(self, j0);
   B35:;
   j0 = p1;
   i0 = !(j0);
   if (i0) {goto B36;}
   j0 = p2;
-  f162(self, j0);
+  f163(self, j0);
   B36:;
   j0 = l7;
   i0 = (u32)(j0);
@@ -104110,7 +104660,7 @@ static u32 module_zak_cycles(module *self, u64 p0, u64 p1, u64 p2, u64 p3, u64 p
   j0 = l7;
   i0 = (u32)(j0);
   j0 = i64_load(j0 + 4184u);
-  f162(self, j0);
+  f163(self, j0);
   B6:;
   i0 = 23u;
   l23 = i0;
@@ -104151,12 +104701,12 @@ static u32 module_zak_cycles(module *self, u64 p0, u64 p1, u64 p2, u64 p3, u64 p
   j0 = i64_load(j0 + 16u);
   l15 = j0;
   j0 = l11;
-  f162(self, j0);
+  f163(self, j0);
   j0 = l15;
   i0 = !(j0);
   if (i0) {goto B37;}
   j0 = l19;
-  f162(self, j0);
+  f163(self, j0);
   B37:;
   j0 = p1;
   j1 = 16777216ull;
@@ -104317,7 +104867,7 @@ static u32 module_zak_cycles(module *self, u64 p0, u64 p1, u64 p2, u64 p3, u64 p
   i0 = !(j0);
   if (i0) {goto B2;}
   j0 = l10;
-  f162(self, j0);
+  f163(self, j0);
   B2:;
   j0 = p0;
   i0 = (u32)(j0);
@@ -104537,7 +105087,7 @@ static u32 module_zak_fill_bytes(module *self, u64 p0, u32 p1, u32 p2, u64 p3, u
     i1 = (u32)(j1);
     i1 = i32_load8_u(j1);
     i2 = p2;
-    i0 = f49(self, j0, i1, i2);
+    i0 = f48(self, j0, i1, i2);
     l13 = i0;
     j0 = l16;
     j1 = 68ull;
@@ -104614,7 +105164,7 @@ static u32 module_zak_fill_bytes(module *self, u64 p0, u32 p1, u32 p2, u64 p3, u
     j2 = (u64)(i2);
     j3 = 60ull;
     j2 &= j3;
-    j3 = 1048844ull;
+    j3 = 1048908ull;
     j2 += j3;
     i2 = (u32)(j2);
     i2 = i32_load(j2);
@@ -104640,7 +105190,7 @@ static u32 module_zak_fill_bytes(module *self, u64 p0, u32 p1, u32 p2, u64 p3, u
   i2 = l7;
   i3 = p2;
   i4 = p2;
-  f53(self, j0, i1, i2, i3, i4);
+  f52(self, j0, i1, i2, i3, i4);
   B2:;
   j0 = p0;
   i0 = (u32)(j0);
@@ -104722,7 +105272,7 @@ static u32 module_zak_frame(module *self, u64 p0, u64 p1, u64 p2, u64 p3) {
   i64_store(j0, j1);
   j0 = l4;
   j1 = l5;
-  f54(self, j0, j1); m = self->memory; if (NEVER(self->is_broken)) return ZAK_BROKEN;
+  f53(self, j0, j1); m = self->memory; if (NEVER(self->is_broken)) return ZAK_BROKEN;
   j0 = l4;
   i0 = (u32)(j0);
   i0 = i32_load8_u(j0);
@@ -104907,6 +105457,360 @@ static u32 module_zak_frame(module *self, u64 p0, u64 p1, u64 p2, u64 p3) {
   j0 += j1;
   self->g0 = j0;
   i0 = l12;
+  return i0;
+}
+
+static u32 module_zak_frame_indexed(module *self, u64 p0, u64 p1, u64 p2, u64 p3, u64 p4) {
+  u32 l14 = 0, l15 = 0, l16 = 0;
+  u64 l5 = 0, l6 = 0, l7 = 0, l8 = 0, l9 = 0, l10 = 0, l11 = 0, l12 = 0, 
+      l13 = 0;
+  u8 *m = self->memory;
+  u32 i0, i1, i2, i3, i4;
+  u64 j0, j1, j2, j3, j4;
+  j0 = self->g0;
+  j1 = 1088ull;
+  j0 -= j1;
+  l5 = j0;
+  self->g0 = j0;
+  i0 = 20u;
+  l14 = i0;
+  j0 = p0;
+  i0 = (u32)(j0);
+  i0 = i32_load8_u(j0);
+  i1 = 1u;
+  i0 = i0 != i1;
+  if (i0) {goto B0;}
+  j0 = p0;
+  j1 = 4ull;
+  j0 += j1;
+  i0 = (u32)(j0);
+  i0 = i32_load(j0);
+  i0 = !(i0);
+  if (i0) {goto B1;}
+  j0 = p0;
+  f1(self, j0); m = self->memory; if (NEVER(self->is_broken)) return ZAK_BROKEN;
+  B1:;
+  j0 = p0;
+  i0 = (u32)(j0);
+  j1 = 0ull;
+  i64_store(j0, j1);
+  j0 = p0;
+  i0 = (u32)(j0);
+  j0 = i64_load(j0 + 8u);
+  l6 = j0;
+  j0 = p0;
+  i0 = (u32)(j0);
+  j1 = 0ull;
+  i64_store(j0 + 8, j1);
+  j0 = l5;
+  j1 = 8ull;
+  j0 += j1;
+  j1 = 262144ull;
+  j2 = 1ull;
+  f160(self, j0, j1, j2); m = self->memory; if (NEVER(self->is_broken)) return ZAK_BROKEN;
+  i0 = 23u;
+  l14 = i0;
+  j0 = l5;
+  i0 = (u32)(j0);
+  j0 = i64_load(j0 + 8u);
+  i0 = (u32)(j0);
+  i1 = 1u;
+  i0 &= i1;
+  i0 = !(i0);
+  if (i0) {goto B2;}
+  j0 = l5;
+  i0 = (u32)(j0);
+  j0 = i64_load(j0 + 16u);
+  l7 = j0;
+  i0 = (u32)(j0);
+  i1 = 0u;
+  j2 = 262144ull;
+  i2 = (u32)(j2);
+  memory_fill(j0, i1, j2);
+  j0 = l5;
+  i0 = (u32)(j0);
+  j1 = 0ull;
+  i64_store(j0 + 48, j1);
+  j0 = l5;
+  i0 = (u32)(j0);
+  j1 = 0ull;
+  i64_store(j0 + 40, j1);
+  j0 = l5;
+  i0 = (u32)(j0);
+  j1 = 0ull;
+  i64_store(j0 + 32, j1);
+  j0 = l5;
+  i0 = (u32)(j0);
+  j1 = 0ull;
+  i64_store(j0 + 24, j1);
+  j0 = l5;
+  j1 = 24ull;
+  j0 += j1;
+  j1 = l6;
+  f53(self, j0, j1); m = self->memory; if (NEVER(self->is_broken)) return ZAK_BROKEN;
+  j0 = l5;
+  i0 = (u32)(j0);
+  i0 = i32_load8_u(j0 + 24u);
+  i0 = !(i0);
+  if (i0) {goto B4;}
+  i0 = 24u;
+  l14 = i0;
+  goto B3;
+  B4:;
+  j0 = l5;
+  i0 = (u32)(j0);
+  j0 = i64_load(j0 + 40u);
+  l8 = j0;
+  j0 = p1;
+  i0 = (u32)(j0);
+  j1 = l5;
+  i1 = (u32)(j1);
+  i1 = i32_load(j1 + 32u);
+  l14 = i1;
+  i32_store(j0 + 4, i1);
+  j0 = p1;
+  i0 = (u32)(j0);
+  j1 = l5;
+  i1 = (u32)(j1);
+  i1 = i32_load(j1 + 28u);
+  l15 = i1;
+  i32_store(j0, i1);
+  j0 = p4;
+  i1 = l15;
+  j1 = (u64)(i1);
+  i2 = l14;
+  j2 = (u64)(i2);
+  j1 *= j2;
+  l9 = j1;
+  i0 = j0 >= j1;
+  if (i0) {goto B5;}
+  i0 = 25u;
+  l14 = i0;
+  goto B3;
+  B5:;
+  i0 = 0u;
+  l15 = i0;
+  j0 = l5;
+  j1 = 60ull;
+  j0 += j1;
+  i0 = (u32)(j0);
+  i1 = 0u;
+  j2 = 1028ull;
+  i2 = (u32)(j2);
+  memory_fill(j0, i1, j2);
+  j0 = l9;
+  i0 = !(j0);
+  if (i0) {goto B6;}
+  j0 = p3;
+  j1 = 4096ull;
+  j2 = 0ull;
+  j3 = p3;
+  i3 = !(j3);
+  j1 = i3 ? j1 : j2;
+  j0 += j1;
+  l10 = j0;
+  j0 = l5;
+  j1 = 64ull;
+  j0 += j1;
+  l11 = j0;
+  j0 = 0ull;
+  l12 = j0;
+  L7: 
+    i0 = l15;
+    j1 = l7;
+    j2 = l8;
+    j3 = l12;
+    j4 = 3ull;
+    j3 *= j4;
+    j2 += j3;
+    p1 = j2;
+    i2 = (u32)(j2);
+    i2 = i32_load8_u(j2);
+    i3 = 16u;
+    i2 <<= (i3 & 31);
+    j3 = p1;
+    j4 = 2ull;
+    j3 += j4;
+    i3 = (u32)(j3);
+    i3 = i32_load8_u(j3);
+    i2 |= i3;
+    j3 = p1;
+    j4 = 1ull;
+    j3 += j4;
+    i3 = (u32)(j3);
+    i3 = i32_load8_u(j3);
+    i4 = 8u;
+    i3 <<= (i4 & 31);
+    i2 |= i3;
+    l14 = i2;
+    i3 = 4u;
+    i2 >>= (i3 & 31);
+    i3 = 986895u;
+    i2 &= i3;
+    i3 = l14;
+    i4 = 2u;
+    i3 <<= (i4 & 31);
+    i2 += i3;
+    l14 = i2;
+    i3 = 6u;
+    i2 >>= (i3 & 31);
+    i3 = 258048u;
+    i2 &= i3;
+    i3 = l14;
+    i4 = 4u;
+    i3 >>= (i4 & 31);
+    i4 = 4032u;
+    i3 &= i4;
+    i2 |= i3;
+    i3 = l14;
+    i4 = 2u;
+    i3 >>= (i4 & 31);
+    i4 = 63u;
+    i3 &= i4;
+    i2 |= i3;
+    j2 = (u64)(i2);
+    j1 += j2;
+    l13 = j1;
+    i1 = (u32)(j1);
+    i1 = i32_load8_u(j1);
+    l16 = i1;
+    i0 = i0 <= i1;
+    if (i0) {goto B13;}
+    j0 = l11;
+    i1 = l16;
+    j1 = (u64)(i1);
+    j2 = 2ull;
+    j1 <<= (j2 & 63);
+    j0 += j1;
+    i0 = (u32)(j0);
+    i0 = i32_load(j0);
+    i1 = l14;
+    i0 = i0 == i1;
+    if (i0) {goto B8;}
+    goto B12;
+    B13:;
+    i0 = l15;
+    if (i0) {goto B12;}
+    j0 = 0ull;
+    p3 = j0;
+    goto B11;
+    B12:;
+    i0 = l15;
+    j0 = (u64)(i0);
+    p3 = j0;
+    j0 = 0ull;
+    p4 = j0;
+    j0 = l11;
+    p1 = j0;
+    L14: 
+      j0 = p1;
+      i0 = (u32)(j0);
+      i0 = i32_load(j0);
+      i1 = l14;
+      i0 = i0 == i1;
+      if (i0) {goto B10;}
+      j0 = p1;
+      j1 = 4ull;
+      j0 += j1;
+      p1 = j0;
+      j0 = p3;
+      j1 = p4;
+      j2 = 1ull;
+      j1 += j2;
+      p4 = j1;
+      i0 = j0 != j1;
+      if (i0) {goto L14;}
+    i0 = l15;
+    i1 = 256u;
+    i0 = i0 != i1;
+    if (i0) {goto B11;}
+    i0 = 35u;
+    l14 = i0;
+    goto B3;
+    B11:;
+    j0 = l11;
+    j1 = p3;
+    j2 = 2ull;
+    j1 <<= (j2 & 63);
+    j0 += j1;
+    i0 = (u32)(j0);
+    i1 = l14;
+    i32_store(j0, i1);
+    i0 = l15;
+    i1 = 1u;
+    i0 += i1;
+    l14 = i0;
+    goto B9;
+    B10:;
+    i0 = l15;
+    l14 = i0;
+    j0 = p4;
+    i0 = (u32)(j0);
+    l15 = i0;
+    B9:;
+    j0 = l13;
+    i0 = (u32)(j0);
+    i1 = l15;
+    l16 = i1;
+    i32_store8(j0, i1);
+    i0 = l14;
+    l15 = i0;
+    B8:;
+    j0 = l10;
+    j1 = l12;
+    j0 += j1;
+    i0 = (u32)(j0);
+    i1 = l16;
+    i32_store8(j0, i1);
+    j0 = l12;
+    j1 = 1ull;
+    j0 += j1;
+    l12 = j0;
+    j1 = l9;
+    i0 = j0 != j1;
+    if (i0) {goto L7;}
+  j0 = l5;
+  i0 = (u32)(j0);
+  i1 = l15;
+  i32_store(j0 + 60, i1);
+  B6:;
+  j0 = p2;
+  i0 = (u32)(j0);
+  j1 = l5;
+  j2 = 60ull;
+  j1 += j2;
+  i1 = (u32)(j1);
+  j2 = 1028ull;
+  i2 = (u32)(j2);
+  memory_copy(j0, j1, j2);
+  i0 = 0u;
+  l14 = i0;
+  B3:;
+  j0 = l7;
+  f163(self, j0);
+  B2:;
+  j0 = p0;
+  i0 = (u32)(j0);
+  i1 = 0u;
+  i32_store(j0 + 1, i1);
+  j0 = p0;
+  i0 = (u32)(j0);
+  i1 = 1u;
+  i32_store8(j0, i1);
+  j0 = p0;
+  i0 = (u32)(j0);
+  i1 = 0u;
+  i32_store(j0 + 4, i1);
+  j0 = p0;
+  i0 = (u32)(j0);
+  j1 = l6;
+  i64_store(j0 + 8, j1);
+  B0:;
+  j0 = l5;
+  j1 = 1088ull;
+  j0 += j1;
+  self->g0 = j0;
+  i0 = l14;
   return i0;
 }
 
@@ -105371,6 +106275,687 @@ static u32 module_zak_frame_lines(module *self, u64 p0, u64 p1, u64 p2, u64 p3, 
   return i0;
 }
 
+static u32 module_zak_frame_update(module *self, u64 p0, u32 p1, u64 p2, u64 p3, u64 p4, u64 p5, u64 p6) {
+  u32 l20 = 0, l21 = 0, l22 = 0, l23 = 0, l24 = 0, l25 = 0, l26 = 0, l27 = 0, 
+      l28 = 0, l29 = 0;
+  u64 l7 = 0, l8 = 0, l9 = 0, l10 = 0, l11 = 0, l12 = 0, l13 = 0, l14 = 0, 
+      l15 = 0, l16 = 0, l17 = 0, l18 = 0, l19 = 0;
+  u8 *m = self->memory;
+  u32 i0, i1, i2, i3, i4;
+  u64 j0, j1, j2, j3, j4;
+  j0 = self->g0;
+  j1 = 48ull;
+  j0 -= j1;
+  l7 = j0;
+  self->g0 = j0;
+  i0 = 20u;
+  l20 = i0;
+  j0 = p0;
+  i0 = (u32)(j0);
+  i0 = i32_load8_u(j0);
+  i1 = 1u;
+  i0 = i0 != i1;
+  if (i0) {goto B0;}
+  j0 = p0;
+  j1 = 4ull;
+  j0 += j1;
+  i0 = (u32)(j0);
+  i0 = i32_load(j0);
+  i0 = !(i0);
+  if (i0) {goto B1;}
+  j0 = p0;
+  f1(self, j0); m = self->memory; if (NEVER(self->is_broken)) return ZAK_BROKEN;
+  B1:;
+  j0 = p0;
+  i0 = (u32)(j0);
+  j1 = 0ull;
+  i64_store(j0, j1);
+  j0 = p0;
+  i0 = (u32)(j0);
+  j0 = i64_load(j0 + 8u);
+  l8 = j0;
+  j0 = p0;
+  i0 = (u32)(j0);
+  j1 = 0ull;
+  i64_store(j0 + 8, j1);
+  i0 = 26u;
+  l20 = i0;
+  i0 = p1;
+  i1 = 3u;
+  i0 = i0 > i1;
+  if (i0) {goto B2;}
+  i0 = 1u;
+  l21 = i0;
+  j0 = l8;
+  j1 = 53ull;
+  j0 += j1;
+  i0 = (u32)(j0);
+  i0 = i32_load8_u(j0);
+  i1 = 1u;
+  i0 &= i1;
+  if (i0) {goto B4;}
+  j0 = l8;
+  j1 = 114ull;
+  j0 += j1;
+  i0 = (u32)(j0);
+  i0 = i32_load8_u(j0);
+  l22 = i0;
+  i0 = 1u;
+  l23 = i0;
+  goto B3;
+  B4:;
+  j0 = l8;
+  j1 = 52ull;
+  j0 += j1;
+  i0 = (u32)(j0);
+  i0 = i32_load8_u(j0);
+  i1 = 64u;
+  i0 &= i1;
+  if (i0) {goto B5;}
+  i0 = 1u;
+  l23 = i0;
+  j0 = l8;
+  j1 = 114ull;
+  j0 += j1;
+  i0 = (u32)(j0);
+  i0 = i32_load8_u(j0);
+  l22 = i0;
+  i1 = 31u;
+  i0 &= i1;
+  i1 = 1u;
+  i0 += i1;
+  l21 = i0;
+  goto B3;
+  B5:;
+  i0 = 2u;
+  i1 = 1u;
+  j2 = l8;
+  j3 = 34ull;
+  j2 += j3;
+  i2 = (u32)(j2);
+  i2 = i32_load8_u(j2);
+  i3 = 1u;
+  i2 &= i3;
+  i0 = i2 ? i0 : i1;
+  l23 = i0;
+  j0 = l8;
+  j1 = 114ull;
+  j0 += j1;
+  i0 = (u32)(j0);
+  i0 = i32_load8_u(j0);
+  l22 = i0;
+  i1 = 31u;
+  i0 &= i1;
+  i1 = 1u;
+  i0 += i1;
+  l21 = i0;
+  B3:;
+  j0 = l7;
+  i0 = (u32)(j0);
+  j1 = 0ull;
+  i64_store(j0 + 40, j1);
+  j0 = l7;
+  i0 = (u32)(j0);
+  j1 = 0ull;
+  i64_store(j0 + 32, j1);
+  j0 = l7;
+  i0 = (u32)(j0);
+  j1 = 0ull;
+  i64_store(j0 + 24, j1);
+  j0 = l7;
+  i0 = (u32)(j0);
+  j1 = 0ull;
+  i64_store(j0 + 16, j1);
+  j0 = l7;
+  j1 = 16ull;
+  j0 += j1;
+  j1 = l8;
+  f53(self, j0, j1); m = self->memory; if (NEVER(self->is_broken)) return ZAK_BROKEN;
+  i0 = 24u;
+  l20 = i0;
+  j0 = l7;
+  i0 = (u32)(j0);
+  i0 = i32_load8_u(j0 + 16u);
+  if (i0) {goto B2;}
+  j0 = l7;
+  i0 = (u32)(j0);
+  j0 = i64_load(j0 + 32u);
+  l9 = j0;
+  j0 = l7;
+  i0 = (u32)(j0);
+  i0 = i32_load(j0 + 20u);
+  l24 = i0;
+  j0 = p2;
+  i0 = (u32)(j0);
+  i1 = 1u;
+  i2 = l21;
+  i3 = l22;
+  i4 = 128u;
+  i3 &= i4;
+  i4 = 7u;
+  i3 >>= (i4 & 31);
+  i2 <<= (i3 & 31);
+  i3 = p1;
+  i4 = 2u;
+  i3 = i3 < i4;
+  l20 = i3;
+  i1 = i3 ? i1 : i2;
+  l22 = i1;
+  i32_store(j0 + 12, i1);
+  j0 = p2;
+  i0 = (u32)(j0);
+  i1 = 1u;
+  i2 = l23;
+  i3 = l20;
+  i1 = i3 ? i1 : i2;
+  l23 = i1;
+  i32_store(j0 + 8, i1);
+  j0 = p2;
+  i0 = (u32)(j0);
+  i1 = l22;
+  j2 = l7;
+  i2 = (u32)(j2);
+  i2 = i32_load(j2 + 24u);
+  i1 += i2;
+  i2 = 4294967295u;
+  i1 += i2;
+  l25 = i1;
+  i2 = l22;
+  if (i2 == 0) { self->is_broken = true; return ZAK_BROKEN; } i1 = i1 / i2;
+  l26 = i1;
+  i32_store(j0 + 4, i1);
+  j0 = p2;
+  i0 = (u32)(j0);
+  i1 = l23;
+  i2 = l24;
+  i1 += i2;
+  i2 = 4294967295u;
+  i1 += i2;
+  l27 = i1;
+  i2 = l23;
+  i2 = I32_CTZ(i2);
+  i1 >>= (i2 & 31);
+  l21 = i1;
+  i32_store(j0, i1);
+  j0 = l7;
+  i1 = l26;
+  j1 = (u64)(i1);
+  l10 = j1;
+  j2 = 0ull;
+  j3 = p5;
+  j4 = 0ull;
+  f0(self, j0, j1, j2, j3, j4);
+  i0 = 25u;
+  l20 = i0;
+  j0 = p5;
+  i1 = l21;
+  j1 = (u64)(i1);
+  l11 = j1;
+  i0 = j0 < j1;
+  if (i0) {goto B2;}
+  j0 = l7;
+  i0 = (u32)(j0);
+  j0 = i64_load(j0 + 8u);
+  j1 = 0ull;
+  i0 = j0 != j1;
+  l21 = i0;
+  j1 = p5;
+  j2 = l10;
+  j1 *= j2;
+  j2 = p4;
+  i1 = j1 <= j2;
+  i0 |= i1;
+  i0 = !(i0);
+  if (i0) {goto B2;}
+  i0 = l21;
+  if (i0) {goto B2;}
+  j0 = p3;
+  j1 = 4096ull;
+  j2 = 0ull;
+  j3 = p3;
+  i3 = !(j3);
+  j1 = i3 ? j1 : j2;
+  j0 += j1;
+  l12 = j0;
+  i0 = 0u;
+  i1 = p1;
+  i2 = 1u;
+  i1 &= i2;
+  i0 -= i1;
+  i1 = 4278190080u;
+  i0 &= i1;
+  p1 = i0;
+  i0 = 0u;
+  l28 = i0;
+  i0 = 0u;
+  l21 = i0;
+  i0 = l22;
+  i1 = l25;
+  i0 = i0 > i1;
+  l29 = i0;
+  if (i0) {goto B6;}
+  i0 = l23;
+  i1 = l27;
+  i0 = i0 > i1;
+  if (i0) {goto B7;}
+  i0 = l23;
+  j0 = (u64)(i0);
+  j1 = 3ull;
+  j0 *= j1;
+  l13 = j0;
+  j0 = p5;
+  j1 = 2ull;
+  j0 <<= (j1 & 63);
+  l14 = j0;
+  i0 = l22;
+  j0 = (u64)(i0);
+  i1 = l24;
+  j1 = (u64)(i1);
+  j0 *= j1;
+  j1 = 3ull;
+  j0 *= j1;
+  l15 = j0;
+  j0 = 0ull;
+  l16 = j0;
+  j0 = l9;
+  l17 = j0;
+  j0 = l12;
+  l18 = j0;
+  L8: 
+    j0 = l17;
+    p2 = j0;
+    j0 = l18;
+    p3 = j0;
+    j0 = l11;
+    p4 = j0;
+    L10: 
+      j0 = p3;
+      i0 = (u32)(j0);
+      i0 = i32_load(j0);
+      j1 = p2;
+      i1 = (u32)(j1);
+      i1 = i32_load8_u(j1);
+      i2 = 16u;
+      i1 <<= (i2 & 31);
+      j2 = p2;
+      j3 = 2ull;
+      j2 += j3;
+      i2 = (u32)(j2);
+      i2 = i32_load8_u(j2);
+      i1 |= i2;
+      j2 = p2;
+      j3 = 1ull;
+      j2 += j3;
+      i2 = (u32)(j2);
+      i2 = i32_load8_u(j2);
+      i3 = 8u;
+      i2 <<= (i3 & 31);
+      i1 |= i2;
+      l20 = i1;
+      i2 = 4u;
+      i1 >>= (i2 & 31);
+      i2 = 986895u;
+      i1 &= i2;
+      i2 = l20;
+      i3 = 2u;
+      i2 <<= (i3 & 31);
+      i1 += i2;
+      i2 = p1;
+      i1 |= i2;
+      i0 = i0 != i1;
+      if (i0) {goto B9;}
+      j0 = p2;
+      j1 = l13;
+      j0 += j1;
+      p2 = j0;
+      j0 = p3;
+      j1 = 4ull;
+      j0 += j1;
+      p3 = j0;
+      j0 = p4;
+      j1 = 18446744073709551615ull;
+      j0 += j1;
+      p4 = j0;
+      i0 = !(j0);
+      i0 = !(i0);
+      if (i0) {goto L10;}
+    j0 = l17;
+    j1 = l15;
+    j0 += j1;
+    l17 = j0;
+    j0 = l18;
+    j1 = l14;
+    j0 += j1;
+    l18 = j0;
+    j0 = l16;
+    j1 = 1ull;
+    j0 += j1;
+    l16 = j0;
+    j1 = l10;
+    i0 = j0 < j1;
+    if (i0) {goto L8;}
+    B9:;
+  j0 = l16;
+  i0 = (u32)(j0);
+  l21 = i0;
+  goto B6;
+  B7:;
+  i0 = l26;
+  i1 = 1u;
+  i2 = l26;
+  i3 = 1u;
+  i2 = i2 > i3;
+  i0 = i2 ? i0 : i1;
+  l25 = i0;
+  i1 = 7u;
+  i0 &= i1;
+  l20 = i0;
+  i0 = 0u;
+  l21 = i0;
+  i0 = l26;
+  i1 = 8u;
+  i0 = i0 < i1;
+  if (i0) {goto B11;}
+  i0 = l25;
+  i1 = 4294967288u;
+  i0 &= i1;
+  l25 = i0;
+  i0 = 0u;
+  l21 = i0;
+  L12: 
+    i0 = l25;
+    i1 = l21;
+    i2 = 8u;
+    i1 += i2;
+    l21 = i1;
+    i0 = i0 != i1;
+    if (i0) {goto L12;}
+  i0 = l20;
+  i0 = !(i0);
+  if (i0) {goto B6;}
+  B11:;
+  L13: 
+    i0 = l21;
+    i1 = 1u;
+    i0 += i1;
+    l21 = i0;
+    i0 = l20;
+    i1 = 4294967295u;
+    i0 += i1;
+    l20 = i0;
+    if (i0) {goto L13;}
+  B6:;
+  i0 = 0u;
+  l20 = i0;
+  i0 = l21;
+  i1 = l26;
+  i0 = i0 == i1;
+  if (i0) {goto B14;}
+  i0 = l21;
+  i1 = l26;
+  i0 = i0 >= i1;
+  if (i0) {goto B16;}
+  i0 = l21;
+  l26 = i0;
+  i0 = l23;
+  i1 = l27;
+  i0 = i0 > i1;
+  if (i0) {goto B15;}
+  i0 = l24;
+  j0 = (u64)(i0);
+  i1 = l22;
+  j1 = (u64)(i1);
+  j0 *= j1;
+  l15 = j0;
+  i0 = l23;
+  j0 = (u64)(i0);
+  l18 = j0;
+  i0 = l21;
+  j0 = (u64)(i0);
+  l19 = j0;
+  j0 = l10;
+  l14 = j0;
+  L17: 
+    j0 = l14;
+    j1 = 18446744073709551615ull;
+    j0 += j1;
+    l16 = j0;
+    j1 = p5;
+    j0 *= j1;
+    l13 = j0;
+    j0 = l15;
+    j1 = l16;
+    j0 *= j1;
+    l17 = j0;
+    j0 = 0ull;
+    p2 = j0;
+    j0 = l11;
+    p4 = j0;
+    L20: 
+      j0 = l12;
+      j1 = p2;
+      j2 = l13;
+      j1 += j2;
+      j2 = 2ull;
+      j1 <<= (j2 & 63);
+      j0 += j1;
+      i0 = (u32)(j0);
+      i0 = i32_load(j0);
+      j1 = l9;
+      j2 = p2;
+      j3 = l18;
+      j2 *= j3;
+      j3 = l17;
+      j2 += j3;
+      j3 = 3ull;
+      j2 *= j3;
+      j1 += j2;
+      p3 = j1;
+      i1 = (u32)(j1);
+      i1 = i32_load8_u(j1);
+      i2 = 16u;
+      i1 <<= (i2 & 31);
+      j2 = p3;
+      j3 = 2ull;
+      j2 += j3;
+      i2 = (u32)(j2);
+      i2 = i32_load8_u(j2);
+      i1 |= i2;
+      j2 = p3;
+      j3 = 1ull;
+      j2 += j3;
+      i2 = (u32)(j2);
+      i2 = i32_load8_u(j2);
+      i3 = 8u;
+      i2 <<= (i3 & 31);
+      i1 |= i2;
+      l20 = i1;
+      i2 = 4u;
+      i1 >>= (i2 & 31);
+      i2 = 986895u;
+      i1 &= i2;
+      i2 = l20;
+      i3 = 2u;
+      i2 <<= (i3 & 31);
+      i1 += i2;
+      i2 = p1;
+      i1 |= i2;
+      i0 = i0 != i1;
+      if (i0) {goto B19;}
+      j0 = p2;
+      j1 = 1ull;
+      j0 += j1;
+      p2 = j0;
+      j0 = p4;
+      j1 = 18446744073709551615ull;
+      j0 += j1;
+      p4 = j0;
+      i0 = !(j0);
+      if (i0) {goto B18;}
+      goto L20;
+    { self->is_broken = true; return ZAK_BROKEN; }
+    B19:;
+    j0 = l14;
+    i0 = (u32)(j0);
+    l26 = i0;
+    goto B16;
+    B18:;
+    j0 = l16;
+    l14 = j0;
+    j0 = l16;
+    j1 = l19;
+    i0 = j0 > j1;
+    if (i0) {goto L17;}
+  i0 = l21;
+  l26 = i0;
+  B16:;
+  i0 = l29;
+  if (i0) {goto B15;}
+  i0 = l23;
+  i1 = l27;
+  i0 = i0 > i1;
+  if (i0) {goto B15;}
+  j0 = l11;
+  j1 = 1ull;
+  j2 = l11;
+  j3 = 1ull;
+  i2 = j2 > j3;
+  j0 = i2 ? j0 : j1;
+  l17 = j0;
+  i0 = l23;
+  j0 = (u64)(i0);
+  j1 = 3ull;
+  j0 *= j1;
+  p4 = j0;
+  j0 = p5;
+  j1 = 2ull;
+  j0 <<= (j1 & 63);
+  l18 = j0;
+  i0 = l22;
+  j0 = (u64)(i0);
+  i1 = l24;
+  j1 = (u64)(i1);
+  j0 *= j1;
+  j1 = 3ull;
+  j0 *= j1;
+  l11 = j0;
+  j0 = 0ull;
+  l13 = j0;
+  L21: 
+    j0 = l9;
+    p2 = j0;
+    j0 = l12;
+    p5 = j0;
+    j0 = l17;
+    p3 = j0;
+    L22: 
+      j0 = p5;
+      i0 = (u32)(j0);
+      j1 = p2;
+      i1 = (u32)(j1);
+      i1 = i32_load8_u(j1);
+      i2 = 16u;
+      i1 <<= (i2 & 31);
+      j2 = p2;
+      j3 = 2ull;
+      j2 += j3;
+      i2 = (u32)(j2);
+      i2 = i32_load8_u(j2);
+      i1 |= i2;
+      j2 = p2;
+      j3 = 1ull;
+      j2 += j3;
+      i2 = (u32)(j2);
+      i2 = i32_load8_u(j2);
+      i3 = 8u;
+      i2 <<= (i3 & 31);
+      i1 |= i2;
+      l20 = i1;
+      i2 = 4u;
+      i1 >>= (i2 & 31);
+      i2 = 986895u;
+      i1 &= i2;
+      i2 = l20;
+      i3 = 2u;
+      i2 <<= (i3 & 31);
+      i1 += i2;
+      i2 = p1;
+      i1 |= i2;
+      i32_store(j0, i1);
+      j0 = p2;
+      j1 = p4;
+      j0 += j1;
+      p2 = j0;
+      j0 = p5;
+      j1 = 4ull;
+      j0 += j1;
+      p5 = j0;
+      j0 = p3;
+      j1 = 18446744073709551615ull;
+      j0 += j1;
+      p3 = j0;
+      j1 = 0ull;
+      i0 = j0 != j1;
+      if (i0) {goto L22;}
+    j0 = l9;
+    j1 = l11;
+    j0 += j1;
+    l9 = j0;
+    j0 = l12;
+    j1 = l18;
+    j0 += j1;
+    l12 = j0;
+    j0 = l13;
+    j1 = 1ull;
+    j0 += j1;
+    l13 = j0;
+    j1 = l10;
+    i0 = j0 < j1;
+    if (i0) {goto L21;}
+  B15:;
+  i0 = l26;
+  i1 = l21;
+  i0 -= i1;
+  l28 = i0;
+  i0 = l21;
+  l20 = i0;
+  B14:;
+  j0 = p6;
+  i0 = (u32)(j0);
+  i1 = l28;
+  i32_store(j0 + 4, i1);
+  j0 = p6;
+  i0 = (u32)(j0);
+  i1 = l20;
+  i32_store(j0, i1);
+  i0 = 0u;
+  l20 = i0;
+  B2:;
+  j0 = p0;
+  i0 = (u32)(j0);
+  i1 = 0u;
+  i32_store(j0 + 1, i1);
+  j0 = p0;
+  i0 = (u32)(j0);
+  i1 = 1u;
+  i32_store8(j0, i1);
+  j0 = p0;
+  i0 = (u32)(j0);
+  i1 = 0u;
+  i32_store(j0 + 4, i1);
+  j0 = p0;
+  i0 = (u32)(j0);
+  j1 = l8;
+  i64_store(j0 + 8, j1);
+  B0:;
+  j0 = l7;
+  j1 = 48ull;
+  j0 += j1;
+  self->g0 = j0;
+  i0 = l20;
+  return i0;
+}
+
 static u32 module_zak_frame_words(module *self, u64 p0, u32 p1, u64 p2, u64 p3, u64 p4, u64 p5) {
   u32 l15 = 0, l16 = 0, l17 = 0, l18 = 0, l19 = 0, l20 = 0, l21 = 0, l22 = 0;
   u64 l6 = 0, l7 = 0, l8 = 0, l9 = 0, l10 = 0, l11 = 0, l12 = 0, l13 = 0, 
@@ -105505,7 +107090,7 @@ static u32 module_zak_frame_words(module *self, u64 p0, u32 p1, u64 p2, u64 p3, 
   j1 = 16ull;
   j0 += j1;
   j1 = l7;
-  f54(self, j0, j1); m = self->memory; if (NEVER(self->is_broken)) return ZAK_BROKEN;
+  f53(self, j0, j1); m = self->memory; if (NEVER(self->is_broken)) return ZAK_BROKEN;
   i0 = 24u;
   l15 = i0;
   j0 = l6;
@@ -105814,7 +107399,7 @@ static u32 module_zak_frame_xrgb(module *self, u64 p0, u64 p1, u64 p2, u64 p3, u
   j1 = 16ull;
   j0 += j1;
   j1 = l6;
-  f54(self, j0, j1); m = self->memory; if (NEVER(self->is_broken)) return ZAK_BROKEN;
+  f53(self, j0, j1); m = self->memory; if (NEVER(self->is_broken)) return ZAK_BROKEN;
   i0 = 24u;
   l13 = i0;
   j0 = l5;
@@ -106056,7 +107641,7 @@ static u32 module_zak_get(module *self, u64 p0, u32 p1, u64 p2) {
   j0 += j1;
   j1 = l4;
   i2 = p1;
-  f37(self, j0, j1, i2);
+  f36(self, j0, j1, i2);
   j0 = l3;
   i0 = (u32)(j0);
   i0 = i32_load8_u(j0 + 9u);
@@ -106253,7 +107838,7 @@ static u32 module_zak_get_bytes(module *self, u64 p0, u32 p1, u64 p2, u64 p3, u3
     j0 += j1;
     j1 = l8;
     i2 = p1;
-    f37(self, j0, j1, i2);
+    f36(self, j0, j1, i2);
     j0 = p2;
     j1 = p3;
     j0 += j1;
@@ -106427,7 +108012,7 @@ static u32 module_zak_get_bytes(module *self, u64 p0, u32 p1, u64 p2, u64 p3, u3
     j0 = (u64)(i0);
     j1 = 60ull;
     j0 &= j1;
-    j1 = 1048844ull;
+    j1 = 1048908ull;
     j0 += j1;
     i0 = (u32)(j0);
     i0 = i32_load(j0);
@@ -106443,7 +108028,7 @@ static u32 module_zak_get_bytes(module *self, u64 p0, u32 p1, u64 p2, u64 p3, u3
     j1 = (u64)(i1);
     j2 = 60ull;
     j1 &= j2;
-    j2 = 1048844ull;
+    j2 = 1048908ull;
     j1 += j2;
     i1 = (u32)(j1);
     i1 = i32_load(j1);
@@ -106559,7 +108144,7 @@ static u32 module_zak_get_bytes(module *self, u64 p0, u32 p1, u64 p2, u64 p3, u3
   i2 = p1;
   j3 = p2;
   j4 = p3;
-  f55(self, j0, j1, i2, j3, j4); if (NEVER(self->is_broken)) return ZAK_BROKEN;
+  f54(self, j0, j1, i2, j3, j4); if (NEVER(self->is_broken)) return ZAK_BROKEN;
   i0 = l11;
   i1 = p4;
   i2 = 4294967295u;
@@ -106749,7 +108334,7 @@ static u32 module_zak_get_word(module *self, u64 p0, u32 p1, u64 p2) {
   j0 += j1;
   j1 = l4;
   i2 = p1;
-  f37(self, j0, j1, i2);
+  f36(self, j0, j1, i2);
   j0 = l3;
   i0 = (u32)(j0);
   i0 = i32_load8_u(j0 + 9u);
@@ -106761,7 +108346,7 @@ static u32 module_zak_get_word(module *self, u64 p0, u32 p1, u64 p2) {
   j0 = l3;
   j1 = l4;
   i2 = l8;
-  f37(self, j0, j1, i2);
+  f36(self, j0, j1, i2);
   j0 = l3;
   i0 = (u32)(j0);
   i0 = i32_load8_u(j0 + 1u);
@@ -106892,7 +108477,7 @@ static u32 module_zak_in(module *self, u64 p0, u32 p1, u64 p2) {
   j0 = l3;
   j1 = l4;
   i2 = p1;
-  f29(self, j0, j1, i2); if (NEVER(self->is_broken)) return ZAK_BROKEN;
+  f28(self, j0, j1, i2); if (NEVER(self->is_broken)) return ZAK_BROKEN;
   i0 = 0u;
   l6 = i0;
   j0 = l3;
@@ -107041,7 +108626,7 @@ static u32 module_zak_in(module *self, u64 p0, u32 p1, u64 p2) {
   if (i0) {goto B8;}
   j0 = l4;
   i1 = l6;
-  i0 = f56(self, j0, i1); if (NEVER(self->is_broken)) return ZAK_BROKEN;
+  i0 = f55(self, j0, i1); if (NEVER(self->is_broken)) return ZAK_BROKEN;
   i1 = 255u;
   i0 &= i1;
   l5 = i0;
@@ -107053,7 +108638,7 @@ static u32 module_zak_in(module *self, u64 p0, u32 p1, u64 p2) {
   j1 = l4;
   i2 = l6;
   i3 = p1;
-  f57(self, j0, j1, i2, i3); m = self->memory; if (NEVER(self->is_broken)) return ZAK_BROKEN;
+  f56(self, j0, j1, i2, i3); m = self->memory; if (NEVER(self->is_broken)) return ZAK_BROKEN;
   j0 = l3;
   i0 = (u32)(j0);
   i0 = i32_load8_u(j0 + 13u);
@@ -107164,7 +108749,7 @@ static u32 module_zak_in_word(module *self, u64 p0, u32 p1, u64 p2) {
   j0 += j1;
   j1 = l4;
   i2 = p1;
-  f58(self, j0, j1, i2); if (NEVER(self->is_broken)) return ZAK_BROKEN;
+  f57(self, j0, j1, i2); if (NEVER(self->is_broken)) return ZAK_BROKEN;
   j0 = l3;
   i0 = (u32)(j0);
   i0 = i32_load8_u(j0 + 12u);
@@ -107259,7 +108844,7 @@ static u32 module_zak_int10(module *self, u64 p0, u64 p1, u64 p2, u64 p3, u64 p4
   j1 = 2072ull;
   j0 += j1;
   l9 = j0;
-  i0 = f22(self, j0);
+  i0 = f21(self, j0);
   i0 = !(i0);
   if (i0) {goto B2;}
   j0 = l7;
@@ -107301,7 +108886,7 @@ static u32 module_zak_int10(module *self, u64 p0, u64 p1, u64 p2, u64 p3, u64 p4
   j6 = i8 ? j6 : j7;
   j5 += j6;
   j6 = p3;
-  f60(self, j0, j1, j2, j3, j4, j5, j6); m = self->memory; if (NEVER(self->is_broken)) return ZAK_BROKEN;
+  f59(self, j0, j1, j2, j3, j4, j5, j6); m = self->memory; if (NEVER(self->is_broken)) return ZAK_BROKEN;
   j0 = l7;
   i0 = (u32)(j0);
   i0 = i32_load8_u(j0 + 8u);
@@ -107515,7 +109100,7 @@ static u32 module_zak_int10(module *self, u64 p0, u64 p1, u64 p2, u64 p3, u64 p4
   i0 = (u32)(j0);
   j1 = 0ull;
   i64_store(j0, j1);
-  j0 = 1048841ull;
+  j0 = 1048905ull;
   l9 = j0;
   B6:;
   j0 = p2;
@@ -107556,12 +109141,12 @@ static u32 module_zak_int10(module *self, u64 p0, u64 p1, u64 p2, u64 p3, u64 p4
   j0 = i64_load(j0 + 16u);
   p1 = j0;
   j0 = p2;
-  f162(self, j0);
+  f163(self, j0);
   j0 = p1;
   i0 = !(j0);
   if (i0) {goto B2;}
   j0 = p3;
-  f162(self, j0);
+  f163(self, j0);
   goto B2;
   B3:;
   i0 = 23u;
@@ -108111,7 +109696,7 @@ static u32 module_zak_move_bytes(module *self, u64 p0, u32 p1, u32 p2, u64 p3, u
     i2 = l9;
     i3 = p4;
     i2 += i3;
-    f37(self, j0, j1, i2);
+    f36(self, j0, j1, i2);
     j0 = l7;
     j1 = 2003ull;
     j0 += j1;
@@ -108173,7 +109758,7 @@ static u32 module_zak_move_bytes(module *self, u64 p0, u32 p1, u32 p2, u64 p3, u
     i5 = 255u;
     i4 &= i5;
     i2 = i4 ? i2 : i3;
-    i0 = f49(self, j0, i1, i2);
+    i0 = f48(self, j0, i1, i2);
     l15 = i0;
     j0 = l7;
     j1 = 68ull;
@@ -108250,7 +109835,7 @@ static u32 module_zak_move_bytes(module *self, u64 p0, u32 p1, u32 p2, u64 p3, u
     j2 = (u64)(i2);
     j3 = 60ull;
     j2 &= j3;
-    j3 = 1048844ull;
+    j3 = 1048908ull;
     j2 += j3;
     i2 = (u32)(j2);
     i2 = i32_load(j2);
@@ -108275,7 +109860,7 @@ static u32 module_zak_move_bytes(module *self, u64 p0, u32 p1, u32 p2, u64 p3, u
   i1 = p1;
   i2 = p2;
   i3 = l9;
-  f69(self, j0, i1, i2, i3);
+  f68(self, j0, i1, i2, i3);
   i0 = 0u;
   l8 = i0;
   B2:;
@@ -108361,7 +109946,7 @@ static u32 module_zak_open(module *self, u64 p0, u64 p1, u64 p2) {
   j2 = i4 ? j2 : j3;
   j1 += j2;
   j2 = p2;
-  f72(self, j0, j1, j2); m = self->memory; if (NEVER(self->is_broken)) return ZAK_BROKEN;
+  f71(self, j0, j1, j2); m = self->memory; if (NEVER(self->is_broken)) return ZAK_BROKEN;
   j0 = l3;
   i0 = (u32)(j0);
   j0 = i64_load(j0 + 2120u);
@@ -108410,7 +109995,7 @@ static u32 module_zak_open(module *self, u64 p0, u64 p1, u64 p2) {
   j1 = l3;
   j2 = 2064ull;
   j1 += j2;
-  f73(self, j0, j1); m = self->memory; if (NEVER(self->is_broken)) return ZAK_BROKEN;
+  f72(self, j0, j1); m = self->memory; if (NEVER(self->is_broken)) return ZAK_BROKEN;
   j0 = l3;
   i0 = (u32)(j0);
   j1 = l3;
@@ -108607,7 +110192,7 @@ static u32 module_zak_open(module *self, u64 p0, u64 p1, u64 p2) {
   j0 = l3;
   j1 = 2160ull;
   j2 = 8ull;
-  f159(self, j0, j1, j2); m = self->memory; if (NEVER(self->is_broken)) return ZAK_BROKEN;
+  f160(self, j0, j1, j2); m = self->memory; if (NEVER(self->is_broken)) return ZAK_BROKEN;
   j0 = l3;
   i0 = (u32)(j0);
   j0 = i64_load(j0);
@@ -108830,19 +110415,19 @@ static u32 module_zak_open(module *self, u64 p0, u64 p1, u64 p2) {
   i0 = !(j0);
   if (i0) {goto B3;}
   j0 = p1;
-  f162(self, j0);
+  f163(self, j0);
   B3:;
   j0 = l11;
   i0 = !(j0);
   if (i0) {goto B4;}
   j0 = l13;
-  f162(self, j0);
+  f163(self, j0);
   B4:;
   j0 = l7;
   i0 = !(j0);
   if (i0) {goto B5;}
   j0 = l9;
-  f162(self, j0);
+  f163(self, j0);
   B5:;
   i0 = l17;
   i1 = 255u;
@@ -108859,12 +110444,12 @@ static u32 module_zak_open(module *self, u64 p0, u64 p1, u64 p2) {
   j0 = i64_load(j0 + 16u);
   p0 = j0;
   j0 = l14;
-  f162(self, j0);
+  f163(self, j0);
   j0 = p0;
   i0 = !(j0);
   if (i0) {goto B6;}
   j0 = p1;
-  f162(self, j0);
+  f163(self, j0);
   B6:;
   i0 = l18;
   i1 = 255u;
@@ -108881,12 +110466,12 @@ static u32 module_zak_open(module *self, u64 p0, u64 p1, u64 p2) {
   j0 = i64_load(j0 + 16u);
   p0 = j0;
   j0 = l15;
-  f162(self, j0);
+  f163(self, j0);
   j0 = p0;
   i0 = !(j0);
   if (i0) {goto B7;}
   j0 = p1;
-  f162(self, j0);
+  f163(self, j0);
   B7:;
   i0 = 23u;
   l17 = i0;
@@ -108905,12 +110490,12 @@ static u32 module_zak_open(module *self, u64 p0, u64 p1, u64 p2) {
   j0 = i64_load(j0 + 16u);
   p0 = j0;
   j0 = l16;
-  f162(self, j0);
+  f163(self, j0);
   j0 = p0;
   i0 = !(j0);
   if (i0) {goto B0;}
   j0 = p1;
-  f162(self, j0);
+  f163(self, j0);
   goto B0;
   B1:;
   i0 = 22u;
@@ -109065,7 +110650,7 @@ static u32 module_zak_out(module *self, u64 p0, u32 p1, u32 p2) {
   j1 = l4;
   i2 = l5;
   i3 = p2;
-  f47(self, j0, j1, i2, i3);
+  f46(self, j0, j1, i2, i3);
   j0 = l3;
   i0 = (u32)(j0);
   i0 = i32_load8_u(j0 + 9u);
@@ -109152,14 +110737,14 @@ static u32 module_zak_out(module *self, u64 p0, u32 p1, u32 p2) {
   j1 = 65535ull;
   j0 &= j1;
   i0 = (u32)(j0);
-  i0 = i32_load8_u(j0 + 1051904u);
+  i0 = i32_load8_u(j0 + 1052024u);
   l7 = i0;
   B5:;
   j0 = l3;
   j1 = l4;
   i2 = l7;
   i3 = p2;
-  f47(self, j0, j1, i2, i3);
+  f46(self, j0, j1, i2, i3);
   i0 = 0u;
   l6 = i0;
   j0 = l3;
@@ -109317,7 +110902,7 @@ static u32 module_zak_out_word(module *self, u64 p0, u32 p1, u32 p2) {
   j1 = l4;
   i2 = p1;
   i3 = p2;
-  f74(self, j0, j1, i2, i3);
+  f73(self, j0, j1, i2, i3);
   i0 = 0u;
   l5 = i0;
   j0 = l3;
@@ -109336,7 +110921,7 @@ static u32 module_zak_out_word(module *self, u64 p0, u32 p1, u32 p2) {
   j1 = l4;
   i2 = p1;
   i3 = p2;
-  f74(self, j0, j1, i2, i3);
+  f73(self, j0, j1, i2, i3);
   j0 = l3;
   i0 = (u32)(j0);
   i0 = i32_load8_u(j0 + 9u);
@@ -109788,7 +111373,7 @@ static u32 module_zak_print(module *self, u64 p0, u64 p1, u64 p2, u64 p3, u64 p4
   j1 += j2;
   l8 = j1;
   j2 = p1;
-  f76(self, j0, j1, j2); if (NEVER(self->is_broken)) return ZAK_BROKEN;
+  f75(self, j0, j1, j2); if (NEVER(self->is_broken)) return ZAK_BROKEN;
   j0 = l6;
   i0 = (u32)(j0);
   i0 = i32_load8_u(j0 + 48u);
@@ -109826,7 +111411,7 @@ static u32 module_zak_print(module *self, u64 p0, u64 p1, u64 p2, u64 p3, u64 p4
   j1 = 176ull;
   j0 += j1;
   j1 = p1;
-  i0 = f15(self, j0, j1); m = self->memory; if (NEVER(self->is_broken)) return ZAK_BROKEN;
+  i0 = f14(self, j0, j1); m = self->memory; if (NEVER(self->is_broken)) return ZAK_BROKEN;
   i0 = !(i0);
   if (i0) {goto B12;}
   j0 = l6;
@@ -109982,7 +111567,7 @@ static u32 module_zak_print(module *self, u64 p0, u64 p1, u64 p2, u64 p3, u64 p4
   j0 = l6;
   i0 = (u32)(j0);
   j0 = i64_load(j0 + 176u);
-  f162(self, j0);
+  f163(self, j0);
   goto B9;
   B11:;
   j0 = l6;
@@ -110029,7 +111614,7 @@ static u32 module_zak_print(module *self, u64 p0, u64 p1, u64 p2, u64 p3, u64 p4
   j1 = 24ull;
   j0 += j1;
   j1 = 10ull;
-  i0 = f15(self, j0, j1); m = self->memory; if (NEVER(self->is_broken)) return ZAK_BROKEN;
+  i0 = f14(self, j0, j1); m = self->memory; if (NEVER(self->is_broken)) return ZAK_BROKEN;
   i0 = !(i0);
   if (i0) {goto B20;}
   j0 = l6;
@@ -110066,8 +111651,8 @@ static u32 module_zak_print(module *self, u64 p0, u64 p1, u64 p2, u64 p3, u64 p4
   j1 = p0;
   j0 += j1;
   l12 = j0;
-  j1 = 1048908ull;
-  j2 = 1048841ull;
+  j1 = 1048972ull;
+  j2 = 1048905ull;
   i3 = l35;
   j1 = i3 ? j1 : j2;
   l16 = j1;
@@ -110324,7 +111909,7 @@ static u32 module_zak_print(module *self, u64 p0, u64 p1, u64 p2, u64 p3, u64 p4
     j2 = l10;
     j3 = 0ull;
     i4 = l35;
-    f78(self, j0, j1, j2, j3, i4); if (NEVER(self->is_broken)) return ZAK_BROKEN;
+    f77(self, j0, j1, j2, j3, i4); if (NEVER(self->is_broken)) return ZAK_BROKEN;
     j0 = l6;
     i0 = (u32)(j0);
     i0 = i32_load8_u(j0 + 48u);
@@ -110400,13 +111985,13 @@ static u32 module_zak_print(module *self, u64 p0, u64 p1, u64 p2, u64 p3, u64 p4
     i0 = (u32)(j0);
     j1 = 0ull;
     i1 = (u32)(j1);
-    i1 = i32_load(j1 + 1049242u);
+    i1 = i32_load(j1 + 1049306u);
     i32_store(j0 + 179, i1);
     j0 = l6;
     i0 = (u32)(j0);
     j1 = 0ull;
     i1 = (u32)(j1);
-    i1 = i32_load(j1 + 1049239u);
+    i1 = i32_load(j1 + 1049303u);
     i32_store(j0 + 176, i1);
     j0 = l6;
     i0 = (u32)(j0);
@@ -110435,7 +112020,7 @@ static u32 module_zak_print(module *self, u64 p0, u64 p1, u64 p2, u64 p3, u64 p4
     j2 = 248ull;
     j1 += j2;
     i2 = l34;
-    f81(self, j0, j1, i2); if (NEVER(self->is_broken)) return ZAK_BROKEN;
+    f80(self, j0, j1, i2); if (NEVER(self->is_broken)) return ZAK_BROKEN;
     j0 = l6;
     i0 = (u32)(j0);
     j0 = i64_load(j0 + 16u);
@@ -110506,7 +112091,7 @@ static u32 module_zak_print(module *self, u64 p0, u64 p1, u64 p2, u64 p3, u64 p4
     j1 = 24ull;
     j0 += j1;
     j1 = l15;
-    i0 = f15(self, j0, j1); m = self->memory; if (NEVER(self->is_broken)) return ZAK_BROKEN;
+    i0 = f14(self, j0, j1); m = self->memory; if (NEVER(self->is_broken)) return ZAK_BROKEN;
     i0 = !(i0);
     if (i0) {goto B37;}
     j0 = l6;
@@ -111878,7 +113463,7 @@ static u32 module_zak_print(module *self, u64 p0, u64 p1, u64 p2, u64 p3, u64 p4
       j0 += j1;
       j1 = l14;
       j2 = p0;
-      f77(self, j0, j1, j2);
+      f76(self, j0, j1, j2);
       j0 = l6;
       i0 = (u32)(j0);
       j0 = i64_load(j0 + 224u);
@@ -112151,7 +113736,7 @@ static u32 module_zak_print(module *self, u64 p0, u64 p1, u64 p2, u64 p3, u64 p4
       j2 = l6;
       j3 = 248ull;
       j2 += j3;
-      f79(self, j0, j1, j2); m = self->memory; if (NEVER(self->is_broken)) return ZAK_BROKEN;
+      f78(self, j0, j1, j2); m = self->memory; if (NEVER(self->is_broken)) return ZAK_BROKEN;
       j0 = l12;
       l15 = j0;
       j0 = l8;
@@ -112187,7 +113772,7 @@ static u32 module_zak_print(module *self, u64 p0, u64 p1, u64 p2, u64 p3, u64 p4
     j1 = 24ull;
     j0 += j1;
     j1 = 4ull;
-    i0 = f15(self, j0, j1); m = self->memory; if (NEVER(self->is_broken)) return ZAK_BROKEN;
+    i0 = f14(self, j0, j1); m = self->memory; if (NEVER(self->is_broken)) return ZAK_BROKEN;
     if (i0) {goto B76;}
     i0 = 9u;
     l32 = i0;
@@ -112215,7 +113800,7 @@ static u32 module_zak_print(module *self, u64 p0, u64 p1, u64 p2, u64 p3, u64 p4
     j1 = l15;
     j0 += j1;
     l15 = j0;
-    j1 = 1049246ull;
+    j1 = 1049310ull;
     j0 -= j1;
     j1 = 3ull;
     i0 = j0 > j1;
@@ -112258,7 +113843,7 @@ static u32 module_zak_print(module *self, u64 p0, u64 p1, u64 p2, u64 p3, u64 p4
     j2 = 24ull;
     j1 += j2;
     j2 = l31;
-    f79(self, j0, j1, j2); m = self->memory; if (NEVER(self->is_broken)) return ZAK_BROKEN;
+    f78(self, j0, j1, j2); m = self->memory; if (NEVER(self->is_broken)) return ZAK_BROKEN;
     j0 = l6;
     i0 = (u32)(j0);
     i0 = i32_load8_u(j0 + 152u);
@@ -112290,7 +113875,7 @@ static u32 module_zak_print(module *self, u64 p0, u64 p1, u64 p2, u64 p3, u64 p4
     j0 = l6;
     i0 = (u32)(j0);
     j0 = i64_load(j0 + 24u);
-    f162(self, j0);
+    f163(self, j0);
     goto B19;
     B30:;
     j0 = l10;
@@ -112334,12 +113919,12 @@ static u32 module_zak_print(module *self, u64 p0, u64 p1, u64 p2, u64 p3, u64 p4
   j0 = l6;
   i0 = (u32)(j0);
   j0 = i64_load(j0 + 24u);
-  f162(self, j0);
+  f163(self, j0);
   B19:;
   i0 = l33;
   if (i0) {goto B79;}
   j0 = l9;
-  f162(self, j0);
+  f163(self, j0);
   B79:;
   i0 = l32;
   if (i0) {goto B8;}
@@ -112518,7 +114103,7 @@ static u32 module_zak_print(module *self, u64 p0, u64 p1, u64 p2, u64 p3, u64 p4
   i0 = l34;
   if (i0) {goto B0;}
   j0 = l11;
-  f162(self, j0);
+  f163(self, j0);
   goto B0;
   B7:;
   j0 = p5;
@@ -112537,7 +114122,7 @@ static u32 module_zak_print(module *self, u64 p0, u64 p1, u64 p2, u64 p3, u64 p4
   j0 = (u64)(s64)(s8)(u8)(j0);
   j1 = 2ull;
   j0 <<= (j1 & 63);
-  j1 = 1051908ull;
+  j1 = 1052028ull;
   j0 += j1;
   i0 = (u32)(j0);
   i0 = i32_load(j0);
@@ -112633,7 +114218,7 @@ static u32 module_zak_put(module *self, u64 p0, u32 p1, u32 p2) {
   j0 = l8;
   i1 = l4;
   i2 = p1;
-  i0 = f82(self, j0, i1, i2);
+  i0 = f81(self, j0, i1, i2);
   i0 = !(i0);
   if (i0) {goto B3;}
   B4:;
@@ -112688,7 +114273,7 @@ static u32 module_zak_put(module *self, u64 p0, u32 p1, u32 p2) {
   i1 = (u32)(j1);
   i1 = i32_load8_u(j1);
   i2 = p2;
-  i0 = f49(self, j0, i1, i2);
+  i0 = f48(self, j0, i1, i2);
   p2 = i0;
   j0 = l8;
   j1 = 68ull;
@@ -112761,7 +114346,7 @@ static u32 module_zak_put(module *self, u64 p0, u32 p1, u32 p2) {
   j2 = (u64)(i2);
   j3 = 60ull;
   j2 &= j3;
-  j3 = 1048844ull;
+  j3 = 1048908ull;
   j2 += j3;
   i2 = (u32)(j2);
   i2 = i32_load(j2);
@@ -112774,7 +114359,7 @@ static u32 module_zak_put(module *self, u64 p0, u32 p1, u32 p2) {
   j0 = l8;
   i1 = l4;
   i2 = p1;
-  i0 = f83(self, j0, i1, i2); m = self->memory; if (NEVER(self->is_broken)) return ZAK_BROKEN;
+  i0 = f82(self, j0, i1, i2); m = self->memory; if (NEVER(self->is_broken)) return ZAK_BROKEN;
   l4 = i0;
   i0 = 1u;
   l3 = i0;
@@ -112827,7 +114412,7 @@ static u32 module_zak_put(module *self, u64 p0, u32 p1, u32 p2) {
   i1 = (u32)(j1);
   i1 = i32_load8_u(j1);
   i2 = p2;
-  i0 = f49(self, j0, i1, i2);
+  i0 = f48(self, j0, i1, i2);
   p2 = i0;
   j0 = l8;
   j1 = 68ull;
@@ -112900,7 +114485,7 @@ static u32 module_zak_put(module *self, u64 p0, u32 p1, u32 p2) {
   j2 = (u64)(i2);
   j3 = 60ull;
   j2 &= j3;
-  j3 = 1048844ull;
+  j3 = 1048908ull;
   j2 += j3;
   i2 = (u32)(j2);
   i2 = i32_load(j2);
@@ -113133,7 +114718,7 @@ static u32 module_zak_put_bytes(module *self, u64 p0, u32 p1, u64 p2, u64 p3, u3
     j2 += j3;
     i2 = (u32)(j2);
     i2 = i32_load8_u(j2);
-    i0 = f49(self, j0, i1, i2);
+    i0 = f48(self, j0, i1, i2);
     l17 = i0;
     j0 = l8;
     j1 = 68ull;
@@ -113210,7 +114795,7 @@ static u32 module_zak_put_bytes(module *self, u64 p0, u32 p1, u64 p2, u64 p3, u3
     j2 = (u64)(i2);
     j3 = 60ull;
     j2 &= j3;
-    j3 = 1048844ull;
+    j3 = 1048908ull;
     j2 += j3;
     i2 = (u32)(j2);
     i2 = i32_load(j2);
@@ -113266,7 +114851,7 @@ static u32 module_zak_put_bytes(module *self, u64 p0, u32 p1, u64 p2, u64 p3, u3
   j4 = l10;
   j5 = p3;
   i6 = p4;
-  i1 = f84(self, j1, j2, i3, j4, j5, i6);
+  i1 = f83(self, j1, j2, i3, j4, j5, i6);
   l16 = i1;
   i0 = i0 <= i1;
   if (i0) {goto B9;}
@@ -113346,7 +114931,7 @@ static u32 module_zak_put_bytes(module *self, u64 p0, u32 p1, u64 p2, u64 p3, u3
     j3 = p3;
     i3 = (u32)(j3);
     i3 = i32_load8_u(j3);
-    i1 = f49(self, j1, i2, i3);
+    i1 = f48(self, j1, i2, i3);
     j2 = p2;
     i2 = (u32)(j2);
     i2 = i32_load(j2);
@@ -113365,7 +114950,7 @@ static u32 module_zak_put_bytes(module *self, u64 p0, u32 p1, u64 p2, u64 p3, u3
     j3 = 2ull;
     j2 <<= (j3 & 63);
     i2 = (u32)(j2);
-    i2 = i32_load(j2 + 1048844u);
+    i2 = i32_load(j2 + 1048908u);
     i1 &= i2;
     i2 = l16;
     i1 ^= i2;
@@ -113446,7 +115031,7 @@ static u32 module_zak_put_bytes(module *self, u64 p0, u32 p1, u64 p2, u64 p3, u3
     j3 = p3;
     i3 = (u32)(j3);
     i3 = i32_load8_u(j3);
-    i1 = f49(self, j1, i2, i3);
+    i1 = f48(self, j1, i2, i3);
     j2 = p2;
     i2 = (u32)(j2);
     i2 = i32_load(j2);
@@ -113469,7 +115054,7 @@ static u32 module_zak_put_bytes(module *self, u64 p0, u32 p1, u64 p2, u64 p3, u3
     j3 = 2ull;
     j2 <<= (j3 & 63);
     i2 = (u32)(j2);
-    i2 = i32_load(j2 + 1048844u);
+    i2 = i32_load(j2 + 1048908u);
     i1 &= i2;
     i2 = p4;
     i1 ^= i2;
@@ -113538,7 +115123,7 @@ static u32 module_zak_put_bytes(module *self, u64 p0, u32 p1, u64 p2, u64 p3, u3
     j3 = p3;
     i3 = (u32)(j3);
     i3 = i32_load8_u(j3);
-    i1 = f49(self, j1, i2, i3);
+    i1 = f48(self, j1, i2, i3);
     j2 = p2;
     i2 = (u32)(j2);
     i2 = i32_load(j2);
@@ -113556,7 +115141,7 @@ static u32 module_zak_put_bytes(module *self, u64 p0, u32 p1, u64 p2, u64 p3, u3
     j3 = 2ull;
     j2 <<= (j3 & 63);
     i2 = (u32)(j2);
-    i2 = i32_load(j2 + 1048844u);
+    i2 = i32_load(j2 + 1048908u);
     i1 &= i2;
     i2 = l12;
     i1 ^= i2;
@@ -113632,14 +115217,14 @@ static u32 module_zak_put_bytes(module *self, u64 p0, u32 p1, u64 p2, u64 p3, u3
     j3 = p3;
     i3 = (u32)(j3);
     i3 = i32_load8_u(j3);
-    i1 = f49(self, j1, i2, i3);
+    i1 = f48(self, j1, i2, i3);
     j2 = p2;
     i2 = (u32)(j2);
     i2 = i32_load(j2);
     l12 = i2;
     i1 ^= i2;
     j2 = l7;
-    j3 = 1048844ull;
+    j3 = 1048908ull;
     j2 += j3;
     i2 = (u32)(j2);
     i2 = i32_load(j2);
@@ -113803,7 +115388,7 @@ static u32 module_zak_put_word(module *self, u64 p0, u32 p1, u32 p2) {
   j0 = l11;
   i1 = l4;
   i2 = p1;
-  i0 = f82(self, j0, i1, i2);
+  i0 = f81(self, j0, i1, i2);
   i0 = !(i0);
   if (i0) {goto B6;}
   B7:;
@@ -113839,7 +115424,7 @@ static u32 module_zak_put_word(module *self, u64 p0, u32 p1, u32 p2) {
   i1 = (u32)(j1);
   i1 = i32_load8_u(j1);
   i2 = p2;
-  i0 = f49(self, j0, i1, i2);
+  i0 = f48(self, j0, i1, i2);
   l6 = i0;
   j0 = l11;
   j1 = 68ull;
@@ -113912,7 +115497,7 @@ static u32 module_zak_put_word(module *self, u64 p0, u32 p1, u32 p2) {
   j2 = (u64)(i2);
   j3 = 60ull;
   j2 &= j3;
-  j3 = 1048844ull;
+  j3 = 1048908ull;
   j2 += j3;
   i2 = (u32)(j2);
   i2 = i32_load(j2);
@@ -113925,7 +115510,7 @@ static u32 module_zak_put_word(module *self, u64 p0, u32 p1, u32 p2) {
   j0 = l11;
   i1 = l4;
   i2 = p1;
-  i0 = f83(self, j0, i1, i2); m = self->memory; if (NEVER(self->is_broken)) return ZAK_BROKEN;
+  i0 = f82(self, j0, i1, i2); m = self->memory; if (NEVER(self->is_broken)) return ZAK_BROKEN;
   l4 = i0;
   j0 = l11;
   j1 = 2003ull;
@@ -113976,7 +115561,7 @@ static u32 module_zak_put_word(module *self, u64 p0, u32 p1, u32 p2) {
   i1 = (u32)(j1);
   i1 = i32_load8_u(j1);
   i2 = p2;
-  i0 = f49(self, j0, i1, i2);
+  i0 = f48(self, j0, i1, i2);
   l6 = i0;
   j0 = l11;
   j1 = 68ull;
@@ -114049,7 +115634,7 @@ static u32 module_zak_put_word(module *self, u64 p0, u32 p1, u32 p2) {
   j2 = (u64)(i2);
   j3 = 60ull;
   j2 &= j3;
-  j3 = 1048844ull;
+  j3 = 1048908ull;
   j2 += j3;
   i2 = (u32)(j2);
   i2 = i32_load(j2);
@@ -114070,7 +115655,7 @@ static u32 module_zak_put_word(module *self, u64 p0, u32 p1, u32 p2) {
   j0 = l11;
   i1 = l4;
   i2 = l8;
-  i0 = f82(self, j0, i1, i2);
+  i0 = f81(self, j0, i1, i2);
   i0 = !(i0);
   if (i0) {goto B13;}
   B14:;
@@ -114123,7 +115708,7 @@ static u32 module_zak_put_word(module *self, u64 p0, u32 p1, u32 p2) {
   i1 = (u32)(j1);
   i1 = i32_load8_u(j1);
   i2 = p2;
-  i0 = f49(self, j0, i1, i2);
+  i0 = f48(self, j0, i1, i2);
   p2 = i0;
   j0 = l11;
   j1 = 68ull;
@@ -114196,7 +115781,7 @@ static u32 module_zak_put_word(module *self, u64 p0, u32 p1, u32 p2) {
   j2 = (u64)(i2);
   j3 = 60ull;
   j2 &= j3;
-  j3 = 1048844ull;
+  j3 = 1048908ull;
   j2 += j3;
   i2 = (u32)(j2);
   i2 = i32_load(j2);
@@ -114209,7 +115794,7 @@ static u32 module_zak_put_word(module *self, u64 p0, u32 p1, u32 p2) {
   j0 = l11;
   i1 = l4;
   i2 = l8;
-  i0 = f83(self, j0, i1, i2); m = self->memory; if (NEVER(self->is_broken)) return ZAK_BROKEN;
+  i0 = f82(self, j0, i1, i2); m = self->memory; if (NEVER(self->is_broken)) return ZAK_BROKEN;
   l4 = i0;
   j0 = l11;
   j1 = 2003ull;
@@ -114260,7 +115845,7 @@ static u32 module_zak_put_word(module *self, u64 p0, u32 p1, u32 p2) {
   i1 = (u32)(j1);
   i1 = i32_load8_u(j1);
   i2 = p2;
-  i0 = f49(self, j0, i1, i2);
+  i0 = f48(self, j0, i1, i2);
   p2 = i0;
   j0 = l11;
   j1 = 68ull;
@@ -114333,7 +115918,7 @@ static u32 module_zak_put_word(module *self, u64 p0, u32 p1, u32 p2) {
   j2 = (u64)(i2);
   j3 = 60ull;
   j2 &= j3;
-  j3 = 1048844ull;
+  j3 = 1048908ull;
   j2 += j3;
   i2 = (u32)(j2);
   i2 = i32_load(j2);
@@ -115553,7 +117138,7 @@ static u32 module_zak_restore(module *self, u64 p0, u64 p1, u64 p2) {
   j0 = p1;
   j1 = l4;
   j2 = p2;
-  i0 = f85(self, j0, j1, j2); m = self->memory; if (NEVER(self->is_broken)) return ZAK_BROKEN;
+  i0 = f84(self, j0, j1, j2); m = self->memory; if (NEVER(self->is_broken)) return ZAK_BROKEN;
   l3 = i0;
   j0 = p0;
   i0 = (u32)(j0);
@@ -115857,7 +117442,7 @@ static u32 module_zak_restore_fixed(module *self, u64 p0, u64 p1, u64 p2) {
   j0 = l10;
   j1 = l11;
   j2 = l12;
-  i0 = f85(self, j0, j1, j2); m = self->memory; if (NEVER(self->is_broken)) return ZAK_BROKEN;
+  i0 = f84(self, j0, j1, j2); m = self->memory; if (NEVER(self->is_broken)) return ZAK_BROKEN;
   l3 = i0;
   B2:;
   j0 = p0;
@@ -115953,7 +117538,7 @@ static u32 module_zak_run(module *self, u64 p0, u64 p1, u64 p2, u64 p3, u64 p4, 
   j2 = i4 ? j2 : j3;
   j1 += j2;
   j2 = p3;
-  f72(self, j0, j1, j2); m = self->memory; if (NEVER(self->is_broken)) return ZAK_BROKEN;
+  f71(self, j0, j1, j2); m = self->memory; if (NEVER(self->is_broken)) return ZAK_BROKEN;
   j0 = l8;
   i0 = (u32)(j0);
   j0 = i64_load(j0 + 56u);
@@ -116006,7 +117591,7 @@ static u32 module_zak_run(module *self, u64 p0, u64 p1, u64 p2, u64 p3, u64 p4, 
   j1 += j2;
   p0 = j1;
   j2 = p1;
-  f76(self, j0, j1, j2); if (NEVER(self->is_broken)) return ZAK_BROKEN;
+  f75(self, j0, j1, j2); if (NEVER(self->is_broken)) return ZAK_BROKEN;
   j0 = l8;
   i0 = (u32)(j0);
   i0 = i32_load8_u(j0 + 144u);
@@ -116089,7 +117674,7 @@ static u32 module_zak_run(module *self, u64 p0, u64 p1, u64 p2, u64 p3, u64 p4, 
   j1 = l8;
   j2 = 96ull;
   j1 += j2;
-  f73(self, j0, j1); m = self->memory; if (NEVER(self->is_broken)) return ZAK_BROKEN;
+  f72(self, j0, j1); m = self->memory; if (NEVER(self->is_broken)) return ZAK_BROKEN;
   j0 = l8;
   i0 = (u32)(j0);
   j0 = i64_load(j0 + 160u);
@@ -116169,7 +117754,7 @@ static u32 module_zak_run(module *self, u64 p0, u64 p1, u64 p2, u64 p3, u64 p4, 
   j1 = 4616ull;
   j0 += j1;
   j1 = 1ull;
-  f89(self, j0, j1); if (NEVER(self->is_broken)) return ZAK_BROKEN;
+  f88(self, j0, j1); if (NEVER(self->is_broken)) return ZAK_BROKEN;
   j0 = l8;
   i0 = (u32)(j0);
   j1 = l8;
@@ -116241,7 +117826,7 @@ static u32 module_zak_run(module *self, u64 p0, u64 p1, u64 p2, u64 p3, u64 p4, 
   j5 = 4472ull;
   j4 += j5;
   j5 = 18446744073709551615ull;
-  f96(self, j0, j1, j2, j3, j4, j5); m = self->memory; if (NEVER(self->is_broken)) return ZAK_BROKEN;
+  f95(self, j0, j1, j2, j3, j4, j5); m = self->memory; if (NEVER(self->is_broken)) return ZAK_BROKEN;
   j0 = l8;
   i0 = (u32)(j0);
   j0 = i64_load(j0 + 4528u);
@@ -116278,19 +117863,19 @@ static u32 module_zak_run(module *self, u64 p0, u64 p1, u64 p2, u64 p3, u64 p4, 
   j0 = l8;
   i0 = (u32)(j0);
   j0 = i64_load(j0 + 2312u);
-  f162(self, j0);
+  f163(self, j0);
   B7:;
   j0 = p3;
   i0 = !(j0);
   if (i0) {goto B8;}
   j0 = l9;
-  f162(self, j0);
+  f163(self, j0);
   B8:;
   j0 = p2;
   i0 = !(j0);
   if (i0) {goto B9;}
   j0 = p1;
-  f162(self, j0);
+  f163(self, j0);
   B9:;
   j0 = l8;
   i0 = (u32)(j0);
@@ -116326,12 +117911,12 @@ static u32 module_zak_run(module *self, u64 p0, u64 p1, u64 p2, u64 p3, u64 p4, 
   j0 = i64_load(j0 + 16u);
   l9 = j0;
   j0 = p1;
-  f162(self, j0);
+  f163(self, j0);
   j0 = l9;
   i0 = !(j0);
   if (i0) {goto B10;}
   j0 = l10;
-  f162(self, j0);
+  f163(self, j0);
   B10:;
   i0 = l14;
   i1 = 255u;
@@ -116348,12 +117933,12 @@ static u32 module_zak_run(module *self, u64 p0, u64 p1, u64 p2, u64 p3, u64 p4, 
   j0 = i64_load(j0 + 16u);
   p1 = j0;
   j0 = p3;
-  f162(self, j0);
+  f163(self, j0);
   j0 = p1;
   i0 = !(j0);
   if (i0) {goto B11;}
   j0 = l9;
-  f162(self, j0);
+  f163(self, j0);
   B11:;
   i0 = l12;
   i1 = 255u;
@@ -116370,12 +117955,12 @@ static u32 module_zak_run(module *self, u64 p0, u64 p1, u64 p2, u64 p3, u64 p4, 
   j0 = i64_load(j0 + 16u);
   p3 = j0;
   j0 = p2;
-  f162(self, j0);
+  f163(self, j0);
   j0 = p3;
   i0 = !(j0);
   if (i0) {goto B12;}
   j0 = p1;
-  f162(self, j0);
+  f163(self, j0);
   B12:;
   i0 = l11;
   i1 = 255u;
@@ -116427,12 +118012,12 @@ static u32 module_zak_run(module *self, u64 p0, u64 p1, u64 p2, u64 p3, u64 p4, 
   j0 = i64_load(j0 + 16u);
   p3 = j0;
   j0 = p2;
-  f162(self, j0);
+  f163(self, j0);
   j0 = p3;
   i0 = !(j0);
   if (i0) {goto B13;}
   j0 = p1;
-  f162(self, j0);
+  f163(self, j0);
   B13:;
   i0 = l12;
   i1 = 255u;
@@ -116449,12 +118034,12 @@ static u32 module_zak_run(module *self, u64 p0, u64 p1, u64 p2, u64 p3, u64 p4, 
   j0 = i64_load(j0 + 16u);
   p2 = j0;
   j0 = l10;
-  f162(self, j0);
+  f163(self, j0);
   j0 = p2;
   i0 = !(j0);
   if (i0) {goto B14;}
   j0 = p3;
-  f162(self, j0);
+  f163(self, j0);
   B14:;
   i0 = l11;
   i1 = 255u;
@@ -116471,12 +118056,12 @@ static u32 module_zak_run(module *self, u64 p0, u64 p1, u64 p2, u64 p3, u64 p4, 
   j0 = i64_load(j0 + 16u);
   p2 = j0;
   j0 = l9;
-  f162(self, j0);
+  f163(self, j0);
   j0 = p2;
   i0 = !(j0);
   if (i0) {goto B1;}
   j0 = p3;
-  f162(self, j0);
+  f163(self, j0);
   goto B1;
   B5:;
   j0 = p4;
@@ -116616,7 +118201,7 @@ static u32 module_zak_run(module *self, u64 p0, u64 p1, u64 p2, u64 p3, u64 p4, 
   i0 = !(j0);
   if (i0) {goto B0;}
   j0 = p7;
-  f162(self, j0);
+  f163(self, j0);
   goto B0;
   B3:;
   j0 = p2;
@@ -116638,7 +118223,7 @@ static u32 module_zak_run(module *self, u64 p0, u64 p1, u64 p2, u64 p3, u64 p4, 
   j0 = l8;
   i0 = (u32)(j0);
   j0 = i64_load(j0);
-  f162(self, j0);
+  f163(self, j0);
   B20:;
   i0 = 22u;
   l11 = i0;
@@ -116679,7 +118264,7 @@ static u32 module_zak_run(module *self, u64 p0, u64 p1, u64 p2, u64 p3, u64 p4, 
   j0 = (u64)(s64)(s8)(u8)(j0);
   j1 = 2ull;
   j0 <<= (j1 & 63);
-  j1 = 1051908ull;
+  j1 = 1052028ull;
   j0 += j1;
   i0 = (u32)(j0);
   i0 = i32_load(j0);
@@ -116760,7 +118345,7 @@ static u32 module_zak_run_on(module *self, u64 p0, u64 p1, u64 p2, u32 p3, u32 p
   j0 = l11;
   j1 = 2072ull;
   j0 += j1;
-  i0 = f22(self, j0);
+  i0 = f21(self, j0);
   i0 = !(i0);
   if (i0) {goto B2;}
   j0 = l10;
@@ -116787,7 +118372,7 @@ static u32 module_zak_run_on(module *self, u64 p0, u64 p1, u64 p2, u32 p3, u32 p
   j1 += j2;
   l12 = j1;
   j2 = p2;
-  f76(self, j0, j1, j2); if (NEVER(self->is_broken)) return ZAK_BROKEN;
+  f75(self, j0, j1, j2); if (NEVER(self->is_broken)) return ZAK_BROKEN;
   j0 = l10;
   i0 = (u32)(j0);
   i0 = i32_load8_u(j0 + 120u);
@@ -117125,7 +118710,7 @@ static u32 module_zak_run_on(module *self, u64 p0, u64 p1, u64 p2, u32 p3, u32 p
     j0 += j1;
     j1 = l16;
     j2 = p9;
-    f77(self, j0, j1, j2);
+    f76(self, j0, j1, j2);
     j0 = l10;
     i0 = (u32)(j0);
     i0 = i32_load8_u(j0 + 120u);
@@ -117158,7 +118743,7 @@ static u32 module_zak_run_on(module *self, u64 p0, u64 p1, u64 p2, u32 p3, u32 p
     j1 = l10;
     j2 = 56ull;
     j1 += j2;
-    f97(self, j0, j1); if (NEVER(self->is_broken)) return ZAK_BROKEN;
+    f96(self, j0, j1); if (NEVER(self->is_broken)) return ZAK_BROKEN;
     j0 = l10;
     i0 = (u32)(j0);
     i0 = i32_load16_u(j0 + 232u);
@@ -117420,7 +119005,7 @@ static u32 module_zak_run_on(module *self, u64 p0, u64 p1, u64 p2, u32 p3, u32 p
     j0 += j1;
     j1 = p2;
     j2 = p1;
-    f77(self, j0, j1, j2);
+    f76(self, j0, j1, j2);
     j0 = l10;
     i0 = (u32)(j0);
     i0 = i32_load8_u(j0 + 120u);
@@ -117555,7 +119140,7 @@ static u32 module_zak_run_on(module *self, u64 p0, u64 p1, u64 p2, u32 p3, u32 p
   j2 = 1ull;
   j1 += j2;
   p1 = j1;
-  f89(self, j0, j1); if (NEVER(self->is_broken)) return ZAK_BROKEN;
+  f88(self, j0, j1); if (NEVER(self->is_broken)) return ZAK_BROKEN;
   j0 = l10;
   i0 = (u32)(j0);
   j1 = l10;
@@ -117628,7 +119213,7 @@ static u32 module_zak_run_on(module *self, u64 p0, u64 p1, u64 p2, u32 p3, u32 p
   j4 += j5;
   i5 = p4;
   j5 = (u64)(i5);
-  f96(self, j0, j1, j2, j3, j4, j5); m = self->memory; if (NEVER(self->is_broken)) return ZAK_BROKEN;
+  f95(self, j0, j1, j2, j3, j4, j5); m = self->memory; if (NEVER(self->is_broken)) return ZAK_BROKEN;
   j0 = l10;
   i0 = (u32)(j0);
   i0 = i32_load8_u(j0 + 96u);
@@ -117801,7 +119386,7 @@ static u32 module_zak_run_on(module *self, u64 p0, u64 p1, u64 p2, u32 p3, u32 p
   i0 = !(j0);
   if (i0) {goto B2;}
   j0 = p7;
-  f162(self, j0);
+  f163(self, j0);
   goto B2;
   B39:;
   i0 = 23u;
@@ -117814,7 +119399,7 @@ static u32 module_zak_run_on(module *self, u64 p0, u64 p1, u64 p2, u32 p3, u32 p
   j0 = l10;
   i0 = (u32)(j0);
   j0 = i64_load(j0 + 16u);
-  f162(self, j0);
+  f163(self, j0);
   goto B2;
   B3:;
   j0 = l10;
@@ -117859,7 +119444,7 @@ static u32 module_zak_run_on(module *self, u64 p0, u64 p1, u64 p2, u32 p3, u32 p
   j0 = (u64)(s64)(s8)(u8)(j0);
   j1 = 2ull;
   j0 <<= (j1 & 63);
-  j1 = 1051908ull;
+  j1 = 1052028ull;
   j0 += j1;
   i0 = (u32)(j0);
   i0 = i32_load(j0);
@@ -117997,7 +119582,7 @@ static u32 module_zak_save(module *self, u64 p0, u64 p1, u64 p2, u64 p3) {
   i4 = !(j4);
   j2 = i4 ? j2 : j3;
   j1 += j2;
-  f98(self, j0, j1); if (NEVER(self->is_broken)) return ZAK_BROKEN;
+  f97(self, j0, j1); if (NEVER(self->is_broken)) return ZAK_BROKEN;
   i0 = 0u;
   l4 = i0;
   B4:;
@@ -118108,7 +119693,7 @@ static u32 module_zak_save_fixed(module *self, u64 p0, u64 p1, u64 p2) {
   j2 = i4 ? j2 : j3;
   j1 += j2;
   l10 = j1;
-  f98(self, j0, j1); if (NEVER(self->is_broken)) return ZAK_BROKEN;
+  f97(self, j0, j1); if (NEVER(self->is_broken)) return ZAK_BROKEN;
   j0 = p2;
   j1 = 18446744073709551612ull;
   j0 += j1;
@@ -118518,7 +120103,7 @@ static u32 module_zak_screen_cell(module *self, u64 p0, u32 p1, u32 p2, u32 p3, 
   j2 = l6;
   j3 = 2072ull;
   j2 += j3;
-  f99(self, j0, j1, j2); m = self->memory; if (NEVER(self->is_broken)) return ZAK_BROKEN;
+  f98(self, j0, j1, j2); m = self->memory; if (NEVER(self->is_broken)) return ZAK_BROKEN;
   j0 = l5;
   i0 = (u32)(j0);
   i0 = i32_load8_u(j0 + 8u);
@@ -118640,19 +120225,19 @@ static u32 module_zak_screen_cell(module *self, u64 p0, u32 p1, u32 p2, u32 p3, 
   i0 = !(j0);
   if (i0) {goto B6;}
   j0 = l8;
-  f162(self, j0);
+  f163(self, j0);
   B6:;
   j0 = l10;
   i0 = !(j0);
   if (i0) {goto B7;}
   j0 = l11;
-  f162(self, j0);
+  f163(self, j0);
   B7:;
   j0 = p4;
   i0 = !(j0);
   if (i0) {goto B2;}
   j0 = l9;
-  f162(self, j0);
+  f163(self, j0);
   B2:;
   j0 = p0;
   i0 = (u32)(j0);
@@ -118731,7 +120316,7 @@ static u32 module_zak_screen_cursor(module *self, u64 p0, u32 p1, u64 p2) {
   j2 = l4;
   j3 = 2072ull;
   j2 += j3;
-  f99(self, j0, j1, j2); m = self->memory; if (NEVER(self->is_broken)) return ZAK_BROKEN;
+  f98(self, j0, j1, j2); m = self->memory; if (NEVER(self->is_broken)) return ZAK_BROKEN;
   j0 = l3;
   i0 = (u32)(j0);
   i0 = i32_load8_u(j0);
@@ -118803,7 +120388,7 @@ static u32 module_zak_screen_cursor(module *self, u64 p0, u32 p1, u64 p2) {
   j0 = l3;
   i0 = (u32)(j0);
   j0 = i64_load(j0 + 936u);
-  f162(self, j0);
+  f163(self, j0);
   B6:;
   j0 = l3;
   i0 = (u32)(j0);
@@ -118813,7 +120398,7 @@ static u32 module_zak_screen_cursor(module *self, u64 p0, u32 p1, u64 p2) {
   j0 = l3;
   i0 = (u32)(j0);
   j0 = i64_load(j0 + 960u);
-  f162(self, j0);
+  f163(self, j0);
   B7:;
   j0 = l3;
   i0 = (u32)(j0);
@@ -118823,7 +120408,7 @@ static u32 module_zak_screen_cursor(module *self, u64 p0, u32 p1, u64 p2) {
   j0 = l3;
   i0 = (u32)(j0);
   j0 = i64_load(j0 + 1792u);
-  f162(self, j0);
+  f163(self, j0);
   B2:;
   j0 = p0;
   i0 = (u32)(j0);
@@ -118906,7 +120491,7 @@ static u32 module_zak_screen_pixel(module *self, u64 p0, u32 p1, u32 p2, u32 p3,
   j2 = l6;
   j3 = 2072ull;
   j2 += j3;
-  f99(self, j0, j1, j2); m = self->memory; if (NEVER(self->is_broken)) return ZAK_BROKEN;
+  f98(self, j0, j1, j2); m = self->memory; if (NEVER(self->is_broken)) return ZAK_BROKEN;
   j0 = l5;
   i0 = (u32)(j0);
   i0 = i32_load8_u(j0 + 8u);
@@ -119023,19 +120608,19 @@ static u32 module_zak_screen_pixel(module *self, u64 p0, u32 p1, u32 p2, u32 p3,
   j0 = l5;
   i0 = (u32)(j0);
   j0 = i64_load(j0 + 40u);
-  f162(self, j0);
+  f163(self, j0);
   B6:;
   j0 = l9;
   i0 = !(j0);
   if (i0) {goto B7;}
   j0 = l7;
-  f162(self, j0);
+  f163(self, j0);
   B7:;
   j0 = p4;
   i0 = !(j0);
   if (i0) {goto B2;}
   j0 = l10;
-  f162(self, j0);
+  f163(self, j0);
   B2:;
   j0 = p0;
   i0 = (u32)(j0);
@@ -119114,7 +120699,7 @@ static u32 module_zak_screen_read(module *self, u64 p0, u64 p1) {
   j2 = l3;
   j3 = 2072ull;
   j2 += j3;
-  f99(self, j0, j1, j2); m = self->memory; if (NEVER(self->is_broken)) return ZAK_BROKEN;
+  f98(self, j0, j1, j2); m = self->memory; if (NEVER(self->is_broken)) return ZAK_BROKEN;
   j0 = l2;
   i0 = (u32)(j0);
   i0 = i32_load8_u(j0);
@@ -119173,7 +120758,7 @@ static u32 module_zak_screen_read(module *self, u64 p0, u64 p1) {
   i2 = (u32)(j2);
   i2 = i32_load16_u(j2);
   l11 = i2;
-  f23(self, j0, i1, i2);
+  f22(self, j0, i1, i2);
   j0 = l2;
   i0 = (u32)(j0);
   i0 = i32_load8_u(j0 + 920u);
@@ -119262,19 +120847,19 @@ static u32 module_zak_screen_read(module *self, u64 p0, u64 p1) {
   i0 = !(j0);
   if (i0) {goto B7;}
   j0 = l9;
-  f162(self, j0);
+  f163(self, j0);
   B7:;
   j0 = l6;
   i0 = !(j0);
   if (i0) {goto B8;}
   j0 = l7;
-  f162(self, j0);
+  f163(self, j0);
   B8:;
   j0 = l4;
   i0 = !(j0);
   if (i0) {goto B2;}
   j0 = l5;
-  f162(self, j0);
+  f163(self, j0);
   B2:;
   j0 = p0;
   i0 = (u32)(j0);
@@ -119337,7 +120922,7 @@ static u32 module_zak_show_bda(module *self, u64 p0, u64 p1, u64 p2, u64 p3) {
   j2 += j3;
   j3 = p2;
   j4 = p3;
-  i0 = f102(self, j0, j1, j2, j3, j4); m = self->memory; if (NEVER(self->is_broken)) return ZAK_BROKEN;
+  i0 = f101(self, j0, j1, j2, j3, j4); m = self->memory; if (NEVER(self->is_broken)) return ZAK_BROKEN;
   l5 = i0;
   j0 = l4;
   j1 = 16ull;
@@ -119383,7 +120968,7 @@ static u32 module_zak_show_beam(module *self, u64 p0, u64 p1, u64 p2, u64 p3) {
   j2 += j3;
   j3 = p2;
   j4 = p3;
-  i0 = f102(self, j0, j1, j2, j3, j4); m = self->memory; if (NEVER(self->is_broken)) return ZAK_BROKEN;
+  i0 = f101(self, j0, j1, j2, j3, j4); m = self->memory; if (NEVER(self->is_broken)) return ZAK_BROKEN;
   l5 = i0;
   j0 = l4;
   j1 = 16ull;
@@ -119429,7 +121014,7 @@ static u32 module_zak_show_cells(module *self, u64 p0, u64 p1, u64 p2, u64 p3) {
   j2 += j3;
   j3 = p2;
   j4 = p3;
-  i0 = f102(self, j0, j1, j2, j3, j4); m = self->memory; if (NEVER(self->is_broken)) return ZAK_BROKEN;
+  i0 = f101(self, j0, j1, j2, j3, j4); m = self->memory; if (NEVER(self->is_broken)) return ZAK_BROKEN;
   l5 = i0;
   j0 = l4;
   j1 = 16ull;
@@ -119474,7 +121059,7 @@ static u32 module_zak_show_dac(module *self, u64 p0, u32 p1, u64 p2, u64 p3, u64
   j2 += j3;
   j3 = p3;
   j4 = p4;
-  i0 = f102(self, j0, j1, j2, j3, j4); m = self->memory; if (NEVER(self->is_broken)) return ZAK_BROKEN;
+  i0 = f101(self, j0, j1, j2, j3, j4); m = self->memory; if (NEVER(self->is_broken)) return ZAK_BROKEN;
   p1 = i0;
   j0 = l5;
   j1 = 16ull;
@@ -119520,7 +121105,7 @@ static u32 module_zak_show_latches(module *self, u64 p0, u64 p1, u64 p2, u64 p3)
   j2 += j3;
   j3 = p2;
   j4 = p3;
-  i0 = f102(self, j0, j1, j2, j3, j4); m = self->memory; if (NEVER(self->is_broken)) return ZAK_BROKEN;
+  i0 = f101(self, j0, j1, j2, j3, j4); m = self->memory; if (NEVER(self->is_broken)) return ZAK_BROKEN;
   l5 = i0;
   j0 = l4;
   j1 = 16ull;
@@ -119604,7 +121189,7 @@ static u32 module_zak_show_plane(module *self, u64 p0, u32 p1, u32 p2, u32 p3, u
   j2 += j3;
   j3 = p5;
   j4 = p6;
-  i0 = f102(self, j0, j1, j2, j3, j4); m = self->memory; if (NEVER(self->is_broken)) return ZAK_BROKEN;
+  i0 = f101(self, j0, j1, j2, j3, j4); m = self->memory; if (NEVER(self->is_broken)) return ZAK_BROKEN;
   l8 = i0;
   B0:;
   j0 = l7;
@@ -119647,7 +121232,7 @@ static u32 module_zak_show_regs(module *self, u64 p0, u64 p1, u64 p2, u64 p3) {
   j2 += j3;
   j3 = p2;
   j4 = p3;
-  i0 = f102(self, j0, j1, j2, j3, j4); m = self->memory; if (NEVER(self->is_broken)) return ZAK_BROKEN;
+  i0 = f101(self, j0, j1, j2, j3, j4); m = self->memory; if (NEVER(self->is_broken)) return ZAK_BROKEN;
   l5 = i0;
   j0 = l4;
   j1 = 16ull;
@@ -119916,48 +121501,48 @@ static u32 module_zak_status_text(module *self, u32 p0, u64 p1, u64 p2, u64 p3) 
   u8 *m = self->memory;
   u32 i0, i1, i2, i3;
   u64 j0, j1, j2, j3;
-  j0 = 1049531ull;
+  j0 = 1049595ull;
   l4 = j0;
   j0 = 25ull;
   l5 = j0;
   i0 = p0;
   switch (i0) {
     case 0: goto B0;
-    case 1: goto B36;
-    case 2: goto B35;
-    case 3: goto B34;
-    case 4: goto B33;
-    case 5: goto B32;
-    case 6: goto B31;
-    case 7: goto B30;
-    case 8: goto B29;
-    case 9: goto B28;
-    case 10: goto B27;
-    case 11: goto B26;
-    case 12: goto B25;
-    case 13: goto B24;
+    case 1: goto B37;
+    case 2: goto B36;
+    case 3: goto B35;
+    case 4: goto B34;
+    case 5: goto B33;
+    case 6: goto B32;
+    case 7: goto B31;
+    case 8: goto B30;
+    case 9: goto B29;
+    case 10: goto B28;
+    case 11: goto B27;
+    case 12: goto B26;
+    case 13: goto B25;
     case 14: goto B1;
     case 15: goto B1;
     case 16: goto B1;
     case 17: goto B1;
     case 18: goto B1;
     case 19: goto B1;
-    case 20: goto B23;
-    case 21: goto B22;
-    case 22: goto B21;
-    case 23: goto B20;
-    case 24: goto B19;
-    case 25: goto B18;
-    case 26: goto B17;
-    case 27: goto B16;
-    case 28: goto B15;
-    case 29: goto B14;
-    case 30: goto B13;
-    case 31: goto B12;
-    case 32: goto B11;
-    case 33: goto B10;
-    case 34: goto B9;
-    case 35: goto B1;
+    case 20: goto B24;
+    case 21: goto B23;
+    case 22: goto B22;
+    case 23: goto B21;
+    case 24: goto B20;
+    case 25: goto B19;
+    case 26: goto B18;
+    case 27: goto B17;
+    case 28: goto B16;
+    case 29: goto B15;
+    case 30: goto B14;
+    case 31: goto B13;
+    case 32: goto B12;
+    case 33: goto B11;
+    case 34: goto B10;
+    case 35: goto B9;
     case 36: goto B1;
     case 37: goto B1;
     case 38: goto B1;
@@ -120036,218 +121621,224 @@ static u32 module_zak_status_text(module *self, u32 p0, u64 p1, u64 p2, u64 p3) 
     case 111: goto B2;
     default: goto B1;
   }
-  B36:;
-  j0 = 1049556ull;
+  B37:;
+  j0 = 1049620ull;
   l4 = j0;
   j0 = 72ull;
   l5 = j0;
   goto B0;
-  B35:;
-  j0 = 1049628ull;
+  B36:;
+  j0 = 1049692ull;
   l4 = j0;
   j0 = 76ull;
   l5 = j0;
   goto B0;
-  B34:;
-  j0 = 1049704ull;
+  B35:;
+  j0 = 1049768ull;
   l4 = j0;
   j0 = 32ull;
   l5 = j0;
   goto B0;
-  B33:;
-  j0 = 1049736ull;
+  B34:;
+  j0 = 1049800ull;
   l4 = j0;
   j0 = 69ull;
   l5 = j0;
   goto B0;
-  B32:;
-  j0 = 1049805ull;
+  B33:;
+  j0 = 1049869ull;
   l4 = j0;
   j0 = 46ull;
   l5 = j0;
   goto B0;
-  B31:;
-  j0 = 1049851ull;
+  B32:;
+  j0 = 1049915ull;
   l4 = j0;
   j0 = 79ull;
   l5 = j0;
   goto B0;
-  B30:;
-  j0 = 1049930ull;
+  B31:;
+  j0 = 1049994ull;
   l4 = j0;
   j0 = 40ull;
   l5 = j0;
   goto B0;
-  B29:;
-  j0 = 1049970ull;
+  B30:;
+  j0 = 1050034ull;
   l4 = j0;
   j0 = 68ull;
   l5 = j0;
   goto B0;
-  B28:;
-  j0 = 1050038ull;
+  B29:;
+  j0 = 1050102ull;
   l4 = j0;
   j0 = 83ull;
   l5 = j0;
   goto B0;
-  B27:;
-  j0 = 1050121ull;
+  B28:;
+  j0 = 1050185ull;
   l4 = j0;
   j0 = 59ull;
   l5 = j0;
   goto B0;
-  B26:;
-  j0 = 1050180ull;
+  B27:;
+  j0 = 1050244ull;
   l4 = j0;
   j0 = 74ull;
   l5 = j0;
   goto B0;
-  B25:;
-  j0 = 1050254ull;
+  B26:;
+  j0 = 1050318ull;
   l4 = j0;
   j0 = 54ull;
   l5 = j0;
   goto B0;
-  B24:;
-  j0 = 1050308ull;
+  B25:;
+  j0 = 1050372ull;
   l4 = j0;
   j0 = 51ull;
   l5 = j0;
   goto B0;
-  B23:;
-  j0 = 1050359ull;
+  B24:;
+  j0 = 1050423ull;
   l4 = j0;
   j0 = 34ull;
   l5 = j0;
   goto B0;
-  B22:;
-  j0 = 1050393ull;
+  B23:;
+  j0 = 1050457ull;
   l4 = j0;
   j0 = 43ull;
   l5 = j0;
   goto B0;
-  B21:;
-  j0 = 1050436ull;
+  B22:;
+  j0 = 1050500ull;
   l4 = j0;
   j0 = 55ull;
   l5 = j0;
   goto B0;
-  B20:;
-  j0 = 1050491ull;
+  B21:;
+  j0 = 1050555ull;
   l4 = j0;
   j0 = 40ull;
   l5 = j0;
   goto B0;
-  B19:;
-  j0 = 1050531ull;
+  B20:;
+  j0 = 1050595ull;
   l4 = j0;
   j0 = 74ull;
   l5 = j0;
   goto B0;
-  B18:;
-  j0 = 1050605ull;
+  B19:;
+  j0 = 1050669ull;
   l4 = j0;
   j0 = 68ull;
   l5 = j0;
   goto B0;
-  B17:;
-  j0 = 1050673ull;
+  B18:;
+  j0 = 1050737ull;
   l4 = j0;
   j0 = 70ull;
   l5 = j0;
   goto B0;
-  B16:;
-  j0 = 1050743ull;
+  B17:;
+  j0 = 1050807ull;
   l4 = j0;
   j0 = 75ull;
   l5 = j0;
   goto B0;
-  B15:;
-  j0 = 1050818ull;
+  B16:;
+  j0 = 1050882ull;
   l4 = j0;
   j0 = 49ull;
   l5 = j0;
   goto B0;
-  B14:;
-  j0 = 1050867ull;
+  B15:;
+  j0 = 1050931ull;
   l4 = j0;
   j0 = 69ull;
   l5 = j0;
   goto B0;
-  B13:;
-  j0 = 1050936ull;
+  B14:;
+  j0 = 1051000ull;
   l4 = j0;
   j0 = 46ull;
   l5 = j0;
   goto B0;
-  B12:;
-  j0 = 1050982ull;
+  B13:;
+  j0 = 1051046ull;
   l4 = j0;
   j0 = 63ull;
   l5 = j0;
   goto B0;
-  B11:;
-  j0 = 1051045ull;
+  B12:;
+  j0 = 1051109ull;
   l4 = j0;
   j0 = 59ull;
   l5 = j0;
   goto B0;
-  B10:;
-  j0 = 1051104ull;
+  B11:;
+  j0 = 1051168ull;
   l4 = j0;
   j0 = 57ull;
   l5 = j0;
   goto B0;
-  B9:;
-  j0 = 1051161ull;
+  B10:;
+  j0 = 1051225ull;
   l4 = j0;
   j0 = 55ull;
   l5 = j0;
   goto B0;
+  B9:;
+  j0 = 1051280ull;
+  l4 = j0;
+  j0 = 56ull;
+  l5 = j0;
+  goto B0;
   B8:;
-  j0 = 1051216ull;
+  j0 = 1051336ull;
   l4 = j0;
   j0 = 67ull;
   l5 = j0;
   goto B0;
   B7:;
-  j0 = 1051283ull;
+  j0 = 1051403ull;
   l4 = j0;
   j0 = 48ull;
   l5 = j0;
   goto B0;
   B6:;
-  j0 = 1051331ull;
+  j0 = 1051451ull;
   l4 = j0;
   j0 = 57ull;
   l5 = j0;
   goto B0;
   B5:;
-  j0 = 1051388ull;
+  j0 = 1051508ull;
   l4 = j0;
   j0 = 52ull;
   l5 = j0;
   goto B0;
   B4:;
-  j0 = 1051440ull;
+  j0 = 1051560ull;
   l4 = j0;
   j0 = 68ull;
   l5 = j0;
   goto B0;
   B3:;
-  j0 = 1051508ull;
+  j0 = 1051628ull;
   l4 = j0;
   j0 = 43ull;
   l5 = j0;
   goto B0;
   B2:;
-  j0 = 1051551ull;
+  j0 = 1051671ull;
   l4 = j0;
   j0 = 71ull;
   l5 = j0;
   goto B0;
   B1:;
-  j0 = 1051622ull;
+  j0 = 1051742ull;
   l4 = j0;
   j0 = 26ull;
   l5 = j0;
@@ -120261,7 +121852,7 @@ static u32 module_zak_status_text(module *self, u32 p0, u64 p1, u64 p2, u64 p3) 
   j0 = p2;
   j1 = l5;
   i0 = j0 < j1;
-  if (i0) {goto B37;}
+  if (i0) {goto B38;}
   j0 = p1;
   j1 = 4096ull;
   j2 = 0ull;
@@ -120274,7 +121865,7 @@ static u32 module_zak_status_text(module *self, u32 p0, u64 p1, u64 p2, u64 p3) 
   j0 -= j1;
   j1 = l5;
   i0 = j0 >= j1;
-  if (i0) {goto B38;}
+  if (i0) {goto B39;}
   j0 = l5;
   j1 = 124ull;
   j0 &= j1;
@@ -120285,7 +121876,7 @@ static u32 module_zak_status_text(module *self, u32 p0, u64 p1, u64 p2, u64 p3) 
   p2 = j0;
   j0 = 0ull;
   l5 = j0;
-  L39: 
+  L40: 
     j0 = l6;
     j1 = l5;
     j0 += j1;
@@ -120334,12 +121925,12 @@ static u32 module_zak_status_text(module *self, u32 p0, u64 p1, u64 p2, u64 p3) 
     j1 += j2;
     l5 = j1;
     i0 = j0 != j1;
-    if (i0) {goto L39;}
+    if (i0) {goto L40;}
   i0 = 0u;
   p0 = i0;
   j0 = p2;
   i0 = !(j0);
-  if (i0) {goto B37;}
+  if (i0) {goto B38;}
   j0 = l4;
   j1 = l5;
   j0 += j1;
@@ -120348,7 +121939,7 @@ static u32 module_zak_status_text(module *self, u32 p0, u64 p1, u64 p2, u64 p3) 
   j1 = l5;
   j0 += j1;
   l5 = j0;
-  L40: 
+  L41: 
     j0 = l5;
     i0 = (u32)(j0);
     j1 = p1;
@@ -120369,13 +121960,13 @@ static u32 module_zak_status_text(module *self, u32 p0, u64 p1, u64 p2, u64 p3) 
     p2 = j0;
     j1 = 0ull;
     i0 = j0 != j1;
-    if (i0) {goto L40;}
-    goto B37;
+    if (i0) {goto L41;}
+    goto B38;
   { self->is_broken = true; return ZAK_BROKEN; }
-  B38:;
+  B39:;
   j0 = l5;
   i0 = !(j0);
-  if (i0) {goto B41;}
+  if (i0) {goto B42;}
   j0 = l6;
   i0 = (u32)(j0);
   j1 = l4;
@@ -120383,10 +121974,10 @@ static u32 module_zak_status_text(module *self, u32 p0, u64 p1, u64 p2, u64 p3) 
   j2 = l5;
   i2 = (u32)(j2);
   memory_copy(j0, j1, j2);
-  B41:;
+  B42:;
   i0 = 0u;
   p0 = i0;
-  B37:;
+  B38:;
   i0 = p0;
   return i0;
 }
@@ -120410,7 +122001,7 @@ static u64 module_page_take(module *self, u64 p0) {
   j0 = l1;
   j1 = p0;
   j2 = 16ull;
-  f159(self, j0, j1, j2); m = self->memory; if (NEVER(self->is_broken)) return 0;
+  f160(self, j0, j1, j2); m = self->memory; if (NEVER(self->is_broken)) return 0;
   j0 = l1;
   i0 = (u32)(j0);
   j0 = i64_load(j0);
@@ -120435,12 +122026,12 @@ static u32 module_page_give(module *self, u64 p0) {
   u32 i0;
   u64 j0;
   j0 = p0;
-  f162(self, j0);
+  f163(self, j0);
   i0 = 0u;
   return i0;
 }
 
-static void f159(module *self, u64 p0, u64 p1, u64 p2) {
+static void f160(module *self, u64 p0, u64 p1, u64 p2) {
   u64 l3 = 0;
   u8 *m = self->memory;
   u32 i0, i1;
@@ -120452,7 +122043,7 @@ static void f159(module *self, u64 p0, u64 p1, u64 p2) {
   i0 = j0 > j1;
   if (i0) {goto B0;}
   j0 = p1;
-  j0 = f160(self, j0); m = self->memory; if (NEVER(self->is_broken)) return;
+  j0 = f161(self, j0); m = self->memory; if (NEVER(self->is_broken)) return;
   l3 = j0;
   B0:;
   j0 = p0;
@@ -120468,7 +122059,7 @@ static void f159(module *self, u64 p0, u64 p1, u64 p2) {
   i64_store(j0, j1);
 }
 
-static u64 f160(module *self, u64 p0) {
+static u64 f161(module *self, u64 p0) {
   u32 l8 = 0;
   u64 l1 = 0, l2 = 0, l3 = 0, l4 = 0, l5 = 0, l6 = 0, l7 = 0;
   u8 *m = self->memory;
@@ -120496,11 +122087,11 @@ static u64 f160(module *self, u64 p0) {
   l1 = j0;
   j0 = 0ull;
   i0 = (u32)(j0);
-  j0 = i64_load(j0 + 1051952u);
+  j0 = i64_load(j0 + 1052072u);
   l2 = j0;
   i0 = !(j0);
   if (i0) {goto B10;}
-  j0 = 1051952ull;
+  j0 = 1052072ull;
   l3 = j0;
   j0 = l2;
   i0 = (u32)(j0);
@@ -120538,7 +122129,7 @@ static u64 f160(module *self, u64 p0) {
   l5 = j0;
   j0 = 0ull;
   i0 = (u32)(j0);
-  i0 = i32_load8_u(j0 + 1051960u);
+  i0 = i32_load8_u(j0 + 1052080u);
   if (i0) {goto B5;}
   i0 = self->pages;
   j0 = (u64)(i0);
@@ -120548,12 +122139,12 @@ static u64 f160(module *self, u64 p0) {
   j0 = 0ull;
   i0 = (u32)(j0);
   i1 = 1u;
-  i32_store8(j0 + 1051960, i1);
+  i32_store8(j0 + 1052080, i1);
   j0 = l2;
   j1 = 16ull;
   j0 <<= (j1 & 63);
   l3 = j0;
-  j1 = 1051968ull;
+  j1 = 1052096ull;
   j2 = 15ull;
   j1 += j2;
   j2 = 18446744073709551600ull;
@@ -120570,7 +122161,7 @@ static u64 f160(module *self, u64 p0) {
   j1 -= j2;
   l6 = j1;
   i64_store(j0, j1);
-  j0 = 1051952ull;
+  j0 = 1052072ull;
   l3 = j0;
   L13: 
     j0 = p0;
@@ -120679,7 +122270,7 @@ static u64 f160(module *self, u64 p0) {
   j0 = 0ull;
   i0 = (u32)(j0);
   j1 = l2;
-  i64_store(j0 + 1051952, j1);
+  i64_store(j0 + 1052072, j1);
   goto B3;
   B16:;
   j0 = l7;
@@ -120747,7 +122338,7 @@ static u64 f160(module *self, u64 p0) {
     i0 = (u32)(j0);
     j1 = l5;
     i64_store(j0, j1);
-    j0 = 1051952ull;
+    j0 = 1052072ull;
     l3 = j0;
     j0 = 0ull;
     p0 = j0;
@@ -120818,7 +122409,7 @@ static u64 f160(module *self, u64 p0) {
     j0 = 0ull;
     i0 = (u32)(j0);
     j1 = l2;
-    i64_store(j0 + 1051952, j1);
+    i64_store(j0 + 1052072, j1);
     goto B21;
     B29:;
     j0 = l7;
@@ -120853,7 +122444,7 @@ static u64 f160(module *self, u64 p0) {
     B22:;
     j0 = 0ull;
     i0 = (u32)(j0);
-    j0 = i64_load(j0 + 1051952u);
+    j0 = i64_load(j0 + 1052072u);
     l2 = j0;
     i0 = !(j0);
     if (i0) {goto B19;}
@@ -120869,7 +122460,7 @@ static u64 f160(module *self, u64 p0) {
     j1 = l1;
     i0 = j0 < j1;
     if (i0) {goto B33;}
-    j0 = 1051952ull;
+    j0 = 1052072ull;
     l3 = j0;
     goto B32;
     B33:;
@@ -120943,7 +122534,7 @@ static u64 f160(module *self, u64 p0) {
   return j0;
 }
 
-static void f161(module *self, u64 p0, u64 p1, u64 p2, u64 p3, u64 p4) {
+static void f162(module *self, u64 p0, u64 p1, u64 p2, u64 p3, u64 p4) {
   u32 l8 = 0;
   u64 l5 = 0, l6 = 0, l7 = 0;
   u8 *m = self->memory;
@@ -120979,7 +122570,7 @@ static void f161(module *self, u64 p0, u64 p1, u64 p2, u64 p3, u64 p4) {
   i0 = j0 > j1;
   if (i0) {goto B1;}
   j0 = p3;
-  j0 = f160(self, j0); m = self->memory; if (NEVER(self->is_broken)) return;
+  j0 = f161(self, j0); m = self->memory; if (NEVER(self->is_broken)) return;
   l7 = j0;
   i0 = !(j0);
   i0 = !(i0);
@@ -121001,7 +122592,7 @@ static void f161(module *self, u64 p0, u64 p1, u64 p2, u64 p3, u64 p4) {
   i2 = (u32)(j2);
   memory_copy(j0, j1, j2);
   B3:;
-  j0 = 1051952ull;
+  j0 = 1052072ull;
   p4 = j0;
   j0 = 0ull;
   p3 = j0;
@@ -121071,7 +122662,7 @@ static void f161(module *self, u64 p0, u64 p1, u64 p2, u64 p3, u64 p4) {
   j0 = 0ull;
   i0 = (u32)(j0);
   j1 = l5;
-  i64_store(j0 + 1051952, j1);
+  i64_store(j0 + 1052072, j1);
   goto B8;
   B9:;
   j0 = l6;
@@ -121116,7 +122707,7 @@ static void f161(module *self, u64 p0, u64 p1, u64 p2, u64 p3, u64 p4) {
   Bfunc:;
 }
 
-static void f162(module *self, u64 p0) {
+static void f163(module *self, u64 p0) {
   u32 l6 = 0;
   u64 l1 = 0, l2 = 0, l3 = 0, l4 = 0, l5 = 0;
   u8 *m = self->memory;
@@ -121126,7 +122717,7 @@ static void f162(module *self, u64 p0) {
   j1 = 18446744073709551600ull;
   j0 += j1;
   l1 = j0;
-  j0 = 1051952ull;
+  j0 = 1052072ull;
   l2 = j0;
   j0 = 0ull;
   l3 = j0;
@@ -121196,7 +122787,7 @@ static void f162(module *self, u64 p0) {
   j0 = 0ull;
   i0 = (u32)(j0);
   j1 = l1;
-  i64_store(j0 + 1051952, j1);
+  i64_store(j0 + 1052072, j1);
   goto Bfunc;
   B4:;
   j0 = l4;
@@ -121235,225 +122826,235 @@ static void f162(module *self, u64 p0) {
 
 static const u8 d0[] = {
   0x00, 0x00, 0x00, 0x00, 0x00, 0x00, 0x00, 0x00, 0x00, 0x00, 0x00, 0x00,
-  0x00, 0x00, 0x00, 0x00, 0x00, 0x00, 0x00, 0x00, 0x00, 0x00, 0xff, 0xff,
-  0x00, 0x00, 0x00, 0x00, 0x00, 0x00, 0xff, 0xff, 0x00, 0x00, 0x00, 0xff,
-  0xff, 0xff, 0x00, 0x00, 0x00, 0x00, 0x00, 0xff, 0xff, 0xff, 0x00, 0x00,
-  0x00, 0x00, 0x00, 0xff, 0xff, 0xff, 0xff, 0xff, 0x00, 0x00, 0x00, 0xff,
-  0xff, 0xff, 0xff, 0xff, 0xff, 0xff, 0xff, 0x00, 0x00, 0x00, 0x00, 0x00,
-  0xff, 0xff, 0xff, 0x00, 0x00, 0x00, 0x00, 0x00, 0xff, 0xff, 0xff, 0x00,
-  0x00, 0x00, 0xff, 0xff, 0xff, 0xff, 0xff, 0x00, 0x00, 0x00, 0xff, 0xff,
+  0x00, 0x00, 0xff, 0xff, 0x00, 0x00, 0x00, 0xff, 0xff, 0xff, 0x00, 0x00,
+  0x00, 0x00, 0x00, 0xff, 0xff, 0xff, 0xff, 0xff, 0xff, 0xff, 0xff, 0x00,
+  0x00, 0x00, 0x00, 0x00, 0xff, 0xff, 0xff, 0x00, 0x00, 0x00, 0xff, 0xff,
   0xff, 0xff, 0xff, 0xff, 0xff, 0xff, 0x00, 0x00, 0xff, 0xff, 0xff, 0xff,
-  0xff, 0xff, 0x00, 0x00, 0xff, 0xff, 0xff, 0xff, 0xff, 0xff, 0xff, 0xff,
+  0xff, 0xff, 0xff, 0xff, 0x00, 0x00, 0x00, 0x00, 0x00, 0x00, 0x00, 0x00,
+  0x00, 0x00, 0x00, 0x00, 0x00, 0x00, 0x00, 0xff, 0x00, 0x00, 0x00, 0x00,
+  0xff, 0xff, 0xff, 0x00, 0x00, 0x00, 0x00, 0x00, 0xff, 0xff, 0xff, 0xff,
+  0x00, 0xff, 0xff, 0xff, 0x00, 0x00, 0x00, 0x00, 0x00, 0xff, 0xff, 0xff,
+  0x00, 0x00, 0x00, 0xff, 0x00, 0xff, 0xff, 0xff, 0xff, 0xff, 0xff, 0x00,
+  0x00, 0xff, 0xff, 0xff, 0xff, 0xff, 0xff, 0xff, 0xff, 0x00, 0x00, 0x00,
+  0x00, 0x00, 0x00, 0x00, 0xff, 0x00, 0x00, 0x00, 0x00, 0x00, 0x00, 0xff,
+  0xff, 0x00, 0x00, 0x00, 0xff, 0xff, 0xff, 0x00, 0xff, 0x00, 0x00, 0x00,
   0xff, 0xff, 0xff, 0xff, 0xff, 0xff, 0xff, 0xff, 0x00, 0x00, 0x00, 0x00,
-  0x00, 0xff, 0xff, 0xff, 0xff, 0x00, 0x00, 0x00, 0xff, 0xff, 0xff, 0xff,
-  0x00, 0x00, 0x00, 0x00, 0x00, 0xff, 0xff, 0xff, 0xff, 0x00, 0x00, 0x00,
-  0xff, 0xff, 0xff, 0xff, 0x00, 0x00, 0x00, 0x00, 0x00, 0xff, 0xff, 0xff,
-  0xff, 0x00, 0x00, 0x00, 0xff, 0xff, 0xff, 0xff, 0x00, 0x00, 0x00, 0x00,
-  0x00, 0xff, 0xff, 0xff, 0xff, 0x00, 0x00, 0x00, 0xff, 0xff, 0xff, 0xff,
-  0x56, 0x47, 0x41, 0x53, 0x6f, 0x75, 0x74, 0x69, 0x6e, 0x77, 0x70, 0x75,
-  0x74, 0x67, 0x65, 0x74, 0x61, 0x64, 0x76, 0x61, 0x6e, 0x63, 0x65, 0x66,
-  0x72, 0x61, 0x6d, 0x65, 0x73, 0x68, 0x6f, 0x77, 0x61, 0x78, 0x3d, 0x62,
-  0x78, 0x3d, 0x63, 0x78, 0x3d, 0x64, 0x78, 0x3d, 0x64, 0x61, 0x63, 0x00,
-  0x6c, 0x61, 0x74, 0x63, 0x68, 0x65, 0x73, 0x62, 0x64, 0x61, 0x63, 0x65,
-  0x6c, 0x6c, 0x73, 0x0c, 0x00, 0x0c, 0x02, 0x0c, 0x03, 0x0c, 0x05, 0x0c,
-  0x06, 0x00, 0x00, 0x00, 0x00, 0x00, 0x00, 0x00, 0xff, 0x00, 0x00, 0x00,
-  0x00, 0xff, 0x00, 0x00, 0xff, 0xff, 0x00, 0x00, 0x00, 0x00, 0xff, 0x00,
-  0xff, 0x00, 0xff, 0x00, 0x00, 0xff, 0xff, 0x00, 0xff, 0xff, 0xff, 0x00,
-  0x00, 0x00, 0x00, 0xff, 0xff, 0x00, 0x00, 0xff, 0x00, 0xff, 0x00, 0xff,
-  0xff, 0xff, 0x00, 0xff, 0x00, 0x00, 0xff, 0xff, 0xff, 0x00, 0xff, 0xff,
-  0x00, 0xff, 0xff, 0xff, 0xff, 0xff, 0xff, 0xff, 0x76, 0x65, 0x72, 0x73,
-  0x69, 0x6f, 0x6e, 0x20, 0x32, 0x0a, 0x69, 0x6e, 0x74, 0x20, 0x61, 0x78,
-  0x3d, 0x20, 0x62, 0x78, 0x3d, 0x20, 0x63, 0x78, 0x3d, 0x20, 0x64, 0x78,
-  0x3d, 0x20, 0x62, 0x6c, 0x6f, 0x63, 0x6b, 0x20, 0x30, 0x31, 0x32, 0x33,
-  0x34, 0x35, 0x36, 0x37, 0x38, 0x39, 0x41, 0x42, 0x43, 0x44, 0x45, 0x46,
-  0x30, 0x30, 0x30, 0x31, 0x30, 0x32, 0x30, 0x33, 0x30, 0x34, 0x30, 0x35,
-  0x30, 0x36, 0x30, 0x37, 0x30, 0x38, 0x30, 0x39, 0x31, 0x30, 0x31, 0x31,
-  0x31, 0x32, 0x31, 0x33, 0x31, 0x34, 0x31, 0x35, 0x31, 0x36, 0x31, 0x37,
-  0x31, 0x38, 0x31, 0x39, 0x32, 0x30, 0x32, 0x31, 0x32, 0x32, 0x32, 0x33,
-  0x32, 0x34, 0x32, 0x35, 0x32, 0x36, 0x32, 0x37, 0x32, 0x38, 0x32, 0x39,
-  0x33, 0x30, 0x33, 0x31, 0x33, 0x32, 0x33, 0x33, 0x33, 0x34, 0x33, 0x35,
-  0x33, 0x36, 0x33, 0x37, 0x33, 0x38, 0x33, 0x39, 0x34, 0x30, 0x34, 0x31,
-  0x34, 0x32, 0x34, 0x33, 0x34, 0x34, 0x34, 0x35, 0x34, 0x36, 0x34, 0x37,
-  0x34, 0x38, 0x34, 0x39, 0x35, 0x30, 0x35, 0x31, 0x35, 0x32, 0x35, 0x33,
-  0x35, 0x34, 0x35, 0x35, 0x35, 0x36, 0x35, 0x37, 0x35, 0x38, 0x35, 0x39,
-  0x36, 0x30, 0x36, 0x31, 0x36, 0x32, 0x36, 0x33, 0x36, 0x34, 0x36, 0x35,
-  0x36, 0x36, 0x36, 0x37, 0x36, 0x38, 0x36, 0x39, 0x37, 0x30, 0x37, 0x31,
-  0x37, 0x32, 0x37, 0x33, 0x37, 0x34, 0x37, 0x35, 0x37, 0x36, 0x37, 0x37,
-  0x37, 0x38, 0x37, 0x39, 0x38, 0x30, 0x38, 0x31, 0x38, 0x32, 0x38, 0x33,
-  0x38, 0x34, 0x38, 0x35, 0x38, 0x36, 0x38, 0x37, 0x38, 0x38, 0x38, 0x39,
-  0x39, 0x30, 0x39, 0x31, 0x39, 0x32, 0x39, 0x33, 0x39, 0x34, 0x39, 0x35,
-  0x39, 0x36, 0x39, 0x37, 0x39, 0x38, 0x39, 0x39, 0x66, 0x72, 0x61, 0x6d,
-  0x65, 0x0a, 0x73, 0x68, 0x6f, 0x77, 0x20, 0x72, 0x65, 0x67, 0x73, 0x0a,
-  0x73, 0x68, 0x6f, 0x77, 0x20, 0x62, 0x65, 0x61, 0x6d, 0x0a, 0x73, 0x68,
-  0x6f, 0x77, 0x20, 0x6c, 0x61, 0x74, 0x63, 0x68, 0x65, 0x73, 0x0a, 0x73,
-  0x68, 0x6f, 0x77, 0x20, 0x62, 0x64, 0x61, 0x0a, 0x73, 0x68, 0x6f, 0x77,
-  0x20, 0x63, 0x65, 0x6c, 0x6c, 0x73, 0x0a, 0x73, 0x68, 0x6f, 0x77, 0x20,
-  0x64, 0x61, 0x63, 0x20, 0x73, 0x68, 0x6f, 0x77, 0x20, 0x70, 0x6c, 0x61,
-  0x6e, 0x65, 0x20, 0x72, 0x65, 0x70, 0x65, 0x61, 0x74, 0x20, 0x65, 0x6e,
-  0x64, 0x0a, 0x5a, 0x41, 0x4b, 0x53, 0x01, 0x50, 0x36, 0x0a, 0x72, 0x61,
-  0x67, 0x67, 0x65, 0x64, 0x0a, 0x73, 0x65, 0x71, 0x63, 0x72, 0x74, 0x63,
-  0x67, 0x66, 0x78, 0x6d, 0x69, 0x73, 0x63, 0x61, 0x74, 0x74, 0x72, 0x20,
-  0x64, 0x3a, 0x20, 0x69, 0x3a, 0x00, 0x00, 0x00, 0x00, 0x00, 0x00, 0x00,
-  0x65, 0x6e, 0x74, 0x72, 0x79, 0x6c, 0x69, 0x6e, 0x65, 0x63, 0x68, 0x61,
-  0x72, 0x64, 0x6f, 0x74, 0x62, 0x61, 0x73, 0x65, 0x73, 0x63, 0x61, 0x6e,
-  0x68, 0x61, 0x6c, 0x66, 0x73, 0x70, 0x6c, 0x69, 0x74, 0x70, 0x6c, 0x61,
-  0x6e, 0x65, 0x20, 0x6d, 0x6f, 0x64, 0x65, 0x63, 0x6f, 0x6c, 0x73, 0x73,
-  0x69, 0x7a, 0x65, 0x73, 0x74, 0x61, 0x72, 0x74, 0x20, 0x61, 0x74, 0x74,
-  0x79, 0x70, 0x65, 0x70, 0x61, 0x67, 0x65, 0x6c, 0x61, 0x73, 0x74, 0x68,
-  0x65, 0x69, 0x67, 0x68, 0x74, 0x6f, 0x6b, 0x0a, 0x45, 0x31, 0x20, 0x4e,
-  0x6f, 0x74, 0x44, 0x65, 0x63, 0x6f, 0x64, 0x65, 0x64, 0x45, 0x32, 0x20,
-  0x4e, 0x6f, 0x74, 0x49, 0x6e, 0x50, 0x72, 0x6f, 0x66, 0x69, 0x6c, 0x65,
-  0x45, 0x33, 0x20, 0x4e, 0x6f, 0x4d, 0x6f, 0x64, 0x65, 0x45, 0x34, 0x20,
-  0x42, 0x61, 0x64, 0x46, 0x75, 0x6e, 0x63, 0x74, 0x69, 0x6f, 0x6e, 0x45,
-  0x35, 0x20, 0x42, 0x61, 0x64, 0x4d, 0x6f, 0x64, 0x65, 0x45, 0x36, 0x20,
-  0x57, 0x72, 0x6f, 0x6e, 0x67, 0x4b, 0x69, 0x6e, 0x64, 0x45, 0x37, 0x20,
-  0x42, 0x61, 0x64, 0x50, 0x61, 0x67, 0x65, 0x45, 0x38, 0x20, 0x4f, 0x75,
-  0x74, 0x73, 0x69, 0x64, 0x65, 0x45, 0x39, 0x20, 0x43, 0x6f, 0x75, 0x6e,
-  0x74, 0x50, 0x61, 0x73, 0x74, 0x45, 0x31, 0x30, 0x20, 0x42, 0x61, 0x64,
-  0x52, 0x65, 0x67, 0x69, 0x73, 0x74, 0x65, 0x72, 0x45, 0x31, 0x31, 0x20,
-  0x42, 0x61, 0x64, 0x42, 0x6c, 0x6f, 0x63, 0x6b, 0x45, 0x31, 0x32, 0x20,
-  0x54, 0x6f, 0x6f, 0x46, 0x61, 0x72, 0x45, 0x31, 0x33, 0x20, 0x42, 0x61,
-  0x64, 0x48, 0x65, 0x69, 0x67, 0x68, 0x74, 0x5a, 0x41, 0x4b, 0x5f, 0x4f,
-  0x4b, 0x3a, 0x20, 0x54, 0x68, 0x65, 0x20, 0x63, 0x61, 0x6c, 0x6c, 0x20,
-  0x69, 0x73, 0x20, 0x64, 0x6f, 0x6e, 0x65, 0x2e, 0x5a, 0x41, 0x4b, 0x5f,
-  0x4e, 0x4f, 0x54, 0x5f, 0x44, 0x45, 0x43, 0x4f, 0x44, 0x45, 0x44, 0x3a,
-  0x20, 0x4e, 0x6f, 0x20, 0x70, 0x61, 0x72, 0x74, 0x20, 0x6f, 0x66, 0x20,
-  0x74, 0x68, 0x65, 0x20, 0x61, 0x64, 0x61, 0x70, 0x74, 0x65, 0x72, 0x20,
-  0x64, 0x65, 0x63, 0x6f, 0x64, 0x65, 0x73, 0x20, 0x74, 0x68, 0x65, 0x20,
-  0x70, 0x6f, 0x72, 0x74, 0x20, 0x6f, 0x72, 0x20, 0x74, 0x68, 0x65, 0x20,
-  0x61, 0x64, 0x64, 0x72, 0x65, 0x73, 0x73, 0x2e, 0x5a, 0x41, 0x4b, 0x5f,
-  0x4e, 0x4f, 0x54, 0x5f, 0x49, 0x4e, 0x5f, 0x50, 0x52, 0x4f, 0x46, 0x49,
-  0x4c, 0x45, 0x3a, 0x20, 0x64, 0x6f, 0x63, 0x73, 0x2f, 0x50, 0x52, 0x4f,
-  0x46, 0x49, 0x4c, 0x45, 0x2e, 0x6d, 0x64, 0x20, 0x6c, 0x65, 0x61, 0x76,
-  0x65, 0x73, 0x20, 0x6f, 0x75, 0x74, 0x20, 0x74, 0x68, 0x69, 0x73, 0x20,
-  0x72, 0x65, 0x67, 0x69, 0x73, 0x74, 0x65, 0x72, 0x2c, 0x20, 0x76, 0x61,
-  0x6c, 0x75, 0x65, 0x20, 0x6f, 0x72, 0x20, 0x70, 0x6f, 0x72, 0x74, 0x2e,
-  0x5a, 0x41, 0x4b, 0x5f, 0x4e, 0x4f, 0x5f, 0x4d, 0x4f, 0x44, 0x45, 0x3a,
-  0x20, 0x4e, 0x6f, 0x20, 0x6d, 0x6f, 0x64, 0x65, 0x20, 0x69, 0x73, 0x20,
-  0x73, 0x65, 0x74, 0x20, 0x79, 0x65, 0x74, 0x2e, 0x5a, 0x41, 0x4b, 0x5f,
-  0x42, 0x41, 0x44, 0x5f, 0x46, 0x55, 0x4e, 0x43, 0x54, 0x49, 0x4f, 0x4e,
-  0x3a, 0x20, 0x54, 0x68, 0x65, 0x20, 0x76, 0x69, 0x64, 0x65, 0x6f, 0x20,
-  0x42, 0x49, 0x4f, 0x53, 0x20, 0x68, 0x61, 0x73, 0x20, 0x6e, 0x6f, 0x20,
-  0x73, 0x75, 0x63, 0x68, 0x20, 0x66, 0x75, 0x6e, 0x63, 0x74, 0x69, 0x6f,
-  0x6e, 0x20, 0x6f, 0x72, 0x20, 0x73, 0x75, 0x62, 0x66, 0x75, 0x6e, 0x63,
-  0x74, 0x69, 0x6f, 0x6e, 0x2e, 0x5a, 0x41, 0x4b, 0x5f, 0x42, 0x41, 0x44,
-  0x5f, 0x4d, 0x4f, 0x44, 0x45, 0x3a, 0x20, 0x54, 0x68, 0x65, 0x20, 0x76,
-  0x69, 0x64, 0x65, 0x6f, 0x20, 0x42, 0x49, 0x4f, 0x53, 0x20, 0x68, 0x61,
-  0x73, 0x20, 0x6e, 0x6f, 0x20, 0x73, 0x75, 0x63, 0x68, 0x20, 0x6d, 0x6f,
-  0x64, 0x65, 0x2e, 0x5a, 0x41, 0x4b, 0x5f, 0x57, 0x52, 0x4f, 0x4e, 0x47,
-  0x5f, 0x4b, 0x49, 0x4e, 0x44, 0x3a, 0x20, 0x54, 0x68, 0x65, 0x20, 0x63,
-  0x61, 0x6c, 0x6c, 0x20, 0x69, 0x73, 0x20, 0x66, 0x6f, 0x72, 0x20, 0x70,
-  0x69, 0x78, 0x65, 0x6c, 0x73, 0x20, 0x69, 0x6e, 0x20, 0x61, 0x20, 0x74,
-  0x65, 0x78, 0x74, 0x20, 0x6d, 0x6f, 0x64, 0x65, 0x2c, 0x20, 0x6f, 0x72,
-  0x20, 0x66, 0x6f, 0x72, 0x20, 0x74, 0x65, 0x78, 0x74, 0x20, 0x69, 0x6e,
-  0x20, 0x67, 0x72, 0x61, 0x70, 0x68, 0x69, 0x63, 0x73, 0x2e, 0x5a, 0x41,
-  0x4b, 0x5f, 0x42, 0x41, 0x44, 0x5f, 0x50, 0x41, 0x47, 0x45, 0x3a, 0x20,
-  0x54, 0x68, 0x65, 0x20, 0x6d, 0x6f, 0x64, 0x65, 0x20, 0x68, 0x61, 0x73,
-  0x20, 0x6e, 0x6f, 0x20, 0x73, 0x75, 0x63, 0x68, 0x20, 0x70, 0x61, 0x67,
-  0x65, 0x2e, 0x5a, 0x41, 0x4b, 0x5f, 0x4f, 0x55, 0x54, 0x53, 0x49, 0x44,
-  0x45, 0x3a, 0x20, 0x54, 0x68, 0x65, 0x20, 0x70, 0x69, 0x78, 0x65, 0x6c,
-  0x20, 0x6f, 0x72, 0x20, 0x74, 0x68, 0x65, 0x20, 0x63, 0x75, 0x72, 0x73,
-  0x6f, 0x72, 0x20, 0x70, 0x6f, 0x73, 0x69, 0x74, 0x69, 0x6f, 0x6e, 0x20,
-  0x69, 0x73, 0x20, 0x6f, 0x75, 0x74, 0x73, 0x69, 0x64, 0x65, 0x20, 0x74,
-  0x68, 0x65, 0x20, 0x73, 0x63, 0x72, 0x65, 0x65, 0x6e, 0x2e, 0x5a, 0x41,
-  0x4b, 0x5f, 0x43, 0x4f, 0x55, 0x4e, 0x54, 0x5f, 0x50, 0x41, 0x53, 0x54,
-  0x3a, 0x20, 0x43, 0x68, 0x61, 0x72, 0x61, 0x63, 0x74, 0x65, 0x72, 0x73,
-  0x20, 0x70, 0x61, 0x73, 0x73, 0x20, 0x74, 0x68, 0x65, 0x20, 0x70, 0x61,
-  0x67, 0x65, 0x27, 0x73, 0x20, 0x6c, 0x61, 0x73, 0x74, 0x20, 0x63, 0x65,
-  0x6c, 0x6c, 0x2c, 0x20, 0x6f, 0x72, 0x20, 0x67, 0x6c, 0x79, 0x70, 0x68,
-  0x73, 0x20, 0x74, 0x68, 0x65, 0x20, 0x6c, 0x61, 0x73, 0x74, 0x20, 0x63,
-  0x68, 0x61, 0x72, 0x61, 0x63, 0x74, 0x65, 0x72, 0x2e, 0x5a, 0x41, 0x4b,
-  0x5f, 0x42, 0x41, 0x44, 0x5f, 0x52, 0x45, 0x47, 0x49, 0x53, 0x54, 0x45,
-  0x52, 0x3a, 0x20, 0x54, 0x68, 0x65, 0x72, 0x65, 0x20, 0x69, 0x73, 0x20,
-  0x6e, 0x6f, 0x20, 0x73, 0x75, 0x63, 0x68, 0x20, 0x70, 0x61, 0x6c, 0x65,
-  0x74, 0x74, 0x65, 0x20, 0x6f, 0x72, 0x20, 0x44, 0x41, 0x43, 0x20, 0x72,
-  0x65, 0x67, 0x69, 0x73, 0x74, 0x65, 0x72, 0x2e, 0x5a, 0x41, 0x4b, 0x5f,
-  0x42, 0x41, 0x44, 0x5f, 0x42, 0x4c, 0x4f, 0x43, 0x4b, 0x3a, 0x20, 0x54,
-  0x68, 0x65, 0x20, 0x62, 0x6c, 0x6f, 0x63, 0x6b, 0x20, 0x64, 0x6f, 0x65,
-  0x73, 0x20, 0x6e, 0x6f, 0x74, 0x20, 0x68, 0x61, 0x76, 0x65, 0x20, 0x74,
-  0x68, 0x65, 0x20, 0x6c, 0x65, 0x6e, 0x67, 0x74, 0x68, 0x20, 0x74, 0x68,
-  0x61, 0x74, 0x20, 0x74, 0x68, 0x65, 0x20, 0x66, 0x75, 0x6e, 0x63, 0x74,
-  0x69, 0x6f, 0x6e, 0x20, 0x74, 0x61, 0x6b, 0x65, 0x73, 0x2e, 0x5a, 0x41,
-  0x4b, 0x5f, 0x54, 0x4f, 0x4f, 0x5f, 0x46, 0x41, 0x52, 0x3a, 0x20, 0x41,
-  0x6e, 0x20, 0x61, 0x64, 0x76, 0x61, 0x6e, 0x63, 0x65, 0x20, 0x74, 0x61,
-  0x6b, 0x65, 0x73, 0x20, 0x61, 0x74, 0x20, 0x6d, 0x6f, 0x73, 0x74, 0x20,
-  0x31, 0x36, 0x2c, 0x37, 0x37, 0x37, 0x2c, 0x32, 0x31, 0x36, 0x20, 0x64,
-  0x6f, 0x74, 0x73, 0x2e, 0x5a, 0x41, 0x4b, 0x5f, 0x42, 0x41, 0x44, 0x5f,
-  0x48, 0x45, 0x49, 0x47, 0x48, 0x54, 0x3a, 0x20, 0x47, 0x6c, 0x79, 0x70,
-  0x68, 0x73, 0x20, 0x68, 0x61, 0x76, 0x65, 0x20, 0x38, 0x2c, 0x20, 0x31,
-  0x34, 0x20, 0x6f, 0x72, 0x20, 0x31, 0x36, 0x20, 0x73, 0x63, 0x61, 0x6e,
-  0x20, 0x6c, 0x69, 0x6e, 0x65, 0x73, 0x2e, 0x5a, 0x41, 0x4b, 0x5f, 0x4e,
-  0x4f, 0x5f, 0x43, 0x41, 0x52, 0x44, 0x3a, 0x20, 0x54, 0x68, 0x65, 0x20,
-  0x63, 0x61, 0x72, 0x64, 0x20, 0x69, 0x73, 0x20, 0x6e, 0x6f, 0x74, 0x20,
-  0x6f, 0x70, 0x65, 0x6e, 0x2e, 0x5a, 0x41, 0x4b, 0x5f, 0x4f, 0x50, 0x45,
-  0x4e, 0x5f, 0x41, 0x4c, 0x52, 0x45, 0x41, 0x44, 0x59, 0x3a, 0x20, 0x54,
-  0x68, 0x65, 0x20, 0x63, 0x61, 0x72, 0x64, 0x20, 0x69, 0x73, 0x20, 0x6f,
-  0x70, 0x65, 0x6e, 0x20, 0x61, 0x6c, 0x72, 0x65, 0x61, 0x64, 0x79, 0x2e,
-  0x5a, 0x41, 0x4b, 0x5f, 0x46, 0x4f, 0x4e, 0x54, 0x5f, 0x53, 0x49, 0x5a,
-  0x45, 0x3a, 0x20, 0x54, 0x68, 0x65, 0x20, 0x66, 0x6f, 0x6e, 0x74, 0x20,
-  0x66, 0x69, 0x6c, 0x65, 0x20, 0x64, 0x6f, 0x65, 0x73, 0x20, 0x6e, 0x6f,
-  0x74, 0x20, 0x68, 0x61, 0x76, 0x65, 0x20, 0x39, 0x2c, 0x37, 0x32, 0x38,
-  0x20, 0x62, 0x79, 0x74, 0x65, 0x73, 0x2e, 0x5a, 0x41, 0x4b, 0x5f, 0x4f,
-  0x55, 0x54, 0x5f, 0x4f, 0x46, 0x5f, 0x4d, 0x45, 0x4d, 0x4f, 0x52, 0x59,
-  0x3a, 0x20, 0x41, 0x6e, 0x20, 0x61, 0x6c, 0x6c, 0x6f, 0x63, 0x61, 0x74,
-  0x69, 0x6f, 0x6e, 0x20, 0x66, 0x61, 0x69, 0x6c, 0x65, 0x64, 0x2e, 0x5a,
-  0x41, 0x4b, 0x5f, 0x52, 0x41, 0x47, 0x47, 0x45, 0x44, 0x3a, 0x20, 0x54,
-  0x77, 0x6f, 0x20, 0x72, 0x6f, 0x77, 0x73, 0x20, 0x6f, 0x66, 0x20, 0x74,
-  0x68, 0x65, 0x20, 0x66, 0x72, 0x61, 0x6d, 0x65, 0x20, 0x64, 0x69, 0x66,
-  0x66, 0x65, 0x72, 0x20, 0x69, 0x6e, 0x20, 0x77, 0x69, 0x64, 0x74, 0x68,
-  0x2c, 0x20, 0x73, 0x6f, 0x20, 0x74, 0x68, 0x65, 0x72, 0x65, 0x20, 0x69,
-  0x73, 0x20, 0x6e, 0x6f, 0x20, 0x70, 0x69, 0x63, 0x74, 0x75, 0x72, 0x65,
-  0x2e, 0x5a, 0x41, 0x4b, 0x5f, 0x4e, 0x4f, 0x5f, 0x52, 0x4f, 0x4f, 0x4d,
-  0x3a, 0x20, 0x54, 0x68, 0x65, 0x20, 0x62, 0x75, 0x66, 0x66, 0x65, 0x72,
-  0x20, 0x69, 0x73, 0x20, 0x74, 0x6f, 0x6f, 0x20, 0x73, 0x68, 0x6f, 0x72,
-  0x74, 0x2c, 0x20, 0x61, 0x6e, 0x64, 0x20, 0x6e, 0x6f, 0x74, 0x68, 0x69,
-  0x6e, 0x67, 0x20, 0x77, 0x61, 0x73, 0x20, 0x77, 0x72, 0x69, 0x74, 0x74,
-  0x65, 0x6e, 0x20, 0x74, 0x68, 0x65, 0x72, 0x65, 0x2e, 0x5a, 0x41, 0x4b,
-  0x5f, 0x42, 0x41, 0x44, 0x5f, 0x41, 0x52, 0x47, 0x55, 0x4d, 0x45, 0x4e,
-  0x54, 0x3a, 0x20, 0x41, 0x6e, 0x20, 0x61, 0x72, 0x67, 0x75, 0x6d, 0x65,
-  0x6e, 0x74, 0x20, 0x69, 0x73, 0x20, 0x6f, 0x75, 0x74, 0x20, 0x6f, 0x66,
-  0x20, 0x74, 0x68, 0x65, 0x20, 0x72, 0x61, 0x6e, 0x67, 0x65, 0x20, 0x74,
-  0x68, 0x61, 0x74, 0x20, 0x74, 0x68, 0x65, 0x20, 0x63, 0x61, 0x6c, 0x6c,
-  0x20, 0x6e, 0x61, 0x6d, 0x65, 0x73, 0x2e, 0x5a, 0x41, 0x4b, 0x5f, 0x42,
-  0x41, 0x44, 0x5f, 0x43, 0x41, 0x52, 0x44, 0x3a, 0x20, 0x54, 0x68, 0x65,
-  0x20, 0x42, 0x49, 0x4f, 0x53, 0x20, 0x64, 0x61, 0x74, 0x61, 0x20, 0x61,
-  0x72, 0x65, 0x20, 0x63, 0x6f, 0x72, 0x72, 0x75, 0x70, 0x74, 0x3a, 0x20,
-  0x74, 0x68, 0x65, 0x20, 0x63, 0x61, 0x72, 0x64, 0x27, 0x73, 0x20, 0x6d,
-  0x65, 0x6d, 0x6f, 0x72, 0x79, 0x20, 0x77, 0x61, 0x73, 0x20, 0x6f, 0x76,
-  0x65, 0x72, 0x77, 0x72, 0x69, 0x74, 0x74, 0x65, 0x6e, 0x2e, 0x5a, 0x41,
-  0x4b, 0x5f, 0x4e, 0x4f, 0x5f, 0x53, 0x43, 0x52, 0x45, 0x45, 0x4e, 0x3a,
-  0x20, 0x54, 0x68, 0x65, 0x20, 0x61, 0x64, 0x61, 0x70, 0x74, 0x65, 0x72,
-  0x20, 0x73, 0x68, 0x6f, 0x77, 0x73, 0x20, 0x6e, 0x6f, 0x20, 0x70, 0x6c,
-  0x61, 0x69, 0x6e, 0x20, 0x73, 0x63, 0x72, 0x65, 0x65, 0x6e, 0x2e, 0x5a,
-  0x41, 0x4b, 0x5f, 0x42, 0x52, 0x4f, 0x4b, 0x45, 0x4e, 0x3a, 0x20, 0x54,
-  0x68, 0x65, 0x20, 0x6c, 0x69, 0x62, 0x72, 0x61, 0x72, 0x79, 0x20, 0x77,
-  0x61, 0x73, 0x20, 0x63, 0x6f, 0x6d, 0x70, 0x69, 0x6c, 0x65, 0x64, 0x20,
-  0x77, 0x72, 0x6f, 0x6e, 0x67, 0x6c, 0x79, 0x2c, 0x20, 0x61, 0x6e, 0x64,
-  0x20, 0x74, 0x68, 0x65, 0x20, 0x63, 0x61, 0x72, 0x64, 0x20, 0x69, 0x73,
-  0x20, 0x63, 0x6c, 0x6f, 0x73, 0x65, 0x64, 0x2e, 0x5a, 0x41, 0x4b, 0x5f,
-  0x53, 0x54, 0x41, 0x54, 0x45, 0x5f, 0x4d, 0x41, 0x47, 0x49, 0x43, 0x3a,
-  0x20, 0x54, 0x68, 0x65, 0x20, 0x62, 0x79, 0x74, 0x65, 0x73, 0x20, 0x61,
-  0x72, 0x65, 0x20, 0x6e, 0x6f, 0x20, 0x73, 0x61, 0x76, 0x65, 0x64, 0x20,
-  0x73, 0x74, 0x61, 0x74, 0x65, 0x2e, 0x5a, 0x41, 0x4b, 0x5f, 0x53, 0x54,
-  0x41, 0x54, 0x45, 0x5f, 0x56, 0x45, 0x52, 0x53, 0x49, 0x4f, 0x4e, 0x3a,
-  0x20, 0x54, 0x68, 0x65, 0x20, 0x73, 0x74, 0x61, 0x74, 0x65, 0x20, 0x68,
-  0x61, 0x73, 0x20, 0x61, 0x6e, 0x6f, 0x74, 0x68, 0x65, 0x72, 0x20, 0x76,
-  0x65, 0x72, 0x73, 0x69, 0x6f, 0x6e, 0x20, 0x6f, 0x66, 0x20, 0x74, 0x68,
-  0x65, 0x20, 0x66, 0x6f, 0x72, 0x6d, 0x61, 0x74, 0x2e, 0x5a, 0x41, 0x4b,
-  0x5f, 0x53, 0x54, 0x41, 0x54, 0x45, 0x5f, 0x4c, 0x45, 0x4e, 0x47, 0x54,
-  0x48, 0x3a, 0x20, 0x54, 0x68, 0x65, 0x20, 0x73, 0x74, 0x61, 0x74, 0x65,
-  0x20, 0x69, 0x73, 0x20, 0x63, 0x75, 0x74, 0x20, 0x6f, 0x66, 0x66, 0x2c,
-  0x20, 0x6f, 0x72, 0x20, 0x62, 0x79, 0x74, 0x65, 0x73, 0x20, 0x66, 0x6f,
-  0x6c, 0x6c, 0x6f, 0x77, 0x20, 0x69, 0x74, 0x2e, 0x5a, 0x41, 0x4b, 0x5f,
-  0x53, 0x54, 0x41, 0x54, 0x45, 0x5f, 0x50, 0x41, 0x52, 0x54, 0x3a, 0x20,
-  0x41, 0x20, 0x70, 0x61, 0x72, 0x74, 0x20, 0x6f, 0x66, 0x20, 0x74, 0x68,
-  0x65, 0x20, 0x73, 0x74, 0x61, 0x74, 0x65, 0x20, 0x69, 0x73, 0x20, 0x6f,
-  0x75, 0x74, 0x20, 0x6f, 0x66, 0x20, 0x69, 0x74, 0x73, 0x20, 0x62, 0x6f,
-  0x75, 0x6e, 0x64, 0x73, 0x2e, 0x5a, 0x41, 0x4b, 0x5f, 0x53, 0x54, 0x41,
-  0x54, 0x45, 0x5f, 0x43, 0x48, 0x45, 0x43, 0x4b, 0x53, 0x55, 0x4d, 0x3a,
-  0x20, 0x54, 0x68, 0x65, 0x20, 0x63, 0x68, 0x65, 0x63, 0x6b, 0x73, 0x75,
-  0x6d, 0x20, 0x6f, 0x66, 0x20, 0x74, 0x68, 0x65, 0x20, 0x73, 0x74, 0x61,
-  0x74, 0x65, 0x20, 0x69, 0x73, 0x20, 0x77, 0x72, 0x6f, 0x6e, 0x67, 0x2e,
+  0xff, 0xff, 0xff, 0xff, 0x00, 0x00, 0x00, 0xff, 0xff, 0xff, 0xff, 0xff,
+  0xff, 0xff, 0xff, 0x00, 0xff, 0xff, 0xff, 0xff, 0xff, 0xff, 0xff, 0xff,
+  0x00, 0x00, 0x00, 0x00, 0x00, 0x00, 0x00, 0x00, 0x00, 0x00, 0x00, 0x00,
+  0x00, 0xff, 0xff, 0xff, 0x00, 0x00, 0xff, 0xff, 0xff, 0x00, 0x00, 0x00,
+  0x00, 0x00, 0xff, 0xff, 0xff, 0xff, 0xff, 0xff, 0xff, 0xff, 0x00, 0x00,
+  0x00, 0x00, 0x00, 0x00, 0xff, 0xff, 0x00, 0x00, 0x00, 0xff, 0xff, 0xff,
+  0xff, 0xff, 0xff, 0xff, 0xff, 0x00, 0x00, 0x00, 0xff, 0xff, 0xff, 0xff,
+  0xff, 0xff, 0xff, 0xff, 0x56, 0x47, 0x41, 0x53, 0x6f, 0x75, 0x74, 0x69,
+  0x6e, 0x77, 0x70, 0x75, 0x74, 0x67, 0x65, 0x74, 0x61, 0x64, 0x76, 0x61,
+  0x6e, 0x63, 0x65, 0x66, 0x72, 0x61, 0x6d, 0x65, 0x73, 0x68, 0x6f, 0x77,
+  0x61, 0x78, 0x3d, 0x62, 0x78, 0x3d, 0x63, 0x78, 0x3d, 0x64, 0x78, 0x3d,
+  0x64, 0x61, 0x63, 0x00, 0x6c, 0x61, 0x74, 0x63, 0x68, 0x65, 0x73, 0x62,
+  0x64, 0x61, 0x63, 0x65, 0x6c, 0x6c, 0x73, 0x0c, 0x00, 0x0c, 0x02, 0x0c,
+  0x03, 0x0c, 0x05, 0x0c, 0x06, 0x00, 0x00, 0x00, 0x00, 0x00, 0x00, 0x00,
+  0xff, 0x00, 0x00, 0x00, 0x00, 0xff, 0x00, 0x00, 0xff, 0xff, 0x00, 0x00,
+  0x00, 0x00, 0xff, 0x00, 0xff, 0x00, 0xff, 0x00, 0x00, 0xff, 0xff, 0x00,
+  0xff, 0xff, 0xff, 0x00, 0x00, 0x00, 0x00, 0xff, 0xff, 0x00, 0x00, 0xff,
+  0x00, 0xff, 0x00, 0xff, 0xff, 0xff, 0x00, 0xff, 0x00, 0x00, 0xff, 0xff,
+  0xff, 0x00, 0xff, 0xff, 0x00, 0xff, 0xff, 0xff, 0xff, 0xff, 0xff, 0xff,
+  0x76, 0x65, 0x72, 0x73, 0x69, 0x6f, 0x6e, 0x20, 0x32, 0x0a, 0x69, 0x6e,
+  0x74, 0x20, 0x61, 0x78, 0x3d, 0x20, 0x62, 0x78, 0x3d, 0x20, 0x63, 0x78,
+  0x3d, 0x20, 0x64, 0x78, 0x3d, 0x20, 0x62, 0x6c, 0x6f, 0x63, 0x6b, 0x20,
+  0x30, 0x31, 0x32, 0x33, 0x34, 0x35, 0x36, 0x37, 0x38, 0x39, 0x41, 0x42,
+  0x43, 0x44, 0x45, 0x46, 0x30, 0x30, 0x30, 0x31, 0x30, 0x32, 0x30, 0x33,
+  0x30, 0x34, 0x30, 0x35, 0x30, 0x36, 0x30, 0x37, 0x30, 0x38, 0x30, 0x39,
+  0x31, 0x30, 0x31, 0x31, 0x31, 0x32, 0x31, 0x33, 0x31, 0x34, 0x31, 0x35,
+  0x31, 0x36, 0x31, 0x37, 0x31, 0x38, 0x31, 0x39, 0x32, 0x30, 0x32, 0x31,
+  0x32, 0x32, 0x32, 0x33, 0x32, 0x34, 0x32, 0x35, 0x32, 0x36, 0x32, 0x37,
+  0x32, 0x38, 0x32, 0x39, 0x33, 0x30, 0x33, 0x31, 0x33, 0x32, 0x33, 0x33,
+  0x33, 0x34, 0x33, 0x35, 0x33, 0x36, 0x33, 0x37, 0x33, 0x38, 0x33, 0x39,
+  0x34, 0x30, 0x34, 0x31, 0x34, 0x32, 0x34, 0x33, 0x34, 0x34, 0x34, 0x35,
+  0x34, 0x36, 0x34, 0x37, 0x34, 0x38, 0x34, 0x39, 0x35, 0x30, 0x35, 0x31,
+  0x35, 0x32, 0x35, 0x33, 0x35, 0x34, 0x35, 0x35, 0x35, 0x36, 0x35, 0x37,
+  0x35, 0x38, 0x35, 0x39, 0x36, 0x30, 0x36, 0x31, 0x36, 0x32, 0x36, 0x33,
+  0x36, 0x34, 0x36, 0x35, 0x36, 0x36, 0x36, 0x37, 0x36, 0x38, 0x36, 0x39,
+  0x37, 0x30, 0x37, 0x31, 0x37, 0x32, 0x37, 0x33, 0x37, 0x34, 0x37, 0x35,
+  0x37, 0x36, 0x37, 0x37, 0x37, 0x38, 0x37, 0x39, 0x38, 0x30, 0x38, 0x31,
+  0x38, 0x32, 0x38, 0x33, 0x38, 0x34, 0x38, 0x35, 0x38, 0x36, 0x38, 0x37,
+  0x38, 0x38, 0x38, 0x39, 0x39, 0x30, 0x39, 0x31, 0x39, 0x32, 0x39, 0x33,
+  0x39, 0x34, 0x39, 0x35, 0x39, 0x36, 0x39, 0x37, 0x39, 0x38, 0x39, 0x39,
+  0x66, 0x72, 0x61, 0x6d, 0x65, 0x0a, 0x73, 0x68, 0x6f, 0x77, 0x20, 0x72,
+  0x65, 0x67, 0x73, 0x0a, 0x73, 0x68, 0x6f, 0x77, 0x20, 0x62, 0x65, 0x61,
+  0x6d, 0x0a, 0x73, 0x68, 0x6f, 0x77, 0x20, 0x6c, 0x61, 0x74, 0x63, 0x68,
+  0x65, 0x73, 0x0a, 0x73, 0x68, 0x6f, 0x77, 0x20, 0x62, 0x64, 0x61, 0x0a,
+  0x73, 0x68, 0x6f, 0x77, 0x20, 0x63, 0x65, 0x6c, 0x6c, 0x73, 0x0a, 0x73,
+  0x68, 0x6f, 0x77, 0x20, 0x64, 0x61, 0x63, 0x20, 0x73, 0x68, 0x6f, 0x77,
+  0x20, 0x70, 0x6c, 0x61, 0x6e, 0x65, 0x20, 0x72, 0x65, 0x70, 0x65, 0x61,
+  0x74, 0x20, 0x65, 0x6e, 0x64, 0x0a, 0x5a, 0x41, 0x4b, 0x53, 0x01, 0x50,
+  0x36, 0x0a, 0x72, 0x61, 0x67, 0x67, 0x65, 0x64, 0x0a, 0x73, 0x65, 0x71,
+  0x63, 0x72, 0x74, 0x63, 0x67, 0x66, 0x78, 0x6d, 0x69, 0x73, 0x63, 0x61,
+  0x74, 0x74, 0x72, 0x20, 0x64, 0x3a, 0x20, 0x69, 0x3a, 0x00, 0x00, 0x00,
+  0x00, 0x00, 0x00, 0x00, 0x65, 0x6e, 0x74, 0x72, 0x79, 0x6c, 0x69, 0x6e,
+  0x65, 0x63, 0x68, 0x61, 0x72, 0x64, 0x6f, 0x74, 0x62, 0x61, 0x73, 0x65,
+  0x73, 0x63, 0x61, 0x6e, 0x68, 0x61, 0x6c, 0x66, 0x73, 0x70, 0x6c, 0x69,
+  0x74, 0x70, 0x6c, 0x61, 0x6e, 0x65, 0x20, 0x6d, 0x6f, 0x64, 0x65, 0x63,
+  0x6f, 0x6c, 0x73, 0x73, 0x69, 0x7a, 0x65, 0x73, 0x74, 0x61, 0x72, 0x74,
+  0x20, 0x61, 0x74, 0x74, 0x79, 0x70, 0x65, 0x70, 0x61, 0x67, 0x65, 0x6c,
+  0x61, 0x73, 0x74, 0x68, 0x65, 0x69, 0x67, 0x68, 0x74, 0x6f, 0x6b, 0x0a,
+  0x45, 0x31, 0x20, 0x4e, 0x6f, 0x74, 0x44, 0x65, 0x63, 0x6f, 0x64, 0x65,
+  0x64, 0x45, 0x32, 0x20, 0x4e, 0x6f, 0x74, 0x49, 0x6e, 0x50, 0x72, 0x6f,
+  0x66, 0x69, 0x6c, 0x65, 0x45, 0x33, 0x20, 0x4e, 0x6f, 0x4d, 0x6f, 0x64,
+  0x65, 0x45, 0x34, 0x20, 0x42, 0x61, 0x64, 0x46, 0x75, 0x6e, 0x63, 0x74,
+  0x69, 0x6f, 0x6e, 0x45, 0x35, 0x20, 0x42, 0x61, 0x64, 0x4d, 0x6f, 0x64,
+  0x65, 0x45, 0x36, 0x20, 0x57, 0x72, 0x6f, 0x6e, 0x67, 0x4b, 0x69, 0x6e,
+  0x64, 0x45, 0x37, 0x20, 0x42, 0x61, 0x64, 0x50, 0x61, 0x67, 0x65, 0x45,
+  0x38, 0x20, 0x4f, 0x75, 0x74, 0x73, 0x69, 0x64, 0x65, 0x45, 0x39, 0x20,
+  0x43, 0x6f, 0x75, 0x6e, 0x74, 0x50, 0x61, 0x73, 0x74, 0x45, 0x31, 0x30,
+  0x20, 0x42, 0x61, 0x64, 0x52, 0x65, 0x67, 0x69, 0x73, 0x74, 0x65, 0x72,
+  0x45, 0x31, 0x31, 0x20, 0x42, 0x61, 0x64, 0x42, 0x6c, 0x6f, 0x63, 0x6b,
+  0x45, 0x31, 0x32, 0x20, 0x54, 0x6f, 0x6f, 0x46, 0x61, 0x72, 0x45, 0x31,
+  0x33, 0x20, 0x42, 0x61, 0x64, 0x48, 0x65, 0x69, 0x67, 0x68, 0x74, 0x5a,
+  0x41, 0x4b, 0x5f, 0x4f, 0x4b, 0x3a, 0x20, 0x54, 0x68, 0x65, 0x20, 0x63,
+  0x61, 0x6c, 0x6c, 0x20, 0x69, 0x73, 0x20, 0x64, 0x6f, 0x6e, 0x65, 0x2e,
+  0x5a, 0x41, 0x4b, 0x5f, 0x4e, 0x4f, 0x54, 0x5f, 0x44, 0x45, 0x43, 0x4f,
+  0x44, 0x45, 0x44, 0x3a, 0x20, 0x4e, 0x6f, 0x20, 0x70, 0x61, 0x72, 0x74,
+  0x20, 0x6f, 0x66, 0x20, 0x74, 0x68, 0x65, 0x20, 0x61, 0x64, 0x61, 0x70,
+  0x74, 0x65, 0x72, 0x20, 0x64, 0x65, 0x63, 0x6f, 0x64, 0x65, 0x73, 0x20,
+  0x74, 0x68, 0x65, 0x20, 0x70, 0x6f, 0x72, 0x74, 0x20, 0x6f, 0x72, 0x20,
+  0x74, 0x68, 0x65, 0x20, 0x61, 0x64, 0x64, 0x72, 0x65, 0x73, 0x73, 0x2e,
+  0x5a, 0x41, 0x4b, 0x5f, 0x4e, 0x4f, 0x54, 0x5f, 0x49, 0x4e, 0x5f, 0x50,
+  0x52, 0x4f, 0x46, 0x49, 0x4c, 0x45, 0x3a, 0x20, 0x64, 0x6f, 0x63, 0x73,
+  0x2f, 0x50, 0x52, 0x4f, 0x46, 0x49, 0x4c, 0x45, 0x2e, 0x6d, 0x64, 0x20,
+  0x6c, 0x65, 0x61, 0x76, 0x65, 0x73, 0x20, 0x6f, 0x75, 0x74, 0x20, 0x74,
+  0x68, 0x69, 0x73, 0x20, 0x72, 0x65, 0x67, 0x69, 0x73, 0x74, 0x65, 0x72,
+  0x2c, 0x20, 0x76, 0x61, 0x6c, 0x75, 0x65, 0x20, 0x6f, 0x72, 0x20, 0x70,
+  0x6f, 0x72, 0x74, 0x2e, 0x5a, 0x41, 0x4b, 0x5f, 0x4e, 0x4f, 0x5f, 0x4d,
+  0x4f, 0x44, 0x45, 0x3a, 0x20, 0x4e, 0x6f, 0x20, 0x6d, 0x6f, 0x64, 0x65,
+  0x20, 0x69, 0x73, 0x20, 0x73, 0x65, 0x74, 0x20, 0x79, 0x65, 0x74, 0x2e,
+  0x5a, 0x41, 0x4b, 0x5f, 0x42, 0x41, 0x44, 0x5f, 0x46, 0x55, 0x4e, 0x43,
+  0x54, 0x49, 0x4f, 0x4e, 0x3a, 0x20, 0x54, 0x68, 0x65, 0x20, 0x76, 0x69,
+  0x64, 0x65, 0x6f, 0x20, 0x42, 0x49, 0x4f, 0x53, 0x20, 0x68, 0x61, 0x73,
+  0x20, 0x6e, 0x6f, 0x20, 0x73, 0x75, 0x63, 0x68, 0x20, 0x66, 0x75, 0x6e,
+  0x63, 0x74, 0x69, 0x6f, 0x6e, 0x20, 0x6f, 0x72, 0x20, 0x73, 0x75, 0x62,
+  0x66, 0x75, 0x6e, 0x63, 0x74, 0x69, 0x6f, 0x6e, 0x2e, 0x5a, 0x41, 0x4b,
+  0x5f, 0x42, 0x41, 0x44, 0x5f, 0x4d, 0x4f, 0x44, 0x45, 0x3a, 0x20, 0x54,
+  0x68, 0x65, 0x20, 0x76, 0x69, 0x64, 0x65, 0x6f, 0x20, 0x42, 0x49, 0x4f,
+  0x53, 0x20, 0x68, 0x61, 0x73, 0x20, 0x6e, 0x6f, 0x20, 0x73, 0x75, 0x63,
+  0x68, 0x20, 0x6d, 0x6f, 0x64, 0x65, 0x2e, 0x5a, 0x41, 0x4b, 0x5f, 0x57,
+  0x52, 0x4f, 0x4e, 0x47, 0x5f, 0x4b, 0x49, 0x4e, 0x44, 0x3a, 0x20, 0x54,
+  0x68, 0x65, 0x20, 0x63, 0x61, 0x6c, 0x6c, 0x20, 0x69, 0x73, 0x20, 0x66,
+  0x6f, 0x72, 0x20, 0x70, 0x69, 0x78, 0x65, 0x6c, 0x73, 0x20, 0x69, 0x6e,
+  0x20, 0x61, 0x20, 0x74, 0x65, 0x78, 0x74, 0x20, 0x6d, 0x6f, 0x64, 0x65,
+  0x2c, 0x20, 0x6f, 0x72, 0x20, 0x66, 0x6f, 0x72, 0x20, 0x74, 0x65, 0x78,
+  0x74, 0x20, 0x69, 0x6e, 0x20, 0x67, 0x72, 0x61, 0x70, 0x68, 0x69, 0x63,
+  0x73, 0x2e, 0x5a, 0x41, 0x4b, 0x5f, 0x42, 0x41, 0x44, 0x5f, 0x50, 0x41,
+  0x47, 0x45, 0x3a, 0x20, 0x54, 0x68, 0x65, 0x20, 0x6d, 0x6f, 0x64, 0x65,
+  0x20, 0x68, 0x61, 0x73, 0x20, 0x6e, 0x6f, 0x20, 0x73, 0x75, 0x63, 0x68,
+  0x20, 0x70, 0x61, 0x67, 0x65, 0x2e, 0x5a, 0x41, 0x4b, 0x5f, 0x4f, 0x55,
+  0x54, 0x53, 0x49, 0x44, 0x45, 0x3a, 0x20, 0x54, 0x68, 0x65, 0x20, 0x70,
+  0x69, 0x78, 0x65, 0x6c, 0x20, 0x6f, 0x72, 0x20, 0x74, 0x68, 0x65, 0x20,
+  0x63, 0x75, 0x72, 0x73, 0x6f, 0x72, 0x20, 0x70, 0x6f, 0x73, 0x69, 0x74,
+  0x69, 0x6f, 0x6e, 0x20, 0x69, 0x73, 0x20, 0x6f, 0x75, 0x74, 0x73, 0x69,
+  0x64, 0x65, 0x20, 0x74, 0x68, 0x65, 0x20, 0x73, 0x63, 0x72, 0x65, 0x65,
+  0x6e, 0x2e, 0x5a, 0x41, 0x4b, 0x5f, 0x43, 0x4f, 0x55, 0x4e, 0x54, 0x5f,
+  0x50, 0x41, 0x53, 0x54, 0x3a, 0x20, 0x43, 0x68, 0x61, 0x72, 0x61, 0x63,
+  0x74, 0x65, 0x72, 0x73, 0x20, 0x70, 0x61, 0x73, 0x73, 0x20, 0x74, 0x68,
+  0x65, 0x20, 0x70, 0x61, 0x67, 0x65, 0x27, 0x73, 0x20, 0x6c, 0x61, 0x73,
+  0x74, 0x20, 0x63, 0x65, 0x6c, 0x6c, 0x2c, 0x20, 0x6f, 0x72, 0x20, 0x67,
+  0x6c, 0x79, 0x70, 0x68, 0x73, 0x20, 0x74, 0x68, 0x65, 0x20, 0x6c, 0x61,
+  0x73, 0x74, 0x20, 0x63, 0x68, 0x61, 0x72, 0x61, 0x63, 0x74, 0x65, 0x72,
+  0x2e, 0x5a, 0x41, 0x4b, 0x5f, 0x42, 0x41, 0x44, 0x5f, 0x52, 0x45, 0x47,
+  0x49, 0x53, 0x54, 0x45, 0x52, 0x3a, 0x20, 0x54, 0x68, 0x65, 0x72, 0x65,
+  0x20, 0x69, 0x73, 0x20, 0x6e, 0x6f, 0x20, 0x73, 0x75, 0x63, 0x68, 0x20,
+  0x70, 0x61, 0x6c, 0x65, 0x74, 0x74, 0x65, 0x20, 0x6f, 0x72, 0x20, 0x44,
+  0x41, 0x43, 0x20, 0x72, 0x65, 0x67, 0x69, 0x73, 0x74, 0x65, 0x72, 0x2e,
+  0x5a, 0x41, 0x4b, 0x5f, 0x42, 0x41, 0x44, 0x5f, 0x42, 0x4c, 0x4f, 0x43,
+  0x4b, 0x3a, 0x20, 0x54, 0x68, 0x65, 0x20, 0x62, 0x6c, 0x6f, 0x63, 0x6b,
+  0x20, 0x64, 0x6f, 0x65, 0x73, 0x20, 0x6e, 0x6f, 0x74, 0x20, 0x68, 0x61,
+  0x76, 0x65, 0x20, 0x74, 0x68, 0x65, 0x20, 0x6c, 0x65, 0x6e, 0x67, 0x74,
+  0x68, 0x20, 0x74, 0x68, 0x61, 0x74, 0x20, 0x74, 0x68, 0x65, 0x20, 0x66,
+  0x75, 0x6e, 0x63, 0x74, 0x69, 0x6f, 0x6e, 0x20, 0x74, 0x61, 0x6b, 0x65,
+  0x73, 0x2e, 0x5a, 0x41, 0x4b, 0x5f, 0x54, 0x4f, 0x4f, 0x5f, 0x46, 0x41,
+  0x52, 0x3a, 0x20, 0x41, 0x6e, 0x20, 0x61, 0x64, 0x76, 0x61, 0x6e, 0x63,
+  0x65, 0x20, 0x74, 0x61, 0x6b, 0x65, 0x73, 0x20, 0x61, 0x74, 0x20, 0x6d,
+  0x6f, 0x73, 0x74, 0x20, 0x31, 0x36, 0x2c, 0x37, 0x37, 0x37, 0x2c, 0x32,
+  0x31, 0x36, 0x20, 0x64, 0x6f, 0x74, 0x73, 0x2e, 0x5a, 0x41, 0x4b, 0x5f,
+  0x42, 0x41, 0x44, 0x5f, 0x48, 0x45, 0x49, 0x47, 0x48, 0x54, 0x3a, 0x20,
+  0x47, 0x6c, 0x79, 0x70, 0x68, 0x73, 0x20, 0x68, 0x61, 0x76, 0x65, 0x20,
+  0x38, 0x2c, 0x20, 0x31, 0x34, 0x20, 0x6f, 0x72, 0x20, 0x31, 0x36, 0x20,
+  0x73, 0x63, 0x61, 0x6e, 0x20, 0x6c, 0x69, 0x6e, 0x65, 0x73, 0x2e, 0x5a,
+  0x41, 0x4b, 0x5f, 0x4e, 0x4f, 0x5f, 0x43, 0x41, 0x52, 0x44, 0x3a, 0x20,
+  0x54, 0x68, 0x65, 0x20, 0x63, 0x61, 0x72, 0x64, 0x20, 0x69, 0x73, 0x20,
+  0x6e, 0x6f, 0x74, 0x20, 0x6f, 0x70, 0x65, 0x6e, 0x2e, 0x5a, 0x41, 0x4b,
+  0x5f, 0x4f, 0x50, 0x45, 0x4e, 0x5f, 0x41, 0x4c, 0x52, 0x45, 0x41, 0x44,
+  0x59, 0x3a, 0x20, 0x54, 0x68, 0x65, 0x20, 0x63, 0x61, 0x72, 0x64, 0x20,
+  0x69, 0x73, 0x20, 0x6f, 0x70, 0x65, 0x6e, 0x20, 0x61, 0x6c, 0x72, 0x65,
+  0x61, 0x64, 0x79, 0x2e, 0x5a, 0x41, 0x4b, 0x5f, 0x46, 0x4f, 0x4e, 0x54,
+  0x5f, 0x53, 0x49, 0x5a, 0x45, 0x3a, 0x20, 0x54, 0x68, 0x65, 0x20, 0x66,
+  0x6f, 0x6e, 0x74, 0x20, 0x66, 0x69, 0x6c, 0x65, 0x20, 0x64, 0x6f, 0x65,
+  0x73, 0x20, 0x6e, 0x6f, 0x74, 0x20, 0x68, 0x61, 0x76, 0x65, 0x20, 0x39,
+  0x2c, 0x37, 0x32, 0x38, 0x20, 0x62, 0x79, 0x74, 0x65, 0x73, 0x2e, 0x5a,
+  0x41, 0x4b, 0x5f, 0x4f, 0x55, 0x54, 0x5f, 0x4f, 0x46, 0x5f, 0x4d, 0x45,
+  0x4d, 0x4f, 0x52, 0x59, 0x3a, 0x20, 0x41, 0x6e, 0x20, 0x61, 0x6c, 0x6c,
+  0x6f, 0x63, 0x61, 0x74, 0x69, 0x6f, 0x6e, 0x20, 0x66, 0x61, 0x69, 0x6c,
+  0x65, 0x64, 0x2e, 0x5a, 0x41, 0x4b, 0x5f, 0x52, 0x41, 0x47, 0x47, 0x45,
+  0x44, 0x3a, 0x20, 0x54, 0x77, 0x6f, 0x20, 0x72, 0x6f, 0x77, 0x73, 0x20,
+  0x6f, 0x66, 0x20, 0x74, 0x68, 0x65, 0x20, 0x66, 0x72, 0x61, 0x6d, 0x65,
+  0x20, 0x64, 0x69, 0x66, 0x66, 0x65, 0x72, 0x20, 0x69, 0x6e, 0x20, 0x77,
+  0x69, 0x64, 0x74, 0x68, 0x2c, 0x20, 0x73, 0x6f, 0x20, 0x74, 0x68, 0x65,
+  0x72, 0x65, 0x20, 0x69, 0x73, 0x20, 0x6e, 0x6f, 0x20, 0x70, 0x69, 0x63,
+  0x74, 0x75, 0x72, 0x65, 0x2e, 0x5a, 0x41, 0x4b, 0x5f, 0x4e, 0x4f, 0x5f,
+  0x52, 0x4f, 0x4f, 0x4d, 0x3a, 0x20, 0x54, 0x68, 0x65, 0x20, 0x62, 0x75,
+  0x66, 0x66, 0x65, 0x72, 0x20, 0x69, 0x73, 0x20, 0x74, 0x6f, 0x6f, 0x20,
+  0x73, 0x68, 0x6f, 0x72, 0x74, 0x2c, 0x20, 0x61, 0x6e, 0x64, 0x20, 0x6e,
+  0x6f, 0x74, 0x68, 0x69, 0x6e, 0x67, 0x20, 0x77, 0x61, 0x73, 0x20, 0x77,
+  0x72, 0x69, 0x74, 0x74, 0x65, 0x6e, 0x20, 0x74, 0x68, 0x65, 0x72, 0x65,
+  0x2e, 0x5a, 0x41, 0x4b, 0x5f, 0x42, 0x41, 0x44, 0x5f, 0x41, 0x52, 0x47,
+  0x55, 0x4d, 0x45, 0x4e, 0x54, 0x3a, 0x20, 0x41, 0x6e, 0x20, 0x61, 0x72,
+  0x67, 0x75, 0x6d, 0x65, 0x6e, 0x74, 0x20, 0x69, 0x73, 0x20, 0x6f, 0x75,
+  0x74, 0x20, 0x6f, 0x66, 0x20, 0x74, 0x68, 0x65, 0x20, 0x72, 0x61, 0x6e,
+  0x67, 0x65, 0x20, 0x74, 0x68, 0x61, 0x74, 0x20, 0x74, 0x68, 0x65, 0x20,
+  0x63, 0x61, 0x6c, 0x6c, 0x20, 0x6e, 0x61, 0x6d, 0x65, 0x73, 0x2e, 0x5a,
+  0x41, 0x4b, 0x5f, 0x42, 0x41, 0x44, 0x5f, 0x43, 0x41, 0x52, 0x44, 0x3a,
+  0x20, 0x54, 0x68, 0x65, 0x20, 0x42, 0x49, 0x4f, 0x53, 0x20, 0x64, 0x61,
+  0x74, 0x61, 0x20, 0x61, 0x72, 0x65, 0x20, 0x63, 0x6f, 0x72, 0x72, 0x75,
+  0x70, 0x74, 0x3a, 0x20, 0x74, 0x68, 0x65, 0x20, 0x63, 0x61, 0x72, 0x64,
+  0x27, 0x73, 0x20, 0x6d, 0x65, 0x6d, 0x6f, 0x72, 0x79, 0x20, 0x77, 0x61,
+  0x73, 0x20, 0x6f, 0x76, 0x65, 0x72, 0x77, 0x72, 0x69, 0x74, 0x74, 0x65,
+  0x6e, 0x2e, 0x5a, 0x41, 0x4b, 0x5f, 0x4e, 0x4f, 0x5f, 0x53, 0x43, 0x52,
+  0x45, 0x45, 0x4e, 0x3a, 0x20, 0x54, 0x68, 0x65, 0x20, 0x61, 0x64, 0x61,
+  0x70, 0x74, 0x65, 0x72, 0x20, 0x73, 0x68, 0x6f, 0x77, 0x73, 0x20, 0x6e,
+  0x6f, 0x20, 0x70, 0x6c, 0x61, 0x69, 0x6e, 0x20, 0x73, 0x63, 0x72, 0x65,
+  0x65, 0x6e, 0x2e, 0x5a, 0x41, 0x4b, 0x5f, 0x42, 0x52, 0x4f, 0x4b, 0x45,
+  0x4e, 0x3a, 0x20, 0x54, 0x68, 0x65, 0x20, 0x6c, 0x69, 0x62, 0x72, 0x61,
+  0x72, 0x79, 0x20, 0x77, 0x61, 0x73, 0x20, 0x63, 0x6f, 0x6d, 0x70, 0x69,
+  0x6c, 0x65, 0x64, 0x20, 0x77, 0x72, 0x6f, 0x6e, 0x67, 0x6c, 0x79, 0x2c,
+  0x20, 0x61, 0x6e, 0x64, 0x20, 0x74, 0x68, 0x65, 0x20, 0x63, 0x61, 0x72,
+  0x64, 0x20, 0x69, 0x73, 0x20, 0x63, 0x6c, 0x6f, 0x73, 0x65, 0x64, 0x2e,
+  0x5a, 0x41, 0x4b, 0x5f, 0x53, 0x54, 0x41, 0x54, 0x45, 0x5f, 0x4d, 0x41,
+  0x47, 0x49, 0x43, 0x3a, 0x20, 0x54, 0x68, 0x65, 0x20, 0x62, 0x79, 0x74,
+  0x65, 0x73, 0x20, 0x61, 0x72, 0x65, 0x20, 0x6e, 0x6f, 0x20, 0x73, 0x61,
+  0x76, 0x65, 0x64, 0x20, 0x73, 0x74, 0x61, 0x74, 0x65, 0x2e, 0x5a, 0x41,
+  0x4b, 0x5f, 0x53, 0x54, 0x41, 0x54, 0x45, 0x5f, 0x56, 0x45, 0x52, 0x53,
+  0x49, 0x4f, 0x4e, 0x3a, 0x20, 0x54, 0x68, 0x65, 0x20, 0x73, 0x74, 0x61,
+  0x74, 0x65, 0x20, 0x68, 0x61, 0x73, 0x20, 0x61, 0x6e, 0x6f, 0x74, 0x68,
+  0x65, 0x72, 0x20, 0x76, 0x65, 0x72, 0x73, 0x69, 0x6f, 0x6e, 0x20, 0x6f,
+  0x66, 0x20, 0x74, 0x68, 0x65, 0x20, 0x66, 0x6f, 0x72, 0x6d, 0x61, 0x74,
+  0x2e, 0x5a, 0x41, 0x4b, 0x5f, 0x53, 0x54, 0x41, 0x54, 0x45, 0x5f, 0x4c,
+  0x45, 0x4e, 0x47, 0x54, 0x48, 0x3a, 0x20, 0x54, 0x68, 0x65, 0x20, 0x73,
+  0x74, 0x61, 0x74, 0x65, 0x20, 0x69, 0x73, 0x20, 0x63, 0x75, 0x74, 0x20,
+  0x6f, 0x66, 0x66, 0x2c, 0x20, 0x6f, 0x72, 0x20, 0x62, 0x79, 0x74, 0x65,
+  0x73, 0x20, 0x66, 0x6f, 0x6c, 0x6c, 0x6f, 0x77, 0x20, 0x69, 0x74, 0x2e,
+  0x5a, 0x41, 0x4b, 0x5f, 0x53, 0x54, 0x41, 0x54, 0x45, 0x5f, 0x50, 0x41,
+  0x52, 0x54, 0x3a, 0x20, 0x41, 0x20, 0x70, 0x61, 0x72, 0x74, 0x20, 0x6f,
+  0x66, 0x20, 0x74, 0x68, 0x65, 0x20, 0x73, 0x74, 0x61, 0x74, 0x65, 0x20,
+  0x69, 0x73, 0x20, 0x6f, 0x75, 0x74, 0x20, 0x6f, 0x66, 0x20, 0x69, 0x74,
+  0x73, 0x20, 0x62, 0x6f, 0x75, 0x6e, 0x64, 0x73, 0x2e, 0x5a, 0x41, 0x4b,
+  0x5f, 0x53, 0x54, 0x41, 0x54, 0x45, 0x5f, 0x43, 0x48, 0x45, 0x43, 0x4b,
+  0x53, 0x55, 0x4d, 0x3a, 0x20, 0x54, 0x68, 0x65, 0x20, 0x63, 0x68, 0x65,
+  0x63, 0x6b, 0x73, 0x75, 0x6d, 0x20, 0x6f, 0x66, 0x20, 0x74, 0x68, 0x65,
+  0x20, 0x73, 0x74, 0x61, 0x74, 0x65, 0x20, 0x69, 0x73, 0x20, 0x77, 0x72,
+  0x6f, 0x6e, 0x67, 0x2e, 0x5a, 0x41, 0x4b, 0x5f, 0x4d, 0x41, 0x4e, 0x59,
+  0x5f, 0x43, 0x4f, 0x4c, 0x4f, 0x55, 0x52, 0x53, 0x3a, 0x20, 0x54, 0x68,
+  0x65, 0x20, 0x70, 0x69, 0x63, 0x74, 0x75, 0x72, 0x65, 0x20, 0x68, 0x61,
+  0x73, 0x20, 0x6d, 0x6f, 0x72, 0x65, 0x20, 0x74, 0x68, 0x61, 0x6e, 0x20,
+  0x32, 0x35, 0x36, 0x20, 0x63, 0x6f, 0x6c, 0x6f, 0x75, 0x72, 0x73, 0x2e,
   0x5a, 0x41, 0x4b, 0x5f, 0x42, 0x41, 0x44, 0x5f, 0x4d, 0x41, 0x47, 0x49,
   0x43, 0x3a, 0x20, 0x54, 0x68, 0x65, 0x20, 0x62, 0x79, 0x74, 0x65, 0x73,
   0x20, 0x61, 0x72, 0x65, 0x20, 0x6e, 0x6f, 0x20, 0x73, 0x63, 0x72, 0x69,
@@ -121501,15 +123102,15 @@ static const u8 d0[] = {
   0x0c, 0x00, 0x00, 0x00, 0x00, 0x00, 0x00, 0x00, 0x0f, 0x00, 0x00, 0x00,
   0x00, 0x00, 0x00, 0x00, 0x0c, 0x00, 0x00, 0x00, 0x00, 0x00, 0x00, 0x00,
   0x0a, 0x00, 0x00, 0x00, 0x00, 0x00, 0x00, 0x00, 0x0d, 0x00, 0x00, 0x00,
-  0x00, 0x00, 0x00, 0x00, 0x20, 0x03, 0x10, 0x00, 0x00, 0x00, 0x00, 0x00,
-  0x2d, 0x03, 0x10, 0x00, 0x00, 0x00, 0x00, 0x00, 0x3c, 0x03, 0x10, 0x00,
-  0x00, 0x00, 0x00, 0x00, 0x45, 0x03, 0x10, 0x00, 0x00, 0x00, 0x00, 0x00,
-  0x53, 0x03, 0x10, 0x00, 0x00, 0x00, 0x00, 0x00, 0x5d, 0x03, 0x10, 0x00,
-  0x00, 0x00, 0x00, 0x00, 0x69, 0x03, 0x10, 0x00, 0x00, 0x00, 0x00, 0x00,
-  0x73, 0x03, 0x10, 0x00, 0x00, 0x00, 0x00, 0x00, 0x7d, 0x03, 0x10, 0x00,
-  0x00, 0x00, 0x00, 0x00, 0x89, 0x03, 0x10, 0x00, 0x00, 0x00, 0x00, 0x00,
-  0x98, 0x03, 0x10, 0x00, 0x00, 0x00, 0x00, 0x00, 0xa4, 0x03, 0x10, 0x00,
-  0x00, 0x00, 0x00, 0x00, 0xae, 0x03, 0x10, 0x00, 0x00, 0x00, 0x00, 0x00,
+  0x00, 0x00, 0x00, 0x00, 0x60, 0x03, 0x10, 0x00, 0x00, 0x00, 0x00, 0x00,
+  0x6d, 0x03, 0x10, 0x00, 0x00, 0x00, 0x00, 0x00, 0x7c, 0x03, 0x10, 0x00,
+  0x00, 0x00, 0x00, 0x00, 0x85, 0x03, 0x10, 0x00, 0x00, 0x00, 0x00, 0x00,
+  0x93, 0x03, 0x10, 0x00, 0x00, 0x00, 0x00, 0x00, 0x9d, 0x03, 0x10, 0x00,
+  0x00, 0x00, 0x00, 0x00, 0xa9, 0x03, 0x10, 0x00, 0x00, 0x00, 0x00, 0x00,
+  0xb3, 0x03, 0x10, 0x00, 0x00, 0x00, 0x00, 0x00, 0xbd, 0x03, 0x10, 0x00,
+  0x00, 0x00, 0x00, 0x00, 0xc9, 0x03, 0x10, 0x00, 0x00, 0x00, 0x00, 0x00,
+  0xd8, 0x03, 0x10, 0x00, 0x00, 0x00, 0x00, 0x00, 0xe4, 0x03, 0x10, 0x00,
+  0x00, 0x00, 0x00, 0x00, 0xee, 0x03, 0x10, 0x00, 0x00, 0x00, 0x00, 0x00,
   0x00, 0x01, 0x02, 0x03, 0x04, 0x05, 0x06, 0x07, 0x08, 0x09, 0x0a, 0x00,
   0x0b, 0x00, 0x0c, 0x0d, 0x00, 0x01, 0x02, 0x03, 0x00, 0x00, 0x06, 0x07,
   0x08, 0x09, 0x0a, 0x00, 0x0b, 0x00, 0x00, 0x00, 0x68, 0x00, 0x00, 0x00,
@@ -121520,7 +123121,7 @@ static const u8 d0[] = {
 
 static void start(module *self)
 {
-    memcpy(self->memory + 1048576u, d0, 3376);
+    memcpy(self->memory + 1048576u, d0, 3496);
     self->g0 = 1048576ull;
 }
 
@@ -121900,11 +123501,34 @@ static void get_words(module *self, uint32_t *words, u32 at, size_t count)
 #endif
 }
 
-static void get_rows(module *self, const canvas *canvas, uint32_t width, uint32_t height)
+static void put_words(module *self, u32 at, const uint32_t *words, size_t count)
 {
-    for (uint32_t y = 0; y < height; y++)
-        get_words(self, canvas->pixels + canvas->pitch * y, DESK + 4 * canvas->desk_pitch * y,
-                  width);
+#if LOW_BYTE_FIRST
+    hand_over(self, at, words, 4 * count);
+#else
+    for (size_t i = 0; i < count; i++)
+        put32(self->memory + at + 4 * i, words[i]);
+#endif
+}
+
+static u32 row_on_desk(const canvas *canvas, uint32_t y)
+{
+    return DESK + 4 * canvas->desk_pitch * y;
+}
+
+static void get_rows(module *self, const canvas *canvas, uint32_t width, zak_rows rows)
+{
+    for (uint32_t y = rows.first; y < rows.first + rows.count; y++)
+        get_words(self, canvas->pixels + canvas->pitch * y, row_on_desk(canvas, y), width);
+}
+
+/* Lays on the desk all words that the picture may get: how large it is shows only once it is
+ * drawn. */
+static void put_rows(module *self, const canvas *canvas)
+{
+    for (uint32_t y = 0; y < canvas->desk_rows; y++)
+        put_words(self, row_on_desk(canvas, y), canvas->pixels + canvas->pitch * y,
+                  canvas->desk_pitch);
 }
 
 static zak_status frame_xrgb(module *self, zak_size *size, const canvas *canvas)
@@ -121914,7 +123538,7 @@ static zak_status frame_xrgb(module *self, zak_size *size, const canvas *canvas)
     if (is_told(status))
         *size = (zak_size){told32(self, 0), told32(self, 4)};
     if (status == ZAK_OK)
-        get_rows(self, canvas, size->width, size->height);
+        get_rows(self, canvas, size->width, (zak_rows){0, size->height});
     return status;
 }
 
@@ -121926,16 +123550,20 @@ zak_status zak_frame_xrgb(zak_card *card, zak_size *size, uint32_t *pixels, size
     END(card, frame_xrgb(self, size, &canvas));
 }
 
+static zak_picture told_picture(module *self)
+{
+    return (zak_picture){told32(self, 0), told32(self, 4), told32(self, 8), told32(self, 12)};
+}
+
 static zak_status frame_words(module *self, uint32_t flags, zak_picture *picture,
                               const canvas *canvas)
 {
     zak_status status = module_zak_frame_words(
         self, CARD, flags, TOLD, DESK, canvas->desk_rows * canvas->desk_pitch, canvas->desk_pitch);
     if (is_told(status))
-        *picture =
-            (zak_picture){told32(self, 0), told32(self, 4), told32(self, 8), told32(self, 12)};
+        *picture = told_picture(self);
     if (status == ZAK_OK)
-        get_rows(self, canvas, picture->width, picture->height);
+        get_rows(self, canvas, picture->width, (zak_rows){0, picture->height});
     return status;
 }
 
@@ -121945,6 +123573,58 @@ zak_status zak_frame_words(zak_card *card, uint32_t flags, zak_picture *picture,
     canvas canvas = canvas_of(pixels, pixels_cap, pitch);
     BEGIN(card);
     END(card, frame_words(self, flags, picture, &canvas));
+}
+
+/* Where a call tells which rows have changed: behind the picture. */
+#define TOLD_ROWS 16u
+
+static zak_status frame_update(module *self, uint32_t flags, zak_picture *picture,
+                               const canvas *canvas, zak_rows *changed)
+{
+    put_rows(self, canvas);
+    zak_status status = module_zak_frame_update(
+        self, CARD, flags, TOLD, DESK, canvas->desk_rows * canvas->desk_pitch, canvas->desk_pitch,
+        TOLD + TOLD_ROWS);
+    if (is_told(status))
+        *picture = told_picture(self);
+    if (status == ZAK_OK) {
+        *changed = (zak_rows){told32(self, TOLD_ROWS), told32(self, TOLD_ROWS + 4)};
+        get_rows(self, canvas, picture->width, *changed);
+    }
+    return status;
+}
+
+zak_status zak_frame_update(zak_card *card, uint32_t flags, zak_picture *picture, uint32_t *pixels,
+                            size_t pixels_cap, size_t pitch, zak_rows *changed)
+{
+    canvas canvas = canvas_of(pixels, pixels_cap, pitch);
+    BEGIN(card);
+    END(card, frame_update(self, flags, picture, &canvas, changed));
+}
+
+/* Where a call tells the size of a picture: behind the palette. */
+#define TOLD_SIZE (4u + 4u * 256u)
+
+static zak_status frame_indexed(module *self, zak_size *size, zak_palette *palette,
+                                uint8_t *numbers, size_t numbers_cap)
+{
+    zak_status status = module_zak_frame_indexed(self, CARD, TOLD + TOLD_SIZE, TOLD, DESK,
+                                                 least(numbers_cap, ZAK_WIDEST * ZAK_HIGHEST));
+    if (is_told(status) || status == ZAK_MANY_COLOURS)
+        *size = (zak_size){told32(self, TOLD_SIZE), told32(self, TOLD_SIZE + 4)};
+    if (status == ZAK_OK) {
+        palette->len = told32(self, 0);
+        get_words(self, palette->colours, TOLD + 4, 256);
+        get_back(self, numbers, DESK, (size_t)size->width * size->height);
+    }
+    return status;
+}
+
+zak_status zak_frame_indexed(zak_card *card, zak_size *size, zak_palette *palette,
+                             uint8_t *numbers, size_t numbers_cap)
+{
+    BEGIN(card);
+    END(card, frame_indexed(self, size, palette, numbers, numbers_cap));
 }
 
 static zak_status line(module *self, uint32_t flags, zak_scan_line *line, uint32_t *pixels,

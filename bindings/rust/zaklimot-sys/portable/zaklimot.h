@@ -73,6 +73,7 @@ enum {
     ZAK_STATE_LENGTH = 32,   /* the state is cut off, or bytes follow it */
     ZAK_STATE_PART = 33,     /* a part of the state is out of its bounds */
     ZAK_STATE_CHECKSUM = 34, /* of zak_restore_fixed: the checksum is wrong */
+    ZAK_MANY_COLOURS = 35,   /* of zak_frame_indexed: the picture has more than 256 colours */
     ZAK_BAD_MAGIC = 102,
     ZAK_BAD_VERSION = 103,
     ZAK_BAD_STEP = 104,
@@ -116,8 +117,8 @@ zak_status zak_status_text(zak_status status, uint8_t *text, size_t text_cap, si
 
 /* Opens a machine in its power-on state, with the glyphs of a font file, such as
  * fonts/zaklimot.fnt. It allocates 7.4 MB with malloc, which zak_close frees. Few other calls
- * allocate memory: zak_show_.., zak_screen_.., zak_run, zak_run_on, zak_assemble, zak_print,
- * zak_cycles, and zak_int10 with AX = 1017 (hexadecimal). They free it before they return. Answers
+ * allocate memory: zak_show_.., zak_screen_.., zak_frame_indexed, zak_run, zak_run_on, zak_assemble,
+ * zak_print, zak_cycles, and zak_int10 with AX = 1017 (hexadecimal). They free it before they return. Answers
  * ZAK_OPEN_ALREADY, ZAK_FONT_SIZE, ZAK_OUT_OF_MEMORY. */
 zak_status zak_open(zak_card *card, const uint8_t *fonts, size_t fonts_len);
 zak_status zak_close(zak_card *card);
@@ -170,8 +171,9 @@ typedef struct zak_timing {
 
 zak_status zak_clock(zak_card *card, zak_timing *timing);
 
-/* Five calls give a frame. zak_frame gives its dots in 18-bit colour, and zak_frame_xrgb in words
- * for a window. zak_frame_words gives each pixel of the software once. zak_frame_lines gives a
+/* Seven calls give a frame. zak_frame gives its dots in 18-bit colour, zak_frame_xrgb in words for
+ * a window, and zak_frame_indexed in numbers of a palette. zak_frame_words gives each pixel of the
+ * software once, and zak_frame_update also tells which rows have changed. zak_frame_lines gives a
  * ragged frame too, and zak_line each line as it ends. zak_skip_frame passes a frame unseen. */
 typedef struct zak_size { uint32_t width, height; } zak_size; /* dots in a row, and rows */
 
@@ -202,6 +204,31 @@ typedef struct zak_picture {
  * ZAK_BAD_ARGUMENT: flags are above 3, and no dot has passed. */
 zak_status zak_frame_words(zak_card *card, uint32_t flags, zak_picture *picture, uint32_t *pixels,
                            size_t pixels_cap, size_t pitch);
+
+typedef struct zak_rows { uint32_t first, count; } zak_rows; /* some rows; 0 and 0 for none */
+
+/* Does what zak_frame_words does, for a core that keeps one buffer and hands on only the rows that
+ * have changed. A row has changed if one of its words differs from what pixels held there when the
+ * call began, whoever wrote that. *changed tells the first such row, and how many rows there are
+ * from it to the last such row. If no word differs, both numbers are 0, and nothing is written.
+ * Words beside the picture do not count. ZAK_RAGGED, ZAK_NO_ROOM and ZAK_BAD_ARGUMENT: as for
+ * zak_frame_words, and *changed is unchanged. */
+zak_status zak_frame_update(zak_card *card, uint32_t flags, zak_picture *picture, uint32_t *pixels,
+                            size_t pixels_cap, size_t pitch, zak_rows *changed);
+
+/* Does what zak_frame does, for a core whose pictures have palettes: numbers[width * y + x] is the
+ * number of the dot's colour in *palette. The palette has the colours of this picture, each once,
+ * in the order in which they first appear. ZAK_MANY_COLOURS: they are more than 256, which takes
+ * writes to the DAC amid the frame; *size is written, numbers is overwritten in part, and zak_peek
+ * still gives the frame. ZAK_RAGGED and ZAK_NO_ROOM: as for zak_frame. ZAK_OUT_OF_MEMORY: the call
+ * allocates 256 KiB, which it frees before it returns; nothing has changed. */
+typedef struct zak_palette {
+    uint32_t len;          /* how many colours, 1 to 256 */
+    uint32_t colours[256]; /* words 00RRGGBB, and 0 behind them */
+} zak_palette;
+
+zak_status zak_frame_indexed(zak_card *card, zak_size *size, zak_palette *palette,
+                             uint8_t *numbers, size_t numbers_cap);
 
 /* Lets the clock run to the end of the line under way, by at least one dot, for a core that shows
  * each line as it ends. pixels[x] is the word of the line's dot x: 00RRGGBB, or FFRRGGBB with

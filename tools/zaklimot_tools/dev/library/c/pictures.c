@@ -144,16 +144,20 @@ zak_status zak_frame_update(zak_card *card, uint32_t flags, zak_picture *picture
     END(card, frame_update(self, flags, picture, &canvas, changed));
 }
 
+/* Where a call tells the size of a picture: behind the palette. */
+#define TOLD_SIZE (4u + 4u * 256u)
+
 static zak_status frame_indexed(module *self, zak_size *size, zak_palette *palette,
                                 uint8_t *numbers, size_t numbers_cap)
 {
-    self->outside = numbers;
-    zak_status status = module_zak_frame_indexed(self, CARD, DESK, TOLD, OUTSIDE, numbers_cap);
+    zak_status status = module_zak_frame_indexed(self, CARD, TOLD + TOLD_SIZE, TOLD, DESK,
+                                                 least(numbers_cap, ZAK_WIDEST * ZAK_HIGHEST));
     if (is_told(status) || status == ZAK_MANY_COLOURS)
-        *size = (zak_size){number32(self->memory + DESK), number32(self->memory + DESK + 4)};
+        *size = (zak_size){told32(self, TOLD_SIZE), told32(self, TOLD_SIZE + 4)};
     if (status == ZAK_OK) {
         palette->len = told32(self, 0);
         get_words(self, palette->colours, TOLD + 4, 256);
+        get_back(self, numbers, DESK, (size_t)size->width * size->height);
     }
     return status;
 }
