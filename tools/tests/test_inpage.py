@@ -47,6 +47,7 @@ ENDING = bytes.fromhex("B402B241CD21 B8004CCD21")
 RECORDED = [
     "picture-1.png",
     "picture-2.png",
+    "recording.json",
     "report.txt",
     "screen-1.ppm",
     "screen-2.ppm",
@@ -266,7 +267,12 @@ class Recorded(Folder):
                 output, said = process.communicate()
             self.assertEqual((process.returncode, output), (128 + number, b""), said)
             self.wait_until(lambda: not any(map(is_running, nodes)))
-            self.assertFalse(into.exists())
+            # What was recorded until then stays, if anything was.
+            if into.exists():
+                self.assertIn(b"record %s --again` judges it" % os.fsencode(into), said)
+                left = {path.name for path in into.iterdir()} - {".dump.0.ppm"}
+                self.assertEqual(left, {"recording.json", "trace.gz"})
+                shutil.rmtree(into)
 
 
 def recorders_of(parent: int) -> list[int]:

@@ -4,6 +4,7 @@ table of software."""
 from __future__ import annotations
 
 import gzip
+import json
 import os
 import re
 import struct
@@ -21,17 +22,35 @@ from unittest import mock
 from zaklimot.format import Picture
 from zaklimot_tools.dev.emulators.traces import row as row_of
 from zaklimot_tools.images.reading import image_of
-from zaklimot_tools.trace import recording
-from zaklimot_tools.trace.converting import Checked, Clocked, Written
+from zaklimot_tools.trace import converting, keeper as keeping, parts, recording
+from zaklimot_tools.trace.converting import Checked, Checking, Clocked, Written
 from zaklimot_tools.trace.asked import Deed
-from zaklimot_tools.trace.recording import PHASES, Keeper, QemuMachine, Session
+from zaklimot_tools.trace.folding import Folding
+from zaklimot_tools.trace.keeper import Keeper
+from zaklimot_tools.trace.parts import Parts
+from zaklimot_tools.trace.recording import PHASES, QemuMachine, Session
 from zaklimot_tools.trace.replaying import ALLOWED, PAGE, SEEN, Replay, Screen, whole_rows
 from zaklimot_tools.trace.state import State
 from zaklimot_tools.trace.step import ADVANCE, FRAME, IN, PUT, TraceStep
-from zaklimot_tools.trace.trace import SCREEN
+from zaklimot_tools.trace.trace import SCREEN, opened
 
 from .test_trace import BEGIN, listed, qemu, registers
-from .tools import BLACK, RED, TOP, WHITE, Folder, ended, hold, hold_undone, png_rows, ppm, run_tool
+from .tools import (
+    BLACK,
+    PROGRAM as PROGRAM_TESTED,
+    RED,
+    TOP,
+    WHITE,
+    Folder,
+    ended,
+    hold,
+    hold_undone,
+    png_rows,
+    ppm,
+    refused,
+    run_tool,
+    want_program,
+)
 
 
 run = partial(run_tool, "vga-trace")
@@ -41,6 +60,21 @@ PICTURE = ppm(3, 2, RED * 3 + WHITE * 3)
 QEMU = """import json, os, re, socket, sys, threading
 words = " ".join(sys.argv)
 folder = os.environ["FAKE"]
+if "-machine none" in words:
+    asked = sys.stdin.read()
+    names = ["ret", "ctrl", "c", "l", "a"]
+    schema = [
+        {"name": "send-key", "meta-type": "command", "arg-type": "1"},
+        {"name": "1", "members": [{"name": "keys", "type": "2"}, {"name": "hold", "type": "int"}]},
+        {"name": "2", "element-type": "3"},
+        {"name": "3", "variants": [{"case": "x", "type": "4"}, {"case": "qcode", "type": "5"}]},
+        {"name": "5", "members": [{"name": "data", "type": "6"}]},
+        {"name": "6", "meta-type": "enum", "values": names},
+    ]
+    print(json.dumps({"QMP": {}}))
+    print(json.dumps({"return": {}}))
+    print(json.dumps({"return": schema if "query-qmp-schema" in asked else {}}))
+    sys.exit()
 if "-ends" in sys.argv:
     if "-late" in sys.argv:
         open(re.search(r"-qmp unix:([^,]+),", words)[1], "w").close()
@@ -59,7 +93,8 @@ connection, _ = server.accept()
 if "-leaves" in sys.argv:
     threading.Timer(0.3, os._exit, [0]).start()
 with connection, connection.makefile("rw") as monitor:
-    monitor.write("{}\\n")
+    version = {"qemu": {"major": 7, "minor": 2, "micro": 1}, "package": " (Debian)"}
+    monitor.write(json.dumps({"QMP": {"version": version}}) + "\\n")
     monitor.flush()
     for line in monitor:
         asked = json.loads(line)
@@ -85,8 +120,13 @@ with connection, connection.makefile("rw") as monitor:
         if name == "quit":
             break
 """
+# What a recording leaves.
+KEPT_OF_SCREEN = ["picture-1.png"]
+KEPT = ["recording.json", "report.txt", "screen-1.ppm", "script.bin", "trace.gz"]
+NOTE_OF_NO_MACHINE = {"is": "zaklimot recording", "version": 1, "machine": "none"}
 # A line that the filter of the log keeps, and one of another device.
 LINES = qemu("write 3c2 67 1") + qemu("write 70 f 1", "rtc")
+LINES_KEPT = qemu("write 3c2 67 1")
 PROGRAM = TOP / "tools" / "vga-emulators"
 
 
@@ -230,10 +270,7 @@ class Recorded(Folder):
         )
         self.assertEqual(lines[0], "1 cycles, 8 steps, 16 bytes: 7 frame, 1 out")
         self.assertEqual(lines[1], "8 steps, 0 refused, 0 reads answered, 0 differ")
-        names = sorted(path.name for path in self.into.iterdir())
-        self.assertEqual(
-            names, ["picture-1.png", "report.txt", "screen-1.ppm", "script.bin", "trace.gz"]
-        )
+        self.assertEqual(self.kept(), [*KEPT_OF_SCREEN, *KEPT])
         kept = gzip.decompress((self.into / "trace.gz").read_bytes())
         self.assertEqual(kept, qemu("write 3c2 67 1") + PHASES * (SCREEN + b"\n"))
         self.assertEqual(self.asked(), ["qmp_capabilities", "screen", "quit"])
@@ -289,30 +326,156 @@ class Recorded(Folder):
         self.assertRegex(said, r"^vga-trace: the machine ended by itself after \d\.\d seconds\n$")
         self.assertEqual((status, lines[1]), (1, "2 steps, 0 refused, 0 reads answered, 0 differ"))
 
-    def test_machines_that_are_given_up(self) -> None:
-        front = "qemu-system-x86_64: "
-        usual = ("MOST_LINES", 1 << 20)
-        begins, first = f"{front}it doesn't begin: there is no such disc\n", "qmp_capabilities"
-        for words, limit, told, last in (
-            (("-ends",), usual, begins, ""),
-            (("-ends", "-late"), usual, begins, ""),
-            (
-                ("-cdrom",),
-                ("MOST_LINES", 100),
-                f"{front}its trace has more than 100 bytes: end it sooner\n",
-                first,
-            ),
-            (("-dies",), usual, "qemu: its monitor doesn't do send-key", "send-key ret"),
-            (("-refuses",), usual, f"qemu: its monitor doesn't do {first}: there is none\n", first),
-            (("-stays",), ("ANSWERING", 2), f"{front}it doesn't end within 2 seconds\n", "quit"),
-        ):
-            with self.subTest(words), mock.patch.object(recording, *limit):
-                status, lines, said = self.record("--key", "ret", words=words, lines=LINES * 2)
+    def kept(self) -> list[str]:
+        """The names of what a recording has left."""
+        return sorted(path.name for path in self.into.iterdir())
+
+    def note(self) -> Any:
+        """The note of a recording."""
+        return json.loads((self.into / "recording.json").read_text("ascii"))
+
+    def test_machines_that_do_not_begin(self) -> None:
+        told = "qemu-system-x86_64: it doesn't begin: there is no such disc\n"
+        for words in (("-ends",), ("-ends", "-late")):
+            with self.subTest(words):
+                status, lines, said = self.record(words=words)
                 self.assertEqual((status, lines, self.into.exists()), (2, [], False), said)
-                self.assertTrue(said.startswith(f"vga-trace: {told}"), said)
-                if last:
-                    self.assertEqual(self.asked()[-1], last)
-                    self.assert_ended(int((self.folder / "number").read_text()))
+                self.assertEqual(said, f"vga-trace: {told}")
+
+    def test_what_was_recorded_before_a_trouble_stays(self) -> None:
+        first = "qmp_capabilities"
+        for words, told, last in (
+            (("-dies",), "qemu: its monitor doesn't do send-key", "send-key ret"),
+            (("-refuses",), f"qemu: its monitor doesn't do {first}: there is none\n", first),
+        ):
+            with self.subTest(words):
+                status, lines, said = self.record("--key", "ret", words=words, lines=LINES * 2)
+                self.assertEqual((status, lines), (2, []), said)
+                again = f"`vga-trace record {self.into} --again` judges it"
+                front = f"vga-trace: {self.into}: it has what was recorded: {again}\n"
+                self.assertTrue(said.startswith(f"{front}vga-trace: {told}"), said)
+                self.assertEqual(self.kept(), ["recording.json", "trace.gz"])
+                lines_kept = gzip.decompress((self.into / "trace.gz").read_bytes())
+                self.assertGreaterEqual(lines_kept.count(b"0x3c2"), 3)
+                self.assertEqual(self.note()["ended"], "it was ended")
+                self.assertEqual(self.asked()[-1], last)
+                self.assert_ended(int((self.folder / "number").read_text()))
+
+    def test_a_machine_that_does_not_end_is_judged_all_the_same(self) -> None:
+        with mock.patch.object(recording, "ANSWERING", 2):
+            status, lines, said = self.record(words=("-stays",))
+        told = "qemu-system-x86_64 didn't end within 2 seconds, and was ended"
+        self.assertEqual((status, said), (0, f"vga-trace: {told}\n"))
+        self.assertIn("equal", lines[-1])
+        self.assert_ended(int((self.folder / "number").read_text()))
+
+    def test_a_trace_that_is_too_long_is_judged_as_far_as_it_goes(self) -> None:
+        with mock.patch.object(keeping, "MOST_KEPT", 10):
+            status, lines, said = self.record("--quiet", "50", "--key", "ret", "--screen", "quiet")
+        full = "its trace has 10 bytes, as they are packed"
+        told = f"{full}: the last screen is taken now; --polls first folds polls\n"
+        self.assertEqual((status, said), (0, f"vga-trace: {told}"))
+        self.assertIn("equal", lines[-1])
+        self.assertEqual(self.asked(), ["qmp_capabilities", "screen", "quit"])
+        self.assertEqual(self.note()["ended"], full)
+
+    def test_a_disk_that_is_full(self) -> None:
+        write = Parts._write
+        written: list[bytes] = []
+
+        def filled(kept: Parts, data: bytes) -> None:
+            written.append(data)
+            if len(written) > 1:
+                raise OSError(28, "No space left on device")
+            write(kept, data)
+
+        with mock.patch.object(Parts, "_write", filled):
+            program = self.answering("ok", PICTURE)
+            status, lines, said = self.record("--key", "0.3:ret", program=program)
+        told = "its trace can't be kept: No space left on device"
+        self.assertEqual((status, said), (1, f"vga-trace: {told}; --polls first folds polls\n"))
+        self.assertEqual(lines[0], "1 cycles, 2 steps, 10 bytes: 1 out, 1 frame")
+        self.assertEqual(self.asked(), ["qmp_capabilities", "send-key ret", "quit"])
+        self.assertEqual(self.note()["ended"], told)
+
+    def test_software_that_leaves_the_adapter_alone(self) -> None:
+        self.patch(mock.patch.object(sys.modules[__name__], "LINES", b""))
+        status, lines, said = self.record("--quiet", "50", words=("-leaves",))
+        told = "it made no cycle of a VGA: the machine ended by itself"
+        self.assertEqual((status, lines, self.into.exists()), (2, [], False))
+        self.assertIn(told, said)
+
+    def test_a_key_that_there_is_not(self) -> None:
+        status, lines, said = self.record("--key", "c,ctrl-rett")
+        told = "`rett` is no key of qemu's: `ret` is one"
+        self.assertEqual((status, lines, said), (2, [], f"vga-trace: {told}\n"))
+        self.assertFalse(self.into.exists() or (self.folder / "asked").exists())
+        said = self.record("--key", "power")[2]
+        self.assertEqual(said, "vga-trace: `power` is no key of qemu's\n")
+
+    def test_a_recording_that_is_judged_again(self) -> None:
+        steps = (1, 1)
+        words = ("--screen", "quiet", "--key", "ret")
+        status, lines, _ = self.record(*words, steps=steps)
+        note = self.note()
+        self.assertEqual((status, note["ended"], note["polls"]), (0, "all was done", "keep"))
+        self.assertEqual(note["made_by"], "qemu 7.2.1 (Debian)")
+        self.assertEqual(note["words"], ["-device", "VGA", "-cdrom", "disc"])
+        program = ("--vga", str(self.folder / "vga"))
+        done = run("record", self.into, "--again", *program)
+        self.assertEqual((done[0], done[1].decode().splitlines(), done[2]), (0, lines, ""))
+        # The nearest dump is the one that is kept.
+        (self.into / "screen-2.ppm").write_bytes(ppm(3, 2, RED * 6))
+        status, output, _ = run("record", self.into, "--again", *program)
+        self.assertEqual((status, output.decode().count("dots differ")), (1, 1))
+        hold_undone(self, run("record", self.into, *program, "--", "-x"), "or --again to judge it")
+
+    def test_what_can_not_be_judged_again(self) -> None:
+        program = ("--vga", self.answering("ok"))
+        for name, note, told in (
+            ("none", None, "it is no recording: it has no recording.json"),
+            ("text", "hello", "it is no note of a recording, or of another version"),
+            ("other", '{"is": "zaklimot recording", "version": 2}', "of another version"),
+            ("list", "[]", "it is no note of a recording"),
+            ("machine", json.dumps(NOTE_OF_NO_MACHINE), "it is no note of a recording"),
+        ):
+            with self.subTest(name):
+                if note is not None:
+                    self.write(f"{name}/recording.json", note)
+                hold_undone(self, run("record", self.folder / name, "--again", *program), told)
+        for words in (("--key", "ret"), ("--chain-4",), ("--", "-cdrom", "x")):
+            given = ("record", self.folder, "--again", *words)
+            hold_undone(self, run(*given), "takes --vga and --fonts alone")
+
+    def test_polls_are_folded_while_it_records(self) -> None:
+        polls = b"".join(qemu("read 3da 1 1") for _ in range(5)) + qemu("read 3cc 67 1")
+        status, lines, _ = self.record(
+            "--polls", "first", lines=polls * 2, program=self.polled("ok", "00", "67", "00", "67")
+        )
+        self.assertEqual(status, 0)
+        self.assertIn(", 8 polls folded: ", lines[0])
+        kept = gzip.decompress((self.into / "trace.gz").read_bytes())
+        one = qemu("read 3da 1 1") + b"polls 4 of 'vga-trace'\n" + qemu("read 3cc 67 1")
+        self.assertEqual(kept, LINES_KEPT + one * 2 + PHASES * (SCREEN + b"\n"))
+        output = run("kinds", self.into)[1].decode()
+        self.assertIn("           8 read port 3DA or 3BA, folded\n", output)
+
+    def polled(self, *answers: str) -> str:
+        """A program that answers so, and then has the screens."""
+        return self.answering(*answers, *[PICTURE] * PHASES, PICTURE)
+
+    def test_a_trace_that_takes_several_scripts(self) -> None:
+        steps = [f"write {0xa0000 + at:x} {at % 255 + 1:x} 1" for at in range(0, 6000, 2)]
+        lines = qemu("write 3c2 67 1") + qemu("write 3ce 506 2") + qemu("write 3c4 f02 2")
+        lines += b"".join(qemu(step, "vga-lowmem") for step in steps)
+        want_program()
+        with mock.patch.object(converting, "MOST_BYTES", 1024 + 12000):
+            status, told, _ = self.record(lines=lines, program=str(PROGRAM_TESTED))
+        self.assertIn("steps rebuild the state", told[0])
+        self.assertEqual(status, 1)
+        names = [name for name in self.kept() if name.startswith(("script", "report"))]
+        self.assertEqual(names, ["report-2.txt", "report.txt", "script-2.bin", "script.bin"])
+        self.assertIn("0 refused, 0 reads answered, 0 differ", told[1])
 
     def test_a_program_that_fails_leaves_the_trace(self) -> None:
         # It answers the step that is tried first.
@@ -320,9 +483,11 @@ class Recorded(Folder):
         program = self.program("vga", f"#!/bin/sh\n{trying}\necho oh >&2\nexit 3\n")
         status, _, said = self.record(program=program)
         self.assertEqual((status, said), (2, f"vga-trace: {program}: it ended with status 3: oh\n"))
-        self.assertEqual(
-            sorted(path.name for path in self.into.iterdir()), ["script.bin", "trace.gz"]
-        )
+        dumps = [f".dump.{number}.ppm" for number in range(PHASES)]
+        self.assertEqual(self.kept(), [*dumps, "recording.json", "script.bin", "trace.gz"])
+        # What failed is judged once the program is right.
+        done = run("record", self.into, "--again", "--vga", self.polled("ok"))
+        self.assertEqual((done[0], done[2]), (0, ""))
 
     def test_a_key_is_given_time_before_it_is_quiet(self) -> None:
         keeper = mock.Mock(size=5, last=0.0)
@@ -555,21 +720,96 @@ class RealTime(Folder):
 
 class Keeping(Folder):
     def test_one_that_a_signal_kept_from_its_start(self) -> None:
-        with open(self.write("log", "w p 3C0\n"), "rb") as log, open(
-            self.write("out", ""), "wb"
-        ) as out:
-            keeper = Keeper(log, out)
+        with open(self.write("log", "w p 3C0\n"), "rb") as log:
+            kept = Parts(self.folder)
+            keeper = Keeper(log, kept)
             keeper.end()
             keeper.start()
             keeper.end()
-        self.assertEqual((self.folder / "out").read_text(), "w p 3C0\n")
+            kept.close()
+        self.assertEqual(gzip.decompress((self.folder / "trace.gz").read_bytes()), b"w p 3C0\n")
+
+    def test_parts_that_roll(self) -> None:
+        lines = b"".join(b"line %d\n" % number for number in range(100))
+        with mock.patch.object(parts, "PART_LINES", 200):
+            kept = Parts(self.folder)
+            for at in range(0, len(lines), 7):
+                kept.write(lines[at : at + 7])
+            kept.write(b"half")
+            kept.close()
+        paths = parts.parts_of(self.folder)
+        names = ["trace.gz", "trace-0002.gz", "trace-0003.gz", "trace-0004.gz"]
+        self.assertEqual([path.name for path in paths], names)
+        read = [gzip.decompress(path.read_bytes()) for path in paths]
+        self.assertEqual(b"".join(read), lines + b"half")
+        self.assertTrue(all(one.endswith(b"\n") for one in read[:-1]))
+        self.assertTrue(all(200 <= len(one) < 210 for one in read[:-1]))
+        self.assertEqual(kept.kept, sum(path.stat().st_size for path in paths))
+
+    def test_the_folder_of_a_recording_is_a_trace(self) -> None:
+        with mock.patch.object(parts, "PART_LINES", 1):
+            kept = Parts(self.folder)
+            for line in (qemu("write 3c2 67 1"), qemu("write 3c4 302 2"), qemu("read 3cc 67 1")):
+                kept.write(line)
+            kept.close()
+        status, output, said = run("kinds", self.folder)
+        self.assertEqual((status, output.count(b"\n"), said), (0, 3, ""))
+        last = self.folder / "trace-0003.gz"
+        last.write_bytes(last.read_bytes()[:-9])
+        hold_undone(self, run("kinds", self.folder), "compressed bytes are damaged after this line")
+        # A computer that stops leaves a last part that is cut: what stands before counts.
+        with opened(str(self.folder), may_be_cut=True) as trace:
+            self.assertIn(len(list(trace.cycles())), (2, 3))
+        first = self.folder / "trace.gz"
+        first.write_bytes(first.read_bytes()[:-9])
+        with opened(str(self.folder), may_be_cut=True) as trace:
+            self.assertIn("damaged", refused(list, trace.cycles()))
+        hold_undone(self, run("kinds", self.folder.parent), "the folder has no trace")
+
+    def test_polls_are_folded_however_they_come(self) -> None:
+        def poll(port: str, value: str) -> bytes:
+            return qemu(f"read {port} {value} 1")
+
+        other, mark = qemu("write 3c0 1 1"), SCREEN + b"\n"
+        # What has other bits than those of the beam stays, and another port begins a row.
+        rows = (
+            (poll("3da", "0") * 5, poll("3da", "0") + TOLD % 4),
+            (other, other),
+            (poll("3da", "9"), poll("3da", "9")),
+            (poll("3ba", "8") * 3, poll("3ba", "8") + TOLD % 2),
+            (poll("3da", "30") * 2, poll("3da", "30") * 2),
+            (poll("3da", "1") * 2, poll("3da", "1") + TOLD % 1),
+            (mark, mark),
+            (poll("3da", "1") * 9, poll("3da", "1") + TOLD % 8),
+        )
+        lines, wanted = (b"".join(row[at] for row in rows) for at in (0, 1))
+        for size in (1, 2, 3, 7, 40):
+            folding = Folding()
+            each = lines.splitlines(True)
+            kept = [
+                folding.folded(b"".join(each[at : at + size])) for at in range(0, len(each), size)
+            ]
+            self.assertEqual(b"".join(kept) + folding.end(), wanted, size)
+        for size in (1, 13, 100):
+            with open(self.write("log", lines), "rb") as log:
+                into = Parts(self.folder)
+                keeper = Keeper(log, into, True)
+                with mock.patch.object(keeping, "CHUNK", size):
+                    keeper.run()
+                into.close()
+            read = gzip.decompress((self.folder / "trace.gz").read_bytes())
+            self.assertEqual(read, wanted, size)
+
+
+TOLD = b"polls %d of 'vga-trace'\n"
 
 
 class Traces(unittest.TestCase):
     def test_rows_and_whether_they_are_as_known(self) -> None:
         verdict: Any = Namespace(held=Namespace(count=0))
         written = Written(False, Counter({"out": 10, "frame": 1}), script_bytes=30)
-        checked = Checked(reads=Counter(a=4, b=3))
+        checked = Checking()
+        checked.checked = Checked(reads=Counter(a=4, b=3))
         listing: Any = Namespace(trace=Namespace(count=1000))
         replayed = Replay(written, listing, Path(), (), checked, screens={0: verdict})
         front = "| name | 1,000 | 11 | 30 | 46 | 7 | 0 | 0 |"

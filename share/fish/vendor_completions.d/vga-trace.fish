@@ -78,6 +78,8 @@ complete -c vga-trace -n '__vga_trace_command record' -l quiet -x -d 'takes the 
 complete -c vga-trace -n '__vga_trace_command record' -l seconds -x -d 'ends the machine after so many seconds (default: 60)'
 complete -c vga-trace -n '__vga_trace_command record' -l chain-4 -d 'records mode 13 too, by a plugin for qemu 7.2 that gcc builds'
 complete -c vga-trace -n '__vga_trace_command record' -l card -x -d 'takes this VGA of qemu\'s devices (default: VGA)'
+complete -c vga-trace -n '__vga_trace_command record' -l polls -x -a 'keep first' -d 'keeps all reads of input status 1, or only the first of several, with the number of the others (default: keep)'
+complete -c vga-trace -n '__vga_trace_command record' -l again -d 'judges once more what is recorded in the folder'
 complete -c vga-trace -n '__vga_trace_command record' -l vga -x -a '(__fish_complete_path)' -d 'runs this program (default: one built here, a release\'s, vga in the path, or one that is compiled)'
 complete -c vga-trace -n '__vga_trace_command record' -l fonts -x -k -a '(__vga_trace_files .fnt)' -d 'uses this font file (default: the project\'s)'
 complete -c vga-trace -n '__vga_trace_command record' -a '(__fish_complete_directories)'

@@ -9,6 +9,7 @@ from typing import ContextManager, Iterator, Union
 
 from zaklimot.format import Picture
 from zaklimot_tools.core.files import STANDARD, check_folder, files, name_of
+from zaklimot_tools.core.processes import check_program
 from zaklimot_tools.core.progress import Progress
 from zaklimot_tools.core.streams import reading, write_name, writing
 from zaklimot_tools.core.trouble import AGREED, DIFFERED, Trouble
@@ -19,7 +20,9 @@ from zaklimot_tools.script.program import check_program_runs, found_program
 from . import inpage
 from .asked import CLOCK, KEEP, Deed
 from .converting import Listing, check, convert, count
-from .recording import TRACE, QemuMachine, chain_4, record
+from .monitor import QEMU
+from .note import NOTE, Note, note_of
+from .recording import QemuMachine, Say, chain_4, check_keys, record
 from .replaying import replay, shown
 from .trace import Trace, opened
 
@@ -69,6 +72,8 @@ def count_kinds(words: argparse.Namespace, _: Progress) -> None:
     """Counts a trace's cycles by kind."""
     with _opened(words) as trace:
         found = count(islice(trace.cycles(words.to), words.from_ - 1, None))
+        if trace.polls:
+            found["read port 3DA or 3BA, folded"] = trace.polls
     _warn(trace, name_of(words.trace))
     print("\n".join(f"{number:12,} {kind}" for kind, number in found.most_common()))
 
@@ -126,71 +131,80 @@ def record_software(words: argparse.Namespace, progress: Progress) -> int:
     """Records software, replays what was recorded, and compares the screens of both."""
     folder = Path(words.folder)
     check_folder(words.folder)
-    if folder.exists() and any(folder.iterdir()):
-        raise Trouble("it has files: name a new folder", words.folder)
+    if not words.again and folder.exists() and any(folder.iterdir()):
+        again = ", or --again to judge it once more" if (folder / NOTE).exists() else ""
+        raise Trouble(f"it has files: name a new folder{again}", words.folder)
     program = found_program(words.vga)
     check_program_runs(program, words.fonts)
-    # A screen is taken at the end at least.
-    deeds = words.deeds if words.deeds and not words.deeds[-1].keys else [*words.deeds, Deed()]
-    folder.mkdir(parents=True, exist_ok=True)
-    try:
-        with TemporaryDirectory(prefix="vga-trace-") as made:
-            plugin = chain_4(Path(made)) if words.chain_4 else []
-            machine: Union[QemuMachine, inpage.PageMachine]
-            if words.in_page is None:
-                machine = QemuMachine(
-                    ["-device", words.card or "VGA", *plugin, *words.qemu],
-                    deeds,
-                    words.quiet,
-                    words.seconds,
-                )
-            else:
-                options = words.speed, words.rom, words.start
-                machine = inpage.PageMachine(
-                    words.in_page, deeds, words.quiet, words.seconds, *options
-                )
-            return _judge(machine, folder, program, words.fonts, progress)
-    finally:
-        for left in folder.glob(".dump.*.ppm"):
-            left.unlink()
-        if not any(folder.iterdir()):
-            folder.rmdir()
 
-
-def _judge(
-    machine: Union[QemuMachine, inpage.PageMachine],
-    folder: Path,
-    program: str,
-    fonts: str,
-    progress: Progress,
-) -> int:
     def say(text: str) -> None:
         progress.clear()
         print(f"vga-trace: {text}", file=sys.stderr)
 
-    is_own = isinstance(machine, inpage.PageMachine)
-    refusals = 0
-    if isinstance(machine, inpage.PageMachine):
-        screens, refusals = inpage.record(machine, folder, say, progress)
+    note = note_of(folder) if words.again else _recorded(words, folder, say, progress)
+    return _judge(note, folder, program, words.fonts, progress)
+
+
+def _recorded(words: argparse.Namespace, folder: Path, say: Say, progress: Progress) -> Note:
+    """Records into a folder, which is gone again where nothing was; the note of the recording."""
+    # A screen is taken at the end at least.
+    deeds = words.deeds if words.deeds and not words.deeds[-1].keys else [*words.deeds, Deed()]
+    if words.in_page is None:
+        check_program(QEMU)
+        check_keys(deeds)
     else:
-        screens = record(machine, folder, say, progress)
+        inpage.check_keys(deeds)
+    folder.mkdir(parents=True, exist_ok=True)
+    try:
+        with TemporaryDirectory(prefix="vga-trace-") as made:
+            if words.in_page is not None:
+                options = words.speed, words.rom, words.start
+                own = inpage.PageMachine(words.in_page, deeds, words.quiet, words.seconds, *options)
+                return inpage.record(own, folder, say, progress)
+            plugin = chain_4(Path(made)) if words.chain_4 else []
+            line = ["-device", words.card or "VGA", *plugin, *words.qemu]
+            machine = QemuMachine(line, deeds, words.quiet, words.seconds, words.polls or KEEP)
+            return record(machine, folder, say, progress)
+    except BaseException:
+        if (folder / NOTE).exists():
+            say(
+                f"{folder}: it has what was recorded: `vga-trace record {folder} --again` judges it"
+            )
+        raise
+    finally:
+        if not any(folder.iterdir()):
+            folder.rmdir()
+
+
+def _judge(note: Note, folder: Path, program: str, fonts: str, progress: Progress) -> int:
     if progress.is_due():
-        progress.tell(f"{folder / TRACE}: a script is made")
-    done = replay(folder, program, fonts, progress, is_own)
+        progress.tell(f"{folder}: a script is made")
+    done = replay(folder, program, fonts, progress, note.is_own)
     progress.clear()
-    _warn(done.listing, str(folder / TRACE))
+    _warn(done.listing, str(folder))
     lines = [done.written.line(done.listing), *done.checked.lines(MOST_TOLD)]
-    # What the page's machine has refused is refused here as well.
-    agrees = not done.checked.differing and sum(done.checked.refused.values()) == refusals
-    are_equal = agrees and bool(screens)
-    for number, at in enumerate(screens, 1):
+    # What is refused is no difference of answers; but the page's machine refuses it as well.
+    agrees = not done.checked.differing and not done.left_out
+    if note.is_own and not done.left_out:
+        agrees &= sum(done.checked.refused.values()) == note.refusals
+    if done.left_out:
+        lines.append(
+            f"what comes after cycle {done.left_out:,} has no room in the script, and isn't judged"
+        )
+    are_equal = agrees and bool(note.screens)
+    for number, at in enumerate(note.screens, 1):
         screen = done.screens.get(number - 1)
         front = f"screen {number} at {at:.1f} s"
         are_equal &= screen is not None and screen.is_equal
         if screen is None:
-            lines.append(f"{front}: here no frame has the shape of a picture")
+            reason = (
+                "it isn't judged" if done.left_out else "here no frame has the shape of a picture"
+            )
+            lines.append(f"{front}: {reason}")
             continue
         lines += screen.lines(front)
         screen.write(folder, number)
+    for left in folder.glob(".dump.*.ppm"):
+        left.unlink()
     print("\n".join(lines))
     return AGREED if are_equal else DIFFERED

@@ -403,21 +403,45 @@ class Written:
         """How many steps it means."""
         return sum(self.kinds.values())
 
+    @property
+    def fits(self) -> bool:
+        """Whether a script may have as much."""
+        size = max(self.script_bytes, self.text_bytes)
+        return size <= MOST_BYTES - FOR_THE_END and self.steps <= MOST_STEPS - FOR_THE_END
+
     def row(self, row: Repeated) -> bytes:
         """Counts a row; what the script has of it."""
         body = b"".join(row.codes)
-        for step in row.steps:
-            self.kinds[NAMES[step.opcode]] += row.times
-            self.script_bytes += step.size
         if row.times > 1:
             ends = format.encoded(format.Block(row.times, ()))
             words = f"{format.REPEAT} {row.times}\n".encode(), f"{format.END}\n".encode()
             front, end = words if self.is_text else (ends[:-1], ends[-1:])
-            self.blocks += 1
-            self.script_bytes += len(ends)
             body = front + body + end
-        self.text_bytes += len(body) if self.is_text else 0
+        self._count(row, body, 1)
         return body
+
+    def drop(self, row: Repeated, body: bytes) -> None:
+        """Takes back what was counted of a row."""
+        self._count(row, body, -1)
+        # A kind of which there is none isn't told.
+        self.kinds = +self.kinds
+
+    def add(self, other: "Written") -> None:
+        """Counts what another script has as well."""
+        self.kinds += other.kinds
+        self.blocks += other.blocks
+        self.script_bytes += other.script_bytes
+        self.text_bytes += other.text_bytes
+        self.last_cycle = other.last_cycle
+
+    def _count(self, row: Repeated, body: bytes, times: int) -> None:
+        for step in row.steps:
+            self.kinds[NAMES[step.opcode]] += row.times * times
+            self.script_bytes += step.size * times
+        if row.times > 1:
+            self.blocks += times
+            self.script_bytes += BLOCK_BYTES * times
+        self.text_bytes += len(body) * times if self.is_text else 0
 
     def header(self) -> bytes:
         """What stands before the rows: version 2 alone has blocks."""
@@ -432,9 +456,37 @@ class Written:
         parts = [f"{listing.trace.count:,} cycles", f"{self.steps:,} steps", f"{length:,} bytes"]
         if self.blocks:
             parts.append(f"{self.blocks:,} repeat{'s' * (self.blocks != 1)}")
+        if listing.trace.polls:
+            parts.append(f"{listing.trace.polls:,} polls folded")
         if listing.rebuilding:
             parts.append(f"{listing.rebuilding:,} steps rebuild the state")
         return f"{', '.join(parts)}: {kinds}"
+
+
+class Rows:
+    """Rows of steps, from which one script after the other is filled."""
+
+    def __init__(self, rows: Iterator[Repeated]) -> None:
+        self._rows = rows
+        self._next = next(rows, None)
+
+    @property
+    def are_done(self) -> bool:
+        """Whether there is no row any more."""
+        return self._next is None
+
+    def fill(self, written: Written) -> bytearray:
+        """The next rows, as many as a script may have."""
+        body = bytearray()
+        while self._next is not None:
+            data = written.row(self._next)
+            if not written.fits:
+                written.drop(self._next, data)
+                break
+            body += data
+            written.last_cycle = self._next.cycle or written.last_cycle
+            self._next = next(self._rows, None)
+        return body
 
 
 def convert(
@@ -446,21 +498,17 @@ def convert(
     Rows of equal steps become blocks, which version 2 has, if these are wanted.
     """
     written = Written(is_text)
-    body = bytearray()
-    for row in folded(listing.steps(), TraceStep.text if is_text else TraceStep.data, has_blocks):
-        body += written.row(row)
-        if (
-            max(written.script_bytes, written.text_bytes) > MOST_BYTES - FOR_THE_END
-            or written.steps > MOST_STEPS - FOR_THE_END
-        ):
-            last = written.last_cycle
-            most = f"more than {MOST_BYTES:,} bytes, or means more than {MOST_STEPS:,} steps"
-            part = f"; `--to {last}` ends before that, and `--from {last + 1}` goes on after it"
-            raise Trouble(
-                f"the script has {most}{part if last else ', and no cycle fits'}",
-                listing.trace.name,
-            )
-        written.last_cycle = row.cycle or written.last_cycle
+    code = TraceStep.text if is_text else TraceStep.data
+    rows = Rows(folded(listing.steps(), code, has_blocks))
+    body = rows.fill(written)
+    if not rows.are_done:
+        last = written.last_cycle
+        most = f"more than {MOST_BYTES:,} bytes, or means more than {MOST_STEPS:,} steps"
+        part = f"; `--to {last}` ends before that, and `--from {last + 1}` goes on after it"
+        raise Trouble(
+            f"the script has {most}{part if last else ', and no cycle fits'}",
+            listing.trace.name,
+        )
     stream.write(written.header())
     stream.write(body)
     return written
@@ -554,32 +602,49 @@ def _judged(step: TraceStep, number: int, answer: Optional[Answer], name: str) -
     return answer
 
 
-def check(
-    steps: Iterable[TraceStep], answers: Iterator[Answer], name: str, has_time: bool = False
-) -> Checked:
-    """Holds the answers of a report, which messages call by a name, against the steps of a trace.
+class Checking:
+    """Holds the answers of reports against the steps of a trace, one report after the other.
 
     Where time has passed by the dots of the trace, the beam is where it was.
     """
-    checked = Checked()
-    banks = Banks()
-    # The last byte that each port was given, also by a step that was refused.
-    given: dict[int, int] = {}
-    for number, step in enumerate(steps, 1):
-        answer = _judged(step, number, next(answers, None), name)
-        is_exact = has_time and step.dots is not None
-        checked.take(step, answer, f"{NAMES[step.opcode]} {_place(step, banks, given)}", is_exact)
+
+    def __init__(self, has_time: bool = False) -> None:
+        self.checked = Checked()
+        self._has_time = has_time
+        self._banks = Banks()
+        # The last byte that each port was given, also by a step that was refused.
+        self._given: dict[int, int] = {}
+
+    def take(self, steps: Iterable[TraceStep], answers: Iterator[Answer], name: str) -> None:
+        """Holds the answers of a report, which messages call by a name, against steps."""
+        for step in steps:
+            answer = _judged(step, self.checked.steps + 1, next(answers, None), name)
+            is_exact = self._has_time and step.dots is not None
+            kind = f"{NAMES[step.opcode]} {_place(step, self._banks, self._given)}"
+            self.checked.take(step, answer, kind, is_exact)
+            self._follow(step)
+        if next(answers, None) is not None:
+            raise Trouble(
+                f"it has more than the {self.checked.steps:,} steps of the trace: it is of another"
+                " script",
+                name,
+            )
+
+    def _follow(self, step: TraceStep) -> None:
         for port, value in bytes_written(step.step):
-            given[port] = value
-            banks.write(port, value)
-        if step.opcode in (IN, INW) and step.address == banks.controller + STATUS:
-            banks.read_status()
-    if next(answers, None) is not None:
-        raise Trouble(
-            f"it has more than the {checked.steps:,} steps of the trace: it is of another script",
-            name,
-        )
-    return checked
+            self._given[port] = value
+            self._banks.write(port, value)
+        if step.opcode in (IN, INW) and step.address == self._banks.controller + STATUS:
+            self._banks.read_status()
+
+
+def check(
+    steps: Iterable[TraceStep], answers: Iterator[Answer], name: str, has_time: bool = False
+) -> Checked:
+    """Holds the answers of a report against the steps of a whole trace: see `Checking`."""
+    checking = Checking(has_time)
+    checking.take(steps, answers, name)
+    return checking.checked
 
 
 def place_of(address: int) -> str:

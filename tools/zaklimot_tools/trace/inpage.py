@@ -5,7 +5,6 @@ The machine is the page's: its modules are in page/zaklimot.html, and node runs 
 software and keys give the same bytes.
 """
 
-import gzip
 import json
 import re
 import subprocess
@@ -14,7 +13,7 @@ import time
 from contextlib import ExitStack
 from dataclasses import dataclass
 from pathlib import Path
-from typing import Any, BinaryIO, NamedTuple, Optional, Sequence, cast
+from typing import Any, BinaryIO, Optional, Sequence, cast
 
 from zaklimot_tools import TOP
 from zaklimot_tools.core.processes import (
@@ -28,11 +27,13 @@ from zaklimot_tools.core.processes import (
     started,
 )
 from zaklimot_tools.core.progress import Progress
-from zaklimot_tools.core.streams import bytes_of, writing
+from zaklimot_tools.core.streams import bytes_of
 from zaklimot_tools.core.trouble import Trouble
 
 from .asked import USUAL_SPEED, Deed
-from .recording import LOOK, TRACE, Keeper, Say
+from .keeper import Keeper
+from .note import PAGE_MACHINE, Note, kept_parts
+from .recording import LOOK, Say
 
 
 NODE = "node"
@@ -116,13 +117,6 @@ class PageMachine:
     chosen: Optional[str] = None
 
 
-class Told(NamedTuple):
-    """The seconds of each screen, and how many steps were refused."""
-
-    screens: list[float]
-    refusals: int
-
-
 def _part(name: str) -> dict[str, str]:
     """A key as a browser tells it."""
     if name in LETTERS:
@@ -185,19 +179,21 @@ def _lay_request(machine: PageMachine, kept: Path, folder: Path) -> Path:
     return request
 
 
-def record(machine: PageMachine, kept: Path, say: Say, progress: Progress) -> Told:
-    """Leaves a trace and the dumps of screens in a folder; `say` tells what may spoil them."""
-    # A key that the page's machine lacks is told first.
-    for deed in machine.deeds:
+def check_keys(deeds: Sequence[Deed]) -> None:
+    """Ends the work, before it begins, where the page's machine lacks a key."""
+    for deed in deeds:
         _deed(deed)
+
+
+def record(machine: PageMachine, kept: Path, say: Say, progress: Progress) -> Note:
+    """Leaves a trace, the dumps of screens and a note in a folder; `say` tells what may spoil
+    them."""
     check_node()
-    with ExitStack() as stack:
+    note = Note(PAGE_MACHINE, [Path(machine.file).name])
+    with kept_parts(kept, note) as parts, ExitStack() as stack:
         folder = Path(stack.enter_context(tempfile.TemporaryDirectory(prefix="vga-recording-")))
         request = _lay_request(machine, kept, folder)
         answer = folder / "answer"
-        stream = stack.enter_context(writing(str(kept / TRACE)))
-        # The same bytes each time: without the name and the time of the file.
-        target = stack.enter_context(gzip.GzipFile("", "wb", 6, stream, mtime=0))
         said = stack.enter_context(open(folder / "said", "wb"))
         words: list[Word] = [
             "nice",
@@ -211,7 +207,7 @@ def record(machine: PageMachine, kept: Path, say: Say, progress: Progress) -> To
         process = stack.enter_context(
             started(words, stdout=subprocess.PIPE, stderr=said, preexec_fn=end_with_parent)
         )
-        keeper = Keeper(cast(BinaryIO, process.stdout), cast(BinaryIO, target), NODE)
+        keeper = Keeper(cast(BinaryIO, process.stdout), parts)
         stack.callback(keeper.end)
         process.stdout = None
         keeper.start()
@@ -220,19 +216,23 @@ def record(machine: PageMachine, kept: Path, say: Say, progress: Progress) -> To
             ended = f"it ended with status {process.returncode}"
             raise Trouble(said_last(folder / "said") or ended, machine.file)
         told = json.loads(answer.read_text("utf-8"))
+        note.screens, note.refusals, note.ended = told["screens"], told["refusals"], "all was done"
     for line in told["said"]:
         say(line[:MOST_IN_LINE])
-    return Told(told["screens"], told["refusals"])
+    return note
 
 
 def _wait(process: "subprocess.Popen[bytes]", keeper: Keeper, progress: Progress) -> None:
     """Waits until the machine has ended, and all its lines are kept."""
     while process.poll() is None:
-        if keeper.trouble:
-            raise keeper.trouble
+        _check_kept(keeper)
         if progress.is_due():
             progress.tell(f"recording: {keeper.size:,} bytes")
         time.sleep(LOOK)
     keeper.join(DRAINING)
-    if keeper.trouble:
-        raise keeper.trouble
+    _check_kept(keeper)
+
+
+def _check_kept(keeper: Keeper) -> None:
+    if keeper.full:
+        raise Trouble(f"{keeper.full}: --seconds ends the machine sooner", NODE)

@@ -1,35 +1,36 @@
 """Records on qemu what software does to a VGA: its trace, and its screens at chosen times."""
 
-import gzip
 import os
 import subprocess
 import tempfile
 import time
 from contextlib import ExitStack, contextmanager, suppress
 from dataclasses import dataclass, field
+from difflib import get_close_matches
 from pathlib import Path
-from threading import Thread
-from typing import Any, BinaryIO, Callable, Iterator, Optional, Sequence, cast
+from typing import Any, BinaryIO, Callable, Iterator, Sequence, cast
 
 from zaklimot_tools.core.processes import (
     DRAINING,
     Word,
     check_program,
+    end,
     end_with_parent,
     run,
     said_last,
     started,
 )
 from zaklimot_tools.core.progress import Progress
-from zaklimot_tools.core.streams import writing
 from zaklimot_tools.core.trouble import Trouble
 
-from .asked import Deed
-from .monitor import ANSWERING, Monitor, monitor_at
+from .asked import FIRST, KEEP, Deed
+from .keeper import Keeper
+from .monitor import ANSWERING, QEMU, Monitor, key_names, monitor_at
+from .note import QEMU_MACHINE, Note, kept_parts
+from .parts import Parts
 from .trace import SCREEN
 
 
-QEMU = "qemu-system-x86_64"
 EVENTS = "memory_region_ops_read\nmemory_region_ops_write\n"
 # The regions of the log that are the VGA's.
 KEPT = ("'vga", "'vbe'", "'cirrus-io'", "'cirrus-low-memory'")
@@ -52,10 +53,8 @@ BARE = (
 LOOK, PRESSING, PHASE, BEGINNING = 0.05, 0.1, 0.12, 0.3
 # Screens are taken again and again, since qemu blinks by a clock of its own.
 PHASES = 6
-# The trace in the folder of a recording.
-TRACE = "trace.gz"
-# So many bytes of lines are kept, about twenty million cycles, and so many are read at a time.
-MOST_LINES, CHUNK = 1 << 31, 1 << 16
+# So many names of keys are told that are like one that is none.
+MOST_NEAR = 2
 Say = Callable[[str], None]
 
 
@@ -65,53 +64,15 @@ class QemuMachine:
     waited for.
 
     `quiet` is how many seconds without a cycle mean that the software waits; `most` is after how
-    many seconds the machine ends, whatever was not done by then.
+    many seconds the machine ends, whatever was not done by then; `polls` is which polls of input
+    status 1 are kept.
     """
 
     words: Sequence[str]
     deeds: Sequence[Deed] = (Deed(),)
     quiet: float = 3
     most: float = 60
-
-
-class Keeper(Thread):
-    """Keeps the lines of a pipe in a file, and tells how many bytes there were, and when the last
-    came."""
-
-    def __init__(self, source: BinaryIO, target: BinaryIO, name: str = QEMU) -> None:
-        super().__init__(daemon=True)
-        self._source = source
-        self._target = target
-        self._name = name
-        self.size = 0
-        self.last = time.monotonic()
-        self.trouble: Optional[Trouble] = None
-
-    def run(self) -> None:
-        """Takes all lines, also those that can't be kept, so that their writer goes on to its
-        end."""
-        with self._source:
-            while chunk := os.read(self._source.fileno(), CHUNK):
-                self.size = self.size + len(chunk)
-                self.last = time.monotonic()
-                try:
-                    if self.size <= MOST_LINES:
-                        self._target.write(chunk)
-                    else:
-                        self.trouble = Trouble(
-                            f"its trace has more than {MOST_LINES:,} bytes: end it sooner",
-                            self._name,
-                        )
-                except OSError as error:
-                    self.trouble = Trouble(
-                        f"its trace can't be kept: {error.strerror or error}", self._name
-                    )
-
-    def end(self) -> None:
-        """Waits a while for the lines that are still to come. A signal may have come before its
-        start."""
-        if self.is_alive():
-            self.join(DRAINING)
+    polls: str = KEEP
 
 
 @dataclass
@@ -124,14 +85,12 @@ class Session:
     keeper: Keeper
     folder: Path
     progress: Progress
-    screens: list[float] = field(default_factory=list)
+    note: Note = field(default_factory=lambda: Note(QEMU_MACHINE))
     began: float = field(default_factory=time.monotonic)
     acted: float = field(default_factory=time.monotonic)
 
     def has_ended(self) -> bool:
-        """Whether the machine has ended by itself; a Trouble where its lines can't be kept."""
-        if self.keeper.trouble:
-            raise self.keeper.trouble
+        """Whether the machine has ended by itself."""
         return self.process.poll() is not None
 
     def is_due(self, deed: Deed) -> bool:
@@ -142,34 +101,44 @@ class Session:
         return self.keeper.size > 0 and now - max(self.acted, self.keeper.last) > self.machine.quiet
 
     def act(self, do: Monitor, log: BinaryIO, say: Say) -> None:
-        """Does all that is to be done. The last screen is taken in the last second at the
-        latest."""
+        """Does all that is to be done, and notes why it ends. The last screen is taken in the last
+        second at the latest."""
         for number, deed in enumerate(self.machine.deeds, 1):
             is_due = self._wait(deed)
-            is_last = number == len(self.machine.deeds)
             if self.has_ended():
-                say(
-                    f"the machine ended by itself after {time.monotonic() - self.began:.1f} seconds"
-                )
+                passed = time.monotonic() - self.began
+                self.note.ended = f"the machine ended by itself after {passed:.1f} seconds"
+                say(self.note.ended)
                 return
-            if not is_due and (deed.keys or not is_last):
-                over = f"{self.machine.most:g} seconds were over before it was time for {deed}"
-                say(f"{over}: the screen is taken now, and the rest left out")
-            elif not is_due:
-                say("the software was still busy when its screen was taken")
+            if not is_due:
+                self._end_early(deed, number == len(self.machine.deeds), say)
             if is_due and deed.keys:
                 self.press(do, deed.keys)
-            else:
+            elif not self.keeper.is_lost:
                 self._take_screen(do, log)
             if not is_due:
                 return
+        self.note.ended = "all was done"
+
+    def _end_early(self, deed: Deed, is_last: bool, say: Say) -> None:
+        """Notes and tells why the recording ends before it was time for a deed."""
+        self.note.ended = self.keeper.full or f"{self.machine.most:g} seconds were over"
+        if self.keeper.full:
+            rest = "" if self.keeper.is_lost else ": the last screen is taken now"
+            fold = "; --polls first folds polls" if self.machine.polls == KEEP else ""
+            say(f"{self.keeper.full}{rest}{fold}")
+        elif deed.keys or not is_last:
+            over = f"{self.note.ended} before it was time for {deed}"
+            say(f"{over}: the screen is taken now, and the rest left out")
+        else:
+            say("the software was still busy when its screen was taken")
 
     def _wait(self, deed: Deed) -> bool:
         """Waits until a deed is to be done; whether it came to that before the machine's last
         second."""
         while not self.is_due(deed):
             passed = time.monotonic() - self.began
-            if self.has_ended() or passed >= self.machine.most:
+            if self.has_ended() or self.keeper.full or passed >= self.machine.most:
                 return False
             if self.progress.is_due():
                 self.progress.tell(f"recording: {passed:.0f} s")
@@ -186,8 +155,8 @@ class Session:
     def _take_screen(self, do: Monitor, log: BinaryIO) -> None:
         """Takes the screen at several phases of the cursor. A line of the log tells the place of
         each among the cycles."""
-        first = PHASES * len(self.screens)
-        self.screens.append(time.monotonic() - self.began)
+        first = PHASES * len(self.note.screens)
+        self.note.screens.append(time.monotonic() - self.began)
         do("stop")
         for number in range(first, first + PHASES):
             if number > first:
@@ -197,6 +166,7 @@ class Session:
             log.write(SCREEN + b"\n")
             do("screendump", filename=str(dump(self.folder, number).resolve()))
         do("cont")
+        self.note.write(self.folder)
         self.acted = time.monotonic()
 
 
@@ -252,8 +222,10 @@ def _reached(folder: Path, process: subprocess.Popen[bytes]) -> Iterator[tuple[M
 
 
 @contextmanager
-def _filtered(folder: Path, target: BinaryIO) -> Iterator[tuple["subprocess.Popen[bytes]", Keeper]]:
-    """What takes the VGA's lines out of a machine's log, and what keeps them in a file."""
+def _filtered(
+    folder: Path, parts: Parts, folds: bool
+) -> Iterator[tuple["subprocess.Popen[bytes]", Keeper]]:
+    """What takes the VGA's lines out of a machine's log, and what keeps them."""
     words = [word for name in KEPT for word in ("-e", name)]
     os.mkfifo(folder / "log")
     filtering: list[Word] = ["grep", "--line-buffered", "-F", *words, folder / "log"]
@@ -261,41 +233,53 @@ def _filtered(folder: Path, target: BinaryIO) -> Iterator[tuple["subprocess.Pope
     with ExitStack() as kept_lines:
         given: dict[str, Any] = {"stdout": subprocess.PIPE, "preexec_fn": end_with_parent}
         with started(filtering, **given) as process:
-            keeper = Keeper(cast(BinaryIO, process.stdout), target)
+            keeper = Keeper(cast(BinaryIO, process.stdout), parts, folds)
             kept_lines.callback(keeper.end)
             process.stdout = None
             keeper.start()
             yield process, keeper
 
 
-def record(machine: QemuMachine, kept: Path, say: Say, progress: Progress) -> list[float]:
-    """Leaves a trace and the dumps of screens in a folder; answers the seconds of each screen.
+def check_keys(deeds: Sequence[Deed]) -> None:
+    """Ends the work, before it begins, where a key has no name of qemu's."""
+    wanted = [name for deed in deeds for key in deed.keys for name in key.split("-")]
+    names = key_names() if wanted else ()
+    for name in wanted if names else ():
+        if name not in names:
+            near = get_close_matches(name, names, MOST_NEAR)
+            told = f": {' or '.join(f'`{one}`' for one in near)} is one" if near else ""
+            raise Trouble(f"`{name}` is no key of qemu's{told}")
 
-    `say` tells what may spoil them.
+
+def record(machine: QemuMachine, kept: Path, say: Say, progress: Progress) -> Note:
+    """Leaves a trace, the dumps of screens and a note in a folder; answers the note.
+
+    `say` tells what may spoil them. What was recorded before a trouble stays; where nothing was, no
+    file does.
     """
     check_program(QEMU)
-    with ExitStack() as stack:
+    note = Note(QEMU_MACHINE, list(machine.words), polls=machine.polls)
+    with kept_parts(kept, note) as parts, ExitStack() as stack:
         folder = Path(stack.enter_context(tempfile.TemporaryDirectory(prefix="vga-recording-")))
-        target = stack.enter_context(
-            gzip.open(stack.enter_context(writing(str(kept / TRACE))), "wb", 6)
-        )
-        filtering, keeper = stack.enter_context(_filtered(folder, cast(BinaryIO, target)))
+        filtering, keeper = stack.enter_context(_filtered(folder, parts, machine.polls == FIRST))
         said = stack.enter_context(open(folder / "said", "wb"))
         process = stack.enter_context(
             started(_qemu(machine, folder), stdout=said, stderr=said, preexec_fn=end_with_parent)
         )
-        session = Session(machine, process, keeper, kept, progress)
+        session = Session(machine, process, keeper, kept, progress, note)
         # A machine that has ended by itself hears nothing more.
         with suppress(BrokenPipeError), _reached(folder, process) as (do, log):
+            note.made_by = do.version
             session.act(do, log, say)
             if not session.has_ended():
                 do("quit")
         for ending, name in ((process, QEMU), (filtering, "grep")):
             try:
                 ending.wait(ANSWERING)
-            except subprocess.TimeoutExpired as error:
-                raise Trouble(f"it doesn't end within {ANSWERING} seconds", name) from error
+            except subprocess.TimeoutExpired:
+                say(f"{name} didn't end within {ANSWERING} seconds, and was ended")
+                end(ending)
         keeper.join(DRAINING)
-        if keeper.trouble:
-            raise keeper.trouble
-    return session.screens
+        if not parts.has_lines:
+            raise Trouble(f"it made no cycle of a VGA: {note.ended}", QEMU)
+    return note

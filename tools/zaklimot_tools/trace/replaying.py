@@ -8,13 +8,15 @@ screen.
 from __future__ import annotations
 
 import io
+from collections import deque
 from dataclasses import dataclass, field
 from functools import cached_property
+from itertools import count, islice
 from math import inf
 from pathlib import Path
 from tempfile import TemporaryDirectory
 from threading import Event
-from typing import Callable, Iterator, Mapping, Sequence, cast
+from typing import Any, Callable, Iterator, Mapping, Sequence, cast
 
 from zaklimot.format import Answer, Picture
 from zaklimot.format.answers import RAGGED
@@ -31,9 +33,9 @@ from zaklimot_tools.report.reports import delays_of
 from zaklimot_tools.script.program import BuiltProgram, fault_of
 
 from .asked import SCREENS
-from .converting import Checked, Listing, Written, check, convert
-from .recording import PHASES, TRACE, dump
-from .state import State
+from .converting import Checked, Checking, Listing, Rows, Written, folded
+from .recording import PHASES, dump
+from .state import State, rebuilt
 from .step import TraceStep
 from .trace import opened
 
@@ -142,7 +144,7 @@ class Screen:
 
     def write(self, folder: Path, number: int) -> None:
         """Leaves the dump, the picture, and where they differ."""
-        self.dump.replace(folder / f"screen-{number}.ppm")
+        self.dump.replace(kept_dump(folder, number))
         save_png(str(folder / f"picture-{number}.png"), self.picture)
         if self.dots:
             save_png(str(folder / f"differing-{number}.png"), self.part, other=self.held.image)
@@ -262,23 +264,29 @@ def _known(screen: Screen) -> dict[str, list[str]]:
 
 @dataclass
 class Replay:
-    """The steps of a trace and the answers to them, as they pass: the script's figures, the reads,
+    """The steps of a trace and the answers to them, as they pass: the scripts' figures, the reads,
     and the screens.
 
     `cycles` tells how many cycles stand before each dump, of which a screen has several: `screens`
     keeps the nearest. A recording of the page's own machine tells the dots between its cycles, and
-    has one dump of a screen.
+    has one dump of a screen. `left_out` tells after which cycle nothing is judged, if that is so.
     """
 
     written: Written
     listing: Listing
     folder: Path
     cycles: Sequence[int]
-    checked: Checked = field(default_factory=Checked)
+    checking: Checking = field(default_factory=Checking)
     state: State = field(default_factory=State)
     screens: dict[int, Screen] = field(default_factory=dict)
     is_own: bool = False
+    left_out: int = 0
     _dumps: int = 0
+
+    @property
+    def checked(self) -> Checked:
+        """What was found of the answers so far."""
+        return self.checking.checked
 
     def steps(self) -> Iterator[TraceStep]:
         """The steps, of which the state is kept, as far as something hangs on it."""
@@ -296,9 +304,21 @@ class Replay:
                 self._dumps += 1
             yield answer
 
+    def take_script(self, written: Written, rebuilding: int, number: int) -> None:
+        """Adds the figures of a script, of which so many steps rebuild a state."""
+        self.listing.rebuilding += rebuilding
+        written.last_cycle = written.last_cycle or self.written.last_cycle
+        if number == 1:
+            self.written = written
+        else:
+            self.written.add(written)
+
     def _judge(self, picture: Picture) -> None:
-        path = dump(self.folder, self._dumps)
         number = self._dumps // (1 if self.is_own else PHASES)
+        path = dump(self.folder, self._dumps)
+        # Of a recording that was judged before, the nearest dump is left.
+        if not path.exists():
+            path = kept_dump(self.folder, number + 1)
         if not path.exists():
             return
         image = image_of(image_bytes(str(path)), str(path))
@@ -308,6 +328,17 @@ class Replay:
         )
         if number not in self.screens or screen.distance < self.screens[number].distance:
             self.screens[number] = screen
+
+
+def kept_dump(folder: Path, number: int) -> Path:
+    """The dump of a screen that is kept, counted from 1."""
+    return folder / f"screen-{number}.ppm"
+
+
+def script_files(folder: Path, number: int) -> tuple[Path, Path]:
+    """A script of a recording and its report, counted from 1."""
+    middle = "" if number == 1 else f"-{number}"
+    return folder / f"script{middle}.bin", folder / f"report{middle}.txt"
 
 
 def _run_script(program: str, fonts: str, script: Path, report: Path) -> None:
@@ -322,28 +353,62 @@ def _run_script(program: str, fonts: str, script: Path, report: Path) -> None:
         answers.replace(report)
 
 
+def _write_script(rows: Rows, before: Sequence[TraceStep], script: Path) -> Written:
+    """Writes a script of as many rows as it may have, behind steps that rebuild a state."""
+    written = Written(False)
+    body = bytearray()
+    for row in folded(before, TraceStep.data):
+        body += written.row(row)
+    body += rows.fill(written)
+    with writing(str(script)) as stream:
+        stream.write(written.header())
+        stream.write(body)
+    return written
+
+
+def _check_rebuilding(steps: Sequence[TraceStep], answers: Iterator[Answer], name: str) -> None:
+    """Ends the work where a state wasn't rebuilt: no verdict on what follows would be worth
+    anything."""
+    checking = Checking()
+    checking.take(steps, answers, name)
+    if not checking.checked.agrees:
+        told = "\n".join(checking.checked.lines(1))
+        raise Trouble(f"the state before its first cycle isn't rebuilt:\n{told}", name)
+
+
 def replay(
     folder: Path, program: str, fonts: str, progress: Progress, is_own: bool = False
 ) -> Replay:
     """Makes script.bin and report.txt beside a trace and its screens in a folder, and holds all
     against one another.
 
-    In a recording of the page's own machine time passes, dot by dot.
+    What has no room in one script goes on in the next, which rebuilds the state first. In a
+    recording of the page's own machine time passes, dot by dot, and the first script alone is made:
+    what calls of interrupt 10 leave can't be followed.
     """
-    trace = str(folder / TRACE)
-    script = folder / "script.bin"
-    report = folder / "report.txt"
-    with opened(trace) as read, writing(str(script)) as stream:
-        written = convert(Listing(read, has_time=is_own, frames=SCREENS), stream)
-        cycles = read.screens
-    _run_script(program, fonts, script, report)
-    with opened(trace) as read, reading(str(report)) as answers:
-        listing = Listing(read, has_time=is_own, frames=SCREENS)
-        name = str(report)
-        done = Replay(written, listing, folder, cycles, is_own=is_own)
-        done.checked = check(
-            done.steps(), done.answers(Report(answers, name, progress).steps()), name, is_own
-        )
+    with opened(str(folder), may_be_cut=True) as made, opened(str(folder), may_be_cut=True) as read:
+        given: dict[str, Any] = {"has_time": is_own, "frames": SCREENS}
+        rows = Rows(folded(Listing(made, **given).steps(), TraceStep.data))
+        listing = Listing(read, **given)
+        checking = Checking(is_own)
+        done = Replay(Written(False), listing, folder, read.screens, checking, is_own=is_own)
+        steps = done.steps()
+        for number in count(1):
+            before = list(rebuilt(done.state)) if number > 1 else []
+            script, report = script_files(folder, number)
+            written = _write_script(rows, before, script)
+            _run_script(program, fonts, script, report)
+            with reading(str(report)) as answers:
+                told = done.answers(Report(answers, str(report), progress).steps())
+                _check_rebuilding(before, islice(told, len(before)), str(report))
+                taken = islice(steps, written.steps - len(before))
+                checking.take(taken, told, str(report))
+            done.take_script(written, len(before), number)
+            if rows.are_done or is_own:
+                break
+        done.left_out = 0 if rows.are_done else done.written.last_cycle
+        # What the trace lacks is known at its end.
+        deque(steps, 0)
     return done
 
 

@@ -5,18 +5,23 @@ What a trace may lack is found while its cycles pass: it is told, and nothing is
 
 import gzip
 import io
+import os
 import re
 import zlib
 from collections import defaultdict
 from contextlib import contextmanager
 from itertools import islice
-from typing import BinaryIO, Iterator, NamedTuple, Optional
+from pathlib import Path
+from typing import Iterator, NamedTuple, Optional, Protocol
 
 from zaklimot.format import MOST_BLOCK
 from zaklimot_tools.core.files import name_of
-from zaklimot_tools.core.streams import reading
+from zaklimot_tools.core.streams import reading, to_read
 from zaklimot_tools.core.trouble import Trouble
 from zaklimot_tools.explain.banks import MISC, SEQUENCER
+
+from .folding import FOLDED
+from .parts import Chained, parts_of
 
 # Where a cycle goes: a port, display memory, or a port of the Bochs VBE extensions, which is none
 # of a VGA's. A call of interrupt 10, which the adapter's own BIOS serves, stands for all of its
@@ -67,6 +72,8 @@ SPACES = {
 # The line of a log that tells where a screen was taken. The filter of the log keeps it with those
 # of the VGA.
 SCREEN = b"screen of 'vga-trace'"
+# How the lines begin that `record` puts into a log.
+OF_RECORDER = (SCREEN, b"polls ")
 # A line of the plain form without a cycle: blanks, and a comment.
 PASSED = re.compile(rb"\s*(?:;.*)?", re.DOTALL)
 # What tells that a trace lacks something: registers of the VGA, and of the Bochs VBE extensions.
@@ -74,6 +81,13 @@ VBE_INDEX = 0x1CE
 INDEX_OF = {0x3C5: SEQUENCER, 0x1CF: VBE_INDEX, 0x1D0: VBE_INDEX}
 MAP_MASK, MEMORY_MODE, VBE_ENABLE = (SEQUENCER, 2), (SEQUENCER, 4), (VBE_INDEX, 4)
 ALL_PLANES, CHAIN_4 = 0x0F, 0x08
+
+
+class Stream(Protocol):
+    """What a trace is read from."""
+
+    def readline(self, most: int, /) -> bytes:
+        """The next line, or so many bytes of it; none at the end."""
 
 
 class Call(NamedTuple):
@@ -118,14 +132,15 @@ class Trace:
     """The cycles of a trace that is read from a stream, and what was found of its lines and
     cycles."""
 
-    def __init__(self, stream: BinaryIO, name: str) -> None:
+    def __init__(self, stream: Stream, name: str) -> None:
         self._stream = stream
         self.name = name
         self._is_plain: Optional[bool] = None
         self._first_other = 0
         self.line = 0
-        # How many cycles came so far, and how many of them have no time.
-        self.count = self.untimed = 0
+        # How many cycles came so far, and how many of them have no time; and how many polls were
+        # folded while the trace was recorded, which are no cycles of it.
+        self.count = self.untimed = self.polls = 0
         # How many cycles stand before each screen that was taken; and the dots until then since the
         # line before, if known.
         self.screens: list[int] = []
@@ -197,8 +212,8 @@ class Trace:
     def _cycle(self, line: bytes) -> Optional[Cycle]:
         """The cycle of a line, where it has one of a VGA. The first line that has one says which
         form it is."""
-        if not self._is_plain and line.startswith(SCREEN):
-            self._take_screen(None)
+        if not self._is_plain and line.startswith(OF_RECORDER):
+            self._note(line)
             return None
         if self._is_plain is None:
             self._is_plain = self._found_form(line)
@@ -226,6 +241,14 @@ class Trace:
             dots,
         )
         return self._judged(cycle)
+
+    def _note(self, line: bytes) -> None:
+        """Takes a line that `record` has put into qemu's log."""
+        polls = FOLDED.fullmatch(line)
+        if line.startswith(SCREEN):
+            self._take_screen(None)
+        elif polls is not None:
+            self.polls += int(polls[1])
 
     def _judged(self, cycle: Cycle) -> Cycle:
         fault = cycle.fault()
@@ -362,13 +385,24 @@ class Trace:
 
 
 @contextmanager
-def opened(path: str, is_whole: bool = True) -> Iterator[Trace]:
-    """The trace of a file or of standard input, compressed by gzip or not. One that isn't read
-    whole may be endless."""
-    with reading(path, is_drained=is_whole) as stream:
-        if stream.peek(2)[:2] == GZIP:
-            with gzip.open(stream) as unpacked:
+def opened(path: str, is_whole: bool = True, may_be_cut: bool = False) -> Iterator[Trace]:
+    """The trace of a file, of the folder of a recording or of standard input, compressed by gzip or
+    not.
+
+    One that isn't read whole may be endless. Where one may be cut, its last part may end anywhere,
+    as that of a recording does whose computer has stopped.
+    """
+    if os.path.isdir(path):
+        parts = [to_read(str(part)) for part in parts_of(Path(path))]
+        if not parts:
+            raise Trouble("the folder has no trace of a recording", path)
+        with Chained(parts, may_be_cut) as stream:
+            yield Trace(stream, path)
+        return
+    with reading(path, is_drained=is_whole) as read:
+        if read.peek(2)[:2] == GZIP:
+            with gzip.open(read) as unpacked:
                 # What `BufferedReader` asks of a stream, this has too.
                 yield Trace(io.BufferedReader(unpacked), name_of(path))  # type: ignore[arg-type]
         else:
-            yield Trace(stream, name_of(path))
+            yield Trace(read, name_of(path))

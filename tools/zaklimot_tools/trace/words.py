@@ -23,7 +23,10 @@ _job = partial(later, "zaklimot_tools.trace.command")
 
 
 def _add_trace(parser: argparse.ArgumentParser) -> None:
-    told = "qemu's log or lines of the plain form, also compressed by gzip; - is standard input"
+    told = (
+        "qemu's log or lines of the plain form, also compressed by gzip, or the folder of a"
+        " recording; - is standard input"
+    )
     add(parser, "TRACE", told, type=Input)
     numbers = {"type": number_to(MOST_CYCLES)}
     add(parser, "--to N", "takes only the first N cycles (default: all)", **numbers)
@@ -62,7 +65,12 @@ def _add_longest(parser: argparse.ArgumentParser) -> None:
 
 # The options of a recording by qemu that mean nothing to the page's machine, and those that mean
 # nothing to qemu.
-OF_QEMU = {"qemu": "what stands behind `--`", "chain_4": "--chain-4", "card": "--card"}
+OF_QEMU = {
+    "qemu": "what stands behind `--`",
+    "chain_4": "--chain-4",
+    "card": "--card",
+    "polls": "--polls",
+}
 OF_PAGE = ("speed", "rom", "start")
 
 
@@ -76,11 +84,21 @@ def _deed(word: str) -> Deed:
     return Deed(seconds(time) if colon else None, tuple(keys.split(",")))
 
 
+def _is_for_recording(words: argparse.Namespace) -> object:
+    """Whether words have anything that a recording alone needs."""
+    return words.in_page or words.deeds or any(getattr(words, name) for name in OF_QEMU)
+
+
 def _add_record(parser: argparse.ArgumentParser) -> None:
     add(parser, "FOLDER", "a new folder, or an empty one")
     told = "qemu needs words after `--`, as `-- -cdrom disc.iso`; and the page's machine, "
     told += "--in-page FILE"
-    rule(parser, "folder", lambda words: words.in_page is None and not words.qemu, told)
+    rule(
+        parser,
+        "folder",
+        lambda words: words.in_page is None and not words.qemu and not words.again,
+        told,
+    )
     _add_deeds(parser)
     _add_page_machine(parser)
     told = "takes the software as quiet after so long without a cycle (default: 3)"
@@ -89,6 +107,14 @@ def _add_record(parser: argparse.ArgumentParser) -> None:
     add(parser, "--seconds SECONDS", told, type=seconds, default=60)
     add(parser, "--chain-4", "records mode 13 too, by a plugin for qemu 7.2 that gcc builds")
     add(parser, "--card DEVICE", "takes this VGA of qemu's devices (default: VGA)")
+    told = (
+        "keeps all reads of input status 1, or only the first of several, with the number of the"
+        " others (default: keep)"
+    )
+    add(parser, "--polls", told, choices=[KEEP, FIRST])
+    add(parser, "--again", "judges once more what is recorded in the folder")
+    told = "--again judges what is recorded, and takes --vga and --fonts alone"
+    rule(parser, "again", _is_for_recording, told)
     add_program(parser)
     for name, called in OF_QEMU.items():
         told = f"{called} is for qemu, and not for --in-page"
@@ -178,7 +204,8 @@ def parser(qemu: Sequence[str] = ()) -> argparse.ArgumentParser:
     note = "After `--` stand qemu's words for what it boots."
     usage = (
         "vga-trace record [OPTION..] FOLDER -- QEMU-WORD..\n"
-        "       vga-trace record [OPTION..] FOLDER --in-page FILE"
+        "       vga-trace record [OPTION..] FOLDER --in-page FILE\n"
+        "       vga-trace record FOLDER --again"
     )
     job = _job("record_software")
     made = cli.command(commands, "record", job, told, example, note, usage=usage)

@@ -30,7 +30,8 @@ from zaklimot_tools.report.places import SUITE
 from zaklimot_tools.script.program import found_program
 from zaklimot_tools.script.words import FONTS
 from zaklimot_tools.trace.asked import Deed
-from zaklimot_tools.trace.recording import TRACE, QemuMachine, chain_4, record
+from zaklimot_tools.trace.parts import TRACE
+from zaklimot_tools.trace.recording import QemuMachine, chain_4, record
 from zaklimot_tools.trace.replaying import Replay, replay
 
 

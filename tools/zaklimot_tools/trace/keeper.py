@@ -1,0 +1,77 @@
+"""Keeps the lines that a machine logs, until there are too many of them."""
+
+import os
+import time
+from threading import Thread
+from typing import BinaryIO, Optional
+
+from zaklimot_tools.core.processes import DRAINING
+
+from .folding import Folding
+from .parts import Parts
+
+# So many bytes are kept, as they are packed; those of the last screen have as much room again.
+MOST_KEPT = 1 << 30
+CHUNK = 1 << 16
+
+
+class Keeper(Thread):
+    """Keeps the lines of a pipe in parts, and tells how many bytes there were, and when the last
+    came.
+
+    `full` says why the recording is to end; it is empty until then. Where lines can't be kept any
+    more, `is_lost` is set. With `folds` polls of input status 1 are folded.
+    """
+
+    def __init__(self, source: BinaryIO, parts: Parts, folds: bool = False) -> None:
+        super().__init__(daemon=True)
+        self._source = source
+        self._parts = parts
+        self._folding: Optional[Folding] = Folding() if folds else None
+        self._rest = b""
+        self.is_lost = False
+        self.size = 0
+        self.last = time.monotonic()
+        self.full = ""
+
+    def run(self) -> None:
+        """Takes all lines, also those that can't be kept, so that their writer goes on to its
+        end."""
+        with self._source:
+            while chunk := os.read(self._source.fileno(), CHUNK):
+                self.size = self.size + len(chunk)
+                self.last = time.monotonic()
+                self._keep(chunk)
+        self._end()
+
+    def end(self) -> None:
+        """Waits a while for the lines that are still to come. A signal may have come before its
+        start."""
+        if self.is_alive():
+            self.join(DRAINING)
+
+    def _keep(self, chunk: bytes) -> None:
+        if self.is_lost:
+            return
+        try:
+            self._parts.write(self._folded(chunk))
+            if self._parts.kept >= MOST_KEPT:
+                self.full = f"its trace has {MOST_KEPT:,} bytes, as they are packed"
+                self.is_lost = self._parts.kept >= 2 * MOST_KEPT
+        except OSError as error:
+            self.full = f"its trace can't be kept: {error.strerror or error}"
+            self.is_lost = True
+
+    def _folded(self, chunk: bytes) -> bytes:
+        if self._folding is None:
+            return chunk
+        lines, end, rest = (self._rest + chunk).rpartition(b"\n")
+        self._rest = rest
+        return self._folding.folded(lines + end)
+
+    def _end(self) -> None:
+        if self._folding is not None:
+            self._keep(b"\n" if self._rest else b"")
+            folding = self._folding
+            self._folding = None
+            self._keep(folding.end())

@@ -1,0 +1,93 @@
+"""What a recording's folder tells of how it was recorded, beside its trace and its screens: what it
+needs to be judged once more."""
+
+import json
+from contextlib import contextmanager
+from dataclasses import asdict, dataclass, field
+from pathlib import Path
+from typing import Any, Iterator, Optional, Sequence
+
+from zaklimot_tools.core.streams import bytes_of, write_file
+from zaklimot_tools.core.trouble import Trouble
+
+from .parts import Parts
+
+NOTE = "recording.json"
+MOST_NOTE = 1 << 20
+FRONT = {"is": "zaklimot recording", "version": 1}
+QEMU_MACHINE, PAGE_MACHINE = "qemu", "page"
+
+
+@dataclass
+class Note:
+    """How software was recorded: the machine, its version and its words, the seconds of its
+    screens, how many steps it refused, and why it ended.
+
+    `polls` is `first` where polls of input status 1 were folded. `ended` is empty while it records.
+    """
+
+    machine: str
+    words: Sequence[str] = ()
+    made_by: str = ""
+    polls: str = ""
+    screens: list[float] = field(default_factory=list)
+    refusals: int = 0
+    ended: str = ""
+
+    @property
+    def is_own(self) -> bool:
+        """Whether the page's machine was recorded."""
+        return self.machine == PAGE_MACHINE
+
+    def write(self, folder: Path) -> None:
+        """Lays it into the folder."""
+        text = json.dumps({**FRONT, **asdict(self)}, indent=1)
+        write_file(str(folder / NOTE), text.encode("ascii") + b"\n")
+
+
+@contextmanager
+def kept_parts(folder: Path, note: Note) -> Iterator[Parts]:
+    """The parts of a trace that is recorded into a folder, with its note; both stay whatever ends
+    the recording, unless there is nothing in them."""
+    parts = Parts(folder)
+    try:
+        note.write(folder)
+        yield parts
+    except BaseException:
+        note.ended = note.ended or "it was ended"
+        raise
+    finally:
+        try:
+            parts.close()
+        except OSError as error:
+            note.ended = f"its trace can't be kept: {error.strerror or error}"
+        if parts.has_lines or note.screens:
+            note.write(folder)
+        else:
+            parts.drop()
+            (folder / NOTE).unlink(missing_ok=True)
+
+
+def note_of(folder: Path) -> Note:
+    """The note of a folder; a Trouble where it has none that can be read."""
+    path = folder / NOTE
+    if not path.exists():
+        raise Trouble(f"it is no recording: it has no {NOTE}", str(folder))
+    found = _parsed(bytes_of(path, MOST_NOTE))
+    if found is None:
+        raise Trouble("it is no note of a recording, or of another version", str(path))
+    return found
+
+
+def _parsed(data: bytes) -> Optional[Note]:
+    try:
+        given: Any = json.loads(data)
+        if {name: given.pop(name) for name in FRONT} != FRONT:
+            return None
+        note = Note(**given)
+        note.screens = [float(second) for second in note.screens]
+        note.refusals = int(note.refusals)
+        is_known = note.machine in (QEMU_MACHINE, PAGE_MACHINE)
+        return note if is_known and isinstance(note.ended, str) else None
+    except (ValueError, TypeError, KeyError, AttributeError, RecursionError):
+        return None
