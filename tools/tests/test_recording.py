@@ -158,6 +158,7 @@ HELD_KNOWN_OF_QEMU = "  {} what is known of qemu: {}; docs/EMULATORS.md tells of
 HELD_USUAL, HELD_LINE = (
     HELD_KNOWN_OF_QEMU("may be", f"{front}underline") for front in ("palette address source, ", "")
 )
+HELD_NONE = "  nothing that is known of qemu shows in this state"
 HELD_LAST = HELD_KNOWN_OF_QEMU("is", "last row of text that isn't whole")
 HELD_ALL_DOTS, HELD_LACKS = (
     "6 of 6 dots differ, in columns 0 to 2 and rows 0 to 1",
@@ -191,8 +192,8 @@ HELD_ROWS_OF_SCREENS: tuple[tuple[Any, ...], ...] = (
         "  chain 4 is on, and no memory was recorded since: --chain-4 does so",
     ),
     (4, HELD_CHAINED + HELD_MEMORY, HELD_BLACK, PICTURE, HELD_ALL_DOTS, HELD_USUAL),
-    (1, b"", HELD_SMALL, PICTURE, HELD_SIZE("5x1 and 7x5"), HELD_USUAL),
-    (3, HELD_ROWS, HELD_FOUR, HELD_SMALL, HELD_SIZE("3x4 and 7x5"), HELD_LINE),
+    (1, b"", HELD_SMALL, PICTURE, HELD_SIZE("5x1 and 7x5"), HELD_NONE),
+    (3, HELD_ROWS, HELD_FOUR, HELD_SMALL, HELD_SIZE("3x4 and 7x5"), HELD_NONE),
     (
         3,
         HELD_ROWS,
@@ -285,6 +286,21 @@ class Recorded(Folder):
                 self.assertEqual("cycle 3 turns VBE on" in said, lines == HELD_VBE)
                 self.assertEqual((self.into / "differing-1.png").exists(), "dots differ" in told[0])
         self.assertEqual(png_rows((self.into / "differing-1.png").read_bytes())[:2], (3, 3))
+
+    def test_what_was_refused_may_be_the_cause(self) -> None:
+        lines = qemu("write 3b4 c 2") + qemu("write 3ce 3005 2") + qemu("write 3ce 3005 2")
+        answers = ["ok", "E1 NotDecoded", "E2 NotInProfile", "E2 NotInProfile"]
+        screen = ppm(3, 2, RED * 3 + WHITE + BLACK * 2)
+        program = self.answering(*answers, *[PICTURE] * (PHASES + 1))
+        status, told, _ = self.record(lines=lines, screen=screen, program=program)
+        cause = "outw 3CE 3005: Bit 5 of graphics mode, shift register mode, is left out of the"
+        front = "2 cycles before it ask for what this adapter leaves out, which may be the cause"
+        self.assertEqual(status, 1)
+        self.assertTrue(told[-1].startswith(f"  {front}: {cause}"), told)
+        # Alone they are no difference.
+        status, told, _ = self.record(lines=lines, program=program)
+        self.assertEqual((status, told[1]), (0, "11 steps, 3 refused, 0 reads answered, 0 differ"))
+        self.assertIn("equal", told[-1])
 
     def test_a_frame_without_a_picture(self) -> None:
         status, lines, _ = self.record(program=self.answering("ok", *["ragged"] * (PHASES + 1)))
@@ -575,6 +591,10 @@ class Knowledge(unittest.TestCase):
                 ({"attr": {0x10: 4}}, ["ninth dot"]),
             ),
         )
+        # Of a picture of another size no dots are known.
+        self.assertEqual(
+            names(self.state(attr={0x10: 4}), black, Picture.of_dots(8, 1, bytes(24))), {}
+        )
         self.assertEqual(names(self.state(attr={0x10: 4}), black, others), {})
 
     def test_a_split_within_a_row(self) -> None:
@@ -611,6 +631,28 @@ class Knowledge(unittest.TestCase):
             ),
         )
         self.assertNotIn("is", split("aab aabbc", "aab abbcc", {}, 0))
+
+    def test_cells_of_sixteen_dots(self) -> None:
+        """Cells of nine dots, which are doubled, and qemu's of sixteen."""
+        cell = [bytes([at]) * 3 for at in (1, 2, 3, 4, 5, 6, 7, 8, 8)]
+        picture = Picture.of_dots(18, 1, b"".join(cell * 2))
+        wide = b"".join(dot * 2 for dot in cell[:8] * 2)
+        other = Picture.of_dots(32, 1, wide[:-6] + bytes(6))
+        found = {"is": ["cells of sixteen dots"]}
+        for clocking, mode, image, wanted in (
+            (8, 0, Picture.of_dots(32, 1, wide), found),
+            (9, 0, Picture.of_dots(32, 1, wide), {}),
+            (0, 0, Picture.of_dots(32, 1, wide), {}),
+            (8, 1, Picture.of_dots(32, 1, wide), {}),
+            (8, 0, Picture.of_dots(48, 1, wide + bytes(48)), {}),
+        ):
+            with self.subTest(clocking=clocking, mode=mode, size=image.size):
+                state = self.state(gfx={6: mode}, seq={1: clocking})
+                self.assertEqual(names(state, picture, image), wanted)
+        screen = Screen(self.state(seq={1: 8}), picture, image_of(other.ppm, "image"))
+        self.assertEqual(screen.names, found)
+        told = list(screen.lines("screen"))
+        self.assertIn("its cells have 16 dots, and not 9 doubled ones; 1 of 16 dots", told[0])
 
     def test_a_last_row_that_is_not_whole(self) -> None:
         picture = picture_of("aaabbbcc")

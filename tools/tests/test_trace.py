@@ -226,11 +226,25 @@ LACKING_SILENT = (
     "qemu traces none there without the plugin"
 )
 LACKING_CHAINED = BEGIN + b"- w p 3C4 0F02 2\n- w p 3C4 0E04 2\n"
+# The plugin logs the memory of VBE too.
+LACKING_VESA = qemu("write a0000 1 1", "vga-chain4")
 LACKING: tuple[tuple[bytes, list[str]], ...] = (
     (b"- r p 3CC 0 1\n" + BEGIN + b"- w m A0000 1 1\n", []),
     (b"- r p 3CC 0 1\n- w m B8000 1 1\n" + BEGIN, [LACKING_BEGIN]),
     (b"- r p 3CC 0 1\n- w p 3C4 1 1\n" + BEGIN, [LACKING_BEGIN]),
     (lacking_vbe("4", "41"), [LACKING_ENABLED]),
+    (
+        lacking_vbe("4", "41") + LACKING_VESA * 3,
+        [LACKING_ENABLED.replace("its memory isn't traced", "3 cycles of its memory are left out")],
+    ),
+    (
+        lacking_vbe("4", "41")
+        + qemu("write 3c4 f02 2")
+        + qemu("write 3c4 e04 2")
+        + LACKING_VESA
+        + qemu("write 3c4 604 2"),
+        [LACKING_ENABLED.replace("its memory isn't traced", "1 cycle of its memory is left out")],
+    ),
     (lacking_vbe("4", "40"), []),
     (lacking_vbe("3", "1"), []),
     (LACKING_CHAINED, [LACKING_SILENT]),
@@ -385,6 +399,13 @@ class Steps(unittest.TestCase):
             + qemu("write b8001 1f 1", "vga-lowmem")
         )
         self.assertEqual(texts(*steps_of(cycles(lines))), ["putw B8000 1F41"])
+
+    def test_the_memory_of_vbe_is_none_of_a_vgas(self) -> None:
+        off = qemu("write 1cf 40 2", "vbe")
+        lines = LACKING_VESA + lacking_vbe("4", "41") + LACKING_VESA * 2 + off + LACKING_VESA
+        self.assertEqual(
+            texts(*steps_of(cycles(lines))), ["put A0000 01", "out 3C2 67", "put A0000 01"]
+        )
 
     def test_rows_of_polls(self) -> None:
         poll, mono, other = (

@@ -49,6 +49,9 @@ from .trace import MEMORY, PORT, Cycle, Trace
 # Bytes that are kept free, as text: for the steps at the end, and for a row that is no block once
 # it is cut there.
 FOR_THE_END = 1024
+# How answers begin of steps that ask for what the adapter leaves out; a step that is not decoded,
+# qemu drops as well.
+LEFT_OUT = "E2 "
 # The bytes of a block but its steps, and the most steps that are looked at as one group.
 BLOCK_BYTES = format.Block(1, ()).size
 MOST_GROUP = 8
@@ -614,6 +617,17 @@ class Checking:
         self._banks = Banks()
         # The last byte that each port was given, also by a step that was refused.
         self._given: dict[int, int] = {}
+        # How many steps were refused that qemu does, and why the first of them was.
+        self._left_out = 0
+        self._why = ""
+
+    def left_out(self) -> str:
+        """What is told of the steps so far that ask for what the adapter leaves out; empty if there
+        are none."""
+        steps = counted(self._left_out, "cycle")
+        asked = f"ask{'s' * (self._left_out == 1)} for what this adapter leaves out"
+        told = f"{steps} before it {asked}, which may be the cause"
+        return f"{told}: {self._why}" if self._left_out else ""
 
     def take(self, steps: Iterable[TraceStep], answers: Iterator[Answer], name: str) -> None:
         """Holds the answers of a report, which messages call by a name, against steps."""
@@ -622,6 +636,9 @@ class Checking:
             is_exact = self._has_time and step.dots is not None
             kind = f"{NAMES[step.opcode]} {_place(step, self._banks, self._given)}"
             self.checked.take(step, answer, kind, is_exact)
+            if answer.answer.startswith(LEFT_OUT):
+                self._left_out += 1
+                self._why = self._why or self._reason(step, answer)
             self._follow(step)
         if next(answers, None) is not None:
             raise Trouble(
@@ -629,6 +646,13 @@ class Checking:
                 " script",
                 name,
             )
+
+    def _reason(self, step: TraceStep, answer: Answer) -> str:
+        """Why a step was refused, as it reads in `vga-report run`."""
+        registers = Registers()
+        registers.banks = self._banks
+        words = format.printed(step.step)
+        return f"{words}: {registers.why(words, answer.refusal) or answer.answer}"
 
     def _follow(self, step: TraceStep) -> None:
         for port, value in bytes_written(step.step):

@@ -45,6 +45,8 @@ MOST_RUN = Limits(600, 1 << 32)
 PAGE = "docs/EMULATORS.md"
 # Dots of a character where there are nine.
 NINE = 9
+# Dots that qemu gives to a character where nine are doubled.
+WIDE = 16
 
 
 @dataclass
@@ -52,9 +54,10 @@ class Screen:
     """A dump of a screen, held against the picture here, and the names of what is known of how they
     differ.
 
-    `state` is that of the moment, `cycle` how many cycles came before, and `lacking` what the trace
-    lacks up to there. What was held of the picture is all of it, or its front where qemu leaves out
-    the last lines. Of the page's own machine nothing is known that differs.
+    `state` is that of the moment, `cycle` how many cycles came before, `lacking` what the trace
+    lacks up to there, and `refused` what is told of the cycles that were refused. What was held of
+    the picture is all of it, or its front where qemu leaves out the last lines, or all but the
+    ninth dots of its cells. Of the page's own machine nothing is known that differs.
     """
 
     state: State
@@ -64,15 +67,18 @@ class Screen:
     cycle: int = 0
     lacking: str = ""
     is_own: bool = False
+    refused: str = ""
 
     def __post_init__(self) -> None:
         self.part = self.picture
         self.held = held(self.picture, self.image)
-        if self.held.differing is None and not self.is_own:
-            front = whole_rows(self.state, self.picture)
-            found = held(front, self.image)
+        for part_of in () if self.is_own else (whole_rows, narrow_cells):
+            if self.held.differing is not None:
+                break
+            part = part_of(self.state, self.picture)
+            found = held(part, self.image)
             if found.differing is not None:
-                self.part = front
+                self.part = part
                 self.held = found
         # The state goes on from here: what it tells is asked now.
         self.names = {} if self.is_equal or self.is_own else _known(self)
@@ -80,7 +86,7 @@ class Screen:
     @property
     def is_equal(self) -> bool:
         """Whether qemu shows the picture, each dot of it."""
-        return self.held.differing == 0 and not self.cut
+        return self.held.differing == 0 and self.part is self.picture
 
     @property
     def distance(self) -> float:
@@ -96,6 +102,11 @@ class Screen:
     def cut(self) -> int:
         """How many lines at the foot of the picture qemu leaves out."""
         return self.picture.height - self.part.height
+
+    @property
+    def is_wide(self) -> bool:
+        """Whether qemu draws cells of sixteen dots, where nine are doubled."""
+        return self.part.width < self.picture.width
 
     @cached_property
     def dots(self) -> Sequence[tuple[int, int]]:
@@ -124,7 +135,9 @@ class Screen:
         elif not self.is_equal:
             for verb, names in self.names.items():
                 yield f"  {verb} what is known of qemu: {', '.join(names)}; {PAGE} tells of it"
-            if not self.names:
+            if self.refused:
+                yield f"  {self.refused}"
+            elif not self.names:
                 yield "  nothing that is known of qemu shows in this state"
 
     def _told(self) -> str:
@@ -135,6 +148,8 @@ class Screen:
         lacking = (
             f"it lacks the last {self.cut} of {self.picture.height} lines; " if self.cut else ""
         )
+        if self.is_wide:
+            lacking = f"its cells have {WIDE} dots, and not {NINE} doubled ones; "
         if not self.dots:
             return f"{lacking}the others are equal, {self.held.how}"
         (left, right), (top, bottom) = ((min(at), max(at)) for at in zip(*self.dots))
@@ -164,7 +179,8 @@ def _is_ninth(screen: Screen) -> bool:
     """Whether all dots are ninth dots of characters whose line graphics go on into them."""
     seq, attr = screen.state.seq.registers, screen.state.attr.registers
     has_nine = screen.is_text and not seq[1] & 1 and attr[0x10] & 4
-    return bool(has_nine) and all(x % NINE == NINE - 1 for x, _ in screen.dots)
+    is_last = all(x % NINE == NINE - 1 for x, _ in screen.dots)
+    return bool(has_nine and screen.dots) and is_last
 
 
 def _line_compare(crtc: Sequence[int]) -> int:
@@ -229,11 +245,23 @@ def whole_rows(state: State, picture: Picture) -> Picture:
     return Picture.of_dots(picture.width, height, b"".join(picture.row(y) for y in range(height)))
 
 
+def narrow_cells(state: State, picture: Picture) -> Picture:
+    """A picture of text without the ninth dots of its cells, where each dot is doubled; the picture
+    itself if there are none."""
+    clocking = state.seq.registers[1]
+    if state.gfx.registers[6] & 1 or clocking & 9 != 8 or picture.width % NINE:
+        return picture
+    rows = (picture.row(y) for y in range(picture.height))
+    dots = b"".join(row[at : at + 24] for row in rows for at in range(0, len(row), 3 * NINE))
+    return Picture.of_dots(picture.width // NINE * (NINE - 1), picture.height, dots)
+
+
 # The differences as the page calls them, each with what tells whether a screen has it: what
 # pictures themselves tell ..
 SEEN: Mapping[str, Callable[[Screen], bool]] = {
     "split within a row": _is_split_within_row,
     "last row of text that isn't whole": lambda screen: screen.cut > 0,
+    "cells of sixteen dots": lambda screen: screen.is_wide,
 }
 # .. and what registers and memory allow.
 ALLOWED: Mapping[str, Callable[[Screen], bool]] = {
@@ -257,7 +285,9 @@ def _known(screen: Screen) -> dict[str, list[str]]:
     """The names of the differences that a screen "is" and "may be": none that the pictures rule
     out."""
     seen = [name for name, shows in SEEN.items() if shows(screen)]
-    is_explained = seen and not (screen.cut and screen.dots)
+    is_explained = seen and not (screen.part is not screen.picture and screen.dots)
+    # Of a picture of another size no dots are known.
+    is_explained = is_explained or screen.held.differing is None
     allowed = [] if is_explained else [name for name, shows in ALLOWED.items() if shows(screen)]
     return {verb: names for verb, names in (("is", seen), ("may be", allowed)) if names}
 
@@ -324,7 +354,14 @@ class Replay:
         image = image_of(image_bytes(str(path)), str(path))
         cycle = self.cycles[self._dumps]
         screen = Screen(
-            self.state, picture, image, path, cycle, self.listing.trace.lacking, self.is_own
+            self.state,
+            picture,
+            image,
+            path,
+            cycle,
+            self.listing.trace.lacking,
+            self.is_own,
+            self.checking.left_out(),
         )
         if number not in self.screens or screen.distance < self.screens[number].distance:
             self.screens[number] = screen

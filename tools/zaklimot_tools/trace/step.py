@@ -6,7 +6,7 @@ from zaklimot import format
 from zaklimot.format import FORMS
 from zaklimot_tools.explain.banks import COLOUR, MONOCHROME, STATUS
 
-from .trace import CALL, PORT, VBE, Call, Cycle
+from .trace import CALL, NO_VGA, PORT, Call, Cycle
 
 # The steps that cycles become, and those between them, by their opcodes.
 CYCLES = ("out", "outw", "in", "inw", "put", "putw", "get", "getw")
@@ -93,7 +93,9 @@ def steps_of(cycles: Iterable[Cycle], apart: Sequence[int] = ()) -> Iterator[Tra
     where dots are known, since a trace that tells them tells the width as well.
     """
     held: Optional[TraceStep] = None
-    numbered = ((number, cycle) for number, cycle in enumerate(cycles, 1) if cycle.space != VBE)
+    numbered = (
+        (number, cycle) for number, cycle in enumerate(cycles, 1) if cycle.space not in NO_VGA
+    )
     for step in (step for number, cycle in numbered for step in _narrowed(number, cycle)):
         is_next = (
             held is not None and step.opcode == held.opcode and step.address == held.address + 1

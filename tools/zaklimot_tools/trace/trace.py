@@ -27,6 +27,9 @@ from .parts import Chained, parts_of
 # of a VGA's. A call of interrupt 10, which the adapter's own BIOS serves, stands for all of its
 # cycles.
 PORT, MEMORY, VBE, CALL = "port", "memory", "vbe", "call"
+# Memory while VBE is on, of which the window shows a part that is none of a VGA's.
+VESA = "VBE memory"
+NO_VGA = (VBE, VESA)
 SIZES = (1, 2, 4, 8)
 # Addresses above these are none.
 MOST_PORT, MOST_ADDRESS = 0xFFFF, 0xFFFFFFFF
@@ -123,7 +126,8 @@ class Cycle(NamedTuple):
             return f"a cycle has 1, 2, 4 or 8 bytes, and not {self.size}"
         if self.value >> 8 * self.size:
             return f"the value {self.value:X} has more than {self.size} bytes"
-        if self.address + self.size - 1 > (MOST_ADDRESS if self.space == MEMORY else MOST_PORT):
+        is_memory = self.space in (MEMORY, VESA)
+        if self.address + self.size - 1 > (MOST_ADDRESS if is_memory else MOST_PORT):
             return f"there is no {self.space} of address {self.address:X}"
         return None
 
@@ -153,6 +157,8 @@ class Trace:
         # never.
         self._begins_late: Optional[int] = None
         self._vbe_enabled = 0
+        # How many cycles of memory came while VBE was on.
+        self._left_out = 0
         # What was written to ports, and behind those of an index.
         self._ports: defaultdict[int, int] = defaultdict(int)
         self._registers: defaultdict[tuple[int, int], int] = defaultdict(int)
@@ -231,9 +237,12 @@ class Trace:
         # A log has seconds with six digits behind the point.
         micros = None if time is None else int(time.replace(b".", b""))
         dots = self._passed(found["dots"]) if self._is_plain else None
+        space = SPACES[place]
+        if space == MEMORY and self._registers[VBE_ENABLE] & 1:
+            space = VESA
         cycle = Cycle(
             kind[:1] == b"w",
-            SPACES[place],
+            space,
             int(address, 16),
             int(value, 16),
             int(size),
@@ -315,8 +324,9 @@ class Trace:
     def _watch(self, cycle: Cycle) -> None:
         self.count += 1
         self.untimed += cycle.time is None
-        if cycle.space == MEMORY:
+        if cycle.space in (MEMORY, VESA):
             self._silent = 0
+        self._left_out += cycle.space == VESA
         if not cycle.is_write:
             return
         if self._begins_late is None:
@@ -373,10 +383,15 @@ class Trace:
                 " begin at power-on"
             )
         if self._vbe_enabled:
-            yield (
-                f"cycle {self._vbe_enabled:,} turns VBE on: what follows is no VGA's, and its"
-                " memory isn't traced"
+            is_one = self._left_out == 1
+            memory = (
+                f"{self._left_out:,} cycle{'s' * (not is_one)} of its memory"
+                f" {'is' if is_one else 'are'} left out"
+                if self._left_out
+                else "its memory isn't traced"
             )
+            told = f"cycle {self._vbe_enabled:,} turns VBE on: what follows is no VGA's"
+            yield f"{told}, and {memory}"
         if silent:
             yield (
                 f"chain 4 with map mask 0F has no cycle of memory, first from cycle {silent:,} on: "
