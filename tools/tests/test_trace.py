@@ -313,6 +313,35 @@ class Lines(unittest.TestCase):
             ),
         )
 
+    def test_lines_that_are_like_those_before(self) -> None:
+        """Most lines of a log are looked up by those before them. What is damaged is damaged
+        there too, with a time and without."""
+        good = "write 3c2 67 1"
+        for front in ("", "7@1.000001:"):
+            first = qemu(good, front=front)
+            self.assertEqual(warned(first * 3), [])
+            told = "1 line of cycles is damaged and left out, line 2 first"
+            for line in (
+                qemu("write 3c2 +7 1", front=front),
+                qemu("write 3c2 6_7 1", front=front),
+                qemu("write 3g2 67 1", front=front),
+                qemu(good, front=front)[:-9] + b"\n",
+                qemu(good, front=f"{front}x"),
+                qemu(good, front="7@1.00001:"),
+                qemu(good, front="7@1.000017@1.000002:"),
+            ):
+                with self.subTest(line):
+                    self.assertEqual(warned(first + line + first), [told])
+                    self.assertEqual(len(cycles(first + line + first)), 2)
+            for line, fault in (
+                ("write 3c2 167 1", "the value 167 has more than 1 bytes"),
+                ("write 1ffff 67 1", "there is no port of address 1FFFF"),
+            ):
+                self.assertIn(f"2: {fault}", refused(cycles, first + qemu(line, front=front)))
+        times = [f"7@{second}.000001:" for second in (1, 2, 3)]
+        found = cycles(b"".join(qemu(good, front=front) for front in times))
+        self.assertEqual([cycle.time for cycle in found], [1000001, 2000001, 3000001])
+
     def test_calls_dots_and_frames_that_were_kept(self) -> None:
         hold(
             self,
@@ -880,6 +909,7 @@ class Folding(unittest.TestCase):
                 [POLL._replace(cycle=number) for number in range(1, 2 * 65535 + 4)], TraceStep.data
             )
         )
-        self.assertEqual([row.times for row in rows], [65535, 65535, 1, 1, 1])
-        self.assertEqual([row.cycle for row in rows], [65535, 131070, 131071, 131072, 131073])
+        self.assertEqual([row.times for row in rows], [65535, 65535, 1])
+        self.assertEqual([len(row.steps) for row in rows], [1, 1, 3])
+        self.assertEqual([row.cycle for row in rows], [65535, 131070, 131073])
         self.assertEqual(Written(False).row(rows[0]), bytes.fromhex("0D FFFF 03DA03 0E"))

@@ -5,12 +5,15 @@ Rows of equal steps, and of equal groups of steps, become blocks.
 
 from collections import Counter
 from dataclasses import dataclass, field
-from itertools import islice
-from typing import BinaryIO, Callable, Iterable, Iterator, Mapping, NamedTuple, Optional, Sequence
+from functools import lru_cache
+from itertools import chain, islice
+from operator import itemgetter
+from typing import BinaryIO, Callable, Iterable, Iterator, NamedTuple, Optional, Sequence
 
 from zaklimot import format
 from zaklimot.format import (
     FIRST_LINE,
+    FORMS,
     HEADERS,
     MOST_ADVANCE,
     MOST_BYTES,
@@ -22,7 +25,14 @@ from zaklimot.format.picture import Digest
 from zaklimot.format.report import REFUSAL, SKIPPED, VALUE
 from zaklimot_tools.core.streams import counted
 from zaklimot_tools.core.trouble import Trouble
-from zaklimot_tools.explain.banks import ATTRIBUTE, COLOUR, MONOCHROME, STATUS, Banks
+from zaklimot_tools.explain.banks import (
+    ATTRIBUTE,
+    COLOUR,
+    DAC_PORTS,
+    MONOCHROME,
+    STATUS,
+    Banks,
+)
 from zaklimot_tools.explain.registers import INDEX_PORTS, Registers, bytes_written
 
 from .asked import CLOCK, END, FLIP, SCREENS, Frames
@@ -31,9 +41,9 @@ from .step import (
     ADVANCE,
     BEAM_BITS,
     FRAME,
+    GET,
     IN,
     INT,
-    INW,
     NAMES,
     OUT,
     OUTW,
@@ -66,7 +76,14 @@ WRITES = (OUT, OUTW, PUT, PUTW, INT)
 CONTROLLERS = (COLOUR, MONOCHROME)
 # The CRT controller's registers of the start address, which a page flip writes.
 START_ADDRESS = (0x0C, 0x0D)
-# Windows of memory, by the 32 KiB that they have.
+# What gives the opcode of a step.
+OPCODE_OF: Callable[[TraceStep], int] = itemgetter(0)
+# The steps that read a byte, and their answers.
+READING_BYTES, BYTES = (IN, GET), {f"{value:02X}" for value in range(256)}
+# How a step is answered that was done, and those that are answered so.
+DONE, DOING = "ok", (OUT, OUTW, PUT, PUTW, ADVANCE)
+# Windows of memory, by the 32 KiB that they have, and the bits of an address in one.
+WINDOW_BITS = 15
 WINDOWS = {0x14: "A0000", 0x15: "A0000", 0x16: "B0000", 0x17: "B8000"}
 
 
@@ -231,6 +248,7 @@ class Listing:
         self._has_time = has_time
         self._frames = frames
         self._is_timed = has_time or frames == CLOCK or isinstance(frames, float)
+        trace.wants_time = self._is_timed
         self._most = most
         self._first = first
         self._pauses = Pauses()
@@ -319,8 +337,8 @@ class Listing:
 
 
 class Repeated(NamedTuple):
-    """Steps with their codes, which a script has so often; the cycle of the last one, 0 where it is
-    none's."""
+    """Steps with their codes, which a script has so often; the cycle of the last one that has one,
+    else 0."""
 
     steps: Sequence[TraceStep]
     codes: Sequence[bytes]
@@ -330,29 +348,19 @@ class Repeated(NamedTuple):
 
 def folded(steps: Iterable[TraceStep], code: Code, has_blocks: bool = True) -> Iterator[Repeated]:
     """The steps, but rows of equal steps or equal groups as blocks where these have at most half of
-    the bytes.
+    the bytes. Steps between them come together, many at a time.
 
     Steps are equal if their codes are. As lines, what is read is expected to be equal too: a line
     has one answer.
     """
     ahead = _Ahead(iter(steps), code)
     while ahead.has(AHEAD):
-        size = ahead.group() if has_blocks else 0
         at = ahead.at
-        count = 1
-        group, codes = ahead.steps[at : at + (size or 1)], ahead.codes[at : at + (size or 1)]
-        last = group[-1]
-        ahead.at = at + len(group)
-        while (
-            size
-            and count < format.MOST_COUNT
-            and ahead.has(size)
-            and ahead.codes[ahead.at : ahead.at + size] == codes
-        ):
-            ahead.at = ahead.at + size
-            count = count + 1
-            last = ahead.steps[ahead.at - 1]
-        yield Repeated(group, codes, count, last.cycle)
+        size = ahead.next_group() if has_blocks else ahead.pass_all()
+        if ahead.at > at:
+            yield ahead.passed(at)
+        if size:
+            yield ahead.block(size)
 
 
 class _Ahead:
@@ -361,6 +369,7 @@ class _Ahead:
     def __init__(self, rest: Iterator[TraceStep], code: Code) -> None:
         self._rest = rest
         self._code = code
+        self._is_whole = False
         self.steps: list[TraceStep] = []
         self.codes: list[bytes] = []
         self.at = 0
@@ -369,22 +378,67 @@ class _Ahead:
         """Whether there is a step. So many are fetched, if there are."""
         if len(self.steps) - self.at < wanted:
             more = list(islice(self._rest, FETCHED))
+            self._is_whole = len(more) < FETCHED
             self.steps = self.steps[self.at :] + more
             self.codes = self.codes[self.at :] + list(map(self._code, more))
             self.at = 0
         return self.at < len(self.steps)
 
-    def group(self) -> int:
-        """The size of the smallest group that stands here so often that it is worth a block; else
-        0."""
-        codes, at = self.codes, self.at
-        if codes[at] not in codes[at + 1 : at + 1 + MOST_GROUP]:
-            return 0
-        for size in range(1, MOST_GROUP + 1):
-            if codes[at : at + size] == codes[at + size : at + 2 * size]:
+    def pass_all(self) -> int:
+        """Passes all steps that are here; 0, since no group comes then."""
+        self.at = len(self.steps)
+        return 0
+
+    def next_group(self) -> int:
+        """Passes the steps up to the next group that is worth a block, and answers its size; 0
+        where none is among those that are here."""
+        codes = self.codes
+        end = len(codes) - (0 if self._is_whole else AHEAD - 1)
+        for at in range(self.at, end):
+            if codes[at] in codes[at + 1 : at + 1 + MOST_GROUP]:
+                size = self._group(at)
+                if size:
+                    self.at = at
+                    return size
+        self.at = max(self.at, end)
+        return 0
+
+    def passed(self, begin: int) -> Repeated:
+        """The steps from a place on that were passed, as one row."""
+        steps = self.steps[begin : self.at]
+        cycle = next((step.cycle for step in reversed(steps) if step.cycle), 0)
+        return Repeated(steps, self.codes[begin : self.at], 1, cycle)
+
+    def block(self, size: int) -> Repeated:
+        """The group of this size that stands here, as often as it does, and passes it."""
+        group, codes = self.steps[self.at : self.at + size], self.codes[self.at : self.at + size]
+        times = 1
+        last = group[-1]
+        self.at += size
+        while (
+            times < format.MOST_COUNT
+            and self.has(size)
+            and self.codes[self.at : self.at + size] == codes
+        ):
+            self.at += size
+            times += 1
+            last = self.steps[self.at - 1]
+        return Repeated(group, codes, times, last.cycle)
+
+    def _group(self, at: int) -> int:
+        """The size of the smallest group that stands at a place so often that it is worth a block;
+        else 0."""
+        codes = self.codes
+        ahead = codes[at : at + 2 * MOST_GROUP + 1]
+        for size in range(1, (len(ahead) + 1) // 2):
+            # No group is worth a block that doesn't stand three times.
+            if not ahead[size] == ahead[0] == ahead[2 * size]:
+                continue
+            group = ahead[:size]
+            if ahead[size : 2 * size] == group:
                 length = sum(step.size for step in self.steps[at : at + size])
                 least = -(-2 * (BLOCK_BYTES + length) // length)
-                if codes[at : at + least * size] == codes[at : at + size] * least:
+                if codes[at : at + least * size] == group * least:
                     return size
         return 0
 
@@ -438,9 +492,12 @@ class Written:
         self.last_cycle = other.last_cycle
 
     def _count(self, row: Repeated, body: bytes, times: int) -> None:
-        for step in row.steps:
-            self.kinds[NAMES[step.opcode]] += row.times * times
-            self.script_bytes += step.size * times
+        for opcode, count_of in Counter(map(OPCODE_OF, row.steps)).items():
+            name = NAMES[opcode]
+            self.kinds[name] += count_of * row.times * times
+            self.script_bytes += FORMS[name].size * count_of * times
+            if opcode == INT:
+                self.script_bytes += times * sum(step.block_bytes for step in row.steps)
         if row.times > 1:
             self.blocks += times
             self.script_bytes += BLOCK_BYTES * times
@@ -483,13 +540,23 @@ class Rows:
         body = bytearray()
         while self._next is not None:
             data = written.row(self._next)
-            if not written.fits:
-                written.drop(self._next, data)
+            if written.fits:
+                body += data
+                written.last_cycle = self._next.cycle or written.last_cycle
+                self._next = next(self._rows, None)
+                continue
+            written.drop(self._next, data)
+            if self._next.times > 1 or len(self._next.steps) == 1:
                 break
-            body += data
-            written.last_cycle = self._next.cycle or written.last_cycle
-            self._next = next(self._rows, None)
+            # Some of its steps may fit.
+            self._part(self._next)
         return body
+
+    def _part(self, row: Repeated) -> None:
+        """Takes a row of steps apart that come one after the other."""
+        each = (Repeated([step], [code], 1, step.cycle) for step, code in zip(row.steps, row.codes))
+        self._next = next(each)
+        self._rows = chain(each, self._rows)
 
 
 def convert(
@@ -564,22 +631,24 @@ class Checked:
         """Counts a step and its answer. A trace without dots doesn't tell where the beam is: of
         input status 1 these bits don't count then.
         """
+        if answer.kind == VALUE:
+            self.read(step, answer.answer, kind, is_exact)
+            return
         self.steps += 1
         if answer.answer == SKIPPED:
             self.skipped += 1
         elif answer.kind == REFUSAL:
             self.note(self.refused, f"{answer.answer}: {kind}", f"{self.steps:,}")
-        elif answer.kind == VALUE:
-            self.reads[kind] += 1
-            if (int(answer.answer, 16) ^ step.value) & ~(
-                BEAM_BITS if step.is_status and not is_exact else 0
-            ):
-                traced = f"{step.value:0{len(answer.answer)}X}"
-                self.note(
-                    self.differing,
-                    kind,
-                    f"{self.steps:,}: traced {traced}, answered {answer.answer}",
-                )
+
+    def read(self, step: TraceStep, answer: str, kind: str, is_exact: bool) -> None:
+        """Counts a step that was answered by what it read."""
+        self.steps += 1
+        self.reads[kind] += 1
+        differing = int(answer, 16) ^ step.value
+        if differing and differing & ~(BEAM_BITS if step.is_status and not is_exact else 0):
+            traced = f"{step.value:0{len(answer)}X}"
+            told = f"{self.steps:,}: traced {traced}, answered {answer}"
+            self.note(self.differing, kind, told)
 
 
 def _judged(step: TraceStep, number: int, answer: Optional[Answer], name: str) -> Answer:
@@ -615,7 +684,7 @@ class Checking:
         self.checked = Checked()
         self._has_time = has_time
         self._banks = Banks()
-        # The last byte that each port was given, also by a step that was refused.
+        # The last byte that each index port was given, also by a step that was refused.
         self._given: dict[int, int] = {}
         # How many steps were refused that qemu does, and why the first of them was.
         self._left_out = 0
@@ -631,21 +700,51 @@ class Checking:
 
     def take(self, steps: Iterable[TraceStep], answers: Iterator[Answer], name: str) -> None:
         """Holds the answers of a report, which messages call by a name, against steps."""
+        checked = self.checked
         for step in steps:
-            answer = _judged(step, self.checked.steps + 1, next(answers, None), name)
-            is_exact = self._has_time and step.dots is not None
-            kind = f"{NAMES[step.opcode]} {_place(step, self._banks, self._given)}"
-            self.checked.take(step, answer, kind, is_exact)
-            if answer.answer.startswith(LEFT_OUT):
-                self._left_out += 1
-                self._why = self._why or self._reason(step, answer)
-            self._follow(step)
+            answer = next(answers, None)
+            # Most steps write, and are done.
+            if answer is not None and answer[2] == DONE and step[0] in DOING:
+                checked.steps += 1
+            else:
+                self._take(step, answer, name)
+            if step[0] in PORTS:
+                self._follow(step)
         if next(answers, None) is not None:
             raise Trouble(
                 f"it has more than the {self.checked.steps:,} steps of the trace: it is of another"
                 " script",
                 name,
             )
+
+    def _take(self, step: TraceStep, given: Optional[Answer], name: str) -> None:
+        """Takes a step that reads, or one that was not done."""
+        is_exact = self._has_time and step.dots is not None
+        if given is not None and step[0] in READING_BYTES and given[2] in BYTES:
+            self.checked.read(step, given[2], self._kind(step), is_exact)
+            return
+        answer = _judged(step, self.checked.steps + 1, given, name)
+        self.checked.take(step, answer, self._kind(step), is_exact)
+        if answer.answer.startswith(LEFT_OUT):
+            self._left_out += 1
+            self._why = self._why or self._reason(step, answer)
+
+    def _kind(self, step: TraceStep) -> str:
+        if step.call is not None:
+            return f"{NAMES[step.opcode]} AH {step.call.registers[0] >> 8:02X}"
+        opcode, address = step[:2]
+        if opcode in PORTS:
+            return _kind_of(opcode, address, self._index(address))
+        return _kind_of(opcode, address >> WINDOW_BITS << WINDOW_BITS, -1)
+
+    def _index(self, port: int) -> int:
+        """The number of the register that a port of data reaches; -1 of any other port."""
+        if port == ATTRIBUTE + 1:
+            return self._banks.attr.number
+        if port - 1 not in INDEX_PORTS:
+            return -1
+        bank = self._banks.bank(port - 1)
+        return self._given.get(port - 1, 0) & 0x1F if bank is None else bank.number
 
     def _reason(self, step: TraceStep, answer: Answer) -> str:
         """Why a step was refused, as it reads in `vga-report run`."""
@@ -655,11 +754,31 @@ class Checking:
         return f"{words}: {registers.why(words, answer.refusal) or answer.answer}"
 
     def _follow(self, step: TraceStep) -> None:
-        for port, value in bytes_written(step.step):
-            self._given[port] = value
-            self._banks.write(port, value)
-        if step.opcode in (IN, INW) and step.address == self._banks.controller + STATUS:
+        opcode, address, value = step[:3]
+        if opcode == OUT:
+            self._write(address, value)
+        elif opcode == OUTW:
+            self._write(address, value & 0xFF)
+            self._write(address + 1, value >> 8)
+        elif address == self._banks.controller + STATUS:
             self._banks.read_status()
+
+    def _write(self, port: int, value: int) -> None:
+        if port in DAC_PORTS:
+            return
+        if port in INDEX_PORTS:
+            self._given[port] = value
+        self._banks.write(port, value)
+
+
+@lru_cache(1 << 12)
+def _kind_of(opcode: int, address: int, index: int) -> str:
+    """What a step does and where: a port, of data with its register's index, or a window of
+    memory."""
+    if opcode not in PORTS:
+        return f"{NAMES[opcode]} {place_of(address)}"
+    told = f" index {index:02X}" if index >= 0 else ""
+    return f"{NAMES[opcode]} {PORT} {address:03X}{told}"
 
 
 def check(
@@ -673,7 +792,7 @@ def check(
 
 def place_of(address: int) -> str:
     """A name of the window of memory that an address is in."""
-    return f"memory {WINDOWS.get(address >> 15, 'elsewhere')}"
+    return f"memory {WINDOWS.get(address >> WINDOW_BITS, 'elsewhere')}"
 
 
 def count(cycles: Iterable[Cycle]) -> Counter[str]:
@@ -691,20 +810,3 @@ def count(cycles: Iterable[Cycle]) -> Counter[str]:
         # A VBE port is none of the adapter's, and is called so.
         found[f"{'write' if cycle.is_write else 'read'} {place} size {cycle.size}"] += 1
     return found
-
-
-def _place(step: TraceStep, banks: Banks, given: Mapping[int, int]) -> str:
-    """What a step is about: a function of the BIOS, a window of memory, or a port, of data with its
-    register's index."""
-    if step.call is not None:
-        return f"AH {step.call.registers[0] >> 8:02X}"
-    if step.opcode not in PORTS:
-        return place_of(step.address)
-    index = ""
-    if step.address == ATTRIBUTE + 1:
-        index = f" index {banks.attr.number:02X}"
-    elif step.address - 1 in INDEX_PORTS:
-        bank = banks.bank(step.address - 1)
-        number = given.get(step.address - 1, 0) & 0x1F if bank is None else bank.number
-        index = f" index {number:02X}"
-    return f"{PORT} {step.address:03X}{index}"

@@ -103,8 +103,7 @@ class Parts:
 
 
 class Chained:
-    """Parts as one stream of lines. Where they may be cut, the last may end anywhere: a line that
-    has no end doesn't count then."""
+    """Parts as one stream. Where they may be cut, the last may end anywhere."""
 
     def __init__(self, paths: Sequence[str], may_be_cut: bool = False) -> None:
         self._left = list(paths)
@@ -118,18 +117,18 @@ class Chained:
     def __exit__(self, *_: object) -> None:
         self._opened.close()
 
-    def readline(self, most: int) -> bytes:
-        """The next line, or so many bytes of it; none at the end of the last part."""
-        while not (line := self._line(most)) and self._left:
+    def read1(self, most: int) -> bytes:
+        """The next bytes, so many at most; none at the end of the last part."""
+        while not (data := self._read1(most)) and self._left:
             self._opened.close()
             self._stream = self._opened.enter_context(gzip.open(self._left.pop(0), "rb"))
-        return line
+        return data
 
-    def _line(self, most: int) -> bytes:
+    def _read1(self, most: int) -> bytes:
         if self._stream is None:
             return b""
         try:
-            return self._stream.readline(most)
+            return self._stream.read1(most)
         except EOFError:
             if not self._may_be_cut or self._left:
                 raise

@@ -74,11 +74,12 @@ class State(Banks):
     def take(self, step: TraceStep) -> Optional[int]:
         """Takes a step, and answers what it reads; None of a write and of a refusal. Of input
         status 1 all bits are 0."""
-        opcode, address, value = step.opcode, step.address, step.value
+        opcode, address, value = step[:3]
         size = 2 if opcode in WORDS else 1
         if opcode in (PUT, PUTW):
-            for place, byte in zip(self._places(address, size), value.to_bytes(2, "little")):
-                self.memory.put(place, byte)
+            for place in self._places(address, size):
+                self.memory.put(place, value & 0xFF)
+                value >>= 8
         elif opcode in (OUT, OUTW):
             self.write(address, value, is_word=size == 2)
         elif opcode == ADVANCE:
@@ -105,9 +106,10 @@ class State(Banks):
         """Where so many addresses are in the window; none where one of them isn't decoded."""
         first, size = WINDOWS[self.gfx.registers[6] >> 2]
         place = address - first
-        if not (self.misc & ENABLE_MEMORY and 0 <= place <= size - count):
+        if not (self._misc & ENABLE_MEMORY and 0 <= place <= size - count):
             return ()
-        return [place + at & 0xFFFF for at in range(count)]
+        place &= 0xFFFF
+        return (place,) if count == 1 else (place, place + 1 & 0xFFFF)
 
     def put(self, port: int, value: int) -> bool:
         """Writes a byte that the port takes; True."""
@@ -159,13 +161,15 @@ class Memory:
     def put(self, place: int, value: int) -> None:
         """Writes a byte. The latches stay."""
         planes = self._seq[2]
+        memory_mode = self._seq[4]
         offset = self._offset(place)
-        if self._seq[4] & 8:
+        if memory_mode & 8:
             planes &= 1 << (place & 3)
-        elif not self._seq[4] & 4:
+        elif not memory_mode & 4:
             planes &= ODD if place & 1 else EVEN
+        spread = SPREAD[planes]
         stored = self.latches if self._gfx[5] & 3 == 1 else self._stored(value)
-        self.words[offset] = self.words[offset] & ~SPREAD[planes] | stored & SPREAD[planes]
+        self.words[offset] = self.words[offset] & ~spread | stored & spread
 
     def get(self, place: int) -> int:
         """Reads a byte, which loads the latches."""

@@ -1,12 +1,15 @@
 """Steps of a script: what cycles become, as bytes and as text."""
 
-from typing import Iterable, Iterator, NamedTuple, Optional, Sequence
+from functools import partial
+from itertools import chain, count
+from struct import Struct
+from typing import Callable, Iterable, Iterator, NamedTuple, Optional, Sequence, cast
 
 from zaklimot import format
 from zaklimot.format import FORMS
 from zaklimot_tools.explain.banks import COLOUR, MONOCHROME, STATUS
 
-from .trace import CALL, NO_VGA, PORT, Call, Cycle
+from .trace import MEMORY, NO_VGA, PORT, Call, Cycle
 
 # The steps that cycles become, and those between them, by their opcodes.
 CYCLES = ("out", "outw", "in", "inw", "put", "putw", "get", "getw")
@@ -14,6 +17,13 @@ NAMES = {FORMS[name].opcode: name for name in (*CYCLES, "advance", "frame", "int
 OUT, OUTW, IN, INW, PUT, PUTW, GET, GETW, ADVANCE, FRAME, INT = NAMES
 READS = (IN, INW, GET, GETW)
 PORTS, WORDS = (OUT, OUTW, IN, INW), (OUTW, INW, PUTW, GETW)
+# Steps of which two may be one of a word.
+HALVES = (PUT, GET)
+# What packs an opcode with an address and a value, and with an address alone.
+WRITING, READING = (
+    {opcode: Struct("<B" + FORMS[NAMES[opcode]].coder.format.lstrip("<")).pack for opcode in some}
+    for some in ((OUT, OUTW, PUT, PUTW), READS)
+)
 # Input status 1, with colour and without; bits 0 and 3 tell where the beam is.
 STATUS_PORTS = (COLOUR + STATUS, MONOCHROME + STATUS)
 BEAM_BITS = 0x09
@@ -52,13 +62,21 @@ class TraceStep(NamedTuple):
     @property
     def size(self) -> int:
         """How many bytes it has in a script of bytes."""
-        return FORMS[NAMES[self.opcode]].size + (
-            len(self.call.block) if self.call is not None else 0
-        )
+        return FORMS[NAMES[self.opcode]].size + self.block_bytes
+
+    @property
+    def block_bytes(self) -> int:
+        """How many bytes its block has, of a call."""
+        return 0 if self.call is None else len(self.call.block)
 
     def data(self) -> bytes:
         """The step as bytes of a script."""
-        return format.encoded(self.step)
+        opcode, address, value = self[:3]
+        pack = WRITING.get(opcode)
+        if pack is not None:
+            return pack(opcode, address, value)
+        pack = READING.get(opcode)
+        return format.encoded(self.step) if pack is None else pack(opcode, address)
 
     def text(self) -> bytes:
         """The step as a line, as `vga dis` prints it; behind a read, what was read is what is
@@ -69,20 +87,30 @@ class TraceStep(NamedTuple):
         return line.encode() + b"\n"
 
 
-def _narrowed(number: int, cycle: Cycle) -> Iterator[TraceStep]:
-    """The steps of a cycle: one of four or eight bytes becomes words, the lowest first."""
-    if cycle.space == CALL:
-        yield TraceStep(INT, 0, 0, cycle.time, number, cycle.dots, cycle.call)
-        return
-    opcode = (OUT if cycle.space == PORT else PUT) + (0 if cycle.is_write else 2)
-    if cycle.size == 1:
-        yield TraceStep(opcode, cycle.address, cycle.value, cycle.time, number, cycle.dots)
-        return
-    for at in range(0, cycle.size, 2):
-        dots = cycle.dots if at == 0 or cycle.dots is None else 0
-        yield TraceStep(
-            opcode + 1, cycle.address + at, cycle.value >> 8 * at & 0xFFFF, cycle.time, number, dots
+# Makes a step of all its parts in half the time that the class takes.
+_made_step = cast(Callable[[Iterable[object]], TraceStep], partial(tuple.__new__, TraceStep))
+
+
+def _narrowed(number: int, cycle: Cycle) -> Sequence[TraceStep]:
+    """The steps of a cycle: one of four or eight bytes becomes words, the lowest first; one of VBE
+    becomes none."""
+    is_write, space, address, value, size, time, dots, call = cycle
+    if space not in (PORT, MEMORY):
+        return () if space in NO_VGA else (TraceStep(INT, 0, 0, time, number, dots, call),)
+    opcode = (OUT if space == PORT else PUT) + (0 if is_write else 2) + (size > 1)
+    if size <= 2:
+        return (_made_step((opcode, address, value, time, number, dots, None)),)
+    return [
+        TraceStep(
+            opcode,
+            address + at,
+            value >> 8 * at & 0xFFFF,
+            time,
+            number,
+            dots if at == 0 or dots is None else 0,
         )
+        for at in range(0, size, 2)
+    ]
 
 
 def steps_of(cycles: Iterable[Cycle], apart: Sequence[int] = ()) -> Iterator[TraceStep]:
@@ -93,23 +121,20 @@ def steps_of(cycles: Iterable[Cycle], apart: Sequence[int] = ()) -> Iterator[Tra
     where dots are known, since a trace that tells them tells the width as well.
     """
     held: Optional[TraceStep] = None
-    numbered = (
-        (number, cycle) for number, cycle in enumerate(cycles, 1) if cycle.space not in NO_VGA
-    )
-    for step in (step for number, cycle in numbered for step in _narrowed(number, cycle)):
-        is_next = (
-            held is not None and step.opcode == held.opcode and step.address == held.address + 1
-        )
-        if held is not None and is_next and step.dots is None and held.cycle not in apart:
-            yield TraceStep(
-                held.opcode + 1, held.address, held.value | step.value << 8, held.time, step.cycle
-            )
-            held = None
-            continue
+    for step in chain.from_iterable(map(_narrowed, count(1), cycles)):
         if held is not None:
+            is_next = step[0] == held[0] and step[1] == held[1] + 1
+            if is_next and step.dots is None and held.cycle not in apart:
+                yield TraceStep(
+                    step[0] + 1, held[1], held.value | step.value << 8, held.time, step.cycle
+                )
+                held = None
+                continue
             yield held
-        held = step if step.opcode in (PUT, GET) and not step.address & 1 else None
-        if held is None:
+            held = None
+        if step[0] in HALVES and not step[1] & 1:
+            held = step
+        else:
             yield step
     if held is not None:
         yield held

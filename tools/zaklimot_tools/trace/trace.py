@@ -10,9 +10,10 @@ import re
 import zlib
 from collections import defaultdict
 from contextlib import contextmanager
+from functools import partial
 from itertools import islice
 from pathlib import Path
-from typing import Iterator, NamedTuple, Optional, Protocol
+from typing import Callable, Iterable, Iterator, NamedTuple, Optional, Protocol, cast
 
 from zaklimot.format import MOST_BLOCK
 from zaklimot_tools.core.files import name_of
@@ -36,6 +37,8 @@ MOST_PORT, MOST_ADDRESS = 0xFFFF, 0xFFFFFFFF
 # Longer lines are none of a trace's, and no trace has more before its first cycle. A call's block
 # has two digits a byte.
 MOST_LINE, MOST_BEFORE = 1 << 18, 1 << 26
+# So many bytes are read at a time.
+CHUNK = 1 << 16
 GZIP = b"\x1f\x8b"
 # What each cycle of qemu's log has, of whatever device.
 EVENT = b"memory_region_ops_"
@@ -45,6 +48,12 @@ QEMU = re.compile(
     rb"addr 0x(?P<address>[0-9a-f]+) value 0x(?P<value>[0-9a-f]+) size (?P<size>\d) name"
     rb" '(?P<place>[^']*)'\s*"
 )
+# The time of a line of it.
+STAMP = re.compile(rb"\d+@(\d+)\.(\d{6})")
+# Lines of it are alike in so many ways at most; a longer log is read more slowly.
+MOST_LIKE = 1 << 10
+# So many lines of ports are known as a whole.
+MOST_KNOWN = 1 << 16
 # The time of the plain form: microseconds, and the dots since the line before where they are known.
 TIME = rb"\s*(?:-|(?P<time>[0-9]{1,18})(?:\+(?P<dots>[0-9]{1,12}))?)\s+"
 PLAIN = re.compile(
@@ -84,13 +93,16 @@ VBE_INDEX = 0x1CE
 INDEX_OF = {0x3C5: SEQUENCER, 0x1CF: VBE_INDEX, 0x1D0: VBE_INDEX}
 MAP_MASK, MEMORY_MODE, VBE_ENABLE = (SEQUENCER, 2), (SEQUENCER, 4), (VBE_INDEX, 4)
 ALL_PLANES, CHAIN_4 = 0x0F, 0x08
+# The ports that tell so and those of their indexes, and the ports before them, whose words reach
+# them.
+WATCHED = {port - at for port in INDEX_OF for at in range(3)}
 
 
 class Stream(Protocol):
     """What a trace is read from."""
 
-    def readline(self, most: int, /) -> bytes:
-        """The next line, or so many bytes of it; none at the end."""
+    def read1(self, most: int, /) -> bytes:
+        """The next bytes, so many at most; none at the end."""
 
 
 class Call(NamedTuple):
@@ -132,6 +144,10 @@ class Cycle(NamedTuple):
         return None
 
 
+# Makes a cycle of all its parts in half the time that the class takes.
+_made_cycle = cast(Callable[[Iterable[object]], Cycle], partial(tuple.__new__, Cycle))
+
+
 class Trace:
     """The cycles of a trace that is read from a stream, and what was found of its lines and
     cycles."""
@@ -157,8 +173,21 @@ class Trace:
         # never.
         self._begins_late: Optional[int] = None
         self._vbe_enabled = 0
-        # How many cycles of memory came while VBE was on.
+        # Whether VBE is on, and how many cycles of memory came while it was.
+        self._is_vesa = False
         self._left_out = 0
+        # How lines of qemu's log begin, up to the address, and whether these are writes; how they
+        # end, from the size on, and the space, the size and the last address of these.
+        self._heads: dict[bytes, bool] = {}
+        self._ends: dict[bytes, tuple[str, int, int]] = {}
+        # The cycles of lines of ports, without their time; and how many bytes of lines came before
+        # the first cycle.
+        self._known: dict[bytes, Cycle] = {}
+        self._passed_over = 0
+        # Whether each cycle may tell what the trace lacks.
+        self._is_told = True
+        # Whether cycles have their times.
+        self.wants_time = True
         # What was written to ports, and behind those of an index.
         self._ports: defaultdict[int, int] = defaultdict(int)
         self._registers: defaultdict[tuple[int, int], int] = defaultdict(int)
@@ -170,19 +199,82 @@ class Trace:
     def cycles(self, most: Optional[int] = None) -> Iterator[Cycle]:
         """The cycles in their order, so many at most; a Trouble where there is none, or the trace
         can't be read on."""
-        return islice(self._cycles(), most)
+        return islice(self._read(), most)
 
-    def _cycles(self) -> Iterator[Cycle]:
-        for line in self._lines():
-            self.line += 1
-            cycle = self._cycle(line)
-            if cycle is not None:
-                self._watch(cycle)
-                yield cycle
+    def _read(self) -> Iterator[Cycle]:
+        try:
+            yield from self._cycles()
+        except (EOFError, gzip.BadGzipFile, zlib.error) as error:
+            raise self.trouble(
+                f"its compressed bytes are damaged after this line: {error}"
+            ) from error
+        except OSError as error:
+            raise self.trouble(error.strerror or str(error)) from error
         if self._is_plain is None:
             raise self._without_cycle(
                 "it has no cycle, neither of qemu's log nor of the plain form"
             )
+
+    def _cycles(self) -> Iterator[Cycle]:
+        """The cycles of all lines. Traces are long: what most lines of qemu's log are is looked
+        up."""
+        known = self._known
+        for line in self._lines():
+            self.line += 1
+            front, _, timed = line.partition(b":")
+            cycle = known.get(timed) or self._alike(timed or line)
+            is_told = self._is_told
+            if cycle is None or timed and not (front[-7:-6] == b"." and front.count(b"@") == 1):
+                cycle = self._cycle(line)
+                is_told = True
+            elif timed and self.wants_time:
+                cycle = self._with_time(cycle, front) or self._cycle(line)
+            if cycle is None:
+                continue
+            self.count += 1
+            if is_told or cycle[2] in WATCHED or cycle[4] > 2:
+                self._watch(cycle)
+            if cycle[5] is None:
+                self.untimed += 1
+            yield cycle
+
+    def _lines(self) -> Iterator[bytes]:
+        """The lines, without their ends."""
+        rest = b""
+        while chunk := self._stream.read1(CHUNK):
+            *lines, rest = (rest + chunk).split(b"\n")
+            yield from lines
+            if len(rest) >= MOST_LINE:
+                self.line += 1
+                self._check_length(rest)
+        if rest:
+            yield rest
+
+    def _with_time(self, cycle: Cycle, front: bytes) -> Optional[Cycle]:
+        """A cycle with the time of its line; None where that is damaged."""
+        stamp = STAMP.fullmatch(front)
+        return None if stamp is None else cycle._replace(time=int(stamp[1] + stamp[2]))
+
+    def _alike(self, line: bytes) -> Optional[Cycle]:
+        """The cycle of a line of qemu's log, without its time, that begins and ends as others have;
+        None of any other."""
+        head, _, rest = line.partition(b" addr 0x")
+        address, _, rest = rest.partition(b" value 0x")
+        value, _, end = rest.partition(b" size ")
+        is_write, known = self._heads.get(head), self._ends.get(end)
+        if known is None or is_write is None or not (address.isalnum() and value.isalnum()):
+            return None
+        space, size, most = known
+        try:
+            at, given = int(address, 16), int(value, 16)
+        except ValueError:
+            return None
+        if at + size - 1 > most or given >> 8 * size or space == MEMORY and self._is_vesa:
+            return None
+        cycle = _made_cycle((is_write, space, at, given, size, None, None, None))
+        if space == PORT and len(self._known) < MOST_KNOWN:
+            self._known[line] = cycle
+        return cycle
 
     def trouble(self, reason: str) -> Trouble:
         """What ends the work at the line that was read last."""
@@ -197,27 +289,18 @@ class Trace:
             )
         return Trouble(reason, self.name)
 
-    def _lines(self) -> Iterator[bytes]:
-        try:
-            passed = 0
-            for line in iter(lambda: self._stream.readline(MOST_LINE), b""):
-                if len(line) == MOST_LINE:
-                    self.line += 1
-                    raise self.trouble("the line is longer than any of a trace")
-                passed += len(line)
-                if self._is_plain is None and passed > MOST_BEFORE:
-                    raise self._without_cycle(f"it has no cycle in its first {MOST_BEFORE:,} bytes")
-                yield line
-        except (EOFError, gzip.BadGzipFile, zlib.error) as error:
-            raise self.trouble(
-                f"its compressed bytes are damaged after this line: {error}"
-            ) from error
-        except OSError as error:
-            raise self.trouble(error.strerror or str(error)) from error
+    def _check_length(self, line: bytes) -> None:
+        if len(line) >= MOST_LINE:
+            raise self.trouble("the line is longer than any of a trace")
+        if self._is_plain is None:
+            self._passed_over += len(line) + 1
+            if self._passed_over > MOST_BEFORE:
+                raise self._without_cycle(f"it has no cycle in its first {MOST_BEFORE:,} bytes")
 
     def _cycle(self, line: bytes) -> Optional[Cycle]:
         """The cycle of a line, where it has one of a VGA. The first line that has one says which
         form it is."""
+        self._check_length(line)
         if not self._is_plain and line.startswith(OF_RECORDER):
             self._note(line)
             return None
@@ -237,9 +320,9 @@ class Trace:
         # A log has seconds with six digits behind the point.
         micros = None if time is None else int(time.replace(b".", b""))
         dots = self._passed(found["dots"]) if self._is_plain else None
-        space = SPACES[place]
-        if space == MEMORY and self._registers[VBE_ENABLE] & 1:
-            space = VESA
+        if not self._is_plain:
+            self._remember(line, kind[:1] == b"w", SPACES[place], int(size))
+        space = VESA if self._is_vesa and SPACES[place] == MEMORY else SPACES[place]
         cycle = Cycle(
             kind[:1] == b"w",
             space,
@@ -250,6 +333,16 @@ class Trace:
             dots,
         )
         return self._judged(cycle)
+
+    def _remember(self, line: bytes, is_write: bool, space: str, size: int) -> None:
+        """Keeps how a good line of qemu's log begins and ends, for those that are like it."""
+        front, _, timed = line.partition(b":")
+        head = (timed or line).partition(b" addr 0x")[0]
+        is_plain = space in (PORT, MEMORY) and size in SIZES
+        if is_plain and len(self._heads) < MOST_LIKE and len(self._ends) < MOST_LIKE:
+            self._heads[head] = is_write
+            most = MOST_ADDRESS if space == MEMORY else MOST_PORT
+            self._ends[line.rpartition(b" size ")[2]] = space, size, most
 
     def _note(self, line: bytes) -> None:
         """Takes a line that `record` has put into qemu's log."""
@@ -322,20 +415,24 @@ class Trace:
         return True
 
     def _watch(self, cycle: Cycle) -> None:
-        self.count += 1
-        self.untimed += cycle.time is None
-        if cycle.space in (MEMORY, VESA):
+        """Follows what a cycle tells of what the trace lacks."""
+        self._follow(cycle)
+        self._is_told = self._begins_late is None or bool(self._silent) or self._is_vesa
+
+    def _follow(self, cycle: Cycle) -> None:
+        space, address, size = cycle.space, cycle.address, cycle.size
+        if space in (MEMORY, VESA):
             self._silent = 0
-        self._left_out += cycle.space == VESA
+            self._left_out += space == VESA
         if not cycle.is_write:
             return
         if self._begins_late is None:
-            self._begins_late = 0 if cycle.address == MISC or cycle.space == CALL else self.count
-        if cycle.space == VBE:
-            self._write(cycle.address, cycle.value)
-        elif cycle.space == PORT:
-            for at in range(cycle.size):
-                self._write(cycle.address + at, cycle.value >> 8 * at & 0xFF)
+            self._begins_late = 0 if address == MISC or space == CALL else self.count
+        if space == VBE:
+            self._write(address, cycle.value)
+        elif space == PORT:
+            for at in range(size):
+                self._write(address + at, cycle.value >> 8 * at & 0xFF)
 
     def _write(self, port: int, value: int) -> None:
         """Follows registers: under chain 4 with all planes an emulator may serve memory without
@@ -345,7 +442,8 @@ class Trace:
             return
         registers, was_chained = self._registers, self._is_chained
         registers[INDEX_OF[port], self._ports[INDEX_OF[port]]] = value
-        if registers[VBE_ENABLE] & 1:
+        self._is_vesa = registers[VBE_ENABLE] & 1 > 0
+        if self._is_vesa:
             self._vbe_enabled = self._vbe_enabled or self.count
         self._is_chained = (
             registers[MAP_MASK] & ALL_PLANES == ALL_PLANES and registers[MEMORY_MODE] & CHAIN_4 != 0
@@ -372,8 +470,9 @@ class Trace:
         # What tells dots tells all cycles.
         silent = 0 if self.has_dots else self._first_silent or self._silent
         if self._damaged:
+            lines = "line of cycles is" if self._damaged == 1 else "lines of cycles are"
             yield (
-                f"{self._damaged:,} lines of cycles are damaged and left out, line"
+                f"{self._damaged:,} {lines} damaged and left out, line"
                 f" {self._first_damaged:,} first"
             )
         # The first write of a video BIOS is that of miscellaneous output.
