@@ -25,13 +25,14 @@ from zaklimot_tools.images.reading import image_of
 from zaklimot_tools.trace import converting, keeper as keeping, parts, recording
 from zaklimot_tools.trace.converting import Checked, Checking, Clocked, Written
 from zaklimot_tools.trace.asked import Deed
+from zaklimot_tools.trace.beamed import Beamed
 from zaklimot_tools.trace.folding import Folding
 from zaklimot_tools.trace.keeper import Keeper
 from zaklimot_tools.trace.parts import Parts
 from zaklimot_tools.trace.recording import PHASES, QemuMachine, Session
 from zaklimot_tools.trace.replaying import ALLOWED, PAGE, SEEN, Replay, Screen, whole_rows
 from zaklimot_tools.trace.state import State
-from zaklimot_tools.trace.step import ADVANCE, FRAME, IN, PUT, TraceStep
+from zaklimot_tools.trace.step import ADVANCE, FRAME, IN, OUT, OUTW, PUT, TraceStep
 from zaklimot_tools.trace.trace import SCREEN, opened
 
 from .test_trace import BEGIN, listed, qemu, registers
@@ -476,6 +477,24 @@ class Recorded(Folder):
         output = run("kinds", self.into)[1].decode()
         self.assertIn("           8 read port 3DA or 3BA, folded\n", output)
 
+    def test_software_that_waits_for_the_beam(self) -> None:
+        polls = b"".join(qemu(f"read 3da {at % 2 * 9} 1") for at in range(1500))
+        lines = self.record(lines=polls, program=self.polled("ok", *["00"] * 1500))[1]
+        front = "it reads input status 1 up to 1,500 times within a frame"
+        dumps = "what changes within a frame shows on no screen below"
+        lost = "and is lost. Record with --beam, so that it sees a beam"
+        self.assertIn(f"{front}: {dumps}, {lost}", lines)
+        words = ("--beam", "--polls", "first")
+        found = self.record(*words, lines=polls, program=self.polled("ok", *["00"] * 1500))[1]
+        drawn = f"and `vga-trace pictures {self.into} --beam` draws it"
+        self.assertIn(f"{front}: {dumps}, {drawn}", found)
+        self.assertEqual(self.note()["words"][:2], ["-vga", "none,retrace=precise"])
+        # What finds the retrace stays.
+        kept = gzip.decompress((self.into / "trace.gz").read_bytes())
+        self.assertEqual(kept.count(b"0x3da"), 1500)
+        few = self.record(lines=polls[: len(polls) // 2], program=self.polled("ok", *["00"] * 750))
+        self.assertFalse([line for line in few[1] if "within a frame" in line])
+
     def polled(self, *answers: str) -> str:
         """A program that answers so, and then has the screens."""
         return self.answering(*answers, *[PICTURE] * PHASES, PICTURE)
@@ -727,6 +746,89 @@ class RealTime(Folder):
         advances = {dots for opcode, dots in frames if opcode == ADVANCE}
         self.assertEqual(advances, {16_777_216, 69 * self.DOTS % 16_777_216})
 
+    def beamed(self, *steps: TraceStep, longest: float = 1) -> list[tuple[int, int]]:
+        """The frames, the dots that pass, and the writes to the DAC, of steps after those that set
+        the shape of text, whose retrace begins in line 412."""
+        before = [*registers(0x67, 0), TraceStep(OUTW, 0x3D4, 0x9C10)]
+        given = [*(step._replace(time=0) for step in before), *steps]
+        kinds = (ADVANCE, FRAME, IN)
+        return [
+            step[:2]
+            for step in Beamed(longest).steps(given)
+            if step.opcode in kinds or step.address == 0x3C9
+        ]
+
+    def test_what_is_written_within_a_frame(self) -> None:
+        line = 900 / 28.322
+        colour, poll, frame = (OUT, 0x3C9), (IN, 0x3DA), (FRAME, 0)
+
+        def wait(*polls: tuple[int, int]) -> list[TraceStep]:
+            return [TraceStep(IN, 0x3DA, value, time) for time, value in polls]
+
+        def write(time: float) -> TraceStep:
+            return TraceStep(OUT, 0x3C9, 0, round(time))
+
+        # By the time alone, and where the poll before has found that the retrace begins.
+        self.assertEqual(self.beamed(write(1000)), [(ADVANCE, 28322), colour])
+        retrace = 412 * 900
+        for polls in (((900, 0), (990, 1), (1000, 8)), ((900, 9), (990, 0), (1000, 9))):
+            found = self.beamed(*wait(*polls), write(1000))
+            self.assertEqual(found, [poll, (ADVANCE, retrace), colour], polls)
+        # A poll that finds the retrace after other steps, or again, tells no begin.
+        found = self.beamed(*wait((0, 0)), write(0), *wait((1000, 8), (1001, 8)), write(1001))
+        self.assertEqual(found, [poll, colour, poll, (ADVANCE, 28350), colour])
+        # A frame ends where something was written in it, and the beam goes on.
+        edge = wait((999, 0), (1000, 8))
+        later = 1000 + (449 - 412 + 100) * line
+        found = self.beamed(*edge, write(1000), write(later), write(later + 449 * 2 * line))
+        self.assertEqual(found[:4], [poll, (ADVANCE, retrace), colour, frame])
+        self.assertAlmostEqual(found[4][1], 100 * 900, delta=30)
+        self.assertEqual(found[5:7], [colour, frame])
+        # So many dots of a frame in which nothing is written, and then of the one under way.
+        self.assertEqual(found[7], (ADVANCE, 449 * 900))
+        self.assertAlmostEqual(found[8][1], 100 * 900, delta=60)
+        # The beam isn't set back: by a little it stays, and else it goes on to the next retrace.
+        for lines_before, wanted in ((415, []), (444, [frame, (ADVANCE, retrace)])):
+            time = round(lines_before * line)
+            edge = wait((time, 0), (time + 1, 8))
+            found = self.beamed(write(time), *edge, write(time + 1))
+            self.assertEqual(found[2:], [poll, *wanted, colour])
+
+    def test_long_silences_within_frames_are_cut(self) -> None:
+        beamed = Beamed(0.5)
+        before = [step._replace(time=0) for step in registers(0x67, 0)]
+        steps = list(beamed.steps([*before, TraceStep(OUT, 0x3C9, 0, 3_000_000)]))
+        self.assertEqual((beamed.shortened, beamed.left_out), (1, 2.5))
+        dots = sum(step.address for step in steps if step.opcode == ADVANCE)
+        self.assertEqual(dots, 28_322_000 // 2)
+
+    def test_pictures_of_a_beam(self) -> None:
+        want_program()
+        text = BEGIN + b"".join(
+            b"%d w p %s 2\n" % (10, words)
+            for words in (b"3D4 5F00", b"3D4 BF06", b"3D4 1F07", b"3D4 4F01", b"3D4 8F12")
+        )
+        # The overscan's colour changes within the frame.
+        text += b"".join(
+            b"%d w p %s 1\n" % (time, words)
+            for time, words in (
+                (20, b"3C8 0"),
+                (3000, b"3C9 3F"),
+                (3001, b"3C9 0"),
+                (3002, b"3C9 0"),
+            )
+        )
+        text += b"40000 r p 3DA 0 1\n"
+        trace = self.write("trace", text)
+        sizes = []
+        for option in ((), ("--beam",)):
+            folder = self.folder / f"pictures{len(option)}"
+            words = ("--vga", str(PROGRAM_TESTED), *option)
+            status, _, said = run("pictures", trace, folder, *words)
+            self.assertEqual(status, 0, said)
+            sizes.append(max(len({*png_rows(path.read_bytes())[2]}) for path in folder.iterdir()))
+        self.assertEqual(sizes, [1, 3])
+
     def test_pictures_and_moving_pictures(self) -> None:
         trace = self.write(
             "trace", BEGIN + b"20000 w m A0000 1 1\n40000 w m A0000 2 1\n5040000 w m A0000 3 1\n"
@@ -835,7 +937,7 @@ class Keeping(Folder):
         for size in (1, 13, 100):
             with open(self.write("log", lines), "rb") as log:
                 into = Parts(self.folder)
-                keeper = Keeper(log, into, True)
+                keeper = Keeper(log, into, Folding())
                 with mock.patch.object(keeping, "CHUNK", size):
                     keeper.run()
                 into.close()

@@ -6,6 +6,8 @@ from typing import NamedTuple, Optional, Union
 # When a script has a frame: at its end alone, before each page flip, where a screen was taken, once
 # in each frame of the dot clock in which something was written, or every so many seconds.
 END, FLIP, SCREENS, CLOCK = "end", "flip", "screens", "clock"
+# The same as the last, with the beam where it was at each write.
+BEAM = "beam"
 Frames = Union[str, float]
 # Which reads of input status 1 are kept: all, or the first of several.
 KEEP, FIRST = "keep", "first"

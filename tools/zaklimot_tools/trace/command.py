@@ -18,11 +18,11 @@ from zaklimot_tools.report.report import Report
 from zaklimot_tools.script.program import check_program_runs, found_program
 
 from . import inpage
-from .asked import CLOCK, KEEP, Deed
+from .asked import BEAM, CLOCK, KEEP, Deed
 from .converting import Listing, check, convert, count
 from .monitor import QEMU
-from .note import NOTE, Note, note_of
-from .recording import QemuMachine, Say, chain_4, check_keys, record
+from .note import NOTE, Note, note_of, told_of_beam
+from .recording import PRECISE, QemuMachine, Say, chain_4, check_keys, record
 from .replaying import replay, shown
 from .trace import Trace, opened
 
@@ -92,7 +92,11 @@ def make_pictures(words: argparse.Namespace, _: Progress) -> None:
         height = 0
         with found as trace, writing(str(script)) as stream:
             listing = Listing(
-                trace, frames=CLOCK, most=words.to, first=words.from_, longest=words.longest
+                trace,
+                frames=BEAM if words.beam else CLOCK,
+                most=words.to,
+                first=words.from_,
+                longest=words.longest,
             )
             convert(listing, stream)
         _warn(listing, name_of(words.trace))
@@ -162,7 +166,8 @@ def _recorded(words: argparse.Namespace, folder: Path, say: Say, progress: Progr
                 own = inpage.PageMachine(words.in_page, deeds, words.quiet, words.seconds, *options)
                 return inpage.record(own, folder, say, progress)
             plugin = chain_4(Path(made)) if words.chain_4 else []
-            line = ["-device", words.card or "VGA", *plugin, *words.qemu]
+            beam = PRECISE if words.beam else ()
+            line = [*beam, "-device", words.card or "VGA", *plugin, *words.qemu]
             machine = QemuMachine(line, deeds, words.quiet, words.seconds, words.polls or KEEP)
             return record(machine, folder, say, progress)
     except BaseException:
@@ -191,6 +196,7 @@ def _judge(note: Note, folder: Path, program: str, fonts: str, progress: Progres
         lines.append(
             f"what comes after cycle {done.left_out:,} has no room in the script, and isn't judged"
         )
+    lines += told_of_beam(note, folder)
     are_equal = agrees and bool(note.screens)
     for number, at in enumerate(note.screens, 1):
         screen = done.screens.get(number - 1)

@@ -15,7 +15,6 @@ from zaklimot.format import (
     FIRST_LINE,
     FORMS,
     HEADERS,
-    MOST_ADVANCE,
     MOST_BYTES,
     MOST_STEPS,
     Answer,
@@ -35,7 +34,8 @@ from zaklimot_tools.explain.banks import (
 )
 from zaklimot_tools.explain.registers import INDEX_PORTS, Registers, bytes_written
 
-from .asked import CLOCK, END, FLIP, SCREENS, Frames
+from .asked import BEAM, CLOCK, END, FLIP, SCREENS, Frames
+from .beamed import Beamed
 from .state import State, rebuilt
 from .step import (
     ADVANCE,
@@ -51,6 +51,7 @@ from .step import (
     PUT,
     PUTW,
     TraceStep,
+    advances,
     steps_of,
     without_polls,
 )
@@ -85,12 +86,6 @@ DONE, DOING = "ok", (OUT, OUTW, PUT, PUTW, ADVANCE)
 # Windows of memory, by the 32 KiB that they have, and the bits of an address in one.
 WINDOW_BITS = 15
 WINDOWS = {0x14: "A0000", 0x15: "A0000", 0x16: "B0000", 0x17: "B8000"}
-
-
-def advances(dots: int) -> Iterator[TraceStep]:
-    """The steps by which so many dots pass."""
-    for left in range(dots, 0, -MOST_ADVANCE):
-        yield TraceStep(ADVANCE, min(left, MOST_ADVANCE))
 
 
 class Pauses:
@@ -247,12 +242,12 @@ class Listing:
         self._keeps_polls = keeps_polls
         self._has_time = has_time
         self._frames = frames
-        self._is_timed = has_time or frames == CLOCK or isinstance(frames, float)
+        self._is_timed = has_time or frames in (CLOCK, BEAM) or isinstance(frames, float)
         trace.wants_time = self._is_timed
         self._most = most
         self._first = first
         self._pauses = Pauses()
-        self._clocked = Clocked(longest)
+        self._clocked = Beamed(longest) if frames == BEAM else Clocked(longest)
         self.rebuilding = 0
 
     def steps(self) -> Iterator[TraceStep]:
@@ -267,7 +262,7 @@ class Listing:
             steps = with_flips(steps)
         elif self._frames == SCREENS:
             steps = self._with_screens(steps)
-        elif self._frames == CLOCK:
+        elif self._frames in (CLOCK, BEAM):
             steps = self._clocked.steps(steps)
         elif isinstance(self._frames, float):
             steps = with_frames_every(self._frames, steps)

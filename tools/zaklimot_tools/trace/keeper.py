@@ -13,6 +13,8 @@ from .parts import Parts
 # So many bytes are kept, as they are packed; those of the last screen have as much room again.
 MOST_KEPT = 1 << 30
 CHUNK = 1 << 16
+# How the lines of polls are told, and the seconds of a frame.
+POLLS, FRAME = (b" addr 0x3da ", b" addr 0x3ba "), 1 / 60
 
 
 class Keeper(Thread):
@@ -20,14 +22,19 @@ class Keeper(Thread):
     came.
 
     `full` says why the recording is to end; it is empty until then. Where lines can't be kept any
-    more, `is_lost` is set. With `folds` polls of input status 1 are folded.
+    more, `is_lost` is set. `folding` folds polls of input status 1; `frame_polls` tells how many
+    came within a frame at most.
     """
 
-    def __init__(self, source: BinaryIO, parts: Parts, folds: bool = False) -> None:
+    def __init__(self, source: BinaryIO, parts: Parts, folding: Optional[Folding] = None) -> None:
         super().__init__(daemon=True)
         self._source = source
         self._parts = parts
-        self._folding: Optional[Folding] = Folding() if folds else None
+        self._folding = folding
+        # When the frame under way began, and how many polls came in it so far.
+        self._began = 0.0
+        self._polls = 0
+        self.frame_polls = 0
         self._rest = b""
         self.is_lost = False
         self.size = 0
@@ -41,6 +48,7 @@ class Keeper(Thread):
             while chunk := os.read(self._source.fileno(), CHUNK):
                 self.size = self.size + len(chunk)
                 self.last = time.monotonic()
+                self._count_polls(chunk)
                 self._keep(chunk)
         self._end()
 
@@ -49,6 +57,13 @@ class Keeper(Thread):
         start."""
         if self.is_alive():
             self.join(DRAINING)
+
+    def _count_polls(self, chunk: bytes) -> None:
+        if self.last - self._began > FRAME:
+            self._began = self.last
+            self._polls = 0
+        self._polls += sum(map(chunk.count, POLLS))
+        self.frame_polls = max(self.frame_polls, self._polls)
 
     def _keep(self, chunk: bytes) -> None:
         if self.is_lost:

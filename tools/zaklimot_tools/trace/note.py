@@ -15,6 +15,8 @@ from .parts import Parts
 NOTE = "recording.json"
 MOST_NOTE = 1 << 20
 FRONT = {"is": "zaklimot recording", "version": 1}
+# Software that reads input status 1 so often within a frame waits for the beam.
+MANY_POLLS = 1000
 QEMU_MACHINE, PAGE_MACHINE = "qemu", "page"
 
 
@@ -24,6 +26,8 @@ class Note:
     screens, how many steps it refused, and why it ended.
 
     `polls` is `first` where polls of input status 1 were folded. `ended` is empty while it records.
+    `has_beam` tells whether qemu's input status 1 told where a beam would be, and `frame_polls` how
+    often it was read within a frame at most.
     """
 
     machine: str
@@ -33,6 +37,8 @@ class Note:
     screens: list[float] = field(default_factory=list)
     refusals: int = 0
     ended: str = ""
+    has_beam: bool = False
+    frame_polls: int = 0
 
     @property
     def is_own(self) -> bool:
@@ -77,6 +83,18 @@ def note_of(folder: Path) -> Note:
     if found is None:
         raise Trouble("it is no note of a recording, or of another version", str(path))
     return found
+
+
+def told_of_beam(note: Note, folder: Path) -> Sequence[str]:
+    """What a verdict says of a program that seems to wait for the beam: no dump shows what changes
+    within a frame."""
+    if note.frame_polls < MANY_POLLS:
+        return ()
+    front = f"it reads input status 1 up to {note.frame_polls:,} times within a frame"
+    dumps = "what changes within a frame shows on no screen below"
+    if note.has_beam:
+        return (f"{front}: {dumps}, and `vga-trace pictures {folder} --beam` draws it",)
+    return (f"{front}: {dumps}, and is lost. Record with --beam, so that it sees a beam",)
 
 
 def _parsed(data: bytes) -> Optional[Note]:

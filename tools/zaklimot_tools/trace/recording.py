@@ -8,7 +8,7 @@ from contextlib import ExitStack, contextmanager, suppress
 from dataclasses import dataclass, field
 from difflib import get_close_matches
 from pathlib import Path
-from typing import Any, BinaryIO, Callable, Iterator, Sequence, cast
+from typing import Any, BinaryIO, Callable, Iterator, Optional, Sequence, cast
 
 from zaklimot_tools.core.processes import (
     DRAINING,
@@ -24,6 +24,7 @@ from zaklimot_tools.core.progress import Progress
 from zaklimot_tools.core.trouble import Trouble
 
 from .asked import FIRST, KEEP, Deed
+from .folding import Folding
 from .keeper import Keeper
 from .monitor import ANSWERING, QEMU, Monitor, key_names, monitor_at
 from .note import QEMU_MACHINE, Note, kept_parts
@@ -48,6 +49,9 @@ BARE = (
     "-display",
     "none",
 )
+# The words by which input status 1 tells where a beam would be, by the clock. Without them it tells
+# another place with each read.
+PRECISE = ("-vga", "none,retrace=precise")
 # Seconds between two looks, between two keys, and that the cursor's phase lasts about half of; and
 # in which qemu ends that can't begin.
 LOOK, PRESSING, PHASE, BEGINNING = 0.05, 0.1, 0.12, 0.3
@@ -223,7 +227,7 @@ def _reached(folder: Path, process: subprocess.Popen[bytes]) -> Iterator[tuple[M
 
 @contextmanager
 def _filtered(
-    folder: Path, parts: Parts, folds: bool
+    folder: Path, parts: Parts, folding: Optional[Folding]
 ) -> Iterator[tuple["subprocess.Popen[bytes]", Keeper]]:
     """What takes the VGA's lines out of a machine's log, and what keeps them."""
     words = [word for name in KEPT for word in ("-e", name)]
@@ -233,7 +237,7 @@ def _filtered(
     with ExitStack() as kept_lines:
         given: dict[str, Any] = {"stdout": subprocess.PIPE, "preexec_fn": end_with_parent}
         with started(filtering, **given) as process:
-            keeper = Keeper(cast(BinaryIO, process.stdout), parts, folds)
+            keeper = Keeper(cast(BinaryIO, process.stdout), parts, folding)
             kept_lines.callback(keeper.end)
             process.stdout = None
             keeper.start()
@@ -259,9 +263,11 @@ def record(machine: QemuMachine, kept: Path, say: Say, progress: Progress) -> No
     """
     check_program(QEMU)
     note = Note(QEMU_MACHINE, list(machine.words), polls=machine.polls)
+    note.has_beam = any("retrace=precise" in word for word in machine.words)
     with kept_parts(kept, note) as parts, ExitStack() as stack:
         folder = Path(stack.enter_context(tempfile.TemporaryDirectory(prefix="vga-recording-")))
-        filtering, keeper = stack.enter_context(_filtered(folder, parts, machine.polls == FIRST))
+        folding = Folding(note.has_beam) if machine.polls == FIRST else None
+        filtering, keeper = stack.enter_context(_filtered(folder, parts, folding))
         said = stack.enter_context(open(folder / "said", "wb"))
         process = stack.enter_context(
             started(_qemu(machine, folder), stdout=said, stderr=said, preexec_fn=end_with_parent)
@@ -280,6 +286,7 @@ def record(machine: QemuMachine, kept: Path, say: Say, progress: Progress) -> No
                 say(f"{name} didn't end within {ANSWERING} seconds, and was ended")
                 end(ending)
         keeper.join(DRAINING)
+        note.frame_polls = keeper.frame_polls
         if not parts.has_lines:
             raise Trouble(f"it made no cycle of a VGA: {note.ended}", QEMU)
     return note

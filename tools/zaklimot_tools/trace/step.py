@@ -91,6 +91,12 @@ class TraceStep(NamedTuple):
 _made_step = cast(Callable[[Iterable[object]], TraceStep], partial(tuple.__new__, TraceStep))
 
 
+def advances(dots: int) -> Iterator[TraceStep]:
+    """The steps by which so many dots pass."""
+    for left in range(dots, 0, -format.MOST_ADVANCE):
+        yield TraceStep(ADVANCE, min(left, format.MOST_ADVANCE))
+
+
 def _narrowed(number: int, cycle: Cycle) -> Sequence[TraceStep]:
     """The steps of a cycle: one of four or eight bytes becomes words, the lowest first; one of VBE
     becomes none."""

@@ -70,6 +70,7 @@ OF_QEMU = {
     "chain_4": "--chain-4",
     "card": "--card",
     "polls": "--polls",
+    "beam": "--beam",
 }
 OF_PAGE = ("speed", "rom", "start")
 
@@ -112,6 +113,8 @@ def _add_record(parser: argparse.ArgumentParser) -> None:
         " others (default: keep)"
     )
     add(parser, "--polls", told, choices=[KEEP, FIRST])
+    told = "has input status 1 tell where a beam would be, so that software can wait for it"
+    add(parser, "--beam", told)
     add(parser, "--again", "judges once more what is recorded in the folder")
     told = "--again judges what is recorded, and takes --vga and --fonts alone"
     rule(parser, "again", _is_for_recording, told)
@@ -164,6 +167,8 @@ def _add_pictures(parser: argparse.ArgumentParser) -> None:
     told = "the pictures want a folder, or --apng a file"
     rule(parser, "trace", lambda words: words.folder is None and words.apng is None, told)
     add(parser, "--apng FILE", "writes one picture that moves, in real time", type=Output)
+    told = "draws what changes within a frame where the beam was by the trace's times"
+    add(parser, "--beam", told)
     add_shape(parser)
     _add_longest(parser)
     add_program(parser)
