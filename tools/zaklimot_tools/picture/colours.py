@@ -18,8 +18,9 @@ if TYPE_CHECKING:
 
 # Red, green and blue, six bits each.
 Colour = tuple[int, int, int]
-# How the eye weighs a difference of red, of green and of blue.
-WEIGHTS = (2, 4, 1)
+# How the eye weighs a difference of red, of green and of blue. Blue counts for no less: a dither
+# would else mix the blue of a sky with greens.
+WEIGHTS = (3, 4, 2)
 # Colours, each with how many dots have it.
 Box = list[tuple[Colour, int]]
 # Where an image has more colours than this, those that differ in their low bits alone are first
@@ -288,10 +289,13 @@ class Indexed:
         return Indexed(tuple(colours), tuple(row.translate(table) for row in self.rows))
 
 
-def six_bits(image: Image) -> list[list[Colour]]:
-    """The dots of an image, six bits a component: of eight bits the six high ones."""
+def six_bits(image: Image, is_rounded: bool = False) -> list[list[Colour]]:
+    """The dots of an image, six bits a component: of eight bits the six high ones; or the nearest
+    six bits, which are no darker on the average."""
     shift = 0 if image.most == MOST else 2
     table = bytes(value >> shift if value >> shift <= MOST else MOST for value in range(256))
+    if is_rounded and image.most != MOST:
+        table = bytes((2 * MOST * value + 255) // 510 for value in range(256))
     rows = (row.translate(table) for row in image.rows)
     return [list(zip(row[::3], row[1::3], row[2::3])) for row in rows]
 

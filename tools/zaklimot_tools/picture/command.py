@@ -2,6 +2,7 @@
 
 import argparse
 import sys
+from itertools import chain
 
 from zaklimot.format import MOST_BYTES
 from zaklimot_tools.core.files import STANDARD, name_of
@@ -41,7 +42,12 @@ def _drawn(words: argparse.Namespace, progress: Progress) -> tuple[Drawn, str]:
     check_size(size_of(data, name), mode, words.fit, name)
     image = image_of(data, name, MOST_DOTS)
     image, size = fitted(image, mode, words.fit, words.bars or bytes(3), name)
-    made, count = indexed(six_bits(image), len(mode.entries), words.fewer, name)
+    rows = six_bits(image)
+    count = len(set(chain.from_iterable(rows)))
+    # A dither keeps how bright areas are: those of the six high bits are darker.
+    if count > len(mode.entries) and words.fewer in (Fewer.FLOYD, Fewer.ORDERED):
+        rows = six_bits(image, is_rounded=True)
+    made, _ = indexed(rows, len(mode.entries), words.fewer, name)
     told = f"{size}, {counted(len(made.colours), 'colour')}"
     if count > len(mode.entries):
         told += f" for {count:,}, by {WAYS[words.fewer]}"
