@@ -23,9 +23,10 @@ from zaklimot.format import Picture
 from zaklimot_tools.dev.emulators.traces import row as row_of
 from zaklimot_tools.images.reading import image_of
 from zaklimot_tools.trace import converting, keeper as keeping, parts, recording
-from zaklimot_tools.trace.converting import Checked, Checking, Clocked, Written
+from zaklimot_tools.trace.converting import Checked, Checking, Written
 from zaklimot_tools.trace.asked import Deed
 from zaklimot_tools.trace.beamed import Beamed
+from zaklimot_tools.trace.clocked import Clocked
 from zaklimot_tools.trace.folding import Folding
 from zaklimot_tools.trace.keeper import Keeper
 from zaklimot_tools.trace.parts import Parts

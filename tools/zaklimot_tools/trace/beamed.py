@@ -1,11 +1,11 @@
-"""Real time within frames: what software writes while the beam is on its way shows where the beam is
-then."""
+"""Real time within frames: what software writes while the beam is on its way shows where the beam
+is then."""
 
 from typing import Iterable, Iterator, Optional
 
 from zaklimot_tools.explain.registers import Registers
 
-from .step import FRAME, INT, OUT, OUTW, PUT, PUTW, TraceStep, advances
+from .step import FRAME, WRITES, TraceStep, advances
 
 # The bit of input status 1 that is set during vertical retrace.
 RETRACE = 0x08
@@ -14,7 +14,6 @@ RETRACE = 0x08
 RETRACE_START, OVERFLOW = 0x10, 0x07
 # The beam is taken to be there by less than this part of a frame.
 MOST_JITTER = 16
-WRITES = (OUT, OUTW, PUT, PUTW, INT)
 
 
 class Beamed:

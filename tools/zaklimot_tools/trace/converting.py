@@ -36,6 +36,7 @@ from zaklimot_tools.explain.registers import INDEX_PORTS, Registers, bytes_writt
 
 from .asked import BEAM, CLOCK, END, FLIP, SCREENS, Frames
 from .beamed import Beamed
+from .clocked import Clocked
 from .state import State, rebuilt
 from .step import (
     ADVANCE,
@@ -73,7 +74,6 @@ AHEAD, FETCHED = 64, 4096
 Code = Callable[[TraceStep], bytes]
 # Microseconds that are put together before they become a step: about a line.
 LEAST_PAUSE = 30
-WRITES = (OUT, OUTW, PUT, PUTW, INT)
 CONTROLLERS = (COLOUR, MONOCHROME)
 # The CRT controller's registers of the start address, which a page flip writes.
 START_ADDRESS = (0x0C, 0x0D)
@@ -126,57 +126,6 @@ class Pauses:
         self._owed = 0
         speed = self._registers.speed()
         return 0 if speed is None else min(int(owed * speed[1] / 1_000_000), speed[0])
-
-
-class Clocked:
-    """Real time: a frame at the end of each frame of the dot clock in which something was written.
-
-    Behind it so many frames pass as went by until the next that is drawn; a time without a write is
-    cut to `longest` seconds.
-    """
-
-    def __init__(self, longest: float) -> None:
-        self.longest = longest
-        self._registers = Registers()
-        # When the last frame that was drawn ended, and when the one ends that is under way.
-        self._drawn: Optional[float] = None
-        self._ends: Optional[float] = None
-        self._is_changed = False
-        self.shortened = 0
-        self.left_out = 0.0
-
-    def steps(self, steps: Iterable[TraceStep]) -> Iterator[TraceStep]:
-        """The steps, with the frames that end before them, and the time until the end of the
-        last."""
-        for step in steps:
-            if step.time is not None:
-                yield from self._frames(step.time / 1_000_000)
-            self._is_changed |= step.opcode in WRITES
-            self._registers.take(step.step)
-            yield step
-        yield from self._passed()
-
-    def _frames(self, now: float) -> Iterator[TraceStep]:
-        frame = self._registers.frame()
-        if self._ends is None:
-            self._ends = now + frame
-        if now < self._ends:
-            return
-        if self._is_changed:
-            yield from self._passed()
-            yield TraceStep(FRAME)
-            self._drawn = self._ends
-            self._is_changed = False
-        self._ends += ((now - self._ends) // frame + 1) * frame
-
-    def _passed(self) -> Iterator[TraceStep]:
-        seconds = 0.0 if self._drawn is None or self._ends is None else self._ends - self._drawn
-        if seconds > self.longest:
-            self.shortened += 1
-            self.left_out += seconds - self.longest
-        speed = self._registers.speed()
-        frames = round(min(seconds, self.longest) / self._registers.frame()) - 1
-        yield from advances(0 if speed is None else speed[0] * max(frames, 0))
 
 
 def with_flips(steps: Iterable[TraceStep]) -> Iterator[TraceStep]:

@@ -16,6 +16,7 @@ CYCLES = ("out", "outw", "in", "inw", "put", "putw", "get", "getw")
 NAMES = {FORMS[name].opcode: name for name in (*CYCLES, "advance", "frame", "int")}
 OUT, OUTW, IN, INW, PUT, PUTW, GET, GETW, ADVANCE, FRAME, INT = NAMES
 READS = (IN, INW, GET, GETW)
+WRITES = (OUT, OUTW, PUT, PUTW, INT)
 PORTS, WORDS = (OUT, OUTW, IN, INW), (OUTW, INW, PUTW, GETW)
 # Steps of which two may be one of a word.
 HALVES = (PUT, GET)
