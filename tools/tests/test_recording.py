@@ -789,7 +789,8 @@ class RealTime(Folder):
         self.assertEqual(found[7], (ADVANCE, 449 * 900))
         self.assertAlmostEqual(found[8][1], 100 * 900, delta=60)
         # The beam isn't set back: by a little it stays, and else it goes on to the next retrace.
-        for lines_before, wanted in ((415, []), (444, [frame, (ADVANCE, retrace)])):
+        on: list[tuple[int, int]] = [frame, (ADVANCE, retrace)]
+        for lines_before, wanted in ((415, on[:0]), (444, on)):
             time = round(lines_before * line)
             edge = wait((time, 0), (time + 1, 8))
             found = self.beamed(write(time), *edge, write(time + 1))

@@ -333,11 +333,11 @@ class Lines(unittest.TestCase):
                 with self.subTest(line):
                     self.assertEqual(warned(first + line + first), [told])
                     self.assertEqual(len(cycles(first + line + first)), 2)
-            for line, fault in (
+            for bad, fault in (
                 ("write 3c2 167 1", "the value 167 has more than 1 bytes"),
                 ("write 1ffff 67 1", "there is no port of address 1FFFF"),
             ):
-                self.assertIn(f"2: {fault}", refused(cycles, first + qemu(line, front=front)))
+                self.assertIn(f"2: {fault}", refused(cycles, first + qemu(bad, front=front)))
         times = [f"7@{second}.000001:" for second in (1, 2, 3)]
         found = cycles(b"".join(qemu(good, front=front) for front in times))
         self.assertEqual([cycle.time for cycle in found], [1000001, 2000001, 3000001])

@@ -8,7 +8,7 @@ from dataclasses import dataclass, field
 from functools import lru_cache
 from itertools import chain, islice
 from operator import itemgetter
-from typing import BinaryIO, Callable, Iterable, Iterator, NamedTuple, Optional, Sequence
+from typing import BinaryIO, Callable, Iterable, Iterator, NamedTuple, Optional, Sequence, Union
 
 from zaklimot import format
 from zaklimot.format import (
@@ -196,7 +196,9 @@ class Listing:
         self._most = most
         self._first = first
         self._pauses = Pauses()
-        self._clocked = Beamed(longest) if frames == BEAM else Clocked(longest)
+        self._clocked: Union[Beamed, Clocked] = (
+            Beamed(longest) if frames == BEAM else Clocked(longest)
+        )
         self.rebuilding = 0
 
     def steps(self) -> Iterator[TraceStep]:
