@@ -511,7 +511,7 @@ class Model(unittest.TestCase):
         found = [names for text in texts for names in SHARED.findall(text)]
         words = {word.strip() for names in found for word in names.split(",")} - {"◌or◌"}
         self.assertIn("call_of", words)
-        self.assertIn("window_among", words)
+        self.assertIn("window_clipped_to_page", words)
         page = (TOP / "docs" / "PROOFS.md").read_text("utf-8")
         self.assertEqual(sorted(word for word in words if f"`{word}`" not in page), [])
 

@@ -479,7 +479,8 @@ class Recorded(Folder):
         self.assertIn("           8 read port 3DA or 3BA, folded\n", output)
 
     def test_software_that_waits_for_the_beam(self) -> None:
-        polls = b"".join(qemu(f"read 3da {at % 2 * 9} 1") for at in range(1500))
+        front = "7@1700000000.000001:"
+        polls = b"".join(qemu(f"read 3da {at % 2 * 9} 1", front=front) for at in range(1500))
         lines = self.record(lines=polls, program=self.polled("ok", *["00"] * 1500))[1]
         front = "it reads input status 1 up to 1,500 times within a frame"
         dumps = "what changes within a frame shows on no screen below"

@@ -1,6 +1,7 @@
 """Keeps the lines that a machine logs, until there are too many of them."""
 
 import os
+import re
 import time
 from threading import Thread
 from typing import BinaryIO, Optional
@@ -15,6 +16,8 @@ MOST_KEPT = 1 << 30
 CHUNK = 1 << 16
 # How the lines of polls are told, and the seconds of a frame.
 POLLS, FRAME = (b" addr 0x3da ", b" addr 0x3ba "), 1 / 60
+# The time of a line, in seconds, and the bytes at the end of a chunk among which one stands.
+TIMED, LAST_LINES = re.compile(rb"^[0-9]{1,10}@([0-9]{1,12}\.[0-9]{6}):", re.MULTILINE), 512
 
 
 class Keeper(Thread):
@@ -59,8 +62,11 @@ class Keeper(Thread):
             self.join(DRAINING)
 
     def _count_polls(self, chunk: bytes) -> None:
-        if self.last - self._began > FRAME:
-            self._began = self.last
+        """Counts by the time of the lines. Those without one pass when they come."""
+        times = TIMED.findall(chunk[-LAST_LINES:])
+        now = float(times[-1]) if times else self.last
+        if not 0 <= now - self._began <= FRAME:
+            self._began = now
             self._polls = 0
         self._polls += sum(map(chunk.count, POLLS))
         self.frame_polls = max(self.frame_polls, self._polls)

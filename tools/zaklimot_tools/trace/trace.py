@@ -188,6 +188,10 @@ class Trace:
         self._is_told = True
         # Whether cycles have their times.
         self.wants_time = True
+        self._know_no_ports()
+
+    def _know_no_ports(self) -> None:
+        """Begins with no port that was written."""
         # What was written to ports, and behind those of an index.
         self._ports: defaultdict[int, int] = defaultdict(int)
         self._registers: defaultdict[tuple[int, int], int] = defaultdict(int)
