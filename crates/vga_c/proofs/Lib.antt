@@ -13,3 +13,4 @@ pub mod CardsMove
 pub mod ColourLemmas
 pub mod NumberLemmas
 pub mod UpdateLemmas
+pub mod LaneLemmas

@@ -12,6 +12,7 @@ pub mod Forms
 pub mod Frames
 pub mod Palette
 pub mod Indexed
+pub mod LaneSums
 pub mod ScanLines
 pub mod Dumps
 pub mod State

@@ -19,6 +19,7 @@ mod forms;
 mod frames;
 mod handle;
 mod indexed;
+mod lane_sums;
 mod opening;
 mod outcome;
 mod palette;

@@ -14,12 +14,12 @@ loop-rest-preserved c =
     let sums = c.loop-rest.sums in
     let front = c.split_at.ensures.front in
     let back = c.split_at.ensures.back in
-    let whole : c.split_at.result.0.now ++ c.split_at.result.1.now ≡ take 2048 c.loop-rest.rest.now ++ drop 2048 c.loop-rest.rest.now =
+    let whole : c.split_at.result.0.now ++ c.split_at.result.1.now ≡ take 128 c.loop-rest.rest.now ++ drop 128 c.loop-rest.rest.now =
     λ j. front j ++ back j in (
-      sym (c.add_bytes_to_sums-sums.ensures.rest c.split_at.result.1.now)
-          ∙ ap (adler_from sums.0 sums.1) (whole ∙ take-append-drop 2048 c.loop-rest.rest.now)
+      sym (c.add_block_to_sums-sums.ensures.rest c.split_at.result.1.now)
+          ∙ ap (adler_from sums.0 sums.1) (whole ∙ take-append-drop 128 c.loop-rest.rest.now)
           ∙ c.loop-rest.invariant.0,
-      (c.add_bytes_to_sums-sums.ensures.sum, c.add_bytes_to_sums-sums.ensures.sums),
+      (c.add_block_to_sums-sums.ensures.sum, c.add_block_to_sums-sums.ensures.sums),
     )
 
 pub returns : goal.returns

@@ -1,4 +1,4 @@
-use Rattle.std.proofs.Common.{◌≡◌, ◌<◌, ℕ, length}
+use Rattle.std.proofs.Common.{◌≡◌, ◌<◌, length}
 use Rattle.vga_c.specs.Checksum.{adler_32, adler_from}
 use Rattle.vga_c.proofs.checksum.checksum.Given as goal
 
