@@ -1,5 +1,5 @@
 -- The dots of a character, by what is shown.
-use Rattle.std.proofs.Common.{◌≡◌, ℕ, zero, suc, ◌+◌, ◌-◌, ◌*◌, ◌/◌, ◌%◌, ◌<◌, ◌≤◌, ⊎_elim, refl, sym, ap, subst, ◌∙◌, arith, Bool, true, false, List, [], ◌∷◌}
+use Rattle.std.proofs.Common.{◌≡◌, ℕ, zero, suc, ◌+◌, ◌-◌, ◌*◌, ◌/◌, ◌%◌, ◌<◌, ◌≤◌, ⊎_elim, refl, sym, ap, ◌∙◌, arith, Bool, true, false, List, [], ◌∷◌}
 use Rattle.std.specs.Prelude.{◌^◌, ◌==◌, ◌&&◌, ◌||◌, not, nat_lt, nat_le, slice_index, slice_index_or, if◌then◌else◌}
 use Rattle.std.specs.Int.{bit_at}
 use Rattle.std.proofs.lemmas.Bool.{cases_lt, lt-ltb}
@@ -24,7 +24,7 @@ use Rattle.vga_dots.specs.Text.{text_nibble, cell_at, background, is_foreground,
 use Rattle.vga_dots.specs.Graphics.{plane_bits, planar_nibble, packed_byte}
 use Rattle.vga_dots.specs.Row.{plane_bits_in_word, colour_and_zero_byte}
 use Rattle.vga_dots.specs.Display.{DisplayState, ShowsText, ShowsPlanes, ShowsBytes}
-use Rattle.vga_dots.specs.EightDots.{AreEightDotsOfColour}
+use Rattle.vga_dots.specs.EightDots.{AreEightDotsOfColour, AreGroundAndChange, changed_dots}
 use Rattle.vga_dots.specs.Character.{cursorless_nibble}
 use Rattle.vga_dots.specs.Line.{masked_colour, colour_by_palette, palette_colour_and_zero_byte, sixteen_palette_colours, dot_of_counter, colour_of_source_dot}
 use Rattle.vga_dots.proofs.RowLemmas.{padded_byte}
@@ -146,22 +146,20 @@ by_look false true false fore back = refl
 by_look false false true fore back = refl
 by_look false false false fore back = refl
 
--- so do they for their colours, eight dots of each
-module _ (fore back : EightDots) (colour : ℕ → List ℕ) (x y : ℕ) (is_fore : AreEightDotsOfColour fore (colour x)) (is_back : AreEightDotsOfColour back (colour y)) where
-  abbrev both : Bool → Bool → EightDots × EightDots
-  both blinked underlined = if blinked then (back, back) else if underlined then (fore, fore) else (fore, back)
+-- so do they for eight dots of a glyph and eight of its ground
+pub glyph_colour : (dots : EightDots × EightDots) (colour : ℕ → List ℕ) (x y : ℕ) (blinked underlined : Bool)
+    → AreGroundAndChange dots (colour x) (colour y) blinked underlined
+    → AreEightDotsOfColour (changed_dots dots.0 dots.1) (colour (if blinked then y else if underlined || true then x else y))
+glyph_colour dots colour x y true underlined is = is.glyph
+glyph_colour dots colour x y false true is = is.glyph
+glyph_colour dots colour x y false false is = is.glyph
 
-  pub glyph_colour : (blinked underlined : Bool) (q : EightDots × EightDots) → q ≡ both blinked underlined
-      → AreEightDotsOfColour q.0 (colour (if blinked then y else if underlined || true then x else y))
-  glyph_colour true underlined q e = subst (λ (r : EightDots × EightDots). AreEightDotsOfColour r.0 (colour y)) (sym e) is_back
-  glyph_colour false true q e = subst (λ (r : EightDots × EightDots). AreEightDotsOfColour r.0 (colour x)) (sym e) is_fore
-  glyph_colour false false q e = subst (λ (r : EightDots × EightDots). AreEightDotsOfColour r.0 (colour x)) (sym e) is_fore
-
-  pub ground_colour : (blinked underlined : Bool) (q : EightDots × EightDots) → q ≡ both blinked underlined
-      → AreEightDotsOfColour q.1 (colour (if blinked then y else if underlined || false then x else y))
-  ground_colour true underlined q e = subst (λ (r : EightDots × EightDots). AreEightDotsOfColour r.1 (colour y)) (sym e) is_back
-  ground_colour false true q e = subst (λ (r : EightDots × EightDots). AreEightDotsOfColour r.1 (colour x)) (sym e) is_fore
-  ground_colour false false q e = subst (λ (r : EightDots × EightDots). AreEightDotsOfColour r.1 (colour y)) (sym e) is_back
+pub ground_colour : (dots : EightDots × EightDots) (colour : ℕ → List ℕ) (x y : ℕ) (blinked underlined : Bool)
+    → AreGroundAndChange dots (colour x) (colour y) blinked underlined
+    → AreEightDotsOfColour dots.0 (colour (if blinked then y else if underlined || false then x else y))
+ground_colour dots colour x y true underlined is = is.ground
+ground_colour dots colour x y false true is = is.ground
+ground_colour dots colour x y false false is = is.ground
 
 module _ (h : HostState) (c : CrtcState) (a : AttrState) (cell : Cell) (counter : ℕ) where
   pub by_cursor : (i : ℕ) → is_cursor_at c counter ≡ true → is_foreground h c a (dot_of_counter counter i) cell ≡ true

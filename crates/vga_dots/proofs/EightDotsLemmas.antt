@@ -5,6 +5,7 @@ use Rattle.std.specs.Int.{bit_at}
 use Rattle.std.proofs.lemmas.Bool.{cases_lt, agree_below_at, eqb-true}
 use Rattle.std.proofs.lemmas.Bool.Decides.{nat_tests}
 use Rattle.std.proofs.lemmas.Nat.Bits.{bit_at-zero}
+use Rattle.std.specs.Int.Bits.{xor_zero_r}
 use Rattle.vga_bits.specs.Bits.{is_set}
 use Rattle.vga_bits.specs.Words.{plane_byte_in_word, plane_bit_in_word}
 use Rattle.vga_bits.proofs.BitLemmas.{byte_from_bits, byte_bits, bit_at_shr, bit_at_cut, ones_byte}
@@ -12,7 +13,7 @@ use Rattle.vga_bits.proofs.WordLemmas.{byte_below, word_bit_byte, word_bit_lt, w
 use Rattle.vga_dots.specs.declared.eight_dots.EightDots.{EightDots}
 use Rattle.vga_dots.specs.declared.eight_dots.TheConstants.{FIRST_MASKS, MIDDLE_MASKS, LAST_MASKS}
 use Rattle.vga_dots.specs.Row.{IsDotPut, AreDotsPut}
-use Rattle.vga_dots.specs.EightDots.{AreEightDotsOfColour, AreBytesPut}
+use Rattle.vga_dots.specs.EightDots.{AreEightDotsOfColour, AreBytesPut, changed_dots}
 
 -- ---- what a mask chooses
 
@@ -20,17 +21,16 @@ use Rattle.vga_dots.specs.EightDots.{AreEightDotsOfColour, AreBytesPut}
 abbrev all_or_none : Bool → ℕ
 all_or_none v = if v then 255 else 0
 
-one_chosen : (x y m : ℕ) → x < 2 → y < 2 → m ≡ 1 → (y + min m ((x + y) % 2)) % 2 ≡ x
-one_chosen x y m small few e = grind (arith, nat_tests)
+one_chosen : (x y m : ℕ) → x < 2 → m ≡ 1 → (y + min m x) % 2 ≡ (y + x) % 2
+one_chosen x y m small e = grind (arith, nat_tests)
 
-none_chosen : (x y m : ℕ) → x < 2 → y < 2 → m ≡ 0 → (y + min m ((x + y) % 2)) % 2 ≡ y
-none_chosen x y m small few e = grind (arith, nat_tests)
+none_chosen : (x y m : ℕ) → y < 2 → m ≡ 0 → (y + min m x) % 2 ≡ y
+none_chosen x y m few e = grind (arith, nat_tests)
 
-bit_chosen : (m f b p i : ℕ) → plane_bit_in_word (bit_xor b (bit_and m (bit_xor f b))) p i
-    ≡ (plane_bit_in_word b p i + min (plane_bit_in_word m p i) ((plane_bit_in_word f p i + plane_bit_in_word b p i) % 2)) % 2
-bit_chosen m f b p i =
-    word_bit_xor b (bit_and m (bit_xor f b)) p i
-    ∙ ap (λ n. (plane_bit_in_word b p i + n) % 2) (word_bit_and m (bit_xor f b) p i ∙ ap (min (plane_bit_in_word m p i)) (word_bit_xor f b p i))
+bit_chosen : (m change ground p i : ℕ) → plane_bit_in_word (bit_xor ground (bit_and m change)) p i
+    ≡ (plane_bit_in_word ground p i + min (plane_bit_in_word m p i) (plane_bit_in_word change p i)) % 2
+bit_chosen m change ground p i =
+    word_bit_xor ground (bit_and m change) p i ∙ ap (λ n. (plane_bit_in_word ground p i + n) % 2) (word_bit_and m change p i)
 
 mask_bit : (m p i n : ℕ) → plane_byte_in_word p m ≡ n → i < 8 → plane_bit_in_word m p i ≡ bit_at n i
 mask_bit m p i n e within = word_bit_byte m p i within ∙ ap (λ x. bit_at x i) e
@@ -41,14 +41,41 @@ same_byte x y p same =
     byte_from_bits (plane_byte_in_word p x) (bit_at (plane_byte_in_word p y)) (byte_below p x) (λ i l. sym (word_bit_byte x p i l) ∙ same i l ∙ word_bit_byte y p i l)
     ∙ byte_bits (plane_byte_in_word p y) (byte_below p y)
 
-pub byte_chosen : (m f b p : ℕ) (v : Bool) → plane_byte_in_word p m ≡ all_or_none v
-    → plane_byte_in_word p (bit_xor b (bit_and m (bit_xor f b))) ≡ (if v then plane_byte_in_word p f else plane_byte_in_word p b)
-byte_chosen m f b p true e = same_byte (bit_xor b (bit_and m (bit_xor f b))) f p
-    (λ i l. bit_chosen m f b p i ∙ one_chosen (plane_bit_in_word f p i) (plane_bit_in_word b p i) (plane_bit_in_word m p i) (word_bit_lt f p i) (word_bit_lt b p i)
-    (mask_bit m p i 255 e l ∙ ones_byte i l))
-byte_chosen m f b p false e = same_byte (bit_xor b (bit_and m (bit_xor f b))) b p
-    (λ i l. bit_chosen m f b p i ∙ none_chosen (plane_bit_in_word f p i) (plane_bit_in_word b p i) (plane_bit_in_word m p i) (word_bit_lt f p i) (word_bit_lt b p i)
-    (mask_bit m p i 0 e l ∙ bit_at-zero i))
+pub byte_chosen : (m change ground p : ℕ) (v : Bool) → plane_byte_in_word p m ≡ all_or_none v
+    → plane_byte_in_word p (bit_xor ground (bit_and m change)) ≡ (if v then plane_byte_in_word p (bit_xor ground change) else plane_byte_in_word p ground)
+byte_chosen m change ground p true e = same_byte (bit_xor ground (bit_and m change)) (bit_xor ground change) p
+    (λ i l. bit_chosen m change ground p i
+    ∙ one_chosen (plane_bit_in_word change p i) (plane_bit_in_word ground p i) (plane_bit_in_word m p i) (word_bit_lt change p i) (mask_bit m p i 255 e l ∙ ones_byte i l)
+    ∙ sym (word_bit_xor ground change p i))
+byte_chosen m change ground p false e = same_byte (bit_xor ground (bit_and m change)) ground p
+    (λ i l. bit_chosen m change ground p i
+    ∙ none_chosen (plane_bit_in_word change p i) (plane_bit_in_word ground p i) (plane_bit_in_word m p i) (word_bit_lt ground p i) (mask_bit m p i 0 e l ∙ bit_at-zero i))
+
+-- ---- what changes eight dots into others
+
+-- a bit that is changed by what it differs in is the other
+other_bit : (x y : ℕ) → x < 2 → y < 2 → (x + (x + y) % 2) % 2 ≡ y
+other_bit x y small few = grind (arith, nat_tests)
+
+other_byte : (x y p : ℕ) → plane_byte_in_word p (bit_xor x (bit_xor x y)) ≡ plane_byte_in_word p y
+other_byte x y p = same_byte (bit_xor x (bit_xor x y)) y p
+    (λ i l. word_bit_xor x (bit_xor x y) p i ∙ ap (λ n. (plane_bit_in_word x p i + n) % 2) (word_bit_xor x y p i)
+    ∙ other_bit (plane_bit_in_word x p i) (plane_bit_in_word y p i) (word_bit_lt x p i) (word_bit_lt y p i))
+
+pub changed_to_others : (dots others : EightDots) (c : List ℕ) → AreEightDotsOfColour others c
+    → AreEightDotsOfColour (changed_dots dots (changed_dots dots others)) c
+changed_to_others dots others c is = record {
+  first = λ p l. other_byte dots.first others.first p ∙ is.first p l;
+  middle = λ p l. other_byte dots.middle others.middle p ∙ is.middle p l;
+  last = λ p l. other_byte dots.last others.last p ∙ is.last p l;
+}
+
+pub unchanged : (dots : EightDots) (c : List ℕ) → AreEightDotsOfColour dots c → AreEightDotsOfColour (changed_dots dots (record { first = 0; middle = 0; last = 0 })) c
+unchanged dots c is = record {
+  first = λ p l. ap (plane_byte_in_word p) (xor_zero_r dots.first) ∙ is.first p l;
+  middle = λ p l. ap (plane_byte_in_word p) (xor_zero_r dots.middle) ∙ is.middle p l;
+  last = λ p l. ap (plane_byte_in_word p) (xor_zero_r dots.last) ∙ is.last p l;
+}
 
 -- ---- the masks
 
@@ -164,17 +191,17 @@ eight_put lit at first middle last fore back f b row0 row1 row2 row3 is_fore is_
 }
 
 -- one dot of the colour
-one_byte : (dots : EightDots) (c : List ℕ) (j : ℕ) → j < 3 → AreEightDotsOfColour dots c
-    → slice_index (dots.first % 256 ∷ dots.first / 256 % 256 ∷ dots.first / 65536 % 256 ∷ []) j ≡ slice_index c j
-one_byte dots c zero l is = let e : dots.first % 256 ≡ plane_byte_in_word 0 dots.first = omega arith in e ∙ is.first 0 (omega arith)
-one_byte dots c (suc zero) l is = is.first 1 (omega arith)
-one_byte dots c (suc (suc zero)) l is = is.first 2 (omega arith)
-one_byte dots c (suc (suc (suc j))) l is = absurd (omega arith)
+one_byte : (word : ℕ) (c : List ℕ) (j : ℕ) → j < 3 → ((p : ℕ) → p < 8 → plane_byte_in_word p word ≡ slice_index c (p % 3))
+    → slice_index (word % 256 ∷ word / 256 % 256 ∷ word / 65536 % 256 ∷ []) j ≡ slice_index c j
+one_byte word c zero l is = let e : word % 256 ≡ plane_byte_in_word 0 word = omega arith in e ∙ is 0 (omega arith)
+one_byte word c (suc zero) l is = is 1 (omega arith)
+one_byte word c (suc (suc zero)) l is = is 2 (omega arith)
+one_byte word c (suc (suc (suc j))) l is = absurd (omega arith)
 
-pub one_put : (dots : EightDots) (c : List ℕ) (at : ℕ) (row0 row1 : List ℕ) → AreEightDotsOfColour dots c
-    → IsDotPut row0 row1 at (dots.first % 256 ∷ dots.first / 256 % 256 ∷ dots.first / 65536 % 256 ∷ []) → AreDotsPut 1 at (λ i. c) row0 row1
-one_put dots c at row0 row1 is put = record {
-  inside = λ i j li lj. let place : 3 * (at + i) + j ≡ 3 * at + j = omega arith in ap (slice_index row1) place ∙ put.inside j lj ∙ one_byte dots c j lj is;
+pub one_put : (word : ℕ) (c : List ℕ) (at : ℕ) (row0 row1 : List ℕ) → ((p : ℕ) → p < 8 → plane_byte_in_word p word ≡ slice_index c (p % 3))
+    → IsDotPut row0 row1 at (word % 256 ∷ word / 256 % 256 ∷ word / 65536 % 256 ∷ []) → AreDotsPut 1 at (λ i. c) row0 row1
+one_put word c at row0 row1 is put = record {
+  inside = λ i j li lj. let place : 3 * (at + i) + j ≡ 3 * at + j = omega arith in ap (slice_index row1) place ∙ put.inside j lj ∙ one_byte word c j lj is;
   outside = λ k o. put.outside k (⊎_elim (λ l. inl l) (λ l. inr (omega arith)) o);
 }
 

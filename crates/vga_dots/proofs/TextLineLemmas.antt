@@ -59,9 +59,9 @@ underlining true n = refl
 underlining false n = ne_eqb (bit_and n 0x77) 0xFF (λ e. let most = and_le_r n 0x77 in absurd (omega (arith, e, most)))
 
 -- the block of C0 to DF is the sixth of 32 characters, and none is the eighth
-drawing : (on : Bool) (n : ℕ) → n < 256 → (n / 32 == (if on then 6 else 8)) ≡ (on && nat_le 0xC0 n && nat_le n 0xDF)
+drawing : (on : Bool) (n : ℕ) → n < 256 → (n / 32 * 32 == (if on then 0xC0 else 0x100)) ≡ (on && nat_le 0xC0 n && nat_le n 0xDF)
 drawing true n below = grind (arith, nat_tests)
-drawing false n below = ne_eqb (n / 32) 8 (λ e. absurd (omega (arith, e, below)))
+drawing false n below = ne_eqb (n / 32 * 32) 0x100 (λ e. absurd (omega (arith, e, below)))
 
 lowest : (on : Bool) (row : ℕ) → is_set (if on then row % 2 else 0) 0 ≡ (on && is_set row 0)
 lowest true row = let e : bit_at (row % 2) 0 ≡ bit_at row 0 = omega arith in ap (λ b. b == 1) e
@@ -103,7 +103,7 @@ module _ (h : HostState) (c : CrtcState) (a : AttrState) where
   unfolding text_line
   blinking cell = masked_background (is_blink a) cell.attribute
 
-  graphics : (text_line h c a).nine_dot_block ≡ (if is_line_graphics a then 6 else 8)
+  graphics : (text_line h c a).nine_dot_block ≡ (if is_line_graphics a then 0xC0 else 0x100)
   unfolding text_line
   graphics = refl
 
@@ -131,13 +131,13 @@ module _ (h : HostState) (c : CrtcState) (a : AttrState) (line : TextLineSetting
   pub background_of : (v : ℕ) → v ≡ bit_and (cell.attribute / 16) line.background_mask → v ≡ background a cell
   background_of v e = e ∙ ap (λ (x : TextLineSettings). bit_and (cell.attribute / 16) x.background_mask) is ∙ blinking h c a cell
 
-  pub line_graphics : line.nine_dot_block ≡ (if is_line_graphics a then 6 else 8)
+  pub line_graphics : line.nine_dot_block ≡ (if is_line_graphics a then 0xC0 else 0x100)
   line_graphics = ap (λ (x : TextLineSettings). x.nine_dot_block) is ∙ graphics h c a
 
 -- the ninth dot of a row
-pub ninth_dot : (a : AttrState) (block character row v : ℕ) → character < 256 → block ≡ (if is_line_graphics a then 6 else 8) →
-    v ≡ (if character / 32 == block then row % 2 else 0) → is_set v 0 ≡ is_glyph_dot a character row 8
+pub ninth_dot : (a : AttrState) (block character row v : ℕ) → character < 256 → block ≡ (if is_line_graphics a then 0xC0 else 0x100) →
+    v ≡ (if character / 32 * 32 == block then row % 2 else 0) → is_set v 0 ≡ is_glyph_dot a character row 8
 unfolding is_glyph_dot
-ninth_dot a block character row v below is e = ap (λ n. is_set n 0) (e ∙ ap (λ n. if character / 32 == n then row % 2 else 0) is)
-    ∙ lowest (character / 32 == (if is_line_graphics a then 6 else 8)) row
+ninth_dot a block character row v below is e = ap (λ n. is_set n 0) (e ∙ ap (λ n. if character / 32 * 32 == n then row % 2 else 0) is)
+    ∙ lowest (character / 32 * 32 == (if is_line_graphics a then 0xC0 else 0x100)) row
     ∙ ap (λ b. b && is_set row 0) (drawing (is_line_graphics a) character below)

@@ -13,7 +13,7 @@ use Rattle.vga_dots.specs.Addressing.{addressing_of}
 use Rattle.vga_dots.specs.TextLine.{text_line, GlyphRowsLieInPlane}
 use Rattle.vga_dots.specs.Text.{background, glyph_row, is_blinked_away, is_underlined}
 use Rattle.vga_dots.specs.Line.{colour_by_palette, sixteen_palette_colours}
-use Rattle.vga_dots.specs.EightDots.{AreEightDotsOfColour}
+use Rattle.vga_dots.specs.EightDots.{AreEightDotsOfColour, changed_dots}
 use Rattle.vga_dots.specs.Display.{DisplayState, ShowsText, ShowsPlanes, ShowsBytes}
 
 -- text is shown, and `text` has its addressing and the settings of the beam's line
@@ -37,8 +37,8 @@ cell_of attribute character = record { character = character; attribute = attrib
 
 -- without the cursor, each cell of the attribute has these colours and these glyphs
 pub record IsLookOfItsCells (look : CellLook) (display : DisplayState) : Type 0 where
-  pub glyph : (character : ℕ) → AreEightDotsOfColour look.glyph (colour_by_palette display.attr
-      display.dac
+  pub glyph : (character : ℕ) → AreEightDotsOfColour (changed_dots look.ground look.change)
+      (colour_by_palette display.attr display.dac
       (cursorless_nibble display.crtc display.attr (cell_of look.attribute character) true))
   pub ground : (character : ℕ) → AreEightDotsOfColour look.ground (colour_by_palette display.attr
       display.dac

@@ -16,9 +16,9 @@ use Rattle.vga_dots.specs.Text.{map_start}
 
 -- What the registers and the beam's line and frame say of every character: where this line has the
 -- cursor, which bit of an attribute blinks away, which value of attribute bits 0x77 is underlined
--- here, where the glyphs' rows begin, which block of 32 characters has a ninth dot, and which bits
--- the background has. 65536 is no counter, bits 0x77 are never 0xFF, and no block of 32 characters
--- is 8.
+-- here, where the glyphs' rows begin, at which character a block of 32 with a ninth dot begins, and
+-- which bits the background has. 65536 is no counter, bits 0x77 are never 0xFF, and no block of 32
+-- characters begins at 0x100.
 unfoldable pub text_line : HostState → CrtcState → AttrState → TextLineSettings
 text_line h c a = record {
   cursor = if not (is_cursor_off c.registers) && nat_le (cursor_start c.registers) c.beam.scan
@@ -28,7 +28,7 @@ text_line h c a = record {
   underlined = if is_monochrome a && c.beam.scan == underline_location c.registers then 1 else 0xFF;
   map_a = map_start (character_map_a h) + c.beam.scan;
   map_b = map_start (character_map_b h) + c.beam.scan;
-  nine_dot_block = if is_line_graphics a then 6 else 8;
+  nine_dot_block = if is_line_graphics a then 0xC0 else 0x100;
   background_mask = if is_blink a then 0x07 else 0x0F;
 }
 

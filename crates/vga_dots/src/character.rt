@@ -1,6 +1,6 @@
 //! The characters of a line in text, 16 colours and 256 colours. What a character needs is fetched
 //! once for all its dots.
-ghost use Rattle.std.specs.Prelude.{◌≡◌, true, not, ℕ, ◌+◌, ◌-◌, ◌*◌, ◌==◌, ◌<◌, ◌≤◌, length};
+ghost use Rattle.std.specs.Prelude.{◌≡◌, true, not, ℕ, List, ◌+◌, ◌-◌, ◌*◌, ◌==◌, ◌<◌, ◌≤◌, length};
 ghost use Rattle.std.specs.Prelude.{bit_and};
 ghost use Rattle.std.specs.Prelude.{if◌then◌else◌};
 ghost use Rattle.vga_bits.specs.Bits.{is_set};
@@ -12,15 +12,16 @@ ghost use Rattle.vga_dots.specs.Line.{masked_colour as masked_colour_of};
 ghost use Rattle.vga_dots.specs.Line.{sixteen_palette_colours as colours_by_palette_of};
 ghost use Rattle.vga_dots.specs.Line.{dot_of_counter};
 ghost use Rattle.vga_dots.specs.Line.{colour_of_source_dot};
-ghost use Rattle.vga_dots.specs.TextColours.{AreTextColoursOf};
 ghost use Rattle.vga_dots.specs.SourceDot.{fetch_address};
 ghost use Rattle.vga_dots.specs.Character.{IsLookOfItsCells};
+ghost use Rattle.vga_dots.specs.EightDots.{AreEightDotsOfColour, AreGroundAndChange};
+ghost use Rattle.vga_dots.specs.TextColours.{AreTextColoursOf};
 ghost use Rattle.vga_dots.specs.Display.{ShowsText, ShowsPlanes};
 ghost use Rattle.vga_dots.specs.Alike.{IsCursorlessCell};
 
 use crate::addressing::Addressing;
 use crate::display::Display;
-use crate::eight_dots::{EightDots, put_glyph};
+use crate::eight_dots::{EightDots, NO_CHANGE, put_glyph};
 use crate::row::{PaletteColours, put_packed_character, put_planar_character};
 use crate::text::{Cell, GLYPH_BYTES, PLANE_OF_GLYPHS, cell_at};
 use crate::text_colours::{TextColours, eight_dots_of};
@@ -73,7 +74,7 @@ fn sixteen_palette_colours(attr: &Attr, dac: &Dac) -> PaletteColours
 /// The dots of one line of a glyph, as bits. Bit 8 is the leftmost dot.
 #[inline(always)]
 fn glyph_dots(attr: &Attr, line: &TextLineSettings, character: u8, row: u8) -> u16
-    requires line { line.now.nine_dot_block ≡ (if is_line_graphics attr.now then 6 else 8) }
+    requires line { line.now.nine_dot_block ≡ (if is_line_graphics attr.now then 0xC0 else 0x100) }
     ensures dots { (i : ℕ) → i < 9 → is_set result (8 - i)
         ≡ is_dot_of_glyph attr.now character row i }
     ensures nine { result < 512 }
@@ -81,34 +82,35 @@ fn glyph_dots(attr: &Attr, line: &TextLineSettings, character: u8, row: u8) -> u
     2 * row as u16 + line.ninth_dot(character, row) as u16
 }
 
-/// Which of foreground and background the dots of a glyph have without the cursor, and which the
-/// others.
-fn glyph_and_ground(
+/// Eight dots of the ground of an attribute's cells without the cursor, and the bits in which eight
+/// dots of their glyphs differ from it. If the cells are blinked away, all dots have the background;
+/// if they are underlined, all have the foreground.
+fn ground_and_change(
     line: &TextLineSettings,
     attribute: u8,
     fore: EightDots,
     back: EightDots,
 ) -> (EightDots, EightDots)
-    ensures { result ≡ (if not (bit_and attribute line.now.blinked_away == 0) then (back, back)
-        else if bit_and attribute 0x77 == line.now.underlined then (fore, fore) else (fore, back)) }
+    ensures { (f b : List ℕ) → AreEightDotsOfColour fore f → AreEightDotsOfColour back b
+        → AreGroundAndChange result f b (not (bit_and attribute line.now.blinked_away == 0))
+        (bit_and attribute 0x77 == line.now.underlined) }
 {
     if line.blinks_away(attribute) {
-        (back, back)
+        (back, NO_CHANGE)
     } else if line.underlines(attribute) {
-        (fore, fore)
+        (fore, NO_CHANGE)
     } else {
-        (fore, back)
+        (back, back.changed_bits(fore))
     }
 }
 
-/// How the cells of an attribute look on a line without the cursor: eight dots of the colour of a
-/// glyph's dots, eight of the colour of the others, and where the glyphs are. If the cells are
-/// blinked away or underlined, both colours are the same.
+/// How the cells of an attribute look on a line without the cursor: eight dots of their ground, the
+/// bits in which eight dots of their glyphs differ from it, and where the glyphs are.
 #[derive(Clone, Copy)]
 pub(crate) struct CellLook {
     pub attribute: u8,
-    pub glyph: EightDots,
     pub ground: EightDots,
+    pub change: EightDots,
     /// The address in its plane of the beam's line of the first glyph.
     pub glyphs: u16,
 }
@@ -185,11 +187,11 @@ impl TextCharacters {
     {
         let fore = colours.eight_dots(display, attribute % 16);
         let back = colours.eight_dots(display, self.line.background(attribute));
-        let (glyph, ground) = glyph_and_ground(&self.line, attribute, fore, back);
+        let (ground, change) = ground_and_change(&self.line, attribute, fore, back);
         CellLook {
             attribute,
-            glyph,
             ground,
+            change,
             glyphs: self.line.row_address_of_first_glyph(attribute),
         }
     }
@@ -216,7 +218,7 @@ impl TextCharacters {
             row.new }
     {
         let fore = eight_dots_of(display, cell.attribute % 16);
-        put_glyph::<CW>(row, at, ALL_DOTS, fore, fore);
+        put_glyph::<CW>(row, at, ALL_DOTS, fore, NO_CHANGE);
     }
 
     /// Writes the dots of a counter's character. It has this cell, which looks like this.
@@ -249,7 +251,7 @@ impl TextCharacters {
         let place = look.glyphs + GLYPH_BYTES * cell.character as u16;
         let byte = display.planes().byte(PLANE_OF_GLYPHS, place);
         let dots = glyph_dots(display.attr(), &self.line, cell.character, byte);
-        put_glyph::<CW>(row, at, dots, look.glyph, look.ground);
+        put_glyph::<CW>(row, at, dots, look.ground, look.change);
     }
 }
 

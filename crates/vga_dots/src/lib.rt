@@ -15,6 +15,7 @@ mod source_dot;
 mod text;
 mod text_colours;
 mod text_line;
+mod text_looks;
 
 pub use addressing::is_not_fetched_on_line;
 pub use colour::dot_colour;

@@ -16,7 +16,7 @@ use crate::colour::BLACK;
 use crate::display::Display;
 use crate::row::{copy_dots, fill_characters};
 use crate::source_dot::panning_shift;
-use crate::text_colours::TextColours;
+use crate::text_looks::TextLooks;
 use vga_attr::Attr;
 use vga_crtc::{Crtc, Registers};
 use vga_dac::Dac;
@@ -74,7 +74,7 @@ fn draw_graphics_characters<const CW: usize, C: CharacterDrawing<CW>>(
 
 /// Draws `count` characters of text one by one, from `first` on, as if the line were not panned.
 /// Most of them have the attribute of the one before, so what an attribute decides is looked up
-/// only where it changes. Each colour is looked up once.
+/// only where it changes.
 fn draw_cells<const CW: usize>(
     display: &Display<'_>,
     characters: &TextCharacters,
@@ -91,14 +91,14 @@ fn draw_cells<const CW: usize>(
     ensures { AreCharactersPut CW count (λ x. unpanned_colour display.now (first + x)) row.old
         row.new }
 {
-    let mut colours = TextColours::new();
-    let mut look = characters.look(display, &mut colours, USUAL_ATTRIBUTE);
+    let mut looks = TextLooks::new();
+    let mut look = looks.look(display, characters, USUAL_ATTRIBUTE);
     let start = display.counter(first as u16);
     for x in 0..count {
         let counter = start.wrapping_add(x as u16);
         let cell = characters.cell(display, counter);
         if cell.attribute != look.attribute {
-            look = characters.look(display, &mut colours, cell.attribute);
+            look = looks.look(display, characters, cell.attribute);
         }
         characters.put::<CW>(display, counter, cell, look, row, x * CW);
     }

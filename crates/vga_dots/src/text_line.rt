@@ -25,11 +25,14 @@ const UNDERLINED: u8 = 0x01;
 /// A value that the attribute bits never have.
 const NOT_UNDERLINED: u8 = 0xFF;
 
-/// The block of 32 characters that contains the line-drawing characters, C0 to DF.
-const LINE_DRAWING: u8 = 6;
+/// The first of the 32 line-drawing characters, C0 to DF.
+const LINE_DRAWING: u16 = 0xC0;
 
-/// A number that no block of 32 characters has.
-const NO_BLOCK: u8 = 8;
+/// A number at which no block of 32 characters begins.
+const NO_BLOCK: u16 = 0x100;
+
+/// How many characters a block has.
+const BLOCK: u8 = 32;
 
 /// The bits of a background without its intensity.
 const DARK_BACKGROUNDS: u8 = 0x07;
@@ -54,9 +57,9 @@ pub struct TextLineSettings {
     pub map_a: u16,
     /// The address in its plane of this line of map B's first glyph.
     pub map_b: u16,
-    /// The block of 32 characters whose ninth dot repeats the eighth: 6 for C0 to DF, or 8, which
-    /// no block has.
-    pub nine_dot_block: u8,
+    /// The first of the 32 characters whose ninth dot repeats the eighth: C0, or 100
+    /// (hexadecimal), which no character is.
+    pub nine_dot_block: u16,
     /// Which of attribute bits 7 to 4 belong to the background.
     pub background_mask: u8,
 }
@@ -116,9 +119,10 @@ fn underlined(display: &Display<'_>) -> u8
     }
 }
 
-/// The block of characters whose ninth dot repeats the eighth, or a number that no block has.
-fn nine_dot_block(attr: &Attr) -> u8
-    ensures { result ≡ (if is_line_graphics attr.now then 6 else 8) }
+/// The first of the characters whose ninth dot repeats the eighth, or a number that no character
+/// has.
+fn nine_dot_block(attr: &Attr) -> u16
+    ensures { result ≡ (if is_line_graphics attr.now then 0xC0 else 0x100) }
 {
     if attr.is_line_graphics() {
         LINE_DRAWING
@@ -198,11 +202,11 @@ impl TextLineSettings {
     /// The ninth dot of a row of a character's glyph, 1 where it is lit.
     #[inline(always)]
     pub(crate) fn ninth_dot(&self, character: u8, row: u8) -> u8
-        ensures value { result ≡ (if character / 32 == self.now.nine_dot_block then row % 2
+        ensures value { result ≡ (if character / 32 * 32 == self.now.nine_dot_block then row % 2
             else 0) }
         ensures small { result < 2 }
     {
-        if character / 32 == self.nine_dot_block {
+        if (character / BLOCK * BLOCK) as u16 == self.nine_dot_block {
             row % 2
         } else {
             0

@@ -6,4 +6,4 @@ use Rattle.vga_dots.proofs.EightDotsLemmas.{byte_chosen, last_mask}
 use Rattle.vga_dots.proofs.eight_dots.last_bytes_of_glyph.Goals as goal
 
 pub returns : goal.returns
-returns c = λ p l. byte_chosen (slice_index LAST_MASKS (c.args.lit / 2 ^ 1 % 8)) c.args.fore c.args.back p (is_set c.args.lit (8 - (16 + p) / 3)) (last_mask c.args.lit p l)
+returns c = λ p l. byte_chosen (slice_index LAST_MASKS (c.args.lit / 2 ^ 1 % 8)) c.args.change c.args.ground p (is_set c.args.lit (8 - (16 + p) / 3)) (last_mask c.args.lit p l)

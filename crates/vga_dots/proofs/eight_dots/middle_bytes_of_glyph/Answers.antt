@@ -6,4 +6,4 @@ use Rattle.vga_dots.proofs.EightDotsLemmas.{byte_chosen, middle_mask}
 use Rattle.vga_dots.proofs.eight_dots.middle_bytes_of_glyph.Goals as goal
 
 pub returns : goal.returns
-returns c = λ p l. byte_chosen (slice_index MIDDLE_MASKS (c.args.lit / 2 ^ 3 % 16)) c.args.fore c.args.back p (is_set c.args.lit (8 - (8 + p) / 3)) (middle_mask c.args.lit p l)
+returns c = λ p l. byte_chosen (slice_index MIDDLE_MASKS (c.args.lit / 2 ^ 3 % 16)) c.args.change c.args.ground p (is_set c.args.lit (8 - (8 + p) / 3)) (middle_mask c.args.lit p l)

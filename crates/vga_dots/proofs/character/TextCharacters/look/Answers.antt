@@ -1,10 +1,9 @@
 -- Blinking and underline are those of the line, and so are the glyphs.
-use Rattle.std.proofs.Common.{◌≡◌, ◌∙◌, ◌+◌, ◌*◌, ℕ, arith, ap, refl, subst, sym}
-use Rattle.std.specs.Prelude.{if◌then◌else◌}
+use Rattle.std.proofs.Common.{◌+◌, ◌*◌, ◌==◌, ℕ, Bool, not, bit_and, arith, ap, refl, subst, sym}
 use Rattle.vga_bits.specs.Bits.{is_set, field}
 use Rattle.vga_dots.specs.Text.{background, is_blinked_away, is_underlined}
 use Rattle.vga_dots.specs.Line.{colour_by_palette}
-use Rattle.vga_dots.specs.EightDots.{AreEightDotsOfColour}
+use Rattle.vga_dots.specs.EightDots.{AreEightDotsOfColour, AreGroundAndChange}
 use Rattle.vga_dots.specs.Character.{cell_of}
 use Rattle.vga_dots.proofs.CharacterLemmas.{glyph_colour, ground_colour, low}
 use Rattle.vga_dots.proofs.TextLineLemmas.{background_of, blinked_away, underlined, row_of_glyph, glyphs_bound}
@@ -23,18 +22,22 @@ returns-clause-look c =
     let is_back : (character : ℕ) → AreEightDotsOfColour back (colour (background d.attr (cell_of attribute character))) =
     λ character. subst (λ (n : ℕ). AreEightDotsOfColour back (colour n))
     (background_of d.host d.crtc d.attr line is (cell_of attribute character) _ c.background.ensures.value) c.eight_dots-back.ensures.dots in
-    let pair : (character : ℕ) → c.glyph_and_ground.result ≡ (if is_blinked_away d.crtc d.attr (cell_of attribute character) then (back, back)
-    else if is_underlined d.crtc d.attr (cell_of attribute character) then (fore, fore) else (fore, back)) =
-    λ character. let away = blinked_away d.host d.crtc d.attr line is (cell_of attribute character) _ (omega arith) refl in
-    let under = underlined d.host d.crtc d.attr line is (cell_of attribute character) _ refl in
-    c.glyph_and_ground.ensures ∙ (λ j. if sym away j then (back, back) else if sym under j then (fore, fore) else (fore, back)) in
+    let dots = c.ground_and_change.result in
+    let chosen : (character : ℕ) → AreGroundAndChange dots (colour (field attribute 3 0)) (colour (background d.attr (cell_of attribute character)))
+    (is_blinked_away d.crtc d.attr (cell_of attribute character)) (is_underlined d.crtc d.attr (cell_of attribute character)) =
+    λ character. let cell = cell_of attribute character in
+    let f = colour (field attribute 3 0) in
+    let b = colour (background d.attr cell) in
+    let away = blinked_away d.host d.crtc d.attr line is cell _ (omega arith) refl in
+    let under = underlined d.host d.crtc d.attr line is cell _ refl in
+    subst (λ (v : Bool). AreGroundAndChange dots f b v (is_underlined d.crtc d.attr cell)) (sym away)
+    (subst (λ (v : Bool). AreGroundAndChange dots f b (not (bit_and attribute line.blinked_away == 0)) v) (sym under)
+    (c.ground_and_change.ensures f b is_fore (is_back character))) in
     record {
       glyph = λ character. let cell = cell_of attribute character in
-          glyph_colour fore back colour (field attribute 3 0) (background d.attr cell) is_fore (is_back character)
-          (is_blinked_away d.crtc d.attr cell) (is_underlined d.crtc d.attr cell) _ (pair character);
+          glyph_colour dots colour (field attribute 3 0) (background d.attr cell) (is_blinked_away d.crtc d.attr cell) (is_underlined d.crtc d.attr cell) (chosen character);
       ground = λ character. let cell = cell_of attribute character in
-          ground_colour fore back colour (field attribute 3 0) (background d.attr cell) is_fore (is_back character)
-          (is_blinked_away d.crtc d.attr cell) (is_underlined d.crtc d.attr cell) _ (pair character);
+          ground_colour dots colour (field attribute 3 0) (background d.attr cell) (is_blinked_away d.crtc d.attr cell) (is_underlined d.crtc d.attr cell) (chosen character);
       glyphs = λ character. row_of_glyph d.host d.crtc d.attr line is (cell_of attribute character) _
           (ap (λ (g : ℕ). g + 32 * character) c.row_address_of_first_glyph.ensures);
       bound = glyphs_bound (is_set attribute 3) line.map_a line.map_b _ c.requires.text.glyphs.map_a c.requires.text.glyphs.map_b c.row_address_of_first_glyph.ensures;

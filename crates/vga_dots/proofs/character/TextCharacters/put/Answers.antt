@@ -8,7 +8,7 @@ use Rattle.vga_dots.specs.declared.text.Cell.{Cell}
 use Rattle.vga_dots.specs.Text.{is_glyph_dot, glyph_row, cell_at}
 use Rattle.vga_dots.specs.SourceDot.{fetch_address}
 use Rattle.vga_dots.specs.Line.{colour_by_palette, dot_of_counter, colour_of_source_dot}
-use Rattle.vga_dots.specs.EightDots.{AreEightDotsOfColour}
+use Rattle.vga_dots.specs.EightDots.{AreEightDotsOfColour, changed_dots}
 use Rattle.vga_dots.specs.Character.{cell_of, cursorless_nibble}
 use Rattle.vga_dots.proofs.RowLemmas.{dots_alike}
 use Rattle.vga_dots.proofs.CharacterLemmas.{cursorless_dot}
@@ -25,7 +25,7 @@ glyph_dots-dots-requires g c =
     let d = c.args.display.now in
     record {
       line = line_graphics d.host d.crtc d.attr c.args.self.now.line c.requires.draws.line c.args.cell
-          ∙ ap (λ (x : AttrState). if is_line_graphics x then 6 else 8) (sym c.attr.ensures);
+          ∙ ap (λ (x : AttrState). if is_line_graphics x then 0xC0 else 0x100) (sym c.attr.ensures);
     }
 
 pub returns : goal.returns
@@ -40,7 +40,7 @@ returns g c =
     let whole : cell_of look.attribute cell.character ≡ cell = λ j. cell_of (c.requires.attribute j) cell.character in
     let glyph = colour (cursorless_nibble d.crtc d.attr cell true) in
     let ground = colour (cursorless_nibble d.crtc d.attr cell false) in
-    let is_glyph = subst (λ (x : Cell). AreEightDotsOfColour look.glyph (colour (cursorless_nibble d.crtc d.attr x true))) whole (c.requires.look.glyph cell.character) in
+    let is_glyph = subst (λ (x : Cell). AreEightDotsOfColour (changed_dots look.ground look.change) (colour (cursorless_nibble d.crtc d.attr x true))) whole (c.requires.look.glyph cell.character) in
     let is_ground = subst (λ (x : Cell). AreEightDotsOfColour look.ground (colour (cursorless_nibble d.crtc d.attr x false))) whole (c.requires.look.ground cell.character) in
     let byte : c.byte-byte.result ≡ glyph_row d.host cell scan =
     c.byte-byte.ensures ∙ ap (λ m. byte_at m 2 (look.glyphs + 32 * cell.character)) c.planes.ensures ∙ c.requires.look.glyphs cell.character

@@ -6,6 +6,7 @@ use Rattle.vga_dots.specs.Text.{background, cell_at}
 use Rattle.vga_dots.specs.SourceDot.{fetch_address}
 use Rattle.vga_dots.specs.Line.{colour_by_palette, dot_of_counter, colour_of_source_dot}
 use Rattle.vga_dots.specs.EightDots.{AreEightDotsOfColour}
+use Rattle.vga_dots.proofs.EightDotsLemmas.{unchanged}
 use Rattle.vga_dots.proofs.RowLemmas.{dots_alike}
 use Rattle.vga_dots.proofs.CharacterLemmas.{by_cursor, low, same_either, text_dot}
 use Rattle.vga_dots.proofs.character.TextCharacters.put_cursor.Goals as goal
@@ -19,7 +20,7 @@ returns g c =
     let fore = colour (field c.args.cell.attribute 3 0) in
     let is_fore = subst (λ (m : ℕ). AreEightDotsOfColour c.eight_dots_of-fore.result (colour m)) (low c.args.cell.attribute) c.eight_dots_of-fore.ensures in
     dots_alike g.row.CW c.args.at (λ i. if is_set 0x1FF (8 - i) then fore else fore) (λ i. colour_of_source_dot d (dot_of_counter n i)) c.args.row.now c.put_glyph.new.row
-    (c.put_glyph.ensures fore fore is_fore is_fore)
+    (c.put_glyph.ensures fore fore (unchanged c.eight_dots_of-fore.result fore is_fore) is_fore)
     (λ i l. same_either (is_set 0x1FF (8 - i)) fore
     ∙ text_dot d n fore (colour (background d.attr shown)) true i c.requires.draws.shows (ap (λ (x : Cell). colour (field x.attribute 3 0)) c.requires.cell) refl
     (sym (by_cursor d.host d.crtc d.attr shown n i c.requires.cursor)))
