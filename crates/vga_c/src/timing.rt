@@ -1,11 +1,17 @@
 //! When the frame ends and input status 1 changes next, and how fast dots come.
 ghost use Rattle.std.specs.Prelude.{◌≡◌, ◌≤◌, IfSome, MatchOption};
+ghost use Rattle.vga_card.specs.Card.{CardState};
+ghost use Rattle.vga_card.specs.Clock.{IsRasterTiming};
+ghost use Rattle.vga_card.specs.Dots.{most_dots_of_an_advance};
+ghost use Rattle.vga_run.specs.Step.{after_step};
+ghost use Rattle.vga_script.specs.declared.step.Step.TheVariants.{Advance};
 ghost use Rattle.vga_c.specs.Cards.{OpenCardKeepsMachine, ClosedCardStaysUnchanged, ClosedCardLeavesOutput};
 ghost use Rattle.vga_c.specs.Timing.{never_instead_of_dots, IsTiming, AnswersTiming};
 
-use crate::handle::{Handle, on_open_card};
+use crate::handle::{Handle, on_owing_card};
 use crate::status::DONE;
 use std::alloc::Global;
+use vga_card::RasterTiming;
 use vga_run::machine::Machine;
 
 /// In place of a number of dots: the bit never changes.
@@ -37,11 +43,12 @@ fn dots_or_never(dots: Option<u32>) -> u32
     }
 }
 
-/// The timing of a machine.
-fn timing_of(machine: &Machine) -> Timing
-    ensures { IsTiming machine.now.card result }
+/// The timing, for the caller.
+fn timing_of(clock: RasterTiming) -> Timing
+    requires display { IfSome clock.to_display (λ n. n ≤ 4800000) }
+    requires retrace { IfSome clock.to_retrace (λ n. n ≤ 4800000) }
+    ensures { (card : CardState) → IsRasterTiming card clock → IsTiming card result }
 {
-    let clock = machine.card.clock();
     Timing {
         to_frame: clock.to_frame,
         to_display: dots_or_never(clock.to_display),
@@ -54,6 +61,20 @@ fn timing_of(machine: &Machine) -> Timing
     }
 }
 
+/// The timing of a machine after the dots that are owed. It gives how many are owed from then on.
+#[tactic(auto, unfolding(vga_run::specs::Step::after_step))]
+fn clock(machine: &mut Machine, owed: u32, timing: &mut Timing) -> (u32, u32)
+    requires { owed ≤ most_dots_of_an_advance }
+    ensures after { after_step machine.new (Advance result.0)
+        ≡ after_step machine.old (Advance owed) }
+    ensures timing { IsTiming (after_step machine.old (Advance owed)).card timing.new }
+    ensures status { result.1 ≡ 0 }
+{
+    let (left, clock) = machine.card.clock_with_dots_owed(owed);
+    *timing = timing_of(clock);
+    (left, DONE)
+}
+
 /// Answers when the frame ends and input status 1 changes next, if no register is written until
 /// then.
 #[unsafe(no_mangle)]
@@ -63,8 +84,5 @@ pub extern "C" fn zak_clock(alloc: Global, card: &mut Handle, timing: &mut Timin
     ensures closed { ClosedCardStaysUnchanged card.old card.new result }
     ensures spared { ClosedCardLeavesOutput card.old timing.old timing.new }
 {
-    on_open_card!(alloc, card, machine => {
-        *timing = timing_of(machine);
-        DONE
-    })
+    on_owing_card!(alloc, card, machine, owed => clock(machine, owed, timing))
 }

@@ -1,8 +1,11 @@
 //! What the clock reaches next, and how fast it runs.
 ghost use Rattle.std.specs.Prelude.{◌≡◌, ◌≤◌, IfSome};
+ghost use Rattle.vga_card.specs.Card.{CardState};
 ghost use Rattle.vga_card.specs.Clock.{clock_rate as clock_rate_of, IsRasterTiming};
 
 use crate::card::Card;
+use vga_crtc::Crtc;
+use vga_host::Host;
 
 /// How many dots lead to the end of the frame and to the next changes of input status 1, if no
 /// register is written meanwhile; how many dots a line and a frame have; and how many dots come a
@@ -40,6 +43,28 @@ fn clock_rate(misc: u8) -> u32
     }
 }
 
+/// The timing of every card with these registers.
+pub(crate) fn raster_timing(crtc: &Crtc, host: &Host, misc: u8) -> RasterTiming
+    ensures clock { (card : CardState) → crtc.now ≡ card.crtc → host.now ≡ card.host
+        → misc ≡ card.misc → IsRasterTiming card result }
+    ensures display { IfSome result.to_display (λ n. n ≤ 4800000) }
+    ensures retrace { IfSome result.to_retrace (λ n. n ≤ 4800000) }
+{
+    let width = host.character_width();
+    let line_dots = crtc.fields().characters() as u32 * width as u32;
+    let lines = crtc.fields().lines();
+    RasterTiming {
+        to_frame: crtc.dots_to_frame_end(width),
+        to_display: crtc.dots_to_display_change(width),
+        to_retrace: crtc.dots_to_retrace_change(width),
+        line_dots,
+        frame_dots: line_dots * lines as u32,
+        lines,
+        rate: clock_rate(misc),
+        is_halved: host.is_clock_halved(),
+    }
+}
+
 impl Card {
     /// The dots to the end of the frame and to the next changes of input status 1, and the rate of
     /// the dot clock, by the registers as they are.
@@ -49,18 +74,6 @@ impl Card {
         ensures retrace { IfSome result.to_retrace (λ n. n ≤ 4800000) }
     {
         let regs = self.regs();
-        let width = regs.host.character_width();
-        let line_dots = regs.crtc.fields().characters() as u32 * width as u32;
-        let lines = regs.crtc.fields().lines();
-        RasterTiming {
-            to_frame: regs.crtc.dots_to_frame_end(width),
-            to_display: regs.crtc.dots_to_display_change(width),
-            to_retrace: regs.crtc.dots_to_retrace_change(width),
-            line_dots,
-            frame_dots: line_dots * lines as u32,
-            lines,
-            rate: clock_rate(regs.misc),
-            is_halved: regs.host.is_clock_halved(),
-        }
+        raster_timing(regs.crtc, regs.host, regs.misc)
     }
 }

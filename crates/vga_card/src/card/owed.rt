@@ -1,7 +1,8 @@
 //! Cycles that need not wait for the dots before them: reads of memory and of input status 1, and
-//! writes to memory and to registers that none of the dots sees. Each takes only the dots that it
-//! must, and returns how many are left.
-ghost use Rattle.std.specs.Prelude.{◌≡◌, ◌≤◌, ◌==◌, ◌&&◌, ◌<◌, not, true, ℕ, Some, Ok};
+//! writes to memory and to registers that none of the dots sees. The clock's timing need not wait
+//! either. Each takes only the dots that it must, and returns how many are left.
+ghost use Rattle.std.specs.Prelude.{◌≡◌, ◌≤◌, ◌==◌, ◌&&◌, ◌<◌, not, true, ℕ, Some, Ok, IfSome};
+ghost use Rattle.vga_card.specs.Clock.{IsRasterTiming};
 ghost use Rattle.vga_card.specs.Dots.{character_width, dots};
 ghost use Rattle.vga_card.specs.Port.{port_of};
 ghost use Rattle.vga_card.specs.declared.port.Port.TheVariants.{InputStatus1};
@@ -14,6 +15,7 @@ ghost use Rattle.vga_card.specs.Owed.{DotsSeeSameMemory, IsChangeHiddenFromDots}
 
 use super::Card;
 use super::word_cycles::bytes_of;
+use crate::clock::{RasterTiming, raster_timing};
 use crate::laws::{
     dots_change_only_beam_and_picture, dots_split, hidden_writes_commute_with_dots,
     memory_reads_commute_with_dots, status_reads_commute_with_dots,
@@ -210,6 +212,58 @@ impl Card {
             return (n, Ok(self.read_status_with_dots_owed(n)));
         }
         self.take_lines_and_inp_with_dots_owed(n, port)
+    }
+
+    /// The timing as it is n dots on, within the beam's line.
+    fn clock_after_dots(&self, n: u32) -> RasterTiming
+        requires some { 0 < n }
+        requires inside { IsWithinItsLine (character_width self.now) self.now.crtc.registers
+            self.now.crtc.beam }
+        requires few { n ≤ dots_to_line_end (character_width self.now) self.now.crtc.registers
+            self.now.crtc.beam }
+        requires at_most { n ≤ 2340 }
+        ensures clock { IsRasterTiming (dots n self.now) result }
+        ensures display { IfSome result.to_display (λ d. d ≤ 4800000) }
+        ensures retrace { IfSome result.to_retrace (λ d. d ≤ 4800000) }
+    {
+        dots_change_only_beam_and_picture();
+        let crtc = self.crtc.after_dots(self.host.character_width(), n);
+        raster_timing(&crtc, &self.host, self.misc)
+    }
+
+    /// The timing as it is n dots on. It takes the whole lines among these dots first. It returns
+    /// how many dots remain to be taken.
+    #[inline(never)]
+    fn take_lines_and_clock_with_dots_owed(&mut self, n: u32) -> (u32, RasterTiming)
+        ensures left { result.0 ≤ n }
+        ensures dots { dots result.0 self.new ≡ dots n self.old }
+        ensures clock { IsRasterTiming (dots n self.old) result.1 }
+        ensures display { IfSome result.1.to_display (λ d. d ≤ 4800000) }
+        ensures retrace { IfSome result.1.to_retrace (λ d. d ≤ 4800000) }
+    {
+        dots_split();
+        let left = self.take_to_last_line_start(n);
+        if left > 0 && self.are_next_dots_within_line(left) {
+            return (left, self.clock_after_dots(left));
+        }
+        self.take_dots(left);
+        (0, self.clock())
+    }
+
+    /// The timing as it is n dots on. It returns how many of these dots remain to be taken.
+    pub fn clock_with_dots_owed(&mut self, n: u32) -> (u32, RasterTiming)
+        ensures left { result.0 ≤ n }
+        ensures dots { dots result.0 self.new ≡ dots n self.old }
+        ensures clock { IsRasterTiming (dots n self.old) result.1 }
+        ensures display { IfSome result.1.to_display (λ d. d ≤ 4800000) }
+        ensures retrace { IfSome result.1.to_retrace (λ d. d ≤ 4800000) }
+    {
+        dots_split();
+        if n == 0 {
+            (0, self.clock())
+        } else {
+            self.take_lines_and_clock_with_dots_owed(n)
+        }
     }
 
     /// Reads a byte from an address n dots on. All these dots remain to be taken after the read,

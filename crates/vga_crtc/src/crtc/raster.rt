@@ -114,4 +114,23 @@ impl Crtc {
     {
         self.beam.step_dots(&self.registers, cw, n);
     }
+
+    /// The CRT controller as it is `n` dots later: at least one, and at most those that lead to the
+    /// next line. A character is `cw` dots wide, 8 or 9.
+    pub fn after_dots(&self, cw: u8, n: u32) -> Crtc
+        requires width { (cw ≡ 8) ⊎ (cw ≡ 9) }
+        requires inside { IsWithinItsLine cw self.now.registers self.now.beam }
+        requires some { 0 < n }
+        requires few { n ≤ dots_to_line_end cw self.now.registers self.now.beam }
+        requires at_most { n ≤ 2340 }
+        ensures { result ≡ after_dots self.now cw n }
+    {
+        let mut crtc = Crtc {
+            registers: self.registers.copied(),
+            index: self.index,
+            beam: self.beam,
+        };
+        crtc.step_dots(cw, n);
+        crtc
+    }
 }
