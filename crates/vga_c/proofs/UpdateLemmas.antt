@@ -1,9 +1,7 @@
 -- Rows that have changed, and rows that have not.
-use Rattle.std.proofs.Common.{◌≡◌, ◌+◌, ◌-◌, ◌*◌, ◌<◌, ◌≤◌, ◌∙◌, ℕ, List, sym, subst, arith}
-use Rattle.std.specs.Prelude.{slice_index}
+use Rattle.std.proofs.Common.{◌≡◌, ◌+◌, ◌-◌, ◌<◌, ◌≤◌, ◌∙◌, ℕ, List, sym, subst, arith}
 use Rattle.vga_c.specs.Forms.{AreRowsOfWords}
 use Rattle.vga_c.specs.Updates.{IsRowOfWords, IsRowKept, AreChangedRows}
-use Rattle.vga_c.specs.declared.updates.Rows.{Rows}
 
 module _ (w h p : ℕ) (word : ℕ → ℕ → ℕ) (old new : List ℕ) (written : AreRowsOfWords w h p word old new) where
   kept : (y : ℕ) → y < h → IsRowOfWords w p word old y → IsRowKept w p old new y

@@ -41,13 +41,12 @@ fn has_row_of_words(
     ensures { IsTrue result ↔ ((x : ℕ) → x < count → slice_index pixels.now (at + x)
         ≡ bit_or form.above (rgb_word_of_dot_of bytes.now (first + form.across * x))) }
 {
+    let mut is_same = true;
     for x in 0..count {
-        let dot = first + form.across as usize * x;
-        if pixels[at + x] != form.above | rgb_word_of_dot(bytes, dot) {
-            return false;
-        }
+        let word = form.above | rgb_word_of_dot(bytes, first + form.across as usize * x);
+        is_same &= pixels[at + x] == word;
     }
-    true
+    is_same
 }
 
 /// Whether the caller's words have row y of a picture in a form.
