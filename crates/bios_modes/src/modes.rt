@@ -1,6 +1,6 @@
 //! The mode table: the registers of each mode, its BIOS data, and where its pages lie.
 ghost use Rattle.std.specs.Prelude.{◌≡◌};
-ghost use Rattle.bios_modes.specs.Modes.{mode_row as row_of_position};
+ghost use Rattle.bios_modes.specs.Modes.{mode_row as row_of_mode};
 
 use super::kind::Kind;
 use super::palette::Palette;
@@ -193,7 +193,7 @@ const BYTES_320_BY_200: ModeRow = ModeRow {
 
 /// The row of a mode: 3, 7, 0D, 10, 12 or 13 (hexadecimal). No other mode has one.
 pub fn mode_row(mode: u8) -> Option<ModeRow>
-    ensures { result ≡ row_of_position mode }
+    ensures { result ≡ row_of_mode mode }
 {
     match mode {
         0x03 => Some(COLOUR_TEXT),

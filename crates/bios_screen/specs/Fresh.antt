@@ -8,7 +8,7 @@ use Rattle.bios_modes.specs.declared.palette.Palette.{Palette as DefaultPalette}
 use Rattle.bios_modes.specs.Palette.{palette_entry}
 use Rattle.bios_modes.specs.Kinds.{is_text}
 use Rattle.bios_screen.specs.Listing.{list_by_function}
-use Rattle.bios_screen.specs.Screen.{Cell, Contents, Cells, PackedPixelColours, Layout, Palette, Screen}
+use Rattle.bios_screen.specs.Screen.{Cell, Contents, Cells, Pixels, Layout, Palette, Screen}
 use Rattle.bios_screen.specs.Shown.{text_memory_cells}
 
 -- n cells as a mode set leaves them: blanks with attribute 07
@@ -72,7 +72,7 @@ fresh_text mode row font frame =
 
 -- the fresh screen of graphics: pages of pixels of colour 0
 abbrev pub fresh_pixels : ℕ → ModeRow → ℕ → Screen
-fresh_pixels mode row frame = fresh_screen_with mode row 0 (PackedPixelColours
+fresh_pixels mode row frame = fresh_screen_with mode row 0 (Pixels
     (replicate row.pages (blank_pixels (8 * row.columns * (row.height * (row.last_row + 1)))))) []
     frame
 

@@ -4,13 +4,13 @@ use Rattle.std.specs.Prelude.{[], get_or, slice_index, Option, Some, None}
 use Rattle.bios_modes.specs.Kinds.{is_text}
 use Rattle.bios_services.specs.Cursor.{row_of_position, column_of_position}
 use Rattle.bios_screen.specs.Listing.{list_by_function}
-use Rattle.bios_screen.specs.Screen.{Cell, Contents, Cells, PackedPixelColours, Layout, Screen, cell_of}
+use Rattle.bios_screen.specs.Screen.{Cell, Contents, Cells, Pixels, Layout, Screen, cell_of}
 use Rattle.bios_screen.specs.Screen.{page_start, cursor_position}
 
 -- cell k of text; pixels have none
 abbrev pub text_cell : Contents → ℕ → Option Cell
 text_cell (Cells cells) k = Some (cell_of cells k)
-text_cell (PackedPixelColours pages) k = None
+text_cell (Pixels pages) k = None
 
 -- the cell of a page at a row and a column, if there is one
 abbrev pub cell_at : Screen → ℕ → ℕ → ℕ → Option Cell
@@ -22,7 +22,7 @@ cell_at s page row column =
 -- pixel k of a page; text has none
 abbrev pub page_pixel : Contents → ℕ → ℕ → Option ℕ
 page_pixel (Cells cells) page k = None
-page_pixel (PackedPixelColours pages) page k = Some (slice_index (get_or pages page []) k)
+page_pixel (Pixels pages) page k = Some (slice_index (get_or pages page []) k)
 
 -- the pixel of a page at column x of line y, if there is one
 abbrev pub pixel_at : Screen → ℕ → ℕ → ℕ → Option ℕ
@@ -51,7 +51,7 @@ pixel_count l = 8 * l.columns * (l.height * l.rows)
 -- the contents of a screen in a mode: cells or pixels
 abbrev pub cells_or_pixels_of_mode : ℕ → Layout → List Cell → List ℕ → Contents
 cells_or_pixels_of_mode mode l cells pixels = if is_text mode then Cells cells
-    else PackedPixelColours (cut_pages pixels (pixel_count l) l.pages)
+    else Pixels (cut_pages pixels (pixel_count l) l.pages)
 
 -- the layout fits the numbers of cells and pixels: in text the pages lie one after another within
 -- the cells; in graphics the pages have all the pixels

@@ -11,7 +11,7 @@ Cell = ℕ × ℕ
 -- after line
 pub data Contents : Type 0 where
   Cells : List Cell → Contents
-  PackedPixelColours : List (List ℕ) → Contents
+  Pixels : List (List ℕ) → Contents
 
 -- how the contents are laid out: columns and rows of characters on a page, scan lines of a
 -- character, the number of cells from the beginning of a page to the next, which is 0 for pixels,

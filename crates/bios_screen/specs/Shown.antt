@@ -18,7 +18,7 @@ use Rattle.bios_modes.specs.Kinds.{is_text, is_mode_of_256_colours}
 use Rattle.bios_services.specs.Cursor.{cursor_address, start_address}
 use Rattle.bios_services.specs.Pixels.{pixels_across, pixels_down}
 use Rattle.bios_screen.specs.Listing.{list_by_function}
-use Rattle.bios_screen.specs.Screen.{Cell, Contents, Cells, PackedPixelColours, Layout, Palette, Screen}
+use Rattle.bios_screen.specs.Screen.{Cell, Contents, Cells, Pixels, Layout, Palette, Screen}
 
 -- ---- the test
 
@@ -181,7 +181,7 @@ text_screen row c d =
 -- the screen of pixels of the adapter and the data
 abbrev pub pixel_screen : ModeRow → CardState → BiosData → Screen
 pixel_screen row c d =
-    screen_with_contents row c d 0 (PackedPixelColours (pixel_pages d.mode c.host.memory d.size
+    screen_with_contents row c d 0 (Pixels (pixel_pages d.mode c.host.memory d.size
     (page_pixels d) row.pages)) []
 
 -- the screen of the mode's kind: text or pixels

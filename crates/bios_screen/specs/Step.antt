@@ -35,7 +35,7 @@ use Rattle.bios_services.specs.Cursor.{row_of_position, column_of_position}
 use Rattle.bios_services.specs.Glyphs.{glyph_line, first_character_with_lines}
 use Rattle.bios_screen.specs.Listing.{list_by_function}
 use Rattle.bios_screen.specs.Colours.{with_colours, colours_answer}
-use Rattle.bios_screen.specs.Screen.{Cell, Contents, Cells, PackedPixelColours, Screen, cell_of, page_cells}
+use Rattle.bios_screen.specs.Screen.{Cell, Contents, Cells, Pixels, Screen, cell_of, page_cells}
 use Rattle.bios_screen.specs.Screen.{page_start, cell_number_of_position, cursor_position}
 use Rattle.bios_screen.specs.Screen.{cursor_cell_on_screen}
 
@@ -91,7 +91,7 @@ refusal_on s service len = refuse_or_wrong_block (refusal_on_besides_block s ser
 -- the cells of a screen; pixels have none
 abbrev pub cells_on : Contents → List Cell
 cells_on (Cells cells) = cells
-cells_on (PackedPixelColours pages) = []
+cells_on (Pixels pages) = []
 
 -- cell k of a screen; if there is none, the character 00 in attribute 00
 abbrev pub cell_on : Screen → ℕ → Cell
@@ -100,7 +100,7 @@ cell_on s k = cell_of (cells_on s.contents) k
 -- new cells, each given by its number and all the old ones; pixels stay
 abbrev pub change_cells : ((ℕ → Cell) → ℕ → Cell) → Contents → Contents
 change_cells new (Cells cells) = Cells (list_by_function (new (cell_of cells)) 0 (length cells))
-change_cells new (PackedPixelColours pages) = PackedPixelColours pages
+change_cells new (Pixels pages) = Pixels pages
 
 -- a screen with new cells, each given by its number and all the old ones
 abbrev pub with_cells : Screen → ((ℕ → Cell) → ℕ → Cell) → Screen
@@ -159,7 +159,7 @@ scroll_cells s page w direction n attribute old k =
 -- the pixels of a screen, page after page; text has none
 abbrev pub pages_on : Contents → List (List ℕ)
 pages_on (Cells cells) = []
-pages_on (PackedPixelColours pages) = pages
+pages_on (Pixels pages) = pages
 
 -- pixel k of a page
 abbrev pub pixel_of : Screen → ℕ → ℕ → ℕ
@@ -172,7 +172,7 @@ pixel_number s x y = 8 * s.layout.columns * y + x
 -- new pixels on a page, each given by its number and all the old ones; cells stay
 abbrev pub change_pixels : ℕ → ((ℕ → ℕ) → ℕ → ℕ) → Contents → Contents
 change_pixels page new (Cells cells) = Cells cells
-change_pixels page new (PackedPixelColours pages) = PackedPixelColours (set pages page
+change_pixels page new (Pixels pages) = Pixels (set pages page
     (list_by_function (new (slice_index (get_or pages page []))) 0 (length (get_or pages page []))))
 
 -- a screen with new pixels on a page, each given by its number and all the old ones
@@ -376,7 +376,7 @@ character_at_cursor fonts s page = first_character_with_lines fonts s.layout.hei
 -- 08: a cell of text is answered in AX, and a character of pixels in AL
 abbrev pub cell_answer : Contents → FontSet → Screen → ℕ → Regs → Regs
 cell_answer (Cells cells) fonts s page r = record r { ax = cursor_cell_word s page }
-cell_answer (PackedPixelColours pages) fonts s page r = record r {
+cell_answer (Pixels pages) fonts s page r = record r {
   ax =
       with_low r.ax (character_at_cursor fonts s page);
 }

@@ -119,7 +119,7 @@ fn pixel(planes: &Planes, is_byte: bool, z: u32, k: u32) -> u8
 }
 
 /// Appends the first n pixels of a page that begins at byte z.
-#[tactic(auto, using(crate::proofs::Shows::Reading::refuse_unless_graphics_mode, crate::proofs::Shows::Reading::pixel_pushed))]
+#[tactic(auto, using(crate::proofs::Shows::Reading::no_pixels, crate::proofs::Shows::Reading::pixel_pushed))]
 fn append_pixels_of_page(
     planes: &Planes,
     mode: u8,

@@ -36,7 +36,7 @@ use Rattle.bios_services.specs.Tables.{table_refusal}
 use Rattle.bios_services.specs.Blocks.{FittingBlocksAreAccepted, OtherBlockLengthsAreRefused, block_len}
 use Rattle.bios_services.specs.Service.{CallOutcome, service}
 use Rattle.bios_services.proofs.ReasonLemmas.{neither, holds}
-use Rattle.bios_services.proofs.RefusedLemmas.{no_row, perform_service_in_mode, refusal_of, Ends, call_ends}
+use Rattle.bios_services.proofs.RefusedLemmas.{no_row, refused_in_mode, refusal_of, Ends, call_ends}
 
 -- ---- only a wrong block is refused as one
 
@@ -55,7 +55,7 @@ other_or : (x y : Option Refusal) → IsOther x → IsOther y → IsOther (x or 
 other_or None y hx hy = hy
 other_or (Some why) y hx hy = hx
 
-other_set : (d : BiosData) (why : Option Refusal) → IsOther why → IsOther (perform_service_in_mode d why)
+other_set : (d : BiosData) (why : Option Refusal) → IsOther why → IsOther (refused_in_mode d why)
 other_set d why h = by_test (d.mode == 0)
   where
     by_test : (unset : Bool) → IsOther (if unset then Some NoMode else why)
@@ -184,7 +184,7 @@ call_other (Some (InMode asked)) d len is =
     let fits : len ≡ unwrap_or (service_block_len there) 0 = is ∙ ap (λ size. unwrap_or size 0) (sym (same_block d asked)) in
     other_set d _ (block_other (refusal_in_mode_besides_block there d) (service_block_len there) len (service_other there d) fits)
 
-allowed_set : (d : BiosData) (why : Option Refusal) → perform_service_in_mode d why ≡ None → why ≡ None
+allowed_set : (d : BiosData) (why : Option Refusal) → refused_in_mode d why ≡ None → why ≡ None
 allowed_set d why e = by_test (d.mode == 0) e
   where
     by_test : (unset : Bool) → (if unset then Some NoMode else why) ≡ None → why ≡ None

@@ -63,28 +63,28 @@ gather_more {S} m f i e s t x h now =
     ∙ run_bind m g (λ xs. Done (x ∷ xs)) t
 
 -- the numbers so far, and those that are still to come
-abbrev pub buffer_with_bytes_if_room : {S : Type 0} → List ℕ → S × List ℕ → S × List ℕ
-buffer_with_bytes_if_room prefix r = (r.0, prefix ++ r.1)
+abbrev pub with_prefix : {S : Type 0} → List ℕ → S × List ℕ → S × List ℕ
+with_prefix prefix r = (r.0, prefix ++ r.1)
 
 -- a step of a loop that reads into the elements of a list
 pub next_read : {S : Type 0} (m : BusMeaning S) (f : ℕ → Plan ℕ) (i e : ℕ) (s t : S) (x : ℕ) (into : List ℕ) (r : S × List ℕ) → i < e → i < length into →
-    (t, x) ≡ run m (f i) s → buffer_with_bytes_if_room (take i into) (run m (gather f (e - i) i) s) ≡ r →
-    buffer_with_bytes_if_room (take (i + 1) (set into i x)) (run m (gather f (e - (i + 1)) (i + 1)) t) ≡ r
+    (t, x) ≡ run m (f i) s → with_prefix (take i into) (run m (gather f (e - i) i) s) ≡ r →
+    with_prefix (take (i + 1) (set into i x)) (run m (gather f (e - (i + 1)) (i + 1)) t) ≡ r
 next_read {S} m f i e s t x into r h l now before =
     let rest = run m (gather f (e - (i + 1)) (i + 1)) t in
-    ap (λ xs. buffer_with_bytes_if_room xs rest) (take_more_set into i x l)
+    ap (λ xs. with_prefix xs rest) (take_more_set into i x l)
     ∙ ap (λ xs. let p : S × List ℕ = (rest.0, xs) in p) (append_assoc (take i into) (x ∷ []) rest.1)
-    ∙ ap (buffer_with_bytes_if_room (take i into)) (sym (gather_more m f i e s t x h now))
+    ∙ ap (with_prefix (take i into)) (sym (gather_more m f i e s t x h now))
     ∙ before
 
 -- the end of such a loop: the list is what was read
 pub all_read : {S : Type 0} (m : BusMeaning S) (f : ℕ → Plan ℕ) (i e : ℕ) (s : S) (into : List ℕ) (r : S × List ℕ) → e ≤ i → length into ≡ e →
-    buffer_with_bytes_if_room (take i into) (run m (gather f (e - i) i) s) ≡ r → (s, into) ≡ r
+    with_prefix (take i into) (run m (gather f (e - i) i) s) ≡ r → (s, into) ≡ r
 all_read {S} m f i e s into r h l before =
     let n : e - i ≡ 0 = omega arith in
     let all = take_all i into (omega arith) in
     let same : into ≡ take i into ++ [] = sym (append-nil (take i into) ∙ all) in
-    ap (λ xs. let p : S × List ℕ = (s, xs) in p) same ∙ ap (λ k. buffer_with_bytes_if_room (take i into) (run m (gather f k i) s)) (sym n) ∙ before
+    ap (λ xs. let p : S × List ℕ = (s, xs) in p) same ∙ ap (λ k. with_prefix (take i into) (run m (gather f k i) s)) (sym n) ∙ before
 
 -- a run of writes leaves what their plan leaves
 pub puts_run : {S : Type 0} (m : BusMeaning S) (first : ℕ) (f : ℕ → ℕ) (n i : ℕ) (s : S) →

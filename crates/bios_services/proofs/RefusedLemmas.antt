@@ -35,16 +35,16 @@ no_row why None = Some why
 no_row why (Some row) = None
 
 -- why a call that needs a mode is refused, by its other reason
-abbrev pub perform_service_in_mode : BiosData → Option Refusal → Option Refusal
-perform_service_in_mode d why = if d.mode == 0 then Some NoMode else why
+abbrev pub refused_in_mode : BiosData → Option Refusal → Option Refusal
+refused_in_mode d why = if d.mode == 0 then Some NoMode else why
 
 -- why a call is refused with a block of this length
 abbrev pub refusal_of : Option Call → BiosData → ℕ → Option Refusal
 refusal_of None d len = Some (refusal_of_unknown_call d)
 refusal_of (Some (SetMode mode keeps)) d len = no_row BadMode (mode_row mode)
-refusal_of (Some (ReadTable asked)) d len = perform_service_in_mode d (table_refusal asked)
-refusal_of (Some (LoadGlyphs load)) d len = perform_service_in_mode d (load_refusal load d.mode len or no_row BadHeight (mode_row_at_height d.mode load.height))
-refusal_of (Some (InMode asked)) d len = perform_service_in_mode d (refusal_in_mode (service_with_page_or_0_if_only_one d asked) d len)
+refusal_of (Some (ReadTable asked)) d len = refused_in_mode d (table_refusal asked)
+refusal_of (Some (LoadGlyphs load)) d len = refused_in_mode d (load_refusal load d.mode len or no_row BadHeight (mode_row_at_height d.mode load.height))
+refusal_of (Some (InMode asked)) d len = refused_in_mode d (refusal_in_mode (service_with_page_or_0_if_only_one d asked) d len)
 
 -- how a call ends: with a reason, it is refused and nothing has changed; without one, it answers
 abbrev pub Ends : {S : Type 0} → Option Refusal → S → BiosData → S × CallOutcome → Type 0

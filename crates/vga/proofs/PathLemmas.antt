@@ -487,15 +487,15 @@ request_passes program request count sound =
 pub names_paths : (words : List Text) (result : Result Job Failure) → JobAnswers words result → WordsGiveJobOfRequest words result
 names_paths words result answer program request count are plain is =
     let sound : IsSound request count = (plain, is) in
-    go_to_next_dot result (subst (λ (ws : List Text). JobAnswers ws result) are answer) (request_asked program request count sound)
+    go_on result (subst (λ (ws : List Text). JobAnswers ws result) are answer) (request_asked program request count sound)
     (request_counts program request count sound)
     (request_passes program request count sound)
   where
-    go_to_next_dot : (r : Result Job Failure) → JobAnswers (program ∷ request_words_with_limit_word request count) r → request_of_words (program ∷ request_words_with_limit_word request count) ≡ Some request
+    go_on : (r : Result Job Failure) → JobAnswers (program ∷ request_words_with_limit_word request count) r → request_of_words (program ∷ request_words_with_limit_word request count) ≡ Some request
         → has_bad_limit_word (program ∷ request_words_with_limit_word request count) ≡ false → fault_of command_line (program ∷ request_words_with_limit_word request count) ≡ []
         → MatchResult r (λ job. request_of job ≡ request) (λ failure. failure ≡ Fault OutOfMemory)
-    go_to_next_dot (Ok job) answer asks counts passes = let same : Some (request_of job) ≡ Some request = sym answer.2 ∙ asks in cc
-    go_to_next_dot (Err (Words (Refused error))) (usable, inl among) asks counts passes = absurd (subst (IsAmong (kind_of error)) passes among)
-    go_to_next_dot (Err (Words (Refused error))) (usable, inr (pass, bad, kind)) asks counts passes = let both : false ≡ true = sym counts ∙ bad in cc
-    go_to_next_dot (Err (Words Missing)) answer asks counts passes = let bad : Some request ≡ None = sym asks ∙ answer.2 in cc
-    go_to_next_dot (Err (Fault fault)) answer asks counts passes = ap Fault answer
+    go_on (Ok job) answer asks counts passes = let same : Some (request_of job) ≡ Some request = sym answer.2 ∙ asks in cc
+    go_on (Err (Words (Refused error))) (usable, inl among) asks counts passes = absurd (subst (IsAmong (kind_of error)) passes among)
+    go_on (Err (Words (Refused error))) (usable, inr (pass, bad, kind)) asks counts passes = let both : false ≡ true = sym counts ∙ bad in cc
+    go_on (Err (Words Missing)) answer asks counts passes = let bad : Some request ≡ None = sym asks ∙ answer.2 in cc
+    go_on (Err (Fault fault)) answer asks counts passes = ap Fault answer

@@ -7,7 +7,7 @@ use Rattle.vga_bits.specs.declared.fault.Fault.TheVariants.{FontSize, BadMagic, 
 use Rattle.vga_bits.specs.declared.fault.Fault.TheVariants.{TooMany}
 use Rattle.vga_script.specs.Item.{ScriptItems, expanded}
 use Rattle.vga_script.specs.Decoding.{IsFault, IsSpellingFault}
-use Rattle.vga_script.specs.Input.{IsInput, IsReadingFault}
+use Rattle.vga_script.specs.Input.{IsInput, FaultStopsReading}
 use Rattle.vga_script.specs.Printing.{printed_script}
 use Rattle.vga_script.specs.Script.{IsScript, IsTextFault}
 use Rattle.vga_script.specs.Spelling.{Spells, encoding}
@@ -19,7 +19,7 @@ use Rattle.vga.specs.Scripts.{AssembleAnswers, FindsScriptOfText, DisassembleAns
 -- ---- a text
 
 -- a text that is not read
-pub unread_text : (input : Option (List ℕ)) (f : Fault) → IsReadingFault input f → FindsScriptOfText input (Err f)
+pub unread_text : (input : Option (List ℕ)) (f : Fault) → FaultStopsReading input f → FindsScriptOfText input (Err f)
 unread_text input f (inl is) = subst (λ (x : Fault). FindsScriptOfText input (Err x)) (sym is) tt
 unread_text input f (inr (inl (is, long))) = subst (λ (x : Fault). FindsScriptOfText input (Err x)) (sym is) (inl long)
 unread_text input f (inr (inr is)) = subst (λ (x : Fault). FindsScriptOfText input (Err x)) (sym is) tt
@@ -76,7 +76,7 @@ script_stops until fonts input before after script found stops = (script, found,
 -- ---- a script in bytes
 
 -- bytes that are not read
-pub unread_script : (input before after : Option (List ℕ)) (f : Fault) → IsReadingFault input f → DisassembleAnswers input before after (Err f)
+pub unread_script : (input before after : Option (List ℕ)) (f : Fault) → FaultStopsReading input f → DisassembleAnswers input before after (Err f)
 unread_script input before after f (inl is) = subst (λ (x : Fault). DisassembleAnswers input before after (Err x)) (sym is) tt
 unread_script input before after f (inr (inl (is, long))) = subst (λ (x : Fault). DisassembleAnswers input before after (Err x)) (sym is) long
 unread_script input before after f (inr (inr is)) = subst (λ (x : Fault). DisassembleAnswers input before after (Err x)) (sym is) tt

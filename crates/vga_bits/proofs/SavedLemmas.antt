@@ -12,9 +12,9 @@ stays_later xs ys at n end later same =
     ap (λ (k : ℕ). drop k xs) later ∙ sym (drop-drop n at xs) ∙ ap (drop n) same ∙ drop-drop n at ys ∙ ap (λ (k : ℕ). drop k ys) (sym later)
 
 -- what was put after something else
-pub put_with_dots_owed : {old mid new : List ℕ} {at next end : ℕ} {xs ys : List ℕ} → IsPut old mid at next xs → IsPut mid new next end ys
+pub put_behind : {old mid new : List ℕ} {at next end : ℕ} {xs ys : List ℕ} → IsPut old mid at next xs → IsPut mid new next end ys
     → IsPut old new at end (xs ++ ys)
-put_with_dots_owed {old} {mid} {new} {at} {next} {end} {xs} {ys} a b = record {
+put_behind {old} {mid} {new} {at} {next} {end} {xs} {ys} a b = record {
   end = omega (arith, a.end, b.end, length-append xs ys);
   prefix = b.prefix ∙ ap (λ (l : List ℕ). l ++ ys) a.prefix ∙ append_assoc (take at old) xs ys;
   back = b.back ∙ stays_later mid old next (length ys) end b.end a.back;
@@ -93,7 +93,7 @@ pub put_word_more : {old mid new : List ℕ} {at next end : ℕ} (ws : List ℕ)
     → IsPut old mid at next (flat_map word_bytes (take k ws)) → IsPut mid new next end (word_bytes w)
     → IsPut old new at end (flat_map word_bytes (take (k + 1) ws))
 put_word_more {old} {mid} {new} {at} {next} {end} ws k w within value before last =
-    let joined = put_with_dots_owed before last in
+    let joined = put_behind before last in
     let e : flat_map word_bytes (take k ws) ++ word_bytes w ≡ flat_map word_bytes (take (k + 1) ws) =
     flat_map_more word_bytes [] (take k ws) w ∙ ap (λ (x : ℕ). flat_map word_bytes (take k ws ++ x ∷ [])) value
     ∙ ap (flat_map word_bytes) (sym (take_more ws k 0 within)) in

@@ -1,5 +1,5 @@
 -- States of a fixed length: the state, zeros, and a checksum of both.
-use Rattle.std.specs.Prelude.{◌≡◌, ◌+◌, ◌-◌, ◌*◌, ◌%◌, ◌<◌, ◌≤◌, ◌++◌, ℕ, true, List, [], ◌∷◌, length}
+use Rattle.std.specs.Prelude.{◌≡◌, ◌+◌, ◌-◌, ◌<◌, ◌≤◌, ◌++◌, ℕ, true, List, length}
 use Rattle.std.specs.Prelude.{take, min, nat_lt, if◌then◌else◌}
 use Rattle.vga_bits.specs.Bytes.{zeros}
 use Rattle.vga_run.specs.declared.machine.Machine.{Machine}

@@ -24,8 +24,8 @@ pub record StepsOutput : Type 0 where
   pub place : ℕ
 
 -- an output with these contents
-abbrev pub steps_output : List ℕ → ℕ → ℕ → ℕ → StepsOutput
-steps_output report len taken place =
+abbrev pub steps_output_from_parts : List ℕ → ℕ → ℕ → ℕ → StepsOutput
+steps_output_from_parts report len taken place =
     record { report = report; len = len; taken = taken; place = place }
 
 -- the steps that are taken: the first ones are skipped, and then at most `most` are taken
@@ -61,7 +61,7 @@ TakesStepsOfScript script first most old new before after status = (length scrip
 abbrev pub IsScriptRefused : List ℕ → Machine → Machine → StepsOutput → StepsOutput → ℕ → Type 0
 IsScriptRefused script old new before after status = (why : Fault) × IsFault script why × (new ≡ old)
     × (status ≡ fault_status why)
-    × (after ≡ steps_output before.report before.len before.taken (fault_place why before.place))
+    × (after ≡ steps_output_from_parts before.report before.len before.taken (fault_place why before.place))
 
 -- the bytes spell a script, and some of its steps are taken; or they spell none, and the caller
 -- learns the first fault

@@ -3,7 +3,7 @@ ghost use Rattle.std.specs.Prelude.{◌≡◌, ◌+◌, ◌<◌, ◌≤◌, ◌^
 ghost use Rattle.bios_modes.specs.Valid.{IsValid};
 ghost use Rattle.vga_c.specs.Cards.{ClosedCardStaysUnchanged, ClosedCardLeavesOutput};
 ghost use Rattle.vga_c.specs.Services.{InvalidBiosDataChangeNothing, InvalidBiosDataChangeNoCard};
-ghost use Rattle.vga_c.specs.Steps.{AreStepsTakenOrAllocationFails, IsScriptRunOrRefused, OpenCardRunsScript, steps_output};
+ghost use Rattle.vga_c.specs.Steps.{AreStepsTakenOrAllocationFails, IsScriptRunOrRefused, OpenCardRunsScript, steps_output_from_parts};
 
 use crate::buffer::write_bytes_if_room_and_their_count;
 use crate::handle::{Handle, on_open_card};
@@ -29,7 +29,7 @@ fn take_steps(
     requires valid { IsValid machine.old.bda }
     requires numbers { number + length steps < 2 ^ 64 }
     ensures taken { (place : ℕ) → AreStepsTakenOrAllocationFails (take most steps.entry) number machine.old
-        machine.new (steps_output out.old len.old taken.old place) (steps_output out.new len.new
+        machine.new (steps_output_from_parts out.old len.old taken.old place) (steps_output_from_parts out.new len.new
         taken.new place)
         result }
     ensures valid { IsValid machine.new.bda }
@@ -59,7 +59,7 @@ fn run_with_valid_bios_data(
 ) -> u32
     requires { IsValid machine.old.bda }
     ensures run { IsScriptRunOrRefused script.now first most machine.old machine.new
-        (steps_output out.old len.old taken.old place.old) (steps_output out.new len.new taken.new
+        (steps_output_from_parts out.old len.old taken.old place.old) (steps_output_from_parts out.new len.new taken.new
         place.new)
         result }
     ensures valid { IsValid machine.new.bda }
@@ -97,13 +97,13 @@ fn run(
     place: &mut usize,
 ) -> u32
     ensures run { IsValid machine.old.bda → IsScriptRunOrRefused script.now first most machine.old machine.new
-        (steps_output out.old len.old taken.old place.old) (steps_output out.new len.new taken.new
+        (steps_output_from_parts out.old len.old taken.old place.old) (steps_output_from_parts out.new len.new taken.new
         place.new)
         result }
     ensures valid { IsValid machine.old.bda → IsValid machine.new.bda }
-    ensures bad { InvalidBiosDataChangeNothing machine.old machine.new (steps_output out.old len.old
+    ensures bad { InvalidBiosDataChangeNothing machine.old machine.new (steps_output_from_parts out.old len.old
         taken.old place.old)
-        (steps_output out.new len.new taken.new place.new) result }
+        (steps_output_from_parts out.new len.new taken.new place.new) result }
 {
     if !machine.bda.valid() {
         return BAD_CARD;
@@ -126,14 +126,14 @@ pub extern "C" fn zak_run_on(
     place: &mut usize,
 ) -> u32
     ensures run { OpenCardRunsScript script.now first most card.old card.new
-        (steps_output out.old len.old taken.old place.old) (steps_output out.new len.new taken.new
+        (steps_output_from_parts out.old len.old taken.old place.old) (steps_output_from_parts out.new len.new taken.new
         place.new)
         result }
-    ensures bad { InvalidBiosDataChangeNoCard card.old card.new (steps_output out.old len.old taken.old place.old)
-        (steps_output out.new len.new taken.new place.new) result }
+    ensures bad { InvalidBiosDataChangeNoCard card.old card.new (steps_output_from_parts out.old len.old taken.old place.old)
+        (steps_output_from_parts out.new len.new taken.new place.new) result }
     ensures closed { ClosedCardStaysUnchanged card.old card.new result }
-    ensures spared { ClosedCardLeavesOutput card.old (steps_output out.old len.old taken.old place.old)
-        (steps_output out.new len.new taken.new place.new) }
+    ensures spared { ClosedCardLeavesOutput card.old (steps_output_from_parts out.old len.old taken.old place.old)
+        (steps_output_from_parts out.new len.new taken.new place.new) }
 {
     on_open_card!(alloc, card, machine => {
         run(alloc, machine, script, first, most, out, len, taken, place)

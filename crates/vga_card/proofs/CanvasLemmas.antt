@@ -112,8 +112,8 @@ width_before capacity buffer ws line v n is room =
     (cases_eq v line)
 
 -- the memory of a canvas has room for the bytes of n dots more
-pub bytes_are_below_256 : (capacity : ℕ) (buffer ws : List ℕ) (line v n : ℕ) → IsCanvas capacity buffer ws line → HasRoom ws line v n → length buffer + 3 * n ≤ capacity
-bytes_are_below_256 capacity buffer ws line v n is room =
+pub bytes_fit : (capacity : ℕ) (buffer ws : List ℕ) (line v n : ℕ) → IsCanvas capacity buffer ws line → HasRoom ws line v n → length buffer + 3 * n ≤ capacity
+bytes_fit capacity buffer ws line v n is room =
     let before = width_before capacity buffer ws line v n is room in
     omega (arith, before.0, before.1, room.inside, is.counted, is.room)
 

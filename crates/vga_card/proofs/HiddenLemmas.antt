@@ -1,6 +1,6 @@
 -- Writes to registers that no dot sees need not wait for dots.
-use Rattle.std.proofs.Common.{◌≡◌, ℕ, zero, suc, ◌+◌, ◌/◌, ◌%◌, ◌==◌, ◌&&◌, arith, refl, sym, ap, ◌∙◌, Bool, true, false, List, [], ◌∷◌, ◌++◌, Option, None, Some, Result, Ok, Err, if◌then◌else◌}
-use Rattle.std.specs.Prelude.{slice_index, slice_set, bit_and, not}
+use Rattle.std.proofs.Common.{◌≡◌, ℕ, zero, suc, ◌+◌, ◌/◌, ◌%◌, ◌==◌, ◌&&◌, arith, refl, sym, ap, ◌∙◌, Bool, true, false, [], ◌∷◌, ◌++◌, Option, None, Some, Result, Ok, Err, if◌then◌else◌}
+use Rattle.std.specs.Prelude.{slice_set, bit_and, not}
 use Rattle.std.proofs.lemmas.List.{get_or-set_other}
 use Rattle.std.proofs.lemmas.Bool.Decides.{nat_tests}
 use Rattle.vga_bits.specs.declared.refusal.Refusal.{Refusal}
@@ -21,15 +21,14 @@ use Rattle.vga_card.specs.declared.port.Port.{Port}
 use Rattle.vga_card.specs.declared.port.Port.TheVariants.{Attribute, AttributeRegister, MiscellaneousWrite, SubsystemEnable, SequencerIndex, SequencerData, DacMask}
 use Rattle.vga_card.specs.declared.port.Port.TheVariants.{DacReadIndex, DacWriteIndex, DacData, FeatureControl, MiscellaneousRead, GraphicsIndex, GraphicsData}
 use Rattle.vga_card.specs.declared.port.Port.TheVariants.{CrtcIndex, CrtcData, InputStatus1}
-use Rattle.vga_card.specs.Picture.{Dot}
 use Rattle.vga_card.specs.Card.{CardState}
 use Rattle.vga_card.specs.Adapter.{CardStateWithoutBeamAndDots, without_beam_and_dots, with_adapter}
 use Rattle.vga_card.specs.Port.{port_of, crtc_port_of}
 use Rattle.vga_card.specs.Cycles.{WriteResult, card_after_write, unless_refused, out_reached, out_byte, out_cycle}
 use Rattle.vga_card.specs.WordCycles.{adapter_after_write, both_writes_or_neither, after_two_byte_writes, unless_at_last_place, out_word_cycle}
-use Rattle.vga_card.specs.Dots.{character_width, dots_of_frame_so_far, display_dot, dot, dots}
+use Rattle.vga_card.specs.Dots.{dots_of_frame_so_far, display_dot, dot, dots}
 use Rattle.vga_card.specs.Owed.{IsChangeHiddenFromDots}
-use Rattle.vga_card.proofs.FrameLemmas.{dots_host, dots_change_only_beam_and_picture}
+use Rattle.vga_card.proofs.FrameLemmas.{dots_change_only_beam_and_picture}
 
 -- ---- dots over a host path that they see alike
 

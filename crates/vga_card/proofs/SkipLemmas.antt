@@ -1,5 +1,5 @@
 -- Frames that are skipped.
-use Rattle.std.proofs.Common.{◌≡◌, ℕ, ◌+◌, ◌-◌, ◌<◌, ◌≤◌, sym, ap, ◌∙◌, arith, Bool, true, List, [], if◌then◌else◌}
+use Rattle.std.proofs.Common.{◌≡◌, ℕ, ◌-◌, ◌<◌, sym, ap, ◌∙◌, arith, Bool, true, List, [], if◌then◌else◌}
 use Rattle.vga_crtc.specs.Crtc.{CrtcState}
 use Rattle.vga_crtc.specs.Beam.{is_first_dot_of_frame, after_dots}
 use Rattle.vga_card.specs.Picture.{Dot}

@@ -7,7 +7,7 @@ use Rattle.vga_host.specs.Memory.Write.{after_put}
 use Rattle.vga_card.specs.Card.{CardState}
 use Rattle.vga_card.specs.Adapter.{CardStateWithoutBeamAndDots, without_beam_and_dots, with_adapter}
 use Rattle.vga_card.specs.Cycles.{WriteResult, card_after_write, put_byte, put_cycle, if_decoded}
-use Rattle.vga_card.specs.WordCycles.{adapter_after_write, both_writes_or_neither, after_two_byte_writes, unless_at_last_place, put_word_cycle}
+use Rattle.vga_card.specs.WordCycles.{adapter_after_write, both_writes_or_neither, after_two_byte_writes, put_word_cycle}
 
 pub both_hold : (a b : Bool) → (a && b) ≡ true → (a ≡ true) × (b ≡ true)
 both_hold true b both = (refl, both)

@@ -58,10 +58,10 @@ is_outside s e v test = ⊎_elim (λ (below : v < s). inl below)
 abbrev retrace_end : List ℕ → ℕ
 retrace_end r = vertical_retrace_start r + retrace_lines r
 
-abbrev IsOutsideRepeat : List ℕ → Beam → Type 0
-IsOutsideRepeat r c = (c.line < vertical_retrace_start r) ⊎ (retrace_end r ≤ c.line)
+abbrev IsOutside : List ℕ → Beam → Type 0
+IsOutside r c = (c.line < vertical_retrace_start r) ⊎ (retrace_end r ≤ c.line)
 
-outside_test : (r : List ℕ) (c : Beam) → IsOutsideRepeat r c → is_retrace r c ≡ false
+outside_test : (r : List ℕ) (c : Beam) → IsOutside r c → is_retrace r c ≡ false
 outside_test r c = ⊎_elim (before_retrace (vertical_retrace_start r) (retrace_end r) c.line) (past_retrace (vertical_retrace_start r) (retrace_end r) c.line)
 
 some_retrace : (r : List ℕ) → 0 < retrace_lines r
@@ -72,7 +72,7 @@ pub retrace_begins : (cw : ℕ) (r : List ℕ) (b : Beam) → 0 < cw → is_retr
     ChangesAfter (is_retrace r) cw r b (dots_to_line cw r (vertical_retrace_start r) b)
 retrace_begins cw r b wide test inside =
     let s = vertical_retrace_start r in
-    changes_at_line (is_retrace r) false (IsOutsideRepeat r) cw r s wide inside
+    changes_at_line (is_retrace r) false (IsOutside r) cw r s wide inside
     (λ b c known leads. ⊎_elim
     (λ (to : ToDot cw b c). inr (subst (λ v. (v < s) ⊎ (retrace_end r ≤ v)) (sym to.at.line) known))
     (⊎_elim
@@ -101,7 +101,7 @@ pub retrace_never_begins : (cw : ℕ) (r : List ℕ) (b : Beam) → is_retrace r
     NeverChanges (is_retrace r) cw r b
 retrace_never_begins cw r b test none =
     let s = vertical_retrace_start r in
-    never (is_retrace r) false (IsOutsideRepeat r) cw r
+    never (is_retrace r) false (IsOutside r) cw r
     (λ b c known leads. ⊎_elim
     (λ (to : ToDot cw b c). subst (λ v. (v < s) ⊎ (retrace_end r ≤ v)) (sym to.at.line) known)
     (⊎_elim
@@ -113,19 +113,19 @@ retrace_never_begins cw r b test none =
     (outside_test r) b (is_outside s (retrace_end r) b.line test)
 
 -- the beam is within the retrace
-record IsInsideRepeat (r : List ℕ) (c : Beam) : Type 0 where
+record IsInside (r : List ℕ) (c : Beam) : Type 0 where
   from : vertical_retrace_start r ≤ c.line
   to : c.line < retrace_end r
 
-inside_test : (r : List ℕ) (c : Beam) → IsInsideRepeat r c → is_retrace r c ≡ true
+inside_test : (r : List ℕ) (c : Beam) → IsInside r c → is_retrace r c ≡ true
 inside_test r c at = within_retrace (vertical_retrace_start r) (retrace_end r) c.line at.from at.to
 
-inside_of : (r : List ℕ) (c : Beam) → is_retrace r c ≡ true → IsInsideRepeat r c
+inside_of : (r : List ℕ) (c : Beam) → is_retrace r c ≡ true → IsInside r c
 inside_of r c test =
     let both = is_within (vertical_retrace_start r) (retrace_end r) c.line test in
     record { from = both.0; to = both.1 }
 
-inside_moved : (r : List ℕ) (b c : Beam) → c.line ≡ b.line → IsInsideRepeat r b → IsInsideRepeat r c
+inside_moved : (r : List ℕ) (b c : Beam) → c.line ≡ b.line → IsInside r b → IsInside r c
 inside_moved r b c same at = record { from = omega (arith, same, at.from); to = omega (arith, same, at.to) }
 
 -- within the retrace it ends at the line after its last
@@ -133,7 +133,7 @@ pub retrace_ends : (cw : ℕ) (r : List ℕ) (b : Beam) → 0 < cw → is_retrac
     ChangesAfter (is_retrace r) cw r b (dots_to_line cw r (vertical_retrace_start r + retrace_lines r) b)
 retrace_ends cw r b wide test inside =
     let e = retrace_end r in
-    changes_at_line (is_retrace r) true (IsInsideRepeat r) cw r e wide inside
+    changes_at_line (is_retrace r) true (IsInside r) cw r e wide inside
     (λ b c known leads. ⊎_elim
     (λ (to : ToDot cw b c). inr (inside_moved r b c to.at.line known))
     (⊎_elim
@@ -153,7 +153,7 @@ retrace_ends cw r b wide test inside =
 pub retrace_ends_with_frame : (cw : ℕ) (r : List ℕ) (b : Beam) → 0 < cw → is_retrace r b ≡ true → lines r ≤ vertical_retrace_start r + retrace_lines r →
     0 < vertical_retrace_start r → ChangesAfter (is_retrace r) cw r b (dots_to_line cw r 0 b)
 retrace_ends_with_frame cw r b wide test past later =
-    changes_at_line (is_retrace r) true (IsInsideRepeat r) cw r 0 wide (omega arith)
+    changes_at_line (is_retrace r) true (IsInside r) cw r 0 wide (omega arith)
     (λ b c known leads. ⊎_elim
     (λ (to : ToDot cw b c). inr (inside_moved r b c to.at.line known))
     (⊎_elim
@@ -170,7 +170,7 @@ retrace_ends_with_frame cw r b wide test past later =
 pub retrace_never_ends : (cw : ℕ) (r : List ℕ) (b : Beam) → is_retrace r b ≡ true → lines r ≤ vertical_retrace_start r + retrace_lines r →
     vertical_retrace_start r ≡ 0 → NeverChanges (is_retrace r) cw r b
 retrace_never_ends cw r b test past first =
-    never (is_retrace r) true (IsInsideRepeat r) cw r
+    never (is_retrace r) true (IsInside r) cw r
     (λ b c known leads. ⊎_elim
     (λ (to : ToDot cw b c). inside_moved r b c to.at.line known)
     (⊎_elim

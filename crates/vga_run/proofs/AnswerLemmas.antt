@@ -10,7 +10,7 @@ use Rattle.vga_script.specs.Spelled.{SpellsExpanded}
 use Rattle.vga_script.specs.Spelling.{Spells, script_limit}
 use Rattle.vga_bits.specs.LimitedReading.{is_read_fault}
 use Rattle.vga_bits.specs.Tracked.{is_write_fault}
-use Rattle.vga_script.specs.Input.{InputHasFault, IsInput, IsReadingFault}
+use Rattle.vga_script.specs.Input.{InputHasFault, IsInput, FaultStopsReading}
 use Rattle.vga_run.specs.declared.machine.Machine.{Machine}
 use Rattle.vga_run.specs.Machine.{power_on_machine}
 use Rattle.vga_run.specs.Report.{steps_until}
@@ -133,7 +133,7 @@ font_answers until file input before after OutOfMemory size = (size, tt)
 font_answers until file input before after _ bad = absurd bad
 
 -- an unread input
-pub unread_answers : (until : Option ℕ) (file : List ℕ) (input before after : Option (List ℕ)) (f : Fault) → length file ≡ font_file_len → IsReadingFault input f →
+pub unread_answers : (until : Option ℕ) (file : List ℕ) (input before after : Option (List ℕ)) (f : Fault) → length file ≡ font_file_len → FaultStopsReading input f →
     RunAnswers until file input before after (Err f)
 unread_answers until file input before after f size (inl is) = subst (λ (x : Fault). RunAnswers until file input before after (Err x)) (sym is) (size, tt)
 unread_answers until file input before after f size (inr (inl (is, long))) = subst (λ (x : Fault). RunAnswers until file input before after (Err x)) (sym is)

@@ -7,7 +7,7 @@ use Rattle.vga_bits.specs.declared.fault.Fault.TheVariants.{FontSize, WriteFault
 use Rattle.bios_modes.specs.Bounds.{AreBytes, AreFonts}
 use Rattle.bios_modes.specs.Fonts.{FontSet, fonts_of}
 use Rattle.vga_script.specs.declared.step.Step.{Step}
-use Rattle.vga_script.specs.Input.{IsReadingFault}
+use Rattle.vga_script.specs.Input.{FaultStopsReading}
 use Rattle.vga_script.specs.Spelled.{SpellsExpanded}
 use Rattle.vga_script.specs.Step.{AreInRange}
 use Rattle.vga_run.specs.KnownReport.{WritesReportOrPrefix, RunWritesKnownReport}
@@ -69,7 +69,7 @@ module _ (Are : FontSet → List Step → Type 0) (report : FontSet → List Ste
   run_known law one fit until file input before after (Err _) glyphs h = λ bytes steps whole e spelled are. tt
 
   -- an unread input has no such report
-  pub unread_known : (until : Option ℕ) (file : List ℕ) (input before after : Option (List ℕ)) (f : Fault) → IsReadingFault input f
+  pub unread_known : (until : Option ℕ) (file : List ℕ) (input before after : Option (List ℕ)) (f : Fault) → FaultStopsReading input f
       → RunWritesKnownReport Are report until file input before after (Err f)
   unread_known until file input before after f (inl is) =
       subst (λ (x : Fault). RunWritesKnownReport Are report until file input before after (Err x)) (sym is) (λ bytes steps whole e spelled are. tt)

@@ -152,9 +152,9 @@ repeat_appended n left behind count len next before marked counted full after m 
 -- ---- a group
 
 -- the steps of a line as items
-step_count_meant : (steps : List Step) → length steps ≡ length (expanded (map Once steps))
-step_count_meant [] = refl
-step_count_meant (s ∷ steps) = let m = step_count_meant steps in omega arith
+as_many_meant : (steps : List Step) → length steps ≡ length (expanded (map Once steps))
+as_many_meant [] = refl
+as_many_meant (s ∷ steps) = let m = as_many_meant steps in omega arith
 
 spelled : (steps : List Step) → flat_map spelling steps ≡ flat_map item_spelling (map Once steps)
 spelled [] = refl
@@ -172,7 +172,7 @@ group_of_line version n text line before after others len e a = record {
     whole = e;
     number = refl;
   };
-  means = a.count ∙ step_count_meant a.steps;
+  means = a.count ∙ as_many_meant a.steps;
   bytes = a.bytes ∙ ap (λ (l : List ℕ). before ++ l) (spelled a.steps);
 }
 

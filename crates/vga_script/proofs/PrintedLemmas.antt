@@ -238,10 +238,10 @@ unfolding encode_with
 block_of_word [] = tt
 block_of_word (b ∷ bs) = (upper_of_word (b / 16), (upper_of_word (b % 16), block_of_word bs))
 
-bytes_are_below_256 : (bytes : List ℕ) → AllByRecursion (λ byte. byte < 2 ^ 8) bytes → IsBytes bytes
-bytes_are_below_256 [] all i = omega arith
-bytes_are_below_256 (b ∷ bs) (first, others) zero = first
-bytes_are_below_256 (b ∷ bs) (first, others) (suc i) = bytes_are_below_256 bs others i
+bytes_fit : (bytes : List ℕ) → AllByRecursion (λ byte. byte < 2 ^ 8) bytes → IsBytes bytes
+bytes_fit [] all i = omega arith
+bytes_fit (b ∷ bs) (first, others) zero = first
+bytes_fit (b ∷ bs) (first, others) (suc i) = bytes_fit bs others i
 
 -- the words of a block are words, and spell it
 spells_block_words : (block : List ℕ) → IsBlock block → SpellsBlock (block_words block) block
@@ -253,7 +253,7 @@ spells_block_words (b ∷ bs) (short, all) = inr (
   refl,
   omega arith,
   short,
-  decode_of-encode_upper (b ∷ bs) (bytes_are_below_256 (b ∷ bs) all),
+  decode_of-encode_upper (b ∷ bs) (bytes_fit (b ∷ bs) all),
 )
 
 some_hex : (k n : ℕ) → 0 < k → 0 < length (hex k n)

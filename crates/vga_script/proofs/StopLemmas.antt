@@ -5,7 +5,7 @@ use Rattle.vga_script.specs.declared.step.Step.{Step}
 use Rattle.vga_script.specs.declared.step.Step.TheVariants.{Out, OutWord, In, InWord, Put, PutWord, Get, GetWord, Int, Advance, Frame, Show}
 use Rattle.vga_script.specs.declared.dump_range.Shown.{Shown}
 use Rattle.vga_script.specs.declared.dump_range.Shown.TheVariants as shown
-use Rattle.vga_script.specs.DumpRange.{shown_spelling}
+use Rattle.vga_script.specs.DumpRange.{operand_bytes_of_show}
 use Rattle.vga_script.specs.Step.{IsInRange}
 use Rattle.vga_script.specs.Beginning.{step_of}
 use Rattle.vga_script.specs.Spelling.{opcode_out, opcode_out_word, opcode_in, opcode_in_word, opcode_put, opcode_put_word, opcode_get, opcode_get_word}
@@ -24,7 +24,7 @@ not_cut : (opcode : ℕ) (rest : List ℕ) (needed : ℕ) → HasFields opcode r
 not_cut opcode rest needed (n, has, room) is short = let same : needed ≡ n = some_is needed n (sym is ∙ has) in absurd (omega arith)
 
 -- what is shown is of a kind, and its fields are all there, in range or not
-has_shown : (what : Shown) (x rest : List ℕ) → rest ≡ shown_spelling what ++ x → HasFields opcode_show rest
+has_shown : (what : Shown) (x rest : List ℕ) → rest ≡ operand_bytes_of_show what ++ x → HasFields opcode_show rest
 has_shown shown.Registers x rest e = (1, ap dump_len e, let l = ap length e in omega arith)
 has_shown (shown.Dac index) x rest e = (2, ap dump_len e, let l = ap length e in omega arith)
 has_shown shown.Beam x rest e = (1, ap dump_len e, let l = ap length e in omega arith)
@@ -37,7 +37,7 @@ has_shown shown.Cells x rest e = (1, ap dump_len e, let l = ap length e in omega
 has_dump : (what : Shown) (x : List ℕ) (opcode : ℕ) (rest : List ℕ) → spelling (Show what) ++ x ≡ opcode ∷ rest → HasFields opcode rest
 has_dump what x opcode rest e =
     let first : opcode_show ≡ opcode = cc in
-    let tail : rest ≡ shown_spelling what ++ x = cc in
+    let tail : rest ≡ operand_bytes_of_show what ++ x = cc in
     subst (λ (o : ℕ). HasFields o rest) first (has_shown what x rest tail)
 
 -- the opcode of a step is one, and its fields are all there

@@ -45,12 +45,12 @@ abbrev pub kind_cells : ℕ
 kind_cells = 0x06
 
 -- the bytes of what is shown: its kind, and its fields with the low byte first
-abbrev pub shown_spelling : Shown → List ℕ
-shown_spelling shown.Registers = kind_registers ∷ []
-shown_spelling (shown.Dac index) = kind_dac ∷ index ∷ []
-shown_spelling shown.Beam = kind_beam ∷ []
-shown_spelling shown.Latches = kind_latches ∷ []
-shown_spelling (shown.Plane plane offset count) = kind_plane ∷ plane ∷ (little_bytes 2 offset
+abbrev pub operand_bytes_of_show : Shown → List ℕ
+operand_bytes_of_show shown.Registers = kind_registers ∷ []
+operand_bytes_of_show (shown.Dac index) = kind_dac ∷ index ∷ []
+operand_bytes_of_show shown.Beam = kind_beam ∷ []
+operand_bytes_of_show shown.Latches = kind_latches ∷ []
+operand_bytes_of_show (shown.Plane plane offset count) = kind_plane ∷ plane ∷ (little_bytes 2 offset
     ++ little_bytes 2 count)
-shown_spelling shown.BiosData = kind_bios_data ∷ []
-shown_spelling shown.Cells = kind_cells ∷ []
+operand_bytes_of_show shown.BiosData = kind_bios_data ∷ []
+operand_bytes_of_show shown.Cells = kind_cells ∷ []

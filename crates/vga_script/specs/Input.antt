@@ -23,8 +23,8 @@ abbrev pub IsTooLong : Option (List ℕ) → Type 0
 IsTooLong input = IfSome input (λ all. script_limit < length all)
 
 -- why the bytes of a reader were not all read: it failed, it had too many, or an allocation failed
-abbrev pub IsReadingFault : Option (List ℕ) → Fault → Type 0
-IsReadingFault input fault = (fault ≡ ReadFault) ⊎ (((fault ≡ TooLong) × IsTooLong input)
+abbrev pub FaultStopsReading : Option (List ℕ) → Fault → Type 0
+FaultStopsReading input fault = (fault ≡ ReadFault) ⊎ (((fault ≡ TooLong) × IsTooLong input)
     ⊎ (fault ≡ OutOfMemory))
 
 -- the input spells this script

@@ -7,7 +7,7 @@ use Rattle.vga_script.specs.declared.step.Step.TheVariants.{Out, OutWord, In, In
 use Rattle.vga_script.specs.declared.step.Step.TheVariants.{Get, GetWord, Int, Advance, Frame, Show}
 use Rattle.vga_script.specs.Item.{Item, Once, Repeated, ScriptItems, expanded, step_limit, IsItemOf}
 use Rattle.vga_script.specs.declared.version.Version.{Version}
-use Rattle.vga_script.specs.DumpRange.{shown_spelling}
+use Rattle.vga_script.specs.DumpRange.{operand_bytes_of_show}
 use Rattle.vga_script.specs.Step.{IsInRange}
 use Rattle.vga_script.specs.Version.{version_byte}
 
@@ -96,7 +96,7 @@ spelling (Int ax bx cx dx block) =
     ++ (little_bytes 2 cx ++ (little_bytes 2 dx ++ (little_bytes 2 (length block) ++ block)))))
 spelling (Advance dots) = opcode_advance ∷ little_bytes 4 dots
 spelling Frame = opcode_frame ∷ []
-spelling (Show what) = opcode_show ∷ shown_spelling what
+spelling (Show what) = opcode_show ∷ operand_bytes_of_show what
 
 -- the bytes of an item: those of its step; or the opcode of a repeat, its count, its steps, and the
 -- opcode of its end

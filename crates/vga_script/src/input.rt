@@ -1,7 +1,7 @@
 //! Reading all the bytes of a script, or of its text.
 ghost use Rattle.std.specs.Prelude.{◌≡◌, false, IfOk, IfErr};
 ghost use Rattle.vga_bits.specs.Tracked.{inner_of, has_failed};
-ghost use Rattle.vga_script.specs.Input.{IsInput, IsReadingFault, ReadsScript};
+ghost use Rattle.vga_script.specs.Input.{IsInput, FaultStopsReading, ReadsScript};
 
 use super::script::SCRIPT_LIMIT;
 use std::alloc::Global;
@@ -19,7 +19,7 @@ use vga_bits::{Fault, Tracked, read_prefix};
 pub fn read_script<R: Read>(alloc: Global, reader: &mut Tracked<R>) -> Result<Vec<u8>, Fault>
     requires { has_failed reader.old ≡ false }
     ensures input { IfOk result (λ bytes. IsInput (R.remaining (inner_of reader.old)) bytes.items) }
-    ensures fault { IfErr result (IsReadingFault (R.remaining (inner_of reader.old))) }
+    ensures fault { IfErr result (FaultStopsReading (R.remaining (inner_of reader.old))) }
     // The limit holds for every reader, whether or not its contract says which bytes remain.
     ensures reading { ReadsScript R.remaining reader.old reader.new result }
 {

@@ -3,7 +3,7 @@ ghost use Rattle.std.specs.Prelude.{◌≡◌, ◌≢◌, ◌<◌, ◌++◌, ◌
 ghost use Rattle.std.specs.Prelude.{OnOk, IfSome, Err};
 ghost use Rattle.byteorder.specs.Endian.{little_bytes};
 ghost use Rattle.vga_script.specs.Decoding.{StartsWithPlaneOutOfRange, StartsWithBadStep, StartsWithCutStep};
-ghost use Rattle.vga_script.specs.DumpRange.{kind_dac, kind_plane, shown_spelling};
+ghost use Rattle.vga_script.specs.DumpRange.{kind_dac, kind_plane, operand_bytes_of_show};
 ghost use Rattle.vga_script.specs.Spelling.{StartsWithStep, opcode_frame, opcode_int, opcode_show};
 ghost use Rattle.vga_script.specs.Spelling.{spelling};
 ghost use Rattle.vga_script.specs.Step.{IsInRange};
@@ -258,7 +258,7 @@ fn append_call(out: &mut Vec<u8>, ax: u16, bx: u16, cx: u16, dx: u16, len: u16) 
 /// Appends the bytes of a dump. Its only error is `OutOfMemory`.
 fn append_shown(out: &mut Vec<u8>, shown: Shown) -> Result<(), Fault>
     ensures ok { OnOk result (out.new.items ≡ out.old.items
-        ++ (opcode_show ∷ shown_spelling shown)) }
+        ++ (opcode_show ∷ operand_bytes_of_show shown)) }
     ensures err { IsOkUnless result Fault.OutOfMemory }
 {
     match shown {

@@ -113,7 +113,7 @@ impl fmt::Display for Ending {
 }
 
 /// Whether a font file of zero bytes has glyphs without a dot.
-fn are_fonts_read(alloc: Global) -> Result<bool, Fault> {
+fn are_glyphs_of_zeros_blank(alloc: Global) -> Result<bool, Fault> {
     let fonts = blank_fonts(alloc)?;
     Ok(fonts.f16().byte(255, 15) == 0)
 }
@@ -199,7 +199,7 @@ impl Call {
             Call::BytesZeros => Bytes::zeros(alloc, 3)?.as_slice() == [0; 3].as_slice(),
             Call::PlanesNew => Planes::new(alloc)?.byte(3, 0xFFFF) == 0,
             Call::CardNew => Card::new(alloc)?.latches().byte(3) == 0,
-            Call::FontsFromBytes => are_fonts_read(alloc)?,
+            Call::FontsFromBytes => are_glyphs_of_zeros_blank(alloc)?,
             Call::ScreenRead => is_screen_read(alloc)?,
             Call::Decode => are_its_steps(&decode(alloc, &BYTES)?),
             Call::Encode => are_bytes_encoded(alloc)?,

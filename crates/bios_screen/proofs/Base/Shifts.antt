@@ -77,18 +77,18 @@ module _ (X : Type 0) (base size : ℕ) (band : ColumnBand) (start rows : ℕ) (
   abbrev cell : {first e : ℕ} → Rows first e → ℕ
   cell h = W * (H * h.turn + h.place.turn) + (band.left + h.place.place.turn)
 
-  row_of_position : {first e : ℕ} (h : Rows first e) → row (cell h) ≡ h.turn
-  row_of_position h = let l = h.place.place.before in let z = w.after in
+  row_of : {first e : ℕ} (h : Rows first e) → row (cell h) ≡ h.turn
+  row_of h = let l = h.place.place.before in let z = w.after in
       ap (λ n. n / H) (over W (H * h.turn + h.place.turn) (band.left + h.place.place.turn) (omega arith)) ∙ over H h.turn h.place.turn h.place.before
 
-  column_of_position : {first e : ℕ} (h : Rows first e) → column (cell h) ≡ band.left + h.place.place.turn
-  column_of_position h = let l = h.place.place.before in let z = w.after in
+  column_of : {first e : ℕ} (h : Rows first e) → column (cell h) ≡ band.left + h.place.place.turn
+  column_of h = let l = h.place.place.before in let z = w.after in
       rest W (H * h.turn + h.place.turn) (band.left + h.place.place.turn) (omega arith)
 
   in_turn : {first e : ℕ} (h : Rows first e) → window.top ≤ first → e ≤ window.top + window.height → in_this_window (cell h) ≡ true
   in_turn h low high =
-      let r = row_of_position h in
-      let c = column_of_position h in
+      let r = row_of h in
+      let c = column_of h in
       let u = h.from in
       let v = h.before in
       let i = h.place.place.before in
@@ -179,7 +179,7 @@ module _ (X : Type 0) (base size : ℕ) (band : ColumnBand) (start rows : ℕ) (
             let i = in_of b u in
             let k = p.is_moved (row b) i.above i.below t in
             let h = turn_of first (first + (window.height - n)) b k.0 k.1 i in
-            filling.outside (start + b) (λ j q. let e : b ≡ cell j = omega arith in let v = ap row e ∙ row_of_position j in let l = j.from in let y = j.before in
+            filling.outside (start + b) (λ j q. let e : b ≡ cell j = omega arith in let v = ap row e ∙ row_of j in let l = j.from in let y = j.before in
             p.apart (row b) k.0 k.1 (omega arith) (omega arith))
             ∙ ap mid (sym (place_of b i.before)) ∙ moves.inside h ∙ ap f (source_of direction b n i.before t);
         filled = λ b u t.

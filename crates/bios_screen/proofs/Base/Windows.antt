@@ -43,13 +43,13 @@ some_lines w asked l = by_tests (asked == 0) (nat_lt w.height asked) refl
 
 -- ---- what lies in it
 
-pub record IsInsideRepeat (w : Window) (row column : ℕ) : Type 0 where
+pub record IsInside (w : Window) (row column : ℕ) : Type 0 where
   pub above : w.top ≤ row
   pub below : row < w.top + w.height
   pub before : w.left ≤ column
   pub after : column < w.left + w.width
 
-pub inside_of : (w : Window) (row column : ℕ) → is_in_window w row column ≡ true → IsInsideRepeat w row column
+pub inside_of : (w : Window) (row column : ℕ) → is_in_window w row column ≡ true → IsInside w row column
 inside_of w row column t =
     let b = both_true (nat_le w.top row) _ t in
     let e = both_true (nat_lt row (w.top + w.height)) _ b.1 in
@@ -61,7 +61,7 @@ inside_of w row column t =
       after = lt_is column (w.left + w.width) g.1;
     }
 
-pub inside_test : (w : Window) (row column : ℕ) → IsInsideRepeat w row column → is_in_window w row column ≡ true
+pub inside_test : (w : Window) (row column : ℕ) → IsInside w row column → is_in_window w row column ≡ true
 inside_test w row column i =
     both_are (nat_le w.top row) _ (le_test w.top row i.above)
     (both_are (nat_lt row (w.top + w.height)) _ (lt_test row (w.top + w.height) i.below)

@@ -8,7 +8,7 @@ use Rattle.bios_services.specs.declared.call.Service.TheVariants.{ScrollUp, Scro
 use Rattle.vga_bits.specs.Bits.{byte_of_bits}
 use Rattle.std.specs.Prelude.{◌==◌, if◌then◌else◌}
 use Rattle.bios_services.specs.Glyphs.{glyph_has_lines, first_character_with_lines}
-use Rattle.bios_screen.specs.Screen.{PackedPixelColours}
+use Rattle.bios_screen.specs.Screen.{Pixels}
 use Rattle.bios_screen.specs.Parts.{cell_at, pixel_at}
 use Rattle.bios_screen.specs.Step.{pages_on, refusal_on, next, answer_on, type_character}
 use Rattle.bios_screen.specs.Picture.{pixel_dot_colour, dot_colour_at, picture_width, picture_height}
@@ -43,7 +43,7 @@ abbrev shown : ℕ → Screen
 shown mode = record {
   mode = mode;
   layout = record { columns = 1; rows = 1; height = 2; distance = 0; pages = 1 };
-  contents = PackedPixelColours ((1 ∷ 2 ∷ 3 ∷ 0 ∷ 0 ∷ 0 ∷ 0 ∷ 0 ∷ 3 ∷ 0 ∷ 0 ∷ 0 ∷ 0 ∷ 0 ∷ 0 ∷ 2 ∷ []) ∷ []);
+  contents = Pixels ((1 ∷ 2 ∷ 3 ∷ 0 ∷ 0 ∷ 0 ∷ 0 ∷ 0 ∷ 3 ∷ 0 ∷ 0 ∷ 0 ∷ 0 ∷ 0 ∷ 0 ∷ 2 ∷ []) ∷ []);
   places = 0 ∷ [];
   cursor_type = 0;
   page = 0;
@@ -140,7 +140,7 @@ drawn_packed = refl
 abbrev tall : ℕ → Screen
 tall mode = record (shown mode) {
   layout = record { columns = 1; rows = 3; height = 1; distance = 0; pages = 1 };
-  contents = PackedPixelColours ((1 ∷ 1 ∷ 1 ∷ 1 ∷ 1 ∷ 1 ∷ 1 ∷ 1 ∷ 2 ∷ 3 ∷ 2 ∷ 2 ∷ 2 ∷ 2 ∷ 2 ∷ 2 ∷ 3 ∷ 4 ∷ 3 ∷ 3 ∷ 3 ∷ 3 ∷ 3 ∷ 3 ∷ []) ∷ []);
+  contents = Pixels ((1 ∷ 1 ∷ 1 ∷ 1 ∷ 1 ∷ 1 ∷ 1 ∷ 1 ∷ 2 ∷ 3 ∷ 2 ∷ 2 ∷ 2 ∷ 2 ∷ 2 ∷ 2 ∷ 3 ∷ 4 ∷ 3 ∷ 3 ∷ 3 ∷ 3 ∷ 3 ∷ 3 ∷ []) ∷ []);
 }
 
 abbrev lower : Scroll
@@ -189,7 +189,7 @@ whole = eight 1 (eight 2 (eight 3 (eight 4 [])))
 abbrev paged : ℕ → List ℕ → ℕ → List ℕ → ℕ → Screen
 paged mode page0 place0 page1 place1 = record (shown mode) {
   layout = record { columns = 2; rows = 2; height = 1; distance = 0; pages = 2 };
-  contents = PackedPixelColours (page0 ∷ page1 ∷ []);
+  contents = Pixels (page0 ∷ page1 ∷ []);
   places = place0 ∷ place1 ∷ [];
   page = 1;
 }
@@ -217,7 +217,7 @@ fed_last = refl
 abbrev single : List ℕ → ℕ → Screen
 single page place = record (paged 0x13 page place [] 0) {
   layout = record { columns = 2; rows = 2; height = 1; distance = 0; pages = 1 };
-  contents = PackedPixelColours (page ∷ []);
+  contents = Pixels (page ∷ []);
   places = place ∷ [];
   page = 0;
 }

@@ -175,9 +175,9 @@ short_entries : refusal_on coloured (Colours (SetEntries 1 2)) 5 ≡ Some BadBlo
 unfolding refusal_on
 short_entries = refl
 
-refuse_unless_palette_register : refusal_on coloured (Colours (SetRegister 16 0)) 0 ≡ Some BadRegister
+no_register : refusal_on coloured (Colours (SetRegister 16 0)) 0 ≡ Some BadRegister
 unfolding refusal_on
-refuse_unless_palette_register = refl
+no_register = refl
 
 -- the palette is answered with the overscan after it; each entry is answered as three bytes
 palette_table : table_answer (record coloured { overscan = 7 }) ReadPalette ≡ PaletteTable (1 ∷ 2 ∷ 7 ∷ [])

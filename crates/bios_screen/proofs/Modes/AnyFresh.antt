@@ -5,7 +5,7 @@ use Rattle.bios_modes.specs.Modes.{mode_row}
 use Rattle.bios_modes.proofs.RowLemmas.{own_row}
 use Rattle.bios_screen.specs.AfterCall.{ModeSetShowsFreshScreen}
 use Rattle.bios_screen.proofs.Base.Tests.{some_same}
-use Rattle.bios_screen.proofs.Modes.TextModes.{TextRow, row_of_position, number_of}
+use Rattle.bios_screen.proofs.Modes.TextModes.{TextRow, mode_row_of_display, number_of}
 use Rattle.bios_screen.proofs.Modes.PixelModes.{graphics_13}
 use Rattle.bios_screen.proofs.Modes.AnyModes.{Colours, text_row_is, colours_is}
 use Rattle.bios_screen.proofs.Modes.AnyModes.Colours.{Sixteen, Many}
@@ -18,7 +18,7 @@ any_set_fresh mode row e = by_kind (is_text mode) refl
     by_text : TextRow mode row → ModeSetShowsFreshScreen mode row
     by_text is =
         let k = is.display in
-        let same = some_same (row_of_position k) row (sym (ap mode_row is.number ∙ (set_by k).table) ∙ e) in
+        let same = some_same (mode_row_of_display k) row (sym (ap mode_row is.number ∙ (set_by k).table) ∙ e) in
         subst (λ m. ModeSetShowsFreshScreen m row) (sym is.number) (subst (ModeSetShowsFreshScreen (number_of k)) same (text_set_fresh k))
 
     by_colours : Colours mode row → ModeSetShowsFreshScreen mode row

@@ -19,7 +19,7 @@ use Rattle.bios_screen.specs.AfterCall.{ModeSetShowsFreshScreen}
 use Rattle.bios_screen.proofs.Base.Plans.{then_runs, then_answers}
 use Rattle.bios_screen.proofs.Base.Lists.{same_from_0, spelled}
 use Rattle.bios_services.proofs.CardLemmas.{plan_bounds, plan_beam}
-use Rattle.bios_screen.proofs.Modes.Registers.{perform_service_in_mode, IsSet, registers_set}
+use Rattle.bios_screen.proofs.Modes.Registers.{in_mode, IsSet, registers_set}
 use Rattle.bios_screen.proofs.Modes.Entries.{Colour as Entry, colour_of, entry_at, without_entries, before_entry, entries_written, keeps}
 
 -- ---- the DAC
@@ -52,7 +52,7 @@ pub record HasColours (palette : DefaultPalette) (d : DacState) : Type 0 where
 
 -- the adapter with a mode's registers and this DAC
 abbrev pub coloured : ModeRow → CardState → DacState → CardState
-coloured row c d = record (perform_service_in_mode row c) { dac = d }
+coloured row c d = record (in_mode row c) { dac = d }
 
 -- with these colours the palette is the fresh screen's
 pub palette_is : (row : ModeRow) (c : CardState) (d : DacState) → HasColours row.palette d → palette_of_card (coloured row c d) ≡ fresh_palette row
@@ -69,7 +69,7 @@ pub record Prepared (row : ModeRow) (c : CardState) : Type 0 where
 pub prepared : (mode : ℕ) (row : ModeRow) (c : CardState) → IsSet mode row → IsCard c → Prepared row c
 prepared mode row c is z =
     let entries = each (λ i. write_dac_entry_plan (palette_entry row.palette i)) 256 0 in
-    let y0 = perform_service_in_mode row c in
+    let y0 = in_mode row c in
     let z0 : IsCard y0 = subst IsCard (registers_set mode row c is z) (plan_bounds (write_registers_plan row) c z) in
     let y1 = unmasked y0 in
     let z1 : IsCard y1 = record {

@@ -10,7 +10,7 @@ use Rattle.vga_bits.specs.Four.{four_by_plane}
 use Rattle.vga_host.specs.Memory.Write.{written_bit, combined_bit}
 use Rattle.bios_modes.specs.Kinds.{kind_of_row, is_text_kind}
 use Rattle.bios_services.specs.ModeSet.{clear_graphics_memory_plan, write_text_memory_plan, write_mode_memory_plan, mode_set_plan}
-use Rattle.bios_screen.specs.Screen.{PackedPixelColours, Palette}
+use Rattle.bios_screen.specs.Screen.{Pixels, Palette}
 use Rattle.bios_screen.specs.Shown.{pixels_in, pixel_pages, screen_with_contents}
 use Rattle.bios_screen.specs.Fresh.{blank_pixels, fresh_text, fresh_pixels}
 use Rattle.bios_screen.specs.AfterCall.{ModeSetShowsFreshScreen}
@@ -128,7 +128,7 @@ shows_fresh mode row is clears c fonts z small =
     let text = fresh_text mode row font c.crtc.beam.frame in
     ap (λ x. shown x d) (first.runs (write_mode_memory_plan row false font) ∙ ap (λ p. (run card_meaning p y).0) (memory_is mode row font is))
     ∙ redrawn row y (cleared y) d (is.there row.height) is.text (all_tests_of row y d (is.fresh c first.dac)) t.same t.others
-    ∙ ap (λ p. Some (screen_with_contents row y d 0 (PackedPixelColours p) [])) (pages_blank mode row y (cleared y) t)
+    ∙ ap (λ p. Some (screen_with_contents row y d 0 (Pixels p) [])) (pages_blank mode row y (cleared y) t)
     ∙ ap (λ (p : Palette). let x : Screen = record new { palette = p } in Some x) (palette_is row c first.dac first.colours)
     ∙ sym (ap (λ b. let x : Screen = (if b then text else new) in Some x) is.text)
 

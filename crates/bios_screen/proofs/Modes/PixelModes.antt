@@ -21,7 +21,7 @@ use Rattle.bios_screen.specs.Drawing.{dots_a_line, lines_a_frame}
 use Rattle.bios_screen.proofs.Base.Places.{ends_before}
 use Rattle.bios_screen.proofs.Base.Setting.{Setting}
 use Rattle.bios_screen.proofs.Modes.Frames.{IsFrame, computed_frame, HasShades, Blinks}
-use Rattle.bios_screen.proofs.Modes.Registers.{perform_service_in_mode, IsSet}
+use Rattle.bios_screen.proofs.Modes.Registers.{in_mode, IsSet}
 use Rattle.bios_screen.proofs.Planar.Settings.{drawing, at_rest}
 
 -- the registers that memory cycles depend on
@@ -42,7 +42,7 @@ pub record IsListed (mode : ℕ) (row : ModeRow) : Type 0 where
   pub whole : IsTrue (is_mode_of_256_colours mode) → pixels_of row ≤ row.size
   pub steady : Blinks row 0
   pub blinks : Blinks row 1
-  pub fresh : (c : CardState) (d : DacState) → shows row (record (perform_service_in_mode row c) { dac = d }) (data_of_mode mode row) ≡ true
+  pub fresh : (c : CardState) (d : DacState) → shows row (record (in_mode row c) { dac = d }) (data_of_mode mode row) ≡ true
 
 -- the sizes of its characters and pages
 pub record HasRoom (row : ModeRow) : Type 0 where

@@ -27,8 +27,8 @@ card_spelled c z =
     (spelled c.attr.registers 21 z.attr.size)
 
 -- the adapter with a mode's registers; memory, latches, DAC, beam and drawn dots are as they were
-abbrev pub perform_service_in_mode : ModeRow → CardState → CardState
-perform_service_in_mode row c = record c {
+abbrev pub in_mode : ModeRow → CardState → CardState
+in_mode row c = record c {
   host = record c.host { seq = row.sequencer; gfx = row.graphics; seq_index = 4; gfx_index = 8 };
   crtc = record c.crtc { registers = row.crtc; index = 24 };
   attr = record { registers = row.attribute; index = 0x20; is_data = false };
@@ -38,7 +38,7 @@ perform_service_in_mode row c = record c {
 -- the row is the mode's, and a mode set writes its registers; this is computed for literals
 pub record IsSet (mode : ℕ) (row : ModeRow) : Type 0 where
   pub table : mode_row mode ≡ Some row
-  pub literal : (c : CardState) → (run card_meaning (write_registers_plan row) (spelled_card c)).0 ≡ perform_service_in_mode row c
+  pub literal : (c : CardState) → (run card_meaning (write_registers_plan row) (spelled_card c)).0 ≡ in_mode row c
 
-pub registers_set : (mode : ℕ) (row : ModeRow) (c : CardState) → IsSet mode row → IsCard c → (run card_meaning (write_registers_plan row) c).0 ≡ perform_service_in_mode row c
+pub registers_set : (mode : ℕ) (row : ModeRow) (c : CardState) → IsSet mode row → IsCard c → (run card_meaning (write_registers_plan row) c).0 ≡ in_mode row c
 registers_set mode row c is z = ap (λ x. (run card_meaning (write_registers_plan row) x).0) (card_spelled c z) ∙ is.literal c

@@ -22,7 +22,7 @@ use Rattle.bios_screen.proofs.Base.Edits.{one_edit, edits}
 use Rattle.bios_screen.proofs.Base.Lists.{same_from_0, blank_listing}
 use Rattle.bios_services.proofs.CardLemmas.{plan_bounds}
 use Rattle.bios_screen.proofs.Base.Setting.{setting}
-use Rattle.bios_screen.proofs.Modes.TextModes.{Display, base_of, text_setting, row_of_position, number_of, text_by}
+use Rattle.bios_screen.proofs.Modes.TextModes.{Display, base_of, text_setting, mode_row_of_display, number_of, text_by}
 use Rattle.bios_screen.proofs.Modes.TextModes.Display.{Colour, Monochrome}
 use Rattle.bios_screen.proofs.Text.Memory.{IsTextual, without_text, text_put}
 use Rattle.bios_screen.proofs.Text.Cells.{has_cells}
@@ -85,40 +85,40 @@ abbrev in_glyphs : Display → CardState → CardState
 in_glyphs disp c = record c { host = record c.host { seq = (glyph_setting disp).seq; gfx = (glyph_setting disp).gfx; seq_index = 4; gfx_index = 6 } }
 
 abbrev in_text : Display → CardState → CardState
-in_text disp c = record c { host = record c.host { seq = (row_of_position disp).sequencer; gfx = (row_of_position disp).graphics; seq_index = 4; gfx_index = 6 } }
+in_text disp c = record c { host = record c.host { seq = (mode_row_of_display disp).sequencer; gfx = (mode_row_of_display disp).graphics; seq_index = 4; gfx_index = 6 } }
 
 abbrev with_glyphs : CardState → List ℕ → CardState
 with_glyphs c l = record c { host = record c.host { memory = record c.host.memory { plane2 = l } } }
 
-on_is : (disp : Display) (c : CardState) (d : DacState) → (run card_meaning glyphs_on (coloured (row_of_position disp) c d)).0
-    ≡ in_glyphs disp (coloured (row_of_position disp) c d)
+on_is : (disp : Display) (c : CardState) (d : DacState) → (run card_meaning glyphs_on (coloured (mode_row_of_display disp) c d)).0
+    ≡ in_glyphs disp (coloured (mode_row_of_display disp) c d)
 unfolding reached_by out_reached
 on_is Colour c d = refl
 on_is Monochrome c d = refl
 
-off_is : (disp : Display) (c : CardState) (d : DacState) (l : List ℕ) → (run card_meaning (glyphs_off (slice_index (row_of_position disp).graphics 6))
-    (with_glyphs (in_glyphs disp (coloured (row_of_position disp) c d)) l)).0 ≡ in_text disp (with_glyphs (in_glyphs disp (coloured (row_of_position disp) c d)) l)
+off_is : (disp : Display) (c : CardState) (d : DacState) (l : List ℕ) → (run card_meaning (glyphs_off (slice_index (mode_row_of_display disp).graphics 6))
+    (with_glyphs (in_glyphs disp (coloured (mode_row_of_display disp) c d)) l)).0 ≡ in_text disp (with_glyphs (in_glyphs disp (coloured (mode_row_of_display disp) c d)) l)
 unfolding reached_by out_reached
 off_is Colour c d l = refl
 off_is Monochrome c d l = refl
 
 -- the test, computed from literals
 test_is : (disp : Display) (c : CardState) (d : DacState) (l : List ℕ) →
-    shows (row_of_position disp) (in_text disp (with_glyphs (in_glyphs disp (coloured (row_of_position disp) c d)) l)) (data_of_mode (number_of disp) (row_of_position disp)) ≡ true
+    shows (mode_row_of_display disp) (in_text disp (with_glyphs (in_glyphs disp (coloured (mode_row_of_display disp) c d)) l)) (data_of_mode (number_of disp) (mode_row_of_display disp)) ≡ true
 unfolding shows
 test_is Colour c d l = refl
 test_is Monochrome c d l = refl
 
-row_is : (disp : Display) → mode_row_at_height (number_of disp) (row_of_position disp).height ≡ Some (row_of_position disp)
+row_is : (disp : Display) → mode_row_at_height (number_of disp) (mode_row_of_display disp).height ≡ Some (mode_row_of_display disp)
 row_is Colour = refl
 row_is Monochrome = refl
 
 text_setting_is : (disp : Display) (c : CardState) (d : DacState) (l : List ℕ) →
-    setting (in_text disp (with_glyphs (in_glyphs disp (coloured (row_of_position disp) c d)) l)) ≡ text_setting disp
+    setting (in_text disp (with_glyphs (in_glyphs disp (coloured (mode_row_of_display disp) c d)) l)) ≡ text_setting disp
 text_setting_is Colour c d l = refl
 text_setting_is Monochrome c d l = refl
 
-glyph_setting_is : (disp : Display) (c : CardState) (d : DacState) → setting (in_glyphs disp (coloured (row_of_position disp) c d)) ≡ glyph_setting disp
+glyph_setting_is : (disp : Display) (c : CardState) (d : DacState) → setting (in_glyphs disp (coloured (mode_row_of_display disp) c d)) ≡ glyph_setting disp
 glyph_setting_is Colour c d = refl
 glyph_setting_is Monochrome c d = refl
 
@@ -127,8 +127,8 @@ pub font_is : (line : ℕ → ℕ → ℕ) (height n first window : ℕ) (c : Ca
 unfolding write_font_plan
 font_is line height n first window c = refl
 
-memory_is : (disp : Display) (font : List ℕ) (c : CardState) → (run card_meaning (write_mode_memory_plan (row_of_position disp) false font) c).0
-    ≡ (run card_meaning (write_blanks_plan (base_of disp) 0x8000) (run card_meaning (write_font_plan (glyph_row 16 font) 16 256 0 (slice_index (row_of_position disp).graphics 6))
+memory_is : (disp : Display) (font : List ℕ) (c : CardState) → (run card_meaning (write_mode_memory_plan (mode_row_of_display disp) false font) c).0
+    ≡ (run card_meaning (write_blanks_plan (base_of disp) 0x8000) (run card_meaning (write_font_plan (glyph_row 16 font) 16 256 0 (slice_index (mode_row_of_display disp).graphics 6))
     c).0).0
 unfolding write_mode_memory_plan write_text_memory_plan
 memory_is Colour font c = then_runs (write_font_plan (glyph_row 16 font) 16 256 0 0x0E) (write_blanks_plan 0xB8000 0x8000) c
@@ -141,12 +141,12 @@ record FreshMemory (disp : Display) (font : List ℕ) (y s : CardState) : Type 0
   glyphs : glyph_bytes_in_plane_2 plane2 4096 ≡ first_bytes_of_font font 4096
   cells : cells_in s.host.memory.plane0 s.host.memory.plane1 text_memory_cells ≡ fresh_cells text_memory_cells
 
-fresh_memory : (disp : Display) (c : CardState) (d : DacState) (font : List ℕ) → IsCard (coloured (row_of_position disp) c d) → AreBytes font →
-    FreshMemory disp font (coloured (row_of_position disp) c d)
-    (run card_meaning (write_mode_memory_plan (row_of_position disp) false font) (coloured (row_of_position disp) c d)).0
+fresh_memory : (disp : Display) (c : CardState) (d : DacState) (font : List ℕ) → IsCard (coloured (mode_row_of_display disp) c d) → AreBytes font →
+    FreshMemory disp font (coloured (mode_row_of_display disp) c d)
+    (run card_meaning (write_mode_memory_plan (mode_row_of_display disp) false font) (coloured (mode_row_of_display disp) c d)).0
 fresh_memory disp c d font z2 small =
-    let window = slice_index (row_of_position disp).graphics 6 in
-    let y2 = coloured (row_of_position disp) c d in
+    let window = slice_index (mode_row_of_display disp).graphics 6 in
+    let y2 = coloured (mode_row_of_display disp) c d in
     let y3 = in_glyphs disp y2 in
     let z3 : IsCard y3 = subst IsCard (on_is disp c d) (plan_bounds glyphs_on y2 z2) in
     let load = write_glyphs_plan (glyph_row 16 font) 16 256 0 in
@@ -171,7 +171,7 @@ fresh_memory disp c d font z2 small =
     ∙ then_runs load (glyphs_off window) y3
     ∙ ap (λ x. (run card_meaning (glyphs_off window) x).0) e4
     ∙ off_is disp c d l4 in
-    let whole : (run card_meaning (write_mode_memory_plan (row_of_position disp) false font) y2).0 ≡ s6 = memory_is disp font y2
+    let whole : (run card_meaning (write_mode_memory_plan (mode_row_of_display disp) false font) y2).0 ≡ s6 = memory_is disp font y2
     ∙ ap (λ x. (run card_meaning blank x).0) fonted in
     let state : FreshMemory disp font y2 s6 = record {
       plane2 = l4;
@@ -195,16 +195,16 @@ fresh_memory disp c d font z2 small =
     } in
     subst (FreshMemory disp font y2) (sym whole) state
 
-pub set_by : (disp : Display) → IsSet (number_of disp) (row_of_position disp)
+pub set_by : (disp : Display) → IsSet (number_of disp) (mode_row_of_display disp)
 unfolding write_registers_plan write_registers_from_0 write_attribute_registers reached_by crtc_port_of out_reached inp_reached after_crtc is_protected overflow
 set_by Colour = record { table = refl; literal = λ _. refl }
 set_by Monochrome = record { table = refl; literal = λ _. refl }
 
-shows_fresh : (disp : Display) → ShowsFresh (number_of disp) (row_of_position disp)
+shows_fresh : (disp : Display) → ShowsFresh (number_of disp) (mode_row_of_display disp)
 unfolding mode_set_plan
 shows_fresh disp c fonts z small =
     let mode = number_of disp in
-    let row = row_of_position disp in
+    let row = mode_row_of_display disp in
     let font = fonts.f16 in
     let d = data_of_mode mode row in
     let first = prepared mode row c (set_by disp) z in
@@ -225,5 +225,5 @@ shows_fresh disp c fonts z small =
     ∙ ap (λ k. let x : Screen = record new { glyphs = k } in Some x) t.glyphs
     ∙ sym (ap (λ b. let x : Screen = (if b then new else pixels) in Some x) (text_by disp))
 
-pub text_set_fresh : (disp : Display) → ModeSetShowsFreshScreen (number_of disp) (row_of_position disp)
-text_set_fresh disp = sets_fresh (number_of disp) (row_of_position disp) (set_by disp) (shows_fresh disp)
+pub text_set_fresh : (disp : Display) → ModeSetShowsFreshScreen (number_of disp) (mode_row_of_display disp)
+text_set_fresh disp = sets_fresh (number_of disp) (mode_row_of_display disp) (set_by disp) (shows_fresh disp)

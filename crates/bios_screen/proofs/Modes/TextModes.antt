@@ -72,9 +72,9 @@ pub record IsTextRow (k : Display) (mode : ℕ) (row : ModeRow) : Type 0 where
   pub open has_pages use *
 
 -- the row that a mode set uses for a display, and the number of its mode
-abbrev pub row_of_position : Display → ModeRow
-row_of_position Colour = colour_text
-row_of_position Monochrome = monochrome_text
+abbrev pub mode_row_of_display : Display → ModeRow
+mode_row_of_display Colour = colour_text
+mode_row_of_display Monochrome = monochrome_text
 
 abbrev pub number_of : Display → ℕ
 number_of Colour = 0x03
@@ -89,7 +89,7 @@ abbrev pub control_of : Display → ℕ
 control_of Colour = 0x04
 control_of Monochrome = 0x06
 
-pub control_by : (k : Display) → bit_and (slice_index (row_of_position k).attribute 0x10) 0xF7 ≡ control_of k
+pub control_by : (k : Display) → bit_and (slice_index (mode_row_of_display k).attribute 0x10) 0xF7 ≡ control_of k
 control_by Colour = refl
 control_by Monochrome = refl
 
@@ -109,7 +109,7 @@ lines_of Monochrome Fourteen = twenty_eight_rows_underlined_at 0x0D
 lines_of Monochrome Sixteen = twenty_five_rows_underlined_at 0x0F
 
 abbrev pub row_with : Display → Height → ModeRow
-row_with k height = with_text_row (row_of_position k) (lines_of k height)
+row_with k height = with_text_row (mode_row_of_display k) (lines_of k height)
 
 pub text_blinks : (k : Display) (height : Height) → Blinks (row_with k height) 0 × Blinks (row_with k height) 1
 text_blinks Colour _ = ((refl, refl), (refl, refl))
@@ -158,7 +158,7 @@ record HasHeight (k : Display) (row : ModeRow) : Type 0 where
   height : Height
   is : row_with k height ≡ row
 
-with_lines : (k : Display) (row : ModeRow) (a b f : Bool) → with_height_row (row_of_position k) (if a then Some (lines_of k Eight) else if b
+with_lines : (k : Display) (row : ModeRow) (a b f : Bool) → with_height_row (mode_row_of_display k) (if a then Some (lines_of k Eight) else if b
     then Some (lines_of k Fourteen) else if f then Some (lines_of k Sixteen) else None) ≡ Some row → HasHeight k row
 with_lines k row true b f h = record { height = Eight; is = some_same (row_with k Eight) row h }
 with_lines k row false true f h = record { height = Fourteen; is = some_same (row_with k Fourteen) row h }

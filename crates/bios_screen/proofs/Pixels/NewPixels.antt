@@ -3,7 +3,7 @@ use Rattle.std.proofs.Common.{◌≡◌, ◌≢◌, ℕ, ◌+◌, ◌*◌, ◌<�
 use Rattle.std.specs.Prelude.{set}
 use Rattle.bios_screen.proofs.Prelude.{Four, CardState, ModeRow, mode_row_at_height, BiosData, is_text, list_by_function, Screen, has_attribute_registers_of_mode, pixel_in, page_pixels}
 use Rattle.bios_screen.proofs.Prelude.{pixel_screen, shown, pixel_of, with_pixels}
-use Rattle.bios_screen.specs.Screen.{PackedPixelColours}
+use Rattle.bios_screen.specs.Screen.{Pixels}
 use Rattle.bios_screen.specs.Shown.{pixels_in, pixel_pages, screen_with_contents}
 use Rattle.bios_screen.proofs.Base.Lists.{same_from_0, length_listing, listed_at, listing_set}
 use Rattle.bios_screen.proofs.Base.Places.{ends_before}
@@ -39,11 +39,11 @@ module _ (row : ModeRow) (c y : CardState) (d : BiosData) (e : mode_row_at_heigh
   page m g = pixels_in d.mode m (d.size * g) n
 
   -- the screen that is then shown has the pages now in memory
-  pub redrawn : shown y d ≡ Some (screen_with_contents row c d 0 (PackedPixelColours (pixel_pages d.mode y.host.memory d.size n row.pages)) [])
+  pub redrawn : shown y d ≡ Some (screen_with_contents row c d 0 (Pixels (pixel_pages d.mode y.host.memory d.size n row.pages)) [])
   redrawn =
       pixels_shown_of y d row e text (same_tests row c y d same (ap (λ (x : CardState). x.crtc.registers) others)
       (ap (λ (x : CardState). has_attribute_registers_of_mode row x.attr) others ∙ t.attribute) t)
-      ∙ ap (λ (x : CardState). Some (screen_with_contents row x d 0 (PackedPixelColours (pixel_pages d.mode y.host.memory d.size n row.pages)) [])) others
+      ∙ ap (λ (x : CardState). Some (screen_with_contents row x d 0 (Pixels (pixel_pages d.mode y.host.memory d.size n row.pages)) [])) others
 
   -- one page has new pixels
   pub page_renewed : (p : ℕ) (change : (ℕ → ℕ) → ℕ → ℕ) → p < row.pages → ((k : ℕ) → k < n → pixel y.host.memory p k ≡ change (pixel_of s p) k)
@@ -56,12 +56,12 @@ module _ (row : ModeRow) (c y : CardState) (d : BiosData) (e : mode_row_at_heigh
       let pages : pixel_pages d.mode y.host.memory d.size n row.pages ≡ set old p new =
       listing_set (page c.host.memory) (page y.host.memory) row.pages p new lp (same_from_0 (change (pixel_of s p)) (pixel y.host.memory p) n inside)
       (λ g lg w. same_from_0 (pixel c.host.memory g) (pixel y.host.memory g) n (λ k l. outside g k lg w l)) in
-      redrawn ∙ ap (λ x. Some (screen_with_contents row c d 0 (PackedPixelColours x) [])) (pages ∙ ap (λ i. set old p (list_by_function (change (pixel_of s p)) 0 i)) (sym long))
+      redrawn ∙ ap (λ x. Some (screen_with_contents row c d 0 (Pixels x) [])) (pages ∙ ap (λ i. set old p (list_by_function (change (pixel_of s p)) 0 i)) (sym long))
 
   -- if all pixels are as they were, the same screen is shown
   pub pixels_stay : ((g k : ℕ) → g < row.pages → k < n → pixel y.host.memory g k ≡ pixel c.host.memory g k) → shown y d ≡ Some s
   unfolding pixel_pages pixels_in
   pixels_stay stay =
       redrawn
-      ∙ ap (λ x. Some (screen_with_contents row c d 0 (PackedPixelColours x) [])) (same_from_0 (page c.host.memory) (page y.host.memory) row.pages (λ g lg.
+      ∙ ap (λ x. Some (screen_with_contents row c d 0 (Pixels x) [])) (same_from_0 (page c.host.memory) (page y.host.memory) row.pages (λ g lg.
       same_from_0 (pixel c.host.memory g) (pixel y.host.memory g) n (λ k l. stay g k lg l)))

@@ -22,7 +22,7 @@ use Rattle.bios_screen.proofs.Base.Tests.{le_is}
 use Rattle.bios_screen.proofs.Base.Reasons.{neither, holds, wrong_or}
 use Rattle.bios_screen.proofs.Base.Plans.{then_runs, then_answers}
 use Rattle.bios_services.proofs.CardLemmas.{plan_beam}
-use Rattle.bios_screen.proofs.Modes.TextModes.{Display, Height, row_of_position, row_with, lines_of, number_of}
+use Rattle.bios_screen.proofs.Modes.TextModes.{Display, Height, mode_row_of_display, row_with, lines_of, number_of}
 use Rattle.bios_screen.proofs.Modes.TextModes.Display.{Colour, Monochrome}
 use Rattle.bios_screen.proofs.Modes.TextModes.Height.{Eight, Fourteen, Sixteen}
 use Rattle.bios_screen.proofs.Shows.Screens.{screen_shown, shown_is, mode_of_shown}
@@ -60,7 +60,7 @@ lines_are disp height text e = by_display disp e
     by_display Monochrome h = by_tests Monochrome (height == 8) (height == 14) (height == 16) 0x07 0x0D 0x0F refl refl refl refl refl refl h
 
 -- the mode's row at a height takes its lines from the text-height table
-rows_agree : (disp : Display) (height : ℕ) → mode_row_at_height (number_of disp) height ≡ with_height_row (row_of_position disp) (text_row (number_of disp) height)
+rows_agree : (disp : Display) (height : ℕ) → mode_row_at_height (number_of disp) height ≡ with_height_row (mode_row_of_display disp) (text_row (number_of disp) height)
 rows_agree Colour height = refl
 rows_agree Monochrome height = refl
 
@@ -106,7 +106,7 @@ module _ (fonts : FontSet) (load : GlyphLoad) (r : Regs) (block : List ℕ) (byt
       let lines = lines_are disp load.height text there_is in
       let row = row_with disp lines.new in
       let at : mode_row_at_height d.mode load.height ≡ Some row = ap (λ m. mode_row_at_height m load.height) h.number ∙ rows_agree disp load.height
-      ∙ ap (with_height_row (row_of_position disp)) there_is ∙ ap (λ (t : TextRow). with_height_row (row_of_position disp) (Some t)) lines.is in
+      ∙ ap (with_height_row (mode_row_of_display disp)) there_is ∙ ap (λ (t : TextRow). with_height_row (mode_row_of_display disp) (Some t)) lines.is in
       let there : AreGlyphsThere load (length block) = record { height = lines.few; last = a.last; whole = a.whole } in
       let plan = load_plan fonts load block row in
       let done : Plan CallOutcome = Done (answer_of_registers r (data_of_mode d.mode row)) in
@@ -131,7 +131,7 @@ module _ (fonts : FontSet) (load : GlyphLoad) (r : Regs) (block : List ℕ) (byt
       let x = shown_is c d s a.text old in
       let h = x.is in
       let at : mode_row_at_height d.mode load.height ≡ None = ap (λ m. mode_row_at_height m load.height) h.number ∙ rows_agree h.display load.height
-      ∙ ap (with_height_row (row_of_position h.display)) (ap (λ m. text_row m load.height) (sym h.number) ∙ e) in
+      ∙ ap (with_height_row (mode_row_of_display h.display)) (ap (λ m. text_row m load.height) (sym h.number) ∙ e) in
       let runs = ap (λ (q : Option ModeRow). run card_meaning (load_if_height_exists q load fonts d r block) c) at in
       record { reply = ap (λ y. y.1.0) runs; shows = ap (λ y. shown y.0 y.1.1) runs ∙ old }
 

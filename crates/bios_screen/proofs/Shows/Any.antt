@@ -4,7 +4,7 @@ use Rattle.std.specs.Prelude.{◌==◌, ◌&&◌, ◌*◌, ◌/◌, if◌then◌
 use Rattle.std.specs.Str.{bytes_eq}
 use Rattle.bios_screen.proofs.Prelude.{Four, is_palette_shown, CardState, crtc_port, ModeRow, mode_row_at_height, BiosData, is_text, page_count, start_address, Screen}
 use Rattle.bios_screen.proofs.Prelude.{has_attribute_registers_of_mode, text_memory_cells, page_pixels, shown}
-use Rattle.bios_screen.specs.Screen.{Contents, Cells, PackedPixelColours}
+use Rattle.bios_screen.specs.Screen.{Contents, Cells, Pixels}
 use Rattle.bios_screen.specs.Shown.{cells_in, glyph_bytes_in_plane_2, pixel_pages, crtc_registers_shown, screen_with_contents, screen_of}
 use Rattle.bios_screen.proofs.Base.Tests.{both_true, same}
 use Rattle.bios_screen.proofs.Base.Places.{half_start, ends_before}
@@ -126,7 +126,7 @@ any_is c d s h = by_kind (is_text d.mode) refl
             few = λ u page lp. absurd (cc);
             tests = y.tests;
             distance = 0;
-            contents = λ m. PackedPixelColours (pixel_pages d.mode m d.size (page_pixels d) y.row.pages);
+            contents = λ m. Pixels (pixel_pages d.mode m d.size (page_pixels d) y.row.pages);
             glyphs = λ m. [];
             screen = λ z type places page start. screen_is_pixels y.row z (with_cursors d type places page start) t;
           };

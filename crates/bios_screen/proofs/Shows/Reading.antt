@@ -6,7 +6,7 @@ use Rattle.std.proofs.lemmas.Bool.{cases_lt}
 use Rattle.std.proofs.lemmas.List.{get_or_append_left, get_or-append-add, get_or_default, append-nil, length-append}
 use Rattle.bios_screen.proofs.Prelude.{Four, CardState, ModeRow, mode_row_at_height, BiosData, is_text, is_mode_of_256_colours, start_address, list_by_function, Cell, Screen, cell_in, pixel_in}
 use Rattle.bios_screen.proofs.Prelude.{page_pixels, pixel_screen, crtc_registers}
-use Rattle.bios_screen.specs.Screen.{Contents, Cells, PackedPixelColours, Layout, missing_cell, cell_of}
+use Rattle.bios_screen.specs.Screen.{Contents, Cells, Pixels, Layout, missing_cell, cell_of}
 use Rattle.bios_screen.specs.Parts.{text_cell, page_pixel, cut_pages, pixel_count, cells_or_pixels_of_mode, LayoutFitsContents}
 use Rattle.bios_screen.specs.Shown.{cells_in, glyph_byte_in_plane_2, glyph_bytes_in_plane_2, pixels_in, pixel_pages, layout_of, screen_with_contents}
 use Rattle.bios_screen.specs.Shown.{crtc_registers_shown, cursor_location_shown, shows}
@@ -85,9 +85,9 @@ cut_at pixels n pages p k lp lk =
     ap (λ l. slice_index l k) (listed_at (λ q. list_by_function (λ j. slice_index pixels (n * q + j)) 0 n) pages p [] lp)
     ∙ listed_at (λ j. slice_index pixels (n * p + j)) n k 0 lk
 
-pub refuse_unless_graphics_mode : (mode : ℕ) (m : Four (List ℕ)) (z : ℕ) (l : List ℕ) → l ≡ l ++ pixels_in mode m z 0
+pub no_pixels : (mode : ℕ) (m : Four (List ℕ)) (z : ℕ) (l : List ℕ) → l ≡ l ++ pixels_in mode m z 0
 unfolding pixels_in
-refuse_unless_graphics_mode mode m z l = sym (append-nil l)
+no_pixels mode m z l = sym (append-nil l)
 
 pub more_pixels : (mode : ℕ) (m : Four (List ℕ)) (z n : ℕ) → pixels_in mode m z (n + 1) ≡ pixels_in mode m z n ++ pixel_in mode m z n ∷ []
 unfolding pixels_in
@@ -114,13 +114,13 @@ pages_are mode m size n pages = cut_joined (λ p. pixels_in mode m (size * p) n)
 
 pub text_cell_is : (mode : ℕ) (l : Layout) (cells : List Cell) (pixels : List ℕ) (k : ℕ) → is_text mode ≡ true →
     text_cell (cells_or_pixels_of_mode mode l cells pixels) k ≡ Some (cell_of cells k)
-text_cell_is mode l cells pixels k t = ap (λ b. let x : Contents = (if b then Cells cells else PackedPixelColours (cut_pages pixels (pixel_count l) l.pages)) in
+text_cell_is mode l cells pixels k t = ap (λ b. let x : Contents = (if b then Cells cells else Pixels (cut_pages pixels (pixel_count l) l.pages)) in
     text_cell x k) t
 
 pub page_pixel_is : (mode : ℕ) (l : Layout) (cells : List Cell) (pixels : List ℕ) (p k : ℕ) → is_text mode ≡ false → p < l.pages → k < pixel_count l →
     page_pixel (cells_or_pixels_of_mode mode l cells pixels) p k ≡ Some (slice_index pixels (pixel_count l * p + k))
 page_pixel_is mode l cells pixels p k t lp lk =
-    ap (λ b. let x : Contents = (if b then Cells cells else PackedPixelColours (cut_pages pixels (pixel_count l) l.pages)) in page_pixel x p k) t
+    ap (λ b. let x : Contents = (if b then Cells cells else Pixels (cut_pages pixels (pixel_count l) l.pages)) in page_pixel x p k) t
     ∙ ap (λ (n : ℕ). Some n) (cut_at pixels (pixel_count l) l.pages p k lp lk)
 
 -- a conditional whose three tests hold has its first value
@@ -225,9 +225,9 @@ pub pixel_screen_is : (row : ModeRow) (c : CardState) (d : BiosData) (cells : Li
 pixel_screen_is row c d cells pixels s t e h =
     let n = page_pixels d in
     h
-    ∙ ap (λ b. let x : Contents = (if b then Cells cells else PackedPixelColours (cut_pages pixels n row.pages)) in screen_with_contents row c d 0 x []) t
-    ∙ ap (λ l. screen_with_contents row c d 0 (PackedPixelColours (cut_pages l n row.pages)) []) e
-    ∙ ap (λ l. screen_with_contents row c d 0 (PackedPixelColours l) []) (pages_are d.mode c.host.memory d.size n row.pages)
+    ∙ ap (λ b. let x : Contents = (if b then Cells cells else Pixels (cut_pages pixels n row.pages)) in screen_with_contents row c d 0 x []) t
+    ∙ ap (λ l. screen_with_contents row c d 0 (Pixels (cut_pages l n row.pages)) []) e
+    ∙ ap (λ l. screen_with_contents row c d 0 (Pixels l) []) (pages_are d.mode c.host.memory d.size n row.pages)
 
 -- a mode's CRT controller registers with six set: cursor type, start address, cursor location
 abbrev pub set_registers : List ℕ → ℕ → ℕ → ℕ → List ℕ

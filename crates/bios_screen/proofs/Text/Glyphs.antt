@@ -37,14 +37,14 @@ glyph_decoded Monochrome h a l = grind (arith, nat_tests)
 glyph_window : (disp : Display) (h : HostState) (a : ℕ) → a < 65536 → window_offset (host_at h (glyph_setting disp)) (0xA0000 + a) ≡ a
 glyph_window disp h a l = omega arith
 
-glyph_byte_in_plane_2 : (disp : Display) (h : HostState) (v : ℕ) → v < 256 → written_byte (host_at h (glyph_setting disp)) v 2 ≡ v
+written_glyph_byte : (disp : Display) (h : HostState) (v : ℕ) → v < 256 → written_byte (host_at h (glyph_setting disp)) v 2 ≡ v
 unfolding byte_of_bits written_bit combined_bit
-glyph_byte_in_plane_2 disp h v l = byte_bits v l
+written_glyph_byte disp h v l = byte_bits v l
 
 -- a Put reaches plane 2 alone, by computation
 glyph_memory : (disp : Display) (h : HostState) (a v : ℕ) → v < 256 → memory_after_put (host_at h (glyph_setting disp)) a v
     ≡ record h.memory { plane2 = slice_set h.memory.plane2 a v }
-glyph_memory disp h a v l = ap (λ x. let m : Four (List ℕ) = record h.memory { plane2 = slice_set h.memory.plane2 a x } in m) (glyph_byte_in_plane_2 disp h v l)
+glyph_memory disp h a v l = ap (λ x. let m : Four (List ℕ) = record h.memory { plane2 = slice_set h.memory.plane2 a x } in m) (written_glyph_byte disp h v l)
 
 glyph_put : (disp : Display) (rest c : CardState) (g : ℕ → ℕ) (a v : ℕ) → a < 65536 → v < 256 → IsLoading disp rest c g →
     IsLoading disp rest (run card_meaning (put (0xA0000 + a) v) c).0 (set_cell g a v)

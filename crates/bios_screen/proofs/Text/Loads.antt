@@ -28,7 +28,7 @@ use Rattle.bios_screen.proofs.Base.Plans.{then_runs}
 use Rattle.bios_screen.proofs.Base.Lists.{same_from_0, length_listing, listed_at}
 use Rattle.bios_services.proofs.CardLemmas.{plan_bounds}
 use Rattle.bios_screen.proofs.Base.Setting.{Setting, setting, card_at}
-use Rattle.bios_screen.proofs.Modes.TextModes.{Display, Height, window_of, port_of, text_setting, row_of_position, row_with, lines_of, number_of}
+use Rattle.bios_screen.proofs.Modes.TextModes.{Display, Height, window_of, port_of, text_setting, mode_row_of_display, row_with, lines_of, number_of}
 use Rattle.bios_screen.proofs.Modes.TextModes.Display.{Colour, Monochrome}
 use Rattle.bios_screen.proofs.Modes.TextModes.Height.{Eight, Fourteen, Sixteen}
 use Rattle.bios_screen.proofs.Text.Glyphs.{glyph_setting, without_glyphs, IsLoading, glyphs_loaded}
@@ -51,7 +51,7 @@ height_plan port row =
 
 height_by : (disp : Display) (new : Height) (old : TextRow) (c : CardState) (type start location : ℕ)
     → (run card_meaning (height_plan (port_of disp) (row_with disp new)) (card_at
-    (with_crtc c (crtc_registers (with_text_row (row_of_position disp) old) type start location) c.crtc.index) (text_setting disp))).0
+    (with_crtc c (crtc_registers (with_text_row (mode_row_of_display disp) old) type start location) c.crtc.index) (text_setting disp))).0
     ≡ with_crtc (card_at c (text_setting disp)) (crtc_registers (row_with disp new) (row_with disp new).cursor_type 0 0) 0x0F
 unfolding write_crtc_word_plan reached_by crtc_port_of out_reached after_crtc
 height_by Colour Eight old c type start location = refl
@@ -119,9 +119,9 @@ record ReachesGlyphs (disp : Display) : Type 0 where
   on : (c : CardState) → (run card_meaning glyphs_on (card_at c (text_setting disp))).0 ≡ through (card_at c (text_setting disp)) (glyph_setting disp)
   off : (c : CardState) → (run card_meaning (glyphs_off (window_of disp)) (card_at c (glyph_setting disp))).0
       ≡ through (card_at c (glyph_setting disp)) (text_setting disp)
-  window : slice_index (row_of_position disp).graphics 6 ≡ window_of disp
-  port : (row_of_position disp).crtc_address ≡ port_of disp
-  memory : (let s = text_setting disp in let row = row_of_position disp in (s.misc == row.misc) && (bytes_eq s.seq row.sequencer && bytes_eq s.gfx row.graphics)) ≡ true
+  window : slice_index (mode_row_of_display disp).graphics 6 ≡ window_of disp
+  port : (mode_row_of_display disp).crtc_address ≡ port_of disp
+  memory : (let s = text_setting disp in let row = mode_row_of_display disp in (s.misc == row.misc) && (bytes_eq s.seq row.sequencer && bytes_eq s.gfx row.graphics)) ≡ true
 
 reaches_glyphs : (disp : Display) → ReachesGlyphs disp
 unfolding reached_by out_reached
@@ -187,7 +187,7 @@ module _ (fonts : FontSet) (load : GlyphLoad) (block : List ℕ) (bytes : AreByt
       ∙ ap (λ x. through (card_at c2 x) (text_setting disp)) (sym at1) in
       let at3 : setting c3 ≡ text_setting disp = ap (λ (x : Setting). let q : Setting =
       record { misc = x.misc; seq = (text_setting disp).seq; gfx = (text_setting disp).gfx } in q) h.setting in
-      let registers : c3.crtc.registers ≡ crtc_registers (with_text_row (row_of_position disp) (lines_of disp h.height)) d.cursor_type (start_address d d.page)
+      let registers : c3.crtc.registers ≡ crtc_registers (with_text_row (mode_row_of_display disp) (lines_of disp h.height)) d.cursor_type (start_address d d.page)
       (cursor_address d d.page) =
       h.tests.crtc ∙ ap (λ r. crtc_registers r d.cursor_type (start_address d d.page) (cursor_address d d.page)) h.row_is in
       let plan = height_plan row.crtc_address row in

@@ -137,8 +137,8 @@ module _ (c : CardState) (d : BiosData) (h : IsShown c d) (p : ℕ) (lp : p < h.
       let e = window.memory in
       omega arith
 
-  byte_of_blank_cells : (q j : ℕ) → j < 2 → filling_byte (blank_cells_filling attribute) (2 * q + j) ≡ (if j == 0 then 0x20 else attribute)
-  byte_of_blank_cells q j l = let e : ((2 * q + j) % 2 == 0) ≡ (j == 0) = grind (arith, nat_tests) in ap (λ b. if b then 0x20 else attribute) e
+  blank_byte : (q j : ℕ) → j < 2 → filling_byte (blank_cells_filling attribute) (2 * q + j) ≡ (if j == 0 then 0x20 else attribute)
+  blank_byte q j l = let e : ((2 * q + j) % 2 == 0) ≡ (j == 0) = grind (arith, nat_tests) in ap (λ b. if b then 0x20 else attribute) e
 
   cells_scrolled : (f g : ℕ → ℕ) → IsScrolled f g → ((k : ℕ) → k < 16384 → cell_on s k ≡ cells_of_bytes f k) → (k : ℕ) → k < 16384 →
       cells_of_bytes g k ≡ scroll_cells s p w direction n attribute (cell_on s) k
@@ -162,7 +162,7 @@ module _ (c : CardState) (d : BiosData) (h : IsShown c d) (p : ℕ) (lp : p < h.
       let new = is.filled (byte_of k j) (byte_test k j lj ∙ both.1) (ap (has_source_row direction w n) (byte_row k j lj) ∙ m) in
       let at : byte_of k j % (2 * d.columns) - 2 * w.left ≡ 2 * (column - w.left) + j = let q = byte_column k j lj in
       let b = (inside_of w row column both.1).before in omega arith in
-      ap g (sym (byte_at k j low)) ∙ new.is ∙ ap (filling_byte (blank_cells_filling attribute)) at ∙ byte_of_blank_cells (column - w.left) j lj))
+      ap g (sym (byte_at k j low)) ∙ new.is ∙ ap (filling_byte (blank_cells_filling attribute)) at ∙ blank_byte (column - w.left) j lj))
       (λ t.
       same_cell g f k k (λ j lj. is.outside (2 * k + j) (λ b e.
       let a = page_bytes in

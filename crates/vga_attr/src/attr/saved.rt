@@ -14,7 +14,7 @@ impl Attr {
     /// Puts the bytes of the attribute controller into a slice from index `at` on. It returns the
     /// index after them. The order is: the 21 registers, the controller's index, and 1 if the next
     /// write is data, else 0.
-    #[tactic(auto, unfolding(crate::specs::Saved::saved_attr), using(vga_bits::proofs::SavedLemmas::put_with_dots_owed))]
+    #[tactic(auto, unfolding(crate::specs::Saved::saved_attr), using(vga_bits::proofs::SavedLemmas::put_behind))]
     pub fn save(&self, out: &mut [u8], at: usize) -> usize
         requires { at + 23 ≤ length out.old }
         ensures put { IsPut out.old out.new at result (saved_attr self.now) }

@@ -1,4 +1,4 @@
-use Rattle.std.proofs.Common.{◌≡◌, ◌∙◌, sym, ap, subst, ℕ, arith, refl}
+use Rattle.std.proofs.Common.{◌∙◌, subst, arith, refl}
 use Rattle.std.proofs.lemmas.List.{get_or-set_other}
 use Rattle.vga_c.specs.Forms.{rgb_word_of_dot}
 use Rattle.vga_c.specs.Palette.{NoNumberHasColour, HasColourNumbered}

@@ -1,4 +1,4 @@
-use Rattle.std.proofs.Common.{◌≡◌, ◌<◌, ◌≤◌, ℕ, length, slice_index}
+use Rattle.std.proofs.Common.{◌≡◌, ◌≤◌, ℕ, length, slice_index}
 use Rattle.vga_c.specs.Forms.{rgb_word_of_dot}
 use Rattle.vga_c.specs.Palette.{AreDotsNumbered}
 use Rattle.vga_c.proofs.indexed.number_dots.Given as goal

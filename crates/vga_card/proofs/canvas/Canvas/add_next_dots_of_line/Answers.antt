@@ -4,7 +4,7 @@ use Rattle.vga_crtc.specs.declared.beam.Beam.{Beam}
 use Rattle.vga_host.specs.Sequencer.{character_width}
 use Rattle.vga_card.specs.Picture.{Dot}
 use Rattle.vga_card.specs.Canvas.{CanvasState, dots_of_bytes}
-use Rattle.vga_card.proofs.CanvasLemmas.{line_shown, stored_line, canvas_more, roomier, bytes_are_below_256}
+use Rattle.vga_card.proofs.CanvasLemmas.{line_shown, stored_line, canvas_more, roomier, bytes_fit}
 use Rattle.vga_card.proofs.FrameLemmas.{wide}
 use Rattle.vga_card.proofs.PartLemmas.{appended_part}
 use Rattle.vga_card.proofs.canvas.Canvas.add_next_dots_of_line.Goals as goal
@@ -18,7 +18,7 @@ append_next_dots-requires-clause-room g c =
     let here = ap (λ (b : Beam). b.line) c.beam-line.ensures.value in
     let room = line_shown _ _ a.widths.items a.line v n c.self.view_is (omega (arith, here, c.requires.lines)) (omega (arith, here, c.requires.after))
     (omega (arith, c.requires.count)) (λ same. c.requires.room (sym here ∙ same)) in
-    omega (arith, bytes_are_below_256 a.buffer.cap bytes a.widths.items a.line v n c.self.invariant.1 room, length-take a.used a.buffer.items)
+    omega (arith, bytes_fit a.buffer.cap bytes a.widths.items a.line v n c.self.invariant.1 room, length-take a.used a.buffer.items)
 
 pub invariant_of-self : goal.invariant_of-self
 invariant_of-self g c =

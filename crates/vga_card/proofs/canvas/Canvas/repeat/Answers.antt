@@ -3,7 +3,7 @@ use Rattle.std.proofs.lemmas.List.{get_or_read, length-take, length-drop}
 use Rattle.vga_card.specs.Picture.{Dot, line_of_each_dot_by_widths}
 use Rattle.vga_card.specs.Canvas.{CanvasState, dots_of_bytes}
 use Rattle.vga_card.specs.Repeat.{last_dots_moved_to_line}
-use Rattle.vga_card.proofs.CanvasLemmas.{line_shown, stored_line, canvas_more, roomier, bytes_are_below_256, length-dots_from}
+use Rattle.vga_card.proofs.CanvasLemmas.{line_shown, stored_line, canvas_more, roomier, bytes_fit, length-dots_from}
 use Rattle.vga_card.proofs.RepeatLemmas.{last_dots}
 use Rattle.vga_card.proofs.canvas.Canvas.repeat.Goals as goal
 
@@ -20,7 +20,7 @@ append_again-requires-clause-room c =
     let bytes = take a.used a.buffer.items in
     let n = c.args.count in
     let room = line_shown _ _ a.widths.items a.line c.args.line n c.self.view_is c.requires.lines c.requires.after c.requires.few c.requires.room in
-    let fit = bytes_are_below_256 a.buffer.cap bytes a.widths.items a.line c.args.line n c.self.invariant.1 room in
+    let fit = bytes_fit a.buffer.cap bytes a.widths.items a.line c.args.line n c.self.invariant.1 room in
     omega (arith, fit, length-take a.used a.buffer.items, c.self.invariant.0)
 
 pub overflow_add-width : goal.overflow_add-width

@@ -1,7 +1,7 @@
 use Rattle.std.proofs.Common.{◌++◌, ◌∙◌, ℕ, List, ap, subst}
 use Rattle.std.specs.List.{flat_map}
 use Rattle.vga_bits.specs.Saved.{word_bytes, IsPut}
-use Rattle.vga_bits.proofs.SavedLemmas.{put_with_dots_owed}
+use Rattle.vga_bits.proofs.SavedLemmas.{put_behind}
 use Rattle.vga_card.specs.Canvas.{CanvasState}
 use Rattle.vga_card.proofs.SavedLemmas.{dots_bytes}
 use Rattle.vga_card.proofs.canvas.Canvas.save.Goals as goal
@@ -13,4 +13,4 @@ returns-clause-put c =
     (ap (λ (l : List ℕ). flat_map word_bytes l ++ c.bytes.result.now) c.as_slice.ensures.value
     ∙ ap (λ (l : List ℕ). flat_map word_bytes a.widths.items ++ l) c.bytes.ensures.value
     ∙ dots_bytes a.widths.items _ c.args.self.now.dots c.self.invariant.1.lines (ap (λ (s : CanvasState). s.dots) c.self.view_is))
-    (put_with_dots_owed c.put_widths-at.ensures.put c.put_bytes.ensures.put)
+    (put_behind c.put_widths-at.ensures.put c.put_bytes.ensures.put)

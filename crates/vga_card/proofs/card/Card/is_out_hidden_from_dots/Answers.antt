@@ -1,5 +1,5 @@
 -- Each of the four ports has its lemma.
-use Rattle.std.proofs.Common.{◌≡◌, ◌∙◌, sym, subst, ap, ⊎_elim}
+use Rattle.std.proofs.Common.{◌∙◌, sym, subst, ap, ⊎_elim}
 use Rattle.vga_card.specs.Card.{CardState}
 use Rattle.vga_card.specs.Cycles.{out_cycle}
 use Rattle.vga_card.specs.Owed.{IsChangeHiddenFromDots}

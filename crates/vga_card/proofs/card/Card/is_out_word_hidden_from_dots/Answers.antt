@@ -1,5 +1,5 @@
 -- Each of the two ports has its lemma.
-use Rattle.std.proofs.Common.{◌≡◌, ◌∙◌, sym, subst}
+use Rattle.std.proofs.Common.{◌∙◌, sym, subst}
 use Rattle.vga_card.specs.WordCycles.{out_word_cycle}
 use Rattle.vga_card.specs.Owed.{IsChangeHiddenFromDots}
 use Rattle.vga_card.proofs.HiddenLemmas.{sequencer_word_hidden, graphics_word_hidden}

@@ -1,5 +1,5 @@
 -- The flip-flop is cleared at once, and the status is that of n dots on.
-use Rattle.std.proofs.Common.{◌≡◌, ◌∙◌, sym, ap, ℕ, Ok}
+use Rattle.std.proofs.Common.{◌≡◌, ◌∙◌, ap, Ok}
 use Rattle.vga_crtc.specs.Beam.{after_dots}
 use Rattle.vga_crtc.specs.Status.{status}
 use Rattle.vga_attr.specs.Attr.{AttrState}

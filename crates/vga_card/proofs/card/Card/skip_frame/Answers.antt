@@ -1,5 +1,5 @@
 -- The beam comes to the next frame, and the canvas is empty there.
-use Rattle.std.proofs.Common.{◌≡◌, ◌∙◌, ap, ℕ, List, []}
+use Rattle.std.proofs.Common.{◌≡◌, ◌∙◌, ap, List, []}
 use Rattle.vga_card.specs.Picture.{Dot}
 use Rattle.vga_card.specs.Card.{CardState}
 use Rattle.vga_card.specs.Dots.{character_width}

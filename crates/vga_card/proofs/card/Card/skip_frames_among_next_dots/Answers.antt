@@ -1,5 +1,4 @@
-use Rattle.std.proofs.Common.{◌≡◌, ◌<◌, ◌≤◌, ◌-◌, ◌∙◌, ℕ, refl, subst, arith}
-use Rattle.vga_card.specs.Frames.{card_dots_to_frame_end}
+use Rattle.std.proofs.Common.{◌∙◌, refl, arith}
 use Rattle.vga_card.proofs.SkipLemmas.{past_frame}
 use Rattle.vga_card.proofs.card.Card.skip_frames_among_next_dots.Goals as goal
 

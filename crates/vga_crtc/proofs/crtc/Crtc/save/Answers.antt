@@ -1,6 +1,6 @@
 use Rattle.std.proofs.Common.{ℕ, List, ◌∷◌, ◌++◌, ap, ◌∙◌, subst}
 use Rattle.vga_bits.specs.Saved.{IsPut}
-use Rattle.vga_bits.proofs.SavedLemmas.{put_with_dots_owed}
+use Rattle.vga_bits.proofs.SavedLemmas.{put_behind}
 use Rattle.vga_crtc.specs.Saved.{saved_crtc}
 use Rattle.vga_crtc.proofs.crtc.Crtc.save.Goals as goal
 
@@ -11,4 +11,4 @@ returns-clause-put c =
     subst (λ (l : List ℕ). IsPut c.args.out.now c.put_bytes.new.out c.args.at c.put_bytes.result l)
     (ap (λ (l : List ℕ). l ++ (a.index ∷ c.saved.result)) c.values.ensures ∙ ap (λ (l : List ℕ). a.registers ++ (a.index ∷ l)) c.saved.ensures
     ∙ ap saved_crtc c.self.view_is)
-    (put_with_dots_owed c.put_bytes-at.ensures.put (put_with_dots_owed c.put_byte-at.ensures.put c.put_bytes.ensures.put))
+    (put_behind c.put_bytes-at.ensures.put (put_behind c.put_byte-at.ensures.put c.put_bytes.ensures.put))

@@ -1,5 +1,5 @@
 use Rattle.vga_crtc.proofs.Frames.{at_dot, at_place, past_start}
-use Rattle.vga_crtc.proofs.laws.beam_place_in_frame.Goals as goal
+use Rattle.vga_crtc.proofs.laws.beam_after_n_dots_by_division.Goals as goal
 
 pub returns-clause-by_number : goal.returns-clause-by_number
 returns-clause-by_number c = at_dot
