@@ -166,6 +166,8 @@ static zak_status do_clock(uint32_t i)
     return zak_clock(&card, &timing);
 }
 
+static zak_status do_advance_clock(uint32_t i) { return do_advance_25(i) | do_clock(i); }
+
 static zak_status do_frame(uint32_t i)
 {
     (void)i;
@@ -394,6 +396,7 @@ static const struct call {
     {"advance_get", do_advance_get, NULL},
     {"advance_in", do_advance_in, NULL},
     {"advance_out_word", do_advance_out_word, NULL},
+    {"advance_clock", do_advance_clock, NULL},
     {"put_bytes", do_put_bytes, NULL},
     {"put_each", do_put_each, NULL},
     {"fill_bytes", do_fill, NULL},

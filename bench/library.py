@@ -53,10 +53,10 @@ CALLS = (
     Call("advance_1", "13"),
     Call("advance_25", "13", timed=1_000_000),
     Call("advance_line", "13", 1000, 100_000),
-    # A cycle after an advance.
+    # A cycle after an advance, or a look at the clock.
     *(
         Call(f"advance_{cycle}", mode, timed=1_000_000)
-        for cycle in ("put", "get", "in", "out_word")
+        for cycle in ("put", "get", "in", "out_word", "clock")
         for mode in ("13", "12", "3")
     ),
     # Many bytes by one call, and by as many calls.
