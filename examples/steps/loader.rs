@@ -1,64 +1,53 @@
-//! Holds the toy adapter to single-step tests of memory:
-//!     rustc -O -o loader loader.rs && zcat write-mode-0-planar.json.gz | ./loader
-
+//! zcat write-mode-0-planar.json.gz | cargo run --release
 mod toy;
-use std::io::BufRead;
+use serde::Deserialize;
 use toy::Toy;
 
-/// The numbers of a member; brackets and commas between them are passed over.
-fn numbers(text: &str, name: &str) -> Vec<u32> {
-    let Some((_, rest)) = text.split_once(&format!("\"{name}\":")) else { return Vec::new() };
-    let rest = rest.split(['"', '}']).next().unwrap_or("");
-    rest.split([',', '[', ']']).filter_map(|word| word.parse().ok()).collect()
+#[derive(Deserialize)]
+struct State {
+    misc: u8,
+    seq: [u8; 5],
+    gfx: [u8; 9],
+    latches: [u8; 4],
+    planes: Vec<(u16, u8, u8, u8, u8)>,
 }
 
-/// The parts of a state: registers and latches, and places of the planes.
-fn parts(text: &str) -> (Vec<u8>, Vec<u32>) {
-    let lists = ["misc", "seq", "gfx", "latches"].map(|name| numbers(text, name));
-    (lists.concat().iter().map(|&value| value as u8).collect(), numbers(text, "planes"))
+#[derive(Deserialize)]
+struct Element {
+    name: String,
+    initial: State,
+    put: Option<(u32, u8)>,
+    get: Option<(u32,)>,
+    answer: Option<u8>,
+    refused: Option<String>,
+    r#final: State,
 }
 
-/// Whether the card does an element as it says.
-fn is_right(card: &mut Toy, element: &str) -> bool {
-    let (initial, wanted) = element.split_once("\"final\":").unwrap();
-    let (bytes, places) = parts(initial);
-    card.misc = bytes[0];
-    card.seq.copy_from_slice(&bytes[1..6]);
-    card.gfx.copy_from_slice(&bytes[6..15]);
-    card.latches.copy_from_slice(&bytes[15..19]);
-    for place in places.chunks(5) {
-        card.planes[place[0] as usize] = [1, 2, 3, 4].map(|plane| place[plane] as u8);
+fn set_state(card: &mut Toy, state: &State) {
+    (card.misc, card.seq, card.gfx, card.latches) = (state.misc, state.seq, state.gfx, state.latches);
+    for &(offset, a, b, c, d) in &state.planes {
+        card.planes[offset as usize] = [a, b, c, d];
     }
-    let answer = match (&numbers(initial, "put")[..], &numbers(initial, "get")[..]) {
-        (&[address, byte], _) => card.put(address, byte as u8).map(|()| None),
-        (_, &[address]) => card.get(address).map(Some),
-        _ => return false,
+}
+
+fn is_right(card: &mut Toy, element: &Element) -> bool {
+    set_state(card, &element.initial);
+    let mut wanted = card.clone();
+    set_state(&mut wanted, &element.r#final);
+    let answer = match element.put {
+        Some((address, byte)) => card.put(address, byte).map(|()| None),
+        None => element.get.and_then(|(address,)| card.get(address)).map(Some),
     };
-    let refused = initial.contains("\"refused\":");
-    let answers = numbers(initial, "answer").first().map(|&byte| byte as u8);
-    let (bytes, places) = parts(wanted);
-    let state = [&[card.misc][..], &card.seq[..], &card.gfx[..], &card.latches[..]].concat();
-    let planes = |place: &[u32]| (0..4).all(|p| card.planes[place[0] as usize][p] as u32 == place[1 + p]);
-    let is_answered = if refused { answer.is_none() } else { answer == Some(answers) };
-    is_answered && state == bytes && places.chunks(5).all(planes)
+    answer == element.refused.is_none().then_some(element.answer) && *card == wanted
 }
 
 fn main() {
+    let elements: Vec<Element> = serde_json::from_reader(std::io::stdin().lock()).unwrap();
     let mut card = Toy::new();
-    let (mut right, mut wrong) = (0, 0);
-    for line in std::io::stdin().lock().lines().map_while(Result::ok) {
-        if !line.contains("\"final\":") {
-            continue;
-        }
-        if is_right(&mut card, &line) {
-            right += 1;
-        } else {
-            if wrong == 0 {
-                println!("the first that differs: {line}");
-            }
-            wrong += 1;
-        }
+    let wrong: Vec<_> = elements.iter().filter(|element| !is_right(&mut card, element)).collect();
+    if let Some(first) = wrong.first() {
+        println!("the first that differs: {}", first.name);
     }
-    println!("{right} right, {wrong} wrong");
-    std::process::exit((wrong > 0 || right == 0) as i32);
+    println!("{} right, {} wrong", elements.len() - wrong.len(), wrong.len());
+    std::process::exit((elements.is_empty() || !wrong.is_empty()) as i32);
 }

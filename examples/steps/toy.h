@@ -8,7 +8,7 @@
 
 typedef struct toy {
     uint8_t misc, seq[5], gfx[9], latches[4];
-    uint8_t planes[4][65536];
+    uint8_t planes[65536][4];
 } toy;
 
 /* Whether an address is decoded, and its place in the window. */
@@ -65,7 +65,7 @@ static inline bool toy_put(toy *card, uint32_t address, uint8_t byte)
         reached &= place & 1 ? 0xA : 0x5;
     for (int plane = 0; plane < 4; plane++)
         if (reached >> plane & 1)
-            card->planes[plane][toy_offset(card, place)] = toy_stored(card, plane, byte);
+            card->planes[toy_offset(card, place)][plane] = toy_stored(card, plane, byte);
     return true;
 }
 
@@ -78,7 +78,7 @@ static inline bool toy_get(toy *card, uint32_t address, uint8_t *byte)
         return false;
     for (int plane = 0; plane < 4; plane++) {
         unsigned colour = card->gfx[2] >> plane & 1 ? 0xFF : 0;
-        card->latches[plane] = card->planes[plane][toy_offset(card, place)];
+        card->latches[plane] = card->planes[toy_offset(card, place)][plane];
         if (card->gfx[7] >> plane & 1)
             differing |= card->latches[plane] ^ colour;
     }

@@ -1,6 +1,7 @@
 //! A toy adapter: the memory of a VGA and the registers by which it is written and read.
 //! docs/HOST-PATH.md has the rules. loader.rs holds it to single-step tests.
 
+#[derive(Clone, PartialEq)]
 pub struct Toy {
     pub misc: u8,
     pub seq: [u8; 5],

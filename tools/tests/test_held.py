@@ -4,6 +4,7 @@ from __future__ import annotations
 
 import gzip
 import json
+import os
 import re
 import shutil
 import sys
@@ -58,11 +59,20 @@ TOY_FAULTS = (
     ("byte & KEPT[self.seq_index]", "byte", "sequencer", "sequencer registers"),
 )
 AGREE = f"{COUNT} elements: {COUNT} agree, 0 differ"
+STRICT = ("-O2", "-Wall", "-Wextra", "-Werror")
+# What compiles a loader, a file of the library that it takes, Debian's package for that, and words.
 COMPILED = {
-    "loader.c": ("gcc", "-O2", "-Wall", "-Wextra", "-Werror"),
-    "loader.cpp": ("g++", "-std=c++17", "-O2", "-Wall", "-Wextra", "-Werror"),
-    "loader.rs": ("rustc", "-O"),
+    "loader.c": (("gcc", *STRICT), "/usr/include/jansson.h", "libjansson-dev", ("-ljansson",)),
+    "loader.cpp": (
+        ("g++", "-std=c++17", *STRICT),
+        "/usr/include/nlohmann/json.hpp",
+        "nlohmann-json3-dev",
+        (),
+    ),
 }
+# Debian's crates, from which cargo takes what it would fetch elsewhere.
+CRATES = Path("/usr/share/cargo/registry")
+CRATES_PACKAGE = "librust-serde-json-dev"
 
 
 class Faults(Made):
@@ -137,15 +147,37 @@ class Loaders(Made):
     def test_python(self) -> None:
         self.hold_loader([sys.executable, STEPS_EXAMPLES / "loader.py"])
 
-    def test_compiled_ones(self) -> None:
-        for name, (compiler, *flags) in COMPILED.items():
-            if shutil.which(compiler) is None:
-                continue
-            with self.subTest(name):
-                program = self.folder / name.replace(".", "-")
-                done = ended(compiler, *flags, "-o", program, STEPS_EXAMPLES / name)
-                self.assertEqual((done[0], done[2]), (0, ""))
-                self.hold_loader([program])
+    def want(self, program: str, file: Path, package: str) -> None:
+        """Skips a test for which a program or a file is missing."""
+        if shutil.which(program) is None or not file.exists():
+            self.skipTest(f"{program} or Debian's package {package} isn't installed")
+
+    def hold_compiled(self, name: str) -> None:
+        """Compiles a loader, and holds it."""
+        command, file, package, libraries = COMPILED[name]
+        self.want(command[0], Path(file), package)
+        program = self.folder / name.replace(".", "-")
+        done = ended(*command, "-o", program, STEPS_EXAMPLES / name, *libraries)
+        self.assertEqual((done[0], done[2]), (0, ""))
+        self.hold_loader([program])
+
+    def test_c(self) -> None:
+        self.hold_compiled("loader.c")
+
+    def test_cpp(self) -> None:
+        self.hold_compiled("loader.cpp")
+
+    def test_rust(self) -> None:
+        self.want("cargo", next(CRATES.glob("serde_json-*"), CRATES / "none"), CRATES_PACKAGE)
+        for name in ("Cargo.toml", "loader.rs", "toy.rs"):
+            shutil.copy(STEPS_EXAMPLES / name, self.folder)
+        config = [f'source.debian.directory="{CRATES}"', 'source.crates-io.replace-with="debian"']
+        words = [word for one in config for word in ("--config", one)]
+        given = {**os.environ, "CARGO_HOME": str(self.folder / "home"), "RUSTFLAGS": "-Dwarnings"}
+        given.update({"CARGO_TARGET_DIR": str(self.folder / "made")})
+        done = ended("cargo", "build", "-q", "--offline", *words, cwd=self.folder, env=given)
+        self.assertEqual((done[0], done[2]), (0, ""))
+        self.hold_loader([self.folder / "made" / "debug" / "loader"])
 
     def check_toy(self, text: str, kind: str, name: str = "toy.py") -> tuple[int, str]:
         """What `check` tells of a toy adapter that has this text."""

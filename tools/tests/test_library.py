@@ -235,14 +235,7 @@ class Page(unittest.TestCase):
         lacking = {name for name in calls_of(TEXT) if not re.search(rf"\b{name}\b", functions)}
         self.assertEqual(
             {name.partition("_show_")[0] for name in lacking},
-            {
-                "zak",
-                "zak_version",
-                "zak_frame_lines",
-                "zak_peek",
-                "zak_run_on",
-                "zak_print",
-            },
+            {"zak", "zak_version", "zak_frame_lines", "zak_peek", "zak_run_on", "zak_print"},
         )
 
 
@@ -383,6 +376,8 @@ class Parts(Folder):
         self.assertEqual((status, said, len(output.splitlines())), (0, "", 2))
         first, second = (Path(told.splitlines()[0]).read_bytes() for told in (output, again))
         self.assertEqual(first, second)
+        many = call(main_of("vga-release"), self.folder, "--count", "5")
+        hold_undone(self, many, "^vga-release: --count is for --steps: a release has 10,000 elem")
         told = "^vga-release: --portable takes nothing that is built\n"
         words = ["--portable", "--program", self.write("given", "")]
         hold_undone(self, call(main_of("vga-release"), self.folder, *words), told)
@@ -391,24 +386,26 @@ class Parts(Folder):
         library = File(b"the library")
         built: dict[str, Entry] = {"lib/libzaklimot.so.1": library}
         built["lib/libzaklimot.so"] = "libzaklimot.so.1"
-        seen: list[bytes] = []
+        seen: list[tuple[bytes, int]] = []
 
-        def make(_: str, path: Path, __: object) -> dict[str, bytes]:
-            seen.append(path.read_bytes())
+        def make(_: str, path: Path, __: object, count: int) -> dict[str, bytes]:
+            seen.append((path.read_bytes(), count))
             return {"steps/a.json.gz": b"elements"}
 
         files = {place: File((TOP / place).read_bytes()) for place in stepping.ALONE}
         made = {"files_of": lambda _, paths: {path: files[path] for path in paths}}
         with patched(release, made), mock.patch.object(stepping, "make_steps", make):
-            entries = release.steps_entries(COMMIT, built, lambda _: None)
-        self.assertEqual(seen, [b"the library"])
+            entries = release.steps_entries(COMMIT, built, lambda _: None, 7)
+        self.assertEqual(seen, [(b"the library", 7)])
         names = {Path(place).name for place in stepping.LOADERS}
-        wanted = {"LICENSE", "README.md", "zaklimot.fnt", "steps/a.json.gz", *names}
+        wanted = {"LICENSE", "README.md", "STEPS.md", "zaklimot.fnt", "steps/a.json.gz", *names}
         self.assertEqual(set(entries), wanted)
-        page = content_of(entries["README.md"]).decode("utf-8")
-        self.assertTrue(page.startswith("# Single-step tests\n"))
-        self.write("LICENSE", "")
-        self.assertEqual(broken(self.folder / "README.md", page), [])
+        for name in sorted(wanted):
+            self.write(name, content_of(entries[name]))
+        for name, title in (("README", "# Single-step tests of a VGA\n"), ("STEPS", "# Single-s")):
+            page = (self.folder / f"{name}.md").read_text("utf-8")
+            self.assertTrue(page.startswith(title))
+            self.assertEqual(broken(self.folder / f"{name}.md", page), [])
 
     def test_elements_of_a_release_are_made(self) -> None:
         made = stepping.make_steps("0123456789", None, None, count=1)
@@ -1100,12 +1097,7 @@ class Finding(unittest.TestCase):
 
     def test_without_a_library_each_way_to_one_is_told(self) -> None:
         empty = str(self.folder / "empty")
-        ways = (
-            "a release",
-            "./install.sh",
-            "tools/vga-library install",
-            "PKG_CONFIG_PATH",
-        )
+        ways = ("a release", "./install.sh", "tools/vga-library install", "PKG_CONFIG_PATH")
         self.crate()
         packages = {"PKG_CONFIG_PATH": f"{empty}/lib/pkgconfig"}
         for names, begins in (

@@ -44,6 +44,8 @@ from .tools import (
 setUpModule = make_files
 
 PAGE = TOP / "docs" / "STEPS.md"
+# The loaders that it shows, by the languages.
+LOADERS = {"python": "loader.py", "c": "loader.c", "cpp": "loader.cpp", "rust": "loader.rs"}
 # The examples have another seed, and a release yet another.
 EXAMPLE_SEED, EXAMPLE_COUNT = 2, 20
 
@@ -453,11 +455,16 @@ class Page(unittest.TestCase):
         path = STEPS_EXAMPLES / "write-mode-3-planar.json.gz"
         self.assertEqual(json.loads(found[1]), list(read_elements(str(path)))[3])
 
-    def test_it_has_the_loader_and_counts_the_rules(self) -> None:
+    def test_it_has_the_loaders(self) -> None:
+        shown = re.findall(r"(?ms)^```(\w+)\n(.*?)^```", PAGE.read_text("utf-8"))
+        self.assertEqual([language for language, _ in shown], [*LOADERS])
+        for language, text in shown:
+            file = (STEPS_EXAMPLES / LOADERS[language]).read_text("utf-8")
+            # That in Python lacks how it is started alone.
+            self.assertTrue(text == file or language == "python" and text in file, language)
+
+    def test_it_counts_the_rules(self) -> None:
         text = PAGE.read_text("utf-8")
-        found = re.search(r"(?ms)^```python\n(.*?)^```", text)
-        assert found is not None
-        self.assertIn(found[1], (STEPS_EXAMPLES / "loader.py").read_text("utf-8"))
         counts = [len(RULES), sum(len(rule.branches) for rule in RULES)]
         told = re.search(r"the (\d+) rules and (\d+)\nbranches", text)
         assert told is not None

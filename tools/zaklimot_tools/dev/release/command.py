@@ -51,7 +51,7 @@ from zaklimot_tools.dev.library.words import BACKENDS
 from zaklimot_tools.script.crates import phases
 
 from . import stepping
-from .words import PORTABLE, STEPS
+from .words import COUNT, PORTABLE, STEPS
 
 
 PROGRAM = TOP / "crates" / "vga"
@@ -223,9 +223,11 @@ def portable_entries(commit: Commit) -> dict[str, Entry]:
     return settled(files_of(commit, tuple(ALONE)), ALONE)
 
 
-def steps_entries(commit: Commit, built: Mapping[str, Entry], heard: Hearer) -> dict[str, Entry]:
-    """All files of the archive of single-step tests. The proved library makes them, if it is among
-    what is built."""
+def steps_entries(
+    commit: Commit, built: Mapping[str, Entry], heard: Hearer, count: int
+) -> dict[str, Entry]:
+    """All files of the archive of single-step tests, with so many of each kind. The proved library
+    makes them, if it is among what is built."""
     shared = (
         entry
         for place, entry in built.items()
@@ -236,7 +238,7 @@ def steps_entries(commit: Commit, built: Mapping[str, Entry], heard: Hearer) -> 
         for entry in shared:
             library = Path(name) / "libzaklimot.so"
             library.write_bytes(entry.content)
-        made = stepping.make_steps(commit.number, library, heard)
+        made = stepping.make_steps(commit.number, library, heard, count)
     files = {place: File(content) for place, content in made.items()}
     return {**settled(files_of(commit, tuple(stepping.ALONE)), stepping.ALONE), **files}
 
@@ -386,7 +388,8 @@ def release(words: argparse.Namespace, progress: Progress) -> None:
             check_program(program)
         archives[MACHINE] = release_entries(commit, *_built(words, progress))
     if not words.portable:
-        archives[STEPS] = steps_entries(commit, archives.get(MACHINE, {}), tell)
+        count = words.count or COUNT
+        archives[STEPS] = steps_entries(commit, archives.get(MACHINE, {}), tell, count)
     progress.clear()
     words.folder.mkdir(parents=True, exist_ok=True)
     for kind in sorted(archives, reverse=True):

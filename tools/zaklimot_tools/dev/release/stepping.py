@@ -12,16 +12,17 @@ from zaklimot_tools.core.processes import Hearer, Word, run
 from zaklimot_tools.core.trouble import Trouble
 from zaklimot_tools.steps.library import NAMED, library_path
 
-from .words import STEPS
+from .words import COUNT, STEPS
 
-# How many elements each kind has, so many commands at a time, and the most bytes of all files.
-COUNT, JOBS, MOST_BYTES = 10_000, 2, 60_000_000
+# So many commands work at a time, and so many bytes have all files at most.
+JOBS, MOST_BYTES = 2, 60_000_000
 TOOL = TOP / "tools" / "vga-steps"
 # What of the commit lies beside the elements, and where.
 PAGE = "docs/STEPS.md"
 LOADERS = tuple(
     f"examples/steps/{name}"
     for name in (
+        "Cargo.toml",
         "beam.py",
         "loader.c",
         "loader.cpp",
@@ -33,7 +34,8 @@ LOADERS = tuple(
     )
 )
 ALONE = {
-    PAGE: "README.md",
+    "tools/zaklimot_tools/dev/release/STEPS.md": "README.md",
+    PAGE: "STEPS.md",
     "LICENSE": "LICENSE",
     "fonts/zaklimot.fnt": "zaklimot.fnt",
     **{place: Path(place).name for place in LOADERS},
@@ -51,7 +53,7 @@ def make_steps(
     """The files of elements, by their places in the archive, and what they are made of.
 
     The library that makes them is the proved one, if it is given. Each rule must be shown often
-    enough, and the files must not be too large.
+    enough, if the kinds have all their elements, and the files must not be too large.
     """
     path = library or Path(library_path())
     seed = str(seed_of(number))

@@ -7,11 +7,14 @@ from pathlib import Path
 from zaklimot_tools.core import cli
 from zaklimot_tools.core.cli import later, rule
 from zaklimot_tools.core.files import Input
+from zaklimot_tools.core.words import number_to
 from zaklimot_tools.dev.library.words import PROCESSORS
 
 
 # The archives of the C file, and of single-step tests, have these names.
 PORTABLE, STEPS = "portable", "steps"
+# How many single-step tests of each kind a release has.
+COUNT = 10_000
 # What jobs of the command line are functions of.
 _job = partial(later, "zaklimot_tools.dev.release.command")
 
@@ -46,6 +49,8 @@ def _parser() -> argparse.ArgumentParser:
     cli.add(parser, f"--{PORTABLE}", told)
     told = "packs the archive of single-step tests alone, made by the C file's library"
     cli.add(parser, f"--{STEPS}", told)
+    told = f"with --{STEPS}: so many elements of each kind (default: {COUNT})"
+    cli.add(parser, "--count N", told, type=number_to(COUNT))
 
     def is_given(words: argparse.Namespace) -> bool:
         return any((words.program, words.archive, words.archive_aarch64))
@@ -54,6 +59,8 @@ def _parser() -> argparse.ArgumentParser:
         rule(parser, name, is_given, f"--{name} takes nothing that is built")
     told = f"--{PORTABLE} and --{STEPS} pack an archive each: give one of them"
     rule(parser, STEPS, lambda words: words.portable, told)
+    told = f"--count is for --{STEPS}: a release has {COUNT:,} elements of each kind"
+    rule(parser, "count", lambda words: not words.steps, told)
     parser.set_defaults(job=_job("release"))
     return parser
 
