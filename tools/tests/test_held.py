@@ -313,6 +313,25 @@ class Checking(Made):
                 self.assertEqual((process.returncode, output, said), (status, b"", b""))
                 self.assert_ended(*numbers)
 
+    def test_what_all_files_say_together(self) -> None:
+        paths = [self.files["sequencer"], self.files["dac-mask"], self.files["clock"]]
+        adapter = f"{sys.executable} {TOOLS / 'tests' / 'steps_adapter.py'}"
+        output = steps("check", adapter, *paths)[1]
+        self.assertNotIn("of all files", output)
+        self.assertTrue(output.endswith("150 elements: 150 agree, 0 differ\n"), output)
+        output = steps("check", "cat", *paths[:2])[1]
+        each, together = output.split("of all files\n")
+        self.assertEqual(each.count("  the first that differs is element "), 2)
+        # So many rules are named at most.
+        self.assertEqual(len(re.findall(r"(?m)^ +\d+ of \d+  ", together)), 3, output)
+
+    def test_at_most_eight_differences_are_told(self) -> None:
+        held = HeldFile("file")
+        places = [[offset, 1, 1, 1, 1] for offset in range(9)]
+        wanted = {**GOOD, FINAL: {"planes": [[place[0], 0, 0, 0, 0] for place in places]}}
+        held.judge(wanted, {FINAL: {"planes": places}}, 0)
+        self.assertEqual(len([line for line in held.lines() if line.startswith("    planes")]), 8)
+
     def test_refusals_may_be_left_out(self) -> None:
         path = self.files["other-ports"]
         refused = sum("refused" in one for one in read_elements(str(path)))

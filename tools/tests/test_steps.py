@@ -19,6 +19,7 @@ from unittest import mock
 from zaklimot_tools.steps.adapter import SteppedCard
 from zaklimot_tools.steps.chance import Chance
 from zaklimot_tools.steps.comparing import differences
+from zaklimot_tools.steps.confirming import MOST_TOLD
 from zaklimot_tools.steps.kinds import KINDS
 from zaklimot_tools.steps.library import load
 from zaklimot_tools.steps.parts import BDA, BEAM, FINAL, INITIAL, ORDER, Element
@@ -44,6 +45,10 @@ from .tools import (
 setUpModule = make_files
 
 PAGE = TOP / "docs" / "STEPS.md"
+# How many of the examples show each branch of each rule.
+BRANCHES = Path(__file__).with_name("branches.json")
+# Registers of a plain write to all planes.
+REGISTERS = {"seq": [3, 1, 15, 0, 6], "gfx": [0, 0, 0, 0, 0, 0, 5, 15, 255], "latches": [0] * 4}
 # The loaders that it shows, by the languages.
 LOADERS = {"python": "loader.py", "c": "loader.c", "cpp": "loader.cpp", "rust": "loader.rs"}
 # The examples have another seed, and a release yet another.
@@ -85,6 +90,15 @@ class Making(Made):
             self.assertEqual(made[0].read_bytes(), self.files[kind].read_bytes())
             self.assertEqual((made[2].suffix, told(made[2])), (".json", told(made[0])))
             self.assertNotEqual(told(made[3]), told(made[0]))
+
+    def test_each_file_is_made_once(self) -> None:
+        for jobs in (1, 2):
+            # Names of which one begins the other.
+            words = ("--count", 2, "--only", "clock", "--jobs", jobs)
+            status, output, said = steps("make", self.folder / str(jobs), *words)
+            self.assertEqual((status, said), (0, ""))
+            names = sorted(Path(line).name for line in output.splitlines())
+            self.assertEqual(names, ["clock-changed.json.gz", "clock.json.gz"])
 
     def test_a_file_has_no_time(self) -> None:
         for path in self.files.values():
@@ -132,6 +146,27 @@ class Scripts(Made):
             status, output, said = steps("confirm", path, "--vga", PROGRAM)
             self.assertEqual((status, said), (1, ""))
             self.assertIn(f"{len(changed)} elements, {len(changed)} differ", output)
+
+    def test_what_is_told_of_those_that_differ(self) -> None:
+        want_program()
+        wrong = [{**GOOD, "final": {**GOOD["final"], "misc": number}} for number in range(4, 12)]
+        lines = {name: wrong[:count] for name, count in (("many", 8), ("one", 1))}
+        lines["none"] = [next(read_elements(str(self.files["write-words"])))]
+        for name, found in lines.items():
+            self.write(name, "[\n" + ",\n".join(map(json.dumps, found)) + "\n]\n")
+        many, one, none = (self.folder / name for name in lines)
+        status, output, _ = steps("confirm", many, "--vga", PROGRAM)
+        told = [f"{many}: element {n}, a write: misc: 3, not {4 + n}" for n in range(MOST_TOLD)]
+        self.assertEqual((status, output.splitlines()[:-1]), (1, told))
+        self.assertEqual(output.splitlines()[-1], f"{many}: 8 elements, 8 differ")
+        first = steps("confirm", many, "--first", 3, "--vga", PROGRAM)[1]
+        self.assertIn(f"{many}: 3 elements, 3 differ\n", first)
+        # One that differs is enough, whichever file it is in.
+        for paths in ((one, none), (none, one)):
+            status, output, _ = steps("confirm", *paths, "--jobs", 2, "--vga", PROGRAM)
+            self.assertEqual(status, 1)
+            self.assertIn(f"{one}: 1 element, 1 differs\n", output)
+            self.assertIn(f"{none}: 1 element, 0 differ\n", output)
 
     @staticmethod
     def changed(element: Element) -> Iterator[Element]:
@@ -287,6 +322,29 @@ class Rules(Made):
         }
         self.assertEqual({rule.name for rule in RULES} - shown, set())
 
+    def test_the_examples_show_each_branch_as_often_as_was_told(self) -> None:
+        """A rule that is looked at otherwise is seen here: its counts are looked through anew."""
+        found = {rule.name: dict.fromkeys(rule.branches, 0) for rule in RULES}
+        for path in sorted(STEPS_EXAMPLES.glob("*.json.gz")):
+            for element in read_elements(str(path)):
+                for rule, branch in branches_shown(element):
+                    found[rule.name][branch] += 1
+        self.assertEqual(found, json.loads(BRANCHES.read_text("ascii")))
+
+    def test_coverage_tells_the_file_that_shows_a_branch_most_often(self) -> None:
+        put = {**GOOD, "initial": {**GOOD["initial"], **REGISTERS}}
+        put["final"] = {**GOOD["final"], **REGISTERS}
+        beyond = {**put, "put": [0xB0000, 7], "refused": "NotDecoded", "final": put["initial"]}
+        files = {"seldom": [put, beyond, beyond], "often": [put, put, beyond], "empty": []}
+        for name, found in files.items():
+            self.write(name, "[\n" + ",\n".join(map(json.dumps, found)) + "\n]\n")
+        paths = [self.folder / name for name in files]
+        for given in (paths, paths[::-1]):
+            found = json.loads(steps("coverage", *given, "--json", "--least", "0")[1])
+            rule = found["rules"]["enable RAM"]
+            self.assertEqual({one[0] for one in rule.values()} - {""}, {str(paths[1])})
+            self.assertEqual(max(one[1] for one in rule.values()), 20_000 / 3)
+
     def test_coverage_counts(self) -> None:
         path = self.files["write-mode-1-planar"]
         status, output, _ = steps("coverage", path)
@@ -439,6 +497,21 @@ class Files(Folder):
         other["answer"] = 5
         found = list(differences(GOOD, other))
         self.assertEqual(found, ["answer: 5, not none", "planes 5: [9, 7, 7, 7], not [7, 7, 7, 7]"])
+        # A script that leads to another state is told, whatever comes after it.
+        before = {**GOOD, "initial": {**GOOD["initial"], "misc": 99}}
+        self.assertEqual([*differences(GOOD, before)], ["before the step, misc: 99, not 3"])
+
+    def test_a_line_may_be_told_by_colours_or_entries_alone(self) -> None:
+        dots = {"colours": [5, 6, 7], "entries": [1, 2, 3]}
+        expected = {**GOOD, "answer": dots}
+        for name, other in (("colours", [5, 0, 0]), ("entries", [1, 9, 9])):
+            given = {**GOOD, "answer": {name: dots[name]}}
+            self.assertEqual([*differences(expected, given)], [])
+            found = [*differences(expected, {**GOOD, "answer": {name: other}})]
+            told = f"answer {name} 1: {other[1]}, not {dots[name][1]}, and 1 more"
+            self.assertEqual(found, [told])
+            found = [*differences(expected, {**GOOD, "answer": {name: other[:2]}})]
+            self.assertEqual(found, [f"answer {name}: 2 of them, not 3"])
 
     def test_choices_depend_on_the_seed_alone(self) -> None:
         chance = Chance("1 a")
