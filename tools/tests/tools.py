@@ -25,6 +25,7 @@ from unittest import mock
 
 from zaklimot_tools.core.trouble import Trouble
 from zaklimot_tools.dev.testing.running import BUILT, TESTED
+from zaklimot_tools.dev.testing.style import PYTHON as STARTING
 from zaklimot_tools.script.program import PROGRAM as BUILT_PROGRAM
 from zaklimot_tools.script.words import FONTS
 
@@ -55,7 +56,7 @@ UNBUILT = "there is no program to test: tools/tests-of-tools compiles one, if th
 NAMES = sorted(
     path.name
     for path in TOOLS.glob("*")
-    if path.is_file() and b"python3" in path.read_bytes()[:30] and path.name != "vga"
+    if path.is_file() and path.read_bytes().startswith(STARTING) and path.name != "vga"
 )
 
 

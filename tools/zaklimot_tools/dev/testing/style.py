@@ -18,8 +18,8 @@ SETTINGS, BINDINGS = "tools/pyproject.toml", "bindings/python/pyproject.toml"
 # Debian's programs lie here. Others of these names, as pip installs them, may judge otherwise.
 SYSTEM = "/usr/bin"
 MOST_SECONDS = 600
-# The first line of a command that Python runs, whose name tells nothing of that.
-PYTHON = b"#!/usr/bin/env python3\n"
+# The first lines of a command, which a shell reads and hands to Python.
+PYTHON = b'#!/bin/sh\n""":"\n'
 
 
 class Judge(NamedTuple):

@@ -1,0 +1,76 @@
+"""How a tool begins: what its first lines are, and Ctrl-C before Python has begun."""
+
+from __future__ import annotations
+
+import os
+import re
+import shutil
+import signal
+import subprocess
+import unittest
+from pathlib import Path
+
+from .tools import NAMES, TOOLS, Folder, ended
+
+# Seconds after which Ctrl-C comes: from before the shell has begun until after Python has.
+MOMENTS = [number / 50 for number in range(20)]
+BLOCKING = ("env", "--block-signal=INT", "true")
+# A tool that waits for its input.
+WAITING = (TOOLS / "vga-report", "text", "-")
+
+
+def _blocks() -> bool:
+    """Whether this system's env can make a signal wait."""
+    return shutil.which("env") is not None and ended(*BLOCKING)[0] == 0
+
+
+class Starting(Folder):
+    def interrupted(self, seconds: float) -> tuple[int, bytes, bytes]:
+        """How a tool ends, and what it says, if Ctrl-C comes so long after its start."""
+        pipe = subprocess.PIPE
+        with subprocess.Popen(WAITING, stdin=pipe, stdout=pipe, stderr=pipe) as process:
+            with self.assertRaises(subprocess.TimeoutExpired):
+                process.wait(seconds or 1e-9)
+            process.send_signal(signal.SIGINT)
+            output, said = process.communicate(timeout=60)
+        return process.returncode, output, said
+
+    @unittest.skipUnless(_blocks(), "env has no --block-signal here")
+    def test_ctrl_c_says_nothing_at_any_moment(self) -> None:
+        for moment in MOMENTS:
+            with self.subTest(moment):
+                status, output, said = self.interrupted(moment)
+                self.assertIn(status, (-signal.SIGINT, 130))
+                self.assertEqual((output, said), (b"", b""))
+
+    def test_ctrl_c_is_heeded_once_a_tool_works(self) -> None:
+        """It waits for Python, and no longer."""
+        shown = "import signal; print(signal.pthread_sigmask(signal.SIG_BLOCK, []))"
+        module = self.write("shown.py", f"def main() -> int:\n    {shown}\n    return 0\n")
+        tool = self.write("tool", (TOOLS / "vga-steps").read_text("ascii"))
+        text = re.sub(r'start\("[\w.]+"\)', 'start("shown")', Path(tool).read_text("ascii"))
+        os.chmod(self.write("tool", text), 0o755)
+        given = {**os.environ, "PYTHONPATH": f"{Path(module).parent}:{TOOLS}"}
+        self.assertEqual(ended(tool, env=given), (0, "set()\n", ""))
+
+    def test_an_env_that_lets_no_signal_wait(self) -> None:
+        old = shutil.which("env")
+        self.program("bin/env", f'#!/bin/sh\ncase "$1" in -*) exit 125;; esac\nexec {old} "$@"\n')
+        given = {**os.environ, "PATH": f"{self.folder / 'bin'}:{os.environ['PATH']}"}
+        status, output, said = ended(TOOLS / "vga-steps", "kinds", env=given)
+        self.assertEqual((status, said), (0, ""))
+        self.assertIn("write-mode-0-planar ", output)
+
+    def test_words_pass_as_they_are(self) -> None:
+        status, _, said = ended(TOOLS / "vga-report", "text", "a  $b \"c'")
+        self.assertEqual((status, said), (2, "vga-report: a  $b \"c': No such file or directory\n"))
+
+    def test_all_begin_alike(self) -> None:
+        begun = set()
+        for name in (*NAMES, "vga"):
+            lines = (TOOLS / name).read_text("ascii").splitlines()
+            self.assertRegex(lines[2], "^# [A-Z]")
+            self.assertTrue(lines[-1].startswith('raise SystemExit(start("'), name)
+            begun.add("\n".join([*lines[:2], *lines[3:-1]]))
+            self.assertTrue(os.access(TOOLS / name, os.X_OK), name)
+        self.assertEqual(len(begun), 1)
