@@ -7,6 +7,7 @@ from typing import Any
 from zaklimot_tools.core import cli
 from zaklimot_tools.core.cli import add, later, rule
 from zaklimot_tools.core.files import Input, Output
+from zaklimot_tools.core.words import shown_front
 from zaklimot_tools.images.words import IMAGES
 from zaklimot_tools.script.words import FONTS
 
@@ -14,12 +15,12 @@ from .asked import Fewer, Fit
 from .mode import LINES, MODES, Kind
 
 
-def _colour(word: str) -> bytes:
+def colour(word: str) -> bytes:
     """Reads a colour as pages have it: six hexadecimal digits, perhaps behind a `#`."""
     digits = word.removeprefix("#")
     if not re.fullmatch("[0-9A-Fa-f]{6}", digits):
         raise argparse.ArgumentTypeError(
-            f"'{word}' is no colour of six hexadecimal digits, as FFFFFF for white"
+            f"'{shown_front(word)}' is no colour of six hexadecimal digits, as FFFFFF for white"
         )
     return bytes.fromhex(digits)
 
@@ -31,7 +32,7 @@ def _add_sizes(parser: argparse.ArgumentParser) -> None:
     told = "the same, but it keeps its shape on the screen, between bars"
     add(sizes, "--fit", told, const=Fit.FIT, **constant)
     told = "the colour of the bars of --fit, eight bits a component (default: black)"
-    add(parser, "--bars RRGGBB", told, type=_colour)
+    add(parser, "--bars RRGGBB", told, type=colour)
     told = "--bars is the colour of the bars that --fit makes"
     rule(parser, "bars", lambda words: words.fit is not Fit.FIT, told)
     parser.set_defaults(fit=Fit.EXACT)

@@ -116,6 +116,7 @@ def run_modules(modules: Sequence[str], program: str, is_built: bool = False) ->
             # The tools that tests start are compiled once, and not at each start.
             "PYTHONDONTWRITEBYTECODE": "",
             "PYTHONPYCACHEPREFIX": str(folder / "compiled"),
+            "HYPOTHESIS_STORAGE_DIRECTORY": str(folder / "hypothesis"),
             # What an ended test leaves goes with the folder.
             "TMPDIR": str(folder / "temporary"),
             TESTED: program,
