@@ -335,13 +335,14 @@ class Rules(Made):
         put = {**GOOD, "initial": {**GOOD["initial"], **REGISTERS}}
         put["final"] = {**GOOD["final"], **REGISTERS}
         beyond = {**put, "put": [0xB0000, 7], "refused": "NotDecoded", "final": put["initial"]}
-        files = {"seldom": [put, beyond, beyond], "often": [put, put, beyond], "empty": []}
+        files = dict[str, list[Element]]()
+        files.update(seldom=[put, beyond, beyond], often=[put, put, beyond], empty=[])
         for name, found in files.items():
             self.write(name, "[\n" + ",\n".join(map(json.dumps, found)) + "\n]\n")
         paths = [self.folder / name for name in files]
         for given in (paths, paths[::-1]):
-            found = json.loads(steps("coverage", *given, "--json", "--least", "0")[1])
-            rule = found["rules"]["enable RAM"]
+            table = json.loads(steps("coverage", *given, "--json", "--least", "0")[1])["rules"]
+            rule = table["enable RAM"]
             self.assertEqual({one[0] for one in rule.values()} - {""}, {str(paths[1])})
             self.assertEqual(max(one[1] for one in rule.values()), 20_000 / 3)
 

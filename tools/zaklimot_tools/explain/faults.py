@@ -72,12 +72,14 @@ def explained(fault: str, script: str, fonts: str) -> str:
     if name == "ReadFault":
         file, reason = _unread(script, fonts)
     elif name == "FontSize":
-        file, reason = fonts, _font_size(_read(fonts)[0])
+        file = fonts
+        reason = _font_size(_read(fonts)[0])
     elif name in FAULTS and name not in SYSTEM:
         file = f"{script}:{place}" if FAULTS[name].place == "line" else script
         reason = reason_of(name, place, _read(script)[0])
     else:
-        file, reason = script, SYSTEM.get(name, UNKNOWN)
+        file = script
+        reason = SYSTEM.get(name, UNKNOWN)
     return f"{file}: {found[0]}: {reason}"
 
 

@@ -38,7 +38,8 @@ def _add_make(commands: Any) -> None:
 
 
 def _add_read(commands: Any) -> None:
-    told, example = "gives the report of what a run has left", "tools/vga-floppy read floppy.img"
+    told = "gives the report of what a run has left"
+    example = "tools/vga-floppy read floppy.img"
     made = cli.command(commands, "read", _job("read_run"), told, example)
     add(made, "FILE", "the image, or with --serial the record; - is standard input", type=Input)
     add(made, "--serial", "FILE is what came over the serial port")

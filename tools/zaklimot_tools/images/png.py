@@ -76,7 +76,8 @@ def stretched(
     takes."""
     (width, height), (new_width, new_height) = size, new
     columns = [x * width // new_width for x in range(new_width)]
-    last, wide = b"", b""
+    last = b""
+    wide = b""
     for y, row in enumerate(rows):
         if row != last:
             dots = [row[at : at + 3] for at in range(0, len(row), 3)]

@@ -214,7 +214,8 @@ def best_numbers(rows: Rows, count: int) -> list[int]:
             made = list(numbers)
             made[one], made[other] = numbers[other], numbers[one]
             if one < count and (cycles := _cycles(words, made)) < least:
-                numbers, least = made, cycles
+                numbers = made
+                least = cycles
     return numbers[:count]
 
 

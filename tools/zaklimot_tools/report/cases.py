@@ -97,7 +97,8 @@ class Case(NamedTuple):
         file = self.source
         line = step.number - lines
         if self.front is not None and line <= 0:
-            file, line = self.front, step.number
+            file = self.front
+            line = step.number
         return printable(f"`{step.words[:MOST_WORDS]}`, {file.relative_to(self.folder)}:{line}")
 
     def expects_fault(self) -> bool:

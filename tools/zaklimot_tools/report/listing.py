@@ -390,6 +390,14 @@ def tallied(shown: str, place: Union[str, BinaryIO, None]) -> Iterator[Tally]:
         raise trouble
 
 
+class ChangedLine(NamedTuple):
+    """A line of a script whose expectation changes: what it was, and what it will be."""
+
+    number: int
+    before: str
+    after: str
+
+
 class Blessing:
     """The answers that a script is to expect: those that were not met, and, if all are wanted,
     those of other steps."""
@@ -416,14 +424,14 @@ class Blessing:
         if row.is_wrong or self._is_all and row.expected is None:
             self._changed.add(number)
 
-    def changes(self) -> Iterator[tuple[int, str, str]]:
-        """The lines that change: number, expectation before, and after."""
+    def changes(self) -> Iterator[ChangedLine]:
+        """The lines whose expectations change."""
         for number, (answer, _) in self._answers.items():
             if number in self._changed:
                 before = expected_in(
                     self._lines[number - 1].partition(";")[2].encode("utf-8", "surrogateescape")
                 )
-                yield number, before or "", answer
+                yield ChangedLine(number, before or "", answer)
 
     def text(self) -> str:
         """The script with the answers in it."""

@@ -77,7 +77,8 @@ class SteppedCard:
 
     def saved(self) -> bytes:
         """The state, as bytes."""
-        room, length = (s.U8 * STATE_ROOM)(), s.SIZE()
+        room = (s.U8 * STATE_ROOM)()
+        length = s.SIZE()
         self._check(self._calls["save"](self._at, room, STATE_ROOM, _byref(length)))
         return bytes(memoryview(room)[: length.value])
 
@@ -129,7 +130,8 @@ class SteppedCard:
 
     def _call(self, step: Step) -> Taken:
         registers = s.zak_regs(*step.numbers)
-        table, length = (s.U8 * s.MOST_TABLE)(), s.SIZE()
+        table = (s.U8 * s.MOST_TABLE)()
+        length = s.SIZE()
         given = (step.block, len(step.block), table, s.MOST_TABLE)
         status = self._calls["int10"](self._at, _byref(registers), *given, _byref(length))
         answer: Parts = {name: getattr(registers, name) for name in ("ax", "bx", "cx", "dx")}
@@ -146,7 +148,8 @@ class SteppedCard:
     def cycles(self, step: Step) -> Optional[list[Step]]:
         """The cycles that a call of the video BIOS would make now: none of one that is refused, and
         None of one that makes too many."""
-        length, registers = s.SIZE(), s.zak_regs(*step.numbers)
+        length = s.SIZE()
+        registers = s.zak_regs(*step.numbers)
         given = (step.block, len(step.block), self._cycles, CYCLES_ROOM)
         status = self._calls["cycles"](self._at, _byref(registers), *given, _byref(length))
         if status == NO_ROOM:

@@ -49,13 +49,21 @@ class Branches(NamedTuple):
         return f"{many:>14}  {name} ({BY_NAME[self.rule].place})"
 
 
+class FirstDiffering(NamedTuple):
+    """The first element of a file that differs: its number, its name, and what differs in it."""
+
+    element: int
+    name: str
+    differences: list[str]
+
+
 class HeldFile:
     """What came of the elements of a file."""
 
     def __init__(self, name: str) -> None:
         self.name = name
         self.agree = self.differ = self.skipped = 0
-        self.first: Optional[tuple[int, str, list[str]]] = None
+        self.first: Optional[FirstDiffering] = None
         self.left_out: dict[str, int] = {}
         self.counts: dict[tuple[str, str], list[int]] = {}
 
@@ -70,7 +78,7 @@ class HeldFile:
         self.agree += not found
         self.differ += bool(found)
         if found and self.first is None:
-            self.first = (number, element[NAME], found)
+            self.first = FirstDiffering(number, element[NAME], found)
         for part in element[FINAL]:
             if part not in given.get(FINAL, {}):
                 self.left_out[part] = self.left_out.get(part, 0) + 1
@@ -101,21 +109,19 @@ class HeldFile:
         for part, count in self.left_out.items():
             yield f"  {part} is left out of {counted(count, 'answer')}"
         if self.first is not None:
-            number, name, found = self.first
-            yield f"  the first that differs is element {number}, {name}"
-            yield from (f"    {one}" for one in found[:MOST_TOLD])
+            yield f"  the first that differs is element {self.first.element}, {self.first.name}"
+            yield from (f"    {one}" for one in self.first.differences[:MOST_TOLD])
             yield from (f"  {one.told()}" for one in worst([self]))
 
     def told(self) -> dict[str, object]:
         """The same for machines."""
-        first = dict(zip(("element", "name", "differences"), self.first or ()))
         return {
             "file": self.name,
             "agree": self.agree,
             "differ": self.differ,
             "skipped": self.skipped,
             "left_out": self.left_out,
-            "first": first or None,
+            "first": self.first and self.first._asdict(),
             "rules": [one._asdict() for one in self.branches()],
         }
 
@@ -153,7 +159,8 @@ def check(words: argparse.Namespace, progress: Progress) -> int:
         write_file(words.json, (json.dumps([one.told() for one in held]) + "\n").encode("ascii"))
     if words.junit is not None:
         write_file(words.junit, _junit_text(held).encode("utf-8", "xmlcharrefreplace"))
-    differ, agree = sum(one.differ for one in held), sum(one.agree for one in held)
+    differ = sum(one.differ for one in held)
+    agree = sum(one.agree for one in held)
     total = agree + differ + sum(one.skipped for one in held)
     if sum(bool(one.differ) for one in held) > 1:
         tell("of all files\n" + "".join(f"  {one.told()}\n" for one in worst(held)))
@@ -197,8 +204,8 @@ def _add_suite(suites: ElementTree.Element, file: HeldFile) -> None:
 def _add_case(suite: ElementTree.Element, file: HeldFile, name: str, wrong: list[Branches]) -> None:
     case = ElementTree.SubElement(suite, "testcase", classname=file.name, name=name)
     if wrong and file.first is not None:
-        number, element, found = file.first
         failure = ElementTree.SubElement(case, "failure", message=wrong[0].told().strip())
         lines = [one.told() for one in wrong]
-        told = [f"the first of the file that differs: element {number}, {element}", *found]
+        first = f"element {file.first.element}, {file.first.name}"
+        told = [f"the first of the file that differs: {first}", *file.first.differences]
         failure.text = "\n".join([*lines, *told[: MOST_TOLD + 1]])

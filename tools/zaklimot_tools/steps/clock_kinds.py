@@ -50,7 +50,9 @@ def _count(chance: Chance, card: SteppedCard, width: int) -> int:
     """For how many dots the clock runs in the step, from where the card is: to the ends of a
     character, a line and a frame, a dot less or more, or anywhere."""
     timing = card.clock()
-    line, frame, left = int(timing.line_dots), int(timing.frame_dots), int(timing.to_frame)
+    line = int(timing.line_dots)
+    frame = int(timing.frame_dots)
+    left = int(timing.to_frame)
     beam = card.read(("beam",), {})["beam"]
     ends = (width - int(beam["dot"]), left % line, left)
     kind = chance.below(12)
@@ -83,7 +85,9 @@ def _clock(chance: Chance, card: SteppedCard) -> Wish:
 def _changed(chance: Chance, card: SteppedCard) -> Wish:
     """The frame's registers are others since the beam is where it is."""
     state: Parts = {"seq": sequencer(chance), "crtc": small_frame(chance), "beam": {}}
-    before, crtc, seq = state["crtc"], list(state["crtc"]), list(state["seq"])
+    before = state["crtc"]
+    crtc = list(state["crtc"])
+    seq = list(state["seq"])
     what = chance.among(("lines", "characters", "width", "rows", "compare", "start", "offset"))
     if what == "lines":
         crtc[VERTICAL_TOTAL] = chance.below(before[VERTICAL_TOTAL] + 1)

@@ -3,7 +3,7 @@
 import argparse
 import json
 from pathlib import Path
-from typing import Iterator
+from typing import Iterator, NamedTuple
 
 from zaklimot.format import printed
 from zaklimot_tools.core.files import check_folder, files, name_of
@@ -129,21 +129,26 @@ def write_script(words: argparse.Namespace, _: Progress) -> int:
     return AGREED
 
 
-class CountedFile:
-    """How often the elements of a file show each branch."""
+class CountedFile(NamedTuple):
+    """How many elements a file has, and how many of them show each branch of each rule."""
 
-    def __init__(self, path: str) -> None:
-        self.name = name_of(path)
-        self.elements = 0
-        self.branches: dict[str, dict[str, int]] = {}
-        for element in read_elements(path):
-            self._count(element)
+    file: str
+    elements: int
+    branches: dict[str, dict[str, int]]
 
-    def _count(self, element: Element) -> None:
-        self.elements += 1
+    def share(self, rule: str, branch: str) -> float:
+        """How many of 10,000 of its elements show a branch."""
+        return self.branches.get(rule, {}).get(branch, 0) * SHARE / max(1, self.elements)
+
+
+def _counted_file(path: str) -> CountedFile:
+    count = 0
+    branches = dict[str, dict[str, int]]()
+    for count, element in enumerate(read_elements(path), 1):
         for rule, branch in branches_shown(element):
-            counts = self.branches.setdefault(rule.name, {})
+            counts = branches.setdefault(rule.name, {})
             counts[branch] = counts.get(branch, 0) + 1
+    return CountedFile(name_of(path), count, branches)
 
 
 def coverage(words: argparse.Namespace, progress: Progress) -> int:
@@ -154,7 +159,7 @@ def coverage(words: argparse.Namespace, progress: Progress) -> int:
         for rule in RULES
     }
     if words.json:
-        write(json.dumps({"files": counts, "rules": table}) + "\n")
+        write(json.dumps({"files": [one._asdict() for one in counts], "rules": table}) + "\n")
     else:
         write("".join(f"{line}\n" for line in _coverage_lines(table, words.least)))
     few = sum(share < words.least for rule in table.values() for _, share in rule.values())
@@ -165,28 +170,22 @@ def coverage(words: argparse.Namespace, progress: Progress) -> int:
     return DIFFERED if few else AGREED
 
 
-def _counts(words: argparse.Namespace, progress: Progress) -> list[dict[str, object]]:
+def _counts(words: argparse.Namespace, progress: Progress) -> list[CountedFile]:
     """The counts of each file."""
     if not is_shared(words):
-        counted_files = [CountedFile(path) for path in words.file]
-        return [
-            {"file": one.name, "elements": one.elements, "branches": one.branches}
-            for one in counted_files
-        ]
+        return [_counted_file(path) for path in words.file]
     commands = [["coverage", "--json", "--least", "0", path] for path in words.file]
     told = f"of {len(commands)} files"
     found = in_children(commands, words.jobs, progress, lambda count: f"{count} {told}")
-    return [json.loads(done.output)["files"][0] for done in found]
+    return [CountedFile(**json.loads(done.output)["files"][0]) for done in found]
 
 
-def _best(counts: list[dict[str, object]], rule: str, branch: str) -> tuple[str, float]:
+def _best(counts: list[CountedFile], rule: str, branch: str) -> tuple[str, float]:
     """The file that shows a branch most often, and how many of 10,000 of its elements do."""
     best: tuple[str, float] = ("", 0.0)
     for one in counts:
-        branches, total = one["branches"], one["elements"]
-        assert isinstance(branches, dict) and isinstance(total, int)
-        share = float(branches.get(rule, {}).get(branch, 0) * SHARE / max(1, total))
-        best = (str(one["file"]), share) if share > best[1] else best
+        share = one.share(rule, branch)
+        best = (one.file, share) if share > best[1] else best
     return best
 
 

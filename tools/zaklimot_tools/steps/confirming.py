@@ -62,7 +62,9 @@ def _confirm_file(
     path: str, most: Optional[int], program: str, fonts: str, progress: Progress
 ) -> int:
     """How many elements of a file are not as their reports tell."""
-    name, wrong, count = name_of(path), 0, 0
+    name = name_of(path)
+    wrong = 0
+    count = 0
     with tempfile.TemporaryDirectory(prefix="vga-steps-") as folder:
         script = Path(folder) / "script"
         for number, element in _first(path, most):

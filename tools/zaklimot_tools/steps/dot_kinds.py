@@ -133,7 +133,8 @@ def _state(chance: Chance, kind: str) -> tuple[Parts, Parts]:
         "beam": {},
     }
     width = width_of(state["seq"])
-    whole, line = frame_dots(crtc, width), (crtc[0] + 5) * width
+    whole = frame_dots(crtc, width)
+    line = (crtc[0] + 5) * width
     displayed = crtc[0x12] + (2 if chance.one_in(4) else 1)
     dots = chance.below(FRAMES) * whole + chance.below(displayed) * line
     return state, {"dots": dots}
@@ -165,7 +166,8 @@ def _other_colour(chance: Chance, used: set[int]) -> int:
 
 def _colours(chance: Chance, entries: list[int]) -> list[list[int]]:
     """A colour for each entry that dots take; no two of them have the same, and none is black."""
-    used, made = set[int]({0}), list[list[int]]()
+    used = set[int]({0})
+    made = list[list[int]]()
     for entry in sorted({*entries} - {-1}):
         colour = _other_colour(chance, used)
         used.add(colour)

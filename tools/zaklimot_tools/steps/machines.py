@@ -89,7 +89,8 @@ def judge_reports(words: argparse.Namespace, progress: Progress) -> int:
         progress.clear()
         write("".join(f"{line}\n" for line in held[-1].lines()))
     write("of all files\n" + "".join(f"  {one.told()}\n" for one in worst(held)))
-    agree, differ = sum(one.agree for one in held), sum(one.differ for one in held)
+    agree = sum(one.agree for one in held)
+    differ = sum(one.differ for one in held)
     write(f"{counted(agree + differ, 'element')}: {agree} agree, {differ} differ\n")
     return DIFFERED if differ or not agree else AGREED
 
@@ -111,7 +112,8 @@ def _given(element: Element, report: str) -> Element:
     with reading(report) as stream:
         answers = list(Report(stream, report).steps())
     # Other steps may stand before those of the element.
-    before, least = len(answers) - 1 - len(cycles), len(reached(element))
+    before = len(answers) - 1 - len(cycles)
+    least = len(reached(element))
     if before < least:
         many = f"{len(answers)} answers, and its script has {least + 1 + len(cycles)} steps"
         raise Trouble(f"it has {many}", report)

@@ -74,11 +74,7 @@ def _controller(chance: Chance, _: SteppedCard, is_protected: bool) -> Wish:
     misc = chance.bits(8)
     base = COLOUR if misc & 1 else MONOCHROME
     index = _controller_index(chance, is_protected)
-    state: Parts = {
-        "misc": misc,
-        "crtc_index": index,
-        "crtc": controller(chance, is_protected),
-    }
+    state: Parts = {"misc": misc, "crtc_index": index, "crtc": controller(chance, is_protected)}
     # The ports at the base that isn't in use are decoded by nobody.
     port = COLOUR + MONOCHROME - base if chance.one_in(12) else base
     name, step = _indexed(chance, port, 5, "CRT controller")
@@ -224,7 +220,8 @@ def _reads_register(state: Parts, port: int) -> bool:
 
 
 def _other_port(chance: Chance, _: SteppedCard) -> Wish:
-    state, port = _all_ports(chance), _some_port(chance)
+    state = _all_ports(chance)
+    port = _some_port(chance)
     while _has_status(state, port) or _reads_register(state, port):
         port = _some_port(chance)
     if chance.one_in(2):
@@ -276,7 +273,8 @@ def _status(chance: Chance, card: SteppedCard) -> Wish:
     port = base + STATUS_FROM_INDEX
     if chance.one_in(16):
         return Wish("feature control", state, Step("out", (port, chance.byte())), {"dots": 0})
-    whole, line = frame_dots(crtc, 9), (crtc[0] + 5) * 9
+    whole = frame_dots(crtc, 9)
+    line = (crtc[0] + 5) * 9
     dots = chance.below(2 * whole)
     if chance.one_in(3):
         # Near the retrace, which is short.
@@ -288,7 +286,8 @@ def small_frame(chance: Chance) -> list[int]:
     """Registers of a small frame, a few characters wide and a few lines high, so that all of its
     places come often."""
     crtc = [0] * 25
-    shown, lines = chance.between(1, 5), chance.between(1, 40)
+    shown = chance.between(1, 5)
+    lines = chance.between(1, 40)
     crtc[0] = max(0, shown + chance.below(5) - 5) if chance.one_in(8) else shown + chance.below(5)
     crtc[1] = shown - 1
     crtc[6] = lines + chance.below(24)

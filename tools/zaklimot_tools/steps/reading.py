@@ -39,19 +39,7 @@ MOST_LINE = 1 << 22
 GZIP, LEVEL = b"\x1f\x8b", 9
 FIRST, LAST = b"[\n", b"]\n"
 # The steps that an element may have; and the parts of a call.
-STEPS = (
-    "out",
-    "outw",
-    "in",
-    "inw",
-    "put",
-    "putw",
-    "get",
-    "getw",
-    "advance",
-    "int",
-    LINE,
-)
+STEPS = ("out", "outw", "in", "inw", "put", "putw", "get", "getw", "advance", "int", LINE)
 REGISTERS = ("ax", "bx", "cx", "dx")
 BLOCK = "block"
 MOST_PLACES, MOST_DOTS = 1 << 16, 1 << 28
@@ -98,7 +86,8 @@ def read_elements(path: str) -> Iterator[Element]:
 
 def _elements(source: BinaryIO, name: str) -> Iterator[Element]:
     """The elements, line by line."""
-    number, is_ended = 0, False
+    number = 0
+    is_ended = False
     while line := source.readline(MOST_LINE):
         number += 1
         if len(line) >= MOST_LINE:

@@ -76,7 +76,8 @@ def expected_answer(element: Element) -> Optional[str]:
     """What a report says of the step, where it isn't `ok`."""
     if REFUSED in element:
         return refusal_of(next(n for n, name in REFUSALS.items() if name == element[REFUSED]))
-    step, answer = step_of(element), element.get(ANSWER)
+    step = step_of(element)
+    answer = element.get(ANSWER)
     if step.name == LINE or answer is None:
         return None
     if step.name != "int":

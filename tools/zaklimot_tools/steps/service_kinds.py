@@ -78,7 +78,8 @@ def _pages(bda: Parts) -> int:
 
 def _place(chance: Chance, bda: Parts) -> int:
     """A cursor position: in the page more often than not, at its last row and column often."""
-    columns, last = SHAPES[bda["mode"]][0], _last_row(bda)
+    columns = SHAPES[bda["mode"]][0]
+    last = _last_row(bda)
     row = last if chance.one_in(4) else chance.below(last + 1)
     column = chance.among((0, columns - 1)) if chance.one_in(3) else chance.below(columns)
     if chance.one_in(16):
@@ -126,7 +127,8 @@ def _choose_05(chance: Chance, bda: Parts) -> Called:
 
 def _window(chance: Chance, bda: Parts) -> tuple[int, int]:
     """The corners of a window: a small one, or one that is cut, or none at all."""
-    columns, last = SHAPES[bda["mode"]][0], _last_row(bda)
+    columns = SHAPES[bda["mode"]][0]
+    last = _last_row(bda)
     tall, wide = chance.between(1, 3), chance.between(1, 4)
     row, column = chance.below(last - tall + 2), chance.below(columns - wide + 1)
     low, right = row + tall - 1, column + wide - 1
@@ -305,7 +307,9 @@ def _changed(chance: Chance, state: Parts) -> None:
 
 def _touched(cycles: Sequence[Step], state: Parts) -> list[int]:
     """The offsets of the planes that cycles of memory reach, as the registers say at each."""
-    seq, gfx, indexes = list(state["seq"]), list(state["gfx"]), {SEQUENCER: 0, GRAPHICS: 0}
+    seq = list(state["seq"])
+    gfx = list(state["gfx"])
+    indexes = {SEQUENCER: 0, GRAPHICS: 0}
     banks = {SEQUENCER: seq, GRAPHICS: gfx}
     found: set[int] = set()
     for step in cycles:

@@ -1,7 +1,7 @@
 """The rules of SERVICES.md and MODES.md that elements of the video BIOS show."""
 
 from functools import partial
-from typing import Any
+from typing import Any, NamedTuple
 
 from .seen import Branch, SeenElement, ShownRule
 from .service_kinds import MODES, ONE_PAGE, PACKED_MODES, PLANAR_MODES, SHAPES, TEXTS
@@ -60,10 +60,19 @@ def _typed(e: SeenElement, character: int) -> bool:
     return _done(e, 0x0E) and e.al == character
 
 
-def _window(e: SeenElement) -> tuple[int, int, int, int]:
-    """The window of functions 6 and 7 as the registers name it: rows, and columns."""
+class CalledWindow(NamedTuple):
+    """A window of cells: its first and its last row, and its first and its last column."""
+
+    top: int
+    low: int
+    left: int
+    right: int
+
+
+def _window(e: SeenElement) -> CalledWindow:
+    """The window of functions 6 and 7 as the registers name it."""
     cx, dx = e.numbers[2:4]
-    return cx >> 8, dx >> 8, cx & 0xFF, dx & 0xFF
+    return CalledWindow(cx >> 8, dx >> 8, cx & 0xFF, dx & 0xFF)
 
 
 def _scrolls(e: SeenElement, function: int, rows: str) -> bool:
@@ -78,8 +87,8 @@ def _scrolls(e: SeenElement, function: int, rows: str) -> bool:
 
 
 def _is_cut(e: SeenElement) -> bool:
-    _, low, _, right = _window(e)
-    return _done(e, 6, 7) and bool(low > e.bda["last_row"] or right >= _columns(e))
+    window = _window(e)
+    return _done(e, 6, 7) and bool(window.low > e.bda["last_row"] or window.right >= _columns(e))
 
 
 def _is_last_row(e: SeenElement) -> bool:
@@ -158,7 +167,7 @@ RULES = (
             "latches": lambda e: e.ah == 0
             and not e.refused
             and any(e.latches)
-            and not e.has_changed("latches"),
+            and not e.has_changed("latches")
         },
     ),
     ShownRule(

@@ -45,7 +45,8 @@ def _add_make(commands: Any) -> None:
 
 
 def _add_kinds(commands: Any) -> None:
-    told, example = "lists the kinds, and what each shows", "tools/vga-steps kinds --parts"
+    told = "lists the kinds, and what each shows"
+    example = "tools/vga-steps kinds --parts"
     made = cli.command(commands, "kinds", _job("list_kinds"), told, example)
     add(made, "--parts", "lists the parts of the state that elements of each kind have too")
 
@@ -64,7 +65,8 @@ def _add_script(commands: Any) -> None:
 
 def _add_check(commands: Any) -> None:
     told = "holds an adapter to elements, by lines of JSON"
-    adapter, file = "python3 examples/steps/toy.py", "examples/steps/sequencer.json.gz"
+    adapter = "python3 examples/steps/toy.py"
+    file = "examples/steps/sequencer.json.gz"
     example = f"tools/vga-steps check '{adapter}' {file}"
     made = cli.command(commands, "check", _job("check"), told, example)
     add(made, "COMMAND", COMMAND)

@@ -444,7 +444,8 @@ class Trace:
         if port not in INDEX_OF:
             self._ports[port] = value
             return
-        registers, was_chained = self._registers, self._is_chained
+        registers = self._registers
+        was_chained = self._is_chained
         registers[INDEX_OF[port], self._ports[INDEX_OF[port]]] = value
         self._is_vesa = registers[VBE_ENABLE] & 1 > 0
         if self._is_vesa:

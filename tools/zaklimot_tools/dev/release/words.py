@@ -52,6 +52,14 @@ def _parser() -> argparse.ArgumentParser:
     told = f"with --{STEPS}: so many elements of each kind (default: {COUNT})"
     cli.add(parser, "--count N", told, type=number_to(COUNT))
 
+    _add_rules(parser)
+    parser.set_defaults(job=_job("release"))
+    return parser
+
+
+def _add_rules(parser: argparse.ArgumentParser) -> None:
+    """What the options ask of one another."""
+
     def is_given(words: argparse.Namespace) -> bool:
         return any((words.program, words.archive, words.archive_aarch64))
 
@@ -61,8 +69,6 @@ def _parser() -> argparse.ArgumentParser:
     rule(parser, STEPS, lambda words: words.portable, told)
     told = f"--count is for --{STEPS}: a release has {COUNT:,} elements of each kind"
     rule(parser, "count", lambda words: not words.steps, told)
-    parser.set_defaults(job=_job("release"))
-    return parser
 
 
 # Runs a command line, and answers its exit status.
