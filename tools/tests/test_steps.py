@@ -13,9 +13,10 @@ import tempfile
 import unittest
 import zlib
 from pathlib import Path
-from typing import Any, Iterator
+from typing import Any, Iterator, Optional
 from unittest import mock
 
+from zaklimot.format import Step
 from zaklimot_tools.steps.adapter import SteppedCard
 from zaklimot_tools.steps.chance import Chance
 from zaklimot_tools.steps.comparing import differences
@@ -203,6 +204,27 @@ class Scripts(Made):
                         plane[place[0]] = value
                 sums = card.read(("sums",), {})["sums"]
                 self.assertEqual(sums[:4], [zlib.crc32(plane) for plane in planes], kind)
+
+    def test_entries_that_are_not_listed_are_as_a_mode_set_leaves_them(self) -> None:
+        with SteppedCard(load(), Path(FONTS).read_bytes()) as card:
+            for mode in (0, 3, 0x12, 0x13):
+                card.power_on()
+                card.run([Step("int", (mode, 0, 0, 0))] if mode else [])
+                bare = card.read(("sums",), {})["sums"][4]
+                found = self.sums_of(card, mode)
+                self.assertEqual(found, {bare}, mode)
+
+    def sums_of(self, card: SteppedCard, mode: int) -> set[int]:
+        """The sums of the DAC in which elements of services begin whose mode this is, and which
+        list no entry of it."""
+        found = set()
+        for kind in ("service-06", "service-09", "service-0e", "service-0d"):
+            for element in read_elements(str(self.files[kind])):
+                if element[INITIAL]["bda"]["mode"] == mode:
+                    card.power_on()
+                    card.run(reached(element))
+                    found.add(card.read(("sums",), {})["sums"][4])
+        return found
 
     def test_a_script_ends_in_the_step(self) -> None:
         for kind, ending in (
@@ -501,6 +523,34 @@ class Files(Folder):
         # A script that leads to another state is told, whatever comes after it.
         before = {**GOOD, "initial": {**GOOD["initial"], "misc": 99}}
         self.assertEqual([*differences(GOOD, before)], ["before the step, misc: 99, not 3"])
+
+    def test_a_byte_beside_the_places_of_an_element_is_told(self) -> None:
+        place = GOOD[FINAL]["planes"][0]
+        final = {**GOOD[FINAL], "colours": [[1, 2, 3, 4]]}
+        text: Element = {"bda": {"mode": 7}}
+        graphics: Element = {"bda": {"mode": 0x13}}
+        cases: list[tuple[Element, list[int], Optional[list[int]]]] = [
+            ({}, [9, 0, 0, 0, 0], None),
+            ({}, [9, 0, 1, 0, 0], [0, 0, 0, 0]),
+            ({}, [9, 0, 0, 1, 0], [0, 0, 0, 0]),
+            (graphics, [9, 0, 0, 1, 0], [0, 0, 0, 0]),
+            # The glyphs of a text mode.
+            (text, [9, 0, 0, 1, 0], None),
+            (text, [9, 0, 0, 1, 8], [0, 0, 1, 0]),
+            ({"sums": [0] * 5}, [9, 1, 1, 1, 1], None),
+        ]
+        for more, row, wrong in cases:
+            wanted = {**final, **more}
+            given = {**wanted, "planes": [row, place], "colours": [[9, 9, 9, 9], [1, 2, 3, 4]]}
+            found = [*differences({**GOOD, FINAL: wanted}, {**GOOD, FINAL: given})]
+            told = [] if wrong is None else [f"planes 9: {row[1:]}, not {wrong}"]
+            self.assertEqual(found, told, (more, row))
+
+    def test_places_that_are_none_are_told(self) -> None:
+        for planes in ([[[5], 7, 7, 7, 7]], [[None]], [{}, 5, [], "5"], {"5": 7}, 5):
+            found = [*differences(GOOD, {**GOOD, FINAL: {"planes": planes}})]
+            self.assertEqual(len(found), 1, planes)
+            self.assertTrue(found[0].startswith("planes"), found)
 
     def test_a_line_may_be_told_by_colours_or_entries_alone(self) -> None:
         dots = {"colours": [5, 6, 7], "entries": [1, 2, 3]}

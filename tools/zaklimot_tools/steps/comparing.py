@@ -2,10 +2,13 @@
 
 from typing import Any, Iterator
 
-from .parts import ANSWER, FINAL, INITIAL, LISTS, PLACES, REFUSED, STRUCTS, Element, Parts
+from .parts import ANSWER, FINAL, INITIAL, LISTS, PLACES, REFUSED, STRUCTS, SUMS, Element, Parts
 
 # What a line's dots are told as.
 DOTS = ("colours", "entries")
+# The part of which places that an element doesn't list are 0; and the plane that has glyphs too, if
+# a mode of text is set.
+PLANES, GLYPHS, TEXTS = "planes", 2, (3, 7)
 # So much of a value is told.
 MOST_SHOWN = 60
 
@@ -27,6 +30,8 @@ def _states(expected: Parts, given: Parts) -> Iterator[str]:
     for part in (one for one in expected if one in given):
         if expected[part] != given[part]:
             yield from _parts(part, expected[part], given[part])
+    if PLANES in expected and SUMS not in expected:
+        yield from _strays(expected, _by_firsts(given.get(PLANES)))
 
 
 def members_in(found: list[str]) -> set[str]:
@@ -85,9 +90,27 @@ def _parts(name: str, one: Any, other: Any) -> Iterator[str]:
         yield f"{name}: {_shown(other)}, not {_shown(one)}"
 
 
+def _by_firsts(places: Any) -> dict[int, list[Any]]:
+    """Places by their first numbers, of what may be no list of places."""
+    listed = places if isinstance(places, list) else []
+    rows = (place for place in listed if isinstance(place, list) and place)
+    return {row[0]: row[1:] for row in rows if isinstance(row[0], int)}
+
+
+def _strays(expected: Parts, given: dict[int, list[Any]]) -> Iterator[str]:
+    """Bytes that aren't 0 at places that an element doesn't list."""
+    listed = {place[0] for place in expected[PLANES]}
+    for first, values in sorted(given.items()):
+        wanted = [0] * len(values)
+        if expected.get("bda", {}).get("mode") in TEXTS:
+            wanted[GLYPHS:3] = values[GLYPHS:3]
+        if first not in listed and values != wanted:
+            yield f"{PLANES} {first}: {_shown(values)}, not {wanted}"
+
+
 def _places(name: str, one: list[Any], other: list[Any]) -> Iterator[str]:
     """Where two lists of places differ: by plane or component."""
-    known = {place[0]: place[1:] for place in other if isinstance(place, list) and place}
+    known = _by_firsts(other)
     for first, *values in one:
         given = known.get(first)
         if given is None:
