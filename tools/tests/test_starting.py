@@ -7,6 +7,7 @@ import re
 import shutil
 import signal
 import subprocess
+import time
 import unittest
 from pathlib import Path
 
@@ -42,6 +43,25 @@ class Starting(Folder):
                 status, output, said = self.interrupted(moment)
                 self.assertIn(status, (-signal.SIGINT, 130))
                 self.assertEqual((output, said), (b"", b""))
+
+    def test_ctrl_c_while_env_is_asked(self) -> None:
+        """No shell waits for env, as bash does for a command that ends well."""
+        pipe = subprocess.PIPE
+        for shell in filter(shutil.which, ("sh", "bash")):
+            begun = self.folder / shell
+            slow = f"#!/bin/sh\ntrap '' INT\n>'{begun}'\nsleep 0.5\n"
+            self.program("bin/env", slow)
+            given = {**os.environ, "PATH": f"{self.folder / 'bin'}:{os.environ['PATH']}"}
+            words: list[str | Path] = [shell, *WAITING]
+            with subprocess.Popen(
+                words, stdin=pipe, stdout=pipe, stderr=pipe, env=given, start_new_session=True
+            ) as process:
+                while not begun.exists():
+                    self.assertIsNone(process.poll())
+                    time.sleep(0.01)
+                os.killpg(process.pid, signal.SIGINT)
+                output, said = process.communicate(timeout=60)
+            self.assertEqual((process.returncode, output, said), (-signal.SIGINT, b"", b""), shell)
 
     def test_ctrl_c_is_heeded_once_a_tool_works(self) -> None:
         """It waits for Python, and no longer."""
