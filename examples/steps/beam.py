@@ -186,6 +186,8 @@ def step(state: State, element: dict[str, Any]) -> Any:
 
 def answer(element: dict[str, Any]) -> dict[str, Any]:
     """What the beam answers to an element."""
+    if "beam" not in element["initial"]:
+        return {"skipped": True}
     state = {**element["initial"], "beam": dict(element["initial"]["beam"])}
     try:
         read = step(state, element)

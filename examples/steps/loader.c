@@ -27,6 +27,8 @@ static bool is_right(const json_t *element)
     const json_t *put = json_object_get(element, "put"), *get = json_object_get(element, "get");
     uint32_t address = (uint32_t)json_integer_value(json_array_get(put ? put : get, 0));
     uint8_t written = (uint8_t)json_integer_value(json_array_get(put, 1)), read = 0;
+    if (!put && !get)
+        return false;
     set_state(&card, json_object_get(element, "initial"));
     wanted = card;
     set_state(&wanted, json_object_get(element, "final"));
@@ -39,7 +41,12 @@ static bool is_right(const json_t *element)
 int main(void)
 {
     size_t i, right = 0;
-    json_t *elements = json_loadf(stdin, 0, NULL), *element;
+    json_error_t error;
+    json_t *elements = json_loadf(stdin, 0, &error), *element;
+    if (!elements) {
+        fprintf(stderr, "line %d: %s\n", error.line, error.text);
+        return 2;
+    }
     json_array_foreach(elements, i, element)
         if (is_right(element))
             right++;

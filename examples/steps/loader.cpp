@@ -30,7 +30,7 @@ static bool is_right(const json &element)
 }
 
 int main()
-{
+try {
     size_t right = 0, wrong = 0;
     for (const json &element : json::parse(std::cin))
         if (is_right(element))
@@ -39,4 +39,7 @@ int main()
             std::cout << "the first that differs: " << element.at("name") << "\n";
     std::cout << right << " right, " << wrong << " wrong\n";
     return right == 0 || wrong > 0;
+} catch (const json::exception &error) {
+    std::cerr << error.what() << "\n";
+    return 2;
 }

@@ -34,15 +34,17 @@ fn is_right(card: &mut Toy, element: &Element) -> bool {
     set_state(card, &element.initial);
     let mut wanted = card.clone();
     set_state(&mut wanted, &element.r#final);
-    let answer = match element.put {
-        Some((address, byte)) => card.put(address, byte).map(|()| None),
-        None => element.get.and_then(|(address,)| card.get(address)).map(Some),
+    let answer = match (element.put, element.get) {
+        (Some((address, byte)), _) => card.put(address, byte).map(|()| None),
+        (None, Some((address,))) => card.get(address).map(Some),
+        (None, None) => return false,
     };
     answer == element.refused.is_none().then_some(element.answer) && *card == wanted
 }
 
 fn main() {
-    let elements: Vec<Element> = serde_json::from_reader(std::io::stdin().lock()).unwrap();
+    let elements = serde_json::from_reader(std::io::stdin().lock());
+    let elements: Vec<Element> = elements.expect("elements of memory on standard input");
     let mut card = Toy::new();
     let wrong: Vec<_> = elements.iter().filter(|element| !is_right(&mut card, element)).collect();
     if let Some(first) = wrong.first() {

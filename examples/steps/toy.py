@@ -169,6 +169,8 @@ def step(card: Toy, element: dict[str, Any]) -> Optional[int]:
 def answer(card: Toy, element: dict[str, Any]) -> dict[str, Any]:
     """What the card answers to an element."""
     initial = element["initial"]
+    if not {*initial} <= {*SIMPLE, *LISTS, *PLACES}:
+        return {"skipped": True}
     set_state(card, initial)
     told: dict[str, Any] = {}
     try:

@@ -70,9 +70,11 @@ COMPILED = {
         (),
     ),
 }
-# Debian's crates, from which cargo takes what it would fetch elsewhere.
+# The status of a program in Rust that panics.
+RUST_PANICS = 101
+# Debian's crates, from which cargo takes what it would fetch elsewhere, and their packages.
 CRATES = Path("/usr/share/cargo/registry")
-CRATES_PACKAGE = "librust-serde-json-dev"
+CRATES_OF = {"serde_json": "librust-serde-json-dev", "serde_derive": "librust-serde-derive-dev"}
 
 
 class Faults(Made):
@@ -144,6 +146,14 @@ class Loaders(Made):
         self.assertEqual((status, output.splitlines()[-1]), (1, f"{COUNT - 1} right, 1 wrong"))
         self.assertIn(done_one["name"], output)
 
+    def hold_unread(self, program: Path) -> None:
+        """Holds a loader to what it can't read, and to elements whose steps it doesn't do."""
+        others = [told(self.files[kind]) for kind in ("sequencer", "write-words")]
+        for given in (b"", b"no JSON", *others):
+            status, output, said = ended(program, input=given, text=False)
+            self.assertIn(status, (1, 2, RUST_PANICS))
+            self.assertTrue(said or output.endswith(f"\n0 right, {COUNT} wrong\n".encode()), given)
+
     def test_python(self) -> None:
         self.hold_loader([sys.executable, STEPS_EXAMPLES / "loader.py"])
 
@@ -160,6 +170,7 @@ class Loaders(Made):
         done = ended(*command, "-o", program, STEPS_EXAMPLES / name, *libraries)
         self.assertEqual((done[0], done[2]), (0, ""))
         self.hold_loader([program])
+        self.hold_unread(program)
 
     def test_c(self) -> None:
         self.hold_compiled("loader.c")
@@ -168,7 +179,8 @@ class Loaders(Made):
         self.hold_compiled("loader.cpp")
 
     def test_rust(self) -> None:
-        self.want("cargo", next(CRATES.glob("serde_json-*"), CRATES / "none"), CRATES_PACKAGE)
+        for crate, package in CRATES_OF.items():
+            self.want("cargo", next(CRATES.glob(f"{crate}-*"), CRATES / "none"), package)
         for name in ("Cargo.toml", "loader.rs", "toy.rs"):
             shutil.copy(STEPS_EXAMPLES / name, self.folder)
         config = [f'source.debian.directory="{CRATES}"', 'source.crates-io.replace-with="debian"']
@@ -177,7 +189,9 @@ class Loaders(Made):
         given.update({"CARGO_TARGET_DIR": str(self.folder / "made")})
         done = ended("cargo", "build", "-q", "--offline", *words, cwd=self.folder, env=given)
         self.assertEqual((done[0], done[2]), (0, ""))
-        self.hold_loader([self.folder / "made" / "debug" / "loader"])
+        program = self.folder / "made" / "debug" / "loader"
+        self.hold_loader([program])
+        self.hold_unread(program)
 
     def check_toy(self, text: str, kind: str, name: str = "toy.py") -> tuple[int, str]:
         """What `check` tells of a toy adapter that has this text."""
@@ -202,6 +216,12 @@ class Loaders(Made):
             self.assertEqual(
                 (status, output.splitlines()[-1]), (0, "50 elements: 50 agree, 0 differ")
             )
+
+    def test_the_toys_skip_what_they_do_not_do(self) -> None:
+        for name, kind in (("toy.py", "crt-controller"), ("beam.py", "dac-mask")):
+            text = (STEPS_EXAMPLES / name).read_text("utf-8")
+            output = self.check_toy(text, kind, name)[1]
+            self.assertEqual(output.splitlines()[-1], f"{COUNT} elements: 0 agree, 0 differ")
 
     def test_the_toy_beam(self) -> None:
         text = (STEPS_EXAMPLES / "beam.py").read_text("utf-8")
