@@ -30,6 +30,7 @@ from zaklimot_tools.steps.rules import RULES, branches_shown
 from zaklimot_tools.steps.scripts import confirming, reached, text_lines
 from zaklimot_tools.script.words import FONTS
 
+from . import branches
 from .stepping import COUNT, GOOD, Made, SEED, STEPS_EXAMPLES, make_files, steps, told
 from .tools import (
     PROGRAM,
@@ -46,8 +47,6 @@ from .tools import (
 setUpModule = make_files
 
 PAGE = TOP / "docs" / "STEPS.md"
-# How many of the examples show each branch of each rule.
-BRANCHES = Path(__file__).with_name("branches.json")
 # Registers of a plain write to all planes.
 REGISTERS = {"seq": [3, 1, 15, 0, 6], "gfx": [0, 0, 0, 0, 0, 0, 5, 15, 255], "latches": [0] * 4}
 # The loaders that it shows, by the languages.
@@ -346,12 +345,8 @@ class Rules(Made):
 
     def test_the_examples_show_each_branch_as_often_as_was_told(self) -> None:
         """A rule that is looked at otherwise is seen here: its counts are looked through anew."""
-        found = {rule.name: dict.fromkeys(rule.branches, 0) for rule in RULES}
-        for path in sorted(STEPS_EXAMPLES.glob("*.json.gz")):
-            for element in read_elements(str(path)):
-                for rule, branch in branches_shown(element):
-                    found[rule.name][branch] += 1
-        self.assertEqual(found, json.loads(BRANCHES.read_text("ascii")))
+        wanted = json.loads(branches.FILE.read_text("ascii"))
+        self.assertEqual(branches.counted(), wanted, "tests/branches.py writes them anew")
 
     def test_coverage_tells_the_file_that_shows_a_branch_most_often(self) -> None:
         put = {**GOOD, "initial": {**GOOD["initial"], **REGISTERS}}
