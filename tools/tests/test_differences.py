@@ -189,6 +189,14 @@ class Differing(unittest.TestCase):
                         "and 32 more",
                     ],
                 ),
+                (
+                    "row 00:" + 9 * " 4107",
+                    "row 00:" + 9 * " 2007",
+                    [
+                        *(f"row 00 column {column}: 4107, not 2007" for column in range(8)),
+                        "and 1 more",
+                    ],
+                ),
             ),
         )
 

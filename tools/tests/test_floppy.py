@@ -23,11 +23,12 @@ from zaklimot_tools.core.processes import started
 from zaklimot_tools.dev.emulators.words import main as emulators
 from zaklimot_tools.dev.emulators.table_page import FIRST_MARK, LAST_MARK
 from zaklimot_tools.explain.faults import script_of
+from zaklimot_tools.core.trouble import Trouble
 from zaklimot_tools.floppy import image as images, running
 from zaklimot_tools.floppy.image import CODE, Run, image_for, read_image, read_record, report_lines
 from zaklimot_tools.floppy.asked import DOSBOX
 from zaklimot_tools.floppy.running import MACHINES
-from zaklimot_tools.floppy.table import reset_steps, table_for
+from zaklimot_tools.floppy.table import Table, reset_steps, table_for
 from zaklimot_tools.report.cases import read_cases
 from zaklimot_tools.report.places import SUITE
 from zaklimot_tools.explain.banks import Bank
@@ -241,6 +242,14 @@ class Images(Folder):
             ((0, b"1 CC\n", ""), (0, b"", "")),
         )
         self.assertEqual((self.folder / "alone" / "one.report").read_bytes(), b"1 CC\n")
+
+    def test_each_may_have_as_many_steps_as_a_script(self) -> None:
+        scripts = {name: script_of(b"in 3CC\nin 3CC\n", name) for name in ("one", "two")}
+        table = Table(table_for(scripts), "it")
+        with mock.patch("zaklimot_tools.floppy.table.MOST_STEPS", 2):
+            self.assertEqual([name for name, _ in table.scripts()], ["one", "two"])
+        with mock.patch("zaklimot_tools.floppy.table.MOST_STEPS", 1):
+            self.assertRaisesRegex(Trouble, "none that vga-floppy makes", table.scripts)
 
     def test_a_bad_one_is_named(self) -> None:
         folder = self.folder_of_scripts(one="frame\n", two="move\n")
@@ -575,19 +584,21 @@ MARKED = (
     "|  | dosbox |",
     "|---|---|",
     "| cases that agree | 1 |",
-    "| cases of which a part or all was skipped, and the rest agrees | 0 |",
+    "| cases of which a part or all was skipped, and the rest agrees | 1 |",
     "| cases that differ | 1 |",
-    "| cases whose run failed | 0 |",
+    "| cases whose run failed | 1 |",
     "| bytes, words and registers compared | 2,005 |",
     "| of these as expected | 2,003 |",
     "",
     "| Folder: cases that agree, are skipped, differ | dosbox |",
     "|---|---|",
-    "| `host/` | 1, 0, 1 |",
+    "| `host/` | 1, 0, 2 |",
+    "| `ports/` | 0, 1, 0 |",
     "",
     "| Rule of the suite | Case | dosbox |",
     "|---|---|---|",
     "| The host/one \\| rule. | `host/one` | 020202020202020202020202.., not 03 |",
+    "| The host/three \\| rule. | `host/three` | fails |",
     "",
     LAST_MARK,
     "After.",
@@ -632,9 +643,15 @@ class Pages(Folder):
             "expected": "ax=0001 block 03",
         }
         two = {"name": "host/two", "answer": "agrees", "answers": 2000, "differing": 0}
+        three = {"name": "host/three", "answer": "failed", "answers": 0, "differing": 0}
+        four = {"name": "ports/four", "answer": "skipped", "answers": 0, "differing": 0}
         rules = [
-            {"rule": f"The {case['name']} | rule.", "folder": "host", "cases": [case]}
-            for case in (one, two)
+            {
+                "rule": f"The {case['name']} | rule.",
+                "folder": str(case["name"]).partition("/")[0],
+                "cases": [case],
+            }
+            for case in (one, two, three, four)
         ]
         results = {"command": "tools/vga-floppy run --on dosbox {script}", "rules": rules}
         status, page, said = self.write_page(self.write("results", json.dumps(results)))

@@ -21,6 +21,7 @@ from unittest import mock
 from xml.etree import ElementTree
 
 from zaklimot.format import Answer, count_in, lines_in, places_in, steps_in, words_in
+from zaklimot_tools.core.trouble import Trouble
 from zaklimot_tools.core.progress import Progress
 from zaklimot_tools.report.expecting import dumps_in, expected_in, is_as_expected
 from zaklimot_tools.report.listing import Blessing, Row, chosen
@@ -125,6 +126,15 @@ RUNS: list[tuple[str, str, int, list[str]]] = [
             f"   not E1\n{DECODED(61)}",
             " not E1: E1 is a byte that is read here; the refusal is written E1 NotDecoded\n",
             "\n3 steps, 3 refused, 0 pictures, 0 of 1 answers as expected\n",
+        ],
+    ),
+    (
+        "in 60\nin 61\nin 61\nin 60\n",
+        "",
+        0,
+        [
+            "     3      3  IN 61               E1 NotDecoded\n"
+            "     4      4  IN 60               E1 NotDecoded\n4 steps, 4 refused, 0 pictures\n"
         ],
     ),
     ("in 60\nin 60\n", "--json -", 0, [f'"why": "{DECODED(60).strip()}"}},\n']),
@@ -600,7 +610,8 @@ class Examples(unittest.TestCase):
         status, output, said = run("run", EXAMPLES, "--jobs", "4", "--vga", PROGRAM)
         self.assertEqual((status, said), (0, ""))
         *lines, last = output.decode().splitlines()
-        self.assertGreater(int(last.split(" scripts, 0 differ")[0]), 22)
+        self.assertRegex(last, "^[0-9]+ scripts, 0 differ$")
+        self.assertGreater(int(last.split()[0]), 22)
         for line in lines:
             # Bytes have no comments.
             self.assertRegex(line, r"\.bin: |, ([1-9]\d*) of \1 answers as expected$")
@@ -712,6 +723,13 @@ class Several(Fake):
             self.assertIn("2 scripts, 1 differs", output)
             told = str(self.folder / "told.json")
             self.assertEqual(self.run_script("--json", told, path=str(self.tests))[0], 2)
+
+    def test_a_script_that_was_not_even_begun_is_null_in_the_json(self) -> None:
+        told = self.folder / "told.json"
+        with mock.patch("zaklimot_tools.report.runs.tallied", side_effect=Trouble("no room")):
+            status, _, said = self.run_script("--json", str(told), path=str(self.tests))
+        self.assertEqual((status, said), (2, "vga-report: no room\n" * 2))
+        self.assertEqual(json.loads(told.read_text()), [None, None])
 
     def test_no_script_is_written_over(self) -> None:
         script = str(self.tests / "a.vga")
