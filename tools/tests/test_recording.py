@@ -797,6 +797,13 @@ class RealTime(Folder):
             found = self.beamed(write(time), *edge, write(time + 1))
             self.assertEqual(found[2:], [poll, *wanted, colour])
 
+    def test_a_retrace_below_line_512(self) -> None:
+        # 578 lines, whose retrace begins in line 528: both are more than nine bits.
+        tall = [TraceStep(OUTW, 0x3D4, word, 0) for word in (0x4006, 0xA007, 0x1010)]
+        polls = [TraceStep(IN, 0x3DA, value, 900 + value) for value in (0, 8)]
+        found = self.beamed(*tall, *polls, TraceStep(OUT, 0x3C9, 0, 908))
+        self.assertEqual(found[-2:], [(ADVANCE, 528 * 900), (OUT, 0x3C9)])
+
     def test_long_silences_within_frames_are_cut(self) -> None:
         beamed = Beamed(0.5)
         before = [step._replace(time=0) for step in registers(0x67, 0)]
