@@ -398,6 +398,7 @@ class Parts(Folder):
             entries = release.steps_entries(COMMIT, built, lambda _: None, 7)
         self.assertEqual(seen, [(b"the library", 7)])
         names = {Path(place).name for place in stepping.LOADERS}
+        names.update(place.removeprefix("docs/") for place in stepping.RULES)
         wanted = {"LICENSE", "README.md", "STEPS.md", "zaklimot.fnt", "steps/a.json.gz", *names}
         self.assertEqual(set(entries), wanted)
         for name in sorted(wanted):
@@ -405,7 +406,12 @@ class Parts(Folder):
         for name, title in (("README", "# Single-step tests of a VGA\n"), ("STEPS", "# Single-s")):
             page = (self.folder / f"{name}.md").read_text("utf-8")
             self.assertTrue(page.startswith(title))
-            self.assertEqual(broken(self.folder / f"{name}.md", page), [])
+        for path in self.folder.glob("*.md"):
+            self.assertEqual(broken(path, path.read_text("utf-8")), [], path)
+        # What a newcomer reads to write an adapter leads to the rules.
+        found = (self.folder / "STEPS.md").read_text("utf-8")
+        for name in ("REGISTERS.md#ports", "HOST-PATH.md#windows", "RASTER.md#what-the-beam-knows"):
+            self.assertIn(f"]({name})", found)
 
     def test_elements_of_a_release_are_made(self) -> None:
         made = stepping.make_steps("0123456789", None, None, count=1)

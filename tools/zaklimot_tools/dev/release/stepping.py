@@ -33,9 +33,26 @@ LOADERS = tuple(
         "toy.rs",
     )
 )
+# The pages of the rules that elements show, to which that page leads, and their drawings.
+RULES = tuple(
+    f"docs/{name}"
+    for name in (
+        "HOST-PATH.md",
+        "MODES.md",
+        "RASTER.md",
+        "REGISTERS.md",
+        "REPORT.md",
+        "SERVICES.md",
+        "pictures/attribute-to-colour.svg",
+        "pictures/fetch-address.svg",
+        "pictures/host-path-write.svg",
+        "pictures/scan-line.svg",
+    )
+)
 ALONE = {
     "tools/zaklimot_tools/dev/release/STEPS.md": "README.md",
     PAGE: "STEPS.md",
+    **{place: place.removeprefix("docs/") for place in RULES},
     "LICENSE": "LICENSE",
     "fonts/zaklimot.fnt": "zaklimot.fnt",
     **{place: Path(place).name for place in LOADERS},
