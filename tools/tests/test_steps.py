@@ -519,6 +519,13 @@ class Files(Folder):
         before = {**GOOD, "initial": {**GOOD["initial"], "misc": 99}}
         self.assertEqual([*differences(GOOD, before)], ["before the step, misc: 99, not 3"])
 
+    def test_reading_the_palette_leaves_it_shown_or_hidden(self) -> None:
+        for shown in (0, 0x20):
+            state: Element = {"attr": [0] * 21, "attr_index": shown | 3}
+            lines = readback_lines({**GOOD, FINAL: state})
+            indexes = [line for line in lines if line.startswith("out 3C0 ")]
+            self.assertEqual(indexes, [f"out 3C0 {index | shown:02X}" for index in range(21)])
+
     def test_a_byte_beside_the_places_of_an_element_is_told(self) -> None:
         place = GOOD[FINAL]["planes"][0]
         final = {**GOOD[FINAL], "colours": [[1, 2, 3, 4]]}
