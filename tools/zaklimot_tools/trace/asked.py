@@ -16,6 +16,12 @@ QUIET = "quiet"
 # The speeds of the page's machine, as the page's list has them, and the one that it begins with.
 SPEEDS = ("8088", "286", "386", "fastest")
 USUAL_SPEED = "386"
+# How text is written that a screen shows, and the code page of its characters.
+PLAIN, ANSI, HTML = "plain", "ansi", "html"
+FORMS = (PLAIN, ANSI, HTML)
+USUAL_PAGE = "cp437"
+# Pictures are compared that stand for so many seconds.
+STILL = 0.5
 
 
 class Deed(NamedTuple):

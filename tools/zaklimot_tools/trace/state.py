@@ -297,11 +297,11 @@ class Beam:
         self.place = (0, 0, 0)
 
 
-def rebuilt(state: State) -> Iterator[TraceStep]:
+def rebuilt(state: State, calls: Sequence[TraceStep] = ()) -> Iterator[TraceStep]:
     """The steps that take the adapter from power-on to a state. What they read is what it answers
-    then."""
+    then. Calls of interrupt 10 leave the BIOS data; what else they do is overwritten."""
     taking = State()
-    for step in _steps(state, taking):
+    for step in _steps(state, taking, calls):
         read = taking.take(step)
         yield step._replace(value=read) if step.opcode in READS and read is not None else step
 
@@ -323,12 +323,14 @@ def masks_of(values: Iterable[Value]) -> dict[Value, int]:
     return masks
 
 
-def _steps(state: State, begin: State) -> Iterator[TraceStep]:
+def _steps(state: State, begin: State, calls: Sequence[TraceStep]) -> Iterator[TraceStep]:
     if state.beam.frame:
         # A frame at power-on has fewer dots than any other.
         yield TraceStep(ADVANCE, state.beam.frame * prod(begin.shape))
+    yield from calls
     yield TraceStep(OUT, MISC, state.misc | ENABLE_MEMORY)
     yield from (_register(*setting) for setting in PLANAR)
+    yield from _cleared() if calls else ()
     yield from _latches(state.memory.latches)
     yield from _planes(state.memory.words)
     for port, bank in ((GRAPHICS, state.gfx), (SEQUENCER, state.seq)):
@@ -344,6 +346,13 @@ def _steps(state: State, begin: State) -> Iterator[TraceStep]:
         yield TraceStep(OUT, port, bank.index)
     if not state.misc & ENABLE_MEMORY:
         yield TraceStep(OUT, MISC, state.misc)
+
+
+def _cleared() -> Iterator[TraceStep]:
+    """All planes as they are at power-on."""
+    yield map_mask(ALL_PLANES)
+    for offset in range(0, PLANE_BYTES, 2):
+        yield TraceStep(PUTW, FIRST_ADDRESS + offset, 0)
 
 
 def _latches(latches: int) -> Iterator[TraceStep]:

@@ -14,6 +14,7 @@ from zaklimot_tools.images.words import add_shape
 from zaklimot_tools.script.words import add_program
 
 from .asked import CLOCK, END, FIRST, FLIP, KEEP, QUIET, SCREENS, SPEEDS, USUAL_SPEED, Deed
+from .seeing_words import add_seeing
 
 
 CONVERTING = "tools/vga-trace convert examples/typed-line.trace script.bin"
@@ -204,6 +205,7 @@ def parser(qemu: Sequence[str] = ()) -> argparse.ArgumentParser:
     made = cli.command(commands, "pictures", _job("make_pictures"), told, example)
     _add_trace(made)
     _add_pictures(made)
+    add_seeing(commands)
     told = "records on qemu or on the page's machine, replays, and compares the screens of both"
     example = "tools/vga-trace record recorded --key 2:ret -- -cdrom disc.iso"
     note = "After `--` stand qemu's words for what it boots."

@@ -1,0 +1,227 @@
+"""The text that an adapter shows: its rows of characters and attributes, in a code page, and with
+their colours."""
+
+import codecs
+from functools import lru_cache
+from html import escape
+from itertools import groupby
+from typing import Iterator, NamedTuple, Sequence
+
+from zaklimot_tools.core.trouble import Trouble
+from zaklimot_tools.images.png import WIDENED
+
+from .asked import USUAL_PAGE
+from .state import COMPONENTS, State
+
+# Registers of the CRT controller, and bits of them.
+SHOWN_CHARACTERS, OVERFLOW, PRESET_SCAN, MOST_SCAN = 0x01, 0x07, 0x08, 0x09
+START_HIGH, START_LOW, LAST_LINE, OFFSET = 0x0C, 0x0D, 0x12, 0x13
+UNDERLINE, MODE_CONTROL, LINE_COMPARE = 0x14, 0x17, 0x18
+DOUBLE_WORD, WRAPS_AT_15, BYTE_MODE, DOUBLE_SCAN = 0x40, 0x20, 0x40, 0x80
+# Registers of the attribute controller, and bits of its mode control.
+CONTROL, OVERSCAN, PLANE_ENABLE, COLOUR_SELECT = 0x10, 0x11, 0x12, 0x14
+IS_MONOCHROME, BLINKS, SELECTS_TWO, SOURCE = 0x02, 0x08, 0x80, 0x20
+SCREEN_OFF = 0x20
+COUNTER = 0xFFFF
+# What a VGA's own glyphs show where a code page has controls.
+GLYPHS_OF_CONTROLS = " ☺☻♥♦♣♠•◘○◙♂♀♪♫☼►◄↕‼¶§▬↨↑↓→←∟↔▲▼"
+DELETE, GLYPH_OF_DELETE, UNKNOWN = 0x7F, "⌂", "\ufffd"
+Colour = tuple[int, int, int]
+
+
+class Look(NamedTuple):
+    """How a character looks: its colour and that of its background, eight bits a component; whether
+    it blinks, and is underlined."""
+
+    front: Colour
+    back: Colour
+    blinks: bool = False
+    is_underlined: bool = False
+
+
+class Cell(NamedTuple):
+    """A cell: its character and its attribute, 0 to 255 each."""
+
+    character: int
+    attribute: int
+
+
+def is_text(state: State) -> bool:
+    """Whether text is shown, and not graphics."""
+    return not state.gfx.registers[6] & 1
+
+
+def start_of(state: State) -> int:
+    """The counter of the first character, without byte panning."""
+    crtc = state.crtc.registers
+    return crtc[START_HIGH] << 8 | crtc[START_LOW]
+
+
+def lines_shown(state: State) -> int:
+    """How many lines of a frame are displayed."""
+    crtc = state.crtc.registers
+    bits = crtc[OVERFLOW]
+    last = crtc[LAST_LINE] | (bits & 0x02) << 7 | (bits & 0x40) << 3
+    return min(last + 1, state.shape[0])
+
+
+@lru_cache(1 << 8)
+def _bases(crtc: tuple[int, ...], lines: int) -> Sequence[int]:
+    """The counters of the first characters of the rows that are shown: see docs/RASTER.md."""
+    compare = crtc[LINE_COMPARE] | (crtc[OVERFLOW] & 0x10) << 4 | (crtc[MOST_SCAN] & 0x40) << 3
+    base = ((crtc[START_HIGH] << 8 | crtc[START_LOW]) + (crtc[PRESET_SCAN] >> 5 & 3)) & COUNTER
+    scan = crtc[PRESET_SCAN] & 0x1F
+    half = 0
+    bases = [base]
+    for line in range(lines - 1):
+        if line == compare:
+            base = scan = half = 0
+            bases.append(base)
+        elif crtc[MOST_SCAN] & DOUBLE_SCAN and not half:
+            half = 1
+        elif scan < crtc[MOST_SCAN] & 0x1F:
+            half = 0
+            scan += 1
+        else:
+            half = scan = 0
+            base = base + 2 * crtc[OFFSET] & COUNTER
+            bases.append(base)
+    return bases
+
+
+def fetch_address(state: State, counter: int) -> int:
+    """The offset in each plane at which the bytes of a counter are fetched."""
+    crtc = state.crtc.registers
+    if crtc[UNDERLINE] & DOUBLE_WORD:
+        return 4 * counter & COUNTER
+    if crtc[MODE_CONTROL] & BYTE_MODE:
+        return counter
+    wrapped = counter >> (15 if crtc[MODE_CONTROL] & WRAPS_AT_15 else 13) & 1
+    return 2 * counter & COUNTER | wrapped
+
+
+def cells_of(state: State, name: str) -> Sequence[Sequence[Cell]]:
+    """The rows of cells that are shown; a Trouble where graphics are."""
+    if not is_text(state):
+        raise Trouble("it shows graphics then, and no text: `vga-trace screen` shows them", name)
+    crtc = state.crtc.registers
+    columns = min(crtc[SHOWN_CHARACTERS] + 1, state.shape[1])
+    words = state.memory.words
+    rows = []
+    for base in _bases(tuple(crtc), lines_shown(state)):
+        offsets = (fetch_address(state, base + at & COUNTER) for at in range(columns))
+        rows.append([Cell(words[at] & 0xFF, words[at] >> 8 & 0xFF) for at in offsets])
+    return rows
+
+
+def code_page(name: str) -> str:
+    """The characters of the codes 00 to FF in a code page of Python's, such as `cp850`."""
+    try:
+        letters = bytes(range(256)).decode(codecs.lookup(name).name, "replace")
+    except (LookupError, UnicodeError, ValueError, TypeError) as error:
+        raise Trouble(f"there is no code page `{name}`: `{USUAL_PAGE}` is one") from error
+    if len(letters) != 256 or letters[0x20:DELETE] != USUAL_LETTERS:
+        raise Trouble(f"`{name}` is no code page of 256 characters: `{USUAL_PAGE}` is one")
+    letters = GLYPHS_OF_CONTROLS + letters[0x20:DELETE] + GLYPH_OF_DELETE + letters[DELETE + 1 :]
+    # No control gets into a text: in some code pages there are more of them.
+    return "".join(one if one.isprintable() or one == "\u00a0" else UNKNOWN for one in letters)
+
+
+USUAL_LETTERS = bytes(range(0x20, DELETE)).decode("ascii")
+
+
+def row_text(row: Sequence[Cell], letters: str) -> str:
+    """A row as text, each character of which is a cell."""
+    return "".join(letters[cell.character] for cell in row)
+
+
+def entry_of(state: State, bits: int) -> int:
+    """The entry of the DAC that four bits of a dot pick, as text and 16 colours have them."""
+    attr = state.attr.registers
+    if not state.attr.index & SOURCE:
+        return attr[OVERSCAN] & state.dac.mask
+    number = attr[bits & attr[PLANE_ENABLE] & 0x0F]
+    select = attr[COLOUR_SELECT]
+    if attr[CONTROL] & SELECTS_TWO:
+        number = number & 0x0F | (select & 0x03) << 4
+    return (number & 0x3F | (select & 0x0C) << 4) & state.dac.mask
+
+
+def widened(state: State, entry: int) -> Colour:
+    """The colour of an entry of the DAC, eight bits a component."""
+    red, green, blue = state.dac.components[COMPONENTS * entry : COMPONENTS * (entry + 1)]
+    return WIDENED[red], WIDENED[green], WIDENED[blue]
+
+
+def look_of(state: State, attribute: int) -> Look:
+    """How characters of an attribute look. One that blinks has the look that is seen half of the
+    time."""
+    if state.seq.registers[1] & SCREEN_OFF:
+        return Look((0, 0, 0), (0, 0, 0))
+    control = state.attr.registers[CONTROL]
+    can_blink = bool(control & BLINKS)
+    front = widened(state, entry_of(state, attribute & 0x0F))
+    back = widened(state, entry_of(state, attribute >> 4 & (0x07 if can_blink else 0x0F)))
+    is_shown = state.crtc.registers[UNDERLINE] & 0x1F <= state.crtc.registers[MOST_SCAN] & 0x1F
+    is_underlined = bool(control & IS_MONOCHROME and attribute & 0x77 == 1 and is_shown)
+    return Look(front, back, can_blink and attribute >= 0x80, is_underlined)
+
+
+def plain_lines(state: State, letters: str, name: str) -> Iterator[str]:
+    """The rows as text, without the blanks at their ends."""
+    for row in cells_of(state, name):
+        yield row_text(row, letters).rstrip()
+
+
+def _runs(state: State, row: Sequence[Cell], letters: str) -> Iterator[tuple[Look, str]]:
+    """The parts of a row that have one look, each with its text."""
+    looks = {attribute: look_of(state, attribute) for attribute in {one.attribute for one in row}}
+    for look, cells in groupby(row, lambda cell: looks[cell.attribute]):
+        yield look, row_text(list(cells), letters)
+
+
+def ansi_lines(state: State, letters: str, name: str) -> Iterator[str]:
+    """The rows with their colours, for a terminal of 24-bit colours."""
+    for row in cells_of(state, name):
+        parts = []
+        for look, text in _runs(state, row, letters):
+            front, back = (";".join(map(str, colour)) for colour in (look.front, look.back))
+            more = ";5" * look.blinks + ";4" * look.is_underlined
+            parts.append(f"\x1b[0;38;2;{front};48;2;{back}{more}m{text}")
+        yield "".join(parts) + "\x1b[0m"
+
+
+HTML_HEAD = """<!DOCTYPE html>
+<html lang="en">
+<head>
+<meta charset="utf-8">
+<title>{title}</title>
+<style>
+body {{ background: #222; }}
+pre {{ display: inline-block; line-height: 1.2; font-family: monospace; }}
+.blinks {{ animation: blinks 1s steps(1) infinite; }}
+.underlined {{ text-decoration: underline; }}
+@keyframes blinks {{ 50% {{ color: transparent; }} }}
+</style>
+</head>
+<body>
+<pre>
+"""
+HTML_END = "</pre>\n</body>\n</html>\n"
+
+
+def html_lines(state: State, letters: str, name: str) -> Iterator[str]:
+    """The rows with their colours, as a page of its own."""
+    rows = cells_of(state, name)
+    yield HTML_HEAD.format(title=escape(name)).rstrip("\n")
+    for row in rows:
+        yield "".join(_span(look, text) for look, text in _runs(state, row, letters))
+    yield HTML_END.rstrip("\n")
+
+
+def _span(look: Look, text: str) -> str:
+    named = (("blinks", look.blinks), ("underlined", look.is_underlined))
+    classes = " ".join(name for name, has in named if has)
+    front, back = ("#{:02x}{:02x}{:02x}".format(*colour) for colour in (look.front, look.back))
+    of_class = f' class="{classes}"' if classes else ""
+    return f'<span{of_class} style="color:{front};background:{back}">{escape(text)}</span>'

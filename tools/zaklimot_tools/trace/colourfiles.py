@@ -1,0 +1,88 @@
+"""The DAC as palettes that drawing programs read, and the planes as pictures."""
+
+from typing import Iterator, Sequence
+
+from zaklimot.format import PLANE_BYTES, Picture
+
+from .cells import OFFSET, fetch_address, is_text, lines_shown, start_of, widened
+from .state import COMPONENTS, ENTRIES, PLANES, State
+
+# How many entries of a palette stand in a row, where a program shows them as a table.
+COLUMNS = 16
+# The lightest component of six bits.
+LIGHT = 63
+# Where no offset is set, a row of a plane has so many bytes.
+USUAL_ROW = 80
+GRAPHICS_MODE, COLOURS_256, MOST_SCAN = 5, 0x40, 0x09
+# So many pages are drawn at most.
+MOST_PAGES = 64
+
+
+def gpl_of(state: State, name: str) -> bytes:
+    """The DAC as GIMP and others take it."""
+    lines = ["GIMP Palette", f"Name: {name}", f"Columns: {COLUMNS}", "#"]
+    for entry in range(ENTRIES):
+        red, green, blue = widened(state, entry)
+        lines.append(f"{red:3} {green:3} {blue:3}\tDAC {entry:02X}")
+    return ("\n".join(lines) + "\n").encode("utf-8", "replace")
+
+
+def jasc_of(state: State) -> bytes:
+    """The DAC as Paint Shop Pro and others take it, with the ends of lines that these want."""
+    colours = (" ".join(map(str, widened(state, entry))) for entry in range(ENTRIES))
+    return ("\r\n".join(["JASC-PAL", "0100", str(ENTRIES), *colours]) + "\r\n").encode("ascii")
+
+
+def has_256_colours(state: State) -> bool:
+    """Whether a byte of a plane is two dots of a colour of the DAC."""
+    return not is_text(state) and bool(state.gfx.registers[GRAPHICS_MODE] & COLOURS_256)
+
+
+def plane_pictures(state: State) -> Iterator[Picture]:
+    """A picture of each plane, all of its bytes: rows as long as those of the screen.
+
+    In 256 colours a byte is a dot of its colour; else its bits are dots, white where they are 1.
+    """
+    row = 2 * state.crtc.registers[OFFSET] * _spread(state) or USUAL_ROW
+    rows = -(-PLANE_BYTES // row)
+    is_packed = has_256_colours(state)
+    dots = _colours(state) if is_packed else BITS
+    for plane in range(PLANES):
+        shift = 8 * plane
+        data = bytes(word >> shift & 0xFF for word in state.memory.words)
+        data += bytes(rows * row - len(data))
+        width = row if is_packed else 8 * row
+        yield Picture.of_dots(width, rows, b"".join(map(dots.__getitem__, data)))
+
+
+# The dots of a byte, bit 7 leftmost.
+BITS = [
+    b"".join(bytes([LIGHT * (byte >> bit & 1)] * COMPONENTS) for bit in range(7, -1, -1))
+    for byte in range(256)
+]
+
+
+def _colours(state: State) -> Sequence[bytes]:
+    """The dot of each byte, in six bits a component."""
+    entries = [byte & state.dac.mask for byte in range(ENTRIES)]
+    components = state.dac.components
+    return [bytes(components[COMPONENTS * at : COMPONENTS * (at + 1)]) for at in entries]
+
+
+def _spread(state: State) -> int:
+    """How many bytes of a plane lie between two counters."""
+    return fetch_address(state, 1)
+
+
+def starts_of_pages(state: State) -> Sequence[int]:
+    """The counters at which pages begin: as many as memory holds of the one that is shown, a power
+    of two apart."""
+    row = 2 * state.crtc.registers[OFFSET]
+    scans = (state.crtc.registers[MOST_SCAN] & 0x1F) + 1 << (state.crtc.registers[MOST_SCAN] >> 7)
+    counters = row * -(-lines_shown(state) // scans)
+    size = 1 << max(0, counters - 1).bit_length()
+    # Text is reached through 32 KiB, a byte of which is a character or an attribute.
+    most = PLANE_BYTES // _spread(state) // (2 if is_text(state) else 1)
+    starts = range(0, most, size) if counters and size <= most else range(1)
+    first = start_of(state)
+    return sorted({*starts[:MOST_PAGES], first})

@@ -1,0 +1,218 @@
+"""Compares two recordings: the first register write and the first picture that differ, however many
+cycles lie between them."""
+
+import argparse
+from contextlib import ExitStack
+from dataclasses import dataclass, field
+from itertools import zip_longest
+from typing import Iterator, NamedTuple, Optional, Sequence, cast
+
+from zaklimot import format
+from zaklimot.format import MOST_ADVANCE, Picture
+from zaklimot_tools.core.files import STANDARD
+from zaklimot_tools.core.progress import Progress
+from zaklimot_tools.core.streams import write_name
+from zaklimot_tools.core.trouble import AGREED, DIFFERED, Trouble
+from zaklimot_tools.explain.banks import ATTRIBUTE, DAC_DATA, DAC_READ, DAC_WRITE, MASK, MISC, Banks
+from zaklimot_tools.explain.registers import Registers, bytes_written
+from zaklimot_tools.images.holding import told_dots
+from zaklimot_tools.images.png import Shape, save_png
+from zaklimot_tools.report.expecting import NAMES
+from zaklimot_tools.script.program import found_program
+
+from .moments import SECOND, Passed
+from .step import INT, PORTS, WRITES, TraceStep, advances, steps_of, without_polls
+from .trace import opened
+from .walking import Item, Question, Walk
+
+FRAME = format.Step("frame", ())
+# What is called by another name than that of a register behind an index.
+PLAIN_PORTS = {
+    MISC: "misc",
+    MASK: "DAC mask",
+    DAC_READ: "DAC index for reading",
+    DAC_WRITE: "DAC index for writing",
+    DAC_DATA: "DAC component",
+}
+# The cursor and blinking text are as they were after so many frames.
+PHASES = 32
+
+
+class Write(NamedTuple):
+    """A register that was written, and its value; `told` is when."""
+
+    place: str
+    value: str
+    told: str
+
+    @property
+    def what(self) -> tuple[str, str]:
+        """What of it is compared."""
+        return self.place, self.value
+
+
+class Writes:
+    """The registers that steps write, by name. An index that is written chooses one, and is
+    none."""
+
+    def __init__(self) -> None:
+        self._banks = Banks()
+
+    def of(self, step: TraceStep) -> Iterator[tuple[str, str]]:
+        """The places and values that a step writes."""
+        if step.opcode == INT and step.call is not None:
+            registers = " ".join(f"{value:04X}" for value in step.call.registers)
+            yield "interrupt 10", f"{registers} {step.call.block.hex().upper()}".rstrip()
+        for port, value in bytes_written(step.step):
+            place = self._place(port)
+            self._banks.write(port, value)
+            if place:
+                yield place, f"{value:02X}"
+        if step.is_status:
+            self._banks.read_status()
+
+    def _place(self, port: int) -> str:
+        banks = self._banks
+        if port == ATTRIBUTE:
+            return _named("attr", banks.attr.number) if banks.is_data else ""
+        if banks.bank(port) is not None:
+            return ""
+        bank = banks.bank(port - 1)
+        ids = {id(banks.seq): "seq", id(banks.gfx): "gfx", id(banks.crtc): "crtc"}
+        if bank is not None:
+            return _named(ids[id(bank)], bank.number)
+        return PLAIN_PORTS.get(port, f"port {port:03X}")
+
+
+def _named(group: str, number: int) -> str:
+    """A register as dumps call it: `crtc 0C start address high`."""
+    names = NAMES[group]
+    return f"{group} {number:02X} {names[number] if number < len(names) else ''}".rstrip()
+
+
+@dataclass
+class Recording:
+    """A recording that is compared."""
+
+    path: str
+    still: float
+    passed: Passed = field(default_factory=Passed)
+
+    def steps(self, stack: ExitStack) -> Iterator[TraceStep]:
+        """The steps, without polls that follow one another."""
+        trace = stack.enter_context(opened(self.path))
+        self.passed = Passed()
+        for step in without_polls(steps_of(trace.cycles(), trace.screens)):
+            self.passed.take(step)
+            yield step
+
+    def writes(self, stack: ExitStack) -> Iterator[Write]:
+        """The registers that are written."""
+        writes = Writes()
+        for step in self.steps(stack):
+            # All other steps write none, and most are of memory.
+            if step.opcode in PORTS or step.opcode == INT:
+                yield from (Write(*what, self.passed.told) for what in writes.of(step))
+
+    def items(self, stack: ExitStack) -> Iterator[Item]:
+        """The steps, and a frame where nothing was written for a while, and at the end."""
+        registers = Registers()
+        last: Optional[int] = None
+        told = ""
+        for step in self.steps(stack):
+            if step.opcode in WRITES:
+                is_still = last is not None and step.time is not None
+                if is_still and (step.time or 0) - (last or 0) >= self.still * SECOND:
+                    yield from _drawn(registers, told)
+                last = step.time if step.time is not None else last
+                told = self.passed.told
+            registers.take(step.step)
+            yield step
+        yield from _drawn(registers, told)
+
+    def pictures(self, walk: Walk, stack: ExitStack) -> Iterator[tuple[str, Optional[Picture]]]:
+        """The pictures that stand for a while, and when; of equal ones that follow one another the
+        first. None is a frame without a picture."""
+        last: Optional[str] = ""
+        for tag, answer in walk.answers(self.items(stack)):
+            picture = answer.picture if isinstance(answer.picture, Picture) else None
+            digest = None if picture is None else picture.sum
+            if digest != last:
+                yield cast(str, tag), picture
+            last = digest
+
+
+def _drawn(registers: Registers, told: str) -> Iterator[Item]:
+    """A frame, and as many behind it as it takes until the cursor and blinking text are as they
+    were."""
+    yield Question(FRAME, told)
+    speed = registers.speed()
+    dots = 0 if speed is None else (PHASES - 1) * speed[0]
+    yield from advances(dots if dots <= MOST_ADVANCE else 0)
+
+
+def compare_recordings(words: argparse.Namespace, progress: Progress) -> int:
+    """Tells the first register write and the first picture in which two recordings differ."""
+    both = [Recording(path, words.still) for path in (words.one, words.other)]
+    if STANDARD in (words.one, words.other):
+        raise Trouble("each trace is read twice, which standard input can't be")
+    program = found_program(words.vga)
+    with ExitStack() as stack:
+        are_alike = _compare_writes(both, stack)
+    with ExitStack() as stack:
+        walk = Walk(program, words.fonts, progress)
+        differing = _compare_pictures([one.pictures(walk, stack) for one in both], both, progress)
+    if words.picture is not None and differing is not None and None not in differing:
+        one, other = cast(Sequence[Picture], differing)
+        save_png(words.picture, one, Shape(words.scale, words.aspect), other)
+        write_name(words.picture)
+    return AGREED if are_alike and differing is None else DIFFERED
+
+
+def _compare_writes(both: Sequence[Recording], stack: ExitStack) -> bool:
+    """Compares the registers that are written; whether they are alike."""
+    count = 0
+    for pair in zip_longest(*(one.writes(stack) for one in both)):
+        one, other = pair
+        if one is None or other is None or one.what != other.what:
+            print(f"register writes: {_equal(count)}; write {count + 1:,} differs")
+            for write, recording in zip(pair, both):
+                told = "no more" if write is None else f"{write.place}: {write.value}, at {write.told}"
+                print(f"  {recording.path}: {told}")
+            return False
+        count += 1
+    print(f"register writes: {_equal(count)}, and there are no more")
+    return True
+
+
+def _equal(count: int) -> str:
+    return f"the first {count:,} are equal" if count != 1 else "the first is equal"
+
+
+def _compare_pictures(
+    shown: Sequence[Iterator[tuple[str, Optional[Picture]]]],
+    both: Sequence[Recording],
+    progress: Progress,
+) -> Optional[tuple[Optional[Picture], Optional[Picture]]]:
+    """Compares the pictures; the first two that differ, or None."""
+    count = 0
+    for pair in zip_longest(*shown):
+        progress.clear()
+        one, other = (None if found is None else found[1] for found in pair)
+        if None in pair or one != other:
+            print(f"pictures: {_equal(count)}; picture {count + 1:,} differs")
+            for found, recording in zip(pair, both):
+                print(f"  {recording.path}: {_told_picture(found)}")
+            if one is not None and other is not None and one.size == other.size:
+                print(f"  {told_dots(one, other)}")
+            return one, other
+        count += 1
+    print(f"pictures: {_equal(count)}, and there are no more")
+    return None
+
+
+def _told_picture(found: Optional[tuple[str, Optional[Picture]]]) -> str:
+    if found is None:
+        return "no more"
+    told, picture = found
+    return f"{'ragged' if picture is None else picture.size}, at {told}"

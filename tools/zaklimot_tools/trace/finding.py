@@ -1,0 +1,146 @@
+"""Finds text that a trace shows at any time: when, and where on the screen."""
+
+import argparse
+from collections import Counter
+from typing import Iterable, Iterator, NamedTuple, Sequence, cast
+
+from zaklimot import format
+from zaklimot.format import PLANE_BYTES, Answer
+from zaklimot_tools.core.files import name_of
+from zaklimot_tools.core.progress import Progress
+from zaklimot_tools.core.trouble import AGREED, DIFFERED
+from zaklimot_tools.explain.registers import Registers
+from zaklimot_tools.script.program import found_program
+
+from .cells import cells_of, code_page, is_text, row_text
+from .moments import Passed, Steps
+from .step import FRAME, WRITES
+from .told import Told, planes_asked
+from .trace import opened
+from .walking import Item, Question, Walk
+
+# Text is in the even bytes of two planes, and in the 32 KiB of a window.
+TEXT_PLANES, TEXT_BYTES = (0, 1), PLANE_BYTES // 2
+IS_GRAPHICS = 1
+
+
+class At(NamedTuple):
+    """When a screen is looked at, as `--at` and `--cycle` take it; `is_last` tells the last answer
+    about it."""
+
+    told: str
+    is_last: bool
+
+
+class Found(NamedTuple):
+    """A text on the screen: when, its row and its column, from 0, and the whole row."""
+
+    told: str
+    row: int
+    column: int
+    text: str
+
+
+def found_in(rows: Iterable[str], wanted: str, folds_case: bool) -> Iterator[tuple[int, int]]:
+    """The rows and columns at which a text stands."""
+    wanted = wanted.lower() if folds_case else wanted
+    for number, row in enumerate(rows):
+        # A letter and its small one are one character here, so columns stay.
+        row = "".join(map(_small, row)) if folds_case else row
+        at = row.find(wanted)
+        while at >= 0:
+            yield number, at
+            at = row.find(wanted, at + 1)
+
+
+def _small(letter: str) -> str:
+    small = letter.lower()
+    return small if len(small) == 1 else letter
+
+
+class Finder:
+    """Looks for a text on one screen after the other. A row that was there before isn't told again,
+    wherever it has moved, nor one that goes on behind the text."""
+
+    def __init__(self, wanted: str, folds_case: bool) -> None:
+        self._wanted = wanted
+        self._folds_case = folds_case
+        self._before: Counter[str] = Counter()
+
+    def take(self, rows: Sequence[str], told: str) -> Iterator[Found]:
+        """What is on a screen and was not on the one before."""
+        places = [
+            (row, column, rows[row][: column + len(self._wanted)])
+            for row, column in found_in(rows, self._wanted, self._folds_case)
+        ]
+        fronts = Counter(front for *_, front in places)
+        new = fronts - self._before
+        self._before = fronts
+        # Of rows that are alike the lower ones are new.
+        for row, column, front in reversed(places):
+            if new[front]:
+                new[front] -= 1
+                yield Found(told, row, column, rows[row].strip())
+
+
+def _items(steps: Steps) -> Iterator[Item]:
+    """The steps of a trace, and questions about text where frames end."""
+    # What the adapter tells counts; this alone tells where asking is of no use.
+    registers = Registers()
+    is_changed = False
+    for step in steps.with_frames():
+        if step.opcode != FRAME:
+            registers.take(step.step)
+            is_changed |= step.opcode in WRITES
+            yield step
+        elif is_changed and not registers.banks.gfx.registers[6] & IS_GRAPHICS:
+            is_changed = False
+            yield from _asked(steps.passed)
+
+
+def _asked(passed: Passed) -> Iterator[Question]:
+    asked = [format.Step("show regs", ()), *planes_asked(TEXT_PLANES, TEXT_BYTES)]
+    for left, step in enumerate(asked, 1 - len(asked)):
+        yield Question(step, At(passed.told, left == 0))
+
+
+def _screens(
+    answers: Iterator[tuple[object, Answer]], letters: str, name: str
+) -> Iterator[tuple[Sequence[str], str]]:
+    """The rows of each screen of text, and when it was looked at."""
+    told = Told()
+    for tag, answer in answers:
+        told.take(answer)
+        at = cast(At, tag)
+        if at.is_last and is_text(told.state):
+            yield [row_text(row, letters) for row in cells_of(told.state, name)], at.told
+
+
+def find_text(words: argparse.Namespace, progress: Progress) -> int:
+    """Tells when and where a trace shows a text; whether it does."""
+    letters = code_page(words.code_page)
+    walk = Walk(found_program(words.vga), words.fonts, progress)
+    finder = Finder(words.text, words.any_case)
+    count = 0
+    with opened(words.trace) as trace:
+        answers = walk.answers(_items(Steps(trace)))
+        for rows, told in _screens(answers, letters, name_of(words.trace)):
+            for found in sorted(finder.take(rows, told), key=lambda one: one[1:3]):
+                count += 1
+                if count == 1:
+                    progress.clear()
+                    print(" seconds  row  column  text")
+                if words.most is None or count <= words.most:
+                    progress.clear()
+                    print(_line(found), flush=True)
+    progress.clear()
+    if words.most is not None and count > words.most:
+        print(f"{count - words.most:,} more")
+    if not count:
+        print(f"{name_of(words.trace)}: no screen of text shows it")
+    return AGREED if count else DIFFERED
+
+
+def _line(found: Found) -> str:
+    return f"{found.told:>8}  {found.row:3}  {found.column:6}  {found.text}"
+

@@ -1,0 +1,141 @@
+"""The adapter goes through the steps of a trace, and tells what is asked of it between them.
+
+A trace may be too long for one script. Each script but the first then begins with steps that
+rebuild what the adapter has told at the end of the one before.
+"""
+
+from dataclasses import dataclass, field
+from io import BufferedReader
+from pathlib import Path
+from tempfile import TemporaryDirectory
+from typing import BinaryIO, Iterable, Iterator, NamedTuple, Sequence, Union, cast
+
+from zaklimot import format
+from zaklimot.format import HEADERS, MOST_BYTES, MOST_STEPS, Answer
+from zaklimot_tools.core.progress import Progress
+from zaklimot_tools.core.streams import writing
+from zaklimot_tools.core.trouble import Trouble
+from zaklimot_tools.report.report import Report
+from zaklimot_tools.script.program import BuiltProgram, fault_of
+
+from .rebuilding import rebuilt_as_told
+from .step import TraceStep
+from .told import Told, state_asked
+
+# A script has so many bytes and steps of a trace at most. What is left of those that it may have is
+# for the steps that ask for the state at its end.
+ROOM = 1 << 19
+MOST_PART, MOST_PART_STEPS = MOST_BYTES - ROOM, MOST_STEPS - ROOM
+
+
+class Question(NamedTuple):
+    """A step whose answer is wanted, and what the answer is called by."""
+
+    step: format.Step
+    tag: object
+
+
+Item = Union[TraceStep, Question]
+
+
+@dataclass
+class Part:
+    """A script that is filled with items: its steps, and the numbers of its questions among
+    them."""
+
+    stream: BinaryIO
+    steps: int = 0
+    size: int = 0
+    asked: list[tuple[int, object]] = field(default_factory=list)
+
+    @property
+    def is_full(self) -> bool:
+        """Whether the next item has no room."""
+        return self.size >= MOST_PART or self.steps >= MOST_PART_STEPS
+
+    def begin(self, before: Iterable[TraceStep]) -> None:
+        """Writes the header, and the steps that rebuild a state."""
+        self._write(HEADERS[1])
+        for step in before:
+            self.add(step)
+
+    def add(self, item: Item) -> None:
+        """Writes an item."""
+        self.steps += 1
+        if isinstance(item, Question):
+            self.asked.append((self.steps, item.tag))
+            self._write(format.encoded(item.step))
+        else:
+            self._write(item.data())
+
+    def _write(self, data: bytes) -> None:
+        self.size += self.stream.write(data)
+
+
+class Walk:
+    """A program that goes through steps. The answers to questions come in their order."""
+
+    def __init__(self, program: str, fonts: str, progress: Progress) -> None:
+        self._program = program
+        self._fonts = fonts
+        self._progress = progress
+
+    def answers(self, items: Iterable[Item]) -> Iterator[tuple[object, Answer]]:
+        """The tags of the questions among the items, each with its answer."""
+        rest = iter(items)
+        before: Sequence[TraceStep] = ()
+        is_cut = True
+        with TemporaryDirectory(prefix="vga-trace-") as name:
+            while is_cut:
+                script = Path(name) / "script"
+                with writing(str(script)) as stream:
+                    part = Part(stream)
+                    part.begin(before)
+                    is_cut = self._fill(part, rest)
+                told = Told()
+                yield from self._run(script, part, told)
+                before = list(rebuilt_as_told(told)) if is_cut else ()
+
+    def state(self, items: Iterable[Item]) -> Told:
+        """What the adapter tells of itself after all steps."""
+        told = Told()
+        for _, answer in self.answers(_with_state(items)):
+            told.take(answer)
+        return told
+
+    def _fill(self, part: Part, rest: Iterator[Item]) -> bool:
+        """Fills a script; whether something is left, where the state is asked at its end."""
+        for item in rest:
+            part.add(item)
+            if self._progress.is_due():
+                self._progress.tell(f"a script is made: {part.steps:,} steps")
+            if part.is_full:
+                for step in state_asked():
+                    part.add(Question(step, Told))
+                return True
+        return False
+
+    def _run(self, script: Path, part: Part, told: Told) -> Iterator[tuple[object, Answer]]:
+        """The answers of a script. Those that tell the state at its end are taken here."""
+        asked = iter(part.asked)
+        number, tag = next(asked, (0, None))
+        count = 0
+        with BuiltProgram(self._program).running(script, self._fonts, None, True) as outcome:
+            report = Report(cast(BufferedReader, outcome.report), "report", self._progress)
+            for answer in report.steps():
+                count = answer.number
+                if count != number:
+                    continue
+                if tag is Told:
+                    told.take(answer)
+                else:
+                    yield tag, answer
+                number, tag = next(asked, (0, None))
+        if outcome.status or count != part.steps:
+            ended = f"it ended with status {outcome.status}"
+            raise Trouble(f"{ended} after {count:,} steps: {fault_of(outcome)}", self._program)
+
+
+def _with_state(items: Iterable[Item]) -> Iterator[Item]:
+    yield from items
+    yield from (Question(step, None) for step in state_asked())
