@@ -189,13 +189,9 @@ def _judge(note: Note, folder: Path, program: str, fonts: str, progress: Progres
     _warn(done.listing, str(folder))
     lines = [done.written.line(done.listing), *done.checked.lines(MOST_TOLD)]
     # What is refused is no difference of answers; but the page's machine refuses it as well.
-    agrees = not done.checked.differing and not done.left_out
-    if note.is_own and not done.left_out:
+    agrees = not done.checked.differing
+    if note.is_own:
         agrees &= sum(done.checked.refused.values()) == note.refusals
-    if done.left_out:
-        lines.append(
-            f"what comes after cycle {done.left_out:,} has no room in the script, and isn't judged"
-        )
     lines += told_of_beam(note, folder)
     are_equal = agrees and bool(note.screens)
     for number, at in enumerate(note.screens, 1):
@@ -203,10 +199,7 @@ def _judge(note: Note, folder: Path, program: str, fonts: str, progress: Progres
         front = f"screen {number} at {at:.1f} s"
         are_equal &= screen is not None and screen.is_equal
         if screen is None:
-            reason = (
-                "it isn't judged" if done.left_out else "here no frame has the shape of a picture"
-            )
-            lines.append(f"{front}: {reason}")
+            lines.append(f"{front}: here no frame has the shape of a picture")
             continue
         lines += screen.lines(front)
         screen.write(folder, number)

@@ -400,6 +400,8 @@ class Written:
     script_bytes: int = len(HEADERS[1])
     text_bytes: int = 0
     last_cycle: int = 0
+    # So many bytes and steps are kept free besides.
+    spare: int = 0
 
     @property
     def steps(self) -> int:
@@ -410,7 +412,8 @@ class Written:
     def fits(self) -> bool:
         """Whether a script may have as much."""
         size = max(self.script_bytes, self.text_bytes)
-        return size <= MOST_BYTES - FOR_THE_END and self.steps <= MOST_STEPS - FOR_THE_END
+        free = FOR_THE_END + self.spare
+        return size <= MOST_BYTES - free and self.steps <= MOST_STEPS - free
 
     def row(self, row: Repeated) -> bytes:
         """Counts a row; what the script has of it."""
@@ -497,6 +500,14 @@ class Rows:
             # Some of its steps may fit.
             self._part(self._next)
         return body
+
+    def steps(self) -> Iterator[TraceStep]:
+        """The steps of all rows that are left, one after the other."""
+        while self._next is not None:
+            row = self._next
+            for _ in range(row.times):
+                yield from row.steps
+            self._next = next(self._rows, None)
 
     def _part(self, row: Repeated) -> None:
         """Takes a row of steps apart that come one after the other."""

@@ -11,7 +11,7 @@ import io
 from collections import deque
 from dataclasses import dataclass, field
 from functools import cached_property
-from itertools import count, islice
+from itertools import chain, count, islice
 from math import inf
 from pathlib import Path
 from tempfile import TemporaryDirectory
@@ -34,9 +34,12 @@ from zaklimot_tools.script.program import BuiltProgram, fault_of
 
 from .asked import SCREENS
 from .converting import Checked, Checking, Listing, Rows, Written, folded
+from .cutting import REST_OF_FRAME, Cutting, Ended
+from .rebuilding import rebuilt_as_told
 from .recording import PHASES, dump
 from .state import State, rebuilt
 from .step import TraceStep
+from .told import Told
 from .trace import opened
 
 # A run may take so many seconds and bytes.
@@ -299,7 +302,7 @@ class Replay:
 
     `cycles` tells how many cycles stand before each dump, of which a screen has several: `screens`
     keeps the nearest. A recording of the page's own machine tells the dots between its cycles, and
-    has one dump of a screen. `left_out` tells after which cycle nothing is judged, if that is so.
+    has one dump of a screen.
     """
 
     written: Written
@@ -310,7 +313,6 @@ class Replay:
     state: State = field(default_factory=State)
     screens: dict[int, Screen] = field(default_factory=dict)
     is_own: bool = False
-    left_out: int = 0
     _dumps: int = 0
 
     @property
@@ -390,9 +392,10 @@ def _run_script(program: str, fonts: str, script: Path, report: Path) -> None:
         answers.replace(report)
 
 
-def _write_script(rows: Rows, before: Sequence[TraceStep], script: Path) -> Written:
-    """Writes a script of as many rows as it may have, behind steps that rebuild a state."""
-    written = Written(False)
+def _write_script(rows: Rows, before: Sequence[TraceStep], script: Path, spare: int) -> Written:
+    """Writes a script of as many rows as it may have, behind steps that rebuild a state. So many
+    bytes and steps are kept free."""
+    written = Written(False, spare=spare)
     body = bytearray()
     for row in folded(before, TraceStep.data):
         body += written.row(row)
@@ -413,6 +416,62 @@ def _check_rebuilding(steps: Sequence[TraceStep], answers: Iterator[Answer], nam
         raise Trouble(f"the state before its first cycle isn't rebuilt:\n{told}", name)
 
 
+class _Scripts:
+    """The scripts of a recording, which are made from its steps, run and held against these, one
+    after the other."""
+
+    def __init__(self, done: Replay, rows: Rows, cutting: Cutting) -> None:
+        self._done = done
+        self._rows = rows
+        self._cutting = cutting
+        self._steps = done.steps()
+        # The steps that rebuild the state before the next script, and what the adapter told of it.
+        self._before: Sequence[TraceStep] = ()
+        self._told = Told()
+
+    def make(self, program: str, fonts: str, progress: Progress) -> None:
+        """Makes them all."""
+        for number in count(1):
+            script, report = script_files(self._done.folder, number)
+            written, ended = self._write(script)
+            _run_script(program, fonts, script, report)
+            with reading(str(report)) as stream:
+                answers = self._done.answers(Report(stream, str(report), progress).steps())
+                self._hold(written, ended, answers, str(report))
+            self._done.take_script(written, len(self._before), number)
+            if self._rows.are_done:
+                break
+            self._go_on(ended)
+        # What the trace lacks is known at its end.
+        deque(self._steps, 0)
+
+    def _write(self, script: Path) -> tuple[Written, Ended]:
+        """Writes the next script; how it ends, which is nothing special without the exact time."""
+        is_own = self._done.is_own
+        spare = REST_OF_FRAME if is_own else 0
+        written = _write_script(self._rows, self._before, script, spare)
+        ended = Ended()
+        if self._before and is_own:
+            self._cutting.check_rebuilt(script, len(self._before), self._told)
+        if is_own and not self._rows.are_done:
+            ended, self._rows = self._cutting.end(script, written, self._rows)
+        return written, ended
+
+    def _hold(self, written: Written, ended: Ended, answers: Iterator[Answer], name: str) -> None:
+        before = self._before
+        _check_rebuilding(before, islice(answers, len(before)), name)
+        own = written.steps - len(before) - len(ended.steps)
+        steps = chain(islice(self._steps, own), ended.as_traced(self._steps))
+        self._done.checking.take(steps, answers, name)
+
+    def _go_on(self, ended: Ended) -> None:
+        """Goes on after a script: the next one rebuilds the state."""
+        self._steps = chain(ended.left, self._steps)
+        self._told = ended.told
+        state = self._done.state
+        self._before = list(rebuilt_as_told(self._told) if self._done.is_own else rebuilt(state))
+
+
 def replay(
     folder: Path, program: str, fonts: str, progress: Progress, is_own: bool = False
 ) -> Replay:
@@ -420,8 +479,7 @@ def replay(
     against one another.
 
     What has no room in one script goes on in the next, which rebuilds the state first. In a
-    recording of the page's own machine time passes, dot by dot, and the first script alone is made:
-    what calls of interrupt 10 leave can't be followed.
+    recording of the page's own machine time passes, dot by dot, and a script ends with a frame.
     """
     with opened(str(folder), may_be_cut=True) as made, opened(str(folder), may_be_cut=True) as read:
         given: dict[str, Any] = {"has_time": is_own, "frames": SCREENS}
@@ -429,23 +487,7 @@ def replay(
         listing = Listing(read, **given)
         checking = Checking(is_own)
         done = Replay(Written(False), listing, folder, read.screens, checking, is_own=is_own)
-        steps = done.steps()
-        for number in count(1):
-            before = list(rebuilt(done.state)) if number > 1 else []
-            script, report = script_files(folder, number)
-            written = _write_script(rows, before, script)
-            _run_script(program, fonts, script, report)
-            with reading(str(report)) as answers:
-                told = done.answers(Report(answers, str(report), progress).steps())
-                _check_rebuilding(before, islice(told, len(before)), str(report))
-                taken = islice(steps, written.steps - len(before))
-                checking.take(taken, told, str(report))
-            done.take_script(written, len(before), number)
-            if rows.are_done or is_own:
-                break
-        done.left_out = 0 if rows.are_done else done.written.last_cycle
-        # What the trace lacks is known at its end.
-        deque(steps, 0)
+        _Scripts(done, rows, Cutting(program, fonts, progress)).make(program, fonts, progress)
     return done
 
 

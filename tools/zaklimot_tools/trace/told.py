@@ -14,6 +14,8 @@ from .state import COMPONENTS, ENTRIES, PLANES, State
 SHOWN_BYTES = 256
 # How the lines of `show regs` begin, in their order.
 REGISTERS = ("misc", "seq", "crtc", "gfx", "attr", "dac")
+# The first words of the answers that show all of a part of the adapter.
+WHOLE = ("misc", "beam", "latches", "bda")
 # What comes next of the DAC, and of the attribute controller.
 NEXT_COMPONENT, NEXT_DATA = "rgb", "d"
 
@@ -29,7 +31,6 @@ class BiosData:
     type: int = 0
     page: int = 0
     height: int = 0
-    line: str = ""
 
     @property
     def has_mode(self) -> bool:
@@ -54,23 +55,31 @@ def state_asked() -> Iterator[Step]:
     yield from planes_asked(range(PLANES), PLANE_BYTES)
 
 
+# How many steps these are.
 STATE_STEPS = sum(1 for _ in state_asked())
 
 
 class Told:
-    """A state that is filled in by answers, one after the other; `bios` has the BIOS data."""
+    """A state that is filled in by answers, one after the other; `bios` has the BIOS data.
+
+    `shown` has the lines of the answers that show all of a part, by their first words.
+    """
 
     def __init__(self) -> None:
         self.state = State()
         self.bios = BiosData()
+        self.shown: dict[str, tuple[str, ...]] = {}
 
     def take(self, answer: Answer) -> None:
         """Takes the answer of a step that shows something; a Trouble where it is none."""
-        taking = TAKING.get(answer.answer.partition(" ")[0])
+        name = answer.answer.partition(" ")[0]
+        taking = TAKING.get(name)
         try:
             if taking is None:
                 raise ValueError
             taking(self, answer.lines)
+            if name in WHOLE:
+                self.shown[name] = answer.lines
         except (ValueError, IndexError) as error:
             raise Trouble(
                 f"step {answer.number:,} shows nothing of the adapter: '{answer.answer[:40]}'",
@@ -143,7 +152,6 @@ def _take_bios_data(told: Told, lines: Sequence[str]) -> None:
         int(named["type"], 16),
         int(named["page"], 16),
         int(named["height"], 16),
-        lines[0],
     )
 
 

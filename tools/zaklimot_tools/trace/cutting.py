@@ -1,0 +1,133 @@
+"""Where a script of a recording ends that has the exact time, and the next one begins: where a
+frame does, so that no picture is drawn in parts.
+
+The adapter tells where its beam is, and all that the next script has to rebuild.
+"""
+
+from collections import deque
+from dataclasses import dataclass, field
+from itertools import chain, islice
+from math import prod
+from pathlib import Path
+from typing import Iterator, Optional
+
+from zaklimot import format
+from zaklimot_tools.core.progress import Progress
+from zaklimot_tools.core.trouble import Trouble
+from zaklimot_tools.report.report import Report
+from zaklimot_tools.script.program import BuiltProgram, fault_of
+
+from .converting import Repeated, Rows, Written, folded
+from .step import ADVANCE, FRAME, TraceStep
+from .told import STATE_STEPS, Told, state_asked
+
+# So many bytes and steps of a script are kept free for the rest of the frame at its end.
+REST_OF_FRAME = 1 << 20
+# So often an end is looked for: registers may change how long the frame lasts.
+TRIES = 8
+
+
+@dataclass
+class Ended:
+    """How a script ends: the steps that were added up to the end of a frame, how many of the
+    trace's these are, and the dots that are left of the last of them; and what the adapter is
+    then."""
+
+    steps: list[TraceStep] = field(default_factory=list)
+    taken: int = 0
+    left: list[TraceStep] = field(default_factory=list)
+    told: Told = field(default_factory=Told)
+
+    def as_traced(self, traced: Iterator[TraceStep]) -> Iterator[TraceStep]:
+        """The steps that were added, with what the trace read: rows of equal steps have it of their
+        first alone."""
+        others = (step for step in islice(traced, self.taken) if step.opcode != ADVANCE)
+        for step in self.steps:
+            yield step if step.opcode == ADVANCE else next(others)
+        # An advance may be left.
+        deque(others, 0)
+
+
+class Cutting:
+    """Ends scripts where frames end. `rows` are the steps that come after a script."""
+
+    def __init__(self, program: str, fonts: str, progress: Progress) -> None:
+        self._program = program
+        self._fonts = fonts
+        self._progress = progress
+
+    def end(self, script: Path, written: Written, rows: Rows) -> tuple[Ended, Rows]:
+        """Adds steps to a script up to the end of the frame under way; the rows that are left."""
+        ended = Ended()
+        steps = rows.steps()
+        # What was kept free is for these steps.
+        written.spare = 0
+        for _ in range(TRIES):
+            ended.told = self._told(script)
+            beam, shape = ended.told.state.beam, ended.told.state.shape
+            if beam.is_at_begin or not written.fits:
+                break
+            with open(script, "ab") as stream:
+                for step in _up_to_end(ended, steps, prod(shape) - beam.drawn(shape)):
+                    ended.steps.append(step)
+                    stream.write(written.row(Repeated([step], [step.data()], 1, step.cycle)))
+                    written.last_cycle = step.cycle or written.last_cycle
+                    if not written.fits:
+                        break
+        return ended, Rows(folded(chain(ended.left, steps), TraceStep.data))
+
+    def check_rebuilt(self, script: Path, before: int, told: Told) -> None:
+        """Ends the work where the steps with which a script begins don't rebuild what was told: no
+        verdict on what follows would be worth anything."""
+        found = Told()
+        for answer in self._answers(script, before):
+            if answer.number > before:
+                found.take(answer)
+        # Amid a frame the beam has counters that are those of the frame's begin.
+        wanted = {name: told.shown[name] for name in found.shown if name != "beam"}
+        if found.state.beam.place != told.state.beam.place or wanted.items() > found.shown.items():
+            raise Trouble("the state before its first cycle isn't rebuilt", str(script))
+
+    def _told(self, script: Path) -> Told:
+        """What the adapter is after a script."""
+        told = Told()
+        asked = b"".join(map(format.encoded, state_asked()))
+        beside = script.with_name(f".{script.name}")
+        try:
+            beside.write_bytes(script.read_bytes() + asked)
+            last: list[format.Answer] = []
+            for answer in self._answers(beside, None):
+                last.append(answer)
+                del last[:-STATE_STEPS]
+        finally:
+            beside.unlink(missing_ok=True)
+        for answer in last:
+            told.take(answer)
+        return told
+
+    def _answers(self, script: Path, until: Optional[int]) -> Iterator[format.Answer]:
+        with BuiltProgram(self._program).running(script, self._fonts, until, True) as outcome:
+            yield from Report(outcome.report, "report", self._progress).steps()
+        if outcome.status:
+            raise Trouble(
+                f"it ended with status {outcome.status}: {fault_of(outcome)}", self._program
+            )
+
+
+def _up_to_end(ended: Ended, steps: Iterator[TraceStep], dots: int) -> Iterator[TraceStep]:
+    """The steps until so many dots have passed, or a frame has ended; what is left of the last
+    stays."""
+    while ended.left or (step := next(steps, None)) is not None:
+        if ended.left:
+            step = ended.left.pop()
+        else:
+            ended.taken += 1
+        if step.opcode == ADVANCE and step.address >= dots:
+            if step.address > dots:
+                ended.left.append(step._replace(address=step.address - dots))
+            yield step._replace(address=dots)
+            return
+        yield step
+        if step.opcode == FRAME:
+            return
+        dots -= step.address if step.opcode == ADVANCE else 0
