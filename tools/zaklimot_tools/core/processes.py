@@ -72,6 +72,7 @@ PACKAGES = {
     "qemu-system-x86_64": "qemu-system-x86",
     "qemu-aarch64": "qemu-user",
     "xwininfo": "x11-utils",
+    "ffmpeg": "ffmpeg",
     "wasm-opt": "binaryen",
     "wasm2c": "wabt",
     "esbuild": "esbuild",

@@ -5,6 +5,7 @@ from typing import Iterator, Sequence
 from zaklimot.format import PLANE_BYTES, Picture
 
 from .cells import OFFSET, fetch_address, is_text, lines_shown, start_of, widened
+from .fontfiles import FONT_PLANE, GLYPH_BYTES
 from .state import COMPONENTS, ENTRIES, PLANES, State
 
 # How many entries of a palette stand in a row, where a program shows them as a table.
@@ -14,6 +15,8 @@ LIGHT = 63
 # Where no offset is set, a row of a plane has so many bytes.
 USUAL_ROW = 80
 GRAPHICS_MODE, COLOURS_256, MOST_SCAN = 5, 0x40, 0x09
+# How many glyphs stand side by side.
+GLYPHS_IN_ROW = 64
 # So many pages are drawn at most.
 MOST_PAGES = 64
 
@@ -41,7 +44,8 @@ def has_256_colours(state: State) -> bool:
 def plane_pictures(state: State) -> Iterator[Picture]:
     """A picture of each plane, all of its bytes: rows as long as those of the screen.
 
-    In 256 colours a byte is a dot of its colour; else its bits are dots, white where they are 1.
+    In 256 colours a byte is a dot of its colour; else its bits are dots, white where they are 1. In
+    text plane 2 has glyphs, which stand side by side.
     """
     row = 2 * state.crtc.registers[OFFSET] * _spread(state) or USUAL_ROW
     rows = -(-PLANE_BYTES // row)
@@ -50,9 +54,22 @@ def plane_pictures(state: State) -> Iterator[Picture]:
     for plane in range(PLANES):
         shift = 8 * plane
         data = bytes(word >> shift & 0xFF for word in state.memory.words)
+        if plane == FONT_PLANE and is_text(state):
+            yield _glyphs(data)
+            continue
         data += bytes(rows * row - len(data))
         width = row if is_packed else 8 * row
         yield Picture.of_dots(width, rows, b"".join(map(dots.__getitem__, data)))
+
+
+def _glyphs(data: bytes) -> Picture:
+    """The glyphs of a plane, 32 bytes each, in rows of 64."""
+    band = GLYPHS_IN_ROW * GLYPH_BYTES
+    dots = bytearray()
+    for at in range(0, PLANE_BYTES, band):
+        for line in range(at, at + GLYPH_BYTES):
+            dots += b"".join(map(BITS.__getitem__, data[line : at + band : GLYPH_BYTES]))
+    return Picture.of_dots(8 * GLYPHS_IN_ROW, PLANE_BYTES // GLYPHS_IN_ROW, bytes(dots))
 
 
 # The dots of a byte, bit 7 leftmost.

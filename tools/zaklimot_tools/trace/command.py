@@ -5,7 +5,7 @@ import sys
 from itertools import islice
 from pathlib import Path
 from tempfile import TemporaryDirectory
-from typing import ContextManager, Iterator, Union
+from typing import ContextManager, Iterator, Optional, Union
 
 from zaklimot.format import Picture
 from zaklimot_tools.core.files import STANDARD, check_folder, files, name_of
@@ -21,14 +21,15 @@ from . import inpage
 from .asked import BEAM, CLOCK, KEEP, Deed
 from .converting import Listing, check, convert, count
 from .monitor import QEMU
-from .note import NOTE, Note, note_of, told_of_beam
+from .container import keep, unpacked
+from .judging import Judging, judge_kept
+from .note import NOTE, Note, note_of
 from .recording import PRECISE, QemuMachine, Say, chain_4, check_keys, record
-from .replaying import replay, shown
+from .replaying import shown
+from .video import check_video, write_video
 from .trace import Trace, opened
 
 
-# So many kinds of refusals, of reads and of differing reads are told of a recording.
-MOST_TOLD = 10
 # Pictures that move have so many bytes at most.
 MOST_PACKED = 1 << 29
 
@@ -80,6 +81,8 @@ def count_kinds(words: argparse.Namespace, _: Progress) -> None:
 
 def make_pictures(words: argparse.Namespace, _: Progress) -> None:
     """Makes the pictures of a trace, in real time."""
+    if words.video is not None:
+        check_video(words.video)
     program = found_program(words.vga)
     shape = Shape(words.scale, words.aspect)
     found = _opened(words)
@@ -87,9 +90,6 @@ def make_pictures(words: argparse.Namespace, _: Progress) -> None:
         files().make_folder(words.folder)
     with TemporaryDirectory(prefix="vga-trace-") as name:
         script = Path(name) / "script"
-        begin = 0.0
-        width = 0
-        height = 0
         with found as trace, writing(str(script)) as stream:
             listing = Listing(
                 trace,
@@ -100,24 +100,33 @@ def make_pictures(words: argparse.Namespace, _: Progress) -> None:
             )
             convert(listing, stream)
         _warn(listing, name_of(words.trace))
-        for picture, lasts in shown(program, words.fonts, script, words.longest):
-            if words.folder is not None:
-                path = Path(words.folder) / f"{begin:09.3f}.png"
-                save_png(str(path), picture, shape)
-                write_name(path)
-            begin = begin + lasts
-            width = max(width, picture.width)
-            height = max(height, picture.height)
-        if words.apng is not None:
+        largest = _write_stills(words.folder, shape, shown(program, words.fonts, script, 0))
+        if words.apng is not None or words.video is not None:
             pictures = shown(program, words.fonts, script, words.longest)
-            _write_moving(words.apng, Animation(shape, (width, height)), pictures)
+            animation = _moving(Animation(shape, largest), pictures)
+            _write_moving(words, animation)
 
 
-def _write_moving(
-    path: str, animation: Animation, pictures: Iterator[tuple[Picture, float]]
-) -> None:
-    """Writes pictures that move, each stretched to the largest size of them, as a monitor shows
-    them."""
+def _write_stills(
+    folder: Optional[str], shape: Shape, pictures: Iterator[tuple[Picture, float]]
+) -> tuple[int, int]:
+    """Writes each picture into a folder, if there is one; the largest width and height."""
+    begin = 0.0
+    width = 0
+    height = 0
+    for picture, lasts in pictures:
+        if folder is not None:
+            path = Path(folder) / f"{begin:09.3f}.png"
+            save_png(str(path), picture, shape)
+            write_name(path)
+        begin = begin + lasts
+        width = max(width, picture.width)
+        height = max(height, picture.height)
+    return width, height
+
+
+def _moving(animation: Animation, pictures: Iterator[tuple[Picture, float]]) -> Animation:
+    """Pictures that move, each stretched to the largest size of them, as a monitor shows them."""
     size = 0
     for number, (picture, lasts) in enumerate(pictures, 1):
         animation.add(picture, lasts, f"picture {number}")
@@ -125,28 +134,51 @@ def _write_moving(
         if size > MOST_PACKED:
             told = f"more than {MOST_PACKED:,} bytes: --from and --to take a part of the trace"
             raise Trouble(f"the pictures take {told}")
-    with writing(path) as stream:
-        animation.write(stream)
-    told = f"{path}: {len(animation.frames)} pictures, {animation.seconds:.3f} seconds"
-    print(told, file=sys.stderr if path == STANDARD else sys.stdout)
+    return animation
+
+
+def _write_moving(words: argparse.Namespace, animation: Animation) -> None:
+    """Writes pictures that move, as APNG and as a video."""
+    output = sys.stderr if words.apng == STANDARD else sys.stdout
+    told = f"{len(animation.frames)} pictures, {animation.seconds:.3f} seconds"
+    if words.apng is not None:
+        with writing(words.apng) as stream:
+            animation.write(stream)
+        print(f"{words.apng}: {told}", file=output)
+    if words.video is not None:
+        write_video(words.video, animation)
+        print(f"{words.video}: {told}", file=output)
 
 
 def record_software(words: argparse.Namespace, progress: Progress) -> int:
     """Records software, replays what was recorded, and compares the screens of both."""
     folder = Path(words.folder)
-    check_folder(words.folder)
+    is_kept = words.again and folder.is_file()
+    if not is_kept:
+        check_folder(words.folder)
     if not words.again and folder.exists() and any(folder.iterdir()):
         again = ", or --again to judge it once more" if (folder / NOTE).exists() else ""
         raise Trouble(f"it has files: name a new folder{again}", words.folder)
     program = found_program(words.vga)
     check_program_runs(program, words.fonts)
+    judging = Judging(program, words.fonts, progress)
 
     def say(text: str) -> None:
         progress.clear()
         print(f"vga-trace: {text}", file=sys.stderr)
 
+    if is_kept:
+        with unpacked(words.folder) as made:
+            return judge_kept(judging, made, words.folder)
     note = note_of(folder) if words.again else _recorded(words, folder, say, progress)
-    return _judge(note, folder, program, words.fonts, progress)
+    return judging.judge(note, folder)
+
+
+def keep_recording(words: argparse.Namespace, _: Progress) -> None:
+    """Keeps a recording in one file."""
+    size = keep(Path(words.folder), words.output)
+    told = sys.stderr if words.output == STANDARD else sys.stdout
+    print(f"{words.output}: {size:,} bytes", file=told)
 
 
 def _recorded(words: argparse.Namespace, folder: Path, say: Say, progress: Progress) -> Note:
@@ -179,31 +211,3 @@ def _recorded(words: argparse.Namespace, folder: Path, say: Say, progress: Progr
     finally:
         if not any(folder.iterdir()):
             folder.rmdir()
-
-
-def _judge(note: Note, folder: Path, program: str, fonts: str, progress: Progress) -> int:
-    if progress.is_due():
-        progress.tell(f"{folder}: a script is made")
-    done = replay(folder, program, fonts, progress, note.is_own)
-    progress.clear()
-    _warn(done.listing, str(folder))
-    lines = [done.written.line(done.listing), *done.checked.lines(MOST_TOLD)]
-    # What is refused is no difference of answers; but the page's machine refuses it as well.
-    agrees = not done.checked.differing
-    if note.is_own:
-        agrees &= sum(done.checked.refused.values()) == note.refusals
-    lines += told_of_beam(note, folder)
-    are_equal = agrees and bool(note.screens)
-    for number, at in enumerate(note.screens, 1):
-        screen = done.screens.get(number - 1)
-        front = f"screen {number} at {at:.1f} s"
-        are_equal &= screen is not None and screen.is_equal
-        if screen is None:
-            lines.append(f"{front}: here no frame has the shape of a picture")
-            continue
-        lines += screen.lines(front)
-        screen.write(folder, number)
-    for left in folder.glob(".dump.*.ppm"):
-        left.unlink()
-    print("\n".join(lines))
-    return AGREED if are_equal else DIFFERED

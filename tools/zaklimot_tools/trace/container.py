@@ -1,6 +1,5 @@
-"""Recordings in one file: a ZIP of the folder's files, which is judged again without more."""
+"""Recordings in one file: a ZIP of the files of a folder, from which all others are made again."""
 
-import hashlib
 import re
 import struct
 import zipfile
@@ -8,29 +7,117 @@ import zlib
 from contextlib import contextmanager
 from pathlib import Path
 from tempfile import TemporaryDirectory
-from typing import BinaryIO, Iterator, Sequence
+from typing import BinaryIO, Iterator
 
-from zaklimot_tools.core.streams import writing
+from zaklimot_tools.core.streams import length_of, reading, writing
 from zaklimot_tools.core.trouble import Trouble
 
 from .note import NOTE, VERDICT
+from .parts import TRACE
 
-# The files that a recording's folder has, and a ZIP of one; those in parentheses are made anew.
+# The files of a recording that a ZIP has. Scripts and reports are made of them.
 KEPT = re.compile(
     r"recording\.json|verdict\.txt|trace(-[0-9]{4})?\.gz"
-    r"|(screen-[0-9]{1,4}\.ppm)|(picture|differing)-[0-9]{1,4}\.png"
+    r"|screen-[0-9]{1,4}\.ppm|(picture|differing)-[0-9]{1,4}\.png"
 )
-# A ZIP has so many files at most, and so many bytes once they are unpacked.
-MOST_FILES, MOST_UNPACKED = 1 << 12, 1 << 32
+NEEDED = (NOTE, TRACE, VERDICT)
+# A ZIP has so many files at most, and these so many bytes; so many bytes list them.
+MOST_FILES, MOST_UNPACKED, MOST_LISTED = 1 << 12, 1 << 32, 1 << 20
 CHUNK = 1 << 20
-# The time of each file: the same files give the same bytes.
-TIME = (1980, 1, 1, 0, 0, 0)
-RIGHTS = 0o100644 << 16
-UNIX = 3
-# The end of a ZIP: how many files, and bytes that list them; a comment of at most 65,535 bytes
-# follows.
-END = struct.Struct("<4sHHHHIIH")
-END_MAGIC, MOST_END = b"PK\5\6", 1 << 16
-MOST_LISTED = 1 << 20
-# Those that are packed already are kept as they are.
+ZIP = b"PK\3\4"
+# The end of a ZIP: it tells how many files there are, and how many bytes list them. A comment may
+# follow.
+END, END_MAGIC, MOST_COMMENT = struct.Struct("<4sHHHHIIH"), b"PK\5\6", 0xFFFF
+# What each file has, so that the same files give the same bytes: a time, rights, and a system.
+TIME, RIGHTS, UNIX = (1980, 1, 1, 0, 0, 0), 0o100644 << 16, 3
+# These are packed already.
 PACKED = (".gz", ".png")
+LEVEL = 6
+
+
+def keep(folder: Path, path: str) -> int:
+    """Writes the ZIP of a recording that was judged; how many bytes it has."""
+    names = sorted(one.name for one in folder.iterdir() if KEPT.fullmatch(one.name))
+    for name in NEEDED:
+        if name not in names:
+            told = "judge it first, by `vga-trace record FOLDER --again`"
+            raise Trouble(f"it has no {name}, and is no recording that was judged: {told}", str(folder))
+    with writing(path) as stream:
+        with zipfile.ZipFile(stream, "w", allowZip64=False) as archive:
+            for name in names:
+                _add(archive, folder / name)
+        return stream.tell()
+
+
+def _add(archive: zipfile.ZipFile, path: Path) -> None:
+    entry = zipfile.ZipInfo(path.name, TIME)
+    entry.external_attr, entry.create_system = RIGHTS, UNIX
+    is_packed = path.suffix in PACKED
+    entry.compress_type = zipfile.ZIP_STORED if is_packed else zipfile.ZIP_DEFLATED
+    entry.file_size = path.stat().st_size
+    try:
+        with open(path, "rb") as source, archive.open(entry, "w") as target:
+            while data := source.read(CHUNK):
+                target.write(data)
+    except (zipfile.LargeZipFile, RuntimeError) as error:
+        raise Trouble("it is larger than a ZIP may be", str(path)) from error
+
+
+@contextmanager
+def unpacked(path: str) -> Iterator[Path]:
+    """The folder of a recording that is in a ZIP, for a while. A Trouble tells of one that is no
+    recording's, or that is larger than any."""
+    with reading(path, is_drained=False) as stream, TemporaryDirectory(prefix="vga-kept-") as made:
+        _check_end(stream, path)
+        try:
+            with zipfile.ZipFile(stream) as archive:
+                entries = _checked(archive.infolist(), path)
+                for entry in entries:
+                    _unpack(archive, entry, Path(made) / entry.filename)
+        except (zipfile.BadZipFile, zlib.error, EOFError, NotImplementedError, RuntimeError) as error:
+            raise Trouble(f"its bytes are damaged: {error}", path) from error
+        yield Path(made)
+
+
+def _check_end(stream: BinaryIO, path: str) -> None:
+    """Looks at the end of a ZIP before anything is made of it: its list of files is read whole."""
+    size = length_of(stream)
+    begin = max(0, size - END.size - MOST_COMMENT)
+    stream.seek(begin)
+    data = stream.read(END.size + MOST_COMMENT)
+    at = data.rfind(END_MAGIC)
+    if at < 0 or len(data) - at < END.size:
+        raise Trouble("it is no whole ZIP", path)
+    _, _, _, _, count, listed, _, _ = END.unpack_from(data, at)
+    # A ZIP of more than 4 GiB has another end before this one.
+    if count > MOST_FILES or listed > MOST_LISTED:
+        raise Trouble(f"it is no recording: it lists {count:,} files in {listed:,} bytes", path)
+    stream.seek(0)
+
+
+def _checked(entries: list[zipfile.ZipInfo], path: str) -> list[zipfile.ZipInfo]:
+    """The files that a ZIP lists, if each is one of a recording, and all of them are no more than a
+    recording has."""
+    names = [entry.filename for entry in entries]
+    for name in names:
+        if not KEPT.fullmatch(name):
+            raise Trouble(f"it is no recording: a file of it is called {name[:100]!r}", path)
+    if len(set(names)) < len(names):
+        raise Trouble("it is no recording: two files of it have one name", path)
+    for name in NEEDED:
+        if name not in names:
+            raise Trouble(f"it is no recording: it has no {name}", path)
+    if sum(entry.file_size for entry in entries) > MOST_UNPACKED:
+        raise Trouble(f"its files would have more than {MOST_UNPACKED:,} bytes", path)
+    return entries
+
+
+def _unpack(archive: zipfile.ZipFile, entry: zipfile.ZipInfo, path: Path) -> None:
+    """Unpacks a file: never more bytes than it says that it has."""
+    left = entry.file_size
+    with archive.open(entry) as source, open(path, "xb") as target:
+        while data := source.read(CHUNK):
+            left -= len(data)
+            if left < 0:
+                raise zipfile.BadZipFile(f"{entry.filename} has more bytes than it says")
+            target.write(data)

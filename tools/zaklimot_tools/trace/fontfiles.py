@@ -14,6 +14,7 @@ FONT_PLANE, MAPS, MAP_BYTES = 2, 8, 0x4000
 # last scan line.
 MAP_SELECT, MOST_SCAN = 3, 9
 PSF = struct.Struct("<4sIIIIIII")
+UNKNOWN = "\ufffd"
 PSF_MAGIC, PSF_HAS_UNICODE, PSF_END = b"\x72\xb5\x4a\x86", 1, b"\xff"
 # Pixels of an inch, as BDF wants them.
 INCH = 75
@@ -57,13 +58,13 @@ def psf_of(font: Font) -> bytes:
     head = PSF.pack(
         PSF_MAGIC, 0, PSF.size, PSF_HAS_UNICODE, GLYPHS, font.height, font.height, WIDTH
     )
-    table = b"".join(_names(letter) + PSF_END for letter in font.letters)
+    table = b"".join(_name(at, letter) + PSF_END for at, letter in enumerate(font.letters))
     return head + b"".join(font.glyphs) + table
 
 
-def _names(letter: str) -> bytes:
-    """The letter, of one that is known."""
-    return b"" if letter == "\ufffd" else letter.encode("utf-8")
+def _name(code: int, letter: str) -> bytes:
+    """The letter of a code, if it is known; code 00 has another blank than 20."""
+    return b"" if code == 0 or letter == UNKNOWN else letter.encode("utf-8")
 
 
 def bdf_of(font: Font, name: str) -> bytes:
@@ -72,9 +73,8 @@ def bdf_of(font: Font, name: str) -> bytes:
 
 
 def _bdf_lines(font: Font, name: str) -> Iterator[str]:
-    # Of two glyphs with one letter, such as two blanks, the later one is that of the letter itself.
-    numbered = sorted({ord(letter): at for at, letter in enumerate(font.letters)}.items())
-    known = [(number, at) for number, at in numbered if number != 0xFFFD]
+    letters = enumerate(font.letters)
+    known = sorted((ord(letter), at) for at, letter in letters if _name(at, letter))
     height = font.height
     yield "STARTFONT 2.1"
     yield f"FONT -zaklimot-{name}-medium-r-normal--{height}-{10 * height}-75-75-c-80-iso10646-1"

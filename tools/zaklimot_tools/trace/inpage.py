@@ -32,7 +32,7 @@ from zaklimot_tools.core.trouble import Trouble
 
 from .asked import USUAL_SPEED, Deed
 from .keeper import Keeper
-from .note import PAGE_MACHINE, Note, kept_parts
+from .note import PAGE_MACHINE, Note, digests_of, kept_parts
 from .recording import LOOK, Say
 
 
@@ -190,6 +190,8 @@ def record(machine: PageMachine, kept: Path, say: Say, progress: Progress) -> No
     them."""
     check_node()
     note = Note(PAGE_MACHINE, [Path(machine.file).name])
+    given = [machine.file, *([] if machine.rom is None else [machine.rom])]
+    note.software = {Path(name).name: digest for name, digest in digests_of(given).items()}
     with kept_parts(kept, note) as parts, ExitStack() as stack:
         folder = Path(stack.enter_context(tempfile.TemporaryDirectory(prefix="vga-recording-")))
         request = _lay_request(machine, kept, folder)

@@ -1,19 +1,23 @@
 """What a recording's folder tells of how it was recorded, beside its trace and its screens: what it
 needs to be judged once more."""
 
+import hashlib
 import json
+import os
 from contextlib import contextmanager
 from dataclasses import asdict, dataclass, field
 from pathlib import Path
-from typing import Any, Iterator, Optional, Sequence
+from typing import Any, Iterable, Iterator, Optional, Sequence
 
 from zaklimot_tools.core.streams import bytes_of, write_file
 from zaklimot_tools.core.trouble import Trouble
 
 from .parts import Parts
 
-NOTE = "recording.json"
+# The files of a recording that tell how it was made, and how it was judged.
+NOTE, VERDICT = "recording.json", "verdict.txt"
 MOST_NOTE = 1 << 20
+CHUNK = 1 << 20
 FRONT = {"is": "zaklimot recording", "version": 1}
 # Software that reads input status 1 so often within a frame waits for the beam.
 MANY_POLLS = 1000
@@ -27,7 +31,8 @@ class Note:
 
     `polls` is `first` where polls of input status 1 were folded. `ended` is empty while it records.
     `has_beam` tells whether qemu's input status 1 told where a beam would be, and `frame_polls` how
-    often it was read within a frame at most.
+    often it was read within a frame at most. `software` has the SHA-256 of each file that was run,
+    by its name.
     """
 
     machine: str
@@ -39,6 +44,7 @@ class Note:
     ended: str = ""
     has_beam: bool = False
     frame_polls: int = 0
+    software: dict[str, str] = field(default_factory=dict)
 
     @property
     def is_own(self) -> bool:
@@ -49,6 +55,25 @@ class Note:
         """Lays it into the folder."""
         text = json.dumps({**FRONT, **asdict(self)}, indent=1)
         write_file(str(folder / NOTE), text.encode("ascii") + b"\n")
+
+
+def digests_of(words: Iterable[str]) -> dict[str, str]:
+    """The SHA-256 of each file that words name: whole, or behind `=` in a part between commas, as
+    `file=disc.img`. None can be told of what is no file."""
+    digests = {}
+    for word in words:
+        for name in (word, *(part.partition("=")[2] for part in word.split(","))):
+            if name and name not in digests and os.path.isfile(name):
+                digests[name] = _digest(name)
+    return digests
+
+
+def _digest(name: str) -> str:
+    digest = hashlib.sha256()
+    with open(name, "rb") as stream:
+        while data := stream.read(CHUNK):
+            digest.update(data)
+    return digest.hexdigest()
 
 
 @contextmanager
@@ -105,7 +130,7 @@ def _parsed(data: bytes) -> Optional[Note]:
         note = Note(**given)
         note.screens = [float(second) for second in note.screens]
         note.refusals = int(note.refusals)
-        is_known = note.machine in (QEMU_MACHINE, PAGE_MACHINE)
-        return note if is_known and isinstance(note.ended, str) else None
+        is_known = note.machine in (QEMU_MACHINE, PAGE_MACHINE) and isinstance(note.ended, str)
+        return note if is_known and isinstance(note.software, dict) else None
     except (ValueError, TypeError, KeyError, AttributeError, RecursionError):
         return None

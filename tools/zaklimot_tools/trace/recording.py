@@ -27,7 +27,7 @@ from .asked import FIRST, KEEP, Deed
 from .folding import Folding
 from .keeper import Keeper
 from .monitor import ANSWERING, QEMU, Monitor, key_names, monitor_at
-from .note import QEMU_MACHINE, Note, kept_parts
+from .note import QEMU_MACHINE, Note, digests_of, kept_parts
 from .parts import Parts
 from .trace import SCREEN
 
@@ -263,6 +263,7 @@ def record(machine: QemuMachine, kept: Path, say: Say, progress: Progress) -> No
     """
     check_program(QEMU)
     note = Note(QEMU_MACHINE, list(machine.words), polls=machine.polls)
+    note.software = digests_of(machine.words)
     note.has_beam = any("retrace=precise" in word for word in machine.words)
     with kept_parts(kept, note) as parts, ExitStack() as stack:
         folder = Path(stack.enter_context(tempfile.TemporaryDirectory(prefix="vga-recording-")))

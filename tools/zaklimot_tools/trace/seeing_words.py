@@ -137,6 +137,15 @@ def _add_compare(commands: Any) -> None:
     add_program(made)
 
 
+def _add_keep(commands: Any) -> None:
+    told = "keeps a recording in one file"
+    job = later("zaklimot_tools.trace.command", "keep_recording")
+    note = "`vga-trace record FILE --again` judges it, and tells what is otherwise than it was kept."
+    made = _command(commands, "keep", job, told, "keep recorded recorded.zip", note)
+    add(made, "FOLDER", "the folder of a recording that was judged", type=Input)
+    add(made, "OUTPUT", "the ZIP; - is standard output", type=Output)
+
+
 def add_seeing(commands: Any) -> None:
     """Adds the commands to those of the tool."""
     _add_text(commands)
@@ -144,3 +153,4 @@ def add_seeing(commands: Any) -> None:
     _add_screen(commands)
     _add_find(commands)
     _add_compare(commands)
+    _add_keep(commands)

@@ -21,6 +21,7 @@ from zaklimot_tools.core.streams import reading, to_read
 from zaklimot_tools.core.trouble import Trouble
 from zaklimot_tools.explain.banks import MISC, SEQUENCER
 
+from .container import ZIP, unpacked
 from .folding import FOLDED
 from .parts import Chained, parts_of
 
@@ -504,24 +505,34 @@ class Trace:
 
 
 @contextmanager
+def _chained(folder: Path, name: str, may_be_cut: bool) -> Iterator[Trace]:
+    """The trace of a recording's folder, which messages call by a name."""
+    parts = [to_read(str(part)) for part in parts_of(folder)]
+    if not parts:
+        raise Trouble("the folder has no trace of a recording", name)
+    with Chained(parts, may_be_cut) as stream:
+        yield Trace(stream, name)
+
+
+@contextmanager
 def opened(path: str, is_whole: bool = True, may_be_cut: bool = False) -> Iterator[Trace]:
-    """The trace of a file, of the folder of a recording or of standard input, compressed by gzip or
-    not.
+    """The trace of a file, of a recording's folder or ZIP, or of standard input, compressed by gzip
+    or not.
 
     One that isn't read whole may be endless. Where one may be cut, its last part may end anywhere,
     as that of a recording does whose computer has stopped.
     """
     if os.path.isdir(path):
-        parts = [to_read(str(part)) for part in parts_of(Path(path))]
-        if not parts:
-            raise Trouble("the folder has no trace of a recording", path)
-        with Chained(parts, may_be_cut) as stream:
-            yield Trace(stream, path)
+        with _chained(Path(path), path, may_be_cut) as trace:
+            yield trace
         return
     with reading(path, is_drained=is_whole) as read:
-        if read.peek(2)[:2] == GZIP:
-            with gzip.open(read) as unpacked:
+        if read.peek(len(ZIP))[: len(ZIP)] == ZIP:
+            with unpacked(path) as folder, _chained(folder, path, may_be_cut) as trace:
+                yield trace
+        elif read.peek(2)[:2] == GZIP:
+            with gzip.open(read) as decoded:
                 # What `BufferedReader` asks of a stream, this has too.
-                yield Trace(io.BufferedReader(unpacked), name_of(path))  # type: ignore[arg-type]
+                yield Trace(io.BufferedReader(decoded), name_of(path))  # type: ignore[arg-type]
         else:
             yield Trace(read, name_of(path))

@@ -165,9 +165,11 @@ def _add_page_machine(parser: argparse.ArgumentParser) -> None:
 def _add_pictures(parser: argparse.ArgumentParser) -> None:
     told = "the folder for PNG files, which are named by the second of each"
     add(parser, "FOLDER", told, nargs="?", type=PictureFolder)
-    told = "the pictures want a folder, or --apng a file"
-    rule(parser, "trace", lambda words: words.folder is None and words.apng is None, told)
+    told = "the pictures want a folder, or --apng or --video a file"
+    rule(parser, "trace", lambda words: not (words.folder or words.apng or words.video), told)
     add(parser, "--apng FILE", "writes one picture that moves, in real time", type=Output)
+    told = "writes a video, .mp4 or .webm, which ffmpeg makes"
+    add(parser, "--video FILE", told, type=Output)
     told = "draws what changes within a frame where the beam was by the trace's times"
     add(parser, "--beam", told)
     add_shape(parser)
