@@ -46,9 +46,9 @@ class Write(NamedTuple):
     told: str
 
     @property
-    def what(self) -> tuple[str, str]:
-        """What of it is compared."""
-        return self.place, self.value
+    def line(self) -> str:
+        """What is told of it."""
+        return f"{self.place}: {self.value}, at {self.told}"
 
 
 class Writes:
@@ -172,13 +172,14 @@ def compare_recordings(words: argparse.Namespace, progress: Progress) -> int:
 def _compare_writes(both: Sequence[Recording], stack: ExitStack) -> bool:
     """Compares the registers that are written; whether they are alike."""
     count = 0
-    for pair in zip_longest(*(one.writes(stack) for one in both)):
+    pairs: Iterator[Sequence[Optional[Write]]]
+    pairs = zip_longest(*(one.writes(stack) for one in both))
+    for pair in pairs:
         one, other = pair
-        if one is None or other is None or one.what != other.what:
+        if one is None or other is None or one[:2] != other[:2]:
             print(f"register writes: {_equal(count)}; write {count + 1:,} differs")
             for write, recording in zip(pair, both):
-                told = "no more" if write is None else f"{write.place}: {write.value}, at {write.told}"
-                print(f"  {recording.path}: {told}")
+                print(f"  {recording.path}: {'no more' if write is None else write.line}")
             return False
         count += 1
     print(f"register writes: {_equal(count)}, and there are no more")

@@ -30,6 +30,8 @@ ZIP = b"PK\3\4"
 END, END_MAGIC, MOST_COMMENT = struct.Struct("<4sHHHHIIH"), b"PK\5\6", 0xFFFF
 # What each file has, so that the same files give the same bytes: a time, rights, and a system.
 TIME, RIGHTS, UNIX = (1980, 1, 1, 0, 0, 0), 0o100644 << 16, 3
+# What a ZIP raises whose bytes are wrong, or whose files are packed in a way of their own.
+DAMAGE = (zipfile.BadZipFile, zlib.error, EOFError, NotImplementedError, RuntimeError)
 # These are packed already.
 PACKED = (".gz", ".png")
 LEVEL = 6
@@ -40,8 +42,8 @@ def keep(folder: Path, path: str) -> int:
     names = sorted(one.name for one in folder.iterdir() if KEPT.fullmatch(one.name))
     for name in NEEDED:
         if name not in names:
-            told = "judge it first, by `vga-trace record FOLDER --again`"
-            raise Trouble(f"it has no {name}, and is no recording that was judged: {told}", str(folder))
+            told = "is no recording that was judged: `vga-trace record FOLDER --again` judges it"
+            raise Trouble(f"it has no {name}, and {told}", str(folder))
     with writing(path) as stream:
         with zipfile.ZipFile(stream, "w", allowZip64=False) as archive:
             for name in names:
@@ -74,7 +76,7 @@ def unpacked(path: str) -> Iterator[Path]:
                 entries = _checked(archive.infolist(), path)
                 for entry in entries:
                     _unpack(archive, entry, Path(made) / entry.filename)
-        except (zipfile.BadZipFile, zlib.error, EOFError, NotImplementedError, RuntimeError) as error:
+        except DAMAGE as error:
             raise Trouble(f"its bytes are damaged: {error}", path) from error
         yield Path(made)
 

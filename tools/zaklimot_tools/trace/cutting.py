@@ -6,10 +6,11 @@ The adapter tells where its beam is, and all that the next script has to rebuild
 
 from collections import deque
 from dataclasses import dataclass, field
+from io import BufferedReader
 from itertools import chain, islice
 from math import prod
 from pathlib import Path
-from typing import Iterator, Optional
+from typing import Iterator, Optional, cast
 
 from zaklimot import format
 from zaklimot_tools.core.progress import Progress
@@ -107,21 +108,27 @@ class Cutting:
 
     def _answers(self, script: Path, until: Optional[int]) -> Iterator[format.Answer]:
         with BuiltProgram(self._program).running(script, self._fonts, until, True) as outcome:
-            yield from Report(outcome.report, "report", self._progress).steps()
+            stream = cast(BufferedReader, outcome.report)
+            yield from Report(stream, "report", self._progress).steps()
         if outcome.status:
             raise Trouble(
                 f"it ended with status {outcome.status}: {fault_of(outcome)}", self._program
             )
 
 
+def _going_on(ended: Ended, steps: Iterator[TraceStep]) -> Iterator[TraceStep]:
+    """What is left of the last step, and the steps after it."""
+    while ended.left:
+        yield ended.left.pop()
+    for step in steps:
+        ended.taken += 1
+        yield step
+
+
 def _up_to_end(ended: Ended, steps: Iterator[TraceStep], dots: int) -> Iterator[TraceStep]:
     """The steps until so many dots have passed, or a frame has ended; what is left of the last
     stays."""
-    while ended.left or (step := next(steps, None)) is not None:
-        if ended.left:
-            step = ended.left.pop()
-        else:
-            ended.taken += 1
+    for step in _going_on(ended, steps):
         if step.opcode == ADVANCE and step.address >= dots:
             if step.address > dots:
                 ended.left.append(step._replace(address=step.address - dots))

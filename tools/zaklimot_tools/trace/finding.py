@@ -143,4 +143,3 @@ def find_text(words: argparse.Namespace, progress: Progress) -> int:
 
 def _line(found: Found) -> str:
     return f"{found.told:>8}  {found.row:3}  {found.column:6}  {found.text}"
-

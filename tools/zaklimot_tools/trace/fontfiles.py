@@ -101,10 +101,10 @@ def _properties(height: int) -> Sequence[str]:
         f"FONT_DESCENT {_descent(height)}",
         f"PIXEL_SIZE {height}",
         f"POINT_SIZE {10 * height}",
-        "SPACING \"C\"",
+        'SPACING "C"',
         f"AVERAGE_WIDTH {10 * WIDTH}",
-        "CHARSET_REGISTRY \"ISO10646\"",
-        "CHARSET_ENCODING \"1\"",
+        'CHARSET_REGISTRY "ISO10646"',
+        'CHARSET_ENCODING "1"',
         "DEFAULT_CHAR 32",
     )
 

@@ -7,7 +7,7 @@ from pathlib import Path
 from typing import Iterator, Optional, Sequence
 
 from zaklimot_tools.core.progress import Progress
-from zaklimot_tools.core.streams import bytes_of, write_file
+from zaklimot_tools.core.streams import bytes_of, counted, write_file
 from zaklimot_tools.core.trouble import AGREED, DIFFERED
 from zaklimot_tools.images.reading import MOST_BYTES, Image, image_of
 
@@ -100,7 +100,8 @@ def judge_kept(judging: Judging, folder: Path, name: str) -> int:
     found = judging.verdict(note_of(folder), folder)
     judging.tell(found, Path(name))
     differing = list(_otherwise(told, list(found.lines(FOLDER)), before, _kept(folder)))
-    print("\n".join(differing or [f"all is as it was kept: the verdict and {len(before)} pictures"]))
+    pictures = counted(len(before), "picture")
+    print("\n".join(differing or [f"all is as it was kept: the verdict and {pictures}"]))
     return AGREED if found.agrees and not differing else DIFFERED
 
 

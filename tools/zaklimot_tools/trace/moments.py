@@ -129,10 +129,12 @@ class Steps:
     def _check_reached(self, moment: Moment) -> None:
         name = self.trace.name
         if moment.cycle is not None and self.trace.count < moment.cycle:
-            raise Trouble(f"it has {self.trace.count:,} cycles, and no cycle {moment.cycle:,}", name)
+            told = f"it has {self.trace.count:,} cycles, and no cycle {moment.cycle:,}"
+            raise Trouble(told, name)
         if moment.screen is not None and not self._is_past_screen(moment):
             screens = self.trace.screens
             count = len(screens) if self.trace.has_dots else -(-len(screens) // PHASES)
-            raise Trouble(f"`record` took {count} of its screens, and no screen {moment.screen}", name)
+            told = f"`record` took {count} of its screens, and no screen {moment.screen}"
+            raise Trouble(told, name)
         if moment.at is not None and self.passed.began is None:
             raise Trouble("its cycles have no times: --cycle names a moment by its cycles", name)

@@ -16,7 +16,7 @@ from zaklimot_tools.images.png import Shape, save_png
 from zaklimot_tools.script.program import found_program
 
 from .asked import ANSI, HTML, PLAIN
-from .cells import ansi_lines, code_page, html_lines, plain_lines, start_of
+from .cells import ansi_lines, code_page, html_lines, plain_lines
 from .colourfiles import gpl_of, jasc_of, plane_pictures, starts_of_pages
 from .fontfiles import bdf_of, font_of, psf_of, usual_height, usual_map
 from .moments import Moment, Steps
@@ -78,17 +78,22 @@ def _cycle_of_picture(walk: Walk, path: str, wanted: int) -> int:
     last = ""
     with opened(path) as trace:
         steps = Steps(trace)
-        frames = (
-            Question(FRAME_STEP, steps.passed.cycles) if step.opcode == FRAME else step
-            for step in steps.with_frames()
-        )
-        for cycle, answer in walk.answers(frames):
+        for cycle, answer in walk.answers(_framed(steps)):
             if isinstance(answer.picture, Picture) and answer.picture.sum != last:
                 last = answer.picture.sum
                 count += 1
                 if count == wanted:
                     return cast(int, cycle)
     raise Trouble(f"it has {count} pictures, and no picture {wanted}", name_of(path))
+
+
+def _framed(steps: Steps) -> Iterator[Item]:
+    """The steps of a trace, with questions for the pictures of their frames."""
+    for step in steps.with_frames():
+        if step.opcode == FRAME:
+            yield Question(FRAME_STEP, steps.passed.cycles)
+        else:
+            yield step
 
 
 def show_text(words: argparse.Namespace, progress: Progress) -> None:
@@ -174,4 +179,3 @@ def _started(state: State, start: int) -> Iterator[TraceStep]:
     yield TraceStep(OUTW, port, start >> 8 << 8 | START_HIGH)
     yield TraceStep(OUTW, port, (start & 0xFF) << 8 | START_LOW)
     yield TraceStep(FRAME)
-

@@ -140,7 +140,7 @@ def _add_compare(commands: Any) -> None:
 def _add_keep(commands: Any) -> None:
     told = "keeps a recording in one file"
     job = later("zaklimot_tools.trace.command", "keep_recording")
-    note = "`vga-trace record FILE --again` judges it, and tells what is otherwise than it was kept."
+    note = "`vga-trace record FILE --again` judges it, and tells what is otherwise now."
     made = _command(commands, "keep", job, told, "keep recorded recorded.zip", note)
     add(made, "FOLDER", "the folder of a recording that was judged", type=Input)
     add(made, "OUTPUT", "the ZIP; - is standard output", type=Output)

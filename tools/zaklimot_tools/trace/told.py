@@ -163,4 +163,3 @@ TAKING: dict[str, Callable[[Told, Sequence[str]], None]] = {
     "plane": _take_plane,
     "bda": _take_bios_data,
 }
-
