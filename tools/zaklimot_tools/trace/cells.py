@@ -23,6 +23,8 @@ CONTROL, OVERSCAN, PLANE_ENABLE, COLOUR_SELECT = 0x10, 0x11, 0x12, 0x14
 IS_MONOCHROME, BLINKS, SELECTS_TWO, SOURCE = 0x02, 0x08, 0x80, 0x20
 SCREEN_OFF = 0x20
 COUNTER = 0xFFFF
+# The CRT controller's registers of the cursor.
+CURSOR = (0x0A, 0x0B, 0x0E, 0x0F)
 # What a VGA's own glyphs show where a code page has controls.
 GLYPHS_OF_CONTROLS = " ☺☻♥♦♣♠•◘○◙♂♀♪♫☼►◄↕‼¶§▬↨↑↓→←∟↔▲▼"
 DELETE, GLYPH_OF_DELETE, UNKNOWN = 0x7F, "⌂", "\ufffd"
@@ -65,7 +67,6 @@ def lines_shown(state: State) -> int:
     return min(last + 1, state.shape[0])
 
 
-@lru_cache(1 << 8)
 def _bases(crtc: tuple[int, ...], lines: int) -> Sequence[int]:
     """The counters of the first characters of the rows that are shown: see docs/RASTER.md."""
     compare = crtc[LINE_COMPARE] | (crtc[OVERFLOW] & 0x10) << 4 | (crtc[MOST_SCAN] & 0x40) << 3
@@ -91,7 +92,10 @@ def _bases(crtc: tuple[int, ...], lines: int) -> Sequence[int]:
 
 def fetch_address(state: State, counter: int) -> int:
     """The offset in each plane at which the bytes of a counter are fetched."""
-    crtc = state.crtc.registers
+    return _fetched(state.crtc.registers, counter)
+
+
+def _fetched(crtc: Sequence[int], counter: int) -> int:
     if crtc[UNDERLINE] & DOUBLE_WORD:
         return 4 * counter & COUNTER
     if crtc[MODE_CONTROL] & BYTE_MODE:
@@ -100,18 +104,37 @@ def fetch_address(state: State, counter: int) -> int:
     return 2 * counter & COUNTER | wrapped
 
 
-def cells_of(state: State, name: str) -> Sequence[Sequence[Cell]]:
-    """The rows of cells that are shown; a Trouble where graphics are."""
+@lru_cache(1 << 8)
+def _offsets(crtc: tuple[int, ...], columns: int, lines: int) -> Sequence[Sequence[int]]:
+    """The offsets in the planes of the cells of each row that is shown."""
+    return [
+        [_fetched(crtc, base + at & COUNTER) for at in range(columns)]
+        for base in _bases(crtc, lines)
+    ]
+
+
+def _places(state: State, name: str) -> Sequence[Sequence[int]]:
+    """The same of a state; a Trouble where graphics are shown."""
     if not is_text(state):
         raise Trouble("it shows graphics then, and no text: `vga-trace screen` shows them", name)
     crtc = state.crtc.registers
     columns = min(crtc[SHOWN_CHARACTERS] + 1, state.shape[1])
+    # Where the cursor is makes no difference, and it moves.
+    shaping = tuple(0 if at in CURSOR else value for at, value in enumerate(crtc))
+    return _offsets(shaping, columns, lines_shown(state))
+
+
+def cells_of(state: State, name: str) -> Sequence[Sequence[Cell]]:
+    """The rows of cells that are shown; a Trouble where graphics are."""
     words = state.memory.words
-    rows = []
-    for base in _bases(tuple(crtc), lines_shown(state)):
-        offsets = (fetch_address(state, base + at & COUNTER) for at in range(columns))
-        rows.append([Cell(words[at] & 0xFF, words[at] >> 8 & 0xFF) for at in offsets])
-    return rows
+    rows = _places(state, name)
+    return [[Cell(words[at] & 0xFF, words[at] >> 8 & 0xFF) for at in row] for row in rows]
+
+
+def text_of(state: State, letters: str, name: str) -> Sequence[str]:
+    """The rows as text, each character of which is a cell; a Trouble where graphics are shown."""
+    words = state.memory.words
+    return ["".join([letters[words[at] & 0xFF] for at in row]) for row in _places(state, name)]
 
 
 def code_page(name: str) -> str:
@@ -128,11 +151,6 @@ def code_page(name: str) -> str:
 
 
 USUAL_LETTERS = bytes(range(0x20, DELETE)).decode("ascii")
-
-
-def row_text(row: Sequence[Cell], letters: str) -> str:
-    """A row as text, each character of which is a cell."""
-    return "".join(letters[cell.character] for cell in row)
 
 
 def entry_of(state: State, bits: int) -> int:
@@ -169,15 +187,14 @@ def look_of(state: State, attribute: int) -> Look:
 
 def plain_lines(state: State, letters: str, name: str) -> Iterator[str]:
     """The rows as text, without the blanks at their ends."""
-    for row in cells_of(state, name):
-        yield row_text(row, letters).rstrip()
+    yield from (row.rstrip() for row in text_of(state, letters, name))
 
 
 def _runs(state: State, row: Sequence[Cell], letters: str) -> Iterator[tuple[Look, str]]:
     """The parts of a row that have one look, each with its text."""
     looks = {attribute: look_of(state, attribute) for attribute in {one.attribute for one in row}}
     for look, cells in groupby(row, lambda cell: looks[cell.attribute]):
-        yield look, row_text(list(cells), letters)
+        yield look, "".join(letters[cell.character] for cell in cells)
 
 
 def ansi_lines(state: State, letters: str, name: str) -> Iterator[str]:

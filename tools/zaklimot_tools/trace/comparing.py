@@ -5,7 +5,7 @@ import argparse
 from contextlib import ExitStack
 from dataclasses import dataclass, field
 from itertools import zip_longest
-from typing import Iterator, NamedTuple, Optional, Sequence, cast
+from typing import Iterator, Optional, Sequence, cast
 
 from zaklimot import format
 from zaklimot.format import MOST_ADVANCE, Picture
@@ -38,12 +38,13 @@ PLAIN_PORTS = {
 PHASES = 32
 
 
-class Write(NamedTuple):
+@dataclass(frozen=True)
+class Write:
     """A register that was written, and its value; `told` is when."""
 
     place: str
     value: str
-    told: str
+    told: str = field(compare=False)
 
     @property
     def line(self) -> str:
@@ -172,11 +173,9 @@ def compare_recordings(words: argparse.Namespace, progress: Progress) -> int:
 def _compare_writes(both: Sequence[Recording], stack: ExitStack) -> bool:
     """Compares the registers that are written; whether they are alike."""
     count = 0
-    pairs: Iterator[Sequence[Optional[Write]]]
-    pairs = zip_longest(*(one.writes(stack) for one in both))
-    for pair in pairs:
+    for pair in zip_longest(*(one.writes(stack) for one in both)):
         one, other = pair
-        if one is None or other is None or one[:2] != other[:2]:
+        if one != other:
             print(f"register writes: {_equal(count)}; write {count + 1:,} differs")
             for write, recording in zip(pair, both):
                 print(f"  {recording.path}: {'no more' if write is None else write.line}")

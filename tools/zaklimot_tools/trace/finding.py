@@ -9,18 +9,20 @@ from zaklimot.format import PLANE_BYTES, Answer
 from zaklimot_tools.core.files import name_of
 from zaklimot_tools.core.progress import Progress
 from zaklimot_tools.core.trouble import AGREED, DIFFERED
+from zaklimot_tools.explain.banks import WINDOWS
 from zaklimot_tools.explain.registers import Registers
 from zaklimot_tools.script.program import found_program
 
-from .cells import cells_of, code_page, is_text, row_text
-from .moments import Passed, Steps
-from .step import FRAME, WRITES
-from .told import Told, planes_asked
+from .cells import code_page, is_text, text_of
+from .moments import Steps
+from .step import FRAME, INT, PUT, PUTW, WRITES, TraceStep
+from .told import SHOWN_BYTES, Told
 from .trace import opened
 from .walking import Item, Question, Walk
 
-# Text is in the even bytes of two planes, and in the 32 KiB of a window.
-TEXT_PLANES, TEXT_BYTES = (0, 1), PLANE_BYTES // 2
+# Characters and attributes are in two planes, which are shown block by block.
+TEXT, BLOCKS = (0, 1), range(PLANE_BYTES // SHOWN_BYTES)
+WINDOW_BEGINS = sorted({first for first, _ in WINDOWS})
 IS_GRAPHICS = 1
 
 
@@ -83,25 +85,46 @@ class Finder:
                 yield Found(told, row, column, rows[row].strip())
 
 
-def _items(steps: Steps) -> Iterator[Item]:
-    """The steps of a trace, and questions about text where frames end."""
-    # What the adapter tells counts; this alone tells where asking is of no use.
-    registers = Registers()
-    is_changed = False
-    for step in steps.with_frames():
-        if step.opcode != FRAME:
-            registers.take(step.step)
-            is_changed |= step.opcode in WRITES
-            yield step
-        elif is_changed and not registers.banks.gfx.registers[6] & IS_GRAPHICS:
-            is_changed = False
-            yield from _asked(steps.passed)
+class Asking:
+    """Asks for the text where frames end: for its registers, and for the blocks of the two planes
+    that may have changed since."""
 
+    def __init__(self, steps: Steps) -> None:
+        self._steps = steps
+        # What the adapter tells counts; this alone tells where asking is of no use.
+        self._registers = Registers()
+        self._blocks = set(BLOCKS)
+        self._is_changed = False
 
-def _asked(passed: Passed) -> Iterator[Question]:
-    asked = [format.Step("show regs", ()), *planes_asked(TEXT_PLANES, TEXT_BYTES)]
-    for left, step in enumerate(asked, 1 - len(asked)):
-        yield Question(step, At(passed.told, left == 0))
+    def items(self) -> Iterator[Item]:
+        """The steps of the trace, and the questions among them."""
+        for step in self._steps.with_frames():
+            if step.opcode != FRAME:
+                self._take(step)
+                yield step
+            elif self._is_changed and not self._registers.banks.gfx.registers[6] & IS_GRAPHICS:
+                yield from self._asked()
+
+    def _take(self, step: TraceStep) -> None:
+        self._registers.take(step.step)
+        self._is_changed |= step.opcode in WRITES
+        if step.opcode == INT:
+            self._blocks = set(BLOCKS)
+        elif step.opcode in (PUT, PUTW):
+            # Whichever window there is, the byte is in one of these blocks, or the next one.
+            for first in WINDOW_BEGINS:
+                place = step.address - first
+                self._blocks.update((place >> 8 & 0xFF, place + 1 >> 8 & 0xFF))
+
+    def _asked(self) -> Iterator[Question]:
+        planes = (
+            (plane, block << 8, SHOWN_BYTES) for block in sorted(self._blocks) for plane in TEXT
+        )
+        asked = [*(format.Step("show plane", one) for one in planes), format.Step("show regs", ())]
+        self._blocks = set()
+        self._is_changed = False
+        for left, step in enumerate(asked, 1 - len(asked)):
+            yield Question(step, At(self._steps.passed.told, left == 0))
 
 
 def _screens(
@@ -113,7 +136,7 @@ def _screens(
         told.take(answer)
         at = cast(At, tag)
         if at.is_last and is_text(told.state):
-            yield [row_text(row, letters) for row in cells_of(told.state, name)], at.told
+            yield text_of(told.state, letters, name), at.told
 
 
 def find_text(words: argparse.Namespace, progress: Progress) -> int:
@@ -123,7 +146,7 @@ def find_text(words: argparse.Namespace, progress: Progress) -> int:
     finder = Finder(words.text, words.any_case)
     count = 0
     with opened(words.trace) as trace:
-        answers = walk.answers(_items(Steps(trace)))
+        answers = walk.answers(Asking(Steps(trace)).items())
         for rows, told in _screens(answers, letters, name_of(words.trace)):
             for found in sorted(finder.take(rows, told), key=lambda one: one[1:3]):
                 count += 1

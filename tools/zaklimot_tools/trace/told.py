@@ -38,13 +38,6 @@ class BiosData:
         return self.height > 0
 
 
-def planes_asked(planes: Sequence[int], count: int) -> Iterator[Step]:
-    """The steps that show so many bytes of each of some planes, from their begin on."""
-    for plane in planes:
-        for offset in range(0, count, SHOWN_BYTES):
-            yield Step("show plane", (plane, offset, SHOWN_BYTES))
-
-
 def state_asked() -> Iterator[Step]:
     """The steps that show all of the adapter, which change nothing."""
     yield Step("show regs", ())
@@ -52,7 +45,9 @@ def state_asked() -> Iterator[Step]:
     yield Step("show latches", ())
     yield Step("show bda", ())
     yield from (Step("show dac", (index,)) for index in range(ENTRIES))
-    yield from planes_asked(range(PLANES), PLANE_BYTES)
+    for plane in range(PLANES):
+        for offset in range(0, PLANE_BYTES, SHOWN_BYTES):
+            yield Step("show plane", (plane, offset, SHOWN_BYTES))
 
 
 # How many steps these are.
