@@ -53,6 +53,7 @@ RECORDED = [
     "screen-2.ppm",
     "script.bin",
     "trace.gz",
+    "verdict.txt",
 ]
 
 

@@ -124,7 +124,14 @@ with connection, connection.makefile("rw") as monitor:
 """
 # What a recording leaves.
 KEPT_OF_SCREEN = ["picture-1.png"]
-KEPT = ["recording.json", "report.txt", "screen-1.ppm", "script.bin", "trace.gz"]
+KEPT = [
+    "recording.json",
+    "report.txt",
+    "screen-1.ppm",
+    "script.bin",
+    "trace.gz",
+    "verdict.txt",
+]
 NOTE_OF_NO_MACHINE = {"is": "zaklimot recording", "version": 1, "machine": "none"}
 # A line that the filter of the log keeps, and one of another device.
 LINES = qemu("write 3c2 67 1") + qemu("write 70 f 1", "rtc")

@@ -11,9 +11,8 @@ from zaklimot import format
 from zaklimot.format import MOST_ADVANCE, Picture
 from zaklimot_tools.core.files import STANDARD
 from zaklimot_tools.core.progress import Progress
-from zaklimot_tools.core.streams import write_name
 from zaklimot_tools.core.trouble import AGREED, DIFFERED, Trouble
-from zaklimot_tools.explain.banks import ATTRIBUTE, DAC_DATA, DAC_READ, DAC_WRITE, MASK, MISC, Banks
+from zaklimot_tools.explain.banks import ATTRIBUTE, DAC_DATA, DAC_READ, DAC_WRITE, MASK, MISC
 from zaklimot_tools.explain.registers import Registers, bytes_written
 from zaklimot_tools.images.holding import told_dots
 from zaklimot_tools.images.png import Shape, save_png
@@ -57,12 +56,15 @@ class Writes:
     none."""
 
     def __init__(self) -> None:
-        self._banks = Banks()
+        # It knows the ports after a mode set, too.
+        self._registers = Registers()
+        self._banks = self._registers.banks
 
     def of(self, step: TraceStep) -> Iterator[tuple[str, str]]:
         """The places and values that a step writes."""
         if step.opcode == INT and step.call is not None:
             registers = " ".join(f"{value:04X}" for value in step.call.registers)
+            self._registers.take(step.step)
             yield "interrupt 10", f"{registers} {step.call.block.hex().upper()}".rstrip()
         for port, value in bytes_written(step.step):
             place = self._place(port)
@@ -166,7 +168,7 @@ def compare_recordings(words: argparse.Namespace, progress: Progress) -> int:
     if words.picture is not None and differing is not None and None not in differing:
         one, other = cast(Sequence[Picture], differing)
         save_png(words.picture, one, Shape(words.scale, words.aspect), other)
-        write_name(words.picture)
+        print(words.picture)
     return AGREED if are_alike and differing is None else DIFFERED
 
 

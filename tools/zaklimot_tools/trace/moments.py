@@ -15,8 +15,8 @@ from .trace import Cycle, Trace
 
 # Microseconds of a second.
 SECOND = 1_000_000
-# No time without writes is cut.
-FOREVER = float("inf")
+# The seconds of a time without writes, as `pictures` cuts it.
+LONGEST = 1
 
 
 @dataclass(frozen=True)
@@ -78,16 +78,17 @@ class Steps:
         self._check_reached(moment)
         yield from self._up_to_screen(moment)
 
-    def with_frames(self, longest: float = FOREVER) -> Iterator[TraceStep]:
+    def with_frames(self, is_drawn: bool = False) -> Iterator[TraceStep]:
         """All steps, and a `frame` at the end of each frame of the dot clock in which something was
-        written, where cycles have times."""
+        written, where cycles have times. If these are drawn, the time between them passes, as
+        `pictures` has it."""
         steps = without_polls(steps_of(self.trace.cycles(), self.trace.screens))
         first = next(steps)
         if first.time is None:
             raise self.trace.trouble("the first cycle has no time, by which frames end")
-        for step in Clocked(longest).steps(chain([first], steps)):
+        for step in Clocked(LONGEST).steps(chain([first], steps)):
             self.passed.take(step)
-            if step.opcode != ADVANCE:
+            if is_drawn or step.opcode != ADVANCE:
                 yield step
         yield TraceStep(FRAME)
 

@@ -4,6 +4,7 @@ import argparse
 import os
 from dataclasses import dataclass
 from functools import cached_property
+from math import prod
 from typing import Iterator, Optional, Sequence, cast
 
 from zaklimot import format
@@ -21,13 +22,15 @@ from .colourfiles import gpl_of, jasc_of, plane_pictures, starts_of_pages
 from .fontfiles import bdf_of, font_of, psf_of, usual_height, usual_map
 from .moments import Moment, Steps
 from .state import TAKEN, State
-from .step import FRAME, OUTW, TraceStep
+from .step import FRAME, OUTW, TraceStep, advances
 from .trace import opened
 from .walking import Item, Question, Walk
 
 LINES = {PLAIN: plain_lines, ANSI: ansi_lines, HTML: html_lines}
 FRAME_STEP = format.Step("frame", ())
 START_HIGH, START_LOW = TAKEN[1:]
+# So many frames lie between the pictures of two pages, of the 32 after which all blinks anew.
+PAUSE = 30
 
 
 @dataclass
@@ -89,7 +92,7 @@ def _cycle_of_picture(walk: Walk, path: str, wanted: int) -> int:
 
 def _framed(steps: Steps) -> Iterator[Item]:
     """The steps of a trace, with questions for the pictures of their frames."""
-    for step in steps.with_frames():
+    for step in steps.with_frames(is_drawn=True):
         if step.opcode == FRAME:
             yield Question(FRAME_STEP, steps.passed.cycles)
         else:
@@ -163,6 +166,8 @@ def _save_frames(
             # A start address is taken at a frame's first dot.
             yield from () if start is None else _started(seen.state, start)
             yield Question(FRAME_STEP, name)
+            # The cursor and blinking text are the same on each page.
+            yield from () if start is None else advances(PAUSE * prod(seen.state.shape))
 
     for name, answer in seen.walk.answers(items()):
         if not isinstance(answer.picture, Picture):

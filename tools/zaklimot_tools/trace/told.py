@@ -75,7 +75,7 @@ class Told:
             taking(self, answer.lines)
             if name in WHOLE:
                 self.shown[name] = answer.lines
-        except (ValueError, IndexError) as error:
+        except (ValueError, LookupError) as error:
             raise Trouble(
                 f"step {answer.number:,} shows nothing of the adapter: '{answer.answer[:40]}'",
                 "report",

@@ -23,8 +23,8 @@ from .step import TraceStep
 from .told import Told, state_asked
 
 # A script has so many bytes and steps of a trace at most. What is left of those that it may have is
-# for the steps that ask for the state at its end.
-ROOM = 1 << 19
+# for the steps that rebuild a state at its begin, and those that ask for one at its end.
+ROOM = 1 << 21
 MOST_PART, MOST_PART_STEPS = MOST_BYTES - ROOM, MOST_STEPS - ROOM
 
 
@@ -41,23 +41,29 @@ Item = Union[TraceStep, Question]
 @dataclass
 class Part:
     """A script that is filled with items: its steps, and the numbers of its questions among
-    them."""
+    them.
+
+    `before` is how many of its steps rebuild a state; `size` has the bytes of the others.
+    """
 
     stream: BinaryIO
     steps: int = 0
+    before: int = 0
     size: int = 0
     asked: list[tuple[int, object]] = field(default_factory=list)
 
     @property
     def is_full(self) -> bool:
         """Whether the next item has no room."""
-        return self.size >= MOST_PART or self.steps >= MOST_PART_STEPS
+        return self.size >= MOST_PART or self.steps - self.before >= MOST_PART_STEPS
 
     def begin(self, before: Iterable[TraceStep]) -> None:
         """Writes the header, and the steps that rebuild a state."""
         self._write(HEADERS[1])
         for step in before:
             self.add(step)
+        self.before = self.steps
+        self.size = 0
 
     def add(self, item: Item) -> None:
         """Writes an item."""

@@ -1,0 +1,518 @@
+"""What traces show at any moment: text, colours, glyphs, pages and planes; where a text is found,
+and how two traces differ. The program tells all of it."""
+
+from __future__ import annotations
+
+import re
+import shutil
+import subprocess
+import unittest
+from pathlib import Path
+from typing import Any
+from unittest import mock
+
+from zaklimot.format import Answer, Step
+from zaklimot_tools.core.progress import Progress
+from zaklimot_tools.script.words import FONTS
+from zaklimot_tools.trace import walking
+from zaklimot_tools.trace.cells import cells_of, code_page, look_of, text_of
+from zaklimot_tools.trace.colourfiles import starts_of_pages
+from zaklimot_tools.trace.finding import Finder
+from zaklimot_tools.trace.rebuilding import rebuilt_as_told
+from zaklimot_tools.trace.step import TraceStep
+from zaklimot_tools.trace.told import Told, state_asked
+from zaklimot_tools.trace.trace import Call
+from zaklimot_tools.trace.walking import Question, Walk
+
+from .tools import (
+    EXAMPLES,
+    PROGRAM,
+    Folder,
+    hold_refused,
+    hold_undone,
+    png_rows,
+    refused,
+    run_tool,
+    want_program,
+)
+
+
+TYPED = EXAMPLES / "typed-line.trace"
+LINE = "A program typed this, and a trace has kept it."
+# Mode 3; a line of text by cells; a colour of the DAC; a second page, and then graphics.
+CALLS = b"""0 int 0003 0 0 0
+1 int 0100 0 2000 0
+10 int 1301 1E 3 0105 414243
+20 int 1010 7 150A 3F00
+1000020 w m B8000 01 1
+1000021 w m B8001 9C 1
+2000000 int 0501 0 0 0
+2000010 int 1301 107 2 203 5859
+3000000 int 0013 0 0 0
+"""
+INT = 9
+
+
+def call(*registers: int) -> TraceStep:
+    """A call of interrupt 10."""
+    return TraceStep(INT, call=Call(registers))
+
+
+class Seen(Folder):
+    """A test that runs the command on traces."""
+
+    def setUp(self) -> None:
+        super().setUp()
+        want_program()
+        self.calls = self.write("calls.trace", CALLS)
+
+    def run_command(self, name: str, *words: str | Path) -> tuple[int, str, str]:
+        """Exit status, output as text, and what is said."""
+        status, output, said = run_tool("vga-trace", name, *words, "--vga", PROGRAM)
+        return status, output.decode(), said
+
+    def done(self, name: str, *words: str | Path) -> str:
+        """The output of a command that does its work."""
+        status, output, said = self.run_command(name, *words)
+        self.assertEqual((status, said), (0, ""))
+        return output
+
+
+class Text(Seen):
+    def test_the_line_that_was_typed(self) -> None:
+        lines = self.done("text", TYPED).splitlines()
+        self.assertEqual((len(lines), lines[12].strip()), (25, LINE))
+        part = self.done("text", TYPED, "--at", "0.9").splitlines()[12].strip()
+        self.assertTrue(0 < len(part) < len(LINE) and LINE.startswith(part), part)
+        # Each of the three names the same moment.
+        last = [self.done("text", TYPED, *words) for words in (["--cycle", "586"], ["--at", "9"])]
+        self.assertEqual(last, ["\n".join(lines) + "\n"] * 2)
+        count = len(list(re.finditer("png", self.done("pictures", TYPED, self.folder / "all"))))
+        number = self.done("text", TYPED, "--picture", str(count)).splitlines()[12].strip()
+        self.assertEqual(number, LINE)
+
+    def test_moments_that_are_not_there(self) -> None:
+        for words, told in (
+            (["--cycle", "587"], "it has 586 cycles, and no cycle 587"),
+            (["--screen", "1"], "`record` took 0 of its screens, and no screen 1"),
+            (["--picture", "99"], r"it has 42 pictures, and no picture 99"),
+        ):
+            with self.subTest(words):
+                hold_undone(self, self.run_command("text", TYPED, *words), told)
+        untimed = self.write("untimed", b"- w p 3C2 67 1\n")
+        hold_undone(
+            self, self.run_command("text", untimed, "--at", "1"), "its cycles have no times"
+        )
+        hold_undone(
+            self,
+            self.run_command("text", "-", "--picture", "1"),
+            "--picture reads the trace twice",
+        )
+
+    def test_pages_attributes_and_graphics(self) -> None:
+        lines = self.done("text", self.calls, "--at", "1.5").splitlines()
+        self.assertEqual((lines[0], lines[1]), ("\u263a", "     ABC"))
+        other = self.done("text", self.calls, "--at", "2.5").splitlines()
+        self.assertEqual((other[0], other[2]), ("", "   XY"))
+        hold_undone(self, self.run_command("text", self.calls), "shows graphics then, and no text")
+        told = self.done("text", self.calls, "--at", "1.5", "--form", "ansi").splitlines()
+        # A blinking character of the attribute 9C, red on blue; and 1E, yellow on blue.
+        self.assertIn("\x1b[0;38;2;255;85;85;48;2;0;0;170;5m\u263a", told[0])
+        self.assertIn("\x1b[0;38;2;255;255;85;48;2;0;0;170mABC", told[1])
+        page = self.done("text", self.calls, "--at", "1.5", "--form", "html")
+        self.assertIn('<span style="color:#ffff55;background:#0000aa">ABC</span>', page)
+        self.assertIn('<span class="blinks" style="color:#ff5555;background:#0000aa">', page)
+        # The entry 07 is what the call has made it.
+        self.assertIn("color:#ff5528;background:#000000", page)
+
+    def test_html_has_no_tags_of_the_text(self) -> None:
+        trace = self.write("tags", b"0 int 3 0 0 0\n1 int 1301 7 9 0 3C623E26223C2F703E\n")
+        page = self.done("text", trace, "--form", "html")
+        self.assertIn("&lt;b&gt;&amp;&quot;&lt;/p&gt;", page)
+
+    def test_code_pages(self) -> None:
+        trace = self.write("codes", b"0 int 3 0 0 0\n1 w m B8000 0780 2\n2 w m B8002 071B 2\n")
+        for name, wanted in (("cp437", "\u00c7"), ("cp866", "\u0410"), ("latin-1", "\ufffd")):
+            line = self.done("text", trace, "--code-page", name).splitlines()[0]
+            self.assertEqual(line, wanted + "\u2190", name)
+        hold_refused(
+            self,
+            code_page,
+            (
+                ("no-such", "there is no code page `no-such`: `cp437` is one"),
+                ("utf-16", "`utf-16` is no code page of 256 characters"),
+                ("cp037", "`cp037` is no code page of 256 characters"),
+                ("base64", "there is no code page `base64`"),
+            ),
+        )
+
+    def test_a_wrong_trace(self) -> None:
+        for data, told in (
+            (b"", "it has no cycle, neither of qemu's log nor of the plain form"),
+            (b"PK\3\4 cut", "it is no whole ZIP"),
+            (b"\x1f\x8b\x08 cut", "compressed bytes are damaged|ended before"),
+            (b"0 w p 3C2 67", "it has no cycle"),
+            (b"0 w p 3C2 67 1\nnonsense\n", ":2: it is no cycle"),
+        ):
+            with self.subTest(data):
+                trace = self.write("wrong", data)
+                for command in (["text"], ["palette"], ["font"], ["screen"]):
+                    words = [] if command == ["text"] else ["-"]
+                    hold_undone(self, self.run_command(*command, trace, *words), told)
+
+
+class Walked(Folder):
+    """Parts of a walk rebuild what was told."""
+
+    def setUp(self) -> None:
+        super().setUp()
+        want_program()
+        self.walk = Walk(str(PROGRAM), str(FONTS), Progress())
+
+    def told(self, *steps: TraceStep) -> Told:
+        """What is told after steps."""
+        return self.walk.state(steps)
+
+    def assert_alike(self, one: Told, other: Told) -> None:
+        self.assertEqual(one.shown, other.shown)
+        self.assertEqual(one.state.memory.words, other.state.memory.words)
+        self.assertEqual(vars(one.state.dac), vars(other.state.dac))
+
+    def test_a_state_is_rebuilt_with_the_data_of_the_bios(self) -> None:
+        # Text of 25 rows on the third page, of 50 rows, in one colour; graphics; no mode at all.
+        for calls in (
+            [(0x0003, 0, 0, 0), (0x0502, 0, 0, 0), (0x0200, 0x0200, 0, 0x0507)],
+            [(0x0003, 0, 0, 0), (0x1112, 0, 0, 0), (0x0200, 0, 0, 0x2A10), (0x0100, 0, 0x0307, 0)],
+            [(0x0007, 0, 0, 0), (0x1111, 0, 0, 0), (0x0E41, 7, 0, 0)],
+            [(0x0013, 0, 0, 0), (0x0C2A, 0, 17, 100), (0x0200, 0, 0, 0x0102)],
+            [(0x0010, 0, 0, 0), (0x0501, 0, 0, 0), (0x0200, 0x0100, 0, 0x0304)],
+            [(0x0013, 0, 0, 0), (0x0083, 0, 0, 0)],
+        ):
+            with self.subTest(calls):
+                told = self.told(*(call(*one) for one in calls), TraceStep(11), TraceStep(11))
+                self.assert_alike(told, self.told(*rebuilt_as_told(told)))
+        ports = [TraceStep(1, 0x3C2, 0x63), TraceStep(2, 0x3C4, 0x0604), TraceStep(5, 0xA0007, 9)]
+        told = self.told(*ports)
+        self.assert_alike(told, self.told(*rebuilt_as_told(told)))
+
+    def test_a_walk_of_several_scripts_answers_as_one(self) -> None:
+        items: list[Any] = [call(0x0003, 0, 0, 0)]
+        for number in range(60):
+            items.append(call(0x0E41 + number % 26, 7, 0, 0))
+            items.append(TraceStep(5, 0xB8800 + number, number))
+            items.append(Question(Step("show bda", ()), number))
+            items.append(Question(Step("show plane", (0, 0, 64)), -number))
+        whole = [(tag, one.lines) for tag, one in self.walk.answers(items)]
+        self.assertEqual(len(whole), 120)
+        with mock.patch.object(walking, "MOST_PART_STEPS", 100):
+            parts = [(tag, one.lines) for tag, one in self.walk.answers(items)]
+        self.assertEqual(parts, whole)
+
+    def test_answers_that_tell_nothing(self) -> None:
+        told = Told()
+        for lines in (["nonsense"], ["misc 67"], ["entry 01: 0"], ["plane 9 zz: 00"], ["beam x"]):
+            answer = Answer(7, 9, lines[0], tuple(lines[1:]))
+            self.assertRegex(refused(told.take, answer), "report:9: step 7 shows nothing of the")
+
+    def test_a_program_that_ends_early(self) -> None:
+        program = self.answering("ok")
+        walk = Walk(program, str(FONTS), Progress())
+        self.assertRegex(
+            refused(list, walk.answers([TraceStep(1, 0x3C2, 0), TraceStep(11)])), "after 1 steps"
+        )
+
+    def test_cells_are_those_that_the_program_shows(self) -> None:
+        for calls in (
+            [(0x0003, 0, 0, 0), (0x0502, 0, 0, 0), (0x0942, 0x0217, 5, 0)],
+            [(0x0003, 0, 0, 0), (0x1112, 0, 0, 0), (0x0200, 0, 0, 0x3100), (0x0942, 0x17, 5, 0)],
+            [(0x0007, 0, 0, 0), (0x1111, 0, 0, 0), (0x0942, 0x17, 5, 0)],
+        ):
+            steps = [call(*one) for one in calls]
+            asked = [*steps, *(Question(one, None) for one in state_asked())]
+            asked.append(Question(Step("show cells", ()), "cells"))
+            told = Told()
+            shown: list[str] = []
+            for tag, answer in self.walk.answers(asked):
+                if tag == "cells":
+                    shown = [line.partition(": ")[2] for line in answer.lines]
+                else:
+                    told.take(answer)
+            rows = [
+                " ".join(f"{one.character:02X}{one.attribute:02X}" for one in row)
+                for row in cells_of(told.state, "trace")
+            ]
+            self.assertEqual(rows, shown)
+
+    def test_rows_of_a_split_screen(self) -> None:
+        # Below line 159 memory begins anew, at an odd offset of rows.
+        state = self.told(
+            call(0x0003, 0, 0, 0),
+            *(TraceStep(6, 0xB8000 + 2 * at, 0x700 | 0x30 + at // 80 % 10) for at in range(2000)),
+            TraceStep(2, 0x3D4, 0x000C),
+            TraceStep(2, 0x3D4, 0xA00D),
+            TraceStep(2, 0x3D4, 0x0F07),
+            TraceStep(2, 0x3D4, 0x9F18),
+            TraceStep(2, 0x3D4, 0x0F09),
+        ).state
+        rows = text_of(state, code_page("cp437"), "trace")
+        self.assertEqual([row[0] for row in rows][:13], list("2345678901012"))
+
+    def test_how_attributes_look(self) -> None:
+        state = self.told(call(0x0007, 0, 0, 0)).state
+        self.assertTrue(look_of(state, 0x01).is_underlined)
+        self.assertFalse(look_of(state, 0x07).is_underlined)
+        state.seq.registers[1] |= 0x20
+        self.assertEqual(look_of(state, 0x17).back, (0, 0, 0))
+
+    def test_starts_of_pages(self) -> None:
+        for mode, wanted in (
+            (0x03, [0x800 * at for at in range(8)]),
+            (0x0D, [0x2000 * at for at in range(8)]),
+            (0x10, [0, 0x8000]),
+            (0x12, [0]),
+            (0x13, [0]),
+        ):
+            state = self.told(call(mode, 0, 0, 0)).state
+            self.assertEqual(starts_of_pages(state), wanted, mode)
+            state.crtc.registers[0x0D] = 7
+            self.assertEqual(starts_of_pages(state), sorted([*wanted, 7]))
+
+
+class Files(Seen):
+    def test_palettes(self) -> None:
+        for name in ("a.gpl", "a.pal"):
+            self.assertEqual(self.done("palette", self.calls, self.folder / name), "")
+        gimp = (self.folder / "a.gpl").read_text().splitlines()
+        self.assertEqual((gimp[0], gimp[3], len(gimp)), ("GIMP Palette", "#", 260))
+        # The last mode set has taken the colour back: entry 07 is grey.
+        self.assertEqual(gimp[4 + 7], "170 170 170\tDAC 07")
+        jasc = (self.folder / "a.pal").read_bytes().split(b"\r\n")
+        self.assertEqual(jasc[:3] + jasc[-1:], [b"JASC-PAL", b"0100", b"256", b""])
+        self.assertEqual((len(jasc), jasc[3 + 7]), (260, b"170 170 170"))
+        told = self.done("palette", self.calls, "-", "--at", "1").splitlines()
+        self.assertEqual(told[4 + 7], "255  85  40\tDAC 07")
+        hold_undone(
+            self, self.run_command("palette", self.calls, "a.png"), r"ends in \.gpl or \.pal"
+        )
+
+    def test_fonts(self) -> None:
+        for name in ("a.psf", "a.bdf"):
+            self.done("font", self.calls, self.folder / name, "--at", "1")
+        glyphs = FONTS.read_bytes()[256 * 22 :]
+        data = (self.folder / "a.psf").read_bytes()
+        self.assertEqual(data[:4], b"\x72\xb5\x4a\x86")
+        head = [int.from_bytes(data[at : at + 4], "little") for at in range(4, 32, 4)]
+        self.assertEqual(head, [0, 32, 1, 256, 16, 16, 8])
+        self.assertEqual(data[32 : 32 + 4096], glyphs)
+        names = data[32 + 4096 :].split(b"\xff")
+        self.assertEqual((len(names), names[0], names[0x41]), (257, b"", b"A"))
+        self.assertEqual(names[1].decode(), "\u263a")
+        lines = (self.folder / "a.bdf").read_text().splitlines()
+        self.assertEqual((lines[0], lines[-1]), ("STARTFONT 2.1", "ENDFONT"))
+        at = lines.index("STARTCHAR U+0041")
+        self.assertEqual(lines[at + 1], "ENCODING 65")
+        bitmap = "".join(lines[at + 6 : at + 22])
+        self.assertEqual(bytes.fromhex(bitmap), glyphs[16 * 0x41 : 16 * 0x42])
+        codes = [int(line.split()[1]) for line in lines if line.startswith("ENCODING ")]
+        self.assertEqual((len(codes), codes), (255, sorted(set(codes))))
+        self.assertIn(f"CHARS {len(codes)}", lines)
+
+    def test_fonts_of_another_map_and_of_graphics(self) -> None:
+        hold_undone(
+            self,
+            self.run_command("font", self.calls, "a.psf"),
+            "shows graphics then, which have no glyphs: --height gives them one",
+        )
+        for number, begin in ((1, 0x4000), (4, 0x2000), (7, 0xE000)):
+            writes = b"0 w p 3C4 0402 2\n0 w p 3C4 0604 2\n0 w p 3CE 0406 2\n0 w p 3CE FF08 2\n"
+            byte = f"0 w m {0xA0000 + begin + 32 * 0x41 + 1:X} A5 1\n".encode()
+            trace = self.write("map", b"0 w p 3C2 67 1\n" + writes + byte)
+            words = ("--map", str(number), "--height", "2")
+            self.done("font", trace, self.folder / "b.psf", *words)
+            data = (self.folder / "b.psf").read_bytes()
+            self.assertEqual(data[32 + 2 * 0x41 : 32 + 2 * 0x42], b"\x00\xa5", number)
+
+    @unittest.skipUnless(shutil.which("bdf2psf"), "bdf2psf is not here")
+    def test_bdf2psf_takes_it(self) -> None:
+        share = Path("/usr/share/bdf2psf")
+        bdf = self.folder / "a.bdf"
+        self.done("font", self.calls, bdf, "--at", "1")
+        made = self.folder / "made.psf"
+        words = ["bdf2psf", "--fb", bdf, share / "standard.equivalents", share / "ascii.set"]
+        subprocess.run([*words, "256", made], check=True, capture_output=True)
+        glyphs = FONTS.read_bytes()[256 * 22 :]
+        self.assertIn(glyphs[16 * 0x41 : 16 * 0x5B], made.read_bytes())
+
+    def test_screens_pages_and_planes(self) -> None:
+        out = self.folder / "out.png"
+        words = ("--pages", self.folder / "pages", "--planes", self.folder / "planes")
+        told = self.done("screen", self.calls, out, "--at", "2.5", *words).splitlines()
+        self.assertEqual((told[0], len(told)), (str(out), 1 + 8 + 4))
+        shown = out.read_bytes()
+        self.assertEqual(png_rows(shown)[:2], (720, 400))
+        pages = {path.name: path.read_bytes() for path in (self.folder / "pages").iterdir()}
+        self.assertEqual(sorted(pages), [f"page-{0x800 * at:04X}.png" for at in range(8)])
+        alike = [name for name, data in pages.items() if png_rows(data) == png_rows(shown)]
+        self.assertEqual(alike, ["page-0800.png"])
+        first = self.folder / "first.png"
+        self.done("screen", self.calls, first, "--at", "1.5")
+        self.assertEqual(png_rows(pages["page-0000.png"]), png_rows(first.read_bytes()))
+        planes = [
+            png_rows((self.folder / "planes" / f"plane-{number}.png").read_bytes())
+            for number in range(4)
+        ]
+        self.assertEqual(
+            [one[:2] for one in planes], [(1280, 410), (1280, 410), (512, 1024)] + [planes[3][:2]]
+        )
+        # The smiling face of page 0, and the glyph of A.
+        self.assertEqual(planes[0][2][0][:24].hex(), "00" * 21 + "ff" * 3)
+        glyph = FONTS.read_bytes()[256 * 22 + 16 * 0x41 :][:16]
+        row = bytes(
+            planes[2][2][32 + at][3 * 8 + 3 * bit] & 1 for at in range(16) for bit in range(8)
+        )
+        bits = "".join(f"{line:08b}" for line in glyph)
+        self.assertEqual("".join(map(str, row)), bits)
+
+    def test_planes_of_256_colours(self) -> None:
+        trace = self.write("mode13", b"0 int 13 0 0 0\n1 w m A0002 0C 1\n")
+        self.done("screen", trace, "--planes", self.folder / "planes")
+        width, height, rows = png_rows((self.folder / "planes" / "plane-2.png").read_bytes())
+        self.assertEqual((width, height), (320, 205))
+        self.assertEqual(rows[0][:6], bytes([255, 85, 85, 0, 0, 0]))
+
+    def test_a_screen_has_the_shape_of_a_monitor(self) -> None:
+        out = self.folder / "out.png"
+        self.done("screen", TYPED, out, "--aspect", "--scale", "2")
+        self.assertEqual(png_rows(out.read_bytes())[:2], (1440, 1080))
+        status, _, said = self.run_command("screen", TYPED)
+        self.assertEqual(status, 2)
+        self.assertIn("name a file for the picture, or a folder by --pages or --planes", said)
+
+
+class Found(Seen):
+    def test_when_and_where(self) -> None:
+        lines = self.done("find", self.calls, "BC").splitlines()
+        self.assertEqual(lines, [" seconds  row  column  text", "   0.001    1       6  ABC"])
+        self.assertEqual(
+            self.done("find", self.calls, "xy", "--any-case").splitlines()[1],
+            "   2.001    2       3  XY",
+        )
+        status, output, said = self.run_command("find", self.calls, "xy")
+        wanted = f"{self.calls}: no screen of text shows it\n"
+        self.assertEqual((status, output, said), (1, wanted, ""))
+        told = self.done("find", TYPED, "typed this").splitlines()[1]
+        at = told.split()[0]
+        self.assertIn("typed this", self.done("text", TYPED, "--at", at))
+        self.assertEqual(told.split()[1:3], ["12", "27"])
+
+    def test_what_is_no_question(self) -> None:
+        self.assertEqual(self.run_command("find", TYPED, " ")[0], 2)
+        untimed = self.write("untimed", b"- w p 3C2 67 1\n")
+        hold_undone(self, self.run_command("find", untimed, "a"), "the first cycle has no time")
+
+    def test_many_places(self) -> None:
+        text = b"".join(b"%d int 0E41 7 0 0\n" % (20_000 * at) for at in range(1, 9))
+        trace = self.write("many", b"0 int 3 0 0 0\n" + text)
+        lines = self.done("find", trace, "A", "--most", "3").splitlines()
+        self.assertEqual((len(lines), lines[-1]), (5, "5 more"))
+        self.assertEqual([line.split()[2] for line in lines[1:4]], ["0", "1", "2"])
+
+    def test_what_was_there_before_is_not_told_again(self) -> None:
+        for screens, wanted in (
+            # It scrolls, and goes on behind the text.
+            ([["", "a b"], ["a b", ""], ["a b c", ""]], [(0, 1, 2)]),
+            # A second one of the same row, and one that was gone for a while.
+            ([["a b"], ["a b", "a b"]], [(0, 0, 2), (1, 1, 2)]),
+            ([["a b"], [""], ["a b"]], [(0, 0, 2), (2, 0, 2)]),
+            ([["b b"]], [(0, 0, 2), (0, 0, 0)]),
+        ):
+            finder = Finder("b", False)
+            found = [
+                (number, one.row, one.column)
+                for number, rows in enumerate(screens)
+                for one in finder.take(rows, "")
+            ]
+            self.assertEqual(found, wanted)
+
+
+class Compared(Seen):
+    def compare(self, one: str, other: str, *words: str) -> tuple[int, list[str]]:
+        """The exit status, and the lines that compare two traces of these lines."""
+        paths = [self.write(name, text) for name, text in (("one", one), ("other", other))]
+        status, output, said = self.run_command("compare", *paths, *words)
+        self.assertEqual(said, "")
+        return status, output.replace(str(self.folder) + "/", "").splitlines()
+
+    def test_cycles_and_polls_make_no_difference(self) -> None:
+        one = "0 int 3 0 0 0\n5 w p 3C4 0302 2\n6 r p 3DA 0 1\n7 r p 3DA 1 1\n8 w m B8000 741 2\n"
+        other = (
+            "0 int 3 0 0 0\n50 w p 3C4 02 1\n60 w p 3C5 03 1\n9000000 w m B8000 41 1\n"
+            "9000001 w m B8001 7 1\n"
+        )
+        status, lines = self.compare(one, other, "--still", "20")
+        wanted = [
+            "register writes: the first 2 are equal, and there are no more",
+            "pictures: the first is equal, and there are no more",
+        ]
+        self.assertEqual((status, lines), (0, wanted))
+
+    def test_the_first_register_and_the_first_picture(self) -> None:
+        front = "0 int 3 0 0 0\n1 w p 3C4 0302 2\n"
+        one = front + "2 w p 3D4 000C 2\n3 w m B8000 41 1\n1000000 w m B8002 42 1\n"
+        other = (
+            front
+            + "9 w p 3D4 010C 2\n9 w p 3D4 000C 2\n10 w m B8000 41 1\n1000009 w m B8002 43 1\n"
+        )
+        out = self.folder / "differing.png"
+        status, lines = self.compare(one, other, "--picture", str(out))
+        self.assertEqual(status, 1)
+        self.assertEqual(
+            lines[:5],
+            [
+                "register writes: the first 2 are equal; write 3 differs",
+                "  one: crtc 0C start address high: 00, at 0.001",
+                "  other: crtc 0C start address high: 01, at 0.001",
+                "pictures: the first is equal; picture 2 differs",
+                "  one: 720x400, at 1.000",
+            ],
+        )
+        self.assertRegex(lines[6], r"^  \d+ of 288000 dots differ, the first is dot 1\d of row 2:")
+        self.assertEqual(lines[7], "differing.png")
+        self.assertEqual(png_rows(out.read_bytes())[:2], (720, 400))
+
+    def test_one_that_ends_before_the_other(self) -> None:
+        status, lines = self.compare("0 int 3 0 0 0\n", "0 int 3 0 0 0\n1 w p 3C9 7 1\n")
+        self.assertEqual(status, 1)
+        self.assertEqual(lines[1:3], ["  one: no more", "  other: DAC component: 07, at 0.001"])
+
+    def test_names_of_what_is_written(self) -> None:
+        text = "0 w p 3C2 67 1\n1 r p 3DA 0 1\n2 w p 3C0 10 1\n3 w p 3C0 {} 1\n4 w p 3CF {} 1\n"
+        for values, told in (
+            (("04", "05"), "attr 10 mode control: "),
+            (("04", "04"), "gfx 00 set/reset: "),
+        ):
+            one, other = text.format(values[0], "1"), text.format(values[1], "2")
+            self.assertIn(f"  one: {told}", self.compare(one, other)[1][1])
+
+    def test_standard_input_is_read_once(self) -> None:
+        hold_undone(self, self.run_command("compare", TYPED, "-"), "each trace is read twice")
+
+
+class Videos(Seen):
+    def test_what_makes_none(self) -> None:
+        words = ("pictures", TYPED, "--video")
+        hold_undone(self, self.run_command(*words, "a.avi"), r"a video's name ends in \.mp4 or")
+        self.patch(mock.patch.dict("os.environ", PATH=str(self.folder)))
+        told = "ffmpeg: it is not in the path: install the package ffmpeg. Without it --apng FILE"
+        hold_undone(self, self.run_command(*words, str(self.folder / "a.mp4")), told)
+
+    @unittest.skipUnless(shutil.which("ffmpeg"), "ffmpeg is not here")
+    def test_a_video_lasts_as_long(self) -> None:
+        video = self.folder / "a.mp4"
+        told = self.done("pictures", TYPED, "--video", video)
+        self.assertEqual(told, f"{video}: 42 pictures, 2.855 seconds\n")
+        words = ["ffprobe", "-v", "error", "-show_entries", "format=duration", video]
+        probed = subprocess.run(words, check=True, capture_output=True, text=True).stdout
+        found = re.search(r"duration=([0-9.]+)", probed)
+        assert found is not None
+        self.assertAlmostEqual(float(found[1]), 2.855, delta=0.02)
