@@ -16,7 +16,7 @@ from pathlib import Path
 from unittest import mock
 
 from zaklimot_tools.report.debugging import PAGE
-from zaklimot_tools.trace import inpage
+from zaklimot_tools.trace import converting, inpage, replaying
 from zaklimot_tools.trace.asked import SPEEDS, USUAL_SPEED, Deed
 
 from .tools import (
@@ -38,6 +38,13 @@ HAS_NODE = shutil.which("node") is not None
 PROGRAM = bytes.fromhex(
     "B81300CD10 B800A08EC0 31FFB80201ABAB 26A00000 BACC03EC BADA03ECECEC"
     "BAB403EC 30E4CD16 26A20000 EBF6"
+)
+# The cursor of text of 50 rows moves, and letters are typed and put; input status 1 is read between
+# them. A key begins it anew in mode 13, whose DAC changes.
+MANY = bytes.fromhex(
+    "B80300CD10 B8121131DBCD10 B402BA070ACD10 B800B88EC0"
+    "31FF BADA03 B92000 EC89F8ABE2FA B8410ECD10 B401CD16 74E9"
+    "30E4CD16 B81300CD10 B800A08EC0 31FF BADA03 EC89F8AA BAC903EE BADA03 EBF3"
 )
 # It writes a letter by DOS, and ends.
 ENDING = bytes.fromhex("B402B241CD21 B8004CCD21")
@@ -139,6 +146,27 @@ class Recorded(Folder):
         differing = [line for line in lines if " differ " in line and "port" in line]
         self.assertEqual((status, len(differing)), (1, 1))
         self.assertTrue(differing[0].startswith("  differ          1 in port 3DA (first at step"))
+
+    def test_several_scripts_are_all_judged(self) -> None:
+        file = self.write("a.com", MANY)
+        words = ("--screen", "0.05", "--key", "0.27:a", "--screen", "0.3", "--speed", "8088")
+        whole = self.record(file, *words, into="one")
+        self.assertEqual(whole[0], 0)
+        self.patch(
+            mock.patch.object(converting, "MOST_BYTES", 300_000),
+            mock.patch.object(replaying, "REST_OF_FRAME", 40_000),
+        )
+        parts = self.record(file, *words, into="two")
+        self.assertEqual((parts[0], parts[2]), (0, ""))
+        scripts = sorted(path.name for path in (self.folder / "two").glob("script*"))
+        self.assertGreater(len(scripts), 1)
+        # The figures alone differ.
+        self.assertEqual(parts[1][1:], whole[1][1:])
+        self.assertIn("steps rebuild the state", parts[1][0])
+        self.assertRegex(
+            parts[1][1], r"^[0-9,]+ steps, 0 refused, [0-9,]{5,} reads answered, 0 diff"
+        )
+        self.assertEqual(len([line for line in parts[1] if ": equal, " in line]), 2)
 
     def test_what_ends_by_itself_has_a_screen_too(self) -> None:
         status, lines, said = self.record(self.write("a.com", ENDING))

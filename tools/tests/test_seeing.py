@@ -227,8 +227,8 @@ class Walked(Folder):
             [(0x0003, 0, 0, 0), (0x1112, 0, 0, 0), (0x0200, 0, 0, 0x3100), (0x0942, 0x17, 5, 0)],
             [(0x0007, 0, 0, 0), (0x1111, 0, 0, 0), (0x0942, 0x17, 5, 0)],
         ):
-            steps = [call(*one) for one in calls]
-            asked = [*steps, *(Question(one, None) for one in state_asked())]
+            asked: list[Any] = [call(*one) for one in calls]
+            asked += [Question(one, None) for one in state_asked()]
             asked.append(Question(Step("show cells", ()), "cells"))
             told = Told()
             shown: list[str] = []
@@ -338,7 +338,13 @@ class Files(Seen):
         bdf = self.folder / "a.bdf"
         self.done("font", self.calls, bdf, "--at", "1")
         made = self.folder / "made.psf"
-        words = ["bdf2psf", "--fb", bdf, share / "standard.equivalents", share / "ascii.set"]
+        words: list[str | Path] = [
+            "bdf2psf",
+            "--fb",
+            bdf,
+            share / "standard.equivalents",
+            share / "ascii.set",
+        ]
         subprocess.run([*words, "256", made], check=True, capture_output=True)
         glyphs = FONTS.read_bytes()[256 * 22 :]
         self.assertIn(glyphs[16 * 0x41 : 16 * 0x5B], made.read_bytes())
@@ -476,7 +482,7 @@ class Compared(Seen):
                 "  one: 720x400, at 1.000",
             ],
         )
-        self.assertRegex(lines[6], r"^  \d+ of 288000 dots differ, the first is dot 1\d of row 2:")
+        self.assertRegex(lines[6], r"^  \d+ of 288000 dots differ, the first is dot 9 of row 2:")
         self.assertEqual(lines[7], "differing.png")
         self.assertEqual(png_rows(out.read_bytes())[:2], (720, 400))
 
@@ -511,7 +517,14 @@ class Videos(Seen):
         video = self.folder / "a.mp4"
         told = self.done("pictures", TYPED, "--video", video)
         self.assertEqual(told, f"{video}: 42 pictures, 2.855 seconds\n")
-        words = ["ffprobe", "-v", "error", "-show_entries", "format=duration", video]
+        words: list[str | Path] = [
+            "ffprobe",
+            "-v",
+            "error",
+            "-show_entries",
+            "format=duration",
+            video,
+        ]
         probed = subprocess.run(words, check=True, capture_output=True, text=True).stdout
         found = re.search(r"duration=([0-9.]+)", probed)
         assert found is not None

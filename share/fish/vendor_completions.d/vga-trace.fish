@@ -20,6 +20,13 @@ function __vga_trace_commands
         check 'compares a script\'s report with the trace; takes the options of convert' \
         kinds 'counts a trace\'s cycles by kind' \
         pictures 'makes the pictures of a trace, in real time' \
+        text 'writes the text that is shown at a moment' \
+        palette 'writes the colours of the DAC at a moment' \
+        font 'writes the glyphs that text has at a moment' \
+        screen 'writes the picture at a moment, the pages of memory, and its planes' \
+        find 'tells when and where a text is shown' \
+        compare 'tells the first register write and the first picture in which two recordings differ' \
+        keep 'keeps a recording in one file' \
         record 'records on qemu or on the page\'s machine, replays, and compares the screens of both'
 end
 
@@ -61,6 +68,7 @@ complete -c vga-trace -n '__vga_trace_command pictures' -s h -l help -d 'show th
 complete -c vga-trace -n '__vga_trace_command pictures' -l to -x -d 'takes only the first N cycles (default: all)'
 complete -c vga-trace -n '__vga_trace_command pictures' -l from -x -d 'begins with the Nth cycle (default: 1)'
 complete -c vga-trace -n '__vga_trace_command pictures' -l apng -x -a '(__fish_complete_path)' -d 'writes one picture that moves, in real time'
+complete -c vga-trace -n '__vga_trace_command pictures' -l video -x -a '(__fish_complete_path)' -d 'writes a video, .mp4 or .webm, which ffmpeg makes'
 complete -c vga-trace -n '__vga_trace_command pictures' -l beam -d 'draws what changes within a frame where the beam was by the trace\'s times'
 complete -c vga-trace -n '__vga_trace_command pictures' -l scale -x -d 'makes each dot N times as wide and as high'
 complete -c vga-trace -n '__vga_trace_command pictures' -l aspect -d 'stretches pictures to 4:3, the shape of a monitor'
@@ -68,6 +76,64 @@ complete -c vga-trace -n '__vga_trace_command pictures' -l longest -x -d 'with f
 complete -c vga-trace -n '__vga_trace_command pictures' -l vga -x -a '(__fish_complete_path)' -d 'runs this program (default: one built here, a release\'s, vga in the path, or one that is compiled)'
 complete -c vga-trace -n '__vga_trace_command pictures' -l fonts -x -k -a '(__vga_trace_files .fnt)' -d 'uses this font file (default: the project\'s)'
 complete -c vga-trace -n '__vga_trace_command pictures' -F
+complete -c vga-trace -n '__vga_trace_command text' -s h -l help -d 'show this help message and exit'
+complete -c vga-trace -n '__vga_trace_command text' -l at -x -d 'so many seconds after the first cycle (default: at the end)'
+complete -c vga-trace -n '__vga_trace_command text' -l cycle -x -d 'after so many cycles'
+complete -c vga-trace -n '__vga_trace_command text' -l screen -x -d 'where `record` took this screen, counted from 1'
+complete -c vga-trace -n '__vga_trace_command text' -l picture -x -d 'at this picture of those that `pictures` writes, counted from 1'
+complete -c vga-trace -n '__vga_trace_command text' -l vga -x -a '(__fish_complete_path)' -d 'runs this program (default: one built here, a release\'s, vga in the path, or one that is compiled)'
+complete -c vga-trace -n '__vga_trace_command text' -l fonts -x -k -a '(__vga_trace_files .fnt)' -d 'uses this font file (default: the project\'s)'
+complete -c vga-trace -n '__vga_trace_command text' -l form -x -a 'plain ansi html' -d 'as text alone, with the colours of a terminal of 24 bits, or as a page of HTML (default: plain)'
+complete -c vga-trace -n '__vga_trace_command text' -l code-page -x -d 'which characters the codes are: a code page of Python\'s, such as cp850 (default: cp437)'
+complete -c vga-trace -n '__vga_trace_command text' -F
+complete -c vga-trace -n '__vga_trace_command palette' -s h -l help -d 'show this help message and exit'
+complete -c vga-trace -n '__vga_trace_command palette' -l at -x -d 'so many seconds after the first cycle (default: at the end)'
+complete -c vga-trace -n '__vga_trace_command palette' -l cycle -x -d 'after so many cycles'
+complete -c vga-trace -n '__vga_trace_command palette' -l screen -x -d 'where `record` took this screen, counted from 1'
+complete -c vga-trace -n '__vga_trace_command palette' -l picture -x -d 'at this picture of those that `pictures` writes, counted from 1'
+complete -c vga-trace -n '__vga_trace_command palette' -l vga -x -a '(__fish_complete_path)' -d 'runs this program (default: one built here, a release\'s, vga in the path, or one that is compiled)'
+complete -c vga-trace -n '__vga_trace_command palette' -l fonts -x -k -a '(__vga_trace_files .fnt)' -d 'uses this font file (default: the project\'s)'
+complete -c vga-trace -n '__vga_trace_command palette' -F
+complete -c vga-trace -n '__vga_trace_command font' -s h -l help -d 'show this help message and exit'
+complete -c vga-trace -n '__vga_trace_command font' -l at -x -d 'so many seconds after the first cycle (default: at the end)'
+complete -c vga-trace -n '__vga_trace_command font' -l cycle -x -d 'after so many cycles'
+complete -c vga-trace -n '__vga_trace_command font' -l screen -x -d 'where `record` took this screen, counted from 1'
+complete -c vga-trace -n '__vga_trace_command font' -l picture -x -d 'at this picture of those that `pictures` writes, counted from 1'
+complete -c vga-trace -n '__vga_trace_command font' -l vga -x -a '(__fish_complete_path)' -d 'runs this program (default: one built here, a release\'s, vga in the path, or one that is compiled)'
+complete -c vga-trace -n '__vga_trace_command font' -l fonts -x -k -a '(__vga_trace_files .fnt)' -d 'uses this font file (default: the project\'s)'
+complete -c vga-trace -n '__vga_trace_command font' -l map -x -d 'takes this character map, 0 to 7 (default: that of most characters)'
+complete -c vga-trace -n '__vga_trace_command font' -l height -x -d 'takes so many lines of each glyph (default: as many as are shown)'
+complete -c vga-trace -n '__vga_trace_command font' -l code-page -x -d 'which characters the codes are: a code page of Python\'s, such as cp850 (default: cp437)'
+complete -c vga-trace -n '__vga_trace_command font' -F
+complete -c vga-trace -n '__vga_trace_command screen' -s h -l help -d 'show this help message and exit'
+complete -c vga-trace -n '__vga_trace_command screen' -l at -x -d 'so many seconds after the first cycle (default: at the end)'
+complete -c vga-trace -n '__vga_trace_command screen' -l cycle -x -d 'after so many cycles'
+complete -c vga-trace -n '__vga_trace_command screen' -l screen -x -d 'where `record` took this screen, counted from 1'
+complete -c vga-trace -n '__vga_trace_command screen' -l picture -x -d 'at this picture of those that `pictures` writes, counted from 1'
+complete -c vga-trace -n '__vga_trace_command screen' -l vga -x -a '(__fish_complete_path)' -d 'runs this program (default: one built here, a release\'s, vga in the path, or one that is compiled)'
+complete -c vga-trace -n '__vga_trace_command screen' -l fonts -x -k -a '(__vga_trace_files .fnt)' -d 'uses this font file (default: the project\'s)'
+complete -c vga-trace -n '__vga_trace_command screen' -l pages -x -a '(__fish_complete_directories)' -d 'writes a picture of each page, named by its start address'
+complete -c vga-trace -n '__vga_trace_command screen' -l planes -x -a '(__fish_complete_directories)' -d 'writes a picture of each plane, all of its bytes'
+complete -c vga-trace -n '__vga_trace_command screen' -l scale -x -d 'makes each dot N times as wide and as high'
+complete -c vga-trace -n '__vga_trace_command screen' -l aspect -d 'stretches pictures to 4:3, the shape of a monitor'
+complete -c vga-trace -n '__vga_trace_command screen' -F
+complete -c vga-trace -n '__vga_trace_command find' -s h -l help -d 'show this help message and exit'
+complete -c vga-trace -n '__vga_trace_command find' -l any-case -d 'takes capital and small letters as alike'
+complete -c vga-trace -n '__vga_trace_command find' -l most -x -d 'tells at most N places (default: all)'
+complete -c vga-trace -n '__vga_trace_command find' -l code-page -x -d 'which characters the codes are: a code page of Python\'s, such as cp850 (default: cp437)'
+complete -c vga-trace -n '__vga_trace_command find' -l vga -x -a '(__fish_complete_path)' -d 'runs this program (default: one built here, a release\'s, vga in the path, or one that is compiled)'
+complete -c vga-trace -n '__vga_trace_command find' -l fonts -x -k -a '(__vga_trace_files .fnt)' -d 'uses this font file (default: the project\'s)'
+complete -c vga-trace -n '__vga_trace_command find' -F
+complete -c vga-trace -n '__vga_trace_command compare' -s h -l help -d 'show this help message and exit'
+complete -c vga-trace -n '__vga_trace_command compare' -l still -x -d 'compares the pictures that stand for so long without a write (default: 0.5)'
+complete -c vga-trace -n '__vga_trace_command compare' -l picture -x -a '(__fish_complete_path)' -d 'writes the first picture that differs, darkened, its dots that differ in red'
+complete -c vga-trace -n '__vga_trace_command compare' -l scale -x -d 'makes each dot N times as wide and as high'
+complete -c vga-trace -n '__vga_trace_command compare' -l aspect -d 'stretches pictures to 4:3, the shape of a monitor'
+complete -c vga-trace -n '__vga_trace_command compare' -l vga -x -a '(__fish_complete_path)' -d 'runs this program (default: one built here, a release\'s, vga in the path, or one that is compiled)'
+complete -c vga-trace -n '__vga_trace_command compare' -l fonts -x -k -a '(__vga_trace_files .fnt)' -d 'uses this font file (default: the project\'s)'
+complete -c vga-trace -n '__vga_trace_command compare' -F
+complete -c vga-trace -n '__vga_trace_command keep' -s h -l help -d 'show this help message and exit'
+complete -c vga-trace -n '__vga_trace_command keep' -F
 complete -c vga-trace -n '__vga_trace_command record' -s h -l help -d 'show this help message and exit'
 complete -c vga-trace -n '__vga_trace_command record' -l key -x -d 'presses keys so many seconds after power-on, or once the software is quiet; may be repeated'
 complete -c vga-trace -n '__vga_trace_command record' -l screen -x -a 'quiet' -d 'dumps the screen, among the keys in the order of the words (default: at the end, once it is quiet)'

@@ -13,7 +13,7 @@ from .trace import Call
 SET_MODE, SET_LINES, SET_CURSOR, SHOW_PAGE, LOAD_GLYPHS = 0x00, 0x01, 0x02, 0x05, 0x11
 # A mode set loads those of 16 lines.
 FONT_PARTS = {14: 0x11, 8: 0x12}
-TEXT_MODES = (3, 7)
+TEXT_MODES, KEEPS_MEMORY = (3, 7), 0x80
 
 
 def _call(ax: int, bx: int = 0, cx: int = 0, dx: int = 0) -> TraceStep:
@@ -24,7 +24,7 @@ def calls_of(bios: BiosData) -> Iterator[TraceStep]:
     """The calls that leave these BIOS data, from power-on on. They change the adapter too."""
     if not bios.has_mode:
         return
-    yield _call(SET_MODE << 8 | bios.mode)
+    yield _call(SET_MODE << 8 | KEEPS_MEMORY | bios.mode)
     if bios.height in FONT_PARTS and bios.mode in TEXT_MODES:
         yield _call(LOAD_GLYPHS << 8 | FONT_PARTS[bios.height])
     if bios.page:

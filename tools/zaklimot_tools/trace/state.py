@@ -58,6 +58,8 @@ PLANAR = (
     (GRAPHICS, 0x08, 0xFF),
 )
 MAP_MASK = 0x02
+# Where calls of interrupt 10 load glyphs: the planes, as a mask, and how many bytes.
+FONT_PLANES, FONT_BYTES = 0b0100, 0x2000
 Value = TypeVar("Value")
 
 
@@ -299,7 +301,8 @@ class Beam:
 
 def rebuilt(state: State, calls: Sequence[TraceStep] = ()) -> Iterator[TraceStep]:
     """The steps that take the adapter from power-on to a state. What they read is what it answers
-    then. Calls of interrupt 10 leave the BIOS data; what else they do is overwritten."""
+    then. Calls of interrupt 10, which write glyphs and no other memory, leave the BIOS data; what
+    else they do is overwritten."""
     taking = State()
     for step in _steps(state, taking, calls):
         read = taking.take(step)
@@ -330,7 +333,7 @@ def _steps(state: State, begin: State, calls: Sequence[TraceStep]) -> Iterator[T
     yield from calls
     yield TraceStep(OUT, MISC, state.misc | ENABLE_MEMORY)
     yield from (_register(*setting) for setting in PLANAR)
-    yield from _cleared() if calls else ()
+    yield from _without_glyphs() if calls else ()
     yield from _latches(state.memory.latches)
     yield from _planes(state.memory.words)
     for port, bank in ((GRAPHICS, state.gfx), (SEQUENCER, state.seq)):
@@ -348,10 +351,10 @@ def _steps(state: State, begin: State, calls: Sequence[TraceStep]) -> Iterator[T
         yield TraceStep(OUT, MISC, state.misc)
 
 
-def _cleared() -> Iterator[TraceStep]:
-    """All planes as they are at power-on."""
-    yield map_mask(ALL_PLANES)
-    for offset in range(0, PLANE_BYTES, 2):
+def _without_glyphs() -> Iterator[TraceStep]:
+    """Takes away the glyphs that calls may have loaded."""
+    yield map_mask(FONT_PLANES)
+    for offset in range(0, FONT_BYTES, 2):
         yield TraceStep(PUTW, FIRST_ADDRESS + offset, 0)
 
 

@@ -1,0 +1,172 @@
+"""Recordings that are kept in one file: the same bytes each time, judged again, and files that are
+no recordings."""
+
+from __future__ import annotations
+
+import gzip
+import hashlib
+import json
+import os
+import struct
+import zipfile
+from pathlib import Path
+from unittest import mock
+
+from zaklimot_tools.trace import container
+from zaklimot_tools.trace.container import keep, unpacked
+from zaklimot_tools.trace.note import digests_of
+
+from .tools import PROGRAM, Folder, hold_undone, ppm, refused, run_tool, want_program
+
+
+TRACE = b"0+0 int 3 0 0 0\n1+9 w m B8000 41 1\n9+99 frame\n"
+NAMES = [
+    "picture-1.png",
+    "recording.json",
+    "screen-1.ppm",
+    "trace.gz",
+    "verdict.txt",
+]
+NOTE = {"is": "zaklimot recording", "version": 1, "machine": "page", "screens": [0.5]}
+
+
+class Kept(Folder):
+    def setUp(self) -> None:
+        super().setUp()
+        want_program()
+        self.patch(mock.patch.dict(os.environ, TMPDIR=self.temporary()))
+        self.recorded = self.folder / "recorded"
+        self.recorded.mkdir()
+        # A recording of the page's machine, with a screen that is none of its own.
+        self.write("recorded/trace.gz", packed())
+        self.write("recorded/recording.json", json.dumps(NOTE))
+        self.write("recorded/.dump.0.ppm", ppm(9, 1, bytes(27)))
+        self.zip = self.folder / "kept.zip"
+
+    def run_command(self, *words: str | Path) -> tuple[int, str, str]:
+        status, output, said = run_tool("vga-trace", *words)
+        return status, output.decode(), said
+
+    def judge(self, path: Path) -> tuple[int, str, str]:
+        return self.run_command("record", path, "--again", "--vga", PROGRAM)
+
+    def keep(self) -> None:
+        """Judges the recording, and keeps it."""
+        self.judge(self.recorded)
+        status, output, said = self.run_command("keep", self.recorded, self.zip)
+        size = self.zip.stat().st_size
+        self.assertEqual((status, output, said), (0, f"{self.zip}: {size:,} bytes\n", ""))
+
+    def rewritten(self, **files: bytes) -> Path:
+        """The ZIP with other files: `trace_gz` is trace.gz."""
+        with zipfile.ZipFile(self.zip) as archive:
+            kept = {name: archive.read(name) for name in archive.namelist()}
+        other = self.folder / "other.zip"
+        with zipfile.ZipFile(other, "w") as archive:
+            for name, data in {
+                **kept,
+                **{k.replace("_", "."): v for k, v in files.items()},
+            }.items():
+                if data:
+                    archive.writestr(name, data)
+        return other
+
+    def test_the_same_bytes_and_the_same_verdict(self) -> None:
+        self.keep()
+        with zipfile.ZipFile(self.zip) as archive:
+            self.assertEqual(archive.namelist(), NAMES)
+            self.assertEqual({one.date_time for one in archive.infolist()}, {(1980, 1, 1, 0, 0, 0)})
+        first = self.zip.read_bytes()
+        self.zip.unlink()
+        os.utime(self.recorded / "trace.gz", (1, 1))
+        os.chmod(self.recorded / "trace.gz", 0o600)
+        self.keep()
+        self.assertEqual(self.zip.read_bytes(), first)
+        before = self.judge(self.recorded)
+        status, output, said = self.judge(self.zip)
+        told = "all is as it was kept: the verdict and 1 picture\n"
+        self.assertEqual((status, output, said), (1, before[1] + told, ""))
+        text = run_tool("vga-trace", "text", self.zip, "--vga", PROGRAM)[1].decode()
+        self.assertEqual(text[:2], "A\n")
+
+    def test_what_is_otherwise_is_told(self) -> None:
+        self.keep()
+        other = self.rewritten(verdict_txt=b"1 cycle\n")
+        self.assertIn("the verdict is otherwise than it was kept: 1 cycle\n", self.judge(other)[1])
+        more = TRACE.replace(b" 41 1", b" 42 1")
+        other = self.rewritten(trace_gz=packed(more))
+        status, output, _ = self.judge(other)
+        self.assertEqual(status, 1)
+        self.assertTrue(output.endswith("\npicture-1.png is otherwise than it was kept\n"), output)
+
+    def test_what_is_no_recording(self) -> None:
+        self.keep()
+        whole = self.zip.read_bytes()
+        for name, data, told in (
+            ("empty", b"", "it is no whole ZIP"),
+            ("text", b"no ZIP", "it is no whole ZIP"),
+            ("cut", whole[:-30], "it is no whole ZIP"),
+            ("other", whole[:60] + b"?" + whole[61:], "its bytes are damaged|it is no recording"),
+        ):
+            with self.subTest(name):
+                path = self.write(name, data)
+                hold_undone(self, self.judge(Path(path)), told)
+        hold_undone(
+            self,
+            self.run_command("keep", self.folder, self.folder / "x.zip"),
+            "judged it|has no recording.json",
+        )
+        for name, told in (
+            ("../x", "a file of it is called '../x'"),
+            ("/etc/x", "a file of it is called '/etc/x'"),
+            ("script.bin", "a file of it is called 'script.bin'"),
+        ):
+            with zipfile.ZipFile(self.folder / "bad.zip", "w") as archive:
+                archive.writestr(name, b"x")
+            hold_undone(self, self.judge(self.folder / "bad.zip"), told)
+        self.assertFalse((self.folder / "x").exists())
+        hold_undone(self, self.judge(self.rewritten(trace_gz=b"")), "it has no trace.gz")
+        hold_undone(self, self.judge(self.rewritten(recording_json=b"{}")), "it is no note of a")
+
+    def test_bounds(self) -> None:
+        self.keep()
+        with mock.patch.object(container, "MOST_UNPACKED", 1000):
+            self.assertIn("would have more than 1,000 bytes", self.refusal(self.zip))
+        with mock.patch.object(container, "MOST_FILES", 4):
+            self.assertIn("it lists 5 files", self.refusal(self.zip))
+        with mock.patch.object(container, "MOST_LISTED", 64):
+            self.assertRegex(self.refusal(self.zip), r"in \d+ bytes")
+        # A file that says it is shorter than it is.
+        data = bytearray(self.zip.read_bytes())
+        for mark, at in ((b"PK\3\4", 22), (b"PK\1\2", 24)):
+            place = data.index(mark)
+            (size,) = struct.unpack_from("<I", data, place + at)
+            struct.pack_into("<I", data, place + at, size - 1)
+        self.assertIn(
+            "its bytes are damaged", self.refusal(Path(self.write("short.zip", bytes(data))))
+        )
+        twice = self.folder / "twice.zip"
+        with zipfile.ZipFile(twice, "w") as archive, self.assertWarns(UserWarning):
+            for _ in range(2):
+                archive.writestr("trace.gz", b"")
+        self.assertIn("two files of it have one name", self.refusal(twice))
+
+    def refusal(self, path: Path) -> str:
+        """What is told of a ZIP that can't be unpacked."""
+        return refused(lambda: unpacked(str(path)).__enter__())
+
+    def test_a_recording_that_was_not_judged(self) -> None:
+        told = refused(keep, self.recorded, str(self.zip))
+        self.assertIn("it has no verdict.txt, and is no recording that was judged", told)
+        self.assertFalse(self.zip.exists())
+
+    def test_digests_of_what_runs(self) -> None:
+        disc, rom = self.write("disc.img", b"disc"), self.write("rom", b"rom")
+        words = ["-drive", f"file={disc},format=raw", "-kernel", rom, "-m", "512", "-device", "VGA"]
+        sums = {name: hashlib.sha256(Path(name).read_bytes()).hexdigest() for name in (disc, rom)}
+        self.assertEqual(digests_of(words), sums)
+
+
+def packed(data: bytes = TRACE) -> bytes:
+    """A trace as a recording has it."""
+    return gzip.compress(data, mtime=0)
