@@ -178,13 +178,18 @@ def _compare_writes(both: Sequence[Recording], stack: ExitStack) -> bool:
     for pair in zip_longest(*(one.writes(stack) for one in both)):
         one, other = pair
         if one != other:
-            print(f"register writes: {_equal(count)}; write {count + 1:,} differs")
+            print(f"register writes: {_front(count)}write {count + 1:,} differs")
             for write, recording in zip(pair, both):
                 print(f"  {recording.path}: {'no more' if write is None else write.line}")
             return False
         count += 1
     print(f"register writes: {_equal(count)}, and there are no more")
     return True
+
+
+def _front(count: int) -> str:
+    """What is told before what differs."""
+    return f"{_equal(count)}; " if count else ""
 
 
 def _equal(count: int) -> str:
@@ -202,7 +207,7 @@ def _compare_pictures(
         progress.clear()
         one, other = (None if found is None else found[1] for found in pair)
         if None in pair or one != other:
-            print(f"pictures: {_equal(count)}; picture {count + 1:,} differs")
+            print(f"pictures: {_front(count)}picture {count + 1:,} differs")
             for found, recording in zip(pair, both):
                 print(f"  {recording.path}: {_told_picture(found)}")
             if one is not None and other is not None and one.size == other.size:
