@@ -461,6 +461,8 @@ class _Scripts:
         before = self._before
         _check_rebuilding(before, islice(answers, len(before)), name)
         own = written.steps - len(before) - len(ended.steps)
+        if not (own or ended.steps):
+            raise Trouble("no step has room beside those that rebuild the state", name)
         steps = chain(islice(self._steps, own), ended.as_traced(self._steps))
         self._done.checking.take(steps, answers, name)
 
