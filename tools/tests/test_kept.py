@@ -118,6 +118,8 @@ class Kept(Folder):
         )
         for name, told in (
             ("../x", "a file of it is called '../x'"),
+            ("../trace.gz", "a file of it is called '../trace.gz'"),
+            ("trace.gz/..", "a file of it is called 'trace.gz/..'"),
             ("/etc/x", "a file of it is called '/etc/x'"),
             ("script.bin", "a file of it is called 'script.bin'"),
         ):

@@ -416,6 +416,16 @@ class Found(Seen):
         untimed = self.write("untimed", b"- w p 3C2 67 1\n")
         hold_undone(self, self.run_command("find", untimed, "a"), "the first cycle has no time")
 
+    def test_bytes_and_words_of_memory(self) -> None:
+        for size, values in ((1, ("48", "49")), (2, ("0748", "0749"))):
+            lines = [b"0 int 3 0 0 0\n20000 w p 3C9 7 1\n"]
+            for at, value in enumerate(values):
+                time, address = 40_000 * (at + 1), 0xB8F00 + 2 * at
+                lines.append(f"{time} w m {address:X} {value} {size}\n".encode())
+            trace = self.write("memory", b"".join(lines))
+            told = self.done("find", trace, "HI").splitlines()[1]
+            self.assertEqual(told.split(), ["0.080", "24", "0", "HI"], size)
+
     def test_many_places(self) -> None:
         text = b"".join(b"%d int 0E41 7 0 0\n" % (20_000 * at) for at in range(1, 9))
         trace = self.write("many", b"0 int 3 0 0 0\n" + text)
