@@ -195,7 +195,7 @@ REFUSED = {
     "report scripts {s}": "vga-report: {s}: it is not a folder\n",
     "trace": "usage: vga-trace",
     "trace convert {t}": "usage: vga-trace",
-    "trace pictures {t}": "vga-trace: the pictures want a folder, or --apng a file\n",
+    "trace pictures {t}": "vga-trace: the pictures want a folder, or --apng or --video a file\n",
     "trace convert {t} {o} --frames 0": "'0' is no number of seconds",
     "trace kinds {t} --to 0": "argument --to: '0' is no number",
     "trace kinds {t} --from 300 --to 100": "--from 300 is after --to 100: no cycle is both",

@@ -41,7 +41,7 @@ class Look(NamedTuple):
     is_underlined: bool = False
 
 
-class Cell(NamedTuple):
+class TextCell(NamedTuple):
     """A cell: its character and its attribute, 0 to 255 each."""
 
     character: int
@@ -124,11 +124,11 @@ def _places(state: State, name: str) -> Sequence[Sequence[int]]:
     return _offsets(shaping, columns, lines_shown(state))
 
 
-def cells_of(state: State, name: str) -> Sequence[Sequence[Cell]]:
+def cells_of(state: State, name: str) -> Sequence[Sequence[TextCell]]:
     """The rows of cells that are shown; a Trouble where graphics are."""
     words = state.memory.words
     rows = _places(state, name)
-    return [[Cell(words[at] & 0xFF, words[at] >> 8 & 0xFF) for at in row] for row in rows]
+    return [[TextCell(words[at] & 0xFF, words[at] >> 8 & 0xFF) for at in row] for row in rows]
 
 
 def text_of(state: State, letters: str, name: str) -> Sequence[str]:
@@ -190,7 +190,7 @@ def plain_lines(state: State, letters: str, name: str) -> Iterator[str]:
     yield from (row.rstrip() for row in text_of(state, letters, name))
 
 
-def _runs(state: State, row: Sequence[Cell], letters: str) -> Iterator[tuple[Look, str]]:
+def _runs(state: State, row: Sequence[TextCell], letters: str) -> Iterator[tuple[Look, str]]:
     """The parts of a row that have one look, each with its text."""
     looks = {attribute: look_of(state, attribute) for attribute in {one.attribute for one in row}}
     for look, cells in groupby(row, lambda cell: looks[cell.attribute]):

@@ -29,7 +29,7 @@ TRIES = 8
 
 
 @dataclass
-class Ended:
+class ScriptEnd:
     """How a script ends: the steps that were added up to the end of a frame, how many of the
     trace's these are, and the dots that are left of the last of them; and what the adapter is
     then."""
@@ -57,9 +57,9 @@ class Cutting:
         self._fonts = fonts
         self._progress = progress
 
-    def end(self, script: Path, written: Written, rows: Rows) -> tuple[Ended, Rows]:
+    def end(self, script: Path, written: Written, rows: Rows) -> tuple[ScriptEnd, Rows]:
         """Adds steps to a script up to the end of the frame under way; the rows that are left."""
-        ended = Ended()
+        ended = ScriptEnd()
         steps = rows.steps()
         # What was kept free is for these steps.
         written.spare = 0
@@ -116,7 +116,7 @@ class Cutting:
             )
 
 
-def _going_on(ended: Ended, steps: Iterator[TraceStep]) -> Iterator[TraceStep]:
+def _going_on(ended: ScriptEnd, steps: Iterator[TraceStep]) -> Iterator[TraceStep]:
     """What is left of the last step, and the steps after it."""
     while ended.left:
         yield ended.left.pop()
@@ -125,7 +125,7 @@ def _going_on(ended: Ended, steps: Iterator[TraceStep]) -> Iterator[TraceStep]:
         yield step
 
 
-def _up_to_end(ended: Ended, steps: Iterator[TraceStep], dots: int) -> Iterator[TraceStep]:
+def _up_to_end(ended: ScriptEnd, steps: Iterator[TraceStep], dots: int) -> Iterator[TraceStep]:
     """The steps until so many dots have passed, or a frame has ended; what is left of the last
     stays."""
     for step in _going_on(ended, steps):

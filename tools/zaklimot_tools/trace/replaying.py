@@ -34,7 +34,7 @@ from zaklimot_tools.script.program import BuiltProgram, fault_of
 
 from .asked import SCREENS
 from .converting import Checked, Checking, Listing, Rows, Written, folded
-from .cutting import REST_OF_FRAME, Cutting, Ended
+from .cutting import REST_OF_FRAME, Cutting, ScriptEnd
 from .rebuilding import rebuilt_as_told
 from .recording import PHASES, dump
 from .state import State, rebuilt
@@ -445,19 +445,21 @@ class _Scripts:
         # What the trace lacks is known at its end.
         deque(self._steps, 0)
 
-    def _write(self, script: Path) -> tuple[Written, Ended]:
+    def _write(self, script: Path) -> tuple[Written, ScriptEnd]:
         """Writes the next script; how it ends, which is nothing special without the exact time."""
         is_own = self._done.is_own
         spare = REST_OF_FRAME if is_own else 0
         written = _write_script(self._rows, self._before, script, spare)
-        ended = Ended()
+        ended = ScriptEnd()
         if self._before and is_own:
             self._cutting.check_rebuilt(script, len(self._before), self._told)
         if is_own and not self._rows.are_done:
             ended, self._rows = self._cutting.end(script, written, self._rows)
         return written, ended
 
-    def _hold(self, written: Written, ended: Ended, answers: Iterator[Answer], name: str) -> None:
+    def _hold(
+        self, written: Written, ended: ScriptEnd, answers: Iterator[Answer], name: str
+    ) -> None:
         before = self._before
         _check_rebuilding(before, islice(answers, len(before)), name)
         own = written.steps - len(before) - len(ended.steps)
@@ -466,7 +468,7 @@ class _Scripts:
         steps = chain(islice(self._steps, own), ended.as_traced(self._steps))
         self._done.checking.take(steps, answers, name)
 
-    def _go_on(self, ended: Ended) -> None:
+    def _go_on(self, ended: ScriptEnd) -> None:
         """Goes on after a script: the next one rebuilds the state."""
         self._steps = chain(ended.left, self._steps)
         self._told = ended.told

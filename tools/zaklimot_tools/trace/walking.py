@@ -39,7 +39,7 @@ Item = Union[TraceStep, Question]
 
 
 @dataclass
-class Part:
+class ScriptPart:
     """A script that is filled with items: its steps, and the numbers of its questions among
     them.
 
@@ -95,7 +95,7 @@ class Walk:
             while is_cut:
                 script = Path(name) / "script"
                 with writing(str(script)) as stream:
-                    part = Part(stream)
+                    part = ScriptPart(stream)
                     part.begin(before)
                     is_cut = self._fill(part, rest)
                 told = Told()
@@ -109,7 +109,7 @@ class Walk:
             told.take(answer)
         return told
 
-    def _fill(self, part: Part, rest: Iterator[Item]) -> bool:
+    def _fill(self, part: ScriptPart, rest: Iterator[Item]) -> bool:
         """Fills a script; whether something is left, where the state is asked at its end."""
         for item in rest:
             part.add(item)
@@ -121,7 +121,7 @@ class Walk:
                 return True
         return False
 
-    def _run(self, script: Path, part: Part, told: Told) -> Iterator[tuple[object, Answer]]:
+    def _run(self, script: Path, part: ScriptPart, told: Told) -> Iterator[tuple[object, Answer]]:
         """The answers of a script. Those that tell the state at its end are taken here."""
         asked = iter(part.asked)
         number, tag = next(asked, (0, None))
