@@ -2,7 +2,7 @@
 ;
 ;     nasm -f bin boot.asm -o boot.bin
 ;
-; Sector 0 is the boot sector. Sectors 1 to 4 are the interpreter, and behind it lies the table of steps: they are
+; Sector 0 is the boot sector. Sectors 1 to 6 are the interpreter, and behind it lies the table of steps: they are
 ; loaded together at 0000:8000. Sector 1023 is the mark, sectors 1024 to 1151 take the answers. `image.py` has the
 ; same layout, `table.py` the forms of the steps. It runs in real mode, on an 80386 or later.
 
@@ -11,7 +11,7 @@
 
 BOOT            equ 0x7c00
 INTERPRETER     equ 0x8000              ; where sector 1 is loaded
-INTERPRETER_SIZE equ 2048               ; bytes
+INTERPRETER_SIZE equ 3072               ; bytes
 TABLE_SEGMENT   equ (INTERPRETER + INTERPRETER_SIZE) / 16
 HEADER_SIZE     equ 16                  ; bytes before the steps
 FIRST_SCRIPT    equ 6                   ; in the header: where the first script stands in them; before it stands the reset
@@ -30,8 +30,19 @@ MISCELLANEOUS_OUTPUT equ 0x3c2
 SEQUENCER       equ 0x3c4
 INPUT_STATUS    equ 0x3da
 FIRST_SERIAL    equ 0x400               ; the BIOS data's port of the first serial adapter, 0 where there is none
+UP              equ 0x48                ; the key's scan code
 LOCKS           equ 0x417               ; the BIOS data's flags of the keyboard: bits 4 to 6 are its three locks
+DISK_HANDLER    equ 4 * 0x13            ; the vector of interrupt 13
 PARTITIONS      equ 440                 ; in sector 0: what a disk has there, written by image.py
+MARK_BYTES      equ 0                   ; in the segment of services, once the script has ended: the mark,
+READ_BACK       equ SECTOR_SIZE         ; a sector that was read back,
+CHECKS          equ 2 * SECTOR_SIZE     ; and the checks of all pages
+ROW_BYTES       equ 22                  ; answers of a row on the screen
+PAGE_ROWS       equ 21
+PAGE_BYTES      equ PAGE_ROWS * ROW_BYTES
+ROW_OF_CHECKS   equ 0x8000              ; and the number of a page: its check
+ROW_OF_ALL      equ 0xffff
+POLYNOMIAL      equ 0x1021              ; of CRC-16, the high bit first, from 0 on
 
 ; How a run ends, in [ending].
 WAIT_FOR_KEY    equ 0                   ; a machine: the picture stays until a key is pressed, and then a text is shown
@@ -165,13 +176,17 @@ sector: pusha
 say:    lodsb
         or al, al
         jz .end
-        mov ah, 0x0e
-        mov bx, 7
-        push si
-        int 0x10
-        pop si
+        call show
         jmp say
 .end:   ret
+
+; Shows al as a character.
+show:   pusha
+        mov ah, 0x0e
+        mov bx, 7
+        int 0x10
+        popa
+        ret
 
 drive   db 0
 command db 0
@@ -196,6 +211,7 @@ interpreter:
         xor ax, ax
         mov ds, ax
         call open_serial
+        call look_at_handler
         mov si, greeting
         call say
         mov si, no_serial
@@ -203,7 +219,11 @@ interpreter:
         je .told
         mov si, by_serial
 .told:  call say
-        call send_greeting
+        cmp byte [in_memory], 0
+        je .kept
+        mov si, forgets
+        call say
+.kept:  call send_greeting
         call send_table
         mov ax, TABLE_SEGMENT
         mov es, ax
@@ -213,6 +233,17 @@ interpreter:
         mov ax, ANSWERS
         mov gs, ax
         xor di, di
+
+; A BIOS answers interrupt 13 from its own memory, behind A0000. A handler before that is a program that was loaded,
+; such as memdisk, and its disk may be in memory, too.
+look_at_handler:
+        movzx eax, word [DISK_HANDLER + 2]
+        shl eax, 4
+        movzx ebx, word [DISK_HANDLER]
+        add eax, ebx
+        cmp eax, 0xa0000
+        setb [in_memory]
+        ret
 
 step:   call normal
         call take_byte
@@ -647,18 +678,12 @@ finish: cmp byte [ending], LEAVE_EMULATOR
         call send_answers
 .whole: mov [answer_length], di
         mov byte [command], STORE
-        mov ax, ANSWERS
-        mov es, ax
-        xor bx, bx
-        mov si, ANSWER_SECTOR
-.next:  cmp bx, [answer_length]
-        jae .mark
-        mov ax, si
-        call sector
-        inc si
-        add bx, SECTOR_SIZE
-        jnc .next
-.mark:  call store_mark
+        mov di, sector
+        call each_sector
+        mov byte [command], LOAD
+        mov di, compare
+        call each_sector
+        call store_mark
         movzx eax, word [answer_length]
         mov [line_number], eax
         xor ax, ax
@@ -685,13 +710,50 @@ finish: cmp byte [ending], LEAVE_EMULATOR
         mov ah, 1
         int 0x16
         call show_text
-        mov si, stored
-        cmp byte [failed], 0
-        je .told
-        mov si, not_stored
-.told:  call say
+        call tell_end
+        jmp show_pages
+
 stop:   hlt
         jmp stop
+
+; Calls di for each sector of the answers, as long as all is well: its number in ax, its bytes at es:bx.
+each_sector:
+        mov si, ANSWER_SECTOR
+        xor bx, bx
+.next:  cmp byte [failed], 0
+        jne .end
+        cmp bx, [answer_length]
+        jae .end
+        mov ax, ANSWERS
+        mov es, ax
+        mov ax, si
+        call di
+        inc si
+        add bx, SECTOR_SIZE
+        jnc .next
+.end:   ret
+
+; Reads a sector back, its number in ax. [failed] is 1 where it has not the bytes at es:bx.
+compare:
+        pusha
+        push es
+        push es
+        mov si, bx
+        mov bx, SCRATCH
+        mov es, bx
+        mov bx, READ_BACK
+        call sector
+        mov di, bx
+        pop ds
+        mov cx, SECTOR_SIZE / 2
+        repe cmpsw
+        mov cx, 0                       ; the flags stay
+        mov ds, cx
+        je .same
+        mov byte [failed], 1
+.same:  pop es
+        popa
+        ret
 
 ; Sounds the speaker for a third of a second. A read of its port takes a microsecond, so no interrupt is needed.
 beep:   mov al, 0xb6                    ; timer 2: a square wave
@@ -751,23 +813,286 @@ store_mark:
         xor ax, ax
         mov cx, SECTOR_SIZE / 2
         rep stosw
-        mov dword [es:0], 'VGAF'
-        mov dword [es:4], 'DONE'
+        mov dword [es:MARK_BYTES], 'VGAF'
+        mov dword [es:MARK_BYTES + 4], 'DONE'
         mov ax, [answer_length]
-        mov [es:8], ax
+        mov [es:MARK_BYTES + 8], ax
         mov ax, [answer_sum]
-        mov [es:10], ax
-        mov [es:12], edx
+        mov [es:MARK_BYTES + 10], ax
+        mov [es:MARK_BYTES + 12], edx
         cmp byte [failed], 0            ; a disk that takes no answers takes no mark
         jne .end
-        xor bx, bx
+        mov bx, MARK_BYTES
         mov ax, MARK_SECTOR
+        mov byte [command], STORE
         call sector
         mov byte [command], LOAD        ; some emulators write their file when something is read
-        xor ax, ax
-        mov bx, SECTOR_SIZE
-        call sector
+        call compare
 .end:   ret
+
+; ---------------------------------------------------------------------------------------------------------- the pages
+; All answers on the screen, for photographs. Each number of two bytes is a word of five letters: a consonant for four
+; bits, a vowel for two, and so on, from the high bits down. A row has its number, words of bytes, and the CRC-16 of all
+; these. Rows of answers count from 0; row 8000 and a page's number has the CRC-16 of the page's answers; row FFFF has
+; the length of all answers, their sum, and the check of the table. `rows.py` reads them.
+
+; Says where the answers are.
+tell_end:
+        mov si, stored
+        cmp byte [in_memory], 0
+        jne .lost
+        cmp byte [failed], 0
+        je .told
+        mov si, not_stored
+        jmp .told
+.lost:  mov si, forgets
+.told:  call say
+        cmp word [port], 0
+        je .keys
+        mov si, sent
+        call say
+.keys:  mov si, keys
+        jmp say
+
+; Shows page after page, the checks and then the answers, by keys: the one above goes back, each other one goes on.
+show_pages:
+        mov ax, [answer_length]
+        add ax, PAGE_BYTES - 1
+        mov dx, 0                       ; the flags stay
+        adc dx, dx
+        mov cx, PAGE_BYTES
+        div cx
+        or ax, ax
+        jnz .some
+        inc ax                          ; no answers have an empty page
+.some:  mov [pages], ax
+        mov word [page], 0
+.page:  xor ah, ah
+        int 0x16
+        push ax
+        mov ax, 3
+        int 0x10
+        pop ax
+        cmp ah, UP
+        jne .on
+        sub word [page], 2              ; the number is already that of the page to come
+        jns .on
+        mov ax, [pages]
+        add [page], ax
+        inc word [page]
+.on:    cmp word [page], 0
+        jne .answers
+        call show_checks
+        jmp .next
+.answers:
+        call show_answers
+.next:  mov si, keys
+        call say
+        inc word [page]
+        mov ax, [page]
+        cmp ax, [pages]
+        jbe .page
+        mov word [page], 0
+        jmp .page
+
+show_checks:
+        mov si, of_checks
+        call say
+        mov ax, TABLE_SEGMENT
+        mov es, ax
+        mov eax, [es:TABLE_CHECK]
+        mov [table_check], eax
+        xor ax, ax
+        mov es, ax
+        mov bx, answer_length
+        mov cx, 8                       ; behind the length stand the sum and the table's check
+        mov dx, ROW_OF_ALL
+        call show_row
+        call check_pages
+        mov ax, SCRATCH
+        mov es, ax
+        mov bx, CHECKS
+        mov dx, ROW_OF_CHECKS + 1
+        mov di, [pages]
+        add di, di
+.next:  mov cx, ROW_BYTES
+        cmp cx, di
+        jbe .row
+        mov cx, di
+.row:   jcxz .end
+        call show_row
+        add dx, ROW_BYTES / 2
+        sub di, cx
+        jmp .next
+.end:   ret
+
+; The checks of all pages, one after the other, the high byte first.
+check_pages:
+        mov cx, 1
+        mov di, CHECKS
+.next:  cmp cx, [pages]
+        ja .end
+        call check_page
+        mov ax, SCRATCH
+        mov es, ax
+        mov ax, [check]
+        xchg al, ah
+        stosw
+        inc cx
+        jmp .next
+.end:   ret
+
+; The check of the answers of page cx, which count from 1, in [check].
+check_page:
+        mov ax, cx
+        dec ax
+        mov bx, PAGE_BYTES
+        mul bx
+        mov bx, ax
+        mov ax, ANSWERS
+        mov es, ax
+        mov word [check], 0
+        mov dx, PAGE_BYTES
+.next:  cmp bx, [answer_length]
+        jae .end
+        mov al, [es:bx]
+        call add_check
+        inc bx
+        dec dx
+        jnz .next
+.end:   ret
+
+show_answers:
+        mov si, of_page
+        call say
+        mov ax, [page]
+        call show_decimal
+        mov si, of_pages
+        call say
+        mov ax, [pages]
+        call show_decimal
+        call new_line
+        mov ax, [page]
+        dec ax
+        mov bx, PAGE_ROWS
+        mul bx
+        mov dx, ax                      ; the row's number
+        mov ax, ROW_BYTES
+        push dx
+        mul dx
+        pop dx
+        mov bx, ax                      ; its answers
+        mov ax, ANSWERS
+        mov es, ax
+        mov si, PAGE_ROWS
+.next:  mov cx, [answer_length]
+        sub cx, bx
+        jbe .check
+        cmp cx, ROW_BYTES
+        jbe .row
+        mov cx, ROW_BYTES
+.row:   call show_row
+        inc dx
+        dec si
+        jnz .next
+.check: mov cx, [page]
+        call check_page
+        mov ax, [check]
+        xchg al, ah
+        mov [page_check], ax
+        xor ax, ax
+        mov es, ax
+        mov bx, page_check
+        mov dx, ROW_OF_CHECKS
+        add dx, [page]
+        mov cx, 2
+; Shows a row: its number is dx, and it has cx bytes at es:bx, which is behind them then.
+show_row:
+        push cx
+        mov word [check], 0
+        mov ax, dx
+        call show_word
+.next:  mov ah, [es:bx]
+        inc bx
+        mov al, 0                       ; behind the last byte of all answers
+        dec cx
+        jz .last
+        mov al, [es:bx]
+        inc bx
+        dec cx
+.last:  call show_next
+        or cx, cx
+        jnz .next
+        mov ax, [check]
+        call show_next
+        pop cx
+new_line:
+        mov al, 13
+        call show
+        mov al, 10
+        jmp show
+
+; Shows ax as a word, behind a blank or at once, and adds its bytes to the check.
+show_next:
+        push ax
+        mov al, ' '
+        call show
+        pop ax
+show_word:
+        push ax
+        xchg al, ah
+        call add_check
+        mov al, ah
+        call add_check
+        pop ax
+        push di
+        call .consonant
+        call .vowel
+        call .consonant
+        call .vowel
+        call .consonant
+        pop di
+        ret
+.consonant:
+        rol ax, 4
+        mov di, ax
+        and di, 15
+        add di, consonants
+        jmp .letter
+.vowel: rol ax, 2
+        mov di, ax
+        and di, 3
+        add di, vowels
+.letter:
+        push ax
+        mov al, [di]
+        call show
+        pop ax
+        ret
+
+show_decimal:
+        mov cx, 10
+        xor dx, dx
+        div cx
+        push dx
+        or ax, ax
+        jz .digit
+        call show_decimal
+.digit: pop ax
+        add al, '0'
+        jmp show
+
+; Adds al to [check].
+add_check:
+        push cx
+        xor [check + 1], al
+        mov cx, 8
+.bit:   shl word [check], 1
+        jnc .next
+        xor word [check], POLYNOMIAL
+.next:  loop .bit
+        pop cx
+        ret
 
 ; qemu's device isa-debug-exit, and bochs' port of its own.
 leave_emulator:
@@ -788,15 +1113,28 @@ greeting db 'vga-floppy: the script has the screen now. Its answers go to this d
 no_serial db '.', 13, 10, 0
 by_serial db ',', 13, 10, 'and to the first serial port (115200 8N1).', 13, 10, 0
 stored  db 'vga-floppy: done. The answers are on this disk.', 13, 10, 0
-not_stored db 'vga-floppy: this disk could not be written: the answers went to the serial', 13, 10
-        db 'port alone, if there is one.', 13, 10, 0
+not_stored db 'vga-floppy: done, but this disk does not keep the answers.', 13, 10, 0
+forgets db 'vga-floppy: a program in memory, such as memdisk, stands for this disk.', 13, 10
+        db 'It forgets the answers. Start the machine from the disk itself.', 13, 10, 0
+sent    db 'They went to the first serial port, too.', 13, 10, 0
+of_checks db 'vga-floppy: the checks of all pages', 13, 10, 0
+of_page db 'vga-floppy: page ', 0
+of_pages db ' of ', 0
+consonants db 'bdfghjklmnprstvz'
+vowels  db 'aiou'
+keys    db 'Press a key for the next page of the answers, or the key up to go back.', 0
 
         align 4, db 0
 taken   dd 0                            ; steps that were begun
 line_number dd 0
 port    dw 0                            ; the serial port, 0 where there is none
+answer_length dw 0                      ; these three are a row of the page of checks
 answer_sum dw 0
-answer_length dw 0
+table_check dd 0
+pages   dw 0
+page    dw 0                            ; which is to come
+page_check dw 0
+check   dw 0
 given   times 4 dw 0                    ; the registers of a call
 handed_dx dw 0
 table_size dw 0
@@ -811,5 +1149,6 @@ script_fs dw 0
 is_reset db 0                           ; 1 while the steps of the reset are taken
 last_output db 0
 flags   db 0
+in_memory db 0                          ; 1 where a program in memory answers for the disk
 line_sum db 0
         times INTERPRETER_SIZE - ($ - interpreter) db 0

@@ -25,7 +25,7 @@ SECTOR = 512
 IMAGE_SIZE = 2880 * SECTOR
 CODE = Path(__file__).with_name("boot.bin")
 # The boot sector and the interpreter, behind which the table stands.
-CODE_SIZE = SECTOR + 2048
+CODE_SIZE = SECTOR + 3072
 OEM_NAME = b"VGAFLOPY"
 OEM_AT = 3
 # What is written into the boot sector: how many sectors are loaded, and how the run ends.
