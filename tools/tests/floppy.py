@@ -22,7 +22,40 @@ from zaklimot_tools.floppy.table import (
 )
 
 
-SECTOR, TABLE, MARK, ANSWERS = 512, 5 * 512, 1023 * 512, 1024 * 512
+SECTOR, TABLE, MARK, ANSWERS = 512, 7 * 512, 1023 * 512, 1024 * 512
+# The rows of a page: each of so many answers at most. The words have these letters, in turn.
+ROW, PAGE = 22, 21 * 22
+LETTERS = ["bdfghjklmnprstvz", "aiou"] * 2 + ["bdfghjklmnprstvz"]
+
+
+KEYS = "Press a key for the next page of the answers, or the key up to go back."
+
+
+def row(number: int, data: bytes) -> str:
+    """A row of a page, as boot.asm shows it."""
+    row = number.to_bytes(2, "big") + data + bytes(len(data) % 2)
+    check = 0
+    for bit in (byte >> at & 1 for byte in row for at in range(7, -1, -1)):
+        check = (check << 1 ^ 0x1021 * (check >> 15 ^ bit)) & 0xFFFF
+    row += check.to_bytes(2, "big")
+    words = []
+    for at in range(0, len(row), 2):
+        left = int.from_bytes(row[at : at + 2], "big")
+        word = ""
+        for letters in LETTERS[::-1]:
+            left, digit = divmod(left, len(letters))
+            word = letters[digit] + word
+        words.append(word)
+    return " ".join(words)
+
+
+def check_of(data: bytes) -> bytes:
+    """The CRC-16 of bytes: that of a row whose number is 0 ends in it."""
+    last = row(0, data.rjust(len(data) + len(data) % 2, b"\0")).rpartition(" ")[2]
+    number = 0
+    for letter, letters in zip(last, LETTERS):
+        number = number * len(letters) + letters.index(letter)
+    return number.to_bytes(2, "big")
 
 
 def line(letter: str, number: int, data: bytes = b"") -> bytes:
@@ -72,6 +105,22 @@ class Machine:
         left[ANSWERS : ANSWERS + len(self.answers)] = self.answers
         left[MARK : MARK + 16] = b"VGAFDONE" + length + total + image[TABLE + 12 : TABLE + 16]
         self.image = bytes(left)
+        self.pages = list(self._pages(length + total + image[TABLE + 12 : TABLE + 16]))
+
+    def _pages(self, told: bytes) -> Iterator[str]:
+        """The pages that are shown: that of the checks, and those of the answers."""
+        parts = [self.answers[at : at + PAGE] for at in range(0, len(self.answers), PAGE)] or [b""]
+        checks = b"".join(map(check_of, parts))
+        rows = [row(0xFFFF, told)]
+        for at in range(0, len(checks), ROW):
+            rows.append(row(0x8001 + at // 2, checks[at : at + ROW]))
+        yield "\n".join(["vga-floppy: the checks of all pages", *rows, KEYS])
+        for page, part in enumerate(parts):
+            rows = [
+                row(21 * page + at // ROW, part[at : at + ROW]) for at in range(0, len(part), ROW)
+            ]
+            rows.append(row(0x8001 + page, checks[2 * page : 2 * page + 2]))
+            yield "\n".join([f"vga-floppy: page {page + 1} of {len(parts)}", *rows, KEYS])
 
     def _take(self, at: int) -> int:
         opcode = self._steps[at]

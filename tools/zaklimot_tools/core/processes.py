@@ -73,6 +73,7 @@ PACKAGES = {
     "qemu-aarch64": "qemu-user",
     "xwininfo": "x11-utils",
     "ffmpeg": "ffmpeg",
+    "tesseract": "tesseract-ocr",
     "wasm-opt": "binaryen",
     "wasm2c": "wabt",
     "esbuild": "esbuild",

@@ -234,17 +234,6 @@ interpreter:
         mov gs, ax
         xor di, di
 
-; A BIOS answers interrupt 13 from its own memory, behind A0000. A handler before that is a program that was loaded,
-; such as memdisk, and its disk may be in memory, too.
-look_at_handler:
-        movzx eax, word [DISK_HANDLER + 2]
-        shl eax, 4
-        movzx ebx, word [DISK_HANDLER]
-        add eax, ebx
-        cmp eax, 0xa0000
-        setb [in_memory]
-        ret
-
 step:   call normal
         call take_byte
         cmp al, LAST_STEP
@@ -262,6 +251,17 @@ steps   dw finish, write_port, write_port_word, read_port, read_port_word
         dw write_memory, write_memory_word, read_memory, read_memory_word
         dw call_service, pass_over, look_away, fill_memory, repeat_steps, end_of_block, begin_script, end_of_reset
 LAST_STEP equ ($ - steps) / 2 - 1
+
+; A BIOS answers interrupt 13 from its own memory, behind A0000. A handler before that is a program that was loaded,
+; such as memdisk, and its disk may be in memory, too.
+look_at_handler:
+        movzx eax, word [DISK_HANDLER + 2]
+        shl eax, 4
+        movzx ebx, word [DISK_HANDLER]
+        add eax, ebx
+        cmp eax, 0xa0000
+        setb [in_memory]
+        ret
 
 ; Keeps si below 16, so that no step and no block goes past its segment.
 normal: mov ax, si

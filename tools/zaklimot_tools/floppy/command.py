@@ -8,6 +8,7 @@ from zaklimot_tools.core.files import STANDARD, name_of
 from zaklimot_tools.core.progress import Progress
 from zaklimot_tools.core.streams import (
     check_file,
+    counted,
     empty_folder,
     read_at_most,
     reading,
@@ -19,8 +20,19 @@ from zaklimot_tools.explain.faults import script_of
 from zaklimot_tools.images.png import save_png
 from zaklimot_tools.report.places import LIST
 
-from .image import IMAGE_SIZE, Run, image_for, read_image, read_record, report_lines, reports
+from .image import (
+    IMAGE_SIZE,
+    Run,
+    image_for,
+    read_image,
+    read_record,
+    report_lines,
+    reports,
+    table_of,
+)
+from .rows import Pages, few, files_of, read_file
 from .running import MACHINES, run_on
+from .table import Table
 
 # A longer file is no image and no record.
 MOST_READ = 1 << 26
@@ -71,18 +83,40 @@ def make_image(words: argparse.Namespace, _: Progress) -> None:
     )
 
 
-def read_run(words: argparse.Namespace, _: Progress) -> None:
+def read_run(words: argparse.Namespace, progress: Progress) -> None:
     """Gives the report of what a run has left."""
     name = name_of(words.file)
     with reading(words.file) as stream:
         data = stream.read(MOST_READ if words.serial else IMAGE_SIZE)
-    run = read_record(data, name) if words.serial else read_image(data, name)
+    if words.pages:
+        run = _read_pages(words, table_of(data, name), progress)
+    else:
+        run = read_record(data, name) if words.serial else read_image(data, name)
     if not run.is_whole and not words.part:
         came = f"{len(run.answers):,} of {run.table.answer_length():,} bytes of answers came"
         raise Trouble(
             f"the record ends before the run did: {came}; --part gives the report so far", name
         )
     _write_report(words, run, name)
+
+
+def _read_pages(words: argparse.Namespace, table: Table, progress: Progress) -> Run:
+    """What the rows of pages tell; a Trouble where rows are missing, and not only a part is
+    wanted."""
+    pages = Pages()
+    paths = files_of(words.pages)
+    for number, path in enumerate(paths):
+        if progress.is_due():
+            progress.tell(f"{number} of {counted(len(paths), 'page')}")
+        pages.join(read_file(path))
+    progress.clear()
+    pages.check(table, name_of(words.file))
+    missing = pages.missing()
+    if missing and not words.part:
+        damaged = f"; damaged are {few(pages.damaged)}" if pages.damaged else ""
+        told = f"the pages lack {few(missing)}{damaged}; --part gives the report so far"
+        raise Trouble(told, name_of(words.pages[0]))
+    return Run(table, pages.answers(), not missing)
 
 
 def run_script(words: argparse.Namespace, _: Progress) -> None:

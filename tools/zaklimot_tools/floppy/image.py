@@ -129,13 +129,18 @@ def _partition(code: bytearray) -> None:
     PARTITIONS.pack_into(code, PARTITIONS_AT, SIGNATURE, 0, ACTIVE, *begin, NO_FILES, *end, 1, last)
 
 
-def read_image(image: bytes, name: str) -> Run:
-    """What a run has left in an image; a Trouble where it is none, or no run has ended."""
+def table_of(image: bytes, name: str) -> Table:
+    """The table of an image, whether it was run or not; a Trouble where it is none."""
     if image[OEM_AT : OEM_AT + len(OEM_NAME)] != OEM_NAME:
         raise Trouble("it is no image of vga-floppy", name)
     if len(image) < ANSWERS_AT:
         raise Trouble(f"the image is cut off: it has {len(image):,} bytes of {IMAGE_SIZE:,}", name)
-    table = Table(image[CODE_SIZE:MARK_AT], name)
+    return Table(image[CODE_SIZE:MARK_AT], name)
+
+
+def read_image(image: bytes, name: str) -> Run:
+    """What a run has left in an image; a Trouble where it is none, or no run has ended."""
+    table = table_of(image, name)
     first, second, length, total, check = MARK.unpack_from(image, MARK_AT)
     if (first, second) != MARK_NAMES:
         raise Trouble("no run has ended: the machine has not written its mark", name)

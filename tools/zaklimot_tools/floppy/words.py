@@ -5,7 +5,7 @@ from functools import partial
 from typing import Any
 
 from zaklimot_tools.core import cli
-from zaklimot_tools.core.cli import add, later
+from zaklimot_tools.core.cli import add, later, rule
 from zaklimot_tools.core.files import STANDARD, Input, Output, OutputOrFolder
 from zaklimot_tools.core.words import seconds
 
@@ -43,7 +43,15 @@ def _add_read(commands: Any) -> None:
     made = cli.command(commands, "read", _job("read_run"), told, example)
     add(made, "FILE", "the image, or with --serial the record; - is standard input", type=Input)
     add(made, "--serial", "FILE is what came over the serial port")
-    add(made, "--part", "takes a record that ends too early: gives the report up to there")
+    told = (
+        "takes the answers from pages that the machine has shown: a photograph, a text of their"
+        " rows, or a folder of these; may be repeated. FILE is the image that it ran"
+    )
+    add(made, "--pages PATH", told, action="append", type=Input)
+    told = "--serial is of a record, and --pages of an image"
+    rule(made, "pages", lambda words: words.serial, told)
+    told = "takes a record or pages that end too early: gives the report up to there"
+    add(made, "--part", told)
     _add_report(made)
 
 

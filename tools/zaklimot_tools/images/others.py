@@ -2,7 +2,7 @@
 
 import io
 import warnings
-from typing import Any, Optional
+from typing import Any, Iterator, Optional, Sequence
 
 from zaklimot_tools.core.trouble import Trouble
 
@@ -13,6 +13,8 @@ LEFT_OUT = ("EPS",)
 # Where a photo tells how the camera was held, and what it tells of one that lies on its side.
 ORIENTATION = 0x0112
 ON_ITS_SIDE = range(5, 9)
+# Pillow's number of the way in which it makes sizes: a smaller dot is the mean of all that it covers.
+BICUBIC = 3
 
 
 def pillow() -> Optional[Any]:
@@ -57,6 +59,22 @@ def rows_of(image: Any, name: str) -> tuple[bytes, ...]:
         raise Trouble(f"pillow can't read it: {told(error)}", name) from error
     step = 3 * made.size[0]
     return tuple(dots[at : at + step] for at in range(0, len(dots), step))
+
+
+def dark_on_white(image: Any, widths: Sequence[int], name: str) -> Iterator[bytes]:
+    """A photograph of a screen whose text is bright, as PNGs of these widths: upright, in greys,
+    dark on white."""
+    from PIL import ImageOps
+
+    try:
+        grey = ImageOps.grayscale(ImageOps.exif_transpose(image).convert("RGB"))
+    except (OSError, ValueError, SyntaxError, EOFError) as error:
+        raise Trouble(f"pillow can't read it: {told(error)}", name) from error
+    for width in widths:
+        sized = grey.resize((width, max(1, grey.height * width // grey.width)), BICUBIC)
+        with io.BytesIO() as stream:
+            ImageOps.invert(ImageOps.autocontrast(sized, cutoff=1)).save(stream, "PNG")
+            yield stream.getvalue()
 
 
 def told(error: Exception) -> str:
