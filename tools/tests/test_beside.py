@@ -2,6 +2,7 @@
 
 import os
 import random
+import shutil
 import struct
 import subprocess
 import sys
@@ -9,6 +10,9 @@ import unittest
 from pathlib import Path
 from typing import Optional
 
+from zaklimot_tools.script.words import FONTS
+
+from .floppy import machine
 from .test_images import png
 from .test_picture import Dots
 from .tools import PYTHON, TOOLS, Folder, ended, hold_undone, ppm
@@ -47,6 +51,17 @@ for width, height in ((1, 1), (1, 40), (40, 1), (2, 9), (9, 2), (67, 41)):
         assert with_numpy is not None and found[0] == found[1], (width, height, count)
         same += 2
 print(same, "the same")
+"""
+# Draws a screen of text, whose lines it reads, white on black, each dot twice across and down.
+DRAWING = """
+import sys
+import numpy
+from PIL import Image
+font = open(sys.argv[1], "rb").read()[256 * (8 + 14):]
+lines = [line.rstrip(chr(10)).center(84) for line in sys.stdin]
+bits = [[font[16 * ord(one) + y] for one in line] for line in lines for y in range(16)]
+dots = numpy.unpackbits(numpy.array(bits, numpy.uint8), axis=1) * 255
+Image.fromarray(dots.repeat(2, axis=0).repeat(2, axis=1)).save(sys.argv[2])
 """
 TOOL = TOOLS / "vga-picture"
 
@@ -152,3 +167,23 @@ class Beside(Folder):
             self, self.read("image", big, "--mode", "13", "--scale"), "16,777,216 are the most"
         )
         self.assertEqual((self.folder / "out.vga").read_text(), "kept")
+
+
+@unittest.skipUnless(BOTH and shutil.which("tesseract"), "Pillow, numpy or tesseract is missing")
+class Screens(Folder):
+    def test_pages_of_answers_are_read_from_pictures(self) -> None:
+        chance = random.Random(7)
+        writes = "".join(
+            f"put {0xA0000 + at:X} {chance.randrange(256):X}\nget {0xA0000 + at:X}\n"
+            for at in range(600)
+        )
+        booted = machine(writes.encode())
+        image = self.write("image", booted.image)
+        for number, page in enumerate(booted.pages):
+            words = (BOTH, "-c", DRAWING, FONTS, self.folder / f"{number}.png")
+            self.assertEqual(ended(*words, input=page), (0, "", ""))
+        read = (BOTH, TOOLS / "vga-floppy", "read", image)
+        pages = [f"--pages={self.folder}/{number}.png" for number in range(len(booted.pages))]
+        self.assertEqual(len(pages), 3)
+        self.assertEqual(ended(*read, *pages), ended(*read))
+        self.assertEqual(ended(*read)[0], 0)

@@ -31,8 +31,6 @@ from zaklimot_tools.floppy.image import CODE, Run, image_for, read_image, read_r
 from zaklimot_tools.floppy.asked import DOSBOX
 from zaklimot_tools.floppy.running import MACHINES
 from zaklimot_tools.floppy.table import Table, reset_steps, table_for
-from zaklimot_tools.picture.cells import FONTS_AT
-from zaklimot_tools.script.words import FONTS
 from zaklimot_tools.report.cases import read_cases
 from zaklimot_tools.report.places import SUITE
 from zaklimot_tools.explain.banks import Bank
@@ -470,11 +468,6 @@ class Left(Folder):
         self.assertEqual(with_all[12], b"13 ax=DEAD bx=1234 cx=1234 dx=1234 block 000102030405")
 
 
-# The dots of each byte of a glyph, twice as wide.
-SPREAD = [
-    b"".join(b"\xff" * 2 if byte >> bit & 1 else bytes(2) for bit in range(7, -1, -1))
-    for byte in range(256)
-]
 # Two scripts whose answers take two pages and a part of a third.
 LONG = {"one": "in 3CC\n" * 1000, "two": "inw 3CE\nframe\n"}
 
@@ -611,23 +604,6 @@ class PagesOfAnswers(Folder):
                 self.read("--pages", path),
                 (2, b"", "vga-floppy: tesseract: it is not in the path: install the package tesseract-ocr\n"),
             )
-
-    @unittest.skipUnless(shutil.which("tesseract"), "tesseract isn't installed")
-    def test_photographs(self) -> None:
-        # White on black, each dot twice across and down, in the font of the project.
-        font = FONTS.read_bytes()[FONTS_AT[16] :]
-        for number, page in enumerate(self.machine.pages):
-            lines = ["", *page.split("\n"), ""]
-            dots = [
-                b"".join(map(SPREAD.__getitem__, (font[16 * ord(one) + y] for one in line)))
-                for line in (line.center(84) for line in lines)
-                for y in range(16)
-                for _ in "12"
-            ]
-            picture = b"P5\n%d %d\n255\n" % (len(dots[0]), len(dots)) + b"".join(dots)
-            self.write(f"pictures/{number}.pgm", picture)
-        self.assertEqual(self.read("--pages", str(self.folder / "pictures")), (0, b"", ""))
-        self.assertEqual(self.reports()["two.report"], b"1 CFCE\n2 skipped\n")
 
 
 @unittest.skipUnless(

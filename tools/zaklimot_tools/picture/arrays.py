@@ -54,9 +54,13 @@ class Arrays:
         return self._rows(numpy.where(kept, own, made).reshape(height, width))
 
     def floyd_rows(
-        self, rows: Sequence[Sequence[Sequence[int]]], colours: Sequence[Sequence[int]]
+        self,
+        rows: Sequence[Sequence[Sequence[int]]],
+        colours: Sequence[Sequence[int]],
+        fine: int,
     ) -> Iterator[bytes]:
-        """Rows by the dither of Floyd and Steinberg.
+        """Rows by the dither of Floyd and Steinberg, whose dots have so many parts of the colours'
+        steps.
 
         What a dot is off goes to the next one and to three of the row below, so dots depend on none
         of those that lie two to the left in the next row: they are worked out together. In arrays
@@ -84,9 +88,9 @@ class Arrays:
 
             owed = 3 * errors[at(1 - pitch)] + 5 * errors[at(-pitch)] + errors[at(-pitch - 1)]
             owed += 7 * errors[at(-1)] + 8
-            value = numpy.clip(wanted[at(0)] + (owed >> 4), 0, self._most)
-            numbers = self._nearest(value, chosen)
-            errors[at(0)] = value - chosen[numbers]
+            value = numpy.clip(wanted[at(0)] + (owed >> 4), 0, self._most * fine)
+            numbers = self._nearest((value + fine // 2) // fine, chosen)
+            errors[at(0)] = value - fine * chosen[numbers]
             made[at(0)] = numbers
         return self._rows(made.reshape(height + 1, pitch)[1:, 1 : width + 1])
 
@@ -125,8 +129,8 @@ class Arrays:
         return far.argmin(axis=1)
 
     def _dots(self, rows: Sequence[Sequence[Sequence[int]]]) -> "numpy.ndarray":
-        flat = bytes(chain.from_iterable(chain.from_iterable(rows)))
-        return numpy.frombuffer(flat, numpy.uint8).reshape(len(rows), -1, 3).astype(numpy.int32)
+        flat = chain.from_iterable(chain.from_iterable(rows))
+        return numpy.fromiter(flat, numpy.int32).reshape(len(rows), -1, 3)
 
     def _array(self, values: Sequence[object]) -> "numpy.ndarray":
         return numpy.array(values, numpy.int32)

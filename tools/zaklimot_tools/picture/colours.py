@@ -33,9 +33,15 @@ EXCHANGES, MOVES = 8, 6
 PLAIN = 7
 Row = Sequence[Colour]
 MOST = 63
-# Colours for a dither are tried on so many dots at most, and judged by areas of so many dots across
-# and down.
-TRIED, AREA = 16384, 4
+# Colours for a dither are tried on bands of so many rows, so many dots in all, and judged by areas
+# of so many dots across and down.
+BAND, TRIED, AREA = 8, 16384, 4
+# For the dither of Floyd and Steinberg colours are moved away from so many that are nearest to
+# them, by this part of how far they are from the middle of these.
+AROUND, AWAY = 4, 4
+# This dither reckons in sixteenths of the DAC's steps: what an image of eight bits has between two
+# of them would else be lost.
+FINE = 16
 # Below so many dots it takes longer to import numpy than to do without.
 FEW = 1 << 13
 # An ordered dither of four by four dots: the order in which they become brighter.
@@ -126,6 +132,31 @@ def outer_colours(counts: Counter[Colour], most: int) -> list[Colour]:
         chosen.append(last)
         far = {colour: min(was, distance(colour, last)) for colour, was in far.items()}
     return sorted(chosen)
+
+
+def spread_colours(colours: Sequence[Colour]) -> list[Colour]:
+    """Colours that lie a little farther apart: those at the rim of others are moved outwards.
+
+    Each chosen colour is in the middle of those that it stands for. A dither makes colours between
+    the chosen ones alone, so without this it would have none for those at the rim.
+    """
+    moved = set[Colour]()
+    for colour in colours:
+        near = sorted((distance(colour, one), one) for one in colours if one != colour)[:AROUND]
+        red, green, blue = (
+            _clamped(value + _away(sum(value - one[part] for _, one in near), len(near)))
+            for part, value in enumerate(colour)
+        )
+        moved.add((red, green, blue))
+    return sorted(moved)
+
+
+def _away(far: int, count: int) -> int:
+    """How far a component is moved that is so far from the mean of a count of others, times the
+    count: a part of it, but a step at least where it is half a step away."""
+    size = abs(far)
+    steps = max((2 * size + AWAY * count) // (2 * AWAY * count), 2 * size >= count)
+    return steps if far > 0 else -steps
 
 
 def _fewer(counts: Counter[Colour]) -> Counter[Colour]:
@@ -300,8 +331,16 @@ def six_bits(image: Image, is_rounded: bool = False) -> list[list[Colour]]:
     return [list(zip(row[::3], row[1::3], row[2::3])) for row in rows]
 
 
-def _clamped(value: int) -> int:
-    return 0 if value < 0 else MOST if value > MOST else value
+def fine(image: Image) -> list[list[Colour]]:
+    """The dots of an image in sixteenths of the DAC's steps."""
+    most = image.most
+    table = [(2 * MOST * FINE * value + most) // (2 * most) for value in range(most + 1)]
+    rows = ([table[value] for value in row] for row in image.rows)
+    return [list(zip(row[::3], row[1::3], row[2::3])) for row in rows]
+
+
+def _clamped(value: int, most: int = MOST) -> int:
+    return 0 if value < 0 else most if value > most else value
 
 
 def _spread(colours: Sequence[Colour]) -> float:
@@ -345,10 +384,10 @@ def _ordered(rows: Sequence[Row], colours: Sequence[Colour]) -> Iterator[bytes]:
 
 def _floyd(rows: Sequence[Row], colours: Sequence[Colour]) -> Iterator[bytes]:
     """Rows by the dither of Floyd and Steinberg: what a dot is off goes to those behind and below,
-    in sixteenths."""
+    in sixteenths. The dots are fine ones."""
     arrays = arrays_for(len(rows) * len(rows[0]))
     if arrays is not None:
-        yield from arrays.floyd_rows(rows, colours)
+        yield from arrays.floyd_rows(rows, colours, FINE)
         return
     nearest = Nearest(colours)
     width = len(rows[0])
@@ -360,12 +399,14 @@ def _floyd(rows: Sequence[Row], colours: Sequence[Colour]) -> Iterator[bytes]:
         made = bytearray(width)
         for x, dot in enumerate(row):
             owed = above[x + 1]
-            red, green, blue = (
-                _clamped(dot[part] + (owed[part] + ahead[part] + 8 >> 4)) for part in range(3)
-            )
+            wanted = [
+                _clamped(dot[part] + (owed[part] + ahead[part] + 8 >> 4), MOST * FINE)
+                for part in range(3)
+            ]
+            red, green, blue = ((value + FINE // 2) // FINE for value in wanted)
             number = made[x] = nearest((red, green, blue))
-            for part, value in enumerate((red, green, blue)):
-                error = value - colours[number][part]
+            for part, value in enumerate(wanted):
+                error = value - FINE * colours[number][part]
                 ahead[part] = 7 * error
                 below[x][part] += 3 * error
                 below[x + 1][part] += 5 * error
@@ -388,9 +429,11 @@ WAYS: dict[Fewer, Callable[[Sequence[Row], Sequence[Colour]], Iterable[bytes]]] 
 }
 
 
-def _chosen(rows: Sequence[Row], counts: Counter[Colour], most: int, fewer: Fewer) -> list[Colour]:
+def _chosen(
+    rows: Sequence[Row], dots: Sequence[Row], counts: Counter[Colour], most: int, fewer: Fewer
+) -> list[Colour]:
     """So many colours for an image: of those in the middle and the outer ones those that a dither
-    does better with.
+    does better with, which is given these dots.
 
     A dither makes each colour that lies between those it has, and none that lies outside of them;
     but the farther these are apart, the coarser is its grain.
@@ -398,13 +441,13 @@ def _chosen(rows: Sequence[Row], counts: Counter[Colour], most: int, fewer: Fewe
     middle = middle_colours(counts, most)
     if fewer is Fewer.NEAREST:
         return middle
-    step = 1
-    while len(rows) // step * (len(rows[0]) // step) > TRIED:
-        step += 1
-    part = [row[::step] for row in rows[::step]]
+    step = -(-len(rows) * len(rows[0]) // TRIED)
+    bands = [y for y in range(len(rows)) if y // BAND % step == 0]
+    part, dithered = ([some[y] for y in bands] for some in (rows, dots))
+    inner = spread_colours(middle) if fewer is Fewer.FLOYD else middle
     return min(
-        (middle, outer_colours(counts, most)),
-        key=lambda colours: _seen(part, colours, WAYS[fewer](part, colours)),
+        (inner, outer_colours(counts, most)),
+        key=lambda colours: _seen(part, colours, WAYS[fewer](dithered, colours)),
     )
 
 
@@ -431,9 +474,15 @@ def _seen(rows: Sequence[Row], colours: Sequence[Colour], made: Iterable[bytes])
     return by_dots * by_areas
 
 
-def indexed(rows: Sequence[Row], most: int, fewer: Fewer, name: str) -> tuple[Indexed, int]:
+def indexed(
+    rows: Sequence[Row],
+    most: int,
+    fewer: Fewer,
+    name: str,
+    finer: Optional[Sequence[Row]] = None,
+) -> tuple[Indexed, int]:
     """The image of these dots in so many colours at most, and how many it had; a Trouble where more
-    are refused."""
+    are refused. The dither of Floyd and Steinberg takes finer dots, where they are given."""
     counts = Counter(chain.from_iterable(rows))
     colours = list(counts)
     if len(colours) <= most:
@@ -443,8 +492,11 @@ def indexed(rows: Sequence[Row], most: int, fewer: Fewer, name: str) -> tuple[In
         told = f"it has {len(colours):,} colours of six bits a component, and the mode {most}"
         raise Trouble(f"{told}: --nearest takes the nearest of {most}, --dither mixes them", name)
     else:
-        colours = _chosen(rows, counts, most, fewer)
-        made = list(WAYS[fewer](rows, colours))
+        dots = rows
+        if fewer is Fewer.FLOYD:
+            dots = finer or [[(FINE * r, FINE * g, FINE * b) for r, g, b in row] for row in rows]
+        colours = _chosen(rows, dots, counts, most, fewer)
+        made = list(WAYS[fewer](dots, colours))
     return _by_frequency(colours, made), len(counts)
 
 

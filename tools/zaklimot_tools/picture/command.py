@@ -13,7 +13,7 @@ from zaklimot_tools.images.reading import image_bytes, image_of, size_of
 
 from .asked import Fewer
 from .cells import font_of
-from .colours import indexed, six_bits
+from .colours import fine, indexed, six_bits
 from .drawing import Drawn, draw_pixels, draw_text
 from .fitting import check_size, fitted
 from .mode import MODES, Kind, text_of
@@ -47,7 +47,8 @@ def _drawn(words: argparse.Namespace, progress: Progress) -> tuple[Drawn, str]:
     # A dither keeps how bright areas are: those of the six high bits are darker.
     if count > len(mode.entries) and words.fewer in (Fewer.FLOYD, Fewer.ORDERED):
         rows = six_bits(image, is_rounded=True)
-    made, _ = indexed(rows, len(mode.entries), words.fewer, name)
+    finer = fine(image) if words.fewer is Fewer.FLOYD else None
+    made, _ = indexed(rows, len(mode.entries), words.fewer, name, finer)
     told = f"{size}, {counted(len(made.colours), 'colour')}"
     if count > len(mode.entries):
         told += f" for {count:,}, by {WAYS[words.fewer]}"
