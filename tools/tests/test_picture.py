@@ -16,15 +16,19 @@ from typing import Iterator, NamedTuple, Sequence
 
 from zaklimot.format import Picture, encode, parse_text
 from zaklimot_tools.images.png import write_png
+from zaklimot_tools.images.reading import Image
 from zaklimot_tools.picture.asked import Fewer
 from zaklimot_tools.picture.cells import FONTS_AT, Chooser, Chosen
 from zaklimot_tools.picture.colours import (
     Colour,
     Nearest,
+    WAYS,
     distance,
+    fine,
     indexed,
     middle_colours,
     outer_colours,
+    spread_colours,
 )
 from zaklimot_tools.picture.words import main
 from zaklimot_tools.picture.mode import MODES
@@ -460,17 +464,65 @@ class Colours(unittest.TestCase):
 
     def test_a_dither_has_the_outermost_colours_where_it_needs_them(self) -> None:
         # Four greys in the middle of others leave none for the ends; of twelve the outermost ones
-        # are near enough.
+        # are near enough, once they are moved outwards.
         dots = [[(x // 2, x // 2, x // 2) for x in range(128)] for _ in range(64)]
-        for most, has_ends in ((4, True), (12, False)):
-            floyd, nearest = (
-                set(indexed(dots, most, way, "i")[0].colours)
-                for way in (Fewer.FLOYD, Fewer.NEAREST)
+        counts = Counter(chain.from_iterable(dots))
+        for most in (4, 12):
+            floyd, nearest, ordered = (
+                sorted(indexed(dots, most, way, "i")[0].colours)
+                for way in (Fewer.FLOYD, Fewer.NEAREST, Fewer.ORDERED)
             )
-            ends = {BLACK, WHITE}
-            self.assertEqual(
-                (ends <= floyd, ends & nearest, floyd == nearest), (has_ends, set(), not has_ends)
-            )
+            outer = outer_colours(counts, most)
+            self.assertEqual(floyd, spread_colours(nearest))
+            self.assertEqual(ordered, outer if most == 4 else nearest)
+            self.assertEqual({BLACK, WHITE} & set(nearest), set())
+            self.assertLessEqual({BLACK, WHITE}, set(floyd))
+
+    def test_colours_at_the_rim_are_moved_outwards(self) -> None:
+        # By a quarter of how far each is from the mean of its four nearest; by a step where that is
+        # less, and not at all below half a step. None leaves the DAC's steps.
+        hold(
+            self,
+            lambda *reds: [red for red, *_ in spread_colours([(red, 9, 9) for red in reds])],
+            (
+                (10, 20, 30, 40, 50, [4, 17, 30, 43, 56]),
+                (20, 21, 22, 23, 24, [19, 20, 22, 24, 25]),
+                (0, 1, [0, 2]),
+                (61, 63, [60, 63]),
+                (5, [5]),
+            ),
+        )
+        middle = [(20, 20, 20), (24, 20, 20), (16, 20, 20), (20, 24, 20), (20, 16, 20)]
+        self.assertIn((20, 20, 20), spread_colours(middle))
+        self.assertIn((25, 20, 20), spread_colours(middle))
+
+    def test_the_dither_of_floyd_shows_what_lies_between_two_steps(self) -> None:
+        # Five sixteenths of the dots of an area are of the next step, in each way to work it out.
+        colours = [(30, 30, 30), (31, 31, 31)]
+        for size in (32, 128):
+            dots = [[(16 * 30 + 5,) * 3] * size] * size
+            made = b"".join(WAYS[Fewer.FLOYD](dots, colours))  # type: ignore[arg-type]
+            self.assertAlmostEqual(made.count(1) / size**2, 5 / 16, delta=0.01)
+        values = bytes([0, 1, 2, 127, 128, 255])
+        image = Image(2, 1, (values,), 255)
+        self.assertEqual(fine(image), [[(0, 4, 8), (502, 506, 1008)]])
+        self.assertEqual(fine(Image(1, 1, (b"\0\1\x3f",), 63)), [[(0, 16, 1008)]])
+
+    def test_an_image_of_eight_bits_is_dithered_by_all_of_them(self) -> None:
+        # Each eight rows have a green of their own: the low bits of most are lost in six.
+        lines = (
+            b"\0" + b"".join(bytes([64 + x // 4, 90 + y // 8, 120]) for x in range(320))
+            for y in range(200)
+        )
+        image = png(320, 200, b"".join(lines))
+        with tempfile.TemporaryDirectory() as folder:
+            path = Path(folder, "p.png")
+            made_of(image, "--mode", "0D", "--dither", "floyd", "--picture", str(path))
+            rows = png_rows(path.read_bytes())[2]
+        greens = [sum(b"".join(row[1::3] for row in rows[y : y + 16])) for y in range(0, 400, 16)]
+        off = [abs(green / (16 * 320) - 90 - at) for at, green in enumerate(greens)]
+        self.assertLess(max(off[3:-3]), 0.5)
+
 
     def test_dithers_keep_how_bright_an_area_is(self) -> None:
         dots = [[(x // 2, x // 2, x // 2) for x in range(128)] for _ in range(16)]

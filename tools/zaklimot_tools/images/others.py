@@ -48,12 +48,17 @@ def size_of(image: Any) -> tuple[int, int]:
     )
 
 
-def rows_of(image: Any, name: str) -> tuple[bytes, ...]:
-    """The rows of an image that stands upright, three bytes a dot."""
-    from PIL import ImageOps
+def rows_of(image: Any, name: str, ground: Optional[bytes] = None) -> tuple[bytes, ...]:
+    """The rows of an image that stands upright, three bytes a dot; where it is transparent, over a
+    ground."""
+    from PIL import Image, ImageOps
 
     try:
-        made = ImageOps.exif_transpose(image).convert("RGB")
+        made = ImageOps.exif_transpose(image)
+        if ground is not None and ("A" in made.getbands() or "transparency" in made.info):
+            made = made.convert("RGBA")
+            made = Image.alpha_composite(Image.new("RGBA", made.size, (*ground, 255)), made)
+        made = made.convert("RGB")
         dots = made.tobytes()
     except (OSError, ValueError, SyntaxError, EOFError) as error:
         raise Trouble(f"pillow can't read it: {told(error)}", name) from error

@@ -144,7 +144,7 @@ def spread_colours(colours: Sequence[Colour]) -> list[Colour]:
     for colour in colours:
         near = sorted((distance(colour, one), one) for one in colours if one != colour)[:AROUND]
         red, green, blue = (
-            _clamped(value + _away(sum(value - one[part] for _, one in near), len(near)))
+            _clamped(value + _away(sum(value - one[part] for _, one in near), len(near) or 1))
             for part, value in enumerate(colour)
         )
         moved.add((red, green, blue))

@@ -40,8 +40,9 @@ def _drawn(words: argparse.Namespace, progress: Progress) -> tuple[Drawn, str]:
         )
     data = image_bytes(words.image)
     check_size(size_of(data, name), mode, words.fit, name)
-    image = image_of(data, name, MOST_DOTS)
-    image, size = fitted(image, mode, words.fit, words.bars or bytes(3), name)
+    bars = words.bars or bytes(3)
+    image = image_of(data, name, MOST_DOTS, words.ground or bars)
+    image, size = fitted(image, mode, words.fit, bars, name)
     rows = six_bits(image)
     count = len(set(chain.from_iterable(rows)))
     # A dither keeps how bright areas are: those of the six high bits are darker.

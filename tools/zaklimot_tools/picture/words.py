@@ -33,6 +33,8 @@ def _add_sizes(parser: argparse.ArgumentParser) -> None:
     add(sizes, "--fit", told, const=Fit.FIT, **constant)
     told = "the colour of the bars of --fit, eight bits a component (default: black)"
     add(parser, "--bars RRGGBB", told, type=colour)
+    told = "the colour behind what is transparent (default: that of --bars)"
+    add(parser, "--ground RRGGBB", told, type=colour)
     told = "--bars is the colour of the bars that --fit makes"
     rule(parser, "bars", lambda words: words.fit is not Fit.FIT, told)
     parser.set_defaults(fit=Fit.EXACT)
