@@ -136,6 +136,25 @@ class Beside(Folder):
         done = self.read("one.png", png(1, 1, bytes(4), interlace=1), "--mode", "13", "--scale")
         self.assertEqual((done[0], done[2]), (0, ""))
 
+    def test_what_is_transparent_in_another_format(self) -> None:
+        # A PNG of dots with their alpha, without interlace and with it, which Pillow reads.
+        chance = random.Random(4)
+        lines = b"\0" + chance.randbytes(4 * 320)
+        drawn = []
+        for interlace, height in ((0, 200), (1, 1)):
+            # Of one row, the seven passes are these columns.
+            data = lines if interlace == 0 else b""
+            for first, step in ((0, 8), (4, 8), (2, 4), (1, 2)) if interlace else ():
+                data += b"\0" + b"".join(
+                    lines[1 + 4 * x : 5 + 4 * x] for x in range(first, 320, step)
+                )
+            image = self.write("i.png", png(320, 1, data, colour=6, interlace=interlace))
+            words = ("--mode", "13", "--scale", "--ground", "64C800", "--nearest")
+            done = ended(str(BOTH), TOOL, "script", image, self.folder / "o.vga", *words)
+            self.assertEqual((done[0], done[2]), (0, ""))
+            drawn.append((self.folder / "o.vga").read_bytes())
+        self.assertEqual(drawn[0], drawn[1])
+
     def test_a_picture_against_another_format(self) -> None:
         dots = photo(9, 5, 4)
         dark = b"".join(bytes(value >> 2 for value in dot) for row in dots for dot in row)

@@ -18,7 +18,19 @@ from zaklimot_tools.images.png import MARK, Shape, chunk, write_png
 from zaklimot_tools.images.reading import image_of
 
 from .test_command import PICTURE, run
-from .tools import BLACK, RED, TOP, WHITE, Folder, ended, hold, png_chunks, png_rows, ppm
+from .tools import (
+    BLACK,
+    RED,
+    TOP,
+    WHITE,
+    Folder,
+    ended,
+    hold,
+    png_chunks,
+    png_rows,
+    ppm,
+    refused,
+)
 
 
 GREY = b"\x15\x15\x15"
@@ -42,12 +54,14 @@ def png(
     colour: int = 2,
     palette: bytes = b"",
     interlace: int = 0,
+    clear: bytes = b"",
 ) -> bytes:
     """A PNG of lines that have their filters."""
     head = struct.pack(">IIBBBBB", width, height, depth, colour, 0, 0, interlace)
     parts = [
         chunk(b"IHDR", head),
         chunk(b"PLTE", palette) if palette else b"",
+        chunk(b"tRNS", clear) if clear else b"",
         chunk(b"IDAT", zlib.compress(lines)),
     ]
     return b"\x89PNG\r\n\x1a\n" + b"".join(parts) + chunk(b"IEND", b"")
@@ -310,6 +324,45 @@ class Images(unittest.TestCase):
                 (3, 720, 400, (2160, 1620)),
             ],
         )
+
+    def test_what_is_transparent_shows_the_ground(self) -> None:
+        # A ground of 100, 200 and 0; half of FF and half of it are B2, E4 and 80.
+        ground, half, white = b"\x64\xc8\0", b"\xb2\xe4\x80", b"\xff\xff\xff"
+        palette = b"\xff\xff\xff\1\2\3"
+        for data, wanted in (
+            (
+                png(3, 1, b"\0" + b"".join(white + bytes([much]) for much in (0, 128, 255)), colour=6),
+                ground + half + white,
+            ),
+            (png(3, 1, b"\0\xff\0\xff\x80\xff\xff", colour=4), ground + half + white),
+            (png(2, 1, b"\0\xff\xff\0\0\0\0\xff\xff", depth=16, colour=4), ground + bytes(3)),
+            # Entries behind those that are listed are opaque.
+            (
+                png(2, 1, b"\0\0\1", colour=3, palette=palette, clear=b"\x80"),
+                half + b"\1\2\3",
+            ),
+            # One grey or one colour is clear: in two bytes the whole of it, in few bits as listed.
+            (png(2, 1, b"\0\x10", depth=4, colour=0, clear=b"\0\1"), ground + bytes(3)),
+            (png(2, 1, b"\0\x80\x81", colour=0, clear=b"\0\x80"), ground + b"\x81" * 3),
+            (
+                png(2, 1, b"\0\1\2\3\1\2\4", clear=b"\0\1\0\2\0\3"),
+                ground + b"\1\2\4",
+            ),
+            (
+                png(2, 1, b"\0\1\2\1\3", depth=16, colour=0, clear=b"\1\3"),
+                b"\1\1\1" + ground,
+            ),
+            (png(1, 1, b"\0\1\2\3"), b"\1\2\3"),
+        ):
+            with self.subTest(data[25:]):
+                self.assertEqual(image_of(data, "i", ground=ground).rows, (wanted,))
+        # Without a ground transparency doesn't count.
+        data = png(1, 1, b"\0\1\2\3\0", colour=6)
+        self.assertEqual(image_of(data, "i").rows, (b"\1\2\3",))
+        for colour, clear in ((0, b"\1"), (2, b"\0\1"), (3, bytes(257)), (6, bytes(9))):
+            data = png(1, 1, bytes(5), colour=colour, palette=palette, clear=clear)
+            told = refused(image_of, data[:-4] if colour == 6 else data, "i", 9, ground)
+            self.assertEqual(told, "i: the PNG is damaged")
 
     def test_forms_of_png(self) -> None:
         red, white = b"\xff\x00\x00", b"\xff\xff\xff"

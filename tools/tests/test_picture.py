@@ -345,6 +345,21 @@ class Drawing(Folder):
                     f"frame ; = picture {picture.size} {picture.sum}",
                 )
 
+    def test_the_ground_behind_what_is_transparent(self) -> None:
+        # The left half is red, and the right half clear: it has the ground, else the bars' colour.
+        line = b"\0" + b"\xff\0\0\xff" * 160 + b"\0\xff\0\0" * 160
+        image = png(320, 200, line * 200, colour=6)
+        for words, ground in (
+            ([], bytes(3)),
+            (["--fit", "--bars", "0000FC"], b"\0\0\xff"),
+            (["--ground", "#FC00fC"], b"\xff\0\xff"),
+            (["--fit", "--bars", "0000FC", "--ground", "FCFCFC"], b"\xff\xff\xff"),
+        ):
+            path = self.folder / "p.png"
+            made_of(image, "--mode", "13", "--picture", str(path), *words)
+            rows = png_rows(path.read_bytes())[2]
+            self.assertEqual(set(rows), {b"\xff\0\0" * 320 + ground * 320})
+
     def test_bytes_are_the_same_script(self) -> None:
         image = png_of(some_dots(320, 200, 16))
         for words, version in (("--mode 0D --short", b"\2"), ("--mode 13", b"\1")):
@@ -462,19 +477,15 @@ class Colours(unittest.TestCase):
             far = [distance(dot, colour) for colour in colours]
             self.assertEqual(nearest(dot), far.index(min(far)))
 
-    def test_a_dither_has_the_outermost_colours_where_it_needs_them(self) -> None:
-        # Four greys in the middle of others leave none for the ends; of twelve the outermost ones
-        # are near enough, once they are moved outwards.
+    def test_the_dither_of_floyd_has_the_outermost_colours(self) -> None:
+        # Greys in the middle of others leave none for the ends; moved outwards they reach them.
         dots = [[(x // 2, x // 2, x // 2) for x in range(128)] for _ in range(64)]
-        counts = Counter(chain.from_iterable(dots))
         for most in (4, 12):
             floyd, nearest, ordered = (
                 sorted(indexed(dots, most, way, "i")[0].colours)
                 for way in (Fewer.FLOYD, Fewer.NEAREST, Fewer.ORDERED)
             )
-            outer = outer_colours(counts, most)
-            self.assertEqual(floyd, spread_colours(nearest))
-            self.assertEqual(ordered, outer if most == 4 else nearest)
+            self.assertEqual((floyd, ordered), (spread_colours(nearest), nearest))
             self.assertEqual({BLACK, WHITE} & set(nearest), set())
             self.assertLessEqual({BLACK, WHITE}, set(floyd))
 
