@@ -109,7 +109,8 @@ class Machine:
 
     def _pages(self, told: bytes) -> Iterator[str]:
         """The pages that are shown: that of the checks, and those of the answers."""
-        parts = [self.answers[at : at + PAGE] for at in range(0, len(self.answers), PAGE)] or [b""]
+        parts = [self.answers[at : at + PAGE] for at in range(0, len(self.answers), PAGE)]
+        parts = parts or [bytearray()]
         checks = b"".join(map(check_of, parts))
         rows = [row(0xFFFF, told)]
         for at in range(0, len(checks), ROW):

@@ -199,9 +199,9 @@ class Screens(Folder):
         booted = machine(writes.encode())
         image = self.write("image", booted.image)
         for number, page in enumerate(booted.pages):
-            words = (BOTH, "-c", DRAWING, FONTS, self.folder / f"{number}.png")
+            words = (str(BOTH), "-c", DRAWING, FONTS, self.folder / f"{number}.png")
             self.assertEqual(ended(*words, input=page), (0, "", ""))
-        read = (BOTH, TOOLS / "vga-floppy", "read", image)
+        read = (str(BOTH), TOOLS / "vga-floppy", "read", image)
         pages = [f"--pages={self.folder}/{number}.png" for number in range(len(booted.pages))]
         self.assertEqual(len(pages), 3)
         self.assertEqual(ended(*read, *pages), ended(*read))

@@ -599,10 +599,11 @@ class PagesOfAnswers(Folder):
 
     def test_without_tesseract(self) -> None:
         path = self.write("one.png", b"\x89PNG\0")
+        told = "it is not in the path: install the package tesseract-ocr"
         with mock.patch.dict(os.environ, PATH=str(self.folder)):
             self.assertEqual(
                 self.read("--pages", path),
-                (2, b"", "vga-floppy: tesseract: it is not in the path: install the package tesseract-ocr\n"),
+                (2, b"", f"vga-floppy: tesseract: {told}\n"),
             )
 
 

@@ -350,13 +350,13 @@ class Drawing(Folder):
         line = b"\0" + b"\xff\0\0\xff" * 160 + b"\0\xff\0\0" * 160
         image = png(320, 200, line * 200, colour=6)
         for words, ground in (
-            ([], bytes(3)),
-            (["--fit", "--bars", "0000FC"], b"\0\0\xff"),
-            (["--ground", "#FC00fC"], b"\xff\0\xff"),
-            (["--fit", "--bars", "0000FC", "--ground", "FCFCFC"], b"\xff\xff\xff"),
+            ("", bytes(3)),
+            ("--fit --bars 0000FC", b"\0\0\xff"),
+            ("--ground #FC00fC", b"\xff\0\xff"),
+            ("--fit --bars 0000FC --ground FCFCFC", b"\xff\xff\xff"),
         ):
             path = self.folder / "p.png"
-            made_of(image, "--mode", "13", "--picture", str(path), *words)
+            made_of(image, "--mode", "13", "--picture", str(path), *words.split())
             rows = png_rows(path.read_bytes())[2]
             self.assertEqual(set(rows), {b"\xff\0\0" * 320 + ground * 320})
 
@@ -512,7 +512,7 @@ class Colours(unittest.TestCase):
         colours = [(30, 30, 30), (31, 31, 31)]
         for size in (32, 128):
             dots = [[(16 * 30 + 5,) * 3] * size] * size
-            made = b"".join(WAYS[Fewer.FLOYD](dots, colours))  # type: ignore[arg-type]
+            made = b"".join(WAYS[Fewer.FLOYD](dots, colours))
             self.assertAlmostEqual(made.count(1) / size**2, 5 / 16, delta=0.01)
         values = bytes([0, 1, 2, 127, 128, 255])
         image = Image(2, 1, (values,), 255)

@@ -35,7 +35,8 @@ complete -c vga-floppy -n '__vga_floppy_command make' -l disk -d 'writes a parti
 complete -c vga-floppy -n '__vga_floppy_command make' -F
 complete -c vga-floppy -n '__vga_floppy_command read' -s h -l help -d 'show this help message and exit'
 complete -c vga-floppy -n '__vga_floppy_command read' -l serial -d 'FILE is what came over the serial port'
-complete -c vga-floppy -n '__vga_floppy_command read' -l part -d 'takes a record that ends too early: gives the report up to there'
+complete -c vga-floppy -n '__vga_floppy_command read' -l pages -x -a '(__fish_complete_path)' -d 'takes the answers from pages that the machine has shown: a photograph, a text of their rows, or a folder of these; may be repeated. FILE is the image that it ran'
+complete -c vga-floppy -n '__vga_floppy_command read' -l part -d 'takes a record or pages that end too early: gives the report up to there'
 complete -c vga-floppy -n '__vga_floppy_command read' -l all-registers -d 'tells all registers that a call leaves, and not only those in which the service answers'
 complete -c vga-floppy -n '__vga_floppy_command read' -F
 complete -c vga-floppy -n '__vga_floppy_command run' -s h -l help -d 'show this help message and exit'

@@ -35,6 +35,7 @@ complete -c vga-picture -n '__vga_picture_command script' -l short -d 'makes a s
 complete -c vga-picture -n '__vga_picture_command script' -l scale -d 'stretches an image of another size'
 complete -c vga-picture -n '__vga_picture_command script' -l fit -d 'the same, but it keeps its shape on the screen, between bars'
 complete -c vga-picture -n '__vga_picture_command script' -l bars -x -d 'the colour of the bars of --fit, eight bits a component (default: black)'
+complete -c vga-picture -n '__vga_picture_command script' -l ground -x -d 'the colour behind what is transparent (default: that of --bars)'
 complete -c vga-picture -n '__vga_picture_command script' -l nearest -d 'if there are too many colours: takes the nearest of the chosen ones'
 complete -c vga-picture -n '__vga_picture_command script' -l dither -x -a 'floyd ordered' -d 'does the same, but mixes them: by Floyd and Steinberg, or by a pattern of four by four dots'
 complete -c vga-picture -n '__vga_picture_command script' -l fonts -x -k -a '(__vga_picture_files .fnt)' -d 'uses this font file for text (default: the project\'s)'

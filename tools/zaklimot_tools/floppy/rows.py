@@ -100,8 +100,9 @@ class Pages:
             raise Trouble(f"{place}: the row is none that a machine shows")
         is_known = True
         if number == ROW_OF_ALL:
-            is_known = self.all in (None, ALL.unpack(data))
-            self.all = ALL.unpack(data)
+            length, total, check = ALL.unpack(data)
+            is_known = self.all in (None, (length, total, check))
+            self.all = length, total, check
         elif number > ROW_OF_CHECKS:
             pages = enumerate((check for (check,) in struct.iter_unpack(">H", data)), number)
             is_known = all(self.checks.setdefault(page, check) == check for page, check in pages)
@@ -182,7 +183,7 @@ def few(told: Sequence[str]) -> str:
 
 def files_of(paths: Iterable[str]) -> list[str]:
     """The files that are named, and those of folders in the order of their names."""
-    found = []
+    found: list[str] = []
     for path in map(Path, paths):
         inner = sorted(one for one in path.iterdir() if one.is_file()) if path.is_dir() else [path]
         found += map(str, inner)

@@ -13,8 +13,6 @@ LEFT_OUT = ("EPS",)
 # Where a photo tells how the camera was held, and what it tells of one that lies on its side.
 ORIENTATION = 0x0112
 ON_ITS_SIDE = range(5, 9)
-# Pillow's number of the way in which it makes sizes: a smaller dot is the mean of all that it covers.
-BICUBIC = 3
 
 
 def pillow() -> Optional[Any]:
@@ -57,7 +55,7 @@ def rows_of(image: Any, name: str, ground: Optional[bytes] = None) -> tuple[byte
         made = ImageOps.exif_transpose(image)
         if ground is not None and ("A" in made.getbands() or "transparency" in made.info):
             made = made.convert("RGBA")
-            made = Image.alpha_composite(Image.new("RGBA", made.size, (*ground, 255)), made)
+            made = Image.alpha_composite(Image.new("RGBA", made.size, (ground[0], ground[1], ground[2], 255)), made)
         made = made.convert("RGB")
         dots = made.tobytes()
     except (OSError, ValueError, SyntaxError, EOFError) as error:
@@ -76,7 +74,7 @@ def dark_on_white(image: Any, widths: Sequence[int], name: str) -> Iterator[byte
     except (OSError, ValueError, SyntaxError, EOFError) as error:
         raise Trouble(f"pillow can't read it: {told(error)}", name) from error
     for width in widths:
-        sized = grey.resize((width, max(1, grey.height * width // grey.width)), BICUBIC)
+        sized = grey.resize((width, max(1, grey.height * width // grey.width)))
         with io.BytesIO() as stream:
             ImageOps.invert(ImageOps.autocontrast(sized, cutoff=1)).save(stream, "PNG")
             yield stream.getvalue()

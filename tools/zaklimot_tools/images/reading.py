@@ -7,7 +7,7 @@ import struct
 import zlib
 from collections import defaultdict
 from contextlib import suppress
-from typing import Any, Callable, Iterator, NamedTuple, Sequence
+from typing import Any, Callable, Iterator, NamedTuple, Optional, Sequence
 
 from zaklimot.format import Picture
 from zaklimot_tools.core.streams import read_at_most
