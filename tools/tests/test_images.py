@@ -331,7 +331,12 @@ class Images(unittest.TestCase):
         palette = b"\xff\xff\xff\1\2\3"
         for data, wanted in (
             (
-                png(3, 1, b"\0" + b"".join(white + bytes([much]) for much in (0, 128, 255)), colour=6),
+                png(
+                    3,
+                    1,
+                    b"\0" + b"".join(white + bytes([much]) for much in (0, 128, 255)),
+                    colour=6,
+                ),
                 ground + half + white,
             ),
             (png(3, 1, b"\0\xff\0\xff\x80\xff\xff", colour=4), ground + half + white),

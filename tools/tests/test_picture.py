@@ -534,7 +534,6 @@ class Colours(unittest.TestCase):
         off = [abs(green / (16 * 320) - 90 - at) for at, green in enumerate(greens)]
         self.assertLess(max(off[3:-3]), 0.5)
 
-
     def test_dithers_keep_how_bright_an_area_is(self) -> None:
         dots = [[(x // 2, x // 2, x // 2) for x in range(128)] for _ in range(16)]
         errors = {}

@@ -61,9 +61,7 @@ def word_of(number: int) -> str:
 
 def number_of(word: str) -> int:
     """The number of a word, which is one."""
-    return sum(
-        letters.index(letter) << shift for (shift, letters), letter in zip(SHIFTS, word)
-    )
+    return sum(letters.index(letter) << shift for (shift, letters), letter in zip(SHIFTS, word))
 
 
 def row_of(number: int, data: bytes) -> str:

@@ -55,7 +55,9 @@ def rows_of(image: Any, name: str, ground: Optional[bytes] = None) -> tuple[byte
         made = ImageOps.exif_transpose(image)
         if ground is not None and ("A" in made.getbands() or "transparency" in made.info):
             made = made.convert("RGBA")
-            made = Image.alpha_composite(Image.new("RGBA", made.size, (ground[0], ground[1], ground[2], 255)), made)
+            made = Image.alpha_composite(
+                Image.new("RGBA", made.size, (ground[0], ground[1], ground[2], 255)), made
+            )
         made = made.convert("RGB")
         dots = made.tobytes()
     except (OSError, ValueError, SyntaxError, EOFError) as error:

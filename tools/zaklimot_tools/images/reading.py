@@ -123,9 +123,7 @@ def _pillow(name: str, told: str = "this is neither a PNG nor a PPM of the kind 
     return found
 
 
-def _other(
-    data: bytes, name: str, most: int, ground: Optional[bytes], told: str = ""
-) -> Image:
+def _other(data: bytes, name: str, most: int, ground: Optional[bytes], told: str = "") -> Image:
     module = _pillow(name, told) if told else _pillow(name)
     image = others.opened(module, data, name)
     width, height = others.size_of(image)
@@ -222,13 +220,15 @@ class Clear:
         opaque = self._opaque(line, samples)
         if not opaque or min(opaque) == 255:
             return row
-        return _spread([
-            bytes(
-                (2 * (value * much + ground * (255 - much)) + 255) // 510
-                for value, much in zip(row[part::3], opaque)
-            )
-            for part, ground in enumerate(self._ground)
-        ])
+        return _spread(
+            [
+                bytes(
+                    (2 * (value * much + ground * (255 - much)) + 255) // 510
+                    for value, much in zip(row[part::3], opaque)
+                )
+                for part, ground in enumerate(self._ground)
+            ]
+        )
 
     def _opaque(self, line: bytes, samples: bytes) -> bytes:
         """How opaque each dot of a row is; empty where all are."""
@@ -242,9 +242,7 @@ class Clear:
             scale = 255 // ((1 << self._depth) - 1)
             dots, key = samples, bytes(value * scale & 255 for value in self._key[1::2])
         size = len(key)
-        return bytes(
-            0 if dots[at : at + size] == key else 255 for at in range(0, len(dots), size)
-        )
+        return bytes(0 if dots[at : at + size] == key else 255 for at in range(0, len(dots), size))
 
 
 def _unfiltered(lines: bytes, length: int, back: int, name: str) -> Iterator[bytes]:
