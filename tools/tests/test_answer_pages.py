@@ -10,7 +10,7 @@ from pathlib import Path
 from unittest import mock
 
 from zaklimot_tools.explain.faults import script_of
-from zaklimot_tools.floppy import image as images, rows
+from zaklimot_tools.floppy import rows
 from zaklimot_tools.floppy.image import image_for
 
 from .floppy import Machine, machine, row
