@@ -145,6 +145,15 @@ class PagesOfAnswers(Folder):
         self.assertEqual(len(self.reports()), 2)
         self.assertRegex(told.read_text(), "^stdin stdout --psm 6 .*=abdfghijklmnoprstuvz ")
 
+    def test_what_tesseract_can_not_read(self) -> None:
+        path = self.write("one.png", b"\x89PNG\0")
+        program = self.program("bin/tesseract", "#!/bin/sh\necho 'no such\n  image' >&2\nexit 1")
+        folders = f"{Path(program).parent}:{os.environ['PATH']}"
+        with mock.patch.dict(os.environ, PATH=folders):
+            done = self.read("--pages", path)
+        told = f"vga-floppy: {path}: tesseract can't read it: no such image\n"
+        self.assertEqual(done, (2, b"", told))
+
     def test_without_tesseract(self) -> None:
         path = self.write("one.png", b"\x89PNG\0")
         told = "it is not in the path: install the package tesseract-ocr"

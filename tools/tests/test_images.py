@@ -361,9 +361,11 @@ class Images(unittest.TestCase):
         ):
             with self.subTest(data[25:]):
                 self.assertEqual(image_of(data, "i", ground=ground).rows, (wanted,))
-        # Without a ground transparency doesn't count.
+
+    def test_transparency_without_a_ground_or_damaged(self) -> None:
         data = png(1, 1, b"\0\1\2\3\0", colour=6)
         self.assertEqual(image_of(data, "i").rows, (b"\1\2\3",))
+        palette, ground = bytes(6), bytes(3)
         for colour, clear in ((0, b"\1"), (2, b"\0\1"), (3, bytes(257)), (6, bytes(9))):
             data = png(1, 1, bytes(5), colour=colour, palette=palette, clear=clear)
             told = refused(image_of, data[:-4] if colour == 6 else data, "i", 9, ground)

@@ -14,7 +14,7 @@ from dataclasses import dataclass, field
 from pathlib import Path
 from typing import Any, Iterable, Iterator, Optional, Sequence
 
-from zaklimot_tools.core.processes import ended_well
+from zaklimot_tools.core.processes import captured, check_program
 from zaklimot_tools.core.streams import counted, read_at_most
 from zaklimot_tools.core.trouble import Trouble
 from zaklimot_tools.images import others
@@ -50,6 +50,8 @@ SETTINGS = {
     "load_system_dawg": "0",
     "load_freq_dawg": "0",
 }
+# So much of what it says at last is told.
+MOST_SAID = 200
 # So many places of what is missing or damaged are told.
 MOST_TOLD = 8
 
@@ -207,7 +209,7 @@ def _read_picture(data: bytes, path: str) -> Pages:
     pages = Pages()
     for picture in _pictures(data, path):
         seen = Pages()
-        seen.add(_seen(picture), path)
+        seen.add(_seen(picture, path), path)
         pages.join(seen)
         pages.damaged = seen.damaged
         if seen.count and not seen.damaged:
@@ -228,8 +230,12 @@ def _pictures(data: bytes, path: str) -> Iterator[bytes]:
     yield data
 
 
-def _seen(picture: bytes) -> str:
+def _seen(picture: bytes, path: str) -> str:
+    check_program(TESSERACT)
     settings = (word for setting in SETTINGS.items() for word in ("-c", "=".join(setting)))
     given: dict[str, Any] = {"given": picture, "environment": {"OMP_THREAD_LIMIT": "1"}}
-    done = ended_well([*READER, *settings], seconds=SECONDS, **given)
+    done = captured([*READER, *settings], seconds=SECONDS, **given)
+    if done.status:
+        told = " ".join(done.said().split())[-MOST_SAID:]
+        raise Trouble(f"tesseract can't read it: {told or 'it said nothing'}", path)
     return done.output.decode("utf-8", "replace")
