@@ -66,7 +66,7 @@ class Arrays:
         of those that lie two to the left in the next row: they are worked out together. In arrays
         of rows such dots are a fixed number of places apart.
         """
-        dots = self._dots(rows)
+        dots = self._fine_dots(rows)
         chosen = self._array(colours)
         height, width = dots.shape[:2]
         # Around the dots stand places of no error: above, to the left, and two to the right.
@@ -129,6 +129,11 @@ class Arrays:
         return far.argmin(axis=1)
 
     def _dots(self, rows: Sequence[Sequence[Sequence[int]]]) -> "numpy.ndarray":
+        flat = bytes(chain.from_iterable(chain.from_iterable(rows)))
+        return numpy.frombuffer(flat, numpy.uint8).reshape(len(rows), -1, 3).astype(numpy.int32)
+
+    def _fine_dots(self, rows: Sequence[Sequence[Sequence[int]]]) -> "numpy.ndarray":
+        """The same of dots that take more than a byte for a component, in more time."""
         flat = chain.from_iterable(chain.from_iterable(rows))
         return numpy.fromiter(flat, numpy.int32).reshape(len(rows), -1, 3)
 

@@ -335,8 +335,11 @@ def fine(image: Image) -> list[list[Colour]]:
     """The dots of an image in sixteenths of the DAC's steps."""
     most = image.most
     table = [(2 * MOST * FINE * value + most) // (2 * most) for value in range(most + 1)]
-    rows = ([table[value] for value in row] for row in image.rows)
-    return [list(zip(row[::3], row[1::3], row[2::3])) for row in rows]
+    found = table.__getitem__
+    return [
+        list(zip(map(found, row[::3]), map(found, row[1::3]), map(found, row[2::3])))
+        for row in image.rows
+    ]
 
 
 def _clamped(value: int, most: int = MOST) -> int:
