@@ -6,6 +6,7 @@ use Rattle.vga_crtc.specs.Crtc.{CrtcState}
 use Rattle.vga_attr.specs.Attr.{AttrState}
 use Rattle.vga_dots.specs.declared.character.TextCharacters.{TextCharacters}
 use Rattle.vga_dots.specs.declared.character.CellLook.{CellLook}
+use Rattle.vga_dots.specs.declared.eight_dots.EightDots.{EightDots}
 use Rattle.vga_dots.specs.declared.text.Cell.{Cell}
 use Rattle.vga_dots.specs.declared.character.PlanarCharacters.{PlanarCharacters}
 use Rattle.vga_dots.specs.declared.character.PackedCharacters.{PackedCharacters}
@@ -35,14 +36,19 @@ cursorless_nibble c a cell is_glyph =
 abbrev pub cell_of : ℕ → ℕ → Cell
 cell_of attribute character = record { character = character; attribute = attribute }
 
--- without the cursor, each cell of the attribute has these colours and these glyphs
-pub record IsLookOfItsCells (look : CellLook) (display : DisplayState) : Type 0 where
-  pub glyph : (character : ℕ) → AreEightDotsOfColour (changed_dots look.ground look.change)
+-- without the cursor, each cell of the attribute has eight dots of the ground, which the change turns
+-- into eight dots of its glyph
+pub record AreDotsOfCells (attribute : ℕ) (dots change : EightDots) (display : DisplayState) : Type 0 where
+  pub glyph : (character : ℕ) → AreEightDotsOfColour (changed_dots dots change)
       (colour_by_palette display.attr display.dac
-      (cursorless_nibble display.crtc display.attr (cell_of look.attribute character) true))
-  pub ground : (character : ℕ) → AreEightDotsOfColour look.ground (colour_by_palette display.attr
+      (cursorless_nibble display.crtc display.attr (cell_of attribute character) true))
+  pub ground : (character : ℕ) → AreEightDotsOfColour dots (colour_by_palette display.attr
       display.dac
-      (cursorless_nibble display.crtc display.attr (cell_of look.attribute character) false))
+      (cursorless_nibble display.crtc display.attr (cell_of attribute character) false))
+
+-- without the cursor, each cell of the attribute has these dots and these glyphs
+pub record IsLookOfItsCells (look : CellLook) (display : DisplayState) : Type 0 where
+  pub dots : AreDotsOfCells look.attribute look.ground look.change display
   pub glyphs : (character : ℕ) → byte_at display.host.memory 2 (look.glyphs + 32 * character)
       ≡ glyph_row display.host (cell_of look.attribute character) display.crtc.beam.scan
   pub bound : look.glyphs ≤ 57375

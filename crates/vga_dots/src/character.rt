@@ -13,7 +13,7 @@ ghost use Rattle.vga_dots.specs.Line.{sixteen_palette_colours as colours_by_pale
 ghost use Rattle.vga_dots.specs.Line.{dot_of_counter};
 ghost use Rattle.vga_dots.specs.Line.{colour_of_source_dot};
 ghost use Rattle.vga_dots.specs.SourceDot.{fetch_address};
-ghost use Rattle.vga_dots.specs.Character.{IsLookOfItsCells};
+ghost use Rattle.vga_dots.specs.Character.{AreDotsOfCells, IsLookOfItsCells};
 ghost use Rattle.vga_dots.specs.EightDots.{AreEightDotsOfColour, AreGroundAndChange};
 ghost use Rattle.vga_dots.specs.TextColours.{AreTextColoursOf};
 ghost use Rattle.vga_dots.specs.Display.{ShowsText, ShowsPlanes};
@@ -24,7 +24,7 @@ use crate::display::Display;
 use crate::eight_dots::{EightDots, NO_CHANGE, put_glyph};
 use crate::row::{PaletteColours, put_packed_character, put_planar_character};
 use crate::text::{Cell, GLYPH_BYTES, PLANE_OF_GLYPHS, cell_at};
-use crate::text_colours::{TextColours, eight_dots_of};
+use crate::text_colours::{TextColours, text_colour};
 use crate::text_line::TextLineSettings;
 use vga_attr::Attr;
 use vga_dac::Dac;
@@ -171,23 +171,39 @@ impl TextCharacters {
         self.cell(display, counter).is_same(cell) && !self.line.has_cursor_at(counter)
     }
 
-    /// How the cells of an attribute look.
+    /// Eight dots of the ground of an attribute's cells without the cursor, and the bits in which
+    /// eight dots of their glyphs differ from it.
     #[inline(always)]
-    pub(crate) fn look(
+    pub(crate) fn dots_of_cells(
         &self,
         display: &Display<'_>,
         colours: &mut TextColours,
         attribute: u8,
-    ) -> CellLook
+    ) -> (EightDots, EightDots)
         requires text { AreTextCharactersOf self.now display.now }
         requires colours { AreTextColoursOf colours.old display.now }
-        ensures look { IsLookOfItsCells result display.now }
-        ensures attribute { result.attribute ≡ attribute }
+        ensures dots { AreDotsOfCells attribute result.0 result.1 display.now }
         ensures colours { AreTextColoursOf colours.new display.now }
     {
         let fore = colours.eight_dots(display, attribute % 16);
         let back = colours.eight_dots(display, self.line.background(attribute));
-        let (ground, change) = ground_and_change(&self.line, attribute, fore, back);
+        ground_and_change(&self.line, attribute, fore, back)
+    }
+
+    /// How the cells of an attribute look, which have this ground and this change.
+    #[inline(always)]
+    pub(crate) fn look(
+        &self,
+        display: &Display<'_>,
+        attribute: u8,
+        ground: EightDots,
+        change: EightDots,
+    ) -> CellLook
+        requires text { AreTextCharactersOf self.now display.now }
+        requires dots { AreDotsOfCells attribute ground change display.now }
+        ensures look { IsLookOfItsCells result display.now }
+        ensures attribute { result.attribute ≡ attribute }
+    {
         CellLook {
             attribute,
             ground,
@@ -217,7 +233,7 @@ impl TextCharacters {
             i)) row.old
             row.new }
     {
-        let fore = eight_dots_of(display, cell.attribute % 16);
+        let fore = text_colour(display, cell.attribute % 16);
         put_glyph::<CW>(row, at, ALL_DOTS, fore, NO_CHANGE);
     }
 

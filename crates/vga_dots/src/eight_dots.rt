@@ -71,6 +71,13 @@ fn repeated_bytes(first: u8, second: u8, third: u8) -> u64
     dot + 0x100_0000 * dot + 0x1_0000_0000_0000 * (dot % 0x1_0000)
 }
 
+/// Eight black dots.
+pub(crate) const BLACK_DOTS: EightDots = EightDots {
+    first: 0,
+    middle: 0,
+    last: 0,
+};
+
 /// The bits in which eight dots differ from themselves: none.
 pub(crate) const NO_CHANGE: EightDots = EightDots {
     first: 0,

@@ -9,9 +9,6 @@ use Rattle.vga_dots.proofs.RowLemmas.{characters_more}
 use Rattle.vga_dots.proofs.line.draw_cells.Goals as goal
 use Rattle.vga_dots.proofs.line.draw_cells.Goals.{then-cell-look, else-cell-look}
 
-pub look-look-requires-clause-looks : goal.look-look-requires-clause-looks
-look-look-requires-clause-looks g c = c.new-looks.ensures c.args.display.now
-
 pub loop-x-preserved : goal.loop-x-preserved
 loop-x-preserved g c =
     let d = c.args.display.now in
@@ -29,3 +26,6 @@ loop-x-preserved g c =
         | else-cell-look w ↦ subst (λ (looks : TextLooks). AreTextLooksOf looks d) (sym w.looks-is) c.loop-x.invariant.2
       ],
     )
+
+pub look-look-requires-clause-looks : goal.look-look-requires-clause-looks
+look-look-requires-clause-looks g c = c.new-looks.ensures c.args.display.now

@@ -1,44 +1,18 @@
--- Blinking and underline are those of the line, and so are the glyphs.
-use Rattle.std.proofs.Common.{◌+◌, ◌*◌, ◌==◌, ℕ, Bool, not, bit_and, arith, ap, refl, subst, sym}
-use Rattle.vga_bits.specs.Bits.{is_set, field}
-use Rattle.vga_dots.specs.Text.{background, is_blinked_away, is_underlined}
-use Rattle.vga_dots.specs.Line.{colour_by_palette}
-use Rattle.vga_dots.specs.EightDots.{AreEightDotsOfColour, AreGroundAndChange}
+-- The dots are those of its cells, and so are the glyphs.
+use Rattle.std.proofs.Common.{◌+◌, ◌*◌, ℕ, ap}
+use Rattle.vga_bits.specs.Bits.{is_set}
 use Rattle.vga_dots.specs.Character.{cell_of}
-use Rattle.vga_dots.proofs.CharacterLemmas.{glyph_colour, ground_colour, low}
-use Rattle.vga_dots.proofs.TextLineLemmas.{background_of, blinked_away, underlined, row_of_glyph, glyphs_bound}
+use Rattle.vga_dots.proofs.TextLineLemmas.{row_of_glyph, glyphs_bound}
 use Rattle.vga_dots.proofs.character.TextCharacters.look.Goals as goal
 
 pub returns-clause-look : goal.returns-clause-look
 returns-clause-look c =
     let d = c.args.display.now in
     let line = c.args.self.now.line in
-    let is = c.requires.text.line in
     let attribute = c.args.attribute in
-    let fore = c.eight_dots-fore.result in
-    let back = c.eight_dots-back.result in
-    let colour = colour_by_palette d.attr d.dac in
-    let is_fore = subst (λ (n : ℕ). AreEightDotsOfColour fore (colour n)) (low attribute) c.eight_dots-fore.ensures.dots in
-    let is_back : (character : ℕ) → AreEightDotsOfColour back (colour (background d.attr (cell_of attribute character))) =
-    λ character. subst (λ (n : ℕ). AreEightDotsOfColour back (colour n))
-    (background_of d.host d.crtc d.attr line is (cell_of attribute character) _ c.background.ensures.value) c.eight_dots-back.ensures.dots in
-    let dots = c.ground_and_change.result in
-    let chosen : (character : ℕ) → AreGroundAndChange dots (colour (field attribute 3 0)) (colour (background d.attr (cell_of attribute character)))
-    (is_blinked_away d.crtc d.attr (cell_of attribute character)) (is_underlined d.crtc d.attr (cell_of attribute character)) =
-    λ character. let cell = cell_of attribute character in
-    let f = colour (field attribute 3 0) in
-    let b = colour (background d.attr cell) in
-    let away = blinked_away d.host d.crtc d.attr line is cell _ (omega arith) refl in
-    let under = underlined d.host d.crtc d.attr line is cell _ refl in
-    subst (λ (v : Bool). AreGroundAndChange dots f b v (is_underlined d.crtc d.attr cell)) (sym away)
-    (subst (λ (v : Bool). AreGroundAndChange dots f b (not (bit_and attribute line.blinked_away == 0)) v) (sym under)
-    (c.ground_and_change.ensures f b is_fore (is_back character))) in
     record {
-      glyph = λ character. let cell = cell_of attribute character in
-          glyph_colour dots colour (field attribute 3 0) (background d.attr cell) (is_blinked_away d.crtc d.attr cell) (is_underlined d.crtc d.attr cell) (chosen character);
-      ground = λ character. let cell = cell_of attribute character in
-          ground_colour dots colour (field attribute 3 0) (background d.attr cell) (is_blinked_away d.crtc d.attr cell) (is_underlined d.crtc d.attr cell) (chosen character);
-      glyphs = λ character. row_of_glyph d.host d.crtc d.attr line is (cell_of attribute character) _
+      dots = c.requires.dots;
+      glyphs = λ character. row_of_glyph d.host d.crtc d.attr line c.requires.text.line (cell_of attribute character) _
           (ap (λ (g : ℕ). g + 32 * character) c.row_address_of_first_glyph.ensures);
       bound = glyphs_bound (is_set attribute 3) line.map_a line.map_b _ c.requires.text.glyphs.map_a c.requires.text.glyphs.map_b c.row_address_of_first_glyph.ensures;
     }

@@ -40,8 +40,8 @@ returns g c =
     let whole : cell_of look.attribute cell.character ≡ cell = λ j. cell_of (c.requires.attribute j) cell.character in
     let glyph = colour (cursorless_nibble d.crtc d.attr cell true) in
     let ground = colour (cursorless_nibble d.crtc d.attr cell false) in
-    let is_glyph = subst (λ (x : Cell). AreEightDotsOfColour (changed_dots look.ground look.change) (colour (cursorless_nibble d.crtc d.attr x true))) whole (c.requires.look.glyph cell.character) in
-    let is_ground = subst (λ (x : Cell). AreEightDotsOfColour look.ground (colour (cursorless_nibble d.crtc d.attr x false))) whole (c.requires.look.ground cell.character) in
+    let is_glyph = subst (λ (x : Cell). AreEightDotsOfColour (changed_dots look.ground look.change) (colour (cursorless_nibble d.crtc d.attr x true))) whole (c.requires.look.dots.glyph cell.character) in
+    let is_ground = subst (λ (x : Cell). AreEightDotsOfColour look.ground (colour (cursorless_nibble d.crtc d.attr x false))) whole (c.requires.look.dots.ground cell.character) in
     let byte : c.byte-byte.result ≡ glyph_row d.host cell scan =
     c.byte-byte.ensures ∙ ap (λ m. byte_at m 2 (look.glyphs + 32 * cell.character)) c.planes.ensures ∙ c.requires.look.glyphs cell.character
     ∙ ap (λ (x : Cell). glyph_row d.host x scan) whole in

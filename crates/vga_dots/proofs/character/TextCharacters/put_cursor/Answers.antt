@@ -18,9 +18,9 @@ returns g c =
     let colour = colour_by_palette d.attr d.dac in
     let shown = cell_at d.host (fetch_address d.crtc.registers n) in
     let fore = colour (field c.args.cell.attribute 3 0) in
-    let is_fore = subst (λ (m : ℕ). AreEightDotsOfColour c.eight_dots_of-fore.result (colour m)) (low c.args.cell.attribute) c.eight_dots_of-fore.ensures in
+    let is_fore = subst (λ (m : ℕ). AreEightDotsOfColour c.text_colour-fore.result (colour m)) (low c.args.cell.attribute) c.text_colour-fore.ensures in
     dots_alike g.row.CW c.args.at (λ i. if is_set 0x1FF (8 - i) then fore else fore) (λ i. colour_of_source_dot d (dot_of_counter n i)) c.args.row.now c.put_glyph.new.row
-    (c.put_glyph.ensures fore fore (unchanged c.eight_dots_of-fore.result fore is_fore) is_fore)
+    (c.put_glyph.ensures fore fore (unchanged c.text_colour-fore.result fore is_fore) is_fore)
     (λ i l. same_either (is_set 0x1FF (8 - i)) fore
     ∙ text_dot d n fore (colour (background d.attr shown)) true i c.requires.draws.shows (ap (λ (x : Cell). colour (field x.attribute 3 0)) c.requires.cell) refl
     (sym (by_cursor d.host d.crtc d.attr shown n i c.requires.cursor)))
