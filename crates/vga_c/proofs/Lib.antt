@@ -12,5 +12,6 @@ pub mod ScreenLemmas
 pub mod CardsMove
 pub mod ColourLemmas
 pub mod NumberLemmas
+pub mod AlikeLemmas
 pub mod UpdateLemmas
 pub mod LaneLemmas

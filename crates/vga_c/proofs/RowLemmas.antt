@@ -1,6 +1,6 @@
 -- The rows of a picture, each written after the one before, in any form.
 use Rattle.std.proofs.Common.{◌≡◌, ◌+◌, ◌-◌, ◌*◌, ◌<◌, ◌≤◌, ◌⊎◌, inl, inr, ◌∙◌, ℕ, List, length, sym, ap, subst, arith, eq-or-lt_of_le}
-use Rattle.std.proofs.Math.Nat.{mul-div-le}
+use Rattle.std.proofs.Math.Nat.{mul-div-le, mul-le-mul_left}
 use Rattle.std.proofs.lemmas.Nat.{mul-add-lt}
 use Rattle.std.specs.Prelude.{slice_index}
 use Rattle.std.specs.Int.Bits.{or_zero_l}
@@ -56,6 +56,13 @@ dot_within width height form is x y a b =
       mul-add-lt (form.down * y) width (form.across * x) height (every_below form.down height y is.some_down b)
           (every_below form.across width x is.some_across a),
     )
+
+-- the line of a row is one of the picture's
+pub line_within : (width height : ℕ) (form : Form) → IsForm form → (y : ℕ) → y < div_ceil height form.down →
+    3 * (width * (form.down * y + 1)) ≤ 3 * (width * height)
+line_within width height form is y b =
+    let below : form.down * y + 1 ≤ height = omega (arith, every_below form.down height y is.some_down b) in
+    omega (arith, mul-le-mul_left width below)
 
 -- ---- each dot of each line
 

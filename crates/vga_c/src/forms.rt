@@ -1,5 +1,5 @@
 //! Pictures as rows of words, in the form that the caller asks for.
-ghost use Rattle.std.specs.Prelude.{◌≡◌, ◌+◌, ◌*◌, ◌<◌, ◌≤◌, ℕ, length, slice_index, bit_or};
+ghost use Rattle.std.specs.Prelude.{◌≡◌, ◌+◌, ◌-◌, ◌*◌, ◌<◌, ◌≤◌, ℕ, length, slice_index, bit_or};
 ghost use Rattle.vga_card.specs.Frames.{IsPictureInBounds};
 ghost use Rattle.vga_card.specs.Picture.{most_dots_of_a_line, most_lines_of_a_frame};
 ghost use Rattle.vga_run.specs.Answer.{of_drawn};
@@ -12,6 +12,7 @@ ghost use Rattle.vga_c.specs.Forms.{widened_to_eight_bits as eight_bits_of};
 ghost use Rattle.vga_c.specs.Forms.{form_of as form_of_flags, form_word, DrawsFrameInForm, DrawsOpenCardInForm};
 ghost use Rattle.vga_c.specs.Forms.{HasPictureInForm, has_room as has_room_of};
 
+use crate::alike::are_bytes_known_same;
 use crate::handle::{Handle, on_open_card};
 use crate::status::{BAD_ARGUMENT, DONE, NO_ROOM, RAGGED};
 use std::alloc::Global;
@@ -99,6 +100,62 @@ pub(crate) fn has_room(width: usize, height: usize, pitch: usize, len: usize) ->
     }
 }
 
+/// Copies a row of `count` words to the row after it, which begins `pitch` words on, at `at`.
+fn repeat_row_of_words(pixels: &mut [u32], at: usize, pitch: usize, count: usize)
+    requires before { pitch ≤ at }
+    requires apart { count ≤ pitch }
+    requires room { at + count ≤ length pixels.old }
+    ensures words { (x : ℕ) → x < count → slice_index pixels.new (at + x)
+        ≡ slice_index pixels.old (at - pitch + x) }
+    ensures before { (i : ℕ) → i < at → slice_index pixels.new i ≡ slice_index pixels.old i }
+    ensures behind { (i : ℕ) → at + count ≤ i → slice_index pixels.new i ≡ slice_index pixels.old
+        i }
+    ensures size { length pixels.new ≡ length pixels.old }
+{
+    let (above, below) = pixels.split_at_mut(at);
+    let from = at - pitch;
+    below[..count].copy_from_slice(&above[from..from + count]);
+}
+
+/// Writes row y of the words of a picture in a form to the caller's, which have the rows before. A
+/// row whose line is the same as that of the row before it is copied from there.
+#[inline(always)]
+fn write_row(
+    bytes: &[u8],
+    width: u32,
+    form: Form,
+    count: usize,
+    pixels: &mut [u32],
+    pitch: usize,
+    y: usize,
+)
+    requires form { IsForm form }
+    requires count { count ≡ div_ceil_of width form.across }
+    requires width { width ≤ most_dots_of_a_line }
+    requires row { y < most_lines_of_a_frame }
+    requires dots { 3 * (width * (form.down * y + 1)) ≤ length bytes.now }
+    requires pitch { count ≤ pitch }
+    requires room { pitch * y + count ≤ length pixels.old }
+    requires before { 0 < y → (x : ℕ) → x < count → slice_index pixels.old (pitch * (y - 1) + x)
+        ≡ form_word form width bytes.now x (y - 1) }
+    ensures words { (x : ℕ) → x < count → slice_index pixels.new (pitch * y + x)
+        ≡ form_word form width bytes.now x y }
+    ensures before { (i : ℕ) → i < pitch * y → slice_index pixels.new i ≡ slice_index pixels.old
+        i }
+    ensures behind { (i : ℕ) → pitch * y + count ≤ i → slice_index pixels.new i
+        ≡ slice_index pixels.old i }
+    ensures size { length pixels.new ≡ length pixels.old }
+{
+    let dots = width as usize;
+    let down = form.down as usize;
+    let first = dots * (down * y);
+    if y > 0 && are_bytes_known_same(bytes, 3 * first, 3 * (dots * (down * (y - 1))), 3 * dots) {
+        repeat_row_of_words(pixels, pitch * y, pitch, count);
+    } else {
+        write_row_of_words(bytes, first, form, count, pixels, pitch * y);
+    }
+}
+
 /// Writes the words of a picture in a form to the caller's. A row begins `pitch` words after the
 /// row before.
 #[inline(always)]
@@ -121,8 +178,7 @@ pub(crate) fn write_rows(
 {
     let count = div_ceil(width, form.across) as usize;
     for y in 0..div_ceil(height, form.down) as usize {
-        let first = width as usize * (form.down as usize * y);
-        write_row_of_words(bytes, first, form, count, pixels, pitch * y);
+        write_row(bytes, width, form, count, pixels, pitch, y);
     }
 }
 

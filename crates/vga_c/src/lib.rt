@@ -7,6 +7,7 @@
 //! changes nothing and returns a status that says so.
 #![tactic(auto)]
 
+mod alike;
 mod blocks;
 mod box_parts;
 mod buffer;
