@@ -216,6 +216,25 @@ static void write_page(bool coloured)
 static void write_letters(void) { write_page(false); }
 static void write_colours(void) { write_page(true); }
 
+/* A picture without two equal lines of memory, in each plane: dots at random, or a page of letters.
+ * A frame on which they are equal, such as an empty one, is the cheapest to turn into words. */
+static void write_picture(void)
+{
+    if (window == 0xB8000) {
+        write_letters();
+        return;
+    }
+    uint32_t random = 1;
+    for (uint32_t map = 1; map < 0x10; map <<= 1) {
+        zak_out_word(&card, 0x3C4, (uint16_t)(map << 8 | 0x02));
+        for (uint32_t at = 0; at < SCREEN; at++) {
+            random = random * 1664525 + 1013904223;
+            zak_put(&card, window + at, (uint8_t)(random >> 24));
+        }
+    }
+    zak_out_word(&card, 0x3C4, 0x0F02);
+}
+
 static zak_status do_skip_frame(uint32_t i)
 {
     (void)i;
@@ -412,6 +431,7 @@ static const struct call {
     {"frame_colours", do_frame, write_colours},
     {"skip_frame", do_skip_frame, NULL},
     {"frame_xrgb", do_frame_xrgb, NULL},
+    {"frame_xrgb_picture", do_frame_xrgb, write_picture},
     {"frame_once", do_frame_once, NULL},
     {"frame_update", do_frame_update, NULL},
     {"put_frame_update", do_put_frame_update, NULL},

@@ -82,6 +82,8 @@ CALLS = (
     Call("frame_xrgb", "13", 10, 500),
     Call("frame_xrgb", "3", 10, 500),
     Call("frame_xrgb", "12", 10, 500),
+    # The same of a picture without equal lines.
+    *(Call("frame_xrgb_picture", mode, 10, 500) for mode in ("13", "3", "12")),
     Call("frame_once", "13", 10, 500),
     Call("frame_once", "3", 10, 500),
     Call("frame_once", "12", 10, 500),

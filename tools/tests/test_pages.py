@@ -516,6 +516,22 @@ class Model(unittest.TestCase):
         self.assertEqual(sorted(word for word in words if f"`{word}`" not in page), [])
 
 
+class SourcesOfCrates(unittest.TestCase):
+    """Each source of a crate that a page's table names is there."""
+
+    CRATE = re.compile(r"`(\w+)`: ((?:`[\w/]+\.rt`(?:, )?)+)(?: of `([\w/]+)/`)?")
+
+    def test_each_is_there(self) -> None:
+        rows = self.CRATE.findall((TOP / "docs" / "ARCHITECTURE.md").read_text("utf-8"))
+        self.assertGreater(len(rows), 5)
+        for crate, names, folder in rows:
+            for name in re.findall(r"`([^`]*)`", names):
+                with self.subTest(crate=crate, name=name):
+                    end = f"{folder}/{name}" if folder else name
+                    found = (TOP / "crates" / crate / "src").rglob(Path(name).name)
+                    self.assertTrue(any(path.as_posix().endswith(f"/{end}") for path in found))
+
+
 class Modules(unittest.TestCase):
     """Each module of a tool stands in a table, and no page, script or test names one that is not
     there."""
