@@ -1,40 +1,38 @@
 //! Lines of a picture that are the same as the line above them: those of doubled lines, and empty
 //! ones. This file serves speed alone: the words of each line could be made from its dots.
-ghost use Rattle.std.specs.Prelude.{◌≡◌, ◌+◌, ◌<◌, ◌≤◌, ℕ, IsTrue, length, slice_index};
+ghost use Rattle.std.specs.Prelude.{◌≡◌, ◌+◌, ◌<◌, ◌≤◌, ℕ, true, length, slice_index};
 
-/// How many bytes are compared at once: those of 16 dots.
-const BLOCK: usize = 48;
+use crate::lane_sums::word_at;
 
-/// Whether 48 bytes from `at` on are those from `other` on. No byte is left out, so that a compiler
-/// compares many at once.
-fn is_block_same(bytes: &[u8], at: usize, other: usize) -> bool
-    requires room { at + 48 ≤ length bytes.now }
-    requires other { other + 48 ≤ length bytes.now }
-    ensures { IsTrue result → (i : ℕ) → i < 48
+/// How many bytes are compared at once.
+const WORD: usize = 8;
+
+/// True only if the eight bytes from `at` on are those from `other` on.
+#[inline(always)]
+fn is_word_same(bytes: &[u8], at: usize, other: usize) -> bool
+    requires room { at + 8 ≤ length bytes.now }
+    requires other { other + 8 ≤ length bytes.now }
+    ensures { result ≡ true → (i : ℕ) → i < 8
         → slice_index bytes.now (at + i) ≡ slice_index bytes.now (other + i) }
 {
-    let mut is_same = true;
-    for i in 0..BLOCK {
-        is_same &= bytes[at + i] == bytes[other + i];
-    }
-    is_same
+    word_at(bytes, at) == word_at(bytes, other)
 }
 
-/// True only if the `count` bytes from `at` on are those from `other` on. Fewer than 48 bytes are
-/// not compared.
+/// True only if the `count` bytes from `at` on are those from `other` on. Fewer than eight bytes
+/// are not compared.
 pub(crate) fn are_bytes_known_same(bytes: &[u8], at: usize, other: usize, count: usize) -> bool
     requires room { at + count ≤ length bytes.now }
     requires other { other + count ≤ length bytes.now }
-    ensures { IsTrue result → (i : ℕ) → i < count
+    ensures { result ≡ true → (i : ℕ) → i < count
         → slice_index bytes.now (at + i) ≡ slice_index bytes.now (other + i) }
 {
-    if count < BLOCK {
+    if count < WORD {
         return false;
     }
-    let last = count - BLOCK;
+    let last = count - WORD;
     let mut same = 0;
-    while same < last && is_block_same(bytes, at + same, other + same) {
-        same += BLOCK;
+    while same < last && is_word_same(bytes, at + same, other + same) {
+        same += WORD;
     }
-    last <= same && is_block_same(bytes, at + last, other + last)
+    last <= same && is_word_same(bytes, at + last, other + last)
 }

@@ -63,7 +63,7 @@ fn add_word(n: u32, sums: LaneSums, word: u64) -> LaneSums
 }
 
 /// The word of eight bytes from index `at` on. The first is the lowest.
-fn word_at(bytes: &[u8], at: usize) -> u64
+pub(crate) fn word_at(bytes: &[u8], at: usize) -> u64
     requires { at + 8 ≤ length bytes.now }
     ensures { (p : ℕ) → p < 8 → plane_byte_in_word p result ≡ slice_index bytes.now (at + p) }
 {
