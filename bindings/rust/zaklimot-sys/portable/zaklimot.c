@@ -183,101 +183,102 @@ static void f6(module *, u64, u64, u64, u64);
 static void f7(module *, u64, u64, u32, u32);
 static void f8(module *, u64, u64, u64);
 static void f9(module *, u64, u64);
-static void f10(module *, u64, u64, u32, u64, u64);
+static void f10(module *, u64, u64, u64, u64, u32);
 static void f11(module *, u64, u64, u32, u64, u64);
-static u32 f12(module *, u64, u64, u64, u64);
-static void f13(module *, u64, u64, u64, u64);
-static u32 f14(module *, u64, u64);
-static void f15(module *, u64, u64, u32);
-static void f16(module *, u64, u64, u64, u64);
+static void f12(module *, u64, u64, u32, u64, u64);
+static u32 f13(module *, u64, u64, u64, u64);
+static void f14(module *, u64, u64, u64, u64);
+static u32 f15(module *, u64, u64);
+static void f16(module *, u64, u64, u32);
 static void f17(module *, u64, u64, u64, u64);
-static void f18(module *, u64, u64, u64);
+static void f18(module *, u64, u64, u64, u64);
 static void f19(module *, u64, u64, u64);
-static void f20(module *, u64, u64);
-static void f21(module *, u64, u64, u32, u32);
-static void f22(module *, u64, u64, u32);
-static u32 f23(module *, u64);
-static void f24(module *, u64, u32, u32);
-static void f25(module *, u64, u64, u64);
-static void f26(module *, u64);
-static void f27(module *, u64, u64);
-static void f28(module *, u64, u64, u64);
-static void f29(module *, u64, u64, u64, u64, u64, u64, u64);
-static void f30(module *, u64, u64, u32);
-static u32 f31(module *, u64, u32, u32);
-static void f32(module *, u64, u64, u64, u64, u32);
-static void f33(module *, u64, u32, u32);
-static void f34(module *, u64, u64, u64);
-static void f35(module *, u64, u64, u64, u64);
-static void f36(module *, u64, u64, u32);
-static void f37(module *, u64, u64, u64, u32, u64);
-static void f38(module *, u64, u64, u32);
-static void f39(module *, u64, u32, u32);
-static u32 f40(module *, u64, u32, u64);
-static void f41(module *, u64, u64, u32, u32, u32, u32);
-static void f42(module *, u64, u32, u32);
-static u32 f43(module *, u64, u64, u32, u32, u32, u32);
-static void f44(module *, u64, u32, u32, u32);
-static void f45(module *, u64, u32, u32);
-static void f46(module *, u64, u32);
-static void f47(module *, u64, u32, u32);
-static void f48(module *, u64, u64, u32, u32);
-static void f49(module *, u64, u32, u32);
-static u32 f50(module *, u64, u32, u32);
-static void f51(module *, u64, u64, u32, u32);
-static void f52(module *, u64, u64, u32, u32, u32);
-static u32 f53(module *, u64, u64, u32, u32);
-static void f54(module *, u64, u32, u32, u32, u32);
-static void f55(module *, u64, u64);
-static void f56(module *, u64, u64, u32, u64, u64);
-static u32 f57(module *, u64, u32);
-static void f58(module *, u64, u64, u32, u32);
-static void f59(module *, u64, u64, u32);
+static void f20(module *, u64, u64, u64);
+static void f21(module *, u64, u64);
+static void f22(module *, u64, u64, u32, u32);
+static void f23(module *, u64, u64, u32);
+static u32 f24(module *, u64);
+static void f25(module *, u64, u32, u32);
+static void f26(module *, u64, u64, u64);
+static void f27(module *, u64);
+static void f28(module *, u64, u64);
+static void f29(module *, u64, u64, u64);
+static void f30(module *, u64, u64, u64, u64, u64, u64, u64);
+static void f31(module *, u64, u64, u32);
+static u32 f32(module *, u64, u32, u32);
+static void f33(module *, u64, u64, u64, u64, u32);
+static void f34(module *, u64, u32, u32);
+static void f35(module *, u64, u64, u64);
+static void f36(module *, u64, u64, u64, u64);
+static void f37(module *, u64, u64, u32);
+static void f38(module *, u64, u64, u64, u32, u64);
+static void f39(module *, u64, u64, u32);
+static void f40(module *, u64, u32, u32);
+static u32 f41(module *, u64, u32, u64);
+static void f42(module *, u64, u64, u32, u32, u32, u32);
+static void f43(module *, u64, u32, u32);
+static u32 f44(module *, u64, u64, u32, u32, u32, u32);
+static void f45(module *, u64, u32, u32, u32);
+static void f46(module *, u64, u32, u32);
+static void f47(module *, u64, u32);
+static void f48(module *, u64, u32, u32);
+static void f49(module *, u64, u64, u32, u32);
+static void f50(module *, u64, u32, u32);
+static u32 f51(module *, u64, u32, u32);
+static void f52(module *, u64, u64, u32, u32);
+static void f53(module *, u64, u64, u32, u32, u32);
+static u32 f54(module *, u64, u64, u32, u32);
+static void f55(module *, u64, u32, u32, u32, u32);
+static void f56(module *, u64, u64);
+static void f57(module *, u64, u64, u32, u64, u64);
+static u32 f58(module *, u64, u32);
+static void f59(module *, u64, u64, u32, u32);
 static void f60(module *, u64, u64, u32);
-static void f61(module *, u64, u64, u64, u64, u64, u64, u64);
-static void f62(module *, u64, u64, u64, u64, u32);
-static void f63(module *, u64, u32, u32, u32);
-static void f64(module *, u64, u64, u64, u32, u64);
-static void f65(module *, u64, u64, u32, u32, u32, u32);
-static u32 f66(module *, u64, u64, u32, u32, u32, u32);
-static void f67(module *, u64, u32, u32, u32);
-static void f68(module *, u64, u64, u64);
-static void f69(module *, u64, u32, u32, u64);
-static void f70(module *, u64, u32, u32, u32);
-static u32 f71(module *, u64, u64, u32, u32, u32, u32);
-static u32 f72(module *, u64, u64, u32, u32);
-static void f73(module *, u64, u64, u64);
-static void f74(module *, u64, u64);
-static void f75(module *, u64, u64, u32, u32);
-static void f76(module *, u64, u64, u32, u32, u32);
-static void f77(module *, u64, u64, u64);
+static void f61(module *, u64, u64, u32);
+static void f62(module *, u64, u64, u64, u64, u64, u64, u64);
+static void f63(module *, u64, u64, u64, u64, u32);
+static void f64(module *, u64, u32, u32, u32);
+static void f65(module *, u64, u64, u64, u32, u64);
+static void f66(module *, u64, u64, u32, u32, u32, u32);
+static u32 f67(module *, u64, u64, u32, u32, u32, u32);
+static void f68(module *, u64, u32, u32, u32);
+static void f69(module *, u64, u64, u64);
+static void f70(module *, u64, u32, u32, u64);
+static void f71(module *, u64, u32, u32, u32);
+static u32 f72(module *, u64, u64, u32, u32, u32, u32);
+static u32 f73(module *, u64, u64, u32, u32);
+static void f74(module *, u64, u64, u64);
+static void f75(module *, u64, u64);
+static void f76(module *, u64, u64, u32, u32);
+static void f77(module *, u64, u64, u32, u32, u32);
 static void f78(module *, u64, u64, u64);
-static void f79(module *, u64, u64, u64, u64, u32);
-static void f80(module *, u64, u64, u64);
-static void f81(module *, u64, u32, u64);
-static void f82(module *, u64, u64, u32);
-static u32 f83(module *, u64, u32, u32);
+static void f79(module *, u64, u64, u64);
+static void f80(module *, u64, u64, u64, u64, u32);
+static void f81(module *, u64, u64, u64);
+static void f82(module *, u64, u32, u64);
+static void f83(module *, u64, u64, u32);
 static u32 f84(module *, u64, u32, u32);
-static u32 f85(module *, u64, u64, u32, u64, u64, u32);
-static u32 f86(module *, u64, u64, u64);
-static void f87(module *, u64, u64);
-static u32 f88(module *, u64, u64, u64);
-static u32 f89(module *, u64, u64);
-static void f90(module *, u64, u64, u64, u64, u64, u64, u64);
-static void f91(module *, u64, u64);
-static u32 f92(module *, u64, u64);
-static void f93(module *, u64, u64, u64, u64);
-static void f94(module *, u64, u64, u64, u64, u64);
-static void f95(module *, u64, u64, u64, u64);
-static void f96(module *, u64, u64, u64, u32, u64, u64);
-static void f97(module *, u64, u64, u64, u32);
-static void f98(module *, u64, u64, u64, u64, u64, u64);
-static void f99(module *, u64, u64);
+static u32 f85(module *, u64, u32, u32);
+static u32 f86(module *, u64, u64, u32, u64, u64, u32);
+static u32 f87(module *, u64, u64, u64);
+static void f88(module *, u64, u64);
+static u32 f89(module *, u64, u64, u64);
+static u32 f90(module *, u64, u64);
+static void f91(module *, u64, u64, u64, u64, u64, u64, u64);
+static void f92(module *, u64, u64);
+static u32 f93(module *, u64, u64);
+static void f94(module *, u64, u64, u64, u64);
+static void f95(module *, u64, u64, u64, u64, u64);
+static void f96(module *, u64, u64, u64, u64);
+static void f97(module *, u64, u64, u64, u32, u64, u64);
+static void f98(module *, u64, u64, u64, u32);
+static void f99(module *, u64, u64, u64, u64, u64, u64);
 static void f100(module *, u64, u64);
-static void f101(module *, u64, u64, u64);
-static u32 f102(module *, u64);
+static void f101(module *, u64, u64);
+static void f102(module *, u64, u64, u64);
 static u32 f103(module *, u64);
-static u32 f104(module *, u64, u64, u64, u64, u64);
+static u32 f104(module *, u64);
+static u32 f105(module *, u64, u64, u64, u64, u64);
 static u32 module_zak_advance(module *, u64, u32);
 static u32 module_zak_assemble(module *, u64, u64, u64, u64, u64, u64);
 static u32 module_zak_block(module *, u64, u64, u64);
@@ -336,10 +337,10 @@ static u32 module_zak_status_text(module *, u32, u64, u64, u64);
 static u32 module_zak_version(module *);
 static u64 module_page_take(module *, u64);
 static u32 module_page_give(module *, u64);
-static void f163(module *, u64, u64, u64);
-static u64 f164(module *, u64);
-static void f165(module *, u64, u64, u64, u64, u64);
-static void f166(module *, u64);
+static void f164(module *, u64, u64, u64);
+static u64 f165(module *, u64);
+static void f166(module *, u64, u64, u64, u64, u64);
+static void f167(module *, u64);
 
 static void f0(module *self, u64 p0, u64 p1, u64 p2, u64 p3, u64 p4) {
   u64 l5 = 0, l6 = 0;
@@ -5959,7 +5960,7 @@ static u32 f4(module *self, u64 p0, u64 p1) {
   j2 = l3;
   j3 = p1;
   j4 = 1ull;
-  f165(self, j0, j1, j2, j3, j4); m = self->memory; if (NEVER(self->is_broken)) return ZAK_BROKEN;
+  f166(self, j0, j1, j2, j3, j4); m = self->memory; if (NEVER(self->is_broken)) return ZAK_BROKEN;
   j0 = l2;
   i0 = (u32)(j0);
   j0 = i64_load(j0 + 16u);
@@ -5977,7 +5978,7 @@ static u32 f4(module *self, u64 p0, u64 p1) {
   j0 = l2;
   j1 = l5;
   j2 = 1ull;
-  f163(self, j0, j1, j2); m = self->memory; if (NEVER(self->is_broken)) return ZAK_BROKEN;
+  f164(self, j0, j1, j2); m = self->memory; if (NEVER(self->is_broken)) return ZAK_BROKEN;
   j0 = l2;
   i0 = (u32)(j0);
   j0 = i64_load(j0);
@@ -6013,17 +6014,17 @@ static u32 f4(module *self, u64 p0, u64 p1) {
 }
 
 static void f5(module *self, u64 p0, u64 p1, u64 p2, u64 p3) {
-  u32 l21 = 0, l22 = 0, l23 = 0, l24 = 0, l25 = 0, l26 = 0, l27 = 0, l28 = 0, 
-      l29 = 0, l30 = 0, l31 = 0, l32 = 0, l33 = 0, l34 = 0, l35 = 0, l36 = 0, 
-      l37 = 0, l38 = 0, l39 = 0, l40 = 0, l41 = 0, l42 = 0, l43 = 0, l44 = 0;
+  u32 l23 = 0, l24 = 0, l25 = 0, l26 = 0, l27 = 0, l28 = 0, l29 = 0, l30 = 0, 
+      l31 = 0, l32 = 0, l33 = 0, l34 = 0, l35 = 0, l36 = 0, l37 = 0, l38 = 0, 
+      l39 = 0, l40 = 0, l41 = 0, l42 = 0, l43 = 0, l44 = 0, l45 = 0, l46 = 0;
   u64 l4 = 0, l5 = 0, l6 = 0, l7 = 0, l8 = 0, l9 = 0, l10 = 0, l11 = 0, 
       l12 = 0, l13 = 0, l14 = 0, l15 = 0, l16 = 0, l17 = 0, l18 = 0, l19 = 0, 
-      l20 = 0;
+      l20 = 0, l21 = 0, l22 = 0;
   u8 *m = self->memory;
   u32 i0, i1, i2, i3, i4, i5;
   u64 j0, j1, j2, j3, j4;
   j0 = self->g0;
-  j1 = 1808ull;
+  j1 = 1488ull;
   j0 -= j1;
   l4 = j0;
   self->g0 = j0;
@@ -6089,7 +6090,7 @@ static void f5(module *self, u64 p0, u64 p1, u64 p2, u64 p3) {
   i0 = !(i0);
   if (i0) {goto B2;}
   i0 = 16u;
-  l21 = i0;
+  l23 = i0;
   j0 = p0;
   j1 = 8ull;
   j0 += j1;
@@ -6105,7 +6106,7 @@ static void f5(module *self, u64 p0, u64 p1, u64 p2, u64 p3) {
   i0 = !(i0);
   if (i0) {goto B4;}
   i0 = 4u;
-  l22 = i0;
+  l24 = i0;
   goto B3;
   B4:;
   j0 = l5;
@@ -6113,24 +6114,24 @@ static void f5(module *self, u64 p0, u64 p1, u64 p2, u64 p3) {
   j0 += j1;
   i0 = (u32)(j0);
   i0 = i32_load8_u(j0);
-  l23 = i0;
+  l25 = i0;
   i1 = 64u;
   i0 &= i1;
   i0 = !(i0);
   if (i0) {goto B5;}
   i0 = 1u;
-  l22 = i0;
+  l24 = i0;
   goto B3;
   B5:;
   i0 = 15u;
   i1 = 13u;
-  i2 = l23;
+  i2 = l25;
   i3 = 32u;
   i2 &= i3;
   i0 = i2 ? i0 : i1;
-  l21 = i0;
+  l23 = i0;
   i0 = 2u;
-  l22 = i0;
+  l24 = i0;
   B3:;
   j0 = p2;
   i0 = !(j0);
@@ -6143,7 +6144,7 @@ static void f5(module *self, u64 p0, u64 p1, u64 p2, u64 p3) {
   j1 = p1;
   i1 = (u32)(j1);
   i0 += i1;
-  l24 = i0;
+  l26 = i0;
   j0 = 0ull;
   p1 = j0;
   L6: 
@@ -6161,25 +6162,25 @@ static void f5(module *self, u64 p0, u64 p1, u64 p2, u64 p3) {
     j1 += j2;
     i1 = (u32)(j1);
     i1 = i32_load8_u(j1);
-    l25 = i1;
+    l27 = i1;
     j2 = p0;
     i2 = (u32)(j2);
     j2 = i64_load(j2);
     i2 = (u32)(j2);
     j2 = i64_load(j2);
-    i3 = l24;
+    i3 = l26;
     j4 = p1;
     i4 = (u32)(j4);
     i3 += i4;
-    l23 = i3;
+    l25 = i3;
     i4 = 65535u;
     i3 &= i4;
-    i4 = l21;
+    i4 = l23;
     i3 >>= (i4 & 31);
     i4 = 1u;
     i3 &= i4;
-    i4 = l23;
-    i5 = l22;
+    i4 = l25;
+    i5 = l24;
     i4 *= i5;
     i3 += i4;
     j3 = (u64)(i3);
@@ -6190,7 +6191,7 @@ static void f5(module *self, u64 p0, u64 p1, u64 p2, u64 p3) {
     j2 += j3;
     i2 = (u32)(j2);
     i2 = i32_load(j2);
-    l26 = i2;
+    l28 = i2;
     i3 = 24u;
     i2 >>= (i3 & 31);
     i1 &= i2;
@@ -6200,10 +6201,10 @@ static void f5(module *self, u64 p0, u64 p1, u64 p2, u64 p3) {
     j0 += j1;
     i0 = (u32)(j0);
     i0 = i32_load(j0);
-    l23 = i0;
+    l25 = i0;
     j0 = l5;
-    i1 = l25;
-    i2 = l26;
+    i1 = l27;
+    i2 = l28;
     i3 = 16u;
     i2 >>= (i3 & 31);
     i1 &= i2;
@@ -6213,10 +6214,10 @@ static void f5(module *self, u64 p0, u64 p1, u64 p2, u64 p3) {
     j0 += j1;
     i0 = (u32)(j0);
     i0 = i32_load(j0);
-    l27 = i0;
+    l29 = i0;
     j0 = l5;
-    i1 = l25;
-    i2 = l26;
+    i1 = l27;
+    i2 = l28;
     i3 = 8u;
     i2 >>= (i3 & 31);
     i1 &= i2;
@@ -6226,12 +6227,12 @@ static void f5(module *self, u64 p0, u64 p1, u64 p2, u64 p3) {
     j0 += j1;
     i0 = (u32)(j0);
     i0 = i32_load(j0);
-    l28 = i0;
+    l30 = i0;
     j0 = p3;
     i0 = (u32)(j0);
     j1 = l5;
-    i2 = l25;
-    i3 = l26;
+    i2 = l27;
+    i3 = l28;
     i2 &= i3;
     j2 = (u64)(i2);
     j3 = 2ull;
@@ -6239,49 +6240,49 @@ static void f5(module *self, u64 p0, u64 p1, u64 p2, u64 p3) {
     j1 += j2;
     i1 = (u32)(j1);
     i1 = i32_load(j1);
-    l25 = i1;
+    l27 = i1;
     i32_store(j0, i1);
     j0 = p3;
     j1 = 3ull;
     j0 += j1;
     i0 = (u32)(j0);
-    i1 = l25;
+    i1 = l27;
     i32_store(j0, i1);
     j0 = p3;
     j1 = 6ull;
     j0 += j1;
     i0 = (u32)(j0);
-    i1 = l28;
+    i1 = l30;
     i32_store(j0, i1);
     j0 = p3;
     j1 = 9ull;
     j0 += j1;
     i0 = (u32)(j0);
-    i1 = l28;
+    i1 = l30;
     i32_store(j0, i1);
     j0 = p3;
     j1 = 12ull;
     j0 += j1;
     i0 = (u32)(j0);
-    i1 = l27;
+    i1 = l29;
     i32_store(j0, i1);
     j0 = p3;
     j1 = 15ull;
     j0 += j1;
     i0 = (u32)(j0);
-    i1 = l27;
+    i1 = l29;
     i32_store(j0, i1);
     j0 = p3;
     j1 = 18ull;
     j0 += j1;
     i0 = (u32)(j0);
-    i1 = l23;
+    i1 = l25;
     i32_store(j0, i1);
     j0 = p3;
     j1 = 23ull;
     j0 += j1;
     i0 = (u32)(j0);
-    i1 = l23;
+    i1 = l25;
     i2 = 16u;
     i1 >>= (i2 & 31);
     i32_store8(j0, i1);
@@ -6289,7 +6290,7 @@ static void f5(module *self, u64 p0, u64 p1, u64 p2, u64 p3) {
     j1 = 22ull;
     j0 += j1;
     i0 = (u32)(j0);
-    i1 = l23;
+    i1 = l25;
     i2 = 8u;
     i1 >>= (i2 & 31);
     i32_store8(j0, i1);
@@ -6297,7 +6298,7 @@ static void f5(module *self, u64 p0, u64 p1, u64 p2, u64 p3) {
     j1 = 21ull;
     j0 += j1;
     i0 = (u32)(j0);
-    i1 = l23;
+    i1 = l25;
     i32_store8(j0, i1);
     j0 = p3;
     j1 = 24ull;
@@ -6314,7 +6315,7 @@ static void f5(module *self, u64 p0, u64 p1, u64 p2, u64 p3) {
   { self->is_broken = true; return; }
   B2:;
   i0 = 16u;
-  l25 = i0;
+  l27 = i0;
   j0 = p0;
   j1 = 8ull;
   j0 += j1;
@@ -6330,7 +6331,7 @@ static void f5(module *self, u64 p0, u64 p1, u64 p2, u64 p3) {
   i0 = !(i0);
   if (i0) {goto B8;}
   i0 = 4u;
-  l26 = i0;
+  l28 = i0;
   goto B7;
   B8:;
   j0 = l5;
@@ -6338,27 +6339,27 @@ static void f5(module *self, u64 p0, u64 p1, u64 p2, u64 p3) {
   j0 += j1;
   i0 = (u32)(j0);
   i0 = i32_load8_u(j0);
-  l23 = i0;
+  l25 = i0;
   i1 = 64u;
   i0 &= i1;
   i0 = !(i0);
   if (i0) {goto B9;}
   i0 = 1u;
-  l26 = i0;
+  l28 = i0;
   goto B7;
   B9:;
   i0 = 15u;
   i1 = 13u;
-  i2 = l23;
+  i2 = l25;
   i3 = 32u;
   i2 &= i3;
   i0 = i2 ? i0 : i1;
-  l25 = i0;
+  l27 = i0;
   i0 = 2u;
-  l26 = i0;
+  l28 = i0;
   B7:;
   j0 = l4;
-  j1 = 144ull;
+  j1 = 168ull;
   j0 += j1;
   j1 = p0;
   j2 = 16ull;
@@ -6375,56 +6376,56 @@ static void f5(module *self, u64 p0, u64 p1, u64 p2, u64 p3) {
   i0 = (u32)(j0);
   j1 = l4;
   i1 = (u32)(j1);
-  j1 = i64_load(j1 + 200u);
+  j1 = i64_load(j1 + 224u);
   l6 = j1;
   i64_store(j0 + 136, j1);
   j0 = l4;
   i0 = (u32)(j0);
   j1 = l4;
   i1 = (u32)(j1);
-  j1 = i64_load(j1 + 192u);
+  j1 = i64_load(j1 + 216u);
   l7 = j1;
   i64_store(j0 + 128, j1);
   j0 = l4;
   i0 = (u32)(j0);
   j1 = l4;
   i1 = (u32)(j1);
-  j1 = i64_load(j1 + 184u);
+  j1 = i64_load(j1 + 208u);
   l8 = j1;
   i64_store(j0 + 120, j1);
   j0 = l4;
   i0 = (u32)(j0);
   j1 = l4;
   i1 = (u32)(j1);
-  j1 = i64_load(j1 + 176u);
+  j1 = i64_load(j1 + 200u);
   l9 = j1;
   i64_store(j0 + 112, j1);
   j0 = l4;
   i0 = (u32)(j0);
   j1 = l4;
   i1 = (u32)(j1);
-  j1 = i64_load(j1 + 168u);
+  j1 = i64_load(j1 + 192u);
   l10 = j1;
   i64_store(j0 + 104, j1);
   j0 = l4;
   i0 = (u32)(j0);
   j1 = l4;
   i1 = (u32)(j1);
-  j1 = i64_load(j1 + 160u);
+  j1 = i64_load(j1 + 184u);
   l11 = j1;
   i64_store(j0 + 96, j1);
   j0 = l4;
   i0 = (u32)(j0);
   j1 = l4;
   i1 = (u32)(j1);
-  j1 = i64_load(j1 + 152u);
+  j1 = i64_load(j1 + 176u);
   l12 = j1;
   i64_store(j0 + 88, j1);
   j0 = l4;
   i0 = (u32)(j0);
   j1 = l4;
   i1 = (u32)(j1);
-  j1 = i64_load(j1 + 144u);
+  j1 = i64_load(j1 + 168u);
   l13 = j1;
   i64_store(j0 + 80, j1);
   j0 = l4;
@@ -6470,7 +6471,7 @@ static void f5(module *self, u64 p0, u64 p1, u64 p2, u64 p3) {
   j1 = p1;
   i1 = (u32)(j1);
   i0 += i1;
-  l27 = i0;
+  l29 = i0;
   j0 = l4;
   j1 = 8ull;
   j0 += j1;
@@ -6488,19 +6489,19 @@ static void f5(module *self, u64 p0, u64 p1, u64 p2, u64 p3) {
     j2 = i64_load(j2);
     i2 = (u32)(j2);
     j2 = i64_load(j2);
-    i3 = l27;
+    i3 = l29;
     j4 = p1;
     i4 = (u32)(j4);
     i3 += i4;
-    l23 = i3;
+    l25 = i3;
     i4 = 65535u;
     i3 &= i4;
-    i4 = l25;
+    i4 = l27;
     i3 >>= (i4 & 31);
     i4 = 1u;
     i3 &= i4;
-    i4 = l23;
-    i5 = l26;
+    i4 = l25;
+    i5 = l28;
     i4 *= i5;
     i3 += i4;
     j3 = (u64)(i3);
@@ -6511,7 +6512,7 @@ static void f5(module *self, u64 p0, u64 p1, u64 p2, u64 p3) {
     j2 += j3;
     i2 = (u32)(j2);
     i2 = i32_load(j2);
-    l23 = i2;
+    l25 = i2;
     i3 = 2155905152u;
     i2 &= i3;
     i3 = 2113665u;
@@ -6530,7 +6531,7 @@ static void f5(module *self, u64 p0, u64 p1, u64 p2, u64 p3) {
     j0 += j1;
     i0 = (u32)(j0);
     j1 = l5;
-    i2 = l23;
+    i2 = l25;
     i3 = 1077952576u;
     i2 &= i3;
     i3 = 4227330u;
@@ -6549,7 +6550,7 @@ static void f5(module *self, u64 p0, u64 p1, u64 p2, u64 p3) {
     j0 += j1;
     i0 = (u32)(j0);
     j1 = l5;
-    i2 = l23;
+    i2 = l25;
     i3 = 538976288u;
     i2 &= i3;
     i3 = 8454660u;
@@ -6568,7 +6569,7 @@ static void f5(module *self, u64 p0, u64 p1, u64 p2, u64 p3) {
     j0 += j1;
     i0 = (u32)(j0);
     j1 = l5;
-    i2 = l23;
+    i2 = l25;
     i3 = 269488144u;
     i2 &= i3;
     i3 = 16909320u;
@@ -6587,7 +6588,7 @@ static void f5(module *self, u64 p0, u64 p1, u64 p2, u64 p3) {
     j0 += j1;
     i0 = (u32)(j0);
     j1 = l5;
-    i2 = l23;
+    i2 = l25;
     i3 = 134744072u;
     i2 &= i3;
     i3 = 33818640u;
@@ -6606,7 +6607,7 @@ static void f5(module *self, u64 p0, u64 p1, u64 p2, u64 p3) {
     j0 += j1;
     i0 = (u32)(j0);
     j1 = l5;
-    i2 = l23;
+    i2 = l25;
     i3 = 67372036u;
     i2 &= i3;
     i3 = 67637280u;
@@ -6625,7 +6626,7 @@ static void f5(module *self, u64 p0, u64 p1, u64 p2, u64 p3) {
     j0 += j1;
     i0 = (u32)(j0);
     j1 = l5;
-    i2 = l23;
+    i2 = l25;
     i3 = 33686018u;
     i2 &= i3;
     i3 = 135274560u;
@@ -6644,7 +6645,7 @@ static void f5(module *self, u64 p0, u64 p1, u64 p2, u64 p3) {
     j0 += j1;
     i0 = (u32)(j0);
     j1 = l5;
-    i2 = l23;
+    i2 = l25;
     i3 = 16843009u;
     i2 &= i3;
     i3 = 270549120u;
@@ -6657,7 +6658,7 @@ static void f5(module *self, u64 p0, u64 p1, u64 p2, u64 p3) {
     j1 += j2;
     i1 = (u32)(j1);
     i1 = i32_load(j1);
-    l23 = i1;
+    l25 = i1;
     i2 = 16u;
     i1 >>= (i2 & 31);
     i32_store8(j0, i1);
@@ -6665,7 +6666,7 @@ static void f5(module *self, u64 p0, u64 p1, u64 p2, u64 p3) {
     j1 = 22ull;
     j0 += j1;
     i0 = (u32)(j0);
-    i1 = l23;
+    i1 = l25;
     i2 = 8u;
     i1 >>= (i2 & 31);
     i32_store8(j0, i1);
@@ -6673,7 +6674,7 @@ static void f5(module *self, u64 p0, u64 p1, u64 p2, u64 p3) {
     j1 = 21ull;
     j0 += j1;
     i0 = (u32)(j0);
-    i1 = l23;
+    i1 = l25;
     i32_store8(j0, i1);
     j0 = p3;
     j1 = 24ull;
@@ -6693,13 +6694,13 @@ static void f5(module *self, u64 p0, u64 p1, u64 p2, u64 p3) {
   i0 = !(j0);
   if (i0) {goto B0;}
   i0 = 16u;
-  l26 = i0;
+  l28 = i0;
   j0 = p0;
   j1 = 8ull;
   j0 += j1;
   i0 = (u32)(j0);
   j0 = i64_load(j0);
-  l12 = j0;
+  l7 = j0;
   j1 = 45ull;
   j0 += j1;
   i0 = (u32)(j0);
@@ -6709,88 +6710,68 @@ static void f5(module *self, u64 p0, u64 p1, u64 p2, u64 p3) {
   i0 = !(i0);
   if (i0) {goto B12;}
   i0 = 4u;
-  l27 = i0;
+  l29 = i0;
   goto B11;
   B12:;
-  j0 = l12;
+  j0 = l7;
   j1 = 48ull;
   j0 += j1;
   i0 = (u32)(j0);
   i0 = i32_load8_u(j0);
-  l23 = i0;
+  l25 = i0;
   i1 = 64u;
   i0 &= i1;
   i0 = !(i0);
   if (i0) {goto B13;}
   i0 = 1u;
-  l27 = i0;
+  l29 = i0;
   goto B11;
   B13:;
   i0 = 15u;
   i1 = 13u;
-  i2 = l23;
+  i2 = l25;
   i3 = 32u;
   i2 &= i3;
   i0 = i2 ? i0 : i1;
-  l26 = i0;
+  l28 = i0;
   i0 = 2u;
-  l27 = i0;
+  l29 = i0;
   B11:;
   j0 = l4;
   j1 = 144ull;
   j0 += j1;
+  j1 = 8ull;
+  j0 += j1;
+  l14 = j0;
   j1 = p0;
   f9(self, j0, j1);
-  j0 = l4;
-  i0 = (u32)(j0);
-  i0 = i32_load8_u(j0 + 156u);
-  l29 = i0;
-  j0 = l4;
-  i0 = (u32)(j0);
-  i0 = i32_load16_u(j0 + 152u);
-  l30 = i0;
-  j0 = l4;
-  i0 = (u32)(j0);
-  i0 = i32_load16_u(j0 + 150u);
-  l31 = i0;
-  j0 = l4;
-  i0 = (u32)(j0);
-  i0 = i32_load8_u(j0 + 149u);
-  l32 = i0;
-  j0 = l4;
-  i0 = (u32)(j0);
-  i0 = i32_load8_u(j0 + 148u);
-  l33 = i0;
-  j0 = l4;
-  i0 = (u32)(j0);
-  i0 = i32_load(j0 + 144u);
-  l28 = i0;
   j0 = l5;
   i0 = (u32)(j0);
   j0 = i64_load(j0);
   l6 = j0;
-  j1 = l12;
+  j1 = l7;
   j2 = 60ull;
   j1 += j2;
   i1 = (u32)(j1);
   i1 = i32_load16_u(j1);
+  l26 = i1;
   i2 = 4294967295u;
   i1 += i2;
-  l21 = i1;
+  l23 = i1;
   j2 = p2;
   j3 = p1;
   j2 += j3;
   i2 = (u32)(j2);
   i1 += i2;
-  l23 = i1;
+  l25 = i1;
   i2 = 65535u;
   i1 &= i2;
-  i2 = l26;
+  i2 = l28;
   i1 >>= (i2 & 31);
   i2 = 1u;
   i1 &= i2;
-  i2 = l23;
-  i3 = l27;
+  i2 = l25;
+  i3 = l29;
   i2 *= i3;
   i1 += i2;
   j1 = (u64)(i1);
@@ -6801,27 +6782,31 @@ static void f5(module *self, u64 p0, u64 p1, u64 p2, u64 p3) {
   j0 += j1;
   i0 = (u32)(j0);
   i0 = i32_load(j0);
-  l22 = i0;
+  l24 = i0;
+  j0 = l4;
+  i0 = (u32)(j0);
+  i0 = i32_load(j0 + 152u);
+  l30 = i0;
   j0 = p2;
   l5 = j0;
   L15: 
     j0 = l6;
-    i1 = l21;
+    i1 = l23;
     j2 = p1;
     j3 = l5;
     j2 += j3;
     i2 = (u32)(j2);
     i1 += i2;
-    l23 = i1;
+    l25 = i1;
     i2 = 65535u;
     i1 &= i2;
-    l25 = i1;
-    i2 = l26;
+    l27 = i1;
+    i2 = l28;
     i1 >>= (i2 & 31);
     i2 = 1u;
     i1 &= i2;
-    i2 = l23;
-    i3 = l27;
+    i2 = l25;
+    i3 = l29;
     i2 *= i3;
     i1 += i2;
     j1 = (u64)(i1);
@@ -6832,7 +6817,7 @@ static void f5(module *self, u64 p0, u64 p1, u64 p2, u64 p3) {
     j0 += j1;
     i0 = (u32)(j0);
     i0 = i32_load16_u(j0);
-    i1 = l22;
+    i1 = l24;
     i2 = 65535u;
     i1 &= i2;
     i0 = i0 == i1;
@@ -6841,8 +6826,8 @@ static void f5(module *self, u64 p0, u64 p1, u64 p2, u64 p3) {
     l7 = j0;
     goto B14;
     B16:;
-    i0 = l28;
-    i1 = l25;
+    i0 = l30;
+    i1 = l27;
     i0 = i0 != i1;
     if (i0) {goto B17;}
     j0 = l5;
@@ -6860,372 +6845,236 @@ static void f5(module *self, u64 p0, u64 p1, u64 p2, u64 p3) {
     if (i0) {goto L15;}
   B14:;
   j0 = l4;
-  j1 = 144ull;
+  j1 = 168ull;
   j0 += j1;
   i0 = (u32)(j0);
   i1 = 0u;
-  j2 = 1664ull;
+  j2 = 1296ull;
   i2 = (u32)(j2);
   memory_fill(j0, i1, j2);
-  j0 = p0;
-  j1 = 24ull;
+  j0 = l4;
+  j1 = 1464ull;
   j0 += j1;
-  i0 = (u32)(j0);
-  j0 = i64_load(j0);
-  l5 = j0;
-  j1 = l5;
-  j2 = 1796ull;
+  j1 = l4;
+  j2 = 168ull;
   j1 += j2;
-  l10 = j1;
-  i1 = (u32)(j1);
-  i1 = i32_load8_u(j1);
   j2 = p0;
   j3 = 16ull;
   j2 += j3;
   i2 = (u32)(j2);
   j2 = i64_load(j2);
-  l11 = j2;
-  j3 = 49ull;
-  j2 += j3;
-  i2 = (u32)(j2);
-  i2 = i32_load8_u(j2);
-  i1 &= i2;
-  j1 = (u64)(i1);
-  j2 = 255ull;
-  j1 &= j2;
-  l9 = j1;
+  l5 = j2;
+  j3 = p0;
+  j4 = 24ull;
+  j3 += j4;
+  i3 = (u32)(j3);
+  j3 = i64_load(j3);
+  l6 = j3;
+  i4 = 7u;
+  f10(self, j0, j1, j2, j3, i4);
+  j0 = l7;
+  j1 = 1ull;
   j0 += j1;
+  l15 = j0;
+  j0 = l4;
   i0 = (u32)(j0);
-  j0 = i64_load8_u(j0);
-  l6 = j0;
-  j0 = l5;
-  j1 = 256ull;
-  j0 += j1;
-  l13 = j0;
-  j1 = l9;
-  j0 += j1;
-  i0 = (u32)(j0);
-  j0 = i64_load8_u(j0);
+  j0 = i64_load(j0 + 1480u);
   l8 = j0;
-  j0 = l5;
-  j1 = 512ull;
-  j0 += j1;
-  l14 = j0;
-  j1 = l9;
-  j0 += j1;
+  j0 = l4;
   i0 = (u32)(j0);
-  j0 = i64_load8_u(j0);
+  j0 = i64_load(j0 + 1472u);
+  l12 = j0;
+  j0 = l4;
+  i0 = (u32)(j0);
+  j0 = i64_load(j0 + 1464u);
+  l16 = j0;
+  j0 = l4;
+  i0 = (u32)(j0);
+  i0 = i32_load8_u(j0 + 168u);
+  i1 = 1u;
+  i0 = i0 != i1;
+  if (i0) {goto B19;}
+  j0 = l4;
+  i0 = (u32)(j0);
+  j1 = l4;
+  i1 = (u32)(j1);
+  j1 = i64_load(j1 + 200u);
+  i64_store(j0 + 1480, j1);
+  j0 = l4;
+  i0 = (u32)(j0);
+  j1 = l4;
+  i1 = (u32)(j1);
+  j1 = i64_load(j1 + 192u);
+  i64_store(j0 + 1472, j1);
+  j0 = l4;
+  i0 = (u32)(j0);
+  j1 = l4;
+  i1 = (u32)(j1);
+  j1 = i64_load(j1 + 184u);
+  i64_store(j0 + 1464, j1);
+  goto B18;
+  B19:;
+  j0 = l4;
+  j1 = 1464ull;
+  j0 += j1;
+  j1 = l4;
+  j2 = 168ull;
+  j1 += j2;
+  j2 = l5;
+  j3 = l6;
+  i4 = 0u;
+  f10(self, j0, j1, j2, j3, i4);
+  B18:;
+  j0 = p2;
+  j1 = l15;
+  i0 = j0 < j1;
+  l25 = i0;
+  i0 = 7u;
+  l23 = i0;
+  j0 = l4;
+  i0 = (u32)(j0);
+  j0 = i64_load(j0 + 1480u);
   l9 = j0;
   j0 = l4;
   i0 = (u32)(j0);
-  j1 = 1ull;
-  i64_store(j0 + 368, j1);
-  j0 = l4;
-  i0 = (u32)(j0);
-  j1 = l8;
-  j2 = l9;
-  j3 = 8ull;
-  j2 <<= (j3 & 63);
-  j1 |= j2;
-  l15 = j1;
-  j2 = l6;
-  j3 = 16ull;
-  j2 <<= (j3 & 63);
-  j1 |= j2;
-  j2 = 16777217ull;
-  j1 *= j2;
-  j2 = l15;
-  j3 = 48ull;
-  j2 <<= (j3 & 63);
-  j1 |= j2;
-  l16 = j1;
-  i64_store(j0 + 392, j1);
-  j0 = l4;
-  i0 = (u32)(j0);
-  j1 = l9;
-  j2 = l6;
-  j3 = 8ull;
-  j2 <<= (j3 & 63);
-  j1 |= j2;
-  l15 = j1;
-  j2 = l8;
-  j3 = 16ull;
-  j2 <<= (j3 & 63);
-  j1 |= j2;
-  j2 = 16777217ull;
-  j1 *= j2;
-  j2 = l15;
-  j3 = 48ull;
-  j2 <<= (j3 & 63);
-  j1 |= j2;
-  l15 = j1;
-  i64_store(j0 + 384, j1);
-  j0 = l4;
-  i0 = (u32)(j0);
-  j1 = l6;
-  j2 = l8;
-  j3 = 8ull;
-  j2 <<= (j3 & 63);
-  j1 |= j2;
-  l6 = j1;
-  j2 = l9;
-  j3 = 16ull;
-  j2 <<= (j3 & 63);
-  j1 |= j2;
-  j2 = 16777217ull;
-  j1 *= j2;
-  j2 = l6;
-  j3 = 48ull;
-  j2 <<= (j3 & 63);
-  j1 |= j2;
-  l17 = j1;
-  i64_store(j0 + 376, j1);
-  j0 = l14;
-  j1 = l10;
-  i1 = (u32)(j1);
-  i1 = i32_load8_u(j1);
-  j2 = l11;
-  j3 = 42ull;
-  j2 += j3;
-  i2 = (u32)(j2);
-  i2 = i32_load8_u(j2);
-  i1 &= i2;
-  j1 = (u64)(i1);
-  j2 = 255ull;
-  j1 &= j2;
-  l8 = j1;
-  j0 += j1;
-  i0 = (u32)(j0);
-  j0 = i64_load8_u(j0);
-  l6 = j0;
-  j0 = l5;
-  j1 = l8;
-  j0 += j1;
-  i0 = (u32)(j0);
-  j0 = i64_load8_u(j0);
-  l5 = j0;
-  j0 = l13;
-  j1 = l8;
-  j0 += j1;
-  i0 = (u32)(j0);
-  j0 = i64_load8_u(j0);
+  j0 = i64_load(j0 + 1472u);
   l10 = j0;
   j0 = l4;
   i0 = (u32)(j0);
-  j1 = 1ull;
-  i64_store(j0 + 144, j1);
-  j0 = l4;
-  i0 = (u32)(j0);
-  j1 = l5;
-  j2 = l10;
-  j3 = 8ull;
-  j2 <<= (j3 & 63);
-  j1 |= j2;
-  l8 = j1;
-  j2 = l6;
-  j3 = 16ull;
-  j2 <<= (j3 & 63);
-  j1 |= j2;
-  j2 = 16777217ull;
-  j1 *= j2;
-  j2 = l8;
-  j3 = 48ull;
-  j2 <<= (j3 & 63);
-  j1 |= j2;
-  l8 = j1;
-  i64_store(j0 + 152, j1);
-  j0 = l4;
-  i0 = (u32)(j0);
-  j1 = l6;
-  j2 = l5;
-  j3 = 8ull;
-  j2 <<= (j3 & 63);
-  j1 |= j2;
-  l9 = j1;
-  j2 = l10;
-  j3 = 16ull;
-  j2 <<= (j3 & 63);
-  j1 |= j2;
-  j2 = 16777217ull;
-  j1 *= j2;
-  j2 = l9;
-  j3 = 48ull;
-  j2 <<= (j3 & 63);
-  j1 |= j2;
-  l9 = j1;
-  i64_store(j0 + 160, j1);
-  j0 = l4;
-  i0 = (u32)(j0);
-  j1 = l10;
-  j2 = l6;
-  j3 = 8ull;
-  j2 <<= (j3 & 63);
-  j1 |= j2;
-  l6 = j1;
-  j2 = l5;
-  j3 = 16ull;
-  j2 <<= (j3 & 63);
-  j1 |= j2;
-  j2 = 16777217ull;
-  j1 *= j2;
-  j2 = l6;
-  j3 = 48ull;
-  j2 <<= (j3 & 63);
-  j1 |= j2;
-  l10 = j1;
-  i64_store(j0 + 168, j1);
-  j0 = p2;
-  j1 = l7;
-  j2 = 1ull;
-  j1 += j2;
-  l18 = j1;
-  i0 = j0 < j1;
-  l23 = i0;
-  i0 = 7u;
-  l21 = i0;
+  j0 = i64_load(j0 + 1464u);
+  l11 = j0;
   j0 = 0ull;
   l7 = j0;
-  i0 = l33;
+  j0 = l4;
+  i0 = (u32)(j0);
+  i0 = i32_load8_u(j0 + 157u);
+  l31 = i0;
+  j0 = l4;
+  i0 = (u32)(j0);
+  i0 = i32_load8_u(j0 + 156u);
+  l32 = i0;
   i1 = 7u;
   i0 &= i1;
-  if (i0) {goto B19;}
-  i0 = l32;
+  if (i0) {goto B21;}
+  i0 = l31;
   i1 = 255u;
   i0 &= i1;
   i1 = 7u;
   i0 = i0 != i1;
-  if (i0) {goto B20;}
-  j0 = l17;
-  l8 = j0;
-  j0 = l15;
-  l9 = j0;
+  if (i0) {goto B22;}
+  i0 = 7u;
+  l31 = i0;
   j0 = l16;
+  l11 = j0;
+  j0 = l12;
   l10 = j0;
-  goto B19;
-  B20:;
+  j0 = l8;
+  l9 = j0;
+  goto B21;
+  B22:;
+  j0 = l9;
+  j1 = l8;
+  j0 ^= j1;
+  l17 = j0;
   j0 = l10;
+  j1 = l12;
+  j0 ^= j1;
+  l13 = j0;
+  j0 = l11;
   j1 = l16;
   j0 ^= j1;
-  l14 = j0;
-  j0 = l9;
-  j1 = l15;
-  j0 ^= j1;
-  l13 = j0;
-  j0 = l8;
-  j1 = l17;
-  j0 ^= j1;
-  l11 = j0;
-  goto B18;
-  B19:;
+  l12 = j0;
+  goto B20;
+  B21:;
   j0 = 0ull;
-  l11 = j0;
+  l12 = j0;
   j0 = 0ull;
   l13 = j0;
   j0 = 0ull;
-  l14 = j0;
-  B18:;
+  l17 = j0;
+  B20:;
   j0 = p2;
-  j1 = l18;
-  i2 = l23;
+  j1 = l15;
+  i2 = l25;
   j0 = i2 ? j0 : j1;
-  l15 = j0;
-  j0 = l4;
-  j1 = 144ull;
-  j0 += j1;
-  j1 = 512ull;
-  j0 += j1;
   l16 = j0;
   j0 = l4;
-  i0 = (u32)(j0);
-  i1 = 0u;
-  i32_store(j0 + 1169, i1);
+  j1 = 568ull;
+  j0 += j1;
+  l18 = j0;
   j0 = l4;
   i0 = (u32)(j0);
-  i1 = 7u;
-  i32_store8(j0 + 1168, i1);
-  j0 = l4;
-  i0 = (u32)(j0);
-  j1 = 1ull;
-  i64_store(j0 + 1160, j1);
-  j0 = l4;
-  i0 = (u32)(j0);
-  i1 = 0u;
-  i32_store(j0 + 1172, i1);
-  j0 = l4;
-  i0 = (u32)(j0);
-  i1 = 0u;
-  i32_store(j0 + 1226, i1);
-  j0 = l4;
-  i0 = (u32)(j0);
-  i1 = l30;
-  i32_store16(j0 + 1224, i1);
-  j0 = l4;
-  i0 = (u32)(j0);
-  j1 = l14;
-  i64_store(j0 + 1216, j1);
+  j1 = l17;
+  i64_store(j0 + 1008, j1);
   j0 = l4;
   i0 = (u32)(j0);
   j1 = l13;
-  i64_store(j0 + 1208, j1);
+  i64_store(j0 + 1000, j1);
   j0 = l4;
   i0 = (u32)(j0);
-  j1 = l11;
-  i64_store(j0 + 1200, j1);
-  j0 = l4;
-  i0 = (u32)(j0);
-  j1 = l10;
-  i64_store(j0 + 1192, j1);
+  j1 = l12;
+  i64_store(j0 + 992, j1);
   j0 = l4;
   i0 = (u32)(j0);
   j1 = l9;
-  i64_store(j0 + 1184, j1);
+  i64_store(j0 + 984, j1);
   j0 = l4;
   i0 = (u32)(j0);
-  j1 = l8;
-  i64_store(j0 + 1176, j1);
+  j1 = l10;
+  i64_store(j0 + 976, j1);
   j0 = l4;
   i0 = (u32)(j0);
-  i1 = 0u;
-  i32_store16(j0 + 1230, i1);
-  j0 = l12;
-  j1 = 60ull;
-  j0 += j1;
+  j1 = l11;
+  i64_store(j0 + 968, j1);
+  j0 = l4;
   i0 = (u32)(j0);
-  i0 = i32_load16_u(j0);
+  j1 = 263ull;
+  i64_store(j0 + 960, j1);
+  i0 = l26;
   j1 = p1;
   i1 = (u32)(j1);
   i0 += i1;
-  l24 = i0;
-  j0 = p3;
-  p1 = j0;
-  j0 = 0ull;
-  l6 = j0;
-  i0 = l30;
+  l33 = i0;
+  j0 = l4;
+  j1 = 184ull;
+  j0 += j1;
+  l19 = j0;
+  j0 = l4;
+  i0 = (u32)(j0);
+  i0 = i32_load8_u(j0 + 164u);
   l34 = i0;
-  L21: 
-    i0 = l21;
+  j0 = l4;
+  i0 = (u32)(j0);
+  i0 = i32_load16_u(j0 + 160u);
+  l35 = i0;
+  j0 = p3;
+  l5 = j0;
+  j0 = 0ull;
+  p1 = j0;
+  L23: 
+    i0 = l23;
     i1 = 255u;
     i0 &= i1;
     j1 = p0;
     i1 = (u32)(j1);
     j1 = i64_load(j1);
-    l12 = j1;
     i1 = (u32)(j1);
     j1 = i64_load(j1);
-    i2 = l24;
-    j3 = l6;
+    l8 = j1;
+    i2 = l33;
+    j3 = p1;
     i3 = (u32)(j3);
     i2 += i3;
-    l23 = i2;
+    l25 = i2;
     i3 = 65535u;
     i2 &= i3;
-    l25 = i2;
-    i3 = l26;
+    l27 = i2;
+    i3 = l28;
     i2 >>= (i3 & 31);
     i3 = 1u;
     i2 &= i3;
-    i3 = l23;
-    i4 = l27;
+    i3 = l25;
+    i4 = l29;
     i3 *= i4;
     i2 += i3;
     j2 = (u64)(i2);
@@ -7236,518 +7085,306 @@ static void f5(module *self, u64 p0, u64 p1, u64 p2, u64 p3) {
     j1 += j2;
     i1 = (u32)(j1);
     i1 = i32_load(j1);
-    l22 = i1;
+    l24 = i1;
     i2 = 8u;
     i1 >>= (i2 & 31);
-    l23 = i1;
+    l25 = i1;
     i2 = 255u;
     i1 &= i2;
+    l26 = i1;
     i0 = i0 == i1;
-    if (i0) {goto B22;}
-    j0 = l16;
-    i1 = l23;
+    if (i0) {goto B24;}
+    j0 = l18;
+    i1 = l25;
     j1 = (u64)(i1);
     j2 = 15ull;
     j1 &= j2;
     l9 = j1;
-    j2 = 72ull;
+    j2 = 56ull;
     j1 *= j2;
     j0 += j1;
-    l5 = j0;
-    i0 = (u32)(j0);
-    i0 = i32_load8_u(j0);
-    i1 = 1u;
-    i0 = i0 != i1;
-    if (i0) {goto B24;}
-    j0 = l5;
-    j1 = 8ull;
-    j0 += j1;
-    i0 = (u32)(j0);
-    i0 = i32_load8_u(j0);
-    i1 = l23;
-    i2 = 255u;
-    i1 &= i2;
-    i0 = i0 != i1;
-    if (i0) {goto B24;}
-    j0 = l5;
-    j1 = 16ull;
-    j0 += j1;
-    i0 = (u32)(j0);
-    j0 = i64_load(j0);
-    l8 = j0;
-    j0 = l5;
-    j1 = 24ull;
-    j0 += j1;
-    i0 = (u32)(j0);
-    j0 = i64_load(j0);
-    l9 = j0;
-    j0 = l5;
-    j1 = 32ull;
-    j0 += j1;
-    i0 = (u32)(j0);
-    j0 = i64_load(j0);
-    l10 = j0;
-    j0 = l5;
-    j1 = 40ull;
-    j0 += j1;
-    i0 = (u32)(j0);
-    j0 = i64_load(j0);
-    l11 = j0;
-    j0 = l5;
-    j1 = 48ull;
-    j0 += j1;
-    i0 = (u32)(j0);
-    j0 = i64_load(j0);
-    l13 = j0;
-    j0 = l5;
-    j1 = 56ull;
-    j0 += j1;
-    i0 = (u32)(j0);
-    j0 = i64_load(j0);
-    l14 = j0;
-    j0 = l5;
-    j1 = 64ull;
-    j0 += j1;
-    i0 = (u32)(j0);
-    i0 = i32_load16_u(j0);
-    l34 = i0;
-    goto B23;
-    B24:;
-    j0 = l4;
-    j1 = 144ull;
-    j0 += j1;
-    j1 = l9;
-    j2 = 5ull;
-    j1 <<= (j2 & 63);
-    j0 += j1;
-    l8 = j0;
-    i0 = (u32)(j0);
-    i0 = i32_load8_u(j0);
-    i1 = 1u;
-    i0 = i0 != i1;
-    if (i0) {goto B26;}
-    j0 = l8;
-    j1 = 24ull;
-    j0 += j1;
-    i0 = (u32)(j0);
-    j0 = i64_load(j0);
-    l17 = j0;
-    j0 = l8;
-    j1 = 16ull;
-    j0 += j1;
-    i0 = (u32)(j0);
-    j0 = i64_load(j0);
-    l19 = j0;
-    j0 = l8;
-    j1 = 8ull;
-    j0 += j1;
+    l6 = j0;
     i0 = (u32)(j0);
     j0 = i64_load(j0);
     l20 = j0;
+    i1 = l26;
+    i2 = 256u;
+    i1 |= i2;
+    j1 = (u64)(i1);
+    l21 = j1;
+    i0 = j0 != j1;
+    if (i0) {goto B26;}
+    j0 = 6ull;
+    j1 = 8ull;
+    i2 = l25;
+    i3 = 8u;
+    i2 &= i3;
+    j0 = i2 ? j0 : j1;
+    l20 = j0;
+    j0 = l6;
+    i0 = (u32)(j0);
+    j0 = i64_load(j0 + 8u);
+    l11 = j0;
+    j0 = l6;
+    i0 = (u32)(j0);
+    j0 = i64_load(j0 + 16u);
+    l10 = j0;
+    j0 = l6;
+    i0 = (u32)(j0);
+    j0 = i64_load(j0 + 24u);
+    l9 = j0;
+    j0 = l6;
+    i0 = (u32)(j0);
+    j0 = i64_load(j0 + 32u);
+    l12 = j0;
+    j0 = l6;
+    i0 = (u32)(j0);
+    j0 = i64_load(j0 + 40u);
+    l13 = j0;
+    j0 = l6;
+    i0 = (u32)(j0);
+    j0 = i64_load(j0 + 48u);
+    l17 = j0;
     goto B25;
     B26:;
-    j0 = p0;
-    j1 = 24ull;
-    j0 += j1;
-    i0 = (u32)(j0);
-    j0 = i64_load(j0);
-    l10 = j0;
-    j1 = l10;
-    j2 = 1796ull;
-    j1 += j2;
-    i1 = (u32)(j1);
-    i1 = i32_load8_u(j1);
-    j2 = p0;
-    j3 = 16ull;
-    j2 += j3;
-    i2 = (u32)(j2);
-    j2 = i64_load(j2);
-    j3 = l9;
-    j2 += j3;
-    j3 = 42ull;
-    j2 += j3;
-    i2 = (u32)(j2);
-    i2 = i32_load8_u(j2);
-    i1 &= i2;
-    j1 = (u64)(i1);
-    j2 = 255ull;
-    j1 &= j2;
-    j0 += j1;
-    l11 = j0;
-    j1 = 256ull;
-    j0 += j1;
-    i0 = (u32)(j0);
-    j0 = i64_load8_u(j0);
-    l9 = j0;
-    j0 = l11;
-    j1 = 512ull;
-    j0 += j1;
-    i0 = (u32)(j0);
-    j0 = i64_load8_u(j0);
-    l10 = j0;
-    j0 = l11;
-    i0 = (u32)(j0);
-    j0 = i64_load8_u(j0);
-    l11 = j0;
-    j0 = l8;
-    i0 = (u32)(j0);
-    j1 = 1ull;
-    i64_store(j0, j1);
-    j0 = l8;
-    j1 = 16ull;
-    j0 += j1;
-    i0 = (u32)(j0);
-    j1 = l10;
-    j2 = l11;
-    j3 = 8ull;
-    j2 <<= (j3 & 63);
-    j1 |= j2;
-    l13 = j1;
-    j2 = l9;
-    j3 = 16ull;
-    j2 <<= (j3 & 63);
-    j1 |= j2;
-    j2 = 16777217ull;
-    j1 *= j2;
-    j2 = l13;
-    j3 = 48ull;
-    j2 <<= (j3 & 63);
-    j1 |= j2;
-    l19 = j1;
-    i64_store(j0, j1);
-    j0 = l8;
-    j1 = 24ull;
-    j0 += j1;
-    i0 = (u32)(j0);
-    j1 = l9;
-    j2 = l10;
-    j3 = 8ull;
-    j2 <<= (j3 & 63);
-    j1 |= j2;
-    l13 = j1;
-    j2 = l11;
-    j3 = 16ull;
-    j2 <<= (j3 & 63);
-    j1 |= j2;
-    j2 = 16777217ull;
-    j1 *= j2;
-    j2 = l13;
-    j3 = 48ull;
-    j2 <<= (j3 & 63);
-    j1 |= j2;
-    l17 = j1;
-    i64_store(j0, j1);
-    j0 = l8;
-    j1 = 8ull;
-    j0 += j1;
-    i0 = (u32)(j0);
-    j1 = l11;
-    j2 = l9;
-    j3 = 8ull;
-    j2 <<= (j3 & 63);
-    j1 |= j2;
-    l8 = j1;
-    j2 = l10;
-    j3 = 16ull;
-    j2 <<= (j3 & 63);
-    j1 |= j2;
-    j2 = 16777217ull;
-    j1 *= j2;
-    j2 = l8;
-    j3 = 48ull;
-    j2 <<= (j3 & 63);
-    j1 |= j2;
-    l20 = j1;
-    i64_store(j0, j1);
-    B25:;
     j0 = l4;
-    j1 = 144ull;
+    j1 = 168ull;
     j0 += j1;
-    i1 = l23;
-    i2 = 240u;
-    i1 &= i2;
-    i2 = 4u;
-    i1 >>= (i2 & 31);
-    i2 = l29;
-    i1 &= i2;
-    j1 = (u64)(i1);
-    l9 = j1;
-    j2 = 5ull;
-    j1 <<= (j2 & 63);
+    j1 = l9;
     j0 += j1;
-    l8 = j0;
     i0 = (u32)(j0);
     i0 = i32_load8_u(j0);
     i1 = 1u;
     i0 = i0 != i1;
     if (i0) {goto B28;}
-    j0 = l8;
-    j1 = 24ull;
-    j0 += j1;
+    j0 = l4;
     i0 = (u32)(j0);
-    j0 = i64_load(j0);
-    l10 = j0;
-    j0 = l8;
-    j1 = 16ull;
-    j0 += j1;
+    j1 = l19;
+    j2 = l9;
+    j3 = 24ull;
+    j2 *= j3;
+    j1 += j2;
+    l9 = j1;
+    i1 = (u32)(j1);
+    j1 = i64_load(j1 + 16u);
+    i64_store(j0 + 1480, j1);
+    j0 = l4;
     i0 = (u32)(j0);
-    j0 = i64_load(j0);
-    l9 = j0;
-    j0 = l8;
-    j1 = 8ull;
-    j0 += j1;
+    j1 = l9;
+    i1 = (u32)(j1);
+    j1 = i64_load(j1 + 8u);
+    i64_store(j0 + 1472, j1);
+    j0 = l4;
     i0 = (u32)(j0);
-    j0 = i64_load(j0);
-    l8 = j0;
+    j1 = l9;
+    i1 = (u32)(j1);
+    j1 = i64_load(j1);
+    i64_store(j0 + 1464, j1);
     goto B27;
     B28:;
-    j0 = p0;
-    j1 = 24ull;
+    j0 = l4;
+    j1 = 1464ull;
     j0 += j1;
-    i0 = (u32)(j0);
-    j0 = i64_load(j0);
-    l10 = j0;
-    j1 = l10;
-    j2 = 1796ull;
+    j1 = l4;
+    j2 = 168ull;
     j1 += j2;
-    i1 = (u32)(j1);
-    i1 = i32_load8_u(j1);
     j2 = p0;
     j3 = 16ull;
     j2 += j3;
     i2 = (u32)(j2);
     j2 = i64_load(j2);
-    j3 = l9;
-    j2 += j3;
-    j3 = 42ull;
+    j3 = p0;
+    j4 = 24ull;
+    j3 += j4;
+    i3 = (u32)(j3);
+    j3 = i64_load(j3);
+    i4 = l25;
+    i5 = 15u;
+    i4 &= i5;
+    f10(self, j0, j1, j2, j3, i4);
+    B27:;
+    j0 = l4;
+    i0 = (u32)(j0);
+    j0 = i64_load(j0 + 1480u);
+    l12 = j0;
+    j0 = l4;
+    i0 = (u32)(j0);
+    j0 = i64_load(j0 + 1472u);
+    l13 = j0;
+    j0 = l4;
+    i0 = (u32)(j0);
+    j0 = i64_load(j0 + 1464u);
+    l22 = j0;
+    j0 = l4;
+    j1 = 168ull;
+    j0 += j1;
+    i1 = l25;
+    i2 = 240u;
+    i1 &= i2;
+    i2 = 4u;
+    i1 >>= (i2 & 31);
+    i2 = l34;
+    i1 &= i2;
+    l23 = i1;
+    j1 = (u64)(i1);
+    l9 = j1;
+    j0 += j1;
+    i0 = (u32)(j0);
+    i0 = i32_load8_u(j0);
+    i1 = 1u;
+    i0 = i0 != i1;
+    if (i0) {goto B30;}
+    j0 = l4;
+    i0 = (u32)(j0);
+    j1 = l19;
+    j2 = l9;
+    j3 = 24ull;
+    j2 *= j3;
+    j1 += j2;
+    l9 = j1;
+    i1 = (u32)(j1);
+    j1 = i64_load(j1 + 16u);
+    i64_store(j0 + 1480, j1);
+    j0 = l4;
+    i0 = (u32)(j0);
+    j1 = l9;
+    i1 = (u32)(j1);
+    j1 = i64_load(j1 + 8u);
+    i64_store(j0 + 1472, j1);
+    j0 = l4;
+    i0 = (u32)(j0);
+    j1 = l9;
+    i1 = (u32)(j1);
+    j1 = i64_load(j1);
+    i64_store(j0 + 1464, j1);
+    goto B29;
+    B30:;
+    j0 = l4;
+    j1 = 1464ull;
+    j0 += j1;
+    j1 = l4;
+    j2 = 168ull;
+    j1 += j2;
+    j2 = p0;
+    j3 = 16ull;
     j2 += j3;
     i2 = (u32)(j2);
-    i2 = i32_load8_u(j2);
-    i1 &= i2;
-    j1 = (u64)(i1);
-    j2 = 255ull;
-    j1 &= j2;
-    j0 += j1;
+    j2 = i64_load(j2);
+    j3 = p0;
+    j4 = 24ull;
+    j3 += j4;
+    i3 = (u32)(j3);
+    j3 = i64_load(j3);
+    i4 = l23;
+    f10(self, j0, j1, j2, j3, i4);
+    B29:;
+    j0 = l4;
+    i0 = (u32)(j0);
+    j0 = i64_load(j0 + 1480u);
     l9 = j0;
-    j1 = 256ull;
-    j0 += j1;
+    j0 = l4;
     i0 = (u32)(j0);
-    j0 = i64_load8_u(j0);
+    j0 = i64_load(j0 + 1472u);
+    l10 = j0;
+    j0 = l4;
+    i0 = (u32)(j0);
+    j0 = i64_load(j0 + 1464u);
     l11 = j0;
-    j0 = l9;
-    j1 = 512ull;
-    j0 += j1;
-    i0 = (u32)(j0);
-    j0 = i64_load8_u(j0);
-    l13 = j0;
-    j0 = l9;
-    i0 = (u32)(j0);
-    j0 = i64_load8_u(j0);
-    l14 = j0;
-    j0 = l8;
-    i0 = (u32)(j0);
-    j1 = 1ull;
-    i64_store(j0, j1);
-    j0 = l8;
-    j1 = 16ull;
-    j0 += j1;
-    i0 = (u32)(j0);
-    j1 = l13;
-    j2 = l14;
-    j3 = 8ull;
-    j2 <<= (j3 & 63);
-    j1 |= j2;
-    l9 = j1;
-    j2 = l11;
-    j3 = 16ull;
-    j2 <<= (j3 & 63);
-    j1 |= j2;
-    j2 = 16777217ull;
-    j1 *= j2;
-    j2 = l9;
-    j3 = 48ull;
-    j2 <<= (j3 & 63);
-    j1 |= j2;
-    l9 = j1;
-    i64_store(j0, j1);
-    j0 = l8;
-    j1 = 24ull;
-    j0 += j1;
-    i0 = (u32)(j0);
-    j1 = l11;
-    j2 = l13;
-    j3 = 8ull;
-    j2 <<= (j3 & 63);
-    j1 |= j2;
-    l10 = j1;
-    j2 = l14;
-    j3 = 16ull;
-    j2 <<= (j3 & 63);
-    j1 |= j2;
-    j2 = 16777217ull;
-    j1 *= j2;
-    j2 = l10;
-    j3 = 48ull;
-    j2 <<= (j3 & 63);
-    j1 |= j2;
-    l10 = j1;
-    i64_store(j0, j1);
-    j0 = l8;
-    j1 = 8ull;
-    j0 += j1;
-    i0 = (u32)(j0);
-    j1 = l14;
-    j2 = l11;
-    j3 = 8ull;
-    j2 <<= (j3 & 63);
-    j1 |= j2;
-    l8 = j1;
-    j2 = l13;
-    j3 = 16ull;
-    j2 <<= (j3 & 63);
-    j1 |= j2;
-    j2 = 16777217ull;
-    j1 *= j2;
-    j2 = l8;
-    j3 = 48ull;
-    j2 <<= (j3 & 63);
-    j1 |= j2;
-    l8 = j1;
-    i64_store(j0, j1);
-    B27:;
-    j0 = 0ull;
-    l11 = j0;
-    i0 = l33;
-    i1 = l23;
+    i0 = l32;
+    i1 = l25;
     i0 &= i1;
-    i1 = 255u;
-    i0 &= i1;
-    if (i0) {goto B30;}
-    i0 = l23;
+    if (i0) {goto B32;}
+    i0 = l25;
     i1 = 119u;
     i0 &= i1;
-    i1 = l32;
+    i1 = l31;
     i2 = 255u;
     i1 &= i2;
     i0 = i0 != i1;
-    if (i0) {goto B31;}
-    j0 = l20;
-    l8 = j0;
-    j0 = l19;
-    l9 = j0;
-    j0 = l17;
-    l10 = j0;
-    goto B30;
-    B31:;
-    j0 = l10;
-    j1 = l17;
-    j0 ^= j1;
-    l14 = j0;
-    j0 = l9;
-    j1 = l19;
-    j0 ^= j1;
-    l13 = j0;
-    j0 = l8;
-    j1 = l20;
-    j0 ^= j1;
+    if (i0) {goto B33;}
+    j0 = l22;
     l11 = j0;
-    goto B29;
-    B30:;
+    j0 = l13;
+    l10 = j0;
+    j0 = l12;
+    l9 = j0;
+    goto B32;
+    B33:;
+    j0 = l9;
+    j1 = l12;
+    j0 ^= j1;
+    l17 = j0;
+    j0 = l10;
+    j1 = l13;
+    j0 ^= j1;
+    l13 = j0;
+    j0 = l11;
+    j1 = l22;
+    j0 ^= j1;
+    l12 = j0;
+    goto B31;
+    B32:;
+    j0 = 0ull;
+    l12 = j0;
     j0 = 0ull;
     l13 = j0;
     j0 = 0ull;
-    l14 = j0;
-    B29:;
-    j0 = l5;
+    l17 = j0;
+    B31:;
+    j0 = l20;
+    j1 = 0ull;
+    i0 = j0 != j1;
+    if (i0) {goto B34;}
+    j0 = l6;
     i0 = (u32)(j0);
-    j1 = 1ull;
-    i64_store(j0, j1);
-    j0 = l5;
-    j1 = 9ull;
-    j0 += j1;
-    i0 = (u32)(j0);
-    i1 = 0u;
-    i32_store(j0, i1);
-    j0 = l5;
-    j1 = 8ull;
-    j0 += j1;
-    i0 = (u32)(j0);
-    i1 = l23;
-    i32_store8(j0, i1);
-    j0 = l5;
-    j1 = 12ull;
-    j0 += j1;
-    i0 = (u32)(j0);
-    i1 = 0u;
-    i32_store(j0, i1);
-    j0 = l5;
-    j1 = 66ull;
-    j0 += j1;
-    i0 = (u32)(j0);
-    i1 = 0u;
-    i32_store(j0, i1);
-    j0 = l5;
-    j1 = 56ull;
-    j0 += j1;
-    i0 = (u32)(j0);
-    j1 = l14;
-    i64_store(j0, j1);
-    j0 = l5;
-    j1 = 48ull;
-    j0 += j1;
+    j1 = l17;
+    i64_store(j0 + 48, j1);
+    j0 = l6;
     i0 = (u32)(j0);
     j1 = l13;
-    i64_store(j0, j1);
-    j0 = l5;
-    j1 = 40ull;
-    j0 += j1;
+    i64_store(j0 + 40, j1);
+    j0 = l6;
     i0 = (u32)(j0);
-    j1 = l11;
-    i64_store(j0, j1);
-    j0 = l5;
-    j1 = 32ull;
-    j0 += j1;
-    i0 = (u32)(j0);
-    j1 = l10;
-    i64_store(j0, j1);
-    j0 = l5;
-    j1 = 24ull;
-    j0 += j1;
+    j1 = l12;
+    i64_store(j0 + 32, j1);
+    j0 = l6;
     i0 = (u32)(j0);
     j1 = l9;
+    i64_store(j0 + 24, j1);
+    j0 = l6;
+    i0 = (u32)(j0);
+    j1 = l10;
+    i64_store(j0 + 16, j1);
+    j0 = l6;
+    i0 = (u32)(j0);
+    j1 = l11;
+    i64_store(j0 + 8, j1);
+    j0 = l6;
+    i0 = (u32)(j0);
+    j1 = l21;
     i64_store(j0, j1);
-    j0 = l5;
-    j1 = 16ull;
+    B34:;
+    j0 = 6ull;
+    j1 = 8ull;
+    i2 = l25;
+    i3 = 8u;
+    i2 &= i3;
+    j0 = i2 ? j0 : j1;
+    l20 = j0;
+    B25:;
+    j0 = l14;
+    j1 = l20;
     j0 += j1;
     i0 = (u32)(j0);
-    j1 = l8;
-    i64_store(j0, j1);
-    j0 = l5;
-    j1 = 70ull;
-    j0 += j1;
-    i0 = (u32)(j0);
-    i1 = 0u;
-    i32_store16(j0, i1);
-    j0 = l5;
-    j1 = 64ull;
-    j0 += j1;
-    i0 = (u32)(j0);
-    i1 = l31;
-    i2 = l30;
-    i3 = l23;
-    i4 = 8u;
-    i3 &= i4;
-    i1 = i3 ? i1 : i2;
-    l34 = i1;
-    i32_store16(j0, i1);
-    B23:;
-    i0 = l23;
-    l21 = i0;
-    B22:;
-    i0 = l28;
-    i1 = l25;
+    i0 = i32_load16_u(j0);
+    l35 = i0;
+    i0 = l25;
+    l23 = i0;
+    B24:;
+    i0 = l30;
+    i1 = l27;
     i0 = i0 != i1;
-    if (i0) {goto B33;}
+    if (i0) {goto B36;}
     j0 = p0;
     j1 = 16ull;
     j0 += j1;
@@ -7758,21 +7395,19 @@ static void f5(module *self, u64 p0, u64 p1, u64 p2, u64 p3) {
     j1 += j2;
     i1 = (u32)(j1);
     j1 = i64_load(j1);
-    i2 = l23;
+    i2 = l25;
     j3 = p3;
     j4 = l7;
-    f10(self, j0, j1, i2, j3, j4);
-    goto B32;
-    B33:;
-    j0 = p1;
+    f11(self, j0, j1, i2, j3, j4);
+    goto B35;
+    B36:;
+    j0 = l5;
     j1 = 16ull;
     j0 += j1;
     i0 = (u32)(j0);
-    j1 = l12;
-    i1 = (u32)(j1);
-    j1 = i64_load(j1);
-    i2 = l34;
-    i3 = l22;
+    j1 = l8;
+    i2 = l35;
+    i3 = l24;
     i4 = 5u;
     i3 <<= (i4 & 31);
     i4 = 8160u;
@@ -7786,7 +7421,7 @@ static void f5(module *self, u64 p0, u64 p1, u64 p2, u64 p3) {
     j1 += j2;
     i1 = (u32)(j1);
     i1 = i32_load(j1);
-    l23 = i1;
+    l25 = i1;
     i2 = 13u;
     i1 >>= (i2 & 31);
     j1 = (u64)(i1);
@@ -7796,16 +7431,16 @@ static void f5(module *self, u64 p0, u64 p1, u64 p2, u64 p3) {
     j1 += j2;
     i1 = (u32)(j1);
     j1 = i64_load(j1);
-    j2 = l14;
+    j2 = l17;
     j1 &= j2;
-    j2 = l10;
+    j2 = l9;
     j1 ^= j2;
     i64_store(j0, j1);
-    j0 = p1;
+    j0 = l5;
     j1 = 8ull;
     j0 += j1;
     i0 = (u32)(j0);
-    i1 = l23;
+    i1 = l25;
     i2 = 15u;
     i1 >>= (i2 & 31);
     j1 = (u64)(i1);
@@ -7817,12 +7452,12 @@ static void f5(module *self, u64 p0, u64 p1, u64 p2, u64 p3) {
     j1 = i64_load(j1);
     j2 = l13;
     j1 &= j2;
-    j2 = l9;
+    j2 = l10;
     j1 ^= j2;
     i64_store(j0, j1);
-    j0 = p1;
+    j0 = l5;
     i0 = (u32)(j0);
-    i1 = l23;
+    i1 = l25;
     i2 = 18u;
     i1 >>= (i2 & 31);
     j1 = (u64)(i1);
@@ -7832,246 +7467,246 @@ static void f5(module *self, u64 p0, u64 p1, u64 p2, u64 p3) {
     j1 += j2;
     i1 = (u32)(j1);
     j1 = i64_load(j1);
-    j2 = l11;
+    j2 = l12;
     j1 &= j2;
-    j2 = l8;
+    j2 = l11;
     j1 ^= j2;
     i64_store(j0, j1);
-    B32:;
-    j0 = p1;
+    B35:;
+    j0 = l5;
     j1 = 24ull;
     j0 += j1;
-    p1 = j0;
+    l5 = j0;
     j0 = l7;
     j1 = 8ull;
     j0 += j1;
     l7 = j0;
-    j0 = l15;
-    j1 = l6;
+    j0 = l16;
+    j1 = p1;
     j2 = 1ull;
     j1 += j2;
-    l6 = j1;
+    p1 = j1;
     i0 = j0 != j1;
-    if (i0) {goto L21;}
+    if (i0) {goto L23;}
   j0 = l4;
   i0 = (u32)(j0);
   j1 = p3;
-  j2 = l15;
+  j2 = l16;
   j3 = 24ull;
   j2 *= j3;
   j1 += j2;
   j2 = 18446744073709551592ull;
   j1 += j2;
-  l5 = j1;
+  p0 = j1;
   i1 = (u32)(j1);
   j1 = i64_load(j1 + 16u);
-  i64_store(j0 + 160, j1);
+  i64_store(j0 + 184, j1);
   j0 = l4;
   i0 = (u32)(j0);
-  j1 = l5;
+  j1 = p0;
   i1 = (u32)(j1);
   j1 = i64_load(j1 + 8u);
-  i64_store(j0 + 152, j1);
+  i64_store(j0 + 176, j1);
   j0 = l4;
   i0 = (u32)(j0);
-  j1 = l5;
+  j1 = p0;
   i1 = (u32)(j1);
   j1 = i64_load(j1);
-  i64_store(j0 + 144, j1);
-  j0 = l18;
+  i64_store(j0 + 168, j1);
+  j0 = l15;
   j1 = p2;
   i0 = j0 >= j1;
   if (i0) {goto B0;}
   j0 = p2;
-  j1 = l15;
+  j1 = l16;
   j0 -= j1;
-  l5 = j0;
+  p0 = j0;
   j0 = p3;
-  j1 = l15;
+  j1 = l16;
   j2 = 24ull;
   j1 *= j2;
   j0 += j1;
   p3 = j0;
   j0 = l4;
   i0 = (u32)(j0);
-  i0 = i32_load8_u(j0 + 167u);
-  l23 = i0;
-  j0 = l4;
-  i0 = (u32)(j0);
-  i0 = i32_load8_u(j0 + 166u);
+  i0 = i32_load8_u(j0 + 191u);
   l25 = i0;
   j0 = l4;
   i0 = (u32)(j0);
-  i0 = i32_load8_u(j0 + 165u);
-  l26 = i0;
-  j0 = l4;
-  i0 = (u32)(j0);
-  i0 = i32_load8_u(j0 + 164u);
+  i0 = i32_load8_u(j0 + 190u);
   l27 = i0;
   j0 = l4;
   i0 = (u32)(j0);
-  i0 = i32_load8_u(j0 + 163u);
+  i0 = i32_load8_u(j0 + 189u);
   l28 = i0;
   j0 = l4;
   i0 = (u32)(j0);
-  i0 = i32_load8_u(j0 + 162u);
-  l21 = i0;
-  j0 = l4;
-  i0 = (u32)(j0);
-  i0 = i32_load8_u(j0 + 161u);
-  l22 = i0;
-  j0 = l4;
-  i0 = (u32)(j0);
-  i0 = i32_load8_u(j0 + 160u);
-  l24 = i0;
-  j0 = l4;
-  i0 = (u32)(j0);
-  i0 = i32_load8_u(j0 + 159u);
-  l34 = i0;
-  j0 = l4;
-  i0 = (u32)(j0);
-  i0 = i32_load8_u(j0 + 158u);
-  l30 = i0;
-  j0 = l4;
-  i0 = (u32)(j0);
-  i0 = i32_load8_u(j0 + 157u);
-  l33 = i0;
-  j0 = l4;
-  i0 = (u32)(j0);
-  i0 = i32_load8_u(j0 + 156u);
+  i0 = i32_load8_u(j0 + 188u);
   l29 = i0;
   j0 = l4;
   i0 = (u32)(j0);
-  i0 = i32_load8_u(j0 + 155u);
-  l31 = i0;
+  i0 = i32_load8_u(j0 + 187u);
+  l30 = i0;
   j0 = l4;
   i0 = (u32)(j0);
-  i0 = i32_load8_u(j0 + 154u);
-  l32 = i0;
+  i0 = i32_load8_u(j0 + 186u);
+  l23 = i0;
   j0 = l4;
   i0 = (u32)(j0);
-  i0 = i32_load8_u(j0 + 153u);
+  i0 = i32_load8_u(j0 + 185u);
+  l24 = i0;
+  j0 = l4;
+  i0 = (u32)(j0);
+  i0 = i32_load8_u(j0 + 184u);
+  l26 = i0;
+  j0 = l4;
+  i0 = (u32)(j0);
+  i0 = i32_load8_u(j0 + 183u);
+  l33 = i0;
+  j0 = l4;
+  i0 = (u32)(j0);
+  i0 = i32_load8_u(j0 + 182u);
   l35 = i0;
   j0 = l4;
   i0 = (u32)(j0);
-  i0 = i32_load8_u(j0 + 152u);
+  i0 = i32_load8_u(j0 + 181u);
+  l32 = i0;
+  j0 = l4;
+  i0 = (u32)(j0);
+  i0 = i32_load8_u(j0 + 180u);
+  l34 = i0;
+  j0 = l4;
+  i0 = (u32)(j0);
+  i0 = i32_load8_u(j0 + 179u);
+  l31 = i0;
+  j0 = l4;
+  i0 = (u32)(j0);
+  i0 = i32_load8_u(j0 + 178u);
   l36 = i0;
   j0 = l4;
   i0 = (u32)(j0);
-  i0 = i32_load8_u(j0 + 151u);
+  i0 = i32_load8_u(j0 + 177u);
   l37 = i0;
   j0 = l4;
   i0 = (u32)(j0);
-  i0 = i32_load8_u(j0 + 150u);
+  i0 = i32_load8_u(j0 + 176u);
   l38 = i0;
   j0 = l4;
   i0 = (u32)(j0);
-  i0 = i32_load8_u(j0 + 149u);
+  i0 = i32_load8_u(j0 + 175u);
   l39 = i0;
   j0 = l4;
   i0 = (u32)(j0);
-  i0 = i32_load8_u(j0 + 148u);
+  i0 = i32_load8_u(j0 + 174u);
   l40 = i0;
   j0 = l4;
   i0 = (u32)(j0);
-  i0 = i32_load8_u(j0 + 147u);
+  i0 = i32_load8_u(j0 + 173u);
   l41 = i0;
   j0 = l4;
   i0 = (u32)(j0);
-  i0 = i32_load8_u(j0 + 146u);
+  i0 = i32_load8_u(j0 + 172u);
   l42 = i0;
   j0 = l4;
   i0 = (u32)(j0);
-  i0 = i32_load8_u(j0 + 145u);
+  i0 = i32_load8_u(j0 + 171u);
   l43 = i0;
   j0 = l4;
   i0 = (u32)(j0);
-  i0 = i32_load8_u(j0 + 144u);
+  i0 = i32_load8_u(j0 + 170u);
   l44 = i0;
-  L34: 
+  j0 = l4;
+  i0 = (u32)(j0);
+  i0 = i32_load8_u(j0 + 169u);
+  l45 = i0;
+  j0 = l4;
+  i0 = (u32)(j0);
+  i0 = i32_load8_u(j0 + 168u);
+  l46 = i0;
+  L37: 
     j0 = p3;
     j1 = l4;
-    j2 = 144ull;
+    j2 = 168ull;
     j1 += j2;
     j0 -= j1;
     j1 = 23ull;
     i0 = j0 > j1;
-    if (i0) {goto B36;}
+    if (i0) {goto B39;}
     j0 = p3;
     i0 = (u32)(j0);
-    i1 = l44;
+    i1 = l46;
     i32_store8(j0, i1);
     j0 = p3;
     j1 = 23ull;
-    j0 += j1;
-    i0 = (u32)(j0);
-    i1 = l23;
-    i32_store8(j0, i1);
-    j0 = p3;
-    j1 = 22ull;
     j0 += j1;
     i0 = (u32)(j0);
     i1 = l25;
     i32_store8(j0, i1);
     j0 = p3;
-    j1 = 21ull;
-    j0 += j1;
-    i0 = (u32)(j0);
-    i1 = l26;
-    i32_store8(j0, i1);
-    j0 = p3;
-    j1 = 20ull;
+    j1 = 22ull;
     j0 += j1;
     i0 = (u32)(j0);
     i1 = l27;
     i32_store8(j0, i1);
     j0 = p3;
-    j1 = 19ull;
+    j1 = 21ull;
     j0 += j1;
     i0 = (u32)(j0);
     i1 = l28;
     i32_store8(j0, i1);
     j0 = p3;
-    j1 = 18ull;
+    j1 = 20ull;
     j0 += j1;
     i0 = (u32)(j0);
-    i1 = l21;
+    i1 = l29;
     i32_store8(j0, i1);
     j0 = p3;
-    j1 = 17ull;
-    j0 += j1;
-    i0 = (u32)(j0);
-    i1 = l22;
-    i32_store8(j0, i1);
-    j0 = p3;
-    j1 = 16ull;
-    j0 += j1;
-    i0 = (u32)(j0);
-    i1 = l24;
-    i32_store8(j0, i1);
-    j0 = p3;
-    j1 = 15ull;
-    j0 += j1;
-    i0 = (u32)(j0);
-    i1 = l34;
-    i32_store8(j0, i1);
-    j0 = p3;
-    j1 = 14ull;
+    j1 = 19ull;
     j0 += j1;
     i0 = (u32)(j0);
     i1 = l30;
     i32_store8(j0, i1);
     j0 = p3;
-    j1 = 13ull;
+    j1 = 18ull;
+    j0 += j1;
+    i0 = (u32)(j0);
+    i1 = l23;
+    i32_store8(j0, i1);
+    j0 = p3;
+    j1 = 17ull;
+    j0 += j1;
+    i0 = (u32)(j0);
+    i1 = l24;
+    i32_store8(j0, i1);
+    j0 = p3;
+    j1 = 16ull;
+    j0 += j1;
+    i0 = (u32)(j0);
+    i1 = l26;
+    i32_store8(j0, i1);
+    j0 = p3;
+    j1 = 15ull;
     j0 += j1;
     i0 = (u32)(j0);
     i1 = l33;
     i32_store8(j0, i1);
     j0 = p3;
+    j1 = 14ull;
+    j0 += j1;
+    i0 = (u32)(j0);
+    i1 = l35;
+    i32_store8(j0, i1);
+    j0 = p3;
+    j1 = 13ull;
+    j0 += j1;
+    i0 = (u32)(j0);
+    i1 = l32;
+    i32_store8(j0, i1);
+    j0 = p3;
     j1 = 12ull;
     j0 += j1;
     i0 = (u32)(j0);
-    i1 = l29;
+    i1 = l34;
     i32_store8(j0, i1);
     j0 = p3;
     j1 = 11ull;
@@ -8083,114 +7718,114 @@ static void f5(module *self, u64 p0, u64 p1, u64 p2, u64 p3) {
     j1 = 10ull;
     j0 += j1;
     i0 = (u32)(j0);
-    i1 = l32;
+    i1 = l36;
     i32_store8(j0, i1);
     j0 = p3;
     j1 = 9ull;
     j0 += j1;
     i0 = (u32)(j0);
-    i1 = l35;
+    i1 = l37;
     i32_store8(j0, i1);
     j0 = p3;
     j1 = 8ull;
     j0 += j1;
     i0 = (u32)(j0);
-    i1 = l36;
+    i1 = l38;
     i32_store8(j0, i1);
     j0 = p3;
     j1 = 7ull;
     j0 += j1;
     i0 = (u32)(j0);
-    i1 = l37;
+    i1 = l39;
     i32_store8(j0, i1);
     j0 = p3;
     j1 = 6ull;
     j0 += j1;
     i0 = (u32)(j0);
-    i1 = l38;
+    i1 = l40;
     i32_store8(j0, i1);
     j0 = p3;
     j1 = 5ull;
     j0 += j1;
     i0 = (u32)(j0);
-    i1 = l39;
+    i1 = l41;
     i32_store8(j0, i1);
     j0 = p3;
     j1 = 4ull;
     j0 += j1;
     i0 = (u32)(j0);
-    i1 = l40;
+    i1 = l42;
     i32_store8(j0, i1);
     j0 = p3;
     j1 = 3ull;
     j0 += j1;
     i0 = (u32)(j0);
-    i1 = l41;
+    i1 = l43;
     i32_store8(j0, i1);
     j0 = p3;
     j1 = 2ull;
     j0 += j1;
     i0 = (u32)(j0);
-    i1 = l42;
+    i1 = l44;
     i32_store8(j0, i1);
     j0 = p3;
     j1 = 1ull;
     j0 += j1;
     i0 = (u32)(j0);
-    i1 = l43;
+    i1 = l45;
     i32_store8(j0, i1);
-    goto B35;
-    B36:;
+    goto B38;
+    B39:;
     j0 = p3;
     i0 = (u32)(j0);
     j1 = l4;
     i1 = (u32)(j1);
-    j1 = i64_load(j1 + 160u);
+    j1 = i64_load(j1 + 184u);
     i64_store(j0 + 16, j1);
     j0 = p3;
     i0 = (u32)(j0);
     j1 = l4;
     i1 = (u32)(j1);
-    j1 = i64_load(j1 + 152u);
+    j1 = i64_load(j1 + 176u);
     i64_store(j0 + 8, j1);
     j0 = p3;
     i0 = (u32)(j0);
     j1 = l4;
     i1 = (u32)(j1);
-    j1 = i64_load(j1 + 144u);
+    j1 = i64_load(j1 + 168u);
     i64_store(j0, j1);
-    B35:;
+    B38:;
     j0 = p3;
     j1 = 24ull;
     j0 += j1;
     p3 = j0;
-    j0 = l5;
+    j0 = p0;
     j1 = 18446744073709551615ull;
     j0 += j1;
-    l5 = j0;
+    p0 = j0;
     j1 = 0ull;
     i0 = j0 != j1;
-    if (i0) {goto L34;}
+    if (i0) {goto L37;}
   B0:;
   j0 = l4;
-  j1 = 1808ull;
+  j1 = 1488ull;
   j0 += j1;
   self->g0 = j0;
 }
 
 static void f6(module *self, u64 p0, u64 p1, u64 p2, u64 p3) {
-  u32 l21 = 0, l22 = 0, l23 = 0, l24 = 0, l25 = 0, l26 = 0, l27 = 0, l28 = 0, 
-      l29 = 0, l30 = 0, l31 = 0, l32 = 0, l33 = 0, l34 = 0, l35 = 0, l36 = 0, 
-      l37 = 0, l38 = 0, l39 = 0, l40 = 0, l41 = 0, l42 = 0, l43 = 0, l44 = 0, 
-      l45 = 0, l46 = 0, l47 = 0;
+  u32 l23 = 0, l24 = 0, l25 = 0, l26 = 0, l27 = 0, l28 = 0, l29 = 0, l30 = 0, 
+      l31 = 0, l32 = 0, l33 = 0, l34 = 0, l35 = 0, l36 = 0, l37 = 0, l38 = 0, 
+      l39 = 0, l40 = 0, l41 = 0, l42 = 0, l43 = 0, l44 = 0, l45 = 0, l46 = 0, 
+      l47 = 0, l48 = 0, l49 = 0;
   u64 l4 = 0, l5 = 0, l6 = 0, l7 = 0, l8 = 0, l9 = 0, l10 = 0, l11 = 0, 
       l12 = 0, l13 = 0, l14 = 0, l15 = 0, l16 = 0, l17 = 0, l18 = 0, l19 = 0, 
-      l20 = 0;
+      l20 = 0, l21 = 0, l22 = 0;
   u8 *m = self->memory;
   u32 i0, i1, i2, i3, i4, i5, i6, i7;
   u64 j0, j1, j2, j3, j4, j5, j6;
   j0 = self->g0;
-  j1 = 1808ull;
+  j1 = 1488ull;
   j0 -= j1;
   l4 = j0;
   self->g0 = j0;
@@ -8256,7 +7891,7 @@ static void f6(module *self, u64 p0, u64 p1, u64 p2, u64 p3) {
   i0 = !(i0);
   if (i0) {goto B2;}
   i0 = 16u;
-  l21 = i0;
+  l23 = i0;
   j0 = p0;
   j1 = 8ull;
   j0 += j1;
@@ -8272,7 +7907,7 @@ static void f6(module *self, u64 p0, u64 p1, u64 p2, u64 p3) {
   i0 = !(i0);
   if (i0) {goto B4;}
   i0 = 4u;
-  l22 = i0;
+  l24 = i0;
   goto B3;
   B4:;
   j0 = l5;
@@ -8280,24 +7915,24 @@ static void f6(module *self, u64 p0, u64 p1, u64 p2, u64 p3) {
   j0 += j1;
   i0 = (u32)(j0);
   i0 = i32_load8_u(j0);
-  l23 = i0;
+  l25 = i0;
   i1 = 64u;
   i0 &= i1;
   i0 = !(i0);
   if (i0) {goto B5;}
   i0 = 1u;
-  l22 = i0;
+  l24 = i0;
   goto B3;
   B5:;
   i0 = 15u;
   i1 = 13u;
-  i2 = l23;
+  i2 = l25;
   i3 = 32u;
   i2 &= i3;
   i0 = i2 ? i0 : i1;
-  l21 = i0;
+  l23 = i0;
   i0 = 2u;
-  l22 = i0;
+  l24 = i0;
   B3:;
   j0 = p2;
   i0 = !(j0);
@@ -8310,7 +7945,7 @@ static void f6(module *self, u64 p0, u64 p1, u64 p2, u64 p3) {
   j1 = p1;
   i1 = (u32)(j1);
   i0 += i1;
-  l24 = i0;
+  l26 = i0;
   j0 = p2;
   j1 = 27ull;
   j0 *= j1;
@@ -8334,25 +7969,25 @@ static void f6(module *self, u64 p0, u64 p1, u64 p2, u64 p3) {
     j1 += j2;
     i1 = (u32)(j1);
     i1 = i32_load8_u(j1);
-    l23 = i1;
+    l25 = i1;
     j2 = p0;
     i2 = (u32)(j2);
     j2 = i64_load(j2);
     i2 = (u32)(j2);
     j2 = i64_load(j2);
-    i3 = l24;
+    i3 = l26;
     j4 = l8;
     i4 = (u32)(j4);
     i3 += i4;
-    l25 = i3;
+    l27 = i3;
     i4 = 65535u;
     i3 &= i4;
-    i4 = l21;
+    i4 = l23;
     i3 >>= (i4 & 31);
     i4 = 1u;
     i3 &= i4;
-    i4 = l25;
-    i5 = l22;
+    i4 = l27;
+    i5 = l24;
     i4 *= i5;
     i3 += i4;
     j3 = (u64)(i3);
@@ -8363,34 +7998,8 @@ static void f6(module *self, u64 p0, u64 p1, u64 p2, u64 p3) {
     j2 += j3;
     i2 = (u32)(j2);
     i2 = i32_load(j2);
-    l25 = i2;
+    l27 = i2;
     i3 = 24u;
-    i2 >>= (i3 & 31);
-    i1 &= i2;
-    j1 = (u64)(i1);
-    j2 = 2ull;
-    j1 <<= (j2 & 63);
-    j0 += j1;
-    i0 = (u32)(j0);
-    i0 = i32_load(j0);
-    l26 = i0;
-    j0 = p1;
-    i1 = l23;
-    i2 = l25;
-    i3 = 16u;
-    i2 >>= (i3 & 31);
-    i1 &= i2;
-    j1 = (u64)(i1);
-    j2 = 2ull;
-    j1 <<= (j2 & 63);
-    j0 += j1;
-    i0 = (u32)(j0);
-    i0 = i32_load(j0);
-    l27 = i0;
-    j0 = p1;
-    i1 = l23;
-    i2 = l25;
-    i3 = 8u;
     i2 >>= (i3 & 31);
     i1 &= i2;
     j1 = (u64)(i1);
@@ -8401,17 +8010,43 @@ static void f6(module *self, u64 p0, u64 p1, u64 p2, u64 p3) {
     i0 = i32_load(j0);
     l28 = i0;
     j0 = p1;
+    i1 = l25;
+    i2 = l27;
+    i3 = 16u;
+    i2 >>= (i3 & 31);
+    i1 &= i2;
+    j1 = (u64)(i1);
+    j2 = 2ull;
+    j1 <<= (j2 & 63);
+    j0 += j1;
     i0 = (u32)(j0);
     i0 = i32_load(j0);
     l29 = i0;
+    j0 = p1;
+    i1 = l25;
+    i2 = l27;
+    i3 = 8u;
+    i2 >>= (i3 & 31);
+    i1 &= i2;
+    j1 = (u64)(i1);
+    j2 = 2ull;
+    j1 <<= (j2 & 63);
+    j0 += j1;
+    i0 = (u32)(j0);
+    i0 = i32_load(j0);
+    l30 = i0;
+    j0 = p1;
+    i0 = (u32)(j0);
+    i0 = i32_load(j0);
+    l31 = i0;
     j0 = p3;
     j1 = l7;
     j0 += j1;
     l5 = j0;
     i0 = (u32)(j0);
     j1 = p1;
-    i2 = l23;
-    i3 = l25;
+    i2 = l25;
+    i3 = l27;
     i2 &= i3;
     j2 = (u64)(i2);
     j3 = 2ull;
@@ -8419,55 +8054,55 @@ static void f6(module *self, u64 p0, u64 p1, u64 p2, u64 p3) {
     j1 += j2;
     i1 = (u32)(j1);
     i1 = i32_load(j1);
-    l23 = i1;
+    l25 = i1;
     i32_store(j0, i1);
     j0 = l5;
     j1 = 3ull;
     j0 += j1;
     i0 = (u32)(j0);
-    i1 = l23;
+    i1 = l25;
     i32_store(j0, i1);
     j0 = l5;
     j1 = 6ull;
     j0 += j1;
     i0 = (u32)(j0);
-    i1 = l28;
+    i1 = l30;
     i32_store(j0, i1);
     j0 = l5;
     j1 = 9ull;
     j0 += j1;
     i0 = (u32)(j0);
-    i1 = l28;
+    i1 = l30;
     i32_store(j0, i1);
     j0 = l5;
     j1 = 12ull;
     j0 += j1;
     i0 = (u32)(j0);
-    i1 = l27;
+    i1 = l29;
     i32_store(j0, i1);
     j0 = l5;
     j1 = 15ull;
     j0 += j1;
     i0 = (u32)(j0);
-    i1 = l27;
+    i1 = l29;
     i32_store(j0, i1);
     j0 = l5;
     j1 = 18ull;
     j0 += j1;
     i0 = (u32)(j0);
-    i1 = l26;
+    i1 = l28;
     i32_store(j0, i1);
     j0 = l5;
     j1 = 21ull;
     j0 += j1;
     i0 = (u32)(j0);
-    i1 = l26;
+    i1 = l28;
     i32_store(j0, i1);
     j0 = l5;
     j1 = 26ull;
     j0 += j1;
     i0 = (u32)(j0);
-    i1 = l29;
+    i1 = l31;
     i2 = 16u;
     i1 >>= (i2 & 31);
     i32_store8(j0, i1);
@@ -8475,7 +8110,7 @@ static void f6(module *self, u64 p0, u64 p1, u64 p2, u64 p3) {
     j1 = 25ull;
     j0 += j1;
     i0 = (u32)(j0);
-    i1 = l29;
+    i1 = l31;
     i2 = 8u;
     i1 >>= (i2 & 31);
     i32_store8(j0, i1);
@@ -8483,7 +8118,7 @@ static void f6(module *self, u64 p0, u64 p1, u64 p2, u64 p3) {
     j1 = 24ull;
     j0 += j1;
     i0 = (u32)(j0);
-    i1 = l29;
+    i1 = l31;
     i32_store8(j0, i1);
     j0 = l8;
     j1 = 1ull;
@@ -8500,7 +8135,7 @@ static void f6(module *self, u64 p0, u64 p1, u64 p2, u64 p3) {
   { self->is_broken = true; return; }
   B2:;
   i0 = 16u;
-  l25 = i0;
+  l27 = i0;
   j0 = p0;
   j1 = 8ull;
   j0 += j1;
@@ -8516,7 +8151,7 @@ static void f6(module *self, u64 p0, u64 p1, u64 p2, u64 p3) {
   i0 = !(i0);
   if (i0) {goto B8;}
   i0 = 4u;
-  l26 = i0;
+  l28 = i0;
   goto B7;
   B8:;
   j0 = l5;
@@ -8524,27 +8159,27 @@ static void f6(module *self, u64 p0, u64 p1, u64 p2, u64 p3) {
   j0 += j1;
   i0 = (u32)(j0);
   i0 = i32_load8_u(j0);
-  l23 = i0;
+  l25 = i0;
   i1 = 64u;
   i0 &= i1;
   i0 = !(i0);
   if (i0) {goto B9;}
   i0 = 1u;
-  l26 = i0;
+  l28 = i0;
   goto B7;
   B9:;
   i0 = 15u;
   i1 = 13u;
-  i2 = l23;
+  i2 = l25;
   i3 = 32u;
   i2 &= i3;
   i0 = i2 ? i0 : i1;
-  l25 = i0;
+  l27 = i0;
   i0 = 2u;
-  l26 = i0;
+  l28 = i0;
   B7:;
   j0 = l4;
-  j1 = 144ull;
+  j1 = 168ull;
   j0 += j1;
   j1 = p0;
   j2 = 16ull;
@@ -8561,56 +8196,56 @@ static void f6(module *self, u64 p0, u64 p1, u64 p2, u64 p3) {
   i0 = (u32)(j0);
   j1 = l4;
   i1 = (u32)(j1);
-  j1 = i64_load(j1 + 200u);
+  j1 = i64_load(j1 + 224u);
   l7 = j1;
   i64_store(j0 + 136, j1);
   j0 = l4;
   i0 = (u32)(j0);
   j1 = l4;
   i1 = (u32)(j1);
-  j1 = i64_load(j1 + 192u);
+  j1 = i64_load(j1 + 216u);
   l8 = j1;
   i64_store(j0 + 128, j1);
   j0 = l4;
   i0 = (u32)(j0);
   j1 = l4;
   i1 = (u32)(j1);
-  j1 = i64_load(j1 + 184u);
+  j1 = i64_load(j1 + 208u);
   l6 = j1;
   i64_store(j0 + 120, j1);
   j0 = l4;
   i0 = (u32)(j0);
   j1 = l4;
   i1 = (u32)(j1);
-  j1 = i64_load(j1 + 176u);
+  j1 = i64_load(j1 + 200u);
   l9 = j1;
   i64_store(j0 + 112, j1);
   j0 = l4;
   i0 = (u32)(j0);
   j1 = l4;
   i1 = (u32)(j1);
-  j1 = i64_load(j1 + 168u);
+  j1 = i64_load(j1 + 192u);
   l10 = j1;
   i64_store(j0 + 104, j1);
   j0 = l4;
   i0 = (u32)(j0);
   j1 = l4;
   i1 = (u32)(j1);
-  j1 = i64_load(j1 + 160u);
+  j1 = i64_load(j1 + 184u);
   l11 = j1;
   i64_store(j0 + 96, j1);
   j0 = l4;
   i0 = (u32)(j0);
   j1 = l4;
   i1 = (u32)(j1);
-  j1 = i64_load(j1 + 152u);
+  j1 = i64_load(j1 + 176u);
   l12 = j1;
   i64_store(j0 + 88, j1);
   j0 = l4;
   i0 = (u32)(j0);
   j1 = l4;
   i1 = (u32)(j1);
-  j1 = i64_load(j1 + 144u);
+  j1 = i64_load(j1 + 168u);
   l13 = j1;
   i64_store(j0 + 80, j1);
   j0 = l4;
@@ -8656,7 +8291,7 @@ static void f6(module *self, u64 p0, u64 p1, u64 p2, u64 p3) {
   j1 = p1;
   i1 = (u32)(j1);
   i0 += i1;
-  l27 = i0;
+  l29 = i0;
   j0 = l4;
   j1 = 8ull;
   j0 += j1;
@@ -8670,14 +8305,14 @@ static void f6(module *self, u64 p0, u64 p1, u64 p2, u64 p3) {
   j0 = l4;
   i0 = (u32)(j0);
   i0 = i32_load(j0 + 16u);
-  l29 = i0;
+  l31 = i0;
   i1 = 16u;
   i0 >>= (i1 & 31);
-  l28 = i0;
-  i0 = l29;
+  l30 = i0;
+  i0 = l31;
   i1 = 8u;
   i0 >>= (i1 & 31);
-  l21 = i0;
+  l23 = i0;
   j0 = 0ull;
   l7 = j0;
   j0 = 0ull;
@@ -8694,19 +8329,19 @@ static void f6(module *self, u64 p0, u64 p1, u64 p2, u64 p3) {
     j2 = i64_load(j2);
     i2 = (u32)(j2);
     j2 = i64_load(j2);
-    i3 = l27;
+    i3 = l29;
     j4 = l8;
     i4 = (u32)(j4);
     i3 += i4;
-    l23 = i3;
+    l25 = i3;
     i4 = 65535u;
     i3 &= i4;
-    i4 = l25;
+    i4 = l27;
     i3 >>= (i4 & 31);
     i4 = 1u;
     i3 &= i4;
-    i4 = l23;
-    i5 = l26;
+    i4 = l25;
+    i5 = l28;
     i4 *= i5;
     i3 += i4;
     j3 = (u64)(i3);
@@ -8717,7 +8352,7 @@ static void f6(module *self, u64 p0, u64 p1, u64 p2, u64 p3) {
     j2 += j3;
     i2 = (u32)(j2);
     i2 = i32_load(j2);
-    l23 = i2;
+    l25 = i2;
     i3 = 2155905152u;
     i2 &= i3;
     i3 = 2113665u;
@@ -8736,7 +8371,7 @@ static void f6(module *self, u64 p0, u64 p1, u64 p2, u64 p3) {
     j0 += j1;
     i0 = (u32)(j0);
     j1 = p1;
-    i2 = l23;
+    i2 = l25;
     i3 = 1077952576u;
     i2 &= i3;
     i3 = 4227330u;
@@ -8755,7 +8390,7 @@ static void f6(module *self, u64 p0, u64 p1, u64 p2, u64 p3) {
     j0 += j1;
     i0 = (u32)(j0);
     j1 = p1;
-    i2 = l23;
+    i2 = l25;
     i3 = 538976288u;
     i2 &= i3;
     i3 = 8454660u;
@@ -8774,7 +8409,7 @@ static void f6(module *self, u64 p0, u64 p1, u64 p2, u64 p3) {
     j0 += j1;
     i0 = (u32)(j0);
     j1 = p1;
-    i2 = l23;
+    i2 = l25;
     i3 = 269488144u;
     i2 &= i3;
     i3 = 16909320u;
@@ -8793,7 +8428,7 @@ static void f6(module *self, u64 p0, u64 p1, u64 p2, u64 p3) {
     j0 += j1;
     i0 = (u32)(j0);
     j1 = p1;
-    i2 = l23;
+    i2 = l25;
     i3 = 134744072u;
     i2 &= i3;
     i3 = 33818640u;
@@ -8812,7 +8447,7 @@ static void f6(module *self, u64 p0, u64 p1, u64 p2, u64 p3) {
     j0 += j1;
     i0 = (u32)(j0);
     j1 = p1;
-    i2 = l23;
+    i2 = l25;
     i3 = 67372036u;
     i2 &= i3;
     i3 = 67637280u;
@@ -8831,7 +8466,7 @@ static void f6(module *self, u64 p0, u64 p1, u64 p2, u64 p3) {
     j0 += j1;
     i0 = (u32)(j0);
     j1 = p1;
-    i2 = l23;
+    i2 = l25;
     i3 = 33686018u;
     i2 &= i3;
     i3 = 135274560u;
@@ -8850,7 +8485,7 @@ static void f6(module *self, u64 p0, u64 p1, u64 p2, u64 p3) {
     j0 += j1;
     i0 = (u32)(j0);
     j1 = p1;
-    i2 = l23;
+    i2 = l25;
     i3 = 16843009u;
     i2 &= i3;
     i3 = 270549120u;
@@ -8868,19 +8503,19 @@ static void f6(module *self, u64 p0, u64 p1, u64 p2, u64 p3) {
     j1 = 26ull;
     j0 += j1;
     i0 = (u32)(j0);
-    i1 = l28;
+    i1 = l30;
     i32_store8(j0, i1);
     j0 = l5;
     j1 = 25ull;
     j0 += j1;
     i0 = (u32)(j0);
-    i1 = l21;
+    i1 = l23;
     i32_store8(j0, i1);
     j0 = l5;
     j1 = 24ull;
     j0 += j1;
     i0 = (u32)(j0);
-    i1 = l29;
+    i1 = l31;
     i32_store8(j0, i1);
     j0 = l8;
     j1 = 1ull;
@@ -8900,13 +8535,13 @@ static void f6(module *self, u64 p0, u64 p1, u64 p2, u64 p3) {
   i0 = !(j0);
   if (i0) {goto B0;}
   i0 = 16u;
-  l26 = i0;
+  l28 = i0;
   j0 = p0;
   j1 = 8ull;
   j0 += j1;
   i0 = (u32)(j0);
   j0 = i64_load(j0);
-  l12 = j0;
+  l7 = j0;
   j1 = 45ull;
   j0 += j1;
   i0 = (u32)(j0);
@@ -8916,92 +8551,81 @@ static void f6(module *self, u64 p0, u64 p1, u64 p2, u64 p3) {
   i0 = !(i0);
   if (i0) {goto B12;}
   i0 = 4u;
-  l27 = i0;
+  l29 = i0;
   goto B11;
   B12:;
-  j0 = l12;
+  j0 = l7;
   j1 = 48ull;
   j0 += j1;
   i0 = (u32)(j0);
   i0 = i32_load8_u(j0);
-  l23 = i0;
+  l25 = i0;
   i1 = 64u;
   i0 &= i1;
   i0 = !(i0);
   if (i0) {goto B13;}
   i0 = 1u;
-  l27 = i0;
+  l29 = i0;
   goto B11;
   B13:;
   i0 = 15u;
   i1 = 13u;
-  i2 = l23;
+  i2 = l25;
   i3 = 32u;
   i2 &= i3;
   i0 = i2 ? i0 : i1;
-  l26 = i0;
+  l28 = i0;
   i0 = 2u;
-  l27 = i0;
+  l29 = i0;
   B11:;
   j0 = l4;
   j1 = 144ull;
   j0 += j1;
+  j1 = 8ull;
+  j0 += j1;
+  l14 = j0;
   j1 = p0;
   f9(self, j0, j1);
   j0 = l4;
   i0 = (u32)(j0);
-  i0 = i32_load8_u(j0 + 156u);
-  l30 = i0;
+  i1 = 0u;
+  i32_store16(j0 + 146, i1);
+  j0 = l7;
+  j1 = 60ull;
+  j0 += j1;
+  i0 = (u32)(j0);
+  i0 = i32_load16_u(j0);
+  l24 = i0;
   j0 = l4;
   i0 = (u32)(j0);
-  i0 = i32_load16_u(j0 + 154u);
-  l31 = i0;
+  i1 = l29;
+  i32_store16(j0 + 144, i1);
   j0 = l4;
   i0 = (u32)(j0);
-  i0 = i32_load16_u(j0 + 152u);
-  l32 = i0;
-  j0 = l4;
-  i0 = (u32)(j0);
-  i0 = i32_load16_u(j0 + 150u);
-  l33 = i0;
-  j0 = l4;
-  i0 = (u32)(j0);
-  i0 = i32_load8_u(j0 + 149u);
-  l34 = i0;
-  j0 = l4;
-  i0 = (u32)(j0);
-  i0 = i32_load8_u(j0 + 148u);
-  l35 = i0;
-  j0 = l4;
-  i0 = (u32)(j0);
-  i0 = i32_load(j0 + 144u);
-  l28 = i0;
+  i1 = l28;
+  i32_store(j0 + 148, i1);
   j0 = l5;
   i0 = (u32)(j0);
   j0 = i64_load(j0);
   l7 = j0;
-  j1 = l12;
-  j2 = 60ull;
-  j1 += j2;
-  i1 = (u32)(j1);
-  i1 = i32_load16_u(j1);
+  i1 = l24;
   i2 = 4294967295u;
   i1 += i2;
-  l29 = i1;
+  l31 = i1;
   j2 = p2;
   j3 = p1;
   j2 += j3;
   i2 = (u32)(j2);
   i1 += i2;
-  l23 = i1;
+  l25 = i1;
   i2 = 65535u;
   i1 &= i2;
-  i2 = l26;
+  i2 = l28;
   i1 >>= (i2 & 31);
   i2 = 1u;
   i1 &= i2;
-  i2 = l23;
-  i3 = l27;
+  i2 = l25;
+  i3 = l29;
   i2 *= i3;
   i1 += i2;
   j1 = (u64)(i1);
@@ -9012,27 +8636,31 @@ static void f6(module *self, u64 p0, u64 p1, u64 p2, u64 p3) {
   j0 += j1;
   i0 = (u32)(j0);
   i0 = i32_load(j0);
-  l21 = i0;
+  l23 = i0;
+  j0 = l4;
+  i0 = (u32)(j0);
+  i0 = i32_load(j0 + 152u);
+  l30 = i0;
   j0 = p2;
   l5 = j0;
   L15: 
     j0 = l7;
-    i1 = l29;
+    i1 = l31;
     j2 = p1;
     j3 = l5;
     j2 += j3;
     i2 = (u32)(j2);
     i1 += i2;
-    l23 = i1;
+    l25 = i1;
     i2 = 65535u;
     i1 &= i2;
-    l25 = i1;
-    i2 = l26;
+    l27 = i1;
+    i2 = l28;
     i1 >>= (i2 & 31);
     i2 = 1u;
     i1 &= i2;
-    i2 = l23;
-    i3 = l27;
+    i2 = l25;
+    i3 = l29;
     i2 *= i3;
     i1 += i2;
     j1 = (u64)(i1);
@@ -9043,7 +8671,7 @@ static void f6(module *self, u64 p0, u64 p1, u64 p2, u64 p3) {
     j0 += j1;
     i0 = (u32)(j0);
     i0 = i32_load16_u(j0);
-    i1 = l21;
+    i1 = l23;
     i2 = 65535u;
     i1 &= i2;
     i0 = i0 == i1;
@@ -9052,8 +8680,8 @@ static void f6(module *self, u64 p0, u64 p1, u64 p2, u64 p3) {
     l8 = j0;
     goto B14;
     B16:;
-    i0 = l28;
-    i1 = l25;
+    i0 = l30;
+    i1 = l27;
     i0 = i0 != i1;
     if (i0) {goto B17;}
     j0 = l5;
@@ -9071,372 +8699,240 @@ static void f6(module *self, u64 p0, u64 p1, u64 p2, u64 p3) {
     if (i0) {goto L15;}
   B14:;
   j0 = l4;
-  j1 = 144ull;
+  j1 = 168ull;
   j0 += j1;
   i0 = (u32)(j0);
   i1 = 0u;
-  j2 = 1664ull;
+  j2 = 1296ull;
   i2 = (u32)(j2);
   memory_fill(j0, i1, j2);
-  j0 = p0;
-  j1 = 24ull;
+  j0 = l4;
+  j1 = 1464ull;
   j0 += j1;
-  i0 = (u32)(j0);
-  j0 = i64_load(j0);
-  l5 = j0;
-  j1 = l5;
-  j2 = 1796ull;
+  j1 = l4;
+  j2 = 168ull;
   j1 += j2;
-  l10 = j1;
-  i1 = (u32)(j1);
-  i1 = i32_load8_u(j1);
   j2 = p0;
   j3 = 16ull;
   j2 += j3;
   i2 = (u32)(j2);
   j2 = i64_load(j2);
-  l11 = j2;
-  j3 = 49ull;
-  j2 += j3;
-  i2 = (u32)(j2);
-  i2 = i32_load8_u(j2);
-  i1 &= i2;
-  j1 = (u64)(i1);
-  j2 = 255ull;
-  j1 &= j2;
-  l9 = j1;
+  l5 = j2;
+  j3 = p0;
+  j4 = 24ull;
+  j3 += j4;
+  i3 = (u32)(j3);
+  j3 = i64_load(j3);
+  l7 = j3;
+  i4 = 7u;
+  f10(self, j0, j1, j2, j3, i4);
+  j0 = l8;
+  j1 = 1ull;
   j0 += j1;
+  l15 = j0;
+  j0 = l4;
   i0 = (u32)(j0);
-  j0 = i64_load8_u(j0);
-  l7 = j0;
-  j0 = l5;
-  j1 = 256ull;
-  j0 += j1;
-  l13 = j0;
-  j1 = l9;
-  j0 += j1;
+  j0 = i64_load(j0 + 1480u);
+  l8 = j0;
+  j0 = l4;
   i0 = (u32)(j0);
-  j0 = i64_load8_u(j0);
-  l6 = j0;
-  j0 = l5;
-  j1 = 512ull;
-  j0 += j1;
-  l14 = j0;
-  j1 = l9;
-  j0 += j1;
-  i0 = (u32)(j0);
-  j0 = i64_load8_u(j0);
+  j0 = i64_load(j0 + 1472u);
   l9 = j0;
   j0 = l4;
   i0 = (u32)(j0);
-  j1 = 1ull;
-  i64_store(j0 + 368, j1);
+  j0 = i64_load(j0 + 1464u);
+  l10 = j0;
   j0 = l4;
   i0 = (u32)(j0);
-  j1 = l6;
-  j2 = l9;
-  j3 = 8ull;
-  j2 <<= (j3 & 63);
-  j1 |= j2;
-  l15 = j1;
-  j2 = l7;
-  j3 = 16ull;
-  j2 <<= (j3 & 63);
-  j1 |= j2;
-  j2 = 16777217ull;
-  j1 *= j2;
-  j2 = l15;
-  j3 = 48ull;
-  j2 <<= (j3 & 63);
-  j1 |= j2;
-  l16 = j1;
-  i64_store(j0 + 392, j1);
+  i0 = i32_load8_u(j0 + 168u);
+  i1 = 1u;
+  i0 = i0 != i1;
+  if (i0) {goto B19;}
   j0 = l4;
   i0 = (u32)(j0);
-  j1 = l9;
-  j2 = l7;
-  j3 = 8ull;
-  j2 <<= (j3 & 63);
-  j1 |= j2;
-  l15 = j1;
-  j2 = l6;
-  j3 = 16ull;
-  j2 <<= (j3 & 63);
-  j1 |= j2;
-  j2 = 16777217ull;
-  j1 *= j2;
-  j2 = l15;
-  j3 = 48ull;
-  j2 <<= (j3 & 63);
-  j1 |= j2;
-  l15 = j1;
-  i64_store(j0 + 384, j1);
-  j0 = l4;
-  i0 = (u32)(j0);
-  j1 = l7;
-  j2 = l6;
-  j3 = 8ull;
-  j2 <<= (j3 & 63);
-  j1 |= j2;
-  l7 = j1;
-  j2 = l9;
-  j3 = 16ull;
-  j2 <<= (j3 & 63);
-  j1 |= j2;
-  j2 = 16777217ull;
-  j1 *= j2;
-  j2 = l7;
-  j3 = 48ull;
-  j2 <<= (j3 & 63);
-  j1 |= j2;
-  l17 = j1;
-  i64_store(j0 + 376, j1);
-  j0 = l14;
-  j1 = l10;
+  j1 = l4;
   i1 = (u32)(j1);
-  i1 = i32_load8_u(j1);
-  j2 = l11;
-  j3 = 42ull;
-  j2 += j3;
-  i2 = (u32)(j2);
-  i2 = i32_load8_u(j2);
-  i1 &= i2;
-  j1 = (u64)(i1);
-  j2 = 255ull;
-  j1 &= j2;
-  l6 = j1;
+  j1 = i64_load(j1 + 200u);
+  i64_store(j0 + 1480, j1);
+  j0 = l4;
+  i0 = (u32)(j0);
+  j1 = l4;
+  i1 = (u32)(j1);
+  j1 = i64_load(j1 + 192u);
+  i64_store(j0 + 1472, j1);
+  j0 = l4;
+  i0 = (u32)(j0);
+  j1 = l4;
+  i1 = (u32)(j1);
+  j1 = i64_load(j1 + 184u);
+  i64_store(j0 + 1464, j1);
+  goto B18;
+  B19:;
+  j0 = l4;
+  j1 = 1464ull;
   j0 += j1;
-  i0 = (u32)(j0);
-  j0 = i64_load8_u(j0);
-  l7 = j0;
-  j0 = l5;
-  j1 = l6;
-  j0 += j1;
-  i0 = (u32)(j0);
-  j0 = i64_load8_u(j0);
-  l5 = j0;
-  j0 = l13;
-  j1 = l6;
-  j0 += j1;
-  i0 = (u32)(j0);
-  j0 = i64_load8_u(j0);
-  l9 = j0;
-  j0 = l4;
-  i0 = (u32)(j0);
-  j1 = 1ull;
-  i64_store(j0 + 144, j1);
-  j0 = l4;
-  i0 = (u32)(j0);
-  j1 = l5;
-  j2 = l9;
-  j3 = 8ull;
-  j2 <<= (j3 & 63);
-  j1 |= j2;
-  l6 = j1;
-  j2 = l7;
-  j3 = 16ull;
-  j2 <<= (j3 & 63);
-  j1 |= j2;
-  j2 = 16777217ull;
-  j1 *= j2;
-  j2 = l6;
-  j3 = 48ull;
-  j2 <<= (j3 & 63);
-  j1 |= j2;
-  l6 = j1;
-  i64_store(j0 + 152, j1);
-  j0 = l4;
-  i0 = (u32)(j0);
-  j1 = l7;
-  j2 = l5;
-  j3 = 8ull;
-  j2 <<= (j3 & 63);
-  j1 |= j2;
-  l10 = j1;
-  j2 = l9;
-  j3 = 16ull;
-  j2 <<= (j3 & 63);
-  j1 |= j2;
-  j2 = 16777217ull;
-  j1 *= j2;
-  j2 = l10;
-  j3 = 48ull;
-  j2 <<= (j3 & 63);
-  j1 |= j2;
-  l10 = j1;
-  i64_store(j0 + 160, j1);
-  j0 = l4;
-  i0 = (u32)(j0);
-  j1 = l9;
-  j2 = l7;
-  j3 = 8ull;
-  j2 <<= (j3 & 63);
-  j1 |= j2;
-  l7 = j1;
-  j2 = l5;
-  j3 = 16ull;
-  j2 <<= (j3 & 63);
-  j1 |= j2;
-  j2 = 16777217ull;
-  j1 *= j2;
-  j2 = l7;
-  j3 = 48ull;
-  j2 <<= (j3 & 63);
-  j1 |= j2;
-  l11 = j1;
-  i64_store(j0 + 168, j1);
-  j0 = p2;
-  j1 = l8;
-  j2 = 1ull;
+  j1 = l4;
+  j2 = 168ull;
   j1 += j2;
-  l18 = j1;
+  j2 = l5;
+  j3 = l7;
+  i4 = 0u;
+  f10(self, j0, j1, j2, j3, i4);
+  B18:;
+  j0 = p2;
+  j1 = l15;
   i0 = j0 < j1;
-  l23 = i0;
+  l25 = i0;
   i0 = 7u;
-  l21 = i0;
+  l23 = i0;
+  j0 = l4;
+  i0 = (u32)(j0);
+  j0 = i64_load(j0 + 1480u);
+  l11 = j0;
+  j0 = l4;
+  i0 = (u32)(j0);
+  j0 = i64_load(j0 + 1472u);
+  l12 = j0;
+  j0 = l4;
+  i0 = (u32)(j0);
+  j0 = i64_load(j0 + 1464u);
+  l6 = j0;
   j0 = 0ull;
   l7 = j0;
-  i0 = l35;
+  j0 = l4;
+  i0 = (u32)(j0);
+  i0 = i32_load8_u(j0 + 157u);
+  l32 = i0;
+  j0 = l4;
+  i0 = (u32)(j0);
+  i0 = i32_load8_u(j0 + 156u);
+  l33 = i0;
   i1 = 7u;
   i0 &= i1;
-  if (i0) {goto B19;}
-  i0 = l34;
+  if (i0) {goto B21;}
+  i0 = l32;
   i1 = 255u;
   i0 &= i1;
   i1 = 7u;
   i0 = i0 != i1;
-  if (i0) {goto B20;}
-  j0 = l17;
-  l6 = j0;
-  j0 = l15;
-  l10 = j0;
-  j0 = l16;
-  l11 = j0;
-  goto B19;
-  B20:;
-  j0 = l11;
-  j1 = l16;
-  j0 ^= j1;
-  l14 = j0;
+  if (i0) {goto B22;}
+  i0 = 7u;
+  l32 = i0;
   j0 = l10;
-  j1 = l15;
+  l6 = j0;
+  j0 = l9;
+  l12 = j0;
+  j0 = l8;
+  l11 = j0;
+  goto B21;
+  B22:;
+  j0 = l11;
+  j1 = l8;
+  j0 ^= j1;
+  l16 = j0;
+  j0 = l12;
+  j1 = l9;
   j0 ^= j1;
   l13 = j0;
   j0 = l6;
-  j1 = l17;
+  j1 = l10;
   j0 ^= j1;
   l9 = j0;
-  goto B18;
-  B19:;
+  goto B20;
+  B21:;
   j0 = 0ull;
   l9 = j0;
   j0 = 0ull;
   l13 = j0;
   j0 = 0ull;
-  l14 = j0;
-  B18:;
-  j0 = p2;
-  j1 = l18;
-  i2 = l23;
-  j0 = i2 ? j0 : j1;
-  l15 = j0;
-  j0 = l4;
-  j1 = 144ull;
-  j0 += j1;
-  j1 = 512ull;
-  j0 += j1;
   l16 = j0;
+  B20:;
+  j0 = p2;
+  j1 = l15;
+  i2 = l25;
+  j0 = i2 ? j0 : j1;
+  l17 = j0;
+  j0 = l4;
+  j1 = 568ull;
+  j0 += j1;
+  l18 = j0;
   j0 = l4;
   i0 = (u32)(j0);
-  i1 = 0u;
-  i32_store(j0 + 1169, i1);
-  j0 = l4;
-  i0 = (u32)(j0);
-  i1 = 7u;
-  i32_store8(j0 + 1168, i1);
-  j0 = l4;
-  i0 = (u32)(j0);
-  j1 = 1ull;
-  i64_store(j0 + 1160, j1);
-  j0 = l4;
-  i0 = (u32)(j0);
-  i1 = 0u;
-  i32_store(j0 + 1172, i1);
-  j0 = l4;
-  i0 = (u32)(j0);
-  i1 = 0u;
-  i32_store(j0 + 1226, i1);
-  j0 = l4;
-  i0 = (u32)(j0);
-  i1 = l32;
-  i32_store16(j0 + 1224, i1);
-  j0 = l4;
-  i0 = (u32)(j0);
-  j1 = l14;
-  i64_store(j0 + 1216, j1);
+  j1 = l16;
+  i64_store(j0 + 1008, j1);
   j0 = l4;
   i0 = (u32)(j0);
   j1 = l13;
-  i64_store(j0 + 1208, j1);
+  i64_store(j0 + 1000, j1);
   j0 = l4;
   i0 = (u32)(j0);
   j1 = l9;
-  i64_store(j0 + 1200, j1);
+  i64_store(j0 + 992, j1);
   j0 = l4;
   i0 = (u32)(j0);
   j1 = l11;
-  i64_store(j0 + 1192, j1);
+  i64_store(j0 + 984, j1);
   j0 = l4;
   i0 = (u32)(j0);
-  j1 = l10;
-  i64_store(j0 + 1184, j1);
+  j1 = l12;
+  i64_store(j0 + 976, j1);
   j0 = l4;
   i0 = (u32)(j0);
   j1 = l6;
-  i64_store(j0 + 1176, j1);
+  i64_store(j0 + 968, j1);
   j0 = l4;
   i0 = (u32)(j0);
-  i1 = 0u;
-  i32_store16(j0 + 1230, i1);
-  j0 = l12;
-  j1 = 60ull;
-  j0 += j1;
-  i0 = (u32)(j0);
-  i0 = i32_load16_u(j0);
+  j1 = 263ull;
+  i64_store(j0 + 960, j1);
+  i0 = l24;
   j1 = p1;
   i1 = (u32)(j1);
   i0 += i1;
-  l22 = i0;
+  l26 = i0;
+  j0 = l4;
+  j1 = 184ull;
+  j0 += j1;
+  l19 = j0;
+  j0 = l4;
+  i0 = (u32)(j0);
+  i0 = i32_load16_u(j0 + 162u);
+  l34 = i0;
+  j0 = l4;
+  i0 = (u32)(j0);
+  i0 = i32_load8_u(j0 + 164u);
+  l35 = i0;
+  j0 = l4;
+  i0 = (u32)(j0);
+  i0 = i32_load16_u(j0 + 160u);
+  l36 = i0;
   j0 = 0ull;
   l8 = j0;
   j0 = 0ull;
-  p1 = j0;
-  i0 = l32;
-  l24 = i0;
-  L21: 
-    i0 = l21;
+  l5 = j0;
+  L23: 
+    i0 = l23;
     i1 = 255u;
     i0 &= i1;
     j1 = p0;
     i1 = (u32)(j1);
     j1 = i64_load(j1);
-    l12 = j1;
     i1 = (u32)(j1);
     j1 = i64_load(j1);
-    i2 = l22;
-    j3 = p1;
+    l10 = j1;
+    i2 = l26;
+    j3 = l5;
     i3 = (u32)(j3);
     i2 += i3;
-    l23 = i2;
+    l25 = i2;
     i3 = 65535u;
     i2 &= i3;
-    l25 = i2;
-    i3 = l26;
+    l27 = i2;
+    i3 = l28;
     i2 >>= (i3 & 31);
     i3 = 1u;
     i2 &= i3;
-    i3 = l23;
-    i4 = l27;
+    i3 = l25;
+    i4 = l29;
     i3 *= i4;
     i2 += i3;
     j2 = (u64)(i2);
@@ -9447,518 +8943,306 @@ static void f6(module *self, u64 p0, u64 p1, u64 p2, u64 p3) {
     j1 += j2;
     i1 = (u32)(j1);
     i1 = i32_load(j1);
-    l29 = i1;
+    l31 = i1;
     i2 = 8u;
     i1 >>= (i2 & 31);
-    l23 = i1;
+    l25 = i1;
     i2 = 255u;
     i1 &= i2;
+    l24 = i1;
     i0 = i0 == i1;
-    if (i0) {goto B22;}
-    j0 = l16;
-    i1 = l23;
+    if (i0) {goto B24;}
+    j0 = l18;
+    i1 = l25;
     j1 = (u64)(i1);
     j2 = 15ull;
     j1 &= j2;
-    l9 = j1;
-    j2 = 72ull;
+    l6 = j1;
+    j2 = 56ull;
     j1 *= j2;
     j0 += j1;
-    l5 = j0;
-    i0 = (u32)(j0);
-    i0 = i32_load8_u(j0);
-    i1 = 1u;
-    i0 = i0 != i1;
-    if (i0) {goto B24;}
-    j0 = l5;
-    j1 = 8ull;
-    j0 += j1;
-    i0 = (u32)(j0);
-    i0 = i32_load8_u(j0);
-    i1 = l23;
-    i2 = 255u;
-    i1 &= i2;
-    i0 = i0 != i1;
-    if (i0) {goto B24;}
-    j0 = l5;
-    j1 = 16ull;
-    j0 += j1;
-    i0 = (u32)(j0);
-    j0 = i64_load(j0);
-    l6 = j0;
-    j0 = l5;
-    j1 = 24ull;
-    j0 += j1;
-    i0 = (u32)(j0);
-    j0 = i64_load(j0);
-    l10 = j0;
-    j0 = l5;
-    j1 = 32ull;
-    j0 += j1;
-    i0 = (u32)(j0);
-    j0 = i64_load(j0);
-    l11 = j0;
-    j0 = l5;
-    j1 = 40ull;
-    j0 += j1;
-    i0 = (u32)(j0);
-    j0 = i64_load(j0);
-    l9 = j0;
-    j0 = l5;
-    j1 = 48ull;
-    j0 += j1;
-    i0 = (u32)(j0);
-    j0 = i64_load(j0);
-    l13 = j0;
-    j0 = l5;
-    j1 = 56ull;
-    j0 += j1;
-    i0 = (u32)(j0);
-    j0 = i64_load(j0);
-    l14 = j0;
-    j0 = l5;
-    j1 = 64ull;
-    j0 += j1;
-    i0 = (u32)(j0);
-    i0 = i32_load16_u(j0);
-    l24 = i0;
-    goto B23;
-    B24:;
-    j0 = l4;
-    j1 = 144ull;
-    j0 += j1;
-    j1 = l9;
-    j2 = 5ull;
-    j1 <<= (j2 & 63);
-    j0 += j1;
-    l6 = j0;
-    i0 = (u32)(j0);
-    i0 = i32_load8_u(j0);
-    i1 = 1u;
-    i0 = i0 != i1;
-    if (i0) {goto B26;}
-    j0 = l6;
-    j1 = 24ull;
-    j0 += j1;
-    i0 = (u32)(j0);
-    j0 = i64_load(j0);
-    l17 = j0;
-    j0 = l6;
-    j1 = 16ull;
-    j0 += j1;
-    i0 = (u32)(j0);
-    j0 = i64_load(j0);
-    l19 = j0;
-    j0 = l6;
-    j1 = 8ull;
-    j0 += j1;
+    p1 = j0;
     i0 = (u32)(j0);
     j0 = i64_load(j0);
     l20 = j0;
+    i1 = l24;
+    i2 = 256u;
+    i1 |= i2;
+    j1 = (u64)(i1);
+    l21 = j1;
+    i0 = j0 != j1;
+    if (i0) {goto B26;}
+    j0 = 6ull;
+    j1 = 8ull;
+    i2 = l25;
+    i3 = 8u;
+    i2 &= i3;
+    j0 = i2 ? j0 : j1;
+    l20 = j0;
+    j0 = p1;
+    i0 = (u32)(j0);
+    j0 = i64_load(j0 + 8u);
+    l6 = j0;
+    j0 = p1;
+    i0 = (u32)(j0);
+    j0 = i64_load(j0 + 16u);
+    l12 = j0;
+    j0 = p1;
+    i0 = (u32)(j0);
+    j0 = i64_load(j0 + 24u);
+    l11 = j0;
+    j0 = p1;
+    i0 = (u32)(j0);
+    j0 = i64_load(j0 + 32u);
+    l9 = j0;
+    j0 = p1;
+    i0 = (u32)(j0);
+    j0 = i64_load(j0 + 40u);
+    l13 = j0;
+    j0 = p1;
+    i0 = (u32)(j0);
+    j0 = i64_load(j0 + 48u);
+    l16 = j0;
     goto B25;
     B26:;
-    j0 = p0;
-    j1 = 24ull;
-    j0 += j1;
-    i0 = (u32)(j0);
-    j0 = i64_load(j0);
-    l10 = j0;
-    j1 = l10;
-    j2 = 1796ull;
-    j1 += j2;
-    i1 = (u32)(j1);
-    i1 = i32_load8_u(j1);
-    j2 = p0;
-    j3 = 16ull;
-    j2 += j3;
-    i2 = (u32)(j2);
-    j2 = i64_load(j2);
-    j3 = l9;
-    j2 += j3;
-    j3 = 42ull;
-    j2 += j3;
-    i2 = (u32)(j2);
-    i2 = i32_load8_u(j2);
-    i1 &= i2;
-    j1 = (u64)(i1);
-    j2 = 255ull;
-    j1 &= j2;
-    j0 += j1;
-    l11 = j0;
-    j1 = 256ull;
-    j0 += j1;
-    i0 = (u32)(j0);
-    j0 = i64_load8_u(j0);
-    l9 = j0;
-    j0 = l11;
-    j1 = 512ull;
-    j0 += j1;
-    i0 = (u32)(j0);
-    j0 = i64_load8_u(j0);
-    l10 = j0;
-    j0 = l11;
-    i0 = (u32)(j0);
-    j0 = i64_load8_u(j0);
-    l11 = j0;
-    j0 = l6;
-    i0 = (u32)(j0);
-    j1 = 1ull;
-    i64_store(j0, j1);
-    j0 = l6;
-    j1 = 16ull;
-    j0 += j1;
-    i0 = (u32)(j0);
-    j1 = l10;
-    j2 = l11;
-    j3 = 8ull;
-    j2 <<= (j3 & 63);
-    j1 |= j2;
-    l13 = j1;
-    j2 = l9;
-    j3 = 16ull;
-    j2 <<= (j3 & 63);
-    j1 |= j2;
-    j2 = 16777217ull;
-    j1 *= j2;
-    j2 = l13;
-    j3 = 48ull;
-    j2 <<= (j3 & 63);
-    j1 |= j2;
-    l19 = j1;
-    i64_store(j0, j1);
-    j0 = l6;
-    j1 = 24ull;
-    j0 += j1;
-    i0 = (u32)(j0);
-    j1 = l9;
-    j2 = l10;
-    j3 = 8ull;
-    j2 <<= (j3 & 63);
-    j1 |= j2;
-    l13 = j1;
-    j2 = l11;
-    j3 = 16ull;
-    j2 <<= (j3 & 63);
-    j1 |= j2;
-    j2 = 16777217ull;
-    j1 *= j2;
-    j2 = l13;
-    j3 = 48ull;
-    j2 <<= (j3 & 63);
-    j1 |= j2;
-    l17 = j1;
-    i64_store(j0, j1);
-    j0 = l6;
-    j1 = 8ull;
-    j0 += j1;
-    i0 = (u32)(j0);
-    j1 = l11;
-    j2 = l9;
-    j3 = 8ull;
-    j2 <<= (j3 & 63);
-    j1 |= j2;
-    l6 = j1;
-    j2 = l10;
-    j3 = 16ull;
-    j2 <<= (j3 & 63);
-    j1 |= j2;
-    j2 = 16777217ull;
-    j1 *= j2;
-    j2 = l6;
-    j3 = 48ull;
-    j2 <<= (j3 & 63);
-    j1 |= j2;
-    l20 = j1;
-    i64_store(j0, j1);
-    B25:;
     j0 = l4;
-    j1 = 144ull;
+    j1 = 168ull;
     j0 += j1;
-    i1 = l23;
-    i2 = 240u;
-    i1 &= i2;
-    i2 = 4u;
-    i1 >>= (i2 & 31);
-    i2 = l30;
-    i1 &= i2;
-    j1 = (u64)(i1);
-    l9 = j1;
-    j2 = 5ull;
-    j1 <<= (j2 & 63);
+    j1 = l6;
     j0 += j1;
-    l6 = j0;
     i0 = (u32)(j0);
     i0 = i32_load8_u(j0);
     i1 = 1u;
     i0 = i0 != i1;
     if (i0) {goto B28;}
-    j0 = l6;
-    j1 = 24ull;
-    j0 += j1;
+    j0 = l4;
     i0 = (u32)(j0);
-    j0 = i64_load(j0);
-    l11 = j0;
-    j0 = l6;
-    j1 = 16ull;
-    j0 += j1;
+    j1 = l19;
+    j2 = l6;
+    j3 = 24ull;
+    j2 *= j3;
+    j1 += j2;
+    l6 = j1;
+    i1 = (u32)(j1);
+    j1 = i64_load(j1 + 16u);
+    i64_store(j0 + 1480, j1);
+    j0 = l4;
     i0 = (u32)(j0);
-    j0 = i64_load(j0);
-    l10 = j0;
-    j0 = l6;
-    j1 = 8ull;
-    j0 += j1;
+    j1 = l6;
+    i1 = (u32)(j1);
+    j1 = i64_load(j1 + 8u);
+    i64_store(j0 + 1472, j1);
+    j0 = l4;
     i0 = (u32)(j0);
-    j0 = i64_load(j0);
-    l6 = j0;
+    j1 = l6;
+    i1 = (u32)(j1);
+    j1 = i64_load(j1);
+    i64_store(j0 + 1464, j1);
     goto B27;
     B28:;
-    j0 = p0;
-    j1 = 24ull;
+    j0 = l4;
+    j1 = 1464ull;
     j0 += j1;
-    i0 = (u32)(j0);
-    j0 = i64_load(j0);
-    l10 = j0;
-    j1 = l10;
-    j2 = 1796ull;
+    j1 = l4;
+    j2 = 168ull;
     j1 += j2;
-    i1 = (u32)(j1);
-    i1 = i32_load8_u(j1);
     j2 = p0;
     j3 = 16ull;
     j2 += j3;
     i2 = (u32)(j2);
     j2 = i64_load(j2);
-    j3 = l9;
-    j2 += j3;
-    j3 = 42ull;
+    j3 = p0;
+    j4 = 24ull;
+    j3 += j4;
+    i3 = (u32)(j3);
+    j3 = i64_load(j3);
+    i4 = l25;
+    i5 = 15u;
+    i4 &= i5;
+    f10(self, j0, j1, j2, j3, i4);
+    B27:;
+    j0 = l4;
+    i0 = (u32)(j0);
+    j0 = i64_load(j0 + 1480u);
+    l9 = j0;
+    j0 = l4;
+    i0 = (u32)(j0);
+    j0 = i64_load(j0 + 1472u);
+    l13 = j0;
+    j0 = l4;
+    i0 = (u32)(j0);
+    j0 = i64_load(j0 + 1464u);
+    l22 = j0;
+    j0 = l4;
+    j1 = 168ull;
+    j0 += j1;
+    i1 = l25;
+    i2 = 240u;
+    i1 &= i2;
+    i2 = 4u;
+    i1 >>= (i2 & 31);
+    i2 = l35;
+    i1 &= i2;
+    l23 = i1;
+    j1 = (u64)(i1);
+    l6 = j1;
+    j0 += j1;
+    i0 = (u32)(j0);
+    i0 = i32_load8_u(j0);
+    i1 = 1u;
+    i0 = i0 != i1;
+    if (i0) {goto B30;}
+    j0 = l4;
+    i0 = (u32)(j0);
+    j1 = l19;
+    j2 = l6;
+    j3 = 24ull;
+    j2 *= j3;
+    j1 += j2;
+    l6 = j1;
+    i1 = (u32)(j1);
+    j1 = i64_load(j1 + 16u);
+    i64_store(j0 + 1480, j1);
+    j0 = l4;
+    i0 = (u32)(j0);
+    j1 = l6;
+    i1 = (u32)(j1);
+    j1 = i64_load(j1 + 8u);
+    i64_store(j0 + 1472, j1);
+    j0 = l4;
+    i0 = (u32)(j0);
+    j1 = l6;
+    i1 = (u32)(j1);
+    j1 = i64_load(j1);
+    i64_store(j0 + 1464, j1);
+    goto B29;
+    B30:;
+    j0 = l4;
+    j1 = 1464ull;
+    j0 += j1;
+    j1 = l4;
+    j2 = 168ull;
+    j1 += j2;
+    j2 = p0;
+    j3 = 16ull;
     j2 += j3;
     i2 = (u32)(j2);
-    i2 = i32_load8_u(j2);
-    i1 &= i2;
-    j1 = (u64)(i1);
-    j2 = 255ull;
-    j1 &= j2;
-    j0 += j1;
-    l10 = j0;
-    j1 = 256ull;
-    j0 += j1;
+    j2 = i64_load(j2);
+    j3 = p0;
+    j4 = 24ull;
+    j3 += j4;
+    i3 = (u32)(j3);
+    j3 = i64_load(j3);
+    i4 = l23;
+    f10(self, j0, j1, j2, j3, i4);
+    B29:;
+    j0 = l4;
     i0 = (u32)(j0);
-    j0 = i64_load8_u(j0);
-    l9 = j0;
-    j0 = l10;
-    j1 = 512ull;
-    j0 += j1;
+    j0 = i64_load(j0 + 1480u);
+    l11 = j0;
+    j0 = l4;
     i0 = (u32)(j0);
-    j0 = i64_load8_u(j0);
-    l13 = j0;
-    j0 = l10;
+    j0 = i64_load(j0 + 1472u);
+    l12 = j0;
+    j0 = l4;
     i0 = (u32)(j0);
-    j0 = i64_load8_u(j0);
-    l14 = j0;
-    j0 = l6;
-    i0 = (u32)(j0);
-    j1 = 1ull;
-    i64_store(j0, j1);
-    j0 = l6;
-    j1 = 16ull;
-    j0 += j1;
-    i0 = (u32)(j0);
-    j1 = l13;
-    j2 = l14;
-    j3 = 8ull;
-    j2 <<= (j3 & 63);
-    j1 |= j2;
-    l10 = j1;
-    j2 = l9;
-    j3 = 16ull;
-    j2 <<= (j3 & 63);
-    j1 |= j2;
-    j2 = 16777217ull;
-    j1 *= j2;
-    j2 = l10;
-    j3 = 48ull;
-    j2 <<= (j3 & 63);
-    j1 |= j2;
-    l10 = j1;
-    i64_store(j0, j1);
-    j0 = l6;
-    j1 = 24ull;
-    j0 += j1;
-    i0 = (u32)(j0);
-    j1 = l9;
-    j2 = l13;
-    j3 = 8ull;
-    j2 <<= (j3 & 63);
-    j1 |= j2;
-    l11 = j1;
-    j2 = l14;
-    j3 = 16ull;
-    j2 <<= (j3 & 63);
-    j1 |= j2;
-    j2 = 16777217ull;
-    j1 *= j2;
-    j2 = l11;
-    j3 = 48ull;
-    j2 <<= (j3 & 63);
-    j1 |= j2;
-    l11 = j1;
-    i64_store(j0, j1);
-    j0 = l6;
-    j1 = 8ull;
-    j0 += j1;
-    i0 = (u32)(j0);
-    j1 = l14;
-    j2 = l9;
-    j3 = 8ull;
-    j2 <<= (j3 & 63);
-    j1 |= j2;
-    l6 = j1;
-    j2 = l13;
-    j3 = 16ull;
-    j2 <<= (j3 & 63);
-    j1 |= j2;
-    j2 = 16777217ull;
-    j1 *= j2;
-    j2 = l6;
-    j3 = 48ull;
-    j2 <<= (j3 & 63);
-    j1 |= j2;
-    l6 = j1;
-    i64_store(j0, j1);
-    B27:;
-    j0 = 0ull;
-    l9 = j0;
-    i0 = l35;
-    i1 = l23;
+    j0 = i64_load(j0 + 1464u);
+    l6 = j0;
+    i0 = l33;
+    i1 = l25;
     i0 &= i1;
-    i1 = 255u;
-    i0 &= i1;
-    if (i0) {goto B30;}
-    i0 = l23;
+    if (i0) {goto B32;}
+    i0 = l25;
     i1 = 119u;
     i0 &= i1;
-    i1 = l34;
+    i1 = l32;
     i2 = 255u;
     i1 &= i2;
     i0 = i0 != i1;
-    if (i0) {goto B31;}
-    j0 = l20;
+    if (i0) {goto B33;}
+    j0 = l22;
     l6 = j0;
-    j0 = l19;
-    l10 = j0;
-    j0 = l17;
+    j0 = l13;
+    l12 = j0;
+    j0 = l9;
     l11 = j0;
-    goto B30;
-    B31:;
+    goto B32;
+    B33:;
     j0 = l11;
-    j1 = l17;
+    j1 = l9;
     j0 ^= j1;
-    l14 = j0;
-    j0 = l10;
-    j1 = l19;
+    l16 = j0;
+    j0 = l12;
+    j1 = l13;
     j0 ^= j1;
     l13 = j0;
     j0 = l6;
-    j1 = l20;
+    j1 = l22;
     j0 ^= j1;
     l9 = j0;
-    goto B29;
-    B30:;
+    goto B31;
+    B32:;
+    j0 = 0ull;
+    l9 = j0;
     j0 = 0ull;
     l13 = j0;
     j0 = 0ull;
-    l14 = j0;
-    B29:;
-    j0 = l5;
+    l16 = j0;
+    B31:;
+    j0 = l20;
+    j1 = 0ull;
+    i0 = j0 != j1;
+    if (i0) {goto B34;}
+    j0 = p1;
     i0 = (u32)(j0);
-    j1 = 1ull;
-    i64_store(j0, j1);
-    j0 = l5;
-    j1 = 9ull;
-    j0 += j1;
-    i0 = (u32)(j0);
-    i1 = 0u;
-    i32_store(j0, i1);
-    j0 = l5;
-    j1 = 8ull;
-    j0 += j1;
-    i0 = (u32)(j0);
-    i1 = l23;
-    i32_store8(j0, i1);
-    j0 = l5;
-    j1 = 12ull;
-    j0 += j1;
-    i0 = (u32)(j0);
-    i1 = 0u;
-    i32_store(j0, i1);
-    j0 = l5;
-    j1 = 66ull;
-    j0 += j1;
-    i0 = (u32)(j0);
-    i1 = 0u;
-    i32_store(j0, i1);
-    j0 = l5;
-    j1 = 56ull;
-    j0 += j1;
-    i0 = (u32)(j0);
-    j1 = l14;
-    i64_store(j0, j1);
-    j0 = l5;
-    j1 = 48ull;
-    j0 += j1;
+    j1 = l16;
+    i64_store(j0 + 48, j1);
+    j0 = p1;
     i0 = (u32)(j0);
     j1 = l13;
-    i64_store(j0, j1);
-    j0 = l5;
-    j1 = 40ull;
-    j0 += j1;
+    i64_store(j0 + 40, j1);
+    j0 = p1;
     i0 = (u32)(j0);
     j1 = l9;
-    i64_store(j0, j1);
-    j0 = l5;
-    j1 = 32ull;
-    j0 += j1;
+    i64_store(j0 + 32, j1);
+    j0 = p1;
     i0 = (u32)(j0);
     j1 = l11;
-    i64_store(j0, j1);
-    j0 = l5;
-    j1 = 24ull;
-    j0 += j1;
+    i64_store(j0 + 24, j1);
+    j0 = p1;
     i0 = (u32)(j0);
-    j1 = l10;
-    i64_store(j0, j1);
-    j0 = l5;
-    j1 = 16ull;
-    j0 += j1;
+    j1 = l12;
+    i64_store(j0 + 16, j1);
+    j0 = p1;
     i0 = (u32)(j0);
     j1 = l6;
+    i64_store(j0 + 8, j1);
+    j0 = p1;
+    i0 = (u32)(j0);
+    j1 = l21;
     i64_store(j0, j1);
-    j0 = l5;
-    j1 = 70ull;
+    B34:;
+    j0 = 6ull;
+    j1 = 8ull;
+    i2 = l25;
+    i3 = 8u;
+    i2 &= i3;
+    j0 = i2 ? j0 : j1;
+    l20 = j0;
+    B25:;
+    j0 = l14;
+    j1 = l20;
     j0 += j1;
     i0 = (u32)(j0);
-    i1 = 0u;
-    i32_store16(j0, i1);
-    j0 = l5;
-    j1 = 64ull;
-    j0 += j1;
-    i0 = (u32)(j0);
-    i1 = l33;
-    i2 = l32;
-    i3 = l23;
-    i4 = 8u;
-    i3 &= i4;
-    i1 = i3 ? i1 : i2;
-    l24 = i1;
-    i32_store16(j0, i1);
-    B23:;
-    i0 = l23;
-    l21 = i0;
-    B22:;
-    i0 = l28;
-    i1 = l25;
+    i0 = i32_load16_u(j0);
+    l36 = i0;
+    i0 = l25;
+    l23 = i0;
+    B24:;
+    i0 = l30;
+    i1 = l27;
     i0 = i0 != i1;
-    if (i0) {goto B33;}
+    if (i0) {goto B36;}
     j0 = p0;
     j1 = 16ull;
     j0 += j1;
@@ -9969,27 +9253,25 @@ static void f6(module *self, u64 p0, u64 p1, u64 p2, u64 p3) {
     j1 += j2;
     i1 = (u32)(j1);
     j1 = i64_load(j1);
-    i2 = l23;
+    i2 = l25;
     j3 = p3;
     j4 = l8;
-    f11(self, j0, j1, i2, j3, j4);
-    goto B32;
-    B33:;
+    f12(self, j0, j1, i2, j3, j4);
+    goto B35;
+    B36:;
     j0 = p3;
     j1 = l7;
     j0 += j1;
-    l5 = j0;
+    p1 = j0;
     j1 = 24ull;
     j0 += j1;
     i0 = (u32)(j0);
     j1 = 0ull;
     j2 = l9;
     j3 = 0ull;
-    j4 = l12;
-    i4 = (u32)(j4);
-    j4 = i64_load(j4);
-    i5 = l24;
-    i6 = l29;
+    j4 = l10;
+    i5 = l36;
+    i6 = l31;
     i7 = 5u;
     i6 <<= (i7 & 31);
     i7 = 8160u;
@@ -10003,43 +9285,43 @@ static void f6(module *self, u64 p0, u64 p1, u64 p2, u64 p3) {
     j4 += j5;
     i4 = (u32)(j4);
     i4 = i32_load(j4);
-    l23 = i4;
+    l25 = i4;
     i5 = 65536u;
     i4 &= i5;
     j2 = i4 ? j2 : j3;
-    i3 = l31;
+    i3 = l34;
     i4 = 65535u;
     i3 &= i4;
-    i4 = l29;
+    i4 = l31;
     i5 = 224u;
     i4 &= i5;
     i3 = i3 != i4;
     j1 = i3 ? j1 : j2;
     j2 = l6;
     j1 ^= j2;
-    l12 = j1;
+    l10 = j1;
     i64_store8(j0, j1);
-    j0 = l5;
+    j0 = p1;
     j1 = 26ull;
     j0 += j1;
     i0 = (u32)(j0);
-    j1 = l12;
+    j1 = l10;
     j2 = 16ull;
     j1 >>= (j2 & 63);
     i64_store8(j0, j1);
-    j0 = l5;
+    j0 = p1;
     j1 = 25ull;
     j0 += j1;
     i0 = (u32)(j0);
-    j1 = l12;
+    j1 = l10;
     j2 = 8ull;
     j1 >>= (j2 & 63);
     i64_store8(j0, j1);
-    j0 = l5;
+    j0 = p1;
     j1 = 16ull;
     j0 += j1;
     i0 = (u32)(j0);
-    i1 = l23;
+    i1 = l25;
     i2 = 13u;
     i1 >>= (i2 & 31);
     j1 = (u64)(i1);
@@ -10049,16 +9331,16 @@ static void f6(module *self, u64 p0, u64 p1, u64 p2, u64 p3) {
     j1 += j2;
     i1 = (u32)(j1);
     j1 = i64_load(j1);
-    j2 = l14;
+    j2 = l16;
     j1 &= j2;
     j2 = l11;
     j1 ^= j2;
     i64_store(j0, j1);
-    j0 = l5;
+    j0 = p1;
     j1 = 8ull;
     j0 += j1;
     i0 = (u32)(j0);
-    i1 = l23;
+    i1 = l25;
     i2 = 15u;
     i1 >>= (i2 & 31);
     j1 = (u64)(i1);
@@ -10070,12 +9352,12 @@ static void f6(module *self, u64 p0, u64 p1, u64 p2, u64 p3) {
     j1 = i64_load(j1);
     j2 = l13;
     j1 &= j2;
-    j2 = l10;
+    j2 = l12;
     j1 ^= j2;
     i64_store(j0, j1);
-    j0 = l5;
+    j0 = p1;
     i0 = (u32)(j0);
-    i1 = l23;
+    i1 = l25;
     i2 = 18u;
     i1 >>= (i2 & 31);
     j1 = (u64)(i1);
@@ -10090,7 +9372,7 @@ static void f6(module *self, u64 p0, u64 p1, u64 p2, u64 p3) {
     j2 = l6;
     j1 ^= j2;
     i64_store(j0, j1);
-    B32:;
+    B35:;
     j0 = l7;
     j1 = 27ull;
     j0 += j1;
@@ -10099,17 +9381,17 @@ static void f6(module *self, u64 p0, u64 p1, u64 p2, u64 p3) {
     j1 = 9ull;
     j0 += j1;
     l8 = j0;
-    j0 = l15;
-    j1 = p1;
+    j0 = l17;
+    j1 = l5;
     j2 = 1ull;
     j1 += j2;
-    p1 = j1;
+    l5 = j1;
     i0 = j0 != j1;
-    if (i0) {goto L21;}
+    if (i0) {goto L23;}
   j0 = l4;
   i0 = (u32)(j0);
   j1 = p3;
-  j2 = l15;
+  j2 = l17;
   j3 = 27ull;
   j2 *= j3;
   j1 += j2;
@@ -10118,343 +9400,343 @@ static void f6(module *self, u64 p0, u64 p1, u64 p2, u64 p3) {
   l5 = j1;
   i1 = (u32)(j1);
   i1 = i32_load(j1 + 23u);
-  i32_store(j0 + 167, i1);
+  i32_store(j0 + 191, i1);
   j0 = l4;
   i0 = (u32)(j0);
   j1 = l5;
   i1 = (u32)(j1);
   j1 = i64_load(j1 + 16u);
-  i64_store(j0 + 160, j1);
+  i64_store(j0 + 184, j1);
   j0 = l4;
   i0 = (u32)(j0);
   j1 = l5;
   i1 = (u32)(j1);
   j1 = i64_load(j1 + 8u);
-  i64_store(j0 + 152, j1);
+  i64_store(j0 + 176, j1);
   j0 = l4;
   i0 = (u32)(j0);
   j1 = l5;
   i1 = (u32)(j1);
   j1 = i64_load(j1);
-  i64_store(j0 + 144, j1);
-  j0 = l18;
+  i64_store(j0 + 168, j1);
+  j0 = l15;
   j1 = p2;
   i0 = j0 >= j1;
   if (i0) {goto B0;}
   j0 = p2;
-  j1 = l15;
+  j1 = l17;
   j0 -= j1;
   p0 = j0;
   j0 = p3;
-  j1 = l15;
+  j1 = l17;
   j2 = 27ull;
   j1 *= j2;
   j0 += j1;
   l5 = j0;
   j0 = l4;
   i0 = (u32)(j0);
-  i0 = i32_load8_u(j0 + 170u);
-  l23 = i0;
-  j0 = l4;
-  i0 = (u32)(j0);
-  i0 = i32_load8_u(j0 + 169u);
+  i0 = i32_load8_u(j0 + 194u);
   l25 = i0;
   j0 = l4;
   i0 = (u32)(j0);
-  i0 = i32_load8_u(j0 + 168u);
-  l29 = i0;
-  j0 = l4;
-  i0 = (u32)(j0);
-  i0 = i32_load8_u(j0 + 167u);
-  l26 = i0;
-  j0 = l4;
-  i0 = (u32)(j0);
-  i0 = i32_load8_u(j0 + 166u);
+  i0 = i32_load8_u(j0 + 193u);
   l27 = i0;
   j0 = l4;
   i0 = (u32)(j0);
-  i0 = i32_load8_u(j0 + 165u);
-  l28 = i0;
-  j0 = l4;
-  i0 = (u32)(j0);
-  i0 = i32_load8_u(j0 + 164u);
-  l21 = i0;
-  j0 = l4;
-  i0 = (u32)(j0);
-  i0 = i32_load8_u(j0 + 163u);
-  l22 = i0;
-  j0 = l4;
-  i0 = (u32)(j0);
-  i0 = i32_load8_u(j0 + 162u);
-  l24 = i0;
-  j0 = l4;
-  i0 = (u32)(j0);
-  i0 = i32_load8_u(j0 + 161u);
+  i0 = i32_load8_u(j0 + 192u);
   l31 = i0;
   j0 = l4;
   i0 = (u32)(j0);
-  i0 = i32_load8_u(j0 + 160u);
-  l32 = i0;
+  i0 = i32_load8_u(j0 + 191u);
+  l28 = i0;
   j0 = l4;
   i0 = (u32)(j0);
-  i0 = i32_load8_u(j0 + 159u);
-  l35 = i0;
+  i0 = i32_load8_u(j0 + 190u);
+  l29 = i0;
   j0 = l4;
   i0 = (u32)(j0);
-  i0 = i32_load8_u(j0 + 158u);
+  i0 = i32_load8_u(j0 + 189u);
   l30 = i0;
   j0 = l4;
   i0 = (u32)(j0);
-  i0 = i32_load8_u(j0 + 157u);
-  l33 = i0;
+  i0 = i32_load8_u(j0 + 188u);
+  l23 = i0;
   j0 = l4;
   i0 = (u32)(j0);
-  i0 = i32_load8_u(j0 + 156u);
-  l34 = i0;
+  i0 = i32_load8_u(j0 + 187u);
+  l24 = i0;
   j0 = l4;
   i0 = (u32)(j0);
-  i0 = i32_load8_u(j0 + 155u);
+  i0 = i32_load8_u(j0 + 186u);
+  l26 = i0;
+  j0 = l4;
+  i0 = (u32)(j0);
+  i0 = i32_load8_u(j0 + 185u);
   l36 = i0;
   j0 = l4;
   i0 = (u32)(j0);
-  i0 = i32_load8_u(j0 + 154u);
+  i0 = i32_load8_u(j0 + 184u);
+  l34 = i0;
+  j0 = l4;
+  i0 = (u32)(j0);
+  i0 = i32_load8_u(j0 + 183u);
+  l33 = i0;
+  j0 = l4;
+  i0 = (u32)(j0);
+  i0 = i32_load8_u(j0 + 182u);
+  l35 = i0;
+  j0 = l4;
+  i0 = (u32)(j0);
+  i0 = i32_load8_u(j0 + 181u);
+  l32 = i0;
+  j0 = l4;
+  i0 = (u32)(j0);
+  i0 = i32_load8_u(j0 + 180u);
   l37 = i0;
   j0 = l4;
   i0 = (u32)(j0);
-  i0 = i32_load8_u(j0 + 153u);
+  i0 = i32_load8_u(j0 + 179u);
   l38 = i0;
   j0 = l4;
   i0 = (u32)(j0);
-  i0 = i32_load8_u(j0 + 152u);
+  i0 = i32_load8_u(j0 + 178u);
   l39 = i0;
   j0 = l4;
   i0 = (u32)(j0);
-  i0 = i32_load8_u(j0 + 151u);
+  i0 = i32_load8_u(j0 + 177u);
   l40 = i0;
   j0 = l4;
   i0 = (u32)(j0);
-  i0 = i32_load8_u(j0 + 150u);
+  i0 = i32_load8_u(j0 + 176u);
   l41 = i0;
   j0 = l4;
   i0 = (u32)(j0);
-  i0 = i32_load8_u(j0 + 149u);
+  i0 = i32_load8_u(j0 + 175u);
   l42 = i0;
   j0 = l4;
   i0 = (u32)(j0);
-  i0 = i32_load8_u(j0 + 148u);
+  i0 = i32_load8_u(j0 + 174u);
   l43 = i0;
   j0 = l4;
   i0 = (u32)(j0);
-  i0 = i32_load8_u(j0 + 147u);
+  i0 = i32_load8_u(j0 + 173u);
   l44 = i0;
   j0 = l4;
   i0 = (u32)(j0);
-  i0 = i32_load8_u(j0 + 146u);
+  i0 = i32_load8_u(j0 + 172u);
   l45 = i0;
   j0 = l4;
   i0 = (u32)(j0);
-  i0 = i32_load8_u(j0 + 145u);
+  i0 = i32_load8_u(j0 + 171u);
   l46 = i0;
   j0 = l4;
   i0 = (u32)(j0);
-  i0 = i32_load8_u(j0 + 144u);
+  i0 = i32_load8_u(j0 + 170u);
   l47 = i0;
-  L34: 
+  j0 = l4;
+  i0 = (u32)(j0);
+  i0 = i32_load8_u(j0 + 169u);
+  l48 = i0;
+  j0 = l4;
+  i0 = (u32)(j0);
+  i0 = i32_load8_u(j0 + 168u);
+  l49 = i0;
+  L37: 
     j0 = l5;
     j1 = l4;
-    j2 = 144ull;
+    j2 = 168ull;
     j1 += j2;
     j0 -= j1;
     j1 = 26ull;
     i0 = j0 > j1;
-    if (i0) {goto B36;}
+    if (i0) {goto B39;}
     j0 = l5;
     i0 = (u32)(j0);
-    i1 = l47;
+    i1 = l49;
     i32_store8(j0, i1);
     j0 = l5;
     j1 = 26ull;
-    j0 += j1;
-    i0 = (u32)(j0);
-    i1 = l23;
-    i32_store8(j0, i1);
-    j0 = l5;
-    j1 = 25ull;
     j0 += j1;
     i0 = (u32)(j0);
     i1 = l25;
     i32_store8(j0, i1);
     j0 = l5;
-    j1 = 24ull;
-    j0 += j1;
-    i0 = (u32)(j0);
-    i1 = l29;
-    i32_store8(j0, i1);
-    j0 = l5;
-    j1 = 23ull;
-    j0 += j1;
-    i0 = (u32)(j0);
-    i1 = l26;
-    i32_store8(j0, i1);
-    j0 = l5;
-    j1 = 22ull;
+    j1 = 25ull;
     j0 += j1;
     i0 = (u32)(j0);
     i1 = l27;
     i32_store8(j0, i1);
     j0 = l5;
-    j1 = 21ull;
-    j0 += j1;
-    i0 = (u32)(j0);
-    i1 = l28;
-    i32_store8(j0, i1);
-    j0 = l5;
-    j1 = 20ull;
-    j0 += j1;
-    i0 = (u32)(j0);
-    i1 = l21;
-    i32_store8(j0, i1);
-    j0 = l5;
-    j1 = 19ull;
-    j0 += j1;
-    i0 = (u32)(j0);
-    i1 = l22;
-    i32_store8(j0, i1);
-    j0 = l5;
-    j1 = 18ull;
-    j0 += j1;
-    i0 = (u32)(j0);
-    i1 = l24;
-    i32_store8(j0, i1);
-    j0 = l5;
-    j1 = 17ull;
+    j1 = 24ull;
     j0 += j1;
     i0 = (u32)(j0);
     i1 = l31;
     i32_store8(j0, i1);
     j0 = l5;
-    j1 = 16ull;
+    j1 = 23ull;
     j0 += j1;
     i0 = (u32)(j0);
-    i1 = l32;
+    i1 = l28;
     i32_store8(j0, i1);
     j0 = l5;
-    j1 = 15ull;
+    j1 = 22ull;
     j0 += j1;
     i0 = (u32)(j0);
-    i1 = l35;
+    i1 = l29;
     i32_store8(j0, i1);
     j0 = l5;
-    j1 = 14ull;
+    j1 = 21ull;
     j0 += j1;
     i0 = (u32)(j0);
     i1 = l30;
     i32_store8(j0, i1);
     j0 = l5;
-    j1 = 13ull;
+    j1 = 20ull;
     j0 += j1;
     i0 = (u32)(j0);
-    i1 = l33;
+    i1 = l23;
     i32_store8(j0, i1);
     j0 = l5;
-    j1 = 12ull;
+    j1 = 19ull;
     j0 += j1;
     i0 = (u32)(j0);
-    i1 = l34;
+    i1 = l24;
     i32_store8(j0, i1);
     j0 = l5;
-    j1 = 11ull;
+    j1 = 18ull;
+    j0 += j1;
+    i0 = (u32)(j0);
+    i1 = l26;
+    i32_store8(j0, i1);
+    j0 = l5;
+    j1 = 17ull;
     j0 += j1;
     i0 = (u32)(j0);
     i1 = l36;
     i32_store8(j0, i1);
     j0 = l5;
-    j1 = 10ull;
+    j1 = 16ull;
+    j0 += j1;
+    i0 = (u32)(j0);
+    i1 = l34;
+    i32_store8(j0, i1);
+    j0 = l5;
+    j1 = 15ull;
+    j0 += j1;
+    i0 = (u32)(j0);
+    i1 = l33;
+    i32_store8(j0, i1);
+    j0 = l5;
+    j1 = 14ull;
+    j0 += j1;
+    i0 = (u32)(j0);
+    i1 = l35;
+    i32_store8(j0, i1);
+    j0 = l5;
+    j1 = 13ull;
+    j0 += j1;
+    i0 = (u32)(j0);
+    i1 = l32;
+    i32_store8(j0, i1);
+    j0 = l5;
+    j1 = 12ull;
     j0 += j1;
     i0 = (u32)(j0);
     i1 = l37;
     i32_store8(j0, i1);
     j0 = l5;
-    j1 = 9ull;
+    j1 = 11ull;
     j0 += j1;
     i0 = (u32)(j0);
     i1 = l38;
     i32_store8(j0, i1);
     j0 = l5;
-    j1 = 8ull;
+    j1 = 10ull;
     j0 += j1;
     i0 = (u32)(j0);
     i1 = l39;
     i32_store8(j0, i1);
     j0 = l5;
-    j1 = 7ull;
+    j1 = 9ull;
     j0 += j1;
     i0 = (u32)(j0);
     i1 = l40;
     i32_store8(j0, i1);
     j0 = l5;
-    j1 = 6ull;
+    j1 = 8ull;
     j0 += j1;
     i0 = (u32)(j0);
     i1 = l41;
     i32_store8(j0, i1);
     j0 = l5;
-    j1 = 5ull;
+    j1 = 7ull;
     j0 += j1;
     i0 = (u32)(j0);
     i1 = l42;
     i32_store8(j0, i1);
     j0 = l5;
-    j1 = 4ull;
+    j1 = 6ull;
     j0 += j1;
     i0 = (u32)(j0);
     i1 = l43;
     i32_store8(j0, i1);
     j0 = l5;
-    j1 = 3ull;
+    j1 = 5ull;
     j0 += j1;
     i0 = (u32)(j0);
     i1 = l44;
     i32_store8(j0, i1);
     j0 = l5;
-    j1 = 2ull;
+    j1 = 4ull;
     j0 += j1;
     i0 = (u32)(j0);
     i1 = l45;
     i32_store8(j0, i1);
     j0 = l5;
-    j1 = 1ull;
+    j1 = 3ull;
     j0 += j1;
     i0 = (u32)(j0);
     i1 = l46;
     i32_store8(j0, i1);
-    goto B35;
-    B36:;
+    j0 = l5;
+    j1 = 2ull;
+    j0 += j1;
+    i0 = (u32)(j0);
+    i1 = l47;
+    i32_store8(j0, i1);
+    j0 = l5;
+    j1 = 1ull;
+    j0 += j1;
+    i0 = (u32)(j0);
+    i1 = l48;
+    i32_store8(j0, i1);
+    goto B38;
+    B39:;
     j0 = l5;
     i0 = (u32)(j0);
     j1 = l4;
     i1 = (u32)(j1);
-    i1 = i32_load(j1 + 167u);
+    i1 = i32_load(j1 + 191u);
     i32_store(j0 + 23, i1);
     j0 = l5;
     i0 = (u32)(j0);
     j1 = l4;
     i1 = (u32)(j1);
-    j1 = i64_load(j1 + 160u);
+    j1 = i64_load(j1 + 184u);
     i64_store(j0 + 16, j1);
     j0 = l5;
     i0 = (u32)(j0);
     j1 = l4;
     i1 = (u32)(j1);
-    j1 = i64_load(j1 + 152u);
+    j1 = i64_load(j1 + 176u);
     i64_store(j0 + 8, j1);
     j0 = l5;
     i0 = (u32)(j0);
     j1 = l4;
     i1 = (u32)(j1);
-    j1 = i64_load(j1 + 144u);
+    j1 = i64_load(j1 + 168u);
     i64_store(j0, j1);
-    B35:;
+    B38:;
     j0 = l5;
     j1 = 27ull;
     j0 += j1;
@@ -10465,10 +9747,10 @@ static void f6(module *self, u64 p0, u64 p1, u64 p2, u64 p3) {
     p0 = j0;
     j1 = 0ull;
     i0 = j0 != j1;
-    if (i0) {goto L34;}
+    if (i0) {goto L37;}
   B0:;
   j0 = l4;
-  j1 = 1808ull;
+  j1 = 1488ull;
   j0 += j1;
   self->g0 = j0;
 }
@@ -11331,7 +10613,141 @@ static void f9(module *self, u64 p0, u64 p1) {
   i32_store16(j0 + 6, i1);
 }
 
-static void f10(module *self, u64 p0, u64 p1, u32 p2, u64 p3, u64 p4) {
+static void f10(module *self, u64 p0, u64 p1, u64 p2, u64 p3, u32 p4) {
+  u64 l5 = 0, l6 = 0, l7 = 0;
+  u8 *m = self->memory;
+  u32 i0, i1, i2, i3;
+  u64 j0, j1, j2, j3, j4;
+  j0 = p3;
+  j1 = p3;
+  j2 = 1796ull;
+  j1 += j2;
+  i1 = (u32)(j1);
+  i1 = i32_load8_u(j1);
+  j2 = p2;
+  i3 = p4;
+  j3 = (u64)(i3);
+  j4 = 255ull;
+  j3 &= j4;
+  l5 = j3;
+  j2 += j3;
+  j3 = 42ull;
+  j2 += j3;
+  i2 = (u32)(j2);
+  i2 = i32_load8_u(j2);
+  i1 &= i2;
+  j1 = (u64)(i1);
+  j2 = 255ull;
+  j1 &= j2;
+  j0 += j1;
+  l6 = j0;
+  j1 = 256ull;
+  j0 += j1;
+  i0 = (u32)(j0);
+  j0 = i64_load8_u(j0);
+  p3 = j0;
+  j0 = l6;
+  j1 = 512ull;
+  j0 += j1;
+  i0 = (u32)(j0);
+  j0 = i64_load8_u(j0);
+  p2 = j0;
+  j0 = l6;
+  i0 = (u32)(j0);
+  j0 = i64_load8_u(j0);
+  l6 = j0;
+  j0 = p1;
+  j1 = l5;
+  j0 += j1;
+  i0 = (u32)(j0);
+  i1 = 1u;
+  i32_store8(j0, i1);
+  j0 = p1;
+  j1 = l5;
+  j2 = 24ull;
+  j1 *= j2;
+  j0 += j1;
+  p1 = j0;
+  j1 = 24ull;
+  j0 += j1;
+  i0 = (u32)(j0);
+  j1 = p2;
+  j2 = l6;
+  j3 = 8ull;
+  j2 <<= (j3 & 63);
+  j1 |= j2;
+  l5 = j1;
+  j2 = p3;
+  j3 = 16ull;
+  j2 <<= (j3 & 63);
+  j1 |= j2;
+  j2 = 16777217ull;
+  j1 *= j2;
+  j2 = l5;
+  j3 = 48ull;
+  j2 <<= (j3 & 63);
+  j1 |= j2;
+  l5 = j1;
+  i64_store(j0, j1);
+  j0 = p1;
+  j1 = 32ull;
+  j0 += j1;
+  i0 = (u32)(j0);
+  j1 = p3;
+  j2 = p2;
+  j3 = 8ull;
+  j2 <<= (j3 & 63);
+  j1 |= j2;
+  l7 = j1;
+  j2 = l6;
+  j3 = 16ull;
+  j2 <<= (j3 & 63);
+  j1 |= j2;
+  j2 = 16777217ull;
+  j1 *= j2;
+  j2 = l7;
+  j3 = 48ull;
+  j2 <<= (j3 & 63);
+  j1 |= j2;
+  l7 = j1;
+  i64_store(j0, j1);
+  j0 = p1;
+  j1 = 16ull;
+  j0 += j1;
+  i0 = (u32)(j0);
+  j1 = l6;
+  j2 = p3;
+  j3 = 8ull;
+  j2 <<= (j3 & 63);
+  j1 |= j2;
+  p3 = j1;
+  j2 = p2;
+  j3 = 16ull;
+  j2 <<= (j3 & 63);
+  j1 |= j2;
+  j2 = 16777217ull;
+  j1 *= j2;
+  j2 = p3;
+  j3 = 48ull;
+  j2 <<= (j3 & 63);
+  j1 |= j2;
+  p3 = j1;
+  i64_store(j0, j1);
+  j0 = p0;
+  i0 = (u32)(j0);
+  j1 = l7;
+  i64_store(j0 + 16, j1);
+  j0 = p0;
+  i0 = (u32)(j0);
+  j1 = l5;
+  i64_store(j0 + 8, j1);
+  j0 = p0;
+  i0 = (u32)(j0);
+  j1 = p3;
+  i64_store(j0, j1);
+}
+
+static void f11(module *self, u64 p0, u64 p1, u32 p2, u64 p3, u64 p4) {
   u64 l5 = 0;
   u8 *m = self->memory;
   u32 i0, i1, i2, i3, i4;
@@ -11438,7 +10854,7 @@ static void f10(module *self, u64 p0, u64 p1, u32 p2, u64 p3, u64 p4) {
   i64_store(j0, j1);
 }
 
-static void f11(module *self, u64 p0, u64 p1, u32 p2, u64 p3, u64 p4) {
+static void f12(module *self, u64 p0, u64 p1, u32 p2, u64 p3, u64 p4) {
   u64 l5 = 0, l6 = 0, l7 = 0;
   u8 *m = self->memory;
   u32 i0, i1, i2, i3, i4;
@@ -11568,7 +10984,7 @@ static void f11(module *self, u64 p0, u64 p1, u32 p2, u64 p3, u64 p4) {
   i64_store(j0, j1);
 }
 
-static u32 f12(module *self, u64 p0, u64 p1, u64 p2, u64 p3) {
+static u32 f13(module *self, u64 p0, u64 p1, u64 p2, u64 p3) {
   u32 l4 = 0, l5 = 0, l6 = 0;
   u8 *m = self->memory;
   u32 i0, i1, i2, i3, i4;
@@ -11649,7 +11065,7 @@ static u32 f12(module *self, u64 p0, u64 p1, u64 p2, u64 p3) {
   return i0;
 }
 
-static void f13(module *self, u64 p0, u64 p1, u64 p2, u64 p3) {
+static void f14(module *self, u64 p0, u64 p1, u64 p2, u64 p3) {
   u32 l13 = 0;
   u64 l4 = 0, l5 = 0, l6 = 0, l7 = 0, l8 = 0, l9 = 0, l10 = 0, l11 = 0, 
       l12 = 0;
@@ -11675,7 +11091,7 @@ static void f13(module *self, u64 p0, u64 p1, u64 p2, u64 p3) {
   if (i0) {goto B1;}
   j0 = p1;
   j1 = p3;
-  i0 = f14(self, j0, j1); m = self->memory; if (NEVER(self->is_broken)) return;
+  i0 = f15(self, j0, j1); m = self->memory; if (NEVER(self->is_broken)) return;
   if (i0) {goto B2;}
   j0 = 9ull;
   p3 = j0;
@@ -11875,7 +11291,7 @@ static void f13(module *self, u64 p0, u64 p1, u64 p2, u64 p3) {
   i64_store(j0, j1);
 }
 
-static u32 f14(module *self, u64 p0, u64 p1) {
+static u32 f15(module *self, u64 p0, u64 p1) {
   u32 l6 = 0;
   u64 l2 = 0, l3 = 0, l4 = 0, l5 = 0;
   u8 *m = self->memory;
@@ -11944,7 +11360,7 @@ static u32 f14(module *self, u64 p0, u64 p1) {
   j2 = l3;
   j3 = p1;
   j4 = 1ull;
-  f165(self, j0, j1, j2, j3, j4); m = self->memory; if (NEVER(self->is_broken)) return ZAK_BROKEN;
+  f166(self, j0, j1, j2, j3, j4); m = self->memory; if (NEVER(self->is_broken)) return ZAK_BROKEN;
   j0 = l2;
   i0 = (u32)(j0);
   j0 = i64_load(j0 + 16u);
@@ -11962,7 +11378,7 @@ static u32 f14(module *self, u64 p0, u64 p1) {
   j0 = l2;
   j1 = l5;
   j2 = 1ull;
-  f163(self, j0, j1, j2); m = self->memory; if (NEVER(self->is_broken)) return ZAK_BROKEN;
+  f164(self, j0, j1, j2); m = self->memory; if (NEVER(self->is_broken)) return ZAK_BROKEN;
   j0 = l2;
   i0 = (u32)(j0);
   j0 = i64_load(j0);
@@ -11997,7 +11413,7 @@ static u32 f14(module *self, u64 p0, u64 p1) {
   return i0;
 }
 
-static void f15(module *self, u64 p0, u64 p1, u32 p2) {
+static void f16(module *self, u64 p0, u64 p1, u32 p2) {
   u64 l3 = 0, l4 = 0, l5 = 0, l6 = 0, l7 = 0, l8 = 0, l9 = 0;
   u8 *m = self->memory;
   u32 i0, i1, i2, i3;
@@ -12031,7 +11447,7 @@ static void f15(module *self, u64 p0, u64 p1, u32 p2) {
   if (i0) {goto B1;}
   j0 = p1;
   j1 = 2ull;
-  i0 = f14(self, j0, j1); m = self->memory; if (NEVER(self->is_broken)) return;
+  i0 = f15(self, j0, j1); m = self->memory; if (NEVER(self->is_broken)) return;
   if (i0) {goto B2;}
   j0 = 9ull;
   p1 = j0;
@@ -12114,7 +11530,7 @@ static void f15(module *self, u64 p0, u64 p1, u32 p2) {
   self->g0 = j0;
 }
 
-static void f16(module *self, u64 p0, u64 p1, u64 p2, u64 p3) {
+static void f17(module *self, u64 p0, u64 p1, u64 p2, u64 p3) {
   u32 l15 = 0, l16 = 0, l17 = 0, l18 = 0, l19 = 0, l20 = 0, l21 = 0, l22 = 0;
   u64 l4 = 0, l5 = 0, l6 = 0, l7 = 0, l8 = 0, l9 = 0, l10 = 0, l11 = 0, 
       l12 = 0, l13 = 0, l14 = 0;
@@ -13109,7 +12525,7 @@ static void f16(module *self, u64 p0, u64 p1, u64 p2, u64 p3) {
   if (i0) {goto B88;}
   j0 = p1;
   j1 = 1ull;
-  i0 = f14(self, j0, j1); m = self->memory; if (NEVER(self->is_broken)) return;
+  i0 = f15(self, j0, j1); m = self->memory; if (NEVER(self->is_broken)) return;
   i0 = !(i0);
   if (i0) {goto B2;}
   j0 = p1;
@@ -15433,7 +14849,7 @@ static void f16(module *self, u64 p0, u64 p1, u64 p2, u64 p3) {
   j1 = l13;
   j2 = l11;
   j3 = 1048864ull;
-  f17(self, j0, j1, j2, j3); if (NEVER(self->is_broken)) return;
+  f18(self, j0, j1, j2, j3); if (NEVER(self->is_broken)) return;
   j0 = l4;
   i0 = (u32)(j0);
   i0 = i32_load8_u(j0 + 32u);
@@ -15452,7 +14868,7 @@ static void f16(module *self, u64 p0, u64 p1, u64 p2, u64 p3) {
   i2 = (u32)(j2);
   j2 = i64_load(j2 + 56u);
   j3 = 1048867ull;
-  f17(self, j0, j1, j2, j3); if (NEVER(self->is_broken)) return;
+  f18(self, j0, j1, j2, j3); if (NEVER(self->is_broken)) return;
   j0 = l4;
   i0 = (u32)(j0);
   i0 = i32_load8_u(j0 + 32u);
@@ -15471,7 +14887,7 @@ static void f16(module *self, u64 p0, u64 p1, u64 p2, u64 p3) {
   i2 = (u32)(j2);
   j2 = i64_load(j2 + 56u);
   j3 = 1048870ull;
-  f17(self, j0, j1, j2, j3); if (NEVER(self->is_broken)) return;
+  f18(self, j0, j1, j2, j3); if (NEVER(self->is_broken)) return;
   j0 = l4;
   i0 = (u32)(j0);
   i0 = i32_load8_u(j0 + 32u);
@@ -15490,7 +14906,7 @@ static void f16(module *self, u64 p0, u64 p1, u64 p2, u64 p3) {
   i2 = (u32)(j2);
   j2 = i64_load(j2 + 56u);
   j3 = 1048873ull;
-  f17(self, j0, j1, j2, j3); if (NEVER(self->is_broken)) return;
+  f18(self, j0, j1, j2, j3); if (NEVER(self->is_broken)) return;
   j0 = l4;
   i0 = (u32)(j0);
   i0 = i32_load8_u(j0 + 32u);
@@ -15506,7 +14922,7 @@ static void f16(module *self, u64 p0, u64 p1, u64 p2, u64 p3) {
   j2 = l4;
   i2 = (u32)(j2);
   j2 = i64_load(j2 + 56u);
-  f18(self, j0, j1, j2); m = self->memory; if (NEVER(self->is_broken)) return;
+  f19(self, j0, j1, j2); m = self->memory; if (NEVER(self->is_broken)) return;
   j0 = l4;
   i0 = (u32)(j0);
   i0 = i32_load8_u(j0);
@@ -15572,7 +14988,7 @@ static void f16(module *self, u64 p0, u64 p1, u64 p2, u64 p3) {
   if (i0) {goto B227;}
   j0 = p1;
   j1 = 1ull;
-  i0 = f14(self, j0, j1); m = self->memory; if (NEVER(self->is_broken)) return;
+  i0 = f15(self, j0, j1); m = self->memory; if (NEVER(self->is_broken)) return;
   i0 = !(i0);
   if (i0) {goto B226;}
   j0 = p1;
@@ -15620,7 +15036,7 @@ static void f16(module *self, u64 p0, u64 p1, u64 p2, u64 p3) {
   if (i0) {goto B228;}
   j0 = p1;
   j1 = 2ull;
-  i0 = f14(self, j0, j1); m = self->memory; if (NEVER(self->is_broken)) return;
+  i0 = f15(self, j0, j1); m = self->memory; if (NEVER(self->is_broken)) return;
   i0 = !(i0);
   if (i0) {goto B226;}
   j0 = p1;
@@ -15675,7 +15091,7 @@ static void f16(module *self, u64 p0, u64 p1, u64 p2, u64 p3) {
   if (i0) {goto B229;}
   j0 = p1;
   j1 = 2ull;
-  i0 = f14(self, j0, j1); m = self->memory; if (NEVER(self->is_broken)) return;
+  i0 = f15(self, j0, j1); m = self->memory; if (NEVER(self->is_broken)) return;
   i0 = !(i0);
   if (i0) {goto B226;}
   j0 = p1;
@@ -15724,7 +15140,7 @@ static void f16(module *self, u64 p0, u64 p1, u64 p2, u64 p3) {
   if (i0) {goto B230;}
   j0 = p1;
   j1 = 2ull;
-  i0 = f14(self, j0, j1); m = self->memory; if (NEVER(self->is_broken)) return;
+  i0 = f15(self, j0, j1); m = self->memory; if (NEVER(self->is_broken)) return;
   i0 = !(i0);
   if (i0) {goto B226;}
   j0 = p1;
@@ -15779,7 +15195,7 @@ static void f16(module *self, u64 p0, u64 p1, u64 p2, u64 p3) {
   if (i0) {goto B231;}
   j0 = p1;
   j1 = 2ull;
-  i0 = f14(self, j0, j1); m = self->memory; if (NEVER(self->is_broken)) return;
+  i0 = f15(self, j0, j1); m = self->memory; if (NEVER(self->is_broken)) return;
   i0 = !(i0);
   if (i0) {goto B226;}
   j0 = p1;
@@ -15828,7 +15244,7 @@ static void f16(module *self, u64 p0, u64 p1, u64 p2, u64 p3) {
   if (i0) {goto B232;}
   j0 = p1;
   j1 = 2ull;
-  i0 = f14(self, j0, j1); m = self->memory; if (NEVER(self->is_broken)) return;
+  i0 = f15(self, j0, j1); m = self->memory; if (NEVER(self->is_broken)) return;
   i0 = !(i0);
   if (i0) {goto B226;}
   j0 = p1;
@@ -15882,7 +15298,7 @@ static void f16(module *self, u64 p0, u64 p1, u64 p2, u64 p3) {
   if (i0) {goto B233;}
   j0 = p1;
   j1 = p3;
-  i0 = f14(self, j0, j1); m = self->memory; if (NEVER(self->is_broken)) return;
+  i0 = f15(self, j0, j1); m = self->memory; if (NEVER(self->is_broken)) return;
   i0 = !(i0);
   if (i0) {goto B226;}
   j0 = p1;
@@ -16044,7 +15460,7 @@ static void f16(module *self, u64 p0, u64 p1, u64 p2, u64 p3) {
   i0 = !(j0);
   if (i0) {goto B2;}
   j0 = l10;
-  f166(self, j0);
+  f167(self, j0);
   goto B2;
   B225:;
   j0 = p1;
@@ -16067,7 +15483,7 @@ static void f16(module *self, u64 p0, u64 p1, u64 p2, u64 p3) {
   i0 = !(j0);
   if (i0) {goto B1;}
   j0 = l10;
-  f166(self, j0);
+  f167(self, j0);
   goto B1;
   B21:;
   i0 = l15;
@@ -19200,7 +18616,7 @@ static void f16(module *self, u64 p0, u64 p1, u64 p2, u64 p3) {
   if (i0) {goto B426;}
   j0 = p1;
   j1 = 1ull;
-  i0 = f14(self, j0, j1); m = self->memory; if (NEVER(self->is_broken)) return;
+  i0 = f15(self, j0, j1); m = self->memory; if (NEVER(self->is_broken)) return;
   i0 = !(i0);
   if (i0) {goto B2;}
   j0 = p1;
@@ -19254,7 +18670,7 @@ static void f16(module *self, u64 p0, u64 p1, u64 p2, u64 p3) {
   if (i0) {goto B427;}
   j0 = p1;
   j1 = 2ull;
-  i0 = f14(self, j0, j1); m = self->memory; if (NEVER(self->is_broken)) return;
+  i0 = f15(self, j0, j1); m = self->memory; if (NEVER(self->is_broken)) return;
   i0 = !(i0);
   if (i0) {goto B2;}
   j0 = p1;
@@ -19316,7 +18732,7 @@ static void f16(module *self, u64 p0, u64 p1, u64 p2, u64 p3) {
   j3 = 127ull;
   j2 += j3;
   j3 = 1ull;
-  f13(self, j0, j1, j2, j3); m = self->memory; if (NEVER(self->is_broken)) return;
+  f14(self, j0, j1, j2, j3); m = self->memory; if (NEVER(self->is_broken)) return;
   j0 = l4;
   i0 = (u32)(j0);
   i0 = i32_load8_u(j0 + 32u);
@@ -19330,7 +18746,7 @@ static void f16(module *self, u64 p0, u64 p1, u64 p2, u64 p3) {
   if (i0) {goto B428;}
   j0 = p1;
   j1 = 1ull;
-  i0 = f14(self, j0, j1); m = self->memory; if (NEVER(self->is_broken)) return;
+  i0 = f15(self, j0, j1); m = self->memory; if (NEVER(self->is_broken)) return;
   i0 = !(i0);
   if (i0) {goto B2;}
   j0 = p1;
@@ -19384,7 +18800,7 @@ static void f16(module *self, u64 p0, u64 p1, u64 p2, u64 p3) {
   if (i0) {goto B429;}
   j0 = p1;
   j1 = 2ull;
-  i0 = f14(self, j0, j1); m = self->memory; if (NEVER(self->is_broken)) return;
+  i0 = f15(self, j0, j1); m = self->memory; if (NEVER(self->is_broken)) return;
   i0 = !(i0);
   if (i0) {goto B2;}
   j0 = p1;
@@ -19439,7 +18855,7 @@ static void f16(module *self, u64 p0, u64 p1, u64 p2, u64 p3) {
   i4 = 255u;
   i3 &= i4;
   i2 |= i3;
-  f15(self, j0, j1, i2); m = self->memory; if (NEVER(self->is_broken)) return;
+  f16(self, j0, j1, i2); m = self->memory; if (NEVER(self->is_broken)) return;
   j0 = l4;
   i0 = (u32)(j0);
   i0 = i32_load8_u(j0);
@@ -19453,7 +18869,7 @@ static void f16(module *self, u64 p0, u64 p1, u64 p2, u64 p3) {
   if (i0) {goto B430;}
   j0 = p1;
   j1 = 1ull;
-  i0 = f14(self, j0, j1); m = self->memory; if (NEVER(self->is_broken)) return;
+  i0 = f15(self, j0, j1); m = self->memory; if (NEVER(self->is_broken)) return;
   i0 = !(i0);
   if (i0) {goto B2;}
   j0 = p1;
@@ -19507,7 +18923,7 @@ static void f16(module *self, u64 p0, u64 p1, u64 p2, u64 p3) {
   if (i0) {goto B431;}
   j0 = p1;
   j1 = 2ull;
-  i0 = f14(self, j0, j1); m = self->memory; if (NEVER(self->is_broken)) return;
+  i0 = f15(self, j0, j1); m = self->memory; if (NEVER(self->is_broken)) return;
   i0 = !(i0);
   if (i0) {goto B2;}
   j0 = p1;
@@ -19561,7 +18977,7 @@ static void f16(module *self, u64 p0, u64 p1, u64 p2, u64 p3) {
   if (i0) {goto B432;}
   j0 = p1;
   j1 = 1ull;
-  i0 = f14(self, j0, j1); m = self->memory; if (NEVER(self->is_broken)) return;
+  i0 = f15(self, j0, j1); m = self->memory; if (NEVER(self->is_broken)) return;
   i0 = !(i0);
   if (i0) {goto B2;}
   j0 = p1;
@@ -19615,7 +19031,7 @@ static void f16(module *self, u64 p0, u64 p1, u64 p2, u64 p3) {
   if (i0) {goto B433;}
   j0 = p1;
   j1 = 2ull;
-  i0 = f14(self, j0, j1); m = self->memory; if (NEVER(self->is_broken)) return;
+  i0 = f15(self, j0, j1); m = self->memory; if (NEVER(self->is_broken)) return;
   i0 = !(i0);
   if (i0) {goto B2;}
   j0 = p1;
@@ -19669,7 +19085,7 @@ static void f16(module *self, u64 p0, u64 p1, u64 p2, u64 p3) {
   if (i0) {goto B434;}
   j0 = p1;
   j1 = 1ull;
-  i0 = f14(self, j0, j1); m = self->memory; if (NEVER(self->is_broken)) return;
+  i0 = f15(self, j0, j1); m = self->memory; if (NEVER(self->is_broken)) return;
   i0 = !(i0);
   if (i0) {goto B2;}
   j0 = p1;
@@ -19723,7 +19139,7 @@ static void f16(module *self, u64 p0, u64 p1, u64 p2, u64 p3) {
   if (i0) {goto B435;}
   j0 = p1;
   j1 = 4ull;
-  i0 = f14(self, j0, j1); m = self->memory; if (NEVER(self->is_broken)) return;
+  i0 = f15(self, j0, j1); m = self->memory; if (NEVER(self->is_broken)) return;
   i0 = !(i0);
   if (i0) {goto B2;}
   j0 = p1;
@@ -19779,7 +19195,7 @@ static void f16(module *self, u64 p0, u64 p1, u64 p2, u64 p3) {
   j3 = 95ull;
   j2 += j3;
   j3 = 1ull;
-  f13(self, j0, j1, j2, j3); m = self->memory; if (NEVER(self->is_broken)) return;
+  f14(self, j0, j1, j2, j3); m = self->memory; if (NEVER(self->is_broken)) return;
   j0 = l4;
   i0 = (u32)(j0);
   i0 = i32_load8_u(j0 + 96u);
@@ -19793,7 +19209,7 @@ static void f16(module *self, u64 p0, u64 p1, u64 p2, u64 p3) {
   if (i0) {goto B436;}
   j0 = p1;
   j1 = 1ull;
-  i0 = f14(self, j0, j1); m = self->memory; if (NEVER(self->is_broken)) return;
+  i0 = f15(self, j0, j1); m = self->memory; if (NEVER(self->is_broken)) return;
   i0 = !(i0);
   if (i0) {goto B2;}
   j0 = p1;
@@ -19847,7 +19263,7 @@ static void f16(module *self, u64 p0, u64 p1, u64 p2, u64 p3) {
   if (i0) {goto B437;}
   j0 = p1;
   j1 = 4ull;
-  i0 = f14(self, j0, j1); m = self->memory; if (NEVER(self->is_broken)) return;
+  i0 = f15(self, j0, j1); m = self->memory; if (NEVER(self->is_broken)) return;
   i0 = !(i0);
   if (i0) {goto B2;}
   j0 = p1;
@@ -19898,7 +19314,7 @@ static void f16(module *self, u64 p0, u64 p1, u64 p2, u64 p3) {
   i4 = 255u;
   i3 &= i4;
   i2 |= i3;
-  f15(self, j0, j1, i2); m = self->memory; if (NEVER(self->is_broken)) return;
+  f16(self, j0, j1, i2); m = self->memory; if (NEVER(self->is_broken)) return;
   j0 = l4;
   i0 = (u32)(j0);
   i0 = i32_load8_u(j0 + 64u);
@@ -19912,7 +19328,7 @@ static void f16(module *self, u64 p0, u64 p1, u64 p2, u64 p3) {
   if (i0) {goto B438;}
   j0 = p1;
   j1 = 1ull;
-  i0 = f14(self, j0, j1); m = self->memory; if (NEVER(self->is_broken)) return;
+  i0 = f15(self, j0, j1); m = self->memory; if (NEVER(self->is_broken)) return;
   i0 = !(i0);
   if (i0) {goto B2;}
   j0 = p1;
@@ -19966,7 +19382,7 @@ static void f16(module *self, u64 p0, u64 p1, u64 p2, u64 p3) {
   if (i0) {goto B439;}
   j0 = p1;
   j1 = 4ull;
-  i0 = f14(self, j0, j1); m = self->memory; if (NEVER(self->is_broken)) return;
+  i0 = f15(self, j0, j1); m = self->memory; if (NEVER(self->is_broken)) return;
   i0 = !(i0);
   if (i0) {goto B2;}
   j0 = p1;
@@ -20014,7 +19430,7 @@ static void f16(module *self, u64 p0, u64 p1, u64 p2, u64 p3) {
   if (i0) {goto B440;}
   j0 = p1;
   j1 = 1ull;
-  i0 = f14(self, j0, j1); m = self->memory; if (NEVER(self->is_broken)) return;
+  i0 = f15(self, j0, j1); m = self->memory; if (NEVER(self->is_broken)) return;
   i0 = !(i0);
   if (i0) {goto B2;}
   j0 = p1;
@@ -20068,7 +19484,7 @@ static void f16(module *self, u64 p0, u64 p1, u64 p2, u64 p3) {
   if (i0) {goto B441;}
   j0 = p1;
   j1 = 4ull;
-  i0 = f14(self, j0, j1); m = self->memory; if (NEVER(self->is_broken)) return;
+  i0 = f15(self, j0, j1); m = self->memory; if (NEVER(self->is_broken)) return;
   i0 = !(i0);
   if (i0) {goto B2;}
   j0 = p1;
@@ -20116,7 +19532,7 @@ static void f16(module *self, u64 p0, u64 p1, u64 p2, u64 p3) {
   if (i0) {goto B442;}
   j0 = p1;
   j1 = 1ull;
-  i0 = f14(self, j0, j1); m = self->memory; if (NEVER(self->is_broken)) return;
+  i0 = f15(self, j0, j1); m = self->memory; if (NEVER(self->is_broken)) return;
   i0 = !(i0);
   if (i0) {goto B2;}
   j0 = p1;
@@ -20170,7 +19586,7 @@ static void f16(module *self, u64 p0, u64 p1, u64 p2, u64 p3) {
   if (i0) {goto B443;}
   j0 = p1;
   j1 = 4ull;
-  i0 = f14(self, j0, j1); m = self->memory; if (NEVER(self->is_broken)) return;
+  i0 = f15(self, j0, j1); m = self->memory; if (NEVER(self->is_broken)) return;
   i0 = !(i0);
   if (i0) {goto B2;}
   j0 = p1;
@@ -20220,7 +19636,7 @@ static void f16(module *self, u64 p0, u64 p1, u64 p2, u64 p3) {
   j1 = l10;
   j2 = 1048860ull;
   j3 = 4ull;
-  i0 = f12(self, j0, j1, j2, j3);
+  i0 = f13(self, j0, j1, j2, j3);
   i0 = !(i0);
   if (i0) {goto B10;}
   j0 = l4;
@@ -20782,7 +20198,7 @@ static void f16(module *self, u64 p0, u64 p1, u64 p2, u64 p3) {
   j0 += j1;
   j1 = p3;
   j2 = l5;
-  f19(self, j0, j1, j2); if (NEVER(self->is_broken)) return;
+  f20(self, j0, j1, j2); if (NEVER(self->is_broken)) return;
   j0 = l4;
   i0 = (u32)(j0);
   i0 = i32_load8_u(j0 + 32u);
@@ -21100,7 +20516,7 @@ static void f16(module *self, u64 p0, u64 p1, u64 p2, u64 p3) {
   j1 = l6;
   j2 = 1048887ull;
   j3 = 3ull;
-  i0 = f12(self, j0, j1, j2, j3);
+  i0 = f13(self, j0, j1, j2, j3);
   i0 = !(i0);
   if (i0) {goto B475;}
   i0 = 0u;
@@ -21142,7 +20558,7 @@ static void f16(module *self, u64 p0, u64 p1, u64 p2, u64 p3) {
   j1 = l6;
   j2 = 1048890ull;
   j3 = 5ull;
-  i0 = f12(self, j0, j1, j2, j3);
+  i0 = f13(self, j0, j1, j2, j3);
   i0 = !(i0);
   if (i0) {goto B10;}
   i0 = 0u;
@@ -21346,7 +20762,7 @@ static void f16(module *self, u64 p0, u64 p1, u64 p2, u64 p3) {
   if (i0) {goto B485;}
   j0 = p1;
   j1 = 2ull;
-  i0 = f14(self, j0, j1); m = self->memory; if (NEVER(self->is_broken)) return;
+  i0 = f15(self, j0, j1); m = self->memory; if (NEVER(self->is_broken)) return;
   i0 = !(i0);
   if (i0) {goto B2;}
   j0 = p1;
@@ -21413,7 +20829,7 @@ static void f16(module *self, u64 p0, u64 p1, u64 p2, u64 p3) {
   if (i0) {goto B488;}
   j0 = p1;
   j1 = 3ull;
-  i0 = f14(self, j0, j1); m = self->memory; if (NEVER(self->is_broken)) return;
+  i0 = f15(self, j0, j1); m = self->memory; if (NEVER(self->is_broken)) return;
   i0 = !(i0);
   if (i0) {goto B2;}
   j0 = p1;
@@ -21469,7 +20885,7 @@ static void f16(module *self, u64 p0, u64 p1, u64 p2, u64 p3) {
   if (i0) {goto B489;}
   j0 = p1;
   j1 = 2ull;
-  i0 = f14(self, j0, j1); m = self->memory; if (NEVER(self->is_broken)) return;
+  i0 = f15(self, j0, j1); m = self->memory; if (NEVER(self->is_broken)) return;
   i0 = !(i0);
   if (i0) {goto B2;}
   j0 = p1;
@@ -21536,7 +20952,7 @@ static void f16(module *self, u64 p0, u64 p1, u64 p2, u64 p3) {
   if (i0) {goto B492;}
   j0 = p1;
   j1 = 2ull;
-  i0 = f14(self, j0, j1); m = self->memory; if (NEVER(self->is_broken)) return;
+  i0 = f15(self, j0, j1); m = self->memory; if (NEVER(self->is_broken)) return;
   i0 = !(i0);
   if (i0) {goto B2;}
   j0 = p1;
@@ -21603,7 +21019,7 @@ static void f16(module *self, u64 p0, u64 p1, u64 p2, u64 p3) {
   if (i0) {goto B495;}
   j0 = p1;
   j1 = 3ull;
-  i0 = f14(self, j0, j1); m = self->memory; if (NEVER(self->is_broken)) return;
+  i0 = f15(self, j0, j1); m = self->memory; if (NEVER(self->is_broken)) return;
   i0 = !(i0);
   if (i0) {goto B2;}
   j0 = p1;
@@ -21662,7 +21078,7 @@ static void f16(module *self, u64 p0, u64 p1, u64 p2, u64 p3) {
   if (i0) {goto B496;}
   j0 = p1;
   j1 = 2ull;
-  i0 = f14(self, j0, j1); m = self->memory; if (NEVER(self->is_broken)) return;
+  i0 = f15(self, j0, j1); m = self->memory; if (NEVER(self->is_broken)) return;
   i0 = !(i0);
   if (i0) {goto B2;}
   j0 = p1;
@@ -21711,7 +21127,7 @@ static void f16(module *self, u64 p0, u64 p1, u64 p2, u64 p3) {
   if (i0) {goto B497;}
   j0 = p1;
   j1 = 2ull;
-  i0 = f14(self, j0, j1); m = self->memory; if (NEVER(self->is_broken)) return;
+  i0 = f15(self, j0, j1); m = self->memory; if (NEVER(self->is_broken)) return;
   i0 = !(i0);
   if (i0) {goto B2;}
   j0 = p1;
@@ -21763,7 +21179,7 @@ static void f16(module *self, u64 p0, u64 p1, u64 p2, u64 p3) {
   if (i0) {goto B498;}
   j0 = p1;
   j1 = 2ull;
-  i0 = f14(self, j0, j1); m = self->memory; if (NEVER(self->is_broken)) return;
+  i0 = f15(self, j0, j1); m = self->memory; if (NEVER(self->is_broken)) return;
   i0 = !(i0);
   if (i0) {goto B2;}
   j0 = p1;
@@ -21830,7 +21246,7 @@ static void f16(module *self, u64 p0, u64 p1, u64 p2, u64 p3) {
   if (i0) {goto B501;}
   j0 = p1;
   j1 = 2ull;
-  i0 = f14(self, j0, j1); m = self->memory; if (NEVER(self->is_broken)) return;
+  i0 = f15(self, j0, j1); m = self->memory; if (NEVER(self->is_broken)) return;
   i0 = !(i0);
   if (i0) {goto B2;}
   j0 = p1;
@@ -21920,7 +21336,7 @@ static void f16(module *self, u64 p0, u64 p1, u64 p2, u64 p3) {
   self->g0 = j0;
 }
 
-static void f17(module *self, u64 p0, u64 p1, u64 p2, u64 p3) {
+static void f18(module *self, u64 p0, u64 p1, u64 p2, u64 p3) {
   u32 l9 = 0;
   u64 l4 = 0, l5 = 0, l6 = 0, l7 = 0, l8 = 0;
   u8 *m = self->memory;
@@ -22323,7 +21739,7 @@ static void f17(module *self, u64 p0, u64 p1, u64 p2, u64 p3) {
   Bfunc:;
 }
 
-static void f18(module *self, u64 p0, u64 p1, u64 p2) {
+static void f19(module *self, u64 p0, u64 p1, u64 p2) {
   u32 l12 = 0, l13 = 0, l14 = 0, l15 = 0, l16 = 0;
   u64 l3 = 0, l4 = 0, l5 = 0, l6 = 0, l7 = 0, l8 = 0, l9 = 0, l10 = 0, 
       l11 = 0;
@@ -22593,7 +22009,7 @@ static void f18(module *self, u64 p0, u64 p1, u64 p2) {
       j1 >>= (j2 & 63);
       l8 = j1;
       j2 = 1ull;
-      f163(self, j0, j1, j2); m = self->memory; if (NEVER(self->is_broken)) return;
+      f164(self, j0, j1, j2); m = self->memory; if (NEVER(self->is_broken)) return;
       i0 = 1u;
       l12 = i0;
       j0 = l3;
@@ -22817,7 +22233,7 @@ static void f18(module *self, u64 p0, u64 p1, u64 p2) {
       if (i0) {goto B11;}
       B19:;
       j0 = l4;
-      f166(self, j0);
+      f167(self, j0);
       goto B11;
       B13:;
       j0 = p2;
@@ -22937,7 +22353,7 @@ static void f18(module *self, u64 p0, u64 p1, u64 p2) {
   self->g0 = j0;
 }
 
-static void f19(module *self, u64 p0, u64 p1, u64 p2) {
+static void f20(module *self, u64 p0, u64 p1, u64 p2) {
   u32 l9 = 0, l10 = 0;
   u64 l3 = 0, l4 = 0, l5 = 0, l6 = 0, l7 = 0, l8 = 0;
   u8 *m = self->memory;
@@ -23666,7 +23082,7 @@ static void f19(module *self, u64 p0, u64 p1, u64 p2) {
   Bfunc:;
 }
 
-static void f20(module *self, u64 p0, u64 p1) {
+static void f21(module *self, u64 p0, u64 p1) {
   u32 l8 = 0, l9 = 0, l10 = 0, l11 = 0, l12 = 0, l13 = 0, l14 = 0, l15 = 0, 
       l16 = 0, l17 = 0, l18 = 0, l19 = 0, l20 = 0, l21 = 0, l22 = 0, l23 = 0;
   u64 l2 = 0, l3 = 0, l4 = 0, l5 = 0, l6 = 0, l7 = 0;
@@ -24504,7 +23920,7 @@ static void f20(module *self, u64 p0, u64 p1) {
   Bfunc:;
 }
 
-static void f21(module *self, u64 p0, u64 p1, u32 p2, u32 p3) {
+static void f22(module *self, u64 p0, u64 p1, u32 p2, u32 p3) {
   u32 l4 = 0, l5 = 0, l6 = 0, l7 = 0, l8 = 0, l9 = 0, l10 = 0, l11 = 0, 
       l12 = 0, l13 = 0, l14 = 0, l15 = 0, l16 = 0, l17 = 0, l18 = 0;
   u8 *m = self->memory;
@@ -24969,7 +24385,7 @@ static void f21(module *self, u64 p0, u64 p1, u32 p2, u32 p3) {
   i32_store(j0, i1);
 }
 
-static void f22(module *self, u64 p0, u64 p1, u32 p2) {
+static void f23(module *self, u64 p0, u64 p1, u32 p2) {
   u32 l5 = 0, l6 = 0, l7 = 0, l8 = 0, l9 = 0, l10 = 0;
   u64 l3 = 0, l4 = 0;
   u8 *m = self->memory;
@@ -25252,7 +24668,7 @@ static void f22(module *self, u64 p0, u64 p1, u32 p2) {
   j3 += j4;
   i3 = (u32)(j3);
   i3 = i32_load8_u(j3);
-  f21(self, j0, j1, i2, i3);
+  f22(self, j0, j1, i2, i3);
   j0 = p0;
   i0 = (u32)(j0);
   i1 = l7;
@@ -25314,7 +24730,7 @@ static void f22(module *self, u64 p0, u64 p1, u32 p2) {
   j3 += j4;
   i3 = (u32)(j3);
   i3 = i32_load8_u(j3);
-  f21(self, j0, j1, i2, i3);
+  f22(self, j0, j1, i2, i3);
   j0 = p0;
   i0 = (u32)(j0);
   i1 = 0u;
@@ -25356,7 +24772,7 @@ static void f22(module *self, u64 p0, u64 p1, u32 p2) {
   self->g0 = j0;
 }
 
-static u32 f23(module *self, u64 p0) {
+static u32 f24(module *self, u64 p0) {
   u32 l2 = 0, l3 = 0, l4 = 0;
   u64 l1 = 0;
   u8 *m = self->memory;
@@ -25380,7 +24796,7 @@ static u32 f23(module *self, u64 p0) {
   i2 = (u32)(j2);
   i2 = i32_load16_u(j2);
   l3 = i2;
-  f24(self, j0, i1, i2);
+  f25(self, j0, i1, i2);
   j0 = l1;
   i0 = (u32)(j0);
   i0 = i32_load8_u(j0 + 8u);
@@ -25577,7 +24993,7 @@ static u32 f23(module *self, u64 p0) {
   return i0;
 }
 
-static void f24(module *self, u64 p0, u32 p1, u32 p2) {
+static void f25(module *self, u64 p0, u32 p1, u32 p2) {
   u32 l12 = 0, l13 = 0, l14 = 0, l15 = 0, l16 = 0, l17 = 0, l18 = 0, l19 = 0, 
       l20 = 0, l21 = 0, l22 = 0, l23 = 0, l24 = 0, l25 = 0, l26 = 0, l27 = 0, 
       l28 = 0, l29 = 0, l30 = 0, l31 = 0, l32 = 0, l33 = 0, l34 = 0, l35 = 0, 
@@ -26705,7 +26121,7 @@ static void f24(module *self, u64 p0, u32 p1, u32 p2) {
   Bfunc:;
 }
 
-static void f25(module *self, u64 p0, u64 p1, u64 p2) {
+static void f26(module *self, u64 p0, u64 p1, u64 p2) {
   u32 l12 = 0, l13 = 0, l14 = 0, l15 = 0, l16 = 0, l17 = 0, l18 = 0;
   u64 l3 = 0, l4 = 0, l5 = 0, l6 = 0, l7 = 0, l8 = 0, l9 = 0, l10 = 0, 
       l11 = 0;
@@ -28813,7 +28229,7 @@ static void f25(module *self, u64 p0, u64 p1, u64 p2) {
   self->g0 = j0;
 }
 
-static void f26(module *self, u64 p0) {
+static void f27(module *self, u64 p0) {
   u32 l11 = 0;
   u64 l1 = 0, l2 = 0, l3 = 0, l4 = 0, l5 = 0, l6 = 0, l7 = 0, l8 = 0, 
       l9 = 0, l10 = 0;
@@ -28838,7 +28254,7 @@ static void f26(module *self, u64 p0) {
   j0 += j1;
   j1 = 262144ull;
   j2 = 4ull;
-  f163(self, j0, j1, j2); m = self->memory; if (NEVER(self->is_broken)) return;
+  f164(self, j0, j1, j2); m = self->memory; if (NEVER(self->is_broken)) return;
   j0 = l1;
   i0 = (u32)(j0);
   j0 = i64_load(j0 + 32u);
@@ -28861,7 +28277,7 @@ static void f26(module *self, u64 p0) {
   j0 += j1;
   j1 = 7077888ull;
   j2 = 1ull;
-  f163(self, j0, j1, j2); m = self->memory; if (NEVER(self->is_broken)) return;
+  f164(self, j0, j1, j2); m = self->memory; if (NEVER(self->is_broken)) return;
   j0 = l1;
   i0 = (u32)(j0);
   j0 = i64_load(j0 + 24u);
@@ -28884,7 +28300,7 @@ static void f26(module *self, u64 p0) {
   j0 = l1;
   j1 = 4096ull;
   j2 = 4ull;
-  f163(self, j0, j1, j2); m = self->memory; if (NEVER(self->is_broken)) return;
+  f164(self, j0, j1, j2); m = self->memory; if (NEVER(self->is_broken)) return;
   j0 = l1;
   i0 = (u32)(j0);
   j0 = i64_load(j0);
@@ -28893,7 +28309,7 @@ static void f26(module *self, u64 p0) {
   i0 &= i1;
   if (i0) {goto B3;}
   j0 = l4;
-  f166(self, j0);
+  f167(self, j0);
   j0 = 9ull;
   l3 = j0;
   goto B1;
@@ -28966,7 +28382,7 @@ static void f26(module *self, u64 p0) {
   j1 = l1;
   j2 = 2624ull;
   j1 += j2;
-  f27(self, j0, j1);
+  f28(self, j0, j1);
   j0 = l1;
   j1 = 2368ull;
   j0 += j1;
@@ -29445,7 +28861,7 @@ static void f26(module *self, u64 p0) {
   l3 = j0;
   B1:;
   j0 = l2;
-  f166(self, j0);
+  f167(self, j0);
   j0 = p0;
   j1 = 8ull;
   j0 += j1;
@@ -29471,7 +28887,7 @@ static void f26(module *self, u64 p0) {
   self->g0 = j0;
 }
 
-static void f27(module *self, u64 p0, u64 p1) {
+static void f28(module *self, u64 p0, u64 p1) {
   u32 l3 = 0, l4 = 0, l5 = 0, l6 = 0, l7 = 0, l8 = 0, l9 = 0, l10 = 0, 
       l11 = 0, l12 = 0, l13 = 0, l14 = 0, l15 = 0, l16 = 0, l17 = 0, l18 = 0, 
       l19 = 0, l20 = 0, l21 = 0, l22 = 0, l23 = 0, l24 = 0, l25 = 0, l26 = 0, 
@@ -30104,7 +29520,7 @@ static void f27(module *self, u64 p0, u64 p1) {
   i32_store8(j0, i1);
 }
 
-static void f28(module *self, u64 p0, u64 p1, u64 p2) {
+static void f29(module *self, u64 p0, u64 p1, u64 p2) {
   u32 l12 = 0, l13 = 0, l14 = 0, l15 = 0, l16 = 0, l17 = 0, l18 = 0, l19 = 0;
   u64 l3 = 0, l4 = 0, l5 = 0, l6 = 0, l7 = 0, l8 = 0, l9 = 0, l10 = 0, 
       l11 = 0;
@@ -30817,7 +30233,7 @@ static void f28(module *self, u64 p0, u64 p1, u64 p2) {
   j1 = 1024ull;
   j0 += j1;
   j1 = l7;
-  f27(self, j0, j1);
+  f28(self, j0, j1);
   j0 = p0;
   j1 = 196ull;
   j0 += j1;
@@ -32048,7 +31464,7 @@ static void f28(module *self, u64 p0, u64 p1, u64 p2) {
   self->g0 = j0;
 }
 
-static void f29(module *self, u64 p0, u64 p1, u64 p2, u64 p3, u64 p4, u64 p5, u64 p6) {
+static void f30(module *self, u64 p0, u64 p1, u64 p2, u64 p3, u64 p4, u64 p5, u64 p6) {
   u32 l18 = 0, l19 = 0, l20 = 0, l21 = 0, l22 = 0, l23 = 0, l24 = 0, l25 = 0, 
       l26 = 0, l27 = 0, l28 = 0, l29 = 0, l30 = 0, l31 = 0, l32 = 0, l33 = 0, 
       l34 = 0, l35 = 0, l36 = 0, l37 = 0, l38 = 0, l39 = 0, l40 = 0, l41 = 0, 
@@ -32070,7 +31486,7 @@ static void f29(module *self, u64 p0, u64 p1, u64 p2, u64 p3, u64 p4, u64 p5, u6
   j1 = 168ull;
   j0 += j1;
   j1 = p4;
-  f20(self, j0, j1);
+  f21(self, j0, j1);
   j0 = l7;
   i0 = (u32)(j0);
   i0 = i32_load8_u(j0 + 168u);
@@ -32701,7 +32117,7 @@ static void f29(module *self, u64 p0, u64 p1, u64 p2, u64 p3, u64 p4, u64 p5, u6
   j1 = 2072ull;
   j0 += j1;
   j1 = 3ull;
-  i0 = f14(self, j0, j1); m = self->memory; if (NEVER(self->is_broken)) return;
+  i0 = f15(self, j0, j1); m = self->memory; if (NEVER(self->is_broken)) return;
   i0 = !(i0);
   if (i0) {goto B24;}
   j0 = p1;
@@ -32762,7 +32178,7 @@ static void f29(module *self, u64 p0, u64 p1, u64 p2, u64 p3, u64 p4, u64 p5, u6
   j0 += j1;
   j1 = p1;
   i2 = l27;
-  f30(self, j0, j1, i2); if (NEVER(self->is_broken)) return;
+  f31(self, j0, j1, i2); if (NEVER(self->is_broken)) return;
   i0 = 1u;
   l18 = i0;
   i0 = 0u;
@@ -32770,87 +32186,87 @@ static void f29(module *self, u64 p0, u64 p1, u64 p2, u64 p3, u64 p4, u64 p5, u6
   j0 = p1;
   i1 = l58;
   i2 = 0u;
-  i0 = f31(self, j0, i1, i2); m = self->memory; if (NEVER(self->is_broken)) return;
+  i0 = f32(self, j0, i1, i2); m = self->memory; if (NEVER(self->is_broken)) return;
   l21 = i0;
   j0 = p1;
   i1 = l58;
   i2 = 1u;
-  i0 = f31(self, j0, i1, i2); m = self->memory; if (NEVER(self->is_broken)) return;
+  i0 = f32(self, j0, i1, i2); m = self->memory; if (NEVER(self->is_broken)) return;
   l24 = i0;
   j0 = p1;
   i1 = l58;
   i2 = 2u;
-  i0 = f31(self, j0, i1, i2); m = self->memory; if (NEVER(self->is_broken)) return;
+  i0 = f32(self, j0, i1, i2); m = self->memory; if (NEVER(self->is_broken)) return;
   l73 = i0;
   j0 = p1;
   i1 = l58;
   i2 = 3u;
-  i0 = f31(self, j0, i1, i2); m = self->memory; if (NEVER(self->is_broken)) return;
+  i0 = f32(self, j0, i1, i2); m = self->memory; if (NEVER(self->is_broken)) return;
   l28 = i0;
   j0 = p1;
   i1 = l58;
   i2 = 4u;
-  i0 = f31(self, j0, i1, i2); m = self->memory; if (NEVER(self->is_broken)) return;
+  i0 = f32(self, j0, i1, i2); m = self->memory; if (NEVER(self->is_broken)) return;
   l29 = i0;
   j0 = p1;
   i1 = l58;
   i2 = 5u;
-  i0 = f31(self, j0, i1, i2); m = self->memory; if (NEVER(self->is_broken)) return;
+  i0 = f32(self, j0, i1, i2); m = self->memory; if (NEVER(self->is_broken)) return;
   l22 = i0;
   j0 = p1;
   i1 = l58;
   i2 = 6u;
-  i0 = f31(self, j0, i1, i2); m = self->memory; if (NEVER(self->is_broken)) return;
+  i0 = f32(self, j0, i1, i2); m = self->memory; if (NEVER(self->is_broken)) return;
   l60 = i0;
   j0 = p1;
   i1 = l58;
   i2 = 7u;
-  i0 = f31(self, j0, i1, i2); m = self->memory; if (NEVER(self->is_broken)) return;
+  i0 = f32(self, j0, i1, i2); m = self->memory; if (NEVER(self->is_broken)) return;
   l27 = i0;
   j0 = p1;
   i1 = l58;
   i2 = 8u;
-  i0 = f31(self, j0, i1, i2); m = self->memory; if (NEVER(self->is_broken)) return;
+  i0 = f32(self, j0, i1, i2); m = self->memory; if (NEVER(self->is_broken)) return;
   l40 = i0;
   j0 = p1;
   i1 = l58;
   i2 = 9u;
-  i0 = f31(self, j0, i1, i2); m = self->memory; if (NEVER(self->is_broken)) return;
+  i0 = f32(self, j0, i1, i2); m = self->memory; if (NEVER(self->is_broken)) return;
   l68 = i0;
   j0 = p1;
   i1 = l58;
   i2 = 10u;
-  i0 = f31(self, j0, i1, i2); m = self->memory; if (NEVER(self->is_broken)) return;
+  i0 = f32(self, j0, i1, i2); m = self->memory; if (NEVER(self->is_broken)) return;
   l69 = i0;
   j0 = p1;
   i1 = l58;
   i2 = 11u;
-  i0 = f31(self, j0, i1, i2); m = self->memory; if (NEVER(self->is_broken)) return;
+  i0 = f32(self, j0, i1, i2); m = self->memory; if (NEVER(self->is_broken)) return;
   l19 = i0;
   j0 = p1;
   i1 = l58;
   i2 = 12u;
-  i0 = f31(self, j0, i1, i2); m = self->memory; if (NEVER(self->is_broken)) return;
+  i0 = f32(self, j0, i1, i2); m = self->memory; if (NEVER(self->is_broken)) return;
   l23 = i0;
   j0 = p1;
   i1 = l58;
   i2 = 13u;
-  i0 = f31(self, j0, i1, i2); m = self->memory; if (NEVER(self->is_broken)) return;
+  i0 = f32(self, j0, i1, i2); m = self->memory; if (NEVER(self->is_broken)) return;
   l26 = i0;
   j0 = p1;
   i1 = l58;
   i2 = 14u;
-  i0 = f31(self, j0, i1, i2); m = self->memory; if (NEVER(self->is_broken)) return;
+  i0 = f32(self, j0, i1, i2); m = self->memory; if (NEVER(self->is_broken)) return;
   l31 = i0;
   j0 = p1;
   i1 = l58;
   i2 = 15u;
-  i0 = f31(self, j0, i1, i2); m = self->memory; if (NEVER(self->is_broken)) return;
+  i0 = f32(self, j0, i1, i2); m = self->memory; if (NEVER(self->is_broken)) return;
   l57 = i0;
   j0 = p1;
   i1 = l58;
   i2 = 17u;
-  i0 = f31(self, j0, i1, i2); m = self->memory; if (NEVER(self->is_broken)) return;
+  i0 = f32(self, j0, i1, i2); m = self->memory; if (NEVER(self->is_broken)) return;
   j0 = (u64)(i0);
   j1 = 255ull;
   j0 &= j1;
@@ -32968,7 +32384,7 @@ static void f29(module *self, u64 p0, u64 p1, u64 p2, u64 p3, u64 p4, u64 p5, u6
   j1 *= j2;
   p5 = j1;
   j2 = 1ull;
-  f163(self, j0, j1, j2); m = self->memory; if (NEVER(self->is_broken)) return;
+  f164(self, j0, j1, j2); m = self->memory; if (NEVER(self->is_broken)) return;
   i0 = 1u;
   l59 = i0;
   j0 = 0ull;
@@ -33009,7 +32425,7 @@ static void f29(module *self, u64 p0, u64 p1, u64 p2, u64 p3, u64 p4, u64 p5, u6
   j0 += j1;
   j1 = 24ull;
   j2 = 8ull;
-  f163(self, j0, j1, j2); m = self->memory; if (NEVER(self->is_broken)) return;
+  f164(self, j0, j1, j2); m = self->memory; if (NEVER(self->is_broken)) return;
   i0 = 1u;
   l59 = i0;
   j0 = l7;
@@ -33020,7 +32436,7 @@ static void f29(module *self, u64 p0, u64 p1, u64 p2, u64 p3, u64 p4, u64 p5, u6
   i0 &= i1;
   if (i0) {goto B29;}
   j0 = l9;
-  f166(self, j0);
+  f167(self, j0);
   goto B11;
   B29:;
   j0 = l7;
@@ -33088,7 +32504,7 @@ static void f29(module *self, u64 p0, u64 p1, u64 p2, u64 p3, u64 p4, u64 p5, u6
   j1 = 2072ull;
   j0 += j1;
   j1 = 4ull;
-  i0 = f14(self, j0, j1); m = self->memory; if (NEVER(self->is_broken)) return;
+  i0 = f15(self, j0, j1); m = self->memory; if (NEVER(self->is_broken)) return;
   i0 = !(i0);
   if (i0) {goto B30;}
   j0 = p1;
@@ -33224,7 +32640,7 @@ static void f29(module *self, u64 p0, u64 p1, u64 p2, u64 p3, u64 p4, u64 p5, u6
     j1 = 2072ull;
     j0 += j1;
     j1 = 3ull;
-    i0 = f14(self, j0, j1); m = self->memory; if (NEVER(self->is_broken)) return;
+    i0 = f15(self, j0, j1); m = self->memory; if (NEVER(self->is_broken)) return;
     i0 = !(i0);
     if (i0) {goto B34;}
     j0 = p1;
@@ -33458,7 +32874,7 @@ static void f29(module *self, u64 p0, u64 p1, u64 p2, u64 p3, u64 p4, u64 p5, u6
   i2 = (u32)(j2);
   i3 = 255u;
   i2 &= i3;
-  f24(self, j0, i1, i2);
+  f25(self, j0, i1, i2);
   i0 = 1u;
   l21 = i0;
   j0 = l7;
@@ -33512,86 +32928,86 @@ static void f29(module *self, u64 p0, u64 p1, u64 p2, u64 p3, u64 p4, u64 p5, u6
   j4 = l7;
   i4 = (u32)(j4);
   i4 = i32_load8_u(j4 + 200u);
-  f32(self, j0, j1, j2, j3, i4); m = self->memory; if (NEVER(self->is_broken)) return;
+  f33(self, j0, j1, j2, j3, i4); m = self->memory; if (NEVER(self->is_broken)) return;
   j0 = p1;
   i1 = l58;
   i2 = 9u;
-  f33(self, j0, i1, i2); m = self->memory; if (NEVER(self->is_broken)) return;
+  f34(self, j0, i1, i2); m = self->memory; if (NEVER(self->is_broken)) return;
   j0 = p1;
   i1 = l58;
   i2 = 1u;
   i1 += i2;
   l59 = i1;
   i2 = l22;
-  f33(self, j0, i1, i2); m = self->memory; if (NEVER(self->is_broken)) return;
+  f34(self, j0, i1, i2); m = self->memory; if (NEVER(self->is_broken)) return;
   j0 = p1;
   i1 = l58;
   i2 = 10u;
-  f33(self, j0, i1, i2); m = self->memory; if (NEVER(self->is_broken)) return;
+  f34(self, j0, i1, i2); m = self->memory; if (NEVER(self->is_broken)) return;
   j0 = p1;
   i1 = l59;
   i2 = l18;
   i3 = 8u;
   i2 >>= (i3 & 31);
-  f33(self, j0, i1, i2); m = self->memory; if (NEVER(self->is_broken)) return;
+  f34(self, j0, i1, i2); m = self->memory; if (NEVER(self->is_broken)) return;
   j0 = p1;
   i1 = l58;
   i2 = 11u;
-  f33(self, j0, i1, i2); m = self->memory; if (NEVER(self->is_broken)) return;
+  f34(self, j0, i1, i2); m = self->memory; if (NEVER(self->is_broken)) return;
   j0 = p1;
   i1 = l59;
   i2 = l18;
-  f33(self, j0, i1, i2); m = self->memory; if (NEVER(self->is_broken)) return;
+  f34(self, j0, i1, i2); m = self->memory; if (NEVER(self->is_broken)) return;
   j0 = p1;
   i1 = l58;
   i2 = 18u;
-  f33(self, j0, i1, i2); m = self->memory; if (NEVER(self->is_broken)) return;
+  f34(self, j0, i1, i2); m = self->memory; if (NEVER(self->is_broken)) return;
   j0 = p1;
   i1 = l59;
   i2 = l29;
-  f33(self, j0, i1, i2); m = self->memory; if (NEVER(self->is_broken)) return;
+  f34(self, j0, i1, i2); m = self->memory; if (NEVER(self->is_broken)) return;
   j0 = p1;
   i1 = l58;
   i2 = 20u;
-  f33(self, j0, i1, i2); m = self->memory; if (NEVER(self->is_broken)) return;
+  f34(self, j0, i1, i2); m = self->memory; if (NEVER(self->is_broken)) return;
   j0 = p1;
   i1 = l59;
   i2 = l21;
-  f33(self, j0, i1, i2); m = self->memory; if (NEVER(self->is_broken)) return;
+  f34(self, j0, i1, i2); m = self->memory; if (NEVER(self->is_broken)) return;
   j0 = p1;
   i1 = l58;
   i2 = 12u;
-  f33(self, j0, i1, i2); m = self->memory; if (NEVER(self->is_broken)) return;
+  f34(self, j0, i1, i2); m = self->memory; if (NEVER(self->is_broken)) return;
   i0 = 0u;
   l21 = i0;
   j0 = p1;
   i1 = l59;
   i2 = 0u;
-  f33(self, j0, i1, i2); m = self->memory; if (NEVER(self->is_broken)) return;
+  f34(self, j0, i1, i2); m = self->memory; if (NEVER(self->is_broken)) return;
   j0 = p1;
   i1 = l58;
   i2 = 13u;
-  f33(self, j0, i1, i2); m = self->memory; if (NEVER(self->is_broken)) return;
+  f34(self, j0, i1, i2); m = self->memory; if (NEVER(self->is_broken)) return;
   j0 = p1;
   i1 = l59;
   i2 = 0u;
-  f33(self, j0, i1, i2); m = self->memory; if (NEVER(self->is_broken)) return;
+  f34(self, j0, i1, i2); m = self->memory; if (NEVER(self->is_broken)) return;
   j0 = p1;
   i1 = l58;
   i2 = 14u;
-  f33(self, j0, i1, i2); m = self->memory; if (NEVER(self->is_broken)) return;
+  f34(self, j0, i1, i2); m = self->memory; if (NEVER(self->is_broken)) return;
   j0 = p1;
   i1 = l59;
   i2 = 0u;
-  f33(self, j0, i1, i2); m = self->memory; if (NEVER(self->is_broken)) return;
+  f34(self, j0, i1, i2); m = self->memory; if (NEVER(self->is_broken)) return;
   j0 = p1;
   i1 = l58;
   i2 = 15u;
-  f33(self, j0, i1, i2); m = self->memory; if (NEVER(self->is_broken)) return;
+  f34(self, j0, i1, i2); m = self->memory; if (NEVER(self->is_broken)) return;
   j0 = p1;
   i1 = l59;
   i2 = 0u;
-  f33(self, j0, i1, i2); m = self->memory; if (NEVER(self->is_broken)) return;
+  f34(self, j0, i1, i2); m = self->memory; if (NEVER(self->is_broken)) return;
   j0 = p2;
   i0 = (u32)(j0);
   j1 = 0ull;
@@ -33703,7 +33119,7 @@ static void f29(module *self, u64 p0, u64 p1, u64 p2, u64 p3, u64 p4, u64 p5, u6
   j2 = 288ull;
   j1 += j2;
   j2 = p2;
-  f34(self, j0, j1, j2);
+  f35(self, j0, j1, j2);
   j0 = l7;
   j1 = 160ull;
   j0 += j1;
@@ -33712,7 +33128,7 @@ static void f29(module *self, u64 p0, u64 p1, u64 p2, u64 p3, u64 p4, u64 p5, u6
   j1 += j2;
   j2 = p2;
   j3 = p6;
-  f35(self, j0, j1, j2, j3);
+  f36(self, j0, j1, j2, j3);
   j0 = l7;
   i0 = (u32)(j0);
   i0 = i32_load8_u(j0 + 160u);
@@ -33820,7 +33236,7 @@ static void f29(module *self, u64 p0, u64 p1, u64 p2, u64 p3, u64 p4, u64 p5, u6
   i1 = i32_load16_u(j1);
   l58 = i1;
   i2 = 10u;
-  f33(self, j0, i1, i2); m = self->memory; if (NEVER(self->is_broken)) return;
+  f34(self, j0, i1, i2); m = self->memory; if (NEVER(self->is_broken)) return;
   j0 = p1;
   i1 = l58;
   i2 = 1u;
@@ -33829,15 +33245,15 @@ static void f29(module *self, u64 p0, u64 p1, u64 p2, u64 p3, u64 p4, u64 p5, u6
   i2 = l73;
   i3 = 8u;
   i2 >>= (i3 & 31);
-  f33(self, j0, i1, i2); m = self->memory; if (NEVER(self->is_broken)) return;
+  f34(self, j0, i1, i2); m = self->memory; if (NEVER(self->is_broken)) return;
   j0 = p1;
   i1 = l58;
   i2 = 11u;
-  f33(self, j0, i1, i2); m = self->memory; if (NEVER(self->is_broken)) return;
+  f34(self, j0, i1, i2); m = self->memory; if (NEVER(self->is_broken)) return;
   j0 = p1;
   i1 = l27;
   i2 = l73;
-  f33(self, j0, i1, i2); m = self->memory; if (NEVER(self->is_broken)) return;
+  f34(self, j0, i1, i2); m = self->memory; if (NEVER(self->is_broken)) return;
   j0 = p2;
   j1 = 24ull;
   j0 += j1;
@@ -33859,7 +33275,7 @@ static void f29(module *self, u64 p0, u64 p1, u64 p2, u64 p3, u64 p4, u64 p5, u6
   j0 = p1;
   j1 = p2;
   i2 = l18;
-  f36(self, j0, j1, i2); m = self->memory; if (NEVER(self->is_broken)) return;
+  f37(self, j0, j1, i2); m = self->memory; if (NEVER(self->is_broken)) return;
   goto B47;
   B67:;
   j0 = p2;
@@ -33894,7 +33310,7 @@ static void f29(module *self, u64 p0, u64 p1, u64 p2, u64 p3, u64 p4, u64 p5, u6
   i1 = i32_load16_u(j1);
   l58 = i1;
   i2 = 12u;
-  f33(self, j0, i1, i2); m = self->memory; if (NEVER(self->is_broken)) return;
+  f34(self, j0, i1, i2); m = self->memory; if (NEVER(self->is_broken)) return;
   j0 = p1;
   i1 = l58;
   i2 = 1u;
@@ -33914,15 +33330,15 @@ static void f29(module *self, u64 p0, u64 p1, u64 p2, u64 p3, u64 p4, u64 p5, u6
   l27 = i2;
   i3 = 8u;
   i2 >>= (i3 & 31);
-  f33(self, j0, i1, i2); m = self->memory; if (NEVER(self->is_broken)) return;
+  f34(self, j0, i1, i2); m = self->memory; if (NEVER(self->is_broken)) return;
   j0 = p1;
   i1 = l58;
   i2 = 13u;
-  f33(self, j0, i1, i2); m = self->memory; if (NEVER(self->is_broken)) return;
+  f34(self, j0, i1, i2); m = self->memory; if (NEVER(self->is_broken)) return;
   j0 = p1;
   i1 = l24;
   i2 = l27;
-  f33(self, j0, i1, i2); m = self->memory; if (NEVER(self->is_broken)) return;
+  f34(self, j0, i1, i2); m = self->memory; if (NEVER(self->is_broken)) return;
   j0 = p2;
   j1 = 6ull;
   j0 += j1;
@@ -33938,7 +33354,7 @@ static void f29(module *self, u64 p0, u64 p1, u64 p2, u64 p3, u64 p4, u64 p5, u6
   j0 = p1;
   j1 = p2;
   i2 = l18;
-  f36(self, j0, j1, i2); m = self->memory; if (NEVER(self->is_broken)) return;
+  f37(self, j0, j1, i2); m = self->memory; if (NEVER(self->is_broken)) return;
   goto B47;
   B65:;
   j0 = l7;
@@ -34045,7 +33461,7 @@ static void f29(module *self, u64 p0, u64 p1, u64 p2, u64 p3, u64 p4, u64 p5, u6
   j4 = l7;
   j5 = 304ull;
   j4 += j5;
-  f37(self, j0, j1, j2, i3, j4); m = self->memory; if (NEVER(self->is_broken)) return;
+  f38(self, j0, j1, j2, i3, j4); m = self->memory; if (NEVER(self->is_broken)) return;
   goto B47;
   B64:;
   j0 = l7;
@@ -34156,7 +33572,7 @@ static void f29(module *self, u64 p0, u64 p1, u64 p2, u64 p3, u64 p4, u64 p5, u6
   j4 = l7;
   j5 = 304ull;
   j4 += j5;
-  f37(self, j0, j1, j2, i3, j4); m = self->memory; if (NEVER(self->is_broken)) return;
+  f38(self, j0, j1, j2, i3, j4); m = self->memory; if (NEVER(self->is_broken)) return;
   goto B47;
   B63:;
   j0 = p2;
@@ -34260,7 +33676,7 @@ static void f29(module *self, u64 p0, u64 p1, u64 p2, u64 p3, u64 p4, u64 p5, u6
   j1 = 2072ull;
   j0 += j1;
   j1 = 5ull;
-  i0 = f14(self, j0, j1); m = self->memory; if (NEVER(self->is_broken)) return;
+  i0 = f15(self, j0, j1); m = self->memory; if (NEVER(self->is_broken)) return;
   i0 = !(i0);
   if (i0) {goto B71;}
   j0 = p1;
@@ -34313,7 +33729,7 @@ static void f29(module *self, u64 p0, u64 p1, u64 p2, u64 p3, u64 p4, u64 p5, u6
   j0 += j1;
   j1 = p1;
   i2 = l58;
-  f38(self, j0, j1, i2);
+  f39(self, j0, j1, i2);
   i0 = l58;
   i1 = 1u;
   i0 += i1;
@@ -34372,7 +33788,7 @@ static void f29(module *self, u64 p0, u64 p1, u64 p2, u64 p3, u64 p4, u64 p5, u6
   j1 = 2072ull;
   j0 += j1;
   j1 = 5ull;
-  i0 = f14(self, j0, j1); m = self->memory; if (NEVER(self->is_broken)) return;
+  i0 = f15(self, j0, j1); m = self->memory; if (NEVER(self->is_broken)) return;
   i0 = !(i0);
   if (i0) {goto B73;}
   j0 = p1;
@@ -34425,7 +33841,7 @@ static void f29(module *self, u64 p0, u64 p1, u64 p2, u64 p3, u64 p4, u64 p5, u6
   j0 += j1;
   j1 = p1;
   i2 = l58;
-  f38(self, j0, j1, i2);
+  f39(self, j0, j1, i2);
   i0 = 4294967295u;
   j1 = l7;
   i1 = (u32)(j1);
@@ -34541,7 +33957,7 @@ static void f29(module *self, u64 p0, u64 p1, u64 p2, u64 p3, u64 p4, u64 p5, u6
   j0 = p1;
   i1 = 5u;
   i2 = 8u;
-  f39(self, j0, i1, i2); m = self->memory; if (NEVER(self->is_broken)) return;
+  f40(self, j0, i1, i2); m = self->memory; if (NEVER(self->is_broken)) return;
   B79:;
   i0 = l23;
   i0 = !(i0);
@@ -34665,7 +34081,7 @@ static void f29(module *self, u64 p0, u64 p1, u64 p2, u64 p3, u64 p4, u64 p5, u6
     j1 = 2072ull;
     j0 += j1;
     j1 = 5ull;
-    i0 = f14(self, j0, j1); m = self->memory; if (NEVER(self->is_broken)) return;
+    i0 = f15(self, j0, j1); m = self->memory; if (NEVER(self->is_broken)) return;
     i0 = !(i0);
     if (i0) {goto B86;}
     j0 = p1;
@@ -34718,7 +34134,7 @@ static void f29(module *self, u64 p0, u64 p1, u64 p2, u64 p3, u64 p4, u64 p5, u6
     j0 += j1;
     j1 = p1;
     i2 = l58;
-    f38(self, j0, j1, i2);
+    f39(self, j0, j1, i2);
     j0 = p6;
     i0 = (u32)(j0);
     i1 = 0u;
@@ -34820,7 +34236,7 @@ static void f29(module *self, u64 p0, u64 p1, u64 p2, u64 p3, u64 p4, u64 p5, u6
       j1 = 2072ull;
       j0 += j1;
       j1 = 5ull;
-      i0 = f14(self, j0, j1); m = self->memory; if (NEVER(self->is_broken)) return;
+      i0 = f15(self, j0, j1); m = self->memory; if (NEVER(self->is_broken)) return;
       i0 = !(i0);
       if (i0) {goto B90;}
       j0 = p1;
@@ -35079,7 +34495,7 @@ static void f29(module *self, u64 p0, u64 p1, u64 p2, u64 p3, u64 p4, u64 p5, u6
   j0 = p1;
   i1 = 5u;
   i2 = 0u;
-  f39(self, j0, i1, i2); m = self->memory; if (NEVER(self->is_broken)) return;
+  f40(self, j0, i1, i2); m = self->memory; if (NEVER(self->is_broken)) return;
   B80:;
   i0 = l40;
   i1 = 4294967040u;
@@ -35089,7 +34505,7 @@ static void f29(module *self, u64 p0, u64 p1, u64 p2, u64 p3, u64 p4, u64 p5, u6
   j3 = l7;
   j4 = 184ull;
   j3 += j4;
-  i1 = f40(self, j1, i2, j3); if (NEVER(self->is_broken)) return;
+  i1 = f41(self, j1, i2, j3); if (NEVER(self->is_broken)) return;
   i2 = 255u;
   i1 &= i2;
   i0 |= i1;
@@ -35169,7 +34585,7 @@ static void f29(module *self, u64 p0, u64 p1, u64 p2, u64 p3, u64 p4, u64 p5, u6
     i3 = l24;
     i4 = l58;
     i5 = l18;
-    f41(self, j0, j1, i2, i3, i4, i5); m = self->memory; if (NEVER(self->is_broken)) return;
+    f42(self, j0, j1, i2, i3, i4, i5); m = self->memory; if (NEVER(self->is_broken)) return;
     i0 = l27;
     i1 = 1u;
     i0 += i1;
@@ -35242,7 +34658,7 @@ static void f29(module *self, u64 p0, u64 p1, u64 p2, u64 p3, u64 p4, u64 p5, u6
   j0 = p1;
   i1 = l58;
   i2 = l28;
-  f42(self, j0, i1, i2); m = self->memory; if (NEVER(self->is_broken)) return;
+  f43(self, j0, i1, i2); m = self->memory; if (NEVER(self->is_broken)) return;
   goto B47;
   B101:;
   j0 = p1;
@@ -35252,7 +34668,7 @@ static void f29(module *self, u64 p0, u64 p1, u64 p2, u64 p3, u64 p4, u64 p5, u6
   i4 = 7u;
   i3 &= i4;
   i2 >>= (i3 & 31);
-  f39(self, j0, i1, i2); m = self->memory; if (NEVER(self->is_broken)) return;
+  f40(self, j0, i1, i2); m = self->memory; if (NEVER(self->is_broken)) return;
   i0 = l28;
   i1 = 4294967295u;
   i0 = (u32)((s32)i0 > (s32)i1);
@@ -35260,7 +34676,7 @@ static void f29(module *self, u64 p0, u64 p1, u64 p2, u64 p3, u64 p4, u64 p5, u6
   j0 = p1;
   i1 = 3u;
   i2 = 24u;
-  f39(self, j0, i1, i2); m = self->memory; if (NEVER(self->is_broken)) return;
+  f40(self, j0, i1, i2); m = self->memory; if (NEVER(self->is_broken)) return;
   B102:;
   j0 = p1;
   j1 = 2096ull;
@@ -35309,7 +34725,7 @@ static void f29(module *self, u64 p0, u64 p1, u64 p2, u64 p3, u64 p4, u64 p5, u6
   j1 = 2072ull;
   j0 += j1;
   j1 = 5ull;
-  i0 = f14(self, j0, j1); m = self->memory; if (NEVER(self->is_broken)) return;
+  i0 = f15(self, j0, j1); m = self->memory; if (NEVER(self->is_broken)) return;
   i0 = !(i0);
   if (i0) {goto B103;}
   j0 = p1;
@@ -35362,19 +34778,19 @@ static void f29(module *self, u64 p0, u64 p1, u64 p2, u64 p3, u64 p4, u64 p5, u6
   j0 += j1;
   j1 = p1;
   i2 = l58;
-  f38(self, j0, j1, i2);
+  f39(self, j0, j1, i2);
   j0 = p1;
   i1 = 5u;
   i2 = 2u;
-  f39(self, j0, i1, i2); m = self->memory; if (NEVER(self->is_broken)) return;
+  f40(self, j0, i1, i2); m = self->memory; if (NEVER(self->is_broken)) return;
   j0 = p1;
   i1 = l58;
   i2 = l28;
-  f42(self, j0, i1, i2); m = self->memory; if (NEVER(self->is_broken)) return;
+  f43(self, j0, i1, i2); m = self->memory; if (NEVER(self->is_broken)) return;
   j0 = p1;
   i1 = 5u;
   i2 = 0u;
-  f39(self, j0, i1, i2); m = self->memory; if (NEVER(self->is_broken)) return;
+  f40(self, j0, i1, i2); m = self->memory; if (NEVER(self->is_broken)) return;
   i0 = l28;
   i1 = 4294967295u;
   i0 = (u32)((s32)i0 > (s32)i1);
@@ -35382,12 +34798,12 @@ static void f29(module *self, u64 p0, u64 p1, u64 p2, u64 p3, u64 p4, u64 p5, u6
   j0 = p1;
   i1 = 3u;
   i2 = 0u;
-  f39(self, j0, i1, i2); m = self->memory; if (NEVER(self->is_broken)) return;
+  f40(self, j0, i1, i2); m = self->memory; if (NEVER(self->is_broken)) return;
   B105:;
   j0 = p1;
   i1 = 8u;
   i2 = 255u;
-  f39(self, j0, i1, i2); m = self->memory; if (NEVER(self->is_broken)) return;
+  f40(self, j0, i1, i2); m = self->memory; if (NEVER(self->is_broken)) return;
   goto B47;
   B60:;
   j0 = p2;
@@ -35494,7 +34910,7 @@ static void f29(module *self, u64 p0, u64 p1, u64 p2, u64 p3, u64 p4, u64 p5, u6
   j1 = 2072ull;
   j0 += j1;
   j1 = 5ull;
-  i0 = f14(self, j0, j1); m = self->memory; if (NEVER(self->is_broken)) return;
+  i0 = f15(self, j0, j1); m = self->memory; if (NEVER(self->is_broken)) return;
   i0 = !(i0);
   if (i0) {goto B110;}
   j0 = p1;
@@ -35547,7 +34963,7 @@ static void f29(module *self, u64 p0, u64 p1, u64 p2, u64 p3, u64 p4, u64 p5, u6
   j0 += j1;
   j1 = p1;
   i2 = l58;
-  f38(self, j0, j1, i2);
+  f39(self, j0, j1, i2);
   i0 = 4294967295u;
   j1 = l7;
   i1 = (u32)(j1);
@@ -35562,7 +34978,7 @@ static void f29(module *self, u64 p0, u64 p1, u64 p2, u64 p3, u64 p4, u64 p5, u6
   j0 = p1;
   i1 = 4u;
   i2 = 0u;
-  f39(self, j0, i1, i2); m = self->memory; if (NEVER(self->is_broken)) return;
+  f40(self, j0, i1, i2); m = self->memory; if (NEVER(self->is_broken)) return;
   j0 = p1;
   j1 = 2096ull;
   j0 += j1;
@@ -35610,7 +35026,7 @@ static void f29(module *self, u64 p0, u64 p1, u64 p2, u64 p3, u64 p4, u64 p5, u6
   j1 = 2072ull;
   j0 += j1;
   j1 = 5ull;
-  i0 = f14(self, j0, j1); m = self->memory; if (NEVER(self->is_broken)) return;
+  i0 = f15(self, j0, j1); m = self->memory; if (NEVER(self->is_broken)) return;
   i0 = !(i0);
   if (i0) {goto B112;}
   j0 = p1;
@@ -35663,7 +35079,7 @@ static void f29(module *self, u64 p0, u64 p1, u64 p2, u64 p3, u64 p4, u64 p5, u6
   j0 += j1;
   j1 = p1;
   i2 = l58;
-  f38(self, j0, j1, i2);
+  f39(self, j0, j1, i2);
   j0 = l7;
   i0 = (u32)(j0);
   i0 = i32_load8_u(j0 + 121u);
@@ -35675,7 +35091,7 @@ static void f29(module *self, u64 p0, u64 p1, u64 p2, u64 p3, u64 p4, u64 p5, u6
   j0 = p1;
   i1 = 4u;
   i2 = 1u;
-  f39(self, j0, i1, i2); m = self->memory; if (NEVER(self->is_broken)) return;
+  f40(self, j0, i1, i2); m = self->memory; if (NEVER(self->is_broken)) return;
   j0 = l8;
   i0 = (u32)(j0);
   j0 = i64_load(j0);
@@ -35722,7 +35138,7 @@ static void f29(module *self, u64 p0, u64 p1, u64 p2, u64 p3, u64 p4, u64 p5, u6
   j1 = 2072ull;
   j0 += j1;
   j1 = 5ull;
-  i0 = f14(self, j0, j1); m = self->memory; if (NEVER(self->is_broken)) return;
+  i0 = f15(self, j0, j1); m = self->memory; if (NEVER(self->is_broken)) return;
   i0 = !(i0);
   if (i0) {goto B114;}
   j0 = p1;
@@ -35775,7 +35191,7 @@ static void f29(module *self, u64 p0, u64 p1, u64 p2, u64 p3, u64 p4, u64 p5, u6
   j0 += j1;
   j1 = p1;
   i2 = l58;
-  f38(self, j0, j1, i2);
+  f39(self, j0, j1, i2);
   j0 = l7;
   i0 = (u32)(j0);
   i0 = i32_load8_u(j0 + 113u);
@@ -35787,7 +35203,7 @@ static void f29(module *self, u64 p0, u64 p1, u64 p2, u64 p3, u64 p4, u64 p5, u6
   j0 = p1;
   i1 = 4u;
   i2 = 2u;
-  f39(self, j0, i1, i2); m = self->memory; if (NEVER(self->is_broken)) return;
+  f40(self, j0, i1, i2); m = self->memory; if (NEVER(self->is_broken)) return;
   j0 = p1;
   j1 = 2096ull;
   j0 += j1;
@@ -35835,7 +35251,7 @@ static void f29(module *self, u64 p0, u64 p1, u64 p2, u64 p3, u64 p4, u64 p5, u6
   j1 = 2072ull;
   j0 += j1;
   j1 = 5ull;
-  i0 = f14(self, j0, j1); m = self->memory; if (NEVER(self->is_broken)) return;
+  i0 = f15(self, j0, j1); m = self->memory; if (NEVER(self->is_broken)) return;
   i0 = !(i0);
   if (i0) {goto B116;}
   j0 = p1;
@@ -35888,7 +35304,7 @@ static void f29(module *self, u64 p0, u64 p1, u64 p2, u64 p3, u64 p4, u64 p5, u6
   j0 += j1;
   j1 = p1;
   i2 = l58;
-  f38(self, j0, j1, i2);
+  f39(self, j0, j1, i2);
   j0 = l7;
   i0 = (u32)(j0);
   i0 = i32_load8_u(j0 + 105u);
@@ -35900,7 +35316,7 @@ static void f29(module *self, u64 p0, u64 p1, u64 p2, u64 p3, u64 p4, u64 p5, u6
   j0 = p1;
   i1 = 4u;
   i2 = 3u;
-  f39(self, j0, i1, i2); m = self->memory; if (NEVER(self->is_broken)) return;
+  f40(self, j0, i1, i2); m = self->memory; if (NEVER(self->is_broken)) return;
   j0 = l8;
   i0 = (u32)(j0);
   j0 = i64_load(j0);
@@ -35947,7 +35363,7 @@ static void f29(module *self, u64 p0, u64 p1, u64 p2, u64 p3, u64 p4, u64 p5, u6
   j1 = 2072ull;
   j0 += j1;
   j1 = 5ull;
-  i0 = f14(self, j0, j1); m = self->memory; if (NEVER(self->is_broken)) return;
+  i0 = f15(self, j0, j1); m = self->memory; if (NEVER(self->is_broken)) return;
   i0 = !(i0);
   if (i0) {goto B118;}
   j0 = p1;
@@ -36000,7 +35416,7 @@ static void f29(module *self, u64 p0, u64 p1, u64 p2, u64 p3, u64 p4, u64 p5, u6
   j0 += j1;
   j1 = p1;
   i2 = l58;
-  f38(self, j0, j1, i2);
+  f39(self, j0, j1, i2);
   j0 = l7;
   i0 = (u32)(j0);
   i0 = i32_load8_u(j0 + 97u);
@@ -36012,7 +35428,7 @@ static void f29(module *self, u64 p0, u64 p1, u64 p2, u64 p3, u64 p4, u64 p5, u6
   j0 = p1;
   i1 = 4u;
   i2 = 0u;
-  f39(self, j0, i1, i2); m = self->memory; if (NEVER(self->is_broken)) return;
+  f40(self, j0, i1, i2); m = self->memory; if (NEVER(self->is_broken)) return;
   i0 = 4294967295u;
   i1 = l18;
   i2 = l24;
@@ -36139,12 +35555,12 @@ static void f29(module *self, u64 p0, u64 p1, u64 p2, u64 p3, u64 p4, u64 p5, u6
   i4 = l18;
   i5 = l73;
   i6 = 0u;
-  i1 = f43(self, j1, j2, i3, i4, i5, i6); m = self->memory; if (NEVER(self->is_broken)) return;
+  i1 = f44(self, j1, j2, i3, i4, i5, i6); m = self->memory; if (NEVER(self->is_broken)) return;
   i32_store16(j0, i1);
   j0 = p1;
   j1 = p2;
   i2 = l58;
-  f36(self, j0, j1, i2); m = self->memory; if (NEVER(self->is_broken)) return;
+  f37(self, j0, j1, i2); m = self->memory; if (NEVER(self->is_broken)) return;
   goto B47;
   B58:;
   j0 = p2;
@@ -36205,14 +35621,14 @@ static void f29(module *self, u64 p0, u64 p1, u64 p2, u64 p3, u64 p4, u64 p5, u6
   i1 = l27;
   i2 = l59;
   i3 = l58;
-  f44(self, j0, i1, i2, i3); m = self->memory; if (NEVER(self->is_broken)) return;
+  f45(self, j0, i1, i2, i3); m = self->memory; if (NEVER(self->is_broken)) return;
   goto B47;
   B129:;
   j0 = p1;
   i1 = l27;
   i2 = 17u;
   i3 = l59;
-  f44(self, j0, i1, i2, i3); m = self->memory; if (NEVER(self->is_broken)) return;
+  f45(self, j0, i1, i2, i3); m = self->memory; if (NEVER(self->is_broken)) return;
   goto B47;
   B128:;
   i0 = l27;
@@ -36266,7 +35682,7 @@ static void f29(module *self, u64 p0, u64 p1, u64 p2, u64 p3, u64 p4, u64 p5, u6
   j1 = 2072ull;
   j0 += j1;
   j1 = 3ull;
-  i0 = f14(self, j0, j1); m = self->memory; if (NEVER(self->is_broken)) return;
+  i0 = f15(self, j0, j1); m = self->memory; if (NEVER(self->is_broken)) return;
   i0 = !(i0);
   if (i0) {goto B131;}
   j0 = p1;
@@ -36327,112 +35743,112 @@ static void f29(module *self, u64 p0, u64 p1, u64 p2, u64 p3, u64 p4, u64 p5, u6
   j0 += j1;
   j1 = p1;
   i2 = l58;
-  f30(self, j0, j1, i2); if (NEVER(self->is_broken)) return;
+  f31(self, j0, j1, i2); if (NEVER(self->is_broken)) return;
   j0 = p1;
   i1 = 0u;
   j2 = p5;
   i2 = (u32)(j2);
   i2 = i32_load8_u(j2);
-  f45(self, j0, i1, i2); m = self->memory; if (NEVER(self->is_broken)) return;
+  f46(self, j0, i1, i2); m = self->memory; if (NEVER(self->is_broken)) return;
   j0 = p1;
   i1 = 1u;
   j2 = p5;
   i2 = (u32)(j2);
   i2 = i32_load8_u(j2 + 1u);
-  f45(self, j0, i1, i2); m = self->memory; if (NEVER(self->is_broken)) return;
+  f46(self, j0, i1, i2); m = self->memory; if (NEVER(self->is_broken)) return;
   j0 = p1;
   i1 = 2u;
   j2 = p5;
   i2 = (u32)(j2);
   i2 = i32_load8_u(j2 + 2u);
-  f45(self, j0, i1, i2); m = self->memory; if (NEVER(self->is_broken)) return;
+  f46(self, j0, i1, i2); m = self->memory; if (NEVER(self->is_broken)) return;
   j0 = p1;
   i1 = 3u;
   j2 = p5;
   i2 = (u32)(j2);
   i2 = i32_load8_u(j2 + 3u);
-  f45(self, j0, i1, i2); m = self->memory; if (NEVER(self->is_broken)) return;
+  f46(self, j0, i1, i2); m = self->memory; if (NEVER(self->is_broken)) return;
   j0 = p1;
   i1 = 4u;
   j2 = p5;
   i2 = (u32)(j2);
   i2 = i32_load8_u(j2 + 4u);
-  f45(self, j0, i1, i2); m = self->memory; if (NEVER(self->is_broken)) return;
+  f46(self, j0, i1, i2); m = self->memory; if (NEVER(self->is_broken)) return;
   j0 = p1;
   i1 = 5u;
   j2 = p5;
   i2 = (u32)(j2);
   i2 = i32_load8_u(j2 + 5u);
-  f45(self, j0, i1, i2); m = self->memory; if (NEVER(self->is_broken)) return;
+  f46(self, j0, i1, i2); m = self->memory; if (NEVER(self->is_broken)) return;
   j0 = p1;
   i1 = 6u;
   j2 = p5;
   i2 = (u32)(j2);
   i2 = i32_load8_u(j2 + 6u);
-  f45(self, j0, i1, i2); m = self->memory; if (NEVER(self->is_broken)) return;
+  f46(self, j0, i1, i2); m = self->memory; if (NEVER(self->is_broken)) return;
   j0 = p1;
   i1 = 7u;
   j2 = p5;
   i2 = (u32)(j2);
   i2 = i32_load8_u(j2 + 7u);
-  f45(self, j0, i1, i2); m = self->memory; if (NEVER(self->is_broken)) return;
+  f46(self, j0, i1, i2); m = self->memory; if (NEVER(self->is_broken)) return;
   j0 = p1;
   i1 = 8u;
   j2 = p5;
   i2 = (u32)(j2);
   i2 = i32_load8_u(j2 + 8u);
-  f45(self, j0, i1, i2); m = self->memory; if (NEVER(self->is_broken)) return;
+  f46(self, j0, i1, i2); m = self->memory; if (NEVER(self->is_broken)) return;
   j0 = p1;
   i1 = 9u;
   j2 = p5;
   i2 = (u32)(j2);
   i2 = i32_load8_u(j2 + 9u);
-  f45(self, j0, i1, i2); m = self->memory; if (NEVER(self->is_broken)) return;
+  f46(self, j0, i1, i2); m = self->memory; if (NEVER(self->is_broken)) return;
   j0 = p1;
   i1 = 10u;
   j2 = p5;
   i2 = (u32)(j2);
   i2 = i32_load8_u(j2 + 10u);
-  f45(self, j0, i1, i2); m = self->memory; if (NEVER(self->is_broken)) return;
+  f46(self, j0, i1, i2); m = self->memory; if (NEVER(self->is_broken)) return;
   j0 = p1;
   i1 = 11u;
   j2 = p5;
   i2 = (u32)(j2);
   i2 = i32_load8_u(j2 + 11u);
-  f45(self, j0, i1, i2); m = self->memory; if (NEVER(self->is_broken)) return;
+  f46(self, j0, i1, i2); m = self->memory; if (NEVER(self->is_broken)) return;
   j0 = p1;
   i1 = 12u;
   j2 = p5;
   i2 = (u32)(j2);
   i2 = i32_load8_u(j2 + 12u);
-  f45(self, j0, i1, i2); m = self->memory; if (NEVER(self->is_broken)) return;
+  f46(self, j0, i1, i2); m = self->memory; if (NEVER(self->is_broken)) return;
   j0 = p1;
   i1 = 13u;
   j2 = p5;
   i2 = (u32)(j2);
   i2 = i32_load8_u(j2 + 13u);
-  f45(self, j0, i1, i2); m = self->memory; if (NEVER(self->is_broken)) return;
+  f46(self, j0, i1, i2); m = self->memory; if (NEVER(self->is_broken)) return;
   j0 = p1;
   i1 = 14u;
   j2 = p5;
   i2 = (u32)(j2);
   i2 = i32_load8_u(j2 + 14u);
-  f45(self, j0, i1, i2); m = self->memory; if (NEVER(self->is_broken)) return;
+  f46(self, j0, i1, i2); m = self->memory; if (NEVER(self->is_broken)) return;
   j0 = p1;
   i1 = 15u;
   j2 = p5;
   i2 = (u32)(j2);
   i2 = i32_load8_u(j2 + 15u);
-  f45(self, j0, i1, i2); m = self->memory; if (NEVER(self->is_broken)) return;
+  f46(self, j0, i1, i2); m = self->memory; if (NEVER(self->is_broken)) return;
   j0 = p1;
   i1 = 17u;
   j2 = p5;
   i2 = (u32)(j2);
   i2 = i32_load8_u(j2 + 16u);
-  f45(self, j0, i1, i2); m = self->memory; if (NEVER(self->is_broken)) return;
+  f46(self, j0, i1, i2); m = self->memory; if (NEVER(self->is_broken)) return;
   j0 = p1;
   i1 = l27;
-  f46(self, j0, i1); m = self->memory; if (NEVER(self->is_broken)) return;
+  f47(self, j0, i1); m = self->memory; if (NEVER(self->is_broken)) return;
   goto B47;
   B127:;
   i0 = l27;
@@ -36486,7 +35902,7 @@ static void f29(module *self, u64 p0, u64 p1, u64 p2, u64 p3, u64 p4, u64 p5, u6
   j1 = 2072ull;
   j0 += j1;
   j1 = 3ull;
-  i0 = f14(self, j0, j1); m = self->memory; if (NEVER(self->is_broken)) return;
+  i0 = f15(self, j0, j1); m = self->memory; if (NEVER(self->is_broken)) return;
   i0 = !(i0);
   if (i0) {goto B133;}
   j0 = p1;
@@ -36547,7 +35963,7 @@ static void f29(module *self, u64 p0, u64 p1, u64 p2, u64 p3, u64 p4, u64 p5, u6
   j0 += j1;
   j1 = p1;
   i2 = l58;
-  f30(self, j0, j1, i2); if (NEVER(self->is_broken)) return;
+  f31(self, j0, j1, i2); if (NEVER(self->is_broken)) return;
   j0 = l8;
   i0 = (u32)(j0);
   j0 = i64_load(j0);
@@ -36594,7 +36010,7 @@ static void f29(module *self, u64 p0, u64 p1, u64 p2, u64 p3, u64 p4, u64 p5, u6
   j1 = 2072ull;
   j0 += j1;
   j1 = 4ull;
-  i0 = f14(self, j0, j1); m = self->memory; if (NEVER(self->is_broken)) return;
+  i0 = f15(self, j0, j1); m = self->memory; if (NEVER(self->is_broken)) return;
   i0 = !(i0);
   if (i0) {goto B135;}
   j0 = p1;
@@ -36691,7 +36107,7 @@ static void f29(module *self, u64 p0, u64 p1, u64 p2, u64 p3, u64 p4, u64 p5, u6
   j1 = 184ull;
   j0 += j1;
   j1 = l8;
-  f27(self, j0, j1);
+  f28(self, j0, j1);
   j0 = p1;
   j1 = 196ull;
   j0 += j1;
@@ -36773,7 +36189,7 @@ static void f29(module *self, u64 p0, u64 p1, u64 p2, u64 p3, u64 p4, u64 p5, u6
   j1 = 2072ull;
   j0 += j1;
   j1 = 3ull;
-  i0 = f14(self, j0, j1); m = self->memory; if (NEVER(self->is_broken)) return;
+  i0 = f15(self, j0, j1); m = self->memory; if (NEVER(self->is_broken)) return;
   i0 = !(i0);
   if (i0) {goto B141;}
   j0 = p1;
@@ -36899,7 +36315,7 @@ static void f29(module *self, u64 p0, u64 p1, u64 p2, u64 p3, u64 p4, u64 p5, u6
   j1 = 2072ull;
   j0 += j1;
   j1 = 4ull;
-  i0 = f14(self, j0, j1); m = self->memory; if (NEVER(self->is_broken)) return;
+  i0 = f15(self, j0, j1); m = self->memory; if (NEVER(self->is_broken)) return;
   i0 = !(i0);
   if (i0) {goto B144;}
   j0 = p1;
@@ -36996,7 +36412,7 @@ static void f29(module *self, u64 p0, u64 p1, u64 p2, u64 p3, u64 p4, u64 p5, u6
   j1 = 184ull;
   j0 += j1;
   j1 = l8;
-  f27(self, j0, j1);
+  f28(self, j0, j1);
   j0 = p1;
   j1 = 196ull;
   j0 += j1;
@@ -37035,7 +36451,7 @@ static void f29(module *self, u64 p0, u64 p1, u64 p2, u64 p3, u64 p4, u64 p5, u6
   B146:;
   j0 = p1;
   i1 = l27;
-  f46(self, j0, i1); m = self->memory; if (NEVER(self->is_broken)) return;
+  f47(self, j0, i1); m = self->memory; if (NEVER(self->is_broken)) return;
   goto B47;
   B126:;
   i0 = l27;
@@ -37089,7 +36505,7 @@ static void f29(module *self, u64 p0, u64 p1, u64 p2, u64 p3, u64 p4, u64 p5, u6
   j1 = 2072ull;
   j0 += j1;
   j1 = 3ull;
-  i0 = f14(self, j0, j1); m = self->memory; if (NEVER(self->is_broken)) return;
+  i0 = f15(self, j0, j1); m = self->memory; if (NEVER(self->is_broken)) return;
   i0 = !(i0);
   if (i0) {goto B150;}
   j0 = p1;
@@ -37150,11 +36566,11 @@ static void f29(module *self, u64 p0, u64 p1, u64 p2, u64 p3, u64 p4, u64 p5, u6
   j0 += j1;
   j1 = p1;
   i2 = l58;
-  f30(self, j0, j1, i2); if (NEVER(self->is_broken)) return;
+  f31(self, j0, j1, i2); if (NEVER(self->is_broken)) return;
   j0 = p1;
   i1 = l27;
   i2 = l59;
-  i0 = f31(self, j0, i1, i2); m = self->memory; if (NEVER(self->is_broken)) return;
+  i0 = f32(self, j0, i1, i2); m = self->memory; if (NEVER(self->is_broken)) return;
   j0 = (u64)(i0);
   j1 = 255ull;
   j0 &= j1;
@@ -37218,7 +36634,7 @@ static void f29(module *self, u64 p0, u64 p1, u64 p2, u64 p3, u64 p4, u64 p5, u6
   j1 = 2072ull;
   j0 += j1;
   j1 = 3ull;
-  i0 = f14(self, j0, j1); m = self->memory; if (NEVER(self->is_broken)) return;
+  i0 = f15(self, j0, j1); m = self->memory; if (NEVER(self->is_broken)) return;
   i0 = !(i0);
   if (i0) {goto B152;}
   j0 = p1;
@@ -37279,11 +36695,11 @@ static void f29(module *self, u64 p0, u64 p1, u64 p2, u64 p3, u64 p4, u64 p5, u6
   j0 += j1;
   j1 = p1;
   i2 = l58;
-  f30(self, j0, j1, i2); if (NEVER(self->is_broken)) return;
+  f31(self, j0, j1, i2); if (NEVER(self->is_broken)) return;
   j0 = p1;
   i1 = l27;
   i2 = 17u;
-  i0 = f31(self, j0, i1, i2); m = self->memory; if (NEVER(self->is_broken)) return;
+  i0 = f32(self, j0, i1, i2); m = self->memory; if (NEVER(self->is_broken)) return;
   j0 = (u64)(i0);
   j1 = 255ull;
   j0 &= j1;
@@ -37358,7 +36774,7 @@ static void f29(module *self, u64 p0, u64 p1, u64 p2, u64 p3, u64 p4, u64 p5, u6
   j1 = 2072ull;
   j0 += j1;
   j1 = 4ull;
-  i0 = f14(self, j0, j1); m = self->memory; if (NEVER(self->is_broken)) return;
+  i0 = f15(self, j0, j1); m = self->memory; if (NEVER(self->is_broken)) return;
   i0 = !(i0);
   if (i0) {goto B156;}
   j0 = p1;
@@ -37468,7 +36884,7 @@ static void f29(module *self, u64 p0, u64 p1, u64 p2, u64 p3, u64 p4, u64 p5, u6
   j1 = 2072ull;
   j0 += j1;
   j1 = 4ull;
-  i0 = f14(self, j0, j1); m = self->memory; if (NEVER(self->is_broken)) return;
+  i0 = f15(self, j0, j1); m = self->memory; if (NEVER(self->is_broken)) return;
   i0 = !(i0);
   if (i0) {goto B158;}
   j0 = p1;
@@ -37667,7 +37083,7 @@ static void f29(module *self, u64 p0, u64 p1, u64 p2, u64 p3, u64 p4, u64 p5, u6
   j1 = 2072ull;
   j0 += j1;
   j1 = 4ull;
-  i0 = f14(self, j0, j1); m = self->memory; if (NEVER(self->is_broken)) return;
+  i0 = f15(self, j0, j1); m = self->memory; if (NEVER(self->is_broken)) return;
   i0 = !(i0);
   if (i0) {goto B162;}
   j0 = p1;
@@ -37936,7 +37352,7 @@ static void f29(module *self, u64 p0, u64 p1, u64 p2, u64 p3, u64 p4, u64 p5, u6
     j1 = 2072ull;
     j0 += j1;
     j1 = 4ull;
-    i0 = f14(self, j0, j1); m = self->memory; if (NEVER(self->is_broken)) return;
+    i0 = f15(self, j0, j1); m = self->memory; if (NEVER(self->is_broken)) return;
     i0 = !(i0);
     if (i0) {goto B172;}
     j0 = p1;
@@ -38177,7 +37593,7 @@ static void f29(module *self, u64 p0, u64 p1, u64 p2, u64 p3, u64 p4, u64 p5, u6
   j1 = 2072ull;
   j0 += j1;
   j1 = 4ull;
-  i0 = f14(self, j0, j1); m = self->memory; if (NEVER(self->is_broken)) return;
+  i0 = f15(self, j0, j1); m = self->memory; if (NEVER(self->is_broken)) return;
   i0 = !(i0);
   if (i0) {goto B180;}
   j0 = p1;
@@ -38288,7 +37704,7 @@ static void f29(module *self, u64 p0, u64 p1, u64 p2, u64 p3, u64 p4, u64 p5, u6
   j1 = 2072ull;
   j0 += j1;
   j1 = 3ull;
-  i0 = f14(self, j0, j1); m = self->memory; if (NEVER(self->is_broken)) return;
+  i0 = f15(self, j0, j1); m = self->memory; if (NEVER(self->is_broken)) return;
   i0 = !(i0);
   if (i0) {goto B182;}
   j0 = p1;
@@ -38435,7 +37851,7 @@ static void f29(module *self, u64 p0, u64 p1, u64 p2, u64 p3, u64 p4, u64 p5, u6
   j1 = 2072ull;
   j0 += j1;
   j1 = 4ull;
-  i0 = f14(self, j0, j1); m = self->memory; if (NEVER(self->is_broken)) return;
+  i0 = f15(self, j0, j1); m = self->memory; if (NEVER(self->is_broken)) return;
   i0 = !(i0);
   if (i0) {goto B186;}
   j0 = p1;
@@ -38537,7 +37953,7 @@ static void f29(module *self, u64 p0, u64 p1, u64 p2, u64 p3, u64 p4, u64 p5, u6
   j1 = 2072ull;
   j0 += j1;
   j1 = 3ull;
-  i0 = f14(self, j0, j1); m = self->memory; if (NEVER(self->is_broken)) return;
+  i0 = f15(self, j0, j1); m = self->memory; if (NEVER(self->is_broken)) return;
   i0 = !(i0);
   if (i0) {goto B188;}
   j0 = p1;
@@ -38672,7 +38088,7 @@ static void f29(module *self, u64 p0, u64 p1, u64 p2, u64 p3, u64 p4, u64 p5, u6
     i4 = (u32)(j4);
     i4 = i32_load8_u(j4);
     i5 = 1u;
-    i0 = f43(self, j0, j1, i2, i3, i4, i5); m = self->memory; if (NEVER(self->is_broken)) return;
+    i0 = f44(self, j0, j1, i2, i3, i4, i5); m = self->memory; if (NEVER(self->is_broken)) return;
     l58 = i0;
     j0 = p6;
     j1 = 2ull;
@@ -38701,7 +38117,7 @@ static void f29(module *self, u64 p0, u64 p1, u64 p2, u64 p3, u64 p4, u64 p5, u6
     i3 = i32_load8_u(j3);
     i4 = l28;
     i5 = 1u;
-    i0 = f43(self, j0, j1, i2, i3, i4, i5); m = self->memory; if (NEVER(self->is_broken)) return;
+    i0 = f44(self, j0, j1, i2, i3, i4, i5); m = self->memory; if (NEVER(self->is_broken)) return;
     l58 = i0;
     j0 = p5;
     j1 = 1ull;
@@ -38736,7 +38152,7 @@ static void f29(module *self, u64 p0, u64 p1, u64 p2, u64 p3, u64 p4, u64 p5, u6
   j0 = p1;
   j1 = p2;
   i2 = l73;
-  f36(self, j0, j1, i2); m = self->memory; if (NEVER(self->is_broken)) return;
+  f37(self, j0, j1, i2); m = self->memory; if (NEVER(self->is_broken)) return;
   goto B47;
   B54:;
   j0 = l7;
@@ -38815,7 +38231,7 @@ static void f29(module *self, u64 p0, u64 p1, u64 p2, u64 p3, u64 p4, u64 p5, u6
   j1 = 2072ull;
   j0 += j1;
   j1 = 3ull;
-  i0 = f14(self, j0, j1); m = self->memory; if (NEVER(self->is_broken)) return;
+  i0 = f15(self, j0, j1); m = self->memory; if (NEVER(self->is_broken)) return;
   i0 = !(i0);
   if (i0) {goto B195;}
   j0 = p1;
@@ -38986,7 +38402,7 @@ static void f29(module *self, u64 p0, u64 p1, u64 p2, u64 p3, u64 p4, u64 p5, u6
   j1 = 2072ull;
   j0 += j1;
   j1 = 3ull;
-  i0 = f14(self, j0, j1); m = self->memory; if (NEVER(self->is_broken)) return;
+  i0 = f15(self, j0, j1); m = self->memory; if (NEVER(self->is_broken)) return;
   i0 = !(i0);
   if (i0) {goto B202;}
   j0 = p1;
@@ -39192,7 +38608,7 @@ static void f29(module *self, u64 p0, u64 p1, u64 p2, u64 p3, u64 p4, u64 p5, u6
   j1 = 2072ull;
   j0 += j1;
   j1 = 4ull;
-  i0 = f14(self, j0, j1); m = self->memory; if (NEVER(self->is_broken)) return;
+  i0 = f15(self, j0, j1); m = self->memory; if (NEVER(self->is_broken)) return;
   i0 = !(i0);
   if (i0) {goto B209;}
   j0 = p1;
@@ -39416,7 +38832,7 @@ static void f29(module *self, u64 p0, u64 p1, u64 p2, u64 p3, u64 p4, u64 p5, u6
   j1 = 2072ull;
   j0 += j1;
   j1 = 4ull;
-  i0 = f14(self, j0, j1); m = self->memory; if (NEVER(self->is_broken)) return;
+  i0 = f15(self, j0, j1); m = self->memory; if (NEVER(self->is_broken)) return;
   i0 = !(i0);
   if (i0) {goto B216;}
   j0 = p1;
@@ -40052,7 +39468,7 @@ static void f29(module *self, u64 p0, u64 p1, u64 p2, u64 p3, u64 p4, u64 p5, u6
   j1 = 2072ull;
   j0 += j1;
   j1 = 4ull;
-  i0 = f14(self, j0, j1); m = self->memory; if (NEVER(self->is_broken)) return;
+  i0 = f15(self, j0, j1); m = self->memory; if (NEVER(self->is_broken)) return;
   i0 = !(i0);
   if (i0) {goto B221;}
   j0 = p1;
@@ -40199,7 +39615,7 @@ static void f29(module *self, u64 p0, u64 p1, u64 p2, u64 p3, u64 p4, u64 p5, u6
     j1 = 2072ull;
     j0 += j1;
     j1 = 4ull;
-    i0 = f14(self, j0, j1); m = self->memory; if (NEVER(self->is_broken)) return;
+    i0 = f15(self, j0, j1); m = self->memory; if (NEVER(self->is_broken)) return;
     i0 = !(i0);
     if (i0) {goto B227;}
     j0 = p1;
@@ -40301,7 +39717,7 @@ static void f29(module *self, u64 p0, u64 p1, u64 p2, u64 p3, u64 p4, u64 p5, u6
     j1 = 2072ull;
     j0 += j1;
     j1 = 4ull;
-    i0 = f14(self, j0, j1); m = self->memory; if (NEVER(self->is_broken)) return;
+    i0 = f15(self, j0, j1); m = self->memory; if (NEVER(self->is_broken)) return;
     i0 = !(i0);
     if (i0) {goto B229;}
     j0 = p1;
@@ -40466,7 +39882,7 @@ static void f29(module *self, u64 p0, u64 p1, u64 p2, u64 p3, u64 p4, u64 p5, u6
   j0 = p1;
   i1 = l24;
   i2 = 17u;
-  f33(self, j0, i1, i2); m = self->memory; if (NEVER(self->is_broken)) return;
+  f34(self, j0, i1, i2); m = self->memory; if (NEVER(self->is_broken)) return;
   j0 = p1;
   i1 = l24;
   i2 = 1u;
@@ -40475,7 +39891,7 @@ static void f29(module *self, u64 p0, u64 p1, u64 p2, u64 p3, u64 p4, u64 p5, u6
   i2 = l46;
   i3 = 15u;
   i2 &= i3;
-  f33(self, j0, i1, i2); m = self->memory; if (NEVER(self->is_broken)) return;
+  f34(self, j0, i1, i2); m = self->memory; if (NEVER(self->is_broken)) return;
   j0 = 0ull;
   l8 = j0;
   L232: 
@@ -40489,11 +39905,11 @@ static void f29(module *self, u64 p0, u64 p1, u64 p2, u64 p3, u64 p4, u64 p5, u6
     i1 = l24;
     j2 = l8;
     i2 = (u32)(j2);
-    f33(self, j0, i1, i2); m = self->memory; if (NEVER(self->is_broken)) return;
+    f34(self, j0, i1, i2); m = self->memory; if (NEVER(self->is_broken)) return;
     j0 = p1;
     i1 = l27;
     i2 = l58;
-    f33(self, j0, i1, i2); m = self->memory; if (NEVER(self->is_broken)) return;
+    f34(self, j0, i1, i2); m = self->memory; if (NEVER(self->is_broken)) return;
     j0 = l8;
     j1 = 1ull;
     j0 += j1;
@@ -40581,7 +39997,7 @@ static void f29(module *self, u64 p0, u64 p1, u64 p2, u64 p3, u64 p4, u64 p5, u6
     j1 = 2072ull;
     j0 += j1;
     j1 = 4ull;
-    i0 = f14(self, j0, j1); m = self->memory; if (NEVER(self->is_broken)) return;
+    i0 = f15(self, j0, j1); m = self->memory; if (NEVER(self->is_broken)) return;
     i0 = !(i0);
     if (i0) {goto B237;}
     j0 = p1;
@@ -40683,7 +40099,7 @@ static void f29(module *self, u64 p0, u64 p1, u64 p2, u64 p3, u64 p4, u64 p5, u6
     j1 = 2072ull;
     j0 += j1;
     j1 = 4ull;
-    i0 = f14(self, j0, j1); m = self->memory; if (NEVER(self->is_broken)) return;
+    i0 = f15(self, j0, j1); m = self->memory; if (NEVER(self->is_broken)) return;
     i0 = !(i0);
     if (i0) {goto B239;}
     j0 = p1;
@@ -40952,7 +40368,7 @@ static void f29(module *self, u64 p0, u64 p1, u64 p2, u64 p3, u64 p4, u64 p5, u6
   j1 = 2072ull;
   j0 += j1;
   j1 = 3ull;
-  i0 = f14(self, j0, j1); m = self->memory; if (NEVER(self->is_broken)) return;
+  i0 = f15(self, j0, j1); m = self->memory; if (NEVER(self->is_broken)) return;
   i0 = !(i0);
   if (i0) {goto B243;}
   j0 = p1;
@@ -41009,94 +40425,94 @@ static void f29(module *self, u64 p0, u64 p1, u64 p2, u64 p3, u64 p4, u64 p5, u6
   j0 += j1;
   j1 = p1;
   i2 = l58;
-  f30(self, j0, j1, i2); if (NEVER(self->is_broken)) return;
+  f31(self, j0, j1, i2); if (NEVER(self->is_broken)) return;
   j0 = p1;
   i1 = 0u;
   i2 = 0u;
-  f45(self, j0, i1, i2); m = self->memory; if (NEVER(self->is_broken)) return;
+  f46(self, j0, i1, i2); m = self->memory; if (NEVER(self->is_broken)) return;
   j0 = p1;
   i1 = 1u;
   i2 = l21;
-  f45(self, j0, i1, i2); m = self->memory; if (NEVER(self->is_broken)) return;
+  f46(self, j0, i1, i2); m = self->memory; if (NEVER(self->is_broken)) return;
   j0 = p1;
   i1 = 2u;
   i2 = l57;
-  f45(self, j0, i1, i2); m = self->memory; if (NEVER(self->is_broken)) return;
+  f46(self, j0, i1, i2); m = self->memory; if (NEVER(self->is_broken)) return;
   j0 = p1;
   i1 = 3u;
   i2 = l68;
-  f45(self, j0, i1, i2); m = self->memory; if (NEVER(self->is_broken)) return;
+  f46(self, j0, i1, i2); m = self->memory; if (NEVER(self->is_broken)) return;
   j0 = p1;
   i1 = 4u;
   i2 = l18;
-  f45(self, j0, i1, i2); m = self->memory; if (NEVER(self->is_broken)) return;
+  f46(self, j0, i1, i2); m = self->memory; if (NEVER(self->is_broken)) return;
   j0 = p1;
   i1 = 5u;
   i2 = l40;
-  f45(self, j0, i1, i2); m = self->memory; if (NEVER(self->is_broken)) return;
+  f46(self, j0, i1, i2); m = self->memory; if (NEVER(self->is_broken)) return;
   j0 = p1;
   i1 = 6u;
   i2 = l39;
-  f45(self, j0, i1, i2); m = self->memory; if (NEVER(self->is_broken)) return;
+  f46(self, j0, i1, i2); m = self->memory; if (NEVER(self->is_broken)) return;
   j0 = p1;
   i1 = 7u;
   i2 = l38;
-  f45(self, j0, i1, i2); m = self->memory; if (NEVER(self->is_broken)) return;
+  f46(self, j0, i1, i2); m = self->memory; if (NEVER(self->is_broken)) return;
   j0 = p1;
   i1 = 8u;
   i2 = l37;
-  f45(self, j0, i1, i2); m = self->memory; if (NEVER(self->is_broken)) return;
+  f46(self, j0, i1, i2); m = self->memory; if (NEVER(self->is_broken)) return;
   j0 = p1;
   i1 = 9u;
   i2 = l36;
-  f45(self, j0, i1, i2); m = self->memory; if (NEVER(self->is_broken)) return;
+  f46(self, j0, i1, i2); m = self->memory; if (NEVER(self->is_broken)) return;
   j0 = p1;
   i1 = 10u;
   i2 = l35;
-  f45(self, j0, i1, i2); m = self->memory; if (NEVER(self->is_broken)) return;
+  f46(self, j0, i1, i2); m = self->memory; if (NEVER(self->is_broken)) return;
   j0 = p1;
   i1 = 11u;
   i2 = l34;
-  f45(self, j0, i1, i2); m = self->memory; if (NEVER(self->is_broken)) return;
+  f46(self, j0, i1, i2); m = self->memory; if (NEVER(self->is_broken)) return;
   j0 = p1;
   i1 = 12u;
   i2 = l33;
-  f45(self, j0, i1, i2); m = self->memory; if (NEVER(self->is_broken)) return;
+  f46(self, j0, i1, i2); m = self->memory; if (NEVER(self->is_broken)) return;
   j0 = p1;
   i1 = 13u;
   i2 = l32;
-  f45(self, j0, i1, i2); m = self->memory; if (NEVER(self->is_broken)) return;
+  f46(self, j0, i1, i2); m = self->memory; if (NEVER(self->is_broken)) return;
   j0 = p1;
   i1 = 14u;
   i2 = l31;
-  f45(self, j0, i1, i2); m = self->memory; if (NEVER(self->is_broken)) return;
+  f46(self, j0, i1, i2); m = self->memory; if (NEVER(self->is_broken)) return;
   j0 = p1;
   i1 = 15u;
   i2 = l30;
-  f45(self, j0, i1, i2); m = self->memory; if (NEVER(self->is_broken)) return;
+  f46(self, j0, i1, i2); m = self->memory; if (NEVER(self->is_broken)) return;
   j0 = p1;
   i1 = 16u;
   i2 = l29;
-  f45(self, j0, i1, i2); m = self->memory; if (NEVER(self->is_broken)) return;
+  f46(self, j0, i1, i2); m = self->memory; if (NEVER(self->is_broken)) return;
   j0 = p1;
   i1 = 17u;
   i2 = 0u;
-  f45(self, j0, i1, i2); m = self->memory; if (NEVER(self->is_broken)) return;
+  f46(self, j0, i1, i2); m = self->memory; if (NEVER(self->is_broken)) return;
   j0 = p1;
   i1 = 18u;
   i2 = 15u;
-  f45(self, j0, i1, i2); m = self->memory; if (NEVER(self->is_broken)) return;
+  f46(self, j0, i1, i2); m = self->memory; if (NEVER(self->is_broken)) return;
   j0 = p1;
   i1 = 19u;
   i2 = l28;
-  f45(self, j0, i1, i2); m = self->memory; if (NEVER(self->is_broken)) return;
+  f46(self, j0, i1, i2); m = self->memory; if (NEVER(self->is_broken)) return;
   j0 = p1;
   i1 = 20u;
   i2 = 0u;
-  f45(self, j0, i1, i2); m = self->memory; if (NEVER(self->is_broken)) return;
+  f46(self, j0, i1, i2); m = self->memory; if (NEVER(self->is_broken)) return;
   j0 = p1;
   i1 = l24;
-  f46(self, j0, i1); m = self->memory; if (NEVER(self->is_broken)) return;
+  f47(self, j0, i1); m = self->memory; if (NEVER(self->is_broken)) return;
   j0 = l7;
   i0 = (u32)(j0);
   i1 = 0u;
@@ -41159,7 +40575,7 @@ static void f29(module *self, u64 p0, u64 p1, u64 p2, u64 p3, u64 p4, u64 p5, u6
   j1 = 2072ull;
   j0 += j1;
   j1 = 4ull;
-  i0 = f14(self, j0, j1); m = self->memory; if (NEVER(self->is_broken)) return;
+  i0 = f15(self, j0, j1); m = self->memory; if (NEVER(self->is_broken)) return;
   i0 = !(i0);
   if (i0) {goto B248;}
   j0 = p1;
@@ -41258,7 +40674,7 @@ static void f29(module *self, u64 p0, u64 p1, u64 p2, u64 p3, u64 p4, u64 p5, u6
   j1 = 2072ull;
   j0 += j1;
   j1 = 4ull;
-  i0 = f14(self, j0, j1); m = self->memory; if (NEVER(self->is_broken)) return;
+  i0 = f15(self, j0, j1); m = self->memory; if (NEVER(self->is_broken)) return;
   i0 = !(i0);
   if (i0) {goto B245;}
   j0 = p1;
@@ -41332,7 +40748,7 @@ static void f29(module *self, u64 p0, u64 p1, u64 p2, u64 p3, u64 p4, u64 p5, u6
     i1 = l73;
     i2 = l58;
     l27 = i2;
-    f47(self, j0, i1, i2); if (NEVER(self->is_broken)) return;
+    f48(self, j0, i1, i2); if (NEVER(self->is_broken)) return;
     j0 = l7;
     i0 = (u32)(j0);
     i0 = i32_load8_u(j0 + 306u);
@@ -41392,7 +40808,7 @@ static void f29(module *self, u64 p0, u64 p1, u64 p2, u64 p3, u64 p4, u64 p5, u6
     j1 = 2072ull;
     j0 += j1;
     j1 = 4ull;
-    i0 = f14(self, j0, j1); m = self->memory; if (NEVER(self->is_broken)) return;
+    i0 = f15(self, j0, j1); m = self->memory; if (NEVER(self->is_broken)) return;
     i0 = !(i0);
     if (i0) {goto B252;}
     j0 = p1;
@@ -41597,7 +41013,7 @@ static void f29(module *self, u64 p0, u64 p1, u64 p2, u64 p3, u64 p4, u64 p5, u6
     j1 = 2072ull;
     j0 += j1;
     j1 = 4ull;
-    i0 = f14(self, j0, j1); m = self->memory; if (NEVER(self->is_broken)) return;
+    i0 = f15(self, j0, j1); m = self->memory; if (NEVER(self->is_broken)) return;
     i0 = !(i0);
     if (i0) {goto B259;}
     j0 = p1;
@@ -41808,7 +41224,7 @@ static void f29(module *self, u64 p0, u64 p1, u64 p2, u64 p3, u64 p4, u64 p5, u6
     j1 = 2072ull;
     j0 += j1;
     j1 = 4ull;
-    i0 = f14(self, j0, j1); m = self->memory; if (NEVER(self->is_broken)) return;
+    i0 = f15(self, j0, j1); m = self->memory; if (NEVER(self->is_broken)) return;
     i0 = !(i0);
     if (i0) {goto B266;}
     j0 = p1;
@@ -41990,7 +41406,7 @@ static void f29(module *self, u64 p0, u64 p1, u64 p2, u64 p3, u64 p4, u64 p5, u6
   j2 = p3;
   j3 = 1048905ull;
   i4 = l56;
-  f32(self, j0, j1, j2, j3, i4); m = self->memory; if (NEVER(self->is_broken)) return;
+  f33(self, j0, j1, j2, j3, i4); m = self->memory; if (NEVER(self->is_broken)) return;
   i0 = l20;
   i1 = 1u;
   i0 &= i1;
@@ -42008,7 +41424,7 @@ static void f29(module *self, u64 p0, u64 p1, u64 p2, u64 p3, u64 p4, u64 p5, u6
     i5 = 1u;
     i4 &= i5;
     i2 = i4 ? i2 : i3;
-    f42(self, j0, i1, i2); m = self->memory; if (NEVER(self->is_broken)) return;
+    f43(self, j0, i1, i2); m = self->memory; if (NEVER(self->is_broken)) return;
     i0 = l58;
     i1 = 1u;
     i0 += i1;
@@ -42029,7 +41445,7 @@ static void f29(module *self, u64 p0, u64 p1, u64 p2, u64 p3, u64 p4, u64 p5, u6
     j0 = p1;
     i1 = l58;
     i2 = 0u;
-    f42(self, j0, i1, i2); m = self->memory; if (NEVER(self->is_broken)) return;
+    f43(self, j0, i1, i2); m = self->memory; if (NEVER(self->is_broken)) return;
     i0 = l58;
     i1 = 1u;
     i0 += i1;
@@ -42160,7 +41576,7 @@ static void f29(module *self, u64 p0, u64 p1, u64 p2, u64 p3, u64 p4, u64 p5, u6
   self->g0 = j0;
 }
 
-static void f30(module *self, u64 p0, u64 p1, u32 p2) {
+static void f31(module *self, u64 p0, u64 p1, u32 p2) {
   u32 l3 = 0, l4 = 0, l5 = 0, l6 = 0;
   u64 l7 = 0, l8 = 0;
   u8 *m = self->memory;
@@ -42609,7 +42025,7 @@ static void f30(module *self, u64 p0, u64 p1, u32 p2) {
   i32_store8(j0, i1);
 }
 
-static u32 f31(module *self, u64 p0, u32 p1, u32 p2) {
+static u32 f32(module *self, u64 p0, u32 p1, u32 p2) {
   u32 l11 = 0, l12 = 0, l13 = 0;
   u64 l3 = 0, l4 = 0, l5 = 0, l6 = 0, l7 = 0, l8 = 0, l9 = 0, l10 = 0;
   u8 *m = self->memory;
@@ -42671,7 +42087,7 @@ static u32 f31(module *self, u64 p0, u32 p1, u32 p2) {
   j1 = 2072ull;
   j0 += j1;
   j1 = 4ull;
-  i0 = f14(self, j0, j1); m = self->memory; if (NEVER(self->is_broken)) return ZAK_BROKEN;
+  i0 = f15(self, j0, j1); m = self->memory; if (NEVER(self->is_broken)) return ZAK_BROKEN;
   i0 = !(i0);
   if (i0) {goto B0;}
   j0 = p0;
@@ -42771,7 +42187,7 @@ static u32 f31(module *self, u64 p0, u32 p1, u32 p2) {
   j1 = 16ull;
   j0 += j1;
   j1 = l5;
-  f27(self, j0, j1);
+  f28(self, j0, j1);
   j0 = p0;
   j1 = 196ull;
   j0 += j1;
@@ -42855,7 +42271,7 @@ static u32 f31(module *self, u64 p0, u32 p1, u32 p2) {
   j1 = 2072ull;
   j0 += j1;
   j1 = 3ull;
-  i0 = f14(self, j0, j1); m = self->memory; if (NEVER(self->is_broken)) return ZAK_BROKEN;
+  i0 = f15(self, j0, j1); m = self->memory; if (NEVER(self->is_broken)) return ZAK_BROKEN;
   i0 = !(i0);
   if (i0) {goto B6;}
   j0 = p0;
@@ -42977,7 +42393,7 @@ static u32 f31(module *self, u64 p0, u32 p1, u32 p2) {
   j1 = 2072ull;
   j0 += j1;
   j1 = 3ull;
-  i0 = f14(self, j0, j1); m = self->memory; if (NEVER(self->is_broken)) return ZAK_BROKEN;
+  i0 = f15(self, j0, j1); m = self->memory; if (NEVER(self->is_broken)) return ZAK_BROKEN;
   i0 = !(i0);
   if (i0) {goto B9;}
   j0 = p0;
@@ -43038,7 +42454,7 @@ static u32 f31(module *self, u64 p0, u32 p1, u32 p2) {
   j0 += j1;
   j1 = p0;
   i2 = p1;
-  f30(self, j0, j1, i2); if (NEVER(self->is_broken)) return ZAK_BROKEN;
+  f31(self, j0, j1, i2); if (NEVER(self->is_broken)) return ZAK_BROKEN;
   j0 = l3;
   j1 = 32ull;
   j0 += j1;
@@ -43047,7 +42463,7 @@ static u32 f31(module *self, u64 p0, u32 p1, u32 p2) {
   return i0;
 }
 
-static void f32(module *self, u64 p0, u64 p1, u64 p2, u64 p3, u32 p4) {
+static void f33(module *self, u64 p0, u64 p1, u64 p2, u64 p3, u32 p4) {
   u32 l16 = 0, l17 = 0, l18 = 0, l19 = 0, l20 = 0, l21 = 0, l22 = 0, l23 = 0, 
       l24 = 0, l25 = 0, l26 = 0, l27 = 0, l28 = 0, l29 = 0;
   u64 l5 = 0, l6 = 0, l7 = 0, l8 = 0, l9 = 0, l10 = 0, l11 = 0, l12 = 0, 
@@ -43058,19 +42474,19 @@ static void f32(module *self, u64 p0, u64 p1, u64 p2, u64 p3, u32 p4) {
   j0 = p1;
   i1 = 2u;
   i2 = 4u;
-  f49(self, j0, i1, i2); m = self->memory; if (NEVER(self->is_broken)) return;
+  f50(self, j0, i1, i2); m = self->memory; if (NEVER(self->is_broken)) return;
   j0 = p1;
   i1 = 4u;
   i2 = 6u;
-  f49(self, j0, i1, i2); m = self->memory; if (NEVER(self->is_broken)) return;
+  f50(self, j0, i1, i2); m = self->memory; if (NEVER(self->is_broken)) return;
   j0 = p1;
   i1 = 5u;
   i2 = 0u;
-  f39(self, j0, i1, i2); m = self->memory; if (NEVER(self->is_broken)) return;
+  f40(self, j0, i1, i2); m = self->memory; if (NEVER(self->is_broken)) return;
   j0 = p1;
   i1 = 6u;
   i2 = 4u;
-  f39(self, j0, i1, i2); m = self->memory; if (NEVER(self->is_broken)) return;
+  f40(self, j0, i1, i2); m = self->memory; if (NEVER(self->is_broken)) return;
   j0 = p0;
   j1 = 16ull;
   j0 >>= (j1 & 63);
@@ -43191,7 +42607,7 @@ static void f32(module *self, u64 p0, u64 p1, u64 p2, u64 p3, u32 p4) {
       j1 = 2072ull;
       j0 += j1;
       j1 = 6ull;
-      i0 = f14(self, j0, j1); m = self->memory; if (NEVER(self->is_broken)) return;
+      i0 = f15(self, j0, j1); m = self->memory; if (NEVER(self->is_broken)) return;
       i0 = !(i0);
       if (i0) {goto B4;}
       j0 = p1;
@@ -43741,7 +43157,7 @@ static void f32(module *self, u64 p0, u64 p1, u64 p2, u64 p3, u32 p4) {
       j1 = 2072ull;
       j0 += j1;
       j1 = 6ull;
-      i0 = f14(self, j0, j1); m = self->memory; if (NEVER(self->is_broken)) return;
+      i0 = f15(self, j0, j1); m = self->memory; if (NEVER(self->is_broken)) return;
       i0 = !(i0);
       if (i0) {goto B26;}
       j0 = p1;
@@ -43843,7 +43259,7 @@ static void f32(module *self, u64 p0, u64 p1, u64 p2, u64 p3, u32 p4) {
       i1 = (u32)(j1);
       i1 = i32_load8_u(j1);
       i2 = l22;
-      i0 = f50(self, j0, i1, i2);
+      i0 = f51(self, j0, i1, i2);
       l22 = i0;
       j0 = p1;
       j1 = 68ull;
@@ -44073,7 +43489,7 @@ static void f32(module *self, u64 p0, u64 p1, u64 p2, u64 p3, u32 p4) {
       j1 = 2072ull;
       j0 += j1;
       j1 = 6ull;
-      i0 = f14(self, j0, j1); m = self->memory; if (NEVER(self->is_broken)) return;
+      i0 = f15(self, j0, j1); m = self->memory; if (NEVER(self->is_broken)) return;
       i0 = !(i0);
       if (i0) {goto B34;}
       j0 = p1;
@@ -44175,7 +43591,7 @@ static void f32(module *self, u64 p0, u64 p1, u64 p2, u64 p3, u32 p4) {
       i1 = (u32)(j1);
       i1 = i32_load8_u(j1);
       i2 = l22;
-      i0 = f50(self, j0, i1, i2);
+      i0 = f51(self, j0, i1, i2);
       l22 = i0;
       j0 = p1;
       j1 = 68ull;
@@ -44408,7 +43824,7 @@ static void f32(module *self, u64 p0, u64 p1, u64 p2, u64 p3, u32 p4) {
       j1 = 2072ull;
       j0 += j1;
       j1 = 6ull;
-      i0 = f14(self, j0, j1); m = self->memory; if (NEVER(self->is_broken)) return;
+      i0 = f15(self, j0, j1); m = self->memory; if (NEVER(self->is_broken)) return;
       i0 = !(i0);
       if (i0) {goto B42;}
       j0 = p1;
@@ -44510,7 +43926,7 @@ static void f32(module *self, u64 p0, u64 p1, u64 p2, u64 p3, u32 p4) {
       i1 = (u32)(j1);
       i1 = i32_load8_u(j1);
       i2 = l22;
-      i0 = f50(self, j0, i1, i2);
+      i0 = f51(self, j0, i1, i2);
       l22 = i0;
       j0 = p1;
       j1 = 68ull;
@@ -44637,22 +44053,22 @@ static void f32(module *self, u64 p0, u64 p1, u64 p2, u64 p3, u32 p4) {
   j0 = p1;
   i1 = 2u;
   i2 = 3u;
-  f49(self, j0, i1, i2); m = self->memory; if (NEVER(self->is_broken)) return;
+  f50(self, j0, i1, i2); m = self->memory; if (NEVER(self->is_broken)) return;
   j0 = p1;
   i1 = 4u;
   i2 = 2u;
-  f49(self, j0, i1, i2); m = self->memory; if (NEVER(self->is_broken)) return;
+  f50(self, j0, i1, i2); m = self->memory; if (NEVER(self->is_broken)) return;
   j0 = p1;
   i1 = 5u;
   i2 = 16u;
-  f39(self, j0, i1, i2); m = self->memory; if (NEVER(self->is_broken)) return;
+  f40(self, j0, i1, i2); m = self->memory; if (NEVER(self->is_broken)) return;
   j0 = p1;
   i1 = 6u;
   i2 = p4;
-  f39(self, j0, i1, i2); m = self->memory; if (NEVER(self->is_broken)) return;
+  f40(self, j0, i1, i2); m = self->memory; if (NEVER(self->is_broken)) return;
 }
 
-static void f33(module *self, u64 p0, u32 p1, u32 p2) {
+static void f34(module *self, u64 p0, u32 p1, u32 p2) {
   u32 l10 = 0, l11 = 0, l12 = 0;
   u64 l3 = 0, l4 = 0, l5 = 0, l6 = 0, l7 = 0, l8 = 0, l9 = 0;
   u8 *m = self->memory;
@@ -44710,7 +44126,7 @@ static void f33(module *self, u64 p0, u32 p1, u32 p2) {
   j1 = 2072ull;
   j0 += j1;
   j1 = 4ull;
-  i0 = f14(self, j0, j1); m = self->memory; if (NEVER(self->is_broken)) return;
+  i0 = f15(self, j0, j1); m = self->memory; if (NEVER(self->is_broken)) return;
   i0 = !(i0);
   if (i0) {goto B0;}
   j0 = p0;
@@ -44847,7 +44263,7 @@ static void f33(module *self, u64 p0, u32 p1, u32 p2) {
   j1 = p0;
   i2 = l11;
   i3 = p2;
-  f48(self, j0, j1, i2, i3);
+  f49(self, j0, j1, i2, i3);
   B2:;
   j0 = l3;
   j1 = 16ull;
@@ -44855,7 +44271,7 @@ static void f33(module *self, u64 p0, u32 p1, u32 p2) {
   self->g0 = j0;
 }
 
-static void f34(module *self, u64 p0, u64 p1, u64 p2) {
+static void f35(module *self, u64 p0, u64 p1, u64 p2) {
   u32 l4 = 0, l5 = 0, l6 = 0, l7 = 0, l8 = 0, l9 = 0, l10 = 0, l11 = 0, 
       l12 = 0, l13 = 0;
   u64 l3 = 0;
@@ -44948,7 +44364,7 @@ static void f34(module *self, u64 p0, u64 p1, u64 p2) {
   j2 += j3;
   i2 = (u32)(j2);
   i2 = i32_load16_u(j2);
-  f24(self, j0, i1, i2);
+  f25(self, j0, i1, i2);
   i0 = 0u;
   l8 = i0;
   i0 = 0u;
@@ -44988,7 +44404,7 @@ static void f34(module *self, u64 p0, u64 p1, u64 p2) {
   j2 += j3;
   i2 = (u32)(j2);
   i2 = i32_load16_u(j2);
-  f24(self, j0, i1, i2);
+  f25(self, j0, i1, i2);
   i0 = 0u;
   l9 = i0;
   i0 = 0u;
@@ -45022,7 +44438,7 @@ static void f34(module *self, u64 p0, u64 p1, u64 p2) {
   j2 += j3;
   i2 = (u32)(j2);
   i2 = i32_load16_u(j2);
-  f24(self, j0, i1, i2);
+  f25(self, j0, i1, i2);
   i0 = 0u;
   l9 = i0;
   i0 = 0u;
@@ -45056,7 +44472,7 @@ static void f34(module *self, u64 p0, u64 p1, u64 p2) {
   j2 += j3;
   i2 = (u32)(j2);
   i2 = i32_load16_u(j2);
-  f24(self, j0, i1, i2);
+  f25(self, j0, i1, i2);
   i0 = 0u;
   l10 = i0;
   i0 = l7;
@@ -45102,7 +44518,7 @@ static void f34(module *self, u64 p0, u64 p1, u64 p2) {
   j2 += j3;
   i2 = (u32)(j2);
   i2 = i32_load16_u(j2);
-  f24(self, j0, i1, i2);
+  f25(self, j0, i1, i2);
   i0 = 0u;
   l13 = i0;
   i0 = 0u;
@@ -45142,7 +44558,7 @@ static void f34(module *self, u64 p0, u64 p1, u64 p2) {
   j2 += j3;
   i2 = (u32)(j2);
   i2 = i32_load16_u(j2);
-  f24(self, j0, i1, i2);
+  f25(self, j0, i1, i2);
   i0 = 0u;
   l7 = i0;
   i0 = 0u;
@@ -45182,7 +44598,7 @@ static void f34(module *self, u64 p0, u64 p1, u64 p2) {
   j2 += j3;
   i2 = (u32)(j2);
   i2 = i32_load16_u(j2);
-  f24(self, j0, i1, i2);
+  f25(self, j0, i1, i2);
   i0 = 0u;
   l10 = i0;
   i0 = 0u;
@@ -45313,7 +44729,7 @@ static void f34(module *self, u64 p0, u64 p1, u64 p2) {
   self->g0 = j0;
 }
 
-static void f35(module *self, u64 p0, u64 p1, u64 p2, u64 p3) {
+static void f36(module *self, u64 p0, u64 p1, u64 p2, u64 p3) {
   u32 l7 = 0, l8 = 0, l9 = 0, l10 = 0, l11 = 0, l12 = 0, l13 = 0, l14 = 0, 
       l15 = 0;
   u64 l4 = 0, l5 = 0, l6 = 0;
@@ -45408,7 +44824,7 @@ static void f35(module *self, u64 p0, u64 p1, u64 p2, u64 p3) {
   j2 += j3;
   i2 = (u32)(j2);
   i2 = i32_load16_u(j2);
-  f24(self, j0, i1, i2);
+  f25(self, j0, i1, i2);
   i0 = 1u;
   l14 = i0;
   i0 = 6u;
@@ -45479,7 +44895,7 @@ static void f35(module *self, u64 p0, u64 p1, u64 p2, u64 p3) {
   j2 += j3;
   i2 = (u32)(j2);
   i2 = i32_load16_u(j2);
-  f24(self, j0, i1, i2);
+  f25(self, j0, i1, i2);
   i0 = 1u;
   l14 = i0;
   i0 = 6u;
@@ -45564,7 +44980,7 @@ static void f35(module *self, u64 p0, u64 p1, u64 p2, u64 p3) {
   j2 += j3;
   i2 = (u32)(j2);
   i2 = i32_load16_u(j2);
-  f24(self, j0, i1, i2);
+  f25(self, j0, i1, i2);
   i0 = 1u;
   l14 = i0;
   i0 = 6u;
@@ -45696,7 +45112,7 @@ static void f35(module *self, u64 p0, u64 p1, u64 p2, u64 p3) {
   i2 = (u32)(j2);
   i2 = i32_load16_u(j2);
   l12 = i2;
-  f24(self, j0, i1, i2);
+  f25(self, j0, i1, i2);
   i0 = 1u;
   l14 = i0;
   i0 = 6u;
@@ -45797,7 +45213,7 @@ static void f35(module *self, u64 p0, u64 p1, u64 p2, u64 p3) {
   j2 += j3;
   i2 = (u32)(j2);
   i2 = i32_load16_u(j2);
-  f24(self, j0, i1, i2);
+  f25(self, j0, i1, i2);
   i0 = 6u;
   i1 = 0u;
   j2 = l4;
@@ -45905,7 +45321,7 @@ static void f35(module *self, u64 p0, u64 p1, u64 p2, u64 p3) {
   self->g0 = j0;
 }
 
-static void f36(module *self, u64 p0, u64 p1, u32 p2) {
+static void f37(module *self, u64 p0, u64 p1, u32 p2) {
   u32 l3 = 0, l4 = 0, l5 = 0, l6 = 0, l7 = 0;
   u8 *m = self->memory;
   u32 i0, i1, i2, i3, i4, i5;
@@ -45962,7 +45378,7 @@ static void f36(module *self, u64 p0, u64 p1, u32 p2) {
   i1 = i32_load16_u(j1);
   l6 = i1;
   i2 = 14u;
-  f33(self, j0, i1, i2); m = self->memory; if (NEVER(self->is_broken)) return;
+  f34(self, j0, i1, i2); m = self->memory; if (NEVER(self->is_broken)) return;
   j0 = p0;
   i1 = l6;
   i2 = 1u;
@@ -45986,19 +45402,19 @@ static void f36(module *self, u64 p0, u64 p1, u32 p2) {
   p2 = i2;
   i3 = 8u;
   i2 >>= (i3 & 31);
-  f33(self, j0, i1, i2); m = self->memory; if (NEVER(self->is_broken)) return;
+  f34(self, j0, i1, i2); m = self->memory; if (NEVER(self->is_broken)) return;
   j0 = p0;
   i1 = l6;
   i2 = 15u;
-  f33(self, j0, i1, i2); m = self->memory; if (NEVER(self->is_broken)) return;
+  f34(self, j0, i1, i2); m = self->memory; if (NEVER(self->is_broken)) return;
   j0 = p0;
   i1 = l7;
   i2 = p2;
-  f33(self, j0, i1, i2); m = self->memory; if (NEVER(self->is_broken)) return;
+  f34(self, j0, i1, i2); m = self->memory; if (NEVER(self->is_broken)) return;
   B0:;
 }
 
-static void f37(module *self, u64 p0, u64 p1, u64 p2, u32 p3, u64 p4) {
+static void f38(module *self, u64 p0, u64 p1, u64 p2, u32 p3, u64 p4) {
   u32 l6 = 0, l7 = 0, l8 = 0, l9 = 0, l10 = 0, l11 = 0, l12 = 0, l13 = 0, 
       l14 = 0, l15 = 0, l16 = 0, l17 = 0, l18 = 0, l19 = 0, l20 = 0;
   u64 l5 = 0;
@@ -46149,7 +45565,7 @@ static void f37(module *self, u64 p0, u64 p1, u64 p2, u32 p3, u64 p4) {
   j0 = p1;
   i1 = 5u;
   i2 = 1u;
-  f39(self, j0, i1, i2); m = self->memory; if (NEVER(self->is_broken)) return;
+  f40(self, j0, i1, i2); m = self->memory; if (NEVER(self->is_broken)) return;
   B3:;
   j0 = l5;
   i0 = (u32)(j0);
@@ -46206,7 +45622,7 @@ static void f37(module *self, u64 p0, u64 p1, u64 p2, u32 p3, u64 p4) {
     i3 = l13;
     i2 += i3;
     i3 = l13;
-    f51(self, j0, j1, i2, i3); m = self->memory; if (NEVER(self->is_broken)) return;
+    f52(self, j0, j1, i2, i3); m = self->memory; if (NEVER(self->is_broken)) return;
     i0 = l13;
     i1 = 1u;
     i0 += i1;
@@ -46246,7 +45662,7 @@ static void f37(module *self, u64 p0, u64 p1, u64 p2, u32 p3, u64 p4) {
     i2 += i3;
     l9 = i2;
     i3 = l13;
-    f51(self, j0, j1, i2, i3); m = self->memory; if (NEVER(self->is_broken)) return;
+    f52(self, j0, j1, i2, i3); m = self->memory; if (NEVER(self->is_broken)) return;
     i0 = l17;
     i1 = l9;
     i0 = i0 < i1;
@@ -46258,7 +45674,7 @@ static void f37(module *self, u64 p0, u64 p1, u64 p2, u32 p3, u64 p4) {
   j0 = p1;
   i1 = 5u;
   i2 = 0u;
-  f39(self, j0, i1, i2); m = self->memory; if (NEVER(self->is_broken)) return;
+  f40(self, j0, i1, i2); m = self->memory; if (NEVER(self->is_broken)) return;
   j0 = l5;
   i0 = (u32)(j0);
   i1 = 0u;
@@ -46314,7 +45730,7 @@ static void f37(module *self, u64 p0, u64 p1, u64 p2, u32 p3, u64 p4) {
   i2 = l15;
   i3 = 15u;
   i2 &= i3;
-  f49(self, j0, i1, i2); m = self->memory; if (NEVER(self->is_broken)) return;
+  f50(self, j0, i1, i2); m = self->memory; if (NEVER(self->is_broken)) return;
   goto B10;
   B12:;
   i0 = 0u;
@@ -46368,7 +45784,7 @@ static void f37(module *self, u64 p0, u64 p1, u64 p2, u32 p3, u64 p4) {
     i2 = 32u;
     i3 = l15;
     i4 = l13;
-    f52(self, j0, j1, i2, i3, i4); m = self->memory; if (NEVER(self->is_broken)) return;
+    f53(self, j0, j1, i2, i3, i4); m = self->memory; if (NEVER(self->is_broken)) return;
     i0 = l13;
     i1 = 1u;
     i0 += i1;
@@ -46389,7 +45805,7 @@ static void f37(module *self, u64 p0, u64 p1, u64 p2, u32 p3, u64 p4) {
     i2 = 0u;
     i3 = 0u;
     i4 = l9;
-    f52(self, j0, j1, i2, i3, i4); m = self->memory; if (NEVER(self->is_broken)) return;
+    f53(self, j0, j1, i2, i3, i4); m = self->memory; if (NEVER(self->is_broken)) return;
     i0 = l9;
     i1 = 1u;
     i0 += i1;
@@ -46404,7 +45820,7 @@ static void f37(module *self, u64 p0, u64 p1, u64 p2, u32 p3, u64 p4) {
   i2 = l15;
   i3 = 15u;
   i2 &= i3;
-  f49(self, j0, i1, i2); m = self->memory; if (NEVER(self->is_broken)) return;
+  f50(self, j0, i1, i2); m = self->memory; if (NEVER(self->is_broken)) return;
   j0 = l5;
   i0 = (u32)(j0);
   i1 = 0u;
@@ -46445,7 +45861,7 @@ static void f37(module *self, u64 p0, u64 p1, u64 p2, u32 p3, u64 p4) {
     i2 = 255u;
     i3 = 255u;
     i4 = l13;
-    f52(self, j0, j1, i2, i3, i4); m = self->memory; if (NEVER(self->is_broken)) return;
+    f53(self, j0, j1, i2, i3, i4); m = self->memory; if (NEVER(self->is_broken)) return;
     i0 = l13;
     i1 = 1u;
     i0 += i1;
@@ -46459,7 +45875,7 @@ static void f37(module *self, u64 p0, u64 p1, u64 p2, u32 p3, u64 p4) {
   j0 = p1;
   i1 = 2u;
   i2 = 15u;
-  f49(self, j0, i1, i2); m = self->memory; if (NEVER(self->is_broken)) return;
+  f50(self, j0, i1, i2); m = self->memory; if (NEVER(self->is_broken)) return;
   goto B8;
   B9:;
   j0 = l5;
@@ -46506,7 +45922,7 @@ static void f37(module *self, u64 p0, u64 p1, u64 p2, u32 p3, u64 p4) {
     i2 = l15;
     i3 = l15;
     i4 = l13;
-    f52(self, j0, j1, i2, i3, i4); m = self->memory; if (NEVER(self->is_broken)) return;
+    f53(self, j0, j1, i2, i3, i4); m = self->memory; if (NEVER(self->is_broken)) return;
     i0 = l13;
     i1 = 1u;
     i0 += i1;
@@ -46523,7 +45939,7 @@ static void f37(module *self, u64 p0, u64 p1, u64 p2, u32 p3, u64 p4) {
   self->g0 = j0;
 }
 
-static void f38(module *self, u64 p0, u64 p1, u32 p2) {
+static void f39(module *self, u64 p0, u64 p1, u32 p2) {
   u32 l3 = 0, l4 = 0, l5 = 0;
   u8 *m = self->memory;
   u32 i0, i1, i2, i3, i4, i5;
@@ -46709,7 +46125,7 @@ static void f38(module *self, u64 p0, u64 p1, u32 p2) {
   i32_store8(j0, i1);
 }
 
-static void f39(module *self, u64 p0, u32 p1, u32 p2) {
+static void f40(module *self, u64 p0, u32 p1, u32 p2) {
   u64 l3 = 0, l4 = 0, l5 = 0, l6 = 0, l7 = 0, l8 = 0;
   u8 *m = self->memory;
   u32 i0, i1, i2, i3, i4;
@@ -46769,7 +46185,7 @@ static void f39(module *self, u64 p0, u32 p1, u32 p2) {
   j1 = 2072ull;
   j0 += j1;
   j1 = 4ull;
-  i0 = f14(self, j0, j1); m = self->memory; if (NEVER(self->is_broken)) return;
+  i0 = f15(self, j0, j1); m = self->memory; if (NEVER(self->is_broken)) return;
   i0 = !(i0);
   if (i0) {goto B4;}
   j0 = p0;
@@ -46872,7 +46288,7 @@ static void f39(module *self, u64 p0, u32 p1, u32 p2) {
   j1 = 2072ull;
   j0 += j1;
   j1 = 4ull;
-  i0 = f14(self, j0, j1); m = self->memory; if (NEVER(self->is_broken)) return;
+  i0 = f15(self, j0, j1); m = self->memory; if (NEVER(self->is_broken)) return;
   i0 = !(i0);
   if (i0) {goto B6;}
   j0 = p0;
@@ -47080,7 +46496,7 @@ static void f39(module *self, u64 p0, u32 p1, u32 p2) {
   B0:;
 }
 
-static u32 f40(module *self, u64 p0, u32 p1, u64 p2) {
+static u32 f41(module *self, u64 p0, u32 p1, u64 p2) {
   u32 l3 = 0, l4 = 0, l5 = 0;
   u64 l6 = 0, l7 = 0, l8 = 0, l9 = 0, l10 = 0, l11 = 0;
   u8 *m = self->memory;
@@ -47748,7 +47164,7 @@ static u32 f40(module *self, u64 p0, u32 p1, u64 p2) {
   return i0;
 }
 
-static void f41(module *self, u64 p0, u64 p1, u32 p2, u32 p3, u32 p4, u32 p5) {
+static void f42(module *self, u64 p0, u64 p1, u32 p2, u32 p3, u32 p4, u32 p5) {
   u32 l19 = 0, l20 = 0, l21 = 0, l22 = 0, l23 = 0, l24 = 0;
   u64 l6 = 0, l7 = 0, l8 = 0, l9 = 0, l10 = 0, l11 = 0, l12 = 0, l13 = 0, 
       l14 = 0, l15 = 0, l16 = 0, l17 = 0, l18 = 0;
@@ -47828,7 +47244,7 @@ static void f41(module *self, u64 p0, u64 p1, u32 p2, u32 p3, u32 p4, u32 p5) {
   i1 += i2;
   l20 = i1;
   i2 = p3;
-  f42(self, j0, i1, i2); m = self->memory; if (NEVER(self->is_broken)) return;
+  f43(self, j0, i1, i2); m = self->memory; if (NEVER(self->is_broken)) return;
   i0 = p5;
   i1 = 1u;
   i0 &= i1;
@@ -47839,7 +47255,7 @@ static void f41(module *self, u64 p0, u64 p1, u32 p2, u32 p3, u32 p4, u32 p5) {
   i2 = 1u;
   i1 += i2;
   i2 = p4;
-  f42(self, j0, i1, i2); m = self->memory; if (NEVER(self->is_broken)) return;
+  f43(self, j0, i1, i2); m = self->memory; if (NEVER(self->is_broken)) return;
   goto B1;
   B3:;
   j0 = p1;
@@ -47927,13 +47343,13 @@ static void f41(module *self, u64 p0, u64 p1, u32 p2, u32 p3, u32 p4, u32 p5) {
   j0 = p0;
   i1 = 3u;
   i2 = 24u;
-  f39(self, j0, i1, i2); m = self->memory; if (NEVER(self->is_broken)) return;
+  f40(self, j0, i1, i2); m = self->memory; if (NEVER(self->is_broken)) return;
   j0 = p0;
   i1 = 2u;
   i2 = p4;
   i3 = 15u;
   i2 &= i3;
-  f49(self, j0, i1, i2); m = self->memory; if (NEVER(self->is_broken)) return;
+  f50(self, j0, i1, i2); m = self->memory; if (NEVER(self->is_broken)) return;
   i0 = p5;
   i0 = !(i0);
   if (i0) {goto B8;}
@@ -48117,7 +47533,7 @@ static void f41(module *self, u64 p0, u64 p1, u32 p2, u32 p3, u32 p4, u32 p5) {
     j1 = 2072ull;
     j0 += j1;
     j1 = 5ull;
-    i0 = f14(self, j0, j1); m = self->memory; if (NEVER(self->is_broken)) return;
+    i0 = f15(self, j0, j1); m = self->memory; if (NEVER(self->is_broken)) return;
     i0 = !(i0);
     if (i0) {goto B17;}
     j0 = p0;
@@ -48168,11 +47584,11 @@ static void f41(module *self, u64 p0, u64 p1, u32 p2, u32 p3, u32 p4, u32 p5) {
     j0 = l6;
     j1 = p0;
     i2 = p4;
-    f38(self, j0, j1, i2);
+    f39(self, j0, j1, i2);
     j0 = p0;
     i1 = p4;
     i2 = p2;
-    f42(self, j0, i1, i2); m = self->memory; if (NEVER(self->is_broken)) return;
+    f43(self, j0, i1, i2); m = self->memory; if (NEVER(self->is_broken)) return;
     j0 = l8;
     j1 = 1ull;
     j0 += j1;
@@ -48192,11 +47608,11 @@ static void f41(module *self, u64 p0, u64 p1, u32 p2, u32 p3, u32 p4, u32 p5) {
   j0 = p0;
   i1 = 2u;
   i2 = 15u;
-  f49(self, j0, i1, i2); m = self->memory; if (NEVER(self->is_broken)) return;
+  f50(self, j0, i1, i2); m = self->memory; if (NEVER(self->is_broken)) return;
   j0 = p0;
   i1 = 3u;
   i2 = 0u;
-  f39(self, j0, i1, i2); m = self->memory; if (NEVER(self->is_broken)) return;
+  f40(self, j0, i1, i2); m = self->memory; if (NEVER(self->is_broken)) return;
   goto B1;
   B7:;
   j0 = l6;
@@ -48230,13 +47646,13 @@ static void f41(module *self, u64 p0, u64 p1, u32 p2, u32 p3, u32 p4, u32 p5) {
   i2 = 0u;
   i3 = 0u;
   i4 = l24;
-  f52(self, j0, j1, i2, i3, i4); m = self->memory; if (NEVER(self->is_broken)) return;
+  f53(self, j0, j1, i2, i3, i4); m = self->memory; if (NEVER(self->is_broken)) return;
   j0 = p0;
   i1 = 2u;
   i2 = p4;
   i3 = 15u;
   i2 &= i3;
-  f49(self, j0, i1, i2); m = self->memory; if (NEVER(self->is_broken)) return;
+  f50(self, j0, i1, i2); m = self->memory; if (NEVER(self->is_broken)) return;
   i0 = p5;
   i0 = !(i0);
   if (i0) {goto B19;}
@@ -48301,7 +47717,7 @@ static void f41(module *self, u64 p0, u64 p1, u32 p2, u32 p3, u32 p4, u32 p5) {
   j2 += j3;
   i2 = (u32)(j2);
   i2 = i32_load8_u(j2);
-  f42(self, j0, i1, i2); m = self->memory; if (NEVER(self->is_broken)) return;
+  f43(self, j0, i1, i2); m = self->memory; if (NEVER(self->is_broken)) return;
   j0 = l7;
   i0 = (u32)(j0);
   i0 = i32_load8_u(j0);
@@ -48330,7 +47746,7 @@ static void f41(module *self, u64 p0, u64 p1, u32 p2, u32 p3, u32 p4, u32 p5) {
   j2 += j3;
   i2 = (u32)(j2);
   i2 = i32_load8_u(j2 + 1u);
-  f42(self, j0, i1, i2); m = self->memory; if (NEVER(self->is_broken)) return;
+  f43(self, j0, i1, i2); m = self->memory; if (NEVER(self->is_broken)) return;
   j0 = 1048905ull;
   l8 = j0;
   j0 = 1048905ull;
@@ -48363,7 +47779,7 @@ static void f41(module *self, u64 p0, u64 p1, u32 p2, u32 p3, u32 p4, u32 p5) {
   j2 += j3;
   i2 = (u32)(j2);
   i2 = i32_load8_u(j2 + 2u);
-  f42(self, j0, i1, i2); m = self->memory; if (NEVER(self->is_broken)) return;
+  f43(self, j0, i1, i2); m = self->memory; if (NEVER(self->is_broken)) return;
   j0 = l7;
   i0 = (u32)(j0);
   i0 = i32_load8_u(j0);
@@ -48392,7 +47808,7 @@ static void f41(module *self, u64 p0, u64 p1, u32 p2, u32 p3, u32 p4, u32 p5) {
   j2 += j3;
   i2 = (u32)(j2);
   i2 = i32_load8_u(j2 + 3u);
-  f42(self, j0, i1, i2); m = self->memory; if (NEVER(self->is_broken)) return;
+  f43(self, j0, i1, i2); m = self->memory; if (NEVER(self->is_broken)) return;
   j0 = 1048905ull;
   l8 = j0;
   j0 = 1048905ull;
@@ -48425,7 +47841,7 @@ static void f41(module *self, u64 p0, u64 p1, u32 p2, u32 p3, u32 p4, u32 p5) {
   j2 += j3;
   i2 = (u32)(j2);
   i2 = i32_load8_u(j2 + 4u);
-  f42(self, j0, i1, i2); m = self->memory; if (NEVER(self->is_broken)) return;
+  f43(self, j0, i1, i2); m = self->memory; if (NEVER(self->is_broken)) return;
   j0 = l7;
   i0 = (u32)(j0);
   i0 = i32_load8_u(j0);
@@ -48454,7 +47870,7 @@ static void f41(module *self, u64 p0, u64 p1, u32 p2, u32 p3, u32 p4, u32 p5) {
   j2 += j3;
   i2 = (u32)(j2);
   i2 = i32_load8_u(j2 + 5u);
-  f42(self, j0, i1, i2); m = self->memory; if (NEVER(self->is_broken)) return;
+  f43(self, j0, i1, i2); m = self->memory; if (NEVER(self->is_broken)) return;
   j0 = 1048905ull;
   l8 = j0;
   j0 = 1048905ull;
@@ -48487,7 +47903,7 @@ static void f41(module *self, u64 p0, u64 p1, u32 p2, u32 p3, u32 p4, u32 p5) {
   j2 += j3;
   i2 = (u32)(j2);
   i2 = i32_load8_u(j2 + 6u);
-  f42(self, j0, i1, i2); m = self->memory; if (NEVER(self->is_broken)) return;
+  f43(self, j0, i1, i2); m = self->memory; if (NEVER(self->is_broken)) return;
   j0 = l7;
   i0 = (u32)(j0);
   i0 = i32_load8_u(j0);
@@ -48516,11 +47932,11 @@ static void f41(module *self, u64 p0, u64 p1, u32 p2, u32 p3, u32 p4, u32 p5) {
   j2 += j3;
   i2 = (u32)(j2);
   i2 = i32_load8_u(j2 + 7u);
-  f42(self, j0, i1, i2); m = self->memory; if (NEVER(self->is_broken)) return;
+  f43(self, j0, i1, i2); m = self->memory; if (NEVER(self->is_broken)) return;
   j0 = p0;
   i1 = 2u;
   i2 = 15u;
-  f49(self, j0, i1, i2); m = self->memory; if (NEVER(self->is_broken)) return;
+  f50(self, j0, i1, i2); m = self->memory; if (NEVER(self->is_broken)) return;
   goto B1;
   B21:;
   j0 = p1;
@@ -48560,7 +47976,7 @@ static void f41(module *self, u64 p0, u64 p1, u32 p2, u32 p3, u32 p4, u32 p5) {
   j2 += j3;
   i2 = (u32)(j2);
   i2 = i32_load8_u(j2);
-  f42(self, j0, i1, i2); m = self->memory; if (NEVER(self->is_broken)) return;
+  f43(self, j0, i1, i2); m = self->memory; if (NEVER(self->is_broken)) return;
   j0 = l12;
   i0 = (u32)(j0);
   i0 = i32_load8_u(j0);
@@ -48589,7 +48005,7 @@ static void f41(module *self, u64 p0, u64 p1, u32 p2, u32 p3, u32 p4, u32 p5) {
   j2 += j3;
   i2 = (u32)(j2);
   i2 = i32_load8_u(j2 + 1u);
-  f42(self, j0, i1, i2); m = self->memory; if (NEVER(self->is_broken)) return;
+  f43(self, j0, i1, i2); m = self->memory; if (NEVER(self->is_broken)) return;
   j0 = 1048905ull;
   l8 = j0;
   j0 = 1048905ull;
@@ -48625,7 +48041,7 @@ static void f41(module *self, u64 p0, u64 p1, u32 p2, u32 p3, u32 p4, u32 p5) {
   j2 += j3;
   i2 = (u32)(j2);
   i2 = i32_load8_u(j2 + 2u);
-  f42(self, j0, i1, i2); m = self->memory; if (NEVER(self->is_broken)) return;
+  f43(self, j0, i1, i2); m = self->memory; if (NEVER(self->is_broken)) return;
   j0 = l12;
   i0 = (u32)(j0);
   i0 = i32_load8_u(j0);
@@ -48654,7 +48070,7 @@ static void f41(module *self, u64 p0, u64 p1, u32 p2, u32 p3, u32 p4, u32 p5) {
   j2 += j3;
   i2 = (u32)(j2);
   i2 = i32_load8_u(j2 + 3u);
-  f42(self, j0, i1, i2); m = self->memory; if (NEVER(self->is_broken)) return;
+  f43(self, j0, i1, i2); m = self->memory; if (NEVER(self->is_broken)) return;
   j0 = 1048905ull;
   l8 = j0;
   j0 = 1048905ull;
@@ -48690,7 +48106,7 @@ static void f41(module *self, u64 p0, u64 p1, u32 p2, u32 p3, u32 p4, u32 p5) {
   j2 += j3;
   i2 = (u32)(j2);
   i2 = i32_load8_u(j2 + 4u);
-  f42(self, j0, i1, i2); m = self->memory; if (NEVER(self->is_broken)) return;
+  f43(self, j0, i1, i2); m = self->memory; if (NEVER(self->is_broken)) return;
   j0 = l12;
   i0 = (u32)(j0);
   i0 = i32_load8_u(j0);
@@ -48719,7 +48135,7 @@ static void f41(module *self, u64 p0, u64 p1, u32 p2, u32 p3, u32 p4, u32 p5) {
   j2 += j3;
   i2 = (u32)(j2);
   i2 = i32_load8_u(j2 + 5u);
-  f42(self, j0, i1, i2); m = self->memory; if (NEVER(self->is_broken)) return;
+  f43(self, j0, i1, i2); m = self->memory; if (NEVER(self->is_broken)) return;
   j0 = 1048905ull;
   l8 = j0;
   j0 = 1048905ull;
@@ -48755,7 +48171,7 @@ static void f41(module *self, u64 p0, u64 p1, u32 p2, u32 p3, u32 p4, u32 p5) {
   j2 += j3;
   i2 = (u32)(j2);
   i2 = i32_load8_u(j2 + 6u);
-  f42(self, j0, i1, i2); m = self->memory; if (NEVER(self->is_broken)) return;
+  f43(self, j0, i1, i2); m = self->memory; if (NEVER(self->is_broken)) return;
   j0 = l12;
   i0 = (u32)(j0);
   i0 = i32_load8_u(j0);
@@ -48784,7 +48200,7 @@ static void f41(module *self, u64 p0, u64 p1, u32 p2, u32 p3, u32 p4, u32 p5) {
   j2 += j3;
   i2 = (u32)(j2);
   i2 = i32_load8_u(j2 + 7u);
-  f42(self, j0, i1, i2); m = self->memory; if (NEVER(self->is_broken)) return;
+  f43(self, j0, i1, i2); m = self->memory; if (NEVER(self->is_broken)) return;
   j0 = 1048905ull;
   l8 = j0;
   j0 = 1048905ull;
@@ -48820,7 +48236,7 @@ static void f41(module *self, u64 p0, u64 p1, u32 p2, u32 p3, u32 p4, u32 p5) {
   j2 += j3;
   i2 = (u32)(j2);
   i2 = i32_load8_u(j2 + 8u);
-  f42(self, j0, i1, i2); m = self->memory; if (NEVER(self->is_broken)) return;
+  f43(self, j0, i1, i2); m = self->memory; if (NEVER(self->is_broken)) return;
   j0 = l12;
   i0 = (u32)(j0);
   i0 = i32_load8_u(j0);
@@ -48849,7 +48265,7 @@ static void f41(module *self, u64 p0, u64 p1, u32 p2, u32 p3, u32 p4, u32 p5) {
   j2 += j3;
   i2 = (u32)(j2);
   i2 = i32_load8_u(j2 + 9u);
-  f42(self, j0, i1, i2); m = self->memory; if (NEVER(self->is_broken)) return;
+  f43(self, j0, i1, i2); m = self->memory; if (NEVER(self->is_broken)) return;
   j0 = 1048905ull;
   l8 = j0;
   j0 = 1048905ull;
@@ -48885,7 +48301,7 @@ static void f41(module *self, u64 p0, u64 p1, u32 p2, u32 p3, u32 p4, u32 p5) {
   j2 += j3;
   i2 = (u32)(j2);
   i2 = i32_load8_u(j2 + 10u);
-  f42(self, j0, i1, i2); m = self->memory; if (NEVER(self->is_broken)) return;
+  f43(self, j0, i1, i2); m = self->memory; if (NEVER(self->is_broken)) return;
   j0 = l12;
   i0 = (u32)(j0);
   i0 = i32_load8_u(j0);
@@ -48914,7 +48330,7 @@ static void f41(module *self, u64 p0, u64 p1, u32 p2, u32 p3, u32 p4, u32 p5) {
   j2 += j3;
   i2 = (u32)(j2);
   i2 = i32_load8_u(j2 + 11u);
-  f42(self, j0, i1, i2); m = self->memory; if (NEVER(self->is_broken)) return;
+  f43(self, j0, i1, i2); m = self->memory; if (NEVER(self->is_broken)) return;
   j0 = 1048905ull;
   l8 = j0;
   j0 = 1048905ull;
@@ -48950,7 +48366,7 @@ static void f41(module *self, u64 p0, u64 p1, u32 p2, u32 p3, u32 p4, u32 p5) {
   j2 += j3;
   i2 = (u32)(j2);
   i2 = i32_load8_u(j2 + 12u);
-  f42(self, j0, i1, i2); m = self->memory; if (NEVER(self->is_broken)) return;
+  f43(self, j0, i1, i2); m = self->memory; if (NEVER(self->is_broken)) return;
   j0 = l12;
   i0 = (u32)(j0);
   i0 = i32_load8_u(j0);
@@ -48979,11 +48395,11 @@ static void f41(module *self, u64 p0, u64 p1, u32 p2, u32 p3, u32 p4, u32 p5) {
   j2 += j3;
   i2 = (u32)(j2);
   i2 = i32_load8_u(j2 + 13u);
-  f42(self, j0, i1, i2); m = self->memory; if (NEVER(self->is_broken)) return;
+  f43(self, j0, i1, i2); m = self->memory; if (NEVER(self->is_broken)) return;
   j0 = p0;
   i1 = 2u;
   i2 = 15u;
-  f49(self, j0, i1, i2); m = self->memory; if (NEVER(self->is_broken)) return;
+  f50(self, j0, i1, i2); m = self->memory; if (NEVER(self->is_broken)) return;
   goto B1;
   B20:;
   j0 = p1;
@@ -49029,7 +48445,7 @@ static void f41(module *self, u64 p0, u64 p1, u32 p2, u32 p3, u32 p4, u32 p5) {
     j2 += j3;
     i2 = (u32)(j2);
     i2 = i32_load8_u(j2);
-    f42(self, j0, i1, i2); m = self->memory; if (NEVER(self->is_broken)) return;
+    f43(self, j0, i1, i2); m = self->memory; if (NEVER(self->is_broken)) return;
     j0 = p1;
     j1 = 1ull;
     j0 += j1;
@@ -49049,7 +48465,7 @@ static void f41(module *self, u64 p0, u64 p1, u32 p2, u32 p3, u32 p4, u32 p5) {
   j0 = p0;
   i1 = 2u;
   i2 = 15u;
-  f49(self, j0, i1, i2); m = self->memory; if (NEVER(self->is_broken)) return;
+  f50(self, j0, i1, i2); m = self->memory; if (NEVER(self->is_broken)) return;
   goto B1;
   B2:;
   j0 = p1;
@@ -49225,7 +48641,7 @@ static void f41(module *self, u64 p0, u64 p1, u32 p2, u32 p3, u32 p4, u32 p5) {
     i2 = (u32)((s32)i2 >> (i3 & 31));
     i3 = p4;
     i2 &= i3;
-    f42(self, j0, i1, i2); m = self->memory; if (NEVER(self->is_broken)) return;
+    f43(self, j0, i1, i2); m = self->memory; if (NEVER(self->is_broken)) return;
     j0 = p0;
     i1 = l20;
     i2 = 1u;
@@ -49238,7 +48654,7 @@ static void f41(module *self, u64 p0, u64 p1, u32 p2, u32 p3, u32 p4, u32 p5) {
     i2 = (u32)((s32)i2 >> (i3 & 31));
     i3 = p4;
     i2 &= i3;
-    f42(self, j0, i1, i2); m = self->memory; if (NEVER(self->is_broken)) return;
+    f43(self, j0, i1, i2); m = self->memory; if (NEVER(self->is_broken)) return;
     j0 = p0;
     i1 = l20;
     i2 = 2u;
@@ -49251,7 +48667,7 @@ static void f41(module *self, u64 p0, u64 p1, u32 p2, u32 p3, u32 p4, u32 p5) {
     i2 = (u32)((s32)i2 >> (i3 & 31));
     i3 = p4;
     i2 &= i3;
-    f42(self, j0, i1, i2); m = self->memory; if (NEVER(self->is_broken)) return;
+    f43(self, j0, i1, i2); m = self->memory; if (NEVER(self->is_broken)) return;
     j0 = p0;
     i1 = l20;
     i2 = 3u;
@@ -49264,7 +48680,7 @@ static void f41(module *self, u64 p0, u64 p1, u32 p2, u32 p3, u32 p4, u32 p5) {
     i2 = (u32)((s32)i2 >> (i3 & 31));
     i3 = p4;
     i2 &= i3;
-    f42(self, j0, i1, i2); m = self->memory; if (NEVER(self->is_broken)) return;
+    f43(self, j0, i1, i2); m = self->memory; if (NEVER(self->is_broken)) return;
     j0 = p0;
     i1 = l20;
     i2 = 4u;
@@ -49277,7 +48693,7 @@ static void f41(module *self, u64 p0, u64 p1, u32 p2, u32 p3, u32 p4, u32 p5) {
     i2 = (u32)((s32)i2 >> (i3 & 31));
     i3 = p4;
     i2 &= i3;
-    f42(self, j0, i1, i2); m = self->memory; if (NEVER(self->is_broken)) return;
+    f43(self, j0, i1, i2); m = self->memory; if (NEVER(self->is_broken)) return;
     j0 = p0;
     i1 = l20;
     i2 = 5u;
@@ -49290,7 +48706,7 @@ static void f41(module *self, u64 p0, u64 p1, u32 p2, u32 p3, u32 p4, u32 p5) {
     i2 = (u32)((s32)i2 >> (i3 & 31));
     i3 = p4;
     i2 &= i3;
-    f42(self, j0, i1, i2); m = self->memory; if (NEVER(self->is_broken)) return;
+    f43(self, j0, i1, i2); m = self->memory; if (NEVER(self->is_broken)) return;
     j0 = p0;
     i1 = l20;
     i2 = 6u;
@@ -49303,7 +48719,7 @@ static void f41(module *self, u64 p0, u64 p1, u32 p2, u32 p3, u32 p4, u32 p5) {
     i2 = (u32)((s32)i2 >> (i3 & 31));
     i3 = p4;
     i2 &= i3;
-    f42(self, j0, i1, i2); m = self->memory; if (NEVER(self->is_broken)) return;
+    f43(self, j0, i1, i2); m = self->memory; if (NEVER(self->is_broken)) return;
     j0 = p0;
     i1 = l20;
     i2 = 7u;
@@ -49315,7 +48731,7 @@ static void f41(module *self, u64 p0, u64 p1, u32 p2, u32 p3, u32 p4, u32 p5) {
     i2 -= i3;
     i3 = p4;
     i2 &= i3;
-    f42(self, j0, i1, i2); m = self->memory; if (NEVER(self->is_broken)) return;
+    f43(self, j0, i1, i2); m = self->memory; if (NEVER(self->is_broken)) return;
     j0 = l8;
     j1 = 1ull;
     j0 += j1;
@@ -49342,7 +48758,7 @@ static void f41(module *self, u64 p0, u64 p1, u32 p2, u32 p3, u32 p4, u32 p5) {
   Bfunc:;
 }
 
-static void f42(module *self, u64 p0, u32 p1, u32 p2) {
+static void f43(module *self, u64 p0, u32 p1, u32 p2) {
   u32 l10 = 0, l11 = 0, l12 = 0, l13 = 0;
   u64 l3 = 0, l4 = 0, l5 = 0, l6 = 0, l7 = 0, l8 = 0, l9 = 0;
   u8 *m = self->memory;
@@ -49395,7 +48811,7 @@ static void f42(module *self, u64 p0, u32 p1, u32 p2) {
   j1 = 2072ull;
   j0 += j1;
   j1 = 6ull;
-  i0 = f14(self, j0, j1); m = self->memory; if (NEVER(self->is_broken)) return;
+  i0 = f15(self, j0, j1); m = self->memory; if (NEVER(self->is_broken)) return;
   i0 = !(i0);
   if (i0) {goto B0;}
   j0 = p0;
@@ -49496,7 +48912,7 @@ static void f42(module *self, u64 p0, u32 p1, u32 p2) {
   i1 = (u32)(j1);
   i1 = i32_load8_u(j1);
   i2 = p2;
-  i0 = f50(self, j0, i1, i2);
+  i0 = f51(self, j0, i1, i2);
   p2 = i0;
   j0 = p0;
   j1 = 68ull;
@@ -49580,7 +48996,7 @@ static void f42(module *self, u64 p0, u32 p1, u32 p2) {
   B2:;
 }
 
-static u32 f43(module *self, u64 p0, u64 p1, u32 p2, u32 p3, u32 p4, u32 p5) {
+static u32 f44(module *self, u64 p0, u64 p1, u32 p2, u32 p3, u32 p4, u32 p5) {
   u32 l7 = 0;
   u64 l6 = 0;
   u8 *m = self->memory;
@@ -49623,7 +49039,7 @@ static u32 f43(module *self, u64 p0, u64 p1, u32 p2, u32 p3, u32 p4, u32 p5) {
   i2 = (u32)(j2);
   i2 = i32_load8_u(j2);
   i3 = p2;
-  i0 = f53(self, j0, j1, i2, i3); m = self->memory; if (NEVER(self->is_broken)) return ZAK_BROKEN;
+  i0 = f54(self, j0, j1, i2, i3); m = self->memory; if (NEVER(self->is_broken)) return ZAK_BROKEN;
   goto Bfunc;
   B2:;
   i0 = p2;
@@ -49657,7 +49073,7 @@ static u32 f43(module *self, u64 p0, u64 p1, u32 p2, u32 p3, u32 p4, u32 p5) {
   i3 = p3;
   i4 = p4;
   i5 = p5;
-  f41(self, j0, j1, i2, i3, i4, i5); m = self->memory; if (NEVER(self->is_broken)) return ZAK_BROKEN;
+  f42(self, j0, j1, i2, i3, i4, i5); m = self->memory; if (NEVER(self->is_broken)) return ZAK_BROKEN;
   i0 = l7;
   i1 = 1u;
   i0 += i1;
@@ -49684,7 +49100,7 @@ static u32 f43(module *self, u64 p0, u64 p1, u32 p2, u32 p3, u32 p4, u32 p5) {
   i2 = (u32)(j2);
   i2 = i32_load8_u(j2);
   i3 = p2;
-  i0 = f53(self, j0, j1, i2, i3); m = self->memory; if (NEVER(self->is_broken)) return ZAK_BROKEN;
+  i0 = f54(self, j0, j1, i2, i3); m = self->memory; if (NEVER(self->is_broken)) return ZAK_BROKEN;
   i1 = 65280u;
   i0 &= i1;
   p2 = i0;
@@ -49694,7 +49110,7 @@ static u32 f43(module *self, u64 p0, u64 p1, u32 p2, u32 p3, u32 p4, u32 p5) {
   return i0;
 }
 
-static void f44(module *self, u64 p0, u32 p1, u32 p2, u32 p3) {
+static void f45(module *self, u64 p0, u32 p1, u32 p2, u32 p3) {
   u32 l12 = 0;
   u64 l4 = 0, l5 = 0, l6 = 0, l7 = 0, l8 = 0, l9 = 0, l10 = 0, l11 = 0;
   u8 *m = self->memory;
@@ -49756,7 +49172,7 @@ static void f44(module *self, u64 p0, u32 p1, u32 p2, u32 p3) {
   j1 = 2072ull;
   j0 += j1;
   j1 = 3ull;
-  i0 = f14(self, j0, j1); m = self->memory; if (NEVER(self->is_broken)) return;
+  i0 = f15(self, j0, j1); m = self->memory; if (NEVER(self->is_broken)) return;
   i0 = !(i0);
   if (i0) {goto B0;}
   j0 = p0;
@@ -49817,21 +49233,21 @@ static void f44(module *self, u64 p0, u32 p1, u32 p2, u32 p3) {
   j0 += j1;
   j1 = p0;
   i2 = l12;
-  f30(self, j0, j1, i2); if (NEVER(self->is_broken)) return;
+  f31(self, j0, j1, i2); if (NEVER(self->is_broken)) return;
   j0 = p0;
   i1 = p2;
   i2 = p3;
-  f45(self, j0, i1, i2); m = self->memory; if (NEVER(self->is_broken)) return;
+  f46(self, j0, i1, i2); m = self->memory; if (NEVER(self->is_broken)) return;
   j0 = p0;
   i1 = p1;
-  f46(self, j0, i1); m = self->memory; if (NEVER(self->is_broken)) return;
+  f47(self, j0, i1); m = self->memory; if (NEVER(self->is_broken)) return;
   j0 = l4;
   j1 = 16ull;
   j0 += j1;
   self->g0 = j0;
 }
 
-static void f45(module *self, u64 p0, u32 p1, u32 p2) {
+static void f46(module *self, u64 p0, u32 p1, u32 p2) {
   u32 l11 = 0, l12 = 0, l13 = 0;
   u64 l3 = 0, l4 = 0, l5 = 0, l6 = 0, l7 = 0, l8 = 0, l9 = 0, l10 = 0;
   u8 *m = self->memory;
@@ -49889,7 +49305,7 @@ static void f45(module *self, u64 p0, u32 p1, u32 p2) {
   j1 = 2072ull;
   j0 += j1;
   j1 = 4ull;
-  i0 = f14(self, j0, j1); m = self->memory; if (NEVER(self->is_broken)) return;
+  i0 = f15(self, j0, j1); m = self->memory; if (NEVER(self->is_broken)) return;
   i0 = !(i0);
   if (i0) {goto B0;}
   j0 = p0;
@@ -49988,7 +49404,7 @@ static void f45(module *self, u64 p0, u32 p1, u32 p2) {
   i32_store8(j0, i1);
   j0 = l3;
   j1 = l4;
-  f27(self, j0, j1);
+  f28(self, j0, j1);
   j0 = p0;
   j1 = 196ull;
   j0 += j1;
@@ -50072,7 +49488,7 @@ static void f45(module *self, u64 p0, u32 p1, u32 p2) {
   j1 = 2072ull;
   j0 += j1;
   j1 = 4ull;
-  i0 = f14(self, j0, j1); m = self->memory; if (NEVER(self->is_broken)) return;
+  i0 = f15(self, j0, j1); m = self->memory; if (NEVER(self->is_broken)) return;
   i0 = !(i0);
   if (i0) {goto B6;}
   j0 = p0;
@@ -50167,7 +49583,7 @@ static void f45(module *self, u64 p0, u32 p1, u32 p2) {
   i32_store8(j0, i1);
   j0 = l3;
   j1 = l4;
-  f27(self, j0, j1);
+  f28(self, j0, j1);
   j0 = p0;
   j1 = 196ull;
   j0 += j1;
@@ -50210,7 +49626,7 @@ static void f45(module *self, u64 p0, u32 p1, u32 p2) {
   self->g0 = j0;
 }
 
-static void f46(module *self, u64 p0, u32 p1) {
+static void f47(module *self, u64 p0, u32 p1) {
   u32 l10 = 0, l11 = 0, l12 = 0;
   u64 l2 = 0, l3 = 0, l4 = 0, l5 = 0, l6 = 0, l7 = 0, l8 = 0, l9 = 0;
   u8 *m = self->memory;
@@ -50268,7 +49684,7 @@ static void f46(module *self, u64 p0, u32 p1) {
   j1 = 2072ull;
   j0 += j1;
   j1 = 4ull;
-  i0 = f14(self, j0, j1); m = self->memory; if (NEVER(self->is_broken)) return;
+  i0 = f15(self, j0, j1); m = self->memory; if (NEVER(self->is_broken)) return;
   i0 = !(i0);
   if (i0) {goto B0;}
   j0 = p0;
@@ -50364,7 +49780,7 @@ static void f46(module *self, u64 p0, u32 p1) {
   j1 = 16ull;
   j0 += j1;
   j1 = l4;
-  f27(self, j0, j1);
+  f28(self, j0, j1);
   j0 = p0;
   j1 = 196ull;
   j0 += j1;
@@ -50450,7 +49866,7 @@ static void f46(module *self, u64 p0, u32 p1) {
   j1 = 2072ull;
   j0 += j1;
   j1 = 3ull;
-  i0 = f14(self, j0, j1); m = self->memory; if (NEVER(self->is_broken)) return;
+  i0 = f15(self, j0, j1); m = self->memory; if (NEVER(self->is_broken)) return;
   i0 = !(i0);
   if (i0) {goto B6;}
   j0 = p0;
@@ -50511,14 +49927,14 @@ static void f46(module *self, u64 p0, u32 p1) {
   j0 += j1;
   j1 = p0;
   i2 = p1;
-  f30(self, j0, j1, i2); if (NEVER(self->is_broken)) return;
+  f31(self, j0, j1, i2); if (NEVER(self->is_broken)) return;
   j0 = l2;
   j1 = 32ull;
   j0 += j1;
   self->g0 = j0;
 }
 
-static void f47(module *self, u64 p0, u32 p1, u32 p2) {
+static void f48(module *self, u64 p0, u32 p1, u32 p2) {
   u32 l3 = 0, l4 = 0;
   u8 *m = self->memory;
   u32 i0, i1, i2, i3, i4;
@@ -50782,7 +50198,7 @@ static void f47(module *self, u64 p0, u32 p1, u32 p2) {
   i32_store8(j0, i1);
 }
 
-static void f48(module *self, u64 p0, u64 p1, u32 p2, u32 p3) {
+static void f49(module *self, u64 p0, u64 p1, u32 p2, u32 p3) {
   u32 l7 = 0, l8 = 0;
   u64 l4 = 0, l5 = 0, l6 = 0;
   u8 *m = self->memory;
@@ -50874,7 +50290,7 @@ static void f48(module *self, u64 p0, u64 p1, u32 p2, u32 p3) {
   i32_store8(j0, i1);
   j0 = l4;
   j1 = l6;
-  f27(self, j0, j1);
+  f28(self, j0, j1);
   j0 = p1;
   j1 = 196ull;
   j0 += j1;
@@ -51531,7 +50947,7 @@ static void f48(module *self, u64 p0, u64 p1, u32 p2, u32 p3) {
   self->g0 = j0;
 }
 
-static void f49(module *self, u64 p0, u32 p1, u32 p2) {
+static void f50(module *self, u64 p0, u32 p1, u32 p2) {
   u64 l3 = 0, l4 = 0, l5 = 0, l6 = 0, l7 = 0, l8 = 0;
   u8 *m = self->memory;
   u32 i0, i1, i2;
@@ -51591,7 +51007,7 @@ static void f49(module *self, u64 p0, u32 p1, u32 p2) {
   j1 = 2072ull;
   j0 += j1;
   j1 = 4ull;
-  i0 = f14(self, j0, j1); m = self->memory; if (NEVER(self->is_broken)) return;
+  i0 = f15(self, j0, j1); m = self->memory; if (NEVER(self->is_broken)) return;
   i0 = !(i0);
   if (i0) {goto B4;}
   j0 = p0;
@@ -51694,7 +51110,7 @@ static void f49(module *self, u64 p0, u32 p1, u32 p2) {
   j1 = 2072ull;
   j0 += j1;
   j1 = 4ull;
-  i0 = f14(self, j0, j1); m = self->memory; if (NEVER(self->is_broken)) return;
+  i0 = f15(self, j0, j1); m = self->memory; if (NEVER(self->is_broken)) return;
   i0 = !(i0);
   if (i0) {goto B6;}
   j0 = p0;
@@ -51846,7 +51262,7 @@ static void f49(module *self, u64 p0, u32 p1, u32 p2) {
   B0:;
 }
 
-static u32 f50(module *self, u64 p0, u32 p1, u32 p2) {
+static u32 f51(module *self, u64 p0, u32 p1, u32 p2) {
   u32 l3 = 0, l4 = 0, l5 = 0, l6 = 0;
   u8 *m = self->memory;
   u32 i0, i1, i2, i3, i4;
@@ -52055,7 +51471,7 @@ static u32 f50(module *self, u64 p0, u32 p1, u32 p2) {
   return i0;
 }
 
-static void f51(module *self, u64 p0, u64 p1, u32 p2, u32 p3) {
+static void f52(module *self, u64 p0, u64 p1, u32 p2, u32 p3) {
   u32 l4 = 0, l5 = 0, l6 = 0, l7 = 0, l8 = 0, l9 = 0, l10 = 0, l11 = 0, 
       l12 = 0, l13 = 0, l14 = 0, l15 = 0, l16 = 0, l17 = 0, l18 = 0, l19 = 0, 
       l20 = 0;
@@ -52166,7 +51582,7 @@ static void f51(module *self, u64 p0, u64 p1, u32 p2, u32 p3) {
       j1 = 2072ull;
       j0 += j1;
       j1 = 5ull;
-      i0 = f14(self, j0, j1); m = self->memory; if (NEVER(self->is_broken)) return;
+      i0 = f15(self, j0, j1); m = self->memory; if (NEVER(self->is_broken)) return;
       i0 = !(i0);
       if (i0) {goto B3;}
       j0 = p1;
@@ -52432,7 +51848,7 @@ static void f51(module *self, u64 p0, u64 p1, u32 p2, u32 p3) {
       j1 = 2072ull;
       j0 += j1;
       j1 = 6ull;
-      i0 = f14(self, j0, j1); m = self->memory; if (NEVER(self->is_broken)) return;
+      i0 = f15(self, j0, j1); m = self->memory; if (NEVER(self->is_broken)) return;
       i0 = !(i0);
       if (i0) {goto B11;}
       j0 = p1;
@@ -52853,7 +52269,7 @@ static void f51(module *self, u64 p0, u64 p1, u32 p2, u32 p3) {
   B0:;
 }
 
-static void f52(module *self, u64 p0, u64 p1, u32 p2, u32 p3, u32 p4) {
+static void f53(module *self, u64 p0, u64 p1, u32 p2, u32 p3, u32 p4) {
   u32 l5 = 0, l6 = 0, l7 = 0, l8 = 0, l9 = 0, l10 = 0, l11 = 0, l12 = 0, 
       l13 = 0, l14 = 0, l15 = 0, l16 = 0, l17 = 0, l18 = 0, l19 = 0, l20 = 0, 
       l21 = 0;
@@ -52963,7 +52379,7 @@ static void f52(module *self, u64 p0, u64 p1, u32 p2, u32 p3, u32 p4) {
       j1 = 2072ull;
       j0 += j1;
       j1 = 6ull;
-      i0 = f14(self, j0, j1); m = self->memory; if (NEVER(self->is_broken)) return;
+      i0 = f15(self, j0, j1); m = self->memory; if (NEVER(self->is_broken)) return;
       i0 = !(i0);
       if (i0) {goto B3;}
       j0 = p1;
@@ -53380,7 +52796,7 @@ static void f52(module *self, u64 p0, u64 p1, u32 p2, u32 p3, u32 p4) {
   B0:;
 }
 
-static u32 f53(module *self, u64 p0, u64 p1, u32 p2, u32 p3) {
+static u32 f54(module *self, u64 p0, u64 p1, u32 p2, u32 p3) {
   u32 l12 = 0, l13 = 0, l14 = 0;
   u64 l4 = 0, l5 = 0, l6 = 0, l7 = 0, l8 = 0, l9 = 0, l10 = 0, l11 = 0;
   u8 *m = self->memory;
@@ -53515,7 +52931,7 @@ static u32 f53(module *self, u64 p0, u64 p1, u32 p2, u32 p3) {
   j1 = 2072ull;
   j0 += j1;
   j1 = 5ull;
-  i0 = f14(self, j0, j1); m = self->memory; if (NEVER(self->is_broken)) return ZAK_BROKEN;
+  i0 = f15(self, j0, j1); m = self->memory; if (NEVER(self->is_broken)) return ZAK_BROKEN;
   i0 = !(i0);
   if (i0) {goto B3;}
   j0 = p0;
@@ -53568,7 +52984,7 @@ static u32 f53(module *self, u64 p0, u64 p1, u32 p2, u32 p3) {
   j0 += j1;
   j1 = p0;
   i2 = l13;
-  f38(self, j0, j1, i2);
+  f39(self, j0, j1, i2);
   i0 = 4294967295u;
   j1 = l4;
   i1 = (u32)(j1);
@@ -53630,7 +53046,7 @@ static u32 f53(module *self, u64 p0, u64 p1, u32 p2, u32 p3) {
   j4 = l4;
   j5 = 32ull;
   j4 += j5;
-  f37(self, j0, j1, j2, i3, j4); m = self->memory; if (NEVER(self->is_broken)) return ZAK_BROKEN;
+  f38(self, j0, j1, j2, i3, j4); m = self->memory; if (NEVER(self->is_broken)) return ZAK_BROKEN;
   B0:;
   j0 = l4;
   j1 = 48ull;
@@ -53640,7 +53056,7 @@ static u32 f53(module *self, u64 p0, u64 p1, u32 p2, u32 p3) {
   return i0;
 }
 
-static void f54(module *self, u64 p0, u32 p1, u32 p2, u32 p3, u32 p4) {
+static void f55(module *self, u64 p0, u32 p1, u32 p2, u32 p3, u32 p4) {
   u32 l5 = 0, l6 = 0, l7 = 0, l8 = 0, l9 = 0, l10 = 0, l11 = 0, l12 = 0, 
       l13 = 0, l14 = 0, l15 = 0, l16 = 0, l17 = 0;
   u64 l18 = 0;
@@ -53693,12 +53109,12 @@ static void f54(module *self, u64 p0, u32 p1, u32 p2, u32 p3, u32 p4) {
   i1 = i32_load8_u(j1);
   l12 = i1;
   i2 = p3;
-  i0 = f50(self, j0, i1, i2);
+  i0 = f51(self, j0, i1, i2);
   l13 = i0;
   j0 = p0;
   i1 = l12;
   i2 = p4;
-  i0 = f50(self, j0, i1, i2);
+  i0 = f51(self, j0, i1, i2);
   l14 = i0;
   j0 = p0;
   j1 = 2003ull;
@@ -54065,7 +53481,7 @@ static void f54(module *self, u64 p0, u32 p1, u32 p2, u32 p3, u32 p4) {
   B5:;
 }
 
-static void f55(module *self, u64 p0, u64 p1) {
+static void f56(module *self, u64 p0, u64 p1) {
   u32 l2 = 0, l3 = 0, l4 = 0, l5 = 0;
   u64 l6 = 0, l7 = 0, l8 = 0;
   u8 *m = self->memory;
@@ -54301,7 +53717,7 @@ static void f55(module *self, u64 p0, u64 p1) {
   i32_store(j0, i1);
 }
 
-static void f56(module *self, u64 p0, u64 p1, u32 p2, u64 p3, u64 p4) {
+static void f57(module *self, u64 p0, u64 p1, u32 p2, u64 p3, u64 p4) {
   u32 l5 = 0, l6 = 0, l7 = 0, l8 = 0;
   u64 l9 = 0, l10 = 0;
   u8 *m = self->memory;
@@ -54950,7 +54366,7 @@ static void f56(module *self, u64 p0, u64 p1, u32 p2, u64 p3, u64 p4) {
   Bfunc:;
 }
 
-static u32 f57(module *self, u64 p0, u32 p1) {
+static u32 f58(module *self, u64 p0, u32 p1) {
   u32 l3 = 0, l4 = 0, l5 = 0;
   u64 l2 = 0;
   u8 *m = self->memory;
@@ -55116,7 +54532,7 @@ static u32 f57(module *self, u64 p0, u32 p1) {
   return i0;
 }
 
-static void f58(module *self, u64 p0, u64 p1, u32 p2, u32 p3) {
+static void f59(module *self, u64 p0, u64 p1, u32 p2, u32 p3) {
   u32 l5 = 0, l6 = 0, l7 = 0, l8 = 0, l9 = 0;
   u64 l4 = 0;
   u8 *m = self->memory;
@@ -55390,7 +54806,7 @@ static void f58(module *self, u64 p0, u64 p1, u32 p2, u32 p3) {
   B12:;
   j0 = p1;
   i1 = l7;
-  i0 = f57(self, j0, i1); if (NEVER(self->is_broken)) return;
+  i0 = f58(self, j0, i1); if (NEVER(self->is_broken)) return;
   p2 = i0;
   j0 = p0;
   j1 = 4ull;
@@ -55426,7 +54842,7 @@ static void f58(module *self, u64 p0, u64 p1, u32 p2, u32 p3) {
   j0 += j1;
   j1 = p1;
   i2 = p3;
-  f30(self, j0, j1, i2); if (NEVER(self->is_broken)) return;
+  f31(self, j0, j1, i2); if (NEVER(self->is_broken)) return;
   j0 = p0;
   j1 = 4ull;
   j0 += j1;
@@ -55446,7 +54862,7 @@ static void f58(module *self, u64 p0, u64 p1, u32 p2, u32 p3) {
   self->g0 = j0;
 }
 
-static void f59(module *self, u64 p0, u64 p1, u32 p2) {
+static void f60(module *self, u64 p0, u64 p1, u32 p2) {
   u32 l4 = 0, l5 = 0, l6 = 0, l7 = 0;
   u64 l3 = 0;
   u8 *m = self->memory;
@@ -55555,7 +54971,7 @@ static void f59(module *self, u64 p0, u64 p1, u32 p2) {
   j0 += j1;
   j1 = p1;
   i2 = p2;
-  f30(self, j0, j1, i2); if (NEVER(self->is_broken)) return;
+  f31(self, j0, j1, i2); if (NEVER(self->is_broken)) return;
   j0 = l3;
   i0 = (u32)(j0);
   i0 = i32_load8_u(j0 + 25u);
@@ -55571,7 +54987,7 @@ static void f59(module *self, u64 p0, u64 p1, u32 p2) {
   i2 = p2;
   i3 = 1u;
   i2 += i3;
-  f30(self, j0, j1, i2); if (NEVER(self->is_broken)) return;
+  f31(self, j0, j1, i2); if (NEVER(self->is_broken)) return;
   j0 = l3;
   i0 = (u32)(j0);
   i0 = i32_load8_u(j0 + 17u);
@@ -55603,7 +55019,7 @@ static void f59(module *self, u64 p0, u64 p1, u32 p2) {
   j0 += j1;
   j1 = p1;
   i2 = 964u;
-  f30(self, j0, j1, i2); if (NEVER(self->is_broken)) return;
+  f31(self, j0, j1, i2); if (NEVER(self->is_broken)) return;
   j0 = l3;
   i0 = (u32)(j0);
   i0 = i32_load8_u(j0 + 41u);
@@ -55617,7 +55033,7 @@ static void f59(module *self, u64 p0, u64 p1, u32 p2) {
   j0 += j1;
   j1 = p1;
   i2 = 965u;
-  f30(self, j0, j1, i2); if (NEVER(self->is_broken)) return;
+  f31(self, j0, j1, i2); if (NEVER(self->is_broken)) return;
   j0 = l3;
   i0 = (u32)(j0);
   i0 = i32_load8_u(j0 + 33u);
@@ -55649,7 +55065,7 @@ static void f59(module *self, u64 p0, u64 p1, u32 p2) {
   j0 += j1;
   j1 = p1;
   i2 = 968u;
-  f30(self, j0, j1, i2); if (NEVER(self->is_broken)) return;
+  f31(self, j0, j1, i2); if (NEVER(self->is_broken)) return;
   j0 = l3;
   i0 = (u32)(j0);
   i0 = i32_load8_u(j0 + 57u);
@@ -55663,7 +55079,7 @@ static void f59(module *self, u64 p0, u64 p1, u32 p2) {
   j0 += j1;
   j1 = p1;
   i2 = 969u;
-  f30(self, j0, j1, i2); if (NEVER(self->is_broken)) return;
+  f31(self, j0, j1, i2); if (NEVER(self->is_broken)) return;
   j0 = l3;
   i0 = (u32)(j0);
   i0 = i32_load8_u(j0 + 49u);
@@ -55695,7 +55111,7 @@ static void f59(module *self, u64 p0, u64 p1, u32 p2) {
   j0 += j1;
   j1 = p1;
   i2 = 974u;
-  f30(self, j0, j1, i2); if (NEVER(self->is_broken)) return;
+  f31(self, j0, j1, i2); if (NEVER(self->is_broken)) return;
   j0 = l3;
   i0 = (u32)(j0);
   i0 = i32_load8_u(j0 + 73u);
@@ -55715,7 +55131,7 @@ static void f59(module *self, u64 p0, u64 p1, u32 p2) {
   j0 += j1;
   j1 = p1;
   i2 = 975u;
-  f30(self, j0, j1, i2); if (NEVER(self->is_broken)) return;
+  f31(self, j0, j1, i2); if (NEVER(self->is_broken)) return;
   j0 = l3;
   i0 = (u32)(j0);
   i0 = i32_load8_u(j0 + 65u);
@@ -55747,7 +55163,7 @@ static void f59(module *self, u64 p0, u64 p1, u32 p2) {
   j0 += j1;
   j1 = p1;
   i2 = p2;
-  f30(self, j0, j1, i2); if (NEVER(self->is_broken)) return;
+  f31(self, j0, j1, i2); if (NEVER(self->is_broken)) return;
   j0 = l3;
   i0 = (u32)(j0);
   i0 = i32_load8_u(j0 + 9u);
@@ -55766,7 +55182,7 @@ static void f59(module *self, u64 p0, u64 p1, u32 p2) {
   i2 = p2;
   i3 = 1u;
   i2 += i3;
-  f30(self, j0, j1, i2); if (NEVER(self->is_broken)) return;
+  f31(self, j0, j1, i2); if (NEVER(self->is_broken)) return;
   j0 = l3;
   i0 = (u32)(j0);
   i0 = i32_load8_u(j0 + 1u);
@@ -55812,7 +55228,7 @@ static void f59(module *self, u64 p0, u64 p1, u32 p2) {
   j0 += j1;
   j1 = p1;
   i2 = 965u;
-  f60(self, j0, j1, i2); if (NEVER(self->is_broken)) return;
+  f61(self, j0, j1, i2); if (NEVER(self->is_broken)) return;
   j0 = l3;
   i0 = (u32)(j0);
   i0 = i32_load16_u(j0 + 78u);
@@ -55864,7 +55280,7 @@ static void f59(module *self, u64 p0, u64 p1, u32 p2) {
   self->g0 = j0;
 }
 
-static void f60(module *self, u64 p0, u64 p1, u32 p2) {
+static void f61(module *self, u64 p0, u64 p1, u32 p2) {
   u32 l4 = 0, l5 = 0, l6 = 0;
   u64 l3 = 0;
   u8 *m = self->memory;
@@ -55880,7 +55296,7 @@ static void f60(module *self, u64 p0, u64 p1, u32 p2) {
   j0 += j1;
   j1 = p1;
   i2 = p2;
-  f30(self, j0, j1, i2); if (NEVER(self->is_broken)) return;
+  f31(self, j0, j1, i2); if (NEVER(self->is_broken)) return;
   i0 = 0u;
   l4 = i0;
   i0 = 1u;
@@ -55898,7 +55314,7 @@ static void f60(module *self, u64 p0, u64 p1, u32 p2) {
   i2 = p2;
   i3 = 1u;
   i2 += i3;
-  f30(self, j0, j1, i2); if (NEVER(self->is_broken)) return;
+  f31(self, j0, j1, i2); if (NEVER(self->is_broken)) return;
   j0 = l3;
   i0 = (u32)(j0);
   i0 = i32_load8_u(j0 + 1u);
@@ -55948,7 +55364,7 @@ static void f60(module *self, u64 p0, u64 p1, u32 p2) {
   self->g0 = j0;
 }
 
-static void f61(module *self, u64 p0, u64 p1, u64 p2, u64 p3, u64 p4, u64 p5, u64 p6) {
+static void f62(module *self, u64 p0, u64 p1, u64 p2, u64 p3, u64 p4, u64 p5, u64 p6) {
   u32 l20 = 0, l21 = 0, l22 = 0, l23 = 0, l24 = 0, l25 = 0, l26 = 0, l27 = 0, 
       l28 = 0, l29 = 0, l30 = 0, l31 = 0, l32 = 0, l33 = 0, l34 = 0, l35 = 0, 
       l36 = 0, l37 = 0, l38 = 0, l39 = 0, l40 = 0, l41 = 0, l42 = 0, l43 = 0, 
@@ -55986,7 +55402,7 @@ static void f61(module *self, u64 p0, u64 p1, u64 p2, u64 p3, u64 p4, u64 p5, u6
   j1 = 272ull;
   j0 += j1;
   j1 = p4;
-  f20(self, j0, j1);
+  f21(self, j0, j1);
   j0 = l7;
   i0 = (u32)(j0);
   i0 = i32_load8_u(j0 + 272u);
@@ -56681,7 +56097,7 @@ static void f61(module *self, u64 p0, u64 p1, u64 p2, u64 p3, u64 p4, u64 p5, u6
   i3 = 6u;
   i2 += i3;
   l49 = i2;
-  f30(self, j0, j1, i2); if (NEVER(self->is_broken)) return;
+  f31(self, j0, j1, i2); if (NEVER(self->is_broken)) return;
   j0 = p1;
   j1 = 188ull;
   j0 += j1;
@@ -56750,7 +56166,7 @@ static void f61(module *self, u64 p0, u64 p1, u64 p2, u64 p3, u64 p4, u64 p5, u6
     j1 = 304ull;
     j0 += j1;
     j1 = p2;
-    f27(self, j0, j1);
+    f28(self, j0, j1);
     j0 = l8;
     i0 = (u32)(j0);
     j1 = l7;
@@ -56800,7 +56216,7 @@ static void f61(module *self, u64 p0, u64 p1, u64 p2, u64 p3, u64 p4, u64 p5, u6
     j0 += j1;
     j1 = p1;
     i2 = l49;
-    f30(self, j0, j1, i2); if (NEVER(self->is_broken)) return;
+    f31(self, j0, j1, i2); if (NEVER(self->is_broken)) return;
     j0 = l7;
     j1 = 320ull;
     j0 += j1;
@@ -56874,7 +56290,7 @@ static void f61(module *self, u64 p0, u64 p1, u64 p2, u64 p3, u64 p4, u64 p5, u6
   j1 = 304ull;
   j0 += j1;
   j1 = p2;
-  f27(self, j0, j1);
+  f28(self, j0, j1);
   j0 = l8;
   i0 = (u32)(j0);
   j1 = l7;
@@ -56913,7 +56329,7 @@ static void f61(module *self, u64 p0, u64 p1, u64 p2, u64 p3, u64 p4, u64 p5, u6
   j0 += j1;
   j1 = p1;
   i2 = l49;
-  f30(self, j0, j1, i2); if (NEVER(self->is_broken)) return;
+  f31(self, j0, j1, i2); if (NEVER(self->is_broken)) return;
   j0 = l7;
   i0 = (u32)(j0);
   i1 = l39;
@@ -56954,7 +56370,7 @@ static void f61(module *self, u64 p0, u64 p1, u64 p2, u64 p3, u64 p4, u64 p5, u6
   j1 *= j2;
   l8 = j1;
   j2 = 1ull;
-  f163(self, j0, j1, j2); m = self->memory; if (NEVER(self->is_broken)) return;
+  f164(self, j0, j1, j2); m = self->memory; if (NEVER(self->is_broken)) return;
   i0 = 1u;
   l20 = i0;
   i0 = 0u;
@@ -56997,7 +56413,7 @@ static void f61(module *self, u64 p0, u64 p1, u64 p2, u64 p3, u64 p4, u64 p5, u6
   j0 += j1;
   j1 = 24ull;
   j2 = 8ull;
-  f163(self, j0, j1, j2); m = self->memory; if (NEVER(self->is_broken)) return;
+  f164(self, j0, j1, j2); m = self->memory; if (NEVER(self->is_broken)) return;
   i0 = 1u;
   l20 = i0;
   j0 = l7;
@@ -57008,7 +56424,7 @@ static void f61(module *self, u64 p0, u64 p1, u64 p2, u64 p3, u64 p4, u64 p5, u6
   i0 &= i1;
   if (i0) {goto B40;}
   j0 = p2;
-  f166(self, j0);
+  f167(self, j0);
   i0 = 0u;
   l48 = i0;
   goto B7;
@@ -57286,7 +56702,7 @@ static void f61(module *self, u64 p0, u64 p1, u64 p2, u64 p3, u64 p4, u64 p5, u6
   i2 = (u32)(j2);
   i3 = 255u;
   i2 &= i3;
-  f24(self, j0, i1, i2);
+  f25(self, j0, i1, i2);
   i0 = 1u;
   l39 = i0;
   j0 = l7;
@@ -57334,56 +56750,56 @@ static void f61(module *self, u64 p0, u64 p1, u64 p2, u64 p3, u64 p4, u64 p5, u6
   j4 = l7;
   i4 = (u32)(j4);
   i4 = i32_load8_u(j4 + 336u);
-  f62(self, j0, j1, j2, j3, i4);
+  f63(self, j0, j1, j2, j3, i4);
   j0 = p1;
   i1 = l48;
   i2 = 9u;
   i3 = l52;
-  f63(self, j0, i1, i2, i3);
+  f64(self, j0, i1, i2, i3);
   j0 = p1;
   i1 = l48;
   i2 = 10u;
   i3 = l49;
   i4 = 8u;
   i3 >>= (i4 & 31);
-  f63(self, j0, i1, i2, i3);
+  f64(self, j0, i1, i2, i3);
   j0 = p1;
   i1 = l48;
   i2 = 11u;
   i3 = l49;
-  f63(self, j0, i1, i2, i3);
+  f64(self, j0, i1, i2, i3);
   j0 = p1;
   i1 = l48;
   i2 = 18u;
   i3 = l51;
-  f63(self, j0, i1, i2, i3);
+  f64(self, j0, i1, i2, i3);
   j0 = p1;
   i1 = l48;
   i2 = 20u;
   i3 = l39;
-  f63(self, j0, i1, i2, i3);
+  f64(self, j0, i1, i2, i3);
   i0 = 0u;
   l39 = i0;
   j0 = p1;
   i1 = l48;
   i2 = 12u;
   i3 = 0u;
-  f63(self, j0, i1, i2, i3);
+  f64(self, j0, i1, i2, i3);
   j0 = p1;
   i1 = l48;
   i2 = 13u;
   i3 = 0u;
-  f63(self, j0, i1, i2, i3);
+  f64(self, j0, i1, i2, i3);
   j0 = p1;
   i1 = l48;
   i2 = 14u;
   i3 = 0u;
-  f63(self, j0, i1, i2, i3);
+  f64(self, j0, i1, i2, i3);
   j0 = p1;
   i1 = l48;
   i2 = 15u;
   i3 = 0u;
-  f63(self, j0, i1, i2, i3);
+  f64(self, j0, i1, i2, i3);
   j0 = p2;
   i0 = (u32)(j0);
   j1 = 0ull;
@@ -57546,7 +56962,7 @@ static void f61(module *self, u64 p0, u64 p1, u64 p2, u64 p3, u64 p4, u64 p5, u6
   j2 = 420ull;
   j1 += j2;
   j2 = p2;
-  f34(self, j0, j1, j2);
+  f35(self, j0, j1, j2);
   j0 = l7;
   j1 = 256ull;
   j0 += j1;
@@ -57555,7 +56971,7 @@ static void f61(module *self, u64 p0, u64 p1, u64 p2, u64 p3, u64 p4, u64 p5, u6
   j1 += j2;
   j2 = p2;
   j3 = p6;
-  f35(self, j0, j1, j2, j3);
+  f36(self, j0, j1, j2, j3);
   j0 = l7;
   i0 = (u32)(j0);
   i0 = i32_load8_u(j0 + 256u);
@@ -57656,12 +57072,12 @@ static void f61(module *self, u64 p0, u64 p1, u64 p2, u64 p3, u64 p4, u64 p5, u6
   i3 = l75;
   i4 = 8u;
   i3 >>= (i4 & 31);
-  f63(self, j0, i1, i2, i3);
+  f64(self, j0, i1, i2, i3);
   j0 = p1;
   i1 = l39;
   i2 = 11u;
   i3 = l75;
-  f63(self, j0, i1, i2, i3);
+  f64(self, j0, i1, i2, i3);
   j0 = p2;
   j1 = 24ull;
   j0 += j1;
@@ -57728,12 +57144,12 @@ static void f61(module *self, u64 p0, u64 p1, u64 p2, u64 p3, u64 p4, u64 p5, u6
   l20 = i3;
   i4 = 8u;
   i3 >>= (i4 & 31);
-  f63(self, j0, i1, i2, i3);
+  f64(self, j0, i1, i2, i3);
   j0 = p1;
   i1 = l39;
   i2 = 15u;
   i3 = l20;
-  f63(self, j0, i1, i2, i3);
+  f64(self, j0, i1, i2, i3);
   goto B56;
   B70:;
   j0 = l7;
@@ -57786,12 +57202,12 @@ static void f61(module *self, u64 p0, u64 p1, u64 p2, u64 p3, u64 p4, u64 p5, u6
   l20 = i3;
   i4 = 8u;
   i3 >>= (i4 & 31);
-  f63(self, j0, i1, i2, i3);
+  f64(self, j0, i1, i2, i3);
   j0 = p1;
   i1 = l39;
   i2 = 13u;
   i3 = l20;
-  f63(self, j0, i1, i2, i3);
+  f64(self, j0, i1, i2, i3);
   j0 = p2;
   j1 = 6ull;
   j0 += j1;
@@ -57851,12 +57267,12 @@ static void f61(module *self, u64 p0, u64 p1, u64 p2, u64 p3, u64 p4, u64 p5, u6
   l20 = i3;
   i4 = 8u;
   i3 >>= (i4 & 31);
-  f63(self, j0, i1, i2, i3);
+  f64(self, j0, i1, i2, i3);
   j0 = p1;
   i1 = l39;
   i2 = 15u;
   i3 = l20;
-  f63(self, j0, i1, i2, i3);
+  f64(self, j0, i1, i2, i3);
   goto B56;
   B68:;
   j0 = l7;
@@ -57963,7 +57379,7 @@ static void f61(module *self, u64 p0, u64 p1, u64 p2, u64 p3, u64 p4, u64 p5, u6
   j4 = l7;
   j5 = 304ull;
   j4 += j5;
-  f64(self, j0, j1, j2, i3, j4); if (NEVER(self->is_broken)) return;
+  f65(self, j0, j1, j2, i3, j4); if (NEVER(self->is_broken)) return;
   goto B56;
   B67:;
   j0 = l7;
@@ -58074,7 +57490,7 @@ static void f61(module *self, u64 p0, u64 p1, u64 p2, u64 p3, u64 p4, u64 p5, u6
   j4 = l7;
   j5 = 304ull;
   j4 += j5;
-  f64(self, j0, j1, j2, i3, j4); if (NEVER(self->is_broken)) return;
+  f65(self, j0, j1, j2, i3, j4); if (NEVER(self->is_broken)) return;
   goto B56;
   B66:;
   j0 = p2;
@@ -58135,7 +57551,7 @@ static void f61(module *self, u64 p0, u64 p1, u64 p2, u64 p3, u64 p4, u64 p5, u6
   i3 *= i4;
   i2 += i3;
   l39 = i2;
-  f38(self, j0, j1, i2);
+  f39(self, j0, j1, i2);
   j0 = l7;
   i0 = (u32)(j0);
   i0 = i32_load8_u(j0 + 81u);
@@ -58151,7 +57567,7 @@ static void f61(module *self, u64 p0, u64 p1, u64 p2, u64 p3, u64 p4, u64 p5, u6
   i2 = l39;
   i3 = 1u;
   i2 += i3;
-  f38(self, j0, j1, i2);
+  f39(self, j0, j1, i2);
   j0 = l7;
   i0 = (u32)(j0);
   i1 = 4294967295u;
@@ -58470,7 +57886,7 @@ static void f61(module *self, u64 p0, u64 p1, u64 p2, u64 p3, u64 p4, u64 p5, u6
     i4 = l20;
     i3 *= i4;
     i2 += i3;
-    f38(self, j0, j1, i2);
+    f39(self, j0, j1, i2);
     j0 = l8;
     i0 = (u32)(j0);
     i1 = 0u;
@@ -58631,7 +58047,7 @@ static void f61(module *self, u64 p0, u64 p1, u64 p2, u64 p3, u64 p4, u64 p5, u6
     i3 *= i4;
     i2 += i3;
     l39 = i2;
-    f38(self, j0, j1, i2);
+    f39(self, j0, j1, i2);
     j0 = l7;
     i0 = (u32)(j0);
     i0 = i32_load8_u(j0 + 152u);
@@ -58647,7 +58063,7 @@ static void f61(module *self, u64 p0, u64 p1, u64 p2, u64 p3, u64 p4, u64 p5, u6
     i2 = l39;
     i3 = 1u;
     i2 += i3;
-    f38(self, j0, j1, i2);
+    f39(self, j0, j1, i2);
     j0 = l7;
     i0 = (u32)(j0);
     i0 = i32_load8_u(j0 + 144u);
@@ -58663,7 +58079,7 @@ static void f61(module *self, u64 p0, u64 p1, u64 p2, u64 p3, u64 p4, u64 p5, u6
     i2 = l39;
     i3 = 2u;
     i2 += i3;
-    f38(self, j0, j1, i2);
+    f39(self, j0, j1, i2);
     j0 = l7;
     i0 = (u32)(j0);
     i0 = i32_load8_u(j0 + 136u);
@@ -58679,7 +58095,7 @@ static void f61(module *self, u64 p0, u64 p1, u64 p2, u64 p3, u64 p4, u64 p5, u6
     i2 = l39;
     i3 = 3u;
     i2 += i3;
-    f38(self, j0, j1, i2);
+    f39(self, j0, j1, i2);
     j0 = l7;
     i0 = (u32)(j0);
     i0 = i32_load8_u(j0 + 128u);
@@ -58695,7 +58111,7 @@ static void f61(module *self, u64 p0, u64 p1, u64 p2, u64 p3, u64 p4, u64 p5, u6
     i2 = l39;
     i3 = 4u;
     i2 += i3;
-    f38(self, j0, j1, i2);
+    f39(self, j0, j1, i2);
     j0 = l7;
     i0 = (u32)(j0);
     i0 = i32_load8_u(j0 + 120u);
@@ -58711,7 +58127,7 @@ static void f61(module *self, u64 p0, u64 p1, u64 p2, u64 p3, u64 p4, u64 p5, u6
     i2 = l39;
     i3 = 5u;
     i2 += i3;
-    f38(self, j0, j1, i2);
+    f39(self, j0, j1, i2);
     j0 = l7;
     i0 = (u32)(j0);
     i0 = i32_load8_u(j0 + 112u);
@@ -58727,7 +58143,7 @@ static void f61(module *self, u64 p0, u64 p1, u64 p2, u64 p3, u64 p4, u64 p5, u6
     i2 = l39;
     i3 = 6u;
     i2 += i3;
-    f38(self, j0, j1, i2);
+    f39(self, j0, j1, i2);
     j0 = l7;
     i0 = (u32)(j0);
     i0 = i32_load8_u(j0 + 104u);
@@ -58743,7 +58159,7 @@ static void f61(module *self, u64 p0, u64 p1, u64 p2, u64 p3, u64 p4, u64 p5, u6
     i2 = l39;
     i3 = 7u;
     i2 += i3;
-    f38(self, j0, j1, i2);
+    f39(self, j0, j1, i2);
     j0 = l8;
     i0 = (u32)(j0);
     i1 = 2u;
@@ -58850,7 +58266,7 @@ static void f61(module *self, u64 p0, u64 p1, u64 p2, u64 p3, u64 p4, u64 p5, u6
   j4 = l7;
   j5 = 320ull;
   j4 += j5;
-  i2 = f40(self, j2, i3, j4); if (NEVER(self->is_broken)) return;
+  i2 = f41(self, j2, i3, j4); if (NEVER(self->is_broken)) return;
   i3 = 255u;
   i2 &= i3;
   i1 |= i2;
@@ -58926,7 +58342,7 @@ static void f61(module *self, u64 p0, u64 p1, u64 p2, u64 p3, u64 p4, u64 p5, u6
     i3 = l75;
     i4 = l39;
     i5 = l49;
-    f65(self, j0, j1, i2, i3, i4, i5); if (NEVER(self->is_broken)) return;
+    f66(self, j0, j1, i2, i3, i4, i5); if (NEVER(self->is_broken)) return;
     i0 = l20;
     i1 = 1u;
     i0 += i1;
@@ -59045,7 +58461,7 @@ static void f61(module *self, u64 p0, u64 p1, u64 p2, u64 p3, u64 p4, u64 p5, u6
   i1 = (u32)(j1);
   i1 = i32_load8_u(j1);
   i2 = l48;
-  i0 = f50(self, j0, i1, i2);
+  i0 = f51(self, j0, i1, i2);
   l48 = i0;
   j0 = p1;
   j1 = 68ull;
@@ -59285,7 +58701,7 @@ static void f61(module *self, u64 p0, u64 p1, u64 p2, u64 p3, u64 p4, u64 p5, u6
   j0 += j1;
   j1 = p1;
   i2 = l49;
-  f38(self, j0, j1, i2);
+  f39(self, j0, j1, i2);
   j0 = p2;
   i0 = (u32)(j0);
   i1 = 5u;
@@ -59425,7 +58841,7 @@ static void f61(module *self, u64 p0, u64 p1, u64 p2, u64 p3, u64 p4, u64 p5, u6
   j0 = p1;
   i1 = l59;
   i2 = l48;
-  i0 = f50(self, j0, i1, i2);
+  i0 = f51(self, j0, i1, i2);
   l20 = i0;
   i0 = l52;
   i1 = 1u;
@@ -59720,7 +59136,7 @@ static void f61(module *self, u64 p0, u64 p1, u64 p2, u64 p3, u64 p4, u64 p5, u6
   j0 += j1;
   j1 = p1;
   i2 = l39;
-  f38(self, j0, j1, i2);
+  f39(self, j0, j1, i2);
   i0 = 4294967295u;
   j1 = l7;
   i1 = (u32)(j1);
@@ -59880,7 +59296,7 @@ static void f61(module *self, u64 p0, u64 p1, u64 p2, u64 p3, u64 p4, u64 p5, u6
   j0 += j1;
   j1 = p1;
   i2 = l39;
-  f38(self, j0, j1, i2);
+  f39(self, j0, j1, i2);
   j0 = l7;
   i0 = (u32)(j0);
   i0 = i32_load8_u(j0 + 201u);
@@ -59999,7 +59415,7 @@ static void f61(module *self, u64 p0, u64 p1, u64 p2, u64 p3, u64 p4, u64 p5, u6
   j0 += j1;
   j1 = p1;
   i2 = l39;
-  f38(self, j0, j1, i2);
+  f39(self, j0, j1, i2);
   j0 = l7;
   i0 = (u32)(j0);
   i0 = i32_load8_u(j0 + 193u);
@@ -60115,7 +59531,7 @@ static void f61(module *self, u64 p0, u64 p1, u64 p2, u64 p3, u64 p4, u64 p5, u6
   j0 += j1;
   j1 = p1;
   i2 = l39;
-  f38(self, j0, j1, i2);
+  f39(self, j0, j1, i2);
   j0 = l7;
   i0 = (u32)(j0);
   i0 = i32_load8_u(j0 + 185u);
@@ -60231,7 +59647,7 @@ static void f61(module *self, u64 p0, u64 p1, u64 p2, u64 p3, u64 p4, u64 p5, u6
   j0 += j1;
   j1 = p1;
   i2 = l39;
-  f38(self, j0, j1, i2);
+  f39(self, j0, j1, i2);
   j0 = l7;
   i0 = (u32)(j0);
   i0 = i32_load8_u(j0 + 177u);
@@ -60457,7 +59873,7 @@ static void f61(module *self, u64 p0, u64 p1, u64 p2, u64 p3, u64 p4, u64 p5, u6
   i4 = l49;
   i5 = l75;
   i6 = 0u;
-  i1 = f66(self, j1, j2, i3, i4, i5, i6); if (NEVER(self->is_broken)) return;
+  i1 = f67(self, j1, j2, i3, i4, i5, i6); if (NEVER(self->is_broken)) return;
   l20 = i1;
   i32_store16(j0, i1);
   j0 = p2;
@@ -60510,12 +59926,12 @@ static void f61(module *self, u64 p0, u64 p1, u64 p2, u64 p3, u64 p4, u64 p5, u6
   l39 = i3;
   i4 = 8u;
   i3 >>= (i4 & 31);
-  f63(self, j0, i1, i2, i3);
+  f64(self, j0, i1, i2, i3);
   j0 = p1;
   i1 = l48;
   i2 = 15u;
   i3 = l39;
-  f63(self, j0, i1, i2, i3);
+  f64(self, j0, i1, i2, i3);
   goto B56;
   B61:;
   j0 = l7;
@@ -60580,14 +59996,14 @@ static void f61(module *self, u64 p0, u64 p1, u64 p2, u64 p3, u64 p4, u64 p5, u6
   i1 = l20;
   i2 = l49;
   i3 = l39;
-  f67(self, j0, i1, i2, i3); if (NEVER(self->is_broken)) return;
+  f68(self, j0, i1, i2, i3); if (NEVER(self->is_broken)) return;
   goto B56;
   B109:;
   j0 = p1;
   i1 = l20;
   i2 = 17u;
   i3 = l49;
-  f67(self, j0, i1, i2, i3); if (NEVER(self->is_broken)) return;
+  f68(self, j0, i1, i2, i3); if (NEVER(self->is_broken)) return;
   goto B56;
   B108:;
   j0 = l7;
@@ -60598,11 +60014,11 @@ static void f61(module *self, u64 p0, u64 p1, u64 p2, u64 p3, u64 p4, u64 p5, u6
   i3 = 6u;
   i2 += i3;
   l20 = i2;
-  f30(self, j0, j1, i2); if (NEVER(self->is_broken)) return;
+  f31(self, j0, j1, i2); if (NEVER(self->is_broken)) return;
   j0 = p1;
   j1 = p5;
   j2 = 16ull;
-  f68(self, j0, j1, j2);
+  f69(self, j0, j1, j2);
   j0 = p1;
   j1 = 146ull;
   j0 += j1;
@@ -60661,7 +60077,7 @@ static void f61(module *self, u64 p0, u64 p1, u64 p2, u64 p3, u64 p4, u64 p5, u6
   j1 = 320ull;
   j0 += j1;
   j1 = p6;
-  f27(self, j0, j1);
+  f28(self, j0, j1);
   j0 = p1;
   j1 = 196ull;
   j0 += j1;
@@ -60723,7 +60139,7 @@ static void f61(module *self, u64 p0, u64 p1, u64 p2, u64 p3, u64 p4, u64 p5, u6
   j1 = 320ull;
   j0 += j1;
   j1 = p6;
-  f27(self, j0, j1);
+  f28(self, j0, j1);
   j0 = p1;
   j1 = 196ull;
   j0 += j1;
@@ -60765,7 +60181,7 @@ static void f61(module *self, u64 p0, u64 p1, u64 p2, u64 p3, u64 p4, u64 p5, u6
   j1 = 320ull;
   j0 += j1;
   j1 = p6;
-  f27(self, j0, j1);
+  f28(self, j0, j1);
   j0 = p1;
   j1 = 196ull;
   j0 += j1;
@@ -60801,7 +60217,7 @@ static void f61(module *self, u64 p0, u64 p1, u64 p2, u64 p3, u64 p4, u64 p5, u6
   j0 += j1;
   j1 = p1;
   i2 = l20;
-  f30(self, j0, j1, i2); if (NEVER(self->is_broken)) return;
+  f31(self, j0, j1, i2); if (NEVER(self->is_broken)) return;
   goto B56;
   B107:;
   j0 = l7;
@@ -60812,7 +60228,7 @@ static void f61(module *self, u64 p0, u64 p1, u64 p2, u64 p3, u64 p4, u64 p5, u6
   i3 = 6u;
   i2 += i3;
   l39 = i2;
-  f30(self, j0, j1, i2); if (NEVER(self->is_broken)) return;
+  f31(self, j0, j1, i2); if (NEVER(self->is_broken)) return;
   j0 = p1;
   j1 = 146ull;
   j0 += j1;
@@ -60868,7 +60284,7 @@ static void f61(module *self, u64 p0, u64 p1, u64 p2, u64 p3, u64 p4, u64 p5, u6
   j1 = 320ull;
   j0 += j1;
   j1 = p6;
-  f27(self, j0, j1);
+  f28(self, j0, j1);
   j0 = p1;
   j1 = 196ull;
   j0 += j1;
@@ -60948,7 +60364,7 @@ static void f61(module *self, u64 p0, u64 p1, u64 p2, u64 p3, u64 p4, u64 p5, u6
   j1 = 320ull;
   j0 += j1;
   j1 = p6;
-  f27(self, j0, j1);
+  f28(self, j0, j1);
   j0 = p1;
   j1 = 196ull;
   j0 += j1;
@@ -60999,7 +60415,7 @@ static void f61(module *self, u64 p0, u64 p1, u64 p2, u64 p3, u64 p4, u64 p5, u6
   j1 = 320ull;
   j0 += j1;
   j1 = p6;
-  f27(self, j0, j1);
+  f28(self, j0, j1);
   j0 = p1;
   j1 = 196ull;
   j0 += j1;
@@ -61035,7 +60451,7 @@ static void f61(module *self, u64 p0, u64 p1, u64 p2, u64 p3, u64 p4, u64 p5, u6
   j0 += j1;
   j1 = p1;
   i2 = l39;
-  f30(self, j0, j1, i2); if (NEVER(self->is_broken)) return;
+  f31(self, j0, j1, i2); if (NEVER(self->is_broken)) return;
   goto B56;
   B106:;
   j0 = p1;
@@ -61044,7 +60460,7 @@ static void f61(module *self, u64 p0, u64 p1, u64 p2, u64 p3, u64 p4, u64 p5, u6
   j3 = l7;
   j4 = 432ull;
   j3 += j4;
-  f69(self, j0, i1, i2, j3); if (NEVER(self->is_broken)) return;
+  f70(self, j0, i1, i2, j3); if (NEVER(self->is_broken)) return;
   goto B56;
   B105:;
   j0 = l7;
@@ -61055,7 +60471,7 @@ static void f61(module *self, u64 p0, u64 p1, u64 p2, u64 p3, u64 p4, u64 p5, u6
   i3 = 6u;
   i2 += i3;
   l39 = i2;
-  f30(self, j0, j1, i2); if (NEVER(self->is_broken)) return;
+  f31(self, j0, j1, i2); if (NEVER(self->is_broken)) return;
   i0 = 1u;
   l20 = i0;
   j0 = p1;
@@ -61111,7 +60527,7 @@ static void f61(module *self, u64 p0, u64 p1, u64 p2, u64 p3, u64 p4, u64 p5, u6
   j1 = 320ull;
   j0 += j1;
   j1 = p5;
-  f27(self, j0, j1);
+  f28(self, j0, j1);
   j0 = p1;
   j1 = 196ull;
   j0 += j1;
@@ -61166,7 +60582,7 @@ static void f61(module *self, u64 p0, u64 p1, u64 p2, u64 p3, u64 p4, u64 p5, u6
   j0 += j1;
   j1 = p1;
   i2 = l39;
-  f30(self, j0, j1, i2); if (NEVER(self->is_broken)) return;
+  f31(self, j0, j1, i2); if (NEVER(self->is_broken)) return;
   j0 = l7;
   i0 = (u32)(j0);
   i1 = l20;
@@ -61587,7 +61003,7 @@ static void f61(module *self, u64 p0, u64 p1, u64 p2, u64 p3, u64 p4, u64 p5, u6
     i4 = (u32)(j4);
     i4 = i32_load8_u(j4);
     i5 = 1u;
-    i0 = f66(self, j0, j1, i2, i3, i4, i5); if (NEVER(self->is_broken)) return;
+    i0 = f67(self, j0, j1, i2, i3, i4, i5); if (NEVER(self->is_broken)) return;
     l39 = i0;
     j0 = l8;
     j1 = 2ull;
@@ -61616,7 +61032,7 @@ static void f61(module *self, u64 p0, u64 p1, u64 p2, u64 p3, u64 p4, u64 p5, u6
     i3 = i32_load8_u(j3);
     i4 = l48;
     i5 = 1u;
-    i0 = f66(self, j0, j1, i2, i3, i4, i5); if (NEVER(self->is_broken)) return;
+    i0 = f67(self, j0, j1, i2, i3, i4, i5); if (NEVER(self->is_broken)) return;
     l39 = i0;
     j0 = p5;
     j1 = 1ull;
@@ -61703,12 +61119,12 @@ static void f61(module *self, u64 p0, u64 p1, u64 p2, u64 p3, u64 p4, u64 p5, u6
   l39 = i3;
   i4 = 8u;
   i3 >>= (i4 & 31);
-  f63(self, j0, i1, i2, i3);
+  f64(self, j0, i1, i2, i3);
   j0 = p1;
   i1 = l48;
   i2 = 15u;
   i3 = l39;
-  f63(self, j0, i1, i2, i3);
+  f64(self, j0, i1, i2, i3);
   goto B56;
   B57:;
   j0 = l7;
@@ -62254,140 +61670,140 @@ static void f61(module *self, u64 p0, u64 p1, u64 p2, u64 p3, u64 p4, u64 p5, u6
   i3 = l39;
   i4 = 15u;
   i3 &= i4;
-  f63(self, j0, i1, i2, i3);
+  f64(self, j0, i1, i2, i3);
   j0 = p1;
   i1 = l24;
   i2 = 0u;
   i3 = l47;
-  f63(self, j0, i1, i2, i3);
+  f64(self, j0, i1, i2, i3);
   j0 = p1;
   i1 = l24;
   i2 = 1u;
   i3 = l46;
-  f63(self, j0, i1, i2, i3);
+  f64(self, j0, i1, i2, i3);
   j0 = p1;
   i1 = l24;
   i2 = 2u;
   i3 = l20;
-  f63(self, j0, i1, i2, i3);
+  f64(self, j0, i1, i2, i3);
   j0 = p1;
   i1 = l24;
   i2 = 3u;
   i3 = l45;
-  f63(self, j0, i1, i2, i3);
+  f64(self, j0, i1, i2, i3);
   j0 = p1;
   i1 = l24;
   i2 = 4u;
   i3 = l44;
-  f63(self, j0, i1, i2, i3);
+  f64(self, j0, i1, i2, i3);
   j0 = p1;
   i1 = l24;
   i2 = 5u;
   i3 = l43;
-  f63(self, j0, i1, i2, i3);
+  f64(self, j0, i1, i2, i3);
   j0 = p1;
   i1 = l24;
   i2 = 6u;
   i3 = l42;
-  f63(self, j0, i1, i2, i3);
+  f64(self, j0, i1, i2, i3);
   j0 = p1;
   i1 = l24;
   i2 = 7u;
   i3 = l41;
-  f63(self, j0, i1, i2, i3);
+  f64(self, j0, i1, i2, i3);
   j0 = p1;
   i1 = l24;
   i2 = 8u;
   i3 = 0u;
-  f63(self, j0, i1, i2, i3);
+  f64(self, j0, i1, i2, i3);
   j0 = p1;
   i1 = l24;
   i2 = 9u;
   i3 = l56;
-  f63(self, j0, i1, i2, i3);
+  f64(self, j0, i1, i2, i3);
   j0 = p1;
   i1 = l24;
   i2 = 10u;
   i3 = l57;
-  f63(self, j0, i1, i2, i3);
+  f64(self, j0, i1, i2, i3);
   j0 = p1;
   i1 = l24;
   i2 = 11u;
   i3 = l58;
-  f63(self, j0, i1, i2, i3);
+  f64(self, j0, i1, i2, i3);
   j0 = p1;
   i1 = l24;
   i2 = 12u;
   j3 = l7;
   i3 = (u32)(j3);
   i3 = i32_load8_u(j3 + 347u);
-  f63(self, j0, i1, i2, i3);
+  f64(self, j0, i1, i2, i3);
   j0 = p1;
   i1 = l24;
   i2 = 13u;
   j3 = l7;
   i3 = (u32)(j3);
   i3 = i32_load8_u(j3 + 348u);
-  f63(self, j0, i1, i2, i3);
+  f64(self, j0, i1, i2, i3);
   j0 = p1;
   i1 = l24;
   i2 = 14u;
   j3 = l7;
   i3 = (u32)(j3);
   i3 = i32_load8_u(j3 + 349u);
-  f63(self, j0, i1, i2, i3);
+  f64(self, j0, i1, i2, i3);
   j0 = p1;
   i1 = l24;
   i2 = 15u;
   j3 = l7;
   i3 = (u32)(j3);
   i3 = i32_load8_u(j3 + 350u);
-  f63(self, j0, i1, i2, i3);
+  f64(self, j0, i1, i2, i3);
   j0 = p1;
   i1 = l24;
   i2 = 16u;
   i3 = l40;
-  f63(self, j0, i1, i2, i3);
+  f64(self, j0, i1, i2, i3);
   j0 = p1;
   i1 = l24;
   i2 = 17u;
   i3 = l39;
-  f63(self, j0, i1, i2, i3);
+  f64(self, j0, i1, i2, i3);
   j0 = p1;
   i1 = l24;
   i2 = 18u;
   i3 = l38;
-  f63(self, j0, i1, i2, i3);
+  f64(self, j0, i1, i2, i3);
   j0 = p1;
   i1 = l24;
   i2 = 19u;
   i3 = l37;
-  f63(self, j0, i1, i2, i3);
+  f64(self, j0, i1, i2, i3);
   j0 = p1;
   i1 = l24;
   i2 = 20u;
   i3 = l59;
-  f63(self, j0, i1, i2, i3);
+  f64(self, j0, i1, i2, i3);
   j0 = p1;
   i1 = l24;
   i2 = 21u;
   i3 = l36;
-  f63(self, j0, i1, i2, i3);
+  f64(self, j0, i1, i2, i3);
   j0 = p1;
   i1 = l24;
   i2 = 22u;
   i3 = l35;
-  f63(self, j0, i1, i2, i3);
+  f64(self, j0, i1, i2, i3);
   j0 = p1;
   i1 = l24;
   i2 = 23u;
   i3 = l34;
-  f63(self, j0, i1, i2, i3);
+  f64(self, j0, i1, i2, i3);
   j0 = p1;
   i1 = l24;
   i2 = 24u;
   i3 = 255u;
-  f63(self, j0, i1, i2, i3);
+  f64(self, j0, i1, i2, i3);
   j0 = l7;
   j1 = 360ull;
   j0 += j1;
@@ -62577,11 +61993,11 @@ static void f61(module *self, u64 p0, u64 p1, u64 p2, u64 p3, u64 p4, u64 p5, u6
   i3 = 6u;
   i2 += i3;
   l39 = i2;
-  f30(self, j0, j1, i2); if (NEVER(self->is_broken)) return;
+  f31(self, j0, j1, i2); if (NEVER(self->is_broken)) return;
   j0 = p1;
   j1 = l9;
   j2 = 21ull;
-  f68(self, j0, j1, j2);
+  f69(self, j0, j1, j2);
   j0 = p1;
   j1 = 205ull;
   j0 += j1;
@@ -62635,7 +62051,7 @@ static void f61(module *self, u64 p0, u64 p1, u64 p2, u64 p3, u64 p4, u64 p5, u6
   j1 = 304ull;
   j0 += j1;
   j1 = p5;
-  f27(self, j0, j1);
+  f28(self, j0, j1);
   j0 = p1;
   j1 = 196ull;
   j0 += j1;
@@ -62673,7 +62089,7 @@ static void f61(module *self, u64 p0, u64 p1, u64 p2, u64 p3, u64 p4, u64 p5, u6
   j0 = l7;
   j1 = p1;
   i2 = l39;
-  f30(self, j0, j1, i2); if (NEVER(self->is_broken)) return;
+  f31(self, j0, j1, i2); if (NEVER(self->is_broken)) return;
   j0 = p1;
   j1 = 2002ull;
   j0 += j1;
@@ -62700,7 +62116,7 @@ static void f61(module *self, u64 p0, u64 p1, u64 p2, u64 p3, u64 p4, u64 p5, u6
     j0 += j1;
     i1 = l75;
     i2 = l39;
-    f47(self, j0, i1, i2); if (NEVER(self->is_broken)) return;
+    f48(self, j0, i1, i2); if (NEVER(self->is_broken)) return;
     j0 = p1;
     j1 = l8;
     j0 += j1;
@@ -62805,7 +62221,7 @@ static void f61(module *self, u64 p0, u64 p1, u64 p2, u64 p3, u64 p4, u64 p5, u6
   j2 = p3;
   j3 = 1048905ull;
   i4 = l54;
-  f62(self, j0, j1, j2, j3, i4);
+  f63(self, j0, j1, j2, j3, i4);
   i0 = l21;
   i1 = 1u;
   i0 &= i1;
@@ -62815,7 +62231,7 @@ static void f61(module *self, u64 p0, u64 p1, u64 p2, u64 p3, u64 p4, u64 p5, u6
   i2 = 32768u;
   i3 = 32u;
   i4 = 7u;
-  f54(self, j0, i1, i2, i3, i4);
+  f55(self, j0, i1, i2, i3, i4);
   goto B146;
   B147:;
   i0 = l21;
@@ -62827,7 +62243,7 @@ static void f61(module *self, u64 p0, u64 p1, u64 p2, u64 p3, u64 p4, u64 p5, u6
   i2 = 65536u;
   i3 = 0u;
   i4 = 0u;
-  f54(self, j0, i1, i2, i3, i4);
+  f55(self, j0, i1, i2, i3, i4);
   B146:;
   j0 = p2;
   i0 = (u32)(j0);
@@ -62998,7 +62414,7 @@ static void f61(module *self, u64 p0, u64 p1, u64 p2, u64 p3, u64 p4, u64 p5, u6
   self->g0 = j0;
 }
 
-static void f62(module *self, u64 p0, u64 p1, u64 p2, u64 p3, u32 p4) {
+static void f63(module *self, u64 p0, u64 p1, u64 p2, u64 p3, u32 p4) {
   u32 l36 = 0, l37 = 0, l38 = 0, l39 = 0, l40 = 0, l41 = 0, l42 = 0, l43 = 0, 
       l44 = 0, l45 = 0, l46 = 0, l47 = 0, l48 = 0, l49 = 0;
   u64 l5 = 0, l6 = 0, l7 = 0, l8 = 0, l9 = 0, l10 = 0, l11 = 0, l12 = 0, 
@@ -63861,7 +63277,7 @@ static void f62(module *self, u64 p0, u64 p1, u64 p2, u64 p3, u32 p4) {
   i32_store(j0, i1);
 }
 
-static void f63(module *self, u64 p0, u32 p1, u32 p2, u32 p3) {
+static void f64(module *self, u64 p0, u32 p1, u32 p2, u32 p3) {
   u32 l5 = 0, l6 = 0, l7 = 0;
   u64 l4 = 0;
   u8 *m = self->memory;
@@ -63948,7 +63364,7 @@ static void f63(module *self, u64 p0, u32 p1, u32 p2, u32 p3) {
   j1 = p0;
   i2 = l6;
   i3 = p2;
-  f48(self, j0, j1, i2, i3);
+  f49(self, j0, j1, i2, i3);
   B0:;
   i0 = p1;
   i1 = 4294966337u;
@@ -64024,7 +63440,7 @@ static void f63(module *self, u64 p0, u32 p1, u32 p2, u32 p3) {
   j1 = p0;
   i2 = l6;
   i3 = p3;
-  f48(self, j0, j1, i2, i3);
+  f49(self, j0, j1, i2, i3);
   B4:;
   j0 = l4;
   j1 = 16ull;
@@ -64032,7 +63448,7 @@ static void f63(module *self, u64 p0, u32 p1, u32 p2, u32 p3) {
   self->g0 = j0;
 }
 
-static void f64(module *self, u64 p0, u64 p1, u64 p2, u32 p3, u64 p4) {
+static void f65(module *self, u64 p0, u64 p1, u64 p2, u32 p3, u64 p4) {
   u32 l5 = 0, l6 = 0, l7 = 0, l8 = 0, l9 = 0, l10 = 0, l11 = 0, l12 = 0, 
       l13 = 0, l14 = 0, l15 = 0, l16 = 0, l17 = 0, l18 = 0, l19 = 0, l20 = 0, 
       l21 = 0, l22 = 0, l23 = 0, l24 = 0, l25 = 0;
@@ -64374,7 +63790,7 @@ static void f64(module *self, u64 p0, u64 p1, u64 p2, u32 p3, u64 p4) {
       i3 = l10;
       i2 += i3;
       i3 = p3;
-      f70(self, j0, i1, i2, i3);
+      f71(self, j0, i1, i2, i3);
       i0 = l10;
       i1 = l11;
       i0 += i1;
@@ -64468,7 +63884,7 @@ static void f64(module *self, u64 p0, u64 p1, u64 p2, u32 p3, u64 p4) {
       i3 = l10;
       i2 += i3;
       i3 = p3;
-      f70(self, j0, i1, i2, i3);
+      f71(self, j0, i1, i2, i3);
       i0 = l10;
       i1 = l11;
       i0 += i1;
@@ -64691,7 +64107,7 @@ static void f64(module *self, u64 p0, u64 p1, u64 p2, u32 p3, u64 p4) {
       i2 = p3;
       i3 = 32u;
       i4 = l12;
-      f54(self, j0, i1, i2, i3, i4);
+      f55(self, j0, i1, i2, i3, i4);
       i0 = l10;
       i1 = l11;
       i0 += i1;
@@ -64753,7 +64169,7 @@ static void f64(module *self, u64 p0, u64 p1, u64 p2, u32 p3, u64 p4) {
       i2 = p3;
       i3 = 0u;
       i4 = 0u;
-      f54(self, j0, i1, i2, i3, i4);
+      f55(self, j0, i1, i2, i3, i4);
       i0 = l10;
       i1 = l11;
       i0 += i1;
@@ -64908,7 +64324,7 @@ static void f64(module *self, u64 p0, u64 p1, u64 p2, u32 p3, u64 p4) {
       i2 = p3;
       i3 = 255u;
       i4 = 255u;
-      f54(self, j0, i1, i2, i3, i4);
+      f55(self, j0, i1, i2, i3, i4);
       i0 = l10;
       i1 = l11;
       i0 += i1;
@@ -65068,7 +64484,7 @@ static void f64(module *self, u64 p0, u64 p1, u64 p2, u32 p3, u64 p4) {
       i2 = p3;
       i3 = l12;
       i4 = l12;
-      f54(self, j0, i1, i2, i3, i4);
+      f55(self, j0, i1, i2, i3, i4);
       i0 = l10;
       i1 = l11;
       i0 += i1;
@@ -65093,7 +64509,7 @@ static void f64(module *self, u64 p0, u64 p1, u64 p2, u32 p3, u64 p4) {
   Bfunc:;
 }
 
-static void f65(module *self, u64 p0, u64 p1, u32 p2, u32 p3, u32 p4, u32 p5) {
+static void f66(module *self, u64 p0, u64 p1, u32 p2, u32 p3, u32 p4, u32 p5) {
   u32 l28 = 0, l29 = 0, l30 = 0, l31 = 0, l32 = 0, l33 = 0, l34 = 0, l35 = 0, 
       l36 = 0, l37 = 0, l38 = 0, l39 = 0, l40 = 0, l41 = 0, l42 = 0, l43 = 0;
   u64 l6 = 0, l7 = 0, l8 = 0, l9 = 0, l10 = 0, l11 = 0, l12 = 0, l13 = 0, 
@@ -65222,7 +64638,7 @@ static void f65(module *self, u64 p0, u64 p1, u32 p2, u32 p3, u32 p4, u32 p5) {
   i1 = (u32)(j1);
   i1 = i32_load8_u(j1);
   i2 = p3;
-  i0 = f50(self, j0, i1, i2);
+  i0 = f51(self, j0, i1, i2);
   l32 = i0;
   j0 = p0;
   j1 = 68ull;
@@ -65360,7 +64776,7 @@ static void f65(module *self, u64 p0, u64 p1, u32 p2, u32 p3, u32 p4, u32 p5) {
   i1 = (u32)(j1);
   i1 = i32_load8_u(j1);
   i2 = p4;
-  i0 = f50(self, j0, i1, i2);
+  i0 = f51(self, j0, i1, i2);
   p5 = i0;
   j0 = p0;
   j1 = 68ull;
@@ -65847,7 +65263,7 @@ static void f65(module *self, u64 p0, u64 p1, u32 p2, u32 p3, u32 p4, u32 p5) {
     i3 *= i4;
     i2 += i3;
     l29 = i2;
-    f38(self, j0, j1, i2);
+    f39(self, j0, j1, i2);
     j0 = p0;
     j1 = 2003ull;
     j0 += j1;
@@ -65897,7 +65313,7 @@ static void f65(module *self, u64 p0, u64 p1, u32 p2, u32 p3, u32 p4, u32 p5) {
     i1 = (u32)(j1);
     i1 = i32_load8_u(j1);
     i2 = p2;
-    i0 = f50(self, j0, i1, i2);
+    i0 = f51(self, j0, i1, i2);
     p2 = i0;
     j0 = p0;
     j1 = 68ull;
@@ -66138,7 +65554,7 @@ static void f65(module *self, u64 p0, u64 p1, u32 p2, u32 p3, u32 p4, u32 p5) {
     i2 = l32;
     i3 = 0u;
     i4 = 0u;
-    f54(self, j0, i1, i2, i3, i4);
+    f55(self, j0, i1, i2, i3, i4);
     i0 = l29;
     i1 = 1u;
     i0 += i1;
@@ -66430,7 +65846,7 @@ static void f65(module *self, u64 p0, u64 p1, u32 p2, u32 p3, u32 p4, u32 p5) {
     j2 = l27;
     i2 = (u32)(j2);
     i2 = i32_load8_u(j2);
-    i0 = f50(self, j0, i1, i2);
+    i0 = f51(self, j0, i1, i2);
     l33 = i0;
     j0 = p0;
     j1 = 68ull;
@@ -67181,7 +66597,7 @@ static void f65(module *self, u64 p0, u64 p1, u32 p2, u32 p3, u32 p4, u32 p5) {
   Bfunc:;
 }
 
-static u32 f66(module *self, u64 p0, u64 p1, u32 p2, u32 p3, u32 p4, u32 p5) {
+static u32 f67(module *self, u64 p0, u64 p1, u32 p2, u32 p3, u32 p4, u32 p5) {
   u32 l7 = 0;
   u64 l6 = 0;
   u8 *m = self->memory;
@@ -67224,7 +66640,7 @@ static u32 f66(module *self, u64 p0, u64 p1, u32 p2, u32 p3, u32 p4, u32 p5) {
   i2 = (u32)(j2);
   i2 = i32_load8_u(j2);
   i3 = p2;
-  i0 = f72(self, j0, j1, i2, i3); if (NEVER(self->is_broken)) return ZAK_BROKEN;
+  i0 = f73(self, j0, j1, i2, i3); if (NEVER(self->is_broken)) return ZAK_BROKEN;
   goto Bfunc;
   B2:;
   i0 = p2;
@@ -67258,7 +66674,7 @@ static u32 f66(module *self, u64 p0, u64 p1, u32 p2, u32 p3, u32 p4, u32 p5) {
   i3 = p3;
   i4 = p4;
   i5 = p5;
-  f65(self, j0, j1, i2, i3, i4, i5); if (NEVER(self->is_broken)) return ZAK_BROKEN;
+  f66(self, j0, j1, i2, i3, i4, i5); if (NEVER(self->is_broken)) return ZAK_BROKEN;
   i0 = l7;
   i1 = 1u;
   i0 += i1;
@@ -67285,7 +66701,7 @@ static u32 f66(module *self, u64 p0, u64 p1, u32 p2, u32 p3, u32 p4, u32 p5) {
   i2 = (u32)(j2);
   i2 = i32_load8_u(j2);
   i3 = p2;
-  i0 = f72(self, j0, j1, i2, i3); if (NEVER(self->is_broken)) return ZAK_BROKEN;
+  i0 = f73(self, j0, j1, i2, i3); if (NEVER(self->is_broken)) return ZAK_BROKEN;
   i1 = 65280u;
   i0 &= i1;
   p2 = i0;
@@ -67295,7 +66711,7 @@ static u32 f66(module *self, u64 p0, u64 p1, u32 p2, u32 p3, u32 p4, u32 p5) {
   return i0;
 }
 
-static void f67(module *self, u64 p0, u32 p1, u32 p2, u32 p3) {
+static void f68(module *self, u64 p0, u32 p1, u32 p2, u32 p3) {
   u32 l7 = 0, l8 = 0;
   u64 l4 = 0, l5 = 0, l6 = 0;
   u8 *m = self->memory;
@@ -67314,7 +66730,7 @@ static void f67(module *self, u64 p0, u32 p1, u32 p2, u32 p3) {
   i3 = 6u;
   i2 += i3;
   l7 = i2;
-  f30(self, j0, j1, i2); if (NEVER(self->is_broken)) return;
+  f31(self, j0, j1, i2); if (NEVER(self->is_broken)) return;
   j0 = p0;
   j1 = 146ull;
   j0 += j1;
@@ -67369,7 +66785,7 @@ static void f67(module *self, u64 p0, u32 p1, u32 p2, u32 p3) {
   j1 = 16ull;
   j0 += j1;
   j1 = l5;
-  f27(self, j0, j1);
+  f28(self, j0, j1);
   j0 = p0;
   j1 = 196ull;
   j0 += j1;
@@ -67453,7 +66869,7 @@ static void f67(module *self, u64 p0, u32 p1, u32 p2, u32 p3) {
   j1 = 16ull;
   j0 += j1;
   j1 = l5;
-  f27(self, j0, j1);
+  f28(self, j0, j1);
   j0 = p0;
   j1 = 196ull;
   j0 += j1;
@@ -67517,7 +66933,7 @@ static void f67(module *self, u64 p0, u32 p1, u32 p2, u32 p3) {
   j1 = 16ull;
   j0 += j1;
   j1 = l5;
-  f27(self, j0, j1);
+  f28(self, j0, j1);
   j0 = p0;
   j1 = 196ull;
   j0 += j1;
@@ -67548,14 +66964,14 @@ static void f67(module *self, u64 p0, u32 p1, u32 p2, u32 p3) {
   j0 = l4;
   j1 = p0;
   i2 = l7;
-  f30(self, j0, j1, i2); if (NEVER(self->is_broken)) return;
+  f31(self, j0, j1, i2); if (NEVER(self->is_broken)) return;
   j0 = l4;
   j1 = 32ull;
   j0 += j1;
   self->g0 = j0;
 }
 
-static void f68(module *self, u64 p0, u64 p1, u64 p2) {
+static void f69(module *self, u64 p0, u64 p1, u64 p2) {
   u32 l9 = 0, l10 = 0, l11 = 0, l12 = 0, l13 = 0;
   u64 l3 = 0, l4 = 0, l5 = 0, l6 = 0, l7 = 0, l8 = 0;
   u8 *m = self->memory;
@@ -67641,7 +67057,7 @@ static void f68(module *self, u64 p0, u64 p1, u64 p2) {
     i32_store8(j0, i1);
     j0 = l3;
     j1 = l6;
-    f27(self, j0, j1);
+    f28(self, j0, j1);
     j0 = l4;
     i0 = (u32)(j0);
     j1 = l3;
@@ -67712,7 +67128,7 @@ static void f68(module *self, u64 p0, u64 p1, u64 p2) {
     i32_store8(j0, i1);
     j0 = l3;
     j1 = l6;
-    f27(self, j0, j1);
+    f28(self, j0, j1);
     j0 = l4;
     i0 = (u32)(j0);
     j1 = l3;
@@ -67754,7 +67170,7 @@ static void f68(module *self, u64 p0, u64 p1, u64 p2) {
   self->g0 = j0;
 }
 
-static void f69(module *self, u64 p0, u32 p1, u32 p2, u64 p3) {
+static void f70(module *self, u64 p0, u32 p1, u32 p2, u64 p3) {
   u32 l7 = 0, l8 = 0;
   u64 l4 = 0, l5 = 0, l6 = 0;
   u8 *m = self->memory;
@@ -67773,7 +67189,7 @@ static void f69(module *self, u64 p0, u32 p1, u32 p2, u64 p3) {
   i3 = 6u;
   i2 += i3;
   l7 = i2;
-  f30(self, j0, j1, i2); if (NEVER(self->is_broken)) return;
+  f31(self, j0, j1, i2); if (NEVER(self->is_broken)) return;
   i0 = p2;
   i1 = 32u;
   i0 += i1;
@@ -67831,7 +67247,7 @@ static void f69(module *self, u64 p0, u32 p1, u32 p2, u64 p3) {
   j1 = 16ull;
   j0 += j1;
   j1 = l6;
-  f27(self, j0, j1);
+  f28(self, j0, j1);
   j0 = p0;
   j1 = 196ull;
   j0 += j1;
@@ -67896,7 +67312,7 @@ static void f69(module *self, u64 p0, u32 p1, u32 p2, u64 p3) {
   j0 = l4;
   j1 = p0;
   i2 = l7;
-  f30(self, j0, j1, i2); if (NEVER(self->is_broken)) return;
+  f31(self, j0, j1, i2); if (NEVER(self->is_broken)) return;
   j0 = p3;
   j1 = 3ull;
   j0 += j1;
@@ -67909,7 +67325,7 @@ static void f69(module *self, u64 p0, u32 p1, u32 p2, u64 p3) {
   self->g0 = j0;
 }
 
-static void f70(module *self, u64 p0, u32 p1, u32 p2, u32 p3) {
+static void f71(module *self, u64 p0, u32 p1, u32 p2, u32 p3) {
   u32 l6 = 0, l7 = 0, l8 = 0, l9 = 0, l10 = 0, l11 = 0, l12 = 0, l13 = 0, 
       l14 = 0, l15 = 0, l16 = 0;
   u64 l4 = 0, l5 = 0;
@@ -67986,7 +67402,7 @@ static void f70(module *self, u64 p0, u32 p1, u32 p2, u32 p3) {
   i4 = i6 ? i4 : i5;
   p3 = i4;
   i5 = l6;
-  i0 = f71(self, j0, j1, i2, i3, i4, i5);
+  i0 = f72(self, j0, j1, i2, i3, i4, i5);
   l8 = i0;
   i1 = p3;
   i0 = i0 >= i1;
@@ -68332,7 +67748,7 @@ static void f70(module *self, u64 p0, u32 p1, u32 p2, u32 p3) {
     i1 = (u32)(j1);
     i1 = i32_load8_u(j1);
     i2 = l15;
-    i0 = f50(self, j0, i1, i2);
+    i0 = f51(self, j0, i1, i2);
     l8 = i0;
     i0 = l6;
     i0 = !(i0);
@@ -68441,7 +67857,7 @@ static void f70(module *self, u64 p0, u32 p1, u32 p2, u32 p3) {
   self->g0 = j0;
 }
 
-static u32 f71(module *self, u64 p0, u64 p1, u32 p2, u32 p3, u32 p4, u32 p5) {
+static u32 f72(module *self, u64 p0, u64 p1, u32 p2, u32 p3, u32 p4, u32 p5) {
   u32 l6 = 0, l7 = 0, l8 = 0, l9 = 0, l10 = 0, l11 = 0, l12 = 0, l13 = 0, 
       l14 = 0;
   u8 *m = self->memory;
@@ -68870,7 +68286,7 @@ static u32 f71(module *self, u64 p0, u64 p1, u32 p2, u32 p3, u32 p4, u32 p5) {
   return i0;
 }
 
-static u32 f72(module *self, u64 p0, u64 p1, u32 p2, u32 p3) {
+static u32 f73(module *self, u64 p0, u64 p1, u32 p2, u32 p3) {
   u32 l5 = 0, l6 = 0, l7 = 0;
   u64 l4 = 0;
   u8 *m = self->memory;
@@ -68961,7 +68377,7 @@ static u32 f72(module *self, u64 p0, u64 p1, u32 p2, u32 p3) {
   i4 = 1u;
   i3 <<= (i4 & 31);
   i2 += i3;
-  f38(self, j0, j1, i2);
+  f39(self, j0, j1, i2);
   i0 = 4294967295u;
   j1 = l4;
   i1 = (u32)(j1);
@@ -69023,7 +68439,7 @@ static u32 f72(module *self, u64 p0, u64 p1, u32 p2, u32 p3) {
   j4 = l4;
   j5 = 32ull;
   j4 += j5;
-  f64(self, j0, j1, j2, i3, j4); if (NEVER(self->is_broken)) return ZAK_BROKEN;
+  f65(self, j0, j1, j2, i3, j4); if (NEVER(self->is_broken)) return ZAK_BROKEN;
   B0:;
   j0 = l4;
   j1 = 48ull;
@@ -69033,7 +68449,7 @@ static u32 f72(module *self, u64 p0, u64 p1, u32 p2, u32 p3) {
   return i0;
 }
 
-static void f73(module *self, u64 p0, u64 p1, u64 p2) {
+static void f74(module *self, u64 p0, u64 p1, u64 p2) {
   u64 l3 = 0, l4 = 0, l5 = 0, l6 = 0, l7 = 0, l8 = 0;
   u8 *m = self->memory;
   u32 i0, i1, i2;
@@ -69094,7 +68510,7 @@ static void f73(module *self, u64 p0, u64 p1, u64 p2) {
   j0 += j1;
   j1 = 2048ull;
   j2 = 1ull;
-  f163(self, j0, j1, j2); m = self->memory; if (NEVER(self->is_broken)) return;
+  f164(self, j0, j1, j2); m = self->memory; if (NEVER(self->is_broken)) return;
   j0 = l3;
   i0 = (u32)(j0);
   j0 = i64_load(j0 + 80u);
@@ -69184,7 +68600,7 @@ static void f73(module *self, u64 p0, u64 p1, u64 p2) {
   j0 += j1;
   j1 = 24ull;
   j2 = 8ull;
-  f163(self, j0, j1, j2); m = self->memory; if (NEVER(self->is_broken)) return;
+  f164(self, j0, j1, j2); m = self->memory; if (NEVER(self->is_broken)) return;
   j0 = l3;
   i0 = (u32)(j0);
   j0 = i64_load(j0 + 64u);
@@ -69193,7 +68609,7 @@ static void f73(module *self, u64 p0, u64 p1, u64 p2) {
   i0 &= i1;
   if (i0) {goto B2;}
   j0 = l4;
-  f166(self, j0);
+  f167(self, j0);
   B3:;
   j0 = p0;
   i0 = (u32)(j0);
@@ -69257,7 +68673,7 @@ static void f73(module *self, u64 p0, u64 p1, u64 p2) {
   j0 += j1;
   j1 = 3584ull;
   j2 = 1ull;
-  f163(self, j0, j1, j2); m = self->memory; if (NEVER(self->is_broken)) return;
+  f164(self, j0, j1, j2); m = self->memory; if (NEVER(self->is_broken)) return;
   j0 = l3;
   i0 = (u32)(j0);
   j0 = i64_load(j0 + 48u);
@@ -69350,7 +68766,7 @@ static void f73(module *self, u64 p0, u64 p1, u64 p2) {
   j0 += j1;
   j1 = 24ull;
   j2 = 8ull;
-  f163(self, j0, j1, j2); m = self->memory; if (NEVER(self->is_broken)) return;
+  f164(self, j0, j1, j2); m = self->memory; if (NEVER(self->is_broken)) return;
   j0 = l3;
   i0 = (u32)(j0);
   j0 = i64_load(j0 + 32u);
@@ -69359,7 +68775,7 @@ static void f73(module *self, u64 p0, u64 p1, u64 p2) {
   i0 &= i1;
   if (i0) {goto B7;}
   j0 = l4;
-  f166(self, j0);
+  f167(self, j0);
   B8:;
   j0 = l7;
   i0 = (u32)(j0);
@@ -69370,12 +68786,12 @@ static void f73(module *self, u64 p0, u64 p1, u64 p2) {
   j0 = i64_load(j0 + 16u);
   p2 = j0;
   j0 = l7;
-  f166(self, j0);
+  f167(self, j0);
   j0 = p2;
   i0 = !(j0);
   if (i0) {goto B12;}
   j0 = l5;
-  f166(self, j0);
+  f167(self, j0);
   B12:;
   j0 = p0;
   i0 = (u32)(j0);
@@ -69439,7 +68855,7 @@ static void f73(module *self, u64 p0, u64 p1, u64 p2) {
   j0 += j1;
   j1 = 4096ull;
   j2 = 1ull;
-  f163(self, j0, j1, j2); m = self->memory; if (NEVER(self->is_broken)) return;
+  f164(self, j0, j1, j2); m = self->memory; if (NEVER(self->is_broken)) return;
   j0 = l3;
   i0 = (u32)(j0);
   j0 = i64_load(j0 + 16u);
@@ -69530,7 +68946,7 @@ static void f73(module *self, u64 p0, u64 p1, u64 p2) {
   j0 = l3;
   j1 = 24ull;
   j2 = 8ull;
-  f163(self, j0, j1, j2); m = self->memory; if (NEVER(self->is_broken)) return;
+  f164(self, j0, j1, j2); m = self->memory; if (NEVER(self->is_broken)) return;
   j0 = l3;
   i0 = (u32)(j0);
   j0 = i64_load(j0);
@@ -69539,7 +68955,7 @@ static void f73(module *self, u64 p0, u64 p1, u64 p2) {
   i0 &= i1;
   if (i0) {goto B13;}
   j0 = l4;
-  f166(self, j0);
+  f167(self, j0);
   B14:;
   j0 = l8;
   i0 = (u32)(j0);
@@ -69550,12 +68966,12 @@ static void f73(module *self, u64 p0, u64 p1, u64 p2) {
   j0 = i64_load(j0 + 16u);
   p2 = j0;
   j0 = l8;
-  f166(self, j0);
+  f167(self, j0);
   j0 = p2;
   i0 = !(j0);
   if (i0) {goto B18;}
   j0 = l5;
-  f166(self, j0);
+  f167(self, j0);
   B18:;
   j0 = l7;
   i0 = (u32)(j0);
@@ -69566,12 +68982,12 @@ static void f73(module *self, u64 p0, u64 p1, u64 p2) {
   j0 = i64_load(j0 + 16u);
   p2 = j0;
   j0 = l7;
-  f166(self, j0);
+  f167(self, j0);
   j0 = p2;
   i0 = !(j0);
   if (i0) {goto B19;}
   j0 = l5;
-  f166(self, j0);
+  f167(self, j0);
   B19:;
   j0 = p0;
   i0 = (u32)(j0);
@@ -69677,7 +69093,7 @@ static void f73(module *self, u64 p0, u64 p1, u64 p2) {
   self->g0 = j0;
 }
 
-static void f74(module *self, u64 p0, u64 p1) {
+static void f75(module *self, u64 p0, u64 p1) {
   u32 l9 = 0, l10 = 0, l11 = 0;
   u64 l2 = 0, l3 = 0, l4 = 0, l5 = 0, l6 = 0, l7 = 0, l8 = 0;
   u8 *m = self->memory;
@@ -69759,7 +69175,7 @@ static void f74(module *self, u64 p0, u64 p1) {
   j0 = l2;
   j1 = 8ull;
   j0 += j1;
-  f26(self, j0); m = self->memory; if (NEVER(self->is_broken)) return;
+  f27(self, j0); m = self->memory; if (NEVER(self->is_broken)) return;
   j0 = l2;
   i0 = (u32)(j0);
   j0 = i64_load(j0 + 24u);
@@ -69933,12 +69349,12 @@ static void f74(module *self, u64 p0, u64 p1) {
   j0 = i64_load(j0 + 16u);
   l8 = j0;
   j0 = l3;
-  f166(self, j0);
+  f167(self, j0);
   j0 = l8;
   i0 = !(j0);
   if (i0) {goto B2;}
   j0 = l7;
-  f166(self, j0);
+  f167(self, j0);
   B2:;
   i0 = l10;
   i1 = 255u;
@@ -69955,12 +69371,12 @@ static void f74(module *self, u64 p0, u64 p1) {
   j0 = i64_load(j0 + 16u);
   l3 = j0;
   j0 = l4;
-  f166(self, j0);
+  f167(self, j0);
   j0 = l3;
   i0 = !(j0);
   if (i0) {goto B3;}
   j0 = l8;
-  f166(self, j0);
+  f167(self, j0);
   B3:;
   j0 = l6;
   j1 = 255ull;
@@ -69981,12 +69397,12 @@ static void f74(module *self, u64 p0, u64 p1) {
   j0 = i64_load(j0 + 16u);
   l4 = j0;
   j0 = p1;
-  f166(self, j0);
+  f167(self, j0);
   j0 = l4;
   i0 = !(j0);
   if (i0) {goto B4;}
   j0 = l6;
-  f166(self, j0);
+  f167(self, j0);
   B4:;
   j0 = p0;
   i0 = (u32)(j0);
@@ -70019,7 +69435,7 @@ static void f74(module *self, u64 p0, u64 p1) {
   self->g0 = j0;
 }
 
-static void f75(module *self, u64 p0, u64 p1, u32 p2, u32 p3) {
+static void f76(module *self, u64 p0, u64 p1, u32 p2, u32 p3) {
   u32 l6 = 0, l7 = 0, l8 = 0, l9 = 0, l10 = 0;
   u64 l4 = 0, l5 = 0;
   u8 *m = self->memory;
@@ -70520,7 +69936,7 @@ static void f75(module *self, u64 p0, u64 p1, u32 p2, u32 p3) {
   i2 = 965u;
   i3 = p3;
   i4 = l6;
-  f76(self, j0, j1, i2, i3, i4);
+  f77(self, j0, j1, i2, i3, i4);
   j0 = l4;
   i0 = (u32)(j0);
   i0 = i32_load8_u(j0 + 1u);
@@ -70538,7 +69954,7 @@ static void f75(module *self, u64 p0, u64 p1, u32 p2, u32 p3) {
   i2 = 966u;
   i3 = p3;
   i4 = l6;
-  f76(self, j0, j1, i2, i3, i4);
+  f77(self, j0, j1, i2, i3, i4);
   j0 = l4;
   i0 = (u32)(j0);
   i0 = i32_load8_u(j0 + 9u);
@@ -70556,7 +69972,7 @@ static void f75(module *self, u64 p0, u64 p1, u32 p2, u32 p3) {
   i2 = 967u;
   i3 = p3;
   i4 = l6;
-  f76(self, j0, j1, i2, i3, i4);
+  f77(self, j0, j1, i2, i3, i4);
   j0 = l4;
   i0 = (u32)(j0);
   i0 = i32_load8_u(j0 + 17u);
@@ -70574,7 +69990,7 @@ static void f75(module *self, u64 p0, u64 p1, u32 p2, u32 p3) {
   i2 = 968u;
   i3 = p3;
   i4 = l6;
-  f76(self, j0, j1, i2, i3, i4);
+  f77(self, j0, j1, i2, i3, i4);
   j0 = l4;
   i0 = (u32)(j0);
   i0 = i32_load8_u(j0 + 25u);
@@ -70602,7 +70018,7 @@ static void f75(module *self, u64 p0, u64 p1, u32 p2, u32 p3) {
   self->g0 = j0;
 }
 
-static void f76(module *self, u64 p0, u64 p1, u32 p2, u32 p3, u32 p4) {
+static void f77(module *self, u64 p0, u64 p1, u32 p2, u32 p3, u32 p4) {
   u32 l6 = 0, l7 = 0, l8 = 0, l9 = 0, l10 = 0;
   u64 l5 = 0;
   u8 *m = self->memory;
@@ -70693,7 +70109,7 @@ static void f76(module *self, u64 p0, u64 p1, u32 p2, u32 p3, u32 p4) {
   j1 = p1;
   i2 = l8;
   i3 = p3;
-  f48(self, j0, j1, i2, i3);
+  f49(self, j0, j1, i2, i3);
   j0 = l5;
   i0 = (u32)(j0);
   i0 = i32_load8_u(j0 + 8u);
@@ -70785,7 +70201,7 @@ static void f76(module *self, u64 p0, u64 p1, u32 p2, u32 p3, u32 p4) {
   j1 = p1;
   i2 = l8;
   i3 = p4;
-  f48(self, j0, j1, i2, i3);
+  f49(self, j0, j1, i2, i3);
   j0 = l5;
   i0 = (u32)(j0);
   i0 = i32_load8_u(j0 + 1u);
@@ -70809,7 +70225,7 @@ static void f76(module *self, u64 p0, u64 p1, u32 p2, u32 p3, u32 p4) {
   self->g0 = j0;
 }
 
-static void f77(module *self, u64 p0, u64 p1, u64 p2) {
+static void f78(module *self, u64 p0, u64 p1, u64 p2) {
   u32 l20 = 0, l21 = 0, l22 = 0, l23 = 0, l24 = 0, l25 = 0, l26 = 0, l27 = 0, 
       l28 = 0;
   u64 l3 = 0, l4 = 0, l5 = 0, l6 = 0, l7 = 0, l8 = 0, l9 = 0, l10 = 0, 
@@ -72179,7 +71595,7 @@ static void f77(module *self, u64 p0, u64 p1, u64 p2) {
     j0 += j1;
     j1 = l19;
     j2 = l18;
-    f78(self, j0, j1, j2);
+    f79(self, j0, j1, j2);
     j0 = l3;
     i0 = (u32)(j0);
     j0 = i64_load(j0 + 288u);
@@ -72372,7 +71788,7 @@ static void f77(module *self, u64 p0, u64 p1, u64 p2) {
     j2 = l5;
     j3 = l4;
     i4 = l21;
-    f79(self, j0, j1, j2, j3, i4); if (NEVER(self->is_broken)) return;
+    f80(self, j0, j1, j2, j3, i4); if (NEVER(self->is_broken)) return;
     j0 = l3;
     i0 = (u32)(j0);
     j0 = i64_load(j0 + 256u);
@@ -72469,7 +71885,7 @@ static void f77(module *self, u64 p0, u64 p1, u64 p2) {
   self->g0 = j0;
 }
 
-static void f78(module *self, u64 p0, u64 p1, u64 p2) {
+static void f79(module *self, u64 p0, u64 p1, u64 p2) {
   u32 l6 = 0, l7 = 0, l8 = 0, l9 = 0, l10 = 0, l11 = 0;
   u64 l3 = 0, l4 = 0, l5 = 0;
   u8 *m = self->memory;
@@ -73078,7 +72494,7 @@ static void f78(module *self, u64 p0, u64 p1, u64 p2) {
   Bfunc:;
 }
 
-static void f79(module *self, u64 p0, u64 p1, u64 p2, u64 p3, u32 p4) {
+static void f80(module *self, u64 p0, u64 p1, u64 p2, u64 p3, u32 p4) {
   u32 l25 = 0, l26 = 0, l27 = 0, l28 = 0, l29 = 0, l30 = 0, l31 = 0, l32 = 0;
   u64 l5 = 0, l6 = 0, l7 = 0, l8 = 0, l9 = 0, l10 = 0, l11 = 0, l12 = 0, 
       l13 = 0, l14 = 0, l15 = 0, l16 = 0, l17 = 0, l18 = 0, l19 = 0, l20 = 0, 
@@ -74208,7 +73624,7 @@ static void f79(module *self, u64 p0, u64 p1, u64 p2, u64 p3, u32 p4) {
     j0 += j1;
     j1 = l7;
     j2 = p1;
-    f78(self, j0, j1, j2);
+    f79(self, j0, j1, j2);
     j0 = l5;
     i0 = (u32)(j0);
     j0 = i64_load(j0 + 72u);
@@ -75335,7 +74751,7 @@ static void f79(module *self, u64 p0, u64 p1, u64 p2, u64 p3, u32 p4) {
   j0 += j1;
   j1 = l22;
   j2 = l23;
-  f78(self, j0, j1, j2);
+  f79(self, j0, j1, j2);
   j0 = l5;
   i0 = (u32)(j0);
   j0 = i64_load(j0 + 72u);
@@ -75631,7 +75047,7 @@ static void f79(module *self, u64 p0, u64 p1, u64 p2, u64 p3, u32 p4) {
   self->g0 = j0;
 }
 
-static void f80(module *self, u64 p0, u64 p1, u64 p2) {
+static void f81(module *self, u64 p0, u64 p1, u64 p2) {
   u32 l15 = 0, l16 = 0, l17 = 0, l18 = 0;
   u64 l3 = 0, l4 = 0, l5 = 0, l6 = 0, l7 = 0, l8 = 0, l9 = 0, l10 = 0, 
       l11 = 0, l12 = 0, l13 = 0, l14 = 0;
@@ -75795,7 +75211,7 @@ static void f80(module *self, u64 p0, u64 p1, u64 p2) {
   i5 = 4096u;
   i4 = i4 < i5;
   j2 = i4 ? j2 : j3;
-  f81(self, j0, i1, j2);
+  f82(self, j0, i1, j2);
   j0 = l3;
   j1 = 560ull;
   j0 += j1;
@@ -75853,7 +75269,7 @@ static void f80(module *self, u64 p0, u64 p1, u64 p2) {
   j0 += j1;
   i1 = l15;
   j2 = 2ull;
-  f81(self, j0, i1, j2);
+  f82(self, j0, i1, j2);
   j0 = l3;
   i0 = (u32)(j0);
   j0 = i64_load(j0 + 840u);
@@ -75895,7 +75311,7 @@ static void f80(module *self, u64 p0, u64 p1, u64 p2) {
   if (i0) {goto B17;}
   j0 = p1;
   j1 = p2;
-  i0 = f14(self, j0, j1); m = self->memory; if (NEVER(self->is_broken)) return;
+  i0 = f15(self, j0, j1); m = self->memory; if (NEVER(self->is_broken)) return;
   i0 = !(i0);
   if (i0) {goto B1;}
   j0 = p1;
@@ -76010,7 +75426,7 @@ static void f80(module *self, u64 p0, u64 p1, u64 p2) {
   i5 = 4096u;
   i4 = i4 < i5;
   j2 = i4 ? j2 : j3;
-  f81(self, j0, i1, j2);
+  f82(self, j0, i1, j2);
   j0 = l3;
   j1 = 488ull;
   j0 += j1;
@@ -76068,7 +75484,7 @@ static void f80(module *self, u64 p0, u64 p1, u64 p2) {
   j0 += j1;
   i1 = l15;
   j2 = 4ull;
-  f81(self, j0, i1, j2);
+  f82(self, j0, i1, j2);
   j0 = l3;
   i0 = (u32)(j0);
   j0 = i64_load(j0 + 840u);
@@ -76110,7 +75526,7 @@ static void f80(module *self, u64 p0, u64 p1, u64 p2) {
   if (i0) {goto B21;}
   j0 = p1;
   j1 = p2;
-  i0 = f14(self, j0, j1); m = self->memory; if (NEVER(self->is_broken)) return;
+  i0 = f15(self, j0, j1); m = self->memory; if (NEVER(self->is_broken)) return;
   i0 = !(i0);
   if (i0) {goto B1;}
   j0 = p1;
@@ -76225,7 +75641,7 @@ static void f80(module *self, u64 p0, u64 p1, u64 p2) {
   i5 = 4096u;
   i4 = i4 < i5;
   j2 = i4 ? j2 : j3;
-  f81(self, j0, i1, j2);
+  f82(self, j0, i1, j2);
   j0 = l3;
   j1 = 272ull;
   j0 += j1;
@@ -76291,7 +75707,7 @@ static void f80(module *self, u64 p0, u64 p1, u64 p2) {
   if (i0) {goto B24;}
   j0 = p1;
   j1 = p2;
-  i0 = f14(self, j0, j1); m = self->memory; if (NEVER(self->is_broken)) return;
+  i0 = f15(self, j0, j1); m = self->memory; if (NEVER(self->is_broken)) return;
   i0 = !(i0);
   if (i0) {goto B1;}
   j0 = p1;
@@ -76414,7 +75830,7 @@ static void f80(module *self, u64 p0, u64 p1, u64 p2) {
   i5 = 4096u;
   i4 = i4 < i5;
   j2 = i4 ? j2 : j3;
-  f81(self, j0, i1, j2);
+  f82(self, j0, i1, j2);
   j0 = l3;
   j1 = 200ull;
   j0 += j1;
@@ -76480,7 +75896,7 @@ static void f80(module *self, u64 p0, u64 p1, u64 p2) {
   if (i0) {goto B27;}
   j0 = p1;
   j1 = p2;
-  i0 = f14(self, j0, j1); m = self->memory; if (NEVER(self->is_broken)) return;
+  i0 = f15(self, j0, j1); m = self->memory; if (NEVER(self->is_broken)) return;
   i0 = !(i0);
   if (i0) {goto B1;}
   j0 = p1;
@@ -76613,7 +76029,7 @@ static void f80(module *self, u64 p0, u64 p1, u64 p2) {
   i5 = 1048576u;
   i4 = i4 < i5;
   j2 = i4 ? j2 : j3;
-  f81(self, j0, i1, j2);
+  f82(self, j0, i1, j2);
   j0 = l3;
   j1 = 416ull;
   j0 += j1;
@@ -76671,7 +76087,7 @@ static void f80(module *self, u64 p0, u64 p1, u64 p2) {
   j0 += j1;
   i1 = l15;
   j2 = 2ull;
-  f81(self, j0, i1, j2);
+  f82(self, j0, i1, j2);
   j0 = l3;
   i0 = (u32)(j0);
   j0 = i64_load(j0 + 840u);
@@ -76713,7 +76129,7 @@ static void f80(module *self, u64 p0, u64 p1, u64 p2) {
   if (i0) {goto B31;}
   j0 = p1;
   j1 = p2;
-  i0 = f14(self, j0, j1); m = self->memory; if (NEVER(self->is_broken)) return;
+  i0 = f15(self, j0, j1); m = self->memory; if (NEVER(self->is_broken)) return;
   i0 = !(i0);
   if (i0) {goto B1;}
   j0 = p1;
@@ -76838,7 +76254,7 @@ static void f80(module *self, u64 p0, u64 p1, u64 p2) {
   i5 = 1048576u;
   i4 = i4 < i5;
   j2 = i4 ? j2 : j3;
-  f81(self, j0, i1, j2);
+  f82(self, j0, i1, j2);
   j0 = l3;
   j1 = 344ull;
   j0 += j1;
@@ -76896,7 +76312,7 @@ static void f80(module *self, u64 p0, u64 p1, u64 p2) {
   j0 += j1;
   i1 = l15;
   j2 = 4ull;
-  f81(self, j0, i1, j2);
+  f82(self, j0, i1, j2);
   j0 = l3;
   i0 = (u32)(j0);
   j0 = i64_load(j0 + 840u);
@@ -76938,7 +76354,7 @@ static void f80(module *self, u64 p0, u64 p1, u64 p2) {
   if (i0) {goto B35;}
   j0 = p1;
   j1 = p2;
-  i0 = f14(self, j0, j1); m = self->memory; if (NEVER(self->is_broken)) return;
+  i0 = f15(self, j0, j1); m = self->memory; if (NEVER(self->is_broken)) return;
   i0 = !(i0);
   if (i0) {goto B1;}
   j0 = p1;
@@ -77071,7 +76487,7 @@ static void f80(module *self, u64 p0, u64 p1, u64 p2) {
   i5 = 1048576u;
   i4 = i4 < i5;
   j2 = i4 ? j2 : j3;
-  f81(self, j0, i1, j2);
+  f82(self, j0, i1, j2);
   j0 = l3;
   j1 = 128ull;
   j0 += j1;
@@ -77137,7 +76553,7 @@ static void f80(module *self, u64 p0, u64 p1, u64 p2) {
   if (i0) {goto B38;}
   j0 = p1;
   j1 = p2;
-  i0 = f14(self, j0, j1); m = self->memory; if (NEVER(self->is_broken)) return;
+  i0 = f15(self, j0, j1); m = self->memory; if (NEVER(self->is_broken)) return;
   i0 = !(i0);
   if (i0) {goto B1;}
   j0 = p1;
@@ -77262,7 +76678,7 @@ static void f80(module *self, u64 p0, u64 p1, u64 p2) {
   i5 = 1048576u;
   i4 = i4 < i5;
   j2 = i4 ? j2 : j3;
-  f81(self, j0, i1, j2);
+  f82(self, j0, i1, j2);
   j0 = l3;
   j1 = 56ull;
   j0 += j1;
@@ -77328,7 +76744,7 @@ static void f80(module *self, u64 p0, u64 p1, u64 p2) {
   if (i0) {goto B41;}
   j0 = p1;
   j1 = p2;
-  i0 = f14(self, j0, j1); m = self->memory; if (NEVER(self->is_broken)) return;
+  i0 = f15(self, j0, j1); m = self->memory; if (NEVER(self->is_broken)) return;
   i0 = !(i0);
   if (i0) {goto B1;}
   j0 = p1;
@@ -77488,7 +76904,7 @@ static void f80(module *self, u64 p0, u64 p1, u64 p2) {
   j0 += j1;
   i1 = l18;
   j2 = 4ull;
-  f81(self, j0, i1, j2);
+  f82(self, j0, i1, j2);
   j0 = l3;
   i0 = (u32)(j0);
   j0 = i64_load(j0 + 840u);
@@ -77518,7 +76934,7 @@ static void f80(module *self, u64 p0, u64 p1, u64 p2) {
   j0 += j1;
   i1 = l17;
   j2 = 4ull;
-  f81(self, j0, i1, j2);
+  f82(self, j0, i1, j2);
   j0 = l3;
   i0 = (u32)(j0);
   j0 = i64_load(j0 + 840u);
@@ -77548,7 +76964,7 @@ static void f80(module *self, u64 p0, u64 p1, u64 p2) {
   j0 += j1;
   i1 = l16;
   j2 = 4ull;
-  f81(self, j0, i1, j2);
+  f82(self, j0, i1, j2);
   j0 = l3;
   i0 = (u32)(j0);
   j0 = i64_load(j0 + 840u);
@@ -77578,7 +76994,7 @@ static void f80(module *self, u64 p0, u64 p1, u64 p2) {
   j0 += j1;
   i1 = l15;
   j2 = 4ull;
-  f81(self, j0, i1, j2);
+  f82(self, j0, i1, j2);
   j0 = l3;
   j1 = 632ull;
   j0 += j1;
@@ -77659,7 +77075,7 @@ static void f80(module *self, u64 p0, u64 p1, u64 p2) {
   if (i0) {goto B48;}
   j0 = p1;
   j1 = p2;
-  i0 = f14(self, j0, j1); m = self->memory; if (NEVER(self->is_broken)) return;
+  i0 = f15(self, j0, j1); m = self->memory; if (NEVER(self->is_broken)) return;
   i0 = !(i0);
   if (i0) {goto B1;}
   j0 = p1;
@@ -77788,7 +77204,7 @@ static void f80(module *self, u64 p0, u64 p1, u64 p2) {
   if (i0) {goto B53;}
   j0 = p1;
   j1 = p2;
-  i0 = f14(self, j0, j1); m = self->memory; if (NEVER(self->is_broken)) return;
+  i0 = f15(self, j0, j1); m = self->memory; if (NEVER(self->is_broken)) return;
   i0 = !(i0);
   if (i0) {goto B1;}
   j0 = p1;
@@ -77861,7 +77277,7 @@ static void f80(module *self, u64 p0, u64 p1, u64 p2) {
   j0 += j1;
   j1 = l10;
   j2 = 1ull;
-  f163(self, j0, j1, j2); m = self->memory; if (NEVER(self->is_broken)) return;
+  f164(self, j0, j1, j2); m = self->memory; if (NEVER(self->is_broken)) return;
   i0 = 1u;
   l15 = i0;
   j0 = l3;
@@ -77952,7 +77368,7 @@ static void f80(module *self, u64 p0, u64 p1, u64 p2) {
   if (i0) {goto B59;}
   j0 = p1;
   j1 = l10;
-  i0 = f14(self, j0, j1); m = self->memory; if (NEVER(self->is_broken)) return;
+  i0 = f15(self, j0, j1); m = self->memory; if (NEVER(self->is_broken)) return;
   i0 = !(i0);
   if (i0) {goto B58;}
   j0 = p1;
@@ -78125,7 +77541,7 @@ static void f80(module *self, u64 p0, u64 p1, u64 p2) {
   j1 = l13;
   i64_store(j0, j1);
   j0 = l7;
-  f166(self, j0);
+  f167(self, j0);
   j0 = l4;
   i0 = (u32)(j0);
   j0 = i64_load(j0);
@@ -78138,7 +77554,7 @@ static void f80(module *self, u64 p0, u64 p1, u64 p2) {
   if (i0) {goto B65;}
   j0 = p1;
   j1 = 1ull;
-  i0 = f14(self, j0, j1); m = self->memory; if (NEVER(self->is_broken)) return;
+  i0 = f15(self, j0, j1); m = self->memory; if (NEVER(self->is_broken)) return;
   i0 = !(i0);
   if (i0) {goto B0;}
   j0 = p1;
@@ -78180,7 +77596,7 @@ static void f80(module *self, u64 p0, u64 p1, u64 p2) {
   goto B2;
   B58:;
   j0 = l7;
-  f166(self, j0);
+  f167(self, j0);
   goto B0;
   B5:;
   j0 = p2;
@@ -78252,7 +77668,7 @@ static void f80(module *self, u64 p0, u64 p1, u64 p2) {
   j2 = 704ull;
   j1 += j2;
   i2 = l15;
-  f82(self, j0, j1, i2); if (NEVER(self->is_broken)) return;
+  f83(self, j0, j1, i2); if (NEVER(self->is_broken)) return;
   j0 = l3;
   i0 = (u32)(j0);
   j0 = i64_load(j0 + 32u);
@@ -78329,7 +77745,7 @@ static void f80(module *self, u64 p0, u64 p1, u64 p2) {
   if (i0) {goto B70;}
   j0 = p1;
   j1 = p2;
-  i0 = f14(self, j0, j1); m = self->memory; if (NEVER(self->is_broken)) return;
+  i0 = f15(self, j0, j1); m = self->memory; if (NEVER(self->is_broken)) return;
   i0 = !(i0);
   if (i0) {goto B1;}
   j0 = p1;
@@ -78402,7 +77818,7 @@ static void f80(module *self, u64 p0, u64 p1, u64 p2) {
   if (i0) {goto B72;}
   j0 = p1;
   j1 = 6ull;
-  i0 = f14(self, j0, j1); m = self->memory; if (NEVER(self->is_broken)) return;
+  i0 = f15(self, j0, j1); m = self->memory; if (NEVER(self->is_broken)) return;
   i0 = !(i0);
   if (i0) {goto B1;}
   j0 = p1;
@@ -78518,7 +77934,7 @@ static void f80(module *self, u64 p0, u64 p1, u64 p2) {
   if (i0) {goto B82;}
   j0 = p1;
   j1 = 10ull;
-  i0 = f14(self, j0, j1); m = self->memory; if (NEVER(self->is_broken)) return;
+  i0 = f15(self, j0, j1); m = self->memory; if (NEVER(self->is_broken)) return;
   if (i0) {goto B83;}
   i0 = 1u;
   l15 = i0;
@@ -78643,7 +78059,7 @@ static void f80(module *self, u64 p0, u64 p1, u64 p2) {
   j0 += j1;
   i1 = l15;
   j2 = 2ull;
-  f81(self, j0, i1, j2);
+  f82(self, j0, i1, j2);
   j0 = 64ull;
   p2 = j0;
   j0 = l3;
@@ -78687,7 +78103,7 @@ static void f80(module *self, u64 p0, u64 p1, u64 p2) {
   if (i0) {goto B87;}
   j0 = p1;
   j1 = p2;
-  i0 = f14(self, j0, j1); m = self->memory; if (NEVER(self->is_broken)) return;
+  i0 = f15(self, j0, j1); m = self->memory; if (NEVER(self->is_broken)) return;
   i0 = !(i0);
   if (i0) {goto B1;}
   j0 = p1;
@@ -78762,7 +78178,7 @@ static void f80(module *self, u64 p0, u64 p1, u64 p2) {
   if (i0) {goto B89;}
   j0 = p1;
   j1 = 10ull;
-  i0 = f14(self, j0, j1); m = self->memory; if (NEVER(self->is_broken)) return;
+  i0 = f15(self, j0, j1); m = self->memory; if (NEVER(self->is_broken)) return;
   if (i0) {goto B90;}
   i0 = 1u;
   l15 = i0;
@@ -78856,7 +78272,7 @@ static void f80(module *self, u64 p0, u64 p1, u64 p2) {
   if (i0) {goto B93;}
   j0 = p1;
   j1 = 13ull;
-  i0 = f14(self, j0, j1); m = self->memory; if (NEVER(self->is_broken)) return;
+  i0 = f15(self, j0, j1); m = self->memory; if (NEVER(self->is_broken)) return;
   i0 = !(i0);
   if (i0) {goto B1;}
   j0 = p1;
@@ -78994,7 +78410,7 @@ static void f80(module *self, u64 p0, u64 p1, u64 p2) {
   j0 += j1;
   i1 = l15;
   j2 = 1ull;
-  f81(self, j0, i1, j2);
+  f82(self, j0, i1, j2);
   j0 = 64ull;
   p2 = j0;
   j0 = l3;
@@ -79024,7 +78440,7 @@ static void f80(module *self, u64 p0, u64 p1, u64 p2) {
   j0 += j1;
   i1 = l17;
   j2 = 4ull;
-  f81(self, j0, i1, j2);
+  f82(self, j0, i1, j2);
   j0 = l3;
   i0 = (u32)(j0);
   j0 = i64_load(j0 + 840u);
@@ -79075,7 +78491,7 @@ static void f80(module *self, u64 p0, u64 p1, u64 p2) {
   j2 = 704ull;
   j1 += j2;
   i2 = l16;
-  f82(self, j0, j1, i2); if (NEVER(self->is_broken)) return;
+  f83(self, j0, j1, i2); if (NEVER(self->is_broken)) return;
   j0 = 64ull;
   l4 = j0;
   j0 = 64ull;
@@ -79150,7 +78566,7 @@ static void f80(module *self, u64 p0, u64 p1, u64 p2) {
   if (i0) {goto B101;}
   j0 = p1;
   j1 = l4;
-  i0 = f14(self, j0, j1); m = self->memory; if (NEVER(self->is_broken)) return;
+  i0 = f15(self, j0, j1); m = self->memory; if (NEVER(self->is_broken)) return;
   i0 = !(i0);
   if (i0) {goto B1;}
   j0 = p1;
@@ -79225,7 +78641,7 @@ static void f80(module *self, u64 p0, u64 p1, u64 p2) {
   p2 = j0;
   j0 = p1;
   j1 = 9ull;
-  i0 = f14(self, j0, j1); m = self->memory; if (NEVER(self->is_broken)) return;
+  i0 = f15(self, j0, j1); m = self->memory; if (NEVER(self->is_broken)) return;
   if (i0) {goto B104;}
   i0 = 1u;
   l15 = i0;
@@ -79319,7 +78735,7 @@ static void f80(module *self, u64 p0, u64 p1, u64 p2) {
   if (i0) {goto B107;}
   j0 = p1;
   j1 = 11ull;
-  i0 = f14(self, j0, j1); m = self->memory; if (NEVER(self->is_broken)) return;
+  i0 = f15(self, j0, j1); m = self->memory; if (NEVER(self->is_broken)) return;
   i0 = !(i0);
   if (i0) {goto B1;}
   j0 = p1;
@@ -79428,7 +78844,7 @@ static void f80(module *self, u64 p0, u64 p1, u64 p2) {
   self->g0 = j0;
 }
 
-static void f81(module *self, u64 p0, u32 p1, u64 p2) {
+static void f82(module *self, u64 p0, u32 p1, u64 p2) {
   u64 l3 = 0;
   u8 *m = self->memory;
   u32 i0, i1, i2, i3, i4;
@@ -79443,7 +78859,7 @@ static void f81(module *self, u64 p0, u32 p1, u64 p2) {
   j2 = p2;
   j3 = 18446744073709551615ull;
   j2 += j3;
-  f81(self, j0, i1, j2);
+  f82(self, j0, i1, j2);
   j0 = p0;
   j1 = 64ull;
   j0 += j1;
@@ -79481,7 +78897,7 @@ static void f81(module *self, u64 p0, u32 p1, u64 p2) {
   B0:;
 }
 
-static void f82(module *self, u64 p0, u64 p1, u32 p2) {
+static void f83(module *self, u64 p0, u64 p1, u32 p2) {
   u32 l7 = 0;
   u64 l3 = 0, l4 = 0, l5 = 0, l6 = 0;
   u8 *m = self->memory;
@@ -79663,7 +79079,7 @@ static void f82(module *self, u64 p0, u64 p1, u32 p2) {
   i64_store(j0, j1);
 }
 
-static u32 f83(module *self, u64 p0, u32 p1, u32 p2) {
+static u32 f84(module *self, u64 p0, u32 p1, u32 p2) {
   u32 l3 = 0, l4 = 0, l5 = 0, l6 = 0, l7 = 0;
   u64 l8 = 0;
   u8 *m = self->memory;
@@ -79916,7 +79332,7 @@ static u32 f83(module *self, u64 p0, u32 p1, u32 p2) {
   return i0;
 }
 
-static u32 f84(module *self, u64 p0, u32 p1, u32 p2) {
+static u32 f85(module *self, u64 p0, u32 p1, u32 p2) {
   u32 l3 = 0, l4 = 0, l5 = 0, l6 = 0, l7 = 0;
   u8 *m = self->memory;
   u32 i0, i1, i2, i3, i4, i5;
@@ -80014,7 +79430,7 @@ static u32 f84(module *self, u64 p0, u32 p1, u32 p2) {
   j0 = p0;
   i1 = l3;
   i2 = p2;
-  i0 = f83(self, j0, i1, i2);
+  i0 = f84(self, j0, i1, i2);
   if (i0) {goto B3;}
   j0 = p0;
   i1 = l3;
@@ -80026,7 +79442,7 @@ static u32 f84(module *self, u64 p0, u32 p1, u32 p2) {
   return i0;
 }
 
-static u32 f85(module *self, u64 p0, u64 p1, u32 p2, u64 p3, u64 p4, u32 p5) {
+static u32 f86(module *self, u64 p0, u64 p1, u32 p2, u64 p3, u64 p4, u32 p5) {
   u32 l6 = 0, l7 = 0, l8 = 0, l9 = 0, l10 = 0, l11 = 0, l12 = 0;
   u8 *m = self->memory;
   u32 i0, i1, i2, i3;
@@ -80370,7 +79786,7 @@ static u32 f85(module *self, u64 p0, u64 p1, u32 p2, u64 p3, u64 p4, u32 p5) {
   return i0;
 }
 
-static u32 f86(module *self, u64 p0, u64 p1, u64 p2) {
+static u32 f87(module *self, u64 p0, u64 p1, u64 p2) {
   u32 l10 = 0, l11 = 0, l12 = 0, l13 = 0, l14 = 0, l15 = 0, l16 = 0, l17 = 0, 
       l18 = 0, l19 = 0, l20 = 0, l21 = 0, l22 = 0, l23 = 0, l24 = 0, l25 = 0, 
       l26 = 0, l27 = 0;
@@ -80623,7 +80039,7 @@ static u32 f86(module *self, u64 p0, u64 p1, u64 p2) {
   j0 = l3;
   j1 = 14ull;
   j0 += j1;
-  i0 = f23(self, j0);
+  i0 = f24(self, j0);
   i0 = !(i0);
   if (i0) {goto B0;}
   j0 = p1;
@@ -81218,13 +80634,13 @@ static u32 f86(module *self, u64 p0, u64 p1, u64 p2) {
   j1 = 14ull;
   j0 += j1;
   j1 = l7;
-  f87(self, j0, j1);
+  f88(self, j0, j1);
   j0 = l3;
   j1 = 14ull;
   j0 += j1;
   j1 = l6;
   j2 = l5;
-  i0 = f88(self, j0, j1, j2);
+  i0 = f89(self, j0, j1, j2);
   i0 = !(i0);
   if (i0) {goto B0;}
   j0 = p0;
@@ -81354,7 +80770,7 @@ static u32 f86(module *self, u64 p0, u64 p1, u64 p2) {
   j2 = p2;
   j3 = 18446744073709551576ull;
   j2 += j3;
-  f28(self, j0, j1, j2); m = self->memory; if (NEVER(self->is_broken)) return ZAK_BROKEN;
+  f29(self, j0, j1, j2); m = self->memory; if (NEVER(self->is_broken)) return ZAK_BROKEN;
   B0:;
   j0 = l3;
   j1 = 48ull;
@@ -81364,7 +80780,7 @@ static u32 f86(module *self, u64 p0, u64 p1, u64 p2) {
   return i0;
 }
 
-static void f87(module *self, u64 p0, u64 p1) {
+static void f88(module *self, u64 p0, u64 p1) {
   u32 l2 = 0, l3 = 0, l4 = 0, l5 = 0, l6 = 0, l7 = 0, l8 = 0;
   u8 *m = self->memory;
   u32 i0, i1, i2;
@@ -81457,7 +80873,7 @@ static void f87(module *self, u64 p0, u64 p1) {
   i32_store8(j0 + 11, i1);
 }
 
-static u32 f88(module *self, u64 p0, u64 p1, u64 p2) {
+static u32 f89(module *self, u64 p0, u64 p1, u64 p2) {
   u32 l3 = 0, l4 = 0, l5 = 0, l6 = 0, l7 = 0, l8 = 0, l9 = 0, l10 = 0;
   u64 l11 = 0;
   u8 *m = self->memory;
@@ -81591,7 +81007,7 @@ static u32 f88(module *self, u64 p0, u64 p1, u64 p2) {
   return i0;
 }
 
-static u32 f89(module *self, u64 p0, u64 p1) {
+static u32 f90(module *self, u64 p0, u64 p1) {
   u32 l2 = 0, l3 = 0, l4 = 0, l5 = 0, l6 = 0, l7 = 0, l8 = 0, l9 = 0;
   u64 l10 = 0, l11 = 0, l12 = 0, l13 = 0, l14 = 0, l15 = 0, l16 = 0, l17 = 0, 
       l18 = 0, l19 = 0, l20 = 0, l21 = 0, l22 = 0, l23 = 0, l24 = 0, l25 = 0, 
@@ -82210,7 +81626,7 @@ static u32 f89(module *self, u64 p0, u64 p1) {
   return i0;
 }
 
-static void f90(module *self, u64 p0, u64 p1, u64 p2, u64 p3, u64 p4, u64 p5, u64 p6) {
+static void f91(module *self, u64 p0, u64 p1, u64 p2, u64 p3, u64 p4, u64 p5, u64 p6) {
   u32 l15 = 0, l16 = 0, l17 = 0, l18 = 0, l19 = 0;
   u64 l7 = 0, l8 = 0, l9 = 0, l10 = 0, l11 = 0, l12 = 0, l13 = 0, l14 = 0;
   u8 *m = self->memory;
@@ -82270,7 +81686,7 @@ static void f90(module *self, u64 p0, u64 p1, u64 p2, u64 p3, u64 p4, u64 p5, u6
   j4 = p4;
   j5 = p5;
   j6 = p6;
-  f61(self, j0, j1, j2, j3, j4, j5, j6); m = self->memory; if (NEVER(self->is_broken)) return;
+  f62(self, j0, j1, j2, j3, j4, j5, j6); m = self->memory; if (NEVER(self->is_broken)) return;
   j0 = l7;
   i0 = (u32)(j0);
   i0 = i32_load8_u(j0 + 40u);
@@ -82411,7 +81827,7 @@ static void f90(module *self, u64 p0, u64 p1, u64 p2, u64 p3, u64 p4, u64 p5, u6
   j1 = 208ull;
   j0 += j1;
   j1 = p3;
-  f91(self, j0, j1); if (NEVER(self->is_broken)) return;
+  f92(self, j0, j1); if (NEVER(self->is_broken)) return;
   j0 = l7;
   i0 = (u32)(j0);
   j0 = i64_load(j0 + 264u);
@@ -83048,7 +82464,7 @@ static void f90(module *self, u64 p0, u64 p1, u64 p2, u64 p3, u64 p4, u64 p5, u6
   if (i0) {goto B19;}
   j0 = p1;
   j1 = p3;
-  i0 = f92(self, j0, j1); m = self->memory; if (NEVER(self->is_broken)) return;
+  i0 = f93(self, j0, j1); m = self->memory; if (NEVER(self->is_broken)) return;
   i0 = !(i0);
   if (i0) {goto B6;}
   j0 = p1;
@@ -83192,7 +82608,7 @@ static void f90(module *self, u64 p0, u64 p1, u64 p2, u64 p3, u64 p4, u64 p5, u6
   if (i0) {goto B27;}
   j0 = p1;
   j1 = 7ull;
-  i0 = f92(self, j0, j1); m = self->memory; if (NEVER(self->is_broken)) return;
+  i0 = f93(self, j0, j1); m = self->memory; if (NEVER(self->is_broken)) return;
   i0 = !(i0);
   if (i0) {goto B26;}
   j0 = l10;
@@ -83276,7 +82692,7 @@ static void f90(module *self, u64 p0, u64 p1, u64 p2, u64 p3, u64 p4, u64 p5, u6
     if (i0) {goto B32;}
     j0 = p1;
     j1 = 2ull;
-    i0 = f92(self, j0, j1); m = self->memory; if (NEVER(self->is_broken)) return;
+    i0 = f93(self, j0, j1); m = self->memory; if (NEVER(self->is_broken)) return;
     i0 = !(i0);
     if (i0) {goto B30;}
     j0 = p1;
@@ -83818,7 +83234,7 @@ static void f90(module *self, u64 p0, u64 p1, u64 p2, u64 p3, u64 p4, u64 p5, u6
   if (i0) {goto B51;}
   j0 = p1;
   j1 = 10ull;
-  i0 = f92(self, j0, j1); m = self->memory; if (NEVER(self->is_broken)) return;
+  i0 = f93(self, j0, j1); m = self->memory; if (NEVER(self->is_broken)) return;
   i0 = !(i0);
   if (i0) {goto B50;}
   j0 = p1;
@@ -84004,7 +83420,7 @@ static void f90(module *self, u64 p0, u64 p1, u64 p2, u64 p3, u64 p4, u64 p5, u6
   if (i0) {goto B55;}
   j0 = p1;
   j1 = 11ull;
-  i0 = f92(self, j0, j1); m = self->memory; if (NEVER(self->is_broken)) return;
+  i0 = f93(self, j0, j1); m = self->memory; if (NEVER(self->is_broken)) return;
   i0 = !(i0);
   if (i0) {goto B54;}
   j0 = p1;
@@ -84206,7 +83622,7 @@ static void f90(module *self, u64 p0, u64 p1, u64 p2, u64 p3, u64 p4, u64 p5, u6
   if (i0) {goto B59;}
   j0 = p1;
   j1 = 12ull;
-  i0 = f92(self, j0, j1); m = self->memory; if (NEVER(self->is_broken)) return;
+  i0 = f93(self, j0, j1); m = self->memory; if (NEVER(self->is_broken)) return;
   i0 = !(i0);
   if (i0) {goto B58;}
   j0 = p1;
@@ -84408,7 +83824,7 @@ static void f90(module *self, u64 p0, u64 p1, u64 p2, u64 p3, u64 p4, u64 p5, u6
   if (i0) {goto B63;}
   j0 = p1;
   j1 = p3;
-  i0 = f92(self, j0, j1); m = self->memory; if (NEVER(self->is_broken)) return;
+  i0 = f93(self, j0, j1); m = self->memory; if (NEVER(self->is_broken)) return;
   i0 = !(i0);
   if (i0) {goto B62;}
   j0 = p1;
@@ -84609,7 +84025,7 @@ static void f90(module *self, u64 p0, u64 p1, u64 p2, u64 p3, u64 p4, u64 p5, u6
   if (i0) {goto B70;}
   j0 = p1;
   j1 = 1ull;
-  i0 = f92(self, j0, j1); m = self->memory; if (NEVER(self->is_broken)) return;
+  i0 = f93(self, j0, j1); m = self->memory; if (NEVER(self->is_broken)) return;
   i0 = !(i0);
   if (i0) {goto B69;}
   j0 = l10;
@@ -84692,12 +84108,12 @@ static void f90(module *self, u64 p0, u64 p1, u64 p2, u64 p3, u64 p4, u64 p5, u6
   j0 = i64_load(j0 + 16u);
   p3 = j0;
   j0 = p1;
-  f166(self, j0);
+  f167(self, j0);
   j0 = p3;
   i0 = !(j0);
   if (i0) {goto B0;}
   j0 = p6;
-  f166(self, j0);
+  f167(self, j0);
   B0:;
   j0 = p0;
   i0 = (u32)(j0);
@@ -84722,7 +84138,7 @@ static void f90(module *self, u64 p0, u64 p1, u64 p2, u64 p3, u64 p4, u64 p5, u6
   self->g0 = j0;
 }
 
-static void f91(module *self, u64 p0, u64 p1) {
+static void f92(module *self, u64 p0, u64 p1) {
   u32 l6 = 0, l7 = 0;
   u64 l2 = 0, l3 = 0, l4 = 0, l5 = 0;
   u8 *m = self->memory;
@@ -85002,7 +84418,7 @@ static void f91(module *self, u64 p0, u64 p1) {
   B8:;
 }
 
-static u32 f92(module *self, u64 p0, u64 p1) {
+static u32 f93(module *self, u64 p0, u64 p1) {
   u32 l6 = 0;
   u64 l2 = 0, l3 = 0, l4 = 0, l5 = 0;
   u8 *m = self->memory;
@@ -85071,7 +84487,7 @@ static u32 f92(module *self, u64 p0, u64 p1) {
   j2 = l3;
   j3 = p1;
   j4 = 1ull;
-  f165(self, j0, j1, j2, j3, j4); m = self->memory; if (NEVER(self->is_broken)) return ZAK_BROKEN;
+  f166(self, j0, j1, j2, j3, j4); m = self->memory; if (NEVER(self->is_broken)) return ZAK_BROKEN;
   j0 = l2;
   i0 = (u32)(j0);
   j0 = i64_load(j0 + 16u);
@@ -85089,7 +84505,7 @@ static u32 f92(module *self, u64 p0, u64 p1) {
   j0 = l2;
   j1 = l5;
   j2 = 1ull;
-  f163(self, j0, j1, j2); m = self->memory; if (NEVER(self->is_broken)) return ZAK_BROKEN;
+  f164(self, j0, j1, j2); m = self->memory; if (NEVER(self->is_broken)) return ZAK_BROKEN;
   j0 = l2;
   i0 = (u32)(j0);
   j0 = i64_load(j0);
@@ -85124,7 +84540,7 @@ static u32 f92(module *self, u64 p0, u64 p1) {
   return i0;
 }
 
-static void f93(module *self, u64 p0, u64 p1, u64 p2, u64 p3) {
+static void f94(module *self, u64 p0, u64 p1, u64 p2, u64 p3) {
   u32 l14 = 0, l15 = 0, l16 = 0;
   u64 l4 = 0, l5 = 0, l6 = 0, l7 = 0, l8 = 0, l9 = 0, l10 = 0, l11 = 0, 
       l12 = 0, l13 = 0;
@@ -85235,7 +84651,7 @@ static void f93(module *self, u64 p0, u64 p1, u64 p2, u64 p3) {
   j2 = 1792ull;
   j1 += j2;
   i2 = l15;
-  f82(self, j0, j1, i2); if (NEVER(self->is_broken)) return;
+  f83(self, j0, j1, i2); if (NEVER(self->is_broken)) return;
   j0 = l4;
   i0 = (u32)(j0);
   j0 = i64_load(j0 + 72u);
@@ -85269,7 +84685,7 @@ static void f93(module *self, u64 p0, u64 p1, u64 p2, u64 p3) {
   j2 = 1792ull;
   j1 += j2;
   i2 = l14;
-  f82(self, j0, j1, i2); if (NEVER(self->is_broken)) return;
+  f83(self, j0, j1, i2); if (NEVER(self->is_broken)) return;
   j0 = l4;
   i0 = (u32)(j0);
   j0 = i64_load(j0 + 56u);
@@ -85310,7 +84726,7 @@ static void f93(module *self, u64 p0, u64 p1, u64 p2, u64 p3) {
   j1 = 1792ull;
   j0 += j1;
   j1 = p2;
-  f91(self, j0, j1); if (NEVER(self->is_broken)) return;
+  f92(self, j0, j1); if (NEVER(self->is_broken)) return;
   i0 = l15;
   i1 = l14;
   i0 *= i1;
@@ -85391,7 +84807,7 @@ static void f93(module *self, u64 p0, u64 p1, u64 p2, u64 p3) {
   j2 = 1000ull;
   j1 += j2;
   i2 = l16;
-  f82(self, j0, j1, i2); if (NEVER(self->is_broken)) return;
+  f83(self, j0, j1, i2); if (NEVER(self->is_broken)) return;
   j0 = 52ull;
   j1 = p3;
   j0 -= j1;
@@ -85558,7 +84974,7 @@ static void f93(module *self, u64 p0, u64 p1, u64 p2, u64 p3) {
   if (i0) {goto B14;}
   j0 = p1;
   j1 = p3;
-  i0 = f92(self, j0, j1); m = self->memory; if (NEVER(self->is_broken)) return;
+  i0 = f93(self, j0, j1); m = self->memory; if (NEVER(self->is_broken)) return;
   i0 = !(i0);
   if (i0) {goto B4;}
   j0 = p1;
@@ -85679,7 +85095,7 @@ static void f93(module *self, u64 p0, u64 p1, u64 p2, u64 p3) {
   j2 = 2584ull;
   j1 += j2;
   i2 = l15;
-  f82(self, j0, j1, i2); if (NEVER(self->is_broken)) return;
+  f83(self, j0, j1, i2); if (NEVER(self->is_broken)) return;
   j0 = l4;
   i0 = (u32)(j0);
   j0 = i64_load(j0 + 24u);
@@ -85755,7 +85171,7 @@ static void f93(module *self, u64 p0, u64 p1, u64 p2, u64 p3) {
   j2 = 2584ull;
   j1 += j2;
   i2 = l14;
-  f82(self, j0, j1, i2); if (NEVER(self->is_broken)) return;
+  f83(self, j0, j1, i2); if (NEVER(self->is_broken)) return;
   j0 = 782ull;
   j1 = p3;
   j0 -= j1;
@@ -85861,7 +85277,7 @@ static void f93(module *self, u64 p0, u64 p1, u64 p2, u64 p3) {
   if (i0) {goto B23;}
   j0 = p1;
   j1 = p3;
-  i0 = f92(self, j0, j1); m = self->memory; if (NEVER(self->is_broken)) return;
+  i0 = f93(self, j0, j1); m = self->memory; if (NEVER(self->is_broken)) return;
   i0 = !(i0);
   if (i0) {goto B3;}
   j0 = p1;
@@ -85932,7 +85348,7 @@ static void f93(module *self, u64 p0, u64 p1, u64 p2, u64 p3) {
   if (i0) {goto B27;}
   j0 = p1;
   j1 = l5;
-  i0 = f92(self, j0, j1); m = self->memory; if (NEVER(self->is_broken)) return;
+  i0 = f93(self, j0, j1); m = self->memory; if (NEVER(self->is_broken)) return;
   i0 = !(i0);
   if (i0) {goto B2;}
   j0 = p1;
@@ -86110,7 +85526,7 @@ static void f93(module *self, u64 p0, u64 p1, u64 p2, u64 p3) {
   if (i0) {goto B34;}
   j0 = p1;
   j1 = 1ull;
-  i0 = f92(self, j0, j1); m = self->memory; if (NEVER(self->is_broken)) return;
+  i0 = f93(self, j0, j1); m = self->memory; if (NEVER(self->is_broken)) return;
   i0 = !(i0);
   if (i0) {goto B33;}
   j0 = p1;
@@ -86207,7 +85623,7 @@ static void f93(module *self, u64 p0, u64 p1, u64 p2, u64 p3) {
   j1 = 1792ull;
   j0 += j1;
   j1 = p2;
-  f91(self, j0, j1); if (NEVER(self->is_broken)) return;
+  f92(self, j0, j1); if (NEVER(self->is_broken)) return;
   j0 = l4;
   i0 = (u32)(j0);
   j0 = i64_load(j0 + 1848u);
@@ -86267,7 +85683,7 @@ static void f93(module *self, u64 p0, u64 p1, u64 p2, u64 p3) {
   if (i0) {goto B37;}
   j0 = p1;
   j1 = p3;
-  i0 = f92(self, j0, j1); m = self->memory; if (NEVER(self->is_broken)) return;
+  i0 = f93(self, j0, j1); m = self->memory; if (NEVER(self->is_broken)) return;
   i0 = !(i0);
   if (i0) {goto B36;}
   j0 = p1;
@@ -86388,7 +85804,7 @@ static void f93(module *self, u64 p0, u64 p1, u64 p2, u64 p3) {
   self->g0 = j0;
 }
 
-static void f94(module *self, u64 p0, u64 p1, u64 p2, u64 p3, u64 p4) {
+static void f95(module *self, u64 p0, u64 p1, u64 p2, u64 p3, u64 p4) {
   u32 l8 = 0;
   u64 l5 = 0, l6 = 0, l7 = 0;
   u8 *m = self->memory;
@@ -86461,7 +85877,7 @@ static void f94(module *self, u64 p0, u64 p1, u64 p2, u64 p3, u64 p4) {
   j1 = 32ull;
   j0 += j1;
   j1 = p2;
-  f91(self, j0, j1); if (NEVER(self->is_broken)) return;
+  f92(self, j0, j1); if (NEVER(self->is_broken)) return;
   j0 = l5;
   i0 = (u32)(j0);
   j0 = i64_load(j0 + 88u);
@@ -86487,7 +85903,7 @@ static void f94(module *self, u64 p0, u64 p1, u64 p2, u64 p3, u64 p4) {
   if (i0) {goto B6;}
   j0 = p1;
   j1 = p4;
-  i0 = f92(self, j0, j1); m = self->memory; if (NEVER(self->is_broken)) return;
+  i0 = f93(self, j0, j1); m = self->memory; if (NEVER(self->is_broken)) return;
   i0 = !(i0);
   if (i0) {goto B4;}
   j0 = p1;
@@ -86546,7 +85962,7 @@ static void f94(module *self, u64 p0, u64 p1, u64 p2, u64 p3, u64 p4) {
   j3 = l5;
   j4 = 26ull;
   j3 += j4;
-  f95(self, j0, j1, j2, j3); m = self->memory; if (NEVER(self->is_broken)) return;
+  f96(self, j0, j1, j2, j3); m = self->memory; if (NEVER(self->is_broken)) return;
   j0 = l5;
   i0 = (u32)(j0);
   i0 = i32_load8_u(j0);
@@ -86693,7 +86109,7 @@ static void f94(module *self, u64 p0, u64 p1, u64 p2, u64 p3, u64 p4) {
   if (i0) {goto B10;}
   j0 = p1;
   j1 = p2;
-  i0 = f92(self, j0, j1); m = self->memory; if (NEVER(self->is_broken)) return;
+  i0 = f93(self, j0, j1); m = self->memory; if (NEVER(self->is_broken)) return;
   i0 = !(i0);
   if (i0) {goto B9;}
   j0 = p1;
@@ -86786,7 +86202,7 @@ static void f94(module *self, u64 p0, u64 p1, u64 p2, u64 p3, u64 p4) {
   self->g0 = j0;
 }
 
-static void f95(module *self, u64 p0, u64 p1, u64 p2, u64 p3) {
+static void f96(module *self, u64 p0, u64 p1, u64 p2, u64 p3) {
   u32 l13 = 0, l14 = 0, l15 = 0, l16 = 0, l17 = 0, l18 = 0, l19 = 0, l20 = 0, 
       l21 = 0;
   u64 l4 = 0, l5 = 0, l6 = 0, l7 = 0, l8 = 0, l9 = 0, l10 = 0, l11 = 0, 
@@ -86930,7 +86346,7 @@ static void f95(module *self, u64 p0, u64 p1, u64 p2, u64 p3) {
   j5 = 33ull;
   j4 += j5;
   j5 = 5ull;
-  f96(self, j0, j1, j2, i3, j4, j5);
+  f97(self, j0, j1, j2, i3, j4, j5);
   j0 = l4;
   j1 = 2552ull;
   j0 += j1;
@@ -86945,7 +86361,7 @@ static void f95(module *self, u64 p0, u64 p1, u64 p2, u64 p3) {
   j5 = 105ull;
   j4 += j5;
   j5 = 25ull;
-  f96(self, j0, j1, j2, i3, j4, j5);
+  f97(self, j0, j1, j2, i3, j4, j5);
   j0 = l4;
   j1 = 2552ull;
   j0 += j1;
@@ -86960,7 +86376,7 @@ static void f95(module *self, u64 p0, u64 p1, u64 p2, u64 p3) {
   j5 = 47ull;
   j4 += j5;
   j5 = 9ull;
-  f96(self, j0, j1, j2, i3, j4, j5);
+  f97(self, j0, j1, j2, i3, j4, j5);
   j0 = l4;
   i0 = (u32)(j0);
   j0 = i64_load(j0 + 3336u);
@@ -87498,7 +86914,7 @@ static void f95(module *self, u64 p0, u64 p1, u64 p2, u64 p3) {
   if (i0) {goto B32;}
   j0 = p1;
   j1 = 19ull;
-  i0 = f92(self, j0, j1); m = self->memory; if (NEVER(self->is_broken)) return;
+  i0 = f93(self, j0, j1); m = self->memory; if (NEVER(self->is_broken)) return;
   i0 = !(i0);
   if (i0) {goto B31;}
   j0 = p1;
@@ -88006,7 +87422,7 @@ static void f95(module *self, u64 p0, u64 p1, u64 p2, u64 p3) {
   j2 = 136ull;
   j1 += j2;
   i2 = l17;
-  f82(self, j0, j1, i2); if (NEVER(self->is_broken)) return;
+  f83(self, j0, j1, i2); if (NEVER(self->is_broken)) return;
   j0 = l4;
   i0 = (u32)(j0);
   j0 = i64_load(j0 + 128u);
@@ -88272,7 +87688,7 @@ static void f95(module *self, u64 p0, u64 p1, u64 p2, u64 p3) {
   j2 = 136ull;
   j1 += j2;
   i2 = l15;
-  f82(self, j0, j1, i2); if (NEVER(self->is_broken)) return;
+  f83(self, j0, j1, i2); if (NEVER(self->is_broken)) return;
   j0 = 782ull;
   l7 = j0;
   j0 = 782ull;
@@ -88528,7 +87944,7 @@ static void f95(module *self, u64 p0, u64 p1, u64 p2, u64 p3) {
   j2 = 136ull;
   j1 += j2;
   i2 = l16;
-  f82(self, j0, j1, i2); if (NEVER(self->is_broken)) return;
+  f83(self, j0, j1, i2); if (NEVER(self->is_broken)) return;
   j0 = 782ull;
   l12 = j0;
   j0 = 782ull;
@@ -88796,7 +88212,7 @@ static void f95(module *self, u64 p0, u64 p1, u64 p2, u64 p3) {
   j2 = 136ull;
   j1 += j2;
   i2 = l13;
-  f82(self, j0, j1, i2); if (NEVER(self->is_broken)) return;
+  f83(self, j0, j1, i2); if (NEVER(self->is_broken)) return;
   j0 = 782ull;
   l7 = j0;
   j0 = 782ull;
@@ -88953,7 +88369,7 @@ static void f95(module *self, u64 p0, u64 p1, u64 p2, u64 p3) {
   j1 = 1049376ull;
   j2 = 4ull;
   i3 = l21;
-  f97(self, j0, j1, j2, i3);
+  f98(self, j0, j1, j2, i3);
   j0 = l4;
   i0 = (u32)(j0);
   j0 = i64_load(j0 + 3336u);
@@ -89061,7 +88477,7 @@ static void f95(module *self, u64 p0, u64 p1, u64 p2, u64 p3) {
   j2 = 136ull;
   j1 += j2;
   i2 = l20;
-  f82(self, j0, j1, i2); if (NEVER(self->is_broken)) return;
+  f83(self, j0, j1, i2); if (NEVER(self->is_broken)) return;
   j0 = 782ull;
   p2 = j0;
   j0 = 782ull;
@@ -89317,7 +88733,7 @@ static void f95(module *self, u64 p0, u64 p1, u64 p2, u64 p3) {
   j2 = 136ull;
   j1 += j2;
   i2 = l19;
-  f82(self, j0, j1, i2); if (NEVER(self->is_broken)) return;
+  f83(self, j0, j1, i2); if (NEVER(self->is_broken)) return;
   j0 = 782ull;
   l7 = j0;
   j0 = 782ull;
@@ -89585,7 +89001,7 @@ static void f95(module *self, u64 p0, u64 p1, u64 p2, u64 p3) {
   j2 = 136ull;
   j1 += j2;
   i2 = l18;
-  f82(self, j0, j1, i2); if (NEVER(self->is_broken)) return;
+  f83(self, j0, j1, i2); if (NEVER(self->is_broken)) return;
   j0 = 782ull;
   p2 = j0;
   j0 = 782ull;
@@ -89827,7 +89243,7 @@ static void f95(module *self, u64 p0, u64 p1, u64 p2, u64 p3) {
   j2 = 136ull;
   j1 += j2;
   i2 = l14;
-  f82(self, j0, j1, i2); if (NEVER(self->is_broken)) return;
+  f83(self, j0, j1, i2); if (NEVER(self->is_broken)) return;
   j0 = 782ull;
   j1 = p2;
   j0 -= j1;
@@ -90043,7 +89459,7 @@ static void f95(module *self, u64 p0, u64 p1, u64 p2, u64 p3) {
   if (i0) {goto B119;}
   j0 = p1;
   j1 = p3;
-  i0 = f92(self, j0, j1); m = self->memory; if (NEVER(self->is_broken)) return;
+  i0 = f93(self, j0, j1); m = self->memory; if (NEVER(self->is_broken)) return;
   i0 = !(i0);
   if (i0) {goto B118;}
   j0 = p1;
@@ -90153,7 +89569,7 @@ static void f95(module *self, u64 p0, u64 p1, u64 p2, u64 p3) {
   if (i0) {goto B122;}
   j0 = p1;
   j1 = 20ull;
-  i0 = f92(self, j0, j1); m = self->memory; if (NEVER(self->is_broken)) return;
+  i0 = f93(self, j0, j1); m = self->memory; if (NEVER(self->is_broken)) return;
   i0 = !(i0);
   if (i0) {goto B121;}
   j0 = p1;
@@ -90705,7 +90121,7 @@ static void f95(module *self, u64 p0, u64 p1, u64 p2, u64 p3) {
   if (i0) {goto B129;}
   j0 = p1;
   j1 = p3;
-  i0 = f92(self, j0, j1); m = self->memory; if (NEVER(self->is_broken)) return;
+  i0 = f93(self, j0, j1); m = self->memory; if (NEVER(self->is_broken)) return;
   i0 = !(i0);
   if (i0) {goto B128;}
   j0 = p1;
@@ -90908,7 +90324,7 @@ static void f95(module *self, u64 p0, u64 p1, u64 p2, u64 p3) {
   j3 += j4;
   i3 = (u32)(j3);
   i3 = i32_load16_u(j3);
-  f97(self, j0, j1, j2, i3);
+  f98(self, j0, j1, j2, i3);
   j0 = l4;
   j1 = 2552ull;
   j0 += j1;
@@ -90919,7 +90335,7 @@ static void f95(module *self, u64 p0, u64 p1, u64 p2, u64 p3) {
   j3 += j4;
   i3 = (u32)(j3);
   i3 = i32_load16_u(j3);
-  f97(self, j0, j1, j2, i3);
+  f98(self, j0, j1, j2, i3);
   j0 = l4;
   j1 = 2552ull;
   j0 += j1;
@@ -90930,7 +90346,7 @@ static void f95(module *self, u64 p0, u64 p1, u64 p2, u64 p3) {
   j3 += j4;
   i3 = (u32)(j3);
   i3 = i32_load16_u(j3);
-  f97(self, j0, j1, j2, i3);
+  f98(self, j0, j1, j2, i3);
   j0 = l4;
   i0 = (u32)(j0);
   j0 = i64_load(j0 + 3336u);
@@ -91129,7 +90545,7 @@ static void f95(module *self, u64 p0, u64 p1, u64 p2, u64 p3) {
   j3 += j4;
   i3 = (u32)(j3);
   i3 = i32_load16_u(j3);
-  f97(self, j0, j1, j2, i3);
+  f98(self, j0, j1, j2, i3);
   j0 = l4;
   i0 = (u32)(j0);
   j0 = i64_load(j0 + 3336u);
@@ -91275,7 +90691,7 @@ static void f95(module *self, u64 p0, u64 p1, u64 p2, u64 p3) {
   j3 += j4;
   i3 = (u32)(j3);
   i3 = i32_load16_u(j3);
-  f97(self, j0, j1, j2, i3);
+  f98(self, j0, j1, j2, i3);
   j0 = l4;
   i0 = (u32)(j0);
   j0 = i64_load(j0 + 3336u);
@@ -91421,7 +90837,7 @@ static void f95(module *self, u64 p0, u64 p1, u64 p2, u64 p3) {
   j3 += j4;
   i3 = (u32)(j3);
   i3 = i32_load16_u(j3);
-  f97(self, j0, j1, j2, i3);
+  f98(self, j0, j1, j2, i3);
   j0 = l4;
   i0 = (u32)(j0);
   j0 = i64_load(j0 + 3336u);
@@ -91491,7 +90907,7 @@ static void f95(module *self, u64 p0, u64 p1, u64 p2, u64 p3) {
   if (i0) {goto B149;}
   j0 = p1;
   j1 = p3;
-  i0 = f92(self, j0, j1); m = self->memory; if (NEVER(self->is_broken)) return;
+  i0 = f93(self, j0, j1); m = self->memory; if (NEVER(self->is_broken)) return;
   i0 = !(i0);
   if (i0) {goto B148;}
   j0 = p1;
@@ -91912,7 +91328,7 @@ static void f95(module *self, u64 p0, u64 p1, u64 p2, u64 p3) {
     if (i0) {goto B163;}
     j0 = p1;
     j1 = p3;
-    i0 = f92(self, j0, j1); m = self->memory; if (NEVER(self->is_broken)) return;
+    i0 = f93(self, j0, j1); m = self->memory; if (NEVER(self->is_broken)) return;
     i0 = !(i0);
     if (i0) {goto B151;}
     j0 = p1;
@@ -92377,7 +91793,7 @@ static void f95(module *self, u64 p0, u64 p1, u64 p2, u64 p3) {
   if (i0) {goto B171;}
   j0 = p1;
   j1 = p3;
-  i0 = f92(self, j0, j1); m = self->memory; if (NEVER(self->is_broken)) return;
+  i0 = f93(self, j0, j1); m = self->memory; if (NEVER(self->is_broken)) return;
   i0 = !(i0);
   if (i0) {goto B170;}
   j0 = p1;
@@ -92490,7 +91906,7 @@ static void f95(module *self, u64 p0, u64 p1, u64 p2, u64 p3) {
   self->g0 = j0;
 }
 
-static void f96(module *self, u64 p0, u64 p1, u64 p2, u32 p3, u64 p4, u64 p5) {
+static void f97(module *self, u64 p0, u64 p1, u64 p2, u32 p3, u64 p4, u64 p5) {
   u32 l8 = 0;
   u64 l6 = 0, l7 = 0;
   u8 *m = self->memory;
@@ -92778,7 +92194,7 @@ static void f96(module *self, u64 p0, u64 p1, u64 p2, u32 p3, u64 p4, u64 p5) {
   B3:;
 }
 
-static void f97(module *self, u64 p0, u64 p1, u64 p2, u32 p3) {
+static void f98(module *self, u64 p0, u64 p1, u64 p2, u32 p3) {
   u32 l7 = 0, l8 = 0;
   u64 l4 = 0, l5 = 0, l6 = 0;
   u8 *m = self->memory;
@@ -93000,7 +92416,7 @@ static void f97(module *self, u64 p0, u64 p1, u64 p2, u32 p3) {
   B4:;
 }
 
-static void f98(module *self, u64 p0, u64 p1, u64 p2, u64 p3, u64 p4, u64 p5) {
+static void f99(module *self, u64 p0, u64 p1, u64 p2, u64 p3, u64 p4, u64 p5) {
   u32 l37 = 0, l38 = 0, l39 = 0, l40 = 0, l41 = 0, l42 = 0, l43 = 0, l44 = 0, 
       l45 = 0, l46 = 0;
   u64 l6 = 0, l7 = 0, l8 = 0, l9 = 0, l10 = 0, l11 = 0, l12 = 0, l13 = 0, 
@@ -94424,7 +93840,7 @@ static void f98(module *self, u64 p0, u64 p1, u64 p2, u64 p3, u64 p4, u64 p5) {
     j0 += j1;
     j1 = l28;
     j2 = p4;
-    f78(self, j0, j1, j2);
+    f79(self, j0, j1, j2);
     j0 = l6;
     i0 = (u32)(j0);
     i0 = i32_load16_u(j0 + 162u);
@@ -94690,7 +94106,7 @@ static void f98(module *self, u64 p0, u64 p1, u64 p2, u64 p3, u64 p4, u64 p5) {
     j1 = l6;
     j2 = 48ull;
     j1 += j2;
-    f99(self, j0, j1); if (NEVER(self->is_broken)) return;
+    f100(self, j0, j1); if (NEVER(self->is_broken)) return;
     j0 = l6;
     i0 = (u32)(j0);
     j0 = i64_load(j0 + 96u);
@@ -95926,7 +95342,7 @@ static void f98(module *self, u64 p0, u64 p1, u64 p2, u64 p3, u64 p4, u64 p5) {
     j0 += j1;
     j1 = l22;
     j2 = l23;
-    f78(self, j0, j1, j2);
+    f79(self, j0, j1, j2);
     j0 = l6;
     i0 = (u32)(j0);
     i0 = i32_load16_u(j0 + 162u);
@@ -96358,7 +95774,7 @@ static void f98(module *self, u64 p0, u64 p1, u64 p2, u64 p3, u64 p4, u64 p5) {
     j1 = p3;
     i2 = l46;
     i3 = l40;
-    f48(self, j0, j1, i2, i3);
+    f49(self, j0, j1, i2, i3);
     j0 = l6;
     i0 = (u32)(j0);
     i0 = i32_load8_u(j0);
@@ -96390,7 +95806,7 @@ static void f98(module *self, u64 p0, u64 p1, u64 p2, u64 p3, u64 p4, u64 p5) {
     i5 = 255u;
     i4 &= i5;
     i3 |= i4;
-    f75(self, j0, j1, i2, i3);
+    f76(self, j0, j1, i2, i3);
     j0 = l6;
     i0 = (u32)(j0);
     i0 = i32_load8_u(j0 + 8u);
@@ -96415,7 +95831,7 @@ static void f98(module *self, u64 p0, u64 p1, u64 p2, u64 p3, u64 p4, u64 p5) {
     i4 = 255u;
     i3 &= i4;
     i2 |= i3;
-    f59(self, j0, j1, i2); if (NEVER(self->is_broken)) return;
+    f60(self, j0, j1, i2); if (NEVER(self->is_broken)) return;
     j0 = l6;
     i0 = (u32)(j0);
     i0 = i32_load8_u(j0 + 424u);
@@ -96488,7 +95904,7 @@ static void f98(module *self, u64 p0, u64 p1, u64 p2, u64 p3, u64 p4, u64 p5) {
     i1 = (u32)(j1);
     i1 = i32_load8_u(j1);
     i2 = l45;
-    i0 = f50(self, j0, i1, i2);
+    i0 = f51(self, j0, i1, i2);
     l38 = i0;
     j0 = p3;
     j1 = 68ull;
@@ -96644,7 +96060,7 @@ static void f98(module *self, u64 p0, u64 p1, u64 p2, u64 p3, u64 p4, u64 p5) {
     i1 = (u32)(j1);
     i1 = i32_load8_u(j1);
     i2 = l45;
-    i0 = f50(self, j0, i1, i2);
+    i0 = f51(self, j0, i1, i2);
     l38 = i0;
     j0 = p3;
     j1 = 68ull;
@@ -96774,7 +96190,7 @@ static void f98(module *self, u64 p0, u64 p1, u64 p2, u64 p3, u64 p4, u64 p5) {
     i1 = (u32)(j1);
     i1 = i32_load8_u(j1);
     i2 = l44;
-    i0 = f50(self, j0, i1, i2);
+    i0 = f51(self, j0, i1, i2);
     l38 = i0;
     j0 = p3;
     j1 = 68ull;
@@ -96902,7 +96318,7 @@ static void f98(module *self, u64 p0, u64 p1, u64 p2, u64 p3, u64 p4, u64 p5) {
     j0 += j1;
     j1 = p3;
     i2 = l40;
-    f38(self, j0, j1, i2);
+    f39(self, j0, j1, i2);
     j0 = l6;
     i0 = (u32)(j0);
     i0 = i32_load8_u(j0 + 41u);
@@ -96916,7 +96332,7 @@ static void f98(module *self, u64 p0, u64 p1, u64 p2, u64 p3, u64 p4, u64 p5) {
     j0 += j1;
     j1 = p3;
     i2 = l39;
-    f38(self, j0, j1, i2);
+    f39(self, j0, j1, i2);
     j0 = l6;
     i0 = (u32)(j0);
     i0 = i32_load8_u(j0 + 33u);
@@ -96971,7 +96387,7 @@ static void f98(module *self, u64 p0, u64 p1, u64 p2, u64 p3, u64 p4, u64 p5) {
     j4 |= j5;
     j5 = l28;
     j6 = p4;
-    f90(self, j0, j1, j2, j3, j4, j5, j6); m = self->memory; if (NEVER(self->is_broken)) return;
+    f91(self, j0, j1, j2, j3, j4, j5, j6); m = self->memory; if (NEVER(self->is_broken)) return;
     goto B78;
     B90:;
     i0 = l40;
@@ -96994,7 +96410,7 @@ static void f98(module *self, u64 p0, u64 p1, u64 p2, u64 p3, u64 p4, u64 p5) {
     j1 = 152ull;
     j0 += j1;
     j1 = p3;
-    f55(self, j0, j1); m = self->memory; if (NEVER(self->is_broken)) return;
+    f56(self, j0, j1); m = self->memory; if (NEVER(self->is_broken)) return;
     j0 = l6;
     j1 = 88ull;
     j0 += j1;
@@ -97003,7 +96419,7 @@ static void f98(module *self, u64 p0, u64 p1, u64 p2, u64 p3, u64 p4, u64 p5) {
     j3 = l6;
     j4 = 152ull;
     j3 += j4;
-    f93(self, j0, j1, j2, j3); m = self->memory; if (NEVER(self->is_broken)) return;
+    f94(self, j0, j1, j2, j3); m = self->memory; if (NEVER(self->is_broken)) return;
     goto B78;
     B88:;
     j0 = l6;
@@ -97039,7 +96455,7 @@ static void f98(module *self, u64 p0, u64 p1, u64 p2, u64 p3, u64 p4, u64 p5) {
     j4 = l6;
     j5 = 48ull;
     j4 += j5;
-    f94(self, j0, j1, j2, j3, j4); m = self->memory; if (NEVER(self->is_broken)) return;
+    f95(self, j0, j1, j2, j3, j4); m = self->memory; if (NEVER(self->is_broken)) return;
     goto B78;
     B87:;
     j0 = p3;
@@ -97143,7 +96559,7 @@ static void f98(module *self, u64 p0, u64 p1, u64 p2, u64 p3, u64 p4, u64 p5) {
     j0 += j1;
     j1 = p3;
     i2 = l40;
-    f38(self, j0, j1, i2);
+    f39(self, j0, j1, i2);
     j0 = l6;
     i0 = (u32)(j0);
     i0 = i32_load8_u(j0 + 25u);
@@ -97325,7 +96741,7 @@ static void f98(module *self, u64 p0, u64 p1, u64 p2, u64 p3, u64 p4, u64 p5) {
     i4 = 255u;
     i3 &= i4;
     i2 |= i3;
-    f30(self, j0, j1, i2); if (NEVER(self->is_broken)) return;
+    f31(self, j0, j1, i2); if (NEVER(self->is_broken)) return;
     j0 = l6;
     i0 = (u32)(j0);
     i0 = i32_load8_u(j0 + 17u);
@@ -97991,7 +97407,7 @@ static void f98(module *self, u64 p0, u64 p1, u64 p2, u64 p3, u64 p4, u64 p5) {
     if (i0) {goto B151;}
     j0 = p1;
     j1 = 10ull;
-    i0 = f92(self, j0, j1); m = self->memory; if (NEVER(self->is_broken)) return;
+    i0 = f93(self, j0, j1); m = self->memory; if (NEVER(self->is_broken)) return;
     i0 = !(i0);
     if (i0) {goto B150;}
     j0 = p1;
@@ -98176,7 +97592,7 @@ static void f98(module *self, u64 p0, u64 p1, u64 p2, u64 p3, u64 p4, u64 p5) {
     if (i0) {goto B155;}
     j0 = p1;
     j1 = 11ull;
-    i0 = f92(self, j0, j1); m = self->memory; if (NEVER(self->is_broken)) return;
+    i0 = f93(self, j0, j1); m = self->memory; if (NEVER(self->is_broken)) return;
     i0 = !(i0);
     if (i0) {goto B154;}
     j0 = p1;
@@ -98377,7 +97793,7 @@ static void f98(module *self, u64 p0, u64 p1, u64 p2, u64 p3, u64 p4, u64 p5) {
     if (i0) {goto B159;}
     j0 = p1;
     j1 = 12ull;
-    i0 = f92(self, j0, j1); m = self->memory; if (NEVER(self->is_broken)) return;
+    i0 = f93(self, j0, j1); m = self->memory; if (NEVER(self->is_broken)) return;
     i0 = !(i0);
     if (i0) {goto B158;}
     j0 = p1;
@@ -98578,7 +97994,7 @@ static void f98(module *self, u64 p0, u64 p1, u64 p2, u64 p3, u64 p4, u64 p5) {
     if (i0) {goto B163;}
     j0 = p1;
     j1 = p4;
-    i0 = f92(self, j0, j1); m = self->memory; if (NEVER(self->is_broken)) return;
+    i0 = f93(self, j0, j1); m = self->memory; if (NEVER(self->is_broken)) return;
     i0 = !(i0);
     if (i0) {goto B162;}
     j0 = p1;
@@ -98856,7 +98272,7 @@ static void f98(module *self, u64 p0, u64 p1, u64 p2, u64 p3, u64 p4, u64 p5) {
     B171:;
     j0 = l7;
     j1 = l28;
-    f91(self, j0, j1); if (NEVER(self->is_broken)) return;
+    f92(self, j0, j1); if (NEVER(self->is_broken)) return;
     j0 = p2;
     j1 = 72ull;
     j0 += j1;
@@ -98920,7 +98336,7 @@ static void f98(module *self, u64 p0, u64 p1, u64 p2, u64 p3, u64 p4, u64 p5) {
   self->g0 = j0;
 }
 
-static void f99(module *self, u64 p0, u64 p1) {
+static void f100(module *self, u64 p0, u64 p1) {
   u32 l9 = 0, l10 = 0;
   u64 l2 = 0, l3 = 0, l4 = 0, l5 = 0, l6 = 0, l7 = 0, l8 = 0;
   u8 *m = self->memory;
@@ -99235,7 +98651,7 @@ static void f99(module *self, u64 p0, u64 p1) {
   Bfunc:;
 }
 
-static void f100(module *self, u64 p0, u64 p1) {
+static void f101(module *self, u64 p0, u64 p1) {
   u32 l2 = 0, l3 = 0, l4 = 0, l5 = 0;
   u8 *m = self->memory;
   u32 i0, i1, i2;
@@ -99504,10 +98920,10 @@ static void f100(module *self, u64 p0, u64 p1) {
   j0 = p0;
   j1 = p1;
   j2 = 40ull;
-  f25(self, j0, j1, j2); if (NEVER(self->is_broken)) return;
+  f26(self, j0, j1, j2); if (NEVER(self->is_broken)) return;
 }
 
-static void f101(module *self, u64 p0, u64 p1, u64 p2) {
+static void f102(module *self, u64 p0, u64 p1, u64 p2) {
   u32 l16 = 0, l17 = 0, l18 = 0, l19 = 0, l20 = 0, l21 = 0, l22 = 0, l23 = 0, 
       l24 = 0, l25 = 0, l26 = 0, l27 = 0, l28 = 0, l29 = 0;
   u64 l3 = 0, l4 = 0, l5 = 0, l6 = 0, l7 = 0, l8 = 0, l9 = 0, l10 = 0, 
@@ -99581,7 +98997,7 @@ static void f101(module *self, u64 p0, u64 p1, u64 p2) {
   i2 = (u32)(j2);
   i2 = i32_load16_u(j2);
   l17 = i2;
-  f24(self, j0, i1, i2);
+  f25(self, j0, i1, i2);
   j0 = l3;
   i0 = (u32)(j0);
   i0 = i32_load8_u(j0 + 848u);
@@ -100442,7 +99858,7 @@ static void f101(module *self, u64 p0, u64 p1, u64 p2) {
     j0 = l3;
     j1 = 1744ull;
     j0 += j1;
-    i0 = f102(self, j0); m = self->memory; if (NEVER(self->is_broken)) return;
+    i0 = f103(self, j0); m = self->memory; if (NEVER(self->is_broken)) return;
     i0 = !(i0);
     if (i0) {goto B7;}
     j0 = l3;
@@ -100636,7 +100052,7 @@ static void f101(module *self, u64 p0, u64 p1, u64 p2) {
     j0 = l3;
     j1 = 1744ull;
     j0 += j1;
-    i0 = f103(self, j0); m = self->memory; if (NEVER(self->is_broken)) return;
+    i0 = f104(self, j0); m = self->memory; if (NEVER(self->is_broken)) return;
     i0 = !(i0);
     if (i0) {goto B14;}
     j0 = l3;
@@ -100657,13 +100073,13 @@ static void f101(module *self, u64 p0, u64 p1, u64 p2) {
     j0 = l3;
     i0 = (u32)(j0);
     j0 = i64_load(j0 + 1744u);
-    f166(self, j0);
+    f167(self, j0);
     B15:;
     j0 = l14;
     i0 = !(j0);
     if (i0) {goto B6;}
     j0 = l15;
-    f166(self, j0);
+    f167(self, j0);
     goto B6;
     B13:;
     j0 = l11;
@@ -100898,7 +100314,7 @@ static void f101(module *self, u64 p0, u64 p1, u64 p2) {
       j0 = l3;
       j1 = 1744ull;
       j0 += j1;
-      i0 = f103(self, j0); m = self->memory; if (NEVER(self->is_broken)) return;
+      i0 = f104(self, j0); m = self->memory; if (NEVER(self->is_broken)) return;
       i0 = !(i0);
       if (i0) {goto B17;}
       j0 = l3;
@@ -101033,7 +100449,7 @@ static void f101(module *self, u64 p0, u64 p1, u64 p2) {
       j0 = l3;
       j1 = 1744ull;
       j0 += j1;
-      i0 = f103(self, j0); m = self->memory; if (NEVER(self->is_broken)) return;
+      i0 = f104(self, j0); m = self->memory; if (NEVER(self->is_broken)) return;
       i0 = !(i0);
       if (i0) {goto B17;}
       j0 = l3;
@@ -101101,7 +100517,7 @@ static void f101(module *self, u64 p0, u64 p1, u64 p2) {
   j0 = l3;
   i0 = (u32)(j0);
   j0 = i64_load(j0 + 1744u);
-  f166(self, j0);
+  f167(self, j0);
   B25:;
   j0 = p0;
   j1 = 8ull;
@@ -101470,7 +100886,7 @@ static void f101(module *self, u64 p0, u64 p1, u64 p2) {
   j0 = l3;
   i0 = (u32)(j0);
   j0 = i64_load(j0 + 1744u);
-  f166(self, j0);
+  f167(self, j0);
   B6:;
   j0 = p0;
   j1 = 8ull;
@@ -101497,7 +100913,7 @@ static void f101(module *self, u64 p0, u64 p1, u64 p2) {
   self->g0 = j0;
 }
 
-static u32 f102(module *self, u64 p0) {
+static u32 f103(module *self, u64 p0) {
   u32 l6 = 0;
   u64 l1 = 0, l2 = 0, l3 = 0, l4 = 0, l5 = 0;
   u8 *m = self->memory;
@@ -101567,7 +100983,7 @@ static u32 f102(module *self, u64 p0) {
   j4 = 1ull;
   j3 <<= (j4 & 63);
   j4 = 1ull;
-  f165(self, j0, j1, j2, j3, j4); m = self->memory; if (NEVER(self->is_broken)) return ZAK_BROKEN;
+  f166(self, j0, j1, j2, j3, j4); m = self->memory; if (NEVER(self->is_broken)) return ZAK_BROKEN;
   j0 = l1;
   i0 = (u32)(j0);
   j0 = i64_load(j0 + 16u);
@@ -101587,7 +101003,7 @@ static u32 f102(module *self, u64 p0) {
   j2 = 1ull;
   j1 <<= (j2 & 63);
   j2 = 1ull;
-  f163(self, j0, j1, j2); m = self->memory; if (NEVER(self->is_broken)) return ZAK_BROKEN;
+  f164(self, j0, j1, j2); m = self->memory; if (NEVER(self->is_broken)) return ZAK_BROKEN;
   j0 = l1;
   i0 = (u32)(j0);
   j0 = i64_load(j0);
@@ -101622,7 +101038,7 @@ static u32 f102(module *self, u64 p0) {
   return i0;
 }
 
-static u32 f103(module *self, u64 p0) {
+static u32 f104(module *self, u64 p0) {
   u32 l6 = 0;
   u64 l1 = 0, l2 = 0, l3 = 0, l4 = 0, l5 = 0;
   u8 *m = self->memory;
@@ -101688,7 +101104,7 @@ static u32 f103(module *self, u64 p0) {
   j2 = l2;
   j3 = l3;
   j4 = 1ull;
-  f165(self, j0, j1, j2, j3, j4); m = self->memory; if (NEVER(self->is_broken)) return ZAK_BROKEN;
+  f166(self, j0, j1, j2, j3, j4); m = self->memory; if (NEVER(self->is_broken)) return ZAK_BROKEN;
   j0 = l1;
   i0 = (u32)(j0);
   j0 = i64_load(j0 + 16u);
@@ -101706,7 +101122,7 @@ static u32 f103(module *self, u64 p0) {
   j0 = l1;
   j1 = l5;
   j2 = 1ull;
-  f163(self, j0, j1, j2); m = self->memory; if (NEVER(self->is_broken)) return ZAK_BROKEN;
+  f164(self, j0, j1, j2); m = self->memory; if (NEVER(self->is_broken)) return ZAK_BROKEN;
   j0 = l1;
   i0 = (u32)(j0);
   j0 = i64_load(j0);
@@ -101741,7 +101157,7 @@ static u32 f103(module *self, u64 p0) {
   return i0;
 }
 
-static u32 f104(module *self, u64 p0, u64 p1, u64 p2, u64 p3, u64 p4) {
+static u32 f105(module *self, u64 p0, u64 p1, u64 p2, u64 p3, u64 p4) {
   u32 l11 = 0, l12 = 0, l13 = 0, l14 = 0;
   u64 l5 = 0, l6 = 0, l7 = 0, l8 = 0, l9 = 0, l10 = 0;
   u8 *m = self->memory;
@@ -101836,7 +101252,7 @@ static u32 f104(module *self, u64 p0, u64 p1, u64 p2, u64 p3, u64 p4) {
   j0 = p1;
   j1 = 2072ull;
   j0 += j1;
-  i0 = f23(self, j0);
+  i0 = f24(self, j0);
   i0 = !(i0);
   if (i0) {goto B2;}
   j0 = l5;
@@ -101871,7 +101287,7 @@ static u32 f104(module *self, u64 p0, u64 p1, u64 p2, u64 p3, u64 p4) {
   j3 = l5;
   j4 = 72ull;
   j3 += j4;
-  f95(self, j0, j1, j2, j3); m = self->memory; if (NEVER(self->is_broken)) return ZAK_BROKEN;
+  f96(self, j0, j1, j2, j3); m = self->memory; if (NEVER(self->is_broken)) return ZAK_BROKEN;
   j0 = l5;
   i0 = (u32)(j0);
   i0 = i32_load8_u(j0 + 8u);
@@ -102030,7 +101446,7 @@ static u32 f104(module *self, u64 p0, u64 p1, u64 p2, u64 p3, u64 p4) {
   i0 = !(j0);
   if (i0) {goto B2;}
   j0 = l8;
-  f166(self, j0);
+  f167(self, j0);
   goto B2;
   B4:;
   j0 = l5;
@@ -102047,7 +101463,7 @@ static u32 f104(module *self, u64 p0, u64 p1, u64 p2, u64 p3, u64 p4) {
   j0 = l5;
   i0 = (u32)(j0);
   j0 = i64_load(j0 + 32u);
-  f166(self, j0);
+  f167(self, j0);
   goto B2;
   B3:;
   i0 = 23u;
@@ -102060,7 +101476,7 @@ static u32 f104(module *self, u64 p0, u64 p1, u64 p2, u64 p3, u64 p4) {
   j0 = l5;
   i0 = (u32)(j0);
   j0 = i64_load(j0 + 32u);
-  f166(self, j0);
+  f167(self, j0);
   B2:;
   j0 = p0;
   i0 = (u32)(j0);
@@ -102807,7 +102223,7 @@ static u32 module_zak_assemble(module *self, u64 p0, u64 p1, u64 p2, u64 p3, u64
   j1 = 32ull;
   j0 += j1;
   j1 = 4ull;
-  i0 = f14(self, j0, j1); m = self->memory; if (NEVER(self->is_broken)) return ZAK_BROKEN;
+  i0 = f15(self, j0, j1); m = self->memory; if (NEVER(self->is_broken)) return ZAK_BROKEN;
   i0 = !(i0);
   if (i0) {goto B50;}
   j0 = l6;
@@ -102856,7 +102272,7 @@ static u32 module_zak_assemble(module *self, u64 p0, u64 p1, u64 p2, u64 p3, u64
   j1 = 32ull;
   j0 += j1;
   j1 = 1ull;
-  i0 = f14(self, j0, j1); m = self->memory; if (NEVER(self->is_broken)) return ZAK_BROKEN;
+  i0 = f15(self, j0, j1); m = self->memory; if (NEVER(self->is_broken)) return ZAK_BROKEN;
   i0 = !(i0);
   if (i0) {goto B53;}
   j0 = l6;
@@ -103392,7 +102808,7 @@ static u32 module_zak_assemble(module *self, u64 p0, u64 p1, u64 p2, u64 p3, u64
       j1 = 32ull;
       j0 += j1;
       j1 = 1ull;
-      i0 = f14(self, j0, j1); m = self->memory; if (NEVER(self->is_broken)) return ZAK_BROKEN;
+      i0 = f15(self, j0, j1); m = self->memory; if (NEVER(self->is_broken)) return ZAK_BROKEN;
       i0 = !(i0);
       if (i0) {goto B82;}
       j0 = l6;
@@ -103438,7 +102854,7 @@ static u32 module_zak_assemble(module *self, u64 p0, u64 p1, u64 p2, u64 p3, u64
       j1 = 32ull;
       j0 += j1;
       j1 = 2ull;
-      i0 = f14(self, j0, j1); m = self->memory; if (NEVER(self->is_broken)) return ZAK_BROKEN;
+      i0 = f15(self, j0, j1); m = self->memory; if (NEVER(self->is_broken)) return ZAK_BROKEN;
       i0 = !(i0);
       if (i0) {goto B82;}
       j0 = l6;
@@ -103784,7 +103200,7 @@ static u32 module_zak_assemble(module *self, u64 p0, u64 p1, u64 p2, u64 p3, u64
           j1 = 32ull;
           j0 += j1;
           j1 = 1ull;
-          i0 = f14(self, j0, j1); m = self->memory; if (NEVER(self->is_broken)) return ZAK_BROKEN;
+          i0 = f15(self, j0, j1); m = self->memory; if (NEVER(self->is_broken)) return ZAK_BROKEN;
           i0 = !(i0);
           if (i0) {goto B82;}
           j0 = l6;
@@ -103858,7 +103274,7 @@ static u32 module_zak_assemble(module *self, u64 p0, u64 p1, u64 p2, u64 p3, u64
         j1 += j2;
         j2 = l12;
         j3 = l14;
-        f16(self, j0, j1, j2, j3); m = self->memory; if (NEVER(self->is_broken)) return ZAK_BROKEN;
+        f17(self, j0, j1, j2, j3); m = self->memory; if (NEVER(self->is_broken)) return ZAK_BROKEN;
         j0 = l6;
         i0 = (u32)(j0);
         i0 = i32_load8_u(j0 + 16u);
@@ -103914,7 +103330,7 @@ static u32 module_zak_assemble(module *self, u64 p0, u64 p1, u64 p2, u64 p3, u64
     j1 += j2;
     j2 = l11;
     j3 = p1;
-    f16(self, j0, j1, j2, j3); m = self->memory; if (NEVER(self->is_broken)) return ZAK_BROKEN;
+    f17(self, j0, j1, j2, j3); m = self->memory; if (NEVER(self->is_broken)) return ZAK_BROKEN;
     j0 = l6;
     i0 = (u32)(j0);
     i0 = i32_load8_u(j0);
@@ -103960,7 +103376,7 @@ static u32 module_zak_assemble(module *self, u64 p0, u64 p1, u64 p2, u64 p3, u64
   j0 = l6;
   i0 = (u32)(j0);
   j0 = i64_load(j0 + 32u);
-  f166(self, j0);
+  f167(self, j0);
   goto B41;
   B50:;
   i0 = 9u;
@@ -103973,7 +103389,7 @@ static u32 module_zak_assemble(module *self, u64 p0, u64 p1, u64 p2, u64 p3, u64
   j0 = l6;
   i0 = (u32)(j0);
   j0 = i64_load(j0 + 32u);
-  f166(self, j0);
+  f167(self, j0);
   goto B41;
   B49:;
   j0 = 0ull;
@@ -104047,7 +103463,7 @@ static u32 module_zak_assemble(module *self, u64 p0, u64 p1, u64 p2, u64 p3, u64
     j1 += j2;
     j2 = l11;
     j3 = p0;
-    f16(self, j0, j1, j2, j3); m = self->memory; if (NEVER(self->is_broken)) return ZAK_BROKEN;
+    f17(self, j0, j1, j2, j3); m = self->memory; if (NEVER(self->is_broken)) return ZAK_BROKEN;
     j0 = l6;
     i0 = (u32)(j0);
     i0 = i32_load8_u(j0);
@@ -104110,7 +103526,7 @@ static u32 module_zak_assemble(module *self, u64 p0, u64 p1, u64 p2, u64 p3, u64
   j0 = l6;
   i0 = (u32)(j0);
   j0 = i64_load(j0 + 32u);
-  f166(self, j0);
+  f167(self, j0);
   goto B41;
   B45:;
   j0 = l6;
@@ -104134,13 +103550,13 @@ static u32 module_zak_assemble(module *self, u64 p0, u64 p1, u64 p2, u64 p3, u64
   i0 = !(j0);
   if (i0) {goto B1;}
   j0 = l16;
-  f166(self, j0);
+  f167(self, j0);
   goto B1;
   B43:;
   j0 = l6;
   i0 = (u32)(j0);
   j0 = i64_load(j0 + 32u);
-  f166(self, j0);
+  f167(self, j0);
   j0 = l9;
   l12 = j0;
   goto B41;
@@ -104175,7 +103591,7 @@ static u32 module_zak_assemble(module *self, u64 p0, u64 p1, u64 p2, u64 p3, u64
   j1 = 32ull;
   j0 += j1;
   j1 = p0;
-  i0 = f14(self, j0, j1); m = self->memory; if (NEVER(self->is_broken)) return ZAK_BROKEN;
+  i0 = f15(self, j0, j1); m = self->memory; if (NEVER(self->is_broken)) return ZAK_BROKEN;
   i0 = !(i0);
   if (i0) {goto B113;}
   j0 = l6;
@@ -104336,7 +103752,7 @@ static u32 module_zak_assemble(module *self, u64 p0, u64 p1, u64 p2, u64 p3, u64
   j0 = l6;
   i0 = (u32)(j0);
   j0 = i64_load(j0 + 32u);
-  f166(self, j0);
+  f167(self, j0);
   B119:;
   j0 = 0ull;
   p1 = j0;
@@ -104349,7 +103765,7 @@ static u32 module_zak_assemble(module *self, u64 p0, u64 p1, u64 p2, u64 p3, u64
   i0 = !(j0);
   if (i0) {goto B120;}
   j0 = l16;
-  f166(self, j0);
+  f167(self, j0);
   B120:;
   i0 = l27;
   if (i0) {goto B40;}
@@ -104521,7 +103937,7 @@ static u32 module_zak_assemble(module *self, u64 p0, u64 p1, u64 p2, u64 p3, u64
   i0 = !(j0);
   if (i0) {goto B0;}
   j0 = l20;
-  f166(self, j0);
+  f167(self, j0);
   goto B0;
   B39:;
   j0 = p5;
@@ -104638,7 +104054,7 @@ static u32 module_zak_block(module *self, u64 p0, u64 p1, u64 p2) {
   j2 = i64_load16_u(j2);
   p1 = j2;
   j1 |= j2;
-  f20(self, j0, j1);
+  f21(self, j0, j1);
   j0 = l3;
   i0 = (u32)(j0);
   i0 = i32_load8_u(j0);
@@ -104888,7 +104304,7 @@ static u32 module_zak_clock(module *self, u64 p0, u64 p1) {
   j3 += j4;
   i3 = (u32)(j3);
   i3 = i32_load8_u(j3);
-  f21(self, j0, j1, i2, i3);
+  f22(self, j0, j1, i2, i3);
   i0 = 0u;
   l6 = i0;
   goto B1;
@@ -104896,7 +104312,7 @@ static u32 module_zak_clock(module *self, u64 p0, u64 p1) {
   j0 = l2;
   j1 = l3;
   i2 = l5;
-  f22(self, j0, j1, i2); m = self->memory; if (NEVER(self->is_broken)) return ZAK_BROKEN;
+  f23(self, j0, j1, i2); m = self->memory; if (NEVER(self->is_broken)) return ZAK_BROKEN;
   j0 = l2;
   i0 = (u32)(j0);
   i0 = i32_load(j0);
@@ -105098,24 +104514,24 @@ static u32 module_zak_close(module *self, u64 p0) {
   j0 = i64_load(j0 + 16u);
   l12 = j0;
   j0 = l4;
-  f166(self, j0);
+  f167(self, j0);
   j0 = l12;
   i0 = !(j0);
   if (i0) {goto B2;}
   j0 = l11;
-  f166(self, j0);
+  f167(self, j0);
   B2:;
   j0 = l9;
   i0 = !(j0);
   if (i0) {goto B3;}
   j0 = l10;
-  f166(self, j0);
+  f167(self, j0);
   B3:;
   j0 = l7;
   i0 = !(j0);
   if (i0) {goto B4;}
   j0 = l8;
-  f166(self, j0);
+  f167(self, j0);
   B4:;
   i0 = l3;
   i1 = 255u;
@@ -105131,12 +104547,12 @@ static u32 module_zak_close(module *self, u64 p0) {
   j0 = i64_load(j0 + 16u);
   l4 = j0;
   j0 = l6;
-  f166(self, j0);
+  f167(self, j0);
   j0 = l4;
   i0 = !(j0);
   if (i0) {goto B5;}
   j0 = l7;
-  f166(self, j0);
+  f167(self, j0);
   B5:;
   i0 = l1;
   i1 = 255u;
@@ -105152,12 +104568,12 @@ static u32 module_zak_close(module *self, u64 p0) {
   j0 = i64_load(j0 + 16u);
   l4 = j0;
   j0 = l5;
-  f166(self, j0);
+  f167(self, j0);
   j0 = l4;
   i0 = !(j0);
   if (i0) {goto B6;}
   j0 = l6;
-  f166(self, j0);
+  f167(self, j0);
   B6:;
   i0 = 0u;
   l1 = i0;
@@ -105175,12 +104591,12 @@ static u32 module_zak_close(module *self, u64 p0) {
   j0 = i64_load(j0 + 16u);
   l4 = j0;
   j0 = p0;
-  f166(self, j0);
+  f167(self, j0);
   j0 = l4;
   i0 = !(j0);
   if (i0) {goto B0;}
   j0 = l5;
-  f166(self, j0);
+  f167(self, j0);
   B0:;
   i0 = l1;
   return i0;
@@ -105232,7 +104648,7 @@ static u32 module_zak_cycles(module *self, u64 p0, u64 p1, u64 p2, u64 p3, u64 p
   j0 = l8;
   j1 = 2072ull;
   j0 += j1;
-  i0 = f23(self, j0);
+  i0 = f24(self, j0);
   if (i0) {goto B3;}
   i0 = 27u;
   l23 = i0;
@@ -105466,7 +104882,7 @@ static u32 module_zak_cycles(module *self, u64 p0, u64 p1, u64 p2, u64 p3, u64 p
   j0 += j1;
   j1 = p1;
   j2 = 1ull;
-  f163(self, j0, j1, j2); m = self->memory; if (NEVER(self->is_broken)) return ZAK_BROKEN;
+  f164(self, j0, j1, j2); m = self->memory; if (NEVER(self->is_broken)) return ZAK_BROKEN;
   j0 = l7;
   i0 = (u32)(j0);
   j0 = i64_load(j0 + 32u);
@@ -105494,7 +104910,7 @@ static u32 module_zak_cycles(module *self, u64 p0, u64 p1, u64 p2, u64 p3, u64 p
   j0 += j1;
   j1 = 265046ull;
   j2 = 1ull;
-  f163(self, j0, j1, j2); m = self->memory; if (NEVER(self->is_broken)) return ZAK_BROKEN;
+  f164(self, j0, j1, j2); m = self->memory; if (NEVER(self->is_broken)) return ZAK_BROKEN;
   j0 = l7;
   i0 = (u32)(j0);
   j0 = i64_load(j0 + 16u);
@@ -105537,11 +104953,11 @@ static u32 module_zak_cycles(module *self, u64 p0, u64 p1, u64 p2, u64 p3, u64 p
   j0 = l8;
   j1 = l10;
   j2 = 0ull;
-  f25(self, j0, j1, j2); if (NEVER(self->is_broken)) return ZAK_BROKEN;
+  f26(self, j0, j1, j2); if (NEVER(self->is_broken)) return ZAK_BROKEN;
   j0 = l7;
   j1 = 6208ull;
   j0 += j1;
-  f26(self, j0); m = self->memory; if (NEVER(self->is_broken)) return ZAK_BROKEN;
+  f27(self, j0); m = self->memory; if (NEVER(self->is_broken)) return ZAK_BROKEN;
   j0 = l7;
   i0 = (u32)(j0);
   i0 = i32_load8_u(j0 + 6208u);
@@ -105578,7 +104994,7 @@ static u32 module_zak_cycles(module *self, u64 p0, u64 p1, u64 p2, u64 p3, u64 p
   j0 += j1;
   j1 = l10;
   j2 = p1;
-  f28(self, j0, j1, j2); m = self->memory; if (NEVER(self->is_broken)) return ZAK_BROKEN;
+  f29(self, j0, j1, j2); m = self->memory; if (NEVER(self->is_broken)) return ZAK_BROKEN;
   j0 = l7;
   i0 = (u32)(j0);
   j1 = l7;
@@ -105679,7 +105095,7 @@ static u32 module_zak_cycles(module *self, u64 p0, u64 p1, u64 p2, u64 p3, u64 p
   i0 = l23;
   if (i0) {goto B16;}
   j0 = l10;
-  f166(self, j0);
+  f167(self, j0);
   B16:;
   j0 = p5;
   j1 = 16777216ull;
@@ -105790,7 +105206,7 @@ static u32 module_zak_cycles(module *self, u64 p0, u64 p1, u64 p2, u64 p3, u64 p
   i0 = l23;
   if (i0) {goto B6;}
   j0 = l10;
-  f166(self, j0);
+  f167(self, j0);
   i0 = 23u;
   l23 = i0;
   goto B2;
@@ -105798,7 +105214,7 @@ static u32 module_zak_cycles(module *self, u64 p0, u64 p1, u64 p2, u64 p3, u64 p
   j0 = l7;
   j1 = p1;
   j2 = 1ull;
-  f163(self, j0, j1, j2); m = self->memory; if (NEVER(self->is_broken)) return ZAK_BROKEN;
+  f164(self, j0, j1, j2); m = self->memory; if (NEVER(self->is_broken)) return ZAK_BROKEN;
   j0 = l7;
   i0 = (u32)(j0);
   j0 = i64_load(j0);
@@ -105825,19 +105241,19 @@ static u32 module_zak_cycles(module *self, u64 p0, u64 p1, u64 p2, u64 p3, u64 p
   i0 = !(j0);
   if (i0) {goto B19;}
   j0 = l13;
-  f166(self, j0);
+  f167(self, j0);
   B19:;
   j0 = l19;
   i0 = !(j0);
   if (i0) {goto B20;}
   j0 = l21;
-  f166(self, j0);
+  f167(self, j0);
   B20:;
   j0 = l15;
   i0 = !(j0);
   if (i0) {goto B6;}
   j0 = l17;
-  f166(self, j0);
+  f167(self, j0);
   i0 = 23u;
   l23 = i0;
   goto B2;
@@ -106148,7 +105564,7 @@ static u32 module_zak_cycles(module *self, u64 p0, u64 p1, u64 p2, u64 p3, u64 p
   j6 = i8 ? j6 : j7;
   j5 += j6;
   j6 = p3;
-  f29(self, j0, j1, j2, j3, j4, j5, j6); m = self->memory; if (NEVER(self->is_broken)) return ZAK_BROKEN;
+  f30(self, j0, j1, j2, j3, j4, j5, j6); m = self->memory; if (NEVER(self->is_broken)) return ZAK_BROKEN;
   j0 = l7;
   i0 = (u32)(j0);
   i0 = i32_load8_u(j0 + 48u);
@@ -106196,25 +105612,25 @@ static u32 module_zak_cycles(module *self, u64 p0, u64 p1, u64 p2, u64 p3, u64 p
   i0 = !(j0);
   if (i0) {goto B23;}
   j0 = l10;
-  f166(self, j0);
+  f167(self, j0);
   B23:;
   j0 = l15;
   i0 = !(j0);
   if (i0) {goto B24;}
   j0 = l17;
-  f166(self, j0);
+  f167(self, j0);
   B24:;
   j0 = l11;
   i0 = !(j0);
   if (i0) {goto B25;}
   j0 = l13;
-  f166(self, j0);
+  f167(self, j0);
   B25:;
   j0 = p3;
   i0 = !(j0);
   if (i0) {goto B5;}
   j0 = l19;
-  f166(self, j0);
+  f167(self, j0);
   goto B5;
   B22:;
   j0 = l7;
@@ -106225,19 +105641,19 @@ static u32 module_zak_cycles(module *self, u64 p0, u64 p1, u64 p2, u64 p3, u64 p
   i0 = !(j0);
   if (i0) {goto B26;}
   j0 = l17;
-  f166(self, j0);
+  f167(self, j0);
   B26:;
   j0 = l11;
   i0 = !(j0);
   if (i0) {goto B27;}
   j0 = l13;
-  f166(self, j0);
+  f167(self, j0);
   B27:;
   j0 = p3;
   i0 = !(j0);
   if (i0) {goto B28;}
   j0 = l19;
-  f166(self, j0);
+  f167(self, j0);
   B28:;
   j0 = p1;
   p3 = j0;
@@ -106275,19 +105691,19 @@ static u32 module_zak_cycles(module *self, u64 p0, u64 p1, u64 p2, u64 p3, u64 p
   j0 = l7;
   i0 = (u32)(j0);
   j0 = i64_load(j0 + 2112u);
-  f166(self, j0);
+  f167(self, j0);
   B30:;
   j0 = p5;
   i0 = !(j0);
   if (i0) {goto B31;}
   j0 = p3;
-  f166(self, j0);
+  f167(self, j0);
   B31:;
   j0 = p1;
   i0 = !(j0);
   if (i0) {goto B32;}
   j0 = p2;
-  f166(self, j0);
+  f167(self, j0);
   B32:;
   j0 = l7;
   i0 = (u32)(j0);
@@ -106297,7 +105713,7 @@ static u32 module_zak_cycles(module *self, u64 p0, u64 p1, u64 p2, u64 p3, u64 p
   j0 = l7;
   i0 = (u32)(j0);
   j0 = i64_load(j0 + 4184u);
-  f166(self, j0);
+  f167(self, j0);
   B33:;
   i0 = l23;
   i1 = 1u;
@@ -106329,19 +105745,19 @@ static u32 module_zak_cycles(module *self, u64 p0, u64 p1, u64 p2, u64 p3, u64 p
   j0 = l7;
   i0 = (u32)(j0);
   j0 = i64_load(j0 + 2112u);
-  f166(self, j0);
+  f167(self, j0);
   B34:;
   j0 = p5;
   i0 = !(j0);
   if (i0) {goto B35;}
   j0 = p3;
-  f166(self, j0);
+  f167(self, j0);
   B35:;
   j0 = p1;
   i0 = !(j0);
   if (i0) {goto B36;}
   j0 = p2;
-  f166(self, j0);
+  f167(self, j0);
   B36:;
   j0 = l7;
   i0 = (u32)(j0);
@@ -106351,7 +105767,7 @@ static u32 module_zak_cycles(module *self, u64 p0, u64 p1, u64 p2, u64 p3, u64 p
   j0 = l7;
   i0 = (u32)(j0);
   j0 = i64_load(j0 + 4184u);
-  f166(self, j0);
+  f167(self, j0);
   B6:;
   i0 = 23u;
   l23 = i0;
@@ -106392,12 +105808,12 @@ static u32 module_zak_cycles(module *self, u64 p0, u64 p1, u64 p2, u64 p3, u64 p
   j0 = i64_load(j0 + 16u);
   l15 = j0;
   j0 = l11;
-  f166(self, j0);
+  f167(self, j0);
   j0 = l15;
   i0 = !(j0);
   if (i0) {goto B37;}
   j0 = l19;
-  f166(self, j0);
+  f167(self, j0);
   B37:;
   j0 = p1;
   j1 = 16777216ull;
@@ -106558,7 +105974,7 @@ static u32 module_zak_cycles(module *self, u64 p0, u64 p1, u64 p2, u64 p3, u64 p
   i0 = !(j0);
   if (i0) {goto B2;}
   j0 = l10;
-  f166(self, j0);
+  f167(self, j0);
   B2:;
   j0 = p0;
   i0 = (u32)(j0);
@@ -106778,7 +106194,7 @@ static u32 module_zak_fill_bytes(module *self, u64 p0, u32 p1, u32 p2, u64 p3, u
     i1 = (u32)(j1);
     i1 = i32_load8_u(j1);
     i2 = p2;
-    i0 = f50(self, j0, i1, i2);
+    i0 = f51(self, j0, i1, i2);
     l13 = i0;
     j0 = l16;
     j1 = 68ull;
@@ -106881,7 +106297,7 @@ static u32 module_zak_fill_bytes(module *self, u64 p0, u32 p1, u32 p2, u64 p3, u
   i2 = l7;
   i3 = p2;
   i4 = p2;
-  f54(self, j0, i1, i2, i3, i4);
+  f55(self, j0, i1, i2, i3, i4);
   B2:;
   j0 = p0;
   i0 = (u32)(j0);
@@ -106963,7 +106379,7 @@ static u32 module_zak_frame(module *self, u64 p0, u64 p1, u64 p2, u64 p3) {
   i64_store(j0, j1);
   j0 = l4;
   j1 = l5;
-  f55(self, j0, j1); m = self->memory; if (NEVER(self->is_broken)) return ZAK_BROKEN;
+  f56(self, j0, j1); m = self->memory; if (NEVER(self->is_broken)) return ZAK_BROKEN;
   j0 = l4;
   i0 = (u32)(j0);
   i0 = i32_load8_u(j0);
@@ -107198,7 +106614,7 @@ static u32 module_zak_frame_indexed(module *self, u64 p0, u64 p1, u64 p2, u64 p3
   j0 += j1;
   j1 = 262144ull;
   j2 = 1ull;
-  f163(self, j0, j1, j2); m = self->memory; if (NEVER(self->is_broken)) return ZAK_BROKEN;
+  f164(self, j0, j1, j2); m = self->memory; if (NEVER(self->is_broken)) return ZAK_BROKEN;
   i0 = 23u;
   l14 = i0;
   j0 = l5;
@@ -107238,7 +106654,7 @@ static u32 module_zak_frame_indexed(module *self, u64 p0, u64 p1, u64 p2, u64 p3
   j1 = 24ull;
   j0 += j1;
   j1 = l6;
-  f55(self, j0, j1); m = self->memory; if (NEVER(self->is_broken)) return ZAK_BROKEN;
+  f56(self, j0, j1); m = self->memory; if (NEVER(self->is_broken)) return ZAK_BROKEN;
   j0 = l5;
   i0 = (u32)(j0);
   i0 = i32_load8_u(j0 + 24u);
@@ -107478,7 +106894,7 @@ static u32 module_zak_frame_indexed(module *self, u64 p0, u64 p1, u64 p2, u64 p3
   l14 = i0;
   B3:;
   j0 = l7;
-  f166(self, j0);
+  f167(self, j0);
   B2:;
   j0 = p0;
   i0 = (u32)(j0);
@@ -107967,10 +107383,11 @@ static u32 module_zak_frame_lines(module *self, u64 p0, u64 p1, u64 p2, u64 p3, 
 }
 
 static u32 module_zak_frame_update(module *self, u64 p0, u32 p1, u64 p2, u64 p3, u64 p4, u64 p5, u64 p6) {
-  u32 l20 = 0, l21 = 0, l22 = 0, l23 = 0, l24 = 0, l25 = 0, l26 = 0, l27 = 0, 
-      l28 = 0, l29 = 0;
+  u32 l29 = 0, l30 = 0, l31 = 0, l32 = 0, l33 = 0, l34 = 0, l35 = 0, l36 = 0, 
+      l37 = 0, l38 = 0, l39 = 0;
   u64 l7 = 0, l8 = 0, l9 = 0, l10 = 0, l11 = 0, l12 = 0, l13 = 0, l14 = 0, 
-      l15 = 0, l16 = 0, l17 = 0, l18 = 0, l19 = 0;
+      l15 = 0, l16 = 0, l17 = 0, l18 = 0, l19 = 0, l20 = 0, l21 = 0, l22 = 0, 
+      l23 = 0, l24 = 0, l25 = 0, l26 = 0, l27 = 0, l28 = 0;
   u8 *m = self->memory;
   u32 i0, i1, i2, i3, i4;
   u64 j0, j1, j2, j3, j4;
@@ -107980,7 +107397,7 @@ static u32 module_zak_frame_update(module *self, u64 p0, u32 p1, u64 p2, u64 p3,
   l7 = j0;
   self->g0 = j0;
   i0 = 20u;
-  l20 = i0;
+  l29 = i0;
   j0 = p0;
   i0 = (u32)(j0);
   i0 = i32_load8_u(j0);
@@ -108010,13 +107427,13 @@ static u32 module_zak_frame_update(module *self, u64 p0, u32 p1, u64 p2, u64 p3,
   j1 = 0ull;
   i64_store(j0 + 8, j1);
   i0 = 26u;
-  l20 = i0;
+  l29 = i0;
   i0 = p1;
   i1 = 3u;
   i0 = i0 > i1;
   if (i0) {goto B2;}
   i0 = 1u;
-  l21 = i0;
+  l30 = i0;
   j0 = l8;
   j1 = 53ull;
   j0 += j1;
@@ -108030,9 +107447,9 @@ static u32 module_zak_frame_update(module *self, u64 p0, u32 p1, u64 p2, u64 p3,
   j0 += j1;
   i0 = (u32)(j0);
   i0 = i32_load8_u(j0);
-  l22 = i0;
+  l31 = i0;
   i0 = 1u;
-  l23 = i0;
+  l32 = i0;
   goto B3;
   B4:;
   j0 = l8;
@@ -108044,18 +107461,18 @@ static u32 module_zak_frame_update(module *self, u64 p0, u32 p1, u64 p2, u64 p3,
   i0 &= i1;
   if (i0) {goto B5;}
   i0 = 1u;
-  l23 = i0;
+  l32 = i0;
   j0 = l8;
   j1 = 114ull;
   j0 += j1;
   i0 = (u32)(j0);
   i0 = i32_load8_u(j0);
-  l22 = i0;
+  l31 = i0;
   i1 = 31u;
   i0 &= i1;
   i1 = 1u;
   i0 += i1;
-  l21 = i0;
+  l30 = i0;
   goto B3;
   B5:;
   i0 = 2u;
@@ -108068,18 +107485,18 @@ static u32 module_zak_frame_update(module *self, u64 p0, u32 p1, u64 p2, u64 p3,
   i3 = 1u;
   i2 &= i3;
   i0 = i2 ? i0 : i1;
-  l23 = i0;
+  l32 = i0;
   j0 = l8;
   j1 = 114ull;
   j0 += j1;
   i0 = (u32)(j0);
   i0 = i32_load8_u(j0);
-  l22 = i0;
+  l31 = i0;
   i1 = 31u;
   i0 &= i1;
   i1 = 1u;
   i0 += i1;
-  l21 = i0;
+  l30 = i0;
   B3:;
   j0 = l7;
   i0 = (u32)(j0);
@@ -108101,9 +107518,9 @@ static u32 module_zak_frame_update(module *self, u64 p0, u32 p1, u64 p2, u64 p3,
   j1 = 16ull;
   j0 += j1;
   j1 = l8;
-  f55(self, j0, j1); m = self->memory; if (NEVER(self->is_broken)) return ZAK_BROKEN;
+  f56(self, j0, j1); m = self->memory; if (NEVER(self->is_broken)) return ZAK_BROKEN;
   i0 = 24u;
-  l20 = i0;
+  l29 = i0;
   j0 = l7;
   i0 = (u32)(j0);
   i0 = i32_load8_u(j0 + 16u);
@@ -108115,12 +107532,12 @@ static u32 module_zak_frame_update(module *self, u64 p0, u32 p1, u64 p2, u64 p3,
   j0 = l7;
   i0 = (u32)(j0);
   i0 = i32_load(j0 + 20u);
-  l24 = i0;
+  l33 = i0;
   j0 = p2;
   i0 = (u32)(j0);
   i1 = 1u;
-  i2 = l21;
-  i3 = l22;
+  i2 = l30;
+  i3 = l31;
   i4 = 128u;
   i3 &= i4;
   i4 = 7u;
@@ -108129,47 +107546,47 @@ static u32 module_zak_frame_update(module *self, u64 p0, u32 p1, u64 p2, u64 p3,
   i3 = p1;
   i4 = 2u;
   i3 = i3 < i4;
-  l20 = i3;
+  l29 = i3;
   i1 = i3 ? i1 : i2;
-  l25 = i1;
+  l34 = i1;
   i32_store(j0 + 12, i1);
   j0 = p2;
   i0 = (u32)(j0);
   i1 = 1u;
-  i2 = l23;
-  i3 = l20;
+  i2 = l32;
+  i3 = l29;
   i1 = i3 ? i1 : i2;
-  l23 = i1;
+  l32 = i1;
   i32_store(j0 + 8, i1);
   j0 = p2;
   i0 = (u32)(j0);
-  i1 = l25;
+  i1 = l34;
   j2 = l7;
   i2 = (u32)(j2);
   i2 = i32_load(j2 + 24u);
   i1 += i2;
   i2 = 4294967295u;
   i1 += i2;
-  l26 = i1;
-  i2 = l25;
+  l35 = i1;
+  i2 = l34;
   if (i2 == 0) { self->is_broken = true; return ZAK_BROKEN; } i1 = i1 / i2;
-  l27 = i1;
+  l36 = i1;
   i32_store(j0 + 4, i1);
   j0 = p2;
   i0 = (u32)(j0);
-  i1 = l23;
-  i2 = l24;
+  i1 = l32;
+  i2 = l33;
   i1 += i2;
   i2 = 4294967295u;
   i1 += i2;
-  l28 = i1;
-  i2 = l23;
+  l37 = i1;
+  i2 = l32;
   i2 = I32_CTZ(i2);
   i1 >>= (i2 & 31);
-  l21 = i1;
+  l38 = i1;
   i32_store(j0, i1);
   j0 = l7;
-  i1 = l27;
+  i1 = l36;
   j1 = (u64)(i1);
   l10 = j1;
   j2 = 0ull;
@@ -108177,9 +107594,9 @@ static u32 module_zak_frame_update(module *self, u64 p0, u32 p1, u64 p2, u64 p3,
   j4 = 0ull;
   f0(self, j0, j1, j2, j3, j4);
   i0 = 25u;
-  l20 = i0;
+  l29 = i0;
   j0 = p5;
-  i1 = l21;
+  i1 = l38;
   j1 = (u64)(i1);
   l11 = j1;
   i0 = j0 < j1;
@@ -108189,7 +107606,7 @@ static u32 module_zak_frame_update(module *self, u64 p0, u32 p1, u64 p2, u64 p3,
   j0 = i64_load(j0 + 8u);
   j1 = 0ull;
   i0 = j0 != j1;
-  l21 = i0;
+  l30 = i0;
   j1 = p5;
   j2 = l10;
   j1 *= j2;
@@ -108198,7 +107615,7 @@ static u32 module_zak_frame_update(module *self, u64 p0, u32 p1, u64 p2, u64 p3,
   i0 |= i1;
   i0 = !(i0);
   if (i0) {goto B2;}
-  i0 = l21;
+  i0 = l30;
   if (i0) {goto B2;}
   j0 = p3;
   j1 = 4096ull;
@@ -108206,8 +107623,9 @@ static u32 module_zak_frame_update(module *self, u64 p0, u32 p1, u64 p2, u64 p3,
   j3 = p3;
   i3 = !(j3);
   j1 = i3 ? j1 : j2;
+  l12 = j1;
   j0 += j1;
-  l12 = j0;
+  l13 = j0;
   i0 = 0u;
   i1 = p1;
   i2 = 1u;
@@ -108215,57 +107633,57 @@ static u32 module_zak_frame_update(module *self, u64 p0, u32 p1, u64 p2, u64 p3,
   i0 -= i1;
   i1 = 4278190080u;
   i0 &= i1;
-  l20 = i0;
-  i0 = 0u;
   l29 = i0;
   i0 = 0u;
-  l22 = i0;
-  i0 = l25;
-  i1 = l26;
+  l39 = i0;
+  i0 = 0u;
+  l31 = i0;
+  i0 = l34;
+  i1 = l35;
   i0 = i0 > i1;
-  l26 = i0;
+  l35 = i0;
   if (i0) {goto B6;}
-  i0 = l23;
-  i1 = l28;
+  i0 = l32;
+  i1 = l37;
   i0 = i0 > i1;
   if (i0) {goto B8;}
-  i0 = l23;
+  i0 = l32;
   j0 = (u64)(i0);
   j1 = 3ull;
   j0 *= j1;
-  l13 = j0;
+  l14 = j0;
   j0 = p5;
   j1 = 2ull;
   j0 <<= (j1 & 63);
-  l14 = j0;
-  i0 = l25;
+  l15 = j0;
+  i0 = l34;
   j0 = (u64)(i0);
-  i1 = l24;
+  i1 = l33;
   j1 = (u64)(i1);
   j0 *= j1;
   j1 = 3ull;
   j0 *= j1;
-  l15 = j0;
-  i0 = 0u;
-  l22 = i0;
-  j0 = 0ull;
   l16 = j0;
-  j0 = l9;
+  i0 = 0u;
+  l31 = i0;
+  j0 = 0ull;
   l17 = j0;
-  j0 = l12;
+  j0 = l9;
   l18 = j0;
+  j0 = l13;
+  l19 = j0;
   L9: 
     i0 = 1u;
     p1 = i0;
-    j0 = l17;
-    p2 = j0;
     j0 = l18;
-    p3 = j0;
-    j0 = l11;
+    p2 = j0;
+    j0 = l19;
     p4 = j0;
+    j0 = l11;
+    l20 = j0;
     L10: 
       i0 = p1;
-      j1 = p3;
+      j1 = p4;
       i1 = (u32)(j1);
       i1 = i32_load(j1);
       j2 = p2;
@@ -108287,88 +107705,88 @@ static u32 module_zak_frame_update(module *self, u64 p0, u32 p1, u64 p2, u64 p3,
       i4 = 8u;
       i3 <<= (i4 & 31);
       i2 |= i3;
-      l21 = i2;
+      l30 = i2;
       i3 = 4u;
       i2 >>= (i3 & 31);
       i3 = 986895u;
       i2 &= i3;
-      i3 = l21;
+      i3 = l30;
       i4 = 2u;
       i3 <<= (i4 & 31);
       i2 += i3;
-      i3 = l20;
+      i3 = l29;
       i2 |= i3;
       i1 = i1 == i2;
       i0 &= i1;
       p1 = i0;
       j0 = p2;
-      j1 = l13;
+      j1 = l14;
       j0 += j1;
       p2 = j0;
-      j0 = p3;
+      j0 = p4;
       j1 = 4ull;
       j0 += j1;
-      p3 = j0;
-      j0 = p4;
+      p4 = j0;
+      j0 = l20;
       j1 = 18446744073709551615ull;
       j0 += j1;
-      p4 = j0;
+      l20 = j0;
       j1 = 0ull;
       i0 = j0 != j1;
       if (i0) {goto L10;}
     i0 = p1;
     i0 = !(i0);
     if (i0) {goto B7;}
-    j0 = l17;
-    j1 = l15;
-    j0 += j1;
-    l17 = j0;
     j0 = l18;
-    j1 = l14;
+    j1 = l16;
     j0 += j1;
     l18 = j0;
-    i0 = l22;
+    j0 = l19;
+    j1 = l15;
+    j0 += j1;
+    l19 = j0;
+    i0 = l31;
     i1 = 1u;
     i0 += i1;
-    l22 = i0;
-    j0 = l16;
+    l31 = i0;
+    j0 = l17;
     j1 = 1ull;
     j0 += j1;
-    l16 = j0;
+    l17 = j0;
     j1 = l10;
     i0 = j0 < j1;
     if (i0) {goto L9;}
     goto B6;
   { self->is_broken = true; return ZAK_BROKEN; }
   B8:;
-  i0 = l27;
+  i0 = l36;
   i1 = 1u;
-  i2 = l27;
+  i2 = l36;
   i3 = 1u;
   i2 = i2 > i3;
   i0 = i2 ? i0 : i1;
-  l21 = i0;
+  l30 = i0;
   i1 = 7u;
   i0 &= i1;
   p1 = i0;
   i0 = 0u;
-  l22 = i0;
-  i0 = l27;
+  l31 = i0;
+  i0 = l36;
   i1 = 8u;
   i0 = i0 < i1;
   if (i0) {goto B11;}
-  i0 = l21;
+  i0 = l30;
   i1 = 4294967288u;
   i0 &= i1;
-  l21 = i0;
+  l30 = i0;
   i0 = 0u;
-  l22 = i0;
+  l31 = i0;
   L12: 
-    i0 = l21;
-    i1 = l22;
+    i0 = l30;
+    i1 = l31;
     i2 = 8u;
     i1 += i2;
-    l22 = i1;
+    l31 = i1;
     i0 = i0 != i1;
     if (i0) {goto L12;}
   i0 = p1;
@@ -108376,10 +107794,10 @@ static u32 module_zak_frame_update(module *self, u64 p0, u32 p1, u64 p2, u64 p3,
   if (i0) {goto B6;}
   B11:;
   L13: 
-    i0 = l22;
+    i0 = l31;
     i1 = 1u;
     i0 += i1;
-    l22 = i0;
+    l31 = i0;
     i0 = p1;
     i1 = 4294967295u;
     i0 += i1;
@@ -108388,63 +107806,65 @@ static u32 module_zak_frame_update(module *self, u64 p0, u32 p1, u64 p2, u64 p3,
     goto B6;
   { self->is_broken = true; return ZAK_BROKEN; }
   B7:;
-  j0 = l16;
+  j0 = l17;
   i0 = (u32)(j0);
-  l22 = i0;
+  l31 = i0;
   B6:;
   i0 = 0u;
   p1 = i0;
-  i0 = l22;
-  i1 = l27;
+  i0 = l31;
+  i1 = l36;
   i0 = i0 == i1;
   if (i0) {goto B14;}
-  i0 = l22;
-  i1 = l27;
+  i0 = l31;
+  i1 = l36;
   i0 = i0 >= i1;
   if (i0) {goto B16;}
-  i0 = l22;
-  l27 = i0;
-  i0 = l23;
-  i1 = l28;
+  i0 = 1u;
+  l30 = i0;
+  i0 = l31;
+  l36 = i0;
+  i0 = l32;
+  i1 = l37;
   i0 = i0 > i1;
   if (i0) {goto B15;}
-  i0 = l24;
+  i0 = l33;
   j0 = (u64)(i0);
-  i1 = l25;
+  i1 = l34;
   j1 = (u64)(i1);
   j0 *= j1;
-  l15 = j0;
-  i0 = l23;
-  j0 = (u64)(i0);
-  l18 = j0;
-  i0 = l22;
+  l16 = j0;
+  i0 = l32;
   j0 = (u64)(i0);
   l19 = j0;
+  i0 = l31;
+  j0 = (u64)(i0);
+  l21 = j0;
   j0 = l10;
-  l14 = j0;
+  l15 = j0;
   L18: 
-    j0 = l14;
+    j0 = l15;
     j1 = 18446744073709551615ull;
     j0 += j1;
-    l16 = j0;
+    l17 = j0;
     j1 = p5;
     j0 *= j1;
-    l13 = j0;
-    j0 = l15;
-    j1 = l16;
+    l14 = j0;
+    j0 = l16;
+    j1 = l17;
     j0 *= j1;
-    l17 = j0;
+    l18 = j0;
     i0 = 1u;
     p1 = i0;
     j0 = l11;
-    p4 = j0;
+    l20 = j0;
     j0 = 0ull;
     p2 = j0;
     L19: 
       i0 = p1;
-      j1 = l12;
+      j1 = l13;
       j2 = p2;
-      j3 = l13;
+      j3 = l14;
       j2 += j3;
       j3 = 2ull;
       j2 <<= (j3 & 63);
@@ -108453,25 +107873,25 @@ static u32 module_zak_frame_update(module *self, u64 p0, u32 p1, u64 p2, u64 p3,
       i1 = i32_load(j1);
       j2 = l9;
       j3 = p2;
-      j4 = l18;
+      j4 = l19;
       j3 *= j4;
-      j4 = l17;
+      j4 = l18;
       j3 += j4;
       j4 = 3ull;
       j3 *= j4;
       j2 += j3;
-      p3 = j2;
+      p4 = j2;
       i2 = (u32)(j2);
       i2 = i32_load8_u(j2);
       i3 = 16u;
       i2 <<= (i3 & 31);
-      j3 = p3;
+      j3 = p4;
       j4 = 2ull;
       j3 += j4;
       i3 = (u32)(j3);
       i3 = i32_load8_u(j3);
       i2 |= i3;
-      j3 = p3;
+      j3 = p4;
       j4 = 1ull;
       j3 += j4;
       i3 = (u32)(j3);
@@ -108479,16 +107899,16 @@ static u32 module_zak_frame_update(module *self, u64 p0, u32 p1, u64 p2, u64 p3,
       i4 = 8u;
       i3 <<= (i4 & 31);
       i2 |= i3;
-      l21 = i2;
+      l30 = i2;
       i3 = 4u;
       i2 >>= (i3 & 31);
       i3 = 986895u;
       i2 &= i3;
-      i3 = l21;
+      i3 = l30;
       i4 = 2u;
       i3 <<= (i4 & 31);
       i2 += i3;
-      i3 = l20;
+      i3 = l29;
       i2 |= i3;
       i1 = i1 == i2;
       i0 &= i1;
@@ -108497,71 +107917,319 @@ static u32 module_zak_frame_update(module *self, u64 p0, u32 p1, u64 p2, u64 p3,
       j1 = 1ull;
       j0 += j1;
       p2 = j0;
-      j0 = p4;
+      j0 = l20;
       j1 = 18446744073709551615ull;
       j0 += j1;
-      p4 = j0;
+      l20 = j0;
       j1 = 0ull;
       i0 = j0 != j1;
       if (i0) {goto L19;}
     i0 = p1;
     i0 = !(i0);
     if (i0) {goto B17;}
-    j0 = l16;
-    l14 = j0;
-    j0 = l16;
-    j1 = l19;
+    j0 = l17;
+    l15 = j0;
+    j0 = l17;
+    j1 = l21;
     i0 = j0 > j1;
     if (i0) {goto L18;}
-  i0 = l22;
-  l27 = i0;
+  i0 = l31;
+  l36 = i0;
   goto B16;
   B17:;
-  j0 = l14;
+  j0 = l15;
   i0 = (u32)(j0);
-  l27 = i0;
+  l36 = i0;
   B16:;
-  i0 = l26;
-  if (i0) {goto B15;}
-  i0 = l23;
-  i1 = l28;
+  i0 = l32;
+  i1 = l37;
   i0 = i0 > i1;
-  if (i0) {goto B15;}
+  l30 = i0;
+  B15:;
+  i0 = l35;
+  if (i0) {goto B20;}
+  i0 = l38;
+  i1 = 4294967295u;
+  i0 += i1;
+  l38 = i0;
+  j0 = l11;
+  j1 = 3ull;
+  j0 &= j1;
+  l22 = j0;
+  j0 = l11;
+  j1 = 2ull;
+  j0 <<= (j1 & 63);
+  l23 = j0;
+  i0 = l32;
+  j0 = (u64)(i0);
+  j1 = 3ull;
+  j0 *= j1;
+  l14 = j0;
+  j0 = 0ull;
+  l17 = j0;
+  j0 = 0ull;
+  j1 = p5;
+  j2 = 2ull;
+  j1 <<= (j2 & 63);
+  l16 = j1;
+  j0 -= j1;
+  l24 = j0;
+  j0 = 0ull;
+  j1 = l11;
+  j2 = 4294967292ull;
+  j1 &= j2;
+  j0 -= j1;
+  l25 = j0;
   j0 = l11;
   j1 = 1ull;
   j2 = l11;
   j3 = 1ull;
   i2 = j2 > j3;
   j0 = i2 ? j0 : j1;
-  l18 = j0;
-  i0 = l23;
-  j0 = (u64)(i0);
-  j1 = 3ull;
-  j0 *= j1;
-  l13 = j0;
-  j0 = p5;
   j1 = 2ull;
   j0 <<= (j1 & 63);
-  p5 = j0;
-  i0 = l25;
+  l18 = j0;
+  j0 = p3;
+  j1 = l12;
+  j2 = l16;
+  j1 -= j2;
+  j0 += j1;
+  l15 = j0;
+  i0 = l33;
   j0 = (u64)(i0);
-  i1 = l24;
+  p2 = j0;
+  i1 = l34;
   j1 = (u64)(i1);
+  p4 = j1;
   j0 *= j1;
+  l26 = j0;
   j1 = 3ull;
   j0 *= j1;
-  l11 = j0;
-  j0 = 0ull;
-  l17 = j0;
-  L20: 
-    j0 = l9;
-    p2 = j0;
-    j0 = l12;
-    p3 = j0;
-    j0 = l18;
+  l21 = j0;
+  j0 = p2;
+  j1 = 3ull;
+  j0 *= j1;
+  p2 = j0;
+  j1 = p4;
+  j0 *= j1;
+  l27 = j0;
+  j0 = l9;
+  j1 = l26;
+  j2 = 18446744073709551613ull;
+  j1 *= j2;
+  j0 += j1;
+  p3 = j0;
+  j0 = l9;
+  j1 = p2;
+  j2 = 18446744073709551608ull;
+  j1 += j2;
+  l11 = j1;
+  j0 += j1;
+  l28 = j0;
+  j0 = l13;
+  l20 = j0;
+  j0 = l9;
+  l19 = j0;
+  L21: 
+    j0 = l17;
+    i0 = !(j0);
+    if (i0) {goto B23;}
+    i0 = l33;
+    i1 = 3u;
+    i0 = i0 < i1;
+    if (i0) {goto B23;}
+    j0 = l27;
+    j1 = l17;
+    j2 = 18446744073709551615ull;
+    j1 += j2;
+    j0 *= j1;
     p4 = j0;
-    L21: 
-      j0 = p3;
+    j0 = l9;
+    j1 = l26;
+    j2 = l17;
+    j1 *= j2;
+    j2 = 3ull;
+    j1 *= j2;
+    j0 += j1;
+    l12 = j0;
+    j0 = 0ull;
+    p2 = j0;
+    L25: 
+      j0 = l19;
+      j1 = p2;
+      j0 += j1;
+      i0 = (u32)(j0);
+      j0 = i64_load(j0);
+      j1 = p3;
+      j2 = p2;
+      j1 += j2;
+      i1 = (u32)(j1);
+      j1 = i64_load(j1);
+      i0 = j0 != j1;
+      if (i0) {goto B24;}
+      j0 = p2;
+      j1 = 8ull;
+      j0 += j1;
+      p2 = j0;
+      j1 = l11;
+      i0 = j0 < j1;
+      if (i0) {goto L25;}
+    B24:;
+    j0 = l11;
+    j1 = p2;
+    i0 = j0 > j1;
+    if (i0) {goto B23;}
+    j0 = l12;
+    j1 = l11;
+    j0 += j1;
+    i0 = (u32)(j0);
+    j0 = i64_load(j0);
+    j1 = l28;
+    j2 = p4;
+    j1 += j2;
+    i1 = (u32)(j1);
+    j1 = i64_load(j1);
+    i0 = j0 != j1;
+    if (i0) {goto B23;}
+    j0 = l16;
+    j1 = l23;
+    i0 = j0 >= j1;
+    if (i0) {goto B26;}
+    j0 = 0ull;
+    p2 = j0;
+    i0 = l38;
+    i1 = 3u;
+    i0 = i0 < i1;
+    if (i0) {goto B27;}
+    j0 = 0ull;
+    l12 = j0;
+    j0 = l20;
+    p2 = j0;
+    L28: 
+      j0 = p2;
+      i0 = (u32)(j0);
+      j1 = p2;
+      j2 = l24;
+      j1 += j2;
+      p4 = j1;
+      i1 = (u32)(j1);
+      i1 = i32_load(j1);
+      i32_store(j0, i1);
+      j0 = p2;
+      j1 = 4ull;
+      j0 += j1;
+      i0 = (u32)(j0);
+      j1 = p4;
+      j2 = 4ull;
+      j1 += j2;
+      i1 = (u32)(j1);
+      i1 = i32_load(j1);
+      i32_store(j0, i1);
+      j0 = p2;
+      j1 = 8ull;
+      j0 += j1;
+      i0 = (u32)(j0);
+      j1 = p4;
+      j2 = 8ull;
+      j1 += j2;
+      i1 = (u32)(j1);
+      i1 = i32_load(j1);
+      i32_store(j0, i1);
+      j0 = p2;
+      j1 = 12ull;
+      j0 += j1;
+      i0 = (u32)(j0);
+      j1 = p4;
+      j2 = 12ull;
+      j1 += j2;
+      i1 = (u32)(j1);
+      i1 = i32_load(j1);
+      i32_store(j0, i1);
+      j0 = p2;
+      j1 = 16ull;
+      j0 += j1;
+      p2 = j0;
+      j0 = l25;
+      j1 = l12;
+      j2 = 18446744073709551612ull;
+      j1 += j2;
+      l12 = j1;
+      i0 = j0 != j1;
+      if (i0) {goto L28;}
+    j0 = l22;
+    i0 = !(j0);
+    if (i0) {goto B22;}
+    j0 = 0ull;
+    j1 = l12;
+    j0 -= j1;
+    p2 = j0;
+    B27:;
+    j0 = p2;
+    j1 = 2ull;
+    j0 <<= (j1 & 63);
+    p2 = j0;
+    j0 = l22;
+    p4 = j0;
+    L29: 
+      j0 = l20;
+      j1 = p2;
+      j0 += j1;
+      i0 = (u32)(j0);
+      j1 = l15;
+      j2 = p2;
+      j1 += j2;
+      i1 = (u32)(j1);
+      i1 = i32_load(j1);
+      i32_store(j0, i1);
+      j0 = p2;
+      j1 = 4ull;
+      j0 += j1;
+      p2 = j0;
+      j0 = p4;
+      j1 = 18446744073709551615ull;
+      j0 += j1;
+      p4 = j0;
+      j1 = 0ull;
+      i0 = j0 != j1;
+      if (i0) {goto L29;}
+      goto B22;
+    { self->is_broken = true; return ZAK_BROKEN; }
+    B26:;
+    j0 = l23;
+    i0 = !(j0);
+    if (i0) {goto B22;}
+    j0 = l13;
+    j1 = l17;
+    j2 = p5;
+    j1 *= j2;
+    p2 = j1;
+    j2 = 2ull;
+    j1 <<= (j2 & 63);
+    j0 += j1;
+    i0 = (u32)(j0);
+    j1 = l13;
+    j2 = p2;
+    j3 = p5;
+    j2 -= j3;
+    j3 = 2ull;
+    j2 <<= (j3 & 63);
+    j1 += j2;
+    i1 = (u32)(j1);
+    j2 = l23;
+    i2 = (u32)(j2);
+    memory_copy(j0, j1, j2);
+    goto B22;
+    B23:;
+    i0 = l30;
+    if (i0) {goto B22;}
+    j0 = 0ull;
+    p4 = j0;
+    j0 = l19;
+    p2 = j0;
+    L30: 
+      j0 = l20;
+      j1 = p4;
+      j0 += j1;
       i0 = (u32)(j0);
       j1 = p2;
       i1 = (u32)(j1);
@@ -108591,57 +108259,62 @@ static u32 module_zak_frame_update(module *self, u64 p0, u32 p1, u64 p2, u64 p3,
       i3 = 2u;
       i2 <<= (i3 & 31);
       i1 += i2;
-      i2 = l20;
+      i2 = l29;
       i1 |= i2;
       i32_store(j0, i1);
       j0 = p2;
-      j1 = l13;
+      j1 = l14;
       j0 += j1;
       p2 = j0;
-      j0 = p3;
-      j1 = 4ull;
-      j0 += j1;
-      p3 = j0;
-      j0 = p4;
-      j1 = 18446744073709551615ull;
-      j0 += j1;
-      p4 = j0;
-      j1 = 0ull;
+      j0 = l18;
+      j1 = p4;
+      j2 = 4ull;
+      j1 += j2;
+      p4 = j1;
       i0 = j0 != j1;
-      if (i0) {goto L21;}
-    j0 = l9;
-    j1 = l11;
+      if (i0) {goto L30;}
+    B22:;
+    j0 = l15;
+    j1 = l16;
     j0 += j1;
-    l9 = j0;
-    j0 = l12;
-    j1 = p5;
+    l15 = j0;
+    j0 = l20;
+    j1 = l16;
     j0 += j1;
-    l12 = j0;
+    l20 = j0;
+    j0 = l19;
+    j1 = l21;
+    j0 += j1;
+    l19 = j0;
+    j0 = p3;
+    j1 = l21;
+    j0 += j1;
+    p3 = j0;
     j0 = l17;
     j1 = 1ull;
     j0 += j1;
     l17 = j0;
     j1 = l10;
     i0 = j0 < j1;
-    if (i0) {goto L20;}
-  B15:;
-  i0 = l27;
-  i1 = l22;
+    if (i0) {goto L21;}
+  B20:;
+  i0 = l36;
+  i1 = l31;
   i0 -= i1;
-  l29 = i0;
-  i0 = l22;
+  l39 = i0;
+  i0 = l31;
   p1 = i0;
   B14:;
   j0 = p6;
   i0 = (u32)(j0);
-  i1 = l29;
+  i1 = l39;
   i32_store(j0 + 4, i1);
   j0 = p6;
   i0 = (u32)(j0);
   i1 = p1;
   i32_store(j0, i1);
   i0 = 0u;
-  l20 = i0;
+  l29 = i0;
   B2:;
   j0 = p0;
   i0 = (u32)(j0);
@@ -108664,14 +108337,15 @@ static u32 module_zak_frame_update(module *self, u64 p0, u32 p1, u64 p2, u64 p3,
   j1 = 48ull;
   j0 += j1;
   self->g0 = j0;
-  i0 = l20;
+  i0 = l29;
   return i0;
 }
 
 static u32 module_zak_frame_words(module *self, u64 p0, u32 p1, u64 p2, u64 p3, u64 p4, u64 p5) {
-  u32 l15 = 0, l16 = 0, l17 = 0, l18 = 0, l19 = 0, l20 = 0, l21 = 0, l22 = 0;
+  u32 l28 = 0, l29 = 0, l30 = 0, l31 = 0, l32 = 0, l33 = 0, l34 = 0, l35 = 0;
   u64 l6 = 0, l7 = 0, l8 = 0, l9 = 0, l10 = 0, l11 = 0, l12 = 0, l13 = 0, 
-      l14 = 0;
+      l14 = 0, l15 = 0, l16 = 0, l17 = 0, l18 = 0, l19 = 0, l20 = 0, l21 = 0, 
+      l22 = 0, l23 = 0, l24 = 0, l25 = 0, l26 = 0, l27 = 0;
   u8 *m = self->memory;
   u32 i0, i1, i2, i3, i4;
   u64 j0, j1, j2, j3, j4;
@@ -108681,7 +108355,7 @@ static u32 module_zak_frame_words(module *self, u64 p0, u32 p1, u64 p2, u64 p3, 
   l6 = j0;
   self->g0 = j0;
   i0 = 20u;
-  l15 = i0;
+  l28 = i0;
   j0 = p0;
   i0 = (u32)(j0);
   i0 = i32_load8_u(j0);
@@ -108711,13 +108385,13 @@ static u32 module_zak_frame_words(module *self, u64 p0, u32 p1, u64 p2, u64 p3, 
   j1 = 0ull;
   i64_store(j0 + 8, j1);
   i0 = 26u;
-  l15 = i0;
+  l28 = i0;
   i0 = p1;
   i1 = 3u;
   i0 = i0 > i1;
   if (i0) {goto B2;}
   i0 = 1u;
-  l16 = i0;
+  l29 = i0;
   j0 = l7;
   j1 = 53ull;
   j0 += j1;
@@ -108731,9 +108405,9 @@ static u32 module_zak_frame_words(module *self, u64 p0, u32 p1, u64 p2, u64 p3, 
   j0 += j1;
   i0 = (u32)(j0);
   i0 = i32_load8_u(j0);
-  l17 = i0;
+  l30 = i0;
   i0 = 1u;
-  l18 = i0;
+  l31 = i0;
   goto B3;
   B4:;
   j0 = l7;
@@ -108745,18 +108419,18 @@ static u32 module_zak_frame_words(module *self, u64 p0, u32 p1, u64 p2, u64 p3, 
   i0 &= i1;
   if (i0) {goto B5;}
   i0 = 1u;
-  l18 = i0;
+  l31 = i0;
   j0 = l7;
   j1 = 114ull;
   j0 += j1;
   i0 = (u32)(j0);
   i0 = i32_load8_u(j0);
-  l17 = i0;
+  l30 = i0;
   i1 = 31u;
   i0 &= i1;
   i1 = 1u;
   i0 += i1;
-  l16 = i0;
+  l29 = i0;
   goto B3;
   B5:;
   i0 = 2u;
@@ -108769,18 +108443,18 @@ static u32 module_zak_frame_words(module *self, u64 p0, u32 p1, u64 p2, u64 p3, 
   i3 = 1u;
   i2 &= i3;
   i0 = i2 ? i0 : i1;
-  l18 = i0;
+  l31 = i0;
   j0 = l7;
   j1 = 114ull;
   j0 += j1;
   i0 = (u32)(j0);
   i0 = i32_load8_u(j0);
-  l17 = i0;
+  l30 = i0;
   i1 = 31u;
   i0 &= i1;
   i1 = 1u;
   i0 += i1;
-  l16 = i0;
+  l29 = i0;
   B3:;
   j0 = l6;
   i0 = (u32)(j0);
@@ -108802,26 +108476,26 @@ static u32 module_zak_frame_words(module *self, u64 p0, u32 p1, u64 p2, u64 p3, 
   j1 = 16ull;
   j0 += j1;
   j1 = l7;
-  f55(self, j0, j1); m = self->memory; if (NEVER(self->is_broken)) return ZAK_BROKEN;
+  f56(self, j0, j1); m = self->memory; if (NEVER(self->is_broken)) return ZAK_BROKEN;
   i0 = 24u;
-  l15 = i0;
+  l28 = i0;
   j0 = l6;
   i0 = (u32)(j0);
   i0 = i32_load8_u(j0 + 16u);
   if (i0) {goto B2;}
   j0 = l6;
   i0 = (u32)(j0);
-  j0 = i64_load(j0 + 32u);
-  l8 = j0;
+  i0 = i32_load(j0 + 20u);
+  l32 = i0;
   j0 = l6;
   i0 = (u32)(j0);
-  i0 = i32_load(j0 + 20u);
-  l19 = i0;
+  j0 = i64_load(j0 + 32u);
+  l8 = j0;
   j0 = p2;
   i0 = (u32)(j0);
   i1 = 1u;
-  i2 = l16;
-  i3 = l17;
+  i2 = l29;
+  i3 = l30;
   i4 = 128u;
   i3 &= i4;
   i4 = 7u;
@@ -108830,47 +108504,47 @@ static u32 module_zak_frame_words(module *self, u64 p0, u32 p1, u64 p2, u64 p3, 
   i3 = p1;
   i4 = 2u;
   i3 = i3 < i4;
-  l16 = i3;
+  l29 = i3;
   i1 = i3 ? i1 : i2;
-  l17 = i1;
+  l33 = i1;
   i32_store(j0 + 12, i1);
   j0 = p2;
   i0 = (u32)(j0);
   i1 = 1u;
-  i2 = l18;
-  i3 = l16;
+  i2 = l31;
+  i3 = l29;
   i1 = i3 ? i1 : i2;
-  l18 = i1;
+  l30 = i1;
   i32_store(j0 + 8, i1);
   j0 = p2;
   i0 = (u32)(j0);
-  i1 = l17;
+  i1 = l33;
   j2 = l6;
   i2 = (u32)(j2);
   i2 = i32_load(j2 + 24u);
   i1 += i2;
   i2 = 4294967295u;
   i1 += i2;
-  l20 = i1;
-  i2 = l17;
+  l34 = i1;
+  i2 = l33;
   if (i2 == 0) { self->is_broken = true; return ZAK_BROKEN; } i1 = i1 / i2;
-  l16 = i1;
+  l29 = i1;
   i32_store(j0 + 4, i1);
   j0 = p2;
   i0 = (u32)(j0);
-  i1 = l18;
-  i2 = l19;
+  i1 = l30;
+  i2 = l32;
   i1 += i2;
   i2 = 4294967295u;
   i1 += i2;
-  l21 = i1;
-  i2 = l18;
+  l31 = i1;
+  i2 = l30;
   i2 = I32_CTZ(i2);
   i1 >>= (i2 & 31);
-  l22 = i1;
+  l35 = i1;
   i32_store(j0, i1);
   j0 = l6;
-  i1 = l16;
+  i1 = l29;
   j1 = (u64)(i1);
   l9 = j1;
   j2 = 0ull;
@@ -108878,9 +108552,9 @@ static u32 module_zak_frame_words(module *self, u64 p0, u32 p1, u64 p2, u64 p3, 
   j4 = 0ull;
   f0(self, j0, j1, j2, j3, j4);
   i0 = 25u;
-  l15 = i0;
+  l28 = i0;
   j0 = p5;
-  i1 = l22;
+  i1 = l35;
   j1 = (u64)(i1);
   p2 = j1;
   i0 = j0 < j1;
@@ -108890,7 +108564,7 @@ static u32 module_zak_frame_words(module *self, u64 p0, u32 p1, u64 p2, u64 p3, 
   j0 = i64_load(j0 + 8u);
   j1 = 0ull;
   i0 = j0 != j1;
-  l16 = i0;
+  l29 = i0;
   j1 = p5;
   j2 = l9;
   j1 *= j2;
@@ -108899,16 +108573,12 @@ static u32 module_zak_frame_words(module *self, u64 p0, u32 p1, u64 p2, u64 p3, 
   i0 |= i1;
   i0 = !(i0);
   if (i0) {goto B2;}
-  i0 = l16;
+  i0 = l29;
   if (i0) {goto B2;}
   i0 = 0u;
-  l15 = i0;
-  i0 = l17;
-  i1 = l20;
-  i0 = i0 > i1;
-  if (i0) {goto B2;}
-  i0 = l18;
-  i1 = l21;
+  l28 = i0;
+  i0 = l33;
+  i1 = l34;
   i0 = i0 > i1;
   if (i0) {goto B2;}
   j0 = p3;
@@ -108917,8 +108587,9 @@ static u32 module_zak_frame_words(module *self, u64 p0, u32 p1, u64 p2, u64 p3, 
   j3 = p3;
   i3 = !(j3);
   j1 = i3 ? j1 : j2;
+  l10 = j1;
   j0 += j1;
-  l10 = j0;
+  l11 = j0;
   i0 = 0u;
   i1 = p1;
   i2 = 1u;
@@ -108926,42 +108597,166 @@ static u32 module_zak_frame_words(module *self, u64 p0, u32 p1, u64 p2, u64 p3, 
   i0 -= i1;
   i1 = 4278190080u;
   i0 &= i1;
-  l16 = i0;
+  l29 = i0;
+  i0 = l32;
+  j0 = (u64)(i0);
+  l12 = j0;
+  i1 = l33;
+  j1 = (u64)(i1);
+  l13 = j1;
+  j0 *= j1;
+  l14 = j0;
+  i0 = l30;
+  j0 = (u64)(i0);
+  p4 = j0;
+  i0 = l32;
+  i1 = 3u;
+  i0 = i0 < i1;
+  if (i0) {goto B6;}
+  j0 = p2;
+  j1 = 2ull;
+  j0 <<= (j1 & 63);
+  l15 = j0;
+  j0 = l12;
+  j1 = 3ull;
+  j0 *= j1;
+  l12 = j0;
+  j1 = l13;
+  j0 *= j1;
+  l16 = j0;
+  j0 = l8;
+  j1 = l12;
+  j2 = 18446744073709551608ull;
+  j1 += j2;
+  l17 = j1;
+  j0 += j1;
+  l18 = j0;
+  j0 = p4;
+  j1 = 3ull;
+  j0 *= j1;
+  l12 = j0;
+  i0 = l35;
+  i1 = 4294967295u;
+  i0 += i1;
+  l33 = i0;
+  j0 = p2;
+  j1 = 3ull;
+  j0 &= j1;
+  l19 = j0;
+  j0 = p3;
+  j1 = l10;
+  j2 = p5;
+  j3 = 2ull;
+  j2 <<= (j3 & 63);
+  l20 = j2;
+  j1 -= j2;
+  j0 += j1;
+  l21 = j0;
+  j0 = 0ull;
+  l22 = j0;
+  j0 = 0ull;
+  j1 = l20;
+  j0 -= j1;
+  l23 = j0;
+  j0 = 0ull;
+  j1 = p2;
+  j2 = 4294967292ull;
+  j1 &= j2;
+  j0 -= j1;
+  l24 = j0;
+  j0 = l14;
+  j1 = 3ull;
+  j0 *= j1;
+  l25 = j0;
   j0 = p2;
   j1 = 1ull;
   j2 = p2;
   j3 = 1ull;
   i2 = j2 > j3;
   j0 = i2 ? j0 : j1;
-  l11 = j0;
-  i0 = l18;
-  j0 = (u64)(i0);
-  j1 = 3ull;
-  j0 *= j1;
-  p3 = j0;
-  j0 = p5;
   j1 = 2ull;
   j0 <<= (j1 & 63);
-  l12 = j0;
-  i0 = l17;
-  j0 = (u64)(i0);
-  i1 = l19;
-  j1 = (u64)(i1);
-  j0 *= j1;
-  j1 = 3ull;
-  j0 *= j1;
+  l10 = j0;
+  j0 = l8;
+  j1 = l14;
+  j2 = 18446744073709551613ull;
+  j1 *= j2;
+  j0 += j1;
+  l26 = j0;
+  j0 = l11;
+  p3 = j0;
+  j0 = l8;
   l13 = j0;
-  j0 = 0ull;
-  l14 = j0;
-  L6: 
+  L7: 
+    j0 = l22;
+    i0 = !(j0);
+    if (i0) {goto B10;}
     j0 = l8;
-    p2 = j0;
-    j0 = l10;
-    p5 = j0;
-    j0 = l11;
+    j1 = l22;
+    j2 = l14;
+    j1 *= j2;
+    j2 = 3ull;
+    j1 *= j2;
+    j0 += j1;
     p4 = j0;
-    L7: 
-      j0 = p5;
+    j0 = l16;
+    j1 = l22;
+    j2 = 18446744073709551615ull;
+    j1 += j2;
+    j0 *= j1;
+    l27 = j0;
+    j0 = 0ull;
+    p2 = j0;
+    L12: 
+      j0 = l13;
+      j1 = p2;
+      j0 += j1;
+      i0 = (u32)(j0);
+      j0 = i64_load(j0);
+      j1 = l26;
+      j2 = p2;
+      j1 += j2;
+      i1 = (u32)(j1);
+      j1 = i64_load(j1);
+      i0 = j0 != j1;
+      if (i0) {goto B11;}
+      j0 = p2;
+      j1 = 8ull;
+      j0 += j1;
+      p2 = j0;
+      j1 = l17;
+      i0 = j0 < j1;
+      if (i0) {goto L12;}
+    B11:;
+    j0 = l17;
+    j1 = p2;
+    i0 = j0 > j1;
+    if (i0) {goto B10;}
+    j0 = p4;
+    j1 = l17;
+    j0 += j1;
+    i0 = (u32)(j0);
+    j0 = i64_load(j0);
+    j1 = l18;
+    j2 = l27;
+    j1 += j2;
+    i1 = (u32)(j1);
+    j1 = i64_load(j1);
+    i0 = j0 == j1;
+    if (i0) {goto B9;}
+    B10:;
+    i0 = l30;
+    i1 = l31;
+    i0 = i0 > i1;
+    if (i0) {goto B8;}
+    j0 = 0ull;
+    p4 = j0;
+    j0 = l13;
+    p2 = j0;
+    L13: 
+      j0 = p3;
+      j1 = p4;
+      j0 += j1;
       i0 = (u32)(j0);
       j1 = p2;
       i1 = (u32)(j1);
@@ -108991,39 +108786,273 @@ static u32 module_zak_frame_words(module *self, u64 p0, u32 p1, u64 p2, u64 p3, 
       i3 = 2u;
       i2 <<= (i3 & 31);
       i1 += i2;
-      i2 = l16;
+      i2 = l29;
       i1 |= i2;
       i32_store(j0, i1);
       j0 = p2;
-      j1 = p3;
+      j1 = l12;
       j0 += j1;
       p2 = j0;
-      j0 = p5;
+      j0 = l10;
+      j1 = p4;
+      j2 = 4ull;
+      j1 += j2;
+      p4 = j1;
+      i0 = j0 != j1;
+      if (i0) {goto L13;}
+      goto B8;
+    { self->is_broken = true; return ZAK_BROKEN; }
+    B9:;
+    j0 = l20;
+    j1 = l15;
+    i0 = j0 >= j1;
+    if (i0) {goto B14;}
+    j0 = 0ull;
+    p2 = j0;
+    i0 = l33;
+    i1 = 3u;
+    i0 = i0 < i1;
+    if (i0) {goto B15;}
+    j0 = 0ull;
+    l27 = j0;
+    j0 = p3;
+    p2 = j0;
+    L16: 
+      j0 = p2;
+      i0 = (u32)(j0);
+      j1 = p2;
+      j2 = l23;
+      j1 += j2;
+      p4 = j1;
+      i1 = (u32)(j1);
+      i1 = i32_load(j1);
+      i32_store(j0, i1);
+      j0 = p2;
       j1 = 4ull;
       j0 += j1;
-      p5 = j0;
+      i0 = (u32)(j0);
+      j1 = p4;
+      j2 = 4ull;
+      j1 += j2;
+      i1 = (u32)(j1);
+      i1 = i32_load(j1);
+      i32_store(j0, i1);
+      j0 = p2;
+      j1 = 8ull;
+      j0 += j1;
+      i0 = (u32)(j0);
+      j1 = p4;
+      j2 = 8ull;
+      j1 += j2;
+      i1 = (u32)(j1);
+      i1 = i32_load(j1);
+      i32_store(j0, i1);
+      j0 = p2;
+      j1 = 12ull;
+      j0 += j1;
+      i0 = (u32)(j0);
+      j1 = p4;
+      j2 = 12ull;
+      j1 += j2;
+      i1 = (u32)(j1);
+      i1 = i32_load(j1);
+      i32_store(j0, i1);
+      j0 = p2;
+      j1 = 16ull;
+      j0 += j1;
+      p2 = j0;
+      j0 = l24;
+      j1 = l27;
+      j2 = 18446744073709551612ull;
+      j1 += j2;
+      l27 = j1;
+      i0 = j0 != j1;
+      if (i0) {goto L16;}
+    j0 = l19;
+    i0 = !(j0);
+    if (i0) {goto B8;}
+    j0 = 0ull;
+    j1 = l27;
+    j0 -= j1;
+    p2 = j0;
+    B15:;
+    j0 = p2;
+    j1 = 2ull;
+    j0 <<= (j1 & 63);
+    p2 = j0;
+    j0 = l19;
+    p4 = j0;
+    L17: 
+      j0 = p3;
+      j1 = p2;
+      j0 += j1;
+      i0 = (u32)(j0);
+      j1 = l21;
+      j2 = p2;
+      j1 += j2;
+      i1 = (u32)(j1);
+      i1 = i32_load(j1);
+      i32_store(j0, i1);
+      j0 = p2;
+      j1 = 4ull;
+      j0 += j1;
+      p2 = j0;
       j0 = p4;
       j1 = 18446744073709551615ull;
       j0 += j1;
       p4 = j0;
       j1 = 0ull;
       i0 = j0 != j1;
-      if (i0) {goto L7;}
-    j0 = l8;
-    j1 = l13;
+      if (i0) {goto L17;}
+      goto B8;
+    { self->is_broken = true; return ZAK_BROKEN; }
+    B14:;
+    j0 = l15;
+    i0 = !(j0);
+    if (i0) {goto B8;}
+    j0 = l11;
+    j1 = l22;
+    j2 = p5;
+    j1 *= j2;
+    p2 = j1;
+    j2 = 2ull;
+    j1 <<= (j2 & 63);
     j0 += j1;
-    l8 = j0;
-    j0 = l10;
-    j1 = l12;
+    i0 = (u32)(j0);
+    j1 = l11;
+    j2 = p2;
+    j3 = p5;
+    j2 -= j3;
+    j3 = 2ull;
+    j2 <<= (j3 & 63);
+    j1 += j2;
+    i1 = (u32)(j1);
+    j2 = l15;
+    i2 = (u32)(j2);
+    memory_copy(j0, j1, j2);
+    B8:;
+    j0 = l21;
+    j1 = l20;
     j0 += j1;
-    l10 = j0;
-    j0 = l14;
+    l21 = j0;
+    j0 = p3;
+    j1 = l20;
+    j0 += j1;
+    p3 = j0;
+    j0 = l13;
+    j1 = l25;
+    j0 += j1;
+    l13 = j0;
+    j0 = l26;
+    j1 = l25;
+    j0 += j1;
+    l26 = j0;
+    j0 = l22;
     j1 = 1ull;
     j0 += j1;
-    l14 = j0;
+    l22 = j0;
     j1 = l9;
     i0 = j0 < j1;
-    if (i0) {goto L6;}
+    if (i0) {goto L7;}
+    goto B2;
+  { self->is_broken = true; return ZAK_BROKEN; }
+  B6:;
+  i0 = l30;
+  i1 = l31;
+  i0 = i0 > i1;
+  if (i0) {goto B2;}
+  j0 = p2;
+  j1 = 1ull;
+  j2 = p2;
+  j3 = 1ull;
+  i2 = j2 > j3;
+  j0 = i2 ? j0 : j1;
+  l13 = j0;
+  j0 = p4;
+  j1 = 3ull;
+  j0 *= j1;
+  l12 = j0;
+  j0 = p5;
+  j1 = 2ull;
+  j0 <<= (j1 & 63);
+  l26 = j0;
+  j0 = l14;
+  j1 = 3ull;
+  j0 *= j1;
+  l17 = j0;
+  j0 = 0ull;
+  l10 = j0;
+  L18: 
+    j0 = l8;
+    p2 = j0;
+    j0 = l11;
+    p4 = j0;
+    j0 = l13;
+    p3 = j0;
+    L19: 
+      j0 = p4;
+      i0 = (u32)(j0);
+      j1 = p2;
+      i1 = (u32)(j1);
+      i1 = i32_load8_u(j1);
+      i2 = 16u;
+      i1 <<= (i2 & 31);
+      j2 = p2;
+      j3 = 2ull;
+      j2 += j3;
+      i2 = (u32)(j2);
+      i2 = i32_load8_u(j2);
+      i1 |= i2;
+      j2 = p2;
+      j3 = 1ull;
+      j2 += j3;
+      i2 = (u32)(j2);
+      i2 = i32_load8_u(j2);
+      i3 = 8u;
+      i2 <<= (i3 & 31);
+      i1 |= i2;
+      p1 = i1;
+      i2 = 4u;
+      i1 >>= (i2 & 31);
+      i2 = 986895u;
+      i1 &= i2;
+      i2 = p1;
+      i3 = 2u;
+      i2 <<= (i3 & 31);
+      i1 += i2;
+      i2 = l29;
+      i1 |= i2;
+      i32_store(j0, i1);
+      j0 = p2;
+      j1 = l12;
+      j0 += j1;
+      p2 = j0;
+      j0 = p4;
+      j1 = 4ull;
+      j0 += j1;
+      p4 = j0;
+      j0 = p3;
+      j1 = 18446744073709551615ull;
+      j0 += j1;
+      p3 = j0;
+      j1 = 0ull;
+      i0 = j0 != j1;
+      if (i0) {goto L19;}
+    j0 = l8;
+    j1 = l17;
+    j0 += j1;
+    l8 = j0;
+    j0 = l11;
+    j1 = l26;
+    j0 += j1;
+    l11 = j0;
+    j0 = l10;
+    j1 = 1ull;
+    j0 += j1;
+    l10 = j0;
+    j1 = l9;
+    i0 = j0 < j1;
+    if (i0) {goto L18;}
   B2:;
   j0 = p0;
   i0 = (u32)(j0);
@@ -109046,13 +109075,15 @@ static u32 module_zak_frame_words(module *self, u64 p0, u32 p1, u64 p2, u64 p3, 
   j1 = 48ull;
   j0 += j1;
   self->g0 = j0;
-  i0 = l15;
+  i0 = l28;
   return i0;
 }
 
 static u32 module_zak_frame_xrgb(module *self, u64 p0, u64 p1, u64 p2, u64 p3, u64 p4) {
-  u32 l13 = 0, l14 = 0, l15 = 0, l16 = 0;
-  u64 l5 = 0, l6 = 0, l7 = 0, l8 = 0, l9 = 0, l10 = 0, l11 = 0, l12 = 0;
+  u32 l24 = 0, l25 = 0, l26 = 0, l27 = 0;
+  u64 l5 = 0, l6 = 0, l7 = 0, l8 = 0, l9 = 0, l10 = 0, l11 = 0, l12 = 0, 
+      l13 = 0, l14 = 0, l15 = 0, l16 = 0, l17 = 0, l18 = 0, l19 = 0, l20 = 0, 
+      l21 = 0, l22 = 0, l23 = 0;
   u8 *m = self->memory;
   u32 i0, i1, i2, i3;
   u64 j0, j1, j2, j3, j4;
@@ -109062,7 +109093,7 @@ static u32 module_zak_frame_xrgb(module *self, u64 p0, u64 p1, u64 p2, u64 p3, u
   l5 = j0;
   self->g0 = j0;
   i0 = 20u;
-  l13 = i0;
+  l24 = i0;
   j0 = p0;
   i0 = (u32)(j0);
   i0 = i32_load8_u(j0);
@@ -109111,9 +109142,9 @@ static u32 module_zak_frame_xrgb(module *self, u64 p0, u64 p1, u64 p2, u64 p3, u
   j1 = 16ull;
   j0 += j1;
   j1 = l6;
-  f55(self, j0, j1); m = self->memory; if (NEVER(self->is_broken)) return ZAK_BROKEN;
+  f56(self, j0, j1); m = self->memory; if (NEVER(self->is_broken)) return ZAK_BROKEN;
   i0 = 24u;
-  l13 = i0;
+  l24 = i0;
   j0 = l5;
   i0 = (u32)(j0);
   i0 = i32_load8_u(j0 + 16u);
@@ -109127,17 +109158,17 @@ static u32 module_zak_frame_xrgb(module *self, u64 p0, u64 p1, u64 p2, u64 p3, u
   j1 = l5;
   i1 = (u32)(j1);
   i1 = i32_load(j1 + 24u);
-  l14 = i1;
+  l25 = i1;
   i32_store(j0 + 4, i1);
   j0 = p1;
   i0 = (u32)(j0);
   j1 = l5;
   i1 = (u32)(j1);
   i1 = i32_load(j1 + 20u);
-  l15 = i1;
+  l26 = i1;
   i32_store(j0, i1);
   j0 = l5;
-  i1 = l14;
+  i1 = l25;
   j1 = (u64)(i1);
   l8 = j1;
   j2 = 0ull;
@@ -109145,9 +109176,9 @@ static u32 module_zak_frame_xrgb(module *self, u64 p0, u64 p1, u64 p2, u64 p3, u
   j4 = 0ull;
   f0(self, j0, j1, j2, j3, j4);
   i0 = 25u;
-  l13 = i0;
+  l24 = i0;
   j0 = p4;
-  i1 = l15;
+  i1 = l26;
   j1 = (u64)(i1);
   l9 = j1;
   i0 = j0 < j1;
@@ -109157,7 +109188,7 @@ static u32 module_zak_frame_xrgb(module *self, u64 p0, u64 p1, u64 p2, u64 p3, u
   j0 = i64_load(j0 + 8u);
   j1 = 0ull;
   i0 = j0 != j1;
-  l16 = i0;
+  l27 = i0;
   j1 = p4;
   j2 = l8;
   j1 *= j2;
@@ -109166,14 +109197,11 @@ static u32 module_zak_frame_xrgb(module *self, u64 p0, u64 p1, u64 p2, u64 p3, u
   i0 |= i1;
   i0 = !(i0);
   if (i0) {goto B2;}
-  i0 = l16;
+  i0 = l27;
   if (i0) {goto B2;}
   i0 = 0u;
-  l13 = i0;
-  i0 = l14;
-  i0 = !(i0);
-  if (i0) {goto B2;}
-  i0 = l15;
+  l24 = i0;
+  i0 = l25;
   i0 = !(i0);
   if (i0) {goto B2;}
   j0 = p2;
@@ -109182,40 +109210,141 @@ static u32 module_zak_frame_xrgb(module *self, u64 p0, u64 p1, u64 p2, u64 p3, u
   j3 = p2;
   i3 = !(j3);
   j1 = i3 ? j1 : j2;
+  p1 = j1;
   j0 += j1;
-  p2 = j0;
-  j0 = l9;
-  j1 = 3ull;
-  j0 *= j1;
   l10 = j0;
-  j0 = p4;
+  i0 = l26;
+  i1 = 3u;
+  i0 = i0 < i1;
+  if (i0) {goto B3;}
+  j0 = l9;
   j1 = 2ull;
   j0 <<= (j1 & 63);
   l11 = j0;
+  j0 = l7;
+  j1 = l9;
+  j2 = 3ull;
+  j1 *= j2;
+  l12 = j1;
+  j2 = 18446744073709551608ull;
+  j1 += j2;
+  l13 = j1;
+  j0 += j1;
+  l14 = j0;
+  j0 = l9;
+  j1 = 3ull;
+  j0 &= j1;
+  l15 = j0;
+  j0 = p2;
+  j1 = p1;
+  j2 = p4;
+  j3 = 2ull;
+  j2 <<= (j3 & 63);
+  l16 = j2;
+  j1 -= j2;
+  j0 += j1;
+  l17 = j0;
   j0 = 0ull;
-  l12 = j0;
-  L3: 
+  l18 = j0;
+  j0 = 0ull;
+  j1 = l16;
+  j0 -= j1;
+  l19 = j0;
+  j0 = 0ull;
+  j1 = l9;
+  j2 = 4294967292ull;
+  j1 &= j2;
+  j0 -= j1;
+  l20 = j0;
+  j0 = l7;
+  j1 = l9;
+  j2 = 18446744073709551613ull;
+  j1 *= j2;
+  j0 += j1;
+  l21 = j0;
+  j0 = l10;
+  p2 = j0;
+  j0 = l7;
+  l22 = j0;
+  L4: 
+    j0 = l18;
+    i0 = !(j0);
+    if (i0) {goto B7;}
     j0 = l7;
-    p4 = j0;
-    j0 = p2;
-    p1 = j0;
-    j0 = l9;
+    j1 = l18;
+    j2 = l9;
+    j1 *= j2;
+    j2 = 3ull;
+    j1 *= j2;
+    j0 += j1;
     p3 = j0;
-    L4: 
-      j0 = p1;
+    j0 = l18;
+    j1 = 18446744073709551615ull;
+    j0 += j1;
+    j1 = l12;
+    j0 *= j1;
+    l23 = j0;
+    j0 = 0ull;
+    p1 = j0;
+    L9: 
+      j0 = l22;
+      j1 = p1;
+      j0 += j1;
       i0 = (u32)(j0);
-      j1 = p4;
+      j0 = i64_load(j0);
+      j1 = l21;
+      j2 = p1;
+      j1 += j2;
+      i1 = (u32)(j1);
+      j1 = i64_load(j1);
+      i0 = j0 != j1;
+      if (i0) {goto B8;}
+      j0 = p1;
+      j1 = 8ull;
+      j0 += j1;
+      p1 = j0;
+      j1 = l13;
+      i0 = j0 < j1;
+      if (i0) {goto L9;}
+    B8:;
+    j0 = l13;
+    j1 = p1;
+    i0 = j0 > j1;
+    if (i0) {goto B7;}
+    j0 = p3;
+    j1 = l13;
+    j0 += j1;
+    i0 = (u32)(j0);
+    j0 = i64_load(j0);
+    j1 = l14;
+    j2 = l23;
+    j1 += j2;
+    i1 = (u32)(j1);
+    j1 = i64_load(j1);
+    i0 = j0 == j1;
+    if (i0) {goto B6;}
+    B7:;
+    j0 = 0ull;
+    p3 = j0;
+    j0 = l22;
+    p1 = j0;
+    L10: 
+      j0 = p2;
+      j1 = p3;
+      j0 += j1;
+      i0 = (u32)(j0);
+      j1 = p1;
       i1 = (u32)(j1);
       i1 = i32_load8_u(j1);
       i2 = 16u;
       i1 <<= (i2 & 31);
-      j2 = p4;
+      j2 = p1;
       j3 = 2ull;
       j2 += j3;
       i2 = (u32)(j2);
       i2 = i32_load8_u(j2);
       i1 |= i2;
-      j2 = p4;
+      j2 = p1;
       j3 = 1ull;
       j2 += j3;
       i2 = (u32)(j2);
@@ -109223,20 +109352,120 @@ static u32 module_zak_frame_xrgb(module *self, u64 p0, u64 p1, u64 p2, u64 p3, u
       i3 = 8u;
       i2 <<= (i3 & 31);
       i1 |= i2;
-      l14 = i1;
+      l25 = i1;
       i2 = 4u;
       i1 >>= (i2 & 31);
       i2 = 986895u;
       i1 &= i2;
-      i2 = l14;
+      i2 = l25;
       i3 = 2u;
       i2 <<= (i3 & 31);
       i1 += i2;
       i32_store(j0, i1);
-      j0 = p4;
+      j0 = p1;
       j1 = 3ull;
       j0 += j1;
-      p4 = j0;
+      p1 = j0;
+      j0 = l11;
+      j1 = p3;
+      j2 = 4ull;
+      j1 += j2;
+      p3 = j1;
+      i0 = j0 != j1;
+      if (i0) {goto L10;}
+      goto B5;
+    { self->is_broken = true; return ZAK_BROKEN; }
+    B6:;
+    j0 = l16;
+    j1 = l11;
+    i0 = j0 >= j1;
+    if (i0) {goto B11;}
+    j0 = 0ull;
+    p1 = j0;
+    i0 = l26;
+    i1 = 3u;
+    i0 = i0 == i1;
+    if (i0) {goto B12;}
+    j0 = 0ull;
+    l23 = j0;
+    j0 = p2;
+    p1 = j0;
+    L13: 
+      j0 = p1;
+      i0 = (u32)(j0);
+      j1 = p1;
+      j2 = l19;
+      j1 += j2;
+      p3 = j1;
+      i1 = (u32)(j1);
+      i1 = i32_load(j1);
+      i32_store(j0, i1);
+      j0 = p1;
+      j1 = 4ull;
+      j0 += j1;
+      i0 = (u32)(j0);
+      j1 = p3;
+      j2 = 4ull;
+      j1 += j2;
+      i1 = (u32)(j1);
+      i1 = i32_load(j1);
+      i32_store(j0, i1);
+      j0 = p1;
+      j1 = 8ull;
+      j0 += j1;
+      i0 = (u32)(j0);
+      j1 = p3;
+      j2 = 8ull;
+      j1 += j2;
+      i1 = (u32)(j1);
+      i1 = i32_load(j1);
+      i32_store(j0, i1);
+      j0 = p1;
+      j1 = 12ull;
+      j0 += j1;
+      i0 = (u32)(j0);
+      j1 = p3;
+      j2 = 12ull;
+      j1 += j2;
+      i1 = (u32)(j1);
+      i1 = i32_load(j1);
+      i32_store(j0, i1);
+      j0 = p1;
+      j1 = 16ull;
+      j0 += j1;
+      p1 = j0;
+      j0 = l20;
+      j1 = l23;
+      j2 = 18446744073709551612ull;
+      j1 += j2;
+      l23 = j1;
+      i0 = j0 != j1;
+      if (i0) {goto L13;}
+    j0 = l15;
+    i0 = !(j0);
+    if (i0) {goto B5;}
+    j0 = 0ull;
+    j1 = l23;
+    j0 -= j1;
+    p1 = j0;
+    B12:;
+    j0 = p1;
+    j1 = 2ull;
+    j0 <<= (j1 & 63);
+    p1 = j0;
+    j0 = l15;
+    p3 = j0;
+    L14: 
+      j0 = p2;
+      j1 = p1;
+      j0 += j1;
+      i0 = (u32)(j0);
+      j1 = l17;
+      j2 = p1;
+      j1 += j2;
+      i1 = (u32)(j1);
+      i1 = i32_load(j1);
+      i32_store(j0, i1);
       j0 = p1;
       j1 = 4ull;
       j0 += j1;
@@ -109247,22 +109476,158 @@ static u32 module_zak_frame_xrgb(module *self, u64 p0, u64 p1, u64 p2, u64 p3, u
       p3 = j0;
       j1 = 0ull;
       i0 = j0 != j1;
-      if (i0) {goto L4;}
-    j0 = l7;
-    j1 = l10;
+      if (i0) {goto L14;}
+      goto B5;
+    { self->is_broken = true; return ZAK_BROKEN; }
+    B11:;
+    j0 = l11;
+    i0 = !(j0);
+    if (i0) {goto B5;}
+    j0 = l10;
+    j1 = l18;
+    j2 = p4;
+    j1 *= j2;
+    p1 = j1;
+    j2 = 2ull;
+    j1 <<= (j2 & 63);
     j0 += j1;
-    l7 = j0;
+    i0 = (u32)(j0);
+    j1 = l10;
+    j2 = p1;
+    j3 = p4;
+    j2 -= j3;
+    j3 = 2ull;
+    j2 <<= (j3 & 63);
+    j1 += j2;
+    i1 = (u32)(j1);
+    j2 = l11;
+    i2 = (u32)(j2);
+    memory_copy(j0, j1, j2);
+    B5:;
+    j0 = l17;
+    j1 = l16;
+    j0 += j1;
+    l17 = j0;
     j0 = p2;
-    j1 = l11;
+    j1 = l16;
     j0 += j1;
     p2 = j0;
-    j0 = l12;
+    j0 = l22;
+    j1 = l12;
+    j0 += j1;
+    l22 = j0;
+    j0 = l21;
+    j1 = l12;
+    j0 += j1;
+    l21 = j0;
+    j0 = l18;
     j1 = 1ull;
     j0 += j1;
-    l12 = j0;
+    l18 = j0;
     j1 = l8;
     i0 = j0 != j1;
-    if (i0) {goto L3;}
+    if (i0) {goto L4;}
+    goto B2;
+  { self->is_broken = true; return ZAK_BROKEN; }
+  B3:;
+  i0 = l26;
+  i0 = !(i0);
+  if (i0) {goto B2;}
+  j0 = l9;
+  j1 = 3ull;
+  j0 *= j1;
+  p1 = j0;
+  j0 = p4;
+  j1 = 2ull;
+  j0 <<= (j1 & 63);
+  p3 = j0;
+  L15: 
+    j0 = l10;
+    i0 = (u32)(j0);
+    j1 = l7;
+    i1 = (u32)(j1);
+    i1 = i32_load8_u(j1);
+    i2 = 16u;
+    i1 <<= (i2 & 31);
+    j2 = l7;
+    j3 = 2ull;
+    j2 += j3;
+    i2 = (u32)(j2);
+    i2 = i32_load8_u(j2);
+    i1 |= i2;
+    j2 = l7;
+    j3 = 1ull;
+    j2 += j3;
+    i2 = (u32)(j2);
+    i2 = i32_load8_u(j2);
+    i3 = 8u;
+    i2 <<= (i3 & 31);
+    i1 |= i2;
+    l25 = i1;
+    i2 = 4u;
+    i1 >>= (i2 & 31);
+    i2 = 986895u;
+    i1 &= i2;
+    i2 = l25;
+    i3 = 2u;
+    i2 <<= (i3 & 31);
+    i1 += i2;
+    i32_store(j0, i1);
+    i0 = l26;
+    i1 = 1u;
+    i0 = i0 == i1;
+    if (i0) {goto B16;}
+    j0 = l10;
+    j1 = 4ull;
+    j0 += j1;
+    i0 = (u32)(j0);
+    j1 = l7;
+    j2 = 3ull;
+    j1 += j2;
+    i1 = (u32)(j1);
+    i1 = i32_load8_u(j1);
+    i2 = 16u;
+    i1 <<= (i2 & 31);
+    j2 = l7;
+    j3 = 5ull;
+    j2 += j3;
+    i2 = (u32)(j2);
+    i2 = i32_load8_u(j2);
+    i1 |= i2;
+    j2 = l7;
+    j3 = 4ull;
+    j2 += j3;
+    i2 = (u32)(j2);
+    i2 = i32_load8_u(j2);
+    i3 = 8u;
+    i2 <<= (i3 & 31);
+    i1 |= i2;
+    l25 = i1;
+    i2 = 4u;
+    i1 >>= (i2 & 31);
+    i2 = 986895u;
+    i1 &= i2;
+    i2 = l25;
+    i3 = 2u;
+    i2 <<= (i3 & 31);
+    i1 += i2;
+    i32_store(j0, i1);
+    B16:;
+    j0 = l7;
+    j1 = p1;
+    j0 += j1;
+    l7 = j0;
+    j0 = l10;
+    j1 = p3;
+    j0 += j1;
+    l10 = j0;
+    j0 = l8;
+    j1 = 18446744073709551615ull;
+    j0 += j1;
+    l8 = j0;
+    i0 = !(j0);
+    i0 = !(i0);
+    if (i0) {goto L15;}
   B2:;
   j0 = p0;
   i0 = (u32)(j0);
@@ -109285,7 +109650,7 @@ static u32 module_zak_frame_xrgb(module *self, u64 p0, u64 p1, u64 p2, u64 p3, u
   j1 = 48ull;
   j0 += j1;
   self->g0 = j0;
-  i0 = l13;
+  i0 = l24;
   return i0;
 }
 
@@ -109353,7 +109718,7 @@ static u32 module_zak_get(module *self, u64 p0, u32 p1, u64 p2) {
   j0 += j1;
   j1 = l4;
   i2 = p1;
-  f38(self, j0, j1, i2);
+  f39(self, j0, j1, i2);
   j0 = l3;
   i0 = (u32)(j0);
   i0 = i32_load8_u(j0 + 9u);
@@ -109550,7 +109915,7 @@ static u32 module_zak_get_bytes(module *self, u64 p0, u32 p1, u64 p2, u64 p3, u3
     j0 += j1;
     j1 = l8;
     i2 = p1;
-    f38(self, j0, j1, i2);
+    f39(self, j0, j1, i2);
     j0 = p2;
     j1 = p3;
     j0 += j1;
@@ -109856,7 +110221,7 @@ static u32 module_zak_get_bytes(module *self, u64 p0, u32 p1, u64 p2, u64 p3, u3
   i2 = p1;
   j3 = p2;
   j4 = p3;
-  f56(self, j0, j1, i2, j3, j4); if (NEVER(self->is_broken)) return ZAK_BROKEN;
+  f57(self, j0, j1, i2, j3, j4); if (NEVER(self->is_broken)) return ZAK_BROKEN;
   i0 = l11;
   i1 = p4;
   i2 = 4294967295u;
@@ -110046,7 +110411,7 @@ static u32 module_zak_get_word(module *self, u64 p0, u32 p1, u64 p2) {
   j0 += j1;
   j1 = l4;
   i2 = p1;
-  f38(self, j0, j1, i2);
+  f39(self, j0, j1, i2);
   j0 = l3;
   i0 = (u32)(j0);
   i0 = i32_load8_u(j0 + 9u);
@@ -110058,7 +110423,7 @@ static u32 module_zak_get_word(module *self, u64 p0, u32 p1, u64 p2) {
   j0 = l3;
   j1 = l4;
   i2 = l8;
-  f38(self, j0, j1, i2);
+  f39(self, j0, j1, i2);
   j0 = l3;
   i0 = (u32)(j0);
   i0 = i32_load8_u(j0 + 1u);
@@ -110189,7 +110554,7 @@ static u32 module_zak_in(module *self, u64 p0, u32 p1, u64 p2) {
   j0 = l3;
   j1 = l4;
   i2 = p1;
-  f30(self, j0, j1, i2); if (NEVER(self->is_broken)) return ZAK_BROKEN;
+  f31(self, j0, j1, i2); if (NEVER(self->is_broken)) return ZAK_BROKEN;
   i0 = 0u;
   l6 = i0;
   j0 = l3;
@@ -110338,7 +110703,7 @@ static u32 module_zak_in(module *self, u64 p0, u32 p1, u64 p2) {
   if (i0) {goto B8;}
   j0 = l4;
   i1 = l6;
-  i0 = f57(self, j0, i1); if (NEVER(self->is_broken)) return ZAK_BROKEN;
+  i0 = f58(self, j0, i1); if (NEVER(self->is_broken)) return ZAK_BROKEN;
   i1 = 255u;
   i0 &= i1;
   l5 = i0;
@@ -110350,7 +110715,7 @@ static u32 module_zak_in(module *self, u64 p0, u32 p1, u64 p2) {
   j1 = l4;
   i2 = l6;
   i3 = p1;
-  f58(self, j0, j1, i2, i3); m = self->memory; if (NEVER(self->is_broken)) return ZAK_BROKEN;
+  f59(self, j0, j1, i2, i3); m = self->memory; if (NEVER(self->is_broken)) return ZAK_BROKEN;
   j0 = l3;
   i0 = (u32)(j0);
   i0 = i32_load8_u(j0 + 13u);
@@ -110461,7 +110826,7 @@ static u32 module_zak_in_word(module *self, u64 p0, u32 p1, u64 p2) {
   j0 += j1;
   j1 = l4;
   i2 = p1;
-  f59(self, j0, j1, i2); if (NEVER(self->is_broken)) return ZAK_BROKEN;
+  f60(self, j0, j1, i2); if (NEVER(self->is_broken)) return ZAK_BROKEN;
   j0 = l3;
   i0 = (u32)(j0);
   i0 = i32_load8_u(j0 + 12u);
@@ -110556,7 +110921,7 @@ static u32 module_zak_int10(module *self, u64 p0, u64 p1, u64 p2, u64 p3, u64 p4
   j1 = 2072ull;
   j0 += j1;
   l9 = j0;
-  i0 = f23(self, j0);
+  i0 = f24(self, j0);
   i0 = !(i0);
   if (i0) {goto B2;}
   j0 = l7;
@@ -110598,7 +110963,7 @@ static u32 module_zak_int10(module *self, u64 p0, u64 p1, u64 p2, u64 p3, u64 p4
   j6 = i8 ? j6 : j7;
   j5 += j6;
   j6 = p3;
-  f61(self, j0, j1, j2, j3, j4, j5, j6); m = self->memory; if (NEVER(self->is_broken)) return ZAK_BROKEN;
+  f62(self, j0, j1, j2, j3, j4, j5, j6); m = self->memory; if (NEVER(self->is_broken)) return ZAK_BROKEN;
   j0 = l7;
   i0 = (u32)(j0);
   i0 = i32_load8_u(j0 + 8u);
@@ -110853,12 +111218,12 @@ static u32 module_zak_int10(module *self, u64 p0, u64 p1, u64 p2, u64 p3, u64 p4
   j0 = i64_load(j0 + 16u);
   p1 = j0;
   j0 = p2;
-  f166(self, j0);
+  f167(self, j0);
   j0 = p1;
   i0 = !(j0);
   if (i0) {goto B2;}
   j0 = p3;
-  f166(self, j0);
+  f167(self, j0);
   goto B2;
   B3:;
   i0 = 23u;
@@ -111408,7 +111773,7 @@ static u32 module_zak_move_bytes(module *self, u64 p0, u32 p1, u32 p2, u64 p3, u
     i2 = l9;
     i3 = p4;
     i2 += i3;
-    f38(self, j0, j1, i2);
+    f39(self, j0, j1, i2);
     j0 = l7;
     j1 = 2003ull;
     j0 += j1;
@@ -111470,7 +111835,7 @@ static u32 module_zak_move_bytes(module *self, u64 p0, u32 p1, u32 p2, u64 p3, u
     i5 = 255u;
     i4 &= i5;
     i2 = i4 ? i2 : i3;
-    i0 = f50(self, j0, i1, i2);
+    i0 = f51(self, j0, i1, i2);
     l15 = i0;
     j0 = l7;
     j1 = 68ull;
@@ -111572,7 +111937,7 @@ static u32 module_zak_move_bytes(module *self, u64 p0, u32 p1, u32 p2, u64 p3, u
   i1 = p1;
   i2 = p2;
   i3 = l9;
-  f70(self, j0, i1, i2, i3);
+  f71(self, j0, i1, i2, i3);
   i0 = 0u;
   l8 = i0;
   B2:;
@@ -111658,7 +112023,7 @@ static u32 module_zak_open(module *self, u64 p0, u64 p1, u64 p2) {
   j2 = i4 ? j2 : j3;
   j1 += j2;
   j2 = p2;
-  f73(self, j0, j1, j2); m = self->memory; if (NEVER(self->is_broken)) return ZAK_BROKEN;
+  f74(self, j0, j1, j2); m = self->memory; if (NEVER(self->is_broken)) return ZAK_BROKEN;
   j0 = l3;
   i0 = (u32)(j0);
   j0 = i64_load(j0 + 2120u);
@@ -111707,7 +112072,7 @@ static u32 module_zak_open(module *self, u64 p0, u64 p1, u64 p2) {
   j1 = l3;
   j2 = 2064ull;
   j1 += j2;
-  f74(self, j0, j1); m = self->memory; if (NEVER(self->is_broken)) return ZAK_BROKEN;
+  f75(self, j0, j1); m = self->memory; if (NEVER(self->is_broken)) return ZAK_BROKEN;
   j0 = l3;
   i0 = (u32)(j0);
   j1 = l3;
@@ -111904,7 +112269,7 @@ static u32 module_zak_open(module *self, u64 p0, u64 p1, u64 p2) {
   j0 = l3;
   j1 = 2160ull;
   j2 = 8ull;
-  f163(self, j0, j1, j2); m = self->memory; if (NEVER(self->is_broken)) return ZAK_BROKEN;
+  f164(self, j0, j1, j2); m = self->memory; if (NEVER(self->is_broken)) return ZAK_BROKEN;
   j0 = l3;
   i0 = (u32)(j0);
   j0 = i64_load(j0);
@@ -112127,19 +112492,19 @@ static u32 module_zak_open(module *self, u64 p0, u64 p1, u64 p2) {
   i0 = !(j0);
   if (i0) {goto B3;}
   j0 = p1;
-  f166(self, j0);
+  f167(self, j0);
   B3:;
   j0 = l11;
   i0 = !(j0);
   if (i0) {goto B4;}
   j0 = l13;
-  f166(self, j0);
+  f167(self, j0);
   B4:;
   j0 = l7;
   i0 = !(j0);
   if (i0) {goto B5;}
   j0 = l9;
-  f166(self, j0);
+  f167(self, j0);
   B5:;
   i0 = l17;
   i1 = 255u;
@@ -112156,12 +112521,12 @@ static u32 module_zak_open(module *self, u64 p0, u64 p1, u64 p2) {
   j0 = i64_load(j0 + 16u);
   p0 = j0;
   j0 = l14;
-  f166(self, j0);
+  f167(self, j0);
   j0 = p0;
   i0 = !(j0);
   if (i0) {goto B6;}
   j0 = p1;
-  f166(self, j0);
+  f167(self, j0);
   B6:;
   i0 = l18;
   i1 = 255u;
@@ -112178,12 +112543,12 @@ static u32 module_zak_open(module *self, u64 p0, u64 p1, u64 p2) {
   j0 = i64_load(j0 + 16u);
   p0 = j0;
   j0 = l15;
-  f166(self, j0);
+  f167(self, j0);
   j0 = p0;
   i0 = !(j0);
   if (i0) {goto B7;}
   j0 = p1;
-  f166(self, j0);
+  f167(self, j0);
   B7:;
   i0 = 23u;
   l17 = i0;
@@ -112202,12 +112567,12 @@ static u32 module_zak_open(module *self, u64 p0, u64 p1, u64 p2) {
   j0 = i64_load(j0 + 16u);
   p0 = j0;
   j0 = l16;
-  f166(self, j0);
+  f167(self, j0);
   j0 = p0;
   i0 = !(j0);
   if (i0) {goto B0;}
   j0 = p1;
-  f166(self, j0);
+  f167(self, j0);
   goto B0;
   B1:;
   i0 = 22u;
@@ -112362,7 +112727,7 @@ static u32 module_zak_out(module *self, u64 p0, u32 p1, u32 p2) {
   j1 = l4;
   i2 = l5;
   i3 = p2;
-  f48(self, j0, j1, i2, i3);
+  f49(self, j0, j1, i2, i3);
   j0 = l3;
   i0 = (u32)(j0);
   i0 = i32_load8_u(j0 + 9u);
@@ -112456,7 +112821,7 @@ static u32 module_zak_out(module *self, u64 p0, u32 p1, u32 p2) {
   j1 = l4;
   i2 = l7;
   i3 = p2;
-  f48(self, j0, j1, i2, i3);
+  f49(self, j0, j1, i2, i3);
   i0 = 0u;
   l6 = i0;
   j0 = l3;
@@ -112614,7 +112979,7 @@ static u32 module_zak_out_word(module *self, u64 p0, u32 p1, u32 p2) {
   j1 = l4;
   i2 = p1;
   i3 = p2;
-  f75(self, j0, j1, i2, i3);
+  f76(self, j0, j1, i2, i3);
   i0 = 0u;
   l5 = i0;
   j0 = l3;
@@ -112633,7 +112998,7 @@ static u32 module_zak_out_word(module *self, u64 p0, u32 p1, u32 p2) {
   j1 = l4;
   i2 = p1;
   i3 = p2;
-  f75(self, j0, j1, i2, i3);
+  f76(self, j0, j1, i2, i3);
   j0 = l3;
   i0 = (u32)(j0);
   i0 = i32_load8_u(j0 + 9u);
@@ -113085,7 +113450,7 @@ static u32 module_zak_print(module *self, u64 p0, u64 p1, u64 p2, u64 p3, u64 p4
   j1 += j2;
   l8 = j1;
   j2 = p1;
-  f77(self, j0, j1, j2); if (NEVER(self->is_broken)) return ZAK_BROKEN;
+  f78(self, j0, j1, j2); if (NEVER(self->is_broken)) return ZAK_BROKEN;
   j0 = l6;
   i0 = (u32)(j0);
   i0 = i32_load8_u(j0 + 48u);
@@ -113123,7 +113488,7 @@ static u32 module_zak_print(module *self, u64 p0, u64 p1, u64 p2, u64 p3, u64 p4
   j1 = 176ull;
   j0 += j1;
   j1 = p1;
-  i0 = f14(self, j0, j1); m = self->memory; if (NEVER(self->is_broken)) return ZAK_BROKEN;
+  i0 = f15(self, j0, j1); m = self->memory; if (NEVER(self->is_broken)) return ZAK_BROKEN;
   i0 = !(i0);
   if (i0) {goto B12;}
   j0 = l6;
@@ -113279,7 +113644,7 @@ static u32 module_zak_print(module *self, u64 p0, u64 p1, u64 p2, u64 p3, u64 p4
   j0 = l6;
   i0 = (u32)(j0);
   j0 = i64_load(j0 + 176u);
-  f166(self, j0);
+  f167(self, j0);
   goto B9;
   B11:;
   j0 = l6;
@@ -113326,7 +113691,7 @@ static u32 module_zak_print(module *self, u64 p0, u64 p1, u64 p2, u64 p3, u64 p4
   j1 = 24ull;
   j0 += j1;
   j1 = 10ull;
-  i0 = f14(self, j0, j1); m = self->memory; if (NEVER(self->is_broken)) return ZAK_BROKEN;
+  i0 = f15(self, j0, j1); m = self->memory; if (NEVER(self->is_broken)) return ZAK_BROKEN;
   i0 = !(i0);
   if (i0) {goto B20;}
   j0 = l6;
@@ -113621,7 +113986,7 @@ static u32 module_zak_print(module *self, u64 p0, u64 p1, u64 p2, u64 p3, u64 p4
     j2 = l10;
     j3 = 0ull;
     i4 = l35;
-    f79(self, j0, j1, j2, j3, i4); if (NEVER(self->is_broken)) return ZAK_BROKEN;
+    f80(self, j0, j1, j2, j3, i4); if (NEVER(self->is_broken)) return ZAK_BROKEN;
     j0 = l6;
     i0 = (u32)(j0);
     i0 = i32_load8_u(j0 + 48u);
@@ -113732,7 +114097,7 @@ static u32 module_zak_print(module *self, u64 p0, u64 p1, u64 p2, u64 p3, u64 p4
     j2 = 248ull;
     j1 += j2;
     i2 = l34;
-    f82(self, j0, j1, i2); if (NEVER(self->is_broken)) return ZAK_BROKEN;
+    f83(self, j0, j1, i2); if (NEVER(self->is_broken)) return ZAK_BROKEN;
     j0 = l6;
     i0 = (u32)(j0);
     j0 = i64_load(j0 + 16u);
@@ -113803,7 +114168,7 @@ static u32 module_zak_print(module *self, u64 p0, u64 p1, u64 p2, u64 p3, u64 p4
     j1 = 24ull;
     j0 += j1;
     j1 = l15;
-    i0 = f14(self, j0, j1); m = self->memory; if (NEVER(self->is_broken)) return ZAK_BROKEN;
+    i0 = f15(self, j0, j1); m = self->memory; if (NEVER(self->is_broken)) return ZAK_BROKEN;
     i0 = !(i0);
     if (i0) {goto B37;}
     j0 = l6;
@@ -115175,7 +115540,7 @@ static u32 module_zak_print(module *self, u64 p0, u64 p1, u64 p2, u64 p3, u64 p4
       j0 += j1;
       j1 = l14;
       j2 = p0;
-      f78(self, j0, j1, j2);
+      f79(self, j0, j1, j2);
       j0 = l6;
       i0 = (u32)(j0);
       j0 = i64_load(j0 + 224u);
@@ -115448,7 +115813,7 @@ static u32 module_zak_print(module *self, u64 p0, u64 p1, u64 p2, u64 p3, u64 p4
       j2 = l6;
       j3 = 248ull;
       j2 += j3;
-      f80(self, j0, j1, j2); m = self->memory; if (NEVER(self->is_broken)) return ZAK_BROKEN;
+      f81(self, j0, j1, j2); m = self->memory; if (NEVER(self->is_broken)) return ZAK_BROKEN;
       j0 = l12;
       l15 = j0;
       j0 = l8;
@@ -115484,7 +115849,7 @@ static u32 module_zak_print(module *self, u64 p0, u64 p1, u64 p2, u64 p3, u64 p4
     j1 = 24ull;
     j0 += j1;
     j1 = 4ull;
-    i0 = f14(self, j0, j1); m = self->memory; if (NEVER(self->is_broken)) return ZAK_BROKEN;
+    i0 = f15(self, j0, j1); m = self->memory; if (NEVER(self->is_broken)) return ZAK_BROKEN;
     if (i0) {goto B76;}
     i0 = 9u;
     l32 = i0;
@@ -115555,7 +115920,7 @@ static u32 module_zak_print(module *self, u64 p0, u64 p1, u64 p2, u64 p3, u64 p4
     j2 = 24ull;
     j1 += j2;
     j2 = l31;
-    f80(self, j0, j1, j2); m = self->memory; if (NEVER(self->is_broken)) return ZAK_BROKEN;
+    f81(self, j0, j1, j2); m = self->memory; if (NEVER(self->is_broken)) return ZAK_BROKEN;
     j0 = l6;
     i0 = (u32)(j0);
     i0 = i32_load8_u(j0 + 152u);
@@ -115587,7 +115952,7 @@ static u32 module_zak_print(module *self, u64 p0, u64 p1, u64 p2, u64 p3, u64 p4
     j0 = l6;
     i0 = (u32)(j0);
     j0 = i64_load(j0 + 24u);
-    f166(self, j0);
+    f167(self, j0);
     goto B19;
     B30:;
     j0 = l10;
@@ -115631,12 +115996,12 @@ static u32 module_zak_print(module *self, u64 p0, u64 p1, u64 p2, u64 p3, u64 p4
   j0 = l6;
   i0 = (u32)(j0);
   j0 = i64_load(j0 + 24u);
-  f166(self, j0);
+  f167(self, j0);
   B19:;
   i0 = l33;
   if (i0) {goto B79;}
   j0 = l9;
-  f166(self, j0);
+  f167(self, j0);
   B79:;
   i0 = l32;
   if (i0) {goto B8;}
@@ -115815,7 +116180,7 @@ static u32 module_zak_print(module *self, u64 p0, u64 p1, u64 p2, u64 p3, u64 p4
   i0 = l34;
   if (i0) {goto B0;}
   j0 = l11;
-  f166(self, j0);
+  f167(self, j0);
   goto B0;
   B7:;
   j0 = p5;
@@ -115930,7 +116295,7 @@ static u32 module_zak_put(module *self, u64 p0, u32 p1, u32 p2) {
   j0 = l8;
   i1 = l4;
   i2 = p1;
-  i0 = f83(self, j0, i1, i2);
+  i0 = f84(self, j0, i1, i2);
   i0 = !(i0);
   if (i0) {goto B3;}
   B4:;
@@ -115985,7 +116350,7 @@ static u32 module_zak_put(module *self, u64 p0, u32 p1, u32 p2) {
   i1 = (u32)(j1);
   i1 = i32_load8_u(j1);
   i2 = p2;
-  i0 = f50(self, j0, i1, i2);
+  i0 = f51(self, j0, i1, i2);
   p2 = i0;
   j0 = l8;
   j1 = 68ull;
@@ -116071,7 +116436,7 @@ static u32 module_zak_put(module *self, u64 p0, u32 p1, u32 p2) {
   j0 = l8;
   i1 = l4;
   i2 = p1;
-  i0 = f84(self, j0, i1, i2); m = self->memory; if (NEVER(self->is_broken)) return ZAK_BROKEN;
+  i0 = f85(self, j0, i1, i2); m = self->memory; if (NEVER(self->is_broken)) return ZAK_BROKEN;
   l4 = i0;
   i0 = 1u;
   l3 = i0;
@@ -116124,7 +116489,7 @@ static u32 module_zak_put(module *self, u64 p0, u32 p1, u32 p2) {
   i1 = (u32)(j1);
   i1 = i32_load8_u(j1);
   i2 = p2;
-  i0 = f50(self, j0, i1, i2);
+  i0 = f51(self, j0, i1, i2);
   p2 = i0;
   j0 = l8;
   j1 = 68ull;
@@ -116430,7 +116795,7 @@ static u32 module_zak_put_bytes(module *self, u64 p0, u32 p1, u64 p2, u64 p3, u3
     j2 += j3;
     i2 = (u32)(j2);
     i2 = i32_load8_u(j2);
-    i0 = f50(self, j0, i1, i2);
+    i0 = f51(self, j0, i1, i2);
     l17 = i0;
     j0 = l8;
     j1 = 68ull;
@@ -116563,7 +116928,7 @@ static u32 module_zak_put_bytes(module *self, u64 p0, u32 p1, u64 p2, u64 p3, u3
   j4 = l10;
   j5 = p3;
   i6 = p4;
-  i1 = f85(self, j1, j2, i3, j4, j5, i6);
+  i1 = f86(self, j1, j2, i3, j4, j5, i6);
   l16 = i1;
   i0 = i0 <= i1;
   if (i0) {goto B9;}
@@ -116643,7 +117008,7 @@ static u32 module_zak_put_bytes(module *self, u64 p0, u32 p1, u64 p2, u64 p3, u3
     j3 = p3;
     i3 = (u32)(j3);
     i3 = i32_load8_u(j3);
-    i1 = f50(self, j1, i2, i3);
+    i1 = f51(self, j1, i2, i3);
     j2 = p2;
     i2 = (u32)(j2);
     i2 = i32_load(j2);
@@ -116743,7 +117108,7 @@ static u32 module_zak_put_bytes(module *self, u64 p0, u32 p1, u64 p2, u64 p3, u3
     j3 = p3;
     i3 = (u32)(j3);
     i3 = i32_load8_u(j3);
-    i1 = f50(self, j1, i2, i3);
+    i1 = f51(self, j1, i2, i3);
     j2 = p2;
     i2 = (u32)(j2);
     i2 = i32_load(j2);
@@ -116835,7 +117200,7 @@ static u32 module_zak_put_bytes(module *self, u64 p0, u32 p1, u64 p2, u64 p3, u3
     j3 = p3;
     i3 = (u32)(j3);
     i3 = i32_load8_u(j3);
-    i1 = f50(self, j1, i2, i3);
+    i1 = f51(self, j1, i2, i3);
     j2 = p2;
     i2 = (u32)(j2);
     i2 = i32_load(j2);
@@ -116929,7 +117294,7 @@ static u32 module_zak_put_bytes(module *self, u64 p0, u32 p1, u64 p2, u64 p3, u3
     j3 = p3;
     i3 = (u32)(j3);
     i3 = i32_load8_u(j3);
-    i1 = f50(self, j1, i2, i3);
+    i1 = f51(self, j1, i2, i3);
     j2 = p2;
     i2 = (u32)(j2);
     i2 = i32_load(j2);
@@ -117100,7 +117465,7 @@ static u32 module_zak_put_word(module *self, u64 p0, u32 p1, u32 p2) {
   j0 = l11;
   i1 = l4;
   i2 = p1;
-  i0 = f83(self, j0, i1, i2);
+  i0 = f84(self, j0, i1, i2);
   i0 = !(i0);
   if (i0) {goto B6;}
   B7:;
@@ -117136,7 +117501,7 @@ static u32 module_zak_put_word(module *self, u64 p0, u32 p1, u32 p2) {
   i1 = (u32)(j1);
   i1 = i32_load8_u(j1);
   i2 = p2;
-  i0 = f50(self, j0, i1, i2);
+  i0 = f51(self, j0, i1, i2);
   l6 = i0;
   j0 = l11;
   j1 = 68ull;
@@ -117222,7 +117587,7 @@ static u32 module_zak_put_word(module *self, u64 p0, u32 p1, u32 p2) {
   j0 = l11;
   i1 = l4;
   i2 = p1;
-  i0 = f84(self, j0, i1, i2); m = self->memory; if (NEVER(self->is_broken)) return ZAK_BROKEN;
+  i0 = f85(self, j0, i1, i2); m = self->memory; if (NEVER(self->is_broken)) return ZAK_BROKEN;
   l4 = i0;
   j0 = l11;
   j1 = 2003ull;
@@ -117273,7 +117638,7 @@ static u32 module_zak_put_word(module *self, u64 p0, u32 p1, u32 p2) {
   i1 = (u32)(j1);
   i1 = i32_load8_u(j1);
   i2 = p2;
-  i0 = f50(self, j0, i1, i2);
+  i0 = f51(self, j0, i1, i2);
   l6 = i0;
   j0 = l11;
   j1 = 68ull;
@@ -117367,7 +117732,7 @@ static u32 module_zak_put_word(module *self, u64 p0, u32 p1, u32 p2) {
   j0 = l11;
   i1 = l4;
   i2 = l8;
-  i0 = f83(self, j0, i1, i2);
+  i0 = f84(self, j0, i1, i2);
   i0 = !(i0);
   if (i0) {goto B13;}
   B14:;
@@ -117420,7 +117785,7 @@ static u32 module_zak_put_word(module *self, u64 p0, u32 p1, u32 p2) {
   i1 = (u32)(j1);
   i1 = i32_load8_u(j1);
   i2 = p2;
-  i0 = f50(self, j0, i1, i2);
+  i0 = f51(self, j0, i1, i2);
   p2 = i0;
   j0 = l11;
   j1 = 68ull;
@@ -117506,7 +117871,7 @@ static u32 module_zak_put_word(module *self, u64 p0, u32 p1, u32 p2) {
   j0 = l11;
   i1 = l4;
   i2 = l8;
-  i0 = f84(self, j0, i1, i2); m = self->memory; if (NEVER(self->is_broken)) return ZAK_BROKEN;
+  i0 = f85(self, j0, i1, i2); m = self->memory; if (NEVER(self->is_broken)) return ZAK_BROKEN;
   l4 = i0;
   j0 = l11;
   j1 = 2003ull;
@@ -117557,7 +117922,7 @@ static u32 module_zak_put_word(module *self, u64 p0, u32 p1, u32 p2) {
   i1 = (u32)(j1);
   i1 = i32_load8_u(j1);
   i2 = p2;
-  i0 = f50(self, j0, i1, i2);
+  i0 = f51(self, j0, i1, i2);
   p2 = i0;
   j0 = l11;
   j1 = 68ull;
@@ -118850,7 +119215,7 @@ static u32 module_zak_restore(module *self, u64 p0, u64 p1, u64 p2) {
   j0 = p1;
   j1 = l4;
   j2 = p2;
-  i0 = f86(self, j0, j1, j2); m = self->memory; if (NEVER(self->is_broken)) return ZAK_BROKEN;
+  i0 = f87(self, j0, j1, j2); m = self->memory; if (NEVER(self->is_broken)) return ZAK_BROKEN;
   l3 = i0;
   j0 = p0;
   i0 = (u32)(j0);
@@ -118932,7 +119297,7 @@ static u32 module_zak_restore_fixed(module *self, u64 p0, u64 p1, u64 p2) {
   i0 = i32_load(j0);
   j1 = p1;
   j2 = p2;
-  i1 = f89(self, j1, j2); if (NEVER(self->is_broken)) return ZAK_BROKEN;
+  i1 = f90(self, j1, j2); if (NEVER(self->is_broken)) return ZAK_BROKEN;
   i0 = i0 != i1;
   if (i0) {goto B2;}
   j0 = p2;
@@ -118953,7 +119318,7 @@ static u32 module_zak_restore_fixed(module *self, u64 p0, u64 p1, u64 p2) {
   j0 = l4;
   j1 = p1;
   j2 = p2;
-  i0 = f86(self, j0, j1, j2); m = self->memory; if (NEVER(self->is_broken)) return ZAK_BROKEN;
+  i0 = f87(self, j0, j1, j2); m = self->memory; if (NEVER(self->is_broken)) return ZAK_BROKEN;
   l3 = i0;
   B2:;
   j0 = p0;
@@ -119049,7 +119414,7 @@ static u32 module_zak_run(module *self, u64 p0, u64 p1, u64 p2, u64 p3, u64 p4, 
   j2 = i4 ? j2 : j3;
   j1 += j2;
   j2 = p3;
-  f73(self, j0, j1, j2); m = self->memory; if (NEVER(self->is_broken)) return ZAK_BROKEN;
+  f74(self, j0, j1, j2); m = self->memory; if (NEVER(self->is_broken)) return ZAK_BROKEN;
   j0 = l8;
   i0 = (u32)(j0);
   j0 = i64_load(j0 + 56u);
@@ -119102,7 +119467,7 @@ static u32 module_zak_run(module *self, u64 p0, u64 p1, u64 p2, u64 p3, u64 p4, 
   j1 += j2;
   p0 = j1;
   j2 = p1;
-  f77(self, j0, j1, j2); if (NEVER(self->is_broken)) return ZAK_BROKEN;
+  f78(self, j0, j1, j2); if (NEVER(self->is_broken)) return ZAK_BROKEN;
   j0 = l8;
   i0 = (u32)(j0);
   i0 = i32_load8_u(j0 + 144u);
@@ -119185,7 +119550,7 @@ static u32 module_zak_run(module *self, u64 p0, u64 p1, u64 p2, u64 p3, u64 p4, 
   j1 = l8;
   j2 = 96ull;
   j1 += j2;
-  f74(self, j0, j1); m = self->memory; if (NEVER(self->is_broken)) return ZAK_BROKEN;
+  f75(self, j0, j1); m = self->memory; if (NEVER(self->is_broken)) return ZAK_BROKEN;
   j0 = l8;
   i0 = (u32)(j0);
   j0 = i64_load(j0 + 160u);
@@ -119265,7 +119630,7 @@ static u32 module_zak_run(module *self, u64 p0, u64 p1, u64 p2, u64 p3, u64 p4, 
   j1 = 4616ull;
   j0 += j1;
   j1 = 1ull;
-  f91(self, j0, j1); if (NEVER(self->is_broken)) return ZAK_BROKEN;
+  f92(self, j0, j1); if (NEVER(self->is_broken)) return ZAK_BROKEN;
   j0 = l8;
   i0 = (u32)(j0);
   j1 = l8;
@@ -119337,7 +119702,7 @@ static u32 module_zak_run(module *self, u64 p0, u64 p1, u64 p2, u64 p3, u64 p4, 
   j5 = 4472ull;
   j4 += j5;
   j5 = 18446744073709551615ull;
-  f98(self, j0, j1, j2, j3, j4, j5); m = self->memory; if (NEVER(self->is_broken)) return ZAK_BROKEN;
+  f99(self, j0, j1, j2, j3, j4, j5); m = self->memory; if (NEVER(self->is_broken)) return ZAK_BROKEN;
   j0 = l8;
   i0 = (u32)(j0);
   j0 = i64_load(j0 + 4528u);
@@ -119374,19 +119739,19 @@ static u32 module_zak_run(module *self, u64 p0, u64 p1, u64 p2, u64 p3, u64 p4, 
   j0 = l8;
   i0 = (u32)(j0);
   j0 = i64_load(j0 + 2312u);
-  f166(self, j0);
+  f167(self, j0);
   B7:;
   j0 = p3;
   i0 = !(j0);
   if (i0) {goto B8;}
   j0 = l9;
-  f166(self, j0);
+  f167(self, j0);
   B8:;
   j0 = p2;
   i0 = !(j0);
   if (i0) {goto B9;}
   j0 = p1;
-  f166(self, j0);
+  f167(self, j0);
   B9:;
   j0 = l8;
   i0 = (u32)(j0);
@@ -119422,12 +119787,12 @@ static u32 module_zak_run(module *self, u64 p0, u64 p1, u64 p2, u64 p3, u64 p4, 
   j0 = i64_load(j0 + 16u);
   l9 = j0;
   j0 = p1;
-  f166(self, j0);
+  f167(self, j0);
   j0 = l9;
   i0 = !(j0);
   if (i0) {goto B10;}
   j0 = l10;
-  f166(self, j0);
+  f167(self, j0);
   B10:;
   i0 = l14;
   i1 = 255u;
@@ -119444,12 +119809,12 @@ static u32 module_zak_run(module *self, u64 p0, u64 p1, u64 p2, u64 p3, u64 p4, 
   j0 = i64_load(j0 + 16u);
   p1 = j0;
   j0 = p3;
-  f166(self, j0);
+  f167(self, j0);
   j0 = p1;
   i0 = !(j0);
   if (i0) {goto B11;}
   j0 = l9;
-  f166(self, j0);
+  f167(self, j0);
   B11:;
   i0 = l12;
   i1 = 255u;
@@ -119466,12 +119831,12 @@ static u32 module_zak_run(module *self, u64 p0, u64 p1, u64 p2, u64 p3, u64 p4, 
   j0 = i64_load(j0 + 16u);
   p3 = j0;
   j0 = p2;
-  f166(self, j0);
+  f167(self, j0);
   j0 = p3;
   i0 = !(j0);
   if (i0) {goto B12;}
   j0 = p1;
-  f166(self, j0);
+  f167(self, j0);
   B12:;
   i0 = l11;
   i1 = 255u;
@@ -119523,12 +119888,12 @@ static u32 module_zak_run(module *self, u64 p0, u64 p1, u64 p2, u64 p3, u64 p4, 
   j0 = i64_load(j0 + 16u);
   p3 = j0;
   j0 = p2;
-  f166(self, j0);
+  f167(self, j0);
   j0 = p3;
   i0 = !(j0);
   if (i0) {goto B13;}
   j0 = p1;
-  f166(self, j0);
+  f167(self, j0);
   B13:;
   i0 = l12;
   i1 = 255u;
@@ -119545,12 +119910,12 @@ static u32 module_zak_run(module *self, u64 p0, u64 p1, u64 p2, u64 p3, u64 p4, 
   j0 = i64_load(j0 + 16u);
   p2 = j0;
   j0 = l10;
-  f166(self, j0);
+  f167(self, j0);
   j0 = p2;
   i0 = !(j0);
   if (i0) {goto B14;}
   j0 = p3;
-  f166(self, j0);
+  f167(self, j0);
   B14:;
   i0 = l11;
   i1 = 255u;
@@ -119567,12 +119932,12 @@ static u32 module_zak_run(module *self, u64 p0, u64 p1, u64 p2, u64 p3, u64 p4, 
   j0 = i64_load(j0 + 16u);
   p2 = j0;
   j0 = l9;
-  f166(self, j0);
+  f167(self, j0);
   j0 = p2;
   i0 = !(j0);
   if (i0) {goto B1;}
   j0 = p3;
-  f166(self, j0);
+  f167(self, j0);
   goto B1;
   B5:;
   j0 = p4;
@@ -119712,7 +120077,7 @@ static u32 module_zak_run(module *self, u64 p0, u64 p1, u64 p2, u64 p3, u64 p4, 
   i0 = !(j0);
   if (i0) {goto B0;}
   j0 = p7;
-  f166(self, j0);
+  f167(self, j0);
   goto B0;
   B3:;
   j0 = p2;
@@ -119734,7 +120099,7 @@ static u32 module_zak_run(module *self, u64 p0, u64 p1, u64 p2, u64 p3, u64 p4, 
   j0 = l8;
   i0 = (u32)(j0);
   j0 = i64_load(j0);
-  f166(self, j0);
+  f167(self, j0);
   B20:;
   i0 = 22u;
   l11 = i0;
@@ -119856,7 +120221,7 @@ static u32 module_zak_run_on(module *self, u64 p0, u64 p1, u64 p2, u32 p3, u32 p
   j0 = l11;
   j1 = 2072ull;
   j0 += j1;
-  i0 = f23(self, j0);
+  i0 = f24(self, j0);
   i0 = !(i0);
   if (i0) {goto B2;}
   j0 = l10;
@@ -119883,7 +120248,7 @@ static u32 module_zak_run_on(module *self, u64 p0, u64 p1, u64 p2, u32 p3, u32 p
   j1 += j2;
   l12 = j1;
   j2 = p2;
-  f77(self, j0, j1, j2); if (NEVER(self->is_broken)) return ZAK_BROKEN;
+  f78(self, j0, j1, j2); if (NEVER(self->is_broken)) return ZAK_BROKEN;
   j0 = l10;
   i0 = (u32)(j0);
   i0 = i32_load8_u(j0 + 120u);
@@ -120221,7 +120586,7 @@ static u32 module_zak_run_on(module *self, u64 p0, u64 p1, u64 p2, u32 p3, u32 p
     j0 += j1;
     j1 = l16;
     j2 = p9;
-    f78(self, j0, j1, j2);
+    f79(self, j0, j1, j2);
     j0 = l10;
     i0 = (u32)(j0);
     i0 = i32_load8_u(j0 + 120u);
@@ -120254,7 +120619,7 @@ static u32 module_zak_run_on(module *self, u64 p0, u64 p1, u64 p2, u32 p3, u32 p
     j1 = l10;
     j2 = 56ull;
     j1 += j2;
-    f99(self, j0, j1); if (NEVER(self->is_broken)) return ZAK_BROKEN;
+    f100(self, j0, j1); if (NEVER(self->is_broken)) return ZAK_BROKEN;
     j0 = l10;
     i0 = (u32)(j0);
     i0 = i32_load16_u(j0 + 232u);
@@ -120516,7 +120881,7 @@ static u32 module_zak_run_on(module *self, u64 p0, u64 p1, u64 p2, u32 p3, u32 p
     j0 += j1;
     j1 = p2;
     j2 = p1;
-    f78(self, j0, j1, j2);
+    f79(self, j0, j1, j2);
     j0 = l10;
     i0 = (u32)(j0);
     i0 = i32_load8_u(j0 + 120u);
@@ -120651,7 +121016,7 @@ static u32 module_zak_run_on(module *self, u64 p0, u64 p1, u64 p2, u32 p3, u32 p
   j2 = 1ull;
   j1 += j2;
   p1 = j1;
-  f91(self, j0, j1); if (NEVER(self->is_broken)) return ZAK_BROKEN;
+  f92(self, j0, j1); if (NEVER(self->is_broken)) return ZAK_BROKEN;
   j0 = l10;
   i0 = (u32)(j0);
   j1 = l10;
@@ -120724,7 +121089,7 @@ static u32 module_zak_run_on(module *self, u64 p0, u64 p1, u64 p2, u32 p3, u32 p
   j4 += j5;
   i5 = p4;
   j5 = (u64)(i5);
-  f98(self, j0, j1, j2, j3, j4, j5); m = self->memory; if (NEVER(self->is_broken)) return ZAK_BROKEN;
+  f99(self, j0, j1, j2, j3, j4, j5); m = self->memory; if (NEVER(self->is_broken)) return ZAK_BROKEN;
   j0 = l10;
   i0 = (u32)(j0);
   i0 = i32_load8_u(j0 + 96u);
@@ -120897,7 +121262,7 @@ static u32 module_zak_run_on(module *self, u64 p0, u64 p1, u64 p2, u32 p3, u32 p
   i0 = !(j0);
   if (i0) {goto B2;}
   j0 = p7;
-  f166(self, j0);
+  f167(self, j0);
   goto B2;
   B39:;
   i0 = 23u;
@@ -120910,7 +121275,7 @@ static u32 module_zak_run_on(module *self, u64 p0, u64 p1, u64 p2, u32 p3, u32 p
   j0 = l10;
   i0 = (u32)(j0);
   j0 = i64_load(j0 + 16u);
-  f166(self, j0);
+  f167(self, j0);
   goto B2;
   B3:;
   j0 = l10;
@@ -121093,7 +121458,7 @@ static u32 module_zak_save(module *self, u64 p0, u64 p1, u64 p2, u64 p3) {
   i4 = !(j4);
   j2 = i4 ? j2 : j3;
   j1 += j2;
-  f100(self, j0, j1); if (NEVER(self->is_broken)) return ZAK_BROKEN;
+  f101(self, j0, j1); if (NEVER(self->is_broken)) return ZAK_BROKEN;
   i0 = 0u;
   l4 = i0;
   B4:;
@@ -121204,7 +121569,7 @@ static u32 module_zak_save_fixed(module *self, u64 p0, u64 p1, u64 p2) {
   j2 = i4 ? j2 : j3;
   j1 += j2;
   p1 = j1;
-  f100(self, j0, j1); if (NEVER(self->is_broken)) return ZAK_BROKEN;
+  f101(self, j0, j1); if (NEVER(self->is_broken)) return ZAK_BROKEN;
   j0 = p1;
   j1 = p2;
   j2 = 18446744073709551612ull;
@@ -121235,7 +121600,7 @@ static u32 module_zak_save_fixed(module *self, u64 p0, u64 p1, u64 p2) {
   i0 = (u32)(j0);
   j1 = p1;
   j2 = p2;
-  i1 = f89(self, j1, j2); if (NEVER(self->is_broken)) return ZAK_BROKEN;
+  i1 = f90(self, j1, j2); if (NEVER(self->is_broken)) return ZAK_BROKEN;
   i32_store(j0, i1);
   i0 = 0u;
   l3 = i0;
@@ -121413,7 +121778,7 @@ static u32 module_zak_screen_cell(module *self, u64 p0, u32 p1, u32 p2, u32 p3, 
   j2 = l6;
   j3 = 2072ull;
   j2 += j3;
-  f101(self, j0, j1, j2); m = self->memory; if (NEVER(self->is_broken)) return ZAK_BROKEN;
+  f102(self, j0, j1, j2); m = self->memory; if (NEVER(self->is_broken)) return ZAK_BROKEN;
   j0 = l5;
   i0 = (u32)(j0);
   i0 = i32_load8_u(j0 + 8u);
@@ -121535,19 +121900,19 @@ static u32 module_zak_screen_cell(module *self, u64 p0, u32 p1, u32 p2, u32 p3, 
   i0 = !(j0);
   if (i0) {goto B6;}
   j0 = l8;
-  f166(self, j0);
+  f167(self, j0);
   B6:;
   j0 = l10;
   i0 = !(j0);
   if (i0) {goto B7;}
   j0 = l11;
-  f166(self, j0);
+  f167(self, j0);
   B7:;
   j0 = p4;
   i0 = !(j0);
   if (i0) {goto B2;}
   j0 = l9;
-  f166(self, j0);
+  f167(self, j0);
   B2:;
   j0 = p0;
   i0 = (u32)(j0);
@@ -121626,7 +121991,7 @@ static u32 module_zak_screen_cursor(module *self, u64 p0, u32 p1, u64 p2) {
   j2 = l4;
   j3 = 2072ull;
   j2 += j3;
-  f101(self, j0, j1, j2); m = self->memory; if (NEVER(self->is_broken)) return ZAK_BROKEN;
+  f102(self, j0, j1, j2); m = self->memory; if (NEVER(self->is_broken)) return ZAK_BROKEN;
   j0 = l3;
   i0 = (u32)(j0);
   i0 = i32_load8_u(j0);
@@ -121698,7 +122063,7 @@ static u32 module_zak_screen_cursor(module *self, u64 p0, u32 p1, u64 p2) {
   j0 = l3;
   i0 = (u32)(j0);
   j0 = i64_load(j0 + 936u);
-  f166(self, j0);
+  f167(self, j0);
   B6:;
   j0 = l3;
   i0 = (u32)(j0);
@@ -121708,7 +122073,7 @@ static u32 module_zak_screen_cursor(module *self, u64 p0, u32 p1, u64 p2) {
   j0 = l3;
   i0 = (u32)(j0);
   j0 = i64_load(j0 + 960u);
-  f166(self, j0);
+  f167(self, j0);
   B7:;
   j0 = l3;
   i0 = (u32)(j0);
@@ -121718,7 +122083,7 @@ static u32 module_zak_screen_cursor(module *self, u64 p0, u32 p1, u64 p2) {
   j0 = l3;
   i0 = (u32)(j0);
   j0 = i64_load(j0 + 1792u);
-  f166(self, j0);
+  f167(self, j0);
   B2:;
   j0 = p0;
   i0 = (u32)(j0);
@@ -121801,7 +122166,7 @@ static u32 module_zak_screen_pixel(module *self, u64 p0, u32 p1, u32 p2, u32 p3,
   j2 = l6;
   j3 = 2072ull;
   j2 += j3;
-  f101(self, j0, j1, j2); m = self->memory; if (NEVER(self->is_broken)) return ZAK_BROKEN;
+  f102(self, j0, j1, j2); m = self->memory; if (NEVER(self->is_broken)) return ZAK_BROKEN;
   j0 = l5;
   i0 = (u32)(j0);
   i0 = i32_load8_u(j0 + 8u);
@@ -121918,19 +122283,19 @@ static u32 module_zak_screen_pixel(module *self, u64 p0, u32 p1, u32 p2, u32 p3,
   j0 = l5;
   i0 = (u32)(j0);
   j0 = i64_load(j0 + 40u);
-  f166(self, j0);
+  f167(self, j0);
   B6:;
   j0 = l9;
   i0 = !(j0);
   if (i0) {goto B7;}
   j0 = l7;
-  f166(self, j0);
+  f167(self, j0);
   B7:;
   j0 = p4;
   i0 = !(j0);
   if (i0) {goto B2;}
   j0 = l10;
-  f166(self, j0);
+  f167(self, j0);
   B2:;
   j0 = p0;
   i0 = (u32)(j0);
@@ -122009,7 +122374,7 @@ static u32 module_zak_screen_read(module *self, u64 p0, u64 p1) {
   j2 = l3;
   j3 = 2072ull;
   j2 += j3;
-  f101(self, j0, j1, j2); m = self->memory; if (NEVER(self->is_broken)) return ZAK_BROKEN;
+  f102(self, j0, j1, j2); m = self->memory; if (NEVER(self->is_broken)) return ZAK_BROKEN;
   j0 = l2;
   i0 = (u32)(j0);
   i0 = i32_load8_u(j0);
@@ -122068,7 +122433,7 @@ static u32 module_zak_screen_read(module *self, u64 p0, u64 p1) {
   i2 = (u32)(j2);
   i2 = i32_load16_u(j2);
   l11 = i2;
-  f24(self, j0, i1, i2);
+  f25(self, j0, i1, i2);
   j0 = l2;
   i0 = (u32)(j0);
   i0 = i32_load8_u(j0 + 920u);
@@ -122157,19 +122522,19 @@ static u32 module_zak_screen_read(module *self, u64 p0, u64 p1) {
   i0 = !(j0);
   if (i0) {goto B7;}
   j0 = l9;
-  f166(self, j0);
+  f167(self, j0);
   B7:;
   j0 = l6;
   i0 = !(j0);
   if (i0) {goto B8;}
   j0 = l7;
-  f166(self, j0);
+  f167(self, j0);
   B8:;
   j0 = l4;
   i0 = !(j0);
   if (i0) {goto B2;}
   j0 = l5;
-  f166(self, j0);
+  f167(self, j0);
   B2:;
   j0 = p0;
   i0 = (u32)(j0);
@@ -122232,7 +122597,7 @@ static u32 module_zak_show_bda(module *self, u64 p0, u64 p1, u64 p2, u64 p3) {
   j2 += j3;
   j3 = p2;
   j4 = p3;
-  i0 = f104(self, j0, j1, j2, j3, j4); m = self->memory; if (NEVER(self->is_broken)) return ZAK_BROKEN;
+  i0 = f105(self, j0, j1, j2, j3, j4); m = self->memory; if (NEVER(self->is_broken)) return ZAK_BROKEN;
   l5 = i0;
   j0 = l4;
   j1 = 16ull;
@@ -122278,7 +122643,7 @@ static u32 module_zak_show_beam(module *self, u64 p0, u64 p1, u64 p2, u64 p3) {
   j2 += j3;
   j3 = p2;
   j4 = p3;
-  i0 = f104(self, j0, j1, j2, j3, j4); m = self->memory; if (NEVER(self->is_broken)) return ZAK_BROKEN;
+  i0 = f105(self, j0, j1, j2, j3, j4); m = self->memory; if (NEVER(self->is_broken)) return ZAK_BROKEN;
   l5 = i0;
   j0 = l4;
   j1 = 16ull;
@@ -122324,7 +122689,7 @@ static u32 module_zak_show_cells(module *self, u64 p0, u64 p1, u64 p2, u64 p3) {
   j2 += j3;
   j3 = p2;
   j4 = p3;
-  i0 = f104(self, j0, j1, j2, j3, j4); m = self->memory; if (NEVER(self->is_broken)) return ZAK_BROKEN;
+  i0 = f105(self, j0, j1, j2, j3, j4); m = self->memory; if (NEVER(self->is_broken)) return ZAK_BROKEN;
   l5 = i0;
   j0 = l4;
   j1 = 16ull;
@@ -122369,7 +122734,7 @@ static u32 module_zak_show_dac(module *self, u64 p0, u32 p1, u64 p2, u64 p3, u64
   j2 += j3;
   j3 = p3;
   j4 = p4;
-  i0 = f104(self, j0, j1, j2, j3, j4); m = self->memory; if (NEVER(self->is_broken)) return ZAK_BROKEN;
+  i0 = f105(self, j0, j1, j2, j3, j4); m = self->memory; if (NEVER(self->is_broken)) return ZAK_BROKEN;
   p1 = i0;
   j0 = l5;
   j1 = 16ull;
@@ -122415,7 +122780,7 @@ static u32 module_zak_show_latches(module *self, u64 p0, u64 p1, u64 p2, u64 p3)
   j2 += j3;
   j3 = p2;
   j4 = p3;
-  i0 = f104(self, j0, j1, j2, j3, j4); m = self->memory; if (NEVER(self->is_broken)) return ZAK_BROKEN;
+  i0 = f105(self, j0, j1, j2, j3, j4); m = self->memory; if (NEVER(self->is_broken)) return ZAK_BROKEN;
   l5 = i0;
   j0 = l4;
   j1 = 16ull;
@@ -122499,7 +122864,7 @@ static u32 module_zak_show_plane(module *self, u64 p0, u32 p1, u32 p2, u32 p3, u
   j2 += j3;
   j3 = p5;
   j4 = p6;
-  i0 = f104(self, j0, j1, j2, j3, j4); m = self->memory; if (NEVER(self->is_broken)) return ZAK_BROKEN;
+  i0 = f105(self, j0, j1, j2, j3, j4); m = self->memory; if (NEVER(self->is_broken)) return ZAK_BROKEN;
   l8 = i0;
   B0:;
   j0 = l7;
@@ -122542,7 +122907,7 @@ static u32 module_zak_show_regs(module *self, u64 p0, u64 p1, u64 p2, u64 p3) {
   j2 += j3;
   j3 = p2;
   j4 = p3;
-  i0 = f104(self, j0, j1, j2, j3, j4); m = self->memory; if (NEVER(self->is_broken)) return ZAK_BROKEN;
+  i0 = f105(self, j0, j1, j2, j3, j4); m = self->memory; if (NEVER(self->is_broken)) return ZAK_BROKEN;
   l5 = i0;
   j0 = l4;
   j1 = 16ull;
@@ -123311,7 +123676,7 @@ static u64 module_page_take(module *self, u64 p0) {
   j0 = l1;
   j1 = p0;
   j2 = 16ull;
-  f163(self, j0, j1, j2); m = self->memory; if (NEVER(self->is_broken)) return 0;
+  f164(self, j0, j1, j2); m = self->memory; if (NEVER(self->is_broken)) return 0;
   j0 = l1;
   i0 = (u32)(j0);
   j0 = i64_load(j0);
@@ -123336,12 +123701,12 @@ static u32 module_page_give(module *self, u64 p0) {
   u32 i0;
   u64 j0;
   j0 = p0;
-  f166(self, j0);
+  f167(self, j0);
   i0 = 0u;
   return i0;
 }
 
-static void f163(module *self, u64 p0, u64 p1, u64 p2) {
+static void f164(module *self, u64 p0, u64 p1, u64 p2) {
   u64 l3 = 0;
   u8 *m = self->memory;
   u32 i0, i1;
@@ -123353,7 +123718,7 @@ static void f163(module *self, u64 p0, u64 p1, u64 p2) {
   i0 = j0 > j1;
   if (i0) {goto B0;}
   j0 = p1;
-  j0 = f164(self, j0); m = self->memory; if (NEVER(self->is_broken)) return;
+  j0 = f165(self, j0); m = self->memory; if (NEVER(self->is_broken)) return;
   l3 = j0;
   B0:;
   j0 = p0;
@@ -123369,7 +123734,7 @@ static void f163(module *self, u64 p0, u64 p1, u64 p2) {
   i64_store(j0, j1);
 }
 
-static u64 f164(module *self, u64 p0) {
+static u64 f165(module *self, u64 p0) {
   u32 l8 = 0;
   u64 l1 = 0, l2 = 0, l3 = 0, l4 = 0, l5 = 0, l6 = 0, l7 = 0;
   u8 *m = self->memory;
@@ -123844,7 +124209,7 @@ static u64 f164(module *self, u64 p0) {
   return j0;
 }
 
-static void f165(module *self, u64 p0, u64 p1, u64 p2, u64 p3, u64 p4) {
+static void f166(module *self, u64 p0, u64 p1, u64 p2, u64 p3, u64 p4) {
   u32 l8 = 0;
   u64 l5 = 0, l6 = 0, l7 = 0;
   u8 *m = self->memory;
@@ -123880,7 +124245,7 @@ static void f165(module *self, u64 p0, u64 p1, u64 p2, u64 p3, u64 p4) {
   i0 = j0 > j1;
   if (i0) {goto B1;}
   j0 = p3;
-  j0 = f164(self, j0); m = self->memory; if (NEVER(self->is_broken)) return;
+  j0 = f165(self, j0); m = self->memory; if (NEVER(self->is_broken)) return;
   l7 = j0;
   i0 = !(j0);
   i0 = !(i0);
@@ -124017,7 +124382,7 @@ static void f165(module *self, u64 p0, u64 p1, u64 p2, u64 p3, u64 p4) {
   Bfunc:;
 }
 
-static void f166(module *self, u64 p0) {
+static void f167(module *self, u64 p0) {
   u32 l6 = 0;
   u64 l1 = 0, l2 = 0, l3 = 0, l4 = 0, l5 = 0;
   u8 *m = self->memory;
